@@ -1,6 +1,6 @@
 -- A renaming leads from a good image to one in which one attribute has another name.
 use Rattle.std.proofs.Common.{◌≡◌, ℕ, ◌+◌, ◌≤◌, List, [], ◌∷◌, ◌++◌, length, map, true, false, not, Option, Some, None, eq-eqb, refl, sym, ap, subst, ◌∙◌, arith, inl, inr}
-use Rattle.cdf_attrs.proofs.Common.{◌==◌, if◌then◌else◌, flat_map, slice_get, Command, Go, Refuse, with_attribute, Attribute, DataSet, image_limit, is_bad_name, is_among, attribute_names, attribute_named, IsSound, AllKeep, Allowances, Only, Keeps, only_of, same_name, differ_rows, IsGoodByShape, attribute_shape_rows, Hold, IsChain, content, attribute_of, scope_of, number, size_at, type_at, Follows, IsFilled, ByStep, unwrap_or, eqb-true, OneAttribute, owned_by, attribute_records, owned, Field, gdr_adr_head, adr_agr_edr_head, adr_az_edr_head, adr_scope, adr_num, adr_name, adr_type, agr_edr_type, az_edr_type, uir_type, AttributeShape, Shape, adrs, HasShape, shape, In, Good, linkable-in, linkable-type, good_by_its_shape, good_is_sound, rules_of_good, AllKeep-append, In-append, In-append_left, In-append_right, stands_in, AreNew, names_at, names_differ, differ_by_names, attribute_names_are, Hold-append, Hold-split, good_long, sealed_kept, shape_is, Mark, Edit, AreThere, stood, keeps_fields, all_keep, used_times, owned_once_if, variables_in, word_kept, spliced, Splices, parts_there, shape_now, OwnRules, good_image_if, fixed_long, Renamed, fine_is_some, got-middle}
+use Rattle.cdf_attrs.proofs.Common.{◌==◌, if◌then◌else◌, flat_map, slice_get, Command, Go, Refuse, with_attribute, Attribute, DataSet, image_limit, is_bad_name, is_among, attribute_names, attribute_named, IsSound, AllKeep, Allowances, Only, Keeps, only_of, same_name, differ_rows, IsGoodByShape, attribute_shape_rows, Hold, IsChain, content, attribute_of, scope_of, number, size_at, type_at, Follows, IsFilled, ByStep, unwrap_or, eqb-true, OneAttribute, owned_by, attribute_records, owned, Field, gdr_adr_head, adr_agr_edr_head, adr_az_edr_head, adr_scope, adr_num, adr_name, adr_type, agr_edr_type, az_edr_type, uir_type, AttributeShape, Shape, adrs, HasShape, shape, In, Good, linkable-in, linkable-type, good_by_its_shape, good_is_sound, rules_of_good, AllKeep-append, In-append, In-append_left, In-append_right, stands_in, AreNew, names_at, names_differ, differ_by_names, attribute_names_are, Hold-append, Hold-split, good_long, sealed_kept, shape_is, Mark, Edit, AreThere, stood, keeps_fields, all_keep, used_times, owned_once_if, variables_in, word_kept, spliced, Splices, parts_there, shape_now, OwnRules, good_image_if, fixed_long, Renamed, fine_is_some, got-middle, Each}
 use Rattle.cdf_model.specs.declared.answer.Reason.TheVariants as reasons
 use Rattle.cdf_model.specs.declared.answer.Reply.TheVariants as replies
 use Rattle.cdf_model.specs.declared.command.Command.TheVariants as commands
@@ -19,7 +19,8 @@ use Rattle.cdf_edits.proofs.Frame.OwnersApart.{flat-append, file_in, unused_in, 
 use Rattle.cdf_format.proofs.RowLemmas.{flat_map-append}
 use Rattle.cdf_edits.specs.Edits.Marks.{Away, field_marks}
 use Rattle.cdf_edits.proofs.Edits.EditActs.{acts_none}
-use Rattle.cdf_edits.proofs.Edits.RecordFrame.{part_clear, chain_clear, chain_kept, kept_away, file_same, gdr_field}
+use Rattle.cdf_edits.proofs.Edits.AttributeFrame.{all_remain}
+use Rattle.cdf_edits.proofs.Edits.RecordFrame.{AttributeLives, part_clear, chain_clear, chain_kept, kept_away, file_same, gdr_field}
 use Rattle.cdf_edits.proofs.Edits.OwnersKept.{keep_parts}
 use Rattle.cdf_edits.proofs.Edits.OwnedOnce.{only_owns, adr_no_entry, all_attributes_in, IsSorted}
 use Rattle.cdf_edits.proofs.Edits.OneSpliced.{beside_live, content_replaced, counted, names_now, names_before}
@@ -100,16 +101,20 @@ module _ (b now : List ℕ) (from to : List ℕ) (good : Good b) (before : List 
   z : (m : ℕ) → In m own.z_entries → Kept b now m
   z m i = entry m (In-append_right m own.gr_entries own.z_entries i)
 
+  live : Each (AttributeLives b now) before × Each (AttributeLives b now) after
+  live = beside_live sound e before own after was (λ m i out. away m (λ q. out (inl q)))
+
   splices : Splices b now s s.records s.unused marks [] before (own ∷ []) (own ∷ []) after
   splices =
-      let live = beside_live sound e before own after was (λ m i out. away m (λ q. out (inl q))) in
+      let file = file_same sound e refl in
+      let parts = parts_there b s sound before (own ∷ []) after was in
       record {
         edit = e;
         was = was;
         file_clear = refl;
         variables_clear = refl;
-        before_live = live.0;
-        after_live = live.1;
+        before_remain = all_remain sound e file before parts.0 live.0;
+        after_remain = all_remain sound e file after parts.1.1 live.1;
         typed = λ m i. absurd i;
         attribute_chain = subst (λ (as_ : List AttributeShape). IsChain now s.records adr_type (number now s.gdr gdr_adr_head) (map (λ (a : AttributeShape). a.adr) as_)) was
             (chain_clear e adr_type _ _ (adrs s) h.attribute_chain (gdr_field sound e refl gdr_adr_head refl (omega arith)) refl);
@@ -154,7 +159,7 @@ module _ (b now : List ℕ) (from to : List ℕ) (good : Good b) (before : List 
       let names = names_now sound splices ∙ ap (λ (n : List ℕ). names_at b adr_name (map (λ (a : AttributeShape). a.adr) before) ++ n ∷ names_at b adr_name (map (λ (a : AttributeShape). a.adr) after)) r.name_is in
       let new = new_replaced [] _ _ to _ (subst (AreNew []) old (names_differ 2 b adr_name (adrs s) p.1)) (subst (λ (x : List (List ℕ)). stands_in to x ≡ false) old absent) in
       record {
-        counted = counted sound splices refl (field adr_num (omega arith)) image refl;
+        counted = counted sound splices refl (field adr_num (omega arith)) live image refl;
         own_rules = Hold-append (attribute_shape_rows now own) [] (attribute_rules_kept b now own (record { fields = λ f late fits. field f fits; entries = entry }) there.fit.0 named o) tt;
         differ = differ_by_names 2 now adr_name _ (subst (AreNew []) (sym names) new);
         read = λ m i. absurd i;

@@ -51,7 +51,7 @@ pub mod RemovalCalls
 pub mod RemovedAttribute
 pub mod RemovedLives
 pub mod RemovedVariable
-pub mod Renumbered
+pub mod AttributeRemains
 pub mod Splice
 pub mod StepEdits
 pub mod TakenVariable

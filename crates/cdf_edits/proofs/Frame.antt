@@ -12,4 +12,3 @@ pub mod OwnersApart
 pub mod SameShape
 pub mod SoundStays
 pub mod TilesGrow
-pub mod NumberFell

@@ -48,6 +48,11 @@ pub removed-at : {A : Type 0} (xs : List A) (x : A) (ys : List A) → remove (xs
 removed-at [] x ys = refl
 removed-at (z ∷ xs) x ys = ap (λ (r : List _). z ∷ r) (removed-at xs x ys)
 
+-- what a list means without one of them
+pub map-without : {A B : Type 0} (f : A → B) (all xs : List A) (x : A) (ys : List A) → all ≡ xs ++ x ∷ ys → remove (map f all) (length xs) ≡ map f xs ++ map f ys
+map-without f all xs x ys is =
+    ap₂ (λ (zs : List _) (n : ℕ). remove zs n) (ap (map f) is ∙ map-append f xs (x ∷ ys)) (sym (length-map xs f)) ∙ removed-at (map f xs) (f x) (map f ys)
+
 pub map-removed : {A B : Type 0} (f : A → B) (xs : List A) (n : ℕ) → map f (remove xs n) ≡ remove (map f xs) n
 map-removed f [] zero = refl
 map-removed f [] (suc n) = refl

@@ -4,7 +4,7 @@ use Rattle.cdf_edits.proofs.Common.{cases_eq, ne_eqb, map-append, list_any, unwr
 use Rattle.cdf_format.specs.Content.{entries_of}
 use Rattle.cdf_edits.specs.Space.Chains.{without as left_of}
 use Rattle.cdf_edits.proofs.Edits.NumberedItems.{Rising, rising_with, items_swap, item_again, item_gone, item_stays}
-use Rattle.cdf_edits.proofs.Frame.Meaning.{FileSame, KeptButLink, late_size, late_number, late_integer, late_bytes}
+use Rattle.cdf_edits.proofs.Frame.Meaning.{FileSame, KeptButLink, long_entry, link_bytes, entry_means, late_number}
 
 -- ---- an entry that stays but for the link to the next one
 
@@ -15,31 +15,11 @@ pub record EntryLives (b now : List ℕ) (e : ℕ) : Type 0 where
   pub valued : has_value now e ≡ has_value b e
   pub fits : EntryFits now e
 
-entry_from : DataType → ℕ → Bool → List ℕ → Entry
-entry_from t n little raw = record { type = t; elems = n; bytes = turned t little raw }
-
-long_entry : (n s : ℕ) → 56 + n ≤ s → 56 ≤ s
-long_entry n s h = omega arith
-
 pub entry_lives : (b now : List ℕ) → FileSame b now → (e : ℕ) → KeptButLink b now e → EntryFits b e → EntryLives b now e
-unfolding entry_from
 entry_lives b now file e k fits =
-    let long : 56 ≤ size_at b e = long_entry (entry_bytes b e) (size_at b e) fits in
-    let code = late_integer b now e k aedr_data_type (omega arith) (omega arith) in
-    let t : data_type_in now e aedr_data_type ≡ data_type_in b e aedr_data_type = ap (λ (z : ℤ). unwrap_or (type_of z) Byte) code in
-    let n : number now e aedr_num_elems ≡ number b e aedr_num_elems = late_number b now e k aedr_num_elems (omega arith) (omega arith) in
-    let raw = late_bytes b now e k (aedr_value (entry_bytes b e)) (omega arith) fits file.longer in
-    let first : entry_of now e ≡ entry_from (data_type_in b e aedr_data_type) (number b e aedr_num_elems) (is_little b) (field_bytes now e (aedr_value (entry_bytes b e))) =
-    λ i. entry_from (t i) (n i) (file.little i) (field_bytes now e (aedr_value (size_of (t i) * n i))) in
-    let size = late_size b now e k in
-    let bytes : entry_bytes now e ≡ entry_bytes b e = λ i. size_of (t i) * n i in
-    record {
-      attribute = late_number b now e k aedr_attr_num (omega arith) (omega arith);
-      num = late_number b now e k aedr_num (omega arith) (omega arith);
-      meant = first ∙ ap (entry_from (data_type_in b e aedr_data_type) (number b e aedr_num_elems) (is_little b)) raw;
-      valued = λ i. (is_some (type_of (code i)) && is_positive (n i)) && (nat_le (bytes i) record_limit && nat_le (56 + bytes i) (size i));
-      fits = subst (λ (x : ℕ). 56 + entry_bytes now e ≤ x) (sym size) (subst (λ (x : ℕ). 56 + x ≤ size_at b e) (sym bytes) fits);
-    }
+    let long = long_entry (entry_bytes b e) (size_at b e) fits in
+    let means = entry_means b now file e (link_bytes b now e k fits) fits in
+    record { attribute = late_number b now e k aedr_attr_num (omega arith) (omega arith); num = late_number b now e k aedr_num (omega arith) (omega arith); meant = means.meant; valued = means.valued; fits = means.fits }
 
 pub entry_rules_live : (b now : List ℕ) (adr e : ℕ) → number now adr adr_num ≡ number b adr adr_num → EntryLives b now e → Hold (entry_rows b adr e) → Hold (entry_rows now adr e)
 entry_rules_live b now adr e own l rules =

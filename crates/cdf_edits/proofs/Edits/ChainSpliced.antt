@@ -3,13 +3,13 @@ use Rattle.std.proofs.Common.{◌≡◌, ℕ, ◌+◌, ◌≤◌, List, [], ◌�
 use Rattle.cdf_edits.proofs.Common.{map-append, before_first, flat_map, ◌==◌, ◌&&◌, nat_le, EntryKind, with_attribute, with_entries, Entry, same_name, adr_rows, entries_rows, differ_rows, IsChain, is_in, attribute_of, content, number, name_in, size_at, type_at, IsGoodByShape, attribute_shape_rows, read_types, attribute_records, times, Field, gdr_adr_head, gdr_uir_head, adr_num, adr_scope, adr_name, gdr_type, adr_type, uir_type, is_record_type, fixed_size, row, Hold, AttributeShape, Shape, adrs, Each, HasShape, shape, EntryFits, IsSound, In, Same, word_kept, piece_kept, linkable-in, linkable-type, In-append, AreNew, names_at, names_differ, differ_by_names, Hold-append, Hold-split, flat_map-append, shape_is, both, tile_lies, chain_of, entry_type, Edit, head_field, count_field, with_chain, keeps_other, keeps_but_chain, Mark, Avoids, Away, avoided, keeps_file, keeps_variables, Confined, attribute_types}
 use Rattle.cdf_format.specs.Content.{entries_of}
 use Rattle.cdf_edits.specs.Edits.EntryMarks.{keeps_adr}
-use Rattle.cdf_edits.proofs.Edits.AttributeFrame.{AreThere, lives_away}
+use Rattle.cdf_edits.proofs.Edits.AttributeFrame.{AreThere, lives_away, all_remain}
 use Rattle.cdf_edits.proofs.Edits.ChainEntries.{EntryLives, entry_lives}
 use Rattle.cdf_edits.proofs.Edits.ChainOwners.{Trades, rechained, traded, IsHeld, not_twice_kept}
 use Rattle.cdf_edits.proofs.Edits.MarkLemmas.{avoided-avoids, Avoids-part, confined-away}
 use Rattle.cdf_edits.proofs.Edits.OneSpliced.{content_replaced, counted, names_now, names_before}
 use Rattle.cdf_edits.proofs.Edits.OwnedOnce.{used_times, IsSorted, only_owns, owned_once_if, front_in, back_in}
-use Rattle.cdf_edits.proofs.Edits.RecordFrame.{kept, chain_kept, chain_clear, gdr_field, file_same}
+use Rattle.cdf_edits.proofs.Edits.RecordFrame.{AttributeLives, kept, chain_kept, chain_clear, gdr_field, file_same}
 use Rattle.cdf_edits.proofs.Edits.Splice.{Splices, OwnRules, parts_there, shape_now, sound_if}
 use Rattle.cdf_edits.proofs.Edits.StepEdits.{fixed_long}
 use Rattle.cdf_edits.proofs.Frame.Meaning.{FileSame, Kept, KeptButLink, entries_kept, entry_fits_kept}
@@ -143,6 +143,9 @@ module _ {b now : List ℕ} {s : Shape} {new list : List ℕ} {marks : List Mark
   pub after_away : (m : ℕ) → In m (flat_map attribute_records after) → Away marks (type_at b m) m
   after_away = beside after there.1.1 (λ m i j. (only_owns b s sound before own after r.was m j).in_after i) after_in
 
+  live : Each (AttributeLives b now) before × Each (AttributeLives b now) after
+  live = (lives_away sound e before there.0 before_away, lives_away sound e after there.1.1 after_away)
+
   -- ---- the image
 
   pub splices : Splices b now s new list marks reborn before (own ∷ []) (own' ∷ []) after
@@ -151,8 +154,8 @@ module _ {b now : List ℕ} {s : Shape} {new list : List ℕ} {marks : List Mark
     was = r.was;
     file_clear = clear_file;
     variables_clear = clear_parts.0.1;
-    before_live = lives_away sound e before there.0 before_away;
-    after_live = lives_away sound e after there.1.1 after_away;
+    before_remain = all_remain sound e file_now before there.0 live.0;
+    after_remain = all_remain sound e file_now after there.1.1 live.1;
     typed = r.typed;
     attribute_chain = subst (IsChain now new adr_type (number now s.gdr gdr_adr_head)) (sym same_adrs) (chain_clear e adr_type _ _ (adrs s) h.attribute_chain (gdr_field sound e clear_file gdr_adr_head clear_parts.1.0 (omega arith)) clear_adr.0);
     unused_chain = r.unused_chain;
@@ -209,7 +212,7 @@ module _ {b now : List ℕ} {s : Shape} {new list : List ℕ} {marks : List Mark
       let own_name : name_in now own'.adr adr_name ≡ name_in b own.adr adr_name = ap (λ (a : ℕ). name_in now a adr_name) (adr_of kind own chain') ∙ name_same in
       let names = names_now sound splices ∙ ap (λ (n : List ℕ). names_at b adr_name (map (λ (a : AttributeShape). a.adr) before) ++ n ∷ names_at b adr_name (map (λ (a : AttributeShape). a.adr) after)) own_name ∙ sym (names_before sound splices) in
       record {
-        counted = counted sound splices (adr_of kind own chain') num_same good clear_parts.1.1;
+        counted = counted sound splices (adr_of kind own chain') num_same live good clear_parts.1.1;
         own_rules = Hold-append (attribute_shape_rows now own') [] (own_now good rules) tt;
         differ = differ_by_names 2 now adr_name _ (subst (AreNew []) (sym names) (names_differ 2 b adr_name (adrs s) p.1));
         read = read;

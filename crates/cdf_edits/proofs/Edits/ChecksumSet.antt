@@ -5,7 +5,7 @@ use Rattle.cdf_model.specs.declared.answer.Reply.TheVariants as replies
 use Rattle.cdf_model.specs.declared.command.Command.TheVariants as commands
 use Rattle.cdf_edits.specs.Commands.Setup.{checksum_changes}
 use Rattle.cdf_edits.proofs.Commands.KeptRecords.{Stood, keep_attributes, keep_owned, keeps_stood}
-use Rattle.cdf_edits.proofs.Edits.AttributeFrame.{AreThere, lives_clear, all_rules, names_stay, nums_stay}
+use Rattle.cdf_edits.proofs.Edits.AttributeFrame.{AreThere, lives_clear, all_remain, remaining_rules, remaining_names, nums_stay}
 use Rattle.cdf_edits.proofs.Edits.EditActs.{acts_none}
 use Rattle.cdf_edits.proofs.Edits.FirstRecords.{read_now}
 use Rattle.cdf_edits.proofs.Edits.OwnedOnce.{all_attributes_in, owned_once_if}
@@ -208,14 +208,14 @@ module _ (b now : List ℕ) (md5 : Bool) (good : Good b) (changed : Changed b no
       let c = Hold-split (adrs_rows b (adrs s) ++ r_vdrs_rows b (vdrs s.r_variables)) (z_vdrs_rows b (vdrs s.z_variables)) image.counting in
       let d = Hold-split (adrs_rows b (adrs s)) (r_vdrs_rows b (vdrs s.r_variables)) c.0 in
       let p = Hold-split (flat_map (attribute_shape_rows b) s.attributes) (differ_rows 2 (same_name b adr_name) [] (adrs s)) image.attributes in
-      let names = names_stay sound e file s.attributes there attributes_live in
+      let names = remaining_names b now s.records s.attributes (all_remain sound e file s.attributes there attributes_live) in
       record {
         has_shape = shape_now;
         read_types = read_now e image.read_types (λ m i. absurd i);
         counting = Hold-append (adrs_rows now (adrs s) ++ r_vdrs_rows now (vdrs s.r_variables)) (z_vdrs_rows now (vdrs s.z_variables))
             (Hold-append (adrs_rows now (adrs s)) (r_vdrs_rows now (vdrs s.r_variables)) (subst Hold (sym adr_rows_same) d.0) (subst Hold (sym r_rows_same) d.1)) (subst Hold (sym z_rows_same) c.1);
         attributes = Hold-append (flat_map (attribute_shape_rows now) s.attributes) (differ_rows 2 (same_name now adr_name) [] (adrs s))
-            (all_rules sound e file s.attributes there attributes_live p.0) (differ_by_names 2 now adr_name (adrs s) (subst (AreNew []) (sym names) (names_differ 2 b adr_name (adrs s) p.1)));
+            (remaining_rules b now s.records s.attributes (all_remain sound e file s.attributes there attributes_live) p.0) (differ_by_names 2 now adr_name (adrs s) (subst (AreNew []) (sym names) (names_differ 2 b adr_name (adrs s) p.1)));
         of_variables = variables_rules sound e file variables_live image.of_variables;
         indexes = indexes_rules sound e file variables_live image.indexes;
         owned_once = owned_once_if b now s s marks [] sound image.owned_once e (λ m out. refl) (λ m i. absurd i);

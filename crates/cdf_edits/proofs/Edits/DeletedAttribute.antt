@@ -1,18 +1,19 @@
 -- An image from which an attribute was deleted: good, with the content without it, what it keeps of each record, and what the calls of the deletion come to.
 use Rattle.std.proofs.Common.{◌≡◌, ℕ, ◌+◌, ◌≤◌, List, [], ◌∷◌, ◌++◌, length, true, refl, sym, ap, subst, ◌∙◌, arith, inl, inr, suc, map, Bool, false, Option, Some, None, eq-eqb, ◌-◌, ◌<◌, drop, get_or, ap₂, append_assoc}
-use Rattle.cdf_edits.proofs.Common.{length-append, length-map, flat_map, remove, slice_get, image_limit, Same, is_in, IsChain, next_field, content, number, size_at, type_at, gdr_offset, with_field, LiesIn, attribute_records, OneAttribute, owned_by, owned_by_attributes, owned, gdr_eof, gdr_adr_head, gdr_uir_head, gdr_num_attr, adr_num, aedr_attr_num, uir_next_uir, uir_prev_uir, gdr_type, adr_type, uir_type, cdr_type, agr_edr_type, az_edr_type, AttributeShape, Shape, adrs, shape, Each, vdrs, IsSound, In, Good, linkable-long, is_a-in, is_a-type, linkable-in, linkable-type, good_by_its_shape, good_is_sound, rules_of_good, In-append, In-append_left, In-append_right, good_long, sealed_kept, FreedStay, no_fields, Allowance, Allowances, Anything, Only, Keeps, AllKeep, unlinking_marks, deleting_marks, attribute_types, Mark, Within, Unlinks, gave, links_end, ActsFollow, Act, eqb-true, ◌==◌, if◌then◌else◌, Go, Refuse, Attribute, DataSet, attribute_named, attribute_names, ByStep, is_attribute, Done, Refused, Answers, same_Some, drop-append_seam, adrs_rows, r_vdrs_rows, z_vdrs_rows, Hold-split, eq_of, Write, write, with_writes, numbers_from, counted_in, members_of, Removed, AllGiven, AreFree, Lists, TakenOut, Attrs, GrEntries, ZEntries}
+use Rattle.cdf_edits.proofs.Common.{Same-part, tile_lies, length-append, length-map, flat_map, remove, slice_get, image_limit, Same, is_in, IsChain, next_field, content, number, size_at, type_at, gdr_offset, with_field, LiesIn, attribute_records, OneAttribute, owned_by, owned_by_attributes, owned, gdr_eof, gdr_adr_head, gdr_uir_head, gdr_num_attr, adr_num, aedr_attr_num, uir_next_uir, uir_prev_uir, gdr_type, adr_type, uir_type, cdr_type, agr_edr_type, az_edr_type, AttributeShape, Shape, adrs, shape, Each, vdrs, IsSound, In, Good, linkable-long, is_a-in, is_a-type, linkable-in, linkable-type, good_by_its_shape, good_is_sound, rules_of_good, In-append, In-append_left, In-append_right, good_long, sealed_kept, FreedStay, no_fields, Allowance, Allowances, Anything, Only, Keeps, AllKeep, unlinking_marks, deleting_marks, attribute_types, Mark, Within, Unlinks, gave, links_end, ActsFollow, Act, eqb-true, ◌==◌, if◌then◌else◌, Go, Refuse, Attribute, DataSet, attribute_named, attribute_names, ByStep, is_attribute, Done, Refused, Answers, same_Some, drop-append_seam, adrs_rows, r_vdrs_rows, z_vdrs_rows, Hold-split, eq_of, Write, write, with_writes, numbers_from, counted_in, members_of, Removed, AllGiven, AreFree, Lists, TakenOut, Attrs, GrEntries, ZEntries}
 use Rattle.cdf_edits.specs.Edits.Unlinks.{Deletes}
-use Rattle.cdf_edits.proofs.Edits.AttributeFrame.{AreThere, more_there}
+use Rattle.cdf_edits.proofs.Edits.AttributeFrame.{AreThere, more_there, entry}
 use Rattle.cdf_edits.proofs.Edits.ChainKinds.{attribute_typed}
 use Rattle.cdf_edits.proofs.Edits.FreedAfter.{Frees, freed_edit, shape_now, sound_now, records_are as freed_records, long_now as freed_long, all_freed, says_still, types_stay as freed_types, acts_after as freed_acts, freed_after as freed_bytes, gdr_still}
 use Rattle.cdf_edits.proofs.Edits.FreedBytes.{behind_kept, behind_link}
 use Rattle.cdf_edits.proofs.Edits.OwnedOnce.{only_owns, back_in}
-use Rattle.cdf_edits.proofs.Edits.RecordFrame.{AttributeLives, gdr_field}
+use Rattle.cdf_edits.proofs.Edits.RecordFrame.{kept_but_link, gdr_field}
 use Rattle.cdf_edits.proofs.Edits.RemovedAttribute.{without_one, SaysRemoved, content_removed, removed_good}
-use Rattle.cdf_edits.proofs.Edits.RemovedLives.{entries_in, adrs_in, adrs_owned, entries_owned, Removes, lives_beside, adr_avoids, entry_avoids, entry_in, entry_typed}
+use Rattle.cdf_edits.proofs.Edits.RemovedLives.{entries_in, adrs_in, adrs_owned, entries_owned, Removes, adr_avoids, entry_avoids, entry_typed}
 use Rattle.cdf_edits.proofs.Edits.Splice.{parts_there}
 use Rattle.cdf_edits.proofs.Edits.StepEdits.{gdr_in, gdr_typed, some_bytes}
-use Rattle.cdf_edits.proofs.Edits.UnlinkedAttribute.{numbers, unlinked_edit, unlinks_removes, as_long, counted_now, may_mid, said, says_numbers, tiles_written, unlinked_shape, mid_sound, own_free, own_mine, own_there, may_number}
+use Rattle.cdf_edits.proofs.Edits.UnlinkedAttribute.{leaves, unlinked_edit, unlinks_removes, tiles_written, unlinked_shape, mid_sound, own_free, own_mine, own_there, may_number}
+use Rattle.cdf_edits.proofs.Edits.LeftChain.{as_long, counted_now, may_now, said_now}
 use Rattle.cdf_edits.proofs.Rules.WithoutLinks.{eof_by_rules}
 use Rattle.cdf_model.specs.AttributeSteps.{del_attr_step}
 use Rattle.cdf_edits.specs.Commands.Attributes.{attributes_gdr_fields, del_attr_changes}
@@ -50,7 +51,7 @@ module _ {b now : List ℕ} {n : ℕ} (good : Good b) (d : Deletes b now n) wher
   frees = record {
     sound = sound;
     edit = unlinked_edit sound d.unlinks;
-    long = as_long sound d.unlinks;
+    long = as_long (leaves sound d.unlinks);
     mid_sound = mid_sound sound d.unlinks;
     records = ap (λ (x : Shape). x.records) (unlinked_shape sound d.unlinks);
     unused = ap (λ (x : Shape). x.unused) (unlinked_shape sound d.unlinks);
@@ -81,7 +82,7 @@ module _ {b now : List ℕ} {n : ℕ} (good : Good b) (d : Deletes b now n) wher
 
   pub says : SaysRemoved sound removes (shape now).unused
   says = record {
-    numbered = says_numbers now (length d.before) d.after (says_still frees (numbers sound d.unlinks) _ (may_mid sound d.unlinks).1 (λ m i. behind_apart m (subst (In m) (tiles_written (length d.before) d.after) i)) (said sound d.unlinks).1);
+    numbered = says_still frees _ _ (may_now (leaves sound d.unlinks)) (λ m i. behind_apart m (subst (In m) (tiles_written (length d.before) d.after) i)) (said_now (leaves sound d.unlinks));
     attribute_chain = subst (λ (x : Shape). IsChain now x.records adr_type (number now x.gdr gdr_adr_head) (adrs x)) shape_after (sound_now frees).has_shape.attribute_chain;
     unused_chain = subst (λ (x : Shape). IsChain now x.records uir_type (number now x.gdr gdr_uir_head) x.unused) shape_after (sound_now frees).has_shape.unused_chain;
     freed = all_freed frees;
@@ -91,7 +92,7 @@ module _ {b now : List ℕ} {n : ℕ} (good : Good b) (d : Deletes b now n) wher
   content_after = content_removed sound removes says ∙ ap (λ (k : ℕ). record (content b) { attributes = remove (content b).attributes k }) d.count
 
   count_now : number now s.gdr gdr_num_attr ≡ length (adrs_in (d.before ++ d.after))
-  count_now = gdr_still frees gdr_num_attr (omega arith) ∙ counted_now sound d.unlinks ∙ sym (length-map (d.before ++ d.after) (λ (a : AttributeShape). a.adr) ∙ length-append d.before d.after)
+  count_now = gdr_still frees gdr_num_attr (omega arith) ∙ counted_now (leaves sound d.unlinks) ∙ sym (length-map (d.before ++ d.after) (λ (a : AttributeShape). a.adr) ∙ length-append d.before d.after)
 
   pub good_after : length b ≤ image_limit → Good now
   good_after short =
@@ -106,14 +107,19 @@ module _ {b now : List ℕ} {n : ℕ} (good : Good b) (d : Deletes b now n) wher
   acts_after = freed_acts frees refl
 
   -- before they are freed, its records stay but for a link
-  own_lives : AttributeLives b d.mid d.own
-  own_lives = (lives_beside sound (unlinks_removes sound d.unlinks 0) (d.own ∷ []) (own_there sound d.unlinks) (λ m i.
-      let out = (only_owns b s sound d.before d.own d.after d.unlinks.was m (elim (In-append m (attribute_records d.own) [] i) [ inl j ↦ j | inr none ↦ absurd none ])).in_after in
-      ((λ x. x), ((λ j. out (adrs_owned d.after m j)), (λ j. out (entries_owned d.after m j)))))).0
-
   own_behind : (m : ℕ) → In m (attribute_records d.own) → Same b d.mid (m + links_end (size_at b m)) (m + size_at b m)
-  own_behind m (inl e) = subst (λ (x : ℕ). Same b d.mid (x + links_end (size_at b x)) (x + size_at b x)) (sym e) (behind_link own_lives.adr (linkable-long b s.records adr_type d.own.adr (own_there sound d.unlinks).linked.0))
-  own_behind m (inr i) = behind_kept (own_lives.entries m i)
+  own_behind m (inl e) =
+      let r = unlinks_removes sound d.unlinks in
+      let ok = (own_there sound d.unlinks).linked.0 in
+      let out : In d.own.adr (adrs_in d.after) → ⊥ = λ j. (only_owns b s sound d.before d.own d.after d.unlinks.was d.own.adr (inl refl)).in_after (adrs_owned d.after d.own.adr j) in
+      subst (λ (x : ℕ). Same b d.mid (x + links_end (size_at b x)) (x + size_at b x)) (sym e)
+      (behind_link (kept_but_link r.edit d.own.adr adr_type (linkable-in b s.records adr_type d.own.adr ok) (linkable-type b s.records adr_type d.own.adr ok) (adr_avoids sound r d.own.adr 0 12 (λ x. x) (inl (omega arith)) (λ j. absurd (out j))) (adr_avoids sound r d.own.adr 20 (size_at b d.own.adr) (λ x. x) (inr (omega arith)) (λ j. absurd (out j)))) (linkable-long b s.records adr_type d.own.adr ok))
+  own_behind m (inr i) =
+      let r = unlinks_removes sound d.unlinks in
+      let there = own_there sound d.unlinks in
+      let out : In m (entries_in d.after) → ⊥ = λ j. (only_owns b s sound d.before d.own d.after d.unlinks.was m (inr i)).in_after (entries_owned d.after m j) in
+      let l = tile_lies b 8 (length b) s.records m sound.has_shape.tiled (entry sound r.edit d.own there.have.0 m i).0 in
+      behind_kept (record { same = Same-part b d.mid (m + 0) (m + size_at b m) m (m + size_at b m) (r.edit.part m (type_at b m) 0 (size_at b m) (entry sound r.edit d.own there.have.0 m i).0 refl (entry_avoids sound r d.own there m 0 12 i (λ x. x) (λ j. absurd (out j))) (entry_avoids sound r d.own there m 0 (size_at b m) i (λ x. x) (λ j. absurd (out j))) (omega arith)) (omega arith) (omega arith); inside = l.high; long = l.long })
 
   pub freed_after : FreedStay b now no_fields (gave b places)
   freed_after = freed_bytes frees (λ m i. own_behind m (mine m i))
@@ -148,9 +154,9 @@ module _ {b now : List ℕ} {n : ℕ} (good : Good b) (d : Deletes b now n) (nam
       let kept = keeps_within (sound good d) (removes good d).edit (records_are good d) m adr_type (next_field ∷ adr_num ∷ []) inside typed heads (within-of_type marks adr_type m (next_field ∷ adr_num ∷ []) ((λ same lies. refl), ((λ same lies. refl), ((λ same lies. absurd (away lies)), tt)))) in
       either_keeps b now (is_attribute (content b) name k) m _ (subst (λ (p : Bool). Keeps b now m (branch p)) (sym (eq-eqb (type_at b m) adr_type typed)) kept)
   one_keeps k a there m (inr i) away =
-      let inside = entry_in (sound good d) (removes good d) a [] there m i in
-      let heads = entry_avoids (sound good d) (removes good d) a [] there m 0 12 i away (λ x. inl (omega arith)) in
-      let x : ((type_at b m == adr_type) ≡ false) × Within marks (type_at b m) m (aedr_attr_num ∷ []) = entry_typed (sound good d) (removes good d) (λ (t : ℕ). ((t == adr_type) ≡ false) × Within marks t m (aedr_attr_num ∷ [])) a [] there m i
+      let inside = (entry (sound good d) (removes good d).edit a there.have.0 m i).0 in
+      let heads = entry_avoids (sound good d) (removes good d) a there m 0 12 i away (λ x. inl (omega arith)) in
+      let x : ((type_at b m == adr_type) ≡ false) × Within marks (type_at b m) m (aedr_attr_num ∷ []) = entry_typed (sound good d) (removes good d) (λ (t : ℕ). ((t == adr_type) ≡ false) × Within marks t m (aedr_attr_num ∷ [])) a there m i
       (refl, within-of_type marks agr_edr_type m (aedr_attr_num ∷ []) ((λ same lies. refl), ((λ same lies. absurd (away lies)), tt))) (refl, within-of_type marks az_edr_type m (aedr_attr_num ∷ []) ((λ same lies. refl), ((λ same lies. absurd (away lies)), tt))) in
       either_keeps b now (is_attribute (content b) name k) m _ (subst (λ (p : Bool). Keeps b now m (branch p)) (sym x.0) (keeps_within (sound good d) (removes good d).edit (records_are good d) m (type_at b m) (aedr_attr_num ∷ []) inside refl heads x.1))
 
@@ -264,7 +270,7 @@ module _ (b : List ℕ) (good : Good b) (places : List ℕ) (are : places ≡ ad
       pub lie_after : Each (λ (w : Write). LiesIn second w.tile w.f) writes
       lie_after = subst (Each (λ (w : Write). LiesIn second w.tile w.f)) (sym numbers_are)
           (writes_lie b second (shape b).records _ _ image_sound.has_shape.tiled (some_bytes b (shape b) image_sound.has_shape) out.length_stays
-          (may_number b (shape b) image_sound own.after (length own.before) own.after (parts_there b (shape b) image_sound own.before (own.own ∷ []) own.after own.is).1.1 (λ m i. i) (λ m i. i)))
+          (may_number image_sound (length own.before) own.after (parts_there b (shape b) image_sound own.before (own.own ∷ []) own.after own.is).1.1))
 
       module _ {mid : List ℕ} (written : mid ≡ with_writes second writes) {records : List ℕ} (records_are : records ≡ members_of b (GrEntries (get_or places n 0)) ++ members_of b (ZEntries (get_or places n 0)) ++ get_or places n 0 ∷ []) where
         unlinks : Unlinks b mid (shape b) own.before own.own own.after

@@ -1,6 +1,6 @@
 -- Entries of a chain get numbers less by one, where they are greater than one that none has, and the greatest number of the chain is written.
 use Rattle.std.proofs.Common.{◌≡◌, ℕ, ℤ, ◌+◌, ◌-◌, ◌<◌, ◌≤◌, ◌^◌, List, [], ◌∷◌, ◌++◌, length, map, refl, sym, ap, subst, ◌∙◌, arith, inl, inr}
-use Rattle.cdf_edits.proofs.Common.{w32, cast_unsigned, FitsSigned, integer4, cases_lt, lt-ltb, le-ltb, le-leb, leb-true, filter, ◌==◌, nat_lt, EntryKind, entries_of, image_limit, record_number_limit, closed_up, entry_rows, attribute_of, number, size_at, type_at, with_field, aedr_num, Hold, AttributeShape, Each, HasShape, Shape, shape, IsSound, AreTiles, In, Distinct, Good, number_kept, good_is_sound, filter-in, tile_lies, length-with_field, chain_of, entry_type, max_field, Edit, fallen, Among, Mark, mark, Write, write, with_writes}
+use Rattle.cdf_edits.proofs.Common.{w32, cast_unsigned, FitsSigned, integer4, cases_lt, lt-ltb, le-ltb, le-leb, leb-true, filter, ◌==◌, nat_lt, EntryKind, entries_of, image_limit, record_number_limit, closed_up, entry_rows, attribute_of, number, size_at, type_at, with_field, aedr_num, Hold, AttributeShape, Each, HasShape, Shape, shape, IsSound, AreTiles, In, Distinct, Good, number_kept, good_is_sound, filter-in, tile_lies, length-with_field, chain_of, entry_type, max_field, Edit, fallen, Among, Mark, mark, Write, write, with_writes, word_kept, aedr_attr_num}
 use Rattle.cdf_format.specs.Content.{entries_of as chain_items}
 use Rattle.cdf_edits.proofs.Edits.ChainEntries.{nums}
 use Rattle.cdf_edits.proofs.Edits.ChainKinds.{chain_has}
@@ -11,7 +11,8 @@ use Rattle.cdf_edits.proofs.Edits.OneChain.{counted_before, differ_before, good_
 use Rattle.cdf_edits.proofs.Edits.WrittenEntries.{WriteTests, WritesChain, as_long as as_long_written, count_now as count_written, edit as edit_written, greatest_now as greatest_written, mid_kept, mid_size, part_beside, rechains as rechains_written, settled as settled_written, write_tests, writing}
 use Rattle.cdf_edits.proofs.Edits.StepEdits.{some_bytes}
 use Rattle.cdf_edits.proofs.Edits.WrittenFields.{MayWrite, may_after, others_keep, write_edit, write_lies, writes_edit, writes_say, written_tiles}
-use Rattle.cdf_edits.proofs.Frame.NumberFell.{KeptButNumber, attribute_stays, meant_stays, value_stays}
+use Rattle.cdf_edits.proofs.Edits.Composing.{head_size}
+use Rattle.cdf_edits.proofs.Frame.Meaning.{EntryMeans, entry_means}
 
 abbrev pub falling : EntryKind → ℕ → List ℕ → List Mark
 falling kind adr es = writing kind adr es aedr_num
@@ -157,13 +158,14 @@ module _ {b now : List ℕ} {kind : EntryKind} {before : List AttributeShape} {o
 
   -- ---- its entries
 
-  pub but_number : (m : ℕ) → In m chain → KeptButNumber b now m
-  but_number m i =
-      let l = long_enough m i in record {
-        start = part_beside sound w m 0 28 i (inl (omega arith)) (omega arith);
+  means : (m : ℕ) → In m chain → EntryMeans b now m
+  means m i =
+      let l = long_enough m i in entry_means b now (file_now sound rechains) m (record {
+        size = head_size b now m (part_beside sound w m 0 12 i (inl (omega arith)) (omega arith));
+        code = part_beside sound w m 24 28 i (inl (omega arith)) (omega arith);
         rest = part_beside sound w m 32 (size_at b m) i (inr (omega arith)) (omega arith);
         inside = (tile_lies b 8 (length b) s.records m h.tiled (entry_in m i)).high;
-      }
+      }) (member_fits kind sound at m i)
 
   entry_rules : (m : ℕ) → In m chain → Hold (entry_rows b own.adr m)
   entry_rules m i = rules_before sound rechains good m i
@@ -198,7 +200,7 @@ module _ {b now : List ℕ} {kind : EntryKind} {before : List AttributeShape} {o
       above n lt le = absurd (omega arith)
 
   pub fell : (m : ℕ) → In m chain → EntryFell b now num m
-  fell m i = record { num_is = fell_number m i; meant = meant_stays b now (file_now sound rechains) m (but_number m i) (member_fits kind sound at m i) }
+  fell m i = record { num_is = fell_number m i; meant = (means m i).meant }
 
   -- ---- what it comes to
 
@@ -210,14 +212,13 @@ module _ {b now : List ℕ} {kind : EntryKind} {before : List AttributeShape} {o
 
   rules_now : (m : ℕ) → In m chain → Hold (entry_rows now own.adr m)
   rules_now m i =
-      let k = but_number m i in
-      let file = file_now sound rechains in
       let was = entry_rules m i in
-      let attribute = attribute_stays b now file m k (member_fits kind sound at m i) in
+      let l = long_enough m i in
+      let attribute : number now m aedr_attr_num ≡ number b m aedr_attr_num = word_kept b now (m + 20) (m + 24) (part_beside sound w m 20 24 i (inl (omega arith)) (omega arith)) (m + 20) 4 (omega arith) (omega arith) in
       let own_same = num_same sound rechains in
       let less : number now m aedr_num ≤ record_number_limit = lower (number b m aedr_num) (number now m aedr_num) (fell_number m i) (small m i) in (
         (λ j. attribute j == own_same j) ∙ was.0,
-        (le-leb (number now m aedr_num) record_number_limit less, (value_stays b now file m k (member_fits kind sound at m i) ∙ was.1.1.0, tt)),
+        (le-leb (number now m aedr_num) record_number_limit less, ((means m i).valued ∙ was.1.1.0, tt)),
       )
     where
       lower : (n n' : ℕ) → n' ≡ fallen num n → n ≤ record_number_limit → n' ≤ record_number_limit

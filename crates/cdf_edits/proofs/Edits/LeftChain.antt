@@ -1,11 +1,11 @@
 -- A member of a chain of the GDR that leaves it: the count falls, fields of those behind are written, and then others of the GDR.
 use Rattle.std.proofs.Common.{◌≡◌, ◌≢◌, ℕ, ◌+◌, ◌^◌, ◌<◌, ◌≤◌, List, [], ◌∷◌, ◌++◌, length, true, eq-eqb, refl, sym, ap, subst, ◌∙◌, arith, inl, inr}
-use Rattle.cdf_edits.proofs.Common.{eqb-true, ◌==◌, if◌then◌else◌, Same, IsChain, number, size_at, type_at, gdr_offset, with_field, gdr_uir_head, gdr_type, uir_type, Shape, Each, HasShape, IsSound, In, AreTiles, Distinct, Distinct-middle, either, length-with_field, Edit, Mark, avoided, keeps_file, field_marks, removing_marks, Write, write, with_writes, holder_of, head_of, count_of, type_in, Removed, Chain}
+use Rattle.cdf_edits.proofs.Common.{Covered, touched_field, Field, is_linkable, fixed_size, linkable-in, linkable-type, eqb-true, ◌==◌, if◌then◌else◌, Same, IsChain, number, size_at, type_at, gdr_offset, with_field, gdr_uir_head, gdr_type, uir_type, Shape, Each, HasShape, IsSound, In, AreTiles, Distinct, Distinct-middle, either, length-with_field, Edit, Mark, avoided, keeps_file, field_marks, removing_marks, Write, write, with_writes, holder_of, head_of, count_of, type_in, Removed, Chain}
 use Rattle.cdf_edits.specs.Space.Chains.{before as front_of, without}
 use Rattle.cdf_edits.proofs.Edits.ChainsOfShape.{IsOf, remove_changed, left_chain}
 use Rattle.cdf_edits.proofs.Edits.Composing.{head_size, head_type, edit_then}
 use Rattle.cdf_edits.proofs.Edits.RecordFrame.{chain_clear, field_clear, gdr_place, through}
-use Rattle.cdf_edits.proofs.Edits.StepEdits.{Linked, gdr_in, gdr_typed, gdr_long, some_bytes, remove_edit}
+use Rattle.cdf_edits.proofs.Edits.StepEdits.{fixed_long, Linked, gdr_in, gdr_typed, gdr_long, some_bytes, remove_edit}
 use Rattle.cdf_edits.proofs.Edits.VariableFrame.{Each-map}
 use Rattle.cdf_edits.proofs.Edits.WrittenFields.{MayWrite, written_tiles, may_after, write_lies, write_edit, writes_edit, writes_say, others_keep}
 
@@ -25,6 +25,13 @@ long_writes records marks (w ∷ ws) x m t l =
     let e = write_edit x records t l marks w m.0 in
     let same = length-with_field x w.tile w.f w.to (write_lies x records t l w.tile w.f m.0.inside m.0.fits) in
     long_writes records marks ws (with_field x w.tile w.f w.to) (may_after e marks ws m.1) e.tiled_now (omega arith) ∙ same
+
+-- a number in a field of a record of a chain
+pub may_linked : {b : List ℕ} {s : Shape} → IsSound b s → (marks : List Mark) (type m : ℕ) (f : Field) (n : ℕ) → is_linkable b s.records type m ≡ true → type ≢ uir_type → 12 ≤ f.place → f.place + f.width ≤ fixed_size type → (type_at b m ≡ type → Covered b marks (touched_field m f)) → MayWrite b s.records marks (write m f n)
+may_linked {b = b} {s = s} sound marks type m f n ok used later fits covered =
+    let inside = linkable-in b s.records type m ok in
+    let typed = linkable-type b s.records type m ok in
+    record { inside = inside; used = λ u. used (sym typed ∙ u); fits = through (f.place + f.width) (fixed_size type) (size_at b m) fits (fixed_long b s sound.has_shape type m inside typed); later = later; covered = covered typed }
 
 -- ---- the marks of the steps
 

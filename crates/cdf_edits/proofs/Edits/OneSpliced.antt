@@ -2,7 +2,7 @@
 use Rattle.std.proofs.Common.{◌≡◌, ℕ, List, [], ◌∷◌, ◌++◌, length, map, true, sym, ap, subst, ◌∙◌, arith, inl, inr}
 use Rattle.cdf_edits.proofs.Common.{length-map, map-append, set_at, flat_map, slice_set, ◌==◌, Attribute, DataSet, with_attribute, IsSound, adrs_rows, r_vdrs_rows, z_vdrs_rows, content, attribute_of, number, name_in, type_at, gdr_offset, IsGoodByShape, attribute_records, gdr_num_attr, adr_name, adr_num, gdr_type, row, Hold, AttributeShape, Shape, adrs, vdrs, Each, In, In-append, In-append_left, In-append_right, names_at, Hold-split, content_is, Mark, Away, avoided, Edit}
 use Rattle.cdf_edits.proofs.Rules.WithoutLinks.{number_rows_kept}
-use Rattle.cdf_edits.proofs.Edits.AttributeFrame.{AreThere, lives_away, names_stay, nums_stay}
+use Rattle.cdf_edits.proofs.Edits.AttributeFrame.{AreThere, lives_away, remaining_names, nums_stay}
 use Rattle.cdf_edits.proofs.Edits.RecordFrame.{AttributeLives, gdr_field, gdr_place}
 use Rattle.cdf_edits.proofs.Frame.OwnersApart.{flat-append}
 use Rattle.cdf_edits.proofs.Edits.OwnedOnce.{only_owns, all_attributes_in}
@@ -41,7 +41,7 @@ module _ {b now : List ℕ} {s : Shape} {new list : List ℕ} {marks : List Mark
       let set = ap (λ (as_ : List Attribute). slice_set as_ (length before) (attribute_of now own')) split ∙ set_at (map (attribute_of b) before) (attribute_of b own) (map (attribute_of b) after) (attribute_of now own') (length before) place in
       content_now sound splices ∙ ap (λ (as_ : List Attribute). record (content b) { attributes = as_ }) (sym set)
 
-  module _ (adr_is : own'.adr ≡ own.adr) (num_is : number now own.adr adr_num ≡ number b own.adr adr_num) where
+  module _ (adr_is : own'.adr ≡ own.adr) (num_is : number now own.adr adr_num ≡ number b own.adr adr_num) (live : Each (AttributeLives b now) before × Each (AttributeLives b now) after) where
     pub adrs_are : adrs shape' ≡ adrs s
     adrs_are =
         let f = λ (a : AttributeShape). a.adr in
@@ -51,10 +51,10 @@ module _ {b now : List ℕ} {s : Shape} {new list : List ℕ} {marks : List Mark
     num_stays m i =
         let f = λ (a : AttributeShape). a.adr in
         elim (In-append m (map f before) (own.adr ∷ map f after) (subst (In m) (ap (map f) splices.was ∙ map-append f before (own ∷ after)) i)) [
-          | inl j ↦ nums_stay sound e (file sound splices) before there.0 splices.before_live m j
+          | inl j ↦ nums_stay sound e (file sound splices) before there.0 live.0 m j
           | inr j ↦ elim j [
             | inl q ↦ subst (λ (x : ℕ). number now x adr_num ≡ number b x adr_num) (sym q) num_is
-            | inr k ↦ nums_stay sound e (file sound splices) after there.1.1 splices.after_live m k
+            | inr k ↦ nums_stay sound e (file sound splices) after there.1.1 live.1 m k
           ]
         ]
 
@@ -75,8 +75,8 @@ module _ {b now : List ℕ} {s : Shape} {new list : List ℕ} {marks : List Mark
   names_now =
       let f = λ (a : AttributeShape). a.adr in
       let n = λ (m : ℕ). name_in now m adr_name in
-      let x = names_stay sound e (file sound splices) before there.0 splices.before_live in
-      let y = names_stay sound e (file sound splices) after there.1.1 splices.after_live in
+      let x = remaining_names b now new before splices.before_remain in
+      let y = remaining_names b now new after splices.after_remain in
       ap (map n) (map-append f before (own' ∷ after)) ∙ map-append n (map f before) (own'.adr ∷ map f after) ∙ (λ i. x i ++ name_in now own'.adr adr_name ∷ y i)
 
   pub names_before : names_at b adr_name (adrs s) ≡ names_at b adr_name (map (λ (a : AttributeShape). a.adr) before) ++ name_in b own.adr adr_name ∷ names_at b adr_name (map (λ (a : AttributeShape). a.adr) after)

@@ -163,42 +163,6 @@ module _ {b now : List ℕ} {s : Shape} {new : List ℕ} {marks : List Mark} {re
       sizes_are = sizes_same;
     }
 
-  -- ---- an attribute
-
-  module _ (a : AttributeShape) (file : FileSame b now) (ok : is_linkable b s.records adr_type a.adr ≡ true) (has : HasEntries b s.records a) (fits : AttributeFits b a) (lives : AttributeLives b now a) where
-    adr_long : 324 ≤ size_at b a.adr
-    adr_long = fixed_long b s h adr_type a.adr (linkable-in b s.records adr_type a.adr ok) (linkable-type b s.records adr_type a.adr ok)
-
-    pub adr_field : (f : Field) → 20 ≤ f.place → f.place + f.width ≤ 324 → number now a.adr f ≡ number b a.adr f
-    adr_field f late inside = late_number b now a.adr lives.adr f late (through (f.place + f.width) 324 (size_at b a.adr) inside adr_long)
-
-    pub adr_named : name_in now a.adr adr_name ≡ name_in b a.adr adr_name
-    adr_named =
-        let k = lives.adr in
-        ap (before_first (λ (x : ℕ). x == 0)) (piece_kept b now (a.adr + 20) (a.adr + size_at b a.adr) k.rest (a.adr + 68) 256 (omega arith) (let l = adr_long in omega arith) k.inside e.longer)
-
-    gr_kept : (m : ℕ) → In m a.gr_entries → Kept b now m
-    gr_kept m i = lives.entries m (In-append_left m a.gr_entries a.z_entries i)
-
-    z_kept : (m : ℕ) → In m a.z_entries → Kept b now m
-    z_kept m i = lives.entries m (In-append_right m a.gr_entries a.z_entries i)
-
-    pub attribute_stays : AttributeStays b now new a
-    attribute_stays =
-        let name = adr_named in
-        let scope = adr_field adr_scope (omega arith) (omega arith) in
-        let gs = entries_kept b now file a.gr_entries gr_kept fits.0 in
-        let zs = entries_kept b now file a.z_entries z_kept fits.1 in (
-          record {
-            gr_chain = chain_kept e agr_edr_type _ _ a.gr_entries has.gr_chain (adr_field adr_agr_edr_head (omega arith) (omega arith)) gr_kept;
-            z_chain = chain_kept e az_edr_type _ _ a.z_entries has.z_chain (adr_field adr_az_edr_head (omega arith) (omega arith)) z_kept;
-          },
-          λ i. record { name = name i; scope = scope_of (scope i); g = gs i; z = zs i },
-        )
-
-    pub attribute_rules : Hold (attribute_shape_rows b a) → Hold (attribute_shape_rows now a)
-    attribute_rules rules = attribute_rules_kept b now a (record { fields = λ f late inside. adr_field f late (through (f.place + f.width) 68 324 inside (omega arith)); entries = lives.entries }) fits (ap (λ (n : List ℕ). not (length n == 0)) adr_named ∙ rules.0) rules
-
   -- ---- a variable
 
   module _ (v : VariableShape) (file : FileSame b now) (has : HasVariable b s.records v) (fits : VariableFits b s.records v) (stand : (m : ℕ) → In m (variable_records v) → In m s.records) (lives : VariableLives b now v) where

@@ -1,10 +1,12 @@
--- Where one attribute goes, those before it stay, and those behind it stay but for their number.
+-- Where one attribute goes: each other one stays but for its number, which its entries say.
 use Rattle.std.proofs.Common.{◌≡◌, ◌⊎◌, ℕ, suc, ◌+◌, ◌≤◌, List, [], ◌∷◌, ◌++◌, length, map, refl, sym, subst, ◌∙◌, arith, inl, inr}
-use Rattle.cdf_edits.proofs.Common.{flat_map, number, size_at, type_at, attribute_records, times, adr_num, aedr_attr_num, adr_type, agr_edr_type, az_edr_type, AttributeShape, Shape, Each, IsSound, In, linkable-in, linkable-type, linkable-long, In-append, In-append_left, In-append_right, tile_lies, Edit, deleting_marks, Mark, Avoids, Same-part}
-use Rattle.cdf_edits.proofs.Edits.AttributeFrame.{AreThere, more_there}
+use Rattle.cdf_edits.proofs.Common.{map-append, Each-split, Write, write, numbers_from, field,  flat_map, number, size_at, type_at, attribute_records, times, adr_num, aedr_attr_num, adr_type, agr_edr_type, az_edr_type, AttributeShape, Shape, Each, IsSound, In, linkable-in, linkable-type, linkable-long, In-append, In-append_left, In-append_right, tile_lies, Edit, deleting_marks, Mark, Avoids, Same-part}
+use Rattle.cdf_edits.proofs.Edits.AttributeFrame.{AreThere, each_there, entry, entry_long}
 use Rattle.cdf_edits.proofs.Edits.OwnedOnce.{only_owns, parts_once}
-use Rattle.cdf_edits.proofs.Edits.RecordFrame.{AttributeLives, kept_but_link}
-use Rattle.cdf_edits.proofs.Edits.Renumbered.{AttributeNumbered, EntryNumbered}
+use Rattle.cdf_edits.proofs.Edits.RecordFrame.{field_avoids}
+use Rattle.cdf_edits.proofs.Edits.AttributeRemains.{AttributeLasts}
+use Rattle.cdf_edits.proofs.Edits.RowsOneLess.{AreNumbered}
+use Rattle.cdf_edits.proofs.Edits.VariableFrame.{Each-apply}
 use Rattle.cdf_edits.proofs.Edits.Splice.{parts_there}
 use Rattle.cdf_edits.proofs.Edits.StepEdits.{fixed_long}
 use Rattle.cdf_edits.proofs.Frame.Meaning.{Kept}
@@ -30,10 +32,29 @@ entries_owned (a ∷ more) m i = elim (In-append m (a.gr_entries ++ a.z_entries)
   | inr j ↦ In-append_right m (attribute_records a) (flat_map attribute_records more) (entries_owned more m j)
 ]
 
--- attributes have the numbers from one on, and their entries say them
-abbrev pub AreNumbered : List ℕ → ℕ → List AttributeShape → Type 0
-AreNumbered now n [] = Unit {0}
-AreNumbered now n (a ∷ more) = ((number now a.adr adr_num ≡ n) × ((m : ℕ) → In m (a.gr_entries ++ a.z_entries) → number now m aedr_attr_num ≡ n)) × AreNumbered now (suc n) more
+-- a field has its number
+abbrev pub Says : List ℕ → Write → Type 0
+Says now w = number now w.tile w.f ≡ w.to
+
+-- an entry says the number of its attribute, if it did
+abbrev pub SayNumber : List ℕ → List ℕ → AttributeShape → Type 0
+SayNumber b now a = (m : ℕ) → In m (a.gr_entries ++ a.z_entries) → number b m aedr_attr_num ≡ number b a.adr adr_num → number now m aedr_attr_num ≡ number now a.adr adr_num
+
+-- where the numbers of attributes and entries are written
+pub numbers_said : (now : List ℕ) (n : ℕ) (as_ : List AttributeShape) → Each (Says now) (numbers_from n as_) → AreNumbered now adr_num n (adrs_in as_)
+numbers_said now n [] says = tt
+numbers_said now n (a ∷ more) says = (says.0, numbers_said now (suc n) more (Each-split (Says now) (map (λ entry. write entry aedr_attr_num n) (a.gr_entries ++ a.z_entries)) (numbers_from (suc n) more) says.1).1)
+
+entries_say : (b now : List ℕ) (n : ℕ) (as_ : List AttributeShape) → Each (Says now) (numbers_from n as_) → Each (SayNumber b now) as_
+entries_say b now n [] says = tt
+entries_say b now n (a ∷ more) says =
+    let p = Each-split (Says now) (map (λ entry. write entry aedr_attr_num n) (a.gr_entries ++ a.z_entries)) (numbers_from (suc n) more) says.1 in
+    ((λ m i was. entry (a.gr_entries ++ a.z_entries) p.0 m i ∙ sym says.0), entries_say b now (suc n) more p.1)
+  where
+    entry : (es : List ℕ) → Each (Says now) (map (λ entry. write entry aedr_attr_num n) es) → (m : ℕ) → In m es → number now m aedr_attr_num ≡ n
+    entry [] h m i = absurd i
+    entry (e ∷ es) h m (inl q) = subst (λ (x : ℕ). number now x aedr_attr_num ≡ n) (sym q) h.0
+    entry (e ∷ es) h m (inr i) = entry es h.1 m i
 
 -- no record is of an attribute before one and of an attribute behind it
 pub sides_apart : (b : List ℕ) (s : Shape) → IsSound b s → (before : List AttributeShape) (own : AttributeShape) (after : List AttributeShape) → s.attributes ≡ before ++ own ∷ after → (m : ℕ) → In m (flat_map attribute_records before) → In m (flat_map attribute_records after) → ⊥
@@ -63,102 +84,67 @@ module _ {b now : List ℕ} {s : Shape} {before : List AttributeShape} {own : At
   pub adr_avoids : (m lo hi : ℕ) → (In m places → ⊥) → (hi ≤ 12) ⊎ (20 ≤ lo) → (In m (adrs_in after) → (hi ≤ 32) ⊎ (36 ≤ lo)) → Avoids marks adr_type m lo hi
   adr_avoids m lo hi out link num = avoids-of_type marks adr_type m lo hi ((λ same lies. link), ((λ same lies. num lies), ((λ same lies. absurd (out lies)), tt)))
 
-  pub gr_avoids : (m lo hi : ℕ) → (In m places → ⊥) → (In m (entries_in after) → (hi ≤ 20) ⊎ (24 ≤ lo)) → Avoids marks agr_edr_type m lo hi
-  gr_avoids m lo hi out num = avoids-of_type marks agr_edr_type m lo hi ((λ same lies. num lies), ((λ same lies. absurd (out lies)), tt))
-
-  pub z_avoids : (m lo hi : ℕ) → (In m places → ⊥) → (In m (entries_in after) → (hi ≤ 20) ⊎ (24 ≤ lo)) → Avoids marks az_edr_type m lo hi
-  z_avoids m lo hi out num = avoids-of_type marks az_edr_type m lo hi ((λ same lies. num lies), ((λ same lies. absurd (out lies)), tt))
-
   -- an entry has one of two types
-  pub entry_typed : (P : ℕ → Type 0) (a : AttributeShape) (as_ : List AttributeShape) → AreThere b s.records (a ∷ as_) → (m : ℕ) → In m (a.gr_entries ++ a.z_entries) → P agr_edr_type → P az_edr_type → P (type_at b m)
-  entry_typed P a as_ there m i gr z = elim (In-append m a.gr_entries a.z_entries i) [
+  pub entry_typed : (P : ℕ → Type 0) (a : AttributeShape) → AreThere b s.records (a ∷ []) → (m : ℕ) → In m (a.gr_entries ++ a.z_entries) → P agr_edr_type → P az_edr_type → P (type_at b m)
+  entry_typed P a there m i gr z = elim (In-append m a.gr_entries a.z_entries i) [
     | inl j ↦ subst P (sym (linkable-type b s.records agr_edr_type m (there.have.0.gr_chain.linkable m j))) gr
     | inr j ↦ subst P (sym (linkable-type b s.records az_edr_type m (there.have.0.z_chain.linkable m j))) z
   ]
 
-  pub entry_avoids : (a : AttributeShape) (as_ : List AttributeShape) → AreThere b s.records (a ∷ as_) → (m lo hi : ℕ) → In m (a.gr_entries ++ a.z_entries) → (In m places → ⊥) → (In m (entries_in after) → (hi ≤ 20) ⊎ (24 ≤ lo)) → Avoids marks (type_at b m) m lo hi
-  entry_avoids a as_ there m lo hi i out num = entry_typed (λ (t : ℕ). Avoids marks t m lo hi) a as_ there m i (gr_avoids m lo hi out num) (z_avoids m lo hi out num)
+  pub entry_avoids : (a : AttributeShape) → AreThere b s.records (a ∷ []) → (m lo hi : ℕ) → In m (a.gr_entries ++ a.z_entries) → (In m places → ⊥) → (In m (entries_in after) → (hi ≤ 20) ⊎ (24 ≤ lo)) → Avoids marks (type_at b m) m lo hi
+  entry_avoids a there m lo hi i out num = entry_typed (λ (t : ℕ). Avoids marks t m lo hi) a there m i
+      (avoids-of_type marks agr_edr_type m lo hi ((λ same lies. num lies), ((λ same lies. absurd (out lies)), tt))) (avoids-of_type marks az_edr_type m lo hi ((λ same lies. num lies), ((λ same lies. absurd (out lies)), tt)))
 
-  pub entry_in : (a : AttributeShape) (as_ : List AttributeShape) → AreThere b s.records (a ∷ as_) → (m : ℕ) → In m (a.gr_entries ++ a.z_entries) → In m s.records
-  entry_in a as_ there m i = elim (In-append m a.gr_entries a.z_entries i) [
-    | inl j ↦ linkable-in b s.records agr_edr_type m (there.have.0.gr_chain.linkable m j)
-    | inr j ↦ linkable-in b s.records az_edr_type m (there.have.0.z_chain.linkable m j)
-  ]
+  -- ---- the others
 
-  pub entry_long : (a : AttributeShape) (as_ : List AttributeShape) → AreThere b s.records (a ∷ as_) → (m : ℕ) → In m (a.gr_entries ++ a.z_entries) → 28 ≤ size_at b m
-  entry_long a as_ there m i = elim (In-append m a.gr_entries a.z_entries i) [
-    | inl j ↦ linkable-long b s.records agr_edr_type m (there.have.0.gr_chain.linkable m j)
-    | inr j ↦ linkable-long b s.records az_edr_type m (there.have.0.z_chain.linkable m j)
-  ]
-
-  kept_whole : (m : ℕ) → In m s.records → ((lo hi : ℕ) → Avoids marks (type_at b m) m lo hi) → Kept b now m
-  kept_whole m i avoids =
-      let l = tile_lies b 8 (length b) s.records m sound.has_shape.tiled i in
-      record { same = Same-part b now (m + 0) (m + size_at b m) m (m + size_at b m) (e.part m (type_at b m) 0 (size_at b m) i refl (avoids 0 12) (avoids 0 (size_at b m)) (omega arith)) (omega arith) (omega arith); inside = l.high; long = l.long }
-
-  -- ---- before
-
-  -- of none of these records is a mark but in the link to the next one
-  pub lives_beside : (as_ : List AttributeShape) → AreThere b s.records as_ → ((m : ℕ) → In m (flat_map attribute_records as_) → (In m places → ⊥) × ((In m (adrs_in after) → ⊥) × (In m (entries_in after) → ⊥))) → Each (AttributeLives b now) as_
-  lives_beside [] there out = tt
-  lives_beside (a ∷ more) there out =
-      let ok = there.linked.0 in
-      let mine_out = out a.adr (inl refl) in (
-        record {
-          adr = kept_but_link e a.adr adr_type (linkable-in b s.records adr_type a.adr ok) (linkable-type b s.records adr_type a.adr ok)
-              (adr_avoids a.adr 0 12 mine_out.0 (inl (omega arith)) (λ i. inl (omega arith))) (adr_avoids a.adr 20 (size_at b a.adr) mine_out.0 (inr (omega arith)) (λ i. absurd (mine_out.1.0 i)));
-          entries = λ m i.
-              let entry_out = out m (inr (In-append_left m (a.gr_entries ++ a.z_entries) (flat_map attribute_records more) i)) in
-              kept_whole m (entry_in a more there m i) (λ lo hi. entry_avoids a more there m lo hi i entry_out.0 (λ j. absurd (entry_out.1.1 j)));
-        },
-        lives_beside more (more_there b s.records a more there) (λ m i. out m (In-append_right m (attribute_records a) (flat_map attribute_records more) i)),
-      )
-
-  -- ---- behind
-
-  entry_numbered : (a : AttributeShape) (as_ : List AttributeShape) → AreThere b s.records (a ∷ as_) → (m : ℕ) → In m (a.gr_entries ++ a.z_entries) → (In m places → ⊥) → EntryNumbered b now m
-  entry_numbered a as_ there m i out =
-      let inside = entry_in a as_ there m i in
-      let l = tile_lies b 8 (length b) s.records m sound.has_shape.tiled inside in
-      let long = entry_long a as_ there m i in
-      let heads = entry_avoids a as_ there m 0 12 i out (λ j. inl (omega arith)) in
-      record {
-        start = e.part m (type_at b m) 0 20 inside refl heads (entry_avoids a as_ there m 0 20 i out (λ j. inl (omega arith))) (omega arith);
-        rest = e.part m (type_at b m) 24 (size_at b m) inside refl heads (entry_avoids a as_ there m 24 (size_at b m) i out (λ j. inr (omega arith))) (omega arith);
-        inside = l.high;
-      }
-
-  numbered_behind : (n : ℕ) (as_ : List AttributeShape) → AreThere b s.records as_ → AreNumbered now n as_ → ((m : ℕ) → In m (flat_map attribute_records as_) → In m places → ⊥) → Each (AttributeNumbered b now) as_
-  numbered_behind n [] there says out = tt
-  numbered_behind n (a ∷ more) there says out =
-      let ok = there.linked.0 in
-      let inside = linkable-in b s.records adr_type a.adr ok in
-      let typed = linkable-type b s.records adr_type a.adr ok in
+  one_lasts : (a : AttributeShape) → AreThere b s.records (a ∷ []) → ((m : ℕ) → In m (attribute_records a) → In m places → ⊥) → SayNumber b now a → AttributeLasts b now a
+  one_lasts a there out says =
+      let inside = linkable-in b s.records adr_type a.adr there.linked.0 in
+      let typed = linkable-type b s.records adr_type a.adr there.linked.0 in
       let l = tile_lies b 8 (length b) s.records a.adr sound.has_shape.tiled inside in
       let long = fixed_long b s sound.has_shape adr_type a.adr inside typed in
       let away = out a.adr (inl refl) in
-      let heads = adr_avoids a.adr 0 12 away (inl (omega arith)) (λ i. inl (omega arith)) in (
-        record {
-          start = e.part a.adr adr_type 0 12 inside typed heads heads l.long;
-          links = e.part a.adr adr_type 20 32 inside typed heads (adr_avoids a.adr 20 32 away (inr (omega arith)) (λ i. inl (omega arith))) (omega arith);
-          rest = e.part a.adr adr_type 36 (size_at b a.adr) inside typed heads (adr_avoids a.adr 36 (size_at b a.adr) away (inr (omega arith)) (λ i. inr (omega arith))) (omega arith);
-          inside = l.high;
-          entries = λ m i. entry_numbered a more there m i (out m (inr (In-append_left m (a.gr_entries ++ a.z_entries) (flat_map attribute_records more) i)));
-          numbered = λ m i. says.0.1 m i ∙ sym says.0.0;
-        },
-        numbered_behind (suc n) more (more_there b s.records a more there) says.1 (λ m i. out m (In-append_right m (attribute_records a) (flat_map attribute_records more) i)),
-      )
+      let heads = adr_avoids a.adr 0 12 away (inl (omega arith)) (λ i. inl (omega arith)) in
+      record {
+        start = e.part a.adr adr_type 0 12 inside typed heads heads l.long;
+        links = e.part a.adr adr_type 20 32 inside typed heads (adr_avoids a.adr 20 32 away (inr (omega arith)) (λ i. inl (omega arith))) (omega arith);
+        rest = e.part a.adr adr_type 36 (size_at b a.adr) inside typed heads (adr_avoids a.adr 36 (size_at b a.adr) away (inr (omega arith)) (λ i. inr (omega arith))) (omega arith);
+        inside = l.high;
+        entries = λ m i.
+            let there_in = (entry sound e a there.have.0 m i).0 in
+            let away = out m (inr i) in
+            let heads = entry_avoids a there m 0 12 i away (λ j. inl (omega arith)) in
+            let long = entry_long sound e a there.have.0 m i in
+            record {
+              start = e.part m (type_at b m) 0 20 there_in refl heads (entry_avoids a there m 0 20 i away (λ j. inl (omega arith))) (omega arith);
+              rest = e.part m (type_at b m) 24 (size_at b m) there_in refl heads (entry_avoids a there m 24 (size_at b m) i away (λ j. inr (omega arith))) (omega arith);
+              inside = (tile_lies b 8 (length b) s.records m sound.has_shape.tiled there_in).high;
+            };
+        numbered = says;
+      }
 
-  -- ---- both
+  all_last : (as_ : List AttributeShape) → AreThere b s.records as_ → ((m : ℕ) → In m (flat_map attribute_records as_) → In m places → ⊥) → Each (SayNumber b now) as_ → Each (AttributeLasts b now) as_
+  all_last as_ there out says = Each-apply (SayNumber b now) (AttributeLasts b now) as_ (each_there b s.records (λ a. SayNumber b now a → AttributeLasts b now a) as_ there (λ a t at sub. one_lasts a t (λ m i. out m (sub m i)))) says
 
   there : AreThere b s.records before × (AreThere b s.records (own ∷ []) × AreThere b s.records after)
   there = parts_there b s sound before (own ∷ []) after r.was
 
-  pub before_lives : Each (AttributeLives b now) before
-  before_lives = lives_beside before there.0 (λ m i. (
-    (λ j. (only_owns b s sound before own after r.was m (r.mine m j)).in_before i),
-    ((λ j. sides_apart b s sound before own after r.was m i (adrs_owned after m j)), (λ j. sides_apart b s sound before own after r.was m i (entries_owned after m j))),
-  ))
+  -- those before it have their numbers
+  pub nums_before : (m : ℕ) → In m (adrs_in before) → number now m adr_num ≡ number b m adr_num
+  nums_before m i =
+      let mine = adrs_owned before m i in
+      let ok = sound.has_shape.attribute_chain.linkable m (subst (λ (as_ : List AttributeShape). In m (adrs_in as_)) (sym r.was) (subst (In m) (sym (map-append (λ (a : AttributeShape). a.adr) before (own ∷ after))) (In-append_left m (adrs_in before) (own.adr ∷ adrs_in after) i))) in
+      let out : In m places → ⊥ = λ j. (only_owns b s sound before own after r.was m (r.mine m j)).in_before mine in
+      let long = fixed_long b s sound.has_shape adr_type m (linkable-in b s.records adr_type m ok) (linkable-type b s.records adr_type m ok) in
+      field_avoids e m adr_type adr_num (linkable-in b s.records adr_type m ok) (linkable-type b s.records adr_type m ok) (adr_avoids m 0 12 out (inl (omega arith)) (λ j. inl (omega arith))) (adr_avoids m 32 36 out (inr (omega arith)) (λ j. absurd (sides_apart b s sound before own after r.was m mine (adrs_owned after m j)))) (omega arith)
 
-  pub after_numbered : (n : ℕ) → AreNumbered now n after → Each (AttributeNumbered b now) after
-  after_numbered n says = numbered_behind n after there.1.1 says (λ m i j. (only_owns b s sound before own after r.was m (r.mine m j)).in_after i)
+  pub before_last : Each (AttributeLasts b now) before
+  before_last = all_last before there.0 (λ m i j. (only_owns b s sound before own after r.was m (r.mine m j)).in_before i) (each_there b s.records (SayNumber b now) before there.0 (λ a t at sub m i was.
+      let mine = sub m (inr i) in
+      let out : In m places → ⊥ = λ j. (only_owns b s sound before own after r.was m (r.mine m j)).in_before mine in
+      let long = entry_long sound e a t.have.0 m i in
+      let same = field_avoids e m (type_at b m) aedr_attr_num (entry sound e a t.have.0 m i).0 refl (entry_avoids a t m 0 12 i out (λ j. inl (omega arith))) (entry_avoids a t m 20 24 i out (λ j. absurd (sides_apart b s sound before own after r.was m mine (entries_owned after m j)))) (omega arith) in
+      same ∙ was ∙ sym (nums_before a.adr at)))
+
+  pub after_last : (n : ℕ) → Each (Says now) (numbers_from n after) → Each (AttributeLasts b now) after
+  after_last n says = all_last after there.1.1 (λ m i j. (only_owns b s sound before own after r.was m (r.mine m j)).in_after i) (entries_say b now n after says)

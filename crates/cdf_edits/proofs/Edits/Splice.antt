@@ -6,9 +6,10 @@ use Rattle.cdf_edits.proofs.Rules.FirstHead.{first_hold}
 use Rattle.cdf_edits.proofs.Frame.Meaning.{FileSame, Kept}
 use Rattle.cdf_edits.proofs.Frame.OwnersApart.{all_variable_records, adrs_linked}
 use Rattle.cdf_edits.proofs.Rules.WithoutLinks.{number_rows_kept}
-use Rattle.cdf_edits.proofs.Edits.AttributeFrame.{AreThere, all_stay, all_rules, all_fit}
+use Rattle.cdf_edits.proofs.Edits.AttributeFrame.{AreThere, remaining_rules, they_stay, they_fit}
+use Rattle.cdf_edits.proofs.Edits.AttributeRemains.{AttributeRemains}
 use Rattle.cdf_edits.proofs.Edits.FirstRecords.{gdr_still, cdr_still, typed_now, fixed_now, read_now, gdr_room, first_says}
-use Rattle.cdf_edits.proofs.Edits.RecordFrame.{AttributeLives, VariableLives, chain_stays, gdr_field, gdr_place, file_same, file_stays}
+use Rattle.cdf_edits.proofs.Edits.RecordFrame.{VariableLives, chain_stays, gdr_field, gdr_place, file_same, file_stays}
 use Rattle.cdf_edits.proofs.Edits.MarkLemmas.{away-avoids, all_unmarked-away}
 use Rattle.cdf_edits.proofs.Edits.StepEdits.{gdr_in, fixed_long}
 use Rattle.cdf_edits.proofs.Edits.VariableFrame.{all_variables_kept, kept_live, variables_fit, variables_stay, variables_rules, indexes_rules, nums_kept}
@@ -24,8 +25,8 @@ pub record Splices (b now : List ℕ) (s : Shape) (new list : List ℕ) (marks :
   pub was : s.attributes ≡ before ++ (own ++ after)
   pub file_clear : keeps_file marks ≡ true
   pub variables_clear : keeps_variables marks ≡ true
-  pub before_live : Each (AttributeLives b now) before
-  pub after_live : Each (AttributeLives b now) after
+  pub before_remain : Each (AttributeRemains b now new) before
+  pub after_remain : Each (AttributeRemains b now new) after
   pub typed : (m : ℕ) → In m reborn → (is_record_type (type_at now m) ≡ true) × (fixed_size (type_at now m) ≤ size_at now m)
   pub attribute_chain : IsChain now new adr_type (number now s.gdr gdr_adr_head) (map (λ (a : AttributeShape). a.adr) (before ++ (own' ++ after)))
   pub unused_chain : IsChain now new uir_type (number now s.gdr gdr_uir_head) list
@@ -90,14 +91,11 @@ module _ {b now : List ℕ} {s : Shape} {new list : List ℕ} {marks : List Mark
   each_variable : Each (VariableStays b now new) (variables s)
   each_variable = variables_stay sound e file variables_live
 
-  there : AreThere b s.records before × (AreThere b s.records own × AreThere b s.records after)
-  there = parts_there b s sound before own after splices.was
-
   before_stay : Each (AttributeStays b now new) before
-  before_stay = all_stay sound e file before there.0 splices.before_live
+  before_stay = they_stay b now new before splices.before_remain
 
   after_stay : Each (AttributeStays b now new) after
-  after_stay = all_stay sound e file after there.1.1 splices.after_live
+  after_stay = they_stay b now new after splices.after_remain
 
   gdr_head : (f : Field) → avoided marks gdr_type f.place (f.place + f.width) ≡ true → f.place + f.width ≤ 84 → number now s.gdr f ≡ number b s.gdr f
   gdr_head = gdr_field sound e splices.file_clear
@@ -200,8 +198,8 @@ module _ {b now : List ℕ} {s : Shape} {new list : List ℕ} {marks : List Mark
       let all = (Hold-split (flat_map rows s.attributes) (differ_rows 2 (same_name b adr_name) [] (adrs s)) good.attributes).0 in
       let split = Hold-split (flat_map rows before) (flat_map rows (own ++ after)) (subst Hold (flat_map-append rows before (own ++ after)) (subst (λ (as_ : List AttributeShape). Hold (flat_map rows as_)) splices.was all)) in
       let last = Hold-split (flat_map rows own) (flat_map rows after) (subst Hold (flat_map-append rows own after) split.1) in
-      let first = all_rules sound e file before there.0 splices.before_live split.0 in
-      let rest = all_rules sound e file after there.1.1 splices.after_live last.1 in
+      let first = remaining_rules b now new before splices.before_remain split.0 in
+      let rest = remaining_rules b now new after splices.after_remain last.1 in
       subst Hold (sym (flat_map-append rows' before (own' ++ after))) (Hold-append (flat_map rows' before) (flat_map rows' (own' ++ after)) first (subst Hold (sym (flat_map-append rows' own' after)) (Hold-append (flat_map rows' own') (flat_map rows' after) own_rules rest)))
 
   pub good_if : IsGoodByShape b s → OwnRules → IsGoodByShape now s'
@@ -225,7 +223,7 @@ module _ {b now : List ℕ} {s : Shape} {new list : List ℕ} {marks : List Mark
   sound_if fits once = record {
     has_shape = shape_now;
     gdr_fits = gdr_room sound e splices.file_clear splices.typed;
-    attributes_fit = Each-append (AttributeFits now) before (own' ++ after) (all_fit sound e file before there.0 splices.before_live) (Each-append (AttributeFits now) own' after fits (all_fit sound e file after there.1.1 splices.after_live));
+    attributes_fit = Each-append (AttributeFits now) before (own' ++ after) (they_fit b now new before splices.before_remain) (Each-append (AttributeFits now) own' after fits (they_fit b now new after splices.after_remain));
     variables_fit = variables_fit sound e file variables_live;
     not_twice = once;
   }

@@ -1,7 +1,7 @@
 -- An image from which one variable went has its shape, its content and its rules.
 use Rattle.std.proofs.Common.{◌≡◌, ◌⊎◌, ℕ, suc, ◌+◌, ◌≤◌, List, [], ◌∷◌, ◌++◌, length, map, true, eq-eqb, refl, sym, ap, subst, ◌∙◌, arith, inl, inr}
 use Rattle.cdf_edits.proofs.Common.{length-map, map-append, flat_map, remove, ◌==◌, DataSet, Variable, image_limit, variables_of, with_variables, Kind, R, Z, number_rows, is_in, IsChain, content, variable_of, number, size_at, type_at, gdr_offset, eof, read_types, OwnedOnce, variable_records, times, owned_records, unused_records, first_phases, gdr_uir_head, vdr_num, gdr_type, r_vdr_type, z_vdr_type, uir_type, is_record_type, fixed_size, Hold, AllHold, sealed, VariableShape, Shape, vdrs, Each, HasShape, IsSound, In, Distinct, Good, linkable-in, linkable-type, IsGoodByShape, vdrs_append, In-append, In-append_left, In-append_right, times-none, content_is, tile_lies, shapes_of, Edit, wholes, Mark, Avoids, Confined, avoided, unmarked, index_types, keeps_file, variable_removing_marks, head_of, count_of, type_in, variables_chain}
-use Rattle.cdf_edits.proofs.Commands.ListParts.{removed-at}
+use Rattle.cdf_edits.proofs.Commands.ListParts.{map-without}
 use Rattle.cdf_edits.proofs.Edits.MarkLemmas.{avoids-of_type, confined-away, unmarked-away}
 use Rattle.cdf_edits.proofs.Edits.LeftOwners.{Left, owned_left}
 use Rattle.cdf_edits.proofs.Edits.RowsOneLess.{AreNumbered, one_less}
@@ -238,13 +238,8 @@ module _ {b now : List ℕ} {s : Shape} {kind : Kind} {before : List VariableSha
 
     pub content_taken : content now ≡ with_variables (content b) kind (remove (variables_of (content b) kind) (length before))
     content_taken =
-        let split : variables_of (content b) kind ≡ map (variable_of b) before ++ variable_of b own ∷ map (variable_of b) after =
-        ap (λ (d : DataSet). variables_of d kind) (content_is b s h) ∙ variables_of_are b s kind ∙ ap (map (variable_of b)) r.at.was ∙ map-append (variable_of b) before (own ∷ after) in
-        let gone : remove (variables_of (content b) kind) (length before) ≡ map (variable_of b) before ++ map (variable_of b) after =
-        ap (λ (vs : List Variable). remove vs (length before)) split
-        ∙ ap (λ (n : ℕ). remove (map (variable_of b) before ++ variable_of b own ∷ map (variable_of b) after) n) (sym (length-map before (variable_of b)))
-        ∙ removed-at (map (variable_of b) before) (variable_of b own) (map (variable_of b) after) in
-        content_now sound splices ∙ ap (with_variables (content b) kind) (sym gone)
+        let split = ap (λ (d : DataSet). remove (variables_of d kind) (length before)) (content_is b s h) ∙ ap (λ (vs : List Variable). remove vs (length before)) (variables_of_are b s kind) in
+        content_now sound splices ∙ ap (with_variables (content b) kind) (sym (split ∙ map-without (variable_of b) (shapes_of s kind) before own after r.at.was))
 
     pub sound_taken : ((m : ℕ) → times m (owned_records now (without_variable list)) ≤ 1) → IsSound now (without_variable list)
     sound_taken once = sound_if sound splices tt once

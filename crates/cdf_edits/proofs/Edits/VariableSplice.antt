@@ -1,7 +1,8 @@
 -- An edit that puts some variables of a kind in the place of others: the image has its shape, its content and its rules if these have theirs.
 use Rattle.std.proofs.Common.{◌≡◌, ℕ, ◌+◌, ◌≤◌, List, [], ◌∷◌, ◌++◌, length, map, Bool, true, refl, sym, ap, subst, ◌∙◌, arith, inl, inr}
 use Rattle.cdf_edits.proofs.Common.{map-append, flat_map, ◌==◌, ◌&&◌, DataSet, Variable, image_limit, with_variables, Kind, R, Z, same_name, adrs_rows, r_vdrs_rows, z_vdrs_rows, differ_rows, is_in, IsChain, content, content_of, variable_of, majority_of, number, size_at, type_at, has_bit, gdr_offset, eof, index_rows, read_types, OwnedOnce, attribute_records, times, owned_records, first_phases, Field, gdr_adr_head, gdr_num_attr, gdr_uir_head, adr_name, adr_num, cdr_type, gdr_type, adr_type, agr_edr_type, az_edr_type, uir_type, is_record_type, fixed_size, row, Hold, AllHold, sealed, AttributeShape, VariableShape, Shape, adrs, vdrs, variables, Each, HasVariable, HasShape, IsSound, VariableFits, In, is_named_apart, Good, is_a-from, is_a-in, linkable-type, IsGoodByShape, attribute_shape_rows, either, In-append, AreNew, names_differ, differ_by_names, Hold-append, Hold-split, sealed_keeps, Each-split, Each-append, content_is, both, shapes_of, Edit, Mark, avoided, all_unmarked, attribute_types, keeps_file, FileStays, AttributeStays, VariableStays, head_of, count_of, type_in, variables_chain}
-use Rattle.cdf_edits.proofs.Edits.AttributeFrame.{AreThere, more_there, entry, lives_away, all_stay, all_rules, all_fit, names_stay, nums_stay}
+use Rattle.cdf_edits.proofs.Edits.AttributeFrame.{AreThere, more_there, entry, lives_away, all_remain, they_stay, they_fit, remaining_rules, remaining_names, nums_stay}
+use Rattle.cdf_edits.proofs.Edits.AttributeRemains.{AttributeRemains}
 use Rattle.cdf_edits.proofs.Edits.FirstRecords.{gdr_still, cdr_still, typed_now, fixed_now, read_now, gdr_room, first_says}
 use Rattle.cdf_edits.proofs.Edits.MarkLemmas.{away-avoids, all_unmarked-away}
 use Rattle.cdf_edits.proofs.Edits.OwnedOnce.{all_attributes_in}
@@ -113,8 +114,11 @@ module _ {b now : List ℕ} {s : Shape} {kind : Kind} {new list : List ℕ} {mar
   attributes_live : Each (AttributeLives b now) s.attributes
   attributes_live = lives_away sound e s.attributes there (λ m i. all_unmarked-away marks attribute_types (type_at b m) m clear_attributes.0 (attribute_typed s.attributes there m i))
 
+  attributes_remain : Each (AttributeRemains b now new) s.attributes
+  attributes_remain = all_remain sound e file s.attributes there attributes_live
+
   pub attributes_stay : Each (AttributeStays b now new) s.attributes
-  attributes_stay = all_stay sound e file s.attributes there attributes_live
+  attributes_stay = they_stay b now new s.attributes attributes_remain
 
   pub attributes_kept : (m : ℕ) → In m (all_attribute_records s) → Kept b now m
   attributes_kept m i = kept_away e m (type_at b m) (all_attributes_in sound m i) refl (all_unmarked-away marks attribute_types (type_at b m) m clear_attributes.0 (attribute_typed s.attributes there m i))
@@ -223,7 +227,7 @@ module _ {b now : List ℕ} {s : Shape} {kind : Kind} {new list : List ℕ} {mar
   good_if good rules =
       let d = (Hold-split (adrs_rows b (adrs s)) (r_vdrs_rows b (vdrs s.r_variables)) (Hold-split (adrs_rows b (adrs s) ++ r_vdrs_rows b (vdrs s.r_variables)) (z_vdrs_rows b (vdrs s.z_variables)) good.counting).0).0 in
       let p = Hold-split (flat_map (attribute_shape_rows b) s.attributes) (differ_rows 2 (same_name b adr_name) [] (adrs s)) good.attributes in
-      let names = names_stay sound e file s.attributes there attributes_live in
+      let names = remaining_names b now new s.attributes attributes_remain in
       let counts = counting_now good rules in
       let ruled = ruled_now good rules in
       record {
@@ -231,7 +235,7 @@ module _ {b now : List ℕ} {s : Shape} {kind : Kind} {new list : List ℕ} {mar
         read_types = read_now e good.read_types rules.read;
         counting = Hold-append (adrs_rows now (adrs s) ++ r_vdrs_rows now (vdrs (shapes_with s kind variables' R))) (z_vdrs_rows now (vdrs (shapes_with s kind variables' Z)))
             (Hold-append (adrs_rows now (adrs s)) (r_vdrs_rows now (vdrs (shapes_with s kind variables' R))) (subst Hold (sym adrs_now) d) (counts R)) (counts Z);
-        attributes = Hold-append (flat_map (attribute_shape_rows now) s.attributes) (differ_rows 2 (same_name now adr_name) [] (adrs s)) (all_rules sound e file s.attributes there attributes_live p.0)
+        attributes = Hold-append (flat_map (attribute_shape_rows now) s.attributes) (differ_rows 2 (same_name now adr_name) [] (adrs s)) (remaining_rules b now new s.attributes attributes_remain p.0)
             (differ_by_names 2 now adr_name (adrs s) (subst (AreNew []) (sym names) (names_differ 2 b adr_name (adrs s) p.1)));
         of_variables = ruled_rows now new (vdrs (variables s')) (variables s') ruled rules.apart;
         indexes = hold_all (λ (v : VariableShape). index_rows now new v.vdr v.index) (variables s') (Each-map (IsRuled now new) (λ (v : VariableShape). Hold (index_rows now new v.vdr v.index)) (λ v r. r.1) (variables s') ruled);
@@ -244,7 +248,7 @@ module _ {b now : List ℕ} {s : Shape} {kind : Kind} {new list : List ℕ} {mar
   sound_if fits once = record {
     has_shape = shape_now;
     gdr_fits = gdr_room sound e splices.file_clear splices.typed;
-    attributes_fit = all_fit sound e file s.attributes there attributes_live;
+    attributes_fit = they_fit b now new s.attributes attributes_remain;
     variables_fit = all_now (VariableFits now new) (λ v r. r.fits) fits;
     not_twice = once;
   }

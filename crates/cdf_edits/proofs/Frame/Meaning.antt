@@ -1,6 +1,6 @@
 -- What records mean stays where their bytes do.
-use Rattle.std.proofs.Common.{◌≡◌, ℕ, ℤ, ◌+◌, ◌*◌, ◌≤◌, List, [], ◌∷◌, length, Bool, true, false, refl, sym, ap, subst, ◌∙◌, arith, inl, inr}
-use Rattle.cdf_edits.proofs.Common.{if◌then◌else◌, w32, w64, cast_signed, unwrap_or, DataType, Byte, turned, Entry, with_item, size_of, type_of, Field, adr_name, adr_scope, aedr_data_type, aedr_num, aedr_num_elems, aedr_value, vdr_r_dim_vary, vdr_r_pad_value, vdr_z_dim_vary, vdr_z_pad_value, cvvr_c_size, counted, number, integer4, size_at, type_at, gdr_offset, r_num_dims, r_sizes, Same, In, field_bytes, is_little, data_type_in, AttributeShape, Each, entry_bytes, scope_of, entry_of, attribute_of, EntryFits, AttributeFits, Same-part, word_kept, piece_kept, number_kept, integer_kept, bytes_kept, name_kept, size_kept}
+use Rattle.std.proofs.Common.{◌≡◌, ℕ, ℤ, ◌+◌, ◌*◌, ◌≤◌, List, [], ◌∷◌, length, Bool, true, false, is_some, ◌&&◌, refl, sym, ap, subst, ◌∙◌, arith, inl, inr}
+use Rattle.cdf_edits.proofs.Common.{nat_le, record_limit, has_value, is_positive, if◌then◌else◌, w32, w64, cast_signed, unwrap_or, DataType, Byte, turned, Entry, with_item, size_of, type_of, Field, adr_name, adr_scope, aedr_data_type, aedr_num, aedr_num_elems, aedr_value, vdr_r_dim_vary, vdr_r_pad_value, vdr_z_dim_vary, vdr_z_pad_value, cvvr_c_size, counted, number, integer4, size_at, type_at, gdr_offset, r_num_dims, r_sizes, Same, In, field_bytes, is_little, data_type_in, AttributeShape, Each, entry_bytes, scope_of, entry_of, attribute_of, EntryFits, AttributeFits, Same-part, word_kept, piece_kept, number_kept, integer_kept, bytes_kept, name_kept, size_kept}
 use Rattle.cdf_format.specs.Records.{cvvr_packed}
 use Rattle.cdf_format.specs.Stored.{packed_bytes}
 use Rattle.cdf_format.specs.Content.{entries_of}
@@ -62,29 +62,56 @@ if_same false false x y x' y' e f g = g refl
 
 -- ---- attributes
 
+-- the bytes of an entry that give its value
+pub record EntryBytes (b now : List ℕ) (e : ℕ) : Type 0 where
+  pub size : size_at now e ≡ size_at b e
+  pub code : Same b now (e + 24) (e + 28)
+  pub rest : Same b now (e + 32) (e + size_at b e)
+  pub inside : e + size_at b e ≤ length b
+
+pub record EntryMeans (b now : List ℕ) (e : ℕ) : Type 0 where
+  pub meant : entry_of now e ≡ entry_of b e
+  pub valued : has_value now e ≡ has_value b e
+  pub fits : EntryFits now e
+
+pub long_entry : (n s : ℕ) → 56 + n ≤ s → 56 ≤ s
+long_entry n s h = omega arith
+
+pub link_bytes : (b now : List ℕ) (e : ℕ) → KeptButLink b now e → EntryFits b e → EntryBytes b now e
+link_bytes b now e k fits =
+    let long = long_entry (entry_bytes b e) (size_at b e) fits in
+    record { size = late_size b now e k; code = Same-part b now (e + 20) (e + size_at b e) (e + 24) (e + 28) k.rest (omega arith) (omega arith); rest = Same-part b now (e + 20) (e + size_at b e) (e + 32) (e + size_at b e) k.rest (omega arith) (omega arith); inside = k.inside }
+
 entry_from : DataType → ℕ → Bool → List ℕ → Entry
 entry_from t n little raw = record { type = t; elems = n; bytes = turned t little raw }
 
 module _ (b now : List ℕ) (file : FileSame b now) where
-  pub entry_kept : (e : ℕ) → Kept b now e → EntryFits b e → entry_of now e ≡ entry_of b e
+  pub entry_means : (e : ℕ) → EntryBytes b now e → EntryFits b e → EntryMeans b now e
   unfolding entry_from
-  entry_kept e k fits =
-      let long : 56 ≤ size_at b e = less 56 (entry_bytes b e) (size_at b e) fits in
-      let t : data_type_in now e aedr_data_type ≡ data_type_in b e aedr_data_type = ap (λ (z : ℤ). unwrap_or (type_of z) Byte) (integer_kept b now e k.same aedr_data_type (omega arith)) in
-      let n : number now e aedr_num_elems ≡ number b e aedr_num_elems = number_kept b now e k.same aedr_num_elems (omega arith) in
-      let raw = bytes_kept b now e k.same (aedr_value (entry_bytes b e)) fits k.inside file.longer in
+  entry_means e k fits =
+      let long = long_entry (entry_bytes b e) (size_at b e) fits in
+      let code = ap (cast_signed w32) (word_kept b now (e + 24) (e + 28) k.code (e + 24) 4 (omega arith) (omega arith)) in
+      let t : data_type_in now e aedr_data_type ≡ data_type_in b e aedr_data_type = ap (λ (z : ℤ). unwrap_or (type_of z) Byte) code in
+      let n : number now e aedr_num_elems ≡ number b e aedr_num_elems = word_kept b now (e + 32) (e + size_at b e) k.rest (e + 32) 4 (omega arith) (omega arith) in
+      let raw : field_bytes now e (aedr_value (entry_bytes b e)) ≡ field_bytes b e (aedr_value (entry_bytes b e)) = piece_kept b now (e + 32) (e + size_at b e) k.rest (e + 56) (entry_bytes b e) (omega arith) (room e (entry_bytes b e) (size_at b e) fits) k.inside file.longer in
       let first : entry_of now e ≡ entry_from (data_type_in b e aedr_data_type) (number b e aedr_num_elems) (is_little b) (field_bytes now e (aedr_value (entry_bytes b e))) =
       λ i. entry_from (t i) (n i) (file.little i) (field_bytes now e (aedr_value (size_of (t i) * n i))) in
-      first ∙ ap (entry_from (data_type_in b e aedr_data_type) (number b e aedr_num_elems) (is_little b)) raw
+      let bytes : entry_bytes now e ≡ entry_bytes b e = λ i. size_of (t i) * n i in
+      let size = k.size in
+      record {
+        meant = first ∙ ap (entry_from (data_type_in b e aedr_data_type) (number b e aedr_num_elems) (is_little b)) raw;
+        valued = λ i. (is_some (type_of (code i)) && is_positive (n i)) && (nat_le (bytes i) record_limit && nat_le (56 + bytes i) (size i));
+        fits = subst (λ (x : ℕ). 56 + entry_bytes now e ≤ x) (sym size) (subst (λ (x : ℕ). 56 + x ≤ size_at b e) (sym bytes) fits);
+      }
+    where
+      room : (e n s : ℕ) → 56 + n ≤ s → e + 56 + n ≤ e + s
+      room e n s h = omega arith
+
+  kept_means : (e : ℕ) → Kept b now e → EntryFits b e → EntryMeans b now e
+  kept_means e k fits = entry_means e (link_bytes b now e (but_link b now e k) fits) fits
 
   pub entry_fits_kept : (e : ℕ) → Kept b now e → EntryFits b e → EntryFits now e
-  entry_fits_kept e k fits =
-      let long : 56 ≤ size_at b e = less 56 (entry_bytes b e) (size_at b e) fits in
-      let t : data_type_in now e aedr_data_type ≡ data_type_in b e aedr_data_type = ap (λ (z : ℤ). unwrap_or (type_of z) Byte) (integer_kept b now e k.same aedr_data_type (omega arith)) in
-      let n : number now e aedr_num_elems ≡ number b e aedr_num_elems = number_kept b now e k.same aedr_num_elems (omega arith) in
-      let bytes : entry_bytes now e ≡ entry_bytes b e = λ i. size_of (t i) * n i in
-      let size = size_kept b now e k.same (omega arith) in
-      subst (λ (x : ℕ). 56 + entry_bytes now e ≤ x) (sym size) (subst (λ (x : ℕ). 56 + x ≤ size_at b e) (sym bytes) fits)
+  entry_fits_kept e k fits = (kept_means e k fits).fits
 
   pub entries_kept : (es : List ℕ) → ((m : ℕ) → In m es → Kept b now m) → Each (EntryFits b) es → entries_of now es ≡ entries_of b es
   entries_kept [] k fits = refl
@@ -92,7 +119,7 @@ module _ (b now : List ℕ) (file : FileSame b now) where
       let here = k e (inl refl) in
       let long : 56 ≤ size_at b e = less 56 (entry_bytes b e) (size_at b e) fits.0 in
       let n : number now e aedr_num ≡ number b e aedr_num = number_kept b now e here.same aedr_num (omega arith) in
-      let entry = entry_kept e here fits.0 in
+      let entry = (kept_means e here fits.0).meant in
       let rest = entries_kept es (λ m i. k m (inr i)) fits.1 in
       λ i. with_item (n i) (entry i) (rest i)
 

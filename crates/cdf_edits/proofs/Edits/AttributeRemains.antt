@@ -1,0 +1,132 @@
+-- An attribute that stays but for the link to the next one and for its number, which its entries say: it means what it meant, and keeps its rules.
+use Rattle.std.proofs.Common.{◌≡◌, ℕ, ◌+◌, ◌*◌, ◌≤◌, List, [], ◌∷◌, ◌++◌, length, map, Bool, true, not, is_some, ◌&&◌, eq-eqb, refl, sym, ap, subst, ◌∙◌, arith, inl, inr}
+use Rattle.cdf_edits.proofs.Common.{◌==◌, nat_le, w32, cast_signed, before_first, flat_map, unwrap_or, DataType, Byte, turned, Entry, record_number_limit, with_item, record_limit, size_of, type_of, entry_bytes, entry_rows, same_number, entries_rows, has_value, Same, differ_rows, is_linkable, Leads, IsChain, scope_of, entry_of, number, is_positive, name_in, size_at, attribute_shape_rows, Field, adr_agr_edr_head, adr_az_edr_head, adr_scope, adr_num, adr_name, adr_ngr_entries, adr_nz_entries, aedr_attr_num, aedr_data_type, aedr_num, aedr_num_elems, aedr_value, adr_type, agr_edr_type, az_edr_type, Hold, AttributeShape, Shape, Each, HasEntries, EntryFits, AttributeFits, IsSound, field_bytes, is_little, data_type_in, In, word_kept, piece_kept, linkable-from, linkable-in, linkable-type, linkable-long, In-append_left, In-append_right, Same-part, eq_of, names_at, Hold-append, Hold-split, Edit, Mark, AttributeStays}
+use Rattle.cdf_format.specs.Content.{entries_of}
+use Rattle.cdf_edits.proofs.Edits.StepEdits.{fixed_long}
+use Rattle.cdf_edits.proofs.Frame.LinksStay.{leads_same}
+use Rattle.cdf_edits.proofs.Frame.Meaning.{FileSame, EntryMeans, entry_means, long_entry}
+use Rattle.cdf_edits.proofs.Rules.OfAttributes.{differ_same}
+
+
+-- an entry stays but for the number of its attribute
+pub record EntryLasts (b now : List ℕ) (m : ℕ) : Type 0 where
+  pub start : Same b now (m + 0) (m + 20)
+  pub rest : Same b now (m + 24) (m + size_at b m)
+  pub inside : m + size_at b m ≤ length b
+
+-- an attribute stays but for the link to the next one and for its number, and its entries say that as they did
+pub record AttributeLasts (b now : List ℕ) (a : AttributeShape) : Type 0 where
+  pub start : Same b now (a.adr + 0) (a.adr + 12)
+  pub links : Same b now (a.adr + 20) (a.adr + 32)
+  pub rest : Same b now (a.adr + 36) (a.adr + size_at b a.adr)
+  pub inside : a.adr + size_at b a.adr ≤ length b
+  pub entries : (m : ℕ) → In m (a.gr_entries ++ a.z_entries) → EntryLasts b now m
+  pub numbered : (m : ℕ) → In m (a.gr_entries ++ a.z_entries) → number b m aedr_attr_num ≡ number b a.adr adr_num → number now m aedr_attr_num ≡ number now a.adr adr_num
+
+-- what it means, and its rules
+pub record AttributeRemains (b now new : List ℕ) (a : AttributeShape) : Type 0 where
+  pub stays : AttributeStays b now new a
+  pub fits : AttributeFits now a
+  pub ruled : Hold (attribute_shape_rows b a) → Hold (attribute_shape_rows now a)
+
+-- ---- the entries of one chain
+
+module _ (b now : List ℕ) (file : FileSame b now) where
+  num_stays : (e : ℕ) → EntryLasts b now e → EntryFits b e → number now e aedr_num ≡ number b e aedr_num
+  num_stays e k fits = let l = long_entry (entry_bytes b e) (size_at b e) fits in word_kept b now (e + 24) (e + size_at b e) k.rest (e + 28) 4 (omega arith) (omega arith)
+
+  means : (e : ℕ) → EntryLasts b now e → EntryFits b e → EntryMeans b now e
+  means e k fits =
+      let l = long_entry (entry_bytes b e) (size_at b e) fits in
+      entry_means b now file e (record { size = word_kept b now (e + 0) (e + 20) k.start (e + 0) 8 (omega arith) (omega arith); code = Same-part b now (e + 24) (e + size_at b e) (e + 24) (e + 28) k.rest (omega arith) (omega arith); rest = Same-part b now (e + 24) (e + size_at b e) (e + 32) (e + size_at b e) k.rest (omega arith) (omega arith); inside = k.inside }) fits
+
+  entries_same : (es : List ℕ) → ((m : ℕ) → In m es → EntryLasts b now m) → Each (EntryFits b) es → entries_of now es ≡ entries_of b es
+  entries_same [] k fits = refl
+  entries_same (e ∷ es) k fits =
+      let n = num_stays e (k e (inl refl)) fits.0 in
+      let entry = (means e (k e (inl refl)) fits.0).meant in
+      let rest = entries_same es (λ m i. k m (inr i)) fits.1 in
+      λ i. with_item (n i) (entry i) (rest i)
+
+  entries_fit : (es : List ℕ) → ((m : ℕ) → In m es → EntryLasts b now m) → Each (EntryFits b) es → Each (EntryFits now) es
+  entries_fit [] k fits = tt
+  entries_fit (e ∷ es) k fits = ((means e (k e (inl refl)) fits.0).fits, entries_fit es (λ m i. k m (inr i)) fits.1)
+
+  nums_same : (es : List ℕ) → ((m : ℕ) → In m es → EntryLasts b now m) → Each (EntryFits b) es → Each (λ m. number now m aedr_num ≡ number b m aedr_num) es
+  nums_same [] k fits = tt
+  nums_same (e ∷ es) k fits = (num_stays e (k e (inl refl)) fits.0, nums_same es (λ m i. k m (inr i)) fits.1)
+
+  each_rule : (adr : ℕ) (es : List ℕ) → ((m : ℕ) → In m es → EntryLasts b now m) → Each (EntryFits b) es → ((m : ℕ) → In m es → number b m aedr_attr_num ≡ number b adr adr_num → number now m aedr_attr_num ≡ number now adr adr_num)
+      → Hold (flat_map (entry_rows b adr) es) → Hold (flat_map (entry_rows now adr) es)
+  each_rule adr [] k fits says h = tt
+  each_rule adr (e ∷ es) k fits says h =
+      let same = k e (inl refl) in
+      (eq-eqb _ _ (says e (inl refl) (eq_of _ _ h.0)), (ap (λ (n : ℕ). nat_le n record_number_limit) (num_stays e same fits.0) ∙ h.1.0, ((means e same fits.0).valued ∙ h.1.1.0, each_rule adr es (λ m i. k m (inr i)) fits.1 (λ m i. says m (inr i)) h.1.1.1)))
+
+  entries_rules : (adr : ℕ) (count : Field) (es : List ℕ) → number now adr count ≡ number b adr count → ((m : ℕ) → In m es → EntryLasts b now m) → Each (EntryFits b) es → ((m : ℕ) → In m es → number b m aedr_attr_num ≡ number b adr adr_num → number now m aedr_attr_num ≡ number now adr adr_num)
+      → Hold (entries_rows b adr count es) → Hold (entries_rows now adr count es)
+  entries_rules adr count es total k fits says h =
+      let p = Hold-split (flat_map (entry_rows b adr) es) (differ_rows 7 (same_number b) [] es) h.1 in (
+        ap (λ (n : ℕ). n == length es) total ∙ h.0,
+        Hold-append (flat_map (entry_rows now adr) es) (differ_rows 7 (same_number now) [] es) (each_rule adr es k fits says p.0) (subst Hold (sym (differ_same b now [] es tt (nums_same es k fits))) p.1),
+      )
+
+-- ---- an attribute
+
+module _ {b now : List ℕ} {s : Shape} {new : List ℕ} {marks : List Mark} {reborn : List ℕ} (sound : IsSound b s) (e : Edit b now s.records new marks reborn) (file : FileSame b now) (a : AttributeShape) (ok : is_linkable b s.records adr_type a.adr ≡ true) (has : HasEntries b s.records a) (fits : AttributeFits b a) (k : AttributeLasts b now a) where
+  chain_lasts : (type link link' : ℕ) (ms : List ℕ) → IsChain b s.records type link ms → link' ≡ link → ((m : ℕ) → In m ms → EntryLasts b now m) → IsChain now new type link' ms
+  chain_lasts type link link' ms c same last = record {
+    leads = subst (λ (x : ℕ). Leads now x ms 0) (sym same) (leads_same b now link ms 0 c.leads (λ m i. word_kept b now (m + 0) (m + 20) (last m i).start (m + 12) 8 (omega arith) (omega arith)));
+    linkable = λ m i.
+        let ok = c.linkable m i in
+        let start = (last m i).start in
+        linkable-from now new type m (e.sub m (linkable-in b s.records type m ok)) (word_kept b now (m + 0) (m + 20) start (m + 8) 4 (omega arith) (omega arith) ∙ linkable-type b s.records type m ok)
+        (subst (λ (n : ℕ). 28 ≤ n) (sym (word_kept b now (m + 0) (m + 20) start (m + 0) 8 (omega arith) (omega arith))) (linkable-long b s.records type m ok));
+    once = c.once;
+  }
+
+  adr_long : 324 ≤ size_at b a.adr
+  adr_long = fixed_long b s sound.has_shape adr_type a.adr (linkable-in b s.records adr_type a.adr ok) (linkable-type b s.records adr_type a.adr ok)
+
+  first_field : (f : Field) → 20 ≤ f.place → f.place + f.width ≤ 32 → number now a.adr f ≡ number b a.adr f
+  first_field f low high = word_kept b now (a.adr + 20) (a.adr + 32) k.links (a.adr + f.place) f.width (omega arith) (omega arith)
+
+  last_field : (f : Field) → 36 ≤ f.place → f.place + f.width ≤ 324 → number now a.adr f ≡ number b a.adr f
+  last_field f low high = let l = adr_long in word_kept b now (a.adr + 36) (a.adr + size_at b a.adr) k.rest (a.adr + f.place) f.width (omega arith) (omega arith)
+
+  gr : (m : ℕ) → In m a.gr_entries → In m (a.gr_entries ++ a.z_entries)
+  gr m i = In-append_left m a.gr_entries a.z_entries i
+
+  z : (m : ℕ) → In m a.z_entries → In m (a.gr_entries ++ a.z_entries)
+  z m i = In-append_right m a.gr_entries a.z_entries i
+
+  name_stays : name_in now a.adr adr_name ≡ name_in b a.adr adr_name
+  name_stays = ap (before_first (λ (x : ℕ). x == 0)) (piece_kept b now (a.adr + 36) (a.adr + size_at b a.adr) k.rest (a.adr + 68) 256 (omega arith) (let l = adr_long in omega arith) k.inside file.longer)
+
+  pub attribute_remains : AttributeRemains b now new a
+  attribute_remains =
+      let name = name_stays in
+      let scope = first_field adr_scope (omega arith) (omega arith) in
+      let grs = λ (m : ℕ) (i : In m a.gr_entries). k.entries m (gr m i) in
+      let zs = λ (m : ℕ) (i : In m a.z_entries). k.entries m (z m i) in
+      let gr_same = entries_same b now file a.gr_entries grs fits.0 in
+      let z_same = entries_same b now file a.z_entries zs fits.1 in
+      record {
+        stays = (
+          record {
+            gr_chain = chain_lasts agr_edr_type _ _ a.gr_entries has.gr_chain (first_field adr_agr_edr_head (omega arith) (omega arith)) grs;
+            z_chain = chain_lasts az_edr_type _ _ a.z_entries has.z_chain (last_field adr_az_edr_head (omega arith) (omega arith)) zs;
+          },
+          λ i. record { name = name i; scope = scope_of (scope i); g = gr_same i; z = z_same i },
+        );
+        fits = (entries_fit b now file a.gr_entries grs fits.0, entries_fit b now file a.z_entries zs fits.1);
+        ruled = λ h. let p = Hold-split (entries_rows b a.adr adr_ngr_entries a.gr_entries) (entries_rows b a.adr adr_nz_entries a.z_entries) h.1.1 in (
+          ap (λ (n : List ℕ). not (length n == 0)) name ∙ h.0,
+          (
+            ap (λ (n : ℕ). nat_le 1 n && nat_le n 4) scope ∙ h.1.0,
+            Hold-append (entries_rows now a.adr adr_ngr_entries a.gr_entries) (entries_rows now a.adr adr_nz_entries a.z_entries)
+                (entries_rules b now file a.adr adr_ngr_entries a.gr_entries (last_field adr_ngr_entries (omega arith) (omega arith)) grs fits.0 (λ m i. k.numbered m (gr m i)) p.0)
+                (entries_rules b now file a.adr adr_nz_entries a.z_entries (last_field adr_nz_entries (omega arith) (omega arith)) zs fits.1 (λ m i. k.numbered m (z m i)) p.1),
+          ),
+        );
+      }
