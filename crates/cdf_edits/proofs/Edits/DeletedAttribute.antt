@@ -23,7 +23,8 @@ use Rattle.cdf_edits.proofs.Edits.OwnersKept.{stood, keeps_fields, keep_unused, 
 use Rattle.cdf_edits.proofs.Edits.VariableFrame.{variables_in, all_variables_kept}
 use Rattle.cdf_edits.proofs.Commands.ListParts.{got-middle, map-removed, removed-at, AtNumber, at_number}
 use Rattle.cdf_edits.proofs.Edits.MarkLemmas.{avoided-avoids, within-within, away-of_type, within-of_type}
-use Rattle.cdf_edits.proofs.Edits.AttributeChains.{EntryChains, entry_chains}
+use Rattle.cdf_edits.proofs.Edits.ChainMembers.{IsAmong, members_chain}
+use Rattle.cdf_model.specs.declared.kinds.EntryKind.TheVariants as entries
 use Rattle.cdf_edits.proofs.Edits.ChainsOfShape.{IsOf, few_members, lists}
 use Rattle.cdf_edits.proofs.Edits.WrittenFields.{writes_lie}
 use Rattle.cdf_model.specs.declared.answer.Reason.TheVariants as reasons
@@ -237,21 +238,17 @@ module _ (b : List ℕ) (good : Good b) (places : List ℕ) (are : places ≡ ad
     abbrev pub own : AtNumber (λ (a : AttributeShape). a.adr) (shape b).attributes places n
     own = at_number (λ (a : AttributeShape). a.adr) (shape b).attributes places are n lt
 
-    chains : EntryChains b own.own
-    chains = entry_chains b good own.before own.own own.after own.is
-
-    own_entries : (entries : List ℕ) → entries ≡ members_of b (GrEntries (get_or places n 0)) ++ members_of b (ZEntries (get_or places n 0)) → entries ≡ own.own.gr_entries ++ own.own.z_entries
-    own_entries entries e =
-        let gr = chains.gr_members in
-        let z = chains.z_members in
-        e ∙ ap (λ (m : ℕ). members_of b (GrEntries m) ++ members_of b (ZEntries m)) own.own_at ∙ (λ i. gr i ++ z i)
+    own_entries : members_of b (GrEntries (get_or places n 0)) ++ members_of b (ZEntries (get_or places n 0)) ≡ own.own.gr_entries ++ own.own.z_entries
+    own_entries =
+        let at : IsAmong b own.before own.own own.after = record { was = own.is } in
+        ap (λ (m : ℕ). members_of b (GrEntries m) ++ members_of b (ZEntries m)) own.own_at ∙ ap₂ (λ (gr z : List ℕ). gr ++ z) (members_chain entries.G image_sound at) (members_chain entries.Z image_sound at)
 
     -- the numbers of one attribute more were read
     pub numbers_more : 1 ≤ n → (entries : List ℕ) → entries ≡ members_of b (GrEntries (get_or places n 0)) ++ members_of b (ZEntries (get_or places n 0)) → (done more all : List Write)
         → more ≡ done ++ write (get_or places n 0) adr_num (n - 1) ∷ map (λ (entry : ℕ). write entry aedr_attr_num (n - 1)) entries → done ++ numbers_from (n - 1) (drop n (shape b).attributes) ≡ all → more ++ numbers_from (n + 1 - 1) (drop (n + 1) (shape b).attributes) ≡ all
     numbers_more later entries entries_are done more all more_is before_is =
         let adr = own.own_at in
-        let ours = own_entries entries entries_are in
+        let ours = entries_are ∙ own_entries in
         let here : drop n (shape b).attributes ≡ own.own ∷ own.after = ap₂ (λ (as_ : List AttributeShape) (k : ℕ). drop k as_) own.is (sym own.count) ∙ drop-append_seam own.before (own.own ∷ own.after) in
         let behind = own.later_are in
         let next : n + 1 - 1 ≡ suc (n - 1) = omega arith in
@@ -289,10 +286,7 @@ module _ (b : List ℕ) (good : Good b) (places : List ℕ) (are : places ≡ ad
             }
 
         own_records : records ≡ own.own.gr_entries ++ own.own.z_entries ++ own.own.adr ∷ []
-        own_records =
-            let gr = chains.gr_members in
-            let z = chains.z_members in
-            records_are ∙ ap (λ (m : ℕ). members_of b (GrEntries m) ++ members_of b (ZEntries m) ++ m ∷ []) own.own_at ∙ (λ i. gr i ++ z i ++ own.own.adr ∷ [])
+        own_records = records_are ∙ ap₂ (λ (es : List ℕ) (m : ℕ). es ++ m ∷ []) own_entries own.own_at
 
         pub sound_after : IsSound mid (shape mid)
         sound_after = mid_sound image_sound unlinks

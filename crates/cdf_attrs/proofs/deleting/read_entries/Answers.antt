@@ -1,9 +1,17 @@
 use Rattle.cdf_format.proofs.GoodSound.{good_is_sound}
-use Rattle.cdf_attrs.proofs.DeletingSteps.{chains_at}
+use Rattle.cdf_attrs.proofs.Common.{G, Z, entries_chain}
+use Rattle.cdf_attrs.proofs.DroppingFrom.{of_attribute}
+use Rattle.cdf_attrs.proofs.EntryChains.{holder_stands, chain_there, counted}
 use Rattle.cdf_attrs.proofs.deleting.read_entries.Goals as goal
 
 pub read_chain-requires : goal.read_chain-requires
-read_chain-requires g c = let x = chains_at _ c.requires.good c.args.adr c.requires.adr in record { sound = good_is_sound _ c.requires.good; holder = x.holder; chain = x.gr_has; counted = x.gr_count }
+read_chain-requires g c =
+    let b = g.A.Area.image c.args.area.now in
+    let at = of_attribute b c.args.adr c.requires.adr G in
+    record { sound = good_is_sound b c.requires.good; holder = holder_stands b c.requires.good (entries_chain G c.args.adr) at; chain = chain_there b c.requires.good (entries_chain G c.args.adr) at; counted = counted b c.requires.good (entries_chain G c.args.adr) at }
 
 pub read_chain-requires-2 : goal.read_chain-requires-2
-read_chain-requires-2 g c = let x = chains_at _ c.requires.good c.args.adr c.requires.adr in rw c.in_ok-entries.ensures.area.image (record { sound = good_is_sound _ c.requires.good; holder = x.holder; chain = x.z_has; counted = x.z_count })
+read_chain-requires-2 g c =
+    let b = g.A.Area.image c.args.area.now in
+    let at = of_attribute b c.args.adr c.requires.adr Z in
+    rw c.in_ok-entries.ensures.area.image (record { sound = good_is_sound b c.requires.good; holder = holder_stands b c.requires.good (entries_chain Z c.args.adr) at; chain = chain_there b c.requires.good (entries_chain Z c.args.adr) at; counted = counted b c.requires.good (entries_chain Z c.args.adr) at })
