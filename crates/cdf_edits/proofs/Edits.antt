@@ -102,3 +102,4 @@ pub mod NumberedRecords
 pub mod LeftOwners
 pub mod RowsOneLess
 pub mod LeftChain
+pub mod NumbersBehind

@@ -9,10 +9,11 @@ use Rattle.cdf_edits.proofs.Edits.FreedBytes.{behind_kept, behind_link}
 use Rattle.cdf_edits.proofs.Edits.OwnedOnce.{only_owns, back_in}
 use Rattle.cdf_edits.proofs.Edits.RecordFrame.{kept_but_link, gdr_field}
 use Rattle.cdf_edits.proofs.Edits.RemovedAttribute.{without_one, SaysRemoved, content_removed, removed_good}
-use Rattle.cdf_edits.proofs.Edits.RemovedLives.{entries_in, adrs_in, adrs_owned, entries_owned, Removes, adr_avoids, entry_avoids, entry_typed}
+use Rattle.cdf_edits.proofs.Edits.RemovedLives.{entries_in, adrs_in, numbers_are as as_numbers, adrs_owned, entries_owned, Removes, adr_avoids, entry_avoids, entry_typed}
 use Rattle.cdf_edits.proofs.Edits.Splice.{parts_there}
 use Rattle.cdf_edits.proofs.Edits.StepEdits.{gdr_in, gdr_typed, some_bytes}
-use Rattle.cdf_edits.proofs.Edits.UnlinkedAttribute.{leaves, unlinked_edit, unlinks_removes, tiles_written, unlinked_shape, mid_sound, own_free, own_mine, own_there, may_number}
+use Rattle.cdf_edits.proofs.Edits.UnlinkedAttribute.{leaves, unlinked_edit, unlinks_removes, unlinked_shape, mid_sound, own_free, own_mine, own_there, may_number}
+use Rattle.cdf_edits.proofs.Edits.NumbersBehind.{tiles_numbered}
 use Rattle.cdf_edits.proofs.Edits.LeftChain.{as_long, counted_now, may_now, said_now}
 use Rattle.cdf_edits.proofs.Rules.WithoutLinks.{eof_by_rules}
 use Rattle.cdf_model.specs.AttributeSteps.{del_attr_step}
@@ -83,7 +84,7 @@ module _ {b now : List ℕ} {n : ℕ} (good : Good b) (d : Deletes b now n) wher
 
   pub says : SaysRemoved sound removes (shape now).unused
   says = record {
-    numbered = says_still frees _ _ (may_now (leaves sound d.unlinks)) (λ m i. behind_apart m (subst (In m) (tiles_written (length d.before) d.after) i)) (said_now (leaves sound d.unlinks));
+    numbered = says_still frees _ _ (may_now (leaves sound d.unlinks)) (λ m i. behind_apart m (subst (In m) (tiles_numbered (λ (a : AttributeShape). a.adr) adr_num (λ (a : AttributeShape). a.gr_entries ++ a.z_entries) aedr_attr_num (length d.before) d.after) i)) (said_now (leaves sound d.unlinks));
     attribute_chain = subst (λ (x : Shape). IsChain now x.records adr_type (number now x.gdr gdr_adr_head) (adrs x)) shape_after (sound_now frees).has_shape.attribute_chain;
     unused_chain = subst (λ (x : Shape). IsChain now x.records uir_type (number now x.gdr gdr_uir_head) x.unused) shape_after (sound_now frees).has_shape.unused_chain;
     freed = all_freed frees;
@@ -265,7 +266,7 @@ module _ (b : List ℕ) (good : Good b) (places : List ℕ) (are : places ≡ ad
       numbers_are = read ∙ ap (λ (z : List ℕ). numbers_from n (drop (n + 1) (shape z).attributes)) earlier ∙ ap₂ numbers_from (sym own.count) own.later_are
 
       pub lie_after : Each (λ (w : Write). LiesIn second w.tile w.f) writes
-      lie_after = subst (Each (λ (w : Write). LiesIn second w.tile w.f)) (sym numbers_are)
+      lie_after = subst (Each (λ (w : Write). LiesIn second w.tile w.f)) (sym (numbers_are ∙ as_numbers (length own.before) own.after))
           (writes_lie b second (shape b).records _ _ image_sound.has_shape.tiled (some_bytes b (shape b) image_sound.has_shape) out.length_stays
           (may_number image_sound (length own.before) own.after (parts_there b (shape b) image_sound own.before (own.own ∷ []) own.after own.is).1.1))
 

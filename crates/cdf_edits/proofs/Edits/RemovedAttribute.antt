@@ -1,14 +1,15 @@
 -- An image from which one attribute went has its shape, its content and its rules.
 use Rattle.std.proofs.Common.{◌≡◌, ℕ, suc, ◌+◌, ◌≤◌, List, [], ◌∷◌, ◌++◌, length, map, true, eq-eqb, refl, sym, ap, subst, ◌∙◌, append-nil, append_assoc, arith, inl, inr}
-use Rattle.cdf_edits.proofs.Common.{numbers_from, length-map, map-append, flat_map, remove, ◌==◌, Attribute, DataSet, image_limit, same_name, adrs_rows, number_rows, r_vdrs_rows, z_vdrs_rows, differ_rows, is_in, IsChain, content, attribute_of, number, name_in, size_at, type_at, gdr_offset, eof, IsGoodByShape, attribute_shape_rows, read_types, OwnedOnce, attribute_records, times, owned_records, unused_records, first_phases, gdr_adr_head, gdr_uir_head, gdr_num_attr, adr_name, adr_num, adr_type, uir_type, is_record_type, fixed_size, Hold, AllHold, sealed, AttributeShape, Shape, adrs, vdrs, Each, HasEntries, IsSound, In, Good, In-append, In-append_left, AreNew, names_at, names_differ, differ_by_names, times-none, Hold-split, flat_map-append, content_is, tile_lies, deleting_marks, Mark, AttributeStays}
+use Rattle.cdf_edits.proofs.Common.{aedr_attr_num, length-map, map-append, flat_map, remove, ◌==◌, Attribute, DataSet, image_limit, same_name, adrs_rows, number_rows, r_vdrs_rows, z_vdrs_rows, differ_rows, is_in, IsChain, content, attribute_of, number, name_in, size_at, type_at, gdr_offset, eof, IsGoodByShape, attribute_shape_rows, read_types, OwnedOnce, attribute_records, times, owned_records, unused_records, first_phases, gdr_adr_head, gdr_uir_head, gdr_num_attr, adr_name, adr_num, adr_type, uir_type, is_record_type, fixed_size, Hold, AllHold, sealed, AttributeShape, Shape, adrs, vdrs, Each, HasEntries, IsSound, In, Good, In-append, In-append_left, AreNew, names_at, names_differ, differ_by_names, times-none, Hold-split, flat_map-append, content_is, tile_lies, deleting_marks, Mark, AttributeStays}
 use Rattle.cdf_format.proofs.NameRules.{absent-split, absent-append}
 use Rattle.cdf_edits.proofs.Commands.ListParts.{map-without}
 use Rattle.cdf_edits.proofs.Edits.AttributeFrame.{AreThere, all_last, remaining_names}
 use Rattle.cdf_edits.proofs.Edits.OwnedOnce.{spliced_times, own_in}
 use Rattle.cdf_edits.proofs.Edits.LeftOwners.{Left, owned_left}
+use Rattle.cdf_edits.proofs.Edits.NumbersBehind.{Says, are_numbered}
 use Rattle.cdf_edits.proofs.Edits.RowsOneLess.{AreNumbered, one_less}
 use Rattle.cdf_edits.proofs.Edits.RecordFrame.{file_same, gdr_place}
-use Rattle.cdf_edits.proofs.Edits.RemovedLives.{entries_in, adrs_in, Says, numbers_said, Removes, nums_before, before_last, after_last}
+use Rattle.cdf_edits.proofs.Edits.RemovedLives.{entries_in, adrs_in, numbers, Removes, nums_before, before_last, after_last}
 use Rattle.cdf_edits.proofs.Edits.Splice.{spliced, Splices, parts_there, content_now, sound_if, good_image_if}
 use Rattle.cdf_edits.proofs.Frame.Meaning.{FileSame}
 use Rattle.cdf_edits.proofs.Frame.OwnersApart.{times-append}
@@ -40,7 +41,7 @@ module _ {b now : List ℕ} {s : Shape} {before : List AttributeShape} {own : At
 
   -- what the image says of it
   pub record SaysRemoved (list : List ℕ) : Type 0 where
-    pub numbered : Each (Says now) (numbers_from (length before) after)
+    pub numbered : Each (Says now) (numbers (length before) after)
     pub attribute_chain : IsChain now s.records adr_type (number now s.gdr gdr_adr_head) (adrs_in (before ++ after))
     pub unused_chain : IsChain now s.records uir_type (number now s.gdr gdr_uir_head) list
     pub freed : (m : ℕ) → In m places → type_at now m ≡ uir_type
@@ -91,7 +92,7 @@ module _ {b now : List ℕ} {s : Shape} {before : List AttributeShape} {own : At
         let c = Hold-split (adrs_rows b (adrs s) ++ r_vdrs_rows b (vdrs s.r_variables)) (z_vdrs_rows b (vdrs s.z_variables)) good.counting in
         let d = (Hold-split (adrs_rows b (adrs s)) (r_vdrs_rows b (vdrs s.r_variables)) c.0).0 in
         let f = λ (a : AttributeShape). a.adr in
-        let numbered = subst (λ (n : ℕ). AreNumbered now adr_num n (adrs_in after)) (sym (length-map before f)) (numbers_said now (length before) after says.numbered) in
+        let numbered = subst (λ (n : ℕ). AreNumbered now adr_num n (adrs_in after)) (sym (length-map before f)) (are_numbered (λ (a : AttributeShape). a.adr) adr_num (λ (a : AttributeShape). a.gr_entries ++ a.z_entries) aedr_attr_num now (length before) after says.numbered) in
         let numbers = one_less 4 adr_num b now (adrs_in before) own.adr (adrs_in after) (nums_before sound r) numbered (subst (λ (ms : List ℕ). Hold (number_rows 4 b adr_num 0 ms)) (ap adrs_in r.was ∙ map-append f before (own ∷ after)) d.1) in
         let place : gdr_offset now ≡ s.gdr = gdr_place sound r.edit refl in
         (eq-eqb _ _ (ap (λ (g : ℕ). number now g gdr_num_attr) place ∙ count), subst (λ (ms : List ℕ). Hold (number_rows 4 now adr_num 0 ms)) (sym (map-append f before after)) numbers)

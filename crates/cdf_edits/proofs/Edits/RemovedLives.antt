@@ -1,12 +1,12 @@
 -- Where one attribute goes: each other one stays but for its number, which its entries say.
-use Rattle.std.proofs.Common.{◌≡◌, ◌⊎◌, ℕ, suc, ◌+◌, ◌≤◌, List, [], ◌∷◌, ◌++◌, length, map, refl, sym, subst, ◌∙◌, arith, inl, inr}
+use Rattle.std.proofs.Common.{◌≡◌, ◌⊎◌, ℕ, suc, ◌+◌, ◌≤◌, List, [], ◌∷◌, ◌++◌, length, map, refl, sym, ap, subst, ◌∙◌, arith, inl, inr}
 use Rattle.cdf_edits.proofs.Common.{map-append, Each-split, Write, write, numbers_from, field,  flat_map, number, size_at, type_at, attribute_records, times, adr_num, aedr_attr_num, adr_type, agr_edr_type, az_edr_type, AttributeShape, Shape, Each, IsSound, In, linkable-in, linkable-type, linkable-long, In-append, In-append_left, In-append_right, tile_lies, Edit, deleting_marks, Mark, Avoids, Same-part}
 use Rattle.cdf_edits.proofs.Edits.AttributeFrame.{AreThere, each_there, entry, entry_long}
 use Rattle.cdf_edits.proofs.Edits.OwnedOnce.{only_owns, parts_once}
 use Rattle.cdf_edits.proofs.Edits.RecordFrame.{field_avoids}
 use Rattle.cdf_edits.proofs.Edits.AttributeRemains.{AttributeLasts}
-use Rattle.cdf_edits.proofs.Edits.RowsOneLess.{AreNumbered}
-use Rattle.cdf_edits.proofs.Edits.VariableFrame.{Each-apply}
+use Rattle.cdf_edits.proofs.Edits.NumbersBehind.{Says, numbering, others_say}
+use Rattle.cdf_edits.proofs.Edits.VariableFrame.{Each-apply, Each-map}
 use Rattle.cdf_edits.proofs.Edits.Splice.{parts_there}
 use Rattle.cdf_edits.proofs.Edits.StepEdits.{fixed_long}
 use Rattle.cdf_edits.proofs.Frame.Meaning.{Kept}
@@ -32,29 +32,17 @@ entries_owned (a ∷ more) m i = elim (In-append m (a.gr_entries ++ a.z_entries)
   | inr j ↦ In-append_right m (attribute_records a) (flat_map attribute_records more) (entries_owned more m j)
 ]
 
--- a field has its number
-abbrev pub Says : List ℕ → Write → Type 0
-Says now w = number now w.tile w.f ≡ w.to
+-- the numbers of attributes, which their entries say
+abbrev pub numbers : ℕ → List AttributeShape → List Write
+numbers n as_ = numbering (λ (a : AttributeShape). a.adr) adr_num (λ (a : AttributeShape). a.gr_entries ++ a.z_entries) aedr_attr_num n as_
+
+pub numbers_are : (n : ℕ) (as_ : List AttributeShape) → numbers_from n as_ ≡ numbers n as_
+numbers_are n [] = refl
+numbers_are n (a ∷ more) = ap (λ (ws : List Write). write a.adr adr_num n ∷ map (λ entry. write entry aedr_attr_num n) (a.gr_entries ++ a.z_entries) ++ ws) (numbers_are (suc n) more)
 
 -- an entry says the number of its attribute, if it did
 abbrev pub SayNumber : List ℕ → List ℕ → AttributeShape → Type 0
 SayNumber b now a = (m : ℕ) → In m (a.gr_entries ++ a.z_entries) → number b m aedr_attr_num ≡ number b a.adr adr_num → number now m aedr_attr_num ≡ number now a.adr adr_num
-
--- where the numbers of attributes and entries are written
-pub numbers_said : (now : List ℕ) (n : ℕ) (as_ : List AttributeShape) → Each (Says now) (numbers_from n as_) → AreNumbered now adr_num n (adrs_in as_)
-numbers_said now n [] says = tt
-numbers_said now n (a ∷ more) says = (says.0, numbers_said now (suc n) more (Each-split (Says now) (map (λ entry. write entry aedr_attr_num n) (a.gr_entries ++ a.z_entries)) (numbers_from (suc n) more) says.1).1)
-
-entries_say : (b now : List ℕ) (n : ℕ) (as_ : List AttributeShape) → Each (Says now) (numbers_from n as_) → Each (SayNumber b now) as_
-entries_say b now n [] says = tt
-entries_say b now n (a ∷ more) says =
-    let p = Each-split (Says now) (map (λ entry. write entry aedr_attr_num n) (a.gr_entries ++ a.z_entries)) (numbers_from (suc n) more) says.1 in
-    ((λ m i was. entry (a.gr_entries ++ a.z_entries) p.0 m i ∙ sym says.0), entries_say b now (suc n) more p.1)
-  where
-    entry : (es : List ℕ) → Each (Says now) (map (λ entry. write entry aedr_attr_num n) es) → (m : ℕ) → In m es → number now m aedr_attr_num ≡ n
-    entry [] h m i = absurd i
-    entry (e ∷ es) h m (inl q) = subst (λ (x : ℕ). number now x aedr_attr_num ≡ n) (sym q) h.0
-    entry (e ∷ es) h m (inr i) = entry es h.1 m i
 
 -- no record is of an attribute before one and of an attribute behind it
 pub sides_apart : (b : List ℕ) (s : Shape) → IsSound b s → (before : List AttributeShape) (own : AttributeShape) (after : List AttributeShape) → s.attributes ≡ before ++ own ∷ after → (m : ℕ) → In m (flat_map attribute_records before) → In m (flat_map attribute_records after) → ⊥
@@ -146,5 +134,5 @@ module _ {b now : List ℕ} {s : Shape} {before : List AttributeShape} {own : At
       let same = field_avoids e m (type_at b m) aedr_attr_num (entry sound e a t.have.0 m i).0 refl (entry_avoids a t m 0 12 i out (λ j. inl (omega arith))) (entry_avoids a t m 20 24 i out (λ j. absurd (sides_apart b s sound before own after r.was m mine (entries_owned after m j)))) (omega arith) in
       same ∙ was ∙ sym (nums_before a.adr at)))
 
-  pub after_last : (n : ℕ) → Each (Says now) (numbers_from n after) → Each (AttributeLasts b now) after
-  after_last n says = all_last after there.1.1 (λ m i j. (only_owns b s sound before own after r.was m (r.mine m j)).in_after i) (entries_say b now n after says)
+  pub after_last : (n : ℕ) → Each (Says now) (numbers n after) → Each (AttributeLasts b now) after
+  after_last n says = all_last after there.1.1 (λ m i j. (only_owns b s sound before own after r.was m (r.mine m j)).in_after i) (Each-map _ (SayNumber b now) (λ a h m i was. h m i) after (others_say (λ (a : AttributeShape). a.adr) adr_num (λ (a : AttributeShape). a.gr_entries ++ a.z_entries) aedr_attr_num now n after says))

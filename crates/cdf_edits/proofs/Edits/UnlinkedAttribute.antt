@@ -5,12 +5,13 @@ use Rattle.cdf_edits.specs.Edits.ManyMarks.{numbering_marks}
 
 use Rattle.cdf_edits.proofs.Edits.AttributeFrame.{AreThere, more_there}
 use Rattle.cdf_edits.proofs.Edits.FreedRecords.{edit_under}
+use Rattle.cdf_edits.proofs.Edits.NumbersBehind.{tiles_numbered, each_numbered, small_numbers}
 use Rattle.cdf_edits.proofs.Edits.LeftChain.{LeavingTests, LeavesChain, may_linked, left_edit, said_now, chain_now, list_now}
 use Rattle.cdf_edits.proofs.Edits.LeftOwners.{distinct_if, mine_once, not_twice, can_be_freed}
 use Rattle.cdf_edits.proofs.Edits.MarkLemmas.{Avoids-split}
 use Rattle.cdf_edits.proofs.Edits.OwnedOnce.{parts_once, own_in}
 use Rattle.cdf_edits.proofs.Edits.RemovedAttribute.{without_one, left_by, removed_sound}
-use Rattle.cdf_edits.proofs.Edits.RemovedLives.{entries_in, adrs_in, Removes}
+use Rattle.cdf_edits.proofs.Edits.RemovedLives.{entries_in, adrs_in, numbers, numbers_are, Removes}
 use Rattle.cdf_edits.proofs.Edits.Splice.{parts_there}
 use Rattle.cdf_edits.proofs.Edits.StepEdits.{gdr_in, gdr_typed}
 use Rattle.cdf_edits.proofs.Edits.WrittenFields.{MayWrite, written_tiles}
@@ -24,28 +25,8 @@ leaving_tests gdr members adrs entries = record {
 
 -- ---- the numbers that are written
 
-pub tiles_written : (n : ℕ) (as_ : List AttributeShape) → written_tiles (numbers_from n as_) ≡ flat_map attribute_records as_
-tiles_written n [] = refl
-tiles_written n (a ∷ more) = ap (λ (r : List ℕ). a.adr ∷ r) (map-append (λ (w : Write). w.tile) (map (λ entry. write entry aedr_attr_num n) (a.gr_entries ++ a.z_entries)) (numbers_from (suc n) more) ∙ (let one = entries (a.gr_entries ++ a.z_entries) in let rest = tiles_written (suc n) more in λ i. one i ++ rest i))
-  where
-    entries : (es : List ℕ) → written_tiles (map (λ entry. write entry aedr_attr_num n) es) ≡ es
-    entries [] = refl
-    entries (e ∷ es) = ap (λ (r : List ℕ). e ∷ r) (entries es)
-
--- what holds of the number of each attribute and of each entry
-each_number : (P : Write → Type 0) (n top : ℕ) (as_ : List AttributeShape) → n + length as_ ≤ top → ((m k : ℕ) → In m (adrs_in as_) → k < top → P (write m adr_num k)) → ((m k : ℕ) → In m (entries_in as_) → k < top → P (write m aedr_attr_num k)) → Each P (numbers_from n as_)
-each_number P n top [] l adr entry = tt
-each_number P n top (a ∷ more) l adr entry =
-    let es = a.gr_entries ++ a.z_entries in
-    (adr a.adr n (inl refl) (omega arith), Each-append P (map (λ e. write e aedr_attr_num n) es) (numbers_from (suc n) more)
-    (entries es (λ m i. In-append_left m es (entries_in more) i)) (each_number P (suc n) top more (omega arith) (λ m k i. adr m k (inr i)) (λ m k i. entry m k (In-append_right m es (entries_in more) i))))
-  where
-    entries : (es : List ℕ) → ((m : ℕ) → In m es → In m (entries_in (a ∷ more))) → Each P (map (λ e. write e aedr_attr_num n) es)
-    entries [] sub = tt
-    entries (e ∷ es) sub = (entry e n (sub e (inl refl)) (omega arith), entries es (λ m i. sub m (inr i)))
-
-pub may_number : {b : List ℕ} {s : Shape} → IsSound b s → (n : ℕ) (as_ : List AttributeShape) → AreThere b s.records as_ → Each (MayWrite b s.records (numbering_marks (adrs_in as_) (entries_in as_))) (numbers_from n as_)
-may_number {b = b} {s = s} sound n as_ there = each_number (MayWrite b s.records marks) n (n + length as_) as_ (omega arith)
+pub may_number : {b : List ℕ} {s : Shape} → IsSound b s → (n : ℕ) (as_ : List AttributeShape) → AreThere b s.records as_ → Each (MayWrite b s.records (numbering_marks (adrs_in as_) (entries_in as_))) (numbers n as_)
+may_number {b = b} {s = s} sound n as_ there = each_numbered (λ (a : AttributeShape). a.adr) adr_num (λ (a : AttributeShape). a.gr_entries ++ a.z_entries) aedr_attr_num (MayWrite b s.records marks) n (n + length as_) as_ (omega arith)
     (λ m k i l. may_linked sound marks adr_type m adr_num k (adr as_ there m i) (λ e. absurd cc) (omega arith) (omega arith) (λ t. inl (record { typed = t; lies = i; low = omega arith; high = omega arith })))
     (λ m k i l. elim (entry as_ there m i) [
       | inl ok ↦ may_linked sound marks agr_edr_type m aedr_attr_num k ok (λ e. absurd cc) (omega arith) (omega arith) (λ t. inr (inl (record { typed = t; lies = i; low = omega arith; high = omega arith })))
@@ -76,7 +57,7 @@ module _ {b mid : List ℕ} {s : Shape} {before : List AttributeShape} {own : At
   pub own_there : AreThere b s.records (own ∷ [])
   own_there = (parts_there b s sound before (own ∷ []) after u.was).1.0
 
-  pub leaves : LeavesChain b mid mid s Attrs (adrs s) (adrs_in before) own.adr (adrs_in after) (numbering_marks (adrs_in after) (entries_in after)) [] (length before + length after) (numbers_from (length before) after) []
+  pub leaves : LeavesChain b mid mid s Attrs (adrs s) (adrs_in before) own.adr (adrs_in after) (numbering_marks (adrs_in after) (entries_in after)) [] (length before + length after) (numbers (length before) after) []
   leaves = record {
     sound = sound;
     were = ap adrs_in u.was ∙ map-append (λ (a : AttributeShape). a.adr) before (own ∷ after);
@@ -84,17 +65,17 @@ module _ {b mid : List ℕ} {s : Shape} {before : List AttributeShape} {own : At
     tests = leaving_tests s.gdr (adrs s) (adrs_in after) (entries_in after);
     first = u.first;
     removed = u.removed;
-    numbered = u.written;
+    numbered = u.written ∙ ap (λ (ws : List Write). with_writes u.first (write s.gdr gdr_num_attr (length before + length after) ∷ ws)) (numbers_are (length before) after);
     written = refl;
     may = may_number sound (length before) after (parts_there b s sound before (own ∷ []) after u.was).1.1;
     may_last = tt;
     lasts_in = λ m none. absurd none;
     once = (
-      (λ i. only_gdr (subst (In s.gdr) (tiles_written (length before) after) i)),
-      subst Distinct (sym (tiles_written (length before) after)) (distinct_if (flat_map attribute_records after) (λ m. back (times m (flat_map attribute_records before)) (times m (attribute_records own)) (times m (flat_map attribute_records after)) (parts_once b s sound before own after u.was m))),
+      (λ i. only_gdr (subst (In s.gdr) (tiles_numbered (λ (a : AttributeShape). a.adr) adr_num (λ (a : AttributeShape). a.gr_entries ++ a.z_entries) aedr_attr_num (length before) after) i)),
+      subst Distinct (sym (tiles_numbered (λ (a : AttributeShape). a.adr) adr_num (λ (a : AttributeShape). a.gr_entries ++ a.z_entries) aedr_attr_num (length before) after)) (distinct_if (flat_map attribute_records after) (λ m. back (times m (flat_map attribute_records before)) (times m (attribute_records own)) (times m (flat_map attribute_records after)) (parts_once b s sound before own after u.was m))),
     );
     few = u.few;
-    small = each_number (λ (w : Write). w.to < 256 ^ w.f.width) (length before) (length before + length after) after (omega arith) (λ m k i l. let f = u.few in omega arith) (λ m k i l. let f = u.few in omega arith);
+    small = small_numbers (λ (a : AttributeShape). a.adr) adr_num (λ (a : AttributeShape). a.gr_entries ++ a.z_entries) aedr_attr_num (length before) after refl refl u.few;
   }
     where
       only_gdr : In s.gdr (flat_map attribute_records after) → ⊥

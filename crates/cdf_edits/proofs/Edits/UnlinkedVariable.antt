@@ -1,6 +1,6 @@
 -- A variable that is taken out of the chain, counted no more, and those behind it numbered anew: the image is sound, and its VDR has no owner.
 use Rattle.std.proofs.Common.{◌≡◌, ◌≢◌, ℕ, ℤ, suc, ◌+◌, ◌^◌, ◌<◌, ◌≤◌, List, [], ◌∷◌, ◌++◌, length, true, eq-eqb, refl, sym, ap, subst, ◌∙◌, arith, inl, inr}
-use Rattle.cdf_edits.proofs.Common.{length-map, filter, ◌==◌, if◌then◌else◌, Kind, R, Z, Same, IsChain, number, size_at, type_at, gdr_offset, with_field, variable_records, times, owned_records, unused_records, Field, gdr_uir_head, vdr_num, gdr_type, uir_type, VariableShape, Shape, vdrs, Each, HasShape, shape, IsSound, In, AreTiles, Distinct, Good, vdrs_append, good_is_sound, Distinct-back, Distinct-middle, shape_is, length-with_field, shapes_of, freed_with_variable, Edit, freeing_marks, Among, Mark, mark, all_unmarked, avoided, keeps_file, field_marks, index_types, removing_marks, UnlinksVariable, numbers_on, r_max_writes, greatest_at, variable_unlinking_marks, variable_removing_marks, Write, write, with_writes, links_end, holder_of, head_of, count_of, type_in, AreFree, variables_chain}
+use Rattle.cdf_edits.proofs.Common.{flat_map, filter, ◌==◌, if◌then◌else◌, Kind, R, Z, Same, IsChain, number, size_at, type_at, gdr_offset, with_field, variable_records, times, owned_records, unused_records, Field, gdr_uir_head, vdr_num, gdr_type, uir_type, VariableShape, Shape, vdrs, Each, HasShape, shape, IsSound, In, AreTiles, Distinct, Good, vdrs_append, good_is_sound, Distinct-back, Distinct-middle, shape_is, length-with_field, shapes_of, freed_with_variable, Edit, freeing_marks, Among, Mark, mark, all_unmarked, avoided, keeps_file, field_marks, index_types, removing_marks, UnlinksVariable, numbers_on, r_max_writes, greatest_at, variable_unlinking_marks, variable_removing_marks, Write, write, with_writes, links_end, holder_of, head_of, count_of, type_in, AreFree, variables_chain}
 use Rattle.cdf_edits.specs.Edits.RemovesVariable.{r_max_marks}
 use Rattle.cdf_edits.specs.Space.Chains.{without}
 use Rattle.cdf_edits.proofs.Edits.ChainsOfShape.{IsOf, remove_changed, left_chain}
@@ -12,8 +12,9 @@ use Rattle.cdf_edits.proofs.Edits.OwnedOnce.{unused_none}
 use Rattle.cdf_edits.proofs.Edits.OwnVariable.{freed_mine, freed_once}
 use Rattle.cdf_edits.proofs.Edits.RecordFrame.{chain_clear, field_clear, gdr_place, kept_away, kept_but_link, through}
 use Rattle.cdf_edits.proofs.Edits.StepEdits.{Linked, gdr_in, gdr_typed, gdr_long, some_bytes, remove_edit}
-use Rattle.cdf_edits.proofs.Edits.TakenVariable.{Stands, TakesVariable, without_variable, vdr_there, back_in, own_in, own_stand, once, ours, vdr_avoids, vdr_record, vdrs_were, left_by, sound_taken}
-use Rattle.cdf_edits.proofs.Edits.LeftChain.{LeavingTests, LeavesChain, left_edit, said_now, chain_now, list_now}
+use Rattle.cdf_edits.proofs.Edits.TakenVariable.{least_size, Stands, TakesVariable, without_variable, vdr_there, back_in, own_in, own_stand, once, ours, vdr_avoids, vdr_record, vdrs_were, left_by, sound_taken}
+use Rattle.cdf_edits.proofs.Edits.NumbersBehind.{numbering as numbering_of, each_numbered, small_numbers, are_numbered}
+use Rattle.cdf_edits.proofs.Edits.LeftChain.{may_linked, LeavingTests, LeavesChain, left_edit, said_now, chain_now, list_now}
 use Rattle.cdf_edits.proofs.Edits.LeftOwners.{not_twice, can_be_freed}
 use Rattle.cdf_edits.proofs.Edits.RowsOneLess.{AreNumbered}
 use Rattle.cdf_edits.proofs.Edits.VariableFrame.{index_typed}
@@ -49,17 +50,16 @@ index_clear Z gdr members behind = refl
 
 -- ---- the numbers that are written
 
-tiles_on : (n : ℕ) (xs : List ℕ) → written_tiles (numbers_on n xs) ≡ xs
-tiles_on n [] = refl
-tiles_on n (x ∷ xs) = ap (λ (r : List ℕ). x ∷ r) (tiles_on (suc n) xs)
+abbrev numbers : ℕ → List VariableShape → List Write
+numbers n vs = numbering_of (λ (v : VariableShape). v.vdr) vdr_num (λ (v : VariableShape). []) vdr_num n vs
 
-says_on : (now : List ℕ) (n : ℕ) (xs : List ℕ) → Each (λ (w : Write). number now w.tile w.f ≡ w.to) (numbers_on n xs) → AreNumbered now vdr_num n xs
-says_on now n [] h = tt
-says_on now n (x ∷ xs) h = (h.0, says_on now (suc n) xs h.1)
+numbers_are : (n : ℕ) (vs : List VariableShape) → numbers_on n (vdrs vs) ≡ numbers n vs
+numbers_are n [] = refl
+numbers_are n (v ∷ vs) = ap (λ (ws : List Write). write v.vdr vdr_num n ∷ ws) (numbers_are (suc n) vs)
 
-small_on : (n : ℕ) (xs : List ℕ) → n + length xs < 256 ^ 4 → Each (λ (w : Write). w.to < 256 ^ w.f.width) (numbers_on n xs)
-small_on n [] lt = tt
-small_on n (x ∷ xs) lt = (omega arith, small_on (suc n) xs (omega arith))
+tiles_are : (n : ℕ) (vs : List VariableShape) → written_tiles (numbers n vs) ≡ vdrs vs
+tiles_are n [] = refl
+tiles_are n (v ∷ vs) = ap (λ (ms : List ℕ). v.vdr ∷ ms) (tiles_are (suc n) vs)
 
 may_r_max : (b records : List ℕ) (gdr : ℕ) → In gdr records → type_at b gdr ≡ gdr_type → 84 ≤ size_at b gdr → (kind : Kind) (greatest : ℤ) → Each (MayWrite b records (r_max_marks kind gdr)) (r_max_writes kind gdr greatest)
 may_r_max b records gdr i is long Z greatest = tt
@@ -95,16 +95,7 @@ module _ {b mid : List ℕ} {kind : Kind} {before : List VariableShape} {own : V
   vdr_behind : (m : ℕ) → In m (vdrs after) → In m s.records × ((type_at b m ≡ type_in (variables_chain kind)) × (340 ≤ size_at b m))
   vdr_behind m i = vdr_there sound at m (back_in sound at m i)
 
-  may_number : (n : ℕ) (xs : List ℕ) → ((m : ℕ) → In m xs → In m (vdrs after)) → Each (MayWrite b s.records (numbering kind (vdrs after))) (numbers_on n xs)
-  may_number n [] sub = tt
-  may_number n (x ∷ xs) sub =
-      let i = sub x (inl refl) in
-      let v = vdr_behind x i in (
-        record { inside = v.0; used = λ u. (leaving_tests kind s.gdr [] []).no_uir (sym v.1.0 ∙ u); fits = let l = v.1.1 in omega arith; later = omega arith; covered = inl (record { typed = v.1.0; lies = i; low = omega arith; high = omega arith }) },
-        may_number (suc n) xs (λ m j. sub m (inr j)),
-      )
-
-  pub leaves : LeavesChain b u.second mid s (variables_chain kind) members (vdrs before) own.vdr (vdrs after) (numbering kind (vdrs after)) (r_max_marks kind s.gdr) (length before + length after) (numbers_on (length before) (vdrs after)) (r_max_writes kind s.gdr (greatest_at b (vdrs (before ++ after))))
+  pub leaves : LeavesChain b u.second mid s (variables_chain kind) members (vdrs before) own.vdr (vdrs after) (numbering kind (vdrs after)) (r_max_marks kind s.gdr) (length before + length after) (numbers (length before) after) (r_max_writes kind s.gdr (greatest_at b (vdrs (before ++ after))))
   leaves = record {
     sound = sound;
     were = vdrs_were sound at;
@@ -112,18 +103,25 @@ module _ {b mid : List ℕ} {kind : Kind} {before : List VariableShape} {own : V
     tests = leaving_tests kind s.gdr members (vdrs after);
     first = u.first;
     removed = u.removed;
-    numbered = u.numbered;
+    numbered = u.numbered ∙ ap (λ (ws : List Write). with_writes u.first (write s.gdr (count_of (variables_chain kind)) (length before + length after) ∷ ws)) (numbers_are (length before) after);
     written = u.written;
-    may = may_number (length before) (vdrs after) (λ m i. i);
+    may = each_numbered (λ (v : VariableShape). v.vdr) vdr_num (λ (v : VariableShape). []) vdr_num (MayWrite b s.records (numbering kind (vdrs after))) (length before) (length before + length after) after (omega arith)
+        (λ m k i l. let ok = (kind_chain kind h).linkable m (back_in sound at m i) in may_linked sound (numbering kind (vdrs after)) (type_in (variables_chain kind)) m vdr_num k ok (leaving_tests kind s.gdr [] []).no_uir (omega arith) (let l = least_size kind in omega arith) (λ t. inl (record { typed = t; lies = i; low = omega arith; high = omega arith })))
+        (λ m k i l. absurd (none_in after m i));
     may_last = may_r_max b s.records s.gdr (gdr_in b s h) (gdr_typed b s h) (gdr_long b s h) kind (greatest_at b (vdrs (before ++ after)));
     lasts_in = r_max_in kind s.gdr (greatest_at b (vdrs (before ++ after)));
     once = (
-      (λ i. (leaving_tests kind s.gdr [] []).no_gdr (sym (vdr_behind s.gdr (subst (In s.gdr) (tiles_on (length before) (vdrs after)) i)).1.0 ∙ gdr_typed b s h)),
-      subst Distinct (sym (tiles_on (length before) (vdrs after))) (Distinct-back (vdrs before) (own.vdr ∷ vdrs after) (once sound at)).1,
+      (λ i. (leaving_tests kind s.gdr [] []).no_gdr (sym (vdr_behind s.gdr (subst (In s.gdr) (tiles_are (length before) after) i)).1.0 ∙ gdr_typed b s h)),
+      subst Distinct (sym (tiles_are (length before) after)) (Distinct-back (vdrs before) (own.vdr ∷ vdrs after) (once sound at)).1,
     );
     few = u.few;
-    small = small_on (length before) (vdrs after) (let f = u.few in let l = length-map after (λ (v : VariableShape). v.vdr) in omega arith);
+    small = small_numbers (λ (v : VariableShape). v.vdr) vdr_num (λ (v : VariableShape). []) vdr_num (length before) after refl refl u.few;
   }
+
+    where
+      none_in : (vs : List VariableShape) (m : ℕ) → In m (flat_map (λ (v : VariableShape). []) vs) → ⊥
+      none_in [] m i = absurd i
+      none_in (v ∷ vs) m i = none_in vs m i
 
   pub unlinked_edit : Edit b mid s.records s.records (variable_unlinking_marks kind s.gdr members (vdrs after)) []
   unlinked_edit = left_edit leaves
@@ -136,7 +134,7 @@ module _ {b mid : List ℕ} {kind : Kind} {before : List VariableShape} {own : V
   }
 
   pub numbered_now : AreNumbered mid vdr_num (length before) (vdrs after)
-  numbered_now = says_on mid (length before) (vdrs after) (said_now leaves)
+  numbered_now = are_numbered (λ (v : VariableShape). v.vdr) vdr_num (λ (v : VariableShape). []) vdr_num mid (length before) after (said_now leaves)
 
   -- ---- the image is sound, and no one has the VDR
 
