@@ -1,9 +1,11 @@
 -- An attribute of an image, with those before it and those after it; and an image in which one of its chains is another.
-use Rattle.std.proofs.Common.{◌≡◌, ℕ, zero, suc, ◌+◌, List, [], ◌∷◌, ◌++◌, length, map, Some, refl, sym, ap, ◌∙◌, arith}
-use Rattle.cdf_attrs.proofs.Common.{map-append, map-set, slice_get, slice_set, EntryKind, with_entries, Attribute, DataSet, Entry, attribute_names, content, attribute_of, adrs_rows, count_rows, r_vdrs_rows, z_vdrs_rows, number, gdr_offset, adr_num, gdr_num_attr, Hold, AttributeShape, Shape, adrs, shape, vdrs, IsSound, Good, good_by_its_shape, good_is_sound, Hold-split, content_is, eq_of, entries_chain, with_chain, Mark, members_of, chain_now, adr_of, members_are, Rechains, of_shape, shape_now, IsAttributeAt, got-map, got-middle}
+use Rattle.std.proofs.Common.{◌≡◌, ℕ, zero, suc, ◌+◌, List, [], ◌∷◌, ◌++◌, length, map, Some, refl, sym, ap, ap₂, ◌∙◌, arith}
+use Rattle.cdf_attrs.proofs.Common.{slice_get_within, map-append, map-set, slice_get, slice_set, EntryKind, with_entries, Attribute, DataSet, Entry, attribute_names, content, attribute_of, adrs_rows, count_rows, r_vdrs_rows, z_vdrs_rows, number, gdr_offset, adr_num, gdr_num_attr, Hold, AttributeShape, Shape, adrs, shape, vdrs, IsSound, Good, good_by_its_shape, good_is_sound, Hold-split, content_is, eq_of, entries_chain, with_chain, Mark, members_of, chain_now, adr_of, members_are, Rechains, of_shape, shape_now, IsAttributeAt, got-map, got-middle}
 use Rattle.cdf_model.specs.declared.kinds.EntryKind.TheVariants as entries
 use Rattle.cdf_format.specs.Content.{entries_of as chain_items}
 use Rattle.cdf_format.specs.ChainRules.{number_rows}
+use Rattle.cdf_edits.proofs.Commands.ListParts.{cut}
+use Rattle.std.proofs.lemmas.Option.{same_Some}
 use Rattle.cdf_edits.proofs.Edits.ChainSpliced.{made, splices, now_is, content_rechained}
 
 -- ---- the parts
@@ -15,21 +17,16 @@ pub record Parts (b : List ℕ) (adr number : ℕ) (own : AttributeShape) : Type
   pub count : length before ≡ number
   pub adr_is : own.adr ≡ adr
 
-same_first : (x a : AttributeShape) → Some x ≡ Some a → x ≡ a
-same_first x a e = cc
-
-parts_at : (as_ : List AttributeShape) (n : ℕ) (own : AttributeShape) → slice_get as_ n ≡ Some own → (before : List AttributeShape) × (after : List AttributeShape) × (as_ ≡ before ++ own ∷ after) × (length before ≡ n)
-parts_at [] n own e = absurd cc
-parts_at (a ∷ more) zero own e = ([], more, ap (λ (x : AttributeShape). x ∷ more) (same_first a own e), refl)
-parts_at (a ∷ more) (suc n) own e = let p = parts_at more n own e in (a ∷ p.0, p.1, ap (λ (x : List AttributeShape). a ∷ x) p.2, ap suc p.3)
-
 pub parts : {b : List ℕ} {number adr : ℕ} (at : IsAttributeAt b number adr) → Parts b adr number at.own
-parts {b = b} {number = number} at = let p = parts_at (shape b).attributes number at.own at.stands in record { before = p.0; after = p.1; stands = p.2; count = p.3; adr_is = at.adr_is }
+parts {b = b} {number = number} at =
+    let c = cut (shape b).attributes number (slice_get_within (shape b).attributes number at.own at.stands) in
+    let same : c.own ≡ at.own = same_Some c.own at.own (sym (ap₂ (λ (as_ : List AttributeShape) (n : ℕ). slice_get as_ n) c.is (sym c.count) ∙ got-middle c.before c.own c.after) ∙ at.stands) in
+    record { before = c.before; after = c.after; stands = c.is ∙ ap (λ (a : AttributeShape). c.before ++ a ∷ c.after) same; count = c.count; adr_is = at.adr_is }
 
 -- its ADR says its number
 got_number : (b : List ℕ) (k : ℕ) (as_ : List AttributeShape) (n : ℕ) (own : AttributeShape) → slice_get as_ n ≡ Some own → Hold (number_rows 4 b adr_num k (map (λ (a : AttributeShape). a.adr) as_)) → number b own.adr adr_num ≡ k + n
 got_number b k [] n own e rows = absurd cc
-got_number b k (a ∷ more) zero own e rows = ap (λ (x : AttributeShape). number b x.adr adr_num) (sym (same_first a own e)) ∙ eq_of (number b a.adr adr_num) k rows.0 ∙ omega arith
+got_number b k (a ∷ more) zero own e rows = ap (λ (x : AttributeShape). number b x.adr adr_num) (sym (same_Some a own e)) ∙ eq_of (number b a.adr adr_num) k rows.0 ∙ omega arith
 got_number b k (a ∷ more) (suc n) own e rows = got_number b (suc k) more n own e rows.1 ∙ omega arith
 
 pub number_at : {b : List ℕ} {n adr : ℕ} → Good b → (at : IsAttributeAt b n adr) → number b at.own.adr adr_num ≡ n

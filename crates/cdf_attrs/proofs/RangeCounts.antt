@@ -1,9 +1,8 @@
 -- How many variables a good image says that it has, and the numbers that entries may have by it.
 use Rattle.std.proofs.Common.{◌≡◌, ℕ, ◌+◌, ◌<◌, ◌≤◌, List, length, map, false, sym, ap, subst, ◌∙◌, arith}
-use Rattle.cdf_attrs.proofs.Common.{nat_tests, length-map, nat_le, EntryKind, G, R, Z, is_out_of_range, DataSet, image_limit, record_number_limit, IsChain, content, gdr_offset, word, HasShape, shape, vdrs, Good, linkable-in, good_by_its_shape, good_is_sound, length-le_from_distinct, content_is, length_tiles, cdr_room}
+use Rattle.cdf_attrs.proofs.Common.{nat_tests, length-map, nat_le, EntryKind, G, R, Z, is_out_of_range, DataSet, image_limit, record_number_limit, IsChain, content, gdr_offset, word, HasShape, VariableShape, shape, vdrs, Good, linkable-in, good_by_its_shape, good_is_sound, length-le_from_distinct, content_is, length_tiles, cdr_room}
 use Rattle.cdf_model.specs.declared.head.Head.{Head}
 use Rattle.cdf_format.specs.Content.{content_of, variable_of}
-use Rattle.cdf_format.specs.Tiles.{AreTiles}
 use Rattle.cdf_format.proofs.GoodHead.{gdr_fits}
 use Rattle.cdf_format.proofs.HeadOf.{head_of_good}
 
@@ -23,30 +22,19 @@ module _ (b : List ℕ) (good : Good b) where
 
 -- ---- numbers in range
 
-few_in : (b : List ℕ) (records ms : List ℕ) (type link : ℕ) → AreTiles b 8 (length b) records → IsChain b records type link ms → length ms + 8 ≤ length b
-few_in b records ms type link tiled chain =
-    let l = length-le_from_distinct ms records chain.once (λ m i. linkable-in b records type m (chain.linkable m i)) in
-    let t = length_tiles b 8 (length b) records tiled in
-    omega arith
+-- of one of the variables of a kind, which are fewer than bytes
+number_small : (b : List ℕ) (h : HasShape b (shape b)) (vs : List VariableShape) (type link num : ℕ) → length b ≤ image_limit → IsChain b (shape b).records type link (vdrs vs) → num < length (map (variable_of b) vs) → num ≤ record_number_limit
+number_small b h vs type link num short chain under =
+    let l = length-le_from_distinct (vdrs vs) (shape b).records chain.once (λ m i. linkable-in b (shape b).records type m (chain.linkable m i)) in
+    omega (arith, length_tiles b 8 (length b) (shape b).records h.tiled, length-map vs (λ (v : VariableShape). v.vdr), length-map vs (variable_of b))
 
 -- a number in range is that of an entry
 pub in_range_small : (b : List ℕ) → Good b → length b ≤ image_limit → (kind : EntryKind) (num : ℕ) → is_out_of_range (content b) kind num ≡ false → num ≤ record_number_limit
 in_range_small b good short kind num e =
     let h = (good_is_sound b good).has_shape in
-    let d = content_is b (shape b) h in
-    by kind h (subst (λ (x : DataSet). is_out_of_range x kind num ≡ false) d e)
+    by kind h (subst (λ (x : DataSet). is_out_of_range x kind num ≡ false) (content_is b (shape b) h) e)
   where
     by : (kind : EntryKind) → HasShape b (shape b) → is_out_of_range (content_of b (shape b)) kind num ≡ false → num ≤ record_number_limit
     by G h e = grind (arith, nat_tests, e)
-    by R h e =
-        let few = few_in b (shape b).records (vdrs (shape b).r_variables) _ _ h.tiled h.r_chain in
-        let long = length-map (shape b).r_variables (λ v. v.vdr) in
-        let same = length-map (shape b).r_variables (variable_of b) in
-        let under : num < length (map (variable_of b) (shape b).r_variables) = grind (arith, nat_tests, e) in
-        omega (arith, few, long, same, under, short)
-    by Z h e =
-        let few = few_in b (shape b).records (vdrs (shape b).z_variables) _ _ h.tiled h.z_chain in
-        let long = length-map (shape b).z_variables (λ v. v.vdr) in
-        let same = length-map (shape b).z_variables (variable_of b) in
-        let under : num < length (map (variable_of b) (shape b).z_variables) = grind (arith, nat_tests, e) in
-        omega (arith, few, long, same, under, short)
+    by R h e = number_small b h (shape b).r_variables _ _ num short h.r_chain (grind (arith, nat_tests, e))
+    by Z h e = number_small b h (shape b).z_variables _ _ num short h.z_chain (grind (arith, nat_tests, e))

@@ -3,7 +3,8 @@ use Rattle.std.proofs.Common.{◌≡◌, ◌≢◌, ℕ, ℤ, ◌+◌, ◌*◌, 
 use Rattle.cdf_edits.proofs.Common.{cases_eq, ne_eqb, map-append, list_any, unwrap_or, ◌==◌, nat_le, DataType, Byte, turned, Entry, record_number_limit, with_item, without, record_limit, size_of, type_of, entry_bytes, has_value, entry_rows, same_number, differ_rows, is_in, entry_of, is_positive, number, size_at, adr_num, aedr_attr_num, aedr_data_type, aedr_num, aedr_num_elems, aedr_value, row, Hold, EntryFits, field_bytes, is_little, data_type_in, In, Distinct, Distinct-push, Distinct-middle, is_in-true, is_in-false, not_false, with_in_place}
 use Rattle.cdf_format.specs.Content.{entries_of}
 use Rattle.cdf_edits.specs.Space.Chains.{without as left_of}
-use Rattle.cdf_edits.proofs.Edits.NumberedItems.{Rising, rising_with, items_swap, item_again, item_gone, item_stays}
+use Rattle.cdf_edits.proofs.Edits.NumberedItems.{Rising, rising_with}
+use Rattle.cdf_edits.proofs.Edits.NumberedLookup.{items_swap, item_again, item_gone, item_stays}
 use Rattle.cdf_edits.proofs.Frame.Meaning.{FileSame, KeptButLink, long_entry, link_bytes, entry_means, late_number}
 
 -- ---- an entry that stays but for the link to the next one
@@ -97,12 +98,16 @@ pub nums_live : (b now es : List ℕ) → ((m : ℕ) → In m es → EntryLives 
 nums_live b now [] live = refl
 nums_live b now (e ∷ es) live = ap₂ (λ (n : ℕ) (rest : List ℕ). n ∷ rest) (live e (inl refl)).num (nums_live b now es (λ m i. live m (inr i)))
 
+rising_entries : (b es : List ℕ) → Rising 0 (entries_of b es)
+rising_entries b [] = Rising.none
+rising_entries b (e ∷ es) = rising_with 0 (number b e aedr_num) (entry_of b e) (entries_of b es) (omega arith) (rising_entries b es)
+
 -- one more of another number
 pub entries_pushed : (b es : List ℕ) (e : ℕ) → (In (number b e aedr_num) (nums b es) → ⊥) → entries_of b (es ++ e ∷ []) ≡ with_item (number b e aedr_num) (entry_of b e) (entries_of b es)
 entries_pushed b [] e out = refl
 entries_pushed b (x ∷ es) e out =
     ap (with_item (number b x aedr_num) (entry_of b x)) (entries_pushed b es e (λ i. out (inr i)))
-    ∙ items_swap (number b x aedr_num) (number b e aedr_num) (entry_of b x) (entry_of b e) (entries_of b es) (λ q. out (inl (sym q)))
+    ∙ items_swap (number b x aedr_num) (number b e aedr_num) (entry_of b x) (entry_of b e) (entries_of b es) (λ q. out (inl (sym q))) (rising_entries b es)
 
 pub nums_pushed : (b es : List ℕ) (e : ℕ) → Distinct (nums b es) → (In (number b e aedr_num) (nums b es) → ⊥) → Distinct (nums b (es ++ e ∷ []))
 nums_pushed b es e d out = subst Distinct (sym (nums_push b es e)) (Distinct-push (nums b es) (number b e aedr_num) d out)
@@ -116,14 +121,14 @@ module _ (b now : List ℕ) (old by n : ℕ) (of_old : number b old aedr_num ≡
         let out : In (number b old aedr_num) (nums b es) → ⊥ = subst (λ (x : ℕ). In (number b x aedr_num) (nums b es) → ⊥) q d.0 in
         let same = entries_live b now es (λ m j. live m (inr j) (not_behind b es old m out j)) in
         let first : entries_of b (e ∷ es) ≡ with_item n (entry_of b e) (entries_of b es) = ap (λ (k : ℕ). with_item k (entry_of b e) (entries_of b es)) (ap (λ (x : ℕ). number b x aedr_num) q ∙ of_old) in
-        rw (eq-eqb e old q) ((λ k. with_item (of_new k) (entry_of now by) (same k)) ∙ sym (item_again n (entry_of now by) (entry_of b e) (entries_of b es)) ∙ ap (with_item n (entry_of now by)) (sym first))
+        rw (eq-eqb e old q) ((λ k. with_item (of_new k) (entry_of now by) (same k)) ∙ sym (item_again n (entry_of now by) (entry_of b e) (entries_of b es) (rising_entries b es)) ∙ ap (with_item n (entry_of now by)) (sym first))
     | inr ne ↦
         let there : In old es = elim i [ inl q ↦ absurd (ne (sym q)) | inr j ↦ j ] in
         let here = live e (inl refl) ne in
         let num = here.num in
         let meant = here.meant in
         let rest = entries_replaced es d.1 there (λ m j. live m (inr j)) in
-        rw (ne_eqb e old ne) ((λ k. with_item (num k) (meant k) (rest k)) ∙ items_swap (number b e aedr_num) n (entry_of b e) (entry_of now by) (entries_of b es) (no_other b es e old n of_old there d.0))
+        rw (ne_eqb e old ne) ((λ k. with_item (num k) (meant k) (rest k)) ∙ items_swap (number b e aedr_num) n (entry_of b e) (entry_of now by) (entries_of b es) (no_other b es e old n of_old there d.0) (rising_entries b es))
   ]
 
   pub nums_replaced : (es : List ℕ) → Distinct (nums b es) → In old es → Others b now es old → nums now (with_in_place old by es) ≡ nums b es
@@ -138,14 +143,10 @@ module _ (b now : List ℕ) (old by n : ℕ) (of_old : number b old aedr_num ≡
   ]
 
 -- without the one of a number
-rising_entries : (b es : List ℕ) → Rising 0 (entries_of b es)
-rising_entries b [] = Rising.none
-rising_entries b (e ∷ es) = rising_with 0 (number b e aedr_num) (entry_of b e) (entries_of b es) (omega arith) (rising_entries b es)
-
 pub none_numbered : (b es : List ℕ) (n : ℕ) → (In n (nums b es) → ⊥) → without n n (entries_of b es) ≡ entries_of b es
 none_numbered b [] n out = refl
 none_numbered b (e ∷ es) n out =
-    item_stays (number b e aedr_num) n 0 (entry_of b e) (entries_of b es) (λ q. out (inl (sym q))) (rising_entries b es) ∙ ap (with_item (number b e aedr_num) (entry_of b e)) (none_numbered b es n (λ i. out (inr i)))
+    item_stays (number b e aedr_num) n (entry_of b e) (entries_of b es) (λ q. out (inl (sym q))) (rising_entries b es) ∙ ap (with_item (number b e aedr_num) (entry_of b e)) (none_numbered b es n (λ i. out (inr i)))
 
 module _ (b now : List ℕ) (old n : ℕ) (of_old : number b old aedr_num ≡ n) where
   pub entries_left : (es : List ℕ) → Distinct (nums b es) → In old es → Others b now es old → entries_of now (left_of old es) ≡ without n n (entries_of b es)
@@ -155,14 +156,14 @@ module _ (b now : List ℕ) (old n : ℕ) (of_old : number b old aedr_num ≡ n)
         let out : In (number b old aedr_num) (nums b es) → ⊥ = subst (λ (x : ℕ). In (number b x aedr_num) (nums b es) → ⊥) q d.0 in
         let same = entries_live b now es (λ m j. live m (inr j) (not_behind b es old m out j)) in
         let first : entries_of b (e ∷ es) ≡ with_item n (entry_of b e) (entries_of b es) = ap (λ (k : ℕ). with_item k (entry_of b e) (entries_of b es)) (ap (λ (x : ℕ). number b x aedr_num) q ∙ of_old) in
-        rw (eq-eqb e old q) (same ∙ sym (none_numbered b es n (subst (λ (x : ℕ). In x (nums b es) → ⊥) of_old out)) ∙ sym (item_gone n (entry_of b e) (entries_of b es)) ∙ ap (without n n) (sym first))
+        rw (eq-eqb e old q) (same ∙ sym (none_numbered b es n (subst (λ (x : ℕ). In x (nums b es) → ⊥) of_old out)) ∙ sym (item_gone n (entry_of b e) (entries_of b es) (rising_entries b es)) ∙ ap (without n n) (sym first))
     | inr ne ↦
         let there : In old es = elim i [ inl q ↦ absurd (ne (sym q)) | inr j ↦ j ] in
         let here = live e (inl refl) ne in
         let num = here.num in
         let meant = here.meant in
         let rest = entries_left es d.1 there (λ m j. live m (inr j)) in
-        rw (ne_eqb e old ne) ((λ k. with_item (num k) (meant k) (rest k)) ∙ sym (item_stays (number b e aedr_num) n 0 (entry_of b e) (entries_of b es) (no_other b es e old n of_old there d.0) (rising_entries b es)))
+        rw (ne_eqb e old ne) ((λ k. with_item (num k) (meant k) (rest k)) ∙ sym (item_stays (number b e aedr_num) n (entry_of b e) (entries_of b es) (no_other b es e old n of_old there d.0) (rising_entries b es)))
   ]
 
   pub nums_left : (es : List ℕ) → Distinct (nums b es) → In old es → Others b now es old → Distinct (nums now (left_of old es)) × ((k : ℕ) → In k (nums now (left_of old es)) → In k (nums b es))

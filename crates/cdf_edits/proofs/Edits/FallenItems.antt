@@ -3,7 +3,7 @@ use Rattle.std.proofs.Common.{◌≡◌, ◌≢◌, ℕ, ◌+◌, ◌-◌, ◌<�
 use Rattle.cdf_edits.proofs.Common.{cases_lt, lt-ltb, le-ltb, ne_eqb, nat_lt, if◌then◌else◌, with_item, without, closed_up, entry_of, number, aedr_num, In, Distinct, fallen}
 use Rattle.cdf_format.specs.Content.{entries_of}
 use Rattle.cdf_edits.proofs.Edits.ChainEntries.{nums, none_numbered}
-use Rattle.cdf_edits.proofs.Edits.NumberedItems.{Order, Below, Equal, Above, order}
+use Rattle.cdf_edits.proofs.Edits.NumberedItems.{before_first, at_first, behind_first, Order, Below, Equal, Above, order}
 
 -- ---- numbers
 
@@ -54,32 +54,23 @@ module _ {A : Type 0} (num : ℕ) where
   NoneOf [] = Unit {0}
   NoneOf ((k, c) ∷ rest) = (k ≢ num) × NoneOf rest
 
-  put_before : (n : ℕ) (a : A) (m : ℕ) (c : A) (rest : List (ℕ × A)) → n < m → with_item n a ((m, c) ∷ rest) ≡ (n, a) ∷ (m, c) ∷ rest
-  put_before n a m c rest lt = rw (lt-ltb n m lt) refl
-
-  put_at : (n : ℕ) (a : A) (m : ℕ) (c : A) (rest : List (ℕ × A)) → n ≡ m → with_item n a ((m, c) ∷ rest) ≡ (n, a) ∷ rest
-  put_at n a m c rest e = rw (le-ltb n m (omega arith), eq-eqb n m e) refl
-
-  put_behind : (n : ℕ) (a : A) (m : ℕ) (c : A) (rest : List (ℕ × A)) → m < n → with_item n a ((m, c) ∷ rest) ≡ (m, c) ∷ with_item n a rest
-  put_behind n a m c rest lt = rw (le-ltb n m (omega arith), ne_eqb n m (λ e. absurd (omega arith))) refl
-
   none_with : (n : ℕ) (a : A) (items : List (ℕ × A)) → n ≢ num → NoneOf items → NoneOf (with_item n a items)
   none_with n a [] ne none = (ne, tt)
   none_with n a (item ∷ rest) ne none = by item.0 item.1 none (none_with n a rest ne none.1) (order n item.0)
     where
       by : (k : ℕ) (c : A) → (k ≢ num) × NoneOf rest → NoneOf (with_item n a rest) → Order n k → NoneOf (with_item n a ((k, c) ∷ rest))
-      by k c o so (Below p) = subst NoneOf (sym (put_before n a k c rest p)) (ne, o)
-      by k c o so (Equal p) = subst NoneOf (sym (put_at n a k c rest p)) (ne, o.1)
-      by k c o so (Above p) = subst NoneOf (sym (put_behind n a k c rest p)) (o.0, so)
+      by k c o so (Below p) = subst NoneOf (sym (before_first n a k c rest p)) (ne, o)
+      by k c o so (Equal p) = subst NoneOf (sym (at_first n a k c rest p)) (ne, o.1)
+      by k c o so (Above p) = subst NoneOf (sym (behind_first n a k c rest p)) (o.0, so)
 
   fallen_with : (n : ℕ) (a : A) (items : List (ℕ × A)) → n ≢ num → NoneOf items → fallen_items (with_item n a items) ≡ with_item (fallen num n) a (fallen_items items)
   fallen_with n a [] ne none = refl
   fallen_with n a (item ∷ rest) ne none = by item.0 item.1 none (fallen_with n a rest ne none.1) (order n item.0)
     where
       by : (k : ℕ) (c : A) → (k ≢ num) × NoneOf rest → fallen_items (with_item n a rest) ≡ with_item (fallen num n) a (fallen_items rest) → Order n k → fallen_items (with_item n a ((k, c) ∷ rest)) ≡ with_item (fallen num n) a (fallen_items ((k, c) ∷ rest))
-      by k c o so (Below p) = ap fallen_items (put_before n a k c rest p) ∙ sym (put_before (fallen num n) a (fallen num k) c (fallen_items rest) (fallen_less num n k ne o.0 p))
-      by k c o so (Equal p) = ap fallen_items (put_at n a k c rest p) ∙ sym (put_at (fallen num n) a (fallen num k) c (fallen_items rest) (ap (fallen num) p))
-      by k c o so (Above p) = ap fallen_items (put_behind n a k c rest p) ∙ ap (λ (x : List (ℕ × A)). (fallen num k, c) ∷ x) so ∙ sym (put_behind (fallen num n) a (fallen num k) c (fallen_items rest) (fallen_less num k n o.0 ne p))
+      by k c o so (Below p) = ap fallen_items (before_first n a k c rest p) ∙ sym (before_first (fallen num n) a (fallen num k) c (fallen_items rest) (fallen_less num n k ne o.0 p))
+      by k c o so (Equal p) = ap fallen_items (at_first n a k c rest p) ∙ sym (at_first (fallen num n) a (fallen num k) c (fallen_items rest) (ap (fallen num) p))
+      by k c o so (Above p) = ap fallen_items (behind_first n a k c rest p) ∙ ap (λ (x : List (ℕ × A)). (fallen num k, c) ∷ x) so ∙ sym (behind_first (fallen num n) a (fallen num k) c (fallen_items rest) (fallen_less num k n o.0 ne p))
 
   -- what is closed up is what falls, once the one of the number is gone
   pub closed_falls : (items : List (ℕ × A)) → closed_up num num items ≡ fallen_items (without num num items)

@@ -1,8 +1,8 @@
 -- The records of leaves in order, by their numbers: which record has a number, and that the numbers rise.
 use Rattle.std.proofs.Common.{◌≡◌, ◌⊎◌, ℕ, ℤ, pos, zero, suc, ◌+◌, ◌-◌, ◌*◌, ◌^◌, ◌<◌, ◌≤◌, List, [], ◌∷◌, ◌++◌, map, take, drop, true, false, Option, Some, None, ltb, leb, refl, sym, ap, subst, ◌∙◌, arith, inl, inr}
-use Rattle.cdf_edits.proofs.Common.{cases_eq, cases_lt, le-leb, lt-leb, nat_tests, drop-drop, -ℤ_one, enumerate_from, flat_map, option_map, find, ◌-ℤ◌, parts, turned, extent, record_number_limit, item_at, plain_bytes, leaf_records, records_in, with_sign, counted, Leaf, is_little, counted4, number_before, type_of_variable, record_bytes, max_rec_at, records_of_leaf, either, range, covers, stored_bytes}
+use Rattle.cdf_edits.proofs.Common.{lt-ltb, le-ltb, cases_eq, cases_lt, le-leb, lt-leb, nat_tests, drop-drop, -ℤ_one, enumerate_from, flat_map, option_map, find, ◌-ℤ◌, parts, turned, extent, record_number_limit, item_at, plain_bytes, leaf_records, records_in, with_sign, counted, Leaf, is_little, counted4, number_before, type_of_variable, record_bytes, max_rec_at, records_of_leaf, either, range, covers, stored_bytes}
 use Rattle.cdf_edits.proofs.Edits.NumberedItems.{Rising, none, one}
-use Rattle.cdf_edits.proofs.Edits.NumberedLookup.{item_here, item_later, none_below, below, rising_below, item_below, none_past}
+use Rattle.cdf_edits.proofs.Edits.NumberedLookup.{item_here, item_later, none_below, those, rising_those, item_those, none_those}
 
 -- each has records from a number on and before another, and the leaves ascend
 abbrev pub Ascending : ℕ → ℕ → List Leaf → Type 0
@@ -143,11 +143,11 @@ module _ (b : List ℕ) (vdr : ℕ) where
     abbrev most : ℕ
     most = extent (max_rec_at b vdr)
 
-    are_below : records_in b vdr leaves ≡ below most all
-    are_below = ap (below most) (as_runs 0 leaves a)
+    are_below : records_in b vdr leaves ≡ those (λ (n : ℕ). ltb n most) all
+    are_below = ap (those (λ (n : ℕ). ltb n most)) (as_runs 0 leaves a)
 
     pub rising_records : Rising 0 (records_in b vdr leaves)
-    rising_records = subst (Rising 0) (sym are_below) (rising_below most 0 all (rising_runs turn n (plain_bytes b vdr) 0 (suc record_number_limit) leaves a))
+    rising_records = subst (Rising 0) (sym are_below) (rising_those (λ (n : ℕ). ltb n most) 0 all (rising_runs turn n (plain_bytes b vdr) 0 (suc record_number_limit) leaves a))
 
     found : (k : ℕ) (o : Option Leaf) → option_map (piece turn n (plain_bytes b vdr) k) o ≡ option_map turn (option_map (λ (l : Leaf). take n (drop ((k - l.first) * n) (plain_bytes b vdr l))) o)
     found k None = refl
@@ -156,9 +156,9 @@ module _ (b : List ℕ) (vdr : ℕ) where
     -- a record up to MaxRec is what is stored of it
     pub record_is : (k : ℕ) → k < most → item_at k (records_in b vdr leaves) ≡ option_map turn (stored_bytes b vdr n leaves k)
     record_is k lt =
-        ap (item_at k) are_below ∙ item_below most k all lt ∙ item_among turn n (plain_bytes b vdr) k 0 (suc record_number_limit) leaves a
+        ap (item_at k) are_below ∙ item_those (λ (n : ℕ). ltb n most) k all (lt-ltb k most lt) ∙ item_among turn n (plain_bytes b vdr) k 0 (suc record_number_limit) leaves a
         ∙ found k (find (λ (l : Leaf). covers k (range l.first l.last)) leaves)
 
     -- none is past it
     pub record_past : (k : ℕ) → most ≤ k → item_at k (records_in b vdr leaves) ≡ None
-    record_past k le = ap (item_at k) are_below ∙ none_past most k all le
+    record_past k le = ap (item_at k) are_below ∙ none_those (λ (n : ℕ). ltb n most) k all (le-ltb k most le)
