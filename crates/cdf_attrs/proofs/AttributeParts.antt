@@ -1,11 +1,10 @@
 -- An attribute of an image, with those before it and those after it; and an image in which one of its chains is another.
 use Rattle.std.proofs.Common.{◌≡◌, ℕ, zero, suc, ◌+◌, List, [], ◌∷◌, ◌++◌, length, map, Some, refl, sym, ap, ap₂, ◌∙◌, arith}
-use Rattle.cdf_attrs.proofs.Common.{slice_get_within, map-append, map-set, slice_get, slice_set, EntryKind, with_entries, Attribute, DataSet, Entry, attribute_names, content, attribute_of, adrs_rows, count_rows, r_vdrs_rows, z_vdrs_rows, number, gdr_offset, adr_num, gdr_num_attr, Hold, AttributeShape, Shape, adrs, shape, vdrs, IsSound, Good, good_by_its_shape, good_is_sound, Hold-split, content_is, eq_of, entries_chain, with_chain, Mark, members_of, chain_now, adr_of, members_are, Rechains, of_shape, shape_now, IsAttributeAt, got-map, got-middle}
+use Rattle.cdf_attrs.proofs.Common.{same_Some, slice_get_within, map-append, map-set, slice_get, slice_set, EntryKind, with_entries, Attribute, DataSet, Entry, attribute_names, content, attribute_of, adrs_rows, count_rows, r_vdrs_rows, z_vdrs_rows, number, gdr_offset, adr_num, gdr_num_attr, Hold, AttributeShape, Shape, adrs, shape, vdrs, IsSound, Good, good_by_its_shape, good_is_sound, Hold-split, content_is, eq_of, entries_chain, with_chain, Mark, members_of, chain_now, adr_of, members_are, Rechains, of_shape, shape_now, IsAttributeAt, got-map, got-middle}
 use Rattle.cdf_model.specs.declared.kinds.EntryKind.TheVariants as entries
 use Rattle.cdf_format.specs.Content.{entries_of as chain_items}
 use Rattle.cdf_format.specs.ChainRules.{number_rows}
 use Rattle.cdf_edits.proofs.Commands.ListParts.{cut}
-use Rattle.std.proofs.lemmas.Option.{same_Some}
 use Rattle.cdf_edits.proofs.Edits.ChainSpliced.{made, splices, now_is, content_rechained}
 
 -- ---- the parts

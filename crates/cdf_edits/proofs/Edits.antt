@@ -49,13 +49,11 @@ pub mod PutEntry
 pub mod RecordFrame
 pub mod RemovalCalls
 pub mod RemovedAttribute
-pub mod RemovedLives
 pub mod RemovedVariable
 pub mod AttributeRemains
 pub mod Splice
 pub mod StepEdits
 pub mod TakenVariable
-pub mod UnlinkedAttribute
 pub mod UnlinkedVariable
 pub mod VariableCopied
 pub mod VariableDeleted

@@ -1,12 +1,11 @@
 -- An attribute that stays but for the link to the next one and for its number, which its entries say: it means what it meant, and keeps its rules.
-use Rattle.std.proofs.Common.{◌≡◌, ℕ, ◌+◌, ◌*◌, ◌≤◌, List, [], ◌∷◌, ◌++◌, length, map, Bool, true, not, is_some, ◌&&◌, eq-eqb, refl, sym, ap, subst, ◌∙◌, arith, inl, inr}
-use Rattle.cdf_edits.proofs.Common.{◌==◌, nat_le, w32, cast_signed, before_first, flat_map, unwrap_or, DataType, Byte, turned, Entry, record_number_limit, with_item, record_limit, size_of, type_of, entry_bytes, entry_rows, same_number, entries_rows, has_value, Same, differ_rows, is_linkable, Leads, IsChain, scope_of, entry_of, number, is_positive, name_in, size_at, attribute_shape_rows, Field, adr_agr_edr_head, adr_az_edr_head, adr_scope, adr_num, adr_name, adr_ngr_entries, adr_nz_entries, aedr_attr_num, aedr_data_type, aedr_num, aedr_num_elems, aedr_value, adr_type, agr_edr_type, az_edr_type, Hold, AttributeShape, Shape, Each, HasEntries, EntryFits, AttributeFits, IsSound, field_bytes, is_little, data_type_in, In, word_kept, piece_kept, linkable-from, linkable-in, linkable-type, linkable-long, In-append_left, In-append_right, Same-part, eq_of, names_at, Hold-append, Hold-split, Edit, Mark, AttributeStays}
+use Rattle.std.proofs.Common.{◌≡◌, ℕ, ◌+◌, ◌≤◌, List, [], ◌∷◌, ◌++◌, length, true, not, ◌&&◌, eq-eqb, refl, sym, ap, subst, ◌∙◌, arith, inl, inr}
+use Rattle.cdf_edits.proofs.Common.{◌==◌, nat_le, before_first, flat_map, record_number_limit, with_item, entry_bytes, entry_rows, same_number, entries_rows, Same, differ_rows, is_linkable, Leads, IsChain, scope_of, number, name_in, size_at, attribute_shape_rows, Field, adr_agr_edr_head, adr_az_edr_head, adr_scope, adr_num, adr_name, adr_ngr_entries, adr_nz_entries, aedr_attr_num, aedr_num, adr_type, agr_edr_type, az_edr_type, Hold, AttributeShape, Shape, Each, HasEntries, EntryFits, AttributeFits, IsSound, In, word_kept, piece_kept, linkable-from, linkable-in, linkable-type, linkable-long, In-append_left, In-append_right, Same-part, eq_of, Hold-append, Hold-split, Edit, Mark, AttributeStays}
 use Rattle.cdf_format.specs.Content.{entries_of}
 use Rattle.cdf_edits.proofs.Edits.StepEdits.{fixed_long}
 use Rattle.cdf_edits.proofs.Frame.LinksStay.{leads_same}
 use Rattle.cdf_edits.proofs.Frame.Meaning.{FileSame, EntryMeans, entry_means, long_entry}
 use Rattle.cdf_edits.proofs.Rules.OfAttributes.{differ_same}
-
 
 -- an entry stays but for the number of its attribute
 pub record EntryLasts (b now : List ℕ) (m : ℕ) : Type 0 where

@@ -1,6 +1,6 @@
 -- Entries of a chain: what of them stays where their bytes do, that their numbers differ, and what they mean where one is added to the chain, replaced in it, or goes.
-use Rattle.std.proofs.Common.{◌≡◌, ◌≢◌, ℕ, ℤ, ◌+◌, ◌*◌, ◌≤◌, List, [], ◌∷◌, ◌++◌, map, Bool, true, false, not, is_some, ◌&&◌, ◌||◌, eq-eqb, refl, sym, ap, ap₂, subst, ◌∙◌, append_assoc, append-nil, arith, inl, inr}
-use Rattle.cdf_edits.proofs.Common.{cases_eq, ne_eqb, map-append, list_any, unwrap_or, ◌==◌, nat_le, DataType, Byte, turned, Entry, record_number_limit, with_item, without, record_limit, size_of, type_of, entry_bytes, has_value, entry_rows, same_number, differ_rows, is_in, entry_of, is_positive, number, size_at, adr_num, aedr_attr_num, aedr_data_type, aedr_num, aedr_num_elems, aedr_value, row, Hold, EntryFits, field_bytes, is_little, data_type_in, In, Distinct, Distinct-push, Distinct-middle, is_in-true, is_in-false, not_false, with_in_place}
+use Rattle.std.proofs.Common.{◌≡◌, ◌≢◌, ℕ, List, [], ◌∷◌, ◌++◌, map, Bool, true, false, not, ◌||◌, eq-eqb, refl, sym, ap, ap₂, subst, ◌∙◌, append_assoc, append-nil, arith, inl, inr}
+use Rattle.cdf_edits.proofs.Common.{cases_eq, ne_eqb, map-append, list_any, ◌==◌, nat_le, record_number_limit, with_item, without, entry_bytes, has_value, entry_rows, same_number, differ_rows, is_in, entry_of, number, size_at, adr_num, aedr_attr_num, aedr_num, row, Hold, EntryFits, In, Distinct, Distinct-push, Distinct-middle, is_in-true, is_in-false, not_false, with_in_place}
 use Rattle.cdf_format.specs.Content.{entries_of}
 use Rattle.cdf_edits.specs.Space.Chains.{without as left_of}
 use Rattle.cdf_edits.proofs.Edits.NumberedItems.{Rising, rising_with}

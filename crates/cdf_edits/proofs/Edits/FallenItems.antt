@@ -1,6 +1,6 @@
 -- Items by their numbers, and entries of a chain, where the numbers that are greater than one fall by one: they are closed up behind that one.
-use Rattle.std.proofs.Common.{◌≡◌, ◌≢◌, ℕ, ◌+◌, ◌-◌, ◌<◌, ◌≤◌, List, [], ◌∷◌, map, eq-eqb, refl, sym, ap, ap₂, subst, ◌∙◌, arith, inl, inr}
-use Rattle.cdf_edits.proofs.Common.{cases_lt, lt-ltb, le-ltb, ne_eqb, nat_lt, if◌then◌else◌, with_item, without, closed_up, entry_of, number, aedr_num, In, Distinct, fallen}
+use Rattle.std.proofs.Common.{◌≡◌, ◌≢◌, ℕ, ◌+◌, ◌-◌, ◌<◌, ◌≤◌, List, [], ◌∷◌, map, refl, sym, ap, ap₂, subst, ◌∙◌, arith, inl, inr}
+use Rattle.cdf_edits.proofs.Common.{cases_lt, lt-ltb, le-ltb, nat_lt, if◌then◌else◌, with_item, without, closed_up, entry_of, number, aedr_num, In, Distinct, fallen}
 use Rattle.cdf_format.specs.Content.{entries_of}
 use Rattle.cdf_edits.proofs.Edits.ChainEntries.{nums, none_numbered}
 use Rattle.cdf_edits.proofs.Edits.NumberedItems.{before_first, at_first, behind_first, Order, Below, Equal, Above, order}

@@ -1,7 +1,7 @@
 -- A member of a chain of the GDR that leaves it: the count falls, fields of those behind are written, and then others of the GDR.
 use Rattle.std.proofs.Common.{◌≡◌, ◌≢◌, ℕ, ◌+◌, ◌^◌, ◌<◌, ◌≤◌, List, [], ◌∷◌, ◌++◌, length, true, eq-eqb, refl, sym, ap, subst, ◌∙◌, arith, inl, inr}
-use Rattle.cdf_edits.proofs.Common.{Covered, touched_field, Field, is_linkable, fixed_size, linkable-in, linkable-type, eqb-true, ◌==◌, if◌then◌else◌, Same, IsChain, number, size_at, type_at, gdr_offset, with_field, gdr_uir_head, gdr_type, uir_type, Shape, Each, HasShape, IsSound, In, AreTiles, Distinct, Distinct-middle, either, length-with_field, Edit, Mark, avoided, keeps_file, field_marks, removing_marks, Write, write, with_writes, holder_of, head_of, count_of, type_in, Removed, Chain}
-use Rattle.cdf_edits.specs.Space.Chains.{before as front_of, without}
+use Rattle.cdf_edits.proofs.Common.{Covered, touched_field, Field, is_linkable, fixed_size, linkable-in, linkable-type, eqb-true, ◌==◌, Same, IsChain, number, size_at, type_at, gdr_offset, with_field, gdr_uir_head, gdr_type, uir_type, Shape, Each, HasShape, IsSound, In, AreTiles, Distinct, Distinct-middle, either, length-with_field, Edit, Mark, avoided, keeps_file, field_marks, removing_marks, Write, write, with_writes, holder_of, head_of, count_of, type_in, Removed, Chain}
+use Rattle.cdf_edits.specs.Space.Chains.{without}
 use Rattle.cdf_edits.proofs.Edits.ChainsOfShape.{IsOf, remove_changed, left_chain}
 use Rattle.cdf_edits.proofs.Edits.Composing.{head_size, head_type, edit_then}
 use Rattle.cdf_edits.proofs.Edits.RecordFrame.{chain_clear, field_clear, gdr_place, through}

@@ -1,6 +1,6 @@
 -- Items by their numbers, which rise; and what becomes of them where one is put in.
-use Rattle.std.proofs.Common.{◌≡◌, ◌≢◌, ◌⊎◌, ℕ, ◌+◌, ◌<◌, ◌≤◌, List, [], ◌∷◌, false, eq-eqb, refl, sym, ap, subst, ◌∙◌, arith, inl, inr}
-use Rattle.cdf_edits.proofs.Common.{cases_eq, cases_lt, lt-ltb, le-ltb, ne_eqb, le-leb, lt-leb, ◌&&◌, nat_le, with_item, without}
+use Rattle.std.proofs.Common.{◌≡◌, ℕ, ◌+◌, ◌<◌, ◌≤◌, List, [], ◌∷◌, eq-eqb, refl, sym, subst, arith, inl, inr}
+use Rattle.cdf_edits.proofs.Common.{cases_eq, cases_lt, lt-ltb, le-ltb, ne_eqb, with_item}
 
 -- ---- an item that is put in
 

@@ -28,9 +28,11 @@ module _ {A : Type 0} (place : A → ℕ) (num : Field) (others : A → List ℕ
   -- what holds of each that is written
   pub each_numbered : (P : Write → Type 0) (n top : ℕ) (xs : List A) → n + length xs ≤ top → ((m k : ℕ) → In m (map place xs) → k < top → P (write m num k)) → ((m k : ℕ) → In m (flat_map others xs) → k < top → P (write m said k)) → Each P (numbering n xs)
   each_numbered P n top [] l one other = tt
-  each_numbered P n top (x ∷ more) l one other =
-      (one (place x) n (inl refl) (omega arith), Each-append P (rest n x) (numbering (suc n) more)
-      (each (others x) (λ m i. In-append_left m (others x) (flat_map others more) i)) (each_numbered P (suc n) top more (omega arith) (λ m k i. one m k (inr i)) (λ m k i. other m k (In-append_right m (others x) (flat_map others more) i))))
+  each_numbered P n top (x ∷ more) l one other = (
+    one (place x) n (inl refl) (omega arith),
+    Each-append P (rest n x) (numbering (suc n) more)
+        (each (others x) (λ m i. In-append_left m (others x) (flat_map others more) i)) (each_numbered P (suc n) top more (omega arith) (λ m k i. one m k (inr i)) (λ m k i. other m k (In-append_right m (others x) (flat_map others more) i))),
+  )
     where
       each : (ms : List ℕ) → ((m : ℕ) → In m ms → In m (flat_map others (x ∷ more))) → Each P (map (λ m. write m said n) ms)
       each [] sub = tt

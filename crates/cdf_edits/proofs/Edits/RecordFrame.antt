@@ -1,9 +1,8 @@
 -- What an edit leaves: decided by the types of its marks.
-use Rattle.std.proofs.Common.{◌≡◌, ℕ, ◌+◌, ◌*◌, ◌≤◌, List, [], ◌∷◌, ◌++◌, length, true, not, sym, ap, subst, ◌∙◌, arith, inl, inr}
-use Rattle.cdf_edits.proofs.Common.{w32, cast_signed, before_first, ◌==◌, ◌&&◌, if◌then◌else◌, AttributeFits, NodeFits, VariableFits, IsSound, FileStays, AttributeStays, VariableStays, Same, is_linkable, next_field, Leads, IsChain, scope_of, words, counted, number, name_in, size_at, type_at, gdr_offset, encoding, r_num_dims, r_sizes, nodes_of, leaves_of, Field, cdr_gdr_offset, cdr_encoding, cdr_flags, cdr_release, cdr_increment, adr_agr_edr_head, adr_scope, adr_az_edr_head, adr_name, vdr_vxr_head, cdr_type, gdr_type, adr_type, agr_edr_type, az_edr_type, Hold, AttributeShape, VariableShape, Shape, cpr_of, HasEntries, HasVariable, HasShape, attribute_shape_rows, variable_records, In, Same-part, word_kept, words_kept, piece_kept, number_kept, integer_kept, next_kept, size_kept, type_kept, is_a-in, is_a-type, linkable-from, linkable-in, linkable-type, linkable-long, In-append_left, In-append_right, both, tile_lies, Mark, Avoids, Away, avoided, ended, unmarked, keeps_file, Edit}
+use Rattle.std.proofs.Common.{◌≡◌, ℕ, ◌+◌, ◌*◌, ◌≤◌, List, [], ◌∷◌, ◌++◌, length, true, sym, ap, subst, ◌∙◌, arith, inl, inr}
+use Rattle.cdf_edits.proofs.Common.{w32, cast_signed, ◌&&◌, if◌then◌else◌, NodeFits, VariableFits, IsSound, FileStays, VariableStays, Same, next_field, Leads, IsChain, words, counted, number, size_at, type_at, gdr_offset, encoding, r_num_dims, r_sizes, nodes_of, leaves_of, Field, cdr_gdr_offset, cdr_encoding, cdr_flags, cdr_release, cdr_increment, vdr_vxr_head, cdr_type, gdr_type, AttributeShape, VariableShape, Shape, cpr_of, HasVariable, HasShape, variable_records, In, Same-part, word_kept, words_kept, number_kept, integer_kept, next_kept, size_kept, type_kept, is_a-in, is_a-type, linkable-from, linkable-in, linkable-type, linkable-long, In-append_left, In-append_right, both, tile_lies, Mark, Avoids, Away, avoided, ended, unmarked, keeps_file, Edit}
 use Rattle.cdf_edits.proofs.Frame.OwnerAlone.{Each-in, little_code}
-use Rattle.cdf_edits.proofs.Rules.OfAttributes.{attribute_rules_kept}
-use Rattle.cdf_edits.proofs.Frame.Meaning.{FileSame, Kept, KeptButLink, late_size, late_type, late_number, entries_kept}
+use Rattle.cdf_edits.proofs.Frame.Meaning.{FileSame, Kept, KeptButLink, late_size, late_type}
 use Rattle.cdf_edits.proofs.Frame.VdrCopied.{cpr_link_copied, index_link_copied}
 use Rattle.cdf_edits.proofs.Frame.VdrKept.{vdr_kept, variable_kept, compressed_same}
 use Rattle.cdf_edits.proofs.Frame.LinksStay.{SameHeads, leads_same, index_kept}

@@ -1,5 +1,5 @@
 -- The rules on the numbers of the records of a chain of which one goes: those behind it have numbers less by one.
-use Rattle.std.proofs.Common.{◌≡◌, ℕ, suc, ◌+◌, List, [], ◌∷◌, ◌++◌, length, eq-eqb, refl, ap, subst, ◌∙◌, arith, inl, inr}
+use Rattle.std.proofs.Common.{◌≡◌, ℕ, suc, ◌+◌, List, [], ◌∷◌, ◌++◌, length, eq-eqb, refl, ap, ◌∙◌, arith, inl, inr}
 use Rattle.cdf_edits.proofs.Common.{◌==◌, number_rows, number, Field, Hold, In}
 
 -- records have the numbers from one on

@@ -1,6 +1,6 @@
 -- An image from which one variable went has its shape, its content and its rules.
-use Rattle.std.proofs.Common.{◌≡◌, ◌⊎◌, ℕ, suc, ◌+◌, ◌≤◌, List, [], ◌∷◌, ◌++◌, length, map, true, eq-eqb, refl, sym, ap, subst, ◌∙◌, arith, inl, inr}
-use Rattle.cdf_edits.proofs.Common.{length-map, map-append, flat_map, remove, ◌==◌, DataSet, Variable, image_limit, variables_of, with_variables, Kind, R, Z, number_rows, is_in, IsChain, content, variable_of, number, size_at, type_at, gdr_offset, eof, read_types, OwnedOnce, variable_records, times, owned_records, unused_records, first_phases, gdr_uir_head, vdr_num, gdr_type, r_vdr_type, z_vdr_type, uir_type, is_record_type, fixed_size, Hold, AllHold, sealed, VariableShape, Shape, vdrs, Each, HasShape, IsSound, In, Distinct, Good, linkable-in, linkable-type, IsGoodByShape, vdrs_append, In-append, In-append_left, In-append_right, times-none, content_is, tile_lies, shapes_of, Edit, wholes, Mark, Avoids, Confined, avoided, unmarked, index_types, keeps_file, variable_removing_marks, head_of, count_of, type_in, variables_chain}
+use Rattle.std.proofs.Common.{◌≡◌, ◌⊎◌, ℕ, ◌+◌, ◌≤◌, List, [], ◌∷◌, ◌++◌, length, true, eq-eqb, refl, sym, ap, subst, ◌∙◌, arith, inl, inr}
+use Rattle.cdf_edits.proofs.Common.{length-map, flat_map, remove, DataSet, Variable, image_limit, variables_of, with_variables, Kind, R, Z, is_in, IsChain, content, variable_of, number, size_at, type_at, gdr_offset, eof, read_types, variable_records, times, owned_records, first_phases, gdr_uir_head, vdr_num, gdr_type, r_vdr_type, z_vdr_type, uir_type, is_record_type, fixed_size, Hold, AllHold, sealed, VariableShape, Shape, vdrs, Each, HasShape, IsSound, In, Distinct, Good, linkable-in, linkable-type, IsGoodByShape, vdrs_append, In-append_left, In-append_right, content_is, tile_lies, shapes_of, Edit, wholes, Mark, Avoids, Confined, avoided, unmarked, index_types, keeps_file, variable_removing_marks, head_of, count_of, type_in, variables_chain}
 use Rattle.cdf_edits.proofs.Commands.ListParts.{map-without}
 use Rattle.cdf_edits.proofs.Edits.MarkLemmas.{avoids-of_type, confined-away, unmarked-away}
 use Rattle.cdf_edits.proofs.Edits.LeftOwners.{Left, owned_left}

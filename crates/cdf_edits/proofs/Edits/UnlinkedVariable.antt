@@ -1,17 +1,13 @@
 -- A variable that is taken out of the chain, counted no more, and those behind it numbered anew: the image is sound, and its VDR has no owner.
-use Rattle.std.proofs.Common.{◌≡◌, ◌≢◌, ℕ, ℤ, suc, ◌+◌, ◌^◌, ◌<◌, ◌≤◌, List, [], ◌∷◌, ◌++◌, length, true, eq-eqb, refl, sym, ap, subst, ◌∙◌, arith, inl, inr}
-use Rattle.cdf_edits.proofs.Common.{flat_map, filter, ◌==◌, if◌then◌else◌, Kind, R, Z, Same, IsChain, number, size_at, type_at, gdr_offset, with_field, variable_records, times, owned_records, unused_records, Field, gdr_uir_head, vdr_num, gdr_type, uir_type, VariableShape, Shape, vdrs, Each, HasShape, shape, IsSound, In, AreTiles, Distinct, Good, vdrs_append, good_is_sound, Distinct-back, Distinct-middle, shape_is, length-with_field, shapes_of, freed_with_variable, Edit, freeing_marks, Among, Mark, mark, all_unmarked, avoided, keeps_file, field_marks, index_types, removing_marks, UnlinksVariable, numbers_on, r_max_writes, greatest_at, variable_unlinking_marks, variable_removing_marks, Write, write, with_writes, links_end, holder_of, head_of, count_of, type_in, AreFree, variables_chain}
+use Rattle.std.proofs.Common.{◌≡◌, ℕ, ℤ, suc, ◌+◌, ◌≤◌, List, [], ◌∷◌, ◌++◌, length, true, refl, sym, ap, subst, ◌∙◌, arith, inl, inr}
+use Rattle.cdf_edits.proofs.Common.{flat_map, Kind, R, Z, Same, IsChain, number, size_at, type_at, gdr_offset, variable_records, vdr_num, gdr_type, uir_type, VariableShape, Shape, vdrs, Each, HasShape, shape, IsSound, In, Distinct, Good, vdrs_append, good_is_sound, Distinct-back, shape_is, shapes_of, freed_with_variable, Edit, freeing_marks, Among, Mark, mark, all_unmarked, index_types, UnlinksVariable, numbers_on, r_max_writes, greatest_at, variable_unlinking_marks, variable_removing_marks, Write, write, with_writes, links_end, holder_of, head_of, count_of, type_in, AreFree, variables_chain}
 use Rattle.cdf_edits.specs.Edits.RemovesVariable.{r_max_marks}
-use Rattle.cdf_edits.specs.Space.Chains.{without}
-use Rattle.cdf_edits.proofs.Edits.ChainsOfShape.{IsOf, remove_changed, left_chain}
-use Rattle.cdf_edits.proofs.Edits.Composing.{head_size, head_type, edit_then}
 use Rattle.cdf_edits.proofs.Edits.FreedBytes.{behind_kept, behind_link}
 use Rattle.cdf_edits.proofs.Edits.FreedRecords.{edit_under}
 use Rattle.cdf_edits.proofs.Edits.MarkLemmas.{Avoids-split, all_unmarked-away}
-use Rattle.cdf_edits.proofs.Edits.OwnedOnce.{unused_none}
 use Rattle.cdf_edits.proofs.Edits.OwnVariable.{freed_mine, freed_once}
-use Rattle.cdf_edits.proofs.Edits.RecordFrame.{chain_clear, field_clear, gdr_place, kept_away, kept_but_link, through}
-use Rattle.cdf_edits.proofs.Edits.StepEdits.{Linked, gdr_in, gdr_typed, gdr_long, some_bytes, remove_edit}
+use Rattle.cdf_edits.proofs.Edits.RecordFrame.{kept_away, kept_but_link}
+use Rattle.cdf_edits.proofs.Edits.StepEdits.{gdr_in, gdr_typed, gdr_long}
 use Rattle.cdf_edits.proofs.Edits.TakenVariable.{least_size, Stands, TakesVariable, without_variable, vdr_there, back_in, own_in, own_stand, once, ours, vdr_avoids, vdr_record, vdrs_were, left_by, sound_taken}
 use Rattle.cdf_edits.proofs.Edits.NumbersBehind.{numbering as numbering_of, each_numbered, small_numbers, are_numbered}
 use Rattle.cdf_edits.proofs.Edits.LeftChain.{may_linked, LeavingTests, LeavesChain, left_edit, said_now, chain_now, list_now}
@@ -19,10 +15,8 @@ use Rattle.cdf_edits.proofs.Edits.LeftOwners.{not_twice, can_be_freed}
 use Rattle.cdf_edits.proofs.Edits.RowsOneLess.{AreNumbered}
 use Rattle.cdf_edits.proofs.Edits.VariableFrame.{index_typed}
 use Rattle.cdf_edits.proofs.Edits.VariableKept.{only_variable}
-use Rattle.cdf_edits.proofs.Edits.VariableKinds.{kind_chain, in_gdr}
-use Rattle.cdf_edits.proofs.Edits.WrittenFields.{MayWrite, written_tiles, may_after, write_lies, write_edit, writes_edit, writes_say}
-use Rattle.cdf_edits.proofs.Frame.OwnersApart.{owned-times, file_records, all_attribute_records, all_variable_records}
-use Rattle.cdf_edits.proofs.Space.UsedRecords.{filter-keeps}
+use Rattle.cdf_edits.proofs.Edits.VariableKinds.{kind_chain}
+use Rattle.cdf_edits.proofs.Edits.WrittenFields.{MayWrite, written_tiles}
 
 -- ---- by the kind
 
@@ -35,14 +29,8 @@ abbrev pub numbering : Kind → List ℕ → List Mark
 numbering kind behind = mark (type_in (variables_chain kind)) (Among behind) vdr_num ∷ []
 
 pub leaving_tests : (kind : Kind) (gdr : ℕ) (members behind : List ℕ) → LeavingTests (variables_chain kind) gdr members (numbering kind behind) (r_max_marks kind gdr)
-leaving_tests R gdr members behind = record {
-  head_later = omega arith; head_fits = omega arith; count_later = omega arith; count_fits = omega arith; count_width = refl; no_uir = λ e. absurd cc; no_gdr = λ e. absurd cc; in_gdr = λ b. refl;
-  first_file = refl; early_file = refl; later_start = refl; later_head = refl; later_links = refl; last_start = refl; last_count = refl; all_start = refl; all_list = refl; all_uir = refl;
-}
-leaving_tests Z gdr members behind = record {
-  head_later = omega arith; head_fits = omega arith; count_later = omega arith; count_fits = omega arith; count_width = refl; no_uir = λ e. absurd cc; no_gdr = λ e. absurd cc; in_gdr = λ b. refl;
-  first_file = refl; early_file = refl; later_start = refl; later_head = refl; later_links = refl; last_start = refl; last_count = refl; all_start = refl; all_list = refl; all_uir = refl;
-}
+leaving_tests R gdr members behind = record { head_later = omega arith; head_fits = omega arith; count_later = omega arith; count_fits = omega arith; count_width = refl; no_uir = λ e. absurd cc; no_gdr = λ e. absurd cc; in_gdr = λ b. refl; first_file = refl; early_file = refl; later_start = refl; later_head = refl; later_links = refl; last_start = refl; last_count = refl; all_start = refl; all_list = refl; all_uir = refl }
+leaving_tests Z gdr members behind = record { head_later = omega arith; head_fits = omega arith; count_later = omega arith; count_fits = omega arith; count_width = refl; no_uir = λ e. absurd cc; no_gdr = λ e. absurd cc; in_gdr = λ b. refl; first_file = refl; early_file = refl; later_start = refl; later_head = refl; later_links = refl; last_start = refl; last_count = refl; all_start = refl; all_list = refl; all_uir = refl }
 
 index_clear : (kind : Kind) (gdr : ℕ) (members behind : List ℕ) → all_unmarked (variable_unlinking_marks kind gdr members behind) index_types ≡ true
 index_clear R gdr members behind = refl
@@ -117,7 +105,6 @@ module _ {b mid : List ℕ} {kind : Kind} {before : List VariableShape} {own : V
     few = u.few;
     small = small_numbers (λ (v : VariableShape). v.vdr) vdr_num (λ (v : VariableShape). []) vdr_num (length before) after refl refl u.few;
   }
-
     where
       none_in : (vs : List VariableShape) (m : ℕ) → In m (flat_map (λ (v : VariableShape). []) vs) → ⊥
       none_in [] m i = absurd i

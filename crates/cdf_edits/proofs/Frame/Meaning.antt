@@ -1,6 +1,6 @@
 -- What records mean stays where their bytes do.
 use Rattle.std.proofs.Common.{◌≡◌, ℕ, ℤ, ◌+◌, ◌*◌, ◌≤◌, List, [], ◌∷◌, length, Bool, true, false, is_some, ◌&&◌, refl, sym, ap, subst, ◌∙◌, arith, inl, inr}
-use Rattle.cdf_edits.proofs.Common.{nat_le, record_limit, has_value, is_positive, if◌then◌else◌, w32, w64, cast_signed, unwrap_or, DataType, Byte, turned, Entry, with_item, size_of, type_of, Field, adr_name, adr_scope, aedr_data_type, aedr_num, aedr_num_elems, aedr_value, vdr_r_dim_vary, vdr_r_pad_value, vdr_z_dim_vary, vdr_z_pad_value, cvvr_c_size, counted, number, integer4, size_at, type_at, gdr_offset, r_num_dims, r_sizes, Same, In, field_bytes, is_little, data_type_in, AttributeShape, Each, entry_bytes, scope_of, entry_of, attribute_of, EntryFits, AttributeFits, Same-part, word_kept, piece_kept, number_kept, integer_kept, bytes_kept, name_kept, size_kept}
+use Rattle.cdf_edits.proofs.Common.{nat_le, record_limit, has_value, is_positive, if◌then◌else◌, w32, w64, cast_signed, unwrap_or, DataType, Byte, turned, Entry, with_item, size_of, type_of, Field, adr_name, adr_scope, aedr_data_type, aedr_num, aedr_num_elems, aedr_value, vdr_r_dim_vary, vdr_r_pad_value, vdr_z_dim_vary, vdr_z_pad_value, cvvr_c_size, counted, number, integer4, size_at, type_at, gdr_offset, r_num_dims, r_sizes, Same, In, field_bytes, is_little, data_type_in, AttributeShape, Each, entry_bytes, scope_of, entry_of, attribute_of, EntryFits, AttributeFits, Same-part, word_kept, piece_kept, number_kept, bytes_kept, name_kept}
 use Rattle.cdf_format.specs.Records.{cvvr_packed}
 use Rattle.cdf_format.specs.Stored.{packed_bytes}
 use Rattle.cdf_format.specs.Content.{entries_of}
