@@ -25,6 +25,7 @@ use Rattle.cdf_edits.specs.Commands.Attributes.{attributes_gdr_fields, del_attr_
 use Rattle.cdf_edits.proofs.Commands.Answered.{refused, gone_by_giving}
 use Rattle.cdf_edits.proofs.Commands.KeptRecords.{AllKeep-append}
 use Rattle.cdf_edits.proofs.Edits.OwnersKept.{stood, keeps_fields, keep_unused, keep_places, keep_file, keep_parts, all_keep, keeps_within}
+use Rattle.cdf_edits.proofs.Edits.VariableKinds.{attributes_counted}
 use Rattle.cdf_edits.proofs.Edits.VariableFrame.{variables_in, all_variables_kept}
 use Rattle.cdf_edits.proofs.Commands.ListParts.{got-middle, map-removed, removed-at, AtNumber, at_number}
 use Rattle.cdf_edits.proofs.Edits.ChainMembers.{IsAmong, members_chain}
@@ -329,11 +330,7 @@ module _ (b : List ℕ) (good : Good b) (places : List ℕ) (are : places ≡ ad
   is_of = record { holder_is = image_sound.has_shape.gdr_is; chain = image_sound.has_shape.attribute_chain }
 
   pub attributes_listed : Lists b Attrs places
-  attributes_listed =
-      let image = good_by_its_shape b good in
-      let p = Hold-split (adrs_rows b (adrs (shape b)) ++ r_vdrs_rows b (vdrs (shape b).r_variables)) (z_vdrs_rows b (vdrs (shape b).z_variables)) image.counting in
-      let q = Hold-split (adrs_rows b (adrs (shape b))) (r_vdrs_rows b (vdrs (shape b).r_variables)) p.0 in
-      lists image_sound.has_shape is_of tt are (eq_of (number b (gdr_offset b) gdr_num_attr) (length (adrs (shape b))) q.0.0 ∙ ap length (sym are))
+  attributes_listed = lists image_sound.has_shape is_of tt are (eq_of _ _ (attributes_counted (good_by_its_shape b good)).0 ∙ ap length (sym are))
 
   module _ (n : ℕ) (lt : n < length places) where
     abbrev pub own : AtNumber (λ (a : AttributeShape). a.adr) (shape b).attributes places n

@@ -1,12 +1,26 @@
 -- Numbers that the members of a chain get one after the other, and that other records of theirs say.
 use Rattle.std.proofs.Common.{◌≡◌, ℕ, suc, ◌+◌, ◌^◌, ◌<◌, ◌≤◌, List, [], ◌∷◌, ◌++◌, length, map, refl, sym, ap, subst, ◌∙◌, arith, inl, inr}
-use Rattle.cdf_edits.proofs.Common.{flat_map, map-append, number, Field, Each, In, In-append_left, In-append_right, Each-split, Each-append, Write, write}
+use Rattle.cdf_edits.proofs.Common.{flat_map, map-append, number, Field, Each, In, In-append, In-append_left, In-append_right, Each-split, Each-append, Write, write}
 use Rattle.cdf_edits.proofs.Edits.RowsOneLess.{AreNumbered}
 use Rattle.cdf_edits.proofs.Edits.WrittenFields.{written_tiles}
 
 -- a field has its number
 abbrev pub Says : List ℕ → Write → Type 0
 Says now w = number now w.tile w.f ≡ w.to
+
+-- where they stand, and where the others do, is among the records of all
+module _ {A : Type 0} (place : A → ℕ) (others : A → List ℕ) where
+  pub place_in : (xs : List A) (m : ℕ) → In m (map place xs) → In m (flat_map (λ x. place x ∷ others x) xs)
+  place_in [] m i = absurd i
+  place_in (x ∷ more) m (inl e) = inl e
+  place_in (x ∷ more) m (inr i) = In-append_right m (place x ∷ others x) (flat_map (λ x. place x ∷ others x) more) (place_in more m i)
+
+  pub other_in : (xs : List A) (m : ℕ) → In m (flat_map others xs) → In m (flat_map (λ x. place x ∷ others x) xs)
+  other_in [] m i = absurd i
+  other_in (x ∷ more) m i = elim (In-append m (others x) (flat_map others more) i) [
+    | inl j ↦ inr (In-append_left m (others x) (flat_map (λ x. place x ∷ others x) more) j)
+    | inr j ↦ In-append_right m (place x ∷ others x) (flat_map (λ x. place x ∷ others x) more) (other_in more m j)
+  ]
 
 module _ {A : Type 0} (place : A → ℕ) (num : Field) (others : A → List ℕ) (said : Field) where
   -- what is written

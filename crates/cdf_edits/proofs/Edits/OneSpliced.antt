@@ -6,6 +6,7 @@ use Rattle.cdf_edits.proofs.Edits.AttributeFrame.{AreThere, lives_away, remainin
 use Rattle.cdf_edits.proofs.Edits.RecordFrame.{AttributeLives, gdr_field, gdr_place}
 use Rattle.cdf_edits.proofs.Frame.OwnersApart.{flat-append}
 use Rattle.cdf_edits.proofs.Edits.OwnedOnce.{only_owns, all_attributes_in}
+use Rattle.cdf_edits.proofs.Edits.VariableKinds.{attributes_counted}
 use Rattle.cdf_edits.proofs.Edits.Splice.{Splices, s', file, parts_there, content_now}
 
 -- the marks are in its own records alone: the others stay
@@ -61,14 +62,12 @@ module _ {b now : List ℕ} {s : Shape} {new list : List ℕ} {marks : List Mark
     -- the count and the numbers
     pub counted : IsGoodByShape b s → avoided marks gdr_type 48 52 ≡ true → Hold (adrs_rows now (adrs shape'))
     counted good clear =
-        let c = Hold-split (adrs_rows b (adrs s) ++ r_vdrs_rows b (vdrs s.r_variables)) (z_vdrs_rows b (vdrs s.z_variables)) good.counting in
-        let d = (Hold-split (adrs_rows b (adrs s)) (r_vdrs_rows b (vdrs s.r_variables)) c.0).0 in
         let place = gdr_place sound e splices.file_clear ∙ sym sound.has_shape.gdr_is in
         let count : number now (gdr_offset now) gdr_num_attr ≡ number b (gdr_offset b) gdr_num_attr =
         ap (λ (g : ℕ). number now g gdr_num_attr) (gdr_place sound e splices.file_clear) ∙ gdr_field sound e splices.file_clear gdr_num_attr clear (omega arith) ∙ sym (ap (λ (g : ℕ). number b g gdr_num_attr) sound.has_shape.gdr_is) in
         let numbers = number_rows_kept 4 b now adr_num 0 (adrs s) num_stays in
         let same : adrs_rows now (adrs s) ≡ adrs_rows b (adrs s) = λ i. (row 3 (place i) (count i == length (adrs s)) ∷ []) ++ numbers i in
-        subst (λ (ms : List ℕ). Hold (adrs_rows now ms)) (sym adrs_are) (subst Hold (sym same) d)
+        subst (λ (ms : List ℕ). Hold (adrs_rows now ms)) (sym adrs_are) (subst Hold (sym same) (attributes_counted good))
 
   -- the names, of which its own may be another
   pub names_now : names_at now adr_name (adrs shape') ≡ names_at b adr_name (map (λ (a : AttributeShape). a.adr) before) ++ name_in now own'.adr adr_name ∷ names_at b adr_name (map (λ (a : AttributeShape). a.adr) after)

@@ -5,7 +5,8 @@ use Rattle.cdf_edits.proofs.Edits.AttributeFrame.{AreThere, each_there, entry, e
 use Rattle.cdf_edits.proofs.Edits.OwnedOnce.{only_owns, parts_once, spliced_times, own_in}
 use Rattle.cdf_edits.proofs.Edits.RecordFrame.{field_avoids, file_same, gdr_place}
 use Rattle.cdf_edits.proofs.Edits.AttributeRemains.{AttributeLasts}
-use Rattle.cdf_edits.proofs.Edits.NumbersBehind.{Says, numbering, others_say, are_numbered}
+use Rattle.cdf_edits.proofs.Edits.NumbersBehind.{place_in, other_in, Says, numbering, others_say, are_numbered}
+use Rattle.cdf_edits.proofs.Edits.VariableKinds.{attributes_counted}
 use Rattle.cdf_edits.proofs.Edits.VariableFrame.{Each-apply, Each-map}
 use Rattle.cdf_edits.proofs.Edits.Splice.{parts_there, spliced, Splices, content_now, sound_if, good_image_if}
 use Rattle.cdf_edits.proofs.Edits.StepEdits.{fixed_long}
@@ -24,16 +25,10 @@ abbrev pub adrs_in : List AttributeShape → List ℕ
 adrs_in as_ = map (λ (a : AttributeShape). a.adr) as_
 
 pub adrs_owned : (as_ : List AttributeShape) (m : ℕ) → In m (adrs_in as_) → In m (flat_map attribute_records as_)
-adrs_owned [] m i = absurd i
-adrs_owned (a ∷ more) m (inl e) = inl e
-adrs_owned (a ∷ more) m (inr i) = In-append_right m (attribute_records a) (flat_map attribute_records more) (adrs_owned more m i)
+adrs_owned = place_in (λ (a : AttributeShape). a.adr) (λ (a : AttributeShape). a.gr_entries ++ a.z_entries)
 
 pub entries_owned : (as_ : List AttributeShape) (m : ℕ) → In m (entries_in as_) → In m (flat_map attribute_records as_)
-entries_owned [] m i = absurd i
-entries_owned (a ∷ more) m i = elim (In-append m (a.gr_entries ++ a.z_entries) (entries_in more) i) [
-  | inl j ↦ inr (In-append_left m (a.gr_entries ++ a.z_entries) (flat_map attribute_records more) j)
-  | inr j ↦ In-append_right m (attribute_records a) (flat_map attribute_records more) (entries_owned more m j)
-]
+entries_owned = other_in (λ (a : AttributeShape). a.adr) (λ (a : AttributeShape). a.gr_entries ++ a.z_entries)
 
 -- the numbers of attributes, which their entries say
 abbrev pub numbers : ℕ → List AttributeShape → List Write
@@ -208,11 +203,9 @@ module _ {b now : List ℕ} {s : Shape} {before : List AttributeShape} {own : At
 
     counted : IsGoodByShape b s → number now s.gdr gdr_num_attr ≡ length (adrs_in (before ++ after)) → Hold (adrs_rows now (adrs_in (before ++ after)))
     counted good count =
-        let c = Hold-split (adrs_rows b (adrs s) ++ r_vdrs_rows b (vdrs s.r_variables)) (z_vdrs_rows b (vdrs s.z_variables)) good.counting in
-        let d = (Hold-split (adrs_rows b (adrs s)) (r_vdrs_rows b (vdrs s.r_variables)) c.0).0 in
         let f = λ (a : AttributeShape). a.adr in
         let numbered = subst (λ (n : ℕ). AreNumbered now adr_num n (adrs_in after)) (sym (length-map before f)) (are_numbered (λ (a : AttributeShape). a.adr) adr_num (λ (a : AttributeShape). a.gr_entries ++ a.z_entries) aedr_attr_num now (length before) after says.numbered) in
-        let numbers = one_less 4 adr_num b now (adrs_in before) own.adr (adrs_in after) nums_before numbered (subst (λ (ms : List ℕ). Hold (number_rows 4 b adr_num 0 ms)) (ap adrs_in r.was ∙ map-append f before (own ∷ after)) d.1) in
+        let numbers = one_less 4 adr_num b now (adrs_in before) own.adr (adrs_in after) nums_before numbered (subst (λ (ms : List ℕ). Hold (number_rows 4 b adr_num 0 ms)) (ap adrs_in r.was ∙ map-append f before (own ∷ after)) (attributes_counted good).1) in
         let place : gdr_offset now ≡ s.gdr = gdr_place sound r.edit refl in
         (eq-eqb _ _ (ap (λ (g : ℕ). number now g gdr_num_attr) place ∙ count), subst (λ (ms : List ℕ). Hold (number_rows 4 now adr_num 0 ms)) (sym (map-append f before after)) numbers)
 

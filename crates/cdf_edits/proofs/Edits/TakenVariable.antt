@@ -4,6 +4,7 @@ use Rattle.cdf_edits.proofs.Common.{length-map, flat_map, remove, DataSet, Varia
 use Rattle.cdf_edits.proofs.Commands.ListParts.{map-without}
 use Rattle.cdf_edits.proofs.Edits.MarkLemmas.{avoids-of_type, confined-away, unmarked-away}
 use Rattle.cdf_edits.proofs.Edits.LeftOwners.{Left, owned_left}
+use Rattle.cdf_edits.proofs.Edits.NumbersBehind.{place_in}
 use Rattle.cdf_edits.proofs.Edits.RowsOneLess.{AreNumbered, one_less}
 use Rattle.cdf_edits.proofs.Edits.RecordFrame.{VariableLives, file_same, gdr_place, index_records, kept_away, kept_but_link, through}
 use Rattle.cdf_edits.proofs.Edits.StepEdits.{fixed_long}
@@ -19,9 +20,7 @@ use Rattle.cdf_edits.proofs.Space.TakenFromList.{distinct_apart}
 
 -- a VDR is a record of its variable
 pub vdr_record : (vs : List VariableShape) (m : ℕ) → In m (vdrs vs) → In m (flat_map variable_records vs)
-vdr_record [] m i = absurd i
-vdr_record (v ∷ vs) m (inl q) = inl q
-vdr_record (v ∷ vs) m (inr i) = In-append_right m (variable_records v) (flat_map variable_records vs) (vdr_record vs m i)
+vdr_record = place_in (λ (v : VariableShape). v.vdr) index_records
 
 -- ---- the marks, by the kind
 

@@ -75,6 +75,9 @@ pub counted_before : {b : List ℕ} {s : Shape} → IsGoodByShape b s → (kind 
 counted_before {b = b} {s = s} good R = (Hold-split (adrs_rows b (adrs s)) (r_vdrs_rows b (vdrs s.r_variables)) (Hold-split (adrs_rows b (adrs s) ++ r_vdrs_rows b (vdrs s.r_variables)) (z_vdrs_rows b (vdrs s.z_variables)) good.counting).0).1
 counted_before {b = b} {s = s} good Z = (Hold-split (adrs_rows b (adrs s) ++ r_vdrs_rows b (vdrs s.r_variables)) (z_vdrs_rows b (vdrs s.z_variables)) good.counting).1
 
+pub attributes_counted : {b : List ℕ} {s : Shape} → IsGoodByShape b s → Hold (adrs_rows b (adrs s))
+attributes_counted {b = b} {s = s} good = (Hold-split (adrs_rows b (adrs s)) (r_vdrs_rows b (vdrs s.r_variables)) (Hold-split (adrs_rows b (adrs s) ++ r_vdrs_rows b (vdrs s.r_variables)) (z_vdrs_rows b (vdrs s.z_variables)) good.counting).0).0
+
 -- the rules on their numbers alone
 abbrev pub number_part : Kind → List ℕ → List ℕ → List Row
 number_part R b members = number_rows 7 b vdr_num 0 members

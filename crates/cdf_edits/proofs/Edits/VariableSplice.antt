@@ -3,13 +3,14 @@ use Rattle.std.proofs.Common.{◌≡◌, ℕ, ◌+◌, ◌≤◌, List, [], ◌�
 use Rattle.cdf_edits.proofs.Common.{map-append, flat_map, ◌==◌, ◌&&◌, DataSet, Variable, image_limit, with_variables, Kind, R, Z, same_name, adrs_rows, r_vdrs_rows, z_vdrs_rows, differ_rows, is_in, IsChain, content, content_of, variable_of, majority_of, number, size_at, type_at, has_bit, gdr_offset, eof, index_rows, read_types, OwnedOnce, attribute_records, times, owned_records, first_phases, Field, gdr_adr_head, gdr_num_attr, gdr_uir_head, adr_name, adr_num, cdr_type, gdr_type, adr_type, agr_edr_type, az_edr_type, uir_type, is_record_type, fixed_size, row, Hold, AllHold, sealed, AttributeShape, VariableShape, Shape, adrs, vdrs, variables, Each, HasVariable, HasShape, IsSound, VariableFits, In, is_named_apart, Good, is_a-from, is_a-in, linkable-type, IsGoodByShape, attribute_shape_rows, either, In-append, AreNew, names_differ, differ_by_names, Hold-append, Hold-split, sealed_keeps, Each-split, Each-append, content_is, both, shapes_of, Edit, Mark, avoided, all_unmarked, attribute_types, keeps_file, FileStays, AttributeStays, VariableStays, head_of, count_of, type_in, variables_chain}
 use Rattle.cdf_edits.proofs.Edits.AttributeFrame.{AreThere, more_there, entry, lives_away, all_remain, they_stay, they_fit, remaining_rules, remaining_names, nums_stay}
 use Rattle.cdf_edits.proofs.Edits.AttributeRemains.{AttributeRemains}
+use Rattle.cdf_edits.proofs.Edits.ChainKinds.{attribute_typed}
 use Rattle.cdf_edits.proofs.Edits.FirstRecords.{gdr_still, cdr_still, typed_now, fixed_now, read_now, gdr_room, first_says}
 use Rattle.cdf_edits.proofs.Edits.MarkLemmas.{away-avoids, all_unmarked-away}
 use Rattle.cdf_edits.proofs.Edits.OwnedOnce.{all_attributes_in}
 use Rattle.cdf_edits.proofs.Edits.RecordFrame.{AttributeLives, VariableLives, chain_clear, chain_stays, gdr_field, gdr_place, file_same, file_stays, kept_away}
 use Rattle.cdf_edits.proofs.Edits.StepEdits.{gdr_in}
 use Rattle.cdf_edits.proofs.Edits.VariableFrame.{Each-map, Each-apply, hold_all, IsRuled, VariableRemains, all_ruled, ruled_rows, remain_from, nums_from}
-use Rattle.cdf_edits.proofs.Edits.VariableKinds.{other_kind, shapes_with, with_shapes, vdrs_rows, keeps_kind, by_kind, each_kind, of_kind, kind_ours, kind_chain, in_gdr, counted_before, vdrs_rows_kept, variables_of_are, with_kind}
+use Rattle.cdf_edits.proofs.Edits.VariableKinds.{attributes_counted, other_kind, shapes_with, with_shapes, vdrs_rows, keeps_kind, by_kind, each_kind, of_kind, kind_ours, kind_chain, in_gdr, counted_before, vdrs_rows_kept, variables_of_are, with_kind}
 use Rattle.cdf_edits.proofs.Frame.Meaning.{FileSame, Kept}
 use Rattle.cdf_edits.proofs.Frame.OwnersApart.{adrs_linked, all_attribute_records}
 use Rattle.cdf_edits.proofs.Frame.SameShape.{has_entries, same_attributes, same_variables}
@@ -100,19 +101,8 @@ module _ {b now : List ℕ} {s : Shape} {kind : Kind} {new list : List ℕ} {mar
   clear_gdr : (avoided marks gdr_type 28 36 ≡ true) × (avoided marks gdr_type 48 52 ≡ true)
   clear_gdr = both (avoided marks gdr_type 28 36) (avoided marks gdr_type 48 52) clear_attributes.1
 
-  attribute_typed : (as_ : List AttributeShape) → AreThere b s.records as_ → (m : ℕ) → In m (flat_map attribute_records as_) → is_in (type_at b m) attribute_types ≡ true
-  attribute_typed [] there m i = absurd i
-  attribute_typed (a ∷ more) there m i = elim (In-append m (attribute_records a) (flat_map attribute_records more) i) [
-    | inl (inl q) ↦ ap (λ (t : ℕ). is_in t attribute_types) (ap (type_at b) q ∙ linkable-type b s.records adr_type a.adr there.linked.0)
-    | inl (inr j) ↦ entry_type (type_at b m) (entry sound e a there.have.0 m j).1
-    | inr j ↦ attribute_typed more (more_there b s.records a more there) m j
-  ]
-    where
-      entry_type : (t : ℕ) → is_in t (agr_edr_type ∷ az_edr_type ∷ []) ≡ true → is_in t attribute_types ≡ true
-      entry_type t i = elim (either (t == adr_type)) [ inl x ↦ rw x refl | inr x ↦ rw x i ]
-
   attributes_live : Each (AttributeLives b now) s.attributes
-  attributes_live = lives_away sound e s.attributes there (λ m i. all_unmarked-away marks attribute_types (type_at b m) m clear_attributes.0 (attribute_typed s.attributes there m i))
+  attributes_live = lives_away sound e s.attributes there (λ m i. all_unmarked-away marks attribute_types (type_at b m) m clear_attributes.0 (attribute_typed b s.records s.attributes there m i))
 
   attributes_remain : Each (AttributeRemains b now new) s.attributes
   attributes_remain = all_remain sound e file s.attributes there attributes_live
@@ -121,7 +111,7 @@ module _ {b now : List ℕ} {s : Shape} {kind : Kind} {new list : List ℕ} {mar
   attributes_stay = they_stay b now new s.attributes attributes_remain
 
   pub attributes_kept : (m : ℕ) → In m (all_attribute_records s) → Kept b now m
-  attributes_kept m i = kept_away e m (type_at b m) (all_attributes_in sound m i) refl (all_unmarked-away marks attribute_types (type_at b m) m clear_attributes.0 (attribute_typed s.attributes there m i))
+  attributes_kept m i = kept_away e m (type_at b m) (all_attributes_in sound m i) refl (all_unmarked-away marks attribute_types (type_at b m) m clear_attributes.0 (attribute_typed b s.records s.attributes there m i))
 
   -- ---- variables of the other kind
 
@@ -225,7 +215,6 @@ module _ {b now : List ℕ} {s : Shape} {kind : Kind} {new list : List ℕ} {mar
 
   pub good_if : IsGoodByShape b s → OwnRules → IsGoodByShape now s'
   good_if good rules =
-      let d = (Hold-split (adrs_rows b (adrs s)) (r_vdrs_rows b (vdrs s.r_variables)) (Hold-split (adrs_rows b (adrs s) ++ r_vdrs_rows b (vdrs s.r_variables)) (z_vdrs_rows b (vdrs s.z_variables)) good.counting).0).0 in
       let p = Hold-split (flat_map (attribute_shape_rows b) s.attributes) (differ_rows 2 (same_name b adr_name) [] (adrs s)) good.attributes in
       let names = remaining_names b now new s.attributes attributes_remain in
       let counts = counting_now good rules in
@@ -234,7 +223,7 @@ module _ {b now : List ℕ} {s : Shape} {kind : Kind} {new list : List ℕ} {mar
         has_shape = shape_now;
         read_types = read_now e good.read_types rules.read;
         counting = Hold-append (adrs_rows now (adrs s) ++ r_vdrs_rows now (vdrs (shapes_with s kind variables' R))) (z_vdrs_rows now (vdrs (shapes_with s kind variables' Z)))
-            (Hold-append (adrs_rows now (adrs s)) (r_vdrs_rows now (vdrs (shapes_with s kind variables' R))) (subst Hold (sym adrs_now) d) (counts R)) (counts Z);
+            (Hold-append (adrs_rows now (adrs s)) (r_vdrs_rows now (vdrs (shapes_with s kind variables' R))) (subst Hold (sym adrs_now) (attributes_counted good)) (counts R)) (counts Z);
         attributes = Hold-append (flat_map (attribute_shape_rows now) s.attributes) (differ_rows 2 (same_name now adr_name) [] (adrs s)) (remaining_rules b now new s.attributes attributes_remain p.0)
             (differ_by_names 2 now adr_name (adrs s) (subst (AreNew []) (sym names) (names_differ 2 b adr_name (adrs s) p.1)));
         of_variables = ruled_rows now new (vdrs (variables s')) (variables s') ruled rules.apart;
