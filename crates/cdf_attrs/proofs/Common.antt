@@ -32,7 +32,7 @@ pub use Rattle.cdf_edits.proofs.Commands.FineNames.{fine_has_no_zeros, fine_is_s
 pub use Rattle.cdf_edits.proofs.Commands.KeptRecords.{AllKeep-append}
 pub use Rattle.cdf_edits.proofs.Commands.ListParts.{Cut, cut, got-map, got-middle, last_got, last_removed}
 pub use Rattle.cdf_edits.proofs.Edits.AttributeChains.{stands_at}
-pub use Rattle.cdf_edits.proofs.Edits.AttributeFrame.{AreThere}
+pub use Rattle.cdf_edits.proofs.Edits.AttributeFrame.{AreThere, all_remain}
 pub use Rattle.cdf_edits.proofs.Edits.ChainEntries.{EntryLives, entries_left, nums, nums_live}
 pub use Rattle.cdf_edits.proofs.Edits.ChainFollowed.{chain_now, found_none, found_one, greatest_integer}
 pub use Rattle.cdf_edits.proofs.Edits.ChainKinds.{adr_of, chain_in}
@@ -50,6 +50,7 @@ pub use Rattle.cdf_edits.proofs.Edits.MarkLemmas.{the_one}
 pub use Rattle.cdf_edits.proofs.Edits.OneChain.{Chained, chain_follows, counted_before, differ_before, follows_chained, items_of, of_named, once_before, rules_live}
 pub use Rattle.cdf_edits.proofs.Edits.OwnedOnce.{owned_once_if, used_times}
 pub use Rattle.cdf_edits.proofs.Edits.OwnersKept.{all_keep, keeps_fields, stood}
+pub use Rattle.cdf_edits.proofs.Edits.RecordFrame.{AttributeLives, file_same}
 pub use Rattle.cdf_edits.proofs.Edits.Splice.{OwnRules, Splices, good_image_if, parts_there, shape_now, spliced}
 pub use Rattle.cdf_edits.proofs.Edits.StandsSame.{stands_same}
 pub use Rattle.cdf_edits.proofs.Edits.StepEdits.{fixed_long}

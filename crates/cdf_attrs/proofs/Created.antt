@@ -1,6 +1,6 @@
 -- The making of an attribute, as an edit, leads from a good image to the one that follows.
 use Rattle.std.proofs.Common.{◌≡◌, ◌≢◌, ℕ, suc, ◌+◌, ◌^◌, ◌-◌, ◌<◌, ◌≤◌, List, [], ◌∷◌, ◌++◌, length, map, Bool, false, not, eqb, eq-eqb, Some, refl, sym, ap, subst, ◌∙◌, append-nil, arith, inl, inr}
-use Rattle.cdf_attrs.proofs.Common.{ends, new_in, new_type, and_from, eqb-true, length-append, map-append, flat_map, slice_get, ◌==◌, ◌&&◌, nat_le, if◌then◌else◌, Plain, Command, Attr, Scope, Go, new_attribute, Attribute, DataSet, image_limit, is_bad_name, is_among, attribute_names, ByStep, IsSound, AllKeep, Allowances, Only, Keeps, only_of, same_name, adrs_rows, differ_rows, r_vdrs_rows, z_vdrs_rows, next_field, is_in, IsChain, content, scope_of, attribute_of, number, name_in, type_at, gdr_offset, IsGoodByShape, attribute_shape_rows, Follows, Act, Took, OneAttribute, attribute_records, owned_by, owned, gdr_adr_head, gdr_num_attr, adr_name, adr_scope, adr_num, adr_type, agr_edr_type, az_edr_type, Hold, AttributeShape, Shape, adrs, vdrs, HasShape, shape, In, Good, linkable-in, linkable-type, good_by_its_shape, good_is_sound, rules_of_good, AllKeep-append, either, stands_in, AreNew, names_at, names_differ, differ_by_names, attribute_names_are, Hold-append, Hold-split, good_long, sealed_kept, content_is, shape_is, of_le, tile_lies, Attrs, Mark, Edit, AreThere, stood, keeps_fields, all_keep, used_times, owned_once_if, spliced, Splices, shape_now, OwnRules, good_image_if, variables_in, Added, scope_code, adr_body, fine_is_some, got-middle, Each}
+use Rattle.cdf_attrs.proofs.Common.{ends, new_in, new_type, and_from, eqb-true, length-append, map-append, flat_map, slice_get, ◌==◌, ◌&&◌, nat_le, if◌then◌else◌, Plain, Command, Attr, Scope, Go, new_attribute, Attribute, DataSet, image_limit, is_bad_name, is_among, attribute_names, ByStep, IsSound, AllKeep, Allowances, Only, Keeps, only_of, same_name, adrs_rows, differ_rows, r_vdrs_rows, z_vdrs_rows, next_field, is_in, IsChain, content, scope_of, attribute_of, number, name_in, type_at, gdr_offset, IsGoodByShape, attribute_shape_rows, Follows, Act, Took, OneAttribute, attribute_records, owned_by, owned, gdr_adr_head, gdr_num_attr, adr_name, adr_scope, adr_num, adr_type, agr_edr_type, az_edr_type, Hold, AttributeShape, Shape, adrs, vdrs, HasShape, shape, In, Good, linkable-in, linkable-type, good_by_its_shape, good_is_sound, rules_of_good, AllKeep-append, either, stands_in, AreNew, names_at, names_differ, differ_by_names, attribute_names_are, Hold-append, Hold-split, good_long, sealed_kept, content_is, shape_is, of_le, tile_lies, Attrs, Mark, Edit, AreThere, stood, keeps_fields, all_keep, used_times, owned_once_if, spliced, Splices, shape_now, OwnRules, good_image_if, variables_in, Added, scope_code, adr_body, fine_is_some, got-middle, Each, all_remain, AttributeLives, file_same}
 use Rattle.std.specs.List.{All, before_first}
 use Rattle.cdf_model.specs.declared.kinds.Scope.TheVariants.{Global, Variable, GlobalAssumed, VariableAssumed}
 use Rattle.cdf_edits.specs.Commands.Attributes.{MakesAttribute, attr_changes, attributes_gdr_fields}
@@ -12,8 +12,8 @@ use Rattle.cdf_format.proofs.NameRules.{new_pushed}
 use Rattle.cdf_edits.proofs.Frame.OwnersApart.{adrs_linked}
 use Rattle.cdf_edits.proofs.Rules.WithoutLinks.{number_rows_kept, number_rows-push}
 use Rattle.cdf_edits.specs.Edits.Marks.{making_marks}
-use Rattle.cdf_edits.proofs.Edits.AttributeFrame.{entry, all_remain, lives_clear, remaining_names, nums_stay, more_there}
-use Rattle.cdf_edits.proofs.Edits.RecordFrame.{AttributeLives, file_same, gdr_place}
+use Rattle.cdf_edits.proofs.Edits.AttributeFrame.{entry, lives_clear, remaining_names, nums_stay, more_there}
+use Rattle.cdf_edits.proofs.Edits.RecordFrame.{gdr_place}
 use Rattle.cdf_edits.proofs.Edits.OwnersKept.{keeps_away, keep_file, keep_places}
 use Rattle.cdf_edits.proofs.Edits.JoinedRecord.{IsJoined, acts_then, edit, fills, longest, new_once, new_part, new_typed, unused_chain, unused_kept}
 use Rattle.cdf_edits.proofs.Edits.MadeRecord.{filled_size, filled_sound}

@@ -1,6 +1,6 @@
 -- A renaming leads from a good image to one in which one attribute has another name.
 use Rattle.std.proofs.Common.{◌≡◌, ℕ, ◌+◌, ◌≤◌, List, [], ◌∷◌, ◌++◌, length, map, true, false, not, Option, Some, None, eq-eqb, refl, sym, ap, subst, ◌∙◌, arith, inl, inr}
-use Rattle.cdf_attrs.proofs.Common.{◌==◌, if◌then◌else◌, flat_map, slice_get, Command, Go, Refuse, with_attribute, Attribute, DataSet, image_limit, is_bad_name, is_among, attribute_names, attribute_named, IsSound, AllKeep, Allowances, Only, Keeps, only_of, same_name, differ_rows, IsGoodByShape, attribute_shape_rows, Hold, IsChain, content, attribute_of, scope_of, number, size_at, type_at, Follows, IsFilled, ByStep, unwrap_or, eqb-true, OneAttribute, owned_by, attribute_records, owned, Field, gdr_adr_head, adr_agr_edr_head, adr_az_edr_head, adr_scope, adr_num, adr_name, adr_type, agr_edr_type, az_edr_type, uir_type, AttributeShape, Shape, adrs, HasShape, shape, In, Good, linkable-in, linkable-type, good_by_its_shape, good_is_sound, rules_of_good, AllKeep-append, In-append, In-append_left, In-append_right, stands_in, AreNew, names_at, names_differ, differ_by_names, attribute_names_are, Hold-append, Hold-split, good_long, sealed_kept, shape_is, Mark, Edit, AreThere, stood, keeps_fields, all_keep, used_times, owned_once_if, variables_in, word_kept, spliced, Splices, parts_there, shape_now, OwnRules, good_image_if, fixed_long, Renamed, fine_is_some, got-middle, Each}
+use Rattle.cdf_attrs.proofs.Common.{◌==◌, if◌then◌else◌, flat_map, slice_get, Command, Go, Refuse, with_attribute, Attribute, DataSet, image_limit, is_bad_name, is_among, attribute_names, attribute_named, IsSound, AllKeep, Allowances, Only, Keeps, only_of, same_name, differ_rows, IsGoodByShape, attribute_shape_rows, Hold, IsChain, content, attribute_of, scope_of, number, size_at, type_at, Follows, IsFilled, ByStep, unwrap_or, eqb-true, OneAttribute, owned_by, attribute_records, owned, Field, gdr_adr_head, adr_agr_edr_head, adr_az_edr_head, adr_scope, adr_num, adr_name, adr_type, agr_edr_type, az_edr_type, uir_type, AttributeShape, Shape, adrs, HasShape, shape, In, Good, linkable-in, linkable-type, good_by_its_shape, good_is_sound, rules_of_good, AllKeep-append, In-append, In-append_left, In-append_right, stands_in, AreNew, names_at, names_differ, differ_by_names, attribute_names_are, Hold-append, Hold-split, good_long, sealed_kept, shape_is, Mark, Edit, AreThere, stood, keeps_fields, all_keep, used_times, owned_once_if, variables_in, word_kept, spliced, Splices, parts_there, shape_now, OwnRules, good_image_if, fixed_long, Renamed, fine_is_some, got-middle, Each, all_remain, AttributeLives, file_same}
 use Rattle.cdf_model.specs.declared.answer.Reason.TheVariants as reasons
 use Rattle.cdf_model.specs.declared.answer.Reply.TheVariants as replies
 use Rattle.cdf_model.specs.declared.command.Command.TheVariants as commands
@@ -19,8 +19,7 @@ use Rattle.cdf_edits.proofs.Frame.OwnersApart.{flat-append, file_in, unused_in, 
 use Rattle.cdf_format.proofs.RowLemmas.{flat_map-append}
 use Rattle.cdf_edits.specs.Edits.Marks.{Away, field_marks}
 use Rattle.cdf_edits.proofs.Edits.EditActs.{acts_none}
-use Rattle.cdf_edits.proofs.Edits.AttributeFrame.{all_remain}
-use Rattle.cdf_edits.proofs.Edits.RecordFrame.{AttributeLives, part_clear, chain_clear, chain_kept, kept_away, file_same, gdr_field}
+use Rattle.cdf_edits.proofs.Edits.RecordFrame.{part_clear, chain_clear, chain_kept, kept_away, gdr_field}
 use Rattle.cdf_edits.proofs.Edits.OwnersKept.{keep_parts}
 use Rattle.cdf_edits.proofs.Edits.OwnedOnce.{only_owns, adr_no_entry, all_attributes_in, IsSorted}
 use Rattle.cdf_edits.proofs.Edits.OneSpliced.{beside_live, content_replaced, counted, names_now, names_before}

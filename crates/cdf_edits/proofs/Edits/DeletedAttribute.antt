@@ -1,6 +1,6 @@
 -- An attribute is taken out of the chain, counted no more, those behind it are numbered anew, and its records are freed: the image is good, with the content without it, and what it keeps of each record.
 use Rattle.std.proofs.Common.{◌≡◌, ◌⊎◌, ℕ, suc, ◌+◌, ◌<◌, ◌≤◌, List, [], ◌∷◌, ◌++◌, length, map, true, false, eq-eqb, refl, sym, ap, subst, ◌∙◌, arith, inl, inr, Bool, Option, Some, None, ◌-◌, drop, get_or, ap₂, append_assoc}
-use Rattle.cdf_edits.proofs.Common.{eqb-true, map-append, flat_map, ◌==◌, if◌then◌else◌, IsChain, number, size_at, type_at, gdr_offset, with_field, attribute_records, times, gdr_adr_head, gdr_uir_head, gdr_num_attr, aedr_attr_num, adr_num, gdr_type, adr_type, agr_edr_type, az_edr_type, uir_type, AttributeShape, Shape, Each, HasShape, adrs, shape, IsSound, In, Distinct, linkable-in, linkable-type, linkable-long, In-append, In-append_left, In-append_right, Distinct-push, shape_is, is_linkable, Edit, unlinking_marks, deleting_marks, freeing_marks, Mark, attribute_types, Unlinks, Write, write, with_writes, numbers_from, AreFree, Attrs, Same, Same-part, tile_lies, length-append, length-map, remove, slice_get, image_limit, is_in, next_field, content, LiesIn, OneAttribute, owned_by, owned_by_attributes, owned, gdr_eof, uir_next_uir, uir_prev_uir, cdr_type, vdrs, Good, is_a-in, is_a-type, good_by_its_shape, good_is_sound, rules_of_good, good_long, sealed_kept, FreedStay, no_fields, Allowance, Allowances, Anything, Only, Keeps, AllKeep, Within, gave, links_end, ActsFollow, Act, Go, Refuse, Attribute, DataSet, attribute_named, attribute_names, ByStep, is_attribute, Done, Refused, Answers, same_Some, drop-append_seam, adrs_rows, r_vdrs_rows, z_vdrs_rows, Hold-split, eq_of, counted_in, members_of, Removed, AllGiven, Lists, TakenOut, GrEntries, ZEntries}
+use Rattle.cdf_edits.proofs.Common.{eqb-true, map-append, flat_map, ◌==◌, if◌then◌else◌, IsChain, number, size_at, type_at, with_field, attribute_records, times, gdr_adr_head, gdr_uir_head, gdr_num_attr, aedr_attr_num, adr_num, gdr_type, adr_type, agr_edr_type, az_edr_type, uir_type, AttributeShape, Shape, Each, HasShape, adrs, shape, IsSound, In, Distinct, linkable-in, linkable-type, linkable-long, In-append, In-append_left, In-append_right, Distinct-push, shape_is, is_linkable, Edit, unlinking_marks, deleting_marks, freeing_marks, Mark, attribute_types, Unlinks, Write, write, with_writes, numbers_from, AreFree, Attrs, Same, Same-part, tile_lies, length-append, length-map, remove, slice_get, image_limit, is_in, next_field, content, LiesIn, OneAttribute, owned_by, owned_by_attributes, owned, gdr_eof, uir_next_uir, uir_prev_uir, cdr_type, Good, is_a-in, is_a-type, good_by_its_shape, good_is_sound, rules_of_good, good_long, sealed_kept, FreedStay, no_fields, Allowance, Allowances, Anything, Only, Keeps, AllKeep, Within, gave, links_end, ActsFollow, Act, Go, Refuse, Attribute, DataSet, attribute_named, attribute_names, ByStep, is_attribute, Done, Refused, Answers, same_Some, drop-append_seam, eq_of, counted_in, members_of, Removed, AllGiven, Lists, TakenOut, GrEntries, ZEntries}
 use Rattle.cdf_edits.specs.Edits.ManyMarks.{numbering_marks}
 use Rattle.cdf_edits.proofs.Edits.AttributeFrame.{AreThere, more_there, entry}
 use Rattle.cdf_edits.proofs.Edits.FreedRecords.{edit_under}

@@ -1,6 +1,6 @@
 -- An image from which one attribute went has its shape, its content and its rules: each other one stays but for its number, which its entries say.
 use Rattle.std.proofs.Common.{◌≡◌, ◌⊎◌, ℕ, suc, ◌+◌, ◌≤◌, List, [], ◌∷◌, ◌++◌, length, map, refl, sym, ap, subst, ◌∙◌, arith, inl, inr, true, eq-eqb, append-nil, append_assoc}
-use Rattle.cdf_edits.proofs.Common.{map-append, Write, write, numbers_from, flat_map, number, size_at, type_at, attribute_records, times, adr_num, aedr_attr_num, adr_type, agr_edr_type, az_edr_type, AttributeShape, Shape, Each, IsSound, In, linkable-in, linkable-type, In-append, In-append_left, In-append_right, tile_lies, Edit, deleting_marks, Mark, Avoids, length-map, flat_map, remove, Attribute, DataSet, image_limit, same_name, adrs_rows, number_rows, r_vdrs_rows, z_vdrs_rows, differ_rows, is_in, IsChain, content, attribute_of, name_in, gdr_offset, eof, IsGoodByShape, attribute_shape_rows, read_types, owned_records, first_phases, gdr_adr_head, gdr_uir_head, gdr_num_attr, adr_name, uir_type, is_record_type, fixed_size, Hold, AllHold, sealed, adrs, vdrs, Good, AreNew, names_at, names_differ, differ_by_names, Hold-split, content_is}
+use Rattle.cdf_edits.proofs.Common.{map-append, Write, write, numbers_from, flat_map, number, size_at, type_at, attribute_records, times, adr_num, aedr_attr_num, adr_type, agr_edr_type, az_edr_type, AttributeShape, Shape, Each, IsSound, In, linkable-in, linkable-type, In-append, In-append_left, tile_lies, Edit, deleting_marks, Mark, Avoids, length-map, flat_map, remove, Attribute, DataSet, image_limit, same_name, adrs_rows, number_rows, differ_rows, is_in, IsChain, content, attribute_of, name_in, gdr_offset, eof, IsGoodByShape, attribute_shape_rows, read_types, owned_records, first_phases, gdr_adr_head, gdr_uir_head, gdr_num_attr, adr_name, uir_type, is_record_type, fixed_size, Hold, AllHold, sealed, adrs, Good, AreNew, names_at, names_differ, differ_by_names, Hold-split, content_is}
 use Rattle.cdf_edits.proofs.Edits.AttributeFrame.{AreThere, each_there, entry, entry_long, all_last as attributes_last, remaining_names}
 use Rattle.cdf_edits.proofs.Edits.OwnedOnce.{only_owns, parts_once, spliced_times, own_in}
 use Rattle.cdf_edits.proofs.Edits.RecordFrame.{field_avoids, file_same, gdr_place}

@@ -1,7 +1,7 @@
 -- An edit that puts some variables of a kind in the place of others: the image has its shape, its content and its rules if these have theirs.
-use Rattle.std.proofs.Common.{◌≡◌, ℕ, ◌+◌, ◌≤◌, List, [], ◌∷◌, ◌++◌, length, map, Bool, true, refl, sym, ap, subst, ◌∙◌, arith, inl, inr}
-use Rattle.cdf_edits.proofs.Common.{map-append, flat_map, ◌==◌, ◌&&◌, DataSet, Variable, image_limit, with_variables, Kind, R, Z, same_name, adrs_rows, r_vdrs_rows, z_vdrs_rows, differ_rows, is_in, IsChain, content, content_of, variable_of, majority_of, number, size_at, type_at, has_bit, gdr_offset, eof, index_rows, read_types, OwnedOnce, attribute_records, times, owned_records, first_phases, Field, gdr_adr_head, gdr_num_attr, gdr_uir_head, adr_name, adr_num, cdr_type, gdr_type, adr_type, agr_edr_type, az_edr_type, uir_type, is_record_type, fixed_size, row, Hold, AllHold, sealed, AttributeShape, VariableShape, Shape, adrs, vdrs, variables, Each, HasVariable, HasShape, IsSound, VariableFits, In, is_named_apart, Good, is_a-from, is_a-in, linkable-type, IsGoodByShape, attribute_shape_rows, either, In-append, AreNew, names_differ, differ_by_names, Hold-append, Hold-split, sealed_keeps, Each-split, Each-append, content_is, both, shapes_of, Edit, Mark, avoided, all_unmarked, attribute_types, keeps_file, FileStays, AttributeStays, VariableStays, head_of, count_of, type_in, variables_chain}
-use Rattle.cdf_edits.proofs.Edits.AttributeFrame.{AreThere, more_there, entry, lives_away, all_remain, they_stay, they_fit, remaining_rules, remaining_names, nums_stay}
+use Rattle.std.proofs.Common.{◌≡◌, ℕ, ◌+◌, ◌≤◌, List, [], ◌∷◌, ◌++◌, length, map, Bool, true, refl, sym, ap, subst, ◌∙◌, arith}
+use Rattle.cdf_edits.proofs.Common.{map-append, flat_map, ◌==◌, ◌&&◌, DataSet, Variable, image_limit, with_variables, Kind, R, Z, same_name, adrs_rows, r_vdrs_rows, z_vdrs_rows, differ_rows, is_in, IsChain, content, content_of, variable_of, majority_of, number, size_at, type_at, has_bit, gdr_offset, eof, index_rows, read_types, OwnedOnce, times, owned_records, first_phases, Field, gdr_adr_head, gdr_num_attr, gdr_uir_head, adr_name, adr_num, cdr_type, gdr_type, adr_type, uir_type, is_record_type, fixed_size, row, Hold, AllHold, sealed, VariableShape, Shape, adrs, vdrs, variables, Each, HasVariable, HasShape, IsSound, VariableFits, In, is_named_apart, Good, is_a-from, is_a-in, IsGoodByShape, attribute_shape_rows, AreNew, names_differ, differ_by_names, Hold-append, Hold-split, sealed_keeps, Each-split, Each-append, content_is, both, shapes_of, Edit, Mark, avoided, all_unmarked, attribute_types, keeps_file, FileStays, AttributeStays, VariableStays, head_of, count_of, type_in, variables_chain}
+use Rattle.cdf_edits.proofs.Edits.AttributeFrame.{AreThere, lives_away, all_remain, they_stay, they_fit, remaining_rules, remaining_names, nums_stay}
 use Rattle.cdf_edits.proofs.Edits.AttributeRemains.{AttributeRemains}
 use Rattle.cdf_edits.proofs.Edits.ChainKinds.{attribute_typed}
 use Rattle.cdf_edits.proofs.Edits.FirstRecords.{gdr_still, cdr_still, typed_now, fixed_now, read_now, gdr_room, first_says}

@@ -1,5 +1,4 @@
-use Rattle.cdf_format.proofs.GoodSound.{good_is_sound}
-use Rattle.cdf_attrs.proofs.Common.{G, Z, entries_chain}
+use Rattle.cdf_attrs.proofs.Common.{G, Z, entries_chain, good_is_sound}
 use Rattle.cdf_attrs.proofs.DroppingFrom.{of_attribute}
 use Rattle.cdf_attrs.proofs.EntryChains.{holder_stands, chain_there, counted}
 use Rattle.cdf_attrs.proofs.deleting.read_entries.Goals as goal
