@@ -43,8 +43,8 @@ module _ {b : List ℕ} (good : Good b) (k : ℕ) (own : AttributeShape) (kind :
   number_of : (m : ℕ) → In m chain → In (number b m aedr_num) es.numbers
   number_of m i = subst (In (number b m aedr_num)) (sym numbers_are) (num_in b chain m i)
 
-  attribute_same : (items' : List (ℕ × Entry)) → items' ≡ items → attribute_of b own ≡ with_entries (attribute_of b own) kind items'
-  attribute_same items' same = sym (ap (with_entries (attribute_of b own) kind) same ∙ with_own (attribute_of b own) kind)
+  as_before : (items' : List (ℕ × Entry)) → items' ≡ items → attribute_of b own ≡ with_entries (attribute_of b own) kind items'
+  as_before items' same = sym (ap (with_entries (attribute_of b own) kind) same ∙ with_own (attribute_of b own) kind)
 
   -- nothing is written
   edited_none : {gone : ℕ → Type 0} {fields : ℕ → ℕ → List Field} {falls : ℕ → ℕ} → ((m : ℕ) → In m chain → falls (number b m aedr_num) ≡ number b m aedr_num) → AttributeEdited b b k own own kind gone fields falls
@@ -61,7 +61,7 @@ module _ {b : List ℕ} (good : Good b) (k : ℕ) (own : AttributeShape) (kind :
         record {
           edited = edited_none (λ m i. refl);
           from = λ m i. (i, refl);
-          attribute_is = attribute_same (without num num items) (ap (without num num) (items_of b own kind) ∙ without_none b chain num none_there ∙ sym (items_of b own kind));
+          attribute_is = as_before (without num num items) (ap (without num num) (items_of b own kind) ∙ without_none b chain num none_there ∙ sym (items_of b own kind));
           acts = λ before acts shaped follow. subst (ActsFollow before b) (sym (ap (λ (x : List ℕ). acts ++ gave b x) gone ∙ append-nil acts)) follow;
           dropped = λ m i. absurd (subst (In m) gone i);
           greatest = inl ((λ m i e. none (subst (λ (n : ℕ). In n es.numbers) e (number_of m i))), refl);
@@ -73,7 +73,7 @@ module _ {b : List ℕ} (good : Good b) (k : ℕ) (own : AttributeShape) (kind :
         let stays = λ (m : ℕ) (i : In m chain). rests num (number b m aedr_num) (all (number b m aedr_num) (number_of m i)) in
         record {
           edited = edited_none stays;
-          attribute_is = attribute_same (closed_up num num items) (ap (closed_up num num) (items_of b own kind) ∙ sym (entries_closed b b num chain none_there (λ m i. record { num_is = sym (stays m i); meant = refl })) ∙ sym (items_of b own kind));
+          attribute_is = as_before (closed_up num num items) (ap (closed_up num num) (items_of b own kind) ∙ sym (entries_closed b b num chain none_there (λ m i. record { num_is = sym (stays m i); meant = refl })) ∙ sym (items_of b own kind));
           acts = λ before acts follow. follow;
           greatest = inl ((λ m i. all (number b m aedr_num) (number_of m i)), refl);
         }

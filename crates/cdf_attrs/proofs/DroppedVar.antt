@@ -32,7 +32,7 @@ own_at (a ∷ as_) (suc k) lt = own_at as_ k (omega arith)
 drops_kind : {before now : List ℕ} (found : Found) (kind : Kind) (num k : ℕ) (own : AttributeShape) (adr : ℕ) → found.kind ≡ kind → found.number ≡ num → Good before → length before ≤ image_limit → slice_get (shape before).attributes k ≡ Some own → own.adr ≡ adr → is_global (attribute_of before own).scope ≡ false → DropsFrom before now (kind_of_entries kind) adr num → DropsOne before found k own now
 drops_kind {before} {now} found kind num k own adr kind_is num_is good short at adr_is scope from =
     let here = subst (λ (x : Kind). DropsFrom before now (kind_of_entries x) adr found.number) (sym kind_is) (subst (DropsFrom before now (kind_of_entries kind) adr) (sym num_is) from) in
-    dropped found good short (record { number = k; own = own; stands = at; adr_is = adr_is; in_scope = of_variables found.kind scope }) scope here
+    dropped found good short (record { number = k; own = own; stands = at; adr_is = adr_is; in_scope = of_variables found.kind _ scope }) scope here
 
 pub drops_more : {b before now : List ℕ} {kind : Kind} {num : ℕ} {places : List ℕ} {k adr : ℕ} → Good b → length b ≤ image_limit → places ≡ adrs (shape b) → k < length places → adr ≡ slice_index_or places k 0 → Good before → KeepsAttributes b before → ((found : Found) → found.kind ≡ kind → found.number ≡ num → DropsUpTo b found k before)
     → (is_global (scope_of (number before adr adr_scope)) ≡ true → now ≡ before) → (is_global (scope_of (number before adr adr_scope)) ≡ false → DropsFrom before now (kind_of_entries kind) adr num)

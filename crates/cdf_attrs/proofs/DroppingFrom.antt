@@ -13,9 +13,9 @@ use Rattle.cdf_attrs.proofs.LoweredChain.{lowers_chain}
 use Rattle.cdf_attrs.proofs.NumberGone.{number_gone, numbers_differ}
 
 -- entries for variables go with attributes of variables
-pub of_variables : (kind : Kind) {scope : Scope} → is_global scope ≡ false → is_wrong_scope (kind_of_entries kind) scope ≡ false
-of_variables R e = e
-of_variables Z e = e
+pub of_variables : (kind : Kind) (scope : Scope) → is_global scope ≡ false → is_wrong_scope (kind_of_entries kind) scope ≡ false
+of_variables R scope e = e
+of_variables Z scope e = e
 
 module _ (b : List ℕ) (adr : ℕ) (there : In adr (adrs (shape b))) where
   abbrev parts : Stands (shape b).attributes adr
@@ -28,7 +28,7 @@ module _ (b : List ℕ) (adr : ℕ) (there : In adr (adrs (shape b))) where
   of_attribute kind = record { number = length parts.fronts; own = parts.own; stands = stands; kind = kind; chain_is = ap (entries_chain kind) (sym parts.adr_is) }
 
   pub scoped : (kind : Kind) → is_global (scope_of (number b adr adr_scope)) ≡ false → IsScoped b (kind_of_entries kind) adr
-  scoped kind e = record { number = length parts.fronts; own = parts.own; stands = stands; adr_is = parts.adr_is; in_scope = of_variables kind (subst (λ (a : ℕ). is_global (scope_of (number b a adr_scope)) ≡ false) (sym parts.adr_is) e) }
+  scoped kind e = record { number = length parts.fronts; own = parts.own; stands = stands; adr_is = parts.adr_is; in_scope = of_variables kind _ (subst (λ (a : ℕ). is_global (scope_of (number b a adr_scope)) ≡ false) (sym parts.adr_is) e) }
 
 pub chain_left : {b now : List ℕ} {kind : EntryKind} {adr num : ℕ} {entries left : KnownEntries} → entries.chain ≡ entries_chain kind adr → DropsNumber b now kind adr entries num left → left.chain ≡ entries_chain kind adr
 chain_left is drops = elim drops [

@@ -3,7 +3,8 @@ use Rattle.std.proofs.Common.{◌≡◌, ℕ, ◌*◌, ◌≤◌, List, [], ◌�
 use Rattle.cdf_vars.proofs.Common.{nat_tests, list_any, flat_map, All, before_first, list_all, ◌==◌, ◌&&◌, nat_lt, if◌then◌else◌, nat_le, is_some, Each, HasVariable, VariableShape, DataType, signed_limit, value_count, size_of, are_bad_sizes, is_bad_shape, new_variable, drop-drop, length-append, length-map, take_at, big_bytes, vdr_type, IsFilled, vdr_bytes, IsBody, length-words, words_laid_out, Same, word, words, counted, is_positive, name_in, number, gdr_offset, r_num_dims, r_sizes, size_at, type_at, has_bit, record_type, vdr_name, vdr_flags, z_vdr_type, piece_kept, words_kept, Kind, R, Z, NewVariable, own_dims, vary_code, eqb-true, le-leb, or_parts, w32, cast_signed, variable_of, Hold, VariableFits, dimensions_at, dims_at, elems_at, has_pad, is_z, pad_field, record_bytes, type_of_variable, value_bytes, is_max_rec, vdr_end, NoRule, small_signed}
 use Rattle.std.proofs.lemmas.List.Concat.{flat_map-append}
 use Rattle.std.proofs.Math.Nat.{le-mul_of_pos_right}
-use Rattle.cdf_edits.proofs.Common.{Byte, Pad, Previous, dimension_limit, drop-append_seam, has_dimensions, is_characters, is_compressed, is_no_link, leaves_of, no_node, nodes_of, notation_of, type_of, unwrap_or, variable_rows}
+use Rattle.cdf_format.specs.Index.{leaves_of, nodes_of}
+use Rattle.cdf_edits.proofs.Common.{Byte, Pad, Previous, dimension_limit, drop-append_seam, has_dimensions, is_characters, is_compressed, is_no_link, no_node, notation_of, type_of, unwrap_or, variable_rows}
 use Rattle.cdf_model.specs.Place.{record_limit, record_size}
 use Rattle.cdf_values.proofs.ValueLengths.{size_some}
 use Rattle.std.proofs.lemmas.List.{length-replicate}
