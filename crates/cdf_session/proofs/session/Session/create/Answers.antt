@@ -1,7 +1,7 @@
-use Rattle.std.proofs.Common.{ap, sym, ◌∙◌}
+use Rattle.std.proofs.Common.{◌≡◌, Some, ap, sym, ◌∙◌}
 use Rattle.cdf_area.specs.Frame.{Frame}
 use Rattle.cdf_session.proofs.NewFileLemmas.{new_open}
-use Rattle.cdf_session.proofs.OpenLemmas.{frame_back, some_same}
+use Rattle.cdf_session.proofs.OpenLemmas.{frame_back}
 use Rattle.cdf_session.proofs.Explained.{explained}
 use Rattle.cdf_session.proofs.session.Session.create.Goals as goal
 
@@ -16,10 +16,11 @@ pub returns-in-Err-clause-area : goal.returns-in-Err-clause-area
 returns-in-Err-clause-area g c =
     let why = explained c.in-Err.error _ _ c.in-Err.ensures.area.cause in
     let marked = c.write_new.ensures.area.frame ∙ c.mark.ensures.frame in
+    let undone : Some (g.A.Area.image c.args.area) ≡ Some (g.A.Area.image c.undo.new.self) = sym (ap (λ (m : Frame _). m.base) marked) ∙ c.undo.ensures.image in
     record {
       frame = tt;
       counted = tt;
-      image = some_same _ _ (sym (ap (λ (m : Frame _). m.base) marked) ∙ c.undo.ensures.image);
+      image = cc undone;
       frame_back = frame_back _ _ _ _ c.requires.unmarked marked c.undo.ensures.frame;
       cause = rw (c.undo.ensures.faults, ← c.mark.ensures.faults) why;
     }
