@@ -161,6 +161,7 @@ impl<A: Area> Session<A> {
     }
 
     /// Carries out a command. One that there is not yet is a word that is not known. After a refusal and after an error the image is as before.
+    #[rattlefmt::skip]
     pub fn apply(&mut self, command: &Command) -> Result<Outcome, AreaError>
         requires { Sayable command.now }
         ensures answers { IfOk result (λ o. AnswersBuilt (built command.now) (A.frame self.old).limit (A.image self.old) command.now o (A.image self.new)) }
@@ -177,33 +178,10 @@ impl<A: Area> Session<A> {
             Command::DelAttr { name } => self.del_attr(name.as_slice()),
             Command::GetEntry { attr, kind, num } => self.get_entry(attr.as_slice(), *kind, *num),
             Command::DelEntry { attr, kind, num } => self.del_entry(attr.as_slice(), *kind, *num),
-            Command::PutEntry {
-                attr,
-                kind,
-                num,
-                t,
-                words,
-            } => self.put_entry(attr.as_slice(), *kind, *num, *t, words),
-            Command::Setup {
-                encoding,
-                majority,
-                dims,
-            } => self.setup(*encoding, *majority, dims),
-            Command::RVar {
-                name,
-                t,
-                elems,
-                vary,
-                varys,
-            } => self.rvar(name.as_slice(), *t, *elems, *vary, varys),
-            Command::ZVar {
-                name,
-                t,
-                elems,
-                vary,
-                dims,
-                varys,
-            } => self.zvar(name.as_slice(), *t, *elems, *vary, dims, varys),
+            Command::PutEntry { attr, kind, num, t, words } => self.put_entry(attr.as_slice(), *kind, *num, *t, words),
+            Command::Setup { encoding, majority, dims } => self.setup(*encoding, *majority, dims),
+            Command::RVar { name, t, elems, vary, varys } => self.rvar(name.as_slice(), *t, *elems, *vary, varys),
+            Command::ZVar { name, t, elems, vary, dims, varys } => self.zvar(name.as_slice(), *t, *elems, *vary, dims, varys),
             Command::RenameVar { from, to } => self.rename_var(from.as_slice(), to.as_slice()),
             Command::DelVar { name } => self.del_var(name.as_slice()),
             Command::SetPad { var, words } => self.set_pad(var.as_slice(), words),
@@ -211,12 +189,7 @@ impl<A: Area> Session<A> {
             Command::Reindex { var } => self.reindex(var.as_slice()),
             Command::PutRec { var, rec, words } => self.put_rec(var.as_slice(), *rec, words),
             Command::GetRec { var, rec } => self.get_rec(var.as_slice(), *rec),
-            Command::PutVal {
-                var,
-                rec,
-                index,
-                words,
-            } => self.put_val(var.as_slice(), *rec, index, words),
+            Command::PutVal { var, rec, index, words } => self.put_val(var.as_slice(), *rec, index, words),
             Command::GetVal { var, rec, index } => self.get_val(var.as_slice(), *rec, index),
             _ => Ok(unknown_word()),
         }
