@@ -4,11 +4,11 @@ ghost use Rattle.std.specs.Prelude.{◌≡◌, ◌+◌, OnOk};
 ghost use Rattle.std.specs.Int.{w32, cast_unsigned};
 ghost use Rattle.cdf_area.specs.Calls.{Overwrites};
 ghost use Rattle.cdf_format.specs.Fields.{LiesIn, with_field};
-ghost use Rattle.cdf_format.specs.Records.{gdr_eof, gdr_r_max_rec, gdr_r_num_dims, gdr_r_dim_size};
+ghost use Rattle.cdf_format.specs.Records.{gdr_eof, gdr_r_max_rec, gdr_r_num_dims};
 
-use crate::width::{set_signed4, set_unsigned4, set_unsigned8};
+use crate::width::{set_signed4, set_unsigned8};
 use cdf_area::{Area, AreaError};
-use cdf_format::fields::{GDR_EOF, GDR_R_DIM_SIZE, GDR_R_MAX_REC, GDR_R_NUM_DIMS};
+use cdf_format::fields::{GDR_EOF, GDR_R_MAX_REC, GDR_R_NUM_DIMS};
 
 /// eof: the place after the last record.
 pub fn set_gdr_eof<A: Area>(area: &mut A, at: u64, to: u64) -> Result<(), AreaError>
@@ -35,13 +35,4 @@ pub fn set_gdr_r_num_dims<A: Area>(area: &mut A, at: u64, to: i32) -> Result<(),
     ensures area { Overwrites A.image A.frame A.faults area.old area.new result }
 {
     set_signed4(area, at, GDR_R_NUM_DIMS, to)
-}
-
-/// The size of the dimension `i` of the r variables.
-pub fn set_gdr_r_dim_size<A: Area>(area: &mut A, at: u64, i: u32, to: u32) -> Result<(), AreaError>
-    requires { LiesIn (A.image area.old) at (gdr_r_dim_size i) }
-    ensures ok { OnOk result (A.image area.new ≡ with_field (A.image area.old) at (gdr_r_dim_size i) to) }
-    ensures area { Overwrites A.image A.frame A.faults area.old area.new result }
-{
-    set_unsigned4(area, at, GDR_R_DIM_SIZE + 4 * u64::from(i), to)
 }

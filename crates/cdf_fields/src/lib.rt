@@ -17,7 +17,7 @@ pub use adr::{set_adr_max_gr_entry, set_adr_max_z_entry, set_adr_name};
 pub use any::{set_record_size, set_record_type};
 pub use cdr::{set_cdr_encoding, set_cdr_flags, set_cdr_gdr_offset};
 pub use cvvr::set_cvvr_c_size;
-pub use gdr::{set_gdr_eof, set_gdr_r_dim_size, set_gdr_r_max_rec, set_gdr_r_num_dims};
+pub use gdr::{set_gdr_eof, set_gdr_r_max_rec, set_gdr_r_num_dims};
 pub use name::padded;
 pub use uir::{set_uir_next_uir, set_uir_prev_uir};
 pub use vdr::{

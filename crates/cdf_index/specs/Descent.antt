@@ -3,6 +3,7 @@ use Rattle.std.specs.Prelude.{◌≡◌, ◌≢◌, ◌<◌, ◌-◌, ◌==◌, 
 use Rattle.cdf_format.specs.Chains.{next_of}
 use Rattle.cdf_format.specs.Index.{Nodes, nodes_of, link_to, room_at, used_count}
 use Rattle.cdf_format.specs.IndexOf.{IsNode}
+use Rattle.cdf_format.specs.Records.{cdr_place}
 use Rattle.cdf_format.specs.Tiles.{AreTiles, Distinct, In, tiles}
 use Rattle.cdf_index.specs.Ahead.{Begun, chain_before}
 use Rattle.cdf_index.specs.Finding.{Stands}
@@ -25,7 +26,7 @@ pub record IsTree (b : List ℕ) (levels : ℕ) (nodes : Nodes) : Type 0 where
 pub record SomeTree (b : List ℕ) (at : ℕ) : Type 0 where
   pub levels : ℕ
   pub nodes : Nodes
-  pub tiled : AreTiles b 8 (length b) (tiles b)
+  pub tiled : AreTiles b cdr_place (length b) (tiles b)
   pub tree : IsTree b levels nodes
   pub link : at ≡ link_to nodes
 

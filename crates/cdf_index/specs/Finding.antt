@@ -9,7 +9,7 @@ use Rattle.cdf_format.specs.IndexRules.{is_block}
 use Rattle.cdf_format.specs.IndexWalk.{levels_on, nodes_met}
 use Rattle.cdf_format.specs.Shape.{Each}
 use Rattle.cdf_format.specs.Tiles.{AreTiles, tiles}
-use Rattle.cdf_format.specs.Records.{vxr_first, vxr_bytes}
+use Rattle.cdf_format.specs.Records.{cdr_place, vxr_first, vxr_bytes}
 use Rattle.cdf_index.specs.Order.{InOrder, find_in, nodes_passed}
 
 -- the index that a link leads to
@@ -47,7 +47,7 @@ pub record Stands (b : List ℕ) (levels : ℕ) (nodes : Nodes) : Type 0 where
 
 -- an index, in order
 pub record HasIndex (b : List ℕ) (head : ℕ) : Type 0 where
-  pub tiled : AreTiles b 8 (length b) (tiles b)
+  pub tiled : AreTiles b cdr_place (length b) (tiles b)
   pub index : IsIndex b (tiles b) head (index_at b head)
   pub fits : Each (NodeFits b) (nodes_of (index_at b head))
   pub blocks : Each (IsBlock b) (leaves_of (index_at b head))
@@ -57,7 +57,7 @@ pub record HasIndex (b : List ℕ) (head : ℕ) : Type 0 where
 pub record SomeNode (b : List ℕ) (at : ℕ) : Type 0 where
   pub levels : ℕ
   pub nodes : Nodes
-  pub tiled : AreTiles b 8 (length b) (tiles b)
+  pub tiled : AreTiles b cdr_place (length b) (tiles b)
   pub stands : Stands b levels nodes
   pub is_node : IsNode nodes
   pub link : at ≡ link_to nodes

@@ -2,6 +2,7 @@
 use Rattle.std.specs.Prelude.{◌≡◌, ◌≤◌, ℕ, List, [], ◌∷◌, ◌++◌, length, map}
 use Rattle.cdf_format.specs.Index.{Nodes, no_node, node, Entries, no_entry, block, lower, Leaf, nodes_of, lower_nodes, entry_leaves, entry_count, link_to, used_count}
 use Rattle.cdf_format.specs.IndexOf.{SayEntries, Names}
+use Rattle.cdf_format.specs.Records.{cdr_place}
 use Rattle.cdf_format.specs.Shape.{Each}
 use Rattle.cdf_format.specs.Tiles.{AreTiles, tiles}
 use Rattle.cdf_index.specs.Finding.{IsBlock, IsOrderly, Stands}
@@ -46,7 +47,7 @@ pub record EntriesStand (b : List ℕ) (at levels : ℕ) (entries : Entries) : T
 -- a chain begins at a link
 pub record SomeChain (b : List ℕ) (levels link : ℕ) : Type 0 where
   pub nodes : Nodes
-  pub tiled : AreTiles b 8 (length b) (tiles b)
+  pub tiled : AreTiles b cdr_place (length b) (tiles b)
   pub stands : Stands b levels nodes
   pub link_is : link ≡ link_to nodes
   pub few : length (nodes_of nodes) ≤ length b
@@ -54,6 +55,6 @@ pub record SomeChain (b : List ℕ) (levels link : ℕ) : Type 0 where
 -- entries stand in a node at a place
 pub record SomeEntries (b : List ℕ) (at levels : ℕ) : Type 0 where
   pub entries : Entries
-  pub tiled : AreTiles b 8 (length b) (tiles b)
+  pub tiled : AreTiles b cdr_place (length b) (tiles b)
   pub stand : EntriesStand b at levels entries
   pub few : length (lower_nodes entries) ≤ length b

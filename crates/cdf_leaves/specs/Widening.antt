@@ -1,6 +1,7 @@
 -- The nodes on the way to a new leaf, widened one by one (own).
 use Rattle.std.specs.Prelude.{◌≡◌, ◌<◌, ℕ, List, [], ◌∷◌, length}
 use Rattle.cdf_format.specs.Index.{room_at, used_count}
+use Rattle.cdf_format.specs.Records.{cdr_place}
 use Rattle.cdf_format.specs.Shape.{Each}
 use Rattle.cdf_format.specs.Sound.{NodeFits}
 use Rattle.cdf_format.specs.Tiles.{AreTiles, In}
@@ -16,7 +17,7 @@ pub record StepStands (b records : List ℕ) (step : Step) : Type 0 where
 
 pub record WayStands (b : List ℕ) (steps : List Step) : Type 0 where
   pub records : List ℕ
-  pub tiled : AreTiles b 8 (length b) records
+  pub tiled : AreTiles b cdr_place (length b) records
   pub stand : Each (StepStands b records) steps
 
 -- the entries of these numbers in these nodes were widened, the last one first

@@ -2,6 +2,7 @@
 use Rattle.std.specs.Prelude.{◌≡◌, ◌≢◌, ◌⊎◌, ◌≤◌, ℕ, ◌+◌, List, length}
 use Rattle.cdf_format.specs.Bytes.{Same}
 use Rattle.cdf_format.specs.Fields.{size_at, type_at}
+use Rattle.cdf_format.specs.Records.{cdr_place}
 use Rattle.cdf_format.specs.RecordTypes.{uir_type}
 use Rattle.cdf_format.specs.Tiles.{In, AreTiles}
 use Rattle.cdf_edits.specs.Edits.Marks.{Mark, Avoids}
@@ -12,10 +13,10 @@ Kind b now old reborn m = (In m old × (type_at now m ≡ type_at b m)) ⊎ (((I
 
 -- From an image with these records to one with those. Of an old record stays what avoids the marks; the reborn ones are those that may have another type.
 pub record Edit (b now old new : List ℕ) (marks : List Mark) (reborn : List ℕ) : Type 0 where
-  pub tiled : AreTiles b 8 (length b) old
-  pub tiled_now : AreTiles now 8 (length now) new
+  pub tiled : AreTiles b cdr_place (length b) old
+  pub tiled_now : AreTiles now cdr_place (length now) new
   pub longer : length b ≤ length now
-  pub front : Same b now 0 8
+  pub front : Same b now 0 cdr_place
   pub sub : (m : ℕ) → In m old → In m new
   pub head : (m : ℕ) → In m old → type_at b m ≢ uir_type → (In m reborn → ⊥) → Same b now (m + 0) (m + 12)
   pub part : (m type lo hi : ℕ) → In m old → type_at b m ≡ type → Avoids marks type m 0 12 → Avoids marks type m lo hi → hi ≤ size_at b m → Same b now (m + lo) (m + hi)
