@@ -1,6 +1,6 @@
 -- A file into which parts of a new one are written stays between the old one and the new one.
-use Rattle.std.proofs.Common.{◌≡◌, ◌⊎◌, ℕ, ◌+◌, ◌-◌, ◌*◌, ◌≤◌, ◌<◌, min, max, List, [], ◌++◌, length, take, drop, slice_index, Option, Some, None, refl, sym, ◌∙◌, ap, subst, arith, inl, inr, append_assoc, append-nil, length-append}
-use Rattle.cdf_pages.proofs.Common.{cases_lt, length-take-le, length-drop, get_or-take, get_or_append_left, take_at, drop_all, byte-put_before, byte-put_inside, byte-put_after, Disk, IsWhole, WrittenPart, cut, file_of, written, IsSome, Holds, HoldsBetween}
+use Rattle.std.proofs.Common.{◌≡◌, ℕ, ◌+◌, ◌-◌, ◌≤◌, ◌<◌, max, List, ◌++◌, length, take, drop, slice_index, refl, sym, ◌∙◌, ap, subst, arith, inl, inr, append_assoc, append-nil, length-append}
+use Rattle.cdf_pages.proofs.Common.{cases_lt, length-take-le, length-drop, get_or-take, take_at, drop_all, byte-put_before, byte-put_inside, byte-put_after, Disk, IsWhole, WrittenPart, cut, file_of, written, IsSome, Holds, HoldsBetween}
 use Rattle.std.proofs.lemmas.List.{get_or-append_right}
 use Rattle.cdf_base.specs.Bytes.{put}
 use Rattle.cdf_base.proofs.Puts.{take-put}

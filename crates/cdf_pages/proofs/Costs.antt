@@ -1,8 +1,7 @@
 -- What reading and writing pages one after another costs, and the clean pages that it leaves.
-use Rattle.std.proofs.Common.{◌≡◌, ◌∙◌, ◌⊎◌, ℕ, zero, suc, ◌+◌, ◌-◌, ◌*◌, ◌/◌, ◌%◌, ◌<◌, ◌≤◌, Bool, true, false, List, [], ◌∷◌, length, min, Option, Some, None, refl, sym, ap, subst, arith, inl, inr, nat_eq, IsSome}
+use Rattle.std.proofs.Common.{◌≡◌, ◌∙◌, ◌⊎◌, ℕ, zero, suc, ◌+◌, ◌-◌, ◌*◌, ◌/◌, ◌%◌, ◌<◌, ◌≤◌, Bool, true, false, List, min, Option, Some, None, refl, sym, ap, subst, arith, inl, inr, nat_eq}
 use Rattle.cdf_pages.proofs.Common.{is_some, keys_of, cases_lt, RemovesSome, removed, TakesAtMost, is_in, Changes, ChangesSome, page_cost, pages_in, used}
 use Rattle.cdf_pages.specs.Standing.{IsPageOf, cost_of_reading, cost_of_writing, used_from, without_from}
-use Rattle.cdf_pages.proofs.Filling.{takes_less}
 use Rattle.cdf_pages.proofs.Keys.{keys-removed_from}
 
 -- ---- pages of a range

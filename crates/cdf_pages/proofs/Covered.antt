@@ -1,5 +1,5 @@
 -- What is kept of a page: old bytes that are put back over whatever was written.
-use Rattle.std.proofs.Common.{◌≡◌, ◌∙◌, ◌⊎◌, ℕ, ◌+◌, ◌-◌, ◌≤◌, ◌<◌, List, [], ◌∷◌, ◌++◌, length, take, drop, slice_index, Bool, Option, Some, None, IsSome, refl, sym, ap, subst, arith, inl, inr}
+use Rattle.std.proofs.Common.{◌≡◌, ◌∙◌, ◌⊎◌, ℕ, ◌+◌, ◌-◌, ◌≤◌, ◌<◌, List, [], ◌∷◌, ◌++◌, length, take, drop, slice_index, Bool, Option, Some, None, refl, sym, ap, subst, arith, inl, inr}
 use Rattle.cdf_pages.proofs.Common.{Err, Ok, Result, is_some, if◌then◌else◌, put, byte-put_before, byte-put_inside, byte-put_after, cases_lt, length-take-le, length-drop, was}
 use Rattle.std.proofs.lemmas.List.{same_lists, get_or_default}
 use Rattle.std.proofs.lemmas.List.Elements.{All-head, All-push, All-tail}

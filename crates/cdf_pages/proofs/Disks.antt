@@ -1,5 +1,5 @@
 -- What writes and cuts leave of the disk.
-use Rattle.std.proofs.Common.{◌≡◌, ℕ, List, [], ◌∷◌, ◌++◌, length, take, Bool, true, Option, refl, sym, ◌∙◌, ap, subst, eq-eqb, inl, inr}
+use Rattle.std.proofs.Common.{◌≡◌, ℕ, List, [], ◌∷◌, take, true, Option, refl, sym, ◌∙◌, ap, subst, eq-eqb, inl, inr}
 use Rattle.cdf_pages.proofs.Common.{cases_Bool, IsSome, IfSome, put, Disk, IsWhole, cut, file_in, file_of, written, Holds}
 use Rattle.std.specs.Prelude.{bytes_eq, Some, None}
 use Rattle.cdf_store.specs.Disk.{files_with}

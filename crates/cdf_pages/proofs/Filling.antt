@@ -1,5 +1,5 @@
 -- A part of a buffer is filled.
-use Rattle.std.proofs.Common.{◌≡◌, ◌∙◌, ℕ, ◌+◌, ◌-◌, ◌≤◌, ◌<◌, List, ◌++◌, length, take, drop, Option, Some, None, sym, ap, ap₂, subst, refl, ◌*◌, min, Bool, true, false, inl, inr, rules, arith}
+use Rattle.std.proofs.Common.{◌≡◌, ◌∙◌, ℕ, ◌+◌, ◌-◌, ◌≤◌, ◌<◌, List, ◌++◌, length, take, drop, Option, Some, None, sym, ap, ap₂, subst, refl, ◌*◌, min, true, false, inl, inr, rules, arith}
 use Rattle.cdf_pages.proofs.Common.{is_some, cases_lt, length-take-le, Result, Ok, Err, ReadsAt, ReadsPiece, file_in, TakesAtMost}
 use borrow.Rule.Slice.PartMut.{put_mid, post_of}
 use lib.Seq.{take-append-add, take-add}

@@ -1,5 +1,5 @@
 -- Pages become changed ones, one after another.
-use Rattle.std.proofs.Common.{◌≡◌, ◌∙◌, ◌⊎◌, ℕ, zero, suc, ◌+◌, ◌-◌, ◌/◌, ◌*◌, ◌<◌, slice_index, length, ◌≤◌, List, Option, Some, None, IsSome, refl, sym, ap, subst, arith, inl, inr, nat_eq, zero-add, Bool, true, false, cond, [], ◌∷◌, rules}
+use Rattle.std.proofs.Common.{◌≡◌, ◌∙◌, ◌⊎◌, ℕ, zero, suc, ◌+◌, ◌-◌, ◌/◌, ◌*◌, ◌<◌, slice_index, length, ◌≤◌, List, Option, Some, None, IsSome, refl, sym, ap, subst, arith, inl, inr, nat_eq, Bool, true, false, cond, [], ◌∷◌}
 use Rattle.cdf_pages.proofs.Common.{is_some, All, All-cons, cases_lt, remove_entry, lookup, keys_of, eqb-true, eq-eqb, LruCache, promoted, put_entries, Grown, Owned, RemovesSome, Backed, Shows, byte_of}
 use Rattle.std.proofs.lemmas.List.Elements.{All-head, All-tail}
 use Rattle.std.specs.List.{IsDistinct}
@@ -13,11 +13,11 @@ use Rattle.cdf_pages.specs.Pages.{Covers, part_from, part_upto}
 use Rattle.cdf_pages.proofs.Filling.{false_not_true}
 
 pub grown_refl : (file : List ℕ) (n : ℕ) (m : Option ℕ) (p : ℕ → Option (List ℕ)) (k : ℕ → Option (Option (List Old))) → Grown file n m p k p k
-grown_refl file n m p k = record { same = λ i lt. refl; less = λ q e. e; was = λ s q. refl; readys = λ q s. s }
+grown_refl file n m p k = record { same = λ i lt. refl; less = λ q e. e; was = λ s q. refl }
 
 pub grown_trans : (file : List ℕ) (n : ℕ) (m : Option ℕ) (p p' p'' : ℕ → Option (List ℕ)) (k k' k'' : ℕ → Option (Option (List Old))) → Grown file n m p k p' k' → Grown file n m p' k' p'' k'' → Grown file n m p k p'' k''
 grown_trans file n m p p' p'' k k' k'' g h =
-    record { same = λ i lt. h.same i lt ∙ g.same i lt; less = λ q e. g.less q (h.less q e); was = λ s q. h.was s q ∙ g.was s q; readys = λ q s. h.readys q (g.readys q s) }
+    record { same = λ i lt. h.same i lt ∙ g.same i lt; less = λ q e. g.less q (h.less q e); was = λ s q. h.was s q ∙ g.was s q }
 
 pub removed_more : {X : Type 0} (k n : ℕ) (es : List (ℕ × X)) → removed k (suc n) es ≡ remove_entry (nat_eq (k + n)) (removed k n es)
 unfolding removed
@@ -52,7 +52,6 @@ grown_next file file' n n' m m' p p' p'' k k' k'' ef en em g h = record {
   same = λ i lt. subst (λ f. byte_of p'' f i ≡ byte_of p' f i) ef (h.same i (omega (arith, lt, en))) ∙ g.same i lt;
   less = λ q e. g.less q (h.less q e);
   was = λ s q. h.was (subst IsSome (sym em) s) q ∙ g.was s q;
-  readys = λ q s. h.readys q (g.readys q s);
 }
 
 pub others_next : (p p' p'' : ℕ → Option (List ℕ)) (from k : ℕ) → from ≤ k → ((q : ℕ) → (q < from) ⊎ (k ≤ q) → p' q ≡ p q) → ((q : ℕ) → (q ≡ k → ⊥) → p'' q ≡ p' q) → (q : ℕ) → (q < from) ⊎ (k + 1 ≤ q) → p'' q ≡ p q

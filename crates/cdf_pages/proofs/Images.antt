@@ -1,6 +1,6 @@
 -- Images in pages.
-use Rattle.std.proofs.Common.{◌≡◌, ◌∙◌, ◌⊎◌, min, replicate, ℕ, zero, suc, ◌+◌, ◌-◌, ◌*◌, ◌/◌, ◌%◌, ◌<◌, ◌≤◌, List, [], ◌∷◌, ◌++◌, length, take, drop, get_or, slice_index, Option, Some, None, IsSome, refl, sym, ap, ap₂, subst, arith, inl, inr}
-use Rattle.cdf_pages.proofs.Common.{get_or-take, get_or-drop, length-take, length-drop, length-take-le, length-replicate, take_at, drop_all, cases_lt, byte-put_before, byte-put_inside, byte-put_after, is_some, byte_from, byte_of, was, Shows}
+use Rattle.std.proofs.Common.{◌≡◌, ◌∙◌, ◌⊎◌, min, replicate, ℕ, zero, suc, ◌+◌, ◌-◌, ◌*◌, ◌/◌, ◌%◌, ◌<◌, ◌≤◌, List, [], ◌∷◌, ◌++◌, length, take, drop, get_or, slice_index, Option, Some, None, refl, sym, ap, ap₂, arith, inl, inr}
+use Rattle.cdf_pages.proofs.Common.{get_or-take, get_or-drop, length-drop, length-take-le, length-replicate, take_at, drop_all, cases_lt, byte-put_before, byte-put_inside, byte-put_after, is_some, byte_from, byte_of, Shows}
 use Rattle.std.proofs.lemmas.List.{same_lists, get_or_default, take-append-drop, append-nil, replicate-append-replicate}
 use Rattle.cdf_base.specs.Bytes.{put}
 use Rattle.cdf_base.proofs.Puts.{length-put, put_more}

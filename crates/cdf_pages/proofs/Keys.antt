@@ -1,5 +1,5 @@
 -- The numbers of the pages in a cache.
-use Rattle.std.proofs.Common.{◌≡◌, ◌∙◌, ◌⊎◌, ℕ, zero, suc, ◌+◌, ◌-◌, ◌<◌, ◌≤◌, Bool, true, false, cond, List, [], ◌∷◌, length, map, take, Option, Some, None, refl, sym, ap, arith, inl, inr, nat_eq, IsSome, slice_get}
+use Rattle.std.proofs.Common.{◌≡◌, ◌∙◌, ℕ, zero, suc, ◌+◌, ◌-◌, ◌≤◌, true, false, cond, List, [], ◌∷◌, length, take, Option, Some, None, refl, sym, ap, arith, inl, inr, nat_eq, IsSome, slice_get}
 use Rattle.cdf_pages.proofs.Common.{is_some, option_map, keys_of, lookup, remove_entry, list_any, cases_Bool, eq-eqb, eqb-true, take_all, same_Some, LruCache, promoted, put_entries}
 use Rattle.std.specs.Option.{option_map_or}
 use Rattle.std.specs.Map.{lookup_entry}

@@ -1,12 +1,12 @@
 -- What a save leaves of an area.
-use Rattle.std.proofs.Common.{◌≡◌, ◌∙◌, ◌⊎◌, ℕ, ◌+◌, ◌*◌, ◌/◌, ◌≤◌, ◌<◌, ◌++◌, max, Bool, true, false, not, List, [], length, take, get_or, slice_index, Option, Some, None, Ok, Err, OnOk, Result, refl, sym, ap, subst, arith, nat_eq, append-nil, length-append}
-use Rattle.cdf_pages.proofs.Common.{IsSome, IsErrOf, IsTrue, is_some, option_map, lookup, eqb-true, take_all, Fault, NoMemory, Disk, IsWhole, file_of, AllShow, Backed, byte_from, byte_of, image_of, is_in, HasNothingToSave, Holds, IsSavedAlready}
+use Rattle.std.proofs.Common.{◌≡◌, ◌∙◌, ℕ, ◌+◌, ◌*◌, ◌/◌, ◌≤◌, ◌<◌, ◌++◌, max, Bool, true, false, not, List, [], length, get_or, slice_index, Option, Some, None, Ok, Err, OnOk, Result, refl, sym, ap, subst, arith, append-nil, length-append}
+use Rattle.cdf_pages.proofs.Common.{IsSome, IsErrOf, option_map, eqb-true, take_all, Fault, NoMemory, Disk, IsWhole, file_of, AllShow, Backed, byte_from, byte_of, image_of, is_in, HasNothingToSave, Holds, IsSavedAlready}
 use Rattle.std.specs.Prelude.{◌||◌, ◌==◌}
 use Rattle.cdf_area.specs.declared.area.AreaError.{AreaError}
 use Rattle.cdf_pages.specs.Saving.{is_edited, most_of}
 use Rattle.cdf_pages.proofs.Disks.{file_held, holds_first}
 use Rattle.cdf_pages.proofs.Filling.{none_is}
-use Rattle.cdf_pages.proofs.Images.{byte-image, image_file, image_size}
+use Rattle.cdf_pages.proofs.Images.{byte-image, image_file}
 use Rattle.cdf_pages.proofs.SavedPage.{all_backed}
 
 -- what a page that is no changed one shows stays in the file

@@ -1,6 +1,6 @@
 -- Ranges that writes add to the written ones.
-use Rattle.std.proofs.Common.{◌≡◌, ◌∙◌, ◌⊎◌, ℕ, ◌+◌, ◌≤◌, List, [], ◌∷◌, ◌++◌, length, take, Option, Some, None, refl, sym, ap, subst, inl, inr, append_assoc, append-nil}
-use Rattle.cdf_pages.proofs.Common.{All, option_map, length-take-le, All-cons, Disk, WrittenPart, written, Touches}
+use Rattle.std.proofs.Common.{◌≡◌, ◌∙◌, ℕ, ◌≤◌, List, [], ◌∷◌, ◌++◌, length, take, Option, Some, None, refl, sym, ap, subst, inl, inr, append_assoc, append-nil}
+use Rattle.cdf_pages.proofs.Common.{option_map, length-take-le, All-cons, Disk, WrittenPart, written, Touches}
 use Rattle.std.proofs.lemmas.List.Elements.{All-append, All-nil, All-weaker}
 
 pub touches_none : (P : ℕ × ℕ → Type 0) (before after : Option (List (ℕ × ℕ))) → after ≡ before → Touches P before after

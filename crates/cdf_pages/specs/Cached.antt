@@ -1,6 +1,5 @@
 -- What the cache of an area says of its clean pages.
 use Rattle.std.specs.Prelude.{◌≡◌, ℕ, ◌≤◌, Bool, true, false, List, length, is_some, nat_eq, IsTrue, Option, Some, None, refl}
-use Rattle.std.specs.List.{list_any}
 use Rattle.std.specs.Map.{keys_of, lookup}
 use Rattle.std.proofs.Common.{sym, ap, subst}
 use Rattle.std.proofs.lemmas.Map.Entries.{length-keys_of}

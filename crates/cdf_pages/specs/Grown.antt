@@ -1,16 +1,15 @@
 -- More pages are changed ones, and show the same bytes.
-use Rattle.std.specs.Prelude.{◌≡◌, ℕ, zero, suc, ◌<◌, ◌≤◌, List, Some, None, IsSome, nat_eq}
+use Rattle.std.specs.Prelude.{◌≡◌, ℕ, zero, suc, ◌<◌, ◌≤◌, List, None, IsSome, nat_eq}
 use Rattle.std.specs.declared.option.Option.{Option}
 use Rattle.std.specs.Map.{remove_entry}
 use Rattle.cdf_area.specs.OldBytes.{Old}
 use Rattle.cdf_pages.specs.Pages.{Covers, byte_of, part_from, part_upto, was}
 
--- the first n bytes of the image stay, and so does what each page was at the mark, if there is one; no changed page and no kept one is lost
+-- the first n bytes of the image stay, and so does what each page was at the mark, if there is one; no changed page is lost
 pub record Grown (file : List ℕ) (n : ℕ) (marked : Option ℕ) (changed : ℕ → Option (List ℕ)) (kept : ℕ → Option (Option (List Old))) (changed' : ℕ → Option (List ℕ)) (kept' : ℕ → Option (Option (List Old))) : Type 0 where
   pub same : (i : ℕ) → i < n → byte_of changed' file i ≡ byte_of changed file i
   pub less : (number : ℕ) → changed' number ≡ None → changed number ≡ None
   pub was : IsSome marked → (number : ℕ) → was (kept' number) (changed' number) ≡ was (kept number) (changed number)
-  pub readys : (number : ℕ) → IsSome (kept number) → IsSome (kept' number)
 
 -- the pages from one up to another are changed ones, and where there is a mark, what stands in them of a range is kept
 pub record Owned (marked : Option ℕ) (changed : ℕ → Option (List ℕ)) (kept : ℕ → Option (Option (List Old))) (place end from upto : ℕ) : Type 0 where

@@ -71,7 +71,6 @@ impl Sheets {
         ensures marked { self.new.marked ≡ self.old.marked }
         ensures kept { OnOk result (IsSome self.old.marked → IsSome (get nat_cmp self.new.kept number)) }
         ensures covers { OnOk result (IsSome self.old.marked → Covers (get nat_cmp self.new.kept number) from upto) }
-        ensures more { (other : ℕ) → IsSome (get nat_cmp self.old.kept other) → IsSome (get nat_cmp self.new.kept other) }
         ensures others { (other : ℕ) → (other ≡ number → ⊥) → get nat_cmp self.new.kept other ≡ get nat_cmp self.old.kept other }
         ensures was { (other : ℕ) → was (get nat_cmp self.new.kept other) (get nat_cmp self.old.changed other) ≡ was (get nat_cmp self.old.kept other) (get nat_cmp self.old.changed other) }
     {
@@ -85,7 +84,6 @@ impl Sheets {
         ensures length { self.new.length ≡ self.old.length }
         ensures marked { self.new.marked ≡ self.old.marked }
         ensures kept { OnOk result (IsSome self.old.marked → IsSome (get nat_cmp self.new.kept number)) }
-        ensures more { (other : ℕ) → IsSome (get nat_cmp self.old.kept other) → IsSome (get nat_cmp self.new.kept other) }
         ensures others { (other : ℕ) → (other ≡ number → ⊥) → get nat_cmp self.new.kept other ≡ get nat_cmp self.old.kept other }
         ensures was { (other : ℕ) → was (get nat_cmp self.new.kept other) (get nat_cmp self.old.changed other) ≡ was (get nat_cmp self.old.kept other) (get nat_cmp self.old.changed other) }
     {
@@ -104,7 +102,7 @@ impl Sheets {
         ensures length { self.new.length ≡ self.old.length }
         ensures marked { self.new.marked ≡ self.old.marked }
         ensures covers { OnOk result (IsSome (get nat_cmp self.old.kept number) → Covers (get nat_cmp self.new.kept number) from upto) }
-        ensures more { (other : ℕ) → IsSome (get nat_cmp self.old.kept other) → IsSome (get nat_cmp self.new.kept other) }
+        ensures kept { IsSome (get nat_cmp self.old.kept number) → IsSome (get nat_cmp self.new.kept number) }
         ensures others { (other : ℕ) → (other ≡ number → ⊥) → get nat_cmp self.new.kept other ≡ get nat_cmp self.old.kept other }
         ensures was { (other : ℕ) → was (get nat_cmp self.new.kept other) (get nat_cmp self.old.changed other) ≡ was (get nat_cmp self.old.kept other) (get nat_cmp self.old.changed other) }
     {

@@ -1,4 +1,4 @@
-use Rattle.std.proofs.Common.{rules, ◌≡◌, ◌∙◌, ◌+◌, ◌-◌, ◌*◌, ◌/◌, ◌≤◌, ◌<◌, ◌⊎◌, ℕ, List, refl, sym, ap, ap₂, subst, arith, take, length, replicate, inl, inr}
+use Rattle.std.proofs.Common.{rules, ◌≡◌, ◌∙◌, ◌+◌, ◌≤◌, ℕ, List, refl, sym, ap, ap₂, subst, arith, take, length, replicate, inl, inr}
 use Rattle.cdf_pages.proofs.Common.{length-replicate, nat_cmp, get, put, image_of, IsSome, was}
 use Rattle.cdf_pages.specs.Pages.{Covers, part_from, part_upto}
 use Rattle.cdf_pages.proofs.Covered.{covers_less}

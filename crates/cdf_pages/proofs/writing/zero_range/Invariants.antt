@@ -1,4 +1,4 @@
-use Rattle.std.proofs.Common.{◌-◌, ◌≡◌, ◌+◌, ◌*◌, ◌/◌, ◌≤◌, ◌<◌, ◌++◌, ℕ, List, length, take, drop, replicate, Some, None, ◌⊎◌}
+use Rattle.std.proofs.Common.{◌-◌, ◌≡◌, ◌+◌, ◌*◌, ◌/◌, ◌≤◌, ◌<◌, ℕ, List, replicate, None, ◌⊎◌}
 use Rattle.cdf_pages.proofs.Common.{nat_cmp, get, put, image_of, IsSome, was}
 use Rattle.cdf_pages.proofs.writing.zero_range.Given as goal
 

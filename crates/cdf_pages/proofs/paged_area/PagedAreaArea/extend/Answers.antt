@@ -1,10 +1,10 @@
-use Rattle.std.proofs.Common.{rules, ◌≡◌, ◌∙◌, ◌+◌, ◌-◌, ◌*◌, ◌/◌, ◌%◌, ◌≤◌, ◌<◌, ◌⊎◌, ℕ, List, refl, sym, ap, ap₂, subst, arith, None, Some, length, replicate, ◌++◌}
-use Rattle.cdf_pages.proofs.Common.{nat_cmp, get, put, file_of, image_of, was, eqb-true, keys_of, TakesAtMost, is_in, Changes, ChangesSome, cost_of_writing, pages_in}
+use Rattle.std.proofs.Common.{rules, ◌≡◌, ◌∙◌, ◌+◌, ◌*◌, ◌/◌, ◌≤◌, ◌<◌, ◌⊎◌, ℕ, List, refl, sym, ap, ap₂, subst, arith, length, replicate, ◌++◌}
+use Rattle.cdf_pages.proofs.Common.{nat_cmp, get, file_of, image_of, was, keys_of, TakesAtMost, is_in, Changes, ChangesSome, cost_of_writing, pages_in}
 use Rattle.cdf_pages.specs.Pages.{Covers, part_from, part_upto}
 use Rattle.cdf_pages.proofs.Filling.{on_err, true_not_false}
-use Rattle.cdf_pages.proofs.Images.{image_same, image_size, put_empty}
+use Rattle.cdf_pages.proofs.Images.{image_same, image_size}
 use Rattle.cdf_pages.proofs.Growing.{kept_backed, was_backed, kept_shows}
-use Rattle.cdf_pages.proofs.Costs.{changes, changes_none, changes_some, pages_between, some_length, takes_same}
+use Rattle.cdf_pages.proofs.Costs.{changes, changes_none, changes_some, pages_between, takes_same}
 use Rattle.cdf_pages.proofs.paged_area.PagedAreaArea.extend.Goals as goal
 
 pub invariant_of-self : goal.invariant_of-self
