@@ -9,7 +9,7 @@ ghost use Rattle.cdf_format.specs.Sound.{IsSound};
 ghost use Rattle.cdf_edits.specs.Commands.Others.{is_on_attributes, is_on_variables, AttributesStay, VariablesStay};
 ghost use Rattle.cdf_edits.specs.Frame.Leaves.{ChangedWithin, LeavesFinding, FileStays, Leaves};
 ghost use Rattle.cdf_edits.specs.Frame.Changed.{Touch, touch, Changed, Placed};
-ghost use Rattle.cdf_format.specs.Chains.{Leads, is_a, is_in, is_linkable, next_of, chain};
+ghost use Rattle.cdf_format.specs.Chains.{Leads, is_a, is_in, is_linkable, next_field, next_of, chain};
 ghost use Rattle.cdf_format.specs.Content.{content};
 ghost use Rattle.cdf_format.specs.Fields.{word, size_at, type_at, eof};
 ghost use Rattle.cdf_edits.specs.Space.Giving.{FirstBytes, IsGiven, UnlistedBytes};
@@ -23,7 +23,7 @@ ghost use Rattle.cdf_edits.specs.Space.Taking.{NoneFit, last_of, FirstBack, Take
 ghost use Rattle.cdf_format.specs.Tiles.{In, Distinct, AreTiles, tiling};
 ghost use Rattle.cdf_format.specs.Walks.{whole};
 ghost use Rattle.cdf_format.specs.WellFormed.{Good};
-ghost use Rattle.cdf_format.specs.Records.{past, record_type, linked_size};
+ghost use Rattle.cdf_format.specs.Records.{cdr_place, past, record_type, linked_size};
 ghost use Rattle.cdf_edits.specs.Edits.Edit.{Edit};
 ghost use Rattle.cdf_edits.specs.Edits.Marks.{Mark};
 
@@ -39,7 +39,7 @@ pub fn var_alone()
 
 /// A change within the CDR and the GDR, but for the fields that others are found and read by, leaves the tiling up to the old end, the chains, all attributes and all variables.
 pub fn file_alone()
-    ensures { (b now records : List ℕ) (s : Shape) (change : ChangedWithin b now (8 ∷ s.gdr ∷ [])) → IsSound b s → ((member : ℕ) → In member s.records → In member records) → LeavesFinding b s change.touches → Leaves b now s records s.attributes (variables s) }
+    ensures { (b now records : List ℕ) (s : Shape) (change : ChangedWithin b now (cdr_place ∷ s.gdr ∷ [])) → IsSound b s → ((member : ℕ) → In member s.records → In member records) → LeavesFinding b s change.touches → Leaves b now s records s.attributes (variables s) }
 {}
 
 /// A change within unused records leaves the tiling up to the old end, the chains, all attributes, all variables, and what the file says.
@@ -49,18 +49,18 @@ pub fn unused_alone()
 
 /// A link that is written changes the chain that it is behind a front part of, which goes on with the records that the link then leads through; every other chain stays. More may be touched that meets no link.
 pub fn link_alone()
-    ensures own { (b now records all : List ℕ) (upto holder place : ℕ) (more : List Touch) (c : ChainHead) (front rest tail : List ℕ) → AreTiles b 8 upto records → upto ≤ length b → ((member : ℕ) → In member records → In member all) → Changed b now (touch holder place 8 ∷ more) → Placed b records upto (touch holder place 8 ∷ more) → IsHead b records (with_members c (front ++ rest)) → IsLinkAfter c front holder place → AllSpare more (with_members c front) → Leads now (word now (holder + place) 8) tail 0 → ((member : ℕ) → In member tail → is_linkable now all c.type member ≡ true) → Distinct (front ++ tail) → IsHead now all (with_members c (front ++ tail)) }
-    ensures others { (b now records all : List ℕ) (upto holder place : ℕ) (more : List Touch) (c : ChainHead) (front rest : List ℕ) (other : ChainHead) → AreTiles b 8 upto records → upto ≤ length b → ((member : ℕ) → In member records → In member all) → Changed b now (touch holder place 8 ∷ more) → Placed b records upto (touch holder place 8 ∷ more) → IsHead b records (with_members c (front ++ rest)) → IsLinkAfter c front holder place → IsHead b records other → IsOther c front other → AllSpare more other → IsHead now all other }
+    ensures own { (b now records all : List ℕ) (upto holder place : ℕ) (more : List Touch) (c : ChainHead) (front rest tail : List ℕ) → AreTiles b cdr_place upto records → upto ≤ length b → ((member : ℕ) → In member records → In member all) → Changed b now (touch holder place next_field.width ∷ more) → Placed b records upto (touch holder place next_field.width ∷ more) → IsHead b records (with_members c (front ++ rest)) → IsLinkAfter c front holder place → AllSpare more (with_members c front) → Leads now (word now (holder + place) next_field.width) tail 0 → ((member : ℕ) → In member tail → is_linkable now all c.type member ≡ true) → Distinct (front ++ tail) → IsHead now all (with_members c (front ++ tail)) }
+    ensures others { (b now records all : List ℕ) (upto holder place : ℕ) (more : List Touch) (c : ChainHead) (front rest : List ℕ) (other : ChainHead) → AreTiles b cdr_place upto records → upto ≤ length b → ((member : ℕ) → In member records → In member all) → Changed b now (touch holder place next_field.width ∷ more) → Placed b records upto (touch holder place next_field.width ∷ more) → IsHead b records (with_members c (front ++ rest)) → IsLinkAfter c front holder place → IsHead b records other → IsOther c front other → AllSpare more other → IsHead now all other }
 {}
 
 /// The records of an image, one more record behind them.
 pub fn tile_appended()
-    ensures { (b : List ℕ) (from upto n : ℕ) (tiles : List ℕ) → AreTiles b from upto tiles → size_at b upto ≡ n → 12 ≤ n → AreTiles b from (upto + n) (tiles ++ upto ∷ []) }
+    ensures { (b : List ℕ) (from upto n : ℕ) (tiles : List ℕ) → AreTiles b from upto tiles → size_at b upto ≡ n → past record_type ≤ n → AreTiles b from (upto + n) (tiles ++ upto ∷ []) }
 {}
 
 /// The records of an image of which one is split into two.
 pub fn tile_split()
-    ensures { (b now : List ℕ) (from upto tile n : ℕ) (before after : List ℕ) → AreTiles b from upto (before ++ tile ∷ after) → ((other : ℕ) → In other (before ++ after) → size_at now other ≡ size_at b other) → size_at now tile ≡ n → size_at now (tile + n) + n ≡ size_at b tile → 12 ≤ n → 12 ≤ size_at now (tile + n) → AreTiles now from upto (before ++ tile ∷ (tile + n) ∷ after) }
+    ensures { (b now : List ℕ) (from upto tile n : ℕ) (before after : List ℕ) → AreTiles b from upto (before ++ tile ∷ after) → ((other : ℕ) → In other (before ++ after) → size_at now other ≡ size_at b other) → size_at now tile ≡ n → size_at now (tile + n) + n ≡ size_at b tile → past record_type ≤ n → past record_type ≤ size_at now (tile + n) → AreTiles now from upto (before ++ tile ∷ (tile + n) ∷ after) }
 {}
 
 /// A change within unused records that keeps the length leaves a sound image sound, with its content.
@@ -70,17 +70,17 @@ pub fn unused_stay_sound()
 
 /// A change within the CDR and the GDR that keeps the length, but for the fields that others are found and read by, leaves a sound image sound.
 pub fn file_stays_sound()
-    ensures { (b now : List ℕ) (s : Shape) (change : ChangedWithin b now (8 ∷ s.gdr ∷ [])) → IsSound b s → length now ≡ length b → LeavesFinding b s change.touches → IsSound now s }
+    ensures { (b now : List ℕ) (s : Shape) (change : ChangedWithin b now (cdr_place ∷ s.gdr ∷ [])) → IsSound b s → length now ≡ length b → LeavesFinding b s change.touches → IsSound now s }
 {}
 
 /// An unused record behind the last one, on no list, leaves a sound image sound; the CDR and the GDR may change beside, but for the fields that others are found and read by.
 pub fn appended_stays_sound()
-    ensures { (b now : List ℕ) (s : Shape) (n : ℕ) (change : ChangedWithin b now (8 ∷ s.gdr ∷ [])) → IsSound b s → LeavesFinding b s change.touches → length now ≡ length b + n → size_at now (length b) ≡ n → type_at now (length b) ≡ uir_type → 12 ≤ n → IsSound now (with_records s (s.records ++ length b ∷ [])) }
+    ensures { (b now : List ℕ) (s : Shape) (n : ℕ) (change : ChangedWithin b now (cdr_place ∷ s.gdr ∷ [])) → IsSound b s → LeavesFinding b s change.touches → length now ≡ length b + n → size_at now (length b) ≡ n → type_at now (length b) ≡ uir_type → past record_type ≤ n → IsSound now (with_records s (s.records ++ length b ∷ [])) }
 {}
 
 /// An unused record that is on no list is filled anew from its type on, with a type whose fixed part it has. A sound image stays sound then, with its shape and its content.
 pub fn filled_stays_sound()
-    ensures { (b now : List ℕ) (s : Shape) (place : ℕ) → IsSound b s → is_a b s.records uir_type place ≡ true → is_in place s.unused ≡ false → length now ≡ length b → Changed b now (touch place 8 (size_at b place - 8) ∷ []) → is_record_type (type_at now place) ≡ true → fixed_size (type_at now place) ≤ size_at b place → IsSound now s × (content now ≡ content b) }
+    ensures { (b now : List ℕ) (s : Shape) (place : ℕ) → IsSound b s → is_a b s.records uir_type place ≡ true → is_in place s.unused ≡ false → length now ≡ length b → Changed b now (touch place record_type.place (size_at b place - record_type.place) ∷ []) → is_record_type (type_at now place) ≡ true → fixed_size (type_at now place) ≤ size_at b place → IsSound now s × (content now ≡ content b) }
 {}
 
 /// Where a record of the unused list is taken whole, or split, or a record is placed at the end, the image stays sound, with its content, and the list is as first fit says.

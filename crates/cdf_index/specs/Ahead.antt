@@ -3,6 +3,7 @@ use Rattle.std.specs.Prelude.{◌≡◌, ◌≤◌, ◌<◌, ◌+◌, ◌==◌, 
 use Rattle.cdf_edits.specs.Index.Blocks.{firsts_of, next_first}
 use Rattle.cdf_format.specs.Fields.{type_at}
 use Rattle.cdf_format.specs.Index.{Nodes, nodes_of, link_to, used_count, first_at, offset_at}
+use Rattle.cdf_format.specs.Records.{past, record_type}
 use Rattle.cdf_format.specs.RecordTypes.{vxr_type}
 use Rattle.cdf_index.specs.Finding.{Stands}
 use Rattle.cdf_index.specs.Next.{least_from, number_within}
@@ -18,7 +19,7 @@ pub record Begun (b : List ℕ) (at rec i : ℕ) : Type 0 where
 
 -- what the entries of a node name lies in the image
 abbrev pub NamesIn : List ℕ → ℕ → Type 0
-NamesIn b at = (j : ℕ) → j < used_count b at → offset_at b at j + 12 ≤ length b
+NamesIn b at = (j : ℕ) → j < used_count b at → offset_at b at j + past record_type ≤ length b
 
 -- the lower chain that an entry names, 0 where it names a block
 abbrev pub chain_at : List ℕ → ℕ → ℕ → ℕ

@@ -4,7 +4,7 @@ use Rattle.cdf_edits.specs.Commands.Room.{entries_in, widest}
 use Rattle.cdf_format.specs.Index.{Nodes, leaves_of}
 use Rattle.cdf_index.specs.declared.measuring.IndexSize.{IndexSize}
 
--- its leaves, the used entries of all nodes, and Nentries of the widest node, 7 at least
+-- its leaves, the used entries of all nodes, and Nentries of the widest node, or of a new one
 abbrev pub size_of : Nodes → IndexSize
 size_of nodes = record { leaves = length (leaves_of nodes); entries = entries_in nodes; widest = widest nodes }
 

@@ -2,6 +2,7 @@
 use Rattle.std.specs.Prelude.{◌≡◌, ◌≢◌, ◌⊎◌, ◌<◌, ◌≤◌, ℕ, suc, ◌+◌, ◌-◌, max, List, [], ◌∷◌, length, slice_get}
 use Rattle.std.specs.Option.{unwrap_or}
 use Rattle.cdf_edits.specs.Frame.Changed.{Touch, Changed, touch, touched_field}
+use Rattle.cdf_edits.specs.Index.Grown.{new_entries}
 use Rattle.cdf_format.specs.Chains.{next_of}
 use Rattle.cdf_format.specs.Fields.{number, size_at, type_at}
 use Rattle.cdf_format.specs.Index.{room_at, used_count}
@@ -88,7 +89,7 @@ pub record Split (b now : List ℕ) (at new used p first last offset : ℕ) : Ty
   pub used_is : used_count now at ≡ suc p
   pub next_is : next_of now at ≡ new
   pub moved : (j f l o : ℕ) → p ≤ j → j < used → SaysEntry b at j f l o → SaysEntry now new (j - p) f l o
-  pub new_room : room_at now new ≡ max 7 (used - p)
+  pub new_room : room_at now new ≡ max new_entries (used - p)
   pub new_used : used_count now new ≡ used - p
   pub new_next : next_of now new ≡ next_of b at
 
@@ -99,7 +100,7 @@ pub record Chained (b now : List ℕ) (at new used first last offset : ℕ) : Ty
   pub used_is : used_count now at ≡ used
   pub next_is : next_of now at ≡ new
   pub here : SaysEntry now new 0 first last offset
-  pub new_room : room_at now new ≡ 7
+  pub new_room : room_at now new ≡ new_entries
   pub new_used : used_count now new ≡ 1
   pub new_next : next_of now new ≡ next_of b at
 

@@ -19,7 +19,7 @@ pub use descending::{Spot, Step, Way, way_down};
 pub use entries::{Entry, insert_entry, read_entry, set_entry, widen_entry};
 pub use finding::find;
 pub use making::write_node;
-pub use measuring::{IndexSize, index_size};
+pub use measuring::{IndexSize, NEW_ENTRIES, index_size};
 pub use next::next_first;
 pub use nodes::Leaf;
 pub use records::{read_rec, write_recs};

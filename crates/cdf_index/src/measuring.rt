@@ -15,7 +15,10 @@ use cdf_format::fields::{RECORD_TYPE, VXR_FIRST, VXR_TYPE};
 use cdf_model::limits::LEVEL_LIMIT;
 use cdf_records::{read_unsigned4, read_unsigned8};
 
-/// The size of an index: its leaves, the used entries of all nodes, and Nentries of the widest node, 7 at least.
+/// How many entries a new node has room for at least.
+pub const NEW_ENTRIES: u64 = 7;
+
+/// The size of an index: its leaves, the used entries of all nodes, and Nentries of the widest node, or of a new one.
 #[derive(Clone, Copy, Debug, PartialEq, Eq)]
 pub struct IndexSize {
     pub leaves: u64,
@@ -27,7 +30,7 @@ pub struct IndexSize {
 const EMPTY: IndexSize = IndexSize {
     leaves: 0,
     entries: 0,
-    widest: 7,
+    widest: NEW_ENTRIES as u32,
 };
 
 /// A node more.

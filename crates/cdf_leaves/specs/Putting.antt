@@ -1,6 +1,7 @@
 -- An entry that is put into a node or into a new one behind it, step by step (CDF Internal Format Description, "Variable Index Record"; own: where it goes).
 use Rattle.std.specs.Prelude.{◌≡◌, ◌⊎◌, ◌<◌, ◌≤◌, ℕ, ◌+◌, ◌-◌, max, List, [], ◌∷◌, length}
 use Rattle.cdf_edits.specs.Space.Placing.{Fills}
+use Rattle.cdf_edits.specs.Index.Grown.{new_entries}
 use Rattle.cdf_format.specs.Chains.{next_of}
 use Rattle.cdf_format.specs.Fields.{eof, gdr_offset, type_at, with_field}
 use Rattle.cdf_format.specs.Index.{room_at, used_count}
@@ -37,13 +38,13 @@ pub record SplitMade (b now : List ℕ) (seen : Spot) (new : Entry) (at : ℕ) :
   pub behind : List Entry
   pub read : EntriesRead b seen.place seen.begun seen.used behind
   pub roomy : List ℕ
-  pub made : NodeMade b roomy (max 7 (seen.used - seen.begun)) seen.next behind at
+  pub made : NodeMade b roomy (max new_entries (seen.used - seen.begun)) seen.next behind at
   pub shortened : Shortened roomy now seen.place seen.used seen.begun new.first new.last new.place at
 
 -- the new entry stands alone in a new node behind the full one
 pub record ChainMade (b now : List ℕ) (seen : Spot) (new : Entry) (at : ℕ) : Type 0 where
   pub roomy : List ℕ
-  pub made : NodeMade b roomy 7 seen.next (new ∷ []) at
+  pub made : NodeMade b roomy new_entries seen.next (new ∷ []) at
   pub linked : now ≡ with_field roomy seen.place vxr_vxr_next at
 
 -- the entry was put, and this is the new node, 0 for none
@@ -56,5 +57,5 @@ EntryPut b now seen new at =
 pub record IndexStarted (b now : List ℕ) (vdr : ℕ) (new : Entry) : Type 0 where
   pub at : ℕ
   pub roomy : List ℕ
-  pub made : NodeMade b roomy 7 0 (new ∷ []) at
+  pub made : NodeMade b roomy new_entries 0 (new ∷ []) at
   pub linked : now ≡ with_field (with_field roomy vdr vdr_vxr_head at) vdr vdr_vxr_tail at

@@ -2,22 +2,20 @@
 
 ghost use Rattle.std.specs.Prelude.{◌≡◌, ◌+◌, ◌-◌, ◌≤◌, ◌<◌, length, max, IfOk, OnOk};
 ghost use Rattle.cdf_area.specs.Calls.{Edits};
+ghost use Rattle.cdf_edits.specs.Index.Grown.{new_entries};
 ghost use Rattle.cdf_format.specs.Sound.{IsSound};
 ghost use Rattle.cdf_format.specs.Fields.{eof, gdr_offset};
 ghost use Rattle.cdf_format.specs.Shape.{shape};
-ghost use Rattle.cdf_format.specs.Records.{vxr_bytes};
+ghost use Rattle.cdf_format.specs.Records.{past, vdr_vxr_tail, vxr_bytes};
 ghost use Rattle.cdf_model.specs.Limits.{image_limit};
 ghost use Rattle.cdf_leaves.specs.Putting.{ChainMade, EntryPut, IndexStarted, MayPut, SplitMade};
 
 use crate::making::make_node;
 use cdf_area::{Area, AreaError};
 use cdf_format::fields::{VDR_VXR_HEAD, VDR_VXR_TAIL, VXR_VXR_NEXT};
-use cdf_index::{Entry, Spot, insert_entry, read_entries, shorten_node};
+use cdf_index::{Entry, NEW_ENTRIES, Spot, insert_entry, read_entries, shorten_node};
 use cdf_records::set_unsigned8;
 use std::alloc::Global;
-
-/// How many entries a new node has room for at least.
-const NEW_ENTRIES: u64 = 7;
 
 /// Puts an entry into a full node before others, which go to a new node behind it. Gives the new node.
 /// After an error a part of this may have been done.
@@ -29,7 +27,7 @@ fn split_node<A: Area>(
 ) -> Result<u64, AreaError>
     requires end { MayPut (A.image area.old) end }
     requires behind { end.begun < end.used }
-    requires room { length (A.image area.old) + vxr_bytes (max 7 end.room) ≤ (A.frame area.old).limit }
+    requires room { length (A.image area.old) + vxr_bytes (max new_entries end.room) ≤ (A.frame area.old).limit }
     requires limit { (A.frame area.old).limit ≤ image_limit }
     ensures split { IfOk result (SplitMade (A.image area.old) (A.image area.new) end entry) }
     ensures area { Edits A.frame A.faults area.old area.new result }
@@ -45,7 +43,7 @@ fn split_node<A: Area>(
 /// After an error a part of this may have been done.
 fn chain_node<A: Area>(area: &mut A, end: Spot, entry: Entry) -> Result<u64, AreaError>
     requires end { MayPut (A.image area.old) end }
-    requires room { length (A.image area.old) + vxr_bytes 7 ≤ (A.frame area.old).limit }
+    requires room { length (A.image area.old) + vxr_bytes new_entries ≤ (A.frame area.old).limit }
     requires limit { (A.frame area.old).limit ≤ image_limit }
     ensures chained { IfOk result (ChainMade (A.image area.old) (A.image area.new) end entry) }
     ensures area { Edits A.frame A.faults area.old area.new result }
@@ -64,7 +62,7 @@ pub fn put_entry<A: Area>(
     entry: Entry,
 ) -> Result<u64, AreaError>
     requires end { MayPut (A.image area.old) end }
-    requires room { length (A.image area.old) + vxr_bytes (max 7 end.room) ≤ (A.frame area.old).limit }
+    requires room { length (A.image area.old) + vxr_bytes (max new_entries end.room) ≤ (A.frame area.old).limit }
     requires limit { (A.frame area.old).limit ≤ image_limit }
     ensures put { IfOk result (EntryPut (A.image area.old) (A.image area.new) end entry) }
     ensures area { Edits A.frame A.faults area.old area.new result }
@@ -85,8 +83,8 @@ pub fn put_entry<A: Area>(
 pub fn start_index<A: Area>(area: &mut A, vdr: u64, entry: Entry) -> Result<(), AreaError>
     requires sound { IsSound (A.image area.old) (shape (A.image area.old)) }
     requires eof { eof (A.image area.old) (gdr_offset (A.image area.old)) ≡ length (A.image area.old) }
-    requires lies { vdr + 44 ≤ length (A.image area.old) }
-    requires room { length (A.image area.old) + vxr_bytes 7 ≤ (A.frame area.old).limit }
+    requires lies { vdr + past vdr_vxr_tail ≤ length (A.image area.old) }
+    requires room { length (A.image area.old) + vxr_bytes new_entries ≤ (A.frame area.old).limit }
     requires limit { (A.frame area.old).limit ≤ image_limit }
     ensures started { OnOk result (IndexStarted (A.image area.old) (A.image area.new) vdr entry) }
     ensures area { Edits A.frame A.faults area.old area.new result }

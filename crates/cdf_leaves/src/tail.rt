@@ -3,7 +3,7 @@
 ghost use Rattle.std.specs.Prelude.{◌≡◌, ◌+◌, ◌≤◌, length, IfOk, OnOk};
 ghost use Rattle.cdf_area.specs.Calls.{Edits, Reads};
 ghost use Rattle.cdf_format.specs.Fields.{with_field};
-ghost use Rattle.cdf_format.specs.Records.{vdr_vxr_tail};
+ghost use Rattle.cdf_format.specs.Records.{past, vdr_vxr_tail};
 ghost use Rattle.cdf_model.specs.Limits.{image_limit};
 ghost use Rattle.cdf_leaves.specs.Tail.{ChainInside, chain_end};
 
@@ -32,7 +32,7 @@ fn last_of_chain<A: Area>(area: &mut A, at: u64) -> Result<u64, AreaError>
 /// Writes VXRtail of the descriptor at a place, the last node of the top chain of its index.
 pub fn set_tail<A: Area>(area: &mut A, vdr: u64, head: u64) -> Result<(), AreaError>
     requires chain { ChainInside (length (A.image area.old)) (A.image area.old) head }
-    requires lies { vdr + 44 ≤ length (A.image area.old) }
+    requires lies { vdr + past vdr_vxr_tail ≤ length (A.image area.old) }
     requires short { length (A.image area.old) ≤ image_limit }
     ensures set { OnOk result (A.image area.new ≡ with_field (A.image area.old) vdr vdr_vxr_tail (chain_end (length (A.image area.old)) (A.image area.old) head)) }
     ensures area { Edits A.frame A.faults area.old area.new result }

@@ -10,6 +10,7 @@ use Rattle.cdf_edits.proofs.Frame.Meaning.{FileSame}
 use Rattle.cdf_format.specs.Bytes.{Same}
 use Rattle.cdf_format.specs.Content.{content, variable_of}
 use Rattle.cdf_format.specs.Fields.{size_at, type_at}
+use Rattle.cdf_format.specs.Records.{past, vdr_max_rec, vdr_vxr_tail}
 use Rattle.cdf_format.specs.Owners.{owned, variable_records}
 use Rattle.cdf_format.specs.Shape.{VariableShape, shape}
 use Rattle.cdf_format.specs.Tiles.{In}
@@ -25,8 +26,8 @@ found_in b kind before own = record { kind = kind; number = length before; varia
 pub record DescriptorStays (b now : List ℕ) (vdr : ℕ) : Type 0 where
   pub size_is : size_at now vdr ≡ size_at b vdr
   pub type_is : type_at now vdr ≡ type_at b vdr
-  pub front : Same b now vdr (vdr + 24)
-  pub behind : Same b now (vdr + 44) (vdr + size_at b vdr)
+  pub front : Same b now vdr (vdr + vdr_max_rec.place)
+  pub behind : Same b now (vdr + past vdr_vxr_tail) (vdr + size_at b vdr)
 
 -- From one good image to another, by acts that are allowed where record r of a variable is put; its records may be others, and all else stays.
 pub record GoesOn (b now : List ℕ) (kind : Kind) (before : List VariableShape) (own own' : VariableShape) (after : List VariableShape) (r : ℕ) (acts : List Act) : Type 0 where

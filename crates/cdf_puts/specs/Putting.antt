@@ -1,4 +1,5 @@
 -- A record that is put, and what a block holds that is made on the way (own).
+use Rattle.byteorder.specs.Endian.{big_bytes}
 use Rattle.std.specs.Prelude.{◌≡◌, ◌≤◌, ℕ, zero, suc, ◌+◌, ◌-◌, List, [], ◌∷◌, ◌++◌, length, min, nat_lt, ◌==◌, if◌then◌else◌}
 use Rattle.cdf_edits.specs.Commands.Room.{put_room}
 use Rattle.cdf_edits.specs.Index.Blocks.{block_count, firsts_of, next_first, first_written}
@@ -6,6 +7,8 @@ use Rattle.cdf_edits.specs.Space.Acts.{Act}
 use Rattle.cdf_format.specs.Content.{variable_of}
 use Rattle.cdf_format.specs.Index.{Nodes}
 use Rattle.cdf_format.specs.Shape.{VariableShape}
+use Rattle.cdf_format.specs.Records.{record_type}
+use Rattle.cdf_format.specs.RecordTypes.{vvr_type}
 use Rattle.cdf_format.specs.VariableFields.{record_bytes}
 use Rattle.cdf_model.specs.declared.kinds.Kind.{Kind}
 use Rattle.cdf_model.specs.DataSet.{Variable, extent}
@@ -14,7 +17,7 @@ use Rattle.cdf_puts.specs.declared.putting.NewRecord.{NewRecord}
 
 -- the type of a block that is not packed
 abbrev pub block_type : List ℕ
-block_type = 0 ∷ 0 ∷ 0 ∷ 7 ∷ []
+block_type = big_bytes record_type.width vvr_type
 
 -- the bytes of a record: those that are put, or a pad
 abbrev pub record_put : List ℕ → List ℕ → ℕ → ℕ → List ℕ

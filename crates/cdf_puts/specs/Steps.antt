@@ -1,4 +1,5 @@
 -- The steps by which records are put: a record is written in a block, a leaf is added, and MaxRec is raised (own).
+use Rattle.byteorder.specs.Endian.{big_bytes}
 use Rattle.std.specs.Prelude.{◌≡◌, ◌≤◌, ◌<◌, ℕ, ◌+◌, ◌-◌, ◌*◌, List, [], ◌∷◌, length, max, take, drop, find, Some, None}
 use Rattle.cdf_base.specs.Bytes.{put}
 use Rattle.cdf_edits.specs.Commands.Puts.{max_rec_touches}
@@ -10,8 +11,9 @@ use Rattle.cdf_format.specs.Bytes.{Same, byte}
 use Rattle.cdf_format.specs.Content.{content}
 use Rattle.cdf_format.specs.Fields.{number, size_at}
 use Rattle.cdf_format.specs.Index.{Leaf, leaves_of}
-use Rattle.cdf_format.specs.Records.{vdr_max_rec, vvr_place, vvr_bytes, linked_size}
+use Rattle.cdf_format.specs.Records.{record_size, record_type, vdr_max_rec, vvr_place, vvr_bytes, linked_size}
 use Rattle.cdf_format.specs.Shape.{VariableShape, Each}
+use Rattle.cdf_format.specs.RecordTypes.{vvr_type}
 use Rattle.cdf_format.specs.VariableFields.{record_bytes}
 use Rattle.cdf_model.specs.declared.kinds.Kind.{Kind}
 use Rattle.cdf_model.specs.declared.kinds.Kind.TheVariants.{R}
@@ -34,10 +36,10 @@ pub record IsVacant (own : VariableShape) (first last : ℕ) : Type 0 where
 
 -- What is written for a block of so many records: its type, the records, and bytes 0 up to the least size of a record.
 pub record IsBlockBody (body : List ℕ) (records : List ℕ) : Type 0 where
-  pub type_is : take 4 body ≡ 0 ∷ 0 ∷ 0 ∷ 7 ∷ []
-  pub records_are : take (length records) (drop 4 body) ≡ records
-  pub spare : (i : ℕ) → 4 + length records ≤ i → i < length body → byte body i ≡ 0
-  pub as_long : length body ≡ max 20 (4 + length records)
+  pub type_is : take record_type.width body ≡ big_bytes record_type.width vvr_type
+  pub records_are : take (length records) (drop record_type.width body) ≡ records
+  pub spare : (i : ℕ) → record_type.width + length records ≤ i → i < length body → byte body i ≡ 0
+  pub as_long : length body ≡ max (linked_size - record_size.width) (record_type.width + length records)
 
 -- ---- what a leaf more leaves
 

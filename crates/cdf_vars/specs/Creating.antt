@@ -3,7 +3,7 @@ use Rattle.byteorder.specs.Endian.{big_bytes}
 use Rattle.cdf_edits.specs.Commands.Allowances.{vdr_type}
 use Rattle.cdf_edits.specs.Space.Placing.{laid_out}
 use Rattle.cdf_format.specs.Content.{content}
-use Rattle.cdf_format.specs.Records.{Field, record_type, vdr_vdr_next, vdr_data_type, vdr_max_rec, vdr_vxr_head, vdr_vxr_tail, vdr_flags, vdr_s_records, vdr_rfu_b, vdr_rfu_c, vdr_rfu_f, vdr_num_elems, vdr_num, vdr_cpr_or_spr_offset, vdr_blocking_factor}
+use Rattle.cdf_format.specs.Records.{Field, record_type, vdr_vdr_next, vdr_data_type, vdr_max_rec, vdr_vxr_head, vdr_vxr_tail, vdr_flags, vdr_s_records, vdr_rfu_b, vdr_rfu_c, vdr_rfu_f, vdr_num_elems, vdr_num, vdr_cpr_or_spr_offset, vdr_blocking_factor, vdr_name}
 use Rattle.cdf_model.specs.declared.command.Command.{Command}
 use Rattle.cdf_model.specs.declared.command.Command.TheVariants.{RVar, ZVar}
 use Rattle.cdf_model.specs.declared.data_type.DataType.{DataType}
@@ -72,5 +72,5 @@ own_dims Z dims = length dims ∷ dims
 unfoldable pub vdr_body : Kind → NewVariable → ℕ → List ℕ
 vdr_body kind v num =
     laid_out ((record_type, vdr_type kind) ∷ (vdr_vdr_next, 0) ∷ vdr_fields v num)
-    ++ (v.name ++ replicate (256 - length v.name) 0)
+    ++ (v.name ++ replicate (vdr_name.width - length v.name) 0)
     ++ flat_map (big_bytes 4) (own_dims kind v.dims ++ map vary_code v.varys)

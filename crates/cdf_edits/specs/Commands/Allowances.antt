@@ -13,7 +13,7 @@ use Rattle.cdf_format.specs.Chains.{is_in}
 use Rattle.cdf_format.specs.Fields.{number, size_at, type_at}
 use Rattle.cdf_format.specs.Index.{leaves_of}
 use Rattle.cdf_format.specs.Owners.{Owner, File, OneAttribute, OneVariable, Unused, unused_records}
-use Rattle.cdf_format.specs.Records.{Field, gdr_eof, gdr_r_max_rec, gdr_uir_head, uir_next_uir, uir_prev_uir}
+use Rattle.cdf_format.specs.Records.{Field, cdr_place, gdr_eof, gdr_r_max_rec, gdr_uir_head, uir_next_uir, uir_prev_uir}
 use Rattle.cdf_format.specs.RecordTypes.{r_vdr_type, z_vdr_type, vxr_type}
 use Rattle.cdf_format.specs.Shape.{Shape, VariableShape, Each, shape}
 use Rattle.cdf_format.specs.Tiles.{In}
@@ -70,7 +70,7 @@ unused_allowance b s acts place = if is_in place s.unused then (if is_taken b ac
 
 -- of the record at a place, which this owner has
 abbrev pub allowance : List ℕ → Shape → Allowances → List Act → ℕ → Owner → Allowance
-allowance b s allowances acts place File = if place == 8 then allowances.cdr else allowances.gdr
+allowance b s allowances acts place File = if place == cdr_place then allowances.cdr else allowances.gdr
 allowance b s allowances acts place (OneAttribute n) = allowances.attributes n place
 allowance b s allowances acts place (OneVariable kind n) = allowances.variables kind n place
 allowance b s allowances acts place Unused = unused_allowance b s acts place

@@ -9,7 +9,7 @@ use Rattle.cdf_edits.specs.Space.Acts.{Act, Took, gave}
 use Rattle.cdf_format.specs.Chains.{next_field}
 use Rattle.cdf_format.specs.Content.{content}
 use Rattle.cdf_format.specs.Fields.{type_at}
-use Rattle.cdf_format.specs.Records.{Field, gdr_adr_head, gdr_num_attr, adr_num, adr_max_gr_entry, adr_max_z_entry, adr_rfu_a, adr_rfu_e, adr_name, aedr_attr_num}
+use Rattle.cdf_format.specs.Records.{Field, past, gdr_adr_head, gdr_num_attr, adr_num, adr_max_gr_entry, adr_max_z_entry, adr_rfu_a, adr_rfu_e, adr_name, aedr_attr_num}
 use Rattle.cdf_format.specs.RecordTypes.{adr_type}
 use Rattle.cdf_format.specs.Shape.{AttributeShape, shape}
 
@@ -27,7 +27,7 @@ new_adr = (adr_rfu_a, 0) ∷ (adr_max_gr_entry, 0xffffffff) ∷ (adr_max_z_entry
 pub record MakesAttribute (b now name : List ℕ) (acts : List Act) : Type 0 where
   pub made : AttributeShape
   pub made_last : slice_get (shape now).attributes (length (shape b).attributes) ≡ Some made
-  pub acts_are : acts ≡ Took made.adr 324 ∷ []
+  pub acts_are : acts ≡ Took made.adr (past adr_name) ∷ []
   pub says : Says now made.adr new_adr
   pub named : IsFilled now made.adr adr_name name
 

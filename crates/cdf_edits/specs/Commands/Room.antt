@@ -14,6 +14,7 @@ use Rattle.cdf_model.specs.Names.{Found, variable_named}
 use Rattle.cdf_model.specs.RecordSteps.{value_size}
 use Rattle.cdf_model.specs.Values.{notation_of}
 use Rattle.cdf_edits.specs.Index.Blocks.{Range, ranges_of, covered, shared, record_length, block_count, is_sparse, first_written, cuts_before_put, ranges_before_put, extent_after}
+use Rattle.cdf_edits.specs.Index.Grown.{new_entries}
 use Rattle.cdf_edits.specs.Commands.Allowances.{shapes_of}
 use Rattle.cdf_format.specs.Content.{content}
 use Rattle.cdf_format.specs.Index.{Nodes, no_node, node, Entries, no_entry, block, lower, leaves_of, entry_count}
@@ -33,13 +34,13 @@ unfoldable mutual
   entries_below (lower first last nodes entries) = entries_in nodes + entries_below entries
 
 unfoldable mutual
-  -- Nentries of the widest node, 7 at least
+  -- Nentries of the widest node, or of a new one
   pub widest : Nodes → ℕ
-  widest no_node = 7
+  widest no_node = new_entries
   widest (node place room entries more) = max room (max (widest_below entries) (widest more))
 
   pub widest_below : Entries → ℕ
-  widest_below no_entry = 7
+  widest_below no_entry = new_entries
   widest_below (block first last place packed entries) = widest_below entries
   widest_below (lower first last nodes entries) = max (widest nodes) (widest_below entries)
 

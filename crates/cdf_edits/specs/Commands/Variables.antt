@@ -17,7 +17,7 @@ use Rattle.cdf_format.specs.Chains.{next_field, next_of}
 use Rattle.cdf_format.specs.Content.{content, attribute_of, scope_of}
 use Rattle.cdf_format.specs.Fields.{number, words}
 use Rattle.cdf_format.specs.Index.{leaves_of, nodes_of}
-use Rattle.cdf_format.specs.Records.{Field, gdr_r_vdr_head, gdr_z_vdr_head, gdr_nr_vars, gdr_nz_vars, adr_scope, aedr_num, vdr_vxr_head, vdr_vxr_tail, vdr_flags, vdr_pad_bit, vdr_num, vdr_rfu_b, vdr_rfu_c, vdr_rfu_f, vdr_cpr_or_spr_offset, vdr_blocking_factor, vdr_name}
+use Rattle.cdf_format.specs.Records.{Field, past, record_type, gdr_r_vdr_head, gdr_z_vdr_head, gdr_nr_vars, gdr_nz_vars, adr_scope, aedr_num, vdr_vxr_head, vdr_vxr_tail, vdr_flags, vdr_pad_bit, vdr_num, vdr_rfu_b, vdr_rfu_c, vdr_rfu_f, vdr_cpr_or_spr_offset, vdr_blocking_factor, vdr_name}
 use Rattle.cdf_format.specs.Shape.{AttributeShape, Shape, VariableShape, Each, shape}
 use Rattle.cdf_format.specs.VariableFields.{vary_field, pad_field}
 use Rattle.cdf_format.specs.VariableRules.{vdr_end}
@@ -66,7 +66,7 @@ set_pad_changes b s found = record stays_all { gdr = Only (variables_gdr_fields 
 -- A VDR that gets a pad value: it is copied up to there, but for Flags, of which bit 1 says that there is one.
 pub record SetsPad (b now : List ℕ) (vdr vdr' : ℕ) (acts : List Act) : Type 0 where
   pub acts_are : acts ≡ moved_for_room b vdr vdr' (vdr_end now vdr')
-  pub copied : (i : ℕ) → 12 ≤ i → i < (pad_field b vdr).place → OutsideFields (vdr_flags ∷ []) i → byte now (vdr' + i) ≡ byte b (vdr + i)
+  pub copied : (i : ℕ) → past record_type ≤ i → i < (pad_field b vdr).place → OutsideFields (vdr_flags ∷ []) i → byte now (vdr' + i) ≡ byte b (vdr + i)
   pub flags_are : number now vdr' vdr_flags ≡ with_bits (number b vdr vdr_flags) vdr_pad_bit 1 1
   pub room : MovesForRoom b now vdr vdr' (vdr_end now vdr')
   pub freed : FreedStay b now no_fields acts

@@ -13,7 +13,7 @@ use Rattle.cdf_format.specs.Bytes.{Same}
 use Rattle.cdf_format.specs.Content.{content}
 use Rattle.cdf_format.specs.Fields.{number, size_at, type_at}
 use Rattle.cdf_format.specs.Owners.{attribute_records, variable_records}
-use Rattle.cdf_format.specs.Records.{aedr_num, uir_next_uir, uir_prev_uir}
+use Rattle.cdf_format.specs.Records.{cdr_place, aedr_num, uir_next_uir, uir_prev_uir}
 use Rattle.cdf_format.specs.RecordTypes.{uir_type}
 use Rattle.cdf_format.specs.Shape.{AttributeShape, Each, shape}
 use Rattle.cdf_format.specs.Tiles.{In}
@@ -22,9 +22,9 @@ use Rattle.cdf_format.specs.WellFormed.{Good}
 -- an entry that went: its bytes stay behind the links of an unused record
 pub record IsDropped (b now : List ℕ) (aedr : ℕ) : Type 0 where
   pub stands : In aedr (shape b).records
-  pub long : 28 ≤ size_at b aedr
+  pub long : aedr_num.place ≤ size_at b aedr
   pub freed : type_at now aedr ≡ uir_type
-  pub behind : Same b now (aedr + 28) (aedr + size_at b aedr)
+  pub behind : Same b now (aedr + aedr_num.place) (aedr + size_at b aedr)
 
 -- a record of an attribute: it may go, or it stays in its place, with its type, but for what the command may change
 abbrev pub AttributeKeeps : List ℕ → List ℕ → Found → ℕ → ℕ → Type 0
@@ -48,7 +48,7 @@ pub record DropsEntries (b : List ℕ) (found : Found) (now : List ℕ) : Type 0
   pub dropped : (aedr : ℕ) → In aedr (entries_for b (shape b).attributes found) → IsDropped b now aedr
   pub attributes_kept : length (shape now).attributes ≡ length (shape b).attributes
   pub attributes : (k : ℕ) (a a' : AttributeShape) → slice_get (shape b).attributes k ≡ Some a → slice_get (shape now).attributes k ≡ Some a' → AttributeDropped b now found k a a'
-  pub cdr_kept : Keeps b now 8 (Only [])
+  pub cdr_kept : Keeps b now cdr_place (Only [])
   pub gdr_kept : Keeps b now (shape b).gdr (Only space_fields)
   pub variables_kept : (kind : Kind) (place : ℕ) → In place (flat_map variable_records (shapes_of (shape b) kind)) → Keeps b now place (Only [])
   pub listed_kept : (uir : ℕ) → In uir (shape b).unused → Keeps b now uir (Only (uir_next_uir ∷ uir_prev_uir ∷ []))

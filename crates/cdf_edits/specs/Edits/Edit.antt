@@ -2,7 +2,7 @@
 use Rattle.std.specs.Prelude.{◌≡◌, ◌≢◌, ◌⊎◌, ◌≤◌, ℕ, ◌+◌, List, length}
 use Rattle.cdf_format.specs.Bytes.{Same}
 use Rattle.cdf_format.specs.Fields.{size_at, type_at}
-use Rattle.cdf_format.specs.Records.{cdr_place}
+use Rattle.cdf_format.specs.Records.{cdr_place, past, record_type}
 use Rattle.cdf_format.specs.RecordTypes.{uir_type}
 use Rattle.cdf_format.specs.Tiles.{In, AreTiles}
 use Rattle.cdf_edits.specs.Edits.Marks.{Mark, Avoids}
@@ -18,6 +18,6 @@ pub record Edit (b now old new : List ℕ) (marks : List Mark) (reborn : List �
   pub longer : length b ≤ length now
   pub front : Same b now 0 cdr_place
   pub sub : (m : ℕ) → In m old → In m new
-  pub head : (m : ℕ) → In m old → type_at b m ≢ uir_type → (In m reborn → ⊥) → Same b now (m + 0) (m + 12)
-  pub part : (m type lo hi : ℕ) → In m old → type_at b m ≡ type → Avoids marks type m 0 12 → Avoids marks type m lo hi → hi ≤ size_at b m → Same b now (m + lo) (m + hi)
+  pub head : (m : ℕ) → In m old → type_at b m ≢ uir_type → (In m reborn → ⊥) → Same b now (m + 0) (m + past record_type)
+  pub part : (m type lo hi : ℕ) → In m old → type_at b m ≡ type → Avoids marks type m 0 (past record_type) → Avoids marks type m lo hi → hi ≤ size_at b m → Same b now (m + lo) (m + hi)
   pub kind : (m : ℕ) → In m new → Kind b now old reborn m

@@ -2,10 +2,10 @@
 use Rattle.std.specs.Prelude.{ℕ, List, Bool, ◌&&◌}
 use Rattle.cdf_model.specs.declared.kinds.EntryKind.{EntryKind}
 use Rattle.cdf_model.specs.declared.kinds.EntryKind.TheVariants as entries
-use Rattle.cdf_edits.specs.Edits.Marks.{Mark, avoided, unmarked, keeps_file, keeps_variables}
+use Rattle.cdf_edits.specs.Edits.Marks.{Mark, all_spared, spared, unmarked, keeps_file, keeps_variables}
 use Rattle.cdf_edits.specs.declared.chain.Chain.{Chain}
 use Rattle.cdf_edits.specs.declared.chain.Chain.TheVariants.{GrEntries, ZEntries}
-use Rattle.cdf_format.specs.Records.{Field, adr_agr_edr_head, adr_ngr_entries, adr_az_edr_head, adr_nz_entries}
+use Rattle.cdf_format.specs.Records.{Field, record_size, gdr_adr_head, gdr_num_attr, adr_adr_next, adr_agr_edr_head, adr_scope, adr_num, adr_ngr_entries, adr_max_gr_entry, adr_az_edr_head, adr_nz_entries, adr_max_z_entry, adr_rfu_e, adr_name}
 use Rattle.cdf_format.specs.RecordTypes.{gdr_type, adr_type, agr_edr_type, az_edr_type}
 use Rattle.cdf_format.specs.Shape.{AttributeShape}
 
@@ -34,14 +34,14 @@ with_chain a entries.Z es = record a { z_entries = es }
 
 -- the other chain of the ADR: its head, its count and its greatest number, and its entries
 abbrev pub keeps_other : List Mark → EntryKind → Bool
-keeps_other marks entries.G = (avoided marks adr_type 48 56 && avoided marks adr_type 56 60) && (avoided marks adr_type 60 64 && unmarked marks az_edr_type)
-keeps_other marks entries.R = (avoided marks adr_type 48 56 && avoided marks adr_type 56 60) && (avoided marks adr_type 60 64 && unmarked marks az_edr_type)
-keeps_other marks entries.Z = (avoided marks adr_type 20 28 && avoided marks adr_type 36 40) && (avoided marks adr_type 40 44 && unmarked marks agr_edr_type)
+keeps_other marks entries.G = (spared marks adr_type adr_az_edr_head && spared marks adr_type adr_nz_entries) && (spared marks adr_type adr_max_z_entry && unmarked marks az_edr_type)
+keeps_other marks entries.R = (spared marks adr_type adr_az_edr_head && spared marks adr_type adr_nz_entries) && (spared marks adr_type adr_max_z_entry && unmarked marks az_edr_type)
+keeps_other marks entries.Z = (spared marks adr_type adr_agr_edr_head && spared marks adr_type adr_ngr_entries) && (spared marks adr_type adr_max_gr_entry && unmarked marks agr_edr_type)
 
 -- what the ADR has beside its two chains: the next field and what is before it, Scope and Num, and Name
 abbrev pub keeps_adr : List Mark → Bool
-keeps_adr marks = avoided marks adr_type 0 20 && (avoided marks adr_type 28 36 && avoided marks adr_type 64 324)
+keeps_adr marks = all_spared marks adr_type record_size adr_adr_next && (all_spared marks adr_type adr_scope adr_num && all_spared marks adr_type adr_rfu_e adr_name)
 
 -- the file, all variables, the chain of the attributes, and of the ADRs everything but one chain
 abbrev pub keeps_but_chain : List Mark → EntryKind → Bool
-keeps_but_chain marks kind = (keeps_file marks && keeps_variables marks) && ((avoided marks gdr_type 28 36 && avoided marks gdr_type 48 52) && (keeps_adr marks && keeps_other marks kind))
+keeps_but_chain marks kind = (keeps_file marks && keeps_variables marks) && ((spared marks gdr_type gdr_adr_head && spared marks gdr_type gdr_num_attr) && (keeps_adr marks && keeps_other marks kind))

@@ -2,7 +2,7 @@
 use Rattle.std.specs.Prelude.{◌≡◌, ◌⊎◌, ◌≤◌, ℕ, ◌+◌, List, [], ◌∷◌, ◌++◌, Bool, true, false, not, ◌&&◌, ◌||◌, ◌==◌, nat_le}
 use Rattle.cdf_edits.specs.Frame.Changed.{Touch}
 use Rattle.cdf_format.specs.Chains.{is_in, next_field}
-use Rattle.cdf_format.specs.Records.{Field, field, gdr_eof, gdr_uir_head, uir_next_uir, uir_prev_uir}
+use Rattle.cdf_format.specs.Records.{Field, field, past, record_size, record_type, gdr_r_vdr_head, gdr_z_vdr_head, gdr_eof, gdr_nr_vars, gdr_r_num_dims, gdr_nz_vars, gdr_uir_head, gdr_r_dim_size, uir_next_uir, uir_prev_uir}
 use Rattle.cdf_format.specs.RecordTypes.{cdr_type, gdr_type, adr_type, agr_edr_type, az_edr_type, r_vdr_type, z_vdr_type, vxr_type, vvr_type, cvvr_type, cpr_type, uir_type}
 use Rattle.cdf_format.specs.Fields.{type_at, size_at}
 use Rattle.cdf_format.specs.Tiles.{In}
@@ -56,6 +56,13 @@ abbrev pub avoided : List Mark → ℕ → ℕ → ℕ → Bool
 avoided [] type lo hi = true
 avoided (k ∷ more) type lo hi = (not (type == k.type) || (nat_le (k.place + k.width) lo || nat_le hi k.place)) && avoided more type lo hi
 
+-- no mark has a byte of a field of the records of a type, or of what stands in them from one field to another
+abbrev pub spared : List Mark → ℕ → Field → Bool
+spared marks type f = avoided marks type f.place (past f)
+
+abbrev pub all_spared : List Mark → ℕ → Field → Field → Bool
+all_spared marks type first last = avoided marks type first.place (past last)
+
 abbrev pub ended : List Mark → ℕ → ℕ → Bool
 ended [] type lo = true
 ended (k ∷ more) type lo = (not (type == k.type) || nat_le (k.place + k.width) lo) && ended more type lo
@@ -89,19 +96,19 @@ index_types = vxr_type ∷ vvr_type ∷ cvvr_type ∷ cpr_type ∷ []
 
 -- all variables, but for the links from one to the next
 abbrev pub keeps_index_records : List Mark → Bool
-keeps_index_records marks = all_unmarked marks index_types && ((avoided marks r_vdr_type 0 12 && ended marks r_vdr_type 20) && (avoided marks z_vdr_type 0 12 && ended marks z_vdr_type 20))
+keeps_index_records marks = all_unmarked marks index_types && ((all_spared marks r_vdr_type record_size record_type && ended marks r_vdr_type (past next_field)) && (all_spared marks z_vdr_type record_size record_type && ended marks z_vdr_type (past next_field)))
 
 -- what others are read by in the CDR and the GDR
 abbrev pub keeps_file : List Mark → Bool
-keeps_file marks = unmarked marks cdr_type && (avoided marks gdr_type 0 12 && (avoided marks gdr_type 56 60 && ended marks gdr_type 84))
+keeps_file marks = unmarked marks cdr_type && (all_spared marks gdr_type record_size record_type && (spared marks gdr_type gdr_r_num_dims && ended marks gdr_type (gdr_r_dim_size 0).place))
 
 -- all variables, their chains and their counts
 abbrev pub keeps_variables : List Mark → Bool
-keeps_variables marks = all_unmarked marks variable_types && ((avoided marks gdr_type 12 20 && avoided marks gdr_type 20 28) && (avoided marks gdr_type 44 48 && avoided marks gdr_type 60 64))
+keeps_variables marks = all_unmarked marks variable_types && ((spared marks gdr_type gdr_r_vdr_head && spared marks gdr_type gdr_z_vdr_head) && (spared marks gdr_type gdr_nr_vars && spared marks gdr_type gdr_nz_vars))
 
 -- all attributes, but for the links from one to the next
 abbrev pub keeps_attributes : List Mark → Bool
-keeps_attributes marks = all_unmarked marks (agr_edr_type ∷ az_edr_type ∷ []) && (avoided marks adr_type 0 12 && ended marks adr_type 20)
+keeps_attributes marks = all_unmarked marks (agr_edr_type ∷ az_edr_type ∷ []) && (all_spared marks adr_type record_size record_type && ended marks adr_type (past next_field))
 
 -- ---- touches
 
@@ -120,8 +127,8 @@ Covered b (k ∷ more) t = Covers b k t ⊎ Covered b more t
 pub record Marked (b old : List ℕ) (marks : List Mark) (reborn : List ℕ) (t : Touch) : Type 0 where
   pub inside : In t.tile old
   pub fits : t.place + t.width ≤ size_at b t.tile
-  pub behind_size : 8 ≤ t.place
-  pub behind_type : (12 ≤ t.place) ⊎ In t.tile reborn
+  pub behind_size : past record_size ≤ t.place
+  pub behind_type : (past record_type ≤ t.place) ⊎ In t.tile reborn
   pub covered : Covered b marks t
 
 -- ---- the marks of the steps of a command
@@ -166,4 +173,4 @@ making_marks unused place need late = (taking_marks unused place need ++ whole u
 
 -- marks that leave the unused list, the end of the image, and the sizes and types of the GDR and of records of a type
 abbrev pub is_late : List Mark → ℕ → Bool
-is_late late type = (unmarked late uir_type && avoided late type 0 12) && (avoided late gdr_type 0 12 && (avoided late gdr_type 36 44 && avoided late gdr_type 64 72))
+is_late late type = (unmarked late uir_type && all_spared late type record_size record_type) && (all_spared late gdr_type record_size record_type && (spared late gdr_type gdr_eof && spared late gdr_type gdr_uir_head))

@@ -33,18 +33,25 @@ covered first last ranges = sum (map (shared first last) ranges)
 
 -- ---- new blocks
 
--- BlockingFactor, and 64 where that is not positive
+-- how many records a block is to hold whose BlockingFactor is not positive, and the most bytes of a new block of several records
+abbrev pub usual_count : ℕ
+usual_count = 64
+
+abbrev pub block_limit : ℕ
+block_limit = 1048576
+
+-- BlockingFactor, and the usual count where that is not positive
 abbrev pub wanted_count : ℤ → ℕ
-wanted_count (pos zero) = 64
+wanted_count (pos zero) = usual_count
 wanted_count (pos (suc n)) = suc n
-wanted_count (negsuc n) = 64
+wanted_count (negsuc n) = usual_count
 
 abbrev pub record_length : Variable → ℕ
 record_length v = record_size v.type v.elems v.dims v.varys
 
--- how many records a new block holds: no more than 1,048,576 bytes do, but one at least, and one where records do not vary
+-- how many records a new block holds: no more than the limit has room for, but one at least, and one where records do not vary
 abbrev pub block_count : Variable → ℕ
-block_count v = if v.vary then max 1 (min (wanted_count v.blocking) (1048576 / record_length v)) else 1
+block_count v = if v.vary then max 1 (min (wanted_count v.blocking) (block_limit / record_length v)) else 1
 
 unfoldable mutual
   -- First of each entry, at each level

@@ -11,6 +11,7 @@ use Rattle.cdf_edits.specs.Space.Acts.{Act, taken, links_end, lies_in_taken, Amo
 use Rattle.cdf_format.specs.Bytes.{byte}
 use Rattle.cdf_format.specs.Content.{plain_bytes}
 use Rattle.cdf_format.specs.Fields.{size_at}
+use Rattle.cdf_format.specs.Records.{linked_size, vvr_records, cvvr_packed}
 use Rattle.cdf_format.specs.Index.{Nodes, Leaf, leaves_of}
 use Rattle.cdf_format.specs.Owners.{unused_records}
 use Rattle.cdf_format.specs.Shape.{Each, shape}
@@ -37,7 +38,7 @@ IsStored false plain packed stored = (packed ≡ false) × (stored ≡ plain)
 
 -- where the stored bytes of a block begin in its record, and where they end
 abbrev pub stored_from : Leaf → ℕ
-stored_from leaf = if leaf.packed then 24 else 12
+stored_from leaf = if leaf.packed then (cvvr_packed 0).place else (vvr_records 0).place
 
 abbrev pub stored_end : Leaf → List ℕ → ℕ
 stored_end leaf stored = stored_from leaf + length stored
@@ -58,7 +59,7 @@ byte_between b cut part stored i = if nat_lt i (stored_end part stored) then byt
 -- a block stays in the record that it had, which is not freed, or it is placed anew
 abbrev pub PlacedBy : List Act → ℕ → ℕ → ℕ → Bool → Type 0
 PlacedBy acts was place end true = (place ≡ was) × (is_given_at acts was ≡ false)
-PlacedBy acts was place end false = Among (place, max 28 end) (taken acts)
+PlacedBy acts was place end false = Among (place, max linked_size end) (taken acts)
 
 -- behind the links of unused records, what lies in a freed block from its stored bytes on, and in no record that the second cut took
 abbrev pub FreedWith : List ℕ → List Act → Leaf → ℕ → (ℕ → ℕ) → Type 0

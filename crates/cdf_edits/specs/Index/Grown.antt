@@ -43,9 +43,13 @@ with_both no_entry others = others
 with_both (block first last place packed entries) others = block first last place packed (with_both entries others)
 with_both (lower first last nodes entries) others = lower first last nodes (with_both entries others)
 
--- how many entries a new node has: none is needed where there is room, else it has room for as many as stand past the new one, and for 7 at least
+-- how many entries a new node has room for at least
+abbrev pub new_entries : ℕ
+new_entries = 7
+
+-- how many entries a new node has: none is needed where there is room, else it has room for as many as stand past the new one, and for the least number
 abbrev pub room_of_new : ℕ → ℕ → Entries → ℕ
-room_of_new f room entries = if nat_lt (entry_count entries) room then 0 else max 7 (entry_count (past f entries))
+room_of_new f room entries = if nat_lt (entry_count entries) room then 0 else max new_entries (entry_count (past f entries))
 
 -- In a node with room the entry stands at its place. Of a full node the entries past it go to a new node at `at`; where there are none, the entry itself does.
 abbrev pub with_entry : Leaf → ℕ → ℕ → ℕ → Entries → Nodes → Nodes
@@ -57,7 +61,7 @@ with_entry new at place room entries more =
 unfoldable mutual
   -- an index once a leaf is added; a node that this needs stands at `at`
   pub with_leaf : Leaf → ℕ → Nodes → Nodes
-  with_leaf new at no_node = node at 7 (with_block new no_entry) no_node
+  with_leaf new at no_node = node at new_entries (with_block new no_entry) no_node
   with_leaf new at (node place room entries more) =
       if chain_reaches new.first more then node place room entries (with_leaf new at more)
       else (if leads_down new.first false entries then node place room (with_lower new at entries) more else with_entry new at place room entries more)
@@ -72,7 +76,7 @@ unfoldable mutual
 unfoldable mutual
   -- how many entries the new node has that this needs, or 0
   pub new_room : ℕ → Nodes → ℕ
-  new_room f no_node = 7
+  new_room f no_node = new_entries
   new_room f (node place room entries more) =
       if chain_reaches f more then new_room f more
       else (if leads_down f false entries then new_room_below f entries else room_of_new f room entries)
