@@ -5,12 +5,13 @@ ghost use Rattle.std.specs.List.{repeat};
 ghost use Rattle.cdf_edits.specs.Space.Acts.{Took, Gave};
 ghost use Rattle.cdf_format.specs.Content.{content};
 ghost use Rattle.cdf_format.specs.Shape.{shape};
+ghost use Rattle.cdf_index.specs.Order.{nodes_passed};
 ghost use Rattle.cdf_examples.specs.Asked.{KeepsRules};
 ghost use Rattle.cdf_examples.specs.Claimed.{Claimed};
 ghost use Rattle.cdf_examples.specs.PackedFiles.{packed_file, plain_file, put_ones};
 ghost use Rattle.cdf_examples.specs.RecordFiles.{variable_file, records_file};
 ghost use Rattle.cdf_examples.specs.Scripts.{made_by};
-ghost use Rattle.cdf_examples.specs.WideIndexes.{reindex_w, w_shape, wide_node_file, two_levels_made_file, two_levels_made_index};
+ghost use Rattle.cdf_examples.specs.WideIndexes.{reindex_w, w_shape, wide_node_file, wide_node_index, two_levels_made_file, two_levels_made_index};
 ghost use Rattle.cdf_examples.specs.WrongCuts.{delete_t, all_deleted_file, last_deleted_file, spare_behind_file, spare_stays_file, two_stored_file, first_cut_file, two_nodes_file, node_freed_file, none_stored_file, set_sparse_t, made_sparse_file, uncompressed_file, compress_t, cpr_placed_file, small_block_file, delete_var_t, var_deleted_file, delete_u, two_of_forty_file, one_of_forty_file};
 ghost use Rattle.cdf_examples.specs.WrongEntries.{three_entries_file, delete_second, second_deleted_file, one_entry_file, put_second, entry_last_file};
 ghost use Rattle.cdf_examples.specs.WrongPuts.{put_t, put_r, first_put_file, spare_file, rest_listed_file, put_again_file, second_block_file, two_levels_file, widened_file};
@@ -124,6 +125,13 @@ pub fn variable_deleted()
 pub fn two_levels_made()
     ensures index { (shape two_levels_made_file).z_variables ≡ w_shape two_levels_made_index ∷ [] }
     ensures follows { Claimed wide_node_file reindex_w two_levels_made_file (Took 2661 1052 ∷ Took 3713 1052 ∷ Took 4765 1052 ∷ Gave 1593 1068 ∷ []) }
+{}
+
+/// A record is found by two nodes then, and by one before.
+pub fn two_nodes_passed()
+    ensures first { nodes_passed 0 two_levels_made_index ≡ 2 }
+    ensures last { nodes_passed 64 two_levels_made_index ≡ 2 }
+    ensures before { nodes_passed 64 wide_node_index ≡ 1 }
 {}
 
 /// An entry goes, and the others stay in their order.

@@ -13,7 +13,7 @@ script_limit = 1073741824
 abbrev pub line_limit : ℕ
 line_limit = 16777216
 
--- the greatest number of a record, or of an entry of a global attribute
+-- the greatest number of a record, or of an entry of an attribute
 abbrev pub record_number_limit : ℕ
 record_number_limit = 2147483646
 

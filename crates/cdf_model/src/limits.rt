@@ -17,7 +17,7 @@ pub const LINE_LIMIT: usize = 16_777_216;
 /// The most bytes of a record of a variable, of a block and of an entry.
 pub const RECORD_LIMIT: u64 = 67_108_864;
 
-/// The greatest number of a record, or of an entry of a global attribute.
+/// The greatest number of a record, or of an entry of an attribute.
 pub const RECORD_NUMBER_LIMIT: u32 = 2_147_483_646;
 
 /// The greatest number of 32 bits with a sign.

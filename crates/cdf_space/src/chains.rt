@@ -186,7 +186,7 @@ pub fn count_up<A: Area>(area: &mut A, chain: Chain) -> Result<(), AreaError>
     set_unsigned4(area, at, place, count + 1)
 }
 
-/// Counts one record less in a chain. After an error nothing has changed.
+/// Counts one record less in a chain.
 pub fn count_down<A: Area>(area: &mut A, chain: Chain) -> Result<(), AreaError>
     requires cdr { LiesIn (A.image area.old) cdr_place cdr_gdr_offset }
     requires inside { holder_of (A.image area.old) chain + (count_of chain).place + 4 ≤ length (A.image area.old) }

@@ -27,7 +27,7 @@ fn words_of_status(status: Status) -> &'static str {
         Status::Usage => "these words ask for nothing that can be done",
         Status::NoFile => "there is no such file",
         Status::Rejected => "the file breaks a rule",
-        Status::StoreReadFault => "the file could not be read; nothing was saved",
+        Status::StoreReadFault => "the file could not be opened or read; nothing was saved",
         Status::StoreWriteFault =>
             "the file could not be saved; each of its bytes is an old or a new one",
         Status::OutputFault => "the answers could not be written; nothing was saved",

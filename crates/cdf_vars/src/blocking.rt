@@ -1,4 +1,4 @@
-//! The command `set-blocking`: a variable gets another blocking factor, which is the number of records of a new block.
+//! The command `set-blocking`: a variable gets another blocking factor, which is how many records a new block is to hold.
 
 ghost use Rattle.std.specs.Prelude.{◌≤◌, length, IfOk, OnOk, OnErr};
 ghost use Rattle.cdf_area.specs.Calls.{Edits};
@@ -15,7 +15,7 @@ use cdf_model::{Outcome, Reason, Reply};
 use cdf_records::set_vdr_blocking_factor;
 
 impl Vars {
-    /// Says how many records a new block of a variable has: the command `set-blocking`. After an error a part of this may have been done
+    /// Says how many records a new block of a variable is to hold, 0 for the usual number: the command `set-blocking`. After an error a part of this may have been done
     /// in the area.
     pub fn set_blocking<A: Area>(
         &mut self,
