@@ -16,6 +16,7 @@ pub use Rattle.cdf_base.specs.Bytes.{put}
 pub use Rattle.cdf_pages.specs.Grown.{Grown, Owned, RemovesSome, removed}
 pub use Rattle.cdf_pages.specs.Pages.{AllShow, Backed, Shows, TakesAtMost, byte_from, byte_of, image_of, is_in, was}
 pub use Rattle.cdf_pages.specs.Saving.{Differs, HasNothingToSave, Holds, HoldsBetween, IsChangedRange, IsSavedAlready, LiesIn, Touches}
+pub use Rattle.cdf_pages.specs.Table.{page_at}
 pub use Rattle.cdf_pages.specs.Standing.{Changes, ChangesSome, cost_of_writing, page_cost, pages_in, used}
 pub use Rattle.cdf_store.specs.Disk.{Disk, IsWhole, WrittenPart, cut, file_in, file_of, written}
 pub use Rattle.cdf_store.specs.Reading.{ReadsAt, ReadsPiece}

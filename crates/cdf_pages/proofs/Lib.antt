@@ -10,4 +10,5 @@ pub mod Keys
 pub mod SavedArea
 pub mod SavedPage
 pub mod Settled
+pub mod Slots
 pub mod Touched

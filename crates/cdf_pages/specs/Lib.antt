@@ -3,3 +3,4 @@ pub mod Grown
 pub mod Pages
 pub mod Saving
 pub mod Standing
+pub mod Table

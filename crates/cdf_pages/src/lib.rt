@@ -10,6 +10,7 @@ mod reading;
 mod saving;
 mod settling;
 mod sheets;
+mod table;
 mod writing;
 
 pub use in_pages::InPages;

@@ -10,6 +10,7 @@ ghost use Rattle.cdf_store.specs.Disk.{file_of};
 ghost use Rattle.cdf_pages.specs.Grown.{Grown, Owned, RemovesSome, removed};
 ghost use Rattle.cdf_pages.specs.Pages.{Backed, Covers, Shows, TakesAtMost, is_in};
 ghost use Rattle.cdf_pages.specs.Standing.{cost_of_writing};
+ghost use Rattle.cdf_pages.specs.Table.{page_at};
 
 use crate::cache::Cache;
 use crate::page::{PAGE, Page};
@@ -58,22 +59,22 @@ fn own_page<S: Store>(
     requires room { upto ≤ 65536 }
     requires fits { number * 65536 < 2 ^ 64 }
     requires shows { (page : List ℕ) → lookup (nat_eq number) clean.old.entries ≡ Some page → Shows (file_of (S.disk store.old)) sheets.old.length number page }
-    requires backed { Backed (get nat_cmp sheets.old.changed) (length (file_of (S.disk store.old))) sheets.old.length }
-    ensures grown { Grown (file_of (S.disk store.old)) sheets.old.length sheets.old.marked (get nat_cmp sheets.old.changed) (get nat_cmp sheets.old.kept) (get nat_cmp sheets.new.changed) (get nat_cmp sheets.new.kept) }
-    ensures there { OnOk result (IsSome (get nat_cmp sheets.new.changed number)) }
+    requires backed { Backed (page_at sheets.old.changed) (length (file_of (S.disk store.old))) sheets.old.length }
+    ensures grown { Grown (file_of (S.disk store.old)) sheets.old.length sheets.old.marked (page_at sheets.old.changed) (get nat_cmp sheets.old.kept) (page_at sheets.new.changed) (get nat_cmp sheets.new.kept) }
+    ensures there { OnOk result (IsSome (page_at sheets.new.changed number)) }
     ensures ready { OnOk result (IsSome sheets.old.marked → Covers (get nat_cmp sheets.new.kept number) from upto) }
     ensures kept { (other : ℕ) → (other ≡ number → ⊥) → get nat_cmp sheets.new.kept other ≡ get nat_cmp sheets.old.kept other }
-    ensures others { (other : ℕ) → (other ≡ number → ⊥) → get nat_cmp sheets.new.changed other ≡ get nat_cmp sheets.old.changed other }
+    ensures others { (other : ℕ) → (other ≡ number → ⊥) → page_at sheets.new.changed other ≡ page_at sheets.old.changed other }
     ensures clean { (clean.new.entries ≡ clean.old.entries) ⊎ (clean.new.entries ≡ remove_entry (nat_eq number) clean.old.entries) }
     ensures gone { OnOk result (clean.new.entries ≡ remove_entry (nat_eq number) clean.old.entries) }
     ensures out { OnOk result (lookup (nat_eq number) clean.new.entries ≡ None) }
     ensures fewer { (other : ℕ) → (page : List ℕ) → lookup (nat_eq other) clean.new.entries ≡ Some page → lookup (nat_eq other) clean.old.entries ≡ Some page }
-    ensures apart { (other : ℕ) → (page : List ℕ) → lookup (nat_eq other) clean.new.entries ≡ Some page → get nat_cmp sheets.new.changed other ≡ get nat_cmp sheets.old.changed other }
+    ensures apart { (other : ℕ) → (page : List ℕ) → lookup (nat_eq other) clean.new.entries ≡ Some page → page_at sheets.new.changed other ≡ page_at sheets.old.changed other }
     ensures cap { clean.new.cap ≡ clean.old.cap }
     ensures length { sheets.new.length ≡ sheets.old.length }
     ensures marked { sheets.new.marked ≡ sheets.old.marked }
     ensures disk { S.disk store.new ≡ S.disk store.old }
-    ensures taken { TakesAtMost (S.taken store.old) (S.taken store.new) (if is_some (get nat_cmp sheets.old.changed number) then 0 else (if is_some (lookup (nat_eq number) clean.old.entries) then 0 else min 65536 (length (file_of (S.disk store.old)) - number * 65536))) }
+    ensures taken { TakesAtMost (S.taken store.old) (S.taken store.new) (if is_some (page_at sheets.old.changed number) then 0 else (if is_some (lookup (nat_eq number) clean.old.entries) then 0 else min 65536 (length (file_of (S.disk store.old)) - number * 65536))) }
     ensures cause { HasCauseOf AreaError.Fault (S.read_faults store.old) (S.read_faults store.new) result }
     ensures write { S.write_faults store.new ≡ S.write_faults store.old }
 {
@@ -102,20 +103,20 @@ pub fn own_pages<S: Store>(
 ) -> Result<(), AreaError>
     requires fits { (number : ℕ) → number < upto → number * 65536 < 2 ^ 64 }
     requires shows { (other : ℕ) → (page : List ℕ) → lookup (nat_eq other) clean.old.entries ≡ Some page → Shows (file_of (S.disk store.old)) sheets.old.length other page }
-    requires backed { Backed (get nat_cmp sheets.old.changed) (length (file_of (S.disk store.old))) sheets.old.length }
-    ensures grown { Grown (file_of (S.disk store.old)) sheets.old.length sheets.old.marked (get nat_cmp sheets.old.changed) (get nat_cmp sheets.old.kept) (get nat_cmp sheets.new.changed) (get nat_cmp sheets.new.kept) }
-    ensures owned { OnOk result (Owned sheets.new.marked (get nat_cmp sheets.new.changed) (get nat_cmp sheets.new.kept) place end from upto) }
-    ensures others { (other : ℕ) → (other < from) ⊎ (upto ≤ other) → get nat_cmp sheets.new.changed other ≡ get nat_cmp sheets.old.changed other }
+    requires backed { Backed (page_at sheets.old.changed) (length (file_of (S.disk store.old))) sheets.old.length }
+    ensures grown { Grown (file_of (S.disk store.old)) sheets.old.length sheets.old.marked (page_at sheets.old.changed) (get nat_cmp sheets.old.kept) (page_at sheets.new.changed) (get nat_cmp sheets.new.kept) }
+    ensures owned { OnOk result (Owned sheets.new.marked (page_at sheets.new.changed) (get nat_cmp sheets.new.kept) place end from upto) }
+    ensures others { (other : ℕ) → (other < from) ⊎ (upto ≤ other) → page_at sheets.new.changed other ≡ page_at sheets.old.changed other }
     ensures clean { RemovesSome from (upto - from) clean.old.entries clean.new.entries }
     ensures gone { OnOk result (clean.new.entries ≡ removed from (upto - from) clean.old.entries) }
     ensures out { OnOk result ((number : ℕ) → from ≤ number → number < upto → lookup (nat_eq number) clean.new.entries ≡ None) }
     ensures fewer { (other : ℕ) → (page : List ℕ) → lookup (nat_eq other) clean.new.entries ≡ Some page → lookup (nat_eq other) clean.old.entries ≡ Some page }
-    ensures apart { (other : ℕ) → (page : List ℕ) → lookup (nat_eq other) clean.new.entries ≡ Some page → get nat_cmp sheets.new.changed other ≡ get nat_cmp sheets.old.changed other }
+    ensures apart { (other : ℕ) → (page : List ℕ) → lookup (nat_eq other) clean.new.entries ≡ Some page → page_at sheets.new.changed other ≡ page_at sheets.old.changed other }
     ensures cap { clean.new.cap ≡ clean.old.cap }
     ensures length { sheets.new.length ≡ sheets.old.length }
     ensures marked { sheets.new.marked ≡ sheets.old.marked }
     ensures disk { S.disk store.new ≡ S.disk store.old }
-    ensures taken { TakesAtMost (S.taken store.old) (S.taken store.new) (cost_of_writing (is_in (get nat_cmp sheets.old.changed)) (keys_of clean.old.entries) (length (file_of (S.disk store.old))) from (upto - from)) }
+    ensures taken { TakesAtMost (S.taken store.old) (S.taken store.new) (cost_of_writing (is_in (page_at sheets.old.changed)) (keys_of clean.old.entries) (length (file_of (S.disk store.old))) from (upto - from)) }
     ensures cause { HasCauseOf AreaError.Fault (S.read_faults store.old) (S.read_faults store.new) result }
     ensures write { S.write_faults store.new ≡ S.write_faults store.old }
 {

@@ -16,6 +16,7 @@ ghost use Rattle.cdf_pages.specs.Pages.{AllShow, Backed, TakesAtMost, image_of, 
 ghost use Rattle.cdf_base.specs.Causes.{HasCauseOf};
 ghost use Rattle.cdf_pages.specs.Saving.{Differs, HasNothingToSave, Holds, HoldsBetween, IsChangedRange, IsSavedAlready, Touches, is_edited, tail_bytes};
 ghost use Rattle.cdf_pages.specs.Standing.{Changes, ChangesSome, ReadsSome, cost_of_reading, cost_of_writing, pages_in, used_from};
+ghost use Rattle.cdf_pages.specs.Table.{page_at};
 
 use crate::cache::Cache;
 use crate::in_pages::InPages;
@@ -45,13 +46,13 @@ pub struct PagedArea<S: Store> {
     most: u64,
     /// Whether a write or a growth may have been made.
     edited: bool,
-    ghost backed: { Backed (get nat_cmp sheets.changed) (length (file_of (S.disk store))) sheets.length },
-    ghost base_backed: { (size : ℕ) → sheets.marked ≡ Some size → (size ≤ sheets.length) × Backed (λ number. was (get nat_cmp sheets.kept number) (get nat_cmp sheets.changed number)) (length (file_of (S.disk store))) size },
-    ghost shows: { AllShow (get nat_cmp sheets.changed) (file_of (S.disk store)) sheets.length clean.entries },
+    ghost backed: { Backed (page_at sheets.changed) (length (file_of (S.disk store))) sheets.length },
+    ghost base_backed: { (size : ℕ) → sheets.marked ≡ Some size → (size ≤ sheets.length) × Backed (λ number. was (get nat_cmp sheets.kept number) (page_at sheets.changed number)) (length (file_of (S.disk store))) size },
+    ghost shows: { AllShow (page_at sheets.changed) (file_of (S.disk store)) sheets.length clean.entries },
     ghost bounded: { length (file_of (S.disk store)) ≤ most },
     ghost valid: { IsValid nat_eq clean } by { Prim.hlevel props },
     ghost cap: { clean.cap ≡ 256 },
-    ghost unedited: { edited ≡ false → (number : ℕ) → get nat_cmp sheets.changed number ≡ None },
+    ghost unedited: { edited ≡ false → (number : ℕ) → page_at sheets.changed number ≡ None },
 }
 
 impl<S: Store> PagedArea<S> {
@@ -156,8 +157,8 @@ impl<S: Store> PagedArea<S> {
 
     /// Whether no page is changed, the file is not longer than the image, and no tail is to stand behind it.
     fn has_nothing_to_save(&self, tail: &Option<[u8; 16]>) -> bool
-        ensures yes { IsTrue result → ((number : ℕ) → get nat_cmp self.now.sheets.changed number ≡ None) × (tail.now ≡ None) × (self.now.most ≤ self.now.sheets.length) }
-        ensures no { ((number : ℕ) → get nat_cmp self.now.sheets.changed number ≡ None) → tail.now ≡ None → self.now.most ≤ self.now.sheets.length → IsTrue result }
+        ensures yes { IsTrue result → ((number : ℕ) → page_at self.now.sheets.changed number ≡ None) × (tail.now ≡ None) × (self.now.most ≤ self.now.sheets.length) }
+        ensures no { ((number : ℕ) → page_at self.now.sheets.changed number ≡ None) → tail.now ≡ None → self.now.most ≤ self.now.sheets.length → IsTrue result }
     {
         self.sheets.first().is_none() && tail.is_none() && self.most <= self.sheets.length
     }
@@ -215,9 +216,9 @@ impl<S: Store> PagedArea<S> {
 }
 
 impl<S: Store> InPages for PagedArea<S> {
-    ghost changed = { λ a. is_in (get nat_cmp a.sheets.changed) };
+    ghost changed = { λ a. is_in (page_at a.sheets.changed) };
 
-    ghost marked = { λ a. is_in (λ number. was (get nat_cmp a.sheets.kept number) (get nat_cmp a.sheets.changed number)) };
+    ghost marked = { λ a. is_in (λ number. was (get nat_cmp a.sheets.kept number) (page_at a.sheets.changed number)) };
 
     ghost clean = { λ a. keys_of a.clean.entries };
 
@@ -225,16 +226,16 @@ impl<S: Store> InPages for PagedArea<S> {
 
     ghost measured = { λ a. a.most == length (file_of (S.disk a.store)) };
 
-    ghost cached = { λ a. all_clean (get nat_cmp a.sheets.changed) (file_of (S.disk a.store)) a.sheets.length a.clean a.valid a.cap a.shows };
+    ghost cached = { λ a. all_clean (page_at a.sheets.changed) (file_of (S.disk a.store)) a.sheets.length a.clean a.valid a.cap a.shows };
 }
 
 impl<S: Store> Area for PagedArea<S> {
-    ghost image = { λ a. image_of (get nat_cmp a.sheets.changed) (file_of (S.disk a.store)) a.sheets.length };
+    ghost image = { λ a. image_of (page_at a.sheets.changed) (file_of (S.disk a.store)) a.sheets.length };
 
     ghost Under = { Disk S.Under × ℕ };
 
     ghost frame = { λ a. record {
-      base = option_map (λ size. image_of (λ number. was (get nat_cmp a.sheets.kept number) (get nat_cmp a.sheets.changed number)) (file_of (S.disk a.store)) size) a.sheets.marked;
+      base = option_map (λ size. image_of (λ number. was (get nat_cmp a.sheets.kept number) (page_at a.sheets.changed number)) (file_of (S.disk a.store)) size) a.sheets.marked;
       limit = a.limit;
       under = (S.disk a.store, S.write_faults a.store);
     } };

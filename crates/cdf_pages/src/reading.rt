@@ -4,12 +4,11 @@ ghost use Rattle.std.specs.Prelude.{◌≡◌, ◌+◌, ◌-◌, ◌*◌, ◌/�
 ghost use Rattle.lru.specs.LruCache.{IsValid, lru_cache, promoted};
 ghost use Rattle.std.specs.Option.{is_some};
 ghost use Rattle.std.specs.Map.{keys_of, lookup};
-ghost use Rattle.std.specs.Ordering.{nat_cmp};
-ghost use Rattle.std.specs.BTreeMap.{get};
 ghost use Rattle.cdf_base.specs.Causes.{HasCause, HasCauseOf};
 ghost use Rattle.cdf_store.specs.Disk.{file_of};
 ghost use Rattle.cdf_pages.specs.Pages.{AllShow, Backed, Shows, TakesAtMost, image_of, is_in};
 ghost use Rattle.cdf_pages.specs.Standing.{ReadsSome, clean_cost, cost_of_reading, page_cost, pages_in, to_front, used, used_from};
+ghost use Rattle.cdf_pages.specs.Table.{page_at};
 
 use crate::cache::Cache;
 use crate::page::{PAGE, Page};
@@ -187,17 +186,17 @@ fn read_looked_up<S: Store>(
     requires room { place + length out.old ≤ 65536 }
     requires inside { number * 65536 + place + length out.old ≤ sheets.now.length }
     requires fits { number * 65536 < 2 ^ 64 }
-    requires backed { Backed (get nat_cmp sheets.now.changed) (length (file_of (S.disk store.old))) sheets.now.length }
-    requires shows { AllShow (get nat_cmp sheets.now.changed) (file_of (S.disk store.old)) sheets.now.length clean.old.entries }
+    requires backed { Backed (page_at sheets.now.changed) (length (file_of (S.disk store.old))) sheets.now.length }
+    requires shows { AllShow (page_at sheets.now.changed) (file_of (S.disk store.old)) sheets.now.length clean.old.entries }
     requires cap { clean.old.cap ≡ 256 }
     ensures size { length out.new ≡ length out.old }
-    ensures bytes { OnOk result (out.new ≡ take (length out.old) (drop (number * 65536 + place) (image_of (get nat_cmp sheets.now.changed) (file_of (S.disk store.old)) sheets.now.length))) }
-    ensures shows { AllShow (get nat_cmp sheets.now.changed) (file_of (S.disk store.old)) sheets.now.length clean.new.entries }
-    ensures used { OnOk result (keys_of clean.new.entries ≡ used (is_in (get nat_cmp sheets.now.changed)) number (keys_of clean.old.entries)) }
+    ensures bytes { OnOk result (out.new ≡ take (length out.old) (drop (number * 65536 + place) (image_of (page_at sheets.now.changed) (file_of (S.disk store.old)) sheets.now.length))) }
+    ensures shows { AllShow (page_at sheets.now.changed) (file_of (S.disk store.old)) sheets.now.length clean.new.entries }
+    ensures used { OnOk result (keys_of clean.new.entries ≡ used (is_in (page_at sheets.now.changed)) number (keys_of clean.old.entries)) }
     ensures stays { OnErr result (clean.new ≡ clean.old) }
     ensures cap { clean.new.cap ≡ clean.old.cap }
     ensures disk { S.disk store.new ≡ S.disk store.old }
-    ensures taken { TakesAtMost (S.taken store.old) (S.taken store.new) (page_cost (is_in (get nat_cmp sheets.now.changed)) (keys_of clean.old.entries) (length (file_of (S.disk store.old))) number) }
+    ensures taken { TakesAtMost (S.taken store.old) (S.taken store.new) (page_cost (is_in (page_at sheets.now.changed)) (keys_of clean.old.entries) (length (file_of (S.disk store.old))) number) }
     ensures cause { HasCauseOf AreaError.Fault (S.read_faults store.old) (S.read_faults store.new) result }
     ensures write { S.write_faults store.new ≡ S.write_faults store.old }
 {
@@ -221,17 +220,17 @@ fn read_within<S: Store>(
     requires room { place + length out.old ≤ 65536 }
     requires inside { number * 65536 + place + length out.old ≤ sheets.now.length }
     requires fits { number * 65536 < 2 ^ 64 }
-    requires backed { Backed (get nat_cmp sheets.now.changed) (length (file_of (S.disk store.old))) sheets.now.length }
-    requires shows { AllShow (get nat_cmp sheets.now.changed) (file_of (S.disk store.old)) sheets.now.length clean.old.entries }
+    requires backed { Backed (page_at sheets.now.changed) (length (file_of (S.disk store.old))) sheets.now.length }
+    requires shows { AllShow (page_at sheets.now.changed) (file_of (S.disk store.old)) sheets.now.length clean.old.entries }
     requires cap { clean.old.cap ≡ 256 }
     ensures size { length out.new ≡ length out.old }
-    ensures bytes { OnOk result (out.new ≡ take (length out.old) (drop (number * 65536 + place) (image_of (get nat_cmp sheets.now.changed) (file_of (S.disk store.old)) sheets.now.length))) }
-    ensures shows { AllShow (get nat_cmp sheets.now.changed) (file_of (S.disk store.old)) sheets.now.length clean.new.entries }
-    ensures used { OnOk result (keys_of clean.new.entries ≡ used (is_in (get nat_cmp sheets.now.changed)) number (keys_of clean.old.entries)) }
+    ensures bytes { OnOk result (out.new ≡ take (length out.old) (drop (number * 65536 + place) (image_of (page_at sheets.now.changed) (file_of (S.disk store.old)) sheets.now.length))) }
+    ensures shows { AllShow (page_at sheets.now.changed) (file_of (S.disk store.old)) sheets.now.length clean.new.entries }
+    ensures used { OnOk result (keys_of clean.new.entries ≡ used (is_in (page_at sheets.now.changed)) number (keys_of clean.old.entries)) }
     ensures stays { OnErr result (clean.new ≡ clean.old) }
     ensures cap { clean.new.cap ≡ clean.old.cap }
     ensures disk { S.disk store.new ≡ S.disk store.old }
-    ensures taken { TakesAtMost (S.taken store.old) (S.taken store.new) (page_cost (is_in (get nat_cmp sheets.now.changed)) (keys_of clean.old.entries) (length (file_of (S.disk store.old))) number) }
+    ensures taken { TakesAtMost (S.taken store.old) (S.taken store.new) (page_cost (is_in (page_at sheets.now.changed)) (keys_of clean.old.entries) (length (file_of (S.disk store.old))) number) }
     ensures cause { HasCauseOf AreaError.Fault (S.read_faults store.old) (S.read_faults store.new) result }
     ensures write { S.write_faults store.new ≡ S.write_faults store.old }
 {
@@ -253,18 +252,18 @@ pub fn read_range<S: Store>(
     out: &mut [u8],
 ) -> Result<(), AreaError>
     requires inside { place + length out.old ≤ sheets.now.length }
-    requires backed { Backed (get nat_cmp sheets.now.changed) (length (file_of (S.disk store.old))) sheets.now.length }
-    requires shows { AllShow (get nat_cmp sheets.now.changed) (file_of (S.disk store.old)) sheets.now.length clean.old.entries }
+    requires backed { Backed (page_at sheets.now.changed) (length (file_of (S.disk store.old))) sheets.now.length }
+    requires shows { AllShow (page_at sheets.now.changed) (file_of (S.disk store.old)) sheets.now.length clean.old.entries }
     requires cap { clean.old.cap ≡ 256 }
     requires valid { IsValid nat_eq clean.old }
-    ensures bytes { OnOk result (out.new ≡ take (length out.new) (drop place (image_of (get nat_cmp sheets.now.changed) (file_of (S.disk store.old)) sheets.now.length))) }
-    ensures shows { AllShow (get nat_cmp sheets.now.changed) (file_of (S.disk store.old)) sheets.now.length clean.new.entries }
-    ensures used { OnOk result (keys_of clean.new.entries ≡ used_from (is_in (get nat_cmp sheets.now.changed)) (place / 65536) (pages_in place (length out.old)) (keys_of clean.old.entries)) }
-    ensures some { OnErr result (ReadsSome (is_in (get nat_cmp sheets.now.changed)) (keys_of clean.old.entries) (keys_of clean.new.entries) place (length out.old)) }
+    ensures bytes { OnOk result (out.new ≡ take (length out.new) (drop place (image_of (page_at sheets.now.changed) (file_of (S.disk store.old)) sheets.now.length))) }
+    ensures shows { AllShow (page_at sheets.now.changed) (file_of (S.disk store.old)) sheets.now.length clean.new.entries }
+    ensures used { OnOk result (keys_of clean.new.entries ≡ used_from (is_in (page_at sheets.now.changed)) (place / 65536) (pages_in place (length out.old)) (keys_of clean.old.entries)) }
+    ensures some { OnErr result (ReadsSome (is_in (page_at sheets.now.changed)) (keys_of clean.old.entries) (keys_of clean.new.entries) place (length out.old)) }
     ensures cap { clean.new.cap ≡ clean.old.cap }
     ensures valid { IsValid nat_eq clean.new }
     ensures disk { S.disk store.new ≡ S.disk store.old }
-    ensures taken { TakesAtMost (S.taken store.old) (S.taken store.new) (cost_of_reading (is_in (get nat_cmp sheets.now.changed)) (keys_of clean.old.entries) (length (file_of (S.disk store.old))) (place / 65536) (pages_in place (length out.old))) }
+    ensures taken { TakesAtMost (S.taken store.old) (S.taken store.new) (cost_of_reading (is_in (page_at sheets.now.changed)) (keys_of clean.old.entries) (length (file_of (S.disk store.old))) (place / 65536) (pages_in place (length out.old))) }
     ensures cause { HasCauseOf AreaError.Fault (S.read_faults store.old) (S.read_faults store.new) result }
     ensures write { S.write_faults store.new ≡ S.write_faults store.old }
 {

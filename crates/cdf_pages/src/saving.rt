@@ -1,13 +1,12 @@
 //! Writing the changed pages of an image to the attached file, and the tail behind them.
 
 ghost use Rattle.std.specs.Prelude.{◌≡◌, ◌+◌, ◌*◌, ◌≤◌, ◌<◌, ◌^◌, ◌↔◌, ◌++◌, ℕ, List, length, max, take, IsErrOf, IsSome, IsTrue, OnOk, OnErr, None};
-ghost use Rattle.std.specs.Ordering.{nat_cmp};
-ghost use Rattle.std.specs.BTreeMap.{btree_map_len, get};
 ghost use Rattle.cdf_base.specs.Bytes.{put};
 ghost use Rattle.cdf_base.specs.Causes.{HasCause, HasCauseOf};
 ghost use Rattle.cdf_store.specs.Disk.{Disk, Spent, file_of};
 ghost use Rattle.cdf_pages.specs.Pages.{Backed, image_of, is_in};
 ghost use Rattle.cdf_pages.specs.Saving.{Holds, HoldsBetween, IsChangedRange, LiesIn, Touches, most_of, tail_bytes};
+ghost use Rattle.cdf_pages.specs.Table.{page_at, pages_held};
 
 use crate::page::PAGE;
 use crate::reading::live_bytes;
@@ -24,21 +23,21 @@ pub fn is_within(length: u64, number: u64) -> bool
 
 /// Writes a changed page to the file, and it is a changed one no more. The image stays, after a fault too.
 fn save_page<S: Store>(store: &mut S, sheets: &mut Sheets, number: u64) -> Result<(), Failed>
-    requires there { IsSome (get nat_cmp sheets.old.changed number) }
+    requires there { IsSome (page_at sheets.old.changed number) }
     requires inside { number * 65536 < sheets.old.length }
     requires unmarked { sheets.old.marked ≡ None }
     requires held { IsSome (S.disk store.old).held }
     requires place { number * 65536 ≤ length (file_of (S.disk store.old)) }
     requires writes { 1 ≤ (S.spare store.old).writes }
     requires end { sheets.old.length ≤ (S.spare store.old).end }
-    requires backed { Backed (get nat_cmp sheets.old.changed) (length (file_of (S.disk store.old))) sheets.old.length }
-    ensures image { image_of (get nat_cmp sheets.new.changed) (file_of (S.disk store.new)) sheets.old.length ≡ image_of (get nat_cmp sheets.old.changed) (file_of (S.disk store.old)) sheets.old.length }
-    ensures backed { Backed (get nat_cmp sheets.new.changed) (length (file_of (S.disk store.new))) sheets.old.length }
-    ensures less { (other : ℕ) → get nat_cmp sheets.old.changed other ≡ None → get nat_cmp sheets.new.changed other ≡ None }
-    ensures fewer { OnOk result (btree_map_len sheets.new.changed + 1 ≡ btree_map_len sheets.old.changed) }
+    requires backed { Backed (page_at sheets.old.changed) (length (file_of (S.disk store.old))) sheets.old.length }
+    ensures image { image_of (page_at sheets.new.changed) (file_of (S.disk store.new)) sheets.old.length ≡ image_of (page_at sheets.old.changed) (file_of (S.disk store.old)) sheets.old.length }
+    ensures backed { Backed (page_at sheets.new.changed) (length (file_of (S.disk store.new))) sheets.old.length }
+    ensures less { (other : ℕ) → page_at sheets.old.changed other ≡ None → page_at sheets.new.changed other ≡ None }
+    ensures fewer { OnOk result (pages_held sheets.new.changed + 1 ≡ pages_held sheets.old.changed) }
     ensures held { OnOk result (IsSome (S.disk store.new).held) }
-    ensures between { (first : Disk S.Under) → (tail : List ℕ) → HoldsBetween first (image_of (get nat_cmp sheets.old.changed) (file_of (S.disk store.old)) sheets.old.length ++ tail) (S.disk store.old)
-        → HoldsBetween first (image_of (get nat_cmp sheets.old.changed) (file_of (S.disk store.old)) sheets.old.length ++ tail) (S.disk store.new) }
+    ensures between { (first : Disk S.Under) → (tail : List ℕ) → HoldsBetween first (image_of (page_at sheets.old.changed) (file_of (S.disk store.old)) sheets.old.length ++ tail) (S.disk store.old)
+        → HoldsBetween first (image_of (page_at sheets.old.changed) (file_of (S.disk store.old)) sheets.old.length ++ tail) (S.disk store.new) }
     ensures touched { Touches (LiesIn number) (S.disk store.old).touched (S.disk store.new).touched }
     ensures length { sheets.new.length ≡ sheets.old.length }
     ensures marked { sheets.new.marked ≡ None }
@@ -58,20 +57,20 @@ fn save_page<S: Store>(store: &mut S, sheets: &mut Sheets, number: u64) -> Resul
 
 /// Writes the first changed page to the file, or forgets it where it lies past the image.
 fn save_first<S: Store>(store: &mut S, sheets: &mut Sheets, number: u64) -> Result<(), Failed>
-    requires there { IsSome (get nat_cmp sheets.old.changed number) }
-    requires least { (other : ℕ) → other < number → get nat_cmp sheets.old.changed other ≡ None }
+    requires there { IsSome (page_at sheets.old.changed number) }
+    requires least { (other : ℕ) → other < number → page_at sheets.old.changed other ≡ None }
     requires unmarked { sheets.old.marked ≡ None }
     requires held { IsSome (S.disk store.old).held }
     requires writes { 1 ≤ (S.spare store.old).writes }
     requires end { sheets.old.length ≤ (S.spare store.old).end }
-    requires backed { Backed (get nat_cmp sheets.old.changed) (length (file_of (S.disk store.old))) sheets.old.length }
-    ensures image { image_of (get nat_cmp sheets.new.changed) (file_of (S.disk store.new)) sheets.old.length ≡ image_of (get nat_cmp sheets.old.changed) (file_of (S.disk store.old)) sheets.old.length }
-    ensures backed { Backed (get nat_cmp sheets.new.changed) (length (file_of (S.disk store.new))) sheets.old.length }
-    ensures less { (other : ℕ) → get nat_cmp sheets.old.changed other ≡ None → get nat_cmp sheets.new.changed other ≡ None }
-    ensures fewer { OnOk result (btree_map_len sheets.new.changed + 1 ≡ btree_map_len sheets.old.changed) }
+    requires backed { Backed (page_at sheets.old.changed) (length (file_of (S.disk store.old))) sheets.old.length }
+    ensures image { image_of (page_at sheets.new.changed) (file_of (S.disk store.new)) sheets.old.length ≡ image_of (page_at sheets.old.changed) (file_of (S.disk store.old)) sheets.old.length }
+    ensures backed { Backed (page_at sheets.new.changed) (length (file_of (S.disk store.new))) sheets.old.length }
+    ensures less { (other : ℕ) → page_at sheets.old.changed other ≡ None → page_at sheets.new.changed other ≡ None }
+    ensures fewer { OnOk result (pages_held sheets.new.changed + 1 ≡ pages_held sheets.old.changed) }
     ensures held { OnOk result (IsSome (S.disk store.new).held) }
-    ensures between { (first : Disk S.Under) → (tail : List ℕ) → HoldsBetween first (image_of (get nat_cmp sheets.old.changed) (file_of (S.disk store.old)) sheets.old.length ++ tail) (S.disk store.old)
-        → HoldsBetween first (image_of (get nat_cmp sheets.old.changed) (file_of (S.disk store.old)) sheets.old.length ++ tail) (S.disk store.new) }
+    ensures between { (first : Disk S.Under) → (tail : List ℕ) → HoldsBetween first (image_of (page_at sheets.old.changed) (file_of (S.disk store.old)) sheets.old.length ++ tail) (S.disk store.old)
+        → HoldsBetween first (image_of (page_at sheets.old.changed) (file_of (S.disk store.old)) sheets.old.length ++ tail) (S.disk store.new) }
     ensures touched { Touches (LiesIn number) (S.disk store.old).touched (S.disk store.new).touched }
     ensures length { sheets.new.length ≡ sheets.old.length }
     ensures marked { sheets.new.marked ≡ None }
@@ -88,23 +87,24 @@ fn save_first<S: Store>(store: &mut S, sheets: &mut Sheets, number: u64) -> Resu
 }
 
 /// Writes the changed pages to the file, in ascending order. One that lies past the image is forgotten.
+#[tactic(auto, using(crate::proofs::Slots::some_held))]
 fn save_pages<S: Store>(store: &mut S, sheets: &mut Sheets) -> Result<(), Failed>
     requires unmarked { sheets.old.marked ≡ None }
     requires held { IsSome (S.disk store.old).held }
-    requires writes { btree_map_len sheets.old.changed ≤ (S.spare store.old).writes }
+    requires writes { pages_held sheets.old.changed ≤ (S.spare store.old).writes }
     requires end { sheets.old.length ≤ (S.spare store.old).end }
-    requires backed { Backed (get nat_cmp sheets.old.changed) (length (file_of (S.disk store.old))) sheets.old.length }
-    ensures image { image_of (get nat_cmp sheets.new.changed) (file_of (S.disk store.new)) sheets.old.length ≡ image_of (get nat_cmp sheets.old.changed) (file_of (S.disk store.old)) sheets.old.length }
-    ensures backed { Backed (get nat_cmp sheets.new.changed) (length (file_of (S.disk store.new))) sheets.old.length }
-    ensures less { (other : ℕ) → get nat_cmp sheets.old.changed other ≡ None → get nat_cmp sheets.new.changed other ≡ None }
+    requires backed { Backed (page_at sheets.old.changed) (length (file_of (S.disk store.old))) sheets.old.length }
+    ensures image { image_of (page_at sheets.new.changed) (file_of (S.disk store.new)) sheets.old.length ≡ image_of (page_at sheets.old.changed) (file_of (S.disk store.old)) sheets.old.length }
+    ensures backed { Backed (page_at sheets.new.changed) (length (file_of (S.disk store.new))) sheets.old.length }
+    ensures less { (other : ℕ) → page_at sheets.old.changed other ≡ None → page_at sheets.new.changed other ≡ None }
     ensures held { OnOk result (IsSome (S.disk store.new).held) }
-    ensures saved { OnOk result ((number : ℕ) → get nat_cmp sheets.new.changed number ≡ None) }
-    ensures between { (first : Disk S.Under) → (tail : List ℕ) → HoldsBetween first (image_of (get nat_cmp sheets.old.changed) (file_of (S.disk store.old)) sheets.old.length ++ tail) (S.disk store.old)
-        → HoldsBetween first (image_of (get nat_cmp sheets.old.changed) (file_of (S.disk store.old)) sheets.old.length ++ tail) (S.disk store.new) }
-    ensures touched { Touches (λ range. (number : ℕ) × IsTrue (is_in (get nat_cmp sheets.old.changed) number) × LiesIn number range) (S.disk store.old).touched (S.disk store.new).touched }
+    ensures saved { OnOk result ((number : ℕ) → page_at sheets.new.changed number ≡ None) }
+    ensures between { (first : Disk S.Under) → (tail : List ℕ) → HoldsBetween first (image_of (page_at sheets.old.changed) (file_of (S.disk store.old)) sheets.old.length ++ tail) (S.disk store.old)
+        → HoldsBetween first (image_of (page_at sheets.old.changed) (file_of (S.disk store.old)) sheets.old.length ++ tail) (S.disk store.new) }
+    ensures touched { Touches (λ range. (number : ℕ) × IsTrue (is_in (page_at sheets.old.changed) number) × LiesIn number range) (S.disk store.old).touched (S.disk store.new).touched }
     ensures length { sheets.new.length ≡ sheets.old.length }
     ensures marked { sheets.new.marked ≡ None }
-    ensures writes { (S.spare store.old).writes ≤ (S.spare store.new).writes + btree_map_len sheets.old.changed }
+    ensures writes { (S.spare store.old).writes ≤ (S.spare store.new).writes + pages_held sheets.old.changed }
     ensures end { (S.spare store.new).end ≡ (S.spare store.old).end }
     ensures taken { S.taken store.new ≡ S.taken store.old }
     ensures cause { HasCause (S.write_faults store.old) (S.write_faults store.new) result }
@@ -154,16 +154,16 @@ fn write_image<S: Store>(
     requires most { length (file_of (S.disk store.old)) ≤ most }
     requires size { length tail.now ≤ 65536 }
     requires fits { sheets.old.length + length tail.now < 2 ^ 64 }
-    requires writes { btree_map_len sheets.old.changed + 2 ≤ (S.spare store.old).writes }
+    requires writes { pages_held sheets.old.changed + 2 ≤ (S.spare store.old).writes }
     requires end { sheets.old.length + length tail.now ≤ (S.spare store.old).end }
-    requires backed { Backed (get nat_cmp sheets.old.changed) (length (file_of (S.disk store.old))) sheets.old.length }
-    ensures saved { OnOk result (Holds (S.disk store.old) (image_of (get nat_cmp sheets.old.changed) (file_of (S.disk store.old)) sheets.old.length ++ tail.now) (S.disk store.new)) }
-    ensures failed { OnErr result (HoldsBetween (S.disk store.old) (image_of (get nat_cmp sheets.old.changed) (file_of (S.disk store.old)) sheets.old.length ++ tail.now) (S.disk store.new)) }
-    ensures image { image_of (get nat_cmp sheets.new.changed) (file_of (S.disk store.new)) sheets.old.length ≡ image_of (get nat_cmp sheets.old.changed) (file_of (S.disk store.old)) sheets.old.length }
-    ensures backed { Backed (get nat_cmp sheets.new.changed) (length (file_of (S.disk store.new))) sheets.old.length }
-    ensures less { (other : ℕ) → get nat_cmp sheets.old.changed other ≡ None → get nat_cmp sheets.new.changed other ≡ None }
-    ensures none { OnOk result ((number : ℕ) → get nat_cmp sheets.new.changed number ≡ None) }
-    ensures touched { Touches (IsChangedRange (is_in (get nat_cmp sheets.old.changed)) sheets.old.length (length tail.now)) (S.disk store.old).touched (S.disk store.new).touched }
+    requires backed { Backed (page_at sheets.old.changed) (length (file_of (S.disk store.old))) sheets.old.length }
+    ensures saved { OnOk result (Holds (S.disk store.old) (image_of (page_at sheets.old.changed) (file_of (S.disk store.old)) sheets.old.length ++ tail.now) (S.disk store.new)) }
+    ensures failed { OnErr result (HoldsBetween (S.disk store.old) (image_of (page_at sheets.old.changed) (file_of (S.disk store.old)) sheets.old.length ++ tail.now) (S.disk store.new)) }
+    ensures image { image_of (page_at sheets.new.changed) (file_of (S.disk store.new)) sheets.old.length ≡ image_of (page_at sheets.old.changed) (file_of (S.disk store.old)) sheets.old.length }
+    ensures backed { Backed (page_at sheets.new.changed) (length (file_of (S.disk store.new))) sheets.old.length }
+    ensures less { (other : ℕ) → page_at sheets.old.changed other ≡ None → page_at sheets.new.changed other ≡ None }
+    ensures none { OnOk result ((number : ℕ) → page_at sheets.new.changed number ≡ None) }
+    ensures touched { Touches (IsChangedRange (is_in (page_at sheets.old.changed)) sheets.old.length (length tail.now)) (S.disk store.old).touched (S.disk store.new).touched }
     ensures length { sheets.new.length ≡ sheets.old.length }
     ensures marked { sheets.new.marked ≡ None }
     ensures taken { S.taken store.new ≡ S.taken store.old }
@@ -191,17 +191,17 @@ pub fn save_image<S: Store>(
     requires most { length (file_of (S.disk store.old)) ≤ most }
     requires size { length tail.now ≤ 65536 }
     requires fits { sheets.old.length + length tail.now < 2 ^ 64 }
-    requires backed { Backed (get nat_cmp sheets.old.changed) (length (file_of (S.disk store.old))) sheets.old.length }
-    ensures saved { OnOk result (Holds (S.disk store.old) (image_of (get nat_cmp sheets.old.changed) (file_of (S.disk store.old)) sheets.old.length ++ tail.now) (S.disk store.new)) }
-    ensures failed { IsErrOf result AreaError.Fault → HoldsBetween (S.disk store.old) (image_of (get nat_cmp sheets.old.changed) (file_of (S.disk store.old)) sheets.old.length ++ tail.now) (S.disk store.new) }
+    requires backed { Backed (page_at sheets.old.changed) (length (file_of (S.disk store.old))) sheets.old.length }
+    ensures saved { OnOk result (Holds (S.disk store.old) (image_of (page_at sheets.old.changed) (file_of (S.disk store.old)) sheets.old.length ++ tail.now) (S.disk store.new)) }
+    ensures failed { IsErrOf result AreaError.Fault → HoldsBetween (S.disk store.old) (image_of (page_at sheets.old.changed) (file_of (S.disk store.old)) sheets.old.length ++ tail.now) (S.disk store.new) }
     ensures no_memory { IsErrOf result AreaError.NoMemory → S.disk store.new ≡ S.disk store.old }
     ensures unfailed { IsErrOf result AreaError.NoMemory → S.write_faults store.new ≡ S.write_faults store.old }
     ensures bound { length (file_of (S.disk store.new)) ≤ max most (sheets.old.length + length tail.now) }
-    ensures image { image_of (get nat_cmp sheets.new.changed) (file_of (S.disk store.new)) sheets.old.length ≡ image_of (get nat_cmp sheets.old.changed) (file_of (S.disk store.old)) sheets.old.length }
-    ensures backed { Backed (get nat_cmp sheets.new.changed) (length (file_of (S.disk store.new))) sheets.old.length }
-    ensures less { (other : ℕ) → get nat_cmp sheets.old.changed other ≡ None → get nat_cmp sheets.new.changed other ≡ None }
-    ensures none { OnOk result ((number : ℕ) → get nat_cmp sheets.new.changed number ≡ None) }
-    ensures touched { Touches (IsChangedRange (is_in (get nat_cmp sheets.old.changed)) sheets.old.length (length tail.now)) (S.disk store.old).touched (S.disk store.new).touched }
+    ensures image { image_of (page_at sheets.new.changed) (file_of (S.disk store.new)) sheets.old.length ≡ image_of (page_at sheets.old.changed) (file_of (S.disk store.old)) sheets.old.length }
+    ensures backed { Backed (page_at sheets.new.changed) (length (file_of (S.disk store.new))) sheets.old.length }
+    ensures less { (other : ℕ) → page_at sheets.old.changed other ≡ None → page_at sheets.new.changed other ≡ None }
+    ensures none { OnOk result ((number : ℕ) → page_at sheets.new.changed number ≡ None) }
+    ensures touched { Touches (IsChangedRange (is_in (page_at sheets.old.changed)) sheets.old.length (length tail.now)) (S.disk store.old).touched (S.disk store.new).touched }
     ensures length { sheets.new.length ≡ sheets.old.length }
     ensures marked { sheets.new.marked ≡ None }
     ensures taken { S.taken store.new ≡ S.taken store.old }

@@ -1,13 +1,12 @@
 //! Finding the changed pages whose bytes the file has there anyway.
 
 ghost use Rattle.std.specs.Prelude.{◌≡◌, ◌+◌, ◌-◌, ◌*◌, ◌≤◌, ◌<◌, ◌^◌, ◌⊎◌, ℕ, List, [], length, min, not, slice_index, take, drop, None, Some, IsFalse, IsSome, IsTrue, IfOk, OnOk};
-ghost use Rattle.std.specs.Ordering.{nat_cmp};
-ghost use Rattle.std.specs.BTreeMap.{get};
 ghost use Rattle.cdf_base.specs.Causes.{HasCause, HasCauseOf};
 ghost use Rattle.cdf_store.specs.Disk.{file_of};
 ghost use Rattle.cdf_pages.specs.Pages.{Backed, Shows, TakesAtMost, image_of, is_in};
 ghost use Rattle.cdf_pages.specs.Saving.{Differs};
 ghost use Rattle.cdf_pages.specs.Standing.{cost_of_writing, pages_in};
+ghost use Rattle.cdf_pages.specs.Table.{page_at};
 
 use crate::page::PAGE;
 use crate::reading::live_bytes;
@@ -69,14 +68,14 @@ fn has_page<S: Store>(
     number: u64,
     buffer: &mut [u8],
 ) -> Result<bool, Failed>
-    requires there { IsSome (get nat_cmp sheets.now.changed number) }
+    requires there { IsSome (page_at sheets.now.changed number) }
     requires inside { number * 65536 < sheets.now.length }
     requires held { IsSome (S.disk store.old).held }
     requires most { length (file_of (S.disk store.old)) ≤ most }
     requires buffer { length buffer.old ≡ 65536 }
-    ensures shows { IfOk result (λ yes. IsTrue yes → (page : List ℕ) → get nat_cmp sheets.now.changed number ≡ Some page → Shows (file_of (S.disk store.old)) sheets.now.length number page) }
+    ensures shows { IfOk result (λ yes. IsTrue yes → (page : List ℕ) → page_at sheets.now.changed number ≡ Some page → Shows (file_of (S.disk store.old)) sheets.now.length number page) }
     ensures backed { IfOk result (λ yes. IsTrue yes → (j : ℕ) → j < 65536 → number * 65536 + j < sheets.now.length → number * 65536 + j < length (file_of (S.disk store.old))) }
-    ensures differs { IfOk result (λ yes. IsFalse yes → Differs (file_of (S.disk store.old)) (image_of (get nat_cmp sheets.now.changed) (file_of (S.disk store.old)) sheets.now.length) number) }
+    ensures differs { IfOk result (λ yes. IsFalse yes → Differs (file_of (S.disk store.old)) (image_of (page_at sheets.now.changed) (file_of (S.disk store.old)) sheets.now.length) number) }
     ensures buffer { length buffer.new ≡ 65536 }
     ensures disk { S.disk store.new ≡ S.disk store.old }
     ensures taken { TakesAtMost (S.taken store.old) (S.taken store.new) (min 65536 (length (file_of (S.disk store.old)) - number * 65536)) }
@@ -102,13 +101,13 @@ fn is_settled<S: Store>(
     number: u64,
     buffer: &mut [u8],
 ) -> Result<bool, Failed>
-    requires there { IsSome (get nat_cmp sheets.now.changed number) }
+    requires there { IsSome (page_at sheets.now.changed number) }
     requires held { IsSome (S.disk store.old).held }
     requires most { length (file_of (S.disk store.old)) ≤ most }
     requires buffer { length buffer.old ≡ 65536 }
-    ensures shows { IfOk result (λ yes. IsTrue yes → (page : List ℕ) → get nat_cmp sheets.now.changed number ≡ Some page → Shows (file_of (S.disk store.old)) sheets.now.length number page) }
+    ensures shows { IfOk result (λ yes. IsTrue yes → (page : List ℕ) → page_at sheets.now.changed number ≡ Some page → Shows (file_of (S.disk store.old)) sheets.now.length number page) }
     ensures backed { IfOk result (λ yes. IsTrue yes → (j : ℕ) → j < 65536 → number * 65536 + j < sheets.now.length → number * 65536 + j < length (file_of (S.disk store.old))) }
-    ensures differs { IfOk result (λ yes. IsFalse yes → Differs (file_of (S.disk store.old)) (image_of (get nat_cmp sheets.now.changed) (file_of (S.disk store.old)) sheets.now.length) number) }
+    ensures differs { IfOk result (λ yes. IsFalse yes → Differs (file_of (S.disk store.old)) (image_of (page_at sheets.now.changed) (file_of (S.disk store.old)) sheets.now.length) number) }
     ensures buffer { length buffer.new ≡ 65536 }
     ensures disk { S.disk store.new ≡ S.disk store.old }
     ensures taken { TakesAtMost (S.taken store.old) (S.taken store.new) (min 65536 (length (file_of (S.disk store.old)) - number * 65536)) }
@@ -130,17 +129,17 @@ fn settle_page<S: Store>(
     number: u64,
     buffer: &mut [u8],
 ) -> Result<(), Failed>
-    requires there { IsSome (get nat_cmp sheets.old.changed number) }
+    requires there { IsSome (page_at sheets.old.changed number) }
     requires unmarked { sheets.old.marked ≡ None }
     requires held { IsSome (S.disk store.old).held }
     requires most { length (file_of (S.disk store.old)) ≤ most }
     requires buffer { length buffer.old ≡ 65536 }
-    requires backed { Backed (get nat_cmp sheets.old.changed) (length (file_of (S.disk store.old))) sheets.old.length }
-    ensures image { image_of (get nat_cmp sheets.new.changed) (file_of (S.disk store.old)) sheets.old.length ≡ image_of (get nat_cmp sheets.old.changed) (file_of (S.disk store.old)) sheets.old.length }
-    ensures backed { Backed (get nat_cmp sheets.new.changed) (length (file_of (S.disk store.old))) sheets.old.length }
-    ensures less { (other : ℕ) → get nat_cmp sheets.old.changed other ≡ None → get nat_cmp sheets.new.changed other ≡ None }
-    ensures others { (other : ℕ) → (other ≡ number → ⊥) → get nat_cmp sheets.new.changed other ≡ get nat_cmp sheets.old.changed other }
-    ensures differs { OnOk result (IsSome (get nat_cmp sheets.new.changed number) → Differs (file_of (S.disk store.old)) (image_of (get nat_cmp sheets.old.changed) (file_of (S.disk store.old)) sheets.old.length) number) }
+    requires backed { Backed (page_at sheets.old.changed) (length (file_of (S.disk store.old))) sheets.old.length }
+    ensures image { image_of (page_at sheets.new.changed) (file_of (S.disk store.old)) sheets.old.length ≡ image_of (page_at sheets.old.changed) (file_of (S.disk store.old)) sheets.old.length }
+    ensures backed { Backed (page_at sheets.new.changed) (length (file_of (S.disk store.old))) sheets.old.length }
+    ensures less { (other : ℕ) → page_at sheets.old.changed other ≡ None → page_at sheets.new.changed other ≡ None }
+    ensures others { (other : ℕ) → (other ≡ number → ⊥) → page_at sheets.new.changed other ≡ page_at sheets.old.changed other }
+    ensures differs { OnOk result (IsSome (page_at sheets.new.changed number) → Differs (file_of (S.disk store.old)) (image_of (page_at sheets.old.changed) (file_of (S.disk store.old)) sheets.old.length) number) }
     ensures buffer { length buffer.new ≡ 65536 }
     ensures length { sheets.new.length ≡ sheets.old.length }
     ensures marked { sheets.new.marked ≡ None }
@@ -168,15 +167,15 @@ fn settle_all<S: Store>(
     requires held { IsSome (S.disk store.old).held }
     requires most { length (file_of (S.disk store.old)) ≤ most }
     requires buffer { length buffer.old ≡ 65536 }
-    requires backed { Backed (get nat_cmp sheets.old.changed) (length (file_of (S.disk store.old))) sheets.old.length }
-    ensures image { image_of (get nat_cmp sheets.new.changed) (file_of (S.disk store.old)) sheets.old.length ≡ image_of (get nat_cmp sheets.old.changed) (file_of (S.disk store.old)) sheets.old.length }
-    ensures backed { Backed (get nat_cmp sheets.new.changed) (length (file_of (S.disk store.old))) sheets.old.length }
-    ensures less { (other : ℕ) → get nat_cmp sheets.old.changed other ≡ None → get nat_cmp sheets.new.changed other ≡ None }
-    ensures differs { OnOk result ((number : ℕ) → IsTrue (is_in (get nat_cmp sheets.new.changed) number) → Differs (file_of (S.disk store.old)) (image_of (get nat_cmp sheets.old.changed) (file_of (S.disk store.old)) sheets.old.length) number) }
+    requires backed { Backed (page_at sheets.old.changed) (length (file_of (S.disk store.old))) sheets.old.length }
+    ensures image { image_of (page_at sheets.new.changed) (file_of (S.disk store.old)) sheets.old.length ≡ image_of (page_at sheets.old.changed) (file_of (S.disk store.old)) sheets.old.length }
+    ensures backed { Backed (page_at sheets.new.changed) (length (file_of (S.disk store.old))) sheets.old.length }
+    ensures less { (other : ℕ) → page_at sheets.old.changed other ≡ None → page_at sheets.new.changed other ≡ None }
+    ensures differs { OnOk result ((number : ℕ) → IsTrue (is_in (page_at sheets.new.changed) number) → Differs (file_of (S.disk store.old)) (image_of (page_at sheets.old.changed) (file_of (S.disk store.old)) sheets.old.length) number) }
     ensures length { sheets.new.length ≡ sheets.old.length }
     ensures marked { sheets.new.marked ≡ None }
     ensures disk { S.disk store.new ≡ S.disk store.old }
-    ensures taken { TakesAtMost (S.taken store.old) (S.taken store.new) (cost_of_writing (λ number. not (is_in (get nat_cmp sheets.old.changed) number)) [] (length (file_of (S.disk store.old))) 0 (pages_in 0 sheets.old.length)) }
+    ensures taken { TakesAtMost (S.taken store.old) (S.taken store.new) (cost_of_writing (λ number. not (is_in (page_at sheets.old.changed) number)) [] (length (file_of (S.disk store.old))) 0 (pages_in 0 sheets.old.length)) }
     ensures cause { HasCause (S.read_faults store.old) (S.read_faults store.new) result }
     ensures write { S.write_faults store.new ≡ S.write_faults store.old }
 {
@@ -198,15 +197,15 @@ pub fn settle_pages<S: Store>(
     requires unmarked { sheets.old.marked ≡ None }
     requires held { IsSome (S.disk store.old).held }
     requires most { length (file_of (S.disk store.old)) ≤ most }
-    requires backed { Backed (get nat_cmp sheets.old.changed) (length (file_of (S.disk store.old))) sheets.old.length }
-    ensures image { image_of (get nat_cmp sheets.new.changed) (file_of (S.disk store.old)) sheets.old.length ≡ image_of (get nat_cmp sheets.old.changed) (file_of (S.disk store.old)) sheets.old.length }
-    ensures backed { Backed (get nat_cmp sheets.new.changed) (length (file_of (S.disk store.old))) sheets.old.length }
-    ensures less { (other : ℕ) → get nat_cmp sheets.old.changed other ≡ None → get nat_cmp sheets.new.changed other ≡ None }
-    ensures differs { OnOk result ((number : ℕ) → IsTrue (is_in (get nat_cmp sheets.new.changed) number) → Differs (file_of (S.disk store.old)) (image_of (get nat_cmp sheets.old.changed) (file_of (S.disk store.old)) sheets.old.length) number) }
+    requires backed { Backed (page_at sheets.old.changed) (length (file_of (S.disk store.old))) sheets.old.length }
+    ensures image { image_of (page_at sheets.new.changed) (file_of (S.disk store.old)) sheets.old.length ≡ image_of (page_at sheets.old.changed) (file_of (S.disk store.old)) sheets.old.length }
+    ensures backed { Backed (page_at sheets.new.changed) (length (file_of (S.disk store.old))) sheets.old.length }
+    ensures less { (other : ℕ) → page_at sheets.old.changed other ≡ None → page_at sheets.new.changed other ≡ None }
+    ensures differs { OnOk result ((number : ℕ) → IsTrue (is_in (page_at sheets.new.changed) number) → Differs (file_of (S.disk store.old)) (image_of (page_at sheets.old.changed) (file_of (S.disk store.old)) sheets.old.length) number) }
     ensures length { sheets.new.length ≡ sheets.old.length }
     ensures marked { sheets.new.marked ≡ None }
     ensures disk { S.disk store.new ≡ S.disk store.old }
-    ensures taken { TakesAtMost (S.taken store.old) (S.taken store.new) (cost_of_writing (λ number. not (is_in (get nat_cmp sheets.old.changed) number)) [] (length (file_of (S.disk store.old))) 0 (pages_in 0 sheets.old.length)) }
+    ensures taken { TakesAtMost (S.taken store.old) (S.taken store.new) (cost_of_writing (λ number. not (is_in (page_at sheets.old.changed) number)) [] (length (file_of (S.disk store.old))) 0 (pages_in 0 sheets.old.length)) }
     ensures cause { HasCauseOf AreaError.Fault (S.read_faults store.old) (S.read_faults store.new) result }
     ensures write { S.write_faults store.new ≡ S.write_faults store.old }
 {

@@ -3,16 +3,17 @@
 ghost use Rattle.std.specs.Prelude.{◌≡◌, ◌+◌, ◌≤◌, ◌<◌, ◌^◌, ℕ, List, [], if◌then◌else◌, length, OnOk, OnErr, Some, None, IsSome, IfSome, IfNone, option_copied};
 ghost use Rattle.std.specs.Option.{is_some};
 ghost use Rattle.std.specs.Ordering.{nat_cmp};
-ghost use Rattle.std.specs.BTreeMap.{btree_map_len, get};
+ghost use Rattle.std.specs.BTreeMap.{get};
 ghost use Rattle.cdf_area.specs.OldBytes.{AllLieBelow, Old};
 ghost use Rattle.cdf_base.specs.Bytes.{put};
 ghost use Rattle.cdf_pages.specs.Pages.{Covers, was};
+ghost use Rattle.cdf_pages.specs.Table.{page_at, pages_held};
 
 use crate::page::Page;
+use crate::table::Table;
 use cdf_area::UndoLog;
 use std::alloc::{AllocError, Global};
 use std::collections::BTreeMap;
-use std::ops::Bound;
 
 /// The changed pages of an image by their numbers, and what they were at the mark.
 ///
@@ -23,27 +24,27 @@ pub struct Sheets {
     pub alloc: Global,
     /// How many bytes the image has.
     pub length: u64,
-    pub changed: BTreeMap<u64, Page>,
+    pub changed: Table,
     /// How many bytes it had at the mark.
     pub marked: Option<u64>,
     /// What was written over in a page since the mark: `None` for one that was not a changed page.
     pub kept: BTreeMap<u64, Option<UndoLog>>,
     ghost unmarked: { marked ≡ None → (number : ℕ) → get nat_cmp kept number ≡ None },
-    ghost stay: { (number : ℕ) → (olds : List Old) → get nat_cmp kept number ≡ Some (Some olds) → IsSome (get nat_cmp changed number) },
+    ghost stay: { (number : ℕ) → (olds : List Old) → get nat_cmp kept number ≡ Some (Some olds) → IsSome (page_at changed number) },
     ghost below: { (number : ℕ) → (olds : List Old) → get nat_cmp kept number ≡ Some (Some olds) → AllLieBelow 65536 olds },
 }
 
 impl Sheets {
     /// No changed page, of an image of so many bytes, without a mark.
     pub fn new(alloc: Global, length: u64) -> Sheets
-        ensures none { (number : ℕ) → get nat_cmp result.changed number ≡ None }
+        ensures none { (number : ℕ) → page_at result.changed number ≡ None }
         ensures length { result.length ≡ length }
         ensures marked { result.marked ≡ None }
     {
         Sheets {
             alloc,
             length,
-            changed: BTreeMap::new(alloc),
+            changed: Table::new(alloc),
             marked: None,
             kept: BTreeMap::new(alloc),
         }
@@ -51,16 +52,16 @@ impl Sheets {
 
     /// Whether a page is a changed one.
     pub fn has(&self, number: u64) -> bool
-        ensures { result ≡ is_some (get nat_cmp self.now.changed number) }
+        ensures { result ≡ is_some (page_at self.now.changed number) }
     {
-        self.changed.contains_key(&number)
+        self.changed.has(number)
     }
 
     /// A changed page.
     pub fn page(&self, number: u64) -> Option<&Page>
-        ensures { option_copied result ≡ get nat_cmp self.now.changed number }
+        ensures { option_copied result ≡ page_at self.now.changed number }
     {
-        self.changed.get(&number)
+        self.changed.page(number)
     }
 
     /// Keeps whether a page is a changed one and what stands in a part of it, where there is a mark.
@@ -72,7 +73,7 @@ impl Sheets {
         ensures kept { OnOk result (IsSome self.old.marked → IsSome (get nat_cmp self.new.kept number)) }
         ensures covers { OnOk result (IsSome self.old.marked → Covers (get nat_cmp self.new.kept number) from upto) }
         ensures others { (other : ℕ) → (other ≡ number → ⊥) → get nat_cmp self.new.kept other ≡ get nat_cmp self.old.kept other }
-        ensures was { (other : ℕ) → was (get nat_cmp self.new.kept other) (get nat_cmp self.old.changed other) ≡ was (get nat_cmp self.old.kept other) (get nat_cmp self.old.changed other) }
+        ensures was { (other : ℕ) → was (get nat_cmp self.new.kept other) (page_at self.old.changed other) ≡ was (get nat_cmp self.old.kept other) (page_at self.old.changed other) }
     {
         self.begin_page(number)?;
         self.keep_part(number, from, upto)
@@ -85,12 +86,12 @@ impl Sheets {
         ensures marked { self.new.marked ≡ self.old.marked }
         ensures kept { OnOk result (IsSome self.old.marked → IsSome (get nat_cmp self.new.kept number)) }
         ensures others { (other : ℕ) → (other ≡ number → ⊥) → get nat_cmp self.new.kept other ≡ get nat_cmp self.old.kept other }
-        ensures was { (other : ℕ) → was (get nat_cmp self.new.kept other) (get nat_cmp self.old.changed other) ≡ was (get nat_cmp self.old.kept other) (get nat_cmp self.old.changed other) }
+        ensures was { (other : ℕ) → was (get nat_cmp self.new.kept other) (page_at self.old.changed other) ≡ was (get nat_cmp self.old.kept other) (page_at self.old.changed other) }
     {
         if self.marked.is_none() || self.kept.contains_key(&number) {
             return Ok(());
         }
-        let old = log_of(self.alloc, self.changed.contains_key(&number));
+        let old = log_of(self.alloc, self.changed.has(number));
         self.kept.insert(number, old)?;
         Ok(())
     }
@@ -104,12 +105,12 @@ impl Sheets {
         ensures covers { OnOk result (IsSome (get nat_cmp self.old.kept number) → Covers (get nat_cmp self.new.kept number) from upto) }
         ensures kept { IsSome (get nat_cmp self.old.kept number) → IsSome (get nat_cmp self.new.kept number) }
         ensures others { (other : ℕ) → (other ≡ number → ⊥) → get nat_cmp self.new.kept other ≡ get nat_cmp self.old.kept other }
-        ensures was { (other : ℕ) → was (get nat_cmp self.new.kept other) (get nat_cmp self.old.changed other) ≡ was (get nat_cmp self.old.kept other) (get nat_cmp self.old.changed other) }
+        ensures was { (other : ℕ) → was (get nat_cmp self.new.kept other) (page_at self.old.changed other) ≡ was (get nat_cmp self.old.kept other) (page_at self.old.changed other) }
     {
         if from >= upto {
             return Ok(());
         }
-        let Some(page) = self.changed.get(&number) else {
+        let Some(page) = self.changed.page(number) else {
             return Ok(());
         };
         match self.kept.get_mut(&number) {
@@ -120,78 +121,70 @@ impl Sheets {
 
     /// Adds a page that was not a changed one, once it is kept.
     pub fn add(&mut self, number: u64, page: Page) -> Result<(), AllocError>
-        requires absent { get nat_cmp self.old.changed number ≡ None }
+        requires absent { page_at self.old.changed number ≡ None }
         requires kept { IsSome self.old.marked → IsSome (get nat_cmp self.old.kept number) }
-        ensures added { OnOk result (get nat_cmp self.new.changed number ≡ Some page) }
-        ensures others { OnOk result ((other : ℕ) → (other ≡ number → ⊥) → get nat_cmp self.new.changed other ≡ get nat_cmp self.old.changed other) }
-        ensures stays { OnErr result ((other : ℕ) → get nat_cmp self.new.changed other ≡ get nat_cmp self.old.changed other) }
+        ensures added { OnOk result (page_at self.new.changed number ≡ Some page) }
+        ensures others { OnOk result ((other : ℕ) → (other ≡ number → ⊥) → page_at self.new.changed other ≡ page_at self.old.changed other) }
+        ensures stays { OnErr result ((other : ℕ) → page_at self.new.changed other ≡ page_at self.old.changed other) }
         ensures kept { self.new.kept ≡ self.old.kept }
         ensures length { self.new.length ≡ self.old.length }
         ensures marked { self.new.marked ≡ self.old.marked }
     {
-        self.changed.insert(number, page)?;
-        Ok(())
+        self.changed.insert(number, page)
     }
 
     /// Writes bytes within a changed page, once it is kept.
     pub fn write(&mut self, number: u64, place: usize, bytes: &[u8])
-        requires there { IsSome (get nat_cmp self.old.changed number) }
+        requires there { IsSome (page_at self.old.changed number) }
         requires room { place + length bytes.now ≤ 65536 }
-        ensures whole { (page : List ℕ) → get nat_cmp self.old.changed number ≡ Some page → length page ≡ 65536 }
-        ensures written { (page : List ℕ) → get nat_cmp self.old.changed number ≡ Some page → get nat_cmp self.new.changed number ≡ Some (put page place bytes.now) }
-        ensures others { (other : ℕ) → (other ≡ number → ⊥) → get nat_cmp self.new.changed other ≡ get nat_cmp self.old.changed other }
+        ensures whole { (page : List ℕ) → page_at self.old.changed number ≡ Some page → length page ≡ 65536 }
+        ensures written { (page : List ℕ) → page_at self.old.changed number ≡ Some page → page_at self.new.changed number ≡ Some (put page place bytes.now) }
+        ensures others { (other : ℕ) → (other ≡ number → ⊥) → page_at self.new.changed other ≡ page_at self.old.changed other }
         ensures kept { self.new.kept ≡ self.old.kept }
         ensures length { self.new.length ≡ self.old.length }
         ensures marked { self.new.marked ≡ self.old.marked }
     {
-        if let Some(page) = self.changed.get_mut(&number) {
-            page.write(place, bytes);
-        }
+        self.changed.write(number, place, bytes);
     }
 
     /// The first changed page.
     pub fn first(&self) -> Option<u64>
-        ensures there { IfSome result (λ number. IsSome (get nat_cmp self.now.changed number)) }
-        ensures least { IfSome result (λ number. (other : ℕ) → other < number → get nat_cmp self.now.changed other ≡ None) }
-        ensures none { IfNone result ((number : ℕ) → get nat_cmp self.now.changed number ≡ None) }
+        ensures there { IfSome result (λ number. IsSome (page_at self.now.changed number)) }
+        ensures least { IfSome result (λ number. (other : ℕ) → other < number → page_at self.now.changed other ≡ None) }
+        ensures none { IfNone result ((number : ℕ) → page_at self.now.changed number ≡ None) }
     {
-        let (number, _) = self.changed.first_key_value()?;
-        Some(*number)
+        self.changed.first_from(0)
     }
 
     /// The next changed page behind a number.
     pub fn next(&self, last: u64) -> Option<u64>
-        ensures there { IfSome result (λ number. IsSome (get nat_cmp self.now.changed number)) }
+        ensures there { IfSome result (λ number. IsSome (page_at self.now.changed number)) }
         ensures behind { IfSome result (λ number. last < number) }
-        ensures least { IfSome result (λ number. (other : ℕ) → last < other → other < number → get nat_cmp self.now.changed other ≡ None) }
-        ensures none { IfNone result ((number : ℕ) → last < number → get nat_cmp self.now.changed number ≡ None) }
+        ensures least { IfSome result (λ number. (other : ℕ) → last < other → other < number → page_at self.now.changed other ≡ None) }
+        ensures none { IfNone result ((number : ℕ) → last < number → page_at self.now.changed number ≡ None) }
     {
-        let (number, _) = self
-            .changed
-            .range((Bound::Excluded(last), Bound::Unbounded))
-            .next()?;
-        Some(*number)
+        self.changed.next(last)
     }
 
     /// How many changed pages there are.
     pub fn count(&self) -> u64
-        ensures count { result ≡ btree_map_len self.now.changed }
+        ensures count { result ≡ pages_held self.now.changed }
         ensures small { result < 2 ^ 63 }
     {
-        self.changed.len() as u64
+        self.changed.count()
     }
 
     /// A page is a changed one no more, while there is no mark.
     pub fn forget(&mut self, number: u64)
         requires { self.old.marked ≡ None }
-        ensures fewer { IsSome (get nat_cmp self.old.changed number) → btree_map_len self.new.changed + 1 ≡ btree_map_len self.old.changed }
-        ensures gone { get nat_cmp self.new.changed number ≡ None }
-        ensures others { (other : ℕ) → (other ≡ number → ⊥) → get nat_cmp self.new.changed other ≡ get nat_cmp self.old.changed other }
+        ensures fewer { IsSome (page_at self.old.changed number) → pages_held self.new.changed + 1 ≡ pages_held self.old.changed }
+        ensures gone { page_at self.new.changed number ≡ None }
+        ensures others { (other : ℕ) → (other ≡ number → ⊥) → page_at self.new.changed other ≡ page_at self.old.changed other }
         ensures kept { self.new.kept ≡ self.old.kept }
         ensures length { self.new.length ≡ self.old.length }
         ensures marked { self.new.marked ≡ self.old.marked }
     {
-        let _ = self.changed.remove(&number);
+        self.changed.remove(number);
     }
 
     /// Marks the pages as they are.
@@ -219,7 +212,7 @@ impl Sheets {
     /// Makes each page what it was at the mark, and forgets the mark. It takes no memory.
     pub fn undo(&mut self)
         requires { IsSome self.old.marked }
-        ensures was { (number : ℕ) → get nat_cmp self.new.changed number ≡ was (get nat_cmp self.old.kept number) (get nat_cmp self.old.changed number) }
+        ensures was { (number : ℕ) → page_at self.new.changed number ≡ was (get nat_cmp self.old.kept number) (page_at self.old.changed number) }
         ensures none { (number : ℕ) → get nat_cmp self.new.kept number ≡ None }
         ensures length { Some self.new.length ≡ self.old.marked }
         ensures marked { self.new.marked ≡ None }
@@ -263,27 +256,21 @@ fn push_part(
 }
 
 /// Makes a page what it was.
-fn restore(changed: &mut BTreeMap<u64, Page>, number: u64, old: Option<UndoLog>)
+fn restore(changed: &mut Table, number: u64, old: Option<UndoLog>)
     requires { (olds : List Old) → old ≡ Some olds → AllLieBelow 65536 olds }
-    ensures was { get nat_cmp changed.new number ≡ was (Some old) (get nat_cmp changed.old number) }
-    ensures others { (other : ℕ) → (other ≡ number → ⊥) → get nat_cmp changed.new other ≡ get nat_cmp changed.old other }
+    ensures was { page_at changed.new number ≡ was (Some old) (page_at changed.old number) }
+    ensures others { (other : ℕ) → (other ≡ number → ⊥) → page_at changed.new other ≡ page_at changed.old other }
 {
     match old {
-        Some(log) => {
-            if let Some(page) = changed.get_mut(&number) {
-                page.put_back(log);
-            }
-        }
-        None => {
-            let _ = changed.remove(&number);
-        }
+        Some(log) => changed.put_back(number, log),
+        None => changed.remove(number),
     }
 }
 
 /// Makes each page what it was.
-fn restore_all(changed: &mut BTreeMap<u64, Page>, kept: &mut BTreeMap<u64, Option<UndoLog>>)
+fn restore_all(changed: &mut Table, kept: &mut BTreeMap<u64, Option<UndoLog>>)
     requires { (number : ℕ) → (olds : List Old) → get nat_cmp kept.old number ≡ Some (Some olds) → AllLieBelow 65536 olds }
-    ensures was { (number : ℕ) → get nat_cmp changed.new number ≡ was (get nat_cmp kept.old number) (get nat_cmp changed.old number) }
+    ensures was { (number : ℕ) → page_at changed.new number ≡ was (get nat_cmp kept.old number) (page_at changed.old number) }
     ensures none { (number : ℕ) → get nat_cmp kept.new number ≡ None }
 {
     while let Some((number, old)) = kept.pop_first() {

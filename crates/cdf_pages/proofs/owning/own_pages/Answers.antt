@@ -1,5 +1,5 @@
 use Rattle.std.proofs.Common.{◌≡◌, ◌∙◌, ◌+◌, ◌-◌, ◌≤◌, ◌*◌, ℕ, List, Option, length, min, refl, sym, ap, subst, arith, nat_eq, inl, inr}
-use Rattle.cdf_pages.proofs.Common.{nat_cmp, get, keys_of, lookup, is_some, if◌then◌else◌, file_of, Owned, is_in, cost_of_writing, page_cost, list_any, cases_lt}
+use Rattle.cdf_pages.proofs.Common.{page_at, nat_cmp, get, keys_of, lookup, is_some, if◌then◌else◌, file_of, Owned, is_in, cost_of_writing, page_cost, list_any, cases_lt}
 use Rattle.cdf_pages.specs.Grown.{removed}
 use Rattle.cdf_pages.proofs.Costs.{takes_same, takes_then, write_cost_grows, write_cost_next}
 use Rattle.cdf_pages.proofs.Covered.{covers_less}
@@ -49,8 +49,8 @@ cost_step {X = X} p p' es es' long long' from number low same gone size =
 pub returns-in_err-own_page-clause-taken : goal.returns-in_err-own_page-clause-taken
 returns-in_err-own_page-clause-taken g c =
     let inv = c.loop-number.invariant in
-    let P = get nat_cmp c.args.sheets.now.changed in
-    let step = cost_step P (get nat_cmp c.loop-number.sheets.changed) c.args.clean.now.entries c.loop-number.clean.entries _ _ c.args.from c.loop-number.number inv.low (inv.others c.loop-number.number (inr (omega arith))) inv.gone (ap (λ d. length (file_of d)) inv.disk) in
+    let P = page_at c.args.sheets.now.changed in
+    let step = cost_step P (page_at c.loop-number.sheets.changed) c.args.clean.now.entries c.loop-number.clean.entries _ _ c.args.from c.loop-number.number inv.low (inv.others c.loop-number.number (inr (omega arith))) inv.gone (ap (λ d. length (file_of d)) inv.disk) in
     let all = write_cost_grows (is_in P) (keys_of c.args.clean.now.entries) (length (file_of (g.S.Store.disk c.args.store.now))) c.args.from (c.loop-number.number + 1 - c.args.from) (c.args.upto - c.args.from) (omega (arith, c.loop-number-test.true)) in
     takes_less _ _ _ _ (takes_then _ _ _ _ _ inv.taken c.own_page.ensures.taken) (omega (arith, step, all))
 
@@ -61,19 +61,19 @@ returns-clause-taken g c =
       | inl some ↦ (let high = inv.high some in omega (arith, high))
       | inr none ↦ omega (arith, none)
     ] in
-    let all = write_cost_grows (is_in (get nat_cmp c.args.sheets.now.changed)) (keys_of c.args.clean.now.entries) (length (file_of (g.S.Store.disk c.args.store.now))) c.args.from (c.loop-number.number - c.args.from) (c.args.upto - c.args.from) at_most in
+    let all = write_cost_grows (is_in (page_at c.args.sheets.now.changed)) (keys_of c.args.clean.now.entries) (length (file_of (g.S.Store.disk c.args.store.now))) c.args.from (c.loop-number.number - c.args.from) (c.args.upto - c.args.from) at_most in
     takes_less _ _ _ _ inv.taken all
 
 pub loop-number-preserved : goal.loop-number-preserved
 loop-number-preserved g c =
     let inv = c.loop-number.invariant in
-    let step = cost_step (get nat_cmp c.args.sheets.now.changed) (get nat_cmp c.loop-number.sheets.changed) c.args.clean.now.entries c.loop-number.clean.entries _ _ c.args.from c.loop-number.number inv.low (inv.others c.loop-number.number (inr (omega arith))) inv.gone (ap (λ d. length (file_of d)) inv.disk) in
+    let step = cost_step (page_at c.args.sheets.now.changed) (page_at c.loop-number.sheets.changed) c.args.clean.now.entries c.loop-number.clean.entries _ _ c.args.from c.loop-number.number inv.low (inv.others c.loop-number.number (inr (omega arith))) inv.gone (ap (λ d. length (file_of d)) inv.disk) in
     record {
       taken = takes_less _ _ _ _ (takes_then _ _ _ _ _ inv.taken c.in_ok-own_page.ensures.taken) (omega (arith, step));
       low = omega (arith, inv.low);
       high = λ lt. omega (arith, c.loop-number-test.true);
       grown = grown_next _ _ _ _ _ _ _ _ _ _ _ _ (ap (λ d. file_of d) inv.disk) inv.length inv.marked inv.grown c.own_page.ensures.grown;
-      owned = subst (λ m. Owned m (get nat_cmp c.own_page.new.sheets.changed) (get nat_cmp c.own_page.new.sheets.kept) c.args.place c.args.end c.args.from (c.loop-number.number + 1)) (sym c.own_page.ensures.marked)
+      owned = subst (λ m. Owned m (page_at c.own_page.new.sheets.changed) (get nat_cmp c.own_page.new.sheets.kept) c.args.place c.args.end c.args.from (c.loop-number.number + 1)) (sym c.own_page.ensures.marked)
           (owned_more c.loop-number.sheets.marked _ _ _ _ c.args.place c.args.end c.args.from c.loop-number.number inv.owned c.own_page.ensures.grown.less c.own_page.ensures.kept (some_not_none _ c.in_ok-own_page.ensures.there) (λ s. covers_less _ _ _ _ _ (omega arith) (omega arith) (c.in_ok-own_page.ensures.ready s)));
       others = others_next _ _ _ c.args.from c.loop-number.number inv.low inv.others c.own_page.ensures.others;
       gone = removed_next c.args.from c.loop-number.number _ _ _ inv.low inv.gone c.in_ok-own_page.ensures.gone;

@@ -1,19 +1,19 @@
 use Rattle.std.proofs.Common.{◌≡◌, ◌-◌, ◌≤◌, ◌<◌, ◌⊎◌, ℕ, List, length, Some, None, nat_eq}
-use Rattle.cdf_pages.proofs.Common.{nat_cmp, get, keys_of, lookup, file_of, Grown, Owned, removed, TakesAtMost, is_in, cost_of_writing}
+use Rattle.cdf_pages.proofs.Common.{page_at, nat_cmp, get, keys_of, lookup, file_of, Grown, Owned, removed, TakesAtMost, is_in, cost_of_writing}
 use Rattle.cdf_pages.proofs.owning.own_pages.Given as goal
 
 abbrev pub invariant-loop-number : goal.invariant-loop-number
 invariant-loop-number g l = record {
   low : l.fn.from ≤ l.number;
   high : l.fn.from < l.number → l.number ≤ l.fn.upto;
-  grown : Grown (file_of (g.S.Store.disk l.fn.store)) l.fn.sheets.length l.fn.sheets.marked (get nat_cmp l.fn.sheets.changed) (get nat_cmp l.fn.sheets.kept) (get nat_cmp l.sheets.changed) (get nat_cmp l.sheets.kept);
-  owned : Owned l.sheets.marked (get nat_cmp l.sheets.changed) (get nat_cmp l.sheets.kept) l.fn.place l.fn.end l.fn.from l.number;
-  others : (q : ℕ) → (q < l.fn.from) ⊎ (l.number ≤ q) → get nat_cmp l.sheets.changed q ≡ get nat_cmp l.fn.sheets.changed q;
+  grown : Grown (file_of (g.S.Store.disk l.fn.store)) l.fn.sheets.length l.fn.sheets.marked (page_at l.fn.sheets.changed) (get nat_cmp l.fn.sheets.kept) (page_at l.sheets.changed) (get nat_cmp l.sheets.kept);
+  owned : Owned l.sheets.marked (page_at l.sheets.changed) (get nat_cmp l.sheets.kept) l.fn.place l.fn.end l.fn.from l.number;
+  others : (q : ℕ) → (q < l.fn.from) ⊎ (l.number ≤ q) → page_at l.sheets.changed q ≡ page_at l.fn.sheets.changed q;
   gone : l.clean.entries ≡ removed l.fn.from (l.number - l.fn.from) l.fn.clean.entries;
   out : (q : ℕ) → l.fn.from ≤ q → q < l.number → lookup (nat_eq q) l.clean.entries ≡ None;
   fewer : (q : ℕ) → (p : List ℕ) → lookup (nat_eq q) l.clean.entries ≡ Some p → lookup (nat_eq q) l.fn.clean.entries ≡ Some p;
-  apart : (q : ℕ) → (p : List ℕ) → lookup (nat_eq q) l.clean.entries ≡ Some p → get nat_cmp l.sheets.changed q ≡ get nat_cmp l.fn.sheets.changed q;
-  taken : TakesAtMost (g.S.Store.taken l.fn.store) (g.S.Store.taken l.store) (cost_of_writing (is_in (get nat_cmp l.fn.sheets.changed)) (keys_of l.fn.clean.entries) (length (file_of (g.S.Store.disk l.fn.store))) l.fn.from (l.number - l.fn.from));
+  apart : (q : ℕ) → (p : List ℕ) → lookup (nat_eq q) l.clean.entries ≡ Some p → page_at l.sheets.changed q ≡ page_at l.fn.sheets.changed q;
+  taken : TakesAtMost (g.S.Store.taken l.fn.store) (g.S.Store.taken l.store) (cost_of_writing (is_in (page_at l.fn.sheets.changed)) (keys_of l.fn.clean.entries) (length (file_of (g.S.Store.disk l.fn.store))) l.fn.from (l.number - l.fn.from));
   cap : l.clean.cap ≡ l.fn.clean.cap;
   length : l.sheets.length ≡ l.fn.sheets.length;
   marked : l.sheets.marked ≡ l.fn.sheets.marked;

@@ -1,5 +1,5 @@
 use Rattle.std.proofs.Common.{rules, ◌≡◌, ◌∙◌, ◌+◌, ◌-◌, ◌*◌, ◌/◌, ◌%◌, ◌<◌, sym, ap, arith, take, drop, length, min, slice_index, ℕ, suc, Bool, List, refl, nat_eq, subst}
-use Rattle.cdf_pages.proofs.Common.{nat_cmp, get, file_of, keys_of, IsValid, LruCache, image_of, is_in, page_cost, pages_in, used}
+use Rattle.cdf_pages.proofs.Common.{page_at, file_of, keys_of, IsValid, LruCache, image_of, is_in, page_cost, pages_in, used}
 use Rattle.std.proofs.lemmas.List.{take-take, drop-drop}
 use borrow.Rule.Slice.PartMut.{put_mid}
 use Rattle.cdf_pages.specs.Standing.{ReadsSome, cost_of_reading, used_from}
@@ -17,7 +17,7 @@ loop-done-init g c =
       len = refl;
       shows = c.requires.shows;
       aligned = λ some. absurd (omega (arith, some));
-      used = ap (λ m. used_from (is_in (get nat_cmp c.args.sheets.now.changed)) (c.args.place / 65536) m (keys_of c.args.clean.now.entries)) (sym none);
+      used = ap (λ m. used_from (is_in (page_at c.args.sheets.now.changed)) (c.args.place / 65536) m (keys_of c.args.clean.now.entries)) (sym none);
       taken = takes_same _ _ _ refl;
       valid = c.requires.valid;
       cap = refl;
@@ -41,7 +41,7 @@ returns-in_err-read_within-clause-some g c =
     let least : n ≡ min (length c.loop-done.out - done) (65536 - (c.args.place + done) % 65536) = c.min-count.ensures in
     let next = page_next c.args.place done n (length c.loop-done.out) more inv.aligned least in
     let grows = pages_grow c.args.place (done + n) (length c.args.out.now) (omega (arith, least, more, inv.len)) in
-    let some : ReadsSome (is_in (get nat_cmp c.args.sheets.now.changed)) (keys_of c.args.clean.now.entries) (keys_of c.read_within.new.clean.entries) c.args.place (length c.args.out.now) =
+    let some : ReadsSome (is_in (page_at c.args.sheets.now.changed)) (keys_of c.args.clean.now.entries) (keys_of c.read_within.new.clean.entries) c.args.place (length c.args.out.now) =
     record { count = pages_in c.args.place done; before = omega (arith, next, grows); used = ap (λ ca. keys_of ca.entries) c.in_err-read_within.ensures.stays ∙ inv.used } in
     on_err _ some
 
@@ -53,7 +53,7 @@ returns-in_err-read_within-clause-taken g c =
     let inv = c.loop-done.invariant in
     let done = c.loop-done.done in
     let n = c.min-count.result in
-    let ch = is_in (get nat_cmp c.args.sheets.now.changed) in
+    let ch = is_in (page_at c.args.sheets.now.changed) in
     let keys = keys_of c.args.clean.now.entries in
     let from = c.args.place / 65536 in
     let more : done < length c.loop-done.out = c.loop-done-test.true in
@@ -70,19 +70,19 @@ pub returns-clause-used : goal.returns-clause-used
 returns-clause-used g c =
     let inv = c.loop-done.invariant in
     let whole : c.loop-done.done ≡ length c.args.out.now = omega (arith, inv.within, inv.len, c.loop-done-test.false) in
-    inv.used ∙ ap (λ m. used_from (is_in (get nat_cmp c.args.sheets.now.changed)) (c.args.place / 65536) (pages_in c.args.place m) (keys_of c.args.clean.now.entries)) whole
+    inv.used ∙ ap (λ m. used_from (is_in (page_at c.args.sheets.now.changed)) (c.args.place / 65536) (pages_in c.args.place m) (keys_of c.args.clean.now.entries)) whole
 
 pub returns-clause-taken : goal.returns-clause-taken
 returns-clause-taken g c =
     let inv = c.loop-done.invariant in
     let whole : c.loop-done.done ≡ length c.args.out.now = omega (arith, inv.within, inv.len, c.loop-done-test.false) in
-    let all = ap (λ m. cost_of_reading (is_in (get nat_cmp c.args.sheets.now.changed)) (keys_of c.args.clean.now.entries) (length (file_of (g.S.Store.disk c.args.store.now))) (c.args.place / 65536) (pages_in c.args.place m)) whole in
+    let all = ap (λ m. cost_of_reading (is_in (page_at c.args.sheets.now.changed)) (keys_of c.args.clean.now.entries) (length (file_of (g.S.Store.disk c.args.store.now))) (c.args.place / 65536) (pages_in c.args.place m)) whole in
     takes_less _ _ _ _ inv.taken (omega (arith, all))
 
 pub loop-done-preserved : goal.loop-done-preserved
 loop-done-preserved g c =
     let inv = c.loop-done.invariant in
-    let P = get nat_cmp c.args.sheets.now.changed in
+    let P = page_at c.args.sheets.now.changed in
     let L = c.args.sheets.now.length in
     let F = file_of (g.S.Store.disk c.args.store.now) in
     let done = c.loop-done.done in

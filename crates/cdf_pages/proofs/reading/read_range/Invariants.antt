@@ -1,17 +1,17 @@
 use Rattle.std.proofs.Common.{◌-◌, ◌≡◌, ◌+◌, ◌/◌, ◌%◌, ◌<◌, ◌≤◌, length, take, drop, nat_eq}
-use Rattle.cdf_pages.proofs.Common.{keys_of, IsValid, nat_cmp, get, file_of, AllShow, TakesAtMost, image_of, is_in, pages_in}
+use Rattle.cdf_pages.proofs.Common.{page_at, keys_of, IsValid, file_of, AllShow, TakesAtMost, image_of, is_in, pages_in}
 use Rattle.cdf_pages.specs.Standing.{cost_of_reading, used_from}
 use Rattle.cdf_pages.proofs.reading.read_range.Given as goal
 
 abbrev pub invariant-loop-done : goal.invariant-loop-done
 invariant-loop-done g l = record {
   within : l.done ≤ length l.out;
-  bytes : take l.done l.out ≡ take l.done (drop l.fn.place (image_of (get nat_cmp l.sheets.changed) (file_of (g.S.Store.disk l.fn.store)) l.sheets.length));
+  bytes : take l.done l.out ≡ take l.done (drop l.fn.place (image_of (page_at l.sheets.changed) (file_of (g.S.Store.disk l.fn.store)) l.sheets.length));
   len : length l.out ≡ length l.fn.out;
-  shows : AllShow (get nat_cmp l.sheets.changed) (file_of (g.S.Store.disk l.fn.store)) l.sheets.length l.clean.entries;
+  shows : AllShow (page_at l.sheets.changed) (file_of (g.S.Store.disk l.fn.store)) l.sheets.length l.clean.entries;
   aligned : 0 < l.done → l.done < length l.out → (l.fn.place + l.done) % 65536 ≡ 0;
-  used : keys_of l.clean.entries ≡ used_from (is_in (get nat_cmp l.sheets.changed)) (l.fn.place / 65536) (pages_in l.fn.place l.done) (keys_of l.fn.clean.entries);
-  taken : TakesAtMost (g.S.Store.taken l.fn.store) (g.S.Store.taken l.store) (cost_of_reading (is_in (get nat_cmp l.sheets.changed)) (keys_of l.fn.clean.entries) (length (file_of (g.S.Store.disk l.fn.store))) (l.fn.place / 65536) (pages_in l.fn.place l.done));
+  used : keys_of l.clean.entries ≡ used_from (is_in (page_at l.sheets.changed)) (l.fn.place / 65536) (pages_in l.fn.place l.done) (keys_of l.fn.clean.entries);
+  taken : TakesAtMost (g.S.Store.taken l.fn.store) (g.S.Store.taken l.store) (cost_of_reading (is_in (page_at l.sheets.changed)) (keys_of l.fn.clean.entries) (length (file_of (g.S.Store.disk l.fn.store))) (l.fn.place / 65536) (pages_in l.fn.place l.done));
   valid : IsValid nat_eq l.clean;
   cap : l.clean.cap ≡ l.fn.clean.cap;
   disk : g.S.Store.disk l.store ≡ g.S.Store.disk l.fn.store;

@@ -1,5 +1,5 @@
 use Rattle.std.proofs.Common.{rules, ◌*◌, ◌≤◌, ◌<◌, ◌∙◌, refl, sym, length, inl, inr}
-use Rattle.cdf_pages.proofs.Common.{cases_lt, nat_cmp, get, file_of, LiesIn}
+use Rattle.cdf_pages.proofs.Common.{page_at, cases_lt, file_of, LiesIn}
 use Rattle.cdf_pages.proofs.Filling.{true_not_false}
 use Rattle.cdf_pages.proofs.SavedPage.{forgotten_backed, forgotten_same, less_saved, place_in_file}
 use Rattle.cdf_pages.proofs.Touched.{touches_none}
@@ -8,7 +8,7 @@ use Rattle.cdf_pages.proofs.saving.save_first.Goals as goal
 pub save_page-requires-clause-place : goal.save_page-requires-clause-place
 save_page-requires-clause-place g c =
     let inside : c.args.number * 65536 < c.args.sheets.now.length = search rules in
-    place_in_file (get nat_cmp c.args.sheets.now.changed) (length (file_of (g.S.Store.disk c.args.store.now))) c.args.sheets.now.length c.args.number c.requires.backed c.requires.least inside
+    place_in_file (page_at c.args.sheets.now.changed) (length (file_of (g.S.Store.disk c.args.store.now))) c.args.sheets.now.length c.args.number c.requires.backed c.requires.least inside
 
 pub returns-clause-image : goal.returns-clause-image
 returns-clause-image g c =
@@ -16,7 +16,7 @@ returns-clause-image g c =
       | inl within ↦ absurd (true_not_false (sym (c.is_within.ensures.1 within) ∙ c.if-is_within.false))
       | inr after ↦ after
     ] in
-    forgotten_same (get nat_cmp c.args.sheets.now.changed) (get nat_cmp c.forget.new.self.changed) (file_of (g.S.Store.disk c.args.store.now)) c.args.sheets.now.length c.args.number past c.forget.ensures.others
+    forgotten_same (page_at c.args.sheets.now.changed) (page_at c.forget.new.self.changed) (file_of (g.S.Store.disk c.args.store.now)) c.args.sheets.now.length c.args.number past c.forget.ensures.others
 
 pub returns-clause-backed : goal.returns-clause-backed
 returns-clause-backed g c =
@@ -24,10 +24,10 @@ returns-clause-backed g c =
       | inl within ↦ absurd (true_not_false (sym (c.is_within.ensures.1 within) ∙ c.if-is_within.false))
       | inr after ↦ after
     ] in
-    forgotten_backed (get nat_cmp c.args.sheets.now.changed) (get nat_cmp c.forget.new.self.changed) (length (file_of (g.S.Store.disk c.args.store.now))) c.args.sheets.now.length c.args.number past c.forget.ensures.others c.requires.backed
+    forgotten_backed (page_at c.args.sheets.now.changed) (page_at c.forget.new.self.changed) (length (file_of (g.S.Store.disk c.args.store.now))) c.args.sheets.now.length c.args.number past c.forget.ensures.others c.requires.backed
 
 pub returns-clause-less : goal.returns-clause-less
-returns-clause-less g c = less_saved (get nat_cmp c.args.sheets.now.changed) (get nat_cmp c.forget.new.self.changed) c.args.number c.forget.ensures.gone c.forget.ensures.others
+returns-clause-less g c = less_saved (page_at c.args.sheets.now.changed) (page_at c.forget.new.self.changed) c.args.number c.forget.ensures.gone c.forget.ensures.others
 
 pub returns-clause-touched : goal.returns-clause-touched
 returns-clause-touched g c = touches_none (LiesIn c.args.number) _ _ refl

@@ -1,5 +1,5 @@
 use Rattle.std.proofs.Common.{◌++◌, ℕ, List, ap, arith, length, length-append}
-use Rattle.cdf_pages.proofs.Common.{nat_cmp, get, file_of, image_of}
+use Rattle.cdf_pages.proofs.Common.{page_at, file_of, image_of}
 use Rattle.cdf_pages.proofs.Between.{between_bound}
 use Rattle.cdf_pages.proofs.Disks.{file_held}
 use Rattle.cdf_pages.proofs.Images.{image_size}
@@ -7,7 +7,7 @@ use Rattle.cdf_pages.proofs.saving.save_image.Goals as goal
 
 pub returns-in-Ok-clause-bound : goal.returns-in-Ok-clause-bound
 returns-in-Ok-clause-bound g c =
-    let P = get nat_cmp c.args.sheets.now.changed in
+    let P = page_at c.args.sheets.now.changed in
     let d = g.S.Store.disk c.reserve.new.self in
     let n = c.args.sheets.now.length in
     let is = file_held d (g.S.Store.disk c.write_image.new.store) (image_of P (file_of d) n ++ c.args.tail.now) c.in-Ok.ensures.saved in
@@ -16,7 +16,7 @@ returns-in-Ok-clause-bound g c =
 
 pub returns-in-Err-clause-bound : goal.returns-in-Err-clause-bound
 returns-in-Err-clause-bound g c =
-    let P = get nat_cmp c.args.sheets.now.changed in
+    let P = page_at c.args.sheets.now.changed in
     let d = g.S.Store.disk c.reserve.new.self in
     let n = c.args.sheets.now.length in
     let bound = between_bound d (g.S.Store.disk c.write_image.new.store) (image_of P (file_of d) n ++ c.args.tail.now) c.in-Err.ensures.failed in

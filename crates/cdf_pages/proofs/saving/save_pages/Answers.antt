@@ -1,5 +1,5 @@
 use Rattle.std.proofs.Common.{◌≡◌, ◌∙◌, ◌++◌, ℕ, List, Option, None, IsSome, refl, sym, ap, subst, arith}
-use Rattle.cdf_pages.proofs.Common.{IsTrue, nat_cmp, get, Disk, file_of, image_of, is_in, HoldsBetween, LiesIn, Touches}
+use Rattle.cdf_pages.proofs.Common.{page_at, IsTrue, Disk, file_of, image_of, is_in, HoldsBetween, LiesIn, Touches}
 use Rattle.cdf_pages.proofs.SavedPage.{changed_at_first}
 use Rattle.cdf_pages.proofs.Touched.{touches_none, touches_then, touches_weaker}
 use Rattle.cdf_pages.proofs.saving.save_pages.Goals as goal
@@ -38,8 +38,8 @@ touched_next p p' a b c k less some before now =
 pub returns-in_err-save_first-clause-image : goal.returns-in_err-save_first-clause-image
 returns-in_err-save_first-clause-image g c =
     let inv = c.loop-number.invariant in
-    ap (λ n. image_of (get nat_cmp c.save_first.new.sheets.changed) (file_of (g.S.Store.disk c.save_first.new.store)) n) (sym inv.length) ∙ c.save_first.ensures.image
-    ∙ ap (λ n. image_of (get nat_cmp c.loop-number.sheets.changed) (file_of (g.S.Store.disk c.loop-number.store)) n) inv.length ∙ inv.image
+    ap (λ n. image_of (page_at c.save_first.new.sheets.changed) (file_of (g.S.Store.disk c.save_first.new.store)) n) (sym inv.length) ∙ c.save_first.ensures.image
+    ∙ ap (λ n. image_of (page_at c.loop-number.sheets.changed) (file_of (g.S.Store.disk c.loop-number.store)) n) inv.length ∙ inv.image
 
 pub returns-in_err-save_first-clause-backed : goal.returns-in_err-save_first-clause-backed
 returns-in_err-save_first-clause-backed g c i lt e = c.save_first.ensures.backed i (omega (arith, lt, c.loop-number.invariant.length)) e
@@ -50,27 +50,27 @@ returns-in_err-save_first-clause-less g c q e = c.save_first.ensures.less q (c.l
 pub returns-in_err-save_first-clause-between : goal.returns-in_err-save_first-clause-between
 returns-in_err-save_first-clause-between g c =
     let inv = c.loop-number.invariant in
-    between_next (get nat_cmp c.args.sheets.now.changed) (get nat_cmp c.loop-number.sheets.changed) (g.S.Store.disk c.args.store.now) (g.S.Store.disk c.loop-number.store) (g.S.Store.disk c.save_first.new.store) c.args.sheets.now.length c.loop-number.sheets.length 0
+    between_next (page_at c.args.sheets.now.changed) (page_at c.loop-number.sheets.changed) (g.S.Store.disk c.args.store.now) (g.S.Store.disk c.loop-number.store) (g.S.Store.disk c.save_first.new.store) c.args.sheets.now.length c.loop-number.sheets.length 0
     inv.image inv.length inv.between c.save_first.ensures.between
 
 pub returns-in_err-save_first-clause-touched : goal.returns-in_err-save_first-clause-touched
 returns-in_err-save_first-clause-touched g c =
     let inv = c.loop-number.invariant in
-    touched_next (get nat_cmp c.args.sheets.now.changed) (get nat_cmp c.loop-number.sheets.changed) _ _ _ c.in-Some.number inv.less c.in-Some.ensures.there inv.touched c.save_first.ensures.touched
+    touched_next (page_at c.args.sheets.now.changed) (page_at c.loop-number.sheets.changed) _ _ _ c.in-Some.number inv.less c.in-Some.ensures.there inv.touched c.save_first.ensures.touched
 
 pub loop-number-preserved : goal.loop-number-preserved
 loop-number-preserved g c =
     let inv = c.loop-number.invariant in
     let there = c.in-Some.ensures.there in
     record {
-      image = ap (λ n. image_of (get nat_cmp c.save_first.new.sheets.changed) (file_of (g.S.Store.disk c.save_first.new.store)) n) (sym inv.length) ∙ c.in_ok-save_first.ensures.image
-          ∙ ap (λ n. image_of (get nat_cmp c.loop-number.sheets.changed) (file_of (g.S.Store.disk c.loop-number.store)) n) inv.length ∙ inv.image;
+      image = ap (λ n. image_of (page_at c.save_first.new.sheets.changed) (file_of (g.S.Store.disk c.save_first.new.store)) n) (sym inv.length) ∙ c.in_ok-save_first.ensures.image
+          ∙ ap (λ n. image_of (page_at c.loop-number.sheets.changed) (file_of (g.S.Store.disk c.loop-number.store)) n) inv.length ∙ inv.image;
       backed = λ i lt e. c.in_ok-save_first.ensures.backed i (omega (arith, lt, inv.length)) e;
       less = λ q e. c.in_ok-save_first.ensures.less q (inv.less q e);
       held = c.in_ok-save_first.ensures.held;
-      between = between_next (get nat_cmp c.args.sheets.now.changed) (get nat_cmp c.loop-number.sheets.changed) (g.S.Store.disk c.args.store.now) (g.S.Store.disk c.loop-number.store) (g.S.Store.disk c.save_first.new.store) c.args.sheets.now.length c.loop-number.sheets.length 0
+      between = between_next (page_at c.args.sheets.now.changed) (page_at c.loop-number.sheets.changed) (g.S.Store.disk c.args.store.now) (g.S.Store.disk c.loop-number.store) (g.S.Store.disk c.save_first.new.store) c.args.sheets.now.length c.loop-number.sheets.length 0
           inv.image inv.length inv.between c.in_ok-save_first.ensures.between;
-      touched = touched_next (get nat_cmp c.args.sheets.now.changed) (get nat_cmp c.loop-number.sheets.changed) _ _ _ c.in-Some.number inv.less there inv.touched c.in_ok-save_first.ensures.touched;
+      touched = touched_next (page_at c.args.sheets.now.changed) (page_at c.loop-number.sheets.changed) _ _ _ c.in-Some.number inv.less there inv.touched c.in_ok-save_first.ensures.touched;
       length = c.in_ok-save_first.ensures.length ∙ inv.length;
       marked = c.in_ok-save_first.ensures.marked;
       spent = omega (arith, inv.spent, c.in_ok-save_first.ensures.spare.writes, c.in_ok-save_first.ensures.fewer);

@@ -1,20 +1,20 @@
 use Rattle.std.proofs.Common.{◌≡◌, ◌+◌, ◌≤◌, ◌++◌, ℕ, List, length, None, IsSome}
-use Rattle.cdf_pages.proofs.Common.{IsTrue, nat_cmp, get, Disk, file_of, Backed, image_of, is_in, HoldsBetween, LiesIn, Touches}
-use Rattle.std.specs.BTreeMap.{btree_map_len}
+use Rattle.cdf_pages.proofs.Common.{page_at, IsTrue, Disk, file_of, Backed, image_of, is_in, HoldsBetween, LiesIn, Touches}
+use Rattle.cdf_pages.specs.Table.{pages_held}
 use Rattle.cdf_pages.proofs.saving.save_pages.Given as goal
 
 abbrev pub invariant-loop-number : goal.invariant-loop-number
 invariant-loop-number g l = record {
-  image : image_of (get nat_cmp l.sheets.changed) (file_of (g.S.Store.disk l.store)) l.fn.sheets.length ≡ image_of (get nat_cmp l.fn.sheets.changed) (file_of (g.S.Store.disk l.fn.store)) l.fn.sheets.length;
-  backed : Backed (get nat_cmp l.sheets.changed) (length (file_of (g.S.Store.disk l.store))) l.fn.sheets.length;
-  less : (number : ℕ) → get nat_cmp l.fn.sheets.changed number ≡ None → get nat_cmp l.sheets.changed number ≡ None;
+  image : image_of (page_at l.sheets.changed) (file_of (g.S.Store.disk l.store)) l.fn.sheets.length ≡ image_of (page_at l.fn.sheets.changed) (file_of (g.S.Store.disk l.fn.store)) l.fn.sheets.length;
+  backed : Backed (page_at l.sheets.changed) (length (file_of (g.S.Store.disk l.store))) l.fn.sheets.length;
+  less : (number : ℕ) → page_at l.fn.sheets.changed number ≡ None → page_at l.sheets.changed number ≡ None;
   held : IsSome (g.S.Store.disk l.store).held;
-  between : (first : Disk g.S.Store.Under) → (tail : List ℕ) → HoldsBetween first (image_of (get nat_cmp l.fn.sheets.changed) (file_of (g.S.Store.disk l.fn.store)) l.fn.sheets.length ++ tail) (g.S.Store.disk l.fn.store)
-      → HoldsBetween first (image_of (get nat_cmp l.fn.sheets.changed) (file_of (g.S.Store.disk l.fn.store)) l.fn.sheets.length ++ tail) (g.S.Store.disk l.store);
-  touched : Touches (λ range. (number : ℕ) × IsTrue (is_in (get nat_cmp l.fn.sheets.changed) number) × LiesIn number range) (g.S.Store.disk l.fn.store).touched (g.S.Store.disk l.store).touched;
+  between : (first : Disk g.S.Store.Under) → (tail : List ℕ) → HoldsBetween first (image_of (page_at l.fn.sheets.changed) (file_of (g.S.Store.disk l.fn.store)) l.fn.sheets.length ++ tail) (g.S.Store.disk l.fn.store)
+      → HoldsBetween first (image_of (page_at l.fn.sheets.changed) (file_of (g.S.Store.disk l.fn.store)) l.fn.sheets.length ++ tail) (g.S.Store.disk l.store);
+  touched : Touches (λ range. (number : ℕ) × IsTrue (is_in (page_at l.fn.sheets.changed) number) × LiesIn number range) (g.S.Store.disk l.fn.store).touched (g.S.Store.disk l.store).touched;
   length : l.sheets.length ≡ l.fn.sheets.length;
   marked : l.sheets.marked ≡ None;
-  spent : (g.S.Store.spare l.fn.store).writes + btree_map_len l.sheets.changed ≤ (g.S.Store.spare l.store).writes + btree_map_len l.fn.sheets.changed;
+  spent : (g.S.Store.spare l.fn.store).writes + pages_held l.sheets.changed ≤ (g.S.Store.spare l.store).writes + pages_held l.fn.sheets.changed;
   end : (g.S.Store.spare l.store).end ≡ (g.S.Store.spare l.fn.store).end;
   taken : g.S.Store.taken l.store ≡ g.S.Store.taken l.fn.store;
   write : g.S.Store.write_faults l.store ≡ g.S.Store.write_faults l.fn.store;
@@ -22,4 +22,4 @@ invariant-loop-number g l = record {
 }
 
 abbrev pub decreases-loop-number : goal.decreases-loop-number
-decreases-loop-number g l = btree_map_len l.sheets.changed
+decreases-loop-number g l = pages_held l.sheets.changed

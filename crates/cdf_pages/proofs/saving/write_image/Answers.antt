@@ -1,5 +1,5 @@
 use Rattle.std.proofs.Common.{◌≡◌, ◌∙◌, ◌+◌, ◌≤◌, ◌++◌, ℕ, List, Bool, Option, None, sym, ap, subst, arith, inl, inr, take, length, length-append}
-use Rattle.cdf_pages.proofs.Common.{IsTrue, nat_cmp, get, put, Disk, file_of, Backed, image_of, is_in, HoldsBetween, IsChangedRange, LiesIn, Touches}
+use Rattle.cdf_pages.proofs.Common.{page_at, IsTrue, put, Disk, file_of, Backed, image_of, is_in, HoldsBetween, IsChangedRange, LiesIn, Touches}
 use Rattle.cdf_pages.proofs.Between.{between_bound, cut_new, holds_between_first, holds_new, length-written, tail_cut, tail_last}
 use Rattle.cdf_pages.proofs.Disks.{file_held}
 use Rattle.cdf_pages.proofs.Filling.{on_err}
@@ -120,7 +120,7 @@ set_len-requires-clause-within g c =
 
 pub returns-in_err-set_len-clause-failed : goal.returns-in_err-set_len-clause-failed
 returns-in_err-set_len-clause-failed g c =
-    let P = get nat_cmp c.args.sheets.now.changed in
+    let P = page_at c.args.sheets.now.changed in
     let d = g.S.Store.disk c.args.store.now in
     let n = c.args.sheets.now.length in
     let xs = c.args.tail.now in
@@ -131,7 +131,7 @@ returns-in_err-set_len-clause-failed g c =
 
 pub returns-in_err-set_len-clause-image : goal.returns-in_err-set_len-clause-image
 returns-in_err-set_len-clause-image g c =
-    let Q = get nat_cmp c.save_pages.new.sheets.changed in
+    let Q = page_at c.save_pages.new.sheets.changed in
     let n = c.args.sheets.now.length in
     let ok = c.in_ok-save_pages.ensures in
     let s = paged c.args.tail.now ok.length ok.saved ok.backed ok.image (ok.between _ _ (holds_between_first _ _ (g.met.S.Store.whole c.args.store.now) c.requires.held)) in
@@ -141,7 +141,7 @@ returns-in_err-set_len-clause-image g c =
 
 pub returns-in_err-set_len-clause-backed : goal.returns-in_err-set_len-clause-backed
 returns-in_err-set_len-clause-backed g c =
-    let Q = get nat_cmp c.save_pages.new.sheets.changed in
+    let Q = page_at c.save_pages.new.sheets.changed in
     let n = c.args.sheets.now.length in
     let ok = c.in_ok-save_pages.ensures in
     let s = paged c.args.tail.now ok.length ok.saved ok.backed ok.image (ok.between _ _ (holds_between_first _ _ (g.met.S.Store.whole c.args.store.now) c.requires.held)) in
@@ -151,7 +151,7 @@ returns-in_err-set_len-clause-backed g c =
 
 pub returns-in_err-set_len-clause-touched : goal.returns-in_err-set_len-clause-touched
 returns-in_err-set_len-clause-touched g c =
-    let P = get nat_cmp c.args.sheets.now.changed in
+    let P = page_at c.args.sheets.now.changed in
     let d = g.S.Store.disk c.args.store.now in
     let n = c.args.sheets.now.length in
     let xs = c.args.tail.now in
@@ -161,7 +161,7 @@ returns-in_err-set_len-clause-touched g c =
 
 pub returns-in_ok-set_len-clause-saved : goal.returns-in_ok-set_len-clause-saved
 returns-in_ok-set_len-clause-saved g c =
-    let P = get nat_cmp c.args.sheets.now.changed in
+    let P = page_at c.args.sheets.now.changed in
     let d = g.S.Store.disk c.args.store.now in
     let n = c.args.sheets.now.length in
     let xs = c.args.tail.now in
@@ -173,8 +173,8 @@ returns-in_ok-set_len-clause-saved g c =
 
 pub returns-in_ok-set_len-clause-image : goal.returns-in_ok-set_len-clause-image
 returns-in_ok-set_len-clause-image g c =
-    let P = get nat_cmp c.args.sheets.now.changed in
-    let Q = get nat_cmp c.save_pages.new.sheets.changed in
+    let P = page_at c.args.sheets.now.changed in
+    let Q = page_at c.save_pages.new.sheets.changed in
     let d = g.S.Store.disk c.args.store.now in
     let n = c.args.sheets.now.length in
     let xs = c.args.tail.now in
@@ -187,8 +187,8 @@ returns-in_ok-set_len-clause-image g c =
 
 pub returns-in_ok-set_len-clause-backed : goal.returns-in_ok-set_len-clause-backed
 returns-in_ok-set_len-clause-backed g c =
-    let P = get nat_cmp c.args.sheets.now.changed in
-    let Q = get nat_cmp c.save_pages.new.sheets.changed in
+    let P = page_at c.args.sheets.now.changed in
+    let Q = page_at c.save_pages.new.sheets.changed in
     let d = g.S.Store.disk c.args.store.now in
     let n = c.args.sheets.now.length in
     let xs = c.args.tail.now in
@@ -201,7 +201,7 @@ returns-in_ok-set_len-clause-backed g c =
 
 pub returns-in_ok-set_len-clause-touched : goal.returns-in_ok-set_len-clause-touched
 returns-in_ok-set_len-clause-touched g c =
-    let P = get nat_cmp c.args.sheets.now.changed in
+    let P = page_at c.args.sheets.now.changed in
     let d = g.S.Store.disk c.args.store.now in
     let n = c.args.sheets.now.length in
     let xs = c.args.tail.now in
@@ -211,7 +211,7 @@ returns-in_ok-set_len-clause-touched g c =
 
 pub returns-else-end-most-clause-saved : goal.returns-else-end-most-clause-saved
 returns-else-end-most-clause-saved g c =
-    let P = get nat_cmp c.args.sheets.now.changed in
+    let P = page_at c.args.sheets.now.changed in
     let d = g.S.Store.disk c.args.store.now in
     let n = c.args.sheets.now.length in
     let xs = c.args.tail.now in

@@ -1,5 +1,5 @@
 use Rattle.std.proofs.Common.{◌≡◌, ◌∙◌, ◌-◌, ◌*◌, min, ℕ, List, Option, None, Some, sym, ap, ap₂, subst, arith, length}
-use Rattle.cdf_pages.proofs.Common.{IfSome, IsSome, IsTrue, nat_cmp, get, file_of, TakesAtMost, image_of, is_in, Differs, pages_in}
+use Rattle.cdf_pages.proofs.Common.{page_at, IfSome, IsSome, IsTrue, file_of, TakesAtMost, image_of, is_in, Differs, pages_in}
 use Rattle.cdf_pages.proofs.SavedPage.{changed_at_first}
 use Rattle.cdf_pages.proofs.Settled.{compared_cost, compared_upto, differs_next, upto_next}
 use Rattle.cdf_pages.proofs.settling.settle_all.Goals as goal
@@ -15,11 +15,11 @@ module _ (p p' : ℕ → Option (List ℕ)) (k : ℕ) (at : Option ℕ) (is : at
 pub returns-in_err-settle_page-clause-taken : goal.returns-in_err-settle_page-clause-taken
 returns-in_err-settle_page-clause-taken g c =
     let inv = c.loop-next.invariant in
-    let P0 = get nat_cmp c.args.sheets.now.changed in
+    let P0 = page_at c.args.sheets.now.changed in
     let n = c.args.sheets.now.length in
     let k = c.in-Some.number in
     let long : length (file_of (g.S.Store.disk c.loop-next.store)) ≡ length (file_of (g.S.Store.disk c.args.store.now)) = ap (λ d. length (file_of d)) inv.disk in
-    let some = next_changed P0 (get nat_cmp c.loop-next.sheets.changed) k c.loop-next.next c.in-Some.is inv.there inv.less in
+    let some = next_changed P0 (page_at c.loop-next.sheets.changed) k c.loop-next.next c.in-Some.is inv.there inv.less in
     compared_cost P0 _ (g.S.Store.taken c.loop-next.store) _ (length (file_of (g.S.Store.disk c.args.store.now))) n k (pages_in 0 n) c.loop-next.next c.in-Some.is some (omega arith) inv.taken
     (subst (λ (m : ℕ). TakesAtMost (g.S.Store.taken c.loop-next.store) (g.S.Store.taken c.settle_page.new.store) (min 65536 (m - k * 65536))) long c.settle_page.ensures.taken)
     (λ past. c.settle_page.ensures.past (omega (arith, past, inv.length)))
@@ -28,9 +28,9 @@ pub loop-next-preserved : goal.loop-next-preserved
 loop-next-preserved g c =
     let inv = c.loop-next.invariant in
     let ok = c.in_ok-settle_page.ensures in
-    let P0 = get nat_cmp c.args.sheets.now.changed in
-    let P = get nat_cmp c.loop-next.sheets.changed in
-    let Q = get nat_cmp c.settle_page.new.sheets.changed in
+    let P0 = page_at c.args.sheets.now.changed in
+    let P = page_at c.loop-next.sheets.changed in
+    let Q = page_at c.settle_page.new.sheets.changed in
     let F0 = file_of (g.S.Store.disk c.args.store.now) in
     let F = file_of (g.S.Store.disk c.loop-next.store) in
     let n = c.args.sheets.now.length in

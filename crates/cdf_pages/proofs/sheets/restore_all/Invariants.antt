@@ -1,11 +1,11 @@
 use Rattle.std.proofs.Common.{◌≡◌, ℕ, List, length, Some}
 use Rattle.cdf_area.specs.OldBytes.{AllLieBelow, Old}
-use Rattle.cdf_pages.proofs.Common.{nat_cmp, get, was}
+use Rattle.cdf_pages.proofs.Common.{page_at, nat_cmp, get, was}
 use Rattle.cdf_pages.proofs.sheets.restore_all.Given as goal
 
 abbrev pub invariant-loop-number : goal.invariant-loop-number
 invariant-loop-number l = record {
-  was : (q : ℕ) → was (get nat_cmp l.kept q) (get nat_cmp l.changed q) ≡ was (get nat_cmp l.fn.kept q) (get nat_cmp l.fn.changed q);
+  was : (q : ℕ) → was (get nat_cmp l.kept q) (page_at l.changed q) ≡ was (get nat_cmp l.fn.kept q) (page_at l.fn.changed q);
   below : (k : ℕ) → (olds : List Old) → get nat_cmp l.kept k ≡ Some (Some olds) → AllLieBelow 65536 olds;
 }
 

@@ -1,5 +1,5 @@
 use Rattle.std.proofs.Common.{◌≡◌, ◌∙◌, ◌+◌, ◌-◌, ◌/◌, ◌%◌, ◌≤◌, ◌<◌, refl, sym, ap, arith, take, drop, min, length, inl, inr}
-use Rattle.cdf_pages.proofs.Common.{nat_cmp, get, length-take-le, length-drop}
+use Rattle.cdf_pages.proofs.Common.{page_at, nat_cmp, get, length-take-le, length-drop}
 use Rattle.cdf_pages.proofs.Covered.{was_step}
 use Rattle.cdf_pages.proofs.Images.{some_of, put_none, write_step, less_step, length-image}
 use Rattle.cdf_pages.proofs.writing.write_range.Goals as goal
@@ -18,7 +18,7 @@ loop-done-preserved c =
     let least : m ≡ min (length bs - c.loop-done.done) (65536 - off) = c.min-count.ensures in
     let more : c.loop-done.done < length bs = c.loop-done-test.true in
     let inside : c.args.place + length bs ≤ c.args.sheets.now.length = c.requires.inside in
-    let old = get nat_cmp c.loop-done.sheets.changed in
+    let old = page_at c.loop-done.sheets.changed in
     let page = some_of (old k) (λ e. c.requires.there k (omega arith) (omega arith) (inv.less k e)) in
     let long : length page.0 ≡ 65536 = c.write.ensures.whole page.0 page.1 in
     let now = c.write.ensures.written page.0 page.1 in

@@ -1,15 +1,15 @@
 use Rattle.std.proofs.Common.{◌≡◌, ◌+◌, ◌-◌, ◌*◌, ◌/◌, ◌≤◌, ◌<◌, ◌⊎◌, ℕ, List, length, take, None}
-use Rattle.cdf_pages.proofs.Common.{nat_cmp, get, put, image_of, IsSome, was}
+use Rattle.cdf_pages.proofs.Common.{page_at, nat_cmp, get, put, image_of, IsSome, was}
 use Rattle.cdf_pages.proofs.writing.write_range.Given as goal
 
 abbrev pub invariant-loop-done : goal.invariant-loop-done
 invariant-loop-done l = record {
   within : l.done ≤ length l.bytes;
-  image : (file : List ℕ) → image_of (get nat_cmp l.sheets.changed) file l.fn.sheets.length ≡ put (image_of (get nat_cmp l.fn.sheets.changed) file l.fn.sheets.length) l.fn.place (take l.done l.bytes);
-  less : (q : ℕ) → get nat_cmp l.sheets.changed q ≡ None → get nat_cmp l.fn.sheets.changed q ≡ None;
-  others : (q : ℕ) → (q < l.fn.place / 65536) ⊎ (l.fn.place + length l.bytes ≤ q * 65536) → get nat_cmp l.sheets.changed q ≡ get nat_cmp l.fn.sheets.changed q;
+  image : (file : List ℕ) → image_of (page_at l.sheets.changed) file l.fn.sheets.length ≡ put (image_of (page_at l.fn.sheets.changed) file l.fn.sheets.length) l.fn.place (take l.done l.bytes);
+  less : (q : ℕ) → page_at l.sheets.changed q ≡ None → page_at l.fn.sheets.changed q ≡ None;
+  others : (q : ℕ) → (q < l.fn.place / 65536) ⊎ (l.fn.place + length l.bytes ≤ q * 65536) → page_at l.sheets.changed q ≡ page_at l.fn.sheets.changed q;
   kept : l.sheets.kept ≡ l.fn.sheets.kept;
-  was : IsSome l.fn.sheets.marked → (q : ℕ) → was (get nat_cmp l.fn.sheets.kept q) (get nat_cmp l.sheets.changed q) ≡ was (get nat_cmp l.fn.sheets.kept q) (get nat_cmp l.fn.sheets.changed q);
+  was : IsSome l.fn.sheets.marked → (q : ℕ) → was (get nat_cmp l.fn.sheets.kept q) (page_at l.sheets.changed q) ≡ was (get nat_cmp l.fn.sheets.kept q) (page_at l.fn.sheets.changed q);
   length : l.sheets.length ≡ l.fn.sheets.length;
   marked : l.sheets.marked ≡ l.fn.sheets.marked;
 }

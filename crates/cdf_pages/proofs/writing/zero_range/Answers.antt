@@ -1,5 +1,5 @@
 use Rattle.std.proofs.Common.{rules, ◌≡◌, ◌∙◌, ◌+◌, ◌≤◌, ℕ, List, refl, sym, ap, ap₂, subst, arith, take, length, replicate, inl, inr}
-use Rattle.cdf_pages.proofs.Common.{length-replicate, nat_cmp, get, put, image_of, IsSome, was}
+use Rattle.cdf_pages.proofs.Common.{page_at, length-replicate, nat_cmp, get, put, image_of, IsSome, was}
 use Rattle.cdf_pages.specs.Pages.{Covers, part_from, part_upto}
 use Rattle.cdf_pages.proofs.Covered.{covers_less}
 use Rattle.cdf_pages.proofs.Images.{put_none, take_zeros, zeros_more, put_end, length-image}
@@ -20,13 +20,13 @@ loop-done-preserved c =
     let count : length (take m (replicate {A = ℕ} 4096 0)) ≡ m = ap (λ (l : List ℕ). length l) part ∙ length-replicate {A = ℕ} m 0 in
     record {
       within = within;
-      image = λ file. ap (λ k. image_of (get nat_cmp c.write_range.new.sheets.changed) file k) (sym inv.length) ∙ c.write_range.ensures.image file
-          ∙ ap (λ k. put (image_of (get nat_cmp c.loop-done.sheets.changed) file k) start (take m (replicate {A = ℕ} 4096 0))) inv.length
-          ∙ ap₂ (λ b xs. put b start xs) (inv.image file) part ∙ zeros_more (image_of (get nat_cmp c.args.sheets.now.changed) file n) c.args.sheets.now.length c.loop-done.done m (omega (arith, within, length-image (get nat_cmp c.args.sheets.now.changed) file n));
+      image = λ file. ap (λ k. image_of (page_at c.write_range.new.sheets.changed) file k) (sym inv.length) ∙ c.write_range.ensures.image file
+          ∙ ap (λ k. put (image_of (page_at c.loop-done.sheets.changed) file k) start (take m (replicate {A = ℕ} 4096 0))) inv.length
+          ∙ ap₂ (λ b xs. put b start xs) (inv.image file) part ∙ zeros_more (image_of (page_at c.args.sheets.now.changed) file n) c.args.sheets.now.length c.loop-done.done m (omega (arith, within, length-image (page_at c.args.sheets.now.changed) file n));
       less = λ q e. inv.less q (c.write_range.ensures.less q e);
       others = λ q o. c.write_range.ensures.others q (elim o [ inl below ↦ inl (omega arith) | inr above ↦ inr (omega (arith, above, count, within)) ]) ∙ inv.others q o;
       kept = c.write_range.ensures.kept ∙ inv.kept;
-      was = λ s q. subst (λ k. was (get nat_cmp k q) (get nat_cmp c.write_range.new.sheets.changed q) ≡ was (get nat_cmp k q) (get nat_cmp c.loop-done.sheets.changed q)) inv.kept (c.write_range.ensures.was (subst IsSome (sym inv.marked) s) q) ∙ inv.was s q;
+      was = λ s q. subst (λ k. was (get nat_cmp k q) (page_at c.write_range.new.sheets.changed q) ≡ was (get nat_cmp k q) (page_at c.loop-done.sheets.changed q)) inv.kept (c.write_range.ensures.was (subst IsSome (sym inv.marked) s) q) ∙ inv.was s q;
       length = c.write_range.ensures.length ∙ inv.length;
       marked = c.write_range.ensures.marked ∙ inv.marked;
     }
@@ -49,6 +49,6 @@ pub returns-clause-image : goal.returns-clause-image
 returns-clause-image c file =
     let inv = c.loop-done.invariant in
     let whole : c.loop-done.done ≡ c.args.n = search rules in
-    ap (λ k. image_of (get nat_cmp c.loop-done.sheets.changed) file k) inv.length ∙ inv.image file
-    ∙ ap (λ k. put (image_of (get nat_cmp c.args.sheets.now.changed) file (c.args.sheets.now.length + c.args.n)) c.args.sheets.now.length (replicate k 0)) whole
-    ∙ put_end (get nat_cmp c.args.sheets.now.changed) file c.args.sheets.now.length c.args.n
+    ap (λ k. image_of (page_at c.loop-done.sheets.changed) file k) inv.length ∙ inv.image file
+    ∙ ap (λ k. put (image_of (page_at c.args.sheets.now.changed) file (c.args.sheets.now.length + c.args.n)) c.args.sheets.now.length (replicate k 0)) whole
+    ∙ put_end (page_at c.args.sheets.now.changed) file c.args.sheets.now.length c.args.n

@@ -1,5 +1,5 @@
 use Rattle.std.proofs.Common.{◌≡◌, ◌≤◌, ℕ, zero, suc, List, Option, None, arith, length}
-use Rattle.cdf_pages.proofs.Common.{nat_cmp, get, file_of, Backed}
+use Rattle.cdf_pages.proofs.Common.{page_at, file_of, Backed}
 use Rattle.cdf_pages.proofs.Images.{image_file, length-image}
 use Rattle.cdf_pages.proofs.paged_area.PagedArea.is_edited.Goals as goal
 
@@ -11,7 +11,7 @@ backed_within p long (suc n) backed none = omega (arith, backed n (omega arith) 
 pub returns-clause-front : goal.returns-clause-front
 returns-clause-front g c = λ is.
     let self = c.args.self.now in
-    let P = get nat_cmp self.sheets.changed in
+    let P = page_at self.sheets.changed in
     let F = file_of (g.S.Store.disk self.store) in
     let none = self.unedited is in
     rw (length-image P F self.sheets.length) (image_file P F self.sheets.length none (backed_within P (length F) self.sheets.length self.backed none))

@@ -1,5 +1,5 @@
 use Rattle.std.proofs.Common.{◌∙◌, ◌+◌, ◌≤◌, ◌++◌, ℕ, List, None, OnOk, refl, sym, ap, subst, arith, length}
-use Rattle.cdf_pages.proofs.Common.{is_some, nat_cmp, get, file_of, image_of, is_in, Holds, HoldsBetween, IsChangedRange, Touches}
+use Rattle.cdf_pages.proofs.Common.{page_at, is_some, file_of, image_of, is_in, Holds, HoldsBetween, IsChangedRange, Touches}
 use Rattle.cdf_pages.specs.Saving.{tail_bytes}
 use Rattle.cdf_pages.proofs.Filling.{on_ok_map, true_not_false}
 use Rattle.cdf_pages.proofs.Images.{image_size}
@@ -14,12 +14,12 @@ pub invariant_of-self : goal.invariant_of-self
 invariant_of-self g c =
     let self = c.args.self.now in
     let e = c.save_image-outcome.ensures in
-    let P = get nat_cmp self.sheets.changed in
+    let P = page_at self.sheets.changed in
     let F = file_of (g.S.Store.disk self.store) in
     record {
       backed = λ i lt none. e.backed i (omega (arith, lt, e.length)) none;
       base_backed = λ size is. (let no = e.marked in cc);
-      shows = saved_shows P (get nat_cmp c.save_image-outcome.new.sheets.changed) F _ self.sheets.length _ self.clean.entries e.length e.image e.less self.shows;
+      shows = saved_shows P (page_at c.save_image-outcome.new.sheets.changed) F _ self.sheets.length _ self.clean.entries e.length e.image e.less self.shows;
       bounded = subst (λ (m : ℕ). length (file_of (g.S.Store.disk c.save_image-outcome.new.store)) ≤ m) (sym c.most_after-self.ensures)
           (saved_bound c.save_image-outcome.result (g.S.Store.disk self.store) (g.S.Store.disk c.save_image-outcome.new.store) (image_of P F self.sheets.length) c.tail_slice-bytes.result.now self.most self.sheets.length (self.sheets.length + length c.tail_slice-bytes.result.now)
           (image_size P F self.sheets.length) refl self.bounded e.bound e.saved e.no_memory);
@@ -33,7 +33,7 @@ returns-then-has_nothing_to_save-clause-saved g c =
     let self = c.args.self.now in
     let found = c.has_nothing_to_save.ensures.yes c.if-has_nothing_to_save.true in
     let no_tail = found.1 in
-    rw no_tail (saved_whole (g.S.Store.disk self.store) (get nat_cmp self.sheets.changed) self.sheets.length self.most None (g.met.S.Store.whole self.store) c.requires.held found.0 self.backed self.bounded found.2)
+    rw no_tail (saved_whole (g.S.Store.disk self.store) (page_at self.sheets.changed) self.sheets.length self.most None (g.met.S.Store.whole self.store) c.requires.held found.0 self.backed self.bounded found.2)
 
 pub returns-then-has_nothing_to_save-clause-unchanged : goal.returns-then-has_nothing_to_save-clause-unchanged
 returns-then-has_nothing_to_save-clause-unchanged g c q = ap is_some ((c.has_nothing_to_save.ensures.yes c.if-has_nothing_to_save.true).0 q)
@@ -44,18 +44,18 @@ returns-then-has_nothing_to_save-clause-touched g c = touches_none _ _ _ refl
 pub returns-clause-saved : goal.returns-clause-saved
 returns-clause-saved g c =
     let self = c.args.self.now in
-    subst (λ (l : List ℕ). OnOk c.save_image-outcome.result (Holds (g.S.Store.disk self.store) (image_of (get nat_cmp self.sheets.changed) (file_of (g.S.Store.disk self.store)) self.sheets.length ++ l) (g.S.Store.disk c.save_image-outcome.new.store)))
+    subst (λ (l : List ℕ). OnOk c.save_image-outcome.result (Holds (g.S.Store.disk self.store) (image_of (page_at self.sheets.changed) (file_of (g.S.Store.disk self.store)) self.sheets.length ++ l) (g.S.Store.disk c.save_image-outcome.new.store)))
     c.tail_slice-bytes.ensures.bytes c.save_image-outcome.ensures.saved
 
 pub returns-clause-failed : goal.returns-clause-failed
 returns-clause-failed g c is =
     let self = c.args.self.now in
-    subst (λ (l : List ℕ). HoldsBetween (g.S.Store.disk self.store) (image_of (get nat_cmp self.sheets.changed) (file_of (g.S.Store.disk self.store)) self.sheets.length ++ l) (g.S.Store.disk c.save_image-outcome.new.store))
+    subst (λ (l : List ℕ). HoldsBetween (g.S.Store.disk self.store) (image_of (page_at self.sheets.changed) (file_of (g.S.Store.disk self.store)) self.sheets.length ++ l) (g.S.Store.disk c.save_image-outcome.new.store))
     c.tail_slice-bytes.ensures.bytes (c.save_image-outcome.ensures.failed is)
 
 pub returns-clause-image : goal.returns-clause-image
 returns-clause-image g c =
-    ap (λ m. image_of (get nat_cmp c.save_image-outcome.new.sheets.changed) (file_of (g.S.Store.disk c.save_image-outcome.new.store)) m) c.save_image-outcome.ensures.length ∙ c.save_image-outcome.ensures.image
+    ap (λ m. image_of (page_at c.save_image-outcome.new.sheets.changed) (file_of (g.S.Store.disk c.save_image-outcome.new.store)) m) c.save_image-outcome.ensures.length ∙ c.save_image-outcome.ensures.image
 
 pub returns-clause-unchanged : goal.returns-clause-unchanged
 returns-clause-unchanged g c = on_ok_map c.save_image-outcome.result (λ none q. ap is_some (none q)) c.save_image-outcome.ensures.none
@@ -63,7 +63,7 @@ returns-clause-unchanged g c = on_ok_map c.save_image-outcome.result (λ none q.
 pub returns-clause-touched : goal.returns-clause-touched
 returns-clause-touched g c =
     let self = c.args.self.now in
-    let P = get nat_cmp self.sheets.changed in
+    let P = page_at self.sheets.changed in
     let size = image_size P (file_of (g.S.Store.disk self.store)) self.sheets.length in
     subst (λ (m : ℕ). Touches (IsChangedRange (is_in P) m (length (tail_bytes c.args.tail))) (g.S.Store.disk self.store).touched (g.S.Store.disk c.save_image-outcome.new.store).touched) (sym size)
     (subst (λ (l : List ℕ). Touches (IsChangedRange (is_in P) self.sheets.length (length l)) (g.S.Store.disk self.store).touched (g.S.Store.disk c.save_image-outcome.new.store).touched) c.tail_slice-bytes.ensures.bytes c.save_image-outcome.ensures.touched)
@@ -72,7 +72,7 @@ pub returns-clause-not_called : goal.returns-clause-not_called
 returns-clause-not_called g c h =
     let self = c.args.self.now in
     let F = file_of (g.S.Store.disk self.store) in
-    let P = get nat_cmp self.sheets.changed in
+    let P = page_at self.sheets.changed in
     let found = nothing_to_save P F (image_of P F self.sheets.length) self.sheets.length self.most c.args.tail (image_size P F self.sheets.length) h in
     absurd (true_not_false (sym (c.has_nothing_to_save.ensures.no found.0 found.1 found.2) ∙ c.if-has_nothing_to_save.false))
 
@@ -80,7 +80,7 @@ pub returns-clause-untouched : goal.returns-clause-untouched
 returns-clause-untouched g c h =
     let self = c.args.self.now in
     let F = file_of (g.S.Store.disk self.store) in
-    let P = get nat_cmp self.sheets.changed in
+    let P = page_at self.sheets.changed in
     let found = saved_already P self.edited F (image_of P F self.sheets.length) self.sheets.length self.most c.args.tail (image_size P F self.sheets.length) self.unedited h in
     absurd (true_not_false (sym (c.has_nothing_to_save.ensures.no found.0 found.1 found.2) ∙ c.if-has_nothing_to_save.false))
 
@@ -88,6 +88,6 @@ pub returns-clause-unfailed : goal.returns-clause-unfailed
 returns-clause-unfailed g c h =
     let self = c.args.self.now in
     let F = file_of (g.S.Store.disk self.store) in
-    let P = get nat_cmp self.sheets.changed in
+    let P = page_at self.sheets.changed in
     let found = saved_already P self.edited F (image_of P F self.sheets.length) self.sheets.length self.most c.args.tail (image_size P F self.sheets.length) self.unedited h in
     absurd (true_not_false (sym (c.has_nothing_to_save.ensures.no found.0 found.1 found.2) ∙ c.if-has_nothing_to_save.false))

@@ -1,11 +1,11 @@
 use Rattle.std.proofs.Common.{◌≡◌, ◌∙◌, ◌+◌, ◌-◌, sym, ap, arith, take}
-use Rattle.cdf_pages.proofs.Common.{nat_cmp, get, file_of, image_of}
+use Rattle.cdf_pages.proofs.Common.{page_at, file_of, image_of}
 use Rattle.cdf_pages.proofs.Images.{image_take, image_size}
 use Rattle.cdf_pages.proofs.paged_area.PagedAreaArea.shorten.Goals as goal
 
 pub returns-clause-shorter : goal.returns-clause-shorter
 returns-clause-shorter g c =
-    let P = get nat_cmp c.args.self.now.sheets.changed in
+    let P = page_at c.args.self.now.sheets.changed in
     let F = file_of (g.S.Store.disk c.args.self.now.store) in
     let L = c.args.self.now.sheets.length in
     let n = c.args.n in

@@ -1,0 +1,13 @@
+use Rattle.std.proofs.Common.{rules, ◌≡◌, ◌<◌, [], length, sym, arith}
+use Rattle.cdf_pages.proofs.Common.{is_some, if◌then◌else◌, page_at}
+use Rattle.cdf_pages.proofs.Slots.{none_counted, one_counted, page_read}
+use Rattle.cdf_pages.proofs.table.Table.count.Goals as goal
+
+pub loop-at-init : goal.loop-at-init
+loop-at-init c = sym (none_counted [])
+
+pub loop-at-preserved : goal.loop-at-preserved
+loop-at-preserved c =
+    let lt : c.loop-at.at < length c.args.self.now = search rules in
+    let one : c.from-count.result ≡ (if is_some (page_at c.args.self.now c.loop-at.at) then 1 else 0) = search (rules, page_read) in
+    omega (arith, c.loop-at.invariant, one, one_counted c.args.self.now c.loop-at.at lt)

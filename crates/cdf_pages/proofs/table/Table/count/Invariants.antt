@@ -1,0 +1,6 @@
+use Rattle.std.proofs.Common.{◌≡◌, take}
+use Rattle.cdf_pages.specs.Table.{pages_held}
+use Rattle.cdf_pages.proofs.table.Table.count.Given as goal
+
+abbrev pub invariant-loop-at : goal.invariant-loop-at
+invariant-loop-at l = l.count ≡ pages_held (take l.at l.self)
