@@ -51,7 +51,6 @@ pub mod PlainVariables
 pub mod PutEntry
 pub mod RecordFrame
 pub mod RemovalCalls
-pub mod RemovedAttribute
 pub mod RemovedVariable
 pub mod AttributeRemains
 pub mod Splice
@@ -97,6 +96,7 @@ pub mod ActsJoined
 pub mod RecordPlaced
 pub mod RecordGrown
 pub mod StandsAmong
+pub mod StaysBut
 pub mod OwnEdited
 pub mod IndexEdited
 pub mod ChainEdited

@@ -1,67 +1,200 @@
 -- An attribute is taken out of the chain, counted no more, those behind it are numbered anew, and its records are freed: the image is good, with the content without it, and what it keeps of each record.
-use Rattle.std.proofs.Common.{◌≡◌, ◌⊎◌, ℕ, suc, ◌+◌, ◌<◌, ◌≤◌, List, [], ◌∷◌, ◌++◌, length, map, true, false, eq-eqb, refl, sym, ap, subst, ◌∙◌, arith, inl, inr, Bool, Option, Some, None, ◌-◌, drop, get_or, ap₂, append_assoc}
-use Rattle.cdf_edits.proofs.Common.{eqb-true, map-append, flat_map, ◌==◌, if◌then◌else◌, IsChain, number, size_at, type_at, with_field, attribute_records, times, gdr_adr_head, gdr_uir_head, gdr_num_attr, aedr_attr_num, adr_num, gdr_type, adr_type, agr_edr_type, az_edr_type, uir_type, AttributeShape, Shape, Each, HasShape, adrs, shape, IsSound, In, Distinct, linkable-in, linkable-type, linkable-long, In-append, In-append_left, In-append_right, Distinct-push, shape_is, is_linkable, Edit, unlinking_marks, deleting_marks, freeing_marks, Mark, attribute_types, Unlinks, Write, write, with_writes, numbers_from, AreFree, Attrs, Same, Same-part, tile_lies, length-append, length-map, remove, slice_get, image_limit, is_in, next_field, content, LiesIn, OneAttribute, owned_by, owned_by_attributes, owned, gdr_eof, uir_next_uir, uir_prev_uir, cdr_type, Good, is_a-in, is_a-type, good_by_its_shape, good_is_sound, rules_of_good, good_long, sealed_kept, FreedStay, no_fields, Allowance, Allowances, Anything, Only, Keeps, AllKeep, Within, gave, links_end, ActsFollow, Act, Go, Refuse, Attribute, DataSet, attribute_named, attribute_names, ByStep, is_attribute, Done, Refused, Answers, same_Some, drop-append_seam, eq_of, counted_in, members_of, Removed, AllGiven, Lists, TakenOut, GrEntries, ZEntries}
+use Rattle.std.proofs.Common.{◌≡◌, ◌⊎◌, ℕ, suc, ◌+◌, ◌<◌, ◌≤◌, List, [], ◌∷◌, ◌++◌, length, map, true, false, eq-eqb, refl, sym, ap, subst, ◌∙◌, arith, inl, inr, Bool, Option, Some, None, ◌-◌, drop, get_or, ap₂, append_assoc, append-nil}
+use Rattle.cdf_edits.proofs.Common.{Field, eqb-true, map-append, flat_map, ◌==◌, if◌then◌else◌, IsChain, number, size_at, type_at, with_field, attribute_records, times, gdr_adr_head, gdr_uir_head, gdr_num_attr, aedr_attr_num, adr_num, gdr_type, adr_type, agr_edr_type, az_edr_type, uir_type, AttributeShape, Shape, Each, HasShape, adrs, shape, IsSound, In, linkable-in, linkable-type, linkable-long, In-append, In-append_left, In-append_right, Distinct-push, shape_is, is_linkable, Edit, unlinking_marks, deleting_marks, freeing_marks, Mark, attribute_types, Unlinks, Write, write, with_writes, numbers_from, AreFree, Attrs, Same, length-map, remove, slice_get, image_limit, is_in, next_field, content, LiesIn, OneAttribute, owned_by, owned, gdr_eof, uir_next_uir, uir_prev_uir, cdr_type, Good, is_a-in, is_a-type, good_by_its_shape, good_is_sound, rules_of_good, good_long, sealed_kept, Allowance, Allowances, Anything, Only, Keeps, AllKeep, gave, links_end, Act, Go, Refuse, Attribute, DataSet, attribute_named, attribute_names, ByStep, is_attribute, Done, Refused, Answers, same_Some, drop-append_seam, eq_of, counted_in, members_of, Removed, AllGiven, Lists, TakenOut, GrEntries, ZEntries, same_name, adrs_rows, number_rows, differ_rows, attribute_of, name_in, attribute_shape_rows, read_types, adr_name, Hold, AreNew, names_at, names_differ, differ_by_names, Hold-split, content_is, true-is_in}
 use Rattle.cdf_edits.specs.Edits.ManyMarks.{numbering_marks}
-use Rattle.cdf_edits.proofs.Edits.AttributeFrame.{AreThere, more_there, entry}
-use Rattle.cdf_edits.proofs.Edits.FreedRecords.{edit_under}
-use Rattle.cdf_edits.proofs.Edits.NumbersBehind.{tiles_numbered, each_numbered, small_numbers}
-use Rattle.cdf_edits.proofs.Edits.LeftChain.{LeavingTests, LeavesChain, may_linked, left_edit, said_now, chain_now, list_now, as_long, counted_now, may_now}
-use Rattle.cdf_edits.proofs.Edits.LeftOwners.{distinct_if, mine_once, not_twice, can_be_freed}
-use Rattle.cdf_edits.proofs.Edits.MarkLemmas.{Avoids-split, avoided-avoids, within-within, away-of_type, within-of_type}
-use Rattle.cdf_edits.proofs.Edits.OwnedOnce.{parts_once, own_in, only_owns, back_in}
-use Rattle.cdf_edits.proofs.Edits.RemovedAttribute.{entries_in, adrs_in, adrs_owned, entries_owned, numbers, numbers_are as as_numbers, Removes, adr_avoids, entry_avoids, entry_typed, without_one, left_by, removed_sound, SaysRemoved, content_removed, removed_good}
-use Rattle.cdf_edits.proofs.Edits.Splice.{parts_there}
-use Rattle.cdf_edits.proofs.Edits.StepEdits.{gdr_in, gdr_typed, some_bytes}
+use Rattle.cdf_edits.proofs.Edits.AttributeFrame.{AreThere, more_there, entry, each_there, entry_long, all_last as attributes_last, remaining_names}
+use Rattle.cdf_edits.proofs.Edits.FreedRecords.{edit_under, unused_real}
+use Rattle.cdf_edits.proofs.Edits.NumbersBehind.{tiles_numbered, place_in, other_in, Says, numbering, others_say, are_numbered}
+use Rattle.cdf_edits.proofs.Edits.LeftChain.{LeavingTests, LeavesChain, may_linked, left_edit, said_now, chain_now, list_now, as_long, counted_now, may_now, may as may_write}
+use Rattle.cdf_edits.proofs.Edits.LeftOwners.{distinct_if, mine_once, not_twice, can_be_freed, Left, owned_left, left_of}
+use Rattle.cdf_edits.proofs.Edits.MarkLemmas.{Avoids-split, avoided-avoids, within-within, away-of_type, within-of_type, avoids-of_type}
+use Rattle.cdf_edits.proofs.Edits.OwnedOnce.{parts_once, own_in, only_owns, back_in, spliced_times, front_in}
+use Rattle.cdf_edits.proofs.Edits.Splice.{parts_there, spliced, Splices, content_now, sound_if, good_image_if}
+use Rattle.cdf_edits.proofs.Edits.StepEdits.{gdr_in, gdr_typed, some_bytes, fixed_long}
 use Rattle.cdf_edits.proofs.Edits.WrittenFields.{MayWrite, writes_lie}
-use Rattle.cdf_edits.proofs.Frame.OwnersApart.{flat-append, file_from_attributes}
+use Rattle.cdf_edits.proofs.Frame.OwnersApart.{flat-append, file_from_attributes, times-in}
 use Rattle.cdf_edits.specs.Edits.Unlinks.{Deletes}
 use Rattle.cdf_edits.proofs.Edits.ChainKinds.{attribute_typed}
 use Rattle.cdf_edits.proofs.Edits.FreedAfter.{Frees, freed_edit, shape_now, sound_now, records_are as freed_records, long_now as freed_long, all_freed, says_still, types_stay as freed_types, acts_after as freed_acts, freed_after as freed_bytes, gdr_still}
-use Rattle.cdf_edits.proofs.Edits.FreedBytes.{behind_kept, behind_link}
-use Rattle.cdf_edits.proofs.Edits.RecordFrame.{kept_but_link, gdr_field}
+use Rattle.cdf_edits.proofs.Edits.FreedBytes.{behind_stays}
+use Rattle.cdf_edits.proofs.Edits.RecordFrame.{gdr_field, file_same, gdr_place}
 use Rattle.cdf_edits.proofs.Rules.WithoutLinks.{eof_by_rules}
 use Rattle.cdf_model.specs.AttributeSteps.{del_attr_step}
 use Rattle.cdf_edits.specs.Commands.Attributes.{attributes_gdr_fields, del_attr_changes}
 use Rattle.cdf_edits.proofs.Commands.Answered.{refused, gone_by_giving}
 use Rattle.cdf_edits.proofs.Commands.KeptRecords.{AllKeep-append}
-use Rattle.cdf_edits.proofs.Edits.OwnersKept.{stood, keeps_fields, keep_unused, keep_places, keep_file, keep_parts, all_keep, keeps_within}
+use Rattle.cdf_edits.proofs.Edits.OwnersKept.{stood, keeps_fields, keep_unused, keep_places, keep_file, keep_parts, all_keep, keeps_stays, keep_each}
 use Rattle.cdf_edits.proofs.Edits.VariableKinds.{attributes_counted}
-use Rattle.cdf_edits.proofs.Edits.VariableFrame.{variables_in, all_variables_kept}
-use Rattle.cdf_edits.proofs.Commands.ListParts.{got-middle, map-removed, removed-at, AtNumber, at_number}
+use Rattle.cdf_edits.proofs.Edits.VariableFrame.{variables_in, all_variables_kept, Each-apply}
+use Rattle.cdf_edits.proofs.Commands.ListParts.{got-middle, map-removed, removed-at, AtNumber, at_number, map-without}
 use Rattle.cdf_edits.proofs.Edits.ChainMembers.{IsAmong, members_chain}
 use Rattle.cdf_model.specs.declared.kinds.EntryKind.TheVariants as entries
 use Rattle.cdf_edits.proofs.Edits.ChainsOfShape.{IsOf, few_members, lists}
 use Rattle.cdf_model.specs.declared.answer.Reason.TheVariants as reasons
 use Rattle.cdf_model.specs.declared.answer.Reply.TheVariants as replies
 use Rattle.cdf_model.specs.declared.command.Command.TheVariants as commands
+use Rattle.cdf_edits.proofs.Edits.AttributeRemains.{AttributeLasts}
+use Rattle.cdf_format.proofs.NameRules.{absent-split, absent-append}
+use Rattle.cdf_edits.proofs.Edits.RowsOneLess.{AreNumbered, one_less}
+use Rattle.cdf_edits.proofs.Frame.OwnerAlone.{Each-in}
+use Rattle.cdf_edits.proofs.Edits.StaysBut.{StaysBut, stays_within, field_stays}
 
-leaving_tests : (gdr : ℕ) (members adrs entries : List ℕ) → LeavingTests Attrs gdr members (numbering_marks adrs entries) []
-leaving_tests gdr members adrs entries = record { head_later = omega arith; head_fits = omega arith; count_later = omega arith; count_fits = omega arith; count_width = refl; no_uir = λ e. absurd cc; no_gdr = λ e. absurd cc; in_gdr = λ b. refl; first_file = refl; early_file = refl; later_start = refl; later_head = refl; later_links = refl; last_start = refl; last_count = refl; all_start = refl; all_list = refl; all_uir = refl }
+-- where the entries of attributes stand
+abbrev entries_in : List AttributeShape → List ℕ
+entries_in as_ = flat_map (λ (a : AttributeShape). a.gr_entries ++ a.z_entries) as_
+
+abbrev adrs_in : List AttributeShape → List ℕ
+adrs_in as_ = map (λ (a : AttributeShape). a.adr) as_
+
+adrs_owned : (as_ : List AttributeShape) (m : ℕ) → In m (adrs_in as_) → In m (flat_map attribute_records as_)
+adrs_owned = place_in (λ (a : AttributeShape). a.adr) (λ (a : AttributeShape). a.gr_entries ++ a.z_entries)
+
+entries_owned : (as_ : List AttributeShape) (m : ℕ) → In m (entries_in as_) → In m (flat_map attribute_records as_)
+entries_owned = other_in (λ (a : AttributeShape). a.adr) (λ (a : AttributeShape). a.gr_entries ++ a.z_entries)
+
+-- the numbers of attributes, which their entries say
+abbrev numbers : ℕ → List AttributeShape → List Write
+numbers n as_ = numbering (λ (a : AttributeShape). a.adr) adr_num (λ (a : AttributeShape). a.gr_entries ++ a.z_entries) aedr_attr_num n as_
+
+as_numbers : (n : ℕ) (as_ : List AttributeShape) → numbers_from n as_ ≡ numbers n as_
+as_numbers n [] = refl
+as_numbers n (a ∷ more) = ap (λ (ws : List Write). write a.adr adr_num n ∷ map (λ entry. write entry aedr_attr_num n) (a.gr_entries ++ a.z_entries) ++ ws) (as_numbers (suc n) more)
+
+-- ---- lists of which one member goes
+
+-- names stay new where fewer came before
+seen_less : (before : List (List ℕ)) (old : List ℕ) (mid names : List (List ℕ)) → AreNew (before ++ old ∷ mid) names → AreNew (before ++ mid) names
+seen_less before old mid [] h = tt
+seen_less before old mid (x ∷ names) h =
+    let parts = absent-split x before (old ∷ mid) h.0 in
+    let next : AreNew (before ++ old ∷ (mid ++ x ∷ [])) names = subst (λ (z : List (List ℕ)). AreNew z names) (append_assoc before (old ∷ mid) (x ∷ [])) h.1 in
+    (absent-append x before mid parts.0 (absent-split x (old ∷ []) mid parts.1).1, subst (λ (z : List (List ℕ)). AreNew z names) (sym (append_assoc before mid (x ∷ []))) (seen_less before old (mid ++ x ∷ []) names next))
+
+-- and where one of them goes
+new_removed : (before front : List (List ℕ)) (old : List ℕ) (back : List (List ℕ)) → AreNew before (front ++ old ∷ back) → AreNew before (front ++ back)
+new_removed before [] old back h = subst (λ (z : List (List ℕ)). AreNew z back) (append-nil before) (seen_less before old [] back h.1)
+new_removed before (x ∷ front) old back h = (h.0, new_removed (before ++ x ∷ []) front old back h.1)
+
+leaving_tests : (gdr : ℕ) (members adrs entries : List ℕ) → LeavingTests Attrs adr_num aedr_attr_num gdr members (numbering_marks adrs entries) []
+leaving_tests gdr members adrs entries = record { num_later = omega arith; num_fits = omega arith; num_width = refl; said_width = refl; head_later = omega arith; head_fits = omega arith; count_later = omega arith; count_fits = omega arith; count_width = refl; no_uir = λ e. absurd cc; no_gdr = λ e. absurd cc; in_gdr = λ b. refl; first_file = refl; early_file = refl; later_start = refl; later_head = refl; later_links = refl; last_start = refl; last_count = refl; all_start = refl; all_list = refl; all_uir = refl }
 
 -- ---- the numbers that are written
 
-pub may_number : {b : List ℕ} {s : Shape} → IsSound b s → (n : ℕ) (as_ : List AttributeShape) → AreThere b s.records as_ → Each (MayWrite b s.records (numbering_marks (adrs_in as_) (entries_in as_))) (numbers n as_)
-may_number {b = b} {s = s} sound n as_ there = each_numbered (λ (a : AttributeShape). a.adr) adr_num (λ (a : AttributeShape). a.gr_entries ++ a.z_entries) aedr_attr_num (MayWrite b s.records marks) n (n + length as_) as_ (omega arith)
-    (λ m k i l. may_linked sound marks adr_type m adr_num k (adr as_ there m i) (λ e. absurd cc) (omega arith) (omega arith) (λ t. inl (record { typed = t; lies = i; low = omega arith; high = omega arith })))
-    (λ m k i l. elim (entry as_ there m i) [
-      | inl ok ↦ may_linked sound marks agr_edr_type m aedr_attr_num k ok (λ e. absurd cc) (omega arith) (omega arith) (λ t. inr (inl (record { typed = t; lies = i; low = omega arith; high = omega arith })))
-      | inr ok ↦ may_linked sound marks az_edr_type m aedr_attr_num k ok (λ e. absurd cc) (omega arith) (omega arith) (λ t. inr (inr (inl (record { typed = t; lies = i; low = omega arith; high = omega arith }))))
-    ])
+-- one more number of an attribute is written in its entries
+may_say : {b : List ℕ} {s : Shape} → IsSound b s → (as_ : List AttributeShape) → AreThere b s.records as_ → (m n : ℕ) → In m (entries_in as_) → MayWrite b s.records (numbering_marks (adrs_in as_) (entries_in as_)) (write m aedr_attr_num n)
+may_say {b = b} {s = s} sound as_ there m n i = elim (entry as_ there i) [
+  | inl ok ↦ may_linked sound marks agr_edr_type m aedr_attr_num n ok (λ e. absurd cc) (omega arith) (omega arith) (λ t. inr (inl (record { typed = t; lies = i; low = omega arith; high = omega arith })))
+  | inr ok ↦ may_linked sound marks az_edr_type m aedr_attr_num n ok (λ e. absurd cc) (omega arith) (omega arith) (λ t. inr (inr (inl (record { typed = t; lies = i; low = omega arith; high = omega arith }))))
+]
   where
     marks : List Mark
     marks = numbering_marks (adrs_in as_) (entries_in as_)
 
-    adr : (as_ : List AttributeShape) → AreThere b s.records as_ → (m : ℕ) → In m (adrs_in as_) → is_linkable b s.records adr_type m ≡ true
-    adr [] there m i = absurd i
-    adr (a ∷ more) there m (inl e) = subst (λ (x : ℕ). is_linkable b s.records adr_type x ≡ true) (sym e) there.linked.0
-    adr (a ∷ more) there m (inr i) = adr more (more_there b s.records a more there) m i
-
-    entry : (as_ : List AttributeShape) → AreThere b s.records as_ → (m : ℕ) → In m (entries_in as_) → (is_linkable b s.records agr_edr_type m ≡ true) ⊎ (is_linkable b s.records az_edr_type m ≡ true)
-    entry [] there m i = absurd i
-    entry (a ∷ more) there m i = elim (In-append m (a.gr_entries ++ a.z_entries) (entries_in more) i) [
+    entry : (as_ : List AttributeShape) → AreThere b s.records as_ → In m (entries_in as_) → (is_linkable b s.records agr_edr_type m ≡ true) ⊎ (is_linkable b s.records az_edr_type m ≡ true)
+    entry [] there i = absurd i
+    entry (a ∷ more) there i = elim (In-append m (a.gr_entries ++ a.z_entries) (entries_in more) i) [
       | inl j ↦ elim (In-append m a.gr_entries a.z_entries j) [ inl k ↦ inl (there.have.0.gr_chain.linkable m k) | inr k ↦ inr (there.have.0.z_chain.linkable m k) ]
-      | inr j ↦ entry more (more_there b s.records a more there) m j
+      | inr j ↦ entry more (more_there b s.records a more there) j
     ]
+
+-- ---- the others
+
+-- an edit that takes one attribute away, numbers those behind it and frees records of it
+record Removes (b now : List ℕ) (s : Shape) (before : List AttributeShape) (own : AttributeShape) (after : List AttributeShape) (places : List ℕ) (limit : ℕ) : Type 0 where
+  pub edit : Edit b now s.records s.records (deleting_marks s.gdr (adrs_in s.attributes) (adrs_in after) (entries_in after) s.unused places limit) places
+  pub was : s.attributes ≡ before ++ own ∷ after
+  pub mine : (m : ℕ) → In m places → In m (attribute_records own)
+
+module _ {b now : List ℕ} {s : Shape} {before : List AttributeShape} {own : AttributeShape} {after : List AttributeShape} {places : List ℕ} {limit : ℕ} (sound : IsSound b s) (r : Removes b now s before own after places limit) where
+  abbrev marks : List Mark
+  marks = deleting_marks s.gdr (adrs_in s.attributes) (adrs_in after) (entries_in after) s.unused places limit
+
+  -- an ADR and an entry that are not freed stay but for the link to the next one, and the number of those behind
+  adr_stays : (m : ℕ) (fields : List Field) → In m s.records → type_at b m ≡ adr_type → (In m places → ⊥) → (In m (adrs_in after) → fields ≡ adr_num ∷ []) → StaysBut b now m (next_field ∷ fields)
+  adr_stays m fields i is out num = stays_within r.edit m adr_type (next_field ∷ fields) i is
+      (avoids-of_type marks adr_type m 0 12 ((λ same lies. inl (omega arith)), ((λ same lies. inl (omega arith)), ((λ same lies. absurd (out lies)), tt))))
+      (within-of_type marks adr_type m (next_field ∷ fields) ((λ same lies. refl), ((λ same lies. rw (num lies) refl), ((λ same lies. absurd (out lies)), tt))))
+
+  entry_stays : (m : ℕ) (fields : List Field) → In m s.records → is_in (type_at b m) (agr_edr_type ∷ az_edr_type ∷ []) ≡ true → (In m places → ⊥) → (In m (entries_in after) → fields ≡ aedr_attr_num ∷ []) → StaysBut b now m fields
+  entry_stays m fields i typed out num = Each-in (λ (t : ℕ). type_at b m ≡ t → StaysBut b now m fields) (agr_edr_type ∷ az_edr_type ∷ []) (
+    (λ is. stays_within r.edit m agr_edr_type fields i is (avoids-of_type marks agr_edr_type m 0 12 ((λ same lies. inl (omega arith)), ((λ same lies. absurd (out lies)), tt))) (within-of_type marks agr_edr_type m fields ((λ same lies. rw (num lies) refl), ((λ same lies. absurd (out lies)), tt)))),
+    ((λ is. stays_within r.edit m az_edr_type fields i is (avoids-of_type marks az_edr_type m 0 12 ((λ same lies. inl (omega arith)), ((λ same lies. absurd (out lies)), tt))) (within-of_type marks az_edr_type m fields ((λ same lies. rw (num lies) refl), ((λ same lies. absurd (out lies)), tt)))), tt),
+  ) (type_at b m) (true-is_in (type_at b m) (agr_edr_type ∷ az_edr_type ∷ []) typed) refl
+
+  there : AreThere b s.records before × (AreThere b s.records (own ∷ []) × AreThere b s.records after)
+  there = parts_there b s sound before (own ∷ []) after r.was
+
+  gone_before : (m : ℕ) → In m (flat_map attribute_records before) → In m places → ⊥
+  gone_before m i j = (only_owns b s sound before own after r.was m (r.mine m j)).in_before i
+
+  gone_after : (m : ℕ) → In m (flat_map attribute_records after) → In m places → ⊥
+  gone_after m i j = (only_owns b s sound before own after r.was m (r.mine m j)).in_after i
+
+  -- no record is of an attribute before it and of one behind it
+  apart : (m : ℕ) → In m (flat_map attribute_records before) → In m (flat_map attribute_records after) → ⊥
+  apart m i j = twice (times m (flat_map attribute_records before)) (times m (attribute_records own)) (times m (flat_map attribute_records after)) (parts_once b s sound before own after r.was m) (times-in m (flat_map attribute_records before) i) (times-in m (flat_map attribute_records after) j)
+    where
+      twice : (x o y : ℕ) → x + (o + y) ≤ 1 → 1 ≤ x → 1 ≤ y → ⊥
+      twice x o y l p q = omega arith
+
+  one_lasts : (a : AttributeShape) → AreThere b s.records (a ∷ []) → ((m : ℕ) → In m (attribute_records a) → In m places → ⊥) → ((m : ℕ) → In m (a.gr_entries ++ a.z_entries) → number b m aedr_attr_num ≡ number b a.adr adr_num → number now m aedr_attr_num ≡ number now a.adr adr_num) → AttributeLasts b now a
+  one_lasts a t out says = record {
+    adr = adr_stays a.adr (adr_num ∷ []) (linkable-in b s.records adr_type a.adr t.linked.0) (linkable-type b s.records adr_type a.adr t.linked.0) (out a.adr (inl refl)) (λ i. refl);
+    entries = λ m i. let x = entry sound r.edit a t.have.0 m i in entry_stays m (aedr_attr_num ∷ []) x.0 x.1 (out m (inr i)) (λ j. refl);
+    numbered = says;
+  }
+
+  -- those before it have their numbers
+  nums_before : (m : ℕ) → In m (adrs_in before) → number now m adr_num ≡ number b m adr_num
+  nums_before m i =
+      let mine = adrs_owned before m i in
+      let ok = sound.has_shape.attribute_chain.linkable m (subst (λ (as_ : List AttributeShape). In m (adrs_in as_)) (sym r.was) (subst (In m) (sym (map-append (λ (a : AttributeShape). a.adr) before (own ∷ after))) (In-append_left m (adrs_in before) (own.adr ∷ adrs_in after) i))) in
+      let long = fixed_long b s sound.has_shape adr_type m (linkable-in b s.records adr_type m ok) (linkable-type b s.records adr_type m ok) in
+      field_stays (adr_stays m [] (linkable-in b s.records adr_type m ok) (linkable-type b s.records adr_type m ok) (gone_before m mine) (λ j. absurd (apart m mine (adrs_owned after m j)))) adr_num (omega arith) (λ n p q. (inr (omega arith), tt))
+
+  before_last : Each (AttributeLasts b now) before
+  before_last = each_there b s.records (AttributeLasts b now) before there.0 (λ a t at sub. one_lasts a t (λ m i. gone_before m (sub m i)) (λ m i was.
+      let x = entry sound r.edit a t.have.0 m i in
+      let long = entry_long sound r.edit a t.have.0 m i in
+      let mine = sub m (inr i) in
+      field_stays (entry_stays m [] x.0 x.1 (gone_before m mine) (λ j. absurd (apart m mine (entries_owned after m j)))) aedr_attr_num (omega arith) (λ n p q. tt) ∙ was ∙ sym (nums_before a.adr at)))
+
+  after_last : Each (Says now) (numbers (length before) after) → Each (AttributeLasts b now) after
+  after_last says = Each-apply (λ a. (m : ℕ) → In m (a.gr_entries ++ a.z_entries) → number now m aedr_attr_num ≡ number now a.adr adr_num) (AttributeLasts b now) after
+      (each_there b s.records (λ a. ((m : ℕ) → In m (a.gr_entries ++ a.z_entries) → number now m aedr_attr_num ≡ number now a.adr adr_num) → AttributeLasts b now a) after there.1.1 (λ a t at sub say. one_lasts a t (λ m i. gone_after m (sub m i)) (λ m i was. say m i)))
+      (others_say (λ (a : AttributeShape). a.adr) adr_num (λ (a : AttributeShape). a.gr_entries ++ a.z_entries) aedr_attr_num now (length before) after says)
+
+  -- ---- the image without it
+
+  abbrev without_one : List ℕ → Shape
+  without_one list = spliced s s.records list (before ++ after)
+
+  -- what the image says of it
+  record SaysRemoved (list : List ℕ) : Type 0 where
+    pub numbered : Each (Says now) (numbers (length before) after)
+    pub attribute_chain : IsChain now s.records adr_type (number now s.gdr gdr_adr_head) (adrs_in (before ++ after))
+    pub unused_chain : IsChain now s.records uir_type (number now s.gdr gdr_uir_head) list
+    pub freed : (m : ℕ) → In m places → type_at now m ≡ uir_type
+
+  -- nobody has its records
+  left_by : (list : List ℕ) → Left b s (without_one list) (attribute_records own)
+  left_by list = left_of attribute_records sound own (λ m. spliced_times s s.records list before (own ∷ []) [] after r.was m 0 (times m (flat_map attribute_records (own ∷ []))) (omega arith))
+
+  splices : {list : List ℕ} → SaysRemoved list → Splices b now s s.records list marks places before (own ∷ []) [] after
+  splices says =
+      let file = file_same sound r.edit refl in
+      record {
+        edit = r.edit;
+        was = r.was;
+        file_clear = refl;
+        variables_clear = refl;
+        before_remain = attributes_last sound r.edit file before there.0 before_last;
+        after_remain = attributes_last sound r.edit file after there.1.1 (after_last says.numbered);
+        typed = λ m i. unused_real now s.records m r.edit.tiled_now (r.edit.sub m (own_in b s sound before own after r.was m (r.mine m i))) (says.freed m i);
+        attribute_chain = says.attribute_chain;
+        unused_chain = says.unused_chain;
+        own_entries = tt;
+      }
 
 -- ---- the steps
 
@@ -69,28 +202,25 @@ module _ {b mid : List ℕ} {s : Shape} {before : List AttributeShape} {own : At
   h : HasShape b s
   h = sound.has_shape
 
-  pub own_there : AreThere b s.records (own ∷ [])
+  own_there : AreThere b s.records (own ∷ [])
   own_there = (parts_there b s sound before (own ∷ []) after u.was).1.0
 
-  pub leaves : LeavesChain b mid mid s Attrs (adrs s) (adrs_in before) own.adr (adrs_in after) (numbering_marks (adrs_in after) (entries_in after)) [] (length before + length after) (numbers (length before) after) []
+  leaves : LeavesChain (λ (a : AttributeShape). a.adr) adr_num (λ (a : AttributeShape). a.gr_entries ++ a.z_entries) aedr_attr_num b mid mid s Attrs s.attributes before own after (numbering_marks (adrs_in after) (entries_in after)) [] []
   leaves = record {
     sound = sound;
-    were = ap adrs_in u.was ∙ map-append (λ (a : AttributeShape). a.adr) before (own ∷ after);
+    was = u.was;
     is_of = record { holder_is = h.gdr_is; chain = h.attribute_chain };
     tests = leaving_tests s.gdr (adrs s) (adrs_in after) (entries_in after);
     first = u.first;
     removed = u.removed;
     numbered = u.written ∙ ap (λ (ws : List Write). with_writes u.first (write s.gdr gdr_num_attr (length before + length after) ∷ ws)) (as_numbers (length before) after);
     written = refl;
-    may = may_number sound (length before) after (parts_there b s sound before (own ∷ []) after u.was).1.1;
+    covered = λ m i t. inl (record { typed = t; lies = i; low = omega arith; high = omega arith });
+    may_others = may_say sound after (parts_there b s sound before (own ∷ []) after u.was).1.1;
     may_last = tt;
     lasts_in = λ m none. absurd none;
-    once = (
-      (λ i. only_gdr (subst (In s.gdr) (tiles_numbered (λ (a : AttributeShape). a.adr) adr_num (λ (a : AttributeShape). a.gr_entries ++ a.z_entries) aedr_attr_num (length before) after) i)),
-      subst Distinct (sym (tiles_numbered (λ (a : AttributeShape). a.adr) adr_num (λ (a : AttributeShape). a.gr_entries ++ a.z_entries) aedr_attr_num (length before) after)) (distinct_if (flat_map attribute_records after) (λ m. back (times m (flat_map attribute_records before)) (times m (attribute_records own)) (times m (flat_map attribute_records after)) (parts_once b s sound before own after u.was m))),
-    );
+    once = (only_gdr, distinct_if (flat_map attribute_records after) (λ m. back (times m (flat_map attribute_records before)) (times m (attribute_records own)) (times m (flat_map attribute_records after)) (parts_once b s sound before own after u.was m)));
     few = u.few;
-    small = small_numbers (λ (a : AttributeShape). a.adr) adr_num (λ (a : AttributeShape). a.gr_entries ++ a.z_entries) aedr_attr_num (length before) after refl refl u.few;
   }
     where
       only_gdr : In s.gdr (flat_map attribute_records after) → ⊥
@@ -99,10 +229,10 @@ module _ {b mid : List ℕ} {s : Shape} {before : List AttributeShape} {own : At
       back : (x o y : ℕ) → x + (o + y) ≤ 1 → y ≤ 1
       back x o y l = omega arith
 
-  pub unlinked_edit : Edit b mid s.records s.records (unlinking_marks s.gdr (adrs_in s.attributes) (adrs_in after) (entries_in after)) []
+  unlinked_edit : Edit b mid s.records s.records (unlinking_marks s.gdr (adrs_in s.attributes) (adrs_in after) (entries_in after)) []
   unlinked_edit = left_edit leaves
 
-  pub unlinks_removes : Removes b mid s before own after [] 0
+  unlinks_removes : Removes b mid s before own after [] 0
   unlinks_removes = record {
     edit = edit_under unlinked_edit (deleting_marks s.gdr (adrs_in s.attributes) (adrs_in after) (entries_in after) s.unused [] 0) (λ m type lo hi i is a. (Avoids-split (unlinking_marks s.gdr (adrs_in s.attributes) (adrs_in after) (entries_in after)) (freeing_marks attribute_types s.unused [] 0) type m lo hi a).0);
     was = u.was;
@@ -111,24 +241,24 @@ module _ {b mid : List ℕ} {s : Shape} {before : List AttributeShape} {own : At
 
   -- ---- the image is sound, and no one has the records of the attribute
 
-  abbrev pub left_shape : Shape
+  abbrev left_shape : Shape
   left_shape = without_one sound unlinks_removes s.unused
 
   unlinked_sound : IsSound mid left_shape
-  unlinked_sound = removed_sound sound unlinks_removes (record { numbered = said_now leaves; attribute_chain = subst (IsChain mid s.records adr_type (number mid s.gdr gdr_adr_head)) (sym (map-append (λ (a : AttributeShape). a.adr) before after)) (chain_now leaves); unused_chain = list_now leaves; freed = λ m i. absurd i })
+  unlinked_sound = sound_if sound (splices sound unlinks_removes (record { numbered = said_now leaves; attribute_chain = chain_now leaves; unused_chain = list_now leaves; freed = λ m i. absurd i })) tt
       (not_twice (left_by sound unlinks_removes s.unused) unlinked_edit)
 
-  pub unlinked_shape : shape mid ≡ left_shape
+  unlinked_shape : shape mid ≡ left_shape
   unlinked_shape = shape_is mid left_shape unlinked_sound.has_shape
 
-  pub mid_sound : IsSound mid (shape mid)
+  mid_sound : IsSound mid (shape mid)
   mid_sound = subst (IsSound mid) (sym unlinked_shape) unlinked_sound
 
-  pub own_mine : (m : ℕ) → In m (own.gr_entries ++ own.z_entries ++ own.adr ∷ []) → In m (attribute_records own)
+  own_mine : (m : ℕ) → In m (own.gr_entries ++ own.z_entries ++ own.adr ∷ []) → In m (attribute_records own)
   own_mine m i = elim (In-append m (own.gr_entries ++ own.z_entries) (own.adr ∷ []) i) [ inl j ↦ inr j | inr j ↦ elim j [ inl e ↦ inl e | inr none ↦ absurd none ] ]
 
   -- its records can be freed
-  pub own_free : AreFree mid (own.gr_entries ++ own.z_entries ++ own.adr ∷ [])
+  own_free : AreFree mid (own.gr_entries ++ own.z_entries ++ own.adr ∷ [])
   own_free =
       let left = left_by sound unlinks_removes s.unused in
       can_be_freed left unlinked_edit unlinked_shape (own_in b s sound before own after u.was) (own.gr_entries ++ own.z_entries ++ own.adr ∷ []) own_mine (Distinct-push (own.gr_entries ++ own.z_entries) own.adr (mine_once left).1 (mine_once left).0)
@@ -137,18 +267,14 @@ module _ {b now : List ℕ} {n : ℕ} (good : Good b) (d : Deletes b now n) wher
   abbrev s : Shape
   s = shape b
 
-  pub sound : IsSound b s
+  sound : IsSound b s
   sound = good_is_sound b good
 
-  abbrev pub places : List ℕ
+  abbrev places : List ℕ
   places = d.own.gr_entries ++ d.own.z_entries ++ d.own.adr ∷ []
 
-  pub mine : (m : ℕ) → In m places → In m (attribute_records d.own)
+  mine : (m : ℕ) → In m places → In m (attribute_records d.own)
   mine = own_mine sound d.unlinks
-
-  all_mine : (m : ℕ) → In m (attribute_records d.own) → In m places
-  all_mine m (inl e) = In-append_right m (d.own.gr_entries ++ d.own.z_entries) (d.own.adr ∷ []) (inl e)
-  all_mine m (inr i) = In-append_left m (d.own.gr_entries ++ d.own.z_entries) (d.own.adr ∷ []) i
 
   frees : Frees b d.mid now (unlinking_marks s.gdr (adrs_in s.attributes) (adrs_in d.after) (entries_in d.after)) attribute_types places
   frees = record {
@@ -164,68 +290,82 @@ module _ {b now : List ℕ} {n : ℕ} (good : Good b) (d : Deletes b now n) wher
     given = d.given;
   }
 
-  pub removes : Removes b now s d.before d.own d.after places (length d.mid)
+  removes : Removes b now s d.before d.own d.after places (length d.mid)
   removes = record { edit = freed_edit frees; was = d.unlinks.was; mine = mine }
 
-  pub shape_after : shape now ≡ without_one sound removes (shape now).unused
+  shape_after : shape now ≡ without_one sound removes (shape now).unused
   shape_after = shape_now frees (unlinked_shape sound d.unlinks)
 
-  pub records_are : (shape now).records ≡ s.records
-  records_are = freed_records frees
-
-  pub long_now : length now ≡ length b
-  long_now = freed_long frees
-
-  -- a record of the attributes behind it is none of those that are freed
-  behind_apart : (m : ℕ) → In m (flat_map attribute_records d.after) → (is_in (type_at d.mid m) attribute_types ≡ true) × (In m places → ⊥)
-  behind_apart m i = (
-    ap (λ (t : ℕ). is_in t attribute_types) (freed_types frees m (back_in b s sound d.before d.own d.after d.unlinks.was m i)) ∙ attribute_typed b s.records d.after (parts_there b s sound d.before (d.own ∷ []) d.after d.unlinks.was).1.1 m i,
-    (λ j. (only_owns b s sound d.before d.own d.after d.unlinks.was m (mine m j)).in_after i),
-  )
-
-  pub says : SaysRemoved sound removes (shape now).unused
+  says : SaysRemoved sound removes (shape now).unused
   says = record {
-    numbered = says_still frees _ _ (may_now (leaves sound d.unlinks)) (λ m i. behind_apart m (subst (In m) (tiles_numbered (λ (a : AttributeShape). a.adr) adr_num (λ (a : AttributeShape). a.gr_entries ++ a.z_entries) aedr_attr_num (length d.before) d.after) i)) (said_now (leaves sound d.unlinks));
+    numbered = says_still frees _ _ (may_now (leaves sound d.unlinks)) (λ m i.
+        let j = subst (In m) (tiles_numbered (λ (a : AttributeShape). a.adr) adr_num (λ (a : AttributeShape). a.gr_entries ++ a.z_entries) aedr_attr_num (length d.before) d.after) i in
+        (ap (λ (t : ℕ). is_in t attribute_types) (freed_types frees m (back_in b s sound d.before d.own d.after d.unlinks.was m j)) ∙ attribute_typed b s.records d.after (there sound removes).1.1 m j, gone_after sound removes m j)) (said_now (leaves sound d.unlinks));
     attribute_chain = subst (λ (x : Shape). IsChain now x.records adr_type (number now x.gdr gdr_adr_head) (adrs x)) shape_after (sound_now frees).has_shape.attribute_chain;
     unused_chain = subst (λ (x : Shape). IsChain now x.records uir_type (number now x.gdr gdr_uir_head) x.unused) shape_after (sound_now frees).has_shape.unused_chain;
     freed = all_freed frees;
   }
 
-  pub content_after : content now ≡ record (content b) { attributes = remove (content b).attributes n }
-  content_after = content_removed sound removes says ∙ ap (λ (k : ℕ). record (content b) { attributes = remove (content b).attributes k }) d.count
+  whole : Splices b now s s.records (shape now).unused (marks sound removes) places d.before (d.own ∷ []) [] d.after
+  whole = splices sound removes says
 
-  count_now : number now s.gdr gdr_num_attr ≡ length (adrs_in (d.before ++ d.after))
-  count_now = gdr_still frees gdr_num_attr (omega arith) ∙ counted_now (leaves sound d.unlinks) ∙ sym (length-map (d.before ++ d.after) (λ (a : AttributeShape). a.adr) ∙ length-append d.before d.after)
+  content_after : content now ≡ record (content b) { attributes = remove (content b).attributes n }
+  content_after =
+      let split = ap (λ (x : DataSet). remove x.attributes (length d.before)) (content_is b s sound.has_shape) ∙ map-without (attribute_of b) s.attributes d.before d.own d.after d.unlinks.was in
+      content_now sound whole ∙ ap (λ (as_ : List Attribute). record (content b) { attributes = as_ }) (sym split ∙ ap (remove (content b).attributes) d.count)
 
-  pub good_after : length b ≤ image_limit → Good now
+  -- ---- the rules
+
+  counted : Hold (adrs_rows now (adrs_in (d.before ++ d.after)))
+  counted =
+      let f = λ (a : AttributeShape). a.adr in
+      let numbered = subst (λ (n : ℕ). AreNumbered now adr_num n (adrs_in d.after)) (sym (length-map d.before f)) (are_numbered (λ (a : AttributeShape). a.adr) adr_num (λ (a : AttributeShape). a.gr_entries ++ a.z_entries) aedr_attr_num now (length d.before) d.after says.numbered) in
+      let numbers = one_less 4 adr_num b now (adrs_in d.before) d.own.adr (adrs_in d.after) (nums_before sound removes) numbered (subst (λ (ms : List ℕ). Hold (number_rows 4 b adr_num 0 ms)) (ap adrs_in d.unlinks.was ∙ map-append f d.before (d.own ∷ d.after)) (attributes_counted (good_by_its_shape b good)).1) in
+      let count = ap (λ (g : ℕ). number now g gdr_num_attr) (gdr_place sound removes.edit refl) ∙ gdr_still frees gdr_num_attr (omega arith) ∙ counted_now (leaves sound d.unlinks) in
+      (eq-eqb _ _ count, subst (λ (ms : List ℕ). Hold (number_rows 4 now adr_num 0 ms)) (sym (map-append f d.before d.after)) numbers)
+
+  differ : Hold (differ_rows 2 (same_name now adr_name) [] (adrs_in (d.before ++ d.after)))
+  differ =
+      let p = (Hold-split (flat_map (attribute_shape_rows b) s.attributes) (differ_rows 2 (same_name b adr_name) [] (adrs s)) (good_by_its_shape b good).attributes).1 in
+      let f = λ (a : AttributeShape). a.adr in
+      let names = λ (x : List ℕ). names_at x adr_name in
+      let old : names b (adrs s) ≡ names b (adrs_in d.before) ++ name_in b d.own.adr adr_name ∷ names b (adrs_in d.after) = ap (λ (as_ : List AttributeShape). names b (adrs_in as_)) d.unlinks.was ∙ ap (names b) (map-append f d.before (d.own ∷ d.after)) ∙ map-append (λ (m : ℕ). name_in b m adr_name) (adrs_in d.before) (d.own.adr ∷ adrs_in d.after) in
+      let x = remaining_names b now s.records d.before whole.before_remain in
+      let y = remaining_names b now s.records d.after whole.after_remain in
+      let new : names now (adrs_in (d.before ++ d.after)) ≡ names b (adrs_in d.before) ++ names b (adrs_in d.after) = ap (names now) (map-append f d.before d.after) ∙ map-append (λ (m : ℕ). name_in now m adr_name) (adrs_in d.before) (adrs_in d.after) ∙ (λ i. x i ++ y i) in
+      differ_by_names 2 now adr_name _ (subst (AreNew []) (sym new) (new_removed [] (names b (adrs_in d.before)) (name_in b d.own.adr adr_name) (names b (adrs_in d.after)) (subst (AreNew []) old (names_differ 2 b adr_name (adrs s) p))))
+
+  good_after : length b ≤ image_limit → Good now
   good_after short =
       let image = good_by_its_shape b good in
       let first = (sealed_kept b (good_long b s image) (rules_of_good b good)).0 in
-      let end = gdr_field sound removes.edit refl gdr_eof refl (omega arith) ∙ eof_by_rules b s sound first ∙ sym long_now in
-      removed_good sound removes says first image all_mine count_now end (let l = long_now in omega arith)
+      let end = gdr_field sound removes.edit refl gdr_eof refl (omega arith) ∙ eof_by_rules b s sound first ∙ sym (freed_long frees) in
+      good_image_if sound whole first image (record {
+        counted = counted;
+        own_rules = tt;
+        differ = differ;
+        read = λ m i. subst (λ (t : ℕ). is_in t read_types ≡ true) (sym (says.freed m i)) refl;
+        owned = owned_left (left_by sound removes (shape now).unused) image.owned_once removes.edit mine all_mine says.freed;
+      }) end (let l = freed_long frees in omega arith)
+    where
+      all_mine : (m : ℕ) → In m (attribute_records d.own) → In m places
+      all_mine m (inl e) = In-append_right m (d.own.gr_entries ++ d.own.z_entries) (d.own.adr ∷ []) (inl e)
+      all_mine m (inr i) = In-append_left m (d.own.gr_entries ++ d.own.z_entries) (d.own.adr ∷ []) i
 
   -- ---- its space
-
-  pub acts_after : ActsFollow b now (gave b places)
-  acts_after = freed_acts frees refl
 
   -- before they are freed, its records stay but for a link
   own_behind : (m : ℕ) → In m (attribute_records d.own) → Same b d.mid (m + links_end (size_at b m)) (m + size_at b m)
   own_behind m (inl e) =
-      let r = unlinks_removes sound d.unlinks in
       let ok = (own_there sound d.unlinks).linked.0 in
-      let out : In d.own.adr (adrs_in d.after) → ⊥ = λ j. (only_owns b s sound d.before d.own d.after d.unlinks.was d.own.adr (inl refl)).in_after (adrs_owned d.after d.own.adr j) in
+      let out = λ (j : In d.own.adr (adrs_in d.after)). absurd ((only_owns b s sound d.before d.own d.after d.unlinks.was d.own.adr (inl refl)).in_after (adrs_owned d.after d.own.adr j)) in
       subst (λ (x : ℕ). Same b d.mid (x + links_end (size_at b x)) (x + size_at b x)) (sym e)
-      (behind_link (kept_but_link r.edit d.own.adr adr_type (linkable-in b s.records adr_type d.own.adr ok) (linkable-type b s.records adr_type d.own.adr ok) (adr_avoids sound r d.own.adr 0 12 (λ x. x) (inl (omega arith)) (λ j. absurd (out j))) (adr_avoids sound r d.own.adr 20 (size_at b d.own.adr) (λ x. x) (inr (omega arith)) (λ j. absurd (out j)))) (linkable-long b s.records adr_type d.own.adr ok))
+      (behind_stays (adr_stays sound (unlinks_removes sound d.unlinks) d.own.adr [] (linkable-in b s.records adr_type d.own.adr ok) (linkable-type b s.records adr_type d.own.adr ok) (λ x. x) out) (linkable-long b s.records adr_type d.own.adr ok) (λ i l. (inr (omega arith), tt)))
   own_behind m (inr i) =
       let r = unlinks_removes sound d.unlinks in
-      let there = own_there sound d.unlinks in
-      let out : In m (entries_in d.after) → ⊥ = λ j. (only_owns b s sound d.before d.own d.after d.unlinks.was m (inr i)).in_after (entries_owned d.after m j) in
-      let l = tile_lies b 8 (length b) s.records m sound.has_shape.tiled (entry sound r.edit d.own there.have.0 m i).0 in
-      behind_kept (record { same = Same-part b d.mid (m + 0) (m + size_at b m) m (m + size_at b m) (r.edit.part m (type_at b m) 0 (size_at b m) (entry sound r.edit d.own there.have.0 m i).0 refl (entry_avoids sound r d.own there m 0 12 i (λ x. x) (λ j. absurd (out j))) (entry_avoids sound r d.own there m 0 (size_at b m) i (λ x. x) (λ j. absurd (out j))) (omega arith)) (omega arith) (omega arith); inside = l.high; long = l.long })
-
-  pub freed_after : FreedStay b now no_fields (gave b places)
-  freed_after = freed_bytes frees (λ m i. own_behind m (mine m i))
+      let has = (own_there sound d.unlinks).have.0 in
+      let x = entry sound r.edit d.own has m i in
+      behind_stays (entry_stays sound r m [] x.0 x.1 (λ j. j) (λ j. absurd ((only_owns b s sound d.before d.own d.after d.unlinks.was m (inr i)).in_after (entries_owned d.after m j)))) (entry_long sound r.edit d.own has m i) (λ n l. tt)
 
 -- ---- what the command may change
 
@@ -241,33 +381,19 @@ module _ {b now : List ℕ} {n : ℕ} (good : Good b) (d : Deletes b now n) (nam
   abbrev acts : List Act
   acts = gave b (places good d)
 
-  abbrev marks : List Mark
-  marks = deleting_marks (shape b).gdr (adrs_in (shape b).attributes) (adrs_in d.after) (entries_in d.after) (shape b).unused (places good d) (length d.mid)
-
   abbrev branch : Bool → Allowance
   branch p = if p then Only (next_field ∷ adr_num ∷ []) else Only (aedr_attr_num ∷ [])
 
   -- a record of an attribute that is not freed
-  one_keeps : (k : ℕ) (a : AttributeShape) → AreThere b (shape b).records (a ∷ []) → (m : ℕ) → In m (attribute_records a) → (In m (places good d) → ⊥) → Keeps b now m (may.attributes k m)
-  one_keeps k a there m (inl e) away =
-      let ok = there.linked.0 in
-      let typed : type_at b m ≡ adr_type = ap (type_at b) e ∙ linkable-type b (shape b).records adr_type a.adr ok in
-      let inside : In m (shape b).records = subst (λ (x : ℕ). In x (shape b).records) (sym e) (linkable-in b (shape b).records adr_type a.adr ok) in
-      let heads = adr_avoids (sound good d) (removes good d) m 0 12 away (inl (omega arith)) (λ x. inl (omega arith)) in
-      let kept = keeps_within (sound good d) (removes good d).edit (records_are good d) m adr_type (next_field ∷ adr_num ∷ []) inside typed heads (within-of_type marks adr_type m (next_field ∷ adr_num ∷ []) ((λ same lies. refl), ((λ same lies. refl), ((λ same lies. absurd (away lies)), tt)))) in
-      either_keeps b now (is_attribute (content b) name k) m _ (subst (λ (p : Bool). Keeps b now m (branch p)) (sym (eq-eqb (type_at b m) adr_type typed)) kept)
-  one_keeps k a there m (inr i) away =
-      let inside = (entry (sound good d) (removes good d).edit a there.have.0 m i).0 in
-      let heads = entry_avoids (sound good d) (removes good d) a there m 0 12 i away (λ x. inl (omega arith)) in
-      let x : ((type_at b m == adr_type) ≡ false) × Within marks (type_at b m) m (aedr_attr_num ∷ []) = entry_typed (sound good d) (removes good d) (λ (t : ℕ). ((t == adr_type) ≡ false) × Within marks t m (aedr_attr_num ∷ [])) a there m i
-      (refl, within-of_type marks agr_edr_type m (aedr_attr_num ∷ []) ((λ same lies. refl), ((λ same lies. absurd (away lies)), tt))) (refl, within-of_type marks az_edr_type m (aedr_attr_num ∷ []) ((λ same lies. refl), ((λ same lies. absurd (away lies)), tt))) in
-      either_keeps b now (is_attribute (content b) name k) m _ (subst (λ (p : Bool). Keeps b now m (branch p)) (sym x.0) (keeps_within (sound good d) (removes good d).edit (records_are good d) m (type_at b m) (aedr_attr_num ∷ []) inside refl heads x.1))
-
-  all_keep_beside : (k : ℕ) (as_ : List AttributeShape) → AreThere b (shape b).records as_ → ((m : ℕ) → In m (flat_map attribute_records as_) → In m (places good d) → ⊥) → AllKeep b now may acts (owned_by_attributes k as_)
-  all_keep_beside k [] there away = tt
-  all_keep_beside k (a ∷ more) there away = AllKeep-append b now may acts (owned_by (OneAttribute k) (attribute_records a)) (owned_by_attributes (suc k) more)
-      (keep_places b now may acts (OneAttribute k) (attribute_records a) (λ m i. one_keeps k a (record { linked = (there.linked.0, tt); have = (there.have.0, tt); fit = (there.fit.0, tt) }) m i (away m (In-append_left m (attribute_records a) (flat_map attribute_records more) i))))
-      (all_keep_beside (suc k) more (more_there b (shape b).records a more there) (λ m i. away m (In-append_right m (attribute_records a) (flat_map attribute_records more) i)))
+  one_keeps : (k m : ℕ) → In m (shape b).records → is_in (type_at b m) attribute_types ≡ true → (In m (places good d) → ⊥) → Keeps b now m (may.attributes k m)
+  one_keeps k m i typed away =
+      let head = (removes good d).edit.head m i (λ u. (let no = sym (ap (λ (t : ℕ). is_in t attribute_types) u) ∙ typed in absurd cc)) away in
+      let stays = λ (fields : List Field). keeps_stays (sound good d) (removes good d).edit (freed_records (frees good d)) m fields i head in
+      let entry = λ (t : ℕ) (is : type_at b m ≡ t) (of : is_in t (agr_edr_type ∷ az_edr_type ∷ []) ≡ true). stays (aedr_attr_num ∷ []) (entry_stays (sound good d) (removes good d) m (aedr_attr_num ∷ []) i (ap (λ (t : ℕ). is_in t (agr_edr_type ∷ az_edr_type ∷ [])) is ∙ of) away (λ j. refl)) in
+      either_keeps b now (is_attribute (content b) name k) m (branch (type_at b m == adr_type)) (Each-in (λ (t : ℕ). type_at b m ≡ t → Keeps b now m (branch (t == adr_type))) attribute_types (
+        (λ is. stays (next_field ∷ adr_num ∷ []) (adr_stays (sound good d) (removes good d) m (adr_num ∷ []) i is away (λ j. refl))),
+        ((λ is. entry agr_edr_type is refl), ((λ is. entry az_edr_type is refl), tt)),
+      ) (type_at b m) (true-is_in (type_at b m) attribute_types typed) refl)
 
   named : is_attribute (content b) name (length d.before) ≡ true
   named = ap (λ (f : Option (ℕ × Attribute)). elim f [ None ↦ false | Some x ↦ x.0 == length d.before ]) found ∙ eq-eqb n (length d.before) (sym d.count)
@@ -278,16 +404,15 @@ module _ {b now : List ℕ} {n : ℕ} (good : Good b) (d : Deletes b now n) (nam
       let ok = sound good d in
       let h = ok.has_shape in
       let e = (removes good d).edit in
-      let same = records_are good d in
-      let there = parts_there b s ok d.before (d.own ∷ []) d.after d.unlinks.was in
-      let from = λ (m : ℕ) (j : In m (places good d)). only_owns b s ok d.before d.own d.after d.unlinks.was m (mine good d m j) in
+      let same = freed_records (frees good d) in
+      let t = there ok (removes good d) in
       let f = keep_file b now may acts ok (keeps_fields ok e same 8 cdr_type [] (is_a-in b s.records cdr_type 8 h.cdr_stands) (is_a-type b s.records cdr_type 8 h.cdr_stands) refl refl) (keeps_fields ok e same s.gdr gdr_type attributes_gdr_fields (gdr_in b s h) (gdr_typed b s h) refl refl) in
       let a = keep_parts b now may acts d.before (d.own ∷ []) d.after d.unlinks.was
-      (all_keep_beside 0 d.before there.0 (λ m i j. (from m j).in_before i))
+      (keep_each b now may acts 0 d.before (λ k m i. one_keeps k m (front_in b s ok d.before d.own d.after d.unlinks.was m i) (attribute_typed b s.records d.before t.0 m i) (gone_before ok (removes good d) m i)))
       (AllKeep-append b now may acts (owned_by (OneAttribute (length d.before)) (attribute_records d.own)) [] (keep_places b now may acts (OneAttribute (length d.before)) (attribute_records d.own) (λ m i.
       subst (λ (p : Bool). Keeps b now m (if p then Anything else branch (type_at b m == adr_type))) (sym named) tt)) tt)
-      (all_keep_beside (length d.before + length (d.own ∷ [])) d.after there.1.1 (λ m i j. (from m j).in_after i)) in
-      let u = keep_unused ok e same may acts (λ m i free. (avoided-avoids marks uir_type m 0 12 refl, within-within marks uir_type m (uir_next_uir ∷ uir_prev_uir ∷ []) refl)) (λ m i out. away-of_type marks uir_type m ((λ same lies. absurd (out lies)), tt)) in
+      (keep_each b now may acts (length d.before + length (d.own ∷ [])) d.after (λ k m i. one_keeps k m (back_in b s ok d.before d.own d.after d.unlinks.was m i) (attribute_typed b s.records d.after t.1.1 m i) (gone_after ok (removes good d) m i))) in
+      let u = keep_unused ok e same may acts (λ m i free. (avoided-avoids (marks ok (removes good d)) uir_type m 0 12 refl, within-within (marks ok (removes good d)) uir_type m (uir_next_uir ∷ uir_prev_uir ∷ []) refl)) (λ m i out. away-of_type (marks ok (removes good d)) uir_type m ((λ same lies. absurd (out lies)), tt)) in
       all_keep b now may acts f a (λ m i. stood ok e same m (variables_in b s ok m i) (all_variables_kept ok e refl m i)) u
 
   -- the attribute that has the name is this one
@@ -300,8 +425,8 @@ module _ {b now : List ℕ} {n : ℕ} (good : Good b) (d : Deletes b now n) (nam
   pub delete_done : (limit : ℕ) → length b ≤ limit → length b ≤ image_limit → Answers limit b (commands.DelAttr name) (Done replies.Plain) now
   delete_done limit fits short =
       let goes : del_attr_step (content b) name ≡ Go (record (content b) { attributes = remove (content b).attributes n }) replies.Plain = rw found refl in
-      gone_by_giving limit b (commands.DelAttr name) now (places good d) refl refl (ap ByStep (goes ∙ ap (λ (x : DataSet). Go x replies.Plain) (sym (content_after good d)))) (good_after good d short) (long_now good d) (acts_after good d) keeps
-      (record { acts_are = λ k a is at. ap (λ (x : AttributeShape). gave b (x.gr_entries ++ x.z_entries ++ x.adr ∷ [])) (own_is k a is at); freed = freed_after good d }) fits
+      gone_by_giving limit b (commands.DelAttr name) now (places good d) refl refl (ap ByStep (goes ∙ ap (λ (x : DataSet). Go x replies.Plain) (sym (content_after good d)))) (good_after good d short) (freed_long (frees good d)) (freed_acts (frees good d) refl) keeps
+      (record { acts_are = λ k a is at. ap (λ (x : AttributeShape). gave b (x.gr_entries ++ x.z_entries ++ x.adr ∷ [])) (own_is k a is at); freed = freed_bytes (frees good d) (λ m i. own_behind good d m (mine good d m i)) }) fits
 
 pub delete_refused : (limit : ℕ) (b name : List ℕ) → attribute_named (content b) name ≡ None → Answers limit b (commands.DelAttr name) (Refused reasons.NoSuchAttr) b
 delete_refused limit b name none = refused limit b (commands.DelAttr name) reasons.NoSuchAttr (ap ByStep (missing (content b) none))
@@ -362,35 +487,35 @@ module _ (b : List ℕ) (good : Good b) (places : List ℕ) (are : places ≡ ad
       numbers_are : writes ≡ numbers_from (length own.before) own.after
       numbers_are = read ∙ ap (λ (z : List ℕ). numbers_from n (drop (n + 1) (shape z).attributes)) earlier ∙ ap₂ numbers_from (sym own.count) own.later_are
 
+      -- from there on
+      unlinks : {mid : List ℕ} → mid ≡ with_writes second writes → Unlinks b mid (shape b) own.before own.own own.after
+      unlinks written =
+          let count = attributes_listed.counted in
+          let total = own.long in
+          let few = few_members image_sound.has_shape is_of short in
+          let gdr = image_sound.has_shape.gdr_is in
+          let less : counted_in b Attrs - 1 ≡ length own.before + length own.after = omega (arith, count, total) in
+          record {
+            was = own.is;
+            first = out.first;
+            removed = subst (Removed b out.first Attrs) own.own_at out.removed;
+            written = written ∙ (λ i. with_writes (out.counted i) (numbers_are i)) ∙ (λ i. with_writes (with_field out.first (gdr i) gdr_num_attr (less i)) (numbers_from (length own.before) own.after));
+            few = omega (arith, ap length are);
+          }
+
       pub lie_after : Each (λ (w : Write). LiesIn second w.tile w.f) writes
       lie_after = subst (Each (λ (w : Write). LiesIn second w.tile w.f)) (sym (numbers_are ∙ as_numbers (length own.before) own.after))
-          (writes_lie b second (shape b).records _ _ image_sound.has_shape.tiled (some_bytes b (shape b) image_sound.has_shape) out.length_stays
-          (may_number image_sound (length own.before) own.after (parts_there b (shape b) image_sound own.before (own.own ∷ []) own.after own.is).1.1))
+          (writes_lie b second (shape b).records _ _ image_sound.has_shape.tiled (some_bytes b (shape b) image_sound.has_shape) out.length_stays (may_write (leaves image_sound (unlinks refl))))
 
       module _ {mid : List ℕ} (written : mid ≡ with_writes second writes) {records : List ℕ} (records_are : records ≡ members_of b (GrEntries (get_or places n 0)) ++ members_of b (ZEntries (get_or places n 0)) ++ get_or places n 0 ∷ []) where
-        unlinks : Unlinks b mid (shape b) own.before own.own own.after
-        unlinks =
-            let count = attributes_listed.counted in
-            let total = own.long in
-            let few = few_members image_sound.has_shape is_of short in
-            let gdr = image_sound.has_shape.gdr_is in
-            let less : counted_in b Attrs - 1 ≡ length own.before + length own.after = omega (arith, count, total) in
-            record {
-              was = own.is;
-              first = out.first;
-              removed = subst (Removed b out.first Attrs) own.own_at out.removed;
-              written = written ∙ (λ i. with_writes (out.counted i) (numbers_are i)) ∙ (λ i. with_writes (with_field out.first (gdr i) gdr_num_attr (less i)) (numbers_from (length own.before) own.after));
-              few = omega (arith, ap length are);
-            }
-
         own_records : records ≡ own.own.gr_entries ++ own.own.z_entries ++ own.own.adr ∷ []
         own_records = records_are ∙ ap₂ (λ (es : List ℕ) (m : ℕ). es ++ m ∷ []) own_entries own.own_at
 
         pub sound_after : IsSound mid (shape mid)
-        sound_after = mid_sound image_sound unlinks
+        sound_after = mid_sound image_sound (unlinks written)
 
         pub free_after : AreFree mid records
-        free_after = subst (AreFree mid) (sym own_records) (own_free image_sound unlinks)
+        free_after = subst (AreFree mid) (sym own_records) (own_free image_sound (unlinks written))
 
         pub deletes_by : (now : List ℕ) → AllGiven mid now records → Deletes b now n
-        deletes_by now given = record { before = own.before; own = own.own; after = own.after; count = own.count; mid = mid; unlinks = unlinks; given = subst (AllGiven mid now) own_records given }
+        deletes_by now given = record { before = own.before; own = own.own; after = own.after; count = own.count; mid = mid; unlinks = unlinks written; given = subst (AllGiven mid now) own_records given }

@@ -1,9 +1,9 @@
 -- The owners of an image of which one has gone: each other one has what it had.
 use Rattle.std.proofs.Common.{◌≡◌, ◌≢◌, ℕ, suc, ◌+◌, ◌≤◌, List, [], ◌∷◌, true, false, ◌⊎◌, eq-eqb, refl, sym, subst, ◌∙◌, arith, inl, inr}
-use Rattle.cdf_edits.proofs.Common.{◌==◌, type_at, times, owned_records, unused_records, OwnedOnce, uir_type, Shape, shape, AreFree, IsSound, In, Distinct, either, times-none, Edit, Mark}
+use Rattle.cdf_edits.proofs.Common.{flat_map, ◌==◌, type_at, times, owned_records, unused_records, OwnedOnce, uir_type, Shape, shape, AreFree, IsSound, In, Distinct, either, times-none, Edit, Mark}
 use Rattle.cdf_edits.proofs.Edits.ChainOwners.{not_twice_kept}
 use Rattle.cdf_edits.proofs.Edits.OwnedOnce.{used_times, owned_once_if, none_in_use, unused_unowned}
-use Rattle.cdf_edits.proofs.Frame.OwnersApart.{times-in, owned-times, file_records, all_attribute_records, all_variable_records}
+use Rattle.cdf_edits.proofs.Frame.OwnersApart.{times-append, times-in, owned-times, file_records, all_attribute_records, all_variable_records}
 
 -- none of the records stands twice
 pub distinct_if : (xs : List ℕ) → ((m : ℕ) → times m xs ≤ 1) → Distinct xs
@@ -24,6 +24,12 @@ distinct_if (x ∷ xs) once = (
 pub record Left (b : List ℕ) (s s' : Shape) (mine : List ℕ) : Type 0 where
   pub sound : IsSound b s
   pub fewer : (m : ℕ) → used_times s' m + times m mine ≡ used_times s m
+
+pub left_of : {A : Type 0} (f : A → List ℕ) {b : List ℕ} {s s' : Shape} → IsSound b s → (x : A) → ((m : ℕ) → used_times s' m + times m (flat_map f (x ∷ [])) ≡ used_times s m + 0) → Left b s s' (f x)
+left_of f {s = s} {s' = s'} sound x less = record { sound = sound; fewer = λ m. no_more (used_times s' m) (times m (f x)) (used_times s m) (times m (flat_map f (x ∷ []))) (times-append m (f x) []) (less m) }
+  where
+    no_more : (n' o n o' : ℕ) → o' ≡ o + 0 → n' + o' ≡ n + 0 → n' + o ≡ n
+    no_more n' o n o' p q = omega arith
 
 module _ {b : List ℕ} {s s' : Shape} {mine : List ℕ} (left : Left b s s' mine) where
   used_once : (m : ℕ) → used_times s m ≤ 1

@@ -1,6 +1,6 @@
 -- The image after a variable went: its shape, its content, its rules and its space.
 use Rattle.std.proofs.Common.{◌≡◌, ◌≢◌, ℕ, zero, suc, ◌+◌, ◌<◌, ◌≤◌, List, [], ◌∷◌, ◌++◌, length, map, max, refl, sym, ap, subst, ◌∙◌, arith, inl, inr, false}
-use Rattle.cdf_edits.proofs.Common.{Avoids, Field, Says, emptied_fields, empty_writes, freeing_marks, no_index, le-leb, tile_lies, type_at, variable_removing_marks, with_writes, word_kept, length-append, length-map, w32, cast_signed, fold, remove, Kind, R, Z, extent, image_limit, variables_of, with_variables, last_number, IsChain, is_in, content, variable_of, number, integer4, size_at, gdr_offset, variable_records, gdr_eof, gdr_uir_head, gdr_r_max_rec, vdr_num, gdr_type, uir_type, VariableShape, Shape, vdrs, shape, IsSound, In, max_rec_at, Good, good_by_its_shape, good_is_sound, rules_of_good, good_long, sealed_kept, shapes_of, RMaxRecOf, freed_with_variable, index_types, RemovesVariable, greatest_at, variable_unlinking_marks, links_end, head_of, count_of, type_in, variables_chain, field_reads4, number_kept}
+use Rattle.cdf_edits.proofs.Common.{Avoids, Field, Says, emptied_fields, empty_writes, freeing_marks, no_index, le-leb, tile_lies, type_at, variable_removing_marks, with_writes, word_kept, w32, cast_signed, fold, remove, Kind, R, Z, extent, image_limit, variables_of, with_variables, last_number, IsChain, is_in, content, variable_of, number, integer4, size_at, gdr_offset, variable_records, gdr_eof, gdr_uir_head, gdr_r_max_rec, vdr_num, gdr_type, uir_type, VariableShape, Shape, vdrs, shape, IsSound, In, max_rec_at, Good, good_by_its_shape, good_is_sound, rules_of_good, good_long, sealed_kept, shapes_of, RMaxRecOf, freed_with_variable, index_types, RemovesVariable, greatest_at, variable_unlinking_marks, links_end, head_of, count_of, type_in, variables_chain, field_reads4, number_kept}
 use Rattle.std.specs.Int.RustNames.{FitsSigned}
 use Rattle.cdf_edits.specs.Commands.GreatestRecord.{r_extents}
 use Rattle.cdf_edits.proofs.Edits.Composing.{head_size}
@@ -138,7 +138,7 @@ module _ {b now : List ℕ} {kind : Kind} {n : ℕ} (good : Good b) (d : Removes
       gdr_still frees f low ∙ number_kept d.mid emptied s.gdr (rest_kept good d.unlinks s.gdr (gdr_in b s h) other).same f (let l = gdr_long b s h in omega arith)
 
   pub count_now : number now s.gdr (count_of (variables_chain kind)) ≡ length (vdrs (d.before ++ d.after))
-  count_now = gdr_after (count_of (variables_chain kind)) (count_low kind) ∙ counted_now (leaves good d.unlinks) ∙ sym (length-map (d.before ++ d.after) (λ (v : VariableShape). v.vdr) ∙ length-append d.before d.after)
+  count_now = gdr_after (count_of (variables_chain kind)) (count_low kind) ∙ counted_now (leaves good d.unlinks)
     where
       count_low : (kind : Kind) → (count_of (variables_chain kind)).place + (count_of (variables_chain kind)).width ≤ 64
       count_low R = omega arith

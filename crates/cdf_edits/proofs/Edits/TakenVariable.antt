@@ -1,9 +1,10 @@
 -- An image from which one variable went has its shape, its content and its rules.
-use Rattle.std.proofs.Common.{◌≡◌, ◌⊎◌, ℕ, ◌+◌, ◌≤◌, List, [], ◌∷◌, ◌++◌, length, true, eq-eqb, refl, sym, ap, subst, ◌∙◌, arith, inl, inr}
-use Rattle.cdf_edits.proofs.Common.{length-map, flat_map, remove, DataSet, Variable, image_limit, variables_of, with_variables, Kind, R, Z, is_in, IsChain, content, variable_of, number, size_at, type_at, gdr_offset, eof, read_types, variable_records, times, owned_records, first_phases, gdr_uir_head, vdr_num, gdr_type, r_vdr_type, z_vdr_type, uir_type, is_record_type, fixed_size, Hold, AllHold, sealed, VariableShape, Shape, vdrs, Each, HasShape, IsSound, In, Distinct, Good, linkable-in, linkable-type, IsGoodByShape, vdrs_append, In-append_left, In-append_right, content_is, tile_lies, shapes_of, Edit, wholes, Mark, Avoids, Confined, avoided, unmarked, index_types, keeps_file, variable_removing_marks, head_of, count_of, type_in, variables_chain}
+use Rattle.std.proofs.Common.{◌≡◌, ◌⊎◌, ℕ, ◌≤◌, List, [], ◌∷◌, ◌++◌, length, true, eq-eqb, refl, sym, ap, subst, ◌∙◌, arith, inl, inr}
+use Rattle.cdf_edits.proofs.Common.{length-map, flat_map, remove, DataSet, Variable, image_limit, variables_of, with_variables, Kind, R, Z, is_in, IsChain, content, variable_of, number, size_at, type_at, gdr_offset, eof, read_types, variable_records, times, owned_records, first_phases, gdr_uir_head, vdr_num, gdr_type, r_vdr_type, z_vdr_type, uir_type, fixed_size, Hold, AllHold, sealed, VariableShape, Shape, vdrs, Each, HasShape, IsSound, In, Distinct, Good, linkable-in, linkable-type, IsGoodByShape, vdrs_append, In-append_left, In-append_right, content_is, tile_lies, shapes_of, Edit, wholes, Mark, Avoids, Confined, avoided, unmarked, index_types, keeps_file, variable_removing_marks, head_of, count_of, type_in, variables_chain}
 use Rattle.cdf_edits.proofs.Commands.ListParts.{map-without}
 use Rattle.cdf_edits.proofs.Edits.MarkLemmas.{avoids-of_type, confined-away, unmarked-away}
-use Rattle.cdf_edits.proofs.Edits.LeftOwners.{Left, owned_left}
+use Rattle.cdf_edits.proofs.Edits.FreedRecords.{unused_real}
+use Rattle.cdf_edits.proofs.Edits.LeftOwners.{Left, left_of, owned_left}
 use Rattle.cdf_edits.proofs.Edits.NumbersBehind.{place_in}
 use Rattle.cdf_edits.proofs.Edits.RowsOneLess.{AreNumbered, one_less}
 use Rattle.cdf_edits.proofs.Edits.RecordFrame.{VariableLives, file_same, gdr_place, index_records, kept_away, kept_but_link, through}
@@ -15,7 +16,6 @@ use Rattle.cdf_edits.proofs.Edits.VariableNames.{apart_if}
 use Rattle.cdf_edits.proofs.Edits.VariableNumbered.{KeptButNum, numbered_remains}
 use Rattle.cdf_edits.proofs.Edits.VariableSplice.{VariableSplices, keeps_all_attributes, content_now, sound_if, good_image_if}
 use Rattle.cdf_edits.proofs.Frame.Meaning.{FileSame, Kept, KeptButLink, but_link}
-use Rattle.cdf_edits.proofs.Frame.OwnersApart.{times-append}
 use Rattle.cdf_edits.proofs.Space.TakenFromList.{distinct_apart}
 
 -- a VDR is a record of its variable
@@ -102,13 +102,7 @@ module _ {b : List ℕ} {s : Shape} {kind : Kind} {before : List VariableShape} 
 
   -- without it, nobody has its records
   pub left_by : (list : List ℕ) → Left b s (with_shapes s kind s.records list (before ++ after)) (variable_records own)
-  left_by list = record {
-    sound = sound;
-    fewer = λ m. let mine = times-append m (variable_records own) [] in let all = spliced_times s kind s.records list before (own ∷ []) [] after at.was m 0 (times m (flat_map variable_records (own ∷ []))) (omega arith) in no_more _ _ _ _ mine all;
-  }
-    where
-      no_more : (n' o n o' : ℕ) → o' ≡ o + 0 → n' + o' ≡ n + 0 → n' + o ≡ n
-      no_more n' o n o' p q = omega arith
+  left_by list = left_of variable_records sound own (λ m. spliced_times s kind s.records list before (own ∷ []) [] after at.was m 0 (times m (flat_map variable_records (own ∷ []))) (omega arith))
 
 -- ---- an edit that takes one variable away, numbers those behind it, and may free records of it
 
@@ -225,11 +219,7 @@ module _ {b now : List ℕ} {s : Shape} {kind : Kind} {before : List VariableSha
       before_remain = remain_from sound r.edit file before (ours sound r.at).0 before_live;
       after_remain = after_remain;
       others_live = others_live;
-      typed = λ m i.
-          let t = says.freed m i in
-          let inside = r.edit.sub m (own_stand sound r.at m (r.mine m i)) in
-          let long = (tile_lies now 8 (length now) s.records m r.edit.tiled_now inside).long in
-          (subst (λ (x : ℕ). is_record_type x ≡ true) (sym t) refl, subst (λ (x : ℕ). fixed_size x ≤ size_at now m) (sym t) long);
+      typed = λ m i. unused_real now s.records m r.edit.tiled_now (r.edit.sub m (own_stand sound r.at m (r.mine m i))) (says.freed m i);
       variable_chain = says.variable_chain;
       unused_chain = says.unused_chain;
       own_have = tt;

@@ -1,6 +1,6 @@
 -- A variable that is taken out of the chain, counted no more, and those behind it numbered anew: the image is sound, and its VDR has no owner.
 use Rattle.std.proofs.Common.{◌≡◌, ℕ, ℤ, suc, ◌+◌, ◌≤◌, List, [], ◌∷◌, ◌++◌, length, true, refl, sym, ap, subst, ◌∙◌, arith, inl, inr}
-use Rattle.cdf_edits.proofs.Common.{flat_map, Kind, R, Z, Same, IsChain, number, size_at, type_at, gdr_offset, variable_records, vdr_num, gdr_type, uir_type, VariableShape, Shape, vdrs, Each, HasShape, shape, IsSound, In, Distinct, Good, vdrs_append, good_is_sound, Distinct-back, shape_is, shapes_of, freed_with_variable, Edit, freeing_marks, Among, Mark, mark, all_unmarked, index_types, UnlinksVariable, numbers_on, r_max_writes, greatest_at, variable_unlinking_marks, variable_removing_marks, Write, write, with_writes, links_end, holder_of, head_of, count_of, type_in, AreFree, variables_chain}
+use Rattle.cdf_edits.proofs.Common.{flat_map, Kind, R, Z, Same, size_at, type_at, gdr_offset, variable_records, vdr_num, gdr_type, uir_type, VariableShape, Shape, vdrs, Each, HasShape, shape, IsSound, In, Distinct, Good, good_is_sound, Distinct-back, shape_is, shapes_of, freed_with_variable, Edit, freeing_marks, Among, Mark, mark, all_unmarked, index_types, UnlinksVariable, numbers_on, r_max_writes, greatest_at, variable_unlinking_marks, variable_removing_marks, Write, write, with_writes, links_end, holder_of, count_of, type_in, AreFree, variables_chain}
 use Rattle.cdf_edits.specs.Edits.RemovesVariable.{r_max_marks}
 use Rattle.cdf_edits.proofs.Edits.FreedBytes.{behind_kept, behind_link}
 use Rattle.cdf_edits.proofs.Edits.FreedRecords.{edit_under}
@@ -8,9 +8,9 @@ use Rattle.cdf_edits.proofs.Edits.MarkLemmas.{Avoids-split, all_unmarked-away}
 use Rattle.cdf_edits.proofs.Edits.OwnVariable.{freed_mine, freed_once}
 use Rattle.cdf_edits.proofs.Edits.RecordFrame.{kept_away, kept_but_link}
 use Rattle.cdf_edits.proofs.Edits.StepEdits.{gdr_in, gdr_typed, gdr_long}
-use Rattle.cdf_edits.proofs.Edits.TakenVariable.{least_size, Stands, TakesVariable, without_variable, vdr_there, back_in, own_in, own_stand, once, ours, vdr_avoids, vdr_record, vdrs_were, left_by, sound_taken}
-use Rattle.cdf_edits.proofs.Edits.NumbersBehind.{numbering as numbering_of, each_numbered, small_numbers, are_numbered}
-use Rattle.cdf_edits.proofs.Edits.LeftChain.{may_linked, LeavingTests, LeavesChain, left_edit, said_now, chain_now, list_now}
+use Rattle.cdf_edits.proofs.Edits.TakenVariable.{Stands, TakesVariable, without_variable, vdr_there, back_in, own_in, own_stand, once, ours, vdr_avoids, vdr_record, left_by, sound_taken}
+use Rattle.cdf_edits.proofs.Edits.NumbersBehind.{numbering as numbering_of, are_numbered}
+use Rattle.cdf_edits.proofs.Edits.LeftChain.{LeavingTests, LeavesChain, left_edit, said_now, chain_now, list_now}
 use Rattle.cdf_edits.proofs.Edits.LeftOwners.{not_twice, can_be_freed}
 use Rattle.cdf_edits.proofs.Edits.RowsOneLess.{AreNumbered}
 use Rattle.cdf_edits.proofs.Edits.VariableFrame.{index_typed}
@@ -28,9 +28,9 @@ in_holder Z b = refl
 abbrev pub numbering : Kind → List ℕ → List Mark
 numbering kind behind = mark (type_in (variables_chain kind)) (Among behind) vdr_num ∷ []
 
-pub leaving_tests : (kind : Kind) (gdr : ℕ) (members behind : List ℕ) → LeavingTests (variables_chain kind) gdr members (numbering kind behind) (r_max_marks kind gdr)
-leaving_tests R gdr members behind = record { head_later = omega arith; head_fits = omega arith; count_later = omega arith; count_fits = omega arith; count_width = refl; no_uir = λ e. absurd cc; no_gdr = λ e. absurd cc; in_gdr = λ b. refl; first_file = refl; early_file = refl; later_start = refl; later_head = refl; later_links = refl; last_start = refl; last_count = refl; all_start = refl; all_list = refl; all_uir = refl }
-leaving_tests Z gdr members behind = record { head_later = omega arith; head_fits = omega arith; count_later = omega arith; count_fits = omega arith; count_width = refl; no_uir = λ e. absurd cc; no_gdr = λ e. absurd cc; in_gdr = λ b. refl; first_file = refl; early_file = refl; later_start = refl; later_head = refl; later_links = refl; last_start = refl; last_count = refl; all_start = refl; all_list = refl; all_uir = refl }
+pub leaving_tests : (kind : Kind) (gdr : ℕ) (members behind : List ℕ) → LeavingTests (variables_chain kind) vdr_num vdr_num gdr members (numbering kind behind) (r_max_marks kind gdr)
+leaving_tests R gdr members behind = record { num_later = omega arith; num_fits = omega arith; num_width = refl; said_width = refl; head_later = omega arith; head_fits = omega arith; count_later = omega arith; count_fits = omega arith; count_width = refl; no_uir = λ e. absurd cc; no_gdr = λ e. absurd cc; in_gdr = λ b. refl; first_file = refl; early_file = refl; later_start = refl; later_head = refl; later_links = refl; last_start = refl; last_count = refl; all_start = refl; all_list = refl; all_uir = refl }
+leaving_tests Z gdr members behind = record { num_later = omega arith; num_fits = omega arith; num_width = refl; said_width = refl; head_later = omega arith; head_fits = omega arith; count_later = omega arith; count_fits = omega arith; count_width = refl; no_uir = λ e. absurd cc; no_gdr = λ e. absurd cc; in_gdr = λ b. refl; first_file = refl; early_file = refl; later_start = refl; later_head = refl; later_links = refl; last_start = refl; last_count = refl; all_start = refl; all_list = refl; all_uir = refl }
 
 index_clear : (kind : Kind) (gdr : ℕ) (members behind : List ℕ) → all_unmarked (variable_unlinking_marks kind gdr members behind) index_types ≡ true
 index_clear R gdr members behind = refl
@@ -45,9 +45,9 @@ numbers_are : (n : ℕ) (vs : List VariableShape) → numbers_on n (vdrs vs) ≡
 numbers_are n [] = refl
 numbers_are n (v ∷ vs) = ap (λ (ws : List Write). write v.vdr vdr_num n ∷ ws) (numbers_are (suc n) vs)
 
-tiles_are : (n : ℕ) (vs : List VariableShape) → written_tiles (numbers n vs) ≡ vdrs vs
-tiles_are n [] = refl
-tiles_are n (v ∷ vs) = ap (λ (ms : List ℕ). v.vdr ∷ ms) (tiles_are (suc n) vs)
+tiles_are : (vs : List VariableShape) → flat_map (λ (v : VariableShape). v.vdr ∷ []) vs ≡ vdrs vs
+tiles_are [] = refl
+tiles_are (v ∷ vs) = ap (λ (ms : List ℕ). v.vdr ∷ ms) (tiles_are vs)
 
 may_r_max : (b records : List ℕ) (gdr : ℕ) → In gdr records → type_at b gdr ≡ gdr_type → 84 ≤ size_at b gdr → (kind : Kind) (greatest : ℤ) → Each (MayWrite b records (r_max_marks kind gdr)) (r_max_writes kind gdr greatest)
 may_r_max b records gdr i is long Z greatest = tt
@@ -83,27 +83,25 @@ module _ {b mid : List ℕ} {kind : Kind} {before : List VariableShape} {own : V
   vdr_behind : (m : ℕ) → In m (vdrs after) → In m s.records × ((type_at b m ≡ type_in (variables_chain kind)) × (340 ≤ size_at b m))
   vdr_behind m i = vdr_there sound at m (back_in sound at m i)
 
-  pub leaves : LeavesChain b u.second mid s (variables_chain kind) members (vdrs before) own.vdr (vdrs after) (numbering kind (vdrs after)) (r_max_marks kind s.gdr) (length before + length after) (numbers (length before) after) (r_max_writes kind s.gdr (greatest_at b (vdrs (before ++ after))))
+  pub leaves : LeavesChain (λ (v : VariableShape). v.vdr) vdr_num (λ (v : VariableShape). []) vdr_num b u.second mid s (variables_chain kind) (shapes_of s kind) before own after (numbering kind (vdrs after)) (r_max_marks kind s.gdr) (r_max_writes kind s.gdr (greatest_at b (vdrs (before ++ after))))
   leaves = record {
     sound = sound;
-    were = vdrs_were sound at;
+    was = u.was;
     is_of = record { holder_is = in_holder kind b ∙ h.gdr_is; chain = kind_chain kind h };
     tests = leaving_tests kind s.gdr members (vdrs after);
     first = u.first;
     removed = u.removed;
     numbered = u.numbered ∙ ap (λ (ws : List Write). with_writes u.first (write s.gdr (count_of (variables_chain kind)) (length before + length after) ∷ ws)) (numbers_are (length before) after);
     written = u.written;
-    may = each_numbered (λ (v : VariableShape). v.vdr) vdr_num (λ (v : VariableShape). []) vdr_num (MayWrite b s.records (numbering kind (vdrs after))) (length before) (length before + length after) after (omega arith)
-        (λ m k i l. let ok = (kind_chain kind h).linkable m (back_in sound at m i) in may_linked sound (numbering kind (vdrs after)) (type_in (variables_chain kind)) m vdr_num k ok (leaving_tests kind s.gdr [] []).no_uir (omega arith) (let l = least_size kind in omega arith) (λ t. inl (record { typed = t; lies = i; low = omega arith; high = omega arith })))
-        (λ m k i l. absurd (none_in after m i));
+    covered = λ m i t. inl (record { typed = t; lies = i; low = omega arith; high = omega arith });
+    may_others = λ m n i. absurd (none_in after m i);
     may_last = may_r_max b s.records s.gdr (gdr_in b s h) (gdr_typed b s h) (gdr_long b s h) kind (greatest_at b (vdrs (before ++ after)));
     lasts_in = r_max_in kind s.gdr (greatest_at b (vdrs (before ++ after)));
     once = (
-      (λ i. (leaving_tests kind s.gdr [] []).no_gdr (sym (vdr_behind s.gdr (subst (In s.gdr) (tiles_are (length before) after) i)).1.0 ∙ gdr_typed b s h)),
-      subst Distinct (sym (tiles_are (length before) after)) (Distinct-back (vdrs before) (own.vdr ∷ vdrs after) (once sound at)).1,
+      (λ i. (leaving_tests kind s.gdr [] []).no_gdr (sym (vdr_behind s.gdr (subst (In s.gdr) (tiles_are after) i)).1.0 ∙ gdr_typed b s h)),
+      subst Distinct (sym (tiles_are after)) (Distinct-back (vdrs before) (own.vdr ∷ vdrs after) (once sound at)).1,
     );
     few = u.few;
-    small = small_numbers (λ (v : VariableShape). v.vdr) vdr_num (λ (v : VariableShape). []) vdr_num (length before) after refl refl u.few;
   }
     where
       none_in : (vs : List VariableShape) (m : ℕ) → In m (flat_map (λ (v : VariableShape). []) vs) → ⊥
@@ -135,7 +133,7 @@ module _ {b mid : List ℕ} {kind : Kind} {before : List VariableShape} {own : V
   left_shape = without_variable sound unlinks_takes s.unused
 
   unlinked_sound : IsSound mid left_shape
-  unlinked_sound = sound_taken sound unlinks_takes (record { numbered = numbered_now; variable_chain = subst (IsChain mid s.records (type_in (variables_chain kind)) (number mid s.gdr (head_of (variables_chain kind)))) (sym (vdrs_append before after)) (chain_now leaves); unused_chain = list_now leaves; freed = λ m i. absurd i })
+  unlinked_sound = sound_taken sound unlinks_takes (record { numbered = numbered_now; variable_chain = chain_now leaves; unused_chain = list_now leaves; freed = λ m i. absurd i })
       (not_twice (left_by sound at s.unused) unlinked_edit)
 
   pub unlinked_shape : shape mid ≡ left_shape
