@@ -1,14 +1,14 @@
 -- An attribute is taken out of the chain, counted no more, those behind it are numbered anew, and its records are freed: the image is good, with the content without it, and what it keeps of each record.
 use Rattle.std.proofs.Common.{◌≡◌, ◌⊎◌, ℕ, suc, ◌+◌, ◌<◌, ◌≤◌, List, [], ◌∷◌, ◌++◌, length, map, true, false, eq-eqb, refl, sym, ap, subst, ◌∙◌, arith, inl, inr, Bool, Option, Some, None, ◌-◌, drop, get_or, ap₂, append_assoc, append-nil}
-use Rattle.cdf_edits.proofs.Common.{Field, eqb-true, map-append, flat_map, ◌==◌, if◌then◌else◌, IsChain, number, size_at, type_at, with_field, attribute_records, times, gdr_adr_head, gdr_uir_head, gdr_num_attr, aedr_attr_num, adr_num, gdr_type, adr_type, agr_edr_type, az_edr_type, uir_type, AttributeShape, Shape, Each, HasShape, adrs, shape, IsSound, In, linkable-in, linkable-type, linkable-long, In-append, In-append_left, In-append_right, Distinct-push, shape_is, is_linkable, Edit, unlinking_marks, deleting_marks, freeing_marks, Mark, attribute_types, Unlinks, Write, write, with_writes, numbers_from, AreFree, Attrs, Same, length-map, remove, slice_get, image_limit, is_in, next_field, content, LiesIn, OneAttribute, owned_by, owned, gdr_eof, uir_next_uir, uir_prev_uir, cdr_type, Good, is_a-in, is_a-type, good_by_its_shape, good_is_sound, rules_of_good, good_long, sealed_kept, Allowance, Allowances, Anything, Only, Keeps, AllKeep, gave, links_end, Act, Go, Refuse, Attribute, DataSet, attribute_named, attribute_names, ByStep, is_attribute, Done, Refused, Answers, same_Some, drop-append_seam, eq_of, counted_in, members_of, Removed, AllGiven, Lists, TakenOut, GrEntries, ZEntries, same_name, adrs_rows, number_rows, differ_rows, attribute_of, name_in, attribute_shape_rows, read_types, adr_name, Hold, AreNew, names_at, names_differ, differ_by_names, Hold-split, content_is, true-is_in}
+use Rattle.cdf_edits.proofs.Common.{Each-append, Field, eqb-true, map-append, flat_map, ◌==◌, if◌then◌else◌, IsChain, number, size_at, type_at, with_field, attribute_records, times, gdr_adr_head, gdr_uir_head, gdr_num_attr, aedr_attr_num, adr_num, gdr_type, adr_type, agr_edr_type, az_edr_type, uir_type, AttributeShape, Shape, Each, HasShape, adrs, shape, IsSound, In, linkable-in, linkable-type, In-append, In-append_left, In-append_right, Distinct-push, shape_is, is_linkable, Edit, unlinking_marks, deleting_marks, freeing_marks, Mark, attribute_types, Unlinks, Write, write, with_writes, numbers_from, AreFree, Attrs, Same, remove, slice_get, image_limit, is_in, next_field, content, LiesIn, OneAttribute, owned_by, owned, gdr_eof, uir_next_uir, uir_prev_uir, cdr_type, Good, is_a-in, is_a-type, good_by_its_shape, good_is_sound, rules_of_good, good_long, sealed_kept, Allowances, Anything, Only, Keeps, AllKeep, gave, links_end, Act, Go, Attribute, DataSet, attribute_named, attribute_names, ByStep, is_attribute, Done, Refused, Answers, same_Some, drop-append_seam, eq_of, counted_in, members_of, Removed, AllGiven, Lists, TakenOut, GrEntries, ZEntries, same_name, adrs_rows, differ_rows, attribute_of, name_in, attribute_shape_rows, read_types, adr_name, Hold, AreNew, names_at, names_differ, differ_by_names, Hold-split, content_is, true-is_in}
 use Rattle.cdf_edits.specs.Edits.ManyMarks.{numbering_marks}
-use Rattle.cdf_edits.proofs.Edits.AttributeFrame.{AreThere, more_there, entry, each_there, entry_long, all_last as attributes_last, remaining_names}
+use Rattle.cdf_edits.proofs.Edits.AttributeFrame.{all_last, AreThere, more_there, entry, each_there, entry_long, remaining_names}
 use Rattle.cdf_edits.proofs.Edits.FreedRecords.{edit_under, unused_real}
-use Rattle.cdf_edits.proofs.Edits.NumbersBehind.{tiles_numbered, place_in, other_in, Says, numbering, others_say, are_numbered}
+use Rattle.cdf_edits.proofs.Edits.NumbersBehind.{fewer_rows, tiles_numbered, place_in, other_in, Says, numbering, others_say, are_numbered}
 use Rattle.cdf_edits.proofs.Edits.LeftChain.{LeavingTests, LeavesChain, may_linked, left_edit, said_now, chain_now, list_now, as_long, counted_now, may_now, may as may_write}
 use Rattle.cdf_edits.proofs.Edits.LeftOwners.{distinct_if, mine_once, not_twice, can_be_freed, Left, owned_left, left_of}
 use Rattle.cdf_edits.proofs.Edits.MarkLemmas.{Avoids-split, avoided-avoids, within-within, away-of_type, within-of_type, avoids-of_type}
-use Rattle.cdf_edits.proofs.Edits.OwnedOnce.{parts_once, own_in, only_owns, back_in, spliced_times, front_in}
+use Rattle.cdf_edits.proofs.Edits.OwnedOnce.{OnlyOwns, parts_once, own_in, only_owns, back_in, spliced_times, front_in}
 use Rattle.cdf_edits.proofs.Edits.Splice.{parts_there, spliced, Splices, content_now, sound_if, good_image_if}
 use Rattle.cdf_edits.proofs.Edits.StepEdits.{gdr_in, gdr_typed, some_bytes, fixed_long}
 use Rattle.cdf_edits.proofs.Edits.WrittenFields.{MayWrite, writes_lie}
@@ -25,17 +25,16 @@ use Rattle.cdf_edits.proofs.Commands.Answered.{refused, gone_by_giving}
 use Rattle.cdf_edits.proofs.Commands.KeptRecords.{AllKeep-append}
 use Rattle.cdf_edits.proofs.Edits.OwnersKept.{stood, keeps_fields, keep_unused, keep_places, keep_file, keep_parts, all_keep, keeps_stays, keep_each}
 use Rattle.cdf_edits.proofs.Edits.VariableKinds.{attributes_counted}
-use Rattle.cdf_edits.proofs.Edits.VariableFrame.{variables_in, all_variables_kept, Each-apply}
-use Rattle.cdf_edits.proofs.Commands.ListParts.{got-middle, map-removed, removed-at, AtNumber, at_number, map-without}
+use Rattle.cdf_edits.proofs.Edits.VariableFrame.{Each-map, variables_in, all_variables_kept, Each-apply}
+use Rattle.cdf_edits.proofs.Commands.ListParts.{got-middle, map-removed, AtNumber, at_number, map-without}
 use Rattle.cdf_edits.proofs.Edits.ChainMembers.{IsAmong, members_chain}
 use Rattle.cdf_model.specs.declared.kinds.EntryKind.TheVariants as entries
 use Rattle.cdf_edits.proofs.Edits.ChainsOfShape.{IsOf, few_members, lists}
 use Rattle.cdf_model.specs.declared.answer.Reason.TheVariants as reasons
 use Rattle.cdf_model.specs.declared.answer.Reply.TheVariants as replies
 use Rattle.cdf_model.specs.declared.command.Command.TheVariants as commands
-use Rattle.cdf_edits.proofs.Edits.AttributeRemains.{AttributeLasts}
+use Rattle.cdf_edits.proofs.Edits.AttributeRemains.{AttributeRemains, AttributeLasts}
 use Rattle.cdf_format.proofs.NameRules.{absent-split, absent-append}
-use Rattle.cdf_edits.proofs.Edits.RowsOneLess.{AreNumbered, one_less}
 use Rattle.cdf_edits.proofs.Frame.OwnerAlone.{Each-in}
 use Rattle.cdf_edits.proofs.Edits.StaysBut.{StaysBut, stays_within, field_stays}
 
@@ -60,7 +59,7 @@ as_numbers : (n : ℕ) (as_ : List AttributeShape) → numbers_from n as_ ≡ nu
 as_numbers n [] = refl
 as_numbers n (a ∷ more) = ap (λ (ws : List Write). write a.adr adr_num n ∷ map (λ entry. write entry aedr_attr_num n) (a.gr_entries ++ a.z_entries) ++ ws) (as_numbers (suc n) more)
 
--- ---- lists of which one member goes
+-- ---- names of which one goes
 
 -- names stay new where fewer came before
 seen_less : (before : List (List ℕ)) (old : List ℕ) (mid names : List (List ℕ)) → AreNew (before ++ old ∷ mid) names → AreNew (before ++ mid) names
@@ -71,9 +70,9 @@ seen_less before old mid (x ∷ names) h =
     (absent-append x before mid parts.0 (absent-split x (old ∷ []) mid parts.1).1, subst (λ (z : List (List ℕ)). AreNew z names) (sym (append_assoc before mid (x ∷ []))) (seen_less before old (mid ++ x ∷ []) names next))
 
 -- and where one of them goes
-new_removed : (before front : List (List ℕ)) (old : List ℕ) (back : List (List ℕ)) → AreNew before (front ++ old ∷ back) → AreNew before (front ++ back)
-new_removed before [] old back h = subst (λ (z : List (List ℕ)). AreNew z back) (append-nil before) (seen_less before old [] back h.1)
-new_removed before (x ∷ front) old back h = (h.0, new_removed (before ++ x ∷ []) front old back h.1)
+new_removed : (b : List ℕ) (seen : List (List ℕ)) (front : List AttributeShape) (own : AttributeShape) (back : List AttributeShape) → AreNew seen (names_at b adr_name (adrs_in (front ++ own ∷ back))) → AreNew seen (names_at b adr_name (adrs_in (front ++ back)))
+new_removed b seen [] own back h = subst (λ (z : List (List ℕ)). AreNew z (names_at b adr_name (adrs_in back))) (append-nil seen) (seen_less seen (name_in b own.adr adr_name) [] (names_at b adr_name (adrs_in back)) h.1)
+new_removed b seen (x ∷ front) own back h = (h.0, new_removed b (seen ++ name_in b x.adr adr_name ∷ []) front own back h.1)
 
 leaving_tests : (gdr : ℕ) (members adrs entries : List ℕ) → LeavingTests Attrs adr_num aedr_attr_num gdr members (numbering_marks adrs entries) []
 leaving_tests gdr members adrs entries = record { num_later = omega arith; num_fits = omega arith; num_width = refl; said_width = refl; head_later = omega arith; head_fits = omega arith; count_later = omega arith; count_fits = omega arith; count_width = refl; no_uir = λ e. absurd cc; no_gdr = λ e. absurd cc; in_gdr = λ b. refl; first_file = refl; early_file = refl; later_start = refl; later_head = refl; later_links = refl; last_start = refl; last_count = refl; all_start = refl; all_list = refl; all_uir = refl }
@@ -97,113 +96,21 @@ may_say {b = b} {s = s} sound as_ there m n i = elim (entry as_ there i) [
       | inr j ↦ entry more (more_there b s.records a more there) j
     ]
 
--- ---- the others
-
--- an edit that takes one attribute away, numbers those behind it and frees records of it
-record Removes (b now : List ℕ) (s : Shape) (before : List AttributeShape) (own : AttributeShape) (after : List AttributeShape) (places : List ℕ) (limit : ℕ) : Type 0 where
-  pub edit : Edit b now s.records s.records (deleting_marks s.gdr (adrs_in s.attributes) (adrs_in after) (entries_in after) s.unused places limit) places
-  pub was : s.attributes ≡ before ++ own ∷ after
-  pub mine : (m : ℕ) → In m places → In m (attribute_records own)
-
-module _ {b now : List ℕ} {s : Shape} {before : List AttributeShape} {own : AttributeShape} {after : List AttributeShape} {places : List ℕ} {limit : ℕ} (sound : IsSound b s) (r : Removes b now s before own after places limit) where
-  abbrev marks : List Mark
-  marks = deleting_marks s.gdr (adrs_in s.attributes) (adrs_in after) (entries_in after) s.unused places limit
-
-  -- an ADR and an entry that are not freed stay but for the link to the next one, and the number of those behind
-  adr_stays : (m : ℕ) (fields : List Field) → In m s.records → type_at b m ≡ adr_type → (In m places → ⊥) → (In m (adrs_in after) → fields ≡ adr_num ∷ []) → StaysBut b now m (next_field ∷ fields)
-  adr_stays m fields i is out num = stays_within r.edit m adr_type (next_field ∷ fields) i is
-      (avoids-of_type marks adr_type m 0 12 ((λ same lies. inl (omega arith)), ((λ same lies. inl (omega arith)), ((λ same lies. absurd (out lies)), tt))))
-      (within-of_type marks adr_type m (next_field ∷ fields) ((λ same lies. refl), ((λ same lies. rw (num lies) refl), ((λ same lies. absurd (out lies)), tt))))
-
-  entry_stays : (m : ℕ) (fields : List Field) → In m s.records → is_in (type_at b m) (agr_edr_type ∷ az_edr_type ∷ []) ≡ true → (In m places → ⊥) → (In m (entries_in after) → fields ≡ aedr_attr_num ∷ []) → StaysBut b now m fields
-  entry_stays m fields i typed out num = Each-in (λ (t : ℕ). type_at b m ≡ t → StaysBut b now m fields) (agr_edr_type ∷ az_edr_type ∷ []) (
-    (λ is. stays_within r.edit m agr_edr_type fields i is (avoids-of_type marks agr_edr_type m 0 12 ((λ same lies. inl (omega arith)), ((λ same lies. absurd (out lies)), tt))) (within-of_type marks agr_edr_type m fields ((λ same lies. rw (num lies) refl), ((λ same lies. absurd (out lies)), tt)))),
-    ((λ is. stays_within r.edit m az_edr_type fields i is (avoids-of_type marks az_edr_type m 0 12 ((λ same lies. inl (omega arith)), ((λ same lies. absurd (out lies)), tt))) (within-of_type marks az_edr_type m fields ((λ same lies. rw (num lies) refl), ((λ same lies. absurd (out lies)), tt)))), tt),
-  ) (type_at b m) (true-is_in (type_at b m) (agr_edr_type ∷ az_edr_type ∷ []) typed) refl
-
-  there : AreThere b s.records before × (AreThere b s.records (own ∷ []) × AreThere b s.records after)
-  there = parts_there b s sound before (own ∷ []) after r.was
-
-  gone_before : (m : ℕ) → In m (flat_map attribute_records before) → In m places → ⊥
-  gone_before m i j = (only_owns b s sound before own after r.was m (r.mine m j)).in_before i
-
-  gone_after : (m : ℕ) → In m (flat_map attribute_records after) → In m places → ⊥
-  gone_after m i j = (only_owns b s sound before own after r.was m (r.mine m j)).in_after i
-
-  -- no record is of an attribute before it and of one behind it
-  apart : (m : ℕ) → In m (flat_map attribute_records before) → In m (flat_map attribute_records after) → ⊥
-  apart m i j = twice (times m (flat_map attribute_records before)) (times m (attribute_records own)) (times m (flat_map attribute_records after)) (parts_once b s sound before own after r.was m) (times-in m (flat_map attribute_records before) i) (times-in m (flat_map attribute_records after) j)
-    where
-      twice : (x o y : ℕ) → x + (o + y) ≤ 1 → 1 ≤ x → 1 ≤ y → ⊥
-      twice x o y l p q = omega arith
-
-  one_lasts : (a : AttributeShape) → AreThere b s.records (a ∷ []) → ((m : ℕ) → In m (attribute_records a) → In m places → ⊥) → ((m : ℕ) → In m (a.gr_entries ++ a.z_entries) → number b m aedr_attr_num ≡ number b a.adr adr_num → number now m aedr_attr_num ≡ number now a.adr adr_num) → AttributeLasts b now a
-  one_lasts a t out says = record {
-    adr = adr_stays a.adr (adr_num ∷ []) (linkable-in b s.records adr_type a.adr t.linked.0) (linkable-type b s.records adr_type a.adr t.linked.0) (out a.adr (inl refl)) (λ i. refl);
-    entries = λ m i. let x = entry sound r.edit a t.have.0 m i in entry_stays m (aedr_attr_num ∷ []) x.0 x.1 (out m (inr i)) (λ j. refl);
-    numbered = says;
-  }
-
-  -- those before it have their numbers
-  nums_before : (m : ℕ) → In m (adrs_in before) → number now m adr_num ≡ number b m adr_num
-  nums_before m i =
-      let mine = adrs_owned before m i in
-      let ok = sound.has_shape.attribute_chain.linkable m (subst (λ (as_ : List AttributeShape). In m (adrs_in as_)) (sym r.was) (subst (In m) (sym (map-append (λ (a : AttributeShape). a.adr) before (own ∷ after))) (In-append_left m (adrs_in before) (own.adr ∷ adrs_in after) i))) in
-      let long = fixed_long b s sound.has_shape adr_type m (linkable-in b s.records adr_type m ok) (linkable-type b s.records adr_type m ok) in
-      field_stays (adr_stays m [] (linkable-in b s.records adr_type m ok) (linkable-type b s.records adr_type m ok) (gone_before m mine) (λ j. absurd (apart m mine (adrs_owned after m j)))) adr_num (omega arith) (λ n p q. (inr (omega arith), tt))
-
-  before_last : Each (AttributeLasts b now) before
-  before_last = each_there b s.records (AttributeLasts b now) before there.0 (λ a t at sub. one_lasts a t (λ m i. gone_before m (sub m i)) (λ m i was.
-      let x = entry sound r.edit a t.have.0 m i in
-      let long = entry_long sound r.edit a t.have.0 m i in
-      let mine = sub m (inr i) in
-      field_stays (entry_stays m [] x.0 x.1 (gone_before m mine) (λ j. absurd (apart m mine (entries_owned after m j)))) aedr_attr_num (omega arith) (λ n p q. tt) ∙ was ∙ sym (nums_before a.adr at)))
-
-  after_last : Each (Says now) (numbers (length before) after) → Each (AttributeLasts b now) after
-  after_last says = Each-apply (λ a. (m : ℕ) → In m (a.gr_entries ++ a.z_entries) → number now m aedr_attr_num ≡ number now a.adr adr_num) (AttributeLasts b now) after
-      (each_there b s.records (λ a. ((m : ℕ) → In m (a.gr_entries ++ a.z_entries) → number now m aedr_attr_num ≡ number now a.adr adr_num) → AttributeLasts b now a) after there.1.1 (λ a t at sub say. one_lasts a t (λ m i. gone_after m (sub m i)) (λ m i was. say m i)))
-      (others_say (λ (a : AttributeShape). a.adr) adr_num (λ (a : AttributeShape). a.gr_entries ++ a.z_entries) aedr_attr_num now (length before) after says)
-
-  -- ---- the image without it
-
-  abbrev without_one : List ℕ → Shape
-  without_one list = spliced s s.records list (before ++ after)
-
-  -- what the image says of it
-  record SaysRemoved (list : List ℕ) : Type 0 where
-    pub numbered : Each (Says now) (numbers (length before) after)
-    pub attribute_chain : IsChain now s.records adr_type (number now s.gdr gdr_adr_head) (adrs_in (before ++ after))
-    pub unused_chain : IsChain now s.records uir_type (number now s.gdr gdr_uir_head) list
-    pub freed : (m : ℕ) → In m places → type_at now m ≡ uir_type
-
-  -- nobody has its records
-  left_by : (list : List ℕ) → Left b s (without_one list) (attribute_records own)
-  left_by list = left_of attribute_records sound own (λ m. spliced_times s s.records list before (own ∷ []) [] after r.was m 0 (times m (flat_map attribute_records (own ∷ []))) (omega arith))
-
-  splices : {list : List ℕ} → SaysRemoved list → Splices b now s s.records list marks places before (own ∷ []) [] after
-  splices says =
-      let file = file_same sound r.edit refl in
-      record {
-        edit = r.edit;
-        was = r.was;
-        file_clear = refl;
-        variables_clear = refl;
-        before_remain = attributes_last sound r.edit file before there.0 before_last;
-        after_remain = attributes_last sound r.edit file after there.1.1 (after_last says.numbered);
-        typed = λ m i. unused_real now s.records m r.edit.tiled_now (r.edit.sub m (own_in b s sound before own after r.was m (r.mine m i))) (says.freed m i);
-        attribute_chain = says.attribute_chain;
-        unused_chain = says.unused_chain;
-        own_entries = tt;
-      }
-
 -- ---- the steps
+
+-- what of a record of an attribute that is not freed may be other bytes
+abbrev changing : ℕ → List Field
+changing type = if type == adr_type then next_field ∷ adr_num ∷ [] else aedr_attr_num ∷ []
+
+by_type : (P : ℕ → Type 0) → P adr_type → P agr_edr_type → P az_edr_type → (t : ℕ) → is_in t attribute_types ≡ true → P t
+by_type P adr gr z t i = Each-in P attribute_types (adr, (gr, (z, tt))) t (true-is_in t attribute_types i)
 
 module _ {b mid : List ℕ} {s : Shape} {before : List AttributeShape} {own : AttributeShape} {after : List AttributeShape} (sound : IsSound b s) (u : Unlinks b mid s before own after) where
   h : HasShape b s
   h = sound.has_shape
 
-  own_there : AreThere b s.records (own ∷ [])
-  own_there = (parts_there b s sound before (own ∷ []) after u.was).1.0
+  there : AreThere b s.records before × (AreThere b s.records (own ∷ []) × AreThere b s.records after)
+  there = parts_there b s sound before (own ∷ []) after u.was
 
   leaves : LeavesChain (λ (a : AttributeShape). a.adr) adr_num (λ (a : AttributeShape). a.gr_entries ++ a.z_entries) aedr_attr_num b mid mid s Attrs s.attributes before own after (numbering_marks (adrs_in after) (entries_in after)) [] []
   leaves = record {
@@ -216,7 +123,7 @@ module _ {b mid : List ℕ} {s : Shape} {before : List AttributeShape} {own : At
     numbered = u.written ∙ ap (λ (ws : List Write). with_writes u.first (write s.gdr gdr_num_attr (length before + length after) ∷ ws)) (as_numbers (length before) after);
     written = refl;
     covered = λ m i t. inl (record { typed = t; lies = i; low = omega arith; high = omega arith });
-    may_others = may_say sound after (parts_there b s sound before (own ∷ []) after u.was).1.1;
+    may_others = may_say sound after there.1.1;
     may_last = tt;
     lasts_in = λ m none. absurd none;
     once = (only_gdr, distinct_if (flat_map attribute_records after) (λ m. back (times m (flat_map attribute_records before)) (times m (attribute_records own)) (times m (flat_map attribute_records after)) (parts_once b s sound before own after u.was m)));
@@ -232,24 +139,97 @@ module _ {b mid : List ℕ} {s : Shape} {before : List AttributeShape} {own : At
   unlinked_edit : Edit b mid s.records s.records (unlinking_marks s.gdr (adrs_in s.attributes) (adrs_in after) (entries_in after)) []
   unlinked_edit = left_edit leaves
 
-  unlinks_removes : Removes b mid s before own after [] 0
-  unlinks_removes = record {
-    edit = edit_under unlinked_edit (deleting_marks s.gdr (adrs_in s.attributes) (adrs_in after) (entries_in after) s.unused [] 0) (λ m type lo hi i is a. (Avoids-split (unlinking_marks s.gdr (adrs_in s.attributes) (adrs_in after) (entries_in after)) (freeing_marks attribute_types s.unused [] 0) type m lo hi a).0);
-    was = u.was;
-    mine = λ m i. absurd i;
-  }
+  -- no record is of an attribute before it and of one behind it
+  apart : (m : ℕ) → In m (flat_map attribute_records before) → In m (flat_map attribute_records after) → ⊥
+  apart m i j = twice (times m (flat_map attribute_records before)) (times m (attribute_records own)) (times m (flat_map attribute_records after)) (parts_once b s sound before own after u.was m) (times-in m (flat_map attribute_records before) i) (times-in m (flat_map attribute_records after) j)
+    where
+      twice : (x o y : ℕ) → x + (o + y) ≤ 1 → 1 ≤ x → 1 ≤ y → ⊥
+      twice x o y l p q = omega arith
 
-  -- ---- the image is sound, and no one has the records of the attribute
+  only : (m : ℕ) → In m (attribute_records own) → OnlyOwns b s before after m
+  only = only_owns b s sound before own after u.was
 
-  abbrev left_shape : Shape
-  left_shape = without_one sound unlinks_removes s.unused
+  long : (m : ℕ) → In m s.records → is_in (type_at b m) attribute_types ≡ true → 28 ≤ size_at b m
+  long m i typed = by_type (λ (t : ℕ). type_at b m ≡ t → 28 ≤ size_at b m) (λ is. let l = fixed_long b s h adr_type m i is in omega arith) (λ is. let l = fixed_long b s h agr_edr_type m i is in omega arith) (λ is. let l = fixed_long b s h az_edr_type m i is in omega arith) (type_at b m) typed refl
 
-  unlinked_sound : IsSound mid left_shape
-  unlinked_sound = sound_if sound (splices sound unlinks_removes (record { numbered = said_now leaves; attribute_chain = chain_now leaves; unused_chain = list_now leaves; freed = λ m i. absurd i })) tt
-      (not_twice (left_by sound unlinks_removes s.unused) unlinked_edit)
+  -- the shape without it: nobody has its records
+  abbrev without_one : List ℕ → Shape
+  without_one list = spliced s s.records list (before ++ after)
 
-  unlinked_shape : shape mid ≡ left_shape
-  unlinked_shape = shape_is mid left_shape unlinked_sound.has_shape
+  left_by : (list : List ℕ) → Left b s (without_one list) (attribute_records own)
+  left_by list = left_of attribute_records sound own (λ m. spliced_times s s.records list before (own ∷ []) [] after u.was m 0 (times m (flat_map attribute_records (own ∷ []))) (omega arith))
+
+  -- ---- the others, whichever records of it are freed as well
+
+  module _ {now places : List ℕ} {limit : ℕ} (e : Edit b now s.records s.records (deleting_marks s.gdr (adrs_in s.attributes) (adrs_in after) (entries_in after) s.unused places limit) places) (mine : (m : ℕ) → In m places → In m (attribute_records own)) where
+    abbrev marks : List Mark
+    marks = deleting_marks s.gdr (adrs_in s.attributes) (adrs_in after) (entries_in after) s.unused places limit
+
+    stays : (m : ℕ) → In m s.records → is_in (type_at b m) attribute_types ≡ true → (In m places → ⊥) → StaysBut b now m (changing (type_at b m))
+    stays m i typed out = by_type (λ (t : ℕ). type_at b m ≡ t → StaysBut b now m (changing t))
+        (λ is. stays_within e m adr_type (changing adr_type) i is (avoids-of_type marks adr_type m 0 12 ((λ q l. inl (omega arith)), ((λ q l. inl (omega arith)), ((λ q l. absurd (out l)), tt)))) (within-of_type marks adr_type m (changing adr_type) ((λ q l. refl), ((λ q l. refl), ((λ q l. absurd (out l)), tt)))))
+        (λ is. stays_within e m agr_edr_type (changing agr_edr_type) i is (avoids-of_type marks agr_edr_type m 0 12 ((λ q l. inl (omega arith)), ((λ q l. absurd (out l)), tt))) (within-of_type marks agr_edr_type m (changing agr_edr_type) ((λ q l. refl), ((λ q l. absurd (out l)), tt))))
+        (λ is. stays_within e m az_edr_type (changing az_edr_type) i is (avoids-of_type marks az_edr_type m 0 12 ((λ q l. inl (omega arith)), ((λ q l. absurd (out l)), tt))) (within-of_type marks az_edr_type m (changing az_edr_type) ((λ q l. refl), ((λ q l. absurd (out l)), tt))))
+        (type_at b m) typed refl
+
+    -- one that is of none behind it stays but for a link
+    links : (m : ℕ) → In m s.records → is_in (type_at b m) attribute_types ≡ true → (In m places → ⊥) → (In m (flat_map attribute_records after) → ⊥) → StaysBut b now m (next_field ∷ [])
+    links m i typed out beside = by_type (λ (t : ℕ). type_at b m ≡ t → StaysBut b now m (next_field ∷ []))
+        (λ is. stays_within e m adr_type (next_field ∷ []) i is (avoids-of_type marks adr_type m 0 12 ((λ q l. inl (omega arith)), ((λ q l. inl (omega arith)), ((λ q l. absurd (out l)), tt)))) (within-of_type marks adr_type m (next_field ∷ []) ((λ q l. refl), ((λ q l. absurd (beside (adrs_owned after m l))), ((λ q l. absurd (out l)), tt)))))
+        (λ is. stays_within e m agr_edr_type (next_field ∷ []) i is (avoids-of_type marks agr_edr_type m 0 12 ((λ q l. inl (omega arith)), ((λ q l. absurd (out l)), tt))) (within-of_type marks agr_edr_type m (next_field ∷ []) ((λ q l. absurd (beside (entries_owned after m l))), ((λ q l. absurd (out l)), tt))))
+        (λ is. stays_within e m az_edr_type (next_field ∷ []) i is (avoids-of_type marks az_edr_type m 0 12 ((λ q l. inl (omega arith)), ((λ q l. absurd (out l)), tt))) (within-of_type marks az_edr_type m (next_field ∷ []) ((λ q l. absurd (beside (entries_owned after m l))), ((λ q l. absurd (out l)), tt))))
+        (type_at b m) typed refl
+
+    gone_before : (m : ℕ) → In m (flat_map attribute_records before) → In m places → ⊥
+    gone_before m i j = (only m (mine m j)).in_before i
+
+    gone_after : (m : ℕ) → In m (flat_map attribute_records after) → In m places → ⊥
+    gone_after m i j = (only m (mine m j)).in_after i
+
+    lasts : (as_ : List AttributeShape) → AreThere b s.records as_ → ((m : ℕ) → In m (flat_map attribute_records as_) → In m places → ⊥) → Each (λ a. (m : ℕ) → In m (a.gr_entries ++ a.z_entries) → number b m aedr_attr_num ≡ number b a.adr adr_num → number now m aedr_attr_num ≡ number now a.adr adr_num) as_ → Each (AttributeLasts b now) as_
+    lasts as_ all out = Each-apply _ (AttributeLasts b now) as_ (each_there b s.records _ as_ all (λ a t at sub says. record {
+      adr = subst (λ (t : ℕ). StaysBut b now a.adr (changing t)) (linkable-type b s.records adr_type a.adr t.linked.0) (stays a.adr (linkable-in b s.records adr_type a.adr t.linked.0) (attribute_typed b s.records as_ all a.adr (sub a.adr (inl refl))) (out a.adr (sub a.adr (inl refl))));
+      entries = λ m i. let x = entry sound e a t.have.0 m i in Each-in (λ (t : ℕ). StaysBut b now m (changing t) → StaysBut b now m (aedr_attr_num ∷ [])) (agr_edr_type ∷ az_edr_type ∷ []) ((λ k. k), ((λ k. k), tt)) (type_at b m) (true-is_in (type_at b m) (agr_edr_type ∷ az_edr_type ∷ []) x.1) (stays m x.0 (attribute_typed b s.records as_ all m (sub m (inr i))) (out m (sub m (inr i))));
+      numbered = says;
+    }))
+
+    -- those before it have their numbers
+    number_before : (m : ℕ) (f : Field) → In m (flat_map attribute_records before) → 20 ≤ f.place → f.place + f.width ≤ size_at b m → number now m f ≡ number b m f
+    number_before m f i low fits = field_stays (links m (front_in b s sound before own after u.was m i) (attribute_typed b s.records before there.0 m i) (gone_before m i) (apart m i)) f fits (λ n p q. (inr (omega arith), tt))
+
+    nums_before : (m : ℕ) → In m (adrs_in before) → number now m adr_num ≡ number b m adr_num
+    nums_before m i =
+        let ok = h.attribute_chain.linkable m (subst (λ (as_ : List AttributeShape). In m (adrs_in as_)) (sym u.was) (subst (In m) (sym (map-append (λ (a : AttributeShape). a.adr) before (own ∷ after))) (In-append_left m (adrs_in before) (own.adr ∷ adrs_in after) i))) in
+        let wide = fixed_long b s h adr_type m (linkable-in b s.records adr_type m ok) (linkable-type b s.records adr_type m ok) in
+        number_before m adr_num (adrs_owned before m i) (omega arith) (omega arith)
+
+    splices : {list : List ℕ} → Each (Says now) (numbers (length before) after) → IsChain now s.records adr_type (number now s.gdr gdr_adr_head) (adrs_in (before ++ after)) → IsChain now s.records uir_type (number now s.gdr gdr_uir_head) list → ((m : ℕ) → In m places → type_at now m ≡ uir_type)
+        → Splices b now s s.records list marks places before (own ∷ []) [] after
+    splices says chain unused freed =
+        let file = file_same sound e refl in
+        record {
+          edit = e;
+          was = u.was;
+          file_clear = refl;
+          variables_clear = refl;
+          before_remain = all_last sound e file before there.0 (lasts before there.0 gone_before (each_there b s.records _ before there.0 (λ a t at sub m i was. number_before m aedr_attr_num (sub m (inr i)) (omega arith) (let l = entry_long sound e a t.have.0 m i in omega arith) ∙ was ∙ sym (nums_before a.adr at))));
+          after_remain = all_last sound e file after there.1.1 (lasts after there.1.1 gone_after (Each-map _ _ (λ a k m i was. k m i) after (others_say (λ (a : AttributeShape). a.adr) adr_num (λ (a : AttributeShape). a.gr_entries ++ a.z_entries) aedr_attr_num now (length before) after says)));
+          typed = λ m i. unused_real now s.records m e.tiled_now (e.sub m (own_in b s sound before own after u.was m (mine m i))) (freed m i);
+          attribute_chain = chain;
+          unused_chain = unused;
+          own_entries = tt;
+        }
+
+  -- ---- before its records are freed, the image is sound, and they can be
+
+  unlinked : Edit b mid s.records s.records (deleting_marks s.gdr (adrs_in s.attributes) (adrs_in after) (entries_in after) s.unused [] 0) []
+  unlinked = edit_under unlinked_edit _ (λ m type lo hi i is a. (Avoids-split (unlinking_marks s.gdr (adrs_in s.attributes) (adrs_in after) (entries_in after)) (freeing_marks attribute_types s.unused [] 0) type m lo hi a).0)
+
+  unlinked_sound : IsSound mid (without_one s.unused)
+  unlinked_sound = sound_if sound (splices unlinked (λ m i. absurd i) (said_now leaves) (chain_now leaves) (list_now leaves) (λ m i. absurd i)) tt (not_twice (left_by s.unused) unlinked_edit)
+
+  unlinked_shape : shape mid ≡ without_one s.unused
+  unlinked_shape = shape_is mid (without_one s.unused) unlinked_sound.has_shape
 
   mid_sound : IsSound mid (shape mid)
   mid_sound = subst (IsSound mid) (sym unlinked_shape) unlinked_sound
@@ -257,11 +237,19 @@ module _ {b mid : List ℕ} {s : Shape} {before : List AttributeShape} {own : At
   own_mine : (m : ℕ) → In m (own.gr_entries ++ own.z_entries ++ own.adr ∷ []) → In m (attribute_records own)
   own_mine m i = elim (In-append m (own.gr_entries ++ own.z_entries) (own.adr ∷ []) i) [ inl j ↦ inr j | inr j ↦ elim j [ inl e ↦ inl e | inr none ↦ absurd none ] ]
 
-  -- its records can be freed
   own_free : AreFree mid (own.gr_entries ++ own.z_entries ++ own.adr ∷ [])
   own_free =
-      let left = left_by sound unlinks_removes s.unused in
-      can_be_freed left unlinked_edit unlinked_shape (own_in b s sound before own after u.was) (own.gr_entries ++ own.z_entries ++ own.adr ∷ []) own_mine (Distinct-push (own.gr_entries ++ own.z_entries) own.adr (mine_once left).1 (mine_once left).0)
+      let once = mine_once (left_by s.unused) in
+      can_be_freed (left_by s.unused) unlinked_edit unlinked_shape (own_in b s sound before own after u.was) (own.gr_entries ++ own.z_entries ++ own.adr ∷ []) own_mine (Distinct-push (own.gr_entries ++ own.z_entries) own.adr once.1 once.0)
+
+  own_typed : (m : ℕ) → In m (attribute_records own) → is_in (type_at b m) attribute_types ≡ true
+  own_typed m i = attribute_typed b s.records (own ∷ []) there.1.0 m (In-append_left m (attribute_records own) [] i)
+
+  -- and they stay but for a link
+  own_behind : (m : ℕ) → In m (attribute_records own) → Same b mid (m + links_end (size_at b m)) (m + size_at b m)
+  own_behind m i =
+      let inside = own_in b s sound before own after u.was m i in
+      behind_stays (links unlinked (λ m i. absurd i) m inside (own_typed m i) (λ none. none) (only m i).in_after) (long m inside (own_typed m i)) (λ n l. (inr (omega arith), tt))
 
 module _ {b now : List ℕ} {n : ℕ} (good : Good b) (d : Deletes b now n) where
   abbrev s : Shape
@@ -273,9 +261,6 @@ module _ {b now : List ℕ} {n : ℕ} (good : Good b) (d : Deletes b now n) wher
   abbrev places : List ℕ
   places = d.own.gr_entries ++ d.own.z_entries ++ d.own.adr ∷ []
 
-  mine : (m : ℕ) → In m places → In m (attribute_records d.own)
-  mine = own_mine sound d.unlinks
-
   frees : Frees b d.mid now (unlinking_marks s.gdr (adrs_in s.attributes) (adrs_in d.after) (entries_in d.after)) attribute_types places
   frees = record {
     sound = sound;
@@ -285,29 +270,25 @@ module _ {b now : List ℕ} {n : ℕ} (good : Good b) (d : Deletes b now n) wher
     records = ap (λ (x : Shape). x.records) (unlinked_shape sound d.unlinks);
     unused = ap (λ (x : Shape). x.unused) (unlinked_shape sound d.unlinks);
     free = own_free sound d.unlinks;
-    typed = λ m i. attribute_typed b s.records (d.own ∷ []) (own_there sound d.unlinks) m (In-append_left m (attribute_records d.own) [] (mine m i));
+    typed = λ m i. own_typed sound d.unlinks m (own_mine sound d.unlinks m i);
     no_gdr = refl;
     given = d.given;
   }
 
-  removes : Removes b now s d.before d.own d.after places (length d.mid)
-  removes = record { edit = freed_edit frees; was = d.unlinks.was; mine = mine }
+  e : Edit b now s.records s.records (deleting_marks s.gdr (adrs_in s.attributes) (adrs_in d.after) (entries_in d.after) s.unused places (length d.mid)) places
+  e = freed_edit frees
 
-  shape_after : shape now ≡ without_one sound removes (shape now).unused
+  shape_after : shape now ≡ without_one sound d.unlinks (shape now).unused
   shape_after = shape_now frees (unlinked_shape sound d.unlinks)
 
-  says : SaysRemoved sound removes (shape now).unused
-  says = record {
-    numbered = says_still frees _ _ (may_now (leaves sound d.unlinks)) (λ m i.
-        let j = subst (In m) (tiles_numbered (λ (a : AttributeShape). a.adr) adr_num (λ (a : AttributeShape). a.gr_entries ++ a.z_entries) aedr_attr_num (length d.before) d.after) i in
-        (ap (λ (t : ℕ). is_in t attribute_types) (freed_types frees m (back_in b s sound d.before d.own d.after d.unlinks.was m j)) ∙ attribute_typed b s.records d.after (there sound removes).1.1 m j, gone_after sound removes m j)) (said_now (leaves sound d.unlinks));
-    attribute_chain = subst (λ (x : Shape). IsChain now x.records adr_type (number now x.gdr gdr_adr_head) (adrs x)) shape_after (sound_now frees).has_shape.attribute_chain;
-    unused_chain = subst (λ (x : Shape). IsChain now x.records uir_type (number now x.gdr gdr_uir_head) x.unused) shape_after (sound_now frees).has_shape.unused_chain;
-    freed = all_freed frees;
-  }
+  says : Each (Says now) (numbers (length d.before) d.after)
+  says = says_still frees _ _ (may_now (leaves sound d.unlinks)) (λ m i.
+      let j = subst (In m) (tiles_numbered (λ (a : AttributeShape). a.adr) adr_num (λ (a : AttributeShape). a.gr_entries ++ a.z_entries) aedr_attr_num (length d.before) d.after) i in
+      (ap (λ (t : ℕ). is_in t attribute_types) (freed_types frees m (back_in b s sound d.before d.own d.after d.unlinks.was m j)) ∙ attribute_typed b s.records d.after (there sound d.unlinks).1.1 m j, gone_after sound d.unlinks e (own_mine sound d.unlinks) m j)) (said_now (leaves sound d.unlinks))
 
-  whole : Splices b now s s.records (shape now).unused (marks sound removes) places d.before (d.own ∷ []) [] d.after
-  whole = splices sound removes says
+  whole : Splices b now s s.records (shape now).unused (marks sound d.unlinks e (own_mine sound d.unlinks)) places d.before (d.own ∷ []) [] d.after
+  whole = splices sound d.unlinks e (own_mine sound d.unlinks) says (subst (λ (x : Shape). IsChain now x.records adr_type (number now x.gdr gdr_adr_head) (adrs x)) shape_after (sound_now frees).has_shape.attribute_chain)
+      (subst (λ (x : Shape). IsChain now x.records uir_type (number now x.gdr gdr_uir_head) x.unused) shape_after (sound_now frees).has_shape.unused_chain) (all_freed frees)
 
   content_after : content now ≡ record (content b) { attributes = remove (content b).attributes n }
   content_after =
@@ -317,62 +298,41 @@ module _ {b now : List ℕ} {n : ℕ} (good : Good b) (d : Deletes b now n) wher
   -- ---- the rules
 
   counted : Hold (adrs_rows now (adrs_in (d.before ++ d.after)))
-  counted =
-      let f = λ (a : AttributeShape). a.adr in
-      let numbered = subst (λ (n : ℕ). AreNumbered now adr_num n (adrs_in d.after)) (sym (length-map d.before f)) (are_numbered (λ (a : AttributeShape). a.adr) adr_num (λ (a : AttributeShape). a.gr_entries ++ a.z_entries) aedr_attr_num now (length d.before) d.after says.numbered) in
-      let numbers = one_less 4 adr_num b now (adrs_in d.before) d.own.adr (adrs_in d.after) (nums_before sound removes) numbered (subst (λ (ms : List ℕ). Hold (number_rows 4 b adr_num 0 ms)) (ap adrs_in d.unlinks.was ∙ map-append f d.before (d.own ∷ d.after)) (attributes_counted (good_by_its_shape b good)).1) in
-      let count = ap (λ (g : ℕ). number now g gdr_num_attr) (gdr_place sound removes.edit refl) ∙ gdr_still frees gdr_num_attr (omega arith) ∙ counted_now (leaves sound d.unlinks) in
-      (eq-eqb _ _ count, subst (λ (ms : List ℕ). Hold (number_rows 4 now adr_num 0 ms)) (sym (map-append f d.before d.after)) numbers)
+  counted = (
+    eq-eqb _ _ (ap (λ (g : ℕ). number now g gdr_num_attr) (gdr_place sound e refl) ∙ gdr_still frees gdr_num_attr (omega arith) ∙ counted_now (leaves sound d.unlinks)),
+    fewer_rows (λ (a : AttributeShape). a.adr) adr_num 4 b now s.attributes d.before d.own d.after d.unlinks.was (nums_before sound d.unlinks e (own_mine sound d.unlinks)) (are_numbered (λ (a : AttributeShape). a.adr) adr_num (λ (a : AttributeShape). a.gr_entries ++ a.z_entries) aedr_attr_num now (length d.before) d.after says) (attributes_counted (good_by_its_shape b good)).1,
+  )
 
   differ : Hold (differ_rows 2 (same_name now adr_name) [] (adrs_in (d.before ++ d.after)))
   differ =
-      let p = (Hold-split (flat_map (attribute_shape_rows b) s.attributes) (differ_rows 2 (same_name b adr_name) [] (adrs s)) (good_by_its_shape b good).attributes).1 in
-      let f = λ (a : AttributeShape). a.adr in
-      let names = λ (x : List ℕ). names_at x adr_name in
-      let old : names b (adrs s) ≡ names b (adrs_in d.before) ++ name_in b d.own.adr adr_name ∷ names b (adrs_in d.after) = ap (λ (as_ : List AttributeShape). names b (adrs_in as_)) d.unlinks.was ∙ ap (names b) (map-append f d.before (d.own ∷ d.after)) ∙ map-append (λ (m : ℕ). name_in b m adr_name) (adrs_in d.before) (d.own.adr ∷ adrs_in d.after) in
-      let x = remaining_names b now s.records d.before whole.before_remain in
-      let y = remaining_names b now s.records d.after whole.after_remain in
-      let new : names now (adrs_in (d.before ++ d.after)) ≡ names b (adrs_in d.before) ++ names b (adrs_in d.after) = ap (names now) (map-append f d.before d.after) ∙ map-append (λ (m : ℕ). name_in now m adr_name) (adrs_in d.before) (adrs_in d.after) ∙ (λ i. x i ++ y i) in
-      differ_by_names 2 now adr_name _ (subst (AreNew []) (sym new) (new_removed [] (names b (adrs_in d.before)) (name_in b d.own.adr adr_name) (names b (adrs_in d.after)) (subst (AreNew []) old (names_differ 2 b adr_name (adrs s) p))))
+      let were = names_differ 2 b adr_name (adrs s) (Hold-split (flat_map (attribute_shape_rows b) s.attributes) (differ_rows 2 (same_name b adr_name) [] (adrs s)) (good_by_its_shape b good).attributes).1 in
+      let same = remaining_names b now s.records (d.before ++ d.after) (Each-append (AttributeRemains b now s.records) d.before d.after whole.before_remain whole.after_remain) in
+      differ_by_names 2 now adr_name _ (subst (AreNew []) (sym same) (new_removed b [] d.before d.own d.after (subst (λ (as_ : List AttributeShape). AreNew [] (names_at b adr_name (adrs_in as_))) d.unlinks.was were)))
 
   good_after : length b ≤ image_limit → Good now
   good_after short =
       let image = good_by_its_shape b good in
       let first = (sealed_kept b (good_long b s image) (rules_of_good b good)).0 in
-      let end = gdr_field sound removes.edit refl gdr_eof refl (omega arith) ∙ eof_by_rules b s sound first ∙ sym (freed_long frees) in
+      let end = gdr_field sound e refl gdr_eof refl (omega arith) ∙ eof_by_rules b s sound first ∙ sym (freed_long frees) in
       good_image_if sound whole first image (record {
         counted = counted;
         own_rules = tt;
         differ = differ;
-        read = λ m i. subst (λ (t : ℕ). is_in t read_types ≡ true) (sym (says.freed m i)) refl;
-        owned = owned_left (left_by sound removes (shape now).unused) image.owned_once removes.edit mine all_mine says.freed;
+        read = λ m i. subst (λ (t : ℕ). is_in t read_types ≡ true) (sym (all_freed frees m i)) refl;
+        owned = owned_left (left_by sound d.unlinks (shape now).unused) image.owned_once e (own_mine sound d.unlinks) all_mine (all_freed frees);
       }) end (let l = freed_long frees in omega arith)
     where
       all_mine : (m : ℕ) → In m (attribute_records d.own) → In m places
       all_mine m (inl e) = In-append_right m (d.own.gr_entries ++ d.own.z_entries) (d.own.adr ∷ []) (inl e)
       all_mine m (inr i) = In-append_left m (d.own.gr_entries ++ d.own.z_entries) (d.own.adr ∷ []) i
 
-  -- ---- its space
-
-  -- before they are freed, its records stay but for a link
-  own_behind : (m : ℕ) → In m (attribute_records d.own) → Same b d.mid (m + links_end (size_at b m)) (m + size_at b m)
-  own_behind m (inl e) =
-      let ok = (own_there sound d.unlinks).linked.0 in
-      let out = λ (j : In d.own.adr (adrs_in d.after)). absurd ((only_owns b s sound d.before d.own d.after d.unlinks.was d.own.adr (inl refl)).in_after (adrs_owned d.after d.own.adr j)) in
-      subst (λ (x : ℕ). Same b d.mid (x + links_end (size_at b x)) (x + size_at b x)) (sym e)
-      (behind_stays (adr_stays sound (unlinks_removes sound d.unlinks) d.own.adr [] (linkable-in b s.records adr_type d.own.adr ok) (linkable-type b s.records adr_type d.own.adr ok) (λ x. x) out) (linkable-long b s.records adr_type d.own.adr ok) (λ i l. (inr (omega arith), tt)))
-  own_behind m (inr i) =
-      let r = unlinks_removes sound d.unlinks in
-      let has = (own_there sound d.unlinks).have.0 in
-      let x = entry sound r.edit d.own has m i in
-      behind_stays (entry_stays sound r m [] x.0 x.1 (λ j. j) (λ j. absurd ((only_owns b s sound d.before d.own d.after d.unlinks.was m (inr i)).in_after (entries_owned d.after m j)))) (entry_long sound r.edit d.own has m i) (λ n l. tt)
-
 -- ---- what the command may change
 
 -- either of two allowances
-either_keeps : (b now : List ℕ) (p : Bool) (m : ℕ) (a : Allowance) → Keeps b now m a → Keeps b now m (if p then Anything else a)
-either_keeps b now true m a k = tt
-either_keeps b now false m a k = k
+either_keeps : (b now : List ℕ) (p q : Bool) (m : ℕ) (fields others : List Field) → Keeps b now m (Only (if q then fields else others)) → Keeps b now m (if p then Anything else (if q then Only fields else Only others))
+either_keeps b now true q m fields others k = tt
+either_keeps b now false true m fields others k = k
+either_keeps b now false false m fields others k = k
 
 module _ {b now : List ℕ} {n : ℕ} (good : Good b) (d : Deletes b now n) (name : List ℕ) (w : Attribute) (found : attribute_named (content b) name ≡ Some (n, w)) where
   abbrev may : Allowances
@@ -381,19 +341,11 @@ module _ {b now : List ℕ} {n : ℕ} (good : Good b) (d : Deletes b now n) (nam
   abbrev acts : List Act
   acts = gave b (places good d)
 
-  abbrev branch : Bool → Allowance
-  branch p = if p then Only (next_field ∷ adr_num ∷ []) else Only (aedr_attr_num ∷ [])
-
   -- a record of an attribute that is not freed
   one_keeps : (k m : ℕ) → In m (shape b).records → is_in (type_at b m) attribute_types ≡ true → (In m (places good d) → ⊥) → Keeps b now m (may.attributes k m)
-  one_keeps k m i typed away =
-      let head = (removes good d).edit.head m i (λ u. (let no = sym (ap (λ (t : ℕ). is_in t attribute_types) u) ∙ typed in absurd cc)) away in
-      let stays = λ (fields : List Field). keeps_stays (sound good d) (removes good d).edit (freed_records (frees good d)) m fields i head in
-      let entry = λ (t : ℕ) (is : type_at b m ≡ t) (of : is_in t (agr_edr_type ∷ az_edr_type ∷ []) ≡ true). stays (aedr_attr_num ∷ []) (entry_stays (sound good d) (removes good d) m (aedr_attr_num ∷ []) i (ap (λ (t : ℕ). is_in t (agr_edr_type ∷ az_edr_type ∷ [])) is ∙ of) away (λ j. refl)) in
-      either_keeps b now (is_attribute (content b) name k) m (branch (type_at b m == adr_type)) (Each-in (λ (t : ℕ). type_at b m ≡ t → Keeps b now m (branch (t == adr_type))) attribute_types (
-        (λ is. stays (next_field ∷ adr_num ∷ []) (adr_stays (sound good d) (removes good d) m (adr_num ∷ []) i is away (λ j. refl))),
-        ((λ is. entry agr_edr_type is refl), ((λ is. entry az_edr_type is refl), tt)),
-      ) (type_at b m) (true-is_in (type_at b m) attribute_types typed) refl)
+  one_keeps k m i typed out =
+      let head = (e good d).head m i (λ u. (let no = sym (ap (λ (t : ℕ). is_in t attribute_types) u) ∙ typed in absurd cc)) out in
+      either_keeps b now (is_attribute (content b) name k) (type_at b m == adr_type) m (next_field ∷ adr_num ∷ []) (aedr_attr_num ∷ []) (keeps_stays (sound good d) (e good d) (freed_records (frees good d)) m _ i head (stays (sound good d) d.unlinks (e good d) (own_mine (sound good d) d.unlinks) m i typed out))
 
   named : is_attribute (content b) name (length d.before) ≡ true
   named = ap (λ (f : Option (ℕ × Attribute)). elim f [ None ↦ false | Some x ↦ x.0 == length d.before ]) found ∙ eq-eqb n (length d.before) (sym d.count)
@@ -403,17 +355,17 @@ module _ {b now : List ℕ} {n : ℕ} (good : Good b) (d : Deletes b now n) (nam
       let s : Shape = shape b in
       let ok = sound good d in
       let h = ok.has_shape in
-      let e = (removes good d).edit in
       let same = freed_records (frees good d) in
-      let t = there ok (removes good d) in
-      let f = keep_file b now may acts ok (keeps_fields ok e same 8 cdr_type [] (is_a-in b s.records cdr_type 8 h.cdr_stands) (is_a-type b s.records cdr_type 8 h.cdr_stands) refl refl) (keeps_fields ok e same s.gdr gdr_type attributes_gdr_fields (gdr_in b s h) (gdr_typed b s h) refl refl) in
+      let t = there ok d.unlinks in
+      let mine = own_mine ok d.unlinks in
+      let f = keep_file b now may acts ok (keeps_fields ok (e good d) same 8 cdr_type [] (is_a-in b s.records cdr_type 8 h.cdr_stands) (is_a-type b s.records cdr_type 8 h.cdr_stands) refl refl) (keeps_fields ok (e good d) same s.gdr gdr_type attributes_gdr_fields (gdr_in b s h) (gdr_typed b s h) refl refl) in
       let a = keep_parts b now may acts d.before (d.own ∷ []) d.after d.unlinks.was
-      (keep_each b now may acts 0 d.before (λ k m i. one_keeps k m (front_in b s ok d.before d.own d.after d.unlinks.was m i) (attribute_typed b s.records d.before t.0 m i) (gone_before ok (removes good d) m i)))
+      (keep_each b now may acts 0 d.before (λ k m i. one_keeps k m (front_in b s ok d.before d.own d.after d.unlinks.was m i) (attribute_typed b s.records d.before t.0 m i) (gone_before ok d.unlinks (e good d) mine m i)))
       (AllKeep-append b now may acts (owned_by (OneAttribute (length d.before)) (attribute_records d.own)) [] (keep_places b now may acts (OneAttribute (length d.before)) (attribute_records d.own) (λ m i.
-      subst (λ (p : Bool). Keeps b now m (if p then Anything else branch (type_at b m == adr_type))) (sym named) tt)) tt)
-      (keep_each b now may acts (length d.before + length (d.own ∷ [])) d.after (λ k m i. one_keeps k m (back_in b s ok d.before d.own d.after d.unlinks.was m i) (attribute_typed b s.records d.after t.1.1 m i) (gone_after ok (removes good d) m i))) in
-      let u = keep_unused ok e same may acts (λ m i free. (avoided-avoids (marks ok (removes good d)) uir_type m 0 12 refl, within-within (marks ok (removes good d)) uir_type m (uir_next_uir ∷ uir_prev_uir ∷ []) refl)) (λ m i out. away-of_type (marks ok (removes good d)) uir_type m ((λ same lies. absurd (out lies)), tt)) in
-      all_keep b now may acts f a (λ m i. stood ok e same m (variables_in b s ok m i) (all_variables_kept ok e refl m i)) u
+      subst (λ (p : Bool). Keeps b now m (if p then Anything else (if type_at b m == adr_type then Only (next_field ∷ adr_num ∷ []) else Only (aedr_attr_num ∷ [])))) (sym named) tt)) tt)
+      (keep_each b now may acts (length d.before + length (d.own ∷ [])) d.after (λ k m i. one_keeps k m (back_in b s ok d.before d.own d.after d.unlinks.was m i) (attribute_typed b s.records d.after t.1.1 m i) (gone_after ok d.unlinks (e good d) mine m i))) in
+      let u = keep_unused ok (e good d) same may acts (λ m i free. (avoided-avoids (marks ok d.unlinks (e good d) mine) uir_type m 0 12 refl, within-within (marks ok d.unlinks (e good d) mine) uir_type m (uir_next_uir ∷ uir_prev_uir ∷ []) refl)) (λ m i out. away-of_type (marks ok d.unlinks (e good d) mine) uir_type m ((λ same lies. absurd (out lies)), tt)) in
+      all_keep b now may acts f a (λ m i. stood ok (e good d) same m (variables_in b s ok m i) (all_variables_kept ok (e good d) refl m i)) u
 
   -- the attribute that has the name is this one
   own_is : (k : ℕ) (a : AttributeShape) → is_attribute (content b) name k ≡ true → slice_get (shape b).attributes k ≡ Some a → d.own ≡ a
@@ -426,13 +378,10 @@ module _ {b now : List ℕ} {n : ℕ} (good : Good b) (d : Deletes b now n) (nam
   delete_done limit fits short =
       let goes : del_attr_step (content b) name ≡ Go (record (content b) { attributes = remove (content b).attributes n }) replies.Plain = rw found refl in
       gone_by_giving limit b (commands.DelAttr name) now (places good d) refl refl (ap ByStep (goes ∙ ap (λ (x : DataSet). Go x replies.Plain) (sym (content_after good d)))) (good_after good d short) (freed_long (frees good d)) (freed_acts (frees good d) refl) keeps
-      (record { acts_are = λ k a is at. ap (λ (x : AttributeShape). gave b (x.gr_entries ++ x.z_entries ++ x.adr ∷ [])) (own_is k a is at); freed = freed_bytes (frees good d) (λ m i. own_behind good d m (mine good d m i)) }) fits
+      (record { acts_are = λ k a is at. ap (λ (x : AttributeShape). gave b (x.gr_entries ++ x.z_entries ++ x.adr ∷ [])) (own_is k a is at); freed = freed_bytes (frees good d) (λ m i. own_behind (sound good d) d.unlinks m (own_mine (sound good d) d.unlinks m i)) }) fits
 
 pub delete_refused : (limit : ℕ) (b name : List ℕ) → attribute_named (content b) name ≡ None → Answers limit b (commands.DelAttr name) (Refused reasons.NoSuchAttr) b
-delete_refused limit b name none = refused limit b (commands.DelAttr name) reasons.NoSuchAttr (ap ByStep (missing (content b) none))
-  where
-    missing : (d : DataSet) → attribute_named d name ≡ None → del_attr_step d name ≡ Refuse reasons.NoSuchAttr
-    missing d e = rw e refl
+delete_refused limit b name none = refused limit b (commands.DelAttr name) reasons.NoSuchAttr (ap ByStep (rw none refl))
 
 -- ---- names and places
 
@@ -441,9 +390,7 @@ module _ {b now : List ℕ} {n : ℕ} (good : Good b) (d : Deletes b now n) wher
   names_after = sym (map-removed (λ (a : Attribute). a.name) (content b).attributes n) ∙ ap attribute_names (sym (content_after good d))
 
   pub places_after : remove (adrs (shape b)) n ≡ adrs (shape now)
-  places_after =
-      sym (map-removed (λ (a : AttributeShape). a.adr) (shape b).attributes n)
-      ∙ (λ i. adrs_in (remove (d.unlinks.was i) (sym d.count i))) ∙ ap adrs_in (removed-at d.before d.own d.after) ∙ ap adrs (sym (shape_after good d))
+  places_after = ap (remove (adrs (shape b))) (sym d.count) ∙ map-without (λ (a : AttributeShape). a.adr) (shape b).attributes d.before d.own d.after d.unlinks.was ∙ sym (map-append (λ (a : AttributeShape). a.adr) d.before d.after) ∙ ap adrs (sym (shape_after good d))
 
 -- ---- what the calls come to, by the places of the attributes and the number of one
 
@@ -473,11 +420,9 @@ module _ (b : List ℕ) (good : Good b) (places : List ℕ) (are : places ≡ ad
         let adr = own.own_at in
         let ours = entries_are ∙ own_entries in
         let here : drop n (shape b).attributes ≡ own.own ∷ own.after = ap₂ (λ (as_ : List AttributeShape) (k : ℕ). drop k as_) own.is (sym own.count) ∙ drop-append_seam own.before (own.own ∷ own.after) in
-        let behind = own.later_are in
         let next : n + 1 - 1 ≡ suc (n - 1) = omega arith in
         let numbers = λ (adr : ℕ) (es : List ℕ). write adr adr_num (n - 1) ∷ map (λ (entry : ℕ). write entry aedr_attr_num (n - 1)) es in
-        (λ i. more_is i ++ numbers_from (next i) (behind i)) ∙ (λ i. (done ++ numbers (adr i) (ours i)) ++ numbers_from (suc (n - 1)) own.after)
-        ∙ append_assoc done (numbers own.own.adr (own.own.gr_entries ++ own.own.z_entries)) (numbers_from (suc (n - 1)) own.after) ∙ ap (λ (as_ : List AttributeShape). done ++ numbers_from (n - 1) as_) (sym here) ∙ before_is
+        (λ i. more_is i ++ numbers_from (next i) (own.later_are i)) ∙ append_assoc done (numbers (get_or places n 0) entries) (numbers_from (suc (n - 1)) own.after) ∙ (λ i. done ++ (numbers (adr i) (ours i) ++ numbers_from (suc (n - 1)) own.after)) ∙ ap (λ (as_ : List AttributeShape). done ++ numbers_from (n - 1) as_) (sym here) ∙ before_is
 
     -- it was taken out of the chain, and numbers are written
     module _ (short : length b ≤ image_limit) {x y second : List ℕ} (same : x ≡ b) (taken : TakenOut x second Attrs (get_or places n 0)) (earlier : y ≡ b) {writes : List Write} (read : writes ≡ numbers_from n (drop (n + 1) (shape y).attributes)) where

@@ -1,7 +1,7 @@
 -- Numbers that the members of a chain get one after the other, and that other records of theirs say.
 use Rattle.std.proofs.Common.{◌≡◌, ℕ, suc, ◌+◌, ◌^◌, ◌<◌, ◌≤◌, List, [], ◌∷◌, ◌++◌, length, map, refl, sym, ap, subst, ◌∙◌, arith, inl, inr}
-use Rattle.cdf_edits.proofs.Common.{flat_map, map-append, number, Field, Each, In, In-append, In-append_left, In-append_right, Each-split, Each-append, Write, write}
-use Rattle.cdf_edits.proofs.Edits.RowsOneLess.{AreNumbered}
+use Rattle.cdf_edits.proofs.Common.{length-map, number_rows, Hold, flat_map, map-append, number, Field, Each, In, In-append, In-append_left, In-append_right, Each-split, Each-append, Write, write}
+use Rattle.cdf_edits.proofs.Edits.RowsOneLess.{AreNumbered, one_less}
 use Rattle.cdf_edits.proofs.Edits.WrittenFields.{written_tiles}
 
 -- a field has its number
@@ -21,6 +21,12 @@ module _ {A : Type 0} (place : A → ℕ) (others : A → List ℕ) where
     | inl j ↦ inr (In-append_left m (others x) (flat_map (λ x. place x ∷ others x) more) j)
     | inr j ↦ In-append_right m (place x ∷ others x) (flat_map (λ x. place x ∷ others x) more) (other_in more m j)
   ]
+
+-- the rules on the numbers without one of them
+pub fewer_rows : {A : Type 0} (place : A → ℕ) (num : Field) (rule : ℕ) (b now : List ℕ) (all before : List A) (own : A) (after : List A) → all ≡ before ++ own ∷ after → ((m : ℕ) → In m (map place before) → number now m num ≡ number b m num) → AreNumbered now num (length before) (map place after)
+    → Hold (number_rows rule b num 0 (map place all)) → Hold (number_rows rule now num 0 (map place (before ++ after)))
+fewer_rows place num rule b now all before own after was same says h = subst (λ (ms : List ℕ). Hold (number_rows rule now num 0 ms)) (sym (map-append place before after))
+    (one_less rule num b now (map place before) (place own) (map place after) same (subst (λ (n : ℕ). AreNumbered now num n (map place after)) (sym (length-map before place)) says) (subst (λ (ms : List ℕ). Hold (number_rows rule b num 0 ms)) (ap (map place) was ∙ map-append place before (own ∷ after)) h))
 
 module _ {A : Type 0} (place : A → ℕ) (num : Field) (others : A → List ℕ) (said : Field) where
   -- what is written
