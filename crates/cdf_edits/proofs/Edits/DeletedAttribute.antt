@@ -1,40 +1,19 @@
 -- An attribute is taken out of the chain, counted no more, those behind it are numbered anew, and its records are freed: the image is good, with the content without it, and what it keeps of each record.
 use Rattle.std.proofs.Common.{◌≡◌, ◌⊎◌, ℕ, suc, ◌+◌, ◌<◌, ◌≤◌, List, [], ◌∷◌, ◌++◌, length, map, true, false, eq-eqb, refl, sym, ap, subst, ◌∙◌, arith, inl, inr, Bool, Option, Some, None, ◌-◌, drop, get_or, ap₂, append_assoc, append-nil}
-use Rattle.cdf_edits.proofs.Common.{Each-append, Field, eqb-true, map-append, flat_map, ◌==◌, if◌then◌else◌, IsChain, number, size_at, type_at, with_field, attribute_records, times, gdr_adr_head, gdr_uir_head, gdr_num_attr, aedr_attr_num, adr_num, gdr_type, adr_type, agr_edr_type, az_edr_type, uir_type, AttributeShape, Shape, Each, HasShape, adrs, shape, IsSound, In, linkable-in, linkable-type, In-append, In-append_left, In-append_right, Distinct-push, shape_is, is_linkable, Edit, unlinking_marks, deleting_marks, freeing_marks, Mark, attribute_types, Unlinks, Write, write, with_writes, numbers_from, AreFree, Attrs, Same, remove, slice_get, image_limit, is_in, next_field, content, LiesIn, OneAttribute, owned_by, owned, gdr_eof, uir_next_uir, uir_prev_uir, cdr_type, Good, is_a-in, is_a-type, good_by_its_shape, good_is_sound, rules_of_good, good_long, sealed_kept, Allowances, Anything, Only, Keeps, AllKeep, gave, links_end, Act, Go, Attribute, DataSet, attribute_named, attribute_names, ByStep, is_attribute, Done, Refused, Answers, same_Some, drop-append_seam, eq_of, counted_in, members_of, Removed, AllGiven, Lists, TakenOut, GrEntries, ZEntries, same_name, adrs_rows, differ_rows, attribute_of, name_in, attribute_shape_rows, read_types, adr_name, Hold, AreNew, names_at, names_differ, differ_by_names, Hold-split, content_is, true-is_in}
-use Rattle.cdf_edits.specs.Edits.ManyMarks.{numbering_marks}
+use Rattle.cdf_edits.proofs.Common.{Plain, Each-append, Field, eqb-true, map-append, flat_map, ◌==◌, if◌then◌else◌, IsChain, number, size_at, type_at, with_field, attribute_records, times, gdr_adr_head, gdr_uir_head, gdr_num_attr, aedr_attr_num, adr_num, gdr_type, adr_type, agr_edr_type, az_edr_type, uir_type, AttributeShape, Shape, Each, HasShape, adrs, shape, IsSound, In, linkable-in, linkable-type, In-append, In-append_left, In-append_right, Distinct-push, shape_is, is_linkable, Edit, unlinking_marks, deleting_marks, freeing_marks, Mark, attribute_types, Unlinks, Write, write, with_writes, numbers_from, AreFree, Attrs, Same, remove, slice_get, image_limit, is_in, next_field, content, LiesIn, OneAttribute, owned_by, owned, gdr_eof, uir_next_uir, uir_prev_uir, cdr_type, Good, is_a-in, is_a-type, good_by_its_shape, good_is_sound, rules_of_good, good_long, sealed_kept, Allowances, Anything, Only, Keeps, AllKeep, gave, links_end, Act, Go, Attribute, DataSet, attribute_named, attribute_names, ByStep, is_attribute, Done, Refused, Answers, same_Some, drop-append_seam, eq_of, counted_in, members_of, Removed, AllGiven, Lists, TakenOut, GrEntries, ZEntries, same_name, adrs_rows, differ_rows, attribute_of, name_in, attribute_shape_rows, read_types, adr_name, Hold, AreNew, names_at, names_differ, differ_by_names, Hold-split, content_is, true-is_in, numbering_marks, Deletes, del_attr_step, absent-split, absent-append}
+use Rattle.cdf_edits.proofs.Edits.Common.{edit_under, unused_real, fewer_rows, tiles_numbered, place_in, numbering, others_say, are_numbered, LeavingTests, LeavesChain, may_linked, left_edit, said_now, chain_now, list_now, as_long, counted_now, may_now, distinct_if, mine_once, not_twice, can_be_freed, Left, owned_left, left_of, Avoids-split, avoided-avoids, within-within, away-of_type, within-of_type, avoids-of_type, OnlyOwns, parts_once, own_in, only_owns, back_in, front_in, gdr_in, gdr_typed, some_bytes, fixed_long, MayWrite, writes_lie, flat-append, file_from_attributes, times-in, attribute_typed, Frees, freed_edit, sound_now, all_freed, says_still, gdr_still, behind_stays, gdr_field, file_same, gdr_place, eof_by_rules, refused, gone_by_giving, AllKeep-append, stood, keeps_fields, keep_unused, keep_places, keep_file, keep_parts, all_keep, keeps_stays, keep_each, attributes_counted, Each-map, variables_in, all_variables_kept, Each-apply, got-middle, map-removed, AtNumber, at_number, map-without, IsOf, few_members, lists}
 use Rattle.cdf_edits.proofs.Edits.AttributeFrame.{all_last, AreThere, more_there, entry, each_there, entry_long, remaining_names}
-use Rattle.cdf_edits.proofs.Edits.FreedRecords.{edit_under, unused_real}
-use Rattle.cdf_edits.proofs.Edits.NumbersBehind.{fewer_rows, tiles_numbered, place_in, other_in, Says, numbering, others_say, are_numbered}
-use Rattle.cdf_edits.proofs.Edits.LeftChain.{LeavingTests, LeavesChain, may_linked, left_edit, said_now, chain_now, list_now, as_long, counted_now, may_now, may as may_write}
-use Rattle.cdf_edits.proofs.Edits.LeftOwners.{distinct_if, mine_once, not_twice, can_be_freed, Left, owned_left, left_of}
-use Rattle.cdf_edits.proofs.Edits.MarkLemmas.{Avoids-split, avoided-avoids, within-within, away-of_type, within-of_type, avoids-of_type}
-use Rattle.cdf_edits.proofs.Edits.OwnedOnce.{OnlyOwns, parts_once, own_in, only_owns, back_in, spliced_times, front_in}
+use Rattle.cdf_edits.proofs.Edits.NumbersBehind.{other_in, Says}
+use Rattle.cdf_edits.proofs.Edits.LeftChain.{may as may_write}
+use Rattle.cdf_edits.proofs.Edits.OwnedOnce.{spliced_times}
 use Rattle.cdf_edits.proofs.Edits.Splice.{parts_there, spliced, Splices, content_now, sound_if, good_image_if}
-use Rattle.cdf_edits.proofs.Edits.StepEdits.{gdr_in, gdr_typed, some_bytes, fixed_long}
-use Rattle.cdf_edits.proofs.Edits.WrittenFields.{MayWrite, writes_lie}
-use Rattle.cdf_edits.proofs.Frame.OwnersApart.{flat-append, file_from_attributes, times-in}
-use Rattle.cdf_edits.specs.Edits.Unlinks.{Deletes}
-use Rattle.cdf_edits.proofs.Edits.ChainKinds.{attribute_typed}
-use Rattle.cdf_edits.proofs.Edits.FreedAfter.{Frees, freed_edit, shape_now, sound_now, records_are as freed_records, long_now as freed_long, all_freed, says_still, types_stay as freed_types, acts_after as freed_acts, freed_after as freed_bytes, gdr_still}
-use Rattle.cdf_edits.proofs.Edits.FreedBytes.{behind_stays}
-use Rattle.cdf_edits.proofs.Edits.RecordFrame.{gdr_field, file_same, gdr_place}
-use Rattle.cdf_edits.proofs.Rules.WithoutLinks.{eof_by_rules}
-use Rattle.cdf_model.specs.AttributeSteps.{del_attr_step}
+use Rattle.cdf_edits.proofs.Edits.FreedAfter.{shape_now, records_are as freed_records, long_now as freed_long, types_stay as freed_types, acts_after as freed_acts, freed_after as freed_bytes}
 use Rattle.cdf_edits.specs.Commands.Attributes.{attributes_gdr_fields, del_attr_changes}
-use Rattle.cdf_edits.proofs.Commands.Answered.{refused, gone_by_giving}
-use Rattle.cdf_edits.proofs.Commands.KeptRecords.{AllKeep-append}
-use Rattle.cdf_edits.proofs.Edits.OwnersKept.{stood, keeps_fields, keep_unused, keep_places, keep_file, keep_parts, all_keep, keeps_stays, keep_each}
-use Rattle.cdf_edits.proofs.Edits.VariableKinds.{attributes_counted}
-use Rattle.cdf_edits.proofs.Edits.VariableFrame.{Each-map, variables_in, all_variables_kept, Each-apply}
-use Rattle.cdf_edits.proofs.Commands.ListParts.{got-middle, map-removed, AtNumber, at_number, map-without}
 use Rattle.cdf_edits.proofs.Edits.ChainMembers.{IsAmong, members_chain}
 use Rattle.cdf_model.specs.declared.kinds.EntryKind.TheVariants as entries
-use Rattle.cdf_edits.proofs.Edits.ChainsOfShape.{IsOf, few_members, lists}
 use Rattle.cdf_model.specs.declared.answer.Reason.TheVariants as reasons
-use Rattle.cdf_model.specs.declared.answer.Reply.TheVariants as replies
 use Rattle.cdf_model.specs.declared.command.Command.TheVariants as commands
 use Rattle.cdf_edits.proofs.Edits.AttributeRemains.{AttributeRemains, AttributeLasts}
-use Rattle.cdf_format.proofs.NameRules.{absent-split, absent-append}
 use Rattle.cdf_edits.proofs.Frame.OwnerAlone.{Each-in}
 use Rattle.cdf_edits.proofs.Edits.StaysBut.{StaysBut, stays_within, field_stays}
 
@@ -374,10 +353,10 @@ module _ {b now : List ℕ} {n : ℕ} (good : Good b) (d : Deletes b now n) (nam
       let there : slice_get (shape b).attributes k ≡ Some d.own = ap (λ (as_ : List AttributeShape). slice_get as_ k) d.unlinks.was ∙ ap (slice_get (d.before ++ d.own ∷ d.after)) (sym number ∙ sym d.count) ∙ got-middle d.before d.own d.after in
       same_Some d.own a (sym there ∙ at)
 
-  pub delete_done : (limit : ℕ) → length b ≤ limit → length b ≤ image_limit → Answers limit b (commands.DelAttr name) (Done replies.Plain) now
+  pub delete_done : (limit : ℕ) → length b ≤ limit → length b ≤ image_limit → Answers limit b (commands.DelAttr name) (Done Plain) now
   delete_done limit fits short =
-      let goes : del_attr_step (content b) name ≡ Go (record (content b) { attributes = remove (content b).attributes n }) replies.Plain = rw found refl in
-      gone_by_giving limit b (commands.DelAttr name) now (places good d) refl refl (ap ByStep (goes ∙ ap (λ (x : DataSet). Go x replies.Plain) (sym (content_after good d)))) (good_after good d short) (freed_long (frees good d)) (freed_acts (frees good d) refl) keeps
+      let goes : del_attr_step (content b) name ≡ Go (record (content b) { attributes = remove (content b).attributes n }) Plain = rw found refl in
+      gone_by_giving limit b (commands.DelAttr name) now (places good d) refl refl (ap ByStep (goes ∙ ap (λ (x : DataSet). Go x Plain) (sym (content_after good d)))) (good_after good d short) (freed_long (frees good d)) (freed_acts (frees good d) refl) keeps
       (record { acts_are = λ k a is at. ap (λ (x : AttributeShape). gave b (x.gr_entries ++ x.z_entries ++ x.adr ∷ [])) (own_is k a is at); freed = freed_bytes (frees good d) (λ m i. own_behind (sound good d) d.unlinks m (own_mine (sound good d) d.unlinks m i)) }) fits
 
 pub delete_refused : (limit : ℕ) (b name : List ℕ) → attribute_named (content b) name ≡ None → Answers limit b (commands.DelAttr name) (Refused reasons.NoSuchAttr) b

@@ -1,17 +1,9 @@
 -- Numbers that are written in a record in use that no owner has: the image is sound as before, with its content, and what could be freed still can.
 use Rattle.std.proofs.Common.{◌≡◌, ◌≢◌, ℕ, ◌+◌, ◌≤◌, List, [], ◌∷◌, length, true, refl, sym, ap, subst, ◌∙◌, arith, inl, inr}
 use Rattle.cdf_edits.proofs.Common.{cases_eq, Same, Same-part, IsChain, content, number, size_at, type_at, times, owned_records, gdr_uir_head, uir_type, fixed_size, is_record_type, Shape, HasShape, Each, shape, shape_is, IsSound, In, linkable-in, linkable-type, number_kept, unused_records, Edit, Mark, Away, Write, with_writes, AreFree, with_space}
-use Rattle.cdf_edits.proofs.Edits.Composing.{head_size, head_type}
-use Rattle.cdf_edits.proofs.Edits.FreedBytes.{free_used, unowned_used}
-use Rattle.cdf_edits.proofs.Edits.OwnedOnce.{none_in_use}
-use Rattle.cdf_edits.proofs.Edits.RecordFrame.{chain_kept, kept_away}
-use Rattle.cdf_edits.proofs.Edits.StepEdits.{gdr_in, gdr_long, some_bytes}
-use Rattle.cdf_edits.proofs.Edits.WrittenFields.{MayWrite, writes_edit, writes_long}
-use Rattle.cdf_edits.proofs.Frame.Meaning.{Kept}
-use Rattle.cdf_edits.proofs.Frame.OwnersApart.{file_records, all_attribute_records, all_variable_records, owned-times}
+use Rattle.cdf_edits.proofs.Edits.Common.{head_size, head_type, free_used, unowned_used, none_in_use, chain_kept, kept_away, gdr_in, gdr_long, some_bytes, MayWrite, writes_edit, writes_long, Kept, file_records, all_attribute_records, all_variable_records, owned-times, used-in}
 use Rattle.cdf_edits.proofs.Space.RecordFreed.{not_gdr, no_file, no_attribute, no_variable}
 use Rattle.cdf_edits.proofs.Space.SpaceSound.{stay_sound}
-use Rattle.cdf_edits.proofs.Space.UsedRecords.{used-in}
 
 module _ {b : List ℕ} (sound : IsSound b (shape b)) (place : ℕ) (inside : In place (shape b).records) (unowned : times place (owned_records b (shape b)) ≡ 0) (marks : List Mark) (away : (type m : ℕ) → m ≢ place → Away marks type m) (ws : List Write) (may : Each (MayWrite b (shape b).records marks) ws) where
   abbrev s : Shape

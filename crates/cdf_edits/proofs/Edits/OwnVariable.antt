@@ -1,12 +1,8 @@
 -- The records of one variable in the order in which they are freed: those that it has, none twice, each of its types.
 use Rattle.std.proofs.Common.{◌≡◌, ℕ, ◌+◌, ◌≤◌, List, [], ◌∷◌, ◌++◌, true, append-nil, eq-eqb, refl, sym, ap, subst, ◌∙◌, arith, inl, inr}
 use Rattle.cdf_edits.proofs.Common.{flat_map, ◌==◌, Kind, is_in, type_at, nodes_of, leaves_of, variable_records, unused_records, times, owned_records, VariableShape, Shape, vdrs, IsSound, In, Distinct, linkable-type, either, In-append, In-append_left, In-append_right, shapes_of, freed_with_variable, index_types, type_in, variables_chain}
+use Rattle.cdf_edits.proofs.Edits.Common.{used_times, distinct_if, AreOurs, ours_parts, index_typed, with_shapes, kind_ours, kind_chain, spliced_times, times-append, owned-times, file_records, all_attribute_records, all_variable_records}
 use Rattle.cdf_edits.proofs.Edits.InRecords.{places_of}
-use Rattle.cdf_edits.proofs.Edits.OwnedOnce.{used_times}
-use Rattle.cdf_edits.proofs.Edits.LeftOwners.{distinct_if}
-use Rattle.cdf_edits.proofs.Edits.VariableFrame.{AreOurs, ours_parts, index_typed}
-use Rattle.cdf_edits.proofs.Edits.VariableKinds.{with_shapes, kind_ours, kind_chain, spliced_times}
-use Rattle.cdf_edits.proofs.Frame.OwnersApart.{times-append, owned-times, file_records, all_attribute_records, all_variable_records}
 
 -- ---- the records in the order in which they are freed
 

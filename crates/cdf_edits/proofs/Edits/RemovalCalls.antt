@@ -1,15 +1,9 @@
 -- What the calls of the removal of a variable come to, by the places of the VDRs of its kind and its number.
 use Rattle.std.proofs.Common.{◌≡◌, ℕ, ℤ, ◌+◌, ◌-◌, ◌^◌, ◌<◌, ◌≤◌, List, ◌∷◌, ◌++◌, length, drop, get_or, refl, sym, ap, subst, ◌∙◌, arith}
 use Rattle.cdf_edits.proofs.Common.{remove, Kind, R, Z, image_limit, number, gdr_offset, with_field, LiesIn, gdr_r_max_rec, vdr_name, empty_writes, VariableShape, vdrs, shape, IsSound, In, Good, linkable-in, linkable-type, good_by_its_shape, good_is_sound, eq_of, tile_lies, shapes_of, freed_with_variable, UnlinksVariable, RemovesVariable, numbers_on, r_max_writes, greatest_at, write, with_writes, count_of, counted_in, type_in, HolderStands, AllGiven, AreFree, variables_chain, Hold, Lists, TakenOut, Chain}
-use Rattle.cdf_edits.proofs.Commands.ListParts.{AtNumber, at_number, got_in}
-use Rattle.cdf_edits.proofs.Edits.ChainsOfShape.{IsOf, few_members, lists}
+use Rattle.cdf_edits.proofs.Edits.Common.{AtNumber, at_number, got_in, IsOf, few_members, lists, gdr_place, gdr_in, gdr_long, fixed_long, least_size, as_long, e_early, counted_before, kind_chain, vdrs_rows}
 use Rattle.cdf_edits.proofs.Edits.EmptiedVdr.{emptied_free, emptied_sound}
-use Rattle.cdf_edits.proofs.Edits.RecordFrame.{gdr_place}
-use Rattle.cdf_edits.proofs.Edits.StepEdits.{gdr_in, gdr_long, fixed_long}
-use Rattle.cdf_edits.proofs.Edits.TakenVariable.{least_size}
 use Rattle.cdf_edits.proofs.Edits.UnlinkedVariable.{in_holder, leaves, leaving_tests}
-use Rattle.cdf_edits.proofs.Edits.LeftChain.{as_long, e_early}
-use Rattle.cdf_edits.proofs.Edits.VariableKinds.{counted_before, kind_chain, vdrs_rows}
 use Rattle.cdf_edits.proofs.Space.ChainHeads.{cdr_room}
 
 count_of_rows : (kind : Kind) (b ms : List ℕ) → Hold (vdrs_rows kind b ms) → number b (gdr_offset b) (count_of (variables_chain kind)) ≡ length ms

@@ -1,22 +1,11 @@
 -- A variable that is taken out of the chain, counted no more, and those behind it numbered anew: the image is sound, and its VDR has no owner.
 use Rattle.std.proofs.Common.{◌≡◌, ℕ, ℤ, suc, ◌+◌, ◌≤◌, List, [], ◌∷◌, ◌++◌, length, true, refl, sym, ap, subst, ◌∙◌, arith, inl, inr}
-use Rattle.cdf_edits.proofs.Common.{flat_map, Kind, R, Z, Same, size_at, type_at, gdr_offset, variable_records, vdr_num, gdr_type, uir_type, VariableShape, Shape, vdrs, Each, HasShape, shape, IsSound, In, Distinct, Good, good_is_sound, Distinct-back, shape_is, shapes_of, freed_with_variable, Edit, freeing_marks, Among, Mark, mark, all_unmarked, index_types, UnlinksVariable, numbers_on, r_max_writes, greatest_at, variable_unlinking_marks, variable_removing_marks, Write, write, with_writes, links_end, holder_of, count_of, type_in, AreFree, variables_chain}
-use Rattle.cdf_edits.specs.Edits.RemovesVariable.{r_max_marks}
-use Rattle.cdf_edits.proofs.Edits.FreedBytes.{behind_kept, behind_link}
-use Rattle.cdf_edits.proofs.Edits.FreedRecords.{edit_under}
-use Rattle.cdf_edits.proofs.Edits.MarkLemmas.{Avoids-split, all_unmarked-away}
+use Rattle.cdf_edits.proofs.Common.{flat_map, Kind, R, Z, Same, size_at, type_at, gdr_offset, variable_records, vdr_num, gdr_type, uir_type, VariableShape, Shape, vdrs, Each, HasShape, shape, IsSound, In, Distinct, Good, good_is_sound, Distinct-back, shape_is, shapes_of, freed_with_variable, Edit, freeing_marks, Among, Mark, mark, all_unmarked, index_types, UnlinksVariable, numbers_on, r_max_writes, greatest_at, variable_unlinking_marks, variable_removing_marks, Write, write, with_writes, links_end, holder_of, count_of, type_in, AreFree, variables_chain, r_max_marks}
+use Rattle.cdf_edits.proofs.Edits.Common.{behind_link, edit_under, Avoids-split, all_unmarked-away, kept_away, kept_but_link, gdr_in, gdr_typed, gdr_long, Stands, TakesVariable, without_variable, vdr_there, own_stand, once, ours, vdr_avoids, vdr_record, left_by, sound_taken, are_numbered, LeavingTests, LeavesChain, left_edit, said_now, chain_now, list_now, not_twice, can_be_freed, AreNumbered, index_typed, only_variable, kind_chain, MayWrite, written_tiles}
+use Rattle.cdf_edits.proofs.Edits.FreedBytes.{behind_kept}
 use Rattle.cdf_edits.proofs.Edits.OwnVariable.{freed_mine, freed_once}
-use Rattle.cdf_edits.proofs.Edits.RecordFrame.{kept_away, kept_but_link}
-use Rattle.cdf_edits.proofs.Edits.StepEdits.{gdr_in, gdr_typed, gdr_long}
-use Rattle.cdf_edits.proofs.Edits.TakenVariable.{Stands, TakesVariable, without_variable, vdr_there, back_in, own_in, own_stand, once, ours, vdr_avoids, vdr_record, left_by, sound_taken}
-use Rattle.cdf_edits.proofs.Edits.NumbersBehind.{numbering as numbering_of, are_numbered}
-use Rattle.cdf_edits.proofs.Edits.LeftChain.{LeavingTests, LeavesChain, left_edit, said_now, chain_now, list_now}
-use Rattle.cdf_edits.proofs.Edits.LeftOwners.{not_twice, can_be_freed}
-use Rattle.cdf_edits.proofs.Edits.RowsOneLess.{AreNumbered}
-use Rattle.cdf_edits.proofs.Edits.VariableFrame.{index_typed}
-use Rattle.cdf_edits.proofs.Edits.VariableKept.{only_variable}
-use Rattle.cdf_edits.proofs.Edits.VariableKinds.{kind_chain}
-use Rattle.cdf_edits.proofs.Edits.WrittenFields.{MayWrite, written_tiles}
+use Rattle.cdf_edits.proofs.Edits.TakenVariable.{back_in, own_in}
+use Rattle.cdf_edits.proofs.Edits.NumbersBehind.{numbering as numbering_of}
 
 -- ---- by the kind
 
