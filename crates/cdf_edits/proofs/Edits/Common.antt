@@ -9,20 +9,20 @@ pub use Rattle.cdf_edits.proofs.Edits.ChainKept.{records_are}
 pub use Rattle.cdf_edits.proofs.Edits.ChainKinds.{adr_of, attribute_typed, chain_has, chain_in, other_has, other_in, other_of, other_type}
 pub use Rattle.cdf_edits.proofs.Edits.ChainOwners.{IsHeld, not_twice_kept}
 pub use Rattle.cdf_edits.proofs.Edits.ChainSpliced.{Rechains, adr_in, adr_start, adr_typed, after_away, after_in, attribute_now, before_away, before_in, clear_file, file_now, now_is, num_same, other_kept, splices, there}
-pub use Rattle.cdf_edits.proofs.Edits.ChainsOfShape.{IsOf, few_members, has_chain, lists, members_are}
+pub use Rattle.cdf_edits.proofs.Edits.ChainsOfShape.{IsOf, few_members, has_chain, lists, members_are, out_counted}
 pub use Rattle.cdf_edits.proofs.Edits.Composing.{changed_edit, edit_then, head_size, head_type, same-then}
 pub use Rattle.cdf_edits.proofs.Edits.EditActs.{acts_none, acts_took}
 pub use Rattle.cdf_edits.proofs.Edits.EntryFields.{of_shape}
 pub use Rattle.cdf_edits.proofs.Edits.FirstRecords.{read_now}
-pub use Rattle.cdf_edits.proofs.Edits.FreedAfter.{Frees, all_freed, freed_edit, freeing_behind, gdr_still, may_free, others_kept, places_in, says_still, sizes_before, sound_now}
+pub use Rattle.cdf_edits.proofs.Edits.FreedAfter.{Frees, all_freed, freed_acts, freed_bytes, freed_edit, freed_long, freed_places, freed_records, freed_shape, freed_types, freeing_behind, gdr_still, may_free, others_kept, says_still, sizes_before, sound_now}
 pub use Rattle.cdf_edits.proofs.Edits.FreedBytes.{BytesStay, behind_link, behind_stays, free_used, freed_stay_but, unowned_used}
 pub use Rattle.cdf_edits.proofs.Edits.FreedRecord.{IsPlain}
 pub use Rattle.cdf_edits.proofs.Edits.FreedRecords.{edit_under, sizes_by_tiles, unused_real}
-pub use Rattle.cdf_edits.proofs.Edits.LeftChain.{LeavesChain, LeavingTests, as_long, chain_now, counted_now, e_early, e_second, lasts_second, left_edit, list_now, may_linked, may_now, said_now, some_second}
+pub use Rattle.cdf_edits.proofs.Edits.LeftChain.{LeavesChain, LeavingTests, as_long, chain_now, counted_now, e_early, e_second, lasts_second, left_edit, list_now, may_linked, may_now, may_write, said_now, some_second}
 pub use Rattle.cdf_edits.proofs.Edits.LeftOwners.{Left, can_be_freed, distinct_if, left_of, mine_once, not_twice, owned_left}
 pub use Rattle.cdf_edits.proofs.Edits.MadeRecord.{end_now, fresh, list_chain, made_edit, made_keeps_unused, made_part, made_size, made_type, unowned}
 pub use Rattle.cdf_edits.proofs.Edits.MarkLemmas.{Avoids-append, Avoids-split, Away-append, Within-append, all_unmarked-away, avoided-avoids, avoids-of_type, away-of_type, ended-avoids, the_one, unmarked-away, within-of_type, within-within}
-pub use Rattle.cdf_edits.proofs.Edits.NumbersBehind.{are_numbered, fewer_rows, numbering, others_say, place_in, tiles_numbered}
+pub use Rattle.cdf_edits.proofs.Edits.NumbersBehind.{SaysNumber, are_numbered, fewer_rows, numbering, others_in, others_say, place_in, tiles_numbered}
 pub use Rattle.cdf_edits.proofs.Edits.OneChain.{differ_before}
 pub use Rattle.cdf_edits.proofs.Edits.OneSpliced.{content_replaced}
 pub use Rattle.cdf_edits.proofs.Edits.OwnedOnce.{IsSorted, OnlyOwns, all_attributes_in, back_in, front_in, none_in_use, only_owns, own_in, owned_once_if, parts_once, unused_none, used_times}

@@ -1,13 +1,10 @@
 -- An attribute is taken out of the chain, counted no more, those behind it are numbered anew, and its records are freed: the image is good, with the content without it, and what it keeps of each record.
-use Rattle.std.proofs.Common.{◌≡◌, ◌⊎◌, ℕ, suc, ◌+◌, ◌<◌, ◌≤◌, List, [], ◌∷◌, ◌++◌, length, map, true, false, eq-eqb, refl, sym, ap, subst, ◌∙◌, arith, inl, inr, Bool, Option, Some, None, ◌-◌, drop, get_or, ap₂, append_assoc, append-nil}
-use Rattle.cdf_edits.proofs.Common.{Plain, Each-append, Field, eqb-true, map-append, flat_map, ◌==◌, if◌then◌else◌, IsChain, number, size_at, type_at, with_field, attribute_records, times, gdr_adr_head, gdr_uir_head, gdr_num_attr, aedr_attr_num, adr_num, gdr_type, adr_type, agr_edr_type, az_edr_type, uir_type, AttributeShape, Shape, Each, HasShape, adrs, shape, IsSound, In, linkable-in, linkable-type, In-append, In-append_left, In-append_right, Distinct-push, shape_is, is_linkable, Edit, unlinking_marks, deleting_marks, freeing_marks, Mark, attribute_types, Unlinks, Write, write, with_writes, numbers_from, AreFree, Attrs, Same, remove, slice_get, image_limit, is_in, next_field, content, LiesIn, OneAttribute, owned_by, owned, gdr_eof, uir_next_uir, uir_prev_uir, cdr_type, Good, is_a-in, is_a-type, good_by_its_shape, good_is_sound, rules_of_good, good_long, sealed_kept, Allowances, Anything, Only, Keeps, AllKeep, gave, links_end, Act, Go, Attribute, DataSet, attribute_named, attribute_names, ByStep, is_attribute, Done, Refused, Answers, same_Some, drop-append_seam, eq_of, counted_in, members_of, Removed, AllGiven, Lists, TakenOut, GrEntries, ZEntries, same_name, adrs_rows, differ_rows, attribute_of, name_in, attribute_shape_rows, read_types, adr_name, Hold, AreNew, names_at, names_differ, differ_by_names, Hold-split, content_is, true-is_in, numbering_marks, Deletes, del_attr_step, absent-split, absent-append}
-use Rattle.cdf_edits.proofs.Edits.Common.{edit_under, unused_real, fewer_rows, tiles_numbered, place_in, numbering, others_say, are_numbered, LeavingTests, LeavesChain, may_linked, left_edit, said_now, chain_now, list_now, as_long, counted_now, may_now, distinct_if, mine_once, not_twice, can_be_freed, Left, owned_left, left_of, Avoids-split, avoided-avoids, within-within, away-of_type, within-of_type, avoids-of_type, OnlyOwns, parts_once, own_in, only_owns, back_in, front_in, gdr_in, gdr_typed, some_bytes, fixed_long, MayWrite, writes_lie, flat-append, file_from_attributes, times-in, attribute_typed, Frees, freed_edit, sound_now, all_freed, says_still, gdr_still, behind_stays, gdr_field, file_same, gdr_place, eof_by_rules, refused, gone_by_giving, AllKeep-append, stood, keeps_fields, keep_unused, keep_places, keep_file, keep_parts, all_keep, keeps_stays, keep_each, attributes_counted, Each-map, variables_in, all_variables_kept, Each-apply, got-middle, map-removed, AtNumber, at_number, map-without, IsOf, few_members, lists}
-use Rattle.cdf_edits.proofs.Edits.AttributeFrame.{all_last, AreThere, more_there, entry, each_there, entry_long, remaining_names}
-use Rattle.cdf_edits.proofs.Edits.NumbersBehind.{other_in, Says}
-use Rattle.cdf_edits.proofs.Edits.LeftChain.{may as may_write}
+use Rattle.std.proofs.Common.{◌≡◌, ℕ, suc, ◌+◌, ◌<◌, ◌≤◌, List, [], ◌∷◌, ◌++◌, length, map, true, false, eq-eqb, refl, sym, ap, subst, ◌∙◌, arith, inl, inr, Bool, Option, Some, None, ◌-◌, drop, get_or, ap₂, append_assoc, append-nil}
+use Rattle.cdf_edits.proofs.Common.{Covered, touched_field, Plain, Each-append, Field, eqb-true, map-append, flat_map, ◌==◌, if◌then◌else◌, IsChain, number, size_at, type_at, attribute_records, times, gdr_adr_head, gdr_uir_head, gdr_num_attr, aedr_attr_num, adr_num, gdr_type, adr_type, agr_edr_type, az_edr_type, uir_type, AttributeShape, Shape, Each, HasShape, adrs, shape, IsSound, In, linkable-in, linkable-type, In-append, In-append_left, In-append_right, Distinct-push, shape_is, Edit, unlinking_marks, deleting_marks, freeing_marks, Mark, attribute_types, Unlinks, Write, write, with_writes, numbers_from, AreFree, Attrs, Same, remove, slice_get, image_limit, is_in, next_field, content, LiesIn, OneAttribute, owned_by, owned, gdr_eof, uir_next_uir, uir_prev_uir, cdr_type, Good, is_a-in, is_a-type, good_by_its_shape, good_is_sound, rules_of_good, good_long, sealed_kept, Allowances, Anything, Only, Keeps, AllKeep, gave, links_end, Act, Go, Attribute, DataSet, attribute_named, attribute_names, ByStep, is_attribute, Done, Refused, Answers, same_Some, drop-append_seam, eq_of, members_of, Removed, AllGiven, Lists, TakenOut, GrEntries, ZEntries, same_name, adrs_rows, differ_rows, attribute_of, name_in, attribute_shape_rows, read_types, adr_name, Hold, AreNew, names_at, names_differ, differ_by_names, Hold-split, content_is, true-is_in, numbering_marks, Deletes, del_attr_step, absent-split, absent-append}
+use Rattle.cdf_edits.proofs.Edits.Common.{edit_under, unused_real, fewer_rows, tiles_numbered, place_in, numbering, others_say, are_numbered, LeavingTests, LeavesChain, may_linked, left_edit, said_now, chain_now, list_now, as_long, counted_now, may_now, distinct_if, mine_once, not_twice, can_be_freed, Left, owned_left, left_of, Avoids-split, avoided-avoids, within-within, away-of_type, within-of_type, avoids-of_type, OnlyOwns, parts_once, own_in, only_owns, back_in, front_in, gdr_in, gdr_typed, some_bytes, fixed_long, MayWrite, writes_lie, times-in, attribute_typed, Frees, freed_edit, sound_now, all_freed, says_still, gdr_still, behind_stays, gdr_field, file_same, gdr_place, eof_by_rules, refused, gone_by_giving, AllKeep-append, stood, keeps_fields, keep_unused, keep_places, keep_file, keep_parts, all_keep, keeps_stays, keep_each, attributes_counted, Each-map, variables_in, all_variables_kept, Each-apply, got-middle, map-removed, AtNumber, at_number, map-without, IsOf, few_members, lists, others_in, SaysNumber, may_write, freed_shape, freed_records, freed_long, freed_types, freed_acts, freed_bytes, out_counted}
+use Rattle.cdf_edits.proofs.Edits.AttributeFrame.{all_last, AreThere, more_there, entry, each_there, remaining_names}
 use Rattle.cdf_edits.proofs.Edits.OwnedOnce.{spliced_times}
 use Rattle.cdf_edits.proofs.Edits.Splice.{parts_there, spliced, Splices, content_now, sound_if, good_image_if}
-use Rattle.cdf_edits.proofs.Edits.FreedAfter.{shape_now, records_are as freed_records, long_now as freed_long, types_stay as freed_types, acts_after as freed_acts, freed_after as freed_bytes}
 use Rattle.cdf_edits.specs.Commands.Attributes.{attributes_gdr_fields, del_attr_changes}
 use Rattle.cdf_edits.proofs.Edits.ChainMembers.{IsAmong, members_chain}
 use Rattle.cdf_model.specs.declared.kinds.EntryKind.TheVariants as entries
@@ -28,7 +25,7 @@ adrs_owned : (as_ : List AttributeShape) (m : ℕ) → In m (adrs_in as_) → In
 adrs_owned = place_in (λ (a : AttributeShape). a.adr) (λ (a : AttributeShape). a.gr_entries ++ a.z_entries)
 
 entries_owned : (as_ : List AttributeShape) (m : ℕ) → In m (entries_in as_) → In m (flat_map attribute_records as_)
-entries_owned = other_in (λ (a : AttributeShape). a.adr) (λ (a : AttributeShape). a.gr_entries ++ a.z_entries)
+entries_owned = others_in (λ (a : AttributeShape). a.adr) (λ (a : AttributeShape). a.gr_entries ++ a.z_entries)
 
 -- the numbers of attributes, which their entries say
 abbrev numbers : ℕ → List AttributeShape → List Write
@@ -58,22 +55,16 @@ leaving_tests gdr members adrs entries = record { num_later = omega arith; num_f
 
 -- ---- the numbers that are written
 
--- one more number of an attribute is written in its entries
-may_say : {b : List ℕ} {s : Shape} → IsSound b s → (as_ : List AttributeShape) → AreThere b s.records as_ → (m n : ℕ) → In m (entries_in as_) → MayWrite b s.records (numbering_marks (adrs_in as_) (entries_in as_)) (write m aedr_attr_num n)
-may_say {b = b} {s = s} sound as_ there m n i = elim (entry as_ there i) [
-  | inl ok ↦ may_linked sound marks agr_edr_type m aedr_attr_num n ok (λ e. absurd cc) (omega arith) (omega arith) (λ t. inr (inl (record { typed = t; lies = i; low = omega arith; high = omega arith })))
-  | inr ok ↦ may_linked sound marks az_edr_type m aedr_attr_num n ok (λ e. absurd cc) (omega arith) (omega arith) (λ t. inr (inr (inl (record { typed = t; lies = i; low = omega arith; high = omega arith }))))
+-- a number may be written in the entries
+may_say : {b : List ℕ} {s : Shape} {marks : List Mark} {m : ℕ} (n : ℕ) → IsSound b s → (type_at b m ≡ agr_edr_type → Covered b marks (touched_field m aedr_attr_num)) → (type_at b m ≡ az_edr_type → Covered b marks (touched_field m aedr_attr_num)) → (as_ : List AttributeShape) → AreThere b s.records as_ → In m (entries_in as_) → MayWrite b s.records marks (write m aedr_attr_num n)
+may_say n sound gr z [] t i = absurd i
+may_say {b = b} {s = s} {marks = marks} {m = m} n sound gr z (a ∷ more) t i = elim (In-append m (a.gr_entries ++ a.z_entries) (entries_in more) i) [
+  | inl j ↦ elim (In-append m a.gr_entries a.z_entries j) [
+    | inl k ↦ may_linked sound marks agr_edr_type m aedr_attr_num n (t.have.0.gr_chain.linkable m k) (λ e. absurd cc) (omega arith) (omega arith) gr
+    | inr k ↦ may_linked sound marks az_edr_type m aedr_attr_num n (t.have.0.z_chain.linkable m k) (λ e. absurd cc) (omega arith) (omega arith) z
+  ]
+  | inr j ↦ may_say n sound gr z more (more_there b s.records a more t) j
 ]
-  where
-    marks : List Mark
-    marks = numbering_marks (adrs_in as_) (entries_in as_)
-
-    entry : (as_ : List AttributeShape) → AreThere b s.records as_ → In m (entries_in as_) → (is_linkable b s.records agr_edr_type m ≡ true) ⊎ (is_linkable b s.records az_edr_type m ≡ true)
-    entry [] there i = absurd i
-    entry (a ∷ more) there i = elim (In-append m (a.gr_entries ++ a.z_entries) (entries_in more) i) [
-      | inl j ↦ elim (In-append m a.gr_entries a.z_entries j) [ inl k ↦ inl (there.have.0.gr_chain.linkable m k) | inr k ↦ inr (there.have.0.z_chain.linkable m k) ]
-      | inr j ↦ entry more (more_there b s.records a more there) j
-    ]
 
 -- ---- the steps
 
@@ -102,34 +93,25 @@ module _ {b mid : List ℕ} {s : Shape} {before : List AttributeShape} {own : At
     numbered = u.written ∙ ap (λ (ws : List Write). with_writes u.first (write s.gdr gdr_num_attr (length before + length after) ∷ ws)) (as_numbers (length before) after);
     written = refl;
     covered = λ m i t. inl (record { typed = t; lies = i; low = omega arith; high = omega arith });
-    may_others = may_say sound after there.1.1;
+    may_others = λ m n i. may_say n sound (λ t. inr (inl (record { typed = t; lies = i; low = omega arith; high = omega arith }))) (λ t. inr (inr (inl (record { typed = t; lies = i; low = omega arith; high = omega arith })))) after there.1.1 i;
     may_last = tt;
     lasts_in = λ m none. absurd none;
-    once = (only_gdr, distinct_if (flat_map attribute_records after) (λ m. back (times m (flat_map attribute_records before)) (times m (attribute_records own)) (times m (flat_map attribute_records after)) (parts_once b s sound before own after u.was m)));
+    once = ((λ i. let no = sym (ap (λ (t : ℕ). is_in t attribute_types) (gdr_typed b s h)) ∙ attribute_typed b s.records after there.1.1 s.gdr i in absurd cc), distinct_if (flat_map attribute_records after) (λ m. let p = parts_once b s sound before own after u.was m in omega arith));
     few = u.few;
   }
-    where
-      only_gdr : In s.gdr (flat_map attribute_records after) → ⊥
-      only_gdr i = file_from_attributes b s sound s.gdr (subst (λ (as_ : List AttributeShape). In s.gdr (flat_map attribute_records as_)) (sym u.was) (subst (In s.gdr) (sym (flat-append attribute_records before (own ∷ after))) (In-append_right s.gdr (flat_map attribute_records before) (attribute_records own ++ flat_map attribute_records after) (In-append_right s.gdr (attribute_records own) (flat_map attribute_records after) i)))) (inr (inl refl))
-
-      back : (x o y : ℕ) → x + (o + y) ≤ 1 → y ≤ 1
-      back x o y l = omega arith
 
   unlinked_edit : Edit b mid s.records s.records (unlinking_marks s.gdr (adrs_in s.attributes) (adrs_in after) (entries_in after)) []
   unlinked_edit = left_edit leaves
 
   -- no record is of an attribute before it and of one behind it
   apart : (m : ℕ) → In m (flat_map attribute_records before) → In m (flat_map attribute_records after) → ⊥
-  apart m i j = twice (times m (flat_map attribute_records before)) (times m (attribute_records own)) (times m (flat_map attribute_records after)) (parts_once b s sound before own after u.was m) (times-in m (flat_map attribute_records before) i) (times-in m (flat_map attribute_records after) j)
-    where
-      twice : (x o y : ℕ) → x + (o + y) ≤ 1 → 1 ≤ x → 1 ≤ y → ⊥
-      twice x o y l p q = omega arith
+  apart m i j = let p = parts_once b s sound before own after u.was m in let x = times-in m (flat_map attribute_records before) i in let y = times-in m (flat_map attribute_records after) j in absurd (omega arith)
 
   only : (m : ℕ) → In m (attribute_records own) → OnlyOwns b s before after m
   only = only_owns b s sound before own after u.was
 
-  long : (m : ℕ) → In m s.records → is_in (type_at b m) attribute_types ≡ true → 28 ≤ size_at b m
-  long m i typed = by_type (λ (t : ℕ). type_at b m ≡ t → 28 ≤ size_at b m) (λ is. let l = fixed_long b s h adr_type m i is in omega arith) (λ is. let l = fixed_long b s h agr_edr_type m i is in omega arith) (λ is. let l = fixed_long b s h az_edr_type m i is in omega arith) (type_at b m) typed refl
+  long : (m : ℕ) → In m s.records → is_in (type_at b m) attribute_types ≡ true → 56 ≤ size_at b m
+  long m i typed = by_type (λ (t : ℕ). type_at b m ≡ t → 56 ≤ size_at b m) (λ is. let l = fixed_long b s h adr_type m i is in omega arith) (λ is. let l = fixed_long b s h agr_edr_type m i is in omega arith) (λ is. let l = fixed_long b s h az_edr_type m i is in omega arith) (type_at b m) typed refl
 
   -- the shape without it: nobody has its records
   abbrev without_one : List ℕ → Shape
@@ -173,16 +155,13 @@ module _ {b mid : List ℕ} {s : Shape} {before : List AttributeShape} {own : At
     }))
 
     -- those before it have their numbers
-    number_before : (m : ℕ) (f : Field) → In m (flat_map attribute_records before) → 20 ≤ f.place → f.place + f.width ≤ size_at b m → number now m f ≡ number b m f
-    number_before m f i low fits = field_stays (links m (front_in b s sound before own after u.was m i) (attribute_typed b s.records before there.0 m i) (gone_before m i) (apart m i)) f fits (λ n p q. (inr (omega arith), tt))
+    number_before : (m : ℕ) (f : Field) → In m (flat_map attribute_records before) → 20 ≤ f.place → f.place + f.width ≤ 56 → number now m f ≡ number b m f
+    number_before m f i low high =
+        let inside = front_in b s sound before own after u.was m i in
+        let typed = attribute_typed b s.records before there.0 m i in
+        field_stays (links m inside typed (gone_before m i) (apart m i)) f (let l = long m inside typed in omega arith) (λ n p q. (inr (omega arith), tt))
 
-    nums_before : (m : ℕ) → In m (adrs_in before) → number now m adr_num ≡ number b m adr_num
-    nums_before m i =
-        let ok = h.attribute_chain.linkable m (subst (λ (as_ : List AttributeShape). In m (adrs_in as_)) (sym u.was) (subst (In m) (sym (map-append (λ (a : AttributeShape). a.adr) before (own ∷ after))) (In-append_left m (adrs_in before) (own.adr ∷ adrs_in after) i))) in
-        let wide = fixed_long b s h adr_type m (linkable-in b s.records adr_type m ok) (linkable-type b s.records adr_type m ok) in
-        number_before m adr_num (adrs_owned before m i) (omega arith) (omega arith)
-
-    splices : {list : List ℕ} → Each (Says now) (numbers (length before) after) → IsChain now s.records adr_type (number now s.gdr gdr_adr_head) (adrs_in (before ++ after)) → IsChain now s.records uir_type (number now s.gdr gdr_uir_head) list → ((m : ℕ) → In m places → type_at now m ≡ uir_type)
+    splices : {list : List ℕ} → Each (SaysNumber now) (numbers (length before) after) → IsChain now s.records adr_type (number now s.gdr gdr_adr_head) (adrs_in (before ++ after)) → IsChain now s.records uir_type (number now s.gdr gdr_uir_head) list → ((m : ℕ) → In m places → type_at now m ≡ uir_type)
         → Splices b now s s.records list marks places before (own ∷ []) [] after
     splices says chain unused freed =
         let file = file_same sound e refl in
@@ -191,7 +170,7 @@ module _ {b mid : List ℕ} {s : Shape} {before : List AttributeShape} {own : At
           was = u.was;
           file_clear = refl;
           variables_clear = refl;
-          before_remain = all_last sound e file before there.0 (lasts before there.0 gone_before (each_there b s.records _ before there.0 (λ a t at sub m i was. number_before m aedr_attr_num (sub m (inr i)) (omega arith) (let l = entry_long sound e a t.have.0 m i in omega arith) ∙ was ∙ sym (nums_before a.adr at))));
+          before_remain = all_last sound e file before there.0 (lasts before there.0 gone_before (each_there b s.records _ before there.0 (λ a t at sub m i was. number_before m aedr_attr_num (sub m (inr i)) (omega arith) (omega arith) ∙ was ∙ sym (number_before a.adr adr_num (sub a.adr (inl refl)) (omega arith) (omega arith)))));
           after_remain = all_last sound e file after there.1.1 (lasts after there.1.1 gone_after (Each-map _ _ (λ a k m i was. k m i) after (others_say (λ (a : AttributeShape). a.adr) adr_num (λ (a : AttributeShape). a.gr_entries ++ a.z_entries) aedr_attr_num now (length before) after says)));
           typed = λ m i. unused_real now s.records m e.tiled_now (e.sub m (own_in b s sound before own after u.was m (mine m i))) (freed m i);
           attribute_chain = chain;
@@ -228,7 +207,7 @@ module _ {b mid : List ℕ} {s : Shape} {before : List AttributeShape} {own : At
   own_behind : (m : ℕ) → In m (attribute_records own) → Same b mid (m + links_end (size_at b m)) (m + size_at b m)
   own_behind m i =
       let inside = own_in b s sound before own after u.was m i in
-      behind_stays (links unlinked (λ m i. absurd i) m inside (own_typed m i) (λ none. none) (only m i).in_after) (long m inside (own_typed m i)) (λ n l. (inr (omega arith), tt))
+      behind_stays (links unlinked (λ m i. absurd i) m inside (own_typed m i) (λ none. none) (only m i).in_after) (let l = long m inside (own_typed m i) in omega arith) (λ n l. (inr (omega arith), tt))
 
 module _ {b now : List ℕ} {n : ℕ} (good : Good b) (d : Deletes b now n) where
   abbrev s : Shape
@@ -258,9 +237,9 @@ module _ {b now : List ℕ} {n : ℕ} (good : Good b) (d : Deletes b now n) wher
   e = freed_edit frees
 
   shape_after : shape now ≡ without_one sound d.unlinks (shape now).unused
-  shape_after = shape_now frees (unlinked_shape sound d.unlinks)
+  shape_after = freed_shape frees (unlinked_shape sound d.unlinks)
 
-  says : Each (Says now) (numbers (length d.before) d.after)
+  says : Each (SaysNumber now) (numbers (length d.before) d.after)
   says = says_still frees _ _ (may_now (leaves sound d.unlinks)) (λ m i.
       let j = subst (In m) (tiles_numbered (λ (a : AttributeShape). a.adr) adr_num (λ (a : AttributeShape). a.gr_entries ++ a.z_entries) aedr_attr_num (length d.before) d.after) i in
       (ap (λ (t : ℕ). is_in t attribute_types) (freed_types frees m (back_in b s sound d.before d.own d.after d.unlinks.was m j)) ∙ attribute_typed b s.records d.after (there sound d.unlinks).1.1 m j, gone_after sound d.unlinks e (own_mine sound d.unlinks) m j)) (said_now (leaves sound d.unlinks))
@@ -279,7 +258,7 @@ module _ {b now : List ℕ} {n : ℕ} (good : Good b) (d : Deletes b now n) wher
   counted : Hold (adrs_rows now (adrs_in (d.before ++ d.after)))
   counted = (
     eq-eqb _ _ (ap (λ (g : ℕ). number now g gdr_num_attr) (gdr_place sound e refl) ∙ gdr_still frees gdr_num_attr (omega arith) ∙ counted_now (leaves sound d.unlinks)),
-    fewer_rows (λ (a : AttributeShape). a.adr) adr_num 4 b now s.attributes d.before d.own d.after d.unlinks.was (nums_before sound d.unlinks e (own_mine sound d.unlinks)) (are_numbered (λ (a : AttributeShape). a.adr) adr_num (λ (a : AttributeShape). a.gr_entries ++ a.z_entries) aedr_attr_num now (length d.before) d.after says) (attributes_counted (good_by_its_shape b good)).1,
+    fewer_rows (λ (a : AttributeShape). a.adr) adr_num 4 b now s.attributes d.before d.own d.after d.unlinks.was (λ m i. number_before sound d.unlinks e (own_mine sound d.unlinks) m adr_num (adrs_owned d.before m i) (omega arith) (omega arith)) (are_numbered (λ (a : AttributeShape). a.adr) adr_num (λ (a : AttributeShape). a.gr_entries ++ a.z_entries) aedr_attr_num now (length d.before) d.after says) (attributes_counted (good_by_its_shape b good)).1,
   )
 
   differ : Hold (differ_rows 2 (same_name now adr_name) [] (adrs_in (d.before ++ d.after)))
@@ -414,32 +393,31 @@ module _ (b : List ℕ) (good : Good b) (places : List ℕ) (are : places ≡ ad
       -- from there on
       unlinks : {mid : List ℕ} → mid ≡ with_writes second writes → Unlinks b mid (shape b) own.before own.own own.after
       unlinks written =
-          let count = attributes_listed.counted in
-          let total = own.long in
           let few = few_members image_sound.has_shape is_of short in
-          let gdr = image_sound.has_shape.gdr_is in
-          let less : counted_in b Attrs - 1 ≡ length own.before + length own.after = omega (arith, count, total) in
+          let counted = out_counted is_of attributes_listed own.long out in
           record {
             was = own.is;
             first = out.first;
             removed = subst (Removed b out.first Attrs) own.own_at out.removed;
-            written = written ∙ (λ i. with_writes (out.counted i) (numbers_are i)) ∙ (λ i. with_writes (with_field out.first (gdr i) gdr_num_attr (less i)) (numbers_from (length own.before) own.after));
-            few = omega (arith, ap length are);
+            written = written ∙ (λ i. with_writes (counted i) (numbers_are i));
+            few = omega (arith, ap length are, own.long);
           }
 
       pub lie_after : Each (λ (w : Write). LiesIn second w.tile w.f) writes
       lie_after = subst (Each (λ (w : Write). LiesIn second w.tile w.f)) (sym (numbers_are ∙ as_numbers (length own.before) own.after))
           (writes_lie b second (shape b).records _ _ image_sound.has_shape.tiled (some_bytes b (shape b) image_sound.has_shape) out.length_stays (may_write (leaves image_sound (unlinks refl))))
 
-      module _ {mid : List ℕ} (written : mid ≡ with_writes second writes) {records : List ℕ} (records_are : records ≡ members_of b (GrEntries (get_or places n 0)) ++ members_of b (ZEntries (get_or places n 0)) ++ get_or places n 0 ∷ []) where
-        own_records : records ≡ own.own.gr_entries ++ own.own.z_entries ++ own.own.adr ∷ []
-        own_records = records_are ∙ ap₂ (λ (es : List ℕ) (m : ℕ). es ++ m ∷ []) own_entries own.own_at
+      -- then its records can be freed, and once they are it is deleted
+      pub record Unlinked (mid records : List ℕ) : Type 0 where
+        pub sound : IsSound mid (shape mid)
+        pub free : AreFree mid records
+        pub deletes : (now : List ℕ) → AllGiven mid now records → Deletes b now n
 
-        pub sound_after : IsSound mid (shape mid)
-        sound_after = mid_sound image_sound (unlinks written)
-
-        pub free_after : AreFree mid records
-        free_after = subst (AreFree mid) (sym own_records) (own_free image_sound (unlinks written))
-
-        pub deletes_by : (now : List ℕ) → AllGiven mid now records → Deletes b now n
-        deletes_by now given = record { before = own.before; own = own.own; after = own.after; count = own.count; mid = mid; unlinks = unlinks written; given = subst (AllGiven mid now) own_records given }
+      pub unlinked_by : {mid records : List ℕ} → mid ≡ with_writes second writes → records ≡ members_of b (GrEntries (get_or places n 0)) ++ members_of b (ZEntries (get_or places n 0)) ++ get_or places n 0 ∷ [] → Unlinked mid records
+      unlinked_by {mid = mid} written records_are =
+          let own_records = records_are ∙ ap₂ (λ (es : List ℕ) (m : ℕ). es ++ m ∷ []) own_entries own.own_at in
+          record {
+            sound = mid_sound image_sound (unlinks written);
+            free = subst (AreFree mid) (sym own_records) (own_free image_sound (unlinks written));
+            deletes = λ now given. record { before = own.before; own = own.own; after = own.after; count = own.count; mid = mid; unlinks = unlinks written; given = subst (AllGiven mid now) own_records given };
+          }

@@ -96,8 +96,8 @@ module _ {A : Type 0} {place : A → ℕ} {num : Field} {others : A → List ℕ
   were : members ≡ map place before ++ place own ∷ map place after
   were = ap (map place) l.was ∙ map-append place before (own ∷ after)
 
-  pub may : Each (MayWrite b s.records behind) ws
-  may = each_numbered place num others said (MayWrite b s.records behind) (length before) (length before + length after) after (omega arith)
+  pub may_write : Each (MayWrite b s.records behind) ws
+  may_write = each_numbered place num others said (MayWrite b s.records behind) (length before) (length before + length after) after (omega arith)
       (λ m n i lt. may_linked l.sound behind (type_in c) m num n (l.is_of.chain.linkable m (subst (In m) (sym were) (In-append_right m (map place before) (place own ∷ map place after) (inr i)))) t.no_uir t.num_later t.num_fits (l.covered m i)) (λ m n i lt. l.may_others m n i)
 
   once : Distinct (s.gdr ∷ written_tiles ws)
@@ -121,7 +121,7 @@ module _ {A : Type 0} {place : A → ℕ} {num : Field} {others : A → List ℕ
   may_all : Each (MayWrite b s.records (counting c s.gdr behind)) all
   may_all = (
     record { inside = gdr_in b s h; used = λ u. gdr_used (sym (gdr_typed b s h) ∙ u); fits = through ((count_of c).place + (count_of c).width) 84 (size_at b s.gdr) t.count_fits (gdr_long b s h); later = t.count_later; covered = inl (record { typed = gdr_typed b s h; lies = inl refl; low = omega arith; high = omega arith }) },
-    Each-map (MayWrite b s.records behind) (MayWrite b s.records (counting c s.gdr behind)) (λ w m. record { inside = m.inside; used = m.used; fits = m.fits; later = m.later; covered = inr m.covered }) ws may,
+    Each-map (MayWrite b s.records behind) (MayWrite b s.records (counting c s.gdr behind)) (λ w m. record { inside = m.inside; used = m.used; fits = m.fits; later = m.later; covered = inr m.covered }) ws may_write,
   )
 
   some : 8 ≤ length l.first
@@ -173,10 +173,10 @@ module _ {A : Type 0} {place : A → ℕ} {num : Field} {others : A → List ℕ
 
   -- what was written behind
   pub may_now : Each (MayWrite mid s.records behind) ws
-  may_now = may_after left_edit behind ws may
+  may_now = may_after left_edit behind ws may_write
 
   pub said_now : Each (λ (w : Write). number mid w.tile w.f ≡ w.to) ws
-  said_now = still ws (λ m i. i) (may_after e_early behind ws may) all_said.1
+  said_now = still ws (λ m i. i) (may_after e_early behind ws may_write) all_said.1
     where
       still : (vs : List Write) → ((m : ℕ) → In m (written_tiles vs) → In m (written_tiles ws)) → Each (MayWrite second s.records behind) vs → Each (λ (w : Write). number second w.tile w.f ≡ w.to) vs → Each (λ (w : Write). number mid w.tile w.f ≡ w.to) vs
       still [] sub writable says = tt

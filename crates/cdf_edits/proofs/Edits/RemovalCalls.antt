@@ -1,7 +1,7 @@
 -- What the calls of the removal of a variable come to, by the places of the VDRs of its kind and its number.
-use Rattle.std.proofs.Common.{◌≡◌, ℕ, ℤ, ◌+◌, ◌-◌, ◌^◌, ◌<◌, ◌≤◌, List, ◌∷◌, ◌++◌, length, drop, get_or, refl, sym, ap, subst, ◌∙◌, arith}
-use Rattle.cdf_edits.proofs.Common.{remove, Kind, R, Z, image_limit, number, gdr_offset, with_field, LiesIn, gdr_r_max_rec, vdr_name, empty_writes, VariableShape, vdrs, shape, IsSound, In, Good, linkable-in, linkable-type, good_by_its_shape, good_is_sound, eq_of, tile_lies, shapes_of, freed_with_variable, UnlinksVariable, RemovesVariable, numbers_on, r_max_writes, greatest_at, write, with_writes, count_of, counted_in, type_in, HolderStands, AllGiven, AreFree, variables_chain, Hold, Lists, TakenOut, Chain}
-use Rattle.cdf_edits.proofs.Edits.Common.{AtNumber, at_number, got_in, IsOf, few_members, lists, gdr_place, gdr_in, gdr_long, fixed_long, least_size, as_long, e_early, counted_before, kind_chain, vdrs_rows}
+use Rattle.std.proofs.Common.{◌≡◌, ℕ, ℤ, ◌+◌, ◌^◌, ◌<◌, ◌≤◌, List, ◌∷◌, ◌++◌, length, drop, get_or, refl, sym, ap, subst, ◌∙◌, arith}
+use Rattle.cdf_edits.proofs.Common.{remove, Kind, R, Z, image_limit, number, gdr_offset, LiesIn, gdr_r_max_rec, vdr_name, empty_writes, VariableShape, vdrs, shape, IsSound, In, Good, linkable-in, linkable-type, good_by_its_shape, good_is_sound, eq_of, tile_lies, shapes_of, freed_with_variable, UnlinksVariable, RemovesVariable, numbers_on, r_max_writes, greatest_at, write, with_writes, count_of, counted_in, type_in, HolderStands, AllGiven, AreFree, variables_chain, Hold, Lists, TakenOut, Chain}
+use Rattle.cdf_edits.proofs.Edits.Common.{AtNumber, at_number, got_in, IsOf, few_members, lists, gdr_place, gdr_in, gdr_long, fixed_long, least_size, as_long, e_early, counted_before, kind_chain, vdrs_rows, out_counted}
 use Rattle.cdf_edits.proofs.Edits.EmptiedVdr.{emptied_free, emptied_sound}
 use Rattle.cdf_edits.proofs.Edits.UnlinkedVariable.{in_holder, leaves, leaving_tests}
 use Rattle.cdf_edits.proofs.Space.ChainHeads.{cdr_room}
@@ -76,12 +76,7 @@ module _ (b : List ℕ) (good : Good b) (kind : Kind) (places : List ℕ) (are :
 
       module _ {second : List ℕ} (numbered : second ≡ with_writes less (numbers_on n (drop (n + 1) places))) where
         second_are : second ≡ counted_and_numbered
-        second_are =
-            let gdr = of_kind.holder_is in
-            let count = (variables_listed refl refl).counted in
-            let one : counted_in b (variables_chain kind) - 1 ≡ length this.before + length this.after = let l = this.long in omega (arith, count) in
-            let less_are : less ≡ with_field out.first (shape b).gdr (count_of (variables_chain kind)) (length this.before + length this.after) = out.counted ∙ (λ i. with_field out.first (gdr i) (count_of (variables_chain kind)) (one i)) in
-            numbered ∙ (λ i. with_writes (less_are i) (numbers_on (sym this.count i) (this.later_at i)))
+        second_are = numbered ∙ (let counted = out_counted of_kind (variables_listed refl refl) this.long out in λ i. with_writes (counted i) (numbers_on (sym this.count i) (this.later_at i)))
 
         place_second : gdr_offset second ≡ (shape b).gdr
         place_second = ap gdr_offset second_are ∙ gdr_place sound (e_early (leaves good u)) (leaving_tests kind (shape b).gdr (vdrs (shapes_of (shape b) kind)) (vdrs this.after)).early_file

@@ -1,13 +1,12 @@
 -- The image after a variable went: its shape, its content, its rules and its space.
 use Rattle.std.proofs.Common.{◌≡◌, ◌≢◌, ℕ, zero, suc, ◌+◌, ◌<◌, ◌≤◌, List, [], ◌∷◌, ◌++◌, length, map, max, refl, sym, ap, subst, ◌∙◌, arith, inl, inr, false}
 use Rattle.cdf_edits.proofs.Common.{Avoids, Field, Says, emptied_fields, empty_writes, freeing_marks, no_index, le-leb, tile_lies, type_at, variable_removing_marks, with_writes, word_kept, w32, cast_signed, fold, remove, Kind, R, Z, extent, image_limit, variables_of, with_variables, last_number, IsChain, is_in, content, variable_of, number, integer4, size_at, gdr_offset, variable_records, gdr_eof, gdr_uir_head, gdr_r_max_rec, vdr_num, gdr_type, uir_type, VariableShape, Shape, vdrs, shape, IsSound, In, max_rec_at, Good, good_by_its_shape, good_is_sound, rules_of_good, good_long, sealed_kept, shapes_of, RMaxRecOf, freed_with_variable, index_types, RemovesVariable, greatest_at, variable_unlinking_marks, links_end, head_of, count_of, type_in, variables_chain, field_reads4, number_kept, r_extents}
-use Rattle.cdf_edits.proofs.Edits.Common.{head_size, field_clear, gdr_field, gdr_place, gdr_in, gdr_typed, gdr_long, TakesVariable, SaysTaken, tests, without_variable, content_taken, taken_good, vdr_there, back_out, e_second, e_early, some_second, lasts_second, counted_now, numbered_still, kind_chain, with_shapes, content_now, write_lies, eof_by_rules, Frees, freed_edit, sound_now, others_kept, all_freed, gdr_still, freeing_behind, BytesStay, free_used, edit_under, Avoids-append, Avoids-split}
+use Rattle.cdf_edits.proofs.Edits.Common.{head_size, field_clear, gdr_field, gdr_place, gdr_in, gdr_typed, gdr_long, TakesVariable, SaysTaken, tests, without_variable, content_taken, taken_good, vdr_there, back_out, e_second, e_early, some_second, lasts_second, counted_now, numbered_still, kind_chain, with_shapes, content_now, write_lies, eof_by_rules, Frees, freed_edit, sound_now, others_kept, all_freed, gdr_still, freeing_behind, BytesStay, free_used, edit_under, Avoids-append, Avoids-split, freed_shape, freed_records, freed_long, freed_types, freed_places}
 use Rattle.std.specs.Int.RustNames.{FitsSigned}
 use Rattle.cdf_edits.proofs.Edits.OwnVariable.{freed_mine, mine_freed, own_typed}
 use Rattle.cdf_edits.proofs.Edits.TakenVariable.{splices, back_in}
 use Rattle.cdf_edits.proofs.Edits.UnlinkedVariable.{leaves, leaving_tests, unlinked_edit, numbered_now, own_free, own_there, types_stay, unlinked_behind}
 use Rattle.std.proofs.lemmas.Int.{ints}
-use Rattle.cdf_edits.proofs.Edits.FreedAfter.{shape_now, records_are as freed_records, long_now as freed_long, types_stay as freed_types, places_in as freed_places}
 use Rattle.cdf_edits.proofs.Edits.EmptiedVdr.{emptying_marks, within_freed, emptied_edit, emptied_long, emptied_shape, emptied_sound, emptied_free, rest_kept, bytes_kept, leads_nowhere}
 
 no_gdr : (kind : Kind) → is_in gdr_type (type_in (variables_chain kind) ∷ index_types) ≡ false
@@ -72,7 +71,7 @@ module _ {b now : List ℕ} {kind : Kind} {n : ℕ} (good : Good b) (d : Removes
   -- ---- the shape
 
   pub shape_after : shape now ≡ without_variable sound takes (shape now).unused
-  shape_after = shape_now frees (emptied_shape good d.unlinks)
+  shape_after = freed_shape frees (emptied_shape good d.unlinks)
 
   pub records_are : (shape now).records ≡ s.records
   records_are = freed_records frees
