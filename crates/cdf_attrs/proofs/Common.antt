@@ -3,7 +3,7 @@ pub use Rattle.std.proofs.Math.Seq.{take-suc}
 pub use Rattle.std.proofs.lemmas.Bool.{and_from, cases_lt, eqb-true, le-leb, le-ltb, lt-ltb, ne_eqb}
 pub use Rattle.std.proofs.lemmas.Bool.Decides.{nat_tests}
 pub use Rattle.std.proofs.lemmas.Int.{ints, of_z-to_z, to_z-of_z, to_z_pos}
-pub use Rattle.std.proofs.lemmas.List.{length-append, length-map, map-append, map-set}
+pub use Rattle.std.proofs.lemmas.List.{at_drop_all, length-append, length-map, map-append, map-set}
 pub use Rattle.std.proofs.lemmas.List.Quantifiers.{position-Some}
 pub use Rattle.std.proofs.lemmas.Option.{same_Some, slice_get_within}
 pub use Rattle.std.proofs.lemmas.Result.{on_ok_weaker}
@@ -38,7 +38,7 @@ pub use Rattle.cdf_edits.proofs.Edits.ChainFollowed.{chain_now, found_none, foun
 pub use Rattle.cdf_edits.proofs.Edits.ChainKinds.{adr_of, chain_in}
 pub use Rattle.cdf_edits.proofs.Edits.ChainSpliced.{Rechains, entry_stays}
 pub use Rattle.cdf_edits.proofs.Edits.ChainsOfShape.{has_chain, members_are}
-pub use Rattle.cdf_edits.proofs.Edits.DeletedAttribute.{own}
+pub use Rattle.cdf_edits.proofs.Edits.DeletedAttribute.{attributes_listed, delete_done, delete_refused, lie_after, names_after, numbers_more, own, places_after, unlinked_by}
 pub use Rattle.cdf_edits.proofs.Edits.DropHalves.{LowersHalf, TakesHalf, link_field, number_field, numbered}
 pub use Rattle.cdf_edits.proofs.Edits.DropsOne.{DropsOne, DropsUpTo}
 pub use Rattle.cdf_edits.proofs.Edits.EntryFields.{count_is, max_lies, max_written, of_shape}
