@@ -62,7 +62,7 @@ pub use Rattle.cdf_format.proofs.GoodSound.{good_by_its_shape, good_is_sound, ru
 pub use Rattle.cdf_format.proofs.ImageOf.{flags_of_front, short_trailer, trailer_is}
 pub use Rattle.cdf_format.proofs.IndexLemmas.{nodes_stand}
 pub use Rattle.cdf_format.proofs.Members.{Distinct-back, Distinct-front, Distinct-middle, Distinct-push, In-append, In-append_left, In-append_right, either, false-is_in, is_in-false, is_in-true, true-is_in}
-pub use Rattle.cdf_format.proofs.NameRules.{AreNew, absent-append, absent-split, differ_by_names, names_at, names_differ}
+pub use Rattle.cdf_format.proofs.NameRules.{AreNew, absent-append, absent-split, differ_by_names, names_at, names_differ, stands_in}
 pub use Rattle.cdf_format.proofs.Owning.{attributes_in, block_in, filter-in, owned_is, tiles_distinct, times-none, times-once}
 pub use Rattle.cdf_format.proofs.RowLemmas.{Hold-append, Hold-asked, Hold-member, Hold-members, Hold-split, flat_map-append}
 pub use Rattle.cdf_format.proofs.SealedRules.{good_long, sealed_keeps, sealed_kept}

@@ -1,7 +1,7 @@
 -- The names of lemmas on edits that proofs on several commands cite, passed on from one place. Declares nothing.
 pub use Rattle.cdf_edits.proofs.Commands.Answered.{gone_by_giving, refused}
 pub use Rattle.cdf_edits.proofs.Commands.KeptRecords.{AllKeep-append, keep_attributes, keeps_stood}
-pub use Rattle.cdf_edits.proofs.Commands.ListParts.{AtNumber, Cut, at_number, got-map, got-middle, got_in, map-removed, map-without}
+pub use Rattle.cdf_edits.proofs.Commands.ListParts.{AtNumber, Cut, at_number, got-map, got-middle, got_in, map-removed, map-without, same_middle}
 pub use Rattle.cdf_edits.proofs.Commands.TypeCodes.{code_small, type_back}
 pub use Rattle.cdf_edits.proofs.Edits.ActsStill.{acts_still_by}
 pub use Rattle.cdf_edits.proofs.Edits.ActsThen.{acts_gave, all_gave, gave-same}
@@ -19,7 +19,7 @@ pub use Rattle.cdf_edits.proofs.Edits.FreedBytes.{BytesStay, behind_link, behind
 pub use Rattle.cdf_edits.proofs.Edits.FreedRecord.{IsPlain}
 pub use Rattle.cdf_edits.proofs.Edits.FreedRecords.{edit_under, sizes_by_tiles, unused_real}
 pub use Rattle.cdf_edits.proofs.Edits.LeftChain.{LeavesChain, LeavingTests, as_long, chain_now, counted_now, e_early, e_second, lasts_second, left_edit, list_now, may_linked, may_now, may_write, said_now, some_second}
-pub use Rattle.cdf_edits.proofs.Edits.LeftOwners.{Left, can_be_freed, distinct_if, left_of, mine_once, not_twice, owned_left}
+pub use Rattle.cdf_edits.proofs.Edits.LeftOwners.{Left, can_be_freed, distinct_if, left_of, mine_once, not_twice, owned_left, shape_there, sound_there}
 pub use Rattle.cdf_edits.proofs.Edits.MadeRecord.{end_now, fresh, list_chain, made_edit, made_keeps_unused, made_part, made_size, made_type, unowned}
 pub use Rattle.cdf_edits.proofs.Edits.MarkLemmas.{Avoids-append, Avoids-split, Away-append, Within-append, all_unmarked-away, avoided-avoids, avoids-of_type, away-of_type, ended-avoids, the_one, unmarked-away, within-of_type, within-within}
 pub use Rattle.cdf_edits.proofs.Edits.NumbersBehind.{SaysNumber, are_numbered, fewer_rows, numbering, others_in, others_say, place_in, tiles_numbered}

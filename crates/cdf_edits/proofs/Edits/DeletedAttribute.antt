@@ -1,12 +1,12 @@
 -- An attribute is taken out of the chain, counted no more, those behind it are numbered anew, and its records are freed: the image is good, with the content without it, and what it keeps of each record.
-use Rattle.std.proofs.Common.{◌≡◌, ℕ, suc, ◌+◌, ◌<◌, ◌≤◌, List, [], ◌∷◌, ◌++◌, length, map, true, false, eq-eqb, refl, sym, ap, subst, ◌∙◌, arith, inl, inr, Bool, Option, Some, None, ◌-◌, drop, get_or, ap₂, append_assoc, append-nil}
-use Rattle.cdf_edits.proofs.Common.{Covered, touched_field, Plain, Each-append, Field, eqb-true, map-append, flat_map, ◌==◌, if◌then◌else◌, IsChain, number, size_at, type_at, attribute_records, times, gdr_adr_head, gdr_uir_head, gdr_num_attr, aedr_attr_num, adr_num, gdr_type, adr_type, agr_edr_type, az_edr_type, uir_type, AttributeShape, Shape, Each, HasShape, adrs, shape, IsSound, In, linkable-in, linkable-type, In-append, In-append_left, In-append_right, Distinct-push, shape_is, Edit, unlinking_marks, deleting_marks, freeing_marks, Mark, attribute_types, Unlinks, Write, write, with_writes, numbers_from, AreFree, Attrs, Same, remove, slice_get, image_limit, is_in, next_field, content, LiesIn, OneAttribute, owned_by, owned, gdr_eof, uir_next_uir, uir_prev_uir, cdr_type, Good, is_a-in, is_a-type, good_by_its_shape, good_is_sound, rules_of_good, good_long, sealed_kept, Allowances, Anything, Only, Keeps, AllKeep, gave, links_end, Act, Go, Attribute, DataSet, attribute_named, attribute_names, ByStep, is_attribute, Done, Refused, Answers, same_Some, drop-append_seam, eq_of, members_of, Removed, AllGiven, Lists, TakenOut, GrEntries, ZEntries, same_name, adrs_rows, differ_rows, attribute_of, name_in, attribute_shape_rows, read_types, adr_name, Hold, AreNew, names_at, names_differ, differ_by_names, Hold-split, content_is, true-is_in, numbering_marks, Deletes, del_attr_step, absent-split, absent-append}
-use Rattle.cdf_edits.proofs.Edits.Common.{edit_under, unused_real, fewer_rows, tiles_numbered, place_in, numbering, others_say, are_numbered, LeavingTests, LeavesChain, may_linked, left_edit, said_now, chain_now, list_now, as_long, counted_now, may_now, distinct_if, mine_once, not_twice, can_be_freed, Left, owned_left, left_of, Avoids-split, avoided-avoids, within-within, away-of_type, within-of_type, avoids-of_type, OnlyOwns, parts_once, own_in, only_owns, back_in, front_in, gdr_in, gdr_typed, some_bytes, fixed_long, MayWrite, writes_lie, times-in, attribute_typed, Frees, freed_edit, sound_now, all_freed, says_still, gdr_still, behind_stays, gdr_field, file_same, gdr_place, eof_by_rules, refused, gone_by_giving, AllKeep-append, stood, keeps_fields, keep_unused, keep_places, keep_file, keep_parts, all_keep, keeps_stays, keep_each, attributes_counted, Each-map, variables_in, all_variables_kept, Each-apply, got-middle, map-removed, AtNumber, at_number, map-without, IsOf, few_members, lists, others_in, SaysNumber, may_write, freed_shape, freed_records, freed_long, freed_types, freed_acts, freed_bytes, out_counted}
+use Rattle.std.proofs.Common.{◌≡◌, ℕ, suc, ◌+◌, ◌<◌, ◌≤◌, List, [], ◌∷◌, ◌++◌, length, map, true, false, eq-eqb, refl, sym, ap, subst, ◌∙◌, arith, inl, inr, Bool, Option, Some, None, ◌-◌, drop, get_or, ap₂, append_assoc}
+use Rattle.cdf_edits.proofs.Common.{Covered, touched_field, Plain, Each-append, Field, eqb-true, map-append, flat_map, ◌==◌, if◌then◌else◌, IsChain, number, size_at, type_at, attribute_records, times, gdr_adr_head, gdr_uir_head, gdr_num_attr, aedr_attr_num, adr_num, gdr_type, adr_type, agr_edr_type, az_edr_type, uir_type, AttributeShape, Shape, Each, HasShape, adrs, shape, IsSound, In, linkable-in, linkable-type, In-append, In-append_left, In-append_right, Distinct-push, Edit, unlinking_marks, deleting_marks, freeing_marks, Mark, attribute_types, Unlinks, Write, write, with_writes, numbers_from, AreFree, Attrs, Same, remove, slice_get, image_limit, is_in, next_field, content, LiesIn, OneAttribute, owned_by, owned, gdr_eof, uir_next_uir, uir_prev_uir, cdr_type, Good, is_a-in, is_a-type, good_by_its_shape, good_is_sound, rules_of_good, good_long, sealed_kept, Allowances, Anything, Only, Keeps, AllKeep, gave, links_end, Act, Go, Attribute, DataSet, attribute_named, attribute_names, ByStep, is_attribute, Done, Refused, Answers, drop-append_seam, eq_of, members_of, Removed, AllGiven, Lists, TakenOut, GrEntries, ZEntries, same_name, adrs_rows, differ_rows, attribute_of, name_in, attribute_shape_rows, read_types, adr_name, Hold, AreNew, names_at, names_differ, differ_by_names, Hold-split, content_is, true-is_in, numbering_marks, Deletes, del_attr_step, absent-split, absent-append, stands_in}
+use Rattle.cdf_edits.proofs.Edits.Common.{edit_under, unused_real, fewer_rows, tiles_numbered, place_in, numbering, others_say, are_numbered, LeavingTests, LeavesChain, may_linked, left_edit, said_now, chain_now, list_now, as_long, counted_now, may_now, distinct_if, mine_once, not_twice, can_be_freed, Left, owned_left, left_of, Avoids-split, avoided-avoids, within-within, away-of_type, within-of_type, avoids-of_type, OnlyOwns, parts_once, own_in, only_owns, back_in, front_in, gdr_in, gdr_typed, some_bytes, fixed_long, MayWrite, writes_lie, times-in, attribute_typed, Frees, freed_edit, sound_now, all_freed, says_still, gdr_still, behind_stays, gdr_field, file_same, gdr_place, eof_by_rules, refused, gone_by_giving, AllKeep-append, stood, keeps_fields, keep_unused, keep_places, keep_file, keep_parts, all_keep, keeps_stays, keep_each, attributes_counted, Each-map, variables_in, all_variables_kept, Each-apply, map-removed, AtNumber, at_number, map-without, IsOf, few_members, lists, others_in, SaysNumber, may_write, freed_shape, freed_records, freed_long, freed_types, freed_acts, freed_bytes, out_counted, shape_there, sound_there, same_middle}
 use Rattle.cdf_edits.proofs.Edits.AttributeFrame.{all_last, AreThere, more_there, entry, each_there, remaining_names}
 use Rattle.cdf_edits.proofs.Edits.OwnedOnce.{spliced_times}
 use Rattle.cdf_edits.proofs.Edits.Splice.{parts_there, spliced, Splices, content_now, sound_if, good_image_if}
 use Rattle.cdf_edits.specs.Commands.Attributes.{attributes_gdr_fields, del_attr_changes}
-use Rattle.cdf_edits.proofs.Edits.ChainMembers.{IsAmong, members_chain}
+use Rattle.cdf_edits.proofs.Edits.ChainMembers.{members_chain}
 use Rattle.cdf_model.specs.declared.kinds.EntryKind.TheVariants as entries
 use Rattle.cdf_model.specs.declared.answer.Reason.TheVariants as reasons
 use Rattle.cdf_model.specs.declared.command.Command.TheVariants as commands
@@ -21,12 +21,6 @@ entries_in as_ = flat_map (λ (a : AttributeShape). a.gr_entries ++ a.z_entries)
 abbrev adrs_in : List AttributeShape → List ℕ
 adrs_in as_ = map (λ (a : AttributeShape). a.adr) as_
 
-adrs_owned : (as_ : List AttributeShape) (m : ℕ) → In m (adrs_in as_) → In m (flat_map attribute_records as_)
-adrs_owned = place_in (λ (a : AttributeShape). a.adr) (λ (a : AttributeShape). a.gr_entries ++ a.z_entries)
-
-entries_owned : (as_ : List AttributeShape) (m : ℕ) → In m (entries_in as_) → In m (flat_map attribute_records as_)
-entries_owned = others_in (λ (a : AttributeShape). a.adr) (λ (a : AttributeShape). a.gr_entries ++ a.z_entries)
-
 -- the numbers of attributes, which their entries say
 abbrev numbers : ℕ → List AttributeShape → List Write
 numbers n as_ = numbering (λ (a : AttributeShape). a.adr) adr_num (λ (a : AttributeShape). a.gr_entries ++ a.z_entries) aedr_attr_num n as_
@@ -37,17 +31,13 @@ as_numbers n (a ∷ more) = ap (λ (ws : List Write). write a.adr adr_num n ∷ 
 
 -- ---- names of which one goes
 
--- names stay new where fewer came before
-seen_less : (before : List (List ℕ)) (old : List ℕ) (mid names : List (List ℕ)) → AreNew (before ++ old ∷ mid) names → AreNew (before ++ mid) names
-seen_less before old mid [] h = tt
-seen_less before old mid (x ∷ names) h =
-    let parts = absent-split x before (old ∷ mid) h.0 in
-    let next : AreNew (before ++ old ∷ (mid ++ x ∷ [])) names = subst (λ (z : List (List ℕ)). AreNew z names) (append_assoc before (old ∷ mid) (x ∷ [])) h.1 in
-    (absent-append x before mid parts.0 (absent-split x (old ∷ []) mid parts.1).1, subst (λ (z : List (List ℕ)). AreNew z names) (sym (append_assoc before mid (x ∷ []))) (seen_less before old (mid ++ x ∷ []) names next))
+-- names stay new behind fewer
+new_behind : (seen fewer names : List (List ℕ)) → ((x : List ℕ) → stands_in x seen ≡ false → stands_in x fewer ≡ false) → AreNew seen names → AreNew fewer names
+new_behind seen fewer [] less h = tt
+new_behind seen fewer (x ∷ names) less h = (less x h.0, new_behind (seen ++ x ∷ []) (fewer ++ x ∷ []) names (λ y e. let p = absent-split y seen (x ∷ []) e in absent-append y fewer (x ∷ []) (less y p.0) p.1) h.1)
 
--- and where one of them goes
 new_removed : (b : List ℕ) (seen : List (List ℕ)) (front : List AttributeShape) (own : AttributeShape) (back : List AttributeShape) → AreNew seen (names_at b adr_name (adrs_in (front ++ own ∷ back))) → AreNew seen (names_at b adr_name (adrs_in (front ++ back)))
-new_removed b seen [] own back h = subst (λ (z : List (List ℕ)). AreNew z (names_at b adr_name (adrs_in back))) (append-nil seen) (seen_less seen (name_in b own.adr adr_name) [] (names_at b adr_name (adrs_in back)) h.1)
+new_removed b seen [] own back h = new_behind (seen ++ name_in b own.adr adr_name ∷ []) seen (names_at b adr_name (adrs_in back)) (λ x e. (absent-split x seen (name_in b own.adr adr_name ∷ []) e).0) h.1
 new_removed b seen (x ∷ front) own back h = (h.0, new_removed b (seen ++ name_in b x.adr adr_name ∷ []) front own back h.1)
 
 leaving_tests : (gdr : ℕ) (members adrs entries : List ℕ) → LeavingTests Attrs adr_num aedr_attr_num gdr members (numbering_marks adrs entries) []
@@ -100,9 +90,6 @@ module _ {b mid : List ℕ} {s : Shape} {before : List AttributeShape} {own : At
     few = u.few;
   }
 
-  unlinked_edit : Edit b mid s.records s.records (unlinking_marks s.gdr (adrs_in s.attributes) (adrs_in after) (entries_in after)) []
-  unlinked_edit = left_edit leaves
-
   -- no record is of an attribute before it and of one behind it
   apart : (m : ℕ) → In m (flat_map attribute_records before) → In m (flat_map attribute_records after) → ⊥
   apart m i j = let p = parts_once b s sound before own after u.was m in let x = times-in m (flat_map attribute_records before) i in let y = times-in m (flat_map attribute_records after) j in absurd (omega arith)
@@ -136,9 +123,9 @@ module _ {b mid : List ℕ} {s : Shape} {before : List AttributeShape} {own : At
     -- one that is of none behind it stays but for a link
     links : (m : ℕ) → In m s.records → is_in (type_at b m) attribute_types ≡ true → (In m places → ⊥) → (In m (flat_map attribute_records after) → ⊥) → StaysBut b now m (next_field ∷ [])
     links m i typed out beside = by_type (λ (t : ℕ). type_at b m ≡ t → StaysBut b now m (next_field ∷ []))
-        (λ is. stays_within e m adr_type (next_field ∷ []) i is (avoids-of_type marks adr_type m 0 12 ((λ q l. inl (omega arith)), ((λ q l. inl (omega arith)), ((λ q l. absurd (out l)), tt)))) (within-of_type marks adr_type m (next_field ∷ []) ((λ q l. refl), ((λ q l. absurd (beside (adrs_owned after m l))), ((λ q l. absurd (out l)), tt)))))
-        (λ is. stays_within e m agr_edr_type (next_field ∷ []) i is (avoids-of_type marks agr_edr_type m 0 12 ((λ q l. inl (omega arith)), ((λ q l. absurd (out l)), tt))) (within-of_type marks agr_edr_type m (next_field ∷ []) ((λ q l. absurd (beside (entries_owned after m l))), ((λ q l. absurd (out l)), tt))))
-        (λ is. stays_within e m az_edr_type (next_field ∷ []) i is (avoids-of_type marks az_edr_type m 0 12 ((λ q l. inl (omega arith)), ((λ q l. absurd (out l)), tt))) (within-of_type marks az_edr_type m (next_field ∷ []) ((λ q l. absurd (beside (entries_owned after m l))), ((λ q l. absurd (out l)), tt))))
+        (λ is. stays_within e m adr_type (next_field ∷ []) i is (avoids-of_type marks adr_type m 0 12 ((λ q l. inl (omega arith)), ((λ q l. inl (omega arith)), ((λ q l. absurd (out l)), tt)))) (within-of_type marks adr_type m (next_field ∷ []) ((λ q l. refl), ((λ q l. absurd (beside (place_in (λ (a : AttributeShape). a.adr) (λ (a : AttributeShape). a.gr_entries ++ a.z_entries) after m l))), ((λ q l. absurd (out l)), tt)))))
+        (λ is. stays_within e m agr_edr_type (next_field ∷ []) i is (avoids-of_type marks agr_edr_type m 0 12 ((λ q l. inl (omega arith)), ((λ q l. absurd (out l)), tt))) (within-of_type marks agr_edr_type m (next_field ∷ []) ((λ q l. absurd (beside (others_in (λ (a : AttributeShape). a.adr) (λ (a : AttributeShape). a.gr_entries ++ a.z_entries) after m l))), ((λ q l. absurd (out l)), tt))))
+        (λ is. stays_within e m az_edr_type (next_field ∷ []) i is (avoids-of_type marks az_edr_type m 0 12 ((λ q l. inl (omega arith)), ((λ q l. absurd (out l)), tt))) (within-of_type marks az_edr_type m (next_field ∷ []) ((λ q l. absurd (beside (others_in (λ (a : AttributeShape). a.adr) (λ (a : AttributeShape). a.gr_entries ++ a.z_entries) after m l))), ((λ q l. absurd (out l)), tt))))
         (type_at b m) typed refl
 
     gone_before : (m : ℕ) → In m (flat_map attribute_records before) → In m places → ⊥
@@ -181,16 +168,10 @@ module _ {b mid : List ℕ} {s : Shape} {before : List AttributeShape} {own : At
   -- ---- before its records are freed, the image is sound, and they can be
 
   unlinked : Edit b mid s.records s.records (deleting_marks s.gdr (adrs_in s.attributes) (adrs_in after) (entries_in after) s.unused [] 0) []
-  unlinked = edit_under unlinked_edit _ (λ m type lo hi i is a. (Avoids-split (unlinking_marks s.gdr (adrs_in s.attributes) (adrs_in after) (entries_in after)) (freeing_marks attribute_types s.unused [] 0) type m lo hi a).0)
+  unlinked = edit_under (left_edit leaves) _ (λ m type lo hi i is a. (Avoids-split (unlinking_marks s.gdr (adrs_in s.attributes) (adrs_in after) (entries_in after)) (freeing_marks attribute_types s.unused [] 0) type m lo hi a).0)
 
   unlinked_sound : IsSound mid (without_one s.unused)
-  unlinked_sound = sound_if sound (splices unlinked (λ m i. absurd i) (said_now leaves) (chain_now leaves) (list_now leaves) (λ m i. absurd i)) tt (not_twice (left_by s.unused) unlinked_edit)
-
-  unlinked_shape : shape mid ≡ without_one s.unused
-  unlinked_shape = shape_is mid (without_one s.unused) unlinked_sound.has_shape
-
-  mid_sound : IsSound mid (shape mid)
-  mid_sound = subst (IsSound mid) (sym unlinked_shape) unlinked_sound
+  unlinked_sound = sound_if sound (splices unlinked (λ m i. absurd i) (said_now leaves) (chain_now leaves) (list_now leaves) (λ m i. absurd i)) tt (not_twice (left_by s.unused) (left_edit leaves))
 
   own_mine : (m : ℕ) → In m (own.gr_entries ++ own.z_entries ++ own.adr ∷ []) → In m (attribute_records own)
   own_mine m i = elim (In-append m (own.gr_entries ++ own.z_entries) (own.adr ∷ []) i) [ inl j ↦ inr j | inr j ↦ elim j [ inl e ↦ inl e | inr none ↦ absurd none ] ]
@@ -198,7 +179,7 @@ module _ {b mid : List ℕ} {s : Shape} {before : List AttributeShape} {own : At
   own_free : AreFree mid (own.gr_entries ++ own.z_entries ++ own.adr ∷ [])
   own_free =
       let once = mine_once (left_by s.unused) in
-      can_be_freed (left_by s.unused) unlinked_edit unlinked_shape (own_in b s sound before own after u.was) (own.gr_entries ++ own.z_entries ++ own.adr ∷ []) own_mine (Distinct-push (own.gr_entries ++ own.z_entries) own.adr once.1 once.0)
+      can_be_freed (left_by s.unused) (left_edit leaves) unlinked_sound (own_in b s sound before own after u.was) (own.gr_entries ++ own.z_entries ++ own.adr ∷ []) own_mine (Distinct-push (own.gr_entries ++ own.z_entries) own.adr once.1 once.0)
 
   own_typed : (m : ℕ) → In m (attribute_records own) → is_in (type_at b m) attribute_types ≡ true
   own_typed m i = attribute_typed b s.records (own ∷ []) there.1.0 m (In-append_left m (attribute_records own) [] i)
@@ -222,11 +203,11 @@ module _ {b now : List ℕ} {n : ℕ} (good : Good b) (d : Deletes b now n) wher
   frees : Frees b d.mid now (unlinking_marks s.gdr (adrs_in s.attributes) (adrs_in d.after) (entries_in d.after)) attribute_types places
   frees = record {
     sound = sound;
-    edit = unlinked_edit sound d.unlinks;
+    edit = left_edit (leaves sound d.unlinks);
     long = as_long (leaves sound d.unlinks);
-    mid_sound = mid_sound sound d.unlinks;
-    records = ap (λ (x : Shape). x.records) (unlinked_shape sound d.unlinks);
-    unused = ap (λ (x : Shape). x.unused) (unlinked_shape sound d.unlinks);
+    mid_sound = sound_there (unlinked_sound sound d.unlinks);
+    records = ap (λ (x : Shape). x.records) (shape_there (unlinked_sound sound d.unlinks));
+    unused = ap (λ (x : Shape). x.unused) (shape_there (unlinked_sound sound d.unlinks));
     free = own_free sound d.unlinks;
     typed = λ m i. own_typed sound d.unlinks m (own_mine sound d.unlinks m i);
     no_gdr = refl;
@@ -237,7 +218,7 @@ module _ {b now : List ℕ} {n : ℕ} (good : Good b) (d : Deletes b now n) wher
   e = freed_edit frees
 
   shape_after : shape now ≡ without_one sound d.unlinks (shape now).unused
-  shape_after = freed_shape frees (unlinked_shape sound d.unlinks)
+  shape_after = freed_shape frees (shape_there (unlinked_sound sound d.unlinks))
 
   says : Each (SaysNumber now) (numbers (length d.before) d.after)
   says = says_still frees _ _ (may_now (leaves sound d.unlinks)) (λ m i.
@@ -258,7 +239,7 @@ module _ {b now : List ℕ} {n : ℕ} (good : Good b) (d : Deletes b now n) wher
   counted : Hold (adrs_rows now (adrs_in (d.before ++ d.after)))
   counted = (
     eq-eqb _ _ (ap (λ (g : ℕ). number now g gdr_num_attr) (gdr_place sound e refl) ∙ gdr_still frees gdr_num_attr (omega arith) ∙ counted_now (leaves sound d.unlinks)),
-    fewer_rows (λ (a : AttributeShape). a.adr) adr_num 4 b now s.attributes d.before d.own d.after d.unlinks.was (λ m i. number_before sound d.unlinks e (own_mine sound d.unlinks) m adr_num (adrs_owned d.before m i) (omega arith) (omega arith)) (are_numbered (λ (a : AttributeShape). a.adr) adr_num (λ (a : AttributeShape). a.gr_entries ++ a.z_entries) aedr_attr_num now (length d.before) d.after says) (attributes_counted (good_by_its_shape b good)).1,
+    fewer_rows (λ (a : AttributeShape). a.adr) adr_num 4 b now s.attributes d.before d.own d.after d.unlinks.was (λ m i. number_before sound d.unlinks e (own_mine sound d.unlinks) m adr_num (place_in (λ (a : AttributeShape). a.adr) (λ (a : AttributeShape). a.gr_entries ++ a.z_entries) d.before m i) (omega arith) (omega arith)) (are_numbered (λ (a : AttributeShape). a.adr) adr_num (λ (a : AttributeShape). a.gr_entries ++ a.z_entries) aedr_attr_num now (length d.before) d.after says) (attributes_counted (good_by_its_shape b good)).1,
   )
 
   differ : Hold (differ_rows 2 (same_name now adr_name) [] (adrs_in (d.before ++ d.after)))
@@ -329,8 +310,7 @@ module _ {b now : List ℕ} {n : ℕ} (good : Good b) (d : Deletes b now n) (nam
   own_is : (k : ℕ) (a : AttributeShape) → is_attribute (content b) name k ≡ true → slice_get (shape b).attributes k ≡ Some a → d.own ≡ a
   own_is k a is at =
       let number : n ≡ k = eqb-true n k (sym (ap (λ (o : Option (ℕ × Attribute)). elim o [ None ↦ false | Some x ↦ x.0 == k ]) found) ∙ is) in
-      let there : slice_get (shape b).attributes k ≡ Some d.own = ap (λ (as_ : List AttributeShape). slice_get as_ k) d.unlinks.was ∙ ap (slice_get (d.before ++ d.own ∷ d.after)) (sym number ∙ sym d.count) ∙ got-middle d.before d.own d.after in
-      same_Some d.own a (sym there ∙ at)
+      same_middle (shape b).attributes d.before d.own d.after d.unlinks.was k (d.count ∙ number) at
 
   pub delete_done : (limit : ℕ) → length b ≤ limit → length b ≤ image_limit → Answers limit b (commands.DelAttr name) (Done Plain) now
   delete_done limit fits short =
@@ -368,19 +348,18 @@ module _ (b : List ℕ) (good : Good b) (places : List ℕ) (are : places ≡ ad
 
     own_entries : members_of b (GrEntries (get_or places n 0)) ++ members_of b (ZEntries (get_or places n 0)) ≡ own.own.gr_entries ++ own.own.z_entries
     own_entries =
-        let at : IsAmong b own.before own.own own.after = record { was = own.is } in
-        ap (λ (m : ℕ). members_of b (GrEntries m) ++ members_of b (ZEntries m)) own.own_at ∙ ap₂ (λ (gr z : List ℕ). gr ++ z) (members_chain entries.G image_sound at) (members_chain entries.Z image_sound at)
+        ap (λ (m : ℕ). members_of b (GrEntries m) ++ members_of b (ZEntries m)) own.own_at
+        ∙ ap₂ (λ (gr z : List ℕ). gr ++ z) (members_chain entries.G image_sound (record { was = own.is })) (members_chain entries.Z image_sound (record { was = own.is }))
 
     -- the numbers of one attribute more were read
     pub numbers_more : 1 ≤ n → (entries : List ℕ) → entries ≡ members_of b (GrEntries (get_or places n 0)) ++ members_of b (ZEntries (get_or places n 0)) → (done more all : List Write)
         → more ≡ done ++ write (get_or places n 0) adr_num (n - 1) ∷ map (λ (entry : ℕ). write entry aedr_attr_num (n - 1)) entries → done ++ numbers_from (n - 1) (drop n (shape b).attributes) ≡ all → more ++ numbers_from (n + 1 - 1) (drop (n + 1) (shape b).attributes) ≡ all
     numbers_more later entries entries_are done more all more_is before_is =
-        let adr = own.own_at in
         let ours = entries_are ∙ own_entries in
         let here : drop n (shape b).attributes ≡ own.own ∷ own.after = ap₂ (λ (as_ : List AttributeShape) (k : ℕ). drop k as_) own.is (sym own.count) ∙ drop-append_seam own.before (own.own ∷ own.after) in
         let next : n + 1 - 1 ≡ suc (n - 1) = omega arith in
         let numbers = λ (adr : ℕ) (es : List ℕ). write adr adr_num (n - 1) ∷ map (λ (entry : ℕ). write entry aedr_attr_num (n - 1)) es in
-        (λ i. more_is i ++ numbers_from (next i) (own.later_are i)) ∙ append_assoc done (numbers (get_or places n 0) entries) (numbers_from (suc (n - 1)) own.after) ∙ (λ i. done ++ (numbers (adr i) (ours i) ++ numbers_from (suc (n - 1)) own.after)) ∙ ap (λ (as_ : List AttributeShape). done ++ numbers_from (n - 1) as_) (sym here) ∙ before_is
+        (λ i. more_is i ++ numbers_from (next i) (own.later_are i)) ∙ append_assoc done (numbers (get_or places n 0) entries) (numbers_from (suc (n - 1)) own.after) ∙ (λ i. done ++ (numbers (own.own_at i) (ours i) ++ numbers_from (suc (n - 1)) own.after)) ∙ ap (λ (as_ : List AttributeShape). done ++ numbers_from (n - 1) as_) (sym here) ∙ before_is
 
     -- it was taken out of the chain, and numbers are written
     module _ (short : length b ≤ image_limit) {x y second : List ℕ} (same : x ≡ b) (taken : TakenOut x second Attrs (get_or places n 0)) (earlier : y ≡ b) {writes : List Write} (read : writes ≡ numbers_from n (drop (n + 1) (shape y).attributes)) where
@@ -417,7 +396,7 @@ module _ (b : List ℕ) (good : Good b) (places : List ℕ) (are : places ≡ ad
       unlinked_by {mid = mid} written records_are =
           let own_records = records_are ∙ ap₂ (λ (es : List ℕ) (m : ℕ). es ++ m ∷ []) own_entries own.own_at in
           record {
-            sound = mid_sound image_sound (unlinks written);
+            sound = sound_there (unlinked_sound image_sound (unlinks written));
             free = subst (AreFree mid) (sym own_records) (own_free image_sound (unlinks written));
             deletes = λ now given. record { before = own.before; own = own.own; after = own.after; count = own.count; mid = mid; unlinks = unlinks written; given = subst (AllGiven mid now) own_records given };
           }

@@ -1,9 +1,16 @@
 -- The owners of an image of which one has gone: each other one has what it had.
 use Rattle.std.proofs.Common.{◌≡◌, ◌≢◌, ℕ, suc, ◌+◌, ◌≤◌, List, [], ◌∷◌, true, false, ◌⊎◌, eq-eqb, refl, sym, subst, ◌∙◌, arith, inl, inr}
-use Rattle.cdf_edits.proofs.Common.{flat_map, ◌==◌, type_at, times, owned_records, unused_records, OwnedOnce, uir_type, Shape, shape, AreFree, IsSound, In, Distinct, either, times-none, Edit, Mark}
+use Rattle.cdf_edits.proofs.Common.{shape_is, flat_map, ◌==◌, type_at, times, owned_records, unused_records, OwnedOnce, uir_type, Shape, shape, AreFree, IsSound, In, Distinct, either, times-none, Edit, Mark}
 use Rattle.cdf_edits.proofs.Edits.ChainOwners.{not_twice_kept}
 use Rattle.cdf_edits.proofs.Edits.OwnedOnce.{used_times, owned_once_if, none_in_use, unused_unowned}
 use Rattle.cdf_edits.proofs.Frame.OwnersApart.{times-append, times-in, owned-times, file_records, all_attribute_records, all_variable_records}
+
+-- a sound image has the shape with which it is sound
+pub shape_there : {b : List ℕ} {s : Shape} → IsSound b s → shape b ≡ s
+shape_there {b = b} {s = s} sound = shape_is b s sound.has_shape
+
+pub sound_there : {b : List ℕ} {s : Shape} → IsSound b s → IsSound b (shape b)
+sound_there {b = b} sound = subst (IsSound b) (sym (shape_there sound)) sound
 
 -- none of the records stands twice
 pub distinct_if : (xs : List ℕ) → ((m : ℕ) → times m xs ≤ 1) → Distinct xs
@@ -69,13 +76,13 @@ module _ {b : List ℕ} {s s' : Shape} {mine : List ℕ} (left : Left b s s' min
     types_stay m i = elim (e.kind m (e.sub m i)) [ inl k ↦ k.1 | inr k ↦ elim k [ inl f ↦ absurd (f.0 i) | inr none ↦ absurd none ] ]
 
     -- and they can be freed, in an order of their own
-    pub can_be_freed : shape mid ≡ s' → ((m : ℕ) → In m mine → In m s.records) → (places : List ℕ) → ((m : ℕ) → In m places → In m mine) → Distinct places → AreFree mid places
-    can_be_freed is inside places sub once = record {
-      stand = λ m i. subst (λ (x : Shape). In m x.records) (sym is) (e.sub m (inside m (sub m i)));
+    pub can_be_freed : IsSound mid s' → ((m : ℕ) → In m mine → In m s.records) → (places : List ℕ) → ((m : ℕ) → In m places → In m mine) → Distinct places → AreFree mid places
+    can_be_freed sound inside places sub once = record {
+      stand = λ m i. subst (λ (x : Shape). In m x.records) (sym (shape_there sound)) (e.sub m (inside m (sub m i)));
       unowned = λ m i.
           let there = inside m (sub m i) in
           let used : type_at mid m ≢ uir_type = λ u. mine_used m (sub m i) there (sym (types_stay m there) ∙ u) in
-          subst (λ (x : Shape). times m (owned_records mid x) ≡ 0) (sym is) (none_in_use mid s' e.tiled_now m used (none_left m (sub m i)));
+          subst (λ (x : Shape). times m (owned_records mid x) ≡ 0) (sym (shape_there sound)) (none_in_use mid s' e.tiled_now m used (none_left m (sub m i)));
       once = once;
     }
 

@@ -147,4 +147,4 @@ module _ {b mid : List ℕ} {kind : Kind} {before : List VariableShape} {own : V
 
   -- and can be freed
   pub own_free : AreFree mid (freed_with_variable own)
-  own_free = can_be_freed (left_by sound at s.unused) unlinked_edit unlinked_shape (own_stand sound at) (freed_with_variable own) (freed_mine own) (freed_once sound kind before own after u.was)
+  own_free = can_be_freed (left_by sound at s.unused) unlinked_edit unlinked_sound (own_stand sound at) (freed_with_variable own) (freed_mine own) (freed_once sound kind before own after u.was)
