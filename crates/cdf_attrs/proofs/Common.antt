@@ -49,7 +49,7 @@ pub use Rattle.cdf_edits.proofs.Edits.LeftEntry.{LeavesChain, left_frees, left_m
 pub use Rattle.cdf_edits.proofs.Edits.MarkLemmas.{the_one}
 pub use Rattle.cdf_edits.proofs.Edits.OneChain.{Chained, chain_follows, counted_before, differ_before, follows_chained, items_of, of_named, once_before, rules_live}
 pub use Rattle.cdf_edits.proofs.Edits.OwnedOnce.{owned_once_if, used_times}
-pub use Rattle.cdf_edits.proofs.Edits.OwnersKept.{all_keep, keeps_fields, stood}
+pub use Rattle.cdf_edits.proofs.Edits.OwnersKept.{keep_attributes_alone, all_keep, keeps_fields, stood}
 pub use Rattle.cdf_edits.proofs.Edits.RecordFrame.{AttributeLives, file_same}
 pub use Rattle.cdf_edits.proofs.Edits.Splice.{OwnRules, Splices, good_image_if, parts_there, shape_now, spliced}
 pub use Rattle.cdf_edits.proofs.Edits.StandsSame.{stands_same}

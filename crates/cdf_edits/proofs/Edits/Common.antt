@@ -23,10 +23,10 @@ pub use Rattle.cdf_edits.proofs.Edits.LeftOwners.{Left, can_be_freed, distinct_i
 pub use Rattle.cdf_edits.proofs.Edits.MadeRecord.{end_now, fresh, list_chain, made_edit, made_keeps_unused, made_part, made_size, made_type, unowned}
 pub use Rattle.cdf_edits.proofs.Edits.MarkLemmas.{Avoids-append, Avoids-split, Away-append, Within-append, all_unmarked-away, avoided-avoids, avoids-of_type, away-of_type, ended-avoids, the_one, unmarked-away, within-of_type, within-within}
 pub use Rattle.cdf_edits.proofs.Edits.NumbersBehind.{SaysNumber, are_numbered, fewer_rows, numbering, others_in, others_say, place_in, tiles_numbered}
-pub use Rattle.cdf_edits.proofs.Edits.OneChain.{differ_before}
+pub use Rattle.cdf_edits.proofs.Edits.OneChain.{differ_before, end_before}
 pub use Rattle.cdf_edits.proofs.Edits.OneSpliced.{content_replaced}
 pub use Rattle.cdf_edits.proofs.Edits.OwnedOnce.{IsSorted, OnlyOwns, all_attributes_in, back_in, front_in, none_in_use, only_owns, own_in, owned_once_if, parts_once, unused_none, used_times}
-pub use Rattle.cdf_edits.proofs.Edits.OwnersKept.{all_keep, keep_all, keep_each, keep_file, keep_parts, keep_places, keep_unused, keeps_away, keeps_fields, keeps_stays, keeps_within, stood}
+pub use Rattle.cdf_edits.proofs.Edits.OwnersKept.{all_keep, keep_all, keep_attributes_alone, keep_each, keep_file, keep_parts, keep_places, keep_unused, keeps_away, keeps_fields, keeps_stays, keeps_within, stood}
 pub use Rattle.cdf_edits.proofs.Edits.RecordFrame.{VariableLives, cdr_kept, chain_clear, chain_kept, field_avoids, field_clear, file_same, gdr_field, gdr_place, gdr_start, index_records, kept, kept_away, kept_but_link, part_clear}
 pub use Rattle.cdf_edits.proofs.Edits.RecordPlaced.{placing_marks}
 pub use Rattle.cdf_edits.proofs.Edits.RowsOneLess.{AreNumbered, numbered_still}

@@ -1,7 +1,7 @@
 -- An attribute is taken out of the chain, counted no more, those behind it are numbered anew, and its records are freed: the image is good, with the content without it, and what it keeps of each record.
 use Rattle.std.proofs.Common.{◌≡◌, ℕ, suc, ◌+◌, ◌<◌, ◌≤◌, List, [], ◌∷◌, ◌++◌, length, map, true, false, eq-eqb, refl, sym, ap, subst, ◌∙◌, arith, inl, inr, Bool, Option, Some, None, ◌-◌, drop, get_or, ap₂, append_assoc}
-use Rattle.cdf_edits.proofs.Common.{Covered, touched_field, Plain, Each-append, Field, eqb-true, map-append, flat_map, ◌==◌, if◌then◌else◌, IsChain, number, size_at, type_at, attribute_records, times, gdr_adr_head, gdr_uir_head, gdr_num_attr, aedr_attr_num, adr_num, gdr_type, adr_type, agr_edr_type, az_edr_type, uir_type, AttributeShape, Shape, Each, HasShape, adrs, shape, IsSound, In, linkable-in, linkable-type, In-append, In-append_left, In-append_right, Distinct-push, Edit, unlinking_marks, deleting_marks, freeing_marks, Mark, attribute_types, Unlinks, Write, write, with_writes, numbers_from, AreFree, Attrs, Same, remove, slice_get, image_limit, is_in, next_field, content, LiesIn, OneAttribute, owned_by, owned, gdr_eof, uir_next_uir, uir_prev_uir, cdr_type, Good, is_a-in, is_a-type, good_by_its_shape, good_is_sound, rules_of_good, good_long, sealed_kept, Allowances, Anything, Only, Keeps, AllKeep, gave, links_end, Act, Go, Attribute, DataSet, attribute_named, attribute_names, ByStep, is_attribute, Done, Refused, Answers, drop-append_seam, eq_of, members_of, Removed, AllGiven, Lists, TakenOut, GrEntries, ZEntries, same_name, adrs_rows, differ_rows, attribute_of, name_in, attribute_shape_rows, read_types, adr_name, Hold, AreNew, names_at, names_differ, differ_by_names, Hold-split, content_is, true-is_in, numbering_marks, Deletes, del_attr_step, absent-split, absent-append, stands_in}
-use Rattle.cdf_edits.proofs.Edits.Common.{edit_under, unused_real, fewer_rows, tiles_numbered, place_in, numbering, others_say, are_numbered, LeavingTests, LeavesChain, may_linked, left_edit, said_now, chain_now, list_now, as_long, counted_now, may_now, distinct_if, mine_once, not_twice, can_be_freed, Left, owned_left, left_of, Avoids-split, avoided-avoids, within-within, away-of_type, within-of_type, avoids-of_type, OnlyOwns, parts_once, own_in, only_owns, back_in, front_in, gdr_in, gdr_typed, some_bytes, fixed_long, MayWrite, writes_lie, times-in, attribute_typed, Frees, freed_edit, sound_now, all_freed, says_still, gdr_still, behind_stays, gdr_field, file_same, gdr_place, eof_by_rules, refused, gone_by_giving, AllKeep-append, stood, keeps_fields, keep_unused, keep_places, keep_file, keep_parts, all_keep, keeps_stays, keep_each, attributes_counted, Each-map, variables_in, all_variables_kept, Each-apply, map-removed, AtNumber, at_number, map-without, IsOf, few_members, lists, others_in, SaysNumber, may_write, freed_shape, freed_records, freed_long, freed_types, freed_acts, freed_bytes, out_counted, shape_there, sound_there, same_middle}
+use Rattle.cdf_edits.proofs.Common.{Covered, touched_field, Plain, Each-append, Field, eqb-true, map-append, flat_map, ◌==◌, if◌then◌else◌, IsChain, number, size_at, type_at, attribute_records, times, gdr_adr_head, gdr_uir_head, gdr_num_attr, aedr_attr_num, adr_num, adr_type, agr_edr_type, az_edr_type, uir_type, AttributeShape, Shape, Each, HasShape, adrs, shape, IsSound, In, linkable-in, linkable-type, In-append, In-append_left, In-append_right, Distinct-push, Edit, unlinking_marks, deleting_marks, freeing_marks, Mark, attribute_types, Unlinks, Write, write, with_writes, numbers_from, AreFree, Attrs, Same, remove, slice_get, image_limit, is_in, next_field, content, LiesIn, OneAttribute, owned_by, owned, gdr_eof, uir_next_uir, uir_prev_uir, Good, good_by_its_shape, good_is_sound, rules_of_good, good_long, sealed_kept, Allowances, Anything, Only, Keeps, AllKeep, gave, links_end, Act, Go, Attribute, DataSet, attribute_named, attribute_names, ByStep, is_attribute, Done, Refused, Answers, drop-append_seam, eq_of, members_of, Removed, AllGiven, Lists, TakenOut, GrEntries, ZEntries, same_name, adrs_rows, differ_rows, attribute_of, name_in, attribute_shape_rows, read_types, adr_name, Hold, AreNew, names_at, names_differ, differ_by_names, Hold-split, content_is, true-is_in, numbering_marks, Deletes, del_attr_step, absent-split, absent-append, stands_in}
+use Rattle.cdf_edits.proofs.Edits.Common.{edit_under, unused_real, fewer_rows, tiles_numbered, place_in, numbering, others_say, are_numbered, LeavingTests, LeavesChain, may_linked, left_edit, said_now, chain_now, list_now, as_long, counted_now, may_now, distinct_if, mine_once, not_twice, can_be_freed, Left, owned_left, left_of, Avoids-split, avoided-avoids, within-within, away-of_type, within-of_type, avoids-of_type, OnlyOwns, parts_once, own_in, only_owns, back_in, front_in, gdr_typed, some_bytes, fixed_long, MayWrite, writes_lie, times-in, attribute_typed, Frees, freed_edit, sound_now, all_freed, says_still, gdr_still, behind_stays, gdr_field, file_same, gdr_place, refused, gone_by_giving, AllKeep-append, keep_unused, keep_places, keep_parts, keeps_stays, keep_each, attributes_counted, Each-map, all_variables_kept, Each-apply, map-removed, AtNumber, at_number, map-without, IsOf, few_members, lists, others_in, SaysNumber, may_write, freed_shape, freed_records, freed_long, freed_types, freed_acts, freed_bytes, out_counted, shape_there, sound_there, same_middle, keep_attributes_alone, end_before}
 use Rattle.cdf_edits.proofs.Edits.AttributeFrame.{all_last, AreThere, more_there, entry, each_there, remaining_names}
 use Rattle.cdf_edits.proofs.Edits.OwnedOnce.{spliced_times}
 use Rattle.cdf_edits.proofs.Edits.Splice.{parts_there, spliced, Splices, content_now, sound_if, good_image_if}
@@ -100,11 +100,8 @@ module _ {b mid : List ℕ} {s : Shape} {before : List AttributeShape} {own : At
   long : (m : ℕ) → In m s.records → is_in (type_at b m) attribute_types ≡ true → 56 ≤ size_at b m
   long m i typed = by_type (λ (t : ℕ). type_at b m ≡ t → 56 ≤ size_at b m) (λ is. let l = fixed_long b s h adr_type m i is in omega arith) (λ is. let l = fixed_long b s h agr_edr_type m i is in omega arith) (λ is. let l = fixed_long b s h az_edr_type m i is in omega arith) (type_at b m) typed refl
 
-  -- the shape without it: nobody has its records
-  abbrev without_one : List ℕ → Shape
-  without_one list = spliced s s.records list (before ++ after)
-
-  left_by : (list : List ℕ) → Left b s (without_one list) (attribute_records own)
+  -- without it nobody has its records
+  left_by : (list : List ℕ) → Left b s (spliced s s.records list (before ++ after)) (attribute_records own)
   left_by list = left_of attribute_records sound own (λ m. spliced_times s s.records list before (own ∷ []) [] after u.was m 0 (times m (flat_map attribute_records (own ∷ []))) (omega arith))
 
   -- ---- the others, whichever records of it are freed as well
@@ -170,7 +167,7 @@ module _ {b mid : List ℕ} {s : Shape} {before : List AttributeShape} {own : At
   unlinked : Edit b mid s.records s.records (deleting_marks s.gdr (adrs_in s.attributes) (adrs_in after) (entries_in after) s.unused [] 0) []
   unlinked = edit_under (left_edit leaves) _ (λ m type lo hi i is a. (Avoids-split (unlinking_marks s.gdr (adrs_in s.attributes) (adrs_in after) (entries_in after)) (freeing_marks attribute_types s.unused [] 0) type m lo hi a).0)
 
-  unlinked_sound : IsSound mid (without_one s.unused)
+  unlinked_sound : IsSound mid (spliced s s.records s.unused (before ++ after))
   unlinked_sound = sound_if sound (splices unlinked (λ m i. absurd i) (said_now leaves) (chain_now leaves) (list_now leaves) (λ m i. absurd i)) tt (not_twice (left_by s.unused) (left_edit leaves))
 
   own_mine : (m : ℕ) → In m (own.gr_entries ++ own.z_entries ++ own.adr ∷ []) → In m (attribute_records own)
@@ -217,7 +214,7 @@ module _ {b now : List ℕ} {n : ℕ} (good : Good b) (d : Deletes b now n) wher
   e : Edit b now s.records s.records (deleting_marks s.gdr (adrs_in s.attributes) (adrs_in d.after) (entries_in d.after) s.unused places (length d.mid)) places
   e = freed_edit frees
 
-  shape_after : shape now ≡ without_one sound d.unlinks (shape now).unused
+  shape_after : shape now ≡ spliced s s.records (shape now).unused (d.before ++ d.after)
   shape_after = freed_shape frees (shape_there (unlinked_sound sound d.unlinks))
 
   says : Each (SaysNumber now) (numbers (length d.before) d.after)
@@ -251,9 +248,8 @@ module _ {b now : List ℕ} {n : ℕ} (good : Good b) (d : Deletes b now n) wher
   good_after : length b ≤ image_limit → Good now
   good_after short =
       let image = good_by_its_shape b good in
-      let first = (sealed_kept b (good_long b s image) (rules_of_good b good)).0 in
-      let end = gdr_field sound e refl gdr_eof refl (omega arith) ∙ eof_by_rules b s sound first ∙ sym (freed_long frees) in
-      good_image_if sound whole first image (record {
+      let end = gdr_field sound e refl gdr_eof refl (omega arith) ∙ end_before b good ∙ sym (freed_long frees) in
+      good_image_if sound whole (sealed_kept b (good_long b s image) (rules_of_good b good)).0 image (record {
         counted = counted;
         own_rules = tt;
         differ = differ;
@@ -264,6 +260,14 @@ module _ {b now : List ℕ} {n : ℕ} (good : Good b) (d : Deletes b now n) wher
       all_mine : (m : ℕ) → In m (attribute_records d.own) → In m places
       all_mine m (inl e) = In-append_right m (d.own.gr_entries ++ d.own.z_entries) (d.own.adr ∷ []) (inl e)
       all_mine m (inr i) = In-append_left m (d.own.gr_entries ++ d.own.z_entries) (d.own.adr ∷ []) i
+
+  -- ---- names and places
+
+  pub names_after : remove (attribute_names (content b)) n ≡ attribute_names (content now)
+  names_after = sym (map-removed (λ (a : Attribute). a.name) (content b).attributes n) ∙ ap attribute_names (sym content_after)
+
+  pub places_after : remove (adrs s) n ≡ adrs (shape now)
+  places_after = ap (remove (adrs s)) (sym d.count) ∙ map-without (λ (a : AttributeShape). a.adr) s.attributes d.before d.own d.after d.unlinks.was ∙ sym (map-append (λ (a : AttributeShape). a.adr) d.before d.after) ∙ ap adrs (sym shape_after)
 
 -- ---- what the command may change
 
@@ -291,20 +295,16 @@ module _ {b now : List ℕ} {n : ℕ} (good : Good b) (d : Deletes b now n) (nam
 
   keeps : AllKeep b now may acts (owned b (shape b))
   keeps =
-      let s : Shape = shape b in
       let ok = sound good d in
-      let h = ok.has_shape in
-      let same = freed_records (frees good d) in
       let t = there ok d.unlinks in
       let mine = own_mine ok d.unlinks in
-      let f = keep_file b now may acts ok (keeps_fields ok (e good d) same 8 cdr_type [] (is_a-in b s.records cdr_type 8 h.cdr_stands) (is_a-type b s.records cdr_type 8 h.cdr_stands) refl refl) (keeps_fields ok (e good d) same s.gdr gdr_type attributes_gdr_fields (gdr_in b s h) (gdr_typed b s h) refl refl) in
       let a = keep_parts b now may acts d.before (d.own ∷ []) d.after d.unlinks.was
-      (keep_each b now may acts 0 d.before (λ k m i. one_keeps k m (front_in b s ok d.before d.own d.after d.unlinks.was m i) (attribute_typed b s.records d.before t.0 m i) (gone_before ok d.unlinks (e good d) mine m i)))
+      (keep_each b now may acts 0 d.before (λ k m i. one_keeps k m (front_in b (shape b) ok d.before d.own d.after d.unlinks.was m i) (attribute_typed b (shape b).records d.before t.0 m i) (gone_before ok d.unlinks (e good d) mine m i)))
       (AllKeep-append b now may acts (owned_by (OneAttribute (length d.before)) (attribute_records d.own)) [] (keep_places b now may acts (OneAttribute (length d.before)) (attribute_records d.own) (λ m i.
       subst (λ (p : Bool). Keeps b now m (if p then Anything else (if type_at b m == adr_type then Only (next_field ∷ adr_num ∷ []) else Only (aedr_attr_num ∷ [])))) (sym named) tt)) tt)
-      (keep_each b now may acts (length d.before + length (d.own ∷ [])) d.after (λ k m i. one_keeps k m (back_in b s ok d.before d.own d.after d.unlinks.was m i) (attribute_typed b s.records d.after t.1.1 m i) (gone_after ok d.unlinks (e good d) mine m i))) in
-      let u = keep_unused ok (e good d) same may acts (λ m i free. (avoided-avoids (marks ok d.unlinks (e good d) mine) uir_type m 0 12 refl, within-within (marks ok d.unlinks (e good d) mine) uir_type m (uir_next_uir ∷ uir_prev_uir ∷ []) refl)) (λ m i out. away-of_type (marks ok d.unlinks (e good d) mine) uir_type m ((λ same lies. absurd (out lies)), tt)) in
-      all_keep b now may acts f a (λ m i. stood ok (e good d) same m (variables_in b s ok m i) (all_variables_kept ok (e good d) refl m i)) u
+      (keep_each b now may acts (length d.before + length (d.own ∷ [])) d.after (λ k m i. one_keeps k m (back_in b (shape b) ok d.before d.own d.after d.unlinks.was m i) (attribute_typed b (shape b).records d.after t.1.1 m i) (gone_after ok d.unlinks (e good d) mine m i))) in
+      let u = keep_unused ok (e good d) (freed_records (frees good d)) may acts (λ m i free. (avoided-avoids (marks ok d.unlinks (e good d) mine) uir_type m 0 12 refl, within-within (marks ok d.unlinks (e good d) mine) uir_type m (uir_next_uir ∷ uir_prev_uir ∷ []) refl)) (λ m i out. away-of_type (marks ok d.unlinks (e good d) mine) uir_type m ((λ same lies. absurd (out lies)), tt)) in
+      keep_attributes_alone ok (e good d) (freed_records (frees good d)) may acts attributes_gdr_fields refl refl refl refl (all_variables_kept ok (e good d) refl) a u
 
   -- the attribute that has the name is this one
   own_is : (k : ℕ) (a : AttributeShape) → is_attribute (content b) name k ≡ true → slice_get (shape b).attributes k ≡ Some a → d.own ≡ a
@@ -320,15 +320,6 @@ module _ {b now : List ℕ} {n : ℕ} (good : Good b) (d : Deletes b now n) (nam
 
 pub delete_refused : (limit : ℕ) (b name : List ℕ) → attribute_named (content b) name ≡ None → Answers limit b (commands.DelAttr name) (Refused reasons.NoSuchAttr) b
 delete_refused limit b name none = refused limit b (commands.DelAttr name) reasons.NoSuchAttr (ap ByStep (rw none refl))
-
--- ---- names and places
-
-module _ {b now : List ℕ} {n : ℕ} (good : Good b) (d : Deletes b now n) where
-  pub names_after : remove (attribute_names (content b)) n ≡ attribute_names (content now)
-  names_after = sym (map-removed (λ (a : Attribute). a.name) (content b).attributes n) ∙ ap attribute_names (sym (content_after good d))
-
-  pub places_after : remove (adrs (shape b)) n ≡ adrs (shape now)
-  places_after = ap (remove (adrs (shape b))) (sym d.count) ∙ map-without (λ (a : AttributeShape). a.adr) (shape b).attributes d.before d.own d.after d.unlinks.was ∙ sym (map-append (λ (a : AttributeShape). a.adr) d.before d.after) ∙ ap adrs (sym (shape_after good d))
 
 -- ---- what the calls come to, by the places of the attributes and the number of one
 

@@ -1,7 +1,7 @@
 -- The image after a variable went: its shape, its content, its rules and its space.
 use Rattle.std.proofs.Common.{◌≡◌, ◌≢◌, ℕ, zero, suc, ◌+◌, ◌<◌, ◌≤◌, List, [], ◌∷◌, ◌++◌, length, map, max, refl, sym, ap, subst, ◌∙◌, arith, inl, inr, false}
 use Rattle.cdf_edits.proofs.Common.{Avoids, Field, Says, emptied_fields, empty_writes, freeing_marks, no_index, le-leb, tile_lies, type_at, variable_removing_marks, with_writes, word_kept, w32, cast_signed, fold, remove, Kind, R, Z, extent, image_limit, variables_of, with_variables, last_number, IsChain, is_in, content, variable_of, number, integer4, size_at, gdr_offset, variable_records, gdr_eof, gdr_uir_head, gdr_r_max_rec, vdr_num, gdr_type, uir_type, VariableShape, Shape, vdrs, shape, IsSound, In, max_rec_at, Good, good_by_its_shape, good_is_sound, rules_of_good, good_long, sealed_kept, shapes_of, RMaxRecOf, freed_with_variable, index_types, RemovesVariable, greatest_at, variable_unlinking_marks, links_end, head_of, count_of, type_in, variables_chain, field_reads4, number_kept, r_extents}
-use Rattle.cdf_edits.proofs.Edits.Common.{head_size, field_clear, gdr_field, gdr_place, gdr_in, gdr_typed, gdr_long, TakesVariable, SaysTaken, tests, without_variable, content_taken, taken_good, vdr_there, back_out, e_second, e_early, some_second, lasts_second, counted_now, numbered_still, kind_chain, with_shapes, content_now, write_lies, eof_by_rules, Frees, freed_edit, sound_now, others_kept, all_freed, gdr_still, freeing_behind, BytesStay, free_used, edit_under, Avoids-append, Avoids-split, freed_shape, freed_records, freed_long, freed_types, freed_places}
+use Rattle.cdf_edits.proofs.Edits.Common.{head_size, field_clear, gdr_field, gdr_place, gdr_in, gdr_typed, gdr_long, TakesVariable, SaysTaken, tests, without_variable, content_taken, taken_good, vdr_there, back_out, e_second, e_early, some_second, lasts_second, counted_now, numbered_still, kind_chain, with_shapes, content_now, write_lies, Frees, freed_edit, sound_now, others_kept, all_freed, gdr_still, freeing_behind, BytesStay, free_used, edit_under, Avoids-append, Avoids-split, freed_shape, freed_records, freed_long, freed_types, freed_places, end_before}
 use Rattle.std.specs.Int.RustNames.{FitsSigned}
 use Rattle.cdf_edits.proofs.Edits.OwnVariable.{freed_mine, mine_freed, own_typed}
 use Rattle.cdf_edits.proofs.Edits.TakenVariable.{splices, back_in}
@@ -134,10 +134,9 @@ module _ {b now : List ℕ} {kind : Kind} {n : ℕ} (good : Good b) (d : Removes
   pub good_after : length b ≤ image_limit → Good now
   good_after short =
       let image = good_by_its_shape b good in
-      let first = (sealed_kept b (good_long b s image) (rules_of_good b good)).0 in
       let t = tests sound takes in
-      let end = gdr_field sound takes.edit t.file_clear gdr_eof t.eof_clear (omega arith) ∙ eof_by_rules b s sound first ∙ sym long_now in
-      taken_good sound takes says first image (mine_freed d.own) count_now end (let l = long_now in omega arith)
+      let end = gdr_field sound takes.edit t.file_clear gdr_eof t.eof_clear (omega arith) ∙ end_before b good ∙ sym long_now in
+      taken_good sound takes says (sealed_kept b (good_long b s image) (rules_of_good b good)).0 image (mine_freed d.own) count_now end (let l = long_now in omega arith)
 
   -- rMaxRec is not written by freeing
   pub r_max_mid : number now s.gdr gdr_r_max_rec ≡ number d.mid s.gdr gdr_r_max_rec

@@ -13,9 +13,8 @@ delete-requires-clause-places g c = c.deref.ensures.value ∙ places_known c.req
 
 pub delete-requires-clause-within : goal.delete-requires-clause-within
 delete-requires-clause-within g c =
-    let names = c.self.inside.names in
-    let name = c.args.name.now in
-    omega (arith, number_is_adr _ 0 names name name (names_known c.requires.known c.self.view_is) c.requires.good c.in-Some.number (number_within names name c.in-Some.number (sym c.in-Some.ensures.number)), ap length (c.deref.ensures.value ∙ places_known c.requires.known c.self.view_is))
+    let lt = number_within c.self.inside.names c.args.name.now c.in-Some.number (sym c.in-Some.ensures.number) in
+    omega (arith, number_is_adr _ 0 c.self.inside.names c.args.name.now c.args.name.now (names_known c.requires.known c.self.view_is) c.requires.good c.in-Some.number lt, ap length (c.deref.ensures.value ∙ places_known c.requires.known c.self.view_is))
 
 pub returns-clause-answers : goal.returns-clause-answers
 returns-clause-answers g c =
