@@ -16,7 +16,6 @@ pub mod ChecksumSet
 pub mod Composing
 pub mod DeletedAttribute
 pub mod EditActs
-pub mod EmptiedVdr
 pub mod EmptySet
 pub mod EntryFields
 pub mod EntryTakenStep
@@ -36,7 +35,6 @@ pub mod InRecords
 pub mod MadeRecord
 pub mod JoinedRecord
 pub mod LeftEntry
-pub mod LooseWritten
 pub mod MarkLemmas
 pub mod MovedVdr
 pub mod NameWritten

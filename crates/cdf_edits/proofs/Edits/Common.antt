@@ -15,7 +15,7 @@ pub use Rattle.cdf_edits.proofs.Edits.EditActs.{acts_none, acts_took}
 pub use Rattle.cdf_edits.proofs.Edits.EntryFields.{of_shape}
 pub use Rattle.cdf_edits.proofs.Edits.FirstRecords.{read_now}
 pub use Rattle.cdf_edits.proofs.Edits.FreedAfter.{Frees, all_freed, freed_acts, freed_bytes, freed_edit, freed_long, freed_places, freed_records, freed_shape, freed_types, freeing_behind, gdr_still, may_free, others_kept, says_still, sizes_before, sound_now}
-pub use Rattle.cdf_edits.proofs.Edits.FreedBytes.{BytesStay, behind_link, behind_stays, free_used, freed_stay_but, unowned_used}
+pub use Rattle.cdf_edits.proofs.Edits.FreedBytes.{BytesStay, behind_link, behind_stays, end_long, free_used, freed_stay_but, unowned_used}
 pub use Rattle.cdf_edits.proofs.Edits.FreedRecord.{IsPlain}
 pub use Rattle.cdf_edits.proofs.Edits.FreedRecords.{edit_under, sizes_by_tiles, unused_real}
 pub use Rattle.cdf_edits.proofs.Edits.LeftChain.{LeavesChain, LeavingTests, as_long, chain_now, counted_now, e_early, e_second, lasts_second, left_edit, list_now, may_linked, may_now, may_write, said_now, some_second}
@@ -30,6 +30,7 @@ pub use Rattle.cdf_edits.proofs.Edits.OwnersKept.{all_keep, keep_all, keep_attri
 pub use Rattle.cdf_edits.proofs.Edits.RecordFrame.{VariableLives, cdr_kept, chain_clear, chain_kept, field_avoids, field_clear, file_same, gdr_field, gdr_place, gdr_start, index_records, kept, kept_away, kept_but_link, part_clear}
 pub use Rattle.cdf_edits.proofs.Edits.RecordPlaced.{placing_marks}
 pub use Rattle.cdf_edits.proofs.Edits.RowsOneLess.{AreNumbered, numbered_still}
+pub use Rattle.cdf_edits.proofs.Edits.StaysBut.{StaysBut, field_stays, stays_within}
 pub use Rattle.cdf_edits.proofs.Edits.StepEdits.{fixed_long, gdr_in, gdr_long, gdr_typed, gives_edit, some_bytes, takes_edit}
 pub use Rattle.cdf_edits.proofs.Edits.TakenVariable.{SaysTaken, Stands, TakesVariable, back_out, content_taken, least_size, left_by, once, ours, own_stand, sound_taken, taken_good, tests, vdr_avoids, vdr_record, vdr_there, without_variable}
 pub use Rattle.cdf_edits.proofs.Edits.VariableCopied.{content_copied, fits_copied, links_copied}
@@ -40,7 +41,7 @@ pub use Rattle.cdf_edits.proofs.Edits.VariableKinds.{attributes_counted, counted
 pub use Rattle.cdf_edits.proofs.Edits.VariableNames.{apart_if}
 pub use Rattle.cdf_edits.proofs.Edits.VariableSplice.{OwnRules, VariableSplices, attributes_kept, attributes_stay, content_now, good_image_if, keeps_all_attributes, shape_now, sound_if}
 pub use Rattle.cdf_edits.proofs.Edits.VdrEdited.{EditsVdr, MarkTests, StandsAmong, behind_in, behind_kept, file, fits, has, long, sound, through, tile, typed}
-pub use Rattle.cdf_edits.proofs.Edits.WrittenFields.{MayWrite, write_lies, writes_edit, writes_lie, writes_long, written_tiles}
+pub use Rattle.cdf_edits.proofs.Edits.WrittenFields.{MayWrite, may_after, write_lies, writes_edit, writes_lie, writes_long, written_tiles}
 pub use Rattle.cdf_edits.proofs.Frame.ChangedBytes.{changed_put}
 pub use Rattle.cdf_edits.proofs.Frame.Meaning.{FileSame, Kept, KeptButLink, but_link, late_size, late_type, pad_long, pad_width}
 pub use Rattle.cdf_edits.proofs.Frame.OwnersApart.{all_attribute_records, all_variable_records, file_from_attributes, file_records, flat-append, owned-times, times-append, times-in}

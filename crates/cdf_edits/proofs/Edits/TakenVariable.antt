@@ -106,12 +106,13 @@ module _ {b : List ℕ} {s : Shape} {kind : Kind} {before : List VariableShape} 
 
 -- ---- an edit that takes one variable away, numbers those behind it, and may free records of it
 
-pub record TakesVariable (b now : List ℕ) (s : Shape) (kind : Kind) (before : List VariableShape) (own : VariableShape) (after : List VariableShape) (places : List ℕ) (limit : ℕ) : Type 0 where
-  pub edit : Edit b now s.records s.records (variable_removing_marks kind s.gdr (vdrs (shapes_of s kind)) (vdrs after) s.unused places limit) places
+pub record TakesVariable (b now : List ℕ) (s : Shape) (kind : Kind) (before : List VariableShape) (own : VariableShape) (after : List VariableShape) (places reborn : List ℕ) (limit : ℕ) : Type 0 where
+  pub edit : Edit b now s.records s.records (variable_removing_marks kind s.gdr (vdrs (shapes_of s kind)) (vdrs after) s.unused places limit) reborn
   pub at : Stands s kind before own after
   pub mine : (m : ℕ) → In m places → In m (variable_records own)
+  pub born : (m : ℕ) → In m reborn → In m places
 
-module _ {b now : List ℕ} {s : Shape} {kind : Kind} {before : List VariableShape} {own : VariableShape} {after : List VariableShape} {places : List ℕ} {limit : ℕ} (sound : IsSound b s) (r : TakesVariable b now s kind before own after places limit) where
+module _ {b now : List ℕ} {s : Shape} {kind : Kind} {before : List VariableShape} {own : VariableShape} {after : List VariableShape} {places reborn : List ℕ} {limit : ℕ} (sound : IsSound b s) (r : TakesVariable b now s kind before own after places reborn limit) where
   abbrev pub marks : List Mark
   marks = variable_removing_marks kind s.gdr (vdrs (shapes_of s kind)) (vdrs after) s.unused places limit
 
@@ -202,14 +203,14 @@ module _ {b now : List ℕ} {s : Shape} {kind : Kind} {before : List VariableSha
     pub numbered : AreNumbered now vdr_num (length before) (vdrs after)
     pub variable_chain : IsChain now s.records type (number now s.gdr (head_of (variables_chain kind))) (vdrs (before ++ after))
     pub unused_chain : IsChain now s.records uir_type (number now s.gdr gdr_uir_head) list
-    pub freed : (m : ℕ) → In m places → type_at now m ≡ uir_type
+    pub freed : (m : ℕ) → In m reborn → type_at now m ≡ uir_type
 
   -- the shape without the variable
   abbrev pub without_variable : List ℕ → Shape
   without_variable list = with_shapes s kind s.records list (before ++ after)
 
   module _ {list : List ℕ} (says : SaysTaken list) where
-    pub splices : VariableSplices b now s kind s.records list marks places before (own ∷ []) [] after
+    pub splices : VariableSplices b now s kind s.records list marks reborn before (own ∷ []) [] after
     splices = record {
       edit = r.edit;
       was = r.at.was;
@@ -219,7 +220,7 @@ module _ {b now : List ℕ} {s : Shape} {kind : Kind} {before : List VariableSha
       before_remain = remain_from sound r.edit file before (ours sound r.at).0 before_live;
       after_remain = after_remain;
       others_live = others_live;
-      typed = λ m i. unused_real now s.records m r.edit.tiled_now (r.edit.sub m (own_stand sound r.at m (r.mine m i))) (says.freed m i);
+      typed = λ m i. unused_real now s.records m r.edit.tiled_now (r.edit.sub m (own_stand sound r.at m (r.mine m (r.born m i)))) (says.freed m i);
       variable_chain = says.variable_chain;
       unused_chain = says.unused_chain;
       own_have = tt;
@@ -243,11 +244,11 @@ module _ {b now : List ℕ} {s : Shape} {kind : Kind} {before : List VariableSha
         let numbers = numbers_by kind b now (vdrs before) own.vdr (vdrs after) same (subst (λ (n : ℕ). AreNumbered now vdr_num n (vdrs after)) (sym long) says.numbered) (subst (λ (ms : List ℕ). Hold (vdrs_rows kind b ms)) (vdrs_were sound r.at) (counted_before good kind)) in
         counting_by kind now (vdrs (before ++ after)) (ap (λ (g : ℕ). number now g (count_of (variables_chain kind))) place ∙ count) (subst (λ (ms : List ℕ). Hold (number_part kind now ms)) (sym (vdrs_append before after)) numbers)
 
-    pub taken_good : AllHold (first_phases (sealed b)) → IsGoodByShape b s → ((m : ℕ) → In m (variable_records own) → In m places) → number now s.gdr (count_of (variables_chain kind)) ≡ length (vdrs (before ++ after)) → eof now s.gdr ≡ length now → length now ≤ image_limit → Good now
+    pub taken_good : AllHold (first_phases (sealed b)) → IsGoodByShape b s → ((m : ℕ) → In m (variable_records own) → In m reborn) → number now s.gdr (count_of (variables_chain kind)) ≡ length (vdrs (before ++ after)) → eof now s.gdr ≡ length now → length now ≤ image_limit → Good now
     taken_good first good all count eof_is short = good_image_if sound splices first good (record {
       counted = counted good count;
       apart = apart_if sound splices good (λ x y i j differ. absurd i) (λ x y i beside. absurd i);
       own_ruled = tt;
       read = λ m i. subst (λ (t : ℕ). is_in t read_types ≡ true) (sym (says.freed m i)) refl;
-      owned = owned_left (left_by sound r.at list) good.owned_once r.edit r.mine all says.freed;
+      owned = owned_left (left_by sound r.at list) good.owned_once r.edit (λ m i. r.mine m (r.born m i)) all says.freed;
     }) eof_is short

@@ -4,7 +4,7 @@ use Rattle.cdf_edits.proofs.Common.{map-append, remove, Kind, R, Z, Go, Attribut
 use Rattle.cdf_edits.proofs.Edits.Common.{acts_still_by, all_gave, gave-same, may_free, freed_places, sizes_before, sizes_by_tiles}
 use Rattle.cdf_model.specs.declared.answer.Reply.TheVariants as replies
 use Rattle.cdf_model.specs.VariableSteps.{without_variable as without_found}
-use Rattle.cdf_edits.proofs.Edits.EmptiedVdr.{emptying_marks, emptied_edit, emptied_long, emptied_shape, emptied_sound}
+use Rattle.cdf_edits.proofs.Edits.UnlinkedVariable.{emptying_marks, emptied_edit, emptied_long, emptied_shape, emptied_sound}
 use Rattle.cdf_edits.proofs.Edits.RemovedVariable.{emptied, frees, content_after, good_after, long_now, records_are, r_max_after}
 
 -- ---- the step
