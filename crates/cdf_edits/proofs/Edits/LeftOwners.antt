@@ -58,11 +58,14 @@ module _ {b : List ℕ} {s s' : Shape} {mine : List ℕ} (left : Left b s s' min
       clash : (n n' o : ℕ) → n ≡ 0 → n' + o ≡ n → 1 ≤ o → ⊥
       clash n n' o e p q = omega arith
 
-  pub mine_once : Distinct mine
-  mine_once = distinct_if mine (λ m. at_most (used_times s m) (used_times s' m) (times m mine) (used_once m) (left.fewer m))
+  pub mine_times : (m : ℕ) → times m mine ≤ 1
+  mine_times m = at_most (used_times s m) (used_times s' m) (times m mine) (used_once m) (left.fewer m)
     where
       at_most : (n n' o : ℕ) → n ≤ 1 → n' + o ≡ n → o ≤ 1
       at_most n n' o l p = omega arith
+
+  pub mine_once : Distinct mine
+  mine_once = distinct_if mine mine_times
 
   -- before they are freed nobody has them, and no record has two owners
   module _ {mid : List ℕ} {marks : List Mark} (e : Edit b mid s.records s'.records marks []) where

@@ -3,9 +3,9 @@ use Rattle.std.proofs.Common.{◌≡◌, ℕ, zero, suc, ◌+◌, ◌≤◌, Lis
 use Rattle.cdf_edits.proofs.Common.{Field, Says, emptied_fields, empty_writes, freeing_marks, no_index, le-leb, type_at, with_writes, word_kept, w32, cast_signed, fold, remove, Kind, R, Z, extent, image_limit, variables_of, with_variables, last_number, IsChain, is_in, content, variable_of, number, integer4, size_at, gdr_offset, variable_records, gdr_eof, gdr_uir_head, gdr_r_max_rec, vdr_num, gdr_type, uir_type, VariableShape, Shape, vdrs, shape, IsSound, In, max_rec_at, Good, good_by_its_shape, good_is_sound, rules_of_good, good_long, sealed_kept, shapes_of, RMaxRecOf, freed_with_variable, index_types, RemovesVariable, greatest_at, variable_unlinking_marks, links_end, head_of, count_of, type_in, variables_chain, field_reads4, number_kept, r_extents}
 use Rattle.cdf_edits.proofs.Edits.Common.{head_size, field_clear, gdr_field, gdr_place, gdr_in, gdr_typed, gdr_long, TakesVariable, SaysTaken, tests, without_variable, content_taken, taken_good, vdr_there, back_out, e_second, e_early, some_second, lasts_second, counted_now, numbered_still, kind_chain, with_shapes, content_now, write_lies, Frees, freed_edit, sound_now, others_kept, all_freed, gdr_still, freeing_behind, BytesStay, edit_under, Avoids-append, Avoids-split, freed_shape, freed_records, freed_long, freed_types, end_before}
 use Rattle.std.specs.Int.RustNames.{FitsSigned}
-use Rattle.cdf_edits.proofs.Edits.OwnVariable.{freed_mine, mine_freed, own_typed}
+use Rattle.cdf_edits.proofs.Edits.OwnVariable.{freed_mine, mine_freed}
 use Rattle.cdf_edits.proofs.Edits.TakenVariable.{splices, back_in}
-use Rattle.cdf_edits.proofs.Edits.UnlinkedVariable.{leaves, leaving_tests, own_there, emptying_marks, emptied_edit, emptied_long, emptied_shape, emptied_sound, emptied_free, leads_nowhere, gdr_emptied, numbered_emptied, emptied_under, emptied_behind}
+use Rattle.cdf_edits.proofs.Edits.UnlinkedVariable.{own_typed, leaves, leaving_tests, own_there, emptying_marks, emptied_edit, emptied_long, emptied_shape, emptied_sound, emptied_free, leads_nowhere, gdr_emptied, numbered_emptied, emptied_under, emptied_behind}
 use Rattle.std.proofs.lemmas.Int.{ints}
 
 no_gdr : (kind : Kind) → is_in gdr_type (type_in (variables_chain kind) ∷ index_types) ≡ false
@@ -42,7 +42,7 @@ module _ {b now : List ℕ} {kind : Kind} {n : ℕ} (good : Good b) (d : Removes
     records = ap (λ (x : Shape). x.records) (emptied_shape good d.unlinks);
     unused = ap (λ (x : Shape). x.unused) (emptied_shape good d.unlinks);
     free = emptied_free good d.unlinks;
-    typed = λ m i. own_typed sound kind d.before d.own d.after d.unlinks.was m (mine m i);
+    typed = λ m i. own_typed good d.unlinks m (mine m i);
     no_gdr = no_gdr kind;
     given = d.given;
   }

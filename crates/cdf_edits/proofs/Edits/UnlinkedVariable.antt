@@ -1,8 +1,8 @@
 -- A variable that is taken out of the chain, counted no more, and those behind it numbered anew: the image is sound, and its VDR has no owner.
 use Rattle.std.proofs.Common.{◌≢◌, ◌⊎◌, ◌<◌, eq-eqb, ◌≡◌, ℕ, ℤ, suc, ◌+◌, ◌≤◌, List, [], ◌∷◌, ◌++◌, length, true, refl, sym, ap, subst, ◌∙◌, arith, inl, inr}
-use Rattle.cdf_edits.proofs.Common.{head_of, byte, number, with_field, LiesIn, Field, vdr_vxr_head, vdr_vxr_tail, emptied_fields, empty_writes, number_kept, tile_lies, OutsideFields, vdr_type, Avoids, Within, avoided, field_marks, length-with_field, field_reads, next_field, r_vdr_type, z_vdr_type, gdr_uir_head, if◌then◌else◌, flat_map, Kind, R, Z, size_at, type_at, gdr_offset, variable_records, vdr_num, gdr_type, uir_type, VariableShape, Shape, vdrs, Each, HasShape, shape, IsSound, In, Distinct, Good, good_is_sound, Distinct-back, shapes_of, freed_with_variable, Edit, freeing_marks, Among, Mark, mark, all_unmarked, index_types, UnlinksVariable, numbers_on, r_max_writes, greatest_at, variable_unlinking_marks, variable_removing_marks, Write, write, with_writes, links_end, holder_of, count_of, type_in, AreFree, variables_chain, r_max_marks, other_words}
-use Rattle.cdf_edits.proofs.Edits.Common.{edit_under, Avoids-split, all_unmarked-away, kept_away, gdr_in, gdr_typed, gdr_long, Stands, TakesVariable, vdr_there, own_stand, once, ours, vdr_record, left_by, sound_taken, are_numbered, LeavingTests, LeavesChain, left_edit, said_now, chain_now, list_now, not_twice, can_be_freed, AreNumbered, index_typed, only_variable, kind_chain, MayWrite, written_tiles, BytesStay, end_long, head_size, edit_then, the_one, Avoids-append, avoided-avoids, within-of_type, as_long, shape_there, sound_there, with_shapes, kind_type, may_after, writes_edit, writes_long, write_lies, chain_clear, numbered_still, some_bytes, stays_within, apart}
-use Rattle.cdf_edits.proofs.Edits.OwnVariable.{mine_freed, freed_mine, freed_once}
+use Rattle.cdf_edits.proofs.Common.{is_in, either, ◌==◌, head_of, byte, number, with_field, LiesIn, Field, vdr_vxr_head, vdr_vxr_tail, emptied_fields, empty_writes, number_kept, tile_lies, OutsideFields, vdr_type, Avoids, Within, avoided, field_marks, length-with_field, field_reads, next_field, r_vdr_type, z_vdr_type, gdr_uir_head, if◌then◌else◌, flat_map, Kind, R, Z, size_at, type_at, gdr_offset, variable_records, vdr_num, gdr_type, uir_type, VariableShape, Shape, vdrs, Each, HasShape, shape, IsSound, In, Distinct, Good, good_is_sound, Distinct-back, shapes_of, freed_with_variable, Edit, freeing_marks, Among, Mark, mark, all_unmarked, index_types, UnlinksVariable, numbers_on, r_max_writes, greatest_at, variable_unlinking_marks, variable_removing_marks, Write, write, with_writes, links_end, holder_of, count_of, type_in, AreFree, variables_chain, r_max_marks, other_words}
+use Rattle.cdf_edits.proofs.Edits.Common.{edit_under, Avoids-split, all_unmarked-away, kept_away, gdr_in, gdr_typed, gdr_long, Stands, TakesVariable, vdr_there, own_stand, once, ours, vdr_record, left_by, sound_taken, are_numbered, LeavingTests, LeavesChain, left_edit, said_now, chain_now, list_now, not_twice, can_be_freed, AreNumbered, index_typed, only_variable, kind_chain, MayWrite, written_tiles, BytesStay, end_long, head_size, edit_then, the_one, Avoids-append, avoided-avoids, within-of_type, as_long, shape_there, sound_there, with_shapes, kind_type, may_after, writes_edit, writes_long, write_lies, chain_clear, numbered_still, some_bytes, stays_within, apart, mine_times, distinct_if}
+use Rattle.cdf_edits.proofs.Edits.OwnVariable.{freed-times, mine_freed, freed_mine}
 use Rattle.cdf_edits.proofs.Edits.TakenVariable.{back_in, own_in}
 use Rattle.cdf_edits.proofs.Edits.NumbersBehind.{numbering as numbering_of}
 
@@ -130,6 +130,11 @@ module _ {b mid : List ℕ} {kind : Kind} {before : List VariableShape} {own : V
   numbered_now : AreNumbered mid vdr_num (length before) (vdrs after)
   numbered_now = are_numbered (λ (v : VariableShape). v.vdr) vdr_num (λ (v : VariableShape). []) vdr_num mid (length before) after (said_now leaves)
 
+  -- each record is a VDR of the kind, a node, a block or a CPR
+  pub own_typed : (m : ℕ) → In m (variable_records own) → is_in (type_at b m) (type_in (variables_chain kind) ∷ index_types) ≡ true
+  own_typed m (inl e) = rw (eq-eqb (type_at b m) (type_in (variables_chain kind)) (ap (type_at b) e ∙ own_there.1.0)) refl
+  own_typed m (inr i) = elim (either (type_at b m == type_in (variables_chain kind))) [ inl e ↦ rw e refl | inr e ↦ rw e (index_typed b s own (ours sound at).1.has.0 (ours sound at).1.fits.0 m i) ]
+
   -- ---- its VDR leads to no node any more
 
   abbrev vdr : ℕ
@@ -218,7 +223,7 @@ module _ {b mid : List ℕ} {kind : Kind} {before : List VariableShape} {own : V
   emptied_sound = sound_there left_sound
 
   pub emptied_free : AreFree emptied places
-  emptied_free = can_be_freed (left_by sound at s.unused) emptied_edit left_sound (own_stand sound at) places (freed_mine own) (freed_once sound kind before own after u.was)
+  emptied_free = can_be_freed (left_by sound at s.unused) emptied_edit left_sound (own_stand sound at) places (freed_mine own) (distinct_if places (λ m. subst (λ (n : ℕ). n ≤ 1) (sym (freed-times own m)) (mine_times (left_by sound at s.unused) m)))
 
   -- behind the links of an unused record they have their bytes, but for the links of the VDR to its index
   pub emptied_behind : (m : ℕ) → In m (variable_records own) → BytesStay b emptied m (links_end (size_at b m)) (emptied_fields kind (type_at b m))
