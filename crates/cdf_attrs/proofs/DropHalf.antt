@@ -1,6 +1,6 @@
 -- Both halves of what an attribute of variables drops, from what was written.
 use Rattle.std.proofs.Common.{◌≡◌, ℕ, ◌<◌, ◌≤◌, List, [], ◌++◌, length, Some, false, refl, sym, ap, subst, ◌∙◌, append-nil, arith, inl, inr}
-use Rattle.cdf_attrs.proofs.Common.{position, slice_get, ◌==◌, slice_index, entries_of, is_global, with_entries, Attribute, Entry, image_limit, Found, closed_up, without, EntryKind, attribute_of, number, Field, aedr_num, AttributeShape, shape, In, Good, chain_of, greatest_number, kind_of_entries, entries_chain, gave, ActsFollow, nums, LowersHalf, TakesHalf, numbered, DropsOne, items_of, stands_same, DropsFrom, DropsNumber, IsScoped, Lowers, LowersNumbers, IsOfAttribute, KnownEntries, KnowsEntries, TakenAt, with_chain}
+use Rattle.cdf_attrs.proofs.Common.{position, slice_get, ◌==◌, slice_index, entries_of, is_global, with_entries, Attribute, Entry, image_limit, Found, closed_up, without, EntryKind, attribute_of, number, Field, aedr_num, AttributeShape, shape, In, Good, good_is_sound, chain_of, greatest_number, kind_of_entries, entries_chain, gave, ActsFollow, nums, chain_in, LowersHalf, TakesHalf, numbered, DropsOne, items_of, stands_same, DropsFrom, DropsNumber, IsScoped, Lowers, LowersNumbers, IsOfAttribute, KnownEntries, KnowsEntries, TakenAt, with_chain}
 use Rattle.cdf_model.specs.declared.kinds.EntryKind.TheVariants as entries
 use Rattle.cdf_edits.specs.Space.Chains.{without as left_of}
 use Rattle.cdf_edits.proofs.Edits.ChainEdited.{AttributeEdited}

@@ -1,6 +1,6 @@
 -- The entries for a variable go from one attribute after the other.
 use Rattle.std.proofs.Common.{◌≡◌, ◌∙◌, ℕ, zero, suc, ◌+◌, ◌<◌, ◌≤◌, List, [], ◌∷◌, ◌++◌, length, map, true, false, Some, append-nil, refl, sym, ap, subst, arith, inl, inr}
-use Rattle.cdf_attrs.proofs.Common.{slice_get, slice_index, slice_index_or, length-map, is_global, image_limit, Found, Kind, attribute_of, scope_of, number, adr_scope, AttributeShape, adrs, shape, In, Good, either, kind_of_entries, entries_for, gave, ActsFollow, DropsUpTo, DropsOne, stands_same, DropsFrom, KeepsAttributes}
+use Rattle.cdf_attrs.proofs.Common.{slice_get, slice_index, slice_index_or, length-map, is_global, is_wrong_scope, image_limit, Found, Kind, attribute_of, scope_of, number, adr_scope, AttributeShape, adrs, shape, In, Good, either, kind_of_entries, entries_for, gave, ActsFollow, DropsUpTo, DropsOne, stands_same, DropsFrom, KeepsAttributes}
 use Rattle.cdf_attrs.proofs.DroppingFrom.{of_variables}
 use Rattle.cdf_edits.specs.Edits.DropsEntries.{DropsEntries}
 use Rattle.cdf_edits.proofs.Edits.DroppedNext.{step}

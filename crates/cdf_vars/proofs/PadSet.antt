@@ -1,6 +1,6 @@
 -- The command `set-pad`: the bytes of a VDR with a pad value, the one that takes the place of the old one where that has no room for it, what the command answers, and what is kept of the variables.
 use Rattle.std.proofs.Common.{◌≡◌, ◌⊎◌, ℕ, ◌+◌, ◌-◌, ◌^◌, ◌<◌, ◌≤◌, List, [], ◌∷◌, ◌++◌, length, take, drop, refl, sym, ap, ◌∙◌, append_assoc, arith, inl, inr, zero, suc, ◌*◌, true, subst, None, eq-eqb, Option, Some, Ok, true≢false, ap₂}
-use Rattle.cdf_vars.proofs.Common.{take_all, length-append, length-take, length-drop, take_at, drop-drop, big_bytes, drop-put_there, field_reads, length-with_field, other_bytes, byte, Same, word, number, size_at, LiesIn, with_field, length-put, piece_kept, word_kept, before_first, last_or, slice_get, ◌==◌, slice_set, Kind, Leads, next_of, next_field, is_in, vdr_flags, VariableShape, Shape, vdrs, shape, IsSound, dimensions_at, is_z, pad_field, value_bytes, dims_at, elems_at, type_of_variable, vdr_end, Good, shapes_of, AllKeep, Allowances, stays_own, head_of, members_of, type_in, before, type_of_body, IsBody, variables_chain, Chain, kind_chain, StandsAmong, sound, typed, in_middle, tile, AreBytes, word_fits, owned_records, times, owned, In, Distinct, vdr_bytes, room, IsVdr, IsPlace, MayPad, padded_flags, ne_eqb, good_is_sound, got-middle, PadPlace, Done, Refused, TooLarge, Plain, DataType, Go, turned, DataSet, Variable, image_limit, Found, value_size, ByStep, step, size_of, values_in, with_variable, content, variable_of, is_little, tile_lies, Answers, gone, too_large, VarId, Known, Knows, known_of}
+use Rattle.cdf_vars.proofs.Common.{take_all, length-append, length-map, length-take, length-drop, take_at, drop-drop, big_bytes, drop-put_there, field_reads, length-with_field, other_bytes, byte, Same, word, number, size_at, LiesIn, with_field, length-put, piece_kept, word_kept, before_first, last_or, slice_get, ◌==◌, slice_set, Kind, Leads, next_of, next_field, is_in, vdr_flags, VariableShape, Shape, vdrs, shape, IsSound, dimensions_at, is_z, pad_field, value_bytes, dims_at, elems_at, type_of_variable, vdr_end, Good, shapes_of, AllKeep, Allowances, stays_own, head_of, members_of, type_in, before, type_of_body, IsBody, variables_chain, Chain, kind_chain, StandsAmong, sound, typed, in_middle, tile, AreBytes, word_fits, owned_records, times, owned, In, Distinct, vdr_bytes, room, IsVdr, IsPlace, MayPad, padded_flags, ne_eqb, good_is_sound, cut, got-middle, PadPlace, Done, Refused, TooLarge, Plain, DataType, Go, turned, DataSet, Variable, image_limit, Found, value_size, ByStep, step, size_of, values_in, with_variable, content, variable_of, is_little, tile_lies, Answers, gone, too_large, VarId, Known, Knows, known_of}
 use Rattle.std.proofs.lemmas.List.{get_or-drop, get_or-take, get_or_append_left, ext_get_or, drop_at}
 use Rattle.cdf_base.specs.Bytes.{put}
 use Rattle.cdf_edits.proofs.Common.{Anything, Exchanged, SetsPad, cases_lt, is_in-true, length-bytes_high_first, set_pad_changes, vdrs_append}

@@ -1,4 +1,4 @@
--- A variable that is taken out of the chain, counted no more, and those behind it numbered anew: the image is sound, and its VDR has no owner.
+-- A variable that is taken out of the chain, counted no more, those behind it numbered anew, and whose VDR then leads to no node: the image is sound, and no one has the records of the variable.
 use Rattle.std.proofs.Common.{◌≢◌, ◌⊎◌, ◌<◌, eq-eqb, ◌≡◌, ℕ, ℤ, suc, ◌+◌, ◌≤◌, List, [], ◌∷◌, ◌++◌, length, true, refl, sym, ap, subst, ◌∙◌, arith, inl, inr}
 use Rattle.cdf_edits.proofs.Common.{is_in, either, ◌==◌, head_of, byte, number, with_field, LiesIn, Field, vdr_vxr_head, vdr_vxr_tail, emptied_fields, empty_writes, number_kept, tile_lies, OutsideFields, vdr_type, Avoids, Within, avoided, field_marks, length-with_field, field_reads, next_field, r_vdr_type, z_vdr_type, gdr_uir_head, if◌then◌else◌, flat_map, Kind, R, Z, size_at, type_at, gdr_offset, variable_records, vdr_num, gdr_type, uir_type, VariableShape, Shape, vdrs, Each, HasShape, shape, IsSound, In, Distinct, Good, good_is_sound, Distinct-back, shapes_of, freed_with_variable, Edit, freeing_marks, Among, Mark, mark, all_unmarked, index_types, UnlinksVariable, numbers_on, r_max_writes, greatest_at, variable_unlinking_marks, variable_removing_marks, Write, write, with_writes, links_end, holder_of, count_of, type_in, AreFree, variables_chain, r_max_marks, other_words}
 use Rattle.cdf_edits.proofs.Edits.Common.{edit_under, Avoids-split, all_unmarked-away, kept_away, gdr_in, gdr_typed, gdr_long, Stands, TakesVariable, vdr_there, own_stand, once, ours, vdr_record, left_by, sound_taken, are_numbered, LeavingTests, LeavesChain, left_edit, said_now, chain_now, list_now, not_twice, can_be_freed, AreNumbered, index_typed, only_variable, kind_chain, MayWrite, written_tiles, BytesStay, end_long, head_size, edit_then, the_one, Avoids-append, avoided-avoids, within-of_type, as_long, shape_there, sound_there, with_shapes, kind_type, may_after, writes_edit, writes_long, write_lies, chain_clear, numbered_still, some_bytes, stays_within, apart, mine_times, distinct_if}
@@ -24,6 +24,7 @@ leaving_tests Z gdr members behind = record { num_later = omega arith; num_fits 
 abbrev pub emptying_marks : Kind → ℕ → List Mark
 emptying_marks kind vdr = field_marks (type_in (variables_chain kind)) vdr vdr_vxr_head ++ field_marks (type_in (variables_chain kind)) vdr vdr_vxr_tail
 
+-- what these and the steps before leave
 record EmptyingTests (kind : Kind) (gdr : ℕ) (members behind : List ℕ) (vdr : ℕ) : Type 0 where
   pub links : avoided (emptying_marks kind vdr) (type_in (variables_chain kind)) 0 20 ≡ true
   pub list : avoided (emptying_marks kind vdr) uir_type 0 20 ≡ true
@@ -238,7 +239,7 @@ module _ {b mid : List ℕ} {kind : Kind} {before : List VariableShape} {own : V
       let away = all_unmarked-away (unlinking ++ marks) index_types (type_at b m) m (emptying_tests kind s.gdr members (vdrs after) vdr).index (index_typed b s own mine.has.0 mine.fits.0 m i) in
       (kept_away emptied_edit m (type_at b m) (own_stand sound at m (inr i)) refl away).same.each (m + k) (omega arith) (omega arith)
 
-  -- and these are 0
+  -- the links are 0
   pub leads_nowhere : (number emptied vdr vdr_vxr_head ≡ 0) × (number emptied vdr vdr_vxr_tail ≡ 0)
   leads_nowhere =
       let first = with_field mid vdr vdr_vxr_head 0 in
