@@ -1,12 +1,12 @@
 -- An image from which one variable went has its shape, its content and its rules.
 use Rattle.std.proofs.Common.{◌≡◌, ◌⊎◌, ℕ, ◌≤◌, List, [], ◌∷◌, ◌++◌, length, true, eq-eqb, refl, sym, ap, subst, ◌∙◌, arith, inl, inr}
-use Rattle.cdf_edits.proofs.Common.{length-map, flat_map, remove, DataSet, Variable, image_limit, variables_of, with_variables, Kind, R, Z, is_in, IsChain, content, variable_of, number, size_at, type_at, gdr_offset, eof, read_types, variable_records, times, owned_records, first_phases, gdr_uir_head, vdr_num, gdr_type, r_vdr_type, z_vdr_type, uir_type, fixed_size, Hold, AllHold, sealed, VariableShape, Shape, vdrs, Each, HasShape, IsSound, In, Distinct, Good, linkable-in, linkable-type, IsGoodByShape, vdrs_append, In-append_left, In-append_right, content_is, tile_lies, shapes_of, Edit, wholes, Mark, Avoids, Confined, avoided, unmarked, index_types, keeps_file, variable_removing_marks, head_of, count_of, type_in, variables_chain}
+use Rattle.cdf_edits.proofs.Common.{flat_map, remove, DataSet, Variable, image_limit, variables_of, with_variables, Kind, R, Z, is_in, IsChain, content, variable_of, number, size_at, type_at, gdr_offset, eof, read_types, variable_records, times, owned_records, first_phases, gdr_uir_head, vdr_num, gdr_type, r_vdr_type, z_vdr_type, uir_type, fixed_size, Hold, AllHold, sealed, VariableShape, Shape, vdrs, Each, HasShape, IsSound, In, Distinct, Good, linkable-in, linkable-type, IsGoodByShape, vdrs_append, In-append_left, In-append_right, content_is, tile_lies, shapes_of, Edit, wholes, Mark, Avoids, Confined, avoided, unmarked, index_types, keeps_file, variable_removing_marks, head_of, count_of, type_in, variables_chain}
 use Rattle.cdf_edits.proofs.Commands.ListParts.{map-without}
 use Rattle.cdf_edits.proofs.Edits.MarkLemmas.{avoids-of_type, confined-away, unmarked-away}
 use Rattle.cdf_edits.proofs.Edits.FreedRecords.{unused_real}
 use Rattle.cdf_edits.proofs.Edits.LeftOwners.{Left, left_of, owned_left}
-use Rattle.cdf_edits.proofs.Edits.NumbersBehind.{place_in}
-use Rattle.cdf_edits.proofs.Edits.RowsOneLess.{AreNumbered, one_less}
+use Rattle.cdf_edits.proofs.Edits.NumbersBehind.{fewer_rows, place_in}
+use Rattle.cdf_edits.proofs.Edits.RowsOneLess.{AreNumbered}
 use Rattle.cdf_edits.proofs.Edits.RecordFrame.{VariableLives, file_same, gdr_place, index_records, kept_away, kept_but_link, through}
 use Rattle.cdf_edits.proofs.Edits.StepEdits.{fixed_long}
 use Rattle.cdf_edits.proofs.Edits.VariableFrame.{AreOurs, VariableRemains, ours_parts, remain_from, nums_from, index_typed, variables_in}
@@ -57,9 +57,9 @@ pub counting_by : (kind : Kind) (now ms : List ℕ) → number now (gdr_offset n
 counting_by R now ms count numbers = (eq-eqb _ _ count, numbers)
 counting_by Z now ms count numbers = (eq-eqb _ _ count, numbers)
 
-numbers_by : (kind : Kind) (b now : List ℕ) (front : List ℕ) (own : ℕ) (back : List ℕ) → ((m : ℕ) → In m front → number now m vdr_num ≡ number b m vdr_num) → AreNumbered now vdr_num (length front) back → Hold (vdrs_rows kind b (front ++ own ∷ back)) → Hold (number_part kind now (front ++ back))
-numbers_by R b now front own back same says h = one_less 7 vdr_num b now front own back same says h.1
-numbers_by Z b now front own back same says h = one_less 10 vdr_num b now front own back same says h.1
+numbers_by : (kind : Kind) (b now : List ℕ) (all before : List VariableShape) (own : VariableShape) (after : List VariableShape) → all ≡ before ++ own ∷ after → ((m : ℕ) → In m (vdrs before) → number now m vdr_num ≡ number b m vdr_num) → AreNumbered now vdr_num (length before) (vdrs after) → Hold (vdrs_rows kind b (vdrs all)) → Hold (number_part kind now (vdrs (before ++ after)))
+numbers_by R b now all before own after was same says h = fewer_rows (λ (v : VariableShape). v.vdr) vdr_num 7 b now all before own after was same says h.1
+numbers_by Z b now all before own after was same says h = fewer_rows (λ (v : VariableShape). v.vdr) vdr_num 10 b now all before own after was same says h.1
 
 -- ---- where it stands, and those beside it
 
@@ -240,9 +240,7 @@ module _ {b now : List ℕ} {s : Shape} {kind : Kind} {before : List VariableSha
     counted good count =
         let place : gdr_offset now ≡ s.gdr = gdr_place sound r.edit tests.file_clear in
         let same = nums_from sound r.edit file before (ours sound r.at).0 before_live in
-        let long : length (vdrs before) ≡ length before = length-map before (λ (v : VariableShape). v.vdr) in
-        let numbers = numbers_by kind b now (vdrs before) own.vdr (vdrs after) same (subst (λ (n : ℕ). AreNumbered now vdr_num n (vdrs after)) (sym long) says.numbered) (subst (λ (ms : List ℕ). Hold (vdrs_rows kind b ms)) (vdrs_were sound r.at) (counted_before good kind)) in
-        counting_by kind now (vdrs (before ++ after)) (ap (λ (g : ℕ). number now g (count_of (variables_chain kind))) place ∙ count) (subst (λ (ms : List ℕ). Hold (number_part kind now ms)) (sym (vdrs_append before after)) numbers)
+        counting_by kind now (vdrs (before ++ after)) (ap (λ (g : ℕ). number now g (count_of (variables_chain kind))) place ∙ count) (numbers_by kind b now (shapes_of s kind) before own after r.at.was same says.numbered (counted_before good kind))
 
     pub taken_good : AllHold (first_phases (sealed b)) → IsGoodByShape b s → ((m : ℕ) → In m (variable_records own) → In m reborn) → number now s.gdr (count_of (variables_chain kind)) ≡ length (vdrs (before ++ after)) → eof now s.gdr ≡ length now → length now ≤ image_limit → Good now
     taken_good first good all count eof_is short = good_image_if sound splices first good (record {
