@@ -3,7 +3,7 @@ pub use Rattle.std.proofs.Math.Seq.{take-suc}
 pub use Rattle.std.proofs.lemmas.Bool.{and_from, cases_lt, eqb-true, le-leb, le-ltb, lt-ltb, ne_eqb}
 pub use Rattle.std.proofs.lemmas.Bool.Decides.{nat_tests}
 pub use Rattle.std.proofs.lemmas.Int.{ints, of_z-to_z, to_z-of_z, to_z_pos}
-pub use Rattle.std.proofs.lemmas.List.{length-append, length-map, map-append, map-set}
+pub use Rattle.std.proofs.lemmas.List.{at_drop_all, length-append, length-map, map-append, map-set}
 pub use Rattle.std.proofs.lemmas.List.Quantifiers.{position-Some}
 pub use Rattle.std.proofs.lemmas.Option.{same_Some, slice_get_within}
 pub use Rattle.std.proofs.lemmas.Result.{on_ok_weaker}
@@ -38,7 +38,7 @@ pub use Rattle.cdf_edits.proofs.Edits.ChainFollowed.{chain_now, found_none, foun
 pub use Rattle.cdf_edits.proofs.Edits.ChainKinds.{adr_of, chain_in}
 pub use Rattle.cdf_edits.proofs.Edits.ChainSpliced.{Rechains, entry_stays}
 pub use Rattle.cdf_edits.proofs.Edits.ChainsOfShape.{has_chain, members_are}
-pub use Rattle.cdf_edits.proofs.Edits.DeletedAttribute.{own}
+pub use Rattle.cdf_edits.proofs.Edits.DeletedAttribute.{attributes_listed, delete_done, delete_refused, lie_after, names_after, numbers_more, own, places_after, unlinked_by}
 pub use Rattle.cdf_edits.proofs.Edits.DropHalves.{LowersHalf, TakesHalf, link_field, number_field, numbered}
 pub use Rattle.cdf_edits.proofs.Edits.DropsOne.{DropsOne, DropsUpTo}
 pub use Rattle.cdf_edits.proofs.Edits.EntryFields.{count_is, max_lies, max_written, of_shape}
@@ -49,7 +49,7 @@ pub use Rattle.cdf_edits.proofs.Edits.LeftEntry.{LeavesChain, left_frees, left_m
 pub use Rattle.cdf_edits.proofs.Edits.MarkLemmas.{the_one}
 pub use Rattle.cdf_edits.proofs.Edits.OneChain.{Chained, chain_follows, counted_before, differ_before, follows_chained, items_of, of_named, once_before, rules_live}
 pub use Rattle.cdf_edits.proofs.Edits.OwnedOnce.{owned_once_if, used_times}
-pub use Rattle.cdf_edits.proofs.Edits.OwnersKept.{all_keep, keeps_fields, stood}
+pub use Rattle.cdf_edits.proofs.Edits.OwnersKept.{keep_attributes_alone, all_keep, keeps_fields, stood}
 pub use Rattle.cdf_edits.proofs.Edits.RecordFrame.{AttributeLives, file_same}
 pub use Rattle.cdf_edits.proofs.Edits.Splice.{OwnRules, Splices, good_image_if, parts_there, shape_now, spliced}
 pub use Rattle.cdf_edits.proofs.Edits.StandsSame.{stands_same}

@@ -1,26 +1,23 @@
 -- The making of an attribute, as an edit, leads from a good image to the one that follows.
 use Rattle.std.proofs.Common.{◌≡◌, ◌≢◌, ℕ, suc, ◌+◌, ◌^◌, ◌-◌, ◌<◌, ◌≤◌, List, [], ◌∷◌, ◌++◌, length, map, Bool, false, not, eqb, eq-eqb, Some, refl, sym, ap, subst, ◌∙◌, append-nil, arith, inl, inr}
-use Rattle.cdf_attrs.proofs.Common.{ends, new_in, new_type, and_from, eqb-true, length-append, map-append, flat_map, slice_get, ◌==◌, ◌&&◌, nat_le, if◌then◌else◌, Plain, Command, Attr, Scope, Go, new_attribute, Attribute, DataSet, image_limit, is_bad_name, is_among, attribute_names, ByStep, IsSound, AllKeep, Allowances, Only, Keeps, only_of, same_name, adrs_rows, differ_rows, r_vdrs_rows, z_vdrs_rows, next_field, is_in, IsChain, content, scope_of, attribute_of, number, name_in, type_at, gdr_offset, IsGoodByShape, attribute_shape_rows, Follows, Act, Took, OneAttribute, attribute_records, owned_by, owned, gdr_adr_head, gdr_num_attr, adr_name, adr_scope, adr_num, adr_type, agr_edr_type, az_edr_type, Hold, AttributeShape, Shape, adrs, vdrs, HasShape, shape, In, Good, linkable-in, linkable-type, good_by_its_shape, good_is_sound, rules_of_good, AllKeep-append, either, stands_in, AreNew, names_at, names_differ, differ_by_names, attribute_names_are, Hold-append, Hold-split, good_long, sealed_kept, content_is, shape_is, of_le, tile_lies, Attrs, Mark, Edit, AreThere, stood, keeps_fields, all_keep, used_times, owned_once_if, spliced, Splices, shape_now, OwnRules, good_image_if, variables_in, Added, scope_code, adr_body, fine_is_some, got-middle, Each, all_remain, AttributeLives, file_same}
+use Rattle.cdf_attrs.proofs.Common.{keep_attributes_alone, ends, new_in, new_type, and_from, eqb-true, length-append, map-append, flat_map, slice_get, ◌==◌, ◌&&◌, nat_le, if◌then◌else◌, Plain, Command, Attr, Scope, Go, new_attribute, Attribute, DataSet, image_limit, is_bad_name, is_among, attribute_names, ByStep, IsSound, AllKeep, Allowances, Only, Keeps, only_of, same_name, adrs_rows, differ_rows, r_vdrs_rows, z_vdrs_rows, next_field, is_in, IsChain, content, scope_of, attribute_of, number, name_in, type_at, gdr_offset, IsGoodByShape, attribute_shape_rows, Follows, Act, Took, OneAttribute, attribute_records, owned_by, owned, gdr_adr_head, gdr_num_attr, adr_name, adr_scope, adr_num, adr_type, agr_edr_type, az_edr_type, Hold, AttributeShape, Shape, adrs, vdrs, HasShape, shape, In, Good, linkable-in, linkable-type, good_by_its_shape, good_is_sound, rules_of_good, AllKeep-append, either, stands_in, AreNew, names_at, names_differ, differ_by_names, attribute_names_are, Hold-append, Hold-split, good_long, sealed_kept, content_is, shape_is, of_le, tile_lies, Attrs, Mark, Edit, AreThere, keeps_fields, used_times, owned_once_if, spliced, Splices, shape_now, OwnRules, good_image_if, Added, scope_code, adr_body, fine_is_some, got-middle, Each, all_remain, AttributeLives, file_same}
 use Rattle.std.specs.List.{All, before_first}
 use Rattle.cdf_model.specs.declared.kinds.Scope.TheVariants.{Global, Variable, GlobalAssumed, VariableAssumed}
 use Rattle.cdf_edits.specs.Commands.Attributes.{MakesAttribute, attr_changes, attributes_gdr_fields}
 use Rattle.cdf_format.specs.Owners.{owned_by_attributes, times}
-use Rattle.cdf_format.specs.RecordTypes.{cdr_type, gdr_type}
 use Rattle.cdf_format.specs.NotRead.{read_types}
-use Rattle.cdf_format.proofs.ChainsLemmas.{is_a-in, is_a-type}
 use Rattle.cdf_format.proofs.NameRules.{new_pushed}
 use Rattle.cdf_edits.proofs.Frame.OwnersApart.{adrs_linked}
 use Rattle.cdf_edits.proofs.Rules.WithoutLinks.{number_rows_kept, number_rows-push}
 use Rattle.cdf_edits.specs.Edits.Marks.{making_marks}
 use Rattle.cdf_edits.proofs.Edits.AttributeFrame.{entry, lives_clear, remaining_names, nums_stay, more_there}
 use Rattle.cdf_edits.proofs.Edits.RecordFrame.{gdr_place}
-use Rattle.cdf_edits.proofs.Edits.OwnersKept.{keeps_away, keep_file, keep_places}
+use Rattle.cdf_edits.proofs.Edits.OwnersKept.{keeps_away, keep_places}
 use Rattle.cdf_edits.proofs.Edits.JoinedRecord.{IsJoined, acts_then, edit, fills, longest, new_once, new_part, new_typed, unused_chain, unused_kept}
 use Rattle.cdf_edits.proofs.Edits.MadeRecord.{filled_size, filled_sound}
-use Rattle.cdf_edits.proofs.Edits.MarkLemmas.{unmarked-away, all_unmarked-away}
+use Rattle.cdf_edits.proofs.Edits.MarkLemmas.{all_unmarked-away}
 use Rattle.cdf_edits.proofs.Edits.OwnedOnce.{spliced_times}
 use Rattle.cdf_edits.proofs.Edits.Splice.{content_now, file, variables_kept}
-use Rattle.cdf_edits.proofs.Edits.StepEdits.{gdr_in, gdr_typed}
 use Rattle.cdf_edits.specs.Space.Adding.{adding_marks}
 use Rattle.cdf_attrs.proofs.AttributeChain.{attribute_members}
 use Rattle.cdf_attrs.proofs.AttributesRead.{counted_is}
@@ -227,10 +224,7 @@ module _ {b now : List ℕ} {place : ℕ} (name : List ℕ) (scope : Scope) (ima
 
   keeps : AllKeep b now may acts (owned b s)
   keeps =
-      let cdr = keeps_away sound e records_are 8 cdr_type (Only []) (is_a-in b s.records cdr_type 8 h.cdr_stands) (is_a-type b s.records cdr_type 8 h.cdr_stands) (unmarked-away marks cdr_type 8 refl) in
-      let gdr = keeps_fields sound e records_are s.gdr gdr_type attributes_gdr_fields (gdr_in b s h) (gdr_typed b s h) refl refl in
-      all_keep b now may acts (keep_file b now may acts sound cdr gdr) (keep_attributes 0 s.attributes there)
-      (λ m i. stood sound e records_are m (variables_in b s sound m i) (variables_kept sound splices m i))
+      keep_attributes_alone sound e records_are may acts attributes_gdr_fields refl refl refl refl (variables_kept sound splices) (keep_attributes 0 s.attributes there)
       (unused_kept sound j records_are may)
 
   -- ---- what it makes

@@ -18,22 +18,22 @@ pub use Rattle.cdf_edits.specs.Commands.Allowances.{AllKeep, Allowance, Allowanc
 pub use Rattle.cdf_edits.specs.Commands.Does.{Does}
 pub use Rattle.cdf_edits.specs.Commands.Entries.{entry_changes}
 pub use Rattle.cdf_edits.specs.Commands.EntryChains.{GreatestIs, chain_fields, chain_of, entry_allowance, entry_type, greatest_number, kind_of_entries, max_field, share_chain}
-pub use Rattle.cdf_edits.specs.Commands.GreatestRecord.{r_max_rec}
+pub use Rattle.cdf_edits.specs.Commands.GreatestRecord.{r_extents, r_max_rec}
 pub use Rattle.cdf_edits.specs.Commands.Keeps.{allowances}
 pub use Rattle.cdf_edits.specs.Commands.Named.{OfAttribute, is_attribute}
 pub use Rattle.cdf_edits.specs.Commands.NewRecords.{Says, with_bits}
 pub use Rattle.cdf_edits.specs.Commands.Others.{is_on_attributes, is_on_variables}
 pub use Rattle.cdf_edits.specs.Commands.Puts.{put_changes}
 pub use Rattle.cdf_edits.specs.Commands.Room.{room}
-pub use Rattle.cdf_edits.specs.Commands.Variables.{AttributeFollows, RMaxRecOf, SetsPad, del_var_changes, emptied_fields, entries_allowance, entries_for, fields_beside, freed_with_variable, is_global_attribute, no_index, set_pad_changes, variables_gdr_fields}
+pub use Rattle.cdf_edits.specs.Commands.Variables.{AttributeFollows, DeletesNamed, DeletesVariable, NumbersFall, RMaxRecOf, SetsPad, del_var_changes, emptied_fields, entries_allowance, entries_for, fields_beside, freed_with_variable, is_global_attribute, no_index, set_pad_changes, variables_gdr_fields}
 pub use Rattle.cdf_edits.specs.Edits.DropsEntries.{AttributeDropped, DropsEntries, IsDropped}
 pub use Rattle.cdf_edits.specs.Edits.Edit.{Edit}
 pub use Rattle.cdf_edits.specs.Edits.EntryMarks.{count_field, entries_chain, head_field, keeps_but_chain, keeps_other, with_chain}
 pub use Rattle.cdf_edits.specs.Edits.FallenNumbers.{fallen}
-pub use Rattle.cdf_edits.specs.Edits.ManyMarks.{deleting_marks, freeing_marks, unlinking_marks, wholes}
+pub use Rattle.cdf_edits.specs.Edits.ManyMarks.{deleting_marks, freeing_marks, numbering_marks, unlinking_marks, wholes}
 pub use Rattle.cdf_edits.specs.Edits.Marks.{Among, Avoids, Away, Confined, Covered, Lies, Mark, Marked, Within, all_unmarked, append_marks, attribute_types, avoided, ended, field_marks, giving_marks, index_types, is_late, keeps_file, keeps_index_records, keeps_variables, making_marks, mark, removing_marks, replacing_marks, taking_marks, unmarked, variable_types, whole, within}
-pub use Rattle.cdf_edits.specs.Edits.RemovesVariable.{RemovesVariable, UnlinksVariable, empty_writes, greatest_at, numbers_on, r_max_writes, variable_removing_marks, variable_unlinking_marks}
-pub use Rattle.cdf_edits.specs.Edits.Unlinks.{Unlinks}
+pub use Rattle.cdf_edits.specs.Edits.RemovesVariable.{RemovesVariable, UnlinksVariable, empty_writes, greatest_at, numbers_on, r_max_marks, r_max_writes, variable_removing_marks, variable_unlinking_marks}
+pub use Rattle.cdf_edits.specs.Edits.Unlinks.{Deletes, Unlinks}
 pub use Rattle.cdf_edits.specs.Edits.Writes.{Write, numbers_from, with_writes, write}
 pub use Rattle.cdf_edits.specs.Follows.{Follows, only_reads}
 pub use Rattle.cdf_edits.specs.Frame.Changed.{Changed, Misses, Outside, Placed, Touch, TouchesNone, touch, touched_field}
@@ -53,7 +53,7 @@ pub use Rattle.cdf_edits.specs.Space.TakingOut.{Lists, TakenOut}
 pub use Rattle.cdf_edits.specs.Space.VariableChains.{variables_chain}
 pub use Rattle.cdf_edits.specs.declared.chain.Chain.{Chain}
 pub use Rattle.cdf_edits.specs.declared.chain.Chain.TheVariants.{Attrs, GrEntries, ZEntries}
-pub use Rattle.cdf_fields.proofs.Writes.{drop-put_there, field_reads, field_reads4, length-with_field}
+pub use Rattle.cdf_fields.proofs.Writes.{drop-put_there, field_reads, field_reads4, length-with_field, other_words}
 pub use Rattle.cdf_format.proofs.BytesLemmas.{Same-part, bytes_kept, integer_kept, length-put, name_kept, next_kept, number_kept, piece_kept, size_kept, type_kept, word_kept, words_kept}
 pub use Rattle.cdf_format.proofs.ChainsLemmas.{is_a-from, is_a-in, is_a-type, linkable-from, linkable-in, linkable-long, linkable-type, some_place}
 pub use Rattle.cdf_format.proofs.GoodByShape.{IsGoodByShape, attribute_shape_rows}
@@ -62,7 +62,7 @@ pub use Rattle.cdf_format.proofs.GoodSound.{good_by_its_shape, good_is_sound, ru
 pub use Rattle.cdf_format.proofs.ImageOf.{flags_of_front, short_trailer, trailer_is}
 pub use Rattle.cdf_format.proofs.IndexLemmas.{nodes_stand}
 pub use Rattle.cdf_format.proofs.Members.{Distinct-back, Distinct-front, Distinct-middle, Distinct-push, In-append, In-append_left, In-append_right, either, false-is_in, is_in-false, is_in-true, true-is_in}
-pub use Rattle.cdf_format.proofs.NameRules.{AreNew, differ_by_names, names_at, names_differ}
+pub use Rattle.cdf_format.proofs.NameRules.{AreNew, absent-append, absent-split, differ_by_names, names_at, names_differ, stands_in}
 pub use Rattle.cdf_format.proofs.Owning.{attributes_in, block_in, filter-in, owned_is, tiles_distinct, times-none, times-once}
 pub use Rattle.cdf_format.proofs.RowLemmas.{Hold-append, Hold-asked, Hold-member, Hold-members, Hold-split, flat_map-append}
 pub use Rattle.cdf_format.proofs.SealedRules.{good_long, sealed_keeps, sealed_kept}
@@ -94,7 +94,7 @@ pub use Rattle.cdf_format.specs.VariableFields.{counted4, dimensions_at, dims_at
 pub use Rattle.cdf_format.specs.VariableRules.{cpr_link, cpr_rows, has_dimensions, is_cpr, is_known_packing, is_max_rec, is_named_apart, is_no_link, variable_rows, vdr_end}
 pub use Rattle.cdf_format.specs.WellFormed.{Good}
 pub use Rattle.cdf_model.specs.Answers.{Go, Refuse}
-pub use Rattle.cdf_model.specs.AttributeSteps.{entries_of, is_global, with_attribute, with_entries}
+pub use Rattle.cdf_model.specs.AttributeSteps.{del_attr_step, entries_of, is_global, with_attribute, with_entries}
 pub use Rattle.cdf_model.specs.ByteOrder.{parts, turned}
 pub use Rattle.cdf_model.specs.DataSet.{Attribute, DataSet, Entry, Variable, extent}
 pub use Rattle.cdf_model.specs.Encodings.{encoding_at}

@@ -16,7 +16,6 @@ pub mod ChecksumSet
 pub mod Composing
 pub mod DeletedAttribute
 pub mod EditActs
-pub mod EmptiedVdr
 pub mod EmptySet
 pub mod EntryFields
 pub mod EntryTakenStep
@@ -36,7 +35,6 @@ pub mod InRecords
 pub mod MadeRecord
 pub mod JoinedRecord
 pub mod LeftEntry
-pub mod LooseWritten
 pub mod MarkLemmas
 pub mod MovedVdr
 pub mod NameWritten
@@ -51,7 +49,6 @@ pub mod PlainVariables
 pub mod PutEntry
 pub mod RecordFrame
 pub mod RemovalCalls
-pub mod RemovedAttribute
 pub mod RemovedVariable
 pub mod AttributeRemains
 pub mod Splice
@@ -97,6 +94,7 @@ pub mod ActsJoined
 pub mod RecordPlaced
 pub mod RecordGrown
 pub mod StandsAmong
+pub mod StaysBut
 pub mod OwnEdited
 pub mod IndexEdited
 pub mod ChainEdited

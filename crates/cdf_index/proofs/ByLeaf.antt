@@ -3,7 +3,7 @@ use Rattle.std.proofs.Common.{◌≡◌, ◌⊎◌, ℕ, ◌+◌, ◌≤◌, max
 use Rattle.cdf_index.proofs.Common.{eqb-true, if◌then◌else◌, ◌==◌, In, either, reaches, chain_reaches, leads_down, past, with_both, with_entry, Nodes, no_node, node, Entries, no_entry, block, lower, Leaf, entry_count}
 use Rattle.std.proofs.lemmas.Bool.{eqb-false, ne_eqb}
 use Rattle.cdf_edits.specs.Index.Grown.{with_leaf, with_lower, new_room, new_room_below, room_of_new, with_block}
-use Rattle.cdf_edits.proofs.Frame.OwnersApart.{times-append, times-in}
+use Rattle.cdf_edits.proofs.Frame.OwnersApart.{in-times, times-append, times-in}
 use Rattle.cdf_format.specs.Index.{nodes_of, lower_nodes}
 use Rattle.cdf_format.specs.Owners.{times}
 use Rattle.cdf_index.proofs.Saying.{upto_both, front, front_past, upto_is}
@@ -117,10 +117,6 @@ pub nodes_with_leaf : (new : Leaf) (at m : ℕ) (index : Nodes) → times m (nod
 nodes_with_leaf new at m index =
     nodes_weighed m (with_leaf new at index) ∙ by_leaf (weight_grows (λ p r. times m (p ∷ [])) new at) index
     ∙ ap (λ (n : ℕ). n + (if new_room new.first index == 0 then 0 else times m (at ∷ []))) (sym (nodes_weighed m index))
-
-pub in-times : (m : ℕ) (xs : List ℕ) → 1 ≤ times m xs → In m xs
-in-times m [] h = absurd (omega arith)
-in-times m (x ∷ xs) h = elim (either (eqb m x)) [ inl t ↦ inl (eqb-true m x t) | inr t ↦ inr (in-times m xs (rw t at h)) ]
 
 -- a node more stands at `at` alone, and only where one is needed
 pub in_nodes_with_leaf : (new : Leaf) (at : ℕ) (index : Nodes) (m : ℕ) → In m (nodes_of (with_leaf new at index)) → In m (nodes_of index) ⊎ ((m ≡ at) × (1 ≤ new_room new.first index))

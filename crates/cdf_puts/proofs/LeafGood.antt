@@ -2,7 +2,7 @@
 use Rattle.std.proofs.Common.{◌≡◌, ℕ, zero, suc, ◌+◌, List, [], ◌∷◌, ◌++◌, length, true, refl, ap, subst, arith, ◌≢◌, ◌⊎◌, ◌<◌, ◌≤◌, false, sym, inl, inr, ◌-◌, max, take, drop, ◌∙◌, take-append-drop, ℤ, pos, negsuc, ◌*◌, Bool}
 use Rattle.cdf_puts.proofs.Common.{shapes_of, lt-leb, ◌&&◌, Kind, R, Z, unmarked-away, StandsAmong, Only, Edit, Mark, unmarked, new_room, Took, ActsFollow, type_of_body, linkable-in, linkable-type, good_is_sound, both, Leaf, Field, uir_next_uir, uir_prev_uir, gdr_type, uir_type, vvr_type, vxr_type, VariableShape, Shape, shape, IsSound, Good, NodeTaken, LeafAdded, node_acts, leaf_acts, ListedStay, acts_joined, still_edit, OnlyTakes, nat_le, nat_lt, places_of, Avoids-append, Away-append, away-avoids, kept, kept_away, gdr_in, gdr_typed, block_behind, variables_in, other_kind, behind_in, fits, ours, tile, Kept, Each-in, all_variable_records, AllKeep, Keeps, Stays, OutsideFields, is_taken, r_max_rec_field, space_fields, put_changes, vxr_bytes, Avoids, Away, Act, word_kept, In-append, tile_lies, number, size_at, type_at, leaves_of, nodes_of, owned, variable_records, vdr_max_rec, vdr_vxr_head, vdr_vxr_tail, cdr_type, cpr_type, HasShape, In, found_in, placing_marks, none_of_both, length-take, length-drop, Same, byte, size_kept, type_kept, place_in, each_of, IsBlockBody, BlocksGoOn, ne_eqb, flat_map, ◌==◌, ◌||◌, if◌then◌else◌, image_limit, record_number_limit, is_in, with_sign, Nodes, no_node, node, Entries, no_entry, block, lower, room_at, times, cvvr_type, asked, is_compressed, Each, NodeFits, record_bytes, is_max_rec, Same-part, good_by_its_shape, nodes_stand, Hold-split, le_of, of_le, firsts_of, with_leaf, IsOneOf, count_is, plain_leaf, own_rules, times-append, record_alike, apart, InOrder, DescriptorStays, GoesOn, IsVacant, before_limit, index_order, OwnEdit, IndexEdit, vdr_alike}
 use Rattle.cdf_format.specs.Chains.{is_a}
-use Rattle.cdf_edits.proofs.Frame.OwnersApart.{times-in}
+use Rattle.cdf_edits.proofs.Frame.OwnersApart.{in-times, times-in}
 use Rattle.cdf_format.specs.Owners.{OneVariable}
 use Rattle.cdf_edits.proofs.Edits.EditActs.{acts_none, acts_took}
 use Rattle.cdf_edits.proofs.Edits.MadeRecord.{listed_marks, made_edit, listed_before, loose_away, taking_avoids, taking_within}
@@ -36,7 +36,7 @@ use Rattle.cdf_format.proofs.Owning.{times-none, times-once}
 use Rattle.cdf_format.proofs.RowLemmas.{Hold-append}
 use Rattle.cdf_index.specs.Adding.{Counts}
 use Rattle.cdf_puts.proofs.RaisedGoes.{own_in_all}
-use Rattle.cdf_index.proofs.ByLeaf.{in-times, nodes_with_leaf}
+use Rattle.cdf_index.proofs.ByLeaf.{nodes_with_leaf}
 use Rattle.cdf_index.proofs.OwnRecords.{parts_times}
 use Rattle.cdf_puts.proofs.LeafCounts.{places_with_leaf, leaf_was_there}
 use Rattle.cdf_edits.proofs.Space.ActsLeave.{each}

@@ -1,22 +1,9 @@
 -- What is kept of attributes and variables while a variable goes with its entries.
 use Rattle.std.proofs.Common.{◌≡◌, ◌<◌, ◌≤◌, ℕ, List, length, map, refl, sym, ap, subst, ◌∙◌, Some, None, arith}
+use Rattle.cdf_edits.proofs.Common.{DropsEntries, RemovesVariable, content, adrs, vdrs, Good, DataSet, Variable, Found, attribute_names, variable_named, variables_of, with_variables, Kind, R, Z, Answers, variable_of, image_limit, Done, Plain}
 use Rattle.cdf_attrs.specs.Known.{Known, Knows}
 use Rattle.cdf_edits.proofs.Edits.RemovedVariable.{content_after, shape_after}
-use Rattle.cdf_edits.specs.Edits.DropsEntries.{DropsEntries}
-use Rattle.cdf_edits.specs.Edits.RemovesVariable.{RemovesVariable}
-use Rattle.cdf_format.specs.Content.{content}
-use Rattle.cdf_format.specs.Shape.{adrs, vdrs}
-use Rattle.cdf_format.specs.WellFormed.{Good}
-use Rattle.cdf_model.specs.DataSet.{DataSet, Variable}
-use Rattle.cdf_model.specs.Names.{Found, attribute_names, variable_named, variables_of, with_variables}
-use Rattle.cdf_model.specs.declared.kinds.Kind.{Kind}
-use Rattle.cdf_model.specs.declared.kinds.Kind.TheVariants.{R, Z}
-use Rattle.cdf_edits.specs.Answers.{Answers}
 use Rattle.cdf_edits.proofs.Edits.VariableDeletionFollows.{delete_done}
-use Rattle.cdf_format.specs.Content.{variable_of}
-use Rattle.cdf_model.specs.Limits.{image_limit}
-use Rattle.cdf_model.specs.declared.answer.Outcome.TheVariants.{Done}
-use Rattle.cdf_model.specs.declared.answer.Reply.TheVariants.{Plain}
 use Rattle.cdf_model.specs.declared.command.Command.TheVariants.{DelVar}
 use Rattle.cdf_vars.specs.Finding.{found_among}
 use Rattle.cdf_vars.specs.Known.{Known as KnownVariables, KnownKind, KnowsKind, Knows as KnowsVariables, known_of}

@@ -1,6 +1,6 @@
 -- A list at a number.
 use Rattle.std.proofs.Common.{◌≡◌, ℕ, zero, suc, ◌+◌, ◌-◌, ◌<◌, List, [], ◌∷◌, ◌++◌, length, map, take, drop, get_or, Option, Some, None, refl, sym, ap, ap₂, subst, append-nil, ◌∙◌, arith, inl, inr}
-use Rattle.cdf_edits.proofs.Common.{length-append, length-map, map-append, take_at, remove, slice_get, In}
+use Rattle.cdf_edits.proofs.Common.{same_Some, length-append, length-map, map-append, take_at, remove, slice_get, In}
 use Rattle.std.specs.List.{last_or}
 
 -- the elements before a number, the one with it, and those after
@@ -19,6 +19,9 @@ cut (x ∷ xs) (suc n) lt = let c = cut xs n (omega arith) in record { before = 
 pub got-middle : {A : Type 0} (xs : List A) (x : A) (ys : List A) → slice_get (xs ++ x ∷ ys) (length xs) ≡ Some x
 got-middle [] x ys = refl
 got-middle (y ∷ xs) x ys = got-middle xs x ys
+
+pub same_middle : {A : Type 0} (all xs : List A) (x : A) (ys : List A) → all ≡ xs ++ x ∷ ys → (n : ℕ) → length xs ≡ n → {y : A} → slice_get all n ≡ Some y → x ≡ y
+same_middle all xs x ys is n count {y = y} at = same_Some x y (sym (got-middle xs x ys) ∙ (λ i. slice_get (sym is i) (count i)) ∙ at)
 
 pub got-map : {A B : Type 0} (f : A → B) (xs : List A) (n : ℕ) (x : A) → slice_get xs n ≡ Some x → slice_get (map f xs) n ≡ Some (f x)
 got-map f [] n x e = absurd cc

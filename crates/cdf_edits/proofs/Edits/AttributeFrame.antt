@@ -1,10 +1,11 @@
 -- Attributes that an edit leaves.
-use Rattle.std.proofs.Common.{◌≡◌, ℕ, ◌+◌, ◌≤◌, ◌∙◌, List, [], ◌∷◌, ◌++◌, map, true, refl, sym, ap, subst, arith, inl, inr}
-use Rattle.cdf_edits.proofs.Common.{Attribute, linkable-long, aedr_attr_num, number_kept, Same-part, flat_map, ◌&&◌, AttributeFits, IsSound, AttributeStays, is_in, is_linkable, number, size_at, type_at, attribute_shape_rows, attribute_records, adr_num, adr_name, adr_type, agr_edr_type, az_edr_type, Hold, AttributeShape, Shape, Each, HasEntries, In, linkable-in, linkable-type, In-append, In-append_left, In-append_right, names_at, Hold-append, Hold-split, both, Mark, Away, avoided, ended, all_unmarked, Edit}
+use Rattle.std.proofs.Common.{◌≡◌, ℕ, ◌≤◌, ◌∙◌, List, [], ◌∷◌, ◌++◌, map, true, refl, sym, ap, subst, arith, inl, inr}
+use Rattle.cdf_edits.proofs.Common.{Attribute, linkable-long, aedr_attr_num, number_kept, flat_map, ◌&&◌, AttributeFits, IsSound, AttributeStays, is_in, is_linkable, number, size_at, type_at, attribute_shape_rows, attribute_records, adr_num, adr_name, adr_type, agr_edr_type, az_edr_type, Hold, AttributeShape, Shape, Each, HasEntries, In, linkable-in, linkable-type, In-append, In-append_left, In-append_right, names_at, Hold-append, Hold-split, both, Mark, Away, avoided, ended, all_unmarked, Edit}
 use Rattle.cdf_edits.proofs.Frame.Meaning.{FileSame, late_number}
 use Rattle.cdf_edits.specs.Edits.Marks.{keeps_attributes}
 use Rattle.cdf_edits.proofs.Edits.RecordFrame.{AttributeLives, kept_away, kept_but_link}
 use Rattle.cdf_edits.proofs.Edits.AttributeRemains.{AttributeLasts, AttributeRemains, attribute_remains}
+use Rattle.cdf_edits.proofs.Edits.StaysBut.{stays_kept, stays_link}
 use Rattle.cdf_edits.proofs.Edits.StepEdits.{fixed_long}
 use Rattle.cdf_edits.proofs.Edits.VariableFrame.{Each-apply}
 use Rattle.cdf_edits.proofs.Edits.MarkLemmas.{avoided-avoids, ended-avoids, away-avoids, all_unmarked-away}
@@ -61,17 +62,10 @@ module _ {b now : List ℕ} {s : Shape} {new : List ℕ} {marks : List Mark} {re
     -- it lasts with its number, too
     lasts : (a : AttributeShape) → HasEntries b s.records a → 36 ≤ size_at b a.adr → AttributeLives b now a → AttributeLasts b now a
     lasts a has long live =
-        let k = live.adr in
-        let num : number now a.adr adr_num ≡ number b a.adr adr_num = late_number b now a.adr k adr_num (omega arith) (omega arith) in
+        let num : number now a.adr adr_num ≡ number b a.adr adr_num = late_number b now a.adr live.adr adr_num (omega arith) (omega arith) in
         record {
-          start = k.start;
-          links = Same-part b now (a.adr + 20) (a.adr + size_at b a.adr) (a.adr + 20) (a.adr + 32) k.rest (omega arith) (omega arith);
-          rest = Same-part b now (a.adr + 20) (a.adr + size_at b a.adr) (a.adr + 36) (a.adr + size_at b a.adr) k.rest (omega arith) (omega arith);
-          inside = k.inside;
-          entries = λ m i.
-              let x = live.entries m i in
-              let l = entry_long a has m i in
-              record { start = Same-part b now m (m + size_at b m) (m + 0) (m + 20) x.same (omega arith) (omega arith); rest = Same-part b now m (m + size_at b m) (m + 24) (m + size_at b m) x.same (omega arith) (omega arith); inside = x.inside };
+          adr = stays_link (adr_num ∷ []) live.adr;
+          entries = λ m i. stays_kept (aedr_attr_num ∷ []) (live.entries m i);
           numbered = λ m i same. number_kept b now m (live.entries m i).same aedr_attr_num (let l = entry_long a has m i in omega arith) ∙ same ∙ sym num;
         }
 

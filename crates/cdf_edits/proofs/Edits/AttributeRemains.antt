@@ -1,24 +1,20 @@
 -- An attribute that stays but for the link to the next one and for its number, which its entries say: it means what it meant, and keeps its rules.
 use Rattle.std.proofs.Common.{◌≡◌, ℕ, ◌+◌, ◌≤◌, List, [], ◌∷◌, ◌++◌, length, true, not, ◌&&◌, eq-eqb, refl, sym, ap, subst, ◌∙◌, arith, inl, inr}
-use Rattle.cdf_edits.proofs.Common.{◌==◌, nat_le, before_first, flat_map, record_number_limit, with_item, entry_bytes, entry_rows, same_number, entries_rows, Same, differ_rows, is_linkable, Leads, IsChain, scope_of, number, name_in, size_at, attribute_shape_rows, Field, adr_agr_edr_head, adr_az_edr_head, adr_scope, adr_num, adr_name, adr_ngr_entries, adr_nz_entries, aedr_attr_num, aedr_num, adr_type, agr_edr_type, az_edr_type, Hold, AttributeShape, Shape, Each, HasEntries, EntryFits, AttributeFits, IsSound, In, word_kept, piece_kept, linkable-from, linkable-in, linkable-type, linkable-long, In-append_left, In-append_right, Same-part, eq_of, Hold-append, Hold-split, Edit, Mark, AttributeStays}
+use Rattle.cdf_edits.proofs.Common.{next_field, ◌==◌, nat_le, before_first, flat_map, record_number_limit, with_item, entry_bytes, entry_rows, same_number, entries_rows, differ_rows, is_linkable, Leads, IsChain, scope_of, number, name_in, size_at, attribute_shape_rows, Field, adr_agr_edr_head, adr_az_edr_head, adr_scope, adr_num, adr_name, adr_ngr_entries, adr_nz_entries, aedr_attr_num, aedr_num, adr_type, agr_edr_type, az_edr_type, Hold, AttributeShape, Shape, Each, HasEntries, EntryFits, AttributeFits, IsSound, In, piece_kept, linkable-from, linkable-in, linkable-type, linkable-long, In-append_left, In-append_right, eq_of, Hold-append, Hold-split, Edit, Mark, AttributeStays}
 use Rattle.cdf_format.specs.Content.{entries_of}
+use Rattle.cdf_format.specs.Records.{record_size, record_type}
+use Rattle.cdf_edits.proofs.Edits.StaysBut.{StaysBut, part_stays, field_stays}
 use Rattle.cdf_edits.proofs.Edits.StepEdits.{fixed_long}
 use Rattle.cdf_edits.proofs.Frame.LinksStay.{leads_same}
 use Rattle.cdf_edits.proofs.Frame.Meaning.{FileSame, EntryMeans, entry_means, long_entry}
 use Rattle.cdf_edits.proofs.Rules.OfAttributes.{differ_same}
 
--- an entry stays but for the number of its attribute
-pub record EntryLasts (b now : List ℕ) (m : ℕ) : Type 0 where
-  pub start : Same b now (m + 0) (m + 20)
-  pub rest : Same b now (m + 24) (m + size_at b m)
-  pub inside : m + size_at b m ≤ length b
+abbrev pub EntryLasts : List ℕ → List ℕ → ℕ → Type 0
+EntryLasts b now m = StaysBut b now m (aedr_attr_num ∷ [])
 
--- an attribute stays but for the link to the next one and for its number, and its entries say that as they did
+-- an attribute stays but for the link to the next one and for its number, its entries but for that, and they say it as they did
 pub record AttributeLasts (b now : List ℕ) (a : AttributeShape) : Type 0 where
-  pub start : Same b now (a.adr + 0) (a.adr + 12)
-  pub links : Same b now (a.adr + 20) (a.adr + 32)
-  pub rest : Same b now (a.adr + 36) (a.adr + size_at b a.adr)
-  pub inside : a.adr + size_at b a.adr ≤ length b
+  pub adr : StaysBut b now a.adr (next_field ∷ adr_num ∷ [])
   pub entries : (m : ℕ) → In m (a.gr_entries ++ a.z_entries) → EntryLasts b now m
   pub numbered : (m : ℕ) → In m (a.gr_entries ++ a.z_entries) → number b m aedr_attr_num ≡ number b a.adr adr_num → number now m aedr_attr_num ≡ number now a.adr adr_num
 
@@ -32,12 +28,12 @@ pub record AttributeRemains (b now new : List ℕ) (a : AttributeShape) : Type 0
 
 module _ (b now : List ℕ) (file : FileSame b now) where
   num_stays : (e : ℕ) → EntryLasts b now e → EntryFits b e → number now e aedr_num ≡ number b e aedr_num
-  num_stays e k fits = let l = long_entry (entry_bytes b e) (size_at b e) fits in word_kept b now (e + 24) (e + size_at b e) k.rest (e + 28) 4 (omega arith) (omega arith)
+  num_stays e k fits = let l = long_entry (entry_bytes b e) (size_at b e) fits in field_stays k aedr_num (omega arith) (λ i p q. (inr (omega arith), tt))
 
   means : (e : ℕ) → EntryLasts b now e → EntryFits b e → EntryMeans b now e
   means e k fits =
       let l = long_entry (entry_bytes b e) (size_at b e) fits in
-      entry_means b now file e (record { size = word_kept b now (e + 0) (e + 20) k.start (e + 0) 8 (omega arith) (omega arith); code = Same-part b now (e + 24) (e + size_at b e) (e + 24) (e + 28) k.rest (omega arith) (omega arith); rest = Same-part b now (e + 24) (e + size_at b e) (e + 32) (e + size_at b e) k.rest (omega arith) (omega arith); inside = k.inside }) fits
+      entry_means b now file e (record { size = field_stays k record_size (omega arith) (λ i p q. (inl (omega arith), tt)); code = part_stays k 24 28 (omega arith) (λ i p q. (inr (omega arith), tt)); rest = part_stays k 32 (size_at b e) (omega arith) (λ i p q. (inr (omega arith), tt)); inside = k.inside }) fits
 
   entries_same : (es : List ℕ) → ((m : ℕ) → In m es → EntryLasts b now m) → Each (EntryFits b) es → entries_of now es ≡ entries_of b es
   entries_same [] k fits = refl
@@ -75,12 +71,12 @@ module _ (b now : List ℕ) (file : FileSame b now) where
 module _ {b now : List ℕ} {s : Shape} {new : List ℕ} {marks : List Mark} {reborn : List ℕ} (sound : IsSound b s) (e : Edit b now s.records new marks reborn) (file : FileSame b now) (a : AttributeShape) (ok : is_linkable b s.records adr_type a.adr ≡ true) (has : HasEntries b s.records a) (fits : AttributeFits b a) (k : AttributeLasts b now a) where
   chain_lasts : (type link link' : ℕ) (ms : List ℕ) → IsChain b s.records type link ms → link' ≡ link → ((m : ℕ) → In m ms → EntryLasts b now m) → IsChain now new type link' ms
   chain_lasts type link link' ms c same last = record {
-    leads = subst (λ (x : ℕ). Leads now x ms 0) (sym same) (leads_same b now link ms 0 c.leads (λ m i. word_kept b now (m + 0) (m + 20) (last m i).start (m + 12) 8 (omega arith) (omega arith)));
+    leads = subst (λ (x : ℕ). Leads now x ms 0) (sym same) (leads_same b now link ms 0 c.leads (λ m i. let l = linkable-long b s.records type m (c.linkable m i) in field_stays (last m i) next_field (omega arith) (λ n p q. (inl (omega arith), tt))));
     linkable = λ m i.
         let ok = c.linkable m i in
-        let start = (last m i).start in
-        linkable-from now new type m (e.sub m (linkable-in b s.records type m ok)) (word_kept b now (m + 0) (m + 20) start (m + 8) 4 (omega arith) (omega arith) ∙ linkable-type b s.records type m ok)
-        (subst (λ (n : ℕ). 28 ≤ n) (sym (word_kept b now (m + 0) (m + 20) start (m + 0) 8 (omega arith) (omega arith))) (linkable-long b s.records type m ok));
+        let l = linkable-long b s.records type m ok in
+        linkable-from now new type m (e.sub m (linkable-in b s.records type m ok)) (field_stays (last m i) record_type (omega arith) (λ n p q. (inl (omega arith), tt)) ∙ linkable-type b s.records type m ok)
+        (subst (λ (n : ℕ). 28 ≤ n) (sym (field_stays (last m i) record_size (omega arith) (λ n p q. (inl (omega arith), tt)))) l);
     once = c.once;
   }
 
@@ -88,10 +84,10 @@ module _ {b now : List ℕ} {s : Shape} {new : List ℕ} {marks : List Mark} {re
   adr_long = fixed_long b s sound.has_shape adr_type a.adr (linkable-in b s.records adr_type a.adr ok) (linkable-type b s.records adr_type a.adr ok)
 
   first_field : (f : Field) → 20 ≤ f.place → f.place + f.width ≤ 32 → number now a.adr f ≡ number b a.adr f
-  first_field f low high = word_kept b now (a.adr + 20) (a.adr + 32) k.links (a.adr + f.place) f.width (omega arith) (omega arith)
+  first_field f low high = let l = adr_long in field_stays k.adr f (omega arith) (λ i p q. (inr (omega arith), (inl (omega arith), tt)))
 
   last_field : (f : Field) → 36 ≤ f.place → f.place + f.width ≤ 324 → number now a.adr f ≡ number b a.adr f
-  last_field f low high = let l = adr_long in word_kept b now (a.adr + 36) (a.adr + size_at b a.adr) k.rest (a.adr + f.place) f.width (omega arith) (omega arith)
+  last_field f low high = let l = adr_long in field_stays k.adr f (omega arith) (λ i p q. (inr (omega arith), (inr (omega arith), tt)))
 
   gr : (m : ℕ) → In m a.gr_entries → In m (a.gr_entries ++ a.z_entries)
   gr m i = In-append_left m a.gr_entries a.z_entries i
@@ -100,7 +96,7 @@ module _ {b now : List ℕ} {s : Shape} {new : List ℕ} {marks : List Mark} {re
   z m i = In-append_right m a.gr_entries a.z_entries i
 
   name_stays : name_in now a.adr adr_name ≡ name_in b a.adr adr_name
-  name_stays = ap (before_first (λ (x : ℕ). x == 0)) (piece_kept b now (a.adr + 36) (a.adr + size_at b a.adr) k.rest (a.adr + 68) 256 (omega arith) (let l = adr_long in omega arith) k.inside file.longer)
+  name_stays = ap (before_first (λ (x : ℕ). x == 0)) (piece_kept b now (a.adr + 36) (a.adr + size_at b a.adr) (part_stays k.adr 36 (size_at b a.adr) (omega arith) (λ i p q. (inr (omega arith), (inr (omega arith), tt)))) (a.adr + 68) 256 (omega arith) (let l = adr_long in omega arith) k.adr.inside file.longer)
 
   pub attribute_remains : AttributeRemains b now new a
   attribute_remains =

@@ -1,16 +1,14 @@
 -- What a command on an entry may change of records, where one chain of an attribute is another.
 use Rattle.std.proofs.Common.{◌≡◌, ℕ, ◌+◌, List, [], ◌∷◌, length, Bool, true, false, eq-eqb, refl, sym, ap, subst, ◌∙◌, arith, inl, inr}
-use Rattle.cdf_edits.proofs.Common.{◌==◌, if◌then◌else◌, EntryKind, next_field, content, number, type_at, OneAttribute, Unused, attribute_records, owned, owned_by, unused_records, Field, aedr_num, cdr_type, gdr_type, adr_type, AttributeShape, Shape, shape, IsSound, In, is_a-in, is_a-type, linkable-in, linkable-type, either, In-append, both, Allowances, Anything, Only, Keeps, AllKeep, space_fields, entry_changes, chain_of, chain_fields, entry_allowance, entry_type, is_attribute, Mark, unmarked, within, Act}
+use Rattle.cdf_edits.proofs.Common.{◌==◌, if◌then◌else◌, EntryKind, next_field, content, number, type_at, OneAttribute, Unused, attribute_records, owned, owned_by, unused_records, Field, aedr_num, gdr_type, adr_type, AttributeShape, Shape, shape, IsSound, In, linkable-in, linkable-type, either, In-append, Allowances, Anything, Only, Keeps, AllKeep, space_fields, entry_changes, chain_of, chain_fields, entry_allowance, entry_type, is_attribute, Mark, within, Act}
 use Rattle.cdf_model.specs.declared.kinds.EntryKind.TheVariants as entries
 use Rattle.cdf_edits.proofs.Commands.KeptRecords.{AllKeep-append, keeps_stood, keep_attributes}
 use Rattle.cdf_edits.proofs.Edits.ChainKinds.{other_of, other_type, chain_has, other_has}
 use Rattle.cdf_edits.proofs.Edits.ChainSpliced.{Rechains, adr_in, adr_typed, adr_start, there, clear_file, other_kept, before_in, after_in, before_away, after_away, splices, now_is}
-use Rattle.cdf_edits.proofs.Edits.MarkLemmas.{unmarked-away, within-within}
-use Rattle.cdf_edits.proofs.Edits.OwnersKept.{stood, keeps_within, keeps_fields, keeps_away, keep_places, keep_file, keep_parts, all_keep}
-use Rattle.cdf_edits.proofs.Edits.RecordFrame.{gdr_start, kept_away}
+use Rattle.cdf_edits.proofs.Edits.MarkLemmas.{within-within}
+use Rattle.cdf_edits.proofs.Edits.OwnersKept.{keep_attributes_alone, stood, keeps_within, keep_places, keep_parts}
+use Rattle.cdf_edits.proofs.Edits.RecordFrame.{kept_away}
 use Rattle.cdf_edits.proofs.Edits.Splice.{variables_kept}
-use Rattle.cdf_edits.proofs.Edits.StepEdits.{gdr_in, gdr_typed}
-use Rattle.cdf_edits.proofs.Edits.VariableFrame.{variables_in}
 use Rattle.cdf_edits.proofs.Frame.Meaning.{KeptButLink, late_size}
 
 -- ---- what is allowed of a record by its type
@@ -80,10 +78,6 @@ module _ {b now new list : List ℕ} {marks : List Mark} {reborn : List ℕ} {ki
 
     pub entry_keeps : AllKeep b now may acts (owned_by Unused (unused_records b s)) → AllKeep b now may acts (owned b s)
     entry_keeps unused =
-        let h = sound.has_shape in
-        let file = clear_file sound r in
-        let cdr = keeps_away sound r.edit records_are 8 cdr_type (Only []) (is_a-in b s.records cdr_type 8 h.cdr_stands) (is_a-type b s.records cdr_type 8 h.cdr_stands) (unmarked-away marks cdr_type 8 (both (unmarked marks cdr_type) _ file).0) in
-        let gdr = keeps_fields sound r.edit records_are s.gdr gdr_type space_fields (gdr_in b s h) (gdr_typed b s h) (gdr_start sound r.edit file) gdr_within in
         let beside = λ (m : ℕ) (i : In m s.records) (away : _). stood sound r.edit records_are m i (kept_away r.edit m (type_at b m) i refl away) in
         let attributes = keep_parts b now may acts before (own ∷ []) after r.was
         (keep_attributes b now may acts 0 before (λ m i. beside m (before_in sound r m i) (before_away sound r m i)))
@@ -91,4 +85,4 @@ module _ {b now new list : List ℕ} {marks : List Mark} {reborn : List ℕ} {ki
         (keep_places b now may acts (OneAttribute (length before)) (attribute_records own) (λ m i.
         subst (λ (p : Bool). Keeps b now m (if p then entry_allowance b kind num (next_field ∷ []) m else Only [])) (sym named) (own_keeps m i))) tt)
         (keep_attributes b now may acts _ after (λ m i. beside m (after_in sound r m i) (after_away sound r m i))) in
-        all_keep b now may acts (keep_file b now may acts sound cdr gdr) attributes (λ m i. stood sound r.edit records_are m (variables_in b s sound m i) (variables_kept sound (splices sound r) m i)) unused
+        keep_attributes_alone sound r.edit records_are may acts space_fields refl refl (clear_file sound r) gdr_within (variables_kept sound (splices sound r)) attributes unused

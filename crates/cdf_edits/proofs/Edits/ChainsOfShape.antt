@@ -1,6 +1,6 @@
 -- The chains of an image with a shape as calls speak of them; a record that joined one, one that went, and one that took the place of another.
-use Rattle.std.proofs.Common.{◌≡◌, ℕ, ◌<◌, ◌≤◌, ◌^◌, List, [], ◌∷◌, ◌++◌, length, true, false, sym, ap, subst, ◌∙◌, arith}
-use Rattle.cdf_edits.proofs.Common.{image_limit, Touch, touched_field, Changed, next_field, is_in, is_linkable, IsChain, number, size_at, type_at, Shape, HasShape, In, AreTiles, tiles, linkable-from, linkable-in, is_in-false, is_in-true, tiles_are, Chain, Lists, holder_of, head_of, counted_in, type_in, members_of, HasChain, HolderStands, MayJoin, link_behind, before, with_in_place, Appended, Removed, Replaced}
+use Rattle.std.proofs.Common.{◌≡◌, ℕ, suc, ◌-◌, ◌≤◌, List, [], ◌∷◌, ◌++◌, length, true, false, sym, ap, subst, ◌∙◌, arith}
+use Rattle.cdf_edits.proofs.Common.{TakenOut, count_of, with_field, shape, image_limit, Touch, touched_field, Changed, next_field, is_in, is_linkable, IsChain, number, size_at, type_at, Shape, HasShape, In, AreTiles, tiles, linkable-from, linkable-in, is_in-false, is_in-true, tiles_are, Chain, Lists, holder_of, head_of, counted_in, type_in, members_of, HasChain, HolderStands, MayJoin, link_behind, before, with_in_place, Appended, Removed, Replaced}
 use Rattle.cdf_format.specs.Chains.{chain}
 use Rattle.cdf_format.specs.Walks.{records_of}
 use Rattle.cdf_format.proofs.ChainsLemmas.{chain_complete}
@@ -76,3 +76,10 @@ module _ {b : List ℕ} {s : Shape} (h : HasShape b s) {c : Chain} {holder : ℕ
   module _ {now : List ℕ} {place by : ℕ} (replaced : Replaced b now c place by) where
     pub replaced_chain : AreTiles now 8 (length now) s.records → holder_of now c ≡ holder → IsChain now s.records (type_in c) (number now holder (head_of c)) (with_in_place place by ms)
     replaced_chain tiled same = chain_of now (with_in_place place by ms) (replaced.members_are ∙ ap (with_in_place place by) members_are) replaced.has_chain tiled same
+
+-- the count, where one of its members was taken out
+pub out_counted : {b less : List ℕ} {c : Chain} {holder place rest : ℕ} {ms places : List ℕ} → IsOf b (shape b) c holder ms → Lists b c places → length places ≡ suc rest → (out : TakenOut b less c place) → less ≡ with_field out.first holder (count_of c) rest
+out_counted {b = b} {c = c} {rest = rest} is lists long out =
+    let g = is.holder_is in
+    let less : counted_in b c - 1 ≡ rest = let n = lists.counted in omega arith in
+    out.counted ∙ (λ i. with_field out.first (g i) (count_of c) (less i))

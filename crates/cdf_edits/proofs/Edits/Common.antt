@@ -1,43 +1,54 @@
 -- The names of lemmas on edits that proofs on several commands cite, passed on from one place. Declares nothing.
+pub use Rattle.cdf_edits.proofs.Commands.Answered.{gone_by_giving, refused}
 pub use Rattle.cdf_edits.proofs.Commands.KeptRecords.{AllKeep-append, keep_attributes, keeps_stood}
-pub use Rattle.cdf_edits.proofs.Commands.ListParts.{Cut, got-map}
+pub use Rattle.cdf_edits.proofs.Commands.ListParts.{AtNumber, Cut, at_number, got-map, got-middle, got_in, map-removed, map-without, same_middle}
 pub use Rattle.cdf_edits.proofs.Commands.TypeCodes.{code_small, type_back}
 pub use Rattle.cdf_edits.proofs.Edits.ActsStill.{acts_still_by}
-pub use Rattle.cdf_edits.proofs.Edits.ActsThen.{acts_gave, gave-same}
+pub use Rattle.cdf_edits.proofs.Edits.ActsThen.{acts_gave, all_gave, gave-same}
 pub use Rattle.cdf_edits.proofs.Edits.ChainKept.{records_are}
-pub use Rattle.cdf_edits.proofs.Edits.ChainKinds.{adr_of, chain_has, chain_in, other_has, other_in, other_of, other_type}
+pub use Rattle.cdf_edits.proofs.Edits.ChainKinds.{adr_of, attribute_typed, chain_has, chain_in, other_has, other_in, other_of, other_type}
 pub use Rattle.cdf_edits.proofs.Edits.ChainOwners.{IsHeld, not_twice_kept}
 pub use Rattle.cdf_edits.proofs.Edits.ChainSpliced.{Rechains, adr_in, adr_start, adr_typed, after_away, after_in, attribute_now, before_away, before_in, clear_file, file_now, now_is, num_same, other_kept, splices, there}
-pub use Rattle.cdf_edits.proofs.Edits.ChainsOfShape.{has_chain, members_are}
+pub use Rattle.cdf_edits.proofs.Edits.ChainsOfShape.{IsOf, few_members, has_chain, lists, members_are, out_counted}
 pub use Rattle.cdf_edits.proofs.Edits.Composing.{changed_edit, edit_then, head_size, head_type, same-then}
 pub use Rattle.cdf_edits.proofs.Edits.EditActs.{acts_none, acts_took}
 pub use Rattle.cdf_edits.proofs.Edits.EntryFields.{of_shape}
 pub use Rattle.cdf_edits.proofs.Edits.FirstRecords.{read_now}
+pub use Rattle.cdf_edits.proofs.Edits.FreedAfter.{Frees, all_freed, freed_acts, freed_bytes, freed_edit, freed_long, freed_places, freed_records, freed_shape, freed_types, freeing_behind, gdr_still, may_free, others_kept, says_still, sizes_before, sound_now}
+pub use Rattle.cdf_edits.proofs.Edits.FreedBytes.{BytesStay, behind_link, behind_stays, end_long, free_used, freed_stay_but, unowned_used}
 pub use Rattle.cdf_edits.proofs.Edits.FreedRecord.{IsPlain}
-pub use Rattle.cdf_edits.proofs.Edits.FreedRecords.{sizes_by_tiles}
+pub use Rattle.cdf_edits.proofs.Edits.FreedRecords.{edit_under, sizes_by_tiles, unused_real}
+pub use Rattle.cdf_edits.proofs.Edits.LeftChain.{LeavesChain, LeavingTests, as_long, chain_now, counted_now, e_early, e_second, lasts_second, left_edit, list_now, may_linked, may_now, may_write, said_now, some_second}
+pub use Rattle.cdf_edits.proofs.Edits.LeftOwners.{Left, can_be_freed, distinct_if, left_of, mine_once, mine_times, not_twice, owned_left, shape_there, sound_there}
 pub use Rattle.cdf_edits.proofs.Edits.MadeRecord.{end_now, fresh, list_chain, made_edit, made_keeps_unused, made_part, made_size, made_type, unowned}
-pub use Rattle.cdf_edits.proofs.Edits.MarkLemmas.{Avoids-append, Away-append, Within-append, all_unmarked-away, avoided-avoids, ended-avoids, the_one, unmarked-away, within-within}
-pub use Rattle.cdf_edits.proofs.Edits.OneChain.{differ_before}
+pub use Rattle.cdf_edits.proofs.Edits.MarkLemmas.{Avoids-append, Avoids-split, Away-append, Within-append, all_unmarked-away, avoided-avoids, avoids-of_type, away-of_type, ended-avoids, the_one, unmarked-away, within-of_type, within-within}
+pub use Rattle.cdf_edits.proofs.Edits.NumbersBehind.{SaysNumber, are_numbered, fewer_rows, numbering, others_in, others_say, place_in, tiles_numbered}
+pub use Rattle.cdf_edits.proofs.Edits.OneChain.{differ_before, end_before}
 pub use Rattle.cdf_edits.proofs.Edits.OneSpliced.{content_replaced}
-pub use Rattle.cdf_edits.proofs.Edits.OwnedOnce.{IsSorted, all_attributes_in, none_in_use, owned_once_if, unused_none, used_times}
-pub use Rattle.cdf_edits.proofs.Edits.OwnersKept.{all_keep, keep_all, keep_file, keep_unused, keeps_away, keeps_fields, keeps_within, stood}
-pub use Rattle.cdf_edits.proofs.Edits.RecordFrame.{VariableLives, cdr_kept, chain_clear, field_avoids, file_same, gdr_field, gdr_place, gdr_start, index_records, kept, kept_away, kept_but_link, part_clear}
+pub use Rattle.cdf_edits.proofs.Edits.OwnedOnce.{IsSorted, OnlyOwns, all_attributes_in, back_in, front_in, none_in_use, only_owns, own_in, owned_once_if, parts_once, unused_none, used_times}
+pub use Rattle.cdf_edits.proofs.Edits.OwnersKept.{all_keep, keep_all, keep_attributes_alone, keep_each, keep_file, keep_parts, keep_places, keep_unused, keeps_away, keeps_fields, keeps_stays, keeps_within, stood}
+pub use Rattle.cdf_edits.proofs.Edits.RecordFrame.{VariableLives, cdr_kept, chain_clear, chain_kept, field_avoids, field_clear, file_same, gdr_field, gdr_place, gdr_start, index_records, kept, kept_away, kept_but_link, part_clear}
 pub use Rattle.cdf_edits.proofs.Edits.RecordPlaced.{placing_marks}
-pub use Rattle.cdf_edits.proofs.Edits.StepEdits.{fixed_long, gdr_in, gdr_typed, gives_edit, some_bytes, takes_edit}
+pub use Rattle.cdf_edits.proofs.Edits.RowsOneLess.{AreNumbered, numbered_still}
+pub use Rattle.cdf_edits.proofs.Edits.StaysBut.{StaysBut, field_stays, stays_within}
+pub use Rattle.cdf_edits.proofs.Edits.StepEdits.{fixed_long, gdr_in, gdr_long, gdr_typed, gives_edit, some_bytes, takes_edit}
+pub use Rattle.cdf_edits.proofs.Edits.TakenVariable.{SaysTaken, Stands, TakesVariable, back_out, content_taken, least_size, left_by, once, ours, own_stand, sound_taken, taken_good, tests, vdr_avoids, vdr_record, vdr_there, without_variable}
 pub use Rattle.cdf_edits.proofs.Edits.VariableCopied.{content_copied, fits_copied, links_copied}
-pub use Rattle.cdf_edits.proofs.Edits.VariableFrame.{Each-map, IsRuled, nums_from, variable_typed}
-pub use Rattle.cdf_edits.proofs.Edits.VariableKeeps.{stays_then, type_stays}
-pub use Rattle.cdf_edits.proofs.Edits.VariableKept.{keep_kinds, keep_own, same_as_itself}
-pub use Rattle.cdf_edits.proofs.Edits.VariableKinds.{keeps_kind, kind_chain, kind_in, kind_ours, kind_type, of_kind, other_kind, spliced_times, with_shapes}
+pub use Rattle.cdf_edits.proofs.Edits.VariableFrame.{AreOurs, Each-apply, Each-map, IsRuled, all_variables_kept, index_typed, nums_from, ours_parts, variable_typed, variables_in}
+pub use Rattle.cdf_edits.proofs.Edits.VariableKeeps.{all_kept, stays_then, type_stays}
+pub use Rattle.cdf_edits.proofs.Edits.VariableKept.{keep_kinds, keep_own, only_variable, same_as_itself}
+pub use Rattle.cdf_edits.proofs.Edits.VariableKinds.{attributes_counted, counted_before, keeps_kind, kind_chain, kind_in, kind_ours, kind_type, of_kind, other_kind, spliced_times, vdrs_rows, with_shapes}
 pub use Rattle.cdf_edits.proofs.Edits.VariableNames.{apart_if}
-pub use Rattle.cdf_edits.proofs.Edits.VariableSplice.{OwnRules, VariableSplices, attributes_kept, content_now, good_image_if, keeps_all_attributes, shape_now, sound_if}
+pub use Rattle.cdf_edits.proofs.Edits.VariableSplice.{OwnRules, VariableSplices, attributes_kept, attributes_stay, content_now, good_image_if, keeps_all_attributes, shape_now, sound_if}
 pub use Rattle.cdf_edits.proofs.Edits.VdrEdited.{EditsVdr, MarkTests, StandsAmong, behind_in, behind_kept, file, fits, has, long, sound, through, tile, typed}
+pub use Rattle.cdf_edits.proofs.Edits.WrittenFields.{MayWrite, may_after, write_lies, writes_edit, writes_lie, writes_long, written_tiles}
 pub use Rattle.cdf_edits.proofs.Frame.ChangedBytes.{changed_put}
 pub use Rattle.cdf_edits.proofs.Frame.Meaning.{FileSame, Kept, KeptButLink, but_link, late_size, late_type, pad_long, pad_width}
-pub use Rattle.cdf_edits.proofs.Frame.OwnersApart.{all_attribute_records, all_variable_records, owned-times, times-append}
+pub use Rattle.cdf_edits.proofs.Frame.OwnersApart.{all_attribute_records, all_variable_records, file_from_attributes, file_records, flat-append, in-times, owned-times, times-append, times-in}
 pub use Rattle.cdf_edits.proofs.Frame.VdrCopied.{Copied, VdrCopied, pad_field_copied, type_copied, value_copied, word_copied}
 pub use Rattle.cdf_edits.proofs.Rules.FirstHead.{FirstSays, first_hold, first_said}
+pub use Rattle.cdf_edits.proofs.Rules.WithoutLinks.{eof_by_rules}
 pub use Rattle.cdf_edits.proofs.Space.ActsLeave.{each, no_acts, places-sized}
 pub use Rattle.cdf_edits.proofs.Space.LaidOut.{placed_says, says_kept}
 pub use Rattle.cdf_edits.proofs.Space.TakenFromList.{leads_rest, same_link}
-pub use Rattle.cdf_edits.proofs.Space.UsedRecords.{apart, filter-distinct, filter-keeps, filter-says}
+pub use Rattle.cdf_edits.proofs.Space.UsedRecords.{apart, filter-distinct, filter-keeps, filter-says, used-in}

@@ -36,16 +36,16 @@ module _ {b mid now : List ℕ} {marks : List Mark} {types places : List ℕ} (f
   abbrev s : Shape
   s = shape b
 
-  pub types_stay : (m : ℕ) → In m s.records → type_at mid m ≡ type_at b m
-  types_stay m i = elim (frees.edit.kind m i) [ inl k ↦ k.1 | inr k ↦ elim k [ inl g ↦ absurd (g.0 i) | inr none ↦ absurd none ] ]
+  pub freed_types : (m : ℕ) → In m s.records → type_at mid m ≡ type_at b m
+  freed_types m i = elim (frees.edit.kind m i) [ inl k ↦ k.1 | inr k ↦ elim k [ inl g ↦ absurd (g.0 i) | inr none ↦ absurd none ] ]
 
-  pub places_in : (m : ℕ) → In m places → In m s.records
-  places_in m i = subst (In m) frees.records (frees.free.stand m i)
+  pub freed_places : (m : ℕ) → In m places → In m s.records
+  freed_places m i = subst (In m) frees.records (frees.free.stand m i)
 
   pub may_free : MayFree mid types places
   may_free = record {
     stand = frees.free.stand;
-    typed = λ m i. ap (λ (t : ℕ). is_in t types) (types_stay m (places_in m i)) ∙ frees.typed m i;
+    typed = λ m i. ap (λ (t : ℕ). is_in t types) (freed_types m (freed_places m i)) ∙ frees.typed m i;
     used = free_used mid places frees.free;
     once = frees.free.once;
   }
@@ -65,14 +65,14 @@ module _ {b mid now : List ℕ} {marks : List Mark} {types places : List ℕ} (f
   pub sound_now : IsSound now (shape now)
   sound_now = left.sound
 
-  pub shape_now : {x : Shape} → shape mid ≡ x → shape now ≡ with_space x x.records (shape now).unused
-  shape_now e = left.shape_is ∙ ap (λ (x : Shape). with_space x x.records (shape now).unused) e
+  pub freed_shape : {x : Shape} → shape mid ≡ x → shape now ≡ with_space x x.records (shape now).unused
+  freed_shape e = left.shape_is ∙ ap (λ (x : Shape). with_space x x.records (shape now).unused) e
 
-  pub records_are : (shape now).records ≡ s.records
-  records_are = ap (λ (x : Shape). x.records) left.shape_is ∙ frees.records
+  pub freed_records : (shape now).records ≡ s.records
+  freed_records = ap (λ (x : Shape). x.records) left.shape_is ∙ frees.records
 
-  pub long_now : length now ≡ length b
-  long_now = left.long ∙ frees.long
+  pub freed_long : length now ≡ length b
+  freed_long = left.long ∙ frees.long
 
   pub all_freed : (m : ℕ) → In m places → type_at now m ≡ uir_type
   all_freed = all_unused mid now places frees.mid_sound frees.free.stand frees.given
@@ -97,7 +97,7 @@ module _ {b mid now : List ℕ} {marks : List Mark} {types places : List ℕ} (f
   pub gdr_still : (f : Field) → f.place + f.width ≤ 64 → number now s.gdr f ≡ number mid s.gdr f
   gdr_still f low =
       let inside = gdr_in b s frees.sound.has_shape in
-      let typed : type_at mid s.gdr ≡ gdr_type = types_stay s.gdr inside ∙ gdr_typed b s frees.sound.has_shape in
+      let typed : type_at mid s.gdr ≡ gdr_type = freed_types s.gdr inside ∙ gdr_typed b s frees.sound.has_shape in
       let long : 84 ≤ size_at mid s.gdr = subst (λ (k : ℕ). 84 ≤ k) (sym (head_size b mid s.gdr (frees.edit.head s.gdr inside (λ u. no_uir (sym (gdr_typed b s frees.sound.has_shape) ∙ u)) (λ r. r)))) (gdr_long b s frees.sound.has_shape) in
       field_avoids freeing s.gdr gdr_type f inside typed (beside 0 12 (omega arith)) (beside f.place (f.place + f.width) low) (omega arith)
     where
@@ -121,10 +121,10 @@ module _ {b mid now : List ℕ} {marks : List Mark} {types places : List ℕ} (f
   -- ---- the space
 
   pub sizes_before : (m : ℕ) → In m places → size_at mid m ≡ size_at b m
-  sizes_before m i = head_size b mid m (frees.edit.head m (places_in m i) (λ t. free_used mid places frees.free m i (types_stay m (places_in m i) ∙ t)) (λ r. r))
+  sizes_before m i = head_size b mid m (frees.edit.head m (freed_places m i) (λ t. free_used mid places frees.free m i (freed_types m (freed_places m i) ∙ t)) (λ r. r))
 
-  pub acts_after : unmarked marks uir_type ≡ true → ActsFollow b now (gave b places)
-  acts_after clear =
+  pub freed_acts : unmarked marks uir_type ≡ true → ActsFollow b now (gave b places)
+  freed_acts clear =
       let none = acts_none frees.sound frees.edit clear refl frees.records frees.unused frees.long in
       subst (ActsFollow b now) (gave-same b mid places sizes_before) (all_gave b mid now [] types places frees.sound.has_shape none frees.mid_sound may_free frees.given)
 
@@ -135,7 +135,7 @@ module _ {b mid now : List ℕ} {marks : List Mark} {types places : List ℕ} (f
   pub freeing_behind : (m : ℕ) → In m places → Same mid now (m + links_end (size_at b m)) (m + size_at b m)
   freeing_behind m i = subst (λ (k : ℕ). Same mid now (m + links_end k) (m + k)) (sizes_before m i) (left.behind m (frees.free.stand m i) (not_gdr m i))
 
-  pub freed_after : ((m : ℕ) → In m places → Same b mid (m + links_end (size_at b m)) (m + size_at b m)) → FreedStay b now no_fields (gave b places)
-  freed_after same =
-      let sizes = sizes_by_tiles b now 8 8 (length b) s.records refl frees.sound.has_shape.tiled (subst (λ (k : ℕ). AreTiles now 8 k s.records) long_now freed_edit.tiled_now) in
-      freed_stay b now (gave b places) places no_fields left.sound.has_shape.tiled (λ m i. subst (In m) (sym records_are) (places_in m i)) (λ m i. sizes m (places_in m i)) (λ m i. same-then b mid now (m + links_end (size_at b m)) (m + size_at b m) (same m i) (freeing_behind m i))
+  pub freed_bytes : ((m : ℕ) → In m places → Same b mid (m + links_end (size_at b m)) (m + size_at b m)) → FreedStay b now no_fields (gave b places)
+  freed_bytes same =
+      let sizes = sizes_by_tiles b now 8 8 (length b) s.records refl frees.sound.has_shape.tiled (subst (λ (k : ℕ). AreTiles now 8 k s.records) freed_long freed_edit.tiled_now) in
+      freed_stay b now (gave b places) places no_fields left.sound.has_shape.tiled (λ m i. subst (In m) (sym freed_records) (freed_places m i)) (λ m i. sizes m (freed_places m i)) (λ m i. same-then b mid now (m + links_end (size_at b m)) (m + size_at b m) (same m i) (freeing_behind m i))

@@ -4,6 +4,7 @@ use Rattle.cdf_edits.proofs.Common.{byte, OutsideFields, cases_eq, eqb-true, leb
 use Rattle.cdf_edits.specs.Commands.Allowances.{FreedStays}
 use Rattle.cdf_edits.proofs.Edits.Composing.{head_type, part}
 use Rattle.cdf_edits.proofs.Edits.FreedRecords.{one_given, others_still, sizes_stay}
+use Rattle.cdf_edits.proofs.Edits.StaysBut.{StaysBut, part_stays}
 use Rattle.cdf_edits.proofs.Edits.StepEdits.{all_marked}
 use Rattle.cdf_edits.proofs.Frame.OwnersApart.{times-in, owned-times, file_records, all_attribute_records, all_variable_records}
 use Rattle.cdf_edits.proofs.Space.ActsLeave.{each}
@@ -13,7 +14,7 @@ use Rattle.cdf_edits.proofs.Frame.Meaning.{Kept, KeptButLink}
 end_low : (size : ℕ) → 12 ≤ links_end size
 end_low size = elim (either (nat_le 28 size)) [ inl e ↦ rw e (omega arith) | inr e ↦ rw e (omega arith) ]
 
-end_long : (size : ℕ) → 28 ≤ size → 28 ≤ links_end size
+pub end_long : (size : ℕ) → 28 ≤ size → 28 ≤ links_end size
 end_long size long = rw (le-leb 28 size long) (omega arith)
 
 -- a record that is kept, or but for the link to the next one, keeps its bytes behind the links of an unused one
@@ -22,6 +23,10 @@ behind_kept {b = b} {now = now} {m = m} k = Same-part b now m (m + size_at b m) 
 
 pub behind_link : {b now : List ℕ} {m : ℕ} → KeptButLink b now m → 28 ≤ size_at b m → Same b now (m + links_end (size_at b m)) (m + size_at b m)
 behind_link {b = b} {now = now} {m = m} k long = Same-part b now (m + 20) (m + size_at b m) (m + links_end (size_at b m)) (m + size_at b m) k.rest (let l = end_long (size_at b m) long in omega arith) (omega arith)
+
+-- and so does one of which fields stay that lie behind them
+pub behind_stays : {b now : List ℕ} {m : ℕ} {fields : List Field} → StaysBut b now m fields → 28 ≤ size_at b m → ((i : ℕ) → 28 ≤ i → OutsideFields fields i) → Same b now (m + links_end (size_at b m)) (m + size_at b m)
+behind_stays {b = b} {now = now} {m = m} k long out = let l = end_long (size_at b m) long in part_stays k (links_end (size_at b m)) (size_at b m) (omega arith) (λ i p q. out i (omega arith))
 
 -- ---- one record
 

@@ -1,9 +1,10 @@
 -- A record that an edit left in use, and no owner has, is freed: what the image is then.
 use Rattle.std.proofs.Common.{◌≡◌, ◌≢◌, ℕ, ◌+◌, ◌≤◌, List, [], ◌∷◌, ◌++◌, length, true, false, refl, sym, ap, subst, ◌∙◌, arith, inl, inr}
-use Rattle.cdf_edits.proofs.Common.{le-leb, Same, IsChain, number, size_at, type_at, Unused, owned_by, unused_records, Field, gdr_uir_head, uir_next_uir, uir_prev_uir, gdr_type, uir_type, is_record_type, fixed_size, Shape, HasShape, shape, IsSound, In, AreTiles, Same-part, is_a-type, tile_lies, Allowances, AllKeep, is_taken, GivenStay, no_fields, Edit, Mark, Avoids, Away, Within, giving_marks, Act, Gave, ActsFollow, gave, links_end, Gives, giving}
+use Rattle.cdf_edits.proofs.Common.{le-leb, Same, IsChain, number, size_at, type_at, Unused, owned_by, unused_records, Field, gdr_uir_head, uir_next_uir, uir_prev_uir, gdr_type, uir_type, is_record_type, fixed_size, Shape, HasShape, shape, IsSound, In, AreTiles, Same-part, is_a-type, Allowances, AllKeep, is_taken, GivenStay, no_fields, Edit, Mark, Avoids, Away, Within, giving_marks, Act, Gave, ActsFollow, gave, links_end, Gives, giving}
 use Rattle.cdf_edits.proofs.Edits.ActsThen.{acts_gave}
 use Rattle.cdf_edits.proofs.Edits.Composing.{edit_then, same-then, sizes}
 use Rattle.cdf_edits.proofs.Edits.FreedBytes.{behind_one, freed_stay}
+use Rattle.cdf_edits.proofs.Edits.FreedRecords.{unused_real}
 use Rattle.cdf_edits.proofs.Edits.MarkLemmas.{Avoids-append, Within-append, Away-append, away-avoids, the_one}
 use Rattle.cdf_edits.proofs.Edits.OwnersKept.{keep_unused}
 use Rattle.cdf_edits.proofs.Edits.RecordFrame.{chain_stays, field_avoids, kept_away}
@@ -76,7 +77,7 @@ module _ {b late now : List ℕ} {made : Shape} {marks : List Mark} {reborn : Li
   freed_type = is_a-type now (shape now).records uir_type old gives.stands
 
   pub freed_real : (is_record_type (type_at now old) ≡ true) × (fixed_size (type_at now old) ≤ size_at now old)
-  freed_real = subst (λ (t : ℕ). (is_record_type t ≡ true) × (fixed_size t ≤ size_at now old)) (sym freed_type) (refl, (tile_lies now 8 (length now) made.records old given.tiled_now old_in).long)
+  freed_real = unused_real now made.records old given.tiled_now old_in freed_type
 
   pub records_now : (shape now).records ≡ made.records
   records_now = gives.records_stay

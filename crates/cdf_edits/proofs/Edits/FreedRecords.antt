@@ -1,6 +1,6 @@
 -- Records that are freed one after the other are one edit.
 use Rattle.std.proofs.Common.{◌≡◌, ◌≢◌, ◌⊎◌, ℕ, ◌+◌, ◌≤◌, List, [], ◌∷◌, length, map, true, refl, sym, ap, subst, ◌∙◌, arith, inl, inr}
-use Rattle.cdf_edits.proofs.Common.{eqb-true, ◌==◌, nat_le, Same, is_in, size_at, type_at, uir_type, Shape, shape, IsSound, In, AreTiles, Distinct, either, tile_lies, Edit, wholes, freeing_marks, Mark, Avoids, giving_marks, AllGiven, unused, given_to, IsGiven}
+use Rattle.cdf_edits.proofs.Common.{is_record_type, fixed_size, eqb-true, ◌==◌, nat_le, Same, is_in, size_at, type_at, uir_type, Shape, shape, IsSound, In, AreTiles, Distinct, either, tile_lies, Edit, wholes, freeing_marks, Mark, Avoids, giving_marks, AllGiven, unused, given_to, IsGiven}
 use Rattle.cdf_edits.proofs.Space.ActsLeave.{places-sized}
 use Rattle.cdf_edits.proofs.Edits.Composing.{head_type, edit_then}
 use Rattle.cdf_edits.proofs.Edits.MarkLemmas.{or_cases, Avoids-append}
@@ -34,6 +34,10 @@ same_edit b records marks tiled = record {
   part = λ m type lo hi i is heads a fits. record { each = λ i l u. refl };
   kind = λ m i. inl (i, refl);
 }
+
+-- an unused record has the fixed part of its type
+pub unused_real : (now records : List ℕ) (m : ℕ) → AreTiles now 8 (length now) records → In m records → type_at now m ≡ uir_type → (is_record_type (type_at now m) ≡ true) × (fixed_size (type_at now m) ≤ size_at now m)
+unused_real now records m tiled i t = subst (λ (x : ℕ). (is_record_type x ≡ true) × (fixed_size x ≤ size_at now m)) (sym t) (refl, (tile_lies now 8 (length now) records m tiled i).long)
 
 -- records that stand where they stood have their sizes
 pub sizes_by_tiles : (b now : List ℕ) (from from' upto : ℕ) (ts : List ℕ) → from ≡ from' → AreTiles b from upto ts → AreTiles now from' upto ts → (m : ℕ) → In m ts → size_at now m ≡ size_at b m

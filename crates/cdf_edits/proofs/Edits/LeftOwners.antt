@@ -1,9 +1,16 @@
 -- The owners of an image of which one has gone: each other one has what it had.
 use Rattle.std.proofs.Common.{◌≡◌, ◌≢◌, ℕ, suc, ◌+◌, ◌≤◌, List, [], ◌∷◌, true, false, ◌⊎◌, eq-eqb, refl, sym, subst, ◌∙◌, arith, inl, inr}
-use Rattle.cdf_edits.proofs.Common.{◌==◌, type_at, times, owned_records, unused_records, OwnedOnce, uir_type, Shape, shape, AreFree, IsSound, In, Distinct, either, times-none, Edit, Mark}
+use Rattle.cdf_edits.proofs.Common.{shape_is, flat_map, ◌==◌, type_at, times, owned_records, unused_records, OwnedOnce, uir_type, Shape, shape, AreFree, IsSound, In, Distinct, either, times-none, Edit, Mark}
 use Rattle.cdf_edits.proofs.Edits.ChainOwners.{not_twice_kept}
 use Rattle.cdf_edits.proofs.Edits.OwnedOnce.{used_times, owned_once_if, none_in_use, unused_unowned}
-use Rattle.cdf_edits.proofs.Frame.OwnersApart.{times-in, owned-times, file_records, all_attribute_records, all_variable_records}
+use Rattle.cdf_edits.proofs.Frame.OwnersApart.{times-append, times-in, owned-times, file_records, all_attribute_records, all_variable_records}
+
+-- a sound image has the shape with which it is sound
+pub shape_there : {b : List ℕ} {s : Shape} → IsSound b s → shape b ≡ s
+shape_there {b = b} {s = s} sound = shape_is b s sound.has_shape
+
+pub sound_there : {b : List ℕ} {s : Shape} → IsSound b s → IsSound b (shape b)
+sound_there {b = b} sound = subst (IsSound b) (sym (shape_there sound)) sound
 
 -- none of the records stands twice
 pub distinct_if : (xs : List ℕ) → ((m : ℕ) → times m xs ≤ 1) → Distinct xs
@@ -25,6 +32,12 @@ pub record Left (b : List ℕ) (s s' : Shape) (mine : List ℕ) : Type 0 where
   pub sound : IsSound b s
   pub fewer : (m : ℕ) → used_times s' m + times m mine ≡ used_times s m
 
+pub left_of : {A : Type 0} (f : A → List ℕ) {b : List ℕ} {s s' : Shape} → IsSound b s → (x : A) → ((m : ℕ) → used_times s' m + times m (flat_map f (x ∷ [])) ≡ used_times s m + 0) → Left b s s' (f x)
+left_of f {s = s} {s' = s'} sound x less = record { sound = sound; fewer = λ m. no_more (used_times s' m) (times m (f x)) (used_times s m) (times m (flat_map f (x ∷ []))) (times-append m (f x) []) (less m) }
+  where
+    no_more : (n' o n o' : ℕ) → o' ≡ o + 0 → n' + o' ≡ n + 0 → n' + o ≡ n
+    no_more n' o n o' p q = omega arith
+
 module _ {b : List ℕ} {s s' : Shape} {mine : List ℕ} (left : Left b s s' mine) where
   used_once : (m : ℕ) → used_times s m ≤ 1
   used_once m = at_most (times m (owned_records b s)) (times m (file_records s)) (times m (all_attribute_records s)) (times m (all_variable_records s)) (times m (unused_records b s)) (left.sound.not_twice m) (owned-times b s m)
@@ -45,11 +58,14 @@ module _ {b : List ℕ} {s s' : Shape} {mine : List ℕ} (left : Left b s s' min
       clash : (n n' o : ℕ) → n ≡ 0 → n' + o ≡ n → 1 ≤ o → ⊥
       clash n n' o e p q = omega arith
 
-  pub mine_once : Distinct mine
-  mine_once = distinct_if mine (λ m. at_most (used_times s m) (used_times s' m) (times m mine) (used_once m) (left.fewer m))
+  pub mine_times : (m : ℕ) → times m mine ≤ 1
+  mine_times m = at_most (used_times s m) (used_times s' m) (times m mine) (used_once m) (left.fewer m)
     where
       at_most : (n n' o : ℕ) → n ≤ 1 → n' + o ≡ n → o ≤ 1
       at_most n n' o l p = omega arith
+
+  pub mine_once : Distinct mine
+  mine_once = distinct_if mine mine_times
 
   -- before they are freed nobody has them, and no record has two owners
   module _ {mid : List ℕ} {marks : List Mark} (e : Edit b mid s.records s'.records marks []) where
@@ -63,13 +79,13 @@ module _ {b : List ℕ} {s s' : Shape} {mine : List ℕ} (left : Left b s s' min
     types_stay m i = elim (e.kind m (e.sub m i)) [ inl k ↦ k.1 | inr k ↦ elim k [ inl f ↦ absurd (f.0 i) | inr none ↦ absurd none ] ]
 
     -- and they can be freed, in an order of their own
-    pub can_be_freed : shape mid ≡ s' → ((m : ℕ) → In m mine → In m s.records) → (places : List ℕ) → ((m : ℕ) → In m places → In m mine) → Distinct places → AreFree mid places
-    can_be_freed is inside places sub once = record {
-      stand = λ m i. subst (λ (x : Shape). In m x.records) (sym is) (e.sub m (inside m (sub m i)));
+    pub can_be_freed : IsSound mid s' → ((m : ℕ) → In m mine → In m s.records) → (places : List ℕ) → ((m : ℕ) → In m places → In m mine) → Distinct places → AreFree mid places
+    can_be_freed sound inside places sub once = record {
+      stand = λ m i. subst (λ (x : Shape). In m x.records) (sym (shape_there sound)) (e.sub m (inside m (sub m i)));
       unowned = λ m i.
           let there = inside m (sub m i) in
           let used : type_at mid m ≢ uir_type = λ u. mine_used m (sub m i) there (sym (types_stay m there) ∙ u) in
-          subst (λ (x : Shape). times m (owned_records mid x) ≡ 0) (sym is) (none_in_use mid s' e.tiled_now m used (none_left m (sub m i)));
+          subst (λ (x : Shape). times m (owned_records mid x) ≡ 0) (sym (shape_there sound)) (none_in_use mid s' e.tiled_now m used (none_left m (sub m i)));
       once = once;
     }
 

@@ -1,12 +1,12 @@
 -- Numbers that the members of a chain get one after the other, and that other records of theirs say.
 use Rattle.std.proofs.Common.{◌≡◌, ℕ, suc, ◌+◌, ◌^◌, ◌<◌, ◌≤◌, List, [], ◌∷◌, ◌++◌, length, map, refl, sym, ap, subst, ◌∙◌, arith, inl, inr}
-use Rattle.cdf_edits.proofs.Common.{flat_map, map-append, number, Field, Each, In, In-append, In-append_left, In-append_right, Each-split, Each-append, Write, write}
-use Rattle.cdf_edits.proofs.Edits.RowsOneLess.{AreNumbered}
+use Rattle.cdf_edits.proofs.Common.{length-map, number_rows, Hold, flat_map, map-append, number, Field, Each, In, In-append, In-append_left, In-append_right, Each-split, Each-append, Write, write}
+use Rattle.cdf_edits.proofs.Edits.RowsOneLess.{AreNumbered, one_less}
 use Rattle.cdf_edits.proofs.Edits.WrittenFields.{written_tiles}
 
 -- a field has its number
-abbrev pub Says : List ℕ → Write → Type 0
-Says now w = number now w.tile w.f ≡ w.to
+abbrev pub SaysNumber : List ℕ → Write → Type 0
+SaysNumber now w = number now w.tile w.f ≡ w.to
 
 -- where they stand, and where the others do, is among the records of all
 module _ {A : Type 0} (place : A → ℕ) (others : A → List ℕ) where
@@ -15,12 +15,18 @@ module _ {A : Type 0} (place : A → ℕ) (others : A → List ℕ) where
   place_in (x ∷ more) m (inl e) = inl e
   place_in (x ∷ more) m (inr i) = In-append_right m (place x ∷ others x) (flat_map (λ x. place x ∷ others x) more) (place_in more m i)
 
-  pub other_in : (xs : List A) (m : ℕ) → In m (flat_map others xs) → In m (flat_map (λ x. place x ∷ others x) xs)
-  other_in [] m i = absurd i
-  other_in (x ∷ more) m i = elim (In-append m (others x) (flat_map others more) i) [
+  pub others_in : (xs : List A) (m : ℕ) → In m (flat_map others xs) → In m (flat_map (λ x. place x ∷ others x) xs)
+  others_in [] m i = absurd i
+  others_in (x ∷ more) m i = elim (In-append m (others x) (flat_map others more) i) [
     | inl j ↦ inr (In-append_left m (others x) (flat_map (λ x. place x ∷ others x) more) j)
-    | inr j ↦ In-append_right m (place x ∷ others x) (flat_map (λ x. place x ∷ others x) more) (other_in more m j)
+    | inr j ↦ In-append_right m (place x ∷ others x) (flat_map (λ x. place x ∷ others x) more) (others_in more m j)
   ]
+
+-- the rules on the numbers without one of them
+pub fewer_rows : {A : Type 0} (place : A → ℕ) (num : Field) (rule : ℕ) (b now : List ℕ) (all before : List A) (own : A) (after : List A) → all ≡ before ++ own ∷ after → ((m : ℕ) → In m (map place before) → number now m num ≡ number b m num) → AreNumbered now num (length before) (map place after)
+    → Hold (number_rows rule b num 0 (map place all)) → Hold (number_rows rule now num 0 (map place (before ++ after)))
+fewer_rows place num rule b now all before own after was same says h = subst (λ (ms : List ℕ). Hold (number_rows rule now num 0 ms)) (sym (map-append place before after))
+    (one_less rule num b now (map place before) (place own) (map place after) same (subst (λ (n : ℕ). AreNumbered now num n (map place after)) (sym (length-map before place)) says) (subst (λ (ms : List ℕ). Hold (number_rows rule b num 0 ms)) (ap (map place) was ∙ map-append place before (own ∷ after)) h))
 
 module _ {A : Type 0} (place : A → ℕ) (num : Field) (others : A → List ℕ) (said : Field) where
   -- what is written
@@ -56,17 +62,17 @@ module _ {A : Type 0} (place : A → ℕ) (num : Field) (others : A → List ℕ
   small_numbers n xs four four' few = each_numbered (λ (w : Write). w.to < 256 ^ w.f.width) n (n + length xs) xs (omega arith) (λ m k i l. subst (λ (d : ℕ). k < 256 ^ d) (sym four) (omega arith)) (λ m k i l. subst (λ (d : ℕ). k < 256 ^ d) (sym four') (omega arith))
 
   -- they have their numbers, and the others say them
-  pub are_numbered : (now : List ℕ) (n : ℕ) (xs : List A) → Each (Says now) (numbering n xs) → AreNumbered now num n (map place xs)
+  pub are_numbered : (now : List ℕ) (n : ℕ) (xs : List A) → Each (SaysNumber now) (numbering n xs) → AreNumbered now num n (map place xs)
   are_numbered now n [] says = tt
-  are_numbered now n (x ∷ more) says = (says.0, are_numbered now (suc n) more (Each-split (Says now) (rest n x) (numbering (suc n) more) says.1).1)
+  are_numbered now n (x ∷ more) says = (says.0, are_numbered now (suc n) more (Each-split (SaysNumber now) (rest n x) (numbering (suc n) more) says.1).1)
 
-  pub others_say : (now : List ℕ) (n : ℕ) (xs : List A) → Each (Says now) (numbering n xs) → Each (λ x. (m : ℕ) → In m (others x) → number now m said ≡ number now (place x) num) xs
+  pub others_say : (now : List ℕ) (n : ℕ) (xs : List A) → Each (SaysNumber now) (numbering n xs) → Each (λ x. (m : ℕ) → In m (others x) → number now m said ≡ number now (place x) num) xs
   others_say now n [] says = tt
   others_say now n (x ∷ more) says =
-      let p = Each-split (Says now) (rest n x) (numbering (suc n) more) says.1 in
+      let p = Each-split (SaysNumber now) (rest n x) (numbering (suc n) more) says.1 in
       ((λ m i. say (others x) p.0 m i ∙ sym says.0), others_say now (suc n) more p.1)
     where
-      say : (ms : List ℕ) → Each (Says now) (map (λ m. write m said n) ms) → (m : ℕ) → In m ms → number now m said ≡ n
+      say : (ms : List ℕ) → Each (SaysNumber now) (map (λ m. write m said n) ms) → (m : ℕ) → In m ms → number now m said ≡ n
       say [] h m i = absurd i
       say (x ∷ ms) h m (inl q) = subst (λ (y : ℕ). number now y said ≡ n) (sym q) h.0
       say (x ∷ ms) h m (inr i) = say ms h.1 m i

@@ -1,13 +1,16 @@
 -- What a command may change of records, shown by the marks of its edit.
-use Rattle.std.proofs.Common.{◌≡◌, ◌⊎◌, ℕ, suc, ◌+◌, ◌≤◌, List, [], ◌∷◌, ◌++◌, length, Bool, true, false, ◌||◌, eqb, refl, sym, ap, subst, ◌∙◌, append_assoc, arith, inl, inr}
-use Rattle.cdf_edits.proofs.Common.{eqb-true, le-leb, lt-ltb, flat_map, ◌==◌, ◌&&◌, nat_le, nat_lt, if◌then◌else◌, Kind, R, Z, IsSound, Allowance, Anything, Only, Keeps, Allowances, is_taken, allowance, AllKeep, is_in, size_at, type_at, Owner, File, OneAttribute, OneVariable, Unused, attribute_records, variable_records, owned_by, owned_by_attributes, owned_by_variables, unused_records, owned, Field, uir_next_uir, uir_prev_uir, cdr_type, gdr_type, uir_type, AttributeShape, VariableShape, Shape, vdrs, shape, In, Act, Took, is_a-type, either, In-append, In-append_left, In-append_right, true-is_in, false-is_in, filter-in, tile_lies, Mark, Avoids, Away, Within, avoided, within, Edit}
+use Rattle.std.proofs.Common.{◌≡◌, ℕ, suc, ◌+◌, ◌≤◌, List, [], ◌∷◌, ◌++◌, length, Bool, true, false, ◌||◌, eqb, refl, sym, ap, subst, ◌∙◌, append_assoc, arith, inl, inr}
+use Rattle.cdf_edits.proofs.Common.{keeps_file, both, unmarked, is_a-in, Same, eqb-true, le-leb, lt-ltb, flat_map, ◌==◌, ◌&&◌, nat_le, nat_lt, if◌then◌else◌, Kind, R, Z, IsSound, Allowance, Anything, Only, Keeps, Allowances, is_taken, allowance, AllKeep, is_in, size_at, type_at, Owner, File, OneAttribute, OneVariable, Unused, attribute_records, variable_records, owned_by, owned_by_attributes, owned_by_variables, unused_records, owned, Field, uir_next_uir, uir_prev_uir, cdr_type, gdr_type, uir_type, AttributeShape, VariableShape, Shape, vdrs, shape, In, Act, Took, is_a-type, either, In-append, In-append_left, In-append_right, true-is_in, false-is_in, filter-in, tile_lies, Mark, Avoids, Away, Within, avoided, within, Edit}
 use Rattle.cdf_edits.proofs.Commands.KeptRecords.{Stood, AllKeep-append, keeps_stood, keep_owned, keep_variables}
 use Rattle.cdf_edits.proofs.Frame.Meaning.{Kept}
 use Rattle.cdf_edits.proofs.Frame.OwnersApart.{all_variable_records}
 use Rattle.cdf_edits.proofs.Space.UsedRecords.{apart, filter-says}
 use Rattle.cdf_edits.proofs.Edits.Composing.{head_size}
-use Rattle.cdf_edits.proofs.Edits.RecordFrame.{index_records, kept_away}
-use Rattle.cdf_edits.proofs.Edits.MarkLemmas.{avoided-avoids, within-within, within-avoids}
+use Rattle.cdf_edits.proofs.Edits.RecordFrame.{gdr_start, index_records, kept_away}
+use Rattle.cdf_edits.proofs.Edits.MarkLemmas.{unmarked-away, avoided-avoids, within-within}
+use Rattle.cdf_edits.proofs.Edits.StaysBut.{StaysBut, stays_within}
+use Rattle.cdf_edits.proofs.Edits.StepEdits.{gdr_in, gdr_typed}
+use Rattle.cdf_edits.proofs.Edits.VariableFrame.{variables_in}
 
 -- ---- one record
 
@@ -21,15 +24,13 @@ module _ {b now new : List ℕ} {marks : List Mark} {reborn : List ℕ} (sound :
   pub stood : (m : ℕ) → In m s.records → Kept b now m → Stood b now m
   stood m i k = record { stands = stands m i; whole = k }
 
-  -- its marks lie in the fields that may change
+  -- the fields of which the bytes may be others may change
+  pub keeps_stays : (m : ℕ) (fields : List Field) → In m s.records → Same b now (m + 0) (m + 12) → StaysBut b now m fields → Keeps b now m (Only fields)
+  keeps_stays m fields i head k = record { stands = stands m i; size_is = head_size b now m head; same = k.bytes }
+
+  -- its marks lie in them
   pub keeps_within : (m type : ℕ) (fields : List Field) → In m s.records → type_at b m ≡ type → Avoids marks type m 0 12 → Within marks type m fields → Keeps b now m (Only fields)
-  keeps_within m type fields i is heads w =
-      let long = (tile_lies b 8 (length b) s.records m sound.has_shape.tiled i).long in
-      record {
-        stands = stands m i;
-        size_is = head_size b now m (e.part m type 0 12 i is heads heads long);
-        same = λ n lt out. (e.part m type n (n + 1) i is heads (within-avoids marks type m fields n w out) (omega arith)).each (m + n) (omega arith) (omega arith);
-      }
+  keeps_within m type fields i is heads w = keeps_stays m fields i (e.part m type 0 12 i is heads heads (tile_lies b 8 (length b) s.records m sound.has_shape.tiled i).long) (stays_within e m type fields i is heads w)
 
   pub keeps_fields : (m type : ℕ) (fields : List Field) → In m s.records → type_at b m ≡ type → avoided marks type 0 12 ≡ true → within marks type fields ≡ true → Keeps b now m (Only fields)
   keeps_fields m type fields i is heads w = keeps_within m type fields i is (avoided-avoids marks type m 0 12 heads) (within-within marks type m fields w)
@@ -79,11 +80,6 @@ taken_is_taken b place need more long free =
     clash true false r x y f = cc
     clash false q r x y f = cc
 
--- it stands in the list
-abbrev pub InList : AttributeShape → List AttributeShape → Type 0
-InList a [] = ⊥
-InList a (x ∷ more) = (a ≡ x) ⊎ InList a more
-
 -- ---- all records of an owner
 
 module _ (b now : List ℕ) (may : Allowances) (acts : List Act) where
@@ -104,11 +100,11 @@ module _ (b now : List ℕ) (may : Allowances) (acts : List Act) where
       (cdr, (subst (λ (p : Bool). Keeps b now before_shape.gdr (if p then may.cdr else may.gdr)) (sym other) gdr, tt))
 
   -- attribute by attribute
-  pub keep_each : (n : ℕ) (as_ : List AttributeShape) → ((k : ℕ) (a : AttributeShape) → InList a as_ → (m : ℕ) → In m (attribute_records a) → Keeps b now m (allowance b before_shape may acts m (OneAttribute k))) → AllKeep b now may acts (owned_by_attributes n as_)
+  pub keep_each : (n : ℕ) (as_ : List AttributeShape) → ((k m : ℕ) → In m (flat_map attribute_records as_) → Keeps b now m (allowance b before_shape may acts m (OneAttribute k))) → AllKeep b now may acts (owned_by_attributes n as_)
   keep_each n [] h = tt
   keep_each n (a ∷ more) h =
       AllKeep-append b now may acts (owned_by (OneAttribute n) (attribute_records a)) (owned_by_attributes (suc n) more)
-      (keep_places (OneAttribute n) (attribute_records a) (λ m i. h n a (inl refl) m i)) (keep_each (suc n) more (λ k x j. h k x (inr j)))
+      (keep_places (OneAttribute n) (attribute_records a) (λ m i. h n m (In-append_left m (attribute_records a) (flat_map attribute_records more) i))) (keep_each (suc n) more (λ k m i. h k m (In-append_right m (attribute_records a) (flat_map attribute_records more) i)))
 
   -- attributes in parts
   attributes-append : (n : ℕ) (xs ys : List AttributeShape) → owned_by_attributes n (xs ++ ys) ≡ owned_by_attributes n xs ++ owned_by_attributes (n + length xs) ys
@@ -165,3 +161,13 @@ module _ (b now : List ℕ) (may : Allowances) (acts : List Act) where
   -- and where all variables stay
   pub all_keep : AllKeep b now may acts (owned_by File (8 ∷ before_shape.gdr ∷ [])) → AllKeep b now may acts (owned_by_attributes 0 before_shape.attributes) → ((m : ℕ) → In m (all_variable_records before_shape) → Stood b now m) → AllKeep b now may acts (owned_by Unused (unused_records b before_shape)) → AllKeep b now may acts (owned b before_shape)
   all_keep f a v u = keep_all f a (keep_variables b now may acts R 0 before_shape.r_variables (λ m i. v m (flat-first before_shape.r_variables before_shape.z_variables m i))) (keep_variables b now may acts Z 0 before_shape.z_variables (λ m i. v m (flat-later before_shape.r_variables before_shape.z_variables m i))) u
+
+-- where no other owner changes but attributes and unused records, and of the file the GDR in some fields
+pub keep_attributes_alone : {b now new : List ℕ} {marks : List Mark} {reborn : List ℕ} (sound : IsSound b (shape b)) (e : Edit b now (shape b).records new marks reborn) → (shape now).records ≡ new → (may : Allowances) (acts : List Act) (fields : List Field) → may.cdr ≡ Only [] → may.gdr ≡ Only fields → keeps_file marks ≡ true → within marks gdr_type fields ≡ true
+    → ((m : ℕ) → In m (all_variable_records (shape b)) → Kept b now m) → AllKeep b now may acts (owned_by_attributes 0 (shape b).attributes) → AllKeep b now may acts (owned_by Unused (unused_records b (shape b))) → AllKeep b now may acts (owned b (shape b))
+keep_attributes_alone {b = b} {now = now} {marks = marks} sound e same may acts fields cdr_is gdr_is clear fits variables attributes unused =
+    let s : Shape = shape b in
+    let h = sound.has_shape in
+    let cdr = keeps_away sound e same 8 cdr_type (Only []) (is_a-in b s.records cdr_type 8 h.cdr_stands) (is_a-type b s.records cdr_type 8 h.cdr_stands) (unmarked-away marks cdr_type 8 (both (unmarked marks cdr_type) _ clear).0) in
+    let gdr = keeps_fields sound e same s.gdr gdr_type fields (gdr_in b s h) (gdr_typed b s h) (gdr_start sound e clear) fits in
+    all_keep b now may acts (keep_file b now may acts sound (subst (Keeps b now 8) (sym cdr_is) cdr) (subst (Keeps b now s.gdr) (sym gdr_is) gdr)) attributes (λ m i. stood sound e same m (variables_in b s sound m i) (variables m i)) unused

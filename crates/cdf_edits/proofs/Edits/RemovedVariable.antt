@@ -1,26 +1,12 @@
 -- The image after a variable went: its shape, its content, its rules and its space.
-use Rattle.std.proofs.Common.{◌≡◌, ◌≢◌, ℕ, zero, suc, ◌+◌, ◌<◌, ◌≤◌, List, [], ◌∷◌, ◌++◌, length, map, max, refl, sym, ap, subst, ◌∙◌, arith, inl, inr, false}
-use Rattle.cdf_edits.proofs.Common.{Avoids, Field, Says, emptied_fields, empty_writes, freeing_marks, no_index, le-leb, tile_lies, type_at, variable_removing_marks, with_writes, word_kept, length-append, length-map, w32, cast_signed, fold, remove, Kind, R, Z, extent, image_limit, variables_of, with_variables, last_number, IsChain, is_in, content, variable_of, number, integer4, size_at, gdr_offset, variable_records, gdr_eof, gdr_uir_head, gdr_r_max_rec, vdr_num, gdr_type, uir_type, VariableShape, Shape, vdrs, shape, IsSound, In, max_rec_at, Good, good_by_its_shape, good_is_sound, rules_of_good, good_long, sealed_kept, shapes_of, RMaxRecOf, freed_with_variable, index_types, RemovesVariable, greatest_at, variable_unlinking_marks, links_end, head_of, count_of, type_in, variables_chain, field_reads4, number_kept}
+use Rattle.std.proofs.Common.{◌≡◌, ℕ, zero, suc, ◌+◌, ◌≤◌, List, [], ◌∷◌, ◌++◌, length, map, max, refl, sym, ap, subst, ◌∙◌, arith, inl, inr, false}
+use Rattle.cdf_edits.proofs.Common.{Field, Says, emptied_fields, empty_writes, freeing_marks, no_index, le-leb, type_at, with_writes, word_kept, w32, cast_signed, fold, remove, Kind, R, Z, extent, image_limit, variables_of, with_variables, last_number, IsChain, is_in, content, variable_of, number, integer4, size_at, gdr_offset, variable_records, gdr_eof, gdr_uir_head, gdr_r_max_rec, vdr_num, gdr_type, uir_type, VariableShape, Shape, vdrs, shape, IsSound, In, max_rec_at, Good, good_by_its_shape, good_is_sound, rules_of_good, good_long, sealed_kept, shapes_of, RMaxRecOf, freed_with_variable, index_types, RemovesVariable, greatest_at, variable_unlinking_marks, links_end, head_of, count_of, type_in, variables_chain, field_reads4, number_kept, r_extents}
+use Rattle.cdf_edits.proofs.Edits.Common.{head_size, field_clear, gdr_field, gdr_place, gdr_in, gdr_typed, gdr_long, TakesVariable, SaysTaken, tests, without_variable, content_taken, taken_good, vdr_there, back_out, e_second, e_early, some_second, lasts_second, counted_now, numbered_still, kind_chain, with_shapes, content_now, write_lies, Frees, freed_edit, sound_now, others_kept, all_freed, gdr_still, freeing_behind, BytesStay, edit_under, Avoids-append, Avoids-split, freed_shape, freed_records, freed_long, freed_types, end_before}
 use Rattle.std.specs.Int.RustNames.{FitsSigned}
-use Rattle.cdf_edits.specs.Commands.GreatestRecord.{r_extents}
-use Rattle.cdf_edits.proofs.Edits.Composing.{head_size}
-use Rattle.cdf_edits.proofs.Edits.OwnVariable.{freed_mine, mine_freed, own_typed}
-use Rattle.cdf_edits.proofs.Edits.RecordFrame.{field_clear, gdr_field, gdr_place}
-use Rattle.cdf_edits.proofs.Edits.StepEdits.{gdr_in, gdr_typed, gdr_long}
-use Rattle.cdf_edits.proofs.Edits.TakenVariable.{TakesVariable, SaysTaken, tests, without_variable, content_taken, taken_good, splices, vdr_there, back_in, back_out}
-use Rattle.cdf_edits.proofs.Edits.UnlinkedVariable.{leaves, leaving_tests, unlinked_edit, numbered_now, own_free, own_there, types_stay, unlinked_behind}
-use Rattle.cdf_edits.proofs.Edits.LeftChain.{e_second, e_early, some_second, lasts_second, counted_now}
-use Rattle.cdf_edits.proofs.Edits.RowsOneLess.{numbered_still}
-use Rattle.cdf_edits.proofs.Edits.VariableKinds.{kind_chain, with_shapes}
-use Rattle.cdf_edits.proofs.Edits.VariableSplice.{content_now}
-use Rattle.cdf_edits.proofs.Edits.WrittenFields.{write_lies}
+use Rattle.cdf_edits.proofs.Edits.OwnVariable.{freed_mine, mine_freed}
+use Rattle.cdf_edits.proofs.Edits.TakenVariable.{splices, back_in}
+use Rattle.cdf_edits.proofs.Edits.UnlinkedVariable.{own_typed, leaves, leaving_tests, own_there, emptying_marks, emptied_edit, emptied_long, emptied_shape, emptied_sound, emptied_free, leads_nowhere, gdr_emptied, numbered_emptied, emptied_under, emptied_behind}
 use Rattle.std.proofs.lemmas.Int.{ints}
-use Rattle.cdf_edits.proofs.Rules.WithoutLinks.{eof_by_rules}
-use Rattle.cdf_edits.proofs.Edits.FreedAfter.{Frees, freed_edit, shape_now, sound_now, records_are as freed_records, long_now as freed_long, types_stay as freed_types, places_in as freed_places, others_kept, all_freed, gdr_still, freeing_behind}
-use Rattle.cdf_edits.proofs.Edits.FreedBytes.{BytesStay, free_used}
-use Rattle.cdf_edits.proofs.Edits.FreedRecords.{edit_under}
-use Rattle.cdf_edits.proofs.Edits.EmptiedVdr.{emptying_marks, within_freed, emptied_edit, emptied_long, emptied_shape, emptied_sound, emptied_free, rest_kept, bytes_kept, leads_nowhere}
-use Rattle.cdf_edits.proofs.Edits.MarkLemmas.{Avoids-append, Avoids-split}
 
 no_gdr : (kind : Kind) → is_in gdr_type (type_in (variables_chain kind) ∷ index_types) ≡ false
 no_gdr R = refl
@@ -56,35 +42,26 @@ module _ {b now : List ℕ} {kind : Kind} {n : ℕ} (good : Good b) (d : Removes
     records = ap (λ (x : Shape). x.records) (emptied_shape good d.unlinks);
     unused = ap (λ (x : Shape). x.unused) (emptied_shape good d.unlinks);
     free = emptied_free good d.unlinks;
-    typed = λ m i. own_typed sound kind d.before d.own d.after d.unlinks.was m (mine m i);
+    typed = λ m i. own_typed good d.unlinks m (mine m i);
     no_gdr = no_gdr kind;
     given = d.given;
   }
 
-  -- what is written in the VDR lies in what is freed
-  covered : (m t lo hi : ℕ) → Avoids (variable_removing_marks kind s.gdr (vdrs (shapes_of s kind)) (vdrs d.after) s.unused places (length emptied)) t m lo hi
-      → Avoids ((variable_unlinking_marks kind s.gdr (vdrs (shapes_of s kind)) (vdrs d.after) ++ emptying_marks kind d.own.vdr) ++ freeing_marks (type_in (variables_chain kind) ∷ index_types) s.unused places (length emptied)) t m lo hi
-  covered m t lo hi a =
+  pub takes : TakesVariable b now s kind d.before d.own d.after places places (length emptied)
+  takes =
       let unlinking = variable_unlinking_marks kind s.gdr (vdrs (shapes_of s kind)) (vdrs d.after) in
       let freeing = freeing_marks (type_in (variables_chain kind) ∷ index_types) s.unused places (length emptied) in
-      let parts = Avoids-split unlinking freeing t m lo hi a in
-      let long = gdr_long b s sound.has_shape in
-      let inside = (tile_lies b 8 (length b) s.records s.gdr sound.has_shape.tiled (gdr_in b s sound.has_shape)).high in
-      let same = emptied_long good d.unlinks in
-      let own = within_freed index_types s.unused places (length emptied) (type_in (variables_chain kind)) d.own.vdr t m lo hi (mine_freed d.own d.own.vdr (inl refl)) (omega arith) parts.1 in
-      Avoids-append (unlinking ++ emptying_marks kind d.own.vdr) freeing t m lo hi (Avoids-append unlinking (emptying_marks kind d.own.vdr) t m lo hi parts.0 own) parts.1
-
-  pub takes : TakesVariable b now s kind d.before d.own d.after places (length emptied)
-  takes = record {
-    edit = edit_under (freed_edit frees) (variable_removing_marks kind s.gdr (vdrs (shapes_of s kind)) (vdrs d.after) s.unused places (length emptied)) (λ m t lo hi i is a. covered m t lo hi a);
-    at = record { was = d.unlinks.was };
-    mine = mine;
-  }
+      record {
+        edit = edit_under (freed_edit frees) _ (λ m t lo hi i is a. Avoids-append (unlinking ++ emptying_marks kind d.own.vdr) freeing t m lo hi (emptied_under good d.unlinks m t lo hi a) (Avoids-split unlinking freeing t m lo hi a).1);
+        at = record { was = d.unlinks.was };
+        mine = mine;
+        born = λ m i. i;
+      }
 
   -- ---- the shape
 
   pub shape_after : shape now ≡ without_variable sound takes (shape now).unused
-  shape_after = shape_now frees (emptied_shape good d.unlinks)
+  shape_after = freed_shape frees (emptied_shape good d.unlinks)
 
   pub records_are : (shape now).records ≡ s.records
   records_are = freed_records frees
@@ -94,20 +71,17 @@ module _ {b now : List ℕ} {kind : Kind} {n : ℕ} (good : Good b) (d : Removes
 
   -- ---- what the records behind say
 
-  numbered : (m : ℕ) → In m (vdrs d.after) → number now m vdr_num ≡ number d.mid m vdr_num
+  numbered : (m : ℕ) → In m (vdrs d.after) → number now m vdr_num ≡ number emptied m vdr_num
   numbered m i =
       let v = vdr_there sound takes.at m (back_in sound takes.at m i) in
       let t = leaving_tests kind s.gdr [] [] in
       let typed = freed_types frees m v.0 ∙ v.1.0 in
       let later = head_size b emptied m (frees.edit.head m v.0 (λ x. t.no_uir (sym v.1.0 ∙ x)) (λ r. r)) in
-      let size = head_size b d.mid m ((unlinked_edit good d.unlinks).head m v.0 (λ x. t.no_uir (sym v.1.0 ∙ x)) (λ r. r)) in
-      let other : m ≢ d.own.vdr = λ e. back_out sound takes m i (subst (λ (x : ℕ). In x places) (sym e) (mine_freed d.own d.own.vdr (inl refl))) in
       number_kept emptied now m (others_kept frees m v.0 (λ x. t.no_gdr (sym typed ∙ x)) (λ x. t.no_uir (sym typed ∙ x)) (back_out sound takes m i)).same vdr_num (let l = v.1.1 in omega arith)
-      ∙ number_kept d.mid emptied m (rest_kept good d.unlinks m v.0 other).same vdr_num (let l = v.1.1 in omega arith)
 
   pub says : SaysTaken sound takes (shape now).unused
   says = record {
-    numbered = numbered_still d.mid now vdr_num (length d.before) (vdrs d.after) numbered (numbered_now good d.unlinks);
+    numbered = numbered_still emptied now vdr_num (length d.before) (vdrs d.after) numbered (numbered_emptied good d.unlinks);
     variable_chain = chain_after;
     unused_chain = subst (λ (x : Shape). IsChain now x.records uir_type (number now x.gdr gdr_uir_head) x.unused) shape_after (sound_now frees).has_shape.unused_chain;
     freed = all_freed frees;
@@ -129,16 +103,10 @@ module _ {b now : List ℕ} {kind : Kind} {n : ℕ} (good : Good b) (d : Removes
 
   -- what the GDR says but for the head of the unused list is not written any more
   gdr_after : (f : Field) → f.place + f.width ≤ 64 → number now s.gdr f ≡ number d.mid s.gdr f
-  gdr_after f low =
-      let h = sound.has_shape in
-      let is = gdr_typed b s h in
-      let used : type_at b s.gdr ≢ uir_type = λ x. (let e : gdr_type ≡ uir_type = sym is ∙ x in absurd cc) in
-      let size = head_size b d.mid s.gdr ((unlinked_edit good d.unlinks).head s.gdr (gdr_in b s h) used (λ r. r)) in
-      let other : s.gdr ≢ d.own.vdr = λ e. (leaving_tests kind s.gdr [] []).no_gdr (sym (own_there good d.unlinks).1.0 ∙ ap (type_at b) (sym e) ∙ is) in
-      gdr_still frees f low ∙ number_kept d.mid emptied s.gdr (rest_kept good d.unlinks s.gdr (gdr_in b s h) other).same f (let l = gdr_long b s h in omega arith)
+  gdr_after f low = gdr_still frees f low ∙ gdr_emptied good d.unlinks f (omega arith)
 
   pub count_now : number now s.gdr (count_of (variables_chain kind)) ≡ length (vdrs (d.before ++ d.after))
-  count_now = gdr_after (count_of (variables_chain kind)) (count_low kind) ∙ counted_now (leaves good d.unlinks) ∙ sym (length-map (d.before ++ d.after) (λ (v : VariableShape). v.vdr) ∙ length-append d.before d.after)
+  count_now = gdr_after (count_of (variables_chain kind)) (count_low kind) ∙ counted_now (leaves good d.unlinks)
     where
       count_low : (kind : Kind) → (count_of (variables_chain kind)).place + (count_of (variables_chain kind)).width ≤ 64
       count_low R = omega arith
@@ -147,10 +115,9 @@ module _ {b now : List ℕ} {kind : Kind} {n : ℕ} (good : Good b) (d : Removes
   pub good_after : length b ≤ image_limit → Good now
   good_after short =
       let image = good_by_its_shape b good in
-      let first = (sealed_kept b (good_long b s image) (rules_of_good b good)).0 in
       let t = tests sound takes in
-      let end = gdr_field sound takes.edit t.file_clear gdr_eof t.eof_clear (omega arith) ∙ eof_by_rules b s sound first ∙ sym long_now in
-      taken_good sound takes says first image (mine_freed d.own) count_now end (let l = long_now in omega arith)
+      let end = gdr_field sound takes.edit t.file_clear gdr_eof t.eof_clear (omega arith) ∙ end_before b good ∙ sym long_now in
+      taken_good sound takes says (sealed_kept b (good_long b s image) (rules_of_good b good)).0 image (mine_freed d.own) count_now end (let l = long_now in omega arith)
 
   -- rMaxRec is not written by freeing
   pub r_max_mid : number now s.gdr gdr_r_max_rec ≡ number d.mid s.gdr gdr_r_max_rec
@@ -158,11 +125,7 @@ module _ {b now : List ℕ} {kind : Kind} {n : ℕ} (good : Good b) (d : Removes
 
   -- its bytes behind the links, but for the links of the VDR to its index
   pub behind : (m : ℕ) → In m places → BytesStay b now m (links_end (size_at b m)) (emptied_fields kind (type_at b m))
-  behind m i k lt low out =
-      let there = freed_places frees m i in
-      let used = λ (x : type_at b m ≡ uir_type). free_used d.mid places (own_free good d.unlinks) m i (types_stay good d.unlinks m there ∙ x) in
-      let size = head_size b d.mid m ((unlinked_edit good d.unlinks).head m there used (λ r. r)) in
-      (freeing_behind frees m i).each (m + k) (omega arith) (omega arith) ∙ bytes_kept good d.unlinks m k there (subst (λ (n : ℕ). k < n) (sym size) lt) out ∙ (unlinked_behind good d.unlinks m (mine m i)).each (m + k) (omega arith) (omega arith)
+  behind m i k lt low out = (freeing_behind frees m i).each (m + k) (omega arith) (omega arith) ∙ emptied_behind good d.unlinks m (mine m i) k lt low out
 
   -- and these are 0
   pub left_empty : Says now d.own.vdr no_index

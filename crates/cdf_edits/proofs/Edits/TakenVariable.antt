@@ -1,11 +1,12 @@
 -- An image from which one variable went has its shape, its content and its rules.
-use Rattle.std.proofs.Common.{◌≡◌, ◌⊎◌, ℕ, ◌+◌, ◌≤◌, List, [], ◌∷◌, ◌++◌, length, true, eq-eqb, refl, sym, ap, subst, ◌∙◌, arith, inl, inr}
-use Rattle.cdf_edits.proofs.Common.{length-map, flat_map, remove, DataSet, Variable, image_limit, variables_of, with_variables, Kind, R, Z, is_in, IsChain, content, variable_of, number, size_at, type_at, gdr_offset, eof, read_types, variable_records, times, owned_records, first_phases, gdr_uir_head, vdr_num, gdr_type, r_vdr_type, z_vdr_type, uir_type, is_record_type, fixed_size, Hold, AllHold, sealed, VariableShape, Shape, vdrs, Each, HasShape, IsSound, In, Distinct, Good, linkable-in, linkable-type, IsGoodByShape, vdrs_append, In-append_left, In-append_right, content_is, tile_lies, shapes_of, Edit, wholes, Mark, Avoids, Confined, avoided, unmarked, index_types, keeps_file, variable_removing_marks, head_of, count_of, type_in, variables_chain}
+use Rattle.std.proofs.Common.{◌≡◌, ◌⊎◌, ℕ, ◌≤◌, List, [], ◌∷◌, ◌++◌, length, true, eq-eqb, refl, sym, ap, subst, ◌∙◌, arith, inl, inr}
+use Rattle.cdf_edits.proofs.Common.{flat_map, remove, DataSet, Variable, image_limit, variables_of, with_variables, Kind, R, Z, is_in, IsChain, content, variable_of, number, size_at, type_at, gdr_offset, eof, read_types, variable_records, times, owned_records, first_phases, gdr_uir_head, vdr_num, gdr_type, r_vdr_type, z_vdr_type, uir_type, fixed_size, Hold, AllHold, sealed, VariableShape, Shape, vdrs, Each, HasShape, IsSound, In, Distinct, Good, linkable-in, linkable-type, IsGoodByShape, vdrs_append, In-append_left, In-append_right, content_is, tile_lies, shapes_of, Edit, wholes, Mark, Avoids, Confined, avoided, unmarked, index_types, keeps_file, variable_removing_marks, head_of, count_of, type_in, variables_chain}
 use Rattle.cdf_edits.proofs.Commands.ListParts.{map-without}
 use Rattle.cdf_edits.proofs.Edits.MarkLemmas.{avoids-of_type, confined-away, unmarked-away}
-use Rattle.cdf_edits.proofs.Edits.LeftOwners.{Left, owned_left}
-use Rattle.cdf_edits.proofs.Edits.NumbersBehind.{place_in}
-use Rattle.cdf_edits.proofs.Edits.RowsOneLess.{AreNumbered, one_less}
+use Rattle.cdf_edits.proofs.Edits.FreedRecords.{unused_real}
+use Rattle.cdf_edits.proofs.Edits.LeftOwners.{Left, left_of, owned_left}
+use Rattle.cdf_edits.proofs.Edits.NumbersBehind.{fewer_rows, place_in}
+use Rattle.cdf_edits.proofs.Edits.RowsOneLess.{AreNumbered}
 use Rattle.cdf_edits.proofs.Edits.RecordFrame.{VariableLives, file_same, gdr_place, index_records, kept_away, kept_but_link, through}
 use Rattle.cdf_edits.proofs.Edits.StepEdits.{fixed_long}
 use Rattle.cdf_edits.proofs.Edits.VariableFrame.{AreOurs, VariableRemains, ours_parts, remain_from, nums_from, index_typed, variables_in}
@@ -15,7 +16,6 @@ use Rattle.cdf_edits.proofs.Edits.VariableNames.{apart_if}
 use Rattle.cdf_edits.proofs.Edits.VariableNumbered.{KeptButNum, numbered_remains}
 use Rattle.cdf_edits.proofs.Edits.VariableSplice.{VariableSplices, keeps_all_attributes, content_now, sound_if, good_image_if}
 use Rattle.cdf_edits.proofs.Frame.Meaning.{FileSame, Kept, KeptButLink, but_link}
-use Rattle.cdf_edits.proofs.Frame.OwnersApart.{times-append}
 use Rattle.cdf_edits.proofs.Space.TakenFromList.{distinct_apart}
 
 -- a VDR is a record of its variable
@@ -57,9 +57,9 @@ pub counting_by : (kind : Kind) (now ms : List ℕ) → number now (gdr_offset n
 counting_by R now ms count numbers = (eq-eqb _ _ count, numbers)
 counting_by Z now ms count numbers = (eq-eqb _ _ count, numbers)
 
-numbers_by : (kind : Kind) (b now : List ℕ) (front : List ℕ) (own : ℕ) (back : List ℕ) → ((m : ℕ) → In m front → number now m vdr_num ≡ number b m vdr_num) → AreNumbered now vdr_num (length front) back → Hold (vdrs_rows kind b (front ++ own ∷ back)) → Hold (number_part kind now (front ++ back))
-numbers_by R b now front own back same says h = one_less 7 vdr_num b now front own back same says h.1
-numbers_by Z b now front own back same says h = one_less 10 vdr_num b now front own back same says h.1
+numbers_by : (kind : Kind) (b now : List ℕ) (all before : List VariableShape) (own : VariableShape) (after : List VariableShape) → all ≡ before ++ own ∷ after → ((m : ℕ) → In m (vdrs before) → number now m vdr_num ≡ number b m vdr_num) → AreNumbered now vdr_num (length before) (vdrs after) → Hold (vdrs_rows kind b (vdrs all)) → Hold (number_part kind now (vdrs (before ++ after)))
+numbers_by R b now all before own after was same says h = fewer_rows (λ (v : VariableShape). v.vdr) vdr_num 7 b now all before own after was same says h.1
+numbers_by Z b now all before own after was same says h = fewer_rows (λ (v : VariableShape). v.vdr) vdr_num 10 b now all before own after was same says h.1
 
 -- ---- where it stands, and those beside it
 
@@ -102,22 +102,17 @@ module _ {b : List ℕ} {s : Shape} {kind : Kind} {before : List VariableShape} 
 
   -- without it, nobody has its records
   pub left_by : (list : List ℕ) → Left b s (with_shapes s kind s.records list (before ++ after)) (variable_records own)
-  left_by list = record {
-    sound = sound;
-    fewer = λ m. let mine = times-append m (variable_records own) [] in let all = spliced_times s kind s.records list before (own ∷ []) [] after at.was m 0 (times m (flat_map variable_records (own ∷ []))) (omega arith) in no_more _ _ _ _ mine all;
-  }
-    where
-      no_more : (n' o n o' : ℕ) → o' ≡ o + 0 → n' + o' ≡ n + 0 → n' + o ≡ n
-      no_more n' o n o' p q = omega arith
+  left_by list = left_of variable_records sound own (λ m. spliced_times s kind s.records list before (own ∷ []) [] after at.was m 0 (times m (flat_map variable_records (own ∷ []))) (omega arith))
 
 -- ---- an edit that takes one variable away, numbers those behind it, and may free records of it
 
-pub record TakesVariable (b now : List ℕ) (s : Shape) (kind : Kind) (before : List VariableShape) (own : VariableShape) (after : List VariableShape) (places : List ℕ) (limit : ℕ) : Type 0 where
-  pub edit : Edit b now s.records s.records (variable_removing_marks kind s.gdr (vdrs (shapes_of s kind)) (vdrs after) s.unused places limit) places
+pub record TakesVariable (b now : List ℕ) (s : Shape) (kind : Kind) (before : List VariableShape) (own : VariableShape) (after : List VariableShape) (places reborn : List ℕ) (limit : ℕ) : Type 0 where
+  pub edit : Edit b now s.records s.records (variable_removing_marks kind s.gdr (vdrs (shapes_of s kind)) (vdrs after) s.unused places limit) reborn
   pub at : Stands s kind before own after
   pub mine : (m : ℕ) → In m places → In m (variable_records own)
+  pub born : (m : ℕ) → In m reborn → In m places
 
-module _ {b now : List ℕ} {s : Shape} {kind : Kind} {before : List VariableShape} {own : VariableShape} {after : List VariableShape} {places : List ℕ} {limit : ℕ} (sound : IsSound b s) (r : TakesVariable b now s kind before own after places limit) where
+module _ {b now : List ℕ} {s : Shape} {kind : Kind} {before : List VariableShape} {own : VariableShape} {after : List VariableShape} {places reborn : List ℕ} {limit : ℕ} (sound : IsSound b s) (r : TakesVariable b now s kind before own after places reborn limit) where
   abbrev pub marks : List Mark
   marks = variable_removing_marks kind s.gdr (vdrs (shapes_of s kind)) (vdrs after) s.unused places limit
 
@@ -208,14 +203,14 @@ module _ {b now : List ℕ} {s : Shape} {kind : Kind} {before : List VariableSha
     pub numbered : AreNumbered now vdr_num (length before) (vdrs after)
     pub variable_chain : IsChain now s.records type (number now s.gdr (head_of (variables_chain kind))) (vdrs (before ++ after))
     pub unused_chain : IsChain now s.records uir_type (number now s.gdr gdr_uir_head) list
-    pub freed : (m : ℕ) → In m places → type_at now m ≡ uir_type
+    pub freed : (m : ℕ) → In m reborn → type_at now m ≡ uir_type
 
   -- the shape without the variable
   abbrev pub without_variable : List ℕ → Shape
   without_variable list = with_shapes s kind s.records list (before ++ after)
 
   module _ {list : List ℕ} (says : SaysTaken list) where
-    pub splices : VariableSplices b now s kind s.records list marks places before (own ∷ []) [] after
+    pub splices : VariableSplices b now s kind s.records list marks reborn before (own ∷ []) [] after
     splices = record {
       edit = r.edit;
       was = r.at.was;
@@ -225,11 +220,7 @@ module _ {b now : List ℕ} {s : Shape} {kind : Kind} {before : List VariableSha
       before_remain = remain_from sound r.edit file before (ours sound r.at).0 before_live;
       after_remain = after_remain;
       others_live = others_live;
-      typed = λ m i.
-          let t = says.freed m i in
-          let inside = r.edit.sub m (own_stand sound r.at m (r.mine m i)) in
-          let long = (tile_lies now 8 (length now) s.records m r.edit.tiled_now inside).long in
-          (subst (λ (x : ℕ). is_record_type x ≡ true) (sym t) refl, subst (λ (x : ℕ). fixed_size x ≤ size_at now m) (sym t) long);
+      typed = λ m i. unused_real now s.records m r.edit.tiled_now (r.edit.sub m (own_stand sound r.at m (r.mine m (r.born m i)))) (says.freed m i);
       variable_chain = says.variable_chain;
       unused_chain = says.unused_chain;
       own_have = tt;
@@ -249,15 +240,13 @@ module _ {b now : List ℕ} {s : Shape} {kind : Kind} {before : List VariableSha
     counted good count =
         let place : gdr_offset now ≡ s.gdr = gdr_place sound r.edit tests.file_clear in
         let same = nums_from sound r.edit file before (ours sound r.at).0 before_live in
-        let long : length (vdrs before) ≡ length before = length-map before (λ (v : VariableShape). v.vdr) in
-        let numbers = numbers_by kind b now (vdrs before) own.vdr (vdrs after) same (subst (λ (n : ℕ). AreNumbered now vdr_num n (vdrs after)) (sym long) says.numbered) (subst (λ (ms : List ℕ). Hold (vdrs_rows kind b ms)) (vdrs_were sound r.at) (counted_before good kind)) in
-        counting_by kind now (vdrs (before ++ after)) (ap (λ (g : ℕ). number now g (count_of (variables_chain kind))) place ∙ count) (subst (λ (ms : List ℕ). Hold (number_part kind now ms)) (sym (vdrs_append before after)) numbers)
+        counting_by kind now (vdrs (before ++ after)) (ap (λ (g : ℕ). number now g (count_of (variables_chain kind))) place ∙ count) (numbers_by kind b now (shapes_of s kind) before own after r.at.was same says.numbered (counted_before good kind))
 
-    pub taken_good : AllHold (first_phases (sealed b)) → IsGoodByShape b s → ((m : ℕ) → In m (variable_records own) → In m places) → number now s.gdr (count_of (variables_chain kind)) ≡ length (vdrs (before ++ after)) → eof now s.gdr ≡ length now → length now ≤ image_limit → Good now
+    pub taken_good : AllHold (first_phases (sealed b)) → IsGoodByShape b s → ((m : ℕ) → In m (variable_records own) → In m reborn) → number now s.gdr (count_of (variables_chain kind)) ≡ length (vdrs (before ++ after)) → eof now s.gdr ≡ length now → length now ≤ image_limit → Good now
     taken_good first good all count eof_is short = good_image_if sound splices first good (record {
       counted = counted good count;
       apart = apart_if sound splices good (λ x y i j differ. absurd i) (λ x y i beside. absurd i);
       own_ruled = tt;
       read = λ m i. subst (λ (t : ℕ). is_in t read_types ≡ true) (sym (says.freed m i)) refl;
-      owned = owned_left (left_by sound r.at list) good.owned_once r.edit r.mine all says.freed;
+      owned = owned_left (left_by sound r.at list) good.owned_once r.edit (λ m i. r.mine m (r.born m i)) all says.freed;
     }) eof_is short

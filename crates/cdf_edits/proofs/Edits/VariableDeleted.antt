@@ -1,20 +1,12 @@
 -- What the deletion of a variable leaves of the attributes, and of the records that it frees.
 use Rattle.std.proofs.Common.{◌≡◌, ◌⊎◌, ℕ, zero, suc, ◌+◌, ◌-◌, ◌<◌, ◌≤◌, List, [], ◌∷◌, ◌++◌, length, map, Bool, true, Some, refl, sym, ap, subst, ◌∙◌, arith, inl, inr}
-use Rattle.cdf_edits.proofs.Common.{le-leb, same_Some, flat_map, slice_get, if◌then◌else◌, EntryKind, Kind, R, Z, entries_of, Attribute, Found, Same, byte, tile_lies, type_kept, attribute_of, number, integer4, size_at, type_at, attribute_records, variable_records, aedr_num, adr_type, fixed_size, uir_type, AttributeShape, VariableShape, Shape, Each, HasEntries, shape, vdrs, In, AreTiles, Good, integer_kept, number_kept, linkable-in, linkable-type, good_is_sound, In-append, In-append_left, In-append_right, FreedStay, OutsideFields, shapes_of, GreatestIs, chain_of, entry_type, greatest_number, kind_of_entries, max_field, AttributeFollows, emptied_fields, entries_for, freed_with_variable, DropsEntries, AttributeDropped, avoided, ended, RemovesVariable, variable_removing_marks, AttributeStays, gave, links_end}
+use Rattle.cdf_edits.proofs.Common.{le-leb, same_Some, flat_map, slice_get, if◌then◌else◌, EntryKind, Kind, R, Z, entries_of, Attribute, Found, Same, byte, tile_lies, type_kept, attribute_of, number, integer4, size_at, type_at, attribute_records, variable_records, aedr_num, adr_type, fixed_size, uir_type, AttributeShape, VariableShape, Shape, Each, HasEntries, shape, vdrs, In, AreTiles, Good, integer_kept, number_kept, linkable-in, linkable-type, good_is_sound, In-append, In-append_left, In-append_right, FreedStay, OutsideFields, shapes_of, GreatestIs, chain_of, entry_type, greatest_number, kind_of_entries, max_field, AttributeFollows, emptied_fields, entries_for, freed_with_variable, DropsEntries, AttributeDropped, avoided, ended, RemovesVariable, variable_removing_marks, AttributeStays, gave, links_end, NumbersFall}
+use Rattle.cdf_edits.proofs.Edits.Common.{chain_has, chain_in, BytesStay, freed_stay_but, sizes_by_tiles, avoided-avoids, ended-avoids, fixed_long, attributes_kept, attributes_stay, Kept, flat-append}
 use Rattle.cdf_model.specs.declared.kinds.EntryKind.TheVariants as entries
-use Rattle.cdf_edits.specs.Commands.Variables.{NumbersFall}
-use Rattle.cdf_edits.proofs.Edits.ChainKinds.{chain_has, chain_in}
-use Rattle.cdf_edits.proofs.Edits.FreedBytes.{BytesStay, freed_stay_but}
-use Rattle.cdf_edits.proofs.Edits.FreedRecords.{sizes_by_tiles}
-use Rattle.cdf_edits.proofs.Edits.MarkLemmas.{avoided-avoids, ended-avoids}
 use Rattle.cdf_edits.proofs.Edits.OwnVariable.{freed_mine}
 use Rattle.cdf_edits.proofs.Edits.RemovedVariable.{sound, emptied, takes, says, behind, shape_after}
-use Rattle.cdf_edits.proofs.Edits.StepEdits.{fixed_long}
 use Rattle.cdf_edits.proofs.Edits.TakenVariable.{splices}
 use Rattle.cdf_edits.proofs.Edits.VariableDeletion.{long_deleted, own_in, records_deleted, sizes_mid}
-use Rattle.cdf_edits.proofs.Edits.VariableSplice.{attributes_kept, attributes_stay}
-use Rattle.cdf_edits.proofs.Frame.Meaning.{Kept}
-use Rattle.cdf_edits.proofs.Frame.OwnersApart.{flat-append}
 
 -- ---- an attribute of a list
 

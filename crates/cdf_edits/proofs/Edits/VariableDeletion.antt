@@ -1,13 +1,10 @@
 -- The deletion of a variable follows: its entries went, and then the variable.
 use Rattle.std.proofs.Common.{◌≡◌, ℕ, ◌≤◌, List, ◌∷◌, ◌++◌, length, map, true, Some, refl, sym, ap, subst, ◌∙◌, arith}
 use Rattle.cdf_edits.proofs.Common.{map-append, remove, Kind, R, Z, Go, Attribute, DataSet, Variable, image_limit, Found, variable_named, variables_of, with_variables, attribute_without, del_var_step, content, size_at, uir_type, Shape, HasShape, shape, vdrs, In, AreTiles, Good, good_is_sound, RMaxRecOf, entries_for, freed_with_variable, DropsEntries, index_types, unmarked, RemovesVariable, variable_unlinking_marks, shapes_of, type_in, variables_chain, Act, Gave, gave, ActsFollow}
+use Rattle.cdf_edits.proofs.Edits.Common.{acts_still_by, all_gave, gave-same, may_free, freed_places, sizes_before, sizes_by_tiles}
 use Rattle.cdf_model.specs.declared.answer.Reply.TheVariants as replies
 use Rattle.cdf_model.specs.VariableSteps.{without_variable as without_found}
-use Rattle.cdf_edits.proofs.Edits.ActsStill.{acts_still_by}
-use Rattle.cdf_edits.proofs.Edits.ActsThen.{all_gave, gave-same}
-use Rattle.cdf_edits.proofs.Edits.FreedAfter.{may_free, places_in, sizes_before}
-use Rattle.cdf_edits.proofs.Edits.FreedRecords.{sizes_by_tiles}
-use Rattle.cdf_edits.proofs.Edits.EmptiedVdr.{emptying_marks, emptied_edit, emptied_long, emptied_shape, emptied_sound}
+use Rattle.cdf_edits.proofs.Edits.UnlinkedVariable.{emptying_marks, emptied_edit, emptied_long, emptied_shape, emptied_sound}
 use Rattle.cdf_edits.proofs.Edits.RemovedVariable.{emptied, frees, content_after, good_after, long_now, records_are, r_max_after}
 
 -- ---- the step
@@ -56,7 +53,7 @@ module _ {b mid now : List ℕ} {found : Found} (good : Good b) (drops : DropsEn
   sizes_mid = sizes_by_tiles b mid 8 8 (length b) (shape b).records refl h.tiled (subst (λ (k : ℕ). AreTiles mid 8 k (shape b).records) drops.long (subst (AreTiles mid 8 (length mid)) drops.records_are (good_is_sound mid drops.good).has_shape.tiled))
 
   pub own_in : (m : ℕ) → In m (freed_with_variable d.own) → In m (shape b).records
-  own_in m i = subst (In m) drops.records_are (places_in (frees drops.good d) m i)
+  own_in m i = subst (In m) drops.records_are (freed_places (frees drops.good d) m i)
 
   emptied_acts : ActsFollow b (emptied drops.good d) (gave b (entries_for b (shape b).attributes found))
   emptied_acts =

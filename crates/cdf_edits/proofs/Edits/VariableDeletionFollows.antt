@@ -1,16 +1,13 @@
 -- The two calls of a deletion together follow the command.
 use Rattle.std.proofs.Common.{◌≡◌, ℕ, ◌≤◌, List, ◌++◌, length, Option, Some, None, refl, sym, ap, subst, ◌∙◌}
-use Rattle.cdf_edits.proofs.Common.{same_Some, slice_get, Done, Refused, Refuse, DataSet, image_limit, Found, variable_named, ByStep, del_var_step, content, owned, VariableShape, shape, Good, Answers, AllKeep, Allowances, shapes_of, stays_all, Says, del_var_changes, entries_for, freed_with_variable, no_index, DropsEntries, RemovesVariable, gave}
+use Rattle.cdf_edits.proofs.Common.{same_Some, slice_get, Done, Refused, Refuse, DataSet, image_limit, Found, variable_named, ByStep, del_var_step, content, owned, VariableShape, shape, Good, Answers, AllKeep, Allowances, shapes_of, stays_all, Says, del_var_changes, entries_for, freed_with_variable, no_index, DropsEntries, RemovesVariable, gave, DeletesNamed, DeletesVariable}
+use Rattle.cdf_edits.proofs.Edits.Common.{gone_by_giving, refused, all_kept, same_middle}
 use Rattle.cdf_model.specs.declared.answer.Reason.TheVariants as reasons
 use Rattle.cdf_model.specs.declared.answer.Reply.TheVariants as replies
 use Rattle.cdf_model.specs.declared.command.Command.TheVariants as commands
-use Rattle.cdf_edits.specs.Commands.Variables.{DeletesNamed, DeletesVariable}
-use Rattle.cdf_edits.proofs.Commands.Answered.{gone_by_giving, refused}
-use Rattle.cdf_edits.proofs.Commands.ListParts.{got-middle}
 use Rattle.cdf_edits.proofs.Edits.VariableDeleted.{attribute_follows, freed_deleted}
 use Rattle.cdf_edits.proofs.Edits.VariableDeletion.{acts_deleted, good_deleted, goes_deleted, long_deleted, r_max_deleted}
 use Rattle.cdf_edits.proofs.Edits.RemovedVariable.{takes, records_are, left_empty}
-use Rattle.cdf_edits.proofs.Edits.VariableKeeps.{all_kept}
 
 module _ {b mid now : List ℕ} {found : Found} (good : Good b) (drops : DropsEntries b found mid) (d : RemovesVariable mid now found.kind found.number) (name : List ℕ) (named : variable_named (content b) name ≡ Some found) where
   deletes : (v : VariableShape) → slice_get (shapes_of (shape b) found.kind) found.number ≡ Some v → DeletesVariable b now found v (gave b (entries_for b (shape b).attributes found ++ freed_with_variable d.own))
@@ -23,9 +20,7 @@ module _ {b mid now : List ℕ} {found : Found} (good : Good b) (drops : DropsEn
   }
     where
       own_is : (v : VariableShape) → slice_get (shapes_of (shape b) found.kind) found.number ≡ Some v → d.own ≡ v
-      own_is v at =
-          let there : slice_get (shapes_of (shape b) found.kind) found.number ≡ Some d.own = (λ i. slice_get (sym (drops.variables_are found.kind) i) (sym d.count i)) ∙ ap (λ (vs : List VariableShape). slice_get vs (length d.before)) d.unlinks.was ∙ got-middle d.before d.own d.after in
-          same_Some d.own v (sym there ∙ at)
+      own_is v at = same_middle (shapes_of (shape b) found.kind) d.before d.own d.after (sym (drops.variables_are found.kind) ∙ d.unlinks.was) found.number d.count at
 
   does : DeletesNamed b now name (gave b (entries_for b (shape b).attributes found ++ freed_with_variable d.own))
   does other v is at =

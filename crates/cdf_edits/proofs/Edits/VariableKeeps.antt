@@ -144,7 +144,7 @@ records_at [] k a e m i = absurd cc
 records_at (x ∷ xs) zero a e m i = In-append_left m (attribute_records x) (flat_map attribute_records xs) (subst (λ (y : AttributeShape). In m (attribute_records y)) (sym (same_Some x a e)) i)
 records_at (x ∷ xs) (suc k) a e m i = In-append_right m (attribute_records x) (flat_map attribute_records xs) (records_at xs k a e m i)
 
-module _ {b mid now : List ℕ} {found : Found} (good : Good b) (drops : DropsEntries b found mid) (d : RemovesVariable mid now found.kind found.number) {limit : ℕ} (takes : TakesVariable mid now (shape mid) found.kind d.before d.own d.after (freed_with_variable d.own) limit) (same : (shape now).records ≡ (shape mid).records) where
+module _ {b mid now : List ℕ} {found : Found} (good : Good b) (drops : DropsEntries b found mid) (d : RemovesVariable mid now found.kind found.number) {limit : ℕ} (takes : TakesVariable mid now (shape mid) found.kind d.before d.own d.after (freed_with_variable d.own) (freed_with_variable d.own) limit) (same : (shape now).records ≡ (shape mid).records) where
   abbrev may : Allowances
   may = del_var_changes b (content b) (shape b) found
 

@@ -1,6 +1,6 @@
 -- Owners share no record, so a change within the records of one leaves those of every other.
 use Rattle.std.proofs.Common.{◌≡◌, ℕ, suc, ◌+◌, ◌*◌, ◌≤◌, List, [], ◌∷◌, ◌++◌, map, Bool, true, false, eqb, eq-eqb, refl, sym, ap, subst, ◌∙◌, append_assoc, arith, inl, inr}
-use Rattle.cdf_edits.proofs.Common.{flat_map, w32, cast_signed, cdr_type, gdr_type, adr_type, agr_edr_type, az_edr_type, r_vdr_type, z_vdr_type, cpr_type, vxr_type, uir_type, In, is_linkable, is_a, AttributeShape, VariableShape, Shape, vdrs, variables, Each, HasEntries, HasVariable, HasShape, attribute_records, variable_records, unused_records, times, owned_records, AttributeFits, VariableFits, IsSound, ChangedWithin, FileStays, Leaves, LeavesFinding, either, In-append, is_a-in, linkable-in, Each-split, Each-append, vdrs_append, owned_is, filter-in, counted, number, type_at, r_num_dims, words, gdr_offset, encoding, r_sizes, size_at, Leaf, nodes_of, leaves_of, nodes_stand, word_kept, words_kept, size_kept, integer_kept, gdr_r_num_dims, Same, Misses}
+use Rattle.cdf_edits.proofs.Common.{eqb-true, flat_map, w32, cast_signed, cdr_type, gdr_type, adr_type, agr_edr_type, az_edr_type, r_vdr_type, z_vdr_type, cpr_type, vxr_type, uir_type, In, is_linkable, is_a, AttributeShape, VariableShape, Shape, vdrs, variables, Each, HasEntries, HasVariable, HasShape, attribute_records, variable_records, unused_records, times, owned_records, AttributeFits, VariableFits, IsSound, ChangedWithin, FileStays, Leaves, LeavesFinding, either, In-append, is_a-in, linkable-in, Each-split, Each-append, vdrs_append, owned_is, filter-in, counted, number, type_at, r_num_dims, words, gdr_offset, encoding, r_sizes, size_at, Leaf, nodes_of, leaves_of, nodes_stand, word_kept, words_kept, size_kept, integer_kept, gdr_r_num_dims, Same, Misses}
 use Rattle.cdf_edits.proofs.Frame.Meaning.{Kept, FileSame}
 use Rattle.cdf_edits.proofs.Frame.OwnerAlone.{stays, tiling_stays, attributes_stay, variables_stay, file_same, chains_stay, file_stays, Each-in, blocks_stand, part, cdr_long, gdr_long, chains_by_links, file_same_by}
 
@@ -29,6 +29,10 @@ times-in m (x ∷ xs) i = elim (either (eqb m x)) [
     clash : (p : Bool) → p ≡ true → p ≡ false → ⊥
     clash true a e = cc
     clash false a e = cc
+
+pub in-times : (m : ℕ) (xs : List ℕ) → 1 ≤ times m xs → In m xs
+in-times m [] h = absurd (omega arith)
+in-times m (x ∷ xs) h = elim (either (eqb m x)) [ inl t ↦ inl (eqb-true m x t) | inr t ↦ inr (in-times m xs (rw t at h)) ]
 
 pub flat-append : {A : Type 0} (f : A → List ℕ) (xs ys : List A) → flat_map f (xs ++ ys) ≡ flat_map f xs ++ flat_map f ys
 flat-append f [] ys = refl

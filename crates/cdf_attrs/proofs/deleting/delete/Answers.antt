@@ -1,6 +1,5 @@
 use Rattle.std.proofs.Common.{◌∙◌, map, ap}
-use Rattle.cdf_attrs.proofs.Common.{on_ok_weaker, write_of, own, good_is_sound}
-use Rattle.cdf_edits.proofs.Edits.DeletedAttribute.{attributes_listed, lie_after, sound_after, free_after, deletes_by}
+use Rattle.cdf_attrs.proofs.Common.{on_ok_weaker, write_of, own, good_is_sound, attributes_listed, lie_after, unlinked_by}
 use Rattle.cdf_attrs.proofs.deleting.delete.Goals as goal
 
 pub read_records-requires-clause-adr : goal.read_records-requires-clause-adr
@@ -20,17 +19,13 @@ set_numbers-requires g c =
     lie_after _ c.requires.good c.args.places.now c.requires.places c.args.number c.requires.within c.requires.short (c.in_ok-numbers.ensures.area.image ∙ c.in_ok-records.ensures.area.image) c.in_ok-take_out.ensures.taken
     c.in_ok-records.ensures.area.image (ap (map write_of) c.deref.ensures.value ∙ c.in_ok-numbers.ensures.numbers)
 
-pub free_records-requires-clause-sound : goal.free_records-requires-clause-sound
-free_records-requires-clause-sound g c =
-    sound_after _ c.requires.good c.args.places.now c.requires.places c.args.number c.requires.within c.requires.short (c.in_ok-numbers.ensures.area.image ∙ c.in_ok-records.ensures.area.image) c.in_ok-take_out.ensures.taken
-    c.in_ok-records.ensures.area.image (ap (map write_of) c.deref.ensures.value ∙ c.in_ok-numbers.ensures.numbers) c.in_ok-set_numbers.ensures.written (c.deref-2.ensures.value ∙ c.in_ok-records.ensures.records)
-
-pub free_records-requires-clause-free : goal.free_records-requires-clause-free
-free_records-requires-clause-free g c =
-    free_after _ c.requires.good c.args.places.now c.requires.places c.args.number c.requires.within c.requires.short (c.in_ok-numbers.ensures.area.image ∙ c.in_ok-records.ensures.area.image) c.in_ok-take_out.ensures.taken
-    c.in_ok-records.ensures.area.image (ap (map write_of) c.deref.ensures.value ∙ c.in_ok-numbers.ensures.numbers) c.in_ok-set_numbers.ensures.written (c.deref-2.ensures.value ∙ c.in_ok-records.ensures.records)
+pub free_records-requires : goal.free_records-requires
+free_records-requires g c =
+    let u = unlinked_by _ c.requires.good c.args.places.now c.requires.places c.args.number c.requires.within c.requires.short (c.in_ok-numbers.ensures.area.image ∙ c.in_ok-records.ensures.area.image) c.in_ok-take_out.ensures.taken
+    c.in_ok-records.ensures.area.image (ap (map write_of) c.deref.ensures.value ∙ c.in_ok-numbers.ensures.numbers) c.in_ok-set_numbers.ensures.written (c.deref-2.ensures.value ∙ c.in_ok-records.ensures.records) in
+    record { sound = u.sound; free = u.free }
 
 pub returns-clause-deleted : goal.returns-clause-deleted
 returns-clause-deleted g c =
-    on_ok_weaker _ (λ w. deletes_by _ c.requires.good c.args.places.now c.requires.places c.args.number c.requires.within c.requires.short (c.in_ok-numbers.ensures.area.image ∙ c.in_ok-records.ensures.area.image) c.in_ok-take_out.ensures.taken
-    c.in_ok-records.ensures.area.image (ap (map write_of) c.deref.ensures.value ∙ c.in_ok-numbers.ensures.numbers) c.in_ok-set_numbers.ensures.written (c.deref-2.ensures.value ∙ c.in_ok-records.ensures.records) _ w) c.free_records.ensures.given
+    on_ok_weaker _ ((unlinked_by _ c.requires.good c.args.places.now c.requires.places c.args.number c.requires.within c.requires.short (c.in_ok-numbers.ensures.area.image ∙ c.in_ok-records.ensures.area.image) c.in_ok-take_out.ensures.taken
+    c.in_ok-records.ensures.area.image (ap (map write_of) c.deref.ensures.value ∙ c.in_ok-numbers.ensures.numbers) c.in_ok-set_numbers.ensures.written (c.deref-2.ensures.value ∙ c.in_ok-records.ensures.records)).deletes _) c.free_records.ensures.given

@@ -4,6 +4,4 @@ use Rattle.cdf_attrs.specs.Numbering.{entry_numbers}
 use Rattle.cdf_attrs.proofs.deleting.push_numbers.Given as goal
 
 abbrev pub invariant-loop-entry : goal.invariant-loop-entry
-invariant-loop-entry l = record {
-  pushed : map write_of l.numbers.items ++ entry_numbers (drop l.entry-index l.entries) l.number ≡ map write_of l.fn.numbers.items ++ write l.adr adr_num l.number ∷ entry_numbers l.entries l.number;
-}
+invariant-loop-entry l = record { pushed : map write_of l.numbers.items ++ entry_numbers (drop l.entry-index l.entries) l.number ≡ map write_of l.fn.numbers.items ++ write l.adr adr_num l.number ∷ entry_numbers l.entries l.number }

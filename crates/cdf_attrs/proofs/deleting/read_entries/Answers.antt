@@ -5,12 +5,10 @@ use Rattle.cdf_attrs.proofs.deleting.read_entries.Goals as goal
 
 pub read_chain-requires : goal.read_chain-requires
 read_chain-requires g c =
-    let b = g.A.Area.image c.args.area.now in
-    let at = of_attribute b c.args.adr c.requires.adr G in
-    record { sound = good_is_sound b c.requires.good; holder = holder_stands b c.requires.good (entries_chain G c.args.adr) at; chain = chain_there b c.requires.good (entries_chain G c.args.adr) at; counted = counted b c.requires.good (entries_chain G c.args.adr) at }
+    let at = of_attribute _ c.args.adr c.requires.adr G in
+    record { sound = good_is_sound _ c.requires.good; holder = holder_stands _ c.requires.good (entries_chain G c.args.adr) at; chain = chain_there _ c.requires.good (entries_chain G c.args.adr) at; counted = counted _ c.requires.good (entries_chain G c.args.adr) at }
 
 pub read_chain-requires-2 : goal.read_chain-requires-2
 read_chain-requires-2 g c =
-    let b = g.A.Area.image c.args.area.now in
-    let at = of_attribute b c.args.adr c.requires.adr Z in
-    rw c.in_ok-entries.ensures.area.image (record { sound = good_is_sound b c.requires.good; holder = holder_stands b c.requires.good (entries_chain Z c.args.adr) at; chain = chain_there b c.requires.good (entries_chain Z c.args.adr) at; counted = counted b c.requires.good (entries_chain Z c.args.adr) at })
+    let at = of_attribute _ c.args.adr c.requires.adr Z in
+    rw c.in_ok-entries.ensures.area.image (record { sound = good_is_sound _ c.requires.good; holder = holder_stands _ c.requires.good (entries_chain Z c.args.adr) at; chain = chain_there _ c.requires.good (entries_chain Z c.args.adr) at; counted = counted _ c.requires.good (entries_chain Z c.args.adr) at })

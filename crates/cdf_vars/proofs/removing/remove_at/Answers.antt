@@ -1,6 +1,6 @@
 use Rattle.std.proofs.Common.{◌∙◌, ◌+◌, subst, arith}
 use Rattle.cdf_vars.proofs.Common.{remove, got_in, this, good_is_sound, shape, In, on_ok_weaker}
-use Rattle.cdf_edits.proofs.Edits.RemovalCalls.{inside, few, variables_listed, lie_after, cdr_second, field_second, lies_mid, sound_left, free_left, removes_by}
+use Rattle.cdf_edits.proofs.Edits.RemovalCalls.{inside, few, variables_listed, lie_after, cdr_second, field_second, lies_mid, emptied_by}
 use Rattle.cdf_vars.proofs.RemovalAnswers.{handed_on, to_the_end, numbers_written, few_behind, own_are, vdr_among, in_dropped}
 use Rattle.cdf_vars.proofs.removing.remove_at.Goals as goal
 
@@ -28,31 +28,24 @@ set_numbers-requires-clause-lie g c = λ m i. lie_after _ c.requires.good c.args
 pub set_numbers-requires-clause-few : goal.set_numbers-requires-clause-few
 set_numbers-requires-clause-few g c = few_behind c.args.places.now c.args.number c.requires.within (few _ c.requires.good c.args.kind c.args.places.now c.requires.places c.requires.short)
 
-pub set_greatest-requires-clause-cdr : goal.set_greatest-requires-clause-cdr
-set_greatest-requires-clause-cdr g c = cdr_second _ c.requires.good c.args.kind c.args.places.now c.requires.places c.args.number c.requires.within c.requires.short (c.in_ok-greatest.ensures.area.image ∙ c.in_ok-records.ensures.area.image) c.chain_of.ensures c.in_ok-take_out.ensures.taken (numbers_written _ c.args.places.now c.args.number c.in_ok-set_numbers.ensures.written)
-
-pub set_greatest-requires-clause-field : goal.set_greatest-requires-clause-field
-set_greatest-requires-clause-field g c = field_second _ c.requires.good c.args.kind c.args.places.now c.requires.places c.args.number c.requires.within c.requires.short (c.in_ok-greatest.ensures.area.image ∙ c.in_ok-records.ensures.area.image) c.chain_of.ensures c.in_ok-take_out.ensures.taken (numbers_written _ c.args.places.now c.args.number c.in_ok-set_numbers.ensures.written)
-
-pub unlink_index-requires : goal.unlink_index-requires
-unlink_index-requires g c = record {
-  lies = lies_mid _ c.requires.good c.args.kind c.args.places.now c.requires.places c.args.number c.requires.within c.requires.short (c.in_ok-greatest.ensures.area.image ∙ c.in_ok-records.ensures.area.image) c.chain_of.ensures c.in_ok-take_out.ensures.taken (numbers_written _ c.args.places.now c.args.number c.in_ok-set_numbers.ensures.written)
-      (handed_on (g.A.Area.image c.args.area.now) (remove c.args.places.now c.args.number) c.args.kind c.in_ok-greatest.greatest c.in_ok-records.ensures.area.image c.in_ok-greatest.ensures.greatest) c.in_ok-set_greatest.ensures.written;
+pub set_greatest-requires : goal.set_greatest-requires
+set_greatest-requires g c = record {
+  cdr = cdr_second _ c.requires.good c.args.kind c.args.places.now c.requires.places c.args.number c.requires.within c.requires.short (c.in_ok-greatest.ensures.area.image ∙ c.in_ok-records.ensures.area.image) c.chain_of.ensures c.in_ok-take_out.ensures.taken (numbers_written _ c.args.places.now c.args.number c.in_ok-set_numbers.ensures.written);
+  field = field_second _ c.requires.good c.args.kind c.args.places.now c.requires.places c.args.number c.requires.within c.requires.short (c.in_ok-greatest.ensures.area.image ∙ c.in_ok-records.ensures.area.image) c.chain_of.ensures c.in_ok-take_out.ensures.taken (numbers_written _ c.args.places.now c.args.number c.in_ok-set_numbers.ensures.written);
 }
 
-pub free_records-requires-clause-sound : goal.free_records-requires-clause-sound
-free_records-requires-clause-sound g c =
-    sound_left _ c.requires.good c.args.kind c.args.places.now c.requires.places c.args.number c.requires.within c.requires.short (c.in_ok-greatest.ensures.area.image ∙ c.in_ok-records.ensures.area.image) c.chain_of.ensures c.in_ok-take_out.ensures.taken (numbers_written _ c.args.places.now c.args.number c.in_ok-set_numbers.ensures.written)
-    (handed_on (g.A.Area.image c.args.area.now) (remove c.args.places.now c.args.number) c.args.kind c.in_ok-greatest.greatest c.in_ok-records.ensures.area.image c.in_ok-greatest.ensures.greatest) c.in_ok-set_greatest.ensures.written c.in_ok-unlink_index.ensures.emptied
+pub unlink_index-requires : goal.unlink_index-requires
+unlink_index-requires g c = record { lies = lies_mid _ c.requires.good c.args.kind c.args.places.now c.requires.places c.args.number c.requires.within c.requires.short (c.in_ok-greatest.ensures.area.image ∙ c.in_ok-records.ensures.area.image) c.chain_of.ensures c.in_ok-take_out.ensures.taken (numbers_written _ c.args.places.now c.args.number c.in_ok-set_numbers.ensures.written) (handed_on (g.A.Area.image c.args.area.now) (remove c.args.places.now c.args.number) c.args.kind c.in_ok-greatest.greatest c.in_ok-records.ensures.area.image c.in_ok-greatest.ensures.greatest) c.in_ok-set_greatest.ensures.written }
 
-pub free_records-requires-clause-free : goal.free_records-requires-clause-free
-free_records-requires-clause-free g c =
-    free_left _ c.requires.good c.args.kind c.args.places.now c.requires.places c.args.number c.requires.within c.requires.short (c.in_ok-greatest.ensures.area.image ∙ c.in_ok-records.ensures.area.image) c.chain_of.ensures c.in_ok-take_out.ensures.taken (numbers_written _ c.args.places.now c.args.number c.in_ok-set_numbers.ensures.written)
+pub free_records-requires : goal.free_records-requires
+free_records-requires g c =
+    let e = emptied_by _ c.requires.good c.args.kind c.args.places.now c.requires.places c.args.number c.requires.within c.requires.short (c.in_ok-greatest.ensures.area.image ∙ c.in_ok-records.ensures.area.image) c.chain_of.ensures c.in_ok-take_out.ensures.taken (numbers_written _ c.args.places.now c.args.number c.in_ok-set_numbers.ensures.written)
     (handed_on (g.A.Area.image c.args.area.now) (remove c.args.places.now c.args.number) c.args.kind c.in_ok-greatest.greatest c.in_ok-records.ensures.area.image c.in_ok-greatest.ensures.greatest) c.in_ok-set_greatest.ensures.written c.in_ok-unlink_index.ensures.emptied
-    (own_are _ c.requires.good c.args.kind c.args.places.now c.requires.places c.args.number c.requires.within (λ before v after is at. c.deref.ensures.value ∙ c.in_ok-records.ensures.records before v after is at))
+    (own_are _ c.requires.good c.args.kind c.args.places.now c.requires.places c.args.number c.requires.within (λ before v after is at. c.deref.ensures.value ∙ c.in_ok-records.ensures.records before v after is at)) in
+    record { sound = e.sound; free = e.free }
 
 pub returns-clause-removed : goal.returns-clause-removed
-returns-clause-removed g c = on_ok_weaker c.free_records.result (λ given.
-    removes_by _ c.requires.good c.args.kind c.args.places.now c.requires.places c.args.number c.requires.within c.requires.short (c.in_ok-greatest.ensures.area.image ∙ c.in_ok-records.ensures.area.image) c.chain_of.ensures c.in_ok-take_out.ensures.taken (numbers_written _ c.args.places.now c.args.number c.in_ok-set_numbers.ensures.written)
+returns-clause-removed g c = on_ok_weaker c.free_records.result ((
+    emptied_by _ c.requires.good c.args.kind c.args.places.now c.requires.places c.args.number c.requires.within c.requires.short (c.in_ok-greatest.ensures.area.image ∙ c.in_ok-records.ensures.area.image) c.chain_of.ensures c.in_ok-take_out.ensures.taken (numbers_written _ c.args.places.now c.args.number c.in_ok-set_numbers.ensures.written)
     (handed_on (g.A.Area.image c.args.area.now) (remove c.args.places.now c.args.number) c.args.kind c.in_ok-greatest.greatest c.in_ok-records.ensures.area.image c.in_ok-greatest.ensures.greatest) c.in_ok-set_greatest.ensures.written c.in_ok-unlink_index.ensures.emptied
-    (own_are _ c.requires.good c.args.kind c.args.places.now c.requires.places c.args.number c.requires.within (λ before v after is at. c.deref.ensures.value ∙ c.in_ok-records.ensures.records before v after is at)) _ given) c.free_records.ensures.given
+    (own_are _ c.requires.good c.args.kind c.args.places.now c.requires.places c.args.number c.requires.within (λ before v after is at. c.deref.ensures.value ∙ c.in_ok-records.ensures.records before v after is at))).removes _) c.free_records.ensures.given
