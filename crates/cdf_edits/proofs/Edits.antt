@@ -31,7 +31,6 @@ pub mod FreedRecord
 pub mod FreedRecords
 pub mod FreedEntry
 pub mod FreedVdr
-pub mod PadMoved
 pub mod InRecords
 pub mod MadeRecord
 pub mod JoinedRecord

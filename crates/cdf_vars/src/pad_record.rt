@@ -66,6 +66,7 @@ fn padded_bytes(alloc: Global, old: &[u8], flags: u32, value: &[u8]) -> Result<V
 
 /// Makes a descriptor with these bytes behind its size in place of one of a kind, which stands behind another one, or is the first
 /// where none is given; and frees the old one after that. Gives the new place. After an error a part of this may have been done.
+#[tactic(auto, using(cdf_area::proofs::Calls::edit_done, cdf_area::proofs::Calls::edit_failed, cdf_area::proofs::Calls::edit_more, cdf_area::proofs::Calls::edit_once, cdf_area::proofs::Calls::edits_by_read))]
 fn replace_vdr<A: Area>(
     area: &mut A,
     kind: Kind,
@@ -91,6 +92,7 @@ fn replace_vdr<A: Area>(
 
 /// Makes a descriptor with a pad value in place of the one of a number among those of a kind, which has no room for it.
 /// After an error a part of this may have been done in the area.
+#[tactic(auto, using(cdf_area::proofs::Calls::edit_done, cdf_area::proofs::Calls::edit_failed, cdf_area::proofs::Calls::edit_more, cdf_area::proofs::Calls::edit_without_memory, cdf_area::proofs::Calls::edits_by_read, cdf_area::proofs::Calls::keeps_by_read, cdf_area::proofs::Calls::read_once))]
 pub fn move_vdr<A: Area>(
     alloc: Global,
     area: &mut A,

@@ -13,9 +13,9 @@ pub use Rattle.cdf_edits.proofs.Edits.Composing.{changed_edit, edit_then, head_s
 pub use Rattle.cdf_edits.proofs.Edits.EditActs.{acts_none, acts_took}
 pub use Rattle.cdf_edits.proofs.Edits.EntryFields.{of_shape}
 pub use Rattle.cdf_edits.proofs.Edits.FirstRecords.{read_now}
-pub use Rattle.cdf_edits.proofs.Edits.FreedRecord.{IsPlain}
+pub use Rattle.cdf_edits.proofs.Edits.FreedRecord.{FreesRecord, IsPlain, as_long_now, freed_acts, freed_bytes, freed_each, freed_edit, freed_keeps_unused, freed_list, freed_real, freed_type, gdr_same, other_chain, other_links, records_now}
 pub use Rattle.cdf_edits.proofs.Edits.FreedRecords.{sizes_by_tiles}
-pub use Rattle.cdf_edits.proofs.Edits.MadeRecord.{end_now, fresh, list_chain, made_edit, made_keeps_unused, made_part, made_size, made_type, unowned}
+pub use Rattle.cdf_edits.proofs.Edits.MadeRecord.{end_now, fresh, list_chain, made_edit, made_keeps_unused, made_part, made_size, made_type, listed_before, listed_marks, loose_away, place_in, unowned}
 pub use Rattle.cdf_edits.proofs.Edits.MarkLemmas.{Avoids-append, Away-append, Within-append, all_unmarked-away, avoided-avoids, ended-avoids, the_one, unmarked-away, within-within}
 pub use Rattle.cdf_edits.proofs.Edits.OneChain.{differ_before}
 pub use Rattle.cdf_edits.proofs.Edits.OneSpliced.{content_replaced}
@@ -24,18 +24,18 @@ pub use Rattle.cdf_edits.proofs.Edits.OwnersKept.{all_keep, keep_all, keep_file,
 pub use Rattle.cdf_edits.proofs.Edits.RecordFrame.{VariableLives, cdr_kept, chain_clear, field_avoids, file_same, gdr_field, gdr_place, gdr_start, index_records, kept, kept_away, kept_but_link, part_clear}
 pub use Rattle.cdf_edits.proofs.Edits.RecordPlaced.{placing_marks}
 pub use Rattle.cdf_edits.proofs.Edits.StepEdits.{fixed_long, gdr_in, gdr_typed, gives_edit, some_bytes, takes_edit}
-pub use Rattle.cdf_edits.proofs.Edits.VariableCopied.{content_copied, fits_copied, links_copied}
-pub use Rattle.cdf_edits.proofs.Edits.VariableFrame.{Each-map, IsRuled, nums_from, variable_typed}
+pub use Rattle.cdf_edits.proofs.Edits.VariableCopied.{content_copied, fits_copied, index_rules_stay, links_copied, rules_stay}
+pub use Rattle.cdf_edits.proofs.Edits.VariableFrame.{Each-map, IsRuled, nums_from, remain_from, variable_typed}
 pub use Rattle.cdf_edits.proofs.Edits.VariableKeeps.{stays_then, type_stays}
-pub use Rattle.cdf_edits.proofs.Edits.VariableKept.{keep_kinds, keep_own, same_as_itself}
+pub use Rattle.cdf_edits.proofs.Edits.VariableKept.{keep_kinds, keep_own, keep_variable_parts, same_as_itself, vdr_allowance}
 pub use Rattle.cdf_edits.proofs.Edits.VariableKinds.{keeps_kind, kind_chain, kind_in, kind_ours, kind_type, of_kind, other_kind, spliced_times, with_shapes}
 pub use Rattle.cdf_edits.proofs.Edits.VariableNames.{apart_if}
 pub use Rattle.cdf_edits.proofs.Edits.VariableSplice.{OwnRules, VariableSplices, attributes_kept, content_now, good_image_if, keeps_all_attributes, shape_now, sound_if}
-pub use Rattle.cdf_edits.proofs.Edits.VdrEdited.{EditsVdr, MarkTests, StandsAmong, behind_in, behind_kept, file, fits, has, long, sound, through, tile, typed}
+pub use Rattle.cdf_edits.proofs.Edits.VdrEdited.{EditsVdr, MarkTests, StandsAmong, after_ours, behind_in, behind_kept, file, fits, has, long, no_block, ours, sound, through, tile, typed}
 pub use Rattle.cdf_edits.proofs.Frame.ChangedBytes.{changed_put}
 pub use Rattle.cdf_edits.proofs.Frame.Meaning.{FileSame, Kept, KeptButLink, but_link, late_size, late_type, pad_long, pad_width}
 pub use Rattle.cdf_edits.proofs.Frame.OwnersApart.{all_attribute_records, all_variable_records, owned-times, times-append}
-pub use Rattle.cdf_edits.proofs.Frame.VdrCopied.{Copied, VdrCopied, pad_field_copied, type_copied, value_copied, word_copied}
+pub use Rattle.cdf_edits.proofs.Frame.VdrCopied.{Copied, VdrCopied, copied_part, pad_field_copied, piece_copied, type_copied, value_copied, word_copied}
 pub use Rattle.cdf_edits.proofs.Rules.FirstHead.{FirstSays, first_hold, first_said}
 pub use Rattle.cdf_edits.proofs.Space.ActsLeave.{each, no_acts, places-sized}
 pub use Rattle.cdf_edits.proofs.Space.LaidOut.{placed_says, says_kept}

@@ -1,8 +1,7 @@
--- A pad value is written in a VDR that has room for it, and the flag that says that there is one.
-use Rattle.std.proofs.Common.{◌≡◌, ℕ, ◌+◌, ◌*◌, ◌/◌, ◌%◌, ◌≤◌, Bool, List, [], ◌∷◌, length, true, None, Some, refl, sym, ap, subst, ◌∙◌, arith, inl, inr}
-use Rattle.cdf_edits.proofs.Common.{◌==◌, if◌then◌else◌, Kind, R, Z, turned, variable_of, number, name_in, integer4, has_bit, size_at, Field, vdr_flags, vdr_blocking_factor, vdr_name, VariableShape, is_compressed, records_vary, shape, field_bytes, is_little, is_z, dimensions_at, value_bytes, has_pad, pad_field, pad_at, type_of_variable, vdr_end, Good, good_is_sound, of_le, tile_lies, with_bits, SetsPad, Took, Gave, Edit, Mark, mark, Among, touched_field, Each, Changed, type_in, variables_chain}
-use Rattle.cdf_edits.proofs.Edits.Common.{EditsVdr, FileSame, MarkTests, StandsAmong, VdrCopied, behind_in, behind_kept, content_copied, file, fits, has, head_size, long, pad_field_copied, pad_long, pad_width, through, tile, type_copied, value_copied}
-use Rattle.cdf_edits.proofs.Edits.VdrFields.{LeavesVdr, fields_blocking, fields_copied, fields_edit, fields_file, fields_head, fields_name, fields_num}
+-- A VDR gets another pad value, and the flag that says that there is one: what it says then, and that it is written where there is room for it.
+use Rattle.std.proofs.Common.{◌≡◌, ℕ, ◌+◌, ◌*◌, ◌/◌, ◌%◌, ◌<◌, ◌≤◌, Bool, List, [], ◌∷◌, length, true, None, Some, refl, sym, ap, subst, ◌∙◌, arith, inl, inr}
+use Rattle.cdf_edits.proofs.Common.{before_first, byte, cast_signed, w32, ◌==◌, if◌then◌else◌, Kind, R, Z, turned, variable_of, number, name_in, integer4, has_bit, size_at, type_at, Field, OutsideFields, vdr_flags, vdr_num, vdr_blocking_factor, vdr_name, VariableShape, is_compressed, records_vary, shape, field_bytes, is_little, is_z, dimensions_at, value_bytes, has_pad, pad_field, pad_at, type_of_variable, vdr_end, Good, of_le, tile_lies, with_bits, SetsPad, Took, Gave, Edit, Mark, mark, Among, touched_field, Changed, type_in, variables_chain}
+use Rattle.cdf_edits.proofs.Edits.Common.{Copied, EditsVdr, FileSame, MarkTests, StandsAmong, VdrCopied, behind_in, behind_kept, changed_edit, content_copied, copied_part, file, file_same, fits, has, long, pad_field_copied, pad_long, pad_width, piece_copied, some_bytes, sound, through, tile, type_copied, typed, value_copied, word_copied}
 
 -- ---- bit 1 of the flags
 
@@ -18,36 +17,57 @@ padded_1 n = let same : (n % 2 + 2 * 1 + 4 * (n / 4)) / 2 % 2 ≡ 1 = omega arit
 pub padded_2 : (n : ℕ) → has_bit (padded_flags n) 2 ≡ has_bit n 2
 padded_2 n = let same : (n % 2 + 2 * 1 + 4 * (n / 4)) / 4 % 2 ≡ n / 4 % 2 = omega arith in ap (λ (k : ℕ). k == 1) same
 
--- ---- a VDR with another pad value and these flags, at its place or another one
+-- ---- a VDR with another pad value, at its place or at another one
 
-module _ {b now : List ℕ} (own own' : VariableShape) (file : FileSame b now) (copied : VdrCopied b now own.vdr own'.vdr) (flags_are : number now own'.vdr vdr_flags ≡ padded_flags (number b own.vdr vdr_flags)) where
-  abbrev flags : ℕ
-  flags = number b own.vdr vdr_flags
+-- it is the one before up to the pad value but for its link and its flags, which say that there is one, and has these bytes as that
+pub record HoldsPad (b now : List ℕ) (v v' : ℕ) (bytes : List ℕ) : Type 0 where
+  pub typed : type_at now v' ≡ type_at b v
+  pub alike : (i : ℕ) → 12 ≤ i → i < (pad_field b v).place → OutsideFields (vdr_flags ∷ []) i → byte now (v' + i) ≡ byte b (v + i)
+  pub flags_are : number now v' vdr_flags ≡ padded_flags (number b v vdr_flags)
+  pub pad_is : field_bytes now v' (pad_field b v) ≡ bytes
 
-  padded : has_pad now own'.vdr ≡ true
-  padded = ap (λ (n : ℕ). has_bit n 1) flags_are ∙ padded_1 flags
+module _ {b now : List ℕ} {v v' : ℕ} {bytes : List ℕ} (p : HoldsPad b now v v' bytes) where
+  late : 340 ≤ (pad_field b v).place
+  late = pad_long (is_z b v) (dimensions_at b v) (value_bytes b v)
 
-  pub packed : is_compressed now own'.vdr ≡ is_compressed b own.vdr
-  packed = ap (λ (n : ℕ). has_bit n 2) flags_are ∙ padded_2 flags
+  behind : Copied b now v v' 48 (pad_field b v).place
+  behind = record { each = λ i l h. p.alike i (omega arith) h (inr l, tt) }
 
-  pub padded_end : vdr_end now own'.vdr ≡ (pad_field b own.vdr).place + value_bytes b own.vdr
-  padded_end =
-      let f = pad_field_copied file copied in
-      let value = value_copied file copied in
-      let flag = padded in
-      λ i. (f i).place + (if flag i then value i else 0)
+  pub copied : VdrCopied b now v v'
+  copied = let l = late in record { typed = p.typed; first = record { each = λ i low h. p.alike i (omega arith) (omega arith) (inl h, tt) }; second = copied_part behind 48 68 (omega arith) (omega arith); third = copied_part behind 72 80 (omega arith) (omega arith); behind = copied_part behind 340 _ (omega arith) (omega arith) }
 
-  pub padded_means : {bytes : List ℕ} → field_bytes now own'.vdr (pad_field b own.vdr) ≡ bytes → name_in now own'.vdr vdr_name ≡ name_in b own.vdr vdr_name → integer4 now own'.vdr vdr_blocking_factor ≡ integer4 b own.vdr vdr_blocking_factor
-      → variable_of now own' ≡ record (variable_of b own) { name = name_in now own'.vdr vdr_name; vary = records_vary now own'.vdr; rle = is_compressed now own'.vdr; blocking = integer4 now own'.vdr vdr_blocking_factor; pad = pad_at now own'.vdr }
-      → variable_of now own' ≡ record (variable_of b own) { pad = Some (turned (type_of_variable b own.vdr) (is_little b) bytes) }
-  padded_means bytes_are name blocking is =
-      let vary : records_vary now own'.vdr ≡ records_vary b own.vdr = ap (λ (n : ℕ). has_bit n 0) flags_are ∙ padded_0 flags in
-      let rle = packed in
-      let t = type_copied file copied in
-      let f = pad_field_copied file copied in
-      let flag = padded in
-      is ∙ (λ i. record (variable_of b own) { name = name i; vary = vary i; rle = rle i; blocking = blocking i; pad = if flag i then Some (turned (t i) (file.little i) (field_bytes now own'.vdr (f i))) else None })
-      ∙ ap (λ (x : List ℕ). record (variable_of b own) { pad = Some (turned (type_of_variable b own.vdr) (is_little b) x) }) bytes_are
+  pub num_is : number now v' vdr_num ≡ number b v vdr_num
+  num_is = let l = late in word_copied behind 68 4 (omega arith) (omega arith)
+
+  blocking_is : integer4 now v' vdr_blocking_factor ≡ integer4 b v vdr_blocking_factor
+  blocking_is = let l = late in ap (cast_signed w32) (word_copied behind 80 4 (omega arith) (omega arith))
+
+  pub name_is : v + 340 ≤ length b → v' + 340 ≤ length now → name_in now v' vdr_name ≡ name_in b v vdr_name
+  name_is inside there = let l = late in ap (before_first (λ (x : ℕ). x == 0)) (piece_copied behind 84 256 (omega arith) (omega arith) (omega arith) (omega arith))
+
+  pub packed : is_compressed now v' ≡ is_compressed b v
+  packed = ap (λ (n : ℕ). has_bit n 2) p.flags_are ∙ padded_2 (number b v vdr_flags)
+
+  module _ (file : FileSame b now) where
+    pub padded_end : vdr_end now v' ≡ (pad_field b v).place + value_bytes b v
+    padded_end =
+        let f = pad_field_copied file copied in
+        let value = value_copied file copied in
+        let flag : has_pad now v' ≡ true = ap (λ (n : ℕ). has_bit n 1) p.flags_are ∙ padded_1 (number b v vdr_flags) in
+        λ i. (f i).place + (if flag i then value i else 0)
+
+    pub padded_means : (own own' : VariableShape) → v + 340 ≤ length b → v' + 340 ≤ length now → variable_of now own' ≡ record (variable_of b own) { name = name_in now v' vdr_name; vary = records_vary now v'; rle = is_compressed now v'; blocking = integer4 now v' vdr_blocking_factor; pad = pad_at now v' }
+        → v ≡ own.vdr → variable_of now own' ≡ record (variable_of b own) { pad = Some (turned (type_of_variable b v) (is_little b) bytes) }
+    padded_means own own' inside there is at =
+        let name = name_is inside there in
+        let vary : records_vary now v' ≡ records_vary b v = ap (λ (n : ℕ). has_bit n 0) p.flags_are ∙ padded_0 (number b v vdr_flags) in
+        let rle = packed in
+        let blocking = blocking_is in
+        let t = type_copied file copied in
+        let f = pad_field_copied file copied in
+        let flag : has_pad now v' ≡ true = ap (λ (n : ℕ). has_bit n 1) p.flags_are ∙ padded_1 (number b v vdr_flags) in
+        is ∙ (λ i. record (variable_of b own) { name = name i; vary = vary i; rle = rle i; blocking = blocking i; pad = if flag i then Some (turned (t i) (file.little i) (field_bytes now v' (f i))) else None })
+        ∙ (λ i. record (variable_of b own) { name = name_in b (at i) vdr_name; vary = records_vary b (at i); rle = is_compressed b (at i); blocking = integer4 b (at i) vdr_blocking_factor; pad = Some (turned (type_of_variable b v) (is_little b) (p.pad_is i)) })
 
 -- ---- the edit
 
@@ -85,25 +105,29 @@ module _ {b now : List ℕ} {kind : Kind} {before : List VariableShape} {own : V
   wide : pad.width ≡ value_bytes b v
   wide = pad_width (is_z b v) (dimensions_at b v) (value_bytes b v)
 
-  leaves : Each (LeavesVdr b v) (pad ∷ vdr_flags ∷ [])
-  leaves =
-      let late = λ (n : ℕ) (l : n ≤ 340). through n 340 pad.place l pad_late in
-      let n = long good at in (
-        record { late = late 20 (omega arith); fits = subst (λ (k : ℕ). pad.place + k ≤ size_at b v) (sym wide) w.room; first = inl (late 44 (omega arith)); second = inl (late 68 (omega arith)); num = inl (late 72 (omega arith)); third = inl (late 80 (omega arith)); behind = inl (omega arith) },
-        (record { late = omega arith; fits = omega arith; first = inl (omega arith); second = inr (omega arith); num = inr (omega arith); third = inr (omega arith); behind = inr (omega arith) }, tt),
-      )
+  high : v + size_at b v ≤ length b
+  high = (tile_lies b 8 (length b) (shape b).records v (sound good at).has_shape.tiled (tile good at)).high
 
   edit : Edit b now (shape b).records (shape b).records marks []
-  edit = fields_edit (pad ∷ vdr_flags ∷ []) good at leaves t w.changed w.as_long
+  edit =
+      let late = pad_late in
+      let n = long good at in
+      changed_edit b now (shape b).records (touched_field v pad ∷ touched_field v vdr_flags ∷ []) marks [] (sound good at).has_shape.tiled w.as_long w.changed (
+        record { inside = tile good at; fits = subst (λ (k : ℕ). pad.place + k ≤ size_at b v) (sym wide) w.room; behind_size = through 8 340 pad.place (omega arith) late; behind_type = inl (through 12 340 pad.place (omega arith) late); covered = inl (record { typed = typed good at; lies = inl refl; low = omega arith; high = omega arith }) },
+        (record { inside = tile good at; fits = omega arith; behind_size = omega arith; behind_type = inl (omega arith); covered = inr (inl (record { typed = typed good at; lies = inl refl; low = omega arith; high = omega arith })) }, tt),
+      ) (some_bytes b (shape b) (sound good at).has_shape)
 
   same_file : FileSame b now
-  same_file = fields_file (pad ∷ vdr_flags ∷ []) good at leaves t w.changed w.as_long
+  same_file = file_same (sound good at) edit t.file_clear
 
-  copied : VdrCopied b now v v
-  copied = fields_copied (pad ∷ vdr_flags ∷ []) good at leaves t w.changed w.as_long
+  same : (i : ℕ) → i < pad.place → OutsideFields (vdr_flags ∷ []) i → byte now (v + i) ≡ byte b (v + i)
+  same i up out = w.changed.same (v + i) (let h = high in let r = w.room in omega arith) (inl (omega arith), (elim out.0 [ inl x ↦ inl (omega arith) | inr x ↦ inr (omega arith) ], tt))
 
-  end_is : vdr_end now v ≡ pad.place + value_bytes b v
-  end_is = padded_end own own same_file copied w.flags_are
+  head : Copied b now v v 0 12
+  head = record { each = λ i l h. same i (let late = pad_late in omega arith) (inl (omega arith), tt) }
+
+  holds : HoldsPad b now v v bytes
+  holds = record { typed = word_copied head 8 4 (omega arith) (omega arith); alike = λ i low up out. same i up out; flags_are = w.flags_are; pad_is = w.bytes_are }
 
   pub edits : EditsVdr b now kind own marks
   edits = record {
@@ -111,31 +135,31 @@ module _ {b now : List ℕ} {kind : Kind} {before : List VariableShape} {own : V
     as_long = w.as_long;
     own_marks = (refl, through 20 340 pad.place (omega arith) pad_late, (refl, (omega arith), tt));
     tests = t;
-    copied = copied;
-    num_is = fields_num (pad ∷ vdr_flags ∷ []) good at leaves t w.changed w.as_long;
-    packed = packed own own same_file copied w.flags_are;
-    end_fits = subst (λ (n : ℕ). n ≤ size_at b v) (sym end_is) w.room;
+    copied = copied holds;
+    num_is = num_is holds;
+    packed = packed holds;
+    end_fits = subst (λ (n : ℕ). n ≤ size_at b v) (sym (padded_end holds same_file)) w.room;
   }
 
   pub meaning : variable_of now own ≡ record (variable_of b own) { pad = Some (turned (type_of_variable b v) (is_little b) bytes) }
-  meaning = padded_means own own same_file copied w.flags_are w.bytes_are
-      (fields_name (pad ∷ vdr_flags ∷ []) good at leaves t w.changed w.as_long (inl pad_late, (inr (omega arith), tt))) (fields_blocking (pad ∷ vdr_flags ∷ []) good at leaves t w.changed w.as_long (inl (through 84 340 pad.place (omega arith) pad_late), (inr (omega arith), tt)))
-      (content_copied (good_is_sound b good) edit (file good at edits) own (has good at) (fits good at) (behind_in good at) (behind_kept good at edits) copied (packed own own same_file copied w.flags_are))
+  meaning =
+      let inside : v + 340 ≤ length b = (let h = high in let n = long good at in omega arith) in
+      padded_means holds same_file own own inside (subst (λ (n : ℕ). v + 340 ≤ n) (sym w.as_long) inside)
+      (content_copied (sound good at) edit (file good at edits) own (has good at) (fits good at) (behind_in good at) (behind_kept good at edits) (copied holds) (packed holds)) refl
 
   -- ---- what `set-pad` does where the VDR stays
 
   pub pads_in_place : SetsPad b now v v []
   pads_in_place =
-      let high = (tile_lies b 8 (length b) (shape b).records v (good_is_sound b good).has_shape.tiled (tile good at)).high in
-      let fit : vdr_end now v ≤ size_at b v = subst (λ (n : ℕ). n ≤ size_at b v) (sym end_is) w.room in
+      let fit : vdr_end now v ≤ size_at b v = edits.end_fits in
       record {
         acts_are = sym (ap (λ (p : Bool). if p then [] else Took v (vdr_end now v) ∷ Gave v (size_at b v) ∷ []) (of_le (vdr_end now v) (size_at b v) fit));
-        copied = λ i low up out. w.changed.same (v + i) (let r = w.room in omega arith) (inl (omega arith), (elim out.0 [ inl x ↦ inl (omega arith) | inr x ↦ inr (omega arith) ], tt));
+        copied = λ i low up out. same i up out;
         flags_are = w.flags_are;
         room = λ within. record {
           place_stays = refl;
-          size_stays = head_size b now v (fields_head (pad ∷ vdr_flags ∷ []) good at leaves t w.changed w.as_long);
-          rest_stays = record { each = λ i low up. let e = end_is in let k = wide in let late = pad_late in w.changed.same i (omega arith) (inr (omega arith), (inr (omega arith), tt)) };
+          size_stays = word_copied head 0 8 (omega arith) (omega arith);
+          rest_stays = record { each = λ i low up. let e = padded_end holds same_file in let k = wide in let late = pad_late in let h = high in w.changed.same i (omega arith) (inr (omega arith), (inr (omega arith), tt)) };
         };
         freed = tt;
       }

@@ -13,14 +13,8 @@ read_bytes-requires g c =
     let late = place_late (g.A.Area.image c.args.area.now) c.args.kind c.requires.good c.requires.places c.requires.within c.requires.vdr c.requires.place in
     omega (arith, l, late)
 
-pub returns-in_err-old-clause-area : goal.returns-in_err-old-clause-area
-returns-in_err-old-clause-area g c = edit_failed (record { frame = refl; faults = refl }) (edits_by_read c.in_err-old.ensures.area) c.from_residual.ensures.1
-
 pub padded_bytes-requires : goal.padded_bytes-requires
 padded_bytes-requires g c = old_long (g.A.Area.image c.args.area.now) c.args.kind c.requires.good c.requires.places c.requires.within c.requires.vdr c.requires.place c.deref-2.result.now (c.deref-2.ensures.value ∙ c.in_ok-old.ensures.bytes)
-
-pub returns-in_err-bytes-clause-area : goal.returns-in_err-bytes-clause-area
-returns-in_err-bytes-clause-area g c = edit_without_memory (keeps_by_read (read_once c.in_ok-old.ensures.area)) c.from_residual-in_err-bytes.ensures.1
 
 pub replace_vdr-requires-clause-good : goal.replace_vdr-requires-clause-good
 replace_vdr-requires-clause-good g c = subst Good (sym c.read_bytes.ensures.area.image) c.requires.good

@@ -23,13 +23,7 @@ returns-in-Ok-clause-request g c =
     may c.args.name.now c.args.words.now c.requires.known c.find.ensures.found c.requires.good c.in-Some.is c.place_of-vdr.ensures c.in_ok-place.ensures.place
     c.in_ok-encoding.encoding.little c.in-Ok.bytes.items (c.in_ok-encoding.ensures.order ∙ ap is_little c.read_pad_place.ensures.area.image) c.in-Ok.ensures.ok
 
-pub returns-in-Ok-clause-area : goal.returns-in-Ok-clause-area
-returns-in-Ok-clause-area g c = read_done (read_more (read_once c.in_ok-place.ensures.area) c.in_ok-encoding.ensures.area)
-
 pub returns-in_ok-reason_of-in-Err-clause-request : goal.returns-in_ok-reason_of-in-Err-clause-request
 returns-in_ok-reason_of-in-Err-clause-request g c =
     no_value c.args.name.now c.args.words.now c.requires.known c.find.ensures.found c.requires.good c.in-Some.is c.place_of-vdr.ensures c.in_ok-place.ensures.place
     c.in-Err.error c.in_ok-reason_of-in-Err.field-0 c.in-Err.ensures.err c.in_ok-reason_of-in-Err.ensures.reason
-
-pub returns-in_ok-reason_of-in-Err-clause-area : goal.returns-in_ok-reason_of-in-Err-clause-area
-returns-in_ok-reason_of-in-Err-clause-area g c = read_done (read_more (read_once c.in_ok-place.ensures.area) c.in_ok-encoding.ensures.area)
