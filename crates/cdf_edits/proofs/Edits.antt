@@ -71,7 +71,6 @@ pub mod VariableNumbered
 pub mod VariableSplice
 pub mod VariablesLinked
 pub mod VdrEdited
-pub mod VdrFields
 pub mod VdrWritten
 pub mod WrittenEntries
 pub mod WrittenFields

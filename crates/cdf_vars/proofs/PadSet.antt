@@ -1,17 +1,11 @@
 -- The command `set-pad`: the bytes of a VDR with a pad value, the one that takes the place of the old one where that has no room for it, what the command answers, and what is kept of the variables.
 use Rattle.std.proofs.Common.{◌≡◌, ◌⊎◌, ℕ, ◌+◌, ◌-◌, ◌^◌, ◌<◌, ◌≤◌, List, [], ◌∷◌, ◌++◌, length, take, drop, refl, sym, ap, ◌∙◌, append_assoc, arith, inl, inr, zero, suc, ◌*◌, true, subst, None, eq-eqb, Option, Some, Ok, true≢false, ap₂}
-use Rattle.cdf_vars.proofs.Common.{take_all, length-append, length-map, length-take, length-drop, take_at, drop-drop, big_bytes, drop-put_there, field_reads, length-with_field, other_bytes, byte, Same, word, number, size_at, LiesIn, with_field, length-put, piece_kept, word_kept, before_first, last_or, slice_get, ◌==◌, slice_set, Kind, Leads, next_of, next_field, is_in, vdr_flags, VariableShape, Shape, vdrs, shape, IsSound, dimensions_at, is_z, pad_field, value_bytes, dims_at, elems_at, type_of_variable, vdr_end, Good, shapes_of, AllKeep, Allowances, stays_own, head_of, members_of, type_in, before, type_of_body, IsBody, variables_chain, Chain, kind_chain, StandsAmong, sound, typed, in_middle, tile, AreBytes, word_fits, owned_records, times, owned, In, Distinct, vdr_bytes, room, IsVdr, IsPlace, MayPad, padded_flags, ne_eqb, good_is_sound, cut, got-middle, PadPlace, Done, Refused, TooLarge, Plain, DataType, Go, turned, DataSet, Variable, image_limit, Found, value_size, ByStep, step, size_of, values_in, with_variable, content, variable_of, is_little, tile_lies, Answers, gone, too_large, VarId, Known, Knows, known_of}
-use Rattle.std.proofs.lemmas.List.{get_or-drop, get_or-take, get_or_append_left, drop_at}
-use Rattle.cdf_base.specs.Bytes.{put}
+use Rattle.cdf_vars.proofs.Common.{AtNumber, at_number, put, slice_index, get_or-drop, get_or-take, get_or_append_left, drop_at, word-put_number, byte-put_before, byte-put_inside, byte-put_after, length-append, length-take, length-drop, take_at, drop-drop, big_bytes, drop-put_there, byte, Same, word, number, size_at, with_field, length-put, piece_kept, word_kept, last_or, slice_get, slice_set, Kind, Leads, next_of, next_field, is_in, vdr_flags, VariableShape, vdrs, shape, IsSound, dimensions_at, is_z, pad_field, value_bytes, dims_at, elems_at, type_of_variable, Good, shapes_of, AllKeep, Allowances, stays_own, head_of, members_of, type_in, before, type_of_body, IsBody, variables_chain, kind_chain, StandsAmong, sound, typed, in_middle, tile, AreBytes, word_fits, owned_records, times, owned, In, Distinct, vdr_bytes, room, IsVdr, IsPlace, MayPad, padded_flags, ne_eqb, good_is_sound, got-middle, PadPlace, Done, Refused, TooLarge, Plain, DataType, Go, turned, DataSet, Variable, image_limit, Found, value_size, ByStep, step, size_of, values_in, with_variable, content, variable_of, is_little, tile_lies, Answers, gone, too_large, VarId, Known, Knows, known_of}
 use Rattle.cdf_edits.proofs.Common.{Anything, Exchanged, SetsPad, cases_lt, is_in-true, length-bytes_high_first, set_pad_changes, vdrs_append}
-use Rattle.cdf_fields.proofs.Writes.{word-put_number, word-put_outside}
-use Rattle.cdf_format.proofs.BytesLemmas.{byte-put_before, byte-put_inside, byte-put_after}
 use Rattle.cdf_edits.proofs.Edits.Common.{Copied, fits, leads_rest, pad_long, pad_width, same_link, word_copied}
-use Rattle.cdf_edits.proofs.Commands.ListParts.{AtNumber, at_number}
-use Rattle.std.specs.Prelude.{slice_index}
 use Rattle.cdf_edits.proofs.Edits.JoinedVdr.{behind_link, is_vdr_body, joined_type}
 use Rattle.cdf_edits.proofs.Edits.MovedVdr.{CopiesVdr, MovesVdr, chain_late, members, old_free, old_in, own', sound_late}
-use Rattle.cdf_edits.proofs.Edits.PadWritten.{WritesPad, edits, meaning, pads_in_place}
+use Rattle.cdf_edits.proofs.Edits.PadWritten.{WritesPad, edits, meaning, pads_in_place, small_flags}
 use Rattle.cdf_vars.proofs.VariableChains.{has_variable_chain, variable_members}
 use Rattle.cdf_base.proofs.Puts.{put-append}
 use Rattle.cdf_space.proofs.Filling.{word-put_inside}
@@ -24,9 +18,6 @@ use Rattle.cdf_vars.specs.declared.padding.PadRequest.TheVariants.{Put}
 use Rattle.cdf_vars.proofs.OwnShapes.{own_now}
 use Rattle.cdf_vars.proofs.VariableFound.{follows_still, knows_still, knows_with, of_found, own_known, may_keep, may_named, same_names, stands_there, still_there, with_known, Parts, the_parts, within_places}
 
-pub small_flags : (x : ℕ) → x < 256 ^ 4 → padded_flags x < 256 ^ 4
-small_flags x l = omega arith
-
 -- ---- the bytes of the new VDR, whose pad value stands at another place in it
 
 module _ (b value : List ℕ) (v at n : ℕ) (inside : v + at ≤ length b) (late : 340 ≤ at) where
@@ -36,32 +27,24 @@ module _ (b value : List ℕ) (v at n : ℕ) (inside : v + at ≤ length b) (lat
   abbrev flags : List ℕ
   flags = big_bytes 4 n
 
-  abbrev front : List ℕ
-  front = put was 36 flags
-
   abbrev new : List ℕ
-  new = front ++ value
+  new = put was 36 flags ++ value
 
-  length-was : length was ≡ at - 8
-  length-was = simp (length-take, length-drop) (omega arith)
-
-  length-flags : length flags ≡ 4
-  length-flags = length-bytes_high_first 4 n
-
-  pub length-front : length front ≡ at - 8
-  length-front = length-put was 36 flags (omega (arith, length-was, length-flags)) ∙ length-was
-
-  pub length-new : 8 + length new ≡ at + length value
-  length-new = omega (arith, length-append front value, length-front)
+  pub lengths : (length was ≡ at - 8) × (length flags ≡ 4) × (length (put was 36 flags) ≡ at - 8) × (8 + length new ≡ at + length value)
+  lengths =
+      let first : length was ≡ at - 8 = simp (length-take, length-drop) (omega arith) in
+      let fourth = length-bytes_high_first 4 n in
+      let front = length-put was 36 flags (omega (arith, first, fourth)) ∙ first in
+      (first, fourth, front, omega (arith, length-append (put was 36 flags) value, front))
 
   new_byte : (i : ℕ) → 8 ≤ i → i < at → (i < 44) ⊎ (48 ≤ i) → byte new (i - 8) ≡ byte b (v + i)
   new_byte i low high side =
       let from : v + 8 + (i - 8) ≡ v + i = omega arith in
-      let kept : byte front (i - 8) ≡ byte was (i - 8) = elim side [
-        | inl l ↦ byte-put_before was 36 flags (i - 8) (omega (arith, length-was)) (omega arith)
-        | inr l ↦ byte-put_after was 36 flags (i - 8) (omega (arith, length-was)) (omega (arith, length-flags))
+      let kept : byte (put was 36 flags) (i - 8) ≡ byte was (i - 8) = elim side [
+        | inl l ↦ byte-put_before was 36 flags (i - 8) (omega (arith, lengths.0)) (omega arith)
+        | inr l ↦ byte-put_after was 36 flags (i - 8) (omega (arith, lengths.0)) (omega (arith, lengths.1))
       ] in
-      get_or_append_left front value 0 (i - 8) (omega (arith, length-front)) ∙ kept ∙ get_or-take (at - 8) (drop (v + 8) b) (i - 8) 0 (omega arith) ∙ get_or-drop (v + 8) b (i - 8) 0 ∙ ap (byte b) from
+      get_or_append_left (put was 36 flags) value 0 (i - 8) (omega (arith, lengths.2)) ∙ kept ∙ get_or-take (at - 8) (drop (v + 8) b) (i - 8) 0 (omega arith) ∙ get_or-drop (v + 8) b (i - 8) 0 ∙ ap (byte b) from
 
   -- the type stands first
   pub new_type : word new 0 4 ≡ word b (v + 8) 4
@@ -78,20 +61,20 @@ module _ (b value : List ℕ) (v at n : ℕ) (inside : v + at ≤ length b) (lat
     pub bytes_copied : (i : ℕ) → 8 ≤ i → i < at → (i < 44) ⊎ (48 ≤ i) → byte written (by + i) ≡ byte b (v + i)
     bytes_copied i low high side =
         let to : by + i ≡ by + 8 + (i - 8) = omega arith in
-        ap (byte written) to ∙ byte-put_inside taken (by + 8) new (i - 8) (omega arith) (omega (arith, length-new)) ∙ new_byte i low high side
+        ap (byte written) to ∙ byte-put_inside taken (by + 8) new (i - 8) (omega arith) (omega (arith, lengths.3)) ∙ new_byte i low high side
 
     pub flags_there : n < 256 ^ 4 → word written (by + 44) 4 ≡ n
     flags_there small =
         let to : by + 44 ≡ by + 8 + 36 = omega arith in
-        let whole : new ≡ put (was ++ value) 36 flags = sym (put-append was value 36 flags (omega (arith, length-was, length-flags))) in
-        ap (λ (p : ℕ). word written p 4) to ∙ word-put_inside taken new (by + 8) 36 4 (omega arith) (omega (arith, length-new)) ∙ ap (λ (xs : List ℕ). word xs 36 4) whole ∙ word-put_number (was ++ value) 36 4 n (omega (arith, length-was, length-append was value)) small
+        let whole : new ≡ put (was ++ value) 36 flags = sym (put-append was value 36 flags (omega (arith, lengths.0, lengths.1))) in
+        ap (λ (p : ℕ). word written p 4) to ∙ word-put_inside taken new (by + 8) 36 4 (omega arith) (omega (arith, lengths.3)) ∙ ap (λ (xs : List ℕ). word xs 36 4) whole ∙ word-put_number (was ++ value) 36 4 n (omega (arith, lengths.0, length-append was value)) small
 
     pub value_there : take (length value) (drop (by + at) written) ≡ value
     value_there =
         let more = drop (by + 8 + length new) taken in
         let to : by + at ≡ by + 8 + (at - 8) = omega arith in
-        let whole : drop (by + 8) written ≡ front ++ (value ++ more) = drop-put_there taken new (by + 8) (omega arith) ∙ append_assoc front value more in
-        let behind : drop (by + at) written ≡ value ++ more = ap (λ (p : ℕ). drop p written) to ∙ sym (drop-drop (at - 8) (by + 8) written) ∙ ap (drop (at - 8)) whole ∙ drop_at front (value ++ more) (at - 8) length-front in
+        let whole : drop (by + 8) written ≡ put was 36 flags ++ (value ++ more) = drop-put_there taken new (by + 8) (omega arith) ∙ append_assoc (put was 36 flags) value more in
+        let behind : drop (by + at) written ≡ value ++ more = ap (λ (p : ℕ). drop p written) to ∙ sym (drop-drop (at - 8) (by + 8) written) ∙ ap (drop (at - 8)) whole ∙ drop_at (put was 36 flags) (value ++ more) (at - 8) lengths.2 in
         ap (take (length value)) behind ∙ take_at value more (length value) refl
 
 -- equal numbers have equal bytes
@@ -105,10 +88,10 @@ equal_bytes : {b now : List ℕ} {s s' m : ℕ} → AreBytes b s m → AreBytes 
 equal_bytes are there p p' zero a c d f e k x y lt ex ey = absurd (omega arith)
 equal_bytes {b = b} {now = now} {s = s} {s' = s'} {m = m} are there p p' (suc n) a c d f e k x y lt ex ey =
     let r = digits_same (256 ^ n) (byte now p') (byte b p) (word now (suc p') n) (word b (suc p) n) (word_fits now s' m (suc p') n there (omega arith) (omega arith)) (word_fits b s m (suc p) n are (omega arith) (omega arith)) e in
-    elim k as (λ (i : ℕ). i < suc n → x ≡ p' + i → y ≡ p + i → byte now x ≡ byte b y) [
-      | zero ↦ λ l q w. let left : x ≡ p' = omega arith in let right : y ≡ p = omega arith in ap (byte now) left ∙ r.0 ∙ sym (ap (byte b) right)
-      | suc i ↦ λ l q w. equal_bytes are there (suc p) (suc p') n (omega arith) (omega arith) (omega arith) (omega arith) r.1 i x y (omega arith) (omega arith) (omega arith)
-    ] lt ex ey
+    elim (cases_lt k 1) [
+      | inl first ↦ let left : x ≡ p' = omega arith in let right : y ≡ p = omega arith in ap (byte now) left ∙ r.0 ∙ sym (ap (byte b) right)
+      | inr more ↦ equal_bytes are there (suc p) (suc p') n (omega arith) (omega arith) (omega arith) (omega arith) r.1 (k - 1) x y (omega arith) (omega arith) (omega arith)
+    ]
 
 -- ---- the VDR that is made, and that takes the place of the old one
 
@@ -125,12 +108,6 @@ module _ {b body : List ℕ} {kind : Kind} {old : ℕ} (good : Good b) (vdr : Is
   abbrev n : ℕ
   n = padded_flags (number b old vdr_flags)
 
-  abbrev s : Shape
-  s = shape b
-
-  abbrev c : Chain
-  c = variables_chain kind
-
   abbrev need : ℕ
   need = 8 + length body
 
@@ -141,20 +118,20 @@ module _ {b body : List ℕ} {kind : Kind} {old : ℕ} (good : Good b) (vdr : Is
   inside = vdr_inside good vdr
 
   pub need_is : need ≡ place + length p.bytes
-  need_is = ap (λ (xs : List ℕ). 8 + length xs) p.is ∙ length-new b p.bytes old place n inside pad_late
+  need_is = ap (λ (xs : List ℕ). 8 + length xs) p.is ∙ (lengths b p.bytes old place n inside pad_late).3
 
-  pub type_is : type_of_body body ≡ type_in c
+  pub type_is : type_of_body body ≡ type_in (variables_chain kind)
   type_is = ap type_of_body p.is ∙ new_type b p.bytes old place n inside pad_late ∙ typed good among
 
   pub is_body : IsBody body
   is_body = is_vdr_body kind body (dimensions_at b old) type_is (let e = pad_place kind b old (typed good among) in omega (arith, need_is, e))
 
-  pub is_member : is_in old (members_of b c) ≡ true
+  pub is_member : is_in old (members_of b (variables_chain kind)) ≡ true
   is_member =
-      let there : In old (vdrs (shapes_of s kind)) = subst (λ (vs : List VariableShape). In old (vdrs vs)) (sym vdr.was) (in_middle vdr.before own vdr.after) in
-      is_in-true old _ (subst (In old) (sym (variable_members b s (good_is_sound b good).has_shape kind)) there)
+      let there : In old (vdrs (shapes_of (shape b) kind)) = subst (λ (vs : List VariableShape). In old (vdrs vs)) (sym vdr.was) (in_middle vdr.before own vdr.after) in
+      is_in-true old _ (subst (In old) (sym (variable_members b (shape b) (good_is_sound b good).has_shape kind)) there)
 
-  module _ {late : List ℕ} {by : ℕ} (exchanged : Exchanged b late c body old by) where
+  module _ {late : List ℕ} {by : ℕ} (exchanged : Exchanged b late (variables_chain kind) body old by) where
     abbrev pub made : MovesVdr b late kind own body by
     made = record { joined = exchanged; type_is = type_is }
 
@@ -181,9 +158,9 @@ module _ {b body : List ℕ} {kind : Kind} {old : ℕ} (good : Good b) (vdr : Is
     module _ (there : AreBytes late by 84) where
       link_same : number late by next_field ≡ number b old next_field
       link_same =
-          let link = number b s.gdr (head_of c) in
+          let link = number b (shape b).gdr (head_of (variables_chain kind)) in
           let was = subst (λ (ms : List ℕ). Leads b link ms 0) (members good among made) (kind_chain kind (sound good among).has_shape).leads in
-          let is = subst (λ (ms : List ℕ). Leads late (number late s.gdr (head_of c)) ms 0) (vdrs_append vdr.before (record own { vdr = by } ∷ vdr.after)) (chain_late good among made).leads in
+          let is = subst (λ (ms : List ℕ). Leads late (number late (shape b).gdr (head_of (variables_chain kind))) ms 0) (vdrs_append vdr.before (record own { vdr = by } ∷ vdr.after)) (chain_late good among made).leads in
           sym (same_link b late (next_of b old) (next_of late by) (vdrs vdr.after) (leads_rest b link (vdrs vdr.before) old (vdrs vdr.after) was) (leads_rest late _ (vdrs vdr.before) by (vdrs vdr.after) is))
 
       alike : (i : ℕ) → 12 ≤ i → i < place → (i < 44) ⊎ (44 + 4 ≤ i) → byte late (by + i) ≡ byte b (old + i)
@@ -244,67 +221,15 @@ module _ (b : List ℕ) (kind : Kind) {places : List ℕ} {num vdr : ℕ} (good 
     place_lies = subst (λ (k : ℕ). vdr + k ≤ length b) (sym place.at_is) (vdr_inside good is_vdr)
 
     pub old_long : (xs : List ℕ) → xs ≡ take (p.at - 8) (drop (vdr + 8) b) → 40 ≤ length xs
-    old_long xs e =
-        let l = place_lies in
-        let late = place_late in
-        let long : length xs ≡ p.at - 8 = ap (λ (ys : List ℕ). length ys) e ∙ simp (length-take, length-drop) (omega arith) in
-        omega (arith, long, late)
+    old_long xs e = rw e (simp (length-take, length-drop) (omega (arith, place_lies, place_late)))
 
     pub body_long : (xs ys value : List ℕ) (n : ℕ) → xs ≡ take (p.at - 8) (drop (vdr + 8) b) → ys ≡ put xs 36 (big_bytes 4 n) ++ value → 8 + length ys ≡ p.at + length value
-    body_long xs ys value n e f = ap (λ (zs : List ℕ). 8 + length zs) (f ∙ ap (λ (old : List ℕ). put old 36 (big_bytes 4 n) ++ value) e) ∙ length-new b value vdr p.at n place_lies place_late
-
--- ---- the bytes in a VDR which has room for them
-
-module _ (b value : List ℕ) (vdr : ℕ) (long : length value ≡ value_bytes b vdr) (room : (pad_field b vdr).place + value_bytes b vdr ≤ size_at b vdr) (inside : vdr + size_at b vdr ≤ length b) (small : number b vdr vdr_flags < 256 ^ 4) where
-  abbrev at : ℕ
-  at = (pad_field b vdr).place
-
-  abbrev flagged : List ℕ
-  flagged = with_field b vdr vdr_flags (padded_flags (number b vdr vdr_flags))
-
-  late : 340 ≤ at
-  late = pad_long (is_z b vdr) (dimensions_at b vdr) (value_bytes b vdr)
-
-  wide : (pad_field b vdr).width ≡ value_bytes b vdr
-  wide = pad_width (is_z b vdr) (dimensions_at b vdr) (value_bytes b vdr)
-
-  lies : LiesIn b vdr vdr_flags
-  lies = omega (arith, room, inside, late)
-
-  same_length : length flagged ≡ length b
-  same_length = length-with_field b vdr vdr_flags (padded_flags (number b vdr vdr_flags)) lies
-
-  in_flagged : vdr + at + length value ≤ length flagged
-  in_flagged = omega (arith, same_length, room, inside, long)
-
-  writes : WritesPad b (put flagged (vdr + at) value) vdr value
-  writes = record {
-    room = room;
-    bytes_are =
-        ap (λ (k : ℕ). take k (drop (vdr + at) (put flagged (vdr + at) value))) (wide ∙ sym long) ∙ ap (take (length value)) (drop-put_there flagged value (vdr + at) (omega (arith, in_flagged)))
-        ∙ take_at value (drop (vdr + at + length value) flagged) (length value) refl;
-    flags_are = word-put_outside flagged value (vdr + at) (vdr + 44) 4 in_flagged (inl (omega (arith, late))) ∙ field_reads b vdr vdr_flags (padded_flags (number b vdr vdr_flags)) lies (small_flags (number b vdr vdr_flags) small);
-    changed = record {
-      longer = omega (arith, length-put flagged (vdr + at) value in_flagged, same_length);
-      same = λ i lt out. beside i out.0 ∙ other_bytes b vdr vdr_flags (padded_flags (number b vdr vdr_flags)) i lies out.1.0;
-    };
-    as_long = length-put flagged (vdr + at) value in_flagged ∙ same_length;
-  }
-    where
-      beside : (i : ℕ) → (i < vdr + at) ⊎ (vdr + at + (pad_field b vdr).width ≤ i) → byte (put flagged (vdr + at) value) i ≡ byte flagged i
-      beside i (inl l) = byte-put_before flagged (vdr + at) value i (omega (arith, in_flagged)) l
-      beside i (inr m) = byte-put_after flagged (vdr + at) value i (omega (arith, in_flagged)) (omega (arith, m, wide, long))
+    body_long xs ys value n e f = ap (λ (zs : List ℕ). 8 + length zs) (f ∙ ap (λ (old : List ℕ). put old 36 (big_bytes 4 n) ++ value) e) ∙ (lengths b value vdr p.at n place_lies place_late).3
 
 -- ---- what is asked for
 
 pub put_asked : {b : List ℕ} {known known' : Known} {name : List ℕ} {words : List (List ℕ)} {r : PadRequest} {id : VarId} {p : PadPlace} {bytes : _} → IsRequest b known name words r → r ≡ Put id p bytes → known ≡ known' → MayPad b known' name words id p bytes.items
 put_asked {b = b} {name = name} {words = words} {id = id} {p = p} {bytes = bytes} request is view = subst (λ (k : Known). MayPad b k name words id p bytes.items) view (subst (IsRequest b _ name words) is request)
-
-pub put_there : {b before now raw bytes : List ℕ} (p : PadPlace) → before ≡ b → raw ≡ bytes → now ≡ put (with_field before p.vdr vdr_flags (padded_flags p.flags)) (p.vdr + p.at) raw → now ≡ put (with_field b p.vdr vdr_flags (padded_flags p.flags)) (p.vdr + p.at) bytes
-put_there p same is made = made ∙ (λ i. put (with_field (same i) p.vdr vdr_flags (padded_flags p.flags)) (p.vdr + p.at) (is i))
-
-pub moves_there : {b before now raw places places' : List ℕ} {bytes : List ℕ} {kind : Kind} {p : PadPlace} {num : ℕ} → before ≡ b → raw ≡ bytes → Moves before now kind p raw places places' num → Moves b now kind p bytes places places' num
-moves_there {b = b} {now = now} {raw = raw} {places = places} {places' = places'} {kind = kind} {p = p} {num = num} same is m = subst (λ (x : List ℕ). Moves b now kind p x places places' num) is (subst (λ (x : List ℕ). Moves x now kind p raw places places' num) same m)
 
 -- the places with another one in the middle
 vdrs_set : (before : List VariableShape) (own other : VariableShape) (after : List VariableShape) → vdrs (before ++ other ∷ after) ≡ slice_set (vdrs (before ++ own ∷ after)) (length before) other.vdr
@@ -371,23 +296,22 @@ module _ {b : List ℕ} (name : List ℕ) (words : List (List ℕ)) {known : Kno
         let vs = site_is in
         let fs = site.flags_are in
         let ats = site.at_is in
-        subst (λ (x : List ℕ). WritesPad b x vdr bytes) (sym (written ∙ (λ i. put (with_field b (vs i) vdr_flags (padded_flags (fs i))) (vs i + ats i) bytes)))
-        (writes b bytes vdr long (omega (arith, fit, long, site.at_is, site.size_is)) own_inside (word_fits b vdr 84 (vdr + 44) 4 site.bytes (omega arith) (omega arith)))
+        record { long = long; room = omega (arith, fit, long, site.at_is, site.size_is); small = word_fits b vdr 84 (vdr + 44) 4 site.bytes (omega arith) (omega arith); written = written ∙ (λ i. put (with_field b (vs i) vdr_flags (padded_flags (fs i))) (vs i + ats i) bytes) }
 
     here : variable_of now parts.own ≡ padded
     here = meaning good parts.at written_there ∙ (λ i. record (variable_of b parts.own) { pad = turns i })
 
-    pub put_knows : Knows now known
-    put_knows = knows_still name good knows may.found (edits good parts.at written_there) here refl
-
-    pub put_done : (limit : ℕ) → p.at + length bytes ≤ limit - length b → length b ≤ limit → limit ≤ image_limit → Answers limit b (SetPad name words) (Done Plain) now
-    put_done limit under short limited =
-        let size = room_is in
-        gone limit b (SetPad name words) _ Plain now goes (omega (arith, size, under, short))
-        (follows_still name good knows may.found (edits good parts.at written_there) here (SetPad name words) refl goes
-        (may_keep name good knows may.found now (set_pad_changes b (shape b)) (record stays_own { vdr = Anything }) (next_field ∷ []) refl tt)
-        (of_found name good knows may.found (λ u u'. SetsPad b now u.vdr u'.vdr []) (still_there name good knows may.found (edits good parts.at written_there) here) (pads_in_place good parts.at written_there))
-        (omega (arith, short, limited)) refl)
+    pub put_done : ((limit : ℕ) → p.at + length bytes ≤ limit - length b → length b ≤ limit → limit ≤ image_limit → Answers limit b (SetPad name words) (Done Plain) now) × Knows now known
+    put_done = (
+      λ limit under short limited.
+          let size = room_is in
+          gone limit b (SetPad name words) _ Plain now goes (omega (arith, size, under, short))
+          (follows_still name good knows may.found (edits good parts.at written_there) here (SetPad name words) refl goes
+          (may_keep name good knows may.found now (set_pad_changes b (shape b)) (record stays_own { vdr = Anything }) (next_field ∷ []) refl tt)
+          (of_found name good knows may.found (λ u u'. SetsPad b now u.vdr u'.vdr []) (still_there name good knows may.found (edits good parts.at written_there) here) (pads_in_place good parts.at written_there))
+          (omega (arith, short, limited)) refl),
+      knows_still name good knows may.found (edits good parts.at written_there) here refl,
+    )
 
   -- ---- where the VDR moved
 
@@ -413,8 +337,8 @@ module _ {b : List ℕ} (name : List ℕ) (words : List (List ℕ)) {known : Kno
     there_now : slice_get (shapes_of (shape now) id.kind) (length parts.before) ≡ Some (own' good parts.at moved)
     there_now = ap (λ (vs : List VariableShape). slice_get vs (length parts.before)) (own_now b now _ id.kind (freed_is good parts.at moved says mv.gives)) ∙ got-middle parts.before (own' good parts.at moved) parts.after
 
-    pub moved_done : (limit : ℕ) → p.at + length bytes ≤ limit - length b → length b ≤ limit → limit ≤ image_limit → Answers limit b (SetPad name words) (Done Plain) now
-    moved_done limit under fit above =
+    moved_answers : (limit : ℕ) → p.at + length bytes ≤ limit - length b → length b ≤ limit → limit ≤ image_limit → Answers limit b (SetPad name words) (Done Plain) now
+    moved_answers limit under fit above =
         let size = room_is in
         let body_is : 8 + length (padded_body b vdr bytes) ≡ (pad_field b vdr).place + length bytes = need_is good stands pads in
         let same = site.at_is in
@@ -434,9 +358,12 @@ module _ {b : List ℕ} (name : List ℕ) (words : List (List ℕ)) {known : Kno
           does = of_found name good knows may.found (λ u u'. SetsPad b now u.vdr u'.vdr (acts good parts.at moved says mv.gives)) there_now (moved_sets_pad good parts.at moved says mv.gives);
         })
 
-    pub moved_knows : {kind : Kind} → id.kind ≡ kind → places ≡ (known_of known kind).places → num ≡ id.num → Knows now (with_known known kind (record (known_of known kind) { places = places' }))
-    moved_knows of old at =
-        let places_are = (own_known name good knows may.found).places_are ∙ ap vdrs parts.at.was in
-        subst (λ (k : Kind). Knows now (with_known known k (record (known_of known k) { places = places' }))) of
-        (knows_with _ _ knows id.kind content_moved (freed_is good parts.at moved says mv.gives) (same_names name good knows may.found padded refl)
-        (m.places_are ∙ (λ i. slice_set (old i) (at i) m.by) ∙ (λ i. slice_set (known_of known (sym of i)).places (sym parts.count i) m.by) ∙ ap (λ (xs : List ℕ). slice_set xs (length parts.before) m.by) places_are ∙ sym (vdrs_set parts.before parts.own (own' good parts.at moved) parts.after)))
+    pub moved_done : ((limit : ℕ) → p.at + length bytes ≤ limit - length b → length b ≤ limit → limit ≤ image_limit → Answers limit b (SetPad name words) (Done Plain) now) × ((kind : Kind) → id.kind ≡ kind → places ≡ (known_of known kind).places → num ≡ id.num → Knows now (with_known known kind (record (known_of known kind) { places = places' })))
+    moved_done = (
+      moved_answers,
+      λ kind of old at.
+          let places_are = (own_known name good knows may.found).places_are ∙ ap vdrs parts.at.was in
+          subst (λ (k : Kind). Knows now (with_known known k (record (known_of known k) { places = places' }))) of
+          (knows_with _ _ knows id.kind content_moved (freed_is good parts.at moved says mv.gives) (same_names name good knows may.found padded refl)
+          (m.places_are ∙ (λ i. slice_set (old i) (at i) m.by) ∙ (λ i. slice_set (known_of known (sym of i)).places (sym parts.count i) m.by) ∙ ap (λ (xs : List ℕ). slice_set xs (length parts.before) m.by) places_are ∙ sym (vdrs_set parts.before parts.own (own' good parts.at moved) parts.after))),
+    )

@@ -1,5 +1,5 @@
 -- What the calls of the removal of a variable ask: the greatest MaxRec that is left, the numbers that are written, and the records that go; and what is kept of the variables then.
-use Rattle.std.proofs.Common.{◌≡◌, ℕ, zero, suc, ◌+◌, ◌^◌, ◌<◌, ◌≤◌, List, [], ◌∷◌, ◌++◌, length, map, max, take, drop, get_or, refl, sym, ap, ◌∙◌, arith, inl, inr, subst, append_assoc, ℤ, ◌-◌, Result, Ok, Err, OnOk, FitsSigned}
+use Rattle.std.proofs.Common.{◌≡◌, ℕ, suc, ◌+◌, ◌^◌, ◌<◌, ◌≤◌, List, [], ◌∷◌, ◌++◌, length, map, max, take, drop, get_or, refl, sym, ap, ◌∙◌, arith, inl, inr, subst, append_assoc, ℤ, ◌-◌, Result, Ok, Err, OnOk, FitsSigned}
 use Rattle.cdf_vars.proofs.Common.{at_drop_more, take_all, length-map, length-drop, map-append, fold, remove, greatest_at, numbers_on, with_writes, with_field, number, vdr_vxr_head, In, max_rec_at, extent, DataSet, Variable, last_number, VdrsLie, shapes_of, vdrs_append, good_by_its_shape, good_is_sound, In-append_left, In-append_right, VariableShape, Shape, Each, HasVariable, shape, variables, vdrs, VariableFits, IsSound, Good, index_at, Kind, R, Z, to_z-of_z, w32, cast_signed, cast_unsigned, this, image_limit, greatest_fits, other_kind, with_shapes, content, variable_of, variables_of, with_variables, KnownKind, KnowsKind}
 use Rattle.std.proofs.lemmas.List.{take-append-drop}
 use Rattle.std.proofs.lemmas.List.Sums.{fold-append}

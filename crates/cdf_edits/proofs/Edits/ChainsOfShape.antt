@@ -1,5 +1,5 @@
 -- The chains of an image with a shape as calls speak of them; a record that joined one, one that went, and one that took the place of another.
-use Rattle.std.proofs.Common.{◌≡◌, ℕ, ◌<◌, ◌≤◌, ◌^◌, List, [], ◌∷◌, ◌++◌, length, true, false, sym, ap, subst, ◌∙◌, arith}
+use Rattle.std.proofs.Common.{◌≡◌, ℕ, ◌≤◌, List, [], ◌∷◌, ◌++◌, length, true, false, sym, ap, subst, ◌∙◌, arith}
 use Rattle.cdf_edits.proofs.Common.{image_limit, Touch, touched_field, Changed, next_field, is_in, is_linkable, IsChain, number, size_at, type_at, Shape, HasShape, In, AreTiles, tiles, linkable-from, linkable-in, is_in-false, is_in-true, tiles_are, Chain, Lists, holder_of, head_of, counted_in, type_in, members_of, HasChain, HolderStands, MayJoin, link_behind, before, with_in_place, Appended, Removed, Replaced}
 use Rattle.cdf_format.specs.Chains.{chain}
 use Rattle.cdf_format.specs.Walks.{records_of}

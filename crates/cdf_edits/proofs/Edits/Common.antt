@@ -15,7 +15,7 @@ pub use Rattle.cdf_edits.proofs.Edits.EntryFields.{of_shape}
 pub use Rattle.cdf_edits.proofs.Edits.FirstRecords.{read_now}
 pub use Rattle.cdf_edits.proofs.Edits.FreedRecord.{FreesRecord, IsPlain, as_long_now, freed_acts, freed_bytes, freed_each, freed_edit, freed_keeps_unused, freed_list, freed_real, freed_type, gdr_same, other_chain, other_links, records_now}
 pub use Rattle.cdf_edits.proofs.Edits.FreedRecords.{sizes_by_tiles}
-pub use Rattle.cdf_edits.proofs.Edits.MadeRecord.{end_now, fresh, list_chain, made_edit, made_keeps_unused, made_part, made_size, made_type, listed_before, listed_marks, loose_away, place_in, unowned}
+pub use Rattle.cdf_edits.proofs.Edits.MadeRecord.{end_now, fresh, list_chain, made_edit, made_keeps_unused, made_once, made_part, made_size, made_type, listed_before, listed_marks, loose_away, place_in, unowned}
 pub use Rattle.cdf_edits.proofs.Edits.MarkLemmas.{Avoids-append, Away-append, Within-append, all_unmarked-away, avoided-avoids, ended-avoids, the_one, unmarked-away, within-within}
 pub use Rattle.cdf_edits.proofs.Edits.OneChain.{differ_before}
 pub use Rattle.cdf_edits.proofs.Edits.OneSpliced.{content_replaced}
@@ -35,7 +35,7 @@ pub use Rattle.cdf_edits.proofs.Edits.VdrEdited.{EditsVdr, MarkTests, StandsAmon
 pub use Rattle.cdf_edits.proofs.Frame.ChangedBytes.{changed_put}
 pub use Rattle.cdf_edits.proofs.Frame.Meaning.{FileSame, Kept, KeptButLink, but_link, late_size, late_type, pad_long, pad_width}
 pub use Rattle.cdf_edits.proofs.Frame.OwnersApart.{all_attribute_records, all_variable_records, owned-times, times-append}
-pub use Rattle.cdf_edits.proofs.Frame.VdrCopied.{Copied, VdrCopied, copied_part, pad_field_copied, piece_copied, type_copied, value_copied, word_copied}
+pub use Rattle.cdf_edits.proofs.Frame.VdrCopied.{Copied, VdrCopied, copied_in_place, copied_part, pad_field_copied, piece_copied, type_copied, value_copied, word_copied}
 pub use Rattle.cdf_edits.proofs.Rules.FirstHead.{FirstSays, first_hold, first_said}
 pub use Rattle.cdf_edits.proofs.Space.ActsLeave.{each, no_acts, places-sized}
 pub use Rattle.cdf_edits.proofs.Space.LaidOut.{placed_says, says_kept}

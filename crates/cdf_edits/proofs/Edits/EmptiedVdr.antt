@@ -1,11 +1,11 @@
 -- A variable that left the chain, and whose VDR leads to no node any more: the image is sound as before, and its records can be freed.
-use Rattle.std.proofs.Common.{◌≡◌, ◌≢◌, ◌⊎◌, ℕ, ◌+◌, ◌-◌, ◌<◌, ◌≤◌, List, [], ◌∷◌, ◌++◌, length, eq-eqb, refl, sym, ap, subst, ◌∙◌, arith, inl, inr}
-use Rattle.cdf_edits.proofs.Common.{cases_eq, ◌==◌, if◌then◌else◌, Kind, byte, number, size_at, type_at, with_field, LiesIn, Field, vdr_vxr_head, vdr_vxr_tail, emptied_fields, empty_writes, gdr_type, uir_type, VariableShape, Shape, Each, shape, vdrs, IsSound, In, Good, number_kept, tile_lies, is_a-in, is_a-type, OutsideFields, shapes_of, vdr_type, freed_with_variable, Edit, Among, Mark, mark, Avoids, Away, Lies, freeing_marks, field_marks, index_types, UnlinksVariable, variable_removing_marks, variable_unlinking_marks, write, with_writes, type_in, variables_chain, AreFree, with_space, length-with_field, field_reads}
+use Rattle.std.proofs.Common.{◌≡◌, ◌≢◌, ◌⊎◌, ℕ, ◌+◌, ◌<◌, ◌≤◌, List, [], ◌∷◌, ◌++◌, length, eq-eqb, refl, sym, ap, subst, ◌∙◌, arith, inl, inr}
+use Rattle.cdf_edits.proofs.Common.{cases_eq, if◌then◌else◌, Kind, byte, number, size_at, type_at, with_field, LiesIn, Field, vdr_vxr_head, vdr_vxr_tail, emptied_fields, empty_writes, VariableShape, Shape, Each, shape, vdrs, IsSound, In, Good, tile_lies, OutsideFields, shapes_of, vdr_type, freed_with_variable, Edit, Mark, Avoids, Away, freeing_marks, field_marks, UnlinksVariable, variable_unlinking_marks, with_writes, type_in, variables_chain, AreFree, length-with_field, field_reads}
 use Rattle.cdf_fields.proofs.Writes.{other_words}
 use Rattle.cdf_edits.proofs.Edits.Composing.{head_size, edit_then}
 use Rattle.cdf_edits.proofs.Edits.FreedBytes.{free_used}
 use Rattle.cdf_edits.proofs.Edits.LooseWritten.{loose_edit, loose_long, loose_shape, loose_sound, loose_free, others_kept}
-use Rattle.cdf_edits.proofs.Edits.MarkLemmas.{the_one, Avoids-append, Avoids-split}
+use Rattle.cdf_edits.proofs.Edits.MarkLemmas.{the_one}
 use Rattle.cdf_edits.proofs.Edits.OwnVariable.{mine_freed}
 use Rattle.cdf_edits.proofs.Edits.LeftChain.{as_long}
 use Rattle.cdf_edits.proofs.Edits.UnlinkedVariable.{leaves, unlinked_edit, unlinked_shape, left_shape, mid_sound, own_free, own_there, types_stay}

@@ -1,13 +1,13 @@
 -- The old VDR is freed that another one took the place of: what the image is then, and what `set-pad` does where the VDR moves.
-use Rattle.std.proofs.Common.{◌≡◌, ◌≢◌, ◌⊎◌, not, ℕ, suc, ◌+◌, ◌<◌, ◌≤◌, List, [], ◌∷◌, ◌++◌, length, Bool, Some, eq-eqb, true, false, refl, sym, ap, subst, ◌∙◌, arith, inl, inr, le_refl}
-use Rattle.cdf_edits.proofs.Common.{size_kept, ne_eqb, lt-leb, ◌==◌, if◌then◌else◌, slice_set, turned, Kind, R, Z, Variable, image_limit, Found, variables_of, with_variables, is_in, next_field, content, variable_of, number, integer4, size_at, type_at, gdr_offset, read_types, Unused, owned, owned_by, unused_records, times, Field, gdr_eof, vdr_blocking_factor, vdr_flags, vdr_num, vdr_name, name_in, fixed_size, is_record_type, VariableShape, Shape, vdrs, vdrs_append, is_compressed, is_little, is_z, dimensions_at, HasShape, Each, shape, In, In-append, pad_field, pad_at, type_of_variable, value_bytes, records_vary, vdr_end, Good, type_kept, number_kept, bytes_kept, good_by_its_shape, times-none, Hold-member, shape_is, AllKeep, Allowances, Anything, Keeps, Only, no_fields, same_kind, shapes_of, stays_own, vdr_type, set_pad_changes, unread_type, Edit, Mark, making_marks, giving_marks, adding_marks, Act, ActsFollow, Gave, Took, gave, head_of, count_of, type_in, Gives, SetsPad, variables_chain}
-use Rattle.cdf_edits.proofs.Edits.Common.{FileSame, FreesRecord, IsRuled, IsSorted, Kept, KeptButLink, StandsAmong, VariableLives, VariableSplices, after_ours, attributes_kept, as_long_now, behind_in, content_copied, fits, freed_acts, freed_bytes, freed_each, freed_edit, freed_keeps_unused, freed_list, freed_real, freed_type, file_same, gdr_place, gdr_same, has, index_records, index_rules_stay, keep_own, keep_variable_parts, kind_type, links_copied, listed_before, listed_marks, long, loose_away, no_block, nums_from, other_chain, other_kind, other_links, ours, owned_once_if, pad_long, pad_width, place_in, records_now, remain_from, rules_stay, same_as_itself, shape_now, sound, stood, the_one, through, tile, typed, used_times, vdr_allowance, with_shapes}
+use Rattle.std.proofs.Common.{◌≡◌, ◌≢◌, ◌⊎◌, not, ℕ, suc, ◌+◌, ◌<◌, ◌≤◌, List, [], ◌∷◌, ◌++◌, length, Some, eq-eqb, true, refl, sym, ap, subst, ◌∙◌, arith, inl, inr, le_refl}
+use Rattle.cdf_edits.proofs.Common.{size_kept, ne_eqb, lt-leb, ◌==◌, slice_set, turned, Kind, R, Z, Variable, image_limit, Found, variables_of, with_variables, is_in, next_field, content, variable_of, number, size_at, type_at, gdr_offset, read_types, Unused, owned, owned_by, unused_records, times, Field, gdr_eof, vdr_flags, fixed_size, is_record_type, VariableShape, Shape, vdrs, vdrs_append, is_little, is_z, dimensions_at, Each, shape, In, In-append, pad_field, type_of_variable, value_bytes, vdr_end, Good, type_kept, number_kept, bytes_kept, good_by_its_shape, times-none, Hold-member, shape_is, AllKeep, Allowances, Anything, Keeps, Only, shapes_of, stays_own, vdr_type, set_pad_changes, unread_type, Edit, Mark, making_marks, giving_marks, adding_marks, Act, ActsFollow, Gave, Took, head_of, count_of, type_in, Gives, SetsPad, variables_chain}
+use Rattle.cdf_edits.proofs.Edits.Common.{FileSame, FreesRecord, IsRuled, IsSorted, Kept, KeptButLink, StandsAmong, VariableLives, VariableSplices, after_ours, attributes_kept, as_long_now, behind_in, content_copied, fits, freed_acts, freed_bytes, freed_each, freed_edit, freed_keeps_unused, freed_list, freed_real, freed_type, file_same, gdr_place, gdr_same, has, index_records, index_rules_stay, keep_own, keep_variable_parts, kind_type, links_copied, listed_before, listed_marks, long, loose_away, no_block, nums_from, other_chain, other_links, ours, owned_once_if, pad_long, pad_width, place_in, records_now, remain_from, rules_stay, same_as_itself, shape_now, sound, stood, the_one, through, tile, typed, used_times, vdr_allowance, with_shapes}
 use Rattle.cdf_edits.proofs.Edits.FreedRecord.{other_kept}
 use Rattle.cdf_edits.proofs.Edits.JoinedVdr.{KindTests, edit, ends, fills, gdr_is, join_tests, joined_acts, joined_size, joined_type, linked, list, member_in, plain_kind, real, records}
 use Rattle.cdf_edits.proofs.Edits.MovedVdr.{CopiesVdr, MovesVdr, beside, by_not_old, by_once, chain_late, late_is, late_shape, old_live, old_unowned, own', sound_late, traded}
 use Rattle.cdf_edits.proofs.Edits.OwnEdited.{replaced_content, replaced_counted, replaced_good, replaced_named, ruled_before}
 use Rattle.cdf_edits.proofs.Edits.PadWritten.{HoldsPad, copied, name_is, num_is, packed, padded_end, padded_means}
-use Rattle.cdf_edits.proofs.Edits.VariablesLinked.{behind_kept, keep_numbered, keep_with_kind, live, next_keeps, others_live}
+use Rattle.cdf_edits.proofs.Edits.VariablesLinked.{behind_kept, keep_numbered, keep_with_kind, live, next_keeps, other_stays, others_live}
 
 -- ---- by the kind
 
@@ -237,14 +237,10 @@ module _ {b late now : List ℕ} {kind : Kind} {before : List VariableShape} {ow
     own_may : Keeps b now old (may.variables kind (length before) old)
     own_may = subst (Keeps b now old) (sym (vdr_allowance b found before own after at.was refl (typed good at ∙ kind_type kind) (no_block good at) (record stays_own { vdr = Anything }) (next_field ∷ []))) tt
 
-    other_may : (kind : Kind) → same_kind kind (other_kind kind) ≡ false
-    other_may R = refl
-    other_may Z = refl
-
     pub keeps_now : AllKeep b now may acts (owned b s)
     keeps_now =
         let keep = keep_numbered (sound good at) edit_now t (records_now f) may acts kind in
-        keep_with_kind (sound good at) edit_now t (records_now f) may.variables acts (λ k x. rw (other_may kind) refl)
+        keep_with_kind (sound good at) edit_now t (records_now f) may.variables acts (λ k x. rw (other_stays kind) refl)
         (keep_variable_parts b now may acts kind before own after at.was
         (keep 0 before (ours good at).0 (λ k x low high i inside. beside_keeps k x (λ q. omega (arith, q, high)) (beside good at m x (inl i)).0 (links_now x (inl i))))
         (keep_own b now may acts kind (length before) own own_may (λ x i. stood (sound good at) edit_now (records_now f) x (behind_in good at x i) (behind_now x i)))

@@ -1,9 +1,9 @@
 -- Numbers that are written in a record in use that no owner has: the image is sound as before, with its content, and what could be freed still can.
 use Rattle.std.proofs.Common.{◌≡◌, ◌≢◌, ℕ, ◌+◌, ◌≤◌, List, [], ◌∷◌, length, true, refl, sym, ap, subst, ◌∙◌, arith, inl, inr}
-use Rattle.cdf_edits.proofs.Common.{cases_eq, Same, Same-part, IsChain, content, number, size_at, type_at, times, owned_records, gdr_uir_head, gdr_type, uir_type, fixed_size, is_record_type, Shape, HasShape, Each, shape, shape_is, IsSound, In, tile_lies, linkable-in, linkable-type, number_kept, size_kept, type_kept, unused_records, Edit, Mark, Away, Write, with_writes, AreFree, with_space}
+use Rattle.cdf_edits.proofs.Common.{cases_eq, Same, Same-part, IsChain, content, number, size_at, type_at, times, owned_records, gdr_uir_head, uir_type, fixed_size, is_record_type, Shape, HasShape, Each, shape, shape_is, IsSound, In, linkable-in, linkable-type, number_kept, unused_records, Edit, Mark, Away, Write, with_writes, AreFree, with_space}
 use Rattle.cdf_edits.proofs.Edits.Composing.{head_size, head_type}
 use Rattle.cdf_edits.proofs.Edits.FreedBytes.{free_used, unowned_used}
-use Rattle.cdf_edits.proofs.Edits.OwnedOnce.{used_times, none_in_use}
+use Rattle.cdf_edits.proofs.Edits.OwnedOnce.{none_in_use}
 use Rattle.cdf_edits.proofs.Edits.RecordFrame.{chain_kept, kept_away}
 use Rattle.cdf_edits.proofs.Edits.StepEdits.{gdr_in, gdr_long, some_bytes}
 use Rattle.cdf_edits.proofs.Edits.WrittenFields.{MayWrite, writes_edit, writes_long}

@@ -1,8 +1,8 @@
 -- A VDR is placed anew and takes the place of the old one in its chain: the image until the old one is freed.
 use Rattle.std.proofs.Common.{◌≡◌, ◌≢◌, ◌⊎◌, ℕ, ◌+◌, ◌<◌, ◌≤◌, List, [], ◌∷◌, ◌++◌, length, eq-eqb, refl, sym, ap, subst, ◌∙◌, arith, inl, inr, le_refl}
 use Rattle.cdf_edits.proofs.Common.{ne_eqb, Kind, IsChain, number, size_at, type_at, times, owned_records, VariableShape, Shape, vdrs, HasVariable, HasShape, Each, shape, IsSound, In, In-append_left, In-append_right, Distinct, Distinct-back, Distinct-middle, pad_field, value_bytes, vdr_end, Good, Each-split, vdrs_append, shapes_of, counted_in, head_of, members_of, type_in, with_in_place, variables_chain}
-use Rattle.cdf_edits.proofs.Edits.Common.{IsHeld, StandsAmong, VariableLives, behind_in, fits, fits_copied, fresh, has, index_records, kind_chain, late_type, links_copied, members_are, not_twice_kept, of_kind, owned-times, sound, sound_if, spliced_times, the_one, tile, times-append, typed, unowned, none_in_use, used_times, with_shapes}
-use Rattle.cdf_edits.proofs.Edits.JoinedVdr.{JoinsVdr, chain, edit, file, fills, gdr_is, joined_is, joined_size, joined_splices, list, lives, marks, plain_kind, records, used}
+use Rattle.cdf_edits.proofs.Edits.Common.{IsHeld, StandsAmong, VariableLives, behind_in, fits, fits_copied, fresh, has, index_records, kind_chain, late_type, links_copied, made_once, members_are, not_twice_kept, of_kind, owned-times, sound, sound_if, spliced_times, the_one, tile, times-append, typed, none_in_use, used_times, with_shapes}
+use Rattle.cdf_edits.proofs.Edits.JoinedVdr.{JoinsVdr, chain, edit, file, fills, gdr_is, joined_is, joined_size, joined_splices, list, lives, marks, plain_kind, records, t, used}
 use Rattle.cdf_edits.proofs.Edits.PadWritten.{HoldsPad, copied, packed, padded_end}
 
 -- a record with these bytes behind its size took the place of the VDR of a variable
@@ -91,10 +91,7 @@ module _ {b late : List ℕ} {kind : Kind} {before : List VariableShape} {own : 
         omega (arith, traded own.vdr, once_before)
 
     pub by_once : used_times late_shape by ≡ 1
-    by_once =
-        let came : times by (by ∷ []) ≡ 1 = rw (eq-eqb by by refl) refl in
-        let none = none_of by own.vdr by_not_old in
-        omega (arith, traded by, unowned (sound good at) (fills (sound good at) m))
+    by_once = (made_once (sound good at) (fills (sound good at) m) m.joined.linked m.joined.as_long (t (sound good at) m).lately late_shape (times by (own.vdr ∷ [])) (traded by) (none_of by own.vdr by_not_old) by (inl refl)).1
 
     fewer : (x : ℕ) → (In x (by ∷ []) → ⊥) → used_times late_shape x ≤ used_times (shape b) x
     fewer x outside = let none = none_of x by (λ q. outside (inl q)) in omega (arith, traded x)

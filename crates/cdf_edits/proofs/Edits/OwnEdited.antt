@@ -9,11 +9,11 @@ use Rattle.cdf_edits.proofs.Edits.VariableFrame.{IsRuled, variables_away, remain
 use Rattle.cdf_edits.proofs.Edits.VariableKept.{OnlyVariable, only_variable}
 use Rattle.cdf_edits.proofs.Edits.VariableKinds.{kind_ours, other_kind, with_shapes, vdrs_rows, in_gdr, counted_before, vdrs_rows_kept, keeps_kind, kind_chain, variables_of_are}
 use Rattle.cdf_edits.proofs.Edits.VariableNames.{own_names_apart, apart_if, IsBeside}
-use Rattle.cdf_edits.proofs.Edits.VariableSplice.{VariableSplices, OwnRules, shape_now, good_image_if, keeps_all_attributes, content_now, parts_ruled}
+use Rattle.cdf_edits.proofs.Edits.VariableSplice.{VariableSplices, shape_now, good_image_if, keeps_all_attributes, content_now, parts_ruled}
 use Rattle.cdf_edits.proofs.Frame.Meaning.{FileSame}
 use Rattle.cdf_edits.proofs.Frame.OwnersApart.{all_variable_records}
 use Rattle.std.proofs.Common.{suc, inr, ap, [], ◌≡◌, ℕ, ◌≤◌, List, length, ◌+◌, ◌∷◌, ◌++◌, sym, ◌∙◌, inl, refl, true, false, subst, map, bytes_eq, arith}
-use Rattle.cdf_edits.proofs.Common.{length-append, number_rows, ◌==◌, r_max_rec, w32, cast_signed, integer4, name_in, number, size_at, type_at, eof, gdr_offset, gdr_r_max_rec, gdr_eof, Field, vdr_name, gdr_uir_head, vdr_num, word_kept, ActsFollow, shapes_of, Edit, Mark, Avoids, Away, avoided, keeps_file, unmarked, type_in, count_of, head_of, variables_chain, IsGoodByShape, vdrs_append, good_by_its_shape, rules_of_good, good_long, sealed_kept, shape_is, content_is, is_in, IsChain, variable_of, content, Nodes, read_types, owned, variable_records, OwnedOnce, uir_type, gdr_type, is_record_type, fixed_size, Hold, vdrs, VariableShape, shape, Shape, HasVariable, HasShape, In, Good, Variable, DataSet, image_limit, with_variables, variables_of, read, Kind, R, Z, map-append, length-map, set_at, flat_map, slice_set}
+use Rattle.cdf_edits.proofs.Common.{length-append, number_rows, ◌==◌, r_max_rec, w32, cast_signed, integer4, name_in, number, size_at, type_at, eof, gdr_offset, gdr_r_max_rec, gdr_eof, Field, vdr_name, gdr_uir_head, vdr_num, word_kept, ActsFollow, shapes_of, Edit, Mark, Avoids, Away, avoided, keeps_file, unmarked, type_in, count_of, head_of, variables_chain, vdrs_append, good_by_its_shape, rules_of_good, good_long, sealed_kept, shape_is, content_is, is_in, IsChain, variable_of, content, Nodes, read_types, owned, variable_records, OwnedOnce, uir_type, gdr_type, is_record_type, fixed_size, Hold, vdrs, VariableShape, shape, Shape, HasVariable, HasShape, In, Good, Variable, DataSet, image_limit, with_variables, variables_of, read, Kind, R, Z, map-append, length-map, set_at, flat_map, slice_set}
 use Rattle.cdf_edits.proofs.Edits.StandsAmong.{StandsAmong, sound, ours, after_ours}
 
 -- ---- one variable of a kind became another one

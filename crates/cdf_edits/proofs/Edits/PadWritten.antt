@@ -1,7 +1,10 @@
 -- A VDR gets another pad value, and the flag that says that there is one: what it says then, and that it is written where there is room for it.
-use Rattle.std.proofs.Common.{◌≡◌, ℕ, ◌+◌, ◌*◌, ◌/◌, ◌%◌, ◌<◌, ◌≤◌, Bool, List, [], ◌∷◌, length, true, None, Some, refl, sym, ap, subst, ◌∙◌, arith, inl, inr}
-use Rattle.cdf_edits.proofs.Common.{before_first, byte, cast_signed, w32, ◌==◌, if◌then◌else◌, Kind, R, Z, turned, variable_of, number, name_in, integer4, has_bit, size_at, type_at, Field, OutsideFields, vdr_flags, vdr_num, vdr_blocking_factor, vdr_name, VariableShape, is_compressed, records_vary, shape, field_bytes, is_little, is_z, dimensions_at, value_bytes, has_pad, pad_field, pad_at, type_of_variable, vdr_end, Good, of_le, tile_lies, with_bits, SetsPad, Took, Gave, Edit, Mark, mark, Among, touched_field, Changed, type_in, variables_chain}
+use Rattle.std.proofs.Common.{drop, ◌^◌, ◌≡◌, ℕ, ◌+◌, ◌*◌, ◌/◌, ◌%◌, ◌<◌, ◌≤◌, Bool, List, [], ◌∷◌, length, true, None, Some, refl, sym, ap, subst, ◌∙◌, arith, inl, inr}
+use Rattle.cdf_edits.proofs.Common.{LiesIn, drop-put_there, field_reads, length-put, length-with_field, put, take, take_at, with_field, before_first, byte, cast_signed, w32, ◌==◌, if◌then◌else◌, Kind, R, Z, turned, variable_of, number, name_in, integer4, has_bit, size_at, type_at, Field, OutsideFields, vdr_flags, vdr_num, vdr_blocking_factor, vdr_name, VariableShape, is_compressed, records_vary, shape, field_bytes, is_little, is_z, dimensions_at, value_bytes, has_pad, pad_field, pad_at, type_of_variable, vdr_end, Good, of_le, tile_lies, with_bits, SetsPad, Took, Gave, Edit, Mark, mark, Among, touched_field, Changed, type_in, variables_chain}
 use Rattle.cdf_edits.proofs.Edits.Common.{Copied, EditsVdr, FileSame, MarkTests, StandsAmong, VdrCopied, behind_in, behind_kept, changed_edit, content_copied, copied_part, file, file_same, fits, has, long, pad_field_copied, pad_long, pad_width, piece_copied, some_bytes, sound, through, tile, type_copied, typed, value_copied, word_copied}
+use Rattle.cdf_edits.proofs.Edits.WrittenFields.{with_field_changed}
+use Rattle.cdf_edits.proofs.Frame.ChangedBytes.{changed_put, changed_then}
+use Rattle.cdf_fields.proofs.Writes.{word-put_outside}
 
 -- ---- bit 1 of the flags
 
@@ -16,6 +19,9 @@ padded_1 n = let same : (n % 2 + 2 * 1 + 4 * (n / 4)) / 2 % 2 ≡ 1 = omega arit
 
 pub padded_2 : (n : ℕ) → has_bit (padded_flags n) 2 ≡ has_bit n 2
 padded_2 n = let same : (n % 2 + 2 * 1 + 4 * (n / 4)) / 4 % 2 ≡ n / 4 % 2 = omega arith in ap (λ (k : ℕ). k == 1) same
+
+pub small_flags : (x : ℕ) → x < 256 ^ 4 → padded_flags x < 256 ^ 4
+small_flags x l = omega arith
 
 -- ---- a VDR with another pad value, at its place or at another one
 
@@ -71,16 +77,15 @@ module _ {b now : List ℕ} {v v' : ℕ} {bytes : List ℕ} (p : HoldsPad b now 
 
 -- ---- the edit
 
--- these bytes stand as the pad value of the VDR at a place, which has room for them, its flags say so, and no other byte changed
+-- these bytes of a value were written as the pad value of the VDR at a place, which has room for them, once its flags said that there is one
 pub record WritesPad (b now : List ℕ) (v : ℕ) (bytes : List ℕ) : Type 0 where
+  pub long : length bytes ≡ value_bytes b v
   pub room : (pad_field b v).place + value_bytes b v ≤ size_at b v
-  pub bytes_are : field_bytes now v (pad_field b v) ≡ bytes
-  pub flags_are : number now v vdr_flags ≡ padded_flags (number b v vdr_flags)
-  pub changed : Changed b now (touched_field v (pad_field b v) ∷ touched_field v vdr_flags ∷ [])
-  pub as_long : length now ≡ length b
+  pub small : number b v vdr_flags < 256 ^ 4
+  pub written : now ≡ put (with_field b v vdr_flags (padded_flags (number b v vdr_flags))) (v + (pad_field b v).place) bytes
 
 abbrev pad_marks : ℕ → ℕ → Field → List Mark
-pad_marks type v pad = mark type (Among (v ∷ [])) pad ∷ mark type (Among (v ∷ [])) vdr_flags ∷ []
+pad_marks type v pad = mark type (Among (v ∷ [])) vdr_flags ∷ mark type (Among (v ∷ [])) pad ∷ []
 
 pad_tests : (kind : Kind) (v : ℕ) (pad : Field) → MarkTests kind (pad_marks (type_in (variables_chain kind)) v pad)
 pad_tests R v pad = record { file_clear = refl; attributes_clear = refl; other_clear = refl; index_clear = refl; unused_clear = refl; gdr_clear = λ lo hi. refl }
@@ -108,32 +113,57 @@ module _ {b now : List ℕ} {kind : Kind} {before : List VariableShape} {own : V
   high : v + size_at b v ≤ length b
   high = (tile_lies b 8 (length b) (shape b).records v (sound good at).has_shape.tiled (tile good at)).high
 
+  abbrev flagged : List ℕ
+  flagged = with_field b v vdr_flags (padded_flags (number b v vdr_flags))
+
+  lies : LiesIn b v vdr_flags
+  lies = let h = high in let n = long good at in omega arith
+
+  in_flagged : (length flagged ≡ length b) × (v + pad.place + length bytes ≤ length flagged)
+  in_flagged =
+      let same = length-with_field b v vdr_flags (padded_flags (number b v vdr_flags)) lies in
+      let h = high in
+      (same, omega (arith, same, w.room, w.long, h))
+
+  as_long : length now ≡ length b
+  as_long = ap (λ (x : List ℕ). length x) w.written ∙ length-put flagged (v + pad.place) bytes in_flagged.1 ∙ in_flagged.0
+
+  changed : Changed b now (touched_field v vdr_flags ∷ touched_field v pad ∷ [])
+  changed = subst (λ (x : List ℕ). Changed b x (touched_field v vdr_flags ∷ touched_field v pad ∷ [])) (sym w.written) (changed_then b flagged _ (touched_field v vdr_flags ∷ []) (touched_field v pad ∷ []) (with_field_changed b v vdr_flags _ lies)
+      (changed_put flagged v pad.place pad.width bytes (w.long ∙ sym wide) (let l = in_flagged.1 in omega (arith, l, wide, w.long))))
+
   edit : Edit b now (shape b).records (shape b).records marks []
   edit =
       let late = pad_late in
       let n = long good at in
-      changed_edit b now (shape b).records (touched_field v pad ∷ touched_field v vdr_flags ∷ []) marks [] (sound good at).has_shape.tiled w.as_long w.changed (
-        record { inside = tile good at; fits = subst (λ (k : ℕ). pad.place + k ≤ size_at b v) (sym wide) w.room; behind_size = through 8 340 pad.place (omega arith) late; behind_type = inl (through 12 340 pad.place (omega arith) late); covered = inl (record { typed = typed good at; lies = inl refl; low = omega arith; high = omega arith }) },
-        (record { inside = tile good at; fits = omega arith; behind_size = omega arith; behind_type = inl (omega arith); covered = inr (inl (record { typed = typed good at; lies = inl refl; low = omega arith; high = omega arith })) }, tt),
+      changed_edit b now (shape b).records (touched_field v vdr_flags ∷ touched_field v pad ∷ []) marks [] (sound good at).has_shape.tiled as_long changed (
+        record { inside = tile good at; fits = omega arith; behind_size = omega arith; behind_type = inl (omega arith); covered = inl (record { typed = typed good at; lies = inl refl; low = omega arith; high = omega arith }) },
+        (record { inside = tile good at; fits = subst (λ (k : ℕ). pad.place + k ≤ size_at b v) (sym wide) w.room; behind_size = through 8 340 pad.place (omega arith) late; behind_type = inl (through 12 340 pad.place (omega arith) late); covered = inr (inl (record { typed = typed good at; lies = inl refl; low = omega arith; high = omega arith })) }, tt),
       ) (some_bytes b (shape b) (sound good at).has_shape)
 
   same_file : FileSame b now
   same_file = file_same (sound good at) edit t.file_clear
 
   same : (i : ℕ) → i < pad.place → OutsideFields (vdr_flags ∷ []) i → byte now (v + i) ≡ byte b (v + i)
-  same i up out = w.changed.same (v + i) (let h = high in let r = w.room in omega arith) (inl (omega arith), (elim out.0 [ inl x ↦ inl (omega arith) | inr x ↦ inr (omega arith) ], tt))
+  same i up out = changed.same (v + i) (let h = high in let r = w.room in omega arith) (elim out.0 [ inl x ↦ inl (omega arith) | inr x ↦ inr (omega arith) ], (inl (omega arith), tt))
 
   head : Copied b now v v 0 12
   head = record { each = λ i l h. same i (let late = pad_late in omega arith) (inl (omega arith), tt) }
 
   holds : HoldsPad b now v v bytes
-  holds = record { typed = word_copied head 8 4 (omega arith) (omega arith); alike = λ i low up out. same i up out; flags_are = w.flags_are; pad_is = w.bytes_are }
+  holds = record { typed = word_copied head 8 4 (omega arith) (omega arith); alike = λ i low up out. same i up out; flags_are = flags_are; pad_is = pad_is }
+    where
+      flags_are : number now v vdr_flags ≡ padded_flags (number b v vdr_flags)
+      flags_are = ap (λ (x : List ℕ). number x v vdr_flags) w.written ∙ word-put_outside flagged bytes (v + pad.place) (v + 44) 4 in_flagged.1 (inl (let late = pad_late in omega arith)) ∙ field_reads b v vdr_flags _ lies (small_flags (number b v vdr_flags) w.small)
+
+      pad_is : field_bytes now v pad ≡ bytes
+      pad_is = ap (λ (x : List ℕ). field_bytes x v pad) w.written ∙ ap (λ (k : ℕ). take k (drop (v + pad.place) (put flagged (v + pad.place) bytes))) (wide ∙ sym w.long) ∙ ap (take (length bytes)) (drop-put_there flagged bytes (v + pad.place) (let l = in_flagged.1 in omega (arith, l))) ∙ take_at bytes (drop (v + pad.place + length bytes) flagged) (length bytes) refl
 
   pub edits : EditsVdr b now kind own marks
   edits = record {
     edit = edit;
-    as_long = w.as_long;
-    own_marks = (refl, through 20 340 pad.place (omega arith) pad_late, (refl, (omega arith), tt));
+    as_long = as_long;
+    own_marks = (refl, omega arith, (refl, through 20 340 pad.place (omega arith) pad_late, tt));
     tests = t;
     copied = copied holds;
     num_is = num_is holds;
@@ -144,7 +174,7 @@ module _ {b now : List ℕ} {kind : Kind} {before : List VariableShape} {own : V
   pub meaning : variable_of now own ≡ record (variable_of b own) { pad = Some (turned (type_of_variable b v) (is_little b) bytes) }
   meaning =
       let inside : v + 340 ≤ length b = (let h = high in let n = long good at in omega arith) in
-      padded_means holds same_file own own inside (subst (λ (n : ℕ). v + 340 ≤ n) (sym w.as_long) inside)
+      padded_means holds same_file own own inside (subst (λ (n : ℕ). v + 340 ≤ n) (sym as_long) inside)
       (content_copied (sound good at) edit (file good at edits) own (has good at) (fits good at) (behind_in good at) (behind_kept good at edits) (copied holds) (packed holds)) refl
 
   -- ---- what `set-pad` does where the VDR stays
@@ -155,11 +185,11 @@ module _ {b now : List ℕ} {kind : Kind} {before : List VariableShape} {own : V
       record {
         acts_are = sym (ap (λ (p : Bool). if p then [] else Took v (vdr_end now v) ∷ Gave v (size_at b v) ∷ []) (of_le (vdr_end now v) (size_at b v) fit));
         copied = λ i low up out. same i up out;
-        flags_are = w.flags_are;
+        flags_are = holds.flags_are;
         room = λ within. record {
           place_stays = refl;
           size_stays = word_copied head 0 8 (omega arith) (omega arith);
-          rest_stays = record { each = λ i low up. let e = padded_end holds same_file in let k = wide in let late = pad_late in let h = high in w.changed.same i (omega arith) (inr (omega arith), (inr (omega arith), tt)) };
+          rest_stays = record { each = λ i low up. let e = padded_end holds same_file in let k = wide in let late = pad_late in let h = high in changed.same i (omega arith) (inr (omega arith), (inr (omega arith), tt)) };
         };
         freed = tt;
       }

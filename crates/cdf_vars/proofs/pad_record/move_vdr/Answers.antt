@@ -1,6 +1,5 @@
-use Rattle.std.proofs.Common.{◌≡◌, ◌+◌, ◌∙◌, ℕ, List, length, take, None, refl, sym, ap, subst, arith}
-use Rattle.cdf_vars.proofs.Common.{last_or, Frame, edit_done, edit_failed, edit_more, edits_by_read, keeps_by_read, read_once, Good, before, members_of, variables_chain, last_got, IsVdr, padded_flags}
-use Rattle.cdf_area.proofs.Calls.{edit_without_memory}
+use Rattle.std.proofs.Common.{◌≡◌, ◌+◌, ◌∙◌, ℕ, List, length, take, None, sym, ap, subst, arith}
+use Rattle.cdf_vars.proofs.Common.{last_or, Frame, edit_done, edit_failed, edit_more, keeps_by_read, read_once, Good, before, members_of, variables_chain, last_got, IsVdr, padded_flags}
 use Rattle.cdf_vars.proofs.PadSet.{body_long, is_vdr, old_long, place_late, place_lies, stands_behind}
 use Rattle.cdf_vars.proofs.pad_record.move_vdr.Goals as goal
 
