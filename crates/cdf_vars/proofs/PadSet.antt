@@ -20,22 +20,19 @@ use Rattle.cdf_vars.proofs.VariableFound.{follows_still, knows_still, knows_with
 
 -- ---- the bytes of the new VDR, whose pad value stands at another place in it
 
-module _ (b value : List ℕ) (v at n : ℕ) (inside : v + at ≤ length b) (late : 340 ≤ at) where
+module _ (b value new : List ℕ) (v at n : ℕ) (inside : v + at ≤ length b) (late : 340 ≤ at) (is : new ≡ put (take (at - 8) (drop (v + 8) b)) 36 (big_bytes 4 n) ++ value) where
   abbrev was : List ℕ
   was = take (at - 8) (drop (v + 8) b)
 
   abbrev flags : List ℕ
   flags = big_bytes 4 n
 
-  abbrev new : List ℕ
-  new = put was 36 flags ++ value
-
   pub lengths : (length was ≡ at - 8) × (length flags ≡ 4) × (length (put was 36 flags) ≡ at - 8) × (8 + length new ≡ at + length value)
   lengths =
       let first : length was ≡ at - 8 = simp (length-take, length-drop) (omega arith) in
       let fourth = length-bytes_high_first 4 n in
       let front = length-put was 36 flags (omega (arith, first, fourth)) ∙ first in
-      (first, fourth, front, omega (arith, length-append (put was 36 flags) value, front))
+      (first, fourth, front, ap (λ (xs : List ℕ). 8 + length xs) is ∙ omega (arith, length-append (put was 36 flags) value, front))
 
   new_byte : (i : ℕ) → 8 ≤ i → i < at → (i < 44) ⊎ (48 ≤ i) → byte new (i - 8) ≡ byte b (v + i)
   new_byte i low high side =
@@ -44,7 +41,7 @@ module _ (b value : List ℕ) (v at n : ℕ) (inside : v + at ≤ length b) (lat
         | inl l ↦ byte-put_before was 36 flags (i - 8) (omega (arith, lengths.0)) (omega arith)
         | inr l ↦ byte-put_after was 36 flags (i - 8) (omega (arith, lengths.0)) (omega (arith, lengths.1))
       ] in
-      get_or_append_left (put was 36 flags) value 0 (i - 8) (omega (arith, lengths.2)) ∙ kept ∙ get_or-take (at - 8) (drop (v + 8) b) (i - 8) 0 (omega arith) ∙ get_or-drop (v + 8) b (i - 8) 0 ∙ ap (byte b) from
+      ap (λ (xs : List ℕ). byte xs (i - 8)) is ∙ get_or_append_left (put was 36 flags) value 0 (i - 8) (omega (arith, lengths.2)) ∙ kept ∙ get_or-take (at - 8) (drop (v + 8) b) (i - 8) 0 (omega arith) ∙ get_or-drop (v + 8) b (i - 8) 0 ∙ ap (byte b) from
 
   -- the type stands first
   pub new_type : word new 0 4 ≡ word b (v + 8) 4
@@ -66,14 +63,14 @@ module _ (b value : List ℕ) (v at n : ℕ) (inside : v + at ≤ length b) (lat
     pub flags_there : n < 256 ^ 4 → word written (by + 44) 4 ≡ n
     flags_there small =
         let to : by + 44 ≡ by + 8 + 36 = omega arith in
-        let whole : new ≡ put (was ++ value) 36 flags = sym (put-append was value 36 flags (omega (arith, lengths.0, lengths.1))) in
+        let whole : new ≡ put (was ++ value) 36 flags = is ∙ sym (put-append was value 36 flags (omega (arith, lengths.0, lengths.1))) in
         ap (λ (p : ℕ). word written p 4) to ∙ word-put_inside taken new (by + 8) 36 4 (omega arith) (omega (arith, lengths.3)) ∙ ap (λ (xs : List ℕ). word xs 36 4) whole ∙ word-put_number (was ++ value) 36 4 n (omega (arith, lengths.0, length-append was value)) small
 
     pub value_there : take (length value) (drop (by + at) written) ≡ value
     value_there =
         let more = drop (by + 8 + length new) taken in
         let to : by + at ≡ by + 8 + (at - 8) = omega arith in
-        let whole : drop (by + 8) written ≡ put was 36 flags ++ (value ++ more) = drop-put_there taken new (by + 8) (omega arith) ∙ append_assoc (put was 36 flags) value more in
+        let whole : drop (by + 8) written ≡ put was 36 flags ++ (value ++ more) = drop-put_there taken new (by + 8) (omega arith) ∙ ap (λ (xs : List ℕ). xs ++ more) is ∙ append_assoc (put was 36 flags) value more in
         let behind : drop (by + at) written ≡ value ++ more = ap (λ (p : ℕ). drop p written) to ∙ sym (drop-drop (at - 8) (by + 8) written) ∙ ap (drop (at - 8)) whole ∙ drop_at (put was 36 flags) (value ++ more) (at - 8) lengths.2 in
         ap (take (length value)) behind ∙ take_at value more (length value) refl
 
@@ -118,10 +115,10 @@ module _ {b body : List ℕ} {kind : Kind} {old : ℕ} (good : Good b) (vdr : Is
   inside = vdr_inside good vdr
 
   pub need_is : need ≡ place + length p.bytes
-  need_is = ap (λ (xs : List ℕ). 8 + length xs) p.is ∙ (lengths b p.bytes old place n inside pad_late).3
+  need_is = (lengths b p.bytes body old place n inside pad_late p.is).3
 
   pub type_is : type_of_body body ≡ type_in (variables_chain kind)
-  type_is = ap type_of_body p.is ∙ new_type b p.bytes old place n inside pad_late ∙ typed good among
+  type_is = new_type b p.bytes body old place n inside pad_late p.is ∙ typed good among
 
   pub is_body : IsBody body
   is_body = is_vdr_body kind body (dimensions_at b old) type_is (let e = pad_place kind b old (typed good among) in omega (arith, need_is, e))
@@ -138,14 +135,8 @@ module _ {b body : List ℕ} {kind : Kind} {old : ℕ} (good : Good b) (vdr : Is
     kept : Same exchanged.filled late (by + 20) (by + need)
     kept = behind_link (sound good among) made
 
-    bytes_put : exchanged.filled ≡ put exchanged.placed.taken (by + 8) (padded_body b old p.bytes)
-    bytes_put = exchanged.placed.written ∙ ap (put exchanged.placed.taken (by + 8)) p.is
-
-    roomy : by + (8 + length (padded_body b old p.bytes)) ≤ length exchanged.placed.taken
-    roomy = subst (λ (xs : List ℕ). by + (8 + length xs) ≤ length exchanged.placed.taken) p.is exchanged.placed.inside
-
     late_byte : (i : ℕ) → 20 ≤ i → i < place → (i < 44) ⊎ (48 ≤ i) → byte late (by + i) ≡ byte b (old + i)
-    late_byte i low high side = kept.each (by + i) (omega arith) (omega (arith, need_is)) ∙ ap (λ (x : List ℕ). byte x (by + i)) bytes_put ∙ bytes_copied b p.bytes old place n inside pad_late exchanged.placed.taken by roomy i (omega arith) high side
+    late_byte i low high side = kept.each (by + i) (omega arith) (omega (arith, need_is)) ∙ ap (λ (x : List ℕ). byte x (by + i)) exchanged.placed.written ∙ bytes_copied b p.bytes body old place n inside pad_late p.is exchanged.placed.taken by exchanged.placed.inside i (omega arith) high side
 
     by_lies : by + need ≤ length exchanged.filled
     by_lies = let high = exchanged.placed.inside in let l = exchanged.placed.fills.long in omega (arith, high, l)
@@ -174,12 +165,12 @@ module _ {b body : List ℕ} {kind : Kind} {old : ℕ} (good : Good b) (vdr : Is
         held = record {
           typed = joined_type (sound good among) made ∙ sym (typed good among);
           alike = λ i low high out. alike i low high out.0;
-          flags_are = word_kept exchanged.filled late (by + 20) (by + need) kept (by + 44) 4 (omega arith) (omega (arith, need_is, pad_late)) ∙ ap (λ (x : List ℕ). word x (by + 44) 4) bytes_put
-              ∙ flags_there b p.bytes old place n inside pad_late exchanged.placed.taken by roomy (small_flags (number b old vdr_flags) (word_fits b old 84 (old + 44) 4 p.read (omega arith) (omega arith)));
+          flags_are = word_kept exchanged.filled late (by + 20) (by + need) kept (by + 44) 4 (omega arith) (omega (arith, need_is, pad_late)) ∙ ap (λ (x : List ℕ). word x (by + 44) 4) exchanged.placed.written
+              ∙ flags_there b p.bytes body old place n inside pad_late p.is exchanged.placed.taken by exchanged.placed.inside (small_flags (number b old vdr_flags) (word_fits b old 84 (old + 44) 4 p.read (omega arith) (omega arith)));
           pad_is =
               let wide : (pad_field b old).width ≡ length p.bytes = pad_width (is_z b old) (dimensions_at b old) (value_bytes b old) ∙ sym p.long in
               ap (λ (k : ℕ). take k (drop (by + place) late)) wide ∙ piece_kept exchanged.filled late (by + 20) (by + need) kept (by + place) (length p.bytes) (omega (arith, pad_late)) (omega (arith, need_is)) by_lies (omega (arith, exchanged.as_long))
-              ∙ ap (λ (x : List ℕ). take (length p.bytes) (drop (by + place) x)) bytes_put ∙ value_there b p.bytes old place n inside pad_late exchanged.placed.taken by roomy;
+              ∙ ap (λ (x : List ℕ). take (length p.bytes) (drop (by + place) x)) exchanged.placed.written ∙ value_there b p.bytes body old place n inside pad_late p.is exchanged.placed.taken by exchanged.placed.inside;
         };
         whole = need_is ∙ ap (λ (k : ℕ). place + k) p.long;
         short = omega (arith, p.short, need_is);
@@ -214,17 +205,14 @@ module _ (b : List ℕ) (kind : Kind) {places : List ℕ} {num vdr : ℕ} (good 
       ap (last_or None) (there.front_at ∙ front ∙ (λ i. before (vdr_is i) (sym members i)))
 
   module _ {p : PadPlace} (place : IsPlace b vdr p) where
-    pub place_late : 340 ≤ p.at
-    place_late = subst (λ (k : ℕ). 340 ≤ k) (sym place.at_is) (pad_long (is_z b vdr) (dimensions_at b vdr) (value_bytes b vdr))
-
-    pub place_lies : vdr + p.at ≤ length b
-    place_lies = subst (λ (k : ℕ). vdr + k ≤ length b) (sym place.at_is) (vdr_inside good is_vdr)
+    pub place_in : (340 ≤ p.at) × (vdr + p.at ≤ length b)
+    place_in = rw place.at_is (pad_long (is_z b vdr) (dimensions_at b vdr) (value_bytes b vdr), vdr_inside good is_vdr)
 
     pub old_long : (xs : List ℕ) → xs ≡ take (p.at - 8) (drop (vdr + 8) b) → 40 ≤ length xs
-    old_long xs e = rw e (simp (length-take, length-drop) (omega (arith, place_lies, place_late)))
+    old_long xs e = rw e (simp (length-take, length-drop) (let l = place_in in omega arith))
 
     pub body_long : (xs ys value : List ℕ) (n : ℕ) → xs ≡ take (p.at - 8) (drop (vdr + 8) b) → ys ≡ put xs 36 (big_bytes 4 n) ++ value → 8 + length ys ≡ p.at + length value
-    body_long xs ys value n e f = ap (λ (zs : List ℕ). 8 + length zs) (f ∙ ap (λ (old : List ℕ). put old 36 (big_bytes 4 n) ++ value) e) ∙ (lengths b value vdr p.at n place_lies place_late).3
+    body_long xs ys value n e f = (lengths b value ys vdr p.at n place_in.1 place_in.0 (f ∙ ap (λ (old : List ℕ). put old 36 (big_bytes 4 n) ++ value) e)).3
 
 -- ---- what is asked for
 

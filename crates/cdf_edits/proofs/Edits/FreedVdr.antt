@@ -171,11 +171,7 @@ module _ {b late now : List ℕ} {kind : Kind} {before : List VariableShape} {ow
   shape_then = with_shapes s kind rs (shape now).unused (before ++ own' good at m ∷ after)
 
   same_owners : (x : ℕ) → (In x (by ∷ old ∷ []) → ⊥) → used_times shape_then x ≡ used_times s x
-  same_owners x out =
-      same (used_times (late_shape good at m says) x) (used_times s x) (times x (old ∷ [])) (times x (by ∷ [])) (traded good at m says x) (times-none x (old ∷ []) (λ i. out (inr i))) (times-none x (by ∷ []) (λ i. out (inl (the_one by x i))))
-    where
-      same : (u' u g k : ℕ) → u' + g ≡ u + k → g ≡ 0 → k ≡ 0 → u' ≡ u
-      same u' u g k p q r = omega arith
+  same_owners x out = omega (arith, traded good at m says x, times-none x (old ∷ []) (λ i. out (inr i)), times-none x (by ∷ []) (λ i. out (inl (the_one by x i))))
 
   pub freed_good : length late ≤ image_limit → Good now
   freed_good short =

@@ -87,8 +87,7 @@ module _ {b late : List ℕ} {kind : Kind} {before : List VariableShape} {own : 
     pub old_unowned : used_times late_shape own.vdr ≡ 0
     old_unowned =
         let gone : times own.vdr (own.vdr ∷ []) ≡ 1 = rw (eq-eqb own.vdr own.vdr refl) refl in
-        let none = none_of own.vdr by (λ q. by_not_old (sym q)) in
-        omega (arith, traded own.vdr, once_before)
+        omega (arith, traded own.vdr, once_before, none_of own.vdr by (λ q. by_not_old (sym q)))
 
     pub by_once : used_times late_shape by ≡ 1
     by_once = (made_once (sound good at) (fills (sound good at) m) m.joined.linked m.joined.as_long (t (sound good at) m).lately late_shape (times by (own.vdr ∷ [])) (traded by) (none_of by own.vdr by_not_old) by (inl refl)).1
