@@ -2,7 +2,7 @@
 use Rattle.std.proofs.Common.{◌≡◌, ◌⊎◌, ℕ, ◌+◌, ◌-◌, ◌^◌, ◌<◌, ◌≤◌, List, [], ◌∷◌, ◌++◌, length, take, drop, refl, sym, ap, ◌∙◌, append_assoc, arith, inl, inr, zero, suc, ◌*◌, true, subst, None, eq-eqb, Option, Some, Ok, true≢false, ap₂}
 use Rattle.cdf_vars.proofs.Common.{AtNumber, at_number, put, slice_index, get_or-drop, get_or-take, get_or_append_left, drop_at, word-put_number, byte-put_before, byte-put_inside, byte-put_after, length-append, length-take, length-drop, take_at, drop-drop, big_bytes, drop-put_there, byte, Same, word, number, size_at, with_field, length-put, piece_kept, word_kept, last_or, slice_get, slice_set, Kind, Leads, next_of, next_field, is_in, vdr_flags, VariableShape, vdrs, shape, IsSound, dimensions_at, is_z, pad_field, value_bytes, dims_at, elems_at, type_of_variable, Good, shapes_of, AllKeep, Allowances, stays_own, head_of, members_of, type_in, before, type_of_body, IsBody, variables_chain, kind_chain, StandsAmong, sound, typed, in_middle, tile, AreBytes, word_fits, owned_records, times, owned, In, Distinct, vdr_bytes, room, IsVdr, IsPlace, MayPad, padded_flags, ne_eqb, good_is_sound, got-middle, PadPlace, Done, Refused, TooLarge, Plain, DataType, Go, turned, DataSet, Variable, image_limit, Found, value_size, ByStep, step, size_of, values_in, with_variable, content, variable_of, is_little, tile_lies, Answers, gone, too_large, VarId, Known, Knows, known_of}
 use Rattle.cdf_edits.proofs.Common.{Anything, Exchanged, SetsPad, cases_lt, is_in-true, length-bytes_high_first, set_pad_changes, vdrs_append}
-use Rattle.cdf_edits.proofs.Edits.Common.{Copied, fits, leads_rest, pad_long, pad_width, same_link, word_copied}
+use Rattle.cdf_edits.proofs.Edits.Common.{Copied, fits, high, leads_rest, pad_late, pad_wide, same_link, word_copied}
 use Rattle.cdf_edits.proofs.Edits.JoinedVdr.{behind_link, is_vdr_body, joined_type}
 use Rattle.cdf_edits.proofs.Edits.MovedVdr.{CopiesVdr, MovesVdr, chain_late, members, old_free, old_in, own', sound_late}
 use Rattle.cdf_edits.proofs.Edits.PadWritten.{WritesPad, edits, meaning, pads_in_place, small_flags}
@@ -75,19 +75,17 @@ module _ (b value new : List ℕ) (v at n : ℕ) (inside : v + at ≤ length b) 
         ap (take (length value)) behind ∙ take_at value more (length value) refl
 
 -- equal numbers have equal bytes
-digits_same : (P x x' y y' : ℕ) → y < P → y' < P → x * P + y ≡ x' * P + y' → (x ≡ x') × (y ≡ y')
-digits_same P zero zero y y' l l' e = (refl, omega arith)
-digits_same P zero (suc x') y y' l l' e = absurd (omega arith)
-digits_same P (suc x) zero y y' l l' e = absurd (omega arith)
-digits_same P (suc x) (suc x') y y' l l' e = let r = digits_same P x x' y y' l l' (omega arith) in (ap suc r.0, r.1)
+same_digit : (P x x' y y' : ℕ) → y < P → y' < P → x * P + y ≡ x' * P + y' → x ≡ x'
+same_digit P x x' y y' l l' e = grind arith
 
 equal_bytes : {b now : List ℕ} {s s' m : ℕ} → AreBytes b s m → AreBytes now s' m → (p p' n : ℕ) → s ≤ p → p + n ≤ s + m → s' ≤ p' → p' + n ≤ s' + m → word now p' n ≡ word b p n → (k x y : ℕ) → k < n → x ≡ p' + k → y ≡ p + k → byte now x ≡ byte b y
 equal_bytes are there p p' zero a c d f e k x y lt ex ey = absurd (omega arith)
 equal_bytes {b = b} {now = now} {s = s} {s' = s'} {m = m} are there p p' (suc n) a c d f e k x y lt ex ey =
-    let r = digits_same (256 ^ n) (byte now p') (byte b p) (word now (suc p') n) (word b (suc p) n) (word_fits now s' m (suc p') n there (omega arith) (omega arith)) (word_fits b s m (suc p) n are (omega arith) (omega arith)) e in
+    let first = same_digit (256 ^ n) (byte now p') (byte b p) (word now (suc p') n) (word b (suc p) n) (word_fits now s' m (suc p') n there (omega arith) (omega arith)) (word_fits b s m (suc p) n are (omega arith) (omega arith)) e in
+    let rest : word now (suc p') n ≡ word b (suc p) n = (let same = ap (λ (d : ℕ). d * 256 ^ n) first in omega (arith, same, e)) in
     elim (cases_lt k 1) [
-      | inl first ↦ let left : x ≡ p' = omega arith in let right : y ≡ p = omega arith in ap (byte now) left ∙ r.0 ∙ sym (ap (byte b) right)
-      | inr more ↦ equal_bytes are there (suc p) (suc p') n (omega arith) (omega arith) (omega arith) (omega arith) r.1 (k - 1) x y (omega arith) (omega arith) (omega arith)
+      | inl least ↦ let left : x ≡ p' = omega arith in let right : y ≡ p = omega arith in ap (byte now) left ∙ first ∙ sym (ap (byte b) right)
+      | inr more ↦ equal_bytes are there (suc p) (suc p') n (omega arith) (omega arith) (omega arith) (omega arith) rest (k - 1) x y (omega arith) (omega arith) (omega arith)
     ]
 
 -- ---- the VDR that is made, and that takes the place of the old one
@@ -108,17 +106,14 @@ module _ {b body : List ℕ} {kind : Kind} {old : ℕ} (good : Good b) (vdr : Is
   abbrev need : ℕ
   need = 8 + length body
 
-  pad_late : 340 ≤ place
-  pad_late = pad_long (is_z b old) (dimensions_at b old) (value_bytes b old)
-
   inside : old + place ≤ length b
   inside = vdr_inside good vdr
 
   pub need_is : need ≡ place + length p.bytes
-  need_is = (lengths b p.bytes body old place n inside pad_late p.is).3
+  need_is = (lengths b p.bytes body old place n inside (pad_late b old) p.is).3
 
   pub type_is : type_of_body body ≡ type_in (variables_chain kind)
-  type_is = new_type b p.bytes body old place n inside pad_late p.is ∙ typed good among
+  type_is = new_type b p.bytes body old place n inside (pad_late b old) p.is ∙ typed good among
 
   pub is_body : IsBody body
   is_body = is_vdr_body kind body (dimensions_at b old) type_is (let e = pad_place kind b old (typed good among) in omega (arith, need_is, e))
@@ -136,13 +131,13 @@ module _ {b body : List ℕ} {kind : Kind} {old : ℕ} (good : Good b) (vdr : Is
     kept = behind_link (sound good among) made
 
     late_byte : (i : ℕ) → 20 ≤ i → i < place → (i < 44) ⊎ (48 ≤ i) → byte late (by + i) ≡ byte b (old + i)
-    late_byte i low high side = kept.each (by + i) (omega arith) (omega (arith, need_is)) ∙ ap (λ (x : List ℕ). byte x (by + i)) exchanged.placed.written ∙ bytes_copied b p.bytes body old place n inside pad_late p.is exchanged.placed.taken by exchanged.placed.inside i (omega arith) high side
+    late_byte i low high side = kept.each (by + i) (omega arith) (omega (arith, need_is)) ∙ ap (λ (x : List ℕ). byte x (by + i)) exchanged.placed.written ∙ bytes_copied b p.bytes body old place n inside (pad_late b old) p.is exchanged.placed.taken by exchanged.placed.inside i (omega arith) high side
 
     by_lies : by + need ≤ length exchanged.filled
     by_lies = let high = exchanged.placed.inside in let l = exchanged.placed.fills.long in omega (arith, high, l)
 
     pub long_late : by + 84 ≤ length late
-    long_late = let l = by_lies in let k = exchanged.as_long in omega (arith, need_is, pad_late, l, k)
+    long_late = let l = by_lies in let k = exchanged.as_long in omega (arith, need_is, pad_late b old, l, k)
 
     -- ---- with the bytes of its link
 
@@ -165,12 +160,12 @@ module _ {b body : List ℕ} {kind : Kind} {old : ℕ} (good : Good b) (vdr : Is
         held = record {
           typed = joined_type (sound good among) made ∙ sym (typed good among);
           alike = λ i low high out. alike i low high out.0;
-          flags_are = word_kept exchanged.filled late (by + 20) (by + need) kept (by + 44) 4 (omega arith) (omega (arith, need_is, pad_late)) ∙ ap (λ (x : List ℕ). word x (by + 44) 4) exchanged.placed.written
-              ∙ flags_there b p.bytes body old place n inside pad_late p.is exchanged.placed.taken by exchanged.placed.inside (small_flags (number b old vdr_flags) (word_fits b old 84 (old + 44) 4 p.read (omega arith) (omega arith)));
+          flags_are = word_kept exchanged.filled late (by + 20) (by + need) kept (by + 44) 4 (omega arith) (omega (arith, need_is, pad_late b old)) ∙ ap (λ (x : List ℕ). word x (by + 44) 4) exchanged.placed.written
+              ∙ flags_there b p.bytes body old place n inside (pad_late b old) p.is exchanged.placed.taken by exchanged.placed.inside (small_flags (number b old vdr_flags) (word_fits b old 84 (old + 44) 4 p.read (omega arith) (omega arith)));
           pad_is =
-              let wide : (pad_field b old).width ≡ length p.bytes = pad_width (is_z b old) (dimensions_at b old) (value_bytes b old) ∙ sym p.long in
-              ap (λ (k : ℕ). take k (drop (by + place) late)) wide ∙ piece_kept exchanged.filled late (by + 20) (by + need) kept (by + place) (length p.bytes) (omega (arith, pad_late)) (omega (arith, need_is)) by_lies (omega (arith, exchanged.as_long))
-              ∙ ap (λ (x : List ℕ). take (length p.bytes) (drop (by + place) x)) exchanged.placed.written ∙ value_there b p.bytes body old place n inside pad_late p.is exchanged.placed.taken by exchanged.placed.inside;
+              let wide : (pad_field b old).width ≡ length p.bytes = pad_wide b old ∙ sym p.long in
+              ap (λ (k : ℕ). take k (drop (by + place) late)) wide ∙ piece_kept exchanged.filled late (by + 20) (by + need) kept (by + place) (length p.bytes) (omega (arith, pad_late b old)) (omega (arith, need_is)) by_lies (omega (arith, exchanged.as_long))
+              ∙ ap (λ (x : List ℕ). take (length p.bytes) (drop (by + place) x)) exchanged.placed.written ∙ value_there b p.bytes body old place n inside (pad_late b old) p.is exchanged.placed.taken by exchanged.placed.inside;
         };
         whole = need_is ∙ ap (λ (k : ℕ). place + k) p.long;
         short = omega (arith, p.short, need_is);
@@ -206,7 +201,7 @@ module _ (b : List ℕ) (kind : Kind) {places : List ℕ} {num vdr : ℕ} (good 
 
   module _ {p : PadPlace} (place : IsPlace b vdr p) where
     pub place_in : (340 ≤ p.at) × (vdr + p.at ≤ length b)
-    place_in = rw place.at_is (pad_long (is_z b vdr) (dimensions_at b vdr) (value_bytes b vdr), vdr_inside good is_vdr)
+    place_in = rw place.at_is (pad_late b vdr, vdr_inside good is_vdr)
 
     pub old_long : (xs : List ℕ) → xs ≡ take (p.at - 8) (drop (vdr + 8) b) → 40 ≤ length xs
     old_long xs e = rw e (simp (length-take, length-drop) (let l = place_in in omega arith))
@@ -249,9 +244,6 @@ module _ {b : List ℕ} (name : List ℕ) (words : List (List ℕ)) {known : Kno
   turns : Some (turned (type_of_variable b vdr) (is_little b) bytes) ≡ Some may.value.value
   turns = ap Some (ap (λ (t : DataType). turned t (is_little b) bytes) (sym site.t_is) ∙ may.value.turns)
 
-  own_inside : vdr + size_at b vdr ≤ length b
-  own_inside = (tile_lies b 8 (length b) (shape b).records vdr (sound good parts.at).has_shape.tiled (tile good parts.at)).high
-
   goes : step (content b) (SetPad name words) ≡ ByStep (Go (with_variable (content b) mine padded) Plain)
   goes =
       let read : values_in (type_of_variable b vdr) (elems_at b vdr) 1 words ≡ Ok may.value.value = ap₂ (λ (t : DataType) (n : ℕ). values_in t n 1 words) (sym site.t_is) (sym site.elems_are) ∙ may.value.read in
@@ -268,10 +260,10 @@ module _ {b : List ℕ} (name : List ℕ) (words : List (List ℕ)) {known : Kno
   within_known of = subst (λ (k : Kind). id.num < length (known_of known k).places) of (within_places name good knows may.found)
 
   pub at_inside : p.at ≤ length b
-  at_inside = let fit = (fits good parts.at).0 in let l = own_inside in omega (arith, fit, l, site.at_is)
+  at_inside = let fit = (fits good parts.at).0 in let l = high good parts.at in omega (arith, fit, l, site.at_is)
 
   pub need_inside : p.at + length bytes ≤ p.size → p.vdr + (p.at + length bytes) ≤ length b
-  need_inside fit = let l = own_inside in omega (arith, l, fit, site_is, site.size_is)
+  need_inside fit = let l = high good parts.at in omega (arith, l, fit, site_is, site.size_is)
 
   pub over : (limit : ℕ) → limit - length b < p.at + length bytes → length b ≤ limit → Answers limit b (SetPad name words) (Refused TooLarge) b
   over limit test fit = let size = room_is in too_large limit b (SetPad name words) _ Plain goes (omega (arith, size, test, fit))

@@ -31,9 +31,9 @@ pub use Rattle.cdf_edits.proofs.Edits.VariableKept.{keep_kinds, keep_own, keep_v
 pub use Rattle.cdf_edits.proofs.Edits.VariableKinds.{keeps_kind, kind_chain, kind_in, kind_ours, kind_type, of_kind, other_kind, spliced_times, with_shapes}
 pub use Rattle.cdf_edits.proofs.Edits.VariableNames.{apart_if}
 pub use Rattle.cdf_edits.proofs.Edits.VariableSplice.{OwnRules, VariableSplices, attributes_kept, content_now, good_image_if, keeps_all_attributes, shape_now, sound_if}
-pub use Rattle.cdf_edits.proofs.Edits.VdrEdited.{EditsVdr, MarkTests, StandsAmong, after_ours, behind_in, behind_kept, file, fits, has, long, no_block, ours, sound, through, tile, typed}
+pub use Rattle.cdf_edits.proofs.Edits.VdrEdited.{EditsVdr, MarkTests, StandsAmong, after_ours, behind_in, behind_kept, file, fits, has, high, long, name_room, no_block, ours, sound, through, tile, typed}
 pub use Rattle.cdf_edits.proofs.Frame.ChangedBytes.{changed_put}
-pub use Rattle.cdf_edits.proofs.Frame.Meaning.{FileSame, Kept, KeptButLink, but_link, late_size, late_type, pad_long, pad_width}
+pub use Rattle.cdf_edits.proofs.Frame.Meaning.{FileSame, Kept, KeptButLink, but_link, late_size, late_type, pad_late, pad_wide}
 pub use Rattle.cdf_edits.proofs.Frame.OwnersApart.{all_attribute_records, all_variable_records, owned-times, times-append}
 pub use Rattle.cdf_edits.proofs.Frame.VdrCopied.{Copied, VdrCopied, copied_in_place, copied_part, pad_field_copied, piece_copied, type_copied, value_copied, word_copied}
 pub use Rattle.cdf_edits.proofs.Rules.FirstHead.{FirstSays, first_hold, first_said}

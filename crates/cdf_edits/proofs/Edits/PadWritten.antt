@@ -1,7 +1,7 @@
 -- A VDR gets another pad value, and the flag that says that there is one: what it says then, and that it is written where there is room for it.
 use Rattle.std.proofs.Common.{drop, ◌^◌, ◌≡◌, ℕ, ◌+◌, ◌*◌, ◌/◌, ◌%◌, ◌<◌, ◌≤◌, Bool, List, [], ◌∷◌, length, true, None, Some, refl, sym, ap, subst, ◌∙◌, arith, inl, inr}
 use Rattle.cdf_edits.proofs.Common.{LiesIn, drop-put_there, field_reads, length-put, length-with_field, put, take, take_at, with_field, before_first, byte, cast_signed, w32, ◌==◌, if◌then◌else◌, Kind, R, Z, turned, variable_of, number, name_in, integer4, has_bit, size_at, type_at, Field, OutsideFields, vdr_flags, vdr_num, vdr_blocking_factor, vdr_name, VariableShape, is_compressed, records_vary, shape, field_bytes, is_little, is_z, dimensions_at, value_bytes, has_pad, pad_field, pad_at, type_of_variable, vdr_end, Good, of_le, tile_lies, with_bits, SetsPad, Took, Gave, Edit, Mark, mark, Among, touched_field, Changed, type_in, variables_chain}
-use Rattle.cdf_edits.proofs.Edits.Common.{Copied, EditsVdr, FileSame, MarkTests, StandsAmong, VdrCopied, behind_in, behind_kept, changed_edit, content_copied, copied_part, file, file_same, fits, has, long, pad_field_copied, pad_long, pad_width, piece_copied, some_bytes, sound, through, tile, type_copied, typed, value_copied, word_copied}
+use Rattle.cdf_edits.proofs.Edits.Common.{Copied, EditsVdr, FileSame, MarkTests, StandsAmong, VdrCopied, behind_in, behind_kept, changed_edit, content_copied, copied_part, file, file_same, fits, has, high, long, name_room, pad_field_copied, pad_late, pad_wide, piece_copied, some_bytes, sound, through, tile, type_copied, typed, value_copied, word_copied}
 use Rattle.cdf_edits.proofs.Edits.WrittenFields.{with_field_changed}
 use Rattle.cdf_edits.proofs.Frame.ChangedBytes.{changed_put, changed_then}
 use Rattle.cdf_fields.proofs.Writes.{word-put_outside}
@@ -33,23 +33,20 @@ pub record HoldsPad (b now : List ℕ) (v v' : ℕ) (bytes : List ℕ) : Type 0 
   pub pad_is : field_bytes now v' (pad_field b v) ≡ bytes
 
 module _ {b now : List ℕ} {v v' : ℕ} {bytes : List ℕ} (p : HoldsPad b now v v' bytes) where
-  late : 340 ≤ (pad_field b v).place
-  late = pad_long (is_z b v) (dimensions_at b v) (value_bytes b v)
-
   behind : Copied b now v v' 48 (pad_field b v).place
   behind = record { each = λ i l h. p.alike i (omega arith) h (inr l, tt) }
 
   pub copied : VdrCopied b now v v'
-  copied = let l = late in record { typed = p.typed; first = record { each = λ i low h. p.alike i (omega arith) (omega arith) (inl h, tt) }; second = copied_part behind 48 68 (omega arith) (omega arith); third = copied_part behind 72 80 (omega arith) (omega arith); behind = copied_part behind 340 _ (omega arith) (omega arith) }
+  copied = let l = pad_late b v in record { typed = p.typed; first = record { each = λ i low h. p.alike i (omega arith) (omega arith) (inl h, tt) }; second = copied_part behind 48 68 (omega arith) (omega arith); third = copied_part behind 72 80 (omega arith) (omega arith); behind = copied_part behind 340 _ (omega arith) (omega arith) }
 
   pub num_is : number now v' vdr_num ≡ number b v vdr_num
-  num_is = let l = late in word_copied behind 68 4 (omega arith) (omega arith)
+  num_is = let l = pad_late b v in word_copied behind 68 4 (omega arith) (omega arith)
 
   blocking_is : integer4 now v' vdr_blocking_factor ≡ integer4 b v vdr_blocking_factor
-  blocking_is = let l = late in ap (cast_signed w32) (word_copied behind 80 4 (omega arith) (omega arith))
+  blocking_is = let l = pad_late b v in ap (cast_signed w32) (word_copied behind 80 4 (omega arith) (omega arith))
 
   pub name_is : v + 340 ≤ length b → v' + 340 ≤ length now → name_in now v' vdr_name ≡ name_in b v vdr_name
-  name_is inside there = let l = late in ap (before_first (λ (x : ℕ). x == 0)) (piece_copied behind 84 256 (omega arith) (omega arith) (omega arith) (omega arith))
+  name_is inside there = let l = pad_late b v in ap (before_first (λ (x : ℕ). x == 0)) (piece_copied behind 84 256 (omega arith) (omega arith) (omega arith) (omega arith))
 
   pub packed : is_compressed now v' ≡ is_compressed b v
   packed = ap (λ (n : ℕ). has_bit n 2) p.flags_are ∙ padded_2 (number b v vdr_flags)
@@ -104,25 +101,16 @@ module _ {b now : List ℕ} {kind : Kind} {before : List VariableShape} {own : V
   t : MarkTests kind marks
   t = pad_tests kind v pad
 
-  pad_late : 340 ≤ pad.place
-  pad_late = pad_long (is_z b v) (dimensions_at b v) (value_bytes b v)
-
-  wide : pad.width ≡ value_bytes b v
-  wide = pad_width (is_z b v) (dimensions_at b v) (value_bytes b v)
-
-  high : v + size_at b v ≤ length b
-  high = (tile_lies b 8 (length b) (shape b).records v (sound good at).has_shape.tiled (tile good at)).high
-
   abbrev flagged : List ℕ
   flagged = with_field b v vdr_flags (padded_flags (number b v vdr_flags))
 
   lies : LiesIn b v vdr_flags
-  lies = let h = high in let n = long good at in omega arith
+  lies = let h = high good at in let n = long good at in omega arith
 
   in_flagged : (length flagged ≡ length b) × (v + pad.place + length bytes ≤ length flagged)
   in_flagged =
       let same = length-with_field b v vdr_flags (padded_flags (number b v vdr_flags)) lies in
-      let h = high in
+      let h = high good at in
       (same, omega (arith, same, w.room, w.long, h))
 
   as_long : length now ≡ length b
@@ -130,40 +118,40 @@ module _ {b now : List ℕ} {kind : Kind} {before : List VariableShape} {own : V
 
   changed : Changed b now (touched_field v vdr_flags ∷ touched_field v pad ∷ [])
   changed = subst (λ (x : List ℕ). Changed b x (touched_field v vdr_flags ∷ touched_field v pad ∷ [])) (sym w.written) (changed_then b flagged _ (touched_field v vdr_flags ∷ []) (touched_field v pad ∷ []) (with_field_changed b v vdr_flags _ lies)
-      (changed_put flagged v pad.place pad.width bytes (w.long ∙ sym wide) (let l = in_flagged.1 in omega (arith, l, wide, w.long))))
+      (changed_put flagged v pad.place pad.width bytes (w.long ∙ sym (pad_wide b v)) (let l = in_flagged.1 in omega (arith, l, pad_wide b v, w.long))))
 
   edit : Edit b now (shape b).records (shape b).records marks []
   edit =
-      let late = pad_late in
+      let late = pad_late b v in
       let n = long good at in
       changed_edit b now (shape b).records (touched_field v vdr_flags ∷ touched_field v pad ∷ []) marks [] (sound good at).has_shape.tiled as_long changed (
         record { inside = tile good at; fits = omega arith; behind_size = omega arith; behind_type = inl (omega arith); covered = inl (record { typed = typed good at; lies = inl refl; low = omega arith; high = omega arith }) },
-        (record { inside = tile good at; fits = subst (λ (k : ℕ). pad.place + k ≤ size_at b v) (sym wide) w.room; behind_size = through 8 340 pad.place (omega arith) late; behind_type = inl (through 12 340 pad.place (omega arith) late); covered = inr (inl (record { typed = typed good at; lies = inl refl; low = omega arith; high = omega arith })) }, tt),
+        (record { inside = tile good at; fits = subst (λ (k : ℕ). pad.place + k ≤ size_at b v) (sym (pad_wide b v)) w.room; behind_size = through 8 340 pad.place (omega arith) late; behind_type = inl (through 12 340 pad.place (omega arith) late); covered = inr (inl (record { typed = typed good at; lies = inl refl; low = omega arith; high = omega arith })) }, tt),
       ) (some_bytes b (shape b) (sound good at).has_shape)
 
   same_file : FileSame b now
   same_file = file_same (sound good at) edit t.file_clear
 
   same : (i : ℕ) → i < pad.place → OutsideFields (vdr_flags ∷ []) i → byte now (v + i) ≡ byte b (v + i)
-  same i up out = changed.same (v + i) (let h = high in let r = w.room in omega arith) (elim out.0 [ inl x ↦ inl (omega arith) | inr x ↦ inr (omega arith) ], (inl (omega arith), tt))
+  same i up out = changed.same (v + i) (let h = high good at in let r = w.room in omega arith) (elim out.0 [ inl x ↦ inl (omega arith) | inr x ↦ inr (omega arith) ], (inl (omega arith), tt))
 
   head : Copied b now v v 0 12
-  head = record { each = λ i l h. same i (let late = pad_late in omega arith) (inl (omega arith), tt) }
+  head = record { each = λ i l h. same i (let late = pad_late b v in omega arith) (inl (omega arith), tt) }
 
   holds : HoldsPad b now v v bytes
   holds = record { typed = word_copied head 8 4 (omega arith) (omega arith); alike = λ i low up out. same i up out; flags_are = flags_are; pad_is = pad_is }
     where
       flags_are : number now v vdr_flags ≡ padded_flags (number b v vdr_flags)
-      flags_are = ap (λ (x : List ℕ). number x v vdr_flags) w.written ∙ word-put_outside flagged bytes (v + pad.place) (v + 44) 4 in_flagged.1 (inl (let late = pad_late in omega arith)) ∙ field_reads b v vdr_flags _ lies (small_flags (number b v vdr_flags) w.small)
+      flags_are = ap (λ (x : List ℕ). number x v vdr_flags) w.written ∙ word-put_outside flagged bytes (v + pad.place) (v + 44) 4 in_flagged.1 (inl (let late = pad_late b v in omega arith)) ∙ field_reads b v vdr_flags _ lies (small_flags (number b v vdr_flags) w.small)
 
       pad_is : field_bytes now v pad ≡ bytes
-      pad_is = ap (λ (x : List ℕ). field_bytes x v pad) w.written ∙ ap (λ (k : ℕ). take k (drop (v + pad.place) (put flagged (v + pad.place) bytes))) (wide ∙ sym w.long) ∙ ap (take (length bytes)) (drop-put_there flagged bytes (v + pad.place) (let l = in_flagged.1 in omega (arith, l))) ∙ take_at bytes (drop (v + pad.place + length bytes) flagged) (length bytes) refl
+      pad_is = ap (λ (x : List ℕ). field_bytes x v pad) w.written ∙ ap (λ (k : ℕ). take k (drop (v + pad.place) (put flagged (v + pad.place) bytes))) (pad_wide b v ∙ sym w.long) ∙ ap (take (length bytes)) (drop-put_there flagged bytes (v + pad.place) (let l = in_flagged.1 in omega (arith, l))) ∙ take_at bytes (drop (v + pad.place + length bytes) flagged) (length bytes) refl
 
   pub edits : EditsVdr b now kind own marks
   edits = record {
     edit = edit;
     as_long = as_long;
-    own_marks = (refl, omega arith, (refl, through 20 340 pad.place (omega arith) pad_late, tt));
+    own_marks = (refl, omega arith, (refl, through 20 340 pad.place (omega arith) (pad_late b v), tt));
     tests = t;
     copied = copied holds;
     num_is = num_is holds;
@@ -173,7 +161,7 @@ module _ {b now : List ℕ} {kind : Kind} {before : List VariableShape} {own : V
 
   pub meaning : variable_of now own ≡ record (variable_of b own) { pad = Some (turned (type_of_variable b v) (is_little b) bytes) }
   meaning =
-      let inside : v + 340 ≤ length b = (let h = high in let n = long good at in omega arith) in
+      let inside = name_room good at in
       padded_means holds same_file own own inside (subst (λ (n : ℕ). v + 340 ≤ n) (sym as_long) inside)
       (content_copied (sound good at) edit (file good at edits) own (has good at) (fits good at) (behind_in good at) (behind_kept good at edits) (copied holds) (packed holds)) refl
 
@@ -189,7 +177,7 @@ module _ {b now : List ℕ} {kind : Kind} {before : List VariableShape} {own : V
         room = λ within. record {
           place_stays = refl;
           size_stays = word_copied head 0 8 (omega arith) (omega arith);
-          rest_stays = record { each = λ i low up. let e = padded_end holds same_file in let k = wide in let late = pad_late in let h = high in changed.same i (omega arith) (inr (omega arith), (inr (omega arith), tt)) };
+          rest_stays = record { each = λ i low up. let e = padded_end holds same_file in let k = pad_wide b v in let late = pad_late b v in let h = high good at in changed.same i (omega arith) (inr (omega arith), (inr (omega arith), tt)) };
         };
         freed = tt;
       }

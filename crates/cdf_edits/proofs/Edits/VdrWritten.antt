@@ -1,7 +1,7 @@
 -- BlockingFactor or Name of a VDR is written where it stands.
 use Rattle.std.proofs.Common.{◌≡◌, ◌⊎◌, ℕ, ◌+◌, ◌≤◌, List, [], ◌∷◌, length, true, refl, sym, ap, subst, ◌∙◌, arith, inl, inr}
 use Rattle.cdf_edits.proofs.Common.{w32, cast_signed, before_first, ◌==◌, if◌then◌else◌, Kind, R, Z, Same, variable_of, number, name_in, integer4, has_bit, size_at, Field, vdr_flags, vdr_blocking_factor, vdr_name, VariableShape, is_compressed, shape, field_bytes, is_z, dimensions_at, value_bytes, has_pad, pad_field, pad_at, vdr_end, Good, word_kept, piece_kept, of_le, tile_lies, Edit, Mark, Within, field_marks, touched_field, Changed, type_in, variables_chain}
-use Rattle.cdf_edits.proofs.Edits.Common.{EditsVdr, FileSame, MarkTests, StandsAmong, VdrCopied, behind_in, behind_kept, changed_edit, content_copied, copied_in_place, file, file_same, fits, has, head_type, long, pad_field_copied, pad_long, pad_width, some_bytes, sound, tile, typed, value_copied}
+use Rattle.cdf_edits.proofs.Edits.Common.{EditsVdr, FileSame, MarkTests, StandsAmong, VdrCopied, behind_in, behind_kept, changed_edit, content_copied, copied_in_place, file, file_same, fits, has, head_type, high, long, pad_field_copied, pad_late, pad_wide, some_bytes, sound, tile, typed, value_copied}
 use Rattle.cdf_edits.proofs.Frame.Meaning.{end_fits}
 use Rattle.cdf_edits.proofs.Frame.VdrCopied.{pad_copied}
 
@@ -63,9 +63,6 @@ module _ {b now : List ℕ} {kind : Kind} {before : List VariableShape} {own : V
       less : (a p s : ℕ) → a + p ≤ s → a ≤ s
       less a p s h = omega arith
 
-  pad_late : 340 ≤ (pad_field b v).place
-  pad_late = pad_long (is_z b v) (dimensions_at b v) (value_bytes b v)
-
   flags_same : number now v vdr_flags ≡ number b v vdr_flags
   flags_same = word_kept b now (v + 44) (v + 48) (early_part 44 48 (omega arith)) (v + 44) 4 (omega arith) (omega arith)
 
@@ -76,9 +73,9 @@ module _ {b now : List ℕ} {kind : Kind} {before : List VariableShape} {own : V
   pad_bytes e =
       let n = size_at b v in
       let ends = end_fits (has_pad b v) (pad_field b v).place (value_bytes b v) n (fits good at).0 e in
-      let room : (pad_field b v).place + (pad_field b v).width ≤ n = subst (λ (k : ℕ). (pad_field b v).place + k ≤ n) (sym (pad_width (is_z b v) (dimensions_at b v) (value_bytes b v))) ends in
-      piece_kept b now (v + 340) (v + n) (part 340 n (inr w.early) (omega arith)) (v + (pad_field b v).place) (pad_field b v).width (from v (pad_field b v).place pad_late) (upto v (pad_field b v).place (pad_field b v).width n room)
-      (tile_lies b 8 (length b) (shape b).records v (sound good at).has_shape.tiled (tile good at)).high (let l = w.as_long in omega arith)
+      let room : (pad_field b v).place + (pad_field b v).width ≤ n = subst (λ (k : ℕ). (pad_field b v).place + k ≤ n) (sym (pad_wide b v)) ends in
+      piece_kept b now (v + 340) (v + n) (part 340 n (inr w.early) (omega arith)) (v + (pad_field b v).place) (pad_field b v).width (from v (pad_field b v).place (pad_late b v)) (upto v (pad_field b v).place (pad_field b v).width n room)
+      (high good at) (let l = w.as_long in omega arith)
     where
       from : (v p : ℕ) → 340 ≤ p → v + 340 ≤ v + p
       from v p l = omega arith
@@ -117,7 +114,7 @@ module _ {b now : List ℕ} {kind : Kind} {before : List VariableShape} {own : V
   pub name_same : f.place + f.width ≤ 84 → name_in now v vdr_name ≡ name_in b v vdr_name
   name_same l =
       let n = long good at in
-      ap (before_first (λ (x : ℕ). x == 0)) (piece_kept b now (v + 84) (v + 340) (part 84 340 (inr l) n) (v + 84) 256 (omega arith) (omega arith) (let high = (tile_lies b 8 (length b) (shape b).records v (sound good at).has_shape.tiled (tile good at)).high in omega arith) (let l = w.as_long in omega arith))
+      ap (before_first (λ (x : ℕ). x == 0)) (piece_kept b now (v + 84) (v + 340) (part 84 340 (inr l) n) (v + 84) 256 (omega arith) (omega arith) (let l = high good at in omega arith) (let l = w.as_long in omega arith))
 
   pub blocking_same : 84 ≤ f.place → integer4 now v vdr_blocking_factor ≡ integer4 b v vdr_blocking_factor
   blocking_same l = let n = long good at in ap (cast_signed w32) (word_kept b now (v + 80) (v + 84) (part 80 84 (inl l) (omega arith)) (v + 80) 4 (omega arith) (omega arith))
