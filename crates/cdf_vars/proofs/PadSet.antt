@@ -1,7 +1,7 @@
 -- The command `set-pad`: the bytes of a VDR with a pad value, the one that takes the place of the old one where that has no room for it, what the command answers, and what is kept of the variables.
 use Rattle.std.proofs.Common.{◌≡◌, ◌⊎◌, ℕ, ◌+◌, ◌-◌, ◌^◌, ◌<◌, ◌≤◌, List, [], ◌∷◌, ◌++◌, length, take, drop, refl, sym, ap, ◌∙◌, append_assoc, arith, inl, inr, zero, suc, ◌*◌, true, subst, None, eq-eqb, Option, Some, Ok, true≢false, ap₂}
-use Rattle.cdf_vars.proofs.Common.{AtNumber, at_number, put, slice_index, get_or-drop, get_or-take, get_or_append_left, drop_at, word-put_number, byte-put_before, byte-put_inside, byte-put_after, length-append, length-take, length-drop, take_at, drop-drop, big_bytes, drop-put_there, byte, Same, word, number, size_at, with_field, length-put, piece_kept, word_kept, last_or, slice_get, slice_set, Kind, Leads, next_of, next_field, is_in, vdr_flags, VariableShape, vdrs, shape, IsSound, dimensions_at, is_z, pad_field, value_bytes, dims_at, elems_at, type_of_variable, Good, shapes_of, AllKeep, Allowances, stays_own, head_of, members_of, type_in, before, type_of_body, IsBody, variables_chain, kind_chain, StandsAmong, sound, typed, in_middle, tile, AreBytes, word_fits, owned_records, times, owned, In, Distinct, vdr_bytes, room, IsVdr, IsPlace, MayPad, padded_flags, ne_eqb, good_is_sound, got-middle, PadPlace, Done, Refused, TooLarge, Plain, DataType, Go, turned, DataSet, Variable, image_limit, Found, value_size, ByStep, step, size_of, values_in, with_variable, content, variable_of, is_little, tile_lies, Answers, gone, too_large, VarId, Known, Knows, known_of}
-use Rattle.cdf_edits.proofs.Common.{Anything, Exchanged, SetsPad, cases_lt, is_in-true, length-bytes_high_first, set_pad_changes, vdrs_append}
+use Rattle.cdf_vars.proofs.Common.{AtNumber, at_number, put, slice_index, get_or-drop, get_or-take, get_or_append_left, drop_at, word-put_number, byte-put_before, byte-put_inside, byte-put_after, length-append, length-take, length-drop, take_at, drop-drop, big_bytes, drop-put_there, byte, Same, word, number, with_field, length-put, piece_kept, word_kept, last_or, slice_get, slice_set, Kind, Leads, next_of, next_field, is_in, vdr_flags, VariableShape, vdrs, shape, IsSound, dimensions_at, pad_field, value_bytes, dims_at, elems_at, type_of_variable, Good, shapes_of, AllKeep, Allowances, stays_own, head_of, members_of, type_in, before, type_of_body, IsBody, variables_chain, kind_chain, StandsAmong, sound, typed, in_middle, AreBytes, word_fits, owned_records, times, owned, In, Distinct, vdr_bytes, room, IsVdr, IsPlace, MayPad, padded_flags, ne_eqb, good_is_sound, got-middle, PadPlace, Done, Refused, TooLarge, Plain, DataType, Go, turned, DataSet, Variable, image_limit, Found, value_size, ByStep, step, size_of, values_in, with_variable, content, variable_of, is_little, Answers, gone, too_large, VarId, Known, Knows, known_of}
+use Rattle.cdf_edits.proofs.Common.{Anything, Exchanged, length-map, SetsPad, cases_lt, is_in-true, length-bytes_high_first, set_at, set_pad_changes, vdrs_append}
 use Rattle.cdf_edits.proofs.Edits.Common.{Copied, fits, high, leads_rest, pad_late, pad_wide, same_link, word_copied}
 use Rattle.cdf_edits.proofs.Edits.JoinedVdr.{behind_link, is_vdr_body, joined_type}
 use Rattle.cdf_edits.proofs.Edits.MovedVdr.{CopiesVdr, MovesVdr, chain_late, members, old_free, old_in, own', sound_late}
@@ -214,11 +214,6 @@ module _ (b : List ℕ) (kind : Kind) {places : List ℕ} {num vdr : ℕ} (good 
 pub put_asked : {b : List ℕ} {known known' : Known} {name : List ℕ} {words : List (List ℕ)} {r : PadRequest} {id : VarId} {p : PadPlace} {bytes : _} → IsRequest b known name words r → r ≡ Put id p bytes → known ≡ known' → MayPad b known' name words id p bytes.items
 put_asked {b = b} {name = name} {words = words} {id = id} {p = p} {bytes = bytes} request is view = subst (λ (k : Known). MayPad b k name words id p bytes.items) view (subst (IsRequest b _ name words) is request)
 
--- the places with another one in the middle
-vdrs_set : (before : List VariableShape) (own other : VariableShape) (after : List VariableShape) → vdrs (before ++ other ∷ after) ≡ slice_set (vdrs (before ++ own ∷ after)) (length before) other.vdr
-vdrs_set [] own other after = refl
-vdrs_set (first ∷ before) own other after = ap (λ (r : List ℕ). first.vdr ∷ r) (vdrs_set before own other after)
-
 module _ {b : List ℕ} (name : List ℕ) (words : List (List ℕ)) {known : Known} (good : Good b) (knows : Knows b known) {id : VarId} {p : PadPlace} {bytes : List ℕ} (may : MayPad b known name words id p bytes) where
   abbrev parts : Parts b known name id
   parts = the_parts name good knows may.found
@@ -345,5 +340,6 @@ module _ {b : List ℕ} (name : List ℕ) (words : List (List ℕ)) {known : Kno
           let places_are = (own_known name good knows may.found).places_are ∙ ap vdrs parts.at.was in
           subst (λ (k : Kind). Knows now (with_known known k (record (known_of known k) { places = places' }))) of
           (knows_with _ _ knows id.kind content_moved (freed_is good parts.at moved says mv.gives) (same_names name good knows may.found padded refl)
-          (m.places_are ∙ (λ i. slice_set (old i) (at i) m.by) ∙ (λ i. slice_set (known_of known (sym of i)).places (sym parts.count i) m.by) ∙ ap (λ (xs : List ℕ). slice_set xs (length parts.before) m.by) places_are ∙ sym (vdrs_set parts.before parts.own (own' good parts.at moved) parts.after))),
+          (m.places_are ∙ (λ i. slice_set (old i) (at i) m.by) ∙ (λ i. slice_set (known_of known (sym of i)).places (sym parts.count i) m.by) ∙ ap (λ (xs : List ℕ). slice_set xs (length parts.before) m.by) (places_are ∙ vdrs_append parts.before (parts.own ∷ parts.after))
+          ∙ set_at (vdrs parts.before) parts.own.vdr (vdrs parts.after) m.by (length parts.before) (length-map parts.before (λ (v : VariableShape). v.vdr)) ∙ sym (vdrs_append parts.before (own' good parts.at moved ∷ parts.after)))),
     )
