@@ -92,7 +92,7 @@ fn replace_vdr<A: Area>(
 
 /// Makes a descriptor with a pad value in place of the one of a number among those of a kind, which has no room for it.
 /// After an error a part of this may have been done in the area.
-#[tactic(auto, using(cdf_area::proofs::Calls::edit_done, cdf_area::proofs::Calls::edit_failed, cdf_area::proofs::Calls::edit_more, cdf_area::proofs::Calls::edit_without_memory, cdf_area::proofs::Calls::edits_by_read, cdf_area::proofs::Calls::keeps_by_read, cdf_area::proofs::Calls::read_once))]
+#[tactic(auto, using(cdf_area::proofs::Calls::edit_failed, cdf_area::proofs::Calls::edit_without_memory, cdf_area::proofs::Calls::edits_by_read, cdf_area::proofs::Calls::keeps_by_read, cdf_area::proofs::Calls::read_once))]
 pub fn move_vdr<A: Area>(
     alloc: Global,
     area: &mut A,
