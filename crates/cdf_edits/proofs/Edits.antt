@@ -30,7 +30,6 @@ pub mod FreedRecord
 pub mod FreedRecords
 pub mod FreedEntry
 pub mod FreedVdr
-pub mod PadMoved
 pub mod InRecords
 pub mod MadeRecord
 pub mod JoinedRecord
@@ -69,7 +68,6 @@ pub mod VariableNumbered
 pub mod VariableSplice
 pub mod VariablesLinked
 pub mod VdrEdited
-pub mod VdrFields
 pub mod VdrWritten
 pub mod WrittenEntries
 pub mod WrittenFields

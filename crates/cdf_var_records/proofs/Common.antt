@@ -8,7 +8,7 @@ pub use Rattle.std.specs.Option.{option_map, unwrap_or}
 pub use Rattle.std.specs.Prelude.{if◌then◌else◌, nat_le, nat_lt, ◌==◌, ◌||◌}
 pub use Rattle.cdf_area.proofs.Calls.{read_done, read_failed, read_more, read_once}
 pub use Rattle.cdf_edits.proofs.Edits.LeafRecords.{Ascending}
-pub use Rattle.cdf_edits.proofs.Edits.VdrEdited.{fits, sound, tile}
+pub use Rattle.cdf_edits.proofs.Edits.VdrEdited.{fits, high, name_room, sound, tile}
 pub use Rattle.cdf_edits.proofs.Frame.Meaning.{pad_width}
 pub use Rattle.cdf_edits.specs.Commands.Room.{blocks_room, vdr_bytes}
 pub use Rattle.cdf_edits.specs.Index.Blocks.{covered, next_first, ranges_of}

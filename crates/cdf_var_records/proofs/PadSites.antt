@@ -1,6 +1,6 @@
 -- Where the pad value of a variable belongs, as it is read of its VDR.
 use Rattle.std.proofs.Common.{◌≡◌, ℕ, ℤ, ◌+◌, ◌^◌, ◌<◌, ◌≤◌, List, ◌∷◌, length, Bool, true, false, not, refl, sym, ap, subst, ◌∙◌, arith}
-use Rattle.cdf_var_records.proofs.Common.{cast_signed, w32, ◌==◌, ◌||◌, nat_le, Kind, R, Z, signed_limit, gdr_offset, is_positive, number, r_num_dims, size_at, type_at, word, vdr_num_elems, vdr_z_num_dims, z_vdr_type, shape, variables, dimensions_at, elems_at, is_z, pad_field, type_of_variable, has_dimensions, Good, good_by_its_shape, both, le_of, tile_lies, vdr_bytes, sound, tile, AreBytes, IsVdr}
+use Rattle.cdf_var_records.proofs.Common.{cast_signed, w32, ◌==◌, ◌||◌, nat_le, Kind, R, Z, signed_limit, gdr_offset, is_positive, number, r_num_dims, size_at, type_at, word, vdr_num_elems, vdr_z_num_dims, z_vdr_type, shape, variables, dimensions_at, elems_at, is_z, pad_field, type_of_variable, has_dimensions, Good, good_by_its_shape, both, le_of, vdr_bytes, high, name_room, sound, tile, AreBytes, IsVdr}
 use Rattle.std.proofs.lemmas.Int.{of_z-to_z}
 use Rattle.std.specs.Int.{cast_unsigned}
 use Rattle.cdf_model.specs.Types.{type_of}
@@ -15,7 +15,7 @@ use Rattle.cdf_format.proofs.GoodByShape.{IsGoodByShape}
 use Rattle.cdf_format.proofs.ShapeLemmas.{Each-split}
 use Rattle.cdf_edits.proofs.Edits.VariableFrame.{IsRuled, all_ruled}
 use Rattle.cdf_edits.proofs.Edits.VariableKinds.{of_kind}
-use Rattle.cdf_edits.proofs.Edits.VdrEdited.{long, typed}
+use Rattle.cdf_edits.proofs.Edits.VdrEdited.{typed}
 use Rattle.cdf_records.proofs.Places.{word_fits}
 use Rattle.cdf_var_records.specs.Descriptors.{HasElements}
 use Rattle.cdf_var_records.proofs.DimsRead.{small_signed}
@@ -63,10 +63,7 @@ module _ {b : List ℕ} {kind : Kind} {vdr : ℕ} (good : Good b) (v : IsVdr b k
   has_so_many = ap (λ (k : ℕ). (k == 1) || is_characters (notation_of (type_of_variable b vdr))) (small_signed (number b vdr vdr_num_elems) positive.1) ∙ (both (is_positive (number b vdr vdr_num_elems)) _ elements).1
 
   pub vdr_lies : vdr + 340 ≤ length b
-  vdr_lies =
-      let high = (tile_lies b 8 (length b) (shape b).records vdr (sound good (at good v)).has_shape.tiled (tile good (at good v))).high in
-      let l = long good (at good v) in
-      omega arith
+  vdr_lies = name_room good (at good v)
 
   -- where the pad value stands, by the dimensions
   pub at_is : (pad_field b vdr).place ≡ vdr_bytes kind (dimensions_at b vdr)
@@ -85,7 +82,7 @@ module _ {b : List ℕ} {vdr : ℕ} (good : Good b) (v : IsVdr b Z vdr) where
 
   pub z_lies : vdr + 344 ≤ length b
   z_lies =
-      let high = (tile_lies b 8 (length b) (shape b).records vdr (sound good (at good v)).has_shape.tiled (tile good (at good v))).high in
+      let l = high good (at good v) in
       let fixed : fixed_size (type_at b vdr) ≤ size_at b vdr = (sound good (at good v)).has_shape.fixed vdr (tile good (at good v)) in
       let least : 344 ≤ size_at b vdr = subst (λ (t : ℕ). fixed_size t ≤ size_at b vdr) (typed good (at good v)) fixed in
       omega arith

@@ -1,6 +1,6 @@
 -- Where the VDR of a variable stands, and how long its parts are.
 use Rattle.std.proofs.Common.{◌≡◌, ℕ, zero, suc, ◌+◌, ◌≤◌, List, length, true, false, refl, ap, ◌∙◌, arith, inl, inr}
-use Rattle.cdf_var_records.proofs.Common.{length-map, ◌==◌, Kind, R, Z, type_at, words, z_vdr_type, shape, counted4, dimensions_at, dims_at, is_z, pad_field, Good, either, tile_lies, vdr_bytes, fits, sound, tile, IsVdr}
+use Rattle.cdf_var_records.proofs.Common.{length-map, ◌==◌, Kind, R, Z, type_at, words, z_vdr_type, counted4, dimensions_at, dims_at, is_z, pad_field, Good, either, vdr_bytes, fits, high, IsVdr}
 use Rattle.cdf_format.specs.Shape.{VariableShape}
 use Rattle.cdf_edits.specs.Space.Chains.{type_in}
 use Rattle.cdf_edits.specs.Space.VariableChains.{variables_chain}
@@ -29,7 +29,4 @@ module _ {b : List ℕ} {kind : Kind} {vdr : ℕ} (good : Good b) (v : IsVdr b k
 
   -- what stands before its pad value lies in the image
   pub inside : vdr + (pad_field b vdr).place ≤ length b
-  inside =
-      let high = (tile_lies b 8 (length b) (shape b).records vdr (sound good at).has_shape.tiled (tile good at)).high in
-      let room = (fits good at).0 in
-      omega arith
+  inside = let l = high good at in let room = (fits good at).0 in omega arith

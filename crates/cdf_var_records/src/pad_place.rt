@@ -6,6 +6,7 @@ ghost use Rattle.cdf_edits.specs.Commands.Room.{vdr_bytes};
 ghost use Rattle.cdf_format.specs.Fields.{gdr_offset, r_num_dims};
 ghost use Rattle.cdf_format.specs.VariableFields.{dimensions_at, pad_field};
 ghost use Rattle.cdf_format.specs.WellFormed.{Good};
+ghost use Rattle.cdf_model.specs.Limits.{dimension_limit};
 ghost use Rattle.cdf_model.specs.declared.kinds.Kind.TheVariants.{Z};
 ghost use Rattle.cdf_var_records.specs.Descriptors.{IsPlace, IsVdr};
 
@@ -33,7 +34,7 @@ pub struct PadPlace {
 /// How many dimensions the r variables of a good image have.
 fn read_r_dimensions<A: Area>(area: &mut A) -> Result<u32, AreaError>
     requires { Good (A.image area.old) }
-    ensures few { IfOk result (λ n. n ≤ 10) }
+    ensures few { IfOk result (λ n. n ≤ dimension_limit) }
     ensures dimensions { IfOk result (λ n. n ≡ r_num_dims (A.image area.old) (gdr_offset (A.image area.old))) }
     ensures area { Reads A.image A.frame A.faults A.edited area.old area.new result }
 {
@@ -48,7 +49,7 @@ fn read_r_dimensions<A: Area>(area: &mut A) -> Result<u32, AreaError>
 pub fn read_z_dimensions<A: Area>(area: &mut A, vdr: u64) -> Result<u32, AreaError>
     requires good { Good (A.image area.old) }
     requires vdr { IsVdr (A.image area.old) Z vdr }
-    ensures few { IfOk result (λ n. n ≤ 10) }
+    ensures few { IfOk result (λ n. n ≤ dimension_limit) }
     ensures dimensions { IfOk result (λ n. n ≡ dimensions_at (A.image area.old) vdr) }
     ensures area { Reads A.image A.frame A.faults A.edited area.old area.new result }
 {
@@ -60,7 +61,7 @@ pub fn read_z_dimensions<A: Area>(area: &mut A, vdr: u64) -> Result<u32, AreaErr
 
 /// The bytes of a descriptor of a variable of a kind, which has so many dimensions and no pad value.
 pub fn descriptor_size(kind: Kind, dimensions: usize) -> u64
-    requires { dimensions ≤ 10 }
+    requires { dimensions ≤ dimension_limit }
     ensures { result ≡ vdr_bytes kind dimensions }
 {
     match kind {

@@ -7,7 +7,7 @@ ghost use Rattle.cdf_edits.specs.Commands.Room.{blocks_room, put_room};
 ghost use Rattle.cdf_edits.specs.Index.Blocks.{block_count, covered, first_written, ranges_of, record_length, wanted_count};
 ghost use Rattle.cdf_format.specs.Fields.{integer4, number};
 ghost use Rattle.cdf_format.specs.Index.{Nodes, leaves_of};
-ghost use Rattle.cdf_format.specs.Records.{vdr_blocking_factor, vdr_vxr_head};
+ghost use Rattle.cdf_format.specs.Records.{vdr_blocking_factor, vdr_vxr_head, past, vdr_name};
 ghost use Rattle.cdf_format.specs.WellFormed.{Good};
 ghost use Rattle.cdf_index.specs.Finding.{index_at, HasIndex};
 ghost use Rattle.cdf_index.specs.Sizes.{size_of};
@@ -56,7 +56,7 @@ fn wanted(blocking: i32) -> u64
 
 /// How many records a block of the variable is to have whose descriptor stands at a place.
 fn read_wanted<A: Area>(area: &mut A, vdr: u64) -> Result<u64, AreaError>
-    requires { vdr + 340 ≤ length (A.image area.old) }
+    requires { vdr + past vdr_name ≤ length (A.image area.old) }
     ensures wanted { IfOk result (λ n. n ≡ wanted_count (integer4 (A.image area.old) vdr vdr_blocking_factor)) }
     ensures area { Reads A.image A.frame A.faults A.edited area.old area.new result }
 {

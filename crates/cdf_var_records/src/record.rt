@@ -5,7 +5,7 @@ ghost use Rattle.std.specs.List.{repeat};
 ghost use Rattle.std.specs.Option.{option_map};
 ghost use Rattle.cdf_area.specs.Calls.{Reads};
 ghost use Rattle.cdf_format.specs.Fields.{has_bit, number};
-ghost use Rattle.cdf_format.specs.Records.{vdr_pad_bit, vdr_variance_bit, vdr_vxr_head};
+ghost use Rattle.cdf_format.specs.Records.{vdr_pad_bit, vdr_variance_bit, vdr_vxr_head, past, vdr_name};
 ghost use Rattle.cdf_format.specs.WellFormed.{Good};
 ghost use Rattle.cdf_index.specs.Finding.{HasIndex};
 ghost use Rattle.cdf_index.specs.Sight.{seen};
@@ -155,7 +155,7 @@ pub fn read_pad_record<A: Area>(
 
 /// The leaf that has a record of the variable whose descriptor stands at a place; none past MaxRec.
 fn find_stored<A: Area>(area: &mut A, vdr: u64, rec: u32) -> Result<Option<Leaf>, AreaError>
-    requires lies { vdr + 340 ≤ length (A.image area.old) }
+    requires lies { vdr + past vdr_name ≤ length (A.image area.old) }
     requires index { HasIndex (A.image area.old) (number (A.image area.old) vdr vdr_vxr_head) }
     requires short { length (A.image area.old) ≤ image_limit }
     ensures leaf { IfOk result (λ found. option_map seen found ≡ leaf_in (A.image area.old) vdr rec) }

@@ -2,13 +2,13 @@
 pub use Rattle.std.proofs.lemmas.Bool.{eqb-true, le-leb, le-ltb, lt-ltb, ne_eqb, or_parts}
 pub use Rattle.std.proofs.lemmas.Bool.Decides.{nat_tests}
 pub use Rattle.std.proofs.lemmas.Int.{of_z-to_z, to_z-of_z}
-pub use Rattle.std.proofs.lemmas.List.{at_drop_all, at_drop_more, drop-drop, length-append, length-drop, length-map, length-take, map-append, take_all, take_at}
+pub use Rattle.std.proofs.lemmas.List.{at_drop_all, at_drop_more, drop-drop, drop_at, get_or-drop, get_or-take, get_or_append_left, length-append, length-drop, length-map, length-take, map-append, take_all, take_at}
 pub use Rattle.std.proofs.lemmas.Option.{same_Some}
 pub use Rattle.std.proofs.lemmas.Result.{IfOk-weaker, on_ok_weaker}
 pub use Rattle.std.specs.Int.{cast_signed, cast_unsigned, w32}
 pub use Rattle.std.specs.List.{All, before_first, flat_map, fold, last_or, list_all, list_any, remove, slice_get}
 pub use Rattle.std.specs.Option.{option_map}
-pub use Rattle.std.specs.Prelude.{IfOk, if◌then◌else◌, is_some, nat_le, nat_lt, slice_set, ◌&&◌, ◌==◌, ◌||◌}
+pub use Rattle.std.specs.Prelude.{IfOk, if◌then◌else◌, is_some, nat_le, nat_lt, slice_index, slice_set, ◌&&◌, ◌==◌, ◌||◌}
 pub use Rattle.std.specs.declared.result.Result.{Result}
 pub use Rattle.byteorder.specs.Endian.{big_bytes}
 pub use Rattle.cdf_area.proofs.Calls.{edit_done, edit_failed, edit_more, edits_by_read, keeps_by_read, read_done, read_failed, read_more, read_once, read_without_memory}
@@ -19,7 +19,7 @@ pub use Rattle.cdf_base.specs.Bytes.{put}
 pub use Rattle.cdf_edits.proofs.Commands.Answered.{gone, refused, too_large}
 pub use Rattle.cdf_edits.proofs.Commands.FineNames.{fine_has_no_zeros, fine_is_short, fine_is_some}
 pub use Rattle.cdf_edits.proofs.Commands.KeptRecords.{keep_attributes}
-pub use Rattle.cdf_edits.proofs.Commands.ListParts.{cut, got-middle, got_in, last_got}
+pub use Rattle.cdf_edits.proofs.Commands.ListParts.{AtNumber, at_number, cut, got-middle, got_in, last_got}
 pub use Rattle.cdf_edits.proofs.Edits.EditActs.{acts_took}
 pub use Rattle.cdf_edits.proofs.Edits.MadeRecord.{end_now, filled_size, filled_sound, list_chain, made_edit, place_in, shorter}
 pub use Rattle.cdf_edits.proofs.Edits.MarkLemmas.{the_one, unmarked-away}
@@ -51,8 +51,8 @@ pub use Rattle.cdf_edits.specs.Space.Placement.{Takes}
 pub use Rattle.cdf_edits.specs.Space.Placing.{Fills, IsBody, type_of_body}
 pub use Rattle.cdf_edits.specs.Space.VariableChains.{variables_chain}
 pub use Rattle.cdf_edits.specs.declared.chain.Chain.{Chain}
-pub use Rattle.cdf_fields.proofs.Writes.{drop-put_there, field_reads, field_reads4, length-with_field, other_bytes}
-pub use Rattle.cdf_format.proofs.BytesLemmas.{length-put, piece_kept, word_kept, words_kept}
+pub use Rattle.cdf_fields.proofs.Writes.{drop-put_there, field_reads, field_reads4, length-with_field, other_bytes, word-put_number}
+pub use Rattle.cdf_format.proofs.BytesLemmas.{byte-put_after, byte-put_before, byte-put_inside, length-put, piece_kept, word_kept, words_kept}
 pub use Rattle.cdf_format.proofs.ChainsLemmas.{is_a-in, is_a-type, linkable-type}
 pub use Rattle.cdf_format.proofs.GoodByShape.{IsGoodByShape}
 pub use Rattle.cdf_format.proofs.GoodHead.{cdr_fits, gdr_fits}

@@ -1,6 +1,6 @@
 -- What is read of records with names, one after the other, and so of the variables of a kind of a good image.
-use Rattle.std.proofs.Common.{◌≡◌, ℕ, zero, suc, ◌+◌, ◌<◌, ◌≤◌, List, [], ◌∷◌, ◌++◌, length, map, take, drop, take-append-drop, drop-cons, get_or, false, refl, sym, ap, ap₂, subst, ◌∙◌, append_assoc, append-nil, arith, bytes_eq}
-use Rattle.cdf_vars.proofs.Common.{length-map, length-take, map-append, at_drop_more, at_drop_all, take_all, got_in, shapes_of, Chain, members_of, content, name_at, name_field, type_at, LiesIn, shape, vdrs, HasShape, In, Good, good_is_sound, Item, Kind, variable_items, variables_of, chain_of, KnowsKind, AreNamed, items_at}
+use Rattle.std.proofs.Common.{◌≡◌, ℕ, suc, ◌+◌, ◌<◌, ◌≤◌, List, [], ◌∷◌, ◌++◌, length, map, take, drop, take-append-drop, drop-cons, get_or, false, sym, ap, ap₂, subst, ◌∙◌, append_assoc, append-nil, arith, bytes_eq}
+use Rattle.cdf_vars.proofs.Common.{length-map, length-take, map-append, at_drop_more, at_drop_all, take_all, got_in, shapes_of, Chain, members_of, content, name_at, name_field, type_at, LiesIn, shape, vdrs, HasShape, Good, good_is_sound, Item, Kind, variable_items, variables_of, chain_of, KnowsKind, AreNamed, items_at}
 use Rattle.std.proofs.lemmas.List.{map_more}
 use Rattle.std.specs.List.{IsDistinct}
 use Rattle.cdf_model.specs.declared.item.Item.TheVariants.{Var}

@@ -1,6 +1,6 @@
 -- What `set-pad` asks for: the variable of a name, where its pad value belongs, and what the word says.
-use Rattle.std.proofs.Common.{◌≡◌, ℕ, ◌<◌, ◌≤◌, List, ◌∷◌, ◌++◌, length, Bool, Option, Some, None, Result, Err, get_or, refl, sym, ap, ap₂, subst, ◌∙◌, arith}
-use Rattle.cdf_vars.proofs.Common.{Refused, Reason, DataType, values_in, is_little, elems_at, type_of_variable, Good, Answers, ValueError, Explains, PadPlace, VarId, found_among, Known, Knows, known_of, HasElements, IsPlace, IsVdr, IsValue, MayPad, has_so_many, vdr_lies, refused}
+use Rattle.std.proofs.Common.{◌≡◌, ℕ, ◌<◌, List, ◌∷◌, ◌++◌, length, Bool, Option, Some, None, Result, Err, get_or, refl, sym, ap, ap₂, subst, ◌∙◌}
+use Rattle.cdf_vars.proofs.Common.{Refused, Reason, DataType, values_in, is_little, elems_at, type_of_variable, Good, Answers, ValueError, Explains, PadPlace, VarId, found_among, Known, Knows, known_of, HasElements, IsPlace, IsVdr, IsValue, MayPad, has_so_many, refused}
 use Rattle.cdf_model.specs.declared.answer.Reason.TheVariants as reasons
 use Rattle.cdf_model.specs.declared.command.Command.TheVariants as commands
 use Rattle.cdf_vars.proofs.VariableFound.{Parts, none_found, the_parts, within_places}
@@ -25,9 +25,6 @@ module _ {b : List ℕ} (name : List ℕ) (words : List (List ℕ)) {known : Kno
 
       pub is_vdr : IsVdr b id.kind place
       is_vdr = record { before = parts.before; own = parts.own; after = parts.after; was = parts.at.was ∙ ap (λ (k : ℕ). parts.before ++ record parts.own { vdr = k } ∷ parts.after) own_is }
-
-      pub long : 320 ≤ length b
-      long = let l = vdr_lies good is_vdr in omega (arith, l)
 
       module _ {p : PadPlace} (there : IsPlace b place p) where
         pub elements : HasElements p.t p.elems

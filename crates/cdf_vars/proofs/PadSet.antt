@@ -1,91 +1,47 @@
 -- The command `set-pad`: the bytes of a VDR with a pad value, the one that takes the place of the old one where that has no room for it, what the command answers, and what is kept of the variables.
 use Rattle.std.proofs.Common.{◌≡◌, ◌⊎◌, ℕ, ◌+◌, ◌-◌, ◌^◌, ◌<◌, ◌≤◌, List, [], ◌∷◌, ◌++◌, length, take, drop, refl, sym, ap, ◌∙◌, append_assoc, arith, inl, inr, zero, suc, ◌*◌, true, subst, None, eq-eqb, Option, Some, Ok, true≢false, ap₂}
-use Rattle.cdf_vars.proofs.Common.{take_all, length-append, length-map, length-take, length-drop, take_at, drop-drop, big_bytes, drop-put_there, field_reads, length-with_field, other_bytes, byte, Same, word, number, size_at, LiesIn, with_field, length-put, piece_kept, word_kept, before_first, last_or, slice_get, ◌==◌, slice_set, Kind, Leads, next_of, next_field, is_in, vdr_flags, VariableShape, Shape, vdrs, shape, IsSound, dimensions_at, is_z, pad_field, value_bytes, dims_at, elems_at, type_of_variable, vdr_end, Good, shapes_of, AllKeep, Allowances, stays_own, head_of, members_of, type_in, before, type_of_body, IsBody, variables_chain, Chain, kind_chain, StandsAmong, sound, typed, in_middle, tile, AreBytes, word_fits, owned_records, times, owned, In, Distinct, vdr_bytes, room, IsVdr, IsPlace, MayPad, padded_flags, ne_eqb, good_is_sound, cut, got-middle, PadPlace, Done, Refused, TooLarge, Plain, DataType, Go, turned, DataSet, Variable, image_limit, Found, value_size, ByStep, step, size_of, values_in, with_variable, content, variable_of, is_little, tile_lies, Answers, gone, too_large, VarId, Known, Knows, known_of}
-use Rattle.std.proofs.lemmas.List.{get_or-drop, get_or-take, get_or_append_left, ext_get_or, drop_at}
-use Rattle.cdf_base.specs.Bytes.{put}
-use Rattle.cdf_edits.proofs.Common.{Anything, Exchanged, SetsPad, cases_lt, is_in-true, length-bytes_high_first, set_pad_changes, vdrs_append}
-use Rattle.cdf_fields.proofs.Writes.{word-put_number, word-put_outside}
-use Rattle.cdf_format.proofs.BytesLemmas.{byte-put_before, byte-put_inside, byte-put_after}
-use Rattle.cdf_edits.proofs.Edits.Common.{Copied, VdrCopied, fits, leads_rest, pad_long, pad_width, same_link, word_copied}
-use Rattle.cdf_edits.proofs.Commands.ListParts.{AtNumber, at_number}
-use Rattle.std.specs.Prelude.{slice_index}
-use Rattle.cdf_edits.proofs.Edits.JoinedVdr.{behind_link, file, is_vdr_body, joined_type}
-use Rattle.cdf_edits.proofs.Edits.MovedVdr.{CopiesVdr, MovesVdr, chain_late, members, old_free, old_in, sound_late, own'}
-use Rattle.cdf_edits.proofs.Edits.PadMoved.{HoldsPad, moved_sets_pad, pad_means}
-use Rattle.cdf_edits.proofs.Edits.PadWritten.{WritesPad, edits, meaning, packed, padded_end, pads_in_place}
+use Rattle.cdf_vars.proofs.Common.{AtNumber, at_number, put, slice_index, get_or-drop, get_or-take, get_or_append_left, drop_at, word-put_number, byte-put_before, byte-put_inside, byte-put_after, length-append, length-take, length-drop, take_at, drop-drop, big_bytes, drop-put_there, byte, Same, word, number, with_field, length-put, piece_kept, word_kept, last_or, slice_get, slice_set, Kind, Leads, next_of, next_field, is_in, vdr_flags, VariableShape, vdrs, shape, IsSound, dimensions_at, pad_field, value_bytes, dims_at, elems_at, type_of_variable, Good, shapes_of, AllKeep, Allowances, stays_own, head_of, members_of, type_in, before, type_of_body, IsBody, variables_chain, kind_chain, StandsAmong, sound, typed, in_middle, AreBytes, word_fits, owned_records, times, owned, In, Distinct, vdr_bytes, room, IsVdr, IsPlace, MayPad, padded_flags, ne_eqb, good_is_sound, got-middle, PadPlace, Done, Refused, TooLarge, Plain, DataType, Go, turned, DataSet, Variable, image_limit, Found, value_size, ByStep, step, size_of, values_in, with_variable, content, variable_of, is_little, Answers, gone, too_large, VarId, Known, Knows, known_of}
+use Rattle.cdf_edits.proofs.Common.{Anything, Exchanged, length-map, SetsPad, cases_lt, is_in-true, length-bytes_high_first, set_at, set_pad_changes, vdrs_append}
+use Rattle.cdf_edits.proofs.Edits.Common.{Copied, fits, high, leads_rest, pad_late, pad_wide, same_link, word_copied}
+use Rattle.cdf_edits.proofs.Edits.JoinedVdr.{behind_link, is_vdr_body, joined_type}
+use Rattle.cdf_edits.proofs.Edits.MovedVdr.{CopiesVdr, MovesVdr, chain_late, members, old_free, old_in, own', sound_late}
+use Rattle.cdf_edits.proofs.Edits.PadWritten.{WritesPad, edits, meaning, pads_in_place, small_flags}
 use Rattle.cdf_vars.proofs.VariableChains.{has_variable_chain, variable_members}
 use Rattle.cdf_base.proofs.Puts.{put-append}
 use Rattle.cdf_space.proofs.Filling.{word-put_inside}
 use Rattle.cdf_vars.specs.Padding.{IsPadded, padded_body, IsRequest, MovedTo, Moves}
 use Rattle.cdf_var_records.proofs.VdrParts.{pad_place, at as vdr_at, inside as vdr_inside, own as vdr_own, dims_long}
 use Rattle.cdf_model.specs.declared.command.Command.TheVariants.{SetPad}
-use Rattle.cdf_edits.proofs.Edits.FreedVdr.{acts, acts_now, edit_now, freed_content, freed_good, freed_is, keeps_now, long_now}
+use Rattle.cdf_edits.proofs.Edits.FreedVdr.{acts, acts_now, edit_now, freed_content, freed_good, freed_is, keeps_now, long_now, moved_sets_pad, pad_means}
 use Rattle.cdf_vars.specs.declared.padding.PadRequest.{PadRequest}
 use Rattle.cdf_vars.specs.declared.padding.PadRequest.TheVariants.{Put}
 use Rattle.cdf_vars.proofs.OwnShapes.{own_now}
 use Rattle.cdf_vars.proofs.VariableFound.{follows_still, knows_still, knows_with, of_found, own_known, may_keep, may_named, same_names, stands_there, still_there, with_known, Parts, the_parts, within_places}
 
--- pieces that are appended one by one
-pub pieces : (old value : List ℕ) (w x y z : ℕ) → ((take 36 old ++ w ∷ x ∷ y ∷ z ∷ []) ++ drop 40 old) ++ value ≡ put old 36 (w ∷ x ∷ y ∷ z ∷ []) ++ value
-unfolding put
-pieces old value w x y z = ap (λ (xs : List ℕ). xs ++ value) (append_assoc (take 36 old) (w ∷ x ∷ y ∷ z ∷ []) (drop 40 old))
-
-pub pieced : (old value flags : List ℕ) (n : ℕ) (one two three four : List ℕ) → one ≡ take 36 old → two ≡ one ++ flags → three ≡ two ++ take (length old - 40) (drop 40 old) → four ≡ three ++ value → flags ≡ big_bytes 4 n → four ≡ put old 36 (big_bytes 4 n) ++ value
-pieced old value flags n one two three four e1 e2 e3 e4 f =
-    let all : take (length old - 40) (drop 40 old) ≡ drop 40 old = take_all (length old - 40) (drop 40 old) (simp length-drop (omega arith)) in
-    let second : two ≡ take 36 old ++ big_bytes 4 n = e2 ∙ (λ i. e1 i ++ f i) in
-    let third : three ≡ (take 36 old ++ big_bytes 4 n) ++ drop 40 old = e3 ∙ (λ i. second i ++ all i) in
-    e4 ∙ (λ i. third i ++ value) ∙ pieces old value _ _ _ _
-
--- what was copied makes equal pieces
-piece_copied : {b now : List ℕ} {v v' lo hi : ℕ} → Copied b now v v' lo hi → (at n : ℕ) → lo ≤ at → at + n ≤ hi → v + at + n ≤ length b → v' + at + n ≤ length now → take n (drop (v' + at) now) ≡ take n (drop (v + at) b)
-piece_copied {b = b} {now = now} {v = v} {v' = v'} c at n low high inside there =
-    let e : length (take n (drop (v' + at) now)) ≡ n = simp (length-take, length-drop) (omega arith) in
-    let f : length (take n (drop (v + at) b)) ≡ n = simp (length-take, length-drop) (omega arith) in
-    ext_get_or 0 (take n (drop (v' + at) now)) (take n (drop (v + at) b)) (e ∙ sym f) (λ i lt.
-    let l : i < n = omega (arith, lt, e) in
-    let p : v' + at + i ≡ v' + (at + i) = omega arith in
-    let q : v + at + i ≡ v + (at + i) = omega arith in
-    get_or-take n (drop (v' + at) now) i 0 l ∙ get_or-drop (v' + at) now i 0 ∙ ap (byte now) p ∙ c.each (at + i) (omega arith) (omega arith) ∙ sym (ap (byte b) q) ∙ sym (get_or-drop (v + at) b i 0) ∙ sym (get_or-take n (drop (v + at) b) i 0 l))
-
-pub small_flags : (x : ℕ) → x < 256 ^ 4 → padded_flags x < 256 ^ 4
-small_flags x l = omega arith
-
 -- ---- the bytes of the new VDR, whose pad value stands at another place in it
 
-module _ (b value : List ℕ) (v at n : ℕ) (inside : v + at ≤ length b) (late : 340 ≤ at) where
+module _ (b value new : List ℕ) (v at n : ℕ) (inside : v + at ≤ length b) (late : 340 ≤ at) (is : new ≡ put (take (at - 8) (drop (v + 8) b)) 36 (big_bytes 4 n) ++ value) where
   abbrev was : List ℕ
   was = take (at - 8) (drop (v + 8) b)
 
   abbrev flags : List ℕ
   flags = big_bytes 4 n
 
-  abbrev front : List ℕ
-  front = put was 36 flags
-
-  abbrev new : List ℕ
-  new = front ++ value
-
-  length-was : length was ≡ at - 8
-  length-was = simp (length-take, length-drop) (omega arith)
-
-  length-flags : length flags ≡ 4
-  length-flags = length-bytes_high_first 4 n
-
-  pub length-front : length front ≡ at - 8
-  length-front = length-put was 36 flags (omega (arith, length-was, length-flags)) ∙ length-was
-
-  pub length-new : 8 + length new ≡ at + length value
-  length-new = omega (arith, length-append front value, length-front)
+  pub lengths : (length was ≡ at - 8) × (length flags ≡ 4) × (length (put was 36 flags) ≡ at - 8) × (8 + length new ≡ at + length value)
+  lengths =
+      let first : length was ≡ at - 8 = simp (length-take, length-drop) (omega arith) in
+      let fourth = length-bytes_high_first 4 n in
+      let front = length-put was 36 flags (omega (arith, first, fourth)) ∙ first in
+      (first, fourth, front, ap (λ (xs : List ℕ). 8 + length xs) is ∙ omega (arith, length-append (put was 36 flags) value, front))
 
   new_byte : (i : ℕ) → 8 ≤ i → i < at → (i < 44) ⊎ (48 ≤ i) → byte new (i - 8) ≡ byte b (v + i)
   new_byte i low high side =
       let from : v + 8 + (i - 8) ≡ v + i = omega arith in
-      let kept : byte front (i - 8) ≡ byte was (i - 8) = elim side [
-        | inl l ↦ byte-put_before was 36 flags (i - 8) (omega (arith, length-was)) (omega arith)
-        | inr l ↦ byte-put_after was 36 flags (i - 8) (omega (arith, length-was)) (omega (arith, length-flags))
+      let kept : byte (put was 36 flags) (i - 8) ≡ byte was (i - 8) = elim side [
+        | inl l ↦ byte-put_before was 36 flags (i - 8) (omega (arith, lengths.0)) (omega arith)
+        | inr l ↦ byte-put_after was 36 flags (i - 8) (omega (arith, lengths.0)) (omega (arith, lengths.1))
       ] in
-      get_or_append_left front value 0 (i - 8) (omega (arith, length-front)) ∙ kept ∙ get_or-take (at - 8) (drop (v + 8) b) (i - 8) 0 (omega arith) ∙ get_or-drop (v + 8) b (i - 8) 0 ∙ ap (byte b) from
+      ap (λ (xs : List ℕ). byte xs (i - 8)) is ∙ get_or_append_left (put was 36 flags) value 0 (i - 8) (omega (arith, lengths.2)) ∙ kept ∙ get_or-take (at - 8) (drop (v + 8) b) (i - 8) 0 (omega arith) ∙ get_or-drop (v + 8) b (i - 8) 0 ∙ ap (byte b) from
 
   -- the type stands first
   pub new_type : word new 0 4 ≡ word b (v + 8) 4
@@ -102,176 +58,122 @@ module _ (b value : List ℕ) (v at n : ℕ) (inside : v + at ≤ length b) (lat
     pub bytes_copied : (i : ℕ) → 8 ≤ i → i < at → (i < 44) ⊎ (48 ≤ i) → byte written (by + i) ≡ byte b (v + i)
     bytes_copied i low high side =
         let to : by + i ≡ by + 8 + (i - 8) = omega arith in
-        ap (byte written) to ∙ byte-put_inside taken (by + 8) new (i - 8) (omega arith) (omega (arith, length-new)) ∙ new_byte i low high side
+        ap (byte written) to ∙ byte-put_inside taken (by + 8) new (i - 8) (omega arith) (omega (arith, lengths.3)) ∙ new_byte i low high side
 
     pub flags_there : n < 256 ^ 4 → word written (by + 44) 4 ≡ n
     flags_there small =
         let to : by + 44 ≡ by + 8 + 36 = omega arith in
-        let whole : new ≡ put (was ++ value) 36 flags = sym (put-append was value 36 flags (omega (arith, length-was, length-flags))) in
-        ap (λ (p : ℕ). word written p 4) to ∙ word-put_inside taken new (by + 8) 36 4 (omega arith) (omega (arith, length-new)) ∙ ap (λ (xs : List ℕ). word xs 36 4) whole ∙ word-put_number (was ++ value) 36 4 n (omega (arith, length-was, length-append was value)) small
+        let whole : new ≡ put (was ++ value) 36 flags = is ∙ sym (put-append was value 36 flags (omega (arith, lengths.0, lengths.1))) in
+        ap (λ (p : ℕ). word written p 4) to ∙ word-put_inside taken new (by + 8) 36 4 (omega arith) (omega (arith, lengths.3)) ∙ ap (λ (xs : List ℕ). word xs 36 4) whole ∙ word-put_number (was ++ value) 36 4 n (omega (arith, lengths.0, length-append was value)) small
 
     pub value_there : take (length value) (drop (by + at) written) ≡ value
     value_there =
         let more = drop (by + 8 + length new) taken in
         let to : by + at ≡ by + 8 + (at - 8) = omega arith in
-        let whole : drop (by + 8) written ≡ front ++ (value ++ more) = drop-put_there taken new (by + 8) (omega arith) ∙ append_assoc front value more in
-        let behind : drop (by + at) written ≡ value ++ more = ap (λ (p : ℕ). drop p written) to ∙ sym (drop-drop (at - 8) (by + 8) written) ∙ ap (drop (at - 8)) whole ∙ drop_at front (value ++ more) (at - 8) length-front in
+        let whole : drop (by + 8) written ≡ put was 36 flags ++ (value ++ more) = drop-put_there taken new (by + 8) (omega arith) ∙ ap (λ (xs : List ℕ). xs ++ more) is ∙ append_assoc (put was 36 flags) value more in
+        let behind : drop (by + at) written ≡ value ++ more = ap (λ (p : ℕ). drop p written) to ∙ sym (drop-drop (at - 8) (by + 8) written) ∙ ap (drop (at - 8)) whole ∙ drop_at (put was 36 flags) (value ++ more) (at - 8) lengths.2 in
         ap (take (length value)) behind ∙ take_at value more (length value) refl
 
 -- equal numbers have equal bytes
-digits_same : (P x x' y y' : ℕ) → y < P → y' < P → x * P + y ≡ x' * P + y' → (x ≡ x') × (y ≡ y')
-digits_same P zero zero y y' l l' e = (refl, omega arith)
-digits_same P zero (suc x') y y' l l' e = absurd (omega arith)
-digits_same P (suc x) zero y y' l l' e = absurd (omega arith)
-digits_same P (suc x) (suc x') y y' l l' e = let r = digits_same P x x' y y' l l' (omega arith) in (ap suc r.0, r.1)
+same_digit : (P x x' y y' : ℕ) → y < P → y' < P → x * P + y ≡ x' * P + y' → x ≡ x'
+same_digit P x x' y y' l l' e = grind arith
 
 equal_bytes : {b now : List ℕ} {s s' m : ℕ} → AreBytes b s m → AreBytes now s' m → (p p' n : ℕ) → s ≤ p → p + n ≤ s + m → s' ≤ p' → p' + n ≤ s' + m → word now p' n ≡ word b p n → (k x y : ℕ) → k < n → x ≡ p' + k → y ≡ p + k → byte now x ≡ byte b y
 equal_bytes are there p p' zero a c d f e k x y lt ex ey = absurd (omega arith)
 equal_bytes {b = b} {now = now} {s = s} {s' = s'} {m = m} are there p p' (suc n) a c d f e k x y lt ex ey =
-    let r = digits_same (256 ^ n) (byte now p') (byte b p) (word now (suc p') n) (word b (suc p) n) (word_fits now s' m (suc p') n there (omega arith) (omega arith)) (word_fits b s m (suc p) n are (omega arith) (omega arith)) e in
-    elim k as (λ (i : ℕ). i < suc n → x ≡ p' + i → y ≡ p + i → byte now x ≡ byte b y) [
-      | zero ↦ λ l q w. let left : x ≡ p' = omega arith in let right : y ≡ p = omega arith in ap (byte now) left ∙ r.0 ∙ sym (ap (byte b) right)
-      | suc i ↦ λ l q w. equal_bytes are there (suc p) (suc p') n (omega arith) (omega arith) (omega arith) (omega arith) r.1 i x y (omega arith) (omega arith) (omega arith)
-    ] lt ex ey
-
--- the image in which the new VDR is linked is ready for the freeing of the old one
-pub record Linked (late : List ℕ) (old by : ℕ) : Type 0 where
-  pub sound_now : IsSound late (shape late)
-  pub stands : In old (shape late).records
-  pub free : times old (owned_records late (shape late)) ≡ 0
-  pub long : by + 84 ≤ length late
+    let first = same_digit (256 ^ n) (byte now p') (byte b p) (word now (suc p') n) (word b (suc p) n) (word_fits now s' m (suc p') n there (omega arith) (omega arith)) (word_fits b s m (suc p) n are (omega arith) (omega arith)) e in
+    let rest : word now (suc p') n ≡ word b (suc p) n = (let same = ap (λ (d : ℕ). d * 256 ^ n) first in omega (arith, same, e)) in
+    elim (cases_lt k 1) [
+      | inl least ↦ let left : x ≡ p' = omega arith in let right : y ≡ p = omega arith in ap (byte now) left ∙ first ∙ sym (ap (byte b) right)
+      | inr more ↦ equal_bytes are there (suc p) (suc p') n (omega arith) (omega arith) (omega arith) (omega arith) rest (k - 1) x y (omega arith) (omega arith) (omega arith)
+    ]
 
 -- ---- the VDR that is made, and that takes the place of the old one
 
-module _ (value : List ℕ) {b : List ℕ} {kind : Kind} {before : List VariableShape} {own : VariableShape} {after : List VariableShape} (good : Good b) (at : StandsAmong b kind before own after) (sized : length value ≡ value_bytes b own.vdr) (short : size_at b own.vdr < (pad_field b own.vdr).place + length value) (read : AreBytes b own.vdr 84) where
-  abbrev v : ℕ
-  v = own.vdr
+module _ {b body : List ℕ} {kind : Kind} {old : ℕ} (good : Good b) (vdr : IsVdr b kind old) (p : IsPadded b old body) where
+  abbrev own : VariableShape
+  own = vdr_own good vdr
+
+  abbrev among : StandsAmong b kind vdr.before own vdr.after
+  among = vdr_at good vdr
 
   abbrev place : ℕ
-  place = (pad_field b v).place
+  place = (pad_field b old).place
 
   abbrev n : ℕ
-  n = padded_flags (number b v vdr_flags)
-
-  abbrev body : List ℕ
-  body = padded_body b v value
-
-  abbrev s : Shape
-  s = shape b
-
-  abbrev c : Chain
-  c = variables_chain kind
+  n = padded_flags (number b old vdr_flags)
 
   abbrev need : ℕ
   need = 8 + length body
 
-  pad_late : 340 ≤ place
-  pad_late = pad_long (is_z b v) (dimensions_at b v) (value_bytes b v)
+  inside : old + place ≤ length b
+  inside = vdr_inside good vdr
 
-  inside : v + place ≤ length b
-  inside = vdr_inside good (record { before = before; own = own; after = after; was = at.was })
+  pub need_is : need ≡ place + length p.bytes
+  need_is = (lengths b p.bytes body old place n inside (pad_late b old) p.is).3
 
-  pub need_is : need ≡ place + length value
-  need_is = length-new b value v place n inside pad_late
-
-  pub type_is : type_of_body body ≡ type_in c
-  type_is = new_type b value v place n inside pad_late ∙ typed good at
+  pub type_is : type_of_body body ≡ type_in (variables_chain kind)
+  type_is = new_type b p.bytes body old place n inside (pad_late b old) p.is ∙ typed good among
 
   pub is_body : IsBody body
-  is_body = is_vdr_body kind body (dimensions_at b v) type_is (let e = pad_place kind b v (typed good at) in omega (arith, need_is, e))
+  is_body = is_vdr_body kind body (dimensions_at b old) type_is (let e = pad_place kind b old (typed good among) in omega (arith, need_is, e))
 
-  module _ {late : List ℕ} {by : ℕ} (exchanged : Exchanged b late c body v by) where
+  pub is_member : is_in old (members_of b (variables_chain kind)) ≡ true
+  is_member =
+      let there : In old (vdrs (shapes_of (shape b) kind)) = subst (λ (vs : List VariableShape). In old (vdrs vs)) (sym vdr.was) (in_middle vdr.before own vdr.after) in
+      is_in-true old _ (subst (In old) (sym (variable_members b (shape b) (good_is_sound b good).has_shape kind)) there)
+
+  module _ {late : List ℕ} {by : ℕ} (exchanged : Exchanged b late (variables_chain kind) body old by) where
     abbrev pub made : MovesVdr b late kind own body by
     made = record { joined = exchanged; type_is = type_is }
 
     kept : Same exchanged.filled late (by + 20) (by + need)
-    kept = behind_link (sound good at) made
+    kept = behind_link (sound good among) made
 
-    late_byte : (i : ℕ) → 20 ≤ i → i < place → (i < 44) ⊎ (48 ≤ i) → byte late (by + i) ≡ byte b (v + i)
-    late_byte i low high side = kept.each (by + i) (omega arith) (omega (arith, need_is)) ∙ ap (λ (x : List ℕ). byte x (by + i)) exchanged.placed.written ∙ bytes_copied b value v place n inside pad_late exchanged.placed.taken by exchanged.placed.inside i (omega arith) high side
-
-    behind_flags : Copied b late v by 48 place
-    behind_flags = record { each = λ i l h. late_byte i (omega arith) h (inr l) }
-
-    flags_now : number late by vdr_flags ≡ n
-    flags_now =
-        let first : word late (by + 44) 4 ≡ word exchanged.filled (by + 44) 4 = word_kept exchanged.filled late (by + 20) (by + need) kept (by + 44) 4 (omega arith) (omega (arith, need_is, pad_late)) in
-        first ∙ ap (λ (x : List ℕ). word x (by + 44) 4) exchanged.placed.written ∙ flags_there b value v place n inside pad_late exchanged.placed.taken by exchanged.placed.inside (small_flags (number b v vdr_flags) (word_fits b v 84 (v + 44) 4 read (omega arith) (omega arith)))
-
-    copied_there : VdrCopied b late v by
-    copied_there = record {
-      typed = joined_type (sound good at) made ∙ sym (typed good at);
-      first = record { each = λ i l h. late_byte i l (omega (arith, pad_late)) (inl h) };
-      second = record { each = λ i l h. behind_flags.each i l (omega (arith, pad_late)) };
-      third = record { each = λ i l h. behind_flags.each i (omega arith) (omega (arith, pad_late)) };
-      behind = record { each = λ i l h. behind_flags.each i (omega arith) h };
-    }
-
-    end_is : vdr_end late by ≡ need
-    end_is = padded_end own (record own { vdr = by }) (file (sound good at) made) copied_there flags_now ∙ sym (need_is ∙ ap (λ (k : ℕ). place + k) sized)
+    late_byte : (i : ℕ) → 20 ≤ i → i < place → (i < 44) ⊎ (48 ≤ i) → byte late (by + i) ≡ byte b (old + i)
+    late_byte i low high side = kept.each (by + i) (omega arith) (omega (arith, need_is)) ∙ ap (λ (x : List ℕ). byte x (by + i)) exchanged.placed.written ∙ bytes_copied b p.bytes body old place n inside (pad_late b old) p.is exchanged.placed.taken by exchanged.placed.inside i (omega arith) high side
 
     by_lies : by + need ≤ length exchanged.filled
     by_lies = let high = exchanged.placed.inside in let l = exchanged.placed.fills.long in omega (arith, high, l)
 
-    pub copies : CopiesVdr b late own body by
-    copies = record {
-      copied = copied_there;
-      num_is = word_copied behind_flags 68 4 (omega arith) (omega (arith, pad_late));
-      packed = packed own (record own { vdr = by }) (file (sound good at) made) copied_there flags_now;
-      ends = omega (arith, end_is);
-      larger = omega (arith, short, need_is);
-      name_is = ap (λ (xs : List ℕ). before_first (λ (x : ℕ). x == 0) xs) (piece_copied behind_flags 84 256 (omega arith) (omega (arith, pad_late)) (omega (arith, inside, pad_late)) (omega (arith, by_lies, exchanged.as_long, need_is, pad_late)));
-    }
+    pub long_late : by + 84 ≤ length late
+    long_late = let l = by_lies in let k = exchanged.as_long in omega (arith, need_is, pad_late b old, l, k)
 
-    pub linked : Linked late v by
-    linked = record { sound_now = sound_late good at made copies; stands = old_in good at made copies; free = old_free good at made copies; long = let l = by_lies in let k = exchanged.as_long in omega (arith, need_is, pad_late, l, k) }
-
-    -- ---- the new VDR, with the bytes of its link
+    -- ---- with the bytes of its link
 
     module _ (there : AreBytes late by 84) where
-      link_same : number late by next_field ≡ number b v next_field
+      link_same : number late by next_field ≡ number b old next_field
       link_same =
-          let link = number b s.gdr (head_of c) in
-          let was = subst (λ (ms : List ℕ). Leads b link ms 0) (members good at made) (kind_chain kind (sound good at).has_shape).leads in
-          let is = subst (λ (ms : List ℕ). Leads late (number late s.gdr (head_of c)) ms 0) (vdrs_append before (record own { vdr = by } ∷ after)) (chain_late good at made).leads in
-          sym (same_link b late (next_of b v) (next_of late by) (vdrs after) (leads_rest b link (vdrs before) v (vdrs after) was) (leads_rest late _ (vdrs before) by (vdrs after) is))
+          let link = number b (shape b).gdr (head_of (variables_chain kind)) in
+          let was = subst (λ (ms : List ℕ). Leads b link ms 0) (members good among made) (kind_chain kind (sound good among).has_shape).leads in
+          let is = subst (λ (ms : List ℕ). Leads late (number late (shape b).gdr (head_of (variables_chain kind))) ms 0) (vdrs_append vdr.before (record own { vdr = by } ∷ vdr.after)) (chain_late good among made).leads in
+          sym (same_link b late (next_of b old) (next_of late by) (vdrs vdr.after) (leads_rest b link (vdrs vdr.before) old (vdrs vdr.after) was) (leads_rest late _ (vdrs vdr.before) by (vdrs vdr.after) is))
 
-      alike : (i : ℕ) → 12 ≤ i → i < place → (i < 44) ⊎ (44 + 4 ≤ i) → byte late (by + i) ≡ byte b (v + i)
+      alike : (i : ℕ) → 12 ≤ i → i < place → (i < 44) ⊎ (44 + 4 ≤ i) → byte late (by + i) ≡ byte b (old + i)
       alike i low high side = elim (cases_lt i 20) [
-        | inl l ↦ equal_bytes read there (v + 12) (by + 12) 8 (omega arith) (omega arith) (omega arith) (omega arith) link_same (i - 12) (by + i) (v + i) (omega arith) (omega arith) (omega arith)
+        | inl l ↦ equal_bytes p.read there (old + 12) (by + 12) 8 (omega arith) (omega arith) (omega arith) (omega arith) link_same (i - 12) (by + i) (old + i) (omega arith) (omega arith) (omega arith)
         | inr m ↦ late_byte i m high side
       ]
 
-      pub holds : HoldsPad b late v by need value
-      holds = record {
-        alike = λ i low high out. alike i low high out.0;
-        flags_are = flags_now;
-        pad_is =
-            let wide : (pad_field b v).width ≡ length value = pad_width (is_z b v) (dimensions_at b v) (value_bytes b v) ∙ sym sized in
-            let first : take (length value) (drop (by + place) late) ≡ take (length value) (drop (by + place) exchanged.filled) = piece_kept exchanged.filled late (by + 20) (by + need) kept (by + place) (length value) (omega (arith, pad_late)) (omega (arith, need_is)) by_lies (omega (arith, exchanged.as_long)) in
-            ap (λ (k : ℕ). take k (drop (by + place) late)) wide ∙ first ∙ ap (λ (x : List ℕ). take (length value) (drop (by + place) x)) exchanged.placed.written ∙ value_there b value v place n inside pad_late exchanged.placed.taken by exchanged.placed.inside;
-        whole = end_is;
-        short = omega (arith, short, need_is);
+      pub copies : CopiesVdr b late own body by p.bytes
+      copies = record {
+        held = record {
+          typed = joined_type (sound good among) made ∙ sym (typed good among);
+          alike = λ i low high out. alike i low high out.0;
+          flags_are = word_kept exchanged.filled late (by + 20) (by + need) kept (by + 44) 4 (omega arith) (omega (arith, need_is, pad_late b old)) ∙ ap (λ (x : List ℕ). word x (by + 44) 4) exchanged.placed.written
+              ∙ flags_there b p.bytes body old place n inside (pad_late b old) p.is exchanged.placed.taken by exchanged.placed.inside (small_flags (number b old vdr_flags) (word_fits b old 84 (old + 44) 4 p.read (omega arith) (omega arith)));
+          pad_is =
+              let wide : (pad_field b old).width ≡ length p.bytes = pad_wide b old ∙ sym p.long in
+              ap (λ (k : ℕ). take k (drop (by + place) late)) wide ∙ piece_kept exchanged.filled late (by + 20) (by + need) kept (by + place) (length p.bytes) (omega (arith, pad_late b old)) (omega (arith, need_is)) by_lies (omega (arith, exchanged.as_long))
+              ∙ ap (λ (x : List ℕ). take (length p.bytes) (drop (by + place) x)) exchanged.placed.written ∙ value_there b p.bytes body old place n inside (pad_late b old) p.is exchanged.placed.taken by exchanged.placed.inside;
+        };
+        whole = need_is ∙ ap (λ (k : ℕ). place + k) p.long;
+        short = omega (arith, p.short, need_is);
       }
 
--- ---- what the calls ask for that put it in the place of one
-
-module _ {b body : List ℕ} {kind : Kind} {old : ℕ} (good : Good b) (vdr : IsVdr b kind old) (p : IsPadded b old body) where
-  pub may_place : IsBody body
-  may_place = subst IsBody (sym p.is) (is_body p.bytes good (vdr_at good vdr) p.long p.short p.read)
-
-  pub of_chain : type_of_body body ≡ type_in (variables_chain kind)
-  of_chain = ap type_of_body p.is ∙ type_is p.bytes good (vdr_at good vdr) p.long p.short p.read
-
-  pub is_member : is_in old (members_of b (variables_chain kind)) ≡ true
-  is_member =
-      let among : In old (vdrs (shapes_of (shape b) kind)) = subst (λ (vs : List VariableShape). In old (vdrs vs)) (sym vdr.was) (in_middle vdr.before (vdr_own good vdr) vdr.after) in
-      is_in-true old _ (subst (In old) (sym (variable_members b (shape b) (good_is_sound b good).has_shape kind)) among)
-
-  -- after a call that reads
-  pub then_linked : {now late : List ℕ} {by : ℕ} {which : Chain} → which ≡ variables_chain kind → Exchanged b now which body old by → late ≡ now → Linked late old by
-  then_linked {now = now} {by = by} is exchanged same =
-      subst (λ (x : List ℕ). Linked x old by) (sym same) (linked p.bytes good (vdr_at good vdr) p.long p.short p.read (subst (λ (x : List ℕ). Exchanged b now (variables_chain kind) x old by) p.is (subst (λ (x : Chain). Exchanged b now x body old by) is exchanged)))
+      -- the old one may be freed
+      pub may_free : IsSound late (shape late) × In old (shape late).records × (times old (owned_records late (shape late)) ≡ 0)
+      may_free = (sound_late good among made copies, old_in good among made copies, old_free good among made copies)
 
 -- ---- at an index of the places of its kind
 
@@ -298,79 +200,19 @@ module _ (b : List ℕ) (kind : Kind) {places : List ℕ} {num vdr : ℕ} (good 
       ap (last_or None) (there.front_at ∙ front ∙ (λ i. before (vdr_is i) (sym members i)))
 
   module _ {p : PadPlace} (place : IsPlace b vdr p) where
-    pub place_late : 340 ≤ p.at
-    place_late = subst (λ (k : ℕ). 340 ≤ k) (sym place.at_is) (pad_long (is_z b vdr) (dimensions_at b vdr) (value_bytes b vdr))
-
-    pub place_lies : vdr + p.at ≤ length b
-    place_lies = subst (λ (k : ℕ). vdr + k ≤ length b) (sym place.at_is) (vdr_inside good is_vdr)
+    pub place_in : (340 ≤ p.at) × (vdr + p.at ≤ length b)
+    place_in = rw place.at_is (pad_late b vdr, vdr_inside good is_vdr)
 
     pub old_long : (xs : List ℕ) → xs ≡ take (p.at - 8) (drop (vdr + 8) b) → 40 ≤ length xs
-    old_long xs e =
-        let l = place_lies in
-        let late = place_late in
-        let long : length xs ≡ p.at - 8 = ap (λ (ys : List ℕ). length ys) e ∙ simp (length-take, length-drop) (omega arith) in
-        omega (arith, long, late)
+    old_long xs e = rw e (simp (length-take, length-drop) (let l = place_in in omega arith))
 
     pub body_long : (xs ys value : List ℕ) (n : ℕ) → xs ≡ take (p.at - 8) (drop (vdr + 8) b) → ys ≡ put xs 36 (big_bytes 4 n) ++ value → 8 + length ys ≡ p.at + length value
-    body_long xs ys value n e f = ap (λ (zs : List ℕ). 8 + length zs) (f ∙ ap (λ (old : List ℕ). put old 36 (big_bytes 4 n) ++ value) e) ∙ length-new b value vdr p.at n place_lies place_late
-
--- ---- the bytes in a VDR which has room for them
-
-module _ (b value : List ℕ) (vdr : ℕ) (long : length value ≡ value_bytes b vdr) (room : (pad_field b vdr).place + value_bytes b vdr ≤ size_at b vdr) (inside : vdr + size_at b vdr ≤ length b) (small : number b vdr vdr_flags < 256 ^ 4) where
-  abbrev at : ℕ
-  at = (pad_field b vdr).place
-
-  abbrev flagged : List ℕ
-  flagged = with_field b vdr vdr_flags (padded_flags (number b vdr vdr_flags))
-
-  late : 340 ≤ at
-  late = pad_long (is_z b vdr) (dimensions_at b vdr) (value_bytes b vdr)
-
-  wide : (pad_field b vdr).width ≡ value_bytes b vdr
-  wide = pad_width (is_z b vdr) (dimensions_at b vdr) (value_bytes b vdr)
-
-  lies : LiesIn b vdr vdr_flags
-  lies = omega (arith, room, inside, late)
-
-  same_length : length flagged ≡ length b
-  same_length = length-with_field b vdr vdr_flags (padded_flags (number b vdr vdr_flags)) lies
-
-  in_flagged : vdr + at + length value ≤ length flagged
-  in_flagged = omega (arith, same_length, room, inside, long)
-
-  writes : WritesPad b (put flagged (vdr + at) value) vdr value
-  writes = record {
-    room = room;
-    bytes_are =
-        ap (λ (k : ℕ). take k (drop (vdr + at) (put flagged (vdr + at) value))) (wide ∙ sym long) ∙ ap (take (length value)) (drop-put_there flagged value (vdr + at) (omega (arith, in_flagged)))
-        ∙ take_at value (drop (vdr + at + length value) flagged) (length value) refl;
-    flags_are = word-put_outside flagged value (vdr + at) (vdr + 44) 4 in_flagged (inl (omega (arith, late))) ∙ field_reads b vdr vdr_flags (padded_flags (number b vdr vdr_flags)) lies (small_flags (number b vdr vdr_flags) small);
-    changed = record {
-      longer = omega (arith, length-put flagged (vdr + at) value in_flagged, same_length);
-      same = λ i lt out. beside i out.0 ∙ other_bytes b vdr vdr_flags (padded_flags (number b vdr vdr_flags)) i lies out.1.0;
-    };
-    as_long = length-put flagged (vdr + at) value in_flagged ∙ same_length;
-  }
-    where
-      beside : (i : ℕ) → (i < vdr + at) ⊎ (vdr + at + (pad_field b vdr).width ≤ i) → byte (put flagged (vdr + at) value) i ≡ byte flagged i
-      beside i (inl l) = byte-put_before flagged (vdr + at) value i (omega (arith, in_flagged)) l
-      beside i (inr m) = byte-put_after flagged (vdr + at) value i (omega (arith, in_flagged)) (omega (arith, m, wide, long))
+    body_long xs ys value n e f = (lengths b value ys vdr p.at n place_in.1 place_in.0 (f ∙ ap (λ (old : List ℕ). put old 36 (big_bytes 4 n) ++ value) e)).3
 
 -- ---- what is asked for
 
 pub put_asked : {b : List ℕ} {known known' : Known} {name : List ℕ} {words : List (List ℕ)} {r : PadRequest} {id : VarId} {p : PadPlace} {bytes : _} → IsRequest b known name words r → r ≡ Put id p bytes → known ≡ known' → MayPad b known' name words id p bytes.items
 put_asked {b = b} {name = name} {words = words} {id = id} {p = p} {bytes = bytes} request is view = subst (λ (k : Known). MayPad b k name words id p bytes.items) view (subst (IsRequest b _ name words) is request)
-
-pub put_there : {b before now raw bytes : List ℕ} (p : PadPlace) → before ≡ b → raw ≡ bytes → now ≡ put (with_field before p.vdr vdr_flags (padded_flags p.flags)) (p.vdr + p.at) raw → now ≡ put (with_field b p.vdr vdr_flags (padded_flags p.flags)) (p.vdr + p.at) bytes
-put_there p same is made = made ∙ (λ i. put (with_field (same i) p.vdr vdr_flags (padded_flags p.flags)) (p.vdr + p.at) (is i))
-
-pub moves_there : {b before now raw places places' : List ℕ} {bytes : List ℕ} {kind : Kind} {p : PadPlace} {num : ℕ} → before ≡ b → raw ≡ bytes → Moves before now kind p raw places places' num → Moves b now kind p bytes places places' num
-moves_there {b = b} {now = now} {raw = raw} {places = places} {places' = places'} {kind = kind} {p = p} {num = num} same is m = subst (λ (x : List ℕ). Moves b now kind p x places places' num) is (subst (λ (x : List ℕ). Moves x now kind p raw places places' num) same m)
-
--- the places with another one in the middle
-vdrs_set : (before : List VariableShape) (own other : VariableShape) (after : List VariableShape) → vdrs (before ++ other ∷ after) ≡ slice_set (vdrs (before ++ own ∷ after)) (length before) other.vdr
-vdrs_set [] own other after = refl
-vdrs_set (first ∷ before) own other after = ap (λ (r : List ℕ). first.vdr ∷ r) (vdrs_set before own other after)
 
 module _ {b : List ℕ} (name : List ℕ) (words : List (List ℕ)) {known : Known} (good : Good b) (knows : Knows b known) {id : VarId} {p : PadPlace} {bytes : List ℕ} (may : MayPad b known name words id p bytes) where
   abbrev parts : Parts b known name id
@@ -397,9 +239,6 @@ module _ {b : List ℕ} (name : List ℕ) (words : List (List ℕ)) {known : Kno
   turns : Some (turned (type_of_variable b vdr) (is_little b) bytes) ≡ Some may.value.value
   turns = ap Some (ap (λ (t : DataType). turned t (is_little b) bytes) (sym site.t_is) ∙ may.value.turns)
 
-  own_inside : vdr + size_at b vdr ≤ length b
-  own_inside = (tile_lies b 8 (length b) (shape b).records vdr (sound good parts.at).has_shape.tiled (tile good parts.at)).high
-
   goes : step (content b) (SetPad name words) ≡ ByStep (Go (with_variable (content b) mine padded) Plain)
   goes =
       let read : values_in (type_of_variable b vdr) (elems_at b vdr) 1 words ≡ Ok may.value.value = ap₂ (λ (t : DataType) (n : ℕ). values_in t n 1 words) (sym site.t_is) (sym site.elems_are) ∙ may.value.read in
@@ -416,10 +255,10 @@ module _ {b : List ℕ} (name : List ℕ) (words : List (List ℕ)) {known : Kno
   within_known of = subst (λ (k : Kind). id.num < length (known_of known k).places) of (within_places name good knows may.found)
 
   pub at_inside : p.at ≤ length b
-  at_inside = let fit = (fits good parts.at).0 in let l = own_inside in omega (arith, fit, l, site.at_is)
+  at_inside = let fit = (fits good parts.at).0 in let l = high good parts.at in omega (arith, fit, l, site.at_is)
 
   pub need_inside : p.at + length bytes ≤ p.size → p.vdr + (p.at + length bytes) ≤ length b
-  need_inside fit = let l = own_inside in omega (arith, l, fit, site_is, site.size_is)
+  need_inside fit = let l = high good parts.at in omega (arith, l, fit, site_is, site.size_is)
 
   pub over : (limit : ℕ) → limit - length b < p.at + length bytes → length b ≤ limit → Answers limit b (SetPad name words) (Refused TooLarge) b
   over limit test fit = let size = room_is in too_large limit b (SetPad name words) _ Plain goes (omega (arith, size, test, fit))
@@ -432,23 +271,22 @@ module _ {b : List ℕ} (name : List ℕ) (words : List (List ℕ)) {known : Kno
         let vs = site_is in
         let fs = site.flags_are in
         let ats = site.at_is in
-        subst (λ (x : List ℕ). WritesPad b x vdr bytes) (sym (written ∙ (λ i. put (with_field b (vs i) vdr_flags (padded_flags (fs i))) (vs i + ats i) bytes)))
-        (writes b bytes vdr long (omega (arith, fit, long, site.at_is, site.size_is)) own_inside (word_fits b vdr 84 (vdr + 44) 4 site.bytes (omega arith) (omega arith)))
+        record { long = long; room = omega (arith, fit, long, site.at_is, site.size_is); small = word_fits b vdr 84 (vdr + 44) 4 site.bytes (omega arith) (omega arith); written = written ∙ (λ i. put (with_field b (vs i) vdr_flags (padded_flags (fs i))) (vs i + ats i) bytes) }
 
     here : variable_of now parts.own ≡ padded
     here = meaning good parts.at written_there ∙ (λ i. record (variable_of b parts.own) { pad = turns i })
 
-    pub put_knows : Knows now known
-    put_knows = knows_still name good knows may.found (edits good parts.at written_there) here refl
-
-    pub put_done : (limit : ℕ) → p.at + length bytes ≤ limit - length b → length b ≤ limit → limit ≤ image_limit → Answers limit b (SetPad name words) (Done Plain) now
-    put_done limit under short limited =
-        let size = room_is in
-        gone limit b (SetPad name words) _ Plain now goes (omega (arith, size, under, short))
-        (follows_still name good knows may.found (edits good parts.at written_there) here (SetPad name words) refl goes
-        (may_keep name good knows may.found now (set_pad_changes b (shape b)) (record stays_own { vdr = Anything }) (next_field ∷ []) refl tt)
-        (of_found name good knows may.found (λ u u'. SetsPad b now u.vdr u'.vdr []) (still_there name good knows may.found (edits good parts.at written_there) here) (pads_in_place good parts.at written_there))
-        (omega (arith, short, limited)) refl)
+    pub put_done : ((limit : ℕ) → p.at + length bytes ≤ limit - length b → length b ≤ limit → limit ≤ image_limit → Answers limit b (SetPad name words) (Done Plain) now) × Knows now known
+    put_done = (
+      λ limit under short limited.
+          let size = room_is in
+          gone limit b (SetPad name words) _ Plain now goes (omega (arith, size, under, short))
+          (follows_still name good knows may.found (edits good parts.at written_there) here (SetPad name words) refl goes
+          (may_keep name good knows may.found now (set_pad_changes b (shape b)) (record stays_own { vdr = Anything }) (next_field ∷ []) refl tt)
+          (of_found name good knows may.found (λ u u'. SetsPad b now u.vdr u'.vdr []) (still_there name good knows may.found (edits good parts.at written_there) here) (pads_in_place good parts.at written_there))
+          (omega (arith, short, limited)) refl),
+      knows_still name good knows may.found (edits good parts.at written_there) here refl,
+    )
 
   -- ---- where the VDR moved
 
@@ -456,28 +294,28 @@ module _ {b : List ℕ} (name : List ℕ) (words : List (List ℕ)) {known : Kno
     mv : MovedTo b now id.kind vdr (padded_body b vdr bytes) m.by
     mv = subst (λ (k : ℕ). MovedTo b now id.kind k (padded_body b k bytes) m.by) site_is m.moved
 
-    short : size_at b vdr < (pad_field b vdr).place + length bytes
-    short = omega (arith, less, site.size_is, site.at_is)
+    abbrev stands : IsVdr b id.kind vdr
+    stands = record { before = parts.before; own = parts.own; after = parts.after; was = parts.at.was }
+
+    abbrev pads : IsPadded b vdr (padded_body b vdr bytes)
+    pads = record { bytes = bytes; is = refl; long = long; short = omega (arith, less, site.size_is, site.at_is); read = site.bytes }
 
     abbrev moved : MovesVdr b mv.late id.kind parts.own (padded_body b vdr bytes) m.by
-    moved = made bytes good parts.at long short site.bytes mv.exchanged
+    moved = made good stands pads mv.exchanged
 
-    says : CopiesVdr b mv.late parts.own (padded_body b vdr bytes) m.by
-    says = copies bytes good parts.at long short site.bytes mv.exchanged
-
-    held : HoldsPad b mv.late vdr m.by (8 + length (padded_body b vdr bytes)) bytes
-    held = holds bytes good parts.at long short site.bytes mv.exchanged mv.read
+    says : CopiesVdr b mv.late parts.own (padded_body b vdr bytes) m.by bytes
+    says = copies good stands pads mv.exchanged mv.read
 
     content_moved : content now ≡ with_variable (content b) mine padded
-    content_moved = freed_content good parts.at moved says mv.gives ∙ ap (with_variable (content b) mine) (pad_means good parts.at moved says mv.gives held ∙ (λ i. record (variable_of b parts.own) { pad = turns i }))
+    content_moved = freed_content good parts.at moved says mv.gives ∙ ap (with_variable (content b) mine) (pad_means good parts.at moved says mv.gives ∙ (λ i. record (variable_of b parts.own) { pad = turns i }))
 
     there_now : slice_get (shapes_of (shape now) id.kind) (length parts.before) ≡ Some (own' good parts.at moved)
     there_now = ap (λ (vs : List VariableShape). slice_get vs (length parts.before)) (own_now b now _ id.kind (freed_is good parts.at moved says mv.gives)) ∙ got-middle parts.before (own' good parts.at moved) parts.after
 
-    pub moved_done : (limit : ℕ) → p.at + length bytes ≤ limit - length b → length b ≤ limit → limit ≤ image_limit → Answers limit b (SetPad name words) (Done Plain) now
-    moved_done limit under fit above =
+    moved_answers : (limit : ℕ) → p.at + length bytes ≤ limit - length b → length b ≤ limit → limit ≤ image_limit → Answers limit b (SetPad name words) (Done Plain) now
+    moved_answers limit under fit above =
         let size = room_is in
-        let body_is : 8 + length (padded_body b vdr bytes) ≡ (pad_field b vdr).place + length bytes = need_is bytes good parts.at long short site.bytes in
+        let body_is : 8 + length (padded_body b vdr bytes) ≡ (pad_field b vdr).place + length bytes = need_is good stands pads in
         let same = site.at_is in
         let grown : length mv.late ≤ length b + (8 + length (padded_body b vdr bytes)) = (let l = mv.exchanged.placed.longest in omega (arith, l, mv.exchanged.as_long)) in
         let as_long = long_now good parts.at moved says mv.gives in
@@ -492,12 +330,16 @@ module _ {b : List ℕ} (name : List ℕ) (words : List (List ℕ)) {known : Kno
           takes_within = omega (arith, body_is, same, size);
           acts_follow = acts_now good parts.at moved says mv.gives;
           keeps = subst (λ (a : Allowances). AllKeep b now a (acts good parts.at moved says mv.gives) (owned b (shape b))) (sym (may_named name good knows may.found (set_pad_changes b (shape b)))) (keeps_now good parts.at moved says mv.gives (variable_of b parts.own));
-          does = of_found name good knows may.found (λ u u'. SetsPad b now u.vdr u'.vdr (acts good parts.at moved says mv.gives)) there_now (moved_sets_pad good parts.at moved says mv.gives held);
+          does = of_found name good knows may.found (λ u u'. SetsPad b now u.vdr u'.vdr (acts good parts.at moved says mv.gives)) there_now (moved_sets_pad good parts.at moved says mv.gives);
         })
 
-    pub moved_knows : {kind : Kind} → id.kind ≡ kind → places ≡ (known_of known kind).places → num ≡ id.num → Knows now (with_known known kind (record (known_of known kind) { places = places' }))
-    moved_knows of old at =
-        let places_are = (own_known name good knows may.found).places_are ∙ ap vdrs parts.at.was in
-        subst (λ (k : Kind). Knows now (with_known known k (record (known_of known k) { places = places' }))) of
-        (knows_with _ _ knows id.kind content_moved (freed_is good parts.at moved says mv.gives) (same_names name good knows may.found padded refl)
-        (m.places_are ∙ (λ i. slice_set (old i) (at i) m.by) ∙ (λ i. slice_set (known_of known (sym of i)).places (sym parts.count i) m.by) ∙ ap (λ (xs : List ℕ). slice_set xs (length parts.before) m.by) places_are ∙ sym (vdrs_set parts.before parts.own (own' good parts.at moved) parts.after)))
+    pub moved_done : ((limit : ℕ) → p.at + length bytes ≤ limit - length b → length b ≤ limit → limit ≤ image_limit → Answers limit b (SetPad name words) (Done Plain) now) × ((kind : Kind) → id.kind ≡ kind → places ≡ (known_of known kind).places → num ≡ id.num → Knows now (with_known known kind (record (known_of known kind) { places = places' })))
+    moved_done = (
+      moved_answers,
+      λ kind of old at.
+          let places_are = (own_known name good knows may.found).places_are ∙ ap vdrs parts.at.was in
+          subst (λ (k : Kind). Knows now (with_known known k (record (known_of known k) { places = places' }))) of
+          (knows_with _ _ knows id.kind content_moved (freed_is good parts.at moved says mv.gives) (same_names name good knows may.found padded refl)
+          (m.places_are ∙ (λ i. slice_set (old i) (at i) m.by) ∙ (λ i. slice_set (known_of known (sym of i)).places (sym parts.count i) m.by) ∙ ap (λ (xs : List ℕ). slice_set xs (length parts.before) m.by) (places_are ∙ vdrs_append parts.before (parts.own ∷ parts.after))
+          ∙ set_at (vdrs parts.before) parts.own.vdr (vdrs parts.after) m.by (length parts.before) (length-map parts.before (λ (v : VariableShape). v.vdr)) ∙ sym (vdrs_append parts.before (own' good parts.at moved ∷ parts.after)))),
+    )

@@ -5,7 +5,8 @@ ghost use Rattle.std.specs.List.{flat_map};
 ghost use Rattle.byteorder.specs.Endian.{big_bytes};
 ghost use Rattle.cdf_edits.specs.Commands.Allowances.{vdr_type};
 ghost use Rattle.cdf_edits.specs.Space.Placing.{laid_out};
-ghost use Rattle.cdf_format.specs.Records.{record_type, vdr_vdr_next};
+ghost use Rattle.cdf_format.specs.Records.{record_type, vdr_vdr_next, vdr_name};
+ghost use Rattle.cdf_model.specs.Limits.{dimension_limit};
 ghost use Rattle.cdf_vars.specs.Creating.{own_dims, vary_code, vdr_body, vdr_fields, wanted};
 
 use cdf_fields::padded;
@@ -58,7 +59,7 @@ fn front(
 
 /// Appends a number of dimensions, and their sizes.
 fn push_sizes(bytes: &mut Vec<u8>, dims: &[u32]) -> Result<(), AllocError>
-    requires { length dims.now ≤ 10 }
+    requires { length dims.now ≤ dimension_limit }
     ensures { OnOk result (bytes.new.items ≡ bytes.old.items ++ flat_map (big_bytes 4) (length dims.now ∷ dims.now)) }
 {
     let dimensions = dims.len() as u32;
@@ -71,7 +72,7 @@ fn push_sizes(bytes: &mut Vec<u8>, dims: &[u32]) -> Result<(), AllocError>
 
 /// Appends zNumDims and zDimSizes, which a z variable has.
 fn push_dims(bytes: &mut Vec<u8>, kind: Kind, dims: &[u32]) -> Result<(), AllocError>
-    requires { length dims.now ≤ 10 }
+    requires { length dims.now ≤ dimension_limit }
     ensures { OnOk result (bytes.new.items ≡ bytes.old.items ++ flat_map (big_bytes 4) (own_dims kind dims.now)) }
 {
     match kind {
@@ -100,8 +101,8 @@ pub fn vdr_body(
     vary: bool,
     num: u32,
 ) -> Result<Vec<u8>, AllocError>
-    requires name { length name.now ≤ 256 }
-    requires few { length shape.now.dims ≤ 10 }
+    requires name { length name.now ≤ vdr_name.width }
+    requires few { length shape.now.dims ≤ dimension_limit }
     ensures { IfOk result (λ bytes. bytes.items ≡ vdr_body kind (wanted name.now shape.now vary) num) }
 {
     let mut bytes = front(alloc, kind, shape, vary, num)?;

@@ -9,7 +9,7 @@ ghost use Rattle.cdf_edits.specs.Commands.Allowances.{shapes_of};
 ghost use Rattle.cdf_edits.specs.Space.Chains.{before, members_of};
 ghost use Rattle.cdf_edits.specs.Space.VariableChains.{variables_chain};
 ghost use Rattle.cdf_format.specs.Fields.{with_field};
-ghost use Rattle.cdf_format.specs.Records.{vdr_flags, past, record_size};
+ghost use Rattle.cdf_format.specs.Records.{vdr_flags, past, record_size, vdr_name};
 ghost use Rattle.cdf_format.specs.Shape.{shape, vdrs};
 ghost use Rattle.cdf_format.specs.VariableFields.{value_bytes};
 ghost use Rattle.cdf_format.specs.WellFormed.{Good};
@@ -39,7 +39,7 @@ fn padded(flags: u32) -> u32
 
 /// Writes a pad value where it belongs, and that there is one. After an error a part of this may have been done.
 pub fn write_pad<A: Area>(area: &mut A, place: PadPlace, value: &[u8]) -> Result<(), AreaError>
-    requires late { 340 ≤ place.at }
+    requires late { past vdr_name ≤ place.at }
     requires inside { place.vdr + (place.at + length value.now) ≤ length (A.image area.old) }
     ensures written { OnOk result (A.image area.new ≡ put (with_field (A.image area.old) place.vdr vdr_flags (padded_flags place.flags)) (place.vdr + place.at) value.now) }
     ensures area { Edits A.frame A.faults area.old area.new result }
@@ -52,7 +52,7 @@ pub fn write_pad<A: Area>(area: &mut A, place: PadPlace, value: &[u8]) -> Result
 
 /// What follows the size of a descriptor with a pad value, from what does so in the old one up to there.
 fn padded_bytes(alloc: Global, old: &[u8], flags: u32, value: &[u8]) -> Result<Vec<u8>, AllocError>
-    requires { 40 ≤ length old.now }
+    requires { past vdr_flags - past record_size ≤ length old.now }
     ensures { IfOk result (λ bytes. bytes.items ≡ put old.now (vdr_flags.place - past record_size) (big_bytes vdr_flags.width (padded_flags flags)) ++ value.now) }
 {
     let flags_at = (VDR_FLAGS - RECORD_TYPE) as usize;
@@ -66,6 +66,7 @@ fn padded_bytes(alloc: Global, old: &[u8], flags: u32, value: &[u8]) -> Result<V
 
 /// Makes a descriptor with these bytes behind its size in place of one of a kind, which stands behind another one, or is the first
 /// where none is given; and frees the old one after that. Gives the new place. After an error a part of this may have been done.
+#[tactic(auto, using(cdf_area::proofs::Calls::edit_done, cdf_area::proofs::Calls::edit_failed, cdf_area::proofs::Calls::edit_more, cdf_area::proofs::Calls::edit_once, cdf_area::proofs::Calls::edits_by_read))]
 fn replace_vdr<A: Area>(
     area: &mut A,
     kind: Kind,
@@ -77,7 +78,7 @@ fn replace_vdr<A: Area>(
     requires vdr { IsVdr (A.image area.old) kind old }
     requires behind { behind ≡ last_or None (before old (members_of (A.image area.old) (variables_chain kind))) }
     requires padded { IsPadded (A.image area.old) old bytes.now }
-    requires room { length (A.image area.old) + (8 + length bytes.now) ≤ (A.frame area.old).limit }
+    requires room { length (A.image area.old) + (past record_size + length bytes.now) ≤ (A.frame area.old).limit }
     requires limit { (A.frame area.old).limit ≤ image_limit }
     ensures moved { IfOk result (MovedTo (A.image area.old) (A.image area.new) kind old bytes.now) }
     ensures area { Edits A.frame A.faults area.old area.new result }
@@ -91,6 +92,7 @@ fn replace_vdr<A: Area>(
 
 /// Makes a descriptor with a pad value in place of the one of a number among those of a kind, which has no room for it.
 /// After an error a part of this may have been done in the area.
+#[tactic(auto, using(cdf_area::proofs::Calls::edit_failed, cdf_area::proofs::Calls::edit_without_memory, cdf_area::proofs::Calls::edits_by_read, cdf_area::proofs::Calls::keeps_by_read, cdf_area::proofs::Calls::read_once))]
 pub fn move_vdr<A: Area>(
     alloc: Global,
     area: &mut A,

@@ -70,6 +70,7 @@ fn read_pad(
 
 impl Vars {
     /// What the command asks for, as far as it does not depend on the room that there is.
+    #[tactic(auto, using(cdf_area::proofs::Calls::read_done, cdf_area::proofs::Calls::read_more, cdf_area::proofs::Calls::read_once))]
     fn read_request<A: Area>(
         &self,
         area: &mut A,

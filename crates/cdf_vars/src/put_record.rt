@@ -1,6 +1,6 @@
 //! A record that a command puts, once it is known what is put.
 
-ghost use Rattle.std.specs.Prelude.{◌≡◌, ◌≤◌, ◌%◌, ℕ, ℤ, List, length, IfOk, OnOk};
+ghost use Rattle.std.specs.Prelude.{◌≡◌, ◌+◌, ◌≤◌, ◌%◌, ℕ, ℤ, List, length, IfOk, OnOk};
 ghost use Rattle.cdf_area.specs.Calls.{Edits, Reads};
 ghost use Rattle.cdf_edits.specs.Answers.{Answers};
 ghost use Rattle.cdf_edits.specs.Commands.Allowances.{shapes_of};
@@ -8,7 +8,7 @@ ghost use Rattle.cdf_edits.specs.Edits.RemovesVariable.{greatest_at, r_max_write
 ghost use Rattle.cdf_edits.specs.Edits.Writes.{with_writes};
 ghost use Rattle.cdf_edits.specs.Follows.{Follows};
 ghost use Rattle.cdf_format.specs.Fields.{LiesIn, gdr_offset};
-ghost use Rattle.cdf_format.specs.Records.{gdr_r_max_rec};
+ghost use Rattle.cdf_format.specs.Records.{gdr_r_max_rec, cdr_gdr_offset, cdr_place, past};
 ghost use Rattle.cdf_format.specs.Shape.{shape, vdrs};
 ghost use Rattle.cdf_format.specs.VariableFields.{max_rec_at};
 ghost use Rattle.cdf_format.specs.WellFormed.{Good};
@@ -89,7 +89,7 @@ fn read_new_record<A: Area>(
 impl Vars {
     /// Writes rMaxRec, where MaxRec of a variable of this kind was raised. After an error a part of it may have been written.
     fn follow_max_rec<A: Area>(&self, area: &mut A, kind: Kind) -> Result<(), AreaError>
-        requires cdr { 28 ≤ length (A.image area.old) }
+        requires cdr { cdr_place + past cdr_gdr_offset ≤ length (A.image area.old) }
         requires field { LiesIn (A.image area.old) (gdr_offset (A.image area.old)) gdr_r_max_rec }
         requires lie { VdrsLie (A.image area.old) self.now.r.places }
         ensures written { OnOk result ((greatest : ℤ) → greatest ≡ greatest_at (A.image area.old) self.now.r.places → A.image area.new ≡ with_writes (A.image area.old) (r_max_writes kind (gdr_offset (A.image area.old)) greatest)) }

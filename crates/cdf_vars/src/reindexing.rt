@@ -1,6 +1,6 @@
 //! The command `reindex`: the index of a variable is made anew, in as few nodes as can be.
 
-ghost use Rattle.std.specs.Prelude.{◌≡◌, ◌*◌, ◌≤◌, length, IfOk, OnOk, OnErr};
+ghost use Rattle.std.specs.Prelude.{◌≡◌, ◌+◌, ◌*◌, ◌≤◌, length, IfOk, OnOk, OnErr};
 ghost use Rattle.cdf_area.specs.Calls.{Edits, Reads};
 ghost use Rattle.cdf_edits.specs.Answers.{Answers};
 ghost use Rattle.cdf_edits.specs.Commands.Room.{nodes_above, reindex_room};
@@ -10,7 +10,7 @@ ghost use Rattle.cdf_format.specs.Shape.{shape, variables, vdrs};
 ghost use Rattle.cdf_format.specs.Tiles.{In};
 ghost use Rattle.cdf_format.specs.WellFormed.{Good};
 ghost use Rattle.cdf_index.specs.Finding.{index_at};
-ghost use Rattle.cdf_model.specs.Limits.{image_limit};
+ghost use Rattle.cdf_model.specs.Limits.{image_limit, signed_limit};
 ghost use Rattle.cdf_model.specs.declared.command.Command.TheVariants.{Reindex};
 ghost use Rattle.cdf_vars.specs.Known.{Knows};
 
@@ -25,7 +25,7 @@ use cdf_reindex::{NODE_ENTRIES, NODE_SIZE, reindex};
 
 /// How many new nodes there are above so many entries, level by level until one is left, in as many levels at most.
 fn nodes_above(levels: u64, entries: u64) -> u64
-    requires { entries ≤ 2147483648 }
+    requires { entries ≤ signed_limit + 1 }
     ensures value { result ≡ nodes_above levels entries }
     ensures few { result ≤ 2 * entries }
 {

@@ -8,7 +8,7 @@ ghost use Rattle.cdf_edits.specs.Commands.Allowances.{shapes_of};
 ghost use Rattle.cdf_edits.specs.Edits.RemovesVariable.{RemovesVariable, empty_writes, greatest_at, numbers_on, r_max_writes};
 ghost use Rattle.cdf_edits.specs.Edits.Writes.{with_writes};
 ghost use Rattle.cdf_format.specs.Fields.{LiesIn, gdr_offset};
-ghost use Rattle.cdf_format.specs.Records.{gdr_r_max_rec, vdr_name};
+ghost use Rattle.cdf_format.specs.Records.{gdr_r_max_rec, vdr_name, cdr_gdr_offset, cdr_place, past};
 ghost use Rattle.cdf_format.specs.Shape.{shape, variables, vdrs};
 ghost use Rattle.cdf_format.specs.Tiles.{In};
 ghost use Rattle.cdf_format.specs.VariableFields.{max_rec_at};
@@ -95,7 +95,7 @@ fn set_numbers<A: Area>(area: &mut A, first: u32, places: &[u64]) -> Result<(), 
 
 /// Writes rMaxRec, where a variable of this kind went.
 pub fn set_greatest<A: Area>(area: &mut A, kind: Kind, greatest: i32) -> Result<(), AreaError>
-    requires cdr { 28 ≤ length (A.image area.old) }
+    requires cdr { cdr_place + past cdr_gdr_offset ≤ length (A.image area.old) }
     requires field { LiesIn (A.image area.old) (gdr_offset (A.image area.old)) gdr_r_max_rec }
     ensures written { OnOk result (A.image area.new ≡ with_writes (A.image area.old) (r_max_writes kind (gdr_offset (A.image area.old)) greatest)) }
     ensures area { Edits A.frame A.faults area.old area.new result }

@@ -26,7 +26,7 @@ fn rename_in<A: Area>(
     to: &[u8],
 ) -> Result<(), AreaError>
     requires may { MayRename (A.image area.old) table.old num to.now }
-    requires fits { length to.now ≤ 256 }
+    requires fits { length to.now ≤ vdr_name.width }
     ensures written { OnOk result (A.image area.new ≡ with_name (A.image area.old) (slice_index table.old.places num) vdr_name to.now) }
     ensures renamed { OnOk result (table.new ≡ record table.old { names = slice_set table.old.names num to.now }) }
     ensures stays { OnErr result (table.new ≡ table.old) }

@@ -16,11 +16,11 @@ pub use Rattle.cdf_edits.proofs.Edits.EntryFields.{of_shape}
 pub use Rattle.cdf_edits.proofs.Edits.FirstRecords.{read_now}
 pub use Rattle.cdf_edits.proofs.Edits.FreedAfter.{Frees, all_freed, freed_acts, freed_bytes, freed_edit, freed_long, freed_places, freed_records, freed_shape, freed_types, freeing_behind, gdr_still, may_free, others_kept, says_still, sizes_before, sound_now}
 pub use Rattle.cdf_edits.proofs.Edits.FreedBytes.{BytesStay, behind_link, behind_stays, end_long, free_used, freed_stay_but, unowned_used}
-pub use Rattle.cdf_edits.proofs.Edits.FreedRecord.{IsPlain}
+pub use Rattle.cdf_edits.proofs.Edits.FreedRecord.{FreesRecord, IsPlain, as_long_now, freed_each, freed_keeps_unused, freed_list, freed_real, freed_type, gdr_same, other_chain, other_links, records_now}
 pub use Rattle.cdf_edits.proofs.Edits.FreedRecords.{edit_under, sizes_by_tiles, unused_real}
 pub use Rattle.cdf_edits.proofs.Edits.LeftChain.{LeavesChain, LeavingTests, as_long, chain_now, counted_now, e_early, e_second, lasts_second, left_edit, list_now, may_linked, may_now, may_write, said_now, some_second}
 pub use Rattle.cdf_edits.proofs.Edits.LeftOwners.{Left, can_be_freed, distinct_if, left_of, mine_once, mine_times, not_twice, owned_left, shape_there, sound_there}
-pub use Rattle.cdf_edits.proofs.Edits.MadeRecord.{end_now, fresh, list_chain, made_edit, made_keeps_unused, made_part, made_size, made_type, unowned}
+pub use Rattle.cdf_edits.proofs.Edits.MadeRecord.{end_now, fresh, list_chain, listed_before, listed_marks, loose_away, made_edit, made_keeps_unused, made_once, made_part, made_size, made_type, unowned}
 pub use Rattle.cdf_edits.proofs.Edits.MarkLemmas.{Avoids-append, Avoids-split, Away-append, Within-append, all_unmarked-away, avoided-avoids, avoids-of_type, away-of_type, ended-avoids, the_one, unmarked-away, within-of_type, within-within}
 pub use Rattle.cdf_edits.proofs.Edits.NumbersBehind.{SaysNumber, are_numbered, fewer_rows, numbering, others_in, others_say, place_in, tiles_numbered}
 pub use Rattle.cdf_edits.proofs.Edits.OneChain.{differ_before, end_before}
@@ -33,19 +33,19 @@ pub use Rattle.cdf_edits.proofs.Edits.RowsOneLess.{AreNumbered, numbered_still}
 pub use Rattle.cdf_edits.proofs.Edits.StaysBut.{StaysBut, field_stays, stays_within}
 pub use Rattle.cdf_edits.proofs.Edits.StepEdits.{fixed_long, gdr_in, gdr_long, gdr_typed, gives_edit, some_bytes, takes_edit}
 pub use Rattle.cdf_edits.proofs.Edits.TakenVariable.{SaysTaken, Stands, TakesVariable, back_out, content_taken, least_size, left_by, once, ours, own_stand, sound_taken, taken_good, tests, vdr_avoids, vdr_record, vdr_there, without_variable}
-pub use Rattle.cdf_edits.proofs.Edits.VariableCopied.{content_copied, fits_copied, links_copied}
-pub use Rattle.cdf_edits.proofs.Edits.VariableFrame.{AreOurs, Each-apply, Each-map, IsRuled, all_variables_kept, index_typed, nums_from, ours_parts, variable_typed, variables_in}
+pub use Rattle.cdf_edits.proofs.Edits.VariableCopied.{content_copied, fits_copied, index_rules_stay, links_copied, rules_stay}
+pub use Rattle.cdf_edits.proofs.Edits.VariableFrame.{AreOurs, Each-apply, Each-map, IsRuled, all_variables_kept, index_typed, nums_from, ours_parts, remain_from, variable_typed, variables_in}
 pub use Rattle.cdf_edits.proofs.Edits.VariableKeeps.{all_kept, stays_then, type_stays}
-pub use Rattle.cdf_edits.proofs.Edits.VariableKept.{keep_kinds, keep_own, only_variable, same_as_itself}
+pub use Rattle.cdf_edits.proofs.Edits.VariableKept.{keep_kinds, keep_own, keep_variable_parts, only_variable, same_as_itself, vdr_allowance}
 pub use Rattle.cdf_edits.proofs.Edits.VariableKinds.{attributes_counted, counted_before, keeps_kind, kind_chain, kind_in, kind_ours, kind_type, of_kind, other_kind, spliced_times, vdrs_rows, with_shapes}
 pub use Rattle.cdf_edits.proofs.Edits.VariableNames.{apart_if}
 pub use Rattle.cdf_edits.proofs.Edits.VariableSplice.{OwnRules, VariableSplices, attributes_kept, attributes_stay, content_now, good_image_if, keeps_all_attributes, shape_now, sound_if}
-pub use Rattle.cdf_edits.proofs.Edits.VdrEdited.{EditsVdr, MarkTests, StandsAmong, behind_in, behind_kept, file, fits, has, long, sound, through, tile, typed}
+pub use Rattle.cdf_edits.proofs.Edits.VdrEdited.{EditsVdr, MarkTests, StandsAmong, after_ours, behind_in, behind_kept, file, fits, has, high, long, name_room, no_block, sound, through, tile, typed}
 pub use Rattle.cdf_edits.proofs.Edits.WrittenFields.{MayWrite, may_after, write_lies, writes_edit, writes_lie, writes_long, written_tiles}
 pub use Rattle.cdf_edits.proofs.Frame.ChangedBytes.{changed_put}
-pub use Rattle.cdf_edits.proofs.Frame.Meaning.{FileSame, Kept, KeptButLink, but_link, late_size, late_type, pad_long, pad_width}
+pub use Rattle.cdf_edits.proofs.Frame.Meaning.{FileSame, Kept, KeptButLink, but_link, late_size, late_type, pad_late, pad_long, pad_wide, pad_width}
 pub use Rattle.cdf_edits.proofs.Frame.OwnersApart.{all_attribute_records, all_variable_records, file_from_attributes, file_records, flat-append, in-times, owned-times, times-append, times-in}
-pub use Rattle.cdf_edits.proofs.Frame.VdrCopied.{Copied, VdrCopied, pad_field_copied, type_copied, value_copied, word_copied}
+pub use Rattle.cdf_edits.proofs.Frame.VdrCopied.{Copied, VdrCopied, copied_in_place, copied_part, pad_field_copied, piece_copied, type_copied, value_copied, word_copied}
 pub use Rattle.cdf_edits.proofs.Rules.FirstHead.{FirstSays, first_hold, first_said}
 pub use Rattle.cdf_edits.proofs.Rules.WithoutLinks.{eof_by_rules}
 pub use Rattle.cdf_edits.proofs.Space.ActsLeave.{each, no_acts, places-sized}

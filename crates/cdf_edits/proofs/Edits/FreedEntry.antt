@@ -182,14 +182,7 @@ module _ {b late : List ℕ} {records list : List ℕ} {marks : List Mark} {rebo
         | inl j ↦ r.fresh m j typed stands
         | inr j ↦ subst (λ (x : ℕ). In x (attribute_records own)) (sym (the_one old m j)) (inr (chain_in kind own old f.member))
       ];
-      typed = λ m i. elim (In-append m reborn (old ∷ []) i) [
-        | inl j ↦
-            let is = f.reborn_in m j in
-            let ne : m ≢ old = λ q. f.out (subst (λ (x : ℕ). In x reborn) q j) in
-            let t = r.typed m j in
-            (subst (λ (x : ℕ). is_record_type x ≡ true) (sym (of_one.same_types one m is ne)) t.0, subst (λ (x : ℕ). fixed_size x ≤ size_at now m) (sym (of_one.same_types one m is ne)) (subst (λ (n : ℕ). fixed_size (type_at late m) ≤ n) (sym (of_one.same_sizes one m is)) t.1))
-        | inr j ↦ subst (λ (x : ℕ). (is_record_type (type_at now x) ≡ true) × (fixed_size (type_at now x) ≤ size_at now x)) (sym (the_one old m j)) (of_one.freed_real one)
-      ];
+      typed = of_one.freed_each one (λ (m : ℕ). (is_record_type (type_at now m) ≡ true) × (fixed_size (type_at now m) ≤ size_at now m)) f.reborn_in f.out (λ m i type size. rw (type, size) (r.typed m i)) (of_one.freed_real one);
       chain_now = of_one.other_chain one (entry_type kind) _ _ chain' g.plain r.chain_now (adr_field (head_field kind) g.head g.head_fits) others;
       unused_chain = of_one.freed_list one;
       trades = r.trades;
@@ -211,10 +204,7 @@ module _ {b late : List ℕ} {records list : List ℕ} {marks : List Mark} {rebo
     unowned_now = gone_unowned b s sound records list before own after kind chain' come old f.rechains.was f.rechains.trades not_come
 
     freed_sorted : (m : ℕ) → In m (reborn ++ old ∷ []) → IsSorted now (rechained s records (shape now).unused before own after kind chain' (old ∷ []) come f.rechains.was f.rechains.trades) m
-    freed_sorted m i = elim (In-append m reborn (old ∷ []) i) [
-      | inl j ↦ let ne : m ≢ old = λ q. f.out (subst (λ (x : ℕ). In x reborn) q j) in inl ((λ u. (f.sorted m j).0 (sym (of_one.same_types one m (f.reborn_in m j) ne) ∙ u)), (f.sorted m j).1)
-      | inr j ↦ subst (IsSorted now (rechained s records (shape now).unused before own after kind chain' (old ∷ []) come f.rechains.was f.rechains.trades)) (sym (the_one old m j)) (inr (freed_type, unowned_now))
-    ]
+    freed_sorted = of_one.freed_each one (IsSorted now (rechained s records (shape now).unused before own after kind chain' (old ∷ []) come f.rechains.was f.rechains.trades)) f.reborn_in f.out (λ m i type size. inl ((λ u. (f.sorted m i).0 (sym type ∙ u)), (f.sorted m i).1)) (inr (freed_type, unowned_now))
 
     -- ---- the acts, and what the freed one keeps
 
@@ -226,10 +216,7 @@ module _ {b late : List ℕ} {records list : List ℕ} {marks : List Mark} {rebo
 
     pub freed_settled : eof late (shape b).gdr ≡ length late → Settled sound freed_rechains need (acts ++ Gave old (size_at b old) ∷ [])
     freed_settled ends = record {
-      read = λ m i. elim (In-append m reborn (old ∷ []) i) [
-        | inl j ↦ ap (λ (type : ℕ). is_in type read_types) (of_one.same_types one m (f.reborn_in m j) (λ q. f.out (subst (λ (x : ℕ). In x reborn) q j))) ∙ f.read m j
-        | inr j ↦ ap (λ (type : ℕ). is_in type read_types) (ap (type_at now) (the_one old m j) ∙ freed_type)
-      ];
+      read = of_one.freed_each one (λ (m : ℕ). is_in (type_at now m) read_types ≡ true) f.reborn_in f.out (λ m i type size. ap (λ (t : ℕ). is_in t read_types) type ∙ f.read m i) (ap (λ (t : ℕ). is_in t read_types) freed_type);
       beside = λ m out. times-none m (old ∷ []) (λ i. out (In-append_right m reborn (old ∷ []) i)) ∙ sym (none_come m (λ i. out (In-append_left m reborn (old ∷ []) i)));
       sorted = freed_sorted;
       end = of_one.gdr_same one gdr_eof (omega arith) ∙ ends ∙ sym as_long_now;

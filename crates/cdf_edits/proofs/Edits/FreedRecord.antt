@@ -1,6 +1,6 @@
 -- A record that an edit left in use, and no owner has, is freed: what the image is then.
 use Rattle.std.proofs.Common.{◌≡◌, ◌≢◌, ℕ, ◌+◌, ◌≤◌, List, [], ◌∷◌, ◌++◌, length, true, false, refl, sym, ap, subst, ◌∙◌, arith, inl, inr}
-use Rattle.cdf_edits.proofs.Common.{le-leb, Same, IsChain, number, size_at, type_at, Unused, owned_by, unused_records, Field, gdr_uir_head, uir_next_uir, uir_prev_uir, gdr_type, uir_type, is_record_type, fixed_size, Shape, HasShape, shape, IsSound, In, AreTiles, Same-part, is_a-type, Allowances, AllKeep, is_taken, GivenStay, no_fields, Edit, Mark, Avoids, Away, Within, giving_marks, Act, Gave, ActsFollow, gave, links_end, Gives, giving}
+use Rattle.cdf_edits.proofs.Common.{le-leb, Same, IsChain, number, size_at, type_at, Unused, owned_by, unused_records, Field, gdr_uir_head, uir_next_uir, uir_prev_uir, gdr_type, uir_type, is_record_type, fixed_size, Shape, HasShape, shape, IsSound, In, AreTiles, Same-part, is_a-type, Allowances, AllKeep, is_taken, GivenStay, no_fields, Edit, Mark, Avoids, Away, Within, giving_marks, Act, Gave, ActsFollow, gave, links_end, Gives, giving, In-append, tile_lies}
 use Rattle.cdf_edits.proofs.Edits.ActsThen.{acts_gave}
 use Rattle.cdf_edits.proofs.Edits.Composing.{edit_then, same-then, sizes}
 use Rattle.cdf_edits.proofs.Edits.FreedBytes.{behind_one, freed_stay}
@@ -78,6 +78,13 @@ module _ {b late now : List ℕ} {made : Shape} {marks : List Mark} {reborn : Li
 
   pub freed_real : (is_record_type (type_at now old) ≡ true) × (fixed_size (type_at now old) ≤ size_at now old)
   freed_real = unused_real now made.records old given.tiled_now old_in freed_type
+
+  -- what holds of the reborn ones, which keep their types and sizes, and of this one
+  pub freed_each : (P : ℕ → Type 0) → ((m : ℕ) → In m reborn → In m made.records) → (In old reborn → ⊥) → ((m : ℕ) → In m reborn → type_at now m ≡ type_at late m → size_at now m ≡ size_at late m → P m) → P old → (m : ℕ) → In m (reborn ++ old ∷ []) → P m
+  freed_each P inside out each mine m i = elim (In-append m reborn (old ∷ []) i) [
+    | inl j ↦ each m j (same_types m (inside m j) (λ q. out (subst (λ (x : ℕ). In x reborn) q j))) (same_sizes m (inside m j))
+    | inr j ↦ subst P (sym (the_one old m j)) mine
+  ]
 
   pub records_now : (shape now).records ≡ made.records
   records_now = gives.records_stay

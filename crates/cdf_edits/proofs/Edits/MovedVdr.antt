@@ -1,21 +1,19 @@
 -- A VDR is placed anew and takes the place of the old one in its chain: the image until the old one is freed.
-use Rattle.std.proofs.Common.{◌≡◌, ◌≢◌, ℕ, ◌+◌, ◌≤◌, List, [], ◌∷◌, ◌++◌, length, eq-eqb, refl, sym, ap, subst, ◌∙◌, arith, inl, inr}
-use Rattle.cdf_edits.proofs.Common.{ne_eqb, Kind, IsChain, number, name_in, size_at, type_at, times, owned_records, vdr_num, vdr_name, VariableShape, Shape, vdrs, is_compressed, HasVariable, HasShape, Each, shape, IsSound, In, Distinct, Distinct-back, Distinct-middle, vdr_end, Good, Each-split, vdrs_append, shapes_of, counted_in, head_of, members_of, type_in, with_in_place, variables_chain}
-use Rattle.cdf_edits.proofs.Edits.Common.{IsHeld, StandsAmong, VariableLives, VdrCopied, behind_in, fits, fits_copied, fresh, has, index_records, kind_chain, late_type, links_copied, members_are, not_twice_kept, of_kind, owned-times, sound, sound_if, spliced_times, the_one, tile, times-append, typed, unowned, none_in_use, used_times, with_shapes}
-use Rattle.cdf_edits.proofs.Edits.JoinedVdr.{JoinsVdr, chain, edit, file, fills, gdr_is, joined_is, joined_size, joined_splices, list, lives, marks, plain_kind, records, used}
+use Rattle.std.proofs.Common.{◌≡◌, ◌≢◌, ◌⊎◌, ℕ, ◌+◌, ◌<◌, ◌≤◌, List, [], ◌∷◌, ◌++◌, length, eq-eqb, refl, sym, ap, subst, ◌∙◌, arith, inl, inr, le_refl}
+use Rattle.cdf_edits.proofs.Common.{ne_eqb, Kind, IsChain, number, size_at, type_at, times, owned_records, VariableShape, Shape, vdrs, HasVariable, HasShape, Each, shape, IsSound, In, In-append_left, In-append_right, Distinct, Distinct-back, Distinct-middle, pad_field, value_bytes, vdr_end, Good, Each-split, vdrs_append, shapes_of, counted_in, head_of, members_of, type_in, with_in_place, variables_chain}
+use Rattle.cdf_edits.proofs.Edits.Common.{IsHeld, StandsAmong, VariableLives, behind_in, fits, fits_copied, fresh, has, index_records, kind_chain, late_type, links_copied, made_once, members_are, not_twice_kept, of_kind, owned-times, sound, sound_if, spliced_times, the_one, tile, times-append, typed, none_in_use, used_times, with_shapes}
+use Rattle.cdf_edits.proofs.Edits.JoinedVdr.{JoinsVdr, chain, edit, file, fills, gdr_is, joined_is, joined_size, joined_splices, list, lives, marks, plain_kind, records, t, used}
+use Rattle.cdf_edits.proofs.Edits.PadWritten.{HoldsPad, copied, packed, padded_end}
 
 -- a record with these bytes behind its size took the place of the VDR of a variable
 abbrev pub MovesVdr : List ℕ → List ℕ → Kind → VariableShape → List ℕ → ℕ → Type 0
 MovesVdr b late kind own body by = JoinsVdr b late kind body by (with_in_place own.vdr by (members_of b (variables_chain kind))) (counted_in b (variables_chain kind))
 
--- and says the same of it but for its flags and its pad value
-pub record CopiesVdr (b late : List ℕ) (own : VariableShape) (body : List ℕ) (by : ℕ) : Type 0 where
-  pub copied : VdrCopied b late own.vdr by
-  pub num_is : number late by vdr_num ≡ number b own.vdr vdr_num
-  pub packed : is_compressed late by ≡ is_compressed b own.vdr
-  pub ends : vdr_end late by ≤ 8 + length body
-  pub larger : size_at b own.vdr ≤ 8 + length body
-  pub name_is : name_in late by vdr_name ≡ name_in b own.vdr vdr_name
+-- it says the same of it but for its flags and its pad value, for which the old one has no room, and ends with that
+pub record CopiesVdr (b late : List ℕ) (own : VariableShape) (body : List ℕ) (by : ℕ) (bytes : List ℕ) : Type 0 where
+  pub held : HoldsPad b late own.vdr by bytes
+  pub whole : 8 + length body ≡ (pad_field b own.vdr).place + value_bytes b own.vdr
+  pub short : size_at b own.vdr < 8 + length body
 
 -- another in the place of one of some variables
 vdrs_replaced : (before : List VariableShape) (own : VariableShape) (after : List VariableShape) (by : ℕ) → (In own.vdr (vdrs before) → ⊥) → with_in_place own.vdr by (vdrs (before ++ own ∷ after)) ≡ vdrs (before ++ record own { vdr = by } ∷ after)
@@ -44,14 +42,12 @@ module _ {b late : List ℕ} {kind : Kind} {before : List VariableShape} {own : 
   once : Distinct (vdrs before ++ own.vdr ∷ vdrs after)
   once = subst Distinct members (kind_chain kind h).once
 
-  pub not_before : In own.vdr (vdrs before) → ⊥
-  not_before = Distinct-middle (vdrs before) own.vdr (vdrs after) once
-
-  pub not_after : In own.vdr (vdrs after) → ⊥
-  not_after = (Distinct-back (vdrs before) (own.vdr ∷ vdrs after) once).0
+  pub beside : (x : ℕ) → In x (vdrs before) ⊎ In x (vdrs after) → In x (vdrs (shapes_of (shape b) kind)) × (x ≢ own.vdr)
+  beside x (inl i) = (subst (In x) (sym members) (In-append_left x (vdrs before) (own.vdr ∷ vdrs after) i), λ q. Distinct-middle (vdrs before) own.vdr (vdrs after) once (subst (λ (y : ℕ). In y (vdrs before)) q i))
+  beside x (inr i) = (subst (In x) (sym members) (In-append_right x (vdrs before) (own.vdr ∷ vdrs after) (inr i)), λ q. (Distinct-back (vdrs before) (own.vdr ∷ vdrs after) once).0 (subst (λ (y : ℕ). In y (vdrs after)) q i))
 
   members_late : vdrs (before ++ own' ∷ after) ≡ with_in_place own.vdr by (members_of b (variables_chain kind))
-  members_late = sym (ap (with_in_place own.vdr by) (members_are h (record { holder_is = gdr_is (sound good at) m; chain = kind_chain kind h }) ∙ ap vdrs at.was) ∙ vdrs_replaced before own after by not_before)
+  members_late = sym (ap (with_in_place own.vdr by) (members_are h (record { holder_is = gdr_is (sound good at) m; chain = kind_chain kind h }) ∙ ap vdrs at.was) ∙ vdrs_replaced before own after by (λ i. (beside own.vdr (inl i)).1 refl))
 
   pub chain_late : IsChain late (records (sound good at) m) (type_in (variables_chain kind)) (number late (shape b).gdr (head_of (variables_chain kind))) (vdrs (before ++ own' ∷ after))
   chain_late = subst (IsChain late (records (sound good at) m) (type_in (variables_chain kind)) (number late (shape b).gdr (head_of (variables_chain kind)))) (sym members_late) (chain (sound good at) m)
@@ -67,9 +63,12 @@ module _ {b late : List ℕ} {kind : Kind} {before : List VariableShape} {own : 
 
   -- ---- it says the same
 
-  module _ (says : CopiesVdr b late own body by) where
+  module _ {bytes : List ℕ} (says : CopiesVdr b late own body by bytes) where
+    pub end_late : vdr_end late by ≡ 8 + length body
+    end_late = padded_end says.held (file (sound good at) m) ∙ sym says.whole
+
     has_late : HasVariable late (records (sound good at) m) own'
-    has_late = links_copied (sound good at) (edit (sound good at) m) (file (sound good at) m) own (has good at) (fits good at) (behind_in good at) old_live.behind says.copied says.packed
+    has_late = links_copied (sound good at) (edit (sound good at) m) (file (sound good at) m) own (has good at) (fits good at) (behind_in good at) old_live.behind (copied says.held) (packed says.held)
 
     abbrev pub late_shape : Shape
     late_shape = with_shapes (shape b) kind (records (sound good at) m) (list (sound good at) m) (before ++ own' ∷ after)
@@ -88,14 +87,10 @@ module _ {b late : List ℕ} {kind : Kind} {before : List VariableShape} {own : 
     pub old_unowned : used_times late_shape own.vdr ≡ 0
     old_unowned =
         let gone : times own.vdr (own.vdr ∷ []) ≡ 1 = rw (eq-eqb own.vdr own.vdr refl) refl in
-        let none = none_of own.vdr by (λ q. by_not_old (sym q)) in
-        omega (arith, traded own.vdr, once_before)
+        omega (arith, traded own.vdr, once_before, none_of own.vdr by (λ q. by_not_old (sym q)))
 
     pub by_once : used_times late_shape by ≡ 1
-    by_once =
-        let came : times by (by ∷ []) ≡ 1 = rw (eq-eqb by by refl) refl in
-        let none = none_of by own.vdr by_not_old in
-        omega (arith, traded by, unowned (sound good at) (fills (sound good at) m))
+    by_once = (made_once (sound good at) (fills (sound good at) m) m.joined.linked m.joined.as_long (t (sound good at) m).lately late_shape (times by (own.vdr ∷ [])) (traded by) (none_of by own.vdr by_not_old) by (inl refl)).1
 
     fewer : (x : ℕ) → (In x (by ∷ []) → ⊥) → used_times late_shape x ≤ used_times (shape b) x
     fewer x outside = let none = none_of x by (λ q. outside (inl q)) in omega (arith, traded x)
@@ -105,7 +100,7 @@ module _ {b late : List ℕ} {kind : Kind} {before : List VariableShape} {own : 
 
     pub sound_late : IsSound late (shape late)
     sound_late = subst (IsSound late) (sym late_is) (sound_if (sound good at) (joined_splices (sound good at) m before (own ∷ []) (own' ∷ []) after at.was members_late (has_late, tt))
-        (fits_copied (sound good at) (edit (sound good at) m) (file (sound good at) m) own (has good at) (fits good at) (behind_in good at) old_live.behind says.copied says.packed (subst (λ (n : ℕ). vdr_end late by ≤ n) (sym (joined_size (sound good at) m)) says.ends), tt)
+        (fits_copied (sound good at) (edit (sound good at) m) (file (sound good at) m) own (has good at) (fits good at) (behind_in good at) old_live.behind (copied says.held) (packed says.held) (subst (λ (n : ℕ). vdr_end late by ≤ n) (end_late ∙ sym (joined_size (sound good at) m)) (le_refl (vdr_end late by))), tt)
         (not_twice_kept b late (shape b) late_shape (marks (sound good at) m) (by ∷ []) (sound good at) (edit (sound good at) m) fewer held))
 
     -- the old one may be freed

@@ -1,22 +1,72 @@
--- One variable of a kind has another index by now, and may say otherwise of itself, where all other variables stay: the shape, the content and the rules of the image.
+-- One variable of a kind is another one by now, or has another index, and may say otherwise of itself, where all other variables stay: the shape, the content and the rules of the image.
 use Rattle.cdf_edits.proofs.Edits.StepEdits.{gdr_long}
 use Rattle.cdf_edits.proofs.Edits.RecordFrame.{gdr_part, chain_stays, gdr_field, gdr_place, file_same}
 use Rattle.cdf_edits.proofs.Edits.MarkLemmas.{the_one}
 use Rattle.cdf_edits.proofs.Edits.EditActs.{acts_none}
 use Rattle.cdf_edits.proofs.Edits.OwnedOnce.{used_times, owned_once_if}
-use Rattle.cdf_edits.proofs.Rules.WithoutLinks.{eof_by_rules}
+use Rattle.cdf_edits.proofs.Rules.WithoutLinks.{eof_by_rules, number_rows_kept}
 use Rattle.cdf_edits.proofs.Edits.VariableFrame.{IsRuled, variables_away, remain_from}
 use Rattle.cdf_edits.proofs.Edits.VariableKept.{OnlyVariable, only_variable}
 use Rattle.cdf_edits.proofs.Edits.VariableKinds.{kind_ours, other_kind, with_shapes, vdrs_rows, in_gdr, counted_before, vdrs_rows_kept, keeps_kind, kind_chain, variables_of_are}
 use Rattle.cdf_edits.proofs.Edits.VariableNames.{own_names_apart, apart_if, IsBeside}
-use Rattle.cdf_edits.proofs.Edits.VariableSplice.{VariableSplices, OwnRules, shape_now, good_image_if, keeps_all_attributes, content_now, parts_ruled}
+use Rattle.cdf_edits.proofs.Edits.VariableSplice.{VariableSplices, shape_now, good_image_if, keeps_all_attributes, content_now, parts_ruled}
 use Rattle.cdf_edits.proofs.Frame.Meaning.{FileSame}
 use Rattle.cdf_edits.proofs.Frame.OwnersApart.{all_variable_records}
-use Rattle.std.proofs.Common.{ap, [], ◌≡◌, ℕ, ◌≤◌, List, length, ◌+◌, ◌∷◌, ◌++◌, sym, ◌∙◌, inl, refl, true, false, subst, map, bytes_eq, arith}
-use Rattle.cdf_edits.proofs.Common.{r_max_rec, w32, cast_signed, integer4, name_in, number, size_at, type_at, eof, gdr_offset, gdr_r_max_rec, gdr_eof, Field, vdr_name, gdr_uir_head, vdr_num, word_kept, ActsFollow, shapes_of, Edit, Mark, Avoids, Away, avoided, keeps_file, unmarked, type_in, count_of, head_of, variables_chain, IsGoodByShape, vdrs_append, good_by_its_shape, rules_of_good, good_long, sealed_kept, shape_is, content_is, is_in, IsChain, variable_of, content, Nodes, read_types, owned, variable_records, OwnedOnce, uir_type, gdr_type, is_record_type, fixed_size, Hold, vdrs, VariableShape, shape, Shape, HasVariable, HasShape, In, Good, Variable, DataSet, image_limit, with_variables, variables_of, read, Kind, R, Z, map-append, length-map, set_at, flat_map, slice_set}
+use Rattle.std.proofs.Common.{suc, inr, ap, [], ◌≡◌, ℕ, ◌≤◌, List, length, ◌+◌, ◌∷◌, ◌++◌, sym, ◌∙◌, inl, refl, true, false, subst, map, bytes_eq, arith}
+use Rattle.cdf_edits.proofs.Common.{length-append, number_rows, ◌==◌, r_max_rec, w32, cast_signed, integer4, name_in, number, size_at, type_at, eof, gdr_offset, gdr_r_max_rec, gdr_eof, Field, vdr_name, gdr_uir_head, vdr_num, word_kept, ActsFollow, shapes_of, Edit, Mark, Avoids, Away, avoided, keeps_file, unmarked, type_in, count_of, head_of, variables_chain, vdrs_append, good_by_its_shape, rules_of_good, good_long, sealed_kept, shape_is, content_is, is_in, IsChain, variable_of, content, Nodes, read_types, owned, variable_records, OwnedOnce, uir_type, gdr_type, is_record_type, fixed_size, Hold, vdrs, VariableShape, shape, Shape, HasVariable, HasShape, In, Good, Variable, DataSet, image_limit, with_variables, variables_of, read, Kind, R, Z, map-append, length-map, set_at, flat_map, slice_set}
 use Rattle.cdf_edits.proofs.Edits.StandsAmong.{StandsAmong, sound, ours, after_ours}
 
--- The descriptor stays in its place. No mark meets another variable, the links and the numbers of descriptors, the attributes, or what the file says.
+-- ---- one variable of a kind became another one
+
+numbers_replaced : (rule : ℕ) (b now : List ℕ) (f : Field) (n : ℕ) (before : List VariableShape) (own mine : VariableShape) (after : List VariableShape) → ((m : ℕ) → In m (vdrs before) → number now m f ≡ number b m f) → ((m : ℕ) → In m (vdrs after) → number now m f ≡ number b m f) → number now mine.vdr f ≡ number b own.vdr f
+    → Hold (number_rows rule b f n (vdrs (before ++ own ∷ after))) → Hold (number_rows rule now f n (vdrs (before ++ mine ∷ after)))
+numbers_replaced rule b now f n [] own mine after front back same rules = (ap (λ (k : ℕ). k == n) same ∙ rules.0, subst Hold (sym (number_rows_kept rule b now f (suc n) (vdrs after) back)) rules.1)
+numbers_replaced rule b now f n (v ∷ before) own mine after front back same rules = (ap (λ (k : ℕ). k == n) (front v.vdr (inl refl)) ∙ rules.0, numbers_replaced rule b now f (suc n) before own mine after (λ m i. front m (inr i)) back same rules.1)
+
+module _ {b now : List ℕ} {kind : Kind} {before : List VariableShape} {own mine : VariableShape} {after : List VariableShape} {new list : List ℕ} {marks : List Mark} {reborn : List ℕ} (good : Good b) (at : StandsAmong b kind before own after) (sp : VariableSplices b now (shape b) kind new list marks reborn before (own ∷ []) (mine ∷ []) after) where
+  pub replaced_content : content now ≡ with_variables (content b) kind (slice_set (variables_of (content b) kind) (length before) (variable_of now mine))
+  replaced_content =
+      let split : variables_of (content b) kind ≡ map (variable_of b) before ++ variable_of b own ∷ map (variable_of b) after =
+      ap (λ (d : DataSet). variables_of d kind) (content_is b (shape b) (sound good at).has_shape) ∙ variables_of_are b (shape b) kind ∙ ap (map (variable_of b)) at.was ∙ map-append (variable_of b) before (own ∷ after) in
+      let set = ap (λ (vs : List Variable). slice_set vs (length before) (variable_of now mine)) split ∙ set_at (map (variable_of b) before) (variable_of b own) (map (variable_of b) after) (variable_of now mine) (length before) (length-map before (variable_of b)) in
+      content_now (sound good at) sp ∙ ap (with_variables (content b) kind) (sym set)
+
+  -- the variable had its rules
+  pub ruled_before : IsRuled b (shape b).records own
+  ruled_before = (parts_ruled (sound good at) sp (good_by_its_shape b good)).0.1.0.0
+
+  -- those of the kind are counted as before, and have their numbers
+  pub replaced_counted : number now (gdr_offset now) (count_of (variables_chain kind)) ≡ number b (gdr_offset b) (count_of (variables_chain kind)) → ((m : ℕ) → In m (vdrs before) → number now m vdr_num ≡ number b m vdr_num) → ((m : ℕ) → In m (vdrs after) → number now m vdr_num ≡ number b m vdr_num) → number now mine.vdr vdr_num ≡ number b own.vdr vdr_num
+      → Hold (vdrs_rows kind now (vdrs (before ++ mine ∷ after)))
+  replaced_counted count front back same = by kind count (subst (λ (vs : List VariableShape). Hold (vdrs_rows kind b (vdrs vs))) at.was (counted_before (good_by_its_shape b good) kind))
+    where
+      many : length (vdrs (before ++ mine ∷ after)) ≡ length (vdrs (before ++ own ∷ after))
+      many = simp (vdrs_append, length-append)
+
+      by : (k : Kind) → number now (gdr_offset now) (count_of (variables_chain k)) ≡ number b (gdr_offset b) (count_of (variables_chain k)) → Hold (vdrs_rows k b (vdrs (before ++ own ∷ after))) → Hold (vdrs_rows k now (vdrs (before ++ mine ∷ after)))
+      by R count rules = let long = many in ((λ i. count i == long i) ∙ rules.0, numbers_replaced 7 b now vdr_num 0 before own mine after front back same rules.1)
+      by Z count rules = let long = many in ((λ i. count i == long i) ∙ rules.0, numbers_replaced 10 b now vdr_num 0 before own mine after front back same rules.1)
+
+  -- with the name that it had
+  pub replaced_named : name_in now mine.vdr vdr_name ≡ name_in b own.vdr vdr_name → (m : ℕ) → IsBeside (sound good at) sp m → bytes_eq (name_in now mine.vdr vdr_name) (name_in b m vdr_name) ≡ false
+  replaced_named same m beside = subst (λ (n : List ℕ). bytes_eq n (name_in b m vdr_name) ≡ false) (sym same) (own_names_apart (sound good at) sp (good_by_its_shape b good) own.vdr m (inl refl) beside)
+
+  -- where it has its rules again, with a name that no other has
+  pub replaced_good : Hold (vdrs_rows kind now (vdrs (before ++ mine ∷ after))) → IsRuled now new mine → ((m : ℕ) → IsBeside (sound good at) sp m → bytes_eq (name_in now mine.vdr vdr_name) (name_in b m vdr_name) ≡ false) → ((m : ℕ) → In m reborn → is_in (type_at now m) read_types ≡ true) → OwnedOnce now (with_shapes (shape b) kind new list (before ++ mine ∷ after)) → eof now (shape b).gdr ≡ length now
+      → length now ≤ image_limit → Good now
+  replaced_good counted ruled named read owned end short =
+      let image = good_by_its_shape b good in
+      good_image_if (sound good at) sp (sealed_kept b (good_long b (shape b) image) (rules_of_good b good)).0 image (record {
+        counted = counted;
+        apart = apart_if (sound good at) sp image (λ y z i j differ. absurd (differ (the_one mine.vdr y i ∙ sym (the_one mine.vdr z j)))) (λ y z i beside. subst (λ (u : ℕ). bytes_eq (name_in now u vdr_name) (name_in b z vdr_name) ≡ false) (sym (the_one mine.vdr y i)) (named z beside));
+        own_ruled = (ruled, tt);
+        read = read;
+        owned = owned;
+      }) end short
+
+-- ---- its descriptor stays in its place
+
+-- No mark meets another variable, the links and the numbers of descriptors, the attributes, or what the file says.
 pub record OwnEdit (b now : List ℕ) (kind : Kind) (own : VariableShape) (index : Nodes) (new list : List ℕ) (marks : List Mark) (reborn : List ℕ) : Type 0 where
   pub edit : Edit b now (shape b).records new marks reborn
   pub file_clear : keeps_file marks ≡ true
@@ -43,9 +93,6 @@ module _ {b now : List ℕ} {kind : Kind} {before : List VariableShape} {own : V
 
   h : HasShape b s
   h = (sound good at).has_shape
-
-  image : IsGoodByShape b s
-  image = good_by_its_shape b good
 
   pub file : FileSame b now
   file = file_same (sound good at) x.edit x.file_clear
@@ -109,11 +156,7 @@ module _ {b now : List ℕ} {kind : Kind} {before : List VariableShape} {own : V
       by Z = refl
 
   pub content_replaced : content now ≡ with_variables (content b) kind (slice_set (variables_of (content b) kind) (length before) (variable_of now mine))
-  content_replaced =
-      let split : variables_of (content b) kind ≡ map (variable_of b) before ++ variable_of b own ∷ map (variable_of b) after =
-      ap (λ (d : DataSet). variables_of d kind) (content_is b s h) ∙ variables_of_are b s kind ∙ ap (map (variable_of b)) at.was ∙ map-append (variable_of b) before (own ∷ after) in
-      let set = ap (λ (vs : List Variable). slice_set vs (length before) (variable_of now mine)) split ∙ set_at (map (variable_of b) before) (variable_of b own) (map (variable_of b) after) (variable_of now mine) (length before) (length-map before (variable_of b)) in
-      content_now (sound good at) splices ∙ ap (with_variables (content b) kind) (sym set)
+  content_replaced = replaced_content good at splices
 
   pub r_max_rec_kept : avoided marks gdr_type 52 56 ≡ true → r_max_rec now ≡ r_max_rec b
   r_max_rec_kept clear =
@@ -132,27 +175,17 @@ module _ {b now : List ℕ} {kind : Kind} {before : List VariableShape} {own : V
   counted : Hold (vdrs_rows kind now (vdrs (before ++ mine ∷ after)))
   counted =
       let same = vdrs_rows_kept kind b now (vdrs (shapes_of s kind)) (gdr_place (sound good at) x.edit x.file_clear ∙ sym h.gdr_is) count_same x.nums in
-      subst (λ (ms : List ℕ). Hold (vdrs_rows kind now ms)) (sym same_vdrs) (subst Hold (sym same) (counted_before image kind))
+      subst (λ (ms : List ℕ). Hold (vdrs_rows kind now ms)) (sym same_vdrs) (subst Hold (sym same) (counted_before (good_by_its_shape b good) kind))
 
-  -- the variable had its rules
   pub own_ruled : IsRuled b s.records own
-  own_ruled = (parts_ruled (sound good at) splices image).0.1.0.0
+  own_ruled = ruled_before good at splices
 
   -- where it has them again, with a name that no other has
   pub good_by : IsRuled now new mine → ((m : ℕ) → IsBeside (sound good at) splices m → bytes_eq (name_in now own.vdr vdr_name) (name_in b m vdr_name) ≡ false) → ((m : ℕ) → In m reborn → is_in (type_at now m) read_types ≡ true) → OwnedOnce now (with_shapes s kind new list (before ++ mine ∷ after)) → eof now s.gdr ≡ length now → length now ≤ image_limit → Good now
-  good_by ruled named read owned end short =
-      let rules : OwnRules (sound good at) splices = record {
-        counted = counted;
-        apart = apart_if (sound good at) splices image (λ y z i j differ. absurd (differ (the_one own.vdr y i ∙ sym (the_one own.vdr z j)))) (λ y z i beside. subst (λ (u : ℕ). bytes_eq (name_in now u vdr_name) (name_in b z vdr_name) ≡ false) (sym (the_one own.vdr y i)) (named z beside));
-        own_ruled = (ruled, tt);
-        read = read;
-        owned = owned;
-      } in
-      good_image_if (sound good at) splices (sealed_kept b (good_long b s image) (rules_of_good b good)).0 image rules end short
+  good_by = replaced_good good at splices counted
 
-  -- with the name that it had
   pub named_before : name_in now own.vdr vdr_name ≡ name_in b own.vdr vdr_name → (m : ℕ) → IsBeside (sound good at) splices m → bytes_eq (name_in now own.vdr vdr_name) (name_in b m vdr_name) ≡ false
-  named_before same m beside = subst (λ (n : List ℕ). bytes_eq n (name_in b m vdr_name) ≡ false) (sym same) (own_names_apart (sound good at) splices image own.vdr m (inl refl) beside)
+  named_before = replaced_named good at splices
 
 -- where no record is made or freed, and the variable keeps its index
 module _ {b now : List ℕ} {kind : Kind} {before : List VariableShape} {own : VariableShape} {after : List VariableShape} {marks : List Mark} (good : Good b) (at : StandsAmong b kind before own after) (x : OwnEdit b now kind own own.index (shape b).records (shape b).unused marks []) (as_long : length now ≡ length b) where

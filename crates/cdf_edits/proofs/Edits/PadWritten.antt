@@ -1,8 +1,10 @@
--- A pad value is written in a VDR that has room for it, and the flag that says that there is one.
-use Rattle.std.proofs.Common.{◌≡◌, ℕ, ◌+◌, ◌*◌, ◌/◌, ◌%◌, ◌≤◌, Bool, List, [], ◌∷◌, length, true, None, Some, refl, sym, ap, subst, ◌∙◌, arith, inl, inr}
-use Rattle.cdf_edits.proofs.Common.{◌==◌, if◌then◌else◌, Kind, R, Z, turned, variable_of, number, name_in, integer4, has_bit, size_at, Field, vdr_flags, vdr_blocking_factor, vdr_name, VariableShape, is_compressed, records_vary, shape, field_bytes, is_little, is_z, dimensions_at, value_bytes, has_pad, pad_field, pad_at, type_of_variable, vdr_end, Good, good_is_sound, of_le, tile_lies, with_bits, SetsPad, Took, Gave, Edit, Mark, mark, Among, touched_field, Each, Changed, type_in, variables_chain}
-use Rattle.cdf_edits.proofs.Edits.Common.{EditsVdr, FileSame, MarkTests, StandsAmong, VdrCopied, behind_in, behind_kept, content_copied, file, fits, has, head_size, long, pad_field_copied, pad_long, pad_width, through, tile, type_copied, value_copied}
-use Rattle.cdf_edits.proofs.Edits.VdrFields.{LeavesVdr, fields_blocking, fields_copied, fields_edit, fields_file, fields_head, fields_name, fields_num}
+-- A VDR gets another pad value, and the flag that says that there is one: what it says then, and that it is written where there is room for it.
+use Rattle.std.proofs.Common.{drop, ◌^◌, ◌≡◌, ℕ, ◌+◌, ◌*◌, ◌/◌, ◌%◌, ◌<◌, ◌≤◌, Bool, List, [], ◌∷◌, length, true, None, Some, refl, sym, ap, subst, ◌∙◌, arith, inl, inr}
+use Rattle.cdf_edits.proofs.Common.{LiesIn, drop-put_there, field_reads, length-put, length-with_field, put, take, take_at, with_field, before_first, byte, cast_signed, w32, ◌==◌, if◌then◌else◌, Kind, R, Z, turned, variable_of, number, name_in, integer4, has_bit, size_at, type_at, Field, OutsideFields, vdr_flags, vdr_num, vdr_blocking_factor, vdr_name, VariableShape, is_compressed, records_vary, shape, field_bytes, is_little, value_bytes, has_pad, pad_field, pad_at, type_of_variable, vdr_end, Good, of_le, with_bits, SetsPad, Took, Gave, Edit, Mark, mark, Among, touched_field, Changed, type_in, variables_chain}
+use Rattle.cdf_edits.proofs.Edits.Common.{Copied, EditsVdr, FileSame, MarkTests, StandsAmong, VdrCopied, behind_in, behind_kept, changed_edit, content_copied, copied_part, file, file_same, fits, has, high, long, name_room, pad_field_copied, pad_late, pad_wide, piece_copied, some_bytes, sound, through, tile, type_copied, typed, value_copied, word_copied}
+use Rattle.cdf_edits.proofs.Edits.WrittenFields.{with_field_changed}
+use Rattle.cdf_edits.proofs.Frame.ChangedBytes.{changed_put, changed_then}
+use Rattle.cdf_fields.proofs.Writes.{word-put_outside}
 
 -- ---- bit 1 of the flags
 
@@ -18,49 +20,69 @@ padded_1 n = let same : (n % 2 + 2 * 1 + 4 * (n / 4)) / 2 % 2 ≡ 1 = omega arit
 pub padded_2 : (n : ℕ) → has_bit (padded_flags n) 2 ≡ has_bit n 2
 padded_2 n = let same : (n % 2 + 2 * 1 + 4 * (n / 4)) / 4 % 2 ≡ n / 4 % 2 = omega arith in ap (λ (k : ℕ). k == 1) same
 
--- ---- a VDR with another pad value and these flags, at its place or another one
+pub small_flags : (x : ℕ) → x < 256 ^ 4 → padded_flags x < 256 ^ 4
+small_flags x l = omega arith
 
-module _ {b now : List ℕ} (own own' : VariableShape) (file : FileSame b now) (copied : VdrCopied b now own.vdr own'.vdr) (flags_are : number now own'.vdr vdr_flags ≡ padded_flags (number b own.vdr vdr_flags)) where
-  abbrev flags : ℕ
-  flags = number b own.vdr vdr_flags
+-- ---- a VDR with another pad value, at its place or at another one
 
-  padded : has_pad now own'.vdr ≡ true
-  padded = ap (λ (n : ℕ). has_bit n 1) flags_are ∙ padded_1 flags
+-- it is the one before up to the pad value but for its link and its flags, which say that there is one, and has these bytes as that
+pub record HoldsPad (b now : List ℕ) (v v' : ℕ) (bytes : List ℕ) : Type 0 where
+  pub typed : type_at now v' ≡ type_at b v
+  pub alike : (i : ℕ) → 12 ≤ i → i < (pad_field b v).place → OutsideFields (vdr_flags ∷ []) i → byte now (v' + i) ≡ byte b (v + i)
+  pub flags_are : number now v' vdr_flags ≡ padded_flags (number b v vdr_flags)
+  pub pad_is : field_bytes now v' (pad_field b v) ≡ bytes
 
-  pub packed : is_compressed now own'.vdr ≡ is_compressed b own.vdr
-  packed = ap (λ (n : ℕ). has_bit n 2) flags_are ∙ padded_2 flags
+module _ {b now : List ℕ} {v v' : ℕ} {bytes : List ℕ} (p : HoldsPad b now v v' bytes) where
+  behind : Copied b now v v' 48 (pad_field b v).place
+  behind = record { each = λ i l h. p.alike i (omega arith) h (inr l, tt) }
 
-  pub padded_end : vdr_end now own'.vdr ≡ (pad_field b own.vdr).place + value_bytes b own.vdr
-  padded_end =
-      let f = pad_field_copied file copied in
-      let value = value_copied file copied in
-      let flag = padded in
-      λ i. (f i).place + (if flag i then value i else 0)
+  pub copied : VdrCopied b now v v'
+  copied = let l = pad_late b v in record { typed = p.typed; first = record { each = λ i low h. p.alike i (omega arith) (omega arith) (inl h, tt) }; second = copied_part behind 48 68 (omega arith) (omega arith); third = copied_part behind 72 80 (omega arith) (omega arith); behind = copied_part behind 340 _ (omega arith) (omega arith) }
 
-  pub padded_means : {bytes : List ℕ} → field_bytes now own'.vdr (pad_field b own.vdr) ≡ bytes → name_in now own'.vdr vdr_name ≡ name_in b own.vdr vdr_name → integer4 now own'.vdr vdr_blocking_factor ≡ integer4 b own.vdr vdr_blocking_factor
-      → variable_of now own' ≡ record (variable_of b own) { name = name_in now own'.vdr vdr_name; vary = records_vary now own'.vdr; rle = is_compressed now own'.vdr; blocking = integer4 now own'.vdr vdr_blocking_factor; pad = pad_at now own'.vdr }
-      → variable_of now own' ≡ record (variable_of b own) { pad = Some (turned (type_of_variable b own.vdr) (is_little b) bytes) }
-  padded_means bytes_are name blocking is =
-      let vary : records_vary now own'.vdr ≡ records_vary b own.vdr = ap (λ (n : ℕ). has_bit n 0) flags_are ∙ padded_0 flags in
-      let rle = packed in
-      let t = type_copied file copied in
-      let f = pad_field_copied file copied in
-      let flag = padded in
-      is ∙ (λ i. record (variable_of b own) { name = name i; vary = vary i; rle = rle i; blocking = blocking i; pad = if flag i then Some (turned (t i) (file.little i) (field_bytes now own'.vdr (f i))) else None })
-      ∙ ap (λ (x : List ℕ). record (variable_of b own) { pad = Some (turned (type_of_variable b own.vdr) (is_little b) x) }) bytes_are
+  pub num_is : number now v' vdr_num ≡ number b v vdr_num
+  num_is = let l = pad_late b v in word_copied behind 68 4 (omega arith) (omega arith)
+
+  blocking_is : integer4 now v' vdr_blocking_factor ≡ integer4 b v vdr_blocking_factor
+  blocking_is = let l = pad_late b v in ap (cast_signed w32) (word_copied behind 80 4 (omega arith) (omega arith))
+
+  pub name_is : v + 340 ≤ length b → v' + 340 ≤ length now → name_in now v' vdr_name ≡ name_in b v vdr_name
+  name_is inside there = let l = pad_late b v in ap (before_first (λ (x : ℕ). x == 0)) (piece_copied behind 84 256 (omega arith) (omega arith) (omega arith) (omega arith))
+
+  pub packed : is_compressed now v' ≡ is_compressed b v
+  packed = ap (λ (n : ℕ). has_bit n 2) p.flags_are ∙ padded_2 (number b v vdr_flags)
+
+  module _ (file : FileSame b now) where
+    pub padded_end : vdr_end now v' ≡ (pad_field b v).place + value_bytes b v
+    padded_end =
+        let f = pad_field_copied file copied in
+        let value = value_copied file copied in
+        let flag : has_pad now v' ≡ true = ap (λ (n : ℕ). has_bit n 1) p.flags_are ∙ padded_1 (number b v vdr_flags) in
+        λ i. (f i).place + (if flag i then value i else 0)
+
+    pub padded_means : (own own' : VariableShape) → v + 340 ≤ length b → v' + 340 ≤ length now → variable_of now own' ≡ record (variable_of b own) { name = name_in now v' vdr_name; vary = records_vary now v'; rle = is_compressed now v'; blocking = integer4 now v' vdr_blocking_factor; pad = pad_at now v' }
+        → v ≡ own.vdr → variable_of now own' ≡ record (variable_of b own) { pad = Some (turned (type_of_variable b v) (is_little b) bytes) }
+    padded_means own own' inside there is at =
+        let name = name_is inside there in
+        let vary : records_vary now v' ≡ records_vary b v = ap (λ (n : ℕ). has_bit n 0) p.flags_are ∙ padded_0 (number b v vdr_flags) in
+        let rle = packed in
+        let blocking = blocking_is in
+        let t = type_copied file copied in
+        let f = pad_field_copied file copied in
+        let flag : has_pad now v' ≡ true = ap (λ (n : ℕ). has_bit n 1) p.flags_are ∙ padded_1 (number b v vdr_flags) in
+        is ∙ (λ i. record (variable_of b own) { name = name i; vary = vary i; rle = rle i; blocking = blocking i; pad = if flag i then Some (turned (t i) (file.little i) (field_bytes now v' (f i))) else None })
+        ∙ (λ i. record (variable_of b own) { name = name_in b (at i) vdr_name; vary = records_vary b (at i); rle = is_compressed b (at i); blocking = integer4 b (at i) vdr_blocking_factor; pad = Some (turned (type_of_variable b v) (is_little b) (p.pad_is i)) })
 
 -- ---- the edit
 
--- these bytes stand as the pad value of the VDR at a place, which has room for them, its flags say so, and no other byte changed
+-- these bytes of a value were written as the pad value of the VDR at a place, which has room for them, once its flags said that there is one
 pub record WritesPad (b now : List ℕ) (v : ℕ) (bytes : List ℕ) : Type 0 where
+  pub long : length bytes ≡ value_bytes b v
   pub room : (pad_field b v).place + value_bytes b v ≤ size_at b v
-  pub bytes_are : field_bytes now v (pad_field b v) ≡ bytes
-  pub flags_are : number now v vdr_flags ≡ padded_flags (number b v vdr_flags)
-  pub changed : Changed b now (touched_field v (pad_field b v) ∷ touched_field v vdr_flags ∷ [])
-  pub as_long : length now ≡ length b
+  pub small : number b v vdr_flags < 256 ^ 4
+  pub written : now ≡ put (with_field b v vdr_flags (padded_flags (number b v vdr_flags))) (v + (pad_field b v).place) bytes
 
 abbrev pad_marks : ℕ → ℕ → Field → List Mark
-pad_marks type v pad = mark type (Among (v ∷ [])) pad ∷ mark type (Among (v ∷ [])) vdr_flags ∷ []
+pad_marks type v pad = mark type (Among (v ∷ [])) vdr_flags ∷ mark type (Among (v ∷ [])) pad ∷ []
 
 pad_tests : (kind : Kind) (v : ℕ) (pad : Field) → MarkTests kind (pad_marks (type_in (variables_chain kind)) v pad)
 pad_tests R v pad = record { file_clear = refl; attributes_clear = refl; other_clear = refl; index_clear = refl; unused_clear = refl; gdr_clear = λ lo hi. refl }
@@ -79,63 +101,83 @@ module _ {b now : List ℕ} {kind : Kind} {before : List VariableShape} {own : V
   t : MarkTests kind marks
   t = pad_tests kind v pad
 
-  pad_late : 340 ≤ pad.place
-  pad_late = pad_long (is_z b v) (dimensions_at b v) (value_bytes b v)
+  abbrev flagged : List ℕ
+  flagged = with_field b v vdr_flags (padded_flags (number b v vdr_flags))
 
-  wide : pad.width ≡ value_bytes b v
-  wide = pad_width (is_z b v) (dimensions_at b v) (value_bytes b v)
+  lies : LiesIn b v vdr_flags
+  lies = let h = high good at in let n = long good at in omega arith
 
-  leaves : Each (LeavesVdr b v) (pad ∷ vdr_flags ∷ [])
-  leaves =
-      let late = λ (n : ℕ) (l : n ≤ 340). through n 340 pad.place l pad_late in
-      let n = long good at in (
-        record { late = late 20 (omega arith); fits = subst (λ (k : ℕ). pad.place + k ≤ size_at b v) (sym wide) w.room; first = inl (late 44 (omega arith)); second = inl (late 68 (omega arith)); num = inl (late 72 (omega arith)); third = inl (late 80 (omega arith)); behind = inl (omega arith) },
-        (record { late = omega arith; fits = omega arith; first = inl (omega arith); second = inr (omega arith); num = inr (omega arith); third = inr (omega arith); behind = inr (omega arith) }, tt),
-      )
+  in_flagged : (length flagged ≡ length b) × (v + pad.place + length bytes ≤ length flagged)
+  in_flagged =
+      let same = length-with_field b v vdr_flags (padded_flags (number b v vdr_flags)) lies in
+      let h = high good at in
+      (same, omega (arith, same, w.room, w.long, h))
+
+  as_long : length now ≡ length b
+  as_long = ap (λ (x : List ℕ). length x) w.written ∙ length-put flagged (v + pad.place) bytes in_flagged.1 ∙ in_flagged.0
+
+  changed : Changed b now (touched_field v vdr_flags ∷ touched_field v pad ∷ [])
+  changed = subst (λ (x : List ℕ). Changed b x (touched_field v vdr_flags ∷ touched_field v pad ∷ [])) (sym w.written) (changed_then b flagged _ (touched_field v vdr_flags ∷ []) (touched_field v pad ∷ []) (with_field_changed b v vdr_flags _ lies)
+      (changed_put flagged v pad.place pad.width bytes (w.long ∙ sym (pad_wide b v)) (let l = in_flagged.1 in omega (arith, l, pad_wide b v, w.long))))
 
   edit : Edit b now (shape b).records (shape b).records marks []
-  edit = fields_edit (pad ∷ vdr_flags ∷ []) good at leaves t w.changed w.as_long
+  edit =
+      let late = pad_late b v in
+      let n = long good at in
+      changed_edit b now (shape b).records (touched_field v vdr_flags ∷ touched_field v pad ∷ []) marks [] (sound good at).has_shape.tiled as_long changed (
+        record { inside = tile good at; fits = omega arith; behind_size = omega arith; behind_type = inl (omega arith); covered = inl (record { typed = typed good at; lies = inl refl; low = omega arith; high = omega arith }) },
+        (record { inside = tile good at; fits = subst (λ (k : ℕ). pad.place + k ≤ size_at b v) (sym (pad_wide b v)) w.room; behind_size = through 8 340 pad.place (omega arith) late; behind_type = inl (through 12 340 pad.place (omega arith) late); covered = inr (inl (record { typed = typed good at; lies = inl refl; low = omega arith; high = omega arith })) }, tt),
+      ) (some_bytes b (shape b) (sound good at).has_shape)
 
   same_file : FileSame b now
-  same_file = fields_file (pad ∷ vdr_flags ∷ []) good at leaves t w.changed w.as_long
+  same_file = file_same (sound good at) edit t.file_clear
 
-  copied : VdrCopied b now v v
-  copied = fields_copied (pad ∷ vdr_flags ∷ []) good at leaves t w.changed w.as_long
+  same : (i : ℕ) → i < pad.place → OutsideFields (vdr_flags ∷ []) i → byte now (v + i) ≡ byte b (v + i)
+  same i up out = changed.same (v + i) (let h = high good at in let r = w.room in omega arith) (elim out.0 [ inl x ↦ inl (omega arith) | inr x ↦ inr (omega arith) ], (inl (omega arith), tt))
 
-  end_is : vdr_end now v ≡ pad.place + value_bytes b v
-  end_is = padded_end own own same_file copied w.flags_are
+  head : Copied b now v v 0 12
+  head = record { each = λ i l h. same i (let late = pad_late b v in omega arith) (inl (omega arith), tt) }
+
+  holds : HoldsPad b now v v bytes
+  holds = record { typed = word_copied head 8 4 (omega arith) (omega arith); alike = λ i low up out. same i up out; flags_are = flags_are; pad_is = pad_is }
+    where
+      flags_are : number now v vdr_flags ≡ padded_flags (number b v vdr_flags)
+      flags_are = ap (λ (x : List ℕ). number x v vdr_flags) w.written ∙ word-put_outside flagged bytes (v + pad.place) (v + 44) 4 in_flagged.1 (inl (let late = pad_late b v in omega arith)) ∙ field_reads b v vdr_flags _ lies (small_flags (number b v vdr_flags) w.small)
+
+      pad_is : field_bytes now v pad ≡ bytes
+      pad_is = ap (λ (x : List ℕ). field_bytes x v pad) w.written ∙ ap (λ (k : ℕ). take k (drop (v + pad.place) (put flagged (v + pad.place) bytes))) (pad_wide b v ∙ sym w.long) ∙ ap (take (length bytes)) (drop-put_there flagged bytes (v + pad.place) (let l = in_flagged.1 in omega (arith, l))) ∙ take_at bytes (drop (v + pad.place + length bytes) flagged) (length bytes) refl
 
   pub edits : EditsVdr b now kind own marks
   edits = record {
     edit = edit;
-    as_long = w.as_long;
-    own_marks = (refl, through 20 340 pad.place (omega arith) pad_late, (refl, (omega arith), tt));
+    as_long = as_long;
+    own_marks = (refl, omega arith, (refl, through 20 340 pad.place (omega arith) (pad_late b v), tt));
     tests = t;
-    copied = copied;
-    num_is = fields_num (pad ∷ vdr_flags ∷ []) good at leaves t w.changed w.as_long;
-    packed = packed own own same_file copied w.flags_are;
-    end_fits = subst (λ (n : ℕ). n ≤ size_at b v) (sym end_is) w.room;
+    copied = copied holds;
+    num_is = num_is holds;
+    packed = packed holds;
+    end_fits = subst (λ (n : ℕ). n ≤ size_at b v) (sym (padded_end holds same_file)) w.room;
   }
 
   pub meaning : variable_of now own ≡ record (variable_of b own) { pad = Some (turned (type_of_variable b v) (is_little b) bytes) }
-  meaning = padded_means own own same_file copied w.flags_are w.bytes_are
-      (fields_name (pad ∷ vdr_flags ∷ []) good at leaves t w.changed w.as_long (inl pad_late, (inr (omega arith), tt))) (fields_blocking (pad ∷ vdr_flags ∷ []) good at leaves t w.changed w.as_long (inl (through 84 340 pad.place (omega arith) pad_late), (inr (omega arith), tt)))
-      (content_copied (good_is_sound b good) edit (file good at edits) own (has good at) (fits good at) (behind_in good at) (behind_kept good at edits) copied (packed own own same_file copied w.flags_are))
+  meaning =
+      let inside = name_room good at in
+      padded_means holds same_file own own inside (subst (λ (n : ℕ). v + 340 ≤ n) (sym as_long) inside)
+      (content_copied (sound good at) edit (file good at edits) own (has good at) (fits good at) (behind_in good at) (behind_kept good at edits) (copied holds) (packed holds)) refl
 
   -- ---- what `set-pad` does where the VDR stays
 
   pub pads_in_place : SetsPad b now v v []
   pads_in_place =
-      let high = (tile_lies b 8 (length b) (shape b).records v (good_is_sound b good).has_shape.tiled (tile good at)).high in
-      let fit : vdr_end now v ≤ size_at b v = subst (λ (n : ℕ). n ≤ size_at b v) (sym end_is) w.room in
+      let fit : vdr_end now v ≤ size_at b v = edits.end_fits in
       record {
         acts_are = sym (ap (λ (p : Bool). if p then [] else Took v (vdr_end now v) ∷ Gave v (size_at b v) ∷ []) (of_le (vdr_end now v) (size_at b v) fit));
-        copied = λ i low up out. w.changed.same (v + i) (let r = w.room in omega arith) (inl (omega arith), (elim out.0 [ inl x ↦ inl (omega arith) | inr x ↦ inr (omega arith) ], tt));
-        flags_are = w.flags_are;
+        copied = λ i low up out. same i up out;
+        flags_are = holds.flags_are;
         room = λ within. record {
           place_stays = refl;
-          size_stays = head_size b now v (fields_head (pad ∷ vdr_flags ∷ []) good at leaves t w.changed w.as_long);
-          rest_stays = record { each = λ i low up. let e = end_is in let k = wide in let late = pad_late in w.changed.same i (omega arith) (inr (omega arith), (inr (omega arith), tt)) };
+          size_stays = word_copied head 0 8 (omega arith) (omega arith);
+          rest_stays = record { each = λ i low up. let e = padded_end holds same_file in let k = pad_wide b v in let late = pad_late b v in let h = high good at in changed.same i (omega arith) (inr (omega arith), (inr (omega arith), tt)) };
         };
         freed = tt;
       }

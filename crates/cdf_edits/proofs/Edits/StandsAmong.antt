@@ -1,6 +1,6 @@
 -- One variable of a good image among those of its kind: where it stands, and that its links, its records and its rules are as they are to be.
-use Rattle.std.proofs.Common.{◌≡◌, ℕ, ◌≤◌, List, [], ◌∷◌, ◌++◌, true, refl, sym, ap, subst, ◌∙◌, arith, inl, inr}
-use Rattle.cdf_edits.proofs.Common.{flat_map, Kind, R, Z, is_in, is_linkable, size_at, type_at, leaves_of, variable_records, fixed_size, VariableShape, Shape, vdrs, HasVariable, HasShape, shape, IsSound, VariableFits, In, Good, linkable-in, linkable-type, good_is_sound, In-append_left, shapes_of, index_types, type_in, variables_chain}
+use Rattle.std.proofs.Common.{◌+◌, length, ◌≡◌, ℕ, ◌≤◌, List, [], ◌∷◌, ◌++◌, true, refl, sym, ap, subst, ◌∙◌, arith, inl, inr}
+use Rattle.cdf_edits.proofs.Common.{tile_lies, flat_map, Kind, R, Z, is_in, is_linkable, size_at, type_at, leaves_of, variable_records, fixed_size, VariableShape, Shape, vdrs, HasVariable, HasShape, shape, IsSound, VariableFits, In, Good, linkable-in, linkable-type, good_is_sound, In-append_left, shapes_of, index_types, type_in, variables_chain}
 use Rattle.cdf_edits.proofs.Edits.InRecords.{places_of}
 use Rattle.cdf_edits.proofs.Edits.RecordFrame.{index_records}
 use Rattle.cdf_edits.proofs.Edits.StepEdits.{fixed_long}
@@ -54,6 +54,12 @@ module _ {b : List ℕ} {kind : Kind} {before : List VariableShape} {own : Varia
 
   pub long : 340 ≤ size_at b v
   long = through 340 (fixed_size type) (size_at b v) (least_size kind) (fixed_long b s h type v tile typed)
+
+  pub high : v + size_at b v ≤ length b
+  high = (tile_lies b 8 (length b) s.records v h.tiled tile).high
+
+  pub name_room : v + 340 ≤ length b
+  name_room = let n = long in let l = high in omega arith
 
   pub ours : AreOurs b s before × AreOurs b s (own ∷ after)
   ours = ours_parts b s before (own ∷ after) (subst (AreOurs b s) at.was (kind_ours b s sound kind))

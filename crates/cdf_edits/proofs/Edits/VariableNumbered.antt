@@ -1,11 +1,11 @@
 -- A variable whose VDR gets another number and another link to the next one, and whose other records an edit leaves: it means what it meant, and keeps its rules.
 use Rattle.std.proofs.Common.{◌≡◌, ℕ, ◌+◌, ◌≤◌, List, [], length, true, not, refl, sym, ap, subst, ◌∙◌, arith}
-use Rattle.cdf_edits.proofs.Common.{w32, cast_signed, before_first, ◌==◌, if◌then◌else◌, Same, variable_of, number, name_in, integer4, has_bit, size_at, vdr_flags, vdr_blocking_factor, vdr_name, VariableShape, Shape, is_compressed, HasVariable, VariableFits, IsSound, field_bytes, In, is_z, dimensions_at, value_bytes, has_pad, pad_field, vdr_end, Same-part, word_kept, piece_kept, Edit, Mark}
+use Rattle.cdf_edits.proofs.Common.{w32, cast_signed, before_first, ◌==◌, if◌then◌else◌, Same, variable_of, number, name_in, integer4, has_bit, size_at, vdr_flags, vdr_blocking_factor, vdr_name, VariableShape, Shape, is_compressed, HasVariable, VariableFits, IsSound, field_bytes, In, value_bytes, has_pad, pad_field, vdr_end, Same-part, word_kept, piece_kept, Edit, Mark}
 use Rattle.cdf_edits.proofs.Edits.Composing.{head_size, head_type}
 use Rattle.cdf_edits.proofs.Edits.RecordFrame.{index_records, through}
 use Rattle.cdf_edits.proofs.Edits.VariableCopied.{links_copied, content_copied, index_rules_stay, rules_stay, fits_copied}
 use Rattle.cdf_edits.proofs.Edits.VariableFrame.{VariableRemains}
-use Rattle.cdf_edits.proofs.Frame.Meaning.{FileSame, Kept, pad_long, pad_width, end_fits}
+use Rattle.cdf_edits.proofs.Frame.Meaning.{FileSame, Kept, pad_late, pad_wide, end_fits}
 use Rattle.cdf_edits.proofs.Frame.VdrCopied.{VdrCopied, copied_in_place, pad_copied, pad_field_copied, value_copied}
 
 -- the bytes of a VDR but for its next field and its number
@@ -26,11 +26,8 @@ module _ {b now : List ℕ} {s : Shape} {new : List ℕ} {marks : List Mark} {re
   pad_fits : (pad_field b v).place ≤ size_at b v
   pad_fits = least (pad_field b v).place (if has_pad b v then value_bytes b v else 0) (size_at b v) fits.0
 
-  pad_late : 340 ≤ (pad_field b v).place
-  pad_late = pad_long (is_z b v) (dimensions_at b v) (value_bytes b v)
-
   wide : 340 ≤ size_at b v
-  wide = through 340 (pad_field b v).place (size_at b v) pad_late pad_fits
+  wide = through 340 (pad_field b v).place (size_at b v) (pad_late b v) pad_fits
 
   size_same : size_at now v ≡ size_at b v
   size_same = head_size b now v k.start
@@ -65,8 +62,8 @@ module _ {b now : List ℕ} {s : Shape} {new : List ℕ} {marks : List Mark} {re
   pad_bytes : has_pad b v ≡ true → field_bytes now v (pad_field b v) ≡ field_bytes b v (pad_field b v)
   pad_bytes p =
       let ends = end_fits (has_pad b v) (pad_field b v).place (value_bytes b v) (size_at b v) fits.0 p in
-      let room : (pad_field b v).place + (pad_field b v).width ≤ size_at b v = subst (λ (n : ℕ). (pad_field b v).place + n ≤ size_at b v) (sym (pad_width (is_z b v) (dimensions_at b v) (value_bytes b v))) ends in
-      piece_kept b now (v + 340) (v + size_at b v) (back 340 (size_at b v) (omega arith) (omega arith)) (v + (pad_field b v).place) (pad_field b v).width (from v (pad_field b v).place pad_late) (upto v (pad_field b v).place (pad_field b v).width (size_at b v) room)
+      let room : (pad_field b v).place + (pad_field b v).width ≤ size_at b v = subst (λ (n : ℕ). (pad_field b v).place + n ≤ size_at b v) (sym (pad_wide b v)) ends in
+      piece_kept b now (v + 340) (v + size_at b v) (back 340 (size_at b v) (omega arith) (omega arith)) (v + (pad_field b v).place) (pad_field b v).width (from v (pad_field b v).place (pad_late b v)) (upto v (pad_field b v).place (pad_field b v).width (size_at b v) room)
       k.inside file.longer
     where
       from : (v p : ℕ) → 340 ≤ p → v + 340 ≤ v + p

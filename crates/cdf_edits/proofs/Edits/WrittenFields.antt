@@ -41,20 +41,21 @@ may_after {b = b} {now = now} e marks (v ∷ ws) all =
       may_after e marks ws all.1,
     )
 
+-- no other byte changes where a field is written
+pub with_field_changed : (b : List ℕ) (tile : ℕ) (f : Field) (n : ℕ) → LiesIn b tile f → Changed b (with_field b tile f n) (touched_field tile f ∷ [])
+unfolding with_field
+with_field_changed b tile f n lies = changed_put b tile f.place f.width (big_bytes f.width n) (length-bytes_high_first f.width n) lies
+
 module _ (b records : List ℕ) (tiled : AreTiles b 8 (length b) records) (some : 8 ≤ length b) where
   -- it lies in the image
   pub write_lies : (tile : ℕ) (f : Field) → In tile records → f.place + f.width ≤ size_at b tile → LiesIn b tile f
   write_lies tile f i fits = let l = tile_lies b 8 (length b) records tile tiled i in omega (arith, l.high)
 
-  with_field_changed : (tile : ℕ) (f : Field) (n : ℕ) → LiesIn b tile f → Changed b (with_field b tile f n) (touched_field tile f ∷ [])
-  unfolding with_field
-  with_field_changed tile f n lies = changed_put b tile f.place f.width (big_bytes f.width n) (length-bytes_high_first f.width n) lies
-
   -- one number
   pub write_edit : (marks : List Mark) (w : Write) → MayWrite b records marks w → Edit b (with_field b w.tile w.f w.to) records records marks []
   write_edit marks w may =
       let lies = write_lies w.tile w.f may.inside may.fits in
-      changed_edit b (with_field b w.tile w.f w.to) records (touched_field w.tile w.f ∷ []) marks [] tiled (length-with_field b w.tile w.f w.to lies) (with_field_changed w.tile w.f w.to lies)
+      changed_edit b (with_field b w.tile w.f w.to) records (touched_field w.tile w.f ∷ []) marks [] tiled (length-with_field b w.tile w.f w.to lies) (with_field_changed b w.tile w.f w.to lies)
       (record { inside = may.inside; fits = may.fits; behind_size = let l = may.later in omega arith; behind_type = inl may.later; covered = may.covered }, tt) some
 
   heads_stay : (marks : List Mark) (w : Write) → MayWrite b records marks w → (m : ℕ) → In m records → type_at b m ≢ uir_type → Same b (with_field b w.tile w.f w.to) (m + 0) (m + 12)

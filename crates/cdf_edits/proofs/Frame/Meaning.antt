@@ -1,6 +1,6 @@
 -- What records mean stays where their bytes do.
 use Rattle.std.proofs.Common.{◌≡◌, ℕ, ℤ, ◌+◌, ◌*◌, ◌≤◌, List, [], ◌∷◌, length, Bool, true, false, is_some, ◌&&◌, refl, sym, ap, subst, ◌∙◌, arith, inl, inr}
-use Rattle.cdf_edits.proofs.Common.{nat_le, record_limit, has_value, is_positive, if◌then◌else◌, w32, w64, cast_signed, unwrap_or, DataType, Byte, turned, Entry, with_item, size_of, type_of, Field, adr_name, adr_scope, aedr_data_type, aedr_num, aedr_num_elems, aedr_value, vdr_r_dim_vary, vdr_r_pad_value, vdr_z_dim_vary, vdr_z_pad_value, cvvr_c_size, counted, number, integer4, size_at, type_at, gdr_offset, r_num_dims, r_sizes, Same, In, field_bytes, is_little, data_type_in, AttributeShape, Each, entry_bytes, scope_of, entry_of, attribute_of, EntryFits, AttributeFits, Same-part, word_kept, piece_kept, number_kept, bytes_kept, name_kept}
+use Rattle.cdf_edits.proofs.Common.{is_z, dimensions_at, value_bytes, pad_field, nat_le, record_limit, has_value, is_positive, if◌then◌else◌, w32, w64, cast_signed, unwrap_or, DataType, Byte, turned, Entry, with_item, size_of, type_of, Field, adr_name, adr_scope, aedr_data_type, aedr_num, aedr_num_elems, aedr_value, vdr_r_dim_vary, vdr_r_pad_value, vdr_z_dim_vary, vdr_z_pad_value, cvvr_c_size, counted, number, integer4, size_at, type_at, gdr_offset, r_num_dims, r_sizes, Same, In, field_bytes, is_little, data_type_in, AttributeShape, Each, entry_bytes, scope_of, entry_of, attribute_of, EntryFits, AttributeFits, Same-part, word_kept, piece_kept, number_kept, bytes_kept, name_kept}
 use Rattle.cdf_format.specs.Records.{cvvr_packed}
 use Rattle.cdf_format.specs.Stored.{packed_bytes}
 use Rattle.cdf_format.specs.Content.{entries_of}
@@ -144,6 +144,13 @@ pad_long false d n = omega arith
 pub pad_width : (p : Bool) (d n : ℕ) → (if p then vdr_z_pad_value d n else vdr_r_pad_value d n).width ≡ n
 pad_width true d n = refl
 pad_width false d n = refl
+
+-- of a VDR
+pub pad_late : (b : List ℕ) (v : ℕ) → 340 ≤ (pad_field b v).place
+pad_late b v = pad_long (is_z b v) (dimensions_at b v) (value_bytes b v)
+
+pub pad_wide : (b : List ℕ) (v : ℕ) → (pad_field b v).width ≡ value_bytes b v
+pad_wide b v = pad_width (is_z b v) (dimensions_at b v) (value_bytes b v)
 
 pub vary_fits : (p : Bool) (d n : ℕ) → (if p then vdr_z_dim_vary d 0 else vdr_r_dim_vary 0).place + 4 * d ≤ (if p then vdr_z_pad_value d n else vdr_r_pad_value d n).place
 vary_fits true d n = omega arith

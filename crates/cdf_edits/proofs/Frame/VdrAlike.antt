@@ -1,6 +1,7 @@
 -- What a VDR means that stands at another place, or that has another name, blocking factor, flags, pad value or MaxRec where it is.
-use Rattle.std.proofs.Common.{◌≡◌, ℕ, ℤ, zero, suc, ◌+◌, ◌*◌, ◌^◌, ◌<◌, ◌≤◌, List, [], ◌∷◌, ◌++◌, map, Bool, true, false, not, Some, refl, sym, ap, ap₂, subst, ◌∙◌, arith, inl, inr}
-use Rattle.cdf_edits.proofs.Common.{◌==◌, nat_lt, if◌then◌else◌, w32, cast_signed, enumerate_from, filter, flat_map, unwrap_or, Byte, NoRule, Pad, Previous, parts, turned, extent, size_of, type_of, Field, vdr_data_type, vdr_max_rec, vdr_vxr_head, vdr_flags, vdr_s_records, vdr_num_elems, vdr_cpr_or_spr_offset, vdr_blocking_factor, vdr_name, vdr_r_dim_vary, vdr_r_pad_value, vdr_z_num_dims, vdr_z_dim_vary, vdr_z_pad_value, cvvr_c_size, z_vdr_type, word, words, counted, number, name_in, integer4, has_bit, size_at, type_at, byte, Same, In, field_bytes, is_little, Leaf, leaves_of, VariableShape, Each, is_compressed, is_z, counted4, dimensions_at, dims_at, type_of_variable, value_bytes, record_bytes, records_vary, has_pad, pad_field, pad_at, max_rec_at, records_of_leaf, plain_size, plain_bytes, leaf_records, records_in, variable_of, BlockFits, LeafFits, bytes_kept, number_kept, size_kept}
+use Rattle.std.proofs.Common.{◌≡◌, ℕ, ℤ, zero, suc, ◌+◌, ◌*◌, ◌^◌, ◌<◌, ◌≤◌, List, [], ◌∷◌, ◌++◌, length, drop, map, Bool, true, false, not, Some, refl, sym, ap, ap₂, subst, ◌∙◌, arith, inl, inr}
+use Rattle.cdf_edits.proofs.Common.{take, ◌==◌, nat_lt, if◌then◌else◌, w32, cast_signed, enumerate_from, filter, flat_map, unwrap_or, Byte, NoRule, Pad, Previous, parts, turned, extent, size_of, type_of, Field, vdr_data_type, vdr_max_rec, vdr_vxr_head, vdr_flags, vdr_s_records, vdr_num_elems, vdr_cpr_or_spr_offset, vdr_blocking_factor, vdr_name, vdr_r_dim_vary, vdr_r_pad_value, vdr_z_num_dims, vdr_z_dim_vary, vdr_z_pad_value, cvvr_c_size, z_vdr_type, word, words, counted, number, name_in, integer4, has_bit, size_at, type_at, byte, Same, In, field_bytes, is_little, Leaf, leaves_of, VariableShape, Each, is_compressed, is_z, counted4, dimensions_at, dims_at, type_of_variable, value_bytes, record_bytes, records_vary, has_pad, pad_field, pad_at, max_rec_at, records_of_leaf, plain_size, plain_bytes, leaf_records, records_in, variable_of, BlockFits, LeafFits, bytes_kept, number_kept, size_kept}
+use Rattle.std.proofs.lemmas.List.{ext_get_or, get_or-drop, get_or-take, length-drop, length-take}
 use Rattle.cdf_model.specs.Place.{record_size}
 use Rattle.cdf_model.specs.RunLengths.{plain_of}
 use Rattle.cdf_format.specs.Records.{vvr_records}
@@ -46,6 +47,14 @@ module _ {b now : List ℕ} {v v' lo hi : ℕ} (c : Copied b now v v' lo hi) whe
 
   pub words_copied : (p n : ℕ) → lo ≤ p → p + 4 * n ≤ hi → words now (v' + p) n ≡ words b (v + p) n
   words_copied p n l h = words_alike b now (v + p) (v' + p) n (at_once p (4 * n) l h)
+
+  pub piece_copied : (p n : ℕ) → lo ≤ p → p + n ≤ hi → v + p + n ≤ length b → v' + p + n ≤ length now → take n (drop (v' + p) now) ≡ take n (drop (v + p) b)
+  piece_copied p n l h inside there =
+      let e : length (take n (drop (v' + p) now)) ≡ n = simp (length-take, length-drop) (omega arith) in
+      let f : length (take n (drop (v + p) b)) ≡ n = simp (length-take, length-drop) (omega arith) in
+      ext_get_or 0 (take n (drop (v' + p) now)) (take n (drop (v + p) b)) (e ∙ sym f) (λ i lt.
+      let within : i < n = omega (arith, lt, e) in
+      get_or-take n (drop (v' + p) now) i 0 within ∙ get_or-drop (v' + p) now i 0 ∙ at_once p n l h i _ _ refl refl within ∙ sym (get_or-drop (v + p) b i 0) ∙ sym (get_or-take n (drop (v + p) b) i 0 within))
 
 -- ---- a VDR
 

@@ -1,26 +1,16 @@
-use Rattle.std.proofs.Common.{◌≡◌, ◌+◌, ◌∙◌, ℕ, List, length, take, None, refl, sym, ap, subst, arith}
-use Rattle.cdf_vars.proofs.Common.{last_or, Frame, edit_done, edit_failed, edit_more, edits_by_read, keeps_by_read, read_once, Good, before, members_of, variables_chain, last_got, IsVdr, padded_flags}
-use Rattle.cdf_area.proofs.Calls.{edit_without_memory}
-use Rattle.cdf_vars.proofs.PadSet.{body_long, is_vdr, old_long, place_late, place_lies, stands_behind}
+use Rattle.std.proofs.Common.{◌≡◌, ◌+◌, ◌∙◌, ℕ, List, length, take, None, sym, ap, subst, arith}
+use Rattle.cdf_vars.proofs.Common.{last_or, Frame, edit_done, edit_failed, edit_more, keeps_by_read, read_once, Good, before, members_of, variables_chain, last_got, IsVdr, padded_flags}
+use Rattle.cdf_vars.proofs.PadSet.{body_long, is_vdr, old_long, place_in, stands_behind}
 use Rattle.cdf_vars.proofs.pad_record.move_vdr.Goals as goal
 
 pub overflow_add-place : goal.overflow_add-place
-overflow_add-place g c = let l = place_lies (g.A.Area.image c.args.area.now) c.args.kind c.requires.good c.requires.places c.requires.within c.requires.vdr c.requires.place in omega (arith, l, c.requires.room, c.requires.limit)
+overflow_add-place g c = let l = place_in (g.A.Area.image c.args.area.now) c.args.kind c.requires.good c.requires.places c.requires.within c.requires.vdr c.requires.place in omega (arith, l, c.requires.room, c.requires.limit)
 
 pub read_bytes-requires : goal.read_bytes-requires
-read_bytes-requires g c =
-    let l = place_lies (g.A.Area.image c.args.area.now) c.args.kind c.requires.good c.requires.places c.requires.within c.requires.vdr c.requires.place in
-    let late = place_late (g.A.Area.image c.args.area.now) c.args.kind c.requires.good c.requires.places c.requires.within c.requires.vdr c.requires.place in
-    omega (arith, l, late)
-
-pub returns-in_err-old-clause-area : goal.returns-in_err-old-clause-area
-returns-in_err-old-clause-area g c = edit_failed (record { frame = refl; faults = refl }) (edits_by_read c.in_err-old.ensures.area) c.from_residual.ensures.1
+read_bytes-requires g c = let l = place_in (g.A.Area.image c.args.area.now) c.args.kind c.requires.good c.requires.places c.requires.within c.requires.vdr c.requires.place in omega (arith, l)
 
 pub padded_bytes-requires : goal.padded_bytes-requires
 padded_bytes-requires g c = old_long (g.A.Area.image c.args.area.now) c.args.kind c.requires.good c.requires.places c.requires.within c.requires.vdr c.requires.place c.deref-2.result.now (c.deref-2.ensures.value ∙ c.in_ok-old.ensures.bytes)
-
-pub returns-in_err-bytes-clause-area : goal.returns-in_err-bytes-clause-area
-returns-in_err-bytes-clause-area g c = edit_without_memory (keeps_by_read (read_once c.in_ok-old.ensures.area)) c.from_residual-in_err-bytes.ensures.1
 
 pub replace_vdr-requires-clause-good : goal.replace_vdr-requires-clause-good
 replace_vdr-requires-clause-good g c = subst Good (sym c.read_bytes.ensures.area.image) c.requires.good

@@ -1,6 +1,6 @@
 use Rattle.std.proofs.Common.{◌≤◌, ◌∙◌, ℕ, List, length, sym, ap, subst}
-use Rattle.cdf_vars.proofs.Common.{read_done, read_more, read_once, is_little}
-use Rattle.cdf_vars.proofs.PadRequests.{elements, is_vdr, long, may, missing, no_value, placed}
+use Rattle.cdf_vars.proofs.Common.{cdr_fits, is_little}
+use Rattle.cdf_vars.proofs.PadRequests.{elements, is_vdr, may, missing, no_value, placed}
 use Rattle.cdf_vars.proofs.vars.Vars.read_request.Goals as goal
 
 pub returns-in_default-clause-request : goal.returns-in_default-clause-request
@@ -13,7 +13,7 @@ pub read_pad_place-requires-clause-vdr : goal.read_pad_place-requires-clause-vdr
 read_pad_place-requires-clause-vdr g c = is_vdr c.args.name.now c.args.words.now c.requires.known c.find.ensures.found c.requires.good c.in-Some.is c.place_of-vdr.ensures
 
 pub read_encoding-requires : goal.read_encoding-requires
-read_encoding-requires g c = subst (λ (x : List ℕ). 320 ≤ length x) (sym c.read_pad_place.ensures.area.image) (long c.args.name.now c.args.words.now c.requires.known c.find.ensures.found c.requires.good c.in-Some.is c.place_of-vdr.ensures)
+read_encoding-requires g c = subst (λ (x : List ℕ). 320 ≤ length x) (sym c.read_pad_place.ensures.area.image) (cdr_fits _ c.requires.good)
 
 pub read_pad-requires : goal.read_pad-requires
 read_pad-requires g c = elements c.args.name.now c.args.words.now c.requires.known c.find.ensures.found c.requires.good c.in-Some.is c.place_of-vdr.ensures c.in_ok-place.ensures.place
@@ -23,13 +23,7 @@ returns-in-Ok-clause-request g c =
     may c.args.name.now c.args.words.now c.requires.known c.find.ensures.found c.requires.good c.in-Some.is c.place_of-vdr.ensures c.in_ok-place.ensures.place
     c.in_ok-encoding.encoding.little c.in-Ok.bytes.items (c.in_ok-encoding.ensures.order ∙ ap is_little c.read_pad_place.ensures.area.image) c.in-Ok.ensures.ok
 
-pub returns-in-Ok-clause-area : goal.returns-in-Ok-clause-area
-returns-in-Ok-clause-area g c = read_done (read_more (read_once c.in_ok-place.ensures.area) c.in_ok-encoding.ensures.area)
-
 pub returns-in_ok-reason_of-in-Err-clause-request : goal.returns-in_ok-reason_of-in-Err-clause-request
 returns-in_ok-reason_of-in-Err-clause-request g c =
     no_value c.args.name.now c.args.words.now c.requires.known c.find.ensures.found c.requires.good c.in-Some.is c.place_of-vdr.ensures c.in_ok-place.ensures.place
     c.in-Err.error c.in_ok-reason_of-in-Err.field-0 c.in-Err.ensures.err c.in_ok-reason_of-in-Err.ensures.reason
-
-pub returns-in_ok-reason_of-in-Err-clause-area : goal.returns-in_ok-reason_of-in-Err-clause-area
-returns-in_ok-reason_of-in-Err-clause-area g c = read_done (read_more (read_once c.in_ok-place.ensures.area) c.in_ok-encoding.ensures.area)
