@@ -33,14 +33,18 @@ pub use Rattle.cdf_edits.proofs.Commands.KeptRecords.{AllKeep-append}
 pub use Rattle.cdf_edits.proofs.Commands.ListParts.{Cut, cut, got-map, got-middle, last_got, last_removed}
 pub use Rattle.cdf_edits.proofs.Edits.AttributeChains.{stands_at}
 pub use Rattle.cdf_edits.proofs.Edits.AttributeFrame.{AreThere, all_remain}
-pub use Rattle.cdf_edits.proofs.Edits.ChainEntries.{EntryLives, entries_left, nums, nums_live}
+pub use Rattle.cdf_edits.proofs.Edits.ChainEntries.{EntryLives, entries_left, num_in, nums, nums_live}
 pub use Rattle.cdf_edits.proofs.Edits.ChainFollowed.{chain_now, found_none, found_one, greatest_integer}
 pub use Rattle.cdf_edits.proofs.Edits.ChainKinds.{adr_of, chain_in}
 pub use Rattle.cdf_edits.proofs.Edits.ChainSpliced.{Rechains, entry_stays}
 pub use Rattle.cdf_edits.proofs.Edits.ChainsOfShape.{has_chain, members_are}
 pub use Rattle.cdf_edits.proofs.Edits.DeletedAttribute.{own}
-pub use Rattle.cdf_edits.proofs.Edits.DropHalves.{LowersHalf, TakesHalf, link_field, number_field, numbered}
-pub use Rattle.cdf_edits.proofs.Edits.DropsOne.{DropsOne, DropsUpTo}
+pub use Rattle.cdf_edits.proofs.Edits.DropChanges.{drops, drops_both, lowers, numbered, takes}
+pub use Rattle.cdf_edits.proofs.Edits.DroppedAll.{finish}
+pub use Rattle.cdf_edits.proofs.Edits.DroppedNext.{DropsUpTo, next_dropped, next_global, start, still_scoped, still_there}
+pub use Rattle.cdf_edits.proofs.Edits.EntriesEdited.{EditsEntries, Edited}
+pub use Rattle.cdf_edits.proofs.Edits.EntriesRechained.{edits_rest, only_at}
+pub use Rattle.cdf_edits.proofs.Edits.EntriesSame.{Rests}
 pub use Rattle.cdf_edits.proofs.Edits.EntryFields.{count_is, max_lies, max_written, of_shape}
 pub use Rattle.cdf_edits.proofs.Edits.FallenEntries.{LowersChain}
 pub use Rattle.cdf_edits.proofs.Edits.FreedEntry.{Frees, all_marks, count_same, freed_bytes, freed_rechains, freed_settled, greatest_same, old_free, old_stands, sound_late}
@@ -52,7 +56,6 @@ pub use Rattle.cdf_edits.proofs.Edits.OwnedOnce.{owned_once_if, used_times}
 pub use Rattle.cdf_edits.proofs.Edits.OwnersKept.{all_keep, keeps_fields, stood}
 pub use Rattle.cdf_edits.proofs.Edits.RecordFrame.{AttributeLives, file_same}
 pub use Rattle.cdf_edits.proofs.Edits.Splice.{OwnRules, Splices, good_image_if, parts_there, shape_now, spliced}
-pub use Rattle.cdf_edits.proofs.Edits.StandsSame.{stands_same}
 pub use Rattle.cdf_edits.proofs.Edits.StepEdits.{fixed_long}
 pub use Rattle.cdf_edits.proofs.Edits.VariableFrame.{variables_in}
 pub use Rattle.cdf_edits.proofs.Space.ChainHeads.{cdr_room}

@@ -1,7 +1,6 @@
 pub mod Common
 pub mod DeletingSteps
 pub mod DroppedNumber
-pub mod DroppedOne
 pub mod DroppedVar
 pub mod DroppingFrom
 pub mod DropHalf

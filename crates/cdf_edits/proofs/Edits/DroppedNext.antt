@@ -1,81 +1,117 @@
--- One attribute more drops its entries for a variable.
-use Rattle.std.proofs.Common.{◌≡◌, ℕ, suc, ◌+◌, ◌≤◌, ◌<◌, List, [], ◌∷◌, ◌++◌, Bool, true, false, Some, eqb, sym, ap, subst, ◌∙◌, arith, inl, inr}
-use Rattle.cdf_edits.proofs.Common.{cases_eq, map-append, same_Some, filter, slice_get, ◌==◌, if◌then◌else◌, take, Found, is_global, scope_of, number, size_at, attribute_records, adr_scope, aedr_num, AttributeShape, HasShape, shape, In, good_is_sound, In-append, filter-in, chain_of, kind_of_entries, entries_for, IsDropped, Act, Gave, gave, ActsFollow}
+-- The first attributes dropped their entries for a variable, and one attribute more does.
+use Rattle.std.proofs.Common.{◌≡◌, ◌≢◌, ◌⊎◌, ℕ, suc, ◌+◌, ◌≤◌, List, [], ◌∷◌, ◌++◌, Bool, true, false, Some, eq-eqb, eqb, refl, sym, ap, ap₂, subst, ◌∙◌, arith, inl, inr}
+use Rattle.cdf_edits.proofs.Common.{cases_eq, le-ltb, lt-ltb, ne_eqb, nat_tests, same_Some, list_any, slice_get, not, ◌&&◌, ◌||◌, ◌==◌, nat_le, nat_lt, if◌then◌else◌, take, Attribute, Entry, EntryKind, Found, entries_of, is_global, Leads, next_field, next_of, attribute_of, number, Field, aedr_num, AttributeShape, shape, In, Good, In-append, filter-in, OutsideFields, Stays, chain_of, fields_beside, kind_of_entries, entries_for}
 use Rattle.std.proofs.Math.Seq.{take-suc}
 use Rattle.std.proofs.lemmas.Grind.{flat_map-append}
 use Rattle.std.proofs.lemmas.Option.{get_or_from_slice_get, slice_get_within}
-use Rattle.cdf_edits.proofs.Edits.Common.{chain_in, gave-same}
-use Rattle.cdf_edits.proofs.Edits.ChainEdited.{stays_bytes}
-use Rattle.cdf_edits.proofs.Edits.DropsOne.{DropsOne, DropsUpTo, Fate}
-use Rattle.cdf_edits.proofs.Edits.SameAttribute.{entries_same, fate_from, fate_still}
-use Rattle.cdf_edits.proofs.Edits.StandsBut.{AttributeStands, member_in}
-use Rattle.cdf_edits.proofs.Edits.StandsThen.{attribute_stands, dropped_then, sizes_mid, stands_then}
+use Rattle.cdf_edits.proofs.Edits.Common.{chain_has}
+use Rattle.cdf_edits.proofs.Edits.DropChanges.{drops, joins_idle, numbered}
+use Rattle.cdf_edits.proofs.Edits.EntriesEdited.{Change, EditsEntries, Edited, idle}
+use Rattle.cdf_edits.proofs.Edits.EntriesRechained.{only_at}
+use Rattle.cdf_edits.proofs.Edits.EntriesSame.{edits_same, entry_same, has_own, with_own}
+use Rattle.cdf_edits.proofs.Edits.EntriesThen.{Joins, edits_then}
+use Rattle.cdf_edits.proofs.Edits.OneChain.{items_with}
+use Rattle.cdf_edits.proofs.Frame.SoundStays.{filter_same}
 
-module _ {b mid now : List ℕ} {found : Found} {k : ℕ} {own : AttributeShape} (d : DropsUpTo b found k mid) (at : slice_get (shape b).attributes k ≡ Some own) (one : DropsOne mid found k own now) where
-  h : HasShape b (shape b)
-  h = (good_is_sound b d.was).has_shape
+-- what it does to an attribute that the first ones drop their entries
+abbrev pub dropping : List ℕ → Found → ℕ → ℕ → AttributeShape → Change
+dropping b found k j a = if nat_lt j k && not (is_global (attribute_of b a).scope) then drops b found.number (kind_of_entries found.kind) a else idle
 
-  same : AttributeStands b mid k own
-  same = attribute_stands d.was d.stands k own (λ lt. absurd (omega arith)) at
+abbrev pub DropsUpTo : List ℕ → Found → ℕ → List ℕ → Type 0
+DropsUpTo b found k now = EditsEntries b now (kind_of_entries found.kind) (dropping b found k) (entries_for b (take k (shape b).attributes) found)
 
-  -- ---- the entries that went
+pub start : (b : List ℕ) (found : Found) → Good b → DropsUpTo b found 0 b
+start b found good = edits_same good (λ j a at. rw (le-ltb j 0 (omega arith)) (record { falls = λ m i. refl; items = refl; writes = refl }))
 
-  entries_next : entries_for b (take (suc k) (shape b).attributes) found ≡ entries_for b (take k (shape b).attributes) found ++ entries_for b (own ∷ []) found
+lt_same : (j k : ℕ) → j ≢ k → nat_lt j (k + 1) ≡ nat_lt j k
+lt_same j k ne = grind (arith, nat_tests)
+
+leads_next : (b : List ℕ) (link : ℕ) (es : List ℕ) → Leads b link es 0 → (m : ℕ) → In m es → (next_of b m ≡ 0) ⊎ In (next_of b m) es
+leads_next b link [] l m i = absurd i
+leads_next b link (x ∷ []) l m (inl q) = inl (ap (next_of b) q ∙ l.1)
+leads_next b link (x ∷ []) l m (inr i) = absurd i
+leads_next b link (x ∷ y ∷ es) l m (inl q) = inr (inr (inl (ap (next_of b) q ∙ l.1.0)))
+leads_next b link (x ∷ y ∷ es) l m (inr i) = elim (leads_next b (next_of b x) (y ∷ es) l.1 m i) [ inl z ↦ inl z | inr j ↦ inr (inr j) ]
+
+abbrev beside : ℕ → ℕ → ℕ → ℕ → List Field
+beside num next after here = (if not (next == 0) && (after == num) then next_field ∷ [] else []) ++ (if nat_lt num here then aedr_num ∷ [] else [])
+
+module _ {b mid : List ℕ} (found : Found) (k : ℕ) (own : AttributeShape) (d : DropsUpTo b found k mid) (at : slice_get (shape b).attributes k ≡ Some own) where
+  abbrev kind : EntryKind
+  kind = kind_of_entries found.kind
+
+  abbrev chain : List ℕ
+  chain = chain_of own kind
+
+  -- the attribute is as it was
+  untouched : (slice_get (shape mid).attributes k ≡ Some own) × Edited b mid kind idle own own
+  untouched =
+      let x = d.attributes k own at in
+      let e : Edited b mid kind idle own x.0 = rw (le-ltb k k (omega arith)) at x.1.1 in
+      (subst (λ (a : AttributeShape). slice_get (shape mid).attributes k ≡ Some a) (e.stands refl) x.1.0, subst (Edited b mid kind idle own) (e.stands refl) e)
+
+  pub still_there : slice_get (shape mid).attributes k ≡ Some own
+  still_there = untouched.0
+
+  pub still_scoped : is_global (attribute_of b own).scope ≡ is_global (attribute_of mid own).scope
+  still_scoped = ap (λ (a : Attribute). is_global a.scope) (sym (untouched.1.attribute_is ∙ with_own (attribute_of b own) kind))
+
+  stays : (m : ℕ) → In m chain → Stays b mid m []
+  stays m i = (untouched.1.entries m i refl).lasts.0
+
+  same : (m : ℕ) → In m chain → (f : Field) → f.place + f.width ≤ 32 → number mid m f ≡ number b m f
+  same m i f fits = entry_same b d.stands.was k own at kind m i (stays m i) f fits
+
+  beside_same : (m : ℕ) → In m chain → fields_beside mid found.number m ≡ fields_beside b found.number m
+  beside_same m i =
+      ap₂ (λ (x n : ℕ). beside found.number x (number mid x aedr_num) n) (same m i next_field (omega arith)) (same m i aedr_num (omega arith))
+      ∙ elim (leads_next b _ chain (chain_has kind own (has_own b d.stands.was k own at)).leads m i) [
+        | inl z ↦ rw z refl
+        | inr j ↦ ap (λ (n : ℕ). beside found.number (next_of b m) n (number b m aedr_num)) (same (next_of b m) j aedr_num (omega arith))
+      ]
+
+  joins_dropped : Joins b chain idle (drops mid found.number kind own) (drops b found.number kind own)
+  joins_dropped = record {
+    rests = λ q. absurd cc;
+    adr = λ i o. (tt, o);
+    goes = λ n q. (refl, q);
+    falls = λ n. refl;
+    fields = λ m i j stays o. (tt, subst (λ (fs : List Field). OutsideFields fs i) (sym (beside_same m j)) o);
+    items = λ items. refl;
+    writes = by (ap (λ (x : Attribute). entries_of x kind) untouched.1.attribute_is ∙ items_with (attribute_of b own) kind _);
+  }
+    where
+      or_false : (p : Bool) → p ≡ (p || false)
+      or_false true = refl
+      or_false false = refl
+
+      by : {xs ys : List (ℕ × Entry)} → ys ≡ xs → list_any (λ pair. nat_le found.number pair.0) xs ≡ (list_any (λ pair. nat_le found.number pair.0) ys || false)
+      by e = ap (list_any (λ pair. nat_le found.number pair.0)) (sym e) ∙ or_false _
+
+  entries_next : entries_for b (take (k + 1) (shape b).attributes) found ≡ entries_for b (take k (shape b).attributes) found ++ entries_for b (own ∷ []) found
   entries_next =
       let as_ = (shape b).attributes in
-      let last : take (suc k) as_ ≡ take k as_ ++ own ∷ [] = take-suc as_ k own (slice_get_within as_ k own at) ∙ ap (λ (a : AttributeShape). take k as_ ++ a ∷ []) (get_or_from_slice_get as_ k own own at) in
+      let one : k + 1 ≡ suc k = omega arith in
+      let last : take (k + 1) as_ ≡ take k as_ ++ own ∷ [] = ap (λ (n : ℕ). take n as_) one ∙ take-suc as_ k own (slice_get_within as_ k own at) ∙ ap (λ (a : AttributeShape). take k as_ ++ a ∷ []) (get_or_from_slice_get as_ k own own at) in
       ap (λ (as_ : List AttributeShape). entries_for b as_ found) last ∙ flat_map-append _ (take k as_) (own ∷ [])
 
-  entry_in : (m : ℕ) → In m (entries_for b (own ∷ []) found) → In m (attribute_records own)
-  entry_in m i = by (is_global (scope_of (number b own.adr adr_scope))) i
-    where
-      none : (es : List ℕ) → In m (es ++ []) → In m es
-      none es i = elim (In-append m es [] i) [ inl j ↦ j | inr j ↦ absurd j ]
+  next : {now : List ℕ} {c : ℕ → AttributeShape → Change} {more : List ℕ} → EditsEntries mid now kind c more → more ≡ entries_for b (own ∷ []) found → ((m : ℕ) → In m more → Stays b mid m []) → Joins b chain idle (c k own) (dropping b found (k + 1) k own) → ((j : ℕ) (a : AttributeShape) → j ≢ k → c j a ≡ idle) → DropsUpTo b found (k + 1) now
+  next {now} {c} {more} e more_is still here others = subst (EditsEntries b now kind (dropping b found (k + 1))) (ap (λ (es : List ℕ). entries_for b (take k (shape b).attributes) found ++ es) more_is ∙ sym entries_next)
+      (edits_then d e still (λ j a a' there x. elim (cases_eq j k) [
+        | inl q ↦
+            let is : a ≡ own = same_Some a own (sym there ∙ ap (slice_get (shape b).attributes) q ∙ at) in
+            let x' : Edited b mid kind idle a a' = rw (q, le-ltb k k (omega arith)) at x in
+            rw (x'.stands refl, q, is, le-ltb k k (omega arith)) here
+        | inr ne ↦ rw (others j a' ne, lt_same j k ne) (joins_idle (dropping b found k j a))
+      ]))
 
-      by : (p : Bool) → In m ((if p then [] else filter (λ aedr. number b aedr aedr_num == found.number) (chain_of own (kind_of_entries found.kind))) ++ []) → In m (attribute_records own)
-      by true i = absurd i
-      by false i = inr (chain_in (kind_of_entries found.kind) own m (filter-in (λ aedr. eqb (number b aedr aedr_num) found.number) (chain_of own (kind_of_entries found.kind)) m (none (filter (λ aedr. number b aedr aedr_num == found.number) (chain_of own (kind_of_entries found.kind))) i)))
+  -- an attribute of the file has no entries for variables
+  pub next_global : is_global (attribute_of b own).scope ≡ true → DropsUpTo b found (k + 1) mid
+  next_global global = next (edits_same {c = λ j a. idle} d.stands.good (λ j a there. record { falls = λ m i. refl; items = refl; writes = refl })) (rw global refl) (λ m i. absurd i) (rw (lt-ltb k (k + 1) (omega arith), global) (joins_idle idle)) (λ j a ne. refl)
 
-  size_same : (m : ℕ) → In m (entries_for b (own ∷ []) found) → size_at mid m ≡ size_at b m
-  size_same m i = sizes_mid d.was d.stands one.stands m (member_in h k own m at (entry_in m i))
-
-  acts_next : ActsFollow b now (gave b (entries_for b (take (suc k) (shape b).attributes) found))
-  acts_next =
-      let all = one.acts b (gave b (entries_for b (take k (shape b).attributes) found)) h d.acts in
-      let gone = ap (gave mid) (entries_same d.was at same found) ∙ gave-same b mid (entries_for b (own ∷ []) found) size_same in
-      subst (ActsFollow b now)
-      (ap (λ (acts : List Act). gave b (entries_for b (take k (shape b).attributes) found) ++ acts) gone
-      ∙ sym (map-append (λ (place : ℕ). Gave place (size_at b place)) (entries_for b (take k (shape b).attributes) found) (entries_for b (own ∷ []) found))
-      ∙ sym (ap (gave b) entries_next))
-      all
-
-  dropped_next : (m : ℕ) → In m (entries_for b (take (suc k) (shape b).attributes) found) → IsDropped b now m
-  dropped_next m i = elim (In-append m (entries_for b (take k (shape b).attributes) found) (entries_for b (own ∷ []) found) (subst (In m) entries_next i)) [
-    | inl j ↦ dropped_then d.was d.stands one.stands m (d.dropped m j)
-    | inr j ↦
-        let y = one.dropped m (subst (In m) (sym (entries_same d.was at same found)) j) in
-        let size = size_same m j in
-        let bytes = stays_bytes (same.kept m (entry_in m j)).0 28 (size_at b m) (omega arith) (λ n l u. tt) in
-        record {
-          stands = member_in h k own m at (entry_in m j);
-          long = subst (λ (n : ℕ). 28 ≤ n) size y.long;
-          freed = y.freed;
-          behind = record { each = λ p l u. y.behind.each p l (subst (λ (n : ℕ). p < m + n) (sym size) u) ∙ bytes.each p l u };
-        }
-  ]
-
-  -- ---- the attributes
-
-  fates_next : (j : ℕ) (a : AttributeShape) → j < suc k → slice_get (shape b).attributes j ≡ Some a → Fate b now found j a
-  fates_next j a lt here = elim (cases_eq j k) [
-    | inl q ↦
-        let is : own ≡ a = same_Some own a (sym at ∙ subst (λ (x : ℕ). slice_get (shape b).attributes x ≡ Some a) q here) in
-        subst (λ (x : ℕ). Fate b now found x a) (sym q) (subst (Fate b now found k) is (fate_from d.was at same one.fate))
-    | inr ne ↦ fate_still d.stands.good (λ x there. attribute_stands d.stands.good one.stands j x ne there) (d.fates j a (omega arith) here)
-  ]
-
-  next : DropsUpTo b found (suc k) now
-  next = record { was = d.was; stands = stands_then d.was d.stands one.stands (λ j lt. omega arith) (λ j e. omega arith); acts = acts_next; dropped = dropped_next; fates = fates_next }
-
-pub step : {b mid now : List ℕ} {found : Found} {k : ℕ} {own : AttributeShape} → DropsUpTo b found k mid → slice_get (shape b).attributes k ≡ Some own → DropsOne mid found k own now → DropsUpTo b found (k + 1) now
-step {b = b} {now = now} {found = found} {k = k} d at one = let e : suc k ≡ k + 1 = omega arith in subst (λ (n : ℕ). DropsUpTo b found n now) e (next d at one)
+  -- of one of variables the entry of the number goes, and the greater numbers fall
+  pub next_dropped : {now : List ℕ} → is_global (attribute_of b own).scope ≡ false → EditsEntries mid now kind (only_at k (drops mid found.number kind)) (numbered mid found.number chain ++ []) → DropsUpTo b found (k + 1) now
+  next_dropped variables e = next e
+      (rw variables (ap (λ (es : List ℕ). es ++ []) (filter_same (λ m. number mid m aedr_num == found.number) (λ m. number b m aedr_num == found.number) chain (λ m i. ap (λ (n : ℕ). n == found.number) (same m i aedr_num (omega arith))))))
+      (λ m i. stays m (filter-in (λ x. eqb (number mid x aedr_num) found.number) chain m (elim (In-append m (numbered mid found.number chain) [] i) [ inl j ↦ j | inr none ↦ absurd none ])))
+      (rw (eq-eqb k k refl, lt-ltb k (k + 1) (omega arith), variables) joins_dropped) (λ j a ne. rw (ne_eqb j k ne) refl)

@@ -1,23 +1,18 @@
 -- The greater numbers of one chain of an attribute fall: the image is good, all beside the chain stands, and the acts before go on.
-use Rattle.std.proofs.Common.{◌≡◌, ℕ, ◌<◌, ◌≤◌, List, [], ◌∷◌, length, refl, sym, ap, subst, ◌∙◌, arith, inl, inr}
-use Rattle.cdf_edits.proofs.Common.{cases_lt, lt-ltb, le-ltb, EntryKind, entries_of, closed_up, image_limit, attribute_of, integer4, number, aedr_num, uir_type, AttributeShape, Shape, shape, IsSound, In, Good, good_is_sound, Only, Stays, chain_of, entry_type, greatest_number, max_field, with_chain, fallen}
+use Rattle.std.proofs.Common.{◌≡◌, ℕ, ◌≤◌, List, [], ◌∷◌, length, true, append-nil, refl, sym, ap, subst, arith, inl, inr}
+use Rattle.cdf_edits.proofs.Common.{cases_lt, lt-ltb, le-ltb, EntryKind, entries_of, closed_up, image_limit, attribute_of, integer4, number, aedr_num, uir_type, AttributeShape, Shape, shape, IsSound, In, Good, good_is_sound, Only, Stays, ActsFollow, chain_of, entry_type, greatest_number, max_field, with_chain, fallen}
 use Rattle.cdf_model.specs.declared.kinds.EntryKind.TheVariants as entries
-use Rattle.cdf_edits.proofs.Edits.Common.{Rechains, acts_still_by, attribute_now, keeps_away, keeps_within, now_is, type_stays, unmarked-away}
-use Rattle.cdf_edits.proofs.Edits.ChainEdited.{AttributeEdited, EntryEdited}
-use Rattle.cdf_edits.proofs.Edits.DropHalves.{LowersHalf, number_field}
+use Rattle.cdf_edits.proofs.Edits.Common.{Rechains, acts_still_by, keeps_away, keeps_within, now_is, type_stays, unmarked-away}
+use Rattle.cdf_edits.proofs.Edits.DropChanges.{lowers, number_field}
+use Rattle.cdf_edits.proofs.Edits.EntriesEdited.{EditsEntries, EntryEdited}
 use Rattle.cdf_edits.proofs.Edits.FallenEntries.{LowersChain, as_long, edit, entries_now, entry_in, entry_typed, falling, fell, good_lowered, later_above, long_enough, rechains, t, those}
-use Rattle.cdf_edits.proofs.Edits.RechainedStands.{StandTests, chain_is, edited, same_records}
+use Rattle.cdf_edits.proofs.Edits.EntriesRechained.{StandTests, chain_is, edited, only_at, same_records}
 
 -- ---- the marks, by the kind
 
 stand_tests : (kind : EntryKind) (adr : ℕ) (es : List ℕ) → StandTests (falling kind adr es) kind
 stand_tests entries.Z adr es = record { adr_within = refl; gdr_within = refl; uir_start = refl; uir_within = refl; r_max = refl; variables = refl }
 stand_tests kind adr es = record { adr_within = refl; gdr_within = refl; uir_start = refl; uir_within = refl; r_max = refl; variables = refl }
-
--- a chain put in its own place
-same_chain : (kind : EntryKind) (a : AttributeShape) → with_chain a kind (chain_of a kind) ≡ a
-same_chain entries.Z a = refl
-same_chain kind a = refl
 
 module _ {b now : List ℕ} {kind : EntryKind} {before : List AttributeShape} {own : AttributeShape} {after : List AttributeShape} {num : ℕ} (good : Good b) (short : length b ≤ image_limit) (q : LowersChain b now kind before own after num) where
   sound : IsSound b (shape b)
@@ -42,22 +37,19 @@ module _ {b now : List ℕ} {kind : EntryKind} {before : List AttributeShape} {o
   entry_falls : (m : ℕ) → In m chain → EntryEdited b now (with_chain own kind chain) kind m (number_field num (number b m aedr_num)) (fallen num (number b m aedr_num))
   entry_falls m i = record {
     member = subst (In m) (sym (chain_is kind own chain)) i;
-    kept = elim (cases_lt num (number b m aedr_num)) [
-      | inl lt ↦ rw (lt-ltb num (number b m aedr_num) lt) (num_stays m i)
-      | inr le ↦ rw (le-ltb num (number b m aedr_num) le) (keeps_away sound r.edit (same_records good r) m (entry_type kind) (Only []) (entry_in good short q m i) (entry_typed good short q m i)
-          ((λ same lies. let lt = later_above b num chain m lies in absurd (omega arith)), ((λ same lies. (t good short q).other same), tt)))
-    ];
-    type_is = type_stays b now m (aedr_num ∷ []) (num_stays m i) (let l = long_enough good short q m i in omega arith) (λ n l. (inl (omega arith), tt));
+    lasts = (
+      elim (cases_lt num (number b m aedr_num)) [
+        | inl lt ↦ rw (lt-ltb num (number b m aedr_num) lt) (num_stays m i)
+        | inr le ↦ rw (le-ltb num (number b m aedr_num) le) (keeps_away sound r.edit (same_records good r) m (entry_type kind) (Only []) (entry_in good short q m i) (entry_typed good short q m i)
+            ((λ same lies. let lt = later_above b num chain m lies in absurd (omega arith)), ((λ same lies. (t good short q).other same), tt)))
+      ],
+      type_stays b now m (aedr_num ∷ []) (num_stays m i) (let l = long_enough good short q m i in omega arith) (λ n l. (inl (omega arith), tt)),
+    );
     num_is = (fell good short q m i).num_is;
   }
 
   -- some number is greater
-  pub lowers_half : (m : ℕ) × (In m chain × (num < number b m aedr_num)) → integer4 now own.adr (max_field kind) ≡ greatest_number (closed_up num num (entries_of (attribute_of b own) kind)) → LowersHalf b (length before) own kind num now
-  lowers_half some greatest =
-      let own_is = same_chain kind own in record {
-        edited = subst (λ (a : AttributeShape). AttributeEdited b now (length before) own a kind (λ n. ⊥) (λ m n. number_field num n) (fallen num)) own_is (edited good r (stand_tests kind own.adr (those good short q)) (good_lowered good short q) (as_long good short q)
-            (λ m i typed out. (unmarked-away (falling kind own.adr (those good short q)) uir_type m (t good short q).unused, λ j. out (subst (In m) same_list j))) (λ m i none. entry_falls m i));
-        attribute_is = ap (attribute_of now) (sym own_is) ∙ attribute_now sound r _ (entries_now good short q);
-        acts = λ first acts so_far. acts_still_by sound so_far (edit good short q) (t good short q).unused (same_records good r) same_list (as_long good short q);
-        greatest = inr (some, greatest);
-      }
+  pub lowered : (lowers b num kind own).writes ≡ true → integer4 now own.adr (max_field kind) ≡ greatest_number (closed_up num num (entries_of (attribute_of b own) kind)) → EditsEntries b now kind (only_at (length before) (lowers b num kind)) []
+  lowered writes greatest = edited good r (stand_tests kind own.adr (those good short q)) (good_lowered good short q) (as_long good short q)
+      (λ m i typed out. (unmarked-away (falling kind own.adr (those good short q)) uir_type m (t good short q).unused, λ j. out (subst (In m) same_list j))) (lowers b num kind) refl refl (entries_now good short q) writes greatest (λ m i stays. entry_falls m i)
+      (λ first acts shaped so_far. subst (ActsFollow first now) (sym (append-nil acts)) (acts_still_by sound so_far (edit good short q) (t good short q).unused (same_records good r) same_list (as_long good short q))) (λ m i. absurd i)
