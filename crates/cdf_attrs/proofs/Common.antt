@@ -42,9 +42,9 @@ pub use Rattle.cdf_edits.proofs.Edits.DeletedAttribute.{own}
 pub use Rattle.cdf_edits.proofs.Edits.DropChanges.{drops, drops_both, lowers, numbered, takes}
 pub use Rattle.cdf_edits.proofs.Edits.DroppedAll.{finish}
 pub use Rattle.cdf_edits.proofs.Edits.DroppedNext.{DropsUpTo, next_dropped, next_global, start, still_scoped, still_there}
-pub use Rattle.cdf_edits.proofs.Edits.EntriesEdited.{EditsEntries, Edited}
+pub use Rattle.cdf_edits.proofs.Edits.EntriesEdited.{Change, EditsEntries, attributes_agree}
 pub use Rattle.cdf_edits.proofs.Edits.EntriesRechained.{edits_rest, only_at}
-pub use Rattle.cdf_edits.proofs.Edits.EntriesSame.{Rests}
+pub use Rattle.cdf_edits.proofs.Edits.EntriesSame.{Rests, attributes_of}
 pub use Rattle.cdf_edits.proofs.Edits.EntryFields.{count_is, max_lies, max_written, of_shape}
 pub use Rattle.cdf_edits.proofs.Edits.FallenEntries.{LowersChain}
 pub use Rattle.cdf_edits.proofs.Edits.FreedEntry.{Frees, all_marks, count_same, freed_bytes, freed_rechains, freed_settled, greatest_same, old_free, old_stands, sound_late}

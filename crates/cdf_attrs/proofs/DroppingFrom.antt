@@ -1,16 +1,12 @@
 -- What dropping from one attribute asks of its chain, and what it comes to.
 use Rattle.std.proofs.Common.{◌≡◌, ◌∙◌, ◌+◌, ◌≤◌, ℕ, List, [], ◌∷◌, All, length, Some, false, refl, sym, ap, subst, arith, inl, inr}
-use Rattle.cdf_attrs.proofs.Common.{cases_lt, lt-ltb, le-ltb, slice_get, is_global, is_wrong_scope, image_limit, signed_limit, attribute_names, Kind, Scope, EntryKind, entry_bytes, content, scope_of, LiesIn, number, adr_scope, AttributeShape, adrs, shape, In, Good, Chain, kind_of_entries, max_field, entries_chain, got-middle, stands_at, max_lies, good_is_sound, AllLie, DropsFrom, DropsNumber, IsScoped, KeepsAttributes, Lowers, LowersNumbers, lower_writes, IsOfAttribute, KnownEntries, KnowsEntries}
+use Rattle.cdf_attrs.proofs.Common.{cases_lt, lt-ltb, le-ltb, slice_get, is_global, is_wrong_scope, image_limit, signed_limit, attribute_names, Kind, Scope, EntryKind, entry_bytes, content, scope_of, LiesIn, number, adr_scope, AttributeShape, adrs, shape, In, Good, Chain, kind_of_entries, max_field, entries_chain, got-middle, stands_at, max_lies, good_is_sound, AllLie, DropsFrom, DropsNumber, IsScoped, KeepsAttributes, Lowers, lower_writes, IsOfAttribute, KnownEntries, KnowsEntries}
 use Rattle.cdf_model.specs.declared.kinds.Kind.TheVariants.{R, Z}
 use Rattle.cdf_edits.proofs.Edits.AttributeChains.{Stands}
-use Rattle.cdf_edits.proofs.Edits.FallenEntries.{as_long as as_long_lowered, good_lowered, rechains}
 use Rattle.cdf_attrs.proofs.AttributeChain.{adr_inside}
-use Rattle.cdf_attrs.proofs.AttributeParts.{names_rechained, places_rechained}
-use Rattle.cdf_attrs.proofs.DroppedNumber.{keeps_now}
+use Rattle.cdf_attrs.proofs.DropHalf.{chain_left, keeps_dropped, keeps_taken}
 use Rattle.cdf_attrs.proofs.EntryChains.{entry_inside}
 use Rattle.cdf_attrs.proofs.EntryTakenAt.{all_from, as_long, places_are, small}
-use Rattle.cdf_attrs.proofs.LoweredChain.{lowers_chain}
-use Rattle.cdf_attrs.proofs.NumberGone.{number_gone, numbers_differ}
 
 -- entries for variables go with attributes of variables
 pub of_variables : (kind : Kind) (scope : Scope) → is_global scope ≡ false → is_wrong_scope (kind_of_entries kind) scope ≡ false
@@ -29,12 +25,6 @@ module _ (b : List ℕ) (adr : ℕ) (there : In adr (adrs (shape b))) where
 
   pub scoped : (kind : Kind) → is_global (scope_of (number b adr adr_scope)) ≡ false → IsScoped b (kind_of_entries kind) adr
   scoped kind e = record { number = length parts.fronts; own = parts.own; stands = stands; adr_is = parts.adr_is; in_scope = of_variables kind _ (subst (λ (a : ℕ). is_global (scope_of (number b a adr_scope)) ≡ false) (sym parts.adr_is) e) }
-
-pub chain_left : {b now : List ℕ} {kind : EntryKind} {adr num : ℕ} {entries left : KnownEntries} → entries.chain ≡ entries_chain kind adr → DropsNumber b now kind adr entries num left → left.chain ≡ entries_chain kind adr
-chain_left is drops = elim drops [
-  | inl none ↦ ap (λ (e : KnownEntries). e.chain) none.left_is ∙ is
-  | inr takes ↦ ap (λ (e : KnownEntries). e.chain) takes.left_is ∙ is
-]
 
 -- what is written of entries lies where they stand
 writes_lie : (b : List ℕ) (num : ℕ) (ns ps : List ℕ) → ((p : ℕ) → In p ps → p + 56 ≤ length b) → AllLie b (lower_writes num ns ps)
@@ -66,28 +56,8 @@ module _ {b : List ℕ} (good : Good b) (kind : EntryKind) (adr : ℕ) (there : 
   pub greatest_lies : LiesIn b adr (max_field kind)
   greatest_lies = let l = adr_inside b (shape b) (good_is_sound b good).has_shape adr there in let m = max_lies kind in omega arith
 
--- ---- the attributes beside their entries
-
 pub keeps_same : {b now : List ℕ} → now ≡ b → KeepsAttributes b now
 keeps_same same = record { names = ap (λ (x : List ℕ). attribute_names (content x)) same; places = ap (λ (x : List ℕ). adrs (shape x)) same; long = ap (λ (x : List ℕ). length x) same }
-
-pub keeps_taken : {b now : List ℕ} {kind : EntryKind} {adr num : ℕ} {entries left : KnownEntries} → Good b → IsScoped b kind adr → entries.chain ≡ entries_chain kind adr → KnowsEntries b entries → length b ≤ image_limit → DropsNumber b now kind adr entries num left → KeepsAttributes b now
-keeps_taken {num = num} {entries = entries} good scoped is knows short drops = elim drops [
-  | inl none ↦ keeps_same none.stays
-  | inr takes ↦ keeps_now good scoped entries is knows num takes.index takes.at takes.taken short
-]
-
--- the image when the numbers fell
-lowered : {mid now : List ℕ} (good : Good mid) {kind : EntryKind} {adr num : ℕ} (there : In adr (adrs (shape mid))) (left : KnownEntries) → left.chain ≡ entries_chain kind adr → KnowsEntries mid left → length mid ≤ image_limit → (In num left.numbers → ⊥) → Lowers mid now kind adr left num → Good now × KeepsAttributes mid now
-unfolding of_attribute
-lowered {mid} {now} good {kind} {adr} {num} there left is knows short none lowers = elim lowers [
-  | inl rests ↦ (subst Good (sym rests.1) good, keeps_same rests.1)
-  | inr falls ↦
-      let of = of_attribute mid adr there kind in
-      let q = lowers_chain good of left is knows short none (subst (λ (a : ℕ). LowersNumbers mid now kind a left num) (sym (parts mid adr there).adr_is) falls) in
-      let sound = good_is_sound mid good in
-      (good_lowered good short q, record { names = names_rechained sound (rechains good short q); places = places_rechained sound (rechains good short q); long = as_long_lowered good short q })
-]
 
 -- ---- what all of it comes to
 
@@ -97,7 +67,7 @@ pub record Dropping (b mid : List ℕ) (kind : Kind) (k : EntryKind) (adr num : 
   pub small : All (λ n. n ≤ signed_limit) left.numbers
   pub lie : AllLie mid (lower_writes num left.numbers left.places)
   pub field : LiesIn mid adr (max_field k)
-  pub drops : (now : List ℕ) → Lowers mid now k adr left num → is_global (scope_of (number b adr adr_scope)) ≡ false → DropsFrom b now (kind_of_entries kind) adr num
+  pub drops : (now : List ℕ) → Lowers mid now k adr left num → DropsFrom b now (kind_of_entries kind) adr num
   pub keeps : (now : List ℕ) → Lowers mid now k adr left num → Good now × KeepsAttributes b now
 
 module _ {b read loaded mid : List ℕ} (kind : Kind) {k : EntryKind} {adr num : ℕ} {chain : Chain} {scope : Scope} {entries left : KnownEntries} (good : Good b) (there : In adr (adrs (shape b))) (short : length b ≤ image_limit)
@@ -105,21 +75,19 @@ module _ {b read loaded mid : List ℕ} (kind : Kind) {k : EntryKind} {adr num :
     (same_loaded : loaded ≡ read) (is : entries.chain ≡ chain) (knows : KnowsEntries read entries) (drops : DropsNumber loaded mid k adr entries num left) (good_mid : Good mid) (left_knows : KnowsEntries mid left) where
   pub dropping : Dropping b mid kind k adr num left
   dropping =
-      let of_kind = subst (λ (x : EntryKind). IsScoped b x adr) (sym k_is) (scoped b adr there kind (subst (λ (s : Scope). is_global s ≡ false) scope_is own)) in
+      let has = scoped b adr there kind (subst (λ (s : Scope). is_global s ≡ false) scope_is own) in
+      let of_kind = subst (λ (x : EntryKind). IsScoped b x adr) (sym k_is) has in
       let of_chain = is ∙ chain_is in
       let known = subst (λ (x : List ℕ). KnowsEntries x entries) same knows in
       let dropped = subst (λ (x : List ℕ). DropsNumber x mid k adr entries num left) (same_loaded ∙ same) drops in
-      let taken = keeps_taken good of_kind of_chain known short dropped in
-      let there_mid = subst (In adr) (sym taken.places) there in
-      let left_is = chain_left of_chain dropped in
+      let there_mid = subst (In adr) (sym (keeps_taken good short of_kind of_chain known dropped).places) there in
+      let left_is = chain_left good short of_kind of_chain known dropped in
+      let from = λ (now : List ℕ) (low : Lowers mid now k adr left num). subst (λ (x : EntryKind). DropsFrom b now x adr num) k_is (record { entries = entries; chain_is = of_chain; known = known; mid = mid; left = left; drops = dropped; good = good_mid; left_known = left_knows; lowers = low }) in
       record {
         long = as_long good_mid (of_attribute mid adr there_mid k) left left_is left_knows;
         small = numbers_small good_mid k adr there_mid left left_is left_knows;
         lie = entries_lie good_mid k adr there_mid left left_is left_knows num;
         field = greatest_lies good_mid k adr there_mid left left_is left_knows;
-        drops = λ now lowers own. subst (λ (x : EntryKind). DropsFrom b now x adr num) k_is (record { entries = entries; chain_is = of_chain; known = known; mid = mid; left = left; drops = dropped; good = good_mid; left_known = left_knows; lowers = lowers });
-        keeps = λ now lowers.
-            let long = taken.long in
-            let r = lowered good_mid there_mid left left_is left_knows (omega arith) (number_gone (numbers_differ good (of_attribute b adr there k) entries of_chain known) dropped) lowers in
-            (r.0, record { names = r.1.names ∙ taken.names; places = r.1.places ∙ taken.places; long = r.1.long ∙ taken.long });
+        drops = from;
+        keeps = λ now low. keeps_dropped good short has (from now low);
       }

@@ -22,7 +22,7 @@ module _ {b : List ℕ} (good : Good b) {chain : Chain} (of : IsOfAttribute b ch
   places_of : es.places ≡ chain_of of.own of.kind
   places_of = places_are good of es is knows ∙ members b good chain of
 
-  numbers_of : es.numbers ≡ nums b (chain_of of.own of.kind)
+  pub numbers_of : es.numbers ≡ nums b (chain_of of.own of.kind)
   numbers_of = knows.numbers_are ∙ ap (nums b) places_of
 
   module _ {now : List ℕ} {num : ℕ} (short : length b ≤ image_limit) (none : In num es.numbers → ⊥) (l : LowersNumbers b now of.kind of.own.adr es num) where

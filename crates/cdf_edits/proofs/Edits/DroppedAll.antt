@@ -5,23 +5,16 @@ use Rattle.cdf_model.specs.declared.kinds.EntryKind.TheVariants as entries
 use Rattle.cdf_model.specs.declared.kinds.Kind.TheVariants as kinds
 use Rattle.std.proofs.Math.Seq.{take-length}
 use Rattle.std.proofs.lemmas.Option.{slice_get_within}
+use Rattle.std.proofs.lemmas.Simd.{map-map}
 use Rattle.cdf_edits.proofs.Edits.Common.{chain_has, each, got-map, no_acts, other_has, other_of, other_type}
 use Rattle.cdf_edits.specs.Commands.Variables.{NumbersFall, is_renumbered}
 use Rattle.cdf_edits.specs.Edits.DropsEntries.{AttributeKeeps}
 use Rattle.cdf_edits.proofs.Edits.DropChanges.{drops}
-use Rattle.cdf_edits.proofs.Edits.DroppedNext.{DropsUpTo}
-use Rattle.cdf_edits.proofs.Edits.EntriesEdited.{Change, Edited, Lasts, idle, stays_word}
+use Rattle.cdf_edits.proofs.Edits.DroppedNext.{DropsUpTo, dropping}
+use Rattle.cdf_edits.proofs.Edits.EntriesEdited.{Change, Edited, Lasts, attributes_agree, idle, stays_word}
 use Rattle.cdf_edits.proofs.Edits.EntriesSame.{adr_long, adr_typed, attributes_of, has_own}
 use Rattle.cdf_edits.proofs.Edits.FallenItems.{falls}
 use Rattle.cdf_edits.proofs.Edits.VariableDeleted.{greatest_field}
-
--- ---- lists
-
-maps_agree : (f g : AttributeShape → Attribute) (w : Attribute → Attribute) (xs ys : List AttributeShape) → length xs ≡ length ys → ((j : ℕ) (y : AttributeShape) → slice_get ys j ≡ Some y → (x : AttributeShape) × ((slice_get xs j ≡ Some x) × (f x ≡ w (g y)))) → map f xs ≡ map w (map g ys)
-maps_agree f g w [] [] long all = refl
-maps_agree f g w [] (y ∷ ys) long all = absurd (omega arith)
-maps_agree f g w (x ∷ xs) [] long all = absurd (omega arith)
-maps_agree f g w (x ∷ xs) (y ∷ ys) long all = let r = all 0 y refl in ap₂ (λ (a : Attribute) (as_ : List Attribute). a ∷ as_) (ap f (same_Some x r.0 r.1.0) ∙ r.1.1) (maps_agree f g w xs ys (omega arith) (λ j z at. all (suc j) z at))
 
 -- ---- by the kind
 
@@ -136,15 +129,13 @@ finish {b = b} {now = now} {found = found} d =
     let whole = take-length (shape b).attributes in
     let w = attribute_without found.kind found.number in
     let kind = kind_of_entries found.kind in
-    let edited : (j : ℕ) (a : AttributeShape) → slice_get (shape b).attributes j ≡ Some a → (a' : AttributeShape) × ((slice_get (shape now).attributes j ≡ Some a') × Edited b now kind (if not (is_global (attribute_of b a).scope) then drops b found.number kind a else idle) a a') = λ j a at.
-    let x = d.attributes j a at in
-    (x.0, (x.1.0, rw (lt-ltb j (length (shape b).attributes) (slice_get_within (shape b).attributes j a at)) at x.1.1)) in
+    let by_now : (j : ℕ) (a a' : AttributeShape) → slice_get (shape b).attributes j ≡ Some a → Edited b now kind (dropping b found (length (shape b).attributes) j a) a a' → Edited b now kind (if not (is_global (attribute_of b a).scope) then drops b found.number kind a else idle) a a' = λ j a a' at x. rw (lt-ltb j (length (shape b).attributes) (slice_get_within (shape b).attributes j a at)) at x in
     record {
       good = s.good;
       content_is = s.content_is ∙ ap (λ (as_ : List Attribute). record (content b) { attributes = as_ })
           (attributes_of now s.good
-          ∙ maps_agree (attribute_of now) (attribute_of b) w (shape now).attributes (shape b).attributes s.attributes_kept (λ j a at. let x = edited j a at in (x.0, (x.1.0, x.1.1.attribute_is ∙ without_is b a found.kind found.number (attribute_of b a) _ refl)))
-          ∙ sym (ap (map w) (attributes_of b s.was)));
+          ∙ attributes_agree d (attribute_of now) (λ a. w (attribute_of b a)) (λ j a a' at x. (by_now j a a' at x).attribute_is ∙ without_is b a found.kind found.number (attribute_of b a) _ refl)
+          ∙ sym (ap (map w) (attributes_of b s.was) ∙ map-map w (attribute_of b) (shape b).attributes));
       long = s.long;
       records_are = s.records_are;
       gdr_is = s.gdr_is;
@@ -153,8 +144,8 @@ finish {b = b} {now = now} {found = found} d =
       dropped = λ aedr i. d.dropped aedr (subst (λ (as_ : List AttributeShape). In aedr (entries_for b as_ found)) (sym whole) i);
       attributes_kept = s.attributes_kept;
       attributes = λ j a a' at at'.
-          let x = edited j a at in
-          subst (AttributeDropped b now found j a) (same_Some x.0 a' (sym x.1.0 ∙ at')) (dropped b now found j a x.0 s.was at _ refl x.1.1);
+          let x = d.attributes j a at in
+          subst (AttributeDropped b now found j a) (same_Some x.0 a' (sym x.1.0 ∙ at')) (dropped b now found j a x.0 s.was at _ refl (by_now j a x.0 at x.1.1));
       cdr_kept = s.cdr_kept;
       gdr_kept = s.gdr_kept;
       variables_kept = s.variables_kept;

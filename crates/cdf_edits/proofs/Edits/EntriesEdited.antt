@@ -1,6 +1,6 @@
 -- An image in which entries of a kind were edited, attribute by attribute, and all beside them stands: what every step on the way to `DropsEntries` comes to.
-use Rattle.std.proofs.Common.{◌≡◌, ◌⊎◌, ℕ, ◌+◌, ◌-◌, ◌≤◌, ◌<◌, List, [], ◌∷◌, ◌++◌, length, Bool, true, false, Some, sym, subst, arith}
-use Rattle.cdf_edits.proofs.Common.{slice_get, flat_map, Entry, EntryKind, Kind, entries_of, with_entries, Same, byte, attribute_of, content, integer4, number, size_at, type_at, word, word_kept, variable_records, Field, aedr_num, uir_next_uir, uir_prev_uir, uir_type, AttributeShape, HasShape, shape, In, Good, OutsideFields, Stays, shapes_of, space_fields, chain_of, greatest_number, max_field, IsDropped, Act, gave, ActsFollow, r_max_rec}
+use Rattle.std.proofs.Common.{◌≡◌, ◌⊎◌, ℕ, ◌+◌, ◌-◌, ◌≤◌, ◌<◌, List, [], ◌∷◌, ◌++◌, length, map, suc, Bool, true, false, Some, refl, sym, ap, ap₂, subst, ◌∙◌, arith}
+use Rattle.cdf_edits.proofs.Common.{same_Some, slice_get, flat_map, Entry, EntryKind, Kind, entries_of, with_entries, Same, byte, attribute_of, content, integer4, number, size_at, type_at, word, word_kept, variable_records, Field, aedr_num, uir_next_uir, uir_prev_uir, uir_type, AttributeShape, HasShape, shape, In, Good, OutsideFields, Stays, shapes_of, space_fields, chain_of, greatest_number, max_field, IsDropped, Act, gave, ActsFollow, r_max_rec}
 use Rattle.cdf_edits.proofs.Edits.Common.{other_of}
 
 -- a record that stays as it is does so but for some fields
@@ -79,3 +79,13 @@ pub record EditsEntries (b now : List ℕ) (kind : EntryKind) (change : ℕ → 
   pub acts : (first : List ℕ) (acts : List Act) → HasShape first (shape first) → ActsFollow first b acts → ActsFollow first now (acts ++ gave b gone)
   pub dropped : (aedr : ℕ) → In aedr gone → IsDropped b now aedr
   pub attributes : (k : ℕ) (a : AttributeShape) → slice_get (shape b).attributes k ≡ Some a → (a' : AttributeShape) × ((slice_get (shape now).attributes k ≡ Some a') × Edited b now kind (change k a) a a')
+
+-- what is told of each attribute before it is told of all
+maps_agree : {A : Type 0} (f g : AttributeShape → A) (xs ys : List AttributeShape) → length xs ≡ length ys → ((k : ℕ) (y : AttributeShape) → slice_get ys k ≡ Some y → (x : AttributeShape) × ((slice_get xs k ≡ Some x) × (f x ≡ g y))) → map f xs ≡ map g ys
+maps_agree f g [] [] long all = refl
+maps_agree f g [] (y ∷ ys) long all = absurd (omega arith)
+maps_agree f g (x ∷ xs) [] long all = absurd (omega arith)
+maps_agree f g (x ∷ xs) (y ∷ ys) long all = let r = all 0 y refl in ap₂ (λ a as_. a ∷ as_) (ap f (same_Some x r.0 r.1.0) ∙ r.1.1) (maps_agree f g xs ys (omega arith) (λ k z at. all (suc k) z at))
+
+pub attributes_agree : {A : Type 0} {b now : List ℕ} {kind : EntryKind} {change : ℕ → AttributeShape → Change} {gone : List ℕ} → EditsEntries b now kind change gone → (f g : AttributeShape → A) → ((k : ℕ) (a a' : AttributeShape) → slice_get (shape b).attributes k ≡ Some a → Edited b now kind (change k a) a a' → f a' ≡ g a) → map f (shape now).attributes ≡ map g (shape b).attributes
+attributes_agree {b = b} {now = now} e f g same = maps_agree f g (shape now).attributes (shape b).attributes e.stands.attributes_kept (λ k a at. let x = e.attributes k a at in (x.0, (x.1.0, same k a x.0 at x.1.1)))

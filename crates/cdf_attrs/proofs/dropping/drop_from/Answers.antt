@@ -1,4 +1,4 @@
-use Rattle.std.proofs.Common.{◌≡◌, ◌∙◌, ℕ, List, false, sym, subst, arith}
+use Rattle.std.proofs.Common.{rules, ◌≡◌, ◌∙◌, ℕ, List, false, sym, subst, arith}
 use Rattle.cdf_attrs.proofs.Common.{on_ok_weaker, good_is_sound, shape, Good, is_global, Scope, EntryKind, IsScoped, IsOfAttribute}
 use Rattle.cdf_attrs.proofs.AttributeChain.{adr_inside}
 use Rattle.cdf_attrs.proofs.DroppingFrom as from
@@ -35,17 +35,19 @@ lower_entries-requires g c =
     c.in_ok-entries.ensures.area.image c.in_ok-entries.ensures.chain c.in_ok-entries.ensures.entries c.in_ok-left.ensures.drops c.in_ok-left.ensures.good c.in_ok-left.ensures.left in
     record { long = d.long; small = d.small; lie = d.lie; field = d.field }
 
-pub returns-clause-dropped : goal.returns-clause-dropped
-returns-clause-dropped g c = on_ok_weaker c.lower_entries.result (λ lowers. (from.dropping c.args.kind c.requires.good c.requires.adr c.requires.short c.in_ok-scope.ensures.area.image c.in_ok-scope.ensures.scope (sym c.if-is_global.ensures) c.entries_of-kind.ensures c.entries_chain.ensures
-    c.in_ok-entries.ensures.area.image c.in_ok-entries.ensures.chain c.in_ok-entries.ensures.entries c.in_ok-left.ensures.drops c.in_ok-left.ensures.good c.in_ok-left.ensures.left).drops (g.A.Area.image c.lower_entries.new.area) lowers) c.lower_entries.ensures.lowers
-
-pub returns-clause-good : goal.returns-clause-good
-returns-clause-good g c = on_ok_weaker c.lower_entries.result (λ lowers. ((from.dropping c.args.kind c.requires.good c.requires.adr c.requires.short c.in_ok-scope.ensures.area.image c.in_ok-scope.ensures.scope (sym c.if-is_global.ensures) c.entries_of-kind.ensures c.entries_chain.ensures
-    c.in_ok-entries.ensures.area.image c.in_ok-entries.ensures.chain c.in_ok-entries.ensures.entries c.in_ok-left.ensures.drops c.in_ok-left.ensures.good c.in_ok-left.ensures.left).keeps (g.A.Area.image c.lower_entries.new.area) lowers).0) c.lower_entries.ensures.lowers
+pub returns : goal.returns
+returns g c =
+    let d = from.dropping c.args.kind c.requires.good c.requires.adr c.requires.short c.in_ok-scope.ensures.area.image c.in_ok-scope.ensures.scope (sym c.if-is_global.ensures) c.entries_of-kind.ensures c.entries_chain.ensures
+    c.in_ok-entries.ensures.area.image c.in_ok-entries.ensures.chain c.in_ok-entries.ensures.entries c.in_ok-left.ensures.drops c.in_ok-left.ensures.good c.in_ok-left.ensures.left in
+    let now = g.A.Area.image c.lower_entries.new.area in
+    let after = on_ok_weaker c.lower_entries.result (d.keeps now) c.lower_entries.ensures.lowers in
+    record {
+      global = search rules;
+      dropped = on_ok_weaker c.lower_entries.result (λ lowers own. d.drops now lowers) c.lower_entries.ensures.lowers;
+      good = on_ok_weaker c.lower_entries.result (λ k. k.0) after;
+      keeps = on_ok_weaker c.lower_entries.result (λ k. k.1) after;
+      area = search rules;
+    }
 
 pub returns-then-is_global-clause-keeps : goal.returns-then-is_global-clause-keeps
 returns-then-is_global-clause-keeps g c = from.keeps_same c.in_ok-scope.ensures.area.image
-
-pub returns-clause-keeps : goal.returns-clause-keeps
-returns-clause-keeps g c = on_ok_weaker c.lower_entries.result (λ lowers. ((from.dropping c.args.kind c.requires.good c.requires.adr c.requires.short c.in_ok-scope.ensures.area.image c.in_ok-scope.ensures.scope (sym c.if-is_global.ensures) c.entries_of-kind.ensures c.entries_chain.ensures
-    c.in_ok-entries.ensures.area.image c.in_ok-entries.ensures.chain c.in_ok-entries.ensures.entries c.in_ok-left.ensures.drops c.in_ok-left.ensures.good c.in_ok-left.ensures.left).keeps (g.A.Area.image c.lower_entries.new.area) lowers).1) c.lower_entries.ensures.lowers
