@@ -39,14 +39,10 @@ pub use Rattle.cdf_edits.proofs.Edits.ChainKinds.{adr_of, chain_in}
 pub use Rattle.cdf_edits.proofs.Edits.ChainSpliced.{Rechains, entry_stays}
 pub use Rattle.cdf_edits.proofs.Edits.ChainsOfShape.{has_chain, members_are}
 pub use Rattle.cdf_edits.proofs.Edits.DeletedAttribute.{own}
-pub use Rattle.cdf_edits.proofs.Edits.DropChanges.{drops, drops_both, lowers, numbered, takes}
-pub use Rattle.cdf_edits.proofs.Edits.DroppedAll.{finish}
-pub use Rattle.cdf_edits.proofs.Edits.DroppedNext.{DropsUpTo, next_dropped, next_global, start, still_scoped, still_there}
-pub use Rattle.cdf_edits.proofs.Edits.EntriesEdited.{Change, EditsEntries, attributes_agree}
-pub use Rattle.cdf_edits.proofs.Edits.EntriesRechained.{edits_rest, only_at}
-pub use Rattle.cdf_edits.proofs.Edits.EntriesSame.{Rests, attributes_of}
+pub use Rattle.cdf_edits.proofs.Edits.DroppedEntries.{DropsUpTo, drops, drops_both, finish, lowers, next_dropped, next_global, numbered, start, still_scoped, still_there, takes}
+pub use Rattle.cdf_edits.proofs.Edits.EntriesEdited.{Change, EditsEntries, Rests, attributes_agree, attributes_of, edits_rest, only_at}
 pub use Rattle.cdf_edits.proofs.Edits.EntryFields.{count_is, max_lies, max_written, of_shape}
-pub use Rattle.cdf_edits.proofs.Edits.FallenEntries.{LowersChain}
+pub use Rattle.cdf_edits.proofs.Edits.FallenEntries.{LowersChain, numbers_fell}
 pub use Rattle.cdf_edits.proofs.Edits.FreedEntry.{Frees, all_marks, count_same, freed_bytes, freed_rechains, freed_settled, greatest_same, old_free, old_stands, sound_late}
 pub use Rattle.cdf_edits.proofs.Edits.JoinedRecord.{ends, new_in, new_type}
 pub use Rattle.cdf_edits.proofs.Edits.LeftEntry.{LeavesChain, left_frees, left_members}

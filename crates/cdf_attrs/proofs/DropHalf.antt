@@ -1,10 +1,9 @@
 -- What an attribute of variables drops, from what was written: the entry of a number goes, and then the greater numbers fall.
 use Rattle.std.proofs.Common.{◌≡◌, ℕ, ◌≤◌, ◌++◌, List, [], ◌∷◌, Bool, length, Some, true, false, eq-eqb, refl, sym, ap, subst, ◌∙◌, arith, inl, inr, map}
-use Rattle.cdf_attrs.proofs.Common.{Attribute, AttributeShape, Chain, Change, DropsFrom, DropsNumber, EditsEntries, Entry, EntryKind, Good, In, IsOfAttribute, IsScoped, KeepsAttributes, KnownEntries, KnowsEntries, Lowers, LowersNumbers, TakenAt, aedr_num, attribute_of, attributes_agree, attributes_of, chain_of, closed_up, drops, drops_both, edits_rest, either, entries_chain, entries_of, greatest_number, image_limit, items_of, le-ltb, list_any, lowers, lt-ltb, nat_lt, ne_eqb, num_in, number, numbered, nums, only_at, position, shape, takes, without, ◌==◌}
+use Rattle.cdf_attrs.proofs.Common.{numbers_fell, Attribute, AttributeShape, Chain, Change, DropsFrom, DropsNumber, EditsEntries, Entry, EntryKind, Good, In, IsOfAttribute, IsScoped, KeepsAttributes, KnownEntries, KnowsEntries, Lowers, LowersNumbers, TakenAt, aedr_num, attribute_of, attributes_agree, attributes_of, chain_of, closed_up, drops, drops_both, edits_rest, either, entries_chain, entries_of, greatest_number, image_limit, items_of, le-ltb, list_any, lowers, lt-ltb, nat_lt, ne_eqb, num_in, number, numbered, nums, only_at, position, shape, takes, without, ◌==◌}
 use Rattle.cdf_edits.proofs.Edits.ChainEntries.{none_numbered as without_none}
 use Rattle.cdf_edits.proofs.Edits.EntryTakenStep as step
 use Rattle.cdf_edits.proofs.Edits.FallenItems.{entries_closed, rests}
-use Rattle.cdf_edits.proofs.Edits.NumbersFallStep as fall
 use Rattle.std.proofs.lemmas.Simd.{map-map}
 use Rattle.cdf_attrs.proofs.AttributeParts.{name_stays}
 use Rattle.cdf_attrs.proofs.EntryDeleted as deleted
@@ -87,7 +86,7 @@ module _ {b : List ℕ} (good : Good b) {chain : Chain} (of : IsOfAttribute b ch
 
     lowers_some : {now : List ℕ} → length b ≤ image_limit → LowersNumbers b now kind of.own.adr es num → EditsEntries b now kind (only_at of.number (lowers b num kind)) []
     lowers_some {now} short l = subst (λ (n : ℕ). EditsEntries b now kind (only_at n (lowers b num kind)) []) (parts of).count
-        (fall.lowered good short (lowered.lowers_chain good of es is knows short none l) (any (nat_lt num) l.some.0 l.some.1.0 (lt-ltb num l.some.0 l.some.1.1)) (lowered.greatest_now good of es is knows short none l))
+        (numbers_fell good short (lowered.lowers_chain good of es is knows short none l) (any (nat_lt num) l.some.0 l.some.1.0 (lt-ltb num l.some.0 l.some.1.1)) (lowered.greatest_now good of es is knows short none l))
 
     lowers_numbers : {now : List ℕ} → length b ≤ image_limit → Lowers b now kind of.own.adr es num → EditsEntries b now kind (only_at of.number (lowers b num kind)) []
     lowers_numbers short done = elim done [

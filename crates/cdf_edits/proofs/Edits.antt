@@ -20,7 +20,6 @@ pub mod EmptiedVdr
 pub mod EmptySet
 pub mod EntryFields
 pub mod EntryTakenStep
-pub mod NumbersFallStep
 pub mod FallenEntries
 pub mod FallenItems
 pub mod FieldWritten
@@ -77,12 +76,7 @@ pub mod VdrWritten
 pub mod WrittenEntries
 pub mod WrittenFields
 pub mod EntriesEdited
-pub mod EntriesThen
-pub mod DroppedAll
-pub mod DropChanges
-pub mod EntriesRechained
-pub mod EntriesSame
-pub mod DroppedNext
+pub mod DroppedEntries
 pub mod NumberedLookup
 pub mod LeafRecords
 pub mod RecordsPut

@@ -6,6 +6,7 @@ pub use Rattle.cdf_edits.proofs.Edits.ActsStill.{acts_still_by}
 pub use Rattle.cdf_edits.proofs.Edits.ActsThen.{acts_gave, gave-same}
 pub use Rattle.cdf_edits.proofs.Edits.ChainKept.{records_are}
 pub use Rattle.cdf_edits.proofs.Edits.ChainKinds.{adr_of, chain_has, chain_in, other_has, other_in, other_of, other_type}
+pub use Rattle.cdf_edits.proofs.Edits.ChainFollowed.{chain_now}
 pub use Rattle.cdf_edits.proofs.Edits.ChainOwners.{IsHeld, not_twice_kept}
 pub use Rattle.cdf_edits.proofs.Edits.ChainSpliced.{Rechains, adr_in, adr_start, adr_typed, after_away, after_in, attribute_now, before_away, before_in, clear_file, file_now, now_is, num_same, other_kept, splices, there}
 pub use Rattle.cdf_edits.proofs.Edits.ChainsOfShape.{has_chain, members_are}

@@ -1,20 +1,19 @@
 -- An entry is taken out of one chain of an attribute and freed: the image is good, all beside the chain stands, and the acts before go on.
 use Rattle.std.proofs.Common.{◌≡◌, ◌≢◌, ℕ, ◌+◌, ◌≤◌, List, [], ◌∷◌, ◌++◌, length, true, false, eq-eqb, refl, sym, ap, ap₂, subst, ◌∙◌, arith, inl, inr}
-use Rattle.std.proofs.lemmas.Bool.{eqb-false}
 use Rattle.cdf_edits.proofs.Common.{cases_eq, ne_eqb, ◌==◌, Same, adr_type, field_marks, holder_type, linkable-long, type_in, unmarked, EntryKind, entries_of, image_limit, without, next_field, next_of, attribute_of, integer4, number, size_at, type_at, aedr_num, gdr_type, uir_type, AttributeShape, HasShape, Shape, shape, IsSound, In, Distinct, Good, size_kept, type_kept, linkable-in, linkable-type, good_is_sound, tile_lies, Stays, chain_of, entry_type, greatest_number, max_field, IsDropped, count_field, entries_chain, with_chain, Away, giving_marks, ActsFollow, Act, Gave, gave, members_of, Gives}
-use Rattle.cdf_model.specs.declared.kinds.EntryKind.TheVariants as entries
-use Rattle.cdf_edits.specs.Space.Chains.{without as left_of}
-use Rattle.cdf_edits.proofs.Edits.Common.{Away-append, Kept, KeptButLink, acts_still_by, apart, chain_has, differ_before, edit_then, has_chain, kept, late_size, late_type, members_are, of_shape, same-then, the_one, there, unmarked-away}
 use Rattle.cdf_edits.proofs.Edits.ActsThen.{acts_gave, was_listed}
-use Rattle.cdf_edits.proofs.Edits.EntriesEdited.{EditsEntries, EntryEdited, stays_more}
-use Rattle.cdf_edits.proofs.Edits.EntriesRechained.{StandTests, chain_is, edited, kept_stays, only_at}
 use Rattle.cdf_edits.proofs.Edits.ChainEdits.{removed_keeps}
+use Rattle.cdf_edits.proofs.Edits.ChainEntries.{num_in, nums}
 use Rattle.cdf_edits.proofs.Edits.ChainKept.{link_allowed}
-use Rattle.cdf_edits.proofs.Edits.DropChanges.{link_field, numbered, takes}
+use Rattle.cdf_edits.proofs.Edits.Common.{chain_now, Away-append, Kept, KeptButLink, acts_still_by, apart, chain_has, differ_before, edit_then, has_chain, kept, late_size, late_type, members_are, of_shape, same-then, the_one, there, unmarked-away}
+use Rattle.cdf_edits.proofs.Edits.DroppedEntries.{link_field, numbered, takes}
+use Rattle.cdf_edits.proofs.Edits.EntriesEdited.{EditsEntries, EntryEdited, stays_more, StandTests, edited, kept_stays, only_at}
 use Rattle.cdf_edits.proofs.Edits.FreedEntry.{all_marks, freed_behind, freed_type, old_stands, other_kept as entry_kept, sound_late}
 use Rattle.cdf_edits.proofs.Edits.LeftEntry.{LeavesChain, as_long, edit, late_is, leaving, left_acts, marks, old_ok, second, tests, third}
-use Rattle.cdf_edits.proofs.Edits.ChainEntries.{num_in, nums}
 use Rattle.cdf_edits.proofs.Edits.TakenEntry.{f, good_now, items_left, long_now, others, r}
+use Rattle.cdf_edits.specs.Space.Chains.{without as left_of}
+use Rattle.std.proofs.lemmas.Bool.{eqb-false}
+use Rattle.cdf_model.specs.declared.kinds.EntryKind.TheVariants as entries
 
 -- ---- the chain
 
@@ -43,8 +42,8 @@ one_numbered b num old (e ∷ es) d (inr i) is =
 -- ---- the marks, by the kind
 
 taken_tests : (kind : EntryKind) (adr : ℕ) (members list : List ℕ) (old size : ℕ) → StandTests (leaving kind adr members ++ giving_marks list (entry_type kind) old size) kind
-taken_tests entries.Z adr members list old size = record { adr_within = refl; gdr_within = refl; uir_start = refl; uir_within = refl; r_max = refl; variables = refl }
-taken_tests kind adr members list old size = record { adr_within = refl; gdr_within = refl; uir_start = refl; uir_within = refl; r_max = refl; variables = refl }
+taken_tests entries.Z adr members list old size = record { adr_within = refl; gdr_within = refl; uir_start = refl; uir_within = refl; r_max = refl }
+taken_tests kind adr members list old size = record { adr_within = refl; gdr_within = refl; uir_start = refl; uir_within = refl; r_max = refl }
 
 -- the holder of the chain is no member, and later edits leave the members
 no_holder : (kind : EntryKind) (adr : ℕ) → (type_in (entries_chain kind adr) ≢ holder_type (entries_chain kind adr)) × (unmarked (field_marks adr_type adr (count_field kind) ++ field_marks adr_type adr (max_field kind)) (entry_type kind) ≡ true)
@@ -107,7 +106,7 @@ module _ {b late now : List ℕ} {kind : EntryKind} {before : List AttributeShap
         let is = linkable-in b (shape b).records (entry_type kind) m ok in
         let live : KeptButLink b now m = (r good q gives).live m i (λ j. ne (the_one old m j)) in
         record {
-          member = subst (In m) (sym (chain_is kind own (left_of old (chain_of own kind)))) (stays_left old m (chain_of own kind) i ne);
+          member = subst (In m) (sym (chain_now kind own (left_of old (chain_of own kind)))) (stays_left old m (chain_of own kind) i ne);
           lasts = elim (cases_eq (next_of b m) old) [
             | inl e ↦ (subst (Stays b now m) (sym (links m e)) (link_allowed sound (r good q gives) m is live), late_type b now m live)
             | inr apart_ ↦

@@ -1,16 +1,19 @@
 -- Entries of a chain get numbers less by one, where they are greater than one that none has, and the greatest number of the chain is written.
-use Rattle.std.proofs.Common.{◌≡◌, ℕ, ℤ, ◌-◌, ◌<◌, ◌≤◌, ◌^◌, List, [], ◌∷◌, ◌++◌, length, map, refl, sym, ap, subst, ◌∙◌, arith, inl, inr, ◌+◌}
-use Rattle.cdf_edits.proofs.Common.{w32, cast_unsigned, FitsSigned, integer4, cases_lt, lt-ltb, le-leb, leb-true, filter, ◌==◌, nat_lt, EntryKind, entries_of, image_limit, record_number_limit, closed_up, entry_rows, attribute_of, number, size_at, type_at, with_field, aedr_num, Hold, AttributeShape, Each, shape, IsSound, In, Distinct, Good, number_kept, good_is_sound, filter-in, tile_lies, chain_of, entry_type, max_field, Edit, fallen, Among, Mark, mark, Write, write, with_writes, word_kept, aedr_attr_num}
-use Rattle.cdf_format.specs.Content.{entries_of as chain_items}
+use Rattle.std.proofs.Common.{◌≡◌, ℕ, ℤ, ◌-◌, ◌<◌, ◌≤◌, ◌^◌, List, [], ◌∷◌, ◌++◌, length, map, refl, sym, ap, subst, ◌∙◌, arith, inl, inr, ◌+◌, true, append-nil}
+use Rattle.cdf_edits.proofs.Common.{w32, cast_unsigned, FitsSigned, integer4, cases_lt, lt-ltb, le-leb, leb-true, filter, ◌==◌, nat_lt, EntryKind, entries_of, image_limit, record_number_limit, closed_up, entry_rows, attribute_of, number, size_at, type_at, with_field, aedr_num, Hold, AttributeShape, Each, shape, IsSound, In, Distinct, Good, number_kept, good_is_sound, filter-in, tile_lies, chain_of, entry_type, max_field, Edit, fallen, Among, Mark, mark, Write, write, with_writes, word_kept, aedr_attr_num, le-ltb, uir_type, Shape, Only, Stays, ActsFollow, greatest_number, with_chain}
 use Rattle.cdf_edits.proofs.Edits.ChainEntries.{nums}
-use Rattle.cdf_edits.proofs.Edits.Common.{Rechains, chain_has, file_now, filter-distinct, filter-keeps, filter-says, num_same, some_bytes}
-use Rattle.cdf_edits.proofs.Edits.FallenItems.{EntryFell, entries_closed, fallen_distinct, fallen_under, falls, rests, nums_fell}
 use Rattle.cdf_edits.proofs.Edits.ChainMembers.{IsAmong, member, member_fits, own_there}
+use Rattle.cdf_edits.proofs.Edits.Common.{chain_now, Rechains, chain_has, file_now, filter-distinct, filter-keeps, filter-says, num_same, some_bytes, acts_still_by, keeps_away, keeps_within, now_is, type_stays, unmarked-away}
+use Rattle.cdf_edits.proofs.Edits.DroppedEntries.{lowers, number_field}
+use Rattle.cdf_edits.proofs.Edits.EntriesEdited.{EditsEntries, EntryEdited, StandTests, edited, only_at, same_records}
+use Rattle.cdf_edits.proofs.Edits.FallenItems.{EntryFell, entries_closed, fallen_distinct, fallen_under, falls, rests, nums_fell}
 use Rattle.cdf_edits.proofs.Edits.OneChain.{counted_before, differ_before, good_settled, items_of, rules_before}
 use Rattle.cdf_edits.proofs.Edits.WrittenEntries.{WriteTests, WritesChain, as_long as as_long_written, count_now as count_written, edit as edit_written, greatest_now as greatest_written, mid_kept, mid_size, part_beside, size_now, rechains as rechains_written, settled as settled_written, write_tests, writing}
-use Rattle.std.proofs.lemmas.Bool.{ltb-true}
 use Rattle.cdf_edits.proofs.Edits.WrittenFields.{MayWrite, others_keep, writes_edit, writes_long, writes_say, written_tiles}
 use Rattle.cdf_edits.proofs.Frame.Meaning.{EntryMeans, entry_means}
+use Rattle.cdf_format.specs.Content.{entries_of as chain_items}
+use Rattle.std.proofs.lemmas.Bool.{ltb-true}
+use Rattle.cdf_model.specs.declared.kinds.EntryKind.TheVariants as entries
 
 abbrev pub falling : EntryKind → ℕ → List ℕ → List Mark
 falling kind adr es = writing kind adr es aedr_num
@@ -39,6 +42,10 @@ of_write : (b : List ℕ) (es : List ℕ) (P : Write → Type 0) (m : ℕ) → I
 of_write b [] P m i all = absurd i
 of_write b (e ∷ es) P m (inl q) all = subst (λ (x : ℕ). P (write x aedr_num (number b x aedr_num - 1))) (sym q) all.0
 of_write b (e ∷ es) P m (inr i) all = of_write b es P m i all.1
+
+stand_tests : (kind : EntryKind) (adr : ℕ) (es : List ℕ) → StandTests (falling kind adr es) kind
+stand_tests entries.Z adr es = record { adr_within = refl; gdr_within = refl; uir_start = refl; uir_within = refl; r_max = refl }
+stand_tests kind adr es = record { adr_within = refl; gdr_within = refl; uir_start = refl; uir_within = refl; r_max = refl }
 
 -- the greater numbers of the chain were written less by one, and then its greatest number
 pub record LowersChain (b now : List ℕ) (kind : EntryKind) (before : List AttributeShape) (own : AttributeShape) (after : List AttributeShape) (num : ℕ) : Type 0 where
@@ -176,3 +183,35 @@ module _ {b now : List ℕ} {kind : EntryKind} {before : List AttributeShape} {o
   pub good_lowered : Good now
   unfolding rechains
   good_lowered = good_settled sound rechains good (count_written sound w ∙ counted_before sound rechains good) (subst Distinct (sym nums_now) (fallen_distinct num (nums b chain) q.none (differ_before sound rechains good))) rules_now (settled_written sound w {need = 0} good) (omega arith)
+
+  -- ---- its entries are edited
+
+  same_list : (shape now).unused ≡ (shape b).unused
+  same_list = ap (λ (x : Shape). x.unused) (now_is sound rechains)
+
+  -- ---- the entries
+
+  num_stays : (m : ℕ) → In m chain → Stays b now m (aedr_num ∷ [])
+  num_stays m i =
+      let other = (t).other in
+      keeps_within sound rechains.edit (same_records good rechains) m (entry_type kind) (aedr_num ∷ []) (entry_in m i) (entry_typed m i) ((λ same lies. inl (omega arith)), ((λ same lies. absurd (other same)), tt)) ((λ same lies. refl), ((λ same lies. absurd (other same)), tt))
+
+  entry_falls : (m : ℕ) → In m chain → EntryEdited b now (with_chain own kind chain) kind m (number_field num (number b m aedr_num)) (fallen num (number b m aedr_num))
+  entry_falls m i = record {
+    member = subst (In m) (sym (chain_now kind own chain)) i;
+    lasts = (
+      elim (cases_lt num (number b m aedr_num)) [
+        | inl lt ↦ rw (lt-ltb num (number b m aedr_num) lt) (num_stays m i)
+        | inr le ↦ rw (le-ltb num (number b m aedr_num) le) (keeps_away sound rechains.edit (same_records good rechains) m (entry_type kind) (Only []) (entry_in m i) (entry_typed m i)
+            ((λ same lies. let lt = later_above b num chain m lies in absurd (omega arith)), ((λ same lies. (t).other same), tt)))
+      ],
+      type_stays b now m (aedr_num ∷ []) (num_stays m i) (let l = long_enough m i in omega arith) (λ n l. (inl (omega arith), tt)),
+    );
+    num_is = (fell m i).num_is;
+  }
+
+  -- some number is greater
+  pub numbers_fell : (lowers b num kind own).writes ≡ true → integer4 now own.adr (max_field kind) ≡ greatest_number (closed_up num num (entries_of (attribute_of b own) kind)) → EditsEntries b now kind (only_at (length before) (lowers b num kind)) []
+  numbers_fell writes greatest = edited good rechains (stand_tests kind own.adr (those)) (good_lowered) (as_long)
+      (λ m i typed out. (unmarked-away (falling kind own.adr (those)) uir_type m (t).unused, λ j. out (subst (In m) same_list j))) (lowers b num kind) refl refl (entries_now) writes greatest (λ m i stays. entry_falls m i)
+      (λ first acts shaped so_far. subst (ActsFollow first now) (sym (append-nil acts)) (acts_still_by sound so_far (edit) (t).unused (same_records good rechains) same_list (as_long))) (λ m i. absurd i)
