@@ -1,8 +1,7 @@
 -- The numbers of entries that are less by one: index by index, the greatest of them, and where they are written.
 use Rattle.std.proofs.Common.{◌≡◌, ℕ, ◌+◌, ◌-◌, ◌<◌, ◌≤◌, List, [], ◌∷◌, All, Contains, drop, get_or, length, map, w32, refl, ap, ◌∙◌, arith}
-use Rattle.std.proofs.lemmas.List.{drop_more, get_or-map}
 use Rattle.std.proofs.lemmas.List.Elements.{All-map}
-use Rattle.cdf_attrs.proofs.Common.{cast_signed, length-map, lt-ltb, nat_tests, nat_lt, if◌then◌else◌, signed_limit, AllLie, lower_writes, IsGreatest, fallen, length-with_field, LiesIn, with_field, Write, with_writes, write, Field, aedr_num}
+use Rattle.cdf_attrs.proofs.Common.{cast_signed, length-map, lt-ltb, nat_tests, nat_lt, if◌then◌else◌, signed_limit, AllLie, lower_writes, IsGreatest, fallen, length-with_field, LiesIn, with_field, Write, with_writes, write, Field, aedr_num, drop_more, get_or-map}
 use Rattle.cdf_attrs.proofs.DeletingSteps.{lie_still}
 use Rattle.cdf_attrs.proofs.GreatestNumber.{as_greatest}
 

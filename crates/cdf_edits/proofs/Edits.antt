@@ -21,7 +21,6 @@ pub mod EmptySet
 pub mod EntryFields
 pub mod EntryTakenStep
 pub mod FallenEntries
-pub mod FallenItems
 pub mod FieldWritten
 pub mod FirstRecords
 pub mod FreedAfter

@@ -3,8 +3,8 @@ pub use Rattle.cdf_edits.proofs.Commands.KeptRecords.{AllKeep-append, keep_attri
 pub use Rattle.cdf_edits.proofs.Commands.ListParts.{Cut, got-map}
 pub use Rattle.cdf_edits.proofs.Commands.TypeCodes.{code_small, type_back}
 pub use Rattle.cdf_edits.proofs.Edits.ActsStill.{acts_still_by}
-pub use Rattle.cdf_edits.proofs.Edits.ActsThen.{acts_gave, gave-same}
-pub use Rattle.cdf_edits.proofs.Edits.ChainKept.{records_are}
+pub use Rattle.cdf_edits.proofs.Edits.ActsThen.{acts_gave, gave-same, was_listed}
+pub use Rattle.cdf_edits.proofs.Edits.ChainKept.{records_are, link_allowed}
 pub use Rattle.cdf_edits.proofs.Edits.ChainKinds.{adr_of, chain_has, chain_in, other_has, other_in, other_of, other_type}
 pub use Rattle.cdf_edits.proofs.Edits.ChainFollowed.{chain_now}
 pub use Rattle.cdf_edits.proofs.Edits.ChainOwners.{IsHeld, not_twice_kept}
@@ -18,7 +18,7 @@ pub use Rattle.cdf_edits.proofs.Edits.FreedRecord.{IsPlain}
 pub use Rattle.cdf_edits.proofs.Edits.FreedRecords.{sizes_by_tiles}
 pub use Rattle.cdf_edits.proofs.Edits.MadeRecord.{end_now, fresh, list_chain, made_edit, made_keeps_unused, made_part, made_size, made_type, unowned}
 pub use Rattle.cdf_edits.proofs.Edits.MarkLemmas.{Avoids-append, Away-append, Within-append, all_unmarked-away, avoided-avoids, ended-avoids, the_one, unmarked-away, within-within}
-pub use Rattle.cdf_edits.proofs.Edits.OneChain.{differ_before}
+pub use Rattle.cdf_edits.proofs.Edits.OneChain.{differ_before, got_middle, items_with, counted_before, good_settled, items_of, rules_before}
 pub use Rattle.cdf_edits.proofs.Edits.OneSpliced.{content_replaced}
 pub use Rattle.cdf_edits.proofs.Edits.OwnedOnce.{IsSorted, all_attributes_in, none_in_use, owned_once_if, unused_none, used_times}
 pub use Rattle.cdf_edits.proofs.Edits.OwnersKept.{all_keep, keep_all, keep_file, keep_unused, keeps_away, keeps_fields, keeps_within, stood}
@@ -34,7 +34,7 @@ pub use Rattle.cdf_edits.proofs.Edits.VariableNames.{apart_if}
 pub use Rattle.cdf_edits.proofs.Edits.VariableSplice.{OwnRules, VariableSplices, attributes_kept, content_now, good_image_if, keeps_all_attributes, shape_now, sound_if}
 pub use Rattle.cdf_edits.proofs.Edits.VdrEdited.{EditsVdr, MarkTests, StandsAmong, behind_in, behind_kept, file, fits, has, long, sound, through, tile, typed}
 pub use Rattle.cdf_edits.proofs.Frame.ChangedBytes.{changed_put}
-pub use Rattle.cdf_edits.proofs.Frame.Meaning.{FileSame, Kept, KeptButLink, but_link, late_size, late_type, pad_long, pad_width}
+pub use Rattle.cdf_edits.proofs.Frame.Meaning.{FileSame, Kept, KeptButLink, but_link, late_size, late_type, pad_long, pad_width, EntryMeans, entry_means}
 pub use Rattle.cdf_edits.proofs.Frame.OwnersApart.{all_attribute_records, all_variable_records, owned-times, times-append}
 pub use Rattle.cdf_edits.proofs.Frame.VdrCopied.{Copied, VdrCopied, pad_field_copied, type_copied, value_copied, word_copied}
 pub use Rattle.cdf_edits.proofs.Rules.FirstHead.{FirstSays, first_hold, first_said}
@@ -42,3 +42,5 @@ pub use Rattle.cdf_edits.proofs.Space.ActsLeave.{each, no_acts, places-sized}
 pub use Rattle.cdf_edits.proofs.Space.LaidOut.{placed_says, says_kept}
 pub use Rattle.cdf_edits.proofs.Space.TakenFromList.{leads_rest, same_link}
 pub use Rattle.cdf_edits.proofs.Space.UsedRecords.{apart, filter-distinct, filter-keeps, filter-says}
+pub use Rattle.cdf_edits.proofs.Edits.VariableDeleted.{adr_at, each_at, greatest_field, least_entry}
+pub use Rattle.cdf_edits.proofs.Edits.ChainEntries.{nums, num_in}

@@ -1,17 +1,10 @@
 -- Attributes drop their entries for a variable, one after the other: what it does to each, and that it leads to `DropsEntries`.
 use Rattle.std.proofs.Common.{◌≡◌, ℕ, ◌+◌, ◌-◌, List, [], ◌∷◌, ◌++◌, map, Bool, false, eq-eqb, refl, sym, ap, subst, ◌∙◌, arith, inl, inr, ◌≢◌, ◌⊎◌, suc, ◌≤◌, true, Some, eqb, ap₂, ◌<◌, length, Option, None}
-use Rattle.cdf_edits.proofs.Common.{cases_eq, ne_eqb, nat_tests, filter, list_any, not, ◌&&◌, ◌||◌, ◌==◌, nat_le, nat_lt, if◌then◌else◌, Attribute, Entry, EntryKind, entries_of, closed_up, without, next_field, next_of, attribute_of, number, Field, aedr_num, AttributeShape, either, OutsideFields, chain_fields, chain_of, fields_beside, fallen, le-ltb, lt-ltb, same_Some, slice_get, take, Found, is_global, Leads, shape, In, Good, In-append, filter-in, Stays, kind_of_entries, entries_for, cast_signed, w32, Kind, with_entries, attribute_without, content, integer4, adr_type, linkable-type, good_is_sound, Anything, Keeps, Only, GreatestIs, entry_type, max_field, share_chain, entries_allowance, is_global_attribute, AttributeDropped, DropsEntries, IsDropped, gave, ActsFollow}
-use Rattle.cdf_edits.proofs.Edits.Common.{chain_has, each, got-map, no_acts, other_has, other_of, other_type}
+use Rattle.cdf_edits.proofs.Common.{cases_eq, ne_eqb, nat_tests, filter, list_any, not, ◌&&◌, ◌||◌, ◌==◌, nat_le, nat_lt, if◌then◌else◌, Attribute, Entry, EntryKind, entries_of, closed_up, without, next_field, next_of, attribute_of, number, Field, aedr_num, AttributeShape, either, OutsideFields, chain_fields, chain_of, fields_beside, fallen, le-ltb, lt-ltb, same_Some, slice_get, take, Found, is_global, Leads, shape, In, Good, In-append, filter-in, Stays, kind_of_entries, entries_for, cast_signed, w32, Kind, with_entries, attribute_without, content, integer4, adr_type, linkable-type, good_is_sound, Anything, Keeps, Only, GreatestIs, entry_type, max_field, share_chain, entries_allowance, is_global_attribute, AttributeDropped, DropsEntries, IsDropped, gave, ActsFollow, take-suc, take-length, get_or_from_slice_get, slice_get_within, NumbersFall, is_renumbered, AttributeKeeps}
+use Rattle.cdf_edits.proofs.Edits.Common.{chain_has, each, got-map, no_acts, other_has, other_of, other_type, items_with, greatest_field}
 use Rattle.cdf_edits.proofs.Edits.EntriesEdited.{Change, EditsEntries, Edited, idle, Lasts, attributes_agree, stays_word, only_at, edits_same, entry_same, has_own, with_own, adr_long, is_adr, attributes_of, Joins, edits_then}
-use Rattle.cdf_edits.proofs.Edits.FallenItems.{falls}
-use Rattle.cdf_edits.proofs.Edits.OneChain.{items_with}
-use Rattle.cdf_edits.proofs.Edits.VariableDeleted.{greatest_field}
 use Rattle.cdf_edits.proofs.Frame.SoundStays.{filter_same}
-use Rattle.cdf_edits.specs.Commands.Variables.{NumbersFall, is_renumbered}
-use Rattle.cdf_edits.specs.Edits.DropsEntries.{AttributeKeeps}
-use Rattle.std.proofs.Math.Seq.{take-suc, take-length}
 use Rattle.std.proofs.lemmas.Grind.{flat_map-append}
-use Rattle.std.proofs.lemmas.Option.{get_or_from_slice_get, slice_get_within}
 use Rattle.std.proofs.lemmas.Simd.{map-map}
 use Rattle.cdf_model.specs.declared.kinds.EntryKind.TheVariants as entries
 use Rattle.cdf_model.specs.declared.kinds.Kind.TheVariants as kinds
@@ -35,7 +28,10 @@ lowers b num kind a = record { rests = false; adr = chain_fields kind; goes = λ
 abbrev pub drops : List ℕ → ℕ → EntryKind → AttributeShape → Change
 drops b num kind a = record { rests = false; adr = chain_fields kind; goes = λ n. n == num; falls = fallen num; fields = fields_beside b num; items = closed_up num num; writes = list_any (λ pair. nat_le num pair.0) (entries_of (attribute_of b a) kind) }
 
--- ---- lists
+-- ---- numbers and lists
+
+pub falls : (num n : ℕ) → num < n → fallen num n + 1 ≡ n
+falls num n lt = rw (lt-ltb num n lt) (omega arith)
 
 filter_twice : {A : Type 0} (p : A → Bool) (xs : List A) → filter p (filter p xs) ≡ filter p xs
 filter_twice p [] = refl

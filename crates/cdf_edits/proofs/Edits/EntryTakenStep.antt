@@ -1,18 +1,14 @@
 -- An entry is taken out of one chain of an attribute and freed: the image is good, all beside the chain stands, and the acts before go on.
 use Rattle.std.proofs.Common.{◌≡◌, ◌≢◌, ℕ, ◌+◌, ◌≤◌, List, [], ◌∷◌, ◌++◌, length, true, false, eq-eqb, refl, sym, ap, ap₂, subst, ◌∙◌, arith, inl, inr}
-use Rattle.cdf_edits.proofs.Common.{cases_eq, ne_eqb, ◌==◌, Same, adr_type, field_marks, holder_type, linkable-long, type_in, unmarked, EntryKind, entries_of, image_limit, without, next_field, next_of, attribute_of, integer4, number, size_at, type_at, aedr_num, gdr_type, uir_type, AttributeShape, HasShape, Shape, shape, IsSound, In, Distinct, Good, size_kept, type_kept, linkable-in, linkable-type, good_is_sound, tile_lies, Stays, chain_of, entry_type, greatest_number, max_field, IsDropped, count_field, entries_chain, with_chain, Away, giving_marks, ActsFollow, Act, Gave, gave, members_of, Gives}
-use Rattle.cdf_edits.proofs.Edits.ActsThen.{acts_gave, was_listed}
+use Rattle.cdf_edits.proofs.Common.{cases_eq, ne_eqb, ◌==◌, Same, adr_type, field_marks, holder_type, linkable-long, type_in, unmarked, EntryKind, entries_of, image_limit, without, next_field, next_of, attribute_of, integer4, number, size_at, type_at, aedr_num, gdr_type, uir_type, AttributeShape, HasShape, Shape, shape, IsSound, In, Distinct, Good, size_kept, type_kept, linkable-in, linkable-type, good_is_sound, tile_lies, Stays, chain_of, entry_type, greatest_number, max_field, IsDropped, count_field, entries_chain, with_chain, Away, giving_marks, ActsFollow, Act, Gave, gave, members_of, Gives, eqb-false}
 use Rattle.cdf_edits.proofs.Edits.ChainEdits.{removed_keeps}
-use Rattle.cdf_edits.proofs.Edits.ChainEntries.{num_in, nums}
-use Rattle.cdf_edits.proofs.Edits.ChainKept.{link_allowed}
-use Rattle.cdf_edits.proofs.Edits.Common.{chain_now, Away-append, Kept, KeptButLink, acts_still_by, apart, chain_has, differ_before, edit_then, has_chain, kept, late_size, late_type, members_are, of_shape, same-then, the_one, there, unmarked-away}
+use Rattle.cdf_edits.proofs.Edits.Common.{chain_now, Away-append, Kept, KeptButLink, acts_still_by, apart, chain_has, differ_before, edit_then, has_chain, kept, late_size, late_type, members_are, of_shape, same-then, the_one, there, unmarked-away, acts_gave, was_listed, link_allowed, num_in, nums}
 use Rattle.cdf_edits.proofs.Edits.DroppedEntries.{link_field, numbered, takes}
 use Rattle.cdf_edits.proofs.Edits.EntriesEdited.{EditsEntries, EntryEdited, stays_more, StandTests, edited, kept_stays, only_at}
 use Rattle.cdf_edits.proofs.Edits.FreedEntry.{all_marks, freed_behind, freed_type, old_stands, other_kept as entry_kept, sound_late}
 use Rattle.cdf_edits.proofs.Edits.LeftEntry.{LeavesChain, as_long, edit, late_is, leaving, left_acts, marks, old_ok, second, tests, third}
 use Rattle.cdf_edits.proofs.Edits.TakenEntry.{f, good_now, items_left, long_now, others, r}
 use Rattle.cdf_edits.specs.Space.Chains.{without as left_of}
-use Rattle.std.proofs.lemmas.Bool.{eqb-false}
 use Rattle.cdf_model.specs.declared.kinds.EntryKind.TheVariants as entries
 
 -- ---- the chain

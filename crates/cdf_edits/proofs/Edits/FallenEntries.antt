@@ -1,19 +1,90 @@
 -- Entries of a chain get numbers less by one, where they are greater than one that none has, and the greatest number of the chain is written.
-use Rattle.std.proofs.Common.{◌≡◌, ℕ, ℤ, ◌-◌, ◌<◌, ◌≤◌, ◌^◌, List, [], ◌∷◌, ◌++◌, length, map, refl, sym, ap, subst, ◌∙◌, arith, inl, inr, ◌+◌, true, append-nil}
-use Rattle.cdf_edits.proofs.Common.{w32, cast_unsigned, FitsSigned, integer4, cases_lt, lt-ltb, le-leb, leb-true, filter, ◌==◌, nat_lt, EntryKind, entries_of, image_limit, record_number_limit, closed_up, entry_rows, attribute_of, number, size_at, type_at, with_field, aedr_num, Hold, AttributeShape, Each, shape, IsSound, In, Distinct, Good, number_kept, good_is_sound, filter-in, tile_lies, chain_of, entry_type, max_field, Edit, fallen, Among, Mark, mark, Write, write, with_writes, word_kept, aedr_attr_num, le-ltb, uir_type, Shape, Only, Stays, ActsFollow, greatest_number, with_chain}
-use Rattle.cdf_edits.proofs.Edits.ChainEntries.{nums}
+use Rattle.std.proofs.Common.{◌≡◌, ℕ, ℤ, ◌-◌, ◌<◌, ◌≤◌, ◌^◌, List, [], ◌∷◌, ◌++◌, length, map, refl, sym, ap, subst, ◌∙◌, arith, inl, inr, ◌+◌, true, append-nil, ◌≢◌, ap₂}
+use Rattle.cdf_edits.proofs.Common.{w32, cast_unsigned, FitsSigned, integer4, cases_lt, lt-ltb, le-leb, leb-true, filter, ◌==◌, nat_lt, EntryKind, entries_of, image_limit, record_number_limit, closed_up, entry_rows, attribute_of, number, size_at, type_at, with_field, aedr_num, Hold, AttributeShape, Each, shape, IsSound, In, Distinct, Good, number_kept, good_is_sound, filter-in, tile_lies, chain_of, entry_type, max_field, Edit, fallen, Among, Mark, mark, Write, write, with_writes, word_kept, aedr_attr_num, le-ltb, uir_type, Shape, Only, Stays, ActsFollow, greatest_number, with_chain, ltb-true, lt-leb, nat_tests, if◌then◌else◌, with_item, entry_of}
 use Rattle.cdf_edits.proofs.Edits.ChainMembers.{IsAmong, member, member_fits, own_there}
-use Rattle.cdf_edits.proofs.Edits.Common.{chain_now, Rechains, chain_has, file_now, filter-distinct, filter-keeps, filter-says, num_same, some_bytes, acts_still_by, keeps_away, keeps_within, now_is, type_stays, unmarked-away}
-use Rattle.cdf_edits.proofs.Edits.DroppedEntries.{lowers, number_field}
+use Rattle.cdf_edits.proofs.Edits.Common.{chain_now, Rechains, chain_has, file_now, filter-distinct, filter-keeps, filter-says, num_same, some_bytes, acts_still_by, keeps_away, keeps_within, now_is, type_stays, unmarked-away, counted_before, differ_before, good_settled, items_of, rules_before, EntryMeans, entry_means, nums}
+use Rattle.cdf_edits.proofs.Edits.DroppedEntries.{falls, lowers, number_field}
 use Rattle.cdf_edits.proofs.Edits.EntriesEdited.{EditsEntries, EntryEdited, StandTests, edited, only_at, same_records}
-use Rattle.cdf_edits.proofs.Edits.FallenItems.{EntryFell, entries_closed, fallen_distinct, fallen_under, falls, rests, nums_fell}
-use Rattle.cdf_edits.proofs.Edits.OneChain.{counted_before, differ_before, good_settled, items_of, rules_before}
+use Rattle.cdf_edits.proofs.Edits.NumberedItems.{Order, Below, Equal, Above, order, before_first, at_first, behind_first}
 use Rattle.cdf_edits.proofs.Edits.WrittenEntries.{WriteTests, WritesChain, as_long as as_long_written, count_now as count_written, edit as edit_written, greatest_now as greatest_written, mid_kept, mid_size, part_beside, size_now, rechains as rechains_written, settled as settled_written, write_tests, writing}
 use Rattle.cdf_edits.proofs.Edits.WrittenFields.{MayWrite, others_keep, writes_edit, writes_long, writes_say, written_tiles}
-use Rattle.cdf_edits.proofs.Frame.Meaning.{EntryMeans, entry_means}
 use Rattle.cdf_format.specs.Content.{entries_of as chain_items}
-use Rattle.std.proofs.lemmas.Bool.{ltb-true}
 use Rattle.cdf_model.specs.declared.kinds.EntryKind.TheVariants as entries
+
+-- ---- numbers
+
+pub rests : (num n : ℕ) → n ≤ num → fallen num n ≡ n
+rests num n le = rw (le-ltb num n le) refl
+
+pub fallen_under : (num n : ℕ) → fallen num n ≤ n
+fallen_under num n = grind (arith, nat_tests)
+
+-- the number that falls to one
+abbrev raised : ℕ → ℕ → ℕ
+raised num n = if nat_lt n num then n else n + 1
+
+raised_back : (num n : ℕ) → n ≢ num → raised num (fallen num n) ≡ n
+raised_back num n ne = grind (arith, nat_tests)
+
+raised_less : (num n m : ℕ) → n < m → raised num n < raised num m
+raised_less num n m lt = grind (arith, nat_tests)
+
+pub fallen_distinct : (num : ℕ) (ns : List ℕ) → (In num ns → ⊥) → Distinct ns → Distinct (map (fallen num) ns)
+fallen_distinct num [] out d = tt
+fallen_distinct num (n ∷ ns) out d = ((λ i. d.0 (back ns (λ j. out (inr j)) i)), fallen_distinct num ns (λ j. out (inr j)) d.1)
+  where
+    back : (ms : List ℕ) → (In num ms → ⊥) → In (fallen num n) (map (fallen num) ms) → In n ms
+    back [] o i = absurd i
+    back (m ∷ ms) o (inl q) = inl (sym (raised_back num n (λ e. out (inl (sym e)))) ∙ ap (raised num) q ∙ raised_back num m (λ e. o (inl (sym e))))
+    back (m ∷ ms) o (inr i) = inr (back ms (λ j. o (inr j)) i)
+
+-- ---- items
+
+module _ {A : Type 0} (num : ℕ) where
+  abbrev raised_items : List (ℕ × A) → List (ℕ × A)
+  raised_items items = map (λ pair. (raised num pair.0, pair.1)) items
+
+  raised_with : (n : ℕ) (a : A) (items : List (ℕ × A)) → raised_items (with_item n a items) ≡ with_item (raised num n) a (raised_items items)
+  raised_with n a [] = refl
+  raised_with n a (item ∷ rest) = by item.0 item.1 (raised_with n a rest) (order n item.0)
+    where
+      by : (k : ℕ) (c : A) → raised_items (with_item n a rest) ≡ with_item (raised num n) a (raised_items rest) → Order n k → raised_items (with_item n a ((k, c) ∷ rest)) ≡ with_item (raised num n) a (raised_items ((k, c) ∷ rest))
+      by k c so (Below p) = ap raised_items (before_first n a k c rest p) ∙ sym (before_first (raised num n) a (raised num k) c (raised_items rest) (raised_less num n k p))
+      by k c so (Equal p) = ap raised_items (at_first n a k c rest p) ∙ sym (at_first (raised num n) a (raised num k) c (raised_items rest) (ap (raised num) p))
+      by k c so (Above p) = ap raised_items (behind_first n a k c rest p) ∙ ap (λ (x : List (ℕ × A)). (raised num k, c) ∷ x) so ∙ sym (behind_first (raised num n) a (raised num k) c (raised_items rest) (raised_less num k n p))
+
+  closed_raised : (items : List (ℕ × A)) → closed_up num num (raised_items items) ≡ items
+  closed_raised [] = refl
+  closed_raised (item ∷ rest) = elim (cases_lt item.0 num) [
+    | inl lt ↦ rw (lt-ltb item.0 num lt, lt-leb num item.0 lt, le-ltb num item.0 (omega arith)) (ap (λ (r : List (ℕ × A)). item ∷ r) (closed_raised rest))
+    | inr le ↦ rw (le-ltb item.0 num le, lt-leb (item.0 + 1) num (omega arith), le-leb num (item.0 + 1) (omega arith), lt-ltb num (item.0 + 1) (omega arith)) (ap₂ (λ (n : ℕ) (r : List (ℕ × A)). (n, item.1) ∷ r) (omega arith) (closed_raised rest))
+  ]
+
+-- ---- entries of a chain
+
+-- an entry means what it did, and its number fell if it was greater
+pub record EntryFell (b now : List ℕ) (num e : ℕ) : Type 0 where
+  pub num_is : number now e aedr_num ≡ fallen num (number b e aedr_num)
+  pub meant : entry_of now e ≡ entry_of b e
+
+module _ (b now : List ℕ) (num : ℕ) where
+  entries_raised : (es : List ℕ) → (In num (nums b es) → ⊥) → ((m : ℕ) → In m es → EntryFell b now num m) → raised_items num (chain_items now es) ≡ chain_items b es
+  entries_raised [] out fell = refl
+  entries_raised (e ∷ es) out fell =
+      let here = fell e (inl refl) in
+      let back = ap (raised num) here.num_is ∙ raised_back num (number b e aedr_num) (λ q. out (inl (sym q))) in
+      let rest = entries_raised es (λ i. out (inr i)) (λ m i. fell m (inr i)) in
+      raised_with num (number now e aedr_num) (entry_of now e) (chain_items now es) ∙ (λ i. with_item (back i) (here.meant i) (rest i))
+
+  -- none had the number
+  pub entries_closed : (es : List ℕ) → (In num (nums b es) → ⊥) → ((m : ℕ) → In m es → EntryFell b now num m) → chain_items now es ≡ closed_up num num (chain_items b es)
+  entries_closed es out fell = sym (closed_raised num (chain_items now es)) ∙ ap (closed_up num num) (entries_raised es out fell)
+
+  pub nums_fell : (es : List ℕ) → ((m : ℕ) → In m es → EntryFell b now num m) → nums now es ≡ map (fallen num) (nums b es)
+  nums_fell [] fell = refl
+  nums_fell (e ∷ es) fell = ap₂ (λ (n : ℕ) (rest : List ℕ). n ∷ rest) (fell e (inl refl)).num_is (nums_fell es (λ m i. fell m (inr i)))
+
+-- ---- the image
 
 abbrev pub falling : EntryKind → ℕ → List ℕ → List Mark
 falling kind adr es = writing kind adr es aedr_num

@@ -1,7 +1,7 @@
 use Rattle.std.proofs.Common.{rules, ◌≡◌, ◌∙◌, ℕ, List, false, sym, subst, arith}
 use Rattle.cdf_attrs.proofs.Common.{on_ok_weaker, good_is_sound, shape, Good, is_global, Scope, EntryKind, IsScoped, IsOfAttribute}
 use Rattle.cdf_attrs.proofs.AttributeChain.{adr_inside}
-use Rattle.cdf_attrs.proofs.DroppingFrom as from
+use Rattle.cdf_attrs.proofs.DroppedChains as from
 use Rattle.cdf_attrs.proofs.dropping.drop_from.Goals as goal
 
 pub read_scope-requires : goal.read_scope-requires

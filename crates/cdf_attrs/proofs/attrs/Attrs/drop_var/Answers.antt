@@ -1,7 +1,6 @@
 use Rattle.std.proofs.Common.{◌∙◌, refl, sym, ap, arith}
 use Rattle.cdf_attrs.proofs.Common.{edit_more, Known, start}
-use Rattle.cdf_attrs.proofs.DroppedVar.{all_done, at_index, drops_more, keeps_then}
-use Rattle.cdf_attrs.proofs.DroppingFrom.{keeps_same}
+use Rattle.cdf_attrs.proofs.DroppedChains.{all_done, at_index, drops_more, keeps_same, keeps_then}
 use Rattle.cdf_attrs.proofs.attrs.Attrs.drop_var.Goals as goal
 
 pub loop-adr-init : goal.loop-adr-init
