@@ -1,7 +1,7 @@
 -- The entries for a variable go from one attribute after the other: what is asked of a chain, what is written, and what it all comes to.
 use Rattle.std.proofs.Common.{◌≡◌, ℕ, ◌-◌, ◌≤◌, List, [], ◌∷◌, length, map, w32, refl, sym, ap, ap₂, subst, ◌∙◌, arith, inl, inr, ◌++◌, Bool, Some, true, false, eq-eqb, ◌<◌, Result, Ok, Err, ◌+◌, All, zero, suc}
 use Rattle.cdf_attrs.proofs.Common.{cases_lt, lt-ltb, le-ltb, cast_unsigned, entries_of, image_limit, signed_limit, closed_up, attribute_of, number, integer4, with_field, aedr_num, In, Good, Chain, chain_of, max_field, greatest_number, fallen, Write, with_writes, write, nums, LowersChain, LowersNumbers, lower_writes, IsOfAttribute, KnownEntries, KnowsEntries, IsGreatest, numbers_fell, Attribute, AttributeShape, Change, DropsFrom, DropsNumber, EditsEntries, Entry, EntryKind, IsScoped, KeepsAttributes, Lowers, TakenAt, attributes_agree, attributes_of, drops, drops_both, edits_rest, either, entries_chain, items_of, list_any, lowers, nat_lt, ne_eqb, num_in, numbered, only_at, position, shape, takes, without, ◌==◌, OnOk, slice_index, IsEntryOf, without_at, slice_get, is_global, is_wrong_scope, attribute_names, Kind, Scope, entry_bytes, content, scope_of, LiesIn, adr_scope, adrs, kind_of_entries, got-middle, stands_at, max_lies, good_is_sound, AllLie, slice_index_or, length-map, Found, DropsUpTo, finish, next_dropped, next_global, still_scoped, still_there, entries_now, greatest_lowered, later, lowered, nums_now, fallen_under, entries_closed, rests, Stands, DropsEntries, IfOk}
-use Rattle.cdf_attrs.proofs.AttributeChain.{adr_inside, index_in}
+use Rattle.cdf_attrs.proofs.AttributeChain.{adr_inside, adr_parts, index_in, of_attribute}
 use Rattle.cdf_attrs.proofs.AttributeParts.{name_stays}
 use Rattle.cdf_attrs.proofs.EntryChains.{members, entry_inside}
 use Rattle.cdf_attrs.proofs.EntryTakenAt.{cut_is, from_map, parts, places_are, small, all_from, as_long, index_same}
@@ -204,18 +204,10 @@ pub of_variables : (kind : Kind) (scope : Scope) → is_global scope ≡ false �
 of_variables kinds.R scope e = e
 of_variables kinds.Z scope e = e
 
-module _ (b : List ℕ) (adr : ℕ) (there : In adr (adrs (shape b))) where
-  abbrev the_parts : Stands (shape b).attributes adr
-  the_parts = stands_at (shape b).attributes adr there
-
-  stands : slice_get (shape b).attributes (length the_parts.fronts) ≡ Some the_parts.own
-  stands = ap (λ (as_ : List AttributeShape). slice_get as_ (length the_parts.fronts)) the_parts.is ∙ got-middle the_parts.fronts the_parts.own the_parts.after
-
-  pub of_attribute : (kind : EntryKind) → IsOfAttribute b (entries_chain kind adr)
-  of_attribute kind = record { number = length the_parts.fronts; own = the_parts.own; stands = stands; kind = kind; chain_is = ap (entries_chain kind) (sym the_parts.adr_is) }
-
-  pub scoped : (kind : Kind) → is_global (scope_of (number b adr adr_scope)) ≡ false → IsScoped b (kind_of_entries kind) adr
-  scoped kind e = record { number = length the_parts.fronts; own = the_parts.own; stands = stands; adr_is = the_parts.adr_is; in_scope = of_variables kind _ (subst (λ (a : ℕ). is_global (scope_of (number b a adr_scope)) ≡ false) (sym the_parts.adr_is) e) }
+pub scoped : (b : List ℕ) (adr : ℕ) (there : In adr (adrs (shape b))) (kind : Kind) → is_global (scope_of (number b adr adr_scope)) ≡ false → IsScoped b (kind_of_entries kind) adr
+scoped b adr there kind e =
+    let p = adr_parts b adr there in
+    record { number = length p.fronts; own = p.own; stands = (of_attribute b adr there (kind_of_entries kind)).stands; adr_is = p.adr_is; in_scope = of_variables kind _ (subst (λ (a : ℕ). is_global (scope_of (number b a adr_scope)) ≡ false) (sym p.adr_is) e) }
 
 -- what is written of entries lies where they stand
 writes_lie : (b : List ℕ) (num : ℕ) (ns ps : List ℕ) → ((p : ℕ) → In p ps → p + 56 ≤ length b) → AllLie b (lower_writes num ns ps)

@@ -1,6 +1,6 @@
 use Rattle.std.proofs.Common.{rules, ◌≡◌, ◌∙◌, ℕ, List, false, sym, subst, arith}
 use Rattle.cdf_attrs.proofs.Common.{on_ok_weaker, good_is_sound, shape, Good, is_global, Scope, EntryKind, IsScoped, IsOfAttribute}
-use Rattle.cdf_attrs.proofs.AttributeChain.{adr_inside}
+use Rattle.cdf_attrs.proofs.AttributeChain.{adr_inside, of_attribute}
 use Rattle.cdf_attrs.proofs.DroppedChains as from
 use Rattle.cdf_attrs.proofs.dropping.drop_from.Goals as goal
 
@@ -16,7 +16,7 @@ load-requires-clause-good g c = subst Good (sym c.in_ok-scope.ensures.area.image
 pub load-requires-clause-attribute : goal.load-requires-clause-attribute
 load-requires-clause-attribute g c =
     let b = g.A.Area.image c.args.area.now in
-    let of = from.of_attribute b c.args.adr c.requires.adr c.entries_of-kind.result in
+    let of = of_attribute b c.args.adr c.requires.adr c.entries_of-kind.result in
     subst (λ (x : List ℕ). IsOfAttribute x c.entries_chain.result) (sym c.in_ok-scope.ensures.area.image) (subst (IsOfAttribute b) (sym c.entries_chain.ensures) of)
 
 pub drop_number-requires-clause-good : goal.drop_number-requires-clause-good
