@@ -34,25 +34,22 @@ module _ {b : List ℕ} (good : Good b) {chain : Chain} (of : IsOfAttribute b ch
   numbers_of = knows.numbers_are ∙ ap (nums b) places_of
 
   module _ {now : List ℕ} {num : ℕ} (short : length b ≤ image_limit) (none : In num es.numbers → ⊥) (l : LowersNumbers b now of.kind of.own.adr es num) where
-    abbrev q : LowersChain b now of.kind (parts of).before of.own (parts of).after num
-    q = record {
+    abbrev lowers_chain : LowersChain b now of.kind (parts of).before of.own (parts of).after num
+    lowers_chain = record {
       was = cut_is of;
       none = λ i. none (subst (In num) (sym numbers_of) i);
       greatest = cast_unsigned w32 l.greatest;
       written = l.written ∙ ap (λ (ws : List Write). with_field (with_writes b ws) of.own.adr (max_field of.kind) (cast_unsigned w32 l.greatest)) (ap₂ (lower_writes num) numbers_of places_of ∙ writes_are b num (chain_of of.own of.kind));
     }
 
-    pub lowers_chain : LowersChain b now of.kind (parts of).before of.own (parts of).after num
-    lowers_chain = q
-
     -- the greatest number is that of the entries as they are
     pub greatest_now : integer4 now of.own.adr (max_field of.kind) ≡ greatest_number (closed_up num num (entries_of (attribute_of b of.own) of.kind))
     greatest_now =
-        let numbers = ap (map (fallen num)) numbers_of ∙ sym (nums_now good short q) in
+        let numbers = ap (map (fallen num)) numbers_of ∙ sym (nums_now good short lowers_chain) in
         let fits = greatest_fits (map (fallen num) es.numbers) l.greatest (fallen_small num signed_limit es.numbers (λ n i. let le = small good of es is knows n i in omega arith)) l.greatest_is in
-        greatest_lowered good short q l.greatest fits refl
+        greatest_lowered good short lowers_chain l.greatest fits refl
         ∙ greatest_of_items now (chain_of of.own of.kind) l.greatest (subst (λ (ns : List ℕ). IsGreatest ns l.greatest) numbers l.greatest_is)
-        ∙ ap greatest_number (entries_now good short q)
+        ∙ ap greatest_number (entries_now good short lowers_chain)
 
 -- ---- items by their numbers
 
@@ -222,22 +219,21 @@ writes_lie b num (n ∷ ns) (p ∷ ps) all =
     ]
 
 -- what is asked of a chain whose numbers fall
-module _ {b : List ℕ} (good : Good b) (kind : EntryKind) (adr : ℕ) (there : In adr (adrs (shape b))) (es : KnownEntries) (is : es.chain ≡ entries_chain kind adr) (knows : KnowsEntries b es) where
-  pub numbers_small : All (λ n. n ≤ signed_limit) es.numbers
-  numbers_small = all_from (λ n. n ≤ signed_limit) es.numbers (λ n i. let le = small good (of_attribute b adr there kind) es is knows n i in omega arith)
+pub record Lowerable (b : List ℕ) (kind : EntryKind) (adr num : ℕ) (es : KnownEntries) : Type 0 where
+  pub long : length es.numbers ≡ length es.places
+  pub small : All (λ n. n ≤ signed_limit) es.numbers
+  pub lie : AllLie b (lower_writes num es.numbers es.places)
+  pub field : LiesIn b adr (max_field kind)
 
-  inside : (p : ℕ) → In p es.places → p + 56 ≤ length b
-  inside p i =
-      let of = of_attribute b adr there kind in
-      let lies = entry_inside b good (entries_chain kind adr) of p (subst (In p) (places_are good of es is knows) i) in
-      let n = entry_bytes b p in
-      omega arith
-
-  pub entries_lie : (num : ℕ) → AllLie b (lower_writes num es.numbers es.places)
-  entries_lie num = writes_lie b num es.numbers es.places inside
-
-  pub greatest_lies : LiesIn b adr (max_field kind)
-  greatest_lies = let l = adr_inside b (shape b) (good_is_sound b good).has_shape adr there in let m = max_lies kind in omega arith
+lowerable : {b : List ℕ} {kind : EntryKind} {adr num : ℕ} {es : KnownEntries} → Good b → In adr (adrs (shape b)) → es.chain ≡ entries_chain kind adr → KnowsEntries b es → Lowerable b kind adr num es
+lowerable {b} {kind} {adr} {num} {es} good there is knows =
+    let of = of_attribute b adr there kind in
+    record {
+      long = as_long good of es is knows;
+      small = all_from (λ n. n ≤ signed_limit) es.numbers (λ n i. let le = small good of es is knows n i in omega arith);
+      lie = writes_lie b num es.numbers es.places (λ p i. let lies = entry_inside b good (entries_chain kind adr) of p (subst (In p) (places_are good of es is knows) i) in let n = entry_bytes b p in omega arith);
+      field = let l = adr_inside b (shape b) (good_is_sound b good).has_shape adr there in let m = max_lies kind in omega arith;
+    }
 
 pub keeps_same : {b now : List ℕ} → now ≡ b → KeepsAttributes b now
 keeps_same same = record { names = ap (λ (x : List ℕ). attribute_names (content x)) same; places = ap (λ (x : List ℕ). adrs (shape x)) same; long = ap (λ (x : List ℕ). length x) same }
@@ -246,10 +242,7 @@ keeps_same same = record { names = ap (λ (x : List ℕ). attribute_names (conte
 
 -- the entry of a number was taken out of the chain, and these are left
 pub record Dropping (b mid : List ℕ) (kind : Kind) (k : EntryKind) (adr num : ℕ) (left : KnownEntries) : Type 0 where
-  pub long : length left.numbers ≡ length left.places
-  pub small : All (λ n. n ≤ signed_limit) left.numbers
-  pub lie : AllLie mid (lower_writes num left.numbers left.places)
-  pub field : LiesIn mid adr (max_field k)
+  pub asked : Lowerable mid k adr num left
   pub drops : (now : List ℕ) → Lowers mid now k adr left num → DropsFrom b now (kind_of_entries kind) adr num
   pub keeps : (now : List ℕ) → Lowers mid now k adr left num → Good now × KeepsAttributes b now
 
@@ -264,13 +257,9 @@ module _ {b read loaded mid : List ℕ} (kind : Kind) {k : EntryKind} {adr num :
       let known = subst (λ (x : List ℕ). KnowsEntries x entries) same knows in
       let dropped = subst (λ (x : List ℕ). DropsNumber x mid k adr entries num left) (same_loaded ∙ same) drops in
       let there_mid = subst (In adr) (sym (keeps_taken good short of_kind of_chain known dropped).places) there in
-      let left_is = chain_left good short of_kind of_chain known dropped in
       let from = λ (now : List ℕ) (low : Lowers mid now k adr left num). subst (λ (x : EntryKind). DropsFrom b now x adr num) k_is (record { entries = entries; chain_is = of_chain; known = known; mid = mid; left = left; drops = dropped; good = good_mid; left_known = left_knows; lowers = low }) in
       record {
-        long = as_long good_mid (of_attribute mid adr there_mid k) left left_is left_knows;
-        small = numbers_small good_mid k adr there_mid left left_is left_knows;
-        lie = entries_lie good_mid k adr there_mid left left_is left_knows num;
-        field = greatest_lies good_mid k adr there_mid left left_is left_knows;
+        asked = lowerable good_mid there_mid (chain_left good short of_kind of_chain known dropped) left_knows;
         drops = from;
         keeps = λ now low. keeps_dropped good short has (from now low);
       }

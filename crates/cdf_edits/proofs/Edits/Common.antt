@@ -27,7 +27,7 @@ pub use Rattle.cdf_edits.proofs.Edits.RecordPlaced.{placing_marks}
 pub use Rattle.cdf_edits.proofs.Edits.StepEdits.{fixed_long, gdr_in, gdr_typed, gives_edit, some_bytes, takes_edit}
 pub use Rattle.cdf_edits.proofs.Edits.VariableCopied.{content_copied, fits_copied, links_copied}
 pub use Rattle.cdf_edits.proofs.Edits.VariableFrame.{Each-map, IsRuled, nums_from, variable_typed}
-pub use Rattle.cdf_edits.proofs.Edits.VariableKeeps.{stays_then, type_stays}
+pub use Rattle.cdf_edits.proofs.Edits.VariableKeeps.{stays_bytes, stays_then, stays_word, type_stays}
 pub use Rattle.cdf_edits.proofs.Edits.VariableKept.{keep_kinds, keep_own, same_as_itself}
 pub use Rattle.cdf_edits.proofs.Edits.VariableKinds.{keeps_kind, kind_chain, kind_in, kind_ours, kind_type, of_kind, other_kind, spliced_times, with_shapes}
 pub use Rattle.cdf_edits.proofs.Edits.VariableNames.{apart_if}

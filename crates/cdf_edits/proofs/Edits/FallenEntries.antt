@@ -5,8 +5,7 @@ use Rattle.cdf_edits.proofs.Edits.ChainMembers.{IsAmong, member, member_fits, ow
 use Rattle.cdf_edits.proofs.Edits.Common.{chain_now, Rechains, chain_has, file_now, filter-distinct, filter-keeps, filter-says, num_same, some_bytes, acts_still_by, keeps_away, keeps_within, now_is, type_stays, unmarked-away, counted_before, differ_before, good_settled, items_of, rules_before, EntryMeans, entry_means, nums}
 use Rattle.cdf_edits.proofs.Edits.DroppedEntries.{falls, lowers, number_field}
 use Rattle.cdf_edits.proofs.Edits.EntriesEdited.{EditsEntries, EntryEdited, StandTests, edited, only_at, same_records}
-use Rattle.cdf_edits.proofs.Edits.NumberedItems.{Order, Below, Equal, Above, order, before_first, at_first, behind_first}
-use Rattle.cdf_edits.proofs.Edits.WrittenEntries.{WriteTests, WritesChain, as_long as as_long_written, count_now as count_written, edit as edit_written, greatest_now as greatest_written, mid_kept, mid_size, part_beside, size_now, rechains as rechains_written, settled as settled_written, write_tests, writing}
+use Rattle.cdf_edits.proofs.Edits.WrittenEntries.{WriteTests, WritesChain, as_long, count_now as count_written, edit, greatest_now as greatest_written, mid_kept, mid_size, part_beside, size_now, rechains as rechains_written, settled as settled_written, write_tests, writing}
 use Rattle.cdf_edits.proofs.Edits.WrittenFields.{MayWrite, others_keep, writes_edit, writes_long, writes_say, written_tiles}
 use Rattle.cdf_format.specs.Content.{entries_of as chain_items}
 use Rattle.cdf_model.specs.declared.kinds.EntryKind.TheVariants as entries
@@ -26,9 +25,6 @@ raised num n = if nat_lt n num then n else n + 1
 raised_back : (num n : ℕ) → n ≢ num → raised num (fallen num n) ≡ n
 raised_back num n ne = grind (arith, nat_tests)
 
-raised_less : (num n m : ℕ) → n < m → raised num n < raised num m
-raised_less num n m lt = grind (arith, nat_tests)
-
 pub fallen_distinct : (num : ℕ) (ns : List ℕ) → (In num ns → ⊥) → Distinct ns → Distinct (map (fallen num) ns)
 fallen_distinct num [] out d = tt
 fallen_distinct num (n ∷ ns) out d = ((λ i. d.0 (back ns (λ j. out (inr j)) i)), fallen_distinct num ns (λ j. out (inr j)) d.1)
@@ -46,19 +42,17 @@ module _ {A : Type 0} (num : ℕ) where
 
   raised_with : (n : ℕ) (a : A) (items : List (ℕ × A)) → raised_items (with_item n a items) ≡ with_item (raised num n) a (raised_items items)
   raised_with n a [] = refl
-  raised_with n a (item ∷ rest) = by item.0 item.1 (raised_with n a rest) (order n item.0)
+  raised_with n a (item ∷ rest) = step n item.0 a item.1 rest (raised_with n a rest)
     where
-      by : (k : ℕ) (c : A) → raised_items (with_item n a rest) ≡ with_item (raised num n) a (raised_items rest) → Order n k → raised_items (with_item n a ((k, c) ∷ rest)) ≡ with_item (raised num n) a (raised_items ((k, c) ∷ rest))
-      by k c so (Below p) = ap raised_items (before_first n a k c rest p) ∙ sym (before_first (raised num n) a (raised num k) c (raised_items rest) (raised_less num n k p))
-      by k c so (Equal p) = ap raised_items (at_first n a k c rest p) ∙ sym (at_first (raised num n) a (raised num k) c (raised_items rest) (ap (raised num) p))
-      by k c so (Above p) = ap raised_items (behind_first n a k c rest p) ∙ ap (λ (x : List (ℕ × A)). (raised num k, c) ∷ x) so ∙ sym (behind_first (raised num n) a (raised num k) c (raised_items rest) (raised_less num k n p))
+      step : (n k : ℕ) (a c : A) (rest : List (ℕ × A)) → raised_items (with_item n a rest) ≡ with_item (raised num n) a (raised_items rest) → raised_items (with_item n a ((k, c) ∷ rest)) ≡ with_item (raised num n) a (raised_items ((k, c) ∷ rest))
+      step n k a c rest so = grind (arith, nat_tests)
 
   closed_raised : (items : List (ℕ × A)) → closed_up num num (raised_items items) ≡ items
   closed_raised [] = refl
-  closed_raised (item ∷ rest) = elim (cases_lt item.0 num) [
-    | inl lt ↦ rw (lt-ltb item.0 num lt, lt-leb num item.0 lt, le-ltb num item.0 (omega arith)) (ap (λ (r : List (ℕ × A)). item ∷ r) (closed_raised rest))
-    | inr le ↦ rw (le-ltb item.0 num le, lt-leb (item.0 + 1) num (omega arith), le-leb num (item.0 + 1) (omega arith), lt-ltb num (item.0 + 1) (omega arith)) (ap₂ (λ (n : ℕ) (r : List (ℕ × A)). (n, item.1) ∷ r) (omega arith) (closed_raised rest))
-  ]
+  closed_raised (item ∷ rest) = step item.0 item.1 rest (closed_raised rest)
+    where
+      step : (n : ℕ) (a : A) (rest : List (ℕ × A)) → closed_up num num (raised_items rest) ≡ rest → closed_up num num (raised_items ((n, a) ∷ rest)) ≡ (n, a) ∷ rest
+      step n a rest so = grind (arith, nat_tests)
 
 -- ---- entries of a chain
 
@@ -141,12 +135,6 @@ module _ {b now : List ℕ} {kind : EntryKind} {before : List AttributeShape} {o
   pub t : WriteTests kind own.adr those aedr_num
   t = write_tests kind own.adr those aedr_num
 
-  pub entry_in : (m : ℕ) → In m chain → In m (shape b).records
-  entry_in m i = (member kind sound at m i).inside
-
-  pub entry_typed : (m : ℕ) → In m chain → type_at b m ≡ entry_type kind
-  entry_typed m i = (member kind sound at m i).typed
-
   pub of_those : (m : ℕ) → In m those → In m chain
   of_those m i = filter-in (λ aedr. nat_lt num (number b aedr aedr_num)) chain m i
 
@@ -168,11 +156,11 @@ module _ {b now : List ℕ} {kind : EntryKind} {before : List AttributeShape} {o
   may = each_write b those (MayWrite b (shape b).records first_marks) (λ m i.
       let j = of_those m i in
       record {
-        inside = entry_in m j;
-        used = λ u. t.in_use (sym (entry_typed m j) ∙ u);
+        inside = (member kind sound at m j).inside;
+        used = λ u. t.in_use (sym (member kind sound at m j).typed ∙ u);
         fits = let l = long_enough m j in omega arith;
         later = omega arith;
-        covered = inl (record { typed = entry_typed m j; lies = i; low = omega arith; high = omega arith });
+        covered = inl (record { typed = (member kind sound at m j).typed; lies = i; low = omega arith; high = omega arith });
       })
 
   first : Edit b mid (shape b).records (shape b).records first_marks []
@@ -180,12 +168,6 @@ module _ {b now : List ℕ} {kind : EntryKind} {before : List AttributeShape} {o
 
   abbrev w : WritesChain b now kind before own after those aedr_num
   w = record { at = at; sub = of_those; late = omega arith; mid = mid; first = first; long = writes_long b (shape b).records first_marks ws sound.has_shape.tiled (some_bytes b (shape b) sound.has_shape) may; greatest = q.greatest; written = record { is = q.written } }
-
-  pub edit : Edit b now (shape b).records (shape b).records (falling kind own.adr those) []
-  edit = edit_written sound w
-
-  pub as_long : length now ≡ length b
-  as_long = as_long_written sound w
 
   pub rechains : Rechains b now (shape b) (shape b).records (shape b).unused (falling kind own.adr those) [] kind before own after chain those those
   rechains = rechains_written sound w
@@ -198,7 +180,7 @@ module _ {b now : List ℕ} {kind : EntryKind} {before : List AttributeShape} {o
   means : (m : ℕ) → In m chain → EntryMeans b now m
   means m i =
       let l = long_enough m i in
-      let inside = (tile_lies b 8 (length b) (shape b).records m sound.has_shape.tiled (entry_in m i)).high in
+      let inside = (tile_lies b 8 (length b) (shape b).records m sound.has_shape.tiled (member kind sound at m i).inside).high in
       entry_means b now (file_now sound rechains) m (record { size = size_now sound w m i; code = part_beside sound w m 24 28 i (inl (omega arith)) (omega arith); rest = part_beside sound w m 32 (size_at b m) i (inr (omega arith)) (omega arith); inside = inside }) (member_fits kind sound at m i)
 
   entry_rules : (m : ℕ) → In m chain → Hold (entry_rows b own.adr m)
@@ -226,7 +208,7 @@ module _ {b now : List ℕ} {kind : EntryKind} {before : List AttributeShape} {o
     | inr le ↦
         let out : In m (written_tiles ws) → ⊥ = λ j. let lt = later_above b num chain m (subst (In m) (tiles_of b those) j) in absurd (omega arith) in
         let l = long_enough m i in
-        late_says m i ∙ others_keep b (shape b).records first_marks ws sound.has_shape.tiled (some_bytes b (shape b) sound.has_shape) may m aedr_num (entry_in m i) (λ u. t.in_use (sym (entry_typed m i) ∙ u)) out (omega arith) ∙ sym (rests num (number b m aedr_num) le)
+        late_says m i ∙ others_keep b (shape b).records first_marks ws sound.has_shape.tiled (some_bytes b (shape b) sound.has_shape) may m aedr_num (member kind sound at m i).inside (λ u. t.in_use (sym (member kind sound at m i).typed ∙ u)) out (omega arith) ∙ sym (rests num (number b m aedr_num) le)
   ]
 
   pub fell : (m : ℕ) → In m chain → EntryFell b now num m
@@ -264,8 +246,8 @@ module _ {b now : List ℕ} {kind : EntryKind} {before : List AttributeShape} {o
 
   num_stays : (m : ℕ) → In m chain → Stays b now m (aedr_num ∷ [])
   num_stays m i =
-      let other = (t).other in
-      keeps_within sound rechains.edit (same_records good rechains) m (entry_type kind) (aedr_num ∷ []) (entry_in m i) (entry_typed m i) ((λ same lies. inl (omega arith)), ((λ same lies. absurd (other same)), tt)) ((λ same lies. refl), ((λ same lies. absurd (other same)), tt))
+      let other = t.other in
+      keeps_within sound rechains.edit (same_records good rechains) m (entry_type kind) (aedr_num ∷ []) (member kind sound at m i).inside (member kind sound at m i).typed ((λ same lies. inl (omega arith)), ((λ same lies. absurd (other same)), tt)) ((λ same lies. refl), ((λ same lies. absurd (other same)), tt))
 
   entry_falls : (m : ℕ) → In m chain → EntryEdited b now (with_chain own kind chain) kind m (number_field num (number b m aedr_num)) (fallen num (number b m aedr_num))
   entry_falls m i = record {
@@ -273,8 +255,8 @@ module _ {b now : List ℕ} {kind : EntryKind} {before : List AttributeShape} {o
     lasts = (
       elim (cases_lt num (number b m aedr_num)) [
         | inl lt ↦ rw (lt-ltb num (number b m aedr_num) lt) (num_stays m i)
-        | inr le ↦ rw (le-ltb num (number b m aedr_num) le) (keeps_away sound rechains.edit (same_records good rechains) m (entry_type kind) (Only []) (entry_in m i) (entry_typed m i)
-            ((λ same lies. let lt = later_above b num chain m lies in absurd (omega arith)), ((λ same lies. (t).other same), tt)))
+        | inr le ↦ rw (le-ltb num (number b m aedr_num) le) (keeps_away sound rechains.edit (same_records good rechains) m (entry_type kind) (Only []) (member kind sound at m i).inside (member kind sound at m i).typed
+            ((λ same lies. let lt = later_above b num chain m lies in absurd (omega arith)), ((λ same lies. t.other same), tt)))
       ],
       type_stays b now m (aedr_num ∷ []) (num_stays m i) (let l = long_enough m i in omega arith) (λ n l. (inl (omega arith), tt)),
     );
@@ -283,6 +265,6 @@ module _ {b now : List ℕ} {kind : EntryKind} {before : List AttributeShape} {o
 
   -- some number is greater
   pub numbers_fell : (lowers b num kind own).writes ≡ true → integer4 now own.adr (max_field kind) ≡ greatest_number (closed_up num num (entries_of (attribute_of b own) kind)) → EditsEntries b now kind (only_at (length before) (lowers b num kind)) []
-  numbers_fell writes greatest = edited good rechains (stand_tests kind own.adr (those)) (good_lowered) (as_long)
-      (λ m i typed out. (unmarked-away (falling kind own.adr (those)) uir_type m (t).unused, λ j. out (subst (In m) same_list j))) (lowers b num kind) refl refl (entries_now) writes greatest (λ m i stays. entry_falls m i)
-      (λ first acts shaped so_far. subst (ActsFollow first now) (sym (append-nil acts)) (acts_still_by sound so_far (edit) (t).unused (same_records good rechains) same_list (as_long))) (λ m i. absurd i)
+  numbers_fell writes greatest = edited good rechains (stand_tests kind own.adr those) good_lowered (as_long sound w)
+      (λ m i typed out. (unmarked-away (falling kind own.adr those) uir_type m t.unused, λ j. out (subst (In m) same_list j))) (lowers b num kind) refl refl (entries_now) writes greatest (λ m i stays. entry_falls m i)
+      (λ first acts shaped so_far. subst (ActsFollow first now) (sym (append-nil acts)) (acts_still_by sound so_far (edit sound w) t.unused (same_records good rechains) same_list (as_long sound w))) (λ m i. absurd i)
