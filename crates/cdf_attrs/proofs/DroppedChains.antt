@@ -240,16 +240,11 @@ keeps_same same = record { names = ap (λ (x : List ℕ). attribute_names (conte
 
 -- ---- what all of it comes to
 
--- the entry of a number was taken out of the chain, and these are left
-pub record Dropping (b mid : List ℕ) (kind : Kind) (k : EntryKind) (adr num : ℕ) (left : KnownEntries) : Type 0 where
-  pub asked : Lowerable mid k adr num left
-  pub drops : (now : List ℕ) → Lowers mid now k adr left num → DropsFrom b now (kind_of_entries kind) adr num
-  pub keeps : (now : List ℕ) → Lowers mid now k adr left num → Good now × KeepsAttributes b now
-
+-- the entry of a number was taken out of the chain, and these are left, whose numbers fall then
 module _ {b read loaded mid : List ℕ} (kind : Kind) {k : EntryKind} {adr num : ℕ} {chain : Chain} {scope : Scope} {entries left : KnownEntries} (good : Good b) (there : In adr (adrs (shape b))) (short : length b ≤ image_limit)
     (same : read ≡ b) (scope_is : scope ≡ scope_of (number b adr adr_scope)) (own : is_global scope ≡ false) (k_is : k ≡ kind_of_entries kind) (chain_is : chain ≡ entries_chain k adr)
     (same_loaded : loaded ≡ read) (is : entries.chain ≡ chain) (knows : KnowsEntries read entries) (drops : DropsNumber loaded mid k adr entries num left) (good_mid : Good mid) (left_knows : KnowsEntries mid left) where
-  pub dropping : Dropping b mid kind k adr num left
+  pub dropping : Lowerable mid k adr num left × ((now : List ℕ) → Lowers mid now k adr left num → DropsFrom b now (kind_of_entries kind) adr num × (Good now × KeepsAttributes b now))
   dropping =
       let has = scoped b adr there kind (subst (λ (s : Scope). is_global s ≡ false) scope_is own) in
       let of_kind = subst (λ (x : EntryKind). IsScoped b x adr) (sym k_is) has in
@@ -258,11 +253,7 @@ module _ {b read loaded mid : List ℕ} (kind : Kind) {k : EntryKind} {adr num :
       let dropped = subst (λ (x : List ℕ). DropsNumber x mid k adr entries num left) (same_loaded ∙ same) drops in
       let there_mid = subst (In adr) (sym (keeps_taken good short of_kind of_chain known dropped).places) there in
       let from = λ (now : List ℕ) (low : Lowers mid now k adr left num). subst (λ (x : EntryKind). DropsFrom b now x adr num) k_is (record { entries = entries; chain_is = of_chain; known = known; mid = mid; left = left; drops = dropped; good = good_mid; left_known = left_knows; lowers = low }) in
-      record {
-        asked = lowerable good_mid there_mid (chain_left good short of_kind of_chain known dropped) left_knows;
-        drops = from;
-        keeps = λ now low. keeps_dropped good short has (from now low);
-      }
+      (lowerable good_mid there_mid (chain_left good short of_kind of_chain known dropped) left_knows, λ now low. (from now low, keeps_dropped good short has (from now low)))
 
 -- ---- from one attribute after the other
 

@@ -28,19 +28,17 @@ pub lower_entries-requires : goal.lower_entries-requires
 lower_entries-requires g c =
     let d = from.dropping c.args.kind c.requires.good c.requires.adr c.requires.short c.in_ok-scope.ensures.area.image c.in_ok-scope.ensures.scope (sym c.if-is_global.ensures) c.entries_of-kind.ensures c.entries_chain.ensures
     c.in_ok-entries.ensures.area.image c.in_ok-entries.ensures.chain c.in_ok-entries.ensures.entries c.in_ok-left.ensures.drops c.in_ok-left.ensures.good c.in_ok-left.ensures.left in
-    record { long = d.asked.long; small = d.asked.small; lie = d.asked.lie; field = d.asked.field }
+    record { long = d.0.long; small = d.0.small; lie = d.0.lie; field = d.0.field }
 
 pub returns : goal.returns
 returns g c =
     let d = from.dropping c.args.kind c.requires.good c.requires.adr c.requires.short c.in_ok-scope.ensures.area.image c.in_ok-scope.ensures.scope (sym c.if-is_global.ensures) c.entries_of-kind.ensures c.entries_chain.ensures
     c.in_ok-entries.ensures.area.image c.in_ok-entries.ensures.chain c.in_ok-entries.ensures.entries c.in_ok-left.ensures.drops c.in_ok-left.ensures.good c.in_ok-left.ensures.left in
-    let now = g.A.Area.image c.lower_entries.new.area in
-    let after = on_ok_weaker c.lower_entries.result (d.keeps now) c.lower_entries.ensures.lowers in
+    let after = on_ok_weaker c.lower_entries.result (d.1 (g.A.Area.image c.lower_entries.new.area)) c.lower_entries.ensures.lowers in
     record {
       global = search rules;
-      dropped = on_ok_weaker c.lower_entries.result (λ lowers own. d.drops now lowers) c.lower_entries.ensures.lowers;
-      good = on_ok_weaker c.lower_entries.result (λ k. k.0) after;
-      keeps = on_ok_weaker c.lower_entries.result (λ k. k.1) after;
+      dropped = on_ok_weaker c.lower_entries.result (λ k own. k.0) after;
+      good = on_ok_weaker c.lower_entries.result (λ k. k.1.0) after;
+      keeps = on_ok_weaker c.lower_entries.result (λ k. k.1.1) after;
       area = search rules;
     }
-
