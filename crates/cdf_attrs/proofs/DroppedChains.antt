@@ -1,6 +1,6 @@
 -- The entries for a variable go from one attribute after the other: what is asked of a chain, what is written, and what it all comes to.
 use Rattle.std.proofs.Common.{◌≡◌, ℕ, ◌-◌, ◌≤◌, List, [], ◌∷◌, length, map, w32, refl, sym, ap, ap₂, subst, ◌∙◌, arith, inl, inr, ◌++◌, Bool, Some, true, false, eq-eqb, ◌<◌, Result, Ok, Err, ◌+◌, All, zero, suc}
-use Rattle.cdf_attrs.proofs.Common.{cases_lt, lt-ltb, le-ltb, cast_unsigned, entries_of, image_limit, signed_limit, closed_up, attribute_of, number, integer4, with_field, aedr_num, In, Good, Chain, chain_of, max_field, greatest_number, fallen, Write, with_writes, write, nums, LowersChain, LowersNumbers, lower_writes, IsOfAttribute, KnownEntries, KnowsEntries, IsGreatest, numbers_fell, Attribute, AttributeShape, Change, DropsFrom, DropsNumber, EditsEntries, Entry, EntryKind, IsScoped, KeepsAttributes, Lowers, TakenAt, attributes_agree, attributes_of, drops, drops_both, edits_rest, either, entries_chain, items_of, list_any, lowers, nat_lt, ne_eqb, num_in, numbered, only_at, position, shape, takes, without, ◌==◌, OnOk, slice_index, IsEntryOf, without_at, slice_get, is_global, is_wrong_scope, attribute_names, Kind, Scope, entry_bytes, content, scope_of, LiesIn, adr_scope, adrs, kind_of_entries, got-middle, stands_at, max_lies, good_is_sound, AllLie, slice_index_or, length-map, Found, DropsUpTo, finish, next_dropped, next_global, still_scoped, still_there, entries_now, greatest_lowered, later, lowered, nums_now, fallen_under, entries_closed, rests, Stands, DropsEntries, IfOk}
+use Rattle.cdf_attrs.proofs.Common.{if◌then◌else◌, nat_tests, cases_lt, lt-ltb, le-ltb, cast_unsigned, entries_of, image_limit, signed_limit, closed_up, attribute_of, number, integer4, with_field, aedr_num, In, Good, Chain, chain_of, max_field, greatest_number, fallen, Write, with_writes, write, nums, LowersChain, LowersNumbers, lower_writes, IsOfAttribute, KnownEntries, KnowsEntries, IsGreatest, numbers_fell, Attribute, AttributeShape, Change, DropsFrom, DropsNumber, EditsEntries, Entry, EntryKind, IsScoped, KeepsAttributes, Lowers, TakenAt, attributes_agree, attributes_of, drops, drops_both, edits_rest, either, entries_chain, items_of, list_any, lowers, nat_lt, ne_eqb, num_in, numbered, only_at, position, shape, takes, without, ◌==◌, OnOk, slice_index, IsEntryOf, without_at, slice_get, is_global, is_wrong_scope, attribute_names, Kind, Scope, entry_bytes, content, scope_of, LiesIn, adr_scope, adrs, kind_of_entries, got-middle, stands_at, max_lies, good_is_sound, AllLie, slice_index_or, length-map, Found, DropsUpTo, finish, next_dropped, next_global, still_scoped, still_there, entries_now, greatest_lowered, later, lowered, nums_now, fallen_under, entries_closed, rests, Stands, DropsEntries, IfOk}
 use Rattle.cdf_attrs.proofs.AttributeChain.{adr_inside, adr_parts, index_in, of_attribute}
 use Rattle.cdf_attrs.proofs.AttributeParts.{name_stays}
 use Rattle.cdf_attrs.proofs.EntryChains.{members, entry_inside}
@@ -62,10 +62,6 @@ no_key : (p : ℕ → Bool) (items : List (ℕ × Entry)) → ((n : ℕ) → In 
 no_key p [] f = refl
 no_key p (item ∷ items) f = rw (f item.0 (inl refl), no_key p items (λ n i. f n (inr i))) refl
 
-none_numbered : (b : List ℕ) (num : ℕ) (es : List ℕ) → (In num (nums b es) → ⊥) → numbered b num es ≡ []
-none_numbered b num [] none = refl
-none_numbered b num (e ∷ es) none = rw (ne_eqb (number b e aedr_num) num (λ q. none (inl (sym q)))) (none_numbered b num es (λ i. none (inr i)))
-
 -- ---- an attribute of an image, and what is known of a chain of it
 
 module _ {b : List ℕ} (good : Good b) {chain : Chain} (of : IsOfAttribute b chain) (es : KnownEntries) (is : es.chain ≡ chain) (knows : KnowsEntries b es) (num : ℕ) where
@@ -91,7 +87,7 @@ module _ {b : List ℕ} (good : Good b) {chain : Chain} (of : IsOfAttribute b ch
   takes_none : (In num es.numbers → ⊥) → EditsEntries b b of.kind (only_at of.number (takes b num of.kind)) (numbered b num of_chain)
   takes_none none =
       let none_there = λ (i : In num (nums b of_chain)). none (known num i) in
-      subst (EditsEntries b b of.kind (only_at of.number (takes b num of.kind))) (sym (none_numbered b num of_chain none_there)) (edits_rest of.number (takes b num of.kind) good of.stands (record {
+      subst (EditsEntries b b of.kind (only_at of.number (takes b num of.kind))) (sym (step.none_numbered b num of_chain none_there)) (edits_rest of.number (takes b num of.kind) good of.stands (record {
         falls = λ m i. refl;
         items = ap (without num num) (items_of b of.own of.kind) ∙ without_none b of_chain num none_there ∙ sym (items_of b of.own of.kind);
         writes = no (λ n. n == num) (λ n i. ne_eqb n num (λ e. none (subst (λ (x : ℕ). In x es.numbers) e i)));
@@ -210,13 +206,10 @@ scoped b adr there kind e =
 writes_lie : (b : List ℕ) (num : ℕ) (ns ps : List ℕ) → ((p : ℕ) → In p ps → p + 56 ≤ length b) → AllLie b (lower_writes num ns ps)
 writes_lie b num [] ps all = tt
 writes_lie b num (n ∷ ns) [] all = tt
-writes_lie b num (n ∷ ns) (p ∷ ps) all =
-    let rest = writes_lie b num ns ps (λ q j. all q (inr j)) in
-    let here = all p (inl refl) in
-    elim (cases_lt num n) [
-      | inl lt ↦ rw (lt-ltb num n lt) ((omega arith, rest))
-      | inr le ↦ rw (le-ltb num n le) rest
-    ]
+writes_lie b num (n ∷ ns) (p ∷ ps) all = step n p _ (all p (inl refl)) (writes_lie b num ns ps (λ q j. all q (inr j)))
+  where
+    step : (n p : ℕ) (ws : List Write) → p + 56 ≤ length b → AllLie b ws → AllLie b (if nat_lt num n then write p aedr_num (n - 1) ∷ ws else ws)
+    step n p ws here rest = grind (arith, nat_tests)
 
 -- what is asked of a chain whose numbers fall
 pub record Lowerable (b : List ℕ) (kind : EntryKind) (adr num : ℕ) (es : KnownEntries) : Type 0 where

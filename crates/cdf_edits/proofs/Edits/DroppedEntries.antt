@@ -30,8 +30,6 @@ drops b num kind a = record { rests = false; adr = chain_fields kind; goes = λ 
 
 -- ---- numbers and lists
 
-pub falls : (num n : ℕ) → num < n → fallen num n + 1 ≡ n
-falls num n lt = rw (lt-ltb num n lt) (omega arith)
 
 filter_twice : {A : Type 0} (p : A → Bool) (xs : List A) → filter p (filter p xs) ≡ filter p xs
 filter_twice p [] = refl
@@ -253,7 +251,7 @@ module _ (b now : List ℕ) (found : Found) (k : ℕ) (own own' : AttributeShape
 
   numbers_fall : (p : Bool) → is_global (attribute_of b own).scope ≡ p → Edited b now of_kind (change p) own own' → NumbersFall b now found own
   numbers_fall true e x variables = let no : true ≡ false = sym e ∙ variables in absurd cc
-  numbers_fall false e x variables = each (λ m. num < number b m aedr_num → number now m aedr_num + 1 ≡ number b m aedr_num) (chain_of own of_kind) (λ m i lt. let is = (x.entries m i (later false m lt)).num_is in let less = falls num (number b m aedr_num) lt in omega arith)
+  numbers_fall false e x variables = each (λ m. num < number b m aedr_num → number now m aedr_num + 1 ≡ number b m aedr_num) (chain_of own of_kind) (λ m i lt. let is = (x.entries m i (later false m lt)).num_is in grind (arith, nat_tests))
 
   renumbered : (p : Bool) → is_global (attribute_of b own).scope ≡ p → is_renumbered (attribute_of b own) of_kind num ≡ (change p).writes
   renumbered true e = rw e refl

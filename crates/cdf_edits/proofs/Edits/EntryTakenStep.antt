@@ -1,6 +1,6 @@
 -- An entry is taken out of one chain of an attribute and freed: the image is good, all beside the chain stands, and the acts before go on.
 use Rattle.std.proofs.Common.{◌≡◌, ◌≢◌, ℕ, ◌+◌, ◌≤◌, List, [], ◌∷◌, ◌++◌, length, true, false, eq-eqb, refl, sym, ap, ap₂, subst, ◌∙◌, arith, inl, inr}
-use Rattle.cdf_edits.proofs.Common.{cases_eq, ne_eqb, ◌==◌, Same, adr_type, field_marks, holder_type, linkable-long, type_in, unmarked, EntryKind, entries_of, image_limit, without, next_field, next_of, attribute_of, integer4, number, size_at, type_at, aedr_num, gdr_type, uir_type, AttributeShape, HasShape, Shape, shape, IsSound, In, Distinct, Good, size_kept, type_kept, linkable-in, linkable-type, good_is_sound, tile_lies, Stays, chain_of, entry_type, greatest_number, max_field, IsDropped, count_field, entries_chain, with_chain, Away, giving_marks, ActsFollow, Act, Gave, gave, members_of, Gives, eqb-false}
+use Rattle.cdf_edits.proofs.Common.{nat_tests, if◌then◌else◌, cases_eq, ne_eqb, ◌==◌, Same, adr_type, field_marks, holder_type, linkable-long, type_in, unmarked, EntryKind, entries_of, image_limit, without, next_field, next_of, attribute_of, integer4, number, size_at, type_at, aedr_num, gdr_type, uir_type, AttributeShape, HasShape, Shape, shape, IsSound, In, Distinct, Good, size_kept, type_kept, linkable-in, linkable-type, good_is_sound, tile_lies, Stays, chain_of, entry_type, greatest_number, max_field, IsDropped, count_field, entries_chain, with_chain, Away, giving_marks, ActsFollow, Act, Gave, gave, members_of, Gives, eqb-false}
 use Rattle.cdf_edits.proofs.Edits.ChainEdits.{removed_keeps}
 use Rattle.cdf_edits.proofs.Edits.Common.{chain_now, Away-append, Kept, KeptButLink, acts_still_by, apart, chain_has, differ_before, edit_then, has_chain, kept, late_size, late_type, members_are, of_shape, same-then, the_one, there, unmarked-away, acts_gave, was_listed, link_allowed, num_in, nums}
 use Rattle.cdf_edits.proofs.Edits.DroppedEntries.{link_field, numbered, takes}
@@ -15,11 +15,10 @@ use Rattle.cdf_model.specs.declared.kinds.EntryKind.TheVariants as entries
 
 stays_left : (old m : ℕ) (es : List ℕ) → In m es → m ≢ old → In m (left_of old es)
 stays_left old m [] i ne = absurd i
-stays_left old m (e ∷ es) (inl q) ne = rw (ne_eqb e old (λ x. ne (q ∙ x))) (inl q)
-stays_left old m (e ∷ es) (inr i) ne = elim (cases_eq e old) [
-  | inl q ↦ rw (eq-eqb e old q) i
-  | inr d ↦ rw (ne_eqb e old d) (inr (stays_left old m es i ne))
-]
+stays_left old m (e ∷ es) i ne = step e (left_of old es) i (λ j. stays_left old m es j ne)
+  where
+    step : (e : ℕ) (rest : List ℕ) → In m (e ∷ es) → (In m es → In m rest) → In m (if e == old then es else e ∷ rest)
+    step e rest i so = grind (arith, nat_tests)
 
 -- the records of a number
 pub none_numbered : (b : List ℕ) (num : ℕ) (es : List ℕ) → (In num (nums b es) → ⊥) → numbered b num es ≡ []

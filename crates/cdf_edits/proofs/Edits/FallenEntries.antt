@@ -3,7 +3,7 @@ use Rattle.std.proofs.Common.{◌≡◌, ℕ, ℤ, ◌-◌, ◌<◌, ◌≤◌, 
 use Rattle.cdf_edits.proofs.Common.{w32, cast_unsigned, FitsSigned, integer4, cases_lt, lt-ltb, le-leb, leb-true, filter, ◌==◌, nat_lt, EntryKind, entries_of, image_limit, record_number_limit, closed_up, entry_rows, attribute_of, number, size_at, type_at, with_field, aedr_num, Hold, AttributeShape, Each, shape, IsSound, In, Distinct, Good, number_kept, good_is_sound, filter-in, tile_lies, chain_of, entry_type, max_field, Edit, fallen, Among, Mark, mark, Write, write, with_writes, word_kept, aedr_attr_num, le-ltb, uir_type, Shape, Only, Stays, ActsFollow, greatest_number, with_chain, ltb-true, lt-leb, nat_tests, if◌then◌else◌, with_item, entry_of}
 use Rattle.cdf_edits.proofs.Edits.ChainMembers.{IsAmong, member, member_fits, own_there}
 use Rattle.cdf_edits.proofs.Edits.Common.{chain_now, Rechains, chain_has, file_now, filter-distinct, filter-keeps, filter-says, num_same, some_bytes, acts_still_by, keeps_away, keeps_within, now_is, type_stays, unmarked-away, counted_before, differ_before, good_settled, items_of, rules_before, EntryMeans, entry_means, nums}
-use Rattle.cdf_edits.proofs.Edits.DroppedEntries.{falls, lowers, number_field}
+use Rattle.cdf_edits.proofs.Edits.DroppedEntries.{lowers, number_field}
 use Rattle.cdf_edits.proofs.Edits.EntriesEdited.{EditsEntries, EntryEdited, StandTests, edited, only_at, same_records}
 use Rattle.cdf_edits.proofs.Edits.WrittenEntries.{WriteTests, WritesChain, as_long, count_now as count_written, edit, greatest_now as greatest_written, mid_kept, mid_size, part_beside, size_now, rechains as rechains_written, settled as settled_written, write_tests, writing}
 use Rattle.cdf_edits.proofs.Edits.WrittenFields.{MayWrite, others_keep, writes_edit, writes_long, writes_say, written_tiles}
@@ -203,8 +203,7 @@ module _ {b now : List ℕ} {kind : EntryKind} {before : List AttributeShape} {o
   fell_number m i = elim (cases_lt num (number b m aedr_num)) [
     | inl lt ↦
         let to = of_write b those (λ (w : Write). number mid w.tile w.f ≡ w.to) m (filter-keeps (λ aedr. nat_lt num (number b aedr aedr_num)) chain m i (lt-ltb num (number b m aedr_num) lt)) says in
-        let down = falls num (number b m aedr_num) lt in
-        late_says m i ∙ to ∙ omega arith
+        late_says m i ∙ to ∙ grind (arith, nat_tests)
     | inr le ↦
         let out : In m (written_tiles ws) → ⊥ = λ j. let lt = later_above b num chain m (subst (In m) (tiles_of b those) j) in absurd (omega arith) in
         let l = long_enough m i in
