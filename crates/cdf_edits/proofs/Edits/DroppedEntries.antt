@@ -30,7 +30,6 @@ drops b num kind a = record { rests = false; adr = chain_fields kind; goes = λ 
 
 -- ---- numbers and lists
 
-
 filter_twice : {A : Type 0} (p : A → Bool) (xs : List A) → filter p (filter p xs) ≡ filter p xs
 filter_twice p [] = refl
 filter_twice p (x ∷ xs) = elim (either (p x)) [ inl e ↦ rw (e, e) (ap (λ (r : List _). x ∷ r) (filter_twice p xs)) | inr e ↦ rw e (filter_twice p xs) ]
@@ -293,14 +292,14 @@ finish {b = b} {now = now} {found = found} d =
     let kind = kind_of_entries found.kind in
     let by_now : (j : ℕ) (a a' : AttributeShape) → slice_get (shape b).attributes j ≡ Some a → Edited b now kind (dropping b found (length (shape b).attributes) j a) a a' → Edited b now kind (if not (is_global (attribute_of b a).scope) then drops b found.number kind a else idle) a a' = λ j a a' at x. rw (lt-ltb j (length (shape b).attributes) (slice_get_within (shape b).attributes j a at)) at x in
     let content_is : content now ≡ record (content b) { attributes = map w (content b).attributes } = s.content_is ∙ ap (λ (as_ : List Attribute). record (content b) { attributes = as_ })
-        (attributes_of now s.good
-        ∙ attributes_agree d (attribute_of now) (λ a. w (attribute_of b a)) (λ j a a' at x. (by_now j a a' at x).attribute_is ∙ without_is b a found.kind found.number (attribute_of b a) _ refl)
-        ∙ sym (ap (map w) (attributes_of b s.was) ∙ map-map w (attribute_of b) (shape b).attributes)) in
+    (attributes_of now s.good
+    ∙ attributes_agree d (attribute_of now) (λ a. w (attribute_of b a)) (λ j a a' at x. (by_now j a a' at x).attribute_is ∙ without_is b a found.kind found.number (attribute_of b a) _ refl)
+    ∙ sym (ap (map w) (attributes_of b s.was) ∙ map-map w (attribute_of b) (shape b).attributes)) in
     let h = (good_is_sound b s.was).has_shape in
     let entries = λ (as_ : List AttributeShape). entries_for b as_ found in
     let acts = subst (λ (as_ : List AttributeShape). ActsFollow b now (gave b (entries as_))) whole (d.acts b [] h (no_acts b b h (record { records = refl; list = refl; long = refl; size = λ m i. refl; type = λ m i. refl; back = λ m i. refl }))) in
     let dropped_ones : (aedr : ℕ) → In aedr (entries (shape b).attributes) → IsDropped b now aedr = λ aedr i. d.dropped aedr (subst (λ (as_ : List AttributeShape). In aedr (entries as_)) (sym whole) i) in
     let attributes : (j : ℕ) (a a' : AttributeShape) → slice_get (shape b).attributes j ≡ Some a → slice_get (shape now).attributes j ≡ Some a' → AttributeDropped b now found j a a' = λ j a a' at at'.
-        let x = d.attributes j a at in
-        subst (AttributeDropped b now found j a) (same_Some x.0 a' (sym x.1.0 ∙ at')) (dropped b now found j a x.0 s.was at _ refl (by_now j a x.0 at x.1.1)) in
+    let x = d.attributes j a at in
+    subst (AttributeDropped b now found j a) (same_Some x.0 a' (sym x.1.0 ∙ at')) (dropped b now found j a x.0 s.was at _ refl (by_now j a x.0 at x.1.1)) in
     assumption (s, content_is, acts, dropped_ones, attributes)

@@ -1,6 +1,6 @@
 -- Entries of a chain get numbers less by one, where they are greater than one that none has, and the greatest number of the chain is written.
 use Rattle.std.proofs.Common.{◌≡◌, ℕ, ℤ, ◌-◌, ◌<◌, ◌≤◌, ◌^◌, List, [], ◌∷◌, ◌++◌, length, map, refl, sym, ap, subst, ◌∙◌, arith, inl, inr, ◌+◌, true, append-nil, ◌≢◌, ap₂}
-use Rattle.cdf_edits.proofs.Common.{w32, cast_unsigned, FitsSigned, integer4, cases_lt, lt-ltb, le-leb, leb-true, filter, ◌==◌, nat_lt, EntryKind, entries_of, image_limit, record_number_limit, closed_up, entry_rows, attribute_of, number, size_at, type_at, with_field, aedr_num, Hold, AttributeShape, Each, shape, IsSound, In, Distinct, Good, number_kept, good_is_sound, filter-in, tile_lies, chain_of, entry_type, max_field, Edit, fallen, Among, Mark, mark, Write, write, with_writes, word_kept, aedr_attr_num, le-ltb, uir_type, Shape, Only, Stays, ActsFollow, greatest_number, with_chain, ltb-true, lt-leb, nat_tests, if◌then◌else◌, with_item, entry_of}
+use Rattle.cdf_edits.proofs.Common.{w32, cast_unsigned, FitsSigned, integer4, cases_lt, lt-ltb, le-leb, leb-true, filter, ◌==◌, nat_lt, EntryKind, entries_of, image_limit, record_number_limit, closed_up, entry_rows, attribute_of, number, size_at, with_field, aedr_num, Hold, AttributeShape, Each, shape, IsSound, In, Distinct, Good, number_kept, good_is_sound, filter-in, tile_lies, chain_of, entry_type, max_field, Edit, fallen, Among, Mark, mark, Write, write, with_writes, word_kept, aedr_attr_num, le-ltb, uir_type, Shape, Only, Stays, ActsFollow, greatest_number, with_chain, ltb-true, nat_tests, if◌then◌else◌, with_item, entry_of}
 use Rattle.cdf_edits.proofs.Edits.ChainMembers.{IsAmong, member, member_fits, own_there}
 use Rattle.cdf_edits.proofs.Edits.Common.{chain_now, Rechains, chain_has, file_now, filter-distinct, filter-keeps, filter-says, num_same, some_bytes, acts_still_by, keeps_away, keeps_within, now_is, type_stays, unmarked-away, counted_before, differ_before, good_settled, items_of, rules_before, EntryMeans, entry_means, nums}
 use Rattle.cdf_edits.proofs.Edits.DroppedEntries.{lowers, number_field}

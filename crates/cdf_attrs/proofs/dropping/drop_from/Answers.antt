@@ -1,5 +1,5 @@
-use Rattle.std.proofs.Common.{rules, ◌≡◌, ◌∙◌, ℕ, List, false, sym, subst, arith}
-use Rattle.cdf_attrs.proofs.Common.{on_ok_weaker, good_is_sound, shape, Good, is_global, Scope, EntryKind, IsScoped, IsOfAttribute}
+use Rattle.std.proofs.Common.{rules, ◌≡◌, false, sym, arith}
+use Rattle.cdf_attrs.proofs.Common.{on_ok_weaker, good_is_sound, shape, is_global}
 use Rattle.cdf_attrs.proofs.AttributeChain.{adr_inside, of_attribute}
 use Rattle.cdf_attrs.proofs.DroppedChains as from
 use Rattle.cdf_attrs.proofs.dropping.drop_from.Goals as goal
