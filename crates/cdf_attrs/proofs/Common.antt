@@ -39,7 +39,7 @@ pub use Rattle.cdf_edits.proofs.Edits.ChainKinds.{adr_of, chain_in}
 pub use Rattle.cdf_edits.proofs.Edits.ChainSpliced.{Rechains, entry_stays}
 pub use Rattle.cdf_edits.proofs.Edits.ChainsOfShape.{has_chain, members_are}
 pub use Rattle.cdf_edits.proofs.Edits.DeletedAttribute.{own}
-pub use Rattle.cdf_edits.proofs.Edits.DroppedEntries.{DropsUpTo, drops, drops_both, finish, lowers, next_dropped, next_global, numbered, start, still_scoped, still_there, takes}
+pub use Rattle.cdf_edits.proofs.Edits.DroppedEntries.{DropsUpTo, drops, drops_both, finish, lowers, next_dropped, next_global, numbered, start, still_scoped, takes, untouched}
 pub use Rattle.cdf_edits.proofs.Edits.EntriesEdited.{Change, EditsEntries, Rests, attributes_agree, attributes_of, edits_rest, only_at}
 pub use Rattle.cdf_edits.proofs.Edits.EntryFields.{count_is, max_lies, max_written, of_shape}
 pub use Rattle.cdf_edits.proofs.Edits.FallenEntries.{LowersChain, numbers_fell, entries_now, greatest_lowered, later, lowered, nums_now, fallen_under, entries_closed, rests}

@@ -1,6 +1,6 @@
 -- The entries for a variable go from one attribute after the other: what is asked of a chain, what is written, and what it all comes to.
 use Rattle.std.proofs.Common.{◌≡◌, ℕ, ◌-◌, ◌≤◌, List, [], ◌∷◌, length, map, w32, refl, sym, ap, ap₂, subst, ◌∙◌, arith, inl, inr, ◌++◌, Bool, Some, true, false, eq-eqb, ◌<◌, Result, Ok, Err, ◌+◌, All, zero, suc}
-use Rattle.cdf_attrs.proofs.Common.{if◌then◌else◌, nat_tests, cases_lt, lt-ltb, le-ltb, cast_unsigned, entries_of, image_limit, signed_limit, closed_up, attribute_of, number, integer4, with_field, aedr_num, In, Good, Chain, chain_of, max_field, greatest_number, fallen, Write, with_writes, write, nums, LowersChain, LowersNumbers, lower_writes, IsOfAttribute, KnownEntries, KnowsEntries, IsGreatest, numbers_fell, Attribute, AttributeShape, Change, DropsFrom, DropsNumber, EditsEntries, Entry, EntryKind, IsScoped, KeepsAttributes, Lowers, TakenAt, attributes_agree, attributes_of, drops, drops_both, edits_rest, either, entries_chain, items_of, list_any, lowers, nat_lt, ne_eqb, num_in, numbered, only_at, position, shape, takes, without, ◌==◌, OnOk, slice_index, IsEntryOf, without_at, slice_get, is_global, is_wrong_scope, attribute_names, Kind, Scope, entry_bytes, content, scope_of, LiesIn, adr_scope, adrs, kind_of_entries, max_lies, good_is_sound, AllLie, slice_index_or, length-map, Found, DropsUpTo, finish, next_dropped, next_global, still_scoped, still_there, entries_now, greatest_lowered, later, lowered, nums_now, fallen_under, entries_closed, rests, DropsEntries, IfOk}
+use Rattle.cdf_attrs.proofs.Common.{if◌then◌else◌, nat_tests, cases_lt, lt-ltb, le-ltb, cast_unsigned, entries_of, image_limit, signed_limit, closed_up, attribute_of, number, integer4, with_field, aedr_num, In, Good, Chain, chain_of, max_field, greatest_number, fallen, Write, with_writes, write, nums, LowersChain, LowersNumbers, lower_writes, IsOfAttribute, KnownEntries, KnowsEntries, IsGreatest, numbers_fell, Attribute, AttributeShape, Change, DropsFrom, DropsNumber, EditsEntries, Entry, EntryKind, IsScoped, KeepsAttributes, Lowers, TakenAt, attributes_agree, attributes_of, drops, drops_both, edits_rest, either, entries_chain, items_of, list_any, lowers, nat_lt, ne_eqb, num_in, numbered, only_at, position, shape, takes, without, ◌==◌, OnOk, slice_index, IsEntryOf, without_at, slice_get, is_global, is_wrong_scope, attribute_names, Kind, Scope, entry_bytes, content, scope_of, LiesIn, adr_scope, adrs, kind_of_entries, max_lies, good_is_sound, AllLie, slice_index_or, length-map, Found, DropsUpTo, finish, next_dropped, next_global, still_scoped, untouched, entries_now, greatest_lowered, later, lowered, nums_now, fallen_under, entries_closed, rests, DropsEntries, IfOk}
 use Rattle.cdf_attrs.proofs.AttributeChain.{adr_inside, adr_parts, index_in, of_attribute}
 use Rattle.cdf_attrs.proofs.AttributeParts.{name_stays}
 use Rattle.cdf_attrs.proofs.EntryChains.{members, entry_inside}
@@ -155,18 +155,16 @@ module _ {b mid : List ℕ} {kind : EntryKind} {adr num : ℕ} {es left : KnownE
     | inr takes ↦ ap (λ (e : KnownEntries). e.chain) takes.left_is ∙ is
   ]
 
-  -- its entry of the number went, and the greater numbers fell
-  pub dropped_both : {now : List ℕ} → Good mid → KnowsEntries mid left → Lowers mid now kind adr left num → EditsEntries b now kind (only_at has.number (drops b num kind)) (numbered b num (chain_of has.own kind) ++ [])
-  dropped_both {now} good_mid left_knows low =
-      let there = first.attributes has.number has.own has.stands in
-      let adr_is : there.0.adr ≡ adr = there.1.1.adr_is ∙ has.adr_is in
-      let none = number_gone (numbers_differ good (of_scoped has) es is knows) drops_num in
-      let long = first.stands.long in
-      let of : IsOfAttribute mid (entries_chain kind adr) = record { number = has.number; own = there.0; stands = there.1.0; kind = kind; chain_is = ap (entries_chain kind) (sym adr_is) } in
-      drops_both has.number num first (lowers_numbers good_mid of left chain_left left_knows num none (omega arith) (subst (λ (x : ℕ). Lowers mid now kind x left num) (sym adr_is) low))
-
+-- its entry of the number went, and the greater numbers fell
 pub dropped : {b now : List ℕ} {kind : EntryKind} {adr num : ℕ} → Good b → length b ≤ image_limit → (has : IsScoped b kind adr) → DropsFrom b now kind adr num → EditsEntries b now kind (only_at has.number (drops b num kind)) (numbered b num (chain_of has.own kind) ++ [])
-dropped good short has from = dropped_both good short has from.chain_is from.known from.drops from.good from.left_known from.lowers
+dropped {b} {now} {kind} {adr} {num} good short has from =
+    let taken = first good short has from.chain_is from.known from.drops in
+    let there = taken.attributes has.number has.own has.stands in
+    let adr_is : there.0.adr ≡ adr = there.1.1.adr_is ∙ has.adr_is in
+    let none = number_gone (numbers_differ good (of_scoped has) from.entries from.chain_is from.known) from.drops in
+    let long = taken.stands.long in
+    let of : IsOfAttribute from.mid (entries_chain kind adr) = record { number = has.number; own = there.0; stands = there.1.0; kind = kind; chain_is = ap (entries_chain kind) (sym adr_is) } in
+    drops_both has.number num taken (lowers_numbers from.good of from.left (chain_left good short has from.chain_is from.known from.drops) from.left_known num none (omega arith) (subst (λ (x : ℕ). Lowers from.mid now kind x from.left num) (sym adr_is) from.lowers))
 
 pub keeps_dropped : {b now : List ℕ} {kind : EntryKind} {adr num : ℕ} → Good b → length b ≤ image_limit → IsScoped b kind adr → DropsFrom b now kind adr num → Good now × KeepsAttributes b now
 keeps_dropped good short has from = let e = dropped good short has from in (e.stands.good, keeps_edited e)
@@ -271,7 +269,7 @@ drops_more {b} {before} {now} {kind} {num} {places} {k} {adr} good short are lt 
       | inl e ↦ subst (DropsUpTo b found (k + 1)) (sym (global e)) (next_global found k own d at.1.0 (scope_b ∙ scope_is ∙ e))
       | inr e ↦
           let long = keeps.long in
-          let has : IsScoped before (kind_of_entries found.kind) adr = record { number = k; own = own; stands = still_there found k own d at.1.0; adr_is = adr_is; in_scope = of_variables found.kind _ (scope_is ∙ e) } in
+          let has : IsScoped before (kind_of_entries found.kind) adr = record { number = k; own = own; stands = (untouched found k own d at.1.0).0; adr_is = adr_is; in_scope = of_variables found.kind _ (scope_is ∙ e) } in
           next_dropped found k own d at.1.0 (scope_b ∙ scope_is ∙ e) (dropped good_before (omega arith) has (subst (λ (x : Kind). DropsFrom before now (kind_of_entries x) adr found.number) (sym kind_is) (subst (DropsFrom before now (kind_of_entries kind) adr) (sym num_is) (from e))))
     ]
 

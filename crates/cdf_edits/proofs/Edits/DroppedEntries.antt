@@ -49,7 +49,7 @@ any_joined num (p ∷ items) = step p _ _ _ (any_joined num items)
 -- ---- changes one after the other
 
 pub joins_idle : {b chain : List ℕ} (c : Change) → Joins b chain c idle c
-joins_idle c = record { rests = λ q. (q, refl); adr = λ i o. (o, tt); goes = λ n q. (q, refl); falls = λ n. refl; fields = λ m i j stays o. (o, tt); items = λ items. refl; writes = refl }
+joins_idle c = record { rests = λ q. (q, refl); adr = λ i o. (o, tt); goes = λ n q. (q, refl); falls = λ n. refl; fields = λ m i j stays o. (o, tt); items = λ items. refl; writes = (λ w. absurd cc, λ w. refl) }
 
 joins_halves : {b mid : List ℕ} (num : ℕ) {kind : EntryKind} {a a' : AttributeShape} → Edited b mid kind (takes b num kind a) a a' → Joins b (chain_of a kind) (takes b num kind a) (lowers mid num kind a') (drops b num kind a)
 joins_halves {b} {mid} num {kind} {a} {a'} e = record {
@@ -59,8 +59,10 @@ joins_halves {b} {mid} num {kind} {a} {a'} e = record {
   falls = λ n. refl;
   fields = λ m i j stays o. let r = outside_split (link_field b num m) (number_field num (number b m aedr_num)) i o in (r.0, subst (λ (n : ℕ). OutsideFields (number_field num n) i) (sym (e.entries m j stays).num_is) r.1);
   items = λ items. ap (map (λ (pair : ℕ × Entry). (if nat_lt num pair.0 then pair.0 - (num + 1 - num) else pair.0, pair.1))) (filter_twice (λ (pair : ℕ × Entry). not (nat_le num pair.0 && nat_le pair.0 num)) items);
-  writes = any_joined num (entries_of (attribute_of b a) kind)
-      ∙ ap (λ (items : List (ℕ × Entry)). list_any (λ pair. nat_lt num pair.0) items || list_any (λ pair. pair.0 == num) (entries_of (attribute_of b a) kind)) (sym (ap (λ (x : Attribute). entries_of x kind) e.attribute_is ∙ items_with (attribute_of b a) kind _));
+  writes =
+      let items = entries_of (attribute_of b a) kind in
+      let joined = any_joined num items ∙ ap (λ (xs : List (ℕ × Entry)). list_any (λ pair. nat_lt num pair.0) xs || list_any (λ pair. pair.0 == num) items) (sym (ap (λ (x : Attribute). entries_of x kind) e.attribute_is ∙ items_with (attribute_of b a) kind _)) in
+      (λ w. joined ∙ ap (λ (p : Bool). p || list_any (λ pair. pair.0 == num) items) w, λ w. joined ∙ ap (λ (p : Bool). p || list_any (λ pair. pair.0 == num) items) w);
 }
 
 -- both in one attribute
@@ -92,9 +94,6 @@ leads_next b link (x ∷ []) l m (inr i) = absurd i
 leads_next b link (x ∷ y ∷ es) l m (inl q) = inr (inr (inl (ap (next_of b) q ∙ l.1.0)))
 leads_next b link (x ∷ y ∷ es) l m (inr i) = elim (leads_next b (next_of b x) (y ∷ es) l.1 m i) [ inl z ↦ inl z | inr j ↦ inr (inr j) ]
 
-abbrev beside : ℕ → ℕ → ℕ → ℕ → List Field
-beside num next after here = (if not (next == 0) && (after == num) then next_field ∷ [] else []) ++ (if nat_lt num here then aedr_num ∷ [] else [])
-
 module _ {b mid : List ℕ} (found : Found) (k : ℕ) (own : AttributeShape) (d : DropsUpTo b found k mid) (at : slice_get (shape b).attributes k ≡ Some own) where
   abbrev kind : EntryKind
   kind = kind_of_entries found.kind
@@ -103,14 +102,11 @@ module _ {b mid : List ℕ} (found : Found) (k : ℕ) (own : AttributeShape) (d 
   chain = chain_of own kind
 
   -- the attribute is as it was
-  untouched : (slice_get (shape mid).attributes k ≡ Some own) × Edited b mid kind idle own own
+  pub untouched : (slice_get (shape mid).attributes k ≡ Some own) × Edited b mid kind idle own own
   untouched =
       let x = d.attributes k own at in
       let e : Edited b mid kind idle own x.0 = rw (le-ltb k k (omega arith)) at x.1.1 in
       (subst (λ (a : AttributeShape). slice_get (shape mid).attributes k ≡ Some a) (e.stands refl) x.1.0, subst (Edited b mid kind idle own) (e.stands refl) e)
-
-  pub still_there : slice_get (shape mid).attributes k ≡ Some own
-  still_there = untouched.0
 
   pub still_scoped : is_global (attribute_of b own).scope ≡ is_global (attribute_of mid own).scope
   still_scoped = ap (λ (a : Attribute). is_global a.scope) (sym (untouched.1.attribute_is ∙ with_own (attribute_of b own) kind))
@@ -122,12 +118,10 @@ module _ {b mid : List ℕ} (found : Found) (k : ℕ) (own : AttributeShape) (d 
   same m i f fits = entry_same b d.stands.was k own at kind m i (stays m i) f fits
 
   beside_same : (m : ℕ) → In m chain → fields_beside mid found.number m ≡ fields_beside b found.number m
-  beside_same m i =
-      ap₂ (λ (x n : ℕ). beside found.number x (number mid x aedr_num) n) (same m i next_field (omega arith)) (same m i aedr_num (omega arith))
-      ∙ elim (leads_next b _ chain (chain_has kind own (has_own b d.stands.was k own at)).leads m i) [
-        | inl z ↦ rw z refl
-        | inr j ↦ ap (λ (n : ℕ). beside found.number (next_of b m) n (number b m aedr_num)) (same (next_of b m) j aedr_num (omega arith))
-      ]
+  beside_same m i = rw (same m i next_field (omega arith), same m i aedr_num (omega arith)) (elim (leads_next b _ chain (chain_has kind own (has_own b d.stands.was k own at)).leads m i) [
+    | inl z ↦ rw z refl
+    | inr j ↦ rw (same (next_of b m) j aedr_num (omega arith)) refl
+  ])
 
   joins_dropped : Joins b chain idle (drops mid found.number kind own) (drops b found.number kind own)
   joins_dropped = record {
@@ -137,15 +131,8 @@ module _ {b mid : List ℕ} (found : Found) (k : ℕ) (own : AttributeShape) (d 
     falls = λ n. refl;
     fields = λ m i j stays o. (tt, subst (λ (fs : List Field). OutsideFields fs i) (sym (beside_same m j)) o);
     items = λ items. refl;
-    writes = by (ap (λ (x : Attribute). entries_of x kind) untouched.1.attribute_is ∙ items_with (attribute_of b own) kind _);
+    writes = let same = ap (λ (x : Attribute). list_any (λ pair. nat_le found.number pair.0) (entries_of x kind)) (sym (untouched.1.attribute_is ∙ with_own (attribute_of b own) kind)) in (λ w. same ∙ w, λ w. same ∙ w);
   }
-    where
-      or_false : (p : Bool) → p ≡ (p || false)
-      or_false true = refl
-      or_false false = refl
-
-      by : {xs ys : List (ℕ × Entry)} → ys ≡ xs → list_any (λ pair. nat_le found.number pair.0) xs ≡ (list_any (λ pair. nat_le found.number pair.0) ys || false)
-      by e = ap (list_any (λ pair. nat_le found.number pair.0)) (sym e) ∙ or_false _
 
   entries_next : entries_for b (take (k + 1) (shape b).attributes) found ≡ entries_for b (take k (shape b).attributes) found ++ entries_for b (own ∷ []) found
   entries_next =
@@ -180,33 +167,22 @@ module _ {b mid : List ℕ} (found : Found) (k : ℕ) (own : AttributeShape) (d 
 -- ---- by the kind
 
 chain_or_other : (kind : EntryKind) (a : AttributeShape) (m : ℕ) → In m (a.gr_entries ++ a.z_entries) → In m (chain_of a kind) ⊎ In m (other_of a kind)
-chain_or_other entries.Z a m i = elim (In-append m a.gr_entries a.z_entries i) [ inl g ↦ inr g | inr z ↦ inl z ]
-chain_or_other other a m i = In-append m a.gr_entries a.z_entries i
+chain_or_other kind a m i = grind (arith, In-append m a.gr_entries a.z_entries i)
 
 by_type : {A : Type 0} (kind : EntryKind) (x y z : A) → ((if entry_type kind == adr_type then x else (if entry_type kind == entry_type kind then y else z)) ≡ y) × ((if other_type kind == adr_type then x else (if other_type kind == entry_type kind then y else z)) ≡ z)
-by_type entries.Z x y z = (refl, refl)
-by_type other x y z = (refl, refl)
+by_type kind x y z = grind arith
 
 -- the greatest number of the other chain is no field of this one
 beside_chain : (kind kind' : EntryKind) → share_chain kind kind' ≡ false → (i : ℕ) → (max_field kind').place ≤ i → i < (max_field kind').place + 4 → OutsideFields (chain_fields kind) i
-beside_chain entries.Z entries.Z e i l u = absurd cc
-beside_chain entries.Z kind' e i l u = (inl (omega arith), (inl (omega arith), (inl (omega arith), tt)))
-beside_chain kind entries.Z e i l u = (inr (omega arith), (inr (omega arith), (inr (omega arith), tt)))
-beside_chain kind kind' e i l u = absurd cc
+beside_chain kind kind' e i l u = grind arith
 
 -- kinds that share a chain
 greatest_of : (b now : List ℕ) (a a' : AttributeShape) (kind kind' : EntryKind) (written : Bool) → share_chain kind kind' ≡ true → GreatestIs b now a a' kind written → GreatestIs b now a a' kind' written
-greatest_of b now a a' entries.Z entries.Z written e g = g
-greatest_of b now a a' entries.Z kind' written e g = absurd cc
-greatest_of b now a a' kind entries.Z written e g = absurd cc
-greatest_of b now a a' kind kind' written e g = g
+greatest_of b now a a' kind kind' written e g = grind (arith, g)
 
 -- what an attribute means that dropped its entries, if it is one of variables
 without_is : (b : List ℕ) (own : AttributeShape) (kind : Kind) (num : ℕ) (a : Attribute) (global : Bool) → is_global a.scope ≡ global → with_entries a (kind_of_entries kind) ((if not global then drops b num (kind_of_entries kind) own else idle).items (entries_of a (kind_of_entries kind))) ≡ attribute_without kind num a
-without_is b own kinds.R num a true e = rw e refl
-without_is b own kinds.R num a false e = rw e refl
-without_is b own kinds.Z num a true e = rw e refl
-without_is b own kinds.Z num a false e = rw e refl
+without_is b own kind num a global e = grind (arith, e)
 
 -- ---- an attribute at the end of the way
 
@@ -229,8 +205,7 @@ module _ (b now : List ℕ) (found : Found) (k : ℕ) (own own' : AttributeShape
   -- ---- what may change
 
   may_adr : (p : Bool) → is_global_attribute (content b) k ≡ p → entries_allowance b (content b) found k own.adr ≡ Only (change p).adr
-  may_adr true e = rw e refl
-  may_adr false e = rw (e, is_adr b good k own at) refl
+  may_adr p e = let typed = is_adr b good k own at in grind (arith, nat_tests)
 
   may_other : (p : Bool) → is_global_attribute (content b) k ≡ p → (m : ℕ) → In m (other_of own of_kind) → entries_allowance b (content b) found k m ≡ Only []
   may_other true e m i = rw e refl
@@ -245,20 +220,17 @@ module _ (b now : List ℕ) (found : Found) (k : ℕ) (own own' : AttributeShape
   -- ---- a later entry, and the greatest numbers
 
   later : (p : Bool) (m : ℕ) → num < number b m aedr_num → (change p).goes (number b m aedr_num) ≡ false
-  later true m lt = refl
-  later false m lt = ne_eqb (number b m aedr_num) num (λ e. absurd (omega arith))
+  later p m lt = grind (arith, nat_tests)
 
   numbers_fall : (p : Bool) → is_global (attribute_of b own).scope ≡ p → Edited b now of_kind (change p) own own' → NumbersFall b now found own
   numbers_fall true e x variables = let no : true ≡ false = sym e ∙ variables in absurd cc
   numbers_fall false e x variables = each (λ m. num < number b m aedr_num → number now m aedr_num + 1 ≡ number b m aedr_num) (chain_of own of_kind) (λ m i lt. let is = (x.entries m i (later false m lt)).num_is in grind (arith, nat_tests))
 
   renumbered : (p : Bool) → is_global (attribute_of b own).scope ≡ p → is_renumbered (attribute_of b own) of_kind num ≡ (change p).writes
-  renumbered true e = rw e refl
-  renumbered false e = rw e refl
+  renumbered p e = grind (arith, e)
 
   outside : (p : Bool) (kind' : EntryKind) → share_chain of_kind kind' ≡ false → (i : ℕ) → (max_field kind').place ≤ i → i < (max_field kind').place + 4 → OutsideFields (change p).adr i
-  outside true kind' e i l u = tt
-  outside false kind' e i l u = beside_chain of_kind kind' e i l u
+  outside p kind' e i l u = grind (arith, beside_chain of_kind kind' e i l u)
 
   -- ---- all of it
 

@@ -159,11 +159,10 @@ pub record Joins (b chain : List ℕ) (c d e : Change) : Type 0 where
   pub falls : (n : ℕ) → d.falls (c.falls n) ≡ e.falls n
   pub fields : (m i : ℕ) → In m chain → e.goes (number b m aedr_num) ≡ false → OutsideFields (e.fields m) i → OutsideFields (c.fields m) i × OutsideFields (d.fields m) i
   pub items : (items : List (ℕ × Entry)) → d.items (c.items items) ≡ e.items items
-  pub writes : e.writes ≡ (d.writes || c.writes)
+  pub writes : (d.writes ≡ true → e.writes ≡ true) × (d.writes ≡ false → e.writes ≡ c.writes)
 
 pub with_twice : (a : Attribute) (kind : EntryKind) (f g : List (ℕ × Entry) → List (ℕ × Entry)) → (let a' = with_entries a kind (f (entries_of a kind)) in with_entries a' kind (g (entries_of a' kind))) ≡ with_entries a kind (g (f (entries_of a kind)))
-with_twice a entries.Z f g = refl
-with_twice a kind f g = refl
+with_twice a kind f g = grind arith
 
 lasts_then : {b mid now : List ℕ} {m : ℕ} {fs gs hs : List Field} → Lasts b mid m fs → Lasts mid now m gs → ((i : ℕ) → OutsideFields hs i → OutsideFields fs i × OutsideFields gs i) → Lasts b now m hs
 lasts_then one two sub = (stays_then _ _ _ _ _ _ _ one.0 two.0 sub, two.1 ∙ one.1)
@@ -182,13 +181,11 @@ edited_then {b} {mid} {now} {kind} {a} {a'} {a''} {c} {d} {e} one two j = record
       record { member = y.member; lasts = lasts_then x.lasts y.lasts (λ k. j.fields m k i stays); num_is = y.num_is ∙ ap d.falls x.num_is ∙ j.falls (number b m aedr_num) };
   attribute_is = two.attribute_is ∙ ap (λ (x : Attribute). with_entries x kind (d.items (entries_of x kind))) one.attribute_is ∙ with_twice (attribute_of b a) kind c.items d.items ∙ ap (with_entries (attribute_of b a) kind) (j.items (entries_of (attribute_of b a) kind));
   greatest = elim two.greatest [
-    | inl w ↦ inl (j.writes ∙ ap (λ (p : Bool). p || c.writes) w.0, w.1)
-    | inr s ↦
-        let same = j.writes ∙ ap (λ (p : Bool). p || c.writes) s.0 in
-        elim one.greatest [
-          | inl w ↦ inl (same ∙ w.0, s.1.0 ∙ w.1 ∙ ap (λ (x : Attribute). greatest_number (entries_of x kind)) (sym s.1.1))
-          | inr r ↦ inr (same ∙ r.0, (s.1.0 ∙ r.1.0, s.1.1 ∙ r.1.1))
-        ]
+    | inl w ↦ inl (j.writes.0 w.0, w.1)
+    | inr s ↦ elim one.greatest [
+      | inl w ↦ inl (j.writes.1 s.0 ∙ w.0, s.1.0 ∙ w.1 ∙ ap (λ (x : Attribute). greatest_number (entries_of x kind)) (sym s.1.1))
+      | inr r ↦ inr (j.writes.1 s.0 ∙ r.0, (s.1.0 ∙ r.1.0, s.1.1 ∙ r.1.1))
+    ]
   ];
 }
 
@@ -223,8 +220,7 @@ edits_then {b} {mid} {now} {gone = gone} {more = more} one two still joins = rec
 -- ---- where nothing was written
 
 pub with_own : (a : Attribute) (kind : EntryKind) → with_entries a kind (entries_of a kind) ≡ a
-with_own a entries.Z = refl
-with_own a kind = refl
+with_own a kind = grind arith
 
 pub attributes_of : (b : List ℕ) → Good b → (content b).attributes ≡ map (attribute_of b) (shape b).attributes
 attributes_of b good = ap (λ (d : DataSet). d.attributes) (content_is b (shape b) (good_is_sound b good).has_shape)
@@ -257,19 +253,13 @@ module _ (b : List ℕ) (good : Good b) (k : ℕ) (own : AttributeShape) (at : s
   pub adr_long : 324 ≤ size_at b own.adr
   adr_long = fixed_long b (shape b) h adr_type own.adr (record_in own.adr (inl refl)) is_adr
 
-  entry_long : (kind : EntryKind) (m : ℕ) → In m (chain_of own kind) → 32 ≤ size_at b m
-  entry_long kind m i =
-      let long = fixed_long b (shape b) h (entry_type kind) m (record_in m (inr (chain_in kind own m i))) (linkable-type b (shape b).records (entry_type kind) m ((chain_has kind own has_own).linkable m i)) in
-      let least = least_entry kind in
-      omega arith
-
   -- its records stay in another image
   module _ {now : List ℕ} where
     pub entry_same : (kind : EntryKind) (m : ℕ) → In m (chain_of own kind) → Stays b now m [] → (f : Field) → f.place + f.width ≤ 32 → number now m f ≡ number b m f
-    entry_same kind m i s f fits = let l = entry_long kind m i in stays_word s f.place f.width (omega arith) (λ n l u. tt)
-
-    pub adr_same : Stays b now own.adr [] → (lo n : ℕ) → lo + n ≤ 324 → word now (own.adr + lo) n ≡ word b (own.adr + lo) n
-    adr_same s lo n fits = let l = adr_long in stays_word s lo n (omega arith) (λ i l u. tt)
+    entry_same kind m i s f fits =
+        let long = fixed_long b (shape b) h (entry_type kind) m (record_in m (inr (chain_in kind own m i))) (linkable-type b (shape b).records (entry_type kind) m ((chain_has kind own has_own).linkable m i)) in
+        let least = least_entry kind in
+        stays_word s f.place f.width (omega arith) (λ n l u. tt)
 
     pub edited_same : {kind : EntryKind} {c : Change} → ((m : ℕ) → In m (attribute_records own) → Lasts b now m []) → attribute_of now own ≡ attribute_of b own → Rests b kind c own → Edited b now kind c own own
     edited_same {kind} {c} last same r = record {
@@ -280,7 +270,7 @@ module _ (b : List ℕ) (good : Good b) (k : ℕ) (own : AttributeShape) (at : s
       other_lasts = λ m i. last m (other_in kind own m i);
       entries = λ m i stays. let s = last m (inr (chain_in kind own m i)) in record { member = i; lasts = (stays_more (c.fields m) s.0, s.1); num_is = entry_same kind m i s.0 aedr_num (omega arith) ∙ sym (r.falls m i) };
       attribute_is = same ∙ sym (ap (with_entries (attribute_of b own) kind) r.items ∙ with_own (attribute_of b own) kind);
-      greatest = inr (r.writes, (ap (cast_signed w32) (adr_same (last own.adr (inl refl)).0 (max_field kind).place 4 (greatest_field kind)), same));
+      greatest = inr (r.writes, (let l = adr_long in let fits = greatest_field kind in ap (cast_signed w32) (stays_word (last own.adr (inl refl)).0 (max_field kind).place 4 (omega arith) (λ i l u. tt)), same));
     }
 
 -- ---- the image
@@ -312,8 +302,7 @@ at_split P (z ∷ xs) x x' ys f r (suc j) a at = elim (at_split P xs x x' ys f.1
 -- ---- by the kind
 
 other_is : (kind : EntryKind) (a : AttributeShape) (es : List ℕ) → other_of (with_chain a kind es) kind ≡ other_of a kind
-other_is entries.Z a es = refl
-other_is kind a es = refl
+other_is kind a es = grind arith
 
 -- one attribute changes, by its number
 abbrev pub only_at : ℕ → (AttributeShape → Change) → ℕ → AttributeShape → Change
@@ -356,10 +345,6 @@ module _ {b now : List ℕ} {list : List ℕ} {marks : List Mark} {reborn : List
   each_still [] stay last = tt
   each_still (a ∷ as_) stay last = (((λ m i. last m (In-append_left m (attribute_records a) (flat_map attribute_records as_) i)), stay.0.1), each_still as_ stay.1 (λ m i. last m (In-append_right m (attribute_records a) (flat_map attribute_records as_) i)))
 
-  variables_stay : (vk : Kind) → shapes_of (shape now) vk ≡ shapes_of (shape b) vk
-  variables_stay kinds.R = ap (λ (x : Shape). x.r_variables) (now_is sound r)
-  variables_stay kinds.Z = ap (λ (x : Shape). x.z_variables) (now_is sound r)
-
   replaced : content now ≡ with_attribute (content b) (length before) (attribute_of now own')
   replaced = content_replaced sound (splices sound r)
 
@@ -376,7 +361,7 @@ module _ {b now : List ℕ} {list : List ℕ} {marks : List Mark} {reborn : List
           long = long;
           records_are = same_records;
           gdr_is = ap (λ (x : Shape). x.gdr) (now_is sound r);
-          variables_are = variables_stay;
+          variables_are = elim [ kinds.R ↦ ap (λ (x : Shape). x.r_variables) (now_is sound r) | kinds.Z ↦ ap (λ (x : Shape). x.z_variables) (now_is sound r) ];
           attributes_kept = ap length attributes_now ∙ length-append before (own' ∷ after) ∙ sym (length-append before (own ∷ after)) ∙ ap length (sym r.was);
           cdr_kept = keeps_away sound r.edit same_records 8 cdr_type (Only []) (is_a-in b (shape b).records cdr_type 8 sound.has_shape.cdr_stands) (is_a-type b (shape b).records cdr_type 8 sound.has_shape.cdr_stands) (unmarked-away marks cdr_type 8 (both (unmarked marks cdr_type) _ file).0);
           gdr_kept = keeps_fields sound r.edit same_records (shape b).gdr gdr_type space_fields (gdr_in b (shape b) sound.has_shape) (gdr_typed b (shape b) sound.has_shape) (gdr_start sound r.edit file) t.gdr_within;

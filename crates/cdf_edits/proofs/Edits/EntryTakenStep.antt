@@ -37,8 +37,7 @@ one_numbered b num old (e ∷ es) d (inr i) is =
 -- ---- the marks, by the kind
 
 taken_tests : (kind : EntryKind) (adr : ℕ) (members list : List ℕ) (old size : ℕ) → StandTests (leaving kind adr members ++ giving_marks list (entry_type kind) old size) kind
-taken_tests entries.Z adr members list old size = record { adr_within = refl; gdr_within = refl; uir_start = refl; uir_within = refl; r_max = refl }
-taken_tests kind adr members list old size = record { adr_within = refl; gdr_within = refl; uir_start = refl; uir_within = refl; r_max = refl }
+taken_tests kind adr members list old size = grind arith
 
 -- the holder of the chain is no member, and later edits leave the members
 no_holder : (kind : EntryKind) (adr : ℕ) → (type_in (entries_chain kind adr) ≢ holder_type (entries_chain kind adr)) × (unmarked (field_marks adr_type adr (count_field kind) ++ field_marks adr_type adr (max_field kind)) (entry_type kind) ≡ true)

@@ -109,8 +109,7 @@ of_write b (e ∷ es) P m (inl q) all = subst (λ (x : ℕ). P (write x aedr_num
 of_write b (e ∷ es) P m (inr i) all = of_write b es P m i all.1
 
 stand_tests : (kind : EntryKind) (adr : ℕ) (es : List ℕ) → StandTests (falling kind adr es) kind
-stand_tests entries.Z adr es = record { adr_within = refl; gdr_within = refl; uir_start = refl; uir_within = refl; r_max = refl }
-stand_tests kind adr es = record { adr_within = refl; gdr_within = refl; uir_start = refl; uir_within = refl; r_max = refl }
+stand_tests kind adr es = grind arith
 
 -- the greater numbers of the chain were written less by one, and then its greatest number
 pub record LowersChain (b now : List ℕ) (kind : EntryKind) (before : List AttributeShape) (own : AttributeShape) (after : List AttributeShape) (num : ℕ) : Type 0 where
