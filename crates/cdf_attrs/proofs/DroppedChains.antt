@@ -150,10 +150,7 @@ module _ {b mid : List ℕ} {kind : EntryKind} {adr num : ℕ} {es left : KnownE
   keeps_taken = keeps_edited first
 
   pub chain_left : left.chain ≡ entries_chain kind adr
-  chain_left = elim drops_num [
-    | inl none ↦ ap (λ (e : KnownEntries). e.chain) none.left_is ∙ is
-    | inr takes ↦ ap (λ (e : KnownEntries). e.chain) takes.left_is ∙ is
-  ]
+  chain_left = grind (arith, drops_num)
 
 -- its entry of the number went, and the greater numbers fell
 pub dropped : {b now : List ℕ} {kind : EntryKind} {adr num : ℕ} → Good b → length b ≤ image_limit → (has : IsScoped b kind adr) → DropsFrom b now kind adr num → EditsEntries b now kind (only_at has.number (drops b num kind)) (numbered b num (chain_of has.own kind) ++ [])
@@ -192,8 +189,7 @@ module _ {b : List ℕ} {kind : EntryKind} {adr : ℕ} (good : Good b) (has : Is
 
 -- entries for variables go with attributes of variables
 pub of_variables : (kind : Kind) (scope : Scope) → is_global scope ≡ false → is_wrong_scope (kind_of_entries kind) scope ≡ false
-of_variables kinds.R scope e = e
-of_variables kinds.Z scope e = e
+of_variables kind scope e = grind (arith, e)
 
 pub scoped : (b : List ℕ) (adr : ℕ) (there : In adr (adrs (shape b))) (kind : Kind) → is_global (scope_of (number b adr adr_scope)) ≡ false → IsScoped b (kind_of_entries kind) adr
 scoped b adr there kind e =

@@ -208,8 +208,7 @@ module _ (b now : List ℕ) (found : Found) (k : ℕ) (own own' : AttributeShape
   may_adr p e = let typed = is_adr b good k own at in grind (arith, nat_tests)
 
   may_other : (p : Bool) → is_global_attribute (content b) k ≡ p → (m : ℕ) → In m (other_of own of_kind) → entries_allowance b (content b) found k m ≡ Only []
-  may_other true e m i = rw e refl
-  may_other false e m i = rw (e, linkable-type b (shape b).records (other_type of_kind) m ((other_has of_kind own (has_own b good k own at)).linkable m i)) (by_type of_kind _ _ _).1
+  may_other p e m i = let typed = linkable-type b (shape b).records (other_type of_kind) m ((other_has of_kind own (has_own b good k own at)).linkable m i) in grind (arith, nat_tests)
 
   entry_keeps : (p : Bool) → is_global_attribute (content b) k ≡ p → Edited b now of_kind (change p) own own' → (m : ℕ) → In m (chain_of own of_kind) → AttributeKeeps b now found k m
   entry_keeps true e x m i = lasts m (x.entries m i refl).lasts (rw e refl)

@@ -41,8 +41,7 @@ taken_tests kind adr members list old size = grind arith
 
 -- the holder of the chain is no member, and later edits leave the members
 no_holder : (kind : EntryKind) (adr : ℕ) → (type_in (entries_chain kind adr) ≢ holder_type (entries_chain kind adr)) × (unmarked (field_marks adr_type adr (count_field kind) ++ field_marks adr_type adr (max_field kind)) (entry_type kind) ≡ true)
-no_holder entries.Z adr = ((λ e. absurd cc), refl)
-no_holder kind adr = ((λ e. absurd cc), refl)
+no_holder kind adr = grind arith
 
 kept_then : (b mid now : List ℕ) (m : ℕ) → Kept b mid m → size_at mid m ≡ size_at b m → Kept mid now m → Kept b now m
 kept_then b mid now m one size two = record { same = same-then b mid now m (m + size_at b m) one.same (subst (λ (n : ℕ). Same mid now m (m + n)) size two.same); inside = one.inside; long = one.long }
