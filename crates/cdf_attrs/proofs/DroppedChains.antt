@@ -272,8 +272,5 @@ drops_more {b} {before} {now} {kind} {num} {places} {k} {adr} good short are lt 
 pub at_index : (xs ys : List ℕ) (i : ℕ) → xs ≡ ys → i < length xs → In (slice_index_or xs i 0) ys
 at_index xs ys i same lt = subst (In (slice_index_or xs i 0)) same (subst (λ (x : ℕ). In x xs) (sym (index_same xs i 0 lt)) (index_in xs i lt))
 
-pub keeps_then : {b mid now : List ℕ} → KeepsAttributes b mid → KeepsAttributes mid now → KeepsAttributes b now
-keeps_then one two = record { names = two.names ∙ one.names; places = two.places ∙ one.places; long = two.long ∙ one.long }
-
 pub all_done : {b now : List ℕ} {found : Found} (xs : List ℕ) (i : ℕ) → xs ≡ adrs (shape b) → i ≡ length xs → DropsUpTo b found i now → DropsEntries b found now
 all_done {b} {now} {found} xs i are all d = finish (subst (λ (n : ℕ). DropsUpTo b found n now) (all ∙ ap (λ (ys : List ℕ). length ys) are ∙ length-map (shape b).attributes (λ a. a.adr)) d)

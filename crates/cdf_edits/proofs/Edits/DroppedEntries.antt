@@ -1,6 +1,6 @@
 -- Attributes drop their entries for a variable, one after the other: what it does to each, and that it leads to `DropsEntries`.
 use Rattle.std.proofs.Common.{◌≡◌, ℕ, ◌+◌, ◌-◌, List, [], ◌∷◌, ◌++◌, map, Bool, false, eq-eqb, refl, sym, ap, subst, ◌∙◌, arith, inl, inr, ◌≢◌, ◌⊎◌, suc, ◌≤◌, true, Some, eqb, ap₂, ◌<◌, length, Option, None}
-use Rattle.cdf_edits.proofs.Common.{cases_eq, ne_eqb, nat_tests, filter, list_any, not, ◌&&◌, ◌||◌, ◌==◌, nat_le, nat_lt, if◌then◌else◌, Attribute, Entry, EntryKind, entries_of, closed_up, without, next_field, next_of, attribute_of, number, Field, aedr_num, AttributeShape, either, OutsideFields, chain_fields, chain_of, fields_beside, fallen, le-ltb, lt-ltb, same_Some, slice_get, take, Found, is_global, Leads, shape, In, Good, In-append, filter-in, Stays, kind_of_entries, entries_for, cast_signed, w32, Kind, with_entries, attribute_without, content, integer4, adr_type, linkable-type, good_is_sound, Anything, Keeps, Only, GreatestIs, entry_type, max_field, share_chain, entries_allowance, is_global_attribute, AttributeDropped, DropsEntries, IsDropped, gave, ActsFollow, take-suc, take-length, get_or_from_slice_get, slice_get_within, NumbersFall, is_renumbered, AttributeKeeps}
+use Rattle.cdf_edits.proofs.Common.{type_at, cases_eq, ne_eqb, nat_tests, filter, list_any, not, ◌&&◌, ◌||◌, ◌==◌, nat_le, nat_lt, if◌then◌else◌, Attribute, Entry, EntryKind, entries_of, closed_up, without, next_field, next_of, attribute_of, number, Field, aedr_num, AttributeShape, either, OutsideFields, chain_fields, chain_of, fields_beside, fallen, le-ltb, lt-ltb, same_Some, slice_get, take, Found, is_global, Leads, shape, In, Good, In-append, filter-in, Stays, kind_of_entries, entries_for, cast_signed, w32, Kind, with_entries, attribute_without, content, integer4, adr_type, linkable-type, good_is_sound, Anything, Keeps, Only, GreatestIs, entry_type, max_field, share_chain, entries_allowance, is_global_attribute, AttributeDropped, DropsEntries, IsDropped, gave, ActsFollow, take-suc, take-length, get_or_from_slice_get, slice_get_within, NumbersFall, is_renumbered, AttributeKeeps}
 use Rattle.cdf_edits.proofs.Edits.Common.{stays_word, chain_has, each, got-map, no_acts, other_has, other_of, other_type, items_with, greatest_field}
 use Rattle.cdf_edits.proofs.Edits.EntriesEdited.{Change, EditsEntries, Edited, idle, Lasts, attributes_agree, only_at, edits_same, entry_same, has_own, with_own, adr_long, is_adr, attributes_of, Joins, edits_then}
 use Rattle.cdf_edits.proofs.Frame.SoundStays.{filter_same}
@@ -169,9 +169,6 @@ module _ {b mid : List ℕ} (found : Found) (k : ℕ) (own : AttributeShape) (d 
 chain_or_other : (kind : EntryKind) (a : AttributeShape) (m : ℕ) → In m (a.gr_entries ++ a.z_entries) → In m (chain_of a kind) ⊎ In m (other_of a kind)
 chain_or_other kind a m i = grind (arith, In-append m a.gr_entries a.z_entries i)
 
-by_type : {A : Type 0} (kind : EntryKind) (x y z : A) → ((if entry_type kind == adr_type then x else (if entry_type kind == entry_type kind then y else z)) ≡ y) × ((if other_type kind == adr_type then x else (if other_type kind == entry_type kind then y else z)) ≡ z)
-by_type kind x y z = grind arith
-
 -- the greatest number of the other chain is no field of this one
 beside_chain : (kind kind' : EntryKind) → share_chain kind kind' ≡ false → (i : ℕ) → (max_field kind').place ≤ i → i < (max_field kind').place + 4 → OutsideFields (chain_fields kind) i
 beside_chain kind kind' e i l u = grind arith
@@ -210,11 +207,13 @@ module _ (b now : List ℕ) (found : Found) (k : ℕ) (own own' : AttributeShape
   may_other : (p : Bool) → is_global_attribute (content b) k ≡ p → (m : ℕ) → In m (other_of own of_kind) → entries_allowance b (content b) found k m ≡ Only []
   may_other p e m i = let typed = linkable-type b (shape b).records (other_type of_kind) m ((other_has of_kind own (has_own b good k own at)).linkable m i) in grind (arith, nat_tests)
 
+  may_entry : (p : Bool) → is_global_attribute (content b) k ≡ p → (m : ℕ) → type_at b m ≡ entry_type of_kind → entries_allowance b (content b) found k m ≡ (if (change p).goes (number b m aedr_num) then Anything else Only ((change p).fields m))
+  may_entry p e m typed = grind (arith, nat_tests)
+
   entry_keeps : (p : Bool) → is_global_attribute (content b) k ≡ p → Edited b now of_kind (change p) own own' → (m : ℕ) → In m (chain_of own of_kind) → AttributeKeeps b now found k m
-  entry_keeps true e x m i = lasts m (x.entries m i refl).lasts (rw e refl)
-  entry_keeps false e x m i =
-      let may : entries_allowance b (content b) found k m ≡ (if number b m aedr_num == num then Anything else Only (fields_beside b num m)) = rw (e, linkable-type b (shape b).records (entry_type of_kind) m ((chain_has of_kind own (has_own b good k own at)).linkable m i)) (by_type of_kind _ _ _).0 in
-      elim (either (number b m aedr_num == num)) [ inl q ↦ inl (may ∙ rw q refl) | inr ne ↦ lasts m (x.entries m i ne).lasts (may ∙ rw ne refl) ]
+  entry_keeps p e x m i =
+      let may = may_entry p e m (linkable-type b (shape b).records (entry_type of_kind) m ((chain_has of_kind own (has_own b good k own at)).linkable m i)) in
+      elim (either ((change p).goes (number b m aedr_num))) [ inl q ↦ inl (may ∙ rw q refl) | inr ne ↦ lasts m (x.entries m i ne).lasts (may ∙ rw ne refl) ]
 
   -- ---- a later entry, and the greatest numbers
 
