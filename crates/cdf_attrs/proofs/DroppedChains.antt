@@ -8,7 +8,6 @@ use Rattle.cdf_attrs.proofs.EntryTakenAt.{cut_is, from_map, parts, places_are, s
 use Rattle.cdf_attrs.proofs.GreatestNumber.{greatest_fits, greatest_of_items, each_of, keys, keys_in, nums_in}
 use Rattle.cdf_attrs.proofs.NumberGone.{none_in, number_gone, numbers_differ}
 use Rattle.cdf_edits.proofs.Edits.ChainEntries.{none_numbered as without_none}
-use Rattle.cdf_model.specs.declared.kinds.Kind.TheVariants as kinds
 use Rattle.std.proofs.lemmas.Simd.{map-map}
 use Rattle.cdf_attrs.proofs.EntryDeleted as deleted
 use Rattle.cdf_edits.proofs.Edits.EntryTakenStep as step

@@ -1,13 +1,11 @@
 -- Attributes drop their entries for a variable, one after the other: what it does to each, and that it leads to `DropsEntries`.
-use Rattle.std.proofs.Common.{◌≡◌, ℕ, ◌+◌, ◌-◌, List, [], ◌∷◌, ◌++◌, map, Bool, false, eq-eqb, refl, sym, ap, subst, ◌∙◌, arith, inl, inr, ◌≢◌, ◌⊎◌, suc, ◌≤◌, true, Some, eqb, ap₂, ◌<◌, length, Option, None}
-use Rattle.cdf_edits.proofs.Common.{type_at, cases_eq, ne_eqb, nat_tests, filter, list_any, not, ◌&&◌, ◌||◌, ◌==◌, nat_le, nat_lt, if◌then◌else◌, Attribute, Entry, EntryKind, entries_of, closed_up, without, next_field, next_of, attribute_of, number, Field, aedr_num, AttributeShape, either, OutsideFields, chain_fields, chain_of, fields_beside, fallen, le-ltb, lt-ltb, same_Some, slice_get, take, Found, is_global, Leads, shape, In, Good, In-append, filter-in, Stays, kind_of_entries, entries_for, cast_signed, w32, Kind, with_entries, attribute_without, content, integer4, adr_type, linkable-type, good_is_sound, Anything, Keeps, Only, GreatestIs, entry_type, max_field, share_chain, entries_allowance, is_global_attribute, AttributeDropped, DropsEntries, IsDropped, gave, ActsFollow, take-suc, take-length, get_or_from_slice_get, slice_get_within, NumbersFall, is_renumbered, AttributeKeeps}
+use Rattle.std.proofs.Common.{◌≡◌, ℕ, ◌+◌, ◌-◌, List, [], ◌∷◌, ◌++◌, map, Bool, false, eq-eqb, refl, sym, ap, subst, ◌∙◌, arith, inl, inr, ◌≢◌, ◌⊎◌, suc, ◌≤◌, true, Some, eqb, ◌<◌, length, Option, None}
+use Rattle.cdf_edits.proofs.Common.{type_at, cases_eq, ne_eqb, nat_tests, filter, list_any, not, ◌&&◌, ◌||◌, ◌==◌, nat_le, nat_lt, if◌then◌else◌, Attribute, Entry, EntryKind, entries_of, closed_up, without, next_field, next_of, attribute_of, number, Field, aedr_num, AttributeShape, either, OutsideFields, chain_fields, chain_of, fields_beside, fallen, le-ltb, lt-ltb, same_Some, slice_get, take, Found, is_global, Leads, shape, In, Good, In-append, filter-in, Stays, kind_of_entries, entries_for, cast_signed, w32, Kind, with_entries, attribute_without, content, integer4, linkable-type, good_is_sound, Anything, Keeps, Only, GreatestIs, entry_type, max_field, share_chain, entries_allowance, is_global_attribute, AttributeDropped, DropsEntries, IsDropped, gave, ActsFollow, take-suc, take-length, get_or_from_slice_get, slice_get_within, NumbersFall, is_renumbered, AttributeKeeps}
 use Rattle.cdf_edits.proofs.Edits.Common.{stays_word, chain_has, each, got-map, no_acts, other_has, other_of, other_type, items_with, greatest_field}
 use Rattle.cdf_edits.proofs.Edits.EntriesEdited.{Change, EditsEntries, Edited, idle, Lasts, attributes_agree, only_at, edits_same, entry_same, has_own, with_own, adr_long, is_adr, attributes_of, Joins, edits_then}
 use Rattle.cdf_edits.proofs.Frame.SoundStays.{filter_same}
 use Rattle.std.proofs.lemmas.Grind.{flat_map-append}
 use Rattle.std.proofs.lemmas.Simd.{map-map}
-use Rattle.cdf_model.specs.declared.kinds.EntryKind.TheVariants as entries
-use Rattle.cdf_model.specs.declared.kinds.Kind.TheVariants as kinds
 
 -- the fields of an entry that change, since the one behind it goes, or since its number is greater
 abbrev pub link_field : List ℕ → ℕ → ℕ → List Field

@@ -1,10 +1,9 @@
 -- An image in which entries of a kind were edited, attribute by attribute, and all beside them stands: what every step on the way to `DropsEntries` comes to.
 use Rattle.std.proofs.Common.{◌≡◌, ◌⊎◌, ℕ, ◌+◌, ◌≤◌, ◌<◌, List, [], ◌∷◌, ◌++◌, length, map, suc, Bool, true, false, Some, refl, sym, ap, ap₂, subst, ◌∙◌, arith, append_assoc, inl, inr, append-nil, ◌≢◌, zero, eq-eqb}
-use Rattle.cdf_edits.proofs.Common.{AttributeStays, Each, same_Some, slice_get, flat_map, Entry, EntryKind, Kind, entries_of, with_entries, attribute_of, content, integer4, number, size_at, type_at, word, variable_records, Field, aedr_num, uir_next_uir, uir_prev_uir, uir_type, AttributeShape, HasShape, shape, In, Good, OutsideFields, Stays, shapes_of, space_fields, chain_of, greatest_number, max_field, IsDropped, Act, gave, ActsFollow, r_max_rec, map-append, ◌||◌, Attribute, DataSet, is_in, VariableShape, AreTiles, linkable-in, linkable-type, good_is_sound, either, In-append, true-is_in, false-is_in, tile_lies, Gave, cast_signed, w32, content_is, attribute_records, adr_type, agr_edr_type, az_edr_type, cdr_type, HasEntries, IsSound, is_a-in, entry_type, cases_eq, ne_eqb, length-append, ◌==◌, if◌then◌else◌, with_attribute, gdr_r_max_rec, gdr_type, Shape, type_kept, is_a-type, In-append_left, In-append_right, both, Only, chain_fields, with_chain, Away, Mark, avoided, unmarked, within}
+use Rattle.cdf_edits.proofs.Common.{AttributeStays, Each, same_Some, slice_get, flat_map, Entry, EntryKind, Kind, entries_of, with_entries, attribute_of, content, integer4, number, size_at, type_at, variable_records, Field, aedr_num, uir_next_uir, uir_prev_uir, uir_type, AttributeShape, HasShape, shape, In, Good, OutsideFields, Stays, shapes_of, space_fields, chain_of, greatest_number, max_field, IsDropped, Act, gave, ActsFollow, r_max_rec, map-append, Attribute, DataSet, is_in, VariableShape, AreTiles, linkable-in, linkable-type, good_is_sound, either, In-append, true-is_in, false-is_in, tile_lies, Gave, cast_signed, w32, content_is, attribute_records, adr_type, agr_edr_type, az_edr_type, cdr_type, HasEntries, IsSound, is_a-in, entry_type, cases_eq, ne_eqb, length-append, ◌==◌, if◌then◌else◌, with_attribute, gdr_r_max_rec, gdr_type, Shape, type_kept, is_a-type, In-append_left, In-append_right, both, Only, chain_fields, with_chain, Away, Mark, avoided, unmarked, within}
 use Rattle.cdf_edits.proofs.Edits.Common.{stays_bytes, stays_word, other_of, gave-same, sizes_by_tiles, stays_then, type_stays, chain_has, chain_in, fixed_long, gdr_in, kind_in, other_in, Kept, Rechains, adr_in, adr_of, adr_start, adr_typed, after_away, after_in, attribute_now, before_away, before_in, clear_file, content_replaced, gdr_field, gdr_place, gdr_start, gdr_typed, head_type, keeps_away, keeps_fields, keeps_stood, keeps_within, kept_away, kind_ours, now_is, other_has, other_kept, other_type, records_are, splices, stood, there, unmarked-away, within-within, got_middle, items_with, adr_at, each_at, greatest_field, least_entry}
 use Rattle.cdf_edits.proofs.Edits.Splice.{after_stay, before_stay, variables_kept}
 use Rattle.cdf_format.specs.Content.{entries_of as chain_items}
-use Rattle.cdf_model.specs.declared.kinds.EntryKind.TheVariants as entries
 use Rattle.cdf_model.specs.declared.kinds.Kind.TheVariants as kinds
 
 -- a record that stays as it is does so but for some fields

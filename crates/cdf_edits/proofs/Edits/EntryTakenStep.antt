@@ -9,7 +9,6 @@ use Rattle.cdf_edits.proofs.Edits.FreedEntry.{all_marks, freed_behind, freed_typ
 use Rattle.cdf_edits.proofs.Edits.LeftEntry.{LeavesChain, as_long, edit, late_is, leaving, left_acts, marks, old_ok, second, tests, third}
 use Rattle.cdf_edits.proofs.Edits.TakenEntry.{f, good_now, items_left, long_now, others, r}
 use Rattle.cdf_edits.specs.Space.Chains.{without as left_of}
-use Rattle.cdf_model.specs.declared.kinds.EntryKind.TheVariants as entries
 
 -- ---- the chain
 

@@ -8,7 +8,6 @@ use Rattle.cdf_edits.proofs.Edits.EntriesEdited.{EditsEntries, EntryEdited, Stan
 use Rattle.cdf_edits.proofs.Edits.WrittenEntries.{WriteTests, WritesChain, as_long, count_now as count_written, edit, greatest_now as greatest_written, mid_kept, mid_size, part_beside, size_now, rechains as rechains_written, settled as settled_written, write_tests, writing}
 use Rattle.cdf_edits.proofs.Edits.WrittenFields.{MayWrite, others_keep, writes_edit, writes_long, writes_say, written_tiles}
 use Rattle.cdf_format.specs.Content.{entries_of as chain_items}
-use Rattle.cdf_model.specs.declared.kinds.EntryKind.TheVariants as entries
 
 -- ---- numbers
 
