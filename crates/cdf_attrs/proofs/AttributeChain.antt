@@ -1,6 +1,6 @@
 -- The chain of the attributes, as an image with a shape has it.
 use Rattle.std.proofs.Common.{◌≡◌, ℕ, zero, suc, ◌+◌, ◌<◌, ◌≤◌, List, [], ◌∷◌, length, slice_index, refl, sym, ap, subst, ◌∙◌, arith, inl, inr}
-use Rattle.cdf_attrs.proofs.Common.{length-map, attribute_names, number, size_at, gdr_offset, LiesIn, gdr_adr_head, adr_name, adr_type, In, tiles, IsChain, content, Shape, adrs, HasShape, length-le_from_distinct, tile_lies, length_tiles, linkable-in, linkable-type, tiles_are, attribute_names_are, HasChain, members_of, Attrs}
+use Rattle.cdf_attrs.proofs.Common.{slice_get, got-middle, AttributeShape, EntryKind, IsOfAttribute, Stands, entries_chain, shape, stands_at, length-map, attribute_names, number, size_at, gdr_offset, LiesIn, gdr_adr_head, adr_name, adr_type, In, tiles, IsChain, content, Shape, adrs, HasShape, length-le_from_distinct, tile_lies, length_tiles, linkable-in, linkable-type, tiles_are, attribute_names_are, HasChain, members_of, Attrs}
 use Rattle.cdf_format.specs.RecordTypes.{fixed_size}
 use Rattle.cdf_format.specs.Walks.{records_of}
 use Rattle.cdf_format.specs.Chains.{chain}
@@ -45,3 +45,11 @@ pub index_in : (xs : List ℕ) (n : ℕ) → n < length xs → In (slice_index x
 index_in [] n lt = absurd (omega arith)
 index_in (x ∷ xs) zero lt = inl refl
 index_in (x ∷ xs) (suc n) lt = inr (index_in xs n (omega arith))
+
+-- the attribute of an ADR
+module _ (b : List ℕ) (adr : ℕ) (there : In adr (adrs (shape b))) where
+  abbrev pub adr_parts : Stands (shape b).attributes adr
+  adr_parts = stands_at (shape b).attributes adr there
+
+  abbrev pub of_attribute : (kind : EntryKind) → IsOfAttribute b (entries_chain kind adr)
+  of_attribute kind = record { number = length adr_parts.fronts; own = adr_parts.own; stands = ap (λ (as_ : List AttributeShape). slice_get as_ (length adr_parts.fronts)) adr_parts.is ∙ got-middle adr_parts.fronts adr_parts.own adr_parts.after; kind = kind; chain_is = ap (entries_chain kind) (sym adr_parts.adr_is) }

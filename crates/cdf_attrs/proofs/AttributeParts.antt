@@ -43,7 +43,7 @@ set_same [] n x e = refl
 set_same (y ∷ xs) zero x e = let same : y ≡ x = cc in ap (λ (z : List ℕ). z ∷ xs) (sym same)
 set_same (y ∷ xs) (suc n) x e = ap (λ (r : List (List ℕ)). y ∷ r) (set_same xs n x e)
 
-name_stays : (a : Attribute) (kind : EntryKind) (items : List (ℕ × Entry)) → (with_entries a kind items).name ≡ a.name
+pub name_stays : (a : Attribute) (kind : EntryKind) (items : List (ℕ × Entry)) → (with_entries a kind items).name ≡ a.name
 name_stays a entries.G items = refl
 name_stays a entries.R items = refl
 name_stays a entries.Z items = refl

@@ -3,7 +3,7 @@ pub use Rattle.std.proofs.Math.Seq.{take-suc}
 pub use Rattle.std.proofs.lemmas.Bool.{and_from, cases_lt, eqb-true, le-leb, le-ltb, lt-ltb, ne_eqb}
 pub use Rattle.std.proofs.lemmas.Bool.Decides.{nat_tests}
 pub use Rattle.std.proofs.lemmas.Int.{ints, of_z-to_z, to_z-of_z, to_z_pos}
-pub use Rattle.std.proofs.lemmas.List.{at_drop_all, length-append, length-map, map-append, map-set}
+pub use Rattle.std.proofs.lemmas.List.{at_drop_all, length-append, length-map, map-append, map-set, drop_more, get_or-map}
 pub use Rattle.std.proofs.lemmas.List.Quantifiers.{position-Some}
 pub use Rattle.std.proofs.lemmas.Option.{same_Some, slice_get_within}
 pub use Rattle.std.proofs.lemmas.Result.{on_ok_weaker}
@@ -11,7 +11,7 @@ pub use Rattle.std.specs.Int.{cast_signed, cast_unsigned, w32}
 pub use Rattle.std.specs.List.{AllByRecursion, filter, flat_map, fold, last_or, list_any, position, position_or_len, remove, slice_get}
 pub use Rattle.std.specs.Option.{option_and_then, option_map, unwrap_or}
 pub use Rattle.std.specs.Prelude.{find, if◌then◌else◌, nat_le, nat_lt, not, slice_index, slice_index_or, slice_set, ◌&&◌, ◌==◌}
-pub use Rattle.std.specs.Result.{OnOk}
+pub use Rattle.std.specs.Result.{OnOk, IfOk}
 pub use Rattle.cdf_area.proofs.Calls.{edit_done, edit_failed, edit_more, edit_once, edits_by_write, read_more}
 pub use Rattle.cdf_area.specs.Calls.{Stays}
 pub use Rattle.cdf_attrs.specs.Creating.{adr_body, scope_code}
@@ -31,18 +31,18 @@ pub use Rattle.cdf_edits.proofs.Commands.Answered.{gone, refused}
 pub use Rattle.cdf_edits.proofs.Commands.FineNames.{fine_has_no_zeros, fine_is_short, fine_is_some}
 pub use Rattle.cdf_edits.proofs.Commands.KeptRecords.{AllKeep-append}
 pub use Rattle.cdf_edits.proofs.Commands.ListParts.{Cut, cut, got-map, got-middle, last_got, last_removed}
-pub use Rattle.cdf_edits.proofs.Edits.AttributeChains.{stands_at}
+pub use Rattle.cdf_edits.proofs.Edits.AttributeChains.{stands_at, Stands}
 pub use Rattle.cdf_edits.proofs.Edits.AttributeFrame.{AreThere, all_remain}
-pub use Rattle.cdf_edits.proofs.Edits.ChainEntries.{EntryLives, entries_left, nums, nums_live}
+pub use Rattle.cdf_edits.proofs.Edits.ChainEntries.{EntryLives, entries_left, nums, nums_live, num_in}
 pub use Rattle.cdf_edits.proofs.Edits.ChainFollowed.{chain_now, found_none, found_one, greatest_integer}
 pub use Rattle.cdf_edits.proofs.Edits.ChainKinds.{adr_of, chain_in}
 pub use Rattle.cdf_edits.proofs.Edits.ChainSpliced.{Rechains, entry_stays}
 pub use Rattle.cdf_edits.proofs.Edits.ChainsOfShape.{has_chain, members_are}
 pub use Rattle.cdf_edits.proofs.Edits.DeletedAttribute.{attributes_listed, delete_done, delete_refused, lie_after, names_after, numbers_more, own, places_after, unlinked_by}
-pub use Rattle.cdf_edits.proofs.Edits.DropHalves.{LowersHalf, TakesHalf, link_field, number_field, numbered}
-pub use Rattle.cdf_edits.proofs.Edits.DropsOne.{DropsOne, DropsUpTo}
+pub use Rattle.cdf_edits.proofs.Edits.DroppedEntries.{DropsUpTo, drops, drops_both, finish, lowers, next_dropped, next_global, numbered, start, still_scoped, takes, untouched}
+pub use Rattle.cdf_edits.proofs.Edits.EntriesEdited.{Change, EditsEntries, Rests, attributes_agree, attributes_of, edits_rest, only_at}
 pub use Rattle.cdf_edits.proofs.Edits.EntryFields.{count_is, max_lies, max_written, of_shape}
-pub use Rattle.cdf_edits.proofs.Edits.FallenEntries.{LowersChain}
+pub use Rattle.cdf_edits.proofs.Edits.FallenEntries.{LowersChain, numbers_fell, entries_now, greatest_lowered, later, lowered, nums_now, fallen_under, entries_closed, rests}
 pub use Rattle.cdf_edits.proofs.Edits.FreedEntry.{Frees, all_marks, count_same, freed_bytes, freed_rechains, freed_settled, greatest_same, old_free, old_stands, sound_late}
 pub use Rattle.cdf_edits.proofs.Edits.JoinedRecord.{ends, new_in, new_type}
 pub use Rattle.cdf_edits.proofs.Edits.LeftEntry.{LeavesChain, left_frees, left_members}
@@ -52,7 +52,6 @@ pub use Rattle.cdf_edits.proofs.Edits.OwnedOnce.{owned_once_if, used_times}
 pub use Rattle.cdf_edits.proofs.Edits.OwnersKept.{keep_attributes_alone, all_keep, keeps_fields, stood}
 pub use Rattle.cdf_edits.proofs.Edits.RecordFrame.{AttributeLives, file_same}
 pub use Rattle.cdf_edits.proofs.Edits.Splice.{OwnRules, Splices, good_image_if, parts_there, shape_now, spliced}
-pub use Rattle.cdf_edits.proofs.Edits.StandsSame.{stands_same}
 pub use Rattle.cdf_edits.proofs.Edits.StepEdits.{fixed_long}
 pub use Rattle.cdf_edits.proofs.Edits.VariableFrame.{variables_in}
 pub use Rattle.cdf_edits.proofs.Space.ChainHeads.{cdr_room}
@@ -65,7 +64,7 @@ pub use Rattle.cdf_edits.specs.Commands.EntryChains.{GreatestIs, chain_of, entry
 pub use Rattle.cdf_edits.specs.Commands.NewRecords.{IsFilled, Says}
 pub use Rattle.cdf_edits.specs.Commands.Room.{room}
 pub use Rattle.cdf_edits.specs.Commands.Variables.{entries_for, is_renumbered}
-pub use Rattle.cdf_edits.specs.Edits.DropsEntries.{IsDropped}
+pub use Rattle.cdf_edits.specs.Edits.DropsEntries.{IsDropped, DropsEntries}
 pub use Rattle.cdf_edits.specs.Edits.Edit.{Edit}
 pub use Rattle.cdf_edits.specs.Edits.EntryMarks.{count_field, entries_chain, with_chain}
 pub use Rattle.cdf_edits.specs.Edits.FallenNumbers.{fallen}

@@ -1,6 +1,6 @@
 -- The command `del-entry`: what it is answered, and what is known of the attributes after it.
 use Rattle.std.proofs.Common.{◌≡◌, ℕ, zero, suc, ◌+◌, ◌^◌, ◌<◌, ◌≤◌, List, [], ◌∷◌, length, Some, None, w32, refl, sym, ap, subst, ◌∙◌, arith}
-use Rattle.cdf_attrs.proofs.Common.{cast_unsigned, position, remove, slice_get, option_and_then, ◌==◌, slice_index, Done, Refused, Reason, NoSuchAttr, WrongScope, NoSuchEntry, Plain, DelEntry, EntryKind, Answer, Go, entries_of, with_attribute, with_entries, Attribute, Entry, image_limit, attribute_names, attribute_named, without, ByStep, entry_bytes, content, attribute_of, entry_of, number, integer4, size_at, adr_type, aedr_num, AttributeShape, adrs, shape, IsSound, In, Good, good_is_sound, Chain, Answers, chain_of, max_field, greatest_number, entries_chain, count_field, Follows, counted_in, members_of, refused, gone, EntryLives, nums, nums_live, entries_left, greatest_integer, greatest_same, LeavesChain, left_frees, left_members, max_lies, FindsChain, IsOfAttribute, IsRefusedFor, KnownEntries, Knows, KnowsEntries, IsEntryOf, IsGreatest, TakenAt, without_at}
+use Rattle.cdf_attrs.proofs.Common.{cast_unsigned, position, remove, slice_get, option_and_then, ◌==◌, slice_index, Done, Refused, Reason, NoSuchAttr, WrongScope, NoSuchEntry, Plain, DelEntry, EntryKind, Answer, Go, entries_of, with_attribute, with_entries, Attribute, Entry, image_limit, attribute_names, attribute_named, without, ByStep, entry_bytes, content, attribute_of, entry_of, number, integer4, size_at, adr_type, aedr_num, AttributeShape, adrs, shape, IsSound, In, Good, good_is_sound, Chain, Answers, chain_of, max_field, greatest_number, entries_chain, count_field, Follows, counted_in, members_of, refused, gone, EntryLives, nums, nums_live, entries_left, greatest_integer, greatest_same, LeavesChain, left_frees, max_lies, FindsChain, IsOfAttribute, IsRefusedFor, KnownEntries, Knows, KnowsEntries, IsEntryOf, IsGreatest, TakenAt, without_at}
 use Rattle.cdf_model.specs.declared.kinds.EntryKind.TheVariants as entries
 use Rattle.cdf_format.specs.Content.{entries_of as chain_items}
 use Rattle.cdf_edits.specs.Space.Chains.{without as left_of}

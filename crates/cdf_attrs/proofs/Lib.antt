@@ -1,10 +1,6 @@
 pub mod Common
 pub mod DeletingSteps
-pub mod DroppedNumber
-pub mod DroppedOne
-pub mod DroppedVar
-pub mod DroppingFrom
-pub mod DropHalf
+pub mod DroppedChains
 pub mod DroppingSteps
 pub mod Renamed
 pub mod AttributeParts
@@ -19,7 +15,6 @@ pub mod NumberGone
 pub mod Created
 pub mod CreatingAnswers
 pub mod KnownAttributes
-pub mod LoweredChain
 pub mod NamesChanged
 pub mod AttributeChain
 pub mod RenamingSteps

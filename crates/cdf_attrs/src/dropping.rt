@@ -122,6 +122,7 @@ fn lower_entries<A: Area>(
 
 /// Takes the entry for a variable out of one attribute, if that is of variables, and gives later entries for variables of its kind
 /// numbers less by one. After an error a part of this may have been done.
+#[tactic(auto, using(crate::proofs::DroppedChains::keeps_same))]
 fn drop_from<A: Area>(
     alloc: Global,
     area: &mut A,

@@ -1,11 +1,11 @@
 -- The names that most proofs of this crate cite, passed on from one place. Declares nothing.
 pub use Rattle.std.proofs.Math.IntN.{ -ℤ_one}
-pub use Rattle.std.proofs.Math.Seq.{drop-append_seam}
-pub use Rattle.std.proofs.lemmas.Bool.{and_from, and_parts, cases_eq, cases_lt, eqb-true, le-leb, le-ltb, leb-true, lt-leb, lt-ltb, ne_eqb}
+pub use Rattle.std.proofs.Math.Seq.{drop-append_seam, take-suc, take-length}
+pub use Rattle.std.proofs.lemmas.Bool.{and_from, and_parts, cases_eq, cases_lt, eqb-true, le-leb, le-ltb, leb-true, lt-leb, lt-ltb, ne_eqb, ltb-true, eqb-false}
 pub use Rattle.std.proofs.lemmas.Bool.Decides.{nat_tests}
 pub use Rattle.std.proofs.lemmas.List.{drop-drop, get_or_append_left, length-append, length-map, map-append, set_at, take_at}
 pub use Rattle.std.proofs.lemmas.List.Sums.{fold-append}
-pub use Rattle.std.proofs.lemmas.Option.{same_Some}
+pub use Rattle.std.proofs.lemmas.Option.{same_Some, get_or_from_slice_get, slice_get_within}
 pub use Rattle.std.specs.Int.{cast_signed, cast_unsigned, w32, w64}
 pub use Rattle.std.specs.List.{before_first, enumerate_from, filter, flat_map, fold, list_all, list_any, remove, slice_get, sum}
 pub use Rattle.std.specs.Option.{option_map, unwrap_or}
@@ -25,8 +25,8 @@ pub use Rattle.cdf_edits.specs.Commands.NewRecords.{Says, with_bits}
 pub use Rattle.cdf_edits.specs.Commands.Others.{is_on_attributes, is_on_variables}
 pub use Rattle.cdf_edits.specs.Commands.Puts.{put_changes}
 pub use Rattle.cdf_edits.specs.Commands.Room.{room}
-pub use Rattle.cdf_edits.specs.Commands.Variables.{AttributeFollows, DeletesNamed, DeletesVariable, NumbersFall, RMaxRecOf, SetsPad, del_var_changes, emptied_fields, entries_allowance, entries_for, fields_beside, freed_with_variable, is_global_attribute, no_index, set_pad_changes, variables_gdr_fields}
-pub use Rattle.cdf_edits.specs.Edits.DropsEntries.{AttributeDropped, DropsEntries, IsDropped}
+pub use Rattle.cdf_edits.specs.Commands.Variables.{AttributeFollows, DeletesNamed, DeletesVariable, NumbersFall, RMaxRecOf, SetsPad, del_var_changes, emptied_fields, entries_allowance, entries_for, fields_beside, freed_with_variable, is_global_attribute, no_index, set_pad_changes, variables_gdr_fields, is_renumbered}
+pub use Rattle.cdf_edits.specs.Edits.DropsEntries.{AttributeDropped, DropsEntries, IsDropped, AttributeKeeps}
 pub use Rattle.cdf_edits.specs.Edits.Edit.{Edit}
 pub use Rattle.cdf_edits.specs.Edits.EntryMarks.{count_field, entries_chain, head_field, keeps_but_chain, keeps_other, with_chain}
 pub use Rattle.cdf_edits.specs.Edits.FallenNumbers.{fallen}

@@ -19,9 +19,7 @@ pub mod EditActs
 pub mod EmptySet
 pub mod EntryFields
 pub mod EntryTakenStep
-pub mod NumbersFallStep
 pub mod FallenEntries
-pub mod FallenItems
 pub mod FieldWritten
 pub mod FirstRecords
 pub mod FreedAfter
@@ -71,14 +69,8 @@ pub mod VdrEdited
 pub mod VdrWritten
 pub mod WrittenEntries
 pub mod WrittenFields
-pub mod DropsOne
-pub mod StandsBut
-pub mod StandsThen
-pub mod StandsSame
-pub mod DropHalves
-pub mod DroppedSoFar
-pub mod SameAttribute
-pub mod DroppedNext
+pub mod EntriesEdited
+pub mod DroppedEntries
 pub mod NumberedLookup
 pub mod LeafRecords
 pub mod RecordsPut
@@ -95,9 +87,6 @@ pub mod StandsAmong
 pub mod StaysBut
 pub mod OwnEdited
 pub mod IndexEdited
-pub mod ChainEdited
-pub mod RechainedStands
-pub mod NumberedRecords
 pub mod LeftOwners
 pub mod RowsOneLess
 pub mod LeftChain

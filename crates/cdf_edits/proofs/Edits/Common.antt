@@ -4,8 +4,9 @@ pub use Rattle.cdf_edits.proofs.Commands.KeptRecords.{AllKeep-append, keep_attri
 pub use Rattle.cdf_edits.proofs.Commands.ListParts.{AtNumber, Cut, at_number, got-map, got-middle, got_in, map-removed, map-without, same_middle}
 pub use Rattle.cdf_edits.proofs.Commands.TypeCodes.{code_small, type_back}
 pub use Rattle.cdf_edits.proofs.Edits.ActsStill.{acts_still_by}
-pub use Rattle.cdf_edits.proofs.Edits.ActsThen.{acts_gave, all_gave, gave-same}
-pub use Rattle.cdf_edits.proofs.Edits.ChainKept.{records_are}
+pub use Rattle.cdf_edits.proofs.Edits.ActsThen.{acts_gave, all_gave, gave-same, was_listed}
+pub use Rattle.cdf_edits.proofs.Edits.ChainEntries.{nums, num_in}
+pub use Rattle.cdf_edits.proofs.Edits.ChainKept.{records_are, link_allowed}
 pub use Rattle.cdf_edits.proofs.Edits.ChainKinds.{adr_of, attribute_typed, chain_has, chain_in, other_has, other_in, other_of, other_type}
 pub use Rattle.cdf_edits.proofs.Edits.ChainOwners.{IsHeld, not_twice_kept}
 pub use Rattle.cdf_edits.proofs.Edits.ChainSpliced.{Rechains, adr_in, adr_start, adr_typed, after_away, after_in, attribute_now, before_away, before_in, clear_file, file_now, now_is, num_same, other_kept, splices, there}
@@ -23,7 +24,7 @@ pub use Rattle.cdf_edits.proofs.Edits.LeftOwners.{Left, can_be_freed, distinct_i
 pub use Rattle.cdf_edits.proofs.Edits.MadeRecord.{end_now, fresh, list_chain, listed_before, listed_marks, loose_away, made_edit, made_keeps_unused, made_once, made_part, made_size, made_type, unowned}
 pub use Rattle.cdf_edits.proofs.Edits.MarkLemmas.{Avoids-append, Avoids-split, Away-append, Within-append, all_unmarked-away, avoided-avoids, avoids-of_type, away-of_type, ended-avoids, the_one, unmarked-away, within-of_type, within-within}
 pub use Rattle.cdf_edits.proofs.Edits.NumbersBehind.{SaysNumber, are_numbered, fewer_rows, numbering, others_in, others_say, place_in, tiles_numbered}
-pub use Rattle.cdf_edits.proofs.Edits.OneChain.{differ_before, end_before}
+pub use Rattle.cdf_edits.proofs.Edits.OneChain.{differ_before, end_before, got_middle, items_with, good_settled, items_of, rules_before}
 pub use Rattle.cdf_edits.proofs.Edits.OneSpliced.{content_replaced}
 pub use Rattle.cdf_edits.proofs.Edits.OwnedOnce.{IsSorted, OnlyOwns, all_attributes_in, back_in, front_in, none_in_use, only_owns, own_in, owned_once_if, parts_once, unused_none, used_times}
 pub use Rattle.cdf_edits.proofs.Edits.OwnersKept.{all_keep, keep_all, keep_attributes_alone, keep_each, keep_file, keep_parts, keep_places, keep_unused, keeps_away, keeps_fields, keeps_stays, keeps_within, stood}
@@ -35,7 +36,7 @@ pub use Rattle.cdf_edits.proofs.Edits.StepEdits.{fixed_long, gdr_in, gdr_long, g
 pub use Rattle.cdf_edits.proofs.Edits.TakenVariable.{SaysTaken, Stands, TakesVariable, back_out, content_taken, least_size, left_by, once, ours, own_stand, sound_taken, taken_good, tests, vdr_avoids, vdr_record, vdr_there, without_variable}
 pub use Rattle.cdf_edits.proofs.Edits.VariableCopied.{content_copied, fits_copied, index_rules_stay, links_copied, rules_stay}
 pub use Rattle.cdf_edits.proofs.Edits.VariableFrame.{AreOurs, Each-apply, Each-map, IsRuled, all_variables_kept, index_typed, nums_from, ours_parts, remain_from, variable_typed, variables_in}
-pub use Rattle.cdf_edits.proofs.Edits.VariableKeeps.{all_kept, stays_then, type_stays}
+pub use Rattle.cdf_edits.proofs.Edits.VariableKeeps.{all_kept, stays_then, type_stays, stays_bytes, stays_word}
 pub use Rattle.cdf_edits.proofs.Edits.VariableKept.{keep_kinds, keep_own, keep_variable_parts, only_variable, same_as_itself, vdr_allowance}
 pub use Rattle.cdf_edits.proofs.Edits.VariableKinds.{attributes_counted, counted_before, keeps_kind, kind_chain, kind_in, kind_ours, kind_type, of_kind, other_kind, spliced_times, vdrs_rows, with_shapes}
 pub use Rattle.cdf_edits.proofs.Edits.VariableNames.{apart_if}
@@ -43,7 +44,7 @@ pub use Rattle.cdf_edits.proofs.Edits.VariableSplice.{OwnRules, VariableSplices,
 pub use Rattle.cdf_edits.proofs.Edits.VdrEdited.{EditsVdr, MarkTests, StandsAmong, after_ours, behind_in, behind_kept, file, fits, has, high, long, name_room, no_block, sound, through, tile, typed}
 pub use Rattle.cdf_edits.proofs.Edits.WrittenFields.{MayWrite, may_after, write_lies, writes_edit, writes_lie, writes_long, written_tiles}
 pub use Rattle.cdf_edits.proofs.Frame.ChangedBytes.{changed_put}
-pub use Rattle.cdf_edits.proofs.Frame.Meaning.{FileSame, Kept, KeptButLink, but_link, late_size, late_type, pad_late, pad_long, pad_wide, pad_width}
+pub use Rattle.cdf_edits.proofs.Frame.Meaning.{FileSame, Kept, KeptButLink, but_link, late_size, late_type, pad_late, pad_long, pad_wide, pad_width, EntryMeans, entry_means}
 pub use Rattle.cdf_edits.proofs.Frame.OwnersApart.{all_attribute_records, all_variable_records, file_from_attributes, file_records, flat-append, in-times, owned-times, times-append, times-in}
 pub use Rattle.cdf_edits.proofs.Frame.VdrCopied.{Copied, VdrCopied, copied_in_place, copied_part, pad_field_copied, piece_copied, type_copied, value_copied, word_copied}
 pub use Rattle.cdf_edits.proofs.Rules.FirstHead.{FirstSays, first_hold, first_said}

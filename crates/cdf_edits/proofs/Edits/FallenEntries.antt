@@ -1,16 +1,85 @@
 -- Entries of a chain get numbers less by one, where they are greater than one that none has, and the greatest number of the chain is written.
-use Rattle.std.proofs.Common.{◌≡◌, ℕ, ℤ, ◌-◌, ◌<◌, ◌≤◌, ◌^◌, List, [], ◌∷◌, ◌++◌, length, map, refl, sym, ap, subst, ◌∙◌, arith, inl, inr, ◌+◌}
-use Rattle.cdf_edits.proofs.Common.{w32, cast_unsigned, FitsSigned, integer4, cases_lt, lt-ltb, le-leb, leb-true, filter, ◌==◌, nat_lt, EntryKind, entries_of, image_limit, record_number_limit, closed_up, entry_rows, attribute_of, number, size_at, type_at, with_field, aedr_num, Hold, AttributeShape, Each, shape, IsSound, In, Distinct, Good, number_kept, good_is_sound, filter-in, tile_lies, chain_of, entry_type, max_field, Edit, fallen, Among, Mark, mark, Write, write, with_writes, word_kept, aedr_attr_num}
-use Rattle.cdf_format.specs.Content.{entries_of as chain_items}
-use Rattle.cdf_edits.proofs.Edits.ChainEntries.{nums}
-use Rattle.cdf_edits.proofs.Edits.Common.{Rechains, chain_has, file_now, filter-distinct, filter-keeps, filter-says, num_same, some_bytes}
-use Rattle.cdf_edits.proofs.Edits.FallenItems.{EntryFell, entries_closed, fallen_distinct, fallen_under, falls, rests, nums_fell}
+use Rattle.std.proofs.Common.{◌≡◌, ℕ, ℤ, ◌-◌, ◌<◌, ◌≤◌, ◌^◌, List, [], ◌∷◌, ◌++◌, length, map, refl, sym, ap, subst, ◌∙◌, arith, inl, inr, ◌+◌, true, append-nil, ◌≢◌, ap₂}
+use Rattle.cdf_edits.proofs.Common.{w32, cast_unsigned, FitsSigned, integer4, cases_lt, lt-ltb, le-leb, leb-true, filter, ◌==◌, nat_lt, EntryKind, entries_of, image_limit, record_number_limit, closed_up, entry_rows, attribute_of, number, size_at, with_field, aedr_num, Hold, AttributeShape, Each, shape, IsSound, In, Distinct, Good, number_kept, good_is_sound, filter-in, tile_lies, chain_of, entry_type, max_field, Edit, fallen, Among, Mark, mark, Write, write, with_writes, word_kept, aedr_attr_num, le-ltb, uir_type, Shape, Only, Stays, ActsFollow, greatest_number, with_chain, ltb-true, nat_tests, if◌then◌else◌, with_item, entry_of}
 use Rattle.cdf_edits.proofs.Edits.ChainMembers.{IsAmong, member, member_fits, own_there}
-use Rattle.cdf_edits.proofs.Edits.OneChain.{counted_before, differ_before, good_settled, items_of, rules_before}
-use Rattle.cdf_edits.proofs.Edits.WrittenEntries.{WriteTests, WritesChain, as_long as as_long_written, count_now as count_written, edit as edit_written, greatest_now as greatest_written, mid_kept, mid_size, part_beside, size_now, rechains as rechains_written, settled as settled_written, write_tests, writing}
-use Rattle.std.proofs.lemmas.Bool.{ltb-true}
+use Rattle.cdf_edits.proofs.Edits.OneChain.{counted_before}
+use Rattle.cdf_edits.proofs.Edits.ChainFollowed.{chain_now}
+use Rattle.cdf_edits.proofs.Edits.Common.{Rechains, chain_has, file_now, filter-distinct, filter-keeps, filter-says, num_same, some_bytes, acts_still_by, keeps_away, keeps_within, now_is, type_stays, unmarked-away, differ_before, good_settled, items_of, rules_before, EntryMeans, entry_means, nums}
+use Rattle.cdf_edits.proofs.Edits.DroppedEntries.{lowers, number_field}
+use Rattle.cdf_edits.proofs.Edits.EntriesEdited.{EditsEntries, EntryEdited, StandTests, edited, only_at, same_records}
+use Rattle.cdf_edits.proofs.Edits.WrittenEntries.{WriteTests, WritesChain, as_long, count_now as count_written, edit, greatest_now as greatest_written, mid_kept, mid_size, part_beside, size_now, rechains as rechains_written, settled as settled_written, write_tests, writing}
 use Rattle.cdf_edits.proofs.Edits.WrittenFields.{MayWrite, others_keep, writes_edit, writes_long, writes_say, written_tiles}
-use Rattle.cdf_edits.proofs.Frame.Meaning.{EntryMeans, entry_means}
+use Rattle.cdf_format.specs.Content.{entries_of as chain_items}
+
+-- ---- numbers
+
+pub rests : (num n : ℕ) → n ≤ num → fallen num n ≡ n
+rests num n le = rw (le-ltb num n le) refl
+
+pub fallen_under : (num n : ℕ) → fallen num n ≤ n
+fallen_under num n = grind (arith, nat_tests)
+
+-- the number that falls to one
+abbrev raised : ℕ → ℕ → ℕ
+raised num n = if nat_lt n num then n else n + 1
+
+raised_back : (num n : ℕ) → n ≢ num → raised num (fallen num n) ≡ n
+raised_back num n ne = grind (arith, nat_tests)
+
+pub fallen_distinct : (num : ℕ) (ns : List ℕ) → (In num ns → ⊥) → Distinct ns → Distinct (map (fallen num) ns)
+fallen_distinct num [] out d = tt
+fallen_distinct num (n ∷ ns) out d = ((λ i. d.0 (back ns (λ j. out (inr j)) i)), fallen_distinct num ns (λ j. out (inr j)) d.1)
+  where
+    back : (ms : List ℕ) → (In num ms → ⊥) → In (fallen num n) (map (fallen num) ms) → In n ms
+    back [] o i = absurd i
+    back (m ∷ ms) o (inl q) = inl (sym (raised_back num n (λ e. out (inl (sym e)))) ∙ ap (raised num) q ∙ raised_back num m (λ e. o (inl (sym e))))
+    back (m ∷ ms) o (inr i) = inr (back ms (λ j. o (inr j)) i)
+
+-- ---- items
+
+module _ {A : Type 0} (num : ℕ) where
+  abbrev raised_items : List (ℕ × A) → List (ℕ × A)
+  raised_items items = map (λ pair. (raised num pair.0, pair.1)) items
+
+  raised_with : (n : ℕ) (a : A) (items : List (ℕ × A)) → raised_items (with_item n a items) ≡ with_item (raised num n) a (raised_items items)
+  raised_with n a [] = refl
+  raised_with n a (item ∷ rest) = step n item.0 a item.1 rest (raised_with n a rest)
+    where
+      step : (n k : ℕ) (a c : A) (rest : List (ℕ × A)) → raised_items (with_item n a rest) ≡ with_item (raised num n) a (raised_items rest) → raised_items (with_item n a ((k, c) ∷ rest)) ≡ with_item (raised num n) a (raised_items ((k, c) ∷ rest))
+      step n k a c rest so = grind (arith, nat_tests)
+
+  closed_raised : (items : List (ℕ × A)) → closed_up num num (raised_items items) ≡ items
+  closed_raised [] = refl
+  closed_raised (item ∷ rest) = step item.0 item.1 rest (closed_raised rest)
+    where
+      step : (n : ℕ) (a : A) (rest : List (ℕ × A)) → closed_up num num (raised_items rest) ≡ rest → closed_up num num (raised_items ((n, a) ∷ rest)) ≡ (n, a) ∷ rest
+      step n a rest so = grind (arith, nat_tests)
+
+-- ---- entries of a chain
+
+-- an entry means what it did, and its number fell if it was greater
+pub record EntryFell (b now : List ℕ) (num e : ℕ) : Type 0 where
+  pub num_is : number now e aedr_num ≡ fallen num (number b e aedr_num)
+  pub meant : entry_of now e ≡ entry_of b e
+
+module _ (b now : List ℕ) (num : ℕ) where
+  entries_raised : (es : List ℕ) → (In num (nums b es) → ⊥) → ((m : ℕ) → In m es → EntryFell b now num m) → raised_items num (chain_items now es) ≡ chain_items b es
+  entries_raised [] out fell = refl
+  entries_raised (e ∷ es) out fell =
+      let here = fell e (inl refl) in
+      let back = ap (raised num) here.num_is ∙ raised_back num (number b e aedr_num) (λ q. out (inl (sym q))) in
+      let rest = entries_raised es (λ i. out (inr i)) (λ m i. fell m (inr i)) in
+      raised_with num (number now e aedr_num) (entry_of now e) (chain_items now es) ∙ (λ i. with_item (back i) (here.meant i) (rest i))
+
+  -- none had the number
+  pub entries_closed : (es : List ℕ) → (In num (nums b es) → ⊥) → ((m : ℕ) → In m es → EntryFell b now num m) → chain_items now es ≡ closed_up num num (chain_items b es)
+  entries_closed es out fell = sym (closed_raised num (chain_items now es)) ∙ ap (closed_up num num) (entries_raised es out fell)
+
+  pub nums_fell : (es : List ℕ) → ((m : ℕ) → In m es → EntryFell b now num m) → nums now es ≡ map (fallen num) (nums b es)
+  nums_fell [] fell = refl
+  nums_fell (e ∷ es) fell = ap₂ (λ (n : ℕ) (rest : List ℕ). n ∷ rest) (fell e (inl refl)).num_is (nums_fell es (λ m i. fell m (inr i)))
+
+-- ---- the image
 
 abbrev pub falling : EntryKind → ℕ → List ℕ → List Mark
 falling kind adr es = writing kind adr es aedr_num
@@ -40,6 +109,9 @@ of_write b [] P m i all = absurd i
 of_write b (e ∷ es) P m (inl q) all = subst (λ (x : ℕ). P (write x aedr_num (number b x aedr_num - 1))) (sym q) all.0
 of_write b (e ∷ es) P m (inr i) all = of_write b es P m i all.1
 
+stand_tests : (kind : EntryKind) (adr : ℕ) (es : List ℕ) → StandTests (falling kind adr es) kind
+stand_tests kind adr es = grind arith
+
 -- the greater numbers of the chain were written less by one, and then its greatest number
 pub record LowersChain (b now : List ℕ) (kind : EntryKind) (before : List AttributeShape) (own : AttributeShape) (after : List AttributeShape) (num : ℕ) : Type 0 where
   pub was : (shape b).attributes ≡ before ++ own ∷ after
@@ -63,12 +135,6 @@ module _ {b now : List ℕ} {kind : EntryKind} {before : List AttributeShape} {o
   pub t : WriteTests kind own.adr those aedr_num
   t = write_tests kind own.adr those aedr_num
 
-  pub entry_in : (m : ℕ) → In m chain → In m (shape b).records
-  entry_in m i = (member kind sound at m i).inside
-
-  pub entry_typed : (m : ℕ) → In m chain → type_at b m ≡ entry_type kind
-  entry_typed m i = (member kind sound at m i).typed
-
   pub of_those : (m : ℕ) → In m those → In m chain
   of_those m i = filter-in (λ aedr. nat_lt num (number b aedr aedr_num)) chain m i
 
@@ -90,11 +156,11 @@ module _ {b now : List ℕ} {kind : EntryKind} {before : List AttributeShape} {o
   may = each_write b those (MayWrite b (shape b).records first_marks) (λ m i.
       let j = of_those m i in
       record {
-        inside = entry_in m j;
-        used = λ u. t.in_use (sym (entry_typed m j) ∙ u);
+        inside = (member kind sound at m j).inside;
+        used = λ u. t.in_use (sym (member kind sound at m j).typed ∙ u);
         fits = let l = long_enough m j in omega arith;
         later = omega arith;
-        covered = inl (record { typed = entry_typed m j; lies = i; low = omega arith; high = omega arith });
+        covered = inl (record { typed = (member kind sound at m j).typed; lies = i; low = omega arith; high = omega arith });
       })
 
   first : Edit b mid (shape b).records (shape b).records first_marks []
@@ -102,12 +168,6 @@ module _ {b now : List ℕ} {kind : EntryKind} {before : List AttributeShape} {o
 
   abbrev w : WritesChain b now kind before own after those aedr_num
   w = record { at = at; sub = of_those; late = omega arith; mid = mid; first = first; long = writes_long b (shape b).records first_marks ws sound.has_shape.tiled (some_bytes b (shape b) sound.has_shape) may; greatest = q.greatest; written = record { is = q.written } }
-
-  pub edit : Edit b now (shape b).records (shape b).records (falling kind own.adr those) []
-  edit = edit_written sound w
-
-  pub as_long : length now ≡ length b
-  as_long = as_long_written sound w
 
   pub rechains : Rechains b now (shape b) (shape b).records (shape b).unused (falling kind own.adr those) [] kind before own after chain those those
   rechains = rechains_written sound w
@@ -120,7 +180,7 @@ module _ {b now : List ℕ} {kind : EntryKind} {before : List AttributeShape} {o
   means : (m : ℕ) → In m chain → EntryMeans b now m
   means m i =
       let l = long_enough m i in
-      let inside = (tile_lies b 8 (length b) (shape b).records m sound.has_shape.tiled (entry_in m i)).high in
+      let inside = (tile_lies b 8 (length b) (shape b).records m sound.has_shape.tiled (member kind sound at m i).inside).high in
       entry_means b now (file_now sound rechains) m (record { size = size_now sound w m i; code = part_beside sound w m 24 28 i (inl (omega arith)) (omega arith); rest = part_beside sound w m 32 (size_at b m) i (inr (omega arith)) (omega arith); inside = inside }) (member_fits kind sound at m i)
 
   entry_rules : (m : ℕ) → In m chain → Hold (entry_rows b own.adr m)
@@ -143,12 +203,11 @@ module _ {b now : List ℕ} {kind : EntryKind} {before : List AttributeShape} {o
   fell_number m i = elim (cases_lt num (number b m aedr_num)) [
     | inl lt ↦
         let to = of_write b those (λ (w : Write). number mid w.tile w.f ≡ w.to) m (filter-keeps (λ aedr. nat_lt num (number b aedr aedr_num)) chain m i (lt-ltb num (number b m aedr_num) lt)) says in
-        let down = falls num (number b m aedr_num) lt in
-        late_says m i ∙ to ∙ omega arith
+        late_says m i ∙ to ∙ grind (arith, nat_tests)
     | inr le ↦
         let out : In m (written_tiles ws) → ⊥ = λ j. let lt = later_above b num chain m (subst (In m) (tiles_of b those) j) in absurd (omega arith) in
         let l = long_enough m i in
-        late_says m i ∙ others_keep b (shape b).records first_marks ws sound.has_shape.tiled (some_bytes b (shape b) sound.has_shape) may m aedr_num (entry_in m i) (λ u. t.in_use (sym (entry_typed m i) ∙ u)) out (omega arith) ∙ sym (rests num (number b m aedr_num) le)
+        late_says m i ∙ others_keep b (shape b).records first_marks ws sound.has_shape.tiled (some_bytes b (shape b) sound.has_shape) may m aedr_num (member kind sound at m i).inside (λ u. t.in_use (sym (member kind sound at m i).typed ∙ u)) out (omega arith) ∙ sym (rests num (number b m aedr_num) le)
   ]
 
   pub fell : (m : ℕ) → In m chain → EntryFell b now num m
@@ -176,3 +235,35 @@ module _ {b now : List ℕ} {kind : EntryKind} {before : List AttributeShape} {o
   pub good_lowered : Good now
   unfolding rechains
   good_lowered = good_settled sound rechains good (count_written sound w ∙ counted_before sound rechains good) (subst Distinct (sym nums_now) (fallen_distinct num (nums b chain) q.none (differ_before sound rechains good))) rules_now (settled_written sound w {need = 0} good) (omega arith)
+
+  -- ---- its entries are edited
+
+  same_list : (shape now).unused ≡ (shape b).unused
+  same_list = ap (λ (x : Shape). x.unused) (now_is sound rechains)
+
+  -- ---- the entries
+
+  num_stays : (m : ℕ) → In m chain → Stays b now m (aedr_num ∷ [])
+  num_stays m i =
+      let other = t.other in
+      keeps_within sound rechains.edit (same_records good rechains) m (entry_type kind) (aedr_num ∷ []) (member kind sound at m i).inside (member kind sound at m i).typed ((λ same lies. inl (omega arith)), ((λ same lies. absurd (other same)), tt)) ((λ same lies. refl), ((λ same lies. absurd (other same)), tt))
+
+  entry_falls : (m : ℕ) → In m chain → EntryEdited b now (with_chain own kind chain) kind m (number_field num (number b m aedr_num)) (fallen num (number b m aedr_num))
+  entry_falls m i = record {
+    member = subst (In m) (sym (chain_now kind own chain)) i;
+    lasts = (
+      elim (cases_lt num (number b m aedr_num)) [
+        | inl lt ↦ rw (lt-ltb num (number b m aedr_num) lt) (num_stays m i)
+        | inr le ↦ rw (le-ltb num (number b m aedr_num) le) (keeps_away sound rechains.edit (same_records good rechains) m (entry_type kind) (Only []) (member kind sound at m i).inside (member kind sound at m i).typed
+            ((λ same lies. let lt = later_above b num chain m lies in absurd (omega arith)), ((λ same lies. t.other same), tt)))
+      ],
+      type_stays b now m (aedr_num ∷ []) (num_stays m i) (let l = long_enough m i in omega arith) (λ n l. (inl (omega arith), tt)),
+    );
+    num_is = (fell m i).num_is;
+  }
+
+  -- some number is greater
+  pub numbers_fell : (lowers b num kind own).writes ≡ true → integer4 now own.adr (max_field kind) ≡ greatest_number (closed_up num num (entries_of (attribute_of b own) kind)) → EditsEntries b now kind (only_at (length before) (lowers b num kind)) []
+  numbers_fell writes greatest = edited good rechains (stand_tests kind own.adr those) good_lowered (as_long sound w)
+      (λ m i typed out. (unmarked-away (falling kind own.adr those) uir_type m t.unused, λ j. out (subst (In m) same_list j))) (lowers b num kind) refl refl (entries_now) writes greatest (λ m i stays. entry_falls m i)
+      (λ first acts shaped so_far. subst (ActsFollow first now) (sym (append-nil acts)) (acts_still_by sound so_far (edit sound w) t.unused (same_records good rechains) same_list (as_long sound w))) (λ m i. absurd i)

@@ -91,10 +91,10 @@ module _ {b now : List ℕ} {s : Shape} {new list : List ℕ} {marks : List Mark
   each_variable : Each (VariableStays b now new) (variables s)
   each_variable = variables_stay sound e file variables_live
 
-  before_stay : Each (AttributeStays b now new) before
+  pub before_stay : Each (AttributeStays b now new) before
   before_stay = they_stay b now new before splices.before_remain
 
-  after_stay : Each (AttributeStays b now new) after
+  pub after_stay : Each (AttributeStays b now new) after
   after_stay = they_stay b now new after splices.after_remain
 
   gdr_head : (f : Field) → avoided marks gdr_type f.place (f.place + f.width) ≡ true → f.place + f.width ≤ 84 → number now s.gdr f ≡ number b s.gdr f

@@ -1,11 +1,10 @@
 -- What the deletion of a variable keeps of each record, by its owner.
 use Rattle.std.proofs.Common.{◌≡◌, ◌⊎◌, ℕ, zero, suc, ◌+◌, ◌-◌, ◌<◌, ◌≤◌, List, [], ◌∷◌, ◌++◌, length, Bool, true, false, true≢false, Option, Some, None, eq-eqb, eqb, refl, sym, ap, subst, ◌∙◌, arith, inl, inr}
-use Rattle.cdf_edits.proofs.Common.{eqb-true, same_Some, flat_map, slice_get, ◌==◌, if◌then◌else◌, Kind, R, Z, Found, byte, is_in, is_linkable, next_field, content, size_at, type_at, OneAttribute, OneVariable, Unused, attribute_records, owned, owned_by, owned_by_attributes, owned_by_variables, unused_records, variable_records, Field, uir_next_uir, uir_prev_uir, vdr_num, cdr_type, gdr_type, r_vdr_type, z_vdr_type, vxr_type, uir_type, AttributeShape, VariableShape, Shape, HasShape, shape, vdrs, IsSound, In, Good, is_a-in, is_a-type, linkable-type, good_is_sound, either, true-is_in, false-is_in, In-append_left, In-append_right, filter-in, both, tile_lies, Allowance, AllKeep, range_at, Allowances, Anything, Keeps, Only, OutsideFields, Stays, is_taken, only_of, r_max_rec_field, same_kind, shapes_of, space_fields, vdr_type, del_var_changes, entries_allowance, entries_for, freed_with_variable, variables_gdr_fields, DropsEntries, Edit, Mark, Away, Within, all_unmarked, attribute_types, avoided, index_types, within, RemovesVariable, variable_removing_marks, Range, Act, gave, type_in, variables_chain}
+use Rattle.cdf_edits.proofs.Common.{Same, word, word_kept, eqb-true, same_Some, flat_map, slice_get, ◌==◌, if◌then◌else◌, Kind, R, Z, Found, byte, is_in, is_linkable, next_field, content, size_at, type_at, OneAttribute, OneVariable, Unused, attribute_records, owned, owned_by, owned_by_attributes, owned_by_variables, unused_records, variable_records, Field, uir_next_uir, uir_prev_uir, vdr_num, cdr_type, gdr_type, r_vdr_type, z_vdr_type, vxr_type, uir_type, AttributeShape, VariableShape, Shape, HasShape, shape, vdrs, IsSound, In, Good, is_a-in, is_a-type, linkable-type, good_is_sound, either, true-is_in, false-is_in, In-append_left, In-append_right, filter-in, both, tile_lies, Allowance, AllKeep, range_at, Allowances, Anything, Keeps, Only, OutsideFields, Stays, is_taken, only_of, r_max_rec_field, same_kind, shapes_of, space_fields, vdr_type, del_var_changes, entries_allowance, entries_for, freed_with_variable, variables_gdr_fields, DropsEntries, Edit, Mark, Away, Within, all_unmarked, attribute_types, avoided, index_types, within, RemovesVariable, variable_removing_marks, Range, Act, gave, type_in, variables_chain}
 use Rattle.cdf_edits.specs.Commands.Allowances.{own_allowance, unused_allowance}
 use Rattle.cdf_edits.proofs.Commands.KeptRecords.{AllKeep-append}
 use Rattle.cdf_edits.proofs.Edits.AttributeFrame.{AreThere}
 use Rattle.cdf_edits.proofs.Edits.ChainKinds.{attribute_typed}
-use Rattle.cdf_edits.proofs.Edits.Composing.{head_type}
 use Rattle.cdf_edits.proofs.Edits.MarkLemmas.{all_unmarked-away, away-of_type, confined-away, unmarked-away, within-of_type}
 use Rattle.cdf_edits.proofs.Edits.OwnersKept.{keep_all, keep_file, keep_places, keeps_away, keeps_fields, keeps_within}
 use Rattle.cdf_edits.proofs.Edits.RecordFrame.{index_records}
@@ -24,13 +23,19 @@ stays_then b mid now m fs gs hs one two sub = record {
   same = λ i lt out. let o = sub i out in two.same i (subst (λ (n : ℕ). i < n) (sym one.size_is) lt) o.1 ∙ one.same i lt o.0;
 }
 
+-- it has the bytes beside those fields that it had
+pub stays_bytes : {b now : List ℕ} {m : ℕ} {fields : List Field} → Stays b now m fields → (lo hi : ℕ) → hi ≤ size_at b m → ((i : ℕ) → lo ≤ i → i < hi → OutsideFields fields i) → Same b now (m + lo) (m + hi)
+stays_bytes {b = b} {now = now} {m = m} s lo hi fits out = record {
+  each = λ p l u.
+      let e : p ≡ m + (p - m) = omega arith in
+      subst (λ (x : ℕ). byte now x ≡ byte b x) (sym e) (s.same (p - m) (omega arith) (out (p - m) (omega arith) (omega arith)));
+}
+
+pub stays_word : {b now : List ℕ} {m : ℕ} {fields : List Field} → Stays b now m fields → (lo n : ℕ) → lo + n ≤ size_at b m → ((i : ℕ) → lo ≤ i → i < lo + n → OutsideFields fields i) → word now (m + lo) n ≡ word b (m + lo) n
+stays_word {b = b} {now = now} {m = m} s lo n fits out = word_kept b now (m + lo) (m + (lo + n)) (stays_bytes s lo (lo + n) fits out) (m + lo) n (omega arith) (omega arith)
+
 pub type_stays : (b mid : List ℕ) (m : ℕ) (fs : List Field) → Stays b mid m fs → 12 ≤ size_at b m → ((i : ℕ) → i < 12 → OutsideFields fs i) → type_at mid m ≡ type_at b m
-type_stays b mid m fs s long out = head_type b mid m (record {
-  each = λ k l u.
-      let at : k ≡ m + (k - m) = omega arith in
-      let less : k - m < 12 = omega arith in
-      subst (λ (x : ℕ). byte mid x ≡ byte b x) (sym at) (s.same (k - m) (omega arith) (out (k - m) less));
-})
+type_stays b mid m fs s long out = stays_word s 8 4 (omega arith) (λ i l u. out i (omega arith))
 
 own_free : (b now : List ℕ) (m : ℕ) (o : Option Range) (p q : Bool) → Keeps b now m (elim o [ Some r ↦ Anything | None ↦ if p then Anything else (if q then Anything else Anything) ])
 own_free b now m (Some r) p q = tt

@@ -1,5 +1,5 @@
 use Rattle.cdf_attrs.proofs.Common.{G, Z, entries_chain, good_is_sound}
-use Rattle.cdf_attrs.proofs.DroppingFrom.{of_attribute}
+use Rattle.cdf_attrs.proofs.AttributeChain.{of_attribute}
 use Rattle.cdf_attrs.proofs.EntryChains.{holder_stands, chain_there, counted}
 use Rattle.cdf_attrs.proofs.deleting.read_entries.Goals as goal
 

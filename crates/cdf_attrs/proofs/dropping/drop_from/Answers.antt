@@ -1,51 +1,44 @@
-use Rattle.std.proofs.Common.{◌≡◌, ◌∙◌, ℕ, List, false, sym, subst, arith}
-use Rattle.cdf_attrs.proofs.Common.{on_ok_weaker, good_is_sound, shape, Good, is_global, Scope, EntryKind, IsScoped, IsOfAttribute}
-use Rattle.cdf_attrs.proofs.AttributeChain.{adr_inside}
-use Rattle.cdf_attrs.proofs.DroppingFrom as from
+use Rattle.std.proofs.Common.{rules, ◌≡◌, false, sym, arith}
+use Rattle.cdf_attrs.proofs.Common.{on_ok_weaker, good_is_sound, shape, is_global}
+use Rattle.cdf_attrs.proofs.AttributeChain.{adr_inside, of_attribute}
+use Rattle.cdf_attrs.proofs.DroppedChains as from
 use Rattle.cdf_attrs.proofs.dropping.drop_from.Goals as goal
 
 pub read_scope-requires : goal.read_scope-requires
 read_scope-requires g c = let b = g.A.Area.image c.args.area.now in let l = adr_inside b (shape b) (good_is_sound b c.requires.good).has_shape c.args.adr c.requires.adr in omega arith
 
 pub returns-then-is_global-clause-good : goal.returns-then-is_global-clause-good
-returns-then-is_global-clause-good g c = subst Good (sym c.in_ok-scope.ensures.area.image) c.requires.good
+returns-then-is_global-clause-good g c = rw c.in_ok-scope.ensures.area.image c.requires.good
 
 pub load-requires-clause-good : goal.load-requires-clause-good
-load-requires-clause-good g c = subst Good (sym c.in_ok-scope.ensures.area.image) c.requires.good
+load-requires-clause-good g c = rw c.in_ok-scope.ensures.area.image c.requires.good
 
 pub load-requires-clause-attribute : goal.load-requires-clause-attribute
-load-requires-clause-attribute g c =
-    let b = g.A.Area.image c.args.area.now in
-    let of = from.of_attribute b c.args.adr c.requires.adr c.entries_of-kind.result in
-    subst (λ (x : List ℕ). IsOfAttribute x c.entries_chain.result) (sym c.in_ok-scope.ensures.area.image) (subst (IsOfAttribute b) (sym c.entries_chain.ensures) of)
+load-requires-clause-attribute g c = rw (c.in_ok-scope.ensures.area.image, c.entries_chain.ensures) (of_attribute (g.A.Area.image c.args.area.now) c.args.adr c.requires.adr c.entries_of-kind.result)
 
 pub drop_number-requires-clause-good : goal.drop_number-requires-clause-good
-drop_number-requires-clause-good g c = subst Good (sym (c.in_ok-entries.ensures.area.image ∙ c.in_ok-scope.ensures.area.image)) c.requires.good
+drop_number-requires-clause-good g c = rw (c.in_ok-entries.ensures.area.image, c.in_ok-scope.ensures.area.image) c.requires.good
 
 pub drop_number-requires-clause-attribute : goal.drop_number-requires-clause-attribute
 drop_number-requires-clause-attribute g c =
-    let b = g.A.Area.image c.args.area.now in
     let own : is_global c.in_ok-scope.scope ≡ false = sym c.if-is_global.ensures in
-    let scoped = from.scoped b c.args.adr c.requires.adr c.args.kind (subst (λ (s : Scope). is_global s ≡ false) c.in_ok-scope.ensures.scope own) in
-    subst (λ (x : List ℕ). IsScoped x c.entries_of-kind.result c.args.adr) (sym (c.in_ok-entries.ensures.area.image ∙ c.in_ok-scope.ensures.area.image)) (subst (λ (k : EntryKind). IsScoped b k c.args.adr) (sym c.entries_of-kind.ensures) scoped)
+    rw (c.in_ok-entries.ensures.area.image, c.in_ok-scope.ensures.area.image, c.entries_of-kind.ensures) (from.scoped (g.A.Area.image c.args.area.now) c.args.adr c.requires.adr c.args.kind (rw c.in_ok-scope.ensures.scope at own))
 
 pub lower_entries-requires : goal.lower_entries-requires
 lower_entries-requires g c =
     let d = from.dropping c.args.kind c.requires.good c.requires.adr c.requires.short c.in_ok-scope.ensures.area.image c.in_ok-scope.ensures.scope (sym c.if-is_global.ensures) c.entries_of-kind.ensures c.entries_chain.ensures
     c.in_ok-entries.ensures.area.image c.in_ok-entries.ensures.chain c.in_ok-entries.ensures.entries c.in_ok-left.ensures.drops c.in_ok-left.ensures.good c.in_ok-left.ensures.left in
-    record { long = d.long; small = d.small; lie = d.lie; field = d.field }
+    record { long = d.0.long; small = d.0.small; lie = d.0.lie; field = d.0.field }
 
-pub returns-clause-dropped : goal.returns-clause-dropped
-returns-clause-dropped g c = on_ok_weaker c.lower_entries.result (λ lowers. (from.dropping c.args.kind c.requires.good c.requires.adr c.requires.short c.in_ok-scope.ensures.area.image c.in_ok-scope.ensures.scope (sym c.if-is_global.ensures) c.entries_of-kind.ensures c.entries_chain.ensures
-    c.in_ok-entries.ensures.area.image c.in_ok-entries.ensures.chain c.in_ok-entries.ensures.entries c.in_ok-left.ensures.drops c.in_ok-left.ensures.good c.in_ok-left.ensures.left).drops (g.A.Area.image c.lower_entries.new.area) lowers) c.lower_entries.ensures.lowers
-
-pub returns-clause-good : goal.returns-clause-good
-returns-clause-good g c = on_ok_weaker c.lower_entries.result (λ lowers. ((from.dropping c.args.kind c.requires.good c.requires.adr c.requires.short c.in_ok-scope.ensures.area.image c.in_ok-scope.ensures.scope (sym c.if-is_global.ensures) c.entries_of-kind.ensures c.entries_chain.ensures
-    c.in_ok-entries.ensures.area.image c.in_ok-entries.ensures.chain c.in_ok-entries.ensures.entries c.in_ok-left.ensures.drops c.in_ok-left.ensures.good c.in_ok-left.ensures.left).keeps (g.A.Area.image c.lower_entries.new.area) lowers).0) c.lower_entries.ensures.lowers
-
-pub returns-then-is_global-clause-keeps : goal.returns-then-is_global-clause-keeps
-returns-then-is_global-clause-keeps g c = from.keeps_same c.in_ok-scope.ensures.area.image
-
-pub returns-clause-keeps : goal.returns-clause-keeps
-returns-clause-keeps g c = on_ok_weaker c.lower_entries.result (λ lowers. ((from.dropping c.args.kind c.requires.good c.requires.adr c.requires.short c.in_ok-scope.ensures.area.image c.in_ok-scope.ensures.scope (sym c.if-is_global.ensures) c.entries_of-kind.ensures c.entries_chain.ensures
-    c.in_ok-entries.ensures.area.image c.in_ok-entries.ensures.chain c.in_ok-entries.ensures.entries c.in_ok-left.ensures.drops c.in_ok-left.ensures.good c.in_ok-left.ensures.left).keeps (g.A.Area.image c.lower_entries.new.area) lowers).1) c.lower_entries.ensures.lowers
+pub returns : goal.returns
+returns g c =
+    let d = from.dropping c.args.kind c.requires.good c.requires.adr c.requires.short c.in_ok-scope.ensures.area.image c.in_ok-scope.ensures.scope (sym c.if-is_global.ensures) c.entries_of-kind.ensures c.entries_chain.ensures
+    c.in_ok-entries.ensures.area.image c.in_ok-entries.ensures.chain c.in_ok-entries.ensures.entries c.in_ok-left.ensures.drops c.in_ok-left.ensures.good c.in_ok-left.ensures.left in
+    let after = on_ok_weaker c.lower_entries.result (d.1 (g.A.Area.image c.lower_entries.new.area)) c.lower_entries.ensures.lowers in
+    record {
+      global = search rules;
+      dropped = on_ok_weaker c.lower_entries.result (λ k own. k.0) after;
+      good = on_ok_weaker c.lower_entries.result (λ k. k.1.0) after;
+      keeps = on_ok_weaker c.lower_entries.result (λ k. k.1.1) after;
+      area = search rules;
+    }

@@ -1,7 +1,7 @@
-use Rattle.std.proofs.Common.{◌∙◌, ◌-◌, ◌≤◌, ℕ, List, All, Contains, w32, map, ap, subst, inr, arith}
-use Rattle.cdf_attrs.proofs.Common.{to_z_pos, on_ok_weaker, cast_signed, cast_unsigned, write_of, lower_writes, KnownEntries, max_field, with_writes, with_field}
-use Rattle.cdf_attrs.proofs.GreatestNumber.{is_member}
-use Rattle.cdf_attrs.proofs.DroppingSteps.{lies_after, lowered_greatest, member_small}
+use Rattle.std.proofs.Common.{◌∙◌, ◌-◌, ◌≤◌, ℕ, List, All, Contains, w32, map, ap, subst, inr}
+use Rattle.cdf_attrs.proofs.Common.{on_ok_weaker, signed_limit, cast_signed, cast_unsigned, write_of, lower_writes, KnownEntries, max_field, with_writes, with_field}
+use Rattle.cdf_attrs.proofs.GreatestNumber.{each_of, is_member}
+use Rattle.cdf_attrs.proofs.DroppingSteps.{lies_after, lowered_greatest}
 use Rattle.cdf_attrs.proofs.dropping.lower_entries.Goals as goal
 
 pub set_greatest-requires : goal.set_greatest-requires
@@ -19,10 +19,9 @@ returns-clause-lowers g c =
     let numbers = c.deref.ensures.value ∙ ap (λ (e : KnownEntries). e.numbers) c.entries.view_is in
     let has = subst (λ (xs : List ℕ). Contains xs most) numbers c.in-Some.ensures.member in
     let all = subst (λ (xs : List ℕ). All (λ n. n ≤ most) xs) numbers c.in-Some.ensures.greatest in
-    let less = member_small most es.numbers has c.requires.small in
     on_ok_weaker _ (λ w. inr (record {
       some = (most, (is_member es.numbers most has, c.in-Some.ensures.above));
       greatest = cast_signed w32 (most - 1);
-      greatest_is = lowered_greatest c.args.num most es.numbers (cast_signed w32 (most - 1)) (to_z_pos w32 (most - 1) (omega arith)) c.in-Some.ensures.above has all;
+      greatest_is = lowered_greatest c.args.num most es.numbers c.in-Some.ensures.above has all (each_of (λ n. n ≤ signed_limit) es.numbers c.requires.small most (is_member es.numbers most has));
       written = w ∙ ap (λ (x : List ℕ). with_field x c.args.adr (max_field c.args.kind) (cast_unsigned w32 (cast_signed w32 (most - 1)))) (c.in_ok-set_numbers.ensures.written ∙ ap (with_writes b) writes);
     })) c.set_greatest.ensures.written

@@ -3,6 +3,4 @@ use Rattle.cdf_attrs.proofs.Common.{write_of, lower_writes}
 use Rattle.cdf_attrs.proofs.dropping.lower_numbers.Given as goal
 
 abbrev pub invariant-loop-i : goal.invariant-loop-i
-invariant-loop-i l = record {
-  pushed : map write_of l.lower.items ++ lower_writes l.num (drop l.i l.entries.numbers) (drop l.i l.entries.places) ≡ lower_writes l.num l.entries.numbers l.entries.places;
-}
+invariant-loop-i l = map write_of l.lower.items ++ lower_writes l.num (drop l.i l.entries.numbers) (drop l.i l.entries.places) ≡ lower_writes l.num l.entries.numbers l.entries.places

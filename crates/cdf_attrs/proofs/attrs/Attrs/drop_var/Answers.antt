@@ -1,12 +1,10 @@
 use Rattle.std.proofs.Common.{◌∙◌, refl, sym, ap, arith}
-use Rattle.cdf_attrs.proofs.Common.{edit_more, Known}
-use Rattle.cdf_edits.proofs.Edits.DroppedSoFar.{start}
-use Rattle.cdf_attrs.proofs.DroppedVar.{all_done, at_index, drops_more, keeps_then}
-use Rattle.cdf_attrs.proofs.DroppingFrom.{keeps_same}
+use Rattle.cdf_attrs.proofs.Common.{edit_more, Known, start}
+use Rattle.cdf_attrs.proofs.DroppedChains.{all_done, at_index, drops_more, keeps_same}
 use Rattle.cdf_attrs.proofs.attrs.Attrs.drop_var.Goals as goal
 
 pub loop-adr-init : goal.loop-adr-init
-loop-adr-init g c = record { good = c.requires.good; keeps = keeps_same refl; dropped = λ found kind_is num_is. start c.requires.good; area = record { frame = refl; faults = refl } }
+loop-adr-init g c = record { good = c.requires.good; keeps = keeps_same refl; dropped = λ found kind_is num_is. start _ found c.requires.good; area = record { frame = refl; faults = refl } }
 
 pub drop_from-requires-clause-adr : goal.drop_from-requires-clause-adr
 drop_from-requires-clause-adr g c =
@@ -19,7 +17,7 @@ loop-adr-preserved g c =
     let call = c.in_ok-drop_from.ensures in
     record {
       good = call.good;
-      keeps = keeps_then c.loop-adr.invariant.keeps call.keeps;
+      keeps = let one = c.loop-adr.invariant.keeps in let two = call.keeps in record { names = two.names ∙ one.names; places = two.places ∙ one.places; long = two.long ∙ one.long };
       dropped = drops_more c.requires.good c.requires.short are c.loop-adr-test.true refl c.loop-adr.invariant.good c.loop-adr.invariant.keeps c.loop-adr.invariant.dropped call.global call.dropped;
       area = edit_more c.loop-adr.invariant.area call.area;
     }
