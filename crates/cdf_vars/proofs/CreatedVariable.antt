@@ -1,6 +1,6 @@
 -- A new variable: the making of its VDR leads from a good image to the one that follows, what is known of the variables then, and what the command is answered.
 use Rattle.std.proofs.Common.{◌≡◌, ◌≢◌, ℕ, ◌+◌, ◌^◌, ◌<◌, ◌≤◌, List, [], ◌∷◌, ◌++◌, length, map, true, false, bytes_eq, eq-eqb, Some, refl, sym, ap, subst, true≢false, ◌∙◌, append-nil, arith, inl}
-use Rattle.cdf_vars.proofs.Common.{Same, if◌then◌else◌, map-append, All, flat_map, slice_get, Go, DataSet, Variable, Plain, Kind, R, Z, image_limit, is_bad_name, is_among, variable_names, variables_of, with_variables, ByStep, step, is_bad_shape, new_variable, next_field, is_in, content, variable_of, number, name_in, r_sizes, size_at, type_at, gdr_offset, owned, times, vdr_name, Hold, VariableShape, Shape, vdrs, variables, HasShape, shape, IsSound, In, Good, IsGoodByShape, vdrs_append, good_by_its_shape, good_is_sound, rules_of_good, good_long, sealed_kept, content_is, shape_is, AllKeep, Allowances, Only, shapes_of, vdr_type, Chain, Does, allowances, room, vdr_bytes, Edit, Mark, making_marks, within, Follows, only_reads, Act, Took, type_in, counted_in, IsBody, type_of_body, variables_chain, fine_is_some, fine_has_no_zeros, fine_is_short, got-middle, the_one, other_kind, variables_of_are, counted_before, with_shapes, kind_type, beside_in, apart, NewVariable, making, OthersStay, KnowsKind, Answers, gone, too_large, Done, Refused, TooLarge}
+use Rattle.cdf_vars.proofs.Common.{Same, if◌then◌else◌, map-append, All, flat_map, slice_get, Go, DataSet, Variable, Plain, Kind, R, Z, image_limit, is_bad_name, is_among, variable_names, variables_of, with_variables, ByStep, step, is_bad_shape, new_variable, next_field, is_in, content, variable_of, number, name_in, r_sizes, size_at, type_at, gdr_offset, owned, times, vdr_name, Hold, VariableShape, Shape, vdrs, HasShape, shape, IsSound, In, Good, IsGoodByShape, vdrs_append, good_by_its_shape, good_is_sound, rules_of_good, good_long, sealed_kept, content_is, shape_is, AllKeep, Allowances, Only, shapes_of, vdr_type, Chain, Does, allowances, room, vdr_bytes, Edit, Mark, making_marks, Follows, only_reads, Act, Took, type_in, counted_in, IsBody, type_of_body, variables_chain, fine_is_some, fine_has_no_zeros, fine_is_short, got-middle, the_one, other_kind, variables_of_are, counted_before, with_shapes, kind_type, beside_in, NewVariable, making, OthersStay, KnowsKind, Answers, gone, too_large, Done, Refused, TooLarge}
 use Rattle.cdf_model.specs.VariableSteps.{var_step}
 use Rattle.cdf_format.specs.Index.{leaves_of, nodes_of}
 use Rattle.cdf_edits.proofs.Common.{Keeps, count_of, members_of, only_of, read_types, same_kind, times-none, variable_records}
@@ -91,7 +91,7 @@ module _ (b : List ℕ) (kind : Kind) (v : NewVariable) (limit : ℕ) (image : G
     is_body = subst IsBody (sym are) (vdr_is_body kind v n short is)
 
     pub is_typed : type_of_body bytes ≡ type_in (variables_chain kind)
-    is_typed = ap type_of_body are ∙ type_in_body kind v n short is ∙ sym (kind_type kind)
+    is_typed = ap type_of_body are ∙ type_in_body kind v n ∙ sym (kind_type kind)
 
     pub has_room : length b + (8 + length bytes) ≤ limit
     has_room = let size = length-body kind v n short is in let same = ap (λ (x : List ℕ). length x) are in omega (arith, size, same, roomy)
@@ -112,7 +112,7 @@ module _ (b : List ℕ) (kind : Kind) (v : NewVariable) (limit : ℕ) (image : G
     body = vdr_body kind v num
 
     abbrev w : JoinsVdr b now kind body place (members_of b (variables_chain kind) ++ place ∷ []) (counted_in b (variables_chain kind) + 1)
-    w = record { joined = added; type_is = type_in_body kind v num short is ∙ sym (kind_type kind) }
+    w = record { joined = added; type_is = type_in_body kind v num ∙ sym (kind_type kind) }
 
     abbrev marks : List Mark
     marks = making_marks s.unused place (8 + length body) (adding_marks b (variables_chain kind) place)

@@ -38,6 +38,6 @@ pub use Rattle.cdf_edits.proofs.Frame.OwnersApart.{all_attribute_records, all_va
 pub use Rattle.cdf_edits.proofs.Frame.VdrCopied.{Copied, VdrCopied, pad_field_copied, type_copied, value_copied, word_copied}
 pub use Rattle.cdf_edits.proofs.Rules.FirstHead.{FirstSays, first_hold, first_said}
 pub use Rattle.cdf_edits.proofs.Space.ActsLeave.{each, no_acts, places-sized}
-pub use Rattle.cdf_edits.proofs.Space.LaidOut.{placed_says, says_kept}
+pub use Rattle.cdf_edits.proofs.Space.LaidOut.{laid_kept, placed_laid, says_laid_out, value_laid}
 pub use Rattle.cdf_edits.proofs.Space.TakenFromList.{leads_rest, same_link}
 pub use Rattle.cdf_edits.proofs.Space.UsedRecords.{apart, filter-distinct, filter-keeps, filter-says}
