@@ -13,7 +13,7 @@ use Rattle.cdf_edits.proofs.Frame.Meaning.{Kept, KeptButLink}
 end_low : (size : ℕ) → 12 ≤ links_end size
 end_low size = elim (either (nat_le 28 size)) [ inl e ↦ rw e (omega arith) | inr e ↦ rw e (omega arith) ]
 
-end_long : (size : ℕ) → 28 ≤ size → 28 ≤ links_end size
+pub end_long : (size : ℕ) → 28 ≤ size → 28 ≤ links_end size
 end_long size long = rw (le-leb 28 size long) (omega arith)
 
 -- a record that is kept, or but for the link to the next one, keeps its bytes behind the links of an unused one

@@ -1,11 +1,11 @@
 -- The old VDR is freed that another one took the place of: what the image is then.
 use Rattle.std.proofs.Common.{◌≡◌, ◌≢◌, not, ℕ, suc, ◌+◌, ◌<◌, ◌≤◌, List, [], ◌∷◌, ◌++◌, length, map, true, false, eq-eqb, bytes_eq, refl, sym, ap, subst, ◌∙◌, arith, inl, inr}
 use Rattle.cdf_edits.proofs.Common.{ne_eqb, length-map, map-append, set_at, ◌==◌, if◌then◌else◌, slice_set, Kind, R, Z, DataSet, Variable, image_limit, Found, variables_of, with_variables, number_rows, is_in, next_field, content, variable_of, number, name_in, integer4, size_at, type_at, has_bit, gdr_offset, read_types, unread_type, Unused, owned, owned_by, unused_records, times, Field, gdr_eof, vdr_blocking_factor, vdr_flags, vdr_num, vdr_name, fixed_size, is_record_type, Hold, VariableShape, Shape, vdrs, vdrs_append, is_compressed, HasShape, Each, shape, In, pad_field, pad_at, records_vary, vdr_end, Good, type_kept, number_kept, name_kept, IsGoodByShape, good_by_its_shape, rules_of_good, In-append, In-append_left, In-append_right, times-none, Hold-member, good_long, sealed_kept, content_is, shape_is, AllKeep, Allowances, Anything, GivenStay, Keeps, Only, no_fields, same_kind, shapes_of, stays_own, vdr_type, set_pad_changes, Edit, Mark, making_marks, giving_marks, adding_marks, Act, ActsFollow, Gave, Took, gave, head_of, count_of, type_in, Gives, variables_chain}
-use Rattle.cdf_edits.proofs.Edits.FreedRecord.{FreesRecord, as_long_now, freed_acts, freed_bytes, freed_edit, freed_keeps_unused, freed_list, freed_real, freed_type, gdr_same, other_chain, other_kept, other_links, records_now, same_sizes, same_types}
+use Rattle.cdf_edits.proofs.Edits.FreedRecord.{FreesRecord, as_long_now, freed_acts, linked_bytes, freed_edit, freed_keeps_unused, freed_list, freed_real, freed_type, gdr_same, other_chain, other_kept, other_links, records_now, same_sizes, same_types}
 use Rattle.cdf_edits.proofs.Edits.JoinedVdr.{KindTests, edit, ends, file, fills, gdr_is, join_tests, joined_acts, joined_size, joined_type, linked, list, member_in, plain_kind, real, records}
 use Rattle.cdf_edits.proofs.Edits.MadeRecord.{listed_before, listed_marks, loose_away, place_in}
 use Rattle.cdf_edits.proofs.Edits.MarkLemmas.{the_one}
-use Rattle.cdf_edits.proofs.Edits.MovedVdr.{CopiesVdr, MovesVdr, by_not_old, by_once, chain_late, late_is, late_shape, members, not_after, not_before, old_live, old_unowned, own', sound_late, traded}
+use Rattle.cdf_edits.proofs.Edits.MovedVdr.{CopiesVdr, MovesVdr, by_not_old, by_once, chain_late, late_is, late_shape, members, not_after, not_before, old_live, old_type, old_unowned, own', sound_late, traded}
 use Rattle.cdf_edits.proofs.Edits.OwnedOnce.{used_times, IsSorted, owned_once_if}
 use Rattle.cdf_edits.proofs.Edits.OwnersKept.{stood}
 use Rattle.cdf_edits.proofs.Edits.RecordFrame.{VariableLives, file_same, gdr_place, index_records}
@@ -17,7 +17,7 @@ use Rattle.cdf_edits.proofs.Edits.VariableNames.{apart_if, own_names_apart}
 use Rattle.cdf_edits.proofs.Edits.VariableSplice.{VariableSplices, OwnRules, attributes_kept, shape_now, content_now, parts_ruled, good_image_if}
 use Rattle.cdf_edits.proofs.Edits.VariablesLinked.{behind_kept, keep_numbered, keep_with_kind, live, next_keeps, others_live}
 use Rattle.cdf_edits.proofs.Edits.VdrEdited.{StandsAmong, sound, tile, typed, ours, after_ours, has, fits, behind_in, long, no_block, through, least_size}
-use Rattle.cdf_edits.proofs.Frame.Meaning.{FileSame, Kept, KeptButLink}
+use Rattle.cdf_edits.proofs.Frame.Meaning.{FileSame, Kept, KeptButLink, late_size}
 use Rattle.cdf_edits.proofs.Frame.VdrCopied.{VdrCopied, pad_field_copied, value_copied}
 
 -- ---- by the kind
@@ -92,7 +92,7 @@ module _ {b late now : List ℕ} {kind : Kind} {before : List VariableShape} {ow
   h = (sound good at).has_shape
 
   f : FreesRecord b late now (late_shape good at m says) making (by ∷ []) old ty
-  f = record { sound = sound good at; edit = edit (sound good at) m; late_sound = sound_late good at m says; late_is = late_is good at m says; inside = tile good at; typed = typed good at; plain = plain_kind kind; lives = (old_live good at m).vdr; frees = gives }
+  f = record { sound = sound good at; edit = edit (sound good at) m; late_sound = sound_late good at m says; late_is = late_is good at m says; inside = tile good at; typed = old_type good at m; used = (plain_kind kind).no_uir; other = λ q. absurd ((plain_kind kind).no_gdr q); size_is = late_size b late old (old_live good at m).vdr; frees = gives }
 
   abbrev all_marks : List Mark
   all_marks = making ++ giving_marks ls ty old (size_at late old)
@@ -286,7 +286,7 @@ module _ {b late now : List ℕ} {kind : Kind} {before : List VariableShape} {ow
   acts_now = freed_acts f (joined_acts (sound good at) m _ (late_is good at m says))
 
   pub bytes_left : GivenStay b now no_fields acts (gave b (old ∷ []))
-  bytes_left = freed_bytes f acts (through 28 340 (size_at b old) (omega arith) (long good at))
+  bytes_left = linked_bytes f acts (old_live good at m).vdr (through 28 340 (size_at b old) (omega arith) (long good at))
 
   pub long_now : length now ≡ length late
   long_now = as_long_now f
