@@ -1,20 +1,21 @@
 -- `setup` follows its command: the dimensions of a GDR and the CDR are written, what the image has by then, whatever became of the GDR, and the two ways, in its place and moved.
 use Rattle.std.proofs.Common.{◌≡◌, ◌≢◌, ℕ, ◌+◌, ◌-◌, ◌*◌, ◌/◌, ◌%◌, ◌<◌, ◌≤◌, List, [], ◌∷◌, ◌++◌, length, map, sum, drop, Bool, true, false, not, ◌||◌, refl, sym, ap, subst, ◌∙◌, arith, inl, inr, ◌^◌}
-use Rattle.cdf_vars.proofs.Common.{gdr_fits, IsGoodByShape, is_in, le-leb, length-take, length-drop, w32, cast_signed, list_all, ◌==◌, ◌&&◌, is_some, nat_le, if◌then◌else◌, ◌||◌, put, Majority, Row, Column, DataSet, encoding_at, image_limit, are_bad_sizes, is_empty_set, AllKeep, Edit, Mark, avoided, within, is_late, making_marks, Follows, Changed, touched_field, Act, Took, Gave, Fills, keep_attributes, acts_took, end_now, filled_size, filled_sound, list_chain, made_edit, place_in, shorter, the_one, unmarked-away, keep_file, keeps_fields, gdr_in, gdr_long, gdr_typed, apart, length-words, words_laid_out, Same, byte, IsChain, Leads, next_of, content, counted, has_bit, is_positive, number, word, words, size_at, type_at, gdr_offset, r_num_dims, r_sizes, with_field, owned_records, times, Field, cdr_encoding, cdr_flags, gdr_r_max_rec, gdr_r_num_dims, record_type, cdr_type, gdr_type, uir_type, fixed_size, is_record_type, Shape, HasShape, shape, IsSound, In, Good, of_4_bytes, length-put, word_kept, words_kept, is_a-type, good_by_its_shape, good_eof, good_is_sound, rules_of_good, good_long, sealed_kept, content_is, shape_is, WritesHeads, small_signed, drop-put_there}
-use Rattle.cdf_edits.proofs.Common.{AreTiles, Gives, Holds, IsGiven, Unused, both, content_of, encoding, eof, flags, is_a-from, leb-true, lt-leb, majority_of, owned_by, read_types, sealed_keeps, unused, unused_records, with_space}
+use Rattle.cdf_vars.proofs.Common.{gdr_fits, IsGoodByShape, is_in, le-leb, length-take, length-drop, w32, cast_signed, list_all, ◌==◌, is_some, nat_le, if◌then◌else◌, ◌||◌, put, Majority, Row, Column, DataSet, encoding_at, image_limit, are_bad_sizes, is_empty_set, AllKeep, Edit, Mark, avoided, within, is_late, making_marks, Follows, Changed, touched_field, Act, Took, Gave, Fills, keep_attributes, acts_took, end_now, filled_size, filled_sound, list_chain, made_edit, place_in, shorter, the_one, unmarked-away, keep_file, keeps_fields, gdr_typed, apart, length-words, words_laid_out, byte, IsChain, next_of, content, counted, has_bit, is_positive, number, word, words, size_at, type_at, gdr_offset, r_num_dims, r_sizes, with_field, owned_records, times, Field, cdr_encoding, cdr_flags, gdr_r_max_rec, gdr_r_num_dims, record_type, cdr_type, gdr_type, uir_type, fixed_size, is_record_type, Shape, HasShape, shape, IsSound, In, Good, of_4_bytes, length-put, word_kept, words_kept, good_by_its_shape, good_eof, good_is_sound, rules_of_good, good_long, sealed_kept, content_is, shape_is, WritesHeads, small_signed, drop-put_there}
+use Rattle.cdf_edits.proofs.Common.{AreTiles, Holds, IsGiven, Unused, content_of, encoding, eof, flags, is_a-from, leb-true, lt-leb, majority_of, owned_by, read_types, sealed_keeps, unused, unused_records, with_space}
 use Rattle.cdf_model.specs.declared.answer.Reply.TheVariants as replies
 use Rattle.cdf_model.specs.declared.command.Command.TheVariants as commands
 use Rattle.cdf_edits.specs.Commands.Allowances.{FreedStay, Stays, StaysOrSays, space_fields}
 use Rattle.cdf_edits.specs.Commands.NewRecords.{with_bits, MovesForRoom, moved_for_room}
 use Rattle.cdf_edits.specs.Commands.Setup.{majority_bit, setup_changes, space_taken}
-use Rattle.cdf_edits.specs.Edits.Marks.{Avoids, Within, giving_marks, Among, Anywhere, mark, field_marks}
-use Rattle.cdf_edits.specs.Space.Acts.{ActsFollow, links_end, taken as taken_of}
+use Rattle.cdf_edits.specs.Edits.Marks.{Avoids, Within, Among, mark, field_marks}
+use Rattle.cdf_edits.specs.Space.Acts.{ActsFollow, taken as taken_of}
 use Rattle.cdf_edits.specs.Space.Taking.{IsTaken}
-use Rattle.cdf_edits.proofs.Edits.Common.{Avoids-append, Away-append, FirstSays, IsHeld, IsSorted, Within-append, acts_gave, acts_none, all_attribute_records, all_keep, all_variable_records, avoided-avoids, chain_clear, changed_edit, changed_put, edit_then, field_avoids, first_hold, first_said, gives_edit, keep_unused, keeps_within, none_in_use, owned_once_if, part_clear, places-sized, placing_marks, read_now, same_link, sizes_by_tiles, some_bytes, takes_edit, within-within}
+use Rattle.cdf_edits.proofs.Edits.Common.{Avoids-append, FirstSays, IsHeld, IsSorted, Within-append, acts_none, all_attribute_records, all_keep, all_variable_records, avoided-avoids, chain_clear, changed_edit, changed_put, edit_then, first_hold, first_said, keep_unused, keeps_within, none_in_use, owned_once_if, part_clear, places-sized, placing_marks, read_now, same_link, sizes_by_tiles, some_bytes, takes_edit, within-within}
 use Rattle.cdf_edits.proofs.Edits.EmptySet.{times_with, as_many, no_more, gdr_once, others_none, empty_shape, empty_sound, is_empty}
 use Rattle.cdf_edits.proofs.Edits.FieldWritten.{Stands, stands_fixed, field_in, still_stands, still_says, written_edit, written_long, written_reads}
-use Rattle.cdf_edits.proofs.Edits.FreedBytes.{BytesStay, behind_one, freed_stay_but}
-use Rattle.cdf_edits.proofs.Edits.MadeRecord.{filled_content, filled_edit, fresh, listed_before, listed_marks, loose_away, second}
+use Rattle.cdf_edits.proofs.Edits.FreedRecord.{FreesRecord, as_long_now, behind_links, freed_acts, freed_bytes, freed_edit, freed_keeps_unused, freed_type, gdr_beside, given, given_marks, gives, records_now}
+use Rattle.cdf_edits.proofs.Edits.MarkLemmas.{or_cases}
+use Rattle.cdf_edits.proofs.Edits.MadeRecord.{filled_content, filled_edit, listed_before, listed_marks, loose_away, second, unlike}
 use Rattle.cdf_space.proofs.Filling.{word-put_inside}
 use Rattle.cdf_format.specs.Records.{cdr_increment, cdr_release, cdr_version, cdr_gdr_offset, gdr_eof, gdr_leap_second_last_updated, gdr_num_attr, gdr_nr_vars, gdr_nz_vars, gdr_r_dim_sizes, gdr_rfu_c, gdr_rfu_e, gdr_uir_head, uir_next_uir, uir_prev_uir, gdr_adr_head, gdr_r_vdr_head, gdr_z_vdr_head}
 use Rattle.cdf_format.proofs.Pieces.{word-piece}
@@ -473,9 +474,6 @@ module _ (b dims : List ℕ) (good : Good b) (empty : is_empty_set (content b) �
     copied_old : Stands m.copied records old gdr_type 84
     copied_old = still_stands (second sound fills) taken_old refl (omega arith)
 
-    old_says : (f : Field) → f.place + f.width ≤ 84 → number m.copied old f ≡ number m.taken old f
-    old_says f high = still_says (second sound fills) taken_old refl f refl high
-
     copied_cdr : (f : Field) → avoided (placing_marks (shape b).unused place need) cdr_type f.place (f.place + f.width) ≡ true → f.place + f.width ≤ 312 → number m.copied 8 f ≡ number b 8 f
     copied_cdr f clear high = still_says (filled_edit sound fills) cdr_before refl f clear high
 
@@ -503,7 +501,7 @@ module _ (b dims : List ℕ) (good : Good b) (empty : is_empty_set (content b) �
     made = made_edit sound fills later as_long lately
 
     late_shape : HasShape late (empty_shape records place list)
-    late_shape = heads_shape copied_shape fine new m.heads (λ f low high. copied_field f (omega arith) high ∙ sym (old_says f high))
+    late_shape = heads_shape copied_shape fine new m.heads (λ f low high. copied_field f (omega arith) high ∙ sym (still_says (second sound fills) taken_old refl f refl high))
 
     late_is : shape late ≡ empty_shape records place list
     late_is = shape_is late (empty_shape records place list) late_shape
@@ -512,14 +510,11 @@ module _ (b dims : List ℕ) (good : Good b) (empty : is_empty_set (content b) �
     late_records = ap (λ (x : Shape). x.records) late_is
 
     -- the new GDR is none of the records that were in use
-    fresh_place : (k type : ℕ) → Stands b s.records k type 84 → type ≢ uir_type → k ≢ place
-    fresh_place k type is used q = used (sym is.typed ∙ ap (type_at b) q ∙ fresh sound fills (subst (λ (x : ℕ). In x s.records) q is.inside))
-
     place_not_old : old ≢ place
-    place_not_old = fresh_place old gdr_type gdr_before (λ u. apart gdr_type uir_type refl u)
+    place_not_old = unlike sound fills old gdr_before.inside (λ u. apart gdr_type uir_type refl (sym gdr_before.typed ∙ u))
 
     place_not_8 : place ≢ 8
-    place_not_8 q = fresh_place 8 cdr_type (record { inside = cdr_before.inside; typed = cdr_before.typed; long = let l = cdr_before.long in omega arith }) (λ u. apart cdr_type uir_type refl u) (sym q)
+    place_not_8 q = unlike sound fills 8 cdr_before.inside (λ u. apart cdr_type uir_type refl (sym cdr_before.typed ∙ u)) (sym q)
 
     old_not_8 : old ≢ 8
     old_not_8 q = apart gdr_type cdr_type refl (sym gdr_before.typed ∙ ap (type_at b) q ∙ cdr_before.typed)
@@ -527,9 +522,8 @@ module _ (b dims : List ℕ) (good : Good b) (empty : is_empty_set (content b) �
     -- what it has of the old one
     new_says : (f : Field) → IsCopied f → number late place f ≡ number b old f
     new_says f copied =
-        let high = copied.0.1 in
-        let low = leb-true 12 f.place copied.3 in
-        gdr_still copied_shape fine new m.heads f copied.0 ∙ copied_field f (omega arith) high ∙ sym (old_says f high) ∙ still_says (filled_edit sound fills) gdr_before refl f (rw (copied.1, copied.2) refl) high
+        gdr_still copied_shape fine new m.heads f copied.0 ∙ copied_field f (let l = leb-true 12 f.place copied.3 in omega arith) copied.0.1
+        ∙ still_says (takes_edit sound (omega arith) is_taken.0) gdr_before refl f (rw (copied.1, copied.2) refl) copied.0.1
 
     -- ---- the old one
 
@@ -564,67 +558,33 @@ module _ (b dims : List ℕ) (good : Good b) (empty : is_empty_set (content b) �
     -- ---- and the old one is freed
 
     module _ (now : List ℕ) (majority : Majority) (read : is_some (encoding_at code) ≡ true) (bits_are : bits ≡ majority_flags (flags b) majority) (large : size_at b (gdr_offset b) < need) (free : IsGiven late now (shape late) (shape now) (gdr_offset b)) where
-      abbrev late_own : Shape
-      late_own = empty_shape records place list
-
-      is_given : IsGiven late now late_own (shape now) old
-      is_given = subst (λ (x : Shape). IsGiven late now x (shape now) old) late_is free
-
-      abbrev gives : Gives late now late_own (shape now) old
-      gives = is_given.0
-
-      abbrev given_marks : List Mark
-      given_marks = giving_marks list gdr_type old (size_at late old)
-
-      given : Edit late now records records given_marks (old ∷ [])
-      given = gives_edit late now late_own (shape now) old gdr_type late_shape late_old.inside late_old.typed gives
-
-      all : Edit b now s.records records (make_marks ++ given_marks) (place ∷ old ∷ [])
-      all = edit_then made given
+      f : FreesRecord b late now (empty_shape records place list) make_marks (place ∷ []) old gdr_type
+      f = record { sound = sound; edit = made; late_sound = late_sound; late_is = late_is; inside = gdr_before.inside; typed = late_old.typed; used = λ u. apart gdr_type uir_type refl u; other = λ same. place_not_old; size_is = old_stays.size_is; frees = free.0 }
 
       abbrev own_now : Shape
       own_now = empty_shape records place (shape now).unused
 
       now_sound : IsSound now own_now
-      now_sound = subst (IsSound now) (gives.space.rest_stays ∙ ap (λ (r : List ℕ). with_space late_own r (shape now).unused) gives.records_stay) is_given.1
+      now_sound = subst (IsSound now) ((gives f).space.rest_stays ∙ ap (λ (r : List ℕ). empty_shape r place (shape now).unused) (records_now f)) free.1
 
       h : HasShape now own_now
       h = now_sound.has_shape
 
-      freed_type : type_at now old ≡ uir_type
-      freed_type = is_a-type now (shape now).records uir_type old gives.stands
-
-      -- ---- the CDR and the new one after that
-
-      place_avoids : (lo hi : ℕ) → (nat_le 72 lo || nat_le hi 64) ≡ true → Avoids given_marks gdr_type place lo hi
-      place_avoids lo hi beside = (
-        (avoided-avoids (mark gdr_type Anywhere gdr_uir_head ∷ []) gdr_type place lo hi (rw beside refl)).0,
-        ((λ q lies. absurd (apart gdr_type uir_type refl q)), ((λ q lies. absurd (place_not_old (sym (the_one old place lies)))), tt)),
-      )
-
-      place_now : (f : Field) → (nat_le 72 f.place || nat_le (f.place + f.width) 64) ≡ true → f.place + f.width ≤ 84 → number now place f ≡ number late place f
-      place_now f beside fits = field_avoids given place gdr_type f (gdr_in late late_own late_shape) (gdr_typed late late_own late_shape) (place_avoids 0 12 refl) (place_avoids f.place (f.place + f.width) beside) (let l = gdr_long late late_own late_shape in omega arith)
+      place_now : (f' : Field) → (nat_le 72 f'.place || nat_le (f'.place + f'.width) 64) ≡ true → f'.place + f'.width ≤ 84 → number now place f' ≡ number late place f'
+      place_now f' beside fits = gdr_beside f f' (elim (or_cases (nat_le 72 f'.place) (nat_le (f'.place + f'.width) 64) beside) [ inl x ↦ inr (leb-true 72 f'.place x) | inr x ↦ inl (leb-true (f'.place + f'.width) 64 x) ]) fits
 
       -- ---- the old one
 
       abbrev acts : List Act
       acts = Took place need ∷ Gave old (size_at b old) ∷ []
 
-      behind : Same late now (old + links_end (size_at late old)) (old + size_at late old)
-      behind = behind_one late_shape gives late_old.inside old late_old.inside place_not_old
-
-      joins : nat_le 28 (size_at late old) ≡ true
-      joins = le-leb 28 (size_at late old) (let l = late_old.long in omega arith)
-
       now_list : (shape now).unused ≡ old ∷ list
       now_list =
-          sym (places-sized now (shape now).unused) ∙ ap (map (λ pair. pair.0)) gives.list_is ∙ ap (λ (p : Bool). map (λ pair. pair.0) (if p then (old, size_at late old) ∷ unused late late_own else unused late late_own)) joins
+          sym (places-sized now (shape now).unused) ∙ ap (map (λ pair. pair.0)) (gives f).list_is ∙ ap (λ (p : Bool). map (λ pair. pair.0) (if p then (old, size_at late old) ∷ unused late (empty_shape records place list) else unused late (empty_shape records place list))) (le-leb 28 (size_at late old) (let l = late_old.long in omega arith))
           ∙ ap (λ (x : List ℕ). old ∷ x) (places-sized late list)
 
-      old_field : (f : Field) → 28 ≤ f.place → f.place + f.width ≤ 84 → number now old f ≡ number late old f
-      old_field f low high =
-          let b28 : Same late now (old + 28) (old + size_at late old) = subst (λ (p : Bool). Same late now (old + (if p then 28 else 12)) (old + size_at late old)) joins behind in
-          word_kept late now (old + 28) (old + size_at late old) b28 (old + f.place) f.width (omega arith) (let l = late_old.long in omega arith)
+      old_field : (f' : Field) → 28 ≤ f'.place → f'.place + f'.width ≤ 84 → number now old f' ≡ number late old f'
+      old_field f' low high = let l = gdr_before.long in word_kept late now (old + 28) (old + size_at b old) (behind_links f (omega arith)) (old + f'.place) f'.width (omega arith) (omega arith)
 
       old_head : number now old gdr_uir_head ≡ next_of now old
       old_head =
@@ -632,54 +592,37 @@ module _ (b dims : List ℕ) (good : Good b) (empty : is_empty_set (content b) �
           old_field gdr_uir_head (omega arith) (omega arith) ∙ ap (λ (g : ℕ). number late g gdr_uir_head) (sym at) ∙ same_link late now _ _ list (list_chain sound fills later as_long lately).leads chain.leads.1
 
       old_eof : number now old gdr_eof ≡ length now
-      old_eof = old_field gdr_eof (omega arith) (omega arith) ∙ ap (eof late) (sym at) ∙ end_now sound fills later as_long lately ∙ sym gives.length_is
+      old_eof = old_field gdr_eof (omega arith) (omega arith) ∙ ap (eof late) (sym at) ∙ end_now sound fills later as_long lately ∙ sym (as_long_now f)
 
       -- ---- the whole
 
-      moved_set : IsSetUp b now records (shape now).unused place code bits majority dims (make_marks ++ given_marks) (place ∷ old ∷ []) acts
+      moved_set : IsSetUp b now records (shape now).unused place code bits majority dims (make_marks ++ given_marks f) (place ∷ old ∷ []) acts
       moved_set = record {
-        edit = all;
+        edit = freed_edit f;
         cdr_start = refl;
         cdr_version_stays = refl;
         cdr_within = refl;
         sound = now_sound;
-        content_now = is_given.2 ∙ heads_content copied_shape fine new m.heads late_shape (ap (λ (n : ℕ). majority_of (has_bit n 0)) bits_are ∙ bit_0 (flags b) majority) (ap (λ (n : ℕ). has_bit n 2) bits_are ∙ (bits_stay (flags b) majority).1 ∙ sym (ap (λ (n : ℕ). has_bit n 2) (copied_cdr cdr_flags refl (omega arith))))
+        content_now = free.2 ∙ heads_content copied_shape fine new m.heads late_shape (ap (λ (n : ℕ). majority_of (has_bit n 0)) bits_are ∙ bit_0 (flags b) majority) (ap (λ (n : ℕ). has_bit n 2) bits_are ∙ (bits_stay (flags b) majority).1 ∙ sym (ap (λ (n : ℕ). has_bit n 2) (copied_cdr cdr_flags refl (omega arith))))
             ∙ ap (λ (d : DataSet). set_up d code majority dims) (filled_content sound fills);
-        flags_now = still_says given (stands_fixed late_shape cdr_type 8 late_shape.cdr_stands) refl cdr_flags refl (omega arith) ∙ (heads_say copied_shape fine new m.heads).flags_are;
+        flags_now = still_says (given f) (stands_fixed late_shape cdr_type 8 late_shape.cdr_stands) refl cdr_flags refl (omega arith) ∙ (heads_say copied_shape fine new m.heads).flags_are;
         count_now = place_now gdr_r_num_dims refl (omega arith) ∙ (heads_say copied_shape fine new m.heads).count_is;
         stays = λ f copied.
             place_now f copied.2 copied.0.1 ∙ new_says f copied;
-        end = place_now gdr_eof refl (omega arith) ∙ gdr_still copied_shape fine new m.heads gdr_eof (refl, omega arith) ∙ copied_field gdr_eof (omega arith) (omega arith) ∙ ap (eof m.taken) (sym at) ∙ is_taken.0.eof_is ∙ sym (gives.length_is ∙ as_long ∙ fills.long);
-        longest = let l = shorter sound fills later as_long lately in let a = gives.length_is in omega arith;
+        end = place_now gdr_eof refl (omega arith) ∙ gdr_still copied_shape fine new m.heads gdr_eof (refl, omega arith) ∙ copied_field gdr_eof (omega arith) (omega arith) ∙ ap (eof m.taken) (sym at) ∙ is_taken.0.eof_is ∙ sym (as_long_now f ∙ as_long ∙ fills.long);
+        longest = let l = shorter sound fills later as_long lately in let a = as_long_now f in omega arith;
         as_owned = λ k out. as_many old place k (λ q. out (inr (inl q))) (λ q. out (inl q));
         anew = λ k i. elim i [
           | inl q ↦ subst (λ (x : ℕ). IsSorted now own_now x × (is_in (type_at now x) read_types ≡ true)) (sym q) (inl ((λ u. apart gdr_type uir_type refl (sym (gdr_typed now own_now h) ∙ u)), gdr_once place place_not_8), ap (λ (t : ℕ). is_in t read_types) (gdr_typed now own_now h))
-          | inr last ↦ subst (λ (x : ℕ). IsSorted now own_now x × (is_in (type_at now x) read_types ≡ true)) (sym (the_one old k last)) (inr (freed_type, others_none place old old_not_8 place_not_old), ap (λ (t : ℕ). is_in t read_types) freed_type)
+          | inr last ↦ subst (λ (x : ℕ). IsSorted now own_now x × (is_in (type_at now x) read_types ≡ true)) (sym (the_one old k last)) (inr (freed_type f, others_none place old old_not_8 place_not_old), ap (λ (t : ℕ). is_in t read_types) (freed_type f))
         ];
         takes_within = omega arith;
-        acts_follow =
-            let took = acts_took sound fills later as_long lately late_records (ap (λ (x : Shape). x.unused) late_is) in
-            subst (λ (k : ℕ). ActsFollow b now (Took place need ∷ Gave old k ∷ [])) old_stays.size_is
-            (acts_gave sound.has_shape took late_sound (old_stands old refl) (λ u. apart gdr_type uir_type refl (sym late_old.typed ∙ u)) free.0);
-        unused_stay =
-            let links = uir_next_uir ∷ uir_prev_uir ∷ [] in
-            keep_unused sound all gives.records_stay setup_changes acts
-            (λ k i left.
-            let l = listed_marks sound fills later as_long lately late_records k i left in
-            (Avoids-append make_marks given_marks uir_type k 0 12 l.0 (avoided-avoids given_marks uir_type k 0 12 refl), Within-append make_marks given_marks uir_type k links l.1 (within-within given_marks uir_type k links refl)))
-            (λ k i out.
-            let off = λ (j : In k list). out (listed_before sound fills later as_long lately k i j) in
-            Away-append make_marks given_marks uir_type k (loose_away sound fills later as_long lately k i out) ((λ q lies. apart uir_type gdr_type refl q), ((λ q lies. off lies), ((λ q lies. apart uir_type gdr_type refl q), tt))));
+        acts_follow = freed_acts f (acts_took sound fills later as_long lately late_records (ap (λ (x : Shape). x.unused) late_is));
+        unused_stay = freed_keeps_unused f setup_changes acts (λ k i left. listed_marks sound fills later as_long lately late_records k i left)
+            (λ k i out. (loose_away sound fills later as_long lately k i out, (λ j. out (listed_before sound fills later as_long lately k i j))));
         acts_are = rw (lt-leb need (size_at b (gdr_offset b)) large) (λ i. Took (sym h.gdr_is i) need ∷ Gave old (size_at b old) ∷ []);
         room = λ le. absurd (omega (arith, large, le));
-        freed =
-            let sizes = sizes_by_tiles late now 8 8 (length late) records refl late_shape.tiled (subst (λ (x : ℕ). AreTiles now 8 x records) gives.length_is given.tiled_now) in
-            let size = sizes old late_old.inside ∙ old_stays.size_is in
-            freed_stay_but b now acts (old ∷ []) (λ type. space_fields) (subst (AreTiles now 8 (length now)) (sym gives.records_stay) h.tiled)
-            (λ k i. subst (λ (x : ℕ). In x (shape now).records) (sym (the_one old k i)) (subst (In old) (sym gives.records_stay) late_old.inside))
-            (λ k i. subst (λ (x : ℕ). size_at now x ≡ size_at b x) (sym (the_one old k i)) size)
-            (λ k i. subst (λ (x : ℕ). BytesStay b now x (links_end (size_at b x)) space_fields) (sym (the_one old k i)) (λ n lt low out.
-            behind.each (old + n) (subst (λ (w : ℕ). old + links_end w ≤ old + n) (sym old_stays.size_is) (omega arith)) (let e = old_stays.size_is in omega arith) ∙ old_stays.same n lt out));
+        freed = freed_bytes f acts (λ type. space_fields) (λ n lt low out. old_stays.same n lt out);
         emptied = λ apart_from. (inr old_head, (inr old_eof, tt));
       }
 

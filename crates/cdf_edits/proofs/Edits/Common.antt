@@ -15,7 +15,7 @@ pub use Rattle.cdf_edits.proofs.Edits.EntryFields.{of_shape}
 pub use Rattle.cdf_edits.proofs.Edits.FirstRecords.{read_now}
 pub use Rattle.cdf_edits.proofs.Edits.FreedRecord.{IsPlain}
 pub use Rattle.cdf_edits.proofs.Edits.FreedRecords.{sizes_by_tiles}
-pub use Rattle.cdf_edits.proofs.Edits.MadeRecord.{end_now, fresh, list_chain, made_edit, made_keeps_unused, made_part, made_size, made_type, unowned}
+pub use Rattle.cdf_edits.proofs.Edits.MadeRecord.{end_now, fresh, list_chain, made_edit, made_keeps_unused, made_part, made_size, made_type, unlike, unowned}
 pub use Rattle.cdf_edits.proofs.Edits.MarkLemmas.{Avoids-append, Away-append, Within-append, all_unmarked-away, avoided-avoids, ended-avoids, the_one, unmarked-away, within-within}
 pub use Rattle.cdf_edits.proofs.Edits.OneChain.{differ_before}
 pub use Rattle.cdf_edits.proofs.Edits.OneSpliced.{content_replaced}

@@ -46,7 +46,7 @@ module _ {b late now : List ℕ} {made : Shape} {marks : List Mark} {reborn : Li
   h_late : HasShape late made
   h_late = subst (HasShape late) f.late_is f.late_sound.has_shape
 
-  gives : Gives late now made (shape now) old
+  pub gives : Gives late now made (shape now) old
   gives = subst (λ (x : Shape). Gives late now x (shape now) old) f.late_is f.frees
 
   pub old_in : In old made.records
@@ -126,10 +126,12 @@ module _ {b late now : List ℕ} {made : Shape} {marks : List Mark} {reborn : Li
       (λ m i. subst (λ (x : ℕ). size_at now x ≡ size_at b x) (sym (the_one old m i)) (same_sizes old old_in ∙ f.size_is))
       (λ m i. subst (λ (x : ℕ). BytesStay b now x (links_end (size_at b x)) (but (type_at b x))) (sym (the_one old m i)) (λ n lt low out. behind.each (old + n) (omega arith) (omega arith) ∙ same n lt low out))
 
+  pub behind_links : 28 ≤ size_at b old → Same late now (old + 28) (old + size_at b old)
+  behind_links long = subst (λ (n : ℕ). Same late now (old + n) (old + size_at b old)) (rw (le-leb 28 (size_at b old) long) refl) behind
+
   -- one that only lost its place in a chain
   pub freed_behind : KeptButLink b late old → 28 ≤ size_at b old → Same b now (old + 28) (old + size_at b old)
-  freed_behind lives long = same-then b late now (old + 28) (old + size_at b old) (Same-part b late (old + 20) (old + size_at b old) (old + 28) (old + size_at b old) lives.rest (omega arith) (omega arith))
-      (subst (λ (n : ℕ). Same late now (old + n) (old + size_at b old)) (rw (le-leb 28 (size_at b old) long) refl) behind)
+  freed_behind lives long = same-then b late now (old + 28) (old + size_at b old) (Same-part b late (old + 20) (old + size_at b old) (old + 28) (old + size_at b old) lives.rest (omega arith) (omega arith)) (behind_links long)
 
   pub linked_bytes : (before : List Act) → KeptButLink b late old → 28 ≤ size_at b old → GivenStay b now no_fields before (gave b (old ∷ []))
   linked_bytes before lives long = freed_bytes before no_fields (λ n lt low out. lives.rest.each (old + n) (let l = end_long (size_at b old) long in omega arith) (omega arith))
