@@ -1,13 +1,13 @@
 -- `setup` follows its command: the dimensions of a GDR and the CDR are written, what the image has by then, whatever became of the GDR, and the two ways, in its place and moved.
-use Rattle.std.proofs.Common.{◌≡◌, ◌≢◌, ℕ, ◌+◌, ◌-◌, ◌*◌, ◌/◌, ◌%◌, ◌<◌, ◌≤◌, List, [], ◌∷◌, ◌++◌, length, map, sum, drop, Bool, true, false, not, ◌||◌, refl, sym, ap, subst, ◌∙◌, arith, inl, inr, ◌^◌}
+use Rattle.std.proofs.Common.{◌≡◌, ◌≢◌, ℕ, ◌+◌, ◌-◌, ◌*◌, ◌<◌, ◌≤◌, List, [], ◌∷◌, ◌++◌, length, map, sum, drop, Bool, true, false, ◌||◌, refl, sym, ap, subst, ◌∙◌, arith, inl, inr, ◌^◌}
 use Rattle.cdf_vars.proofs.Common.{gdr_fits, IsGoodByShape, is_in, le-leb, length-take, length-drop, w32, cast_signed, list_all, ◌==◌, is_some, nat_le, if◌then◌else◌, ◌||◌, put, Majority, Row, Column, DataSet, encoding_at, image_limit, are_bad_sizes, is_empty_set, AllKeep, Edit, Mark, avoided, within, is_late, making_marks, Follows, Changed, touched_field, Act, Took, Gave, Fills, keep_attributes, acts_took, end_now, filled_size, filled_sound, list_chain, made_edit, place_in, shorter, the_one, unmarked-away, keep_file, keeps_fields, gdr_typed, apart, length-words, words_laid_out, byte, IsChain, next_of, content, counted, has_bit, is_positive, number, word, words, size_at, type_at, gdr_offset, r_num_dims, r_sizes, with_field, owned_records, times, Field, cdr_encoding, cdr_flags, gdr_r_max_rec, gdr_r_num_dims, record_type, cdr_type, gdr_type, uir_type, fixed_size, is_record_type, Shape, HasShape, shape, IsSound, In, Good, of_4_bytes, length-put, word_kept, words_kept, good_by_its_shape, good_eof, good_is_sound, rules_of_good, good_long, sealed_kept, content_is, shape_is, WritesHeads, small_signed, drop-put_there}
-use Rattle.cdf_edits.proofs.Common.{AreTiles, Holds, IsGiven, Unused, content_of, encoding, eof, flags, is_a-from, leb-true, lt-leb, majority_of, owned_by, read_types, sealed_keeps, unused, unused_records, with_space}
+use Rattle.cdf_edits.proofs.Common.{AreTiles, Holds, IsGiven, Unused, content_of, eof, flags, is_a-from, leb-true, lt-leb, majority_of, owned_by, read_types, sealed_keeps, unused, unused_records, with_space}
 use Rattle.cdf_model.specs.declared.answer.Reply.TheVariants as replies
 use Rattle.cdf_model.specs.declared.command.Command.TheVariants as commands
 use Rattle.cdf_edits.specs.Commands.Allowances.{FreedStay, Stays, StaysOrSays, space_fields}
 use Rattle.cdf_edits.specs.Commands.NewRecords.{with_bits, MovesForRoom, moved_for_room}
 use Rattle.cdf_edits.specs.Commands.Setup.{majority_bit, setup_changes, space_taken}
-use Rattle.cdf_edits.specs.Edits.Marks.{Avoids, Within, Among, mark, field_marks}
+use Rattle.cdf_edits.specs.Edits.Marks.{Within, Among, mark, field_marks}
 use Rattle.cdf_edits.specs.Space.Acts.{ActsFollow, taken as taken_of}
 use Rattle.cdf_edits.specs.Space.Taking.{IsTaken}
 use Rattle.cdf_edits.proofs.Edits.Common.{Avoids-append, FirstSays, IsHeld, IsSorted, Within-append, acts_none, all_attribute_records, all_keep, all_variable_records, avoided-avoids, chain_clear, changed_edit, changed_put, edit_then, first_hold, first_said, keep_unused, keeps_within, none_in_use, owned_once_if, part_clear, places-sized, placing_marks, read_now, same_link, sizes_by_tiles, some_bytes, takes_edit, within-within}
@@ -22,6 +22,19 @@ use Rattle.cdf_format.proofs.Pieces.{word-piece}
 use Rattle.cdf_vars.specs.Setup.{MakesGdr, gdr_fields}
 use Rattle.cdf_vars.proofs.SetUpAnswers.{set_up, step_goes, taken_lies}
 use Rattle.cdf_vars.proofs.Sizes.{fine_sizes, positive_sizes, sizes_small}
+
+-- ---- bits of Flags
+
+abbrev pub majority_flags : ℕ → Majority → ℕ
+majority_flags n majority = with_bits n 0 1 (majority_bit majority)
+
+bit_0 : (n : ℕ) (m : Majority) → majority_of (has_bit (majority_flags n m) 0) ≡ m
+bit_0 n Row = grind arith
+bit_0 n Column = grind arith
+
+bits_stay : (n : ℕ) (m : Majority) → (has_bit (majority_flags n m) 1 ≡ has_bit n 1) × (has_bit (majority_flags n m) 2 ≡ has_bit n 2) × (has_bit (majority_flags n m) 3 ≡ has_bit n 3)
+bits_stay n Row = grind arith
+bits_stay n Column = grind arith
 
 -- ---- the edit
 
@@ -44,13 +57,6 @@ IsBeside lo hi = ((nat_le 60 lo || nat_le hi 56) ≡ true) × (hi ≤ 84)
 
 pub heads_avoided : (gdr n lo hi : ℕ) → IsBeside lo hi → avoided (heads_marks gdr n) gdr_type lo hi ≡ true
 heads_avoided gdr n lo hi e = rw (e.0, le-leb hi 84 e.1, or_true) refl
-
--- what the CDR and the GDR at a place say then
-pub record HeadsSay (now : List ℕ) (gdr code bits : ℕ) (dims : List ℕ) : Type 0 where
-  pub encoding_is : encoding now ≡ code
-  pub flags_are : flags now ≡ bits
-  pub count_is : number now gdr gdr_r_num_dims ≡ length dims
-  pub sizes_are : r_sizes now gdr ≡ dims
 
 -- a number was written in a field of a record
 record Wrote (b now records : List ℕ) (m type n : ℕ) (f : Field) (to : ℕ) : Type 0 where
@@ -121,25 +127,22 @@ module _ {x y records list : List ℕ} {old g code bits : ℕ} {dims : List ℕ}
 
   -- ---- what they say then
 
-  count_is : number y g gdr_r_num_dims ≡ n
+  pub flags_are : flags y ≡ bits
+  flags_are = w5.says
+
+  pub count_is : number y g gdr_r_num_dims ≡ n
   count_is = still_says cdr_edit gdr_2 refl gdr_r_num_dims refl (omega arith) ∙ still_says e2 w1.stands (rw or_true refl) gdr_r_num_dims (rw or_true refl) (omega arith) ∙ w1.says
 
   dims_counted : r_num_dims y g ≡ n
   dims_counted = let few = (fine_sizes dims fine).0 in ap (λ (k : ℕ). counted (cast_signed w32 k)) count_is ∙ small_signed n (omega arith)
 
-  pub heads_say : HeadsSay y g code bits dims
-  heads_say =
+  sizes_are : r_sizes y g ≡ dims
+  sizes_are =
       let kept = part_clear cdr_edit g gdr_type 84 (84 + 4 * n) gdr_2.inside gdr_2.typed refl refl gdr_2.long in
       let there = ap (drop (g + 84)) w.dims_are ∙ drop-put_there one bytes (g + 84) (let l = lies in omega arith) in
-      record {
-        encoding_is = still_says w5.edit w4.stands refl cdr_encoding refl (omega arith) ∙ w4.says;
-        flags_are = w5.says;
-        count_is = count_is;
-        sizes_are =
-            ap (words y (g + 84)) dims_counted
-            ∙ words_kept w.mid y (g + 84) (g + (84 + 4 * n)) kept (g + 84) n (omega arith) (omega arith)
-            ∙ (words_laid_out w.mid (g + 84) dims (drop (g + 84 + length bytes) one) there (sizes_small dims (fine_sizes dims fine).1)).0;
-      }
+      ap (words y (g + 84)) dims_counted
+      ∙ words_kept w.mid y (g + 84) (g + (84 + 4 * n)) kept (g + 84) n (omega arith) (omega arith)
+      ∙ (words_laid_out w.mid (g + 84) dims (drop (g + 84 + length bytes) one) there (sizes_small dims (fine_sizes dims fine).1)).0
 
   -- another field of the GDR
   pub gdr_still : (f : Field) → IsBeside f.place (f.place + f.width) → number y g f ≡ number x g f
@@ -178,44 +181,18 @@ module _ {x y records list : List ℕ} {old g code bits : ℕ} {dims : List ℕ}
     have_variables = tt;
   }
 
-  pub heads_content : {majority : Majority} → HasShape y (empty_shape records g list) → majority_of (has_bit bits 0) ≡ majority → has_bit bits 2 ≡ has_bit (flags x) 2 → content y ≡ set_up (content x) code majority dims
-  heads_content {majority = majority} shape major in_use =
-      let release = ap (cast_signed w32) (still_says heads_edit cdr refl cdr_release refl (omega arith)) in
-      let increment = ap (cast_signed w32) (still_says heads_edit cdr refl cdr_increment refl (omega arith)) in
-      let encoding_now = heads_say.encoding_is in
-      let major_now = ap (λ (n : ℕ). majority_of (has_bit n 0)) heads_say.flags_are ∙ major in
-      let md5_now = ap (λ (n : ℕ). has_bit n 2) heads_say.flags_are ∙ in_use in
-      let sizes = heads_say.sizes_are in
-      let before = empty_shape records old list in
-      let whole : content_of y (empty_shape records g list) ≡ set_up (content_of x before) code majority dims = λ i. record (content_of x before) {
-        release = release i;
-        increment = increment i;
-        encoding = encoding_now i;
-        majority = major_now i;
-        md5 = md5_now i;
-        rdims = sizes i;
-      } in
-      content_is y (empty_shape records g list) shape ∙ whole ∙ ap (λ (d : DataSet). set_up d code majority dims) (sym (content_is x before h))
-
--- ---- bits of Flags
-
-abbrev pub majority_flags : ℕ → Majority → ℕ
-majority_flags n majority = with_bits n 0 1 (majority_bit majority)
-
-bit_0 : (n : ℕ) (m : Majority) → majority_of (has_bit (majority_flags n m) 0) ≡ m
-bit_0 n Row = let same : (n % 1 + 1 * 1 + 2 * (n / 2)) / 1 % 2 ≡ 1 = omega arith in ap (λ (k : ℕ). majority_of (k == 1)) same
-bit_0 n Column = let same : (n % 1 + 1 * 0 + 2 * (n / 2)) / 1 % 2 ≡ 0 = omega arith in ap (λ (k : ℕ). majority_of (k == 1)) same
-
-bits_stay : (n : ℕ) (m : Majority) → (has_bit (majority_flags n m) 1 ≡ has_bit n 1) × (has_bit (majority_flags n m) 2 ≡ has_bit n 2) × (has_bit (majority_flags n m) 3 ≡ has_bit n 3)
-bits_stay n m =
-    let first : majority_flags n m / 2 % 2 ≡ n / 2 % 2 = omega (arith, half n m) in
-    let second : majority_flags n m / 4 % 2 ≡ n / 4 % 2 = omega (arith, half n m) in
-    let third : majority_flags n m / 8 % 2 ≡ n / 8 % 2 = omega (arith, half n m) in
-    (ap (λ (k : ℕ). k == 1) first, ap (λ (k : ℕ). k == 1) second, ap (λ (k : ℕ). k == 1) third)
-  where
-    half : (n : ℕ) (m : Majority) → majority_flags n m / 2 ≡ n / 2
-    half n Row = omega arith
-    half n Column = omega arith
+  pub heads_content : {majority : Majority} (was : ℕ) → HasShape y (empty_shape records g list) → bits ≡ majority_flags was majority → has_bit was 2 ≡ has_bit (flags x) 2 → content y ≡ set_up (content x) code majority dims
+  heads_content {majority = majority} was shape bits_are in_use =
+      content_is y (empty_shape records g list) shape
+      ∙ (λ i. record (content_of x (empty_shape records old list)) {
+        release = cast_signed w32 (still_says heads_edit cdr refl cdr_release refl (omega arith) i);
+        increment = cast_signed w32 (still_says heads_edit cdr refl cdr_increment refl (omega arith) i);
+        encoding = (still_says w5.edit w4.stands refl cdr_encoding refl (omega arith) ∙ w4.says) i;
+        majority = (ap (λ (n : ℕ). majority_of (has_bit n 0)) (flags_are ∙ bits_are) ∙ bit_0 was majority) i;
+        md5 = (ap (λ (n : ℕ). has_bit n 2) (flags_are ∙ bits_are) ∙ (bits_stay was majority).1 ∙ in_use) i;
+        rdims = sizes_are i;
+      })
+      ∙ ap (λ (d : DataSet). set_up d code majority dims) (sym (content_is x (empty_shape records old list) h))
 
 -- ---- what `setup` leaves, whatever became of the GDR
 
@@ -292,17 +269,14 @@ module _ (b dims : List ℕ) (good : Good b) (empty : is_empty_set (content b) �
         let was = first_said b s sound.has_shape sound.gdr_fits (sealed_kept b (good_long b s (good_by_its_shape b good)) (rules_of_good b good)).0 in
         let bits_now = is.flags_now ∙ bits_are in
         let bits = bits_stay (flags b) majority in
-        let in_use = ap (λ (n : ℕ). has_bit n 2) bits_now ∙ bits.1 in
-        let is_md5 = ap (λ (n : ℕ). has_bit n 3) bits_now ∙ bits.2 in
-        let test : (not (has_bit (flags now) 2) || has_bit (flags now) 3) ≡ (not (has_bit (flags b) 2) || has_bit (flags b) 3) = λ i. not (in_use i) || is_md5 i in
         let own_content : content_of now own ≡ set_up (content b) code majority dims = sym (content_is now own is.sound.has_shape) ∙ is.content_now in
         record {
           first_magic = word_kept b now 0 8 is.edit.front 0 4 (omega arith) (omega arith) ∙ was.first_magic;
           second_magic = word_kept b now 0 8 is.edit.front 4 4 (omega arith) (omega arith) ∙ was.second_magic;
           version_is = still_says is.edit cdr_before is.cdr_start cdr_version is.cdr_version_stays (omega arith) ∙ was.version_is;
           encoding_read = ap (λ (d : DataSet). is_some (encoding_at d.encoding)) own_content ∙ read;
-          single_file = ap (λ (n : ℕ). has_bit n 1) bits_now ∙ bits.0 ∙ was.single_file;
-          md5_used = test ∙ was.md5_used;
+          single_file = rw (bits_now, bits.0) was.single_file;
+          md5_used = rw (bits_now, bits.1, bits.2) was.md5_used;
           few = subst (λ (n : ℕ). n ≤ 10) (sym is.count_now) ((fine_sizes dims fine).0);
           positive = ap (λ (d : DataSet). list_all is_positive d.rdims) own_content ∙ positive_sizes dims (fine_sizes dims fine).1;
           eof_is = is.end;
@@ -328,7 +302,7 @@ module _ (b dims : List ℕ) (good : Good b) (empty : is_empty_set (content b) �
         let heads = keeps_fields sound is.edit records_are 8 cdr_type (cdr_encoding ∷ cdr_flags ∷ cdr_gdr_offset ∷ []) cdr_before.inside cdr_before.typed is.cdr_start is.cdr_within in
         record {
           reply = replies.Plain;
-          goes = step_goes (content b) (content now) code majority dims read fine empty is.content_now;
+          goes = rw is.content_now (step_goes (content b) code majority dims read fine empty);
           good = sealed_keeps now own (first_hold now own is.sound.has_shape is.sound.gdr_fits says (let l = is.longest in omega arith)) good_now;
           longer = is.edit.longer;
           within = is.longest;
@@ -371,11 +345,6 @@ module _ (b dims : List ℕ) (good : Good b) (empty : is_empty_set (content b) �
     same_shape : shape now ≡ before
     same_shape = shape_is now before shape_now
 
-    behind_dims : Avoids in_place gdr_type old need (size_at b old)
-    behind_dims =
-        let other = λ (q : gdr_type ≡ cdr_type). apart gdr_type cdr_type refl q in
-        ((λ q lies. inr (omega arith)), ((λ q lies. inr (omega arith)), ((λ q lies. absurd (other q)), ((λ q lies. absurd (other q)), ((λ q lies. absurd (other q)), tt)))))
-
     kept_set : IsSetUp b now s.records s.unused old code bits majority dims in_place [] []
     kept_set = record {
       edit = e;
@@ -383,9 +352,9 @@ module _ (b dims : List ℕ) (good : Good b) (empty : is_empty_set (content b) �
       cdr_version_stays = refl;
       cdr_within = refl;
       sound = empty_sound b now before [] bare e shape_now (heads_fit bare.has_shape fine gdr here) (λ m out. omega arith) (λ m i. absurd i);
-      content_now = heads_content bare.has_shape fine gdr here shape_now (ap (λ (n : ℕ). majority_of (has_bit n 0)) bits_are ∙ bit_0 (flags b) majority) (ap (λ (n : ℕ). has_bit n 2) bits_are ∙ (bits_stay (flags b) majority).1);
-      flags_now = (heads_say bare.has_shape fine gdr here).flags_are;
-      count_now = (heads_say bare.has_shape fine gdr here).count_is;
+      content_now = heads_content bare.has_shape fine gdr here (flags b) shape_now bits_are refl;
+      flags_now = flags_are bare.has_shape fine gdr here;
+      count_now = count_is bare.has_shape fine gdr here;
       stays = λ f copied. gdr_still bare.has_shape fine gdr here f copied.0;
       end = gdr_still bare.has_shape fine gdr here gdr_eof (refl, omega arith) ∙ good_eof b good ∙ sym same_long;
       longest = omega (arith, same_long);
@@ -399,7 +368,8 @@ module _ (b dims : List ℕ) (good : Good b) (empty : is_empty_set (content b) �
       room = λ le. record {
         place_stays = shape_now.gdr_is;
         size_stays = heads_sizes bare.has_shape fine gdr here old gdr_before.inside;
-        rest_stays = e.part old gdr_type need (size_at b old) gdr_before.inside gdr_before.typed (avoided-avoids in_place gdr_type old 0 12 (heads_avoided old (length dims) 0 12 (refl, omega arith))) behind_dims (omega arith);
+        rest_stays = e.part old gdr_type need (size_at b old) gdr_before.inside gdr_before.typed (avoided-avoids in_place gdr_type old 0 12 (heads_avoided old (length dims) 0 12 (refl, omega arith)))
+            (let other = λ (q : gdr_type ≡ cdr_type). apart gdr_type cdr_type refl q in ((λ q lies. inr (omega arith)), ((λ q lies. inr (omega arith)), ((λ q lies. absurd (other q)), ((λ q lies. absurd (other q)), ((λ q lies. absurd (other q)), tt)))))) (omega arith);
       };
       freed = tt;
       emptied = λ moves. absurd (moves shape_now.gdr_is);
@@ -417,10 +387,7 @@ module _ (b dims : List ℕ) (good : Good b) (empty : is_empty_set (content b) �
     abbrev list : List ℕ
     list = (shape m.taken).unused
 
-    abbrev grown : Shape
-    grown = with_space (shape b) (shape m.taken).records (shape m.taken).unused
-
-    is_taken : IsTaken b m.taken s grown need place
+    is_taken : IsTaken b m.taken s (with_space s records list) need place
     is_taken = subst (λ (x : Shape). IsTaken b m.taken s x need place) m.is_taken.0.space.rest_stays m.is_taken
 
     place_ends : place + need ≤ length m.taken
@@ -474,9 +441,6 @@ module _ (b dims : List ℕ) (good : Good b) (empty : is_empty_set (content b) �
     copied_old : Stands m.copied records old gdr_type 84
     copied_old = still_stands (second sound fills) taken_old refl (omega arith)
 
-    copied_cdr : (f : Field) → avoided (placing_marks (shape b).unused place need) cdr_type f.place (f.place + f.width) ≡ true → f.place + f.width ≤ 312 → number m.copied 8 f ≡ number b 8 f
-    copied_cdr f clear high = still_says (filled_edit sound fills) cdr_before refl f clear high
-
     -- ---- the dimensions and the CDR are written
 
     new : Stands m.copied records place gdr_type need
@@ -519,12 +483,6 @@ module _ (b dims : List ℕ) (good : Good b) (empty : is_empty_set (content b) �
     old_not_8 : old ≢ 8
     old_not_8 q = apart gdr_type cdr_type refl (sym gdr_before.typed ∙ ap (type_at b) q ∙ cdr_before.typed)
 
-    -- what it has of the old one
-    new_says : (f : Field) → IsCopied f → number late place f ≡ number b old f
-    new_says f copied =
-        gdr_still copied_shape fine new m.heads f copied.0 ∙ copied_field f (let l = leb-true 12 f.place copied.3 in omega arith) copied.0.1
-        ∙ still_says (takes_edit sound (omega arith) is_taken.0) gdr_before refl f (rw (copied.1, copied.2) refl) copied.0.1
-
     -- ---- the old one
 
     late_old : Stands late records old gdr_type 84
@@ -540,20 +498,15 @@ module _ (b dims : List ℕ) (good : Good b) (empty : is_empty_set (content b) �
         (Within-append (placing_marks (shape b).unused place need) late_marks gdr_type old space_fields (within-within (placing_marks (shape b).unused place need) gdr_type old space_fields refl) heads)
 
     -- what a call asks for that frees it
-    late_bare : IsSound late (empty_shape records place list)
-    late_bare = empty_sound b late before (place ∷ []) bare made late_shape (heads_fit copied_shape fine new m.heads) (λ k out. no_more old place k (λ q. out (inl q)))
-        (λ k i. subst (IsHeld late (empty_shape records place list)) (sym (the_one place k i)) (inl ((λ u. apart gdr_type uir_type refl (sym (gdr_typed late _ late_shape) ∙ u)), omega (arith, gdr_once place place_not_8))))
-
     pub late_sound : IsSound late (shape late)
-    late_sound = subst (IsSound late) (sym late_is) late_bare
+    late_sound = rw late_is (empty_sound b late before (place ∷ []) bare made late_shape (heads_fit copied_shape fine new m.heads) (λ k out. no_more old place k (λ q. out (inl q)))
+        (λ k i. subst (IsHeld late (empty_shape records place list)) (sym (the_one place k i)) (inl ((λ u. apart gdr_type uir_type refl (sym (gdr_typed late _ late_shape) ∙ u)), omega (arith, gdr_once place place_not_8)))))
 
     pub old_stands : (g : ℕ) → g ≡ gdr_offset b → In g (shape late).records
-    old_stands g is = subst (λ (x : ℕ). In x (shape late).records) (sym is) (subst (In old) (sym late_records) late_old.inside)
+    old_stands g is = rw (is, late_records) late_old.inside
 
     pub old_free : (g : ℕ) → g ≡ gdr_offset b → times g (owned_records late (shape late)) ≡ 0
-    old_free g is =
-        subst (λ (x : ℕ). times x (owned_records late (shape late)) ≡ 0) (sym is) (subst (λ (x : Shape). times old (owned_records late x) ≡ 0) (sym late_is)
-        (none_in_use late (empty_shape records place list) late_shape.tiled old (λ u. apart gdr_type uir_type refl (sym late_old.typed ∙ u)) (others_none place old old_not_8 place_not_old)))
+    old_free g is = subst (λ (x : ℕ). times x (owned_records late (shape late)) ≡ 0) (sym is) (rw late_is (none_in_use late (empty_shape records place list) late_shape.tiled old (λ u. apart gdr_type uir_type refl (sym late_old.typed ∙ u)) (others_none place old old_not_8 place_not_old)))
 
     -- ---- and the old one is freed
 
@@ -603,12 +556,11 @@ module _ (b dims : List ℕ) (good : Good b) (empty : is_empty_set (content b) �
         cdr_version_stays = refl;
         cdr_within = refl;
         sound = now_sound;
-        content_now = free.2 ∙ heads_content copied_shape fine new m.heads late_shape (ap (λ (n : ℕ). majority_of (has_bit n 0)) bits_are ∙ bit_0 (flags b) majority) (ap (λ (n : ℕ). has_bit n 2) bits_are ∙ (bits_stay (flags b) majority).1 ∙ sym (ap (λ (n : ℕ). has_bit n 2) (copied_cdr cdr_flags refl (omega arith))))
-            ∙ ap (λ (d : DataSet). set_up d code majority dims) (filled_content sound fills);
-        flags_now = still_says (given f) (stands_fixed late_shape cdr_type 8 late_shape.cdr_stands) refl cdr_flags refl (omega arith) ∙ (heads_say copied_shape fine new m.heads).flags_are;
-        count_now = place_now gdr_r_num_dims refl (omega arith) ∙ (heads_say copied_shape fine new m.heads).count_is;
-        stays = λ f copied.
-            place_now f copied.2 copied.0.1 ∙ new_says f copied;
+        content_now = free.2 ∙ heads_content copied_shape fine new m.heads (flags b) late_shape bits_are (sym (ap (λ (n : ℕ). has_bit n 2) (still_says (filled_edit sound fills) cdr_before refl cdr_flags refl (omega arith)))) ∙ ap (λ (d : DataSet). set_up d code majority dims) (filled_content sound fills);
+        flags_now = still_says (given f) (stands_fixed late_shape cdr_type 8 late_shape.cdr_stands) refl cdr_flags refl (omega arith) ∙ flags_are copied_shape fine new m.heads;
+        count_now = place_now gdr_r_num_dims refl (omega arith) ∙ count_is copied_shape fine new m.heads;
+        stays = λ f' copied. place_now f' copied.2 copied.0.1 ∙ gdr_still copied_shape fine new m.heads f' copied.0 ∙ copied_field f' (let l = leb-true 12 f'.place copied.3 in omega arith) copied.0.1
+            ∙ still_says (takes_edit sound (omega arith) is_taken.0) gdr_before refl f' (rw (copied.1, copied.2) refl) copied.0.1;
         end = place_now gdr_eof refl (omega arith) ∙ gdr_still copied_shape fine new m.heads gdr_eof (refl, omega arith) ∙ copied_field gdr_eof (omega arith) (omega arith) ∙ ap (eof m.taken) (sym at) ∙ is_taken.0.eof_is ∙ sym (as_long_now f ∙ as_long ∙ fills.long);
         longest = let l = shorter sound fills later as_long lately in let a = as_long_now f in omega arith;
         as_owned = λ k out. as_many old place k (λ q. out (inr (inl q))) (λ q. out (inl q));
