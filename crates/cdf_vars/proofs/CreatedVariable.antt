@@ -1,13 +1,13 @@
 -- A new variable: the making of its VDR leads from a good image to the one that follows, what is known of the variables then, and what the command is answered.
 use Rattle.std.proofs.Common.{◌≡◌, ◌≢◌, ℕ, ◌+◌, ◌^◌, ◌<◌, ◌≤◌, List, [], ◌∷◌, ◌++◌, length, map, true, false, bytes_eq, eq-eqb, Some, refl, sym, ap, subst, true≢false, ◌∙◌, append-nil, arith, inl}
-use Rattle.cdf_vars.proofs.Common.{Same, if◌then◌else◌, map-append, All, flat_map, slice_get, Go, DataSet, Variable, Plain, Kind, R, Z, image_limit, is_bad_name, is_among, variable_names, variables_of, with_variables, ByStep, step, is_bad_shape, new_variable, next_field, is_in, content, variable_of, number, name_in, r_sizes, size_at, type_at, gdr_offset, owned, times, vdr_name, Hold, VariableShape, Shape, vdrs, HasShape, shape, IsSound, In, Good, IsGoodByShape, vdrs_append, good_by_its_shape, good_is_sound, rules_of_good, good_long, sealed_kept, content_is, shape_is, AllKeep, Allowances, Only, shapes_of, vdr_type, Chain, Does, allowances, room, vdr_bytes, Edit, Mark, making_marks, Follows, only_reads, Act, Took, type_in, counted_in, IsBody, type_of_body, variables_chain, fine_is_some, fine_has_no_zeros, fine_is_short, got-middle, the_one, other_kind, variables_of_are, counted_before, with_shapes, kind_type, beside_in, NewVariable, making, OthersStay, KnowsKind, Answers, gone, too_large, Done, Refused, TooLarge}
+use Rattle.cdf_vars.proofs.Common.{Same, if◌then◌else◌, map-append, All, flat_map, slice_get, Go, DataSet, Variable, Plain, Kind, R, Z, image_limit, is_bad_name, is_among, variable_names, variables_of, with_variables, ByStep, step, is_bad_shape, new_variable, next_field, is_in, content, variable_of, number, name_in, r_sizes, size_at, type_at, gdr_offset, owned, times, vdr_name, Hold, VariableShape, Shape, vdrs, HasShape, shape, IsSound, In, Good, IsGoodByShape, vdrs_append, good_by_its_shape, good_is_sound, rules_of_good, good_long, sealed_kept, content_is, shape_is, AllKeep, Allowances, Only, shapes_of, vdr_type, Chain, Does, allowances, room, vdr_bytes, Follows, only_reads, Act, Took, type_in, counted_in, IsBody, type_of_body, variables_chain, fine_is_some, fine_has_no_zeros, fine_is_short, got-middle, the_one, other_kind, variables_of_are, counted_before, with_shapes, kind_type, beside_in, NewVariable, making, OthersStay, KnowsKind, Answers, gone, too_large, Done, Refused, TooLarge}
 use Rattle.cdf_model.specs.VariableSteps.{var_step}
 use Rattle.cdf_format.specs.Index.{leaves_of, nodes_of}
 use Rattle.cdf_edits.proofs.Common.{Keeps, count_of, members_of, only_of, read_types, same_kind, times-none, variable_records}
 use Rattle.cdf_edits.specs.Commands.Variables.{MakesVariable, variable_changes}
-use Rattle.cdf_edits.specs.Space.Adding.{Added, adding_marks}
-use Rattle.cdf_edits.proofs.Edits.JoinedVdr.{JoinsVdr, KindTests, behind_link, edit, ends, file, fills, gdr_is, join_tests, joined_acts, joined_size, joined_splices, joined_type, linked, lives, member_in, used}
-use Rattle.cdf_edits.proofs.Edits.Common.{FileSame, IsSorted, OwnRules, VariableLives, VariableSplices, apart_if, attributes_kept, content_now, gdr_place, good_image_if, made_keeps_unused, nums_from, owned_once_if, same_as_itself, shape_now, unowned, used_times}
+use Rattle.cdf_edits.specs.Space.Adding.{Added}
+use Rattle.cdf_edits.proofs.Edits.JoinedVdr.{JoinsVdr, behind_link, edit, ends, file, fills, gdr_is, joined_acts, joined_size, joined_splices, joined_type, linked, lives, marks, member_in, t, used}
+use Rattle.cdf_edits.proofs.Edits.Common.{IsSorted, OwnRules, VariableLives, VariableSplices, apart_if, attributes_kept, content_now, gdr_place, good_image_if, made_keeps_unused, nums_from, owned_once_if, same_as_itself, shape_now, unowned, used_times}
 use Rattle.cdf_edits.proofs.Edits.VariableKinds.{kind_ours, numbers_kept, of_kind, spliced_times, vdrs_rows, vdrs_rows-push}
 use Rattle.cdf_edits.proofs.Edits.VariablesLinked.{keep_numbered, keep_with_kind, next_keeps}
 use Rattle.cdf_vars.specs.Creating.{HasDims, vdr_body}
@@ -114,15 +114,6 @@ module _ (b : List ℕ) (kind : Kind) (v : NewVariable) (limit : ℕ) (image : G
       abbrev w : JoinsVdr b now kind body place (members_of b (variables_chain kind) ++ place ∷ []) (counted_in b (variables_chain kind) + 1)
       w = record { joined = added; type_is = type_in_body kind v num ∙ sym (kind_type kind) }
 
-      abbrev marks : List Mark
-      marks = making_marks s.unused place (8 + length body) (adding_marks b (variables_chain kind) place)
-
-      e : Edit b now s.records records marks (place ∷ [])
-      e = edit sound w
-
-      t : KindTests kind marks
-      t = (join_tests kind b s.unused place (8 + length body)).all
-
       long : 8 + length body ≡ need
       long = length-body kind v num short is
 
@@ -145,17 +136,14 @@ module _ (b : List ℕ) (kind : Kind) (v : NewVariable) (limit : ℕ) (image : G
       vdrs_are : vdrs (own ++ (bare ∷ [] ++ [])) ≡ vdrs own ++ place ∷ []
       vdrs_are = vdrs_append own (bare ∷ [])
 
-      file_now : FileSame b now
-      file_now = file sound w
-
       shares : Shares now kind v.dims
       shares = by kind dims
         where
           by : (kind : Kind) → HasDims b kind v.dims → Shares now kind v.dims
-          by R d = file_now.sizes ∙ ap (r_sizes b) h.gdr_is ∙ sym (ap (λ (x : DataSet). x.rdims) (content_is b s h)) ∙ sym d
+          by R d = (file sound w).sizes ∙ ap (r_sizes b) h.gdr_is ∙ sym (ap (λ (x : DataSet). x.rdims) (content_is b s h)) ∙ sym d
           by Z d = tt
 
-      splices : VariableSplices b now s kind records list marks (place ∷ []) own [] (bare ∷ []) []
+      splices : VariableSplices b now s kind records list (marks sound w) (place ∷ []) own [] (bare ∷ []) []
       splices = joined_splices sound w own [] (bare ∷ []) [] (sym (append-nil own)) (vdrs_are ∙ ap (λ (ms : List ℕ). ms ++ place ∷ []) (sym (variable_members b s h kind))) (has new is new_type shares records new_size, tt)
 
       pub now_is : shape now ≡ made
@@ -186,20 +174,20 @@ module _ (b : List ℕ) (kind : Kind) (v : NewVariable) (limit : ℕ) (image : G
 
       count_now : number now (gdr_offset now) (count_of (variables_chain kind)) ≡ length (vdrs own) + 1
       count_now =
-          ap (λ (g : ℕ). number now g (count_of (variables_chain kind))) (gdr_place sound e t.file_clear ∙ sym (gdr_is sound w)) ∙ added.counted
+          ap (λ (g : ℕ). number now g (count_of (variables_chain kind))) (gdr_place sound (edit sound w) (t sound w).all.file_clear ∙ sym (gdr_is sound w)) ∙ added.counted
           ∙ ap (λ (n : ℕ). n + 1) (counted_members b image kind ∙ ap (λ (ms : List ℕ). length ms) (variable_members b s h kind))
 
       own_rules : is_among v.name (variable_names (content b)) ≡ false → OwnRules sound splices
       own_rules free =
           let named = name_is new is new_type shares no_zero in
-          let nums = nums_from sound e file_now own (kind_ours b s sound kind) (of_kind (VariableLives b now) kind s (lives sound w)) in
+          let nums = nums_from sound (edit sound w) (file sound w) own (kind_ours b s sound kind) (of_kind (VariableLives b now) kind s (lives sound w)) in
           record {
             counted = subst (λ (ms : List ℕ). Hold (vdrs_rows kind now ms)) (sym vdrs_are) (vdrs_rows-push kind now (vdrs own) place count_now new.says.1.1.1.1.1.1.1.1.1.1.0 (numbers_kept kind b now (vdrs own) nums (counted_before good kind)));
             apart = apart_if sound splices good (λ x y i j ne. absurd (ne (the_one place x i ∙ sym (the_one place y j))))
                 (λ x y i j. subst (λ (n : List ℕ). bytes_eq n (name_in b y vdr_name) ≡ false) (sym (ap (λ (m : ℕ). name_in now m vdr_name) (the_one place x i) ∙ named)) (absent_from b image v.name free y (beside_in sound splices y j)));
             own_ruled = (ruled new is new_type shares records new_size no_zero (fine_is_some v.name well_named), tt);
             read = λ m i. ap (λ (t : ℕ). is_in t read_types) (ap (type_at now) (the_one place m i) ∙ new_type) ∙ read_type kind;
-            owned = owned_once_if b now s made marks (place ∷ []) sound good.owned_once e beside sorted;
+            owned = owned_once_if b now s made (marks sound w) (place ∷ []) sound good.owned_once (edit sound w) beside sorted;
           }
 
       -- ---- what stays
@@ -216,10 +204,10 @@ module _ (b : List ℕ) (kind : Kind) (v : NewVariable) (limit : ℕ) (image : G
       keeps : AllKeep b now may acts (owned b s)
       keeps =
           let only : (m : ℕ) → In m (vdrs own) → (if same_kind kind kind then only_of b m (vdr_type kind) (next_field ∷ []) else Only []) ≡ Only (next_field ∷ []) = λ m i. rw (same_as_itself kind, eq-eqb (type_at b m) (vdr_type kind) ((member_in sound w m i).1 ∙ kind_type kind)) refl in
-          keep_with_kind sound e t records_are may.variables acts (λ i m. rw (other_stays kind) refl)
-          (keep_numbered sound e t records_are may acts kind 0 own (kind_ours b s sound kind) (λ k m low high i inside. subst (Keeps b now m) (sym (only m i)) (next_keeps sound e t records_are m inside (linked sound w m i))))
+          keep_with_kind sound (edit sound w) (t sound w).all records_are may.variables acts (λ i m. rw (other_stays kind) refl)
+          (keep_numbered sound (edit sound w) (t sound w).all records_are may acts kind 0 own (kind_ours b s sound kind) (λ k m low high i inside. subst (Keeps b now m) (sym (only m i)) (next_keeps sound (edit sound w) (t sound w).all records_are m inside (linked sound w m i))))
           (attributes_kept sound splices)
-          (made_keeps_unused sound (fills sound w) added.linked added.as_long (join_tests kind b s.unused place (8 + length body)).lately records_are may)
+          (made_keeps_unused sound (fills sound w) added.linked added.as_long (t sound w).lately records_are may)
 
       -- ---- what it makes
 
@@ -242,7 +230,7 @@ module _ (b : List ℕ) (kind : Kind) (v : NewVariable) (limit : ℕ) (image : G
             reply = Plain;
             goes = (is_making b kind v dims).step_is ∙ rw (well_named, free, fine) (ap (λ (d : DataSet). ByStep (Go d Plain)) (sym content_is_made));
             good = good_image_if sound splices (sealed_kept b (good_long b s good) (rules_of_good b image)).0 good rules (ends sound w) (omega arith);
-            longer = e.longer;
+            longer = (edit sound w).longer;
             within = subst (λ (n : ℕ). length now ≤ length b + n) (sym size) longest;
             reads = λ q. absurd (true≢false (sym q ∙ (is_making b kind v dims).makes));
             acts = acts;

@@ -1,6 +1,6 @@
 -- A new VDR: what a shape has that is not refused, that what was written reads back, what it means, and that it keeps the rules.
 use Rattle.std.proofs.Common.{◌≡◌, ℕ, ◌*◌, ◌≤◌, List, [], ◌∷◌, length, Bool, true, false, not, ◌||◌, refl, arith, ◌+◌, ◌-◌, ◌^◌, ◌<◌, ◌++◌, map, drop, replicate, sym, ap, ◌∙◌, append_assoc, lit<, ◌≢◌, Option, None, ap₂}
-use Rattle.cdf_vars.proofs.Common.{flat_map, All, before_first, ◌==◌, ◌&&◌, nat_lt, if◌then◌else◌, nat_le, is_some, Each, HasVariable, VariableShape, DataType, signed_limit, value_count, size_of, are_bad_sizes, is_bad_shape, new_variable, drop-drop, length-append, length-map, take_at, big_bytes, vdr_type, IsFilled, vdr_bytes, IsBody, length-words, words_laid_out, Same, word, words, counted, is_positive, name_in, number, gdr_offset, r_num_dims, r_sizes, size_at, type_at, has_bit, record_type, vdr_name, vdr_flags, z_vdr_type, Kind, R, Z, NewVariable, own_dims, vary_code, eqb-true, le-leb, w32, cast_signed, variable_of, VariableFits, dimensions_at, dims_at, elems_at, has_pad, is_z, pad_field, record_bytes, type_of_variable, value_bytes, is_max_rec, vdr_end, NoRule, small_signed}
+use Rattle.cdf_vars.proofs.Common.{flat_map, All, before_first, ◌==◌, ◌&&◌, nat_lt, if◌then◌else◌, nat_le, is_some, Each, HasVariable, VariableShape, DataType, signed_limit, value_count, size_of, are_bad_sizes, is_bad_shape, new_variable, drop-drop, length-append, length-map, take_at, big_bytes, vdr_type, IsFilled, vdr_bytes, IsBody, length-words, words_laid_out, Same, word, words, counted, is_positive, name_in, number, gdr_offset, r_num_dims, r_sizes, size_at, type_at, has_bit, record_type, vdr_name, z_vdr_type, Kind, R, Z, NewVariable, own_dims, vary_code, eqb-true, le-leb, w32, cast_signed, variable_of, dimensions_at, dims_at, elems_at, has_pad, is_z, pad_field, type_of_variable, value_bytes, is_max_rec, vdr_end, NoRule, small_signed}
 use Rattle.std.proofs.lemmas.List.Concat.{flat_map-append}
 use Rattle.std.proofs.Math.Nat.{le-mul_of_pos_right}
 use Rattle.cdf_format.specs.Index.{leaves_of, nodes_of}
@@ -110,14 +110,11 @@ module _ (kind : Kind) (v : NewVariable) (num : ℕ) (short : length v.name ≤ 
   length-padded : length padded ≡ 256
   length-padded = omega (arith, length-append v.name (replicate (256 - length v.name) 0), length-replicate {A = ℕ} (256 - length v.name) 0)
 
-  length-tail : length (flat_map (big_bytes 4) (tail kind v)) ≡ 4 * (length (own_dims kind v.dims) + length v.varys)
-  length-tail = omega (arith, length-words (tail kind v), length-append (own_dims kind v.dims) (map vary_code v.varys), length-map v.varys vary_code)
-
   pub length-body : 8 + length (vdr_body kind v num) ≡ vdr_bytes kind (length v.dims)
   unfolding vdr_body
   length-body =
       let size = tail_size kind v.dims (length v.varys) is.one_each in
-      omega (arith, length-padded, length-tail, length-append padded (flat_map (big_bytes 4) (tail kind v)))
+      omega (arith, length-padded, length-words (tail kind v), length-append (own_dims kind v.dims) (map vary_code v.varys), length-map v.varys vary_code, length-append padded (flat_map (big_bytes 4) (tail kind v)))
 
   pub vdr_is_body : IsBody (vdr_body kind v num)
   vdr_is_body = is_vdr_body kind (vdr_body kind v num) (length v.dims) (type_in_body kind v num ∙ sym (kind_type kind)) (omega (arith, length-body))
@@ -209,14 +206,11 @@ module _ {b : List ℕ} {place : ℕ} {kind : Kind} {v : NewVariable} {num : ℕ
   elems_are : elems_at b place ≡ v.elems
   elems_are = ap (λ (n : ℕ). counted (cast_signed w32 n)) new.says.1.1.1.1.1.1.1.1.1.0 ∙ small_signed v.elems is.elems_fit
 
-  flags_are : number b place vdr_flags ≡ (if v.vary then 1 else 0)
-  flags_are = new.says.1.1.1.1.0
-
   unpadded : has_pad b place ≡ false
-  unpadded = ap (λ (n : ℕ). has_bit n 1) flags_are ∙ (flag_says v.vary).1
+  unpadded = ap (λ (n : ℕ). has_bit n 1) new.says.1.1.1.1.0 ∙ (flag_says v.vary).1
 
   unpacked : is_compressed b place ≡ false
-  unpacked = ap (λ (n : ℕ). has_bit n 2) flags_are ∙ (flag_says v.vary).2
+  unpacked = ap (λ (n : ℕ). has_bit n 2) new.says.1.1.1.1.0 ∙ (flag_says v.vary).2
 
   pub end_is : vdr_end b place ≡ vdr_bytes kind (length v.dims)
   end_is =
@@ -236,28 +230,18 @@ module _ {b : List ℕ} {place : ℕ} {kind : Kind} {v : NewVariable} {num : ℕ
   pub means : All (λ (byte : ℕ). byte ≢ 0) v.name → variable_of b (bare_variable place) ≡ new_variable v.name v.type v.elems v.dims v.varys v.vary
   unfolding leaves_of
   means no_zero =
-      let name = name_is no_zero in
-      let type = type_is in
-      let elems = elems_are in
-      let dims = own.dims in
-      let varys = varys_are in
-      let vary : has_bit (number b place vdr_flags) 0 ≡ v.vary = ap (λ (n : ℕ). has_bit n 0) flags_are ∙ (flag_says v.vary).0 in
-      let packed = unpacked in
-      let max = new.says.1.0 in
-      let rule = new.says.1.1.1.1.1.0 in
-      let blocking = new.says.1.1.1.1.1.1.1.1.1.1.1.1.0 in
       let pad : pad_at b place ≡ None = rw unpadded refl in
       λ i. record {
-        name = name i;
-        type = type i;
-        elems = elems i;
-        dims = dims i;
-        varys = varys i;
-        vary = vary i;
-        sparse = if rule i == 0 then NoRule else (if rule i == 1 then Pad else Previous);
-        rle = packed i;
-        blocking = cast_signed w32 (blocking i);
-        max_rec = cast_signed w32 (max i);
+        name = name_is no_zero i;
+        type = type_is i;
+        elems = elems_are i;
+        dims = own.dims i;
+        varys = varys_are i;
+        vary = (ap (λ (n : ℕ). has_bit n 0) new.says.1.1.1.1.0 ∙ (flag_says v.vary).0) i;
+        sparse = if new.says.1.1.1.1.1.0 i == 0 then NoRule else (if new.says.1.1.1.1.1.0 i == 1 then Pad else Previous);
+        rle = unpacked i;
+        blocking = cast_signed w32 (new.says.1.1.1.1.1.1.1.1.1.1.1.1.0 i);
+        max_rec = cast_signed w32 (new.says.1.0 i);
         pad = pad i;
         recs = [];
       }
@@ -270,23 +254,15 @@ module _ {b : List ℕ} {place : ℕ} {kind : Kind} {v : NewVariable} {num : ℕ
     ends : vdr_end b place ≤ size_at b place
     ends = let e = end_is in omega (arith, e, sized)
 
-    pub fits : VariableFits b records (bare_variable place)
-    unfolding nodes_of leaves_of
-    fits = (ends, tt, tt, tt)
-
-    bytes_are : record_bytes b place ≡ record_size v.type v.elems v.dims v.varys
-    bytes_are = let t = type_is in let n = elems_are in let d = own.dims in let w = varys_are in λ i. record_size (t i) (n i) (d i) (w i)
-
     pub ruled : All (λ (byte : ℕ). byte ≢ 0) v.name → (length v.name == 0) ≡ false → IsRuled b records (bare_variable place)
     unfolding nodes_rows leaves_of
     ruled no_zero some =
+        let named = ap (λ (n : List ℕ). not (length n == 0)) (name_is no_zero) ∙ ap not some in
         let known = ap (λ (n : ℕ). is_some (type_of (cast_signed w32 n))) new.says.0 ∙ ap (λ (o : Option DataType). is_some o) (type_back v.type) in
         let elems : number b place vdr_num_elems ≡ v.elems = new.says.1.1.1.1.1.1.1.1.1.0 in
         let counted : (is_positive (number b place vdr_num_elems) && ((number b place vdr_num_elems == 1) || is_characters (notation_of (type_of_variable b place)))) ≡ true = rw (elems, type_is) (and_from _ _ (and_from _ _ (le-leb 1 v.elems is.some) (le-leb v.elems signed_limit is.elems_fit)) is.single) in
-        let small : nat_le (record_bytes b place) record_limit ≡ true = rw bytes_are (le-leb _ _ is.fits) in
-        let named = ap (λ (n : List ℕ). not (length n == 0)) (name_is no_zero) ∙ ap not some in
+        let small = ap (λ (n : ℕ). nat_le n record_limit) (λ i. record_size (type_is i) (elems_are i) (own.dims i) (varys_are i)) ∙ le-leb _ _ is.fits in
         let max = ap is_max_rec new.says.1.0 in
-        let rule = ap (λ (n : ℕ). nat_le n 2) new.says.1.1.1.1.1.0 in
+        let rule = new.says.1.1.1.1.1.0 in
         let link = ap is_no_link new.says.1.1.1.1.1.1.1.1.1.1.1.0 in
-        let none = ap (λ (n : ℕ). n == 0) new.says.1.1.1.1.1.0 in
-        ((named, (refl, (known, (counted, (own.rule (sym sized), (le-leb _ _ ends, (small, (max, (rule, (rw unpacked link, (rw unpacked refl, rw unpacked (none, tt)))))))))))), tt)
+        ((named, (refl, (known, (counted, (own.rule (sym sized), (le-leb _ _ ends, (small, (max, (ap (λ (n : ℕ). nat_le n 2) rule, (rw unpacked link, (rw unpacked refl, rw unpacked (ap (λ (n : ℕ). n == 0) rule, tt)))))))))))), tt)
