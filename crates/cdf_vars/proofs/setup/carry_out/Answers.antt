@@ -1,6 +1,5 @@
 use Rattle.std.proofs.Common.{ℕ, ap, ◌∙◌, arith}
-use Rattle.cdf_vars.proofs.Common.{on_ok_weaker, cdr_fits, WritesHeads}
-use Rattle.cdf_vars.specs.Setup.{MovesGdr}
+use Rattle.cdf_vars.proofs.Common.{on_ok_weaker, cdr_fits, WritesHeads, MovesGdr}
 use Rattle.cdf_vars.proofs.SetUpAnswers.{fits_gdr}
 use Rattle.cdf_vars.proofs.SetUpFollows.{majority_flags, keeps_follows, moves_follows}
 use Rattle.cdf_vars.proofs.setup.carry_out.Goals as goal

@@ -1,6 +1,5 @@
 use Rattle.std.proofs.Common.{◌≡◌, ◌∙◌, ℕ, List, [], ◌∷◌, ◌++◌, ap, subst, sym}
-use Rattle.cdf_vars.proofs.Common.{remove, KnowsKind}
-use Rattle.cdf_edits.proofs.Commands.ListParts.{last_removed}
+use Rattle.cdf_vars.proofs.Common.{remove, KnowsKind, last_removed}
 use Rattle.cdf_vars.proofs.VariableFound.{kind_absent, kind_few, kind_view}
 use Rattle.cdf_vars.proofs.vars.VarTable.add.Goals as goal
 
