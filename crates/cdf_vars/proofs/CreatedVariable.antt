@@ -1,6 +1,6 @@
 -- A new variable: the making of its VDR leads from a good image to the one that follows, what is known of the variables then, and what the command is answered.
 use Rattle.std.proofs.Common.{◌≡◌, ◌≢◌, ℕ, ◌+◌, ◌^◌, ◌<◌, ◌≤◌, List, [], ◌∷◌, ◌++◌, length, map, true, false, bytes_eq, eq-eqb, Some, refl, sym, ap, subst, true≢false, ◌∙◌, append-nil, arith, inl}
-use Rattle.cdf_vars.proofs.Common.{Same, if◌then◌else◌, map-append, All, flat_map, slice_get, Go, DataSet, Variable, Plain, Kind, R, Z, image_limit, is_bad_name, is_among, variable_names, variables_of, with_variables, ByStep, step, is_bad_shape, new_variable, next_field, is_in, content, variable_of, number, name_in, r_sizes, size_at, type_at, gdr_offset, owned, times, vdr_name, Hold, VariableShape, Shape, vdrs, HasShape, shape, IsSound, In, Good, IsGoodByShape, vdrs_append, good_by_its_shape, good_is_sound, rules_of_good, good_long, sealed_kept, content_is, shape_is, AllKeep, Allowances, Only, shapes_of, vdr_type, Chain, Does, allowances, room, vdr_bytes, Follows, only_reads, Act, Took, type_in, counted_in, IsBody, type_of_body, variables_chain, fine_is_some, fine_has_no_zeros, fine_is_short, got-middle, the_one, other_kind, variables_of_are, counted_before, with_shapes, kind_type, beside_in, NewVariable, making, OthersStay, KnowsKind, Answers, gone, too_large, Done, Refused, TooLarge, var_step, MakesVariable, variable_changes, IsSorted, OwnRules, VariableLives, VariableSplices, apart_if, attributes_kept, content_now, gdr_place, good_image_if, made_keeps_unused, nums_from, owned_once_if, same_as_itself, shape_now, unowned, used_times, kind_ours, numbers_kept, of_kind, spliced_times, vdrs_rows, vdrs_rows-push, HasDims, vdr_body}
+use Rattle.cdf_vars.proofs.Common.{Same, if◌then◌else◌, map-append, All, flat_map, slice_get, Go, DataSet, Variable, Plain, Kind, R, Z, image_limit, is_bad_name, is_among, variable_names, variables_of, with_variables, ByStep, step, is_bad_shape, new_variable, next_field, is_in, content, variable_of, number, name_in, r_sizes, size_at, type_at, gdr_offset, owned, times, vdr_name, Hold, VariableShape, Shape, vdrs, HasShape, shape, IsSound, In, Good, IsGoodByShape, vdrs_append, good_by_its_shape, good_is_sound, rules_of_good, good_long, sealed_kept, content_is, shape_is, AllKeep, Allowances, Only, shapes_of, vdr_type, Chain, Does, allowances, room, vdr_bytes, Follows, only_reads, Act, Took, type_in, counted_in, IsBody, type_of_body, variables_chain, fine_is_some, fine_has_no_zeros, fine_is_short, got-middle, the_one, other_kind, made_once, variables_of_are, counted_before, with_shapes, kind_type, beside_in, NewVariable, making, OthersStay, KnowsKind, Answers, gone, too_large, Done, Refused, TooLarge, var_step, MakesVariable, variable_changes, IsSorted, OwnRules, VariableLives, VariableSplices, apart_if, attributes_kept, content_now, gdr_place, good_image_if, made_keeps_unused, nums_from, owned_once_if, same_as_itself, shape_now, unowned, used_times, kind_ours, numbers_kept, of_kind, spliced_times, vdrs_rows, vdrs_rows-push, HasDims, vdr_body}
 use Rattle.cdf_format.specs.Index.{leaves_of, nodes_of}
 use Rattle.cdf_edits.proofs.Common.{Keeps, count_of, members_of, only_of, read_types, same_kind, times-none, variable_records}
 use Rattle.cdf_edits.specs.Space.Adding.{Added}
@@ -156,39 +156,27 @@ module _ (b : List ℕ) (kind : Kind) (v : NewVariable) (limit : ℕ) (image : G
       -- ---- the rules
 
       -- the new record is owned once more than before
-      owners : (m : ℕ) → used_times made m ≡ used_times s m + times m (place ∷ [])
-      owners m = omega (arith, spliced_times s kind records list own [] (bare ∷ []) [] (sym (append-nil own)) m (times m (place ∷ [])) 0 (ap (λ (ms : List ℕ). times m ms + 0) (bare_records place) ∙ omega arith))
-
-      sorted : (m : ℕ) → In m (place ∷ []) → IsSorted now made m
-      sorted m i =
-          let one : times place (place ∷ []) ≡ 1 = rw (eq-eqb place place refl) refl in
-          subst (IsSorted now made) (sym (the_one place m i)) (inl (used sound w, omega (arith, owners place, unowned sound (fills sound w))))
-
-      beside : (m : ℕ) → (In m (place ∷ []) → ⊥) → used_times made m ≡ used_times s m
-      beside m out = omega (arith, owners m, times-none m (place ∷ []) out)
-
-      count_now : number now (gdr_offset now) (count_of (variables_chain kind)) ≡ length (vdrs own) + 1
-      count_now =
-          ap (λ (g : ℕ). number now g (count_of (variables_chain kind))) (gdr_place sound (edit sound w) (t sound w).all.file_clear ∙ sym (gdr_is sound w)) ∙ added.counted
-          ∙ ap (λ (n : ℕ). n + 1) (counted_members b image kind ∙ ap (λ (ms : List ℕ). length ms) (variable_members b s h kind))
+      owners : (m : ℕ) → used_times made m + 0 ≡ used_times s m + times m (place ∷ [])
+      owners m = spliced_times s kind records list own [] (bare ∷ []) [] (sym (append-nil own)) m (times m (place ∷ [])) 0 (ap (λ (ms : List ℕ). times m ms + 0) (bare_records place) ∙ omega arith)
 
       own_rules : is_among v.name (variable_names (content b)) ≡ false → OwnRules sound splices
       own_rules free =
           let named = name_is new is new_type shares no_zero in
+          let count =
+              ap (λ (g : ℕ). number now g (count_of (variables_chain kind))) (gdr_place sound (edit sound w) (t sound w).all.file_clear ∙ sym (gdr_is sound w)) ∙ added.counted
+              ∙ ap (λ (n : ℕ). n + 1) (counted_members b image kind ∙ ap (λ (ms : List ℕ). length ms) (variable_members b s h kind)) in
           let nums = nums_from sound (edit sound w) (file sound w) own (kind_ours b s sound kind) (of_kind (VariableLives b now) kind s (lives sound w)) in
           record {
-            counted = subst (λ (ms : List ℕ). Hold (vdrs_rows kind now ms)) (sym vdrs_are) (vdrs_rows-push kind now (vdrs own) place count_now new.says.1.1.1.1.1.1.1.1.1.1.0 (numbers_kept kind b now (vdrs own) nums (counted_before good kind)));
+            counted = subst (λ (ms : List ℕ). Hold (vdrs_rows kind now ms)) (sym vdrs_are) (vdrs_rows-push kind now (vdrs own) place count new.says.1.1.1.1.1.1.1.1.1.1.0 (numbers_kept kind b now (vdrs own) nums (counted_before good kind)));
             apart = apart_if sound splices good (λ x y i j ne. absurd (ne (the_one place x i ∙ sym (the_one place y j))))
                 (λ x y i j. subst (λ (n : List ℕ). bytes_eq n (name_in b y vdr_name) ≡ false) (sym (ap (λ (m : ℕ). name_in now m vdr_name) (the_one place x i) ∙ named)) (absent_from b image v.name free y (beside_in sound splices y j)));
             own_ruled = (ruled new is new_type shares records new_size no_zero (fine_is_some v.name well_named), tt);
             read = λ m i. ap (λ (t : ℕ). is_in t read_types) (ap (type_at now) (the_one place m i) ∙ new_type) ∙ read_type kind;
-            owned = owned_once_if b now s made (marks sound w) (place ∷ []) sound good.owned_once (edit sound w) beside sorted;
+            owned = owned_once_if b now s made (marks sound w) (place ∷ []) sound good.owned_once (edit sound w) (λ m out. omega (arith, owners m, times-none m (place ∷ []) out))
+                (λ m i. inl (made_once sound (fills sound w) added.linked added.as_long (t sound w).lately made 0 (owners place) refl m i));
           }
 
       -- ---- what stays
-
-      abbrev may : Allowances
-      may = variable_changes b kind
 
       abbrev acts : List Act
       acts = Took place (8 + length body) ∷ []
@@ -196,35 +184,22 @@ module _ (b : List ℕ) (kind : Kind) (v : NewVariable) (limit : ℕ) (image : G
       records_are : (shape now).records ≡ records
       records_are = ap (λ (x : Shape). x.records) now_is
 
-      keeps : AllKeep b now may acts (owned b s)
+      keeps : AllKeep b now (variable_changes b kind) acts (owned b s)
       keeps =
           let only : (m : ℕ) → In m (vdrs own) → (if same_kind kind kind then only_of b m (vdr_type kind) (next_field ∷ []) else Only []) ≡ Only (next_field ∷ []) = λ m i. rw (same_as_itself kind, eq-eqb (type_at b m) (vdr_type kind) ((member_in sound w m i).1 ∙ kind_type kind)) refl in
-          keep_with_kind sound (edit sound w) (t sound w).all records_are may.variables acts (λ i m. rw (other_stays kind) refl)
-          (keep_numbered sound (edit sound w) (t sound w).all records_are may acts kind 0 own (kind_ours b s sound kind) (λ k m low high i inside. subst (Keeps b now m) (sym (only m i)) (next_keeps sound (edit sound w) (t sound w).all records_are m inside (linked sound w m i))))
+          keep_with_kind sound (edit sound w) (t sound w).all records_are (variable_changes b kind).variables acts (λ i m. rw (other_stays kind) refl)
+          (keep_numbered sound (edit sound w) (t sound w).all records_are (variable_changes b kind) acts kind 0 own (kind_ours b s sound kind) (λ k m low high i inside. subst (Keeps b now m) (sym (only m i)) (next_keeps sound (edit sound w) (t sound w).all records_are m inside (linked sound w m i))))
           (attributes_kept sound splices)
-          (made_keeps_unused sound (fills sound w) added.linked added.as_long (t sound w).lately records_are may)
-
-      -- ---- what it makes
-
-      makes : MakesVariable b now kind v.name v.vary v.varys acts
-      makes = record {
-        made = bare;
-        made_last = subst (λ (vs : List VariableShape). slice_get vs (length own) ≡ Some bare) (sym (own_now b now (own ++ bare ∷ []) kind now_is)) (got-middle own bare []);
-        acts_are = ap (λ (n : ℕ). Took place n ∷ []) (long ∙ sym (end_is new is new_type shares));
-        says = (new.says.1.1.1.0, (new.says.1.1.1.1.0, (new.says.1.1.1.1.1.1.0, (new.says.1.1.1.1.1.1.1.0, (new.says.1.1.1.1.1.1.1.1.0, (new.says.1.1.1.1.1.1.1.1.1.1.1.0, tt))))));
-        named = new.filled;
-        varys_are = varys_written new is new_type shares;
-      }
+          (made_keeps_unused sound (fills sound w) added.linked added.as_long (t sound w).lately records_are (variable_changes b kind))
 
       pub follows : is_among v.name (variable_names (content b)) ≡ false → Follows b (making kind v) now
       follows free =
-          let rules = own_rules free in
           let longest : length now ≤ length b + need = (let l = added.placed.longest in omega (arith, l, long, added.as_long)) in
           let size = (is_making b kind v dims).room_is in
           record {
             reply = Plain;
             goes = (is_making b kind v dims).step_is ∙ rw (well_named, free, fine) (ap (λ (d : DataSet). ByStep (Go d Plain)) (sym content_is_made));
-            good = good_image_if sound splices (sealed_kept b (good_long b s good) (rules_of_good b image)).0 good rules (ends sound w) (omega arith);
+            good = good_image_if sound splices (sealed_kept b (good_long b s good) (rules_of_good b image)).0 good (own_rules free) (ends sound w) (omega arith);
             longer = (edit sound w).longer;
             within = subst (λ (n : ℕ). length now ≤ length b + n) (sym size) longest;
             reads = λ q. absurd (true≢false (sym q ∙ (is_making b kind v dims).makes));
@@ -232,7 +207,14 @@ module _ (b : List ℕ) (kind : Kind) (v : NewVariable) (limit : ℕ) (image : G
             takes_within = subst (λ (n : ℕ). 0 + (8 + length body) ≤ n) (sym size) (let l = long in omega arith);
             acts_follow = joined_acts sound w _ now_is;
             keeps = subst (λ (a : Allowances). AllKeep b now a acts (owned b s)) (sym (is_making b kind v dims).may_is) keeps;
-            does = (is_making b kind v dims).does now acts makes;
+            does = (is_making b kind v dims).does now acts (record {
+              made = bare;
+              made_last = subst (λ (vs : List VariableShape). slice_get vs (length own) ≡ Some bare) (sym (own_now b now (own ++ bare ∷ []) kind now_is)) (got-middle own bare []);
+              acts_are = ap (λ (n : ℕ). Took place n ∷ []) (long ∙ sym (end_is new is new_type shares));
+              says = (new.says.1.1.1.0, (new.says.1.1.1.1.0, (new.says.1.1.1.1.1.1.0, (new.says.1.1.1.1.1.1.1.0, (new.says.1.1.1.1.1.1.1.1.0, (new.says.1.1.1.1.1.1.1.1.1.1.1.0, tt))))));
+              named = new.filled;
+              varys_are = varys_written new is new_type shares;
+            });
           }
 
       -- ---- what is known of the variables
