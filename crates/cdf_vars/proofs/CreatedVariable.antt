@@ -1,10 +1,10 @@
 -- A new variable: the making of its VDR leads from a good image to the one that follows, what is known of the variables then, and what the command is answered.
 use Rattle.std.proofs.Common.{◌≡◌, ◌≢◌, ℕ, ◌+◌, ◌^◌, ◌<◌, ◌≤◌, List, [], ◌∷◌, ◌++◌, length, map, true, false, bytes_eq, eq-eqb, Some, refl, sym, ap, subst, true≢false, ◌∙◌, append-nil, arith, inl}
-use Rattle.cdf_vars.proofs.Common.{Same, if◌then◌else◌, map-append, All, flat_map, slice_get, Go, DataSet, Variable, Plain, Kind, R, Z, image_limit, is_bad_name, is_among, variable_names, variables_of, with_variables, ByStep, step, is_bad_shape, new_variable, next_field, is_in, content, variable_of, number, name_in, r_sizes, size_at, type_at, gdr_offset, owned, times, vdr_name, Hold, VariableShape, Shape, vdrs, HasShape, shape, IsSound, In, Good, IsGoodByShape, vdrs_append, good_by_its_shape, good_is_sound, rules_of_good, good_long, sealed_kept, content_is, shape_is, AllKeep, Allowances, Only, shapes_of, vdr_type, Chain, Does, allowances, room, vdr_bytes, Follows, only_reads, Act, Took, type_in, counted_in, IsBody, type_of_body, variables_chain, fine_is_some, fine_has_no_zeros, fine_is_short, got-middle, the_one, other_kind, made_once, variables_of_are, counted_before, with_shapes, kind_type, beside_in, NewVariable, making, OthersStay, KnowsKind, Answers, gone, too_large, Done, Refused, TooLarge, var_step, MakesVariable, variable_changes, IsSorted, OwnRules, VariableLives, VariableSplices, apart_if, attributes_kept, content_now, gdr_place, good_image_if, made_keeps_unused, nums_from, owned_once_if, same_as_itself, shape_now, unowned, used_times, kind_ours, numbers_kept, of_kind, spliced_times, vdrs_rows, vdrs_rows-push, HasDims, vdr_body}
+use Rattle.cdf_vars.proofs.Common.{Same, if◌then◌else◌, map-append, All, flat_map, slice_get, Go, DataSet, Variable, Plain, Kind, R, Z, image_limit, is_bad_name, is_among, variable_names, variables_of, with_variables, ByStep, step, is_bad_shape, new_variable, next_field, is_in, content, variable_of, number, name_in, r_sizes, size_at, type_at, owned, times, vdr_name, Hold, VariableShape, Shape, vdrs, HasShape, shape, IsSound, In, Good, IsGoodByShape, vdrs_append, good_by_its_shape, good_is_sound, rules_of_good, good_long, sealed_kept, content_is, shape_is, AllKeep, Allowances, Only, shapes_of, vdr_type, Chain, Does, allowances, room, vdr_bytes, Follows, only_reads, Act, Took, type_in, counted_in, IsBody, type_of_body, variables_chain, fine_is_some, fine_has_no_zeros, fine_is_short, got-middle, the_one, other_kind, made_once, variables_of_are, counted_before, with_shapes, kind_type, beside_in, NewVariable, making, OthersStay, KnowsKind, Answers, gone, too_large, Done, Refused, TooLarge, var_step, MakesVariable, variable_changes, OwnRules, VariableLives, VariableSplices, apart_if, attributes_kept, content_now, gdr_place, good_image_if, made_keeps_unused, nums_from, owned_once_if, same_as_itself, shape_now, used_times, kind_ours, numbers_kept, of_kind, spliced_times, vdrs_rows, vdrs_rows-push, HasDims, vdr_body}
 use Rattle.cdf_format.specs.Index.{leaves_of, nodes_of}
 use Rattle.cdf_edits.proofs.Common.{Keeps, count_of, members_of, only_of, read_types, same_kind, times-none, variable_records}
 use Rattle.cdf_edits.specs.Space.Adding.{Added}
-use Rattle.cdf_edits.proofs.Edits.JoinedVdr.{JoinsVdr, behind_link, edit, ends, file, fills, gdr_is, joined_acts, joined_size, joined_splices, joined_type, linked, lives, marks, member_in, t, used}
+use Rattle.cdf_edits.proofs.Edits.JoinedVdr.{JoinsVdr, behind_link, edit, ends, file, fills, gdr_is, joined_acts, joined_size, joined_splices, joined_type, linked, lives, marks, member_in, t}
 use Rattle.cdf_edits.proofs.Edits.VariablesLinked.{keep_numbered, keep_with_kind, next_keeps}
 use Rattle.cdf_vars.proofs.VariableChains.{counted_members, variable_members, few_variables}
 use Rattle.cdf_vars.proofs.NewVdr.{IsNewVdr, IsShaped, Shares, bare_variable, end_is, has, length-body, means, name_is, ruled, shaped, type_in_body, varys_written, vdr_is_body, vdr_written}
@@ -163,8 +163,8 @@ module _ (b : List ℕ) (kind : Kind) (v : NewVariable) (limit : ℕ) (image : G
       own_rules free =
           let named = name_is new is new_type shares no_zero in
           let count =
-              ap (λ (g : ℕ). number now g (count_of (variables_chain kind))) (gdr_place sound (edit sound w) (t sound w).all.file_clear ∙ sym (gdr_is sound w)) ∙ added.counted
-              ∙ ap (λ (n : ℕ). n + 1) (counted_members b image kind ∙ ap (λ (ms : List ℕ). length ms) (variable_members b s h kind)) in
+          ap (λ (g : ℕ). number now g (count_of (variables_chain kind))) (gdr_place sound (edit sound w) (t sound w).all.file_clear ∙ sym (gdr_is sound w)) ∙ added.counted
+          ∙ ap (λ (n : ℕ). n + 1) (counted_members b image kind ∙ ap (λ (ms : List ℕ). length ms) (variable_members b s h kind)) in
           let nums = nums_from sound (edit sound w) (file sound w) own (kind_ours b s sound kind) (of_kind (VariableLives b now) kind s (lives sound w)) in
           record {
             counted = subst (λ (ms : List ℕ). Hold (vdrs_rows kind now ms)) (sym vdrs_are) (vdrs_rows-push kind now (vdrs own) place count new.says.1.1.1.1.1.1.1.1.1.1.0 (numbers_kept kind b now (vdrs own) nums (counted_before good kind)));

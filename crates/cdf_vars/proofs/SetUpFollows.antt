@@ -1,6 +1,6 @@
 -- `setup` follows its command: the dimensions of a GDR and the CDR are written, what the image has by then, whatever became of the GDR, and the two ways, in its place and moved.
-use Rattle.std.proofs.Common.{◌≡◌, ◌≢◌, ℕ, ◌+◌, ◌-◌, ◌*◌, ◌<◌, ◌≤◌, List, [], ◌∷◌, ◌++◌, length, map, sum, drop, Bool, true, false, ◌||◌, refl, sym, ap, subst, ◌∙◌, arith, inl, inr, ◌^◌}
-use Rattle.cdf_vars.proofs.Common.{gdr_fits, IsGoodByShape, is_in, le-leb, length-take, length-drop, w32, cast_signed, list_all, ◌==◌, is_some, nat_le, if◌then◌else◌, ◌||◌, put, Majority, Row, Column, DataSet, encoding_at, image_limit, are_bad_sizes, is_empty_set, AllKeep, Edit, Mark, avoided, within, is_late, making_marks, Follows, Changed, touched_field, Act, Took, Gave, Fills, keep_attributes, acts_took, end_now, filled_size, filled_sound, list_chain, made_edit, place_in, shorter, the_one, unmarked-away, keep_file, keeps_fields, gdr_typed, apart, length-words, words_laid_out, byte, IsChain, next_of, content, counted, has_bit, is_positive, number, word, words, size_at, type_at, gdr_offset, r_num_dims, r_sizes, with_field, owned_records, times, Field, cdr_encoding, cdr_flags, gdr_r_max_rec, gdr_r_num_dims, record_type, cdr_type, gdr_type, uir_type, fixed_size, is_record_type, Shape, HasShape, shape, IsSound, In, Good, of_4_bytes, length-put, word_kept, words_kept, good_by_its_shape, good_eof, good_is_sound, rules_of_good, good_long, sealed_kept, content_is, shape_is, WritesHeads, small_signed, drop-put_there, AreTiles, Holds, IsGiven, Unused, content_of, eof, flags, is_a-from, leb-true, lt-leb, majority_of, owned_by, read_types, sealed_keeps, unused, unused_records, with_space, with_bits, MovesForRoom, moved_for_room, Within, Among, mark, field_marks, ActsFollow, taken as taken_of, Avoids-append, FirstSays, IsHeld, IsSorted, Within-append, acts_none, all_attribute_records, all_keep, all_variable_records, avoided-avoids, chain_clear, changed_edit, changed_put, edit_then, first_hold, first_said, keep_unused, keeps_within, none_in_use, owned_once_if, part_clear, places-sized, placing_marks, read_now, same_link, sizes_by_tiles, some_bytes, takes_edit, within-within, or_cases, filled_content, filled_edit, listed_before, listed_marks, loose_away, second, unlike, cdr_increment, cdr_release, cdr_version, cdr_gdr_offset, gdr_eof, gdr_leap_second_last_updated, gdr_num_attr, gdr_nr_vars, gdr_nz_vars, gdr_r_dim_sizes, gdr_rfu_c, gdr_rfu_e, gdr_uir_head, uir_next_uir, uir_prev_uir, gdr_adr_head, gdr_r_vdr_head, gdr_z_vdr_head, MakesGdr, gdr_fields}
+use Rattle.std.proofs.Common.{◌≡◌, ◌≢◌, ℕ, ◌+◌, ◌-◌, ◌*◌, ◌<◌, ◌≤◌, List, [], ◌∷◌, ◌++◌, length, map, drop, Bool, true, false, ◌||◌, refl, sym, ap, subst, ◌∙◌, arith, inl, inr, ◌^◌}
+use Rattle.cdf_vars.proofs.Common.{Away, away-avoids, away-within, either, gdr_fits, IsGoodByShape, is_in, le-leb, length-take, length-drop, w32, cast_signed, list_all, ◌==◌, is_some, nat_le, if◌then◌else◌, ◌||◌, put, Majority, Row, Column, DataSet, encoding_at, image_limit, are_bad_sizes, is_empty_set, AllKeep, Edit, Mark, avoided, within, is_late, making_marks, Follows, Changed, touched_field, Act, Took, Gave, Fills, keep_attributes, acts_took, end_now, filled_size, filled_sound, list_chain, made_edit, place_in, shorter, the_one, unmarked-away, keep_file, keeps_fields, gdr_typed, apart, length-words, words_laid_out, byte, IsChain, content, counted, has_bit, is_positive, number, word, words, size_at, type_at, gdr_offset, r_num_dims, r_sizes, with_field, owned_records, times, Field, cdr_encoding, cdr_flags, gdr_r_max_rec, gdr_r_num_dims, record_type, cdr_type, gdr_type, uir_type, fixed_size, is_record_type, Shape, HasShape, shape, IsSound, In, Good, of_4_bytes, length-put, word_kept, words_kept, good_by_its_shape, good_eof, good_is_sound, rules_of_good, good_long, sealed_kept, content_is, shape_is, WritesHeads, small_signed, drop-put_there, AreTiles, Holds, IsGiven, Unused, content_of, eof, flags, is_a-from, leb-true, lt-leb, majority_of, owned_by, read_types, sealed_keeps, unused, unused_records, with_space, with_bits, MovesForRoom, moved_for_room, Among, mark, field_marks, ActsFollow, Avoids-append, FirstSays, IsHeld, IsSorted, Away, Within-append, acts_none, all_attribute_records, all_keep, all_variable_records, avoided-avoids, chain_clear, changed_edit, changed_put, edit_then, first_hold, first_said, keep_unused, keeps_within, none_in_use, owned_once_if, part_clear, places-sized, placing_marks, read_now, same_link, sizes_by_tiles, some_bytes, takes_edit, within-within, or_cases, filled_content, filled_edit, listed_before, listed_marks, loose_away, second, unlike, cdr_increment, cdr_release, cdr_version, cdr_gdr_offset, gdr_eof, gdr_leap_second_last_updated, gdr_num_attr, gdr_nr_vars, gdr_nz_vars, gdr_r_dim_sizes, gdr_rfu_c, gdr_rfu_e, gdr_uir_head, uir_next_uir, uir_prev_uir, gdr_adr_head, gdr_r_vdr_head, gdr_z_vdr_head, MakesGdr, gdr_fields}
 use Rattle.cdf_model.specs.declared.answer.Reply.TheVariants as replies
 use Rattle.cdf_model.specs.declared.command.Command.TheVariants as commands
 use Rattle.cdf_edits.specs.Commands.Allowances.{FreedStay, Stays, StaysOrSays, space_fields}
@@ -194,9 +194,7 @@ IsCopied f = IsBeside f.place (f.place + f.width) × ((nat_le 44 f.place || nat_
 -- The CDR and the GDR say what they have to, no other record is in use, and the unused ones and the space are as these acts leave them.
 record IsSetUp (b now records list : List ℕ) (gdr code bits : ℕ) (majority : Majority) (dims : List ℕ) (marks : List Mark) (reborn : List ℕ) (acts : List Act) : Type 0 where
   edit : Edit b now (shape b).records records marks reborn
-  cdr_start : avoided marks cdr_type 0 12 ≡ true
-  cdr_version_stays : avoided marks cdr_type 20 24 ≡ true
-  cdr_within : within marks cdr_type (cdr_encoding ∷ cdr_flags ∷ cdr_gdr_offset ∷ []) ≡ true
+  cdr_clear : (avoided marks cdr_type 0 12 ≡ true) × (avoided marks cdr_type 20 24 ≡ true) × (within marks cdr_type (cdr_encoding ∷ cdr_flags ∷ cdr_gdr_offset ∷ []) ≡ true)
   sound : IsSound now (empty_shape records gdr list)
   content_now : content now ≡ set_up (content b) code majority dims
   flags_now : flags now ≡ bits
@@ -206,7 +204,6 @@ record IsSetUp (b now records list : List ℕ) (gdr code bits : ℕ) (majority :
   longest : length now ≤ length b + (84 + 4 * length dims)
   as_owned : (m : ℕ) → (In m reborn → ⊥) → times_with gdr m ≡ times_with (gdr_offset b) m
   anew : (m : ℕ) → In m reborn → IsSorted now (empty_shape records gdr list) m × (is_in (type_at now m) read_types ≡ true)
-  takes_within : sum (map (λ take. take.1) (taken_of acts)) ≤ 84 + 4 * length dims
   acts_follow : ActsFollow b now acts
   unused_stay : AllKeep b now setup_changes acts (owned_by Unused (unused_records b (shape b)))
   acts_are : acts ≡ moved_for_room b (gdr_offset b) (gdr_offset now) (84 + 4 * length dims)
@@ -264,7 +261,7 @@ module _ (b dims : List ℕ) (good : Good b) (empty : is_empty_set (content b) �
         record {
           first_magic = word_kept b now 0 8 is.edit.front 0 4 (omega arith) (omega arith) ∙ was.first_magic;
           second_magic = word_kept b now 0 8 is.edit.front 4 4 (omega arith) (omega arith) ∙ was.second_magic;
-          version_is = still_says is.edit cdr_before is.cdr_start cdr_version is.cdr_version_stays (omega arith) ∙ was.version_is;
+          version_is = still_says is.edit cdr_before is.cdr_clear.0 cdr_version is.cdr_clear.1 (omega arith) ∙ was.version_is;
           encoding_read = ap (λ (d : DataSet). is_some (encoding_at d.encoding)) own_content ∙ read;
           single_file = rw (bits_now, bits.0) was.single_file;
           md5_used = rw (bits_now, bits.1, bits.2) was.md5_used;
@@ -290,7 +287,7 @@ module _ (b dims : List ℕ) (good : Good b) (empty : is_empty_set (content b) �
     setup_follows : length b + need ≤ image_limit → Follows b (commands.Setup code majority dims) now
     setup_follows room =
         let records_are = ap (λ (x : Shape). x.records) (shape_is now own is.sound.has_shape) in
-        let heads = keeps_fields sound is.edit records_are 8 cdr_type (cdr_encoding ∷ cdr_flags ∷ cdr_gdr_offset ∷ []) cdr_before.inside cdr_before.typed is.cdr_start is.cdr_within in
+        let heads = keeps_fields sound is.edit records_are 8 cdr_type (cdr_encoding ∷ cdr_flags ∷ cdr_gdr_offset ∷ []) cdr_before.inside cdr_before.typed is.cdr_clear.0 is.cdr_clear.2 in
         record {
           reply = replies.Plain;
           goes = rw is.content_now (step_goes (content b) code majority dims read fine empty);
@@ -299,7 +296,7 @@ module _ (b dims : List ℕ) (good : Good b) (empty : is_empty_set (content b) �
           within = is.longest;
           reads = λ q. absurd cc;
           acts = acts;
-          takes_within = is.takes_within;
+          takes_within = rw is.acts_are (elim (either (nat_le need (size_at b (gdr_offset b)))) [ inl e ↦ rw e (omega arith) | inr e ↦ rw e (omega arith) ]);
           acts_follow = is.acts_follow;
           keeps = all_keep b now setup_changes acts (keep_file b now setup_changes acts sound heads tt) (keep_attributes b now setup_changes acts 0 s.attributes (λ m i. absurd (subst (λ (x : Shape). In m (all_attribute_records x)) before_is i))) (λ m i. absurd (subst (λ (x : Shape). In m (all_variable_records x)) before_is i)) is.unused_stay;
           does = record {
@@ -314,7 +311,7 @@ module _ (b dims : List ℕ) (good : Good b) (empty : is_empty_set (content b) �
 
   -- ---- the GDR has room for the dimensions, and stays in its place
 
-  module _ {now : List ℕ} {place code bits : ℕ} (majority : Majority) (read : is_some (encoding_at code) ≡ true) (bits_are : bits ≡ majority_flags (flags b) majority) (place_is : place ≡ gdr_offset b) (fits : need ≤ size_at b (gdr_offset b)) (w : WritesHeads b now place code bits dims) where
+  module _ {now : List ℕ} {place code bits : ℕ} (majority : Majority) (read : is_some (encoding_at code) ≡ true) (bits_are : bits ≡ majority_flags (flags b) majority) (place_is : place ≡ gdr_offset b) (fits : need ≤ size_at b (gdr_offset b)) (roomy : length b + need ≤ image_limit) (w : WritesHeads b now place code bits dims) where
     gdr : Stands b s.records old gdr_type need
     gdr = record { inside = gdr_before.inside; typed = gdr_before.typed; long = fits }
 
@@ -339,9 +336,7 @@ module _ (b dims : List ℕ) (good : Good b) (empty : is_empty_set (content b) �
     kept_set : IsSetUp b now s.records s.unused old code bits majority dims in_place [] []
     kept_set = record {
       edit = e;
-      cdr_start = refl;
-      cdr_version_stays = refl;
-      cdr_within = refl;
+      cdr_clear = (refl, refl, refl);
       sound = empty_sound b now before [] bare e shape_now (heads_fit bare.has_shape fine gdr here) (λ m out. omega arith) (λ m i. absurd i);
       content_now = heads_content bare.has_shape fine gdr here (flags b) shape_now bits_are refl;
       flags_now = flags_are bare.has_shape fine gdr here;
@@ -351,7 +346,6 @@ module _ (b dims : List ℕ) (good : Good b) (empty : is_empty_set (content b) �
       longest = omega (arith, same_long);
       as_owned = λ m out. refl;
       anew = λ m i. absurd i;
-      takes_within = omega arith;
       acts_follow = acts_none sound e refl refl (ap (λ (x : Shape). x.records) same_shape) (ap (λ (x : Shape). x.unused) same_shape) same_long;
       unused_stay =
           keep_unused sound e (ap (λ (x : Shape). x.records) same_shape) setup_changes [] (λ m i free. (avoided-avoids in_place uir_type m 0 12 refl, within-within in_place uir_type m (uir_next_uir ∷ uir_prev_uir ∷ []) refl)) (λ m i out. unmarked-away in_place uir_type m refl);
@@ -366,8 +360,8 @@ module _ (b dims : List ℕ) (good : Good b) (empty : is_empty_set (content b) �
       emptied = λ moves. absurd (moves shape_now.gdr_is);
     }
 
-    pub keeps_follows : length b + need ≤ image_limit → Follows b (commands.Setup code majority dims) now
-    keeps_follows = setup_follows read bits_are kept_set
+    pub keeps_follows : Follows b (commands.Setup code majority dims) now
+    keeps_follows = setup_follows read bits_are kept_set roomy
 
   -- ---- it has no room: another one is made
 
@@ -483,10 +477,10 @@ module _ (b dims : List ℕ) (good : Good b) (empty : is_empty_set (content b) �
     old_stays : Stays b late old space_fields
     old_stays =
         let no = λ (lies : In old (place ∷ [])). place_not_old (the_one place old lies) in
-        let other = λ (q : gdr_type ≡ cdr_type). apart gdr_type cdr_type refl q in
-        let heads : Within late_marks gdr_type old space_fields = ((λ q lies. absurd (no lies)), ((λ q lies. absurd (no lies)), ((λ q lies. absurd (other q)), ((λ q lies. absurd (other q)), ((λ q lies. absurd (other q)), tt))))) in
-        keeps_within sound made late_records old gdr_type space_fields gdr_before.inside gdr_before.typed (Avoids-append (placing_marks (shape b).unused place need) late_marks gdr_type old 0 12 (avoided-avoids (placing_marks (shape b).unused place need) gdr_type old 0 12 refl) (avoided-avoids late_marks gdr_type old 0 12 (heads_avoided place (length dims) 0 12 (refl, omega arith))))
-        (Within-append (placing_marks (shape b).unused place need) late_marks gdr_type old space_fields (within-within (placing_marks (shape b).unused place need) gdr_type old space_fields refl) heads)
+        let away : Away late_marks gdr_type old = ((λ q lies. no lies), ((λ q lies. no lies), ((λ q lies. apart gdr_type cdr_type refl q), ((λ q lies. apart gdr_type cdr_type refl q), ((λ q lies. apart gdr_type cdr_type refl q), tt))))) in
+        let placing = placing_marks (shape b).unused place need in
+        keeps_within sound made late_records old gdr_type space_fields gdr_before.inside gdr_before.typed (Avoids-append placing late_marks gdr_type old 0 12 (avoided-avoids placing gdr_type old 0 12 refl) (away-avoids late_marks gdr_type old 0 12 away))
+        (Within-append placing late_marks gdr_type old space_fields (within-within placing gdr_type old space_fields refl) (away-within late_marks gdr_type old space_fields away))
 
     -- what a call asks for that frees it
     pub late_sound : IsSound late (shape late)
@@ -530,22 +524,12 @@ module _ (b dims : List ℕ) (good : Good b) (empty : is_empty_set (content b) �
       old_field : (f' : Field) → 28 ≤ f'.place → f'.place + f'.width ≤ 84 → number now old f' ≡ number late old f'
       old_field f' low high = let l = gdr_before.long in word_kept late now (old + 28) (old + size_at b old) (behind_links f (omega arith)) (old + f'.place) f'.width (omega arith) (omega arith)
 
-      old_head : number now old gdr_uir_head ≡ next_of now old
-      old_head =
-          let chain = subst (IsChain now records uir_type (number now place gdr_uir_head)) now_list h.unused_chain in
-          old_field gdr_uir_head (omega arith) (omega arith) ∙ ap (λ (g : ℕ). number late g gdr_uir_head) (sym at) ∙ same_link late now _ _ list (list_chain sound fills later as_long lately).leads chain.leads.1
-
-      old_eof : number now old gdr_eof ≡ length now
-      old_eof = old_field gdr_eof (omega arith) (omega arith) ∙ ap (eof late) (sym at) ∙ end_now sound fills later as_long lately ∙ sym (as_long_now f)
-
       -- ---- the whole
 
       moved_set : IsSetUp b now records (shape now).unused place code bits majority dims (make_marks ++ given_marks f) (place ∷ old ∷ []) acts
       moved_set = record {
         edit = freed_edit f;
-        cdr_start = refl;
-        cdr_version_stays = refl;
-        cdr_within = refl;
+        cdr_clear = (refl, refl, refl);
         sound = now_sound;
         content_now = free.2 ∙ heads_content copied_shape fine new m.heads (flags b) late_shape bits_are (sym (ap (λ (n : ℕ). has_bit n 2) (still_says (filled_edit sound fills) cdr_before refl cdr_flags refl (omega arith)))) ∙ ap (λ (d : DataSet). set_up d code majority dims) (filled_content sound fills);
         flags_now = still_says (given f) (stands_fixed late_shape cdr_type 8 late_shape.cdr_stands) refl cdr_flags refl (omega arith) ∙ flags_are copied_shape fine new m.heads;
@@ -559,14 +543,17 @@ module _ (b dims : List ℕ) (good : Good b) (empty : is_empty_set (content b) �
           | inl q ↦ subst (λ (x : ℕ). IsSorted now own_now x × (is_in (type_at now x) read_types ≡ true)) (sym q) (inl ((λ u. apart gdr_type uir_type refl (sym (gdr_typed now own_now h) ∙ u)), gdr_once place place_not_8), ap (λ (t : ℕ). is_in t read_types) (gdr_typed now own_now h))
           | inr last ↦ subst (λ (x : ℕ). IsSorted now own_now x × (is_in (type_at now x) read_types ≡ true)) (sym (the_one old k last)) (inr (freed_type f, others_none place old old_not_8 place_not_old), ap (λ (t : ℕ). is_in t read_types) (freed_type f))
         ];
-        takes_within = omega arith;
         acts_follow = freed_acts f (acts_took sound fills later as_long lately late_records (ap (λ (x : Shape). x.unused) late_is));
         unused_stay = freed_keeps_unused f setup_changes acts (λ k i left. listed_marks sound fills later as_long lately late_records k i left)
             (λ k i out. (loose_away sound fills later as_long lately k i out, (λ j. out (listed_before sound fills later as_long lately k i j))));
         acts_are = rw (lt-leb need (size_at b (gdr_offset b)) large) (λ i. Took (sym h.gdr_is i) need ∷ Gave old (size_at b old) ∷ []);
         room = λ le. absurd (omega (arith, large, le));
         freed = freed_bytes f acts (λ type. space_fields) (λ n lt low out. old_stays.same n lt out);
-        emptied = λ apart_from. (inr old_head, (inr old_eof, tt));
+        emptied = λ apart_from.
+            let chain = subst (IsChain now records uir_type (number now place gdr_uir_head)) now_list now_sound.has_shape.unused_chain in (
+              inr (old_field gdr_uir_head (omega arith) (omega arith) ∙ ap (λ (g : ℕ). number late g gdr_uir_head) (sym at) ∙ same_link late now _ _ list (list_chain sound fills later as_long lately).leads chain.leads.1),
+              (inr (old_field gdr_eof (omega arith) (omega arith) ∙ ap (eof late) (sym at) ∙ end_now sound fills later as_long lately ∙ sym (as_long_now f)), tt),
+            );
       }
 
       pub moves_follows : length b + need ≤ image_limit → Follows b (commands.Setup code majority dims) now

@@ -8,10 +8,8 @@ alloc_record-requires g c = search (rules, good_is_sound, good_eof)
 
 pub copy_gdr-requires : goal.copy_gdr-requires
 copy_gdr-requires g c =
-    let taken = c.in_ok-place.ensures in
-    omega (arith, gdr_fits (g.A.Area.image c.args.area.now) c.requires.good, taken.takes.changed.longer, taken_lies taken.takes taken.sound)
+    omega (arith, gdr_fits (g.A.Area.image c.args.area.now) c.requires.good, c.in_ok-place.ensures.takes.changed.longer, taken_lies c.in_ok-place.ensures.takes c.in_ok-place.ensures.sound)
 
 pub write_heads-requires : goal.write_heads-requires
 write_heads-requires g c =
-    let taken = c.in_ok-place.ensures in
-    grind (arith, cdr_fits (g.A.Area.image c.args.area.now) c.requires.good, taken.takes.changed.longer, taken_lies taken.takes taken.sound, c.in_ok-copy_gdr.ensures.long)
+    grind (arith, cdr_fits (g.A.Area.image c.args.area.now) c.requires.good, c.in_ok-place.ensures.takes.changed.longer, taken_lies c.in_ok-place.ensures.takes c.in_ok-place.ensures.sound, c.in_ok-copy_gdr.ensures.long)
