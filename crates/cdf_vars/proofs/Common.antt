@@ -46,7 +46,7 @@ pub use Rattle.cdf_edits.specs.Edits.Marks.{Among, Away, Mark, Within, avoided, 
 pub use Rattle.cdf_edits.specs.Edits.RemovesVariable.{greatest_at, numbers_on}
 pub use Rattle.cdf_edits.specs.Edits.Writes.{with_writes}
 pub use Rattle.cdf_edits.specs.Follows.{Follows, only_reads}
-pub use Rattle.cdf_edits.specs.Frame.Changed.{Changed, touched_field}
+pub use Rattle.cdf_edits.specs.Frame.Changed.{Changed, touch, touched_field}
 pub use Rattle.cdf_edits.specs.Index.Blocks.{first_written}
 pub use Rattle.cdf_edits.specs.Space.Acts.{Act, ActsFollow, Gave, Took, taken}
 pub use Rattle.cdf_edits.specs.Space.Chains.{HasChain, HolderStands, before, counted_in, head_of, members_of, type_in}

@@ -1,13 +1,13 @@
 -- `setup` follows its command: the dimensions of a GDR and the CDR are written, what the image has by then, whatever became of the GDR, and the two ways, in its place and moved.
 use Rattle.std.proofs.Common.{◌≡◌, ◌≢◌, ℕ, ◌+◌, ◌-◌, ◌*◌, ◌<◌, ◌≤◌, List, [], ◌∷◌, ◌++◌, length, map, drop, Bool, true, false, ◌||◌, refl, sym, ap, subst, ◌∙◌, arith, inl, inr, ◌^◌}
-use Rattle.cdf_vars.proofs.Common.{Away, away-avoids, away-within, either, gdr_fits, IsGoodByShape, is_in, le-leb, length-take, length-drop, w32, cast_signed, list_all, ◌==◌, is_some, nat_le, if◌then◌else◌, ◌||◌, put, Majority, Row, Column, DataSet, encoding_at, image_limit, are_bad_sizes, is_empty_set, AllKeep, Edit, Mark, avoided, within, is_late, making_marks, Follows, Changed, touched_field, Act, Took, Gave, Fills, keep_attributes, acts_took, end_now, filled_size, filled_sound, list_chain, made_edit, place_in, shorter, the_one, unmarked-away, keep_file, keeps_fields, gdr_typed, apart, length-words, words_laid_out, byte, IsChain, content, counted, has_bit, is_positive, number, word, words, size_at, type_at, gdr_offset, r_num_dims, r_sizes, with_field, owned_records, times, Field, cdr_encoding, cdr_flags, gdr_r_max_rec, gdr_r_num_dims, record_type, cdr_type, gdr_type, uir_type, fixed_size, is_record_type, Shape, HasShape, shape, IsSound, In, Good, of_4_bytes, length-put, word_kept, words_kept, good_by_its_shape, good_eof, good_is_sound, rules_of_good, good_long, sealed_kept, content_is, shape_is, WritesHeads, small_signed, drop-put_there, AreTiles, Holds, IsGiven, Unused, content_of, eof, flags, is_a-from, leb-true, lt-leb, majority_of, owned_by, read_types, sealed_keeps, unused, unused_records, with_space, with_bits, MovesForRoom, moved_for_room, Among, mark, field_marks, ActsFollow, Avoids-append, FirstSays, IsHeld, IsSorted, Away, Within-append, acts_none, all_attribute_records, all_keep, all_variable_records, avoided-avoids, chain_clear, changed_edit, changed_put, edit_then, first_hold, first_said, keep_unused, keeps_within, none_in_use, owned_once_if, part_clear, places-sized, placing_marks, read_now, same_link, sizes_by_tiles, some_bytes, takes_edit, within-within, or_cases, filled_content, filled_edit, listed_before, listed_marks, loose_away, second, unlike, cdr_increment, cdr_release, cdr_version, cdr_gdr_offset, gdr_eof, gdr_leap_second_last_updated, gdr_num_attr, gdr_nr_vars, gdr_nz_vars, gdr_r_dim_sizes, gdr_rfu_c, gdr_rfu_e, gdr_uir_head, uir_next_uir, uir_prev_uir, gdr_adr_head, gdr_r_vdr_head, gdr_z_vdr_head, MakesGdr, gdr_fields}
+use Rattle.cdf_vars.proofs.Common.{ne_eqb, nat_tests, touch, Away, away-avoids, away-within, either, gdr_fits, IsGoodByShape, is_in, le-leb, length-take, length-drop, w32, cast_signed, list_all, ◌==◌, is_some, nat_le, if◌then◌else◌, ◌||◌, put, Majority, Row, Column, DataSet, encoding_at, image_limit, are_bad_sizes, is_empty_set, AllKeep, Edit, Mark, avoided, within, is_late, making_marks, Follows, Changed, touched_field, Act, Took, Gave, Fills, keep_attributes, acts_took, end_now, filled_size, filled_sound, list_chain, made_edit, place_in, shorter, the_one, unmarked-away, keep_file, keeps_fields, gdr_typed, apart, length-words, words_laid_out, byte, IsChain, content, counted, has_bit, is_positive, number, word, words, size_at, type_at, gdr_offset, r_num_dims, r_sizes, with_field, owned_records, times, Field, cdr_encoding, cdr_flags, gdr_r_max_rec, gdr_r_num_dims, record_type, cdr_type, gdr_type, uir_type, fixed_size, is_record_type, Shape, HasShape, shape, IsSound, In, Good, of_4_bytes, length-put, word_kept, words_kept, good_by_its_shape, good_eof, good_is_sound, rules_of_good, good_long, sealed_kept, content_is, shape_is, WritesHeads, small_signed, drop-put_there, AreTiles, Holds, IsGiven, Unused, content_of, eof, flags, is_a-from, leb-true, lt-leb, majority_of, owned_by, read_types, sealed_keeps, unused, unused_records, with_space, with_bits, MovesForRoom, moved_for_room, Among, mark, field_marks, ActsFollow, Avoids-append, FirstSays, IsHeld, IsSorted, Away, Within-append, acts_none, all_attribute_records, all_keep, all_variable_records, avoided-avoids, chain_clear, changed_edit, changed_put, edit_then, first_hold, first_said, keep_unused, keeps_within, none_in_use, owned_once_if, part_clear, places-sized, placing_marks, read_now, same_link, sizes_by_tiles, some_bytes, takes_edit, within-within, or_cases, filled_content, filled_edit, listed_before, listed_marks, loose_away, second, unlike, cdr_increment, cdr_release, cdr_version, cdr_gdr_offset, gdr_eof, gdr_leap_second_last_updated, gdr_num_attr, gdr_nr_vars, gdr_nz_vars, gdr_r_dim_sizes, gdr_rfu_c, gdr_rfu_e, gdr_uir_head, uir_next_uir, uir_prev_uir, gdr_adr_head, gdr_r_vdr_head, gdr_z_vdr_head, MakesGdr, gdr_fields}
 use Rattle.cdf_model.specs.declared.answer.Reply.TheVariants as replies
 use Rattle.cdf_model.specs.declared.command.Command.TheVariants as commands
 use Rattle.cdf_edits.specs.Commands.Allowances.{FreedStay, Stays, StaysOrSays, space_fields}
 use Rattle.cdf_edits.specs.Commands.Setup.{majority_bit, setup_changes, space_taken}
 use Rattle.cdf_edits.specs.Space.Taking.{IsTaken}
-use Rattle.cdf_edits.proofs.Edits.EmptySet.{times_with, as_many, no_more, gdr_once, others_none, empty_shape, empty_sound, is_empty}
-use Rattle.cdf_edits.proofs.Edits.FieldWritten.{Stands, stands_fixed, field_in, still_stands, still_says, written_edit, written_long, written_reads}
+use Rattle.cdf_edits.proofs.Edits.EmptySet.{times_with, gdr_once, others_none, empty_shape, empty_sound, is_empty}
+use Rattle.cdf_edits.proofs.Edits.FieldWritten.{Stands, stands_fixed, field_in, still_stands, still_says, touched_edit, written_edit, written_long, written_reads}
 use Rattle.cdf_edits.proofs.Edits.FreedRecord.{FreesRecord, as_long_now, behind_links, freed_acts, freed_bytes, freed_edit, freed_keeps_unused, freed_type, gdr_beside, given, given_marks, gives, records_now}
 use Rattle.cdf_space.proofs.Filling.{word-put_inside}
 use Rattle.cdf_format.proofs.Pieces.{word-piece}
@@ -85,12 +85,7 @@ module _ {x y records list : List ℕ} {old g code bits : ℕ} {dims : List ℕ}
   long_2 = ap length w.dims_are ∙ length-put one (g + 84) bytes (let l = lies in let b = length-words dims in omega arith)
 
   e2 : Edit one w.mid records records (field_marks gdr_type g (gdr_r_dim_sizes n)) []
-  e2 =
-      let some = some_bytes x (empty_shape records old list) h in
-      let l = w1.long in
-      changed_edit one w.mid records (touched_field g (gdr_r_dim_sizes n) ∷ []) (field_marks gdr_type g (gdr_r_dim_sizes n)) [] w1.edit.tiled_now long_2
-      (subst (λ (m : List ℕ). Changed one m (touched_field g (gdr_r_dim_sizes n) ∷ [])) (sym w.dims_are) (changed_put one g 84 (4 * n) bytes (length-words dims) lies))
-      (record { inside = is.inside; fits = w1.stands.long; behind_size = omega arith; behind_type = inl (omega arith); covered = inl (record { typed = w1.stands.typed; lies = inl refl; low = omega arith; high = omega arith }) }, tt) (omega arith)
+  e2 = touched_edit (field_in w1.edit.tiled_now w1.stands (omega arith) (omega arith)) (subst (λ (m : List ℕ). Changed one m (touched_field g (gdr_r_dim_sizes n) ∷ [])) (sym w.dims_are) (changed_put one g 84 (4 * n) bytes (length-words dims) lies)) long_2
 
   dims_edit : Edit x w.mid records records (field_marks gdr_type g gdr_r_num_dims ++ field_marks gdr_type g (gdr_r_dim_sizes n)) []
   dims_edit = edit_then w1.edit e2
@@ -270,14 +265,11 @@ module _ (b dims : List ℕ) (good : Good b) (empty : is_empty_set (content b) �
           eof_is = is.end;
         }
 
-    none_counted : (f : Field) → IsCopied f → (number b (gdr_offset b) f == 0) ≡ true → (number now (gdr_offset now) f == 0) ≡ true
-    none_counted f copied none = ap (λ (n : ℕ). n == 0) (moved f copied) ∙ none
-
     good_now : IsGoodByShape now own
     good_now = record {
       has_shape = is.sound.has_shape;
       read_types = read_now is.edit image.read_types (λ m i. (is.anew m i).1);
-      counting = (none_counted gdr_num_attr ((refl, omega arith), refl, refl, refl) image.counting.0, (none_counted gdr_nr_vars ((refl, omega arith), refl, refl, refl) image.counting.1.0, (none_counted gdr_nz_vars ((refl, omega arith), refl, refl, refl) image.counting.1.1.0, tt)));
+      counting = (rw (moved gdr_num_attr ((refl, omega arith), refl, refl, refl)) image.counting.0, (rw (moved gdr_nr_vars ((refl, omega arith), refl, refl, refl)) image.counting.1.0, (rw (moved gdr_nz_vars ((refl, omega arith), refl, refl, refl)) image.counting.1.1.0, tt)));
       attributes = tt;
       of_variables = tt;
       indexes = tt;
@@ -299,14 +291,7 @@ module _ (b dims : List ℕ) (good : Good b) (empty : is_empty_set (content b) �
           takes_within = rw is.acts_are (elim (either (nat_le need (size_at b (gdr_offset b)))) [ inl e ↦ rw e (omega arith) | inr e ↦ rw e (omega arith) ]);
           acts_follow = is.acts_follow;
           keeps = all_keep b now setup_changes acts (keep_file b now setup_changes acts sound heads tt) (keep_attributes b now setup_changes acts 0 s.attributes (λ m i. absurd (subst (λ (x : Shape). In m (all_attribute_records x)) before_is i))) (λ m i. absurd (subst (λ (x : Shape). In m (all_variable_records x)) before_is i)) is.unused_stay;
-          does = record {
-            acts_are = is.acts_are;
-            flags_are = is.flags_now ∙ bits_are;
-            fields_stay = (moved gdr_r_max_rec ((refl, omega arith), refl, refl, refl), (moved gdr_rfu_c ((refl, omega arith), refl, refl, refl), (moved gdr_leap_second_last_updated ((refl, omega arith), refl, refl, refl), (moved gdr_rfu_e ((refl, omega arith), refl, refl, refl), tt))));
-            room = is.room;
-            freed = is.freed;
-            emptied = is.emptied;
-          };
+          does = assumption (is.flags_now ∙ bits_are, moved gdr_r_max_rec ((refl, omega arith), refl, refl, refl), moved gdr_rfu_c ((refl, omega arith), refl, refl, refl), moved gdr_leap_second_last_updated ((refl, omega arith), refl, refl, refl), moved gdr_rfu_e ((refl, omega arith), refl, refl, refl));
         }
 
   -- ---- the GDR has room for the dimensions, and stays in its place
@@ -406,18 +391,10 @@ module _ (b dims : List ℕ) (good : Good b) (empty : is_empty_set (content b) �
         let l = place_ends in
         let long : length m.copied ≡ length m.taken = ap length m.copy ∙ length-put m.taken (place + 8) piece (let p = piece_long in omega arith) in
         let change = changed_put m.taken place 8 76 piece piece_long (omega arith) in
-        record {
-          takes = is_taken.0;
-          sound = is_taken.1;
-          content_stays = is_taken.2;
-          fill = record { longer = omega arith; same = λ i lt out. ap (λ (x : List ℕ). byte x i) m.copy ∙ change.same i lt (elim out.0 [ inl low ↦ inl low | inr high ↦ inr (omega arith) ], tt) };
-          long = long;
-          typed = copied_field record_type (omega arith) (omega arith) ∙ taken_old.typed;
-          real = refl;
-          in_use = apart gdr_type uir_type refl;
-          fixed = omega arith;
-          enough = omega arith;
-        }
+        let fill : Changed m.taken m.copied (touch place 8 (need - 8) ∷ []) = record { longer = omega arith; same = λ i lt out. ap (λ (x : List ℕ). byte x i) m.copy ∙ change.same i lt (elim out.0 [ inl low ↦ inl low | inr high ↦ inr (omega arith) ], tt) } in
+        let fixed : 84 ≤ need = omega arith in
+        let enough : 28 ≤ need = omega arith in
+        assumption (is_taken, fill, long, copied_field record_type (omega arith) (omega arith) ∙ taken_old.typed, apart gdr_type uir_type refl, fixed, enough)
 
     copied_shape : HasShape m.copied (empty_shape records old list)
     copied_shape = subst (λ (x : Shape). HasShape m.copied (with_space x records list)) before_is (filled_sound sound fills).has_shape
@@ -484,7 +461,7 @@ module _ (b dims : List ℕ) (good : Good b) (empty : is_empty_set (content b) �
 
     -- what a call asks for that frees it
     pub late_sound : IsSound late (shape late)
-    late_sound = rw late_is (empty_sound b late before (place ∷ []) bare made late_shape (heads_fit copied_shape fine new m.heads) (λ k out. no_more old place k (λ q. out (inl q)))
+    late_sound = rw late_is (empty_sound b late before (place ∷ []) bare made late_shape (heads_fit copied_shape fine new m.heads) (λ k out. rw (ne_eqb k place (λ q. out (inl q))) (grind (arith, nat_tests)))
         (λ k i. subst (IsHeld late (empty_shape records place list)) (sym (the_one place k i)) (inl ((λ u. apart gdr_type uir_type refl (sym (gdr_typed late _ late_shape) ∙ u)), omega (arith, gdr_once place place_not_8)))))
 
     pub old_stands : (g : ℕ) → g ≡ gdr_offset b → In g (shape late).records
@@ -538,7 +515,7 @@ module _ (b dims : List ℕ) (good : Good b) (empty : is_empty_set (content b) �
             ∙ still_says (takes_edit sound (omega arith) is_taken.0) gdr_before refl f' (rw (copied.1, copied.2) refl) copied.0.1;
         end = place_now gdr_eof refl (omega arith) ∙ gdr_still copied_shape fine new m.heads gdr_eof (refl, omega arith) ∙ copied_field gdr_eof (omega arith) (omega arith) ∙ ap (eof m.taken) (sym at) ∙ is_taken.0.eof_is ∙ sym (as_long_now f ∙ as_long ∙ fills.long);
         longest = let l = shorter sound fills later as_long lately in let a = as_long_now f in omega arith;
-        as_owned = λ k out. as_many old place k (λ q. out (inr (inl q))) (λ q. out (inl q));
+        as_owned = λ k out. rw (ne_eqb k old (λ q. out (inr (inl q))), ne_eqb k place (λ q. out (inl q))) refl;
         anew = λ k i. elim i [
           | inl q ↦ subst (λ (x : ℕ). IsSorted now own_now x × (is_in (type_at now x) read_types ≡ true)) (sym q) (inl ((λ u. apart gdr_type uir_type refl (sym (gdr_typed now own_now h) ∙ u)), gdr_once place place_not_8), ap (λ (t : ℕ). is_in t read_types) (gdr_typed now own_now h))
           | inr last ↦ subst (λ (x : ℕ). IsSorted now own_now x × (is_in (type_at now x) read_types ≡ true)) (sym (the_one old k last)) (inr (freed_type f, others_none place old old_not_8 place_not_old), ap (λ (t : ℕ). is_in t read_types) (freed_type f))
