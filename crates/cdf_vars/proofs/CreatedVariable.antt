@@ -76,9 +76,8 @@ module _ (b : List ℕ) (kind : Kind) (v : NewVariable) (limit : ℕ) (image : G
 
   pub few_counted : counted_in b (variables_chain kind) + 1 < 2 ^ 32
   few_counted =
-      let l = few_variables b s h kind in
       let count : counted_in b (variables_chain kind) ≡ num = counted_members b image kind ∙ ap (λ (ms : List ℕ). length ms) (variable_members b s h kind) in
-      omega (arith, l, count, roomy, limited)
+      omega (arith, few_variables b s h kind, count, roomy, limited)
 
   -- the bytes that are written
   module _ {bytes : List ℕ} (n : ℕ) (are : bytes ≡ vdr_body kind v n) where

@@ -44,15 +44,8 @@ shaped t elems dims varys e =
     let p = none_of (elems == 0) (not (elems == 1) && not (is_characters (notation_of t))) (are_bad_sizes dims) (length varys == length dims) (nat_lt record_limit (record_size t elems dims varys)) e in
     let sizes = fine_sizes dims p.2 in
     let fits = ltb-false record_limit (record_size t elems dims varys) p.4 in
-    record {
-      some = not_zero elems p.0;
-      single = either_one (elems == 1) (is_characters (notation_of t)) p.1;
-      few = sizes.0;
-      sizes = sizes.1;
-      one_each = eqb-true (length varys) (length dims) p.3;
-      fits = fits;
-      elems_fit = let few = elems_few (size_of t) elems (value_count dims varys) record_limit (size_some t) (count_some dims varys sizes.1) fits in omega arith;
-    }
+    let few : elems ≤ signed_limit = (let l = elems_few (size_of t) elems (value_count dims varys) record_limit (size_some t) (count_some dims varys sizes.1) fits in omega arith) in
+    assumption (not_zero elems p.0, either_one (elems == 1) (is_characters (notation_of t)) p.1, sizes, eqb-true (length varys) (length dims) p.3, fits, few)
 
 -- what the fields of a new VDR say
 pub record IsNewVdr (b : List ℕ) (place : ℕ) (kind : Kind) (v : NewVariable) (num : ℕ) : Type 0 where
@@ -79,8 +72,7 @@ codes_small (true ∷ varys) = (lit< tt, codes_small varys)
 codes_small (false ∷ varys) = (lit< tt, codes_small varys)
 
 flag_small : (vary : Bool) → (if vary then 1 else 0) < 256 ^ 4
-flag_small true = lit< tt
-flag_small false = lit< tt
+flag_small vary = grind arith
 
 -- it is put together of these parts
 pub body_parts : (kind : Kind) (v : NewVariable) (num : ℕ)
@@ -153,8 +145,7 @@ varys_back (true ∷ varys) = ap (λ (r : List Bool). true ∷ r) (varys_back va
 varys_back (false ∷ varys) = ap (λ (r : List Bool). false ∷ r) (varys_back varys)
 
 flag_says : (vary : Bool) → (has_bit (if vary then 1 else 0) 0 ≡ vary) × (has_bit (if vary then 1 else 0) 1 ≡ false) × (has_bit (if vary then 1 else 0) 2 ≡ false)
-flag_says true = (refl, refl, refl)
-flag_says false = (refl, refl, refl)
+flag_says vary = grind arith
 
 -- ---- dimensions, by the kind
 
