@@ -117,12 +117,8 @@ module _ (kind : Kind) (v : NewVariable) (num : ℕ) (short : length v.name ≤ 
       let name : drop (place + 84) now ≡ padded ++ (flat_map (big_bytes 4) ds ++ (vs ++ more)) = w.1 ∙ simp (append_assoc, flat_map-append) in
       let past_name : place + 340 ≡ place + 84 + 256 = omega arith in
       let first = words_laid_out now (place + 340) ds (vs ++ more) (rw (past_name, ← drop-drop, name) (drop_at padded _ 256 length-padded)) (own_small kind v.dims is.few is.sizes) in
-      record {
-        says = w.0;
-        filled = rw name (take_at padded _ 256 length-padded);
-        dims_are = first.0;
-        varys_are = rw (← length-map v.varys vary_code) (words_laid_out now (place + 340 + 4 * length ds) (map vary_code v.varys) more first.1 (codes_small v.varys)).0;
-      }
+      let filled : IsFilled now place vdr_name v.name = rw name (take_at padded _ 256 length-padded) in
+      assumption (w.0, filled, first.0, ap (words now (place + 340 + 4 * length ds)) (sym (length-map v.varys vary_code)) ∙ (words_laid_out now (place + 340 + 4 * length ds) (map vary_code v.varys) more first.1 (codes_small v.varys)).0)
 
 -- a variable without records
 abbrev pub bare_variable : ℕ → VariableShape

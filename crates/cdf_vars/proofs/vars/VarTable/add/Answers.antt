@@ -19,7 +19,4 @@ returns-in-Ok-clause-known g c =
 pub returns-in-Err-clause-stays : goal.returns-in-Err-clause-stays
 returns-in-Err-clause-stays g c =
     let before = kind_view c.self.view_is c.requires.known in
-    record {
-      names_are = c.remove.ensures ∙ ap (λ (xs : List (List ℕ)). remove xs c.len-last.result) c.in_ok-add.ensures.added ∙ last_removed c.self.inside.names c.new.result c.len-last.result c.len-last.ensures.count ∙ before.names_are;
-      places_are = c.in-Err.ensures.stays ∙ before.places_are;
-    }
+    assumption (c.remove.ensures ∙ ap (λ (xs : List (List ℕ)). remove xs c.len-last.result) c.in_ok-add.ensures.added ∙ last_removed c.self.inside.names c.new.result c.len-last.result c.len-last.ensures.count ∙ before.names_are, c.in-Err.ensures.stays ∙ before.places_are)
