@@ -4,10 +4,10 @@ use Rattle.cdf_vars.proofs.Common.{Same, if◌then◌else◌, map-append, All, f
 use Rattle.cdf_format.specs.Index.{leaves_of, nodes_of}
 use Rattle.cdf_edits.proofs.Common.{Keeps, count_of, members_of, only_of, read_types, same_kind, times-none, variable_records}
 use Rattle.cdf_edits.specs.Space.Adding.{Added}
-use Rattle.cdf_edits.proofs.Edits.JoinedVdr.{JoinsVdr, behind_link, edit, ends, file, fills, gdr_is, joined_acts, joined_size, joined_splices, joined_type, linked, lives, marks, member_in, t}
+use Rattle.cdf_edits.proofs.Edits.JoinedVdr.{JoinsVdr, is_vdr_body, behind_link, edit, ends, file, fills, gdr_is, joined_acts, joined_size, joined_splices, joined_type, linked, lives, marks, member_in, t}
 use Rattle.cdf_edits.proofs.Edits.VariablesLinked.{keep_numbered, keep_with_kind, next_keeps}
 use Rattle.cdf_vars.proofs.VariableChains.{counted_members, variable_members, few_variables}
-use Rattle.cdf_vars.proofs.NewVdr.{IsNewVdr, IsShaped, Shares, bare_variable, end_is, has, length-body, means, name_is, ruled, shaped, type_in_body, varys_written, vdr_is_body, vdr_written}
+use Rattle.cdf_vars.proofs.NewVdr.{IsNewVdr, IsShaped, Shares, bare_variable, end_is, has, length-body, means, name_is, ruled, shaped, type_in_body, varys_written, vdr_written}
 use Rattle.cdf_vars.proofs.VariableFound.{kind_with, others_with}
 use Rattle.cdf_vars.proofs.OwnShapes.{own_now}
 use Rattle.cdf_vars.proofs.VariableNames.{absent_from}
@@ -81,11 +81,11 @@ module _ (b : List ℕ) (kind : Kind) (v : NewVariable) (limit : ℕ) (image : G
 
   -- the bytes that are written
   module _ {bytes : List ℕ} (n : ℕ) (are : bytes ≡ vdr_body kind v n) where
-    pub is_body : IsBody bytes
-    is_body = subst IsBody (sym are) (vdr_is_body kind v n short is)
-
     pub is_typed : type_of_body bytes ≡ type_in (variables_chain kind)
     is_typed = ap type_of_body are ∙ type_in_body kind v n ∙ sym (kind_type kind)
+
+    pub is_body : IsBody bytes
+    is_body = is_vdr_body kind bytes (length v.dims) is_typed (omega (arith, length-body kind v n short is, ap (λ (x : List ℕ). length x) are))
 
     pub has_room : length b + (8 + length bytes) ≤ limit
     has_room = let size = length-body kind v n short is in let same = ap (λ (x : List ℕ). length x) are in omega (arith, size, same, roomy)
@@ -194,16 +194,15 @@ module _ (b : List ℕ) (kind : Kind) (v : NewVariable) (limit : ℕ) (image : G
       pub follows : is_among v.name (variable_names (content b)) ≡ false → Follows b (making kind v) now
       follows free =
           let longest : length now ≤ length b + need = (let l = added.placed.longest in omega (arith, l, long, added.as_long)) in
-          let size = (is_making b kind v dims).room_is in
           record {
             reply = Plain;
             goes = (is_making b kind v dims).step_is ∙ rw (well_named, free, fine) (ap (λ (d : DataSet). ByStep (Go d Plain)) (sym content_is_made));
             good = good_image_if sound splices (sealed_kept b (good_long b s good) (rules_of_good b image)).0 good (own_rules free) (ends sound w) (omega arith);
             longer = (edit sound w).longer;
-            within = subst (λ (n : ℕ). length now ≤ length b + n) (sym size) longest;
+            within = subst (λ (n : ℕ). length now ≤ length b + n) (sym (is_making b kind v dims).room_is) longest;
             reads = λ q. absurd (true≢false (sym q ∙ (is_making b kind v dims).makes));
             acts = acts;
-            takes_within = subst (λ (n : ℕ). 0 + (8 + length body) ≤ n) (sym size) (let l = long in omega arith);
+            takes_within = subst (λ (n : ℕ). 0 + (8 + length body) ≤ n) (sym (is_making b kind v dims).room_is) (let l = long in omega arith);
             acts_follow = joined_acts sound w _ now_is;
             keeps = subst (λ (a : Allowances). AllKeep b now a acts (owned b s)) (sym (is_making b kind v dims).may_is) keeps;
             does = (is_making b kind v dims).does now acts (record {

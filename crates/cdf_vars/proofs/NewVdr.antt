@@ -7,7 +7,6 @@ use Rattle.std.proofs.lemmas.List.Concat.{flat_map-append}
 use Rattle.std.proofs.Math.Nat.{le-mul_of_pos_right}
 use Rattle.cdf_edits.proofs.Edits.Common.{IsRuled, code_small, kind_type, laid_kept, placed_laid, says_laid_out, type_back}
 use Rattle.cdf_vars.proofs.Sizes.{IsSize, fine_sizes, not_zero, positive_sizes, signed_small, sizes_small}
-use Rattle.cdf_edits.proofs.Edits.JoinedVdr.{is_vdr_body}
 use Rattle.cdf_var_records.proofs.VdrParts.{pad_place, words_long}
 use Rattle.cdf_fields.proofs.NamesWritten.{before_zeros}
 use Rattle.cdf_format.specs.IndexOf.{HasNodes}
@@ -97,9 +96,6 @@ module _ (kind : Kind) (v : NewVariable) (num : ℕ) (short : length v.name ≤ 
   length-body =
       let size = tail_size kind v.dims (length v.varys) is.one_each in
       omega (arith, length-padded, length-words (tail kind v), length-append (own_dims kind v.dims) (map vary_code v.varys), length-map v.varys vary_code, length-append padded (flat_map (big_bytes 4) (tail kind v)))
-
-  pub vdr_is_body : IsBody (vdr_body kind v num)
-  vdr_is_body = is_vdr_body kind (vdr_body kind v num) (length v.dims) (type_in_body kind v num ∙ sym (kind_type kind)) (omega (arith, length-body))
 
   -- in an image in which it was placed, and after steps that leave what follows its link
   pub vdr_written : {b filled now : List ℕ} {place : ℕ} → Placed b filled (vdr_body kind v num) place → num < 2 ^ 32 → Same filled now (place + 20) (place + vdr_bytes kind (length v.dims)) → place + vdr_bytes kind (length v.dims) ≤ length filled → length filled ≤ length now → IsNewVdr now place kind v num
@@ -228,9 +224,6 @@ module _ {b : List ℕ} {place : ℕ} {kind : Kind} {v : NewVariable} {num : ℕ
     unfolding HasNodes nodes_of
     has = record { indexed = record { link_is = new.says.1.1.0; has_nodes = tt; once = tt }; packed_by = rw unpacked refl }
 
-    ends : vdr_end b place ≤ size_at b place
-    ends = let e = end_is in omega (arith, e, sized)
-
     pub ruled : All (λ (byte : ℕ). byte ≢ 0) v.name → (length v.name == 0) ≡ false → IsRuled b records (bare_variable place)
     unfolding nodes_rows leaves_of
     ruled no_zero some =
@@ -242,4 +235,4 @@ module _ {b : List ℕ} {place : ℕ} {kind : Kind} {v : NewVariable} {num : ℕ
         let max = ap is_max_rec new.says.1.0 in
         let rule = new.says.1.1.1.1.1.0 in
         let link = ap is_no_link new.says.1.1.1.1.1.1.1.1.1.1.1.0 in
-        ((named, (refl, (known, (counted, (own.rule (sym sized), (le-leb _ _ ends, (small, (max, (ap (λ (n : ℕ). nat_le n 2) rule, (rw unpacked link, (rw unpacked refl, rw unpacked (ap (λ (n : ℕ). n == 0) rule, tt)))))))))))), tt)
+        ((named, (refl, (known, (counted, (own.rule (sym sized), (le-leb (vdr_end b place) (size_at b place) (let e = end_is in omega (arith, e, sized)), (small, (max, (ap (λ (n : ℕ). nat_le n 2) rule, (rw unpacked link, (rw unpacked refl, rw unpacked (ap (λ (n : ℕ). n == 0) rule, tt)))))))))))), tt)

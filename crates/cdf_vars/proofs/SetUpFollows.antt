@@ -39,8 +39,7 @@ heads_marks gdr n =
     ∷ []
 
 pub or_true : (p : Bool) → (p || true) ≡ true
-or_true true = refl
-or_true false = refl
+or_true p = grind arith
 
 -- bytes of the fixed part of a GDR, but for rNumDims
 abbrev pub IsBeside : ℕ → ℕ → Type 0
@@ -66,9 +65,6 @@ module _ {x y records list : List ℕ} {old g code bits : ℕ} {dims : List ℕ}
   abbrev n : ℕ
   n = length dims
 
-  abbrev bytes : List ℕ
-  bytes = of_4_bytes dims
-
   abbrev one : List ℕ
   one = with_field x g gdr_r_num_dims n
 
@@ -82,10 +78,10 @@ module _ {x y records list : List ℕ} {old g code bits : ℕ} {dims : List ℕ}
   lies = let l = w1.long in let r = w.lies in omega arith
 
   long_2 : length w.mid ≡ length one
-  long_2 = ap length w.dims_are ∙ length-put one (g + 84) bytes (let l = lies in let b = length-words dims in omega arith)
+  long_2 = ap length w.dims_are ∙ length-put one (g + 84) (of_4_bytes dims) (let l = lies in let b = length-words dims in omega arith)
 
   e2 : Edit one w.mid records records (field_marks gdr_type g (gdr_r_dim_sizes n)) []
-  e2 = touched_edit (field_in w1.edit.tiled_now w1.stands (omega arith) (omega arith)) (subst (λ (m : List ℕ). Changed one m (touched_field g (gdr_r_dim_sizes n) ∷ [])) (sym w.dims_are) (changed_put one g 84 (4 * n) bytes (length-words dims) lies)) long_2
+  e2 = touched_edit (field_in w1.edit.tiled_now w1.stands (omega arith) (omega arith)) (subst (λ (m : List ℕ). Changed one m (touched_field g (gdr_r_dim_sizes n) ∷ [])) (sym w.dims_are) (changed_put one g 84 (4 * n) (of_4_bytes dims) (length-words dims) lies)) long_2
 
   dims_edit : Edit x w.mid records records (field_marks gdr_type g gdr_r_num_dims ++ field_marks gdr_type g (gdr_r_dim_sizes n)) []
   dims_edit = edit_then w1.edit e2
@@ -125,10 +121,10 @@ module _ {x y records list : List ℕ} {old g code bits : ℕ} {dims : List ℕ}
   sizes_are : r_sizes y g ≡ dims
   sizes_are =
       let kept = part_clear cdr_edit g gdr_type 84 (84 + 4 * n) gdr_2.inside gdr_2.typed refl refl gdr_2.long in
-      let there = ap (drop (g + 84)) w.dims_are ∙ drop-put_there one bytes (g + 84) (let l = lies in omega arith) in
+      let there = ap (drop (g + 84)) w.dims_are ∙ drop-put_there one (of_4_bytes dims) (g + 84) (let l = lies in omega arith) in
       ap (words y (g + 84)) dims_counted
       ∙ words_kept w.mid y (g + 84) (g + (84 + 4 * n)) kept (g + 84) n (omega arith) (omega arith)
-      ∙ (words_laid_out w.mid (g + 84) dims (drop (g + 84 + length bytes) one) there (sizes_small dims (fine_sizes dims fine).1)).0
+      ∙ (words_laid_out w.mid (g + 84) dims (drop (g + 84 + length (of_4_bytes dims)) one) there (sizes_small dims (fine_sizes dims fine).1)).0
 
   -- another field of the GDR
   pub gdr_still : (f : Field) → IsBeside f.place (f.place + f.width) → number y g f ≡ number x g f
@@ -338,12 +334,12 @@ module _ (b dims : List ℕ) (good : Good b) (empty : is_empty_set (content b) �
       unused_stay =
           keep_unused sound e (ap (λ (x : Shape). x.records) same_shape) setup_changes [] (λ m i free. (avoided-avoids in_place uir_type m 0 12 refl, within-within in_place uir_type m (uir_next_uir ∷ uir_prev_uir ∷ []) refl)) (λ m i out. unmarked-away in_place uir_type m refl);
       acts_are = rw (le-leb need (size_at b (gdr_offset b)) fits) refl;
-      room = λ le. record {
-        place_stays = shape_now.gdr_is;
-        size_stays = heads_sizes bare.has_shape fine gdr here old gdr_before.inside;
-        rest_stays = e.part old gdr_type need (size_at b old) gdr_before.inside gdr_before.typed (avoided-avoids in_place gdr_type old 0 12 (heads_avoided old (length dims) 0 12 (refl, omega arith)))
-            (let other = λ (q : gdr_type ≡ cdr_type). apart gdr_type cdr_type refl q in ((λ q lies. inr (omega arith)), ((λ q lies. inr (omega arith)), ((λ q lies. absurd (other q)), ((λ q lies. absurd (other q)), ((λ q lies. absurd (other q)), tt)))))) (omega arith);
-      };
+      room = λ le. assumption (
+        shape_now.gdr_is,
+        heads_sizes bare.has_shape fine gdr here old gdr_before.inside,
+        e.part old gdr_type need (size_at b old) gdr_before.inside gdr_before.typed (avoided-avoids in_place gdr_type old 0 12 (heads_avoided old (length dims) 0 12 (refl, omega arith)))
+            (let other = λ (q : gdr_type ≡ cdr_type). apart gdr_type cdr_type refl q in ((λ q lies. inr (omega arith)), ((λ q lies. inr (omega arith)), ((λ q lies. absurd (other q)), ((λ q lies. absurd (other q)), ((λ q lies. absurd (other q)), tt)))))) (omega arith),
+      );
       freed = tt;
       emptied = λ moves. absurd (moves shape_now.gdr_is);
     }
