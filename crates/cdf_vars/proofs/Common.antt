@@ -20,7 +20,7 @@ pub use Rattle.cdf_edits.proofs.Commands.Answered.{gone, refused, too_large}
 pub use Rattle.cdf_edits.proofs.Commands.FineNames.{fine_has_no_zeros, fine_is_short, fine_is_some}
 pub use Rattle.cdf_edits.proofs.Commands.KeptRecords.{keep_attributes}
 pub use Rattle.cdf_edits.proofs.Commands.ListParts.{cut, got-middle, got_in, last_got, last_removed}
-pub use Rattle.cdf_edits.proofs.Common.{AreTiles, Byte, either, Holds, IsGiven, Pad, Previous, Unused, content_of, dimension_limit, eof, flags, has_dimensions, is_a-from, is_characters, is_compressed, is_no_link, leb-true, lt-leb, majority_of, no_node, notation_of, owned_by, read_types, sealed_keeps, type_of, unused, unused_records, unwrap_or, with_space}
+pub use Rattle.cdf_edits.proofs.Common.{AreTiles, Byte, Holds, IsGiven, Keeps, Pad, Previous, Unused, content_of, count_of, dimension_limit, either, eof, flags, has_dimensions, is_a-from, is_characters, is_compressed, is_no_link, leb-true, lt-leb, majority_of, no_node, notation_of, only_of, owned_by, read_types, same_kind, sealed_keeps, times-none, type_of, unused, unused_records, unwrap_or, variable_records, with_space}
 pub use Rattle.cdf_edits.proofs.Edits.Common.{Avoids-append, FirstSays, IsHeld, IsSorted, OwnRules, VariableLives, VariableSplices, Within-append, acts_none, all_attribute_records, all_keep, all_variable_records, apart_if, attributes_kept, avoided-avoids, chain_clear, changed_edit, changed_put, content_now, edit_then, first_hold, first_said, gdr_place, good_image_if, keep_unused, keeps_within, made_keeps_unused, none_in_use, nums_from, owned_once_if, part_clear, places-sized, placing_marks, read_now, same_as_itself, same_link, shape_now, sizes_by_tiles, some_bytes, takes_edit, unowned, used_times, within-within}
 pub use Rattle.cdf_edits.proofs.Edits.EditActs.{acts_took}
 pub use Rattle.cdf_edits.proofs.Edits.MadeRecord.{end_now, filled_content, filled_edit, filled_size, filled_sound, list_chain, listed_before, listed_marks, loose_away, made_edit, made_once, place_in, second, shorter, unlike}

@@ -1,8 +1,7 @@
 -- A new variable: the making of its VDR leads from a good image to the one that follows, what is known of the variables then, and what the command is answered.
 use Rattle.std.proofs.Common.{◌≡◌, ◌≢◌, ℕ, ◌+◌, ◌^◌, ◌<◌, ◌≤◌, List, [], ◌∷◌, ◌++◌, length, map, true, false, bytes_eq, eq-eqb, Some, refl, sym, ap, subst, true≢false, ◌∙◌, append-nil, arith, inl}
-use Rattle.cdf_vars.proofs.Common.{Same, if◌then◌else◌, map-append, All, flat_map, slice_get, Go, DataSet, Variable, Plain, Kind, R, Z, image_limit, is_bad_name, is_among, variable_names, variables_of, with_variables, ByStep, step, is_bad_shape, new_variable, next_field, is_in, content, variable_of, number, name_in, r_sizes, size_at, type_at, owned, times, vdr_name, Hold, VariableShape, Shape, vdrs, HasShape, shape, IsSound, In, Good, IsGoodByShape, vdrs_append, good_by_its_shape, good_is_sound, rules_of_good, good_long, sealed_kept, content_is, shape_is, AllKeep, Allowances, Only, shapes_of, vdr_type, Chain, Does, allowances, room, vdr_bytes, Follows, only_reads, Act, Took, type_in, counted_in, IsBody, type_of_body, variables_chain, fine_is_some, fine_has_no_zeros, fine_is_short, got-middle, the_one, other_kind, made_once, variables_of_are, counted_before, with_shapes, kind_type, beside_in, NewVariable, making, OthersStay, KnowsKind, Answers, gone, too_large, Done, Refused, TooLarge, var_step, MakesVariable, variable_changes, OwnRules, VariableLives, VariableSplices, apart_if, attributes_kept, content_now, gdr_place, good_image_if, made_keeps_unused, nums_from, owned_once_if, same_as_itself, shape_now, used_times, kind_ours, numbers_kept, of_kind, spliced_times, vdrs_rows, vdrs_rows-push, HasDims, vdr_body}
+use Rattle.cdf_vars.proofs.Common.{Same, if◌then◌else◌, map-append, All, flat_map, slice_get, Go, DataSet, Variable, Plain, Kind, R, Z, image_limit, is_bad_name, is_among, variable_names, variables_of, with_variables, ByStep, step, is_bad_shape, new_variable, next_field, is_in, content, variable_of, number, name_in, r_sizes, size_at, type_at, owned, times, vdr_name, Hold, VariableShape, Shape, vdrs, HasShape, shape, IsSound, In, Good, IsGoodByShape, vdrs_append, good_by_its_shape, good_is_sound, rules_of_good, good_long, sealed_kept, content_is, shape_is, AllKeep, Allowances, Only, shapes_of, vdr_type, Chain, Does, allowances, room, vdr_bytes, Follows, only_reads, Act, Took, type_in, counted_in, IsBody, type_of_body, variables_chain, fine_is_some, fine_has_no_zeros, fine_is_short, got-middle, the_one, other_kind, made_once, variables_of_are, counted_before, with_shapes, kind_type, beside_in, NewVariable, making, OthersStay, KnowsKind, Answers, gone, too_large, Done, Refused, TooLarge, var_step, MakesVariable, variable_changes, OwnRules, VariableLives, VariableSplices, apart_if, attributes_kept, content_now, gdr_place, good_image_if, made_keeps_unused, nums_from, owned_once_if, same_as_itself, shape_now, used_times, kind_ours, numbers_kept, of_kind, spliced_times, vdrs_rows, vdrs_rows-push, HasDims, vdr_body, Keeps, count_of, members_of, only_of, read_types, same_kind, times-none, variable_records}
 use Rattle.cdf_format.specs.Index.{leaves_of, nodes_of}
-use Rattle.cdf_edits.proofs.Common.{Keeps, count_of, members_of, only_of, read_types, same_kind, times-none, variable_records}
 use Rattle.cdf_edits.specs.Space.Adding.{Added}
 use Rattle.cdf_edits.proofs.Edits.JoinedVdr.{JoinsVdr, is_vdr_body, behind_link, edit, ends, file, fills, gdr_is, joined_acts, joined_size, joined_splices, joined_type, linked, lives, marks, member_in, t}
 use Rattle.cdf_edits.proofs.Edits.VariablesLinked.{keep_numbered, keep_with_kind, next_keeps}
@@ -49,9 +48,6 @@ module _ (b : List ℕ) (kind : Kind) (v : NewVariable) (limit : ℕ) (image : G
 
   abbrev num : ℕ
   num = length (vdrs own)
-
-  abbrev need : ℕ
-  need = vdr_bytes kind (length v.dims)
 
   good : IsGoodByShape b s
   good = good_by_its_shape b image
@@ -108,13 +104,13 @@ module _ (b : List ℕ) (kind : Kind) (v : NewVariable) (limit : ℕ) (image : G
       abbrev w : JoinsVdr b now kind body place (members_of b (variables_chain kind) ++ place ∷ []) (counted_in b (variables_chain kind) + 1)
       w = record { joined = added; type_is = type_in_body kind v num ∙ sym (kind_type kind) }
 
-      long : 8 + length body ≡ need
+      long : 8 + length body ≡ vdr_bytes kind (length v.dims)
       long = length-body kind v num short is
 
       new_type : type_at now place ≡ vdr_type kind
       new_type = joined_type sound w ∙ kind_type kind
 
-      new_size : size_at now place ≡ need
+      new_size : size_at now place ≡ vdr_bytes kind (length v.dims)
       new_size = joined_size sound w ∙ long
 
       new : IsNewVdr now place kind v num
@@ -193,7 +189,7 @@ module _ (b : List ℕ) (kind : Kind) (v : NewVariable) (limit : ℕ) (image : G
 
       pub follows : is_among v.name (variable_names (content b)) ≡ false → Follows b (making kind v) now
       follows free =
-          let longest : length now ≤ length b + need = (let l = added.placed.longest in omega (arith, l, long, added.as_long)) in
+          let longest : length now ≤ length b + vdr_bytes kind (length v.dims) = (let l = added.placed.longest in omega (arith, l, long, added.as_long)) in
           record {
             reply = Plain;
             goes = (is_making b kind v dims).step_is ∙ rw (well_named, free, fine) (ap (λ (d : DataSet). ByStep (Go d Plain)) (sym content_is_made));
