@@ -38,9 +38,6 @@ taken_lies {taken = taken} {place = place} takes sound =
 unsigned_is : (b : List ℕ) (start m place : ℕ) → AreBytes b start m → start ≤ place → place + 4 ≤ start + m → cast_unsigned w32 (signed4 b place) ≡ word b place 4
 unsigned_is b start m place bytes le fits = of_z-to_z w32 (word b place 4) (word_fits b start m place 4 bytes le fits)
 
-abbrev is_empty_head : Head → Bool
-is_empty_head h = ((h.attrs == 0) && (h.rvars == 0)) && (h.zvars == 0)
-
 -- what is read of the CDR and the GDR
 module _ {b now : List ℕ} {cdr : Cdr} {gdr : Gdr} (good : Good b) (same : now ≡ b) (first : cdr ≡ cdr_at b 8) (second : gdr ≡ gdr_at now cdr.gdr_offset) where
   offset : cdr.gdr_offset ≡ gdr_offset b
@@ -58,4 +55,4 @@ module _ {b now : List ℕ} {cdr : Cdr} {gdr : Gdr} (good : Good b) (same : now 
       let attributes = ap (λ (g : Gdr). cast_unsigned w32 g.num_attr) gdr_is ∙ unsigned_is b (gdr_offset b) 84 (gdr_offset b + 48) there (omega arith) (omega arith) in
       let r_variables = ap (λ (g : Gdr). cast_unsigned w32 g.nr_vars) gdr_is ∙ unsigned_is b (gdr_offset b) 84 (gdr_offset b + 44) there (omega arith) (omega arith) in
       let z_variables = ap (λ (g : Gdr). cast_unsigned w32 g.nz_vars) gdr_is ∙ unsigned_is b (gdr_offset b) 84 (gdr_offset b + 60) there (omega arith) (omega arith) in
-      (λ i. ((attributes i == 0) && (r_variables i == 0)) && (z_variables i == 0)) ∙ ap is_empty_head (sym (head_of_good b (shape b) (good_by_its_shape b good)))
+      (λ i. ((attributes i == 0) && (r_variables i == 0)) && (z_variables i == 0)) ∙ ap (λ (h : Head). ((h.attrs == 0) && (h.rvars == 0)) && (h.zvars == 0)) (sym (head_of_good b (shape b) (good_by_its_shape b good)))

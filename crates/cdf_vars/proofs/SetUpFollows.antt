@@ -359,9 +359,6 @@ module _ (b dims : List ℕ) (good : Good b) (empty : is_empty_set (content b) �
     is_taken : IsTaken b m.taken s (with_space s records list) need place
     is_taken = subst (λ (x : Shape). IsTaken b m.taken s x need place) m.is_taken.0.space.rest_stays m.is_taken
 
-    place_ends : place + need ≤ length m.taken
-    place_ends = taken_lies m.is_taken.0 m.is_taken.1
-
     taken_old : Stands m.taken records old gdr_type 84
     taken_old = still_stands (takes_edit sound (omega arith) is_taken.0) gdr_before refl (omega arith)
 
@@ -375,7 +372,7 @@ module _ (b dims : List ℕ) (good : Good b) (empty : is_empty_set (content b) �
 
     copied_field : (f : Field) → 8 ≤ f.place → f.place + f.width ≤ 84 → number m.copied place f ≡ number m.taken old f
     copied_field f low high =
-        let l = place_ends in
+        let l = taken_lies m.is_taken.0 m.is_taken.1 in
         let p = piece_long in
         let from : place + f.place ≡ place + 8 + (f.place - 8) = omega arith in
         let to : old + 8 + (f.place - 8) ≡ old + f.place = omega arith in
@@ -387,7 +384,7 @@ module _ (b dims : List ℕ) (good : Good b) (empty : is_empty_set (content b) �
 
     fills : Fills b m.taken m.copied s records list need place gdr_type
     fills =
-        let l = place_ends in
+        let l = taken_lies m.is_taken.0 m.is_taken.1 in
         let long : length m.copied ≡ length m.taken = ap length m.copy ∙ length-put m.taken (place + 8) piece (let p = piece_long in omega arith) in
         let change = changed_put m.taken place 8 76 piece piece_long (omega arith) in
         let fill : Changed m.taken m.copied (touch place 8 (need - 8) ∷ []) = record { longer = omega arith; same = λ i lt out. ap (λ (x : List ℕ). byte x i) m.copy ∙ change.same i lt (elim out.0 [ inl low ↦ inl low | inr high ↦ inr (omega arith) ], tt) } in

@@ -18,9 +18,7 @@ returns-then-heads-clause-answers g c =
 pub returns-then-limit-size-clause-answers : goal.returns-then-limit-size-clause-answers
 returns-then-limit-size-clause-answers g c =
     let goes = step_goes (content (g.A.Area.image c.args.area.now)) c.args.encoding c.args.majority c.args.dims.now (sym c.is_encoding.ensures ∙ c.if-not-is_encoding.false) (ap are_bad_sizes (sym c.as_slice-sizes.ensures) ∙ sym c.are_bad_sizes.ensures ∙ c.if-are_bad_sizes.false) (c.in_ok-heads.ensures.in_use ∙ ap not c.if-heads.false) in
-    let limit_is = c.limit.ensures ∙ ap (λ (f : Frame _). f.limit) c.in_ok-heads.ensures.area.frame in
-    let size_is = c.size.ensures ∙ ap length c.in_ok-heads.ensures.area.image in
-    rw c.in_ok-heads.ensures.area.image (too_large _ _ (Setup c.args.encoding c.args.majority c.args.dims.now) _ Plain goes (omega (arith, c.if-limit-size.true, limit_is, size_is, ap length c.as_slice-sizes.ensures)))
+    rw c.in_ok-heads.ensures.area.image (too_large _ _ (Setup c.args.encoding c.args.majority c.args.dims.now) _ Plain goes (omega (arith, c.if-limit-size.true, c.limit.ensures ∙ ap (λ (f : Frame _). f.limit) c.in_ok-heads.ensures.area.frame, c.size.ensures ∙ ap length c.in_ok-heads.ensures.area.image, ap length c.as_slice-sizes.ensures)))
 
 pub carry_out-requires-clause-good : goal.carry_out-requires-clause-good
 carry_out-requires-clause-good g c = rw c.in_ok-heads.ensures.area.image c.requires.good
@@ -28,7 +26,5 @@ carry_out-requires-clause-good g c = rw c.in_ok-heads.ensures.area.image c.requi
 pub returns-clause-answers : goal.returns-clause-answers
 returns-clause-answers g c =
     let goes = step_goes (content (g.A.Area.image c.args.area.now)) c.args.encoding c.args.majority c.args.dims.now (sym c.is_encoding.ensures ∙ c.if-not-is_encoding.false) (ap are_bad_sizes (sym c.as_slice-sizes.ensures) ∙ sym c.are_bad_sizes.ensures ∙ c.if-are_bad_sizes.false) (c.in_ok-heads.ensures.in_use ∙ ap not c.if-heads.false) in
-    let limit_is = c.limit.ensures ∙ ap (λ (f : Frame _). f.limit) c.in_ok-heads.ensures.area.frame in
-    let size_is = c.size.ensures ∙ ap length c.in_ok-heads.ensures.area.image in
-    gone _ _ (Setup c.args.encoding c.args.majority c.args.dims.now) _ Plain _ goes (omega (arith, c.if-limit-size.false, limit_is, size_is, ap length c.as_slice-sizes.ensures))
+    gone _ _ (Setup c.args.encoding c.args.majority c.args.dims.now) _ Plain _ goes (omega (arith, c.if-limit-size.false, c.limit.ensures ∙ ap (λ (f : Frame _). f.limit) c.in_ok-heads.ensures.area.frame, c.size.ensures ∙ ap length c.in_ok-heads.ensures.area.image, ap length c.as_slice-sizes.ensures))
     (rw (c.in_ok-heads.ensures.area.image, c.as_slice-sizes.ensures) at c.in_ok-carry_out.ensures.follows)

@@ -10,9 +10,8 @@ set-requires g c =
 
 pub returns-clause-written : goal.returns-clause-written
 returns-clause-written g c =
-    let few = (fine_sizes c.args.dims.now c.requires.fine).0 in
     let bytes = c.deref.ensures.value ∙ c.in_ok-push_sizes.ensures ∙ ap (λ (x : List ℕ). x ++ of_4_bytes c.args.dims.now) c.new-bytes.ensures.items in
-    let count = of_z-to_z w32 (length c.args.dims.now) (omega (arith, few)) in
+    let count = of_z-to_z w32 (length c.args.dims.now) (omega (arith, (fine_sizes c.args.dims.now c.requires.fine).0)) in
     let back = of_z-to_z w32 c.args.encoding c.ranges.encoding.fits in
     let code : cast_unsigned w32 c.cast_signed.result ≡ c.args.encoding = ap (cast_unsigned w32) c.cast_signed.ensures ∙ back in
     on_ok_weaker _ (λ (third : g.A.Area.image c.set_cdr_flags.new.area ≡ with_field (g.A.Area.image c.set_cdr_encoding.new.area) 8 cdr_flags c.args.flags). record {
