@@ -55,7 +55,7 @@ pub use Rattle.cdf_edits.proofs.Edits.Splice.{OwnRules, Splices, good_image_if, 
 pub use Rattle.cdf_edits.proofs.Edits.StepEdits.{fixed_long}
 pub use Rattle.cdf_edits.proofs.Edits.VariableFrame.{variables_in}
 pub use Rattle.cdf_edits.proofs.Space.ChainHeads.{cdr_room}
-pub use Rattle.cdf_edits.proofs.Space.LaidOut.{placed_says, typed_body}
+pub use Rattle.cdf_edits.proofs.Space.LaidOut.{laid_kept, placed_laid, typed_body, value_laid}
 pub use Rattle.cdf_edits.proofs.Space.UsedRecords.{apart}
 pub use Rattle.cdf_edits.specs.Answers.{Answers}
 pub use Rattle.cdf_edits.specs.Commands.Allowances.{AllKeep, Allowances, Keeps, Only, only_of}

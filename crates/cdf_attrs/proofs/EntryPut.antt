@@ -1,6 +1,6 @@
 -- The command `put-entry`: an entry is put as a last one of its chain, in the record of the one of its number, or in another record in its place.
-use Rattle.std.proofs.Common.{◌≡◌, ℕ, ◌+◌, ◌*◌, ◌^◌, ◌<◌, ◌≤◌, List, [], ◌∷◌, length, take, true, is_some, Some, refl, sym, ap, subst, ◌∙◌, arith, lit<, ◌++◌, find, eq-eqb, inl, inr, ◌≢◌, drop, None, append_assoc, Option, FitsSigned, w32}
-use Rattle.cdf_attrs.proofs.Common.{with_in_place, ends, new_in, new_type, typed_body, w32, cast_signed, cast_unsigned, last_or, position, nat_le, ◌==◌, slice_index, slice_set, and_from, le-leb, to_z-of_z, length-map, map-append, length-append, slice_get_within, Go, entries_of, with_attribute, with_entries, turned, Entry, signed_limit, record_number_limit, with_item, record_limit, ByStep, size_of, Plain, PutEntry, EntryKind, size_stays, entry_bytes, has_value, entry_rows, Same, entry_of, content, attribute_of, word, number, is_positive, size_at, LiesIn, integer4, with_field, uir_type, record_type, aedr_data_type, aedr_num, aedr_value, Field, Hold, AttributeShape, shape, EntryFits, IsSound, field_bytes, known_type, data_type_in, is_little, In, Distinct, Good, good_is_sound, In-append_right, of_le, tile_lies, word4_fits, chain_after, entry_type, chain_of, max_field, entry_at, greatest_number, Says, room, entries_chain, count_field, with_chain, Mark, Act, Gave, Took, Added, counted_in, members_of, type_in, before, Gives, IsBody, Placed, type_of_body, Chain, nums, EntryLives, nums_live, chain_now, found_one, found_none, greatest_integer, Rechains, entry_stays, max_lies, count_is, max_written, Frees, count_same, freed_bytes, freed_rechains, freed_settled, greatest_same, the_one, Chained, chain_follows, follows_chained, items_of, of_named, once_before, rules_live, counted_before, differ_before, placed_says, apart, IsOfAttribute, KnownEntries, HasOld, IsPut, IsReady, IsStored, new_reserved, IsGreatest, NewEntry}
+use Rattle.std.proofs.Common.{◌≡◌, ℕ, ◌+◌, ◌*◌, ◌^◌, ◌<◌, ◌≤◌, List, [], ◌∷◌, length, take, true, is_some, Some, refl, sym, ap, subst, ◌∙◌, arith, lit<, ◌++◌, find, eq-eqb, inl, inr, ◌≢◌, drop, None, Option, FitsSigned, w32}
+use Rattle.cdf_attrs.proofs.Common.{with_in_place, ends, new_in, new_type, typed_body, w32, cast_signed, cast_unsigned, last_or, position, nat_le, ◌==◌, slice_index, slice_set, and_from, le-leb, to_z-of_z, length-map, map-append, length-append, slice_get_within, Go, entries_of, with_attribute, with_entries, turned, Entry, signed_limit, record_number_limit, with_item, record_limit, ByStep, size_of, Plain, PutEntry, EntryKind, size_stays, entry_bytes, has_value, entry_rows, Same, entry_of, content, attribute_of, word, number, is_positive, size_at, LiesIn, integer4, with_field, uir_type, record_type, aedr_data_type, aedr_num, aedr_value, Field, Hold, AttributeShape, shape, EntryFits, IsSound, field_bytes, known_type, data_type_in, is_little, In, Distinct, Good, good_is_sound, In-append_right, of_le, tile_lies, word4_fits, chain_after, entry_type, chain_of, max_field, entry_at, greatest_number, Says, room, entries_chain, count_field, with_chain, Mark, Act, Gave, Took, Added, counted_in, members_of, type_in, before, Gives, IsBody, Placed, type_of_body, Chain, nums, EntryLives, nums_live, chain_now, found_one, found_none, greatest_integer, Rechains, entry_stays, max_lies, count_is, max_written, Frees, count_same, freed_bytes, freed_rechains, freed_settled, greatest_same, the_one, Chained, chain_follows, follows_chained, items_of, of_named, once_before, rules_live, counted_before, differ_before, laid_kept, placed_laid, value_laid, apart, IsOfAttribute, KnownEntries, HasOld, IsPut, IsReady, IsStored, new_reserved, IsGreatest, NewEntry}
 use Rattle.std.proofs.lemmas.Bool.{lt-leb}
 use Rattle.cdf_base.specs.Bytes.{put}
 use Rattle.cdf_model.specs.declared.kinds.EntryKind.TheVariants as entries
@@ -28,7 +28,7 @@ use Rattle.cdf_edits.proofs.Edits.PutEntry.{JoinsEntry, changes, count_now, exch
 use Rattle.cdf_edits.proofs.Edits.JoinedRecord.{list, marks, new_size, records}
 use Rattle.cdf_edits.proofs.Edits.WrittenEntries.{as_long as over_long, count_now as over_count, greatest_now as over_greatest, mid_kept, mid_size, part_beside, rechains as over_rechains, settled as over_settled, size_now}
 use Rattle.cdf_edits.proofs.Edits.Splice.{adr_stands}
-use Rattle.cdf_edits.proofs.Space.LaidOut.{IsType, fields_kept}
+use Rattle.cdf_edits.proofs.Space.LaidOut.{IsType}
 use Rattle.cdf_attrs.specs.PutValues.{new_entry}
 use Rattle.cdf_attrs.specs.Putting.{aedr_fields, aedr_body, Fit}
 use Rattle.cdf_attrs.specs.declared.entry_bytes.OldEntry.{OldEntry}
@@ -72,7 +72,7 @@ module _ (new : NewEntry) (r : Reserved) where
   -- behind the link
   placed_fields : {b filled : List ℕ} {place : ℕ} → Placed b filled (body_of new r) place → (more : List ℕ) × (drop (place + 20) filled ≡ fields_of new r ++ more)
   unfolding aedr_body
-  placed_fields placed = (placed_says ((record_type, entry_type new.slot.kind) ∷ (aedr_aedr_next, 0) ∷ []) (fields_of new r) placed refl refl ((entry_types new.slot.kind).small, (lit< tt, tt))).1
+  placed_fields placed = placed_laid (laid_out ((record_type, entry_type new.slot.kind) ∷ (aedr_aedr_next, 0) ∷ [])) (fields_of new r) 20 refl placed refl
 
 -- the type of the records of the chain of a kind
 type_of_kind : (kind : EntryKind) (adr : ℕ) → type_in (entries_chain kind adr) ≡ entry_type kind
@@ -99,8 +99,8 @@ module _ (new : NewEntry) (r : Reserved) {b now mid : List ℕ} {place : ℕ} wh
   entry_written : is_little now ≡ is_little b → IsStored new.value.t new.value.elems new.value.bytes.items → (more : List ℕ) → drop (place + 20) mid ≡ fields_of new r ++ more → Fits new r → Same mid now (place + 20) (place + (56 + length new.value.bytes.items)) → place + (56 + length new.value.bytes.items) ≤ length mid → length mid ≤ length now → 56 + length new.value.bytes.items ≤ size_at now place → IsEntry b now place new r
   entry_written little s more laid fit same inside longer room =
       let value = new.value.bytes.items in
-      let w = fields_kept mid now place 20 (56 + length value) (said new r) value more (laid ∙ append_assoc (laid_out (said new r)) value more) refl
-      (fit.attr_fits, (code_small new.value.t, (fit.num_fits, (fit.elems_fit, (lit< tt, (fit.b_fits, (fit.c_fits, (fit.d_fits, (fit.e_fits, tt))))))))) same refl inside longer in
+      let w = value_laid now place 20 (said new r) value _ (laid_kept mid now (place + 20) (place + (56 + length value)) (fields_of new r) more laid same (omega arith) inside longer) refl
+      (fit.attr_fits, (code_small new.value.t, (fit.num_fits, (fit.elems_fit, (lit< tt, (fit.b_fits, (fit.c_fits, (fit.d_fits, (fit.e_fits, tt))))))))) in
       let (attr_is, (code_is, (num_is, (elems_is, more_are)))) = w.0 in
       let known : known_type now place aedr_data_type ≡ Some new.value.t = rw code_is (type_back new.value.t) in
       let type : data_type_in now place aedr_data_type ≡ new.value.t = rw known refl in

@@ -1,9 +1,8 @@
 -- A new ADR: what was written of it reads back.
-use Rattle.std.proofs.Common.{◌≡◌, ℕ, ◌+◌, ◌-◌, ◌^◌, ◌<◌, ◌≤◌, List, ◌∷◌, ◌++◌, length, take, replicate, refl, ap, ◌∙◌, arith, lit<}
-use Rattle.cdf_attrs.proofs.Common.{typed_body, type_of_body, length-append, Same, number, record_type, adr_agr_edr_head, adr_scope, adr_num, adr_ngr_entries, adr_az_edr_head, adr_nz_entries, adr_name, uir_type, Says, IsFilled, IsBody, Placed, placed_says, apart}
-use Rattle.cdf_format.proofs.BytesLemmas.{piece_kept}
-use Rattle.cdf_edits.proofs.Space.LaidOut.{says_kept}
-use Rattle.std.proofs.lemmas.List.{length-replicate, take_at}
+use Rattle.std.proofs.Common.{◌≡◌, ℕ, ◌+◌, ◌-◌, ◌^◌, ◌<◌, ◌≤◌, List, [], ◌∷◌, ◌++◌, length, take, drop, replicate, refl, sym, ap, ◌∙◌, arith, lit<}
+use Rattle.cdf_attrs.proofs.Common.{laid_kept, placed_laid, typed_body, value_laid, type_of_body, length-append, Same, number, record_type, adr_agr_edr_head, adr_scope, adr_num, adr_ngr_entries, adr_az_edr_head, adr_nz_entries, adr_name, uir_type, Says, IsFilled, IsBody, Placed, apart}
+use Rattle.cdf_edits.specs.Space.Placing.{laid_out}
+use Rattle.std.proofs.lemmas.List.{length-replicate}
 use Rattle.cdf_format.specs.Records.{adr_adr_next}
 use Rattle.cdf_edits.specs.Commands.Attributes.{new_adr}
 use Rattle.cdf_attrs.specs.Creating.{adr_fields, adr_body}
@@ -48,9 +47,7 @@ module _ (scope num : ℕ) (name : List ℕ) (short : length name ≤ 256) where
   unfolding adr_body
   adr_written {filled = filled} {now = now} {place = place} placed small_scope small_num same inside longer =
       let padded = name ++ replicate (256 - length name) 0 in
-      let w = placed_says ((record_type, 4) ∷ (adr_adr_next, 0) ∷ adr_fields scope num) padded placed refl refl
-      (lit< tt, (lit< tt, (lit< tt, (small_scope, (small_num, (lit< tt, (lit< tt, (lit< tt, (lit< tt, (lit< tt, (lit< tt, (lit< tt, tt)))))))))))) in
-      let there = ap (take 256) w.1.1 ∙ take_at padded w.1.0 256 length-padded in
-      is_new now place scope num name
-      (says_kept filled now place 20 324 20 (adr_fields scope num) same (omega arith) (omega arith) refl w.0.1.1)
-      (piece_kept filled now (place + 20) (place + 324) same (place + 68) 256 (omega arith) (omega arith) inside longer ∙ there)
+      let there = placed_laid (laid_out ((record_type, 4) ∷ (adr_adr_next, 0) ∷ [])) (laid_out (adr_fields scope num) ++ padded) 20 refl placed refl in
+      let w = value_laid now place 20 (adr_fields scope num) padded _ (laid_kept filled now (place + 20) (place + 324) (laid_out (adr_fields scope num) ++ padded) there.0 there.1 same (omega (arith, length-padded)) inside longer) refl
+      (lit< tt, (small_scope, (small_num, (lit< tt, (lit< tt, (lit< tt, (lit< tt, (lit< tt, (lit< tt, (lit< tt, tt)))))))))) in
+      is_new now place scope num name w.0 (ap (λ (n : ℕ). take n (drop (place + 68) now)) (sym length-padded) ∙ w.1)

@@ -1,18 +1,18 @@
 -- A new variable: the making of its VDR leads from a good image to the one that follows, what is known of the variables then, and what the command is answered.
 use Rattle.std.proofs.Common.{◌≡◌, ◌≢◌, ℕ, ◌+◌, ◌^◌, ◌<◌, ◌≤◌, List, [], ◌∷◌, ◌++◌, length, map, true, false, bytes_eq, eq-eqb, Some, refl, sym, ap, subst, true≢false, ◌∙◌, append-nil, arith, inl}
-use Rattle.cdf_vars.proofs.Common.{Same, if◌then◌else◌, map-append, All, flat_map, slice_get, Go, DataSet, Variable, Plain, Kind, R, Z, image_limit, is_bad_name, is_among, variable_names, variables_of, with_variables, ByStep, step, is_bad_shape, new_variable, next_field, is_in, content, variable_of, number, name_in, r_sizes, size_at, type_at, gdr_offset, owned, times, vdr_name, Hold, VariableShape, Shape, vdrs, HasShape, shape, IsSound, In, Good, IsGoodByShape, vdrs_append, good_by_its_shape, good_is_sound, rules_of_good, good_long, sealed_kept, content_is, shape_is, AllKeep, Allowances, Only, shapes_of, vdr_type, Chain, Does, allowances, room, vdr_bytes, Edit, Mark, making_marks, Follows, only_reads, Act, Took, type_in, counted_in, IsBody, type_of_body, variables_chain, fine_is_some, fine_has_no_zeros, fine_is_short, got-middle, the_one, variables_of_are, counted_before, with_shapes, kind_type, beside_in, NewVariable, making, OthersStay, KnowsKind, Answers, gone, too_large, Done, Refused, TooLarge}
+use Rattle.cdf_vars.proofs.Common.{Same, if◌then◌else◌, map-append, All, flat_map, slice_get, Go, DataSet, Variable, Plain, Kind, R, Z, image_limit, is_bad_name, is_among, variable_names, variables_of, with_variables, ByStep, step, is_bad_shape, new_variable, next_field, is_in, content, variable_of, number, name_in, r_sizes, size_at, type_at, gdr_offset, owned, times, vdr_name, Hold, VariableShape, Shape, vdrs, HasShape, shape, IsSound, In, Good, IsGoodByShape, vdrs_append, good_by_its_shape, good_is_sound, rules_of_good, good_long, sealed_kept, content_is, shape_is, AllKeep, Allowances, Only, shapes_of, vdr_type, Chain, Does, allowances, room, vdr_bytes, Edit, Mark, making_marks, Follows, only_reads, Act, Took, type_in, counted_in, IsBody, type_of_body, variables_chain, fine_is_some, fine_has_no_zeros, fine_is_short, got-middle, the_one, variables_of_are, counted_before, with_shapes, kind_type, beside_in, NewVariable, making, OthersStay, KnowsKind, Answers, gone, too_large, Done, Refused, TooLarge, other_kind, made_once}
 use Rattle.cdf_model.specs.VariableSteps.{var_step}
 use Rattle.cdf_format.specs.Index.{leaves_of, nodes_of}
 use Rattle.cdf_edits.proofs.Common.{Keeps, count_of, members_of, only_of, read_types, same_kind, times-none, variable_records}
 use Rattle.cdf_edits.specs.Commands.Variables.{MakesVariable, variable_changes}
 use Rattle.cdf_edits.specs.Space.Adding.{Added, adding_marks}
-use Rattle.cdf_edits.proofs.Edits.JoinedVdr.{JoinsVdr, KindTests, behind_link, edit, ends, file, fills, gdr_is, join_tests, joined_acts, joined_size, joined_splices, joined_type, linked, lives, member_in, used}
+use Rattle.cdf_edits.proofs.Edits.JoinedVdr.{JoinsVdr, KindTests, behind_link, edit, ends, file, fills, gdr_is, join_tests, joined_acts, joined_size, joined_splices, joined_type, linked, lives, member_in, used, is_vdr_body, marks, t}
 use Rattle.cdf_edits.proofs.Edits.Common.{FileSame, IsSorted, OwnRules, VariableLives, VariableSplices, apart_if, attributes_kept, content_now, gdr_place, good_image_if, made_keeps_unused, nums_from, owned_once_if, same_as_itself, shape_now, unowned, used_times}
 use Rattle.cdf_edits.proofs.Edits.VariableKinds.{kind_ours, numbers_kept, of_kind, spliced_times, vdrs_rows, vdrs_rows-push}
 use Rattle.cdf_edits.proofs.Edits.VariablesLinked.{keep_numbered, keep_with_kind, next_keeps, other_stays}
 use Rattle.cdf_vars.specs.Creating.{HasDims, vdr_body}
 use Rattle.cdf_vars.proofs.VariableChains.{counted_members, variable_members, few_variables}
-use Rattle.cdf_vars.proofs.NewVdr.{IsNewVdr, IsShaped, Shares, bare_variable, end_is, has, length-body, means, name_is, ruled, shaped, type_in_body, varys_written, vdr_is_body, vdr_written}
+use Rattle.cdf_vars.proofs.NewVdr.{IsNewVdr, IsShaped, Shares, bare_variable, end_is, has, length-body, means, name_is, ruled, shaped, type_in_body, varys_written, vdr_written}
 use Rattle.cdf_vars.proofs.VariableFound.{kind_with, others_with}
 use Rattle.cdf_vars.proofs.OwnShapes.{own_now}
 use Rattle.cdf_vars.proofs.VariableNames.{absent_from}
@@ -51,9 +51,6 @@ module _ (b : List ℕ) (kind : Kind) (v : NewVariable) (limit : ℕ) (image : G
   abbrev num : ℕ
   num = length (vdrs own)
 
-  abbrev need : ℕ
-  need = vdr_bytes kind (length v.dims)
-
   good : IsGoodByShape b s
   good = good_by_its_shape b image
 
@@ -77,186 +74,154 @@ module _ (b : List ℕ) (kind : Kind) (v : NewVariable) (limit : ℕ) (image : G
 
   pub few_counted : counted_in b (variables_chain kind) + 1 < 2 ^ 32
   few_counted =
-      let l = few_variables b s h kind in
       let count : counted_in b (variables_chain kind) ≡ num = counted_members b image kind ∙ ap (λ (ms : List ℕ). length ms) (variable_members b s h kind) in
-      omega (arith, l, count, roomy, limited)
+      omega (arith, few_variables b s h kind, count, roomy, limited)
 
   -- the bytes that are written
   module _ {bytes : List ℕ} (n : ℕ) (are : bytes ≡ vdr_body kind v n) where
-    pub is_body : IsBody bytes
-    is_body = subst IsBody (sym are) (vdr_is_body kind v n short is)
-
     pub is_typed : type_of_body bytes ≡ type_in (variables_chain kind)
-    is_typed = ap type_of_body are ∙ type_in_body kind v n short is ∙ sym (kind_type kind)
+    is_typed = ap type_of_body are ∙ type_in_body kind v n ∙ sym (kind_type kind)
+
+    pub is_body : IsBody bytes
+    is_body = is_vdr_body kind bytes (length v.dims) is_typed (omega (arith, length-body kind v n short is, ap (λ (x : List ℕ). length x) are))
 
     pub has_room : length b + (8 + length bytes) ≤ limit
     has_room = let size = length-body kind v n short is in let same = ap (λ (x : List ℕ). length x) are in omega (arith, size, same, roomy)
 
-    pub made_there : {now : List ℕ} {chain : Chain} {place : ℕ} → n ≡ num → chain ≡ variables_chain kind → Added b now chain bytes place → Added b now (variables_chain kind) (vdr_body kind v num) place
-    made_there {now = now} {chain = chain} {place = place} counted is_chain added = subst (λ (c : Chain). Added b now c (vdr_body kind v num) place) is_chain (subst (λ (x : List ℕ). Added b now chain x place) (are ∙ ap (vdr_body kind v) counted) added)
+    -- ---- once it is linked and counted
 
-  -- ---- once it is linked and counted
+    module _ {now : List ℕ} {chain : Chain} {place : ℕ} (dims : HasDims b kind v.dims) (counted : n ≡ num) (is_chain : chain ≡ variables_chain kind) (made_there : Added b now chain bytes place) where
+      pub added : Added b now (variables_chain kind) (vdr_body kind v num) place
+      added = subst (λ (c : Chain). Added b now c (vdr_body kind v num) place) is_chain (subst (λ (x : List ℕ). Added b now chain x place) (are ∙ ap (vdr_body kind v) counted) made_there)
 
-  module _ {now : List ℕ} {place : ℕ} (dims : HasDims b kind v.dims) (added : Added b now (variables_chain kind) (vdr_body kind v num) place) where
-    abbrev records : List ℕ
-    records = (shape added.filled).records
+      abbrev records : List ℕ
+      records = (shape added.filled).records
 
-    abbrev list : List ℕ
-    list = (shape added.filled).unused
+      abbrev list : List ℕ
+      list = (shape added.filled).unused
 
-    abbrev body : List ℕ
-    body = vdr_body kind v num
+      abbrev body : List ℕ
+      body = vdr_body kind v num
 
-    abbrev w : JoinsVdr b now kind body place (members_of b (variables_chain kind) ++ place ∷ []) (counted_in b (variables_chain kind) + 1)
-    w = record { joined = added; type_is = type_in_body kind v num short is ∙ sym (kind_type kind) }
+      abbrev w : JoinsVdr b now kind body place (members_of b (variables_chain kind) ++ place ∷ []) (counted_in b (variables_chain kind) + 1)
+      w = record { joined = added; type_is = type_in_body kind v num ∙ sym (kind_type kind) }
 
-    abbrev marks : List Mark
-    marks = making_marks s.unused place (8 + length body) (adding_marks b (variables_chain kind) place)
+      long : 8 + length body ≡ vdr_bytes kind (length v.dims)
+      long = length-body kind v num short is
 
-    e : Edit b now s.records records marks (place ∷ [])
-    e = edit sound w
+      new_type : type_at now place ≡ vdr_type kind
+      new_type = joined_type sound w ∙ kind_type kind
 
-    t : KindTests kind marks
-    t = (join_tests kind b s.unused place (8 + length body)).all
+      new_size : size_at now place ≡ vdr_bytes kind (length v.dims)
+      new_size = joined_size sound w ∙ long
 
-    long : 8 + length body ≡ need
-    long = length-body kind v num short is
+      new : IsNewVdr now place kind v num
+      new = vdr_written kind v num short is added.placed few (subst (λ (n : ℕ). Same added.filled now (place + 20) (place + n)) long (behind_link sound w))
+          (subst (λ (n : ℕ). place + n ≤ length added.filled) long (let high = added.placed.inside in let same = added.placed.fills.long in omega (arith, high, same))) (omega (arith, added.as_long))
 
-    new_type : type_at now place ≡ vdr_type kind
-    new_type = joined_type sound w ∙ kind_type kind
+      abbrev bare : VariableShape
+      bare = bare_variable place
 
-    new_size : size_at now place ≡ need
-    new_size = joined_size sound w ∙ long
+      abbrev made : Shape
+      made = with_shapes s kind records list (own ++ (bare ∷ [] ++ []))
 
-    new : IsNewVdr now place kind v num
-    new = vdr_written kind v num short is added.placed few (subst (λ (n : ℕ). Same added.filled now (place + 20) (place + n)) long (behind_link sound w))
-        (subst (λ (n : ℕ). place + n ≤ length added.filled) long (let high = added.placed.inside in let same = added.placed.fills.long in omega (arith, high, same))) (omega (arith, added.as_long))
+      vdrs_are : vdrs (own ++ (bare ∷ [] ++ [])) ≡ vdrs own ++ place ∷ []
+      vdrs_are = vdrs_append own (bare ∷ [])
 
-    abbrev bare : VariableShape
-    bare = bare_variable place
+      shares : Shares now kind v.dims
+      shares = by kind dims
+        where
+          by : (kind : Kind) → HasDims b kind v.dims → Shares now kind v.dims
+          by R d = (file sound w).sizes ∙ ap (r_sizes b) h.gdr_is ∙ sym (ap (λ (x : DataSet). x.rdims) (content_is b s h)) ∙ sym d
+          by Z d = tt
 
-    abbrev made : Shape
-    made = with_shapes s kind records list (own ++ (bare ∷ [] ++ []))
+      splices : VariableSplices b now s kind records list (marks sound w) (place ∷ []) own [] (bare ∷ []) []
+      splices = joined_splices sound w own [] (bare ∷ []) [] (sym (append-nil own)) (vdrs_are ∙ ap (λ (ms : List ℕ). ms ++ place ∷ []) (sym (variable_members b s h kind))) (has new is new_type shares records new_size, tt)
 
-    vdrs_are : vdrs (own ++ (bare ∷ [] ++ [])) ≡ vdrs own ++ place ∷ []
-    vdrs_are = vdrs_append own (bare ∷ [])
+      pub now_is : shape now ≡ made
+      now_is = shape_is now made (shape_now sound splices)
 
-    file_now : FileSame b now
-    file_now = file sound w
+      abbrev fresh : Variable
+      fresh = new_variable v.name v.type v.elems v.dims v.varys v.vary
 
-    shares : Shares now kind v.dims
-    shares = by kind dims
-      where
-        by : (kind : Kind) → HasDims b kind v.dims → Shares now kind v.dims
-        by R d = file_now.sizes ∙ ap (r_sizes b) h.gdr_is ∙ sym (ap (λ (x : DataSet). x.rdims) (content_is b s h)) ∙ sym d
-        by Z d = tt
+      pub content_is_made : content now ≡ with_variables (content b) kind (variables_of (content b) kind ++ fresh ∷ [])
+      content_is_made =
+          let here = means new is new_type shares no_zero in
+          let old : map (variable_of b) own ≡ variables_of (content b) kind = sym (ap (λ (d : DataSet). variables_of d kind) (content_is b s h) ∙ variables_of_are b s kind) in
+          content_now sound splices ∙ (λ i. with_variables (content b) kind (old i ++ here i ∷ []))
 
-    splices : VariableSplices b now s kind records list marks (place ∷ []) own [] (bare ∷ []) []
-    splices = joined_splices sound w own [] (bare ∷ []) [] (sym (append-nil own)) (vdrs_are ∙ ap (λ (ms : List ℕ). ms ++ place ∷ []) (sym (variable_members b s h kind))) (has new is new_type shares records new_size, tt)
+      -- ---- the rules
 
-    pub now_is : shape now ≡ made
-    now_is = shape_is now made (shape_now sound splices)
+      -- the new record is owned once more than before
+      owners : (m : ℕ) → used_times made m + 0 ≡ used_times s m + times m (place ∷ [])
+      owners m = spliced_times s kind records list own [] (bare ∷ []) [] (sym (append-nil own)) m (times m (place ∷ [])) 0 (ap (λ (ms : List ℕ). times m ms + 0) (bare_records place) ∙ omega arith)
 
-    abbrev fresh : Variable
-    fresh = new_variable v.name v.type v.elems v.dims v.varys v.vary
+      own_rules : is_among v.name (variable_names (content b)) ≡ false → OwnRules sound splices
+      own_rules free =
+          let named = name_is new is new_type shares no_zero in
+          let count =
+          ap (λ (g : ℕ). number now g (count_of (variables_chain kind))) (gdr_place sound (edit sound w) (t sound w).all.file_clear ∙ sym (gdr_is sound w)) ∙ added.counted
+          ∙ ap (λ (n : ℕ). n + 1) (counted_members b image kind ∙ ap (λ (ms : List ℕ). length ms) (variable_members b s h kind)) in
+          let nums = nums_from sound (edit sound w) (file sound w) own (kind_ours b s sound kind) (of_kind (VariableLives b now) kind s (lives sound w)) in
+          record {
+            counted = subst (λ (ms : List ℕ). Hold (vdrs_rows kind now ms)) (sym vdrs_are) (vdrs_rows-push kind now (vdrs own) place count new.says.1.1.1.1.1.1.1.1.1.1.0 (numbers_kept kind b now (vdrs own) nums (counted_before good kind)));
+            apart = apart_if sound splices good (λ x y i j ne. absurd (ne (the_one place x i ∙ sym (the_one place y j))))
+                (λ x y i j. subst (λ (n : List ℕ). bytes_eq n (name_in b y vdr_name) ≡ false) (sym (ap (λ (m : ℕ). name_in now m vdr_name) (the_one place x i) ∙ named)) (absent_from b image v.name free y (beside_in sound splices y j)));
+            own_ruled = (ruled new is new_type shares records new_size no_zero (fine_is_some v.name well_named), tt);
+            read = λ m i. ap (λ (t : ℕ). is_in t read_types) (ap (type_at now) (the_one place m i) ∙ new_type) ∙ read_type kind;
+            owned = owned_once_if b now s made (marks sound w) (place ∷ []) sound good.owned_once (edit sound w) (λ m out. omega (arith, owners m, times-none m (place ∷ []) out))
+                (λ m i. inl (made_once sound (fills sound w) added.linked added.as_long (t sound w).lately made 0 (owners place) refl m i));
+          }
 
-    pub content_is_made : content now ≡ with_variables (content b) kind (variables_of (content b) kind ++ fresh ∷ [])
-    content_is_made =
-        let here = means new is new_type shares no_zero in
-        let old : map (variable_of b) own ≡ variables_of (content b) kind = sym (ap (λ (d : DataSet). variables_of d kind) (content_is b s h) ∙ variables_of_are b s kind) in
-        content_now sound splices ∙ (λ i. with_variables (content b) kind (old i ++ here i ∷ []))
+      -- ---- what stays
 
-    -- ---- the rules
+      abbrev acts : List Act
+      acts = Took place (8 + length body) ∷ []
 
-    -- the new record is owned once more than before
-    owners : (m : ℕ) → used_times made m ≡ used_times s m + times m (place ∷ [])
-    owners m = omega (arith, spliced_times s kind records list own [] (bare ∷ []) [] (sym (append-nil own)) m (times m (place ∷ [])) 0 (ap (λ (ms : List ℕ). times m ms + 0) (bare_records place) ∙ omega arith))
+      records_are : (shape now).records ≡ records
+      records_are = ap (λ (x : Shape). x.records) now_is
 
-    sorted : (m : ℕ) → In m (place ∷ []) → IsSorted now made m
-    sorted m i =
-        let one : times place (place ∷ []) ≡ 1 = rw (eq-eqb place place refl) refl in
-        subst (IsSorted now made) (sym (the_one place m i)) (inl (used sound w, omega (arith, owners place, unowned sound (fills sound w))))
+      keeps : AllKeep b now (variable_changes b kind) acts (owned b s)
+      keeps =
+          let only : (m : ℕ) → In m (vdrs own) → (if same_kind kind kind then only_of b m (vdr_type kind) (next_field ∷ []) else Only []) ≡ Only (next_field ∷ []) = λ m i. rw (same_as_itself kind, eq-eqb (type_at b m) (vdr_type kind) ((member_in sound w m i).1 ∙ kind_type kind)) refl in
+          keep_with_kind sound (edit sound w) (t sound w).all records_are (variable_changes b kind).variables acts (λ i m. rw (other_stays kind) refl)
+          (keep_numbered sound (edit sound w) (t sound w).all records_are (variable_changes b kind) acts kind 0 own (kind_ours b s sound kind) (λ k m low high i inside. subst (Keeps b now m) (sym (only m i)) (next_keeps sound (edit sound w) (t sound w).all records_are m inside (linked sound w m i))))
+          (attributes_kept sound splices)
+          (made_keeps_unused sound (fills sound w) added.linked added.as_long (t sound w).lately records_are (variable_changes b kind))
 
-    beside : (m : ℕ) → (In m (place ∷ []) → ⊥) → used_times made m ≡ used_times s m
-    beside m out = omega (arith, owners m, times-none m (place ∷ []) out)
+      pub follows : is_among v.name (variable_names (content b)) ≡ false → Follows b (making kind v) now
+      follows free =
+          let longest : length now ≤ length b + vdr_bytes kind (length v.dims) = (let l = added.placed.longest in omega (arith, l, long, added.as_long)) in
+          record {
+            reply = Plain;
+            goes = (is_making b kind v dims).step_is ∙ rw (well_named, free, fine) (ap (λ (d : DataSet). ByStep (Go d Plain)) (sym content_is_made));
+            good = good_image_if sound splices (sealed_kept b (good_long b s good) (rules_of_good b image)).0 good (own_rules free) (ends sound w) (omega arith);
+            longer = (edit sound w).longer;
+            within = subst (λ (n : ℕ). length now ≤ length b + n) (sym (is_making b kind v dims).room_is) longest;
+            reads = λ q. absurd (true≢false (sym q ∙ (is_making b kind v dims).makes));
+            acts = acts;
+            takes_within = subst (λ (n : ℕ). 0 + (8 + length body) ≤ n) (sym (is_making b kind v dims).room_is) (let l = long in omega arith);
+            acts_follow = joined_acts sound w _ now_is;
+            keeps = subst (λ (a : Allowances). AllKeep b now a acts (owned b s)) (sym (is_making b kind v dims).may_is) keeps;
+            does = (is_making b kind v dims).does now acts (record {
+              made = bare;
+              made_last = subst (λ (vs : List VariableShape). slice_get vs (length own) ≡ Some bare) (sym (own_now b now (own ++ bare ∷ []) kind now_is)) (got-middle own bare []);
+              acts_are = ap (λ (n : ℕ). Took place n ∷ []) (long ∙ sym (end_is new is new_type shares));
+              says = (new.says.1.1.1.0, (new.says.1.1.1.1.0, (new.says.1.1.1.1.1.1.0, (new.says.1.1.1.1.1.1.1.0, (new.says.1.1.1.1.1.1.1.1.0, (new.says.1.1.1.1.1.1.1.1.1.1.1.0, tt))))));
+              named = new.filled;
+              varys_are = varys_written new is new_type shares;
+            });
+          }
 
-    count_now : number now (gdr_offset now) (count_of (variables_chain kind)) ≡ length (vdrs own) + 1
-    count_now =
-        ap (λ (g : ℕ). number now g (count_of (variables_chain kind))) (gdr_place sound e t.file_clear ∙ sym (gdr_is sound w)) ∙ added.counted
-        ∙ ap (λ (n : ℕ). n + 1) (counted_members b image kind ∙ ap (λ (ms : List ℕ). length ms) (variable_members b s h kind))
+      -- ---- what is known of the variables
 
-    own_rules : is_among v.name (variable_names (content b)) ≡ false → OwnRules sound splices
-    own_rules free =
-        let named = name_is new is new_type shares no_zero in
-        let nums = nums_from sound e file_now own (kind_ours b s sound kind) (of_kind (VariableLives b now) kind s (lives sound w)) in
-        record {
-          counted = subst (λ (ms : List ℕ). Hold (vdrs_rows kind now ms)) (sym vdrs_are) (vdrs_rows-push kind now (vdrs own) place count_now new.says.1.1.1.1.1.1.1.1.1.1.0 (numbers_kept kind b now (vdrs own) nums (counted_before good kind)));
-          apart = apart_if sound splices good (λ x y i j ne. absurd (ne (the_one place x i ∙ sym (the_one place y j))))
-              (λ x y i j. subst (λ (n : List ℕ). bytes_eq n (name_in b y vdr_name) ≡ false) (sym (ap (λ (m : ℕ). name_in now m vdr_name) (the_one place x i) ∙ named)) (absent_from b image v.name free y (beside_in sound splices y j)));
-          own_ruled = (ruled new is new_type shares records new_size no_zero (fine_is_some v.name well_named), tt);
-          read = λ m i. ap (λ (t : ℕ). is_in t read_types) (ap (type_at now) (the_one place m i) ∙ new_type) ∙ read_type kind;
-          owned = owned_once_if b now s made marks (place ∷ []) sound good.owned_once e beside sorted;
-        }
+      pub known : {names : List (List ℕ)} {places places' : List ℕ} → places' ≡ places ++ place ∷ [] → KnowsKind b kind (record { names = names; places = places }) → KnowsKind now kind (record { names = names ++ v.name ∷ []; places = places' })
+      known pushed k =
+          kind_with b now _ _ kind content_is_made now_is (ap (λ (xs : List (List ℕ)). xs ++ v.name ∷ []) k.names_are ∙ sym (map-append (λ (x : Variable). x.name) (variables_of (content b) kind) (fresh ∷ [])))
+          (pushed ∙ ap (λ (xs : List ℕ). xs ++ place ∷ []) k.places_are ∙ sym vdrs_are)
 
-    -- ---- what stays
-
-    abbrev may : Allowances
-    may = variable_changes b kind
-
-    abbrev acts : List Act
-    acts = Took place (8 + length body) ∷ []
-
-    records_are : (shape now).records ≡ records
-    records_are = ap (λ (x : Shape). x.records) now_is
-
-    keeps : AllKeep b now may acts (owned b s)
-    keeps =
-        let only : (m : ℕ) → In m (vdrs own) → (if same_kind kind kind then only_of b m (vdr_type kind) (next_field ∷ []) else Only []) ≡ Only (next_field ∷ []) = λ m i. rw (same_as_itself kind, eq-eqb (type_at b m) (vdr_type kind) ((member_in sound w m i).1 ∙ kind_type kind)) refl in
-        keep_with_kind sound e t records_are may.variables acts (λ i m. rw (other_stays kind) refl)
-        (keep_numbered sound e t records_are may acts kind 0 own (kind_ours b s sound kind) (λ k m low high i inside. subst (Keeps b now m) (sym (only m i)) (next_keeps sound e t records_are m inside (linked sound w m i))))
-        (attributes_kept sound splices)
-        (made_keeps_unused sound (fills sound w) added.linked added.as_long (join_tests kind b s.unused place (8 + length body)).lately records_are may)
-
-    -- ---- what it makes
-
-    makes : MakesVariable b now kind v.name v.vary v.varys acts
-    makes = record {
-      made = bare;
-      made_last = subst (λ (vs : List VariableShape). slice_get vs (length own) ≡ Some bare) (sym (own_now b now (own ++ bare ∷ []) kind now_is)) (got-middle own bare []);
-      acts_are = ap (λ (n : ℕ). Took place n ∷ []) (long ∙ sym (end_is new is new_type shares));
-      says = (new.says.1.1.1.0, (new.says.1.1.1.1.0, (new.says.1.1.1.1.1.1.0, (new.says.1.1.1.1.1.1.1.0, (new.says.1.1.1.1.1.1.1.1.0, (new.says.1.1.1.1.1.1.1.1.1.1.1.0, tt))))));
-      named = new.filled;
-      varys_are = varys_written new is new_type shares;
-    }
-
-    pub follows : is_among v.name (variable_names (content b)) ≡ false → Follows b (making kind v) now
-    follows free =
-        let rules = own_rules free in
-        let longest : length now ≤ length b + need = (let l = added.placed.longest in omega (arith, l, long, added.as_long)) in
-        let size = (is_making b kind v dims).room_is in
-        record {
-          reply = Plain;
-          goes = (is_making b kind v dims).step_is ∙ rw (well_named, free, fine) (ap (λ (d : DataSet). ByStep (Go d Plain)) (sym content_is_made));
-          good = good_image_if sound splices (sealed_kept b (good_long b s good) (rules_of_good b image)).0 good rules (ends sound w) (omega arith);
-          longer = e.longer;
-          within = subst (λ (n : ℕ). length now ≤ length b + n) (sym size) longest;
-          reads = λ q. absurd (true≢false (sym q ∙ (is_making b kind v dims).makes));
-          acts = acts;
-          takes_within = subst (λ (n : ℕ). 0 + (8 + length body) ≤ n) (sym size) (let l = long in omega arith);
-          acts_follow = joined_acts sound w _ now_is;
-          keeps = subst (λ (a : Allowances). AllKeep b now a acts (owned b s)) (sym (is_making b kind v dims).may_is) keeps;
-          does = (is_making b kind v dims).does now acts makes;
-        }
-
-    -- ---- what is known of the variables
-
-    pub known : {names : List (List ℕ)} {places places' : List ℕ} → places' ≡ places ++ place ∷ [] → KnowsKind b kind (record { names = names; places = places }) → KnowsKind now kind (record { names = names ++ v.name ∷ []; places = places' })
-    known pushed k =
-        kind_with b now _ _ kind content_is_made now_is (ap (λ (xs : List (List ℕ)). xs ++ v.name ∷ []) k.names_are ∙ sym (map-append (λ (x : Variable). x.name) (variables_of (content b) kind) (fresh ∷ [])))
-        (pushed ∙ ap (λ (xs : List ℕ). xs ++ place ∷ []) k.places_are ∙ sym vdrs_are)
-
-    pub others : OthersStay b now kind
-    others = others_with b now _ _ kind content_is_made now_is
+      pub others : OthersStay b now kind
+      others = others_with b now _ _ kind content_is_made now_is
 
 -- ---- the answers
 

@@ -1,63 +1,24 @@
 -- What the command `setup` is answered, which dimensions it takes, and what its calls ask for.
 use Rattle.std.proofs.Common.{◌≡◌, ℕ, ◌+◌, ◌*◌, ◌<◌, ◌≤◌, List, length, Bool, Option, Some, None, true, false, not, refl, sym, ap, subst, ◌∙◌, arith}
-use Rattle.cdf_vars.proofs.Common.{of_z-to_z, w32, cast_unsigned, ◌==◌, ◌&&◌, is_some, Outcome, Done, Refused, NumberOutOfRange, BadShape, TooLarge, Plain, Command, Setup, Majority, Go, DataSet, encoding_at, ByStep, step, are_bad_sizes, is_empty_set, Answers, Follows, Takes, refused, gone, content, word, size_at, gdr_offset, uir_type, shape, IsSound, Good, is_a-in, good_by_its_shape, good_is_sound, tile_lies, gdr_in, Cdr, AreBytes, word_fits}
+use Rattle.cdf_vars.proofs.Common.{of_z-to_z, w32, cast_unsigned, ◌==◌, ◌&&◌, is_some, Outcome, Done, Refused, NumberOutOfRange, BadShape, TooLarge, Plain, Command, Setup, Majority, Go, DataSet, encoding_at, ByStep, step, are_bad_sizes, is_empty_set, Answers, Follows, Takes, refused, gone, content, word, size_at, gdr_offset, uir_type, shape, IsSound, Good, is_a-in, good_by_its_shape, good_is_sound, tile_lies, gdr_in, Cdr, AreBytes, word_fits, is_none, signed4}
 use Rattle.std.proofs.Math.Path.{transport}
-use Rattle.std.specs.Option.{is_none}
-use Rattle.cdf_model.specs.declared.answer.Reason.TheVariants.{InUse}
 use Rattle.cdf_model.specs.declared.head.Head.{Head}
-use Rattle.cdf_edits.proofs.Commands.Answered.{too_large as no_room}
-use Rattle.cdf_format.specs.Fields.{signed4}
 use Rattle.cdf_format.proofs.HeadOf.{head_of_good}
 use Rattle.cdf_records.specs.declared.gdr.Gdr.{Gdr}
 use Rattle.cdf_records.specs.Heads.{cdr_at, gdr_at}
 
 -- ---- the answers
 
-none_or_some : {A : Type 0} (x : Option A) (p : Bool) → is_some x ≡ p → is_none x ≡ not p
-none_or_some None p e = ap not e
-none_or_some (Some a) p e = ap not e
+-- whether the encoding of a code is none of those that are read
+pub is_unread : (code : ℕ) (read : Bool) → is_some (encoding_at code) ≡ read → is_none (encoding_at code) ≡ not read
+is_unread code read e = grind arith
 
 -- what setup makes of a data set
 abbrev pub set_up : DataSet → ℕ → Majority → List ℕ → DataSet
 set_up d code majority dims = record d { encoding = code; majority = majority; rdims = dims }
 
-pub step_goes : (d made : DataSet) (code : ℕ) (majority : Majority) (dims : List ℕ) → is_some (encoding_at code) ≡ true → are_bad_sizes dims ≡ false → is_empty_set d ≡ true → made ≡ set_up d code majority dims → step d (Setup code majority dims) ≡ ByStep (Go made Plain)
-step_goes d made code majority dims read fine empty is =
-    let known : is_none (encoding_at code) ≡ false = none_or_some (encoding_at code) true read in
-    let goes : step d (Setup code majority dims) ≡ ByStep (Go (set_up d code majority dims) Plain) = rw (known, fine, empty) refl in
-    goes ∙ ap (λ (x : DataSet). ByStep (Go x Plain)) (sym is)
-
--- of an image that was only read so far
-module _ (limit : ℕ) (b mid : List ℕ) (code : ℕ) (majority : Majority) (dims : List ℕ) (same : mid ≡ b) where
-  abbrev c : Command
-  c = Setup code majority dims
-
-  left : {o : Outcome} → Answers limit b c o b → Answers limit b c o mid
-  left a = subst (Answers limit b c _) (sym same) a
-
-  pub unknown_encoding : is_some (encoding_at code) ≡ false → Answers limit b (Setup code majority dims) (Refused NumberOutOfRange) mid
-  unknown_encoding e = let none : is_none (encoding_at code) ≡ true = none_or_some (encoding_at code) false e in left (refused limit b c NumberOutOfRange (rw none refl))
-
-  module _ (read : is_some (encoding_at code) ≡ true) where
-    known : is_none (encoding_at code) ≡ false
-    known = none_or_some (encoding_at code) true read
-
-    pub badly_shaped : are_bad_sizes dims ≡ true → Answers limit b (Setup code majority dims) (Refused BadShape) mid
-    badly_shaped e = left (refused limit b c BadShape (rw (known, e) refl))
-
-    module _ (fine : are_bad_sizes dims ≡ false) where
-      pub in_use : is_empty_set (content b) ≡ false → Answers limit b (Setup code majority dims) (Refused InUse) mid
-      in_use e = left (refused limit b c InUse (rw (known, fine, e) refl))
-
-      module _ (empty : is_empty_set (content b) ≡ true) where
-        goes : step (content b) c ≡ ByStep (Go (set_up (content b) code majority dims) Plain)
-        goes = step_goes (content b) (set_up (content b) code majority dims) code majority dims read fine empty refl
-
-        pub too_large : limit < length b + (84 + 4 * length dims) → Answers limit b (Setup code majority dims) (Refused TooLarge) mid
-        too_large over = left (no_room limit b c (set_up (content b) code majority dims) Plain goes over)
-
-        pub is_done : length b + (84 + 4 * length dims) ≤ limit → (now : List ℕ) → Follows mid (Setup code majority dims) now → Answers limit b (Setup code majority dims) (Done Plain) now
-        is_done room now follows = gone limit b c (set_up (content b) code majority dims) Plain now goes room (subst (λ (x : List ℕ). Follows x c now) same follows)
+pub step_goes : (d : DataSet) (code : ℕ) (majority : Majority) (dims : List ℕ) → is_some (encoding_at code) ≡ true → are_bad_sizes dims ≡ false → is_empty_set d ≡ true → step d (Setup code majority dims) ≡ ByStep (Go (set_up d code majority dims) Plain)
+step_goes d code majority dims read fine empty = rw (is_unread code true read, fine, empty) refl
 
 -- ---- the calls
 
@@ -77,9 +38,6 @@ taken_lies {taken = taken} {place = place} takes sound =
 unsigned_is : (b : List ℕ) (start m place : ℕ) → AreBytes b start m → start ≤ place → place + 4 ≤ start + m → cast_unsigned w32 (signed4 b place) ≡ word b place 4
 unsigned_is b start m place bytes le fits = of_z-to_z w32 (word b place 4) (word_fits b start m place 4 bytes le fits)
 
-abbrev is_empty_head : Head → Bool
-is_empty_head h = ((h.attrs == 0) && (h.rvars == 0)) && (h.zvars == 0)
-
 -- what is read of the CDR and the GDR
 module _ {b now : List ℕ} {cdr : Cdr} {gdr : Gdr} (good : Good b) (same : now ≡ b) (first : cdr ≡ cdr_at b 8) (second : gdr ≡ gdr_at now cdr.gdr_offset) where
   offset : cdr.gdr_offset ≡ gdr_offset b
@@ -97,4 +55,4 @@ module _ {b now : List ℕ} {cdr : Cdr} {gdr : Gdr} (good : Good b) (same : now 
       let attributes = ap (λ (g : Gdr). cast_unsigned w32 g.num_attr) gdr_is ∙ unsigned_is b (gdr_offset b) 84 (gdr_offset b + 48) there (omega arith) (omega arith) in
       let r_variables = ap (λ (g : Gdr). cast_unsigned w32 g.nr_vars) gdr_is ∙ unsigned_is b (gdr_offset b) 84 (gdr_offset b + 44) there (omega arith) (omega arith) in
       let z_variables = ap (λ (g : Gdr). cast_unsigned w32 g.nz_vars) gdr_is ∙ unsigned_is b (gdr_offset b) 84 (gdr_offset b + 60) there (omega arith) (omega arith) in
-      (λ i. ((attributes i == 0) && (r_variables i == 0)) && (z_variables i == 0)) ∙ ap is_empty_head (sym (head_of_good b (shape b) (good_by_its_shape b good)))
+      (λ i. ((attributes i == 0) && (r_variables i == 0)) && (z_variables i == 0)) ∙ ap (λ (h : Head). ((h.attrs == 0) && (h.rvars == 0)) && (h.zvars == 0)) (sym (head_of_good b (shape b) (good_by_its_shape b good)))

@@ -1,26 +1,32 @@
 -- `setup` follows its command: the dimensions of a GDR and the CDR are written, what the image has by then, whatever became of the GDR, and the two ways, in its place and moved.
 use Rattle.std.proofs.Common.{◌≡◌, ◌≢◌, ℕ, ◌+◌, ◌-◌, ◌*◌, ◌/◌, ◌%◌, ◌<◌, ◌≤◌, List, [], ◌∷◌, ◌++◌, length, map, sum, drop, Bool, true, false, not, ◌||◌, refl, sym, ap, subst, ◌∙◌, arith, inl, inr, ◌^◌}
-use Rattle.cdf_vars.proofs.Common.{gdr_fits, IsGoodByShape, is_in, le-leb, length-take, length-drop, w32, cast_signed, list_all, ◌==◌, is_some, nat_le, if◌then◌else◌, ◌||◌, put, Majority, Row, Column, DataSet, encoding_at, image_limit, are_bad_sizes, is_empty_set, AllKeep, Edit, Mark, avoided, within, is_late, making_marks, Follows, Changed, touched_field, Act, Took, Gave, Fills, keep_attributes, acts_took, end_now, filled_size, filled_sound, list_chain, made_edit, place_in, shorter, the_one, unmarked-away, keep_file, keeps_fields, gdr_in, gdr_long, gdr_typed, apart, length-words, words_laid_out, Same, byte, IsChain, next_of, content, counted, has_bit, is_positive, number, word, words, size_at, type_at, gdr_offset, r_num_dims, r_sizes, with_field, owned_records, times, Field, cdr_encoding, cdr_flags, gdr_r_max_rec, gdr_r_num_dims, record_type, cdr_type, gdr_type, uir_type, fixed_size, is_record_type, Shape, HasShape, shape, IsSound, In, Good, of_4_bytes, length-put, word_kept, words_kept, is_a-type, good_by_its_shape, good_eof, good_is_sound, rules_of_good, good_long, sealed_kept, content_is, shape_is, WritesHeads, small_signed, drop-put_there}
+use Rattle.cdf_vars.proofs.Common.{gdr_fits, IsGoodByShape, is_in, le-leb, length-take, length-drop, w32, cast_signed, list_all, ◌==◌, is_some, nat_le, if◌then◌else◌, put, Majority, Row, Column, DataSet, encoding_at, image_limit, are_bad_sizes, is_empty_set, AllKeep, Edit, Mark, avoided, within, is_late, making_marks, Follows, Changed, touched_field, Act, Took, Gave, Fills, keep_attributes, acts_took, end_now, filled_size, filled_sound, list_chain, made_edit, place_in, shorter, the_one, unmarked-away, keep_file, keeps_fields, gdr_in, gdr_long, gdr_typed, apart, length-words, words_laid_out, Same, byte, IsChain, next_of, content, counted, has_bit, is_positive, number, word, words, size_at, type_at, gdr_offset, r_num_dims, r_sizes, with_field, owned_records, times, Field, cdr_encoding, cdr_flags, gdr_r_max_rec, gdr_r_num_dims, record_type, cdr_type, gdr_type, uir_type, fixed_size, is_record_type, Shape, HasShape, shape, IsSound, In, Good, of_4_bytes, length-put, word_kept, words_kept, is_a-type, good_by_its_shape, good_eof, good_is_sound, rules_of_good, good_long, sealed_kept, content_is, shape_is, WritesHeads, small_signed, drop-put_there, ne_eqb, nat_tests, touch, Away, away-avoids, away-within, either, with_bits, MovesForRoom, moved_for_room, Among, mark, field_marks, ActsFollow, Avoids-append, FirstSays, IsHeld, IsSorted, Within-append, acts_none, all_attribute_records, all_keep, all_variable_records, avoided-avoids, chain_clear, changed_put, edit_then, first_hold, first_said, keep_unused, keeps_within, none_in_use, owned_once_if, part_clear, places-sized, placing_marks, read_now, same_link, sizes_by_tiles, takes_edit, within-within, or_cases, filled_content, filled_edit, listed_before, listed_marks, loose_away, second, unlike, cdr_increment, cdr_release, cdr_version, cdr_gdr_offset, gdr_eof, gdr_leap_second_last_updated, gdr_num_attr, gdr_nr_vars, gdr_nz_vars, gdr_r_dim_sizes, gdr_rfu_c, gdr_rfu_e, gdr_uir_head, uir_next_uir, uir_prev_uir, gdr_adr_head, gdr_r_vdr_head, gdr_z_vdr_head, MakesGdr, gdr_fields}
 use Rattle.cdf_edits.proofs.Common.{AreTiles, Gives, Holds, IsGiven, Unused, content_of, encoding, eof, flags, is_a-from, leb-true, lt-leb, majority_of, owned_by, read_types, sealed_keeps, unused, unused_records, with_space}
 use Rattle.cdf_model.specs.declared.answer.Reply.TheVariants as replies
 use Rattle.cdf_model.specs.declared.command.Command.TheVariants as commands
 use Rattle.cdf_edits.specs.Commands.Allowances.{FreedStay, Stays, StaysOrSays, space_fields}
-use Rattle.cdf_edits.specs.Commands.NewRecords.{with_bits, MovesForRoom, moved_for_room}
 use Rattle.cdf_edits.specs.Commands.Setup.{majority_bit, setup_changes, space_taken}
-use Rattle.cdf_edits.specs.Edits.Marks.{Avoids, Within, giving_marks, Among, Anywhere, mark, field_marks}
-use Rattle.cdf_edits.specs.Space.Acts.{ActsFollow, links_end, taken as taken_of}
 use Rattle.cdf_edits.specs.Space.Taking.{IsTaken}
-use Rattle.cdf_edits.proofs.Edits.Common.{Avoids-append, Away-append, FirstSays, IsHeld, IsSorted, Within-append, acts_gave, acts_none, all_attribute_records, all_keep, all_variable_records, avoided-avoids, chain_clear, changed_edit, changed_put, edit_then, field_avoids, first_hold, first_said, gives_edit, keep_unused, keeps_within, none_in_use, owned_once_if, part_clear, places-sized, placing_marks, read_now, same_link, sizes_by_tiles, some_bytes, takes_edit, within-within}
-use Rattle.cdf_edits.proofs.Edits.EmptySet.{times_with, as_many, no_more, gdr_once, others_none, empty_shape, empty_sound, is_empty}
-use Rattle.cdf_edits.proofs.Edits.FieldWritten.{Stands, stands_fixed, field_in, still_stands, still_says, written_edit, written_long, written_reads}
-use Rattle.cdf_edits.proofs.Edits.FreedBytes.{BytesStay, behind_one, freed_stay_but}
-use Rattle.cdf_edits.proofs.Edits.MadeRecord.{filled_content, filled_edit, fresh, listed_before, listed_marks, loose_away, second}
+use Rattle.cdf_edits.proofs.Edits.EmptySet.{times_with, gdr_once, others_none, empty_shape, empty_sound, is_empty}
+use Rattle.cdf_edits.proofs.Edits.FieldWritten.{Stands, stands_fixed, field_in, still_stands, still_says, touched_edit, written_edit, written_long, written_reads}
+use Rattle.cdf_edits.proofs.Edits.FreedRecord.{FreesRecord, as_long_now, behind_links, freed_acts, freed_bytes, freed_edit, freed_keeps_unused, freed_type, gdr_beside, given, given_marks, gives, records_now}
 use Rattle.cdf_space.proofs.Filling.{word-put_inside}
-use Rattle.cdf_format.specs.Records.{cdr_increment, cdr_release, cdr_version, cdr_gdr_offset, gdr_eof, gdr_leap_second_last_updated, gdr_num_attr, gdr_nr_vars, gdr_nz_vars, gdr_r_dim_sizes, gdr_rfu_c, gdr_rfu_e, gdr_uir_head, uir_next_uir, uir_prev_uir, gdr_adr_head, gdr_r_vdr_head, gdr_z_vdr_head}
 use Rattle.cdf_format.proofs.Pieces.{word-piece}
-use Rattle.cdf_vars.specs.Setup.{MakesGdr, gdr_fields}
 use Rattle.cdf_vars.proofs.SetUpAnswers.{set_up, step_goes, taken_lies}
 use Rattle.cdf_vars.proofs.Sizes.{fine_sizes, positive_sizes, sizes_small}
+
+-- ---- bits of Flags
+
+abbrev pub majority_flags : ℕ → Majority → ℕ
+majority_flags n majority = with_bits n 0 1 (majority_bit majority)
+
+bit_0 : (n : ℕ) (m : Majority) → majority_of (has_bit (majority_flags n m) 0) ≡ m
+bit_0 n Row = grind arith
+bit_0 n Column = grind arith
+
+bits_stay : (n : ℕ) (m : Majority) → (has_bit (majority_flags n m) 1 ≡ has_bit n 1) × (has_bit (majority_flags n m) 2 ≡ has_bit n 2) × (has_bit (majority_flags n m) 3 ≡ has_bit n 3)
+bits_stay n Row = grind arith
+bits_stay n Column = grind arith
 
 -- ---- the edit
 
@@ -34,8 +40,7 @@ heads_marks gdr n =
     ∷ []
 
 pub or_true : (p : Bool) → (p || true) ≡ true
-or_true true = refl
-or_true false = refl
+or_true p = grind arith
 
 -- bytes of the fixed part of a GDR, but for rNumDims
 abbrev pub IsBeside : ℕ → ℕ → Type 0
@@ -43,13 +48,6 @@ IsBeside lo hi = ((nat_le 60 lo || nat_le hi 56) ≡ true) × (hi ≤ 84)
 
 pub heads_avoided : (gdr n lo hi : ℕ) → IsBeside lo hi → avoided (heads_marks gdr n) gdr_type lo hi ≡ true
 heads_avoided gdr n lo hi e = rw (e.0, le-leb hi 84 e.1, or_true) refl
-
--- what the CDR and the GDR at a place say then
-pub record HeadsSay (now : List ℕ) (gdr code bits : ℕ) (dims : List ℕ) : Type 0 where
-  pub encoding_is : encoding now ≡ code
-  pub flags_are : flags now ≡ bits
-  pub count_is : number now gdr gdr_r_num_dims ≡ length dims
-  pub sizes_are : r_sizes now gdr ≡ dims
 
 -- a number was written in a field of a record
 record Wrote (b now records : List ℕ) (m type n : ℕ) (f : Field) (to : ℕ) : Type 0 where
@@ -68,9 +66,6 @@ module _ {x y records list : List ℕ} {old g code bits : ℕ} {dims : List ℕ}
   abbrev n : ℕ
   n = length dims
 
-  abbrev bytes : List ℕ
-  bytes = of_4_bytes dims
-
   abbrev one : List ℕ
   one = with_field x g gdr_r_num_dims n
 
@@ -84,15 +79,10 @@ module _ {x y records list : List ℕ} {old g code bits : ℕ} {dims : List ℕ}
   lies = let l = w1.long in let r = w.lies in omega arith
 
   long_2 : length w.mid ≡ length one
-  long_2 = ap length w.dims_are ∙ length-put one (g + 84) bytes (let l = lies in let b = length-words dims in omega arith)
+  long_2 = ap length w.dims_are ∙ length-put one (g + 84) (of_4_bytes dims) (let l = lies in let b = length-words dims in omega arith)
 
   e2 : Edit one w.mid records records (field_marks gdr_type g (gdr_r_dim_sizes n)) []
-  e2 =
-      let some = some_bytes x (empty_shape records old list) h in
-      let l = w1.long in
-      changed_edit one w.mid records (touched_field g (gdr_r_dim_sizes n) ∷ []) (field_marks gdr_type g (gdr_r_dim_sizes n)) [] w1.edit.tiled_now long_2
-      (subst (λ (m : List ℕ). Changed one m (touched_field g (gdr_r_dim_sizes n) ∷ [])) (sym w.dims_are) (changed_put one g 84 (4 * n) bytes (length-words dims) lies))
-      (record { inside = is.inside; fits = w1.stands.long; behind_size = omega arith; behind_type = inl (omega arith); covered = inl (record { typed = w1.stands.typed; lies = inl refl; low = omega arith; high = omega arith }) }, tt) (omega arith)
+  e2 = touched_edit (field_in w1.edit.tiled_now w1.stands (omega arith) (omega arith)) (subst (λ (m : List ℕ). Changed one m (touched_field g (gdr_r_dim_sizes n) ∷ [])) (sym w.dims_are) (changed_put one g 84 (4 * n) (of_4_bytes dims) (length-words dims) lies)) long_2
 
   dims_edit : Edit x w.mid records records (field_marks gdr_type g gdr_r_num_dims ++ field_marks gdr_type g (gdr_r_dim_sizes n)) []
   dims_edit = edit_then w1.edit e2
@@ -120,25 +110,22 @@ module _ {x y records list : List ℕ} {old g code bits : ℕ} {dims : List ℕ}
 
   -- ---- what they say then
 
-  count_is : number y g gdr_r_num_dims ≡ n
+  pub flags_are : flags y ≡ bits
+  flags_are = w5.says
+
+  pub count_is : number y g gdr_r_num_dims ≡ n
   count_is = still_says cdr_edit gdr_2 refl gdr_r_num_dims refl (omega arith) ∙ still_says e2 w1.stands (rw or_true refl) gdr_r_num_dims (rw or_true refl) (omega arith) ∙ w1.says
 
   dims_counted : r_num_dims y g ≡ n
   dims_counted = let few = (fine_sizes dims fine).0 in ap (λ (k : ℕ). counted (cast_signed w32 k)) count_is ∙ small_signed n (omega arith)
 
-  pub heads_say : HeadsSay y g code bits dims
-  heads_say =
+  sizes_are : r_sizes y g ≡ dims
+  sizes_are =
       let kept = part_clear cdr_edit g gdr_type 84 (84 + 4 * n) gdr_2.inside gdr_2.typed refl refl gdr_2.long in
-      let there = ap (drop (g + 84)) w.dims_are ∙ drop-put_there one bytes (g + 84) (let l = lies in omega arith) in
-      record {
-        encoding_is = still_says w5.edit w4.stands refl cdr_encoding refl (omega arith) ∙ w4.says;
-        flags_are = w5.says;
-        count_is = count_is;
-        sizes_are =
-            ap (words y (g + 84)) dims_counted
-            ∙ words_kept w.mid y (g + 84) (g + (84 + 4 * n)) kept (g + 84) n (omega arith) (omega arith)
-            ∙ (words_laid_out w.mid (g + 84) dims (drop (g + 84 + length bytes) one) there (sizes_small dims (fine_sizes dims fine).1)).0;
-      }
+      let there = ap (drop (g + 84)) w.dims_are ∙ drop-put_there one (of_4_bytes dims) (g + 84) (let l = lies in omega arith) in
+      ap (words y (g + 84)) dims_counted
+      ∙ words_kept w.mid y (g + 84) (g + (84 + 4 * n)) kept (g + 84) n (omega arith) (omega arith)
+      ∙ (words_laid_out w.mid (g + 84) dims (drop (g + 84 + length (of_4_bytes dims)) one) there (sizes_small dims (fine_sizes dims fine).1)).0
 
   -- another field of the GDR
   pub gdr_still : (f : Field) → IsBeside f.place (f.place + f.width) → number y g f ≡ number x g f
@@ -177,44 +164,18 @@ module _ {x y records list : List ℕ} {old g code bits : ℕ} {dims : List ℕ}
     have_variables = tt;
   }
 
-  pub heads_content : {majority : Majority} → HasShape y (empty_shape records g list) → majority_of (has_bit bits 0) ≡ majority → has_bit bits 2 ≡ has_bit (flags x) 2 → content y ≡ set_up (content x) code majority dims
-  heads_content {majority = majority} shape major in_use =
-      let release = ap (cast_signed w32) (still_says heads_edit cdr refl cdr_release refl (omega arith)) in
-      let increment = ap (cast_signed w32) (still_says heads_edit cdr refl cdr_increment refl (omega arith)) in
-      let encoding_now = heads_say.encoding_is in
-      let major_now = ap (λ (n : ℕ). majority_of (has_bit n 0)) heads_say.flags_are ∙ major in
-      let md5_now = ap (λ (n : ℕ). has_bit n 2) heads_say.flags_are ∙ in_use in
-      let sizes = heads_say.sizes_are in
-      let before = empty_shape records old list in
-      let whole : content_of y (empty_shape records g list) ≡ set_up (content_of x before) code majority dims = λ i. record (content_of x before) {
-        release = release i;
-        increment = increment i;
-        encoding = encoding_now i;
-        majority = major_now i;
-        md5 = md5_now i;
-        rdims = sizes i;
-      } in
-      content_is y (empty_shape records g list) shape ∙ whole ∙ ap (λ (d : DataSet). set_up d code majority dims) (sym (content_is x before h))
-
--- ---- bits of Flags
-
-abbrev pub majority_flags : ℕ → Majority → ℕ
-majority_flags n majority = with_bits n 0 1 (majority_bit majority)
-
-bit_0 : (n : ℕ) (m : Majority) → majority_of (has_bit (majority_flags n m) 0) ≡ m
-bit_0 n Row = let same : (n % 1 + 1 * 1 + 2 * (n / 2)) / 1 % 2 ≡ 1 = omega arith in ap (λ (k : ℕ). majority_of (k == 1)) same
-bit_0 n Column = let same : (n % 1 + 1 * 0 + 2 * (n / 2)) / 1 % 2 ≡ 0 = omega arith in ap (λ (k : ℕ). majority_of (k == 1)) same
-
-bits_stay : (n : ℕ) (m : Majority) → (has_bit (majority_flags n m) 1 ≡ has_bit n 1) × (has_bit (majority_flags n m) 2 ≡ has_bit n 2) × (has_bit (majority_flags n m) 3 ≡ has_bit n 3)
-bits_stay n m =
-    let first : majority_flags n m / 2 % 2 ≡ n / 2 % 2 = omega (arith, half n m) in
-    let second : majority_flags n m / 4 % 2 ≡ n / 4 % 2 = omega (arith, half n m) in
-    let third : majority_flags n m / 8 % 2 ≡ n / 8 % 2 = omega (arith, half n m) in
-    (ap (λ (k : ℕ). k == 1) first, ap (λ (k : ℕ). k == 1) second, ap (λ (k : ℕ). k == 1) third)
-  where
-    half : (n : ℕ) (m : Majority) → majority_flags n m / 2 ≡ n / 2
-    half n Row = omega arith
-    half n Column = omega arith
+  pub heads_content : {majority : Majority} (was : ℕ) → HasShape y (empty_shape records g list) → bits ≡ majority_flags was majority → has_bit was 2 ≡ has_bit (flags x) 2 → content y ≡ set_up (content x) code majority dims
+  heads_content {majority = majority} was shape bits_are in_use =
+      content_is y (empty_shape records g list) shape
+      ∙ (λ i. record (content_of x (empty_shape records old list)) {
+        release = cast_signed w32 (still_says heads_edit cdr refl cdr_release refl (omega arith) i);
+        increment = cast_signed w32 (still_says heads_edit cdr refl cdr_increment refl (omega arith) i);
+        encoding = (still_says w5.edit w4.stands refl cdr_encoding refl (omega arith) ∙ w4.says) i;
+        majority = (ap (λ (n : ℕ). majority_of (has_bit n 0)) (flags_are ∙ bits_are) ∙ bit_0 was majority) i;
+        md5 = (ap (λ (n : ℕ). has_bit n 2) (flags_are ∙ bits_are) ∙ (bits_stay was majority).1 ∙ in_use) i;
+        rdims = sizes_are i;
+      })
+      ∙ ap (λ (d : DataSet). set_up d code majority dims) (sym (content_is x (empty_shape records old list) h))
 
 -- ---- what `setup` leaves, whatever became of the GDR
 
@@ -225,9 +186,7 @@ IsCopied f = IsBeside f.place (f.place + f.width) × ((nat_le 44 f.place || nat_
 -- The CDR and the GDR say what they have to, no other record is in use, and the unused ones and the space are as these acts leave them.
 record IsSetUp (b now records list : List ℕ) (gdr code bits : ℕ) (majority : Majority) (dims : List ℕ) (marks : List Mark) (reborn : List ℕ) (acts : List Act) : Type 0 where
   edit : Edit b now (shape b).records records marks reborn
-  cdr_start : avoided marks cdr_type 0 12 ≡ true
-  cdr_version_stays : avoided marks cdr_type 20 24 ≡ true
-  cdr_within : within marks cdr_type (cdr_encoding ∷ cdr_flags ∷ cdr_gdr_offset ∷ []) ≡ true
+  cdr_clear : (avoided marks cdr_type 0 12 ≡ true) × (avoided marks cdr_type 20 24 ≡ true) × (within marks cdr_type (cdr_encoding ∷ cdr_flags ∷ cdr_gdr_offset ∷ []) ≡ true)
   sound : IsSound now (empty_shape records gdr list)
   content_now : content now ≡ set_up (content b) code majority dims
   flags_now : flags now ≡ bits
@@ -237,7 +196,6 @@ record IsSetUp (b now records list : List ℕ) (gdr code bits : ℕ) (majority :
   longest : length now ≤ length b + (84 + 4 * length dims)
   as_owned : (m : ℕ) → (In m reborn → ⊥) → times_with gdr m ≡ times_with (gdr_offset b) m
   anew : (m : ℕ) → In m reborn → IsSorted now (empty_shape records gdr list) m × (is_in (type_at now m) read_types ≡ true)
-  takes_within : sum (map (λ take. take.1) (taken_of acts)) ≤ 84 + 4 * length dims
   acts_follow : ActsFollow b now acts
   unused_stay : AllKeep b now setup_changes acts (owned_by Unused (unused_records b (shape b)))
   acts_are : acts ≡ moved_for_room b (gdr_offset b) (gdr_offset now) (84 + 4 * length dims)
@@ -291,64 +249,54 @@ module _ (b dims : List ℕ) (good : Good b) (empty : is_empty_set (content b) �
         let was = first_said b s sound.has_shape sound.gdr_fits (sealed_kept b (good_long b s (good_by_its_shape b good)) (rules_of_good b good)).0 in
         let bits_now = is.flags_now ∙ bits_are in
         let bits = bits_stay (flags b) majority in
-        let in_use = ap (λ (n : ℕ). has_bit n 2) bits_now ∙ bits.1 in
-        let is_md5 = ap (λ (n : ℕ). has_bit n 3) bits_now ∙ bits.2 in
-        let test : (not (has_bit (flags now) 2) || has_bit (flags now) 3) ≡ (not (has_bit (flags b) 2) || has_bit (flags b) 3) = λ i. not (in_use i) || is_md5 i in
         let own_content : content_of now own ≡ set_up (content b) code majority dims = sym (content_is now own is.sound.has_shape) ∙ is.content_now in
-        record {
-          first_magic = word_kept b now 0 8 is.edit.front 0 4 (omega arith) (omega arith) ∙ was.first_magic;
-          second_magic = word_kept b now 0 8 is.edit.front 4 4 (omega arith) (omega arith) ∙ was.second_magic;
-          version_is = still_says is.edit cdr_before is.cdr_start cdr_version is.cdr_version_stays (omega arith) ∙ was.version_is;
-          encoding_read = ap (λ (d : DataSet). is_some (encoding_at d.encoding)) own_content ∙ read;
-          single_file = ap (λ (n : ℕ). has_bit n 1) bits_now ∙ bits.0 ∙ was.single_file;
-          md5_used = test ∙ was.md5_used;
-          few = subst (λ (n : ℕ). n ≤ 10) (sym is.count_now) ((fine_sizes dims fine).0);
-          positive = ap (λ (d : DataSet). list_all is_positive d.rdims) own_content ∙ positive_sizes dims (fine_sizes dims fine).1;
-          eof_is = is.end;
-        }
-
-    none_counted : (f : Field) → IsCopied f → (number b (gdr_offset b) f == 0) ≡ true → (number now (gdr_offset now) f == 0) ≡ true
-    none_counted f copied none = ap (λ (n : ℕ). n == 0) (moved f copied) ∙ none
+        let few : number now gdr gdr_r_num_dims ≤ 10 = rw is.count_now (fine_sizes dims fine).0 in
+        let md5 : (not (has_bit (flags now) 2) || has_bit (flags now) 3) ≡ true = rw (bits_now, bits.1, bits.2) was.md5_used in
+        assumption (
+          word_kept b now 0 8 is.edit.front 0 4 (omega arith) (omega arith) ∙ was.first_magic,
+          word_kept b now 0 8 is.edit.front 4 4 (omega arith) (omega arith) ∙ was.second_magic,
+          still_says is.edit cdr_before is.cdr_clear.0 cdr_version is.cdr_clear.1 (omega arith) ∙ was.version_is,
+          few,
+          md5,
+          is.end,
+          ap (λ (n : ℕ). has_bit n 1) bits_now ∙ bits.0 ∙ was.single_file,
+          ap (λ (d : DataSet). is_some (encoding_at d.encoding)) own_content ∙ read,
+          ap (λ (d : DataSet). list_all is_positive d.rdims) own_content ∙ positive_sizes dims (fine_sizes dims fine).1,
+        )
 
     good_now : IsGoodByShape now own
-    good_now = record {
-      has_shape = is.sound.has_shape;
-      read_types = read_now is.edit image.read_types (λ m i. (is.anew m i).1);
-      counting = (none_counted gdr_num_attr ((refl, omega arith), refl, refl, refl) image.counting.0, (none_counted gdr_nr_vars ((refl, omega arith), refl, refl, refl) image.counting.1.0, (none_counted gdr_nz_vars ((refl, omega arith), refl, refl, refl) image.counting.1.1.0, tt)));
-      attributes = tt;
-      of_variables = tt;
-      indexes = tt;
-      owned_once = owned_once_if b now before own marks reborn bare image.owned_once is.edit is.as_owned (λ m i. (is.anew m i).0);
-    }
+    good_now =
+        let none = λ (f : Field) (copied : IsCopied f) (zero : (number b (gdr_offset b) f == 0) ≡ true). ap (λ (n : ℕ). n == 0) (moved f copied) ∙ zero in
+        assumption (
+          is.sound,
+          read_now is.edit image.read_types (λ m i. (is.anew m i).1),
+          none gdr_num_attr ((refl, omega arith), refl, refl, refl) image.counting.0,
+          none gdr_nr_vars ((refl, omega arith), refl, refl, refl) image.counting.1.0,
+          none gdr_nz_vars ((refl, omega arith), refl, refl, refl) image.counting.1.1.0,
+          owned_once_if b now before own marks reborn bare image.owned_once is.edit is.as_owned (λ m i. (is.anew m i).0),
+        )
 
     setup_follows : length b + need ≤ image_limit → Follows b (commands.Setup code majority dims) now
     setup_follows room =
         let records_are = ap (λ (x : Shape). x.records) (shape_is now own is.sound.has_shape) in
-        let heads = keeps_fields sound is.edit records_are 8 cdr_type (cdr_encoding ∷ cdr_flags ∷ cdr_gdr_offset ∷ []) cdr_before.inside cdr_before.typed is.cdr_start is.cdr_within in
+        let heads = keeps_fields sound is.edit records_are 8 cdr_type (cdr_encoding ∷ cdr_flags ∷ cdr_gdr_offset ∷ []) cdr_before.inside cdr_before.typed is.cdr_clear.0 is.cdr_clear.2 in
         record {
           reply = replies.Plain;
-          goes = step_goes (content b) (content now) code majority dims read fine empty is.content_now;
+          goes = rw is.content_now (step_goes (content b) code majority dims read fine empty);
           good = sealed_keeps now own (first_hold now own is.sound.has_shape is.sound.gdr_fits says (let l = is.longest in omega arith)) good_now;
           longer = is.edit.longer;
           within = is.longest;
           reads = λ q. absurd cc;
           acts = acts;
-          takes_within = is.takes_within;
+          takes_within = rw is.acts_are (elim (either (nat_le need (size_at b (gdr_offset b)))) [ inl e ↦ rw e (omega arith) | inr e ↦ rw e (omega arith) ]);
           acts_follow = is.acts_follow;
           keeps = all_keep b now setup_changes acts (keep_file b now setup_changes acts sound heads tt) (keep_attributes b now setup_changes acts 0 s.attributes (λ m i. absurd (subst (λ (x : Shape). In m (all_attribute_records x)) before_is i))) (λ m i. absurd (subst (λ (x : Shape). In m (all_variable_records x)) before_is i)) is.unused_stay;
-          does = record {
-            acts_are = is.acts_are;
-            flags_are = is.flags_now ∙ bits_are;
-            fields_stay = (moved gdr_r_max_rec ((refl, omega arith), refl, refl, refl), (moved gdr_rfu_c ((refl, omega arith), refl, refl, refl), (moved gdr_leap_second_last_updated ((refl, omega arith), refl, refl, refl), (moved gdr_rfu_e ((refl, omega arith), refl, refl, refl), tt))));
-            room = is.room;
-            freed = is.freed;
-            emptied = is.emptied;
-          };
+          does = assumption (is.flags_now ∙ bits_are, moved gdr_r_max_rec ((refl, omega arith), refl, refl, refl), moved gdr_rfu_c ((refl, omega arith), refl, refl, refl), moved gdr_leap_second_last_updated ((refl, omega arith), refl, refl, refl), moved gdr_rfu_e ((refl, omega arith), refl, refl, refl));
         }
 
   -- ---- the GDR has room for the dimensions, and stays in its place
 
-  module _ {now : List ℕ} {place code bits : ℕ} (majority : Majority) (read : is_some (encoding_at code) ≡ true) (bits_are : bits ≡ majority_flags (flags b) majority) (place_is : place ≡ gdr_offset b) (fits : need ≤ size_at b (gdr_offset b)) (w : WritesHeads b now place code bits dims) where
+  module _ {now : List ℕ} {place code bits : ℕ} (majority : Majority) (read : is_some (encoding_at code) ≡ true) (bits_are : bits ≡ majority_flags (flags b) majority) (place_is : place ≡ gdr_offset b) (fits : need ≤ size_at b (gdr_offset b)) (roomy : length b + need ≤ image_limit) (w : WritesHeads b now place code bits dims) where
     gdr : Stands b s.records old gdr_type need
     gdr = record { inside = gdr_before.inside; typed = gdr_before.typed; long = fits }
 
@@ -370,42 +318,35 @@ module _ (b dims : List ℕ) (good : Good b) (empty : is_empty_set (content b) �
     same_shape : shape now ≡ before
     same_shape = shape_is now before shape_now
 
-    behind_dims : Avoids in_place gdr_type old need (size_at b old)
-    behind_dims =
-        let other = λ (q : gdr_type ≡ cdr_type). apart gdr_type cdr_type refl q in
-        ((λ q lies. inr (omega arith)), ((λ q lies. inr (omega arith)), ((λ q lies. absurd (other q)), ((λ q lies. absurd (other q)), ((λ q lies. absurd (other q)), tt)))))
-
     kept_set : IsSetUp b now s.records s.unused old code bits majority dims in_place [] []
     kept_set = record {
       edit = e;
-      cdr_start = refl;
-      cdr_version_stays = refl;
-      cdr_within = refl;
+      cdr_clear = (refl, refl, refl);
       sound = empty_sound b now before [] bare e shape_now (heads_fit bare.has_shape fine gdr here) (λ m out. omega arith) (λ m i. absurd i);
-      content_now = heads_content bare.has_shape fine gdr here shape_now (ap (λ (n : ℕ). majority_of (has_bit n 0)) bits_are ∙ bit_0 (flags b) majority) (ap (λ (n : ℕ). has_bit n 2) bits_are ∙ (bits_stay (flags b) majority).1);
-      flags_now = (heads_say bare.has_shape fine gdr here).flags_are;
-      count_now = (heads_say bare.has_shape fine gdr here).count_is;
+      content_now = heads_content bare.has_shape fine gdr here (flags b) shape_now bits_are refl;
+      flags_now = flags_are bare.has_shape fine gdr here;
+      count_now = count_is bare.has_shape fine gdr here;
       stays = λ f copied. gdr_still bare.has_shape fine gdr here f copied.0;
       end = gdr_still bare.has_shape fine gdr here gdr_eof (refl, omega arith) ∙ good_eof b good ∙ sym same_long;
       longest = omega (arith, same_long);
       as_owned = λ m out. refl;
       anew = λ m i. absurd i;
-      takes_within = omega arith;
       acts_follow = acts_none sound e refl refl (ap (λ (x : Shape). x.records) same_shape) (ap (λ (x : Shape). x.unused) same_shape) same_long;
       unused_stay =
           keep_unused sound e (ap (λ (x : Shape). x.records) same_shape) setup_changes [] (λ m i free. (avoided-avoids in_place uir_type m 0 12 refl, within-within in_place uir_type m (uir_next_uir ∷ uir_prev_uir ∷ []) refl)) (λ m i out. unmarked-away in_place uir_type m refl);
       acts_are = rw (le-leb need (size_at b (gdr_offset b)) fits) refl;
-      room = λ le. record {
-        place_stays = shape_now.gdr_is;
-        size_stays = heads_sizes bare.has_shape fine gdr here old gdr_before.inside;
-        rest_stays = e.part old gdr_type need (size_at b old) gdr_before.inside gdr_before.typed (avoided-avoids in_place gdr_type old 0 12 (heads_avoided old (length dims) 0 12 (refl, omega arith))) behind_dims (omega arith);
-      };
+      room = λ le. assumption (
+        shape_now.gdr_is,
+        heads_sizes bare.has_shape fine gdr here old gdr_before.inside,
+        e.part old gdr_type need (size_at b old) gdr_before.inside gdr_before.typed (avoided-avoids in_place gdr_type old 0 12 (heads_avoided old (length dims) 0 12 (refl, omega arith)))
+            (let other = λ (q : gdr_type ≡ cdr_type). apart gdr_type cdr_type refl q in ((λ q lies. inr (omega arith)), ((λ q lies. inr (omega arith)), ((λ q lies. absurd (other q)), ((λ q lies. absurd (other q)), ((λ q lies. absurd (other q)), tt)))))) (omega arith),
+      );
       freed = tt;
       emptied = λ moves. absurd (moves shape_now.gdr_is);
     }
 
-    pub keeps_follows : length b + need ≤ image_limit → Follows b (commands.Setup code majority dims) now
-    keeps_follows = setup_follows read bits_are kept_set
+    pub keeps_follows : Follows b (commands.Setup code majority dims) now
+    keeps_follows = setup_follows read bits_are kept_set roomy
 
   -- ---- it has no room: another one is made
 
@@ -416,14 +357,8 @@ module _ (b dims : List ℕ) (good : Good b) (empty : is_empty_set (content b) �
     abbrev list : List ℕ
     list = (shape m.taken).unused
 
-    abbrev grown : Shape
-    grown = with_space (shape b) (shape m.taken).records (shape m.taken).unused
-
-    is_taken : IsTaken b m.taken s grown need place
+    is_taken : IsTaken b m.taken s (with_space s records list) need place
     is_taken = subst (λ (x : Shape). IsTaken b m.taken s x need place) m.is_taken.0.space.rest_stays m.is_taken
-
-    place_ends : place + need ≤ length m.taken
-    place_ends = taken_lies m.is_taken.0 m.is_taken.1
 
     taken_old : Stands m.taken records old gdr_type 84
     taken_old = still_stands (takes_edit sound (omega arith) is_taken.0) gdr_before refl (omega arith)
@@ -438,7 +373,7 @@ module _ (b dims : List ℕ) (good : Good b) (empty : is_empty_set (content b) �
 
     copied_field : (f : Field) → 8 ≤ f.place → f.place + f.width ≤ 84 → number m.copied place f ≡ number m.taken old f
     copied_field f low high =
-        let l = place_ends in
+        let l = taken_lies m.is_taken.0 m.is_taken.1 in
         let p = piece_long in
         let from : place + f.place ≡ place + 8 + (f.place - 8) = omega arith in
         let to : old + 8 + (f.place - 8) ≡ old + f.place = omega arith in
@@ -450,21 +385,13 @@ module _ (b dims : List ℕ) (good : Good b) (empty : is_empty_set (content b) �
 
     fills : Fills b m.taken m.copied s records list need place gdr_type
     fills =
-        let l = place_ends in
+        let l = taken_lies m.is_taken.0 m.is_taken.1 in
         let long : length m.copied ≡ length m.taken = ap length m.copy ∙ length-put m.taken (place + 8) piece (let p = piece_long in omega arith) in
         let change = changed_put m.taken place 8 76 piece piece_long (omega arith) in
-        record {
-          takes = is_taken.0;
-          sound = is_taken.1;
-          content_stays = is_taken.2;
-          fill = record { longer = omega arith; same = λ i lt out. ap (λ (x : List ℕ). byte x i) m.copy ∙ change.same i lt (elim out.0 [ inl low ↦ inl low | inr high ↦ inr (omega arith) ], tt) };
-          long = long;
-          typed = copied_field record_type (omega arith) (omega arith) ∙ taken_old.typed;
-          real = refl;
-          in_use = apart gdr_type uir_type refl;
-          fixed = omega arith;
-          enough = omega arith;
-        }
+        let fill : Changed m.taken m.copied (touch place 8 (need - 8) ∷ []) = record { longer = omega arith; same = λ i lt out. ap (λ (x : List ℕ). byte x i) m.copy ∙ change.same i lt (elim out.0 [ inl low ↦ inl low | inr high ↦ inr (omega arith) ], tt) } in
+        let fixed : 84 ≤ need = omega arith in
+        let enough : 28 ≤ need = omega arith in
+        assumption (is_taken, fill, long, copied_field record_type (omega arith) (omega arith) ∙ taken_old.typed, apart gdr_type uir_type refl, fixed, enough)
 
     copied_shape : HasShape m.copied (empty_shape records old list)
     copied_shape = subst (λ (x : Shape). HasShape m.copied (with_space x records list)) before_is (filled_sound sound fills).has_shape
@@ -472,12 +399,6 @@ module _ (b dims : List ℕ) (good : Good b) (empty : is_empty_set (content b) �
     -- the old one stays whole while it is copied
     copied_old : Stands m.copied records old gdr_type 84
     copied_old = still_stands (second sound fills) taken_old refl (omega arith)
-
-    old_says : (f : Field) → f.place + f.width ≤ 84 → number m.copied old f ≡ number m.taken old f
-    old_says f high = still_says (second sound fills) taken_old refl f refl high
-
-    copied_cdr : (f : Field) → avoided (placing_marks (shape b).unused place need) cdr_type f.place (f.place + f.width) ≡ true → f.place + f.width ≤ 312 → number m.copied 8 f ≡ number b 8 f
-    copied_cdr f clear high = still_says (filled_edit sound fills) cdr_before refl f clear high
 
     -- ---- the dimensions and the CDR are written
 
@@ -503,7 +424,7 @@ module _ (b dims : List ℕ) (good : Good b) (empty : is_empty_set (content b) �
     made = made_edit sound fills later as_long lately
 
     late_shape : HasShape late (empty_shape records place list)
-    late_shape = heads_shape copied_shape fine new m.heads (λ f low high. copied_field f (omega arith) high ∙ sym (old_says f high))
+    late_shape = heads_shape copied_shape fine new m.heads (λ f low high. copied_field f (omega arith) high ∙ sym (still_says (second sound fills) taken_old refl f refl high))
 
     late_is : shape late ≡ empty_shape records place list
     late_is = shape_is late (empty_shape records place list) late_shape
@@ -512,24 +433,14 @@ module _ (b dims : List ℕ) (good : Good b) (empty : is_empty_set (content b) �
     late_records = ap (λ (x : Shape). x.records) late_is
 
     -- the new GDR is none of the records that were in use
-    fresh_place : (k type : ℕ) → Stands b s.records k type 84 → type ≢ uir_type → k ≢ place
-    fresh_place k type is used q = used (sym is.typed ∙ ap (type_at b) q ∙ fresh sound fills (subst (λ (x : ℕ). In x s.records) q is.inside))
-
     place_not_old : old ≢ place
-    place_not_old = fresh_place old gdr_type gdr_before (λ u. apart gdr_type uir_type refl u)
+    place_not_old = unlike sound fills old gdr_before.inside (λ u. apart gdr_type uir_type refl (sym gdr_before.typed ∙ u))
 
     place_not_8 : place ≢ 8
-    place_not_8 q = fresh_place 8 cdr_type (record { inside = cdr_before.inside; typed = cdr_before.typed; long = let l = cdr_before.long in omega arith }) (λ u. apart cdr_type uir_type refl u) (sym q)
+    place_not_8 q = unlike sound fills 8 cdr_before.inside (λ u. apart cdr_type uir_type refl (sym cdr_before.typed ∙ u)) (sym q)
 
     old_not_8 : old ≢ 8
     old_not_8 q = apart gdr_type cdr_type refl (sym gdr_before.typed ∙ ap (type_at b) q ∙ cdr_before.typed)
-
-    -- what it has of the old one
-    new_says : (f : Field) → IsCopied f → number late place f ≡ number b old f
-    new_says f copied =
-        let high = copied.0.1 in
-        let low = leb-true 12 f.place copied.3 in
-        gdr_still copied_shape fine new m.heads f copied.0 ∙ copied_field f (omega arith) high ∙ sym (old_says f high) ∙ still_says (filled_edit sound fills) gdr_before refl f (rw (copied.1, copied.2) refl) high
 
     -- ---- the old one
 
@@ -540,147 +451,83 @@ module _ (b dims : List ℕ) (good : Good b) (empty : is_empty_set (content b) �
     old_stays : Stays b late old space_fields
     old_stays =
         let no = λ (lies : In old (place ∷ [])). place_not_old (the_one place old lies) in
-        let other = λ (q : gdr_type ≡ cdr_type). apart gdr_type cdr_type refl q in
-        let heads : Within late_marks gdr_type old space_fields = ((λ q lies. absurd (no lies)), ((λ q lies. absurd (no lies)), ((λ q lies. absurd (other q)), ((λ q lies. absurd (other q)), ((λ q lies. absurd (other q)), tt))))) in
-        keeps_within sound made late_records old gdr_type space_fields gdr_before.inside gdr_before.typed (Avoids-append (placing_marks (shape b).unused place need) late_marks gdr_type old 0 12 (avoided-avoids (placing_marks (shape b).unused place need) gdr_type old 0 12 refl) (avoided-avoids late_marks gdr_type old 0 12 (heads_avoided place (length dims) 0 12 (refl, omega arith))))
-        (Within-append (placing_marks (shape b).unused place need) late_marks gdr_type old space_fields (within-within (placing_marks (shape b).unused place need) gdr_type old space_fields refl) heads)
+        let away : Away late_marks gdr_type old = ((λ q lies. no lies), ((λ q lies. no lies), ((λ q lies. apart gdr_type cdr_type refl q), ((λ q lies. apart gdr_type cdr_type refl q), ((λ q lies. apart gdr_type cdr_type refl q), tt))))) in
+        let placing = placing_marks (shape b).unused place need in
+        keeps_within sound made late_records old gdr_type space_fields gdr_before.inside gdr_before.typed (Avoids-append placing late_marks gdr_type old 0 12 (avoided-avoids placing gdr_type old 0 12 refl) (away-avoids late_marks gdr_type old 0 12 away))
+        (Within-append placing late_marks gdr_type old space_fields (within-within placing gdr_type old space_fields refl) (away-within late_marks gdr_type old space_fields away))
 
     -- what a call asks for that frees it
-    late_bare : IsSound late (empty_shape records place list)
-    late_bare = empty_sound b late before (place ∷ []) bare made late_shape (heads_fit copied_shape fine new m.heads) (λ k out. no_more old place k (λ q. out (inl q)))
-        (λ k i. subst (IsHeld late (empty_shape records place list)) (sym (the_one place k i)) (inl ((λ u. apart gdr_type uir_type refl (sym (gdr_typed late _ late_shape) ∙ u)), omega (arith, gdr_once place place_not_8))))
-
     pub late_sound : IsSound late (shape late)
-    late_sound = subst (IsSound late) (sym late_is) late_bare
+    late_sound = rw late_is (empty_sound b late before (place ∷ []) bare made late_shape (heads_fit copied_shape fine new m.heads) (λ k out. rw (ne_eqb k place (λ q. out (inl q))) (grind (arith, nat_tests)))
+        (λ k i. subst (IsHeld late (empty_shape records place list)) (sym (the_one place k i)) (inl ((λ u. apart gdr_type uir_type refl (sym (gdr_typed late _ late_shape) ∙ u)), omega (arith, gdr_once place place_not_8)))))
 
     pub old_stands : (g : ℕ) → g ≡ gdr_offset b → In g (shape late).records
-    old_stands g is = subst (λ (x : ℕ). In x (shape late).records) (sym is) (subst (In old) (sym late_records) late_old.inside)
+    old_stands g is = rw (is, late_records) late_old.inside
 
     pub old_free : (g : ℕ) → g ≡ gdr_offset b → times g (owned_records late (shape late)) ≡ 0
-    old_free g is =
-        subst (λ (x : ℕ). times x (owned_records late (shape late)) ≡ 0) (sym is) (subst (λ (x : Shape). times old (owned_records late x) ≡ 0) (sym late_is)
-        (none_in_use late (empty_shape records place list) late_shape.tiled old (λ u. apart gdr_type uir_type refl (sym late_old.typed ∙ u)) (others_none place old old_not_8 place_not_old)))
+    old_free g is = subst (λ (x : ℕ). times x (owned_records late (shape late)) ≡ 0) (sym is) (rw late_is (none_in_use late (empty_shape records place list) late_shape.tiled old (λ u. apart gdr_type uir_type refl (sym late_old.typed ∙ u)) (others_none place old old_not_8 place_not_old)))
 
     -- ---- and the old one is freed
 
     module _ (now : List ℕ) (majority : Majority) (read : is_some (encoding_at code) ≡ true) (bits_are : bits ≡ majority_flags (flags b) majority) (large : size_at b (gdr_offset b) < need) (free : IsGiven late now (shape late) (shape now) (gdr_offset b)) where
-      abbrev late_own : Shape
-      late_own = empty_shape records place list
-
-      is_given : IsGiven late now late_own (shape now) old
-      is_given = subst (λ (x : Shape). IsGiven late now x (shape now) old) late_is free
-
-      abbrev gives : Gives late now late_own (shape now) old
-      gives = is_given.0
-
-      abbrev given_marks : List Mark
-      given_marks = giving_marks list gdr_type old (size_at late old)
-
-      given : Edit late now records records given_marks (old ∷ [])
-      given = gives_edit late now late_own (shape now) old gdr_type late_shape late_old.inside late_old.typed gives
-
-      all : Edit b now s.records records (make_marks ++ given_marks) (place ∷ old ∷ [])
-      all = edit_then made given
+      f : FreesRecord b late now (empty_shape records place list) make_marks (place ∷ []) old gdr_type
+      f = record { sound = sound; edit = made; late_sound = late_sound; late_is = late_is; inside = gdr_before.inside; typed = late_old.typed; used = λ u. apart gdr_type uir_type refl u; other = λ same. place_not_old; size_is = old_stays.size_is; frees = free.0 }
 
       abbrev own_now : Shape
       own_now = empty_shape records place (shape now).unused
 
       now_sound : IsSound now own_now
-      now_sound = subst (IsSound now) (gives.space.rest_stays ∙ ap (λ (r : List ℕ). with_space late_own r (shape now).unused) gives.records_stay) is_given.1
+      now_sound = subst (IsSound now) ((gives f).space.rest_stays ∙ ap (λ (r : List ℕ). empty_shape r place (shape now).unused) (records_now f)) free.1
 
       h : HasShape now own_now
       h = now_sound.has_shape
 
-      freed_type : type_at now old ≡ uir_type
-      freed_type = is_a-type now (shape now).records uir_type old gives.stands
-
-      -- ---- the CDR and the new one after that
-
-      place_avoids : (lo hi : ℕ) → (nat_le 72 lo || nat_le hi 64) ≡ true → Avoids given_marks gdr_type place lo hi
-      place_avoids lo hi beside = (
-        (avoided-avoids (mark gdr_type Anywhere gdr_uir_head ∷ []) gdr_type place lo hi (rw beside refl)).0,
-        ((λ q lies. absurd (apart gdr_type uir_type refl q)), ((λ q lies. absurd (place_not_old (sym (the_one old place lies)))), tt)),
-      )
-
-      place_now : (f : Field) → (nat_le 72 f.place || nat_le (f.place + f.width) 64) ≡ true → f.place + f.width ≤ 84 → number now place f ≡ number late place f
-      place_now f beside fits = field_avoids given place gdr_type f (gdr_in late late_own late_shape) (gdr_typed late late_own late_shape) (place_avoids 0 12 refl) (place_avoids f.place (f.place + f.width) beside) (let l = gdr_long late late_own late_shape in omega arith)
+      place_now : (f' : Field) → (nat_le 72 f'.place || nat_le (f'.place + f'.width) 64) ≡ true → f'.place + f'.width ≤ 84 → number now place f' ≡ number late place f'
+      place_now f' beside fits = gdr_beside f f' (elim (or_cases (nat_le 72 f'.place) (nat_le (f'.place + f'.width) 64) beside) [ inl x ↦ inr (leb-true 72 f'.place x) | inr x ↦ inl (leb-true (f'.place + f'.width) 64 x) ]) fits
 
       -- ---- the old one
 
       abbrev acts : List Act
       acts = Took place need ∷ Gave old (size_at b old) ∷ []
 
-      behind : Same late now (old + links_end (size_at late old)) (old + size_at late old)
-      behind = behind_one late_shape gives late_old.inside old late_old.inside place_not_old
-
-      joins : nat_le 28 (size_at late old) ≡ true
-      joins = le-leb 28 (size_at late old) (let l = late_old.long in omega arith)
-
       now_list : (shape now).unused ≡ old ∷ list
       now_list =
-          sym (places-sized now (shape now).unused) ∙ ap (map (λ pair. pair.0)) gives.list_is ∙ ap (λ (p : Bool). map (λ pair. pair.0) (if p then (old, size_at late old) ∷ unused late late_own else unused late late_own)) joins
+          sym (places-sized now (shape now).unused) ∙ ap (map (λ pair. pair.0)) (gives f).list_is ∙ ap (λ (p : Bool). map (λ pair. pair.0) (if p then (old, size_at late old) ∷ unused late (empty_shape records place list) else unused late (empty_shape records place list))) (le-leb 28 (size_at late old) (let l = late_old.long in omega arith))
           ∙ ap (λ (x : List ℕ). old ∷ x) (places-sized late list)
 
-      old_field : (f : Field) → 28 ≤ f.place → f.place + f.width ≤ 84 → number now old f ≡ number late old f
-      old_field f low high =
-          let b28 : Same late now (old + 28) (old + size_at late old) = subst (λ (p : Bool). Same late now (old + (if p then 28 else 12)) (old + size_at late old)) joins behind in
-          word_kept late now (old + 28) (old + size_at late old) b28 (old + f.place) f.width (omega arith) (let l = late_old.long in omega arith)
-
-      old_head : number now old gdr_uir_head ≡ next_of now old
-      old_head =
-          let chain = subst (IsChain now records uir_type (number now place gdr_uir_head)) now_list h.unused_chain in
-          old_field gdr_uir_head (omega arith) (omega arith) ∙ ap (λ (g : ℕ). number late g gdr_uir_head) (sym at) ∙ same_link late now _ _ list (list_chain sound fills later as_long lately).leads chain.leads.1
-
-      old_eof : number now old gdr_eof ≡ length now
-      old_eof = old_field gdr_eof (omega arith) (omega arith) ∙ ap (eof late) (sym at) ∙ end_now sound fills later as_long lately ∙ sym gives.length_is
+      old_field : (f' : Field) → 28 ≤ f'.place → f'.place + f'.width ≤ 84 → number now old f' ≡ number late old f'
+      old_field f' low high = let l = gdr_before.long in word_kept late now (old + 28) (old + size_at b old) (behind_links f (omega arith)) (old + f'.place) f'.width (omega arith) (omega arith)
 
       -- ---- the whole
 
-      moved_set : IsSetUp b now records (shape now).unused place code bits majority dims (make_marks ++ given_marks) (place ∷ old ∷ []) acts
+      moved_set : IsSetUp b now records (shape now).unused place code bits majority dims (make_marks ++ given_marks f) (place ∷ old ∷ []) acts
       moved_set = record {
-        edit = all;
-        cdr_start = refl;
-        cdr_version_stays = refl;
-        cdr_within = refl;
+        edit = freed_edit f;
+        cdr_clear = (refl, refl, refl);
         sound = now_sound;
-        content_now = is_given.2 ∙ heads_content copied_shape fine new m.heads late_shape (ap (λ (n : ℕ). majority_of (has_bit n 0)) bits_are ∙ bit_0 (flags b) majority) (ap (λ (n : ℕ). has_bit n 2) bits_are ∙ (bits_stay (flags b) majority).1 ∙ sym (ap (λ (n : ℕ). has_bit n 2) (copied_cdr cdr_flags refl (omega arith))))
-            ∙ ap (λ (d : DataSet). set_up d code majority dims) (filled_content sound fills);
-        flags_now = still_says given (stands_fixed late_shape cdr_type 8 late_shape.cdr_stands) refl cdr_flags refl (omega arith) ∙ (heads_say copied_shape fine new m.heads).flags_are;
-        count_now = place_now gdr_r_num_dims refl (omega arith) ∙ (heads_say copied_shape fine new m.heads).count_is;
-        stays = λ f copied.
-            place_now f copied.2 copied.0.1 ∙ new_says f copied;
-        end = place_now gdr_eof refl (omega arith) ∙ gdr_still copied_shape fine new m.heads gdr_eof (refl, omega arith) ∙ copied_field gdr_eof (omega arith) (omega arith) ∙ ap (eof m.taken) (sym at) ∙ is_taken.0.eof_is ∙ sym (gives.length_is ∙ as_long ∙ fills.long);
-        longest = let l = shorter sound fills later as_long lately in let a = gives.length_is in omega arith;
-        as_owned = λ k out. as_many old place k (λ q. out (inr (inl q))) (λ q. out (inl q));
+        content_now = free.2 ∙ heads_content copied_shape fine new m.heads (flags b) late_shape bits_are (sym (ap (λ (n : ℕ). has_bit n 2) (still_says (filled_edit sound fills) cdr_before refl cdr_flags refl (omega arith)))) ∙ ap (λ (d : DataSet). set_up d code majority dims) (filled_content sound fills);
+        flags_now = still_says (given f) (stands_fixed late_shape cdr_type 8 late_shape.cdr_stands) refl cdr_flags refl (omega arith) ∙ flags_are copied_shape fine new m.heads;
+        count_now = place_now gdr_r_num_dims refl (omega arith) ∙ count_is copied_shape fine new m.heads;
+        stays = λ f' copied. place_now f' copied.2 copied.0.1 ∙ gdr_still copied_shape fine new m.heads f' copied.0 ∙ copied_field f' (let l = leb-true 12 f'.place copied.3 in omega arith) copied.0.1
+            ∙ still_says (takes_edit sound (omega arith) is_taken.0) gdr_before refl f' (rw (copied.1, copied.2) refl) copied.0.1;
+        end = place_now gdr_eof refl (omega arith) ∙ gdr_still copied_shape fine new m.heads gdr_eof (refl, omega arith) ∙ copied_field gdr_eof (omega arith) (omega arith) ∙ ap (eof m.taken) (sym at) ∙ is_taken.0.eof_is ∙ sym (as_long_now f ∙ as_long ∙ fills.long);
+        longest = let l = shorter sound fills later as_long lately in let a = as_long_now f in omega arith;
+        as_owned = λ k out. rw (ne_eqb k old (λ q. out (inr (inl q))), ne_eqb k place (λ q. out (inl q))) refl;
         anew = λ k i. elim i [
           | inl q ↦ subst (λ (x : ℕ). IsSorted now own_now x × (is_in (type_at now x) read_types ≡ true)) (sym q) (inl ((λ u. apart gdr_type uir_type refl (sym (gdr_typed now own_now h) ∙ u)), gdr_once place place_not_8), ap (λ (t : ℕ). is_in t read_types) (gdr_typed now own_now h))
-          | inr last ↦ subst (λ (x : ℕ). IsSorted now own_now x × (is_in (type_at now x) read_types ≡ true)) (sym (the_one old k last)) (inr (freed_type, others_none place old old_not_8 place_not_old), ap (λ (t : ℕ). is_in t read_types) freed_type)
+          | inr last ↦ subst (λ (x : ℕ). IsSorted now own_now x × (is_in (type_at now x) read_types ≡ true)) (sym (the_one old k last)) (inr (freed_type f, others_none place old old_not_8 place_not_old), ap (λ (t : ℕ). is_in t read_types) (freed_type f))
         ];
-        takes_within = omega arith;
-        acts_follow =
-            let took = acts_took sound fills later as_long lately late_records (ap (λ (x : Shape). x.unused) late_is) in
-            subst (λ (k : ℕ). ActsFollow b now (Took place need ∷ Gave old k ∷ [])) old_stays.size_is
-            (acts_gave sound.has_shape took late_sound (old_stands old refl) (λ u. apart gdr_type uir_type refl (sym late_old.typed ∙ u)) free.0);
-        unused_stay =
-            let links = uir_next_uir ∷ uir_prev_uir ∷ [] in
-            keep_unused sound all gives.records_stay setup_changes acts
-            (λ k i left.
-            let l = listed_marks sound fills later as_long lately late_records k i left in
-            (Avoids-append make_marks given_marks uir_type k 0 12 l.0 (avoided-avoids given_marks uir_type k 0 12 refl), Within-append make_marks given_marks uir_type k links l.1 (within-within given_marks uir_type k links refl)))
-            (λ k i out.
-            let off = λ (j : In k list). out (listed_before sound fills later as_long lately k i j) in
-            Away-append make_marks given_marks uir_type k (loose_away sound fills later as_long lately k i out) ((λ q lies. apart uir_type gdr_type refl q), ((λ q lies. off lies), ((λ q lies. apart uir_type gdr_type refl q), tt))));
+        acts_follow = freed_acts f (acts_took sound fills later as_long lately late_records (ap (λ (x : Shape). x.unused) late_is));
+        unused_stay = freed_keeps_unused f setup_changes acts (λ k i left. listed_marks sound fills later as_long lately late_records k i left)
+            (λ k i out. (loose_away sound fills later as_long lately k i out, (λ j. out (listed_before sound fills later as_long lately k i j))));
         acts_are = rw (lt-leb need (size_at b (gdr_offset b)) large) (λ i. Took (sym h.gdr_is i) need ∷ Gave old (size_at b old) ∷ []);
         room = λ le. absurd (omega (arith, large, le));
-        freed =
-            let sizes = sizes_by_tiles late now 8 8 (length late) records refl late_shape.tiled (subst (λ (x : ℕ). AreTiles now 8 x records) gives.length_is given.tiled_now) in
-            let size = sizes old late_old.inside ∙ old_stays.size_is in
-            freed_stay_but b now acts (old ∷ []) (λ type. space_fields) (subst (AreTiles now 8 (length now)) (sym gives.records_stay) h.tiled)
-            (λ k i. subst (λ (x : ℕ). In x (shape now).records) (sym (the_one old k i)) (subst (In old) (sym gives.records_stay) late_old.inside))
-            (λ k i. subst (λ (x : ℕ). size_at now x ≡ size_at b x) (sym (the_one old k i)) size)
-            (λ k i. subst (λ (x : ℕ). BytesStay b now x (links_end (size_at b x)) space_fields) (sym (the_one old k i)) (λ n lt low out.
-            behind.each (old + n) (subst (λ (w : ℕ). old + links_end w ≤ old + n) (sym old_stays.size_is) (omega arith)) (let e = old_stays.size_is in omega arith) ∙ old_stays.same n lt out));
-        emptied = λ apart_from. (inr old_head, (inr old_eof, tt));
+        freed = freed_bytes f acts (λ type. space_fields) (λ n lt low out. old_stays.same n lt out);
+        emptied = λ apart_from.
+            let chain = subst (IsChain now records uir_type (number now place gdr_uir_head)) now_list now_sound.has_shape.unused_chain in (
+              inr (old_field gdr_uir_head (omega arith) (omega arith) ∙ ap (λ (g : ℕ). number late g gdr_uir_head) (sym at) ∙ same_link late now _ _ list (list_chain sound fills later as_long lately).leads chain.leads.1),
+              (inr (old_field gdr_eof (omega arith) (omega arith) ∙ ap (eof late) (sym at) ∙ end_now sound fills later as_long lately ∙ sym (as_long_now f)), tt),
+            );
       }
 
       pub moves_follows : length b + need ≤ image_limit → Follows b (commands.Setup code majority dims) now

@@ -1,6 +1,6 @@
 //! The command `setup`: the encoding, the majority, and the dimensions that the r variables share.
 
-ghost use Rattle.std.specs.Prelude.{◌≡◌, ◌+◌, ◌*◌, ◌≤◌, ◌++◌, ◌==◌, ◌&&◌, ◌||◌, length, false, is_some, not, true, IfOk, OnOk};
+ghost use Rattle.std.specs.Prelude.{◌≡◌, ◌+◌, ◌≤◌, ◌++◌, ◌==◌, ◌&&◌, ◌||◌, length, false, is_some, not, true, IfOk, OnOk};
 ghost use Rattle.std.specs.Int.{cast_unsigned, w32};
 ghost use Rattle.cdf_area.specs.Calls.{Edits, Reads};
 ghost use Rattle.cdf_base.specs.Bytes.{put};
@@ -9,9 +9,9 @@ ghost use Rattle.cdf_edits.specs.Commands.NewRecords.{with_bits};
 ghost use Rattle.cdf_edits.specs.Commands.Setup.{majority_bit};
 ghost use Rattle.cdf_edits.specs.Follows.{Follows};
 ghost use Rattle.cdf_format.specs.Content.{content};
-ghost use Rattle.cdf_format.specs.Fields.{flags, gdr_offset, size_at};
+ghost use Rattle.cdf_format.specs.Fields.{LiesIn, flags, gdr_offset, size_at};
 ghost use Rattle.cdf_format.specs.NewFile.{of_4_bytes};
-ghost use Rattle.cdf_format.specs.Records.{cdr_majority_bit};
+ghost use Rattle.cdf_format.specs.Records.{cdr_copyright, cdr_majority_bit, cdr_place, gdr_bytes, gdr_r_dim_sizes, past, record_size};
 ghost use Rattle.cdf_format.specs.WellFormed.{Good};
 ghost use Rattle.cdf_model.specs.Encodings.{encoding_at};
 ghost use Rattle.cdf_model.specs.Limits.{image_limit};
@@ -85,8 +85,8 @@ fn write_heads<A: Area>(
     dims: &[u32],
 ) -> Result<(), AreaError>
     requires fine { are_bad_sizes dims.now ≡ false }
-    requires cdr { 320 ≤ length (A.image area.old) }
-    requires room { gdr + 84 + 4 * length dims.now ≤ length (A.image area.old) }
+    requires cdr { LiesIn (A.image area.old) cdr_place cdr_copyright }
+    requires room { LiesIn (A.image area.old) gdr (gdr_r_dim_sizes (length dims.now)) }
     ensures written { OnOk result (WritesHeads (A.image area.old) (A.image area.new) gdr encoding flags dims.now) }
     ensures area { Edits A.frame A.faults area.old area.new result }
 {
@@ -103,10 +103,10 @@ fn write_heads<A: Area>(
 
 /// Copies a Global Descriptor Record over another one, but for its size and the sizes of its dimensions.
 fn copy_gdr<A: Area>(area: &mut A, from: u64, to: u64) -> Result<(), AreaError>
-    requires from { from + 84 ≤ length (A.image area.old) }
-    requires to { to + 84 ≤ length (A.image area.old) }
+    requires from { from + gdr_bytes 0 ≤ length (A.image area.old) }
+    requires to { to + gdr_bytes 0 ≤ length (A.image area.old) }
     ensures long { length (A.image area.new) ≡ length (A.image area.old) }
-    ensures copied { OnOk result (A.image area.new ≡ put (A.image area.old) (to + 8) (gdr_fields (A.image area.old) from)) }
+    ensures copied { OnOk result (A.image area.new ≡ put (A.image area.old) (to + past record_size) (gdr_fields (A.image area.old) from)) }
     ensures area { Edits A.frame A.faults area.old area.new result }
 {
     // An image has fewer than 2^64 bytes, so no place in it overflows.
@@ -128,7 +128,7 @@ fn make_gdr<A: Area>(
     requires good { Good (A.image area.old) }
     requires gdr { old ≡ gdr_offset (A.image area.old) }
     requires fine { are_bad_sizes dims.now ≡ false }
-    requires room { length (A.image area.old) + (84 + 4 * length dims.now) ≤ (A.frame area.old).limit }
+    requires room { length (A.image area.old) + gdr_bytes (length dims.now) ≤ (A.frame area.old).limit }
     requires limit { (A.frame area.old).limit ≤ image_limit }
     ensures made { IfOk result (λ place. MakesGdr (A.image area.old) (A.image area.new) new.encoding new.flags dims.now place) }
     ensures area { Edits A.frame A.faults area.old area.new result }
@@ -152,7 +152,7 @@ fn move_gdr<A: Area>(
     requires empty { is_empty_set (content (A.image area.old)) ≡ true }
     requires gdr { old ≡ gdr_offset (A.image area.old) }
     requires fine { are_bad_sizes dims.now ≡ false }
-    requires room { length (A.image area.old) + (84 + 4 * length dims.now) ≤ (A.frame area.old).limit }
+    requires room { length (A.image area.old) + gdr_bytes (length dims.now) ≤ (A.frame area.old).limit }
     requires limit { (A.frame area.old).limit ≤ image_limit }
     ensures moved { OnOk result (MovesGdr (A.image area.old) (A.image area.new) new.encoding new.flags dims.now) }
     ensures area { Edits A.frame A.faults area.old area.new result }
@@ -214,7 +214,7 @@ fn carry_out<A: Area>(
     requires flags { heads.flags ≡ flags (A.image area.old) }
     requires encoding { is_some (encoding_at encoding) ≡ true }
     requires fine { are_bad_sizes dims.now ≡ false }
-    requires room { length (A.image area.old) + (84 + 4 * length dims.now) ≤ (A.frame area.old).limit }
+    requires room { length (A.image area.old) + gdr_bytes (length dims.now) ≤ (A.frame area.old).limit }
     requires limit { (A.frame area.old).limit ≤ image_limit }
     ensures follows { OnOk result (Follows (A.image area.old) (Setup encoding majority dims.now) (A.image area.new)) }
     ensures area { Edits A.frame A.faults area.old area.new result }

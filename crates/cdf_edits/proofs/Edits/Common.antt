@@ -21,7 +21,7 @@ pub use Rattle.cdf_edits.proofs.Edits.FreedRecord.{FreesRecord, IsPlain, as_long
 pub use Rattle.cdf_edits.proofs.Edits.FreedRecords.{edit_under, sizes_by_tiles, unused_real}
 pub use Rattle.cdf_edits.proofs.Edits.LeftChain.{LeavesChain, LeavingTests, as_long, chain_now, counted_now, e_early, e_second, lasts_second, left_edit, list_now, may_linked, may_now, may_write, said_now, some_second}
 pub use Rattle.cdf_edits.proofs.Edits.LeftOwners.{Left, can_be_freed, distinct_if, left_of, mine_once, mine_times, not_twice, owned_left, shape_there, sound_there}
-pub use Rattle.cdf_edits.proofs.Edits.MadeRecord.{end_now, fresh, list_chain, listed_before, listed_marks, loose_away, made_edit, made_keeps_unused, made_once, made_part, made_size, made_type, unowned}
+pub use Rattle.cdf_edits.proofs.Edits.MadeRecord.{end_now, fresh, list_chain, listed_before, listed_marks, loose_away, made_edit, made_keeps_unused, made_once, made_part, made_size, made_type, unowned, unlike}
 pub use Rattle.cdf_edits.proofs.Edits.MarkLemmas.{Avoids-append, Avoids-split, Away-append, Within-append, all_unmarked-away, avoided-avoids, avoids-of_type, away-of_type, ended-avoids, the_one, unmarked-away, within-of_type, within-within}
 pub use Rattle.cdf_edits.proofs.Edits.NumbersBehind.{SaysNumber, are_numbered, fewer_rows, numbering, others_in, others_say, place_in, tiles_numbered}
 pub use Rattle.cdf_edits.proofs.Edits.OneChain.{differ_before, end_before, got_middle, items_with, good_settled, items_of, rules_before}
@@ -50,6 +50,6 @@ pub use Rattle.cdf_edits.proofs.Frame.VdrCopied.{Copied, VdrCopied, copied_in_pl
 pub use Rattle.cdf_edits.proofs.Rules.FirstHead.{FirstSays, first_hold, first_said}
 pub use Rattle.cdf_edits.proofs.Rules.WithoutLinks.{eof_by_rules}
 pub use Rattle.cdf_edits.proofs.Space.ActsLeave.{each, no_acts, places-sized}
-pub use Rattle.cdf_edits.proofs.Space.LaidOut.{placed_says, says_kept}
+pub use Rattle.cdf_edits.proofs.Space.LaidOut.{laid_kept, placed_laid, says_laid_out, value_laid}
 pub use Rattle.cdf_edits.proofs.Space.TakenFromList.{leads_rest, same_link}
 pub use Rattle.cdf_edits.proofs.Space.UsedRecords.{apart, filter-distinct, filter-keeps, filter-says, used-in}

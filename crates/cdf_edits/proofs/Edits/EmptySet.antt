@@ -1,6 +1,6 @@
 -- An image of a data set without attributes and variables: its CDR, its GDR, and unused records.
 use Rattle.std.proofs.Common.{◌≡◌, ◌≢◌, ℕ, suc, ◌≤◌, List, [], ◌∷◌, length, map, true, eq-eqb, refl, sym, ap, ◌∙◌, arith}
-use Rattle.cdf_edits.proofs.Common.{Edit, Mark, ne_eqb, nat_tests, ◌==◌, ◌&&◌, is_empty_set, content, content_of, attribute_of, variable_of, Holds, r_num_dims, gdr_r_dim_sizes, Shape, HasShape, shape, IsSound, In, Good, good_is_sound, content_is, both, eq_of}
+use Rattle.cdf_edits.proofs.Common.{Edit, Mark, ne_eqb, ◌==◌, ◌&&◌, is_empty_set, content, content_of, attribute_of, variable_of, Holds, r_num_dims, gdr_r_dim_sizes, Shape, HasShape, shape, IsSound, In, Good, good_is_sound, content_is, both, eq_of}
 use Rattle.cdf_edits.proofs.Edits.Common.{IsHeld, not_twice_kept, used_times}
 
 abbrev pub empty_shape : List ℕ → ℕ → List ℕ → Shape
@@ -11,12 +11,6 @@ empty_shape records gdr list = record { records = records; gdr = gdr; attributes
 -- only the GDR counts for that
 abbrev pub times_with : ℕ → ℕ → ℕ
 times_with gdr m = used_times (empty_shape [] gdr []) m
-
-pub as_many : (gdr gdr' m : ℕ) → m ≢ gdr → m ≢ gdr' → times_with gdr' m ≡ times_with gdr m
-as_many gdr gdr' m p q = rw (ne_eqb m gdr p, ne_eqb m gdr' q) refl
-
-pub no_more : (gdr gdr' m : ℕ) → m ≢ gdr' → times_with gdr' m ≤ times_with gdr m
-no_more gdr gdr' m q = rw (ne_eqb m gdr' q) (grind (arith, nat_tests))
 
 pub gdr_once : (gdr : ℕ) → gdr ≢ 8 → times_with gdr gdr ≡ 1
 gdr_once gdr p = rw (ne_eqb gdr 8 p, eq-eqb gdr gdr refl) refl
@@ -41,7 +35,4 @@ is_empty b good empty =
     let here : is_empty_set (content_of b s) ≡ true = ap is_empty_set (sym (content_is b s (good_is_sound b good).has_shape)) ∙ empty in
     let p = both ((length (map (attribute_of b) s.attributes) == 0) && (length (map (variable_of b) s.r_variables) == 0)) (length (map (variable_of b) s.z_variables) == 0) here in
     let q = both (length (map (attribute_of b) s.attributes) == 0) (length (map (variable_of b) s.r_variables) == 0) p.0 in
-    let as_ = none_mapped (attribute_of b) s.attributes q.0 in
-    let rs = none_mapped (variable_of b) s.r_variables q.1 in
-    let zs = none_mapped (variable_of b) s.z_variables p.1 in
-    λ i. record { records = s.records; gdr = s.gdr; attributes = as_ i; r_variables = rs i; z_variables = zs i; unused = s.unused }
+    λ i. record { records = s.records; gdr = s.gdr; attributes = none_mapped (attribute_of b) s.attributes q.0 i; r_variables = none_mapped (variable_of b) s.r_variables q.1 i; z_variables = none_mapped (variable_of b) s.z_variables p.1 i; unused = s.unused }

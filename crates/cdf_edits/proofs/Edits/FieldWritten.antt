@@ -41,6 +41,19 @@ module _ {b now old new : List ℕ} {marks : List Mark} {reborn : List ℕ} (e :
   pub still_says : (f : Field) → avoided marks type f.place (f.place + f.width) ≡ true → f.place + f.width ≤ n → number now m f ≡ number b m f
   still_says f clear fits = field_clear e m type f is.inside is.typed heads clear (through (f.place + f.width) n (size_at b m) fits is.long)
 
+-- where no more than its bytes changes
+pub touched_edit : {b now records : List ℕ} {place type : ℕ} {f : Field} → IsField b records place type f → Changed b now (touched_field place f ∷ []) → length now ≡ length b → Edit b now records records (field_marks type place f) []
+touched_edit {b = b} {now = now} {records = records} {place = place} {type = type} {f = f} is changed long =
+    let l = tile_lies b 8 (length b) records place is.tiled is.inside in
+    changed_edit b now records (touched_field place f ∷ []) (field_marks type place f) [] is.tiled long changed
+    (record { inside = is.inside; fits = is.fits; behind_size = behind f.place is.late; behind_type = inl is.late; covered = inl (record { typed = is.typed; lies = inl refl; low = omega arith; high = omega arith }) }, tt) (some place (size_at b place) (length b) l.low l.high)
+  where
+    behind : (p : ℕ) → 12 ≤ p → 8 ≤ p
+    behind p l = omega arith
+
+    some : (p n l : ℕ) → 8 ≤ p → p + n ≤ l → 8 ≤ l
+    some p n l x y = omega arith
+
 module _ (b now records : List ℕ) (place type : ℕ) (f : Field) (n : ℕ) (is : IsField b records place type f) (written : now ≡ with_field b place f n) where
   pub field_lies : LiesIn b place f
   field_lies = let high = (tile_lies b 8 (length b) records place is.tiled is.inside).high in reach f.place f.width (size_at b place) (length b) is.fits high
@@ -55,16 +68,7 @@ module _ (b now records : List ℕ) (place type : ℕ) (f : Field) (n : ℕ) (is
   written_changed = subst (λ (x : List ℕ). Changed b x (touched_field place f ∷ [])) (sym written) (record { longer = omega (arith, length-with_field b place f n field_lies); same = λ i lt out. other_bytes b place f n i field_lies out.0 })
 
   pub written_edit : Edit b now records records (field_marks type place f) []
-  written_edit = changed_edit b now records (touched_field place f ∷ []) (field_marks type place f) [] is.tiled written_long written_changed (
-    record { inside = is.inside; fits = is.fits; behind_size = behind f.place is.late; behind_type = inl is.late; covered = inl (record { typed = is.typed; lies = inl refl; low = omega arith; high = omega arith }) },
-    tt,
-  ) (let l = tile_lies b 8 (length b) records place is.tiled is.inside in some place (size_at b place) (length b) l.low l.high)
-    where
-      behind : (p : ℕ) → 12 ≤ p → 8 ≤ p
-      behind p l = omega arith
-
-      some : (p n l : ℕ) → 8 ≤ p → p + n ≤ l → 8 ≤ l
-      some p n l x y = omega arith
+  written_edit = touched_edit is written_changed written_long
 
   pub written_reads : n < 256 ^ f.width → number now place f ≡ n
   written_reads small = ap (λ (x : List ℕ). number x place f) written ∙ field_reads b place f n field_lies small

@@ -141,7 +141,7 @@ module _ {b late : List ℕ} {records list : List ℕ} {marks : List Mark} {rebo
 
   module _ {now : List ℕ} (frees : Gives late now (shape late) (shape now) old) where
     one : FreesRecord b late now made marks reborn old (entry_type kind)
-    one = record { sound = sound; edit = r.edit; late_sound = sound_late; late_is = late_is; inside = old_ok.0; typed = old_ok.1; plain = g.plain; lives = f.lives; frees = frees }
+    one = record { sound = sound; edit = r.edit; late_sound = sound_late; late_is = late_is; inside = old_ok.0; typed = old_typed; used = g.plain.no_uir; other = λ q. absurd (g.plain.no_gdr q); size_is = old_size; frees = frees }
 
     pub freed_type : type_at now old ≡ uir_type
     freed_type = of_one.freed_type one
@@ -209,10 +209,10 @@ module _ {b late : List ℕ} {records list : List ℕ} {marks : List Mark} {rebo
     -- ---- the acts, and what the freed one keeps
 
     pub freed_behind : 28 ≤ size_at b old → Same b now (old + 28) (old + size_at b old)
-    freed_behind = of_one.freed_behind one
+    freed_behind = of_one.freed_behind one f.lives
 
     pub freed_bytes : (before_acts : List Act) → 28 ≤ size_at b old → GivenStay b now no_fields before_acts (gave b (old ∷ []))
-    freed_bytes = of_one.freed_bytes one
+    freed_bytes acts = of_one.linked_bytes one acts f.lives
 
     pub freed_settled : eof late (shape b).gdr ≡ length late → Settled sound freed_rechains need (acts ++ Gave old (size_at b old) ∷ [])
     freed_settled ends = record {

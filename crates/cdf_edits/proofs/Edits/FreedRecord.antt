@@ -1,9 +1,9 @@
 -- A record that an edit left in use, and no owner has, is freed: what the image is then.
-use Rattle.std.proofs.Common.{◌≡◌, ◌≢◌, ℕ, ◌+◌, ◌≤◌, List, [], ◌∷◌, ◌++◌, length, true, false, refl, sym, ap, subst, ◌∙◌, arith, inl, inr}
+use Rattle.std.proofs.Common.{◌≡◌, ◌≢◌, ℕ, ◌+◌, ◌≤◌, List, [], ◌∷◌, ◌++◌, length, true, false, refl, sym, ap, subst, ◌∙◌, arith, inl, inr, ◌⊎◌}
 use Rattle.cdf_edits.proofs.Common.{le-leb, Same, IsChain, number, size_at, type_at, Unused, owned_by, unused_records, Field, gdr_uir_head, uir_next_uir, uir_prev_uir, gdr_type, uir_type, is_record_type, fixed_size, Shape, HasShape, shape, IsSound, In, AreTiles, Same-part, is_a-type, Allowances, AllKeep, is_taken, GivenStay, no_fields, Edit, Mark, Avoids, Away, Within, giving_marks, Act, Gave, ActsFollow, gave, links_end, Gives, giving, In-append, tile_lies}
 use Rattle.cdf_edits.proofs.Edits.ActsThen.{acts_gave}
 use Rattle.cdf_edits.proofs.Edits.Composing.{edit_then, same-then, sizes}
-use Rattle.cdf_edits.proofs.Edits.FreedBytes.{behind_one, freed_stay}
+use Rattle.cdf_edits.proofs.Edits.FreedBytes.{behind_one, freed_stay, BytesStay, end_long, freed_stay_but}
 use Rattle.cdf_edits.proofs.Edits.FreedRecords.{unused_real}
 use Rattle.cdf_edits.proofs.Edits.MarkLemmas.{Avoids-append, Within-append, Away-append, away-avoids, the_one}
 use Rattle.cdf_edits.proofs.Edits.OwnersKept.{keep_unused}
@@ -27,16 +27,17 @@ pub record IsPlain (type : ℕ) : Type 0 where
   pub no_gdr : type ≢ gdr_type
   pub no_uir : type ≢ uir_type
 
--- an image before an edit, after it, and once a record of this type is freed that only lost its place in a chain
+-- an image before an edit, after it, and once a record of this type is freed, which is in use and not the GDR
 pub record FreesRecord (b late now : List ℕ) (made : Shape) (marks : List Mark) (reborn : List ℕ) (old type : ℕ) : Type 0 where
   pub sound : IsSound b (shape b)
   pub edit : Edit b late (shape b).records made.records marks reborn
   pub late_sound : IsSound late (shape late)
   pub late_is : shape late ≡ made
   pub inside : In old (shape b).records
-  pub typed : type_at b old ≡ type
-  pub plain : IsPlain type
-  pub lives : KeptButLink b late old
+  pub typed : type_at late old ≡ type
+  pub used : type ≢ uir_type
+  pub other : type ≡ gdr_type → old ≢ made.gdr
+  pub size_is : size_at late old ≡ size_at b old
   pub frees : Gives late now (shape late) (shape now) old
 
 module _ {b late now : List ℕ} {made : Shape} {marks : List Mark} {reborn : List ℕ} {old type : ℕ} (f : FreesRecord b late now made marks reborn old type) where
@@ -46,29 +47,26 @@ module _ {b late now : List ℕ} {made : Shape} {marks : List Mark} {reborn : Li
   h_late : HasShape late made
   h_late = subst (HasShape late) f.late_is f.late_sound.has_shape
 
-  gives : Gives late now made (shape now) old
+  pub gives : Gives late now made (shape now) old
   gives = subst (λ (x : Shape). Gives late now x (shape now) old) f.late_is f.frees
 
   pub old_in : In old made.records
   old_in = f.edit.sub old f.inside
 
-  pub old_typed : type_at late old ≡ type
-  old_typed = late_type b late old f.lives ∙ f.typed
-
-  old_size : size ≡ size_at b old
-  old_size = late_size b late old f.lives
+  not_gdr : old ≢ made.gdr
+  not_gdr q = f.other (sym f.typed ∙ ap (type_at late) q ∙ gdr_typed late made h_late) q
 
   abbrev pub given_marks : List Mark
   given_marks = giving_marks made.unused type old size
 
   pub given : Edit late now made.records made.records given_marks (old ∷ [])
-  given = gives_edit late now made (shape now) old type h_late old_in old_typed gives
+  given = gives_edit late now made (shape now) old type h_late old_in f.typed gives
 
   pub freed_edit : Edit b now (shape b).records made.records (marks ++ given_marks) (reborn ++ old ∷ [])
   freed_edit = edit_then f.edit given
 
   pub same_sizes : (m : ℕ) → In m made.records → size_at now m ≡ size_at late m
-  same_sizes m i = sizes late now made.records (giving made.gdr made.unused old size) given_marks (old ∷ []) h_late.tiled gives.length_is gives.changed (all_marked late now made (shape now) old type h_late old_in old_typed gives) m i
+  same_sizes m i = sizes late now made.records (giving made.gdr made.unused old size) given_marks (old ∷ []) h_late.tiled gives.length_is gives.changed (all_marked late now made (shape now) old type h_late old_in f.typed gives) m i
 
   pub same_types : (m : ℕ) → In m made.records → m ≢ old → type_at now m ≡ type_at late m
   same_types m i ne = elim (given.kind m i) [ inl j ↦ j.1 | inr j ↦ elim j [ inl new ↦ absurd (new.0 i) | inr x ↦ absurd (ne (the_one old m x)) ] ]
@@ -106,11 +104,14 @@ module _ {b late now : List ℕ} {made : Shape} {marks : List Mark} {reborn : Li
   other_chain t link link' ms p c same others = chain_stays given t link link' ms c same (λ m i. away-avoids given_marks t m 0 20 (given_away t m p (others m i)))
 
   -- and the GDR but for the head of the unused list
-  pub gdr_same : (g : Field) → g.place + g.width ≤ 64 → number now made.gdr g ≡ number late made.gdr g
-  gdr_same g low = field_avoids given made.gdr gdr_type g (gdr_in late made h_late) (gdr_typed late made h_late) (avoids 0 12 (omega arith)) (avoids g.place (g.place + g.width) low) (let l = gdr_long late made h_late in omega arith)
+  pub gdr_beside : (g : Field) → (g.place + g.width ≤ 64) ⊎ (72 ≤ g.place) → g.place + g.width ≤ 84 → number now made.gdr g ≡ number late made.gdr g
+  gdr_beside g beside fits = field_avoids given made.gdr gdr_type g (gdr_in late made h_late) (gdr_typed late made h_late) (avoids 0 12 (inl (omega arith))) (avoids g.place (g.place + g.width) beside) (let l = gdr_long late made h_late in omega arith)
     where
-      avoids : (lo hi : ℕ) → hi ≤ 64 → Avoids given_marks gdr_type made.gdr lo hi
-      avoids lo hi l = ((λ same lies. inl l), ((λ same lies. absurd (apart gdr_type uir_type refl same)), ((λ same lies. absurd (f.plain.no_gdr (sym same))), tt)))
+      avoids : (lo hi : ℕ) → (hi ≤ 64) ⊎ (72 ≤ lo) → Avoids given_marks gdr_type made.gdr lo hi
+      avoids lo hi l = ((λ same lies. l), ((λ same lies. absurd (apart gdr_type uir_type refl same)), ((λ same lies. absurd (not_gdr (sym (the_one old made.gdr lies)))), tt)))
+
+  pub gdr_same : (g : Field) → g.place + g.width ≤ 64 → number now made.gdr g ≡ number late made.gdr g
+  gdr_same g low = gdr_beside g (inl low) (omega arith)
 
   -- ---- the space
 
@@ -120,22 +121,28 @@ module _ {b late now : List ℕ} {made : Shape} {marks : List Mark} {reborn : Li
       subst (λ (x : ℕ). IsChain now made.records uir_type (number now x gdr_uir_head) (shape now).unused) gdr (subst (λ (ts : List ℕ). IsChain now ts uir_type (number now (shape now).gdr gdr_uir_head) (shape now).unused) records_now gives.space.unused_chain)
 
   pub freed_acts : {acts : List Act} → ActsFollow b late acts → ActsFollow b now (acts ++ Gave old (size_at b old) ∷ [])
-  freed_acts {acts = acts} before = subst (λ (n : ℕ). ActsFollow b now (acts ++ Gave old n ∷ [])) old_size
-      (acts_gave f.sound.has_shape before f.late_sound (subst (λ (x : Shape). In old x.records) (sym f.late_is) old_in) (λ u. f.plain.no_uir (sym old_typed ∙ u)) f.frees)
+  freed_acts {acts = acts} before = subst (λ (n : ℕ). ActsFollow b now (acts ++ Gave old n ∷ [])) f.size_is
+      (acts_gave f.sound.has_shape before f.late_sound (subst (λ (x : Shape). In old x.records) (sym f.late_is) old_in) (λ u. f.used (sym f.typed ∙ u)) f.frees)
 
-  -- behind the links of an unused record it has its bytes
-  pub freed_behind : 28 ≤ size_at b old → Same b now (old + 28) (old + size_at b old)
-  freed_behind long =
-      let wide : links_end size ≡ 28 = rw (old_size, le-leb 28 (size_at b old) long) refl in
-      let left = behind_one h_late gives old_in old old_in (λ q. f.plain.no_gdr (sym old_typed ∙ ap (type_at late) q ∙ gdr_typed late made h_late)) in
-      same-then b late now (old + 28) (old + size_at b old) (Same-part b late (old + 20) (old + size_at b old) (old + 28) (old + size_at b old) f.lives.rest (omega arith) (omega arith))
-      (subst (λ (n : ℕ). Same late now (old + 28) (old + n)) old_size (subst (λ (n : ℕ). Same late now (old + n) (old + size)) wide left))
+  -- behind the links of an unused record it has its bytes, but for what the edit changed
+  behind : Same late now (old + links_end (size_at b old)) (old + size_at b old)
+  behind = subst (λ (n : ℕ). Same late now (old + links_end n) (old + n)) f.size_is (behind_one h_late gives old_in old old_in not_gdr)
 
-  pub freed_bytes : (before : List Act) → 28 ≤ size_at b old → GivenStay b now no_fields before (gave b (old ∷ []))
-  freed_bytes before long = freed_stay b now before (old ∷ []) no_fields (subst (AreTiles now 8 (length now)) (sym records_now) given.tiled_now)
+  pub freed_bytes : (before : List Act) (but : ℕ → List Field) → BytesStay b late old (links_end (size_at b old)) (but (type_at b old)) → GivenStay b now but before (gave b (old ∷ []))
+  freed_bytes before but same = freed_stay_but b now before (old ∷ []) but (subst (AreTiles now 8 (length now)) (sym records_now) given.tiled_now)
       (λ m i. subst (λ (x : ℕ). In x (shape now).records) (sym (the_one old m i)) (subst (In old) (sym records_now) old_in))
-      (λ m i. subst (λ (x : ℕ). size_at now x ≡ size_at b x) (sym (the_one old m i)) (same_sizes old old_in ∙ old_size))
-      (λ m i. subst (λ (x : ℕ). Same b now (x + links_end (size_at b x)) (x + size_at b x)) (sym (the_one old m i)) (rw (le-leb 28 (size_at b old) long) (freed_behind long)))
+      (λ m i. subst (λ (x : ℕ). size_at now x ≡ size_at b x) (sym (the_one old m i)) (same_sizes old old_in ∙ f.size_is))
+      (λ m i. subst (λ (x : ℕ). BytesStay b now x (links_end (size_at b x)) (but (type_at b x))) (sym (the_one old m i)) (λ n lt low out. behind.each (old + n) (omega arith) (omega arith) ∙ same n lt low out))
+
+  pub behind_links : 28 ≤ size_at b old → Same late now (old + 28) (old + size_at b old)
+  behind_links long = subst (λ (n : ℕ). Same late now (old + n) (old + size_at b old)) (rw (le-leb 28 (size_at b old) long) refl) behind
+
+  -- one that only lost its place in a chain
+  pub freed_behind : KeptButLink b late old → 28 ≤ size_at b old → Same b now (old + 28) (old + size_at b old)
+  freed_behind lives long = same-then b late now (old + 28) (old + size_at b old) (Same-part b late (old + 20) (old + size_at b old) (old + 28) (old + size_at b old) lives.rest (omega arith) (omega arith)) (behind_links long)
+
+  pub linked_bytes : (before : List Act) → KeptButLink b late old → 28 ≤ size_at b old → GivenStay b now no_fields before (gave b (old ∷ []))
+  linked_bytes before lives long = freed_bytes before no_fields (λ n lt low out. lives.rest.each (old + n) (let l = end_long (size_at b old) long in omega arith) (omega arith))
 
   -- what a command may change of unused records
   pub freed_keeps_unused : (may : Allowances) (acts : List Act) → ((m : ℕ) → In m (shape b).unused → is_taken b acts m ≡ false → Avoids marks uir_type m 0 12 × Within marks uir_type m (uir_next_uir ∷ uir_prev_uir ∷ []))
@@ -143,7 +150,7 @@ module _ {b late now : List ℕ} {made : Shape} {marks : List Mark} {reborn : Li
   freed_keeps_unused may acts listed unlisted = keep_unused f.sound freed_edit records_now may acts
       (λ m i free.
       let l = listed m i free in (
-        Avoids-append marks given_marks uir_type m 0 12 l.0 ((λ q lies. absurd (apart uir_type gdr_type refl q)), ((λ q lies. inl (omega arith)), ((λ q lies. absurd (f.plain.no_uir (sym q))), tt))),
-        Within-append marks given_marks uir_type m (uir_next_uir ∷ uir_prev_uir ∷ []) l.1 ((λ q lies. absurd (apart uir_type gdr_type refl q)), ((λ q lies. refl), ((λ q lies. absurd (f.plain.no_uir (sym q))), tt))),
+        Avoids-append marks given_marks uir_type m 0 12 l.0 ((λ q lies. absurd (apart uir_type gdr_type refl q)), ((λ q lies. inl (omega arith)), ((λ q lies. absurd (f.used (sym q))), tt))),
+        Within-append marks given_marks uir_type m (uir_next_uir ∷ uir_prev_uir ∷ []) l.1 ((λ q lies. absurd (apart uir_type gdr_type refl q)), ((λ q lies. refl), ((λ q lies. absurd (f.used (sym q))), tt))),
       ))
-      (λ m i out. let u = unlisted m i out in Away-append marks given_marks uir_type m u.0 ((λ q lies. apart uir_type gdr_type refl q), ((λ q lies. u.1 lies), ((λ q lies. f.plain.no_uir (sym q)), tt))))
+      (λ m i out. let u = unlisted m i out in Away-append marks given_marks uir_type m u.0 ((λ q lies. apart uir_type gdr_type refl q), ((λ q lies. u.1 lies), ((λ q lies. f.used (sym q)), tt))))

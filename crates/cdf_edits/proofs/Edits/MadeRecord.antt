@@ -126,6 +126,10 @@ module _ {b taken filled : List ℕ} {s : Shape} {records list : List ℕ} {need
     | inr x ↦ absurd (keeps.unlisted_apart place i (false-is_in place s.unused x) refl)
   ]
 
+  -- so it is none of those in use
+  pub unlike : (m : ℕ) → In m s.records → type_at b m ≢ uir_type → m ≢ place
+  unlike m i used q = used (ap (type_at b) q ∙ fresh (subst (λ (x : ℕ). In x s.records) q i))
+
   pub unowned : used_times s place ≡ 0
   unowned = fresh_unowned sound place fresh
 

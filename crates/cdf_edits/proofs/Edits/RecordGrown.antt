@@ -2,7 +2,8 @@
 use Rattle.std.proofs.Common.{◌≡◌, ◌≢◌, ℕ, ◌+◌, ◌≤◌, List, [], ◌∷◌, length, refl, sym, ap, subst, ◌∙◌, arith, inl, inr}
 use Rattle.cdf_edits.proofs.Common.{Same, content, eof, gdr_offset, size_at, type_at, gdr_type, uir_type, Shape, shape, IsSound, In, size_kept, shape_is, tile_lies, Edit, Away, with_space, Fills}
 use Rattle.cdf_edits.proofs.Edits.Composing.{head_type, same-then}
-use Rattle.cdf_edits.proofs.Edits.MadeRecord.{place_in, fresh, filled_edit, filled_sound, filled_content, end_now}
+pub use Rattle.cdf_edits.proofs.Edits.MadeRecord.{unlike}
+use Rattle.cdf_edits.proofs.Edits.MadeRecord.{place_in, filled_edit, filled_sound, filled_content, end_now}
 use Rattle.cdf_edits.proofs.Edits.RecordFrame.{kept_away}
 use Rattle.cdf_edits.proofs.Edits.RecordPlaced.{placing_marks, still_edit}
 use Rattle.cdf_edits.proofs.Frame.Meaning.{Kept}
@@ -52,12 +53,8 @@ module _ {b taken now : List ℕ} {need place type : ℕ} (sound : IsSound b (sh
   is_shape : shape now ≡ with_space (shape b) (shape now).records (shape now).unused
   is_shape = shape_is now (with_space (shape b) (shape now).records (shape now).unused) (filled_sound sound fills).has_shape
 
-  -- it is none of those that were in use
-  pub unlike : (m : ℕ) → In m (shape b).records → type_at b m ≢ uir_type → m ≢ place
-  unlike m i used e = used (ap (type_at b) e ∙ fresh sound fills (subst (λ (x : ℕ). In x (shape b).records) e i))
-
   out_of : (m : ℕ) → In m (shape b).records → type_at b m ≢ uir_type → In m (place ∷ []) → ⊥
-  out_of m i used (inl e) = unlike m i used e
+  out_of m i used (inl e) = unlike sound fills m i used e
   out_of m i used (inr none) = none
 
   away : (m type : ℕ) → type ≢ uir_type → type ≢ gdr_type → Away (placing_marks (shape b).unused place need) type m

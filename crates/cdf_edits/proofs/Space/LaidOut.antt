@@ -1,6 +1,7 @@
 -- Fields that are written one behind the other read back.
 use Rattle.std.proofs.Common.{◌≡◌, ℕ, suc, ◌+◌, ◌*◌, ◌^◌, ◌<◌, ◌≤◌, List, [], ◌∷◌, ◌++◌, length, drop, take, Bool, true, ◌≢◌, refl, sym, ap, ap₂, ◌∙◌, append_assoc, arith}
-use Rattle.cdf_edits.proofs.Common.{Says, eqb-true, drop-drop, length-append, drop-append_seam, flat_map, ◌==◌, ◌&&◌, big_bytes, length-bytes_high_first, Same, word, words, Field, Each, word_kept, both, drop-put_there, piece_kept, take_at, is_record_type, fixed_size, uir_type, type_of_body, record_type}
+use Rattle.cdf_edits.proofs.Common.{Says, eqb-true, drop-drop, length-append, drop-append_seam, flat_map, ◌==◌, ◌&&◌, big_bytes, length-bytes_high_first, Same, word, words, Field, Each, both, drop-put_there, piece_kept, take_at, is_record_type, fixed_size, uir_type, type_of_body, record_type}
+use Rattle.std.proofs.lemmas.List.{take-append-drop}
 use Rattle.byteorder.specs.Endian.{big_from}
 use Rattle.byteorder.specs.Numbers.{big_number-reads_back, big_from-take}
 use Rattle.cdf_format.proofs.Pieces.{word_of_piece_lem}
@@ -62,18 +63,18 @@ pub length-words : (ns : List ℕ) → length (flat_map (big_bytes 4) ns) ≡ 4 
 length-words [] = refl
 length-words (n ∷ ns) = let r = length-words ns in let l = length-bytes_high_first 4 n in omega (arith, length-append (big_bytes 4 n) (flat_map (big_bytes 4) ns))
 
--- in a record that was placed
-pub placed_says : {b filled body : List ℕ} {place : ℕ} (fields : List (Field × ℕ)) (rest : List ℕ) → Placed b filled body place → body ≡ laid_out fields ++ rest → are_in_order 8 fields ≡ true → AllFit fields → Says filled place fields × ((more : List ℕ) × (drop (place + end_of 8 fields) filled ≡ rest ++ more))
-placed_says {filled = filled} {body = body} {place = place} fields rest placed is o fit =
+-- in a record that was placed, from a place within it on
+pub placed_laid : {b filled body : List ℕ} {place : ℕ} (front rest : List ℕ) (at : ℕ) → 8 + length front ≡ at → Placed b filled body place → body ≡ front ++ rest → (more : List ℕ) × (drop (place + at) filled ≡ rest ++ more)
+placed_laid {filled = filled} {body = body} {place = place} front rest at here placed is =
     let more = drop (place + 8 + length body) placed.taken in
-    let there : drop (place + 8) filled ≡ laid_out fields ++ (rest ++ more) =
-    ap (drop (place + 8)) placed.written ∙ drop-put_there placed.taken body (place + 8) (let i = placed.inside in omega arith) ∙ ap (λ (x : List ℕ). x ++ more) is ∙ append_assoc (laid_out fields) rest more in
-    let r = says_laid_out filled place 8 fields (rest ++ more) there o fit in
-    (r.0, (more, r.1))
+    let to : place + at ≡ place + 8 + length front = omega arith in
+    let there = ap (drop (place + 8)) placed.written ∙ drop-put_there placed.taken body (place + 8) (let i = placed.inside in omega arith) ∙ ap (λ (x : List ℕ). x ++ more) is ∙ append_assoc front rest more in
+    (more, ap (λ (x : ℕ). drop x filled) to ∙ sym (drop-drop (length front) (place + 8) filled) ∙ ap (drop (length front)) there ∙ drop-append_seam front (rest ++ more))
 
-grows : (at : ℕ) (fields : List (Field × ℕ)) → at ≤ end_of at fields
-grows at [] = omega arith
-grows at ((f, n) ∷ more) = let r = grows (at + f.width) more in omega arith
+-- and after steps that leave that
+pub laid_kept : (b now : List ℕ) (from upto : ℕ) (xs more : List ℕ) → drop from b ≡ xs ++ more → Same b now from upto → from + length xs ≤ upto → upto ≤ length b → length b ≤ length now → drop from now ≡ xs ++ drop (length xs) (drop from now)
+laid_kept b now from upto xs more laid same fits inside longer =
+    sym (take-append-drop (length xs) (drop from now)) ∙ ap (λ (ys : List ℕ). ys ++ drop (length xs) (drop from now)) (piece_kept b now from upto same from (length xs) (omega arith) fits inside longer ∙ ap (take (length xs)) laid ∙ take_at xs more (length xs) refl)
 
 -- a type of records that are in use, the fixed part of which is no longer than this
 pub record IsType (type least : ℕ) : Type 0 where
@@ -91,22 +92,8 @@ typed_body {type = type} fields rest body t is long =
     let fixed = t.fixed in
     (typed, record { enough = omega arith; real = rw typed t.real; in_use = rw typed t.in_use; fixed = rw typed (omega arith) })
 
--- and after steps that leave them
-pub says_kept : (b now : List ℕ) (place lo hi at : ℕ) (fields : List (Field × ℕ)) → Same b now (place + lo) (place + hi) → lo ≤ at → end_of at fields ≤ hi → are_in_order at fields ≡ true → Says b place fields → Says now place fields
-says_kept b now place lo hi at [] same low high o says = tt
-says_kept b now place lo hi at ((f, n) ∷ more) same low high o says =
-    let p = both (f.place == at) (are_in_order (at + f.width) more) o in
-    let here = eqb-true f.place at p.0 in
-    let upto = grows (at + f.width) more in (
-      word_kept b now (place + lo) (place + hi) same (place + f.place) f.width (omega arith) (omega arith) ∙ says.0,
-      says_kept b now place lo hi (at + f.width) more same (omega arith) high p.1 says.1,
-    )
-
--- they, and what stands behind them
-pub fields_kept : (b now : List ℕ) (place at hi : ℕ) (fields : List (Field × ℕ)) (value more : List ℕ) → drop (place + at) b ≡ laid_out fields ++ (value ++ more) → are_in_order at fields ≡ true → AllFit fields → Same b now (place + at) (place + hi) → end_of at fields + length value ≡ hi → place + hi ≤ length b → length b ≤ length now → Says now place fields × (take (length value) (drop (place + end_of at fields) now) ≡ value)
-fields_kept b now place at hi fields value more laid o fit same ends inside longer =
-    let w = says_laid_out b place at fields (value ++ more) laid o fit in
-    let up = grows at fields in (
-      says_kept b now place at hi at fields same (omega arith) (omega arith) o w.0,
-      piece_kept b now (place + at) (place + hi) same (place + end_of at fields) (length value) (omega arith) (omega arith) inside longer ∙ ap (take (length value)) w.1 ∙ take_at value more (length value) refl,
-    )
+-- fields, and a value that stands behind them
+pub value_laid : (b : List ℕ) (place at : ℕ) (fields : List (Field × ℕ)) (value more : List ℕ) → drop (place + at) b ≡ (laid_out fields ++ value) ++ more → are_in_order at fields ≡ true → AllFit fields → Says b place fields × (take (length value) (drop (place + end_of at fields) b) ≡ value)
+value_laid b place at fields value more laid o fit =
+    let w = says_laid_out b place at fields (value ++ more) (laid ∙ append_assoc (laid_out fields) value more) o fit in
+    (w.0, ap (take (length value)) w.1 ∙ take_at value more (length value) refl)

@@ -1,6 +1,5 @@
 use Rattle.std.proofs.Common.{ℕ, ap, ◌∙◌, arith}
-use Rattle.cdf_vars.proofs.Common.{on_ok_weaker, cdr_fits, WritesHeads}
-use Rattle.cdf_vars.specs.Setup.{MovesGdr}
+use Rattle.cdf_vars.proofs.Common.{on_ok_weaker, cdr_fits, MovesGdr}
 use Rattle.cdf_vars.proofs.SetUpAnswers.{fits_gdr}
 use Rattle.cdf_vars.proofs.SetUpFollows.{majority_flags, keeps_follows, moves_follows}
 use Rattle.cdf_vars.proofs.setup.carry_out.Goals as goal
@@ -15,9 +14,7 @@ pub returns-then-dims-heads-clause-follows : goal.returns-then-dims-heads-clause
 returns-then-dims-heads-clause-follows g c =
     let r = c.requires in
     let bits = c.majority_flags.ensures ∙ ap (λ (n : ℕ). majority_flags n c.args.majority) r.flags in
-    on_ok_weaker _ (λ (w : WritesHeads (g.A.Area.image c.args.area.now) (g.A.Area.image c.write_heads.new.area) c.args.heads.gdr c.args.encoding c.majority_flags.result c.args.dims.now).
-    keeps_follows _ _ r.good r.empty r.fine _ r.encoding bits r.gdr (omega (arith, r.size)) w (omega (arith, r.room, r.limit)))
-    c.write_heads.ensures.written
+    on_ok_weaker _ (keeps_follows _ _ r.good r.empty r.fine _ r.encoding bits r.gdr (omega (arith, r.size)) (omega (arith, r.room, r.limit))) c.write_heads.ensures.written
 
 pub returns-else-dims-heads-clause-follows : goal.returns-else-dims-heads-clause-follows
 returns-else-dims-heads-clause-follows g c =

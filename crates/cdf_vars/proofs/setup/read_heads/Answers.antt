@@ -9,14 +9,8 @@ read_cdr-requires g c = omega (arith, cdr_fits (g.A.Area.image c.args.area.now) 
 pub read_gdr-requires : goal.read_gdr-requires
 read_gdr-requires g c = omega (arith, gdr_fits (g.A.Area.image c.args.area.now) c.requires, ap length c.in_ok-cdr.ensures.area.image, ap (λ (r : Cdr). r.gdr_offset) c.in_ok-cdr.ensures.value)
 
-pub returns-clause-gdr : goal.returns-clause-gdr
-returns-clause-gdr g c = ap (λ (r : Cdr). r.gdr_offset) c.in_ok-cdr.ensures.value
-
 pub returns-clause-size : goal.returns-clause-size
 returns-clause-size g c = size_read c.requires c.in_ok-cdr.ensures.area.image c.in_ok-cdr.ensures.value c.in_ok-gdr.ensures.value
-
-pub returns-clause-flags : goal.returns-clause-flags
-returns-clause-flags g c = ap (λ (r : Cdr). r.flags) c.in_ok-cdr.ensures.value
 
 pub returns-clause-in_use : goal.returns-clause-in_use
 returns-clause-in_use g c = sym (counts_read c.requires c.in_ok-cdr.ensures.area.image c.in_ok-cdr.ensures.value c.in_ok-gdr.ensures.value c.in_ok-gdr.ensures.bytes) ∙ c.is_in_use.ensures

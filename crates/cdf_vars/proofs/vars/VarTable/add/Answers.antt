@@ -1,6 +1,5 @@
-use Rattle.std.proofs.Common.{◌≡◌, ◌∙◌, ℕ, List, [], ◌∷◌, ◌++◌, ap, subst, sym}
-use Rattle.cdf_vars.proofs.Common.{remove, KnowsKind}
-use Rattle.cdf_edits.proofs.Commands.ListParts.{last_removed}
+use Rattle.std.proofs.Common.{◌∙◌, ℕ, List, [], ◌∷◌, ◌++◌, ap, subst, sym}
+use Rattle.cdf_vars.proofs.Common.{remove, KnowsKind, last_removed}
 use Rattle.cdf_vars.proofs.VariableFound.{kind_absent, kind_few, kind_view}
 use Rattle.cdf_vars.proofs.vars.VarTable.add.Goals as goal
 
@@ -12,15 +11,11 @@ add-requires-clause-few g c = kind_few (kind_view c.self.view_is c.requires.know
 
 pub returns-in-Ok-clause-known : goal.returns-in-Ok-clause-known
 returns-in-Ok-clause-known g c =
-    let name : c.new.result ≡ c.args.name.now = c.new.ensures ∙ c.in_ok-to_vec.ensures.items_if_clones_equal (λ x y e. e) in
-    let added = c.in_ok-add.ensures.added ∙ ap (λ (x : List ℕ). c.self.inside.names ++ x ∷ []) name in
+    let added = c.in_ok-add.ensures.added ∙ ap (λ (x : List ℕ). c.self.inside.names ++ x ∷ []) (c.new.ensures ∙ c.in_ok-to_vec.ensures.items_if_clones_equal (λ x y e. e)) in
     subst (λ (names : List (List ℕ)). KnowsKind (g.A.Area.image c.make.new.area) c.args.kind (record { names = names; places = c.make.new.places.items })) (sym added)
     (c.in-Ok.ensures.known c.self.inside.names (kind_view c.self.view_is c.requires.known))
 
 pub returns-in-Err-clause-stays : goal.returns-in-Err-clause-stays
 returns-in-Err-clause-stays g c =
     let before = kind_view c.self.view_is c.requires.known in
-    record {
-      names_are = c.remove.ensures ∙ ap (λ (xs : List (List ℕ)). remove xs c.len-last.result) c.in_ok-add.ensures.added ∙ last_removed c.self.inside.names c.new.result c.len-last.result c.len-last.ensures.count ∙ before.names_are;
-      places_are = c.in-Err.ensures.stays ∙ before.places_are;
-    }
+    assumption (c.remove.ensures ∙ ap (λ (xs : List (List ℕ)). remove xs c.len-last.result) c.in_ok-add.ensures.added ∙ last_removed c.self.inside.names c.new.result c.len-last.result c.len-last.ensures.count ∙ before.names_are, c.in-Err.ensures.stays ∙ before.places_are)
