@@ -1,6 +1,6 @@
 -- An entry that was taken out of its chain and freed leads from a good image to the one that follows.
-use Rattle.std.proofs.Common.{◌≡◌, ◌≢◌, ℕ, ◌+◌, ◌≤◌, List, [], ◌∷◌, length, find, false, None, Option, Some, refl, sym, ap, ◌∙◌, arith}
-use Rattle.cdf_attrs.proofs.Common.{◌==◌, Plain, DelEntry, EntryKind, Go, entries_of, is_wrong_scope, with_attribute, with_entries, Entry, image_limit, attribute_named, attribute_names, item_at, without, ByStep, content, attribute_of, number, integer4, size_at, aedr_num, AttributeShape, shape, adrs, IsSound, In, Distinct, Good, good_is_sound, chain_after, chain_of, entry_at, max_field, greatest_number, entries_chain, count_field, with_chain, Follows, Act, Gave, gave, members_of, Gives, EntryLives, nums, entries_left, chain_now, found_none, found_one, Rechains, entry_stays, Frees, all_marks, count_same, freed_bytes, freed_rechains, freed_settled, LeavesChain, left_frees, left_members, the_one, count_is, Chained, chain_follows, counted_before, differ_before, follows_chained, items_of, of_named, once_before, rules_live}
+use Rattle.std.proofs.Common.{◌≡◌, ℕ, ◌+◌, ◌≤◌, List, [], ◌∷◌, length, find, false, None, Option, Some, refl, sym, ap, ◌∙◌, arith}
+use Rattle.cdf_attrs.proofs.Common.{◌==◌, Plain, DelEntry, EntryKind, Go, entries_of, is_wrong_scope, with_attribute, with_entries, Entry, image_limit, attribute_named, attribute_names, item_at, without, ByStep, content, attribute_of, number, integer4, size_at, aedr_num, AttributeShape, shape, adrs, IsSound, In, Good, good_is_sound, chain_after, chain_of, entry_at, max_field, greatest_number, entries_chain, count_field, with_chain, Follows, Act, Gave, gave, members_of, Gives, nums, chain_now, found_none, found_one, freed_bytes, LeavesChain, the_one, Chained, chain_follows, differ_before, follows_chained, items_of, of_named}
 use Rattle.std.specs.Option.{option_to_list}
 use Rattle.cdf_model.specs.AttributeSteps.{del_entry_step}
 use Rattle.cdf_format.specs.Content.{entries_of as chain_items}

@@ -1,17 +1,17 @@
 -- A new VDR: what a shape has that is not refused, that what was written reads back, what it means, and that it keeps the rules.
-use Rattle.std.proofs.Common.{◌≡◌, ℕ, ◌*◌, ◌≤◌, List, [], ◌∷◌, length, Bool, true, false, not, ◌||◌, refl, arith, ◌+◌, ◌-◌, ◌^◌, ◌<◌, ◌++◌, map, take, drop, replicate, sym, ap, ◌∙◌, append_assoc, lit<, ◌≢◌, suc, Option, None, ap₂, subst}
-use Rattle.cdf_vars.proofs.Common.{flat_map, All, before_first, list_all, ◌==◌, ◌&&◌, nat_lt, if◌then◌else◌, nat_le, is_some, Each, HasVariable, VariableShape, DataType, signed_limit, value_count, size_of, are_bad_sizes, is_bad_shape, new_variable, drop-drop, length-append, length-map, take_at, big_bytes, vdr_type, IsFilled, vdr_bytes, IsBody, length-words, words_laid_out, Same, word, words, counted, is_positive, name_in, number, gdr_offset, r_num_dims, r_sizes, size_at, type_at, has_bit, record_type, vdr_name, vdr_flags, z_vdr_type, piece_kept, words_kept, Kind, R, Z, NewVariable, own_dims, vary_code, eqb-true, le-leb, or_parts, w32, cast_signed, variable_of, VariableFits, dimensions_at, dims_at, elems_at, has_pad, is_z, pad_field, record_bytes, type_of_variable, value_bytes, is_max_rec, vdr_end, NoRule, small_signed, drop_at, vdr_fields, ltb-false, and_from, VarysWritten, counted4, pad_at, vary_field, varys_at}
+use Rattle.std.proofs.Common.{◌≡◌, ℕ, ◌*◌, ◌≤◌, List, [], ◌∷◌, length, Bool, true, false, not, ◌||◌, refl, arith, ◌+◌, ◌-◌, ◌^◌, ◌<◌, ◌++◌, map, drop, replicate, sym, ap, ◌∙◌, append_assoc, lit<, ◌≢◌, Option, None, ap₂}
+use Rattle.cdf_vars.proofs.Common.{flat_map, All, before_first, ◌==◌, ◌&&◌, nat_lt, if◌then◌else◌, nat_le, is_some, Each, HasVariable, VariableShape, DataType, signed_limit, value_count, size_of, are_bad_sizes, is_bad_shape, new_variable, drop-drop, length-append, length-map, take_at, big_bytes, vdr_type, IsFilled, vdr_bytes, length-words, words_laid_out, Same, word, words, counted, is_positive, name_in, number, gdr_offset, r_num_dims, r_sizes, size_at, type_at, has_bit, record_type, vdr_name, z_vdr_type, Kind, R, Z, NewVariable, own_dims, vary_code, eqb-true, le-leb, w32, cast_signed, variable_of, dimensions_at, dims_at, elems_at, has_pad, is_z, pad_field, type_of_variable, value_bytes, is_max_rec, vdr_end, NoRule, small_signed, drop_at, vdr_fields, ltb-false, and_from, VarysWritten, counted4, pad_at, vary_field, varys_at}
 use Rattle.std.proofs.lemmas.List.Concat.{flat_map-append}
 use Rattle.std.proofs.Math.Nat.{le-mul_of_pos_right}
 use Rattle.cdf_format.specs.Index.{leaves_of, nodes_of}
-use Rattle.cdf_edits.proofs.Common.{Byte, Pad, Previous, dimension_limit, drop-append_seam, has_dimensions, is_characters, is_compressed, is_no_link, no_node, notation_of, type_of, unwrap_or}
+use Rattle.cdf_edits.proofs.Common.{Byte, Pad, Previous, dimension_limit, has_dimensions, is_characters, is_compressed, is_no_link, no_node, notation_of, type_of, unwrap_or}
 use Rattle.cdf_model.specs.Place.{record_limit, record_size}
 use Rattle.cdf_values.proofs.ValueLengths.{size_some}
 use Rattle.std.proofs.lemmas.List.{length-replicate}
 use Rattle.cdf_edits.specs.Commands.NewRecords.{Says}
 use Rattle.cdf_edits.specs.Space.Placing.{Placed, laid_out}
 use Rattle.cdf_edits.proofs.Edits.Common.{IsRuled, code_small, kind_type, type_back, laid_kept, placed_laid, says_laid_out}
-use Rattle.cdf_format.specs.Records.{vdr_vdr_next, vdr_data_type, vdr_num_elems, vdr_z_num_dims}
+use Rattle.cdf_format.specs.Records.{vdr_vdr_next, vdr_num_elems, vdr_z_num_dims}
 use Rattle.cdf_vars.specs.Creating.{vdr_body}
 use Rattle.cdf_vars.proofs.Sizes.{IsSize, fine_sizes, not_zero, positive_sizes, signed_small, sizes_small}
 use Rattle.cdf_var_records.proofs.VdrParts.{pad_place, words_long}

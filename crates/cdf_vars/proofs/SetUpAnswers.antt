@@ -1,6 +1,6 @@
 -- What the command `setup` is answered, which dimensions it takes, and what its calls ask for.
-use Rattle.std.proofs.Common.{◌≡◌, ℕ, ◌+◌, ◌*◌, ◌<◌, ◌≤◌, List, length, Bool, Option, Some, None, true, false, not, refl, sym, ap, subst, ◌∙◌, arith}
-use Rattle.cdf_vars.proofs.Common.{of_z-to_z, w32, cast_unsigned, ◌==◌, ◌&&◌, is_some, Outcome, Done, Refused, NumberOutOfRange, BadShape, TooLarge, Plain, Command, Setup, Majority, Go, DataSet, encoding_at, ByStep, step, are_bad_sizes, is_empty_set, Answers, Follows, Takes, refused, gone, content, word, size_at, gdr_offset, uir_type, shape, IsSound, Good, is_a-in, good_by_its_shape, good_is_sound, tile_lies, gdr_in, Cdr, AreBytes, word_fits, is_none, signed4}
+use Rattle.std.proofs.Common.{◌≡◌, ℕ, ◌+◌, ◌*◌, ◌≤◌, List, length, Bool, true, false, not, refl, sym, ap, subst, ◌∙◌, arith}
+use Rattle.cdf_vars.proofs.Common.{of_z-to_z, w32, cast_unsigned, ◌==◌, ◌&&◌, is_some, Plain, Setup, Majority, Go, DataSet, encoding_at, ByStep, step, are_bad_sizes, is_empty_set, Takes, content, word, size_at, gdr_offset, uir_type, shape, IsSound, Good, is_a-in, good_by_its_shape, good_is_sound, tile_lies, gdr_in, Cdr, AreBytes, word_fits, is_none, signed4}
 use Rattle.std.proofs.Math.Path.{transport}
 use Rattle.cdf_model.specs.declared.head.Head.{Head}
 use Rattle.cdf_format.proofs.HeadOf.{head_of_good}

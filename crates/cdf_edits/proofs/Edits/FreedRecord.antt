@@ -1,9 +1,9 @@
 -- A record that an edit left in use, and no owner has, is freed: what the image is then.
 use Rattle.std.proofs.Common.{◌≡◌, ◌≢◌, ℕ, ◌+◌, ◌≤◌, List, [], ◌∷◌, ◌++◌, length, true, false, refl, sym, ap, subst, ◌∙◌, arith, inl, inr, ◌⊎◌}
-use Rattle.cdf_edits.proofs.Common.{le-leb, Same, IsChain, number, size_at, type_at, Unused, owned_by, unused_records, Field, gdr_uir_head, uir_next_uir, uir_prev_uir, gdr_type, uir_type, is_record_type, fixed_size, Shape, HasShape, shape, IsSound, In, AreTiles, Same-part, is_a-type, Allowances, AllKeep, is_taken, GivenStay, no_fields, Edit, Mark, Avoids, Away, Within, giving_marks, Act, Gave, ActsFollow, gave, links_end, Gives, giving, In-append, tile_lies}
+use Rattle.cdf_edits.proofs.Common.{le-leb, Same, IsChain, number, size_at, type_at, Unused, owned_by, unused_records, Field, gdr_uir_head, uir_next_uir, uir_prev_uir, gdr_type, uir_type, is_record_type, fixed_size, Shape, HasShape, shape, IsSound, In, AreTiles, Same-part, is_a-type, Allowances, AllKeep, is_taken, GivenStay, no_fields, Edit, Mark, Avoids, Away, Within, giving_marks, Act, Gave, ActsFollow, gave, links_end, Gives, giving, In-append}
 use Rattle.cdf_edits.proofs.Edits.ActsThen.{acts_gave}
 use Rattle.cdf_edits.proofs.Edits.Composing.{edit_then, same-then, sizes}
-use Rattle.cdf_edits.proofs.Edits.FreedBytes.{behind_one, freed_stay, BytesStay, end_long, freed_stay_but}
+use Rattle.cdf_edits.proofs.Edits.FreedBytes.{behind_one, BytesStay, end_long, freed_stay_but}
 use Rattle.cdf_edits.proofs.Edits.FreedRecords.{unused_real}
 use Rattle.cdf_edits.proofs.Edits.MarkLemmas.{Avoids-append, Within-append, Away-append, away-avoids, the_one}
 use Rattle.cdf_edits.proofs.Edits.OwnersKept.{keep_unused}

@@ -1,20 +1,16 @@
 -- The old VDR is freed that another one took the place of: what the image is then, and what `set-pad` does where the VDR moves.
-use Rattle.std.proofs.Common.{◌≡◌, ◌≢◌, ◌⊎◌, not, ℕ, suc, ◌+◌, ◌<◌, ◌≤◌, List, [], ◌∷◌, ◌++◌, length, Some, eq-eqb, true, refl, sym, ap, subst, ◌∙◌, arith, inl, inr, le_refl, map, false, bytes_eq}
-use Rattle.cdf_edits.proofs.Common.{size_kept, ne_eqb, lt-leb, ◌==◌, slice_set, turned, Kind, R, Z, Variable, image_limit, Found, variables_of, with_variables, is_in, next_field, content, variable_of, number, size_at, type_at, gdr_offset, read_types, Unused, owned, owned_by, unused_records, Field, gdr_eof, vdr_flags, fixed_size, is_record_type, VariableShape, Shape, vdrs, vdrs_append, is_little, Each, shape, In, In-append, pad_field, type_of_variable, vdr_end, Good, type_kept, number_kept, bytes_kept, good_by_its_shape, times-none, Hold-member, shape_is, AllKeep, Allowances, Anything, Keeps, Only, shapes_of, stays_own, vdr_type, set_pad_changes, unread_type, Edit, Mark, making_marks, giving_marks, adding_marks, Act, ActsFollow, Gave, Took, head_of, count_of, type_in, Gives, SetsPad, variables_chain, length-map, map-append, set_at, if◌then◌else◌, DataSet, number_rows, name_in, integer4, has_bit, times, vdr_blocking_factor, vdr_num, vdr_name, Hold, is_compressed, HasShape, pad_at, records_vary, name_kept, IsGoodByShape, rules_of_good, In-append_left, In-append_right, good_long, sealed_kept, content_is, GivenStay, no_fields, same_kind, gave}
-use Rattle.cdf_edits.proofs.Edits.VdrEdited.{ours, least_size}
+use Rattle.std.proofs.Common.{◌≡◌, ◌≢◌, ◌⊎◌, not, ℕ, suc, ◌+◌, ◌<◌, ◌≤◌, List, [], ◌∷◌, ◌++◌, length, Some, eq-eqb, true, refl, sym, ap, subst, ◌∙◌, arith, inl, inr, le_refl}
+use Rattle.cdf_edits.proofs.Common.{size_kept, ne_eqb, lt-leb, ◌==◌, slice_set, turned, Kind, R, Z, Variable, image_limit, Found, variables_of, with_variables, is_in, next_field, content, variable_of, number, size_at, type_at, gdr_offset, read_types, Unused, owned, owned_by, unused_records, Field, gdr_eof, vdr_flags, fixed_size, is_record_type, VariableShape, Shape, vdrs, vdrs_append, is_little, Each, shape, In, In-append, pad_field, type_of_variable, vdr_end, Good, type_kept, number_kept, bytes_kept, good_by_its_shape, times-none, Hold-member, shape_is, AllKeep, Allowances, Anything, Keeps, Only, shapes_of, stays_own, vdr_type, set_pad_changes, unread_type, Edit, Mark, making_marks, giving_marks, adding_marks, Act, ActsFollow, Gave, Took, head_of, count_of, type_in, Gives, SetsPad, variables_chain}
+use Rattle.cdf_edits.proofs.Edits.VdrEdited.{ours}
 use Rattle.cdf_edits.proofs.Edits.MadeRecord.{place_in}
 use Rattle.cdf_edits.proofs.Edits.Common.{FileSame, FreesRecord, IsRuled, IsSorted, Kept, KeptButLink, StandsAmong, VariableLives, VariableSplices, after_ours, attributes_kept, as_long_now, behind_in, content_copied, fits, freed_each, freed_keeps_unused, freed_list, freed_real, freed_type, file_same, gdr_place, gdr_same, has, index_records, index_rules_stay, keep_own, keep_variable_parts, kind_type, links_copied, listed_before, listed_marks, long, loose_away, name_room, no_block, nums_from, other_chain, other_links, owned_once_if, pad_late, pad_wide, records_now, remain_from, rules_stay, same_as_itself, shape_now, sound, stood, the_one, through, tile, typed, used_times, vdr_allowance, with_shapes}
-use Rattle.cdf_edits.proofs.Edits.FreedRecord.{other_kept, freed_edit, freed_bytes, freed_acts, linked_bytes, same_sizes, same_types}
-use Rattle.cdf_edits.proofs.Edits.JoinedVdr.{KindTests, edit, ends, fills, gdr_is, join_tests, joined_acts, joined_size, joined_type, linked, list, member_in, plain_kind, real, records, file}
-use Rattle.cdf_edits.proofs.Edits.MovedVdr.{CopiesVdr, MovesVdr, beside, by_not_old, by_once, chain_late, late_is, late_shape, old_live, old_unowned, own', sound_late, traded, members, old_type}
+use Rattle.cdf_edits.proofs.Edits.FreedRecord.{other_kept, freed_edit, freed_acts, linked_bytes}
+use Rattle.cdf_edits.proofs.Edits.JoinedVdr.{KindTests, edit, ends, fills, gdr_is, join_tests, joined_acts, joined_size, joined_type, linked, list, member_in, plain_kind, real, records}
+use Rattle.cdf_edits.proofs.Edits.MovedVdr.{CopiesVdr, MovesVdr, beside, by_not_old, by_once, chain_late, late_is, late_shape, old_live, old_unowned, own', sound_late, traded, old_type}
 use Rattle.cdf_edits.proofs.Edits.OwnEdited.{replaced_content, replaced_counted, replaced_good, replaced_named, ruled_before}
 use Rattle.cdf_edits.proofs.Edits.PadWritten.{HoldsPad, copied, name_is, num_is, packed, padded_end, padded_means}
 use Rattle.cdf_edits.proofs.Edits.VariablesLinked.{behind_kept, keep_numbered, keep_with_kind, live, next_keeps, other_stays, others_live}
-use Rattle.cdf_edits.proofs.Edits.VariableKinds.{other_kind, vdrs_rows, counted_before, variables_of_are}
-use Rattle.cdf_edits.proofs.Edits.VariableNames.{apart_if, own_names_apart}
-use Rattle.cdf_edits.proofs.Edits.VariableSplice.{OwnRules, content_now, parts_ruled, good_image_if}
 use Rattle.cdf_edits.proofs.Frame.Meaning.{late_size}
-use Rattle.cdf_edits.proofs.Frame.VdrCopied.{VdrCopied, pad_field_copied, value_copied}
 
 -- ---- by the kind
 
