@@ -11,8 +11,7 @@ use Rattle.cdf_vars.specs.declared.vars.VarId.{VarId}
 use Rattle.cdf_vars.proofs.VariableFound.{Parts, the_parts}
 
 same_names : (d : DataSet) (kind : Kind) (vs : List Variable) → attribute_names (with_variables d kind vs) ≡ attribute_names d
-same_names d R vs = refl
-same_names d Z vs = refl
+same_names d kind vs = grind arith
 
 module _ {b now : List ℕ} {kind : Kind} {n : ℕ} (good : Good b) (d : RemovesVariable b now kind n) where
   -- the attributes stay while the variable itself goes

@@ -20,8 +20,7 @@ use Rattle.cdf_vars.proofs.VariableNames.{absent_from}
 -- ---- what is said by the kind
 
 read_type : (kind : Kind) → is_in (vdr_type kind) read_types ≡ true
-read_type R = refl
-read_type Z = refl
+read_type kind = grind arith
 
 -- what the command is that makes it
 pub record IsMaking (b : List ℕ) (kind : Kind) (v : NewVariable) : Type 0 where

@@ -65,8 +65,7 @@ abbrev tail : Kind → NewVariable → List ℕ
 tail kind v = own_dims kind v.dims ++ map vary_code v.varys
 
 pub tail_size : (kind : Kind) (dims : List ℕ) (n : ℕ) → n ≡ length dims → 340 + 4 * (length (own_dims kind dims) + n) ≡ vdr_bytes kind (length dims)
-tail_size R dims n e = omega arith
-tail_size Z dims n e = omega arith
+tail_size kind dims n e = grind arith
 
 own_small : (kind : Kind) (dims : List ℕ) → length dims ≤ dimension_limit → Each IsSize dims → Each (λ n. n < 256 ^ 4) (own_dims kind dims)
 own_small R dims few sizes = tt

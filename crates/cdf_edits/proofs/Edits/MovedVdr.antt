@@ -1,7 +1,7 @@
 -- A VDR is placed anew and takes the place of the old one in its chain: the image until the old one is freed.
 use Rattle.std.proofs.Common.{◌≡◌, ◌≢◌, ◌⊎◌, ℕ, ◌+◌, ◌<◌, ◌≤◌, List, [], ◌∷◌, ◌++◌, length, eq-eqb, refl, sym, ap, subst, ◌∙◌, arith, inl, inr, le_refl}
 use Rattle.cdf_edits.proofs.Common.{ne_eqb, Kind, IsChain, number, size_at, type_at, times, owned_records, VariableShape, Shape, vdrs, HasVariable, HasShape, Each, shape, IsSound, In, In-append_left, In-append_right, Distinct, Distinct-back, Distinct-middle, pad_field, value_bytes, vdr_end, Good, Each-split, vdrs_append, shapes_of, counted_in, head_of, members_of, type_in, with_in_place, variables_chain}
-use Rattle.cdf_edits.proofs.Edits.Common.{IsHeld, StandsAmong, VariableLives, behind_in, fits, fits_copied, fresh, has, index_records, kind_chain, late_type, links_copied, made_once, members_are, not_twice_kept, of_kind, owned-times, sound, sound_if, spliced_times, the_one, tile, times-append, typed, none_in_use, used_times, with_shapes}
+use Rattle.cdf_edits.proofs.Edits.Common.{unlike, IsHeld, StandsAmong, VariableLives, behind_in, fits, fits_copied, has, index_records, kind_chain, late_type, links_copied, made_once, members_are, not_twice_kept, of_kind, owned-times, sound, sound_if, spliced_times, the_one, tile, times-append, typed, none_in_use, used_times, with_shapes}
 use Rattle.cdf_edits.proofs.Edits.JoinedVdr.{JoinsVdr, chain, edit, file, fills, gdr_is, joined_is, joined_size, joined_splices, list, lives, marks, plain_kind, records, t, used}
 use Rattle.cdf_edits.proofs.Edits.PadWritten.{HoldsPad, copied, packed, padded_end}
 
@@ -28,9 +28,7 @@ module _ {b late : List ℕ} {kind : Kind} {before : List VariableShape} {own : 
   old_live = (Each-split (VariableLives b late) before (own ∷ after) (subst (Each (VariableLives b late)) at.was (of_kind (VariableLives b late) kind (shape b) (lives (sound good at) m)))).1.0
 
   pub by_not_old : by ≢ own.vdr
-  by_not_old q =
-      let f = fills (sound good at) m in
-      f.in_use (sym (typed good at) ∙ ap (type_at b) (sym q) ∙ fresh (sound good at) f (subst (λ (x : ℕ). In x (shape b).records) (sym q) (tile good at)))
+  by_not_old q = unlike (sound good at) (fills (sound good at) m) own.vdr (tile good at) (λ u. (plain_kind kind).no_uir (sym (typed good at) ∙ u)) (sym q)
 
   abbrev pub own' : VariableShape
   own' = record own { vdr = by }

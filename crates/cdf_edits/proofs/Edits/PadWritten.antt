@@ -1,6 +1,6 @@
 -- A VDR gets another pad value, and the flag that says that there is one: what it says then, and that it is written where there is room for it.
 use Rattle.std.proofs.Common.{drop, ◌^◌, ◌≡◌, ℕ, ◌+◌, ◌*◌, ◌/◌, ◌%◌, ◌<◌, ◌≤◌, Bool, List, [], ◌∷◌, length, true, None, Some, refl, sym, ap, subst, ◌∙◌, arith, inl, inr}
-use Rattle.cdf_edits.proofs.Common.{LiesIn, drop-put_there, field_reads, length-put, length-with_field, put, take, take_at, with_field, before_first, byte, cast_signed, w32, ◌==◌, if◌then◌else◌, Kind, R, Z, turned, variable_of, number, name_in, integer4, has_bit, size_at, type_at, Field, OutsideFields, vdr_flags, vdr_num, vdr_blocking_factor, vdr_name, VariableShape, is_compressed, records_vary, shape, field_bytes, is_little, value_bytes, has_pad, pad_field, pad_at, type_of_variable, vdr_end, Good, of_le, with_bits, SetsPad, Took, Gave, Edit, Mark, mark, Among, touched_field, Changed, type_in, variables_chain}
+use Rattle.cdf_edits.proofs.Common.{LiesIn, drop-put_there, field_reads, length-put, length-with_field, put, take, take_at, with_field, before_first, byte, cast_signed, w32, ◌==◌, if◌then◌else◌, Kind, turned, variable_of, number, name_in, integer4, has_bit, size_at, type_at, Field, OutsideFields, vdr_flags, vdr_num, vdr_blocking_factor, vdr_name, VariableShape, is_compressed, records_vary, shape, field_bytes, is_little, value_bytes, has_pad, pad_field, pad_at, type_of_variable, vdr_end, Good, of_le, with_bits, SetsPad, Took, Gave, Edit, Mark, mark, Among, touched_field, Changed, type_in, variables_chain}
 use Rattle.cdf_edits.proofs.Edits.Common.{Copied, EditsVdr, FileSame, MarkTests, StandsAmong, VdrCopied, behind_in, behind_kept, changed_edit, content_copied, copied_part, file, file_same, fits, has, high, long, name_room, pad_field_copied, pad_late, pad_wide, piece_copied, some_bytes, sound, through, tile, type_copied, typed, value_copied, word_copied}
 use Rattle.cdf_edits.proofs.Edits.WrittenFields.{with_field_changed}
 use Rattle.cdf_edits.proofs.Frame.ChangedBytes.{changed_put, changed_then}
@@ -85,8 +85,7 @@ abbrev pad_marks : ℕ → ℕ → Field → List Mark
 pad_marks type v pad = mark type (Among (v ∷ [])) vdr_flags ∷ mark type (Among (v ∷ [])) pad ∷ []
 
 pad_tests : (kind : Kind) (v : ℕ) (pad : Field) → MarkTests kind (pad_marks (type_in (variables_chain kind)) v pad)
-pad_tests R v pad = record { file_clear = refl; attributes_clear = refl; other_clear = refl; index_clear = refl; unused_clear = refl; gdr_clear = λ lo hi. refl }
-pad_tests Z v pad = record { file_clear = refl; attributes_clear = refl; other_clear = refl; index_clear = refl; unused_clear = refl; gdr_clear = λ lo hi. refl }
+pad_tests kind v pad = grind arith
 
 module _ {b now : List ℕ} {kind : Kind} {before : List VariableShape} {own : VariableShape} {after : List VariableShape} {bytes : List ℕ} (good : Good b) (at : StandsAmong b kind before own after) (w : WritesPad b now own.vdr bytes) where
   abbrev v : ℕ

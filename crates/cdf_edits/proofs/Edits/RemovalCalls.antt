@@ -1,17 +1,15 @@
 -- What the calls of the removal of a variable come to, by the places of the VDRs of its kind and its number.
 use Rattle.std.proofs.Common.{◌≡◌, ℕ, ℤ, ◌+◌, ◌<◌, ◌≤◌, List, ◌∷◌, ◌++◌, length, drop, get_or, refl, sym, ap, subst, ◌∙◌, arith}
-use Rattle.cdf_edits.proofs.Common.{remove, Kind, R, Z, image_limit, number, gdr_offset, LiesIn, gdr_r_max_rec, vdr_name, empty_writes, VariableShape, vdrs, shape, IsSound, In, Good, linkable-in, linkable-type, good_by_its_shape, good_is_sound, eq_of, tile_lies, shapes_of, freed_with_variable, UnlinksVariable, RemovesVariable, numbers_on, r_max_writes, greatest_at, write, with_writes, count_of, counted_in, type_in, HolderStands, AllGiven, AreFree, variables_chain, Hold, Lists, TakenOut, Chain}
+use Rattle.cdf_edits.proofs.Common.{remove, Kind, R, Z, image_limit, number, gdr_offset, LiesIn, gdr_r_max_rec, vdr_name, empty_writes, VariableShape, vdrs, shape, IsSound, In, Good, linkable-in, linkable-type, good_by_its_shape, good_is_sound, tile_lies, shapes_of, freed_with_variable, UnlinksVariable, RemovesVariable, numbers_on, r_max_writes, greatest_at, write, with_writes, count_of, counted_in, type_in, HolderStands, AllGiven, AreFree, variables_chain, Hold, Lists, TakenOut, Chain}
 use Rattle.cdf_edits.proofs.Edits.Common.{AtNumber, at_number, got_in, IsOf, few_members, lists, gdr_place, gdr_in, gdr_long, fixed_long, least_size, as_long, e_early, counted_before, kind_chain, vdrs_rows, out_counted}
 use Rattle.cdf_edits.proofs.Edits.UnlinkedVariable.{emptied_free, emptied_sound, in_holder, leaves, leaving_tests}
 use Rattle.cdf_edits.proofs.Space.ChainHeads.{cdr_room}
 
 count_of_rows : (kind : Kind) (b ms : List ℕ) → Hold (vdrs_rows kind b ms) → number b (gdr_offset b) (count_of (variables_chain kind)) ≡ length ms
-count_of_rows R b ms h = eq_of _ _ h.0
-count_of_rows Z b ms h = eq_of _ _ h.0
+count_of_rows kind b ms h = grind arith
 
 holder_is_gdr : (kind : Kind) (b : List ℕ) → HolderStands b (variables_chain kind)
-holder_is_gdr R b = tt
-holder_is_gdr Z b = tt
+holder_is_gdr kind b = grind arith
 
 module _ (b : List ℕ) (good : Good b) (kind : Kind) (places : List ℕ) (are : places ≡ vdrs (shapes_of (shape b) kind)) where
   sound : IsSound b (shape b)

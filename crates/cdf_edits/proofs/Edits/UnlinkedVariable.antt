@@ -9,16 +9,14 @@ use Rattle.cdf_edits.proofs.Edits.NumbersBehind.{numbering as numbering_of}
 -- ---- by the kind
 
 pub in_holder : (kind : Kind) (b : List ℕ) → holder_of b (variables_chain kind) ≡ gdr_offset b
-in_holder R b = refl
-in_holder Z b = refl
+in_holder kind b = grind arith
 
 -- the numbers of those behind
 abbrev pub numbering : Kind → List ℕ → List Mark
 numbering kind behind = mark (type_in (variables_chain kind)) (Among behind) vdr_num ∷ []
 
 pub leaving_tests : (kind : Kind) (gdr : ℕ) (members behind : List ℕ) → LeavingTests (variables_chain kind) vdr_num vdr_num gdr members (numbering kind behind) (r_max_marks kind gdr)
-leaving_tests R gdr members behind = record { num_later = omega arith; num_fits = omega arith; num_width = refl; said_width = refl; head_later = omega arith; head_fits = omega arith; count_later = omega arith; count_fits = omega arith; count_width = refl; no_uir = λ e. absurd cc; no_gdr = λ e. absurd cc; in_gdr = λ b. refl; first_file = refl; early_file = refl; later_start = refl; later_head = refl; later_links = refl; last_start = refl; last_count = refl; all_start = refl; all_list = refl; all_uir = refl }
-leaving_tests Z gdr members behind = record { num_later = omega arith; num_fits = omega arith; num_width = refl; said_width = refl; head_later = omega arith; head_fits = omega arith; count_later = omega arith; count_fits = omega arith; count_width = refl; no_uir = λ e. absurd cc; no_gdr = λ e. absurd cc; in_gdr = λ b. refl; first_file = refl; early_file = refl; later_start = refl; later_head = refl; later_links = refl; last_start = refl; last_count = refl; all_start = refl; all_list = refl; all_uir = refl }
+leaving_tests kind gdr members behind = grind arith
 
 -- the links of a VDR to its index
 abbrev pub emptying_marks : Kind → ℕ → List Mark

@@ -1,8 +1,7 @@
 -- What the deletion of a variable leaves of the attributes, and of the records that it frees.
-use Rattle.std.proofs.Common.{◌≡◌, ◌⊎◌, ℕ, zero, suc, ◌+◌, ◌-◌, ◌<◌, ◌≤◌, List, [], ◌∷◌, ◌++◌, length, map, Bool, true, Some, refl, sym, ap, subst, ◌∙◌, arith, inl, inr}
-use Rattle.cdf_edits.proofs.Common.{le-leb, same_Some, flat_map, slice_get, if◌then◌else◌, EntryKind, Kind, R, Z, entries_of, Attribute, Found, Same, byte, tile_lies, type_kept, attribute_of, number, integer4, size_at, type_at, attribute_records, variable_records, aedr_num, adr_type, fixed_size, uir_type, AttributeShape, VariableShape, Shape, Each, HasEntries, shape, vdrs, In, AreTiles, Good, integer_kept, number_kept, linkable-in, linkable-type, good_is_sound, In-append, In-append_left, In-append_right, FreedStay, OutsideFields, shapes_of, GreatestIs, chain_of, entry_type, greatest_number, kind_of_entries, max_field, AttributeFollows, emptied_fields, entries_for, freed_with_variable, DropsEntries, AttributeDropped, avoided, ended, RemovesVariable, variable_removing_marks, AttributeStays, gave, links_end, NumbersFall}
-use Rattle.cdf_edits.proofs.Edits.Common.{chain_has, chain_in, BytesStay, freed_stay_but, sizes_by_tiles, avoided-avoids, ended-avoids, fixed_long, attributes_kept, attributes_stay, Kept, flat-append}
-use Rattle.cdf_model.specs.declared.kinds.EntryKind.TheVariants as entries
+use Rattle.std.proofs.Common.{◌≡◌, ◌⊎◌, ℕ, zero, suc, ◌+◌, ◌<◌, ◌≤◌, List, [], ◌∷◌, ◌++◌, length, map, Bool, true, Some, refl, sym, ap, subst, ◌∙◌, arith, inl, inr}
+use Rattle.cdf_edits.proofs.Common.{le-leb, same_Some, flat_map, slice_get, if◌then◌else◌, EntryKind, Kind, entries_of, Attribute, Found, Same, tile_lies, attribute_of, number, integer4, size_at, type_at, attribute_records, variable_records, aedr_num, adr_type, fixed_size, uir_type, AttributeShape, VariableShape, Shape, Each, HasEntries, shape, vdrs, In, AreTiles, Good, integer_kept, number_kept, linkable-in, linkable-type, good_is_sound, In-append, In-append_left, In-append_right, FreedStay, OutsideFields, shapes_of, GreatestIs, chain_of, entry_type, greatest_number, kind_of_entries, max_field, AttributeFollows, emptied_fields, entries_for, freed_with_variable, DropsEntries, AttributeDropped, avoided, ended, RemovesVariable, variable_removing_marks, AttributeStays, gave, links_end, NumbersFall}
+use Rattle.cdf_edits.proofs.Edits.Common.{type_stays, chain_has, chain_in, BytesStay, freed_stay_but, sizes_by_tiles, avoided-avoids, ended-avoids, fixed_long, attributes_kept, attributes_stay, Kept, flat-append}
 use Rattle.cdf_edits.proofs.Edits.OwnVariable.{freed_mine}
 use Rattle.cdf_edits.proofs.Edits.RemovedVariable.{sound, emptied, takes, says, behind, shape_after}
 use Rattle.cdf_edits.proofs.Edits.TakenVariable.{splices}
@@ -26,22 +25,17 @@ adr_at (x ∷ xs) zero a e = inl (sym (ap (λ (y : AttributeShape). y.adr) (same
 adr_at (x ∷ xs) (suc k) a e = inr (adr_at xs k a e)
 
 pub least_entry : (kind : EntryKind) → 32 ≤ fixed_size (entry_type kind)
-least_entry entries.G = omega arith
-least_entry entries.R = omega arith
-least_entry entries.Z = omega arith
+least_entry kind = grind arith
 
 pub greatest_field : (kind : EntryKind) → (max_field kind).place + 4 ≤ 324
-greatest_field entries.G = omega arith
-greatest_field entries.R = omega arith
-greatest_field entries.Z = omega arith
+greatest_field kind = grind arith
 
 pub record UnusedTests (kind : Kind) (gdr : ℕ) (members later unused places : List ℕ) (limit : ℕ) : Type 0 where
   pub start : avoided (variable_removing_marks kind gdr members later unused places limit) uir_type 0 12 ≡ true
   pub end : ended (variable_removing_marks kind gdr members later unused places limit) uir_type 28 ≡ true
 
 pub unused_tests : (kind : Kind) (gdr : ℕ) (members later unused places : List ℕ) (limit : ℕ) → UnusedTests kind gdr members later unused places limit
-unused_tests R gdr members later unused places limit = record { start = refl; end = refl }
-unused_tests Z gdr members later unused places limit = record { start = refl; end = refl }
+unused_tests kind gdr members later unused places limit = grind arith
 
 module _ {b mid now : List ℕ} {found : Found} (good : Good b) (drops : DropsEntries b found mid) (d : RemovesVariable mid now found.kind found.number) where
   attributes_are : (shape now).attributes ≡ (shape mid).attributes
@@ -120,9 +114,6 @@ module _ {b mid now : List ℕ} {found : Found} (good : Good b) (drops : DropsEn
       let t = (takes drops.good d).edit.tiled_now in
       sizes_by_tiles b now 8 8 (length b) (shape b).records refl (good_is_sound b good).has_shape.tiled (subst (λ (k : ℕ). AreTiles now 8 k (shape b).records) (long_deleted good drops d) (subst (AreTiles now 8 (length now)) drops.records_are t))
 
-  long_enough : (k : ℕ) → 28 ≤ k → links_end k ≡ 28
-  long_enough k l = rw (le-leb 28 k l) refl
-
   entry_behind : (m : ℕ) → In m (entries_for b (shape b).attributes found) → Same b now (m + links_end (size_at b m)) (m + size_at b m)
   entry_behind m i =
       let x = drops.dropped m i in
@@ -132,18 +123,10 @@ module _ {b mid now : List ℕ} {found : Found} (good : Good b) (drops : DropsEn
       let inside : In m (shape mid).records = subst (In m) (sym drops.records_are) x.stands in
       let marks = variable_removing_marks found.kind (shape mid).gdr (vdrs (shapes_of (shape mid) found.kind)) (vdrs d.after) (shape mid).unused (freed_with_variable d.own) (length (emptied drops.good d)) in
       let later : Same mid now (m + 28) (m + size_at b m) = e.part m uir_type 28 (size_at b m) inside x.freed (avoided-avoids marks uir_type m 0 12 t.start) (ended-avoids marks uir_type m 28 (size_at b m) t.end) (omega arith) in
-      subst (λ (k : ℕ). Same b now (m + k) (m + size_at b m)) (sym (long_enough (size_at b m) x.long)) (record { each = λ k l u. later.each k l u ∙ x.behind.each k l u })
+      subst (λ (k : ℕ). Same b now (m + k) (m + size_at b m)) (sym (rw (le-leb 28 (size_at b m) x.long) refl)) (record { each = λ k l u. later.each k l u ∙ x.behind.each k l u })
 
   own_type : (m : ℕ) → In m (freed_with_variable d.own) → type_at mid m ≡ type_at b m
-  own_type m i =
-      let same = (drops.variables_kept found.kind m (own_among m i)).same in
-      let long = (tile_lies b 8 (length b) (shape b).records m (good_is_sound b good).has_shape.tiled (own_in good drops d m i)).long in
-      type_kept b mid m (record { each = λ k l u. here m k (size_at b m) same l u }) long
-    where
-      here : (v k s : ℕ) → ((i : ℕ) → i < s → Unit {0} → byte mid (v + i) ≡ byte b (v + i)) → v ≤ k → k < v + s → byte mid k ≡ byte b k
-      here v k s same l u =
-          let at : k ≡ v + (k - v) = omega arith in
-          subst (λ (x : ℕ). byte mid x ≡ byte b x) (sym at) (same (k - v) (omega arith) tt)
+  own_type m i = type_stays b mid m [] (drops.variables_kept found.kind m (own_among m i)) (tile_lies b 8 (length b) (shape b).records m (good_is_sound b good).has_shape.tiled (own_in good drops d m i)).long (λ k l. tt)
 
   own_behind : (m : ℕ) → In m (freed_with_variable d.own) → BytesStay b now m (links_end (size_at b m)) (emptied_fields found.kind (type_at b m))
   own_behind m i k lt low out =

@@ -13,12 +13,10 @@ pub delete_goes : (d : DataSet) (name : List ℕ) (found : Found) → variable_n
 delete_goes d name found e = rw e refl
 
 attributes_apart : (d : DataSet) (as_ : List Attribute) (kind : Kind) → variables_of (record d { attributes = as_ }) kind ≡ variables_of d kind
-attributes_apart d as_ R = refl
-attributes_apart d as_ Z = refl
+attributes_apart d as_ kind = grind arith
 
 free_of_unused : (kind : Kind) (gdr : ℕ) (members later : List ℕ) (vdr : ℕ) → unmarked (variable_unlinking_marks kind gdr members later ++ emptying_marks kind vdr) uir_type ≡ true
-free_of_unused R gdr members later vdr = refl
-free_of_unused Z gdr members later vdr = refl
+free_of_unused kind gdr members later vdr = grind arith
 
 module _ {b mid now : List ℕ} {found : Found} (good : Good b) (drops : DropsEntries b found mid) (d : RemovesVariable mid now found.kind found.number) where
   h : HasShape b (shape b)
