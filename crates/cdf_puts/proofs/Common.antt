@@ -17,13 +17,12 @@ pub use Rattle.cdf_edits.proofs.Edits.MarkLemmas.{Avoids-append, Away-append, aw
 pub use Rattle.cdf_edits.proofs.Edits.OnlyTaken.{OnlyTakes, none_of_both}
 pub use Rattle.cdf_edits.proofs.Edits.OwnEdited.{OwnEdit}
 pub use Rattle.cdf_edits.proofs.Edits.PlainLeaves.{PlainLeaf, leaves_apart, leaves_ascend, own_rules, plain_leaf}
-pub use Rattle.cdf_edits.proofs.Edits.RecordFrame.{index_records, kept, kept_away}
+pub use Rattle.cdf_edits.proofs.Edits.RecordFrame.{index_records, kept_away}
 pub use Rattle.cdf_edits.proofs.Edits.RecordPlaced.{placing_marks, still_edit}
 pub use Rattle.cdf_edits.proofs.Edits.RecordsWritten.{WritesRecords, file, good_now, part, same_shape}
 pub use Rattle.cdf_edits.proofs.Edits.StandsAmong.{StandsAmong, behind_in, fits, has, long, no_block, ours, sound, through, tile, typed}
 pub use Rattle.cdf_edits.proofs.Edits.StepEdits.{gdr_in, gdr_long, gdr_typed}
 pub use Rattle.cdf_edits.proofs.Edits.VariableCopied.{block_behind, node_behind}
-pub use Rattle.cdf_edits.proofs.Edits.VariableFrame.{variables_in}
 pub use Rattle.cdf_edits.proofs.Edits.VariableKinds.{other_kind, variables_of_are}
 pub use Rattle.cdf_edits.proofs.Frame.ChangedBytes.{Outside-append, changed_part}
 pub use Rattle.cdf_edits.proofs.Frame.Meaning.{FileSame, Kept}
@@ -61,7 +60,7 @@ pub use Rattle.cdf_format.specs.Content.{content, plain_bytes, variable_of}
 pub use Rattle.cdf_format.specs.Fields.{eof, number, size_at, type_at, with_sign}
 pub use Rattle.cdf_format.specs.Index.{Entries, Leaf, Nodes, block, entry_count, leaf, leaves_of, lower, no_entry, no_node, node, nodes_of, room_at, used_count}
 pub use Rattle.cdf_format.specs.Owners.{Unused, owned, times, unused_records, variable_records}
-pub use Rattle.cdf_format.specs.RecordTypes.{cdr_type, cpr_type, cvvr_type, fixed_size, gdr_type, is_record_type, uir_type, vvr_type, vxr_type}
+pub use Rattle.cdf_format.specs.RecordTypes.{cvvr_type, fixed_size, gdr_type, is_record_type, uir_type, vvr_type, vxr_type}
 pub use Rattle.cdf_format.specs.Records.{Field, gdr_r_max_rec, uir_next_uir, uir_prev_uir, vdr_max_rec, vdr_vxr_head, vdr_vxr_tail, vxr_n_entries, vxr_bytes}
 pub use Rattle.cdf_format.specs.Rules.{asked}
 pub use Rattle.cdf_format.specs.Shape.{AttributeShape, Each, HasShape, Shape, VariableShape, is_compressed, shape, variables, vdrs}

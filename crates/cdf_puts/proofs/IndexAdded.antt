@@ -4,7 +4,8 @@ use Rattle.cdf_puts.proofs.Common.{length-append, cases_lt, lt-ltb, same_Some, m
 use Rattle.cdf_edits.proofs.Edits.LeafPieces.{of_each}
 use Rattle.cdf_puts.proofs.CoveringRanges.{one_alone, of_leaves}
 use Rattle.cdf_puts.proofs.LeafCounts.{leaf_added, leaf_stays, leaf_was_there}
-use Rattle.cdf_puts.proofs.LeafEdit.{block_taken, file, index_edit, used_apart, node_in, node_taken, nodes_step}
+use Rattle.cdf_puts.proofs.LeafEdit.{block_taken, file, new_index, used_apart, node_in, node_taken, nodes_step}
+use Rattle.cdf_index.proofs.NewIndex.{index_edit}
 use Rattle.cdf_puts.proofs.LeafGood.{blocks_go_on, plain_body}
 use Rattle.cdf_puts.proofs.PutBytes.{size_now, now_plain, old_plain, old_goes_on, new_goes_on}
 use Rattle.cdf_puts.proofs.PutNodes.{taken_first, taken_then, taken_neither, NodesStep, nodes_then, taken_both, or_false, place_outside, same_with_leaf, same_uses, with_one_more, last_of_through, through_stays, top_grows, bytes_longer}
@@ -124,7 +125,7 @@ module _ {b now now' : List ℕ} {kind : Kind} {before : List VariableShape} {ow
   goes_on = blocks_go_on so.goes.good so.goes.among w holds
 
   size_after : record_bytes now' own'.vdr ≡ size
-  size_after = record_alike (file so.goes.good so.goes.among w) (vdr_alike so.goes.good so.goes.among (index_edit so.goes.good so.goes.among w (plain_body body records holds))) ∙ size_now so
+  size_after = record_alike (file so.goes.good so.goes.among w) (vdr_alike so.goes.good so.goes.among (index_edit so.goes.good so.goes.among (new_index so.goes.good so.goes.among w (plain_body body records holds)))) ∙ size_now so
 
   longer : length now ≤ length now'
   longer = (file so.goes.good so.goes.among w).longer

@@ -1,24 +1,18 @@
 -- A leaf that is added to the index of a variable leads from one good image to another: what its acts take, what stays of the records of each owner, and the blocks.
-use Rattle.std.proofs.Common.{◌≡◌, ℕ, zero, suc, ◌+◌, List, [], ◌∷◌, ◌++◌, length, true, refl, ap, subst, arith, ◌≢◌, ◌⊎◌, ◌<◌, ◌≤◌, false, sym, inl, inr, ◌-◌, max, take, drop, ◌∙◌, take-append-drop, ℤ, pos, negsuc, ◌*◌, Bool}
-use Rattle.cdf_puts.proofs.Common.{shapes_of, lt-leb, ◌&&◌, Kind, R, Z, unmarked-away, StandsAmong, Only, Edit, Mark, unmarked, new_room, Took, ActsFollow, type_of_body, linkable-in, linkable-type, good_is_sound, both, Leaf, Field, uir_next_uir, uir_prev_uir, gdr_type, uir_type, vvr_type, vxr_type, VariableShape, Shape, shape, IsSound, Good, NodeTaken, LeafAdded, node_acts, leaf_acts, ListedStay, acts_joined, still_edit, OnlyTakes, nat_le, nat_lt, places_of, Avoids-append, Away-append, away-avoids, kept, kept_away, gdr_in, gdr_typed, block_behind, variables_in, other_kind, behind_in, fits, ours, tile, Kept, Each-in, all_variable_records, AllKeep, Keeps, Stays, OutsideFields, is_taken, r_max_rec_field, space_fields, put_changes, vxr_bytes, Avoids, Away, Act, word_kept, In-append, tile_lies, number, size_at, type_at, leaves_of, nodes_of, owned, variable_records, vdr_max_rec, vdr_vxr_head, vdr_vxr_tail, cdr_type, cpr_type, HasShape, In, found_in, placing_marks, none_of_both, length-take, length-drop, Same, byte, size_kept, type_kept, place_in, each_of, IsBlockBody, BlocksGoOn, ne_eqb, flat_map, ◌==◌, ◌||◌, if◌then◌else◌, image_limit, record_number_limit, is_in, with_sign, Nodes, no_node, node, Entries, no_entry, block, lower, room_at, times, cvvr_type, asked, is_compressed, Each, NodeFits, record_bytes, is_max_rec, Same-part, good_by_its_shape, nodes_stand, Hold-split, le_of, of_le, firsts_of, with_leaf, IsOneOf, count_is, plain_leaf, own_rules, times-append, record_alike, apart, InOrder, DescriptorStays, GoesOn, IsVacant, before_limit, index_order, OwnEdit, IndexEdit, vdr_alike}
+use Rattle.std.proofs.Common.{◌≡◌, ℕ, zero, suc, ◌+◌, List, [], ◌∷◌, ◌++◌, length, true, refl, ap, subst, arith, ◌≢◌, ◌<◌, ◌≤◌, false, sym, inl, inr, ◌-◌, max, take, drop, ◌∙◌, take-append-drop, ℤ, pos, negsuc, ◌*◌, Bool}
+use Rattle.cdf_puts.proofs.Common.{lt-leb, ◌&&◌, Kind, R, Z, unmarked-away, StandsAmong, Only, Edit, Mark, unmarked, new_room, Took, ActsFollow, type_of_body, linkable-in, linkable-type, good_is_sound, both, Leaf, Field, uir_next_uir, uir_prev_uir, uir_type, vvr_type, vxr_type, VariableShape, Shape, shape, IsSound, Good, NodeTaken, LeafAdded, node_acts, leaf_acts, ListedStay, acts_joined, still_edit, OnlyTakes, nat_le, nat_lt, Avoids-append, Away-append, away-avoids, block_behind, behind_in, Kept, Each-in, AllKeep, is_taken, r_max_rec_field, space_fields, put_changes, vxr_bytes, Avoids, Away, Act, In-append, tile_lies, number, size_at, type_at, leaves_of, nodes_of, owned, variable_records, vdr_max_rec, HasShape, In, found_in, placing_marks, none_of_both, length-take, length-drop, Same, byte, size_kept, type_kept, place_in, each_of, IsBlockBody, BlocksGoOn, ne_eqb, flat_map, ◌==◌, ◌||◌, if◌then◌else◌, image_limit, record_number_limit, is_in, with_sign, Nodes, no_node, node, Entries, no_entry, block, lower, room_at, times, cvvr_type, asked, is_compressed, Each, NodeFits, record_bytes, is_max_rec, Same-part, good_by_its_shape, nodes_stand, Hold-split, le_of, of_le, firsts_of, with_leaf, IsOneOf, count_is, plain_leaf, own_rules, times-append, record_alike, apart, InOrder, DescriptorStays, GoesOn, IsVacant, before_limit, index_order, OwnEdit, IndexEdit, vdr_alike}
 use Rattle.cdf_format.specs.Chains.{is_a}
 use Rattle.cdf_edits.proofs.Frame.OwnersApart.{times-in}
-use Rattle.cdf_format.specs.Owners.{OneVariable}
 use Rattle.cdf_edits.proofs.Edits.EditActs.{acts_none, acts_took}
 use Rattle.cdf_edits.proofs.Edits.MadeRecord.{listed_marks, made_edit, listed_before, loose_away, taking_avoids, taking_within}
-use Rattle.cdf_edits.proofs.Edits.OwnersKept.{keep_file, keep_places, keeps_away, keeps_within, keep_unused, keeps_fields, stood, taken_is_taken}
-use Rattle.cdf_edits.proofs.Edits.VariableSplice.{attributes_kept}
+use Rattle.cdf_edits.proofs.Edits.OwnersKept.{keeps_away, keeps_within, taken_is_taken}
 use Rattle.cdf_edits.specs.Edits.Marks.{is_late, Within, taking_marks, whole}
 use Rattle.cdf_edits.specs.Space.Placing.{Fills}
-use Rattle.cdf_edits.proofs.Commands.KeptRecords.{Stood, keep_attributes, keep_variables, keeps_stood}
 use Rattle.cdf_edits.proofs.Edits.MarkLemmas.{Within-append, away-within}
-use Rattle.cdf_edits.proofs.Edits.OwnedOnce.{all_attributes_in, used_times, fresh_unowned, owned_once_if}
-use Rattle.cdf_edits.proofs.Edits.RecordFrame.{cdr_kept}
-use Rattle.cdf_edits.proofs.Edits.VariableCopied.{cpr_behind}
-use Rattle.cdf_edits.proofs.Edits.VariableKinds.{kind_ours, with_shapes, spliced_times}
-use Rattle.cdf_edits.proofs.Edits.StandsAmong.{after_ours}
-use Rattle.cdf_format.proofs.ChainsLemmas.{is_a-in, is_a-from, is_a-type}
-use Rattle.cdf_puts.proofs.GoesThen.{own_may, descriptor_allowed, node_allowed, put_may, whole_of}
+use Rattle.cdf_edits.proofs.Edits.OwnedOnce.{used_times, fresh_unowned, owned_once_if}
+use Rattle.cdf_edits.proofs.Edits.VariableKinds.{with_shapes, spliced_times}
+use Rattle.cdf_format.proofs.ChainsLemmas.{is_a-from, is_a-type}
+use Rattle.cdf_puts.proofs.GoesThen.{descriptor_allowed, node_allowed}
 use Rattle.std.proofs.lemmas.List.{ext_get_or, get_or_append_left, get_or-take, get_or-drop}
 use Rattle.cdf_format.specs.Fields.{word, holds}
 use Rattle.cdf_format.proofs.BytesLemmas.{word-same, byte-put_inside}
@@ -27,7 +21,7 @@ use Rattle.cdf_format.specs.Index.{nodes_of, lower_nodes}
 use Rattle.cdf_format.specs.IndexRules.{has_room, is_block, nodes_rows, used_rows, vvr_rows, cvvr_rows, leaf_rows, index_rows, end_of}
 use Rattle.cdf_format.specs.NotRead.{read_types}
 use Rattle.cdf_format.specs.Owners.{OwnedOnce}
-use Rattle.cdf_format.specs.Records.{vxr_n_used_entries, vxr_entries}
+use Rattle.cdf_format.specs.Records.{field, vxr_n_used_entries, vxr_entries}
 use Rattle.cdf_format.specs.Rules.{Row, Hold}
 use Rattle.cdf_format.specs.Tiles.{Distinct}
 use Rattle.cdf_format.specs.VariableFields.{number_before, plain_size}
@@ -35,14 +29,14 @@ use Rattle.cdf_format.proofs.GoodByShape.{IsGoodByShape}
 use Rattle.cdf_format.proofs.Owning.{times-none, times-once}
 use Rattle.cdf_format.proofs.RowLemmas.{Hold-append}
 use Rattle.cdf_index.specs.Adding.{Counts}
-use Rattle.cdf_puts.proofs.RaisedGoes.{own_in_all}
 use Rattle.cdf_index.proofs.ByLeaf.{in-times, nodes_with_leaf}
 use Rattle.cdf_index.proofs.OwnRecords.{parts_times}
 use Rattle.cdf_puts.proofs.LeafCounts.{places_with_leaf, leaf_was_there}
 use Rattle.cdf_edits.proofs.Space.ActsLeave.{each}
 use Rattle.cdf_index.proofs.LeafRules.{index_rules_with_leaf}
 use Rattle.cdf_edits.proofs.Edits.IndexEdited.{vdr_size, vdr_type, good_now as good_if_ruled}
-use Rattle.cdf_puts.proofs.LeafEdit.{node_marks, index_marks, new_nodes, edit, block_placed, node_placed, entries_written, marks, reborn, with_new, tests, file, beside, only, block_kept, block_in, new_apart, new_fresh, part, part_of, vdr_size as vdr_long, type_now, end_now, index_edit, own_edit, splices, placed_kept, placed_size}
+use Rattle.cdf_puts.proofs.LeafEdit.{node_marks, entry_marks, new_nodes, edit, block_placed, node_placed, entries_written, marks, reborn, with_new, tests, file, block_in, new_apart, new_fresh, type_now, end_now, new_index, placed_kept, placed_size}
+use Rattle.cdf_index.proofs.NewIndex.{NewIndex, block_kept, index_edit, index_keeps, index_unmarked, max_rec_kept, own_edit}
 use Rattle.cdf_edits.proofs.Edits.OwnEdited as of_own
 use Rattle.cdf_edits.proofs.Edits.IndexEdited as of_index
 
@@ -60,13 +54,9 @@ took_listed {b = b} sound fills later as_long lately records_are m i free =
 -- ---- entries are written after a node was taken, or none was
 
 -- the entries leave the unused list, the end of the image, and heads
-pub index_late : (kind : Kind) (v : ℕ) (ns : List ℕ) (most : ℕ) → is_late (index_marks kind v ns most) vxr_type ≡ true
+pub index_late : (kind : Kind) (v : ℕ) (ns : List ℕ) (most : ℕ) → is_late (entry_marks kind v ns most) vxr_type ≡ true
 index_late R v ns width = rw (lt-leb (12 + width) 0 (omega arith)) refl
 index_late Z v ns width = rw (lt-leb (12 + width) 0 (omega arith)) refl
-
-index_unmarked : (kind : Kind) (v : ℕ) (ns : List ℕ) (most : ℕ) → unmarked (index_marks kind v ns most) uir_type ≡ true
-index_unmarked R v ns width = refl
-index_unmarked Z v ns width = refl
 
 pub record NodeFollows (b now : List ℕ) (room at : ℕ) : Type 0 where
   pub follow : ActsFollow b now (node_acts room at)
@@ -188,9 +178,6 @@ module _ {b now : List ℕ} {kind : Kind} {before : List VariableShape} {own : V
   abbrev space : List Mark
   space = placing_marks s.unused new.place (8 + length body) ++ node_marks (shape w.filled).unused roomed at
 
-  abbrev entries : List Mark
-  entries = index_marks kind v (new_nodes roomed at ++ nodes_of own.index) (length w.roomy)
-
   sound : IsSound b s
   sound = good_is_sound b good
 
@@ -203,11 +190,17 @@ module _ {b now : List ℕ} {kind : Kind} {before : List VariableShape} {own : V
   -- ---- the block is one that is not packed
 
   module _ (plain : type_of_body body ≡ vvr_type) where
+    abbrev changed : NewIndex b now kind own (with_leaf new at own.index) records' (shape w.roomy).unused (r_max_rec_field kind ++ space_fields) space (new_nodes roomed at ++ nodes_of own.index) (field 12 (length w.roomy)) born
+    changed = new_index good among w plain
+
+    abbrev y : OwnEdit b now kind own (with_leaf new at own.index) records' (shape w.roomy).unused ks born
+    y = own_edit good among changed
+
     pub records_are : (shape now).records ≡ records'
-    records_are = of_own.records_are good among (own_edit good among w plain)
+    records_are = of_own.records_are good among y
 
     list_is : (shape now).unused ≡ (shape w.roomy).unused
-    list_is = of_own.unused_are good among (own_edit good among w plain)
+    list_is = of_own.unused_are good among y
 
     pub placed_still : Edit w.filled w.filled (shape w.filled).records (shape w.filled).records [] []
     placed_still = still_edit (block_placed good among w).sound.has_shape
@@ -221,88 +214,30 @@ module _ {b now : List ℕ} {kind : Kind} {before : List VariableShape} {own : V
     node_part : NodeFollows w.filled now roomed at
     node_part =
         let lately = index_late kind v (new_nodes roomed at ++ nodes_of own.index) (length w.roomy) in
-        node_follows roomed at (block_placed good among w).sound (node_placed good among w).sound w.node (entries_written good among w) w.as_long lately (index_unmarked kind v (new_nodes roomed at ++ nodes_of own.index) (length w.roomy)) records_are list_is
+        node_follows roomed at (block_placed good among w).sound (node_placed good among w).sound w.node (entries_written good among w) w.as_long lately (index_unmarked kind v (new_nodes roomed at ++ nodes_of own.index) (field 12 (length w.roomy))) records_are list_is
 
     pub leaf_follows : ActsFollow b now (leaf_acts new.place (8 + length body) (new_room new.first own.index) at)
     leaf_follows = acts_joined sound.has_shape (block_placed good among w).sound.has_shape block_follows node_part.follow tt (node_takes roomed at) block_listed node_part.listed
 
-    -- other variables
-    away_stands : (xs : List ℕ) → ((m : ℕ) → In m xs → In m (all_variable_records s)) → ((m : ℕ) → In m (variable_records own) → In m xs → ⊥) → (m : ℕ) → In m xs → Stood b now m
-    away_stands xs sub out m i =
-        let inside = variables_in b s sound m (sub m i) in
-        stood sound e records_are m inside (kept_away e m (type_at b m) inside refl (beside good among w m (sub m i) (λ j. out m j i)))
-
-    -- ---- the descriptor
-
-    descriptor_stays : Stays b now own.vdr (vdr_max_rec ∷ vdr_vxr_head ∷ vdr_vxr_tail ∷ [])
-    descriptor_stays = record {
-      stands = subst (In own.vdr) (sym records_are) (e.sub own.vdr (tile good among));
-      size_is = vdr_long good among w;
-      same = λ n lt out. (part good among w n (n + 1) (aside n out) (omega arith)).each (own.vdr + n) (omega arith) (omega arith);
-    }
-      where
-        aside : (n : ℕ) → OutsideFields (vdr_max_rec ∷ vdr_vxr_head ∷ vdr_vxr_tail ∷ []) n → (n + 1 ≤ 28) ⊎ (44 ≤ n)
-        aside n out = elim out.1.0 [ inl x ↦ inl (omega arith) | inr x ↦ elim out.1.1.0 [ inl y ↦ absurd (omega arith) | inr y ↦ inr y ] ]
-
-    pub leaf_max_rec : number now own.vdr vdr_max_rec ≡ number b own.vdr vdr_max_rec
-    leaf_max_rec = word_kept b now (own.vdr + 24) (own.vdr + 28) (part_of good among w 24 28 (inl (omega arith)) (omega arith)) (own.vdr + 24) 4 (omega arith) (omega arith)
-
-    -- ---- the records of the variable
-
-    kept_stands : (r m : ℕ) → In m (variable_records own) → Kept b now m → Keeps b now m (own_may good among r m)
-    kept_stands r m i k = keeps_stood b now m (stood sound e records_are m (variables_in b s sound m (own_in_all good among m i)) k) (own_may good among r m)
-
-    mine_keeps : (r m : ℕ) → In m (variable_records own) → Keeps b now m (own_may good among r m)
-    mine_keeps r m (inl q) = subst (λ (x : ℕ). Keeps b now x (own_may good among r x)) (sym q) (subst (Keeps b now own.vdr) (sym (descriptor_allowed good among r)) descriptor_stays)
-    mine_keeps r m (inr j) = elim (In-append m (nodes_of own.index ++ places_of (leaves_of own.index)) own.cpr j) [
-      | inr c ↦
-          let typed = is_a-type b s.records cpr_type m (Each-in (λ x. is_a b s.records cpr_type x ≡ true) own.cpr (fits good among).3 m c) in
-          kept_stands r m (inr j) (kept e m cpr_type (behind_in good among m (cpr_behind own m c)) typed (tests good among w).cpr_clear)
-      | inl k ↦ elim (In-append m (nodes_of own.index) (places_of (leaves_of own.index)) k) [ inl n ↦ subst (Keeps b now m) (sym (node_allowed good among r m n)) tt | inr n ↦ kept_stands r m (inr j) (block_kept good among w m n) ]
-    ]
-
     -- ---- unused records
 
-    entries_away : (m : ℕ) → Away entries uir_type m
-    entries_away m = unmarked-away entries uir_type m (index_unmarked kind own.vdr (new_nodes roomed at ++ nodes_of own.index) (length w.roomy))
-
-    listed_alone : (m : ℕ) → In m (shape b).unused → is_taken b acts m ≡ false → LinksAlone ks m
-    listed_alone m i free =
-        let inside = linkable-in b (shape b).records uir_type m (h.unused_chain.linkable m i) in
-        let long = (tile_lies b 8 (length b) (shape b).records m h.tiled inside).long in
+    listed_alone : (m : ℕ) → In m s.unused → 12 ≤ size_at b m → is_taken b acts m ≡ false → LinksAlone space m
+    listed_alone m i long free =
         let none = none_of_both (λ (take : ℕ × ℕ). nat_le m take.0 && nat_lt take.0 (m + size_at b m)) (Took new.place (8 + length body) ∷ []) (node_acts roomed at) free in
-        both_alone space entries m
-        (both_alone (placing_marks (shape b).unused new.place (8 + length body)) (node_marks (shape w.filled).unused roomed at) m
-        (placing_alone (shape b).unused new.place (8 + length body) m (not_there b new.place (8 + length body) m long none.0))
-        (node_alone b (shape w.filled).unused roomed at m long none.1))
-        (away_alone entries m (entries_away m))
+        both_alone (placing_marks s.unused new.place (8 + length body)) (node_marks (shape w.filled).unused roomed at) m (placing_alone s.unused new.place (8 + length body) m (not_there b new.place (8 + length body) m long none.0)) (node_alone b (shape w.filled).unused roomed at m long none.1)
 
-    unlisted_alone : (m : ℕ) → In m (shape b).records → (In m (shape b).unused → ⊥) → Away ks uir_type m
+    unlisted_alone : (m : ℕ) → In m s.records → (In m s.unused → ⊥) → Away space uir_type m
     unlisted_alone m i out =
-        let still = placed_still in
-        let later = (block_placed good among w).edit.sub m i in
-        let off : In m (shape w.filled).unused → ⊥ = λ j. out (listed_before sound w.block.fills still refl refl m i j) in
-        Away-append space entries uir_type m
-        (Away-append (placing_marks (shape b).unused new.place (8 + length body)) (node_marks (shape w.filled).unused roomed at) uir_type m (loose_away sound w.block.fills still refl refl m i out)
-        (node_away roomed at (block_placed good among w).sound w.node (node_placed good among w).sound m later off))
-        (entries_away m)
+        Away-append (placing_marks s.unused new.place (8 + length body)) (node_marks (shape w.filled).unused roomed at) uir_type m (loose_away sound w.block.fills placed_still refl refl m i out)
+        (node_away roomed at (block_placed good among w).sound w.node (node_placed good among w).sound m ((block_placed good among w).edit.sub m i) (λ j. out (listed_before sound w.block.fills placed_still refl refl m i j)))
 
     -- ---- all of them
 
+    pub leaf_max_rec : number now own.vdr vdr_max_rec ≡ number b own.vdr vdr_max_rec
+    leaf_max_rec = max_rec_kept good among changed
+
     pub leaf_keeps : (r : ℕ) → AllKeep b now (put_changes b s (found_in b kind before own) r) acts (owned b s)
-    leaf_keeps r =
-        let may = put_may b kind before own r in
-        let cdr = is_a-in b s.records cdr_type 8 h.cdr_stands in
-        whole_of b now may acts among (record {
-          file = keep_file b now may acts sound (keeps_stood b now 8 (stood sound e records_are 8 cdr (cdr_kept sound e (tests good among w).file_clear)) (Only []))
-              (keeps_fields sound e records_are s.gdr gdr_type (r_max_rec_field kind ++ space_fields) (gdr_in b s h) (gdr_typed b s h) (tests good among w).heads_clear (tests good among w).inside);
-          attributes = keep_attributes b now may acts 0 s.attributes (λ m i. stood sound e records_are m (all_attributes_in sound m i) (attributes_kept sound (splices good among w plain) m i));
-          in_front = keep_variables b now may acts kind 0 before (away_stands _ (ours good among).0.sub (λ m i. (only good among w m i).in_before));
-          mine = keep_places b now may acts (OneVariable kind (length before)) (variable_records own) (mine_keeps r);
-          behind = keep_variables b now may acts kind (suc (length before)) after (away_stands _ (after_ours good among).sub (λ m i. (only good among w m i).in_after));
-          others = keep_variables b now may acts (other_kind kind) 0 (shapes_of s (other_kind kind)) (away_stands _ (kind_ours b s sound (other_kind kind)).sub (λ m i. (only good among w m i).in_others));
-          unused = keep_unused sound e records_are may acts listed_alone unlisted_alone;
-        })
+    leaf_keeps r = index_keeps good among changed (put_changes b s (found_in b kind before own) r) acts (vdr_max_rec ∷ []) refl (descriptor_allowed good among r) (node_allowed good among r) listed_alone unlisted_alone
 
   -- ---- its records
 
@@ -348,7 +283,7 @@ module _ {b now : List ℕ} {kind : Kind} {before : List VariableShape} {own : V
 
     pub blocks_go_on : BlocksGoOn b now own new records
     blocks_go_on = record {
-      old = each_of (λ (l : Leaf). Same b now l.place (l.place + size_at b l.place)) (leaves_of own.index) (λ l i. (block_kept good among w l.place (place_in (leaves_of own.index) l i)).same);
+      old = each_of (λ (l : Leaf). Same b now l.place (l.place + size_at b l.place)) (leaves_of own.index) (λ l i. (block_kept good among (changed plain) l.place (place_in (leaves_of own.index) l i)).same);
       size_is = block_size ∙ size_needed;
       records_are = records_now;
       spare = λ i l lt.
@@ -388,10 +323,7 @@ module _ {b now : List ℕ} {kind : Kind} {before : List VariableShape} {own : V
       -- ---- the blocks
 
       abbrev x : IndexEdit b now kind own (with_leaf new at own.index) records' (shape w.roomy).unused ks born
-      x = index_edit good among w plain
-
-      abbrev y : OwnEdit b now kind own (with_leaf new at own.index) records' (shape w.roomy).unused ks born
-      y = own_edit good among w plain
+      x = index_edit good among (changed plain)
 
       same_bytes : record_bytes now v ≡ record_bytes b v
       same_bytes = record_alike (file good among w) (vdr_alike good among x)
@@ -410,7 +342,7 @@ module _ {b now : List ℕ} {kind : Kind} {before : List VariableShape} {own : V
       old_leaf l i =
           let x = plain_leaf good among loose l i in
           let j = place_in (leaves_of own.index) l i in
-          let k = block_kept good among w l.place j in
+          let k = block_kept good among (changed plain) l.place j in
           let stands = e.sub l.place (behind_in good among l.place (block_behind own l.place j)) in
           block_rows l stands (type_kept b now l.place k.same k.long ∙ x.typed) x.ordered x.small (subst (λ (n : ℕ). 12 + (l.last + 1 - l.first) * record_bytes b v ≤ n) (sym (size_kept b now l.place k.same (let t = k.long in omega arith))) x.room)
 
@@ -485,17 +417,17 @@ module _ {b now : List ℕ} {kind : Kind} {before : List VariableShape} {own : V
       pub leaf_goes_on : (r : ℕ) → GoesOn b now kind before own mine after r acts
       leaf_goes_on r = record {
         good = good_now;
-        among = of_own.among_now good among y;
+        among = of_own.among_now good among (y plain);
         vdr_is = refl;
         cpr_is = refl;
         own_stay = still_own;
-        gdr_is = ap (λ (x : Shape). x.gdr) (of_own.same_shape good among y);
-        attributes_are = ap (λ (x : Shape). x.attributes) (of_own.same_shape good among y);
-        others_are = of_own.others_are good among y;
+        gdr_is = ap (λ (x : Shape). x.gdr) (of_own.same_shape good among (y plain));
+        attributes_are = ap (λ (x : Shape). x.attributes) (of_own.same_shape good among (y plain));
+        others_are = of_own.others_are good among (y plain);
         descriptor = own_descriptor;
         file = file good among w;
-        r_max_rec_is = of_own.r_max_rec_kept good among y (tests good among w).max_clear;
-        content_is = of_own.content_replaced good among y;
+        r_max_rec_is = of_own.r_max_rec_kept good among (y plain) (tests good among w).max_clear;
+        content_is = of_own.content_replaced good among (y plain);
         longer = (file good among w).longer;
         follow = leaf_follows plain;
         keep = leaf_keeps plain r;

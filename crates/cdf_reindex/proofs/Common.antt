@@ -11,14 +11,13 @@ pub use Rattle.cdf_edits.proofs.Edits.FreedRecords.{edit_under}
 pub use Rattle.cdf_edits.proofs.Edits.IndexEdited.{IndexEdit}
 pub use Rattle.cdf_edits.proofs.Edits.LeafPieces.{IsOneOf}
 pub use Rattle.cdf_edits.proofs.Edits.MadeRecord.{filled_size, fresh, place_in}
-pub use Rattle.cdf_edits.proofs.Edits.MarkLemmas.{Avoids-append, Away-append, away-avoids, the_one, unmarked-away}
+pub use Rattle.cdf_edits.proofs.Edits.MarkLemmas.{Avoids-append, away-avoids, the_one, unmarked-away}
 pub use Rattle.cdf_edits.proofs.Edits.OwnedOnce.{fresh_unowned, used_times}
 pub use Rattle.cdf_edits.proofs.Edits.RecordFrame.{gdr_field, gdr_place, kept, kept_away}
 pub use Rattle.cdf_edits.proofs.Edits.RecordGrown.{Grew, grew, grew_none}
 pub use Rattle.cdf_edits.proofs.Edits.StandsAmong.{StandsAmong, behind_in, fits, has, long, tile, typed}
 pub use Rattle.cdf_edits.proofs.Edits.StepEdits.{gdr_typed}
 pub use Rattle.cdf_edits.proofs.Edits.VariableCopied.{block_behind, node_behind}
-pub use Rattle.cdf_edits.proofs.Edits.VariableKinds.{other_kind}
 pub use Rattle.cdf_edits.proofs.Frame.LinksStay.{SameHeads, node_fits_kept}
 pub use Rattle.cdf_edits.proofs.Frame.Meaning.{FileSame, Kept}
 pub use Rattle.cdf_edits.proofs.Frame.OwnerAlone.{Each-in}
@@ -55,7 +54,7 @@ pub use Rattle.cdf_format.specs.Index.{Entries, Leaf, Nodes, block, entry_count,
 pub use Rattle.cdf_format.specs.IndexOf.{IsIndex, IsNode, SaysEntry}
 pub use Rattle.cdf_format.specs.IndexRules.{is_block, leaf_rows}
 pub use Rattle.cdf_format.specs.Owners.{owned, times, variable_records}
-pub use Rattle.cdf_format.specs.RecordTypes.{cpr_type, cvvr_type, gdr_type, r_vdr_type, uir_type, vvr_type, vxr_type, z_vdr_type}
+pub use Rattle.cdf_format.specs.RecordTypes.{cvvr_type, gdr_type, r_vdr_type, uir_type, vvr_type, vxr_type, z_vdr_type}
 pub use Rattle.cdf_format.specs.Records.{Field, field, gdr_eof, gdr_uir_head, uir_next_uir, uir_prev_uir, vdr_max_rec, vdr_vxr_head, vdr_vxr_tail, vxr_n_used_entries, vxr_bytes}
 pub use Rattle.cdf_format.specs.Rules.{Hold}
 pub use Rattle.cdf_format.specs.Shape.{Each, HasShape, HasVariable, Shape, VariableShape, shape, variables, vdrs}

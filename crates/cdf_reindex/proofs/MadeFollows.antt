@@ -27,10 +27,9 @@ use Rattle.cdf_edits.proofs.Edits.FreedRecords.{sizes_by_tiles}
 use Rattle.cdf_edits.proofs.Edits.VariableFrame.{Each-map}
 use Rattle.cdf_edits.proofs.Space.ActsLeave.{each, no_acts}
 use Rattle.cdf_reindex.proofs.MadeActs.{made_follow, same_size, taken_nodes, taken_within}
-use Rattle.cdf_reindex.proofs.MadeEdit.{edit, gives_edit, heads_edit, left, may_free, node_linked, node_made, olds, records_now, type_linked}
+use Rattle.cdf_reindex.proofs.MadeEdit.{edit, gives_edit, heads_edit, left, may_free, mine, node_linked, node_made, olds, records_now, type_linked}
 use Rattle.cdf_reindex.proofs.MadeGood.{among_now, good_now, vdrs_stay}
 use Rattle.cdf_reindex.proofs.MadeKeeps.{made_keeps}
-use Rattle.cdf_reindex.proofs.MadeSplices.{mine}
 use Rattle.cdf_reindex.proofs.MadeTaken.{node_takes}
 use Rattle.cdf_reindex.proofs.MadeTree.{in_levels}
 use Rattle.cdf_reindex.proofs.PyramidRebuilt.{no_pyramid}

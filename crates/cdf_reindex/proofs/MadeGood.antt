@@ -1,6 +1,6 @@
 -- An index made anew leads from one good image to another, with the same content.
 use Rattle.std.proofs.Common.{◌≡◌, ℕ, pos, negsuc, ◌+◌, ◌*◌, ◌≤◌, List, [], ◌∷◌, ◌++◌, length, true, refl, sym, ap, subst, ◌∙◌, arith, inl, inr}
-use Rattle.cdf_reindex.proofs.Common.{word_kept, flat_map, Kind, R, Z, image_limit, record_number_limit, is_in, number, size_at, type_at, eof, leaves_of, nodes_of, room_at, leaf_rows, variable_records, times, gdr_eof, vdr_max_rec, vxr_n_used_entries, gdr_type, vxr_type, uir_type, Hold, VariableShape, Shape, vdrs, HasShape, shape, NodeFits, IsSound, In, Good, linkable-type, good_by_its_shape, good_is_sound, nodes_stand, In-append, times-none, times-once, Hold-split, shapes_of, Edit, freeing_marks, avoided, keeps_file, edit_then, IsOneOf, used_times, fresh_unowned, gdr_field, block_behind, StandsAmong, fits, has, behind_in, long, Each-in, times-append, apart, Counts, IsBare, IsRebuilt, Reindexed, IndexEdit, reindex_room}
+use Rattle.cdf_reindex.proofs.Common.{flat_map, Kind, R, Z, image_limit, record_number_limit, is_in, number, size_at, type_at, eof, leaves_of, nodes_of, room_at, leaf_rows, variable_records, times, gdr_eof, vxr_n_used_entries, gdr_type, vxr_type, uir_type, Hold, VariableShape, Shape, vdrs, HasShape, shape, NodeFits, IsSound, In, Good, linkable-type, good_by_its_shape, good_is_sound, nodes_stand, In-append, times-none, times-once, Hold-split, shapes_of, Edit, freeing_marks, avoided, keeps_file, edit_then, IsOneOf, used_times, fresh_unowned, gdr_field, block_behind, StandsAmong, fits, has, behind_in, Each-in, times-append, apart, Counts, IsBare, IsRebuilt, Reindexed, IndexEdit, reindex_room}
 use Rattle.cdf_model.specs.Limits.{signed_limit}
 use Rattle.cdf_format.specs.IndexRules.{has_room, nodes_rows, index_rows}
 use Rattle.cdf_format.specs.NotRead.{read_types}
@@ -19,10 +19,11 @@ use Rattle.cdf_edits.proofs.Edits.VariableKinds.{by_kind, shapes_with, with_shap
 use Rattle.cdf_index.proofs.LeafRules.{index_order, index_rules}
 use Rattle.cdf_index.proofs.OwnRecords.{parts_times}
 use Rattle.cdf_reindex.proofs.MadeBlocks.{StandsOn, leaves_on}
-use Rattle.cdf_reindex.proofs.MadeEdit.{edit, gives_edit, heads_edit, heads_marks, long_now, marks, may_free, node_typed, olds, places, reborn, sound_made, t}
+use Rattle.cdf_reindex.proofs.MadeEdit.{edit, gives_edit, heads_edit, heads_marks, long_now, marks, may_free, mine, new_index, node_typed, olds, places, reborn, sound_made, t}
 use Rattle.cdf_edits.proofs.Edits.OwnEdited as of_own_edit
-use Rattle.cdf_edits.proofs.Edits.IndexEdited.{stays, good_now as good_if_ruled}
-use Rattle.cdf_reindex.proofs.MadeSplices.{block_kept, file, index_edit, own_edit, mine, part}
+use Rattle.cdf_edits.proofs.Edits.IndexEdited.{file, stays, good_now as good_if_ruled}
+use Rattle.cdf_edits.proofs.Edits.OwnEdited.{OwnEdit}
+use Rattle.cdf_index.proofs.NewIndex.{block_kept, index_edit, max_rec_kept, own_edit}
 use Rattle.cdf_reindex.proofs.MadeTree.{level_times, from_levels}
 
 -- ---- what is freed leaves the end of the image
@@ -66,7 +67,10 @@ module _ {b now : List ℕ} {kind : Kind} {before : List VariableShape} {own : V
   e = edit good among r whole
 
   abbrev x : IndexEdit b now kind own r.index records' (shape now).unused (marks good among r whole) born
-  x = index_edit good among r whole
+  x = index_edit good among (new_index good among r whole)
+
+  abbrev y : OwnEdit b now kind own r.index records' (shape now).unused (marks good among r whole) born
+  y = own_edit good among (new_index good among r whole)
 
   -- ---- the nodes
 
@@ -82,10 +86,10 @@ module _ {b now : List ℕ} {kind : Kind} {before : List VariableShape} {own : V
 
   -- ---- the blocks
 
-  stands_on : (m : ℕ) → In m (places_of (leaves_of own.index)) → StandsOn (file good among r whole) (stays good among x) s.records records' h.fixed m
+  stands_on : (m : ℕ) → In m (places_of (leaves_of own.index)) → StandsOn (file good among x) (stays good among x) s.records records' h.fixed m
   stands_on m i =
       let was = behind_in good among m (block_behind own m i) in
-      record { was = was; is = e.sub m was; kept = block_kept good among r whole m i }
+      record { was = was; is = e.sub m was; kept = block_kept good among (new_index good among r whole) m i }
 
   own_before : IsRuled b s.records own
   own_before = own_rules good among
@@ -94,10 +98,7 @@ module _ {b now : List ℕ} {kind : Kind} {before : List VariableShape} {own : V
   index_ruled =
       let blocks = (Hold-split (nodes_rows b s.records (negsuc 0) (pos record_number_limit) own.index) (flat_map (leaf_rows b s.records v) (leaves_of own.index)) own_before.1).1 in
       index_rules now records' v r.index (r.order (index_order b s.records v own.index own_before.1)) node_room (λ l i.
-      leaves_on (file good among r whole) (stays good among x) s.records records' h.fixed (leaves_of own.index) stands_on blocks (fits good among).2 l (subst (λ ls. IsOneOf ls l) r.leaves_stay i))
-
-  max_same : number now v vdr_max_rec ≡ number b v vdr_max_rec
-  max_same = word_kept b now (v + 24) (v + 28) (part good among r whole 24 28 (inl (omega arith)) (let l = long good among in omega arith)) (v + 24) 4 (omega arith) (omega arith)
+      leaves_on (file good among x) (stays good among x) s.records records' h.fixed (leaves_of own.index) stands_on blocks (fits good among).2 l (subst (λ ls. IsOneOf ls l) r.leaves_stay i))
 
   -- ---- the owners
 
@@ -183,16 +184,16 @@ module _ {b now : List ℕ} {kind : Kind} {before : List VariableShape} {own : V
       subst (λ (x : ℕ). number now x gdr_eof ≡ number r.made x gdr_eof) g still ∙ subst (λ (x : ℕ). eof r.made x ≡ length r.made) g (t good among r).grows.end_is ∙ sym (long_now good among r whole)
 
   pub good_now : Good now
-  good_now = good_if_ruled good among x index_ruled (ap is_max_rec max_same ∙ own_before.0.1.1.1.1.1.1.1.0) reborn_read owned_now end_now short
+  good_now = good_if_ruled good among x index_ruled (ap is_max_rec (max_rec_kept good among (new_index good among r whole)) ∙ own_before.0.1.1.1.1.1.1.1.0) reborn_read owned_now end_now short
 
   -- ---- the shape
 
   pub among_now : StandsAmong now kind before of_own after
-  among_now = of_own_edit.among_now good among (own_edit good among r whole)
+  among_now = of_own_edit.among_now good among y
 
   -- the descriptors of both kinds stay where they are
   pub vdrs_stay : (k : Kind) → vdrs (shapes_of (shape now) k) ≡ vdrs (shapes_of s k)
-  vdrs_stay k = ap (λ (x : Shape). vdrs (shapes_of x k)) (of_own_edit.same_shape good among (own_edit good among r whole)) ∙ ap vdrs (as_with k) ∙ by_kind (λ (j : Kind) (vs : List VariableShape). vdrs vs ≡ vdrs (shapes_of s j)) kind s (before ++ of_own ∷ after) (of_own_edit.same_vdrs good among (own_edit good among r whole)) refl k
+  vdrs_stay k = ap (λ (x : Shape). vdrs (shapes_of x k)) (of_own_edit.same_shape good among y) ∙ ap vdrs (as_with k) ∙ by_kind (λ (j : Kind) (vs : List VariableShape). vdrs vs ≡ vdrs (shapes_of s j)) kind s (before ++ of_own ∷ after) (of_own_edit.same_vdrs good among y) refl k
     where
       as_with : (k : Kind) → shapes_of (with_shapes s kind records' (shape now).unused (before ++ of_own ∷ after)) k ≡ shapes_with s kind (before ++ of_own ∷ after) k
       as_with R = refl
