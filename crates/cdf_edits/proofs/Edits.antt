@@ -106,3 +106,4 @@ pub mod LeftOwners
 pub mod RowsOneLess
 pub mod LeftChain
 pub mod NumbersBehind
+pub mod TakenAll

@@ -1,17 +1,18 @@
 -- A leaf that is added, as one edit: its block is taken and written, then a node where one is needed, and then the entries are.
 use Rattle.std.proofs.Common.{◌≡◌, ℕ, zero, suc, ◌+◌, ◌*◌, ◌<◌, ◌≤◌, List, [], ◌∷◌, ◌++◌, length, true, append-nil, refl, sym, ap, subst, ◌∙◌, arith, inl, inr, ◌≢◌, ◌⊎◌, Bool, false, ◌||◌, ◌==◌, eq-eqb}
 use Rattle.cdf_puts.proofs.Common.{vxr_n_entries, r_max_rec_field, space_fields, node_acts, is_in-false, Kind, R, Z, size_at, type_at, eof, Leaf, nodes_of, room_at, vxr_type, VariableShape, shape, NodeFits, IsSound, In, Good, number_kept, size_kept, type_kept, linkable-type, good_is_sound, nodes_stand, In-append_left, In-append_right, tile_lies, vxr_bytes, Edit, Mark, unmarked, Touch, new_room, type_in, variables_chain, unmarked-away, kept_away, node_behind, StandsAmong, through, tile, typed, long, has, fits, behind_in, Kept, Each-in, placing_marks, NodeTaken, IndexTouch, LeafAdded, Same, is_in, number, Field, gdr_type, vvr_type, uir_type, is_record_type, fixed_size, Shape, Each, In-append, Avoids, with_leaf, away-avoids, FileSame, apart, type_of_body, is_taken_at, Act, changed_part, Same-part, leaf_acts}
-use Rattle.cdf_edits.specs.Edits.Marks.{all_unmarked, Marked, variable_types, keeps_file, avoided}
+use Rattle.cdf_edits.specs.Edits.Marks.{Marked, variable_types, keeps_file, avoided}
 use Rattle.std.proofs.lemmas.Bool.{both_ways, or_left, or_right}
 use Rattle.cdf_edits.proofs.Edits.Composing.{changed_edit, same-then, head_size, head_type, edit_then}
-use Rattle.cdf_edits.proofs.Edits.MadeRecord.{place_in, fresh, filled_size}
+use Rattle.cdf_edits.proofs.Edits.MadeRecord.{place_in, filled_size}
 use Rattle.cdf_edits.proofs.Edits.StepEdits.{some_bytes}
 use Rattle.cdf_edits.proofs.Edits.VariableFrame.{Each-map}
-use Rattle.cdf_edits.proofs.Edits.RecordPlaced.{Grows, NodeStands, grows_not, placed_grows}
+use Rattle.cdf_edits.proofs.Edits.RecordPlaced.{Grows, NodeStands, placed_grows}
+use Rattle.cdf_edits.proofs.Edits.TakenAll.{TakenAll, none_taken, taken_then, taking_all}
 use Rattle.cdf_format.specs.Chains.{IsChain}
 use Rattle.cdf_format.specs.Records.{field, gdr_eof, gdr_uir_head}
 use Rattle.cdf_edits.proofs.Edits.MarkLemmas.{all_unmarked-away, the_one}
-use Rattle.cdf_edits.proofs.Edits.RecordFrame.{chain_stays, file_same, gdr_field}
+use Rattle.cdf_edits.proofs.Edits.RecordFrame.{chain_stays, file_same, gdr_field, kept}
 use Rattle.cdf_index.specs.Replacing.{with_index}
 use Rattle.cdf_edits.specs.Frame.Changed.{Misses, Placed as TouchesPlaced}
 use Rattle.cdf_index.proofs.ByLeaf.{in_nodes_with_leaf, node_stays}
@@ -22,11 +23,6 @@ use Rattle.cdf_index.proofs.NewIndex.{IndexTests, NewIndex, index_marks, index_u
 
 -- ---- marks
 
--- a node is taken and written, where it has room for one entry at least
-abbrev pub node_marks : List ℕ → ℕ → ℕ → List Mark
-node_marks unused zero at = []
-node_marks unused (suc room) at = placing_marks unused at (vxr_bytes (suc room))
-
 abbrev pub new_nodes : ℕ → ℕ → List ℕ
 new_nodes zero at = []
 new_nodes (suc room) at = at ∷ []
@@ -36,14 +32,14 @@ abbrev pub entry_marks : Kind → ℕ → List ℕ → ℕ → List Mark
 entry_marks kind v nodes most = index_marks kind v nodes (field 12 most)
 
 -- all of them
-abbrev pub leaf_marks : Kind → ℕ → List ℕ → List ℕ → ℕ → ℕ → List ℕ → ℕ → ℕ → ℕ → List Mark
-leaf_marks kind v nodes unused place need unused' room at most = (placing_marks unused place need ++ node_marks unused' room at) ++ entry_marks kind v (new_nodes room at ++ nodes) most
+abbrev pub leaf_marks : Kind → ℕ → List ℕ → List ℕ → List ℕ → ℕ → ℕ → List Mark
+leaf_marks kind v unused places nodes enough most = taking_all unused places enough ++ entry_marks kind v nodes most
 
--- ---- a record is placed, or nothing is done
+-- ---- a node is taken, or nothing is done
 
-pub node_grows : {b now : List ℕ} (room at : ℕ) → IsSound b (shape b) → eof b (shape b).gdr ≡ length b → NodeTaken b now room at → Grows b now (node_marks (shape b).unused room at) (new_nodes room at)
-node_grows {b = b} zero at sound end taken = subst (λ (x : List ℕ). Grows b x [] []) (sym taken.0) (grows_not sound end)
-node_grows (suc room) at sound end taken = placed_grows sound taken.fills
+node_takes : {b now : List ℕ} {enough : ℕ} (room at : ℕ) → IsSound b (shape b) → eof b (shape b).gdr ≡ length b → NodeTaken b now room at → vxr_bytes room ≤ enough → TakenAll b now (node_acts room at) (new_nodes room at) enough
+node_takes {b = b} {enough = enough} zero at sound end taken few = subst (λ (x : List ℕ). TakenAll b x [] [] enough) (sym taken.0) (none_taken sound end)
+node_takes (suc room) at sound end taken few = let g = placed_grows sound taken.fills in taken_then sound taken.fills few (none_taken g.sound g.end_is)
 
 -- ---- the new node
 
@@ -57,34 +53,13 @@ is_new_node (suc room) at some = inl refl
 
 -- ---- which records the marks leave by their types alone
 
-space_unmarked : (unused : List ℕ) (place need : ℕ) (unused' : List ℕ) (room at : ℕ) → all_unmarked (placing_marks unused place need ++ node_marks unused' room at) variable_types ≡ true
-space_unmarked unused place need unused' zero at = refl
-space_unmarked unused place need unused' (suc room) at = refl
-
-leaf_tests : (kind : Kind) (v : ℕ) (nodes unused : List ℕ) (place need : ℕ) (unused' : List ℕ) (room at most : ℕ) → IndexTests kind (r_max_rec_field kind ++ space_fields) (leaf_marks kind v nodes unused place need unused' room at most)
-leaf_tests R v nodes unused place need unused' zero at most = record { file_clear = refl; attributes_clear = refl; other_clear = refl; blocks_clear = refl; packed_clear = refl; cpr_clear = refl; head_clear = refl; count_clear = refl; max_clear = refl; heads_clear = refl; inside = refl }
-leaf_tests R v nodes unused place need unused' (suc room) at most = record { file_clear = refl; attributes_clear = refl; other_clear = refl; blocks_clear = refl; packed_clear = refl; cpr_clear = refl; head_clear = refl; count_clear = refl; max_clear = refl; heads_clear = refl; inside = refl }
-leaf_tests Z v nodes unused place need unused' zero at most = record { file_clear = refl; attributes_clear = refl; other_clear = refl; blocks_clear = refl; packed_clear = refl; cpr_clear = refl; head_clear = refl; count_clear = refl; max_clear = refl; heads_clear = refl; inside = refl }
-leaf_tests Z v nodes unused place need unused' (suc room) at most = record { file_clear = refl; attributes_clear = refl; other_clear = refl; blocks_clear = refl; packed_clear = refl; cpr_clear = refl; head_clear = refl; count_clear = refl; max_clear = refl; heads_clear = refl; inside = refl }
-
-late_clear : (kind : Kind) (v : ℕ) (nodes unused : List ℕ) (room at most : ℕ) → unmarked (node_marks unused room at ++ entry_marks kind v nodes most) vvr_type ≡ true
-late_clear R v nodes unused zero at most = refl
-late_clear R v nodes unused (suc room) at most = refl
-late_clear Z v nodes unused zero at most = refl
-late_clear Z v nodes unused (suc room) at most = refl
+leaf_tests : (kind : Kind) (v : ℕ) (unused places nodes : List ℕ) (enough most : ℕ) → IndexTests kind (r_max_rec_field kind ++ space_fields) (leaf_marks kind v unused places nodes enough most)
+leaf_tests R v unused places nodes enough most = record { file_clear = refl; attributes_clear = refl; other_clear = refl; blocks_clear = refl; packed_clear = refl; cpr_clear = refl; head_clear = refl; count_clear = refl; max_clear = refl; heads_clear = refl; inside = refl }
+leaf_tests Z v unused places nodes enough most = record { file_clear = refl; attributes_clear = refl; other_clear = refl; blocks_clear = refl; packed_clear = refl; cpr_clear = refl; head_clear = refl; count_clear = refl; max_clear = refl; heads_clear = refl; inside = refl }
 
 entries_clear : (kind : Kind) (v : ℕ) (nodes : List ℕ) (most : ℕ) → (keeps_file (entry_marks kind v nodes most) ≡ true) × (avoided (entry_marks kind v nodes most) gdr_type 36 44 ≡ true) × (avoided (entry_marks kind v nodes most) gdr_type 64 72 ≡ true)
 entries_clear R v nodes most = (refl, refl, refl)
 entries_clear Z v nodes most = (refl, refl, refl)
-
--- ---- what is new
-
--- a node that is taken was unused, or no record
-pub node_fresh : {b : List ℕ} (now : List ℕ) (room at : ℕ) → IsSound b (shape b) → NodeTaken b now room at → (m : ℕ) → In m (new_nodes room at) → In m (shape b).records → type_at b m ≡ uir_type
-node_fresh now zero at sound taken m i stands = absurd i
-node_fresh {b = b} now (suc room) at sound taken m i stands =
-    let q = the_one at m i in
-    ap (type_at b) q ∙ fresh sound taken.fills (subst (λ (x : ℕ). In x (shape b).records) q stands)
 
 -- ---- what is taken for a leaf
 
@@ -126,11 +101,15 @@ module _ {b now : List ℕ} {kind : Kind} {before : List VariableShape} {own : V
   abbrev pub most : ℕ
   most = length w.roomy
 
-  abbrev pub marks : List Mark
-  marks = leaf_marks kind v nodes (shape b).unused new.place need (shape w.filled).unused room at most
-
   abbrev pub reborn : List ℕ
   reborn = new.place ∷ new_nodes room at
+
+  -- no record that is taken has more bytes
+  abbrev pub enough : ℕ
+  enough = need + vxr_bytes room
+
+  abbrev pub marks : List Mark
+  marks = leaf_marks kind v (shape b).unused reborn (new_nodes room at ++ nodes) enough most
 
   sound : IsSound b (shape b)
   sound = good_is_sound b good
@@ -139,15 +118,18 @@ module _ {b now : List ℕ} {kind : Kind} {before : List VariableShape} {own : V
   pub block_placed : Grows b w.filled (placing_marks (shape b).unused new.place need) (new.place ∷ [])
   block_placed = placed_grows sound w.block.fills
 
-  pub node_placed : Grows w.filled w.roomy (node_marks (shape w.filled).unused room at) (new_nodes room at)
-  node_placed = node_grows room at block_placed.sound block_placed.end_is w.node
+  pub node_taking : TakenAll w.filled w.roomy (node_acts room at) (new_nodes room at) enough
+  node_taking = node_takes room at block_placed.sound block_placed.end_is w.node (omega arith)
 
-  pub grown : Edit b w.roomy (shape b).records (shape w.roomy).records (placing_marks (shape b).unused new.place need ++ node_marks (shape w.filled).unused room at) reborn
-  grown = edit_then block_placed.edit node_placed.edit
+  pub taking : TakenAll b w.roomy (leaf_acts new.place need room at) reborn enough
+  taking = taken_then sound w.block.fills (omega arith) node_taking
+
+  abbrev grown : Edit b w.roomy (shape b).records (shape w.roomy).records (taking_all (shape b).unused reborn enough) reborn
+  grown = taking.grows.edit
 
   -- of the records of variables they leave each that there was
-  pub kept_first : (m t : ℕ) → In m (shape b).records → type_at b m ≡ t → is_in t variable_types ≡ true → Kept b w.roomy m
-  kept_first m t i is variable = kept_away grown m t i is (all_unmarked-away (placing_marks (shape b).unused new.place need ++ node_marks (shape w.filled).unused room at) variable_types t m (space_unmarked (shape b).unused new.place need (shape w.filled).unused room at) variable)
+  kept_first : (m t : ℕ) → In m (shape b).records → type_at b m ≡ t → is_in t variable_types ≡ true → Kept b w.roomy m
+  kept_first m t i is variable = kept_away grown m t i is (all_unmarked-away (taking_all (shape b).unused reborn enough) variable_types t m refl variable)
 
   vdr_kept : Kept b w.roomy v
   vdr_kept = kept_first v type (tile good among) (typed good among) (vdr_of_variable kind)
@@ -175,7 +157,7 @@ module _ {b now : List ℕ} {kind : Kind} {before : List VariableShape} {own : V
   node_fits m i = rw (room_kept m i, roomy_size m i) (fit m i).0
 
   pub sound_roomy : IsSound w.roomy (shape w.roomy)
-  sound_roomy = node_placed.sound
+  sound_roomy = taking.grows.sound
 
   in_image : (m : ℕ) → In m (shape w.roomy).records → m + size_at w.roomy m ≤ most
   in_image m i = (tile_lies w.roomy 8 most (shape w.roomy).records m sound_roomy.has_shape.tiled i).high
@@ -228,7 +210,7 @@ module _ {b now : List ℕ} {kind : Kind} {before : List VariableShape} {own : V
   with_new = with_index own (with_leaf new at own.index)
 
   pub tests : IndexTests kind (r_max_rec_field kind ++ space_fields) marks
-  tests = leaf_tests kind v nodes s.unused new.place need (shape w.filled).unused room at most
+  tests = leaf_tests kind v s.unused reborn (new_nodes room at ++ nodes) enough most
 
   pub file : FileSame b now
   file = file_same sound edit tests.file_clear
@@ -239,25 +221,15 @@ module _ {b now : List ℕ} {kind : Kind} {before : List VariableShape} {own : V
   pub block_in : In new.place (shape w.filled).records
   block_in = place_in sound w.block.fills
 
-  pub new_apart : In new.place (new_nodes room at) → ⊥
-  new_apart i = w.block.fills.in_use (sym w.block.fills.typed ∙ node_fresh w.roomy room at block_placed.sound w.node new.place i block_in)
-
-  -- what is reborn was unused, or no record
-  pub new_fresh : (m : ℕ) → In m reborn → In m s.records → type_at b m ≡ uir_type
-  new_fresh m (inl q) stands = ap (type_at b) q ∙ fresh sound w.block.fills (subst (λ (x : ℕ). In x s.records) q stands)
-  new_fresh m (inr i) stands =
-      let unused_by_then = node_fresh w.roomy room at block_placed.sound w.node m i (block_placed.edit.sub m stands) in
-      elim (block_placed.edit.kind m (block_placed.edit.sub m stands)) [
-        | inl j ↦ sym j.1 ∙ unused_by_then
-        | inr (inl j) ↦ absurd (j.0 stands)
-        | inr (inr r) ↦ absurd (new_apart (subst (λ (x : ℕ). In x (new_nodes room at)) (the_one new.place m r) i))
-      ]
-
   -- ---- the new records
 
   -- nothing of the block is written once it is placed
   pub placed_kept : type_of_body body ≡ vvr_type → Kept w.filled now new.place
-  placed_kept plain = kept_away (edit_then node_placed.edit entries_written) new.place vvr_type block_in (w.block.fills.typed ∙ plain) (unmarked-away (node_marks (shape w.filled).unused room at ++ entry_marks kind v (new_nodes room at ++ nodes) most) vvr_type new.place (late_clear kind v (new_nodes room at ++ nodes) (shape w.filled).unused room at most))
+  placed_kept plain = kept (edit_then node_taking.grows.edit entries_written) new.place vvr_type block_in (w.block.fills.typed ∙ plain) (late_clear kind)
+    where
+      late_clear : (kind : Kind) → unmarked (leaf_marks kind v (shape w.filled).unused (new_nodes room at) (new_nodes room at ++ nodes) enough most) vvr_type ≡ true
+      late_clear R = refl
+      late_clear Z = refl
 
   pub placed_size : size_at w.filled new.place ≡ need
   placed_size = filled_size sound w.block.fills
@@ -297,14 +269,14 @@ module _ {b now : List ℕ} {kind : Kind} {before : List VariableShape} {own : V
   -- ---- chains
 
   pub gdr_is : (shape w.roomy).gdr ≡ s.gdr
-  gdr_is = ap (λ (x : Shape). x.gdr) node_placed.same_shape ∙ ap (λ (x : Shape). x.gdr) block_placed.same_shape
+  gdr_is = ap (λ (x : Shape). x.gdr) taking.grows.same_shape
 
   -- a field of the GDR stays where the entries are written
   gdr_late : (g : Field) → avoided (entry_marks kind v (new_nodes room at ++ nodes) most) gdr_type g.place (g.place + g.width) ≡ true → g.place + g.width ≤ 84 → number now s.gdr g ≡ number w.roomy s.gdr g
   gdr_late g clear l = subst (λ (x : ℕ). number now x g ≡ number w.roomy x g) gdr_is (gdr_field sound_roomy entries_written (entries_clear kind v (new_nodes room at ++ nodes) most).0 g clear l)
 
   pub end_now : eof now s.gdr ≡ length now
-  end_now = gdr_late gdr_eof (entries_clear kind v (new_nodes room at ++ nodes) most).1 (omega arith) ∙ subst (λ (x : ℕ). eof w.roomy x ≡ length w.roomy) gdr_is node_placed.end_is ∙ sym w.as_long
+  end_now = gdr_late gdr_eof (entries_clear kind v (new_nodes room at ++ nodes) most).1 (omega arith) ∙ subst (λ (x : ℕ). eof w.roomy x ≡ length w.roomy) gdr_is taking.grows.end_is ∙ sym w.as_long
 
   unused_now : IsChain now (shape w.roomy).records uir_type (number now s.gdr gdr_uir_head) (shape w.roomy).unused
   unused_now =
@@ -314,12 +286,12 @@ module _ {b now : List ℕ} {kind : Kind} {before : List VariableShape} {own : V
 
   -- ---- the edit of one variable
 
-  pub new_index : type_of_body body ≡ vvr_type → NewIndex b now kind own (with_leaf new at own.index) (shape w.roomy).records (shape w.roomy).unused (r_max_rec_field kind ++ space_fields) (placing_marks s.unused new.place need ++ node_marks (shape w.filled).unused room at) (new_nodes room at ++ nodes) (field 12 most) reborn
+  pub new_index : type_of_body body ≡ vvr_type → NewIndex b now kind own (with_leaf new at own.index) (shape w.roomy).records (shape w.roomy).unused (r_max_rec_field kind ++ space_fields) (taking_all s.unused reborn enough) (new_nodes room at ++ nodes) (field 12 most) reborn
   new_index plain = record {
     edit = edit;
     tests = tests;
-    unspaced = space_unmarked s.unused new.place need (shape w.filled).unused room at;
-    own_nodes = λ m stands i. elim (In-append m (new_nodes room at) nodes i) [ inl j ↦ inr (new_fresh m (inr j) stands) | inr j ↦ inl j ];
+    unspaced = refl;
+    own_nodes = λ m stands i. elim (In-append m (new_nodes room at) nodes i) [ inl j ↦ inr (taking.fresh_all m (inr j) stands) | inr j ↦ inl j ];
     typed_now = typed_now plain;
     unused_chain = unused_now;
     index_now = w.index;
@@ -332,7 +304,7 @@ module _ {b now : List ℕ} {kind : Kind} {before : List VariableShape} {own : V
 
   -- a record that is in use is not taken
   pub used_apart : (m : ℕ) → In m s.records → type_at b m ≢ uir_type → is_taken_at step m ≡ false
-  used_apart m i used = taken_places_are new.place need room at m ∙ is_in-false m reborn (λ j. used (new_fresh m j i))
+  used_apart m i used = taken_places_are new.place need room at m ∙ is_in-false m reborn (λ j. used (taking.fresh_all m j i))
 
   node_apart : (m : ℕ) → In m nodes → is_taken_at step m ≡ false
   node_apart m i = used_apart m (node_in m i) (λ e. apart vxr_type uir_type refl (sym (node_typed m i) ∙ e))

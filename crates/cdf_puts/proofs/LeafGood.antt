@@ -1,14 +1,10 @@
 -- A leaf that is added to the index of a variable leads from one good image to another: what its acts take, what stays of the records of each owner, and the blocks.
 use Rattle.std.proofs.Common.{◌≡◌, ℕ, zero, suc, ◌+◌, List, [], ◌∷◌, ◌++◌, length, true, refl, ap, subst, arith, ◌≢◌, ◌<◌, ◌≤◌, false, sym, inl, inr, ◌-◌, max, take, drop, ◌∙◌, take-append-drop, ℤ, pos, negsuc, ◌*◌, Bool}
-use Rattle.cdf_puts.proofs.Common.{lt-leb, ◌&&◌, Kind, R, Z, unmarked-away, StandsAmong, Only, Edit, Mark, unmarked, new_room, Took, ActsFollow, type_of_body, linkable-in, linkable-type, good_is_sound, both, Leaf, Field, uir_next_uir, uir_prev_uir, uir_type, vvr_type, vxr_type, VariableShape, Shape, shape, IsSound, Good, NodeTaken, LeafAdded, node_acts, leaf_acts, ListedStay, acts_joined, still_edit, OnlyTakes, nat_le, nat_lt, Avoids-append, Away-append, away-avoids, block_behind, behind_in, Kept, Each-in, AllKeep, is_taken, r_max_rec_field, space_fields, put_changes, vxr_bytes, Avoids, Away, Act, In-append, tile_lies, number, size_at, type_at, leaves_of, nodes_of, owned, variable_records, vdr_max_rec, HasShape, In, found_in, placing_marks, none_of_both, length-take, length-drop, Same, byte, size_kept, type_kept, place_in, each_of, IsBlockBody, BlocksGoOn, ne_eqb, flat_map, ◌==◌, ◌||◌, if◌then◌else◌, image_limit, record_number_limit, is_in, with_sign, Nodes, no_node, node, Entries, no_entry, block, lower, room_at, times, cvvr_type, asked, is_compressed, Each, NodeFits, record_bytes, is_max_rec, Same-part, good_by_its_shape, nodes_stand, Hold-split, le_of, of_le, firsts_of, with_leaf, IsOneOf, count_is, plain_leaf, own_rules, times-append, record_alike, apart, InOrder, DescriptorStays, GoesOn, IsVacant, before_limit, index_order, OwnEdit, IndexEdit, vdr_alike}
+use Rattle.cdf_puts.proofs.Common.{◌&&◌, Kind, StandsAmong, Edit, Mark, new_room, ActsFollow, type_of_body, linkable-in, good_is_sound, both, Leaf, uir_type, vvr_type, vxr_type, VariableShape, Shape, shape, IsSound, Good, LeafAdded, leaf_acts, nat_le, block_behind, behind_in, Kept, Each-in, AllKeep, r_max_rec_field, space_fields, put_changes, Act, In-append, tile_lies, number, size_at, type_at, leaves_of, nodes_of, owned, variable_records, vdr_max_rec, HasShape, In, found_in, length-take, length-drop, Same, byte, size_kept, type_kept, place_in, each_of, IsBlockBody, BlocksGoOn, ne_eqb, flat_map, ◌==◌, ◌||◌, if◌then◌else◌, image_limit, record_number_limit, is_in, with_sign, Nodes, no_node, node, Entries, no_entry, block, lower, room_at, times, cvvr_type, asked, is_compressed, Each, NodeFits, record_bytes, is_max_rec, Same-part, good_by_its_shape, nodes_stand, Hold-split, le_of, of_le, firsts_of, with_leaf, IsOneOf, count_is, plain_leaf, own_rules, times-append, record_alike, apart, InOrder, DescriptorStays, GoesOn, IsVacant, before_limit, index_order, OwnEdit, IndexEdit, vdr_alike}
 use Rattle.cdf_format.specs.Chains.{is_a}
 use Rattle.cdf_edits.proofs.Frame.OwnersApart.{times-in}
-use Rattle.cdf_edits.proofs.Edits.EditActs.{acts_none, acts_took}
-use Rattle.cdf_edits.proofs.Edits.MadeRecord.{listed_marks, made_edit, listed_before, loose_away, taking_avoids, taking_within}
-use Rattle.cdf_edits.proofs.Edits.OwnersKept.{keeps_away, keeps_within, taken_is_taken}
-use Rattle.cdf_edits.specs.Edits.Marks.{is_late, Within, taking_marks, whole}
-use Rattle.cdf_edits.specs.Space.Placing.{Fills}
-use Rattle.cdf_edits.proofs.Edits.MarkLemmas.{Within-append, away-within}
+use Rattle.cdf_edits.proofs.Edits.ActsStill.{acts_still_by}
+use Rattle.cdf_edits.proofs.Edits.TakenAll.{listed_free, taking_all, unlisted_away}
 use Rattle.cdf_edits.proofs.Edits.OwnedOnce.{used_times, fresh_unowned, owned_once_if}
 use Rattle.cdf_edits.proofs.Edits.VariableKinds.{with_shapes, spliced_times}
 use Rattle.cdf_format.proofs.ChainsLemmas.{is_a-from, is_a-type}
@@ -23,7 +19,6 @@ use Rattle.cdf_format.specs.NotRead.{read_types}
 use Rattle.cdf_format.specs.Owners.{OwnedOnce}
 use Rattle.cdf_format.specs.Records.{field, vxr_n_used_entries, vxr_entries}
 use Rattle.cdf_format.specs.Rules.{Row, Hold}
-use Rattle.cdf_format.specs.Tiles.{Distinct}
 use Rattle.cdf_format.specs.VariableFields.{number_before, plain_size}
 use Rattle.cdf_format.proofs.GoodByShape.{IsGoodByShape}
 use Rattle.cdf_format.proofs.Owning.{times-none, times-once}
@@ -35,81 +30,10 @@ use Rattle.cdf_puts.proofs.LeafCounts.{places_with_leaf, leaf_was_there}
 use Rattle.cdf_edits.proofs.Space.ActsLeave.{each}
 use Rattle.cdf_index.proofs.LeafRules.{index_rules_with_leaf}
 use Rattle.cdf_edits.proofs.Edits.IndexEdited.{vdr_size, vdr_type, good_now as good_if_ruled}
-use Rattle.cdf_puts.proofs.LeafEdit.{node_marks, entry_marks, new_nodes, edit, block_placed, node_placed, entries_written, marks, reborn, with_new, tests, file, block_in, new_apart, new_fresh, type_now, end_now, new_index, placed_kept, placed_size}
+use Rattle.cdf_puts.proofs.LeafEdit.{enough, new_nodes, edit, node_taking, taking, entries_written, marks, reborn, with_new, tests, file, block_in, type_now, end_now, new_index, placed_kept, placed_size}
 use Rattle.cdf_index.proofs.NewIndex.{NewIndex, block_kept, index_edit, index_keeps, index_unmarked, max_rec_kept, own_edit}
 use Rattle.cdf_edits.proofs.Edits.OwnEdited as of_own
 use Rattle.cdf_edits.proofs.Edits.IndexEdited as of_index
-
-abbrev links : List Field
-links = uir_next_uir ∷ uir_prev_uir ∷ []
-
--- ---- a record is taken
-
-pub took_listed : {b taken filled now records list : List ℕ} {need place type : ℕ} (sound : IsSound b (shape b)) (fills : Fills b taken filled (shape b) records list need place type) {late : List Mark} → Edit filled now records records late [] → length now ≡ length filled → is_late late type ≡ true → (shape now).records ≡ records → ListedStay b now (Took place need ∷ [])
-took_listed {b = b} sound fills later as_long lately records_are m i free =
-    let ok = sound.has_shape.unused_chain.linkable m i in
-    let x = listed_marks sound fills later as_long lately records_are m i free in
-    keeps_within sound (made_edit sound fills later as_long lately) records_are m uir_type links (linkable-in b (shape b).records uir_type m ok) (linkable-type b (shape b).records uir_type m ok) x.0 x.1
-
--- ---- entries are written after a node was taken, or none was
-
--- the entries leave the unused list, the end of the image, and heads
-pub index_late : (kind : Kind) (v : ℕ) (ns : List ℕ) (most : ℕ) → is_late (entry_marks kind v ns most) vxr_type ≡ true
-index_late R v ns width = rw (lt-leb (12 + width) 0 (omega arith)) refl
-index_late Z v ns width = rw (lt-leb (12 + width) 0 (omega arith)) refl
-
-pub record NodeFollows (b now : List ℕ) (room at : ℕ) : Type 0 where
-  pub follow : ActsFollow b now (node_acts room at)
-  pub listed : ListedStay b now (node_acts room at)
-
-node_takes : (entries at : ℕ) → OnlyTakes (node_acts entries at)
-node_takes zero at = tt
-node_takes (suc entries) at = tt
-
-node_follows : {b mid now : List ℕ} {late : List Mark} (room at : ℕ) → IsSound b (shape b) → IsSound mid (shape mid) → NodeTaken b mid room at → Edit mid now (shape mid).records (shape mid).records late [] → length now ≡ length mid → is_late late vxr_type ≡ true → unmarked late uir_type ≡ true
-    → (shape now).records ≡ (shape mid).records → (shape now).unused ≡ (shape mid).unused → NodeFollows b now room at
-node_follows {mid = mid} {now = now} {late = late} zero at sound sound' taken later as_long lately clear records_are list_are =
-    subst (λ (x : List ℕ). NodeFollows x now zero at) taken.0 (record {
-      follow = acts_none sound' later clear refl records_are list_are as_long;
-      listed = λ m i free. let ok = sound'.has_shape.unused_chain.linkable m i in keeps_away sound' later records_are m uir_type (Only links) (linkable-in mid (shape mid).records uir_type m ok) (linkable-type mid (shape mid).records uir_type m ok) (unmarked-away late uir_type m clear);
-    })
-node_follows (suc entries) at sound sound' taken later as_long lately clear records_are list_are = record {
-  follow = acts_took sound taken.fills later as_long lately records_are list_are;
-  listed = took_listed sound taken.fills later as_long lately records_are;
-}
-
--- ---- unused records
-
-other_one : (place m : ℕ) → m ≢ place → In m (place ∷ []) → ⊥
-other_one place m ne (inl e) = ne e
-other_one place m ne (inr none) = none
-
--- the marks in a listed record
-abbrev LinksAlone : List Mark → ℕ → Type 0
-LinksAlone marks m = Avoids marks uir_type m 0 12 × Within marks uir_type m links
-
-both_alone : (ks ls : List Mark) (m : ℕ) → LinksAlone ks m → LinksAlone ls m → LinksAlone (ks ++ ls) m
-both_alone ks ls m x y = (Avoids-append ks ls uir_type m 0 12 x.0 y.0, Within-append ks ls uir_type m links x.1 y.1)
-
-away_alone : (ks : List Mark) (m : ℕ) → Away ks uir_type m → LinksAlone ks m
-away_alone ks m away = (away-avoids ks uir_type m 0 12 away, away-within ks uir_type m links away)
-
-placing_alone : (unused : List ℕ) (place size m : ℕ) → m ≢ place → LinksAlone (placing_marks unused place size) m
-placing_alone unused place size m ne =
-    both_alone (taking_marks unused place size) (whole uir_type place size ∷ []) m (taking_avoids unused place size m 0 12 ne (inl (omega arith)), taking_within unused place size m ne)
-    (away_alone (whole uir_type place size ∷ []) m ((λ same lies. other_one place m ne lies), tt))
-
--- what is not taken is not where a record was taken
-not_there : (b : List ℕ) (place size m : ℕ) → 12 ≤ size_at b m → is_taken b (Took place size ∷ []) m ≡ false → m ≢ place
-not_there b place size m long free q = taken_is_taken b place size [] (subst (λ (x : ℕ). 12 ≤ size_at b x) q long) (subst (λ (x : ℕ). is_taken b (Took place size ∷ []) x ≡ false) q free)
-
-node_alone : (b : List ℕ) (unused : List ℕ) (entries at m : ℕ) → 12 ≤ size_at b m → is_taken b (node_acts entries at) m ≡ false → LinksAlone (node_marks unused entries at) m
-node_alone b unused zero at m long free = (tt, tt)
-node_alone b unused (suc entries) at m long free = placing_alone unused at (vxr_bytes (suc entries)) m (not_there b at (vxr_bytes (suc entries)) m long free)
-
-node_away : {b now : List ℕ} (entries at : ℕ) (sound : IsSound b (shape b)) → NodeTaken b now entries at → IsSound now (shape now) → (m : ℕ) → In m (shape b).records → (In m (shape b).unused → ⊥) → Away (node_marks (shape b).unused entries at) uir_type m
-node_away zero at sound taken sound' m i out = tt
-node_away (suc entries) at sound taken sound' m i out = loose_away sound taken.fills (still_edit sound'.has_shape) refl refl m i out
 
 -- such a body begins with the type of a block that is not packed
 pub plain_body : (body records : List ℕ) → IsBlockBody body records → type_of_body body ≡ vvr_type
@@ -149,10 +73,6 @@ new_times : (room at m : ℕ) → times m (new_nodes room at) ≡ (if room == 0 
 new_times zero at m = refl
 new_times (suc room) at m = rw (ne_eqb (suc room) 0 (λ e. absurd (omega arith))) refl
 
-new_once : (room at : ℕ) → Distinct (new_nodes room at)
-new_once zero at = tt
-new_once (suc room) at = ((λ none. none), tt)
-
 module _ {b now : List ℕ} {kind : Kind} {before : List VariableShape} {own : VariableShape} {after : List VariableShape} {new : Leaf} {body : List ℕ} {at : ℕ} (good : Good b) (among : StandsAmong b kind before own after) (w : LeafAdded b now own new body at) where
   abbrev s : Shape
   s = shape b
@@ -176,7 +96,7 @@ module _ {b now : List ℕ} {kind : Kind} {before : List VariableShape} {own : V
   acts = leaf_acts new.place (8 + length body) roomed at
 
   abbrev space : List Mark
-  space = placing_marks s.unused new.place (8 + length body) ++ node_marks (shape w.filled).unused roomed at
+  space = taking_all s.unused born (enough good among w)
 
   sound : IsSound b s
   sound = good_is_sound b good
@@ -202,42 +122,14 @@ module _ {b now : List ℕ} {kind : Kind} {before : List VariableShape} {own : V
     list_is : (shape now).unused ≡ (shape w.roomy).unused
     list_is = of_own.unused_are good among y
 
-    pub placed_still : Edit w.filled w.filled (shape w.filled).records (shape w.filled).records [] []
-    placed_still = still_edit (block_placed good among w).sound.has_shape
-
-    block_follows : ActsFollow b w.filled (Took new.place (8 + length body) ∷ [])
-    block_follows = acts_took sound w.block.fills placed_still refl refl refl refl
-
-    block_listed : ListedStay b w.filled (Took new.place (8 + length body) ∷ [])
-    block_listed = took_listed sound w.block.fills placed_still refl refl refl
-
-    node_part : NodeFollows w.filled now roomed at
-    node_part =
-        let lately = index_late kind v (new_nodes roomed at ++ nodes_of own.index) (length w.roomy) in
-        node_follows roomed at (block_placed good among w).sound (node_placed good among w).sound w.node (entries_written good among w) w.as_long lately (index_unmarked kind v (new_nodes roomed at ++ nodes_of own.index) (field 12 (length w.roomy))) records_are list_is
-
-    pub leaf_follows : ActsFollow b now (leaf_acts new.place (8 + length body) (new_room new.first own.index) at)
-    leaf_follows = acts_joined sound.has_shape (block_placed good among w).sound.has_shape block_follows node_part.follow tt (node_takes roomed at) block_listed node_part.listed
-
-    -- ---- unused records
-
-    listed_alone : (m : ℕ) → In m s.unused → 12 ≤ size_at b m → is_taken b acts m ≡ false → LinksAlone space m
-    listed_alone m i long free =
-        let none = none_of_both (λ (take : ℕ × ℕ). nat_le m take.0 && nat_lt take.0 (m + size_at b m)) (Took new.place (8 + length body) ∷ []) (node_acts roomed at) free in
-        both_alone (placing_marks s.unused new.place (8 + length body)) (node_marks (shape w.filled).unused roomed at) m (placing_alone s.unused new.place (8 + length body) m (not_there b new.place (8 + length body) m long none.0)) (node_alone b (shape w.filled).unused roomed at m long none.1)
-
-    unlisted_alone : (m : ℕ) → In m s.records → (In m s.unused → ⊥) → Away space uir_type m
-    unlisted_alone m i out =
-        Away-append (placing_marks s.unused new.place (8 + length body)) (node_marks (shape w.filled).unused roomed at) uir_type m (loose_away sound w.block.fills placed_still refl refl m i out)
-        (node_away roomed at (block_placed good among w).sound w.node (node_placed good among w).sound m ((block_placed good among w).edit.sub m i) (λ j. out (listed_before sound w.block.fills placed_still refl refl m i j)))
-
-    -- ---- all of them
+    pub leaf_follows : ActsFollow b now acts
+    leaf_follows = acts_still_by (taking good among w).grows.sound (taking good among w).follow (entries_written good among w) (index_unmarked kind v (new_nodes roomed at ++ nodes_of own.index) (field 12 (length w.roomy))) records_are list_is w.as_long
 
     pub leaf_max_rec : number now own.vdr vdr_max_rec ≡ number b own.vdr vdr_max_rec
     leaf_max_rec = max_rec_kept good among changed
 
     pub leaf_keeps : (r : ℕ) → AllKeep b now (put_changes b s (found_in b kind before own) r) acts (owned b s)
-    leaf_keeps r = index_keeps good among changed (put_changes b s (found_in b kind before own) r) acts (vdr_max_rec ∷ []) refl (descriptor_allowed good among r) (node_allowed good among r) listed_alone unlisted_alone
+    leaf_keeps r = index_keeps good among changed (put_changes b s (found_in b kind before own) r) acts (vdr_max_rec ∷ []) refl (descriptor_allowed good among r) (node_allowed good among r) (listed_free (taking good among w)) (unlisted_away (taking good among w))
 
   -- ---- its records
 
@@ -270,7 +162,7 @@ module _ {b now : List ℕ} {kind : Kind} {before : List VariableShape} {own : V
     records_now =
         let size = placed_size good among w in
         let inside : new.place + size_at w.filled new.place ≤ length w.filled = k.inside in
-        let grows : length w.filled ≤ length w.roomy = (node_placed good among w).edit.longer in
+        let grows : length w.filled ≤ length w.roomy = (node_taking good among w).grows.edit.longer in
         let as_long : length now ≡ length w.roomy = w.as_long in
         let body_long : length body ≡ max 20 (4 + length records) = says.as_long in
         let e : length (take n (drop (new.place + 12) now)) ≡ n = simp (length-take, length-drop) (omega arith) in
@@ -348,7 +240,7 @@ module _ {b now : List ℕ} {kind : Kind} {before : List VariableShape} {own : V
 
       new_leaf : (is_block now records' new.place ≡ true) × Hold (leaf_rows now records' v new)
       new_leaf =
-          block_rows new ((node_placed good among w).edit.sub new.place (block_in good among w)) vvr_now vacant.ordered (before_limit new.first new.last (firsts_of own.index) vacant.before_next)
+          block_rows new ((node_taking good among w).grows.edit.sub new.place (block_in good among w)) vvr_now vacant.ordered (before_limit new.first new.last (firsts_of own.index) vacant.before_next)
           (subst (λ (n : ℕ). 12 + n ≤ size_at now new.place) as_long (let size = block_size ∙ size_needed in omega arith))
 
       each_leaf : (l : Leaf) → IsOneOf (leaves_of mine.index) l → (is_block now records' l.place ≡ true) × Hold (leaf_rows now records' v l)
@@ -382,16 +274,13 @@ module _ {b now : List ℕ} {kind : Kind} {before : List VariableShape} {own : V
           let all = spliced_times s kind records' (shape w.roomy).unused before (own ∷ []) (mine ∷ []) after among.was m (times m born) 0 (omega arith) in
           omega arith
 
-      born_once : Distinct born
-      born_once = (new_apart good among w, new_once roomed at)
-
       in_use : (m : ℕ) → In m born → type_at now m ≢ uir_type
       in_use m i u = elim (type_now good among w plain m i) [ inl x ↦ apart vvr_type uir_type refl (sym x.1 ∙ u) | inr x ↦ apart vxr_type uir_type refl (sym x.2 ∙ u) ]
 
       owned_now : OwnedOnce now shape_now_is
       owned_now = owned_once_if b now s shape_now_is _ born sound image.owned_once e
           (λ m out. let more = used_after m in let none = times-none m born out in omega arith)
-          (λ m i. inl (in_use m i, (let more = used_after m in let none = fresh_unowned sound m (new_fresh good among w m i) in let once = times-once m born born_once i in omega arith)))
+          (λ m i. inl (in_use m i, (let more = used_after m in let none = fresh_unowned sound m ((taking good among w).fresh_all m i) in let once = times-once m born (taking good among w).once i in omega arith)))
 
       -- ---- the rules of the image
 

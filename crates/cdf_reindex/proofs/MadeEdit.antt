@@ -16,7 +16,8 @@ use Rattle.cdf_edits.proofs.Rules.WithoutLinks.{eof_by_rules}
 use Rattle.cdf_edits.proofs.Edits.RecordPlaced.{links_mark}
 use Rattle.cdf_edits.specs.Commands.Allowances.{space_fields}
 use Rattle.cdf_index.proofs.NewIndex.{IndexTests, NewIndex, index_marks}
-use Rattle.cdf_reindex.proofs.MadeTaken.{TakenAll, all_taken, taking_all}
+use Rattle.cdf_edits.proofs.Edits.TakenAll.{TakenAll, taking_all}
+use Rattle.cdf_reindex.proofs.MadeTaken.{NodesTaken, all_taken, node_takes}
 
 -- ---- marks
 
@@ -88,8 +89,11 @@ module _ {b now : List ℕ} {kind : Kind} {before : List VariableShape} {own : V
   end_before = eof_by_rules b (shape b) sound (sealed_kept b (good_long b (shape b) (good_by_its_shape b good)) (rules_of_good b good)).0
 
   -- the nodes are taken
-  pub t : TakenAll b r.made places
-  t = all_taken b r.made places sound end_before r.taken
+  taken : NodesTaken b r.made places
+  taken = all_taken b r.made places sound end_before r.taken
+
+  pub t : TakenAll b r.made (node_takes places) places (vxr_bytes 64)
+  t = taken.all
 
   pub sound_made : IsSound r.made made
   sound_made = t.grows.sound
@@ -231,7 +235,7 @@ module _ {b now : List ℕ} {kind : Kind} {before : List VariableShape} {own : V
     gdr_now = sym r.sound.has_shape.gdr_is ∙ gdr_place sound edit (made_tests kind v (shape b).unused places olds (length r.linked)).file_clear
 
     reborn_in : (m : ℕ) → In m reborn → In m (shape now).records
-    reborn_in m i = elim (In-append m places olds i) [ inl j ↦ subst (In m) (sym records_now) (t.stand m j).inside | inr j ↦ edit.sub m (node_before m j) ]
+    reborn_in m i = elim (In-append m places olds i) [ inl j ↦ subst (In m) (sym records_now) (taken.stand m j).inside | inr j ↦ edit.sub m (node_before m j) ]
 
     pub new_index : NewIndex b now kind own r.index (shape now).records (shape now).unused space_fields (taking_all (shape b).unused places (vxr_bytes 64)) olds (field 0 (length r.linked)) reborn
     new_index = record {

@@ -1,5 +1,5 @@
 -- An index made anew: what it keeps of the records of each owner.
-use Rattle.std.proofs.Common.{◌≡◌, ℕ, ◌+◌, ◌≤◌, List, [], ◌∷◌, length, false, true, Option, eq-eqb, refl, arith}
+use Rattle.std.proofs.Common.{◌≡◌, ℕ, ◌+◌, ◌≤◌, List, [], ◌∷◌, length, false, true, Option, eq-eqb, refl}
 use Rattle.cdf_reindex.proofs.Common.{◌==◌, ◌&&◌, nat_le, if◌then◌else◌, Found, size_at, owned, Field, uir_next_uir, uir_prev_uir, vdr_vxr_head, vdr_vxr_tail, uir_type, VariableShape, shape, IsSound, In, Good, Allowance, Allowances, AllKeep, Only, is_taken, reindex_changes, vxr_bytes, Avoids, Within, gave, StandsAmong, IsRebuilt}
 use Rattle.std.specs.Prelude.{nat_lt}
 use Rattle.cdf_edits.specs.Commands.Allowances.{only_of, range_at, same_kind, vdr_type}
@@ -10,7 +10,8 @@ use Rattle.cdf_index.proofs.NewIndex.{index_keeps}
 use Rattle.cdf_index.proofs.OwnRecords.{by_range, descriptor_allowed, node_allowed}
 use Rattle.cdf_reindex.proofs.MadeActs.{acts}
 use Rattle.cdf_reindex.proofs.MadeEdit.{new_index, olds, places, t}
-use Rattle.cdf_reindex.proofs.MadeTaken.{listed_avoids, listed_within, node_takes, taking_all, unlisted_away, untaken}
+use Rattle.cdf_reindex.proofs.MadeTaken.{node_takes}
+use Rattle.cdf_edits.proofs.Edits.TakenAll.{listed_free, taking_all, unlisted_away}
 
 abbrev head_fields : List Field
 head_fields = vdr_vxr_head ∷ vdr_vxr_tail ∷ []
@@ -31,12 +32,8 @@ module _ {b now : List ℕ} (found : Found) {before : List VariableShape} {own :
 
   -- unused records that are not taken keep all but their links
   listed : (m : ℕ) → In m (shape b).unused → 12 ≤ size_at b m → is_taken b (acts good among r) m ≡ false → Avoids (taking_all (shape b).unused (places good among r) (vxr_bytes 64)) uir_type m 0 12 × Within (taking_all (shape b).unused (places good among r) (vxr_bytes 64)) uir_type m (uir_next_uir ∷ uir_prev_uir ∷ [])
-  listed m i long free =
-      let none = none_of_both (λ (take : ℕ × ℕ). nat_le m take.0 && nat_lt take.0 (m + size_at b m)) (node_takes (places good among r)) (gave b (olds good among r)) free in
-      let out = untaken b (places good among r) m long none.0 in
-      (listed_avoids (shape b).unused (places good among r) (vxr_bytes 64) m 0 12 out (omega arith), listed_within (shape b).unused (places good among r) (vxr_bytes 64) m out)
+  listed m i long free = listed_free (t good among r) m i long (none_of_both (λ (take : ℕ × ℕ). nat_le m take.0 && nat_lt take.0 (m + size_at b m)) (node_takes (places good among r)) (gave b (olds good among r)) free).0
 
   pub made_keeps : AllKeep b now may (acts good among r) (owned b (shape b))
   made_keeps =
-      index_keeps good among (new_index good among r whole) may (acts good among r) [] refl (descriptor_allowed found good among at head_fields (λ rg. Only []) own_may allowed) (node_allowed found good among at head_fields (λ rg. Only []) own_may allowed) listed
-      (λ m i off. unlisted_away (shape b).unused (places good among r) (vxr_bytes 64) m off (λ j. off ((t good among r).from_list m j i)))
+      index_keeps good among (new_index good among r whole) may (acts good among r) [] refl (descriptor_allowed found good among at head_fields (λ rg. Only []) own_may allowed) (node_allowed found good among at head_fields (λ rg. Only []) own_may allowed) listed (unlisted_away (t good among r))
