@@ -1,15 +1,15 @@
 -- One variable has another index by now, and an edit met its VXRhead and VXRtail, nodes and unused records alone: what follows of the image, and what each record keeps.
-use Rattle.std.proofs.Common.{◌≡◌, ◌⊎◌, ℕ, suc, ◌+◌, ◌≤◌, List, [], ◌∷◌, ◌++◌, length, false, true, refl, sym, subst, ◌∙◌, arith, inl, inr}
-use Rattle.cdf_index.proofs.Common.{flat_map, is_a, is_in, number, size_at, type_at, Nodes, leaves_of, nodes_of, vxr_type, cvvr_type, VariableShape, In, Kept, In-append, is_a-in, linkable-in, tile_lies}
+use Rattle.std.proofs.Common.{◌≡◌, ◌≢◌, ◌⊎◌, ℕ, suc, ◌+◌, ◌*◌, ◌≤◌, List, [], ◌∷◌, ◌++◌, length, false, true, refl, sym, ap, subst, ◌∙◌, arith, inl, inr}
+use Rattle.cdf_index.proofs.Common.{flat_map, is_a, is_in, number, size_at, type_at, Nodes, leaves_of, nodes_of, vxr_type, cvvr_type, VariableShape, In, Kept, In-append, is_a-in, linkable-in, linkable-type, tile_lies, Distinct, Hold, NodeFits, room_at, image_limit, vxr_n_used_entries}
 use Rattle.cdf_model.specs.declared.kinds.Kind.{Kind}
 use Rattle.cdf_model.specs.declared.kinds.Kind.TheVariants.{R, Z}
 use Rattle.cdf_format.specs.Bytes.{Same}
 use Rattle.cdf_format.specs.Chains.{IsChain}
 use Rattle.cdf_format.specs.IndexOf.{IsIndex}
-use Rattle.cdf_format.specs.Owners.{OneVariable, owned, variable_records}
+use Rattle.cdf_format.specs.Owners.{OneVariable, OwnedOnce, owned, times, variable_records}
 use Rattle.cdf_format.specs.Records.{Field, gdr_uir_head, uir_next_uir, uir_prev_uir, vdr_max_rec, vdr_vxr_head, vdr_vxr_tail}
 use Rattle.cdf_format.specs.RecordTypes.{cdr_type, gdr_type, vvr_type, cpr_type, uir_type, is_record_type, fixed_size}
-use Rattle.cdf_format.specs.Shape.{Shape, HasShape, shape}
+use Rattle.cdf_format.specs.Shape.{Each, Shape, HasShape, shape}
 use Rattle.cdf_format.specs.WellFormed.{Good}
 use Rattle.cdf_format.proofs.BytesLemmas.{word_kept}
 use Rattle.cdf_format.proofs.ChainsLemmas.{is_a-type}
@@ -25,21 +25,32 @@ use Rattle.cdf_edits.proofs.Edits.IndexEdited as of_index
 use Rattle.cdf_edits.proofs.Edits.InRecords.{places_of}
 use Rattle.cdf_edits.proofs.Edits.MarkLemmas.{Avoids-append, Away-append, Within-append, all_unmarked-away, away-avoids, away-within, the_one, unmarked-away}
 use Rattle.cdf_edits.proofs.Edits.OwnEdited.{OwnEdit, only, records_are, splices}
-use Rattle.cdf_edits.proofs.Edits.OwnedOnce.{all_attributes_in}
+use Rattle.cdf_edits.proofs.Edits.OwnedOnce.{IsSorted, all_attributes_in, fresh_unowned, owned_once_if, sorted_before, used_times}
 use Rattle.cdf_edits.proofs.Edits.OwnersKept.{keep_all, keep_file, keep_places, keep_unused, keeps_fields, stood}
 use Rattle.cdf_edits.proofs.Edits.RecordFrame.{cdr_kept, kept, kept_away}
 use Rattle.cdf_edits.proofs.Edits.RecordPlaced.{links_mark}
-use Rattle.cdf_edits.proofs.Edits.StandsAmong.{StandsAmong, after_ours, behind_in, fits, long, ours, sound, through, tile, typed}
+use Rattle.cdf_edits.proofs.Edits.StandsAmong.{StandsAmong, after_ours, behind_in, fits, has, long, ours, sound, through, tile, typed}
 use Rattle.cdf_edits.proofs.Edits.StepEdits.{gdr_in, gdr_typed}
 use Rattle.cdf_edits.proofs.Edits.VariableCopied.{block_behind, cpr_behind, node_behind}
 use Rattle.cdf_edits.proofs.Edits.VariableFrame.{variable_typed, variables_in}
 use Rattle.cdf_edits.proofs.Edits.VariableKept.{keep_kinds, keep_variable_parts}
-use Rattle.cdf_edits.proofs.Edits.VariableKinds.{keeps_kind, kind_ours, other_kind}
+use Rattle.cdf_edits.proofs.Edits.VariableKinds.{keeps_kind, kind_ours, other_kind, spliced_times, with_shapes}
 use Rattle.cdf_edits.proofs.Edits.VariableSplice.{attributes_kept, keeps_all_attributes}
 use Rattle.cdf_edits.proofs.Frame.OwnerAlone.{Each-in}
-use Rattle.cdf_edits.proofs.Frame.OwnersApart.{all_variable_records}
+use Rattle.cdf_edits.proofs.Frame.OwnersApart.{all_variable_records, times-append}
 use Rattle.cdf_edits.proofs.Space.UsedRecords.{apart}
-use Rattle.cdf_index.proofs.OwnRecords.{block_type}
+use Rattle.cdf_edits.proofs.Edits.PlainLeaves.{own_rules}
+use Rattle.cdf_format.specs.Fields.{eof}
+use Rattle.cdf_format.specs.IndexRules.{has_room, index_rows}
+use Rattle.cdf_format.specs.NotRead.{read_types}
+use Rattle.cdf_format.specs.VariableRules.{is_max_rec}
+use Rattle.cdf_format.proofs.GoodSound.{good_by_its_shape}
+use Rattle.cdf_format.proofs.IndexLemmas.{nodes_stand}
+use Rattle.cdf_format.proofs.Owning.{times-none, times-once}
+use Rattle.cdf_format.proofs.Tests.{of_le}
+use Rattle.cdf_model.specs.Limits.{signed_limit}
+use Rattle.cdf_index.specs.Adding.{Counts}
+use Rattle.cdf_index.proofs.OwnRecords.{block_type, parts_times}
 
 -- ---- marks
 
@@ -70,6 +81,18 @@ pub record NewIndex (b now : List ℕ) (kind : Kind) (own : VariableShape) (inde
   pub typed_now : (m : ℕ) → In m reborn → (is_record_type (type_at now m) ≡ true) × (fixed_size (type_at now m) ≤ size_at now m)
   pub unused_chain : IsChain now new uir_type (number now (shape b).gdr gdr_uir_head) list
   pub index_now : IsIndex now new (number now own.vdr vdr_vxr_head) index
+
+-- which records are taken for the index and in use by then, and which nodes of it are freed
+pub record Exchanged (b now : List ℕ) (own : VariableShape) (index : Nodes) (reborn taken freed : List ℕ) : Type 0 where
+  pub are_reborn : (m : ℕ) → In m reborn → In m taken ⊎ In m freed
+  pub reborn_are : (m : ℕ) → In m taken ⊎ In m freed → In m reborn
+  pub times_are : (m : ℕ) → times m (nodes_of index) + times m (places_of (leaves_of index)) + times m freed ≡ times m (nodes_of own.index) + times m (places_of (leaves_of own.index)) + times m taken
+  pub fresh : (m : ℕ) → In m taken → In m (shape b).records → type_at b m ≡ uir_type
+  pub taken_once : Distinct taken
+  pub in_use : (m : ℕ) → In m taken → type_at now m ≢ uir_type
+  pub were_nodes : (m : ℕ) → In m freed → In m (nodes_of own.index)
+  pub freed_once : Distinct freed
+  pub out_of_use : (m : ℕ) → In m freed → type_at now m ≡ uir_type
 
 pub vdr_of_variable : (kind : Kind) → is_in (type_in (variables_chain kind)) variable_types ≡ true
 vdr_of_variable R = refl
@@ -180,9 +203,9 @@ module _ {b now : List ℕ} {kind : Kind} {before : List VariableShape} {own : V
     cpr_stands : (m : ℕ) → In m own.cpr → Kept b now m
     cpr_stands m c = kept x.edit m cpr_type (behind_in good at m (cpr_behind own m c)) (is_a-type b s.records cpr_type m (Each-in (λ y. is_a b s.records cpr_type y ≡ true) own.cpr (fits good at).3 m c)) x.tests.cpr_clear
 
-    mine : (m : ℕ) → In m (variable_records own) → Keeps b now m (may.variables kind (length before) m)
-    mine m (inl q) = subst (λ (y : ℕ). Keeps b now y (may.variables kind (length before) y)) (sym q) (subst (Keeps b now v) (sym vdr_may) vdr_keeps)
-    mine m (inr j) = elim (In-append m (nodes_of own.index ++ places_of (leaves_of own.index)) own.cpr j) [
+    own_keeps : (m : ℕ) → In m (variable_records own) → Keeps b now m (may.variables kind (length before) m)
+    own_keeps m (inl q) = subst (λ (y : ℕ). Keeps b now y (may.variables kind (length before) y)) (sym q) (subst (Keeps b now v) (sym vdr_may) vdr_keeps)
+    own_keeps m (inr j) = elim (In-append m (nodes_of own.index ++ places_of (leaves_of own.index)) own.cpr j) [
       | inr c ↦ keeps_stood b now m (stands m (behind_in good at m j) (cpr_stands m c)) _
       | inl k ↦ elim (In-append m (nodes_of own.index) (places_of (leaves_of own.index)) k) [
         | inl n ↦ subst (Keeps b now m) (sym (node_may m n)) tt
@@ -203,9 +226,55 @@ module _ {b now : List ℕ} {kind : Kind} {before : List VariableShape} {own : V
         let front = keep_variables b now may acts kind 0 before (other before (ours good at).0.sub (λ m i. (only good at own_edit m i).in_before)) in
         let back = keep_variables b now may acts kind (suc (length before)) after (other after (after_ours good at).sub (λ m i. (only good at own_edit m i).in_after)) in
         let others = keep_variables b now may acts (other_kind kind) 0 (shapes_of s (other_kind kind)) (other (shapes_of s (other_kind kind)) (kind_ours b s (sound good at) (other_kind kind)).sub (λ m i. (only good at own_edit m i).in_others)) in
-        let both = keep_kinds b now may acts kind (keep_variable_parts b now may acts kind before own after at.was front (keep_places b now may acts (OneVariable kind (length before)) (variable_records own) mine) back) others in
+        let both = keep_kinds b now may acts kind (keep_variable_parts b now may acts kind before own after at.was front (keep_places b now may acts (OneVariable kind (length before)) (variable_records own) own_keeps) back) others in
         let cdr = is_a-in b s.records cdr_type 8 h.cdr_stands in
         let gdr = keeps_fields (sound good at) x.edit same s.gdr gdr_type fields (gdr_in b s h) (gdr_typed b s h) x.tests.heads_clear x.tests.inside in
         keep_all b now may acts (keep_file b now may acts (sound good at) (keeps_stood b now 8 (stands 8 cdr (cdr_kept (sound good at) x.edit x.tests.file_clear)) may.cdr) (subst (Keeps b now s.gdr) (sym gdr_may) gdr))
         (keep_attributes b now may acts 0 s.attributes (λ m i. stands m (all_attributes_in (sound good at) m i) (attributes_kept (sound good at) (splices good at own_edit) m i))) both.0 both.1
         (keep_unused (sound good at) x.edit same may acts listed_all (λ m i out. Away-append space entries uir_type m (unlisted m i out) (away m)))
+
+  -- ---- the nodes
+
+  pub node_room : Each (NodeFits now) (nodes_of index) → Each (Counts now) (nodes_of index) → length now ≤ image_limit → (m : ℕ) → In m (nodes_of index) → has_room now m ≡ true
+  node_room all_fit all_count short m i =
+      let fit = (Each-in (NodeFits now) (nodes_of index) all_fit m i).0 in
+      let count : number now m vxr_n_used_entries ≤ room_at now m = Each-in (Counts now) (nodes_of index) all_count m i in
+      let high = (tile_lies now 8 (length now) new m x.edit.tiled_now (linkable-in now new vxr_type m (nodes_stand now new 8 index x.index_now.has_nodes m i))).high in
+      rw (of_le (number now m vxr_n_used_entries) (room_at now m) count, of_le (room_at now m) signed_limit (omega arith), of_le (28 + 16 * room_at now m) (size_at now m) fit) refl
+
+  -- ---- the owners
+
+  abbrev mine : VariableShape
+  mine = record own { index = index }
+
+  module _ (taken freed : List ℕ) (y : Exchanged b now own index reborn taken freed) where
+    pub own_times : (m : ℕ) → times m (variable_records mine) + times m freed ≡ times m (variable_records own) + times m taken
+    own_times m = omega (arith, parts_times own m, parts_times mine m, y.times_are m)
+
+    abbrev after_it : Shape
+    after_it = with_shapes s kind new list (before ++ mine ∷ after)
+
+    used_after : (m : ℕ) → used_times after_it m + times m freed ≡ used_times s m + times m taken
+    used_after m = spliced_times s kind new list before (own ∷ []) (mine ∷ []) after at.was m (times m taken) (times m freed) (omega (arith, times-append m (variable_records mine) [], times-append m (variable_records own) [], own_times m))
+
+    node_in : (m : ℕ) → In m freed → In m s.records
+    node_in m i = behind_in good at m (node_behind own m (y.were_nodes m i))
+
+    node_typed : (m : ℕ) → In m freed → type_at b m ≡ vxr_type
+    node_typed m i = linkable-type b s.records vxr_type m (nodes_stand b s.records 8 own.index (has good at).indexed.has_nodes m (y.were_nodes m i))
+
+    none_both : (m : ℕ) → In m taken → In m freed → ⊥
+    none_both m i j = apart vxr_type uir_type refl (sym (node_typed m j) ∙ y.fresh m i (node_in m j))
+
+    sorted : (m : ℕ) → In m taken ⊎ In m freed → IsSorted now after_it m
+    sorted m (inl i) = inl (y.in_use m i, omega (arith, used_after m, fresh_unowned (sound good at) m (y.fresh m i), times-once m taken y.taken_once i, times-none m freed (none_both m i)))
+    sorted m (inr i) = elim (sorted_before (sound good at) (good_by_its_shape b good).owned_once m (node_in m i)) [
+      | inl u ↦ inr (y.out_of_use m i, omega (arith, used_after m, u.1, times-once m freed y.freed_once i, times-none m taken (λ k. none_both m k i)))
+      | inr u ↦ absurd (apart vxr_type uir_type refl (sym (node_typed m i) ∙ u.0))
+    ]
+
+    owned_now : OwnedOnce now after_it
+    owned_now = owned_once_if b now s after_it (space ++ entries) reborn (sound good at) (good_by_its_shape b good).owned_once x.edit (λ m out. omega (arith, used_after m, times-none m taken (λ i. out (y.reborn_are m (inl i))), times-none m freed (λ i. out (y.reborn_are m (inr i))))) (λ m i. sorted m (y.are_reborn m i))
+
+    pub good_now : Hold (index_rows now new v index) → ((m : ℕ) → In m reborn → is_in (type_at now m) read_types ≡ true) → eof now s.gdr ≡ length now → length now ≤ image_limit → Good now
+    good_now rows read end short = of_index.good_now good at index_edit rows (ap is_max_rec max_rec_kept ∙ (own_rules good at).0.1.1.1.1.1.1.1.0) read owned_now end short

@@ -13,12 +13,12 @@ pub use Rattle.cdf_edits.proofs.Edits.InRecords.{places_of}
 pub use Rattle.cdf_edits.proofs.Edits.IndexEdited.{IndexEdit, vdr_alike}
 pub use Rattle.cdf_edits.proofs.Edits.LeafPieces.{IsOneOf, covers_within, each_of, find_covering, in_order, place_in, plain_piece, record_place, times_le}
 pub use Rattle.cdf_edits.proofs.Edits.LeafRecords.{Ascending, count_is}
-pub use Rattle.cdf_edits.proofs.Edits.MarkLemmas.{Avoids-append, Away-append, away-avoids, unmarked-away}
+pub use Rattle.cdf_edits.proofs.Edits.MarkLemmas.{away-avoids, unmarked-away}
 pub use Rattle.cdf_edits.proofs.Edits.OnlyTaken.{OnlyTakes, none_of_both}
 pub use Rattle.cdf_edits.proofs.Edits.OwnEdited.{OwnEdit}
 pub use Rattle.cdf_edits.proofs.Edits.PlainLeaves.{PlainLeaf, leaves_apart, leaves_ascend, own_rules, plain_leaf}
 pub use Rattle.cdf_edits.proofs.Edits.RecordFrame.{index_records, kept_away}
-pub use Rattle.cdf_edits.proofs.Edits.RecordPlaced.{placing_marks, still_edit}
+pub use Rattle.cdf_edits.proofs.Edits.RecordPlaced.{placing_marks}
 pub use Rattle.cdf_edits.proofs.Edits.RecordsWritten.{WritesRecords, file, good_now, part, same_shape}
 pub use Rattle.cdf_edits.proofs.Edits.StandsAmong.{StandsAmong, behind_in, fits, has, long, no_block, ours, sound, through, tile, typed}
 pub use Rattle.cdf_edits.proofs.Edits.StepEdits.{gdr_in, gdr_long, gdr_typed}
@@ -36,7 +36,7 @@ pub use Rattle.cdf_edits.specs.Commands.GreatestRecord.{RMaxRecFollows, r_max_re
 pub use Rattle.cdf_edits.specs.Commands.Puts.{PutsLeaves, max_rec_touches, new_ranges, put_changes}
 pub use Rattle.cdf_edits.specs.Commands.Room.{blocks_room, is_rewritten, packed_room, put_room, uncovered, widest}
 pub use Rattle.cdf_edits.specs.Edits.Edit.{Edit}
-pub use Rattle.cdf_edits.specs.Edits.Marks.{Avoids, Away, Mark, unmarked}
+pub use Rattle.cdf_edits.specs.Edits.Marks.{Avoids, Mark, unmarked}
 pub use Rattle.cdf_edits.specs.Frame.Changed.{Changed, Outside, Touch}
 pub use Rattle.cdf_edits.specs.Index.Blocks.{Range, block_count, covers, cuts_before_put, first_written, firsts_of, is_sparse, new_range, next_first, range, ranges_after_put, ranges_of, record_length, shared}
 pub use Rattle.cdf_edits.specs.Index.Grown.{indexes_with, new_room, outline, with_both, with_leaf, with_ranges}

@@ -1,12 +1,10 @@
 -- A leaf that is added to the index of a variable leads from one good image to another: what its acts take, what stays of the records of each owner, and the blocks.
-use Rattle.std.proofs.Common.{◌≡◌, ℕ, zero, suc, ◌+◌, List, [], ◌∷◌, ◌++◌, length, true, refl, ap, subst, arith, ◌≢◌, ◌<◌, ◌≤◌, false, sym, inl, inr, ◌-◌, max, take, drop, ◌∙◌, take-append-drop, ℤ, pos, negsuc, ◌*◌, Bool}
-use Rattle.cdf_puts.proofs.Common.{◌&&◌, Kind, StandsAmong, Edit, Mark, new_room, ActsFollow, type_of_body, linkable-in, good_is_sound, both, Leaf, uir_type, vvr_type, vxr_type, VariableShape, Shape, shape, IsSound, Good, LeafAdded, leaf_acts, nat_le, block_behind, behind_in, Kept, Each-in, AllKeep, r_max_rec_field, space_fields, put_changes, Act, In-append, tile_lies, number, size_at, type_at, leaves_of, nodes_of, owned, variable_records, vdr_max_rec, HasShape, In, found_in, length-take, length-drop, Same, byte, size_kept, type_kept, place_in, each_of, IsBlockBody, BlocksGoOn, ne_eqb, flat_map, ◌==◌, ◌||◌, if◌then◌else◌, image_limit, record_number_limit, is_in, with_sign, Nodes, no_node, node, Entries, no_entry, block, lower, room_at, times, cvvr_type, asked, is_compressed, Each, NodeFits, record_bytes, is_max_rec, Same-part, good_by_its_shape, nodes_stand, Hold-split, le_of, of_le, firsts_of, with_leaf, IsOneOf, count_is, plain_leaf, own_rules, times-append, record_alike, apart, InOrder, DescriptorStays, GoesOn, IsVacant, before_limit, index_order, OwnEdit, IndexEdit, vdr_alike}
+use Rattle.std.proofs.Common.{◌≡◌, ℕ, zero, suc, ◌+◌, List, [], ◌∷◌, ◌++◌, length, true, refl, ap, subst, arith, ◌<◌, ◌≤◌, false, sym, inl, inr, ◌-◌, max, take, drop, ◌∙◌, take-append-drop, ℤ, pos, negsuc, ◌*◌, Bool}
+use Rattle.cdf_puts.proofs.Common.{◌&&◌, Kind, StandsAmong, Edit, Mark, new_room, ActsFollow, type_of_body, good_is_sound, both, Leaf, uir_type, vvr_type, vxr_type, VariableShape, Shape, shape, IsSound, Good, LeafAdded, leaf_acts, nat_le, block_behind, behind_in, Kept, AllKeep, r_max_rec_field, space_fields, put_changes, Act, In-append, number, size_at, type_at, leaves_of, nodes_of, owned, variable_records, vdr_max_rec, HasShape, In, found_in, length-take, length-drop, Same, byte, size_kept, type_kept, place_in, each_of, IsBlockBody, BlocksGoOn, ne_eqb, flat_map, ◌==◌, ◌||◌, if◌then◌else◌, image_limit, record_number_limit, is_in, with_sign, Nodes, no_node, node, Entries, no_entry, block, lower, room_at, times, cvvr_type, asked, is_compressed, Each, record_bytes, Same-part, good_by_its_shape, Hold-split, le_of, of_le, firsts_of, with_leaf, IsOneOf, count_is, plain_leaf, own_rules, times-append, record_alike, apart, InOrder, DescriptorStays, GoesOn, IsVacant, before_limit, index_order, OwnEdit, IndexEdit, vdr_alike}
 use Rattle.cdf_format.specs.Chains.{is_a}
 use Rattle.cdf_edits.proofs.Frame.OwnersApart.{times-in}
 use Rattle.cdf_edits.proofs.Edits.ActsStill.{acts_still_by}
 use Rattle.cdf_edits.proofs.Edits.TakenAll.{listed_free, taking_all, unlisted_away}
-use Rattle.cdf_edits.proofs.Edits.OwnedOnce.{used_times, fresh_unowned, owned_once_if}
-use Rattle.cdf_edits.proofs.Edits.VariableKinds.{with_shapes, spliced_times}
 use Rattle.cdf_format.proofs.ChainsLemmas.{is_a-from, is_a-type}
 use Rattle.cdf_puts.proofs.GoesThen.{descriptor_allowed, node_allowed}
 use Rattle.std.proofs.lemmas.List.{ext_get_or, get_or_append_left, get_or-take, get_or-drop}
@@ -16,22 +14,19 @@ use Rattle.cdf_model.specs.Limits.{signed_limit}
 use Rattle.cdf_format.specs.Index.{nodes_of, lower_nodes}
 use Rattle.cdf_format.specs.IndexRules.{has_room, is_block, nodes_rows, used_rows, vvr_rows, cvvr_rows, leaf_rows, index_rows, end_of}
 use Rattle.cdf_format.specs.NotRead.{read_types}
-use Rattle.cdf_format.specs.Owners.{OwnedOnce}
 use Rattle.cdf_format.specs.Records.{field, vxr_n_used_entries, vxr_entries}
 use Rattle.cdf_format.specs.Rules.{Row, Hold}
 use Rattle.cdf_format.specs.VariableFields.{number_before, plain_size}
 use Rattle.cdf_format.proofs.GoodByShape.{IsGoodByShape}
-use Rattle.cdf_format.proofs.Owning.{times-none, times-once}
 use Rattle.cdf_format.proofs.RowLemmas.{Hold-append}
 use Rattle.cdf_index.specs.Adding.{Counts}
 use Rattle.cdf_index.proofs.ByLeaf.{in-times, nodes_with_leaf}
-use Rattle.cdf_index.proofs.OwnRecords.{parts_times}
 use Rattle.cdf_puts.proofs.LeafCounts.{places_with_leaf, leaf_was_there}
 use Rattle.cdf_edits.proofs.Space.ActsLeave.{each}
 use Rattle.cdf_index.proofs.LeafRules.{index_rules_with_leaf}
-use Rattle.cdf_edits.proofs.Edits.IndexEdited.{vdr_size, vdr_type, good_now as good_if_ruled}
+use Rattle.cdf_edits.proofs.Edits.IndexEdited.{vdr_size, vdr_type}
 use Rattle.cdf_puts.proofs.LeafEdit.{enough, new_nodes, edit, node_taking, taking, entries_written, marks, reborn, with_new, tests, file, block_in, type_now, end_now, new_index, placed_kept, placed_size}
-use Rattle.cdf_index.proofs.NewIndex.{NewIndex, block_kept, index_edit, index_keeps, index_unmarked, max_rec_kept, own_edit}
+use Rattle.cdf_index.proofs.NewIndex.{Exchanged, NewIndex, block_kept, good_now as changed_good, index_edit, index_keeps, node_room, own_times, index_unmarked, max_rec_kept, own_edit}
 use Rattle.cdf_edits.proofs.Edits.OwnEdited as of_own
 use Rattle.cdf_edits.proofs.Edits.IndexEdited as of_index
 
@@ -204,14 +199,6 @@ module _ {b now : List ℕ} {kind : Kind} {before : List VariableShape} {own : V
           let p = both (nat_le (number b m vxr_n_used_entries) (room_at b m) && nat_le (room_at b m) signed_limit) (holds b m (vxr_entries (room_at b m))) r in
           le_of (number b m vxr_n_used_entries) (room_at b m) (both (nat_le (number b m vxr_n_used_entries) (room_at b m)) (nat_le (room_at b m) signed_limit) p.0).0)
 
-      node_room : (m : ℕ) → In m (nodes_of mine.index) → has_room now m ≡ true
-      node_room m i =
-          let fit = (Each-in (NodeFits now) (nodes_of mine.index) w.fits m i).0 in
-          let count : number now m vxr_n_used_entries ≤ room_at now m = Each-in (Counts now) (nodes_of mine.index) (w.counts counted_before_it) m i in
-          let stands = linkable-in now records' vxr_type m (nodes_stand now records' 8 mine.index w.index.has_nodes m i) in
-          let high = (tile_lies now 8 (length now) records' m e.tiled_now stands).high in
-          rw (of_le (number now m vxr_n_used_entries) (room_at now m) count, of_le (room_at now m) signed_limit (omega arith), of_le (28 + 16 * room_at now m) (size_at now m) fit) refl
-
       -- ---- the blocks
 
       abbrev x : IndexEdit b now kind own (with_leaf new at own.index) records' (shape w.roomy).unused ks born
@@ -250,37 +237,22 @@ module _ {b now : List ℕ} {kind : Kind} {before : List VariableShape} {own : V
       ]
 
       index_ruled : Hold (index_rows now records' v mine.index)
-      index_ruled = index_rules_with_leaf b now s.records records' v new at own.index (own_rules good among).1 vacant.ordered vacant.uncovered vacant.before_next node_room each_leaf
+      index_ruled = index_rules_with_leaf b now s.records records' v new at own.index (own_rules good among).1 vacant.ordered vacant.uncovered vacant.before_next (node_room good among (changed plain) w.fits (w.counts counted_before_it) short) each_leaf
 
       -- ---- the owners
 
-      own_times : (m : ℕ) → times m (variable_records mine) ≡ times m (variable_records own) + times m born
-      own_times m =
-          let was = parts_times own m in
-          let is = parts_times mine m in
-          let nodes = nodes_with_leaf new at m own.index ∙ ap (λ (n : ℕ). times m (nodes_of own.index) + n) (sym (new_times roomed at m)) in
-          let blocks = places_with_leaf new at 0 record_number_limit own.index order m in
-          let both = times-append m (new.place ∷ []) (new_nodes roomed at) in
-          omega arith
-
-      abbrev shape_now_is : Shape
-      shape_now_is = with_shapes s kind records' (shape w.roomy).unused (before ++ mine ∷ after)
-
-      used_after : (m : ℕ) → used_times shape_now_is m ≡ used_times s m + times m born
-      used_after m =
-          let is = times-append m (variable_records mine) [] in
-          let was = times-append m (variable_records own) [] in
-          let more = own_times m in
-          let all = spliced_times s kind records' (shape w.roomy).unused before (own ∷ []) (mine ∷ []) after among.was m (times m born) 0 (omega arith) in
-          omega arith
-
-      in_use : (m : ℕ) → In m born → type_at now m ≢ uir_type
-      in_use m i u = elim (type_now good among w plain m i) [ inl x ↦ apart vvr_type uir_type refl (sym x.1 ∙ u) | inr x ↦ apart vxr_type uir_type refl (sym x.2 ∙ u) ]
-
-      owned_now : OwnedOnce now shape_now_is
-      owned_now = owned_once_if b now s shape_now_is _ born sound image.owned_once e
-          (λ m out. let more = used_after m in let none = times-none m born out in omega arith)
-          (λ m i. inl (in_use m i, (let more = used_after m in let none = fresh_unowned sound m ((taking good among w).fresh_all m i) in let once = times-once m born (taking good among w).once i in omega arith)))
+      exchanged : Exchanged b now own (with_leaf new at own.index) born born []
+      exchanged = record {
+        are_reborn = λ m i. inl i;
+        reborn_are = λ m i. elim i [ inl j ↦ j | inr none ↦ absurd none ];
+        times_are = λ m. omega (arith, nodes_with_leaf new at m own.index, new_times roomed at m, places_with_leaf new at 0 record_number_limit own.index order m, times-append m (new.place ∷ []) (new_nodes roomed at));
+        fresh = (taking good among w).fresh_all;
+        taken_once = (taking good among w).once;
+        in_use = λ m i u. elim (type_now good among w plain m i) [ inl x ↦ apart vvr_type uir_type refl (sym x.1 ∙ u) | inr x ↦ apart vxr_type uir_type refl (sym x.2 ∙ u) ];
+        were_nodes = λ m i. absurd i;
+        freed_once = tt;
+        out_of_use = λ m i. absurd i;
+      }
 
       -- ---- the rules of the image
 
@@ -288,12 +260,12 @@ module _ {b now : List ℕ} {kind : Kind} {before : List VariableShape} {own : V
       born_read m i = elim (type_now good among w plain m i) [ inl z ↦ ap (λ (t : ℕ). is_in t read_types) z.1 | inr z ↦ ap (λ (t : ℕ). is_in t read_types) z.2 ]
 
       pub good_now : Good now
-      good_now = good_if_ruled good among x index_ruled (ap is_max_rec (leaf_max_rec plain) ∙ (own_rules good among).0.1.1.1.1.1.1.1.0) born_read owned_now (end_now good among w) short
+      good_now = changed_good good among (changed plain) born [] exchanged index_ruled born_read (end_now good among w) short
 
       -- ---- how it goes on
 
       still_own : (m : ℕ) → In m (variable_records own) → In m (variable_records mine)
-      still_own m i = in-times m (variable_records mine) (let more = own_times m in let some = times-in m (variable_records own) i in omega arith)
+      still_own m i = in-times m (variable_records mine) (omega (arith, own_times good among (changed plain) born [] exchanged m, times-in m (variable_records own) i))
 
       own_descriptor : DescriptorStays b now v
       own_descriptor = record {

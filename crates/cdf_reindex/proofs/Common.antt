@@ -11,7 +11,7 @@ pub use Rattle.cdf_edits.proofs.Edits.FreedRecords.{edit_under}
 pub use Rattle.cdf_edits.proofs.Edits.IndexEdited.{IndexEdit}
 pub use Rattle.cdf_edits.proofs.Edits.LeafPieces.{IsOneOf}
 pub use Rattle.cdf_edits.proofs.Edits.MadeRecord.{filled_size, fresh, place_in}
-pub use Rattle.cdf_edits.proofs.Edits.MarkLemmas.{Avoids-append, away-avoids, the_one, unmarked-away}
+pub use Rattle.cdf_edits.proofs.Edits.MarkLemmas.{Avoids-append, away-avoids, unmarked-away}
 pub use Rattle.cdf_edits.proofs.Edits.OwnedOnce.{fresh_unowned, used_times}
 pub use Rattle.cdf_edits.proofs.Edits.RecordFrame.{gdr_field, gdr_place, kept, kept_away}
 pub use Rattle.cdf_edits.proofs.Edits.RecordGrown.{Grew, grew, grew_none}
@@ -29,7 +29,7 @@ pub use Rattle.cdf_edits.specs.Commands.Reindex.{IsPyramid, levels_up, made_acts
 pub use Rattle.cdf_edits.specs.Commands.Room.{nodes_above, quotient_up, reindex_room}
 pub use Rattle.cdf_edits.specs.Edits.Edit.{Edit}
 pub use Rattle.cdf_edits.specs.Edits.ManyMarks.{freeing_marks}
-pub use Rattle.cdf_edits.specs.Edits.Marks.{Among, Avoids, Away, Mark, Within, avoided, keeps_file, mark, unmarked}
+pub use Rattle.cdf_edits.specs.Edits.Marks.{Avoids, Mark, Within, avoided, keeps_file, unmarked}
 pub use Rattle.cdf_edits.specs.Edits.Writes.{write}
 pub use Rattle.cdf_edits.specs.Index.Written.{last_node}
 pub use Rattle.cdf_edits.specs.Space.Acts.{Act, ActsFollow, gave, links_end, taken}
@@ -38,7 +38,7 @@ pub use Rattle.cdf_edits.specs.Space.Freeing.{AllGiven, AreFree}
 pub use Rattle.cdf_edits.specs.Space.VariableChains.{variables_chain}
 pub use Rattle.cdf_fields.proofs.Writes.{length-with_field}
 pub use Rattle.cdf_format.proofs.BytesLemmas.{number_kept, size_kept, type_kept, word_kept}
-pub use Rattle.cdf_format.proofs.ChainsLemmas.{is_a-type, linkable-from, linkable-in, linkable-type}
+pub use Rattle.cdf_format.proofs.ChainsLemmas.{is_a-type, linkable-from, linkable-type}
 pub use Rattle.cdf_format.proofs.GoodSound.{good_by_its_shape, good_is_sound}
 pub use Rattle.cdf_format.proofs.IndexLemmas.{nodes_stand}
 pub use Rattle.cdf_format.proofs.Members.{In-append, either, false-is_in, is_in-true, true-is_in}
