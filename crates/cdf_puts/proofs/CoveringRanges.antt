@@ -2,6 +2,7 @@
 use Rattle.std.proofs.Common.{◌≡◌, ◌⊎◌, ℕ, zero, suc, ◌+◌, ◌-◌, ◌<◌, ◌≤◌, List, [], ◌∷◌, ◌++◌, map, Bool, true, false, ltb, leb, min, max, Option, Some, None, refl, sym, ap, ◌∙◌, arith, inl, inr, ◌*◌, length, eqb, ap₂, subst}
 use Rattle.cdf_puts.proofs.Common.{le-leb, le-ltb, lt-leb, lt-ltb, same_Some, find, if◌then◌else◌, filter, fold, option_map, Variable, extent, record_number_limit, Nodes, no_node, node, Entries, no_entry, block, lower, Leaf, either, both, le_of, Range, range, covers, shared, block_count, next_first, new_range, Ascending, length-append, entry_count, widest, vxr_bytes, uncovered, blocks_room, packed_room, put_room, ranges_of, record_length, is_sparse, first_written, new_room, times_le, node_bytes, leaf, leaves_of, firsts_of, ranges_after_put, with_leaf, find_covering, covers_within, InOrder, leaves_more, new_last, block_bytes, Covering}
 use Rattle.std.proofs.lemmas.Bool.{leb-false}
+use Rattle.std.proofs.lemmas.Bool.Decides.{nat_tests}
 use Rattle.std.proofs.lemmas.List.Sums.{sum_by-cons}
 use Rattle.cdf_format.specs.Index.{leaves_of, entry_leaves}
 use Rattle.cdf_edits.specs.Index.Blocks.{cover, firsts_of, entry_firsts, covered, with_range}
@@ -74,21 +75,15 @@ some_or_none (Some x) = inl (x, refl)
 -- ---- the last record of a new block
 
 pub one_at_least : (v : Variable) → 1 ≤ block_count v
-one_at_least v = elim (either v.vary) [ inl t ↦ rw t (omega arith) | inr t ↦ rw t (omega arith) ]
+one_at_least v = grind arith
 
 pub least_past : (k i : ℕ) (fs : List ℕ) → k < i → k < fold min i (filter (ltb k) fs)
 least_past k i [] lt = lt
-least_past k i (f ∷ fs) lt = elim (either (ltb k f)) [
-  | inl t ↦ let g = lt_of k f t in rw t (least_past k (min i f) fs (omega arith))
-  | inr t ↦ rw t (least_past k i fs lt)
-]
+least_past k i (f ∷ fs) lt = grind (arith, nat_tests, least_past k (min i f) fs, least_past k i fs lt)
 
 pub least_upto : (k i : ℕ) (fs : List ℕ) → fold min i (filter (ltb k) fs) ≤ i
 least_upto k i [] = omega arith
-least_upto k i (f ∷ fs) = elim (either (ltb k f)) [
-  | inl t ↦ let r = least_upto k (min i f) fs in rw t (omega arith)
-  | inr t ↦ rw t (least_upto k i fs)
-]
+least_upto k i (f ∷ fs) = grind (arith, nat_tests, least_upto k (min i f) fs, least_upto k i fs)
 
 pub next_past : (k : ℕ) (fs : List ℕ) → k ≤ record_number_limit → k < next_first k fs
 next_past k fs le = least_past k (record_number_limit + 1) fs (omega arith)
@@ -115,13 +110,7 @@ pub record Ends (k next most last : ℕ) : Type 0 where
   pub no_more : last + 1 - k ≤ most
 
 pub ends : (v : Variable) (fs : List ℕ) (k : ℕ) → k ≤ record_number_limit → Ends k (next_first k fs) (block_count v) (new_range v fs k).last
-ends v fs k le =
-    let past = next_past k fs le in
-    let one = one_at_least v in
-    elim (either (ltb k (extent v.max_rec))) [
-      | inl t ↦ let e = one_alone v fs k t in record { ordered = omega arith; before_next = omega arith; no_more = omega arith }
-      | inr t ↦ let e = full_or_next v fs k t in record { ordered = omega arith; before_next = omega arith; no_more = omega arith }
-    ]
+ends v fs k le = let past = next_past k fs le in let one = one_at_least v in record { ordered = grind (arith, nat_tests); before_next = grind (arith, nat_tests); no_more = grind (arith, nat_tests) }
 
 -- ---- one record after the other
 
@@ -200,14 +189,7 @@ covered_more s n r rs = sum_by-cons (λ x. x) (shared s n r) (map (shared s n) r
 
 pub covered_with : (s n : ℕ) (new : Range) (rs : List Range) → covered s n (with_range new rs) ≡ shared s n new + covered s n rs
 covered_with s n new [] = covered_more s n new []
-covered_with s n new (r ∷ rs) = elim (either (ltb new.first r.first)) [
-  | inl t ↦ rw t (covered_more s n new (r ∷ rs))
-  | inr t ↦
-      let later = covered_with s n new rs in
-      let whole = covered_more s n r (with_range new rs) in
-      let old = covered_more s n r rs in
-      rw t (omega arith)
-]
+covered_with s n new (r ∷ rs) = grind (arith, covered_with s n new rs, covered_more s n new (r ∷ rs), covered_more s n r (with_range new rs), covered_more s n r rs)
 
 -- no more of the records from s to n than are there from `low` on
 pub covered_upto : (s n low upto : ℕ) (xs : List Leaf) → Ascending low upto xs → covered s n (of_leaves xs) ≤ (n + 1) - max s low
@@ -244,16 +226,11 @@ covered_less s n k low upto (x ∷ xs) a sk lk kn e =
 
 pub count_more : (k k' : ℕ) (fs : List ℕ) → k ≤ k' → count_upto k fs ≤ count_upto k' fs
 count_more k k' [] le = omega arith
-count_more k k' (f ∷ fs) le =
-    let r = count_more k k' fs le in
-    elim (either (leb f k)) [
-      | inl t ↦ let l = le_of f k t in rw (t, le-leb f k' (omega arith)) (omega arith)
-      | inr t ↦ elim (either (leb f k')) [ inl u ↦ rw (t, u) (omega arith) | inr u ↦ rw (t, u) r ]
-    ]
+count_more k k' (f ∷ fs) le = grind (arith, nat_tests, count_more k k' fs le)
 
 pub count_most : (k : ℕ) (fs : List ℕ) → count_upto k fs ≤ length fs
 count_most k [] = omega arith
-count_most k (f ∷ fs) = let r = count_most k fs in elim (either (leb f k)) [ inl t ↦ rw t (omega arith) | inr t ↦ rw t (omega arith) ]
+count_most k (f ∷ fs) = grind (arith, count_most k fs)
 
 -- where the least of some numbers past k is one of them, one more is passed by then
 one_passed : (k i : ℕ) (fs : List ℕ) → k < i → fold min i (filter (ltb k) fs) < i → suc (count_upto k fs) ≤ count_upto (fold min i (filter (ltb k) fs)) fs
