@@ -1,7 +1,7 @@
 -- Records that get a block one after the other: by their ranges, in the room of a put, which is enough for them, and in an index.
 use Rattle.std.proofs.Common.{◌≡◌, ◌⊎◌, ℕ, zero, suc, ◌+◌, ◌-◌, ◌<◌, ◌≤◌, List, [], ◌∷◌, ◌++◌, map, Bool, true, false, ltb, leb, min, max, Option, Some, None, refl, sym, ap, ◌∙◌, arith, inl, inr, ◌*◌, length, eqb, ap₂, subst}
-use Rattle.cdf_puts.proofs.Common.{le-leb, le-ltb, lt-leb, lt-ltb, same_Some, find, if◌then◌else◌, filter, fold, option_map, Variable, extent, record_number_limit, Nodes, no_node, node, Entries, no_entry, block, lower, Leaf, either, both, le_of, Range, range, covers, shared, block_count, next_first, new_range, Ascending, length-append, entry_count, widest, vxr_bytes, uncovered, blocks_room, packed_room, put_room, ranges_of, record_length, is_sparse, first_written, new_room, times_le, node_bytes, leaf, leaves_of, firsts_of, ranges_after_put, with_leaf, find_covering, covers_within, InOrder, leaves_more, new_last, block_bytes, Covering}
-use Rattle.std.proofs.lemmas.Bool.{leb-false}
+use Rattle.cdf_puts.proofs.Common.{le-ltb, lt-ltb, find, if◌then◌else◌, filter, fold, option_map, Variable, extent, record_number_limit, Nodes, no_node, node, Entries, no_entry, block, lower, Leaf, either, both, le_of, Range, range, covers, shared, block_count, next_first, new_range, Ascending, length-append, entry_count, widest, vxr_bytes, uncovered, blocks_room, packed_room, put_room, ranges_of, record_length, is_sparse, first_written, new_room, times_le, node_bytes, leaf, leaves_of, firsts_of, ranges_after_put, with_leaf, find_covering, covers_within, InOrder, leaves_more, new_last, block_bytes, Covering}
+use Rattle.std.proofs.lemmas.Bool.{cases_lt, leb-false}
 use Rattle.std.proofs.lemmas.Bool.Decides.{nat_tests}
 use Rattle.std.proofs.lemmas.List.Sums.{sum_by-cons}
 use Rattle.cdf_format.specs.Index.{leaves_of, entry_leaves}
@@ -60,10 +60,7 @@ no_range k leaves e = find_mapped (λ (leaf : Leaf). range leaf.first leaf.last)
 
 found_passes : {X : Type 0} (test : X → Bool) (xs : List X) (x : X) → find test xs ≡ Some x → test x ≡ true
 found_passes test [] x e = absurd (cc)
-found_passes test (y ∷ xs) x e = elim (either (test y)) [
-  | inl t ↦ let is : Some y ≡ Some x = rw t at e in ap test (sym (same_Some y x is)) ∙ t
-  | inr t ↦ let rest : find test xs ≡ Some x = rw t at e in found_passes test xs x rest
-]
+found_passes test (y ∷ xs) x e = grind (arith, found_passes test xs x)
 
 pub found_by : (k : ℕ) (rs : List Range) (r : Range) → find (covers k) rs ≡ Some r → k ≤ r.last
 found_by k rs r e = le_of k r.last (both (leb r.first k) (leb k r.last) (found_passes (covers k) rs r e)).1
@@ -138,19 +135,12 @@ module _ (v : Variable) (firsts : List ℕ) (n : ℕ) (small : n ≤ record_numb
   enough : (m m' k : ℕ) (rs : List Range) → n + 1 ≤ m + k → n + 1 ≤ m' + k → goes m k rs ≡ goes m' k rs
   enough zero m' k rs a c = end_step zero k rs (omega arith) ∙ sym (end_step m' k rs (omega arith))
   enough (suc m) zero k rs a c = end_step (suc m) k rs (omega arith) ∙ sym (end_step zero k rs (omega arith))
-  enough (suc m) (suc m') k rs a c = elim (either (leb k n)) [
-    | inl t ↦
-        let le = le_of k n t in
-        elim (some_or_none (find (covers k) rs)) [
-          | inl s ↦
-              let r = s.0 in
-              let on = found_by k rs s.0 s.1 in
-              found_step m k rs s.0 le s.1 ∙ enough m m' (s.0.last + 1) rs (omega arith) (omega arith) ∙ sym (found_step m' k rs s.0 le s.1)
-          | inr e ↦
-              let on = (ends v firsts k (omega arith)).ordered in
-              vacant_step m k rs le e ∙ enough m m' (last_of k + 1) (with_range (new_range v firsts k) rs) (omega arith) (omega arith) ∙ sym (vacant_step m' k rs le e)
-        ]
-    | inr t ↦ let gt = leb-false k n t in end_step (suc m) k rs (omega arith) ∙ sym (end_step (suc m') k rs (omega arith))
+  enough (suc m) (suc m') k rs a c = elim (cases_lt n k) [
+    | inl gt ↦ end_step (suc m) k rs (omega arith) ∙ sym (end_step (suc m') k rs (omega arith))
+    | inr le ↦ elim (some_or_none (find (covers k) rs)) [
+      | inl s ↦ let on = found_by k rs s.0 s.1 in found_step m k rs s.0 le s.1 ∙ enough m m' (s.0.last + 1) rs (omega arith) (omega arith) ∙ sym (found_step m' k rs s.0 le s.1)
+      | inr e ↦ let on = (ends v firsts k (omega arith)).ordered in vacant_step m k rs le e ∙ enough m m' (last_of k + 1) (with_range (new_range v firsts k) rs) (omega arith) (omega arith) ∙ sym (vacant_step m' k rs le e)
+    ]
   ]
 
   -- from a record that has a block on to the next
@@ -204,23 +194,7 @@ covered_upto s n low upto (x ∷ xs) a =
 -- and one less where one of them is not covered
 pub covered_less : (s n k low upto : ℕ) (xs : List Leaf) → Ascending low upto xs → s ≤ k → low ≤ k → k ≤ n → find (covers k) (of_leaves xs) ≡ None → covered s n (of_leaves xs) + 1 ≤ (n + 1) - max s low
 covered_less s n k low upto [] a sk lk kn e = omega arith
-covered_less s n k low upto (x ∷ xs) a sk lk kn e =
-    let whole = covered_more s n (range x.first x.last) (of_leaves xs) in
-    let from = a.0 in
-    let ordered = a.1 in
-    elim (either (ltb k x.first)) [
-      | inl t ↦ let lt = lt_of k x.first t in let rest = covered_upto s n (suc x.last) upto xs a.3 in omega arith
-      | inr t ↦
-          let ge = ge_of k x.first t in
-          elim (either (ltb x.last k)) [
-            | inl u ↦
-                let lt = lt_of x.last k u in
-                let left : find (covers k) (of_leaves xs) ≡ None = rw (le-leb x.first k ge, lt-leb k x.last lt) at e in
-                let rest = covered_less s n k (suc x.last) upto xs a.3 sk lt kn left in
-                omega arith
-            | inr u ↦ let le = ge_of x.last k u in let found : Some (range x.first x.last) ≡ None = rw (le-leb x.first k ge, le-leb k x.last le) at e in absurd (cc)
-          ]
-    ]
+covered_less s n k low upto (x ∷ xs) a sk lk kn e = grind (arith, nat_tests, covered_upto s n (suc x.last) upto xs a.3, covered_less s n k (suc x.last) upto xs a.3 sk, covered_more s n (range x.first x.last) (of_leaves xs), a.0, a.1)
 
 -- ---- the Firsts that are passed
 
@@ -235,26 +209,7 @@ count_most k (f ∷ fs) = grind (arith, count_most k fs)
 -- where the least of some numbers past k is one of them, one more is passed by then
 one_passed : (k i : ℕ) (fs : List ℕ) → k < i → fold min i (filter (ltb k) fs) < i → suc (count_upto k fs) ≤ count_upto (fold min i (filter (ltb k) fs)) fs
 one_passed k i [] lt less = absurd (omega arith)
-one_passed k i (f ∷ fs) lt less = elim (either (ltb k f)) [
-  | inl t ↦
-      let least = fold min (min i f) (filter (ltb k) fs) in
-      let is : fold min i (filter (ltb k) (f ∷ fs)) ≡ least = rw t refl in
-      let past = lt_of k f t in
-      let above = least_past k (min i f) fs (omega arith) in
-      let within = least_upto k (min i f) fs in
-      let small : least < i = subst (λ (x : ℕ). x < i) is less in
-      subst (λ (x : ℕ). suc (count_upto k (f ∷ fs)) ≤ count_upto x (f ∷ fs)) (sym is) (rw (lt-leb f k past) (elim (either (leb f least)) [
-        | inl u ↦ let r = count_more k least fs (omega arith) in rw u (omega arith)
-        | inr u ↦ let gt = leb-false f least u in rw u (one_passed k (min i f) fs (omega arith) (omega arith))
-      ]))
-  | inr t ↦
-      let least = fold min i (filter (ltb k) fs) in
-      let is : fold min i (filter (ltb k) (f ∷ fs)) ≡ least = rw t refl in
-      let by = ge_of k f t in
-      let far = least_past k i fs lt in
-      let more = one_passed k i fs lt (subst (λ (x : ℕ). x < i) is less) in
-      subst (λ (x : ℕ). suc (count_upto k (f ∷ fs)) ≤ count_upto x (f ∷ fs)) (sym is) (rw (le-leb f k by, le-leb f least (omega arith)) (omega arith))
-]
+one_passed k i (f ∷ fs) lt less = grind (arith, nat_tests, one_passed k (min i f) fs, one_passed k i fs lt, least_past k (min i f) fs, least_past k i fs lt, least_upto k (min i f) fs, count_more k (fold min (min i f) (filter (ltb k) fs)) fs)
 
 pub next_passed : (k : ℕ) (fs : List ℕ) → k ≤ record_number_limit → next_first k fs ≤ record_number_limit → suc (count_upto k fs) ≤ count_upto (next_first k fs) fs
 next_passed k fs le small = one_passed k (record_number_limit + 1) fs (omega arith) (omega arith)
@@ -447,26 +402,13 @@ module _ (v : Variable) (index : Nodes) (n : ℕ) (rule : is_sparse v.sparse ≡
 
         -- the new block is full, or one more First is passed
         full_or_passed : last + 1 ≤ n → (last + 1 - k ≡ block_count v) ⊎ (suc (count_upto k (firsts_of index)) ≤ count_upto (last + 1) (firsts_of index))
-        full_or_passed more = elim (either (ltb k (extent v.max_rec))) [
-          | inl t ↦
-              let alone = one_alone v (firsts_of index') k t in
-              let lt = lt_of k (extent v.max_rec) t in
-              let first = first_written_is in
-              let from = c.from in
-              absurd (omega arith)
-          | inr t ↦
-              let end = full_or_next v (firsts_of index') k t in
-              let past = next_past k (firsts_of index') (omega arith) in
-              let one = one_at_least v in
-              let same = c.nexts k (omega arith) in
-              elim (either (ltb (next_first k (firsts_of index')) (k + block_count v))) [
-                | inl u ↦
-                    let l = lt_of (next_first k (firsts_of index')) (k + block_count v) u in
-                    let next : last + 1 ≡ next_first k (firsts_of index) = omega arith in
-                    inr (subst (λ (m : ℕ). suc (count_upto k (firsts_of index)) ≤ count_upto m (firsts_of index)) (sym next) (next_passed k (firsts_of index) (omega arith) (omega arith)))
-                | inr u ↦ let g = ge_of (next_first k (firsts_of index')) (k + block_count v) u in inl (omega arith)
-              ]
-        ]
+        full_or_passed more =
+            let first = first_written_is in
+            let from = c.from in
+            let past = next_past k (firsts_of index') (omega arith) in
+            let one = one_at_least v in
+            let same = c.nexts k (omega arith) in
+            grind (arith, nat_tests, next_passed k (firsts_of index))
 
         records' : last + 1 ≤ n → covered (first_written v n) n (ranges_of (with_leaf new at index')) ≡ covered (first_written v n) n (ranges_of index) + (so_far.records + (last + 1 - k))
         records' more =

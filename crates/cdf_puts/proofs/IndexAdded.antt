@@ -1,6 +1,7 @@
 -- A leaf is added while records are put: the blocks of the variable, which leaves were put by then, which ranges are new, the top chain and the nodes.
 use Rattle.std.proofs.Common.{◌≡◌, ◌⊎◌, ℕ, zero, suc, ◌+◌, ◌-◌, ◌*◌, ◌<◌, ◌≤◌, List, [], ◌∷◌, ◌++◌, length, take, drop, Bool, true, false, Some, None, find, ◌||◌, refl, sym, ap, subst, ◌∙◌, arith, inl, inr, map, not, bytes_eq}
-use Rattle.cdf_puts.proofs.Common.{length-append, cases_lt, lt-ltb, same_Some, min, extent, record_number_limit, Kind, range, covers, first_written, firsts_of, new_range, with_leaf, new_room, is_taken_at, Act, IsOneOf, find_covering, place_in, plain_piece, count_is, own_rules, leaves_ascend, block_behind, StandsAmong, sound, behind_in, apart, Same, variable_of, plain_bytes, size_at, Leaf, leaf, leaves_of, uir_type, vvr_type, VariableShape, shape, In, max_rec_at, record_bytes, Good, tile_lies, LeafAdded, leaf_acts, InOrder, BlockRecords, SoFar, BlocksSoFar, OldBlock, NewBlock, IsVacant, IsBlockBody, BlocksGoOn, index_order, before_limit, vdr_alike, record_alike, lt-leb, map-append, filter, list_any, unwrap_or, nat_le, if◌then◌else◌, new_ranges, Range, ranges_of, with_ranges, indexes_with, outline, block_need, uses_entry, NodesFollow, top_chain, last_node, in_order, Ascending, has, number, nodes_of, vdr_vxr_tail, records_of_leaf, either, bytes_eq-same, NodeTaken, with_new, leaves_more, IndexSoFar, NodesSoFar, PutsBefore, was_put}
+use Rattle.cdf_puts.proofs.Common.{length-append, cases_lt, lt-ltb, same_Some, min, extent, record_number_limit, Kind, range, covers, first_written, firsts_of, new_range, with_leaf, new_room, is_taken_at, Act, IsOneOf, find_covering, place_in, plain_piece, count_is, own_rules, leaves_ascend, block_behind, StandsAmong, sound, behind_in, apart, Same, variable_of, plain_bytes, size_at, Leaf, leaf, leaves_of, uir_type, vvr_type, VariableShape, shape, In, max_rec_at, record_bytes, Good, tile_lies, LeafAdded, leaf_acts, InOrder, BlockRecords, SoFar, BlocksSoFar, OldBlock, NewBlock, IsVacant, IsBlockBody, BlocksGoOn, index_order, before_limit, vdr_alike, record_alike, map-append, filter, list_any, unwrap_or, if◌then◌else◌, new_ranges, Range, ranges_of, with_ranges, indexes_with, outline, block_need, uses_entry, NodesFollow, top_chain, last_node, in_order, Ascending, has, number, nodes_of, vdr_vxr_tail, records_of_leaf, either, bytes_eq-same, NodeTaken, with_new, leaves_more, IndexSoFar, NodesSoFar, PutsBefore, was_put}
+use Rattle.std.proofs.lemmas.Bool.Decides.{nat_tests}
 use Rattle.cdf_edits.proofs.Edits.LeafPieces.{of_each}
 use Rattle.cdf_puts.proofs.CoveringRanges.{one_alone, of_leaves}
 use Rattle.cdf_puts.proofs.LeafCounts.{leaf_added, leaf_stays, leaf_was_there}
@@ -17,13 +18,11 @@ use Rattle.cdf_puts.proofs.SoFarStarts.{one_more, put_new, none_begins, puts_new
 
 filter_mapped : {X Y : Type 0} (f : X → Y) (test : Y → Bool) (xs : List X) → filter test (map f xs) ≡ map f (filter (λ x. test (f x)) xs)
 filter_mapped f test [] = refl
-filter_mapped f test (x ∷ xs) = elim (either (test (f x))) [ inl t ↦ rw t (ap (λ ys. f x ∷ ys) (filter_mapped f test xs)) | inr t ↦ rw t (filter_mapped f test xs) ]
+filter_mapped f test (x ∷ xs) = grind (arith, filter_mapped f test xs)
 
 none_covers : (k : ℕ) (leaves : List Leaf) → ((l : Leaf) → IsOneOf leaves l → (l.last < k) ⊎ (k < l.first)) → list_any (covers k) (of_leaves leaves) ≡ false
 none_covers k [] f = refl
-none_covers k (x ∷ more) f =
-    let rest = none_covers k more (λ l i. f l (inr i)) in
-    elim (f x (inl refl)) [ inl lt ↦ elim (either (nat_le x.first k)) [ inl t ↦ rw (t, lt-leb k x.last lt) rest | inr t ↦ rw t rest ] | inr lt ↦ rw (lt-leb x.first k lt) rest ]
+none_covers k (x ∷ more) f = grind (arith, nat_tests, none_covers k more (λ l i. f l (inr i)), f x (inl refl))
 
 -- ---- the top chain
 

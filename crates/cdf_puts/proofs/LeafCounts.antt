@@ -92,24 +92,14 @@ next_firsts_with_leaf new at index n le = ap (fold min (record_number_limit + 1)
 
 places_new : (m : ℕ) (l : Leaf) (xs : List Leaf) → times m (places_of (with_new l xs)) ≡ times m (places_of xs) + times m (l.place ∷ [])
 places_new m l [] = omega arith
-places_new m l (x ∷ xs) = elim (either (ltb l.first x.first)) [
-  | inl t ↦ let whole = times-append m (l.place ∷ []) (places_of (x ∷ xs)) in rw t (omega arith)
-  | inr t ↦
-      let old = times-append m (x.place ∷ []) (places_of xs) in
-      let whole = times-append m (x.place ∷ []) (places_of (with_new l xs)) in
-      let rest = places_new m l xs in
-      rw t (omega arith)
-]
+places_new m l (x ∷ xs) = grind (arith, times-append m (l.place ∷ []) (places_of (x ∷ xs)), times-append m (x.place ∷ []) (places_of xs), times-append m (x.place ∷ []) (places_of (with_new l xs)), places_new m l xs)
 
 pub places_with_leaf : (new : Leaf) (at low high : ℕ) (index : Nodes) → InOrder low high index → (m : ℕ) → times m (places_of (leaves_of (with_leaf new at index))) ≡ times m (places_of (leaves_of index)) + times m (new.place ∷ [])
 places_with_leaf new at low high index o m = ap (λ (xs : List Leaf). times m (places_of xs)) (leaves_more new at low high index o) ∙ places_new m new (leaves_of index)
 
 old_new : (l x : Leaf) (xs : List Leaf) → IsOneOf xs x → IsOneOf (with_new l xs) x
 old_new l x [] i = absurd i
-old_new l x (y ∷ ys) i = elim (either (ltb l.first y.first)) [
-  | inl t ↦ rw t (inr i)
-  | inr t ↦ rw t (elim i [ inl e ↦ inl e | inr j ↦ inr (old_new l x ys j) ])
-]
+old_new l x (y ∷ ys) i = grind (arith, old_new l x ys)
 
 new_new : (l : Leaf) (xs : List Leaf) → IsOneOf (with_new l xs) l
 new_new l [] = inl refl
@@ -117,10 +107,7 @@ new_new l (y ∷ ys) = elim (either (ltb l.first y.first)) [ inl t ↦ rw t (inl
 
 one_new : (l x : Leaf) (xs : List Leaf) → IsOneOf (with_new l xs) x → (x ≡ l) ⊎ IsOneOf xs x
 one_new l x [] i = elim i [ inl e ↦ inl (sym e) | inr j ↦ absurd j ]
-one_new l x (y ∷ ys) i = elim (either (ltb l.first y.first)) [
-  | inl t ↦ let here : IsOneOf (l ∷ y ∷ ys) x = rw t at i in elim here [ inl e ↦ inl (sym e) | inr j ↦ inr j ]
-  | inr t ↦ let here : IsOneOf (y ∷ with_new l ys) x = rw t at i in elim here [ inl e ↦ inr (inl e) | inr j ↦ elim (one_new l x ys j) [ inl e ↦ inl e | inr k ↦ inr (inr k) ] ]
-]
+one_new l x (y ∷ ys) i = grind (arith, one_new l x ys)
 
 pub leaf_stays : (new : Leaf) (at low high : ℕ) (index : Nodes) → InOrder low high index → (l : Leaf) → IsOneOf (leaves_of index) l → IsOneOf (leaves_of (with_leaf new at index)) l
 leaf_stays new at low high index o l i = rw (leaves_more new at low high index o) (old_new new l (leaves_of index) i)
