@@ -20,7 +20,6 @@ pub use Rattle.cdf_edits.proofs.Edits.StepEdits.{gdr_typed}
 pub use Rattle.cdf_edits.proofs.Edits.VariableCopied.{block_behind, node_behind}
 pub use Rattle.cdf_edits.proofs.Frame.LinksStay.{SameHeads, node_fits_kept}
 pub use Rattle.cdf_edits.proofs.Frame.Meaning.{FileSame, Kept}
-pub use Rattle.cdf_edits.proofs.Frame.OwnerAlone.{Each-in}
 pub use Rattle.cdf_edits.proofs.Frame.OwnersApart.{all_variable_records, times-append, times-in}
 pub use Rattle.cdf_edits.proofs.Frame.VdrStays.{VdrStays, stays_alike}
 pub use Rattle.cdf_edits.proofs.Space.UsedRecords.{apart}
