@@ -37,4 +37,5 @@ pub mod FieldSet
 pub mod ByLeaf
 pub mod OwnRecords
 pub mod NewIndex
+pub mod LeavesAscend
 pub mod EntriesLeft

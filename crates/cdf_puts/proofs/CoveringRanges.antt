@@ -1,14 +1,14 @@
 -- Records that get a block one after the other: by their ranges, in the room of a put, which is enough for them, and in an index.
-use Rattle.std.proofs.Common.{◌≡◌, ◌⊎◌, ℕ, zero, suc, ◌+◌, ◌-◌, ◌<◌, ◌≤◌, List, [], ◌∷◌, ◌++◌, map, Bool, true, false, ltb, leb, min, max, Option, Some, None, refl, sym, ap, ◌∙◌, arith, inl, inr, ◌*◌, length, eqb, ap₂, subst}
+use Rattle.std.proofs.Common.{◌≡◌, ◌⊎◌, ℕ, zero, suc, ◌+◌, ◌-◌, ◌<◌, ◌≤◌, List, [], ◌∷◌, map, Bool, true, false, ltb, leb, min, max, Option, Some, None, refl, sym, ap, ◌∙◌, arith, inl, inr, ◌*◌, length, eqb, ap₂, subst}
 use Rattle.cdf_puts.proofs.Common.{le-ltb, lt-ltb, find, if◌then◌else◌, filter, fold, option_map, Variable, extent, record_number_limit, Nodes, no_node, node, Entries, no_entry, block, lower, Leaf, either, both, le_of, Range, range, covers, shared, block_count, next_first, new_range, Ascending, length-append, entry_count, widest, vxr_bytes, uncovered, blocks_room, packed_room, put_room, ranges_of, record_length, is_sparse, first_written, new_room, times_le, node_bytes, leaf, leaves_of, firsts_of, ranges_after_put, with_leaf, find_covering, covers_within, InOrder, leaves_more, new_last, block_bytes, Covering}
 use Rattle.std.proofs.lemmas.Bool.{cases_lt, leb-false}
 use Rattle.std.proofs.lemmas.Bool.Decides.{nat_tests}
 use Rattle.std.proofs.lemmas.List.Sums.{sum_by-cons}
-use Rattle.cdf_format.specs.Index.{leaves_of, entry_leaves}
+use Rattle.cdf_format.specs.Index.{leaves_of}
 use Rattle.cdf_edits.specs.Index.Blocks.{cover, firsts_of, entry_firsts, covered, with_range}
-use Rattle.cdf_edits.proofs.Edits.LeavesOrder.{ascending_from, ascending_both}
-use Rattle.cdf_index.specs.Order.{InOrder, AreInOrder, past_entries}
-use Rattle.cdf_index.proofs.OrderLemmas.{end_after, ge_of, lt_of}
+use Rattle.cdf_index.proofs.LeavesAscend.{leaves_ascend}
+use Rattle.cdf_index.specs.Order.{InOrder}
+use Rattle.cdf_index.proofs.OrderLemmas.{ge_of, lt_of}
 use Rattle.std.proofs.Math.Nat.{le-div_iff_mul-le}
 use Rattle.cdf_edits.specs.Commands.Room.{entries_in, entries_below, quotient_up}
 use Rattle.cdf_edits.proofs.Edits.LeafPieces.{found_in}
@@ -19,32 +19,6 @@ use Rattle.cdf_index.proofs.LeafRules.{order_with_leaf}
 
 abbrev pub of_leaves : List Leaf → List Range
 of_leaves leaves = map (λ (leaf : Leaf). range leaf.first leaf.last) leaves
-
--- ---- the leaves of an index in order
-
-end_before : (low high : ℕ) (entries : Entries) → AreInOrder low high entries → low ≤ suc high → past_entries low entries ≤ suc high
-unfolding AreInOrder
-end_before low high no_entry o le = le
-end_before low high (block first last place packed entries) o le = let l = o.2 in end_before (suc last) high entries o.3 (omega arith)
-end_before low high (lower first last nodes entries) o le = let l = o.2 in end_before (suc last) high entries o.4 (omega arith)
-
-mutual
-  unfolding InOrder AreInOrder leaves_of entry_leaves
-
-  pub leaves_ascend : (low high : ℕ) (nodes : Nodes) → InOrder low high nodes → low ≤ suc high → Ascending low (suc high) (leaves_of nodes)
-  leaves_ascend low high no_node o le = tt
-  leaves_ascend low high (node place room entries more) o le =
-      let b = end_before low high entries o.0 le in
-      ascending_both low (past_entries low entries) (suc high) (entry_leaves entries) (leaves_of more) (entries_ascend low high entries o.0) (leaves_ascend (past_entries low entries) high more o.1 b) (end_after low high entries o.0) b
-
-  entries_ascend : (low high : ℕ) (entries : Entries) → AreInOrder low high entries → Ascending low (past_entries low entries) (entry_leaves entries)
-  entries_ascend low high no_entry o = tt
-  entries_ascend low high (block first last place packed entries) o = (o.0, o.1, end_after (suc last) high entries o.3, entries_ascend (suc last) high entries o.3)
-  entries_ascend low high (lower first last nodes entries) o =
-      let l = o.1 in
-      let upto = past_entries (suc last) entries in
-      let inner = leaves_ascend first last nodes o.3 (omega arith) in
-      ascending_from first low upto (leaves_of nodes ++ entry_leaves entries) o.0 (ascending_both first (suc last) upto (leaves_of nodes) (entry_leaves entries) inner (entries_ascend (suc last) high entries o.4) (omega arith) (end_after (suc last) high entries o.4))
 
 -- ---- found by a record
 
