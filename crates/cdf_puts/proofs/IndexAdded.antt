@@ -33,10 +33,7 @@ tail_then : (x y z : List ℕ) (first mid last : ℕ) → (y ≡ x) ⊎ (length 
 tail_then x y z first mid last (inl e) g p q =
     let same : mid ≡ first = p ∙ ap (λ (c : Bool). if c then first else last_of y) (ap (bytes_eq x) e ∙ bytes_eq-same x) in
     q ∙ (λ i. if bytes_eq (e i) z then same i else last_of z)
-tail_then x y z first mid last (inr lt) (inl f) p q =
-    let same = ap length f in
-    rw (bytes_longer x z (omega arith))
-    (q ∙ ap (λ (c : Bool). if c then mid else last_of z) (ap (bytes_eq y) f ∙ bytes_eq-same y) ∙ p ∙ ap (λ (c : Bool). if c then first else last_of y) (bytes_longer x y lt) ∙ ap last_of (sym f))
+tail_then x y z first mid last (inr lt) (inl f) p q = grind (arith, bytes_longer x y lt, bytes_longer x z (omega (arith, ap length f)), bytes_eq-same y)
 tail_then x y z first mid last (inr lt) (inr lt') p q = rw (bytes_longer x z (omega arith)) (q ∙ ap (λ (c : Bool). if c then mid else last_of z) (bytes_longer y z lt'))
 
 top_then : (x y z : List ℕ) → (y ≡ x) ⊎ (length x < length y) → (z ≡ y) ⊎ (length y < length z) → (z ≡ x) ⊎ (length x < length z)

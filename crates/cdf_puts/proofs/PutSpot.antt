@@ -1,6 +1,6 @@
 -- Where the next record is put: the records of a new block, each step by which records are put, and what an image says of a variable of which some records are put.
 use Rattle.std.proofs.Common.{◌≡◌, ℕ, zero, suc, ◌+◌, ◌-◌, ◌*◌, ◌<◌, ◌≤◌, List, ◌++◌, append_assoc, append-nil, length, take, drop, max, sym, ap, subst, ◌∙◌, arith, inl, inr, [], ◌∷◌, false, refl, min, Some, None, ltb}
-use Rattle.cdf_puts.proofs.Common.{length-append, take_at, drop_at, drop-drop, ◌==◌, IsBody, uir_type, vvr_type, is_record_type, fixed_size, either, records_put, BlockRecords, record_of, IsBlockBody, ne_eqb, min, max, if◌then◌else◌, image_limit, Kind, vxr_bytes, firsts_of, new_range, first_written, is_sparse, with_leaf, new_room, Act, variable_of, number, with_sign, Nodes, leaf, vdr_max_rec, VariableShape, Each, shape, record_bytes, max_rec_at, LeafAdded, leaf_acts, own_rules, has, fits, Covering, block_bytes, node_bytes, GoesOn, PutStart, SoFar, IsTaking, taken_bytes, RecordsWritten, IsVacant, index_order, find, widest, range, covers, next_first, block_count, record_length, times_le, StandsAmong, long, tile, leaves_of, vdr_vxr_head, variables, vdrs, IsSound, In, sparse_at, Good, good_by_its_shape, good_is_sound, tile_lies, NodeTaken, HasIndex, index_at, leaf_of, Variable, extent, record_number_limit, new_last, IsPut, SomePut, last_in_new}
+use Rattle.cdf_puts.proofs.Common.{length-append, take_at, drop_at, drop-drop, ◌==◌, IsBody, uir_type, vvr_type, is_record_type, fixed_size, either, records_put, BlockRecords, record_of, IsBlockBody, min, max, if◌then◌else◌, image_limit, Kind, vxr_bytes, firsts_of, new_range, first_written, is_sparse, with_leaf, new_room, Act, variable_of, number, with_sign, Nodes, leaf, vdr_max_rec, VariableShape, Each, shape, record_bytes, max_rec_at, LeafAdded, leaf_acts, own_rules, has, fits, Covering, block_bytes, node_bytes, GoesOn, PutStart, SoFar, IsTaking, taken_bytes, RecordsWritten, IsVacant, index_order, find, widest, range, covers, next_first, block_count, record_length, times_le, StandsAmong, long, tile, leaves_of, vdr_vxr_head, variables, vdrs, IsSound, In, sparse_at, Good, good_by_its_shape, good_is_sound, tile_lies, NodeTaken, HasIndex, index_at, leaf_of, Variable, extent, record_number_limit, new_last, IsPut, SomePut, last_in_new}
 use Rattle.cdf_puts.proofs.LeafGood.{plain_body, leaf_goes_on, leaf_max_rec, size_needed}
 use Rattle.cdf_puts.proofs.CoveringRanges.{covering_starts, covering_has, covering_leaf, covering_room, covering_vacant, one_at_least}
 use Rattle.cdf_puts.proofs.GoesThen.{later_size, later_packed, goes_nowhere, goes_then}
@@ -101,7 +101,7 @@ leaf_bytes place need k at index = by (new_room k index)
   where
     by : (room : ℕ) → taken_bytes (leaf_acts place need room at) ≡ need + (if room == 0 then 0 else vxr_bytes room)
     by zero = omega arith
-    by (suc room) = rw (ne_eqb (suc room) 0 (λ e. absurd (omega arith))) (omega arith)
+    by (suc room) = grind arith
 
 takes_both : (acts acts' : List Act) → Each IsTaking acts → Each IsTaking acts' → Each IsTaking (acts ++ acts')
 takes_both [] acts' t u = u
