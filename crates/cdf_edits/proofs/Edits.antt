@@ -91,3 +91,4 @@ pub mod LeftOwners
 pub mod RowsOneLess
 pub mod LeftChain
 pub mod NumbersBehind
+pub mod TakenAll

@@ -1,19 +1,15 @@
 -- Where the entries of a node are cut in two: those before a record, and the others.
 use Rattle.std.proofs.Common.{◌≡◌, ℕ, zero, suc, ◌+◌, ◌*◌, ◌<◌, ◌≤◌, List, true, false, ltb, if◌then◌else◌, refl, ap, subst, ◌∙◌, arith, inl, inr}
-use Rattle.cdf_index.proofs.Common.{nat_tests, word, Entries, no_entry, block, lower, entry_count, room_at, used_count, last_at, SayEntries, either, Begun, in_column, Ascends, passed}
+use Rattle.cdf_index.proofs.Common.{nat_tests, word, Entries, no_entry, block, lower, entry_count, room_at, used_count, last_at, SayEntries, Begun, in_column, Ascends, passed}
 use Rattle.cdf_index.specs.Finding.{IsCut}
-use Rattle.cdf_index.proofs.OrderLemmas.{lt_of, ge_of}
+use Rattle.std.proofs.lemmas.Bool.{cases_lt}
 
 -- a number of a column is at most a later one
 pub climbs : (b : List ℕ) (at field used : ℕ) → Ascends b at field used → (i j : ℕ) → i ≤ j → j < used → in_column b at field i ≤ in_column b at field j
 climbs b at field used a i zero le lt = let e : i ≡ 0 = omega arith in rw e (omega arith)
-climbs b at field used a i (suc j) le lt = elim (either (ltb j i)) [
-  | inl t ↦ let more = lt_of j i t in let e : i ≡ suc j = omega arith in rw e (omega arith)
-  | inr t ↦
-      let r = climbs b at field used a i j (ge_of j i t) (omega arith) in
-      let z : j + 1 ≡ suc j = omega arith in
-      let step : in_column b at field j ≤ in_column b at field (suc j) = rw z at (a j (omega arith)) in
-      omega arith
+climbs b at field used a i (suc j) le lt = elim (cases_lt j i) [
+  | inl more ↦ let e : i ≡ suc j = omega arith in rw e (omega arith)
+  | inr less ↦ let z : j + 1 ≡ suc j = omega arith in omega (arith, climbs b at field used a i j less (omega arith), rw z at (a j (omega arith)))
 ]
 
 -- what the code read

@@ -1,6 +1,6 @@
 -- The index of a variable of a good image is one that can be searched.
-use Rattle.std.proofs.Common.{◌≡◌, ℕ, ℤ, pos, negsuc, zero, suc, List, [], ◌∷◌, ◌++◌, length, not, ◌&&◌, eqb, refl, sym, ap, subst, ◌∙◌, inl, inr}
-use Rattle.cdf_index.proofs.Common.{flat_map, record_number_limit, is_in, is_linkable, with_sign, number, IsGoodImage, Nodes, no_node, node, Entries, no_entry, block, lower, Leaf, nodes_of, leaves_of, end_of, is_block, leaf_rows, vxr_type, Hold, VariableShape, Shape, variables, Each, HasVariable, NodeFits, LeafFits, VariableFits, IsSound, AreTiles, tiles, number_before, either, Hold-split, Each-split, tiles_are, before_number, index_at, IsBlock, HasIndex, past_entries}
+use Rattle.std.proofs.Common.{arith, ◌≡◌, ℕ, ℤ, pos, negsuc, zero, suc, List, [], ◌∷◌, ◌++◌, length, refl, sym, ap, subst, ◌∙◌}
+use Rattle.cdf_index.proofs.Common.{flat_map, record_number_limit, with_sign, number, IsGoodImage, Nodes, no_node, node, Entries, no_entry, block, lower, Leaf, nodes_of, leaves_of, end_of, is_block, leaf_rows, Hold, VariableShape, Shape, variables, Each, HasVariable, NodeFits, LeafFits, VariableFits, IsSound, AreTiles, tiles, number_before, Hold-split, Each-split, tiles_are, before_number, index_at, IsBlock, HasIndex, past_entries}
 use Rattle.cdf_format.specs.IndexOf.{IsIndex}
 use Rattle.cdf_format.specs.IndexRules.{nodes_rows, used_rows, index_rows, met_rows, phase8}
 use Rattle.cdf_format.specs.IndexWalk.{Met, met, lost, nodes_met, nodes_on, levels_on}
@@ -55,12 +55,8 @@ never_lost {A} place seen a e = subst is_lost e tt
 -- the record that holds the link matters only where the walk leads wrong
 any_holder : (below : List ℕ → ℕ → ℕ → Met Nodes) (most : ℕ) (b ts seen : List ℕ) (holder other link : ℕ) (all : List ℕ) (nodes : Nodes) → nodes_on below most b ts seen holder link ≡ met all nodes → nodes_on below most b ts seen other link ≡ met all nodes
 unfolding nodes_on
-any_holder below zero b ts seen holder other link all nodes e = elim (either (eqb link 0)) [ inl t ↦ rw t (rw t at e) | inr t ↦ absurd (never_lost holder all nodes (rw t at e)) ]
-any_holder below (suc most) b ts seen holder other link all nodes e =
-    elim (either (eqb link 0)) [
-      | inl t ↦ rw t (rw t at e)
-      | inr t ↦ elim (either (is_linkable b ts vxr_type link && not (is_in link seen))) [ inl u ↦ rw (t, u) (rw (t, u) at e) | inr u ↦ absurd (never_lost holder all nodes (rw (t, u) at e)) ]
-    ]
+any_holder below zero b ts seen holder other link all nodes e = grind (arith, never_lost holder all nodes)
+any_holder below (suc most) b ts seen holder other link all nodes e = grind (arith, never_lost holder all nodes)
 
 index_at_is : (b : List ℕ) (upto vdr : ℕ) (nodes : Nodes) → AreTiles b 8 upto (tiles b) → IsIndex b (tiles b) (number b vdr vdr_vxr_head) nodes → index_at b (number b vdr vdr_vxr_head) ≡ nodes
 unfolding levels_on

@@ -1,14 +1,14 @@
 -- The leaves of an index with one leaf more.
-use Rattle.std.proofs.Common.{◌≡◌, ℕ, suc, ◌<◌, ◌≤◌, List, [], ◌∷◌, ◌++◌, map, Bool, true, false, ltb, leb, eqb, append_assoc, refl, sym, ap, ◌∙◌, arith, inl, inr, true≢false, subst}
-use Rattle.cdf_index.proofs.Common.{nat_tests, range, reaches, chain_reaches, leads_down, upto, past, with_both, with_entry, Nodes, no_node, node, Entries, no_entry, block, lower, Leaf, entry_count, either, past_entries, Each, Each-append}
-use Rattle.cdf_edits.specs.Index.Blocks.{Range, with_range}
+use Rattle.std.proofs.Common.{◌≡◌, ℕ, suc, ◌<◌, ◌≤◌, List, [], ◌∷◌, ◌++◌, map, Bool, true, false, leb, append_assoc, refl, sym, ap, ◌∙◌, arith, inl, inr, true≢false, subst}
+use Rattle.cdf_index.proofs.Common.{nat_tests, range, reaches, chain_reaches, leads_down, upto, past, with_both, with_entry, Nodes, no_node, node, Entries, no_entry, block, lower, Leaf, either, past_entries, Each, Each-append}
+use Rattle.cdf_edits.specs.Index.Blocks.{with_range}
 use Rattle.cdf_edits.specs.Index.Grown.{with_block, with_leaf, with_lower}
 use Rattle.cdf_format.specs.Index.{leaves_of, entry_leaves}
 use Rattle.cdf_index.specs.Growing.{with_new}
 use Rattle.cdf_index.specs.Order.{InOrder, AreInOrder}
 use Rattle.cdf_index.proofs.OrderLemmas.{Within, leaves_within, end_after, InRange}
 use Rattle.cdf_index.proofs.Saying.{front, front_past, upto_both, both_none, no_entries}
-use Rattle.std.proofs.lemmas.Bool.{or_from, or_parts, lt-leb, le-leb, le-ltb, leb-true, leb-false, eqb-true, cases_lt}
+use Rattle.std.proofs.lemmas.Bool.{or_from, or_parts, lt-leb, le-leb, le-ltb, leb-true, leb-false, cases_lt}
 use Rattle.cdf_edits.proofs.Edits.VariableFrame.{Each-map}
 
 -- ---- leaves that begin at a record or before it, and leaves past it
@@ -42,10 +42,7 @@ new_before l (x ∷ xs) ys w = let r = new_before l xs ys w in grind (arith, nat
 -- the ranges of records of the leaves have one more as well
 pub ranges_new : (l : Leaf) (xs : List Leaf) → map (λ (x : Leaf). range x.first x.last) (with_new l xs) ≡ with_range (range l.first l.last) (map (λ (x : Leaf). range x.first x.last) xs)
 ranges_new l [] = refl
-ranges_new l (x ∷ xs) = elim (either (ltb l.first x.first)) [
-  | inl t ↦ rw t refl
-  | inr t ↦ rw t (ap (λ (rs : List Range). range x.first x.last ∷ rs) (ranges_new l xs))
-]
+ranges_new l (x ∷ xs) = grind (arith, ranges_new l xs)
 
 -- ---- entries that reach a record
 
@@ -104,14 +101,8 @@ parts_in_order low high (lower first last nodes es) fs o = let r = parts_in_orde
 pub none_reached : (f low high : ℕ) (es : Entries) → AreInOrder low high es → reaches f (past f es) ≡ false
 unfolding AreInOrder
 none_reached f low high no_entry o = refl
-none_reached f low high (block first last place packed es) o = elim (either (leb first f)) [
-  | inl t ↦ rw t (none_reached f (suc last) high es o.3)
-  | inr t ↦ rw t (or_from (leb first f) (reaches f es) t (not_reached f (suc last) high es o.3 (omega (arith, leb-false first f t, o.1))))
-]
-none_reached f low high (lower first last nodes es) o = elim (either (leb first f)) [
-  | inl t ↦ rw t (none_reached f (suc last) high es o.4)
-  | inr t ↦ rw t (or_from (leb first f) (reaches f es) t (not_reached f (suc last) high es o.4 (omega (arith, leb-false first f t, o.1))))
-]
+none_reached f low high (block first last place packed es) o = grind (arith, nat_tests, none_reached f (suc last) high es o.3, not_reached f (suc last) high es o.3, o.1)
+none_reached f low high (lower first last nodes es) o = grind (arith, nat_tests, none_reached f (suc last) high es o.4, not_reached f (suc last) high es o.4, o.1)
 
 later_past : (f low high : ℕ) (es : Entries) → AreInOrder low high es → BeginPast f (entry_leaves (past f es))
 later_past f low high es o =
@@ -144,18 +135,10 @@ leaves_upto l es fs = ap entry_leaves (upto_both l es fs) ∙ leaves_both (front
 
 leaves_with_entry : (l : Leaf) (at place room : ℕ) (es : Entries) (more : Nodes) → leaves_of (with_entry l at place room es more) ≡ entry_leaves (front l.first es) ++ l ∷ (entry_leaves (past l.first es) ++ leaves_of more)
 unfolding leaves_of entry_leaves
-leaves_with_entry l at place room es more = elim (either (ltb (entry_count es) room)) [
-  | inl t ↦ rw t (ap (λ (xs : List Leaf). xs ++ leaves_of more) (leaves_upto l es (past l.first es)) ∙ append_assoc (entry_leaves (front l.first es)) (l ∷ entry_leaves (past l.first es)) (leaves_of more))
-  | inr t ↦ elim (either (eqb (entry_count (past l.first es)) 0)) [
-    | inl u ↦
-        let none = no_entries (past l.first es) (eqb-true (entry_count (past l.first es)) 0 u) in
-        let all : front l.first es ≡ es = sym (both_none (front l.first es)) ∙ ap (with_both (front l.first es)) (sym none) ∙ front_past l.first es in
-        rw (t, u) (ap (λ (x : Entries). entry_leaves x ++ l ∷ leaves_of more) (sym all) ∙ ap (λ (x : Entries). entry_leaves (front l.first es) ++ l ∷ (entry_leaves x ++ leaves_of more)) (sym none))
-    | inr u ↦
-        let alone : entry_leaves (upto l es) ≡ entry_leaves (front l.first es) ++ l ∷ [] = ap entry_leaves (sym (both_none (upto l es))) ∙ leaves_upto l es no_entry in
-        rw (t, u) (ap (λ (xs : List Leaf). xs ++ (entry_leaves (past l.first es) ++ leaves_of more)) alone ∙ append_assoc (entry_leaves (front l.first es)) (l ∷ []) (entry_leaves (past l.first es) ++ leaves_of more))
-  ]
-]
+leaves_with_entry l at place room es more =
+    let f = front l.first es in
+    let p = past l.first es in
+    grind (arith, leaves_upto l es p, leaves_upto l es no_entry, both_none (upto l es), both_none f, front_past l.first es, no_entries p, append_assoc (entry_leaves f) (l ∷ entry_leaves p) (leaves_of more), append_assoc (entry_leaves f) (l ∷ []) (entry_leaves p ++ leaves_of more))
 
 leaves_parts : (f : ℕ) (es : Entries) → entry_leaves es ≡ entry_leaves (front f es) ++ entry_leaves (past f es)
 leaves_parts f es = ap entry_leaves (sym (front_past f es)) ∙ leaves_both (front f es) (past f es)

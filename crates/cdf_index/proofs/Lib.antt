@@ -36,4 +36,6 @@ pub mod OneVariable
 pub mod FieldSet
 pub mod ByLeaf
 pub mod OwnRecords
+pub mod NewIndex
+pub mod LeavesAscend
 pub mod EntriesLeft

@@ -256,12 +256,7 @@ mutual
   few_from : (rec : ℕ) (entries : Entries) (other : ℕ) → passed_from rec entries other ≤ length (lower_nodes entries) + other
   few_from rec no_entry other = omega arith
   few_from rec (block first last place packed entries) other = elim (either (ltb last rec)) [ inl t ↦ rw t (few_from rec entries other) | inr t ↦ rw t (omega arith) ]
-  few_from rec (lower first last nodes entries) other =
-      let many = length-append (nodes_of nodes) (lower_nodes entries) in
-      elim (either (ltb last rec)) [
-        | inl t ↦ rw t (omega (arith, many, few_from rec entries other))
-        | inr t ↦ rw t (elim (either (ltb rec first)) [ inl u ↦ rw u (omega arith) | inr u ↦ rw u (omega (arith, many, few_passed rec nodes)) ])
-      ]
+  few_from rec (lower first last nodes entries) other = grind (arith, nat_tests, length-append (nodes_of nodes) (lower_nodes entries), few_from rec entries other, few_passed rec nodes)
 
 mutual
   unfolding HasNodes Names NextsAreZero LowerAreZero nodes_passed passed_from
@@ -276,11 +271,7 @@ mutual
   from_levels : (b : List ℕ) (rec levels : ℕ) (entries : Entries) → Names b (tiles b) levels entries → LowerAreZero entries → passed_from rec entries 0 ≤ levels
   from_levels b rec levels no_entry n z = omega arith
   from_levels b rec levels (block first last place packed entries) n z = elim (either (ltb last rec)) [ inl t ↦ rw t (from_levels b rec levels entries n.2 z) | inr t ↦ rw t (omega arith) ]
-  from_levels b rec levels (lower first last nodes entries) n z =
-      elim (either (ltb last rec)) [
-        | inl t ↦ rw t (from_levels b rec levels entries n.2 z.1)
-        | inr t ↦ rw t (elim (either (ltb rec first)) [ inl u ↦ rw u (omega arith) | inr u ↦ rw u (passed_levels b rec levels nodes n.1 z.0) ])
-      ]
+  from_levels b rec levels (lower first last nodes entries) n z = grind (arith, nat_tests, from_levels b rec levels entries n.2 z.1, passed_levels b rec levels nodes n.1 z.0)
 
 -- ---- what code read
 

@@ -1,6 +1,6 @@
 -- The least First past a record: which entries decide it.
-use Rattle.std.proofs.Common.{◌≡◌, ℕ, suc, ◌≤◌, List, [], ◌∷◌, ◌++◌, min, true, false, ltb, append_assoc, refl, sym, ap, ◌∙◌, arith, inl, inr}
-use Rattle.cdf_index.proofs.Common.{filter, fold, nat_tests, Nodes, no_node, node, Entries, no_entry, block, lower, either, least_from, past_entries}
+use Rattle.std.proofs.Common.{◌≡◌, ℕ, suc, ◌≤◌, List, [], ◌∷◌, ◌++◌, min, true, false, ltb, append_assoc, refl, sym, ap, ◌∙◌, arith}
+use Rattle.cdf_index.proofs.Common.{filter, fold, nat_tests, Nodes, no_node, node, Entries, no_entry, block, lower, least_from, past_entries}
 use Rattle.std.proofs.lemmas.List.Sums.{fold-append}
 use Rattle.std.proofs.lemmas.List.Elements.{filter-append}
 use Rattle.cdf_edits.specs.Index.Blocks.{firsts_of, entry_firsts}
@@ -52,16 +52,11 @@ module _ (rec : ℕ) where
   -- numbers that are not less
   pub none_less : (best low high : ℕ) (xs : List ℕ) → Between low high xs → best ≤ low → least_from rec best xs ≡ best
   none_less best low high [] w h = refl
-  none_less best low high (x ∷ xs) w h =
-      let w0 = w.0 in
-      let m : min best x ≡ best = omega arith in
-      elim (either (ltb rec x)) [ inl t ↦ rw t (ap (λ (n : ℕ). least_from rec n xs) m ∙ none_less best low high xs w.2 h) | inr t ↦ rw t (none_less best low high xs w.2 h) ]
+  none_less best low high (x ∷ xs) w h = grind (arith, nat_tests, none_less best low high xs w.2 h, w.0)
 
   pub least_min : (a f : ℕ) (xs : List ℕ) → least_from rec (min a f) xs ≡ min (least_from rec a xs) f
   least_min a f [] = refl
-  least_min a f (x ∷ xs) =
-      let m : min (min a f) x ≡ min (min a x) f = omega arith in
-      elim (either (ltb rec x)) [ inl t ↦ rw t (ap (λ (n : ℕ). least_from rec n xs) m ∙ least_min (min a x) f xs) | inr t ↦ rw t (least_min a f xs) ]
+  least_min a f (x ∷ xs) = grind (arith, least_min (min a x) f xs, least_min a f xs)
 
   -- an entry past the record decides, where what stood before it is below it
   pub entry_decides : (best first low high : ℕ) (before behind : List ℕ) → first ≤ best → ltb rec first ≡ true → Between low high behind → first ≤ low → least_from rec best (before ++ first ∷ behind) ≡ least_from rec first before

@@ -1,5 +1,5 @@
 -- A node with one entry more, or it and a new node behind it, in the tree.
-use Rattle.std.proofs.Common.{◌≡◌, ℕ, suc, ◌+◌, ◌-◌, ◌*◌, ◌<◌, ◌≤◌, max, List, true, ltb, eqb, length, refl, sym, ap, subst, ◌∙◌, inl, inr, arith}
+use Rattle.std.proofs.Common.{◌≡◌, ℕ, suc, ◌+◌, ◌-◌, ◌*◌, ◌<◌, ◌≤◌, max, List, true, ltb, eqb, length, sym, ap, subst, ◌∙◌, inl, inr, arith}
 use Rattle.cdf_index.proofs.Common.{upto, past, with_both, SameHeads, linkable_kept, Owed, is_linkable, Nodes, node, Entries, no_entry, Leaf, entry_count, link_to, room_at, used_count, SaysEntry, SayEntries, SaysNode, IsNode, vxr_type, either, placed, Inserted, Split}
 use Rattle.cdf_edits.specs.Index.Grown.{with_block}
 use Rattle.cdf_format.specs.IndexOf.{HasNodes, Names}
@@ -43,10 +43,7 @@ parts b at f used p used_is begins es u s =
     record { front_count = omega arith; count = e ∙ sym u ∙ sym used_is; say_front = q.0; say_past = rw z at q.1 }
 
 pub placed_link : (l : Leaf) (new at room : ℕ) (es : Entries) (more : Nodes) → link_to (placed l new at room es more) ≡ at
-placed_link l new at room es more = elim (either (ltb (entry_count es) room)) [
-  | inl t ↦ rw t refl
-  | inr t ↦ elim (either (eqb (entry_count (past l.first es)) 0)) [ inl u ↦ rw (t, u) refl | inr u ↦ rw (t, u) refl ]
-]
+placed_link l new at room es more = grind arith
 
 pub placed_node : (l : Leaf) (new at room : ℕ) (es : Entries) (more : Nodes) → IsNode (placed l new at room es more)
 placed_node l new at room es more = elim (either (ltb (entry_count es) room)) [

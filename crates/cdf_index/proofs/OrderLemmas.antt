@@ -1,6 +1,6 @@
 -- The leaf that has a record, found on the way down.
-use Rattle.std.proofs.Common.{◌≡◌, ℕ, suc, ◌<◌, ◌≤◌, List, [], ◌∷◌, ◌++◌, true, false, ltb, append_assoc, refl, sym, ◌∙◌, arith, inl, inr, Option, None}
-use Rattle.cdf_index.proofs.Common.{nat_tests, Nodes, no_node, node, Entries, no_entry, block, lower, Leaf, either, past_entries, leaf_of, Each, Each-append}
+use Rattle.std.proofs.Common.{◌≡◌, ℕ, suc, ◌<◌, ◌≤◌, List, [], ◌∷◌, ◌++◌, true, false, ltb, append_assoc, refl, arith, Option, None}
+use Rattle.cdf_index.proofs.Common.{nat_tests, Nodes, no_node, node, Entries, no_entry, block, lower, Leaf, past_entries, leaf_of, Each, Each-append}
 use Rattle.cdf_format.specs.Index.{leaves_of, entry_leaves}
 use Rattle.cdf_index.specs.Order.{InOrder, AreInOrder, find_in, find_entry}
 use Rattle.cdf_edits.proofs.Edits.VariableFrame.{Each-map}
@@ -72,31 +72,9 @@ mutual
       → find_entry rec entries other ≡ leaf_of rec (entry_leaves entries ++ zs)
   find_entry_is rec low high no_entry zs other o w e = e
   find_entry_is rec low high (block first last place packed entries) zs other o w e =
-      let r = find_entry_is rec (suc last) high entries zs other o.3 w e in
       let tail = behind (suc last) high entries zs o.3 w in
-      elim (either (ltb last rec)) [
-        | inl t ↦ let lt = lt_of last rec t in rw (t, r) (grind (arith, nat_tests))
-        | inr t ↦
-            let ge = ge_of last rec t in
-            let none = no_leaf rec (suc last) high (entry_leaves entries ++ zs) tail (omega arith) in
-            elim (either (ltb rec first)) [
-              | inl u ↦ let lt = lt_of rec first u in rw (t, u) (grind (arith, nat_tests))
-              | inr u ↦ let le = ge_of rec first u in rw (t, u) (grind (arith, nat_tests))
-            ]
-      ]
+      grind (arith, nat_tests, find_entry_is rec (suc last) high entries zs other o.3 w e, no_leaf rec (suc last) high (entry_leaves entries ++ zs) tail, o.1)
   find_entry_is rec low high (lower first last nodes entries) zs other o w e =
       let tail = behind (suc last) high entries zs o.4 w in
       let inner = leaves_within first last nodes o.3 in
-      let assoc = append_assoc (leaves_of nodes) (entry_leaves entries) zs in
-      elim (either (ltb last rec)) [
-        | inl t ↦
-            let lt = lt_of last rec t in
-            rw (t, assoc) (find_entry_is rec (suc last) high entries zs other o.4 w e ∙ sym (leaf_behind rec first last (leaves_of nodes) (entry_leaves entries ++ zs) inner lt))
-        | inr t ↦
-            let ge = ge_of last rec t in
-            let left = leaf_before rec (suc last) high (leaves_of nodes) (entry_leaves entries ++ zs) tail (omega arith) in
-            elim (either (ltb rec first)) [
-              | inl u ↦ rw (t, u, assoc, left) (sym (no_leaf rec first last (leaves_of nodes) inner (lt_of rec first u)))
-              | inr u ↦ rw (t, u, assoc, left) (find_is rec first last nodes o.3)
-            ]
-      ]
+      grind (arith, nat_tests, append_assoc (leaves_of nodes) (entry_leaves entries) zs, find_entry_is rec (suc last) high entries zs other o.4 w e, leaf_behind rec first last (leaves_of nodes) (entry_leaves entries ++ zs) inner, leaf_before rec (suc last) high (leaves_of nodes) (entry_leaves entries ++ zs) tail, no_leaf rec first last (leaves_of nodes) inner, find_is rec first last nodes o.3)

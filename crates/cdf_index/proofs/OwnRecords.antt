@@ -1,6 +1,5 @@
 -- The records of one variable: how often each stands in it, of which types they are, and what a command on the variable may do to them.
 use Rattle.std.proofs.Common.{◌≡◌, ◌⊎◌, ℕ, ◌+◌, List, [], ◌∷◌, ◌++◌, length, true, false, Option, Some, None, true≢false, refl, sym, ap, ◌∙◌, inl, inr}
-use Rattle.std.proofs.lemmas.Bool.{ne_eqb}
 use Rattle.std.specs.Prelude.{find, slice_get, ◌==◌, if◌then◌else◌}
 use Rattle.cdf_index.proofs.Common.{range, is_a, is_in, type_at, Leaf, leaves_of, Each, In, VariableShape, LeafFits}
 use Rattle.cdf_model.specs.Names.{Found}
@@ -24,6 +23,7 @@ use Rattle.cdf_edits.proofs.Edits.PlainLeaves.{leaves_apart}
 use Rattle.cdf_edits.proofs.Edits.RecordFrame.{index_records}
 use Rattle.cdf_edits.proofs.Edits.StandsAmong.{StandsAmong}
 use Rattle.cdf_edits.proofs.Edits.VdrEdited.{fits, has, typed}
+use Rattle.cdf_edits.proofs.Edits.VariableKept.{find_none}
 use Rattle.cdf_edits.proofs.Edits.VariableKinds.{kind_type}
 use Rattle.cdf_edits.proofs.Frame.OwnerAlone.{Each-in}
 use Rattle.cdf_edits.proofs.Frame.OwnersApart.{times-append}
@@ -45,10 +45,6 @@ block_type b records vdr (l ∷ more) each m (inr i) = block_type b records vdr 
 
 abbrev block_types : List ℕ
 block_types = vvr_type ∷ cvvr_type ∷ []
-
-find_none : (leaves : List Leaf) (p : ℕ) → (In p (places_of leaves) → ⊥) → find (λ (leaf : Leaf). leaf.place == p) leaves ≡ None
-find_none [] p out = refl
-find_none (leaf ∷ more) p out = rw (ne_eqb leaf.place p (λ e. out (inl (sym e)))) (find_none more p (λ i. out (inr i)))
 
 abbrev in_leaf : Option Leaf → Option Range
 in_leaf None = None

@@ -41,10 +41,7 @@ use Rattle.cdf_edits.proofs.Space.ActsLeave.{each}
 link_leaf : (l : Leaf) (at : ℕ) (nodes : Nodes) → IsNode nodes → link_to (with_leaf l at nodes) ≡ link_to nodes
 unfolding with_leaf
 link_leaf l at no_node is = absurd is
-link_leaf l at (node place room es more) is = elim (either (chain_reaches l.first more)) [
-  | inl t ↦ rw t refl
-  | inr t ↦ elim (either (leads_down l.first false es)) [ inl u ↦ rw (t, u) refl | inr u ↦ rw (t, u) (placed_link l at place room es more) ]
-]
+link_leaf l at (node place room es more) is = grind (arith, placed_link l at place room es more)
 
 node_leaf : (l : Leaf) (at : ℕ) (nodes : Nodes) → IsNode (with_leaf l at nodes)
 unfolding with_leaf

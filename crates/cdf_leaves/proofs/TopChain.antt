@@ -1,6 +1,6 @@
 -- The top chain of an index that gets a leaf, and its end in the bytes.
-use Rattle.std.proofs.Common.{◌≡◌, ◌≢◌, ◌⊎◌, ℕ, zero, suc, ◌+◌, ◌≤◌, max, List, [], ◌∷◌, length, false, ltb, eqb, refl, sym, ap, subst, ◌∙◌, arith, inl, inr, Some}
-use Rattle.cdf_leaves.proofs.Common.{chain_reaches, leads_down, past, room_of_new, top_chain, last_node, next_of, size_at, Nodes, no_node, node, Entries, Leaf, entry_count, link_to, IsNode, vxr_type, AreTiles, In, Distinct, linkable-in, some_place, either, In-append_right, Distinct-back, tile_lies, chain_end, ChainInside}
+use Rattle.std.proofs.Common.{◌≡◌, ◌≢◌, ◌⊎◌, ℕ, zero, suc, ◌+◌, ◌≤◌, List, [], ◌∷◌, length, refl, sym, ap, subst, ◌∙◌, arith, inl, inr, Some}
+use Rattle.cdf_leaves.proofs.Common.{room_of_new, top_chain, last_node, next_of, size_at, Nodes, no_node, node, Entries, Leaf, link_to, IsNode, vxr_type, AreTiles, In, Distinct, linkable-in, some_place, In-append_right, Distinct-back, tile_lies, chain_end, ChainInside}
 use Rattle.std.specs.List.{last_or}
 use Rattle.std.specs.Option.{unwrap_or}
 use Rattle.cdf_edits.specs.Index.Grown.{with_leaf, new_room, with_entry}
@@ -16,18 +16,7 @@ use Rattle.cdf_index.proofs.Looking.{node_there}
 -- ---- in the tree
 
 entry_top : (l : Leaf) (at place room : ℕ) (es : Entries) (more : Nodes) → (room_of_new l.first room es ≡ 0 → top_chain (with_entry l at place room es more) ≡ place ∷ top_chain more) × (room_of_new l.first room es ≢ 0 → length (top_chain (with_entry l at place room es more)) ≡ suc (suc (length (top_chain more))))
-entry_top l at place room es more = elim (either (ltb (entry_count es) room)) [
-  | inl t ↦ rw t ((λ e. refl), (λ ne. absurd (ne refl)))
-  | inr t ↦
-      let big : 7 ≤ max 7 (entry_count (past l.first es)) = grind arith in
-      elim (either (eqb (entry_count (past l.first es)) 0)) [
-        | inl u ↦ rw (t, u) ((λ e. absurd (never (max 7 (entry_count (past l.first es))) big e)), (λ ne. refl))
-        | inr u ↦ rw (t, u) ((λ e. absurd (never (max 7 (entry_count (past l.first es))) big e)), (λ ne. refl))
-      ]
-]
-  where
-    never : (n : ℕ) → 7 ≤ n → n ≡ 0 → ⊥
-    never n l e = omega arith
+entry_top l at place room es more = ((λ e. grind arith), (λ ne. grind arith))
 
 pub top_stays : (l : Leaf) (at : ℕ) (nodes : Nodes) → (new_room l.first nodes ≡ 0) ⊎ (way l.first nodes ≢ []) → top_chain (with_leaf l at nodes) ≡ top_chain nodes
 unfolding with_leaf new_room way
@@ -36,31 +25,12 @@ top_stays l at no_node (inl e) = absurd (seven e)
     seven : ◌≡◌ {A = ℕ} 7 0 → ⊥
     seven e = omega arith
 top_stays l at no_node (inr ne) = absurd (ne refl)
-top_stays l at (node place room es more) h = elim (either (chain_reaches l.first more)) [
-  | inl t ↦ rw t (ap (λ (xs : List ℕ). place ∷ xs) (top_stays l at more (rw t at h)))
-  | inr t ↦ elim (either (leads_down l.first false es)) [
-    | inl u ↦ rw (t, u) refl
-    | inr u ↦ rw (t, u) (here (rw (t, u) at h))
-  ]
-]
-  where
-    here : (room_of_new l.first room es ≡ 0) ⊎ (◌≢◌ {A = List (ℕ × ℕ)} [] []) → top_chain (with_entry l at place room es more) ≡ place ∷ top_chain more
-    here (inl e) = (entry_top l at place room es more).0 e
-    here (inr ne) = absurd (ne refl)
+top_stays l at (node place room es more) h = grind (arith, top_stays l at more, (entry_top l at place room es more).0)
 
 pub top_grows : (l : Leaf) (at : ℕ) (nodes : Nodes) → way l.first nodes ≡ [] → new_room l.first nodes ≢ 0 → length (top_chain (with_leaf l at nodes)) ≡ suc (length (top_chain nodes))
 unfolding with_leaf new_room way
 top_grows l at no_node w n = refl
-top_grows l at (node place room es more) w n = elim (either (chain_reaches l.first more)) [
-  | inl t ↦ rw t (ap suc (top_grows l at more (rw t at w) (rw t at n)))
-  | inr t ↦ elim (either (leads_down l.first false es)) [
-    | inl u ↦ absurd (some (place, _) _ (rw (t, u) at w))
-    | inr u ↦ rw (t, u) ((entry_top l at place room es more).1 (rw (t, u) at n))
-  ]
-]
-  where
-    some : (s : ℕ × ℕ) (more : List (ℕ × ℕ)) → s ∷ more ≡ [] → ⊥
-    some s more e = cc
+top_grows l at (node place room es more) w n = grind (arith, top_grows l at more, (entry_top l at place room es more).1)
 
 -- ---- in the bytes
 

@@ -13,17 +13,16 @@ pub use Rattle.cdf_edits.proofs.Edits.InRecords.{places_of}
 pub use Rattle.cdf_edits.proofs.Edits.IndexEdited.{IndexEdit, vdr_alike}
 pub use Rattle.cdf_edits.proofs.Edits.LeafPieces.{IsOneOf, covers_within, each_of, find_covering, in_order, place_in, plain_piece, record_place, times_le}
 pub use Rattle.cdf_edits.proofs.Edits.LeafRecords.{Ascending, count_is}
-pub use Rattle.cdf_edits.proofs.Edits.MarkLemmas.{Avoids-append, Away-append, away-avoids, unmarked-away}
+pub use Rattle.cdf_edits.proofs.Edits.MarkLemmas.{away-avoids, unmarked-away}
 pub use Rattle.cdf_edits.proofs.Edits.OnlyTaken.{OnlyTakes, none_of_both}
 pub use Rattle.cdf_edits.proofs.Edits.OwnEdited.{OwnEdit}
 pub use Rattle.cdf_edits.proofs.Edits.PlainLeaves.{PlainLeaf, leaves_apart, leaves_ascend, own_rules, plain_leaf}
-pub use Rattle.cdf_edits.proofs.Edits.RecordFrame.{index_records, kept, kept_away}
-pub use Rattle.cdf_edits.proofs.Edits.RecordPlaced.{placing_marks, still_edit}
+pub use Rattle.cdf_edits.proofs.Edits.RecordFrame.{index_records, kept_away}
+pub use Rattle.cdf_edits.proofs.Edits.RecordPlaced.{placing_marks}
 pub use Rattle.cdf_edits.proofs.Edits.RecordsWritten.{WritesRecords, file, good_now, part, same_shape}
 pub use Rattle.cdf_edits.proofs.Edits.StandsAmong.{StandsAmong, behind_in, fits, has, long, no_block, ours, sound, through, tile, typed}
 pub use Rattle.cdf_edits.proofs.Edits.StepEdits.{gdr_in, gdr_long, gdr_typed}
 pub use Rattle.cdf_edits.proofs.Edits.VariableCopied.{block_behind, node_behind}
-pub use Rattle.cdf_edits.proofs.Edits.VariableFrame.{variables_in}
 pub use Rattle.cdf_edits.proofs.Edits.VariableKinds.{other_kind, variables_of_are}
 pub use Rattle.cdf_edits.proofs.Frame.ChangedBytes.{Outside-append, changed_part}
 pub use Rattle.cdf_edits.proofs.Frame.Meaning.{FileSame, Kept}
@@ -37,7 +36,7 @@ pub use Rattle.cdf_edits.specs.Commands.GreatestRecord.{RMaxRecFollows, r_max_re
 pub use Rattle.cdf_edits.specs.Commands.Puts.{PutsLeaves, max_rec_touches, new_ranges, put_changes}
 pub use Rattle.cdf_edits.specs.Commands.Room.{blocks_room, is_rewritten, packed_room, put_room, uncovered, widest}
 pub use Rattle.cdf_edits.specs.Edits.Edit.{Edit}
-pub use Rattle.cdf_edits.specs.Edits.Marks.{Avoids, Away, Mark, unmarked}
+pub use Rattle.cdf_edits.specs.Edits.Marks.{Avoids, Mark, unmarked}
 pub use Rattle.cdf_edits.specs.Frame.Changed.{Changed, Outside, Touch}
 pub use Rattle.cdf_edits.specs.Index.Blocks.{Range, block_count, covers, cuts_before_put, first_written, firsts_of, is_sparse, new_range, next_first, range, ranges_after_put, ranges_of, record_length, shared}
 pub use Rattle.cdf_edits.specs.Index.Grown.{indexes_with, new_room, outline, with_both, with_leaf, with_ranges}
@@ -61,7 +60,7 @@ pub use Rattle.cdf_format.specs.Content.{content, plain_bytes, variable_of}
 pub use Rattle.cdf_format.specs.Fields.{eof, number, size_at, type_at, with_sign}
 pub use Rattle.cdf_format.specs.Index.{Entries, Leaf, Nodes, block, entry_count, leaf, leaves_of, lower, no_entry, no_node, node, nodes_of, room_at, used_count}
 pub use Rattle.cdf_format.specs.Owners.{Unused, owned, times, unused_records, variable_records}
-pub use Rattle.cdf_format.specs.RecordTypes.{cdr_type, cpr_type, cvvr_type, fixed_size, gdr_type, is_record_type, uir_type, vvr_type, vxr_type}
+pub use Rattle.cdf_format.specs.RecordTypes.{cvvr_type, fixed_size, gdr_type, is_record_type, uir_type, vvr_type, vxr_type}
 pub use Rattle.cdf_format.specs.Records.{Field, gdr_r_max_rec, uir_next_uir, uir_prev_uir, vdr_max_rec, vdr_vxr_head, vdr_vxr_tail, vxr_n_entries, vxr_bytes}
 pub use Rattle.cdf_format.specs.Rules.{asked}
 pub use Rattle.cdf_format.specs.Shape.{AttributeShape, Each, HasShape, Shape, VariableShape, is_compressed, shape, variables, vdrs}

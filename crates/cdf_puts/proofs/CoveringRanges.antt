@@ -1,13 +1,14 @@
 -- Records that get a block one after the other: by their ranges, in the room of a put, which is enough for them, and in an index.
-use Rattle.std.proofs.Common.{◌≡◌, ◌⊎◌, ℕ, zero, suc, ◌+◌, ◌-◌, ◌<◌, ◌≤◌, List, [], ◌∷◌, ◌++◌, map, Bool, true, false, ltb, leb, min, max, Option, Some, None, refl, sym, ap, ◌∙◌, arith, inl, inr, ◌*◌, length, eqb, ap₂, subst}
-use Rattle.cdf_puts.proofs.Common.{le-leb, le-ltb, lt-leb, lt-ltb, same_Some, find, if◌then◌else◌, filter, fold, option_map, Variable, extent, record_number_limit, Nodes, no_node, node, Entries, no_entry, block, lower, Leaf, either, both, le_of, Range, range, covers, shared, block_count, next_first, new_range, Ascending, length-append, entry_count, widest, vxr_bytes, uncovered, blocks_room, packed_room, put_room, ranges_of, record_length, is_sparse, first_written, new_room, times_le, node_bytes, leaf, leaves_of, firsts_of, ranges_after_put, with_leaf, find_covering, covers_within, InOrder, leaves_more, new_last, block_bytes, Covering}
-use Rattle.std.proofs.lemmas.Bool.{leb-false}
+use Rattle.std.proofs.Common.{◌≡◌, ◌⊎◌, ℕ, zero, suc, ◌+◌, ◌-◌, ◌<◌, ◌≤◌, List, [], ◌∷◌, map, Bool, true, false, ltb, leb, min, max, Option, Some, None, refl, sym, ap, ◌∙◌, arith, inl, inr, ◌*◌, length, eqb, ap₂, subst}
+use Rattle.cdf_puts.proofs.Common.{le-ltb, lt-ltb, find, if◌then◌else◌, filter, fold, option_map, Variable, extent, record_number_limit, Nodes, no_node, node, Entries, no_entry, block, lower, Leaf, either, both, le_of, Range, range, covers, shared, block_count, next_first, new_range, Ascending, length-append, entry_count, widest, vxr_bytes, uncovered, blocks_room, packed_room, put_room, ranges_of, record_length, is_sparse, first_written, new_room, times_le, node_bytes, leaf, leaves_of, firsts_of, ranges_after_put, with_leaf, find_covering, covers_within, InOrder, leaves_more, new_last, block_bytes, Covering}
+use Rattle.std.proofs.lemmas.Bool.{cases_lt, leb-false}
+use Rattle.std.proofs.lemmas.Bool.Decides.{nat_tests}
 use Rattle.std.proofs.lemmas.List.Sums.{sum_by-cons}
-use Rattle.cdf_format.specs.Index.{leaves_of, entry_leaves}
+use Rattle.cdf_format.specs.Index.{leaves_of}
 use Rattle.cdf_edits.specs.Index.Blocks.{cover, firsts_of, entry_firsts, covered, with_range}
-use Rattle.cdf_edits.proofs.Edits.LeavesOrder.{ascending_from, ascending_both}
-use Rattle.cdf_index.specs.Order.{InOrder, AreInOrder, past_entries}
-use Rattle.cdf_index.proofs.OrderLemmas.{end_after, ge_of, lt_of}
+use Rattle.cdf_index.proofs.LeavesAscend.{leaves_ascend}
+use Rattle.cdf_index.specs.Order.{InOrder}
+use Rattle.cdf_index.proofs.OrderLemmas.{ge_of, lt_of}
 use Rattle.std.proofs.Math.Nat.{le-div_iff_mul-le}
 use Rattle.cdf_edits.specs.Commands.Room.{entries_in, entries_below, quotient_up}
 use Rattle.cdf_edits.proofs.Edits.LeafPieces.{found_in}
@@ -18,32 +19,6 @@ use Rattle.cdf_index.proofs.LeafRules.{order_with_leaf}
 
 abbrev pub of_leaves : List Leaf → List Range
 of_leaves leaves = map (λ (leaf : Leaf). range leaf.first leaf.last) leaves
-
--- ---- the leaves of an index in order
-
-end_before : (low high : ℕ) (entries : Entries) → AreInOrder low high entries → low ≤ suc high → past_entries low entries ≤ suc high
-unfolding AreInOrder
-end_before low high no_entry o le = le
-end_before low high (block first last place packed entries) o le = let l = o.2 in end_before (suc last) high entries o.3 (omega arith)
-end_before low high (lower first last nodes entries) o le = let l = o.2 in end_before (suc last) high entries o.4 (omega arith)
-
-mutual
-  unfolding InOrder AreInOrder leaves_of entry_leaves
-
-  pub leaves_ascend : (low high : ℕ) (nodes : Nodes) → InOrder low high nodes → low ≤ suc high → Ascending low (suc high) (leaves_of nodes)
-  leaves_ascend low high no_node o le = tt
-  leaves_ascend low high (node place room entries more) o le =
-      let b = end_before low high entries o.0 le in
-      ascending_both low (past_entries low entries) (suc high) (entry_leaves entries) (leaves_of more) (entries_ascend low high entries o.0) (leaves_ascend (past_entries low entries) high more o.1 b) (end_after low high entries o.0) b
-
-  entries_ascend : (low high : ℕ) (entries : Entries) → AreInOrder low high entries → Ascending low (past_entries low entries) (entry_leaves entries)
-  entries_ascend low high no_entry o = tt
-  entries_ascend low high (block first last place packed entries) o = (o.0, o.1, end_after (suc last) high entries o.3, entries_ascend (suc last) high entries o.3)
-  entries_ascend low high (lower first last nodes entries) o =
-      let l = o.1 in
-      let upto = past_entries (suc last) entries in
-      let inner = leaves_ascend first last nodes o.3 (omega arith) in
-      ascending_from first low upto (leaves_of nodes ++ entry_leaves entries) o.0 (ascending_both first (suc last) upto (leaves_of nodes) (entry_leaves entries) inner (entries_ascend (suc last) high entries o.4) (omega arith) (end_after (suc last) high entries o.4))
 
 -- ---- found by a record
 
@@ -59,10 +34,7 @@ no_range k leaves e = find_mapped (λ (leaf : Leaf). range leaf.first leaf.last)
 
 found_passes : {X : Type 0} (test : X → Bool) (xs : List X) (x : X) → find test xs ≡ Some x → test x ≡ true
 found_passes test [] x e = absurd (cc)
-found_passes test (y ∷ xs) x e = elim (either (test y)) [
-  | inl t ↦ let is : Some y ≡ Some x = rw t at e in ap test (sym (same_Some y x is)) ∙ t
-  | inr t ↦ let rest : find test xs ≡ Some x = rw t at e in found_passes test xs x rest
-]
+found_passes test (y ∷ xs) x e = grind (arith, found_passes test xs x)
 
 pub found_by : (k : ℕ) (rs : List Range) (r : Range) → find (covers k) rs ≡ Some r → k ≤ r.last
 found_by k rs r e = le_of k r.last (both (leb r.first k) (leb k r.last) (found_passes (covers k) rs r e)).1
@@ -74,21 +46,15 @@ some_or_none (Some x) = inl (x, refl)
 -- ---- the last record of a new block
 
 pub one_at_least : (v : Variable) → 1 ≤ block_count v
-one_at_least v = elim (either v.vary) [ inl t ↦ rw t (omega arith) | inr t ↦ rw t (omega arith) ]
+one_at_least v = grind arith
 
 pub least_past : (k i : ℕ) (fs : List ℕ) → k < i → k < fold min i (filter (ltb k) fs)
 least_past k i [] lt = lt
-least_past k i (f ∷ fs) lt = elim (either (ltb k f)) [
-  | inl t ↦ let g = lt_of k f t in rw t (least_past k (min i f) fs (omega arith))
-  | inr t ↦ rw t (least_past k i fs lt)
-]
+least_past k i (f ∷ fs) lt = grind (arith, nat_tests, least_past k (min i f) fs, least_past k i fs lt)
 
 pub least_upto : (k i : ℕ) (fs : List ℕ) → fold min i (filter (ltb k) fs) ≤ i
 least_upto k i [] = omega arith
-least_upto k i (f ∷ fs) = elim (either (ltb k f)) [
-  | inl t ↦ let r = least_upto k (min i f) fs in rw t (omega arith)
-  | inr t ↦ rw t (least_upto k i fs)
-]
+least_upto k i (f ∷ fs) = grind (arith, nat_tests, least_upto k (min i f) fs, least_upto k i fs)
 
 pub next_past : (k : ℕ) (fs : List ℕ) → k ≤ record_number_limit → k < next_first k fs
 next_past k fs le = least_past k (record_number_limit + 1) fs (omega arith)
@@ -115,13 +81,7 @@ pub record Ends (k next most last : ℕ) : Type 0 where
   pub no_more : last + 1 - k ≤ most
 
 pub ends : (v : Variable) (fs : List ℕ) (k : ℕ) → k ≤ record_number_limit → Ends k (next_first k fs) (block_count v) (new_range v fs k).last
-ends v fs k le =
-    let past = next_past k fs le in
-    let one = one_at_least v in
-    elim (either (ltb k (extent v.max_rec))) [
-      | inl t ↦ let e = one_alone v fs k t in record { ordered = omega arith; before_next = omega arith; no_more = omega arith }
-      | inr t ↦ let e = full_or_next v fs k t in record { ordered = omega arith; before_next = omega arith; no_more = omega arith }
-    ]
+ends v fs k le = let past = next_past k fs le in let one = one_at_least v in record { ordered = grind (arith, nat_tests); before_next = grind (arith, nat_tests); no_more = grind (arith, nat_tests) }
 
 -- ---- one record after the other
 
@@ -149,19 +109,12 @@ module _ (v : Variable) (firsts : List ℕ) (n : ℕ) (small : n ≤ record_numb
   enough : (m m' k : ℕ) (rs : List Range) → n + 1 ≤ m + k → n + 1 ≤ m' + k → goes m k rs ≡ goes m' k rs
   enough zero m' k rs a c = end_step zero k rs (omega arith) ∙ sym (end_step m' k rs (omega arith))
   enough (suc m) zero k rs a c = end_step (suc m) k rs (omega arith) ∙ sym (end_step zero k rs (omega arith))
-  enough (suc m) (suc m') k rs a c = elim (either (leb k n)) [
-    | inl t ↦
-        let le = le_of k n t in
-        elim (some_or_none (find (covers k) rs)) [
-          | inl s ↦
-              let r = s.0 in
-              let on = found_by k rs s.0 s.1 in
-              found_step m k rs s.0 le s.1 ∙ enough m m' (s.0.last + 1) rs (omega arith) (omega arith) ∙ sym (found_step m' k rs s.0 le s.1)
-          | inr e ↦
-              let on = (ends v firsts k (omega arith)).ordered in
-              vacant_step m k rs le e ∙ enough m m' (last_of k + 1) (with_range (new_range v firsts k) rs) (omega arith) (omega arith) ∙ sym (vacant_step m' k rs le e)
-        ]
-    | inr t ↦ let gt = leb-false k n t in end_step (suc m) k rs (omega arith) ∙ sym (end_step (suc m') k rs (omega arith))
+  enough (suc m) (suc m') k rs a c = elim (cases_lt n k) [
+    | inl gt ↦ end_step (suc m) k rs (omega arith) ∙ sym (end_step (suc m') k rs (omega arith))
+    | inr le ↦ elim (some_or_none (find (covers k) rs)) [
+      | inl s ↦ let on = found_by k rs s.0 s.1 in found_step m k rs s.0 le s.1 ∙ enough m m' (s.0.last + 1) rs (omega arith) (omega arith) ∙ sym (found_step m' k rs s.0 le s.1)
+      | inr e ↦ let on = (ends v firsts k (omega arith)).ordered in vacant_step m k rs le e ∙ enough m m' (last_of k + 1) (with_range (new_range v firsts k) rs) (omega arith) (omega arith) ∙ sym (vacant_step m' k rs le e)
+    ]
   ]
 
   -- from a record that has a block on to the next
@@ -200,14 +153,7 @@ covered_more s n r rs = sum_by-cons (λ x. x) (shared s n r) (map (shared s n) r
 
 pub covered_with : (s n : ℕ) (new : Range) (rs : List Range) → covered s n (with_range new rs) ≡ shared s n new + covered s n rs
 covered_with s n new [] = covered_more s n new []
-covered_with s n new (r ∷ rs) = elim (either (ltb new.first r.first)) [
-  | inl t ↦ rw t (covered_more s n new (r ∷ rs))
-  | inr t ↦
-      let later = covered_with s n new rs in
-      let whole = covered_more s n r (with_range new rs) in
-      let old = covered_more s n r rs in
-      rw t (omega arith)
-]
+covered_with s n new (r ∷ rs) = grind (arith, covered_with s n new rs, covered_more s n new (r ∷ rs), covered_more s n r (with_range new rs), covered_more s n r rs)
 
 -- no more of the records from s to n than are there from `low` on
 pub covered_upto : (s n low upto : ℕ) (xs : List Leaf) → Ascending low upto xs → covered s n (of_leaves xs) ≤ (n + 1) - max s low
@@ -222,62 +168,22 @@ covered_upto s n low upto (x ∷ xs) a =
 -- and one less where one of them is not covered
 pub covered_less : (s n k low upto : ℕ) (xs : List Leaf) → Ascending low upto xs → s ≤ k → low ≤ k → k ≤ n → find (covers k) (of_leaves xs) ≡ None → covered s n (of_leaves xs) + 1 ≤ (n + 1) - max s low
 covered_less s n k low upto [] a sk lk kn e = omega arith
-covered_less s n k low upto (x ∷ xs) a sk lk kn e =
-    let whole = covered_more s n (range x.first x.last) (of_leaves xs) in
-    let from = a.0 in
-    let ordered = a.1 in
-    elim (either (ltb k x.first)) [
-      | inl t ↦ let lt = lt_of k x.first t in let rest = covered_upto s n (suc x.last) upto xs a.3 in omega arith
-      | inr t ↦
-          let ge = ge_of k x.first t in
-          elim (either (ltb x.last k)) [
-            | inl u ↦
-                let lt = lt_of x.last k u in
-                let left : find (covers k) (of_leaves xs) ≡ None = rw (le-leb x.first k ge, lt-leb k x.last lt) at e in
-                let rest = covered_less s n k (suc x.last) upto xs a.3 sk lt kn left in
-                omega arith
-            | inr u ↦ let le = ge_of x.last k u in let found : Some (range x.first x.last) ≡ None = rw (le-leb x.first k ge, le-leb k x.last le) at e in absurd (cc)
-          ]
-    ]
+covered_less s n k low upto (x ∷ xs) a sk lk kn e = grind (arith, nat_tests, covered_upto s n (suc x.last) upto xs a.3, covered_less s n k (suc x.last) upto xs a.3 sk, covered_more s n (range x.first x.last) (of_leaves xs), a.0, a.1)
 
 -- ---- the Firsts that are passed
 
 pub count_more : (k k' : ℕ) (fs : List ℕ) → k ≤ k' → count_upto k fs ≤ count_upto k' fs
 count_more k k' [] le = omega arith
-count_more k k' (f ∷ fs) le =
-    let r = count_more k k' fs le in
-    elim (either (leb f k)) [
-      | inl t ↦ let l = le_of f k t in rw (t, le-leb f k' (omega arith)) (omega arith)
-      | inr t ↦ elim (either (leb f k')) [ inl u ↦ rw (t, u) (omega arith) | inr u ↦ rw (t, u) r ]
-    ]
+count_more k k' (f ∷ fs) le = grind (arith, nat_tests, count_more k k' fs le)
 
 pub count_most : (k : ℕ) (fs : List ℕ) → count_upto k fs ≤ length fs
 count_most k [] = omega arith
-count_most k (f ∷ fs) = let r = count_most k fs in elim (either (leb f k)) [ inl t ↦ rw t (omega arith) | inr t ↦ rw t (omega arith) ]
+count_most k (f ∷ fs) = grind (arith, count_most k fs)
 
 -- where the least of some numbers past k is one of them, one more is passed by then
 one_passed : (k i : ℕ) (fs : List ℕ) → k < i → fold min i (filter (ltb k) fs) < i → suc (count_upto k fs) ≤ count_upto (fold min i (filter (ltb k) fs)) fs
 one_passed k i [] lt less = absurd (omega arith)
-one_passed k i (f ∷ fs) lt less = elim (either (ltb k f)) [
-  | inl t ↦
-      let least = fold min (min i f) (filter (ltb k) fs) in
-      let is : fold min i (filter (ltb k) (f ∷ fs)) ≡ least = rw t refl in
-      let past = lt_of k f t in
-      let above = least_past k (min i f) fs (omega arith) in
-      let within = least_upto k (min i f) fs in
-      let small : least < i = subst (λ (x : ℕ). x < i) is less in
-      subst (λ (x : ℕ). suc (count_upto k (f ∷ fs)) ≤ count_upto x (f ∷ fs)) (sym is) (rw (lt-leb f k past) (elim (either (leb f least)) [
-        | inl u ↦ let r = count_more k least fs (omega arith) in rw u (omega arith)
-        | inr u ↦ let gt = leb-false f least u in rw u (one_passed k (min i f) fs (omega arith) (omega arith))
-      ]))
-  | inr t ↦
-      let least = fold min i (filter (ltb k) fs) in
-      let is : fold min i (filter (ltb k) (f ∷ fs)) ≡ least = rw t refl in
-      let by = ge_of k f t in
-      let far = least_past k i fs lt in
-      let more = one_passed k i fs lt (subst (λ (x : ℕ). x < i) is less) in
-      subst (λ (x : ℕ). suc (count_upto k (f ∷ fs)) ≤ count_upto x (f ∷ fs)) (sym is) (rw (le-leb f k by, le-leb f least (omega arith)) (omega arith))
-]
+one_passed k i (f ∷ fs) lt less = grind (arith, nat_tests, one_passed k (min i f) fs, one_passed k i fs lt, least_past k (min i f) fs, least_past k i fs lt, least_upto k (min i f) fs, count_more k (fold min (min i f) (filter (ltb k) fs)) fs)
 
 pub next_passed : (k : ℕ) (fs : List ℕ) → k ≤ record_number_limit → next_first k fs ≤ record_number_limit → suc (count_upto k fs) ≤ count_upto (next_first k fs) fs
 next_passed k fs le small = one_passed k (record_number_limit + 1) fs (omega arith) (omega arith)
@@ -470,26 +376,13 @@ module _ (v : Variable) (index : Nodes) (n : ℕ) (rule : is_sparse v.sparse ≡
 
         -- the new block is full, or one more First is passed
         full_or_passed : last + 1 ≤ n → (last + 1 - k ≡ block_count v) ⊎ (suc (count_upto k (firsts_of index)) ≤ count_upto (last + 1) (firsts_of index))
-        full_or_passed more = elim (either (ltb k (extent v.max_rec))) [
-          | inl t ↦
-              let alone = one_alone v (firsts_of index') k t in
-              let lt = lt_of k (extent v.max_rec) t in
-              let first = first_written_is in
-              let from = c.from in
-              absurd (omega arith)
-          | inr t ↦
-              let end = full_or_next v (firsts_of index') k t in
-              let past = next_past k (firsts_of index') (omega arith) in
-              let one = one_at_least v in
-              let same = c.nexts k (omega arith) in
-              elim (either (ltb (next_first k (firsts_of index')) (k + block_count v))) [
-                | inl u ↦
-                    let l = lt_of (next_first k (firsts_of index')) (k + block_count v) u in
-                    let next : last + 1 ≡ next_first k (firsts_of index) = omega arith in
-                    inr (subst (λ (m : ℕ). suc (count_upto k (firsts_of index)) ≤ count_upto m (firsts_of index)) (sym next) (next_passed k (firsts_of index) (omega arith) (omega arith)))
-                | inr u ↦ let g = ge_of (next_first k (firsts_of index')) (k + block_count v) u in inl (omega arith)
-              ]
-        ]
+        full_or_passed more =
+            let first = first_written_is in
+            let from = c.from in
+            let past = next_past k (firsts_of index') (omega arith) in
+            let one = one_at_least v in
+            let same = c.nexts k (omega arith) in
+            grind (arith, nat_tests, next_passed k (firsts_of index))
 
         records' : last + 1 ≤ n → covered (first_written v n) n (ranges_of (with_leaf new at index')) ≡ covered (first_written v n) n (ranges_of index) + (so_far.records + (last + 1 - k))
         records' more =

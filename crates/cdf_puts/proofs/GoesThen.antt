@@ -1,5 +1,5 @@
 -- One image goes on to another: what a put may change of each record and keeps of each owner, what the descriptor says by then, and that two such steps are one.
-use Rattle.std.proofs.Common.{◌≡◌, ℕ, List, [], ◌∷◌, length, true, false, Option, Some, eq-eqb, refl, sym, ap, ◌∙◌, inl, inr, suc, ◌+◌, ◌<◌, ◌≤◌, ◌++◌, Bool, subst, append_assoc, arith, map}
+use Rattle.std.proofs.Common.{◌≡◌, ℕ, List, [], ◌∷◌, length, true, false, Option, Some, eq-eqb, refl, sym, ap, ◌∙◌, inl, inr, suc, ◌+◌, ◌<◌, ◌≤◌, ◌++◌, Bool, subst, arith, map}
 use Rattle.cdf_puts.proofs.Common.{ne_eqb, ◌==◌, find, if◌then◌else◌, places_of, IsOneOf, StandsAmong, fits, Only, shapes_of, put_changes, is_rewritten, Range, range, linkable-type, is_in, variable_of, type_at, Leaf, nodes_of, leaves_of, vdr_max_rec, vdr_vxr_head, vdr_vxr_tail, VariableShape, shape, In, Good, Found, Kind, R, Z, found_in, eqb-true, other_kind, Allowances, Stays, Keeps, AllKeep, unused_allowance, r_max_rec_field, space_fields, Act, either, In-append, Unused, variable_records, unused_records, owned, AttributeShape, Shape, IsSound, tile, FileSame, record_alike, stays_alike, is_compressed, record_bytes, Same-part, tile_lies, DescriptorStays, GoesOn, eq-eqb, length-map, set_at, w32, cast_signed, list_any, slice_set, ◌&&◌, nat_le, nat_lt, long, OutsideFields, is_taken, ActsFollow, taken, linkable-in, good_is_sound, false-is_in, is_in-false, true-is_in, is_in-true, content, number, size_at, Field, uir_next_uir, uir_prev_uir, uir_type, DataSet, Variable, variables_of, with_variables, r_max_rec, ListedStay, acts_joined, OnlyTakes, none_of_both, WritesRecords, part, file, same_shape, own_rules, Touch}
 use Rattle.cdf_puts.proofs.RaisedGoes.{set_is}
 use Rattle.cdf_index.proofs.OwnRecords.{by_range}
@@ -7,7 +7,7 @@ use Rattle.cdf_index.proofs.OwnRecords as of_own
 use Rattle.cdf_edits.specs.Commands.Allowances.{range_at, only_of, allowance, Allowance, Anything, anything_if, same_kind, vdr_type}
 use Rattle.cdf_edits.proofs.Commands.KeptRecords.{AllKeep-append}
 use Rattle.cdf_edits.proofs.Edits.OwnersKept.{keep_all, keep_places}
-use Rattle.cdf_edits.proofs.Edits.VariableKept.{keep_kinds, keep_variable_parts, same_as_itself}
+use Rattle.cdf_edits.proofs.Edits.VariableKept.{keep_kinds, keep_variable_parts, same_as_itself, variables-append}
 use Rattle.cdf_format.specs.Owners.{Owner, File, OneAttribute, OneVariable, owned_by, owned_by_attributes, owned_by_variables, attribute_records}
 use Rattle.cdf_edits.proofs.Frame.VdrStays.{variable_stays, VdrStays, packed_stays}
 use Rattle.cdf_edits.proofs.Edits.LeafPieces.{leaf_at}
@@ -59,13 +59,6 @@ pub kept_place : (b now : List ℕ) (may : Allowances) (acts : List Act) (owner 
 kept_place b now may acts owner [] k m i = absurd i
 kept_place b now may acts owner (p ∷ places) k m (inl q) = subst (λ (x : ℕ). Keeps b now x (allowance b (shape b) may acts x owner)) (sym q) k.0
 kept_place b now may acts owner (p ∷ places) k m (inr i) = kept_place b now may acts owner places k.1 m i
-
-variables-append : (kind : Kind) (n : ℕ) (xs ys : List VariableShape) → owned_by_variables kind n (xs ++ ys) ≡ owned_by_variables kind n xs ++ owned_by_variables kind (n + length xs) ys
-variables-append kind n [] ys = let same : n ≡ n + 0 = omega arith in ap (λ (k : ℕ). owned_by_variables kind k ys) same
-variables-append kind n (x ∷ xs) ys =
-    let next : suc n + length xs ≡ n + suc (length xs) = omega arith in
-    ap (λ (r : List (ℕ × Owner)). owned_by (OneVariable kind n) (variable_records x) ++ r) (variables-append kind (suc n) xs ys ∙ ap (λ (k : ℕ). owned_by_variables kind (suc n) xs ++ owned_by_variables kind k ys) next)
-    ∙ sym (append_assoc (owned_by (OneVariable kind n) (variable_records x)) (owned_by_variables kind (suc n) xs) (owned_by_variables kind (n + length (x ∷ xs)) ys))
 
 -- ---- what a put keeps of the records of each owner
 
@@ -123,7 +116,7 @@ module _ (b now : List ℕ) (may : Allowances) (acts : List Act) {kind : Kind} {
       record { file = one.0; attributes = one.1; in_front = split.0; mine = mine.0; behind = mine.1; others = kinds.1; unused = four.1 }
     where
       numbers : owned_by_variables kind 0 (shapes_of (shape b) kind) ≡ owned_by_variables kind 0 before ++ owned_by_variables kind (length before) (own ∷ after)
-      numbers = ap (owned_by_variables kind 0) at.was ∙ variables-append kind 0 before (own ∷ after) ∙ ap (λ (k : ℕ). owned_by_variables kind 0 before ++ owned_by_variables kind k (own ∷ after)) (let same : 0 + length before ≡ length before = omega arith in same)
+      numbers = ap (owned_by_variables kind 0) at.was ∙ variables-append b now may acts kind 0 before (own ∷ after) ∙ ap (λ (k : ℕ). owned_by_variables kind 0 before ++ owned_by_variables kind k (own ∷ after)) (let same : 0 + length before ≡ length before = omega arith in same)
 
 -- the descriptor stays where all but MaxRec, VXRhead and VXRtail of it does
 pub stays : {b now : List ℕ} {kind : Kind} {before : List VariableShape} {own : VariableShape} {after : List VariableShape} → Good b → StandsAmong b kind before own after → DescriptorStays b now own.vdr → VdrStays b now own.vdr

@@ -1,10 +1,12 @@
 -- A leaf is added while records are put: the blocks of the variable, which leaves were put by then, which ranges are new, the top chain and the nodes.
 use Rattle.std.proofs.Common.{◌≡◌, ◌⊎◌, ℕ, zero, suc, ◌+◌, ◌-◌, ◌*◌, ◌<◌, ◌≤◌, List, [], ◌∷◌, ◌++◌, length, take, drop, Bool, true, false, Some, None, find, ◌||◌, refl, sym, ap, subst, ◌∙◌, arith, inl, inr, map, not, bytes_eq}
-use Rattle.cdf_puts.proofs.Common.{length-append, cases_lt, lt-ltb, same_Some, min, extent, record_number_limit, Kind, range, covers, first_written, firsts_of, new_range, with_leaf, new_room, is_taken_at, Act, IsOneOf, find_covering, place_in, plain_piece, count_is, own_rules, leaves_ascend, block_behind, StandsAmong, sound, behind_in, apart, Same, variable_of, plain_bytes, size_at, Leaf, leaf, leaves_of, uir_type, vvr_type, VariableShape, shape, In, max_rec_at, record_bytes, Good, tile_lies, LeafAdded, leaf_acts, InOrder, BlockRecords, SoFar, BlocksSoFar, OldBlock, NewBlock, IsVacant, IsBlockBody, BlocksGoOn, index_order, before_limit, vdr_alike, record_alike, lt-leb, map-append, filter, list_any, unwrap_or, nat_le, if◌then◌else◌, new_ranges, Range, ranges_of, with_ranges, indexes_with, outline, block_need, uses_entry, NodesFollow, top_chain, last_node, in_order, Ascending, has, number, nodes_of, vdr_vxr_tail, records_of_leaf, either, bytes_eq-same, NodeTaken, with_new, leaves_more, IndexSoFar, NodesSoFar, PutsBefore, was_put}
+use Rattle.cdf_puts.proofs.Common.{length-append, cases_lt, lt-ltb, same_Some, min, extent, record_number_limit, Kind, range, covers, first_written, firsts_of, new_range, with_leaf, new_room, is_taken_at, Act, IsOneOf, find_covering, place_in, plain_piece, count_is, own_rules, leaves_ascend, block_behind, StandsAmong, sound, behind_in, apart, Same, variable_of, plain_bytes, size_at, Leaf, leaf, leaves_of, uir_type, vvr_type, VariableShape, shape, In, max_rec_at, record_bytes, Good, tile_lies, LeafAdded, leaf_acts, InOrder, BlockRecords, SoFar, BlocksSoFar, OldBlock, NewBlock, IsVacant, IsBlockBody, BlocksGoOn, index_order, before_limit, vdr_alike, record_alike, map-append, filter, list_any, unwrap_or, if◌then◌else◌, new_ranges, Range, ranges_of, with_ranges, indexes_with, outline, block_need, uses_entry, NodesFollow, top_chain, last_node, in_order, Ascending, has, number, nodes_of, vdr_vxr_tail, records_of_leaf, either, bytes_eq-same, NodeTaken, with_new, leaves_more, IndexSoFar, NodesSoFar, PutsBefore, was_put}
+use Rattle.std.proofs.lemmas.Bool.Decides.{nat_tests}
 use Rattle.cdf_edits.proofs.Edits.LeafPieces.{of_each}
 use Rattle.cdf_puts.proofs.CoveringRanges.{one_alone, of_leaves}
 use Rattle.cdf_puts.proofs.LeafCounts.{leaf_added, leaf_stays, leaf_was_there}
-use Rattle.cdf_puts.proofs.LeafEdit.{block_taken, file, index_edit, used_apart, node_in, node_taken, nodes_step}
+use Rattle.cdf_puts.proofs.LeafEdit.{block_taken, file, new_index, used_apart, node_in, node_taken, nodes_step}
+use Rattle.cdf_index.proofs.NewIndex.{index_edit}
 use Rattle.cdf_puts.proofs.LeafGood.{blocks_go_on, plain_body}
 use Rattle.cdf_puts.proofs.PutBytes.{size_now, now_plain, old_plain, old_goes_on, new_goes_on}
 use Rattle.cdf_puts.proofs.PutNodes.{taken_first, taken_then, taken_neither, NodesStep, nodes_then, taken_both, or_false, place_outside, same_with_leaf, same_uses, with_one_more, last_of_through, through_stays, top_grows, bytes_longer}
@@ -16,13 +18,11 @@ use Rattle.cdf_puts.proofs.SoFarStarts.{one_more, put_new, none_begins, puts_new
 
 filter_mapped : {X Y : Type 0} (f : X → Y) (test : Y → Bool) (xs : List X) → filter test (map f xs) ≡ map f (filter (λ x. test (f x)) xs)
 filter_mapped f test [] = refl
-filter_mapped f test (x ∷ xs) = elim (either (test (f x))) [ inl t ↦ rw t (ap (λ ys. f x ∷ ys) (filter_mapped f test xs)) | inr t ↦ rw t (filter_mapped f test xs) ]
+filter_mapped f test (x ∷ xs) = grind (arith, filter_mapped f test xs)
 
 none_covers : (k : ℕ) (leaves : List Leaf) → ((l : Leaf) → IsOneOf leaves l → (l.last < k) ⊎ (k < l.first)) → list_any (covers k) (of_leaves leaves) ≡ false
 none_covers k [] f = refl
-none_covers k (x ∷ more) f =
-    let rest = none_covers k more (λ l i. f l (inr i)) in
-    elim (f x (inl refl)) [ inl lt ↦ elim (either (nat_le x.first k)) [ inl t ↦ rw (t, lt-leb k x.last lt) rest | inr t ↦ rw t rest ] | inr lt ↦ rw (lt-leb x.first k lt) rest ]
+none_covers k (x ∷ more) f = grind (arith, nat_tests, none_covers k more (λ l i. f l (inr i)), f x (inl refl))
 
 -- ---- the top chain
 
@@ -33,10 +33,7 @@ tail_then : (x y z : List ℕ) (first mid last : ℕ) → (y ≡ x) ⊎ (length 
 tail_then x y z first mid last (inl e) g p q =
     let same : mid ≡ first = p ∙ ap (λ (c : Bool). if c then first else last_of y) (ap (bytes_eq x) e ∙ bytes_eq-same x) in
     q ∙ (λ i. if bytes_eq (e i) z then same i else last_of z)
-tail_then x y z first mid last (inr lt) (inl f) p q =
-    let same = ap length f in
-    rw (bytes_longer x z (omega arith))
-    (q ∙ ap (λ (c : Bool). if c then mid else last_of z) (ap (bytes_eq y) f ∙ bytes_eq-same y) ∙ p ∙ ap (λ (c : Bool). if c then first else last_of y) (bytes_longer x y lt) ∙ ap last_of (sym f))
+tail_then x y z first mid last (inr lt) (inl f) p q = grind (arith, bytes_longer x y lt, bytes_longer x z (omega (arith, ap length f)), bytes_eq-same y)
 tail_then x y z first mid last (inr lt) (inr lt') p q = rw (bytes_longer x z (omega arith)) (q ∙ ap (λ (c : Bool). if c then mid else last_of z) (bytes_longer y z lt'))
 
 top_then : (x y z : List ℕ) → (y ≡ x) ⊎ (length x < length y) → (z ≡ y) ⊎ (length y < length z) → (z ≡ x) ⊎ (length x < length z)
@@ -124,7 +121,7 @@ module _ {b now now' : List ℕ} {kind : Kind} {before : List VariableShape} {ow
   goes_on = blocks_go_on so.goes.good so.goes.among w holds
 
   size_after : record_bytes now' own'.vdr ≡ size
-  size_after = record_alike (file so.goes.good so.goes.among w) (vdr_alike so.goes.good so.goes.among (index_edit so.goes.good so.goes.among w (plain_body body records holds))) ∙ size_now so
+  size_after = record_alike (file so.goes.good so.goes.among w) (vdr_alike so.goes.good so.goes.among (index_edit so.goes.good so.goes.among (new_index so.goes.good so.goes.among w (plain_body body records holds)))) ∙ size_now so
 
   longer : length now ≤ length now'
   longer = (file so.goes.good so.goes.among w).longer

@@ -1,6 +1,7 @@
 -- What a leaf more makes of the nodes, the Firsts and the leaves of an index, and of how wide its nodes are and which room they have.
-use Rattle.std.proofs.Common.{◌≡◌, ◌⊎◌, ℕ, zero, suc, ◌+◌, ◌≤◌, max, List, [], ◌∷◌, ◌++◌, Bool, true, false, ltb, eqb, append_assoc, refl, sym, ap, subst, ◌∙◌, arith, inl, inr}
-use Rattle.cdf_puts.proofs.Common.{eqb-true, eq-eqb, le-ltb, ◌==◌, filter, fold, min, nat_lt, record_number_limit, next_first, with_both, places_of, IsOneOf, times-append, Nodes, no_node, node, Entries, no_entry, block, lower, Leaf, leaf, leaves_of, entry_count, room_at, times, Each, NodeFits, In, In-append, either, with_new, InOrder, leaves_more}
+use Rattle.std.proofs.Common.{◌≡◌, ◌⊎◌, ℕ, zero, suc, ◌+◌, ◌≤◌, max, List, [], ◌∷◌, ◌++◌, Bool, false, ltb, append_assoc, refl, sym, ap, subst, ◌∙◌, arith, inl, inr}
+use Rattle.cdf_puts.proofs.Common.{eqb-true, eq-eqb, le-ltb, ◌==◌, filter, fold, min, nat_lt, record_number_limit, next_first, with_both, places_of, IsOneOf, times-append, Nodes, no_node, node, Entries, no_entry, block, lower, Leaf, leaf, leaves_of, entry_count, room_at, times, Each, NodeFits, In, either, with_new, InOrder, leaves_more}
+use Rattle.std.specs.Prelude.{if◌then◌else◌}
 use Rattle.std.proofs.lemmas.List.Elements.{filter-append}
 use Rattle.cdf_edits.specs.Commands.Room.{widest, widest_below}
 use Rattle.cdf_edits.specs.Index.Blocks.{firsts_of, entry_firsts}
@@ -14,65 +15,48 @@ use Rattle.cdf_index.proofs.Saying.{count_both}
 
 -- ---- a node keeps its room
 
--- 1 where an image says another room of a node
-abbrev one_unless : Bool → ℕ
-one_unless true = 0
-one_unless false = 1
+-- numbers of these nodes by the rooms that an image says, added up
+abbrev total : List ℕ → (ℕ → ℕ → ℕ) → List ℕ → ℕ
+total b w [] = 0
+total b w (m ∷ ms) = w m (room_at b m) + total b w ms
 
-abbrev differs : List ℕ → ℕ → ℕ → ℕ
-differs now place room = one_unless (room_at now place == room)
+total-append : (b : List ℕ) (w : ℕ → ℕ → ℕ) (xs ys : List ℕ) → total b w (xs ++ ys) ≡ total b w xs + total b w ys
+total-append b w [] ys = omega arith
+total-append b w (x ∷ xs) ys = omega (arith, total-append b w xs ys)
 
 mutual
-  unfolding weigh weigh_below HasNodes Names
+  unfolding weigh weigh_below HasNodes Names nodes_of lower_nodes
 
-  none_differs : (now records : List ℕ) (levels : ℕ) (nodes : Nodes) → HasNodes now records levels nodes → weigh (differs now) nodes ≡ 0
-  none_differs now records levels no_node h = refl
-  none_differs now records zero (node place room es more) h = absurd h
-  none_differs now records (suc levels) (node place room es more) h =
-      let same = eq-eqb (room_at now place) room h.0.room_is in
-      let a = none_below now records levels es h.1 in
-      let b = none_differs now records (suc levels) more h.2 in
-      rw same (omega arith)
+  weigh_is : (b records : List ℕ) (w : ℕ → ℕ → ℕ) (levels : ℕ) (nodes : Nodes) → HasNodes b records levels nodes → weigh w nodes ≡ total b w (nodes_of nodes)
+  weigh_is b records w levels no_node h = refl
+  weigh_is b records w zero (node place room es more) h = absurd h
+  weigh_is b records w (suc levels) (node place room es more) h = omega (arith, ap (w place) h.0.room_is, weigh_below_is b records w levels es h.1, weigh_is b records w (suc levels) more h.2, total-append b w (lower_nodes es) (nodes_of more))
 
-  none_below : (now records : List ℕ) (levels : ℕ) (es : Entries) → Names now records levels es → weigh_below (differs now) es ≡ 0
-  none_below now records levels no_entry h = refl
-  none_below now records levels (block first last place packed es) h = none_below now records levels es h.2
-  none_below now records levels (lower first last nodes es) h = let a = none_differs now records levels nodes h.1 in let b = none_below now records levels es h.2 in omega arith
+  weigh_below_is : (b records : List ℕ) (w : ℕ → ℕ → ℕ) (levels : ℕ) (es : Entries) → Names b records levels es → weigh_below w es ≡ total b w (lower_nodes es)
+  weigh_below_is b records w levels no_entry h = refl
+  weigh_below_is b records w levels (block first last place packed es) h = weigh_below_is b records w levels es h.2
+  weigh_below_is b records w levels (lower first last nodes es) h = omega (arith, weigh_is b records w levels nodes h.1, weigh_below_is b records w levels es h.2, total-append b w (nodes_of nodes) (lower_nodes es))
 
-module _ (b now records : List ℕ) (m : ℕ) where
-  same_room : (place room : ℕ) → differs now place room ≡ 0 → room_at b place ≡ room → room_at now place ≡ room_at b place
-  same_room place room none is = eqb-true (room_at now place) room (passes (eqb (room_at now place) room) none) ∙ sym is
-    where
-      passes : (p : Bool) → one_unless p ≡ 0 → p ≡ true
-      passes true e = refl
-      passes false e = absurd (omega arith)
+-- 1 where an image says another room of a node
+abbrev differs : List ℕ → ℕ → ℕ → ℕ
+differs now place room = if room_at now place == room then 0 else 1
 
-  mutual
-    unfolding weigh weigh_below HasNodes Names nodes_of lower_nodes
+none_differs : (now ms : List ℕ) → total now (differs now) ms ≡ 0
+none_differs now [] = refl
+none_differs now (m ∷ ms) = let same = eq-eqb (room_at now m) (room_at now m) refl in rw same (omega (arith, none_differs now ms))
 
-    same_rooms : (levels : ℕ) (nodes : Nodes) → HasNodes b records levels nodes → weigh (differs now) nodes ≡ 0 → In m (nodes_of nodes) → room_at now m ≡ room_at b m
-    same_rooms levels no_node h z i = absurd i
-    same_rooms zero (node place room es more) h z i = absurd h
-    same_rooms (suc levels) (node place room es more) h z (inl q) = subst (λ (x : ℕ). room_at now x ≡ room_at b x) (sym q) (same_room place room (omega arith) h.0.room_is)
-    same_rooms (suc levels) (node place room es more) h z (inr i) = elim (In-append m (lower_nodes es) (nodes_of more) i) [
-      | inl j ↦ same_below levels es h.1 (omega arith) j
-      | inr j ↦ same_rooms (suc levels) more h.2 (omega arith) j
-    ]
-
-    same_below : (levels : ℕ) (es : Entries) → Names b records levels es → weigh_below (differs now) es ≡ 0 → In m (lower_nodes es) → room_at now m ≡ room_at b m
-    same_below levels no_entry h z i = absurd i
-    same_below levels (block first last place packed es) h z i = same_below levels es h.2 z i
-    same_below levels (lower first last nodes es) h z i = elim (In-append m (nodes_of nodes) (lower_nodes es) i) [
-      | inl j ↦ same_rooms levels nodes h.1 (omega arith) j
-      | inr j ↦ same_below levels es h.2 (omega arith) j
-    ]
+same_rooms : (b now ms : List ℕ) → total b (differs now) ms ≡ 0 → (m : ℕ) → In m ms → room_at now m ≡ room_at b m
+same_rooms b now [] z m i = absurd i
+same_rooms b now (x ∷ ms) z m (inr i) = same_rooms b now ms (omega arith) m i
+same_rooms b now (x ∷ ms) z m (inl q) = elim (either (room_at now x == room_at b x)) [
+  | inl t ↦ subst (λ (y : ℕ). room_at now y ≡ room_at b y) (sym q) (eqb-true (room_at now x) (room_at b x) t)
+  | inr t ↦ let one : 1 + total b (differs now) ms ≡ 0 = rw t at z in absurd (omega arith)
+]
 
 -- the room that it says in each of two images
 pub room_stays : (b now records records' : List ℕ) (levels levels' : ℕ) (new : Leaf) (at m : ℕ) (index : Nodes) → HasNodes b records levels index → HasNodes now records' levels' (with_leaf new at index) → In m (nodes_of index) → room_at now m ≡ room_at b m
-room_stays b now records records' levels levels' new at m index h h' i =
-    let none = none_differs now records' levels' (with_leaf new at index) h' in
-    let more = by_leaf (weight_grows (differs now) new at) index in
-    same_rooms b now records m levels index h (omega arith) i
+room_stays b now records records' levels levels' new at m index h h' =
+    same_rooms b now (nodes_of index) (omega (arith, weigh_is b records (differs now) levels index h, weigh_is now records' (differs now) levels' (with_leaf new at index) h', none_differs now (nodes_of (with_leaf new at index)), by_leaf (weight_grows (differs now) new at) index)) m
 
 -- ---- the Firsts, and the least of them past a record
 
@@ -108,24 +92,14 @@ next_firsts_with_leaf new at index n le = ap (fold min (record_number_limit + 1)
 
 places_new : (m : ℕ) (l : Leaf) (xs : List Leaf) → times m (places_of (with_new l xs)) ≡ times m (places_of xs) + times m (l.place ∷ [])
 places_new m l [] = omega arith
-places_new m l (x ∷ xs) = elim (either (ltb l.first x.first)) [
-  | inl t ↦ let whole = times-append m (l.place ∷ []) (places_of (x ∷ xs)) in rw t (omega arith)
-  | inr t ↦
-      let old = times-append m (x.place ∷ []) (places_of xs) in
-      let whole = times-append m (x.place ∷ []) (places_of (with_new l xs)) in
-      let rest = places_new m l xs in
-      rw t (omega arith)
-]
+places_new m l (x ∷ xs) = grind (arith, times-append m (l.place ∷ []) (places_of (x ∷ xs)), times-append m (x.place ∷ []) (places_of xs), times-append m (x.place ∷ []) (places_of (with_new l xs)), places_new m l xs)
 
 pub places_with_leaf : (new : Leaf) (at low high : ℕ) (index : Nodes) → InOrder low high index → (m : ℕ) → times m (places_of (leaves_of (with_leaf new at index))) ≡ times m (places_of (leaves_of index)) + times m (new.place ∷ [])
 places_with_leaf new at low high index o m = ap (λ (xs : List Leaf). times m (places_of xs)) (leaves_more new at low high index o) ∙ places_new m new (leaves_of index)
 
 old_new : (l x : Leaf) (xs : List Leaf) → IsOneOf xs x → IsOneOf (with_new l xs) x
 old_new l x [] i = absurd i
-old_new l x (y ∷ ys) i = elim (either (ltb l.first y.first)) [
-  | inl t ↦ rw t (inr i)
-  | inr t ↦ rw t (elim i [ inl e ↦ inl e | inr j ↦ inr (old_new l x ys j) ])
-]
+old_new l x (y ∷ ys) i = grind (arith, old_new l x ys)
 
 new_new : (l : Leaf) (xs : List Leaf) → IsOneOf (with_new l xs) l
 new_new l [] = inl refl
@@ -133,10 +107,7 @@ new_new l (y ∷ ys) = elim (either (ltb l.first y.first)) [ inl t ↦ rw t (inl
 
 one_new : (l x : Leaf) (xs : List Leaf) → IsOneOf (with_new l xs) x → (x ≡ l) ⊎ IsOneOf xs x
 one_new l x [] i = elim i [ inl e ↦ inl (sym e) | inr j ↦ absurd j ]
-one_new l x (y ∷ ys) i = elim (either (ltb l.first y.first)) [
-  | inl t ↦ let here : IsOneOf (l ∷ y ∷ ys) x = rw t at i in elim here [ inl e ↦ inl (sym e) | inr j ↦ inr j ]
-  | inr t ↦ let here : IsOneOf (y ∷ with_new l ys) x = rw t at i in elim here [ inl e ↦ inr (inl e) | inr j ↦ elim (one_new l x ys j) [ inl e ↦ inl e | inr k ↦ inr (inr k) ] ]
-]
+one_new l x (y ∷ ys) i = grind (arith, one_new l x ys)
 
 pub leaf_stays : (new : Leaf) (at low high : ℕ) (index : Nodes) → InOrder low high index → (l : Leaf) → IsOneOf (leaves_of index) l → IsOneOf (leaves_of (with_leaf new at index)) l
 leaf_stays new at low high index o l i = rw (leaves_more new at low high index o) (old_new new l (leaves_of index) i)

@@ -1,59 +1,45 @@
 -- A leaf that is added, as one edit: its block is taken and written, then a node where one is needed, and then the entries are.
-use Rattle.std.proofs.Common.{◌≡◌, ℕ, zero, suc, ◌+◌, ◌*◌, ◌<◌, ◌≤◌, List, [], ◌∷◌, ◌++◌, length, true, append-nil, refl, sym, ap, subst, ◌∙◌, arith, inl, inr, ◌≢◌, ◌⊎◌, true≢false, Bool, false, ◌||◌, ◌==◌, eq-eqb}
-use Rattle.cdf_puts.proofs.Common.{vxr_n_entries, r_max_rec_field, space_fields, node_acts, is_in-false, Kind, R, Z, size_at, type_at, eof, Leaf, nodes_of, room_at, vxr_type, VariableShape, shape, NodeFits, IsSound, In, Good, number_kept, size_kept, type_kept, linkable-type, good_is_sound, nodes_stand, In-append_left, In-append_right, tile_lies, vxr_bytes, Edit, Mark, Away, unmarked, Touch, new_room, type_in, variables_chain, unmarked-away, Away-append, kept_away, node_behind, StandsAmong, through, tile, typed, long, has, fits, behind_in, Kept, Each-in, placing_marks, NodeTaken, IndexTouch, LeafAdded, ne_eqb, Same, is_in, number, leaves_of, variable_records, Field, gdr_type, vvr_type, cvvr_type, cpr_type, uir_type, is_record_type, fixed_size, Shape, Each, In-append, Avoids, with_leaf, places_of, away-avoids, Avoids-append, kept, gdr_in, gdr_typed, gdr_long, block_behind, variables_in, other_kind, FileSame, all_variable_records, apart, type_of_body, OwnEdit, IndexEdit, is_taken_at, Act, changed_part, Same-part, leaf_acts}
-use Rattle.cdf_edits.specs.Edits.Marks.{within, Among, Marked, variable_types, keeps_file, avoided}
+use Rattle.std.proofs.Common.{◌≡◌, ℕ, zero, suc, ◌+◌, ◌*◌, ◌<◌, ◌≤◌, List, [], ◌∷◌, ◌++◌, length, true, append-nil, refl, sym, ap, subst, ◌∙◌, arith, inl, inr, ◌≢◌, ◌⊎◌, Bool, false, ◌||◌, ◌==◌, eq-eqb}
+use Rattle.cdf_puts.proofs.Common.{vxr_n_entries, r_max_rec_field, space_fields, node_acts, is_in-false, Kind, R, Z, size_at, type_at, eof, Leaf, nodes_of, room_at, vxr_type, VariableShape, shape, NodeFits, IsSound, In, Good, number_kept, size_kept, type_kept, linkable-type, good_is_sound, nodes_stand, In-append_left, In-append_right, tile_lies, vxr_bytes, Edit, Mark, unmarked, Touch, new_room, type_in, variables_chain, unmarked-away, kept_away, node_behind, StandsAmong, through, tile, typed, long, has, fits, behind_in, Kept, Each-in, placing_marks, NodeTaken, IndexTouch, LeafAdded, Same, is_in, number, Field, gdr_type, vvr_type, uir_type, is_record_type, fixed_size, Shape, Each, In-append, Avoids, with_leaf, away-avoids, FileSame, apart, type_of_body, is_taken_at, Act, changed_part, Same-part, leaf_acts}
+use Rattle.cdf_edits.specs.Edits.Marks.{Marked, variable_types, keeps_file, avoided}
 use Rattle.std.proofs.lemmas.Bool.{both_ways, or_left, or_right}
 use Rattle.cdf_edits.proofs.Edits.Composing.{changed_edit, same-then, head_size, head_type, edit_then}
-use Rattle.cdf_edits.proofs.Edits.MadeRecord.{place_in, fresh, filled_size}
+use Rattle.cdf_edits.proofs.Edits.MadeRecord.{place_in, filled_size}
 use Rattle.cdf_edits.proofs.Edits.StepEdits.{some_bytes}
-use Rattle.cdf_edits.proofs.Edits.VariableFrame.{Each-map, variable_typed}
-use Rattle.cdf_edits.proofs.Edits.RecordPlaced.{links_mark, Grows, NodeStands, grows_not, placed_grows}
+use Rattle.cdf_edits.proofs.Edits.VariableFrame.{Each-map}
+use Rattle.cdf_edits.proofs.Edits.RecordPlaced.{Grows, NodeStands, placed_grows}
+use Rattle.cdf_edits.proofs.Edits.TakenAll.{TakenAll, none_taken, taken_then, taking_all}
 use Rattle.cdf_format.specs.Chains.{IsChain}
-use Rattle.cdf_format.specs.Records.{gdr_eof, gdr_uir_head}
-use Rattle.cdf_format.specs.RecordTypes.{r_vdr_type, z_vdr_type}
-use Rattle.cdf_edits.specs.Space.Chains.{head_of, count_of}
-use Rattle.cdf_edits.proofs.Edits.MarkLemmas.{the_one}
-use Rattle.cdf_edits.proofs.Edits.RecordFrame.{chain_stays, field_avoids, file_same}
-use Rattle.cdf_edits.proofs.Edits.VariableKept.{OnlyVariable, only_variable}
-use Rattle.cdf_edits.proofs.Edits.VariableKinds.{keeps_kind}
-use Rattle.cdf_edits.proofs.Edits.VariableSplice.{VariableSplices, keeps_all_attributes}
+use Rattle.cdf_format.specs.Records.{field, gdr_eof, gdr_uir_head}
+use Rattle.cdf_edits.proofs.Edits.MarkLemmas.{all_unmarked-away, the_one}
+use Rattle.cdf_edits.proofs.Edits.RecordFrame.{chain_stays, file_same, gdr_field, kept}
 use Rattle.cdf_index.specs.Replacing.{with_index}
 use Rattle.cdf_edits.specs.Frame.Changed.{Misses, Placed as TouchesPlaced}
 use Rattle.cdf_index.proofs.ByLeaf.{in_nodes_with_leaf, node_stays}
-use Rattle.cdf_index.proofs.OwnRecords.{block_type}
 use Rattle.cdf_puts.proofs.LeafCounts.{room_stays}
 use Rattle.cdf_puts.proofs.RaisedGoes.{behind_no_vdr}
 use Rattle.cdf_puts.proofs.PutNodes.{NodesStep}
-use Rattle.cdf_edits.proofs.Edits.OwnEdited as of_own
-use Rattle.cdf_edits.proofs.Edits.IndexEdited as of_index
+use Rattle.cdf_index.proofs.NewIndex.{IndexTests, NewIndex, index_marks, index_unmarked, vdr_no_node, vdr_of_variable}
 
 -- ---- marks
-
--- a node is taken and written, where it has room for one entry at least
-abbrev pub node_marks : List ℕ → ℕ → ℕ → List Mark
-node_marks unused zero at = []
-node_marks unused (suc room) at = placing_marks unused at (vxr_bytes (suc room))
 
 abbrev pub new_nodes : ℕ → ℕ → List ℕ
 new_nodes zero at = []
 new_nodes (suc room) at = at ∷ []
 
--- nodes, from the link to the next one on
-abbrev pub nodes_mark : List ℕ → ℕ → Mark
-nodes_mark nodes most = record { type = vxr_type; tiles = Among nodes; place = 12; width = most }
-
-abbrev pub index_marks : Kind → ℕ → List ℕ → ℕ → List Mark
-index_marks kind v nodes most = links_mark kind v ∷ nodes_mark nodes most ∷ []
+-- nodes are written from the link to the next one on
+abbrev pub entry_marks : Kind → ℕ → List ℕ → ℕ → List Mark
+entry_marks kind v nodes most = index_marks kind v nodes (field 12 most)
 
 -- all of them
-abbrev pub leaf_marks : Kind → ℕ → List ℕ → List ℕ → ℕ → ℕ → List ℕ → ℕ → ℕ → ℕ → List Mark
-leaf_marks kind v nodes unused place need unused' room at most = (placing_marks unused place need ++ node_marks unused' room at) ++ index_marks kind v (new_nodes room at ++ nodes) most
+abbrev pub leaf_marks : Kind → ℕ → List ℕ → List ℕ → List ℕ → ℕ → ℕ → List Mark
+leaf_marks kind v unused places nodes enough most = taking_all unused places enough ++ entry_marks kind v nodes most
 
--- ---- a record is placed, or nothing is done
+-- ---- a node is taken, or nothing is done
 
-pub node_grows : {b now : List ℕ} (room at : ℕ) → IsSound b (shape b) → eof b (shape b).gdr ≡ length b → NodeTaken b now room at → Grows b now (node_marks (shape b).unused room at) (new_nodes room at)
-node_grows {b = b} zero at sound end taken = subst (λ (x : List ℕ). Grows b x [] []) (sym taken.0) (grows_not sound end)
-node_grows (suc room) at sound end taken = placed_grows sound taken.fills
+node_takes : {b now : List ℕ} {enough : ℕ} (room at : ℕ) → IsSound b (shape b) → eof b (shape b).gdr ≡ length b → NodeTaken b now room at → vxr_bytes room ≤ enough → TakenAll b now (node_acts room at) (new_nodes room at) enough
+node_takes {b = b} {enough = enough} zero at sound end taken few = subst (λ (x : List ℕ). TakenAll b x [] [] enough) (sym taken.0) (none_taken sound end)
+node_takes (suc room) at sound end taken few = let g = placed_grows sound taken.fills in taken_then sound taken.fills few (none_taken g.sound g.end_is)
 
 -- ---- the new node
 
@@ -65,63 +51,15 @@ is_new_node : (room at : ℕ) → 0 < room → In at (new_nodes room at)
 is_new_node zero at some = absurd (omega arith)
 is_new_node (suc room) at some = inl refl
 
--- ---- what is placed leaves records of other types
-
-pub space_away : (unused : List ℕ) (place need : ℕ) (unused' : List ℕ) (room at type m : ℕ) → unmarked (placing_marks unused place need) type ≡ true → Away (placing_marks unused place need ++ node_marks unused' room at) type m
-space_away unused place need unused' zero at type m none = Away-append (placing_marks unused place need) [] type m (unmarked-away (placing_marks unused place need) type m none) tt
-space_away unused place need unused' (suc room) at type m none = Away-append (placing_marks unused place need) (placing_marks unused' at (vxr_bytes (suc room))) type m (unmarked-away (placing_marks unused place need) type m none) (unmarked-away (placing_marks unused' at (vxr_bytes (suc room))) type m none)
-
-pub vdr_no_space : (kind : Kind) (unused : List ℕ) (place need : ℕ) → unmarked (placing_marks unused place need) (type_in (variables_chain kind)) ≡ true
-vdr_no_space R unused place need = refl
-vdr_no_space Z unused place need = refl
-
 -- ---- which records the marks leave by their types alone
 
-pub record LeafTests (kind : Kind) (marks : List Mark) : Type 0 where
-  pub file_clear : keeps_file marks ≡ true
-  pub attributes_clear : keeps_all_attributes marks ≡ true
-  pub other_clear : keeps_kind marks (other_kind kind) ≡ true
-  pub blocks_clear : unmarked marks vvr_type ≡ true
-  pub packed_clear : unmarked marks cvvr_type ≡ true
-  pub cpr_clear : unmarked marks cpr_type ≡ true
-  pub head_clear : avoided marks gdr_type (head_of (variables_chain kind)).place ((head_of (variables_chain kind)).place + (head_of (variables_chain kind)).width) ≡ true
-  pub count_clear : avoided marks gdr_type (count_of (variables_chain kind)).place ((count_of (variables_chain kind)).place + (count_of (variables_chain kind)).width) ≡ true
-  pub max_clear : avoided marks gdr_type 52 56 ≡ true
-  pub heads_clear : avoided marks gdr_type 0 12 ≡ true
-  pub inside : within marks gdr_type (r_max_rec_field kind ++ space_fields) ≡ true
+leaf_tests : (kind : Kind) (v : ℕ) (unused places nodes : List ℕ) (enough most : ℕ) → IndexTests kind (r_max_rec_field kind ++ space_fields) (leaf_marks kind v unused places nodes enough most)
+leaf_tests R v unused places nodes enough most = record { file_clear = refl; attributes_clear = refl; other_clear = refl; blocks_clear = refl; packed_clear = refl; cpr_clear = refl; head_clear = refl; count_clear = refl; max_clear = refl; heads_clear = refl; inside = refl }
+leaf_tests Z v unused places nodes enough most = record { file_clear = refl; attributes_clear = refl; other_clear = refl; blocks_clear = refl; packed_clear = refl; cpr_clear = refl; head_clear = refl; count_clear = refl; max_clear = refl; heads_clear = refl; inside = refl }
 
-pub leaf_tests : (kind : Kind) (v : ℕ) (nodes unused : List ℕ) (place need : ℕ) (unused' : List ℕ) (room at most : ℕ) → LeafTests kind (leaf_marks kind v nodes unused place need unused' room at most)
-leaf_tests R v nodes unused place need unused' zero at most = record { file_clear = refl; attributes_clear = refl; other_clear = refl; blocks_clear = refl; packed_clear = refl; cpr_clear = refl; head_clear = refl; count_clear = refl; max_clear = refl; heads_clear = refl; inside = refl }
-leaf_tests R v nodes unused place need unused' (suc room) at most = record { file_clear = refl; attributes_clear = refl; other_clear = refl; blocks_clear = refl; packed_clear = refl; cpr_clear = refl; head_clear = refl; count_clear = refl; max_clear = refl; heads_clear = refl; inside = refl }
-leaf_tests Z v nodes unused place need unused' zero at most = record { file_clear = refl; attributes_clear = refl; other_clear = refl; blocks_clear = refl; packed_clear = refl; cpr_clear = refl; head_clear = refl; count_clear = refl; max_clear = refl; heads_clear = refl; inside = refl }
-leaf_tests Z v nodes unused place need unused' (suc room) at most = record { file_clear = refl; attributes_clear = refl; other_clear = refl; blocks_clear = refl; packed_clear = refl; cpr_clear = refl; head_clear = refl; count_clear = refl; max_clear = refl; heads_clear = refl; inside = refl }
-
--- a descriptor has none of the other types
-vdr_unlike : (kind : Kind) (type : ℕ) → (r_vdr_type == type) ≡ false → (z_vdr_type == type) ≡ false → type_in (variables_chain kind) ≡ type → ⊥
-vdr_unlike R type r z = apart r_vdr_type type r
-vdr_unlike Z type r z = apart z_vdr_type type z
-
--- a record of a variable is neither the GDR nor unused
-variable_unspaced : (unused : List ℕ) (place need type : ℕ) → is_in type variable_types ≡ true → unmarked (placing_marks unused place need) type ≡ true
-variable_unspaced unused place need type i = rw (ne_eqb type gdr_type (unlike gdr_type refl), ne_eqb type uir_type (unlike uir_type refl)) refl
-  where
-    unlike : (other : ℕ) → is_in other variable_types ≡ false → type ≢ other
-    unlike other out e = true≢false (sym i ∙ ap (λ (x : ℕ). is_in x variable_types) e ∙ out)
-
-late_clear : (kind : Kind) (v : ℕ) (nodes unused : List ℕ) (room at most : ℕ) → unmarked (node_marks unused room at ++ index_marks kind v nodes most) vvr_type ≡ true
-late_clear R v nodes unused zero at most = refl
-late_clear R v nodes unused (suc room) at most = refl
-late_clear Z v nodes unused zero at most = refl
-late_clear Z v nodes unused (suc room) at most = refl
-
--- ---- what is new
-
--- a node that is taken was unused, or no record
-pub node_fresh : {b : List ℕ} (now : List ℕ) (room at : ℕ) → IsSound b (shape b) → NodeTaken b now room at → (m : ℕ) → In m (new_nodes room at) → In m (shape b).records → type_at b m ≡ uir_type
-node_fresh now zero at sound taken m i stands = absurd i
-node_fresh {b = b} now (suc room) at sound taken m i stands =
-    let q = the_one at m i in
-    ap (type_at b) q ∙ fresh sound taken.fills (subst (λ (x : ℕ). In x (shape b).records) q stands)
+entries_clear : (kind : Kind) (v : ℕ) (nodes : List ℕ) (most : ℕ) → (keeps_file (entry_marks kind v nodes most) ≡ true) × (avoided (entry_marks kind v nodes most) gdr_type 36 44 ≡ true) × (avoided (entry_marks kind v nodes most) gdr_type 64 72 ≡ true)
+entries_clear R v nodes most = (refl, refl, refl)
+entries_clear Z v nodes most = (refl, refl, refl)
 
 -- ---- what is taken for a leaf
 
@@ -163,11 +101,15 @@ module _ {b now : List ℕ} {kind : Kind} {before : List VariableShape} {own : V
   abbrev pub most : ℕ
   most = length w.roomy
 
-  abbrev pub marks : List Mark
-  marks = leaf_marks kind v nodes (shape b).unused new.place need (shape w.filled).unused room at most
-
   abbrev pub reborn : List ℕ
   reborn = new.place ∷ new_nodes room at
+
+  -- no record that is taken has more bytes
+  abbrev pub enough : ℕ
+  enough = need + vxr_bytes room
+
+  abbrev pub marks : List Mark
+  marks = leaf_marks kind v (shape b).unused reborn (new_nodes room at ++ nodes) enough most
 
   sound : IsSound b (shape b)
   sound = good_is_sound b good
@@ -176,17 +118,21 @@ module _ {b now : List ℕ} {kind : Kind} {before : List VariableShape} {own : V
   pub block_placed : Grows b w.filled (placing_marks (shape b).unused new.place need) (new.place ∷ [])
   block_placed = placed_grows sound w.block.fills
 
-  pub node_placed : Grows w.filled w.roomy (node_marks (shape w.filled).unused room at) (new_nodes room at)
-  node_placed = node_grows room at block_placed.sound block_placed.end_is w.node
+  pub node_taking : TakenAll w.filled w.roomy (node_acts room at) (new_nodes room at) enough
+  node_taking = node_takes room at block_placed.sound block_placed.end_is w.node (omega arith)
 
-  pub grown : Edit b w.roomy (shape b).records (shape w.roomy).records (placing_marks (shape b).unused new.place need ++ node_marks (shape w.filled).unused room at) reborn
-  grown = edit_then block_placed.edit node_placed.edit
+  pub taking : TakenAll b w.roomy (leaf_acts new.place need room at) reborn enough
+  taking = taken_then sound w.block.fills (omega arith) node_taking
 
-  pub kept_first : (m t : ℕ) → In m (shape b).records → type_at b m ≡ t → unmarked (placing_marks (shape b).unused new.place need) t ≡ true → Kept b w.roomy m
-  kept_first m t i is none = kept_away grown m t i is (space_away (shape b).unused new.place need (shape w.filled).unused room at t m none)
+  abbrev grown : Edit b w.roomy (shape b).records (shape w.roomy).records (taking_all (shape b).unused reborn enough) reborn
+  grown = taking.grows.edit
+
+  -- of the records of variables they leave each that there was
+  kept_first : (m t : ℕ) → In m (shape b).records → type_at b m ≡ t → is_in t variable_types ≡ true → Kept b w.roomy m
+  kept_first m t i is variable = kept_away grown m t i is (all_unmarked-away (taking_all (shape b).unused reborn enough) variable_types t m refl variable)
 
   vdr_kept : Kept b w.roomy v
-  vdr_kept = kept_first v type (tile good among) (typed good among) (vdr_no_space kind (shape b).unused new.place need)
+  vdr_kept = kept_first v type (tile good among) (typed good among) (vdr_of_variable kind)
 
   pub node_in : (m : ℕ) → In m nodes → In m (shape b).records
   node_in m i = behind_in good among m (node_behind own m i)
@@ -211,12 +157,12 @@ module _ {b now : List ℕ} {kind : Kind} {before : List VariableShape} {own : V
   node_fits m i = rw (room_kept m i, roomy_size m i) (fit m i).0
 
   pub sound_roomy : IsSound w.roomy (shape w.roomy)
-  sound_roomy = node_placed.sound
+  sound_roomy = taking.grows.sound
 
   in_image : (m : ℕ) → In m (shape w.roomy).records → m + size_at w.roomy m ≤ most
   in_image m i = (tile_lies w.roomy 8 most (shape w.roomy).records m sound_roomy.has_shape.tiled i).high
 
-  pub touch_marked : (t : Touch) → IndexTouch w.roomy own room at t → Marked w.roomy (shape w.roomy).records (index_marks kind v (new_nodes room at ++ nodes) most) [] t
+  pub touch_marked : (t : Touch) → IndexTouch w.roomy own room at t → Marked w.roomy (shape w.roomy).records (entry_marks kind v (new_nodes room at ++ nodes) most) [] t
   touch_marked t (inl x) =
       let q = x.0 in
       let low = x.1 in
@@ -243,7 +189,7 @@ module _ {b now : List ℕ} {kind : Kind} {before : List VariableShape} {own : V
         (ap (type_at w.roomy) q ∙ there.typed) (subst (λ (m : ℕ). In m (new_nodes room at ++ nodes)) (sym q) (In-append_left at (new_nodes room at) nodes (is_new_node room at n.0)))
   ]
     where
-      marked : (t : Touch) → 12 ≤ t.place → In t.tile (shape w.roomy).records → t.place + t.width ≤ size_at w.roomy t.tile → type_at w.roomy t.tile ≡ vxr_type → In t.tile (new_nodes room at ++ nodes) → Marked w.roomy (shape w.roomy).records (index_marks kind v (new_nodes room at ++ nodes) most) [] t
+      marked : (t : Touch) → 12 ≤ t.place → In t.tile (shape w.roomy).records → t.place + t.width ≤ size_at w.roomy t.tile → type_at w.roomy t.tile ≡ vxr_type → In t.tile (new_nodes room at ++ nodes) → Marked w.roomy (shape w.roomy).records (entry_marks kind v (new_nodes room at ++ nodes) most) [] t
       marked t low inside fits_now is lies = record {
         inside = inside;
         fits = fits_now;
@@ -253,9 +199,9 @@ module _ {b now : List ℕ} {kind : Kind} {before : List VariableShape} {own : V
       }
 
   -- and then the entries are written
-  pub entries_written : Edit w.roomy now (shape w.roomy).records (shape w.roomy).records (index_marks kind v (new_nodes room at ++ nodes) most) []
-  entries_written = changed_edit w.roomy now (shape w.roomy).records w.touches (index_marks kind v (new_nodes room at ++ nodes) most) [] sound_roomy.has_shape.tiled w.as_long w.changed
-      (Each-map (IndexTouch w.roomy own room at) (Marked w.roomy (shape w.roomy).records (index_marks kind v (new_nodes room at ++ nodes) most) []) touch_marked w.touches w.within) (some_bytes w.roomy (shape w.roomy) sound_roomy.has_shape)
+  pub entries_written : Edit w.roomy now (shape w.roomy).records (shape w.roomy).records (entry_marks kind v (new_nodes room at ++ nodes) most) []
+  entries_written = changed_edit w.roomy now (shape w.roomy).records w.touches (entry_marks kind v (new_nodes room at ++ nodes) most) [] sound_roomy.has_shape.tiled w.as_long w.changed
+      (Each-map (IndexTouch w.roomy own room at) (Marked w.roomy (shape w.roomy).records (entry_marks kind v (new_nodes room at ++ nodes) most) []) touch_marked w.touches w.within) (some_bytes w.roomy (shape w.roomy) sound_roomy.has_shape)
 
   pub edit : Edit b now s.records (shape w.roomy).records marks reborn
   edit = subst (Edit b now (shape b).records (shape w.roomy).records marks) (append-nil reborn) (edit_then grown entries_written)
@@ -263,8 +209,8 @@ module _ {b now : List ℕ} {kind : Kind} {before : List VariableShape} {own : V
   abbrev pub with_new : VariableShape
   with_new = with_index own (with_leaf new at own.index)
 
-  pub tests : LeafTests kind marks
-  tests = leaf_tests kind v nodes s.unused new.place need (shape w.filled).unused room at most
+  pub tests : IndexTests kind (r_max_rec_field kind ++ space_fields) marks
+  tests = leaf_tests kind v s.unused reborn (new_nodes room at ++ nodes) enough most
 
   pub file : FileSame b now
   file = file_same sound edit tests.file_clear
@@ -275,84 +221,24 @@ module _ {b now : List ℕ} {kind : Kind} {before : List VariableShape} {own : V
   pub block_in : In new.place (shape w.filled).records
   block_in = place_in sound w.block.fills
 
-  pub new_apart : In new.place (new_nodes room at) → ⊥
-  new_apart i = w.block.fills.in_use (sym w.block.fills.typed ∙ node_fresh w.roomy room at block_placed.sound w.node new.place i block_in)
-
-  -- what is reborn was unused, or no record
-  pub new_fresh : (m : ℕ) → In m reborn → In m s.records → type_at b m ≡ uir_type
-  new_fresh m (inl q) stands = ap (type_at b) q ∙ fresh sound w.block.fills (subst (λ (x : ℕ). In x s.records) q stands)
-  new_fresh m (inr i) stands =
-      let unused_by_then = node_fresh w.roomy room at block_placed.sound w.node m i (block_placed.edit.sub m stands) in
-      elim (block_placed.edit.kind m (block_placed.edit.sub m stands)) [
-        | inl j ↦ sym j.1 ∙ unused_by_then
-        | inr (inl j) ↦ absurd (j.0 stands)
-        | inr (inr r) ↦ absurd (new_apart (subst (λ (x : ℕ). In x (new_nodes room at)) (the_one new.place m r) i))
-      ]
-
-  -- ---- records without marks
-
-  -- records of variables that are not of this one
-  pub beside : (m : ℕ) → In m (all_variable_records s) → (In m (variable_records own) → ⊥) → Away marks (type_at b m) m
-  beside m i out =
-      let type = type_at b m in
-      Away-append (placing_marks s.unused new.place need ++ node_marks (shape w.filled).unused room at) (index_marks kind v (new_nodes room at ++ nodes) most) type m
-      (space_away s.unused new.place need (shape w.filled).unused room at type m (variable_unspaced s.unused new.place need type (variable_typed b s sound m i))) (
-        (λ same lies. out (inl (the_one v m lies))),
-        (
-          (λ t j. elim (In-append m (new_nodes room at) nodes j) [
-            | inl k ↦ apart vxr_type uir_type refl (sym t ∙ new_fresh m (inr k) (variables_in b s sound m i))
-            | inr k ↦ out (inr (node_behind own m k))
-          ]),
-          tt,
-        ),
-      )
-
-  pub only : (m : ℕ) → In m (variable_records own) → OnlyVariable b s kind before after m
-  only m i = only_variable sound kind before own after among.was m i
-
-  -- its blocks
-  pub block_kept : (m : ℕ) → In m (places_of (leaves_of own.index)) → Kept b now m
-  block_kept m i =
-      let stands = behind_in good among m (block_behind own m i) in
-      elim (block_type b s.records v (leaves_of own.index) (fits good among).2 m i) [ inl t ↦ kept edit m vvr_type stands t tests.blocks_clear | inr t ↦ kept edit m cvvr_type stands t tests.packed_clear ]
-
-  -- ---- its VDR
-
-  any_avoids : (m lo hi : ℕ) → (hi ≤ 28) ⊎ (44 ≤ lo) → Avoids marks type m lo hi
-  any_avoids m lo hi side =
-      let space = placing_marks s.unused new.place need ++ node_marks (shape w.filled).unused room at in
-      Avoids-append space (index_marks kind v (new_nodes room at ++ nodes) most) type m lo hi (away-avoids space type m lo hi (space_away s.unused new.place need (shape w.filled).unused room at type m (vdr_no_space kind s.unused new.place need)))
-      ((λ same lies. side), ((λ same lies. absurd (vdr_unlike kind vxr_type refl refl same)), tt))
-
-  pub part : (lo hi : ℕ) → (hi ≤ 28) ⊎ (44 ≤ lo) → hi ≤ size_at b v → Same b now (v + lo) (v + hi)
-  part lo hi side fit = edit.part v type lo hi (tile good among) (typed good among) (any_avoids v 0 12 (inl (omega arith))) (any_avoids v lo hi side) fit
-
-  pub wide : 340 ≤ size_at b v
-  wide = long good among
-
-  pub part_of : (lo hi : ℕ) → (hi ≤ 28) ⊎ (44 ≤ lo) → hi ≤ 340 → Same b now (v + lo) (v + hi)
-  part_of lo hi side l = part lo hi side (through hi 340 (size_at b v) l wide)
-
-  pub vdr_size : size_at now v ≡ size_at b v
-  vdr_size = head_size b now v (part_of 0 12 (inl (omega arith)) (omega arith))
-
   -- ---- the new records
 
   -- nothing of the block is written once it is placed
   pub placed_kept : type_of_body body ≡ vvr_type → Kept w.filled now new.place
-  placed_kept plain = kept_away (edit_then node_placed.edit entries_written) new.place vvr_type block_in (w.block.fills.typed ∙ plain) (unmarked-away (node_marks (shape w.filled).unused room at ++ index_marks kind v (new_nodes room at ++ nodes) most) vvr_type new.place (late_clear kind v (new_nodes room at ++ nodes) (shape w.filled).unused room at most))
+  placed_kept plain = kept (edit_then node_taking.grows.edit entries_written) new.place vvr_type block_in (w.block.fills.typed ∙ plain) (late_clear kind)
+    where
+      late_clear : (kind : Kind) → unmarked (leaf_marks kind v (shape w.filled).unused (new_nodes room at) (new_nodes room at ++ nodes) enough most) vvr_type ≡ true
+      late_clear R = refl
+      late_clear Z = refl
 
   pub placed_size : size_at w.filled new.place ≡ need
   placed_size = filled_size sound w.block.fills
-
-  node_head : (kind : Kind) (v : ℕ) (ns : List ℕ) (m most' : ℕ) → Avoids (index_marks kind v ns most') vxr_type m 0 12
-  node_head kind v ns m most' = ((λ same lies. absurd (vdr_unlike kind vxr_type refl refl (sym same))), ((λ same lies. inl (omega arith)), tt))
 
   -- the new node has its type and its size
   pub node_now : 0 < room → (type_at now at ≡ vxr_type) × (size_at now at ≡ vxr_bytes room)
   node_now some =
       let there = node_stands room at block_placed.sound w.node some in
-      let avoid = node_head kind v (new_nodes room at ++ nodes) at most in
+      let avoid : Avoids (entry_marks kind v (new_nodes room at ++ nodes) most) vxr_type at 0 12 = ((λ same lies. absurd (vdr_no_node kind (sym same))), ((λ same lies. inl (omega arith)), tt)) in
       let head = entries_written.part at vxr_type 0 12 there.inside there.typed avoid avoid (subst (λ (n : ℕ). 12 ≤ n) (sym there.size_is) (omega arith)) in
       (head_type w.roomy now at head ∙ there.typed, head_size w.roomy now at head ∙ there.size_is)
 
@@ -382,52 +268,34 @@ module _ {b now : List ℕ} {kind : Kind} {before : List VariableShape} {own : V
 
   -- ---- chains
 
-  late_unmarked : (kind : Kind) (v : ℕ) (ns : List ℕ) (most' type' m lo hi : ℕ) → (type' ≡ gdr_type) ⊎ (type' ≡ uir_type) → Avoids (index_marks kind v ns most') type' m lo hi
-  late_unmarked kind v ns most' type' m lo hi is = away-avoids (index_marks kind v ns most') type' m lo hi (elim is [
-    | inl g ↦ ((λ same lies. vdr_unlike kind gdr_type refl refl (sym same ∙ g)), ((λ same lies. apart vxr_type gdr_type refl (sym same ∙ g)), tt))
-    | inr u ↦ ((λ same lies. vdr_unlike kind uir_type refl refl (sym same ∙ u)), ((λ same lies. apart vxr_type uir_type refl (sym same ∙ u)), tt))
-  ])
-
   pub gdr_is : (shape w.roomy).gdr ≡ s.gdr
-  gdr_is = ap (λ (x : Shape). x.gdr) node_placed.same_shape ∙ ap (λ (x : Shape). x.gdr) block_placed.same_shape
+  gdr_is = ap (λ (x : Shape). x.gdr) taking.grows.same_shape
 
   -- a field of the GDR stays where the entries are written
-  gdr_late : (g : Field) → g.place + g.width ≤ 84 → number now s.gdr g ≡ number w.roomy s.gdr g
-  gdr_late g l =
-      let r = shape w.roomy in
-      let at_place = field_avoids entries_written r.gdr gdr_type g (gdr_in w.roomy r sound_roomy.has_shape) (gdr_typed w.roomy r sound_roomy.has_shape) (late_unmarked kind v (new_nodes room at ++ nodes) most gdr_type r.gdr 0 12 (inl refl)) (late_unmarked kind v (new_nodes room at ++ nodes) most gdr_type r.gdr g.place (g.place + g.width) (inl refl))
-      (through (g.place + g.width) 84 (size_at w.roomy r.gdr) l (gdr_long w.roomy r sound_roomy.has_shape)) in
-      subst (λ (x : ℕ). number now x g ≡ number w.roomy x g) gdr_is at_place
+  gdr_late : (g : Field) → avoided (entry_marks kind v (new_nodes room at ++ nodes) most) gdr_type g.place (g.place + g.width) ≡ true → g.place + g.width ≤ 84 → number now s.gdr g ≡ number w.roomy s.gdr g
+  gdr_late g clear l = subst (λ (x : ℕ). number now x g ≡ number w.roomy x g) gdr_is (gdr_field sound_roomy entries_written (entries_clear kind v (new_nodes room at ++ nodes) most).0 g clear l)
 
   pub end_now : eof now s.gdr ≡ length now
-  end_now = gdr_late gdr_eof (omega arith) ∙ subst (λ (x : ℕ). eof w.roomy x ≡ length w.roomy) gdr_is node_placed.end_is ∙ sym w.as_long
+  end_now = gdr_late gdr_eof (entries_clear kind v (new_nodes room at ++ nodes) most).1 (omega arith) ∙ subst (λ (x : ℕ). eof w.roomy x ≡ length w.roomy) gdr_is taking.grows.end_is ∙ sym w.as_long
 
   unused_now : IsChain now (shape w.roomy).records uir_type (number now s.gdr gdr_uir_head) (shape w.roomy).unused
-  unused_now = chain_stays entries_written uir_type _ _ (shape w.roomy).unused sound_roomy.has_shape.unused_chain (gdr_late gdr_uir_head (omega arith) ∙ ap (λ (x : ℕ). number w.roomy x gdr_uir_head) (sym gdr_is)) (λ m i. late_unmarked kind v (new_nodes room at ++ nodes) most uir_type m 0 20 (inr refl))
+  unused_now =
+      let entries = entry_marks kind v (new_nodes room at ++ nodes) most in
+      chain_stays entries_written uir_type _ _ (shape w.roomy).unused sound_roomy.has_shape.unused_chain (gdr_late gdr_uir_head (entries_clear kind v (new_nodes room at ++ nodes) most).2 (omega arith) ∙ ap (λ (x : ℕ). number w.roomy x gdr_uir_head) (sym gdr_is))
+      (λ m i. away-avoids entries uir_type m 0 20 (unmarked-away entries uir_type m (index_unmarked kind v (new_nodes room at ++ nodes) (field 12 most))))
 
   -- ---- the edit of one variable
 
-  pub index_edit : type_of_body body ≡ vvr_type → IndexEdit b now kind own (with_leaf new at own.index) (shape w.roomy).records (shape w.roomy).unused marks reborn
-  index_edit plain = record {
+  pub new_index : type_of_body body ≡ vvr_type → NewIndex b now kind own (with_leaf new at own.index) (shape w.roomy).records (shape w.roomy).unused (r_max_rec_field kind ++ space_fields) (taking_all s.unused reborn enough) (new_nodes room at ++ nodes) (field 12 most) reborn
+  new_index plain = record {
     edit = edit;
-    file_clear = tests.file_clear;
-    attributes_clear = tests.attributes_clear;
-    other_clear = tests.other_clear;
-    cpr_clear = tests.cpr_clear;
-    head_clear = tests.head_clear;
-    count_clear = tests.count_clear;
-    beside = beside;
-    avoids = λ m lo hi side. any_avoids m lo hi (elim side [ inl l ↦ inl (omega arith) | inr l ↦ inr l ]);
-    typed = typed_now plain;
+    tests = tests;
+    unspaced = refl;
+    own_nodes = λ m stands i. elim (In-append m (new_nodes room at) nodes i) [ inl j ↦ inr (taking.fresh_all m (inr j) stands) | inr j ↦ inl j ];
+    typed_now = typed_now plain;
     unused_chain = unused_now;
     index_now = w.index;
   }
-
-  pub own_edit : type_of_body body ≡ vvr_type → OwnEdit b now kind own (with_leaf new at own.index) (shape w.roomy).records (shape w.roomy).unused marks reborn
-  own_edit plain = of_index.own_edit good among (index_edit plain)
-
-  pub splices : type_of_body body ≡ vvr_type → VariableSplices b now s kind (shape w.roomy).records (shape w.roomy).unused marks reborn before (own ∷ []) (with_new ∷ []) after
-  splices plain = of_own.splices good among (own_edit plain)
 
   -- ---- the nodes
 
@@ -436,7 +304,7 @@ module _ {b now : List ℕ} {kind : Kind} {before : List VariableShape} {own : V
 
   -- a record that is in use is not taken
   pub used_apart : (m : ℕ) → In m s.records → type_at b m ≢ uir_type → is_taken_at step m ≡ false
-  used_apart m i used = taken_places_are new.place need room at m ∙ is_in-false m reborn (λ j. used (new_fresh m j i))
+  used_apart m i used = taken_places_are new.place need room at m ∙ is_in-false m reborn (λ j. used (taking.fresh_all m j i))
 
   node_apart : (m : ℕ) → In m nodes → is_taken_at step m ≡ false
   node_apart m i = used_apart m (node_in m i) (λ e. apart vxr_type uir_type refl (sym (node_typed m i) ∙ e))

@@ -1,6 +1,6 @@
 -- A leaf that is added to the index of a variable leads from one good image to another: what its acts take, what stays of the records of each owner, and the blocks.
-use Rattle.std.proofs.Common.{◌≡◌, ℕ, zero, suc, ◌+◌, List, [], ◌∷◌, ◌++◌, length, true, refl, ap, subst, arith, ◌≢◌, ◌⊎◌, ◌<◌, ◌≤◌, false, sym, inl, inr, ◌-◌, max, take, drop, ◌∙◌, take-append-drop, ℤ, pos, negsuc, ◌*◌, Bool}
-use Rattle.cdf_puts.proofs.Common.{shapes_of, lt-leb, ◌&&◌, Kind, R, Z, unmarked-away, StandsAmong, Only, Edit, Mark, unmarked, new_room, Took, ActsFollow, type_of_body, linkable-in, linkable-type, good_is_sound, both, Leaf, Field, uir_next_uir, uir_prev_uir, gdr_type, uir_type, vvr_type, vxr_type, VariableShape, Shape, shape, IsSound, Good, NodeTaken, LeafAdded, node_acts, leaf_acts, ListedStay, acts_joined, still_edit, OnlyTakes, nat_le, nat_lt, places_of, Avoids-append, Away-append, away-avoids, kept, kept_away, gdr_in, gdr_typed, block_behind, variables_in, other_kind, behind_in, fits, ours, tile, Kept, Each-in, all_variable_records, AllKeep, Keeps, Stays, OutsideFields, is_taken, r_max_rec_field, space_fields, put_changes, vxr_bytes, Avoids, Away, Act, word_kept, In-append, tile_lies, number, size_at, type_at, leaves_of, nodes_of, owned, variable_records, vdr_max_rec, vdr_vxr_head, vdr_vxr_tail, cdr_type, cpr_type, HasShape, In, found_in, placing_marks, none_of_both, length-take, length-drop, Same, byte, size_kept, type_kept, place_in, each_of, IsBlockBody, BlocksGoOn, ne_eqb, flat_map, ◌==◌, ◌||◌, if◌then◌else◌, image_limit, record_number_limit, is_in, with_sign, Nodes, no_node, node, Entries, no_entry, block, lower, room_at, times, cvvr_type, asked, is_compressed, Each, NodeFits, record_bytes, is_max_rec, Same-part, good_by_its_shape, nodes_stand, Hold-split, le_of, of_le, firsts_of, with_leaf, IsOneOf, count_is, plain_leaf, own_rules, times-append, record_alike, apart, InOrder, DescriptorStays, GoesOn, IsVacant, before_limit, index_order, OwnEdit, IndexEdit, vdr_alike}
+use Rattle.std.proofs.Common.{◌≡◌, ℕ, zero, suc, ◌+◌, List, [], ◌∷◌, ◌++◌, length, true, refl, ap, subst, arith, ◌<◌, ◌≤◌, false, sym, inl, inr, ◌-◌, max, take, drop, ◌∙◌, take-append-drop, ℤ, pos, negsuc, ◌*◌, Bool}
+use Rattle.cdf_puts.proofs.Common.{◌&&◌, Kind, StandsAmong, Edit, Mark, new_room, ActsFollow, type_of_body, good_is_sound, both, Leaf, uir_type, vvr_type, vxr_type, VariableShape, Shape, shape, IsSound, Good, LeafAdded, leaf_acts, nat_le, block_behind, behind_in, Kept, AllKeep, r_max_rec_field, space_fields, put_changes, Act, In-append, number, size_at, type_at, leaves_of, nodes_of, owned, variable_records, vdr_max_rec, HasShape, In, found_in, length-take, length-drop, Same, byte, size_kept, type_kept, place_in, each_of, IsBlockBody, BlocksGoOn, ne_eqb, flat_map, ◌==◌, ◌||◌, if◌then◌else◌, image_limit, record_number_limit, is_in, with_sign, Nodes, no_node, node, Entries, no_entry, block, lower, room_at, times, cvvr_type, asked, is_compressed, Each, record_bytes, Same-part, good_by_its_shape, Hold-split, le_of, of_le, firsts_of, with_leaf, IsOneOf, count_is, plain_leaf, own_rules, times-append, record_alike, apart, InOrder, DescriptorStays, GoesOn, IsVacant, before_limit, index_order, OwnEdit, IndexEdit, vdr_alike}
 use Rattle.cdf_format.specs.Chains.{is_a}
 use Rattle.cdf_edits.proofs.Frame.OwnersApart.{in-times, times-in}
 use Rattle.cdf_format.specs.Owners.{OneVariable}
@@ -19,20 +19,19 @@ use Rattle.cdf_edits.proofs.Edits.VariableKinds.{kind_ours, with_shapes, spliced
 use Rattle.cdf_edits.proofs.Edits.StandsAmong.{after_ours}
 use Rattle.cdf_format.proofs.ChainsLemmas.{is_a-in, is_a-from, is_a-type}
 use Rattle.cdf_puts.proofs.GoesThen.{own_may, descriptor_allowed, node_allowed, put_may, whole_of}
+use Rattle.cdf_edits.proofs.Edits.ActsStill.{acts_still_by}
+use Rattle.cdf_edits.proofs.Edits.TakenAll.{listed_free, taking_all, unlisted_away}
 use Rattle.std.proofs.lemmas.List.{ext_get_or, get_or_append_left, get_or-take, get_or-drop}
 use Rattle.cdf_format.specs.Fields.{word, holds}
 use Rattle.cdf_format.proofs.BytesLemmas.{word-same, byte-put_inside}
 use Rattle.cdf_model.specs.Limits.{signed_limit}
-use Rattle.cdf_format.specs.Index.{nodes_of, lower_nodes}
+use Rattle.cdf_format.specs.Index.{lower_nodes}
 use Rattle.cdf_format.specs.IndexRules.{has_room, is_block, nodes_rows, used_rows, vvr_rows, cvvr_rows, leaf_rows, index_rows, end_of}
 use Rattle.cdf_format.specs.NotRead.{read_types}
-use Rattle.cdf_format.specs.Owners.{OwnedOnce}
-use Rattle.cdf_format.specs.Records.{vxr_n_used_entries, vxr_entries}
+use Rattle.cdf_format.specs.Records.{field, vxr_n_used_entries, vxr_entries}
 use Rattle.cdf_format.specs.Rules.{Row, Hold}
-use Rattle.cdf_format.specs.Tiles.{Distinct}
 use Rattle.cdf_format.specs.VariableFields.{number_before, plain_size}
 use Rattle.cdf_format.proofs.GoodByShape.{IsGoodByShape}
-use Rattle.cdf_format.proofs.Owning.{times-none, times-once}
 use Rattle.cdf_format.proofs.RowLemmas.{Hold-append}
 use Rattle.cdf_index.specs.Adding.{Counts}
 use Rattle.cdf_puts.proofs.RaisedGoes.{own_in_all}
@@ -41,85 +40,11 @@ use Rattle.cdf_index.proofs.OwnRecords.{parts_times}
 use Rattle.cdf_puts.proofs.LeafCounts.{places_with_leaf, leaf_was_there}
 use Rattle.cdf_edits.proofs.Space.ActsLeave.{each}
 use Rattle.cdf_index.proofs.LeafRules.{index_rules_with_leaf}
-use Rattle.cdf_edits.proofs.Edits.IndexEdited.{vdr_size, vdr_type, good_now as good_if_ruled}
-use Rattle.cdf_puts.proofs.LeafEdit.{node_marks, index_marks, new_nodes, edit, block_placed, node_placed, entries_written, marks, reborn, with_new, tests, file, beside, only, block_kept, block_in, new_apart, new_fresh, part, part_of, vdr_size as vdr_long, type_now, end_now, index_edit, own_edit, splices, placed_kept, placed_size}
+use Rattle.cdf_edits.proofs.Edits.IndexEdited.{vdr_size, vdr_type}
+use Rattle.cdf_puts.proofs.LeafEdit.{enough, new_nodes, edit, node_taking, taking, entries_written, marks, reborn, with_new, tests, file, block_in, type_now, end_now, new_index, placed_kept, placed_size}
+use Rattle.cdf_index.proofs.NewIndex.{Exchanged, NewIndex, block_kept, good_now as changed_good, index_edit, index_keeps, node_room, own_times, index_unmarked, max_rec_kept, own_edit}
 use Rattle.cdf_edits.proofs.Edits.OwnEdited as of_own
 use Rattle.cdf_edits.proofs.Edits.IndexEdited as of_index
-
-abbrev links : List Field
-links = uir_next_uir ∷ uir_prev_uir ∷ []
-
--- ---- a record is taken
-
-pub took_listed : {b taken filled now records list : List ℕ} {need place type : ℕ} (sound : IsSound b (shape b)) (fills : Fills b taken filled (shape b) records list need place type) {late : List Mark} → Edit filled now records records late [] → length now ≡ length filled → is_late late type ≡ true → (shape now).records ≡ records → ListedStay b now (Took place need ∷ [])
-took_listed {b = b} sound fills later as_long lately records_are m i free =
-    let ok = sound.has_shape.unused_chain.linkable m i in
-    let x = listed_marks sound fills later as_long lately records_are m i free in
-    keeps_within sound (made_edit sound fills later as_long lately) records_are m uir_type links (linkable-in b (shape b).records uir_type m ok) (linkable-type b (shape b).records uir_type m ok) x.0 x.1
-
--- ---- entries are written after a node was taken, or none was
-
--- the entries leave the unused list, the end of the image, and heads
-pub index_late : (kind : Kind) (v : ℕ) (ns : List ℕ) (most : ℕ) → is_late (index_marks kind v ns most) vxr_type ≡ true
-index_late R v ns width = rw (lt-leb (12 + width) 0 (omega arith)) refl
-index_late Z v ns width = rw (lt-leb (12 + width) 0 (omega arith)) refl
-
-index_unmarked : (kind : Kind) (v : ℕ) (ns : List ℕ) (most : ℕ) → unmarked (index_marks kind v ns most) uir_type ≡ true
-index_unmarked R v ns width = refl
-index_unmarked Z v ns width = refl
-
-pub record NodeFollows (b now : List ℕ) (room at : ℕ) : Type 0 where
-  pub follow : ActsFollow b now (node_acts room at)
-  pub listed : ListedStay b now (node_acts room at)
-
-node_takes : (entries at : ℕ) → OnlyTakes (node_acts entries at)
-node_takes zero at = tt
-node_takes (suc entries) at = tt
-
-node_follows : {b mid now : List ℕ} {late : List Mark} (room at : ℕ) → IsSound b (shape b) → IsSound mid (shape mid) → NodeTaken b mid room at → Edit mid now (shape mid).records (shape mid).records late [] → length now ≡ length mid → is_late late vxr_type ≡ true → unmarked late uir_type ≡ true
-    → (shape now).records ≡ (shape mid).records → (shape now).unused ≡ (shape mid).unused → NodeFollows b now room at
-node_follows {mid = mid} {now = now} {late = late} zero at sound sound' taken later as_long lately clear records_are list_are =
-    subst (λ (x : List ℕ). NodeFollows x now zero at) taken.0 (record {
-      follow = acts_none sound' later clear refl records_are list_are as_long;
-      listed = λ m i free. let ok = sound'.has_shape.unused_chain.linkable m i in keeps_away sound' later records_are m uir_type (Only links) (linkable-in mid (shape mid).records uir_type m ok) (linkable-type mid (shape mid).records uir_type m ok) (unmarked-away late uir_type m clear);
-    })
-node_follows (suc entries) at sound sound' taken later as_long lately clear records_are list_are = record {
-  follow = acts_took sound taken.fills later as_long lately records_are list_are;
-  listed = took_listed sound taken.fills later as_long lately records_are;
-}
-
--- ---- unused records
-
-other_one : (place m : ℕ) → m ≢ place → In m (place ∷ []) → ⊥
-other_one place m ne (inl e) = ne e
-other_one place m ne (inr none) = none
-
--- the marks in a listed record
-abbrev LinksAlone : List Mark → ℕ → Type 0
-LinksAlone marks m = Avoids marks uir_type m 0 12 × Within marks uir_type m links
-
-both_alone : (ks ls : List Mark) (m : ℕ) → LinksAlone ks m → LinksAlone ls m → LinksAlone (ks ++ ls) m
-both_alone ks ls m x y = (Avoids-append ks ls uir_type m 0 12 x.0 y.0, Within-append ks ls uir_type m links x.1 y.1)
-
-away_alone : (ks : List Mark) (m : ℕ) → Away ks uir_type m → LinksAlone ks m
-away_alone ks m away = (away-avoids ks uir_type m 0 12 away, away-within ks uir_type m links away)
-
-placing_alone : (unused : List ℕ) (place size m : ℕ) → m ≢ place → LinksAlone (placing_marks unused place size) m
-placing_alone unused place size m ne =
-    both_alone (taking_marks unused place size) (whole uir_type place size ∷ []) m (taking_avoids unused place size m 0 12 ne (inl (omega arith)), taking_within unused place size m ne)
-    (away_alone (whole uir_type place size ∷ []) m ((λ same lies. other_one place m ne lies), tt))
-
--- what is not taken is not where a record was taken
-not_there : (b : List ℕ) (place size m : ℕ) → 12 ≤ size_at b m → is_taken b (Took place size ∷ []) m ≡ false → m ≢ place
-not_there b place size m long free q = taken_is_taken b place size [] (subst (λ (x : ℕ). 12 ≤ size_at b x) q long) (subst (λ (x : ℕ). is_taken b (Took place size ∷ []) x ≡ false) q free)
-
-node_alone : (b : List ℕ) (unused : List ℕ) (entries at m : ℕ) → 12 ≤ size_at b m → is_taken b (node_acts entries at) m ≡ false → LinksAlone (node_marks unused entries at) m
-node_alone b unused zero at m long free = (tt, tt)
-node_alone b unused (suc entries) at m long free = placing_alone unused at (vxr_bytes (suc entries)) m (not_there b at (vxr_bytes (suc entries)) m long free)
-
-node_away : {b now : List ℕ} (entries at : ℕ) (sound : IsSound b (shape b)) → NodeTaken b now entries at → IsSound now (shape now) → (m : ℕ) → In m (shape b).records → (In m (shape b).unused → ⊥) → Away (node_marks (shape b).unused entries at) uir_type m
-node_away zero at sound taken sound' m i out = tt
-node_away (suc entries) at sound taken sound' m i out = loose_away sound taken.fills (still_edit sound'.has_shape) refl refl m i out
 
 -- such a body begins with the type of a block that is not packed
 pub plain_body : (body records : List ℕ) → IsBlockBody body records → type_of_body body ≡ vvr_type
@@ -159,10 +84,6 @@ new_times : (room at m : ℕ) → times m (new_nodes room at) ≡ (if room == 0 
 new_times zero at m = refl
 new_times (suc room) at m = rw (ne_eqb (suc room) 0 (λ e. absurd (omega arith))) refl
 
-new_once : (room at : ℕ) → Distinct (new_nodes room at)
-new_once zero at = tt
-new_once (suc room) at = ((λ none. none), tt)
-
 module _ {b now : List ℕ} {kind : Kind} {before : List VariableShape} {own : VariableShape} {after : List VariableShape} {new : Leaf} {body : List ℕ} {at : ℕ} (good : Good b) (among : StandsAmong b kind before own after) (w : LeafAdded b now own new body at) where
   abbrev s : Shape
   s = shape b
@@ -186,10 +107,7 @@ module _ {b now : List ℕ} {kind : Kind} {before : List VariableShape} {own : V
   acts = leaf_acts new.place (8 + length body) roomed at
 
   abbrev space : List Mark
-  space = placing_marks s.unused new.place (8 + length body) ++ node_marks (shape w.filled).unused roomed at
-
-  abbrev entries : List Mark
-  entries = index_marks kind v (new_nodes roomed at ++ nodes_of own.index) (length w.roomy)
+  space = taking_all s.unused born (enough good among w)
 
   sound : IsSound b s
   sound = good_is_sound b good
@@ -203,106 +121,26 @@ module _ {b now : List ℕ} {kind : Kind} {before : List VariableShape} {own : V
   -- ---- the block is one that is not packed
 
   module _ (plain : type_of_body body ≡ vvr_type) where
+    abbrev changed : NewIndex b now kind own (with_leaf new at own.index) records' (shape w.roomy).unused (r_max_rec_field kind ++ space_fields) space (new_nodes roomed at ++ nodes_of own.index) (field 12 (length w.roomy)) born
+    changed = new_index good among w plain
+
+    abbrev y : OwnEdit b now kind own (with_leaf new at own.index) records' (shape w.roomy).unused ks born
+    y = own_edit good among changed
+
     pub records_are : (shape now).records ≡ records'
-    records_are = of_own.records_are good among (own_edit good among w plain)
+    records_are = of_own.records_are good among y
 
     list_is : (shape now).unused ≡ (shape w.roomy).unused
-    list_is = of_own.unused_are good among (own_edit good among w plain)
+    list_is = of_own.unused_are good among y
 
-    pub placed_still : Edit w.filled w.filled (shape w.filled).records (shape w.filled).records [] []
-    placed_still = still_edit (block_placed good among w).sound.has_shape
-
-    block_follows : ActsFollow b w.filled (Took new.place (8 + length body) ∷ [])
-    block_follows = acts_took sound w.block.fills placed_still refl refl refl refl
-
-    block_listed : ListedStay b w.filled (Took new.place (8 + length body) ∷ [])
-    block_listed = took_listed sound w.block.fills placed_still refl refl refl
-
-    node_part : NodeFollows w.filled now roomed at
-    node_part =
-        let lately = index_late kind v (new_nodes roomed at ++ nodes_of own.index) (length w.roomy) in
-        node_follows roomed at (block_placed good among w).sound (node_placed good among w).sound w.node (entries_written good among w) w.as_long lately (index_unmarked kind v (new_nodes roomed at ++ nodes_of own.index) (length w.roomy)) records_are list_is
-
-    pub leaf_follows : ActsFollow b now (leaf_acts new.place (8 + length body) (new_room new.first own.index) at)
-    leaf_follows = acts_joined sound.has_shape (block_placed good among w).sound.has_shape block_follows node_part.follow tt (node_takes roomed at) block_listed node_part.listed
-
-    -- other variables
-    away_stands : (xs : List ℕ) → ((m : ℕ) → In m xs → In m (all_variable_records s)) → ((m : ℕ) → In m (variable_records own) → In m xs → ⊥) → (m : ℕ) → In m xs → Stood b now m
-    away_stands xs sub out m i =
-        let inside = variables_in b s sound m (sub m i) in
-        stood sound e records_are m inside (kept_away e m (type_at b m) inside refl (beside good among w m (sub m i) (λ j. out m j i)))
-
-    -- ---- the descriptor
-
-    descriptor_stays : Stays b now own.vdr (vdr_max_rec ∷ vdr_vxr_head ∷ vdr_vxr_tail ∷ [])
-    descriptor_stays = record {
-      stands = subst (In own.vdr) (sym records_are) (e.sub own.vdr (tile good among));
-      size_is = vdr_long good among w;
-      same = λ n lt out. (part good among w n (n + 1) (aside n out) (omega arith)).each (own.vdr + n) (omega arith) (omega arith);
-    }
-      where
-        aside : (n : ℕ) → OutsideFields (vdr_max_rec ∷ vdr_vxr_head ∷ vdr_vxr_tail ∷ []) n → (n + 1 ≤ 28) ⊎ (44 ≤ n)
-        aside n out = elim out.1.0 [ inl x ↦ inl (omega arith) | inr x ↦ elim out.1.1.0 [ inl y ↦ absurd (omega arith) | inr y ↦ inr y ] ]
+    pub leaf_follows : ActsFollow b now acts
+    leaf_follows = acts_still_by (taking good among w).grows.sound (taking good among w).follow (entries_written good among w) (index_unmarked kind v (new_nodes roomed at ++ nodes_of own.index) (field 12 (length w.roomy))) records_are list_is w.as_long
 
     pub leaf_max_rec : number now own.vdr vdr_max_rec ≡ number b own.vdr vdr_max_rec
-    leaf_max_rec = word_kept b now (own.vdr + 24) (own.vdr + 28) (part_of good among w 24 28 (inl (omega arith)) (omega arith)) (own.vdr + 24) 4 (omega arith) (omega arith)
-
-    -- ---- the records of the variable
-
-    kept_stands : (r m : ℕ) → In m (variable_records own) → Kept b now m → Keeps b now m (own_may good among r m)
-    kept_stands r m i k = keeps_stood b now m (stood sound e records_are m (variables_in b s sound m (own_in_all good among m i)) k) (own_may good among r m)
-
-    mine_keeps : (r m : ℕ) → In m (variable_records own) → Keeps b now m (own_may good among r m)
-    mine_keeps r m (inl q) = subst (λ (x : ℕ). Keeps b now x (own_may good among r x)) (sym q) (subst (Keeps b now own.vdr) (sym (descriptor_allowed good among r)) descriptor_stays)
-    mine_keeps r m (inr j) = elim (In-append m (nodes_of own.index ++ places_of (leaves_of own.index)) own.cpr j) [
-      | inr c ↦
-          let typed = is_a-type b s.records cpr_type m (Each-in (λ x. is_a b s.records cpr_type x ≡ true) own.cpr (fits good among).3 m c) in
-          kept_stands r m (inr j) (kept e m cpr_type (behind_in good among m (cpr_behind own m c)) typed (tests good among w).cpr_clear)
-      | inl k ↦ elim (In-append m (nodes_of own.index) (places_of (leaves_of own.index)) k) [ inl n ↦ subst (Keeps b now m) (sym (node_allowed good among r m n)) tt | inr n ↦ kept_stands r m (inr j) (block_kept good among w m n) ]
-    ]
-
-    -- ---- unused records
-
-    entries_away : (m : ℕ) → Away entries uir_type m
-    entries_away m = unmarked-away entries uir_type m (index_unmarked kind own.vdr (new_nodes roomed at ++ nodes_of own.index) (length w.roomy))
-
-    listed_alone : (m : ℕ) → In m (shape b).unused → is_taken b acts m ≡ false → LinksAlone ks m
-    listed_alone m i free =
-        let inside = linkable-in b (shape b).records uir_type m (h.unused_chain.linkable m i) in
-        let long = (tile_lies b 8 (length b) (shape b).records m h.tiled inside).long in
-        let none = none_of_both (λ (take : ℕ × ℕ). nat_le m take.0 && nat_lt take.0 (m + size_at b m)) (Took new.place (8 + length body) ∷ []) (node_acts roomed at) free in
-        both_alone space entries m
-        (both_alone (placing_marks (shape b).unused new.place (8 + length body)) (node_marks (shape w.filled).unused roomed at) m
-        (placing_alone (shape b).unused new.place (8 + length body) m (not_there b new.place (8 + length body) m long none.0))
-        (node_alone b (shape w.filled).unused roomed at m long none.1))
-        (away_alone entries m (entries_away m))
-
-    unlisted_alone : (m : ℕ) → In m (shape b).records → (In m (shape b).unused → ⊥) → Away ks uir_type m
-    unlisted_alone m i out =
-        let still = placed_still in
-        let later = (block_placed good among w).edit.sub m i in
-        let off : In m (shape w.filled).unused → ⊥ = λ j. out (listed_before sound w.block.fills still refl refl m i j) in
-        Away-append space entries uir_type m
-        (Away-append (placing_marks (shape b).unused new.place (8 + length body)) (node_marks (shape w.filled).unused roomed at) uir_type m (loose_away sound w.block.fills still refl refl m i out)
-        (node_away roomed at (block_placed good among w).sound w.node (node_placed good among w).sound m later off))
-        (entries_away m)
-
-    -- ---- all of them
+    leaf_max_rec = max_rec_kept good among changed
 
     pub leaf_keeps : (r : ℕ) → AllKeep b now (put_changes b s (found_in b kind before own) r) acts (owned b s)
-    leaf_keeps r =
-        let may = put_may b kind before own r in
-        let cdr = is_a-in b s.records cdr_type 8 h.cdr_stands in
-        whole_of b now may acts among (record {
-          file = keep_file b now may acts sound (keeps_stood b now 8 (stood sound e records_are 8 cdr (cdr_kept sound e (tests good among w).file_clear)) (Only []))
-              (keeps_fields sound e records_are s.gdr gdr_type (r_max_rec_field kind ++ space_fields) (gdr_in b s h) (gdr_typed b s h) (tests good among w).heads_clear (tests good among w).inside);
-          attributes = keep_attributes b now may acts 0 s.attributes (λ m i. stood sound e records_are m (all_attributes_in sound m i) (attributes_kept sound (splices good among w plain) m i));
-          in_front = keep_variables b now may acts kind 0 before (away_stands _ (ours good among).0.sub (λ m i. (only good among w m i).in_before));
-          mine = keep_places b now may acts (OneVariable kind (length before)) (variable_records own) (mine_keeps r);
-          behind = keep_variables b now may acts kind (suc (length before)) after (away_stands _ (after_ours good among).sub (λ m i. (only good among w m i).in_after));
-          others = keep_variables b now may acts (other_kind kind) 0 (shapes_of s (other_kind kind)) (away_stands _ (kind_ours b s sound (other_kind kind)).sub (λ m i. (only good among w m i).in_others));
-          unused = keep_unused sound e records_are may acts listed_alone unlisted_alone;
-        })
+    leaf_keeps r = index_keeps good among changed (put_changes b s (found_in b kind before own) r) acts (vdr_max_rec ∷ []) refl (descriptor_allowed good among r) (node_allowed good among r) (listed_free (taking good among w)) (unlisted_away (taking good among w))
 
   -- ---- its records
 
@@ -335,7 +173,7 @@ module _ {b now : List ℕ} {kind : Kind} {before : List VariableShape} {own : V
     records_now =
         let size = placed_size good among w in
         let inside : new.place + size_at w.filled new.place ≤ length w.filled = k.inside in
-        let grows : length w.filled ≤ length w.roomy = (node_placed good among w).edit.longer in
+        let grows : length w.filled ≤ length w.roomy = (node_taking good among w).grows.edit.longer in
         let as_long : length now ≡ length w.roomy = w.as_long in
         let body_long : length body ≡ max 20 (4 + length records) = says.as_long in
         let e : length (take n (drop (new.place + 12) now)) ≡ n = simp (length-take, length-drop) (omega arith) in
@@ -348,7 +186,7 @@ module _ {b now : List ℕ} {kind : Kind} {before : List VariableShape} {own : V
 
     pub blocks_go_on : BlocksGoOn b now own new records
     blocks_go_on = record {
-      old = each_of (λ (l : Leaf). Same b now l.place (l.place + size_at b l.place)) (leaves_of own.index) (λ l i. (block_kept good among w l.place (place_in (leaves_of own.index) l i)).same);
+      old = each_of (λ (l : Leaf). Same b now l.place (l.place + size_at b l.place)) (leaves_of own.index) (λ l i. (block_kept good among (changed plain) l.place (place_in (leaves_of own.index) l i)).same);
       size_is = block_size ∙ size_needed;
       records_are = records_now;
       spare = λ i l lt.
@@ -377,21 +215,10 @@ module _ {b now : List ℕ} {kind : Kind} {before : List VariableShape} {own : V
           let p = both (nat_le (number b m vxr_n_used_entries) (room_at b m) && nat_le (room_at b m) signed_limit) (holds b m (vxr_entries (room_at b m))) r in
           le_of (number b m vxr_n_used_entries) (room_at b m) (both (nat_le (number b m vxr_n_used_entries) (room_at b m)) (nat_le (room_at b m) signed_limit) p.0).0)
 
-      node_room : (m : ℕ) → In m (nodes_of mine.index) → has_room now m ≡ true
-      node_room m i =
-          let fit = (Each-in (NodeFits now) (nodes_of mine.index) w.fits m i).0 in
-          let count : number now m vxr_n_used_entries ≤ room_at now m = Each-in (Counts now) (nodes_of mine.index) (w.counts counted_before_it) m i in
-          let stands = linkable-in now records' vxr_type m (nodes_stand now records' 8 mine.index w.index.has_nodes m i) in
-          let high = (tile_lies now 8 (length now) records' m e.tiled_now stands).high in
-          rw (of_le (number now m vxr_n_used_entries) (room_at now m) count, of_le (room_at now m) signed_limit (omega arith), of_le (28 + 16 * room_at now m) (size_at now m) fit) refl
-
       -- ---- the blocks
 
       abbrev x : IndexEdit b now kind own (with_leaf new at own.index) records' (shape w.roomy).unused ks born
-      x = index_edit good among w plain
-
-      abbrev y : OwnEdit b now kind own (with_leaf new at own.index) records' (shape w.roomy).unused ks born
-      y = own_edit good among w plain
+      x = index_edit good among (changed plain)
 
       same_bytes : record_bytes now v ≡ record_bytes b v
       same_bytes = record_alike (file good among w) (vdr_alike good among x)
@@ -410,13 +237,13 @@ module _ {b now : List ℕ} {kind : Kind} {before : List VariableShape} {own : V
       old_leaf l i =
           let x = plain_leaf good among loose l i in
           let j = place_in (leaves_of own.index) l i in
-          let k = block_kept good among w l.place j in
+          let k = block_kept good among (changed plain) l.place j in
           let stands = e.sub l.place (behind_in good among l.place (block_behind own l.place j)) in
           block_rows l stands (type_kept b now l.place k.same k.long ∙ x.typed) x.ordered x.small (subst (λ (n : ℕ). 12 + (l.last + 1 - l.first) * record_bytes b v ≤ n) (sym (size_kept b now l.place k.same (let t = k.long in omega arith))) x.room)
 
       new_leaf : (is_block now records' new.place ≡ true) × Hold (leaf_rows now records' v new)
       new_leaf =
-          block_rows new ((node_placed good among w).edit.sub new.place (block_in good among w)) vvr_now vacant.ordered (before_limit new.first new.last (firsts_of own.index) vacant.before_next)
+          block_rows new ((node_taking good among w).grows.edit.sub new.place (block_in good among w)) vvr_now vacant.ordered (before_limit new.first new.last (firsts_of own.index) vacant.before_next)
           (subst (λ (n : ℕ). 12 + n ≤ size_at now new.place) as_long (let size = block_size ∙ size_needed in omega arith))
 
       each_leaf : (l : Leaf) → IsOneOf (leaves_of mine.index) l → (is_block now records' l.place ≡ true) × Hold (leaf_rows now records' v l)
@@ -426,40 +253,22 @@ module _ {b now : List ℕ} {kind : Kind} {before : List VariableShape} {own : V
       ]
 
       index_ruled : Hold (index_rows now records' v mine.index)
-      index_ruled = index_rules_with_leaf b now s.records records' v new at own.index (own_rules good among).1 vacant.ordered vacant.uncovered vacant.before_next node_room each_leaf
+      index_ruled = index_rules_with_leaf b now s.records records' v new at own.index (own_rules good among).1 vacant.ordered vacant.uncovered vacant.before_next (node_room good among (changed plain) w.fits (w.counts counted_before_it) short) each_leaf
 
       -- ---- the owners
 
-      own_times : (m : ℕ) → times m (variable_records mine) ≡ times m (variable_records own) + times m born
-      own_times m =
-          let was = parts_times own m in
-          let is = parts_times mine m in
-          let nodes = nodes_with_leaf new at m own.index ∙ ap (λ (n : ℕ). times m (nodes_of own.index) + n) (sym (new_times roomed at m)) in
-          let blocks = places_with_leaf new at 0 record_number_limit own.index order m in
-          let both = times-append m (new.place ∷ []) (new_nodes roomed at) in
-          omega arith
-
-      abbrev shape_now_is : Shape
-      shape_now_is = with_shapes s kind records' (shape w.roomy).unused (before ++ mine ∷ after)
-
-      used_after : (m : ℕ) → used_times shape_now_is m ≡ used_times s m + times m born
-      used_after m =
-          let is = times-append m (variable_records mine) [] in
-          let was = times-append m (variable_records own) [] in
-          let more = own_times m in
-          let all = spliced_times s kind records' (shape w.roomy).unused before (own ∷ []) (mine ∷ []) after among.was m (times m born) 0 (omega arith) in
-          omega arith
-
-      born_once : Distinct born
-      born_once = (new_apart good among w, new_once roomed at)
-
-      in_use : (m : ℕ) → In m born → type_at now m ≢ uir_type
-      in_use m i u = elim (type_now good among w plain m i) [ inl x ↦ apart vvr_type uir_type refl (sym x.1 ∙ u) | inr x ↦ apart vxr_type uir_type refl (sym x.2 ∙ u) ]
-
-      owned_now : OwnedOnce now shape_now_is
-      owned_now = owned_once_if b now s shape_now_is _ born sound image.owned_once e
-          (λ m out. let more = used_after m in let none = times-none m born out in omega arith)
-          (λ m i. inl (in_use m i, (let more = used_after m in let none = fresh_unowned sound m (new_fresh good among w m i) in let once = times-once m born born_once i in omega arith)))
+      exchanged : Exchanged b now own (with_leaf new at own.index) born born []
+      exchanged = record {
+        are_reborn = λ m i. inl i;
+        reborn_are = λ m i. elim i [ inl j ↦ j | inr none ↦ absurd none ];
+        times_are = λ m. omega (arith, nodes_with_leaf new at m own.index, new_times roomed at m, places_with_leaf new at 0 record_number_limit own.index order m, times-append m (new.place ∷ []) (new_nodes roomed at));
+        fresh = (taking good among w).fresh_all;
+        taken_once = (taking good among w).once;
+        in_use = λ m i u. elim (type_now good among w plain m i) [ inl x ↦ apart vvr_type uir_type refl (sym x.1 ∙ u) | inr x ↦ apart vxr_type uir_type refl (sym x.2 ∙ u) ];
+        were_nodes = λ m i. absurd i;
+        freed_once = tt;
+        out_of_use = λ m i. absurd i;
+      }
 
       -- ---- the rules of the image
 
@@ -467,12 +276,12 @@ module _ {b now : List ℕ} {kind : Kind} {before : List VariableShape} {own : V
       born_read m i = elim (type_now good among w plain m i) [ inl z ↦ ap (λ (t : ℕ). is_in t read_types) z.1 | inr z ↦ ap (λ (t : ℕ). is_in t read_types) z.2 ]
 
       pub good_now : Good now
-      good_now = good_if_ruled good among x index_ruled (ap is_max_rec (leaf_max_rec plain) ∙ (own_rules good among).0.1.1.1.1.1.1.1.0) born_read owned_now (end_now good among w) short
+      good_now = changed_good good among (changed plain) born [] exchanged index_ruled born_read (end_now good among w) short
 
       -- ---- how it goes on
 
       still_own : (m : ℕ) → In m (variable_records own) → In m (variable_records mine)
-      still_own m i = in-times m (variable_records mine) (let more = own_times m in let some = times-in m (variable_records own) i in omega arith)
+      still_own m i = in-times m (variable_records mine) (omega (arith, own_times good among (changed plain) born [] exchanged m, times-in m (variable_records own) i))
 
       own_descriptor : DescriptorStays b now v
       own_descriptor = record {
@@ -485,17 +294,17 @@ module _ {b now : List ℕ} {kind : Kind} {before : List VariableShape} {own : V
       pub leaf_goes_on : (r : ℕ) → GoesOn b now kind before own mine after r acts
       leaf_goes_on r = record {
         good = good_now;
-        among = of_own.among_now good among y;
+        among = of_own.among_now good among (y plain);
         vdr_is = refl;
         cpr_is = refl;
         own_stay = still_own;
-        gdr_is = ap (λ (x : Shape). x.gdr) (of_own.same_shape good among y);
-        attributes_are = ap (λ (x : Shape). x.attributes) (of_own.same_shape good among y);
-        others_are = of_own.others_are good among y;
+        gdr_is = ap (λ (x : Shape). x.gdr) (of_own.same_shape good among (y plain));
+        attributes_are = ap (λ (x : Shape). x.attributes) (of_own.same_shape good among (y plain));
+        others_are = of_own.others_are good among (y plain);
         descriptor = own_descriptor;
         file = file good among w;
-        r_max_rec_is = of_own.r_max_rec_kept good among y (tests good among w).max_clear;
-        content_is = of_own.content_replaced good among y;
+        r_max_rec_is = of_own.r_max_rec_kept good among (y plain) (tests good among w).max_clear;
+        content_is = of_own.content_replaced good among (y plain);
         longer = (file good among w).longer;
         follow = leaf_follows plain;
         keep = leaf_keeps plain r;

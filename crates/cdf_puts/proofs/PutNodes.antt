@@ -1,5 +1,5 @@
 -- The nodes of an index that grows leaf by leaf: the index but for where its blocks and its new nodes stand, its top chain, and the unused entries and spare bytes of its nodes.
-use Rattle.std.proofs.Common.{◌≡◌, ℕ, zero, suc, ◌<◌, max, List, [], ◌∷◌, ◌++◌, length, Bool, true, false, ltb, leb, eqb, refl, sym, ap, subst, ◌∙◌, arith, inl, inr, ◌⊎◌, ◌+◌, ◌*◌, ◌≤◌, not, ◌&&◌, ◌||◌, true≢false}
+use Rattle.std.proofs.Common.{◌≡◌, ℕ, zero, suc, ◌<◌, List, [], ◌∷◌, ◌++◌, length, Bool, true, false, ltb, leb, eqb, refl, sym, ap, subst, ◌∙◌, arith, inl, inr, ◌⊎◌, ◌+◌, ◌*◌, ◌≤◌, not, ◌&&◌, ◌||◌, true≢false}
 use Rattle.cdf_puts.proofs.Common.{eq-eqb, ne_eqb, lt-ltb, list_any, ◌&&◌, ◌||◌, if◌then◌else◌, Range, with_both, with_ranges, is_in, Nodes, no_node, node, Entries, no_entry, block, lower, Leaf, leaf, entry_count, used_count, In, either, In-append, In-append_left, In-append_right, same_of_bytes_eq, le-leb, lt-leb, cases_lt, ◌==◌, nat_le, is_taken_at, uses_entry, UnusedEntries, NodeSpareStays, NodesFollow, Act, Took, Gave, Kept, Each-in, Same, size_at, nodes_of, room_at, Each, NodeFits, Same-part, is_in-true, true-is_in, both, le_of}
 use Rattle.std.proofs.lemmas.Bool.{and_from, both_ways, or_left, or_right, and_right, or_from, or_parts}
 use Rattle.std.proofs.lemmas.List.Folds.{list_any-append}
@@ -70,39 +70,19 @@ module _ (news : List ℕ) where
 
   outline_with_entry : (new : Leaf) (at place room : ℕ) (es : Entries) (more : Nodes) → with_entry (bare new) (place_outside news at) (place_outside news place) room (entries_outline news es) (outline news more) ≡ outline news (with_entry new at place room es more)
   unfolding outline
-  outline_with_entry new at place room es more =
-      let bk = past new.first es in
-      rw (count_outline es, upto_outline new es, past_outline new.first es, count_outline bk) (elim (either (ltb (entry_count es) room)) [
-        | inl t ↦ rw t (ap (λ (x : Entries). node (place_outside news place) room x (outline news more)) (both_outline (upto new es) bk))
-        | inr t ↦ elim (either (eqb (entry_count bk) 0)) [ inl z ↦ rw (t, z) refl | inr z ↦ rw (t, z) refl ]
-      ])
+  outline_with_entry new at place room es more = grind (arith, count_outline es, upto_outline new es, past_outline new.first es, count_outline (past new.first es), both_outline (upto new es) (past new.first es))
 
   mutual
     unfolding outline with_leaf with_lower
 
     pub outline_with_leaf : (new : Leaf) (at : ℕ) (index : Nodes) → with_leaf (bare new) (place_outside news at) (outline news index) ≡ outline news (with_leaf new at index)
     outline_with_leaf new at no_node = refl
-    outline_with_leaf new at (node place room es more) =
-        let c = chain_outline new.first more in
-        elim (either (chain_reaches new.first more)) [
-          | inl r ↦ rw (c, r) (ap (λ (x : Nodes). node (place_outside news place) room (entries_outline news es) x) (outline_with_leaf new at more))
-          | inr r ↦
-              let d = leads_outline new.first false es in
-              elim (either (leads_down new.first false es)) [
-                | inl t ↦ rw (c, r, d, t) (ap (λ (x : Entries). node (place_outside news place) room x (outline news more)) (outline_with_lower new at es))
-                | inr t ↦ rw (c, r, d, t) (outline_with_entry new at place room es more)
-              ]
-        ]
+    outline_with_leaf new at (node place room es more) = grind (arith, chain_outline new.first more, leads_outline new.first false es, outline_with_leaf new at more, outline_with_lower new at es, outline_with_entry new at place room es more)
 
     pub outline_with_lower : (new : Leaf) (at : ℕ) (es : Entries) → with_lower (bare new) (place_outside news at) (entries_outline news es) ≡ entries_outline news (with_lower new at es)
     outline_with_lower new at no_entry = refl
     outline_with_lower new at (block first last place packed es) = ap (block first last 0 false) (outline_with_lower new at es)
-    outline_with_lower new at (lower first last nodes es) =
-        let c = reaches_outline new.first es in
-        elim (either (reaches new.first es)) [
-          | inl r ↦ rw (c, r) (ap (lower first last (outline news nodes)) (outline_with_lower new at es))
-          | inr r ↦ rw (c, r) (ap (λ (x : Nodes). lower first (max last new.last) x (entries_outline news es)) (outline_with_leaf new at nodes))
-        ]
+    outline_with_lower new at (lower first last nodes es) = grind (arith, reaches_outline new.first es, outline_with_leaf new at nodes, outline_with_lower new at es)
 
   -- ---- how much room a new node has, Firsts, and which entries are used
 

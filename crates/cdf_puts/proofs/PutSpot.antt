@@ -1,8 +1,8 @@
 -- Where the next record is put: the records of a new block, each step by which records are put, and what an image says of a variable of which some records are put.
 use Rattle.std.proofs.Common.{◌≡◌, ℕ, zero, suc, ◌+◌, ◌-◌, ◌*◌, ◌<◌, ◌≤◌, List, ◌++◌, append_assoc, append-nil, length, take, drop, max, sym, ap, subst, ◌∙◌, arith, inl, inr, [], ◌∷◌, false, refl, min, Some, None, ltb}
-use Rattle.cdf_puts.proofs.Common.{length-append, take_at, drop_at, drop-drop, ◌==◌, IsBody, uir_type, vvr_type, is_record_type, fixed_size, either, records_put, BlockRecords, record_of, IsBlockBody, ne_eqb, min, max, if◌then◌else◌, image_limit, Kind, vxr_bytes, firsts_of, new_range, first_written, is_sparse, with_leaf, new_room, Act, variable_of, number, with_sign, Nodes, leaf, vdr_max_rec, VariableShape, Each, shape, record_bytes, max_rec_at, LeafAdded, leaf_acts, own_rules, has, fits, Covering, block_bytes, node_bytes, GoesOn, PutStart, SoFar, IsTaking, taken_bytes, RecordsWritten, IsVacant, index_order, lt-ltb, le-ltb, find, widest, range, covers, next_first, block_count, record_length, times_le, StandsAmong, long, tile, leaves_of, vdr_vxr_head, variables, vdrs, IsSound, In, sparse_at, Good, good_by_its_shape, good_is_sound, tile_lies, NodeTaken, HasIndex, index_at, leaf_of, Variable, extent, record_number_limit, new_last, IsPut, SomePut, last_in_new}
+use Rattle.cdf_puts.proofs.Common.{length-append, take_at, drop_at, drop-drop, ◌==◌, IsBody, uir_type, vvr_type, is_record_type, fixed_size, either, records_put, BlockRecords, record_of, IsBlockBody, min, max, if◌then◌else◌, image_limit, Kind, vxr_bytes, firsts_of, new_range, first_written, is_sparse, with_leaf, new_room, Act, variable_of, number, with_sign, Nodes, leaf, vdr_max_rec, VariableShape, Each, shape, record_bytes, max_rec_at, LeafAdded, leaf_acts, own_rules, has, fits, Covering, block_bytes, node_bytes, GoesOn, PutStart, SoFar, IsTaking, taken_bytes, RecordsWritten, IsVacant, index_order, find, widest, range, covers, next_first, block_count, record_length, times_le, StandsAmong, long, tile, leaves_of, vdr_vxr_head, variables, vdrs, IsSound, In, sparse_at, Good, good_by_its_shape, good_is_sound, tile_lies, NodeTaken, HasIndex, index_at, leaf_of, Variable, extent, record_number_limit, new_last, IsPut, SomePut, last_in_new}
 use Rattle.cdf_puts.proofs.LeafGood.{plain_body, leaf_goes_on, leaf_max_rec, size_needed}
-use Rattle.cdf_puts.proofs.CoveringRanges.{covering_starts, covering_has, covering_leaf, covering_room, covering_vacant, full_or_next, one_alone, one_at_least}
+use Rattle.cdf_puts.proofs.CoveringRanges.{covering_starts, covering_has, covering_leaf, covering_room, covering_vacant, one_at_least}
 use Rattle.cdf_puts.proofs.GoesThen.{later_size, later_packed, goes_nowhere, goes_then}
 use Rattle.cdf_puts.proofs.LastImage.{only_takes}
 use Rattle.cdf_puts.proofs.IndexAdded.{blocks_added, index_added}
@@ -15,7 +15,7 @@ use Rattle.cdf_puts.proofs.WrittenGoes.{written_goes, long_now, max_rec_kept}
 use Rattle.cdf_index.proofs.OneVariable.{AmongAll, among_all}
 use Rattle.std.proofs.Math.Nat.{div-le_self}
 use Rattle.std.proofs.Math.Path.{transport}
-use Rattle.std.proofs.lemmas.Bool.{ltb-false, ltb-true}
+use Rattle.std.proofs.lemmas.Bool.Decides.{nat_tests}
 use Rattle.cdf_base.specs.Bytes.{put as put_at}
 use Rattle.cdf_edits.proofs.Edits.StandsAmong.{in_middle}
 use Rattle.cdf_format.specs.GoodImage.{IsGoodImage}
@@ -101,7 +101,7 @@ leaf_bytes place need k at index = by (new_room k index)
   where
     by : (room : ℕ) → taken_bytes (leaf_acts place need room at) ≡ need + (if room == 0 then 0 else vxr_bytes room)
     by zero = omega arith
-    by (suc room) = rw (ne_eqb (suc room) 0 (λ e. absurd (omega arith))) (omega arith)
+    by (suc room) = grind arith
 
 takes_both : (acts acts' : List Act) → Each IsTaking acts → Each IsTaking acts' → Each IsTaking (acts ++ acts')
 takes_both [] acts' t u = u
@@ -219,18 +219,7 @@ most_few v r = elim (either (ltb r (extent v.max_rec))) [ inl t ↦ rw t (omega 
 
 -- up to MaxRec it is one record, which is the one that is put
 last_as : (v : Variable) (index : Nodes) (k r most : ℕ) → is_sparse v.sparse ≡ false → most ≡ most_in_block v r → first_written v r ≤ k → k ≤ r → k < next_first k (firsts_of index) → last_in_new most index k ≡ new_last v index k
-last_as v index k r most rule is from upto before = elim (either (ltb r (extent v.max_rec))) [
-  | inl t ↦
-      let one : most ≡ 1 = rw t at is in
-      let past = ltb-true r (extent v.max_rec) t in
-      let alone = one_alone v (firsts_of index) k (lt-ltb k (extent v.max_rec) (omega arith)) in
-      omega arith
-  | inr t ↦
-      let count : most ≡ block_count v = rw t at is in
-      let past = ltb-false r (extent v.max_rec) t in
-      let first : min r (extent v.max_rec) ≤ k = rw rule at from in
-      ap (λ (n : ℕ). min (k + n) (next_first k (firsts_of index)) - 1) count ∙ sym (full_or_next v (firsts_of index) k (le-ltb k (extent v.max_rec) (omega arith)))
-]
+last_as v index k r most rule is from upto before = let first : min r (extent v.max_rec) ≤ k = rw rule at from in grind (arith, nat_tests)
 
 -- a node more is no wider than the widest
 node_long : (b now : List ℕ) (room at wide : ℕ) → NodeTaken b now room at → room ≤ wide → length now ≤ length b + vxr_bytes wide

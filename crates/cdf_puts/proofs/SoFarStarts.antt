@@ -1,11 +1,12 @@
 -- The leaves that were put so far: which one more there is once a record is written or a leaf is added, that a put goes through them one after the other, and how that starts.
-use Rattle.std.proofs.Common.{◌≡◌, ◌⊎◌, ℕ, zero, suc, ◌+◌, ◌-◌, ◌<◌, ◌≤◌, List, [], ◌∷◌, ◌++◌, Bool, true, false, eqb, Some, None, append_assoc, refl, sym, ap, subst, ◌∙◌, arith, inl, inr}
-use Rattle.cdf_puts.proofs.Common.{in_order, cases_lt, lt-ltb, le-ltb, ne_eqb, filter, min, max, nat_lt, find, ◌==◌, if◌then◌else◌, PutsLeaves, range, covers, with_leaf, new_room, block_need, Act, IsOneOf, Ascending, Leaf, leaves_of, VariableShape, record_bytes, either, node_acts, leaf_acts, with_new, put_count, was_put, PutsBefore, list_any, nat_le, Kind, Sparse, NoRule, extent, record_number_limit, new_ranges, Range, ranges_of, first_written, is_sparse, with_ranges, indexes_with, outline, UnusedEntries, NodeSpareStays, NodesFollow, top_chain, leaves_ascend, is_in, variable_of, Nodes, nodes_of, used_count, is_in-true, bytes_eq-same, of_le, PutStart, IndexSoFar, NodesSoFar, BlocksSoFar}
+use Rattle.std.proofs.Common.{◌≡◌, ◌⊎◌, ℕ, zero, suc, ◌+◌, ◌-◌, ◌<◌, ◌≤◌, List, [], ◌∷◌, ◌++◌, Bool, true, false, Some, None, append_assoc, refl, sym, ap, subst, ◌∙◌, arith, inl, inr}
+use Rattle.cdf_puts.proofs.Common.{in_order, cases_lt, lt-ltb, ne_eqb, filter, min, max, nat_lt, find, ◌==◌, if◌then◌else◌, PutsLeaves, range, covers, with_leaf, new_room, block_need, Act, IsOneOf, Ascending, Leaf, leaves_of, VariableShape, record_bytes, either, node_acts, leaf_acts, with_new, put_count, was_put, PutsBefore, list_any, nat_le, Kind, Sparse, NoRule, extent, record_number_limit, new_ranges, Range, ranges_of, first_written, is_sparse, with_ranges, indexes_with, outline, UnusedEntries, NodeSpareStays, NodesFollow, top_chain, leaves_ascend, is_in, variable_of, Nodes, nodes_of, used_count, is_in-true, bytes_eq-same, of_le, PutStart, IndexSoFar, NodesSoFar, BlocksSoFar}
 use Rattle.cdf_edits.specs.Commands.Puts.{TakesNode}
 use Rattle.cdf_edits.proofs.Edits.LeafPieces.{covers_from}
 use Rattle.cdf_puts.proofs.CoveringRanges.{of_leaves}
 use Rattle.cdf_edits.proofs.Space.ActsLeave.{each}
-use Rattle.std.proofs.lemmas.Bool.{both_ways, eqb-true, or_right}
+use Rattle.std.proofs.lemmas.Bool.Decides.{nat_tests}
+use Rattle.std.proofs.lemmas.Bool.{or_right}
 
 -- ---- which leaves were put
 
@@ -33,15 +34,8 @@ one_more test test' low upto [] new a is early late = rw is refl
 one_more test test' low upto (x ∷ more) new a is early late = elim (cases_lt new.first x.first) [
   | inl lt ↦
       let up : Ascending x.first upto (x ∷ more) = (omega arith, a.1, a.2, a.3) in
-      let none = none_past test new.first x.first upto (x ∷ more) up lt (λ l i g. (late l i g).0) in
-      let none' = none_past test' new.first x.first upto (x ∷ more) up lt (λ l i g. (late l i g).1) in
-      rw (lt-ltb new.first x.first lt, is) (ap (λ (ys : List Leaf). new ∷ ys) none' ∙ ap (λ (ys : List Leaf). ys ++ new ∷ []) (sym none))
-  | inr le ↦
-      let rest = one_more test test' (suc x.last) upto more new a.3 is (λ l i. early l (inr i)) (λ l i. late l (inr i)) in
-      elim (either (test x)) [
-        | inl t ↦ rw (le-ltb new.first x.first le, early x (inl refl) le, t) (ap (λ (ys : List Leaf). x ∷ ys) rest)
-        | inr t ↦ rw (le-ltb new.first x.first le, early x (inl refl) le, t) rest
-      ]
+      grind (arith, nat_tests, is, none_past test new.first x.first upto (x ∷ more) up lt (λ l i g. (late l i g).0), none_past test' new.first x.first upto (x ∷ more) up lt (λ l i g. (late l i g).1))
+  | inr le ↦ grind (arith, nat_tests, early x (inl refl) le, one_more test test' (suc x.last) upto more new a.3 is (λ l i. early l (inr i)) (λ l i. late l (inr i)))
 ]
 
 -- the leaf that has record k was put, or it comes behind those that were
@@ -56,10 +50,7 @@ put_next first k low upto (x ∷ more) a l (inr i) from f t =
     let before = (in_order (suc x.last) upto more a.3 l i).from in
     let same : was_put first (k + 1) x ≡ was_put first k x = all_put first (k + 1) k x (omega arith) (omega arith) in
     let rest = put_next first k (suc x.last) upto more a.3 l i from f t in
-    elim (either (was_put first k x)) [
-      | inl p ↦ rw (same, p) (ap (λ (ys : List Leaf). x ∷ ys) rest ∙ elim (either (was_put first k l)) [ inl u ↦ rw u refl | inr u ↦ rw u refl ])
-      | inr p ↦ rw (same, p) rest
-    ]
+    grind (arith, same, rest)
 
 -- a leaf that is added comes behind them
 pub put_new : (first k k' low upto : ℕ) (leaves : List Leaf) (new : Leaf) → Ascending low upto leaves → ((l : Leaf) → IsOneOf leaves l → (l.last < k) ⊎ (new.last < l.first)) → new.first ≡ k → first ≤ k → k < k' → k' ≤ new.last + 1
@@ -76,15 +67,7 @@ put_new first k k' low upto leaves new a beside is from more within =
 -- no other leaf begins where none has the record
 pub none_begins : (k low upto : ℕ) (leaves : List Leaf) → Ascending low upto leaves → find (λ (leaf : Leaf). covers k (range leaf.first leaf.last)) leaves ≡ None → find (λ (old : Leaf). old.first == k) leaves ≡ None
 none_begins k low upto [] a e = refl
-none_begins k low upto (x ∷ more) a e = elim (either (covers k (range x.first x.last))) [
-  | inl t ↦ let found : Some x ≡ None = rw t at e in absurd (cc)
-  | inr t ↦
-      let rest : find (λ (leaf : Leaf). covers k (range leaf.first leaf.last)) more ≡ None = rw t at e in
-      elim (either (eqb x.first k)) [
-        | inl u ↦ let same = eqb-true x.first k u in let le = a.1 in absurd (both_ways (covers k (range x.first x.last)) t (covers_from k x (omega arith) (omega arith)))
-        | inr u ↦ rw u (none_begins k (suc x.last) upto more a.3 rest)
-      ]
-]
+none_begins k low upto (x ∷ more) a e = grind (arith, nat_tests, none_begins k (suc x.last) upto more a.3, a.1)
 
 -- ---- a put goes through them
 

@@ -11,17 +11,15 @@ pub use Rattle.cdf_edits.proofs.Edits.FreedRecords.{edit_under}
 pub use Rattle.cdf_edits.proofs.Edits.IndexEdited.{IndexEdit}
 pub use Rattle.cdf_edits.proofs.Edits.LeafPieces.{IsOneOf}
 pub use Rattle.cdf_edits.proofs.Edits.MadeRecord.{filled_size, fresh, place_in}
-pub use Rattle.cdf_edits.proofs.Edits.MarkLemmas.{Avoids-append, Away-append, away-avoids, the_one, unmarked-away}
+pub use Rattle.cdf_edits.proofs.Edits.MarkLemmas.{Avoids-append, away-avoids, unmarked-away}
 pub use Rattle.cdf_edits.proofs.Edits.OwnedOnce.{fresh_unowned, used_times}
 pub use Rattle.cdf_edits.proofs.Edits.RecordFrame.{gdr_field, gdr_place, kept, kept_away}
 pub use Rattle.cdf_edits.proofs.Edits.RecordGrown.{Grew, grew, grew_none}
 pub use Rattle.cdf_edits.proofs.Edits.StandsAmong.{StandsAmong, behind_in, fits, has, long, tile, typed}
 pub use Rattle.cdf_edits.proofs.Edits.StepEdits.{gdr_typed}
 pub use Rattle.cdf_edits.proofs.Edits.VariableCopied.{block_behind, node_behind}
-pub use Rattle.cdf_edits.proofs.Edits.VariableKinds.{other_kind}
 pub use Rattle.cdf_edits.proofs.Frame.LinksStay.{SameHeads, node_fits_kept}
 pub use Rattle.cdf_edits.proofs.Frame.Meaning.{FileSame, Kept}
-pub use Rattle.cdf_edits.proofs.Frame.OwnerAlone.{Each-in}
 pub use Rattle.cdf_edits.proofs.Frame.OwnersApart.{all_variable_records, times-append, times-in}
 pub use Rattle.cdf_edits.proofs.Frame.VdrStays.{VdrStays, stays_alike}
 pub use Rattle.cdf_edits.proofs.Space.UsedRecords.{apart}
@@ -30,7 +28,7 @@ pub use Rattle.cdf_edits.specs.Commands.Reindex.{IsPyramid, levels_up, made_acts
 pub use Rattle.cdf_edits.specs.Commands.Room.{nodes_above, quotient_up, reindex_room}
 pub use Rattle.cdf_edits.specs.Edits.Edit.{Edit}
 pub use Rattle.cdf_edits.specs.Edits.ManyMarks.{freeing_marks}
-pub use Rattle.cdf_edits.specs.Edits.Marks.{Among, Avoids, Away, Mark, Within, avoided, keeps_file, mark, unmarked}
+pub use Rattle.cdf_edits.specs.Edits.Marks.{Avoids, Mark, Within, avoided, keeps_file, unmarked}
 pub use Rattle.cdf_edits.specs.Edits.Writes.{write}
 pub use Rattle.cdf_edits.specs.Index.Written.{last_node}
 pub use Rattle.cdf_edits.specs.Space.Acts.{Act, ActsFollow, gave, links_end, taken}
@@ -39,7 +37,7 @@ pub use Rattle.cdf_edits.specs.Space.Freeing.{AllGiven, AreFree}
 pub use Rattle.cdf_edits.specs.Space.VariableChains.{variables_chain}
 pub use Rattle.cdf_fields.proofs.Writes.{length-with_field}
 pub use Rattle.cdf_format.proofs.BytesLemmas.{number_kept, size_kept, type_kept, word_kept}
-pub use Rattle.cdf_format.proofs.ChainsLemmas.{is_a-type, linkable-from, linkable-in, linkable-type}
+pub use Rattle.cdf_format.proofs.ChainsLemmas.{is_a-type, linkable-from, linkable-type}
 pub use Rattle.cdf_format.proofs.GoodSound.{good_by_its_shape, good_is_sound}
 pub use Rattle.cdf_format.proofs.IndexLemmas.{nodes_stand}
 pub use Rattle.cdf_format.proofs.Members.{In-append, either, false-is_in, is_in-true, true-is_in}
@@ -55,7 +53,7 @@ pub use Rattle.cdf_format.specs.Index.{Entries, Leaf, Nodes, block, entry_count,
 pub use Rattle.cdf_format.specs.IndexOf.{IsIndex, IsNode, SaysEntry}
 pub use Rattle.cdf_format.specs.IndexRules.{is_block, leaf_rows}
 pub use Rattle.cdf_format.specs.Owners.{owned, times, variable_records}
-pub use Rattle.cdf_format.specs.RecordTypes.{cpr_type, cvvr_type, gdr_type, r_vdr_type, uir_type, vvr_type, vxr_type, z_vdr_type}
+pub use Rattle.cdf_format.specs.RecordTypes.{cvvr_type, gdr_type, r_vdr_type, uir_type, vvr_type, vxr_type, z_vdr_type}
 pub use Rattle.cdf_format.specs.Records.{Field, field, gdr_eof, gdr_uir_head, uir_next_uir, uir_prev_uir, vdr_max_rec, vdr_vxr_head, vdr_vxr_tail, vxr_n_used_entries, vxr_bytes}
 pub use Rattle.cdf_format.specs.Rules.{Hold}
 pub use Rattle.cdf_format.specs.Shape.{Each, HasShape, HasVariable, Shape, VariableShape, shape, variables, vdrs}

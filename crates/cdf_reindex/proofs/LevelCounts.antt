@@ -1,10 +1,11 @@
 -- How many nodes and levels there are, and where the nodes stand.
-use Rattle.std.proofs.Common.{◌≡◌, ◌⊎◌, ℕ, zero, suc, ◌+◌, ◌-◌, ◌*◌, ◌/◌, ◌≤◌, List, [], ◌∷◌, ◌++◌, length, map, eqb, append_assoc, append-nil, refl, sym, ap, ap₂, subst, ◌∙◌, arith, inl, inr}
+use Rattle.std.proofs.Common.{◌≡◌, ℕ, zero, suc, ◌+◌, ◌-◌, ◌*◌, ◌/◌, ◌≤◌, List, [], ◌∷◌, ◌++◌, length, map, eqb, append_assoc, append-nil, refl, sym, ap, ap₂, subst, ◌∙◌, arith, inl, inr}
 use Rattle.cdf_reindex.proofs.Common.{eqb-true, length-append, map-append, times-append, times-in, levels_up, quotient_up, either, Entries, no_entry, Leaf, entry_count, times, NewNode, entries_for, joined, alone, entries_of, uppers, Filled, AreLevels, from_below, places_of, nodes_left, In, is_in, true-is_in, false-is_in, times-none}
 use Rattle.cdf_edits.specs.Commands.Room.{nodes_above}
 use Rattle.cdf_format.specs.Index.{nodes_of, lower_nodes}
 use Rattle.cdf_reindex.proofs.LevelLemmas.{count_joined, count_leaves, count_uppers, joined_is}
 use Rattle.cdf_reindex.proofs.PyramidIs.{level_at, counted_nodes, at_is}
+use Rattle.std.proofs.lemmas.Bool.{cases_lt}
 use Rattle.std.proofs.lemmas.List.{length-map}
 use Rattle.cdf_index.proofs.Saying.{lower_both}
 
@@ -72,46 +73,35 @@ abbrev pub leaves_under : ℕ → ℕ
 leaves_under zero = 1
 leaves_under (suc levels) = 64 * leaves_under levels
 
-least : (l k n p : ℕ) → l * 64 ≤ k + 63 → k ≡ n → n ≤ 64 * p → l ≤ p
-least l k n p a b c = omega arith
-
 pub level_small : (leaves : List Leaf) (level : List NewNode) (more : List (List NewNode)) (m : ℕ) → AreLevels leaves (level ∷ more) → length leaves ≤ leaves_under (length (level ∷ more) + m) → length level ≤ leaves_under m
 level_small leaves level [] m l few =
     let c = count_filled level l.1 in
     let n : entry_count (entries_of level) ≡ length leaves = ap entry_count l.0 ∙ count_leaves leaves in
     let c0 = c.0 in
     let f : length leaves ≤ 64 * leaves_under m = subst (λ (n : ℕ). length leaves ≤ leaves_under n) (one_more m) few in
-    least (length level) (entry_count (entries_of level)) (length leaves) (leaves_under m) c0 n f
+    omega arith
 level_small leaves level (below ∷ more) m l few =
     let c = count_filled level l.1 in
     let n : entry_count (entries_of level) ≡ length below = ap entry_count l.0 ∙ count_uppers below in
     let r : length below ≤ 64 * leaves_under m = level_small leaves below more (suc m) l.3 (subst (λ (k : ℕ). length leaves ≤ leaves_under k) (shifted (length (below ∷ more)) m) few) in
-    least (length level) (entry_count (entries_of level)) (length below) (leaves_under m) c.0 n r
+    let c0 = c.0 in
+    omega arith
 
 least_under : (d m : ℕ) → leaves_under m ≤ leaves_under (d + m)
 least_under zero m = subst (λ (n : ℕ). leaves_under m ≤ leaves_under n) (none m) (omega arith)
   where
     none : (m : ℕ) → m ≡ 0 + m
     none m = omega arith
-least_under (suc d) m = let r = least_under d m in subst (λ (n : ℕ). leaves_under m ≤ leaves_under n) (next d m) (larger (leaves_under m) (leaves_under (d + m)) r)
+least_under (suc d) m = let r = least_under d m in subst (λ (n : ℕ). leaves_under m ≤ leaves_under n) (next d m) (let l : leaves_under m ≤ 64 * leaves_under (d + m) = omega arith in l)
   where
     next : (d m : ℕ) → suc (d + m) ≡ suc d + m
     next d m = omega arith
 
-    larger : (x y : ℕ) → x ≤ y → x ≤ 64 * y
-    larger x y l = omega arith
-
 -- 2^31 leaves need no more than 6
 pub levels_few : (leaves : List Leaf) (level : List NewNode) (more : List (List NewNode)) → AreLevels leaves (level ∷ more) → length leaves ≤ 2147483648 → length (level ∷ more) ≤ 6
 levels_few leaves level [] l few = omega arith
-levels_few leaves level (below ∷ more) l few = at_most (length more) (λ d e. no_more d e)
+levels_few leaves level (below ∷ more) l few = elim (cases_lt 4 (length more)) [ inl lt ↦ absurd (no_more (length more - 5) (omega arith)) | inr le ↦ omega arith ]
   where
-    at_most : (n : ℕ) → ((d : ℕ) → n ≡ d + 5 → ⊥) → suc (suc n) ≤ 6
-    at_most n none = elim (less n) [ inl x ↦ omega arith | inr x ↦ absurd (none (n - 5) (omega arith)) ]
-      where
-        less : (n : ℕ) → (n ≤ 4) ⊎ (5 ≤ n)
-        less n = grind arith
-
     no_more : (d : ℕ) → length more ≡ d + 5 → ⊥
     no_more d e =
         let big : leaves_under 6 ≤ leaves_under (d + 6) = least_under d 6 in
@@ -182,11 +172,7 @@ module _ {f : List ℕ → ℕ} (adds : Adds f) where
   in_level (new ∷ more) =
       rw (append-nil (lower_nodes new.entries))
       (adds.both (new.place ∷ lower_nodes new.entries) (lower_nodes (uppers more))
-      ∙ sum (f (new.place ∷ [])) (f (lower_nodes new.entries)) (f (places_of more)) (f (lower_nodes (entries_of more))) _ _ _ _
-      (adds.both (new.place ∷ []) (lower_nodes new.entries)) (in_level more) (adds.both (new.place ∷ []) (places_of more)) (ap f (lower_joined new.entries (entries_of more)) ∙ adds.both (lower_nodes new.entries) (lower_nodes (entries_of more))))
-    where
-      sum : (p e ps es x y z w : ℕ) → x ≡ p + e → y ≡ ps + es → z ≡ p + ps → w ≡ e + es → x + y ≡ z + w
-      sum p e ps es x y z w a b c d = omega arith
+      ∙ omega (arith, adds.both (new.place ∷ []) (lower_nodes new.entries), in_level more, adds.both (new.place ∷ []) (places_of more), ap f (lower_joined new.entries (entries_of more)) ∙ adds.both (lower_nodes new.entries) (lower_nodes (entries_of more))))
 
   in_levels : (leaves : List Leaf) (level : List NewNode) (more : List (List NewNode)) → AreLevels leaves (level ∷ more) → f (lower_nodes (uppers level)) ≡ f (places_of (from_below (level ∷ more)))
   in_levels leaves level [] l = in_level level ∙ ap (λ (n : ℕ). f (places_of level) + n) (ap f (ap lower_nodes l.0 ∙ lower_for leaves) ∙ adds.none) ∙ right (f (places_of level))
@@ -223,8 +209,5 @@ fewest leaves top more l some few =
 pub in_by_times : (xs ys : List ℕ) → ((m : ℕ) → times m xs ≡ times m ys) → (m : ℕ) → In m xs → In m ys
 in_by_times xs ys same m i = elim (either (is_in m ys)) [
   | inl e ↦ true-is_in m ys e
-  | inr e ↦ absurd (none (times m xs) (times m ys) (same m) (times-none m ys (false-is_in m ys e)) (times-in m xs i))
+  | inr e ↦ absurd (omega (arith, same m, times-none m ys (false-is_in m ys e), times-in m xs i))
 ]
-  where
-    none : (a c : ℕ) → a ≡ c → c ≡ 0 → 1 ≤ a → ⊥
-    none a c p q r = omega arith

@@ -1,9 +1,17 @@
 -- The steps by which code makes the levels of an index, one by one.
-use Rattle.std.proofs.Common.{◌≡◌, ◌⊎◌, ℕ, zero, suc, ◌+◌, ◌-◌, ◌*◌, ◌/◌, min, ◌<◌, ◌≤◌, List, [], ◌∷◌, ◌++◌, length, map, get_or, append_assoc, append-nil, refl, sym, ap, subst, ◌∙◌, arith, inl, inr}
+use Rattle.std.proofs.Common.{◌≡◌, ℕ, zero, suc, ◌+◌, ◌*◌, min, ◌<◌, ◌≤◌, List, [], ◌∷◌, ◌++◌, length, map, get_or, append_assoc, append-nil, refl, sym, ap, subst, ◌∙◌, arith}
 use Rattle.cdf_reindex.proofs.Common.{length-append, quotient_up, nodes_above, nodes_left, NodeWords, upper_of, level_entries, AreFilled, AreStacked, nodes_up, NodeMade, AllMade, LevelMade, LevelsMade, PyramidMade, Entry}
 use Rattle.cdf_reindex.specs.Rebuilding.{naming}
 use Rattle.cdf_reindex.proofs.LevelCounts.{leaves_under, above_is, left_more, up}
 use Rattle.std.proofs.lemmas.List.{length-map}
+
+-- ---- a chunk of entries
+
+pub chunk_few : (c n : ℕ) → c ≡ min 64 n → c ≤ 64
+chunk_few c n e = grind arith
+
+pub chunk_some : (c n : ℕ) → c ≡ min 64 n → 1 ≤ n → 1 ≤ c
+chunk_some c n e some = grind arith
 
 -- ---- nodes of a level
 
@@ -14,15 +22,9 @@ Goes b mid all rest uppers = (now : List ℕ) (nodes : List NodeWords) → level
 pub goes_first : (b : List ℕ) (all : List Entry) → Goes b b all all []
 goes_first b all now nodes e f m = record { nodes = nodes; entries_are = e; filled = f; uppers_are = refl; made = m }
 
-least_chunk : (c r n : ℕ) → c ≡ min 64 n → n ≡ c + r → 1 ≤ r → c ≡ 64
-least_chunk c r n e p some = grind arith
-
-some_chunk : (c r n : ℕ) → c ≡ min 64 n → n ≡ c + r → 1 ≤ n → (1 ≤ c) × (c ≤ 64)
-some_chunk c r n e p some = (grind arith, grind arith)
-
 filled_more : (place : ℕ) (chunk rest : List Entry) (n : ℕ) (nodes : List NodeWords) → length chunk ≡ min 64 n → n ≡ length chunk + length rest → 1 ≤ n → level_entries nodes ≡ rest → AreFilled nodes → AreFilled (record { place = place; entries = chunk } ∷ nodes)
-filled_more place chunk rest n [] e p some is f = some_chunk (length chunk) (length rest) n e p some
-filled_more place chunk rest n (next ∷ more) e p some is f = (least_chunk (length chunk) (length rest) n e p (subst (λ (xs : List Entry). 1 ≤ length xs) is (at_least next more f)), f)
+filled_more place chunk rest n [] e p some is f = (chunk_some (length chunk) n e some, chunk_few (length chunk) n e)
+filled_more place chunk rest n (next ∷ more) e p some is f = let l = subst (λ (xs : List Entry). 1 ≤ length xs) is (at_least next more f) in (grind arith, f)
   where
     first : (next : NodeWords) (more : List NodeWords) → AreFilled (next ∷ more) → 1 ≤ length next.entries
     first next [] f = f.0
@@ -45,41 +47,17 @@ goes_last b mid all rest uppers goes none = subst (λ (xs : List Entry). LevelMa
 -- ---- room
 
 pub up_more : (c r n : ℕ) → c ≡ min 64 n → n ≡ c + r → 1 ≤ n → quotient_up n 64 ≡ suc (quotient_up r 64)
-up_more c r n e p some = elim (less n) [
-  | inl l ↦ let c' : c ≡ n = absorb n e l in few r n (omega arith) some l
-  | inr l ↦ many r n (omega (arith, e, large n l)) l
-]
-  where
-    less : (n : ℕ) → (n ≤ 64) ⊎ (64 < n)
-    less n = grind arith
-
-    absorb : (n : ℕ) → c ≡ min 64 n → n ≤ 64 → c ≡ n
-    absorb n e l = grind arith
-
-    large : (n : ℕ) → 64 < n → min 64 n ≡ 64
-    large n l = grind arith
-
-    few : (r n : ℕ) → r ≡ 0 → 1 ≤ n → n ≤ 64 → (n + 64 - 1) / 64 ≡ suc ((r + 64 - 1) / 64)
-    few r n z s l = omega arith
-
-    many : (r n : ℕ) → n ≡ 64 + r → 64 < n → (n + 64 - 1) / 64 ≡ suc ((r + 64 - 1) / 64)
-    many r n z l = omega arith
+up_more c r n e p some = omega arith
 
 pub up_one : (n : ℕ) → 1 ≤ n → 1 ≤ quotient_up n 64
 up_one n some = omega arith
 
 -- after a node there is room for those that are left
 pub room_more : (start before now c r n all : ℕ) → before + 1052 * quotient_up n 64 ≤ start + 1052 * quotient_up all 64 → c ≡ min 64 n → n ≡ c + r → 1 ≤ n → now ≤ before + 1052 → now + 1052 * quotient_up r 64 ≤ start + 1052 * quotient_up all 64
-room_more start before now c r n all room e p some long = let q = up_more c r n e p some in still (quotient_up n 64) (quotient_up r 64) (quotient_up all 64) room q long
-  where
-    still : (x y z : ℕ) → before + 1052 * x ≤ start + 1052 * z → x ≡ suc y → now ≤ before + 1052 → now + 1052 * y ≤ start + 1052 * z
-    still x y z a q l = omega arith
+room_more start before now c r n all room e p some long = let q = up_more c r n e p some in omega arith
 
 pub room_one : (start before n all limit : ℕ) → before + 1052 * quotient_up n 64 ≤ start + 1052 * quotient_up all 64 → 1 ≤ n → start + 1052 * quotient_up all 64 ≤ limit → before + 1052 ≤ limit
-room_one start before n all limit room some fits = one (quotient_up n 64) (quotient_up all 64) (up_one n some) room fits
-  where
-    one : (x z : ℕ) → 1 ≤ x → before + 1052 * x ≤ start + 1052 * z → start + 1052 * z ≤ limit → before + 1052 ≤ limit
-    one x z o a l = omega arith
+room_one start before n all limit room some fits = let o = up_one n some in omega arith
 
 -- ---- a level over another
 
@@ -141,11 +119,8 @@ pub room_first : (start now all n : ℕ) → 1 ≤ all → all ≤ 2147483648 �
 room_first start now all n some few e long = record {
   levels = 7;
   small = subst (λ (k : ℕ). k ≤ leaves_under 7) (sym e) (up_least all (leaves_under 7) (omega arith));
-  room = subst (λ (k : ℕ). now + 1052 * nodes_left 7 k ≤ start + 1052 * nodes_above 8 all) (sym e) (fits (quotient_up all 64) (nodes_left 7 (quotient_up all 64)) (nodes_above 8 all) long (above_is 7 all some));
+  room = subst (λ (k : ℕ). now + 1052 * nodes_left 7 k ≤ start + 1052 * nodes_above 8 all) (sym e) (let a = above_is 7 all some in omega arith);
 }
-  where
-    fits : (q l a : ℕ) → now ≤ start + 1052 * q → a ≡ q + l → now + 1052 * l ≤ start + 1052 * a
-    fits q l a p e = omega arith
 
 -- a level of two nodes has one above it
 record Split (start before all n : ℕ) : Type 0 where
@@ -170,29 +145,17 @@ room_next start before now all n n' two r e long =
     record {
       levels = s.levels;
       small = subst (λ (k : ℕ). k ≤ leaves_under s.levels) (sym e) (up_least n (leaves_under s.levels) s.small);
-      room = subst (λ (k : ℕ). now + 1052 * nodes_left s.levels k ≤ start + 1052 * nodes_above 8 all) (sym e) (fits (quotient_up n 64) (nodes_left s.levels (quotient_up n 64)) (nodes_above 8 all) long s.room);
+      room = subst (λ (k : ℕ). now + 1052 * nodes_left s.levels k ≤ start + 1052 * nodes_above 8 all) (sym e) (let room = s.room in omega arith);
     }
-  where
-    fits : (q l a : ℕ) → now ≤ before + 1052 * q → before + 1052 * (q + l) ≤ start + 1052 * a → now + 1052 * l ≤ start + 1052 * a
-    fits q l a p e = omega arith
 
 pub room_for_next : (start before all n limit : ℕ) → 2 ≤ n → RoomLeft start before all n → start + 1052 * nodes_above 8 all ≤ limit → before + 1052 * quotient_up n 64 ≤ limit
-room_for_next start before all n limit two r fits = let s = split start before all n two r in less (quotient_up n 64) (nodes_left s.levels (quotient_up n 64)) (nodes_above 8 all) s.room fits
-  where
-    less : (q l a : ℕ) → before + 1052 * (q + l) ≤ start + 1052 * a → start + 1052 * a ≤ limit → before + 1052 * q ≤ limit
-    less q l a p f = omega arith
+room_for_next start before all n limit two r fits = let s = split start before all n two r in let room = s.room in omega arith
 
 pub room_level : (start all limit : ℕ) → 1 ≤ all → start + 1052 * nodes_above 8 all ≤ limit → start + 1052 * quotient_up all 64 ≤ limit
-room_level start all limit some fits = less (quotient_up all 64) (nodes_left 7 (quotient_up all 64)) (nodes_above 8 all) (above_is 7 all some) fits
-  where
-    less : (q l a : ℕ) → a ≡ q + l → start + 1052 * a ≤ limit → start + 1052 * q ≤ limit
-    less q l a e f = omega arith
+room_level start all limit some fits = let a = above_is 7 all some in omega arith
 
 pub fewer : (n n' : ℕ) → 2 ≤ n → n' ≡ quotient_up n 64 → n' < n
-fewer n n' two e = less (quotient_up n 64) refl
-  where
-    less : (q : ℕ) → q ≡ quotient_up n 64 → n' < n
-    less q is = omega arith
+fewer n n' two e = omega arith
 
 -- ---- the first turn of a loop over the entries of a level
 
@@ -204,15 +167,4 @@ room_start n rest all same = subst (λ (xs : List Entry). n + 1052 * quotient_up
 
 -- and its last one
 pub room_last : (start now : ℕ) (rest all : List Entry) → rest ≡ [] → now + 1052 * quotient_up (length rest) 64 ≤ start + 1052 * quotient_up (length all) 64 → now ≤ start + 1052 * quotient_up (length all) 64
-room_last start now rest all none room = least (quotient_up (length rest) 64) (quotient_up (length all) 64) room
-  where
-    least : (x y : ℕ) → now + 1052 * x ≤ start + 1052 * y → now ≤ start + 1052 * y
-    least x y l = omega arith
-
--- ---- a chunk of entries
-
-pub chunk_few : (c n : ℕ) → c ≡ min 64 n → c ≤ 64
-chunk_few c n e = grind arith
-
-pub chunk_some : (c n : ℕ) → c ≡ min 64 n → 1 ≤ n → 1 ≤ c
-chunk_some c n e some = grind arith
+room_last start now rest all none room = omega arith

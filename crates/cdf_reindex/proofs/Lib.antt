@@ -21,6 +21,5 @@ pub mod MadeEdit
 pub mod MadeFollows
 pub mod MadeGood
 pub mod MadeKeeps
-pub mod MadeSplices
 pub mod MadeTaken
 pub mod MadeTree

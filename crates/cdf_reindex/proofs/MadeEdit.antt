@@ -1,6 +1,6 @@
 -- An index made anew, as one edit: its nodes are taken and written, VXRhead and VXRtail lead to it, and the old nodes are freed.
-use Rattle.std.proofs.Common.{◌≡◌, ◌≢◌, ℕ, ◌+◌, ◌≤◌, List, [], ◌∷◌, ◌++◌, length, true, refl, sym, ap, subst, ◌∙◌, arith, inl}
-use Rattle.cdf_reindex.proofs.Common.{Kind, R, Z, is_in, IsChain, number, size_at, type_at, with_field, eof, LiesIn, nodes_of, link_to, Field, field, gdr_uir_head, vdr_vxr_head, vdr_vxr_tail, gdr_type, r_vdr_type, z_vdr_type, vxr_type, uir_type, VariableShape, Shape, Each, HasShape, shape, IsSound, In, AreTiles, Good, size_kept, type_kept, linkable-type, good_by_its_shape, good_is_sound, nodes_stand, length-with_field, levels_up, vxr_bytes, Edit, freeing_marks, Among, Mark, mark, avoided, unmarked, keeps_file, write, type_in, variables_chain, edit_then, IsLeft, all_left, edit_under, away-avoids, unmarked-away, Avoids-append, kept, gdr_field, gdr_place, node_behind, StandsAmong, tile, typed, long, has, behind_in, Kept, apart, IsRebuilt}
+use Rattle.std.proofs.Common.{◌≡◌, ◌≢◌, ℕ, ◌+◌, ◌≤◌, List, [], ◌∷◌, ◌++◌, length, true, refl, sym, ap, subst, ◌∙◌, arith, inl, inr}
+use Rattle.cdf_reindex.proofs.Common.{Kind, R, Z, is_in, IsChain, number, size_at, type_at, with_field, eof, LiesIn, nodes_of, link_to, Field, field, gdr_uir_head, vdr_vxr_head, vdr_vxr_tail, gdr_type, r_vdr_type, z_vdr_type, vxr_type, uir_type, VariableShape, Shape, Each, HasShape, shape, IsSound, In, AreTiles, Good, size_kept, type_kept, linkable-type, good_by_its_shape, good_is_sound, nodes_stand, length-with_field, levels_up, vxr_bytes, Edit, freeing_marks, Mark, avoided, unmarked, keeps_file, write, type_in, variables_chain, edit_then, IsLeft, all_left, edit_under, away-avoids, unmarked-away, Avoids-append, kept, gdr_field, gdr_place, node_behind, StandsAmong, tile, typed, long, has, behind_in, Kept, apart, IsRebuilt, In-append, with_index}
 use Rattle.cdf_format.specs.Walks.{records_of}
 use Rattle.cdf_format.proofs.ChainsLemmas.{chain_complete}
 use Rattle.cdf_format.proofs.GoodSound.{rules_of_good}
@@ -14,7 +14,10 @@ use Rattle.cdf_edits.proofs.Edits.StandsAmong.{through}
 use Rattle.cdf_edits.proofs.Edits.WrittenFields.{MayWrite, writes_edit}
 use Rattle.cdf_edits.proofs.Rules.WithoutLinks.{eof_by_rules}
 use Rattle.cdf_edits.proofs.Edits.RecordPlaced.{links_mark}
-use Rattle.cdf_reindex.proofs.MadeTaken.{TakenAll, all_taken, taking_all}
+use Rattle.cdf_edits.specs.Commands.Allowances.{space_fields}
+use Rattle.cdf_index.proofs.NewIndex.{IndexTests, NewIndex, index_marks}
+use Rattle.cdf_edits.proofs.Edits.TakenAll.{TakenAll, taking_all}
+use Rattle.cdf_reindex.proofs.MadeTaken.{NodesTaken, all_taken, node_takes}
 
 -- ---- marks
 
@@ -22,18 +25,18 @@ abbrev pub heads_marks : Kind → ℕ → List Mark
 heads_marks kind v = links_mark kind v ∷ []
 
 -- and nodes are freed: nothing is said of these, which have no more bytes than so many
-abbrev pub own_marks : Kind → ℕ → List ℕ → ℕ → List Mark
-own_marks kind v nodes limit = links_mark kind v ∷ mark vxr_type (Among nodes) (field 0 limit) ∷ []
-
--- all of them
 abbrev pub index_made_marks : Kind → ℕ → List ℕ → List ℕ → List ℕ → ℕ → List Mark
-index_made_marks kind v unused new nodes limit = taking_all unused new (vxr_bytes 64) ++ own_marks kind v nodes limit
+index_made_marks kind v unused new nodes limit = taking_all unused new (vxr_bytes 64) ++ index_marks kind v nodes (field 0 limit)
 
-pub vdr_untaken : (kind : Kind) (unused places : List ℕ) (need : ℕ) → unmarked (taking_all unused places need) (type_in (variables_chain kind)) ≡ true
+made_tests : (kind : Kind) (v : ℕ) (unused new nodes : List ℕ) (limit : ℕ) → IndexTests kind space_fields (index_made_marks kind v unused new nodes limit)
+made_tests R v unused new nodes limit = record { file_clear = refl; attributes_clear = refl; other_clear = refl; blocks_clear = refl; packed_clear = refl; cpr_clear = refl; head_clear = refl; count_clear = refl; max_clear = refl; heads_clear = refl; inside = refl }
+made_tests Z v unused new nodes limit = record { file_clear = refl; attributes_clear = refl; other_clear = refl; blocks_clear = refl; packed_clear = refl; cpr_clear = refl; head_clear = refl; count_clear = refl; max_clear = refl; heads_clear = refl; inside = refl }
+
+vdr_untaken : (kind : Kind) (unused places : List ℕ) (need : ℕ) → unmarked (taking_all unused places need) (type_in (variables_chain kind)) ≡ true
 vdr_untaken R unused places need = refl
 vdr_untaken Z unused places need = refl
 
-pub vdr_used : (kind : Kind) → type_in (variables_chain kind) ≢ uir_type
+vdr_used : (kind : Kind) → type_in (variables_chain kind) ≢ uir_type
 vdr_used R = apart r_vdr_type uir_type refl
 vdr_used Z = apart z_vdr_type uir_type refl
 
@@ -86,8 +89,11 @@ module _ {b now : List ℕ} {kind : Kind} {before : List VariableShape} {own : V
   end_before = eof_by_rules b (shape b) sound (sealed_kept b (good_long b (shape b) (good_by_its_shape b good)) (rules_of_good b good)).0
 
   -- the nodes are taken
-  pub t : TakenAll b r.made places
-  t = all_taken b r.made places sound end_before r.taken
+  taken : NodesTaken b r.made places
+  taken = all_taken b r.made places sound end_before r.taken
+
+  pub t : TakenAll b r.made (node_takes places) places (vxr_bytes 64)
+  t = taken.all
 
   pub sound_made : IsSound r.made made
   sound_made = t.grows.sound
@@ -219,3 +225,25 @@ module _ {b now : List ℕ} {kind : Kind} {before : List VariableShape} {own : V
 
     pub long_now : length now ≡ length r.made
     long_now = left.long ∙ linked_long
+
+    -- ---- the variable with its new index
+
+    abbrev pub mine : VariableShape
+    mine = with_index own r.index
+
+    gdr_now : (shape now).gdr ≡ (shape b).gdr
+    gdr_now = sym r.sound.has_shape.gdr_is ∙ gdr_place sound edit (made_tests kind v (shape b).unused places olds (length r.linked)).file_clear
+
+    reborn_in : (m : ℕ) → In m reborn → In m (shape now).records
+    reborn_in m i = elim (In-append m places olds i) [ inl j ↦ subst (In m) (sym records_now) (taken.stand m j).inside | inr j ↦ edit.sub m (node_before m j) ]
+
+    pub new_index : NewIndex b now kind own r.index (shape now).records (shape now).unused space_fields (taking_all (shape b).unused places (vxr_bytes 64)) olds (field 0 (length r.linked)) reborn
+    new_index = record {
+      edit = edit;
+      tests = made_tests kind v (shape b).unused places olds (length r.linked);
+      unspaced = refl;
+      own_nodes = λ m i j. inl j;
+      typed_now = λ m i. (r.sound.has_shape.typed m (reborn_in m i), r.sound.has_shape.fixed m (reborn_in m i));
+      unused_chain = subst (λ (g : ℕ). IsChain now (shape now).records uir_type (number now g gdr_uir_head) (shape now).unused) gdr_now r.sound.has_shape.unused_chain;
+      index_now = r.stands;
+    }

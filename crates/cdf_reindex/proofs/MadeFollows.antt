@@ -1,9 +1,9 @@
 -- An index made anew follows `reindex`.
-use Rattle.std.proofs.Common.{◌≡◌, ◌≢◌, ℕ, ◌+◌, ◌<◌, ◌≤◌, List, [], ◌∷◌, ◌++◌, length, map, Bool, true, false, not, ◌&&◌, Option, Some, None, bytes_eq, true≢false, refl, sym, ap, subst, ◌∙◌, arith, inl, inr}
+use Rattle.std.proofs.Common.{◌≡◌, ◌≢◌, ℕ, ◌+◌, ◌<◌, ◌≤◌, List, [], ◌∷◌, ◌++◌, length, map, Bool, true, false, Option, Some, None, true≢false, refl, sym, ap, subst, ◌∙◌, arith, inl, inr}
 use Rattle.cdf_reindex.proofs.Common.{sum, if◌then◌else◌, Kind, image_limit, Found, Same, content, number, size_at, type_at, Nodes, no_node, node, room_at, IsNode, owned, vdr_vxr_tail, gdr_type, vxr_type, VariableShape, shape, vdrs, IsSound, In, AreTiles, Good, size_kept, good_by_its_shape, good_is_sound, is_in-true, Allowance, Allowances, AllKeep, Keeps, Only, shapes_of, levels_up, made_acts, reindex_changes, reindex_room, vxr_bytes, last_node, Act, gave, links_end, taken, gdr_typed, StandsAmong, apart, IsBare, IsRebuilt, Reindexed}
 use Rattle.cdf_edits.proofs.Commands.ListParts.{got-middle}
 use Rattle.std.proofs.lemmas.Option.{same_Some}
-use Rattle.std.specs.List.{list_any, slice_get}
+use Rattle.std.specs.List.{slice_get}
 use Rattle.cdf_model.specs.declared.answer.Reply.TheVariants as replies
 use Rattle.cdf_model.specs.declared.command.Command.TheVariants as commands
 use Rattle.cdf_model.specs.Answers.{Go}
@@ -21,16 +21,15 @@ use Rattle.cdf_edits.specs.Commands.Named.{OfVariable}
 use Rattle.cdf_edits.specs.Commands.Reindex.{MakesIndex, nodes_at}
 use Rattle.cdf_edits.specs.Commands.Room.{nodes_above, room}
 use Rattle.cdf_edits.specs.Follows.{Follows}
-use Rattle.cdf_edits.specs.Index.Written.{NodeSpareStays, NodesFollow, TailFollows, UnusedEntries, is_taken_at, top_chain, top_stays}
+use Rattle.cdf_edits.specs.Index.Written.{NodeSpareStays, NodesFollow, TailFollows, UnusedEntries, is_taken_at, top_stays}
 use Rattle.cdf_edits.proofs.Edits.FreedBytes.{freed_stay}
 use Rattle.cdf_edits.proofs.Edits.FreedRecords.{sizes_by_tiles}
 use Rattle.cdf_edits.proofs.Edits.VariableFrame.{Each-map}
 use Rattle.cdf_edits.proofs.Space.ActsLeave.{each, no_acts}
 use Rattle.cdf_reindex.proofs.MadeActs.{made_follow, same_size, taken_nodes, taken_within}
-use Rattle.cdf_reindex.proofs.MadeEdit.{edit, gives_edit, heads_edit, left, may_free, node_linked, node_made, olds, records_now, type_linked}
+use Rattle.cdf_reindex.proofs.MadeEdit.{edit, gives_edit, heads_edit, left, may_free, mine, node_linked, node_made, olds, records_now, type_linked}
 use Rattle.cdf_reindex.proofs.MadeGood.{among_now, good_now, vdrs_stay}
 use Rattle.cdf_reindex.proofs.MadeKeeps.{made_keeps}
-use Rattle.cdf_reindex.proofs.MadeSplices.{mine}
 use Rattle.cdf_reindex.proofs.MadeTaken.{node_takes}
 use Rattle.cdf_reindex.proofs.MadeTree.{in_levels}
 use Rattle.cdf_reindex.proofs.PyramidRebuilt.{no_pyramid}
@@ -57,21 +56,11 @@ given_after b now acts (place ∷ new) given g = given_after b now acts new give
 
 -- ---- another top chain
 
-and_false : (p : Bool) → (p && false) ≡ false
-and_false true = refl
-and_false false = refl
-
-some_any : (test : ℕ → Bool) (x : ℕ) (xs : List ℕ) → test x ≡ true → list_any test (x ∷ xs) ≡ true
-some_any test x xs e = rw e refl
-
 top_moves : (acts : List Act) (old new : Nodes) → IsNode old → ((m : ℕ) → In m (nodes_of new) → is_taken_at acts m ≡ true) → top_stays acts old old new ≡ false
 unfolding nodes_of
 top_moves acts no_node new is all = absurd is
-top_moves acts (node place room entries more) no_node is all = and_false (bytes_eq (place ∷ top_chain more) (place ∷ top_chain more))
-top_moves acts (node place room entries more) (node other wide others next) is all =
-    let any = some_any (is_taken_at acts) other (top_chain next) (all other (inl refl)) in
-    let same = bytes_eq (place ∷ top_chain more) (place ∷ top_chain more) in
-    ap (λ (p : Bool). same && (bytes_eq (place ∷ top_chain more) (other ∷ top_chain next) && not p)) any ∙ ap (λ (p : Bool). same && p) (and_false (bytes_eq (place ∷ top_chain more) (other ∷ top_chain next))) ∙ and_false same
+top_moves acts (node place room entries more) no_node is all = grind arith
+top_moves acts (node place room entries more) (node other wide others next) is all = grind (arith, all other (inl refl))
 
 -- ---- the room that the command has
 
@@ -147,10 +136,7 @@ module _ {b now : List ℕ} (found : Found) {before : List VariableShape} {own :
       let last = (left good among r whole).behind m ((may_free good among r whole).stand m i) (no_gdr m i) in
       let last' : Same r.linked now (m + links_end (size_at b m)) (m + size_at b m) = subst (λ (n : ℕ). Same r.linked now (m + links_end n) (m + n)) (same_size good among r whole m i) last in
       let middle : size_at r.made m ≡ size_at b m = size_kept b r.made m one.same (let l = one.long in omega arith) in
-      record { each = λ k l u. last'.each k l u ∙ two.same.each k (from k (links_end (size_at b m)) l) (subst (λ (n : ℕ). k < m + n) (sym middle) u) ∙ one.same.each k (from k (links_end (size_at b m)) l) u }
-    where
-      from : (k n : ℕ) → m + n ≤ k → m ≤ k
-      from k n l = omega arith
+      record { each = λ k l u. last'.each k l u ∙ two.same.each k (omega arith) (subst (λ (n : ℕ). k < m + n) (sym middle) u) ∙ one.same.each k (omega arith) u }
 
   freed : FreedStay b now no_fields done
   freed = given_after b now done (levels_up 7 r.index) (gave b (nodes_of own.index))

@@ -1,28 +1,25 @@
 -- An index made anew leads from one good image to another, with the same content.
-use Rattle.std.proofs.Common.{◌≡◌, ℕ, pos, negsuc, ◌+◌, ◌*◌, ◌≤◌, List, [], ◌∷◌, ◌++◌, length, true, refl, sym, ap, subst, ◌∙◌, arith, inl, inr}
-use Rattle.cdf_reindex.proofs.Common.{word_kept, flat_map, Kind, R, Z, image_limit, record_number_limit, is_in, number, size_at, type_at, eof, leaves_of, nodes_of, room_at, leaf_rows, variable_records, times, gdr_eof, vdr_max_rec, vxr_n_used_entries, gdr_type, vxr_type, uir_type, Hold, VariableShape, Shape, vdrs, HasShape, shape, NodeFits, IsSound, In, Good, linkable-type, good_by_its_shape, good_is_sound, nodes_stand, In-append, times-none, times-once, Hold-split, shapes_of, Edit, freeing_marks, avoided, keeps_file, edit_then, IsOneOf, used_times, fresh_unowned, gdr_field, block_behind, StandsAmong, fits, has, behind_in, long, Each-in, times-append, apart, Counts, IsBare, IsRebuilt, Reindexed, IndexEdit, reindex_room}
-use Rattle.cdf_model.specs.Limits.{signed_limit}
-use Rattle.cdf_format.specs.IndexRules.{has_room, nodes_rows, index_rows}
+use Rattle.std.proofs.Common.{◌≡◌, ℕ, pos, negsuc, ◌+◌, ◌≤◌, List, [], ◌∷◌, ◌++◌, length, true, refl, sym, ap, subst, ◌∙◌, arith, inl, inr}
+use Rattle.cdf_reindex.proofs.Common.{flat_map, Kind, R, Z, image_limit, record_number_limit, is_in, number, type_at, eof, leaves_of, leaf_rows, times, gdr_eof, gdr_type, vxr_type, uir_type, Hold, VariableShape, Shape, vdrs, HasShape, shape, IsSound, In, Good, linkable-type, good_by_its_shape, good_is_sound, nodes_stand, In-append, Hold-split, shapes_of, Edit, freeing_marks, avoided, keeps_file, edit_then, IsOneOf, gdr_field, block_behind, StandsAmong, fits, has, behind_in, apart, IsRebuilt, Reindexed, IndexEdit, reindex_room, vxr_bytes}
+use Rattle.cdf_format.specs.IndexRules.{nodes_rows, index_rows}
 use Rattle.cdf_format.specs.NotRead.{read_types}
-use Rattle.cdf_format.specs.Owners.{OwnedOnce}
-use Rattle.cdf_format.specs.VariableRules.{is_max_rec}
 use Rattle.cdf_format.proofs.GoodByShape.{IsGoodByShape}
 use Rattle.cdf_format.proofs.Members.{In-append_left, In-append_right}
-use Rattle.cdf_format.proofs.Tests.{of_le}
 use Rattle.cdf_edits.proofs.Edits.FreedBytes.{all_unused}
 use Rattle.cdf_edits.proofs.Edits.InRecords.{places_of}
-use Rattle.cdf_edits.proofs.Edits.OwnedOnce.{IsSorted, owned_once_if, sorted_before}
 use Rattle.cdf_edits.proofs.Edits.PlainLeaves.{own_rules}
-use Rattle.cdf_edits.proofs.Edits.RecordFrame.{index_records}
 use Rattle.cdf_edits.proofs.Edits.VariableFrame.{IsRuled}
-use Rattle.cdf_edits.proofs.Edits.VariableKinds.{by_kind, shapes_with, with_shapes, spliced_times}
+use Rattle.cdf_edits.proofs.Edits.VariableKinds.{by_kind, shapes_with, with_shapes}
 use Rattle.cdf_index.proofs.LeafRules.{index_order, index_rules}
-use Rattle.cdf_index.proofs.OwnRecords.{parts_times}
 use Rattle.cdf_reindex.proofs.MadeBlocks.{StandsOn, leaves_on}
-use Rattle.cdf_reindex.proofs.MadeEdit.{edit, gives_edit, heads_edit, heads_marks, long_now, marks, may_free, node_typed, olds, places, reborn, sound_made, t}
+use Rattle.cdf_reindex.proofs.MadeEdit.{edit, gives_edit, heads_edit, heads_marks, long_now, marks, may_free, mine, new_index, olds, places, reborn, sound_made, t}
 use Rattle.cdf_edits.proofs.Edits.OwnEdited as of_own_edit
-use Rattle.cdf_edits.proofs.Edits.IndexEdited.{stays, good_now as good_if_ruled}
-use Rattle.cdf_reindex.proofs.MadeSplices.{block_kept, file, index_edit, own_edit, mine, part}
+use Rattle.cdf_edits.proofs.Edits.IndexEdited.{file, stays}
+use Rattle.cdf_edits.proofs.Edits.OwnEdited.{OwnEdit}
+use Rattle.cdf_index.proofs.NewIndex.{Exchanged, NewIndex, block_kept, good_now as changed_good, index_edit, node_room, own_edit}
+use Rattle.cdf_edits.proofs.Edits.TakenAll.{taking_all}
+use Rattle.cdf_edits.specs.Commands.Allowances.{space_fields}
+use Rattle.cdf_format.specs.Records.{field}
 use Rattle.cdf_reindex.proofs.MadeTree.{level_times, from_levels}
 
 -- ---- what is freed leaves the end of the image
@@ -65,27 +62,21 @@ module _ {b now : List ℕ} {kind : Kind} {before : List VariableShape} {own : V
   e : Edit b now s.records records' (marks good among r whole) born
   e = edit good among r whole
 
+  abbrev changed : NewIndex b now kind own r.index records' (shape now).unused space_fields (taking_all s.unused ps (vxr_bytes 64)) os (field 0 (length r.linked)) born
+  changed = new_index good among r whole
+
   abbrev x : IndexEdit b now kind own r.index records' (shape now).unused (marks good among r whole) born
-  x = index_edit good among r whole
+  x = index_edit good among changed
 
-  -- ---- the nodes
-
-  node_room : (m : ℕ) → In m (nodes_of r.index) → has_room now m ≡ true
-  node_room m i =
-      let fit = (Each-in (NodeFits now) (nodes_of r.index) r.fits m i).0 in
-      let count : number now m vxr_n_used_entries ≤ room_at now m = Each-in (Counts now) (nodes_of r.index) r.counts m i in
-      let room = (Each-in (IsBare now) (nodes_of r.index) r.bare m i).room_is in
-      rw (of_le (number now m vxr_n_used_entries) (room_at now m) count, of_le (room_at now m) signed_limit (small (room_at now m) room), of_le (28 + 16 * room_at now m) (size_at now m) fit) refl
-    where
-      small : (n : ℕ) → n ≡ 64 → n ≤ signed_limit
-      small n p = omega arith
+  abbrev y : OwnEdit b now kind own r.index records' (shape now).unused (marks good among r whole) born
+  y = own_edit good among changed
 
   -- ---- the blocks
 
-  stands_on : (m : ℕ) → In m (places_of (leaves_of own.index)) → StandsOn (file good among r whole) (stays good among x) s.records records' h.fixed m
+  stands_on : (m : ℕ) → In m (places_of (leaves_of own.index)) → StandsOn (file good among x) (stays good among x) s.records records' h.fixed m
   stands_on m i =
       let was = behind_in good among m (block_behind own m i) in
-      record { was = was; is = e.sub m was; kept = block_kept good among r whole m i }
+      record { was = was; is = e.sub m was; kept = block_kept good among changed m i }
 
   own_before : IsRuled b s.records own
   own_before = own_rules good among
@@ -93,40 +84,10 @@ module _ {b now : List ℕ} {kind : Kind} {before : List VariableShape} {own : V
   index_ruled : Hold (index_rows now records' v r.index)
   index_ruled =
       let blocks = (Hold-split (nodes_rows b s.records (negsuc 0) (pos record_number_limit) own.index) (flat_map (leaf_rows b s.records v) (leaves_of own.index)) own_before.1).1 in
-      index_rules now records' v r.index (r.order (index_order b s.records v own.index own_before.1)) node_room (λ l i.
-      leaves_on (file good among r whole) (stays good among x) s.records records' h.fixed (leaves_of own.index) stands_on blocks (fits good among).2 l (subst (λ ls. IsOneOf ls l) r.leaves_stay i))
-
-  max_same : number now v vdr_max_rec ≡ number b v vdr_max_rec
-  max_same = word_kept b now (v + 24) (v + 28) (part good among r whole 24 28 (inl (omega arith)) (let l = long good among in omega arith)) (v + 24) 4 (omega arith) (omega arith)
+      index_rules now records' v r.index (r.order (index_order b s.records v own.index own_before.1)) (node_room good among changed r.fits r.counts short) (λ l i.
+      leaves_on (file good among x) (stays good among x) s.records records' h.fixed (leaves_of own.index) stands_on blocks (fits good among).2 l (subst (λ ls. IsOneOf ls l) r.leaves_stay i))
 
   -- ---- the owners
-
-  new_times : (m : ℕ) → times m ps ≡ times m (nodes_of r.index)
-  new_times = level_times now records' r.index r.stands.has_nodes
-
-  own_times : (m : ℕ) → times m (variable_records of_own) + times m os ≡ times m (variable_records own) + times m ps
-  own_times m =
-      sums (times m (v ∷ [])) (times m os) (times m (places_of (leaves_of own.index))) (times m own.cpr) (times m (nodes_of r.index)) (times m (places_of (leaves_of r.index))) (times m ps) (times m (variable_records own)) (times m (variable_records of_own))
-      (parts_times own m) (parts_times of_own m) (ap (λ ls. times m (places_of ls)) r.leaves_stay) (new_times m)
-    where
-      sums : (d n p c n' p' q o o' : ℕ) → o ≡ d + (n + p + c) → o' ≡ d + (n' + p' + c) → p' ≡ p → q ≡ n' → o' + n ≡ o + q
-      sums d n p c n' p' q o o' x y z w = omega arith
-
-  abbrev shape_now_is : Shape
-  shape_now_is = with_shapes s kind records' (shape now).unused (before ++ of_own ∷ after)
-
-  used_after : (m : ℕ) → used_times shape_now_is m + times m os ≡ used_times s m + times m ps
-  used_after m = spliced_times s kind records' (shape now).unused before (own ∷ []) (of_own ∷ []) after among.was m (times m ps) (times m os)
-      (more (times m (flat_map variable_records (of_own ∷ []))) (times m (flat_map variable_records (own ∷ []))) (times m (variable_records of_own)) (times m (variable_records own)) (times m ps) (times m os) (times-append m (variable_records of_own) []) (times-append m (variable_records own) []) (own_times m))
-    where
-      more : (a c x y p o : ℕ) → a ≡ x + 0 → c ≡ y + 0 → x + o ≡ y + p → a + o ≡ c + p
-      more a c x y p o f g j = omega arith
-
-  pub apart_from : (m : ℕ) → In m ps → In m os → ⊥
-  apart_from m i j = apart vxr_type uir_type refl (sym (node_typed good among r m j) ∙ (t good among r).fresh_all m i (behind_in good among m (inr_node m j)))
-    where
-      inr_node : (m : ℕ) → In m os → In m (index_records own)
-      inr_node m j = In-append_left m (os ++ places_of (leaves_of own.index)) own.cpr (In-append_left m os (places_of (leaves_of own.index)) j)
 
   pub new_type : (m : ℕ) → In m ps → type_at now m ≡ vxr_type
   new_type m i = linkable-type now records' vxr_type m (nodes_stand now records' 8 r.index r.stands.has_nodes m (from_levels now records' r.index r.stands.has_nodes m i))
@@ -134,39 +95,18 @@ module _ {b now : List ℕ} {kind : Kind} {before : List VariableShape} {own : V
   pub old_type : (m : ℕ) → In m os → type_at now m ≡ uir_type
   old_type = all_unused r.linked now os whole (may_free good among r whole).stand r.given
 
-  sorted : (m : ℕ) → In m born → IsSorted now shape_now_is m
-  sorted m i = elim (In-append m ps os i) [
-    | inl j ↦
-        let was = fresh_unowned sound m ((t good among r).fresh_all m j) in
-        let one = times-once m ps (t good among r).once j in
-        let none = times-none m os (apart_from m j) in
-        inl ((λ u. apart vxr_type uir_type refl (sym (new_type m j) ∙ u)), comes (used_times shape_now_is m) (used_times s m) (times m ps) (times m os) (used_after m) was one none)
-    | inr j ↦
-        let one = times-once m os (has good among).indexed.once j in
-        let none = times-none m ps (λ k. apart_from m k j) in
-        let inside = (node_in m j) in
-        elim (sorted_before sound image.owned_once m inside) [
-          | inl x ↦ inr (old_type m j, goes (used_times shape_now_is m) (used_times s m) (times m ps) (times m os) (used_after m) x.1 none one)
-          | inr x ↦ absurd (apart vxr_type uir_type refl (sym (node_typed good among r m j) ∙ x.0))
-        ]
-  ]
-    where
-      node_in : (m : ℕ) → In m os → In m s.records
-      node_in m j = behind_in good among m (In-append_left m (os ++ places_of (leaves_of own.index)) own.cpr (In-append_left m os (places_of (leaves_of own.index)) j))
-
-      comes : (a c p o : ℕ) → a + o ≡ c + p → c ≡ 0 → p ≡ 1 → o ≡ 0 → a ≡ 1
-      comes a c p o x f g k = omega arith
-
-      goes : (a c p o : ℕ) → a + o ≡ c + p → c ≡ 1 → p ≡ 0 → o ≡ 1 → a ≡ 0
-      goes a c p o x f g k = omega arith
-
-  owned_now : OwnedOnce now shape_now_is
-  owned_now = owned_once_if b now s shape_now_is _ born sound image.owned_once e
-      (λ m out. none_more (used_times shape_now_is m) (used_times s m) (times m ps) (times m os) (used_after m) (times-none m ps (λ i. out (In-append_left m ps os i))) (times-none m os (λ i. out (In-append_right m ps os i))))
-      sorted
-    where
-      none_more : (a c p o : ℕ) → a + o ≡ c + p → p ≡ 0 → o ≡ 0 → a ≡ c
-      none_more a c p o x f g = omega arith
+  exchanged : Exchanged b now own r.index born ps os
+  exchanged = record {
+    are_reborn = λ m i. In-append m ps os i;
+    reborn_are = λ m i. elim i [ inl j ↦ In-append_left m ps os j | inr j ↦ In-append_right m ps os j ];
+    times_are = λ m. omega (arith, ap (λ ls. times m (places_of ls)) r.leaves_stay, level_times now records' r.index r.stands.has_nodes m);
+    fresh = (t good among r).fresh_all;
+    taken_once = (t good among r).once;
+    in_use = λ m i u. apart vxr_type uir_type refl (sym (new_type m i) ∙ u);
+    were_nodes = λ m i. i;
+    freed_once = (has good among).indexed.once;
+    out_of_use = old_type;
+  }
 
   -- ---- the rules of the image
 
@@ -183,16 +123,16 @@ module _ {b now : List ℕ} {kind : Kind} {before : List VariableShape} {own : V
       subst (λ (x : ℕ). number now x gdr_eof ≡ number r.made x gdr_eof) g still ∙ subst (λ (x : ℕ). eof r.made x ≡ length r.made) g (t good among r).grows.end_is ∙ sym (long_now good among r whole)
 
   pub good_now : Good now
-  good_now = good_if_ruled good among x index_ruled (ap is_max_rec max_same ∙ own_before.0.1.1.1.1.1.1.1.0) reborn_read owned_now end_now short
+  good_now = changed_good good among changed ps os exchanged index_ruled reborn_read end_now short
 
   -- ---- the shape
 
   pub among_now : StandsAmong now kind before of_own after
-  among_now = of_own_edit.among_now good among (own_edit good among r whole)
+  among_now = of_own_edit.among_now good among y
 
   -- the descriptors of both kinds stay where they are
   pub vdrs_stay : (k : Kind) → vdrs (shapes_of (shape now) k) ≡ vdrs (shapes_of s k)
-  vdrs_stay k = ap (λ (x : Shape). vdrs (shapes_of x k)) (of_own_edit.same_shape good among (own_edit good among r whole)) ∙ ap vdrs (as_with k) ∙ by_kind (λ (j : Kind) (vs : List VariableShape). vdrs vs ≡ vdrs (shapes_of s j)) kind s (before ++ of_own ∷ after) (of_own_edit.same_vdrs good among (own_edit good among r whole)) refl k
+  vdrs_stay k = ap (λ (x : Shape). vdrs (shapes_of x k)) (of_own_edit.same_shape good among y) ∙ ap vdrs (as_with k) ∙ by_kind (λ (j : Kind) (vs : List VariableShape). vdrs vs ≡ vdrs (shapes_of s j)) kind s (before ++ of_own ∷ after) (of_own_edit.same_vdrs good among y) refl k
     where
       as_with : (k : Kind) → shapes_of (with_shapes s kind records' (shape now).unused (before ++ of_own ∷ after)) k ≡ shapes_with s kind (before ++ of_own ∷ after) k
       as_with R = refl

@@ -42,12 +42,14 @@ module _ {f : List ℕ → ℕ} (adds : Adds f) where
       let here = places (nodes_at levels nodes) in
       let more = places (nodes_below levels entries) in
       let rest = below levels (lower first last nodes entries) in
-      sums (f here) (f more) (f (upto levels nodes)) (f (below levels entries)) (f rest) (f (here ++ more)) (f (upto (suc levels) nodes)) (f (below (suc levels) entries)) _
-      (below_lower levels first last nodes entries) (adds.both here more) (adds.both here (upto levels nodes)) (adds.both more (below levels entries))
-      (ap (λ (xs : List ℕ). f (xs ++ rest)) (map-append (λ (pair : ℕ × ℕ). pair.0) (nodes_at levels nodes) (nodes_below levels entries)) ∙ adds.both (here ++ more) rest)
-    where
-      sums : (h m u l r hm hu ml a : ℕ) → r ≡ u + l → hm ≡ h + m → hu ≡ h + u → ml ≡ m + l → a ≡ hm + r → a ≡ hu + ml
-      sums h m u l r hm hu ml a p q s t w = omega arith
+      omega (
+        arith,
+        below_lower levels first last nodes entries,
+        adds.both here more,
+        adds.both here (upto levels nodes),
+        adds.both more (below levels entries),
+        ap (λ (xs : List ℕ). f (xs ++ rest)) (map-append (λ (pair : ℕ × ℕ). pair.0) (nodes_at levels nodes) (nodes_below levels entries)) ∙ adds.both (here ++ more) rest,
+      )
 
   upto_node : (levels place room : ℕ) (entries : Entries) (more : Nodes) → f (upto (suc levels) (node place room entries more)) ≡ f (place ∷ []) + (f (below levels entries) + f (upto (suc levels) more))
   unfolding nodes_at
@@ -60,12 +62,14 @@ module _ {f : List ℕ → ℕ} (adds : Adds f) where
       let here = places (nodes_below levels entries) in
       let next = places (nodes_at (suc levels) more) in
       let rest = upto (suc levels) (node place room entries more) in
-      sums (f (place ∷ [])) (f here) (f next) (f (below levels entries)) (f (upto (suc levels) more)) (f rest) (f (here ++ next)) (f (below (suc levels) entries)) (f (upto (suc (suc levels)) more)) _
-      (upto_node levels place room entries more) (adds.both here next) (adds.both here (below levels entries)) (adds.both next (upto (suc levels) more))
-      (ap (λ (xs : List ℕ). f (xs ++ rest)) (map-append (λ (pair : ℕ × ℕ). pair.0) (nodes_below levels entries) (nodes_at (suc levels) more)) ∙ adds.both (here ++ next) rest)
-    where
-      sums : (p h n l u r hn hl nu a : ℕ) → r ≡ p + (l + u) → hn ≡ h + n → hl ≡ h + l → nu ≡ n + u → a ≡ hn + r → a ≡ p + (hl + nu)
-      sums p h n l u r hn hl nu a q s t w x = omega arith
+      omega (
+        arith,
+        upto_node levels place room entries more,
+        adds.both here next,
+        adds.both here (below levels entries),
+        adds.both next (upto (suc levels) more),
+        ap (λ (xs : List ℕ). f (xs ++ rest)) (map-append (λ (pair : ℕ × ℕ). pair.0) (nodes_below levels entries) (nodes_at (suc levels) more)) ∙ adds.both (here ++ next) rest,
+      )
 
   module _ (b records : List ℕ) where
     mutual
@@ -75,11 +79,7 @@ module _ {f : List ℕ → ℕ} (adds : Adds f) where
       all_nodes levels no_node h = adds.none ∙ sym (upto_none levels)
       all_nodes zero (node place room entries more) h = absurd h
       all_nodes (suc levels) (node place room entries more) h =
-          sums (f (place ∷ [])) (f (lower_nodes entries)) (f (nodes_of more)) (f (below levels entries)) (f (upto (suc levels) more)) (f (lower_nodes entries ++ nodes_of more)) _ _
-          (all_below levels entries h.1) (all_nodes (suc levels) more h.2) (adds.both (lower_nodes entries) (nodes_of more)) (adds.both (place ∷ []) (lower_nodes entries ++ nodes_of more)) (upto_node levels place room entries more)
-        where
-          sums : (p l m l' m' lm a c : ℕ) → l ≡ l' → m ≡ m' → lm ≡ l + m → a ≡ p + lm → c ≡ p + (l' + m') → a ≡ c
-          sums p l m l' m' lm a c e q r s t = omega arith
+          omega (arith, all_below levels entries h.1, all_nodes (suc levels) more h.2, adds.both (lower_nodes entries) (nodes_of more), adds.both (place ∷ []) (lower_nodes entries ++ nodes_of more), upto_node levels place room entries more)
 
       all_below : (levels : ℕ) (entries : Entries) → Names b records levels entries → f (lower_nodes entries) ≡ f (below levels entries)
       all_below levels no_entry h = adds.none ∙ sym (below_none levels)

@@ -1,6 +1,6 @@
 -- The levels that code made, as a tree that stands in the image.
 use Rattle.std.proofs.Common.{◌≡◌, ℕ, suc, ◌+◌, ◌≤◌, List, [], ◌∷◌, ◌++◌, length, map, append-nil, sym, ap, ap₂, subst, ◌∙◌, arith, inl, inr}
-use Rattle.cdf_reindex.proofs.Common.{Grew, grew_none, record_number_limit, used_times, fresh_unowned, linkable-type, either, true-is_in, false-is_in, times-none, times-once, Each-append, Each-split, is_in, type_at, Nodes, no_node, node, Entries, no_entry, block, lower, Leaf, link_to, times, vxr_type, VariableShape, Shape, Each, HasVariable, variables, shape, NodeFits, IsSound, In, Distinct, past_entries, NewNode, entries_for, alone, Filled, AreLevels, from_below, places_of, IsBare, NodeWords, AllMade, PyramidMade, nodes_up}
+use Rattle.cdf_reindex.proofs.Common.{Grew, grew_none, record_number_limit, used_times, fresh_unowned, linkable-type, either, true-is_in, false-is_in, times-none, times-once, Each-append, Each-split, is_in, type_at, Nodes, no_node, Leaf, link_to, times, vxr_type, VariableShape, Shape, Each, HasVariable, variables, shape, NodeFits, IsSound, In, Distinct, NewNode, entries_for, alone, Filled, AreLevels, from_below, places_of, IsBare, NodeWords, AllMade, PyramidMade, nodes_up}
 use Rattle.cdf_format.specs.Index.{nodes_of, leaves_of, entry_leaves}
 use Rattle.cdf_format.specs.IndexOf.{HasNodes}
 use Rattle.cdf_index.specs.Order.{InOrder, AreInOrder}
@@ -10,57 +10,27 @@ use Rattle.cdf_reindex.proofs.LevelLemmas.{filled_rest, filled_few, leaves_stay}
 use Rattle.cdf_reindex.proofs.NodesMade.{Stands, Made, IsSmall, all_made}
 use Rattle.cdf_reindex.proofs.PyramidStands.{has_pyramid}
 use Rattle.cdf_reindex.proofs.WordsOfLevels.{node_words, tree_leaf_words, grown, up_words}
+use Rattle.cdf_edits.proofs.Edits.LeafRecords.{Ascending}
+use Rattle.cdf_index.proofs.LeavesAscend.{leaves_ascend}
 use Rattle.cdf_index.proofs.PlainBlocks.{leaves_named}
 
 -- ---- leaves in order are few
 
-abbrev Ascend : ℕ → ℕ → List Leaf → Type 0
-Ascend low upto [] = low ≤ upto
-Ascend low upto (leaf ∷ more) = (low ≤ leaf.first) × (leaf.first ≤ leaf.last) × Ascend (suc leaf.last) upto more
+ascend_most : (low upto : ℕ) (leaves : List Leaf) → low ≤ upto → Ascending low upto leaves → length leaves + low ≤ upto
+ascend_most low upto [] l a = omega arith
+ascend_most low upto (leaf ∷ more) l a = omega (arith, a.0, a.1, ascend_most (suc leaf.last) upto more a.2 a.3)
 
-ascend_lower : (low low' upto : ℕ) (leaves : List Leaf) → low' ≤ low → Ascend low upto leaves → Ascend low' upto leaves
-ascend_lower low low' upto [] l a = omega arith
-ascend_lower low low' upto (leaf ∷ more) l a = let a0 = a.0 in (omega arith, a.1, a.2)
-
-ascend_append : (low mid upto : ℕ) (xs ys : List Leaf) → Ascend low mid xs → Ascend mid upto ys → Ascend low upto (xs ++ ys)
-ascend_append low mid upto [] ys a c = ascend_lower mid low upto ys a c
-ascend_append low mid upto (x ∷ xs) ys a c = (a.0, a.1, ascend_append (suc x.last) mid upto xs ys a.2 c)
-
-ascend_most : (low upto : ℕ) (leaves : List Leaf) → Ascend low upto leaves → length leaves + low ≤ upto
-ascend_most low upto [] a = let l : low ≤ upto = a in omega arith
-ascend_most low upto (leaf ∷ more) a = let a0 = a.0 in let a1 = a.1 in let r = ascend_most (suc leaf.last) upto more a.2 in omega arith
-
-mutual
-  unfolding InOrder AreInOrder leaves_of entry_leaves
-
-  nodes_ascend : (low high : ℕ) (nodes : Nodes) → low ≤ suc high → InOrder low high nodes → Ascend low (suc high) (leaves_of nodes)
-  nodes_ascend low high no_node l o = l
-  nodes_ascend low high (node place room entries more) l o =
-      ascend_append low (past_entries low entries) (suc high) (entry_leaves entries) (leaves_of more) (entries_ascend low high entries o.0) (nodes_ascend (past_entries low entries) high more (past_most low high entries l o.0) o.1)
-
-  entries_ascend : (low high : ℕ) (entries : Entries) → AreInOrder low high entries → Ascend low (past_entries low entries) (entry_leaves entries)
-  entries_ascend low high no_entry o = omega arith
-  entries_ascend low high (block first last place packed entries) o = (o.0, o.1, entries_ascend (suc last) high entries o.3)
-  entries_ascend low high (lower first last nodes entries) o =
-      let o1 = o.1 in
-      ascend_lower first low (past_entries (suc last) entries) (leaves_of nodes ++ entry_leaves entries) o.0 (ascend_append first (suc last) (past_entries (suc last) entries) (leaves_of nodes) (entry_leaves entries) (nodes_ascend first last nodes (omega arith) o.3) (entries_ascend (suc last) high entries o.4))
-
-  past_most : (low high : ℕ) (entries : Entries) → low ≤ suc high → AreInOrder low high entries → past_entries low entries ≤ suc high
-  past_most low high no_entry l o = l
-  past_most low high (block first last place packed entries) l o = let o2 = o.2 in past_most (suc last) high entries (omega arith) o.3
-  past_most low high (lower first last nodes entries) l o = let o2 = o.2 in past_most (suc last) high entries (omega arith) o.4
-
-ascend_order : (low high : ℕ) (leaves : List Leaf) → Ascend low (suc high) leaves → AreInOrder low high (entries_for leaves)
+ascend_order : (low high : ℕ) (leaves : List Leaf) → Ascending low (suc high) leaves → AreInOrder low high (entries_for leaves)
 unfolding AreInOrder
 ascend_order low high [] a = tt
-ascend_order low high (leaf ∷ more) a = let m = ascend_most (suc leaf.last) (suc high) more a.2 in (a.0, a.1, omega arith, ascend_order (suc leaf.last) high more a.2)
+ascend_order low high (leaf ∷ more) a = (a.0, a.1, omega (arith, a.2), ascend_order (suc leaf.last) high more a.3)
 
 -- the leaves of an index in order are in order
 pub leaves_order : (high : ℕ) (nodes : Nodes) → InOrder 0 high nodes → AreInOrder 0 high (entries_for (leaves_of nodes))
-leaves_order high nodes o = ascend_order 0 high (leaves_of nodes) (nodes_ascend 0 high nodes (omega arith) o)
+leaves_order high nodes o = ascend_order 0 high (leaves_of nodes) (leaves_ascend 0 high nodes o (omega arith))
 
 pub few_leaves : (nodes : Nodes) → InOrder 0 record_number_limit nodes → length (leaves_of nodes) ≤ 2147483648
-few_leaves nodes o = let m = ascend_most 0 2147483647 (leaves_of nodes) (nodes_ascend 0 record_number_limit nodes (omega arith) o) in omega arith
+few_leaves nodes o = let m = ascend_most 0 2147483647 (leaves_of nodes) (omega arith) (leaves_ascend 0 record_number_limit nodes o (omega arith)) in omega arith
 
 -- ---- the tree
 

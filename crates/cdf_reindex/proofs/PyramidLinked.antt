@@ -1,7 +1,7 @@
 -- The index that was built takes the place of the old one: the image stays sound, and the old nodes are free.
 use Rattle.std.specs.Int.{w32, cast_signed}
 use Rattle.std.proofs.Common.{◌≡◌, ◌≢◌, ◌⊎◌, ℕ, ◌+◌, ◌^◌, ◌<◌, ◌≤◌, List, [], ◌∷◌, ◌++◌, length, map, slice_index, refl, sym, ap, ap₂, subst, ◌∙◌, arith, inl, inr}
-use Rattle.cdf_reindex.proofs.Common.{flat_map, ◌&&◌, ◌==◌, if◌then◌else◌, used_times, SameHeads, node_fits_kept, FileSame, Kept, times-append, times-in, all_variable_records, apart, AreFree, length-with_field, either, true-is_in, false-is_in, times-none, word_kept, tile_lies, Same, is_in, content, LiesIn, number, size_at, type_at, with_field, Nodes, Leaf, nodes_of, leaves_of, IsIndex, is_block, times, variable_records, vdr_vxr_head, vdr_vxr_tail, vdr_max_rec, vxr_type, uir_type, vvr_type, cvvr_type, VariableShape, Shape, Each, vdrs, variables, HasVariable, HasShape, NodeFits, LeafFits, VariableFits, IsSound, In, IsBare, with_index, VdrStays, stays_alike}
+use Rattle.cdf_reindex.proofs.Common.{flat_map, ◌&&◌, ◌==◌, if◌then◌else◌, SameHeads, node_fits_kept, FileSame, Kept, times-in, all_variable_records, apart, AreFree, length-with_field, either, true-is_in, false-is_in, times-none, word_kept, tile_lies, Same, is_in, content, LiesIn, number, size_at, type_at, with_field, Nodes, Leaf, nodes_of, leaves_of, IsIndex, is_block, times, variable_records, vdr_vxr_head, vdr_vxr_tail, vdr_max_rec, vxr_type, uir_type, vvr_type, cvvr_type, VariableShape, Shape, Each, vdrs, variables, HasVariable, HasShape, NodeFits, LeafFits, VariableFits, IsSound, In, IsBare, with_index, VdrStays, stays_alike}
 use Rattle.cdf_model.specs.DataSet.{Variable}
 use Rattle.std.specs.Prelude.{◌||◌}
 use Rattle.cdf_edits.proofs.Edits.OwnedOnce.{unused_none, outside_unowned}
@@ -20,12 +20,15 @@ use Rattle.cdf_format.specs.Content.{majority_of, variable_of, content_of, recor
 use Rattle.cdf_format.specs.Fields.{has_bit}
 use Rattle.cdf_format.specs.Owners.{unused_records, owned_records}
 use Rattle.cdf_format.specs.Shape.{shape}
-use Rattle.cdf_format.specs.VariableFields.{is_z, dimensions_at, value_bytes, pad_field, has_pad}
+use Rattle.cdf_format.specs.VariableFields.{is_z, dimensions_at, value_bytes, pad_field}
 use Rattle.cdf_format.specs.VariableRules.{vdr_end}
 use Rattle.cdf_index.specs.Replacing.{with_variables, NewIndex, IsReplaced}
 use Rattle.cdf_reindex.proofs.BareNodes.{bare_by}
 use Rattle.cdf_edits.proofs.Frame.VdrAlike.{block_fits_alike, records_alike}
 use Rattle.cdf_edits.proofs.Frame.VdrStays.{end_stays, cpr_stays, variable_stays}
+use Rattle.cdf_edits.proofs.Edits.InRecords.{places_of}
+use Rattle.cdf_edits.proofs.Edits.StandsAmong.{through}
+use Rattle.cdf_index.proofs.OwnRecords.{parts_times}
 use Rattle.cdf_index.proofs.IndexReplaced.{times-parts, index_replaced}
 use Rattle.cdf_reindex.proofs.PyramidBuilt.{NewTree, the_one}
 use Rattle.cdf_edits.proofs.Edits.LeftOwners.{distinct_if}
@@ -86,22 +89,6 @@ placed_mean f g (r ∷ rs) zs (x ∷ before) v after index e own others =
     let here : f r ≡ g r = subst (λ (y : VariableShape). f y ≡ g y) (sym (same_head e)) (same_head others) in
     (ap₂ (λ (y : Variable) (ys : List Variable). y ∷ ys) here p.0, p.1)
 
--- ---- counts
-
--- how often a record is one of a variable, by its parts
-own_times : (m : ℕ) (w : VariableShape) → times m (variable_records w) ≡ times m (w.vdr ∷ []) + (times m (nodes_of w.index) + (times m (map (λ leaf. leaf.place) (leaves_of w.index)) + times m w.cpr))
-own_times m w =
-    let ns = nodes_of w.index in
-    let ls = map (λ leaf. leaf.place) (leaves_of w.index) in
-    times-append m (w.vdr ∷ []) (ns ++ ls ++ w.cpr)
-    ∙ ap (λ (n : ℕ). times m (w.vdr ∷ []) + n) (sum (times m ns) (times m ls) (times m w.cpr) _ _ (times-append m ns ls) (times-append m (ns ++ ls) w.cpr))
-  where
-    sum : (n l c x y : ℕ) → x ≡ n + l → y ≡ x + c → y ≡ n + (l + c)
-    sum n l c x y e f = omega arith
-
-some_there : (o d n l : ℕ) → o ≡ 0 → o ≡ d + (n + l) → 1 ≤ n → ⊥
-some_there o d n l z e k = absurd (omega arith)
-
 -- ---- the image after VXRhead and VXRtail were written
 
 module _ (b made : List ℕ) (before : List VariableShape) (v : VariableShape) (after : List VariableShape) (was : variables (shape b) ≡ before ++ v ∷ after) (index : Nodes) (top : ℕ) (x : NewTree b made v index top) (first linked : List ℕ) (small : top < 2 ^ 64) (one : first ≡ with_field made v.vdr vdr_vxr_head top) (two : linked ≡ with_field first v.vdr vdr_vxr_tail top) where
@@ -127,16 +114,10 @@ module _ (b made : List ℕ) (before : List VariableShape) (v : VariableShape) (
   vdr_in = the_one (λ (w : VariableShape). In w.vdr s.records) (variables s) before v after all_are (vdrs_stand made s sound_made)
 
   pad_fits : (pad_field made v.vdr).place ≤ size_at made v.vdr
-  pad_fits = least (pad_field made v.vdr).place (if has_pad made v.vdr then value_bytes made v.vdr else 0) (size_at made v.vdr) fits.0
-    where
-      least : (a p n : ℕ) → a + p ≤ n → a ≤ n
-      least a p n l = omega arith
+  pad_fits = let f = fits.0 in omega arith
 
   long : 340 ≤ size_at made v.vdr
-  long = chain (pad_field made v.vdr).place (size_at made v.vdr) (pad_long (is_z made v.vdr) (dimensions_at made v.vdr) (value_bytes made v.vdr)) pad_fits
-    where
-      chain : (y z : ℕ) → 340 ≤ y → y ≤ z → 340 ≤ z
-      chain y z p q = omega arith
+  long = through 340 (pad_field made v.vdr).place (size_at made v.vdr) (pad_long (is_z made v.vdr) (dimensions_at made v.vdr) (value_bytes made v.vdr)) pad_fits
 
   inside : v.vdr + size_at made v.vdr ≤ length made
   inside = (tile_lies made 8 (length made) s.records v.vdr h.tiled vdr_in).high
@@ -205,40 +186,25 @@ module _ (b made : List ℕ) (before : List VariableShape) (v : VariableShape) (
   parts m = ap (λ (y : List VariableShape). times m (flat_map variable_records y)) all_are ∙ times-parts variable_records m before v after
 
   from_file : (m : ℕ) → In m (file_records s) → In m (v.vdr ∷ []) → ⊥
-  from_file m i j = too_many _ _ _ _ _ _ _ _ _ _ (limit m) (parts m) (own_times m v) (times-in m (v.vdr ∷ []) j) (times-in m (file_records s) i)
-    where
-      too_many : (f a w u p o q d n r : ℕ) → f + (a + (w + u)) ≤ 1 → w ≡ p + (o + q) → o ≡ d + (n + r) → 1 ≤ d → 1 ≤ f → ⊥
-      too_many f a w u p o q d n r l e g y z = absurd (omega arith)
+  from_file m i j = absurd (omega (arith, limit m, parts m, parts_times v m, times-in m (v.vdr ∷ []) j, times-in m (file_records s) i))
 
   file : FileSame made linked
   file = file_same_is made s sound_made linked (v.vdr ∷ []) (change (v.vdr ∷ []) (inl refl)) in_one from_file s.records all
 
   -- no new node was one of the variable
   not_mine : (m : ℕ) → In m (nodes_of index) → times m (variable_records v) ≡ 0
-  not_mine m i = none _ _ _ _ _ _ (x.new_unused m i) (parts m)
-    where
-      none : (f a w p o q : ℕ) → f + (a + w) ≡ 0 → w ≡ p + (o + q) → o ≡ 0
-      none f a w p o q z e = omega arith
-
-  others_differ : (m : ℕ) → 1 ≤ times m (nodes_of v.index) + (times m (map (λ leaf. leaf.place) (leaves_of v.index)) + times m v.cpr) → m ≢ v.vdr
-  others_differ m some e = too_many _ _ _ _ _ _ _ _ _ (limit m) (parts m) (own_times m v) (times-in m (v.vdr ∷ []) (inl e)) some
-    where
-      too_many : (f a w u p o q d n : ℕ) → f + (a + (w + u)) ≤ 1 → w ≡ p + (o + q) → o ≡ d + n → 1 ≤ d → 1 ≤ n → ⊥
-      too_many f a w u p o q d n l e' g y z = absurd (omega arith)
+  not_mine m i = omega (arith, x.new_unused m i, parts m)
 
   new_differ : (m : ℕ) → In m (nodes_of index) → m ≢ v.vdr
-  new_differ m i e = none _ _ _ (not_mine m i) (own_times m v) (times-in m (v.vdr ∷ []) (inl e))
-    where
-      none : (o d n : ℕ) → o ≡ 0 → o ≡ d + n → 1 ≤ d → ⊥
-      none o d n z g l = absurd (omega arith)
+  new_differ m i e = absurd (omega (arith, not_mine m i, parts_times v m, times-in m (v.vdr ∷ []) (inl e)))
 
   -- ---- the new index
 
   pub new_kept : (m : ℕ) → In m (nodes_of index) → Kept made linked m
   new_kept m i = kept m (x.node_at m i).inside (new_differ m i)
 
-  blocks : (m : ℕ) → In m (map (λ (leaf : Leaf). leaf.place) (leaves_of index)) → In m s.records
-  blocks m i = blocks_stand made s.records v.vdr (leaves_of v.index) fits.2 m (subst (λ (ls : List Leaf). In m (map (λ (leaf : Leaf). leaf.place) ls)) x.leaves_are i)
+  blocks : (m : ℕ) → In m (places_of (leaves_of index)) → In m s.records
+  blocks m i = blocks_stand made s.records v.vdr (leaves_of v.index) fits.2 m (subst (λ (ls : List Leaf). In m (places_of ls)) x.leaves_are i)
 
   has_linked : IsIndex linked s.records (number linked v.vdr vdr_vxr_head) index
   has_linked = record {
@@ -256,24 +222,21 @@ module _ (b made : List ℕ) (before : List VariableShape) (v : VariableShape) (
   block_same : (p : ℕ) → In p s.records → is_block linked s.records p ≡ is_block made s.records p
   block_same p i = let t = same_heads.types p i in λ k. (is_in p s.records && (t k == vvr_type)) || (is_in p s.records && (t k == cvvr_type))
 
-  leaf_kept : (leaves : List Leaf) → ((m : ℕ) → In m (map (λ (leaf : Leaf). leaf.place) leaves) → m ≢ v.vdr) → Each (LeafFits made s.records v.vdr) leaves → Each (LeafFits linked s.records v.vdr) leaves
+  leaf_kept : (leaves : List Leaf) → ((m : ℕ) → In m (places_of leaves) → m ≢ v.vdr) → Each (LeafFits made s.records v.vdr) leaves → Each (LeafFits linked s.records v.vdr) leaves
   leaf_kept [] other f = tt
   leaf_kept (leaf ∷ more) other f =
       let i = block_in made s.records leaf.place f.0.0 in
       ((block_same leaf.place i ∙ f.0.0, block_fits_alike file (stays_alike file vdr_stays) leaf leaf.packed (kept leaf.place i (other leaf.place (inl refl))) f.0.1), leaf_kept more (λ m j. other m (inr j)) f.1)
 
-  block_differs : (m : ℕ) → In m (map (λ (leaf : Leaf). leaf.place) (leaves_of v.index)) → m ≢ v.vdr
-  block_differs m i = others_differ m (some _ _ _ (times-in m (map (λ (leaf : Leaf). leaf.place) (leaves_of v.index)) i))
-    where
-      some : (n l c : ℕ) → 1 ≤ l → 1 ≤ n + (l + c)
-      some n l c o = omega arith
+  block_differs : (m : ℕ) → In m (places_of (leaves_of v.index)) → m ≢ v.vdr
+  block_differs m i e = absurd (omega (arith, limit m, parts m, parts_times v m, times-in m (v.vdr ∷ []) (inl e), times-in m (places_of (leaves_of v.index)) i))
 
   leaves_fit : Each (LeafFits linked s.records v.vdr) (leaves_of index)
   leaves_fit = subst (Each (LeafFits linked s.records v.vdr)) (sym x.leaves_are) (leaf_kept (leaves_of v.index) block_differs fits.2)
 
   -- how often a record is one of the variable with the new index
-  times_now : (m : ℕ) → times m (variable_records (with_index v index)) ≡ times m (v.vdr ∷ []) + (times m (nodes_of index) + (times m (map (λ leaf. leaf.place) (leaves_of v.index)) + times m v.cpr))
-  times_now m = own_times m (with_index v index) ∙ ap (λ (ls : List Leaf). times m (v.vdr ∷ []) + (times m (nodes_of index) + (times m (map (λ leaf. leaf.place) ls) + times m v.cpr))) x.leaves_are
+  times_now : (m : ℕ) → times m (variable_records (with_index v index)) ≡ times m (v.vdr ∷ []) + (times m (nodes_of index) + times m (places_of (leaves_of v.index)) + times m v.cpr)
+  times_now m = parts_times (with_index v index) m ∙ ap (λ (ls : List Leaf). times m (v.vdr ∷ []) + (times m (nodes_of index) + times m (places_of ls) + times m v.cpr)) x.leaves_are
 
   own : (m : ℕ) → (times m (variable_records (with_index v index)) ≤ times m (variable_records v)) ⊎ ((times m (owned_records made s) ≡ 0) × (times m (variable_records (with_index v index)) ≤ 1))
   own m = elim (either (is_in m (nodes_of index))) [
@@ -281,20 +244,11 @@ module _ (b made : List ℕ) (before : List VariableShape) (v : VariableShape) (
         let i = true-is_in m (nodes_of index) y in
         let t = (x.node_at m i).typed in
         inr (
-          owned-times made s m ∙ no_owner _ _ _ _ (x.new_unused m i) (unused_none made s h.tiled m (λ u. apart vxr_type uir_type refl (sym t ∙ u))),
-          subst (λ (n : ℕ). n ≤ 1) (sym (times_now m)) (alone_once _ _ _ _ _ _ (not_mine m i) (own_times m v) (x.new_once m)),
+          omega (arith, owned-times made s m, x.new_unused m i, unused_none made s h.tiled m (λ u. apart vxr_type uir_type refl (sym t ∙ u))),
+          omega (arith, times_now m, not_mine m i, parts_times v m, x.new_once m),
         )
-    | inr y ↦ inl (fewer _ _ _ _ _ _ _ (times_now m) (own_times m v) (times-none m (nodes_of index) (false-is_in m (nodes_of index) y)))
+    | inr y ↦ inl (omega (arith, times_now m, parts_times v m, times-none m (nodes_of index) (false-is_in m (nodes_of index) y)))
   ]
-    where
-      no_owner : (f a w u : ℕ) → f + (a + w) ≡ 0 → u ≡ 0 → f + (a + (w + u)) ≡ 0
-      no_owner f a w u z e = omega arith
-
-      alone_once : (o d n l c i : ℕ) → o ≡ 0 → o ≡ d + (n + (l + c)) → i ≤ 1 → d + (i + (l + c)) ≤ 1
-      alone_once o d n l c i z e le = omega arith
-
-      fewer : (w o d i n l c : ℕ) → w ≡ d + (i + (l + c)) → o ≡ d + (n + (l + c)) → i ≡ 0 → w ≤ o
-      fewer w o d i n l c e g z = omega arith
 
   new_index : NewIndex made linked s v index
   new_index = record {
@@ -332,42 +286,29 @@ module _ (b made : List ℕ) (before : List VariableShape) (v : VariableShape) (
   old_in : (m : ℕ) → In m (nodes_of v.index) → In m s.records
   old_in m i = elim (either (is_in m s.records)) [
     | inl y ↦ true-is_in m s.records y
-    | inr y ↦ absurd (none _ _ _ _ _ _ _ _ _ (outside m (false-is_in m s.records y)) (parts m) (own_times m v) (times-in m (nodes_of v.index) i))
+    | inr y ↦ absurd (omega (arith, outside_unowned sound_made m (false-is_in m s.records y), parts m, parts_times v m, times-in m (nodes_of v.index) i))
   ]
-    where
-      outside : (m : ℕ) → (In m s.records → ⊥) → used_times s m ≡ 0
-      outside m out = outside_unowned sound_made m out
 
-      none : (f a w p o q d n l : ℕ) → f + (a + w) ≡ 0 → w ≡ p + (o + q) → o ≡ d + (n + l) → 1 ≤ n → ⊥
-      none f a w p o q d n l z e g k = absurd (omega arith)
+  -- no new node is an old one
+  pub new_apart : (m : ℕ) → In m (nodes_of index) → In m (nodes_of v.index) → ⊥
+  new_apart m i j = absurd (omega (arith, not_mine m i, parts_times v m, times-in m (nodes_of v.index) j))
 
   pub old_free : AreFree linked (nodes_of v.index)
   old_free = record {
     stand = λ m i. subst (λ (y : Shape). In m y.records) (sym is_shape) (old_in m i);
     unowned = λ m i.
-        let new_none = not_new m i in
         let u : unused_records linked new_shape ≡ unused_records made s = unused_kept made linked s same_heads.types in
         let vs : times m (all_variable_records new_shape) ≡ times m (flat_map variable_records before) + (times m (variable_records (with_index v index)) + times m (flat_map variable_records after)) =
         ap (λ (y : List VariableShape). times m (flat_map variable_records y)) there.is ∙ times-parts variable_records m before (with_index v index) after in
         ap (λ (y : Shape). times m (owned_records linked y)) is_shape
         ∙ owned-times linked new_shape m
         ∙ ap (λ (ns : List ℕ). times m (file_records s) + (times m (all_attribute_records s) + (times m (all_variable_records new_shape) + times m ns))) u
-        ∙ none_left _ _ _ _ _ _ _ _ _ _ _ _ _ _ (limit m) (parts m) (own_times m v) vs (times_now m) new_none (times-in m (nodes_of v.index) i);
+        ∙ omega (arith, limit m, parts m, parts_times v m, vs, times_now m, times-none m (nodes_of index) (λ j. new_apart m j i), times-in m (nodes_of v.index) i);
     once = has_v.indexed.once;
   }
-    where
-      not_new : (m : ℕ) → In m (nodes_of v.index) → times m (nodes_of index) ≡ 0
-      not_new m i = times-none m (nodes_of index) (λ j. some_there _ _ _ _ (not_mine m j) (own_times m v) (times-in m (nodes_of v.index) i))
-
-      none_left : (f a w u p o q w' o' d n l c i : ℕ) → f + (a + (w + u)) ≤ 1 → w ≡ p + (o + q) → o ≡ d + (n + (l + c)) → w' ≡ p + (o' + q) → o' ≡ d + (i + (l + c)) → i ≡ 0 → 1 ≤ n → f + (a + (w' + u)) ≡ 0
-      none_left f a w u p o q w' o' d n l c i lim e g e' g' z k = omega arith
 
   pub new_fits : (m : ℕ) → In m (nodes_of index) → NodeFits linked m
   new_fits m i = node_fits_kept made linked s.records s.records same_heads m (new_kept m i) (x.node_at m i).fits
-
-  -- no new node is an old one
-  pub new_apart : (m : ℕ) → In m (nodes_of index) → In m (nodes_of v.index) → ⊥
-  new_apart m i j = some_there _ _ _ _ (not_mine m i) (own_times m v) (times-in m (nodes_of v.index) j)
 
   -- the new nodes stand, and their type is that of nodes
   pub new_in : (m : ℕ) → In m (nodes_of index) → In m (shape linked).records

@@ -5,7 +5,7 @@ use Rattle.cdf_edits.specs.Commands.Room.{packed_room, put_room, uncovered}
 use Rattle.cdf_edits.specs.Index.Blocks.{cuts_before_put, first_written, is_sparse, ranges_before_put}
 use Rattle.cdf_index.specs.Sizes.{size_of}
 use Rattle.cdf_index.specs.declared.measuring.IndexSize.{IndexSize}
-use Rattle.cdf_puts.proofs.CoveringRanges.{leaves_ascend}
+use Rattle.cdf_index.proofs.LeavesAscend.{leaves_ascend}
 use Rattle.cdf_puts.proofs.PutRules.{no_lengths, uncut}
 use Rattle.cdf_var_records.proofs.RecordForms.{variable_is}
 use Rattle.cdf_var_records.proofs.VdrParts.{at}

@@ -61,7 +61,7 @@ only_variable {b = b} {s = s} sound kind before own after was m i =
 -- ---- what a command on a variable may change of its VDR
 
 -- no block stands there
-find_none : (leaves : List Leaf) (p : ℕ) → (In p (places_of leaves) → ⊥) → find (λ (leaf : Leaf). leaf.place == p) leaves ≡ None
+pub find_none : (leaves : List Leaf) (p : ℕ) → (In p (places_of leaves) → ⊥) → find (λ (leaf : Leaf). leaf.place == p) leaves ≡ None
 find_none [] p out = refl
 find_none (leaf ∷ more) p out = rw (ne_eqb leaf.place p (λ e. out (inl (sym e)))) (find_none more p (λ i. out (inr i)))
 
@@ -94,7 +94,7 @@ module _ (b : List ℕ) (found : Found) (before : List VariableShape) (own : Var
 -- ---- all records
 
 module _ (b now : List ℕ) (may : Allowances) (acts : List Act) where
-  variables-append : (kind : Kind) (n : ℕ) (xs ys : List VariableShape) → owned_by_variables kind n (xs ++ ys) ≡ owned_by_variables kind n xs ++ owned_by_variables kind (n + length xs) ys
+  pub variables-append : (kind : Kind) (n : ℕ) (xs ys : List VariableShape) → owned_by_variables kind n (xs ++ ys) ≡ owned_by_variables kind n xs ++ owned_by_variables kind (n + length xs) ys
   variables-append kind n [] ys = ap (λ (k : ℕ). owned_by_variables kind k ys) (none n)
     where
       none : (n : ℕ) → n ≡ n + 0

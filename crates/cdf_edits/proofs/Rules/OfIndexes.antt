@@ -12,6 +12,39 @@ use Rattle.cdf_edits.proofs.Rules.OfVariables.{asked_same, is_a_same, is_block_s
 node_long : (n s : ℕ) → 28 + 16 * n ≤ s → 28 ≤ s
 node_long n s h = omega arith
 
+-- of a variable whose VDR may stand at another place, with the flag and the sizes that its blocks are read by
+module _ (b now : List ℕ) (file : FileSame b now) (v v' : ℕ) (packed : is_compressed now v' ≡ is_compressed b v) (plain_same : (leaf : Leaf) → plain_size now v' leaf ≡ plain_size b v leaf) where
+  vvr_same : (leaf : Leaf) → Kept b now leaf.place → vvr_rows now v' leaf ≡ vvr_rows b v leaf
+  vvr_same leaf kept =
+      let plain = plain_same leaf in
+      let size = size_kept b now leaf.place kept.same (let l = kept.long in omega arith) in
+      λ i. row 5 leaf.place (nat_le (12 + plain i) (size i)) ∷ []
+
+  -- given that the rules hold
+  cvvr_same : (leaf : Leaf) → Kept b now leaf.place → 24 ≤ size_at b leaf.place → Hold (cvvr_rows b v leaf) → cvvr_rows now v' leaf ≡ cvvr_rows b v leaf
+  cvvr_same leaf kept long rules =
+      let holds = both (is_compressed b v) (holds_packed b leaf.place) rules.0 in
+      let room = le_of (24 + number b leaf.place cvvr_c_size) (size_at b leaf.place) (both (nat_le (number b leaf.place cvvr_c_size) 0x7fffffffffffffff) (nat_le (24 + number b leaf.place cvvr_c_size) (size_at b leaf.place)) holds.1).1 in
+      let plain = plain_same leaf in
+      let count = number_kept b now leaf.place kept.same cvvr_c_size (omega arith) in
+      let size = size_kept b now leaf.place kept.same (omega arith) in
+      let bytes = packed_same b now file leaf.place kept room in
+      λ i.
+      row 6 leaf.place (packed i && (nat_le (count i) 0x7fffffffffffffff && nat_le (24 + count i) (size i)))
+      ∷ row 7 leaf.place (nat_le (plain i) record_limit)
+      ∷ row 8 leaf.place (unpacks_to (bytes i) (plain i))
+      ∷ []
+
+  -- a block that stands in both images
+  pub leaf_same : (records records' : List ℕ) → ((m : ℕ) → In m records → fixed_size (type_at b m) ≤ size_at b m) → (leaf : Leaf) → ((type : ℕ) → is_a now records' type leaf.place ≡ is_a b records type leaf.place) → Kept b now leaf.place → Hold (leaf_rows b records v leaf) → leaf_rows now records' v' leaf ≡ leaf_rows b records v leaf
+  leaf_same records records' fixed leaf same kept rules =
+      let parts = Hold-split (asked (is_a b records vvr_type leaf.place) (vvr_rows b v leaf)) (asked (is_a b records cvvr_type leaf.place) (cvvr_rows b v leaf)) rules in
+      let plain = asked_same (is_a now records' vvr_type leaf.place) (is_a b records vvr_type leaf.place) (vvr_rows now v' leaf) (vvr_rows b v leaf) (same vvr_type) (λ e. vvr_same leaf kept) in
+      let blocks = asked_same (is_a now records' cvvr_type leaf.place) (is_a b records cvvr_type leaf.place) (cvvr_rows now v' leaf) (cvvr_rows b v leaf) (same cvvr_type) (λ e.
+      let long : 24 ≤ size_at b leaf.place = subst (λ (t : ℕ). fixed_size t ≤ size_at b leaf.place) (is_a-type b records cvvr_type leaf.place e) (fixed leaf.place (is_a-in b records cvvr_type leaf.place e)) in
+      cvvr_same leaf kept long (Hold-asked (is_a b records cvvr_type leaf.place) (cvvr_rows b v leaf) parts.1 e)) in
+      λ i. plain i ++ blocks i
+
 module _ (b now records : List ℕ) (same : SameHeads b now records records) where
   room_same : (place : ℕ) → Kept b now place → NodeFits b place → has_room now place ≡ has_room b place
   room_same place k fits =
@@ -43,43 +76,16 @@ module _ (b now records : List ℕ) (same : SameHeads b now records records) whe
         let rest = used_same vxr (with_sign last) high entries (λ m i. k m (In-append_right m (nodes_of nodes) (lower_nodes entries) i)) (λ m i. fits m (In-append_right m (nodes_of nodes) (lower_nodes entries) i)) in
         λ i. row 4 vxr (is_between low high first last) ∷ below i ++ rest i
 
-  -- of a variable whose VDR may stand at another place, with the flag and the sizes that its blocks are read by
+  -- likewise, of all its blocks
   module _ (file : FileSame b now) (fixed : (m : ℕ) → In m records → fixed_size (type_at b m) ≤ size_at b m) (v v' : ℕ) (packed : is_compressed now v' ≡ is_compressed b v) (plain_same : (leaf : Leaf) → plain_size now v' leaf ≡ plain_size b v leaf) where
-    vvr_same : (leaf : Leaf) → Kept b now leaf.place → vvr_rows now v' leaf ≡ vvr_rows b v leaf
-    vvr_same leaf kept =
-        let plain = plain_same leaf in
-        let size = size_kept b now leaf.place kept.same (let l = kept.long in omega arith) in
-        λ i. row 5 leaf.place (nat_le (12 + plain i) (size i)) ∷ []
-
-    -- given that the rules hold
-    cvvr_same : (leaf : Leaf) → Kept b now leaf.place → 24 ≤ size_at b leaf.place → Hold (cvvr_rows b v leaf) → cvvr_rows now v' leaf ≡ cvvr_rows b v leaf
-    cvvr_same leaf kept long rules =
-        let holds = both (is_compressed b v) (holds_packed b leaf.place) rules.0 in
-        let room = le_of (24 + number b leaf.place cvvr_c_size) (size_at b leaf.place) (both (nat_le (number b leaf.place cvvr_c_size) 0x7fffffffffffffff) (nat_le (24 + number b leaf.place cvvr_c_size) (size_at b leaf.place)) holds.1).1 in
-        let plain = plain_same leaf in
-        let count = number_kept b now leaf.place kept.same cvvr_c_size (omega arith) in
-        let size = size_kept b now leaf.place kept.same (omega arith) in
-        let bytes = packed_same b now file leaf.place kept room in
-        λ i.
-        row 6 leaf.place (packed i && (nat_le (count i) 0x7fffffffffffffff && nat_le (24 + count i) (size i)))
-        ∷ row 7 leaf.place (nat_le (plain i) record_limit)
-        ∷ row 8 leaf.place (unpacks_to (bytes i) (plain i))
-        ∷ []
-
-    leaf_same : (leaf : Leaf) → Kept b now leaf.place → Hold (leaf_rows b records v leaf) → leaf_rows now records v' leaf ≡ leaf_rows b records v leaf
-    leaf_same leaf kept rules =
-        let parts = Hold-split (asked (is_a b records vvr_type leaf.place) (vvr_rows b v leaf)) (asked (is_a b records cvvr_type leaf.place) (cvvr_rows b v leaf)) rules in
-        let plain = asked_same (is_a now records vvr_type leaf.place) (is_a b records vvr_type leaf.place) (vvr_rows now v' leaf) (vvr_rows b v leaf) (is_a_same b now records same vvr_type leaf.place) (λ e. vvr_same leaf kept) in
-        let blocks = asked_same (is_a now records cvvr_type leaf.place) (is_a b records cvvr_type leaf.place) (cvvr_rows now v' leaf) (cvvr_rows b v leaf) (is_a_same b now records same cvvr_type leaf.place) (λ e.
-        let long : 24 ≤ size_at b leaf.place = subst (λ (t : ℕ). fixed_size t ≤ size_at b leaf.place) (is_a-type b records cvvr_type leaf.place e) (fixed leaf.place (is_a-in b records cvvr_type leaf.place e)) in
-        cvvr_same leaf kept long (Hold-asked (is_a b records cvvr_type leaf.place) (cvvr_rows b v leaf) parts.1 e)) in
-        λ i. plain i ++ blocks i
+    leaf_stays : (leaf : Leaf) → Kept b now leaf.place → Hold (leaf_rows b records v leaf) → leaf_rows now records v' leaf ≡ leaf_rows b records v leaf
+    leaf_stays leaf = leaf_same b now file v v' packed plain_same records records fixed leaf (λ type. is_a_same b now records same type leaf.place)
 
     leaves_rules : (leaves : List Leaf) → ((m : ℕ) → In m (map (λ (leaf : Leaf). leaf.place) leaves) → Kept b now m) → Hold (flat_map (leaf_rows b records v) leaves) → Hold (flat_map (leaf_rows now records v') leaves)
     leaves_rules [] kept rules = tt
     leaves_rules (leaf ∷ more) kept rules =
         let parts = Hold-split (leaf_rows b records v leaf) (flat_map (leaf_rows b records v) more) rules in
-        Hold-append (leaf_rows now records v' leaf) (flat_map (leaf_rows now records v') more) (subst Hold (sym (leaf_same leaf (kept leaf.place (inl refl)) parts.0)) parts.0) (leaves_rules more (λ m i. kept m (inr i)) parts.1)
+        Hold-append (leaf_rows now records v' leaf) (flat_map (leaf_rows now records v') more) (subst Hold (sym (leaf_stays leaf (kept leaf.place (inl refl)) parts.0)) parts.0) (leaves_rules more (λ m i. kept m (inr i)) parts.1)
 
     pub index_rules_copied : (nodes : Nodes) → ((m : ℕ) → In m (nodes_of nodes) → Kept b now m) → ((m : ℕ) → In m (nodes_of nodes) → NodeFits b m) → ((m : ℕ) → In m (map (λ (leaf : Leaf). leaf.place) (leaves_of nodes)) → Kept b now m)
         → Hold (index_rows b records v nodes) → Hold (index_rows now records v' nodes)
@@ -104,7 +110,7 @@ module _ (b now records : List ℕ) (same : SameHeads b now records records) whe
     leaves_written (leaf ∷ more) blocks rules =
         let parts = Hold-split (leaf_rows b records v leaf) (flat_map (leaf_rows b records v) more) rules in
         let own = blocks leaf.place (inl refl) in
-        let same_rows : leaf_rows now records v' leaf ≡ leaf_rows b records v leaf = elim own.1 [ inl kept ↦ leaf_same leaf kept parts.0 | inr typed ↦ leaf_written leaf own.0 typed ] in
+        let same_rows : leaf_rows now records v' leaf ≡ leaf_rows b records v leaf = elim own.1 [ inl kept ↦ leaf_stays leaf kept parts.0 | inr typed ↦ leaf_written leaf own.0 typed ] in
         Hold-append (leaf_rows now records v' leaf) (flat_map (leaf_rows now records v') more) (subst Hold (sym same_rows) parts.0) (leaves_written more (λ m i. blocks m (inr i)) parts.1)
 
     pub index_rules_written : (nodes : Nodes) → ((m : ℕ) → In m (nodes_of nodes) → Kept b now m) → ((m : ℕ) → In m (nodes_of nodes) → NodeFits b m) → ((m : ℕ) → In m (map (λ (leaf : Leaf). leaf.place) (leaves_of nodes)) → In m records × (Kept b now m ⊎ (type_at b m ≡ vvr_type)))
