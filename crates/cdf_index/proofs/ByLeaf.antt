@@ -1,5 +1,5 @@
 -- What a leaf more makes of an index, step by step on the way to it, and how often a node stands in it by then.
-use Rattle.std.proofs.Common.{◌≡◌, ◌⊎◌, ℕ, ◌+◌, ◌≤◌, max, List, [], ◌∷◌, ◌++◌, Bool, false, ltb, eqb, refl, sym, ap, subst, ◌∙◌, arith, inl, inr}
+use Rattle.std.proofs.Common.{◌≡◌, ◌⊎◌, ℕ, ◌+◌, ◌≤◌, max, [], ◌∷◌, ◌++◌, Bool, false, ltb, eqb, refl, sym, ap, subst, ◌∙◌, arith, inl, inr}
 use Rattle.cdf_index.proofs.Common.{eqb-true, if◌then◌else◌, ◌==◌, In, either, reaches, chain_reaches, leads_down, past, with_both, with_entry, Nodes, no_node, node, Entries, no_entry, block, lower, Leaf, entry_count}
 use Rattle.std.proofs.lemmas.Bool.{eqb-false, ne_eqb}
 use Rattle.cdf_edits.specs.Index.Grown.{with_leaf, with_lower, new_room, new_room_below, room_of_new, with_block}

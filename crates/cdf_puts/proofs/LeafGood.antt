@@ -3,29 +3,15 @@ use Rattle.std.proofs.Common.{◌≡◌, ℕ, zero, suc, ◌+◌, List, [], ◌�
 use Rattle.cdf_puts.proofs.Common.{◌&&◌, Kind, StandsAmong, Edit, Mark, new_room, ActsFollow, type_of_body, good_is_sound, both, Leaf, uir_type, vvr_type, vxr_type, VariableShape, Shape, shape, IsSound, Good, LeafAdded, leaf_acts, nat_le, block_behind, behind_in, Kept, AllKeep, r_max_rec_field, space_fields, put_changes, Act, In-append, number, size_at, type_at, leaves_of, nodes_of, owned, variable_records, vdr_max_rec, HasShape, In, found_in, length-take, length-drop, Same, byte, size_kept, type_kept, place_in, each_of, IsBlockBody, BlocksGoOn, ne_eqb, flat_map, ◌==◌, ◌||◌, if◌then◌else◌, image_limit, record_number_limit, is_in, with_sign, Nodes, no_node, node, Entries, no_entry, block, lower, room_at, times, cvvr_type, asked, is_compressed, Each, record_bytes, Same-part, good_by_its_shape, Hold-split, le_of, of_le, firsts_of, with_leaf, IsOneOf, count_is, plain_leaf, own_rules, times-append, record_alike, apart, InOrder, DescriptorStays, GoesOn, IsVacant, before_limit, index_order, OwnEdit, IndexEdit, vdr_alike}
 use Rattle.cdf_format.specs.Chains.{is_a}
 use Rattle.cdf_edits.proofs.Frame.OwnersApart.{in-times, times-in}
-use Rattle.cdf_format.specs.Owners.{OneVariable}
-use Rattle.cdf_edits.proofs.Edits.EditActs.{acts_none, acts_took}
-use Rattle.cdf_edits.proofs.Edits.MadeRecord.{listed_marks, made_edit, listed_before, loose_away, taking_avoids, taking_within}
-use Rattle.cdf_edits.proofs.Edits.OwnersKept.{keep_file, keep_places, keeps_away, keeps_within, keep_unused, keeps_fields, stood, taken_is_taken}
-use Rattle.cdf_edits.proofs.Edits.VariableSplice.{attributes_kept}
-use Rattle.cdf_edits.specs.Edits.Marks.{is_late, Within, taking_marks, whole}
-use Rattle.cdf_edits.specs.Space.Placing.{Fills}
-use Rattle.cdf_edits.proofs.Commands.KeptRecords.{Stood, keep_attributes, keep_variables, keeps_stood}
-use Rattle.cdf_edits.proofs.Edits.MarkLemmas.{Within-append, away-within}
-use Rattle.cdf_edits.proofs.Edits.OwnedOnce.{all_attributes_in, used_times, fresh_unowned, owned_once_if}
-use Rattle.cdf_edits.proofs.Edits.RecordFrame.{cdr_kept}
-use Rattle.cdf_edits.proofs.Edits.VariableCopied.{cpr_behind}
-use Rattle.cdf_edits.proofs.Edits.VariableKinds.{kind_ours, with_shapes, spliced_times}
-use Rattle.cdf_edits.proofs.Edits.StandsAmong.{after_ours}
-use Rattle.cdf_format.proofs.ChainsLemmas.{is_a-in, is_a-from, is_a-type}
-use Rattle.cdf_puts.proofs.GoesThen.{own_may, descriptor_allowed, node_allowed, put_may, whole_of}
 use Rattle.cdf_edits.proofs.Edits.ActsStill.{acts_still_by}
 use Rattle.cdf_edits.proofs.Edits.TakenAll.{listed_free, taking_all, unlisted_away}
+use Rattle.cdf_format.proofs.ChainsLemmas.{is_a-from, is_a-type}
+use Rattle.cdf_puts.proofs.GoesThen.{descriptor_allowed, node_allowed}
 use Rattle.std.proofs.lemmas.List.{ext_get_or, get_or_append_left, get_or-take, get_or-drop}
 use Rattle.cdf_format.specs.Fields.{word, holds}
 use Rattle.cdf_format.proofs.BytesLemmas.{word-same, byte-put_inside}
 use Rattle.cdf_model.specs.Limits.{signed_limit}
-use Rattle.cdf_format.specs.Index.{lower_nodes}
+use Rattle.cdf_format.specs.Index.{nodes_of, lower_nodes}
 use Rattle.cdf_format.specs.IndexRules.{has_room, is_block, nodes_rows, used_rows, vvr_rows, cvvr_rows, leaf_rows, index_rows, end_of}
 use Rattle.cdf_format.specs.NotRead.{read_types}
 use Rattle.cdf_format.specs.Records.{field, vxr_n_used_entries, vxr_entries}
@@ -34,9 +20,7 @@ use Rattle.cdf_format.specs.VariableFields.{number_before, plain_size}
 use Rattle.cdf_format.proofs.GoodByShape.{IsGoodByShape}
 use Rattle.cdf_format.proofs.RowLemmas.{Hold-append}
 use Rattle.cdf_index.specs.Adding.{Counts}
-use Rattle.cdf_puts.proofs.RaisedGoes.{own_in_all}
 use Rattle.cdf_index.proofs.ByLeaf.{nodes_with_leaf}
-use Rattle.cdf_index.proofs.OwnRecords.{parts_times}
 use Rattle.cdf_puts.proofs.LeafCounts.{places_with_leaf, leaf_was_there}
 use Rattle.cdf_edits.proofs.Space.ActsLeave.{each}
 use Rattle.cdf_index.proofs.LeafRules.{index_rules_with_leaf}

@@ -1,6 +1,6 @@
 -- A record that is put, and what a block holds that is made on the way (own).
 use Rattle.byteorder.specs.Endian.{big_bytes}
-use Rattle.std.specs.Prelude.{◌≡◌, ◌≤◌, ℕ, zero, suc, ◌+◌, ◌-◌, List, [], ◌∷◌, ◌++◌, length, min, nat_lt, ◌==◌, if◌then◌else◌}
+use Rattle.std.specs.Prelude.{◌≡◌, ◌≤◌, ℕ, zero, suc, ◌+◌, ◌-◌, List, [], ◌++◌, length, min, nat_lt, ◌==◌, if◌then◌else◌}
 use Rattle.cdf_edits.specs.Commands.Room.{put_room}
 use Rattle.cdf_edits.specs.Index.Blocks.{block_count, firsts_of, next_first, first_written}
 use Rattle.cdf_edits.specs.Space.Acts.{Act}

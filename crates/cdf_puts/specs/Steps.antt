@@ -1,6 +1,6 @@
 -- The steps by which records are put: a record is written in a block, a leaf is added, and MaxRec is raised (own).
 use Rattle.byteorder.specs.Endian.{big_bytes}
-use Rattle.std.specs.Prelude.{◌≡◌, ◌≤◌, ◌<◌, ℕ, ◌+◌, ◌-◌, ◌*◌, List, [], ◌∷◌, length, max, take, drop, find, Some, None}
+use Rattle.std.specs.Prelude.{◌≡◌, ◌≤◌, ◌<◌, ℕ, ◌+◌, ◌-◌, ◌*◌, List, length, max, take, drop, find, Some, None}
 use Rattle.cdf_base.specs.Bytes.{put}
 use Rattle.cdf_edits.specs.Commands.Puts.{max_rec_touches}
 use Rattle.cdf_edits.specs.Commands.GreatestRecord.{r_max_rec, greatest_r_max_rec}

@@ -19,12 +19,11 @@ mod vxr;
 pub use aedr::{Aedr, read_aedr};
 pub use cdf_fields::{
     set_adr_max_gr_entry, set_adr_max_z_entry, set_adr_name, set_cdr_encoding, set_cdr_flags,
-    set_cdr_gdr_offset, set_cvvr_c_size, set_gdr_eof, set_gdr_r_max_rec,
-    set_gdr_r_num_dims, set_record_size, set_record_type, set_signed4, set_signed8,
-    set_uir_next_uir, set_uir_prev_uir, set_unsigned4, set_unsigned8, set_vdr_blocking_factor,
-    set_vdr_cpr_or_spr_offset, set_vdr_flags, set_vdr_max_rec, set_vdr_name, set_vdr_num,
-    set_vdr_s_records, set_vdr_vxr_head, set_vdr_vxr_tail, set_vxr_n_used_entries,
-    set_vxr_vxr_next,
+    set_cdr_gdr_offset, set_cvvr_c_size, set_gdr_eof, set_gdr_r_max_rec, set_gdr_r_num_dims,
+    set_record_size, set_record_type, set_signed4, set_signed8, set_uir_next_uir, set_uir_prev_uir,
+    set_unsigned4, set_unsigned8, set_vdr_blocking_factor, set_vdr_cpr_or_spr_offset,
+    set_vdr_flags, set_vdr_max_rec, set_vdr_name, set_vdr_num, set_vdr_s_records, set_vdr_vxr_head,
+    set_vdr_vxr_tail, set_vxr_n_used_entries, set_vxr_vxr_next,
 };
 pub use cdr::{Cdr, read_cdr};
 pub use cpr::{Cpr, read_cpr};
