@@ -121,17 +121,13 @@ pub fn variable_deleted()
     ensures follows { Claimed small_block_file delete_var_t var_deleted_file (Gave 748 24 ∷ Gave 772 140 ∷ Gave 404 344 ∷ []) }
 {}
 
-/// An index of two levels is made of 65 leaves, and the old node is freed.
+/// An index of two levels is made of 65 leaves, and the old node is freed. A record is found by two nodes then, and by one before.
 pub fn two_levels_made()
     ensures index { (shape two_levels_made_file).z_variables ≡ w_shape two_levels_made_index ∷ [] }
-    ensures follows { Claimed wide_node_file reindex_w two_levels_made_file (Took 2661 1052 ∷ Took 3713 1052 ∷ Took 4765 1052 ∷ Gave 1593 1068 ∷ []) }
-{}
-
-/// A record is found by two nodes then, and by one before.
-pub fn two_nodes_passed()
     ensures first { nodes_passed 0 two_levels_made_index ≡ 2 }
     ensures last { nodes_passed 64 two_levels_made_index ≡ 2 }
     ensures before { nodes_passed 64 wide_node_index ≡ 1 }
+    ensures follows { Claimed wide_node_file reindex_w two_levels_made_file (Took 2661 1052 ∷ Took 3713 1052 ∷ Took 4765 1052 ∷ Gave 1593 1068 ∷ []) }
 {}
 
 /// An entry goes, and the others stay in their order.

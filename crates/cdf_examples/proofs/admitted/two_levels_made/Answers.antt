@@ -11,6 +11,7 @@ use Rattle.cdf_examples.proofs.Deciding.{follow_in, keep_in, bare_if, freed_in}
 use Rattle.cdf_examples.proofs.Reindexing.{reindexes}
 use Rattle.cdf_examples.proofs.Walking.{shape_by}
 use Rattle.cdf_examples.proofs.WideNodes.{wide_shape, reindexed_records, reindexed_shape, wide_end_is, wide_shape_is, names_w, wide_index_is}
+use Rattle.cdf_index.specs.Order.{nodes_passed, passed_from}
 use Rattle.cdf_examples.proofs.admitted.two_levels_made.Goals as goal
 
 abbrev made_acts : List Act
@@ -95,9 +96,26 @@ room_is = subst (λ (s : Shape). room_in (content_of wide_node_file s) s reindex
 within : length two_levels_made_file ≤ length wide_node_file + room wide_node_file reindex_w
 within = omega (arith, new_length, wide_end_is, room_is)
 
+-- ---- how many nodes are passed to a record
+
+first_passed : nodes_passed 0 two_levels_made_index ≡ 2
+unfolding nodes_passed passed_from
+first_passed = refl
+
+last_passed : nodes_passed 64 two_levels_made_index ≡ 2
+unfolding nodes_passed passed_from
+last_passed = refl
+
+passed_before : nodes_passed 64 wide_node_index ≡ 1
+unfolding nodes_passed passed_from
+passed_before = refl
+
 pub returns : goal.returns
 returns c = record {
   index = index;
+  first = first_passed;
+  last = last_passed;
+  before = passed_before;
   follows = record {
     within = within;
     acts_follow = follow;
