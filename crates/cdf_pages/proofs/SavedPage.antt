@@ -84,6 +84,13 @@ less_saved p p' k gone others q e = elim (same_or_not q k) [
   | inr else ↦ others q else ∙ e
 ]
 
+-- a page that is taken away and put back is what it was
+pub given_back : (p p1 p2 : ℕ → Option (List ℕ)) (k : ℕ) → p2 k ≡ p k → ((q : ℕ) → (q ≡ k → ⊥) → p1 q ≡ p q) → ((q : ℕ) → (q ≡ k → ⊥) → p2 q ≡ p1 q) → (q : ℕ) → p2 q ≡ p q
+given_back p p1 p2 k back taken put q = elim (same_or_not q k) [
+  | inl here ↦ ap p2 here ∙ back ∙ sym (ap p here)
+  | inr else ↦ put q else ∙ taken q else
+]
+
 -- a page that is a changed one was one at first
 pub changed_at_first : (p p' : ℕ → Option (List ℕ)) (k : ℕ) → ((q : ℕ) → p q ≡ None → p' q ≡ None) → IsSome (p' k) → IsTrue (is_in p k)
 changed_at_first p p' k less some = elim (cases_Bool (is_some (p k))) [
