@@ -225,11 +225,22 @@ fn open_whole<R: Files>(
     }
 }
 
-/// Reads a file whole.
-fn read_held<F: Read>(alloc: Global, name: &str, file: &mut F) -> Result<HeldFile, AttachError>
+/// Reads a file whole, where there is memory for its length.
+fn read_held<F: Read + OpenFile>(
+    alloc: Global,
+    name: &str,
+    file: &mut F,
+) -> Result<HeldFile, AttachError>
     ensures { IfOk result (λ held. string_bytes held.name ≡ name.now) }
 {
     let name = String::from_str(alloc, name)?;
+    let length = match file.metadata() {
+        Ok(metadata) => metadata.len(),
+        Err(error) => return Err(attach_error(error.kind())),
+    };
+    // Pieces alone would be given until the system has none. So as many bytes are asked for at once first, and given back.
+    let room: Vec<u8> = Vec::with_capacity(alloc, length as usize)?;
+    drop(room);
     let mut pieces = Pieces::new(alloc);
     read_to_end(file, &mut pieces)?;
     Ok(HeldFile { name, pieces })
