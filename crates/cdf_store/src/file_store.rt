@@ -24,7 +24,7 @@ pub struct HeldFile {
 /// are served from them, and each write and cut is made in the file and in them. A file that cannot be opened for writing is
 /// attached all the same, and writes and cuts of it fail.
 ///
-/// The bytes are kept in pieces of 65,536. A page that is written whole at a multiple of that is kept and not copied.
+/// The bytes are kept in pieces of 65,536. A page that covers all that a piece has becomes that piece, and is not copied.
 #[derive(Drop)]
 pub struct FileStore<R: Files> {
     rt: R,

@@ -90,6 +90,7 @@ impl Pieces {
         requires { length bytes.now ≤ 65536 }
         ensures ok { OnOk result (self.new.bytes ≡ self.old.bytes ++ bytes.now) }
         ensures err { OnErr result (self.new.bytes ≡ self.old.bytes) }
+        ensures room { self.old.room ≤ self.new.room }
     {
         let place = self.size;
         let Some(end) = place.checked_add(bytes.len() as u64) else {
