@@ -3,9 +3,8 @@ use Rattle.std.proofs.Common.{◌≡◌, ◌∙◌, ℕ, zero, suc, ◌+◌, ◌
 use Rattle.std.proofs.lemmas.Bool.{cases_lt}
 use Rattle.std.proofs.lemmas.List.{drop-append-le, take-append-le, length-take, length-take-le, nil_from_length, take-append-drop, take_all, drop_all}
 use Rattle.std.proofs.lemmas.List.Edits.{paste_all, paste-paste}
-use Rattle.std.proofs.Math.Seq.{paste}
 use Rattle.std.proofs.Math.ListN.{set}
-use Rattle.std.proofs.Math.Seq.{take-append-add, drop-append-add}
+use Rattle.std.proofs.Math.Seq.{paste, take-append-add, drop-append-add}
 use Rattle.std.specs.declared.alloc.Global.{Global}
 use Rattle.std.specs.declared.vec.Vec.{Vec}
 use Rattle.cdf_base.specs.Bytes.{put}
@@ -15,9 +14,9 @@ use Rattle.cdf_store.specs.Reading.{ReadsPiece}
 
 -- ---- bytes put into a list that may grow by them
 
-pub length-put-max : (b : List ℕ) (place : ℕ) (xs : List ℕ) → place ≤ length b → length (put b place xs) ≡ max (length b) (place + length xs)
+pub length-written : (b : List ℕ) (place : ℕ) (xs : List ℕ) → place ≤ length b → length (put b place xs) ≡ max (length b) (place + length xs)
 unfolding put
-length-put-max b place xs le =
+length-written b place xs le =
     omega (arith, length-append (take place b) (xs ++ drop (place + length xs) b), length-append xs (drop (place + length xs) b), length-take-le place b le, length-drop (place + length xs) b)
 
 -- the next bytes
@@ -147,7 +146,7 @@ module _ {ps : List (Vec ℕ Global)} {i : ℕ} {p : Vec ℕ Global} (r : At ps 
   put_in_piece : (o : ℕ) (xs : List ℕ) (q : Vec ℕ Global) → o ≤ length p.items → o + length xs ≤ 65536 → 65536 ≤ vec_capacity q → q.items ≡ put p.items o xs
       → ArePieces (set ps i q) × (joined (set ps i q) ≡ put (joined ps) (i * 65536 + o) xs)
   put_in_piece o xs q le fits room is =
-      let size : length q.items ≡ max (length p.items) (o + length xs) = ap (λ (l : List ℕ). length l) is ∙ length-put-max p.items o xs le in
+      let size : length q.items ≡ max (length p.items) (o + length xs) = ap (λ (l : List ℕ). length l) is ∙ length-written p.items o xs le in
       let now = r.other q room (omega (arith, size, fits, r.size)) (λ short. r.last (omega (arith, short, size))) in (
         now.0,
         now.1 ∙ ap (λ (l : List ℕ). r.front ++ l) (ap (λ (l : List ℕ). l ++ r.rest) is ∙ sym (put-front p.items r.rest o xs (λ past. r.last (omega (arith, past, fits)))))
@@ -201,7 +200,7 @@ module _ (ps : List (Vec ℕ Global)) (place : ℕ) (p : Vec ℕ Global) (are : 
   pub put_piece : (q : Vec ℕ Global) (xs : List ℕ) → place % 65536 + length xs ≤ 65536 → 65536 ≤ vec_capacity q → q.items ≡ put p.items (place % 65536) xs → Put ps place q xs
   put_piece q xs fits room items =
       let now = put_in_piece piece (place % 65536) xs q piece_place fits room items in
-      let bytes = now.1 ∙ ap (λ m. put (joined ps) m xs) split in record { pieces = now.0; bytes = bytes; size = ap (λ (l : List ℕ). length l) bytes ∙ length-put-max (joined ps) place xs inside }
+      let bytes = now.1 ∙ ap (λ m. put (joined ps) m xs) split in record { pieces = now.0; bytes = bytes; size = ap (λ (l : List ℕ). length l) bytes ∙ length-written (joined ps) place xs inside }
 
   -- it is the last with bytes, and gets fewer
   pub cut_last : (end : ℕ) (q : Vec ℕ Global) → length (joined ps) ≡ place + 1 → place / 65536 * 65536 ≤ end → end ≤ length (joined ps) → 65536 ≤ vec_capacity q → q.items ≡ take (end - place / 65536 * 65536) p.items → Cut ps place q end

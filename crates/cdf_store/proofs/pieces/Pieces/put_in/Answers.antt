@@ -1,14 +1,14 @@
 use Rattle.std.proofs.Common.{◌≡◌, ◌+◌, ap, ap₂, length, take, drop, ◌∙◌, arith}
 use Rattle.std.proofs.lemmas.List.{take_rest, take-append-drop, length-take-le}
 use Rattle.cdf_base.specs.Bytes.{put}
-use Rattle.cdf_store.proofs.Joined.{length-put-max, put_on}
+use Rattle.cdf_store.proofs.Joined.{length-written, put_on}
 use Rattle.cdf_store.proofs.pieces.Pieces.put_in.Goals as goal
 
 pub put_within-requires-2-clause-place : goal.put_within-requires-2-clause-place
 put_within-requires-2-clause-place c =
     let n = c.min-front.result in
     let xs = take n c.args.bytes.now in
-    omega (arith, ap (λ l. length l) c.put_within.ensures.bytes, length-put-max c.args.self.now.bytes c.args.place xs c.requires.place, length-take-le n c.args.bytes.now (omega arith))
+    omega (arith, ap (λ l. length l) c.put_within.ensures.bytes, length-written c.args.self.now.bytes c.args.place xs c.requires.place, length-take-le n c.args.bytes.now (omega arith))
 
 pub overflow_add-place : goal.overflow_add-place
 overflow_add-place c = let room = ap (λ v. v.room) c.self.view_is in omega arith
