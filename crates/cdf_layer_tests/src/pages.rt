@@ -1,11 +1,12 @@
-//! How often an area in pages calls its store.
+//! How often an area in pages calls its store, and how it is saved to a real file.
 
-ghost use Rattle.std.specs.Prelude.{◌≡◌, IsSome, IfOk, None};
+ghost use Rattle.std.specs.Prelude.{◌≡◌, IsSome, IfOk, OnOk, None};
 
 use cdf_area::Area;
 use cdf_pages::PagedArea;
-use cdf_store::{MemStore, Store};
+use cdf_store::{FileStore, MemStore, Store};
 use std::alloc::Global;
+use std::fs;
 use std::test::Fail;
 
 const NAME: &str = "file";
@@ -31,8 +32,8 @@ fn area_over(alloc: Global, size: u64) -> Result<PagedArea<MemStore>, Fail>
 }
 
 /// The byte at a place.
-fn byte_at(area: &mut PagedArea<MemStore>, place: u64) -> Result<u8, Fail>
-    ensures { ⟦<PagedArea<MemStore> as Area>⟧.frame area.new ≡ ⟦<PagedArea<MemStore> as Area>⟧.frame area.old }
+fn byte_at<S: Store>(area: &mut PagedArea<S>, place: u64) -> Result<u8, Fail>
+    ensures { ⟦<PagedArea<S> as Area>⟧.frame area.new ≡ ⟦<PagedArea<S> as Area>⟧.frame area.old }
 {
     if place >= area.size() {
         return Err(Fail::new("no such byte"));
@@ -45,8 +46,8 @@ fn byte_at(area: &mut PagedArea<MemStore>, place: u64) -> Result<u8, Fail>
 }
 
 /// Writes bytes from a place on.
-fn write(area: &mut PagedArea<MemStore>, place: u64, bytes: &[u8]) -> Result<(), Fail>
-    ensures { ⟦<PagedArea<MemStore> as Area>⟧.frame area.new ≡ ⟦<PagedArea<MemStore> as Area>⟧.frame area.old }
+fn write<S: Store>(area: &mut PagedArea<S>, place: u64, bytes: &[u8]) -> Result<(), Fail>
+    ensures { ⟦<PagedArea<S> as Area>⟧.frame area.new ≡ ⟦<PagedArea<S> as Area>⟧.frame area.old }
 {
     let size = area.size();
     if place > size || bytes.len() as u64 > size - place {
@@ -70,16 +71,18 @@ fn settle(area: &mut PagedArea<MemStore>) -> Result<(), Fail>
     }
 }
 
-/// The store beneath, once the image is saved without a tail.
-fn saved(mut area: PagedArea<MemStore>) -> Result<MemStore, Fail>
-    requires base { (⟦<PagedArea<MemStore> as Area>⟧.frame area).base ≡ None }
-    requires held { IsSome (⟦<PagedArea<MemStore> as Area>⟧.frame area).under.0.held }
+/// Saves the image with a tail, or without one.
+fn save<S: Store>(area: &mut PagedArea<S>, tail: Option<[u8; 16]>) -> Result<(), Fail>
+    requires base { (⟦<PagedArea<S> as Area>⟧.frame area.old).base ≡ None }
+    requires held { IsSome (⟦<PagedArea<S> as Area>⟧.frame area.old).under.0.held }
+    ensures base { (⟦<PagedArea<S> as Area>⟧.frame area.new).base ≡ None }
+    ensures held { OnOk result (IsSome (⟦<PagedArea<S> as Area>⟧.frame area.new).under.0.held) }
 {
     if area.size() > 1 << 40 {
         return Err(Fail::new("the image is too long"));
     }
-    match area.save(None) {
-        Ok(()) => Ok(area.into_store()),
+    match area.save(tail) {
+        Ok(()) => Ok(()),
         Err(_) => Err(Fail::new("the image was not saved")),
     }
 }
@@ -98,7 +101,8 @@ fn a_page_is_read_by_one_call(rt: HostRuntime) -> Result<(), Fail> {
 fn an_edit_across_a_border_writes_two_pages(rt: HostRuntime) -> Result<(), Fail> {
     let mut area = area_over(rt.alloc(), 4 * PAGE)?;
     write(&mut area, PAGE - 1, &[1, 2])?;
-    assert_eq!(rt; saved(area)?.calls(), 1 + 2 + 2);
+    save(&mut area, None)?;
+    assert_eq!(rt; area.into_store().calls(), 1 + 2 + 2);
     Ok(())
 }
 
@@ -110,6 +114,71 @@ fn a_page_that_was_changed_back_is_not_written(rt: HostRuntime) -> Result<(), Fa
     write(&mut area, 3 * PAGE + 5, &[1])?;
     settle(&mut area)?;
     // Two pages were read, and read again to be compared. One was written, which is the one that the last byte is in.
-    assert_eq!(rt; saved(area)?.calls(), 1 + 2 + 2 + 1);
+    save(&mut area, None)?;
+    assert_eq!(rt; area.into_store().calls(), 1 + 2 + 2 + 1);
+    Ok(())
+}
+
+const REAL: &str = "cdf_layer_tests_pages";
+
+/// An area over the real file, which is made.
+fn real_area(rt: HostRuntime) -> Result<PagedArea<FileStore<HostRuntime>>, Fail>
+    ensures base { IfOk result (λ area. (⟦<PagedArea<FileStore<HostRuntime>> as Area>⟧.frame area).base ≡ None) }
+    ensures held { IfOk result (λ area. IsSome (⟦<PagedArea<FileStore<HostRuntime>> as Area>⟧.frame area).under.0.held) }
+{
+    let mut store = FileStore::new(rt, rt.alloc());
+    let Ok(Some(length)) = store.attach(REAL, true) else {
+        return Err(Fail::new("no file was made"));
+    };
+    match PagedArea::over(rt.alloc(), store, length, 1 << 40) {
+        Ok(area) => Ok(area),
+        Err(_) => Err(Fail::new("no area")),
+    }
+}
+
+/// Makes the image so many bytes long.
+fn resize<S: Store>(area: &mut PagedArea<S>, size: u64) -> Result<(), Fail>
+    requires { (⟦<PagedArea<S> as Area>⟧.frame area.old).base ≡ None }
+    ensures { ⟦<PagedArea<S> as Area>⟧.frame area.new ≡ ⟦<PagedArea<S> as Area>⟧.frame area.old }
+{
+    let now = area.size();
+    if size <= now {
+        area.shorten(now - size);
+        return Ok(());
+    }
+    if size > area.limit() {
+        return Err(Fail::new("the image is too long"));
+    }
+    match area.extend(size - now) {
+        Ok(()) => Ok(()),
+        Err(_) => Err(Fail::new("the image did not grow")),
+    }
+}
+
+#[test]
+fn a_real_file_is_saved_in_pages(rt: HostRuntime) -> Result<(), Fail> {
+    let _ = fs::remove_file(&rt, REAL);
+    let mut area = real_area(rt)?;
+    resize(&mut area, 3 * PAGE - 8)?;
+    write(&mut area, PAGE - 1, &[1, 2])?;
+    // The tail lies in two pages of the file, the last of which the image has not.
+    save(&mut area, Some([9; 16]))?;
+    let made = fs::read(&rt, REAL)?;
+    assert_eq!(rt; made.len(), 3 * 65_536 + 8);
+    assert_eq!(rt; made.get(65_535..65_538), Some([1, 2, 0].as_slice()));
+    assert_eq!(rt;
+        made.get(3 * 65_536 - 9..3 * 65_536 - 7),
+        Some([0, 9].as_slice())
+    );
+    assert_eq!(rt; made.last(), Some(&9));
+
+    resize(&mut area, PAGE + 2)?;
+    write(&mut area, PAGE + 1, &[3])?;
+    save(&mut area, None)?;
+    let cut = fs::read(&rt, REAL)?;
+    assert_eq!(rt; cut.len(), 65_538);
+    assert_eq!(rt; cut.get(65_535..65_538), Some([1, 2, 3].as_slice()));
+    assert_eq!(rt; byte_at(&mut area, PAGE)?, 2);
+    fs::remove_file(&rt, REAL)?;
     Ok(())
 }

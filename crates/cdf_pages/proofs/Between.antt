@@ -1,16 +1,11 @@
 -- A file into which parts of a new one are written stays between the old one and the new one.
 use Rattle.std.proofs.Common.{◌≡◌, ℕ, ◌+◌, ◌-◌, ◌≤◌, ◌<◌, max, List, ◌++◌, length, take, drop, slice_index, refl, sym, ◌∙◌, ap, subst, arith, inl, inr, append_assoc, append-nil, length-append}
-use Rattle.cdf_pages.proofs.Common.{cases_lt, length-take-le, length-drop, get_or-take, take_at, drop_all, byte-put_before, byte-put_inside, byte-put_after, Disk, IsWhole, WrittenPart, cut, file_of, written, IsSome, Holds, HoldsBetween}
+use Rattle.cdf_pages.proofs.Common.{cases_lt, length-take-le, get_or-take, take_at, drop_all, byte-put_before, byte-put_inside, byte-put_after, Disk, IsWhole, WrittenPart, cut, file_of, length-written, written, IsSome, Holds, HoldsBetween}
 use Rattle.std.proofs.lemmas.List.{get_or-append_right}
 use Rattle.cdf_base.specs.Bytes.{put}
 use Rattle.cdf_base.proofs.Puts.{take-put}
 use Rattle.cdf_pages.specs.Saving.{IsBetween}
 use Rattle.cdf_pages.proofs.Disks.{file_held, holds_cut, holds_first, holds_next}
-
-pub length-written : (b : List ℕ) (place : ℕ) (xs : List ℕ) → place ≤ length b → length (put b place xs) ≡ max (length b) (place + length xs)
-unfolding put
-length-written b place xs h =
-    omega (arith, length-append (take place b) (xs ++ drop (place + length xs) b), length-append xs (drop (place + length xs) b), length-take-le place b h, length-drop (place + length xs) b)
 
 pub between_same : (old new : List ℕ) → IsBetween old new old
 between_same old new = record { long = inl (omega arith); short = inl (omega arith); each = λ i lt. inl (lt, refl) }

@@ -18,6 +18,7 @@ pub use Rattle.cdf_pages.specs.Pages.{AllShow, Backed, Shows, TakesAtMost, byte_
 pub use Rattle.cdf_pages.specs.Saving.{Differs, HasNothingToSave, Holds, HoldsBetween, IsChangedRange, IsSavedAlready, LiesIn, Touches}
 pub use Rattle.cdf_pages.specs.Table.{page_at}
 pub use Rattle.cdf_pages.specs.Standing.{Changes, ChangesSome, cost_of_writing, page_cost, pages_in, used}
+pub use Rattle.cdf_store.proofs.Joined.{length-written}
 pub use Rattle.cdf_store.specs.Disk.{Disk, IsWhole, WrittenPart, cut, file_in, file_of, written}
 pub use Rattle.cdf_store.specs.Reading.{ReadsAt, ReadsPiece}
 pub use Rattle.lru.specs.LruCache.{IsValid, LruCache, promoted, put_entries}

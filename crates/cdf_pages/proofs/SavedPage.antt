@@ -1,9 +1,8 @@
 -- A page is written to the file.
 use Rattle.std.proofs.Common.{◌≡◌, ◌∙◌, min, ℕ, ◌+◌, ◌-◌, ◌*◌, ◌/◌, ◌%◌, ◌<◌, ◌≤◌, max, ◌++◌, List, length, take, slice_index, Option, Some, None, refl, sym, ap, arith, inl, inr}
 use Rattle.std.proofs.Common.{length-append}
-use Rattle.cdf_pages.proofs.Common.{get_or-take, get_or_append_left, length-take-le, take_at, cases_Bool, cases_lt, IsSome, IsTrue, is_some, put, byte-put_before, byte-put_inside, byte-put_after, Disk, WrittenPart, file_of, written, Backed, byte_from, image_of, is_in}
+use Rattle.cdf_pages.proofs.Common.{get_or-take, get_or_append_left, length-take-le, take_at, cases_Bool, cases_lt, IsSome, IsTrue, is_some, put, byte-put_before, byte-put_inside, byte-put_after, Disk, WrittenPart, file_of, length-written, written, Backed, byte_from, image_of, is_in}
 use Rattle.cdf_pages.proofs.Filling.{false_not_true, none_is}
-use Rattle.cdf_pages.proofs.Between.{length-written}
 use Rattle.cdf_pages.proofs.Images.{at_page, byte-image, image_file, image_same, length-image, same_or_not}
 
 module _ (p p' : ℕ → Option (List ℕ)) (file page xs : List ℕ) (n k : ℕ) (there : p k ≡ Some page) (place : k * 65536 ≤ length file) (room : length xs ≤ 65536)
@@ -82,6 +81,13 @@ pub less_saved : (p p' : ℕ → Option (List ℕ)) (k : ℕ) → p' k ≡ None 
 less_saved p p' k gone others q e = elim (same_or_not q k) [
   | inl here ↦ ap p' here ∙ gone
   | inr else ↦ others q else ∙ e
+]
+
+-- a page that is taken away and put back is what it was
+pub given_back : (p p1 p2 : ℕ → Option (List ℕ)) (k : ℕ) → p2 k ≡ p k → ((q : ℕ) → (q ≡ k → ⊥) → p1 q ≡ p q) → ((q : ℕ) → (q ≡ k → ⊥) → p2 q ≡ p1 q) → (q : ℕ) → p2 q ≡ p q
+given_back p p1 p2 k back taken put q = elim (same_or_not q k) [
+  | inl here ↦ ap p2 here ∙ back ∙ sym (ap p here)
+  | inr else ↦ put q else ∙ taken q else
 ]
 
 -- a page that is a changed one was one at first

@@ -8,7 +8,7 @@ ghost use Rattle.cdf_pages.specs.Pages.{Backed, image_of, is_in};
 ghost use Rattle.cdf_pages.specs.Saving.{Holds, HoldsBetween, IsChangedRange, LiesIn, Touches, most_of, tail_bytes};
 ghost use Rattle.cdf_pages.specs.Table.{page_at, pages_held};
 
-use crate::page::PAGE;
+use crate::page::{PAGE, Page};
 use crate::reading::live_bytes;
 use crate::sheets::Sheets;
 use cdf_area::AreaError;
@@ -21,7 +21,8 @@ pub fn is_within(length: u64, number: u64) -> bool
     length > 0 && number <= (length - 1) / PAGE
 }
 
-/// Writes a changed page to the file, and it is a changed one no more. The image stays, after a fault too.
+/// Gives a changed page to the store, which writes it to the file, and it is a changed one no more. The image stays, after a fault
+/// too.
 fn save_page<S: Store>(store: &mut S, sheets: &mut Sheets, number: u64) -> Result<(), Failed>
     requires there { IsSome (page_at sheets.old.changed number) }
     requires inside { number * 65536 < sheets.old.length }
@@ -47,12 +48,16 @@ fn save_page<S: Store>(store: &mut S, sheets: &mut Sheets, number: u64) -> Resul
     ensures read { S.read_faults store.new ≡ S.read_faults store.old }
 {
     let live = live_bytes(sheets.length, number);
-    let Some(page) = sheets.page(number) else {
+    let Some(page) = sheets.take(number) else {
         return Ok(());
     };
-    store.write_at(number * PAGE, page.front(live))?;
-    sheets.forget(number);
-    Ok(())
+    match store.write_page(number * PAGE, page.into_bytes(), live) {
+        Ok(()) => Ok(()),
+        Err(bytes) => {
+            sheets.put(number, Page::new(bytes));
+            Err(Failed)
+        }
+    }
 }
 
 /// Writes the first changed page to the file, or forgets it where it lies past the image.
@@ -82,7 +87,7 @@ fn save_first<S: Store>(store: &mut S, sheets: &mut Sheets, number: u64) -> Resu
     if is_within(sheets.length, number) {
         return save_page(store, sheets, number);
     }
-    sheets.forget(number);
+    sheets.take(number);
     Ok(())
 }
 

@@ -152,7 +152,7 @@ fn settle_page<S: Store>(
     if !is_settled(store, sheets, most, number, buffer)? {
         return Ok(());
     }
-    sheets.forget(number);
+    sheets.take(number);
     Ok(())
 }
 

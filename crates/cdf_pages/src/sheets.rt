@@ -174,9 +174,24 @@ impl Sheets {
         self.changed.count()
     }
 
-    /// A page is a changed one no more, while there is no mark.
-    pub fn forget(&mut self, number: u64)
+    /// Puts a page in its place, which is there, while there is no mark.
+    pub fn put(&mut self, number: u64, page: Page)
+        requires unmarked { self.old.marked ≡ None }
+        requires place { number < length self.old.changed }
+        ensures added { page_at self.new.changed number ≡ Some page }
+        ensures others { (other : ℕ) → (other ≡ number → ⊥) → page_at self.new.changed other ≡ page_at self.old.changed other }
+        ensures kept { self.new.kept ≡ self.old.kept }
+        ensures length { self.new.length ≡ self.old.length }
+        ensures marked { self.new.marked ≡ self.old.marked }
+    {
+        self.changed.put(number, page);
+    }
+
+    /// Takes a page away, which is a changed one no more, while there is no mark. Its place stays.
+    pub fn take(&mut self, number: u64) -> Option<Page>
         requires { self.old.marked ≡ None }
+        ensures page { result ≡ page_at self.old.changed number }
+        ensures place { IfSome result (λ _. number < length self.new.changed) }
         ensures fewer { IsSome (page_at self.old.changed number) → pages_held self.new.changed + 1 ≡ pages_held self.old.changed }
         ensures gone { page_at self.new.changed number ≡ None }
         ensures others { (other : ℕ) → (other ≡ number → ⊥) → page_at self.new.changed other ≡ page_at self.old.changed other }
@@ -184,7 +199,7 @@ impl Sheets {
         ensures length { self.new.length ≡ self.old.length }
         ensures marked { self.new.marked ≡ self.old.marked }
     {
-        self.changed.remove(number);
+        self.changed.take(number)
     }
 
     /// Marks the pages as they are.
@@ -263,7 +278,9 @@ fn restore(changed: &mut Table, number: u64, old: Option<UndoLog>)
 {
     match old {
         Some(log) => changed.put_back(number, log),
-        None => changed.remove(number),
+        None => {
+            changed.take(number);
+        }
     }
 }
 

@@ -70,16 +70,30 @@ impl Table {
         Ok(())
     }
 
-    /// Takes a page away.
-    #[tactic(auto, using(crate::proofs::Slots::page_set, crate::proofs::Slots::page_kept, crate::proofs::Slots::one_less, crate::proofs::Slots::page_past))]
-    pub fn remove(&mut self, number: u64)
+    /// Puts a page in its place, which is there.
+    #[tactic(auto, using(crate::proofs::Slots::page_set, crate::proofs::Slots::page_kept))]
+    pub fn put(&mut self, number: u64, page: Page)
+        requires { number < length self.old }
+        ensures added { page_at self.new number ≡ Some page }
+        ensures others { (other : ℕ) → (other ≡ number → ⊥) → page_at self.new other ≡ page_at self.old other }
+    {
+        self.slots[number as usize] = Some(page);
+    }
+
+    /// Takes a page away. Its place stays.
+    #[tactic(auto, using(crate::proofs::Slots::page_set, crate::proofs::Slots::page_kept, crate::proofs::Slots::one_less, crate::proofs::Slots::page_past, crate::proofs::Slots::page_read))]
+    pub fn take(&mut self, number: u64) -> Option<Page>
+        ensures page { result ≡ page_at self.old number }
+        ensures place { IfSome result (λ _. number < length self.new) }
         ensures fewer { IsSome (page_at self.old number) → pages_held self.new + 1 ≡ pages_held self.old }
         ensures gone { page_at self.new number ≡ None }
         ensures others { (other : ℕ) → (other ≡ number → ⊥) → page_at self.new other ≡ page_at self.old other }
     {
         let at = number as usize;
         if at < self.slots.len() {
-            self.slots[at] = None;
+            self.slots[at].take()
+        } else {
+            None
         }
     }
 

@@ -1,5 +1,5 @@
 -- An attaching that failed is answered with its error, after its fault was counted.
-use Rattle.std.proofs.Common.{◌≡◌, ◌∙◌, ℕ, ◌+◌, ◌-◌, ◌^◌, ◌≤◌, Bool, true, false, min, if◌then◌else◌, Result, Ok, Err, IsErrAnd, sym, ap, subst, arith}
+use Rattle.std.proofs.Common.{◌≡◌, ◌∙◌, ℕ, ◌+◌, ◌-◌, ◌^◌, ◌≤◌, Bool, min, if◌then◌else◌, Result, Ok, Err, IsErrAnd, sym, ap, subst, arith}
 use Rattle.cdf_base.specs.Causes.{HasCauseOf}
 use Rattle.cdf_store.specs.Attaching.{is_failed}
 use Rattle.cdf_store.specs.declared.store.AttachError.{AttachError}

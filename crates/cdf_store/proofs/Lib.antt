@@ -1,5 +1,6 @@
+pub mod Joined
 pub mod Fronts
-pub mod Pieces
+pub mod LeftBytes
 pub mod Files
 pub mod Attached
 pub mod FaultCounts

@@ -4,6 +4,8 @@ pub mod Reading
 pub mod Written
 pub mod MemFile
 pub mod MemFiles
+pub mod Pieces
+pub mod HeldFile
 pub mod Attaching
 pub mod Plan
 pub mod MemSource

@@ -3,10 +3,9 @@
 ghost use Rattle.std.specs.Prelude.{◌≡◌, ◌≢◌, ◌≤◌, ◌+◌, ◌-◌, ◌^◌, ◌↔◌, if◌then◌else◌, length, min, string_bytes, IsTrue, IsFalse, IsSome, IfOk, IfSome, None};
 ghost use Rattle.cdf_store.specs.Attaching.{is_failed};
 ghost use Rattle.cdf_store.specs.Disk.{Disk};
-ghost use Rattle.cdf_store.specs.MemFile.{bytes_in, name_in, room_in, same_is_some};
+ghost use Rattle.cdf_store.specs.HeldFile.{bytes_in, name_in, room_in, same_is_some};
 
-use crate::copy::{copy_from, put_in};
-use crate::mem_files::{MemFile, reserve_to};
+use crate::pieces::{PIECE, Pieces};
 use crate::{AttachError, Failed, Store};
 use std::alloc::{AllocError, Global};
 use std::fs;
@@ -14,17 +13,23 @@ use std::fs::{OpenFile, OpenOptions};
 use std::io::{ErrorKind, Read, Seek, SeekFrom, Write};
 use std::rt::Files;
 
-/// How many bytes of a file are read at once.
-const PIECE: usize = 65536;
+/// An attached file: its name and its bytes.
+#[derive(Drop)]
+pub struct HeldFile {
+    pub name: String,
+    pub pieces: Pieces,
+}
 
 /// The real files. Two reads of a file are not known to agree, so an attached file is read whole and its bytes are kept. Reads
 /// are served from them, and each write and cut is made in the file and in them. A file that cannot be opened for writing is
 /// attached all the same, and writes and cuts of it fail.
+///
+/// The bytes are kept in pieces of 65,536. A page that covers all that a piece has becomes that piece, and is not copied.
 #[derive(Drop)]
 pub struct FileStore<R: Files> {
     rt: R,
     alloc: Global,
-    held: Option<MemFile>,
+    held: Option<HeldFile>,
     /// The attached file, where it can be written.
     file: Option<R::File>,
     writes: u64,
@@ -83,7 +88,7 @@ impl<R: Files> Store for FileStore<R> {
         let Some((held, file)) = opened? else {
             return Ok(None);
         };
-        let length = held.bytes.len() as u64;
+        let length = held.pieces.len();
         self.held = Some(held);
         self.file = file;
         Ok(Some(length))
@@ -91,7 +96,7 @@ impl<R: Files> Store for FileStore<R> {
 
     fn reserve(&mut self, writes: u64, end: u64) -> Result<(), AllocError> {
         if let Some(held) = &mut self.held {
-            reserve_to(&mut held.bytes, end)?;
+            held.pieces.reserve(end)?;
         }
         self.writes = writes;
         self.end = end;
@@ -101,7 +106,7 @@ impl<R: Files> Store for FileStore<R> {
     fn read_at(&mut self, place: u64, out: &mut [u8]) -> Result<usize, Failed> {
         match &self.held {
             None => Ok(0),
-            Some(held) => Ok(copy_from(&held.bytes, place, out)),
+            Some(held) => Ok(held.pieces.copy_from(place, out)),
         }
     }
 
@@ -112,12 +117,33 @@ impl<R: Files> Store for FileStore<R> {
         };
         let done = write_front(file, place, bytes);
         if let Some(held) = &mut self.held {
-            put_in(&mut held.bytes, place as usize, &bytes[..done]);
+            held.pieces.put_in(place, &bytes[..done]);
         }
         self.writes -= 1;
         if done < bytes.len() {
             self.write_faults = self.write_faults.saturating_add(1);
             return Err(Failed);
+        }
+        Ok(())
+    }
+
+    fn write_page(&mut self, place: u64, mut page: Vec<u8>, count: usize) -> Result<(), Vec<u8>> {
+        let Some(file) = &mut self.file else {
+            self.write_faults = self.write_faults.saturating_add(1);
+            return Err(page);
+        };
+        let done = write_front(file, place, &page[..count]);
+        self.writes -= 1;
+        if done < count {
+            if let Some(held) = &mut self.held {
+                held.pieces.put_in(place, &page[..done]);
+            }
+            self.write_faults = self.write_faults.saturating_add(1);
+            return Err(page);
+        }
+        if let Some(held) = &mut self.held {
+            page.truncate(count);
+            held.pieces.put_page(place, page);
         }
         Ok(())
     }
@@ -128,7 +154,7 @@ impl<R: Files> Store for FileStore<R> {
             return Err(Failed);
         }
         if let Some(held) = &mut self.held {
-            held.bytes.truncate(n as usize);
+            held.pieces.truncate(n);
         }
         self.writes -= 1;
         Ok(())
@@ -177,7 +203,7 @@ fn open_whole<R: Files>(
     alloc: Global,
     name: &str,
     make: bool,
-) -> Result<Option<(MemFile, Option<R::File>)>, AttachError>
+) -> Result<Option<(HeldFile, Option<R::File>)>, AttachError>
     ensures made { IsTrue make → IfOk result (λ found. IsSome found) }
     ensures name { IfOk result (λ found. IfSome found (λ opened. string_bytes opened.0.name ≡ name.now)) }
 {
@@ -199,12 +225,12 @@ fn open_whole<R: Files>(
     }
 }
 
-/// Reads a file whole, into memory for its length.
+/// Reads a file whole, where there is memory for its length.
 fn read_held<F: Read + OpenFile>(
     alloc: Global,
     name: &str,
     file: &mut F,
-) -> Result<MemFile, AttachError>
+) -> Result<HeldFile, AttachError>
     ensures { IfOk result (λ held. string_bytes held.name ≡ name.now) }
 {
     let name = String::from_str(alloc, name)?;
@@ -212,19 +238,21 @@ fn read_held<F: Read + OpenFile>(
         Ok(metadata) => metadata.len(),
         Err(error) => return Err(attach_error(error.kind())),
     };
-    let mut bytes = Vec::new(alloc);
-    bytes.reserve_exact(length as usize)?;
-    read_to_end(file, &mut bytes)?;
-    Ok(MemFile { name, bytes })
+    // Pieces alone would be given until the system has none. So as many bytes are asked for at once first, and given back.
+    let room: Vec<u8> = Vec::with_capacity(alloc, length as usize)?;
+    drop(room);
+    let mut pieces = Pieces::new(alloc);
+    read_to_end(file, &mut pieces)?;
+    Ok(HeldFile { name, pieces })
 }
 
 /// Appends all that a file has left.
-fn read_to_end<F: Read>(file: &mut F, bytes: &mut Vec<u8>) -> Result<(), AttachError> {
-    let mut piece = [0; PIECE];
+fn read_to_end<F: Read>(file: &mut F, pieces: &mut Pieces) -> Result<(), AttachError> {
+    let mut piece = [0; PIECE as usize];
     for _ in 0..u64::MAX {
         match file.read(&mut piece) {
             Ok(0) => return Ok(()),
-            Ok(count) => bytes.extend_from_slice(&piece[..count])?,
+            Ok(count) => pieces.push(&piece[..count])?,
             Err(error) if error.kind() == ErrorKind::Interrupted => {}
             Err(error) => return Err(attach_error(error.kind())),
         }

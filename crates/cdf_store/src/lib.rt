@@ -8,6 +8,7 @@ mod mem_files;
 mod mem_sink;
 mod mem_source;
 mod mem_store;
+mod pieces;
 mod plan;
 mod sink;
 mod source;

@@ -172,6 +172,17 @@ impl Store for MemStore {
         Ok(())
     }
 
+    fn write_page(&mut self, place: u64, page: Vec<u8>, count: usize) -> Result<(), Vec<u8>> {
+        if self.plan.next_fails() {
+            self.write_faults = self.write_faults.saturating_add(1);
+            return Err(page);
+        }
+        self.files.write(place as usize, &page[..count]);
+        self.writes -= 1;
+        self.touched.push((place, count as u64)).unwrap();
+        Ok(())
+    }
+
     fn set_len(&mut self, n: u64) -> Result<(), Failed> {
         if self.plan.next_fails() {
             self.write_faults = self.write_faults.saturating_add(1);

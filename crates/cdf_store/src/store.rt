@@ -1,6 +1,6 @@
 //! What a store is.
 
-ghost use Rattle.std.specs.Prelude.{◌≡◌, ◌≤◌, ◌+◌, ℕ, List, Bool, length, is_err, IsSome, IsTrue, OnOk, OnErr, IfOk, IfSome};
+ghost use Rattle.std.specs.Prelude.{◌≡◌, ◌≤◌, ◌+◌, ℕ, List, Bool, length, take, is_err, IsSome, IsTrue, OnOk, OnErr, IfOk, IfErr, IfSome};
 ghost use Rattle.std.specs.Option.{option_map};
 ghost use Rattle.std.specs.declared.option.Option.{Option};
 ghost use Rattle.cdf_base.specs.Causes.{HasCause, HasCauseOf};
@@ -115,6 +115,25 @@ pub trait Store {
         requires end { place + length bytes.now ≤ (spare self.old).end }
         ensures ok { OnOk result (disk self.new ≡ written (disk self.old) place bytes.now) }
         ensures part { OnErr result (WrittenPart (disk self.old) place bytes.now (disk self.new)) }
+        ensures spare { Spent (spare self.old) (spare self.new) }
+        ensures taken { taken self.new ≡ taken self.old }
+        ensures cause { HasCause (write_faults self.old) (write_faults self.new) result }
+        ensures read { read_faults self.new ≡ read_faults self.old }
+        ensures also { also self.old self.new (Some (is_err result)) };
+
+    /// Writes the first `count` bytes of a page of 65,536 bytes, as `write_at` does, and may keep the page, so that they need not
+    /// be copied. It takes no memory. After a fault the front of the bytes may have been written, and the page comes back as it
+    /// was.
+    fn write_page(&mut self, place: u64, page: Vec<u8>, count: usize) -> Result<(), Vec<u8>>
+        requires held { IsSome (disk self.old).held }
+        requires size { length page.items ≡ 65536 }
+        requires count { count ≤ 65536 }
+        requires place { place ≤ length (file_of (disk self.old)) }
+        requires writes { 1 ≤ (spare self.old).writes }
+        requires end { place + count ≤ (spare self.old).end }
+        ensures ok { OnOk result (disk self.new ≡ written (disk self.old) place (take count page.items)) }
+        ensures part { OnErr result (WrittenPart (disk self.old) place (take count page.items) (disk self.new)) }
+        ensures back { IfErr result (λ back. back.items ≡ page.items) }
         ensures spare { Spent (spare self.old) (spare self.new) }
         ensures taken { taken self.new ≡ taken self.old }
         ensures cause { HasCause (write_faults self.old) (write_faults self.new) result }

@@ -16,7 +16,7 @@ returns-clause-image g c =
       | inl within ↦ absurd (true_not_false (sym (c.is_within.ensures.1 within) ∙ c.if-is_within.false))
       | inr after ↦ after
     ] in
-    forgotten_same (page_at c.args.sheets.now.changed) (page_at c.forget.new.self.changed) (file_of (g.S.Store.disk c.args.store.now)) c.args.sheets.now.length c.args.number past c.forget.ensures.others
+    forgotten_same (page_at c.args.sheets.now.changed) (page_at c.take.new.self.changed) (file_of (g.S.Store.disk c.args.store.now)) c.args.sheets.now.length c.args.number past c.take.ensures.others
 
 pub returns-clause-backed : goal.returns-clause-backed
 returns-clause-backed g c =
@@ -24,10 +24,10 @@ returns-clause-backed g c =
       | inl within ↦ absurd (true_not_false (sym (c.is_within.ensures.1 within) ∙ c.if-is_within.false))
       | inr after ↦ after
     ] in
-    forgotten_backed (page_at c.args.sheets.now.changed) (page_at c.forget.new.self.changed) (length (file_of (g.S.Store.disk c.args.store.now))) c.args.sheets.now.length c.args.number past c.forget.ensures.others c.requires.backed
+    forgotten_backed (page_at c.args.sheets.now.changed) (page_at c.take.new.self.changed) (length (file_of (g.S.Store.disk c.args.store.now))) c.args.sheets.now.length c.args.number past c.take.ensures.others c.requires.backed
 
 pub returns-clause-less : goal.returns-clause-less
-returns-clause-less g c = less_saved (page_at c.args.sheets.now.changed) (page_at c.forget.new.self.changed) c.args.number c.forget.ensures.gone c.forget.ensures.others
+returns-clause-less g c = less_saved (page_at c.args.sheets.now.changed) (page_at c.take.new.self.changed) c.args.number c.take.ensures.gone c.take.ensures.others
 
 pub returns-clause-touched : goal.returns-clause-touched
 returns-clause-touched g c = touches_none (LiesIn c.args.number) _ _ refl
