@@ -71,5 +71,5 @@ pub use Rattle.cdf_model.specs.declared.kinds.Kind.{Kind}
 pub use Rattle.cdf_model.specs.declared.kinds.Kind.TheVariants.{R, Z}
 pub use Rattle.cdf_reindex.specs.Pyramid.{AreLevels, Filled, NewNode, alone, entries_for, entries_of, first_of, from_below, joined, last_of, nodes_left, places_of, uppers}
 pub use Rattle.cdf_reindex.specs.Rebuilding.{AllMade, AreFilled, AreStacked, LevelMade, LevelsMade, NodeMade, NodeWords, PyramidMade, level_entries, nodes_up, upper_of}
-pub use Rattle.cdf_reindex.specs.Reindexed.{AllTaken, IsBare, IsRebuilt, Reindexed}
-pub use Rattle.cdf_reindex.specs.Reindexing.{HasOld, IndexMade}
+pub use Rattle.cdf_reindex.specs.Reindexed.{AllTaken, IsBare, IsBuilt, IsRebuilt, Reindexed, heads_written}
+pub use Rattle.cdf_reindex.specs.Reindexing.{IndexMade, index_of}

@@ -1,6 +1,6 @@
 -- How many nodes and levels there are, and where the nodes stand.
 use Rattle.std.proofs.Common.{◌≡◌, ℕ, zero, suc, ◌+◌, ◌-◌, ◌*◌, ◌/◌, ◌≤◌, List, [], ◌∷◌, ◌++◌, length, map, eqb, append_assoc, append-nil, refl, sym, ap, ap₂, subst, ◌∙◌, arith, inl, inr}
-use Rattle.cdf_reindex.proofs.Common.{eqb-true, length-append, map-append, times-append, times-in, levels_up, quotient_up, either, Entries, no_entry, Leaf, entry_count, times, NewNode, entries_for, joined, alone, entries_of, uppers, Filled, AreLevels, from_below, places_of, nodes_left, In, is_in, true-is_in, false-is_in, times-none}
+use Rattle.cdf_reindex.proofs.Common.{eqb-true, length-append, map-append, times-append, times-in, levels_up, quotient_up, either, Entries, no_entry, Leaf, entry_count, times, NewNode, entries_for, joined, alone, entries_of, uppers, Filled, AreLevels, from_below, places_of, nodes_left, In, is_in, true-is_in, false-is_in, times-none, times-once, Distinct}
 use Rattle.cdf_edits.specs.Commands.Room.{nodes_above}
 use Rattle.cdf_format.specs.Index.{nodes_of, lower_nodes}
 use Rattle.cdf_reindex.proofs.LevelLemmas.{count_joined, count_leaves, count_uppers, joined_is}
@@ -210,4 +210,10 @@ pub in_by_times : (xs ys : List ℕ) → ((m : ℕ) → times m xs ≡ times m y
 in_by_times xs ys same m i = elim (either (is_in m ys)) [
   | inl e ↦ true-is_in m ys e
   | inr e ↦ absurd (omega (arith, same m, times-none m ys (false-is_in m ys e), times-in m xs i))
+]
+
+pub times_most : (m : ℕ) (xs : List ℕ) → Distinct xs → times m xs ≤ 1
+times_most m xs d = elim (either (is_in m xs)) [
+  | inl x ↦ let e = times-once m xs d (true-is_in m xs x) in omega arith
+  | inr x ↦ let e = times-none m xs (false-is_in m xs x) in omega arith
 ]

@@ -1,6 +1,4 @@
 pub mod Common
-pub mod BareNodes
-pub mod FreeingKeeps
 pub mod LevelCounts
 pub mod LevelLemmas
 pub mod LevelSteps
@@ -9,17 +7,14 @@ pub mod NodesMade
 pub mod PyramidBuilt
 pub mod PyramidIs
 pub mod PyramidLaw
-pub mod PyramidLinked
-pub mod PyramidRebuilt
 pub mod PyramidStands
-pub mod RebuildingCalls
 pub mod ReindexCalls
 pub mod WordsOfLevels
 pub mod MadeActs
 pub mod MadeBlocks
 pub mod MadeEdit
 pub mod MadeFollows
+pub mod MadeFreed
 pub mod MadeGood
 pub mod MadeKeeps
 pub mod MadeTaken
-pub mod MadeTree

@@ -1,38 +1,39 @@
 -- An index made anew follows `reindex`.
-use Rattle.std.proofs.Common.{◌≡◌, ◌≢◌, ℕ, ◌+◌, ◌<◌, ◌≤◌, List, [], ◌∷◌, ◌++◌, length, map, Bool, true, false, Option, Some, None, true≢false, refl, sym, ap, subst, ◌∙◌, arith, inl, inr}
-use Rattle.cdf_reindex.proofs.Common.{sum, if◌then◌else◌, Kind, image_limit, Found, Same, content, number, size_at, type_at, Nodes, no_node, node, room_at, IsNode, owned, vdr_vxr_tail, gdr_type, vxr_type, VariableShape, shape, vdrs, IsSound, In, AreTiles, Good, size_kept, good_by_its_shape, good_is_sound, is_in-true, Allowance, Allowances, AllKeep, Keeps, Only, shapes_of, levels_up, made_acts, reindex_changes, reindex_room, vxr_bytes, last_node, Act, gave, links_end, taken, gdr_typed, StandsAmong, apart, IsBare, IsRebuilt, Reindexed}
+use Rattle.std.proofs.Common.{Bool, List, None, Option, Some, [], ap, arith, false, if◌then◌else◌, inl, inr, length, map, refl, subst, sym, true, true≢false, ℕ, ◌++◌, ◌+◌, ◌<◌, ◌∙◌, ◌∷◌, ◌≡◌, ◌≢◌, ◌≤◌}
+use Rattle.cdf_reindex.proofs.Common.{Act, AllKeep, Allowance, Allowances, AreTiles, Found, Good, In, IsBare, IsNode, IsRebuilt, Keeps, Kind, Nodes, Only, Reindexed, Same, StandsAmong, VariableShape, apart, content, gave, gdr_type, gdr_typed, good_by_its_shape, good_is_sound, image_limit, is_in-true, last_node, levels_up, links_end, made_acts, no_node, node, number, owned, reindex_changes, reindex_room, room_at, shape, shapes_of, size_at, sum, taken, type_at, vdr_vxr_tail, vdrs, vxr_bytes, vxr_type, with_index}
 use Rattle.cdf_edits.proofs.Commands.ListParts.{got-middle}
-use Rattle.std.proofs.lemmas.Option.{same_Some}
-use Rattle.std.specs.List.{slice_get}
-use Rattle.cdf_model.specs.declared.answer.Reply.TheVariants as replies
-use Rattle.cdf_model.specs.declared.command.Command.TheVariants as commands
-use Rattle.cdf_model.specs.Answers.{Go}
-use Rattle.cdf_model.specs.DataSet.{DataSet}
-use Rattle.cdf_model.specs.Names.{variable_named}
-use Rattle.cdf_model.specs.Step.{ByStep}
-use Rattle.cdf_model.specs.VariableSteps.{reindex_step}
-use Rattle.cdf_format.specs.Chains.{next_of}
-use Rattle.cdf_format.specs.Index.{leaves_of, nodes_of}
-use Rattle.cdf_format.specs.Owners.{Owner}
-use Rattle.cdf_format.proofs.Owning.{owned_stand}
-use Rattle.cdf_edits.specs.Commands.Allowances.{FreedStay, GivenStay, allowance, no_fields, stays_all, Anything}
+use Rattle.cdf_edits.proofs.Edits.FreedBytes.{freed_stay}
+use Rattle.cdf_edits.proofs.Edits.FreedRecords.{sizes_by_tiles}
+use Rattle.cdf_edits.proofs.Edits.VariableFrame.{Each-map}
+use Rattle.cdf_edits.proofs.Space.ActsLeave.{each, no_acts}
+use Rattle.cdf_edits.specs.Commands.Allowances.{Anything, FreedStay, GivenStay, allowance, no_fields, stays_all}
 use Rattle.cdf_edits.specs.Commands.Keeps.{allowances}
 use Rattle.cdf_edits.specs.Commands.Named.{OfVariable}
 use Rattle.cdf_edits.specs.Commands.Reindex.{MakesIndex, nodes_at}
 use Rattle.cdf_edits.specs.Commands.Room.{nodes_above, room}
 use Rattle.cdf_edits.specs.Follows.{Follows}
 use Rattle.cdf_edits.specs.Index.Written.{NodeSpareStays, NodesFollow, TailFollows, UnusedEntries, is_taken_at, top_stays}
-use Rattle.cdf_edits.proofs.Edits.FreedBytes.{freed_stay}
-use Rattle.cdf_edits.proofs.Edits.FreedRecords.{sizes_by_tiles}
-use Rattle.cdf_edits.proofs.Edits.VariableFrame.{Each-map}
-use Rattle.cdf_edits.proofs.Space.ActsLeave.{each, no_acts}
+use Rattle.cdf_format.proofs.Owning.{owned_stand}
+use Rattle.cdf_format.specs.Chains.{next_of}
+use Rattle.cdf_format.specs.Index.{leaves_of, nodes_of}
+use Rattle.cdf_format.specs.Owners.{Owner}
+use Rattle.cdf_model.specs.Answers.{Go}
+use Rattle.cdf_model.specs.DataSet.{DataSet}
+use Rattle.cdf_model.specs.Names.{variable_named}
+use Rattle.cdf_model.specs.Step.{ByStep}
+use Rattle.cdf_model.specs.VariableSteps.{reindex_step}
+use Rattle.cdf_reindex.proofs.LevelCounts.{in_by_times}
 use Rattle.cdf_reindex.proofs.MadeActs.{made_follow, same_size, taken_nodes, taken_within}
-use Rattle.cdf_reindex.proofs.MadeEdit.{edit, gives_edit, heads_edit, left, may_free, mine, node_linked, node_made, olds, records_now, type_linked}
+use Rattle.cdf_reindex.proofs.MadeEdit.{heads_edit, node_linked, old_linked}
+use Rattle.cdf_reindex.proofs.MadeFreed.{edit, gives_edit, left, may_free, records_now}
 use Rattle.cdf_reindex.proofs.MadeGood.{among_now, good_now, vdrs_stay}
 use Rattle.cdf_reindex.proofs.MadeKeeps.{made_keeps}
 use Rattle.cdf_reindex.proofs.MadeTaken.{node_takes}
-use Rattle.cdf_reindex.proofs.MadeTree.{in_levels}
-use Rattle.cdf_reindex.proofs.PyramidRebuilt.{no_pyramid}
+use Rattle.cdf_reindex.proofs.PyramidBuilt.{no_pyramid}
+use Rattle.std.proofs.lemmas.Option.{same_Some}
+use Rattle.std.specs.List.{slice_get}
+use Rattle.cdf_model.specs.declared.answer.Reply.TheVariants as replies
+use Rattle.cdf_model.specs.declared.command.Command.TheVariants as commands
 
 -- ---- the step of a data set
 
@@ -88,15 +89,15 @@ module _ (b name : List ℕ) (found : Found) {own : VariableShape} (named : vari
 
 -- ---- an index that was made anew
 
-module _ {b now : List ℕ} (found : Found) {before : List VariableShape} {own : VariableShape} {after : List VariableShape} (good : Good b) (among : StandsAmong b found.kind before own after) (at : found.number ≡ length before) (r : IsRebuilt b now own) (whole : IsSound r.linked (shape r.linked)) (some : IsNode own.index) where
+module _ {b now : List ℕ} (found : Found) {before : List VariableShape} {own : VariableShape} {after : List VariableShape} (good : Good b) (among : StandsAmong b found.kind before own after) (at : found.number ≡ length before) (r : IsRebuilt b now own) (some : IsNode own.index) where
   abbrev done : List Act
   done = made_acts b own.index r.index
 
   abbrev of_own : VariableShape
-  of_own = mine good among r whole
+  of_own = with_index own r.index
 
   taken_all : (m : ℕ) → In m (nodes_of r.index) → is_taken_at done m ≡ true
-  taken_all m i = taken_there b (levels_up 7 r.index) (nodes_of own.index) m (in_levels now (shape now).records r.index r.stands.has_nodes m i)
+  taken_all m i = taken_there b (levels_up 7 r.index) (nodes_of own.index) m (in_by_times (nodes_of r.index) (levels_up 7 r.index) (λ k. sym (r.built.each_taken k)) m i)
 
   -- ---- its nodes
 
@@ -114,40 +115,38 @@ module _ {b now : List ℕ} (found : Found) {before : List VariableShape} {own :
 
   -- ---- the nodes that were freed
 
-  size_left : (m : ℕ) → In m (olds good among r) → size_at now m ≡ size_at r.linked m
+  size_left : (m : ℕ) → In m (nodes_of own.index) → size_at now m ≡ size_at r.linked m
   size_left m i =
-      let records = records_now good among r whole in
-      let tiled = subst (λ (ts : List ℕ). AreTiles now 8 (length now) ts) records (gives_edit good among r whole).tiled_now in
-      sizes_by_tiles r.linked now 8 8 (length r.linked) _ refl (heads_edit good among r).tiled_now (subst (λ (n : ℕ). AreTiles now 8 n (shape r.made).records) (left good among r whole).long tiled) m (there m i)
+      let records = records_now good among r.built r.heads now r.given in
+      let tiled = subst (λ (ts : List ℕ). AreTiles now 8 (length now) ts) records (gives_edit good among r.built r.heads now r.given).tiled_now in
+      sizes_by_tiles r.linked now 8 8 (length r.linked) _ refl (heads_edit good among r.built r.heads).tiled_now (subst (λ (n : ℕ). AreTiles now 8 n (shape r.made).records) (left good among r.built r.heads now r.given).long tiled) m (there m i)
     where
-      there : (m : ℕ) → In m (olds good among r) → In m (shape r.made).records
-      there m i = subst (In m) (records_now good among r whole) (subst (In m) (sym (ap (λ x. x.records) (left good among r whole).shape_is)) ((may_free good among r whole).stand m i))
+      there : (m : ℕ) → In m (nodes_of own.index) → In m (shape r.made).records
+      there m i = subst (In m) (records_now good among r.built r.heads now r.given) (subst (In m) (sym (ap (λ x. x.records) (left good among r.built r.heads now r.given).shape_is)) ((may_free good among r.built r.heads).stand m i))
 
-  size_now : (m : ℕ) → In m (olds good among r) → size_at now m ≡ size_at b m
-  size_now m i = size_left m i ∙ same_size good among r whole m i
+  size_now : (m : ℕ) → In m (nodes_of own.index) → size_at now m ≡ size_at b m
+  size_now m i = size_left m i ∙ same_size good among r m i
 
-  no_gdr : (m : ℕ) → In m (olds good among r) → m ≢ (shape r.linked).gdr
-  no_gdr m i q = apart vxr_type gdr_type refl (sym (type_linked good among r m i) ∙ ap (type_at r.linked) q ∙ gdr_typed r.linked (shape r.linked) whole.has_shape)
+  no_gdr : (m : ℕ) → In m (nodes_of own.index) → m ≢ (shape r.linked).gdr
+  no_gdr m i q = apart vxr_type gdr_type refl (sym (old_linked good among r.built r.heads m i) ∙ ap (type_at r.linked) q ∙ gdr_typed r.linked (shape r.linked) r.linked_sound.has_shape)
 
-  behind : (m : ℕ) → In m (olds good among r) → Same b now (m + links_end (size_at b m)) (m + size_at b m)
+  behind : (m : ℕ) → In m (nodes_of own.index) → Same b now (m + links_end (size_at b m)) (m + size_at b m)
   behind m i =
-      let one = node_made good among r m i in
-      let two = node_linked good among r m i in
-      let last = (left good among r whole).behind m ((may_free good among r whole).stand m i) (no_gdr m i) in
-      let last' : Same r.linked now (m + links_end (size_at b m)) (m + size_at b m) = subst (λ (n : ℕ). Same r.linked now (m + links_end n) (m + n)) (same_size good among r whole m i) last in
-      let middle : size_at r.made m ≡ size_at b m = size_kept b r.made m one.same (let l = one.long in omega arith) in
-      record { each = λ k l u. last'.each k l u ∙ two.same.each k (omega arith) (subst (λ (n : ℕ). k < m + n) (sym middle) u) ∙ one.same.each k (omega arith) u }
+      let first = node_linked good among r.built r.heads m i in
+      let last = (left good among r.built r.heads now r.given).behind m ((may_free good among r.built r.heads).stand m i) (no_gdr m i) in
+      let last' : Same r.linked now (m + links_end (size_at b m)) (m + size_at b m) = subst (λ (n : ℕ). Same r.linked now (m + links_end n) (m + n)) (same_size good among r m i) last in
+      record { each = λ k l u. last'.each k l u ∙ first.same.each k (omega arith) u }
 
   freed : FreedStay b now no_fields done
   freed = given_after b now done (levels_up 7 r.index) (gave b (nodes_of own.index))
-      (freed_stay b now done (nodes_of own.index) no_fields r.sound.has_shape.tiled (λ m i. subst (In m) (sym (ap (λ x. x.records) (left good among r whole).shape_is)) ((may_free good among r whole).stand m i)) size_now behind)
+      (freed_stay b now done (nodes_of own.index) no_fields r.sound.has_shape.tiled (λ m i. subst (In m) (sym (ap (λ x. x.records) (left good among r.built r.heads now r.given).shape_is)) ((may_free good among r.built r.heads).stand m i)) size_now behind)
 
   makes : MakesIndex b now own of_own done
   makes = record {
     acts_are = refl;
-    leaves_stay = r.leaves_stay;
-    fewest = r.fewest ∙ ap (λ leaves. nodes_above 8 (length leaves)) (sym r.leaves_stay);
-    filled = r.filled;
+    leaves_stay = r.built.leaves_stay;
+    fewest = r.built.fewest ∙ ap (λ leaves. nodes_above 8 (length leaves)) (sym r.built.leaves_stay);
+    filled = r.built.filled;
     wide = Each-map (IsBare now) (λ vxr. room_at now vxr ≡ 64) (λ m bare. bare.room_is) (nodes_of r.index) r.bare;
     alone = Each-map (IsBare now) (λ vxr. next_of now vxr ≡ 0) (λ m bare. bare.next_is) (nodes_of r.index) r.bare;
     nodes = nodes_follow;
@@ -162,20 +161,20 @@ module _ {b now : List ℕ} (found : Found) {before : List VariableShape} {own :
     there = ap (slice_get (shapes_of (shape b) found.kind)) at ∙ ap (λ (vs : List VariableShape). slice_get vs (length before)) among.was ∙ got-middle before own after
 
     there_now : slice_get (shapes_of (shape now) found.kind) found.number ≡ Some of_own
-    there_now = ap (slice_get (shapes_of (shape now) found.kind)) at ∙ ap (λ (vs : List VariableShape). slice_get vs (length before)) (among_now good among r whole short).was ∙ got-middle before of_own after
+    there_now = ap (slice_get (shapes_of (shape now) found.kind)) at ∙ ap (λ (vs : List VariableShape). slice_get vs (length before)) (among_now good among r short).was ∙ got-middle before of_own after
 
     pub rebuilt_follows : Follows b (commands.Reindex name) now
     rebuilt_follows = record {
       reply = replies.Plain;
       goes = ap ByStep (goes_by (content b) name found named) ∙ ap (λ (d : DataSet). ByStep (Go d replies.Plain)) (sym r.content_stays);
-      good = good_now good among r whole short;
-      longer = (edit good among r whole).longer;
+      good = good_now good among r short;
+      longer = (edit good among r.built r.heads now r.given).longer;
       within = subst (λ (n : ℕ). length now ≤ length b + n) (sym (room_is b name found named there)) r.longest;
       reads = λ e. absurd cc;
       acts = done;
       takes_within = subst (λ (n : ℕ). sum (map (λ take. take.1) (taken done)) ≤ n) (sym (room_is b name found named there)) (taken_within good among r);
-      acts_follow = made_follow good among r whole;
-      keeps = keeps_by b name found named there now done (made_keeps found good among at r whole);
+      acts_follow = made_follow good among r;
+      keeps = keeps_by b name found named there now done (made_keeps found good among at r);
       does = does_by b name found named there there_now makes;
     }
 
@@ -238,7 +237,7 @@ module _ {b now : List ℕ} (found : Found) {before : List VariableShape} {own :
   reindexed_follows (inl x) =
       let there : slice_get (shapes_of (shape b) found.kind) found.number ≡ Some own = ap (slice_get (shapes_of (shape b) found.kind)) at ∙ ap (λ (vs : List VariableShape). slice_get vs (length before)) among.was ∙ got-middle before own after in
       subst (Follows b (commands.Reindex name)) (sym x.1) (none_follows b found name good named there x.0)
-  reindexed_follows (inr x) = rebuilt_follows found good among at x.1 x.1.linked_sound x.0 name named short
+  reindexed_follows (inr x) = rebuilt_follows found good among at x.1 x.0 name named short
 
   pub reindexed_content : Reindexed b now own → content now ≡ content b
   reindexed_content (inl x) = ap content x.1
@@ -246,4 +245,4 @@ module _ {b now : List ℕ} (found : Found) {before : List VariableShape} {own :
 
   pub reindexed_places : Reindexed b now own → (k : Kind) → vdrs (shapes_of (shape now) k) ≡ vdrs (shapes_of (shape b) k)
   reindexed_places (inl x) k = ap (λ (y : List ℕ). vdrs (shapes_of (shape y) k)) x.1
-  reindexed_places (inr x) k = vdrs_stay good among x.1 x.1.linked_sound short k
+  reindexed_places (inr x) k = vdrs_stay good among x.1 short k
