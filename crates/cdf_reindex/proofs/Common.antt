@@ -63,13 +63,14 @@ pub use Rattle.cdf_format.specs.WellFormed.{Good}
 pub use Rattle.cdf_index.specs.Adding.{Counts}
 pub use Rattle.cdf_index.specs.Order.{past_entries}
 pub use Rattle.cdf_index.specs.Replacing.{with_index}
+pub use Rattle.cdf_index.specs.Whole.{leaf_words}
 pub use Rattle.cdf_index.specs.Writing.{entry_in}
 pub use Rattle.cdf_index.specs.declared.entries.Entry.{Entry}
 pub use Rattle.cdf_model.specs.Limits.{image_limit, record_number_limit}
 pub use Rattle.cdf_model.specs.Names.{Found}
 pub use Rattle.cdf_model.specs.declared.kinds.Kind.{Kind}
 pub use Rattle.cdf_model.specs.declared.kinds.Kind.TheVariants.{R, Z}
-pub use Rattle.cdf_reindex.specs.Pyramid.{AreLevels, Filled, NewNode, alone, entries_for, entries_of, first_of, from_below, joined, last_of, nodes_left, places_of, uppers}
-pub use Rattle.cdf_reindex.specs.Rebuilding.{AllMade, AreFilled, AreStacked, LevelMade, LevelsMade, NodeMade, NodeWords, PyramidMade, level_entries, nodes_up, upper_of}
+pub use Rattle.cdf_reindex.specs.Pyramid.{AreLevels, Filled, NewNode, alone, entries_for, entries_of, first_of, from_below, last_of, nodes_left, places_of, uppers}
+pub use Rattle.cdf_reindex.specs.Rebuilding.{AllMade, LevelMade, LevelsMade, NodeMade, PyramidMade, naming, words, words_of}
 pub use Rattle.cdf_reindex.specs.Reindexed.{AllTaken, IsBare, IsBuilt, IsRebuilt, Reindexed, heads_written}
 pub use Rattle.cdf_reindex.specs.Reindexing.{IndexMade, index_of}

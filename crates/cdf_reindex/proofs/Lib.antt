@@ -1,12 +1,9 @@
 pub mod Common
-pub mod LevelCounts
-pub mod LevelLemmas
 pub mod LevelSteps
+pub mod Levels
 pub mod NodePlacing
 pub mod NodesMade
 pub mod PyramidBuilt
-pub mod PyramidIs
-pub mod PyramidLaw
 pub mod PyramidStands
 pub mod ReindexCalls
 pub mod WordsOfLevels

@@ -1,9 +1,9 @@
 -- The new nodes are taken and written, and VXRhead and VXRtail lead to them: one edit, by which the image stays sound, and the old nodes can be freed.
 use Rattle.std.proofs.Common.{List, [], ap, append-nil, arith, inl, inr, length, map, refl, subst, sym, true, w32, ℕ, ◌++◌, ◌+◌, ◌∙◌, ◌∷◌, ◌≡◌, ◌≢◌, ◌≤◌}
-use Rattle.cdf_reindex.proofs.Common.{AreFree, AreTiles, Each, Edit, Field, Good, In, IsBare, IsBuilt, IsChain, IsSound, Kept, Kind, Leaf, LeafFits, LiesIn, Mark, NodeFits, Nodes, R, SameHeads, Shape, StandsAmong, VariableFits, VariableShape, Z, apart, avoided, away-avoids, behind_in, block_behind, content, edit_then, edit_under, field, freeing_marks, fresh_unowned, gdr_field, gdr_type, gdr_uir_head, good_is_sound, has, heads_written, is_a, is_a-type, keeps_file, kept, leaves_of, length-with_field, levels_up, link_to, linkable-type, long, map-append, node_behind, nodes_of, nodes_stand, number, r_vdr_type, shape, size_at, size_kept, tile, times, times-append, times-in, times-none, times-once, type_at, type_in, type_kept, typed, uir_type, unmarked, unmarked-away, used_times, variable_records, variables_chain, vdr_vxr_head, vdr_vxr_tail, vxr_bytes, vxr_type, with_field, with_index, write, z_vdr_type, fits}
+use Rattle.cdf_reindex.proofs.Common.{AreFree, AreTiles, Each, Edit, Field, Good, In, IsBare, IsBuilt, IsChain, IsSound, Kept, Kind, Leaf, LeafFits, LiesIn, Mark, NodeFits, Nodes, R, SameHeads, Shape, StandsAmong, VariableFits, VariableShape, Z, apart, avoided, away-avoids, behind_in, block_behind, content, edit_then, edit_under, field, fits, freeing_marks, fresh_unowned, gdr_field, gdr_type, gdr_uir_head, good_is_sound, has, heads_written, is_a, is_a-type, keeps_file, kept, leaves_of, length-with_field, levels_up, link_to, linkable-type, long, map-append, node_behind, nodes_of, nodes_stand, number, r_vdr_type, shape, size_at, size_kept, tile, times, times-append, times-in, times-none, times-once, type_at, type_in, type_kept, typed, uir_type, unmarked, unmarked-away, used_times, variable_records, variables_chain, vdr_vxr_head, vdr_vxr_tail, vxr_bytes, vxr_type, with_field, with_index, write, z_vdr_type}
 use Rattle.cdf_edits.proofs.Edits.Common.{MayWrite, distinct_if, each, none_in_use, not_twice_kept, sizes_by_tiles, some_bytes, sound_if, spliced_times, through, with_shapes, write_lies, writes_edit, writes_long}
 use Rattle.cdf_edits.proofs.Edits.InRecords.{places_of}
-use Rattle.cdf_edits.proofs.Edits.IndexEdited.{IndexEdit, vdr_alike, vdr_size, file, vdr_type, stays}
+use Rattle.cdf_edits.proofs.Edits.IndexEdited.{IndexEdit, file, stays, vdr_alike, vdr_size, vdr_type}
 use Rattle.cdf_edits.proofs.Edits.OwnEdited.{OwnEdit, among_now, same_shape, splices}
 use Rattle.cdf_edits.proofs.Edits.RecordFrame.{chain_stays}
 use Rattle.cdf_edits.proofs.Edits.RecordGrown.{kept_then}
@@ -29,13 +29,12 @@ use Rattle.cdf_format.specs.RecordTypes.{cpr_type, fixed_size, is_record_type}
 use Rattle.cdf_index.proofs.NewIndex.{IndexTests, NewIndex, block_kept, index_edit, index_marks, max_rec_kept, own_edit}
 use Rattle.cdf_index.proofs.OwnRecords.{parts_times}
 use Rattle.cdf_model.specs.DataSet.{DataSet, Variable}
-use Rattle.cdf_model.specs.Names.{variables_of}
-use Rattle.cdf_reindex.proofs.LevelCounts.{in_by_times, times_most}
+use Rattle.cdf_model.specs.Names.{variables_of, with_variables}
+use Rattle.cdf_reindex.proofs.Levels.{in_by_times, times_most}
 use Rattle.cdf_reindex.proofs.MadeBlocks.{StandsOn, fits_on}
 use Rattle.cdf_reindex.proofs.MadeTaken.{NodesTaken, all_taken, end_before, node_takes}
 use Rattle.cdf_reindex.proofs.NodesMade.{bare_by}
 use Rattle.std.specs.Int.{cast_signed}
-use Rattle.cdf_model.specs.Names.{with_variables}
 
 -- ---- marks
 

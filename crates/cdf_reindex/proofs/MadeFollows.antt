@@ -22,7 +22,7 @@ use Rattle.cdf_model.specs.DataSet.{DataSet}
 use Rattle.cdf_model.specs.Names.{variable_named}
 use Rattle.cdf_model.specs.Step.{ByStep}
 use Rattle.cdf_model.specs.VariableSteps.{reindex_step}
-use Rattle.cdf_reindex.proofs.LevelCounts.{in_by_times}
+use Rattle.cdf_reindex.proofs.Levels.{in_by_times}
 use Rattle.cdf_reindex.proofs.MadeActs.{made_follow, same_size, taken_nodes, taken_within}
 use Rattle.cdf_reindex.proofs.MadeEdit.{heads_edit, node_linked, old_linked}
 use Rattle.cdf_reindex.proofs.MadeFreed.{edit, gives_edit, left, may_free, records_now}

@@ -1,6 +1,6 @@
 -- The old nodes are freed: an index made anew, as one edit, and what stands in the image then.
 use Rattle.std.proofs.Common.{List, [], ap, arith, inl, inr, length, refl, subst, sym, ℕ, ◌++◌, ◌+◌, ◌∙◌, ◌∷◌, ◌≡◌, ◌≤◌}
-use Rattle.cdf_reindex.proofs.Common.{AllGiven, Avoids-append, Each, Edit, Good, HasVariable, In, In-append, IsBare, IsBuilt, IsChain, IsIndex, IsLeft, IsRebuilt, IsSound, Kept, Kind, Mark, Nodes, Shape, StandsAmong, VariableShape, all_left, apart, edit_then, edit_under, field, freeing_marks, gdr_place, gdr_type, gdr_uir_head, good_is_sound, has, heads_written, is_in, kept_away, last_node, link_to, no_node, node, nodes_of, number, number_kept, reindex_room, shape, type_in, uir_type, variables_chain, vdr_vxr_head, vxr_bytes, vxr_type, with_index, vdr_vxr_tail}
+use Rattle.cdf_reindex.proofs.Common.{AllGiven, Avoids-append, Each, Edit, Good, HasVariable, In, In-append, IsBare, IsBuilt, IsChain, IsIndex, IsLeft, IsRebuilt, IsSound, Kept, Kind, Mark, Nodes, Shape, StandsAmong, VariableShape, all_left, apart, edit_then, edit_under, field, freeing_marks, gdr_place, gdr_type, gdr_uir_head, good_is_sound, has, heads_written, is_in, kept_away, last_node, link_to, no_node, node, nodes_of, number, number_kept, reindex_room, shape, type_in, uir_type, variables_chain, vdr_vxr_head, vdr_vxr_tail, vxr_bytes, vxr_type, with_index}
 use Rattle.cdf_edits.proofs.Edits.FreedRecords.{MayFree, all_given_edit}
 use Rattle.cdf_edits.proofs.Edits.TakenAll.{taking_all}
 use Rattle.cdf_edits.proofs.Frame.OwnerAlone.{Each-in}
@@ -9,16 +9,16 @@ use Rattle.cdf_edits.specs.Commands.Allowances.{space_fields}
 use Rattle.cdf_edits.specs.Edits.Writes.{with_writes}
 use Rattle.cdf_index.proofs.NewIndex.{NewIndex}
 use Rattle.cdf_index.specs.Order.{NextsAreZero}
-use Rattle.cdf_reindex.proofs.MadeEdit.{among_linked, bare_linked, both, content_linked, in_places, index_made_marks, linked_long, linked_shape, new_apart, new_linked, node_before, old_linked, old_stands, olds, places, sound_linked, t, tail_is, taken, vdr_linked, vdr_there, tests}
+use Rattle.cdf_reindex.proofs.MadeEdit.{among_linked, bare_linked, both, content_linked, in_places, index_made_marks, linked_long, linked_shape, new_apart, new_linked, node_before, old_linked, old_stands, olds, places, sound_linked, t, tail_is, taken, tests, vdr_linked, vdr_there}
 use Rattle.cdf_reindex.proofs.MadeTaken.{among_space, own_of}
 use Rattle.cdf_reindex.proofs.NodesMade.{bare_by}
 
 -- where none has one behind it, the first is the last
 last_is : (nodes : Nodes) → NextsAreZero nodes → last_node nodes ≡ link_to nodes
 unfolding NextsAreZero
-last_is no_node zero = refl
-last_is (node place room entries no_node) zero = refl
-last_is (node place room entries (node other wide others more)) zero = absurd zero
+last_is no_node z = refl
+last_is (node place room entries no_node) z = refl
+last_is (node place room entries (node other wide others more)) z = absurd z
 
 module _ {b made linked : List ℕ} {kind : Kind} {before : List VariableShape} {own : VariableShape} {after : List VariableShape} {index : Nodes} (good : Good b) (among : StandsAmong b kind before own after) (x : IsBuilt b made own index) (heads : linked ≡ with_writes made (heads_written own.vdr index)) where
   abbrev ps : List ℕ
@@ -110,8 +110,8 @@ module _ {b made linked : List ℕ} {kind : Kind} {before : List VariableShape} 
         let k = kept_away gives_edit own.vdr (type_in (variables_chain kind)) (vdr_there good among x) typed.0 ((λ e l. type.no_gdr e), ((λ e l. type.used e), ((λ e l. type.no_node e), tt))) in
         number_kept linked now own.vdr k.same vdr_vxr_tail (let l = typed.1 in omega arith) ∙ tail_is good among x heads
 
-    pub rebuilt : length made ≤ length b + reindex_room own.index → IsRebuilt b now own
-    rebuilt longest = record {
+    pub rebuilt : IsRebuilt b now own
+    rebuilt = record {
       index = index;
       made = made;
       built = x;
@@ -124,5 +124,5 @@ module _ {b made linked : List ℕ} {kind : Kind} {before : List VariableShape} 
       bare = bare_now;
       sound = left.sound;
       content_stays = left.content_stays ∙ content_linked good among x heads;
-      longest = subst (λ (n : ℕ). n ≤ length b + reindex_room own.index) (sym long_now) longest;
+      longest = subst (λ (n : ℕ). n ≤ length b + reindex_room own.index) (sym long_now) x.longest;
     }

@@ -17,7 +17,7 @@ use Rattle.cdf_format.specs.NotRead.{read_types}
 use Rattle.cdf_format.specs.Records.{field}
 use Rattle.cdf_index.proofs.LeafRules.{index_order, index_rules}
 use Rattle.cdf_index.proofs.NewIndex.{Exchanged, NewIndex, block_kept, good_now as changed_good, index_edit, node_room, own_edit}
-use Rattle.cdf_reindex.proofs.LevelCounts.{in_by_times}
+use Rattle.cdf_reindex.proofs.Levels.{in_by_times}
 use Rattle.cdf_reindex.proofs.MadeBlocks.{StandsOn, leaves_on}
 use Rattle.cdf_reindex.proofs.MadeEdit.{heads_edit, sound_made, t, tests}
 use Rattle.cdf_reindex.proofs.MadeFreed.{edit, gives_edit, long_now, marks, may_free, new_index}

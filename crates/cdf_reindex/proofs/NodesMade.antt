@@ -1,6 +1,6 @@
 -- New nodes stand in the image, with none behind them, and with -1 in the entries that are not used.
-use Rattle.std.proofs.Common.{List, [], arith, inl, inr, length, map, refl, subst, sym, ℕ, ◌*◌, ◌+◌, ◌<◌, ◌∙◌, ◌∷◌, ◌≡◌, ◌≤◌}
-use Rattle.cdf_reindex.proofs.Common.{AllMade, AllTaken, Each, Entry, In, IsBare, IsSound, Kept, NewNode, NodeMade, SameHeads, SaysEntry, entry_count, entry_in, eof, filled_size, kept, linkable-from, no_node, node_fits_kept, number_kept, place_in, places_of, shape, size_at, used_count, vxr_n_used_entries, vxr_type}
+use Rattle.std.proofs.Common.{List, [], arith, inl, inr, length, refl, subst, sym, ℕ, ◌*◌, ◌+◌, ◌<◌, ◌∙◌, ◌∷◌, ◌≡◌, ◌≤◌}
+use Rattle.cdf_reindex.proofs.Common.{AllMade, AllTaken, Each, Entry, In, IsBare, IsSound, Kept, NewNode, NodeMade, SameHeads, SaysEntry, entry_count, entry_in, eof, filled_size, kept, linkable-from, no_node, node_fits_kept, number_kept, place_in, places_of, shape, size_at, used_count, vxr_n_used_entries, vxr_type, words_of}
 use Rattle.cdf_edits.proofs.Edits.RecordPlaced.{placed_grows}
 use Rattle.cdf_edits.proofs.Frame.LinksStay.{entry_same, node_kept, room_same, used_same}
 use Rattle.cdf_format.proofs.BytesLemmas.{next_kept}
@@ -8,7 +8,7 @@ use Rattle.cdf_format.specs.IndexOf.{SaysNode}
 use Rattle.cdf_index.proofs.OneNode.{entry_past, one_head}
 use Rattle.cdf_index.proofs.WayDown.{made}
 use Rattle.cdf_reindex.proofs.MadeTaken.{all_taken}
-use Rattle.cdf_reindex.proofs.WordsOfLevels.{length_words, node_words, say_entries, words_of}
+use Rattle.cdf_reindex.proofs.WordsOfLevels.{length_words, say_entries}
 
 pub record Stands (now records : List ℕ) (new : NewNode) : Type 0 where
   pub says : SaysNode now records new.place 64 new.entries no_node
@@ -62,11 +62,11 @@ module _ (b now : List ℕ) (place : ℕ) (k : Kept b now place) (bare : IsBare 
 abbrev pub IsSmall : NewNode → Type 0
 IsSmall new = entry_count new.entries ≤ 64
 
-pub nodes_taken : (b now : List ℕ) (nodes : List NewNode) → AllMade b now (map node_words nodes) → AllTaken b now (places_of nodes)
+pub nodes_taken : (b now : List ℕ) (nodes : List NewNode) → AllMade b now nodes → AllTaken b now (places_of nodes)
 nodes_taken b now [] m = m
 nodes_taken b now (new ∷ more) m = (m.0, (record { taken = m.1.0.taken; fills = m.1.0.fills }, nodes_taken m.0 now more m.1.1))
 
-pub all_stand : (b now : List ℕ) (nodes : List NewNode) → IsSound b (shape b) → eof b (shape b).gdr ≡ length b → Each IsSmall nodes → AllMade b now (map node_words nodes) → Each (Stands now (shape now).records) nodes
+pub all_stand : (b now : List ℕ) (nodes : List NewNode) → IsSound b (shape b) → eof b (shape b).gdr ≡ length b → Each IsSmall nodes → AllMade b now nodes → Each (Stands now (shape now).records) nodes
 all_stand b now [] sound end small m = tt
 all_stand b now (new ∷ more) sound end small m =
     let fills = m.1.0.fills in

@@ -1,19 +1,19 @@
 -- What a good image gives for the calls by which the index of one of its variables is made anew, and what they come to.
 use Rattle.std.proofs.Common.{List, [], ap, arith, inl, inr, length, map, refl, subst, sym, ℕ, ◌*◌, ◌+◌, ◌<◌, ◌^◌, ◌∙◌, ◌≡◌, ◌≤◌}
-use Rattle.cdf_reindex.proofs.Common.{AllGiven, AreFree, Entry, Good, In, IndexMade, IsNode, IsRebuilt, IsSound, Kind, LiesIn, Nodes, Reindexed, StandsAmong, VariableShape, good_by_its_shape, good_is_sound, heads_written, image_limit, index_of, leaves_of, no_node, node, nodes_above, number, reindex_room, shape, variables, vdr_vxr_head, vdr_vxr_tail, vdrs, with_field, nil_from_length}
+use Rattle.cdf_reindex.proofs.Common.{AllGiven, AreFree, Entry, Good, In, IndexMade, IsNode, IsRebuilt, IsSound, Kind, LiesIn, Nodes, Reindexed, StandsAmong, VariableShape, good_by_its_shape, good_is_sound, heads_written, image_limit, index_of, leaves_of, nil_from_length, no_node, node, nodes_above, number, reindex_room, shape, variables, vdr_vxr_head, vdr_vxr_tail, vdrs, with_field}
 use Rattle.cdf_edits.proofs.Edits.VdrEdited.{name_room}
 use Rattle.cdf_edits.specs.Edits.Writes.{with_writes}
 use Rattle.cdf_format.proofs.GoodImageLemmas.{good_image}
 use Rattle.cdf_index.proofs.GoodIndex.{good_index}
-use Rattle.cdf_index.proofs.OneVariable.{among_all, one_of, OneOf}
+use Rattle.cdf_index.proofs.OneVariable.{OneOf, among_all, one_of}
 use Rattle.cdf_index.specs.Finding.{HasIndex, index_at}
 use Rattle.cdf_index.specs.Whole.{leaf_words}
 use Rattle.cdf_reindex.proofs.MadeEdit.{head_lies, old_free, sound_linked, tail_lies}
 use Rattle.cdf_reindex.proofs.MadeGood.{reindexed_good}
 use Rattle.cdf_reindex.proofs.PyramidBuilt.{few_leaves, tree_made}
 use Rattle.std.proofs.lemmas.List.{length-map}
-use Rattle.cdf_reindex.proofs.MadeFreed.{rebuilt}
 use Rattle.cdf_format.specs.Index.{nodes_of}
+use Rattle.cdf_reindex.proofs.MadeFreed.{rebuilt}
 
 -- an index of no nodes
 no_nodes : (nodes : Nodes) → nodes_of nodes ≡ [] → nodes ≡ no_node
@@ -82,7 +82,7 @@ module _ (b : List ℕ) (good : Good b) where
     pub tail : {first : List ℕ} → first ≡ with_field made v vdr_vxr_head top → LiesIn first v vdr_vxr_tail
     pub linked_sound : {first linked : List ℕ} → first ≡ with_field made v vdr_vxr_head top → linked ≡ with_field first v vdr_vxr_tail top → IsSound linked (shape linked)
     pub free : {nodes first linked : List ℕ} → nodes ≡ nodes_of (index_of b v) → first ≡ with_field made v vdr_vxr_head top → linked ≡ with_field first v vdr_vxr_tail top → AreFree linked nodes
-    pub rebuilt : {nodes first linked now : List ℕ} → nodes ≡ nodes_of (index_of b v) → first ≡ with_field made v vdr_vxr_head top → linked ≡ with_field first v vdr_vxr_tail top → AllGiven linked now nodes → length made ≤ length b + 1052 * nodes_above 8 (length leaves) → IsRebuilt b now own
+    pub rebuilt : {nodes first linked now : List ℕ} → nodes ≡ nodes_of (index_of b v) → first ≡ with_field made v vdr_vxr_head top → linked ≡ with_field first v vdr_vxr_tail top → AllGiven linked now nodes → IsRebuilt b now own
 
   module _ {vdr : ℕ} {leaves : List Entry} (leaves_are : leaves ≡ map leaf_words (leaves_of (index_of b vdr))) {made : List ℕ} {top : ℕ} (index_made : IndexMade b made leaves top) (small : top < 2 ^ 64) where
     pub links : {kind : Kind} {before : List VariableShape} {own : VariableShape} {after : List VariableShape} → StandsAmong b kind before own after → own.vdr ≡ vdr → Links made leaves own vdr top
@@ -98,8 +98,7 @@ module _ (b : List ℕ) (good : Good b) where
           tail = λ {first} one. tail_lies good among x.built first (one ∙ ap (with_field made own.vdr vdr_vxr_head) x.link_is);
           linked_sound = λ {first} {linked} one two. sound_linked good among x.built (to first linked one two);
           free = λ {nodes} {first} {linked} e one two. subst (AreFree linked) (sym (old nodes e)) (old_free good among x.built (to first linked one two));
-          rebuilt = λ {nodes} {first} {linked} {now} e one two given longest.
-              rebuilt good among x.built (to first linked one two) now (subst (AllGiven linked now) (old nodes e) given) (subst (λ (n : ℕ). length made ≤ length b + 1052 * nodes_above 8 n) (ap length same ∙ length-map (leaves_of own.index) leaf_words) longest);
+          rebuilt = λ {nodes} {first} {linked} {now} e one two given. rebuilt good among x.built (to first linked one two) now (subst (AllGiven linked now) (old nodes e) given);
         })
 
   pub links_one : (vdr : ℕ) (i : In vdr (vdrs (variables (shape b)))) {leaves : List Entry} → leaves ≡ map leaf_words (leaves_of (index_of b vdr)) → {made : List ℕ} {top : ℕ} → IndexMade b made leaves top → top < 2 ^ 64 → Links made leaves (one vdr i).own vdr top

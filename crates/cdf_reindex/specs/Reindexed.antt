@@ -51,6 +51,7 @@ pub record IsBuilt (b made : List ℕ) (v : VariableShape) (index : Nodes) : Typ
   pub stands : HasNodes made (shape made).records level_limit index
   pub small : link_to index < 256 ^ vdr_vxr_head.width
   pub bare : Each (IsBare made) (nodes_of index)
+  pub longest : length made ≤ length b + reindex_room v.index
 
 -- VXRhead and VXRtail of a descriptor lead to an index of one node, or of none
 abbrev pub heads_written : ℕ → Nodes → List Write

@@ -35,7 +35,6 @@ fn write_index<A: Area>(alloc: Global, area: &mut A, entries: &[Entry]) -> Resul
     requires room { length (A.image area.old) + node_size * nodes_above level_limit (length entries.now) ≤ (A.frame area.old).limit }
     requires limit { (A.frame area.old).limit ≤ image_limit }
     ensures made { IfOk result (λ top. IndexMade (A.image area.old) (A.image area.new) entries.now top) }
-    ensures longest { OnOk result (length (A.image area.new) ≤ length (A.image area.old) + node_size * nodes_above level_limit (length entries.now)) }
     ensures area { Edits A.frame A.faults area.old area.new result }
 {
     if entries.is_empty() {

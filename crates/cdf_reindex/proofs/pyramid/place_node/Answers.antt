@@ -1,5 +1,5 @@
 use Rattle.std.proofs.Common.{arith}
-use Rattle.cdf_index.proofs.NodeFilled.{has_room, taken_short, node_sound, node_content, node_short}
+use Rattle.cdf_index.proofs.NodeFilled.{has_room, taken_short, node_sound}
 use Rattle.cdf_reindex.proofs.NodePlacing.{node_made, node_eof}
 use Rattle.cdf_reindex.proofs.pyramid.place_node.Goals as goal
 
@@ -26,17 +26,7 @@ returns-clause-sound g c =
     let at = c.in_ok-place.ensures in
     node_sound (g.A.Area.image c.args.area.now) (g.A.Area.image c.alloc_record.new.area) 64 c.in_ok-place.place c.requires.sound at.takes at.sound at.content (g.A.Area.image c.write_node.new.area) 0 c.args.entries.now c.in_ok-write_node.ensures.written
 
-pub returns-clause-content : goal.returns-clause-content
-returns-clause-content g c =
-    let at = c.in_ok-place.ensures in
-    node_content (g.A.Area.image c.args.area.now) (g.A.Area.image c.alloc_record.new.area) 64 c.in_ok-place.place c.requires.sound at.takes at.sound at.content (g.A.Area.image c.write_node.new.area) 0 c.args.entries.now c.in_ok-write_node.ensures.written
-
 pub returns-clause-eof : goal.returns-clause-eof
 returns-clause-eof g c =
     let at = c.in_ok-place.ensures in
     node_eof (g.A.Area.image c.args.area.now) (g.A.Area.image c.alloc_record.new.area) c.in_ok-place.place c.requires.sound at.takes at.sound at.content (g.A.Area.image c.write_node.new.area) c.args.entries.now c.in_ok-write_node.ensures.written
-
-pub returns-clause-longest : goal.returns-clause-longest
-returns-clause-longest g c =
-    let at = c.in_ok-place.ensures in
-    node_short (g.A.Area.image c.args.area.now) (g.A.Area.image c.alloc_record.new.area) 64 c.in_ok-place.place c.requires.sound at.takes at.sound at.content (g.A.Area.image c.write_node.new.area) 0 c.args.entries.now c.in_ok-write_node.ensures.written

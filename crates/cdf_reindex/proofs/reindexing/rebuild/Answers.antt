@@ -31,4 +31,4 @@ free_records-requires-clause-free g c = (links_one _ c.requires.good _ c.require
 
 pub returns-clause-rebuilt : goal.returns-clause-rebuilt
 returns-clause-rebuilt g c =
-    on_ok_weaker c.free_records.result (λ given kind before own after among is. (links _ c.requires.good c.requires.leaves c.in_ok-top.ensures.made (omega arith) among is).rebuilt c.requires.nodes c.in_ok-set_vdr_vxr_head.ensures.ok c.in_ok-set_vdr_vxr_tail.ensures.ok given c.in_ok-top.ensures.longest) c.free_records.ensures.given
+    on_ok_weaker c.free_records.result (λ given kind before own after among is. (links _ c.requires.good c.requires.leaves c.in_ok-top.ensures.made (omega arith) among is).rebuilt c.requires.nodes c.in_ok-set_vdr_vxr_head.ensures.ok c.in_ok-set_vdr_vxr_tail.ensures.ok given) c.free_records.ensures.given
