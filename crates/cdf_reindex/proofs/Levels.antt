@@ -1,19 +1,13 @@
 -- Levels make an index of their leaves: what the entries that name the nodes of a level have of those in them, and what holds of all levels.
-use Rattle.std.proofs.Common.{List, None, Option, Some, ap, append-nil, append_assoc, ap₂, arith, eqb, inl, inr, length, map, refl, subst, suc, sym, ℕ, ◌*◌, ◌++◌, ◌+◌, ◌∙◌, ◌∷◌, ◌≡◌, ◌≤◌, ◌⊎◌, [], zero}
-use Rattle.cdf_reindex.proofs.Common.{AreLevels, Distinct, Entries, Filled, In, Leaf, NewNode, alone, block, either, entries_for, entries_of, entry_count, eqb-true, false-is_in, first_of, from_below, is_in, last_of, length-append, levels_up, lower, map-append, no_entry, nodes_left, past_entries, places_of, quotient_up, sum, times, times-append, times-in, times-none, times-once, true-is_in, uppers}
-use Rattle.cdf_edits.specs.Commands.Reindex.{AreTight, EntriesTight, FullFromLeft, Spans, nodes_at, nodes_below}
-use Rattle.cdf_edits.specs.Index.Grown.{with_both}
-use Rattle.cdf_format.specs.Index.{entry_leaves, lower_nodes, nodes_of, leaves_of}
-use Rattle.cdf_index.proofs.LeafMore.{leaves_both, parts_in_order}
-use Rattle.cdf_index.proofs.Saying.{count_both, lower_both}
-use Rattle.cdf_index.specs.Order.{AreInOrder, InOrder, LowerAreZero, NextsAreZero}
-use Rattle.cdf_reindex.specs.Pyramid.{MakesPyramid}
-use Rattle.std.proofs.lemmas.Bool.{cases_lt}
-use Rattle.std.proofs.lemmas.List.{length-map}
-use Rattle.std.proofs.lemmas.List.Sums.{sum_by-cons}
-use Rattle.std.specs.List.{last_or, slice_get}
-use Rattle.std.specs.Option.{option_map}
+use Rattle.std.proofs.Common.{List, None, Option, Some, [], ap, append-nil, append_assoc, ap₂, arith, eqb, inl, inr, length, map, refl, subst, suc, sym, zero, ℕ, ◌*◌, ◌++◌, ◌+◌, ◌∙◌, ◌∷◌, ◌≡◌, ◌≤◌, ◌⊎◌}
+use Rattle.cdf_reindex.proofs.Common.{AreLevels, Distinct, Entries, Filled, FullFromLeft, In, Leaf, MakesPyramid, NewNode, Spans, alone, block, cases_lt, count_both, either, entries_for, entries_of, entry_count, eqb-true, false-is_in, first_of, from_below, is_in, last_of, length-append, length-map, levels_up, lower, lower_both, map-append, no_entry, nodes_left, option_map, places_of, quotient_up, slice_get, sum, times, times-append, times-in, times-none, times-once, true-is_in, uppers, with_both}
+use Rattle.cdf_edits.specs.Commands.Reindex.{AreTight, EntriesTight, nodes_at, nodes_below}
 use Rattle.cdf_edits.specs.Commands.Room.{nodes_above}
+use Rattle.cdf_format.specs.Index.{entry_leaves, leaves_of, lower_nodes, nodes_of}
+use Rattle.cdf_index.proofs.LeafMore.{leaves_both, parts_in_order}
+use Rattle.cdf_index.specs.Order.{AreInOrder, InOrder, LowerAreZero, NextsAreZero, past_entries}
+use Rattle.std.proofs.lemmas.List.Sums.{sum_by-cons}
+use Rattle.std.specs.List.{last_or}
 
 -- what counts a list by its parts
 pub record Adds (f : List ℕ → ℕ) : Type 0 where

@@ -1,12 +1,10 @@
 -- The acts by which an index is made anew: the nodes are taken, and then the old ones are freed.
 use Rattle.std.proofs.Common.{List, [], ap, arith, length, map, subst, sym, ℕ, ◌*◌, ◌++◌, ◌+◌, ◌∷◌, ◌≡◌, ◌≤◌}
-use Rattle.cdf_reindex.proofs.Common.{Act, ActsFollow, Good, In, IsRebuilt, Kind, StandsAmong, VariableShape, gave, good_is_sound, levels_up, made_acts, nodes_of, reindex_room, size_at, size_kept, sum, taken, vxr_bytes, vxr_type}
-use Rattle.cdf_edits.proofs.Edits.ActsStill.{acts_still_by}
-use Rattle.cdf_edits.proofs.Edits.ActsThen.{all_gave, gave-same, taken-gave}
+use Rattle.cdf_reindex.proofs.Common.{Act, ActsFollow, Good, In, IsRebuilt, Kind, StandsAmong, VariableShape, acts_still_by, all_gave, fold, gave, gave-same, good_is_sound, levels_up, made_acts, nodes_of, reindex_room, size_at, size_kept, sum, taken, vxr_bytes, vxr_type}
+use Rattle.cdf_edits.proofs.Edits.ActsThen.{taken-gave}
 use Rattle.cdf_reindex.proofs.MadeEdit.{heads_edit, linked_long, node_linked, sound_made, t, tests}
 use Rattle.cdf_reindex.proofs.MadeFreed.{linked_records, linked_unused, may_free}
 use Rattle.cdf_reindex.proofs.MadeTaken.{node_takes}
-use Rattle.std.specs.List.{fold}
 
 -- ---- what is taken
 

@@ -1,11 +1,8 @@
 -- The rules of blocks that stay, of a VDR that stays but for MaxRec, VXRhead and VXRtail.
 use Rattle.std.proofs.Common.{List, [], inl, inr, refl, subst, sym, true, ℕ, ◌&&◌, ◌==◌, ◌||◌, ◌∙◌, ◌∷◌, ◌≡◌, ◌≤◌}
-use Rattle.cdf_reindex.proofs.Common.{Each, FileSame, Hold, Hold-split, In, IsOneOf, Kept, Leaf, LeafFits, VdrStays, cvvr_type, flat_map, is_a, is_block, is_in, is_in-true, leaf_rows, size_at, stays_alike, type_at, type_kept, vvr_type}
+use Rattle.cdf_reindex.proofs.Common.{Each, FileSame, Hold, Hold-split, In, IsOneOf, Kept, Leaf, LeafFits, VdrStays, block_fits_alike, cvvr_type, fixed_size, flat_map, is_a, is_block, is_in, is_in-true, leaf_rows, packed_stays, plain_alike, size_at, stays_alike, type_at, type_kept, vvr_type}
 use Rattle.cdf_edits.proofs.Edits.InRecords.{places_of}
-use Rattle.cdf_edits.proofs.Frame.VdrAlike.{block_fits_alike, plain_alike}
-use Rattle.cdf_edits.proofs.Frame.VdrStays.{packed_stays}
 use Rattle.cdf_edits.proofs.Rules.OfIndexes.{leaf_same}
-use Rattle.cdf_format.specs.RecordTypes.{fixed_size}
 
 module _ {b now : List ℕ} (file : FileSame b now) {v : ℕ} (k : VdrStays b now v) where
   module _ (records records' : List ℕ) (fixed : (m : ℕ) → In m records → fixed_size (type_at b m) ≤ size_at b m) where

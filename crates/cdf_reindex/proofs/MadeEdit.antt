@@ -1,40 +1,15 @@
 -- The new nodes are taken and written, and VXRhead and VXRtail lead to them: one edit, by which the image stays sound, and the old nodes can be freed.
-use Rattle.std.proofs.Common.{List, [], ap, append-nil, arith, inl, inr, length, map, refl, subst, sym, true, w32, ℕ, ◌++◌, ◌+◌, ◌∙◌, ◌∷◌, ◌≡◌, ◌≢◌, ◌≤◌}
-use Rattle.cdf_reindex.proofs.Common.{AreFree, AreTiles, Each, Edit, Field, Good, In, IsBare, IsBuilt, IsChain, IsSound, Kept, Kind, Leaf, LeafFits, LiesIn, Mark, NodeFits, Nodes, R, SameHeads, Shape, StandsAmong, VariableFits, VariableShape, Z, apart, avoided, away-avoids, behind_in, block_behind, content, edit_then, edit_under, field, fits, freeing_marks, fresh_unowned, gdr_field, gdr_type, gdr_uir_head, good_is_sound, has, heads_written, is_a, is_a-type, keeps_file, kept, leaves_of, length-with_field, levels_up, link_to, linkable-type, long, map-append, node_behind, nodes_of, nodes_stand, number, r_vdr_type, shape, size_at, size_kept, tile, times, times-append, times-in, times-none, times-once, type_at, type_in, type_kept, typed, uir_type, unmarked, unmarked-away, used_times, variable_records, variables_chain, vdr_vxr_head, vdr_vxr_tail, vxr_bytes, vxr_type, with_field, with_index, write, z_vdr_type}
-use Rattle.cdf_edits.proofs.Edits.Common.{MayWrite, distinct_if, each, none_in_use, not_twice_kept, sizes_by_tiles, some_bytes, sound_if, spliced_times, through, with_shapes, write_lies, writes_edit, writes_long}
+use Rattle.std.proofs.Common.{List, [], ap, append-nil, arith, inl, inr, length, map, refl, rules, subst, sym, true, w32, ℕ, ◌++◌, ◌+◌, ◌∙◌, ◌∷◌, ◌≡◌, ◌≢◌, ◌≤◌}
+use Rattle.cdf_reindex.proofs.Common.{AreFree, AreTiles, DataSet, Each, Each-in, Each-map, Edit, Field, Good, In, IndexEdit, IndexTests, IsBare, IsBuilt, IsChain, IsSound, Kept, Kind, Leaf, LeafFits, LiesIn, Mark, MayWrite, NewIndex, NodeFits, Nodes, OwnEdit, R, SameHeads, Shape, StandsAmong, TakenAll, Variable, VariableFits, VariableShape, Z, among_now, apart, avoided, behind_in, block_behind, block_kept, cast_signed, content, content_is, content_now, cpr_behind, cpr_type, distinct_if, each, edit_then, edit_under, end_stays, field, field_reads, file, fits, fixed_size, freeing_marks, gdr_field, gdr_type, gdr_uir_head, good_is_sound, has, heads_written, index_edit, index_marks, is_a, is_a-from, is_a-type, is_record_type, keeps_file, kept, kept_then, leaves_of, length-with_field, levels_up, link_to, linkable-type, links_mark, long, map-append, max_rec_kept, node_behind, nodes_kept, nodes_of, nodes_stand, none_in_use, not_twice_kept, number, other_words, own_edit, owned-times, owned_records, parts_times, r_vdr_type, records_alike, records_in, same_shape, shape, size_at, size_kept, sizes_by_tiles, some_bytes, sound_if, space_fields, spliced_times, splices, stays, taking_all, through, tile, times, times-append, times-in, times-none, times-once, type_at, type_in, type_kept, typed, uir_type, unmarked, unmarked-away, used_times, variable_of, variable_records, variable_stays, variables_chain, variables_of, variables_of_are, vdr_alike, vdr_size, vdr_vxr_head, vdr_vxr_tail, vxr_bytes, vxr_type, with_field, with_index, with_shapes, with_variables, with_writes, write, write_lies, writes_edit, writes_long, z_vdr_type}
 use Rattle.cdf_edits.proofs.Edits.InRecords.{places_of}
-use Rattle.cdf_edits.proofs.Edits.IndexEdited.{IndexEdit, file, stays, vdr_alike, vdr_size, vdr_type}
-use Rattle.cdf_edits.proofs.Edits.OwnEdited.{OwnEdit, among_now, same_shape, splices}
+use Rattle.cdf_edits.proofs.Edits.IndexEdited.{vdr_type}
+use Rattle.cdf_edits.proofs.Edits.MarkLemmas.{away-avoids}
+use Rattle.cdf_edits.proofs.Edits.OwnedOnce.{fresh_unowned}
 use Rattle.cdf_edits.proofs.Edits.RecordFrame.{chain_stays}
-use Rattle.cdf_edits.proofs.Edits.RecordGrown.{kept_then}
-use Rattle.cdf_edits.proofs.Edits.RecordPlaced.{links_mark}
-use Rattle.cdf_edits.proofs.Edits.TakenAll.{TakenAll, taking_all}
-use Rattle.cdf_edits.proofs.Edits.VariableCopied.{cpr_behind}
-use Rattle.cdf_edits.proofs.Edits.VariableFrame.{Each-map}
-use Rattle.cdf_edits.proofs.Edits.VariableKinds.{variables_of_are}
-use Rattle.cdf_edits.proofs.Edits.VariableSplice.{content_now}
-use Rattle.cdf_edits.proofs.Frame.LinksStay.{nodes_kept}
-use Rattle.cdf_edits.proofs.Frame.OwnerAlone.{Each-in}
-use Rattle.cdf_edits.proofs.Frame.OwnersApart.{owned-times}
-use Rattle.cdf_edits.proofs.Frame.VdrAlike.{records_alike}
-use Rattle.cdf_edits.proofs.Frame.VdrStays.{end_stays, variable_stays}
-use Rattle.cdf_edits.specs.Commands.Allowances.{space_fields}
-use Rattle.cdf_edits.specs.Edits.Writes.{with_writes}
-use Rattle.cdf_fields.proofs.Writes.{field_reads, other_words}
-use Rattle.cdf_format.proofs.ChainsLemmas.{is_a-from}
-use Rattle.cdf_format.proofs.ShapeLemmas.{content_is}
-use Rattle.cdf_format.specs.Content.{records_in, variable_of}
-use Rattle.cdf_format.specs.Owners.{owned_records}
-use Rattle.cdf_format.specs.RecordTypes.{cpr_type, fixed_size, is_record_type}
-use Rattle.cdf_index.proofs.NewIndex.{IndexTests, NewIndex, block_kept, index_edit, index_marks, max_rec_kept, own_edit}
-use Rattle.cdf_index.proofs.OwnRecords.{parts_times}
-use Rattle.cdf_model.specs.DataSet.{DataSet, Variable}
-use Rattle.cdf_model.specs.Names.{variables_of, with_variables}
 use Rattle.cdf_reindex.proofs.Levels.{in_by_times, times_most}
 use Rattle.cdf_reindex.proofs.MadeBlocks.{StandsOn, fits_on}
 use Rattle.cdf_reindex.proofs.MadeTaken.{NodesTaken, all_taken, end_before, node_takes}
 use Rattle.cdf_reindex.proofs.NodesMade.{bare_by}
-use Rattle.std.specs.Int.{cast_signed}
 
 -- ---- marks
 
@@ -60,32 +35,8 @@ pub record HeadTests (kind : Kind) (v : ℕ) (unused new nodes : List ℕ) (limi
   pub end_clear : avoided (heads_marks kind v ++ freeing_marks (vxr_type ∷ []) unused nodes limit) gdr_type 36 44 ≡ true
 
 pub made_tests : (kind : Kind) (v : ℕ) (unused new nodes : List ℕ) (limit : ℕ) → HeadTests kind v unused new nodes limit
-made_tests R v unused new nodes limit = record {
-  tests = record { file_clear = refl; attributes_clear = refl; other_clear = refl; blocks_clear = refl; packed_clear = refl; cpr_clear = refl; head_clear = refl; count_clear = refl; max_clear = refl; heads_clear = refl; inside = refl };
-  untaken = refl;
-  used = apart r_vdr_type uir_type refl;
-  no_gdr = apart r_vdr_type gdr_type refl;
-  no_node = apart r_vdr_type vxr_type refl;
-  nodes_clear = refl;
-  unused_clear = refl;
-  file_clear = refl;
-  list_clear = refl;
-  file_freed = refl;
-  end_clear = refl;
-}
-made_tests Z v unused new nodes limit = record {
-  tests = record { file_clear = refl; attributes_clear = refl; other_clear = refl; blocks_clear = refl; packed_clear = refl; cpr_clear = refl; head_clear = refl; count_clear = refl; max_clear = refl; heads_clear = refl; inside = refl };
-  untaken = refl;
-  used = apart z_vdr_type uir_type refl;
-  no_gdr = apart z_vdr_type gdr_type refl;
-  no_node = apart z_vdr_type vxr_type refl;
-  nodes_clear = refl;
-  unused_clear = refl;
-  file_clear = refl;
-  list_clear = refl;
-  file_freed = refl;
-  end_clear = refl;
-}
+made_tests R v unused new nodes limit = search (rules, apart r_vdr_type uir_type refl, apart r_vdr_type gdr_type refl, apart r_vdr_type vxr_type refl)
+made_tests Z v unused new nodes limit = search (rules, apart z_vdr_type uir_type refl, apart z_vdr_type gdr_type refl, apart z_vdr_type vxr_type refl)
 
 -- ---- the steps
 

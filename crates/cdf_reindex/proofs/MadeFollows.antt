@@ -1,26 +1,11 @@
 -- An index made anew follows `reindex`.
 use Rattle.std.proofs.Common.{Bool, List, None, Option, Some, [], ap, arith, false, if◌then◌else◌, inl, inr, length, map, refl, subst, sym, true, true≢false, ℕ, ◌++◌, ◌+◌, ◌<◌, ◌∙◌, ◌∷◌, ◌≡◌, ◌≢◌, ◌≤◌}
-use Rattle.cdf_reindex.proofs.Common.{Act, AllKeep, Allowance, Allowances, AreTiles, Found, Good, In, IsBare, IsNode, IsRebuilt, Keeps, Kind, Nodes, Only, Reindexed, Same, StandsAmong, VariableShape, apart, content, gave, gdr_type, gdr_typed, good_by_its_shape, good_is_sound, image_limit, is_in-true, last_node, levels_up, links_end, made_acts, no_node, node, number, owned, reindex_changes, reindex_room, room_at, shape, shapes_of, size_at, sum, taken, type_at, vdr_vxr_tail, vdrs, vxr_bytes, vxr_type, with_index}
-use Rattle.cdf_edits.proofs.Commands.ListParts.{got-middle}
-use Rattle.cdf_edits.proofs.Edits.FreedBytes.{freed_stay}
-use Rattle.cdf_edits.proofs.Edits.FreedRecords.{sizes_by_tiles}
-use Rattle.cdf_edits.proofs.Edits.VariableFrame.{Each-map}
-use Rattle.cdf_edits.proofs.Space.ActsLeave.{each, no_acts}
-use Rattle.cdf_edits.specs.Commands.Allowances.{Anything, FreedStay, GivenStay, allowance, no_fields, stays_all}
-use Rattle.cdf_edits.specs.Commands.Keeps.{allowances}
+use Rattle.cdf_reindex.proofs.Common.{Act, AllKeep, Allowances, AreTiles, ByStep, DataSet, Each-map, Follows, Found, FreedStay, GivenStay, Go, Good, In, IsBare, IsNode, IsRebuilt, Kind, MakesIndex, NodeSpareStays, Nodes, NodesFollow, Reindexed, Same, StandsAmong, TailFollows, UnusedEntries, VariableShape, allowances, apart, content, each, freed_stay, gave, gdr_type, gdr_typed, got-middle, image_limit, is_in-true, is_taken_at, last_node, levels_up, links_end, made_acts, next_of, no_fields, no_node, node, number, owned, reindex_changes, reindex_room, room, room_at, same_Some, shape, shapes_of, size_at, sizes_by_tiles, slice_get, stays_all, sum, taken, top_stays, type_at, variable_named, vdr_vxr_tail, vdrs, vxr_bytes, vxr_type, with_index}
+use Rattle.cdf_edits.proofs.Commands.ReadingFollows.{staying_follows}
 use Rattle.cdf_edits.specs.Commands.Named.{OfVariable}
-use Rattle.cdf_edits.specs.Commands.Reindex.{MakesIndex, nodes_at}
-use Rattle.cdf_edits.specs.Commands.Room.{nodes_above, room}
-use Rattle.cdf_edits.specs.Follows.{Follows}
-use Rattle.cdf_edits.specs.Index.Written.{NodeSpareStays, NodesFollow, TailFollows, UnusedEntries, is_taken_at, top_stays}
-use Rattle.cdf_format.proofs.Owning.{owned_stand}
-use Rattle.cdf_format.specs.Chains.{next_of}
+use Rattle.cdf_edits.specs.Commands.Reindex.{nodes_at}
+use Rattle.cdf_edits.specs.Commands.Room.{nodes_above}
 use Rattle.cdf_format.specs.Index.{leaves_of, nodes_of}
-use Rattle.cdf_format.specs.Owners.{Owner}
-use Rattle.cdf_model.specs.Answers.{Go}
-use Rattle.cdf_model.specs.DataSet.{DataSet}
-use Rattle.cdf_model.specs.Names.{variable_named}
-use Rattle.cdf_model.specs.Step.{ByStep}
 use Rattle.cdf_model.specs.VariableSteps.{reindex_step}
 use Rattle.cdf_reindex.proofs.Levels.{in_by_times}
 use Rattle.cdf_reindex.proofs.MadeActs.{made_follow, same_size, taken_nodes, taken_within}
@@ -30,8 +15,6 @@ use Rattle.cdf_reindex.proofs.MadeGood.{among_now, good_now, vdrs_stay}
 use Rattle.cdf_reindex.proofs.MadeKeeps.{made_keeps}
 use Rattle.cdf_reindex.proofs.MadeTaken.{node_takes}
 use Rattle.cdf_reindex.proofs.PyramidBuilt.{no_pyramid}
-use Rattle.std.proofs.lemmas.Option.{same_Some}
-use Rattle.std.specs.List.{slice_get}
 use Rattle.cdf_model.specs.declared.answer.Reply.TheVariants as replies
 use Rattle.cdf_model.specs.declared.command.Command.TheVariants as commands
 
@@ -39,6 +22,9 @@ use Rattle.cdf_model.specs.declared.command.Command.TheVariants as commands
 
 pub goes_by : (d : DataSet) (name : List ℕ) (found : Found) → variable_named d name ≡ Some found → reindex_step d name ≡ Go d replies.Plain
 goes_by d name found e = rw e refl
+
+got_at : {n : ℕ} {vs : List VariableShape} (before : List VariableShape) (own : VariableShape) (after : List VariableShape) → n ≡ length before → vs ≡ before ++ own ∷ after → slice_get vs n ≡ Some own
+got_at before own after at was = (λ i. slice_get (was i) (at i)) ∙ got-middle before own after
 
 -- ---- the nodes that were taken
 
@@ -158,10 +144,10 @@ module _ {b now : List ℕ} (found : Found) {before : List VariableShape} {own :
 
   module _ (name : List ℕ) (named : variable_named (content b) name ≡ Some found) (short : length now ≤ image_limit) where
     there : slice_get (shapes_of (shape b) found.kind) found.number ≡ Some own
-    there = ap (slice_get (shapes_of (shape b) found.kind)) at ∙ ap (λ (vs : List VariableShape). slice_get vs (length before)) among.was ∙ got-middle before own after
+    there = got_at before own after at among.was
 
     there_now : slice_get (shapes_of (shape now) found.kind) found.number ≡ Some of_own
-    there_now = ap (slice_get (shapes_of (shape now) found.kind)) at ∙ ap (λ (vs : List VariableShape). slice_get vs (length before)) (among_now good among r short).was ∙ got-middle before of_own after
+    there_now = got_at before of_own after at (among_now good among r short).was
 
     pub rebuilt_follows : Follows b (commands.Reindex name) now
     rebuilt_follows = record {
@@ -180,63 +166,20 @@ module _ {b now : List ℕ} (found : Found) {before : List VariableShape} {own :
 
 -- ---- an index without nodes stays, and so does every byte
 
-keeps_itself : (b : List ℕ) (place : ℕ) (a : Allowance) → In place (shape b).records → Keeps b b place a
-keeps_itself b place Anything i = tt
-keeps_itself b place (Only fields) i = record { stands = i; size_is = refl; same = λ n lt out. refl }
-
-all_keep : (b : List ℕ) (may : Allowances) (acts : List Act) (list : List (ℕ × Owner)) → ((m : ℕ) → In m (map (λ (p : ℕ × Owner). p.0) list) → In m (shape b).records) → AllKeep b b may acts list
-all_keep b may acts [] h = tt
-all_keep b may acts ((place, owner) ∷ more) h = (keeps_itself b place (allowance b (shape b) may acts place owner) (h place (inl refl)), all_keep b may acts more (λ m i. h m (inr i)))
-
-none_made : (b : List ℕ) → [] ≡ made_acts b no_node no_node
-unfolding nodes_of nodes_at
-none_made b = refl
-
-none_fewest : length (nodes_of no_node) ≡ nodes_above 8 (length (leaves_of no_node))
-unfolding nodes_of leaves_of nodes_above
-none_fewest = refl
-
 none_stays : (b : List ℕ) (vdr : ℕ) (cpr : List ℕ) → MakesIndex b b (record { vdr = vdr; index = no_node; cpr = cpr }) (record { vdr = vdr; index = no_node; cpr = cpr }) []
-unfolding nodes_of
-none_stays b vdr cpr = record {
-  acts_are = none_made b;
-  leaves_stay = refl;
-  fewest = none_fewest;
-  filled = no_pyramid;
-  wide = tt;
-  alone = tt;
-  nodes = record { unused = tt; spare = tt };
-  tail = refl;
-  freed = tt;
-}
+unfolding nodes_of leaves_of nodes_at nodes_above
+none_stays b vdr cpr = record { acts_are = refl; leaves_stay = refl; fewest = refl; filled = no_pyramid; wide = tt; alone = tt; nodes = record { unused = tt; spare = tt }; tail = refl; freed = tt }
 
 none_makes : (b : List ℕ) (own : VariableShape) → own.index ≡ no_node → MakesIndex b b own own []
-none_makes b own none =
-    let here : own ≡ record { vdr = own.vdr; index = no_node; cpr = own.cpr } = λ i. record { vdr = own.vdr; index = none i; cpr = own.cpr } in
-    subst (λ (x : VariableShape). MakesIndex b b x x []) (sym here) (none_stays b own.vdr own.cpr)
-
-pub none_follows : (b : List ℕ) (found : Found) {own : VariableShape} (name : List ℕ) → Good b → variable_named (content b) name ≡ Some found → slice_get (shapes_of (shape b) found.kind) found.number ≡ Some own → own.index ≡ no_node → Follows b (commands.Reindex name) b
-none_follows b found {own = own} name good named there none = record {
-  reply = replies.Plain;
-  goes = ap ByStep (goes_by (content b) name found named);
-  good = good;
-  longer = omega arith;
-  within = omega arith;
-  reads = λ e. absurd cc;
-  acts = [];
-  takes_within = omega arith;
-  acts_follow = no_acts b b (good_is_sound b good).has_shape (record { records = refl; list = refl; long = refl; size = λ m i. refl; type = λ m i. refl; back = λ m i. refl });
-  keeps = all_keep b (allowances b (content b) (shape b) (commands.Reindex name)) [] (owned b (shape b)) (owned_stand b (shape b) (good_by_its_shape b good));
-  does = does_by b name found named there there (none_makes b own none);
-}
+none_makes b own none = subst (λ (n : Nodes). MakesIndex b b (record own { index = n }) (record own { index = n }) []) (sym none) (none_stays b own.vdr own.cpr)
 
 -- ---- what a call that makes an index anew comes to
 
 module _ {b now : List ℕ} (found : Found) {before : List VariableShape} {own : VariableShape} {after : List VariableShape} (name : List ℕ) (good : Good b) (among : StandsAmong b found.kind before own after) (at : found.number ≡ length before) (named : variable_named (content b) name ≡ Some found) (short : length now ≤ image_limit) where
   pub reindexed_follows : Reindexed b now own → Follows b (commands.Reindex name) now
   reindexed_follows (inl x) =
-      let there : slice_get (shapes_of (shape b) found.kind) found.number ≡ Some own = ap (slice_get (shapes_of (shape b) found.kind)) at ∙ ap (λ (vs : List VariableShape). slice_get vs (length before)) among.was ∙ got-middle before own after in
-      subst (Follows b (commands.Reindex name)) (sym x.1) (none_follows b found name good named there x.0)
+      let there = got_at before own after at among.was in
+      subst (Follows b (commands.Reindex name)) (sym x.1) (staying_follows b (commands.Reindex name) replies.Plain (ap ByStep (goes_by (content b) name found named)) good (does_by b name found named there there (none_makes b own x.0)))
   reindexed_follows (inr x) = rebuilt_follows found good among at x.1 x.0 name named short
 
   pub reindexed_content : Reindexed b now own → content now ≡ content b

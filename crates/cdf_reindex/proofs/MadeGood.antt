@@ -1,26 +1,16 @@
 -- An index made anew leads from one good image to another, with the same content.
 use Rattle.std.proofs.Common.{List, [], ap, arith, inl, inr, length, negsuc, pos, refl, subst, sym, true, ℕ, ◌++◌, ◌+◌, ◌∙◌, ◌∷◌, ◌≡◌, ◌≤◌}
-use Rattle.cdf_reindex.proofs.Common.{Counts, Edit, Good, HasShape, Hold, Hold-split, In, In-append, IndexEdit, IsBare, IsOneOf, IsRebuilt, IsSound, Kind, NodeFits, R, Reindexed, Shape, StandsAmong, VariableShape, Z, apart, behind_in, block_behind, edit_then, eof, fits, flat_map, gdr_eof, gdr_field, good_by_its_shape, good_is_sound, has, image_limit, is_in, leaf_rows, leaves_of, levels_up, linkable-type, nodes_of, nodes_stand, number, record_number_limit, reindex_room, shape, shapes_of, times, type_at, uir_type, vdrs, vxr_bytes, vxr_n_used_entries, vxr_type, with_index}
-use Rattle.cdf_edits.proofs.Edits.FreedBytes.{all_unused}
+use Rattle.cdf_reindex.proofs.Common.{Each-map, Edit, Good, HasShape, Hold, Hold-split, In, In-append, In-append_left, In-append_right, IndexEdit, IsBare, IsGoodByShape, IsOneOf, IsRebuilt, IsRuled, IsSound, Kind, NodeFits, OwnEdit, R, Reindexed, Shape, StandsAmong, VariableShape, Z, all_unused, apart, behind_in, block_behind, by_kind, edit_then, eof, field, file, fits, flat_map, gdr_eof, gdr_field, good_by_its_shape, good_is_sound, has, image_limit, index_rows, is_in, leaf_rows, leaves_of, levels_up, linkable-type, nodes_of, nodes_stand, number, read_types, record_number_limit, reindex_room, shape, shapes_of, shapes_with, space_fields, stays, taking_all, times, type_at, uir_type, vdrs, vxr_bytes, vxr_n_used_entries, vxr_type, with_index, with_shapes}
 use Rattle.cdf_edits.proofs.Edits.InRecords.{places_of}
-use Rattle.cdf_edits.proofs.Edits.IndexEdited.{file, stays}
-use Rattle.cdf_edits.proofs.Edits.OwnEdited.{OwnEdit}
 use Rattle.cdf_edits.proofs.Edits.PlainLeaves.{own_rules}
-use Rattle.cdf_edits.proofs.Edits.TakenAll.{taking_all}
-use Rattle.cdf_edits.proofs.Edits.VariableFrame.{Each-map, IsRuled}
-use Rattle.cdf_edits.proofs.Edits.VariableKinds.{by_kind, shapes_with, with_shapes}
-use Rattle.cdf_edits.specs.Commands.Allowances.{space_fields}
-use Rattle.cdf_format.proofs.GoodByShape.{IsGoodByShape}
-use Rattle.cdf_format.proofs.Members.{In-append_left, In-append_right}
-use Rattle.cdf_format.specs.IndexRules.{index_rows, nodes_rows}
-use Rattle.cdf_format.specs.NotRead.{read_types}
-use Rattle.cdf_format.specs.Records.{field}
+use Rattle.cdf_format.specs.IndexRules.{nodes_rows}
 use Rattle.cdf_index.proofs.LeafRules.{index_order, index_rules}
-use Rattle.cdf_index.proofs.NewIndex.{Exchanged, NewIndex, block_kept, good_now as changed_good, index_edit, node_room, own_edit}
+use Rattle.cdf_index.specs.Adding.{Counts}
 use Rattle.cdf_reindex.proofs.Levels.{in_by_times}
 use Rattle.cdf_reindex.proofs.MadeBlocks.{StandsOn, leaves_on}
 use Rattle.cdf_reindex.proofs.MadeEdit.{heads_edit, sound_made, t, tests}
 use Rattle.cdf_reindex.proofs.MadeFreed.{edit, gives_edit, long_now, marks, may_free, new_index}
+use Rattle.cdf_index.proofs.NewIndex.{Exchanged, NewIndex, block_kept, good_now as changed_good, index_edit, node_room, own_edit}
 use Rattle.cdf_edits.proofs.Edits.OwnEdited as of_own_edit
 
 module _ {b now : List ℕ} {kind : Kind} {before : List VariableShape} {own : VariableShape} {after : List VariableShape} (good : Good b) (among : StandsAmong b kind before own after) (r : IsRebuilt b now own) (short : length now ≤ image_limit) where

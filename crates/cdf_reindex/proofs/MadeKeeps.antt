@@ -1,18 +1,11 @@
 -- An index made anew: what it keeps of the records of each owner.
 use Rattle.std.proofs.Common.{List, Option, [], eq-eqb, false, if◌then◌else◌, length, refl, true, ℕ, ◌&&◌, ◌+◌, ◌==◌, ◌∷◌, ◌≡◌, ◌≤◌}
-use Rattle.cdf_reindex.proofs.Common.{AllKeep, Allowance, Allowances, Avoids, Field, Found, Good, In, IsRebuilt, Only, StandsAmong, VariableShape, Within, gave, is_taken, levels_up, nat_le, nodes_of, owned, reindex_changes, shape, size_at, uir_next_uir, uir_prev_uir, uir_type, vdr_vxr_head, vdr_vxr_tail, vxr_bytes}
+use Rattle.cdf_reindex.proofs.Common.{AllKeep, Allowance, Allowances, Avoids, Field, Found, Good, In, IsRebuilt, Only, Range, StandsAmong, VariableShape, Within, by_range, descriptor_allowed, gave, index_keeps, is_taken, levels_up, listed_free, nat_le, nat_lt, node_allowed, nodes_of, only_of, owned, range_at, reindex_changes, same_as_itself, same_kind, shape, size_at, taking_all, uir_next_uir, uir_prev_uir, uir_type, unlisted_away, vdr_type, vdr_vxr_head, vdr_vxr_tail, vxr_bytes}
 use Rattle.cdf_edits.proofs.Edits.OnlyTaken.{none_of_both}
-use Rattle.cdf_edits.proofs.Edits.TakenAll.{listed_free, taking_all, unlisted_away}
-use Rattle.cdf_edits.proofs.Edits.VariableKept.{same_as_itself}
-use Rattle.cdf_edits.specs.Commands.Allowances.{only_of, range_at, same_kind, vdr_type}
-use Rattle.cdf_edits.specs.Index.Blocks.{Range}
-use Rattle.cdf_index.proofs.NewIndex.{index_keeps}
-use Rattle.cdf_index.proofs.OwnRecords.{by_range, descriptor_allowed, node_allowed}
 use Rattle.cdf_reindex.proofs.MadeActs.{acts}
 use Rattle.cdf_reindex.proofs.MadeEdit.{t}
 use Rattle.cdf_reindex.proofs.MadeFreed.{new_index}
 use Rattle.cdf_reindex.proofs.MadeTaken.{node_takes}
-use Rattle.std.specs.Prelude.{nat_lt}
 
 abbrev head_fields : List Field
 head_fields = vdr_vxr_head ∷ vdr_vxr_tail ∷ []

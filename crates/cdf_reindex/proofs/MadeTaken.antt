@@ -1,14 +1,6 @@
 -- The nodes of a new index are taken one after the other: one edit, and acts that follow.
 use Rattle.std.proofs.Common.{List, [], ap, arith, inl, inr, length, map, refl, subst, sym, ℕ, ◌∙◌, ◌∷◌, ◌≡◌}
-use Rattle.cdf_reindex.proofs.Common.{Act, AllTaken, Each, Each-split, Good, In, IsSound, Kind, R, StandsAmong, VariableShape, Z, eof, filled_size, good_by_its_shape, good_is_sound, kept, place_in, shape, shapes_of, size_kept, type_kept, variables, vxr_bytes, vxr_type}
-use Rattle.cdf_edits.proofs.Edits.RecordPlaced.{NodeStands, placed_grows}
-use Rattle.cdf_edits.proofs.Edits.TakenAll.{TakenAll, none_taken, taken_then}
-use Rattle.cdf_edits.proofs.Edits.VariableKinds.{of_kind}
-use Rattle.cdf_edits.proofs.Rules.WithoutLinks.{eof_by_rules}
-use Rattle.cdf_edits.specs.Space.Acts.{Took}
-use Rattle.cdf_edits.specs.Space.Placement.{with_space}
-use Rattle.cdf_format.proofs.GoodSound.{rules_of_good}
-use Rattle.cdf_format.proofs.SealedRules.{good_long, sealed_kept}
+use Rattle.cdf_reindex.proofs.Common.{Act, AllTaken, Each, Each-split, Good, In, IsSound, Kind, NodeStands, R, StandsAmong, TakenAll, Took, VariableShape, Z, eof, eof_by_rules, filled_size, good_by_its_shape, good_is_sound, good_long, kept, none_taken, of_kind, place_in, placed_grows, rules_of_good, sealed_kept, shape, shapes_of, size_kept, taken_then, type_kept, variables, vxr_bytes, vxr_type, with_space}
 
 abbrev pub node_takes : List ℕ → List Act
 node_takes places = map (λ vxr. Took vxr (vxr_bytes 64)) places

@@ -1,10 +1,6 @@
 -- A record that was taken becomes a node.
-use Rattle.std.proofs.Common.{◌≡◌, ℕ, List, length}
-use Rattle.cdf_reindex.proofs.Common.{content, eof, gdr_offset, shape, IsSound, NodeMade, Entry}
-use Rattle.cdf_edits.proofs.Edits.RecordGrown.{ends}
-use Rattle.cdf_edits.specs.Space.Placement.{Takes}
-use Rattle.cdf_index.specs.Writing.{NodeWritten}
-use Rattle.cdf_index.proofs.NodeFilled.{fills, node_short}
+use Rattle.std.proofs.Common.{List, length, ℕ, ◌≡◌}
+use Rattle.cdf_reindex.proofs.Common.{Entry, IsSound, NodeMade, NodeWritten, Takes, content, ends, eof, fills, gdr_offset, node_short, shape}
 
 module _ (b taken : List ℕ) (place : ℕ) (sound : IsSound b (shape b)) (takes : Takes b taken (shape b) (shape taken) 1052 place) (sound_taken : IsSound taken (shape taken)) (stays : content taken ≡ content b) (now : List ℕ) (entries : List Entry) (w : NodeWritten taken now place 64 0 entries) where
   pub node_made : NodeMade b now entries place

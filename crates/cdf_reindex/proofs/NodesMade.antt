@@ -1,10 +1,7 @@
 -- New nodes stand in the image, with none behind them, and with -1 in the entries that are not used.
 use Rattle.std.proofs.Common.{List, [], arith, inl, inr, length, refl, subst, sym, ℕ, ◌*◌, ◌+◌, ◌<◌, ◌∙◌, ◌∷◌, ◌≡◌, ◌≤◌}
-use Rattle.cdf_reindex.proofs.Common.{AllMade, AllTaken, Each, Entry, In, IsBare, IsSound, Kept, NewNode, NodeMade, SameHeads, SaysEntry, entry_count, entry_in, eof, filled_size, kept, linkable-from, no_node, node_fits_kept, number_kept, place_in, places_of, shape, size_at, used_count, vxr_n_used_entries, vxr_type, words_of}
-use Rattle.cdf_edits.proofs.Edits.RecordPlaced.{placed_grows}
-use Rattle.cdf_edits.proofs.Frame.LinksStay.{entry_same, node_kept, room_same, used_same}
-use Rattle.cdf_format.proofs.BytesLemmas.{next_kept}
-use Rattle.cdf_format.specs.IndexOf.{SaysNode}
+use Rattle.cdf_reindex.proofs.Common.{AllMade, AllTaken, Each, Entry, In, IsBare, IsSound, Kept, NewNode, NodeMade, SameHeads, SaysEntry, SaysNode, entry_count, entry_in, entry_same, eof, filled_size, kept, linkable-from, next_kept, no_node, node_fits_kept, node_kept, number_kept, place_in, placed_grows, places_of, room_same, shape, size_at, used_same, vxr_n_used_entries, vxr_type, words_of}
+use Rattle.cdf_format.specs.Index.{used_count}
 use Rattle.cdf_index.proofs.OneNode.{entry_past, one_head}
 use Rattle.cdf_index.proofs.WayDown.{made}
 use Rattle.cdf_reindex.proofs.MadeTaken.{all_taken}

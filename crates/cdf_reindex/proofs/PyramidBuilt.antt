@@ -1,21 +1,18 @@
 -- The levels that code made, as a tree that stands in the image.
 use Rattle.std.proofs.Common.{List, [], ap, arith, inl, length, map, refl, subst, suc, sym, ℕ, ◌+◌, ◌<◌, ◌^◌, ◌∙◌, ◌∷◌, ◌≡◌, ◌≤◌}
-use Rattle.cdf_reindex.proofs.Common.{AllTaken, AreLevels, Each, Each-append, Filled, Good, HasVariable, IndexMade, IsBare, IsBuilt, IsPyramid, IsSound, Kind, Leaf, NewNode, Nodes, PyramidMade, StandsAmong, VariableShape, alone, entries_for, from_below, good_is_sound, leaf_words, link_to, no_node, places_of, record_number_limit, shape, times}
+use Rattle.cdf_reindex.proofs.Common.{AllTaken, AreLevels, Each, Each-append, Filled, Good, HasVariable, IndexMade, IsBare, IsBuilt, IsPyramid, IsSound, Kind, Leaf, NewNode, Nodes, PyramidMade, StandsAmong, VariableShape, alone, each, entries_for, from_below, good_is_sound, leaf_words, leaves_named, length-map, link_to, no_node, places_of, record_number_limit, shape, times}
 use Rattle.cdf_edits.proofs.Edits.LeafRecords.{Ascending}
-use Rattle.cdf_edits.proofs.Space.ActsLeave.{each}
 use Rattle.cdf_edits.specs.Commands.Reindex.{AreTight, EntriesTight, nodes_at}
+use Rattle.cdf_edits.specs.Commands.Room.{nodes_above}
 use Rattle.cdf_format.specs.Index.{leaves_of, nodes_of}
 use Rattle.cdf_format.specs.IndexOf.{HasNodes}
 use Rattle.cdf_index.proofs.LeavesAscend.{leaves_ascend}
-use Rattle.cdf_index.proofs.PlainBlocks.{leaves_named}
 use Rattle.cdf_index.specs.Order.{AreInOrder, InOrder, NextsAreZero}
 use Rattle.cdf_reindex.proofs.LevelSteps.{all_longest}
 use Rattle.cdf_reindex.proofs.Levels.{in_by_times, lengths_add, makes_pyramid, nodes_are, times_add}
 use Rattle.cdf_reindex.proofs.MadeTaken.{all_taken, among_space, end_before, own_of}
 use Rattle.cdf_reindex.proofs.NodesMade.{IsSmall, all_stand, bare_at, nodes_taken}
 use Rattle.cdf_reindex.proofs.PyramidStands.{has_pyramid}
-use Rattle.std.proofs.lemmas.List.{length-map}
-use Rattle.cdf_edits.specs.Commands.Room.{nodes_above}
 
 -- ---- leaves in order are few
 

@@ -1,19 +1,15 @@
 -- What a good image gives for the calls by which the index of one of its variables is made anew, and what they come to.
 use Rattle.std.proofs.Common.{List, [], ap, arith, inl, inr, length, map, refl, subst, sym, ℕ, ◌*◌, ◌+◌, ◌<◌, ◌^◌, ◌∙◌, ◌≡◌, ◌≤◌}
-use Rattle.cdf_reindex.proofs.Common.{AllGiven, AreFree, Entry, Good, In, IndexMade, IsNode, IsRebuilt, IsSound, Kind, LiesIn, Nodes, Reindexed, StandsAmong, VariableShape, good_by_its_shape, good_is_sound, heads_written, image_limit, index_of, leaves_of, nil_from_length, no_node, node, nodes_above, number, reindex_room, shape, variables, vdr_vxr_head, vdr_vxr_tail, vdrs, with_field}
-use Rattle.cdf_edits.proofs.Edits.VdrEdited.{name_room}
-use Rattle.cdf_edits.specs.Edits.Writes.{with_writes}
+use Rattle.cdf_reindex.proofs.Common.{AllGiven, AreFree, Entry, Good, In, IndexMade, IsNode, IsRebuilt, IsSound, Kind, LiesIn, Nodes, Reindexed, StandsAmong, VariableShape, good_by_its_shape, good_is_sound, heads_written, image_limit, index_of, leaf_words, leaves_of, length-map, name_room, nil_from_length, no_node, node, nodes_above, number, reindex_room, shape, variables, vdr_vxr_head, vdr_vxr_tail, vdrs, with_field, with_writes}
 use Rattle.cdf_format.proofs.GoodImageLemmas.{good_image}
+use Rattle.cdf_format.specs.Index.{nodes_of}
 use Rattle.cdf_index.proofs.GoodIndex.{good_index}
 use Rattle.cdf_index.proofs.OneVariable.{OneOf, among_all, one_of}
 use Rattle.cdf_index.specs.Finding.{HasIndex, index_at}
-use Rattle.cdf_index.specs.Whole.{leaf_words}
 use Rattle.cdf_reindex.proofs.MadeEdit.{head_lies, old_free, sound_linked, tail_lies}
+use Rattle.cdf_reindex.proofs.MadeFreed.{rebuilt}
 use Rattle.cdf_reindex.proofs.MadeGood.{reindexed_good}
 use Rattle.cdf_reindex.proofs.PyramidBuilt.{few_leaves, tree_made}
-use Rattle.std.proofs.lemmas.List.{length-map}
-use Rattle.cdf_format.specs.Index.{nodes_of}
-use Rattle.cdf_reindex.proofs.MadeFreed.{rebuilt}
 
 -- an index of no nodes
 no_nodes : (nodes : Nodes) → nodes_of nodes ≡ [] → nodes ≡ no_node

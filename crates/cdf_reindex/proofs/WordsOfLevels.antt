@@ -1,8 +1,6 @@
 -- Entries that are known by what they say.
 use Rattle.std.proofs.Common.{List, [], ap, arith, false, get_or, length, map, refl, suc, ℕ, ◌++◌, ◌+◌, ◌-◌, ◌<◌, ◌∙◌, ◌∷◌, ◌≡◌, ◌≤◌}
-use Rattle.cdf_reindex.proofs.Common.{Entries, Entry, Leaf, SaysEntry, block, entries_for, entry_count, entry_in, first_of, last_of, leaf_words, link_to, lower, naming, no_entry, words, words_of}
-use Rattle.cdf_edits.specs.Index.Grown.{with_both}
-use Rattle.cdf_format.specs.IndexOf.{SayEntries}
+use Rattle.cdf_reindex.proofs.Common.{Entries, Entry, Leaf, SayEntries, SaysEntry, block, entries_for, entry_count, entry_in, first_of, last_of, leaf_words, link_to, lower, naming, no_entry, with_both, words, words_of}
 
 pub length_words : (entries : Entries) → length (words_of entries) ≡ entry_count entries
 length_words no_entry = refl

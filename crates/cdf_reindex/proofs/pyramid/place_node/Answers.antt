@@ -1,6 +1,6 @@
 use Rattle.std.proofs.Common.{arith}
-use Rattle.cdf_index.proofs.NodeFilled.{has_room, taken_short, node_sound}
-use Rattle.cdf_reindex.proofs.NodePlacing.{node_made, node_eof}
+use Rattle.cdf_reindex.proofs.Common.{has_room, node_sound, taken_short}
+use Rattle.cdf_reindex.proofs.NodePlacing.{node_eof, node_made}
 use Rattle.cdf_reindex.proofs.pyramid.place_node.Goals as goal
 
 pub write_node-requires-clause-place : goal.write_node-requires-clause-place

@@ -1,6 +1,6 @@
-use Rattle.std.proofs.Common.{◌≡◌, ◌≤◌, ◌+◌, ℕ, [], ◌∷◌, ◌++◌, min, length, refl, sym, ap, subst, ◌∙◌, rules}
-use Rattle.cdf_reindex.proofs.Common.{length-append, nil_from_length, chunks_rest, edit_more, Entry}
-use Rattle.cdf_reindex.proofs.LevelSteps.{Goes, goes_start, goes_more, goes_last, room_one, room_more, chunk_few, chunk_some}
+use Rattle.std.proofs.Common.{[], ap, length, min, refl, rules, subst, sym, ℕ, ◌++◌, ◌+◌, ◌∙◌, ◌∷◌, ◌≡◌, ◌≤◌}
+use Rattle.cdf_reindex.proofs.Common.{Entry, chunks_rest, edit_more, length-append, nil_from_length}
+use Rattle.cdf_reindex.proofs.LevelSteps.{Goes, chunk_few, chunk_some, goes_last, goes_more, goes_start, room_more, room_one}
 use Rattle.cdf_reindex.proofs.pyramid.write_level.Goals as goal
 
 pub loop-node-init : goal.loop-node-init

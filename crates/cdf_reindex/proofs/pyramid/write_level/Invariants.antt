@@ -1,7 +1,5 @@
-use Rattle.std.proofs.Common.{◌≡◌, ◌≤◌, ◌+◌, ◌*◌, length}
-use Rattle.cdf_reindex.proofs.Common.{Entries, chunks_rest, quotient_up, eof, gdr_offset, shape, IsSound, words_of}
-use Rattle.std.specs.Slice.Iter.{chunks_size}
-use Rattle.cdf_area.specs.Calls.{Keeps}
+use Rattle.std.proofs.Common.{length, ◌*◌, ◌+◌, ◌≡◌, ◌≤◌}
+use Rattle.cdf_reindex.proofs.Common.{Entries, IsSound, Keeps, chunks_rest, chunks_size, eof, gdr_offset, quotient_up, shape, words_of}
 use Rattle.cdf_reindex.proofs.LevelSteps.{Goes}
 use Rattle.cdf_reindex.proofs.pyramid.write_level.Given as goal
 

@@ -1,6 +1,5 @@
-use Rattle.std.proofs.Common.{◌≡◌, ◌≤◌, List, length, map}
-use Rattle.cdf_reindex.proofs.Common.{Leaf, eof, gdr_offset, leaf_words, shape, IsSound, LevelsMade}
-use Rattle.cdf_area.specs.Calls.{Keeps}
+use Rattle.std.proofs.Common.{List, length, map, ◌≡◌, ◌≤◌}
+use Rattle.cdf_reindex.proofs.Common.{IsSound, Keeps, Leaf, LevelsMade, eof, gdr_offset, leaf_words, shape}
 use Rattle.cdf_reindex.proofs.pyramid.write_levels.Given as goal
 
 abbrev pub invariant-loop-alloc : goal.invariant-loop-alloc

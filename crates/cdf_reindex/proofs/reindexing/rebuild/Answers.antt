@@ -1,9 +1,8 @@
 use Rattle.std.proofs.Common.{arith}
-use Rattle.cdf_reindex.proofs.Common.{good_is_sound}
+use Rattle.cdf_reindex.proofs.Common.{good_is_sound, on_ok_weaker}
 use Rattle.cdf_format.proofs.GoodSound.{good_eof}
-use Rattle.cdf_reindex.proofs.ReindexCalls.{few, room, links, links_one}
+use Rattle.cdf_reindex.proofs.ReindexCalls.{few, links, links_one, room}
 use Rattle.cdf_reindex.proofs.reindexing.rebuild.Goals as goal
-use Rattle.std.proofs.lemmas.Result.{on_ok_weaker}
 
 pub write_index-requires-clause-sound : goal.write_index-requires-clause-sound
 write_index-requires-clause-sound g c = good_is_sound _ c.requires.good

@@ -1,8 +1,7 @@
-use Rattle.std.proofs.Common.{◌≡◌, ◌∙◌, length, eq-eqb, true≢false, sym, subst, arith, rules}
-use Rattle.cdf_reindex.proofs.Common.{Good, eqb-true}
+use Rattle.std.proofs.Common.{arith, eq-eqb, length, rules, subst, sym, true≢false, ◌∙◌, ◌≡◌}
+use Rattle.cdf_reindex.proofs.Common.{Good, eqb-true, on_ok_weaker}
 use Rattle.cdf_reindex.proofs.ReindexCalls.{good_again, has_index, head_there, nothing_done, reindexed}
 use Rattle.cdf_reindex.proofs.reindexing.reindex.Goals as goal
-use Rattle.std.proofs.lemmas.Result.{on_ok_weaker}
 
 pub overflow_add-vdr : goal.overflow_add-vdr
 overflow_add-vdr g c = omega (arith, head_there _ c.requires.good _ c.requires.vdr, c.requires.room, c.requires.limit)
