@@ -328,7 +328,7 @@ module _ (leaves : List Leaf) (top : NewNode) (more : List (List NewNode)) (l : 
     leaves_are = sym (append-nil (leaves_of (alone top))) ∙ p.leaves_are;
     filled = record {
       full = λ k. subst FullFromLeft (at k) (p.full k);
-      even = λ k. subst (λ (ps : List (ℕ × ℕ)). (ps ≡ []) ⊎ (length ps ≡ sum (map (λ pair. pair.1) (nodes_at k (alone top))))) (at (suc k)) (subst (λ (qs : List (ℕ × ℕ)). (nodes_below (suc k) (uppers (top ∷ [])) ≡ []) ⊎ (length (nodes_below (suc k) (uppers (top ∷ []))) ≡ sum (map (λ pair. pair.1) qs))) (at k) (p.even k));
+      even = λ k. subst (λ (T : Type 0). T) (λ i. (at (suc k) i ≡ []) ⊎ (length (at (suc k) i) ≡ sum (map (λ pair. pair.1) (at k i)))) (p.even k);
       tight = p.tight.1;
     };
     order = λ high o. ((parts_in_order 0 high top.entries no_entry (inner.order high o)).0, tt);

@@ -142,7 +142,9 @@ module _ {b made : List ℕ} {kind : Kind} {before : List VariableShape} {own : 
         (edit_under e (index_made_marks kind v (shape b).unused places nodes limit) (λ m type lo hi i is a. (a.0, (a.1.0, (a.1.1.0, (a.1.1.1.0, (a.1.1.1.1.0, (a.1.1.1.1.1.0, tt))))))))
 
     pub node_linked : (m : ℕ) → In m olds → Kept b linked m
-    node_linked m i = kept_then b made linked m (kept t.grows.edit m vxr_type (node_before m i) (node_typed m i) refl) (let k = kept t.grows.edit m vxr_type (node_before m i) (node_typed m i) refl in kept heads_edit m vxr_type (t.grows.edit.sub m (node_before m i)) (type_kept b made m k.same k.long ∙ node_typed m i) (tests [] 0).nodes_clear)
+    node_linked m i =
+        let k = kept t.grows.edit m vxr_type (node_before m i) (node_typed m i) refl in
+        kept_then b made linked m k (kept heads_edit m vxr_type (t.grows.edit.sub m (node_before m i)) (type_kept b made m k.same k.long ∙ node_typed m i) (tests [] 0).nodes_clear)
 
     pub old_linked : (m : ℕ) → In m olds → type_at linked m ≡ vxr_type
     old_linked m i = let k = node_linked m i in type_kept b linked m k.same k.long ∙ node_typed m i
@@ -173,8 +175,11 @@ module _ {b made : List ℕ} {kind : Kind} {before : List VariableShape} {own : 
       typed_now = λ m i.
           let size = same_heads.sizes m (taken.stand m i).inside ∙ (taken.stand m i).size_is in
           (ap is_record_type (new_linked m i), subst (λ (k : ℕ). fixed_size k ≤ size_at linked m) (sym (new_linked m i)) (omega arith));
-      unused_chain = subst (λ (g : ℕ). IsChain linked rs uir_type (number linked g gdr_uir_head) (shape made).unused) (ap (λ (y : Shape). y.gdr) t.grows.same_shape)
-          (chain_stays heads_edit uir_type _ _ (shape made).unused sound_made.has_shape.unused_chain (gdr_field sound_made heads_edit (tests [] 0).file_clear gdr_uir_head (tests [] 0).list_clear (omega arith)) (λ m i. away-avoids (heads_marks kind v) uir_type m 0 20 (unmarked-away (heads_marks kind v) uir_type m (tests [] 0).unused_clear)));
+      unused_chain =
+          let head = gdr_field sound_made heads_edit (tests [] 0).file_clear gdr_uir_head (tests [] 0).list_clear (omega arith) in
+          let away = λ (m : ℕ). unmarked-away (heads_marks kind v) uir_type m (tests [] 0).unused_clear in
+          subst (λ (g : ℕ). IsChain linked rs uir_type (number linked g gdr_uir_head) (shape made).unused) (ap (λ (y : Shape). y.gdr) t.grows.same_shape)
+          (chain_stays heads_edit uir_type _ _ (shape made).unused sound_made.has_shape.unused_chain head (λ m i. away-avoids (heads_marks kind v) uir_type m 0 20 (away m)));
       index_now = record {
         link_is = head_is;
         has_nodes = nodes_kept made linked rs rs same_heads 8 index x.stands (λ m i. new_kept m (in_places m i)) (λ m i. (Each-in (IsBare made) (nodes_of index) x.bare m i).fits)

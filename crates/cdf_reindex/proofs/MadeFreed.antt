@@ -56,10 +56,10 @@ module _ {b made linked : List ℕ} {kind : Kind} {before : List VariableShape} 
 
     pub gives_edit : Edit linked now rs (shape now).records (freeing_marks (vxr_type ∷ []) (shape made).unused os (length linked)) os
     gives_edit =
-        let r = linked_records in
-        let u = linked_unused in
-        let n = records_now in
-        subst (λ (ns : List ℕ). Edit linked now rs ns (freeing_marks (vxr_type ∷ []) (shape made).unused os (length linked)) os) (sym n) (subst (λ (us : List ℕ). Edit linked now rs rs (freeing_marks (vxr_type ∷ []) us os (length linked)) os) u (subst (λ (ns : List ℕ). Edit linked now ns ns (freeing_marks (vxr_type ∷ []) (shape linked).unused os (length linked)) os) r (all_given_edit linked now (vxr_type ∷ []) os whole may_free given)))
+        let all = all_given_edit linked now (vxr_type ∷ []) os whole may_free given in
+        let from = subst (λ (ns : List ℕ). Edit linked now ns ns (freeing_marks (vxr_type ∷ []) (shape linked).unused os (length linked)) os) linked_records all in
+        let list = subst (λ (us : List ℕ). Edit linked now rs rs (freeing_marks (vxr_type ∷ []) us os (length linked)) os) linked_unused from in
+        subst (λ (ns : List ℕ). Edit linked now rs ns (freeing_marks (vxr_type ∷ []) (shape made).unused os (length linked)) os) (sym records_now) list
 
     -- ---- the whole
 
@@ -84,8 +84,12 @@ module _ {b made linked : List ℕ} {kind : Kind} {before : List VariableShape} 
       tests = (tests good among x os (length linked)).tests;
       unspaced = refl;
       own_nodes = λ m i j. inl j;
-      typed_now = λ m i. let there : In m (shape now).records = elim (In-append m ps os i) [ inl j ↦ subst (In m) (sym records_now) ((taken good among x).stand m j).inside | inr j ↦ edit.sub m (node_before good among x m j) ] in (left.sound.has_shape.typed m there, left.sound.has_shape.fixed m there);
-      unused_chain = subst (λ (g : ℕ). IsChain now (shape now).records uir_type (number now g gdr_uir_head) (shape now).unused) (sym left.sound.has_shape.gdr_is ∙ gdr_place (good_is_sound b good) edit (tests good among x os (length linked)).tests.file_clear) left.sound.has_shape.unused_chain;
+      typed_now = λ m i.
+          let there : In m (shape now).records = elim (In-append m ps os i) [ inl j ↦ subst (In m) (sym records_now) ((taken good among x).stand m j).inside | inr j ↦ edit.sub m (node_before good among x m j) ] in
+          (left.sound.has_shape.typed m there, left.sound.has_shape.fixed m there);
+      unused_chain =
+          let gdr = sym left.sound.has_shape.gdr_is ∙ gdr_place (good_is_sound b good) edit (tests good among x os (length linked)).tests.file_clear in
+          subst (λ (g : ℕ). IsChain now (shape now).records uir_type (number now g gdr_uir_head) (shape now).unused) gdr left.sound.has_shape.unused_chain;
       index_now = stands_now;
     }
 

@@ -69,7 +69,9 @@ module _ {b now : List ℕ} {kind : Kind} {before : List VariableShape} {own : V
   index_ruled : Hold (index_rows now records' v r.index)
   index_ruled =
       let blocks = (Hold-split (nodes_rows b s.records (negsuc 0) (pos record_number_limit) own.index) (flat_map (leaf_rows b s.records v) (leaves_of own.index)) own_before.1).1 in
-      index_rules now records' v r.index (r.built.order (index_order b s.records v own.index own_before.1)) (node_room good among changed (Each-map (IsBare now) (NodeFits now) (λ m bare. bare.fits) (nodes_of r.index) r.bare) (Each-map (IsBare now) (Counts now) (λ m bare. subst (λ (n : ℕ). number now m vxr_n_used_entries ≤ n) (sym bare.room_is) bare.few) (nodes_of r.index) r.bare) short) (λ l i.
+      let fit = Each-map (IsBare now) (NodeFits now) (λ m bare. bare.fits) (nodes_of r.index) r.bare in
+      let count = Each-map (IsBare now) (Counts now) (λ m bare. subst (λ (n : ℕ). number now m vxr_n_used_entries ≤ n) (sym bare.room_is) bare.few) (nodes_of r.index) r.bare in
+      index_rules now records' v r.index (r.built.order (index_order b s.records v own.index own_before.1)) (node_room good among changed fit count short) (λ l i.
       leaves_on (file good among x) (stays good among x) s.records records' h.fixed (leaves_of own.index) stands_on blocks (fits good among).2 l (subst (λ ls. IsOneOf ls l) r.built.leaves_stay i))
 
   -- ---- the owners

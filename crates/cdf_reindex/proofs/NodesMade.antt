@@ -71,7 +71,12 @@ all_stand b now (new ∷ more) sound end small m =
     let edit = (all_taken m.0 now (places_of more) one.sound one.end_is (nodes_taken m.0 now more m.1.1)).all.grows.edit in
     let k = kept edit new.place vxr_type (place_in sound fills) fills.typed refl in
     let here = stands_once sound new small.0 m.1.0 in
-    let heads : SameHeads m.0 now (new.place ∷ []) (shape now).records = record { sizes = (one_head m.0 now new.place k).sizes; types = (one_head m.0 now new.place k).types; sub = λ x i. elim i [ inl q ↦ subst (λ (y : ℕ). In y (shape now).records) (sym q) (edit.sub new.place (place_in sound fills)) | inr none ↦ absurd none ] } in (
+    let one_kept = one_head m.0 now new.place k in
+    let heads : SameHeads m.0 now (new.place ∷ []) (shape now).records = record {
+      sizes = one_kept.sizes;
+      types = one_kept.types;
+      sub = λ x i. elim i [ inl q ↦ subst (λ (y : ℕ). In y (shape now).records) (sym q) (edit.sub new.place (place_in sound fills)) | inr none ↦ absurd none ];
+    } in (
       record { says = node_kept m.0 now (new.place ∷ []) (shape now).records heads new.place k here.bare.fits 64 new.entries no_node here.says; bare = bare_by m.0 now new.place k here.bare },
       all_stand m.0 now more one.sound one.end_is small.1 m.1.1,
     )
