@@ -1,7 +1,6 @@
 -- The dimensions that r variables share, as they are read.
-use Rattle.std.proofs.Common.{◌≡◌, ℕ, ◌+◌, ◌*◌, ◌≤◌, List, length, sym, ap, ◌∙◌, arith}
-use Rattle.cdf_var_records.proofs.Common.{cast_signed, w32, content, counted, word, words, gdr_offset, r_num_dims, shape, Good, cdr_fits, few_dimensions, good_is_sound, content_is, signed_limit, DataSet}
-use Rattle.cdf_format.proofs.GoodHead.{gdr_fits, sizes_fit}
+use Rattle.std.proofs.Common.{List, ap, arith, length, sym, ℕ, ◌*◌, ◌+◌, ◌∙◌, ◌≡◌, ◌≤◌}
+use Rattle.cdf_var_records.proofs.Common.{DataSet, Good, cast_signed, cdr_fits, content, content_is, counted, few_dimensions, gdr_fits, gdr_offset, good_is_sound, r_num_dims, shape, signed_limit, sizes_fit, w32, word, words}
 
 -- a small number that is read with its sign
 pub small_signed : (n : ℕ) → n ≤ signed_limit → counted (cast_signed w32 n) ≡ n

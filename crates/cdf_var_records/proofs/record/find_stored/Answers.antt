@@ -1,7 +1,7 @@
-use Rattle.std.proofs.Common.{◌≡◌, ◌+◌, ◌∙◌, ℕ, List, sym, ap, arith}
-use Rattle.cdf_var_records.proofs.Common.{IfOk-weaker, option_map, number, word, leaves_of, vdr_vxr_head, HasIndex, index_at, leaf_of, seen, leaf_in}
-use Rattle.std.proofs.Math.Path.{transport}
+use Rattle.std.proofs.Common.{List, ap, arith, sym, ℕ, ◌+◌, ◌∙◌, ◌≡◌}
+use Rattle.cdf_var_records.proofs.Common.{HasIndex, IfOk-weaker, index_at, leaf_in, leaf_of, leaves_of, number, option_map, seen, vdr_vxr_head, word}
 use Rattle.cdf_var_records.proofs.RecordReading.{before_max, past_max}
+use Rattle.std.proofs.Math.Path.{transport}
 use Rattle.cdf_var_records.proofs.record.find_stored.Goals as goal
 
 pub returns-then-rec-extent-clause-leaf : goal.returns-then-rec-extent-clause-leaf
