@@ -1,5 +1,5 @@
 use Rattle.std.proofs.Common.{ap, ℕ, ◌∙◌}
-use Rattle.cdf_var_records.proofs.Common.{count_in_block, has_bit, read_done, read_once}
+use Rattle.cdf_var_records.proofs.Common.{count_in_block, has_bit}
 use Rattle.cdf_var_records.proofs.RecordReading.{lies, record_size_is}
 use Rattle.cdf_var_records.proofs.put_room.read_block_count.Goals as goal
 
@@ -12,6 +12,3 @@ returns-clause-count g c =
     let wanted = c.in_ok-wanted.ensures.wanted in
     let size = c.record_size_of.ensures ∙ record_size_is c.requires.good c.requires.form in
     c.count_of.ensures.count ∙ (λ i. count_in_block (vary i) (wanted i) (size i))
-
-pub returns-clause-area : goal.returns-clause-area
-returns-clause-area g c = read_done (read_once c.in_ok-wanted.ensures.area)

@@ -1,5 +1,5 @@
 use Rattle.std.proofs.Common.{ap, arith, sym, ◌∙◌}
-use Rattle.cdf_var_records.proofs.Common.{read_done, read_once, turned}
+use Rattle.cdf_var_records.proofs.Common.{turned}
 use Rattle.cdf_var_records.proofs.RecordReading.{pad_is_inside, pad_whole, value_is_read}
 use Rattle.cdf_var_records.proofs.record.read_pad_value.Goals as goal
 
@@ -19,6 +19,3 @@ returns-clause-value g c =
     let e = c.value_size-size.ensures in
     c.in_network_order.ensures ∙ ap (turned c.args.form.now.place.t c.args.form.now.encoding.little) (rw e at c.in_ok-bytes.ensures.bytes)
     ∙ value_is_read c.requires.good c.requires.form (sym c.says_pad.ensures ∙ c.if-not-says_pad.false)
-
-pub returns-clause-area : goal.returns-clause-area
-returns-clause-area g c = read_done (read_once c.in_ok-bytes.ensures.area)
