@@ -1,6 +1,6 @@
 use Rattle.std.proofs.Common.{List, ap, arith, subst, sym, ◌∙◌}
 use Rattle.cdf_var_records.proofs.Common.{Good, block_count, blocks_room, variable_at}
-use Rattle.cdf_var_records.proofs.PutRoomNeeded.{first_within, head_lies, index_there, leaves_rise, nodes, room_there, size_there, v}
+use Rattle.cdf_var_records.proofs.PutRoomNeeded.{head_lies, index_there, leaves_rise, nodes, room_there, size_there, v}
 use Rattle.cdf_var_records.proofs.RecordReading.{record_size_is}
 use Rattle.cdf_var_records.proofs.put_room.read_put_room.Goals as goal
 
@@ -19,12 +19,6 @@ count_missing-requires-clause-index g c = index_there c.requires.good c.requires
 
 pub count_missing-requires-clause-order : goal.count_missing-requires-clause-order
 count_missing-requires-clause-order g c = leaves_rise c.requires.good c.requires.form c.args.rec c.read_unsigned8.ensures.area.image c.in_ok-head.ensures.value
-
-pub count_missing-requires-clause-more : goal.count_missing-requires-clause-more
-count_missing-requires-clause-more g c =
-    let e = c.requires.from in
-    let l = first_within (v c.requires.good c.requires.form c.args.rec) c.args.rec in
-    omega arith
 
 pub returns-then-missing-eq0-clause-room : goal.returns-then-missing-eq0-clause-room
 returns-then-missing-eq0-clause-room g c =

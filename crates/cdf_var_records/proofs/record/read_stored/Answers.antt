@@ -1,4 +1,4 @@
-use Rattle.std.proofs.Common.{List, ap, arith, length, subst, sym, ℕ, ◌-◌, ◌∙◌, ◌≡◌}
+use Rattle.std.proofs.Common.{List, ap, subst, sym, ℕ, ◌-◌, ◌∙◌, ◌≡◌}
 use Rattle.cdf_var_records.proofs.Common.{HoldsRecords, option_map, plain_bytes, record_bytes, record_in, seen}
 use Rattle.cdf_var_records.proofs.RecordReading.{holds, holds_from, holds_upto, index, leaf_has, lies, no_record, whole}
 use Rattle.cdf_var_records.proofs.record.read_stored.Goals as goal
@@ -22,9 +22,6 @@ read_rec-requires-clause-from g c = holds_from c.requires.good c.requires.form c
 
 pub read_rec-requires-clause-upto : goal.read_rec-requires-clause-upto
 read_rec-requires-clause-upto g c = holds_upto c.requires.good c.requires.form c.args.rec c.in-Some.leaf (ap (option_map seen) (sym c.in-Some.is) ∙ c.in_ok-found.ensures.leaf)
-
-pub read_rec-requires-clause-short : goal.read_rec-requires-clause-short
-read_rec-requires-clause-short g c = let same = ap (λ (x : List ℕ). length x) c.find_stored.ensures.area.image in let short = c.requires.short in omega arith
 
 pub in_network_order-requires : goal.in_network_order-requires
 in_network_order-requires g c =
