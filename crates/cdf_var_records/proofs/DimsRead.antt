@@ -19,17 +19,10 @@ module _ (b now : List ℕ) (good : Good b) (same : now ≡ b) (g : ℕ) (there 
     count_is =
         let at : n ≡ word b (gdr_offset b + 56) 4 = says ∙ (λ i. word (same i) (there i + 56) 4) in
         let small : word b (gdr_offset b + 56) 4 ≤ 10 = few_dimensions b good in
-        at ∙ sym (small_signed (word b (gdr_offset b + 56) 4) (within (word b (gdr_offset b + 56) 4) small))
-      where
-        within : (x : ℕ) → x ≤ 10 → x ≤ 2147483647
-        within x l = omega arith
+        at ∙ sym (small_signed (word b (gdr_offset b + 56) 4) (omega (arith, small)))
 
     pub sizes_lie : (later : List ℕ) → later ≡ b → g + 84 + 4 * n ≤ length later
-    sizes_lie later e =
-        let l = sizes_fit b good in
-        let c = count_is in
-        let k : length later ≡ length b = ap (λ (x : List ℕ). length x) e in
-        omega arith
+    sizes_lie later e = omega (arith, sizes_fit b good, count_is, ap length e)
 
     pub dims_are : (later : List ℕ) → later ≡ b → words later (g + 84) n ≡ (content b).rdims
     dims_are later e =

@@ -21,10 +21,7 @@ all_ranges v nodes r uncut = rw uncut refl
 room_is : (v : Variable) (nodes : Nodes) (r missing from : ℕ) → v.rle ≡ false → cuts_before_put v r ≡ false → from ≡ first_written v r → missing ≡ (r + 1 - from) - covered from r (ranges_of nodes) → put_room v nodes r ≡ blocks_room v nodes missing
 room_is v nodes r missing from loose uncut from_is missing_is =
     let few : uncovered v nodes r ≡ missing = (λ i. (r + 1 - sym from_is i) - covered (sym from_is i) r (all_ranges v nodes r uncut i)) ∙ sym missing_is in
-    ap₂ (λ (x y : ℕ). x + y) (ap (blocks_room v nodes) few) (no_packed v nodes r loose) ∙ nothing_more (blocks_room v nodes missing)
-  where
-    nothing_more : (n : ℕ) → n + 0 ≡ n
-    nothing_more n = omega arith
+    ap₂ (λ (x y : ℕ). x + y) (ap (blocks_room v nodes) few) (no_packed v nodes r loose) ∙ omega arith
 
 module _ {b : List ℕ} {form : Form} (good : Good b) (is : IsForm b form) (r : ℕ) where
   abbrev pub vdr : ℕ

@@ -66,10 +66,7 @@ module _ {b : List ℕ} {kind : Kind} {vdr : ℕ} (good : Good b) (v : IsVdr b k
   some_elements = let p = positive good v in subst (λ (n : ℕ). 1 ≤ n) (sym (small_signed (number b vdr vdr_num_elems) p.1)) p.0
 
   pub some_bytes : 1 ≤ value_bytes b vdr
-  some_bytes = product (size_of (type_of_variable b vdr)) (elems_at b vdr) (size_some (type_of_variable b vdr)) some_elements
-    where
-      product : (m n : ℕ) → 1 ≤ m → 1 ≤ n → 1 ≤ m * n
-      product m n p q = omega (arith, mul-le-mul_right n p)
+  some_bytes = omega (arith, mul-le-mul_right (elems_at b vdr) (size_some (type_of_variable b vdr)), some_elements)
 
   -- ---- its dimensions
 

@@ -8,10 +8,7 @@ use Rattle.cdf_var_records.proofs.RecordsRead.{by_leaf, holding, pad_by, pad_non
 
 -- a record has no more values than bytes
 pub values_fit : (shape : Shape) → IsRecordShape shape → value_count shape.dims shape.varys ≤ record_limit
-values_fit shape is = fit (size_of shape.t * shape.elems) (value_count shape.dims shape.varys) is.some is.fits
-  where
-    fit : (one count : ℕ) → 1 ≤ one → one * count ≤ record_limit → count ≤ record_limit
-    fit one count some le = omega (arith, mul-le-mul_right count some)
+values_fit shape is = omega (arith, mul-le-mul_right (value_count shape.dims shape.varys) is.some, is.fits)
 
 -- elements that were turned in place
 pub turned_in_place : (t : DataType) (little : Bool) (n : ℕ) (bytes now : List ℕ) → length bytes % size_of t ≡ 0 → n ≡ length bytes → now ≡ turned t little bytes → take n (now ++ drop (length now) bytes) ≡ turned t little bytes

@@ -1,11 +1,10 @@
 -- What a record of a variable of a good image reads as, and how long it is.
 use Rattle.std.proofs.Common.{Bool, List, None, Option, Some, ap, arith, drop, false, inl, inr, length, refl, sym, take, true, ℕ, ◌%◌, ◌*◌, ◌+◌, ◌-◌, ◌∙◌, ◌≡◌, ◌≤◌}
-use Rattle.cdf_var_records.proofs.Common.{Byte, DataType, Good, HoldsRecords, IsVdr, Kind, Leaf, NoRule, Nodes, Variable, default_element, default_value, dimensions_at, dims_at, either, elems_at, extent, field_bytes, good_is_sound, has_pad, if◌then◌else◌, index_at, is_little, is_z, item_at, leaf_in, leaf_of, leaves_of, length-repeat, max_rec_at, missing, mul-le-mul_right, nat_lt, network_bytes, number, number_read, option_map, pad_field, pad_record, pad_value, pad_width, plain_bytes, read, read_at, record_bytes, record_in, record_of_leaf, seen, shape, size_of, size_stays, type_of_variable, unwrap_or, value_bytes, value_count, variable_at, varys_at, vdr_vxr_head, whole_elements}
+use Rattle.cdf_var_records.proofs.Common.{DataType, Good, HoldsRecords, IsVdr, Kind, Leaf, NoRule, Nodes, Variable, default_element, default_value, dimensions_at, dims_at, either, elems_at, extent, field_bytes, good_is_sound, has_pad, if◌then◌else◌, index_at, is_little, is_z, item_at, leaf_in, leaf_of, leaves_of, length-repeat, max_rec_at, missing, mul-le-mul_right, nat_lt, network_bytes, number, number_read, option_map, pad_field, pad_record, pad_value, pad_width, plain_bytes, read, read_at, record_bytes, record_in, record_of_leaf, seen, shape, size_of, size_stays, type_of_variable, unwrap_or, value_bytes, value_count, variable_at, varys_at, vdr_vxr_head, whole_elements}
 use Rattle.cdf_index.proofs.GoodBlock.{good_block}
 use Rattle.cdf_index.proofs.PlainBlocks.{plain_block}
 use Rattle.cdf_index.proofs.RecordRead.{record_is}
 use Rattle.cdf_index.proofs.StoredRecords.{stored_record}
-use Rattle.cdf_model.specs.declared.data_type.DataType.TheVariants.{Char, Double, Epoch, Epoch16, Float, Int1, Int2, Int4, Int8, Real4, Real8, TimeTt2000, UChar, UInt1, UInt2, UInt4}
 use Rattle.cdf_model.specs.declared.kinds.Sparse.{Sparse}
 use Rattle.cdf_var_records.proofs.RecordForms.{among, image, index_is, pad_lies, variable_is, without_rule}
 use Rattle.cdf_var_records.proofs.VdrParts.{own}
@@ -22,23 +21,7 @@ plain_read v r none past = elim (either (nat_lt r (extent v.max_rec))) [
 ]
 
 element_long : (t : DataType) → length (default_element t) ≡ size_of t
-element_long Int1 = refl
-element_long Int2 = refl
-element_long Int4 = refl
-element_long Int8 = refl
-element_long UInt1 = refl
-element_long UInt2 = refl
-element_long UInt4 = refl
-element_long Real4 = refl
-element_long Real8 = refl
-element_long Epoch = refl
-element_long Epoch16 = refl
-element_long TimeTt2000 = refl
-element_long Byte = refl
-element_long Float = refl
-element_long Double = refl
-element_long Char = refl
-element_long UChar = refl
+element_long t = grind arith
 
 default_long : (t : DataType) (elems : ℕ) → length (default_value t elems) ≡ size_of t * elems
 default_long t elems = length-repeat elems (default_element t) ∙ (let e = element_long t in ap (λ (n : ℕ). elems * n) e ∙ omega arith)
@@ -97,14 +80,9 @@ module _ {b : List ℕ} {kind : Kind} {vdr : ℕ} (good : Good b) (v : IsVdr b k
     stored_long =
         let size = record_bytes b vdr in
         let k = rec - leaf.first in
-        let h = holding.0 in
-        let from = holding.1 in
-        let upto = holding.2 in
-        let there : k + 1 ≤ leaf.last + 1 - leaf.first = omega arith in
-        let room = mul-le-mul_right size there in
-        let inside = h.inside in
-        let ends : leaf.at + (12 + k * size) + size ≤ length b = omega arith in
-        ap length (sym (record_is b leaf size rec vdr h from upto refl)) ∙ piece_long b (leaf.at + (12 + k * size)) size ends
+        let h = holding in
+        let there : k + 1 ≤ leaf.last + 1 - leaf.first = omega (arith, h.1, h.2) in
+        ap length (sym (record_is b leaf size rec vdr h.0 h.1 h.2 refl)) ∙ piece_long b (leaf.at + (12 + k * size)) size (omega (arith, mul-le-mul_right size there, h.0.inside))
 
     pub stored_whole : length stored % size_of (type_of_variable b vdr) ≡ 0
     stored_whole =
