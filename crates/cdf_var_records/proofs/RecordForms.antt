@@ -83,12 +83,8 @@ module _ {b : List ℕ} {kind : Kind} {vdr : ℕ} (good : Good b) (v : IsVdr b k
   pub pad_lies : has_pad b vdr ≡ true → vdr + (pad_field b vdr).place + value_bytes b vdr ≤ length b
   pad_lies has =
       let high = (tile_lies b 8 (length b) (shape b).records vdr (sound good (at good v)).has_shape.tiled (tile good (at good v))).high in
-      let room : (pad_field b vdr).place + value_bytes b vdr ≤ size_at b vdr = with_pad (has_pad b vdr) (pad_field b vdr).place (value_bytes b vdr) (size_at b vdr) has (fits good (at good v)).0 in
+      let room : (pad_field b vdr).place + value_bytes b vdr ≤ size_at b vdr = rw has at (fits good (at good v)).0 in
       omega arith
-    where
-      with_pad : (p : Bool) (place n size : ℕ) → p ≡ true → place + (if p then n else 0) ≤ size → place + n ≤ size
-      with_pad true place n size e le = le
-      with_pad false place n size e le = absurd (cc e)
 
 -- ---- of a z variable
 
@@ -147,7 +143,7 @@ module _ {b : List ℕ} {kind : Kind} {vdr : ℕ} (good : Good b) (v : IsVdr b k
   varys_before = let e = ends in omega arith
 
   pub varys_inside : vdr + (p.at - 4 * count) + 4 * count ≤ length b
-  varys_inside = let e = ends in let l = varys_lie good v in let a = place.at_is in omega arith
+  varys_inside = omega (arith, ends, varys_lie good v, place.at_is)
 
   pub varys_read : map (λ n. not (n == 0)) (words b (vdr + (p.at - 4 * count)) count) ≡ varys_at b vdr
   varys_read =

@@ -38,12 +38,7 @@ module _ {b : List ℕ} {form : Form} (good : Good b) (f : IsForm b form) where
   value_size_is = ap₂ (λ (t : DataType) (n : ℕ). size_of t * n) t_here elems_here
 
   pub record_size_is : record_size form.shape.t form.shape.elems form.shape.dims form.shape.varys ≡ record_bytes b vdr
-  record_size_is =
-      let t = t_here in
-      let n = elems_here in
-      let d = f.dims_are in
-      let w = f.varys_are in
-      λ i. record_size (t i) (n i) (d i) (w i)
+  record_size_is = λ i. record_size (t_here i) (elems_here i) (f.dims_are i) (f.varys_are i)
 
   -- ---- the pad value
 
@@ -57,7 +52,7 @@ module _ {b : List ℕ} {form : Form} (good : Good b) (f : IsForm b form) where
     some = ap (λ (n : ℕ). has_bit n 1) (sym f.place.flags_are) ∙ has
 
     pub pad_is_inside : vdr + form.place.at + size_of form.shape.t * form.shape.elems ≤ length b
-    pad_is_inside = let l = pad_lies good f.is_vdr some in let s = value_size_is in let p = f.place.at_is in omega arith
+    pad_is_inside = omega (arith, pad_lies good f.is_vdr some, value_size_is, f.place.at_is)
 
     -- it has whole elements
     pub pad_whole : (bytes : List ℕ) → bytes ≡ take (size_of form.shape.t * form.shape.elems) (drop (vdr + form.place.at) b) → length bytes % size_of form.place.t ≡ 0
@@ -115,11 +110,7 @@ module _ {b : List ℕ} {form : Form} (good : Good b) (f : IsForm b form) where
         whole = subst (λ (t : DataType). length bytes % size_of t ≡ 0) (sym f.place.t_is) (ap (λ (xs : List ℕ). length xs % size_of (type_of_variable b vdr)) is_stored ∙ stored_whole good f.is_vdr rec leaf (sym found))
 
         pub leaf_has : (now : List ℕ) → now ≡ turned form.place.t form.encoding.little bytes → Some now ≡ item_at rec variable.recs
-        leaf_has now turns =
-            let t = f.place.t_is in
-            let o = f.order in
-            let e = is_stored in
-            ap Some turns ∙ (λ i. Some (turned (t i) (o i) (e i))) ∙ ap (option_map (record_of_leaf b vdr rec)) found ∙ sym (by_leaf good f.is_vdr rec)
+        leaf_has now turns = ap Some turns ∙ (λ i. Some (turned (f.place.t_is i) (f.order i) (is_stored i))) ∙ ap (option_map (record_of_leaf b vdr rec)) found ∙ sym (by_leaf good f.is_vdr rec)
 
   -- ---- a record as it reads
 

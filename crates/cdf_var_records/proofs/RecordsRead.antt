@@ -27,12 +27,10 @@ default_long : (t : DataType) (elems : ℕ) → length (default_value t elems) �
 default_long t elems = length-repeat elems (default_element t) ∙ (let e = element_long t in ap (λ (n : ℕ). elems * n) e ∙ omega arith)
 
 pub pad_by : (p : Bool) (bytes other : List ℕ) → p ≡ true → unwrap_or (if p then Some bytes else None) other ≡ bytes
-pad_by true bytes other e = refl
-pad_by false bytes other e = absurd (cc e)
+pad_by p bytes other e = rw e refl
 
 pub pad_none : (p : Bool) (bytes other : List ℕ) → p ≡ false → unwrap_or (if p then Some bytes else None) other ≡ other
-pad_none true bytes other e = absurd (cc e)
-pad_none false bytes other e = refl
+pad_none p bytes other e = rw e refl
 
 map_if : {A B : Type 0} (p : Bool) (f : A → B) (o : Option A) → (if p then option_map f o else None) ≡ option_map f (if p then o else None)
 map_if true f o = refl
