@@ -1,6 +1,6 @@
 -- Levels make an index of their leaves: what the entries that name the nodes of a level have of those in them, and what holds of all levels.
 use Rattle.std.proofs.Common.{List, None, Option, Some, [], ap, append-nil, append_assoc, ap₂, arith, eqb, inl, inr, length, map, refl, subst, suc, sym, zero, ℕ, ◌*◌, ◌++◌, ◌+◌, ◌∙◌, ◌∷◌, ◌≡◌, ◌≤◌, ◌⊎◌}
-use Rattle.cdf_reindex.proofs.Common.{AreLevels, Distinct, Entries, Filled, FullFromLeft, In, Leaf, MakesPyramid, NewNode, Spans, alone, block, cases_lt, count_both, either, entries_for, entries_of, entry_count, eqb-true, false-is_in, first_of, from_below, is_in, last_of, length-append, length-map, levels_up, lower, lower_both, map-append, no_entry, nodes_left, option_map, places_of, quotient_up, slice_get, sum, times, times-append, times-in, times-none, times-once, true-is_in, uppers, with_both}
+use Rattle.cdf_reindex.proofs.Common.{AreLevels, Distinct, Entries, Filled, FullFromLeft, In, Leaf, MakesPyramid, NewNode, Spans, alone, block, cases_lt, count_both, either, entries_for, entries_of, entry_count, eqb-true, false-is_in, first_of, from_below, is_in, last_of, length-append, length-map, levels_up, lower, lower_both, map-append, no_entry, nodes_left, option_map, places_of, quotient_up, slice_get, sum, times, times-append, times-in, times-none, times-once, true-is_in, uppers, with_both, nat_tests}
 use Rattle.cdf_edits.specs.Commands.Reindex.{AreTight, EntriesTight, nodes_at, nodes_below}
 use Rattle.cdf_edits.specs.Commands.Room.{nodes_above}
 use Rattle.cdf_format.specs.Index.{entry_leaves, leaves_of, lower_nodes, nodes_of}
@@ -276,17 +276,10 @@ few_levels leaves level (below ∷ more) l few = let r = few_levels leaves below
 
 pub above_is : (k n : ℕ) → 1 ≤ n → nodes_above (suc k) n ≡ quotient_up n 64 + nodes_left k (quotient_up n 64)
 unfolding nodes_above
-above_is k zero some = absurd (omega arith)
-above_is k (suc n) some = elim (either (eqb (quotient_up (suc n) 64) 1)) [
-  | inl one ↦ let e = eqb-true (quotient_up (suc n) 64) 1 one in rw one (omega (arith, e))
-  | inr other ↦ rw other refl
-]
+above_is k n some = grind (arith, nat_tests)
 
 pub left_more : (k n : ℕ) → 2 ≤ n → nodes_left k n ≡ nodes_above k n
-left_more k n some = elim (either (eqb n 1)) [
-  | inl one ↦ let e = eqb-true n 1 one in absurd (omega (arith, e))
-  | inr other ↦ rw other refl
-]
+left_more k n some = grind (arith, nat_tests)
 
 pub total_is : (leaves : List Leaf) (level : List NewNode) (more : List (List NewNode)) (m k : ℕ) → m ≡ k + length (level ∷ more) → 1 ≤ length leaves → AreLevels leaves (level ∷ more)
     → nodes_above m (length leaves) ≡ length (from_below (level ∷ more)) + nodes_left k (length level)
