@@ -40,3 +40,4 @@ pub use Rattle.cdf_reindex.specs.Reindexing.{IndexMade, index_of}
 pub use Rattle.std.proofs.lemmas.List.{nil_from_length}
 pub use Rattle.std.proofs.lemmas.Result.{on_ok_weaker}
 pub use Rattle.std.specs.Slice.Iter.{chunks_rest, chunks_size}
+pub use Rattle.std.proofs.lemmas.List.Sums.{sum_by-cons}

@@ -1,12 +1,11 @@
 -- Levels make an index of their leaves: what the entries that name the nodes of a level have of those in them, and what holds of all levels.
-use Rattle.std.proofs.Common.{List, None, Option, Some, [], ap, append-nil, append_assoc, ap₂, arith, eqb, inl, inr, length, map, refl, subst, suc, sym, zero, ℕ, ◌*◌, ◌++◌, ◌+◌, ◌∙◌, ◌∷◌, ◌≡◌, ◌≤◌, ◌⊎◌}
-use Rattle.cdf_reindex.proofs.Common.{AreLevels, Distinct, Entries, Filled, FullFromLeft, In, Leaf, MakesPyramid, NewNode, Spans, alone, block, cases_lt, count_both, either, entries_for, entries_of, entry_count, eqb-true, false-is_in, first_of, from_below, is_in, last_of, length-append, length-map, levels_up, lower, lower_both, map-append, no_entry, nodes_left, option_map, places_of, quotient_up, slice_get, sum, times, times-append, times-in, times-none, times-once, true-is_in, uppers, with_both, nat_tests}
+use Rattle.std.proofs.Common.{List, None, Option, Some, [], ap, append-nil, append_assoc, ap₂, arith, inl, inr, length, map, refl, subst, suc, sym, zero, ℕ, ◌*◌, ◌++◌, ◌+◌, ◌∙◌, ◌∷◌, ◌≡◌, ◌≤◌, ◌⊎◌}
+use Rattle.cdf_reindex.proofs.Common.{AreLevels, Distinct, Entries, Filled, FullFromLeft, In, Leaf, MakesPyramid, NewNode, Spans, alone, block, cases_lt, count_both, either, entries_for, entries_of, entry_count, false-is_in, first_of, from_below, is_in, last_of, length-append, length-map, levels_up, lower, lower_both, map-append, no_entry, nodes_left, option_map, places_of, quotient_up, slice_get, sum, times, times-append, times-in, times-none, times-once, true-is_in, uppers, with_both, nat_tests, sum_by-cons}
 use Rattle.cdf_edits.specs.Commands.Reindex.{AreTight, EntriesTight, nodes_at, nodes_below}
 use Rattle.cdf_edits.specs.Commands.Room.{nodes_above}
 use Rattle.cdf_format.specs.Index.{entry_leaves, leaves_of, lower_nodes, nodes_of}
 use Rattle.cdf_index.proofs.LeafMore.{leaves_both, parts_in_order}
 use Rattle.cdf_index.specs.Order.{AreInOrder, InOrder, LowerAreZero, NextsAreZero, past_entries}
-use Rattle.std.proofs.lemmas.List.Sums.{sum_by-cons}
 use Rattle.std.specs.List.{last_or}
 
 -- what counts a list by its parts

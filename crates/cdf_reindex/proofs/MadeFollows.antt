@@ -1,6 +1,6 @@
 -- An index made anew follows `reindex`.
 use Rattle.std.proofs.Common.{Bool, List, None, Option, Some, [], ap, arith, false, if◌then◌else◌, inl, inr, length, map, refl, subst, sym, true, true≢false, ℕ, ◌++◌, ◌+◌, ◌<◌, ◌∙◌, ◌∷◌, ◌≡◌, ◌≢◌, ◌≤◌}
-use Rattle.cdf_reindex.proofs.Common.{Act, AllKeep, Allowances, AreTiles, ByStep, DataSet, Each-map, Follows, Found, FreedStay, GivenStay, Go, Good, In, IsBare, IsNode, IsRebuilt, Kind, MakesIndex, NodeSpareStays, Nodes, NodesFollow, Reindexed, Same, StandsAmong, TailFollows, UnusedEntries, VariableShape, allowances, apart, content, each, freed_stay, gave, gdr_type, gdr_typed, got-middle, image_limit, is_in-true, is_taken_at, last_node, levels_up, links_end, made_acts, next_of, no_fields, no_node, node, number, owned, reindex_changes, reindex_room, room, room_at, same_Some, shape, shapes_of, size_at, sizes_by_tiles, slice_get, stays_all, sum, taken, top_stays, type_at, variable_named, vdr_vxr_tail, vdrs, vxr_bytes, vxr_type, with_index}
+use Rattle.cdf_reindex.proofs.Common.{Act, AllKeep, Allowances, AreTiles, ByStep, DataSet, Each-map, Follows, Found, FreedStay, GivenStay, Go, Good, In, IsBare, IsNode, IsRebuilt, Kind, MakesIndex, NodeSpareStays, Nodes, NodesFollow, Reindexed, Same, StandsAmong, TailFollows, UnusedEntries, VariableShape, allowances, apart, content, each, freed_stay, gave, gdr_type, gdr_typed, got-middle, image_limit, is_in-true, is_taken_at, last_node, levels_up, links_end, made_acts, next_of, no_fields, no_node, node, number, owned, reindex_changes, reindex_room, room, room_at, same_Some, shape, shapes_of, size_at, sizes_by_tiles, slice_get, stays_all, sum, taken, top_stays, type_at, variable_named, vdr_vxr_tail, vdrs, vxr_type, with_index}
 use Rattle.cdf_edits.proofs.Commands.ReadingFollows.{staying_follows}
 use Rattle.cdf_edits.specs.Commands.Named.{OfVariable}
 use Rattle.cdf_edits.specs.Commands.Reindex.{nodes_at}
@@ -8,7 +8,7 @@ use Rattle.cdf_edits.specs.Commands.Room.{nodes_above}
 use Rattle.cdf_format.specs.Index.{leaves_of, nodes_of}
 use Rattle.cdf_model.specs.VariableSteps.{reindex_step}
 use Rattle.cdf_reindex.proofs.Levels.{in_by_times}
-use Rattle.cdf_reindex.proofs.MadeActs.{made_follow, same_size, taken_nodes, taken_within}
+use Rattle.cdf_reindex.proofs.MadeActs.{made_follow, same_size, taken_places, taken_within}
 use Rattle.cdf_reindex.proofs.MadeEdit.{heads_edit, node_linked, old_linked}
 use Rattle.cdf_reindex.proofs.MadeFreed.{edit, gives_edit, left, may_free, records_now}
 use Rattle.cdf_reindex.proofs.MadeGood.{among_now, good_now, vdrs_stay}
@@ -28,12 +28,8 @@ got_at before own after at was = (λ i. slice_get (was i) (at i)) ∙ got-middle
 
 -- ---- the nodes that were taken
 
-places_taken : (new : List ℕ) → map (λ (take : ℕ × ℕ). take.0) (map (λ place. (place, vxr_bytes 64)) new) ≡ new
-places_taken [] = refl
-places_taken (place ∷ new) = ap (λ (xs : List ℕ). place ∷ xs) (places_taken new)
-
 taken_there : (b new old : List ℕ) (m : ℕ) → In m new → is_taken_at (node_takes new ++ gave b old) m ≡ true
-taken_there b new old m i = is_in-true m _ (subst (In m) (sym (ap (map (λ (take : ℕ × ℕ). take.0)) (taken_nodes b new old) ∙ places_taken new)) i)
+taken_there b new old m i = is_in-true m _ (subst (In m) (sym (taken_places b new old)) i)
 
 -- ---- what is freed, behind what is taken
 
