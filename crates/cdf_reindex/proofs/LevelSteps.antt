@@ -1,9 +1,8 @@
 -- The steps by which code makes the levels of an index, one by one.
-use Rattle.std.proofs.Common.{◌≡◌, ℕ, zero, suc, ◌+◌, ◌*◌, min, ◌<◌, ◌≤◌, List, [], ◌∷◌, ◌++◌, length, map, get_or, append_assoc, append-nil, refl, sym, ap, subst, ◌∙◌, arith}
-use Rattle.cdf_reindex.proofs.Common.{length-append, quotient_up, nodes_above, nodes_left, NodeWords, upper_of, level_entries, AreFilled, AreStacked, nodes_up, NodeMade, AllMade, LevelMade, LevelsMade, PyramidMade, Entry}
-use Rattle.cdf_reindex.specs.Rebuilding.{naming}
-use Rattle.cdf_reindex.proofs.LevelCounts.{leaves_under, above_is, left_more, up}
-use Rattle.std.proofs.lemmas.List.{length-map}
+use Rattle.std.proofs.Common.{List, [], ap, append-nil, append_assoc, arith, false, get_or, length, map, min, refl, subst, suc, sym, ℕ, ◌*◌, ◌++◌, ◌+◌, ◌∙◌, ◌∷◌, ◌≡◌, ◌≤◌}
+use Rattle.cdf_reindex.proofs.Common.{AllMade, AreLevels, Entries, Entry, Filled, Leaf, LevelMade, LevelsMade, NewNode, NodeMade, PyramidMade, entries_for, entries_of, entry_count, first_of, from_below, last_of, leaf_words, length-append, length-map, naming, nodes_above, quotient_up, uppers, with_both, words, words_of}
+use Rattle.cdf_reindex.proofs.Levels.{above_is, few_levels, left_more, level_length, raised, top_filled, total_is}
+use Rattle.cdf_reindex.proofs.WordsOfLevels.{leaves_saying, length_words, named, none_said, parted, they_say, words_for}
 
 -- ---- a chunk of entries
 
@@ -15,156 +14,113 @@ chunk_some c n e some = grind arith
 
 -- ---- nodes of a level
 
--- from these entries on the level goes on to one that was begun before
-abbrev pub Goes : List ℕ → List ℕ → List Entry → List Entry → List Entry → Type 0
-Goes b mid all rest uppers = (now : List ℕ) (nodes : List NodeWords) → level_entries nodes ≡ rest → AreFilled nodes → AllMade mid now nodes → LevelMade b now all (uppers ++ map upper_of nodes)
+-- from entries that say these the level goes on to one that was begun before
+pub record Goes (b mid : List ℕ) (all : Entries) (rest said : List Entry) : Type 0 where
+  pub back : Entries
+  pub rest_is : words_of back ≡ rest
+  pub on : (now : List ℕ) (nodes : List NewNode) → entries_of nodes ≡ back → Filled nodes → AllMade mid now nodes → LevelMade b now all (said ++ words_of (uppers nodes))
 
-pub goes_first : (b : List ℕ) (all : List Entry) → Goes b b all all []
-goes_first b all now nodes e f m = record { nodes = nodes; entries_are = e; filled = f; uppers_are = refl; made = m }
+pub goes_start : (b : List ℕ) (all : Entries) (entries rest said : List Entry) → words_of all ≡ entries → rest ≡ entries → said ≡ [] → Goes b b all rest said
+goes_start b all entries rest said e same none = record {
+  back = all;
+  rest_is = e ∙ sym same;
+  on = λ now nodes are f m. record { nodes = nodes; entries_are = are; filled = f; said_is = ap (λ (us : List Entry). us ++ words_of (uppers nodes)) (sym none); made = m };
+}
 
-filled_more : (place : ℕ) (chunk rest : List Entry) (n : ℕ) (nodes : List NodeWords) → length chunk ≡ min 64 n → n ≡ length chunk + length rest → 1 ≤ n → level_entries nodes ≡ rest → AreFilled nodes → AreFilled (record { place = place; entries = chunk } ∷ nodes)
-filled_more place chunk rest n [] e p some is f = (chunk_some (length chunk) n e some, chunk_few (length chunk) n e)
-filled_more place chunk rest n (next ∷ more) e p some is f = let l = subst (λ (xs : List Entry). 1 ≤ length xs) is (at_least next more f) in (grind arith, f)
-  where
-    first : (next : NodeWords) (more : List NodeWords) → AreFilled (next ∷ more) → 1 ≤ length next.entries
-    first next [] f = f.0
-    first next (other ∷ more) f = let e = f.0 in omega arith
+filled_more : (c n : ℕ) (new : NewNode) (nodes : List NewNode) → entry_count new.entries ≡ c → c ≡ min 64 n → n ≡ c + entry_count (entries_of nodes) → 1 ≤ n → Filled nodes → Filled (new ∷ nodes)
+filled_more c n new nodes count e p some f = (omega (arith, chunk_some c n e some), omega (arith, chunk_few c n e), (λ more. omega (arith, (raised nodes f).least)), f)
 
-    at_least : (next : NodeWords) (more : List NodeWords) → AreFilled (next ∷ more) → 1 ≤ length (next.entries ++ level_entries more)
-    at_least next more f = let l = length-append next.entries (level_entries more) in let e = first next more f in omega arith
+pub goes_more : (b mid new : List ℕ) (all : Entries) (rest chunk left said : List Entry) (place : ℕ) → Goes b mid all rest said → rest ≡ chunk ++ left → length chunk ≡ min 64 (length rest) → 1 ≤ length rest → NodeMade mid new chunk place → Goes b new all left (said ++ naming place chunk ∷ [])
+goes_more b mid new all rest chunk left said place goes parts size some made =
+    let p = parted chunk left goes.back (goes.rest_is ∙ parts) in
+    let node : NewNode = record { place = place; entries = p.front } in
+    let count = sym (length_words p.front) ∙ ap length p.front_is in
+    let name : words (first_of p.front) (last_of 0 p.front) place ≡ naming place chunk = named place p.front (omega (arith, chunk_some (length chunk) (length rest) size some, count)) ∙ ap (naming place) p.front_is in
+    record {
+      back = p.back;
+      rest_is = p.back_is;
+      on = λ now nodes e f m.
+          let all_of = ap length parts ∙ length-append chunk left in
+          let left_of = ap length (sym p.back_is) ∙ length_words p.back ∙ ap entry_count (sym e) in
+          subst (LevelMade b now all) (ap (λ (w : Entry). said ++ w ∷ words_of (uppers nodes)) name ∙ sym (append_assoc said (naming place chunk ∷ []) (words_of (uppers nodes))))
+          (goes.on now (node ∷ nodes) (ap (with_both p.front) e ∙ p.whole) (filled_more (length chunk) (length rest) node nodes count size (omega (arith, all_of, left_of)) some f) (new, (subst (λ (ws : List Entry). NodeMade mid new ws place) (sym p.front_is) made, m)));
+    }
 
-pub goes_more : (b mid new : List ℕ) (all rest chunk left uppers : List Entry) (place : ℕ) → Goes b mid all rest uppers → rest ≡ chunk ++ left → length chunk ≡ min 64 (length rest) → 1 ≤ length rest → NodeMade mid new chunk place
-    → Goes b new all left (uppers ++ naming place chunk ∷ [])
-goes_more b mid new all rest chunk left uppers place goes parts size some made now nodes e f m =
-    let node : NodeWords = record { place = place; entries = chunk } in
-    let n : length rest ≡ length chunk + length left = ap length parts ∙ length-append chunk left in
-    subst (λ (xs : List Entry). LevelMade b now all xs) (sym (append_assoc uppers (naming place chunk ∷ []) (map upper_of nodes)))
-    (goes now (node ∷ nodes) (ap (λ (xs : List Entry). chunk ++ xs) e ∙ sym parts) (filled_more place chunk left (length rest) nodes size n some e f) (new, (made, m)))
+pub goes_last : (b mid : List ℕ) (all : Entries) (rest said : List Entry) → Goes b mid all rest said → rest ≡ [] → LevelMade b mid all said
+goes_last b mid all rest said goes none = subst (LevelMade b mid all) (append-nil said) (goes.on mid [] (none_said goes.back (goes.rest_is ∙ none)) tt refl)
 
-pub goes_last : (b mid : List ℕ) (all rest uppers : List Entry) → Goes b mid all rest uppers → rest ≡ [] → LevelMade b mid all uppers
-goes_last b mid all rest uppers goes none = subst (λ (xs : List Entry). LevelMade b mid all xs) (append-nil uppers) (goes mid [] (sym none) tt refl)
+-- ---- room for the nodes of a level
 
--- ---- room
+pub room_one : (n rest limit : ℕ) → n + 1052 * quotient_up rest 64 ≤ limit → 1 ≤ rest → n + 1052 ≤ limit
+room_one n rest limit fits some = omega arith
 
-pub up_more : (c r n : ℕ) → c ≡ min 64 n → n ≡ c + r → 1 ≤ n → quotient_up n 64 ≡ suc (quotient_up r 64)
-up_more c r n e p some = omega arith
-
-pub up_one : (n : ℕ) → 1 ≤ n → 1 ≤ quotient_up n 64
-up_one n some = omega arith
-
--- after a node there is room for those that are left
-pub room_more : (start before now c r n all : ℕ) → before + 1052 * quotient_up n 64 ≤ start + 1052 * quotient_up all 64 → c ≡ min 64 n → n ≡ c + r → 1 ≤ n → now ≤ before + 1052 → now + 1052 * quotient_up r 64 ≤ start + 1052 * quotient_up all 64
-room_more start before now c r n all room e p some long = let q = up_more c r n e p some in omega arith
-
-pub room_one : (start before n all limit : ℕ) → before + 1052 * quotient_up n 64 ≤ start + 1052 * quotient_up all 64 → 1 ≤ n → start + 1052 * quotient_up all 64 ≤ limit → before + 1052 ≤ limit
-room_one start before n all limit room some fits = let o = up_one n some in omega arith
+pub room_more : (before now c left rest limit : ℕ) → before + 1052 * quotient_up rest 64 ≤ limit → c ≡ min 64 rest → rest ≡ c + left → 1 ≤ rest → now ≤ before + 1052 → now + 1052 * quotient_up left 64 ≤ limit
+room_more before now c left rest limit fits e p some long = omega arith
 
 -- ---- a level over another
 
-pub all_then : (b mid now : List ℕ) (nodes more : List NodeWords) → AllMade b mid nodes → AllMade mid now more → AllMade b now (nodes ++ more)
+all_then : (b mid now : List ℕ) (nodes more : List NewNode) → AllMade b mid nodes → AllMade mid now more → AllMade b now (nodes ++ more)
 all_then b mid now [] more m n = subst (λ (x : List ℕ). AllMade x now more) m n
-all_then b mid now (node ∷ nodes) more m n = (m.0, (m.1.0, all_then m.0 mid now nodes more m.1.1 n))
+all_then b mid now (new ∷ nodes) more m n = (m.0, (m.1.0, all_then m.0 mid now nodes more m.1.1 n))
 
-length_uppers : (nodes : List NodeWords) (uppers : List Entry) → map upper_of nodes ≡ uppers → length uppers ≡ length nodes
-length_uppers nodes uppers e = sym (ap length e) ∙ length-map nodes upper_of
+pub all_longest : (b now : List ℕ) (nodes : List NewNode) → AllMade b now nodes → length now ≤ length b + 1052 * length nodes
+all_longest b now [] m = omega (arith, ap length m)
+all_longest b now (new ∷ nodes) m = omega (arith, m.1.0.longest, all_longest m.0 now nodes m.1.1)
 
-counted : (nodes : List NodeWords) → AreFilled nodes → (length nodes * 64 ≤ length (level_entries nodes) + 63) × (length (level_entries nodes) ≤ 64 * length nodes)
-counted [] f = (omega arith, omega arith)
-counted (node ∷ []) f = let l = length-append node.entries [] in let f0 = f.0 in let f1 = f.1 in (omega arith, omega arith)
-counted (node ∷ next ∷ more) f =
-    let l = length-append node.entries (level_entries (next ∷ more)) in
-    let r = counted (next ∷ more) f.1 in
-    let r0 = r.0 in
-    let r1 = r.1 in
-    let f0 = f.0 in
-    (omega arith, omega arith)
+many : (level : List NewNode) (said : List Entry) → Filled level → words_of (uppers level) ≡ said → length said ≡ length level
+many level said f e = ap length (sym e) ∙ length_words (uppers level) ∙ (raised level f).count
 
 -- a level is as short as can be
-pub uppers_count : (b now : List ℕ) (entries uppers : List Entry) → LevelMade b now entries uppers → length uppers ≡ quotient_up (length entries) 64
-uppers_count b now entries uppers m =
-    let c = counted m.nodes m.filled in
-    length_uppers m.nodes uppers m.uppers_are ∙ up (length m.nodes) (length (level_entries m.nodes)) c.0 c.1 ∙ ap (λ (xs : List Entry). quotient_up (length xs) 64) m.entries_are
+pub made_count : {b now : List ℕ} {entries said : List Entry} → ((all : Entries) → words_of all ≡ entries → LevelMade b now all said) → length said ≡ quotient_up (length entries) 64
+made_count {entries = entries} {said = said} made =
+    let all = entries_for (leaves_saying entries) in
+    let e : words_of all ≡ entries = words_for (leaves_saying entries) ∙ sym (they_say entries) in
+    let m = made all e in
+    many m.nodes said m.filled m.said_is ∙ level_length m.nodes m.filled m.entries_are ∙ ap (λ (n : ℕ). quotient_up n 64) (sym (length_words all) ∙ ap length e)
 
-pub levels_first : (b now : List ℕ) (entries uppers : List Entry) → LevelMade b now entries uppers → LevelsMade b now entries uppers
-levels_first b now entries uppers m = record { level = m.nodes; more = []; stacked = (m.entries_are, m.filled); uppers_are = m.uppers_are; made = m.made }
+pub levels_first : {b now : List ℕ} {leaves : List Leaf} {said : List Entry} → LevelMade b now (entries_for leaves) said → LevelsMade b now leaves said
+levels_first m = record { level = m.nodes; more = []; are = (m.entries_are, m.filled); said_is = m.said_is; made = m.made }
 
-pub levels_more : (b mid now : List ℕ) (entries uppers tops : List Entry) → LevelsMade b mid entries uppers → 2 ≤ length uppers → LevelMade mid now uppers tops → LevelsMade b now entries tops
-levels_more b mid now entries uppers tops l two m = record {
-  level = m.nodes;
-  more = l.level ∷ l.more;
-  stacked = (m.entries_are ∙ sym l.uppers_are, m.filled, subst (λ (n : ℕ). 2 ≤ n) (length_uppers l.level uppers l.uppers_are) two, l.stacked);
-  uppers_are = m.uppers_are;
-  made = all_then b mid now (nodes_up (l.level ∷ l.more)) m.nodes l.made m.made;
-}
+module _ {b mid : List ℕ} {leaves : List Leaf} {said : List Entry} (l : LevelsMade b mid leaves said) where
+  count : length said ≡ length l.level
+  count = many l.level said (top_filled leaves l.level l.more l.are) l.said_is
 
-pub pyramid_last : (b now : List ℕ) (entries uppers : List Entry) (other : Entry) (top : ℕ) → LevelsMade b now entries uppers → length uppers ≡ 1 → top ≡ (get_or uppers 0 other).place → PyramidMade b now entries top
-pyramid_last b now entries uppers other top l one is = go l.level l.stacked l.uppers_are l.made
-  where
-    go : (level : List NodeWords) → AreStacked entries (level ∷ l.more) → map upper_of level ≡ uppers → AllMade b now (nodes_up (level ∷ l.more)) → PyramidMade b now entries top
-    go [] s e m = let n : 0 ≡ length uppers = ap length e in absurd (omega arith)
-    go (node ∷ []) s e m = record { node = node; more = l.more; stacked = s; place_is = is ∙ ap (λ (xs : List Entry). (get_or xs 0 other).place) (sym e); made = m }
-    go (node ∷ next ∷ more) s e m = let n : suc (suc (length (map upper_of more))) ≡ length uppers = ap length e in absurd (omega arith)
+  pub levels_more : {now : List ℕ} {tops : List Entry} → 2 ≤ length said → LevelMade mid now (uppers l.level) tops → LevelsMade b now leaves tops
+  levels_more {now = now} two m = record {
+    level = m.nodes;
+    more = l.level ∷ l.more;
+    are = (m.entries_are, m.filled, subst (λ (n : ℕ). 2 ≤ n) count two, l.are);
+    said_is = m.said_is;
+    made = all_then b mid now (from_below (l.level ∷ l.more)) m.nodes l.made m.made;
+  }
 
--- ---- room for the levels that are left
+  pub pyramid_last : (other : Entry) (top : ℕ) → length said ≡ 1 → top ≡ (get_or said 0 other).place → PyramidMade b mid leaves top
+  pyramid_last other top one is = go l.level l.are l.said_is l.made (sym count ∙ one)
+    where
+      go : (level : List NewNode) → AreLevels leaves (level ∷ l.more) → words_of (uppers level) ≡ said → AllMade b mid (from_below (level ∷ l.more)) → length level ≡ 1 → PyramidMade b mid leaves top
+      go [] s e m n = absurd (omega arith)
+      go (root ∷ []) s e m n = record { root = root; more = l.more; are = s; place_is = is ∙ ap (λ (xs : List Entry). (get_or xs 0 other).place) (sym e); made = m }
+      go (root ∷ next ∷ others) s e m n = absurd (omega arith)
 
-pub record RoomLeft (start now all n : ℕ) : Type 0 where
-  pub levels : ℕ
-  pub small : n ≤ leaves_under levels
-  pub room : now + 1052 * nodes_left levels n ≤ start + 1052 * nodes_above 8 all
-
-up_least : (n m : ℕ) → n ≤ 64 * m → quotient_up n 64 ≤ m
-up_least n m l = omega arith
-
-pub room_first : (start now all n : ℕ) → 1 ≤ all → all ≤ 2147483648 → n ≡ quotient_up all 64 → now ≤ start + 1052 * quotient_up all 64 → RoomLeft start now all n
-room_first start now all n some few e long = record {
-  levels = 7;
-  small = subst (λ (k : ℕ). k ≤ leaves_under 7) (sym e) (up_least all (leaves_under 7) (omega arith));
-  room = subst (λ (k : ℕ). now + 1052 * nodes_left 7 k ≤ start + 1052 * nodes_above 8 all) (sym e) (let a = above_is 7 all some in omega arith);
-}
-
--- a level of two nodes has one above it
-record Split (start before all n : ℕ) : Type 0 where
-  levels : ℕ
-  small : n ≤ 64 * leaves_under levels
-  room : before + 1052 * (quotient_up n 64 + nodes_left levels (quotient_up n 64)) ≤ start + 1052 * nodes_above 8 all
-
-split : (start before all n : ℕ) → 2 ≤ n → RoomLeft start before all n → Split start before all n
-split start before all n two r = go r.levels r.small r.room
-  where
-    go : (levels : ℕ) → n ≤ leaves_under levels → before + 1052 * nodes_left levels n ≤ start + 1052 * nodes_above 8 all → Split start before all n
-    go zero small room = absurd (omega arith)
-    go (suc levels) small room = record {
-      levels = levels;
-      small = small;
-      room = subst (λ (k : ℕ). before + 1052 * k ≤ start + 1052 * nodes_above 8 all) (left_more (suc levels) n two ∙ above_is levels n (omega arith)) room;
-    }
-
-pub room_next : (start before now all n n' : ℕ) → 2 ≤ n → RoomLeft start before all n → n' ≡ quotient_up n 64 → now ≤ before + 1052 * quotient_up n 64 → RoomLeft start now all n'
-room_next start before now all n n' two r e long =
-    let s = split start before all n two r in
-    record {
-      levels = s.levels;
-      small = subst (λ (k : ℕ). k ≤ leaves_under s.levels) (sym e) (up_least n (leaves_under s.levels) s.small);
-      room = subst (λ (k : ℕ). now + 1052 * nodes_left s.levels k ≤ start + 1052 * nodes_above 8 all) (sym e) (let room = s.room in omega arith);
-    }
-
-pub room_for_next : (start before all n limit : ℕ) → 2 ≤ n → RoomLeft start before all n → start + 1052 * nodes_above 8 all ≤ limit → before + 1052 * quotient_up n 64 ≤ limit
-room_for_next start before all n limit two r fits = let s = split start before all n two r in let room = s.room in omega arith
+-- there is room for the next level
+pub room_next : {b mid : List ℕ} {entries said : List Entry} → ((leaves : List Leaf) → entries ≡ map leaf_words leaves → LevelsMade b mid leaves said) → (limit : ℕ) → 2 ≤ length said → 1 ≤ length entries → length entries ≤ 2147483648
+    → length b + 1052 * nodes_above 8 (length entries) ≤ limit → length mid + 1052 * quotient_up (length said) 64 ≤ limit
+room_next {b = b} {mid = mid} {entries = entries} {said = said} made limit two some few fits =
+    let leaves = leaves_saying entries in
+    let same : length leaves ≡ length entries = length-map entries (λ (e : Entry). record { first = e.first; last = e.last; place = e.place; packed = false }) in
+    let l = made leaves (they_say entries) in
+    let d = few_levels leaves l.level l.more l.are (omega (arith, same, few)) in
+    let n = length l.level in
+    let here = count l in
+    omega (
+      arith,
+      all_longest b mid (from_below (l.level ∷ l.more)) l.made,
+      ap (nodes_above 8) same,
+      total_is leaves l.level l.more 8 (suc (suc d.0)) (omega (arith, d.1.0)) (omega (arith, same, some)) l.are,
+      left_more (suc (suc d.0)) n (omega (arith, here, two)),
+      above_is (suc d.0) n (omega (arith, here, two)),
+      here,
+    )
 
 pub room_level : (start all limit : ℕ) → 1 ≤ all → start + 1052 * nodes_above 8 all ≤ limit → start + 1052 * quotient_up all 64 ≤ limit
-room_level start all limit some fits = let a = above_is 7 all some in omega arith
-
-pub fewer : (n n' : ℕ) → 2 ≤ n → n' ≡ quotient_up n 64 → n' < n
-fewer n n' two e = omega arith
-
--- ---- the first turn of a loop over the entries of a level
-
-pub goes_start : (b : List ℕ) (all rest uppers : List Entry) → rest ≡ all → uppers ≡ [] → Goes b b all rest uppers
-goes_start b all rest uppers same none = subst (λ (xs : List Entry). Goes b b all xs uppers) (sym same) (subst (λ (us : List Entry). Goes b b all all us) (sym none) (goes_first b all))
-
-pub room_start : (n : ℕ) (rest all : List Entry) → rest ≡ all → n + 1052 * quotient_up (length rest) 64 ≤ n + 1052 * quotient_up (length all) 64
-room_start n rest all same = subst (λ (xs : List Entry). n + 1052 * quotient_up (length xs) 64 ≤ n + 1052 * quotient_up (length all) 64) (sym same) (omega arith)
-
--- and its last one
-pub room_last : (start now : ℕ) (rest all : List Entry) → rest ≡ [] → now + 1052 * quotient_up (length rest) 64 ≤ start + 1052 * quotient_up (length all) 64 → now ≤ start + 1052 * quotient_up (length all) 64
-room_last start now rest all none room = omega arith
+room_level start all limit some fits = omega (arith, above_is 7 all some)

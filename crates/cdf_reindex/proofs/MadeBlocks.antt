@@ -1,10 +1,7 @@
 -- The rules of blocks that stay, of a VDR that stays but for MaxRec, VXRhead and VXRtail.
-use Rattle.std.proofs.Common.{◌≡◌, ℕ, ◌≤◌, List, [], ◌∷◌, true, ◌&&◌, ◌||◌, refl, sym, subst, ◌∙◌, inl, inr}
-use Rattle.cdf_reindex.proofs.Common.{◌==◌, flat_map, is_a, is_in, size_at, type_at, Leaf, is_block, leaf_rows, vvr_type, cvvr_type, Hold, Each, LeafFits, In, type_kept, is_in-true, Hold-split, IsOneOf, FileSame, Kept, VdrStays, stays_alike}
-use Rattle.cdf_format.specs.RecordTypes.{fixed_size}
+use Rattle.std.proofs.Common.{List, [], inl, inr, refl, subst, sym, true, ℕ, ◌&&◌, ◌==◌, ◌||◌, ◌∙◌, ◌∷◌, ◌≡◌, ◌≤◌}
+use Rattle.cdf_reindex.proofs.Common.{Each, FileSame, Hold, Hold-split, In, IsOneOf, Kept, Leaf, LeafFits, VdrStays, block_fits_alike, cvvr_type, fixed_size, flat_map, is_a, is_block, is_in, is_in-true, leaf_rows, packed_stays, plain_alike, size_at, stays_alike, type_at, type_kept, vvr_type}
 use Rattle.cdf_edits.proofs.Edits.InRecords.{places_of}
-use Rattle.cdf_edits.proofs.Frame.VdrAlike.{plain_alike}
-use Rattle.cdf_edits.proofs.Frame.VdrStays.{packed_stays}
 use Rattle.cdf_edits.proofs.Rules.OfIndexes.{leaf_same}
 
 module _ {b now : List ℕ} (file : FileSame b now) {v : ℕ} (k : VdrStays b now v) where
@@ -23,6 +20,12 @@ module _ {b now : List ℕ} (file : FileSame b now) {v : ℕ} (k : VdrStays b no
 
     pub is_block_on : (m : ℕ) → StandsOn m → is_block now records' m ≡ is_block b records m
     is_block_on m s = let p = is_a_on vvr_type m s in let q = is_a_on cvvr_type m s in λ i. p i || q i
+
+    pub fits_on : (leaves : List Leaf) → ((m : ℕ) → In m (places_of leaves) → StandsOn m) → Each (LeafFits b records v) leaves → Each (LeafFits now records' v) leaves
+    fits_on [] stand fits = tt
+    fits_on (leaf ∷ more) stand fits =
+        let at = stand leaf.place (inl refl) in
+        ((is_block_on leaf.place at ∙ fits.0.0, block_fits_alike file (stays_alike file k) leaf leaf.packed at.kept fits.0.1), fits_on more (λ m j. stand m (inr j)) fits.1)
 
     pub leaves_on : (leaves : List Leaf) → ((m : ℕ) → In m (places_of leaves) → StandsOn m) → Hold (flat_map (leaf_rows b records v) leaves) → Each (LeafFits b records v) leaves → (l : Leaf) → IsOneOf leaves l → (is_block now records' l.place ≡ true) × Hold (leaf_rows now records' v l)
     leaves_on [] stand rules fits l i = absurd i

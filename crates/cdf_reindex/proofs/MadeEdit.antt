@@ -1,23 +1,15 @@
--- An index made anew, as one edit: its nodes are taken and written, VXRhead and VXRtail lead to it, and the old nodes are freed.
-use Rattle.std.proofs.Common.{◌≡◌, ◌≢◌, ℕ, ◌+◌, ◌≤◌, List, [], ◌∷◌, ◌++◌, length, true, refl, sym, ap, subst, ◌∙◌, arith, inl, inr}
-use Rattle.cdf_reindex.proofs.Common.{Kind, R, Z, is_in, IsChain, number, size_at, type_at, with_field, eof, LiesIn, nodes_of, link_to, Field, field, gdr_uir_head, vdr_vxr_head, vdr_vxr_tail, gdr_type, r_vdr_type, z_vdr_type, vxr_type, uir_type, VariableShape, Shape, Each, HasShape, shape, IsSound, In, AreTiles, Good, size_kept, type_kept, linkable-type, good_by_its_shape, good_is_sound, nodes_stand, length-with_field, levels_up, vxr_bytes, Edit, freeing_marks, Mark, avoided, unmarked, keeps_file, write, type_in, variables_chain, edit_then, IsLeft, all_left, edit_under, away-avoids, unmarked-away, Avoids-append, kept, gdr_field, gdr_place, node_behind, StandsAmong, tile, typed, long, has, behind_in, Kept, apart, IsRebuilt, In-append, with_index}
-use Rattle.cdf_format.specs.Walks.{records_of}
-use Rattle.cdf_format.proofs.ChainsLemmas.{chain_complete}
-use Rattle.cdf_format.proofs.GoodSound.{rules_of_good}
-use Rattle.cdf_format.proofs.SealedRules.{good_long, sealed_kept}
-use Rattle.cdf_format.proofs.TilesLemmas.{tiling_complete}
-use Rattle.cdf_edits.specs.Edits.Writes.{Write}
-use Rattle.cdf_edits.proofs.Edits.FreedRecords.{MayFree, all_given_edit}
+-- The new nodes are taken and written, and VXRhead and VXRtail lead to them: one edit, by which the image stays sound, and the old nodes can be freed.
+use Rattle.std.proofs.Common.{List, [], ap, append-nil, arith, inl, inr, length, map, refl, rules, subst, sym, true, w32, ℕ, ◌++◌, ◌+◌, ◌∙◌, ◌∷◌, ◌≡◌, ◌≢◌, ◌≤◌}
+use Rattle.cdf_reindex.proofs.Common.{AreFree, AreTiles, DataSet, Each, Each-in, Each-map, Edit, Field, Good, In, IndexEdit, IndexTests, IsBare, IsBuilt, IsChain, IsSound, Kept, Kind, Leaf, LeafFits, LiesIn, Mark, MayWrite, NewIndex, NodeFits, Nodes, OwnEdit, R, SameHeads, Shape, StandsAmong, TakenAll, Variable, VariableFits, VariableShape, Z, among_now, apart, avoided, behind_in, block_behind, block_kept, cast_signed, content, content_is, content_now, cpr_behind, cpr_type, distinct_if, each, edit_then, edit_under, end_stays, field, field_reads, file, fits, fixed_size, freeing_marks, gdr_field, gdr_type, gdr_uir_head, good_is_sound, has, heads_written, index_edit, index_marks, is_a, is_a-from, is_a-type, is_record_type, keeps_file, kept, kept_then, leaves_of, length-with_field, levels_up, link_to, linkable-type, links_mark, long, map-append, max_rec_kept, node_behind, nodes_kept, nodes_of, nodes_stand, none_in_use, not_twice_kept, number, other_words, own_edit, owned-times, owned_records, parts_times, r_vdr_type, records_alike, records_in, same_shape, shape, size_at, size_kept, sizes_by_tiles, some_bytes, sound_if, space_fields, spliced_times, splices, stays, taking_all, through, tile, times, times-append, times-in, times-none, times-once, type_at, type_in, type_kept, typed, uir_type, unmarked, unmarked-away, used_times, variable_of, variable_records, variable_stays, variables_chain, variables_of, variables_of_are, vdr_alike, vdr_size, vdr_vxr_head, vdr_vxr_tail, vxr_bytes, vxr_type, with_field, with_index, with_shapes, with_variables, with_writes, write, write_lies, writes_edit, writes_long, z_vdr_type}
+use Rattle.cdf_edits.proofs.Edits.InRecords.{places_of}
+use Rattle.cdf_edits.proofs.Edits.IndexEdited.{vdr_type}
+use Rattle.cdf_edits.proofs.Edits.MarkLemmas.{away-avoids}
+use Rattle.cdf_edits.proofs.Edits.OwnedOnce.{fresh_unowned}
 use Rattle.cdf_edits.proofs.Edits.RecordFrame.{chain_stays}
-use Rattle.cdf_edits.proofs.Edits.StepEdits.{some_bytes}
-use Rattle.cdf_edits.proofs.Edits.StandsAmong.{through}
-use Rattle.cdf_edits.proofs.Edits.WrittenFields.{MayWrite, writes_edit}
-use Rattle.cdf_edits.proofs.Rules.WithoutLinks.{eof_by_rules}
-use Rattle.cdf_edits.proofs.Edits.RecordPlaced.{links_mark}
-use Rattle.cdf_edits.specs.Commands.Allowances.{space_fields}
-use Rattle.cdf_index.proofs.NewIndex.{IndexTests, NewIndex, index_marks}
-use Rattle.cdf_edits.proofs.Edits.TakenAll.{TakenAll, taking_all}
-use Rattle.cdf_reindex.proofs.MadeTaken.{NodesTaken, all_taken, node_takes}
+use Rattle.cdf_reindex.proofs.Levels.{in_by_times, times_most}
+use Rattle.cdf_reindex.proofs.MadeBlocks.{StandsOn, fits_on}
+use Rattle.cdf_reindex.proofs.MadeTaken.{NodesTaken, all_taken, end_before, node_takes}
+use Rattle.cdf_reindex.proofs.NodesMade.{bare_by}
 
 -- ---- marks
 
@@ -28,222 +20,249 @@ heads_marks kind v = links_mark kind v ∷ []
 abbrev pub index_made_marks : Kind → ℕ → List ℕ → List ℕ → List ℕ → ℕ → List Mark
 index_made_marks kind v unused new nodes limit = taking_all unused new (vxr_bytes 64) ++ index_marks kind v nodes (field 0 limit)
 
-made_tests : (kind : Kind) (v : ℕ) (unused new nodes : List ℕ) (limit : ℕ) → IndexTests kind space_fields (index_made_marks kind v unused new nodes limit)
-made_tests R v unused new nodes limit = record { file_clear = refl; attributes_clear = refl; other_clear = refl; blocks_clear = refl; packed_clear = refl; cpr_clear = refl; head_clear = refl; count_clear = refl; max_clear = refl; heads_clear = refl; inside = refl }
-made_tests Z v unused new nodes limit = record { file_clear = refl; attributes_clear = refl; other_clear = refl; blocks_clear = refl; packed_clear = refl; cpr_clear = refl; head_clear = refl; count_clear = refl; max_clear = refl; heads_clear = refl; inside = refl }
+-- which types of records the two edits leave
+pub record HeadTests (kind : Kind) (v : ℕ) (unused new nodes : List ℕ) (limit : ℕ) : Type 0 where
+  pub tests : IndexTests kind space_fields (index_made_marks kind v unused new nodes limit)
+  pub untaken : unmarked (taking_all unused new (vxr_bytes 64)) (type_in (variables_chain kind)) ≡ true
+  pub used : type_in (variables_chain kind) ≢ uir_type
+  pub no_gdr : type_in (variables_chain kind) ≢ gdr_type
+  pub no_node : type_in (variables_chain kind) ≢ vxr_type
+  pub nodes_clear : unmarked (heads_marks kind v) vxr_type ≡ true
+  pub unused_clear : unmarked (heads_marks kind v) uir_type ≡ true
+  pub file_clear : keeps_file (heads_marks kind v) ≡ true
+  pub list_clear : avoided (heads_marks kind v) gdr_type 64 72 ≡ true
+  pub file_freed : keeps_file (heads_marks kind v ++ freeing_marks (vxr_type ∷ []) unused nodes limit) ≡ true
+  pub end_clear : avoided (heads_marks kind v ++ freeing_marks (vxr_type ∷ []) unused nodes limit) gdr_type 36 44 ≡ true
 
-vdr_untaken : (kind : Kind) (unused places : List ℕ) (need : ℕ) → unmarked (taking_all unused places need) (type_in (variables_chain kind)) ≡ true
-vdr_untaken R unused places need = refl
-vdr_untaken Z unused places need = refl
-
-vdr_used : (kind : Kind) → type_in (variables_chain kind) ≢ uir_type
-vdr_used R = apart r_vdr_type uir_type refl
-vdr_used Z = apart z_vdr_type uir_type refl
-
-no_vdr_node : (kind : Kind) (v : ℕ) → unmarked (heads_marks kind v) vxr_type ≡ true
-no_vdr_node R v = refl
-no_vdr_node Z v = refl
-
-pub no_vdr_unused : (kind : Kind) (v : ℕ) → unmarked (heads_marks kind v) uir_type ≡ true
-no_vdr_unused R v = refl
-no_vdr_unused Z v = refl
-
-no_vdr_file : (kind : Kind) (v : ℕ) → keeps_file (heads_marks kind v) ≡ true
-no_vdr_file R v = refl
-no_vdr_file Z v = refl
-
-no_vdr_head : (kind : Kind) (v : ℕ) → (avoided (heads_marks kind v) gdr_type 64 72 ≡ true) × (avoided (heads_marks kind v) gdr_type 36 44 ≡ true)
-no_vdr_head R v = (refl, refl)
-no_vdr_head Z v = (refl, refl)
-
--- ---- an image has one list of records
-
-pub same_tiles : (b ts us : List ℕ) → AreTiles b 8 (length b) ts → AreTiles b 8 (length b) us → ts ≡ us
-same_tiles b ts us t u = ap records_of (sym (tiling_complete b ts t) ∙ tiling_complete b us u)
-
-pub same_members : (b ts : List ℕ) (type holder : ℕ) (f : Field) (ms ns : List ℕ) → AreTiles b 8 (length b) ts → IsChain b ts type (number b holder f) ms → IsChain b ts type (number b holder f) ns → ms ≡ ns
-same_members b ts type holder f ms ns t c d = ap records_of (sym (chain_complete b ts (length b) type holder f ms t c) ∙ chain_complete b ts (length b) type holder f ns t d)
+pub made_tests : (kind : Kind) (v : ℕ) (unused new nodes : List ℕ) (limit : ℕ) → HeadTests kind v unused new nodes limit
+made_tests R v unused new nodes limit = search (rules, apart r_vdr_type uir_type refl, apart r_vdr_type gdr_type refl, apart r_vdr_type vxr_type refl)
+made_tests Z v unused new nodes limit = search (rules, apart z_vdr_type uir_type refl, apart z_vdr_type gdr_type refl, apart z_vdr_type vxr_type refl)
 
 -- ---- the steps
 
-module _ {b now : List ℕ} {kind : Kind} {before : List VariableShape} {own : VariableShape} {after : List VariableShape} (good : Good b) (among : StandsAmong b kind before own after) (r : IsRebuilt b now own) where
+module _ {b made : List ℕ} {kind : Kind} {before : List VariableShape} {own : VariableShape} {after : List VariableShape} {index : Nodes} (good : Good b) (among : StandsAmong b kind before own after) (x : IsBuilt b made own index) where
   abbrev pub v : ℕ
   v = own.vdr
 
-  abbrev pub type : ℕ
-  type = type_in (variables_chain kind)
-
   abbrev pub places : List ℕ
-  places = levels_up 7 r.index
+  places = levels_up 7 index
 
   abbrev pub olds : List ℕ
   olds = nodes_of own.index
 
-  abbrev made : Shape
-  made = shape r.made
+  abbrev rs : List ℕ
+  rs = (shape made).records
+
+  abbrev pub tests : (nodes : List ℕ) (limit : ℕ) → HeadTests kind v (shape b).unused places nodes limit
+  tests nodes limit = made_tests kind v (shape b).unused places nodes limit
 
   sound : IsSound b (shape b)
   sound = good_is_sound b good
 
-  end_before : eof b (shape b).gdr ≡ length b
-  end_before = eof_by_rules b (shape b) sound (sealed_kept b (good_long b (shape b) (good_by_its_shape b good)) (rules_of_good b good)).0
-
   -- the nodes are taken
-  taken : NodesTaken b r.made places
-  taken = all_taken b r.made places sound end_before r.taken
+  pub taken : NodesTaken b made places
+  taken = all_taken b made places sound (end_before b good) x.taken
 
-  pub t : TakenAll b r.made (node_takes places) places (vxr_bytes 64)
+  pub t : TakenAll b made (node_takes places) places (vxr_bytes 64)
   t = taken.all
 
-  pub sound_made : IsSound r.made made
+  pub sound_made : IsSound made (shape made)
   sound_made = t.grows.sound
 
-  h_made : HasShape r.made made
-  h_made = sound_made.has_shape
+  vdr_kept : Kept b made v
+  vdr_kept = kept t.grows.edit v (type_in (variables_chain kind)) (tile good among) (typed good among) (tests [] 0).untaken
 
-  pub vdr_kept : Kept b r.made v
-  vdr_kept = kept t.grows.edit v type (tile good among) (typed good among) (vdr_untaken kind (shape b).unused places (vxr_bytes 64))
-
-  vdr_there : In v made.records
+  pub vdr_there : In v rs
   vdr_there = t.grows.edit.sub v (tile good among)
 
-  vdr_size : size_at r.made v ≡ size_at b v
-  vdr_size = let k = vdr_kept in size_kept b r.made v k.same (let l = k.long in omega arith)
+  vdr_typed : type_at made v ≡ type_in (variables_chain kind)
+  vdr_typed = let k = vdr_kept in type_kept b made v k.same k.long ∙ typed good among
 
-  vdr_typed : type_at r.made v ≡ type
-  vdr_typed = let k = vdr_kept in type_kept b r.made v k.same k.long ∙ typed good among
-
-  vdr_long : 340 ≤ size_at r.made v
-  vdr_long = subst (λ (n : ℕ). 340 ≤ n) (sym vdr_size) (long good among)
+  vdr_long : 340 ≤ size_at made v
+  vdr_long = let k = vdr_kept in subst (λ (n : ℕ). 340 ≤ n) (sym (size_kept b made v k.same (let l = k.long in omega arith))) (long good among)
 
   -- VXRhead and VXRtail are written
-  abbrev pub writes : List Write
-  writes = write v vdr_vxr_head (link_to r.index) ∷ write v vdr_vxr_tail (link_to r.index) ∷ []
+  pub head_lies : LiesIn made v vdr_vxr_head
+  head_lies = write_lies made rs sound_made.has_shape.tiled (some_bytes made (shape made) sound_made.has_shape) v vdr_vxr_head vdr_there (omega (arith, vdr_long))
 
-  may_write : (w : Write) → w.tile ≡ v → 28 ≤ w.f.place → w.f.place + w.f.width ≤ 44 → MayWrite r.made made.records (heads_marks kind v) w
-  may_write w q low high = record {
-    inside = subst (λ (x : ℕ). In x made.records) (sym q) vdr_there;
-    used = λ u. vdr_used kind (sym vdr_typed ∙ ap (type_at r.made) (sym q) ∙ u);
-    fits = subst (λ (x : ℕ). w.f.place + w.f.width ≤ size_at r.made x) (sym q) (through (w.f.place + w.f.width) 340 (size_at r.made v) (omega arith) vdr_long);
+  pub tail_lies : (first : List ℕ) → first ≡ with_field made v vdr_vxr_head (link_to index) → LiesIn first v vdr_vxr_tail
+  tail_lies first one = let l = ap length one ∙ length-with_field made v vdr_vxr_head (link_to index) head_lies in
+      let r = write_lies made rs sound_made.has_shape.tiled (some_bytes made (shape made) sound_made.has_shape) v vdr_vxr_tail vdr_there (omega (arith, vdr_long)) in omega arith
+
+  may_write : (f : Field) → 28 ≤ f.place → f.place + f.width ≤ 44 → MayWrite made rs (heads_marks kind v) (write v f (link_to index))
+  may_write f low high = record {
+    inside = vdr_there;
+    used = λ u. (tests [] 0).used (sym vdr_typed ∙ u);
+    fits = through (f.place + f.width) 340 (size_at made v) (omega arith) vdr_long;
     later = omega arith;
-    covered = inl (record { typed = ap (type_at r.made) q ∙ vdr_typed; lies = inl q; low = low; high = omega arith });
+    covered = inl (record { typed = vdr_typed; lies = inl refl; low = low; high = omega arith });
   }
 
-  may_all : Each (MayWrite r.made made.records (heads_marks kind v)) writes
-  may_all = (may_write (write v vdr_vxr_head (link_to r.index)) refl (omega arith) (omega arith), (may_write (write v vdr_vxr_tail (link_to r.index)) refl (omega arith) (omega arith), tt))
+  may_all : Each (MayWrite made rs (heads_marks kind v)) (heads_written v index)
+  may_all = (may_write vdr_vxr_head (omega arith) (omega arith), (may_write vdr_vxr_tail (omega arith) (omega arith), tt))
 
-  pub heads_edit : Edit r.made r.linked made.records made.records (heads_marks kind v) []
-  heads_edit = subst (λ (x : List ℕ). Edit r.made x made.records made.records (heads_marks kind v) []) (sym r.heads) (writes_edit r.made made.records (heads_marks kind v) writes h_made.tiled (some_bytes r.made made h_made) may_all)
+  -- ---- the old nodes
 
-  abbrev first_written : List ℕ
-  first_written = with_field r.made v vdr_vxr_head (link_to r.index)
-
-  pub linked_long : length r.linked ≡ length r.made
-  linked_long =
-      let inside = (let k = vdr_kept in k.inside) in
-      let l = long good among in
-      let g = t.grows.edit.longer in
-      let lies : LiesIn r.made v vdr_vxr_head = reach v (size_at b v) (length b) (length r.made) 28 8 inside l g (omega arith) in
-      let first = length-with_field r.made v vdr_vxr_head (link_to r.index) lies in
-      let then_lies : LiesIn first_written v vdr_vxr_tail = subst (λ (n : ℕ). v + 36 + 8 ≤ n) (sym first) (reach v (size_at b v) (length b) (length r.made) 36 8 inside l g (omega arith)) in
-      ap length r.heads ∙ length-with_field first_written v vdr_vxr_tail (link_to r.index) then_lies ∙ first
-    where
-      reach : (x n l m p w : ℕ) → x + n ≤ l → 340 ≤ n → l ≤ m → p + w ≤ 340 → x + p + w ≤ m
-      reach x n l m p w q s u k = omega arith
-
-  -- ---- the image before the old nodes are freed
-
-  node_before : (m : ℕ) → In m olds → In m (shape b).records
+  pub node_before : (m : ℕ) → In m olds → In m (shape b).records
   node_before m i = behind_in good among m (node_behind own m i)
 
   pub node_typed : (m : ℕ) → In m olds → type_at b m ≡ vxr_type
   node_typed m i = linkable-type b (shape b).records vxr_type m (nodes_stand b (shape b).records 8 own.index (has good among).indexed.has_nodes m i)
 
-  pub node_made : (m : ℕ) → In m olds → Kept b r.made m
-  node_made m i = kept t.grows.edit m vxr_type (node_before m i) (node_typed m i) refl
+  -- a new one was taken, and is none of them
+  pub in_places : (m : ℕ) → In m (nodes_of index) → In m places
+  in_places m i = in_by_times (nodes_of index) places (λ k. sym (x.each_taken k)) m i
 
-  type_made : (m : ℕ) → In m olds → type_at r.made m ≡ vxr_type
-  type_made m i = let k = node_made m i in type_kept b r.made m k.same k.long ∙ node_typed m i
+  pub new_apart : (m : ℕ) → In m places → In m olds → ⊥
+  new_apart m i j = apart vxr_type uir_type refl (sym (node_typed m j) ∙ t.fresh_all m i (node_before m j))
 
-  pub node_linked : (m : ℕ) → In m olds → Kept r.made r.linked m
-  node_linked m i = kept heads_edit m vxr_type (t.grows.edit.sub m (node_before m i)) (type_made m i) (no_vdr_node kind v)
+  -- ---- the image that leads to the new nodes
 
-  pub type_linked : (m : ℕ) → In m olds → type_at r.linked m ≡ vxr_type
-  type_linked m i = let k = node_linked m i in type_kept r.made r.linked m k.same k.long ∙ type_made m i
+  module _ {linked : List ℕ} (heads : linked ≡ with_writes made (heads_written v index)) where
+    pub heads_edit : Edit made linked rs rs (heads_marks kind v) []
+    heads_edit = subst (λ (y : List ℕ). Edit made y rs rs (heads_marks kind v) []) (sym heads) (writes_edit made rs (heads_marks kind v) (heads_written v index) sound_made.has_shape.tiled (some_bytes made (shape made) sound_made.has_shape) may_all)
 
-  -- the image that leads to the new nodes is sound
-  module _ (whole : IsSound r.linked (shape r.linked)) where
-    pub linked_records : (shape r.linked).records ≡ made.records
-    linked_records = same_tiles r.linked (shape r.linked).records made.records whole.has_shape.tiled heads_edit.tiled_now
+    pub linked_long : length linked ≡ length made
+    linked_long = ap length heads ∙ writes_long made rs (heads_marks kind v) (heads_written v index) sound_made.has_shape.tiled (some_bytes made (shape made) sound_made.has_shape) may_all
 
-    linked_gdr : (shape r.linked).gdr ≡ made.gdr
-    linked_gdr = sym whole.has_shape.gdr_is ∙ gdr_place sound_made heads_edit (no_vdr_file kind v)
+    abbrev first : List ℕ
+    first = with_field made v vdr_vxr_head (link_to index)
 
-    pub linked_unused : (shape r.linked).unused ≡ made.unused
-    linked_unused = same_members r.linked made.records uir_type made.gdr gdr_uir_head (shape r.linked).unused made.unused heads_edit.tiled_now
-        (subst (λ (g : ℕ). IsChain r.linked made.records uir_type (number r.linked g gdr_uir_head) (shape r.linked).unused) linked_gdr (subst (λ (ts : List ℕ). IsChain r.linked ts uir_type (number r.linked (shape r.linked).gdr gdr_uir_head) (shape r.linked).unused) linked_records whole.has_shape.unused_chain))
-        (chain_stays heads_edit uir_type _ _ made.unused h_made.unused_chain (gdr_field sound_made heads_edit (no_vdr_file kind v) gdr_uir_head (no_vdr_head kind v).0 (omega arith)) (λ m i. away-avoids (heads_marks kind v) uir_type m 0 20 (unmarked-away (heads_marks kind v) uir_type m (no_vdr_unused kind v))))
+    pub head_is : number linked v vdr_vxr_head ≡ link_to index
+    head_is = ap (λ (y : List ℕ). number y v vdr_vxr_head) heads ∙ other_words first v vdr_vxr_tail (link_to index) (v + 28) 8 (tail_lies first refl) (inl (omega arith)) ∙ field_reads made v vdr_vxr_head (link_to index) head_lies x.small
 
-    pub may_free : MayFree r.linked (vxr_type ∷ []) olds
-    may_free = record {
-      stand = λ m i. subst (In m) (sym linked_records) (t.grows.edit.sub m (node_before m i));
-      typed = λ m i. ap (λ (x : ℕ). is_in x (vxr_type ∷ [])) (type_linked m i);
-      used = λ m i u. apart vxr_type uir_type refl (sym (type_linked m i) ∙ u);
+    pub tail_is : number linked v vdr_vxr_tail ≡ link_to index
+    tail_is = ap (λ (y : List ℕ). number y v vdr_vxr_tail) heads ∙ field_reads first v vdr_vxr_tail (link_to index) (tail_lies first refl) x.small
+
+    -- both edits at once
+    pub both : (nodes : List ℕ) (limit : ℕ) → Edit b linked (shape b).records rs (index_made_marks kind v (shape b).unused places nodes limit) places
+    both nodes limit =
+        let e = edit_then t.grows.edit heads_edit in
+        subst (Edit b linked (shape b).records rs (index_made_marks kind v (shape b).unused places nodes limit)) (append-nil places)
+        (edit_under e (index_made_marks kind v (shape b).unused places nodes limit) (λ m type lo hi i is a. (a.0, (a.1.0, (a.1.1.0, (a.1.1.1.0, (a.1.1.1.1.0, (a.1.1.1.1.1.0, tt))))))))
+
+    pub node_linked : (m : ℕ) → In m olds → Kept b linked m
+    node_linked m i =
+        let k = kept t.grows.edit m vxr_type (node_before m i) (node_typed m i) refl in
+        kept_then b made linked m k (kept heads_edit m vxr_type (t.grows.edit.sub m (node_before m i)) (type_kept b made m k.same k.long ∙ node_typed m i) (tests [] 0).nodes_clear)
+
+    pub old_linked : (m : ℕ) → In m olds → type_at linked m ≡ vxr_type
+    old_linked m i = let k = node_linked m i in type_kept b linked m k.same k.long ∙ node_typed m i
+
+    -- the new nodes
+    pub new_kept : (m : ℕ) → In m places → Kept made linked m
+    new_kept m i = let at = taken.stand m i in kept heads_edit m vxr_type at.inside at.typed (tests [] 0).nodes_clear
+
+    pub new_linked : (m : ℕ) → In m places → type_at linked m ≡ vxr_type
+    new_linked m i = let k = new_kept m i in type_kept made linked m k.same k.long ∙ (taken.stand m i).typed
+
+    same_heads : SameHeads made linked rs rs
+    same_heads = record {
+      sizes = sizes_by_tiles made linked 8 8 (length made) rs refl sound_made.has_shape.tiled (subst (λ (n : ℕ). AreTiles linked 8 n rs) linked_long heads_edit.tiled_now);
+      types = λ m i. elim (heads_edit.kind m i) [ inl k ↦ k.1 | inr k ↦ elim k [ inl u ↦ absurd (u.0 i) | inr none ↦ absurd none ] ];
+      sub = λ m i. i;
+    }
+
+    pub bare_linked : Each (IsBare linked) (nodes_of index)
+    bare_linked = each (IsBare linked) (nodes_of index) (λ m i. bare_by made linked m (new_kept m (in_places m i)) (Each-in (IsBare made) (nodes_of index) x.bare m i))
+
+    new_index : NewIndex b linked kind own index rs (shape made).unused space_fields (taking_all (shape b).unused places (vxr_bytes 64)) [] (field 0 0) places
+    new_index = record {
+      edit = both [] 0;
+      tests = (tests [] 0).tests;
+      unspaced = refl;
+      own_nodes = λ m i j. absurd j;
+      typed_now = λ m i.
+          let size = same_heads.sizes m (taken.stand m i).inside ∙ (taken.stand m i).size_is in
+          (ap is_record_type (new_linked m i), subst (λ (k : ℕ). fixed_size k ≤ size_at linked m) (sym (new_linked m i)) (omega arith));
+      unused_chain =
+          let head = gdr_field sound_made heads_edit (tests [] 0).file_clear gdr_uir_head (tests [] 0).list_clear (omega arith) in
+          let away = λ (m : ℕ). unmarked-away (heads_marks kind v) uir_type m (tests [] 0).unused_clear in
+          subst (λ (g : ℕ). IsChain linked rs uir_type (number linked g gdr_uir_head) (shape made).unused) (ap (λ (y : Shape). y.gdr) t.grows.same_shape)
+          (chain_stays heads_edit uir_type _ _ (shape made).unused sound_made.has_shape.unused_chain head (λ m i. away-avoids (heads_marks kind v) uir_type m 0 20 (away m)));
+      index_now = record {
+        link_is = head_is;
+        has_nodes = nodes_kept made linked rs rs same_heads 8 index x.stands (λ m i. new_kept m (in_places m i)) (λ m i. (Each-in (IsBare made) (nodes_of index) x.bare m i).fits)
+            (λ m i. t.grows.edit.sub m (behind_in good among m (block_behind own m (subst (λ (ls : List Leaf). In m (places_of ls)) x.leaves_stay i))));
+        once = distinct_if (nodes_of index) (λ m. subst (λ (n : ℕ). n ≤ 1) (x.each_taken m) (times_most m places t.once));
+      };
+    }
+
+    edited : IndexEdit b linked kind own index rs (shape made).unused (index_made_marks kind v (shape b).unused places [] 0) places
+    edited = index_edit good among new_index
+
+    own_edited : OwnEdit b linked kind own index rs (shape made).unused (index_made_marks kind v (shape b).unused places [] 0) places
+    own_edited = own_edit good among new_index
+
+    abbrev mine : VariableShape
+    mine = with_index own index
+
+    abbrev s' : Shape
+    s' = with_shapes (shape b) kind rs (shape made).unused (before ++ mine ∷ after)
+
+    pub linked_shape : shape linked ≡ s'
+    linked_shape = same_shape good among own_edited
+
+    block_stands : (m : ℕ) → In m (places_of (leaves_of own.index)) → StandsOn (file good among edited) (stays good among edited) (shape b).records rs sound.has_shape.fixed m
+    block_stands m i = let was = behind_in good among m (block_behind own m i) in record { was = was; is = t.grows.edit.sub m was; kept = block_kept good among new_index m i }
+
+    cpr_stands : (m : ℕ) → In m own.cpr → is_a linked rs cpr_type m ≡ true
+    cpr_stands m i =
+        let there = behind_in good among m (cpr_behind own m i) in
+        let is = is_a-type b (shape b).records cpr_type m (Each-in (λ y. is_a b (shape b).records cpr_type y ≡ true) own.cpr (fits good among).3 m i) in
+        let k = kept (both [] 0) m cpr_type there is (tests [] 0).tests.cpr_clear in
+        is_a-from linked rs cpr_type m (t.grows.edit.sub m there) (type_kept b linked m k.same k.long ∙ is)
+
+    fits_now : VariableFits linked rs mine
+    fits_now = (
+      rw (vdr_size good among edited, end_stays (file good among edited) (stays good among edited)) (fits good among).0,
+      Each-map (IsBare linked) (NodeFits linked) (λ m bare. bare.fits) (nodes_of index) bare_linked,
+      subst (Each (LeafFits linked rs v)) (sym x.leaves_stay) (fits_on (file good among edited) (stays good among edited) (shape b).records rs sound.has_shape.fixed (leaves_of own.index) block_stands (fits good among).2),
+      each (λ m. is_a linked rs cpr_type m ≡ true) own.cpr cpr_stands,
+    )
+
+    -- how often the owners have a record
+    used_now : (m : ℕ) → used_times s' m + times m olds ≡ used_times (shape b) m + times m places
+    used_now m = spliced_times (shape b) kind rs (shape made).unused before (own ∷ []) (mine ∷ []) after among.was m (times m places) (times m olds)
+        (omega (arith, times-append m (variable_records mine) [], times-append m (variable_records own) [], parts_times own m, parts_times mine m, ap (λ (ls : List Leaf). times m (places_of ls)) x.leaves_stay, x.each_taken m))
+
+    once : (m : ℕ) → times m (owned_records linked s') ≤ 1
+    once = not_twice_kept b linked (shape b) s' _ places sound (both [] 0) (λ m out. omega (arith, used_now m, times-none m places out))
+        (λ m i. inl ((λ u. apart vxr_type uir_type refl (sym (new_linked m i) ∙ u)), omega (arith, used_now m, fresh_unowned sound m (t.fresh_all m i), times-once m places t.once i)))
+
+    pub sound_linked : IsSound linked (shape linked)
+    sound_linked = subst (IsSound linked) (sym linked_shape) (sound_if sound (splices good among own_edited) (fits_now, tt) once)
+
+    pub old_stands : (m : ℕ) → In m olds → In m (shape linked).records
+    old_stands m i = subst (λ (y : Shape). In m y.records) (sym linked_shape) (t.grows.edit.sub m (node_before m i))
+
+    pub old_free : AreFree linked olds
+    old_free = record {
+      stand = old_stands;
+      unowned = λ m i. subst (λ (y : Shape). times m (owned_records linked y) ≡ 0) (sym linked_shape)
+          (none_in_use linked s' heads_edit.tiled_now m (λ u. apart vxr_type uir_type refl (sym (old_linked m i) ∙ u)) (omega (arith, used_now m, sound.not_twice m, owned-times b (shape b) m, times-in m olds i, times-none m places (λ j. new_apart m j i))));
       once = (has good among).indexed.once;
     }
 
-    pub left : IsLeft r.linked now
-    left = all_left r.linked now olds whole may_free.stand r.given
+    pub among_linked : StandsAmong linked kind before mine after
+    among_linked = among_now good among own_edited
 
-    records_left : (shape now).records ≡ (shape r.linked).records
-    records_left = ap (λ (x : Shape). x.records) left.shape_is
+    pub vdr_linked : (type_at linked v ≡ type_in (variables_chain kind)) × (340 ≤ size_at linked v)
+    vdr_linked = (vdr_type good among edited ∙ typed good among, subst (λ (n : ℕ). 340 ≤ n) (sym (vdr_size good among edited)) (long good among))
 
-    pub records_now : (shape now).records ≡ made.records
-    records_now = records_left ∙ linked_records
+    -- what the variable means
+    variable_means : variable_of linked mine ≡ variable_of b own
+    variable_means =
+        let max = max_rec_kept good among new_index in
+        let all = ap (records_in linked v) x.leaves_stay ∙ records_alike (file good among edited) (vdr_alike good among edited) max (leaves_of own.index) (shape b).records (block_kept good among new_index) (fits good among).2 in
+        variable_stays (file good among edited) own mine (stays good among edited) refl ∙ (λ i. record (variable_of b own) { max_rec = cast_signed w32 (max i); recs = all i })
 
-    pub gives_edit : Edit r.linked now made.records (shape now).records (freeing_marks (vxr_type ∷ []) made.unused olds (length r.linked)) olds
-    gives_edit =
-        let all = all_given_edit r.linked now (vxr_type ∷ []) olds whole may_free r.given in
-        let list = linked_unused in
-        let named = subst (λ (us : List ℕ). Edit r.linked now (shape r.linked).records (shape r.linked).records (freeing_marks (vxr_type ∷ []) us olds (length r.linked)) olds) list all in
-        let from = subst (λ (ts : List ℕ). Edit r.linked now ts (shape r.linked).records (freeing_marks (vxr_type ∷ []) made.unused olds (length r.linked)) olds) linked_records named in
-        subst (λ (ts : List ℕ). Edit r.linked now made.records ts (freeing_marks (vxr_type ∷ []) made.unused olds (length r.linked)) olds) (sym records_left) from
-
-    -- ---- the whole
-
-    abbrev pub marks : List Mark
-    marks = index_made_marks kind v (shape b).unused places olds (length r.linked)
-
-    abbrev pub reborn : List ℕ
-    reborn = places ++ olds
-
-    pub edit : Edit b now (shape b).records (shape now).records marks reborn
-    edit = edit_under (edit_then t.grows.edit (edit_then heads_edit gives_edit)) marks (λ m type lo hi i is a.
-        Avoids-append (taking_all (shape b).unused places (vxr_bytes 64)) (heads_marks kind v ++ freeing_marks (vxr_type ∷ []) made.unused olds (length r.linked)) type m lo hi
-        (a.0, (a.1.0, (a.1.1.0, (a.1.1.1.0, (a.1.1.1.1.0, tt)))))
-        (a.1.1.1.1.1.0, (a.1.0, ((λ same lies. a.1.1.1.0 same (t.before m i lies)), (a.1.1.1.1.1.1.0, tt)))))
-
-    pub long_now : length now ≡ length r.made
-    long_now = left.long ∙ linked_long
-
-    -- ---- the variable with its new index
-
-    abbrev pub mine : VariableShape
-    mine = with_index own r.index
-
-    gdr_now : (shape now).gdr ≡ (shape b).gdr
-    gdr_now = sym r.sound.has_shape.gdr_is ∙ gdr_place sound edit (made_tests kind v (shape b).unused places olds (length r.linked)).file_clear
-
-    reborn_in : (m : ℕ) → In m reborn → In m (shape now).records
-    reborn_in m i = elim (In-append m places olds i) [ inl j ↦ subst (In m) (sym records_now) (taken.stand m j).inside | inr j ↦ edit.sub m (node_before m j) ]
-
-    pub new_index : NewIndex b now kind own r.index (shape now).records (shape now).unused space_fields (taking_all (shape b).unused places (vxr_bytes 64)) olds (field 0 (length r.linked)) reborn
-    new_index = record {
-      edit = edit;
-      tests = made_tests kind v (shape b).unused places olds (length r.linked);
-      unspaced = refl;
-      own_nodes = λ m i j. inl j;
-      typed_now = λ m i. (r.sound.has_shape.typed m (reborn_in m i), r.sound.has_shape.fixed m (reborn_in m i));
-      unused_chain = subst (λ (g : ℕ). IsChain now (shape now).records uir_type (number now g gdr_uir_head) (shape now).unused) gdr_now r.sound.has_shape.unused_chain;
-      index_now = r.stands;
-    }
+    pub content_linked : content linked ≡ content b
+    content_linked =
+        let all : variables_of (content b) kind ≡ map (variable_of b) before ++ variable_of b own ∷ map (variable_of b) after =
+        ap (λ (d : DataSet). variables_of d kind) (content_is b (shape b) sound.has_shape) ∙ variables_of_are b (shape b) kind ∙ ap (map (variable_of b)) among.was ∙ map-append (variable_of b) before (own ∷ after) in
+        content_now sound (splices good among own_edited) ∙ ap (λ (w : Variable). with_variables (content b) kind (map (variable_of b) before ++ w ∷ map (variable_of b) after)) variable_means ∙ ap (with_variables (content b) kind) (sym all) ∙ itself kind (content b)
+      where
+        itself : (k : Kind) (d : DataSet) → with_variables d k (variables_of d k) ≡ d
+        itself R d = refl
+        itself Z d = refl

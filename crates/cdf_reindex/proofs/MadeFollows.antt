@@ -1,52 +1,35 @@
 -- An index made anew follows `reindex`.
-use Rattle.std.proofs.Common.{◌≡◌, ◌≢◌, ℕ, ◌+◌, ◌<◌, ◌≤◌, List, [], ◌∷◌, ◌++◌, length, map, Bool, true, false, Option, Some, None, true≢false, refl, sym, ap, subst, ◌∙◌, arith, inl, inr}
-use Rattle.cdf_reindex.proofs.Common.{sum, if◌then◌else◌, Kind, image_limit, Found, Same, content, number, size_at, type_at, Nodes, no_node, node, room_at, IsNode, owned, vdr_vxr_tail, gdr_type, vxr_type, VariableShape, shape, vdrs, IsSound, In, AreTiles, Good, size_kept, good_by_its_shape, good_is_sound, is_in-true, Allowance, Allowances, AllKeep, Keeps, Only, shapes_of, levels_up, made_acts, reindex_changes, reindex_room, vxr_bytes, last_node, Act, gave, links_end, taken, gdr_typed, StandsAmong, apart, IsBare, IsRebuilt, Reindexed}
-use Rattle.cdf_edits.proofs.Commands.ListParts.{got-middle}
-use Rattle.std.proofs.lemmas.Option.{same_Some}
-use Rattle.std.specs.List.{slice_get}
-use Rattle.cdf_model.specs.declared.answer.Reply.TheVariants as replies
-use Rattle.cdf_model.specs.declared.command.Command.TheVariants as commands
-use Rattle.cdf_model.specs.Answers.{Go}
-use Rattle.cdf_model.specs.DataSet.{DataSet}
-use Rattle.cdf_model.specs.Names.{variable_named}
-use Rattle.cdf_model.specs.Step.{ByStep}
-use Rattle.cdf_model.specs.VariableSteps.{reindex_step}
-use Rattle.cdf_format.specs.Chains.{next_of}
-use Rattle.cdf_format.specs.Index.{leaves_of, nodes_of}
-use Rattle.cdf_format.specs.Owners.{Owner}
-use Rattle.cdf_format.proofs.Owning.{owned_stand}
-use Rattle.cdf_edits.specs.Commands.Allowances.{FreedStay, GivenStay, allowance, no_fields, stays_all, Anything}
-use Rattle.cdf_edits.specs.Commands.Keeps.{allowances}
+use Rattle.std.proofs.Common.{Bool, List, None, Option, Some, [], ap, arith, false, if◌then◌else◌, inl, inr, length, map, refl, subst, sym, true, true≢false, ℕ, ◌++◌, ◌+◌, ◌<◌, ◌∙◌, ◌∷◌, ◌≡◌, ◌≢◌, ◌≤◌}
+use Rattle.cdf_reindex.proofs.Common.{Act, AllKeep, Allowances, AreTiles, ByStep, DataSet, Each-map, Follows, Found, FreedStay, GivenStay, Go, Good, In, IsBare, IsNode, IsRebuilt, Kind, MakesIndex, NodeSpareStays, Nodes, NodesFollow, Reindexed, Same, StandsAmong, TailFollows, UnusedEntries, VariableShape, allowances, apart, content, each, freed_stay, gave, gdr_type, gdr_typed, got-middle, image_limit, is_in-true, is_taken_at, last_node, levels_up, links_end, made_acts, next_of, no_fields, no_node, node, number, owned, reindex_changes, reindex_room, room, room_at, same_Some, shape, shapes_of, size_at, sizes_by_tiles, slice_get, stays_all, sum, taken, top_stays, type_at, variable_named, vdr_vxr_tail, vdrs, vxr_type, with_index}
+use Rattle.cdf_edits.proofs.Commands.ReadingFollows.{staying_follows}
 use Rattle.cdf_edits.specs.Commands.Named.{OfVariable}
-use Rattle.cdf_edits.specs.Commands.Reindex.{MakesIndex, nodes_at}
-use Rattle.cdf_edits.specs.Commands.Room.{nodes_above, room}
-use Rattle.cdf_edits.specs.Follows.{Follows}
-use Rattle.cdf_edits.specs.Index.Written.{NodeSpareStays, NodesFollow, TailFollows, UnusedEntries, is_taken_at, top_stays}
-use Rattle.cdf_edits.proofs.Edits.FreedBytes.{freed_stay}
-use Rattle.cdf_edits.proofs.Edits.FreedRecords.{sizes_by_tiles}
-use Rattle.cdf_edits.proofs.Edits.VariableFrame.{Each-map}
-use Rattle.cdf_edits.proofs.Space.ActsLeave.{each, no_acts}
-use Rattle.cdf_reindex.proofs.MadeActs.{made_follow, same_size, taken_nodes, taken_within}
-use Rattle.cdf_reindex.proofs.MadeEdit.{edit, gives_edit, heads_edit, left, may_free, mine, node_linked, node_made, olds, records_now, type_linked}
+use Rattle.cdf_edits.specs.Commands.Reindex.{nodes_at}
+use Rattle.cdf_edits.specs.Commands.Room.{nodes_above}
+use Rattle.cdf_format.specs.Index.{leaves_of, nodes_of}
+use Rattle.cdf_model.specs.VariableSteps.{reindex_step}
+use Rattle.cdf_reindex.proofs.Levels.{in_by_times}
+use Rattle.cdf_reindex.proofs.MadeActs.{made_follow, same_size, taken_places, taken_within}
+use Rattle.cdf_reindex.proofs.MadeEdit.{heads_edit, node_linked, old_linked}
+use Rattle.cdf_reindex.proofs.MadeFreed.{edit, gives_edit, left, may_free, records_now}
 use Rattle.cdf_reindex.proofs.MadeGood.{among_now, good_now, vdrs_stay}
 use Rattle.cdf_reindex.proofs.MadeKeeps.{made_keeps}
 use Rattle.cdf_reindex.proofs.MadeTaken.{node_takes}
-use Rattle.cdf_reindex.proofs.MadeTree.{in_levels}
-use Rattle.cdf_reindex.proofs.PyramidRebuilt.{no_pyramid}
+use Rattle.cdf_reindex.proofs.PyramidBuilt.{no_pyramid}
+use Rattle.cdf_model.specs.declared.answer.Reply.TheVariants as replies
+use Rattle.cdf_model.specs.declared.command.Command.TheVariants as commands
 
 -- ---- the step of a data set
 
 pub goes_by : (d : DataSet) (name : List ℕ) (found : Found) → variable_named d name ≡ Some found → reindex_step d name ≡ Go d replies.Plain
 goes_by d name found e = rw e refl
 
+got_at : {n : ℕ} {vs : List VariableShape} (before : List VariableShape) (own : VariableShape) (after : List VariableShape) → n ≡ length before → vs ≡ before ++ own ∷ after → slice_get vs n ≡ Some own
+got_at before own after at was = (λ i. slice_get (was i) (at i)) ∙ got-middle before own after
+
 -- ---- the nodes that were taken
 
-places_taken : (new : List ℕ) → map (λ (take : ℕ × ℕ). take.0) (map (λ place. (place, vxr_bytes 64)) new) ≡ new
-places_taken [] = refl
-places_taken (place ∷ new) = ap (λ (xs : List ℕ). place ∷ xs) (places_taken new)
-
 taken_there : (b new old : List ℕ) (m : ℕ) → In m new → is_taken_at (node_takes new ++ gave b old) m ≡ true
-taken_there b new old m i = is_in-true m _ (subst (In m) (sym (ap (map (λ (take : ℕ × ℕ). take.0)) (taken_nodes b new old) ∙ places_taken new)) i)
+taken_there b new old m i = is_in-true m _ (subst (In m) (sym (taken_places b new old)) i)
 
 -- ---- what is freed, behind what is taken
 
@@ -88,15 +71,15 @@ module _ (b name : List ℕ) (found : Found) {own : VariableShape} (named : vari
 
 -- ---- an index that was made anew
 
-module _ {b now : List ℕ} (found : Found) {before : List VariableShape} {own : VariableShape} {after : List VariableShape} (good : Good b) (among : StandsAmong b found.kind before own after) (at : found.number ≡ length before) (r : IsRebuilt b now own) (whole : IsSound r.linked (shape r.linked)) (some : IsNode own.index) where
+module _ {b now : List ℕ} (found : Found) {before : List VariableShape} {own : VariableShape} {after : List VariableShape} (good : Good b) (among : StandsAmong b found.kind before own after) (at : found.number ≡ length before) (r : IsRebuilt b now own) (some : IsNode own.index) where
   abbrev done : List Act
   done = made_acts b own.index r.index
 
   abbrev of_own : VariableShape
-  of_own = mine good among r whole
+  of_own = with_index own r.index
 
   taken_all : (m : ℕ) → In m (nodes_of r.index) → is_taken_at done m ≡ true
-  taken_all m i = taken_there b (levels_up 7 r.index) (nodes_of own.index) m (in_levels now (shape now).records r.index r.stands.has_nodes m i)
+  taken_all m i = taken_there b (levels_up 7 r.index) (nodes_of own.index) m (in_by_times (nodes_of r.index) (levels_up 7 r.index) (λ k. sym (r.built.each_taken k)) m i)
 
   -- ---- its nodes
 
@@ -114,40 +97,38 @@ module _ {b now : List ℕ} (found : Found) {before : List VariableShape} {own :
 
   -- ---- the nodes that were freed
 
-  size_left : (m : ℕ) → In m (olds good among r) → size_at now m ≡ size_at r.linked m
+  size_left : (m : ℕ) → In m (nodes_of own.index) → size_at now m ≡ size_at r.linked m
   size_left m i =
-      let records = records_now good among r whole in
-      let tiled = subst (λ (ts : List ℕ). AreTiles now 8 (length now) ts) records (gives_edit good among r whole).tiled_now in
-      sizes_by_tiles r.linked now 8 8 (length r.linked) _ refl (heads_edit good among r).tiled_now (subst (λ (n : ℕ). AreTiles now 8 n (shape r.made).records) (left good among r whole).long tiled) m (there m i)
+      let records = records_now good among r.built r.heads now r.given in
+      let tiled = subst (λ (ts : List ℕ). AreTiles now 8 (length now) ts) records (gives_edit good among r.built r.heads now r.given).tiled_now in
+      sizes_by_tiles r.linked now 8 8 (length r.linked) _ refl (heads_edit good among r.built r.heads).tiled_now (subst (λ (n : ℕ). AreTiles now 8 n (shape r.made).records) (left good among r.built r.heads now r.given).long tiled) m (there m i)
     where
-      there : (m : ℕ) → In m (olds good among r) → In m (shape r.made).records
-      there m i = subst (In m) (records_now good among r whole) (subst (In m) (sym (ap (λ x. x.records) (left good among r whole).shape_is)) ((may_free good among r whole).stand m i))
+      there : (m : ℕ) → In m (nodes_of own.index) → In m (shape r.made).records
+      there m i = subst (In m) (records_now good among r.built r.heads now r.given) (subst (In m) (sym (ap (λ x. x.records) (left good among r.built r.heads now r.given).shape_is)) ((may_free good among r.built r.heads).stand m i))
 
-  size_now : (m : ℕ) → In m (olds good among r) → size_at now m ≡ size_at b m
-  size_now m i = size_left m i ∙ same_size good among r whole m i
+  size_now : (m : ℕ) → In m (nodes_of own.index) → size_at now m ≡ size_at b m
+  size_now m i = size_left m i ∙ same_size good among r m i
 
-  no_gdr : (m : ℕ) → In m (olds good among r) → m ≢ (shape r.linked).gdr
-  no_gdr m i q = apart vxr_type gdr_type refl (sym (type_linked good among r m i) ∙ ap (type_at r.linked) q ∙ gdr_typed r.linked (shape r.linked) whole.has_shape)
+  no_gdr : (m : ℕ) → In m (nodes_of own.index) → m ≢ (shape r.linked).gdr
+  no_gdr m i q = apart vxr_type gdr_type refl (sym (old_linked good among r.built r.heads m i) ∙ ap (type_at r.linked) q ∙ gdr_typed r.linked (shape r.linked) r.linked_sound.has_shape)
 
-  behind : (m : ℕ) → In m (olds good among r) → Same b now (m + links_end (size_at b m)) (m + size_at b m)
+  behind : (m : ℕ) → In m (nodes_of own.index) → Same b now (m + links_end (size_at b m)) (m + size_at b m)
   behind m i =
-      let one = node_made good among r m i in
-      let two = node_linked good among r m i in
-      let last = (left good among r whole).behind m ((may_free good among r whole).stand m i) (no_gdr m i) in
-      let last' : Same r.linked now (m + links_end (size_at b m)) (m + size_at b m) = subst (λ (n : ℕ). Same r.linked now (m + links_end n) (m + n)) (same_size good among r whole m i) last in
-      let middle : size_at r.made m ≡ size_at b m = size_kept b r.made m one.same (let l = one.long in omega arith) in
-      record { each = λ k l u. last'.each k l u ∙ two.same.each k (omega arith) (subst (λ (n : ℕ). k < m + n) (sym middle) u) ∙ one.same.each k (omega arith) u }
+      let first = node_linked good among r.built r.heads m i in
+      let last = (left good among r.built r.heads now r.given).behind m ((may_free good among r.built r.heads).stand m i) (no_gdr m i) in
+      let last' : Same r.linked now (m + links_end (size_at b m)) (m + size_at b m) = subst (λ (n : ℕ). Same r.linked now (m + links_end n) (m + n)) (same_size good among r m i) last in
+      record { each = λ k l u. last'.each k l u ∙ first.same.each k (omega arith) u }
 
   freed : FreedStay b now no_fields done
   freed = given_after b now done (levels_up 7 r.index) (gave b (nodes_of own.index))
-      (freed_stay b now done (nodes_of own.index) no_fields r.sound.has_shape.tiled (λ m i. subst (In m) (sym (ap (λ x. x.records) (left good among r whole).shape_is)) ((may_free good among r whole).stand m i)) size_now behind)
+      (freed_stay b now done (nodes_of own.index) no_fields r.sound.has_shape.tiled (λ m i. subst (In m) (sym (ap (λ x. x.records) (left good among r.built r.heads now r.given).shape_is)) ((may_free good among r.built r.heads).stand m i)) size_now behind)
 
   makes : MakesIndex b now own of_own done
   makes = record {
     acts_are = refl;
-    leaves_stay = r.leaves_stay;
-    fewest = r.fewest ∙ ap (λ leaves. nodes_above 8 (length leaves)) (sym r.leaves_stay);
-    filled = r.filled;
+    leaves_stay = r.built.leaves_stay;
+    fewest = r.built.fewest ∙ ap (λ leaves. nodes_above 8 (length leaves)) (sym r.built.leaves_stay);
+    filled = r.built.filled;
     wide = Each-map (IsBare now) (λ vxr. room_at now vxr ≡ 64) (λ m bare. bare.room_is) (nodes_of r.index) r.bare;
     alone = Each-map (IsBare now) (λ vxr. next_of now vxr ≡ 0) (λ m bare. bare.next_is) (nodes_of r.index) r.bare;
     nodes = nodes_follow;
@@ -159,86 +140,43 @@ module _ {b now : List ℕ} (found : Found) {before : List VariableShape} {own :
 
   module _ (name : List ℕ) (named : variable_named (content b) name ≡ Some found) (short : length now ≤ image_limit) where
     there : slice_get (shapes_of (shape b) found.kind) found.number ≡ Some own
-    there = ap (slice_get (shapes_of (shape b) found.kind)) at ∙ ap (λ (vs : List VariableShape). slice_get vs (length before)) among.was ∙ got-middle before own after
+    there = got_at before own after at among.was
 
     there_now : slice_get (shapes_of (shape now) found.kind) found.number ≡ Some of_own
-    there_now = ap (slice_get (shapes_of (shape now) found.kind)) at ∙ ap (λ (vs : List VariableShape). slice_get vs (length before)) (among_now good among r whole short).was ∙ got-middle before of_own after
+    there_now = got_at before of_own after at (among_now good among r short).was
 
     pub rebuilt_follows : Follows b (commands.Reindex name) now
     rebuilt_follows = record {
       reply = replies.Plain;
       goes = ap ByStep (goes_by (content b) name found named) ∙ ap (λ (d : DataSet). ByStep (Go d replies.Plain)) (sym r.content_stays);
-      good = good_now good among r whole short;
-      longer = (edit good among r whole).longer;
+      good = good_now good among r short;
+      longer = (edit good among r.built r.heads now r.given).longer;
       within = subst (λ (n : ℕ). length now ≤ length b + n) (sym (room_is b name found named there)) r.longest;
       reads = λ e. absurd cc;
       acts = done;
       takes_within = subst (λ (n : ℕ). sum (map (λ take. take.1) (taken done)) ≤ n) (sym (room_is b name found named there)) (taken_within good among r);
-      acts_follow = made_follow good among r whole;
-      keeps = keeps_by b name found named there now done (made_keeps found good among at r whole);
+      acts_follow = made_follow good among r;
+      keeps = keeps_by b name found named there now done (made_keeps found good among at r);
       does = does_by b name found named there there_now makes;
     }
 
 -- ---- an index without nodes stays, and so does every byte
 
-keeps_itself : (b : List ℕ) (place : ℕ) (a : Allowance) → In place (shape b).records → Keeps b b place a
-keeps_itself b place Anything i = tt
-keeps_itself b place (Only fields) i = record { stands = i; size_is = refl; same = λ n lt out. refl }
-
-all_keep : (b : List ℕ) (may : Allowances) (acts : List Act) (list : List (ℕ × Owner)) → ((m : ℕ) → In m (map (λ (p : ℕ × Owner). p.0) list) → In m (shape b).records) → AllKeep b b may acts list
-all_keep b may acts [] h = tt
-all_keep b may acts ((place, owner) ∷ more) h = (keeps_itself b place (allowance b (shape b) may acts place owner) (h place (inl refl)), all_keep b may acts more (λ m i. h m (inr i)))
-
-none_made : (b : List ℕ) → [] ≡ made_acts b no_node no_node
-unfolding nodes_of nodes_at
-none_made b = refl
-
-none_fewest : length (nodes_of no_node) ≡ nodes_above 8 (length (leaves_of no_node))
-unfolding nodes_of leaves_of nodes_above
-none_fewest = refl
-
 none_stays : (b : List ℕ) (vdr : ℕ) (cpr : List ℕ) → MakesIndex b b (record { vdr = vdr; index = no_node; cpr = cpr }) (record { vdr = vdr; index = no_node; cpr = cpr }) []
-unfolding nodes_of
-none_stays b vdr cpr = record {
-  acts_are = none_made b;
-  leaves_stay = refl;
-  fewest = none_fewest;
-  filled = no_pyramid;
-  wide = tt;
-  alone = tt;
-  nodes = record { unused = tt; spare = tt };
-  tail = refl;
-  freed = tt;
-}
+unfolding nodes_of leaves_of nodes_at nodes_above
+none_stays b vdr cpr = record { acts_are = refl; leaves_stay = refl; fewest = refl; filled = no_pyramid; wide = tt; alone = tt; nodes = record { unused = tt; spare = tt }; tail = refl; freed = tt }
 
 none_makes : (b : List ℕ) (own : VariableShape) → own.index ≡ no_node → MakesIndex b b own own []
-none_makes b own none =
-    let here : own ≡ record { vdr = own.vdr; index = no_node; cpr = own.cpr } = λ i. record { vdr = own.vdr; index = none i; cpr = own.cpr } in
-    subst (λ (x : VariableShape). MakesIndex b b x x []) (sym here) (none_stays b own.vdr own.cpr)
-
-pub none_follows : (b : List ℕ) (found : Found) {own : VariableShape} (name : List ℕ) → Good b → variable_named (content b) name ≡ Some found → slice_get (shapes_of (shape b) found.kind) found.number ≡ Some own → own.index ≡ no_node → Follows b (commands.Reindex name) b
-none_follows b found {own = own} name good named there none = record {
-  reply = replies.Plain;
-  goes = ap ByStep (goes_by (content b) name found named);
-  good = good;
-  longer = omega arith;
-  within = omega arith;
-  reads = λ e. absurd cc;
-  acts = [];
-  takes_within = omega arith;
-  acts_follow = no_acts b b (good_is_sound b good).has_shape (record { records = refl; list = refl; long = refl; size = λ m i. refl; type = λ m i. refl; back = λ m i. refl });
-  keeps = all_keep b (allowances b (content b) (shape b) (commands.Reindex name)) [] (owned b (shape b)) (owned_stand b (shape b) (good_by_its_shape b good));
-  does = does_by b name found named there there (none_makes b own none);
-}
+none_makes b own none = subst (λ (n : Nodes). MakesIndex b b (record own { index = n }) (record own { index = n }) []) (sym none) (none_stays b own.vdr own.cpr)
 
 -- ---- what a call that makes an index anew comes to
 
 module _ {b now : List ℕ} (found : Found) {before : List VariableShape} {own : VariableShape} {after : List VariableShape} (name : List ℕ) (good : Good b) (among : StandsAmong b found.kind before own after) (at : found.number ≡ length before) (named : variable_named (content b) name ≡ Some found) (short : length now ≤ image_limit) where
   pub reindexed_follows : Reindexed b now own → Follows b (commands.Reindex name) now
   reindexed_follows (inl x) =
-      let there : slice_get (shapes_of (shape b) found.kind) found.number ≡ Some own = ap (slice_get (shapes_of (shape b) found.kind)) at ∙ ap (λ (vs : List VariableShape). slice_get vs (length before)) among.was ∙ got-middle before own after in
-      subst (Follows b (commands.Reindex name)) (sym x.1) (none_follows b found name good named there x.0)
-  reindexed_follows (inr x) = rebuilt_follows found good among at x.1 x.1.linked_sound x.0 name named short
+      let there = got_at before own after at among.was in
+      subst (Follows b (commands.Reindex name)) (sym x.1) (staying_follows b (commands.Reindex name) replies.Plain (ap ByStep (goes_by (content b) name found named)) good (does_by b name found named there there (none_makes b own x.0)))
+  reindexed_follows (inr x) = rebuilt_follows found good among at x.1 x.0 name named short
 
   pub reindexed_content : Reindexed b now own → content now ≡ content b
   reindexed_content (inl x) = ap content x.1
@@ -246,4 +184,4 @@ module _ {b now : List ℕ} (found : Found) {before : List VariableShape} {own :
 
   pub reindexed_places : Reindexed b now own → (k : Kind) → vdrs (shapes_of (shape now) k) ≡ vdrs (shapes_of (shape b) k)
   reindexed_places (inl x) k = ap (λ (y : List ℕ). vdrs (shapes_of (shape y) k)) x.1
-  reindexed_places (inr x) k = vdrs_stay good among x.1 x.1.linked_sound short k
+  reindexed_places (inr x) k = vdrs_stay good among x.1 short k

@@ -1,34 +1,19 @@
 -- An index made anew leads from one good image to another, with the same content.
-use Rattle.std.proofs.Common.{◌≡◌, ℕ, pos, negsuc, ◌+◌, ◌≤◌, List, [], ◌∷◌, ◌++◌, length, true, refl, sym, ap, subst, ◌∙◌, arith, inl, inr}
-use Rattle.cdf_reindex.proofs.Common.{flat_map, Kind, R, Z, image_limit, record_number_limit, is_in, number, type_at, eof, leaves_of, leaf_rows, times, gdr_eof, gdr_type, vxr_type, uir_type, Hold, VariableShape, Shape, vdrs, HasShape, shape, IsSound, In, Good, linkable-type, good_by_its_shape, good_is_sound, nodes_stand, In-append, Hold-split, shapes_of, Edit, freeing_marks, avoided, keeps_file, edit_then, IsOneOf, gdr_field, block_behind, StandsAmong, fits, has, behind_in, apart, IsRebuilt, Reindexed, IndexEdit, reindex_room, vxr_bytes}
-use Rattle.cdf_format.specs.IndexRules.{nodes_rows, index_rows}
-use Rattle.cdf_format.specs.NotRead.{read_types}
-use Rattle.cdf_format.proofs.GoodByShape.{IsGoodByShape}
-use Rattle.cdf_format.proofs.Members.{In-append_left, In-append_right}
-use Rattle.cdf_edits.proofs.Edits.FreedBytes.{all_unused}
+use Rattle.std.proofs.Common.{List, [], ap, arith, inl, inr, length, negsuc, pos, refl, subst, sym, true, ℕ, ◌++◌, ◌+◌, ◌∙◌, ◌∷◌, ◌≡◌, ◌≤◌}
+use Rattle.cdf_reindex.proofs.Common.{Each-map, Edit, Good, HasShape, Hold, Hold-split, In, In-append, In-append_left, In-append_right, IndexEdit, IsBare, IsGoodByShape, IsOneOf, IsRebuilt, IsRuled, IsSound, Kind, NodeFits, OwnEdit, R, Reindexed, Shape, StandsAmong, VariableShape, Z, all_unused, apart, behind_in, block_behind, by_kind, edit_then, eof, field, file, fits, flat_map, gdr_eof, gdr_field, good_by_its_shape, good_is_sound, has, image_limit, index_rows, is_in, leaf_rows, leaves_of, levels_up, linkable-type, nodes_of, nodes_stand, number, read_types, record_number_limit, reindex_room, shape, shapes_of, shapes_with, space_fields, stays, taking_all, times, type_at, uir_type, vdrs, vxr_bytes, vxr_n_used_entries, vxr_type, with_index, with_shapes}
 use Rattle.cdf_edits.proofs.Edits.InRecords.{places_of}
 use Rattle.cdf_edits.proofs.Edits.PlainLeaves.{own_rules}
-use Rattle.cdf_edits.proofs.Edits.VariableFrame.{IsRuled}
-use Rattle.cdf_edits.proofs.Edits.VariableKinds.{by_kind, shapes_with, with_shapes}
+use Rattle.cdf_format.specs.IndexRules.{nodes_rows}
 use Rattle.cdf_index.proofs.LeafRules.{index_order, index_rules}
+use Rattle.cdf_index.specs.Adding.{Counts}
+use Rattle.cdf_reindex.proofs.Levels.{in_by_times}
 use Rattle.cdf_reindex.proofs.MadeBlocks.{StandsOn, leaves_on}
-use Rattle.cdf_reindex.proofs.MadeEdit.{edit, gives_edit, heads_edit, heads_marks, long_now, marks, may_free, mine, new_index, olds, places, reborn, sound_made, t}
-use Rattle.cdf_edits.proofs.Edits.OwnEdited as of_own_edit
-use Rattle.cdf_edits.proofs.Edits.IndexEdited.{file, stays}
-use Rattle.cdf_edits.proofs.Edits.OwnEdited.{OwnEdit}
+use Rattle.cdf_reindex.proofs.MadeEdit.{heads_edit, sound_made, t, tests}
+use Rattle.cdf_reindex.proofs.MadeFreed.{edit, gives_edit, long_now, marks, may_free, new_index}
 use Rattle.cdf_index.proofs.NewIndex.{Exchanged, NewIndex, block_kept, good_now as changed_good, index_edit, node_room, own_edit}
-use Rattle.cdf_edits.proofs.Edits.TakenAll.{taking_all}
-use Rattle.cdf_edits.specs.Commands.Allowances.{space_fields}
-use Rattle.cdf_format.specs.Records.{field}
-use Rattle.cdf_reindex.proofs.MadeTree.{level_times, from_levels}
+use Rattle.cdf_edits.proofs.Edits.OwnEdited as of_own_edit
 
--- ---- what is freed leaves the end of the image
-
-late_clear : (kind : Kind) (v : ℕ) (unused nodes : List ℕ) (limit : ℕ) → (keeps_file (heads_marks kind v ++ freeing_marks (vxr_type ∷ []) unused nodes limit) ≡ true) × (avoided (heads_marks kind v ++ freeing_marks (vxr_type ∷ []) unused nodes limit) gdr_type 36 44 ≡ true)
-late_clear R v unused nodes limit = (refl, refl)
-late_clear Z v unused nodes limit = (refl, refl)
-
-module _ {b now : List ℕ} {kind : Kind} {before : List VariableShape} {own : VariableShape} {after : List VariableShape} (good : Good b) (among : StandsAmong b kind before own after) (r : IsRebuilt b now own) (whole : IsSound r.linked (shape r.linked)) (short : length now ≤ image_limit) where
+module _ {b now : List ℕ} {kind : Kind} {before : List VariableShape} {own : VariableShape} {after : List VariableShape} (good : Good b) (among : StandsAmong b kind before own after) (r : IsRebuilt b now own) (short : length now ≤ image_limit) where
   abbrev s : Shape
   s = shape b
 
@@ -36,19 +21,19 @@ module _ {b now : List ℕ} {kind : Kind} {before : List VariableShape} {own : V
   v = own.vdr
 
   abbrev ps : List ℕ
-  ps = places good among r
+  ps = levels_up 7 r.index
 
   abbrev os : List ℕ
-  os = olds good among r
+  os = nodes_of own.index
 
   abbrev of_own : VariableShape
-  of_own = mine good among r whole
+  of_own = with_index own r.index
 
   abbrev records' : List ℕ
   records' = (shape now).records
 
   abbrev born : List ℕ
-  born = reborn good among r whole
+  born = ps ++ os
 
   sound : IsSound b s
   sound = good_is_sound b good
@@ -59,16 +44,16 @@ module _ {b now : List ℕ} {kind : Kind} {before : List VariableShape} {own : V
   image : IsGoodByShape b s
   image = good_by_its_shape b good
 
-  e : Edit b now s.records records' (marks good among r whole) born
-  e = edit good among r whole
+  e : Edit b now s.records records' (marks good among r.built r.heads) born
+  e = edit good among r.built r.heads now r.given
 
   abbrev changed : NewIndex b now kind own r.index records' (shape now).unused space_fields (taking_all s.unused ps (vxr_bytes 64)) os (field 0 (length r.linked)) born
-  changed = new_index good among r whole
+  changed = new_index good among r.built r.heads now r.given
 
-  abbrev x : IndexEdit b now kind own r.index records' (shape now).unused (marks good among r whole) born
+  abbrev x : IndexEdit b now kind own r.index records' (shape now).unused (marks good among r.built r.heads) born
   x = index_edit good among changed
 
-  abbrev y : OwnEdit b now kind own r.index records' (shape now).unused (marks good among r whole) born
+  abbrev y : OwnEdit b now kind own r.index records' (shape now).unused (marks good among r.built r.heads) born
   y = own_edit good among changed
 
   -- ---- the blocks
@@ -84,24 +69,26 @@ module _ {b now : List ℕ} {kind : Kind} {before : List VariableShape} {own : V
   index_ruled : Hold (index_rows now records' v r.index)
   index_ruled =
       let blocks = (Hold-split (nodes_rows b s.records (negsuc 0) (pos record_number_limit) own.index) (flat_map (leaf_rows b s.records v) (leaves_of own.index)) own_before.1).1 in
-      index_rules now records' v r.index (r.order (index_order b s.records v own.index own_before.1)) (node_room good among changed r.fits r.counts short) (λ l i.
-      leaves_on (file good among x) (stays good among x) s.records records' h.fixed (leaves_of own.index) stands_on blocks (fits good among).2 l (subst (λ ls. IsOneOf ls l) r.leaves_stay i))
+      let fit = Each-map (IsBare now) (NodeFits now) (λ m bare. bare.fits) (nodes_of r.index) r.bare in
+      let count = Each-map (IsBare now) (Counts now) (λ m bare. subst (λ (n : ℕ). number now m vxr_n_used_entries ≤ n) (sym bare.room_is) bare.few) (nodes_of r.index) r.bare in
+      index_rules now records' v r.index (r.built.order (index_order b s.records v own.index own_before.1)) (node_room good among changed fit count short) (λ l i.
+      leaves_on (file good among x) (stays good among x) s.records records' h.fixed (leaves_of own.index) stands_on blocks (fits good among).2 l (subst (λ ls. IsOneOf ls l) r.built.leaves_stay i))
 
   -- ---- the owners
 
   pub new_type : (m : ℕ) → In m ps → type_at now m ≡ vxr_type
-  new_type m i = linkable-type now records' vxr_type m (nodes_stand now records' 8 r.index r.stands.has_nodes m (from_levels now records' r.index r.stands.has_nodes m i))
+  new_type m i = linkable-type now records' vxr_type m (nodes_stand now records' 8 r.index r.stands.has_nodes m (in_by_times ps (nodes_of r.index) r.built.each_taken m i))
 
   pub old_type : (m : ℕ) → In m os → type_at now m ≡ uir_type
-  old_type = all_unused r.linked now os whole (may_free good among r whole).stand r.given
+  old_type = all_unused r.linked now os r.linked_sound (may_free good among r.built r.heads).stand r.given
 
   exchanged : Exchanged b now own r.index born ps os
   exchanged = record {
     are_reborn = λ m i. In-append m ps os i;
     reborn_are = λ m i. elim i [ inl j ↦ In-append_left m ps os j | inr j ↦ In-append_right m ps os j ];
-    times_are = λ m. omega (arith, ap (λ ls. times m (places_of ls)) r.leaves_stay, level_times now records' r.index r.stands.has_nodes m);
-    fresh = (t good among r).fresh_all;
-    taken_once = (t good among r).once;
+    times_are = λ m. omega (arith, ap (λ ls. times m (places_of ls)) r.built.leaves_stay, r.built.each_taken m);
+    fresh = (t good among r.built).fresh_all;
+    taken_once = (t good among r.built).once;
     in_use = λ m i u. apart vxr_type uir_type refl (sym (new_type m i) ∙ u);
     were_nodes = λ m i. i;
     freed_once = (has good among).indexed.once;
@@ -117,10 +104,10 @@ module _ {b now : List ℕ} {kind : Kind} {before : List VariableShape} {own : V
 
   end_now : eof now s.gdr ≡ length now
   end_now =
-      let clear = late_clear kind v (shape r.made).unused os (length r.linked) in
-      let still = gdr_field (sound_made good among r) (edit_then (heads_edit good among r) (gives_edit good among r whole)) clear.0 gdr_eof clear.1 (omega arith) in
-      let g = ap (λ (x : Shape). x.gdr) (t good among r).grows.same_shape in
-      subst (λ (x : ℕ). number now x gdr_eof ≡ number r.made x gdr_eof) g still ∙ subst (λ (x : ℕ). eof r.made x ≡ length r.made) g (t good among r).grows.end_is ∙ sym (long_now good among r whole)
+      let tests = tests good among r.built [] 0 in
+      let still = gdr_field (sound_made good among r.built) (edit_then (heads_edit good among r.built r.heads) (gives_edit good among r.built r.heads now r.given)) tests.file_freed gdr_eof tests.end_clear (omega arith) in
+      let g = ap (λ (x : Shape). x.gdr) (t good among r.built).grows.same_shape in
+      subst (λ (x : ℕ). number now x gdr_eof ≡ number r.made x gdr_eof) g still ∙ subst (λ (x : ℕ). eof r.made x ≡ length r.made) g (t good among r.built).grows.end_is ∙ sym (long_now good among r.built r.heads now r.given)
 
   pub good_now : Good now
   good_now = changed_good good among changed ps os exchanged index_ruled reborn_read end_now short
@@ -141,4 +128,4 @@ module _ {b now : List ℕ} {kind : Kind} {before : List VariableShape} {own : V
 -- a good image stays good
 pub reindexed_good : {b now : List ℕ} {kind : Kind} {before : List VariableShape} {own : VariableShape} {after : List VariableShape} → Good b → StandsAmong b kind before own after → length b + reindex_room own.index ≤ image_limit → Reindexed b now own → Good now
 reindexed_good good among room (inl same) = subst Good (sym same.1) good
-reindexed_good good among room (inr made) = let longest = made.1.longest in good_now good among made.1 made.1.linked_sound (omega arith)
+reindexed_good good among room (inr made) = let longest = made.1.longest in good_now good among made.1 (omega arith)

@@ -1,22 +1,16 @@
 -- An index made anew: what it keeps of the records of each owner.
-use Rattle.std.proofs.Common.{◌≡◌, ℕ, ◌+◌, ◌≤◌, List, [], ◌∷◌, length, false, true, Option, eq-eqb, refl}
-use Rattle.cdf_reindex.proofs.Common.{◌==◌, ◌&&◌, nat_le, if◌then◌else◌, Found, size_at, owned, Field, uir_next_uir, uir_prev_uir, vdr_vxr_head, vdr_vxr_tail, uir_type, VariableShape, shape, IsSound, In, Good, Allowance, Allowances, AllKeep, Only, is_taken, reindex_changes, vxr_bytes, Avoids, Within, gave, StandsAmong, IsRebuilt}
-use Rattle.std.specs.Prelude.{nat_lt}
-use Rattle.cdf_edits.specs.Commands.Allowances.{only_of, range_at, same_kind, vdr_type}
-use Rattle.cdf_edits.specs.Index.Blocks.{Range}
-use Rattle.cdf_edits.proofs.Edits.VariableKept.{same_as_itself}
+use Rattle.std.proofs.Common.{List, Option, [], eq-eqb, false, if◌then◌else◌, length, refl, true, ℕ, ◌&&◌, ◌+◌, ◌==◌, ◌∷◌, ◌≡◌, ◌≤◌}
+use Rattle.cdf_reindex.proofs.Common.{AllKeep, Allowance, Allowances, Avoids, Field, Found, Good, In, IsRebuilt, Only, Range, StandsAmong, VariableShape, Within, by_range, descriptor_allowed, gave, index_keeps, is_taken, levels_up, listed_free, nat_le, nat_lt, node_allowed, nodes_of, only_of, owned, range_at, reindex_changes, same_as_itself, same_kind, shape, size_at, taking_all, uir_next_uir, uir_prev_uir, uir_type, unlisted_away, vdr_type, vdr_vxr_head, vdr_vxr_tail, vxr_bytes}
 use Rattle.cdf_edits.proofs.Edits.OnlyTaken.{none_of_both}
-use Rattle.cdf_index.proofs.NewIndex.{index_keeps}
-use Rattle.cdf_index.proofs.OwnRecords.{by_range, descriptor_allowed, node_allowed}
 use Rattle.cdf_reindex.proofs.MadeActs.{acts}
-use Rattle.cdf_reindex.proofs.MadeEdit.{new_index, olds, places, t}
+use Rattle.cdf_reindex.proofs.MadeEdit.{t}
+use Rattle.cdf_reindex.proofs.MadeFreed.{new_index}
 use Rattle.cdf_reindex.proofs.MadeTaken.{node_takes}
-use Rattle.cdf_edits.proofs.Edits.TakenAll.{listed_free, taking_all, unlisted_away}
 
 abbrev head_fields : List Field
 head_fields = vdr_vxr_head ∷ vdr_vxr_tail ∷ []
 
-module _ {b now : List ℕ} (found : Found) {before : List VariableShape} {own : VariableShape} {after : List VariableShape} (good : Good b) (among : StandsAmong b found.kind before own after) (at : found.number ≡ length before) (r : IsRebuilt b now own) (whole : IsSound r.linked (shape r.linked)) where
+module _ {b now : List ℕ} (found : Found) {before : List VariableShape} {own : VariableShape} {after : List VariableShape} (good : Good b) (among : StandsAmong b found.kind before own after) (at : found.number ≡ length before) (r : IsRebuilt b now own) where
   abbrev may : Allowances
   may = reindex_changes b (shape b) found
 
@@ -31,9 +25,9 @@ module _ {b now : List ℕ} (found : Found) {before : List VariableShape} {own :
       λ i. if same i then (if number i then by_range b found.kind head_fields (λ rg. Only []) m (x i) else only_of b m (vdr_type found.kind) []) else Only []
 
   -- unused records that are not taken keep all but their links
-  listed : (m : ℕ) → In m (shape b).unused → 12 ≤ size_at b m → is_taken b (acts good among r) m ≡ false → Avoids (taking_all (shape b).unused (places good among r) (vxr_bytes 64)) uir_type m 0 12 × Within (taking_all (shape b).unused (places good among r) (vxr_bytes 64)) uir_type m (uir_next_uir ∷ uir_prev_uir ∷ [])
-  listed m i long free = listed_free (t good among r) m i long (none_of_both (λ (take : ℕ × ℕ). nat_le m take.0 && nat_lt take.0 (m + size_at b m)) (node_takes (places good among r)) (gave b (olds good among r)) free).0
+  listed : (m : ℕ) → In m (shape b).unused → 12 ≤ size_at b m → is_taken b (acts good among r) m ≡ false → Avoids (taking_all (shape b).unused (levels_up 7 r.index) (vxr_bytes 64)) uir_type m 0 12 × Within (taking_all (shape b).unused (levels_up 7 r.index) (vxr_bytes 64)) uir_type m (uir_next_uir ∷ uir_prev_uir ∷ [])
+  listed m i long free = listed_free (t good among r.built) m i long (none_of_both (λ (take : ℕ × ℕ). nat_le m take.0 && nat_lt take.0 (m + size_at b m)) (node_takes (levels_up 7 r.index)) (gave b (nodes_of own.index)) free).0
 
   pub made_keeps : AllKeep b now may (acts good among r) (owned b (shape b))
   made_keeps =
-      index_keeps good among (new_index good among r whole) may (acts good among r) [] refl (descriptor_allowed found good among at head_fields (λ rg. Only []) own_may allowed) (node_allowed found good among at head_fields (λ rg. Only []) own_may allowed) listed (unlisted_away (t good among r))
+      index_keeps good among (new_index good among r.built r.heads now r.given) may (acts good among r) [] refl (descriptor_allowed found good among at head_fields (λ rg. Only []) own_may allowed) (node_allowed found good among at head_fields (λ rg. Only []) own_may allowed) listed (unlisted_away (t good among r.built))

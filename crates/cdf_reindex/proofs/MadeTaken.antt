@@ -1,9 +1,6 @@
 -- The nodes of a new index are taken one after the other: one edit, and acts that follow.
-use Rattle.std.proofs.Common.{◌≡◌, ℕ, List, [], ◌∷◌, length, map, refl, sym, subst, ◌∙◌, arith, inl, inr}
-use Rattle.cdf_reindex.proofs.Common.{eof, vxr_type, shape, IsSound, In, size_kept, type_kept, vxr_bytes, Act, place_in, filled_size, kept, AllTaken}
-use Rattle.cdf_edits.specs.Space.Acts.{Took}
-use Rattle.cdf_edits.proofs.Edits.RecordPlaced.{NodeStands, placed_grows}
-use Rattle.cdf_edits.proofs.Edits.TakenAll.{TakenAll, none_taken, taken_then}
+use Rattle.std.proofs.Common.{List, [], ap, arith, inl, inr, length, map, refl, subst, sym, ℕ, ◌∙◌, ◌∷◌, ◌≡◌}
+use Rattle.cdf_reindex.proofs.Common.{Act, AllTaken, Each, Each-split, Good, In, IsSound, Kind, NodeStands, R, StandsAmong, TakenAll, Took, VariableShape, Z, eof, eof_by_rules, filled_size, good_by_its_shape, good_is_sound, good_long, kept, none_taken, of_kind, place_in, placed_grows, rules_of_good, sealed_kept, shape, shapes_of, size_kept, taken_then, type_kept, variables, vxr_bytes, vxr_type, with_space}
 
 abbrev pub node_takes : List ℕ → List Act
 node_takes places = map (λ vxr. Took vxr (vxr_bytes 64)) places
@@ -30,3 +27,20 @@ all_taken b now (place ∷ more) sound end all =
         | inr j ↦ rest.stand m j
       ];
     }
+
+-- a good image ends where it says
+pub end_before : (b : List ℕ) → Good b → eof b (shape b).gdr ≡ length b
+end_before b good = eof_by_rules b (shape b) (good_is_sound b good) (sealed_kept b (good_long b (shape b) (good_by_its_shape b good)) (rules_of_good b good)).0
+
+-- ---- a variable of an image whose records and unused list alone are others
+
+module _ {b now records list : List ℕ} {kind : Kind} {before : List VariableShape} {own : VariableShape} {after : List VariableShape} where
+  pub among_space : shape now ≡ with_space (shape b) records list → StandsAmong b kind before own after → StandsAmong now kind before own after
+  among_space same among = record { was = ap (λ s. shapes_of s kind) same ∙ by kind ∙ among.was }
+    where
+      by : (k : Kind) → shapes_of (with_space (shape b) records list) k ≡ shapes_of (shape b) k
+      by R = refl
+      by Z = refl
+
+pub own_of : (P : VariableShape → Type 0) {now : List ℕ} {kind : Kind} {before : List VariableShape} {own : VariableShape} {after : List VariableShape} → StandsAmong now kind before own after → Each P (variables (shape now)) → P own
+own_of P {now = now} {kind = kind} {before = before} {own = own} {after = after} among all = (Each-split P before (own ∷ after) (subst (Each P) among.was (of_kind P kind (shape now) all))).1.0

@@ -1,36 +1,26 @@
--- What the making of nodes leaves of an image, and that the nodes stand in it.
-use Rattle.cdf_edits.proofs.Edits.RecordGrown.{grew_then}
-use Rattle.std.proofs.Common.{◌≡◌, ◌≢◌, ℕ, ◌+◌, ◌*◌, ◌≤◌, List, [], ◌∷◌, map, refl, sym, ap, subst, ◌∙◌, arith, inl, inr}
-use Rattle.cdf_reindex.proofs.Common.{Grew, grew_none, grew, filled_size, place_in, fresh, node_fits_kept, Kept, apart, linkable-from, linkable-type, size_at, type_at, no_node, entry_count, used_count, SaysEntry, gdr_type, uir_type, vxr_type, Each, shape, NodeFits, IsSound, In, Distinct, NewNode, places_of, NodeMade, AllMade, entry_in}
-use Rattle.std.proofs.lemmas.Bool.{cases_eq}
-use Rattle.cdf_edits.proofs.Edits.Composing.{head_type}
-use Rattle.cdf_edits.proofs.Frame.LinksStay.{node_kept}
-use Rattle.cdf_format.specs.IndexOf.{SaysNode}
-use Rattle.cdf_reindex.proofs.WordsOfLevels.{words_of, node_words, length_words, say_entries}
-use Rattle.cdf_index.proofs.OneNode.{one_head}
+-- New nodes stand in the image, with none behind them, and with -1 in the entries that are not used.
+use Rattle.std.proofs.Common.{List, [], arith, inl, inr, length, refl, subst, sym, ℕ, ◌*◌, ◌+◌, ◌<◌, ◌∙◌, ◌∷◌, ◌≡◌, ◌≤◌}
+use Rattle.cdf_reindex.proofs.Common.{AllMade, AllTaken, Each, Entry, In, IsBare, IsSound, Kept, NewNode, NodeMade, SameHeads, SaysEntry, SaysNode, entry_count, entry_in, entry_same, eof, filled_size, kept, linkable-from, next_kept, no_node, node_fits_kept, node_kept, number_kept, place_in, placed_grows, places_of, room_same, shape, size_at, used_same, vxr_n_used_entries, vxr_type, words_of}
+use Rattle.cdf_format.specs.Index.{used_count}
+use Rattle.cdf_index.proofs.OneNode.{entry_past, one_head}
+use Rattle.cdf_index.proofs.WayDown.{made}
+use Rattle.cdf_reindex.proofs.MadeTaken.{all_taken}
+use Rattle.cdf_reindex.proofs.WordsOfLevels.{length_words, say_entries}
 
--- ---- a new node
-
-pub record Stands (now : List ℕ) (new : NewNode) : Type 0 where
-  pub inside : In new.place (shape now).records
-  pub says : SaysNode now (new.place ∷ []) new.place 64 new.entries no_node
-  pub fits : NodeFits now new.place
-
--- it is none of the GDR and the unused records
-pub used_type : (now : List ℕ) (new : NewNode) → Stands now new → (type_at now new.place ≢ uir_type) × (type_at now new.place ≢ gdr_type)
-used_type now new s =
-    let t = linkable-type now (new.place ∷ []) vxr_type new.place s.says.linkable in
-    ((λ u. apart vxr_type uir_type refl (sym t ∙ u)), (λ u. apart vxr_type gdr_type refl (sym t ∙ u)))
+pub record Stands (now records : List ℕ) (new : NewNode) : Type 0 where
+  pub says : SaysNode now records new.place 64 new.entries no_node
+  pub bare : IsBare now new.place
 
 none : (j : ℕ) → j ≡ 0 + j
 none j = omega arith
 
-pub stands_once : {b now : List ℕ} → IsSound b (shape b) → (new : NewNode) → entry_count new.entries ≤ 64 → NodeMade b now (words_of new.entries) new.place → Stands now new
+-- one that was made
+stands_once : {b now : List ℕ} → IsSound b (shape b) → (new : NewNode) → entry_count new.entries ≤ 64 → NodeMade b now (words_of new.entries) new.place → Stands now (new.place ∷ []) new
 stands_once {b = b} {now = now} sound new few made =
     let size = filled_size sound made.fills in
-    let count : used_count now new.place ≡ entry_count new.entries = made.used_is ∙ length_words new.entries in
+    let many = length_words new.entries in
+    let count : used_count now new.place ≡ entry_count new.entries = made.used_is ∙ many in
     record {
-      inside = place_in sound made.fills;
       says = record {
         linkable = linkable-from now (new.place ∷ []) vxr_type new.place (inl refl) made.fills.typed (subst (λ (n : ℕ). 28 ≤ n) (sym size) (omega arith));
         next_is = made.next_is;
@@ -38,51 +28,61 @@ stands_once {b = b} {now = now} sound new few made =
         used_is = count;
         say_entries = say_entries now new.place 0 new.entries (λ j lt. subst (λ (k : ℕ). SaysEntry now new.place k (entry_in (words_of new.entries) j).first (entry_in (words_of new.entries) j).last (entry_in (words_of new.entries) j).place) (none j) (made.says j (omega arith)));
       };
-      fits = (
-        subst (λ (n : ℕ). 28 + 16 * n ≤ size_at now new.place) (sym made.room_is) (subst (λ (n : ℕ). 28 + 16 * 64 ≤ n) (sym size) (omega arith)),
-        subst (λ (n : ℕ). used_count now new.place ≤ n) (sym made.room_is) (subst (λ (n : ℕ). n ≤ 64) (sym count) few),
-      );
+      bare = record {
+        fits = (subst (λ (n : ℕ). 28 + 16 * n ≤ size_at now new.place) (sym made.room_is) (omega (arith, size)), subst (λ (n : ℕ). used_count now new.place ≤ n) (sym made.room_is) (omega (arith, count, few)));
+        room_is = made.room_is;
+        few = rw (made.counts_is, many) few;
+        next_is = made.next_is;
+        unused = λ i le lt. subst (λ (e : Entry). SaysEntry now new.place i e.first e.last e.place) (entry_past (words_of new.entries) i (subst (λ (n : ℕ). n ≤ i) made.used_is le)) (made.says i lt);
+      };
     }
 
-pub stands_by : (mid now : List ℕ) (new : NewNode) → Kept mid now new.place → In new.place (shape now).records → Stands mid new → Stands now new
-stands_by mid now new k inside s = record {
-  inside = inside;
-  says = node_kept mid now (new.place ∷ []) (new.place ∷ []) (one_head mid now new.place k) new.place k s.fits 64 new.entries no_node s.says;
-  fits = node_fits_kept mid now (new.place ∷ []) (new.place ∷ []) (one_head mid now new.place k) new.place k s.fits;
-}
+-- one whose record is kept
+module _ (b now : List ℕ) (place : ℕ) (k : Kept b now place) (bare : IsBare b place) where
+  heads : SameHeads b now (place ∷ []) (place ∷ [])
+  heads = one_head b now place k
 
-pub stands_still : {mid now : List ℕ} → Grew mid now → (new : NewNode) → Stands mid new → Stands now new
-stands_still {mid = mid} {now = now} g new s = let t = used_type mid new s in stands_by mid now new (g.kept new.place s.inside t.0 t.1) (g.sub new.place s.inside) s
+  long : 1052 ≤ size_at b place
+  long = let l : 28 + 16 * 64 ≤ size_at b place = subst (λ (n : ℕ). 28 + 16 * n ≤ size_at b place) bare.room_is bare.fits.0 in omega arith
+
+  pub bare_by : IsBare now place
+  bare_by = record {
+    fits = node_fits_kept b now (place ∷ []) (place ∷ []) heads place k bare.fits;
+    room_is = room_same b now (place ∷ []) (place ∷ []) heads place k bare.fits ∙ bare.room_is;
+    few = subst (λ (n : ℕ). n ≤ 64) (sym (number_kept b now place k.same vxr_n_used_entries (omega (arith, long)))) bare.few;
+    next_is = next_kept b now place k.same (omega (arith, long)) ∙ bare.next_is;
+    unused = λ i le lt. entry_same b now (place ∷ []) (place ∷ []) heads place k bare.fits i 0xffffffff 0xffffffff 0xffffffffffffffff (subst (λ (n : ℕ). i < n) (sym bare.room_is) lt) (bare.unused i (subst (λ (n : ℕ). n ≤ i) (used_same b now (place ∷ []) (place ∷ []) heads place k bare.fits) le) lt);
+  }
 
 -- ---- new nodes, one after the other
-
-pub record Made (b now : List ℕ) (nodes : List NewNode) : Type 0 where
-  pub grew : Grew b now
-  pub stand : Each (Stands now) nodes
-  pub fresh_all : (m : ℕ) → In m (places_of nodes) → In m (shape b).records → type_at b m ≡ uir_type
-  pub once : Distinct (places_of nodes)
 
 abbrev pub IsSmall : NewNode → Type 0
 IsSmall new = entry_count new.entries ≤ 64
 
-pub all_made : (b now : List ℕ) (nodes : List NewNode) → IsSound b (shape b) → Each IsSmall nodes → AllMade b now (map node_words nodes) → Made b now nodes
-all_made b now [] sound small m = subst (λ (x : List ℕ). Made b x []) (sym m) (record { grew = grew_none b sound; stand = tt; fresh_all = λ m i. absurd i; once = tt })
-all_made b now (new ∷ more) sound small m =
-    let mid = m.0 in
-    let made = m.1.0 in
-    let one : Grew b mid = grew sound made.fills in
-    let here = stands_once sound new small.0 made in
-    let rest = all_made mid now more one.sound small.1 m.1.1 in
-    let typed = used_type mid new here in
-    record {
-      grew = grew_then one rest.grew;
-      stand = (stands_still rest.grew new here, rest.stand);
-      fresh_all = λ x i j. elim i [
-        | inl e ↦ ap (type_at b) e ∙ fresh sound made.fills (subst (λ (y : ℕ). In y (shape b).records) e j)
-        | inr k ↦ elim (cases_eq (type_at b x) uir_type) [
-          | inl u ↦ u
-          | inr used ↦ absurd (used (sym (head_type b mid x (one.head x j used)) ∙ rest.fresh_all x k (one.sub x j)))
-        ]
-      ];
-      once = ((λ i. typed.0 (rest.fresh_all new.place i here.inside)), rest.once);
-    }
+pub nodes_taken : (b now : List ℕ) (nodes : List NewNode) → AllMade b now nodes → AllTaken b now (places_of nodes)
+nodes_taken b now [] m = m
+nodes_taken b now (new ∷ more) m = (m.0, (record { taken = m.1.0.taken; fills = m.1.0.fills }, nodes_taken m.0 now more m.1.1))
+
+pub all_stand : (b now : List ℕ) (nodes : List NewNode) → IsSound b (shape b) → eof b (shape b).gdr ≡ length b → Each IsSmall nodes → AllMade b now nodes → Each (Stands now (shape now).records) nodes
+all_stand b now [] sound end small m = tt
+all_stand b now (new ∷ more) sound end small m =
+    let fills = m.1.0.fills in
+    let one = placed_grows sound fills in
+    let edit = (all_taken m.0 now (places_of more) one.sound one.end_is (nodes_taken m.0 now more m.1.1)).all.grows.edit in
+    let k = kept edit new.place vxr_type (place_in sound fills) fills.typed refl in
+    let here = stands_once sound new small.0 m.1.0 in
+    let one_kept = one_head m.0 now new.place k in
+    let heads : SameHeads m.0 now (new.place ∷ []) (shape now).records = record {
+      sizes = one_kept.sizes;
+      types = one_kept.types;
+      sub = λ x i. elim i [ inl q ↦ subst (λ (y : ℕ). In y (shape now).records) (sym q) (edit.sub new.place (place_in sound fills)) | inr none ↦ absurd none ];
+    } in (
+      record { says = node_kept m.0 now (new.place ∷ []) (shape now).records heads new.place k here.bare.fits 64 new.entries no_node here.says; bare = bare_by m.0 now new.place k here.bare },
+      all_stand m.0 now more one.sound one.end_is small.1 m.1.1,
+    )
+
+-- each of them by its place
+pub bare_at : (now records : List ℕ) (nodes : List NewNode) → Each (Stands now records) nodes → (m : ℕ) → In m (places_of nodes) → IsBare now m
+bare_at now records [] s m i = absurd i
+bare_at now records (new ∷ more) s m (inl e) = subst (IsBare now) (sym e) s.0.bare
+bare_at now records (new ∷ more) s m (inr i) = bare_at now records more s.1 m i

@@ -1,16 +1,15 @@
--- What a good image gives for the calls by which the index of one of its variables is made anew.
-use Rattle.std.proofs.Common.{◌≡◌, ℕ, ◌+◌, ◌*◌, ◌≤◌, List, [], length, map, refl, sym, ap, subst, ◌∙◌, arith, inl, inr}
-use Rattle.cdf_reindex.proofs.Common.{image_limit, Kind, StandsAmong, tile, long, nodes_above, reindex_room, good_by_its_shape, good_is_sound, tile_lies, number, eof, gdr_offset, Nodes, no_node, node, leaves_of, IsNode, vdr_vxr_head, VariableShape, shape, variables, vdrs, IsSound, In, Good, Entry, IsRebuilt, Reindexed, HasOld}
-use Rattle.std.proofs.lemmas.List.{length-map}
+-- What a good image gives for the calls by which the index of one of its variables is made anew, and what they come to.
+use Rattle.std.proofs.Common.{List, [], ap, arith, inl, inr, length, map, refl, subst, sym, ℕ, ◌*◌, ◌+◌, ◌<◌, ◌^◌, ◌∙◌, ◌≡◌, ◌≤◌}
+use Rattle.cdf_reindex.proofs.Common.{AllGiven, AreFree, Entry, Good, In, IndexMade, IsNode, IsRebuilt, IsSound, Kind, LiesIn, Nodes, Reindexed, StandsAmong, VariableShape, good_by_its_shape, good_is_sound, heads_written, image_limit, index_of, leaf_words, leaves_of, length-map, name_room, nil_from_length, no_node, node, nodes_above, number, reindex_room, shape, variables, vdr_vxr_head, vdr_vxr_tail, vdrs, with_field, with_writes}
 use Rattle.cdf_format.proofs.GoodImageLemmas.{good_image}
-use Rattle.cdf_format.proofs.GoodSound.{good_eof}
 use Rattle.cdf_format.specs.Index.{nodes_of}
 use Rattle.cdf_index.proofs.GoodIndex.{good_index}
-use Rattle.cdf_index.specs.Finding.{index_at, HasIndex}
-use Rattle.cdf_index.specs.Whole.{leaf_words}
+use Rattle.cdf_index.proofs.OneVariable.{OneOf, among_all, one_of}
+use Rattle.cdf_index.specs.Finding.{HasIndex, index_at}
+use Rattle.cdf_reindex.proofs.MadeEdit.{head_lies, old_free, sound_linked, tail_lies}
+use Rattle.cdf_reindex.proofs.MadeFreed.{rebuilt}
 use Rattle.cdf_reindex.proofs.MadeGood.{reindexed_good}
-use Rattle.cdf_reindex.proofs.PyramidBuilt.{few_leaves}
-use Rattle.cdf_index.proofs.OneVariable.{AmongAll, among_all, one_of}
+use Rattle.cdf_reindex.proofs.PyramidBuilt.{few_leaves, tree_made}
 
 -- an index of no nodes
 no_nodes : (nodes : Nodes) → nodes_of nodes ≡ [] → nodes ≡ no_node
@@ -24,87 +23,79 @@ unfolding nodes_of
 some_node no_node some = some refl
 some_node (node place room entries more) some = tt
 
--- VXRhead lies in the image
-pub head_lies : (b : List ℕ) → Good b → (vdr : ℕ) → In vdr (vdrs (variables (shape b))) → vdr + 36 ≤ length b
-head_lies b good vdr i =
-    let one = one_of b vdr i in
-    let wide = long good one.among in
-    let ends = (tile_lies b 8 (length b) (shape b).records one.own.vdr (good_is_sound b good).has_shape.tiled (tile good one.among)).high in
-    subst (λ (m : ℕ). m + 36 ≤ length b) one.vdr_is (omega arith)
-
 module _ (b : List ℕ) (good : Good b) where
-  sound : IsSound b (shape b)
-  sound = good_is_sound b good
+  index_is : {kind : Kind} {before : List VariableShape} {own : VariableShape} {after : List VariableShape} {vdr : ℕ} → StandsAmong b kind before own after → own.vdr ≡ vdr → HasIndex b (number b vdr vdr_vxr_head) × (index_of b vdr ≡ own.index)
+  index_is {kind = kind} {before = before} {own = own} {after = after} among is =
+      let at = among_all b kind before own after among.was in
+      subst (λ (m : ℕ). HasIndex b (number b m vdr_vxr_head) × (index_of b m ≡ own.index)) is (good_index b (shape b) at.front own at.rest (good_image b (shape b) (good_by_its_shape b good)) (good_is_sound b good) at.all)
 
-  indexed : {own : VariableShape} → AmongAll (variables (shape b)) own → HasIndex b (number b own.vdr vdr_vxr_head) × (index_at b (number b own.vdr vdr_vxr_head) ≡ own.index)
-  indexed {own = own} at = good_index b (shape b) at.front own at.rest (good_image b (shape b) (good_by_its_shape b good)) sound at.all
+  module _ (vdr : ℕ) (i : In vdr (vdrs (variables (shape b)))) where
+    abbrev one : OneOf b vdr
+    one = one_of b vdr i
 
-  -- the image is good again
-  pub good_again : {limit vdr : ℕ} {now : List ℕ} → In vdr (vdrs (variables (shape b))) → length b + reindex_room (index_at b (number b vdr vdr_vxr_head)) ≤ limit → limit ≤ image_limit
-      → ((kind : Kind) (before : List VariableShape) (own : VariableShape) (after : List VariableShape) → StandsAmong b kind before own after → own.vdr ≡ vdr → Reindexed b now own) → Good now
-  good_again {vdr = vdr} i fits most made =
-      let one = one_of b vdr i in
-      let is : index_at b (number b vdr vdr_vxr_head) ≡ one.own.index = subst (λ (m : ℕ). index_at b (number b m vdr_vxr_head) ≡ one.own.index) one.vdr_is (indexed (among_all b one.kind one.before one.own one.after one.among.was)).1 in
-      let room = ap reindex_room is in
-      reindexed_good good one.among (omega arith) (made one.kind one.before one.own one.after one.among one.vdr_is)
+    -- VXRhead lies in the image, and leads to an index
+    pub head_there : vdr + 36 ≤ length b
+    head_there = let wide = name_room good one.among in subst (λ (m : ℕ). m + 36 ≤ length b) one.vdr_is (omega arith)
 
-  -- where VXRhead was read
-  module _ (y : List ℕ) (here : y ≡ b) (vdr head : ℕ) (head_is : head ≡ number b vdr vdr_vxr_head) where
-    pub has_index : In vdr (vdrs (variables (shape b))) → HasIndex y head
-    has_index i =
-        let one = one_of b vdr i in
-        let has : HasIndex b (number b vdr vdr_vxr_head) = subst (λ (m : ℕ). HasIndex b (number b m vdr_vxr_head)) one.vdr_is (indexed (among_all b one.kind one.before one.own one.after one.among.was)).0 in
-        subst (λ (z : List ℕ). HasIndex z head) (sym here) (subst (HasIndex b) (sym head_is) has)
+    pub has_index : HasIndex b (number b vdr vdr_vxr_head)
+    has_index = (index_is one.among one.vdr_is).0
 
-    index_is : {own : VariableShape} → AmongAll (variables (shape b)) own → own.vdr ≡ vdr → index_at y head ≡ own.index
-    index_is {own = own} at is =
-        let head_same : head ≡ number b own.vdr vdr_vxr_head = head_is ∙ ap (λ (m : ℕ). number b m vdr_vxr_head) (sym is) in
-        (λ i. index_at (here i) (head_same i)) ∙ (indexed at).1
+    pub good_again : {limit : ℕ} {now : List ℕ} → length b + reindex_room (index_of b vdr) ≤ limit → limit ≤ image_limit → ((kind : Kind) (before : List VariableShape) (own : VariableShape) (after : List VariableShape) → StandsAmong b kind before own after → own.vdr ≡ vdr → Reindexed b now own) → Good now
+    good_again fits most made =
+        let room = ap reindex_room (index_is one.among one.vdr_is).1 in
+        reindexed_good good one.among (omega arith) (made one.kind one.before one.own one.after one.among one.vdr_is)
 
-    -- and then the leaves and the nodes
-    module _ (x : List ℕ) (same : x ≡ y) where
-      still : x ≡ b
-      still = same ∙ here
+    module _ (leaves : List Entry) (leaves_are : leaves ≡ map leaf_words (leaves_of (index_of b vdr))) where
+      count : length leaves ≡ length (leaves_of (index_of b vdr))
+      count = ap length leaves_are ∙ length-map (leaves_of (index_of b vdr)) leaf_words
 
-      pub still_sound : IsSound x (shape x)
-      still_sound = subst (λ (z : List ℕ). IsSound z (shape z)) (sym still) sound
+      pub few : length leaves ≤ 2147483648
+      few = subst (λ (n : ℕ). n ≤ 2147483648) (sym count) (few_leaves (index_of b vdr) has_index.order)
 
-      pub still_ends : eof x (gdr_offset x) ≡ length x
-      still_ends = subst (λ (z : List ℕ). eof z (gdr_offset z) ≡ length z) (sym still) (good_eof b good)
+      pub room : (limit : ℕ) → length b + reindex_room (index_of b vdr) ≤ limit → length b + 1052 * nodes_above 8 (length leaves) ≤ limit
+      room limit fits = subst (λ (n : ℕ). length b + 1052 * nodes_above 8 n ≤ limit) (sym count) fits
 
-      module _ (leaves : List Entry) (nodes : List ℕ) (leaves_are : leaves ≡ map leaf_words (leaves_of (index_at y head))) (nodes_are : nodes ≡ nodes_of (index_at y head)) where
-        old_of : {own : VariableShape} → AmongAll (variables (shape b)) own → own.vdr ≡ vdr → HasOld x vdr leaves nodes
-        old_of {own = own} at is = record {
-          before = at.front;
-          variable = own;
-          after = at.rest;
-          was = ap (λ (z : List ℕ). variables (shape z)) still ∙ at.all;
-          vdr_is = is;
-          leaves_are = leaves_are ∙ ap (λ (n : Nodes). map leaf_words (leaves_of n)) (index_is at is);
-          nodes_are = nodes_are ∙ ap nodes_of (index_is at is);
-        }
+  -- what was read of the index, and there were no nodes, or it was built anew
+  module _ (vdr : ℕ) {y : List ℕ} {head : ℕ} (here : y ≡ b) (head_is : head ≡ number b vdr vdr_vxr_head) {x : List ℕ} (same : x ≡ y) {nodes : List ℕ} (nodes_are : nodes ≡ nodes_of (index_at y head)) where
+    nodes_by : {kind : Kind} {before : List VariableShape} {own : VariableShape} {after : List VariableShape} → StandsAmong b kind before own after → own.vdr ≡ vdr → nodes ≡ nodes_of own.index
+    nodes_by among is = nodes_are ∙ (λ i. nodes_of (index_at (here i) (head_is i))) ∙ ap nodes_of (index_is among is).1
 
-        pub some_old : In vdr (vdrs (variables (shape b))) → HasOld x vdr leaves nodes
-        some_old i = let one = one_of b vdr i in old_of (among_all b one.kind one.before one.own one.after one.among.was) one.vdr_is
+    pub nothing_done : length nodes ≡ 0 → (kind : Kind) (before : List VariableShape) (own : VariableShape) (after : List VariableShape) → StandsAmong b kind before own after → own.vdr ≡ vdr → Reindexed b x own
+    nothing_done none kind before own after among is = inl (no_nodes own.index (sym (nodes_by among is) ∙ nil_from_length nodes none), same ∙ here)
 
-        count : length leaves ≡ length (leaves_of (index_at y head))
-        count = ap length leaves_are ∙ length-map (leaves_of (index_at y head)) leaf_words
+    pub reindexed : {now : List ℕ} → (length nodes ≡ 0 → ⊥) → ((kind : Kind) (before : List VariableShape) (own : VariableShape) (after : List VariableShape) → StandsAmong x kind before own after → own.vdr ≡ vdr → IsRebuilt x now own)
+        → (kind : Kind) (before : List VariableShape) (own : VariableShape) (after : List VariableShape) → StandsAmong b kind before own after → own.vdr ≡ vdr → Reindexed b now own
+    reindexed {now = now} some by kind before own after among is = inr (
+      some_node own.index (λ e. some (ap length (nodes_by among is ∙ e))),
+      subst (λ (z : List ℕ). StandsAmong z kind before own after → IsRebuilt z now own) (same ∙ here) (λ at. by kind before own after at is) among,
+    )
 
-        pub few : In vdr (vdrs (variables (shape b))) → length leaves ≤ 2147483648
-        few i = subst (λ (n : ℕ). n ≤ 2147483648) (sym count) (few_leaves (index_at y head) (has_index i).order)
+  -- ---- the nodes were made
 
-        pub room : (limit : ℕ) → length b + reindex_room (index_at b (number b vdr vdr_vxr_head)) ≤ limit → length x + 1052 * nodes_above 8 (length leaves) ≤ limit
-        room limit fits =
-            let n : length leaves ≡ length (leaves_of (index_at b (number b vdr vdr_vxr_head))) = count ∙ (λ i. length (leaves_of (index_at (here i) (head_is i)))) in
-            let m = sym still in
-            let k = sym n in
-            subst (λ (z : ℕ). z ≤ limit) (λ i. length (m i) + 1052 * nodes_above 8 (k i)) fits
+  -- what the next calls ask, and what they come to
+  pub record Links (made : List ℕ) (leaves : List Entry) (own : VariableShape) (v top : ℕ) : Type 0 where
+    pub head : LiesIn made v vdr_vxr_head
+    pub tail : {first : List ℕ} → first ≡ with_field made v vdr_vxr_head top → LiesIn first v vdr_vxr_tail
+    pub linked_sound : {first linked : List ℕ} → first ≡ with_field made v vdr_vxr_head top → linked ≡ with_field first v vdr_vxr_tail top → IsSound linked (shape linked)
+    pub free : {nodes first linked : List ℕ} → nodes ≡ nodes_of (index_of b v) → first ≡ with_field made v vdr_vxr_head top → linked ≡ with_field first v vdr_vxr_tail top → AreFree linked nodes
+    pub rebuilt : {nodes first linked now : List ℕ} → nodes ≡ nodes_of (index_of b v) → first ≡ with_field made v vdr_vxr_head top → linked ≡ with_field first v vdr_vxr_tail top → AllGiven linked now nodes → IsRebuilt b now own
 
-        -- there were no nodes
-        pub nothing_done : nodes ≡ [] → (kind : Kind) (before : List VariableShape) (own : VariableShape) (after : List VariableShape) → StandsAmong b kind before own after → own.vdr ≡ vdr → Reindexed b x own
-        nothing_done none kind before own after at is = inl (no_nodes own.index (sym (ap nodes_of (index_is (among_all b kind before own after at.was) is)) ∙ sym nodes_are ∙ none), still)
+  module _ {vdr : ℕ} {leaves : List Entry} (leaves_are : leaves ≡ map leaf_words (leaves_of (index_of b vdr))) {made : List ℕ} {top : ℕ} (index_made : IndexMade b made leaves top) (small : top < 2 ^ 64) where
+    pub links : {kind : Kind} {before : List VariableShape} {own : VariableShape} {after : List VariableShape} → StandsAmong b kind before own after → own.vdr ≡ vdr → Links made leaves own vdr top
+    links {own = own} among is =
+        let index = (index_is among is).1 in
+        let same : leaves ≡ map leaf_words (leaves_of own.index) = leaves_are ∙ ap (λ (n : Nodes). map leaf_words (leaves_of n)) index in
+        let x = tree_made good among (subst (λ (n : Nodes). length (leaves_of n) ≤ 2147483648) index (few_leaves (index_of b vdr) (index_is among is).0.order)) made top small (subst (λ (es : List Entry). IndexMade b made es top) same index_made) in
+        let old : (nodes : List ℕ) → nodes ≡ nodes_of (index_of b own.vdr) → nodes ≡ nodes_of own.index = λ nodes e. e ∙ ap nodes_of (index_is among refl).1 in
+        let to : (first linked : List ℕ) → first ≡ with_field made own.vdr vdr_vxr_head top → linked ≡ with_field first own.vdr vdr_vxr_tail top → linked ≡ with_writes made (heads_written own.vdr x.index) =
+        λ first linked one two. two ∙ ap (λ (y : List ℕ). with_field y own.vdr vdr_vxr_tail top) one ∙ ap (λ (n : ℕ). with_field (with_field made own.vdr vdr_vxr_head n) own.vdr vdr_vxr_tail n) x.link_is in
+        subst (λ (v : ℕ). Links made leaves own v top) is (record {
+          head = head_lies good among x.built;
+          tail = λ {first} one. tail_lies good among x.built first (one ∙ ap (with_field made own.vdr vdr_vxr_head) x.link_is);
+          linked_sound = λ {first} {linked} one two. sound_linked good among x.built (to first linked one two);
+          free = λ {nodes} {first} {linked} e one two. subst (AreFree linked) (sym (old nodes e)) (old_free good among x.built (to first linked one two));
+          rebuilt = λ {nodes} {first} {linked} {now} e one two given. rebuilt good among x.built (to first linked one two) now (subst (AllGiven linked now) (old nodes e) given);
+        })
 
-        -- the index was built anew
-        pub reindexed : (nodes ≡ [] → ⊥) → (now : List ℕ) → ((old : HasOld x vdr leaves nodes) → IsRebuilt x now old.variable) → (kind : Kind) (before : List VariableShape) (own : VariableShape) (after : List VariableShape) → StandsAmong b kind before own after → own.vdr ≡ vdr → Reindexed b now own
-        unfolding old_of
-        reindexed some now by kind before own after at is = inr (some_node own.index (λ e. some (nodes_are ∙ ap nodes_of (index_is (among_all b kind before own after at.was) is) ∙ e)), subst (λ (z : List ℕ). IsRebuilt z now own) still (by (old_of (among_all b kind before own after at.was) is)))
+  pub links_one : (vdr : ℕ) (i : In vdr (vdrs (variables (shape b)))) {leaves : List Entry} → leaves ≡ map leaf_words (leaves_of (index_of b vdr)) → {made : List ℕ} {top : ℕ} → IndexMade b made leaves top → top < 2 ^ 64 → Links made leaves (one vdr i).own vdr top
+  links_one vdr i leaves_are made small = links leaves_are made small (one vdr i).among (one vdr i).vdr_is

@@ -3,6 +3,7 @@ use Rattle.std.specs.Prelude.{◌≡◌, ◌≤◌, ◌==◌, ℕ, ◌-◌, List
 use Rattle.cdf_model.specs.Limits.{level_limit}
 use Rattle.cdf_edits.specs.Commands.Reindex.{IsPyramid, levels_up}
 use Rattle.cdf_edits.specs.Commands.Room.{node_entries, nodes_above}
+use Rattle.cdf_edits.specs.Index.Grown.{with_both}
 use Rattle.cdf_index.specs.Order.{InOrder, AreInOrder, NextsAreZero}
 use Rattle.cdf_format.specs.Index.{Nodes, no_node, node, Entries, no_entry, block, lower, Leaf, nodes_of, leaves_of, entry_count}
 
@@ -15,12 +16,6 @@ pub record NewNode : Type 0 where
 abbrev pub entries_for : List Leaf → Entries
 entries_for [] = no_entry
 entries_for (leaf ∷ more) = block leaf.first leaf.last leaf.place leaf.packed (entries_for more)
-
--- entries, and then others
-abbrev pub joined : Entries → Entries → Entries
-joined no_entry others = others
-joined (block first last place packed entries) others = block first last place packed (joined entries others)
-joined (lower first last nodes entries) others = lower first last nodes (joined entries others)
 
 -- First of the first entry, and Last of the last one, or else this number
 abbrev pub first_of : Entries → ℕ
@@ -40,18 +35,17 @@ alone new = node new.place node_entries new.entries no_node
 -- the entries of all nodes of a level
 abbrev pub entries_of : List NewNode → Entries
 entries_of [] = no_entry
-entries_of (new ∷ more) = joined new.entries (entries_of more)
+entries_of (new ∷ more) = with_both new.entries (entries_of more)
 
 -- the entries that name the nodes of a level
 abbrev pub uppers : List NewNode → Entries
 uppers [] = no_entry
 uppers (new ∷ more) = lower (first_of new.entries) (last_of 0 new.entries) (alone new) (uppers more)
 
--- filled from the left: each has as many entries as there is room for, but the last, which has at least one
+-- filled from the left: each node has an entry and no more than there is room for, and as many as that where another one follows
 abbrev pub Filled : List NewNode → Type 0
 Filled [] = Unit {0}
-Filled (new ∷ []) = (1 ≤ entry_count new.entries) × (entry_count new.entries ≤ node_entries)
-Filled (new ∷ next ∷ more) = (entry_count new.entries ≡ node_entries) × Filled (next ∷ more)
+Filled (new ∷ more) = (1 ≤ entry_count new.entries) × (entry_count new.entries ≤ node_entries) × (1 ≤ length more → entry_count new.entries ≡ node_entries) × Filled more
 
 -- Levels of nodes over these leaves, from the top one down: the lowest names the leaves, each other one the nodes below it, of which there are at least two.
 abbrev pub AreLevels : List Leaf → List (List NewNode) → Type 0

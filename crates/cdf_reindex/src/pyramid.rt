@@ -1,14 +1,15 @@
 //! An index built anew: nodes of 64 entries name its leaves, and others name these, level by level, until one is left.
 
-ghost use Rattle.std.specs.Prelude.{◌≡◌, ◌+◌, ◌*◌, ◌≤◌, length, IfOk, OnOk};
+ghost use Rattle.std.specs.Prelude.{◌≡◌, ◌+◌, ◌*◌, ◌≤◌, List, length, map, IfOk, OnOk};
 ghost use Rattle.cdf_area.specs.Calls.{Edits};
 ghost use Rattle.cdf_edits.specs.Commands.Room.{node_entries, node_size, nodes_above, quotient_up};
-ghost use Rattle.cdf_format.specs.Content.{content};
 ghost use Rattle.cdf_format.specs.Fields.{eof, gdr_offset};
+ghost use Rattle.cdf_format.specs.Index.{Entries, Leaf};
 ghost use Rattle.cdf_format.specs.Shape.{shape};
 ghost use Rattle.cdf_format.specs.Sound.{IsSound};
 ghost use Rattle.cdf_model.specs.Limits.{image_limit, level_limit};
-ghost use Rattle.cdf_reindex.specs.Rebuilding.{LevelMade, NodeMade, PyramidMade, naming};
+ghost use Rattle.cdf_index.specs.Whole.{leaf_words};
+ghost use Rattle.cdf_reindex.specs.Rebuilding.{LevelMade, NodeMade, PyramidMade, naming, words_of};
 
 use cdf_area::{Area, AreaError};
 use cdf_format::fields::{VXR_ENTRY_SIZE, VXR_FIRST};
@@ -32,9 +33,7 @@ fn place_node<A: Area>(area: &mut A, entries: &[Entry]) -> Result<u64, AreaError
     requires limit { (A.frame area.old).limit ≤ image_limit }
     ensures made { IfOk result (NodeMade (A.image area.old) (A.image area.new) entries.now) }
     ensures sound { OnOk result (IsSound (A.image area.new) (shape (A.image area.new))) }
-    ensures content { OnOk result (content (A.image area.new) ≡ content (A.image area.old)) }
     ensures eof { OnOk result (eof (A.image area.new) (gdr_offset (A.image area.new)) ≡ length (A.image area.new)) }
-    ensures longest { OnOk result (length (A.image area.new) ≤ length (A.image area.old) + node_size) }
     ensures area { Edits A.frame A.faults area.old area.new result }
 {
     let place = alloc_record(area, NODE_SIZE)?;
@@ -65,11 +64,9 @@ fn write_level<A: Area>(
     requires eof { eof (A.image area.old) (gdr_offset (A.image area.old)) ≡ length (A.image area.old) }
     requires room { length (A.image area.old) + node_size * quotient_up (length entries.now) node_entries ≤ (A.frame area.old).limit }
     requires limit { (A.frame area.old).limit ≤ image_limit }
-    ensures made { IfOk result (λ uppers. LevelMade (A.image area.old) (A.image area.new) entries.now uppers.items) }
+    ensures made { IfOk result (λ uppers. (below : Entries) → words_of below ≡ entries.now → LevelMade (A.image area.old) (A.image area.new) below uppers.items) }
     ensures sound { OnOk result (IsSound (A.image area.new) (shape (A.image area.new))) }
-    ensures content { OnOk result (content (A.image area.new) ≡ content (A.image area.old)) }
     ensures eof { OnOk result (eof (A.image area.new) (gdr_offset (A.image area.new)) ≡ length (A.image area.new)) }
-    ensures longest { OnOk result (length (A.image area.new) ≤ length (A.image area.old) + node_size * quotient_up (length entries.now) node_entries) }
     ensures area { Edits A.frame A.faults area.old area.new result }
 {
     let mut uppers = Vec::new(alloc);
@@ -93,11 +90,7 @@ pub fn write_levels<A: Area>(
     requires few { length entries.now ≤ 2147483648 }
     requires room { length (A.image area.old) + node_size * nodes_above level_limit (length entries.now) ≤ (A.frame area.old).limit }
     requires limit { (A.frame area.old).limit ≤ image_limit }
-    ensures made { IfOk result (λ top. PyramidMade (A.image area.old) (A.image area.new) entries.now top) }
-    ensures sound { OnOk result (IsSound (A.image area.new) (shape (A.image area.new))) }
-    ensures content { OnOk result (content (A.image area.new) ≡ content (A.image area.old)) }
-    ensures eof { OnOk result (eof (A.image area.new) (gdr_offset (A.image area.new)) ≡ length (A.image area.new)) }
-    ensures longest { OnOk result (length (A.image area.new) ≤ length (A.image area.old) + node_size * nodes_above level_limit (length entries.now)) }
+    ensures made { IfOk result (λ top. (leaves : List Leaf) → entries.now ≡ map leaf_words leaves → PyramidMade (A.image area.old) (A.image area.new) leaves top) }
     ensures area { Edits A.frame A.faults area.old area.new result }
 {
     let mut level = write_level(alloc, area, entries)?;

@@ -1,21 +1,22 @@
 //! The index of a variable, built anew in the place of the old one.
 
-ghost use Rattle.std.specs.Prelude.{◌≡◌, ◌+◌, ◌*◌, ◌≤◌, List, length, IfOk, OnOk};
+ghost use Rattle.std.specs.Prelude.{◌≡◌, ◌+◌, ◌*◌, ◌≤◌, List, length, map, IfOk, OnOk};
 ghost use Rattle.cdf_area.specs.Calls.{Edits};
 ghost use Rattle.cdf_edits.proofs.Edits.VdrEdited.{StandsAmong};
 ghost use Rattle.cdf_edits.specs.Commands.Room.{node_size, nodes_above, reindex_room};
-ghost use Rattle.cdf_format.specs.Content.{content};
 ghost use Rattle.cdf_format.specs.Fields.{eof, gdr_offset, number};
+ghost use Rattle.cdf_format.specs.Index.{leaves_of, nodes_of};
 ghost use Rattle.cdf_format.specs.Records.{vdr_vxr_head};
 ghost use Rattle.cdf_format.specs.Shape.{VariableShape, shape, variables, vdrs};
 ghost use Rattle.cdf_format.specs.Sound.{IsSound};
 ghost use Rattle.cdf_format.specs.Tiles.{In};
 ghost use Rattle.cdf_format.specs.WellFormed.{Good};
 ghost use Rattle.cdf_index.specs.Finding.{index_at};
+ghost use Rattle.cdf_index.specs.Whole.{leaf_words};
 ghost use Rattle.cdf_model.specs.Limits.{image_limit, level_limit};
 ghost use Rattle.cdf_model.specs.declared.kinds.Kind.{Kind};
 ghost use Rattle.cdf_reindex.specs.Reindexed.{IsRebuilt, Reindexed};
-ghost use Rattle.cdf_reindex.specs.Reindexing.{HasOld, IndexMade};
+ghost use Rattle.cdf_reindex.specs.Reindexing.{IndexMade, index_of};
 
 use crate::pyramid::write_levels;
 use cdf_area::{Area, AreaError};
@@ -34,7 +35,6 @@ fn write_index<A: Area>(alloc: Global, area: &mut A, entries: &[Entry]) -> Resul
     requires room { length (A.image area.old) + node_size * nodes_above level_limit (length entries.now) ≤ (A.frame area.old).limit }
     requires limit { (A.frame area.old).limit ≤ image_limit }
     ensures made { IfOk result (λ top. IndexMade (A.image area.old) (A.image area.new) entries.now top) }
-    ensures longest { OnOk result (length (A.image area.new) ≤ length (A.image area.old) + node_size * nodes_above level_limit (length entries.now)) }
     ensures area { Edits A.frame A.faults area.old area.new result }
 {
     if entries.is_empty() {
@@ -52,15 +52,13 @@ fn rebuild<A: Area>(
     leaves: &[Entry],
     nodes: &[u64],
 ) -> Result<(), AreaError>
-    requires sound { IsSound (A.image area.old) (shape (A.image area.old)) }
-    requires eof { eof (A.image area.old) (gdr_offset (A.image area.old)) ≡ length (A.image area.old) }
-    requires old { HasOld (A.image area.old) vdr leaves.now nodes.now }
-    requires few { length leaves.now ≤ 2147483648 }
-    requires room { length (A.image area.old) + node_size * nodes_above level_limit (length leaves.now) ≤ (A.frame area.old).limit }
+    requires good { Good (A.image area.old) }
+    requires vdr { In vdr (vdrs (variables (shape (A.image area.old)))) }
+    requires leaves { leaves.now ≡ map leaf_words (leaves_of (index_of (A.image area.old) vdr)) }
+    requires nodes { nodes.now ≡ nodes_of (index_of (A.image area.old) vdr) }
+    requires room { length (A.image area.old) + reindex_room (index_of (A.image area.old) vdr) ≤ (A.frame area.old).limit }
     requires limit { (A.frame area.old).limit ≤ image_limit }
-    ensures rebuilt { OnOk result ((old : HasOld (A.image area.old) vdr leaves.now nodes.now) → IsRebuilt (A.image area.old) (A.image area.new) old.variable) }
-    ensures sound { OnOk result (IsSound (A.image area.new) (shape (A.image area.new))) }
-    ensures content { OnOk result (content (A.image area.new) ≡ content (A.image area.old)) }
+    ensures rebuilt { OnOk result ((kind : Kind) (before : List VariableShape) (own : VariableShape) (after : List VariableShape) → StandsAmong (A.image area.old) kind before own after → own.vdr ≡ vdr → IsRebuilt (A.image area.old) (A.image area.new) own) }
     ensures area { Edits A.frame A.faults area.old area.new result }
 {
     let top = write_index(alloc, area, leaves)?;

@@ -1,7 +1,6 @@
 -- The dimensions that r variables share, as they are read.
-use Rattle.std.proofs.Common.{◌≡◌, ℕ, ◌+◌, ◌*◌, ◌≤◌, List, length, sym, ap, ◌∙◌, arith}
-use Rattle.cdf_var_records.proofs.Common.{cast_signed, w32, content, counted, word, words, gdr_offset, r_num_dims, shape, Good, cdr_fits, few_dimensions, good_is_sound, content_is, signed_limit, DataSet}
-use Rattle.cdf_format.proofs.GoodHead.{gdr_fits, sizes_fit}
+use Rattle.std.proofs.Common.{List, ap, arith, length, sym, ℕ, ◌*◌, ◌+◌, ◌∙◌, ◌≡◌, ◌≤◌}
+use Rattle.cdf_var_records.proofs.Common.{DataSet, Good, cast_signed, cdr_fits, content, content_is, counted, few_dimensions, gdr_fits, gdr_offset, good_is_sound, r_num_dims, shape, signed_limit, sizes_fit, w32, word, words}
 
 -- a small number that is read with its sign
 pub small_signed : (n : ℕ) → n ≤ signed_limit → counted (cast_signed w32 n) ≡ n
@@ -20,17 +19,10 @@ module _ (b now : List ℕ) (good : Good b) (same : now ≡ b) (g : ℕ) (there 
     count_is =
         let at : n ≡ word b (gdr_offset b + 56) 4 = says ∙ (λ i. word (same i) (there i + 56) 4) in
         let small : word b (gdr_offset b + 56) 4 ≤ 10 = few_dimensions b good in
-        at ∙ sym (small_signed (word b (gdr_offset b + 56) 4) (within (word b (gdr_offset b + 56) 4) small))
-      where
-        within : (x : ℕ) → x ≤ 10 → x ≤ 2147483647
-        within x l = omega arith
+        at ∙ sym (small_signed (word b (gdr_offset b + 56) 4) (omega (arith, small)))
 
     pub sizes_lie : (later : List ℕ) → later ≡ b → g + 84 + 4 * n ≤ length later
-    sizes_lie later e =
-        let l = sizes_fit b good in
-        let c = count_is in
-        let k : length later ≡ length b = ap (λ (x : List ℕ). length x) e in
-        omega arith
+    sizes_lie later e = omega (arith, sizes_fit b good, count_is, ap length e)
 
     pub dims_are : (later : List ℕ) → later ≡ b → words later (g + 84) n ≡ (content b).rdims
     dims_are later e =

@@ -1,21 +1,14 @@
 -- How many records from a first on have a block, counted from stretch to stretch.
-use Rattle.std.proofs.Common.{◌≡◌, ℕ, suc, ◌+◌, ◌-◌, ◌<◌, ◌≤◌, List, [], ◌∷◌, ◌++◌, map, true, leb, min, max, Some, None, refl, sym, ap, subst, ◌∙◌, arith, inl, inr}
-use Rattle.cdf_var_records.proofs.Common.{record_number_limit, Nodes, either, covered, ranges_of, next_first, Ascending, leaf_of, IsStretch, covered_before}
-use Rattle.std.proofs.lemmas.Bool.{leb-false}
-use Rattle.std.proofs.lemmas.Bool.Decides.{nat_tests}
-use Rattle.std.proofs.lemmas.List.Sums.{sum_by-cons}
-use Rattle.std.proofs.lemmas.Option.{same_Some}
-use Rattle.cdf_format.specs.Index.{no_node, node, Entries, no_entry, block, lower, Leaf, leaves_of, entry_leaves}
-use Rattle.cdf_edits.specs.Index.Blocks.{Range, range, firsts_of, entry_firsts}
-use Rattle.cdf_puts.proofs.CoveringRanges.{of_leaves, next_past}
+use Rattle.std.proofs.Common.{List, None, Some, [], ap, arith, inl, inr, leb, map, max, min, refl, subst, suc, sym, ℕ, ◌++◌, ◌+◌, ◌-◌, ◌<◌, ◌∙◌, ◌∷◌, ◌≡◌, ◌≤◌, ◌⊎◌}
+use Rattle.cdf_var_records.proofs.Common.{Ascending, Entries, IsStretch, Nodes, Range, block, covered, covered_before, either, leaf_of, lower, next_first, no_entry, no_node, node, range, ranges_of, record_number_limit, same_Some, le_of}
+use Rattle.cdf_edits.proofs.Common.{Leaf}
+use Rattle.cdf_edits.specs.Index.Blocks.{entry_firsts, firsts_of}
+use Rattle.cdf_format.specs.Index.{entry_leaves, leaves_of}
 use Rattle.cdf_index.proofs.LeafRules.{NoneBegins, none_begins}
+use Rattle.cdf_puts.proofs.CoveringRanges.{next_past, of_leaves}
 use Rattle.cdf_var_records.specs.declared.put_room.Stretch.{Stretch}
-
-some_is_none : {A : Type 0} {a : A} → Some a ≡ None → ⊥
-some_is_none e = cc
-
-none_is_some : {A : Type 0} {a : A} → None ≡ Some a → ⊥
-none_is_some e = cc
+use Rattle.std.proofs.lemmas.Bool.{leb-false}
+use Rattle.std.proofs.lemmas.List.Sums.{sum_by-cons}
 
 before_more : (s e : ℕ) (r : Range) (rs : List Range) → covered_before s e (r ∷ rs) ≡ (min e (r.last + 1) - max s r.first) + covered_before s e rs
 before_more s e r rs = sum_by-cons (λ x. x) (min e (r.last + 1) - max s r.first) (map (λ (x : Range). min e (x.last + 1) - max s x.first) rs)
@@ -23,12 +16,17 @@ before_more s e r rs = sum_by-cons (λ x. x) (min e (r.last + 1) - max s r.first
 -- up to one record, and on from there
 split : (a k e : ℕ) (rs : List Range) → a ≤ k → k ≤ e → covered_before a k rs + covered_before k e rs ≡ covered_before a e rs
 split a k e [] p q = refl
-split a k e (r ∷ rs) p q =
-    one r.first r.last (covered_before a k (r ∷ rs)) (covered_before k e (r ∷ rs)) (covered_before a e (r ∷ rs)) (covered_before a k rs) (covered_before k e rs) (covered_before a e rs)
-    (before_more a k r rs) (before_more k e r rs) (before_more a e r rs) (split a k e rs p q)
-  where
-    one : (f t c c' c'' d d' d'' : ℕ) → c ≡ (min k (t + 1) - max a f) + d → c' ≡ (min e (t + 1) - max k f) + d' → c'' ≡ (min e (t + 1) - max a f) + d'' → d + d' ≡ d'' → c + c' ≡ c''
-    one f t c c' c'' d d' d'' x y z w = omega arith
+split a k e (r ∷ rs) p q = omega (arith, before_more a k r rs, before_more k e r rs, before_more a e r rs, split a k e rs p q)
+
+-- the first leaf has a record, or it ends before it or begins past it
+at_leaf : (k : ℕ) (x : Leaf) (xs : List Leaf) → ((x.first ≤ k) × (k ≤ x.last) × (leaf_of k (x ∷ xs) ≡ Some x)) ⊎ (((k < x.first) ⊎ (x.last < k)) × (leaf_of k (x ∷ xs) ≡ leaf_of k xs))
+at_leaf k x xs = elim (either (leb x.first k)) [
+  | inl t ↦ elim (either (leb k x.last)) [
+    | inl u ↦ inl (le_of x.first k t, le_of k x.last u, rw (t, u) refl)
+    | inr u ↦ inr (inr (leb-false k x.last u), rw (t, u) refl)
+  ]
+  | inr t ↦ inr (inl (leb-false x.first k t), rw t refl)
+]
 
 -- ---- none of them has one
 
@@ -61,90 +59,40 @@ mutual
       let parts = none_split k last (firsts_of nodes) (entry_firsts entries) n.1 in
       apart_both k last (leaves_of nodes) (entry_leaves entries) (leaves_apart k last nodes parts.0) (entries_apart k last entries parts.1)
 
-nothing : (c d e f t k : ℕ) → c ≡ (min e (t + 1) - max k f) + d → d ≡ 0 → min e (t + 1) ≤ max k f → c ≡ 0
-nothing c d e f t k x y z = omega arith
-
 none_covered : (k e last : ℕ) (xs : List Leaf) → e ≤ last + 1 → Apart k last xs → leaf_of k xs ≡ None → covered_before k e (of_leaves xs) ≡ 0
 none_covered k e last [] le a none = refl
 none_covered k e last (x ∷ xs) le a none =
     let whole = before_more k e (range x.first x.last) (of_leaves xs) in
-    elim (either (leb x.first k)) [
-      | inl t ↦ elim (either (leb k x.last)) [
-        | inl u ↦ absurd (some_is_none (rw (t, u) at none))
-        | inr u ↦
-            let lt = leb-false k x.last u in
-            nothing (covered_before k e (of_leaves (x ∷ xs))) (covered_before k e (of_leaves xs)) e x.first x.last k whole (none_covered k e last xs le a.1 (rw (t, u) at none)) (omega arith)
-      ]
-      | inr t ↦
-          let lt = leb-false x.first k t in
-          let past = a.0 lt in
-          nothing (covered_before k e (of_leaves (x ∷ xs))) (covered_before k e (of_leaves xs)) e x.first x.last k whole (none_covered k e last xs le a.1 (rw t at none)) (omega arith)
+    elim (at_leaf k x xs) [
+      | inl h ↦ absurd (let e = sym h.2 ∙ none in cc)
+      | inr h ↦ let r = none_covered k e last xs le a.1 (sym h.1 ∙ none) in elim h.0 [ inl lt ↦ omega (arith, whole, r, a.0 lt, lt) | inr lt ↦ omega (arith, whole, r, lt) ]
     ]
 
 -- ---- all of them have one
 
 leaf_upto : (k : ℕ) (xs : List Leaf) (l : Leaf) → leaf_of k xs ≡ Some l → k ≤ l.last
-leaf_upto k [] l e = absurd (none_is_some e)
-leaf_upto k (x ∷ xs) l e = elim (either (leb x.first k)) [
-  | inl t ↦ elim (either (leb k x.last)) [
-    | inl u ↦ let is : Some x ≡ Some l = rw (t, u) at e in let le = ge_upto k x.last u in subst (λ (y : Leaf). k ≤ y.last) (same_Some x l is) le
-    | inr u ↦ leaf_upto k xs l (rw (t, u) at e)
-  ]
-  | inr t ↦ leaf_upto k xs l (rw t at e)
-]
-  where
-    ge_upto : (m n : ℕ) → leb m n ≡ true → m ≤ n
-    ge_upto m n e = grind (arith, nat_tests)
+leaf_upto k [] l e = absurd cc
+leaf_upto k (x ∷ xs) l e = elim (at_leaf k x xs) [ inl h ↦ subst (λ (y : Leaf). k ≤ y.last) (same_Some x l (sym h.2 ∙ e)) h.1 | inr h ↦ leaf_upto k xs l (sym h.1 ∙ e) ]
 
 none_before : (k low upto : ℕ) (xs : List Leaf) → Ascending low upto xs → k < low → leaf_of k xs ≡ None
 none_before k low upto [] a lt = refl
-none_before k low upto (x ∷ xs) a lt =
-    let a0 = a.0 in
-    let a1 = a.1 in
-    elim (either (leb x.first k)) [
-      | inl t ↦ absurd (clash x.first k t (omega arith))
-      | inr t ↦ rw t (none_before k (suc x.last) upto xs a.3 (omega arith))
-    ]
-  where
-    clash : (m n : ℕ) → leb m n ≡ true → n < m → ⊥
-    clash m n e lt = grind (arith, nat_tests)
+none_before k low upto (x ∷ xs) a lt = elim (at_leaf k x xs) [ inl h ↦ absurd (omega (arith, a.0, h.0, lt)) | inr h ↦ h.1 ∙ none_before k (suc x.last) upto xs a.3 (omega (arith, a.0, a.1, lt)) ]
 
 none_after : (k e low upto : ℕ) (xs : List Leaf) → Ascending low upto xs → e ≤ low → covered_before k e (of_leaves xs) ≡ 0
 none_after k e low upto [] a le = refl
-none_after k e low upto (x ∷ xs) a le =
-    let a0 = a.0 in
-    let a1 = a.1 in
-    nothing (covered_before k e (of_leaves (x ∷ xs))) (covered_before k e (of_leaves xs)) e x.first x.last k (before_more k e (range x.first x.last) (of_leaves xs)) (none_after k e (suc x.last) upto xs a.3 (omega arith)) (omega arith)
+none_after k e low upto (x ∷ xs) a le = omega (arith, a.0, a.1, le, before_more k e (range x.first x.last) (of_leaves xs), none_after k e (suc x.last) upto xs a.3 (omega (arith, a.0, a.1)))
 
 all_covered : (k e low upto : ℕ) (xs : List Leaf) (l : Leaf) → Ascending low upto xs → leaf_of k xs ≡ Some l → e ≤ l.last + 1 → covered_before k e (of_leaves xs) ≡ e - k
-all_covered k e low upto [] l a is le = absurd (none_is_some is)
+all_covered k e low upto [] l a is le = absurd cc
 all_covered k e low upto (x ∷ xs) l a is le =
     let whole = before_more k e (range x.first x.last) (of_leaves xs) in
-    elim (either (leb x.first k)) [
-      | inl t ↦ elim (either (leb k x.last)) [
-        | inl u ↦
-            let here : Some x ≡ Some l = rw (t, u) at is in
-            let same = ap (λ (y : Leaf). y.last) (same_Some x l here) in
-            this (covered_before k e (of_leaves (x ∷ xs))) (covered_before k e (of_leaves xs)) x.first x.last l.last whole (none_after k e (suc x.last) upto xs a.3 (omega arith)) same le (upto_is x.first k t)
-        | inr u ↦
-            let lt = leb-false k x.last u in
-            later (covered_before k e (of_leaves (x ∷ xs))) (covered_before k e (of_leaves xs)) x.first x.last whole (all_covered k e (suc x.last) upto xs l a.3 (rw (t, u) at is) le) lt
+    elim (at_leaf k x xs) [
+      | inl h ↦ let same = ap (λ (y : Leaf). y.last) (same_Some x l (sym h.2 ∙ is)) in omega (arith, whole, h.0, h.1, same, le, none_after k e (suc x.last) upto xs a.3 (omega (arith, same, le)))
+      | inr h ↦ elim h.0 [
+        | inl lt ↦ absurd (let e = sym (none_before k (suc x.last) upto xs a.3 (omega (arith, a.1, lt))) ∙ sym h.1 ∙ is in cc)
+        | inr lt ↦ omega (arith, whole, lt, all_covered k e (suc x.last) upto xs l a.3 (sym h.1 ∙ is) le)
       ]
-      | inr t ↦
-          let lt = leb-false x.first k t in
-          let a1 = a.1 in
-          let further : leaf_of k xs ≡ Some l = rw t at is in
-          absurd (none_is_some (sym (none_before k (suc x.last) upto xs a.3 (omega arith)) ∙ further))
     ]
-  where
-    upto_is : (m n : ℕ) → leb m n ≡ true → m ≤ n
-    upto_is m n e = grind (arith, nat_tests)
-
-    this : (c d f t last : ℕ) → c ≡ (min e (t + 1) - max k f) + d → d ≡ 0 → t ≡ last → e ≤ last + 1 → f ≤ k → c ≡ e - k
-    this c d f t last w z s le fk = omega arith
-
-    later : (c d f t : ℕ) → c ≡ (min e (t + 1) - max k f) + d → d ≡ e - k → t < k → c ≡ e - k
-    later c d f t w z lt = omega arith
 
 -- ---- a stretch
 
@@ -152,10 +100,7 @@ pub leaf_stretch : (nodes : Nodes) (k r upto last : ℕ) (l : Leaf) → Ascendin
 leaf_stretch nodes k r upto last l a found le is =
     let within = leaf_upto k (leaves_of nodes) l found in
     let all = all_covered k (last + 1) 0 upto (leaves_of nodes) l a found (omega arith) in
-    record { some = omega arith; inside = omega arith; counts = plus (covered_before k (last + 1) (ranges_of nodes)) (last + 1 - k) all }
-  where
-    plus : (c n : ℕ) → c ≡ n → c + 0 ≡ n
-    plus c n e = omega arith
+    record { some = omega arith; inside = omega arith; counts = omega (arith, all) }
 
 pub gap_some : (nodes : Nodes) (k r next end : ℕ) → k ≤ r → r ≤ record_number_limit → next ≡ next_first k (firsts_of nodes) → end ≡ min next (r + 1) → k < end
 gap_some nodes k r next end le small is ends = let past = next_past k (firsts_of nodes) (omega arith) in omega arith
@@ -165,39 +110,24 @@ gap_stretch nodes k r next end none le small is ends =
     let some = gap_some nodes k r next end le small is ends in
     let begins = none_begins k (end - 1) (firsts_of nodes) (omega arith) in
     let zero = none_covered k end (end - 1) (leaves_of nodes) (omega arith) (leaves_apart k (end - 1) nodes begins) none in
-    record { some = some; inside = omega arith; counts = plus (covered_before k end (ranges_of nodes)) (end - k) zero }
-  where
-    plus : (c n : ℕ) → c ≡ 0 → c + n ≡ n
-    plus c n e = omega arith
+    record { some = some; inside = omega arith; counts = omega (arith, zero) }
 
 -- ---- one stretch more
 
 none_yet : (from : ℕ) (rs : List Range) → covered_before from from rs ≡ 0
 none_yet from [] = refl
-none_yet from (r ∷ rs) = nothing (covered_before from from (r ∷ rs)) (covered_before from from rs) from r.first r.last from (before_more from from r rs) (none_yet from rs) (omega arith)
+none_yet from (r ∷ rs) = omega (arith, before_more from from r rs, none_yet from rs)
 
 pub one_more : (rs : List Range) (from k r missing : ℕ) (s : Stretch) → from ≤ k → IsStretch rs k r s → covered_before from k rs + missing ≡ k - from → covered_before from s.end rs + (missing + s.missing) ≡ s.end - from
-one_more rs from k r missing s le is so_far =
-    let some = is.some in
-    add (covered_before from k rs) (covered_before k s.end rs) (covered_before from s.end rs) missing s.missing s.end (split from k s.end rs le (omega arith)) so_far is.counts some
-  where
-    add : (c c' c'' m n e : ℕ) → c + c' ≡ c'' → c + m ≡ k - from → c' + n ≡ e - k → k < e → c'' + (m + n) ≡ e - from
-    add c c' c'' m n e x y z lt = omega arith
+one_more rs from k r missing s le is so_far = omega (arith, split from k s.end rs le (omega (arith, is.some)), so_far, is.counts, is.some)
 
 pub all_counted : (rs : List Range) (from k r missing : ℕ) → k ≡ r + 1 → covered_before from k rs + missing ≡ k - from → missing ≡ (r + 1 - from) - covered from r rs
-all_counted rs from k r missing is so_far = left (covered from r rs) (subst (λ (x : ℕ). covered_before from x rs + missing ≡ x - from) is so_far)
-  where
-    left : (c : ℕ) → c + missing ≡ (r + 1) - from → missing ≡ (r + 1 - from) - c
-    left c e = omega arith
+all_counted rs from k r missing is so_far =
+    let all : covered from r rs + missing ≡ (r + 1) - from = subst (λ (x : ℕ). covered_before from x rs + missing ≡ x - from) is so_far in
+    omega (arith, all)
 
 pub none_yet_of : (from : ℕ) (rs : List Range) → covered_before from from rs + 0 ≡ from - from
-none_yet_of from rs = none (covered_before from from rs) (none_yet from rs)
-  where
-    none : (c : ℕ) → c ≡ 0 → c + 0 ≡ from - from
-    none c e = omega arith
+none_yet_of from rs = omega (arith, none_yet from rs)
 
 pub few_more : (rs : List Range) (from k r missing : ℕ) (s : Stretch) → from ≤ k → IsStretch rs k r s → missing ≤ k - from → missing + s.missing ≤ s.end - from
-few_more rs from k r missing s le is few = add (covered_before k s.end rs) s.missing s.end is.counts is.some
-  where
-    add : (c n e : ℕ) → c + n ≡ e - k → k < e → missing + n ≤ e - from
-    add c n e x lt = omega arith
+few_more rs from k r missing s le is few = omega (arith, is.counts, is.some, few)

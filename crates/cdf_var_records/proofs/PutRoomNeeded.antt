@@ -1,15 +1,13 @@
 -- How large a put makes the file at most, by what was read of the variable.
-use Rattle.std.proofs.Common.{◌≡◌, ℕ, suc, ◌+◌, ◌-◌, ◌≤◌, List, length, false, refl, sym, ap, ap₂, subst, ◌∙◌, arith, inl, inr}
-use Rattle.cdf_var_records.proofs.Common.{Variable, record_number_limit, number, Nodes, leaves_of, vdr_vxr_head, Good, either, blocks_room, covered, ranges_of, Ascending, HasIndex, index_at, Form, IsForm, variable_at}
-use Rattle.cdf_edits.specs.Commands.Room.{packed_room, put_room, uncovered}
-use Rattle.cdf_edits.specs.Index.Blocks.{cuts_before_put, first_written, is_sparse, ranges_before_put}
+use Rattle.std.proofs.Common.{List, ap, ap₂, arith, false, inl, inr, length, refl, subst, suc, sym, ℕ, ◌+◌, ◌-◌, ◌∙◌, ◌≡◌, ◌≤◌}
+use Rattle.cdf_var_records.proofs.Common.{Ascending, Form, Good, HasIndex, IsForm, Nodes, Variable, blocks_room, covered, cuts_before_put, either, first_written, index_at, is_sparse, leaves_of, number, packed_room, put_room, ranges_before_put, ranges_of, record_number_limit, uncovered, variable_at, vdr_vxr_head}
+use Rattle.cdf_index.proofs.LeavesAscend.{leaves_ascend}
 use Rattle.cdf_index.specs.Sizes.{size_of}
 use Rattle.cdf_index.specs.declared.measuring.IndexSize.{IndexSize}
-use Rattle.cdf_index.proofs.LeavesAscend.{leaves_ascend}
 use Rattle.cdf_puts.proofs.PutRules.{no_lengths, uncut}
 use Rattle.cdf_var_records.proofs.RecordForms.{variable_is}
-use Rattle.cdf_var_records.proofs.VdrParts.{at}
 use Rattle.cdf_var_records.proofs.RecordReading.{index, lies}
+use Rattle.cdf_var_records.proofs.VdrParts.{at}
 
 pub first_within : (v : Variable) (r : ℕ) → first_written v r ≤ r
 first_within v r = elim (either (is_sparse v.sparse)) [ inl t ↦ rw t (omega arith) | inr t ↦ rw t (omega arith) ]
@@ -23,10 +21,7 @@ all_ranges v nodes r uncut = rw uncut refl
 room_is : (v : Variable) (nodes : Nodes) (r missing from : ℕ) → v.rle ≡ false → cuts_before_put v r ≡ false → from ≡ first_written v r → missing ≡ (r + 1 - from) - covered from r (ranges_of nodes) → put_room v nodes r ≡ blocks_room v nodes missing
 room_is v nodes r missing from loose uncut from_is missing_is =
     let few : uncovered v nodes r ≡ missing = (λ i. (r + 1 - sym from_is i) - covered (sym from_is i) r (all_ranges v nodes r uncut i)) ∙ sym missing_is in
-    ap₂ (λ (x y : ℕ). x + y) (ap (blocks_room v nodes) few) (no_packed v nodes r loose) ∙ nothing_more (blocks_room v nodes missing)
-  where
-    nothing_more : (n : ℕ) → n + 0 ≡ n
-    nothing_more n = omega arith
+    ap₂ (λ (x y : ℕ). x + y) (ap (blocks_room v nodes) few) (no_packed v nodes r loose) ∙ omega arith
 
 module _ {b : List ℕ} {form : Form} (good : Good b) (is : IsForm b form) (r : ℕ) where
   abbrev pub vdr : ℕ

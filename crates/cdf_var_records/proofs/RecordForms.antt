@@ -1,27 +1,15 @@
 -- What the VDR of a variable of a good image says of its records, and what its index is.
-use Rattle.std.proofs.Common.{◌≡◌, ◌⊎◌, ℕ, ℤ, pos, negsuc, suc, ◌+◌, ◌-◌, ◌*◌, ◌^◌, ◌≤◌, List, [], ◌∷◌, length, map, Bool, true, false, not, refl, sym, ap, ap₂, subst, ◌∙◌, arith, inl, inr, ltb}
-use Rattle.cdf_var_records.proofs.Common.{mul-le-mul_right, length-map, ◌==◌, ◌||◌, nat_le, if◌then◌else◌, content, counted, gdr_offset, has_bit, is_positive, number, size_at, word, words, Nodes, vdr_num_elems, vdr_vxr_head, vdr_z_num_dims, shape, variables, is_little, counted4, dimensions_at, dims_at, elems_at, has_pad, is_z, pad_field, record_bytes, type_of_variable, value_bytes, varys_at, has_dimensions, Good, few_dimensions, good_by_its_shape, good_is_sound, either, content_is, both, le_of, tile_lies, fits, sound, tile, HasIndex, index_at, DataType, Kind, R, Z, NoRule, DataSet, record_limit, record_size, size_of, Form, IsPlace, IsVdr, IsForm, variable_at}
-use Rattle.std.specs.List.{list_all}
-use Rattle.cdf_format.specs.Content.{majority_of, variable_of}
-use Rattle.cdf_format.specs.Fields.{r_sizes, with_sign}
+use Rattle.std.proofs.Common.{Bool, List, [], ap, ap₂, arith, false, inl, inr, length, ltb, map, negsuc, not, pos, refl, subst, suc, sym, true, ℕ, ℤ, ◌*◌, ◌+◌, ◌-◌, ◌^◌, ◌∙◌, ◌∷◌, ◌≡◌, ◌≤◌, ◌⊎◌}
+use Rattle.cdf_var_records.proofs.Common.{DataSet, DataType, Form, Good, HasIndex, Hold-split, IsForm, IsPlace, IsVdr, Kind, NoRule, Nodes, Pad, Previous, R, Z, asked, both, content, content_is, counted, counted4, cpr_link, cpr_rows, dimensions_at, dims_at, either, elems_at, few_dimensions, fits, gdr_offset, gdr_r_num_dims, good_by_its_shape, good_is_sound, has_bit, has_dimensions, has_pad, if◌then◌else◌, index_at, is_compressed, is_little, is_positive, is_z, le_of, length-map, list_all, majority_of, mul-le-mul_right, nat_le, number, pad_field, r_sizes, record_bytes, record_limit, record_size, shape, size_at, size_of, size_some, sound, sparse_at, tile, tile_lies, type_of_variable, value_bytes, variable_at, variable_of, variables, vary_field, varys_at, vdr_num_elems, vdr_r_dim_vary, vdr_r_pad_value, vdr_s_records, vdr_vxr_head, vdr_z_dim_vary, vdr_z_num_dims, vdr_z_pad_value, with_sign, word, words, ◌==◌, ◌||◌}
+use Rattle.cdf_format.proofs.GoodImageLemmas.{good_image}
 use Rattle.cdf_format.specs.GoodImage.{IsGoodImage}
 use Rattle.cdf_format.specs.NotRead.{unread_sparse}
-use Rattle.cdf_format.specs.Records.{gdr_r_num_dims, vdr_r_dim_vary, vdr_r_pad_value, vdr_s_records, vdr_z_dim_vary, vdr_z_pad_value}
-use Rattle.cdf_format.specs.Rules.{asked}
-use Rattle.cdf_format.specs.Shape.{is_compressed}
-use Rattle.cdf_format.specs.VariableFields.{sparse_at, vary_field}
-use Rattle.cdf_format.specs.VariableRules.{cpr_link, cpr_rows}
-use Rattle.cdf_format.proofs.GoodImageLemmas.{good_image}
-use Rattle.cdf_format.proofs.RowLemmas.{Hold-split}
 use Rattle.cdf_index.proofs.GoodIndex.{good_index}
 use Rattle.cdf_leaves.proofs.Own.{AmongAll, among_all}
-use Rattle.cdf_model.specs.declared.kinds.Sparse.TheVariants.{Pad, Previous}
-use Rattle.cdf_var_records.specs.declared.pad_place.PadPlace.{PadPlace}
 use Rattle.cdf_var_records.proofs.DimsRead.{small_signed}
-use Rattle.cdf_var_records.proofs.VdrParts.{at, inside, own}
-use Rattle.cdf_var_records.proofs.VdrParts.{dims_long, words_long}
 use Rattle.cdf_var_records.proofs.PadSites.{at_is, positive, r_count, r_typed, ruled, z_count, z_few, z_typed}
-use Rattle.cdf_values.proofs.ValueLengths.{size_some}
+use Rattle.cdf_var_records.proofs.VdrParts.{at, dims_long, inside, own, words_long}
+use Rattle.cdf_var_records.specs.declared.pad_place.PadPlace.{PadPlace}
 
 -- ---- sizes as they are read
 
@@ -78,10 +66,7 @@ module _ {b : List ℕ} {kind : Kind} {vdr : ℕ} (good : Good b) (v : IsVdr b k
   some_elements = let p = positive good v in subst (λ (n : ℕ). 1 ≤ n) (sym (small_signed (number b vdr vdr_num_elems) p.1)) p.0
 
   pub some_bytes : 1 ≤ value_bytes b vdr
-  some_bytes = product (size_of (type_of_variable b vdr)) (elems_at b vdr) (size_some (type_of_variable b vdr)) some_elements
-    where
-      product : (m n : ℕ) → 1 ≤ m → 1 ≤ n → 1 ≤ m * n
-      product m n p q = omega (arith, mul-le-mul_right n p)
+  some_bytes = omega (arith, mul-le-mul_right (elems_at b vdr) (size_some (type_of_variable b vdr)), some_elements)
 
   -- ---- its dimensions
 
@@ -98,12 +83,8 @@ module _ {b : List ℕ} {kind : Kind} {vdr : ℕ} (good : Good b) (v : IsVdr b k
   pub pad_lies : has_pad b vdr ≡ true → vdr + (pad_field b vdr).place + value_bytes b vdr ≤ length b
   pad_lies has =
       let high = (tile_lies b 8 (length b) (shape b).records vdr (sound good (at good v)).has_shape.tiled (tile good (at good v))).high in
-      let room : (pad_field b vdr).place + value_bytes b vdr ≤ size_at b vdr = with_pad (has_pad b vdr) (pad_field b vdr).place (value_bytes b vdr) (size_at b vdr) has (fits good (at good v)).0 in
+      let room : (pad_field b vdr).place + value_bytes b vdr ≤ size_at b vdr = rw has at (fits good (at good v)).0 in
       omega arith
-    where
-      with_pad : (p : Bool) (place n size : ℕ) → p ≡ true → place + (if p then n else 0) ≤ size → place + n ≤ size
-      with_pad true place n size e le = le
-      with_pad false place n size e le = absurd (cc e)
 
 -- ---- of a z variable
 
@@ -162,7 +143,7 @@ module _ {b : List ℕ} {kind : Kind} {vdr : ℕ} (good : Good b) (v : IsVdr b k
   varys_before = let e = ends in omega arith
 
   pub varys_inside : vdr + (p.at - 4 * count) + 4 * count ≤ length b
-  varys_inside = let e = ends in let l = varys_lie good v in let a = place.at_is in omega arith
+  varys_inside = omega (arith, ends, varys_lie good v, place.at_is)
 
   pub varys_read : map (λ n. not (n == 0)) (words b (vdr + (p.at - 4 * count)) count) ≡ varys_at b vdr
   varys_read =

@@ -1,21 +1,14 @@
 -- What a record of a variable reads as, by what was read of its VDR.
-use Rattle.std.proofs.Common.{◌≡◌, ℕ, ◌+◌, ◌-◌, ◌*◌, ◌/◌, ◌%◌, ◌<◌, ◌≤◌, List, ◌++◌, length, take, drop, Bool, true, false, Some, None, refl, sym, ap, ap₂, subst, ◌∙◌, arith}
-use Rattle.cdf_var_records.proofs.Common.{mul-le-mul_right, option_map, nat_lt, if◌then◌else◌, plain_bytes, has_bit, number, leaves_of, vdr_vxr_head, network_bytes, dimensions_at, elems_at, has_pad, is_z, max_rec_at, pad_field, record_bytes, type_of_variable, value_bytes, Good, pad_width, HasIndex, index_at, leaf_of, HoldsRecords, record_in, record_of_leaf, seen, Leaf, DataType, turned, Variable, extent, item_at, default_value, record_limit, record_size, value_count, number_read, pad_record, pad_value, read, size_of, size_stays, Form, IsForm, leaf_in, variable_at, whole_elements}
-use Rattle.std.proofs.Math.Nat.{mul-div_cancel_left}
-use Rattle.std.proofs.lemmas.Bool.{le-ltb, lt-ltb}
-use Rattle.std.proofs.lemmas.List.{take_at}
+use Rattle.std.proofs.Common.{Bool, List, None, Some, ap, ap₂, arith, drop, false, length, refl, subst, sym, take, true, ℕ, ◌%◌, ◌*◌, ◌++◌, ◌+◌, ◌-◌, ◌/◌, ◌<◌, ◌∙◌, ◌≡◌, ◌≤◌}
+use Rattle.cdf_var_records.proofs.Common.{DataType, Form, Good, HasIndex, HoldsRecords, IsForm, IsRecordShape, Leaf, Variable, default_value, dimensions_at, elems_at, extent, has_bit, has_pad, if◌then◌else◌, index_at, is_z, item_at, le-ltb, leaf_in, leaf_of, leaves_of, lt-ltb, max_rec_at, mul-div_cancel_left, mul-le-mul_right, nat_lt, network_bytes, number, number_read, option_map, pad_field, pad_record, pad_value, pad_width, plain_bytes, read, record_bytes, record_in, record_limit, record_of_leaf, record_size, seen, size_of, size_stays, take_at, turned, type_of_variable, value_bytes, value_count, variable_at, vdr_vxr_head, whole_elements}
 use Rattle.cdf_shape.specs.declared.shape.Shape.{Shape}
-use Rattle.cdf_var_records.specs.Records.{IsRecordShape}
 use Rattle.cdf_var_records.proofs.PadSites.{vdr_lies}
 use Rattle.cdf_var_records.proofs.RecordForms.{has_index, pad_lies}
 use Rattle.cdf_var_records.proofs.RecordsRead.{by_leaf, holding, pad_by, pad_none, piece_long, read_is, stored_whole}
 
 -- a record has no more values than bytes
 pub values_fit : (shape : Shape) → IsRecordShape shape → value_count shape.dims shape.varys ≤ record_limit
-values_fit shape is = fit (size_of shape.t * shape.elems) (value_count shape.dims shape.varys) is.some is.fits
-  where
-    fit : (one count : ℕ) → 1 ≤ one → one * count ≤ record_limit → count ≤ record_limit
-    fit one count some le = omega (arith, mul-le-mul_right count some)
+values_fit shape is = omega (arith, mul-le-mul_right (value_count shape.dims shape.varys) is.some, is.fits)
 
 -- elements that were turned in place
 pub turned_in_place : (t : DataType) (little : Bool) (n : ℕ) (bytes now : List ℕ) → length bytes % size_of t ≡ 0 → n ≡ length bytes → now ≡ turned t little bytes → take n (now ++ drop (length now) bytes) ≡ turned t little bytes
@@ -45,12 +38,7 @@ module _ {b : List ℕ} {form : Form} (good : Good b) (f : IsForm b form) where
   value_size_is = ap₂ (λ (t : DataType) (n : ℕ). size_of t * n) t_here elems_here
 
   pub record_size_is : record_size form.shape.t form.shape.elems form.shape.dims form.shape.varys ≡ record_bytes b vdr
-  record_size_is =
-      let t = t_here in
-      let n = elems_here in
-      let d = f.dims_are in
-      let w = f.varys_are in
-      λ i. record_size (t i) (n i) (d i) (w i)
+  record_size_is = λ i. record_size (t_here i) (elems_here i) (f.dims_are i) (f.varys_are i)
 
   -- ---- the pad value
 
@@ -64,7 +52,7 @@ module _ {b : List ℕ} {form : Form} (good : Good b) (f : IsForm b form) where
     some = ap (λ (n : ℕ). has_bit n 1) (sym f.place.flags_are) ∙ has
 
     pub pad_is_inside : vdr + form.place.at + size_of form.shape.t * form.shape.elems ≤ length b
-    pad_is_inside = let l = pad_lies good f.is_vdr some in let s = value_size_is in let p = f.place.at_is in omega arith
+    pad_is_inside = omega (arith, pad_lies good f.is_vdr some, value_size_is, f.place.at_is)
 
     -- it has whole elements
     pub pad_whole : (bytes : List ℕ) → bytes ≡ take (size_of form.shape.t * form.shape.elems) (drop (vdr + form.place.at) b) → length bytes % size_of form.place.t ≡ 0
@@ -122,11 +110,7 @@ module _ {b : List ℕ} {form : Form} (good : Good b) (f : IsForm b form) where
         whole = subst (λ (t : DataType). length bytes % size_of t ≡ 0) (sym f.place.t_is) (ap (λ (xs : List ℕ). length xs % size_of (type_of_variable b vdr)) is_stored ∙ stored_whole good f.is_vdr rec leaf (sym found))
 
         pub leaf_has : (now : List ℕ) → now ≡ turned form.place.t form.encoding.little bytes → Some now ≡ item_at rec variable.recs
-        leaf_has now turns =
-            let t = f.place.t_is in
-            let o = f.order in
-            let e = is_stored in
-            ap Some turns ∙ (λ i. Some (turned (t i) (o i) (e i))) ∙ ap (option_map (record_of_leaf b vdr rec)) found ∙ sym (by_leaf good f.is_vdr rec)
+        leaf_has now turns = ap Some turns ∙ (λ i. Some (turned (f.place.t_is i) (f.order i) (is_stored i))) ∙ ap (option_map (record_of_leaf b vdr rec)) found ∙ sym (by_leaf good f.is_vdr rec)
 
   -- ---- a record as it reads
 

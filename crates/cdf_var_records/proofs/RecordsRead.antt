@@ -1,20 +1,15 @@
 -- What a record of a variable of a good image reads as, and how long it is.
-use Rattle.std.proofs.Common.{◌≡◌, ℕ, ◌+◌, ◌-◌, ◌*◌, ◌%◌, ◌≤◌, List, length, take, drop, Bool, true, false, Option, Some, None, refl, sym, ap, ◌∙◌, arith, inl, inr}
-use Rattle.cdf_var_records.proofs.Common.{mul-le-mul_right, option_map, unwrap_or, nat_lt, if◌then◌else◌, plain_bytes, number, Nodes, leaves_of, vdr_vxr_head, shape, is_little, network_bytes, dimensions_at, dims_at, elems_at, has_pad, is_z, max_rec_at, pad_field, record_bytes, type_of_variable, value_bytes, varys_at, Good, good_is_sound, either, pad_width, index_at, leaf_of, HoldsRecords, record_in, record_of_leaf, seen, Leaf, DataType, Byte, Kind, NoRule, Variable, extent, item_at, default_value, value_count, number_read, pad_record, pad_value, read, size_of, size_stays, IsVdr, leaf_in, variable_at, whole_elements}
-use Rattle.std.proofs.lemmas.List.{length-drop, length-take}
-use Rattle.cdf_format.specs.Index.{Leaf as TreeLeaf}
-use Rattle.cdf_format.specs.Stored.{field_bytes}
+use Rattle.std.proofs.Common.{Bool, List, None, Option, Some, ap, arith, drop, false, inl, inr, length, refl, sym, take, true, ℕ, ◌%◌, ◌*◌, ◌+◌, ◌-◌, ◌∙◌, ◌≡◌, ◌≤◌}
+use Rattle.cdf_var_records.proofs.Common.{DataType, Good, HoldsRecords, IsVdr, Kind, Leaf, NoRule, Nodes, Variable, default_element, default_value, dimensions_at, dims_at, either, elems_at, extent, field_bytes, good_is_sound, has_pad, if◌then◌else◌, index_at, is_little, is_z, item_at, leaf_in, leaf_of, leaves_of, length-repeat, max_rec_at, missing, mul-le-mul_right, nat_lt, network_bytes, number, number_read, option_map, pad_field, pad_record, pad_value, pad_width, plain_bytes, read, read_at, record_bytes, record_in, record_of_leaf, seen, shape, size_of, size_stays, type_of_variable, unwrap_or, value_bytes, value_count, variable_at, varys_at, vdr_vxr_head, whole_elements}
 use Rattle.cdf_index.proofs.GoodBlock.{good_block}
 use Rattle.cdf_index.proofs.PlainBlocks.{plain_block}
 use Rattle.cdf_index.proofs.RecordRead.{record_is}
 use Rattle.cdf_index.proofs.StoredRecords.{stored_record}
-use Rattle.cdf_model.specs.declared.data_type.DataType.TheVariants.{Int1, Int2, Int4, Int8, UInt1, UInt2, UInt4, Real4, Real8, Epoch, Epoch16, TimeTt2000, Float, Double, Char, UChar}
 use Rattle.cdf_model.specs.declared.kinds.Sparse.{Sparse}
-use Rattle.cdf_model.specs.Pads.{default_element}
-use Rattle.cdf_model.specs.Reading.{missing, read_at}
-use Rattle.cdf_model.proofs.Filled.{length-repeat}
-use Rattle.cdf_var_records.proofs.VdrParts.{own}
 use Rattle.cdf_var_records.proofs.RecordForms.{among, image, index_is, pad_lies, variable_is, without_rule}
+use Rattle.cdf_var_records.proofs.VdrParts.{own}
+use Rattle.std.proofs.lemmas.List.{length-drop, length-take}
+use Rattle.cdf_format.specs.Index.{Leaf as TreeLeaf}
 
 -- ---- any variable
 
@@ -26,34 +21,16 @@ plain_read v r none past = elim (either (nat_lt r (extent v.max_rec))) [
 ]
 
 element_long : (t : DataType) → length (default_element t) ≡ size_of t
-element_long Int1 = refl
-element_long Int2 = refl
-element_long Int4 = refl
-element_long Int8 = refl
-element_long UInt1 = refl
-element_long UInt2 = refl
-element_long UInt4 = refl
-element_long Real4 = refl
-element_long Real8 = refl
-element_long Epoch = refl
-element_long Epoch16 = refl
-element_long TimeTt2000 = refl
-element_long Byte = refl
-element_long Float = refl
-element_long Double = refl
-element_long Char = refl
-element_long UChar = refl
+element_long t = grind arith
 
 default_long : (t : DataType) (elems : ℕ) → length (default_value t elems) ≡ size_of t * elems
 default_long t elems = length-repeat elems (default_element t) ∙ (let e = element_long t in ap (λ (n : ℕ). elems * n) e ∙ omega arith)
 
 pub pad_by : (p : Bool) (bytes other : List ℕ) → p ≡ true → unwrap_or (if p then Some bytes else None) other ≡ bytes
-pad_by true bytes other e = refl
-pad_by false bytes other e = absurd (cc e)
+pad_by p bytes other e = rw e refl
 
 pub pad_none : (p : Bool) (bytes other : List ℕ) → p ≡ false → unwrap_or (if p then Some bytes else None) other ≡ other
-pad_none true bytes other e = absurd (cc e)
-pad_none false bytes other e = refl
+pad_none p bytes other e = rw e refl
 
 map_if : {A B : Type 0} (p : Bool) (f : A → B) (o : Option A) → (if p then option_map f o else None) ≡ option_map f (if p then o else None)
 map_if true f o = refl
@@ -101,14 +78,9 @@ module _ {b : List ℕ} {kind : Kind} {vdr : ℕ} (good : Good b) (v : IsVdr b k
     stored_long =
         let size = record_bytes b vdr in
         let k = rec - leaf.first in
-        let h = holding.0 in
-        let from = holding.1 in
-        let upto = holding.2 in
-        let there : k + 1 ≤ leaf.last + 1 - leaf.first = omega arith in
-        let room = mul-le-mul_right size there in
-        let inside = h.inside in
-        let ends : leaf.at + (12 + k * size) + size ≤ length b = omega arith in
-        ap length (sym (record_is b leaf size rec vdr h from upto refl)) ∙ piece_long b (leaf.at + (12 + k * size)) size ends
+        let h = holding in
+        let there : k + 1 ≤ leaf.last + 1 - leaf.first = omega (arith, h.1, h.2) in
+        ap length (sym (record_is b leaf size rec vdr h.0 h.1 h.2 refl)) ∙ piece_long b (leaf.at + (12 + k * size)) size (omega (arith, mul-le-mul_right size there, h.0.inside))
 
     pub stored_whole : length stored % size_of (type_of_variable b vdr) ≡ 0
     stored_whole =

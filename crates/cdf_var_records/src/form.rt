@@ -126,6 +126,7 @@ fn read_varys_of<A: Area>(
 }
 
 /// How the records of a variable of a kind are laid out, whose descriptor stands at a place of a good image.
+#[tactic(auto, using(cdf_area::proofs::Calls::read_done, cdf_area::proofs::Calls::read_failed, cdf_area::proofs::Calls::read_more, cdf_area::proofs::Calls::read_once))]
 pub fn read_form<A: Area>(
     alloc: Global,
     area: &mut A,

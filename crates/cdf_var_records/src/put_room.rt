@@ -81,6 +81,7 @@ fn count_of(vary: bool, wanted: u64, length: u64) -> u32
 }
 
 /// How many records a new block of a variable has.
+#[tactic(auto, using(cdf_area::proofs::Calls::read_done, cdf_area::proofs::Calls::read_failed, cdf_area::proofs::Calls::read_more, cdf_area::proofs::Calls::read_once))]
 pub fn read_block_count<A: Area>(area: &mut A, form: &Form) -> Result<u32, AreaError>
     requires good { Good (A.image area.old) }
     requires form { IsForm (A.image area.old) form.now }
@@ -160,6 +161,7 @@ fn room_of(count: u32, length: u64, missing: u32, size: IndexSize) -> u128
 }
 
 /// How many bytes a put of a record takes at most, where one is written from a first on.
+#[tactic(auto, using(cdf_area::proofs::Calls::read_done, cdf_area::proofs::Calls::read_failed, cdf_area::proofs::Calls::read_more, cdf_area::proofs::Calls::read_once))]
 pub fn read_put_room<A: Area>(
     area: &mut A,
     form: &Form,

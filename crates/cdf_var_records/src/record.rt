@@ -106,6 +106,7 @@ fn default_value(alloc: Global, shape: &Shape) -> Result<Vec<u8>, AllocError>
 }
 
 /// The value that stands where none was written, in network order.
+#[tactic(auto, using(cdf_area::proofs::Calls::read_done, cdf_area::proofs::Calls::read_failed, cdf_area::proofs::Calls::read_more, cdf_area::proofs::Calls::read_once))]
 fn read_pad_value<A: Area>(alloc: Global, area: &mut A, form: &Form) -> Result<Vec<u8>, AreaError>
     requires good { Good (A.image area.old) }
     requires form { IsForm (A.image area.old) form.now }
@@ -136,6 +137,7 @@ fn repeated(alloc: Global, value: &[u8], count: u64) -> Result<Vec<u8>, AllocErr
 }
 
 /// A record where none was written, in network order.
+#[tactic(auto, using(cdf_area::proofs::Calls::read_done, cdf_area::proofs::Calls::read_failed, cdf_area::proofs::Calls::read_more, cdf_area::proofs::Calls::read_once))]
 pub fn read_pad_record<A: Area>(
     alloc: Global,
     area: &mut A,
@@ -172,6 +174,7 @@ fn find_stored<A: Area>(area: &mut A, vdr: u64, rec: u32) -> Result<Option<Leaf>
 }
 
 /// A record that is stored, in network order; none past MaxRec, and where no block has it.
+#[tactic(auto, using(cdf_area::proofs::Calls::read_done, cdf_area::proofs::Calls::read_failed, cdf_area::proofs::Calls::read_more, cdf_area::proofs::Calls::read_once))]
 fn read_stored<A: Area>(
     alloc: Global,
     area: &mut A,
@@ -194,6 +197,7 @@ fn read_stored<A: Area>(
 }
 
 /// What a record reads as, in network order: the one that is stored, or else the pad value throughout.
+#[tactic(auto, using(cdf_area::proofs::Calls::read_done, cdf_area::proofs::Calls::read_failed, cdf_area::proofs::Calls::read_more, cdf_area::proofs::Calls::read_once))]
 pub fn read_record<A: Area>(
     alloc: Global,
     area: &mut A,

@@ -24,8 +24,9 @@ does_nothing b (commands.GetRec var rec) e = refl
 does_nothing b (commands.GetVal var rec index) e = refl
 does_nothing b c e = absurd cc
 
-pub reading_follows : (b : List ℕ) (c : Command) (reply : Reply) → only_reads c ≡ true → step (content b) c ≡ ByStep (Go (content b) reply) → Good b → Follows b c b
-reading_follows b c reply reads goes good = record {
+-- where every byte stays, and that is what the command is to do
+pub staying_follows : (b : List ℕ) (c : Command) (reply : Reply) → step (content b) c ≡ ByStep (Go (content b) reply) → Good b → Does b c b [] → Follows b c b
+staying_follows b c reply goes good does = record {
   reply = reply;
   goes = goes;
   good = good;
@@ -36,5 +37,8 @@ reading_follows b c reply reads goes good = record {
   takes_within = omega arith;
   acts_follow = no_acts b b (good_is_sound b good).has_shape (record { records = refl; list = refl; long = refl; size = λ m i. refl; type = λ m i. refl; back = λ m i. refl });
   keeps = all_keep b (allowances b (content b) (shape b) c) [] (owned b (shape b)) (owned_stand b (shape b) (good_by_its_shape b good));
-  does = does_nothing b c reads;
+  does = does;
 }
+
+pub reading_follows : (b : List ℕ) (c : Command) (reply : Reply) → only_reads c ≡ true → step (content b) c ≡ ByStep (Go (content b) reply) → Good b → Follows b c b
+reading_follows b c reply reads goes good = staying_follows b c reply goes good (does_nothing b c reads)

@@ -1,4 +1,4 @@
-use Rattle.cdf_reindex.proofs.PyramidLaw.{makes_pyramid}
+use Rattle.cdf_reindex.proofs.Levels.{makes_pyramid}
 use Rattle.cdf_reindex.proofs.laws.levels_make_pyramid.Goals as goal
 
 pub returns : goal.returns

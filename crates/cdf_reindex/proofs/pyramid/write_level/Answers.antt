@@ -1,6 +1,6 @@
-use Rattle.std.proofs.Common.{◌≡◌, ◌≤◌, ◌+◌, ℕ, List, [], ◌∷◌, ◌++◌, min, length, refl, sym, ap, subst, ◌∙◌, rules}
-use Rattle.cdf_reindex.proofs.Common.{length-append, nil_from_length, chunks_rest, edit_more, Entry}
-use Rattle.cdf_reindex.proofs.LevelSteps.{Goes, goes_start, goes_more, goes_last, room_start, room_one, room_more, room_last, chunk_few, chunk_some}
+use Rattle.std.proofs.Common.{[], ap, length, min, refl, rules, subst, sym, ℕ, ◌++◌, ◌+◌, ◌∙◌, ◌∷◌, ◌≡◌, ◌≤◌}
+use Rattle.cdf_reindex.proofs.Common.{Entry, chunks_rest, edit_more, length-append, nil_from_length}
+use Rattle.cdf_reindex.proofs.LevelSteps.{Goes, chunk_few, chunk_some, goes_last, goes_more, goes_start, room_more, room_one}
 use Rattle.cdf_reindex.proofs.pyramid.write_level.Goals as goal
 
 pub loop-node-init : goal.loop-node-init
@@ -9,10 +9,9 @@ loop-node-init g c = record {
   finite = tt;
   size = search rules;
   sound = c.requires.sound;
-  content_stays = refl;
   eof_is = c.requires.eof;
-  room = room_start (length (g.A.Area.image c.args.area.now)) _ c.args.entries.now (search rules);
-  goes = goes_start (g.A.Area.image c.args.area.now) c.args.entries.now _ _ (search rules) (search rules);
+  room = search rules;
+  goes = λ all said. goes_start (g.A.Area.image c.args.area.now) all c.args.entries.now _ _ said (search rules) (search rules);
   area = record { frame = refl; faults = refl };
 }
 
@@ -25,10 +24,7 @@ place_node-requires-clause-few g c =
 pub place_node-requires-clause-room : goal.place_node-requires-clause-room
 place_node-requires-clause-room g c =
     let l = c.loop-node in
-    let steps = c.in-Some.ensures.steps in
-    let frame = l.invariant.area.frame in
-    let fits = room_one (length (g.A.Area.image c.args.area.now)) (length (g.A.Area.image l.area)) (length (chunks_rest l.node-iterator)) (length c.args.entries.now) (g.A.Area.frame c.args.area.now).limit l.invariant.room steps.1.2 c.requires.room in
-    subst (λ f. length (g.A.Area.image l.area) + 1052 ≤ f.limit) (sym frame) fits
+    subst (λ f. length (g.A.Area.image l.area) + 1052 ≤ f.limit) (sym l.invariant.area.frame) (room_one (length (g.A.Area.image l.area)) (length (chunks_rest l.node-iterator)) _ l.invariant.room c.in-Some.ensures.steps.1.2)
 
 pub naming-requires : goal.naming-requires
 naming-requires g c =
@@ -40,10 +36,6 @@ pub loop-node-preserved : goal.loop-node-preserved
 loop-node-preserved g c =
     let l = c.loop-node in
     let i = l.invariant in
-    let b = g.A.Area.image c.args.area.now in
-    let before = g.A.Area.image l.area in
-    let now = g.A.Area.image c.place_node.new.area in
-    let all = c.args.entries.now in
     let rest = chunks_rest l.node-iterator in
     let left = chunks_rest c.next.new.self in
     let chunk = c.in-Some.node.now in
@@ -55,19 +47,13 @@ loop-node-preserved g c =
       finite = tt;
       size = steps.0 ∙ i.size;
       sound = call.sound;
-      content_stays = call.content ∙ i.content_stays;
       eof_is = call.eof;
-      room = room_more (length b) (length before) (length now) (length chunk) (length left) (length rest) (length all) i.room size (ap length steps.1.0 ∙ length-append chunk left) steps.1.2 call.longest;
-      goes = subst (λ (us : List Entry). Goes b now all left us) (sym (c.in_ok-push.ensures.items ∙ ap (λ (e : Entry). l.uppers.items ++ e ∷ []) c.naming.ensures)) (goes_more b before now all rest chunk left l.uppers.items c.in_ok-place.place i.goes steps.1.0 size steps.1.2 call.made);
+      room = room_more (length (g.A.Area.image l.area)) (length (g.A.Area.image c.place_node.new.area)) (length chunk) (length left) (length rest) _ i.room size (ap length steps.1.0 ∙ length-append chunk left) steps.1.2 call.made.longest;
+      goes = λ all said. subst (Goes _ _ all left) (sym (c.in_ok-push.ensures.items ∙ ap (λ (e : Entry). l.uppers.items ++ e ∷ []) c.naming.ensures)) (goes_more _ _ _ all rest chunk left l.uppers.items c.in_ok-place.place (i.goes all said) steps.1.0 size steps.1.2 call.made);
       area = edit_more i.area call.area;
     }
 
 pub returns-clause-made : goal.returns-clause-made
 returns-clause-made g c =
     let l = c.loop-node in
-    goes_last (g.A.Area.image c.args.area.now) (g.A.Area.image l.area) c.args.entries.now (chunks_rest l.node-iterator) l.uppers.items l.invariant.goes (nil_from_length _ c.in-None.ensures.steps.1.0)
-
-pub returns-clause-longest : goal.returns-clause-longest
-returns-clause-longest g c =
-    let l = c.loop-node in
-    room_last (length (g.A.Area.image c.args.area.now)) (length (g.A.Area.image l.area)) (chunks_rest l.node-iterator) c.args.entries.now (nil_from_length _ c.in-None.ensures.steps.1.0) l.invariant.room
+    λ all said. goes_last _ _ all (chunks_rest l.node-iterator) l.uppers.items (l.invariant.goes all said) (nil_from_length _ c.in-None.ensures.steps.1.0)

@@ -1,7 +1,5 @@
-use Rattle.std.proofs.Common.{◌≡◌, ◌≤◌, ◌+◌, ◌*◌, length}
-use Rattle.cdf_reindex.proofs.Common.{chunks_rest, quotient_up, content, eof, gdr_offset, shape, IsSound}
-use Rattle.std.specs.Slice.Iter.{chunks_size}
-use Rattle.cdf_area.specs.Calls.{Keeps}
+use Rattle.std.proofs.Common.{length, ◌*◌, ◌+◌, ◌≡◌, ◌≤◌}
+use Rattle.cdf_reindex.proofs.Common.{Entries, IsSound, Keeps, chunks_rest, chunks_size, eof, gdr_offset, quotient_up, shape, words_of}
 use Rattle.cdf_reindex.proofs.LevelSteps.{Goes}
 use Rattle.cdf_reindex.proofs.pyramid.write_level.Given as goal
 
@@ -11,9 +9,8 @@ invariant-loop-node g l = record {
   finite : (goal.iterator-loop-node g).is_finite l.node-iterator;
   size : chunks_size l.node-iterator ≡ 64;
   sound : IsSound (g.A.Area.image l.area) (shape (g.A.Area.image l.area));
-  content_stays : content (g.A.Area.image l.area) ≡ content (g.A.Area.image l.fn.area);
   eof_is : eof (g.A.Area.image l.area) (gdr_offset (g.A.Area.image l.area)) ≡ length (g.A.Area.image l.area);
-  room : length (g.A.Area.image l.area) + 1052 * quotient_up (length (chunks_rest l.node-iterator)) 64 ≤ length (g.A.Area.image l.fn.area) + 1052 * quotient_up (length l.fn.entries) 64;
-  goes : Goes (g.A.Area.image l.fn.area) (g.A.Area.image l.area) l.fn.entries (chunks_rest l.node-iterator) l.uppers.items;
+  room : length (g.A.Area.image l.area) + 1052 * quotient_up (length (chunks_rest l.node-iterator)) 64 ≤ (g.A.Area.frame l.fn.area).limit;
+  goes : (all : Entries) → words_of all ≡ l.fn.entries → Goes (g.A.Area.image l.fn.area) (g.A.Area.image l.area) all (chunks_rest l.node-iterator) l.uppers.items;
   area : Keeps g.A.Area.frame g.A.Area.faults l.fn.area l.area;
 }

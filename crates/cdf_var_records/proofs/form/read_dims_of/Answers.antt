@@ -1,10 +1,7 @@
-use Rattle.std.proofs.Common.{◌≡◌, ◌∙◌, ℕ, List, subst}
-use Rattle.cdf_var_records.proofs.Common.{IfOk-weaker, content, dims_at, Kind, IsVdr}
+use Rattle.std.proofs.Common.{List, subst, ℕ, ◌∙◌, ◌≡◌}
+use Rattle.cdf_var_records.proofs.Common.{IfOk-weaker, IsVdr, Kind, content, dims_at}
 use Rattle.cdf_var_records.proofs.RecordForms.{r_sizes_are}
 use Rattle.cdf_var_records.proofs.form.read_dims_of.Goals as goal
-
-pub read_z_dims-requires-clause-vdr : goal.read_z_dims-requires-clause-vdr
-read_z_dims-requires-clause-vdr g c = subst (λ (k : Kind). IsVdr (g.A.Area.image c.args.area.now) k c.args.vdr) c.in-Z.is c.requires.vdr
 
 pub returns-in-R-clause-dims : goal.returns-in-R-clause-dims
 returns-in-R-clause-dims g c =

@@ -1,5 +1,5 @@
-use Rattle.std.proofs.Common.{◌∙◌, ℕ, List, length, refl, sym, ap, subst, arith}
-use Rattle.cdf_var_records.proofs.Common.{read_done, read_more, read_once, is_little, dims_at, varys_at, Good, IsPlace, IsVdr}
+use Rattle.std.proofs.Common.{List, ap, arith, length, refl, subst, sym, ℕ, ◌∙◌}
+use Rattle.cdf_var_records.proofs.Common.{Good, IsPlace, IsVdr, dims_at, is_little, varys_at}
 use Rattle.cdf_var_records.proofs.PadSites.{vdr_lies}
 use Rattle.cdf_var_records.proofs.RecordForms.{form_is}
 use Rattle.cdf_var_records.proofs.form.read_form.Goals as goal
@@ -36,6 +36,3 @@ returns-clause-form g c =
     let dims = c.in_ok-dims.ensures.dims ∙ ap (λ (x : List ℕ). dims_at x c.args.vdr) second in
     let varys = c.in_ok-varys.ensures.varys ∙ (λ i. varys_at (third i) (place.vdr_is i)) in
     form_is c.requires.good c.requires.vdr _ place.vdr_is place (c.in_ok-encoding.ensures.order ∙ ap is_little first) refl refl dims varys
-
-pub returns-clause-area : goal.returns-clause-area
-returns-clause-area g c = read_done (read_more (read_more (read_more (read_once c.in_ok-place.ensures.area) c.in_ok-encoding.ensures.area) c.in_ok-dims.ensures.area) c.in_ok-varys.ensures.area)

@@ -1,5 +1,5 @@
-use Rattle.std.proofs.Common.{◌≡◌, ◌+◌, ◌-◌, ◌*◌, ◌∙◌, List, Bool, map, not, arith}
-use Rattle.cdf_var_records.proofs.Common.{IfOk-weaker, ◌==◌, words, varys_at}
+use Rattle.std.proofs.Common.{Bool, List, arith, map, not, ◌*◌, ◌+◌, ◌-◌, ◌∙◌, ◌≡◌}
+use Rattle.cdf_var_records.proofs.Common.{IfOk-weaker, varys_at, words, ◌==◌}
 use Rattle.cdf_var_records.proofs.RecordForms.{count_few, varys_before, varys_inside, varys_read}
 use Rattle.cdf_var_records.proofs.form.read_varys_of.Goals as goal
 

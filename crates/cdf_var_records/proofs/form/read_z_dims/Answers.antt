@@ -1,5 +1,5 @@
-use Rattle.std.proofs.Common.{◌≡◌, ◌+◌, ◌∙◌, ℕ, List, length, ap, arith}
-use Rattle.cdf_var_records.proofs.Common.{IfOk-weaker, words, dims_at}
+use Rattle.std.proofs.Common.{List, ap, arith, length, ℕ, ◌+◌, ◌∙◌, ◌≡◌}
+use Rattle.cdf_var_records.proofs.Common.{IfOk-weaker, dims_at, words}
 use Rattle.cdf_var_records.proofs.RecordForms.{z_sizes_are, z_sizes_lie}
 use Rattle.cdf_var_records.proofs.form.read_z_dims.Goals as goal
 

@@ -1,7 +1,7 @@
-use Rattle.std.proofs.Common.{◌≡◌, ◌∙◌, ℕ, List, length, refl, ap, subst, arith}
-use Rattle.cdf_var_records.proofs.Common.{unwrap_or, read_done, read_more, read_once, Byte, AreBytes}
-use Rattle.cdf_records.specs.declared.vdr.Vdr.{Vdr}
+use Rattle.std.proofs.Common.{List, ap, arith, length, refl, subst, ℕ, ◌∙◌, ◌≡◌}
+use Rattle.cdf_var_records.proofs.Common.{AreBytes, Byte, read_done, read_more, read_once, unwrap_or}
 use Rattle.cdf_records.specs.Heads.{vdr_at}
+use Rattle.cdf_records.specs.declared.vdr.Vdr.{Vdr}
 use Rattle.cdf_var_records.proofs.PadSites.{elems_are as site_elems, type_is, vdr_lies}
 use Rattle.cdf_var_records.proofs.pad_place.read_pad_place.Goals as goal
 

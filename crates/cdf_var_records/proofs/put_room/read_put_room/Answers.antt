@@ -1,7 +1,6 @@
-use Rattle.std.proofs.Common.{◌∙◌, List, sym, ap, subst, arith}
-use Rattle.cdf_var_records.proofs.Common.{read_done, read_failed, read_more, read_once, blocks_room, Good, variable_at}
-use Rattle.cdf_edits.specs.Index.Blocks.{block_count}
-use Rattle.cdf_var_records.proofs.PutRoomNeeded.{first_within, head_lies, index_there, leaves_rise, nodes, room_there, size_there, v}
+use Rattle.std.proofs.Common.{List, ap, arith, subst, sym, ◌∙◌}
+use Rattle.cdf_var_records.proofs.Common.{Good, block_count, blocks_room, variable_at}
+use Rattle.cdf_var_records.proofs.PutRoomNeeded.{head_lies, index_there, leaves_rise, nodes, room_there, size_there, v}
 use Rattle.cdf_var_records.proofs.RecordReading.{record_size_is}
 use Rattle.cdf_var_records.proofs.put_room.read_put_room.Goals as goal
 
@@ -21,12 +20,6 @@ count_missing-requires-clause-index g c = index_there c.requires.good c.requires
 pub count_missing-requires-clause-order : goal.count_missing-requires-clause-order
 count_missing-requires-clause-order g c = leaves_rise c.requires.good c.requires.form c.args.rec c.read_unsigned8.ensures.area.image c.in_ok-head.ensures.value
 
-pub count_missing-requires-clause-more : goal.count_missing-requires-clause-more
-count_missing-requires-clause-more g c =
-    let e = c.requires.from in
-    let l = first_within (v c.requires.good c.requires.form c.args.rec) c.args.rec in
-    omega arith
-
 pub returns-then-missing-eq0-clause-room : goal.returns-then-missing-eq0-clause-room
 returns-then-missing-eq0-clause-room g c =
     let good = c.requires.good in
@@ -35,17 +28,11 @@ returns-then-missing-eq0-clause-room g c =
     let room = room_there good is r c.read_unsigned8.ensures.area.image c.in_ok-head.ensures.value c.args.from c.in_ok-missing.missing c.requires.from c.in_ok-missing.ensures.count in
     sym (room ∙ ap (blocks_room (v good is r) (nodes good is r)) c.if-missing-eq0.true)
 
-pub returns-then-missing-eq0-clause-area : goal.returns-then-missing-eq0-clause-area
-returns-then-missing-eq0-clause-area g c = read_done (read_more (read_once c.in_ok-head.ensures.area) c.in_ok-missing.ensures.area)
-
 pub read_block_count-requires-clause-good : goal.read_block_count-requires-clause-good
 read_block_count-requires-clause-good g c = subst Good (sym (c.count_missing.ensures.area.image ∙ c.read_unsigned8.ensures.area.image)) c.requires.good
 
 pub index_size-requires-clause-index : goal.index_size-requires-clause-index
 index_size-requires-clause-index g c = index_there c.requires.good c.requires.form c.args.rec (c.read_block_count.ensures.area.image ∙ c.count_missing.ensures.area.image ∙ c.read_unsigned8.ensures.area.image) c.in_ok-head.ensures.value
-
-pub returns-in_err-size-clause-area : goal.returns-in_err-size-clause-area
-returns-in_err-size-clause-area g c = read_failed (read_more (read_more (read_once c.in_ok-head.ensures.area) c.in_ok-missing.ensures.area) c.in_ok-count.ensures.area) c.in_err-size.ensures.area c.from_residual-in_err-size.ensures.1
 
 pub returns-clause-room : goal.returns-clause-room
 returns-clause-room g c =
@@ -59,6 +46,3 @@ returns-clause-room g c =
     let long = c.record_size_of.ensures ∙ record_size_is good is in
     let size = size_there good is r (c.read_block_count.ensures.area.image ∙ counted) c.in_ok-head.ensures.value c.in_ok-size.size c.in_ok-size.ensures.value in
     c.room_of.ensures (v good is r) (nodes good is r) (sym count) (sym long) size ∙ sym room
-
-pub returns-clause-area : goal.returns-clause-area
-returns-clause-area g c = read_done (read_more (read_more (read_more (read_once c.in_ok-head.ensures.area) c.in_ok-missing.ensures.area) c.in_ok-count.ensures.area) c.in_ok-size.ensures.area)

@@ -1,6 +1,5 @@
-use Rattle.std.proofs.Common.{◌≡◌, ◌∙◌, ℕ, List, sym, ap, arith}
-use Rattle.cdf_var_records.proofs.Common.{option_map, next_first, index_at, seen}
-use Rattle.cdf_edits.specs.Index.Blocks.{firsts_of}
+use Rattle.std.proofs.Common.{List, ap, arith, sym, ℕ, ◌∙◌, ◌≡◌}
+use Rattle.cdf_var_records.proofs.Common.{firsts_of, index_at, next_first, option_map, seen}
 use Rattle.cdf_index.specs.Next.{least_first_past}
 use Rattle.cdf_puts.proofs.NewBlocks.{bound_is}
 use Rattle.cdf_var_records.proofs.PutRoomCount.{gap_some, gap_stretch, leaf_stretch}

@@ -1,5 +1,5 @@
-use Rattle.std.proofs.Common.{◌∙◌, ap₂, List, ℕ}
-use Rattle.cdf_var_records.proofs.Common.{repeat, read_done, read_once}
+use Rattle.std.proofs.Common.{List, ap₂, ℕ, ◌∙◌}
+use Rattle.cdf_var_records.proofs.Common.{repeat}
 use Rattle.cdf_var_records.proofs.RecordReading.{count_is}
 use Rattle.cdf_var_records.proofs.record.read_pad_record.Goals as goal
 
@@ -7,6 +7,3 @@ pub returns-clause-record : goal.returns-clause-record
 returns-clause-record g c =
     c.in_ok-bytes.ensures
     ∙ ap₂ (λ (n : ℕ) (xs : List ℕ). repeat n xs) (count_is c.requires.good c.requires.form c.record_size_of-all.result c.value_size-one.result c.record_size_of-all.ensures c.value_size-one.ensures) (c.deref.ensures.value ∙ c.in_ok-value.ensures.value)
-
-pub returns-clause-area : goal.returns-clause-area
-returns-clause-area g c = read_done (read_once c.in_ok-value.ensures.area)

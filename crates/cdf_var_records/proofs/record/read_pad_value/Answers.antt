@@ -1,6 +1,5 @@
-use Rattle.std.proofs.Common.{◌∙◌, ap, arith, sym}
-use Rattle.cdf_var_records.proofs.Common.{read_done, read_once, turned}
-use Rattle.cdf_var_records.proofs.RecordReading.{pad_is_inside, pad_whole, value_is_read}
+use Rattle.std.proofs.Common.{arith, sym, ◌∙◌}
+use Rattle.cdf_var_records.proofs.RecordReading.{pad_is_inside, pad_whole}
 use Rattle.cdf_var_records.proofs.record.read_pad_value.Goals as goal
 
 pub overflow_add-place : goal.overflow_add-place
@@ -13,12 +12,3 @@ pub in_network_order-requires : goal.in_network_order-requires
 in_network_order-requires g c =
     let e = c.value_size-size.ensures in
     pad_whole c.requires.good c.requires.form (sym c.says_pad.ensures ∙ c.if-not-says_pad.false) c.in_ok-bytes.bytes.items (rw e at c.in_ok-bytes.ensures.bytes)
-
-pub returns-clause-value : goal.returns-clause-value
-returns-clause-value g c =
-    let e = c.value_size-size.ensures in
-    c.in_network_order.ensures ∙ ap (turned c.args.form.now.place.t c.args.form.now.encoding.little) (rw e at c.in_ok-bytes.ensures.bytes)
-    ∙ value_is_read c.requires.good c.requires.form (sym c.says_pad.ensures ∙ c.if-not-says_pad.false)
-
-pub returns-clause-area : goal.returns-clause-area
-returns-clause-area g c = read_done (read_once c.in_ok-bytes.ensures.area)

@@ -1,13 +1,10 @@
-use Rattle.std.proofs.Common.{◌≡◌, ◌∙◌, ℕ, List, refl, sym, ap, subst}
-use Rattle.cdf_var_records.proofs.Common.{IfOk-weaker, read_done, read_failed, read_once, Good, pad_record, read, IsForm, variable_at}
+use Rattle.std.proofs.Common.{List, ap, subst, sym, ℕ, ◌∙◌, ◌≡◌}
+use Rattle.cdf_var_records.proofs.Common.{Good, IfOk-weaker, IsForm, pad_record, read, variable_at}
 use Rattle.cdf_var_records.proofs.RecordReading.{reads_pad, reads_stored}
 use Rattle.cdf_var_records.proofs.record.read_record.Goals as goal
 
 pub returns-in-Some-clause-record : goal.returns-in-Some-clause-record
 returns-in-Some-clause-record g c = reads_stored c.requires.good c.requires.form c.args.rec c.number_of-number.result c.in-Some.bytes.items c.number_of-number.ensures (rw c.in-Some.is at c.in_ok-stored.ensures.record)
-
-pub returns-in-Some-clause-area : goal.returns-in-Some-clause-area
-returns-in-Some-clause-area g c = read_done (read_once c.in_ok-stored.ensures.area)
 
 pub read_pad_record-requires : goal.read_pad_record-requires
 read_pad_record-requires g c =
@@ -23,6 +20,3 @@ returns-in-None-clause-record g c =
     IfOk-weaker c.read_pad_record.result (λ bytes. bytes.items ≡ pad_record (variable_at later vdr)) (λ bytes. bytes.items ≡ read (variable_at b vdr) c.args.rec)
     (λ x e. reads_pad c.requires.good c.requires.form c.args.rec c.number_of-number.result x.items c.number_of-number.ensures (rw c.in-None.is at c.in_ok-stored.ensures.record) (e ∙ ap (λ (y : List ℕ). pad_record (variable_at y vdr)) same))
     c.read_pad_record.ensures.record
-
-pub returns-in_err-stored-clause-area : goal.returns-in_err-stored-clause-area
-returns-in_err-stored-clause-area g c = read_failed (record { image = refl; edited = refl; frame = refl; faults = refl }) c.in_err-stored.ensures.area c.from_residual.ensures.1

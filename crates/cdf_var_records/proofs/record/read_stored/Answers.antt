@@ -1,5 +1,5 @@
-use Rattle.std.proofs.Common.{◌≡◌, ◌-◌, ◌∙◌, ℕ, List, length, refl, sym, ap, subst, arith}
-use Rattle.cdf_var_records.proofs.Common.{option_map, read_done, read_failed, read_more, read_once, plain_bytes, record_bytes, HoldsRecords, record_in, seen}
+use Rattle.std.proofs.Common.{List, ap, subst, sym, ℕ, ◌-◌, ◌∙◌, ◌≡◌}
+use Rattle.cdf_var_records.proofs.Common.{HoldsRecords, option_map, plain_bytes, record_bytes, record_in, seen}
 use Rattle.cdf_var_records.proofs.RecordReading.{holds, holds_from, holds_upto, index, leaf_has, lies, no_record, whole}
 use Rattle.cdf_var_records.proofs.record.read_stored.Goals as goal
 
@@ -12,9 +12,6 @@ find_stored-requires-clause-index g c = index c.requires.good c.requires.form
 pub returns-in_default-clause-record : goal.returns-in_default-clause-record
 returns-in_default-clause-record g c = no_record c.requires.good c.requires.form c.args.rec (ap (option_map seen) (sym c.in_default.is) ∙ c.in_ok-found.ensures.leaf)
 
-pub returns-in_default-clause-area : goal.returns-in_default-clause-area
-returns-in_default-clause-area g c = read_done (read_once c.in_ok-found.ensures.area)
-
 pub read_rec-requires-clause-block : goal.read_rec-requires-clause-block
 read_rec-requires-clause-block g c =
     let found = ap (option_map seen) (sym c.in-Some.is) ∙ c.in_ok-found.ensures.leaf in
@@ -25,9 +22,6 @@ read_rec-requires-clause-from g c = holds_from c.requires.good c.requires.form c
 
 pub read_rec-requires-clause-upto : goal.read_rec-requires-clause-upto
 read_rec-requires-clause-upto g c = holds_upto c.requires.good c.requires.form c.args.rec c.in-Some.leaf (ap (option_map seen) (sym c.in-Some.is) ∙ c.in_ok-found.ensures.leaf)
-
-pub read_rec-requires-clause-short : goal.read_rec-requires-clause-short
-read_rec-requires-clause-short g c = let same = ap (λ (x : List ℕ). length x) c.find_stored.ensures.area.image in let short = c.requires.short in omega arith
 
 pub in_network_order-requires : goal.in_network_order-requires
 in_network_order-requires g c =
@@ -46,12 +40,3 @@ returns-clause-record g c =
     let size = c.record_size_of-size.result in
     let is = subst (λ (x : List ℕ). (at : ℕ) → record_bytes x at ≡ size → c.in_ok-bytes.bytes.items ≡ record_in (plain_bytes x at (seen leaf)) size (c.args.rec - leaf.first)) c.find_stored.ensures.area.image c.in_ok-bytes.ensures.value in
     leaf_has c.requires.good c.requires.form c.args.rec leaf found size c.record_size_of-size.ensures c.in_ok-bytes.bytes.items is _ c.in_network_order.ensures
-
-pub returns-clause-area : goal.returns-clause-area
-returns-clause-area g c = read_done (read_more (read_once c.in_ok-found.ensures.area) c.in_ok-bytes.ensures.area)
-
-pub returns-in_err-found-clause-area : goal.returns-in_err-found-clause-area
-returns-in_err-found-clause-area g c = read_failed (record { image = refl; edited = refl; frame = refl; faults = refl }) c.in_err-found.ensures.area c.from_residual.ensures.1
-
-pub returns-in_err-bytes-clause-area : goal.returns-in_err-bytes-clause-area
-returns-in_err-bytes-clause-area g c = read_failed (read_once c.in_ok-found.ensures.area) c.in_err-bytes.ensures.area c.from_residual-in_err-bytes.ensures.1

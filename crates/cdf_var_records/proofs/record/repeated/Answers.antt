@@ -1,5 +1,5 @@
-use Rattle.std.proofs.Common.{◌++◌, ◌∙◌, ℕ, List, sym, ap}
-use Rattle.cdf_model.proofs.Filled.{repeat_more}
+use Rattle.std.proofs.Common.{List, ap, sym, ℕ, ◌++◌, ◌∙◌}
+use Rattle.cdf_var_records.proofs.Common.{repeat_more}
 use Rattle.cdf_var_records.proofs.record.repeated.Goals as goal
 
 pub loop-preserved : goal.loop-preserved
