@@ -12,7 +12,7 @@ use Rattle.cdf_puts.proofs.PutMeaning.{IsPut}
 use Rattle.cdf_edits.specs.Commands.Puts.{CutsFirst, PutsIndex, is_written, PutsBytes, StaysUnwritten, UnwrittenStay, HoldsPads, is_changed, was_leaf, written_in, stays_in_place, stored_in}
 use Rattle.cdf_edits.specs.Index.Written.{top_stays, TailFollows, block_end, SpareIs, ReservedIs, BlockFollows}
 use Rattle.cdf_format.specs.Index.{nodes_of}
-use Rattle.cdf_puts.proofs.CoveringRanges.{some_or_none, covering_done, covering_total}
+use Rattle.cdf_puts.proofs.CoveringRanges.{some_or_none, covering_done}
 use Rattle.cdf_puts.proofs.IndexWritten.{nodes_still}
 use Rattle.cdf_puts.proofs.GoesThen.{Passes, record_stays}
 use Rattle.cdf_puts.proofs.PutRoom.{none_given, no_node_given, none_without_bytes}
@@ -132,7 +132,7 @@ module _ {b now last : List ℕ} {kind : Kind} {before : List VariableShape} {ow
   last_nodes = nodes_still so.index.nodes (λ m i. Each-in (NodeFits now) (nodes_of own'.index) (fits so.goes.good so.goes.among).1 m i) (λ m i. img.behind m (node_behind own' m i))
 
   ranges_done : ranges_of own'.index ≡ ranges_after_put v own.index r
-  ranges_done = covering_done v own.index r (ap is_sparse so.start.no_rule) so.start.small own'.index so.covered _ so.covers (so.covered_past (omega arith))
+  ranges_done = covering_done so.covers (omega arith)
 
   pub index_done : PutsIndex b last v r own own' acts
   index_done = record {
@@ -276,7 +276,7 @@ module _ {b now last : List ℕ} {kind : Kind} {before : List VariableShape} {ow
 
   nothing_taken : uncovered v own.index r ≡ 0 → acts ≡ []
   nothing_taken e =
-      let fits = covering_total v own.index r (ap is_sparse so.start.no_rule) so.start.small own'.index so.covered (taken_bytes acts) so.covers in
+      let fits = so.covers.fits in
       let unpacked : packed_room v own.index r ≡ 0 = rw so.start.loose refl in
       let none : put_room v own.index r ≡ 0 = λ i. blocks_room v own.index (e i) + unpacked i in
       none_without_bytes (space_before b) acts so.goes.follow.are so.takes (subst (λ (n : ℕ). taken_bytes acts ≤ n) none fits)

@@ -148,7 +148,7 @@ module _ {b now now' : List ℕ} {kind : Kind} {before : List VariableShape} {ow
 
   new_block : NewBlock now' raw pad r first most upto size (acts ++ step) new
   new_block = record {
-    from = so.from;
+    from = so.covers.from;
     upto = more_upto;
     ends = λ lt. omega arith;
     alone = λ lt. subst (λ (n : ℕ). n ≤ r) (sym (is ∙ one_alone (variable_of b own) (firsts_of own'.index) k (lt-ltb k most (omega arith)))) more;
@@ -202,7 +202,7 @@ module _ {b now now' : List ℕ} {kind : Kind} {before : List VariableShape} {ow
 
   puts_added : PutsBefore b own own'' (filter (was_put first upto) (leaves_of own''.index)) (acts ++ step)
   puts_added =
-      let one = put_new first k upto 0 (suc record_number_limit) leaves new ascend (λ l i. beside_new l i (ordered l i)) refl so.from (let o = vacant.ordered in omega arith) (omega arith) in
+      let one = put_new first k upto 0 (suc record_number_limit) leaves new ascend (λ l i. beside_new l i (ordered l i)) refl so.covers.from (let o = vacant.ordered in omega arith) (omega arith) in
       subst (λ (ls : List Leaf). PutsBefore b own own'' ls (acts ++ step)) (sym (ap (filter (was_put first upto)) leaves_are ∙ one))
       (puts_new b own own' (filter (was_put first k) leaves) acts new (8 + length body) at so.index.puts (none_begins k 0 (suc record_number_limit) leaves ascend vacant.uncovered) needs (no_node_zero w.filled w.roomy (new_room k own'.index) at w.node))
 

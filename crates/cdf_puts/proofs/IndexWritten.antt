@@ -109,7 +109,7 @@ module _ {b now now' : List ℕ} {kind : Kind} {before : List VariableShape} {ow
             let ends : k ≤ l'.last = subst (λ (y : Leaf). k ≤ y.last) same has_it.1 in
             let inside = inside_old so l' i in
             let grows = so.goes.longer in
-            old_written longer (so.blocks.old l' i) x.room (omega arith) begins ends so.from (subst (λ (y : Leaf). BlockWritten now now' y size k (size_at b l'.place) bytes) same (here (size_at b l'.place)))
+            old_written longer (so.blocks.old l' i) x.room (omega arith) begins ends so.covers.from (subst (λ (y : Leaf). BlockWritten now now' y size k (size_at b l'.place) bytes) same (here (size_at b l'.place)))
         | inr ne ↦
             let ordered = x.ordered in
             elim (elsewhere l' j ne) [
@@ -143,7 +143,7 @@ module _ {b now now' : List ℕ} {kind : Kind} {before : List VariableShape} {ow
     has = λ j from upto. elim (cases_lt j k) [ inl lt ↦ so.blocks.has j from lt | inr le ↦ (l, (is_leaf, (let f = has_it.0 in omega arith, let t = has_it.1 in omega arith))) ];
     quiet = λ e. record {
       longer = let a = so.goes.longer in let c = longer in omega arith;
-      same = λ place lt out. beside place (outside_there first k size olds l place is_old so.from has_it.0 has_it.1 out) ∙ (so.blocks.quiet e).same place lt (outside_less first k size olds place out);
+      same = λ place lt out. beside place (outside_there first k size olds l place is_old so.covers.from has_it.0 has_it.1 out) ∙ (so.blocks.quiet e).same place lt (outside_less first k size olds place out);
     };
   }
     where
@@ -154,7 +154,7 @@ module _ {b now now' : List ℕ} {kind : Kind} {before : List VariableShape} {ow
 
   puts_written : PutsBefore b own own' (filter (was_put first (k + 1)) leaves) acts
   puts_written =
-      let next = put_next first k 0 (suc record_number_limit) leaves (leaves_ascend so.goes.good so.goes.among) l is_leaf so.from has_it.0 has_it.1 in
+      let next = put_next first k 0 (suc record_number_limit) leaves (leaves_ascend so.goes.good so.goes.among) l is_leaf so.covers.from has_it.0 has_it.1 in
       elim (either (was_put first k l)) [
         | inl t ↦ let same : filter (was_put first (k + 1)) leaves ≡ filter (was_put first k) leaves = rw t at next in subst (λ (ls : List Leaf). PutsBefore b own own' ls acts) (sym same) so.index.puts
         | inr t ↦

@@ -1,8 +1,8 @@
 -- Where the next record is put: the records of a new block, each step by which records are put, and what an image says of a variable of which some records are put.
 use Rattle.std.proofs.Common.{◌≡◌, ℕ, zero, suc, ◌+◌, ◌-◌, ◌*◌, ◌<◌, ◌≤◌, List, ◌++◌, append_assoc, append-nil, length, take, drop, max, sym, ap, subst, ◌∙◌, arith, inl, inr, [], ◌∷◌, false, refl, min, Some, None, ltb}
-use Rattle.cdf_puts.proofs.Common.{length-append, take_at, drop_at, drop-drop, ◌==◌, IsBody, uir_type, vvr_type, is_record_type, fixed_size, either, records_put, BlockRecords, record_of, IsBlockBody, min, max, if◌then◌else◌, image_limit, Kind, vxr_bytes, firsts_of, new_range, first_written, is_sparse, with_leaf, new_room, Act, variable_of, number, with_sign, Nodes, leaf, vdr_max_rec, VariableShape, Each, shape, record_bytes, max_rec_at, LeafAdded, leaf_acts, own_rules, has, fits, Covering, block_bytes, node_bytes, GoesOn, PutStart, SoFar, IsTaking, taken_bytes, RecordsWritten, IsVacant, index_order, find, widest, range, covers, next_first, block_count, record_length, times_le, StandsAmong, long, tile, leaves_of, vdr_vxr_head, variables, vdrs, IsSound, In, sparse_at, Good, good_by_its_shape, good_is_sound, tile_lies, NodeTaken, HasIndex, index_at, leaf_of, Variable, extent, record_number_limit, new_last, IsPut, SomePut, last_in_new}
+use Rattle.cdf_puts.proofs.Common.{length-append, take_at, drop_at, drop-drop, ◌==◌, IsBody, uir_type, vvr_type, is_record_type, fixed_size, either, records_put, BlockRecords, record_of, IsBlockBody, min, max, if◌then◌else◌, image_limit, Kind, vxr_bytes, firsts_of, new_range, first_written, is_sparse, with_leaf, new_room, Act, variable_of, number, with_sign, Nodes, leaf, vdr_max_rec, VariableShape, Each, shape, record_bytes, max_rec_at, LeafAdded, leaf_acts, own_rules, has, fits, Covering, block_bytes, node_bytes, GoesOn, PutStart, SoFar, IsTaking, taken_bytes, RecordsWritten, IsVacant, index_order, find, widest, range, covers, next_first, block_count, record_length, times_le, StandsAmong, long, tile, leaves_of, vdr_vxr_head, variables, vdrs, IsSound, In, sparse_at, Good, good_by_its_shape, good_is_sound, tile_lies, NodeTaken, HasIndex, index_at, leaf_of, Variable, extent, new_last, IsPut, SomePut, last_in_new}
 use Rattle.cdf_puts.proofs.LeafGood.{plain_body, leaf_goes_on, leaf_max_rec, size_needed}
-use Rattle.cdf_puts.proofs.CoveringRanges.{covering_starts, covering_has, covering_leaf, covering_room, covering_vacant, one_at_least}
+use Rattle.cdf_puts.proofs.CoveringRanges.{covering_starts, covering_has, covering_leaf, covering_room, covering_ends, Ends, one_at_least}
 use Rattle.cdf_puts.proofs.GoesThen.{later_size, later_packed, goes_nowhere, goes_then}
 use Rattle.cdf_puts.proofs.LastImage.{only_takes}
 use Rattle.cdf_puts.proofs.IndexAdded.{blocks_added, index_added}
@@ -117,13 +117,9 @@ module _ {b : List ℕ} {kind : Kind} {before : List VariableShape} {own : Varia
   pub so_far_starts : PutStart b kind before own after raw pad r → SoFar b b kind before own own after raw pad r (first_written (variable_of b own) r) []
   so_far_starts start = record {
     start = start;
-    from = omega arith;
     upto = let l = starts_upto start in omega arith;
     goes = goes_nowhere start.good start.among r;
-    covered = first_written (variable_of b own) r;
-    covered_is = λ le. refl;
-    covered_past = λ lt. lt;
-    covers = covering_starts (variable_of b own) own.index r (ap is_sparse start.no_rule) start.small (index_order b (shape b).records own.vdr own.index (own_rules start.good start.among).1);
+    covers = covering_starts (variable_of b own) own.index r (ap is_sparse start.no_rule) (index_order b (shape b).records own.vdr own.index (own_rules start.good start.among).1);
     takes = tt;
     short = start.short;
     max_rec_is = refl;
@@ -132,16 +128,12 @@ module _ {b : List ℕ} {kind : Kind} {before : List VariableShape} {own : Varia
   }
 
   module _ {now : List ℕ} {own' : VariableShape} {k : ℕ} {acts : List Act} (so : SoFar b now kind before own own' after raw pad r k acts) (more : k ≤ r) where
-    -- the blocks that there are by now
-    pub covering_now : Covering (variable_of b own) own.index own'.index r k (taken_bytes acts)
-    covering_now = subst (λ (n : ℕ). Covering (variable_of b own) own.index own'.index r n (taken_bytes acts)) (so.covered_is more) so.covers
-
     max_rec_same : max_rec_at now own.vdr ≡ max_rec_at b own.vdr
     max_rec_same = ap with_sign so.max_rec_is
 
     -- the first record that is written is the same by now
     from_now : first_written (variable_of now own') r ≤ k
-    from_now = let same = first_goes so.start.good so.start.among so.goes max_rec_same in subst (λ (n : ℕ). n ≤ k) (sym same) so.from
+    from_now = let same = first_goes so.start.good so.start.among so.goes max_rec_same in subst (λ (n : ℕ). n ≤ k) (sym same) so.covers.from
 
     pub so_far_written : {now' : List ℕ} {l : TreeLeaf} → RecordsWritten now now' own' l k (record_of raw pad r k) → length (record_of raw pad r k) ≡ record_bytes b own.vdr → SoFar b now' kind before own own' after raw pad r (k + 1) acts
     so_far_written {now' = now'} {l = l} w as_long =
@@ -151,16 +143,12 @@ module _ {b : List ℕ} {kind : Kind} {before : List VariableShape} {own : Varia
         let step = written_goes good at w r from_now more small so.short in
         let long = long_now good at w in
         let short = so.short in
-        let from = so.from in
+        let from = so.covers.from in
         record {
           start = so.start;
-          from = omega arith;
           upto = omega arith;
           goes = subst (GoesOn b now' kind before own own' after r) (append-nil acts) (goes_then so.start.good so.start.among so.goes step (only_takes acts so.takes) tt so.max_rec_is so.blocks.stay);
-          covered = k + 1;
-          covered_is = λ le. refl;
-          covered_past = λ lt. lt;
-          covers = covering_has (variable_of b own) own.index r (ap is_sparse so.start.no_rule) so.start.small own'.index k (taken_bytes acts) covering_now more l w.found;
+          covers = covering_has so.covers small more l w.found;
           takes = so.takes;
           short = omega arith;
           max_rec_is = subst (λ (v : ℕ). number now' v vdr_max_rec ≡ number now v vdr_max_rec) so.goes.vdr_is (max_rec_kept good at w) ∙ so.max_rec_is;
@@ -185,20 +173,16 @@ module _ {b : List ℕ} {kind : Kind} {before : List VariableShape} {own : Varia
         let need : 8 + length body ≡ block_bytes v k last = size_needed good among w holds ∙ ap (λ (n : ℕ). max 28 (12 + n)) says.as_long in
         let bytes : taken_bytes (acts ++ step) ≡ taken_bytes acts + block_bytes v k last + node_bytes k own'.index =
         taken_sum acts step ∙ ap (λ (n : ℕ). taken_bytes acts + n) (leaf_bytes place (8 + length body) k at own'.index) ∙ ap (λ (n : ℕ). taken_bytes acts + (n + node_bytes k own'.index)) need ∙ omega arith in
-        let covers : Covering v own.index (with_leaf new at own'.index) r (last + 1) (taken_bytes acts + block_bytes v k last + node_bytes k own'.index) =
-        subst (λ (x : ℕ). Covering v own.index (with_leaf (leaf k x place false) at own'.index) r (x + 1) (taken_bytes acts + block_bytes v k x + node_bytes k own'.index)) (sym is)
-        (covering_leaf v own.index r (ap is_sparse so.start.no_rule) so.start.small own'.index k (taken_bytes acts) covering_now more so.start.loose vacant.uncovered place at (roomy now (shape now).records 8 own'.index (has good among).indexed.has_nodes (fits good among).1)) in
+        let covers : Covering v own.index (with_leaf new at own'.index) r (min (last + 1) (r + 1)) (taken_bytes acts + block_bytes v k last + node_bytes k own'.index) =
+        subst (λ (x : ℕ). Covering v own.index (with_leaf (leaf k x place false) at own'.index) r (min (x + 1) (r + 1)) (taken_bytes acts + block_bytes v k x + node_bytes k own'.index)) (sym is)
+        (covering_leaf so.covers so.start.small more (ap is_sparse so.start.no_rule) so.start.loose vacant.uncovered place at (roomy now (shape now).records 8 own'.index (has good among).indexed.has_nodes (fits good among).1)) in
         let ordered = vacant.ordered in
-        let from = so.from in
+        let from = so.covers.from in
         record {
           start = so.start;
-          from = omega arith;
           upto = omega arith;
           goes = goes_then so.start.good so.start.among so.goes goes (only_takes acts so.takes) (only_takes step (leaf_takes place (8 + length body) (new_room k own'.index) at)) so.max_rec_is so.blocks.stay;
-          covered = last + 1;
-          covered_is = λ le. omega arith;
-          covered_past = λ lt. omega arith;
-          covers = subst (Covering v own.index (with_leaf new at own'.index) r (last + 1)) (sym bytes) covers;
+          covers = subst (Covering v own.index (with_leaf new at own'.index) r (min (last + 1) (r + 1))) (sym bytes) covers;
           takes = takes_both acts step so.takes (leaf_takes place (8 + length body) (new_room k own'.index) at);
           short = short;
           max_rec_is = subst (λ (v : ℕ). number now' v vdr_max_rec ≡ number now v vdr_max_rec) so.goes.vdr_is (leaf_max_rec good among w plain) ∙ so.max_rec_is;
@@ -343,20 +327,14 @@ module _ {b now : List ℕ} {kind : Kind} {before : List VariableShape} {own : V
     rule : is_sparse v.sparse ≡ false
     rule = ap is_sparse so.start.no_rule
 
-    abbrev taken_now : ℕ
-    taken_now = taken_bytes is.acts
-
-    covering : Covering v own.index own'.index new.rec k taken_now
-    covering = subst (λ (n : ℕ). Covering v own.index own'.index new.rec n taken_now) (so.covered_is more) so.covers
-
     abbrev last : ℕ
     last = new_last v own'.index k
 
-    ending : (k ≤ last) × (last < next_first k (firsts_of own'.index)) × (last ≤ record_number_limit)
-    ending = covering_vacant v own.index new.rec rule so.start.small own'.index k taken_now covering more
+    ending : Ends k (next_first k (firsts_of own'.index)) (block_count v) last
+    ending = covering_ends so.covers so.start.small more
 
     last_is : last_in_new new.most own'.index k ≡ last
-    last_is = last_as v own'.index k new.rec new.most rule p.most_is so.from more (let o = ending.0 in let past = ending.1 in omega arith)
+    last_is = last_as v own'.index k new.rec new.most rule p.most_is so.covers.from more (let o = ending.ordered in let past = ending.before_next in omega arith)
 
     module _ (vacant : leaf_of k (leaves_of (index_at now head)) ≡ None) where
       none : find (λ (leaf : TreeLeaf). covers k (range leaf.first leaf.last)) (leaves_of own'.index) ≡ None
@@ -375,7 +353,7 @@ module _ {b now : List ℕ} {kind : Kind} {before : List VariableShape} {own : V
         room_here =
             let longer = longer_by b now is.acts so.goes.follow so.takes in
             let long = need in
-            let enough = covering_room v own.index new.rec rule so.start.small own'.index k taken_now covering more so.start.loose none in
+            let enough = covering_room so.covers so.start.small more rule so.start.loose none in
             let room = p.room in
             omega arith
 
@@ -400,9 +378,9 @@ module _ {b now : List ℕ} {kind : Kind} {before : List VariableShape} {own : V
           where
             vacancy : IsVacant own' k end
             vacancy = record {
-              ordered = subst (λ (n : ℕ). k ≤ n) (sym ends_at) ending.0;
+              ordered = subst (λ (n : ℕ). k ≤ n) (sym ends_at) ending.ordered;
               uncovered = none;
-              before_next = subst (λ (n : ℕ). n < next_first k (firsts_of own'.index)) (sym ends_at) ending.1;
+              before_next = subst (λ (n : ℕ). n < next_first k (firsts_of own'.index)) (sym ends_at) ending.before_next;
             }
 
             not_long : {place at : ℕ} → LeafAdded now now' own' (leaf k end place false) body at → length now' ≤ image_limit

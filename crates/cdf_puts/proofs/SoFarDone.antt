@@ -1,6 +1,6 @@
 -- Once all records up to r are put, and MaxRec is raised where r is past it, the image follows the command.
 use Rattle.std.proofs.Common.{◌≡◌, ℕ, ◌+◌, ◌<◌, ◌≤◌, List, length, false, Option, Some, None, true≢false, refl, sym, ap, subst, ◌∙◌, arith}
-use Rattle.cdf_puts.proofs.Common.{same_Some, Kind, turned, DataSet, Variable, extent, Found, pad_record, with_record, with_variable, Allowances, AllKeep, shapes_of, put_changes, put_room, Act, content, variable_of, Nodes, owned, VariableShape, shape, is_little, max_rec_at, type_of_variable, is_sparse, found_in, MaxRecDone, SoFar, taken_bytes}
+use Rattle.cdf_puts.proofs.Common.{same_Some, Kind, turned, DataSet, Variable, extent, Found, pad_record, with_record, with_variable, Allowances, AllKeep, shapes_of, put_changes, put_room, Act, content, variable_of, Nodes, owned, VariableShape, shape, is_little, max_rec_at, type_of_variable, found_in, MaxRecDone, SoFar, taken_bytes}
 use Rattle.cdf_edits.proofs.Commands.ListParts.{got-middle}
 use Rattle.std.specs.List.{slice_get}
 use Rattle.cdf_model.specs.declared.answer.Reply.TheVariants as replies
@@ -16,7 +16,6 @@ use Rattle.cdf_edits.specs.Commands.Named.{OfVariable}
 use Rattle.cdf_edits.specs.Commands.Puts.{PutsRecord}
 use Rattle.cdf_edits.specs.Commands.Room.{room, room_of_variable}
 use Rattle.cdf_edits.specs.Follows.{Follows, only_reads}
-use Rattle.cdf_puts.proofs.CoveringRanges.{covering_total}
 use Rattle.cdf_puts.proofs.DoneBytes.{is_put, index_done, bytes_done}
 use Rattle.cdf_puts.proofs.LastImage.{has_put}
 use Rattle.cdf_puts.proofs.PutMeaning.{put_content}
@@ -54,7 +53,7 @@ module _ {b now last : List ℕ} {kind : Kind} {before : List VariableShape} {ow
         subst (λ (f : Found). PutsRecord b last f.kind f.variable r x x' acts) q (subst (λ (y : VariableShape). PutsRecord b last kind v r y x' acts) was (subst (λ (y : VariableShape). PutsRecord b last kind v r own y acts) now_is so_far_done))
 
     fits : taken_bytes acts ≤ put_room v own.index r
-    fits = covering_total v own.index r (ap is_sparse so.start.no_rule) so.start.small own'.index so.covered (taken_bytes acts) so.covers
+    fits = so.covers.fits
 
     module _ (bytes : List ℕ) (raw_is : turned (type_of_variable b own.vdr) (is_little b) raw ≡ bytes) (pad_is : extent (max_rec_at b own.vdr) < r → turned (type_of_variable b own.vdr) (is_little b) pad ≡ pad_record v) where
       pub content_done : content last ≡ with_variable (content b) found (with_record v r bytes)
