@@ -88,7 +88,7 @@ pub use Rattle.cdf_model.specs.declared.kinds.Kind.TheVariants.{R, Z}
 pub use Rattle.cdf_model.specs.declared.kinds.Sparse.{Sparse}
 pub use Rattle.cdf_model.specs.declared.kinds.Sparse.TheVariants.{NoRule}
 pub use Rattle.cdf_puts.specs.Covering.{Covering, block_bytes, new_last, node_bytes}
-pub use Rattle.cdf_puts.specs.Going.{DescriptorStays, GoesOn, found_in}
+pub use Rattle.cdf_puts.specs.Going.{GoesOn, LooseStay, found_in, put_fields}
 pub use Rattle.cdf_puts.specs.Putting.{IsPut, SomePut, last_in_new, records_put}
 pub use Rattle.cdf_puts.specs.SoFar.{BlockRecords, BlocksSoFar, IndexSoFar, IsTaking, MaxRecDone, NewBlock, NodesSoFar, OldBlock, PutStart, PutsBefore, SoFar, put_count, put_from, put_touches, record_of, taken_bytes, was_put}
 pub use Rattle.cdf_puts.specs.Steps.{BlocksGoOn, IsBlockBody, IsVacant, MaxRecRaised, RecordsWritten}

@@ -1,20 +1,29 @@
 -- All records are put: the index, what was taken for it and the bytes of the blocks are as the command says, and what is stored as each record.
 use Rattle.std.proofs.Common.{◌≡◌, ◌≢◌, ◌⊎◌, ℕ, suc, ◌+◌, ◌-◌, ◌*◌, ◌<◌, ◌≤◌, List, length, take, drop, false, Some, None, find, eq-eqb, refl, sym, ap, subst, ◌∙◌, arith, inl, inr, [], ◌∷◌, ◌++◌, append-nil, Bool, true, ◌&&◌, bytes_eq, zero, map, true≢false, take-append-drop}
-use Rattle.cdf_puts.proofs.Common.{Outside-append, cases_lt, ne_eqb, option_map, min, if◌then◌else◌, Kind, Sparse, Variable, extent, record_number_limit, range, covers, first_written, is_sparse, stored_bytes, Act, IsOneOf, find_covering, covers_within, place_in, record_place, plain_piece, PlainLeaf, plain_leaf, leaves_ascend, block_behind, sound, long, behind_in, Same, variable_of, size_at, Leaf, leaves_of, VariableShape, is_compressed, shape, record_bytes, max_rec_at, word_kept, piece_kept, tile_lies, MaxRecDone, SoFar, OldBlock, NewBlock, record_of, put_from, put_count, filter, list_any, nat_lt, PutsLeaves, ranges_of, cuts_before_put, ranges_after_put, is_taken_at, top_chain, last_node, node_behind, fits, Each-in, number, vdr_vxr_tail, NodeFits, In, bytes_eq-same, same_of_bytes_eq, NodesSoFar, length-take, length-drop, drop-drop, ◌==◌, turned, pad_record, r_max_rec_field, max_rec_touches, uncovered, put_room, blocks_room, packed_room, Touch, Outside, Changed, space_before, each_of, count_is, plain_bytes, vdr_max_rec, is_little, records_of_leaf, type_of_variable, either, both, put_touches, taken_bytes}
-use Rattle.cdf_edits.proofs.Edits.LeafPieces.{found_in, unwritten_apart, written_fits}
+use Rattle.cdf_puts.proofs.Common.{Outside-append, cases_lt, ne_eqb, option_map, min, if◌then◌else◌, Kind, Sparse, Variable, extent, record_number_limit, range, covers, first_written, is_sparse, stored_bytes, Act, IsOneOf, find_covering, covers_within, place_in, record_place, plain_piece, PlainLeaf, plain_leaf, leaves_ascend, block_behind, sound, behind_in, Same, variable_of, size_at, Leaf, leaves_of, VariableShape, is_compressed, shape, record_bytes, max_rec_at, piece_kept, tile_lies, MaxRecDone, SoFar, OldBlock, NewBlock, record_of, put_from, put_count, filter, list_any, nat_lt, PutsLeaves, ranges_of, cuts_before_put, ranges_after_put, is_taken_at, top_chain, last_node, node_behind, fits, Each-in, number, vdr_vxr_tail, NodeFits, In, bytes_eq-same, same_of_bytes_eq, NodesSoFar, length-take, length-drop, drop-drop, ◌==◌, turned, pad_record, r_max_rec_field, max_rec_touches, uncovered, put_room, blocks_room, packed_room, Touch, Outside, Changed, space_before, each_of, count_is, plain_bytes, vdr_max_rec, is_little, records_of_leaf, type_of_variable, either, both, put_touches, taken_bytes, GoesOn, is_rewritten, In-append, places_of, is_in, other_kind, true-is_in, eqb-true, uir_type, false-is_in}
+use Rattle.cdf_edits.proofs.Edits.LeafPieces.{found_in, leaf_at, unwritten_apart, written_fits}
 use Rattle.std.proofs.Math.Nat.{mul-sub}
 use Rattle.std.proofs.Math.Path.{transport}
-use Rattle.cdf_format.specs.Fields.{has_bit}
-use Rattle.cdf_puts.proofs.LastImage.{LastImage, last_image, has_put}
-use Rattle.cdf_puts.proofs.PutBytes.{by_offsets, old_plain, inside_old, old_goes_on, new_goes_on}
+use Rattle.cdf_format.specs.Fields.{type_at}
+use Rattle.cdf_puts.specs.Going.{found_in as own_found}
+use Rattle.cdf_puts.proofs.PutRules.{no_cpr}
+use Rattle.std.proofs.lemmas.Bool.Decides.{nat_tests}
+use Rattle.cdf_edits.specs.Commands.Allowances.{anything_if, Allowances, Keeps, AllKeep, unused_allowance, is_taken, shapes_of, Only}
+use Rattle.cdf_format.specs.Owners.{OneVariable, variable_records, unused_records, owned, Unused}
+use Rattle.cdf_edits.proofs.Edits.OwnersKept.{keep_all, keep_file, keep_places}
+use Rattle.cdf_edits.proofs.Edits.VariableKept.{keep_kinds, keep_variable_parts}
+use Rattle.cdf_edits.proofs.Commands.KeptRecords.{keep_attributes, keep_variables, keeps_stood}
+use Rattle.cdf_edits.proofs.Space.UsedRecords.{filter-says}
+use Rattle.cdf_edits.proofs.Frame.OwnersApart.{unused_in}
+use Rattle.cdf_puts.proofs.LastImage.{IsPut, LastImage, last_image}
+use Rattle.cdf_puts.proofs.PutBytes.{old_size, by_offsets, old_plain, inside_old, old_goes_on, new_goes_on}
 use Rattle.cdf_puts.proofs.WrittenGoes.{record_fits}
-use Rattle.cdf_puts.proofs.PutMeaning.{IsPut}
-use Rattle.cdf_edits.specs.Commands.Puts.{CutsFirst, PutsIndex, is_written, PutsBytes, StaysUnwritten, UnwrittenStay, HoldsPads, is_changed, was_leaf, written_in, stays_in_place, stored_in}
+use Rattle.cdf_edits.specs.Commands.Puts.{CutsFirst, PutsIndex, is_written, PutsBytes, StaysUnwritten, UnwrittenStay, HoldsPads, is_changed, was_leaf, written_in, stays_in_place, stored_in, put_changes}
 use Rattle.cdf_edits.specs.Index.Written.{top_stays, TailFollows, block_end, SpareIs, ReservedIs, BlockFollows}
 use Rattle.cdf_format.specs.Index.{nodes_of}
 use Rattle.cdf_puts.proofs.CoveringRanges.{some_or_none, covering_done}
 use Rattle.cdf_puts.proofs.IndexWritten.{nodes_still}
-use Rattle.cdf_puts.proofs.GoesThen.{Passes, record_stays}
+use Rattle.cdf_puts.proofs.GoesThen.{block_allowed, descriptor_allowed, later_packed, later_size, node_allowed}
 use Rattle.cdf_puts.proofs.PutRoom.{none_given, no_node_given, none_without_bytes}
 use Rattle.std.specs.List.{repeat}
 use Rattle.cdf_edits.specs.Frame.Changed.{touched_field}
@@ -83,19 +92,22 @@ module _ {b now last : List ℕ} {kind : Kind} {before : List VariableShape} {ow
   abbrev leaves : List Leaf
   leaves = leaves_of own'.index
 
-  img : LastImage b now last kind own own' r
+  img : LastImage b now last kind before own own' after r acts
   img = last_image so done
 
-  put : Passes b last kind before own own' after r acts
-  put = (has_put so done).step
+  put : GoesOn b last kind before own own' after acts
+  put = img.goes
 
   -- ---- the index
 
   uncut : cuts_before_put v r ≡ false
   uncut = ap (λ (s : Sparse). is_sparse s && nat_lt (extent v.max_rec) r) so.start.no_rule
 
+  size_last : record_bytes last own'.vdr ≡ size
+  size_last = later_size so.start.good so.start.among put
+
   last_size : record_bytes last own.vdr ≡ size
-  last_size = record_stays so.start.good so.start.among put.file put.descriptor
+  last_size = ap (record_bytes last) (sym put.vdr_is) ∙ size_last
 
   puts : PutsLeaves b last v.rle own'.vdr (filter (is_written v r) (leaves_of own'.index)) own.index acts own'.index
   puts =
@@ -157,13 +169,10 @@ module _ {b now last : List ℕ} {kind : Kind} {before : List VariableShape} {ow
   -- ---- the leaves by now
 
   last_packed : is_compressed last own'.vdr ≡ false
-  last_packed =
-      let behind : Same b last (own.vdr + 44) (own.vdr + size_at b own.vdr) = put.descriptor.behind in
-      ap (is_compressed last) put.vdr_is
-      ∙ ap (λ (n : ℕ). has_bit n 2) (word_kept b last (own.vdr + 44) (own.vdr + size_at b own.vdr) behind (own.vdr + 44) 4 (omega arith) (let n = long so.start.good so.start.among in omega arith)) ∙ so.start.loose
+  last_packed = later_packed so.start.good so.start.among put ∙ so.start.loose
 
   last_plain : (l : Leaf) → IsOneOf leaves l → PlainLeaf last size l
-  last_plain l i = subst (λ (n : ℕ). PlainLeaf last n l) (ap (record_bytes last) put.vdr_is ∙ last_size) (plain_leaf put.good put.among last_packed l i)
+  last_plain l i = subst (λ (n : ℕ). PlainLeaf last n l) size_last (plain_leaf put.good put.among last_packed l i)
 
   inside_last : (l : Leaf) → IsOneOf leaves l → l.place + size_at last l.place ≤ length last
   inside_last l i = (tile_lies last 8 (length last) (shape last).records l.place (sound put.good put.among).has_shape.tiled (behind_in put.good put.among l.place (block_behind own' l.place (place_in leaves l i)))).high
@@ -269,8 +278,49 @@ module _ {b now last : List ℕ} {kind : Kind} {before : List VariableShape} {ow
   before_is : ranges_before_put v own.index r ≡ ranges_of own.index
   before_is = ap (λ (c : Bool). if c then cut_open (extent v.max_rec) record_number_limit (ranges_of own.index) else ranges_of own.index) uncut
 
-  later_size : record_bytes last own'.vdr ≡ size
-  later_size = ap (record_bytes last) put.vdr_is ∙ last_size
+  -- ---- what each record keeps
+
+  abbrev may : Allowances
+  may = put_changes b (shape b) (own_found b kind before own) r
+
+  block_keeps : (l : Leaf) → IsOneOf olds l → Keeps b last l.place (anything_if (is_rewritten v r (range l.first l.last)))
+  block_keeps l i = elim (either (is_rewritten v r (range l.first l.last))) [
+    | inl t ↦ rw t tt
+    | inr t ↦
+        let none : put_count first (r + 1) l ≤ 0 = grind (arith, nat_tests, t) in
+        let room = (old_plain so l i).room in
+        let o = last_old l i in
+        rw t (record { stands = behind_in put.good put.among l.place (block_behind own' l.place (place_in leaves l (so.blocks.stay l i))); size_is = old_size o (omega arith); same = λ n lt out. o.kept n lt (unwritten first (r + 1) size l n none) })
+  ]
+
+  own_keeps : (m : ℕ) → In m (variable_records own) → Keeps b last m (may.variables kind (length before) m)
+  own_keeps m (inl q) = subst (λ (x : ℕ). Keeps b last x (may.variables kind (length before) x)) (sym q) (subst (Keeps b last own.vdr) (sym (descriptor_allowed so.start.good so.start.among r)) put.descriptor)
+  own_keeps m (inr j) = elim (In-append m (nodes_of own.index ++ places_of olds) own.cpr j) [
+    | inr c ↦ absurd (subst (In m) (no_cpr so.start.good so.start.among) c)
+    | inl k ↦ elim (In-append m (nodes_of own.index) (places_of olds) k) [
+      | inl n ↦ subst (Keeps b last m) (sym (node_allowed so.start.good so.start.among r m n)) tt
+      | inr n ↦
+          let l = leaf_at olds m n in
+          subst (λ (x : ℕ). Keeps b last x (may.variables kind (length before) x)) (sym l.1.1) (subst (Keeps b last l.0.place) (sym (block_allowed so.start.good so.start.among r l.0 l.1.0)) (block_keeps l.0 l.1.0))
+    ]
+  ]
+
+  unused_keeps : (m : ℕ) → In m (unused_records b (shape b)) → Keeps b last m (unused_allowance b (shape b) acts m)
+  unused_keeps m i = elim (either (is_in m (shape b).unused)) [
+    | inl x ↦ elim (either (is_taken b acts m)) [ inl t ↦ rw (x, t) tt | inr t ↦ rw (x, t) (put.listed m (true-is_in m (shape b).unused x) t) ]
+    | inr x ↦
+        let typed = eqb-true (type_at b m) uir_type (filter-says (λ place. type_at b place == uir_type) (shape b).records m i) in
+        rw x (put.loose m (unused_in b (shape b) (sound so.start.good so.start.among) m i) typed (false-is_in m (shape b).unused x))
+  ]
+
+  pub keeps : AllKeep b last (put_changes b (shape b) (own_found b kind before own) r) acts (owned b (shape b))
+  keeps =
+      let stay = put.stay in
+      let mine = keep_places b last may acts (OneVariable kind (length before)) (variable_records own) own_keeps in
+      let parts = keep_variable_parts b last may acts kind before own after so.start.among.was (keep_variables b last may acts kind 0 before stay.front) mine (keep_variables b last may acts kind (suc (length before)) after stay.back) in
+      let both = keep_kinds b last may acts kind parts (keep_variables b last may acts (other_kind kind) 0 (shapes_of (shape b) (other_kind kind)) stay.others) in
+      keep_all b last may acts (keep_file b last may acts (sound so.start.good so.start.among) (keeps_stood b last 8 stay.cdr (Only [])) put.gdr) (keep_attributes b last may acts 0 (shape b).attributes stay.attributes) both.0 both.1
+      (keep_places b last may acts Unused (unused_records b (shape b)) unused_keeps)
 
   -- ---- in place
 
@@ -326,7 +376,7 @@ module _ {b now last : List ℕ} {kind : Kind} {before : List VariableShape} {ow
         let count = count_is l x.small x.ordered in
         let stored = stored_in v r l in
         let bytes = plain_bytes last own'.vdr l in
-        let whole : bytes ≡ take ((l.last + 1 - l.first) * size) (drop (l.place + 12) last) = rw (x.plain, count, later_size) refl in
+        let whole : bytes ≡ take ((l.last + 1 - l.first) * size) (drop (l.place + 12) last) = rw (x.plain, count, size_last) refl in
         let high = inside_last l i in
         let room = x.room in
         let part = length-drop (l.place + 12) last in
@@ -344,7 +394,7 @@ module _ {b now last : List ℕ} {kind : Kind} {before : List VariableShape} {ow
         let joined : stored * size + i' * size ≡ (l.first + (stored + i') - l.first) * size = joins l.first stored i' size in
         ap (take size) (drop-drop (i' * size) (stored * size) bytes)
         ∙ ap (λ (m : ℕ). take size (drop m bytes)) joined
-        ∙ plain_piece last own'.vdr size j l x.plain x.small later_size (omega arith) t
+        ∙ plain_piece last own'.vdr size j l x.plain x.small size_last (omega arith) t
         ∙ n.written j (omega arith) t
         ∙ pad_is j (λ e. absurd (omega arith)) ∙ pad_now le)
       where
@@ -360,7 +410,7 @@ module _ {b now last : List ℕ} {kind : Kind} {before : List VariableShape} {ow
     -- ---- the blocks
 
     end_is : (l : Leaf) → IsOneOf leaves l → block_end last own'.vdr l ≡ 12 + (l.last + 1 - l.first) * size
-    end_is l i = let x = last_plain l i in let count = count_is l x.small x.ordered in rw (x.plain, count, later_size) refl
+    end_is l i = let x = last_plain l i in let count = count_is l x.small x.ordered in rw (x.plain, count, size_last) refl
 
     spare : (l : Leaf) → IsOneOf leaves l → SpareIs b last own'.vdr l (is_taken_at acts l.place)
     spare l i = elim (last_new l i) [

@@ -108,7 +108,7 @@ module _ {b now now' : List ℕ} {kind : Kind} {before : List VariableShape} {ow
             let begins : l'.first ≤ k = subst (λ (y : Leaf). y.first ≤ k) same has_it.0 in
             let ends : k ≤ l'.last = subst (λ (y : Leaf). k ≤ y.last) same has_it.1 in
             let inside = inside_old so l' i in
-            let grows = so.goes.longer in
+            let grows = so.goes.file.longer in
             old_written longer (so.blocks.old l' i) x.room (omega arith) begins ends so.covers.from (subst (λ (y : Leaf). BlockWritten now now' y size k (size_at b l'.place) bytes) same (here (size_at b l'.place)))
         | inr ne ↦
             let ordered = x.ordered in
@@ -142,7 +142,7 @@ module _ {b now now' : List ℕ} {kind : Kind} {before : List VariableShape} {ow
     new = λ l' i. elim (so.blocks.new l' i) [ inl o ↦ inl o | inr n ↦ inr (new_block l' i n) ];
     has = λ j from upto. elim (cases_lt j k) [ inl lt ↦ so.blocks.has j from lt | inr le ↦ (l, (is_leaf, (let f = has_it.0 in omega arith, let t = has_it.1 in omega arith))) ];
     quiet = λ e. record {
-      longer = let a = so.goes.longer in let c = longer in omega arith;
+      longer = let a = so.goes.file.longer in let c = longer in omega arith;
       same = λ place lt out. beside place (outside_there first k size olds l place is_old so.covers.from has_it.0 has_it.1 out) ∙ (so.blocks.quiet e).same place lt (outside_less first k size olds place out);
     };
   }

@@ -1,12 +1,12 @@
 -- A leaf that is added to the index of a variable leads from one good image to another: what its acts take, what stays of the records of each owner, and the blocks.
 use Rattle.std.proofs.Common.{◌≡◌, ℕ, zero, suc, ◌+◌, List, [], ◌∷◌, ◌++◌, length, true, refl, ap, subst, arith, ◌<◌, ◌≤◌, false, sym, inl, inr, ◌-◌, max, take, drop, ◌∙◌, take-append-drop, ℤ, pos, negsuc, ◌*◌, Bool}
-use Rattle.cdf_puts.proofs.Common.{◌&&◌, Kind, StandsAmong, Edit, Mark, new_room, ActsFollow, type_of_body, good_is_sound, both, Leaf, uir_type, vvr_type, vxr_type, VariableShape, Shape, shape, IsSound, Good, LeafAdded, leaf_acts, nat_le, block_behind, behind_in, Kept, AllKeep, r_max_rec_field, space_fields, put_changes, Act, In-append, number, size_at, type_at, leaves_of, nodes_of, owned, variable_records, vdr_max_rec, HasShape, In, found_in, length-take, length-drop, Same, byte, size_kept, type_kept, place_in, each_of, IsBlockBody, BlocksGoOn, ne_eqb, flat_map, ◌==◌, ◌||◌, if◌then◌else◌, image_limit, record_number_limit, is_in, with_sign, Nodes, no_node, node, Entries, no_entry, block, lower, room_at, times, cvvr_type, asked, is_compressed, Each, record_bytes, Same-part, good_by_its_shape, Hold-split, le_of, of_le, firsts_of, with_leaf, IsOneOf, count_is, plain_leaf, own_rules, times-append, record_alike, apart, InOrder, DescriptorStays, GoesOn, IsVacant, before_limit, index_order, OwnEdit, IndexEdit, vdr_alike}
+use Rattle.cdf_puts.proofs.Common.{◌&&◌, Kind, StandsAmong, Edit, Mark, new_room, ActsFollow, type_of_body, good_is_sound, both, Leaf, uir_type, vvr_type, vxr_type, VariableShape, Shape, shape, IsSound, Good, LeafAdded, leaf_acts, nat_le, block_behind, behind_in, Kept, r_max_rec_field, space_fields, Act, In-append, number, size_at, type_at, leaves_of, nodes_of, vdr_max_rec, HasShape, In, length-take, length-drop, Same, byte, size_kept, type_kept, place_in, each_of, IsBlockBody, BlocksGoOn, ne_eqb, flat_map, ◌==◌, ◌||◌, if◌then◌else◌, image_limit, record_number_limit, is_in, with_sign, Nodes, no_node, node, Entries, no_entry, block, lower, room_at, times, cvvr_type, asked, is_compressed, Each, record_bytes, good_by_its_shape, Hold-split, le_of, of_le, firsts_of, with_leaf, IsOneOf, count_is, plain_leaf, own_rules, times-append, record_alike, apart, InOrder, GoesOn, IsVacant, before_limit, index_order, OwnEdit, IndexEdit, vdr_alike, unmarked-away, r_max_rec, gdr_type, gdr_in, gdr_typed, tile_lies, Only}
 use Rattle.cdf_format.specs.Chains.{is_a}
-use Rattle.cdf_edits.proofs.Frame.OwnersApart.{in-times, times-in}
 use Rattle.cdf_edits.proofs.Edits.ActsStill.{acts_still_by}
 use Rattle.cdf_edits.proofs.Edits.TakenAll.{listed_free, taking_all, unlisted_away}
-use Rattle.cdf_format.proofs.ChainsLemmas.{is_a-from, is_a-type}
-use Rattle.cdf_puts.proofs.GoesThen.{descriptor_allowed, node_allowed}
+use Rattle.cdf_format.proofs.ChainsLemmas.{is_a-from, is_a-type, linkable-in, linkable-type}
+use Rattle.cdf_puts.proofs.GoesThen.{goes_by, links}
+use Rattle.cdf_puts.proofs.LeafEdit.{entry_marks}
 use Rattle.std.proofs.lemmas.List.{ext_get_or, get_or_append_left, get_or-take, get_or-drop}
 use Rattle.cdf_format.specs.Fields.{word, holds}
 use Rattle.cdf_format.proofs.BytesLemmas.{word-same, byte-put_inside}
@@ -24,11 +24,11 @@ use Rattle.cdf_index.proofs.ByLeaf.{nodes_with_leaf}
 use Rattle.cdf_puts.proofs.LeafCounts.{places_with_leaf, leaf_was_there}
 use Rattle.cdf_edits.proofs.Space.ActsLeave.{each}
 use Rattle.cdf_index.proofs.LeafRules.{index_rules_with_leaf}
-use Rattle.cdf_edits.proofs.Edits.IndexEdited.{vdr_size, vdr_type}
 use Rattle.cdf_puts.proofs.LeafEdit.{enough, new_nodes, edit, node_taking, taking, entries_written, marks, reborn, with_new, tests, file, block_in, type_now, end_now, new_index, placed_kept, placed_size}
-use Rattle.cdf_index.proofs.NewIndex.{Exchanged, NewIndex, block_kept, good_now as changed_good, index_edit, index_keeps, node_room, own_times, index_unmarked, max_rec_kept, own_edit}
+use Rattle.cdf_index.proofs.NewIndex.{Exchanged, NewIndex, block_kept, good_now as changed_good, index_edit, node_room, index_unmarked, max_rec_kept, own_edit}
 use Rattle.cdf_edits.proofs.Edits.OwnEdited as of_own
-use Rattle.cdf_edits.proofs.Edits.IndexEdited as of_index
+use Rattle.cdf_edits.proofs.Edits.OwnersKept.{keeps_fields, keeps_within, keeps_away}
+use Rattle.cdf_edits.proofs.Edits.MarkLemmas.{Avoids-append, away-avoids, Within-append, away-within, Away-append}
 
 -- such a body begins with the type of a block that is not packed
 pub plain_body : (body records : List ℕ) → IsBlockBody body records → type_of_body body ≡ vvr_type
@@ -122,9 +122,6 @@ module _ {b now : List ℕ} {kind : Kind} {before : List VariableShape} {own : V
 
     pub leaf_max_rec : number now own.vdr vdr_max_rec ≡ number b own.vdr vdr_max_rec
     leaf_max_rec = max_rec_kept good among changed
-
-    pub leaf_keeps : (r : ℕ) → AllKeep b now (put_changes b s (found_in b kind before own) r) acts (owned b s)
-    leaf_keeps r = index_keeps good among changed (put_changes b s (found_in b kind before own) r) acts (vdr_max_rec ∷ []) refl (descriptor_allowed good among r) (node_allowed good among r) (listed_free (taking good among w)) (unlisted_away (taking good among w))
 
   -- ---- its records
 
@@ -264,32 +261,20 @@ module _ {b now : List ℕ} {kind : Kind} {before : List VariableShape} {own : V
 
       -- ---- how it goes on
 
-      still_own : (m : ℕ) → In m (variable_records own) → In m (variable_records mine)
-      still_own m i = in-times m (variable_records mine) (omega (arith, own_times good among (changed plain) born [] exchanged m, times-in m (variable_records own) i))
+      abbrev entries : List Mark
+      entries = entry_marks kind v (new_nodes roomed at ++ nodes_of own.index) (length w.roomy)
 
-      own_descriptor : DescriptorStays b now v
-      own_descriptor = record {
-        size_is = vdr_size good among x;
-        type_is = vdr_type good among x;
-        front = Same-part b now (v + 0) (v + 24) v (v + 24) (of_index.part_of good among x 0 24 (inl (omega arith)) (omega arith)) (omega arith) (omega arith);
-        behind = of_index.part good among x 44 (size_at b v) (inr (omega arith)) (omega arith);
-      }
+      pub leaf_goes_on : GoesOn b now kind before own mine after acts
+      leaf_goes_on =
+          let clear = unmarked-away entries uir_type in
+          goes_by good among x good_now (leaf_follows plain) (keeps_fields sound e (records_are plain) s.gdr gdr_type (r_max_rec_field kind ++ space_fields) (gdr_in b s h) (gdr_typed b s h) (tests good among w).heads_clear (tests good among w).inside)
+          (λ m i free.
+          let ok = h.unused_chain.linkable m i in
+          let inside = linkable-in b s.records uir_type m ok in
+          let marked = listed_free (taking good among w) m i (tile_lies b 8 (length b) s.records m h.tiled inside).long free in
+          let away = clear m (index_unmarked kind v (new_nodes roomed at ++ nodes_of own.index) (field 12 (length w.roomy))) in
+          keeps_within sound e (records_are plain) m uir_type links inside (linkable-type b s.records uir_type m ok) (Avoids-append space entries uir_type m 0 12 marked.0 (away-avoids entries uir_type m 0 12 away)) (Within-append space entries uir_type m links marked.1 (away-within entries uir_type m links away)))
+          (λ m i typed out. keeps_away sound e (records_are plain) m uir_type (Only []) i typed (Away-append space entries uir_type m (unlisted_away (taking good among w) m i out) (clear m (index_unmarked kind v (new_nodes roomed at ++ nodes_of own.index) (field 12 (length w.roomy))))))
 
-      pub leaf_goes_on : (r : ℕ) → GoesOn b now kind before own mine after r acts
-      leaf_goes_on r = record {
-        good = good_now;
-        among = of_own.among_now good among (y plain);
-        vdr_is = refl;
-        cpr_is = refl;
-        own_stay = still_own;
-        gdr_is = ap (λ (x : Shape). x.gdr) (of_own.same_shape good among (y plain));
-        attributes_are = ap (λ (x : Shape). x.attributes) (of_own.same_shape good among (y plain));
-        others_are = of_own.others_are good among (y plain);
-        descriptor = own_descriptor;
-        file = file good among w;
-        r_max_rec_is = of_own.r_max_rec_kept good among (y plain) (tests good among w).max_clear;
-        content_is = of_own.content_replaced good among (y plain);
-        longer = (file good among w).longer;
-        follow = leaf_follows plain;
-        keep = leaf_keeps plain r;
-      }
+      pub r_max_rec_stays : r_max_rec now ≡ r_max_rec b
+      r_max_rec_stays = of_own.r_max_rec_kept good among (y plain) (tests good among w).max_clear

@@ -9,7 +9,6 @@ pub mod LeafCounts
 pub mod LeafEdit
 pub mod LeafGood
 pub mod PutBytes
-pub mod PutMeaning
 pub mod PutNodes
 pub mod PutRoom
 pub mod PutRules

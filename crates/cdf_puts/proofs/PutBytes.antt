@@ -128,7 +128,7 @@ module _ {b now : List ℕ} {kind : Kind} {before : List VariableShape} {own own
     old_goes_on i count none =
         let room = (old_plain l i).room in
         let inside = inside_old l i in
-        let grows = so.goes.longer in
+        let grows = so.goes.file.longer in
         old_stays longer (so.blocks.old l i) room (omega arith) (subst (λ (n : ℕ). Same now now' l.place (l.place + n)) (old_size (so.blocks.old l i) (omega arith)) same) count none
 
     pub new_goes_on : {acts' : List Act} → IsOneOf (leaves_of own'.index) l → k ≤ k' → is_taken_at acts' l.place ≡ true → NewBlock now raw pad r first (extent (max_rec_at b own.vdr)) k size acts l → NewBlock now' raw pad r first (extent (max_rec_at b own.vdr)) k' size acts' l

@@ -1,17 +1,16 @@
 -- Where the next record is put: the records of a new block, each step by which records are put, and what an image says of a variable of which some records are put.
 use Rattle.std.proofs.Common.{◌≡◌, ℕ, zero, suc, ◌+◌, ◌-◌, ◌*◌, ◌<◌, ◌≤◌, List, ◌++◌, append_assoc, append-nil, length, take, drop, max, sym, ap, subst, ◌∙◌, arith, inl, inr, [], ◌∷◌, false, refl, min, Some, None, ltb}
-use Rattle.cdf_puts.proofs.Common.{length-append, take_at, drop_at, drop-drop, ◌==◌, IsBody, uir_type, vvr_type, is_record_type, fixed_size, either, records_put, BlockRecords, record_of, IsBlockBody, min, max, if◌then◌else◌, image_limit, Kind, vxr_bytes, firsts_of, new_range, first_written, is_sparse, with_leaf, new_room, Act, variable_of, number, with_sign, Nodes, leaf, vdr_max_rec, VariableShape, Each, shape, record_bytes, max_rec_at, LeafAdded, leaf_acts, own_rules, has, fits, Covering, block_bytes, node_bytes, GoesOn, PutStart, SoFar, IsTaking, taken_bytes, RecordsWritten, IsVacant, index_order, find, widest, range, covers, next_first, block_count, record_length, times_le, StandsAmong, long, tile, leaves_of, vdr_vxr_head, variables, vdrs, IsSound, In, sparse_at, Good, good_by_its_shape, good_is_sound, tile_lies, NodeTaken, HasIndex, index_at, leaf_of, Variable, extent, new_last, IsPut, SomePut, last_in_new}
-use Rattle.cdf_puts.proofs.LeafGood.{plain_body, leaf_goes_on, leaf_max_rec, size_needed}
+use Rattle.cdf_puts.proofs.Common.{length-append, take_at, drop_at, drop-drop, ◌==◌, IsBody, uir_type, vvr_type, is_record_type, fixed_size, either, records_put, BlockRecords, record_of, IsBlockBody, min, max, if◌then◌else◌, image_limit, Kind, vxr_bytes, firsts_of, new_range, first_written, is_sparse, with_leaf, new_room, Act, variable_of, number, Nodes, leaf, vdr_max_rec, VariableShape, Each, shape, record_bytes, max_rec_at, LeafAdded, leaf_acts, own_rules, has, fits, Covering, block_bytes, node_bytes, GoesOn, PutStart, SoFar, IsTaking, taken_bytes, RecordsWritten, IsVacant, index_order, find, widest, range, covers, next_first, block_count, record_length, times_le, StandsAmong, long, tile, leaves_of, vdr_vxr_head, variables, vdrs, IsSound, In, sparse_at, Good, good_by_its_shape, good_is_sound, tile_lies, NodeTaken, HasIndex, index_at, leaf_of, Variable, extent, new_last, IsPut, SomePut, last_in_new}
+use Rattle.cdf_puts.proofs.LeafGood.{r_max_rec_stays as leaf_r_max_rec, plain_body, leaf_goes_on, leaf_max_rec, size_needed}
 use Rattle.cdf_puts.proofs.CoveringRanges.{covering_starts, covering_has, covering_leaf, covering_room, covering_ends, Ends, one_at_least}
-use Rattle.cdf_puts.proofs.GoesThen.{later_size, later_packed, goes_nowhere, goes_then}
+use Rattle.cdf_puts.proofs.GoesThen.{later_size, later_packed, goes_nowhere, goes_then, goes_written}
 use Rattle.cdf_puts.proofs.LastImage.{only_takes}
 use Rattle.cdf_puts.proofs.IndexAdded.{blocks_added, index_added}
 use Rattle.cdf_puts.proofs.LeafCounts.{roomy, new_room_widest}
 use Rattle.cdf_puts.proofs.IndexWritten.{blocks_written, index_written}
-use Rattle.cdf_puts.proofs.PutMeaning.{first_goes}
 use Rattle.cdf_puts.proofs.PutRoom.{taken_sum, longer_by}
 use Rattle.cdf_puts.proofs.SoFarStarts.{starts_upto, index_start, blocks_start}
-use Rattle.cdf_puts.proofs.WrittenGoes.{written_goes, long_now, max_rec_kept}
+use Rattle.cdf_puts.proofs.WrittenGoes.{long_now, max_rec_kept, r_max_rec_stays, writes}
 use Rattle.cdf_index.proofs.OneVariable.{AmongAll, among_all}
 use Rattle.std.proofs.Math.Nat.{div-le_self}
 use Rattle.std.proofs.Math.Path.{transport}
@@ -118,40 +117,35 @@ module _ {b : List ℕ} {kind : Kind} {before : List VariableShape} {own : Varia
   so_far_starts start = record {
     start = start;
     upto = let l = starts_upto start in omega arith;
-    goes = goes_nowhere start.good start.among r;
+    goes = goes_nowhere start.good start.among start.short;
     covers = covering_starts (variable_of b own) own.index r (ap is_sparse start.no_rule) (index_order b (shape b).records own.vdr own.index (own_rules start.good start.among).1);
     takes = tt;
     short = start.short;
     max_rec_is = refl;
+    r_max_rec_is = refl;
     index = index_start start;
     blocks = blocks_start start;
   }
 
   module _ {now : List ℕ} {own' : VariableShape} {k : ℕ} {acts : List Act} (so : SoFar b now kind before own own' after raw pad r k acts) (more : k ≤ r) where
-    max_rec_same : max_rec_at now own.vdr ≡ max_rec_at b own.vdr
-    max_rec_same = ap with_sign so.max_rec_is
-
-    -- the first record that is written is the same by now
-    from_now : first_written (variable_of now own') r ≤ k
-    from_now = let same = first_goes so.start.good so.start.among so.goes max_rec_same in subst (λ (n : ℕ). n ≤ k) (sym same) so.covers.from
-
     pub so_far_written : {now' : List ℕ} {l : TreeLeaf} → RecordsWritten now now' own' l k (record_of raw pad r k) → length (record_of raw pad r k) ≡ record_bytes b own.vdr → SoFar b now' kind before own own' after raw pad r (k + 1) acts
     so_far_written {now' = now'} {l = l} w as_long =
         let good = so.goes.good in
         let at = so.goes.among in
         let small = so.start.small in
-        let step = written_goes good at w r from_now more small so.short in
+        let step = goes_written good at (writes good at w) so.short in
         let long = long_now good at w in
         let short = so.short in
         let from = so.covers.from in
         record {
           start = so.start;
           upto = omega arith;
-          goes = subst (GoesOn b now' kind before own own' after r) (append-nil acts) (goes_then so.start.good so.start.among so.goes step (only_takes acts so.takes) tt so.max_rec_is so.blocks.stay);
+          goes = subst (GoesOn b now' kind before own own' after) (append-nil acts) (goes_then so.start.good so.start.among so.goes step (only_takes acts so.takes) tt);
           covers = covering_has so.covers small more l w.found;
           takes = so.takes;
           short = omega arith;
           max_rec_is = subst (λ (v : ℕ). number now' v vdr_max_rec ≡ number now v vdr_max_rec) so.goes.vdr_is (max_rec_kept good at w) ∙ so.max_rec_is;
+          r_max_rec_is = r_max_rec_stays good at w ∙ so.r_max_rec_is;
           index = index_written so more w as_long;
           blocks = blocks_written so more w as_long;
         }
@@ -169,7 +163,7 @@ module _ {b : List ℕ} {kind : Kind} {before : List VariableShape} {own : Varia
         let size = later_size so.start.good so.start.among so.goes in
         let loose = later_packed so.start.good so.start.among so.goes ∙ so.start.loose in
         let as_long : length records ≡ (last + 1 - k) * record_bytes now own'.vdr = says.as_long ∙ ap (λ (n : ℕ). (last + 1 - k) * n) (sym size) in
-        let goes : GoesOn now now' kind before own' (with_new_leaf own' new at) after r step = leaf_goes_on good among w holds loose vacant as_long short r in
+        let goes : GoesOn now now' kind before own' (with_new_leaf own' new at) after step = leaf_goes_on good among w holds loose vacant as_long short in
         let need : 8 + length body ≡ block_bytes v k last = size_needed good among w holds ∙ ap (λ (n : ℕ). max 28 (12 + n)) says.as_long in
         let bytes : taken_bytes (acts ++ step) ≡ taken_bytes acts + block_bytes v k last + node_bytes k own'.index =
         taken_sum acts step ∙ ap (λ (n : ℕ). taken_bytes acts + n) (leaf_bytes place (8 + length body) k at own'.index) ∙ ap (λ (n : ℕ). taken_bytes acts + (n + node_bytes k own'.index)) need ∙ omega arith in
@@ -181,11 +175,12 @@ module _ {b : List ℕ} {kind : Kind} {before : List VariableShape} {own : Varia
         record {
           start = so.start;
           upto = omega arith;
-          goes = goes_then so.start.good so.start.among so.goes goes (only_takes acts so.takes) (only_takes step (leaf_takes place (8 + length body) (new_room k own'.index) at)) so.max_rec_is so.blocks.stay;
+          goes = goes_then so.start.good so.start.among so.goes goes (only_takes acts so.takes) (only_takes step (leaf_takes place (8 + length body) (new_room k own'.index) at));
           covers = subst (Covering v own.index (with_leaf new at own'.index) r (min (last + 1) (r + 1))) (sym bytes) covers;
           takes = takes_both acts step so.takes (leaf_takes place (8 + length body) (new_room k own'.index) at);
           short = short;
           max_rec_is = subst (λ (v : ℕ). number now' v vdr_max_rec ≡ number now v vdr_max_rec) so.goes.vdr_is (leaf_max_rec good among w plain) ∙ so.max_rec_is;
+          r_max_rec_is = leaf_r_max_rec good among w holds loose vacant as_long short ∙ so.r_max_rec_is;
           index = index_added so more is vacant holds says w goes.good goes.among;
           blocks = blocks_added so more is vacant holds says w goes.good goes.among;
         }

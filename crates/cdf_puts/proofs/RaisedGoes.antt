@@ -1,6 +1,6 @@
 -- MaxRec is raised to the record that was put: no byte changes but MaxRec, and rMaxRec of an r variable.
 use Rattle.std.proofs.Common.{◌≡◌, ◌≢◌, ℕ, ℤ, pos, ◌+◌, ◌<◌, ◌≤◌, List, [], ◌∷◌, ◌++◌, length, map, Bool, true, bytes_eq, append-nil, refl, sym, ap, subst, ◌∙◌, arith, inl, inr}
-use Rattle.cdf_puts.proofs.Common.{le-leb, length-map, map-append, set_at, flat_map, if◌then◌else◌, slice_set, Kind, R, Z, DataSet, Variable, extent, record_number_limit, variables_of, with_variables, is_in, content, variable_of, number, type_at, with_sign, variable_records, vdr_vxr_tail, VariableShape, shape, In, max_rec_at, is_max_rec, Good, word_kept, either, In-append_left, bytes_eq-same, same_of_bytes_eq, RMaxRecFollows, r_max_rec, max_rec_touches, Changed, type_in, variables_chain, index_records, WritesRecords, part, same_shape, variables_of_are, StandsAmong, sound, typed, long, has, fits, ours, Kept, all_variable_records, MaxRecRaised}
+use Rattle.cdf_puts.proofs.Common.{le-leb, length-map, map-append, set_at, if◌then◌else◌, slice_set, Kind, R, Z, DataSet, Variable, extent, record_number_limit, variables_of, with_variables, is_in, content, variable_of, number, type_at, with_sign, vdr_vxr_tail, VariableShape, shape, In, max_rec_at, is_max_rec, Good, word_kept, either, bytes_eq-same, same_of_bytes_eq, RMaxRecFollows, r_max_rec, max_rec_touches, Changed, type_in, variables_chain, index_records, WritesRecords, part, same_shape, variables_of_are, StandsAmong, sound, typed, long, has, fits, Kept, MaxRecRaised}
 use Rattle.cdf_format.proofs.ShapeLemmas.{content_is}
 use Rattle.cdf_edits.proofs.Edits.VariableKept.{only_variable}
 use Rattle.cdf_edits.specs.Commands.GreatestRecord.{r_extents, greatest_r_max_rec}
@@ -72,9 +72,6 @@ module _ {b : List ℕ} {kind : Kind} {before : List VariableShape} {own : Varia
 -- ---- whose records are the GDR and the VDR
 
 module _ {b : List ℕ} {kind : Kind} {before : List VariableShape} {own : VariableShape} {after : List VariableShape} (good : Good b) (at : StandsAmong b kind before own after) where
-  pub own_in_all : (m : ℕ) → In m (variable_records own) → In m (all_variable_records (shape b))
-  own_in_all m i = (ours good at).1.sub m (In-append_left m (variable_records own) (flat_map variable_records after) i)
-
   pub vdr_no_gdr : own.vdr ≢ (shape b).gdr
   vdr_no_gdr e = (only_variable (sound good at) kind before own after at.was own.vdr (inl refl)).in_file (inr (inl e))
 

@@ -1,6 +1,6 @@
 -- Once all records up to r are put, and MaxRec is raised where r is past it, the image follows the command.
 use Rattle.std.proofs.Common.{◌≡◌, ℕ, ◌+◌, ◌<◌, ◌≤◌, List, length, false, Option, Some, None, true≢false, refl, sym, ap, subst, ◌∙◌, arith}
-use Rattle.cdf_puts.proofs.Common.{same_Some, Kind, turned, DataSet, Variable, extent, Found, pad_record, with_record, with_variable, Allowances, AllKeep, shapes_of, put_changes, put_room, Act, content, variable_of, Nodes, owned, VariableShape, shape, is_little, max_rec_at, type_of_variable, found_in, MaxRecDone, SoFar, taken_bytes}
+use Rattle.cdf_puts.proofs.Common.{same_Some, Kind, turned, DataSet, Variable, extent, Found, pad_record, with_record, with_variable, Allowances, AllKeep, shapes_of, put_changes, put_room, Act, content, variable_of, Nodes, owned, VariableShape, shape, is_little, max_rec_at, type_of_variable, found_in, MaxRecDone, SoFar, taken_bytes, GoesOn}
 use Rattle.cdf_edits.proofs.Commands.ListParts.{got-middle}
 use Rattle.std.specs.List.{slice_get}
 use Rattle.cdf_model.specs.declared.answer.Reply.TheVariants as replies
@@ -16,10 +16,8 @@ use Rattle.cdf_edits.specs.Commands.Named.{OfVariable}
 use Rattle.cdf_edits.specs.Commands.Puts.{PutsRecord}
 use Rattle.cdf_edits.specs.Commands.Room.{room, room_of_variable}
 use Rattle.cdf_edits.specs.Follows.{Follows, only_reads}
-use Rattle.cdf_puts.proofs.DoneBytes.{is_put, index_done, bytes_done}
-use Rattle.cdf_puts.proofs.LastImage.{has_put}
-use Rattle.cdf_puts.proofs.PutMeaning.{put_content}
-use Rattle.cdf_puts.proofs.GoesThen.{Passes}
+use Rattle.cdf_puts.proofs.DoneBytes.{keeps, is_put, index_done, bytes_done}
+use Rattle.cdf_puts.proofs.LastImage.{LastImage, last_image, put_content}
 use Rattle.cdf_puts.proofs.PutRoom.{longer_by}
 
 module _ {b now last : List ℕ} {kind : Kind} {before : List VariableShape} {own own' : VariableShape} {after : List VariableShape} {raw pad : List ℕ} {r : ℕ} {acts : List Act} (so : SoFar b now kind before own own' after raw pad r (r + 1) acts) (done : MaxRecDone b now last kind own own' r)
@@ -30,11 +28,14 @@ module _ {b now last : List ℕ} {kind : Kind} {before : List VariableShape} {ow
   abbrev found : Found
   found = found_in b kind before own
 
-  put : Passes b last kind before own own' after r acts
-  put = (has_put so done).step
+  img : LastImage b now last kind before own own' after r acts
+  img = last_image so done
+
+  put : GoesOn b last kind before own own' after acts
+  put = img.goes
 
   pub so_far_done : PutsRecord b last kind v r own own' acts
-  so_far_done = record { index = index_done so done; bytes = bytes_done so done pad_stored; r_max_rec = (has_put so done).r_max_rec_follows }
+  so_far_done = record { index = index_done so done; bytes = bytes_done so done pad_stored; r_max_rec = img.r_max_rec }
 
   -- ---- of the variable that has a name
 
@@ -57,7 +58,7 @@ module _ {b now last : List ℕ} {kind : Kind} {before : List VariableShape} {ow
 
     module _ (bytes : List ℕ) (raw_is : turned (type_of_variable b own.vdr) (is_little b) raw ≡ bytes) (pad_is : extent (max_rec_at b own.vdr) < r → turned (type_of_variable b own.vdr) (is_little b) pad ≡ pad_record v) where
       pub content_done : content last ≡ with_variable (content b) found (with_record v r bytes)
-      content_done = put_content so.start.good so.start.among (has_put so done) (is_put so done) bytes raw_is pad_is
+      content_done = put_content so.start.good so.start.among put (is_put so done) bytes raw_is pad_is
 
       follows_by : (c : Command) → only_reads c ≡ false → step (content b) c ≡ ByStep (Go (with_variable (content b) found (with_record v r bytes)) replies.Plain) → room b c ≡ put_room v own.index r → allowances b (content b) (shape b) c ≡ put_changes b (shape b) found r → Does b c last acts → Follows b c last
       follows_by c changes goes room_is may does =
@@ -73,7 +74,7 @@ module _ {b now last : List ℕ} {kind : Kind} {before : List VariableShape} {ow
             acts = acts;
             takes_within = fits_in;
             acts_follow = put.follow;
-            keeps = subst (λ (a : Allowances). AllKeep b last a acts (owned b (shape b))) (sym may) put.keep;
+            keeps = subst (λ (a : Allowances). AllKeep b last a acts (owned b (shape b))) (sym may) (keeps so done);
             does = does;
           }
 

@@ -1,18 +1,13 @@
 -- Records are written in their block: one image goes on to another, and no byte changes but those of the records.
-use Rattle.std.proofs.Common.{◌≡◌, ◌≢◌, ◌⊎◌, ℕ, suc, ◌+◌, ◌-◌, ◌*◌, ◌<◌, ◌≤◌, List, [], ◌∷◌, length, Bool, true, ◌||◌, Some, w32, refl, sym, ap, subst, ◌∙◌, arith, inl, inr}
-use Rattle.cdf_puts.proofs.Common.{Outside-append, lt-ltb, cast_signed, ◌==◌, nat_lt, find, Kind, Variable, image_limit, record_number_limit, Same, byte, variable_of, number, size_at, type_at, Leaf, nodes_of, leaves_of, vdr_max_rec, gdr_r_max_rec, gdr_type, vvr_type, VariableShape, Shape, HasShape, shape, In, record_bytes, is_max_rec, Good, word_kept, byte-put_before, byte-put_after, tile_lies, r_max_rec, max_rec_touches, is_rewritten, Touch, Changed, range, covers, shared, first_written, places_of, IsOneOf, covers_within, place_in, times_le, PlainLeaf, own_rules, plain_leaf, leaves_apart, WritesRecords, file, good_now, gdr_in, gdr_typed, gdr_long, block_behind, StandsAmong, sound, tile, long, no_block, behind_in, changed_part, Kept, apart, GoesOn, RecordsWritten}
+use Rattle.std.proofs.Common.{◌≡◌, ◌≢◌, ◌⊎◌, ℕ, suc, ◌+◌, ◌-◌, ◌*◌, ◌<◌, ◌≤◌, List, [], ◌∷◌, length, w32, refl, sym, ap, subst, ◌∙◌, arith, inl, inr}
+use Rattle.cdf_puts.proofs.Common.{Outside-append, cast_signed, Kind, Variable, image_limit, Same, byte, variable_of, number, size_at, type_at, Leaf, nodes_of, leaves_of, vdr_max_rec, gdr_r_max_rec, gdr_type, vvr_type, VariableShape, Shape, HasShape, shape, In, record_bytes, is_max_rec, Good, word_kept, byte-put_before, byte-put_after, tile_lies, r_max_rec, max_rec_touches, Touch, Changed, range, covers, places_of, IsOneOf, covers_within, place_in, times_le, PlainLeaf, own_rules, plain_leaf, WritesRecords, file, good_now, gdr_in, gdr_typed, gdr_long, block_behind, StandsAmong, sound, tile, long, no_block, behind_in, changed_part, Kept, apart, RecordsWritten}
 use Rattle.cdf_base.specs.Bytes.{put}
 use Rattle.cdf_format.specs.Fields.{gdr_offset, integer4}
 use Rattle.cdf_format.proofs.BytesLemmas.{length-put}
 use Rattle.cdf_edits.specs.Frame.Changed.{touch}
-use Rattle.cdf_edits.proofs.Edits.LeafPieces.{found_in, find_place}
+use Rattle.cdf_edits.proofs.Edits.LeafPieces.{found_in}
 use Rattle.cdf_edits.proofs.Edits.RecordsWritten.{node_kept, block_kept}
-use Rattle.cdf_puts.proofs.GoesThen.{going, passes_written}
 use Rattle.cdf_puts.proofs.PutRules.{loose}
-
--- a record of a range of which some are written
-rewritten_by : (first r k f t : ℕ) (x : Bool) → first ≤ k → k ≤ r → f ≤ k → k ≤ t → (nat_lt 0 (shared first r (range f t)) || x) ≡ true
-rewritten_by first r k f t x a c d e = rw (lt-ltb 0 (shared first r (range f t)) (omega arith)) refl
 
 pub record_fits : (k f t size : ℕ) → f ≤ k → k ≤ t → 12 + (k - f) * size + size ≤ 12 + (t + 1 - f) * size
 record_fits k f t size a c = let p = times_le (suc (k - f)) (t + 1 - f) size (omega arith) in omega arith
@@ -107,7 +102,7 @@ module _ {b now : List ℕ} {kind : Kind} {before : List VariableShape} {own : V
   pub good_written : length b ≤ image_limit → Good now
   good_written = good_now good at writes
 
-  r_max_rec_stays : r_max_rec now ≡ r_max_rec b
+  pub r_max_rec_stays : r_max_rec now ≡ r_max_rec b
   r_max_rec_stays =
       let g = gdr_in b s h in
       let no_gdr : s.gdr ≡ l.place → ⊥ = λ e. apart gdr_type vvr_type refl (sym (gdr_typed b s h) ∙ ap (type_at b) e ∙ (plain l is_leaf).typed) in
@@ -115,10 +110,3 @@ module _ {b now : List ℕ} {kind : Kind} {before : List VariableShape} {own : V
       let offset_same : gdr_offset now ≡ s.gdr = (file good at writes).gdr_is ∙ h.gdr_is in
       let field : integer4 now s.gdr gdr_r_max_rec ≡ integer4 b s.gdr gdr_r_max_rec = ap (cast_signed w32) (word_kept b now (s.gdr + 52) (s.gdr + 56) same (s.gdr + 52) 4 (omega arith) (omega arith)) in
       ap (λ (x : ℕ). integer4 now x gdr_r_max_rec) offset_same ∙ field ∙ sym (ap (λ (x : ℕ). integer4 b x gdr_r_max_rec) h.gdr_is)
-
-  pub written_goes : (r : ℕ) → first_written v r ≤ k → k ≤ r → r ≤ record_number_limit → length b ≤ image_limit → GoesOn b now kind before own own after r []
-  written_goes r from upto small short = going (passes_written good at writes (good_written short) r rewritten) r_max_rec_stays
-    where
-      rewritten : (m : ℕ) → In m (l.place ∷ []) → (l : Leaf) × ((find (λ (leaf : Leaf). leaf.place == m) leaves ≡ Some l) × (is_rewritten v r (range l.first l.last) ≡ true))
-      rewritten m (inl e) = (l, (ap (λ (x : ℕ). find (λ (leaf : Leaf). leaf.place == x) leaves) e ∙ find_place leaves (leaves_apart good at) l is_leaf, rewritten_by (first_written v r) r k l.first l.last _ from upto has_it.0 has_it.1))
-      rewritten m (inr none) = absurd none
