@@ -101,7 +101,6 @@ module _ {v : Variable} {firsts : List ℕ} {n k : ℕ} {rs after : List Range} 
   -- the next one is the first behind the new block, or that behind the last
   pub ahead_new : k ≤ n → k ≤ (new_range v firsts k).last → find (covers k) rs ≡ None → Ahead v firsts n (min ((new_range v firsts k).last + 1) (n + 1)) (with_range (new_range v firsts k) rs) after
   ahead_new le upto none =
-      let enough = a.enough in
       elim (cases_eq a.next k) [
         | inl e ↦ record {
           next = (new_range v firsts k).last + 1;
@@ -132,8 +131,6 @@ covered_upto s n low upto [] a = omega arith
 covered_upto s n low upto (x ∷ xs) a =
     let rest = covered_upto s n (suc x.last) upto xs a.3 in
     let whole = covered_more s n (range x.first x.last) (of_leaves xs) in
-    let from = a.0 in
-    let ordered = a.1 in
     omega arith
 
 -- and one less where one of them is not covered
@@ -240,8 +237,6 @@ module _ {v : Variable} {index index' : Nodes} {n k taken : ℕ} (c : Covering v
   covering_has l e =
       let is = found_in (λ (leaf : Leaf). covers k (range leaf.first leaf.last)) (leaves_of index') l e in
       let has = covers_within k l is.1 in
-      let f = has.0 in
-      let from = c.from in
       let blocks = so_far.blocks_are in
       let passed = times_le (count_upto k fs) (count_upto (k + 1) fs) (block_count v) (count_more k (k + 1) fs (omega arith)) in
       let rng = λ (leaf : Leaf). range leaf.first leaf.last in
@@ -286,7 +281,6 @@ module _ {v : Variable} {index index' : Nodes} {n k taken : ℕ} (c : Covering v
 
     pub covering_room : taken + block_bytes v k last + vxr_bytes (widest index') ≤ put_room v index n
     covering_room =
-        let wide = c.as_wide in
         let bytes = more_bytes taken so_far.records so_far.blocks (last + 1 - k) (record_length v) (vxr_bytes (widest index)) (vxr_bytes (widest index')) so_far.bytes_are (omega arith) in
         let enough = in_room in
         omega arith
@@ -308,17 +302,12 @@ module _ {v : Variable} {index index' : Nodes} {n k taken : ℕ} (c : Covering v
       bytes' : taken' ≤ (so_far.records + (last + 1 - k)) * record_length v + suc so_far.blocks * (28 + vxr_bytes (widest index))
       bytes' =
           let narrow = new_room_widest k index' roomy in
-          let wide = c.as_wide in
           more_bytes taken so_far.records so_far.blocks (last + 1 - k) (record_length v) (vxr_bytes (widest index)) (node_bytes k index') so_far.bytes_are (node_fits k (widest index) index' (omega arith))
 
       -- the new block is full, or one more First is passed
       full_or_passed : last + 1 ≤ n → (last + 1 - k ≡ most) ⊎ (suc (count_upto k fs) ≤ count_upto (last + 1) fs)
       full_or_passed more =
-          let first : first_written v n ≡ min n (extent v.max_rec) = rw rule refl in
-          let from = c.from in
           let past = next_past k (firsts_of index') (omega arith) in
-          let one = one_at_least v in
-          let same = c.nexts k (omega arith) in
           grind (arith, nat_tests, next_passed k fs)
 
       counted' : last + 1 ≤ n → Counted v index (with_leaf new at index') n (last + 1) taken'
@@ -326,7 +315,6 @@ module _ {v : Variable} {index index' : Nodes} {n k taken : ℕ} (c : Covering v
         records = so_far.records + (last + 1 - k);
         blocks = suc so_far.blocks;
         records_are =
-            let from = c.from in
             let are = so_far.records_are in
             ap (covered (first_written v n) n) ranges_are ∙ covered_with (first_written v n) n (range k last) (ranges_of index') ∙ omega arith;
         blocks_are = more_blocks so_far.blocks so_far.records (last + 1 - k) (count_upto k fs) (count_upto (last + 1) fs) most so_far.blocks_are (full_or_passed more) (count_more k (last + 1) fs (let o = covering_ends.ordered in omega arith));
@@ -336,9 +324,7 @@ module _ {v : Variable} {index index' : Nodes} {n k taken : ℕ} (c : Covering v
       pub covering_leaf : Covering v index (with_leaf (leaf k (new_last v index' k) place false) at index') n (min (new_last v index' k + 1) (n + 1)) (taken + block_bytes v k (new_last v index' k) + node_bytes k index')
       covering_leaf =
           let ending = covering_ends in
-          let from = c.from in
           let narrow = widest_with_leaf new at index' roomy in
-          let wide = c.as_wide in
           let bytes = bytes' in
           let enough = in_room in
           record {

@@ -216,7 +216,6 @@ module _ {b now last : List ℕ} {kind : Kind} {before : List VariableShape} {ow
       let x = old_plain so l i in
       let o = last_old l i in
       let fit = record_fits j l.first l.last size f t in
-      let room = x.room in
       let inside = inside_old so l i in
       let longer = put.file.longer in
       piece_kept b last _ _ (by_offsets b last l.place (12 + (j - l.first) * size) (12 + (j - l.first) * size + size) (λ n low high. o.kept n (omega arith) (beside n low high))) (record_place l size j) size (omega arith) (omega arith) (omega arith) (omega arith)
@@ -386,10 +385,8 @@ module _ {b now last : List ℕ} {kind : Kind} {before : List VariableShape} {ow
         (length-drop (stored * size) bytes ∙ ap (λ (m : ℕ). m - stored * size) long ∙ (let e : (l.last + 1 - l.first) * size - stored * size ≡ (l.last + 1 - l.first - stored) * size = omega arith in e) ∙ ap (λ (m : ℕ). (m - stored) * size) (sym count))
         (λ i' lt.
         let lt' : i' < (l.last + 1 - l.first) - stored = subst (λ (m : ℕ). i' < m - stored) count lt in
-        let p = n.upto in
         let j = l.first + (stored + i') in
         let t : j ≤ l.last = omega arith in
-        let past : r < j = omega arith in
         let le : most ≤ r = elim (cases_lt r most) [ inl few ↦ (let e = n.alone few in omega arith) | inr le ↦ le ] in
         let joined : stored * size + i' * size ≡ (l.first + (stored + i') - l.first) * size = joins l.first stored i' size in
         ap (take size) (drop-drop (i' * size) (stored * size) bytes)

@@ -214,8 +214,6 @@ module _ {b mid now : List ℕ} {kind : Kind} {before : List VariableShape} {own
   file_then =
       let x = first.file in
       let y = second.file in
-      let l = x.longer in
-      let m = y.longer in
       record { longer = omega arith; gdr_is = y.gdr_is ∙ x.gdr_is; little = y.little ∙ x.little; dimensions = y.dimensions ∙ x.dimensions; sizes = y.sizes ∙ x.sizes }
 
   pub goes_then : GoesOn b now kind before own own'' after (acts ++ acts')

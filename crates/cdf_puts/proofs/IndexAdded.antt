@@ -140,7 +140,6 @@ module _ {b now now' : List ℕ} {kind : Kind} {before : List VariableShape} {ow
       let j = so.blocks.stay l i in
       let x = old_plain so l i in
       let ordered = x.ordered in
-      let o = vacant.ordered in
       elim (beside_new l j ordered) [
         | inl lt ↦ old_goes_on so longer l (same l j) i (let m = more_upto in omega arith) (λ j' from low f t. (omega arith))
         | inr lt ↦ old_goes_on so longer l (same l j) i (omega arith) (λ j' from low f t. absurd (omega arith))
@@ -197,7 +196,6 @@ module _ {b now now' : List ℕ} {kind : Kind} {before : List VariableShape} {ow
   needs end same =
       let count = count_is new small vacant.ordered in
       let plain : records_of_leaf new * record_bytes end own.vdr ≡ length records = (λ i. count i * same i) ∙ sym says.as_long in
-      let long = holds.as_long in
       omega arith
 
   puts_added : PutsBefore b own own'' (filter (was_put first upto) (leaves_of own''.index)) (acts ++ step)

@@ -108,10 +108,8 @@ module _ {b now now' : List ℕ} {kind : Kind} {before : List VariableShape} {ow
             let begins : l'.first ≤ k = subst (λ (y : Leaf). y.first ≤ k) same has_it.0 in
             let ends : k ≤ l'.last = subst (λ (y : Leaf). k ≤ y.last) same has_it.1 in
             let inside = inside_old so l' i in
-            let grows = so.goes.file.longer in
             old_written longer (so.blocks.old l' i) x.room (omega arith) begins ends so.covers.from (subst (λ (y : Leaf). BlockWritten now now' y size k (size_at b l'.place) bytes) same (here (size_at b l'.place)))
         | inr ne ↦
-            let ordered = x.ordered in
             elim (elsewhere l' j ne) [
               | inl lt ↦ old_goes_on so longer l' (other l' j ne) i (omega arith) (λ j' from upto f t. (omega arith))
               | inr lt ↦ old_goes_on so longer l' (other l' j ne) i (omega arith) (λ j' from upto f t. (omega arith))

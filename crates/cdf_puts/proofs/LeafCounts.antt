@@ -140,8 +140,6 @@ mutual
   roomy b records zero (node place room es more) h f = absurd h
   roomy b records (suc levels) (node place room es more) h f =
       let p = Each-split (NodeFits b) (lower_nodes es) (nodes_of more) f.1 in
-      let same = h.0.used_is in
-      let wide = h.0.room_is in
       let fits = f.0.1 in
       (omega arith, roomy_below b records levels es h.1 p.0, roomy b records (suc levels) more h.2 p.1)
 
@@ -181,9 +179,7 @@ wide_grows new at = record {
       let b = widest_both es fs in
       let c = widest_both es (with_block new no_entry) in
       let count = count_both es fs in
-      let few = r.0 in
       let s = seven_at_least more in
-      let t = seven_below es in
       (omega arith, omega arith);
 }
 

@@ -337,7 +337,6 @@ module _ {b now : List ℕ} {kind : Kind} {before : List VariableShape} {own : V
   spare_stays : (m : ℕ) → In m nodes → Same b now (m + (28 + 16 * room_at b m)) (m + size_at b m)
   spare_stays m i =
       let k = node_kept m i in
-      let size = roomy_size m i in
       let room = room_kept m i in
       same-then b w.roomy now (m + (28 + 16 * room_at b m)) (m + size_at b m) (Same-part b w.roomy m (m + size_at b m) (m + (28 + 16 * room_at b m)) (m + size_at b m) k.same (omega arith) (omega arith))
       (node_part m (28 + 16 * room_at b m) (size_at b m) i (inr (omega arith)) (omega arith))

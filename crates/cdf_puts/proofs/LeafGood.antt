@@ -155,8 +155,6 @@ module _ {b now : List ℕ} {kind : Kind} {before : List VariableShape} {own : V
         let size = placed_size good among w in
         let inside : new.place + size_at w.filled new.place ≤ length w.filled = k.inside in
         let grows : length w.filled ≤ length w.roomy = (node_taking good among w).grows.edit.longer in
-        let as_long : length now ≡ length w.roomy = w.as_long in
-        let body_long : length body ≡ max 20 (4 + length records) = says.as_long in
         let e : length (take n (drop (new.place + 12) now)) ≡ n = simp (length-take, length-drop) (omega arith) in
         let f : length (take n (drop 4 body)) ≡ n = simp (length-take, length-drop) (omega arith) in
         ext_get_or 0 (take n (drop (new.place + 12) now)) (take n (drop 4 body)) (e ∙ sym f) (λ i lt.

@@ -55,7 +55,6 @@ pub new_stays : {mid now raw pad : List ℕ} {r first most k k' size : ℕ} {act
     → k ≤ k' → is_taken_at acts' l.place ≡ true → NewBlock now raw pad r first most k' size acts' l
 new_stays {mid = mid} {now = now} {raw = raw} {pad = pad} {r = r} {first = first} {k = k} {k' = k'} {size = size} {l = l} longer o ordered room inside same more taken =
     let size_same = size_kept mid now l.place same (omega arith) in
-    let upto = o.upto in
     record {
       from = o.from;
       upto = omega arith;
@@ -128,7 +127,6 @@ module _ {b now : List ℕ} {kind : Kind} {before : List VariableShape} {own own
     old_goes_on i count none =
         let room = (old_plain l i).room in
         let inside = inside_old l i in
-        let grows = so.goes.file.longer in
         old_stays longer (so.blocks.old l i) room (omega arith) (subst (λ (n : ℕ). Same now now' l.place (l.place + n)) (old_size (so.blocks.old l i) (omega arith)) same) count none
 
     pub new_goes_on : {acts' : List Act} → IsOneOf (leaves_of own'.index) l → k ≤ k' → is_taken_at acts' l.place ≡ true → NewBlock now raw pad r first (extent (max_rec_at b own.vdr)) k size acts l → NewBlock now' raw pad r first (extent (max_rec_at b own.vdr)) k' size acts' l

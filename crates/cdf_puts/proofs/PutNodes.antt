@@ -268,8 +268,6 @@ nodes_same b mid now through before after acts fit kept sizes f = record {
         | inr e ↦ inr (e.0, entry_stays b mid now m i false (kept m j) (fit m j) lt e.1)
       ]);
   spare = each (NodeSpareStays b now acts) after (λ m j e.
-      let room = room_same mid now [] [] (no_heads mid now) m (kept m j) (fit m j) in
-      let size = sizes m j e in
       let was = Each-in (NodeSpareStays b mid acts) after f.spare m j e in
       let k = kept m j in
       same-then b mid now (m + (28 + 16 * room_at now m)) (m + size_at b m) (Same-part b mid (m + (28 + 16 * room_at mid m)) (m + size_at b m) _ _ was (omega arith) (omega arith))
@@ -358,7 +356,6 @@ module _ (b mid now : List ℕ) (through through' : List Nodes) (before after : 
         let p = neither_taken acts acts' m e in
         let j = unless_true (step.come m k) p.1 in
         let size = sizes m (unless_true (come m j) p.0) in
-        let room = step.rooms m j in
         let first = Each-in (NodeSpareStays b mid acts) (nodes_of index) f.spare m j p.0 in
         same-then b mid now (m + (28 + 16 * room_at now m)) (m + size_at b m) (Same-part b mid (m + (28 + 16 * room_at mid m)) (m + size_at b m) _ _ first (omega arith) (omega arith))
         (Same-part mid now (m + (28 + 16 * room_at mid m)) (m + size_at mid m) _ _ (step.spare m j) (omega arith) (omega arith))

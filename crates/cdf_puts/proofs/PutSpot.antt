@@ -78,7 +78,6 @@ module _ (raw pad : List ℕ) (r size : ℕ) (raw_long : length raw ≡ size) (p
 pub body_is : (body records : List ℕ) → IsBlockBody body records → IsBody body
 body_is body records says =
     let typed = plain_body body records says in
-    let e = says.as_long in
     record {
       enough = omega arith;
       real = ap is_record_type typed;
@@ -134,9 +133,6 @@ module _ {b : List ℕ} {kind : Kind} {before : List VariableShape} {own : Varia
         let at = so.goes.among in
         let small = so.start.small in
         let step = goes_written good at (writes good at w) so.short in
-        let long = long_now good at w in
-        let short = so.short in
-        let from = so.covers.from in
         record {
           start = so.start;
           upto = omega arith;
@@ -170,8 +166,6 @@ module _ {b : List ℕ} {kind : Kind} {before : List VariableShape} {own : Varia
         let covers : Covering v own.index (with_leaf new at own'.index) r (min (last + 1) (r + 1)) (taken_bytes acts + block_bytes v k last + node_bytes k own'.index) =
         subst (λ (x : ℕ). Covering v own.index (with_leaf (leaf k x place false) at own'.index) r (min (x + 1) (r + 1)) (taken_bytes acts + block_bytes v k x + node_bytes k own'.index)) (sym is)
         (covering_leaf so.covers so.start.small more (ap is_sparse so.start.no_rule) so.start.loose vacant.uncovered place at (roomy now (shape now).records 8 own'.index (has good among).indexed.has_nodes (fits good among).1)) in
-        let ordered = vacant.ordered in
-        let from = so.covers.from in
         record {
           start = so.start;
           upto = omega arith;
@@ -246,8 +240,6 @@ module _ {b now : List ℕ} {kind : Kind} {before : List VariableShape} {own : V
   lies =
       let wide = long good so.goes.among in
       let there = tile_lies now 8 (length now) (shape now).records own'.vdr image.has_shape.tiled (tile good so.goes.among) in
-      let high = there.high in
-      let same = vdr_is in
       omega arith
 
   pub vdr_in : In new.vdr (vdrs (variables (shape now)))
@@ -349,7 +341,6 @@ module _ {b now : List ℕ} {kind : Kind} {before : List VariableShape} {own : V
             let longer = longer_by b now is.acts so.goes.follow so.takes in
             let long = need in
             let enough = covering_room so.covers so.start.small more rule so.start.loose none in
-            let room = p.room in
             omega arith
 
         room_left : length now + (8 + length body) + vxr_bytes (widest (index_at now head)) ≤ limit
@@ -382,8 +373,6 @@ module _ {b now : List ℕ} {kind : Kind} {before : List VariableShape} {own : V
             not_long {at = at} w =
                 let wide = new_room_widest k own'.index (roomy now (shape now).records 8 own'.index (has good so.goes.among).indexed.has_nodes (fits good so.goes.among).1) in
                 let node = node_long w.filled w.roomy (new_room k own'.index) at (widest own'.index) w.node wide in
-                let longest = w.block.longest in
-                let same = w.as_long in
                 let room = room_here in
                 omega arith
 
@@ -418,5 +407,4 @@ all_on {b = b} all on kind before own after p = on b kind before own after p (al
 pub all_done : {b now : List ℕ} {new : NewRecord} {k limit : ℕ} → PutsUpTo b now limit new k → new.rec < k → PutsUpTo b now limit new (new.rec + 1)
 all_done {b = b} {now = now} {new = new} {k = k} all past kind before own after p =
     let is = all kind before own after p in
-    let upto = is.so.upto in
     subst (IsPut b now kind before own after new) (omega arith) is

@@ -23,8 +23,6 @@ all_put first k k' l a c = let e : min k (l.last + 1) ≡ min k' (l.last + 1) = 
 none_past : (test : Leaf → Bool) (k low upto : ℕ) (leaves : List Leaf) → Ascending low upto leaves → k < low → ((l : Leaf) → IsOneOf leaves l → k < l.first → test l ≡ false) → filter test leaves ≡ []
 none_past test k low upto [] a lt out = refl
 none_past test k low upto (x ∷ more) a lt out =
-    let a0 = a.0 in
-    let a1 = a.1 in
     rw (out x (inl refl) (omega arith)) (none_past test k (suc x.last) upto more a.3 (omega arith) (λ l i. out l (inr i)))
 
 -- one more leaf passes, and with it none past it does: it comes behind those that did
