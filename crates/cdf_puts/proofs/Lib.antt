@@ -7,7 +7,6 @@ pub mod IndexWritten
 pub mod LastImage
 pub mod LeafCounts
 pub mod LeafEdit
-pub mod LeafGood
 pub mod PutBytes
 pub mod PutNodes
 pub mod PutRoom
