@@ -1,32 +1,15 @@
 -- One image goes on to another: what a put may change of the records of its variable, what the descriptor says by then, that an edit of one variable is such a step, and that two steps are one.
-use Rattle.std.proofs.Common.{◌≡◌, ℕ, List, [], ◌∷◌, length, true, false, Option, eq-eqb, refl, sym, ap, ◌∙◌, inl, inr, ◌+◌, ◌<◌, ◌≤◌, ◌++◌, subst, arith, map, ◌⊎◌}
-use Rattle.cdf_puts.proofs.Common.{◌==◌, if◌then◌else◌, IsOneOf, StandsAmong, fits, Only, shapes_of, put_changes, is_rewritten, Range, range, linkable-type, is_in, variable_of, type_at, Leaf, nodes_of, leaves_of, VariableShape, shape, In, Good, Found, Kind, R, Z, found_in, other_kind, Stays, r_max_rec_field, space_fields, Act, either, variable_records, AttributeShape, Shape, IsSound, tile, FileSame, record_alike, stays_alike, is_compressed, record_bytes, tile_lies, GoesOn, eq-eqb, length-map, set_at, list_any, slice_set, ◌&&◌, nat_le, nat_lt, long, OutsideFields, is_taken, ActsFollow, taken, linkable-in, good_is_sound, false-is_in, true-is_in, content, size_at, Field, uir_next_uir, uir_prev_uir, uir_type, DataSet, Variable, variables_of, with_variables, ListedStay, acts_joined, OnlyTakes, none_of_both, WritesRecords, own_rules, Touch, put_fields, max_rec_at, Nodes, image_limit, HasShape, LooseStay, Mark, flat_map, Kept, kept_away, ours}
+use Rattle.std.proofs.Common.{eq-eqb}
+use Rattle.cdf_puts.proofs.Common.{◌==◌, if◌then◌else◌, IsOneOf, StandsAmong, fits, Only, shapes_of, put_changes, is_rewritten, Range, range, linkable-type, is_in, variable_of, type_at, Leaf, nodes_of, leaves_of, VariableShape, shape, In, Good, Found, Kind, R, Z, found_in, other_kind, Stays, r_max_rec_field, space_fields, Act, either, variable_records, AttributeShape, Shape, IsSound, tile, FileSame, record_alike, stays_alike, is_compressed, record_bytes, tile_lies, GoesOn, eq-eqb, length-map, set_at, list_any, slice_set, ◌&&◌, nat_le, nat_lt, long, OutsideFields, is_taken, ActsFollow, taken, linkable-in, good_is_sound, false-is_in, true-is_in, content, size_at, Field, uir_next_uir, uir_prev_uir, uir_type, DataSet, Variable, variables_of, with_variables, ListedStay, acts_joined, OnlyTakes, none_of_both, WritesRecords, own_rules, Touch, put_fields, max_rec_at, Nodes, image_limit, HasShape, LooseStay, Mark, flat_map, Kept, kept_away, ours, ◌≡◌, ℕ, List, [], ◌∷◌, length, true, false, Option, refl, sym, ap, ◌∙◌, inl, inr, ◌+◌, ◌<◌, ◌≤◌, ◌++◌, subst, arith, map, ◌⊎◌, Stood, keeps_stood, range_at, only_of, Allowance, Anything, anything_if, same_kind, vdr_type, among_now, content_replaced, only, others_are, records_are, splices, OwnEdit, same_as_itself, attribute_records, variable_stays, VdrStays, packed_stays, all_variable_records, listed_before, gdr_keeps, good_now, index_edit, marks, no_acts_follow, unused_stands, IndexEdit, vdr_size, own_edit, records_in, stood, variables_in, is_a-in, cdr_type, cdr_kept, after_ours, kind_ours}
 use Rattle.cdf_puts.proofs.RaisedGoes.{set_is}
 use Rattle.cdf_edits.proofs.Edits.IndexEdited as of_index
-use Rattle.cdf_edits.proofs.Commands.KeptRecords.{Stood, keeps_stood}
 use Rattle.cdf_index.proofs.OwnRecords.{by_range}
 use Rattle.cdf_index.proofs.OwnRecords as of_own
-use Rattle.cdf_edits.specs.Commands.Allowances.{range_at, only_of, Allowance, Anything, anything_if, same_kind, vdr_type}
-use Rattle.cdf_edits.proofs.Edits.OwnEdited.{among_now, content_replaced, only, others_are, records_are, same_shape, splices, OwnEdit}
-use Rattle.cdf_edits.proofs.Edits.VariableKept.{same_as_itself}
-use Rattle.cdf_format.specs.Owners.{attribute_records}
-use Rattle.cdf_edits.proofs.Frame.VdrStays.{variable_stays, VdrStays, packed_stays}
+use Rattle.cdf_edits.proofs.Edits.OwnEdited.{same_shape}
 use Rattle.cdf_edits.proofs.Edits.VariableKeeps.{stays_then, type_stays, stays_bytes}
-use Rattle.cdf_edits.proofs.Frame.OwnersApart.{all_variable_records}
-use Rattle.cdf_edits.proofs.Edits.ActsJoined.{listed_before}
-use Rattle.cdf_edits.proofs.Edits.RecordsWritten.{gdr_keeps, good_now, index_edit, marks, no_acts_follow, unused_stands}
-use Rattle.cdf_edits.proofs.Edits.IndexEdited.{IndexEdit, vdr_size, own_edit}
-use Rattle.cdf_format.specs.Content.{records_in}
-use Rattle.cdf_edits.proofs.Edits.OwnersKept.{stood}
-use Rattle.cdf_edits.proofs.Edits.VariableFrame.{variables_in}
-use Rattle.cdf_format.proofs.ChainsLemmas.{is_a-in}
 use Rattle.cdf_edits.proofs.Edits.RecordGrown.{kept_then}
-use Rattle.cdf_format.specs.RecordTypes.{cdr_type}
-use Rattle.cdf_edits.proofs.Edits.RecordFrame.{cdr_kept}
 use Rattle.cdf_edits.proofs.Edits.OwnedOnce.{all_attributes_in}
 use Rattle.cdf_edits.proofs.Edits.VariableSplice.{attributes_kept}
-use Rattle.cdf_edits.proofs.Edits.StandsAmong.{after_ours}
-use Rattle.cdf_edits.proofs.Edits.VariableKinds.{kind_ours}
 
 abbrev pub links : List Field
 links = uir_next_uir ∷ uir_prev_uir ∷ []

@@ -1,16 +1,10 @@
 -- The last step of a put: MaxRec is raised, or nothing is done; and what the variable means by then: it has the record, in blocks that may be others, and pads before it where there were none.
-use Rattle.std.proofs.Common.{◌≡◌, ◌≢◌, ℕ, ℤ, pos, negsuc, suc, ◌+◌, ◌<◌, ◌≤◌, List, [], ◌∷◌, Some, append-nil, length, refl, sym, ap, subst, ◌∙◌, arith, inl, inr}
-use Rattle.cdf_puts.proofs.Common.{Kind, extent, last_number, greater, turned, pad_record, option_map, stored_bytes, with_record, with_variable, content, variable_of, is_little, type_of_variable, record_bytes, leaves_of, leaves_ascend, max_rec_touches, Changed, Act, Took, Gave, index_records, sound, behind_in, Kept, number, with_sign, vdr_vxr_tail, VariableShape, Each, shape, In, max_rec_at, tile_lies, RMaxRecFollows, SoFar, MaxRecDone, MaxRecRaised, IsTaking, OnlyTakes, GoesOn, Good, StandsAmong, found_in}
+use Rattle.cdf_puts.proofs.Common.{Kind, extent, last_number, greater, turned, pad_record, option_map, stored_bytes, with_record, with_variable, content, variable_of, is_little, type_of_variable, record_bytes, leaves_of, leaves_ascend, max_rec_touches, Changed, Act, Took, Gave, index_records, sound, behind_in, Kept, number, with_sign, vdr_vxr_tail, VariableShape, Each, shape, In, max_rec_at, tile_lies, RMaxRecFollows, SoFar, MaxRecDone, MaxRecRaised, IsTaking, OnlyTakes, GoesOn, Good, StandsAmong, found_in, ◌≡◌, ◌≢◌, ℕ, ℤ, pos, negsuc, suc, ◌+◌, ◌<◌, ◌≤◌, List, [], ◌∷◌, Some, append-nil, length, refl, sym, ap, subst, ◌∙◌, arith, inl, inr, r_max_rec_of_z, type_alike, stays_alike, records_in, filled}
 use Rattle.cdf_puts.proofs.RaisedGoes.{greatest_stays, greatest_raised, raise_writes, max_rec_raised, raised_behind, raised_tail}
 use Rattle.cdf_puts.proofs.GoesThen.{stays, later_size, later_variable, goes_then, goes_written}
 use Rattle.cdf_puts.proofs.PutRules.{uncut}
 use Rattle.cdf_edits.proofs.Edits.RecordsPut.{StoresPut, records_put, extent_last, filled_uncut, greater_is_first, greater_is_last}
-use Rattle.cdf_edits.proofs.Edits.RecordsWritten.{r_max_rec_of_z}
-use Rattle.cdf_edits.proofs.Frame.VdrAlike.{type_alike}
-use Rattle.cdf_edits.proofs.Frame.VdrStays.{stays_alike}
-use Rattle.cdf_format.specs.Content.{records_in}
 use Rattle.cdf_model.specs.Numbered.{with_item}
-use Rattle.cdf_model.specs.RecordSteps.{filled}
 
 pub only_takes : (acts : List Act) → Each IsTaking acts → OnlyTakes acts
 only_takes [] t = tt

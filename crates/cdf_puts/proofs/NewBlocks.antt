@@ -1,7 +1,5 @@
 -- Where a new block ends.
-use Rattle.std.proofs.Common.{◌≡◌, ℕ, ◌+◌, ◌-◌, ◌<◌, ◌≤◌, Option, leb, refl, ap, ◌∙◌, arith, inl, inr}
-use Rattle.cdf_puts.proofs.Common.{unwrap_or, min, firsts_of, next_first, Nodes, either, record_number_limit}
-use Rattle.std.proofs.lemmas.Bool.{leb-false}
+use Rattle.cdf_puts.proofs.Common.{unwrap_or, min, firsts_of, next_first, Nodes, either, record_number_limit, ◌≡◌, ℕ, ◌+◌, ◌-◌, ◌<◌, ◌≤◌, Option, leb, refl, ap, ◌∙◌, arith, inl, inr, leb-false}
 use Rattle.cdf_index.specs.Next.{least_first_past, number_within}
 use Rattle.cdf_puts.proofs.CoveringRanges.{next_upto}
 

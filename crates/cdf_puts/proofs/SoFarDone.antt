@@ -1,20 +1,14 @@
 -- Once all records up to r are put, and MaxRec is raised where r is past it, the image follows the command.
-use Rattle.std.proofs.Common.{◌≡◌, ℕ, ◌+◌, ◌<◌, ◌≤◌, List, length, false, Option, Some, None, true≢false, refl, sym, ap, subst, ◌∙◌, arith}
-use Rattle.cdf_puts.proofs.Common.{same_Some, Kind, turned, DataSet, Variable, extent, Found, pad_record, with_record, with_variable, Allowances, AllKeep, shapes_of, put_changes, put_room, Act, content, variable_of, Nodes, owned, VariableShape, shape, is_little, max_rec_at, type_of_variable, found_in, MaxRecDone, SoFar, taken_bytes, GoesOn}
+use Rattle.cdf_puts.proofs.Common.{same_Some, Kind, turned, DataSet, Variable, extent, Found, pad_record, with_record, with_variable, Allowances, AllKeep, shapes_of, put_changes, put_room, Act, content, variable_of, Nodes, owned, VariableShape, shape, is_little, max_rec_at, type_of_variable, found_in, MaxRecDone, SoFar, taken_bytes, GoesOn, ◌≡◌, ℕ, ◌+◌, ◌<◌, ◌≤◌, List, length, false, Option, Some, None, true≢false, refl, sym, ap, subst, ◌∙◌, arith, slice_get, variable_named, stays_all, PutsRecord, room, room_of_variable}
 use Rattle.cdf_edits.proofs.Commands.ListParts.{got-middle}
-use Rattle.std.specs.List.{slice_get}
 use Rattle.cdf_model.specs.declared.answer.Reply.TheVariants as replies
 use Rattle.cdf_model.specs.declared.command.Command.{Command}
 use Rattle.cdf_model.specs.declared.command.Command.TheVariants as commands
 use Rattle.cdf_model.specs.Answers.{Go}
-use Rattle.cdf_model.specs.Names.{variable_named}
 use Rattle.cdf_model.specs.Step.{ByStep, step}
-use Rattle.cdf_edits.specs.Commands.Allowances.{stays_all}
 use Rattle.cdf_edits.specs.Commands.Does.{Does}
 use Rattle.cdf_edits.specs.Commands.Keeps.{allowances}
 use Rattle.cdf_edits.specs.Commands.Named.{OfVariable}
-use Rattle.cdf_edits.specs.Commands.Puts.{PutsRecord}
-use Rattle.cdf_edits.specs.Commands.Room.{room, room_of_variable}
 use Rattle.cdf_edits.specs.Follows.{Follows, only_reads}
 use Rattle.cdf_puts.proofs.DoneBytes.{keeps, is_put, index_done, bytes_done}
 use Rattle.cdf_puts.proofs.LastImage.{LastImage, last_image, put_content}

@@ -1,6 +1,4 @@
-use Rattle.std.proofs.Common.{◌≡◌, ◌+◌, ◌-◌, ◌∙◌, ℕ, List, None, refl, sym, ap, subst}
-use Rattle.cdf_puts.proofs.Common.{Frame, edit_done, edit_failed, edit_more, edits_by_read, keeps_by_read, read_once, IsBody, leaves_of, shape, variables, vdrs, In, Good, HasIndex, index_at, leaf_of, IsPut, last_in_new, records_put, IsBlockBody}
-use Rattle.cdf_area.proofs.Calls.{edit_without_memory}
+use Rattle.cdf_puts.proofs.Common.{Frame, edit_done, edit_failed, edit_more, edits_by_read, keeps_by_read, read_once, IsBody, leaves_of, shape, variables, vdrs, In, Good, HasIndex, index_at, leaf_of, IsPut, last_in_new, records_put, IsBlockBody, ◌≡◌, ◌+◌, ◌-◌, ◌∙◌, ℕ, List, None, refl, sym, ap, subst, edit_without_memory}
 use Rattle.cdf_puts.proofs.PutSpot.{body_is, AddsOn, added_on, few_most, good, has_index, room_after, some_most, vdr_in}
 use Rattle.cdf_puts.proofs.putting.add_block.Goals as goal
 

@@ -1,6 +1,5 @@
 use Rattle.cdf_puts.proofs.putting.last_of_new.Goals as goal
-use Rattle.std.proofs.Common.{◌∙◌}
-use Rattle.cdf_puts.proofs.Common.{firsts_of, next_first, index_at}
+use Rattle.cdf_puts.proofs.Common.{firsts_of, next_first, index_at, ◌∙◌}
 use Rattle.cdf_puts.proofs.CoveringRanges.{next_past}
 use Rattle.cdf_puts.proofs.NewBlocks.{bound_is, least_end, least_past, least_is}
 
