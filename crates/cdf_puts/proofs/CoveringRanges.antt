@@ -1,6 +1,5 @@
 -- Records that get a block one after the other: by their ranges, in the room of a put, which is enough for them, and in an index.
-use Rattle.std.proofs.Common.{min, max}
-use Rattle.cdf_puts.proofs.Common.{le-ltb, lt-ltb, find, filter, fold, option_map, Variable, extent, record_number_limit, Nodes, no_node, node, Entries, no_entry, block, lower, Leaf, either, Range, range, covers, shared, block_count, next_first, new_range, Ascending, length-append, entry_count, widest, vxr_bytes, uncovered, blocks_room, put_room, ranges_of, record_length, is_sparse, first_written, new_room, times_le, node_bytes, leaf, leaves_of, firsts_of, ranges_after_put, with_leaf, find_covering, covers_within, InOrder, leaves_more, new_last, block_bytes, Covering, ◌≡◌, ◌⊎◌, ℕ, zero, suc, ◌+◌, ◌-◌, ◌<◌, ◌≤◌, List, [], ◌∷◌, map, true, false, ltb, Option, Some, None, refl, sym, ap, ◌∙◌, arith, inl, inr, ◌*◌, length, eqb, ap₂, subst, cases_eq, cases_lt, nat_tests, sum_by-cons, covered, with_range, quotient_up, ranges_new, Ahead, Counted, count_upto, order_with_leaf}
+use Rattle.cdf_puts.proofs.Common.{min, max, le-ltb, lt-ltb, find, filter, fold, option_map, Variable, extent, record_number_limit, Nodes, no_node, node, Entries, no_entry, block, lower, Leaf, either, Range, range, covers, shared, block_count, next_first, new_range, Ascending, length-append, entry_count, widest, vxr_bytes, uncovered, blocks_room, put_room, ranges_of, record_length, is_sparse, first_written, new_room, times_le, node_bytes, leaf, leaves_of, firsts_of, ranges_after_put, with_leaf, find_covering, covers_within, InOrder, leaves_more, new_last, block_bytes, Covering, ◌≡◌, ◌⊎◌, ℕ, zero, suc, ◌+◌, ◌-◌, ◌<◌, ◌≤◌, List, [], ◌∷◌, map, true, false, ltb, Option, Some, None, refl, sym, ap, ◌∙◌, arith, inl, inr, ◌*◌, length, eqb, ap₂, subst, cases_eq, cases_lt, nat_tests, sum_by-cons, covered, with_range, quotient_up, ranges_new, Ahead, Counted, count_upto, order_with_leaf}
 use Rattle.cdf_edits.specs.Index.Blocks.{cover, firsts_of, entry_firsts}
 use Rattle.cdf_index.proofs.LeavesAscend.{leaves_ascend}
 use Rattle.cdf_edits.specs.Commands.Room.{entries_in, entries_below}
