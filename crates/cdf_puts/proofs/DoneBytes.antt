@@ -120,15 +120,9 @@ module _ {b now last : List ℕ} {kind : Kind} {before : List VariableShape} {ow
 
   -- ---- the whole
 
-  last_nodes : NodesSoFar b last own own' acts
-  last_nodes = nodes_still so.index.nodes (λ m i. Each-in (NodeFits now) (nodes_of own'.index) (fits so.goes.good so.goes.among).1 m i) (λ m i. img.behind m (node_behind own' m i))
-
-  ranges_done : ranges_of own'.index ≡ ranges_after_put v own.index r
-  ranges_done = covering_done so.covers (omega arith)
-
   pub index_done : PutsIndex b last v r own own' acts
   index_done = record {
-    ranges = ranges_done;
+    ranges = covering_done so.covers (omega arith);
     middle = own.index;
     cut = [];
     put = acts;
@@ -136,7 +130,7 @@ module _ {b now last : List ℕ} {kind : Kind} {before : List VariableShape} {ow
     cuts = subst (CutsFirst b last v own own' own.index []) (sym uncut) (refl, refl);
     puts = puts;
     tail = tail;
-    nodes = last_nodes.follow;
+    nodes = (nodes_still so.index.nodes (λ m i. Each-in (NodeFits now) (nodes_of own'.index) (fits so.goes.good so.goes.among).1 m i) (λ m i. img.behind m (node_behind own' m i))).follow;
     freed = none_given b last acts acts so.takes;
     nodes_freed = no_node_given b last acts acts so.takes;
   }
@@ -148,11 +142,8 @@ module _ {b now last : List ℕ} {kind : Kind} {before : List VariableShape} {ow
 
   -- ---- the leaves by now
 
-  last_packed : is_compressed last own'.vdr ≡ false
-  last_packed = later_packed so.start.good so.start.among put ∙ so.start.loose
-
   last_plain : (l : Leaf) → IsOneOf leaves l → PlainLeaf last size l
-  last_plain l i = subst (λ (n : ℕ). PlainLeaf last n l) size_last (plain_leaf put.good put.among last_packed l i)
+  last_plain l i = subst (λ (n : ℕ). PlainLeaf last n l) size_last (plain_leaf put.good put.among (later_packed so.start.good so.start.among put ∙ so.start.loose) l i)
 
   inside_last : (l : Leaf) → IsOneOf leaves l → l.place + size_at last l.place ≤ length last
   inside_last l i = (tile_lies last 8 (length last) (shape last).records l.place (sound put.good put.among).has_shape.tiled (behind_in put.good put.among l.place (block_behind own' l.place (place_in leaves l i)))).high
@@ -343,13 +334,10 @@ module _ {b now last : List ℕ} {kind : Kind} {before : List VariableShape} {ow
   -- ---- pads
 
   module _ (pad_stored : extent (max_rec_at b own.vdr) ≤ r → pad ≡ turned (type_of_variable b own.vdr) (is_little b) (pad_record v)) where
-    abbrev pad_bytes : List ℕ
-    pad_bytes = turned v.type (is_little last) (pad_record v)
-
-    pad_now : most ≤ r → pad ≡ pad_bytes
+    pad_now : most ≤ r → pad ≡ (turned v.type (is_little last) (pad_record v))
     pad_now le = pad_stored le ∙ ap (λ (c : Bool). turned v.type c (pad_record v)) (sym put.file.little)
 
-    new_pads : (l : Leaf) → IsOneOf leaves l → NewBlock last raw pad r first most (r + 1) size acts l → drop (stored_in v r l * size) (plain_bytes last own'.vdr l) ≡ repeat (records_of_leaf l - stored_in v r l) pad_bytes
+    new_pads : (l : Leaf) → IsOneOf leaves l → NewBlock last raw pad r first most (r + 1) size acts l → drop (stored_in v r l * size) (plain_bytes last own'.vdr l) ≡ repeat (records_of_leaf l - stored_in v r l) (turned v.type (is_little last) (pad_record v))
     new_pads l i n =
         let x = last_plain l i in
         let count = count_is l x.small x.ordered in
@@ -361,7 +349,7 @@ module _ {b now last : List ℕ} {kind : Kind} {before : List VariableShape} {ow
         let part = length-drop (l.place + 12) last in
         let long : length bytes ≡ (l.last + 1 - l.first) * size = ap length whole ∙ length-take ((l.last + 1 - l.first) * size) (drop (l.place + 12) last) ∙ omega arith in
         let minus = mul-sub size (l.last + 1 - l.first) stored in
-        pieces_repeat (records_of_leaf l - stored) size pad_bytes (drop (stored * size) bytes)
+        pieces_repeat (records_of_leaf l - stored) size (turned v.type (is_little last) (pad_record v)) (drop (stored * size) bytes)
         (length-drop (stored * size) bytes ∙ ap (λ (m : ℕ). m - stored * size) long ∙ (let e : (l.last + 1 - l.first) * size - stored * size ≡ (l.last + 1 - l.first - stored) * size = omega arith in e) ∙ ap (λ (m : ℕ). (m - stored) * size) (sym count))
         (λ i' lt.
         let lt' : i' < (l.last + 1 - l.first) - stored = subst (λ (m : ℕ). i' < m - stored) count lt in

@@ -112,9 +112,6 @@ module _ {b now now' : List ℕ} {kind : Kind} {before : List VariableShape} {ow
 
   -- ---- their bytes
 
-  goes_on : BlocksGoOn now now' own' new records
-  goes_on = blocks_go_on so.goes.good so.goes.among w holds
-
   size_after : record_bytes now' own'.vdr ≡ size
   size_after = record_alike (file so.goes.good so.goes.among w) (vdr_alike so.goes.good so.goes.among (index_edit so.goes.good so.goes.among (new_index so.goes.good so.goes.among w (plain_body body records holds)))) ∙ size_now so
 
@@ -122,7 +119,7 @@ module _ {b now now' : List ℕ} {kind : Kind} {before : List VariableShape} {ow
   longer = (file so.goes.good so.goes.among w).longer
 
   same : (l : Leaf) → IsOneOf leaves l → Same now now' l.place (l.place + size_at now l.place)
-  same l i = of_each (λ (l : Leaf). Same now now' l.place (l.place + size_at now l.place)) leaves l goes_on.old i
+  same l i = of_each (λ (l : Leaf). Same now now' l.place (l.place + size_at now l.place)) leaves l (blocks_go_on so.goes.good so.goes.among w holds).old i
 
   leaf_apart : (l : Leaf) → IsOneOf leaves l → is_taken_at step l.place ≡ false
   leaf_apart l i = used_apart so.goes.good so.goes.among w l.place (behind_in so.goes.good so.goes.among l.place (block_behind own' l.place (place_in leaves l i))) (λ e. absurd (apart vvr_type uir_type refl (sym (now_plain so l i).typed ∙ e)))
@@ -149,14 +146,14 @@ module _ {b now now' : List ℕ} {kind : Kind} {before : List VariableShape} {ow
     plain = refl;
     was_taken = taken_then acts step place (block_taken place (8 + length body) (new_room k own'.index) at);
     written = λ j f t. sym (plain_piece now' own'.vdr size j new refl small size_after f t) ∙ ap (λ (xs : List ℕ). take size (drop ((j - k) * size) xs)) plain_is ∙ says.written j f t;
-    spare = λ i low high. goes_on.spare i (subst (λ (n : ℕ). 12 + n ≤ i) (sym says.as_long) low) high;
+    spare = λ i low high. (blocks_go_on so.goes.good so.goes.among w holds).spare i (subst (λ (n : ℕ). 12 + n ≤ i) (sym says.as_long) low) high;
   }
     where
       plain_is : plain_bytes now' own'.vdr new ≡ records
       plain_is =
           let count = count_is new small vacant.ordered in
           let bytes = size_after in
-          ap (λ (n : ℕ). take n (drop (place + 12) now')) ((λ i. count i * bytes i) ∙ sym says.as_long) ∙ goes_on.records_are
+          ap (λ (n : ℕ). take n (drop (place + 12) now')) ((λ i. count i * bytes i) ∙ sym says.as_long) ∙ (blocks_go_on so.goes.good so.goes.among w holds).records_are
 
   pub blocks_added : BlocksSoFar b now' own own'' raw pad r first upto (acts ++ step)
   blocks_added = record {

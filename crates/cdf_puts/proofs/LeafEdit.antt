@@ -147,12 +147,8 @@ module _ {b now : List ℕ} {kind : Kind} {before : List VariableShape} {own : V
   sound : IsSound b (shape b)
   sound = good_is_sound b good
 
-  -- the block is placed, and then the node
-  pub block_placed : Grows b w.filled (placing_marks (shape b).unused new.place need) (new.place ∷ [])
-  block_placed = placed_grows sound w.block.fills
-
   pub node_taking : TakenAll w.filled w.roomy (node_acts room at) (new_nodes room at) enough
-  node_taking = node_takes room at block_placed.sound block_placed.end_is w.node (omega arith)
+  node_taking = node_takes room at (placed_grows sound w.block.fills).sound (placed_grows sound w.block.fills).end_is w.node (omega arith)
 
   pub taking : TakenAll b w.roomy (leaf_acts new.place need room at) reborn enough
   taking = taken_then sound w.block.fills (omega arith) node_taking
@@ -215,7 +211,7 @@ module _ {b now : List ℕ} {kind : Kind} {before : List VariableShape} {own : V
         let fits_now = through (t.place + t.width) (28 + 16 * room_at w.roomy t.tile) (size_at w.roomy t.tile) n.1 (node_fits t.tile n.0) in
         marked t x.0 inside fits_now (type_kept b w.roomy t.tile k.same k.long ∙ node_typed t.tile n.0) (In-append_right t.tile (new_nodes room at) nodes n.0)
     | inr n ↦
-        let there = node_stands room at block_placed.sound w.node n.0 in
+        let there = node_stands room at (placed_grows sound w.block.fills).sound w.node n.0 in
         let q = n.1 in
         marked t x.0 (subst (λ (m : ℕ). In m (shape w.roomy).records) (sym q) there.inside)
         (subst (λ (m : ℕ). t.place + t.width ≤ size_at w.roomy m) (sym q) (subst (λ (k : ℕ). t.place + t.width ≤ k) (sym there.size_is) n.2))
@@ -256,27 +252,20 @@ module _ {b now : List ℕ} {kind : Kind} {before : List VariableShape} {own : V
 
   -- ---- what is new
 
-  -- the block is in use once it is written
-  pub block_in : In new.place (shape w.filled).records
-  block_in = placed_in sound w.block.fills
-
   -- ---- the new records
 
   -- nothing of the block is written once it is placed
   pub placed_kept : type_of_body body ≡ vvr_type → Kept w.filled now new.place
-  placed_kept plain = kept (edit_then node_taking.grows.edit entries_written) new.place vvr_type block_in (w.block.fills.typed ∙ plain) (late_clear kind)
+  placed_kept plain = kept (edit_then node_taking.grows.edit entries_written) new.place vvr_type (placed_in sound w.block.fills) (w.block.fills.typed ∙ plain) (late_clear kind)
     where
       late_clear : (kind : Kind) → unmarked (leaf_marks kind v (shape w.filled).unused (new_nodes room at) (new_nodes room at ++ nodes) enough most) vvr_type ≡ true
       late_clear R = refl
       late_clear Z = refl
 
-  pub placed_size : size_at w.filled new.place ≡ need
-  placed_size = filled_size sound w.block.fills
-
   -- the new node has its type and its size
   pub node_now : 0 < room → (type_at now at ≡ vxr_type) × (size_at now at ≡ vxr_bytes room)
   node_now some =
-      let there = node_stands room at block_placed.sound w.node some in
+      let there = node_stands room at (placed_grows sound w.block.fills).sound w.node some in
       let avoid : Avoids (entry_marks kind v (new_nodes room at ++ nodes) most) vxr_type at 0 12 = ((λ same lies. absurd (vdr_no_node kind (sym same))), ((λ same lies. inl (omega arith)), tt)) in
       let head = entries_written.part at vxr_type 0 12 there.inside there.typed avoid avoid (subst (λ (n : ℕ). 12 ≤ n) (sym there.size_is) (omega arith)) in
       (head_type w.roomy now at head ∙ there.typed, head_size w.roomy now at head ∙ there.size_is)
@@ -297,7 +286,7 @@ module _ {b now : List ℕ} {kind : Kind} {before : List VariableShape} {own : V
     | inl x ↦
         let k = placed_kept plain in
         let type = x.1 in
-        let size : size_at now m ≡ need = ap (size_at now) x.0 ∙ size_kept w.filled now new.place k.same (let l = k.long in omega arith) ∙ placed_size in
+        let size : size_at now m ≡ need = ap (size_at now) x.0 ∙ size_kept w.filled now new.place k.same (let l = k.long in omega arith) ∙ filled_size sound w.block.fills in
         rw (type, size) (refl, subst (λ (t : ℕ). fixed_size t ≤ need) plain w.block.fills.fixed)
     | inr x ↦
         let type = x.2 in
@@ -421,11 +410,8 @@ module _ {b now : List ℕ} {kind : Kind} {before : List VariableShape} {own : V
     k : Kept w.filled now new.place
     k = placed_kept plain
 
-    pub vvr_now : type_at now new.place ≡ vvr_type
-    vvr_now = type_kept w.filled now new.place k.same k.long ∙ w.block.fills.typed ∙ plain
-
     pub block_size : size_at now new.place ≡ 8 + length body
-    block_size = size_kept w.filled now new.place k.same (let l = k.long in omega arith) ∙ placed_size
+    block_size = size_kept w.filled now new.place k.same (let l = k.long in omega arith) ∙ filled_size sound w.block.fills
 
     pub size_needed : 8 + length body ≡ max 28 (12 + length records)
     size_needed = let e = says.as_long in omega arith
@@ -433,7 +419,7 @@ module _ {b now : List ℕ} {kind : Kind} {before : List VariableShape} {own : V
     -- its bytes behind its size
     body_at : (i : ℕ) → i < length body → byte now (new.place + 8 + i) ≡ byte body i
     body_at i lt =
-        let size = placed_size in
+        let size = filled_size sound w.block.fills in
         k.same.each (new.place + 8 + i) (omega arith) (omega arith) ∙ ap (λ (xs : List ℕ). byte xs (new.place + 8 + i)) w.block.written ∙ byte-put_inside w.block.taken (new.place + 8) body i (let l = w.block.inside in omega arith) lt
 
     abbrev n : ℕ
@@ -441,7 +427,7 @@ module _ {b now : List ℕ} {kind : Kind} {before : List VariableShape} {own : V
 
     records_now : take n (drop (new.place + 12) now) ≡ records
     records_now =
-        let size = placed_size in
+        let size = filled_size sound w.block.fills in
         let inside : new.place + size_at w.filled new.place ≤ length w.filled = k.inside in
         let grows : length w.filled ≤ length w.roomy = (node_taking).grows.edit.longer in
         let e : length (take n (drop (new.place + 12) now)) ≡ n = simp (length-take, length-drop) (omega arith) in
@@ -488,13 +474,10 @@ module _ {b now : List ℕ} {kind : Kind} {before : List VariableShape} {own : V
       abbrev x : IndexEdit b now kind own (with_leaf new at own.index) records' (shape w.roomy).unused marks reborn
       x = index_edit good among (changed plain)
 
-      same_bytes : record_bytes now v ≡ record_bytes b v
-      same_bytes = record_alike (file) (vdr_alike good among x)
-
       block_rows : (l : Leaf) → In l.place records' → type_at now l.place ≡ vvr_type → l.first ≤ l.last → l.last ≤ record_number_limit → 12 + (l.last + 1 - l.first) * record_bytes b v ≤ size_at now l.place → (is_block now records' l.place ≡ true) × Hold (leaf_rows now records' v l)
       block_rows l stands typed ordered small fit =
           let is = is_a-from now records' vvr_type l.place stands typed in
-          let plain_bytes : plain_size now v l ≡ (l.last + 1 - l.first) * record_bytes b v = (let c = count_is l small ordered in let n = same_bytes in λ i. c i * n i) in (
+          let plain_bytes : plain_size now v l ≡ (l.last + 1 - l.first) * record_bytes b v = (let c = count_is l small ordered in let n = record_alike file (vdr_alike good among x) in λ i. c i * n i) in (
             ap (λ (p : Bool). p || is_a now records' cvvr_type l.place) is,
             Hold-append (asked (is_a now records' vvr_type l.place) (vvr_rows now v l)) (asked (is_a now records' cvvr_type l.place) (cvvr_rows now v l))
                 (asked_hold (is_a now records' vvr_type l.place) (vvr_rows now v l) (λ e. (of_le (12 + plain_size now v l) (size_at now l.place) (subst (λ (n : ℕ). 12 + n ≤ size_at now l.place) (sym plain_bytes) fit), tt)))
@@ -511,7 +494,7 @@ module _ {b now : List ℕ} {kind : Kind} {before : List VariableShape} {own : V
 
       new_leaf : (is_block now records' new.place ≡ true) × Hold (leaf_rows now records' v new)
       new_leaf =
-          block_rows new ((node_taking).grows.edit.sub new.place (block_in)) vvr_now vacant.ordered (before_limit new.first new.last (firsts_of own.index) vacant.before_next)
+          block_rows new (node_taking.grows.edit.sub new.place (placed_in sound w.block.fills)) (type_kept w.filled now new.place k.same k.long ∙ w.block.fills.typed ∙ plain) vacant.ordered (before_limit new.first new.last (firsts_of own.index) vacant.before_next)
           (subst (λ (n : ℕ). 12 + n ≤ size_at now new.place) as_long (let size = block_size ∙ size_needed in omega arith))
 
       each_leaf : (l : Leaf) → IsOneOf (leaves_of mine.index) l → (is_block now records' l.place ≡ true) × Hold (leaf_rows now records' v l)

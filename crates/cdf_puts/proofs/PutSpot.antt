@@ -277,12 +277,9 @@ module _ {b now : List ℕ} {kind : Kind} {before : List VariableShape} {own : V
         holds = subst (HoldsRecords now l) sized held.0
 
         module _ (bytes : List ℕ) (bytes_are : bytes ≡ record_put new.raw.items new.pad.items new.rec k) where
-          bytes_long : length bytes ≡ size
-          bytes_long = ap length bytes_are ∙ record_long new.raw.items new.pad.items new.rec size p.start.raw_long p.pad_long k
-
           pub held_within : (k - l.first) * n + length bytes ≤ (l.last + 1 - l.first) * n
           held_within =
-              let long = bytes_long ∙ sym size_now ∙ sized in
+              let long = (ap length bytes_are ∙ record_long new.raw.items new.pad.items new.rec size p.start.raw_long p.pad_long k) ∙ sym size_now ∙ sized in
               let from = held.1 in
               let upto = held.2 in
               let room = times_le (suc (k - l.first)) (l.last + 1 - l.first) n (omega arith) in
@@ -336,14 +333,11 @@ module _ {b now : List ℕ} {kind : Kind} {before : List VariableShape} {own : V
             let enough = covering_room so.covers so.start.small more rule so.start.loose none in
             omega arith
 
-        room_left : length now + (8 + length body) + vxr_bytes (widest (index_at now head)) ≤ limit
-        room_left = subst (λ (x : Nodes). length now + (8 + length body) + vxr_bytes (widest x) ≤ limit) (sym index_is) room_here
-
         -- an image that is read in between
         pub room_after : {mid : List ℕ} {bound : ℕ} → mid ≡ now → bound ≡ limit → length mid + (8 + length body) + vxr_bytes (widest (index_at mid (number mid new.vdr vdr_vxr_head))) ≤ bound
         room_after {mid = mid} same bounded =
             subst (λ (n : ℕ). length mid + (8 + length body) + vxr_bytes (widest (index_at mid (number mid new.vdr vdr_vxr_head))) ≤ n) (sym bounded)
-            (subst (λ (x : List ℕ). length x + (8 + length body) + vxr_bytes (widest (index_at x (number x new.vdr vdr_vxr_head))) ≤ limit) (sym same) room_left)
+            (subst (λ (x : List ℕ). length x + (8 + length body) + vxr_bytes (widest (index_at x (number x new.vdr vdr_vxr_head))) ≤ limit) (sym same) (subst (λ (x : Nodes). length now + (8 + length body) + vxr_bytes (widest x) ≤ limit) (sym index_is) room_here))
 
         pub added_on : {now' : List ℕ} → AddsOn now now' new.vdr k end body → limit ≤ image_limit → IsPut b now' kind before own after new (min end new.rec + 1)
         added_on {now' = now'} adds upto =

@@ -36,31 +36,25 @@ module _ {b now last : List ℕ} {kind : Kind} {before : List VariableShape} {ow
   was_there : slice_get (shapes_of (shape b) kind) (length before) ≡ Some own
   was_there = ap (λ (vs : List VariableShape). slice_get vs (length before)) so.start.among.was ∙ got-middle before own after
 
-  is_there : slice_get (shapes_of (shape last) kind) (length before) ≡ Some own'
-  is_there = ap (λ (vs : List VariableShape). slice_get vs (length before)) put.among.was ∙ got-middle before own' after
-
   module _ (name : List ℕ) (named : variable_named (content b) name ≡ Some found) where
     puts_named : OfVariable b last name (λ found v v'. PutsRecord b last found.kind found.variable r v v' acts)
     puts_named found' x x' is =
         let q : found ≡ found' = same_Some found found' (sym named ∙ is.named) in
         let was : own ≡ x = same_Some own x (sym was_there ∙ ap (λ (f : Found). slice_get (shapes_of (shape b) f.kind) f.number) q ∙ is.before) in
-        let now_is : own' ≡ x' = same_Some own' x' (sym is_there ∙ ap (λ (f : Found). slice_get (shapes_of (shape last) f.kind) f.number) q ∙ is.after) in
+        let now_is : own' ≡ x' = same_Some own' x' (sym (ap (λ (vs : List VariableShape). slice_get vs (length before)) put.among.was ∙ got-middle before own' after) ∙ ap (λ (f : Found). slice_get (shapes_of (shape last) f.kind) f.number) q ∙ is.after) in
         subst (λ (f : Found). PutsRecord b last f.kind f.variable r x x' acts) q (subst (λ (y : VariableShape). PutsRecord b last kind v r y x' acts) was (subst (λ (y : VariableShape). PutsRecord b last kind v r own y acts) now_is so_far_done))
 
     fits : taken_bytes acts ≤ put_room v own.index r
     fits = so.covers.fits
 
     module _ (bytes : List ℕ) (raw_is : turned (type_of_variable b own.vdr) (is_little b) raw ≡ bytes) (pad_is : extent (max_rec_at b own.vdr) < r → turned (type_of_variable b own.vdr) (is_little b) pad ≡ pad_record v) where
-      pub content_done : content last ≡ with_variable (content b) found (with_record v r bytes)
-      content_done = put_content so.start.good so.start.among put (is_put so done) bytes raw_is pad_is
-
       follows_by : (c : Command) → only_reads c ≡ false → step (content b) c ≡ ByStep (Go (with_variable (content b) found (with_record v r bytes)) replies.Plain) → room b c ≡ put_room v own.index r → allowances b (content b) (shape b) c ≡ put_changes b (shape b) found r → Does b c last acts → Follows b c last
       follows_by c changes goes room_is may does =
           let fits_in : taken_bytes acts ≤ room b c = subst (λ (n : ℕ). taken_bytes acts ≤ n) (sym room_is) fits in
           let long = longer_by b last acts put.follow so.takes in
           record {
             reply = replies.Plain;
-            goes = goes ∙ ap (λ (d : DataSet). ByStep (Go d replies.Plain)) (sym content_done);
+            goes = goes ∙ ap (λ (d : DataSet). ByStep (Go d replies.Plain)) (sym (put_content so.start.good so.start.among put (is_put so done) bytes raw_is pad_is));
             good = put.good;
             longer = put.file.longer;
             within = omega arith;
