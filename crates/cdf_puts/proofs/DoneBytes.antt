@@ -1,5 +1,5 @@
 -- All records are put: the index, what was taken for it and the bytes of the blocks are as the command says, and what is stored as each record.
-use Rattle.cdf_puts.proofs.Common.{find, eq-eqb, ◌&&◌, Outside-append, cases_lt, ne_eqb, option_map, min, if◌then◌else◌, Kind, Sparse, Variable, extent, record_number_limit, range, covers, first_written, is_sparse, stored_bytes, Act, IsOneOf, find_covering, covers_within, place_in, record_place, plain_piece, PlainLeaf, plain_leaf, leaves_ascend, block_behind, sound, behind_in, Same, variable_of, size_at, Leaf, leaves_of, VariableShape, is_compressed, shape, record_bytes, max_rec_at, piece_kept, tile_lies, MaxRecDone, SoFar, OldBlock, NewBlock, record_of, put_from, put_count, filter, list_any, nat_lt, PutsLeaves, ranges_of, cuts_before_put, ranges_after_put, is_taken_at, top_chain, last_node, node_behind, fits, Each-in, number, vdr_vxr_tail, NodeFits, In, bytes_eq-same, same_of_bytes_eq, NodesSoFar, length-take, length-drop, drop-drop, ◌==◌, turned, pad_record, r_max_rec_field, max_rec_touches, uncovered, put_room, blocks_room, packed_room, Touch, Outside, Changed, space_before, each_of, count_is, plain_bytes, vdr_max_rec, is_little, records_of_leaf, type_of_variable, either, both, put_touches, taken_bytes, GoesOn, is_rewritten, In-append, places_of, is_in, other_kind, true-is_in, eqb-true, uir_type, false-is_in, ◌≡◌, ◌≢◌, ◌⊎◌, ℕ, suc, ◌+◌, ◌-◌, ◌*◌, ◌<◌, ◌≤◌, List, length, take, drop, false, Some, None, refl, sym, ap, subst, ◌∙◌, arith, inl, inr, [], ◌∷◌, ◌++◌, append-nil, Bool, true, bytes_eq, zero, map, true≢false, take-append-drop, leaf_at, unwritten_apart, written_fits, mul-sub, transport, type_at, nat_tests, anything_if, Allowances, Keeps, AllKeep, unused_allowance, is_taken, shapes_of, Only, OneVariable, variable_records, unused_records, owned, Unused, keep_all, keep_file, keep_places, keep_kinds, keep_variable_parts, keep_attributes, keep_variables, keeps_stood, filter-says, unused_in, CutsFirst, PutsIndex, is_written, PutsBytes, StaysUnwritten, UnwrittenStay, HoldsPads, is_changed, was_leaf, written_in, stays_in_place, stored_in, put_changes, top_stays, TailFollows, block_end, SpareIs, ReservedIs, BlockFollows, nodes_of, repeat, touched_field, cut_open, ranges_before_put, changed_then, eq_of}
+use Rattle.cdf_puts.proofs.Common.{find, eq-eqb, ◌&&◌, Outside-append, cases_lt, ne_eqb, option_map, min, if◌then◌else◌, Kind, Sparse, Variable, extent, record_number_limit, range, covers, first_written, is_sparse, stored_bytes, Act, IsOneOf, find_covering, covers_within, place_in, record_place, plain_piece, PlainLeaf, plain_leaf, leaves_ascend, block_behind, sound, behind_in, Same, variable_of, size_at, Leaf, leaves_of, VariableShape, shape, record_bytes, max_rec_at, piece_kept, tile_lies, MaxRecDone, SoFar, OldBlock, NewBlock, record_of, put_from, put_count, filter, list_any, nat_lt, PutsLeaves, ranges_of, cuts_before_put, is_taken_at, top_chain, last_node, node_behind, fits, Each-in, number, vdr_vxr_tail, NodeFits, In, bytes_eq-same, same_of_bytes_eq, length-take, length-drop, drop-drop, ◌==◌, turned, pad_record, r_max_rec_field, max_rec_touches, uncovered, put_room, blocks_room, packed_room, Touch, Outside, Changed, space_before, each_of, count_is, plain_bytes, vdr_max_rec, is_little, records_of_leaf, type_of_variable, either, both, put_touches, taken_bytes, GoesOn, is_rewritten, In-append, places_of, is_in, other_kind, true-is_in, eqb-true, uir_type, false-is_in, ◌≡◌, ◌≢◌, ◌⊎◌, ℕ, suc, ◌+◌, ◌-◌, ◌*◌, ◌<◌, ◌≤◌, List, length, take, drop, false, Some, None, refl, sym, ap, subst, ◌∙◌, arith, inl, inr, [], ◌∷◌, ◌++◌, append-nil, Bool, true, bytes_eq, zero, map, true≢false, take-append-drop, leaf_at, unwritten_apart, written_fits, mul-sub, transport, type_at, nat_tests, anything_if, Allowances, Keeps, AllKeep, unused_allowance, is_taken, shapes_of, Only, OneVariable, variable_records, unused_records, owned, Unused, keep_all, keep_file, keep_places, keep_kinds, keep_variable_parts, keep_attributes, keep_variables, keeps_stood, filter-says, unused_in, CutsFirst, PutsIndex, is_written, PutsBytes, StaysUnwritten, UnwrittenStay, HoldsPads, is_changed, was_leaf, written_in, stays_in_place, stored_in, put_changes, top_stays, TailFollows, block_end, SpareIs, ReservedIs, BlockFollows, nodes_of, repeat, touched_field, cut_open, ranges_before_put, changed_then, eq_of}
 use Rattle.cdf_edits.proofs.Edits.LeafPieces.{found_in}
 use Rattle.cdf_puts.specs.Going.{found_in as own_found}
 use Rattle.cdf_puts.proofs.PutRules.{no_cpr}

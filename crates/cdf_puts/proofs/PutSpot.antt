@@ -1,5 +1,5 @@
 -- Where the next record is put: the records of a new block, each step by which records are put, and what an image says of a variable of which some records are put.
-use Rattle.cdf_puts.proofs.Common.{length-append, take_at, drop_at, drop-drop, ◌==◌, IsBody, uir_type, vvr_type, is_record_type, fixed_size, either, records_put, BlockRecords, record_of, IsBlockBody, min, max, if◌then◌else◌, image_limit, Kind, vxr_bytes, firsts_of, new_range, first_written, is_sparse, with_leaf, new_room, Act, variable_of, number, Nodes, leaf, vdr_max_rec, VariableShape, Each, shape, record_bytes, max_rec_at, LeafAdded, leaf_acts, own_rules, has, fits, Covering, block_bytes, node_bytes, GoesOn, PutStart, SoFar, IsTaking, taken_bytes, RecordsWritten, IsVacant, index_order, find, widest, range, covers, next_first, block_count, record_length, times_le, StandsAmong, long, tile, leaves_of, vdr_vxr_head, variables, vdrs, IsSound, In, sparse_at, Good, good_by_its_shape, good_is_sound, tile_lies, NodeTaken, HasIndex, index_at, leaf_of, Variable, extent, new_last, IsPut, SomePut, last_in_new, ◌≡◌, ℕ, zero, suc, ◌+◌, ◌-◌, ◌*◌, ◌<◌, ◌≤◌, List, ◌++◌, append_assoc, append-nil, length, take, drop, sym, ap, subst, ◌∙◌, arith, inl, inr, [], ◌∷◌, false, refl, Some, None, ltb, div-le_self, transport, nat_tests, in_middle, AddsLeaf, Putting, PutsOn, SomePutting, most_in_block, PutsUpTo, record_put}
+use Rattle.cdf_puts.proofs.Common.{length-append, drop_at, ◌==◌, IsBody, uir_type, vvr_type, is_record_type, fixed_size, either, records_put, BlockRecords, record_of, IsBlockBody, min, max, if◌then◌else◌, image_limit, Kind, vxr_bytes, firsts_of, new_range, first_written, is_sparse, with_leaf, new_room, Act, variable_of, number, Nodes, leaf, vdr_max_rec, VariableShape, Each, shape, record_bytes, max_rec_at, LeafAdded, leaf_acts, own_rules, has, fits, Covering, block_bytes, node_bytes, GoesOn, PutStart, SoFar, IsTaking, taken_bytes, RecordsWritten, IsVacant, index_order, find, widest, range, covers, next_first, block_count, record_length, times_le, StandsAmong, long, tile, leaves_of, vdr_vxr_head, variables, vdrs, IsSound, In, sparse_at, good_by_its_shape, good_is_sound, tile_lies, NodeTaken, HasIndex, index_at, leaf_of, Variable, extent, new_last, IsPut, SomePut, last_in_new, ◌≡◌, ℕ, zero, suc, ◌+◌, ◌-◌, ◌*◌, ◌<◌, ◌≤◌, List, ◌++◌, append-nil, length, take, drop, sym, ap, subst, ◌∙◌, arith, inl, inr, [], ◌∷◌, false, refl, Some, None, ltb, div-le_self, transport, nat_tests, in_middle, AddsLeaf, Putting, PutsOn, SomePutting, most_in_block, PutsUpTo, record_put, cases_lt, length-drop}
 use Rattle.cdf_puts.proofs.LeafEdit.{r_max_rec_stays as leaf_r_max_rec, plain_body, leaf_goes_on, leaf_max_rec, size_needed}
 use Rattle.cdf_puts.proofs.CoveringRanges.{covering_starts, covering_has, covering_leaf, covering_room, covering_ends, Ends, one_at_least}
 use Rattle.cdf_puts.proofs.GoesThen.{later_size, later_packed, goes_nowhere, goes_then, goes_written}
@@ -22,17 +22,10 @@ use Rattle.cdf_index.proofs.GoodBlock.{good_block}
 use Rattle.cdf_index.proofs.GoodIndex.{good_index}
 use Rattle.cdf_index.proofs.PlainBlocks.{plain_block}
 use Rattle.cdf_puts.specs.declared.putting.NewRecord.{NewRecord}
-
--- one record more behind the others
-records_more : (raw pad : List ℕ) (r count k : ℕ) → records_put raw pad r (suc count) k ≡ records_put raw pad r count k ++ record_put raw pad r (k + count)
-records_more raw pad r zero k = let same : k ≡ k + 0 = omega arith in append-nil (record_put raw pad r k) ∙ ap (record_put raw pad r) same
-records_more raw pad r (suc count) k =
-    let later : suc k + count ≡ k + suc count = omega arith in
-    ap (λ (x : List ℕ). record_put raw pad r k ++ x) (records_more raw pad r count (suc k) ∙ ap (λ (n : ℕ). records_put raw pad r count (suc k) ++ record_put raw pad r n) later)
-    ∙ sym (append_assoc (record_put raw pad r k) (records_put raw pad r count (suc k)) (record_put raw pad r (k + suc count)))
+use Rattle.std.proofs.lemmas.List.{drop-append-le, take-append-le, take_all}
 
 pub one_more : (raw pad : List ℕ) (r count k : ℕ) → records_put raw pad r (count + 1) k ≡ records_put raw pad r count k ++ record_put raw pad r (k + count)
-one_more raw pad r count k = let next : count + 1 ≡ suc count = omega arith in ap (λ (n : ℕ). records_put raw pad r n k) next ∙ records_more raw pad r count k
+one_more raw pad r count k = let next : count + 1 ≡ suc count = omega arith in ap (λ (n : ℕ). records_put raw pad r n k) next
 
 module _ (raw pad : List ℕ) (r size : ℕ) (raw_long : length raw ≡ size) (pad_long : length pad ≡ size) where
   pub record_long : (k : ℕ) → length (record_put raw pad r k) ≡ size
@@ -40,33 +33,26 @@ module _ (raw pad : List ℕ) (r size : ℕ) (raw_long : length raw ≡ size) (p
 
   pub records_long : (count k : ℕ) → length (records_put raw pad r count k) ≡ count * size
   records_long zero k = omega arith
-  records_long (suc count) k =
-      let both = length-append (record_put raw pad r k) (records_put raw pad r count (suc k)) in
-      let here = record_long k in
-      let rest = records_long count (suc k) in
-      omega arith
+  records_long (suc count) k = omega (arith, length-append (records_put raw pad r count k) (record_put raw pad r (k + count)), record_long (k + count), records_long count k)
 
-  pub record_there : (count i k : ℕ) → i < count → take size (drop (i * size) (records_put raw pad r count k)) ≡ record_put raw pad r (k + i)
-  record_there zero i k lt = absurd (omega arith)
-  record_there (suc count) zero k lt =
-      let here = record_put raw pad r k in
-      let rest = records_put raw pad r count (suc k) in
-      let none : 0 * size ≡ 0 = omega arith in
-      let same : k ≡ k + 0 = omega arith in
-      ap (λ (n : ℕ). take size (drop n (here ++ rest))) none ∙ take_at here rest size (record_long k) ∙ ap (record_put raw pad r) same
-  record_there (suc count) (suc i) k lt =
-      let here = record_put raw pad r k in
-      let rest = records_put raw pad r count (suc k) in
-      let further : suc i * size ≡ size + i * size = omega arith in
-      let later : suc k + i ≡ k + suc i = omega arith in
-      ap (λ (n : ℕ). take size (drop n (here ++ rest))) further ∙ ap (take size) (sym (drop-drop (i * size) size (here ++ rest)) ∙ ap (drop (i * size)) (drop_at here rest size (record_long k)))
-      ∙ record_there count i (suc k) (omega arith) ∙ ap (record_put raw pad r) later
+  record_there : (count k j : ℕ) → k ≤ j → j < k + count → take size (drop ((j - k) * size) (records_put raw pad r count k)) ≡ record_put raw pad r j
+  record_there zero k j from upto = absurd (omega arith)
+  record_there (suc count) k j from upto =
+      let rest = records_put raw pad r count k in
+      let last = record_put raw pad r (k + count) in
+      elim (cases_lt j (k + count)) [
+        | inl lt ↦
+            let room = times_le (suc (j - k)) count size (omega arith) in
+            let long = records_long count k in
+            ap (take size) (drop-append-le ((j - k) * size) rest last (omega arith)) ∙ take-append-le size (drop ((j - k) * size) rest) last (omega (arith, length-drop ((j - k) * size) rest)) ∙ record_there count k j from lt
+        | inr ge ↦
+            let same : j ≡ k + count = omega arith in
+            let all : j - k ≡ count = omega arith in
+            ap (take size) (drop_at rest last ((j - k) * size) (records_long count k ∙ ap (λ (n : ℕ). n * size) (sym all))) ∙ take_all size last (omega (arith, record_long (k + count))) ∙ ap (record_put raw pad r) (sym same)
+      ]
 
   pub block_records : (k last : ℕ) → BlockRecords raw pad r k last size (records_put raw pad r (last + 1 - k) k)
-  block_records k last = record {
-    as_long = records_long (last + 1 - k) k;
-    written = λ j from upto. record_there (last + 1 - k) (j - k) k (omega arith) ∙ (let there : k + (j - k) ≡ j = omega arith in ap (record_of raw pad r) there);
-  }
+  block_records k last = record { as_long = records_long (last + 1 - k) k; written = λ j from upto. record_there (last + 1 - k) k j from (omega arith) }
 
 pub body_is : (body records : List ℕ) → IsBlockBody body records → IsBody body
 body_is body records says =
@@ -211,14 +197,11 @@ module _ {b now : List ℕ} {kind : Kind} {before : List VariableShape} {own : V
   abbrev size : ℕ
   size = record_bytes b own.vdr
 
-  pub good : Good now
-  good = so.goes.good
-
   image : IsGoodImage now (shape now)
-  image = good_image now (shape now) (good_by_its_shape now good)
+  image = good_image now (shape now) (good_by_its_shape now so.goes.good)
 
   sound : IsSound now (shape now)
-  sound = good_is_sound now good
+  sound = good_is_sound now so.goes.good
 
   among : AmongAll (variables (shape now)) own'
   among = among_all now kind before own' after so.goes.among.was
@@ -231,8 +214,8 @@ module _ {b now : List ℕ} {kind : Kind} {before : List VariableShape} {own : V
 
   pub lies : new.vdr + 340 ≤ length now
   lies =
-      let wide = long good so.goes.among in
-      let there = tile_lies now 8 (length now) (shape now).records own'.vdr image.has_shape.tiled (tile good so.goes.among) in
+      let wide = long so.goes.good so.goes.among in
+      let there = tile_lies now 8 (length now) (shape now).records own'.vdr image.has_shape.tiled (tile so.goes.good so.goes.among) in
       omega arith
 
   pub vdr_in : In new.vdr (vdrs (variables (shape now)))
@@ -246,9 +229,6 @@ module _ {b now : List ℕ} {kind : Kind} {before : List VariableShape} {own : V
 
   index_is : index_at now head ≡ own'.index
   index_is = subst (λ (v : ℕ). index_at now (number now v vdr_vxr_head) ≡ own'.index) vdr_is index.1
-
-  pub short : length now ≤ image_limit
-  short = so.short
 
   module _ (more : k ≤ new.rec) where
     pub some_most : 1 ≤ new.most
@@ -313,13 +293,16 @@ module _ {b now : List ℕ} {kind : Kind} {before : List VariableShape} {own : V
     last_is : last_in_new new.most own'.index k ≡ last
     last_is = last_as v own'.index k new.rec new.most rule p.most_is so.covers.from more (let o = ending.ordered in let past = ending.before_next in omega arith)
 
-    module _ (vacant : leaf_of k (leaves_of (index_at now head)) ≡ None) where
-      none : find (λ (leaf : TreeLeaf). covers k (range leaf.first leaf.last)) (leaves_of own'.index) ≡ None
-      none = sym (ap (λ (x : Nodes). leaf_of k (leaves_of x)) index_is) ∙ vacant
+    module _ {at : ℕ} (at_is : at ≡ head) (vacant : leaf_of k (leaves_of (index_at now at)) ≡ None) where
+      tree_is : index_at now at ≡ own'.index
+      tree_is = ap (index_at now) at_is ∙ index_is
 
-      module _ (end : ℕ) (end_is : end ≡ last_in_new new.most (index_at now head) k) (body : List ℕ) (says : IsBlockBody body (records_put new.raw.items new.pad.items new.rec (end + 1 - k) k)) where
+      none : find (λ (leaf : TreeLeaf). covers k (range leaf.first leaf.last)) (leaves_of own'.index) ≡ None
+      none = sym (ap (λ (x : Nodes). leaf_of k (leaves_of x)) tree_is) ∙ vacant
+
+      module _ (end : ℕ) (end_is : end ≡ last_in_new new.most (index_at now at) k) (body : List ℕ) (says : IsBlockBody body (records_put new.raw.items new.pad.items new.rec (end + 1 - k) k)) where
         ends_at : end ≡ last
-        ends_at = end_is ∙ ap (λ (x : Nodes). last_in_new new.most x k) index_is ∙ last_is
+        ends_at = end_is ∙ ap (λ (x : Nodes). last_in_new new.most x k) tree_is ∙ last_is
 
         need : 8 + length body ≡ block_bytes v k last
         need =
@@ -358,7 +341,7 @@ module _ {b now : List ℕ} {kind : Kind} {before : List VariableShape} {own : V
 
             not_long : {place at : ℕ} → LeafAdded now now' own' (leaf k end place false) body at → length now' ≤ image_limit
             not_long {at = at} w =
-                let wide = new_room_widest k own'.index (roomy now (shape now).records 8 own'.index (has good so.goes.among).indexed.has_nodes (fits good so.goes.among).1) in
+                let wide = new_room_widest k own'.index (roomy now (shape now).records 8 own'.index (has so.goes.good so.goes.among).indexed.has_nodes (fits so.goes.good so.goes.among).1) in
                 let node = node_long w.filled w.roomy (new_room k own'.index) at (widest own'.index) w.node wide in
                 let room = room_here in
                 omega arith
@@ -369,20 +352,16 @@ module _ {b now : List ℕ} {kind : Kind} {before : List VariableShape} {own : V
 starts_at : (b : List ℕ) (own other : VariableShape) (r : ℕ) → other.vdr ≡ own.vdr → first_written (variable_of b other) r ≡ first_written (variable_of b own) r
 starts_at b own other r e = ap (λ (v : ℕ). if is_sparse (sparse_at b v) then r else min r (extent (max_rec_at b v))) e
 
-module _ {b : List ℕ} {kind : Kind} {before : List VariableShape} {own : VariableShape} {after : List VariableShape} {new : NewRecord} {limit : ℕ} (p : Putting b kind before own after new limit) where
-  pub put_starts : (first : VariableShape) (from : ℕ) → from ≡ first_written (variable_of b first) new.rec → first.vdr ≡ new.vdr → IsPut b b kind before own after new from
-  put_starts first from is same = record {
-    own' = own;
-    acts = [];
-    so = subst (λ (n : ℕ). SoFar b b kind before own own after new.raw.items new.pad.items new.rec n []) (starts_at b first own new.rec (p.vdr_is ∙ sym same) ∙ sym is) (so_far_starts p.start);
-  }
-
 -- where what is read in between leaves the image and the limit
 pub on_after : {early mid now : List ℕ} {new : NewRecord} {k next limit bound : ℕ} → mid ≡ early → bound ≡ limit → PutsOn mid now bound new k next → PutsOn early now limit new k next
 on_after {early = early} {now = now} {new = new} {k = k} {next = next} {bound = bound} same bounded on = subst (λ (n : ℕ). PutsOn early now n new k next) bounded (subst (λ (x : List ℕ). PutsOn x now bound new k next) same on)
 
 pub all_start : {b : List ℕ} {new : NewRecord} {from limit : ℕ} → SomePutting b new from limit → PutsUpTo b b limit new from
-all_start {from = from} some kind before own after p = put_starts p some.own from some.from_is some.putting.vdr_is
+all_start {b = b} {new = new} some kind before own after p = record {
+  own' = own;
+  acts = [];
+  so = subst (λ (n : ℕ). SoFar b b kind before own own after new.raw.items new.pad.items new.rec n []) (starts_at b some.own own new.rec (p.vdr_is ∙ sym some.putting.vdr_is) ∙ sym some.from_is) (so_far_starts p.start);
+}
 
 pub some_put : {b now : List ℕ} {new : NewRecord} {from k limit : ℕ} → SomePutting b new from limit → PutsUpTo b now limit new k → SomePut now new k limit
 some_put {b = b} some all = record { b = b; kind = some.kind; before = some.before; own = some.own; after = some.after; putting = some.putting; is = all some.kind some.before some.own some.after some.putting }
