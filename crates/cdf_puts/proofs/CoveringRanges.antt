@@ -119,10 +119,7 @@ covered_with s n new (r ∷ rs) = grind (arith, covered_with s n new rs, covered
 -- no more of the records from s to n than are there from `low` on
 pub covered_upto : (s n low upto : ℕ) (xs : List Leaf) → Ascending low upto xs → covered s n (of_leaves xs) ≤ (n + 1) - max s low
 covered_upto s n low upto [] a = omega arith
-covered_upto s n low upto (x ∷ xs) a =
-    let rest = covered_upto s n (suc x.last) upto xs a.3 in
-    let whole = covered_more s n (range x.first x.last) (of_leaves xs) in
-    omega arith
+covered_upto s n low upto (x ∷ xs) a = omega (arith, covered_upto s n (suc x.last) upto xs a.3, covered_more s n (range x.first x.last) (of_leaves xs))
 
 -- and one less where one of them is not covered
 pub covered_less : (s n k low upto : ℕ) (xs : List Leaf) → Ascending low upto xs → s ≤ k → low ≤ k → k ≤ n → find (covers k) (of_leaves xs) ≡ None → covered s n (of_leaves xs) + 1 ≤ (n + 1) - max s low
@@ -159,11 +156,7 @@ mutual
   entry_firsts_count : (entries : Entries) → length (entry_firsts entries) ≡ entry_count entries + entries_below entries
   entry_firsts_count no_entry = refl
   entry_firsts_count (block first last place packed entries) = let r = entry_firsts_count entries in omega arith
-  entry_firsts_count (lower first last nodes entries) =
-      let both = length-append (firsts_of nodes) (entry_firsts entries) in
-      let r = entry_firsts_count entries in
-      let s = firsts_count nodes in
-      omega arith
+  entry_firsts_count (lower first last nodes entries) = omega (arith, length-append (firsts_of nodes) (entry_firsts entries), entry_firsts_count entries, firsts_count nodes)
 
 -- ---- how many blocks, and how many bytes
 
@@ -267,14 +260,12 @@ module _ {v : Variable} {index index' : Nodes} {n k taken : ℕ} (c : Covering v
     in_room : (so_far.records + (last + 1 - k)) * record_length v + suc so_far.blocks * (28 + vxr_bytes (widest index)) ≤ put_room v index n
     in_room =
         let few : count_upto k fs ≤ entries_in index = omega (arith, count_most k fs, firsts_count index) in
-        let enough = room_enough v index so_far.records (last + 1 - k) so_far.blocks (count_upto k fs) (uncovered v index n) one_left covering_ends.no_more so_far.blocks_are few in
-        omega arith
+        omega (arith, room_enough v index so_far.records (last + 1 - k) so_far.blocks (count_upto k fs) (uncovered v index n) one_left covering_ends.no_more so_far.blocks_are few)
 
     pub covering_room : taken + block_bytes v k last + vxr_bytes (widest index') ≤ put_room v index n
     covering_room =
         let bytes = more_bytes taken so_far.records so_far.blocks (last + 1 - k) (record_length v) (vxr_bytes (widest index)) (vxr_bytes (widest index')) so_far.bytes_are (omega arith) in
-        let enough = in_room in
-        omega arith
+        omega (arith, in_room)
 
     module _ (place at : ℕ) (roomy : Roomy index') where
       abbrev new : Leaf

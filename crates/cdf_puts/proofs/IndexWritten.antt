@@ -73,11 +73,7 @@ module _ {b now now' : List ℕ} {kind : Kind} {before : List VariableShape} {ow
   written = w.written ∙ ap (λ (n : ℕ). put now (record_place l n k) bytes) (size_now so)
 
   low : record_place l size k ≤ length now
-  low =
-      let fit = record_fits k l.first l.last size has_it.0 has_it.1 in
-      let room = (now_plain so l is_leaf).room in
-      let high = inside_now so l is_leaf in
-      omega arith
+  low = omega (arith, record_fits k l.first l.last size has_it.0 has_it.1, (now_plain so l is_leaf).room, inside_now so l is_leaf)
 
   beside : (place : ℕ) → (place < record_place l size k) ⊎ (record_place l size k + size ≤ place) → byte now' place ≡ byte now place
   beside place (inl lt) = ap (λ (x : List ℕ). byte x place) written ∙ byte-put_before now (record_place l size k) bytes place low lt

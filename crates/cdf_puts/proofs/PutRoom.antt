@@ -8,11 +8,7 @@ one_taken place need more = sum_by-cons (λ x. x) need (map (λ (take : ℕ × �
 
 pub taken_sum : (acts acts' : List Act) → taken_bytes (acts ++ acts') ≡ taken_bytes acts + taken_bytes acts'
 taken_sum [] acts' = omega arith
-taken_sum (Took place need ∷ more) acts' =
-    let both = one_taken place need (more ++ acts') in
-    let first = one_taken place need more in
-    let rest = taken_sum more acts' in
-    omega arith
+taken_sum (Took place need ∷ more) acts' = omega (arith, one_taken place need (more ++ acts'), one_taken place need more, taken_sum more acts')
 taken_sum (Gave place size ∷ more) acts' = taken_sum more acts'
 
 end_by : (list : List (ℕ × ℕ)) (end need : ℕ) → eof_after list end need ≤ end + need
@@ -20,11 +16,7 @@ end_by list end need = elim (either (place_for list end need == end)) [ inl t �
 
 end_after_acts : (l : SpaceLeft) (acts : List Act) → Each IsTaking acts → (fold after_act l acts).end ≤ l.end + taken_bytes acts
 end_after_acts l [] t = omega arith
-end_after_acts l (Took place need ∷ more) t =
-    let rest = end_after_acts (after_act l (Took place need)) more t.1 in
-    let here = end_by l.listed l.end need in
-    let all = one_taken place need more in
-    omega arith
+end_after_acts l (Took place need ∷ more) t = omega (arith, end_after_acts (after_act l (Took place need)) more t.1, end_by l.listed l.end need, one_taken place need more)
 end_after_acts l (Gave place size ∷ more) t = absurd t.0
 
 -- an image is longer by no more than was taken

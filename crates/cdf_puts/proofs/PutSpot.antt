@@ -213,10 +213,7 @@ module _ {b now : List ℕ} {kind : Kind} {before : List VariableShape} {own : V
   size_now = later_size so.start.good so.start.among so.goes
 
   pub lies : new.vdr + 340 ≤ length now
-  lies =
-      let wide = long so.goes.good so.goes.among in
-      let there = tile_lies now 8 (length now) (shape now).records own'.vdr image.has_shape.tiled (tile so.goes.good so.goes.among) in
-      omega arith
+  lies = omega (arith, long so.goes.good so.goes.among, tile_lies now 8 (length now) (shape now).records own'.vdr image.has_shape.tiled (tile so.goes.good so.goes.among))
 
   pub vdr_in : In new.vdr (vdrs (variables (shape now)))
   vdr_in = subst (λ (vs : List VariableShape). In new.vdr (vdrs vs)) (sym among.all) (subst (λ (v : ℕ). In v (vdrs (among.front ++ own' ∷ among.rest))) vdr_is (in_middle among.front own' among.rest))
@@ -310,11 +307,7 @@ module _ {b now : List ℕ} {kind : Kind} {before : List VariableShape} {own : V
             ∙ ap (λ (n : ℕ). max 28 (12 + n)) (records_long new.raw.items new.pad.items new.rec size p.start.raw_long p.pad_long (end + 1 - k) k ∙ ap (λ (n : ℕ). (n + 1 - k) * size) ends_at)
 
         room_here : length now + (8 + length body) + vxr_bytes (widest own'.index) ≤ limit
-        room_here =
-            let longer = longer_by b now is.acts so.goes.follow so.takes in
-            let long = need in
-            let enough = covering_room so.covers so.start.small more rule so.start.loose none in
-            omega arith
+        room_here = omega (arith, longer_by b now is.acts so.goes.follow so.takes, need, covering_room so.covers so.start.small more rule so.start.loose none)
 
         -- an image that is read in between
         pub room_after : {mid : List ℕ} {bound : ℕ} → mid ≡ now → bound ≡ limit → length mid + (8 + length body) + vxr_bytes (widest (index_at mid (number mid new.vdr vdr_vxr_head))) ≤ bound
