@@ -91,10 +91,9 @@ module _ {b now last : List ℕ} {kind : Kind} {before : List VariableShape} {ow
 
   puts : PutsLeaves b last v.rle own'.vdr (filter (is_written v r) (leaves_of own'.index)) own.index acts own'.index
   puts =
-      let ls = filter (is_written v r) leaves in
       let vdr = sym so.goes.vdr_is in
       let loose = sym so.start.loose in
-      let end = append-nil ls in
+      let end = append-nil (filter (is_written v r) leaves) in
       let acts_end = append-nil acts in
       transport (λ i. PutsLeaves b last (loose i) (vdr i) (end i) own.index (acts_end i) own'.index) (so.index.puts last last_size [] [] own'.index (refl, refl))
 
@@ -114,9 +113,8 @@ module _ {b now last : List ℕ} {kind : Kind} {before : List VariableShape} {ow
 
   tail : TailFollows b last acts own.index own own'
   tail =
-      let t = img.tail in
       let mid : number now own'.vdr vdr_vxr_tail ≡ (if tops then number b own.vdr vdr_vxr_tail else last_node own'.index) = subst (λ (x : ℕ). number now x vdr_vxr_tail ≡ (if tops then number b own.vdr vdr_vxr_tail else last_node own'.index)) (sym so.goes.vdr_is) so.index.tail in
-      t ∙ mid ∙ sym (ap (λ (c : Bool). if c then number b own.vdr vdr_vxr_tail else last_node own'.index) top_test)
+      img.tail ∙ mid ∙ sym (ap (λ (c : Bool). if c then number b own.vdr vdr_vxr_tail else last_node own'.index) top_test)
 
   -- ---- the whole
 
@@ -296,21 +294,16 @@ module _ {b now last : List ℕ} {kind : Kind} {before : List VariableShape} {ow
 
   nothing_taken : uncovered v own.index r ≡ 0 → acts ≡ []
   nothing_taken e =
-      let fits = so.covers.fits in
       let unpacked : packed_room v own.index r ≡ 0 = rw so.start.loose refl in
       let none : put_room v own.index r ≡ 0 = λ i. blocks_room v own.index (e i) + unpacked i in
-      none_without_bytes (space_before b) acts so.goes.follow.are so.takes (subst (λ (n : ℕ). taken_bytes acts ≤ n) none fits)
+      none_without_bytes (space_before b) acts so.goes.follow.are so.takes (subst (λ (n : ℕ). taken_bytes acts ≤ n) none so.covers.fits)
 
   raised_touches : max_rec_touches now kind own'.vdr ≡ max_rec_touches b kind own.vdr
-  raised_touches =
-      let g = so.goes.gdr_is in
-      let e = so.goes.vdr_is in
-      λ i. map (touched_field (g i)) (r_max_rec_field kind) ++ touched_field (e i) vdr_max_rec ∷ []
+  raised_touches = λ i. map (touched_field (so.goes.gdr_is i)) (r_max_rec_field kind) ++ touched_field (so.goes.vdr_is i) vdr_max_rec ∷ []
 
   in_place : stays_in_place v own r ≡ true → Changed b last (max_rec_touches b kind own.vdr ++ written_in v first r olds)
   in_place e =
-      let covered = eq_of (uncovered v own.index r) 0 (both (uncovered v own.index r == 0) _ e).0 in
-      let none = nothing_taken covered in
+      let none = nothing_taken (eq_of (uncovered v own.index r) 0 (both (uncovered v own.index r == 0) _ e).0) in
       changed_swap b last (written_in v first r olds) (max_rec_touches b kind own.vdr)
       (subst (λ (ts : List Touch). Changed b last (written_in v first r olds ++ ts)) raised_touches (changed_then b now last (put_touches first (r + 1) size olds) (max_rec_touches now kind own'.vdr) (so.blocks.quiet none) img.changed))
 

@@ -130,9 +130,7 @@ module _ {b now now' : List ℕ} {kind : Kind} {before : List VariableShape} {ow
   old_block : (l : Leaf) → IsOneOf olds l → OldBlock b now' raw pad r first upto size l
   old_block l i =
       let j = so.blocks.stay l i in
-      let x = old_plain so l i in
-      let ordered = x.ordered in
-      elim (beside_new l j ordered) [
+      elim (beside_new l j ((old_plain so l i).ordered)) [
         | inl lt ↦ old_goes_on so longer l (same l j) i (let m = more_upto in omega arith) (λ j' from low f t. (omega arith))
         | inr lt ↦ old_goes_on so longer l (same l j) i (omega arith) (λ j' from low f t. absurd (omega arith))
       ]
@@ -186,8 +184,7 @@ module _ {b now now' : List ℕ} {kind : Kind} {before : List VariableShape} {ow
 
   needs : (end : List ℕ) → record_bytes end own.vdr ≡ record_bytes b own.vdr → 8 + length body ≡ block_need end own.vdr new
   needs end same =
-      let count = count_is new small vacant.ordered in
-      let plain : records_of_leaf new * record_bytes end own.vdr ≡ length records = (λ i. count i * same i) ∙ sym says.as_long in
+      let plain : records_of_leaf new * record_bytes end own.vdr ≡ length records = (λ i. (count_is new small vacant.ordered) i * same i) ∙ sym says.as_long in
       omega arith
 
   puts_added : PutsBefore b own own'' (filter (was_put first upto) (leaves_of own''.index)) (acts ++ step)

@@ -284,9 +284,8 @@ module _ {b now : List ℕ} {kind : Kind} {before : List VariableShape} {own : V
   typed_now plain m i = elim (type_now plain m i) [
     | inl x ↦
         let k = placed_kept plain in
-        let type = x.1 in
         let size : size_at now m ≡ need = ap (size_at now) x.0 ∙ size_kept w.filled now new.place k.same (let l = k.long in omega arith) ∙ filled_size sound w.block.fills in
-        rw (type, size) (refl, subst (λ (t : ℕ). fixed_size t ≤ need) plain w.block.fills.fixed)
+        rw (x.1, size) (refl, subst (λ (t : ℕ). fixed_size t ≤ need) plain w.block.fills.fixed)
     | inr x ↦
         let type = x.2 in
         let size : size_at now m ≡ vxr_bytes room = ap (size_at now) x.1 ∙ (node_now x.0).1 in
@@ -475,9 +474,8 @@ module _ {b now : List ℕ} {kind : Kind} {before : List VariableShape} {own : V
 
       block_rows : (l : Leaf) → In l.place records' → type_at now l.place ≡ vvr_type → l.first ≤ l.last → l.last ≤ record_number_limit → 12 + (l.last + 1 - l.first) * record_bytes b v ≤ size_at now l.place → (is_block now records' l.place ≡ true) × Hold (leaf_rows now records' v l)
       block_rows l stands typed ordered small fit =
-          let is = is_a-from now records' vvr_type l.place stands typed in
           let plain_bytes : plain_size now v l ≡ (l.last + 1 - l.first) * record_bytes b v = (let c = count_is l small ordered in let n = record_alike file (vdr_alike good among x) in λ i. c i * n i) in (
-            ap (λ (p : Bool). p || is_a now records' cvvr_type l.place) is,
+            ap (λ (p : Bool). p || is_a now records' cvvr_type l.place) (is_a-from now records' vvr_type l.place stands typed),
             Hold-append (asked (is_a now records' vvr_type l.place) (vvr_rows now v l)) (asked (is_a now records' cvvr_type l.place) (cvvr_rows now v l))
                 (asked_hold (is_a now records' vvr_type l.place) (vvr_rows now v l) (λ e. (of_le (12 + plain_size now v l) (size_at now l.place) (subst (λ (n : ℕ). 12 + n ≤ size_at now l.place) (sym plain_bytes) fit), tt)))
                 (asked_hold (is_a now records' cvvr_type l.place) (cvvr_rows now v l) (λ e. absurd (apart vvr_type cvvr_type refl (sym typed ∙ is_a-type now records' cvvr_type l.place e)))),

@@ -106,18 +106,16 @@ mutual
   pub outline_agrees : (news news' : List ℕ) (index : Nodes) → ((m : ℕ) → In m (nodes_of index) → is_in m news' ≡ is_in m news) → outline news' index ≡ outline news index
   outline_agrees news news' no_node same = refl
   outline_agrees news news' (node place room es more) same =
-      let here = same place (inl refl) in
       let lower = entries_agree news news' es (λ m i. same m (inr (In-append_left m (lower_nodes es) (nodes_of more) i))) in
       let rest = outline_agrees news news' more (λ m i. same m (inr (In-append_right m (lower_nodes es) (nodes_of more) i))) in
-      λ k. node (if here k then 0 else place) room (lower k) (rest k)
+      λ k. node (if (same place (inl refl)) k then 0 else place) room (lower k) (rest k)
 
   pub entries_agree : (news news' : List ℕ) (es : Entries) → ((m : ℕ) → In m (lower_nodes es) → is_in m news' ≡ is_in m news) → entries_outline news' es ≡ entries_outline news es
   entries_agree news news' no_entry same = refl
   entries_agree news news' (block first last place packed es) same = ap (block first last 0 false) (entries_agree news news' es same)
   entries_agree news news' (lower first last nodes es) same =
-      let below = outline_agrees news news' nodes (λ m i. same m (In-append_left m (nodes_of nodes) (lower_nodes es) i)) in
       let rest = entries_agree news news' es (λ m i. same m (In-append_right m (nodes_of nodes) (lower_nodes es) i)) in
-      λ k. lower first last (below k) (rest k)
+      λ k. lower first last ((outline_agrees news news' nodes (λ m i. same m (In-append_left m (nodes_of nodes) (lower_nodes es) i))) k) (rest k)
 
 -- ---- two indexes with the same outline, where new nodes stand at 0 in the second
 
@@ -313,8 +311,7 @@ module _ (b mid now : List ℕ) (through through' : List Nodes) (before after : 
     was_before : (m i : ℕ) (done : List Act) → was_unused b before done m i ≡ true → In m before × (used_count b m ≤ i)
     was_before m i done e =
         let p = both (is_in m before) (not (is_taken_at done m) && nat_le (used_count b m) i) e in
-        let q = both (not (is_taken_at done m)) (nat_le (used_count b m) i) p.1 in
-        (true-is_in m before p.0, le_of (used_count b m) i q.1)
+        (true-is_in m before p.0, le_of (used_count b m) i (both (not (is_taken_at done m)) (nat_le (used_count b m) i) p.1).1)
 
     old_entry : (m i : ℕ) → In m (nodes_of index) → used_count now m ≤ i → i < room_at now m → In m after → AnyWay m i (was_unused b before (acts ++ acts') m i)
     old_entry m i j low high k =

@@ -110,13 +110,12 @@ module _ {b : List ℕ} {kind : Kind} {before : List VariableShape} {own : Varia
     so_far_written {now' = now'} {l = l} w as_long =
         let good = so.goes.good in
         let at = so.goes.among in
-        let small = so.start.small in
         let step = goes_written good at (writes good at w) so.short in
         record {
           start = so.start;
           upto = omega arith;
           goes = subst (GoesOn b now' kind before own own' after) (append-nil acts) (goes_then so.start.good so.start.among so.goes step (only_takes acts so.takes) tt);
-          covers = covering_has so.covers small more l w.found;
+          covers = covering_has so.covers so.start.small more l w.found;
           takes = so.takes;
           short = omega arith;
           max_rec_is = subst (λ (v : ℕ). number now' v vdr_max_rec ≡ number now v vdr_max_rec) so.goes.vdr_is (max_rec_kept good at w) ∙ so.max_rec_is;

@@ -41,8 +41,7 @@ put_next first k low upto (x ∷ more) a l (inl q) from f t =
 put_next first k low upto (x ∷ more) a l (inr i) from f t =
     let before = (in_order (suc x.last) upto more a.3 l i).from in
     let same : was_put first (k + 1) x ≡ was_put first k x = all_put first (k + 1) k x (omega arith) (omega arith) in
-    let rest = put_next first k (suc x.last) upto more a.3 l i from f t in
-    grind (arith, same, rest)
+    grind (arith, same, put_next first k (suc x.last) upto more a.3 l i from f t)
 
 -- a leaf that is added comes behind them
 pub put_new : (first k k' low upto : ℕ) (leaves : List Leaf) (new : Leaf) → Ascending low upto leaves → ((l : Leaf) → IsOneOf leaves l → (l.last < k) ⊎ (new.last < l.first)) → new.first ≡ k → first ≤ k → k < k' → k' ≤ new.last + 1

@@ -99,9 +99,8 @@ module _ {b now : List ℕ} {kind : Kind} {before : List VariableShape} {own : V
 
   pub r_max_rec_stays : r_max_rec now ≡ r_max_rec b
   r_max_rec_stays =
-      let g = gdr_in b s h in
       let no_gdr : s.gdr ≡ l.place → ⊥ = λ e. apart gdr_type vvr_type refl (sym (gdr_typed b s h) ∙ ap (type_at b) e ∙ (plain l is_leaf).typed) in
-      let same = stays s.gdr 52 56 g no_gdr (let n = gdr_long b s h in omega arith) in
+      let same = stays s.gdr 52 56 (gdr_in b s h) no_gdr (let n = gdr_long b s h in omega arith) in
       let offset_same : gdr_offset now ≡ s.gdr = (file good at writes).gdr_is ∙ h.gdr_is in
       let field : integer4 now s.gdr gdr_r_max_rec ≡ integer4 b s.gdr gdr_r_max_rec = ap (cast_signed w32) (word_kept b now (s.gdr + 52) (s.gdr + 56) same (s.gdr + 52) 4 (omega arith) (omega arith)) in
       ap (λ (x : ℕ). integer4 now x gdr_r_max_rec) offset_same ∙ field ∙ sym (ap (λ (x : ℕ). integer4 b x gdr_r_max_rec) h.gdr_is)
