@@ -1,5 +1,5 @@
 -- A leaf that is added, as one edit: its block is taken and written, then a node where one is needed, and then the entries are. It leads from one good image to another.
-use Rattle.cdf_puts.proofs.Common.{eq-eqb, max, vxr_n_entries, r_max_rec_field, space_fields, node_acts, is_in-false, Kind, R, Z, size_at, type_at, eof, Leaf, nodes_of, room_at, vxr_type, VariableShape, shape, NodeFits, IsSound, In, Good, number_kept, size_kept, type_kept, linkable-type, good_is_sound, nodes_stand, In-append_left, In-append_right, tile_lies, vxr_bytes, Edit, Mark, unmarked, Touch, new_room, type_in, variables_chain, unmarked-away, kept_away, node_behind, StandsAmong, through, tile, typed, long, has, fits, behind_in, Kept, Each-in, NodeTaken, IndexTouch, LeafAdded, Same, is_in, number, Field, gdr_type, vvr_type, uir_type, is_record_type, fixed_size, Shape, Each, In-append, Avoids, with_leaf, away-avoids, FileSame, apart, type_of_body, is_taken_at, Act, changed_part, Same-part, leaf_acts, ◌&&◌, ActsFollow, both, nat_le, block_behind, leaves_of, vdr_max_rec, length-take, length-drop, byte, place_in, each_of, IsBlockBody, BlocksGoOn, ne_eqb, flat_map, ◌==◌, ◌||◌, if◌then◌else◌, image_limit, record_number_limit, with_sign, Nodes, no_node, node, Entries, no_entry, block, lower, times, cvvr_type, asked, is_compressed, record_bytes, good_by_its_shape, Hold-split, le_of, of_le, firsts_of, IsOneOf, count_is, plain_leaf, own_rules, times-append, record_alike, InOrder, GoesOn, IsVacant, before_limit, index_order, OwnEdit, IndexEdit, vdr_alike, r_max_rec, gdr_in, gdr_typed, Only, ◌≡◌, ℕ, zero, suc, ◌+◌, ◌*◌, ◌<◌, ◌≤◌, List, [], ◌∷◌, ◌++◌, length, true, append-nil, refl, sym, ap, subst, ◌∙◌, arith, inl, inr, ◌≢◌, ◌⊎◌, Bool, false, ◌-◌, take, drop, take-append-drop, ℤ, pos, negsuc, Marked, variable_types, keeps_file, avoided, both_ways, or_left, or_right, changed_edit, same-then, head_size, head_type, edit_then, some_bytes, Each-map, NodeStands, placed_grows, IsChain, is_a, field, gdr_eof, gdr_uir_head, vxr_n_used_entries, vxr_entries, all_unmarked-away, the_one, Avoids-append, Within-append, away-within, Away-append, chain_stays, file_same, gdr_field, kept, Misses, in_nodes_with_leaf, node_stays, nodes_with_leaf, IndexTests, NewIndex, index_marks, index_unmarked, vdr_no_node, vdr_of_variable, Exchanged, node_room, max_rec_kept, is_a-from, is_a-type, linkable-in, ext_get_or, get_or_append_left, get_or-take, get_or-drop, word, holds, word-same, byte-put_inside, signed_limit, read_types, Row, Hold, number_before, plain_size, Hold-append, Counts, each, index_rules_with_leaf, keeps_fields, keeps_within, keeps_away}
+use Rattle.cdf_puts.proofs.Common.{eq-eqb, max, vxr_n_entries, r_max_rec_field, space_fields, node_acts, is_in-false, Kind, R, Z, size_at, type_at, eof, Leaf, nodes_of, room_at, vxr_type, VariableShape, shape, NodeFits, IsSound, In, Good, number_kept, size_kept, type_kept, linkable-type, good_is_sound, nodes_stand, In-append_left, In-append_right, tile_lies, vxr_bytes, Edit, Mark, unmarked, Touch, new_room, type_in, variables_chain, unmarked-away, kept_away, node_behind, StandsAmong, tile, typed, long, has, fits, behind_in, Kept, Each-in, NodeTaken, IndexTouch, LeafAdded, Same, is_in, number, Field, gdr_type, vvr_type, uir_type, is_record_type, fixed_size, Shape, Each, In-append, Avoids, with_leaf, away-avoids, FileSame, apart, type_of_body, is_taken_at, Act, changed_part, Same-part, leaf_acts, ◌&&◌, ActsFollow, both, nat_le, block_behind, leaves_of, vdr_max_rec, byte, place_in, each_of, IsBlockBody, BlocksGoOn, ne_eqb, flat_map, ◌==◌, ◌||◌, if◌then◌else◌, image_limit, record_number_limit, with_sign, Nodes, no_node, node, Entries, no_entry, block, lower, times, cvvr_type, asked, is_compressed, record_bytes, good_by_its_shape, Hold-split, le_of, of_le, firsts_of, IsOneOf, count_is, plain_leaf, own_rules, times-append, record_alike, InOrder, GoesOn, IsVacant, before_limit, index_order, OwnEdit, IndexEdit, vdr_alike, r_max_rec, gdr_in, gdr_typed, Only, ◌≡◌, ℕ, zero, suc, ◌+◌, ◌*◌, ◌<◌, ◌≤◌, List, [], ◌∷◌, ◌++◌, length, true, append-nil, refl, sym, ap, subst, ◌∙◌, arith, inl, inr, ◌≢◌, ◌⊎◌, Bool, false, ◌-◌, take, drop, take-append-drop, ℤ, pos, negsuc, Marked, variable_types, keeps_file, avoided, both_ways, or_left, or_right, changed_edit, same-then, head_size, head_type, edit_then, some_bytes, Each-map, NodeStands, placed_grows, IsChain, is_a, field, gdr_eof, gdr_uir_head, vxr_n_used_entries, all_unmarked-away, the_one, Avoids-append, Within-append, away-within, Away-append, chain_stays, file_same, gdr_field, kept, Misses, in_nodes_with_leaf, node_stays, nodes_with_leaf, IndexTests, NewIndex, index_marks, index_unmarked, vdr_no_node, vdr_of_variable, Exchanged, node_room, max_rec_kept, is_a-from, is_a-type, linkable-in, get_or_append_left, word, word-same, byte-put_inside, signed_limit, read_types, Row, Hold, number_before, plain_size, Hold-append, Counts, each, index_rules_with_leaf, keeps_fields, keeps_within, keeps_away, covered, piece_kept, drop-drop}
 use Rattle.cdf_edits.proofs.Edits.MadeRecord.{place_in as placed_in, filled_size}
 use Rattle.cdf_edits.proofs.Edits.TakenAll.{TakenAll, none_taken, taken_then, taking_all, listed_free, unlisted_away}
 use Rattle.cdf_index.specs.Replacing.{with_index}
@@ -14,6 +14,10 @@ use Rattle.cdf_format.specs.Index.{nodes_of, lower_nodes}
 use Rattle.cdf_format.specs.IndexRules.{has_room, is_block, nodes_rows, used_rows, vvr_rows, cvvr_rows, leaf_rows, index_rows, end_of}
 use Rattle.cdf_format.proofs.GoodByShape.{IsGoodByShape}
 use Rattle.cdf_edits.proofs.Edits.OwnEdited as of_own
+use Rattle.cdf_format.proofs.ShapeLemmas.{Each-append}
+use Rattle.cdf_edits.specs.Edits.Marks.{Covered}
+use Rattle.cdf_puts.proofs.PutBytes.{put_there}
+use Rattle.std.proofs.lemmas.List.{drop-take, take-take}
 
 -- ---- marks
 
@@ -80,24 +84,26 @@ plain_body body records says =
     within : (i : ℕ) → i < 0 + 4 → i < length (take 4 body)
     within i lt = subst (λ (xs : List ℕ). i < length xs) (sym says.type_is) lt
 
--- ---- the rooms of nodes, by the rules
+-- ---- the used entries of nodes, by the rules
+
+count_holds : (b : List ℕ) (m : ℕ) → has_room b m ≡ true → Counts b m
+count_holds b m h = le_of (number b m vxr_n_used_entries) (room_at b m) (both (nat_le (number b m vxr_n_used_entries) (room_at b m)) _ (both (nat_le (number b m vxr_n_used_entries) (room_at b m) && nat_le (room_at b m) signed_limit) _ h).0).0
 
 mutual
   unfolding nodes_rows used_rows nodes_of lower_nodes
 
-  rooms_hold : (b records : List ℕ) (low high : ℤ) (nodes : Nodes) → Hold (nodes_rows b records low high nodes) → (m : ℕ) → In m (nodes_of nodes) → has_room b m ≡ true
-  rooms_hold b records low high no_node h m i = absurd i
-  rooms_hold b records low high (node place room entries more) h m (inl q) = subst (λ (x : ℕ). has_room b x ≡ true) (sym q) h.0
-  rooms_hold b records low high (node place room entries more) h m (inr i) =
+  counts_hold : (b records : List ℕ) (low high : ℤ) (nodes : Nodes) → Hold (nodes_rows b records low high nodes) → Each (Counts b) (nodes_of nodes)
+  counts_hold b records low high no_node h = tt
+  counts_hold b records low high (node place room entries more) h =
       let p = Hold-split (used_rows b records place low high entries) (nodes_rows b records (end_of low entries) high more) h.1 in
-      elim (In-append m (lower_nodes entries) (nodes_of more) i) [ inl j ↦ rooms_below b records place low high entries p.0 m j | inr j ↦ rooms_hold b records (end_of low entries) high more p.1 m j ]
+      (count_holds b place h.0, Each-append (Counts b) (lower_nodes entries) (nodes_of more) (counts_below b records place low high entries p.0) (counts_hold b records (end_of low entries) high more p.1))
 
-  rooms_below : (b records : List ℕ) (vxr : ℕ) (low high : ℤ) (entries : Entries) → Hold (used_rows b records vxr low high entries) → (m : ℕ) → In m (lower_nodes entries) → has_room b m ≡ true
-  rooms_below b records vxr low high no_entry h m i = absurd i
-  rooms_below b records vxr low high (block first last place packed entries) h m i = rooms_below b records vxr (with_sign last) high entries h.1.1 m i
-  rooms_below b records vxr low high (lower first last nodes entries) h m i =
+  counts_below : (b records : List ℕ) (vxr : ℕ) (low high : ℤ) (entries : Entries) → Hold (used_rows b records vxr low high entries) → Each (Counts b) (lower_nodes entries)
+  counts_below b records vxr low high no_entry h = tt
+  counts_below b records vxr low high (block first last place packed entries) h = counts_below b records vxr (with_sign last) high entries h.1.1
+  counts_below b records vxr low high (lower first last nodes entries) h =
       let p = Hold-split (nodes_rows b records (number_before first) (with_sign last) nodes) (used_rows b records vxr (with_sign last) high entries) h.1 in
-      elim (In-append m (nodes_of nodes) (lower_nodes entries) i) [ inl j ↦ rooms_hold b records (number_before first) (with_sign last) nodes p.0 m j | inr j ↦ rooms_below b records vxr (with_sign last) high entries p.1 m j ]
+      Each-append (Counts b) (nodes_of nodes) (lower_nodes entries) (counts_hold b records (number_before first) (with_sign last) nodes p.0) (counts_below b records vxr (with_sign last) high entries p.1)
 
 asked_hold : (p : Bool) (rows : List Row) → (p ≡ true → Hold rows) → Hold (asked p rows)
 asked_hold true rows f = f refl
@@ -143,6 +149,9 @@ module _ {b now : List ℕ} {kind : Kind} {before : List VariableShape} {own : V
   abbrev pub marks : List Mark
   marks = leaf_marks kind v (shape b).unused reborn (new_nodes room at ++ nodes) enough most
 
+  abbrev entries : List Mark
+  entries = entry_marks kind v (new_nodes room at ++ nodes) most
+
   sound : IsSound b (shape b)
   sound = good_is_sound b good
 
@@ -187,49 +196,34 @@ module _ {b now : List ℕ} {kind : Kind} {before : List VariableShape} {own : V
   pub sound_roomy : IsSound w.roomy (shape w.roomy)
   sound_roomy = taking.grows.sound
 
-  in_image : (m : ℕ) → In m (shape w.roomy).records → m + size_at w.roomy m ≤ most
-  in_image m i = (tile_lies w.roomy 8 most (shape w.roomy).records m sound_roomy.has_shape.tiled i).high
+  -- a touch is marked by the record in which it is
+  marked : {t : Touch} {m : ℕ} → t.tile ≡ m → In m (shape w.roomy).records → t.place + t.width ≤ size_at w.roomy m → 12 ≤ t.place → Covered w.roomy entries (record t { tile = m }) → Marked w.roomy (shape w.roomy).records entries [] t
+  marked {t = t} q inside fits_now later covered = subst (λ (x : ℕ). Marked w.roomy (shape w.roomy).records entries [] (record t { tile = x })) (sym q) (record { inside = inside; fits = fits_now; behind_size = omega arith; behind_type = inl later; covered = covered })
 
-  pub touch_marked : (t : Touch) → IndexTouch w.roomy own room at t → Marked w.roomy (shape w.roomy).records (entry_marks kind v (new_nodes room at ++ nodes) most) [] t
+  marked_node : {t : Touch} {m : ℕ} → t.tile ≡ m → In m (shape w.roomy).records → t.place + t.width ≤ size_at w.roomy m → 12 ≤ t.place → type_at w.roomy m ≡ vxr_type → In m (new_nodes room at ++ nodes) → Marked w.roomy (shape w.roomy).records entries [] t
+  marked_node {m = m} q inside fits_now later is lies =
+      let far = tile_lies w.roomy 8 most (shape w.roomy).records m sound_roomy.has_shape.tiled inside in
+      marked q inside fits_now later (inr (inl (record { typed = is; lies = lies; low = later; high = omega arith })))
+
+  pub touch_marked : (t : Touch) → IndexTouch w.roomy own room at t → Marked w.roomy (shape w.roomy).records entries [] t
   touch_marked t (inl x) =
-      let q = x.0 in
-      let low = x.1 in
-      let high = x.2 in
-      let wide : 340 ≤ size_at w.roomy v = subst (λ (n : ℕ). 340 ≤ n) (sym (size_kept b w.roomy v vdr_kept.same (let l = vdr_kept.long in omega arith))) (long good among) in
-      record {
-        inside = subst (λ (m : ℕ). In m (shape w.roomy).records) (sym q) (grown.sub v (tile good among));
-        fits = subst (λ (m : ℕ). t.place + t.width ≤ size_at w.roomy m) (sym q) (omega arith);
-        behind_size = omega arith;
-        behind_type = inl (omega arith);
-        covered = inl (record { typed = ap (type_at w.roomy) q ∙ type_kept b w.roomy v vdr_kept.same vdr_kept.long ∙ typed good among; lies = inl q; low = low; high = high });
-      }
+      let size = size_kept b w.roomy v vdr_kept.same (omega (arith, vdr_kept.long)) in
+      let wide = long good among in
+      marked x.0 (grown.sub v (tile good among)) (omega arith) (omega arith) (inl (record { typed = type_kept b w.roomy v vdr_kept.same vdr_kept.long ∙ typed good among; lies = inl refl; low = x.1; high = x.2 }))
   touch_marked t (inr x) = elim x.1 [
     | inl n ↦
         let k = node_kept t.tile n.0 in
-        let inside = grown.sub t.tile (node_in t.tile n.0) in
-        let fits_now = through (t.place + t.width) (28 + 16 * room_at w.roomy t.tile) (size_at w.roomy t.tile) n.1 (node_fits t.tile n.0) in
-        marked t x.0 inside fits_now (type_kept b w.roomy t.tile k.same k.long ∙ node_typed t.tile n.0) (In-append_right t.tile (new_nodes room at) nodes n.0)
+        let fits_now = node_fits t.tile n.0 in
+        marked_node refl (grown.sub t.tile (node_in t.tile n.0)) (omega arith) x.0 (type_kept b w.roomy t.tile k.same k.long ∙ node_typed t.tile n.0) (In-append_right t.tile (new_nodes room at) nodes n.0)
     | inr n ↦
         let there = node_stands room at (placed_grows sound w.block.fills).sound w.node n.0 in
-        let q = n.1 in
-        marked t x.0 (subst (λ (m : ℕ). In m (shape w.roomy).records) (sym q) there.inside)
-        (subst (λ (m : ℕ). t.place + t.width ≤ size_at w.roomy m) (sym q) (subst (λ (k : ℕ). t.place + t.width ≤ k) (sym there.size_is) n.2))
-        (ap (type_at w.roomy) q ∙ there.typed) (subst (λ (m : ℕ). In m (new_nodes room at ++ nodes)) (sym q) (In-append_left at (new_nodes room at) nodes (is_new_node room at n.0)))
+        marked_node n.1 there.inside (omega arith) x.0 there.typed (In-append_left at (new_nodes room at) nodes (is_new_node room at n.0))
   ]
-    where
-      marked : (t : Touch) → 12 ≤ t.place → In t.tile (shape w.roomy).records → t.place + t.width ≤ size_at w.roomy t.tile → type_at w.roomy t.tile ≡ vxr_type → In t.tile (new_nodes room at ++ nodes) → Marked w.roomy (shape w.roomy).records (entry_marks kind v (new_nodes room at ++ nodes) most) [] t
-      marked t low inside fits_now is lies = record {
-        inside = inside;
-        fits = fits_now;
-        behind_size = omega arith;
-        behind_type = inl low;
-        covered = inr (inl (record { typed = is; lies = lies; low = low; high = let far = in_image t.tile inside in omega arith }));
-      }
 
   -- and then the entries are written
-  pub entries_written : Edit w.roomy now (shape w.roomy).records (shape w.roomy).records (entry_marks kind v (new_nodes room at ++ nodes) most) []
-  entries_written = changed_edit w.roomy now (shape w.roomy).records w.touches (entry_marks kind v (new_nodes room at ++ nodes) most) [] sound_roomy.has_shape.tiled w.as_long w.changed
-      (Each-map (IndexTouch w.roomy own room at) (Marked w.roomy (shape w.roomy).records (entry_marks kind v (new_nodes room at ++ nodes) most) []) touch_marked w.touches w.within) (some_bytes w.roomy (shape w.roomy) sound_roomy.has_shape)
+  pub entries_written : Edit w.roomy now (shape w.roomy).records (shape w.roomy).records entries []
+  entries_written = changed_edit w.roomy now (shape w.roomy).records w.touches entries [] sound_roomy.has_shape.tiled w.as_long w.changed
+      (Each-map (IndexTouch w.roomy own room at) (Marked w.roomy (shape w.roomy).records entries []) touch_marked w.touches w.within) (some_bytes w.roomy (shape w.roomy) sound_roomy.has_shape)
 
   pub edit : Edit b now s.records (shape w.roomy).records marks reborn
   edit = subst (Edit b now (shape b).records (shape w.roomy).records marks) (append-nil reborn) (edit_then grown entries_written)
@@ -265,7 +259,7 @@ module _ {b now : List ℕ} {kind : Kind} {before : List VariableShape} {own : V
   pub node_now : 0 < room → (type_at now at ≡ vxr_type) × (size_at now at ≡ vxr_bytes room)
   node_now some =
       let there = node_stands room at (placed_grows sound w.block.fills).sound w.node some in
-      let avoid : Avoids (entry_marks kind v (new_nodes room at ++ nodes) most) vxr_type at 0 12 = ((λ same lies. absurd (vdr_no_node kind (sym same))), ((λ same lies. inl (omega arith)), tt)) in
+      let avoid : Avoids entries vxr_type at 0 12 = ((λ same lies. absurd (vdr_no_node kind (sym same))), ((λ same lies. inl (omega arith)), tt)) in
       let head = entries_written.part at vxr_type 0 12 there.inside there.typed avoid avoid (subst (λ (n : ℕ). 12 ≤ n) (sym there.size_is) (omega arith)) in
       (head_type w.roomy now at head ∙ there.typed, head_size w.roomy now at head ∙ there.size_is)
 
@@ -298,7 +292,7 @@ module _ {b now : List ℕ} {kind : Kind} {before : List VariableShape} {own : V
   gdr_is = ap (λ (x : Shape). x.gdr) taking.grows.same_shape
 
   -- a field of the GDR stays where the entries are written
-  gdr_late : (g : Field) → avoided (entry_marks kind v (new_nodes room at ++ nodes) most) gdr_type g.place (g.place + g.width) ≡ true → g.place + g.width ≤ 84 → number now s.gdr g ≡ number w.roomy s.gdr g
+  gdr_late : (g : Field) → avoided entries gdr_type g.place (g.place + g.width) ≡ true → g.place + g.width ≤ 84 → number now s.gdr g ≡ number w.roomy s.gdr g
   gdr_late g clear l = subst (λ (x : ℕ). number now x g ≡ number w.roomy x g) gdr_is (gdr_field sound_roomy entries_written (entries_clear kind v (new_nodes room at ++ nodes) most).0 g clear l)
 
   pub end_now : eof now s.gdr ≡ length now
@@ -306,7 +300,6 @@ module _ {b now : List ℕ} {kind : Kind} {before : List VariableShape} {own : V
 
   unused_now : IsChain now (shape w.roomy).records uir_type (number now s.gdr gdr_uir_head) (shape w.roomy).unused
   unused_now =
-      let entries = entry_marks kind v (new_nodes room at ++ nodes) most in
       chain_stays entries_written uir_type _ _ (shape w.roomy).unused sound_roomy.has_shape.unused_chain (gdr_late gdr_uir_head (entries_clear kind v (new_nodes room at ++ nodes) most).2 (omega arith) ∙ ap (λ (x : ℕ). number w.roomy x gdr_uir_head) (sym gdr_is))
       (λ m i. away-avoids entries uir_type m 0 20 (unmarked-away entries uir_type m (index_unmarked kind v (new_nodes room at ++ nodes) (field 12 most))))
 
@@ -394,7 +387,7 @@ module _ {b now : List ℕ} {kind : Kind} {before : List VariableShape} {own : V
     list_is = of_own.unused_are good among y
 
     pub leaf_follows : ActsFollow b now step
-    leaf_follows = acts_still_by (taking).grows.sound (taking).follow (entries_written) (index_unmarked kind v (new_nodes room at ++ nodes_of own.index) (field 12 (length w.roomy))) records_are list_is w.as_long
+    leaf_follows = acts_still_by taking.grows.sound taking.follow entries_written (index_unmarked kind v (new_nodes room at ++ nodes_of own.index) (field 12 (length w.roomy))) records_are list_is w.as_long
 
     pub leaf_max_rec : number now own.vdr vdr_max_rec ≡ number b own.vdr vdr_max_rec
     leaf_max_rec = max_rec_kept good among changed
@@ -426,15 +419,13 @@ module _ {b now : List ℕ} {kind : Kind} {before : List VariableShape} {own : V
     records_now : take n (drop (new.place + 12) now) ≡ records
     records_now =
         let size = filled_size sound w.block.fills in
-        let inside : new.place + size_at w.filled new.place ≤ length w.filled = k.inside in
-        let grows : length w.filled ≤ length w.roomy = (node_taking).grows.edit.longer in
-        let e : length (take n (drop (new.place + 12) now)) ≡ n = simp (length-take, length-drop) (omega arith) in
-        let f : length (take n (drop 4 body)) ≡ n = simp (length-take, length-drop) (omega arith) in
-        ext_get_or 0 (take n (drop (new.place + 12) now)) (take n (drop 4 body)) (e ∙ sym f) (λ i lt.
-        let l : i < n = subst (λ (x : ℕ). i < x) e lt in
-        let moved : new.place + 12 + i ≡ new.place + 8 + (4 + i) = omega arith in
-        get_or-take n (drop (new.place + 12) now) i 0 l ∙ get_or-drop (new.place + 12) now i 0 ∙ ap (λ (x : ℕ). byte now x) moved ∙ body_at (4 + i) (omega arith) ∙ sym (get_or-drop 4 body i 0) ∙ sym (get_or-take n (drop 4 body) i 0 l))
-        ∙ says.records_are
+        let grows : length w.filled ≤ length w.roomy = node_taking.grows.edit.longer in
+        let whole = drop (new.place + 8) w.filled in
+        let there : take (length body) whole ≡ body = ap (λ (xs : List ℕ). take (length body) (drop (new.place + 8) xs)) w.block.written ∙ put_there w.block.taken (new.place + 8) body (omega (arith, w.block.inside)) in
+        let behind : new.place + 12 ≡ new.place + 8 + 4 = omega arith in
+        piece_kept w.filled now new.place (new.place + size_at w.filled new.place) k.same (new.place + 12) n (omega arith) (omega arith) (omega (arith, k.inside)) (omega arith)
+        ∙ ap (take n) (ap (λ (m : ℕ). drop m w.filled) behind ∙ sym (drop-drop 4 (new.place + 8) w.filled)) ∙ sym (drop-take 4 n whole)
+        ∙ ap (drop 4) (sym (take-take (4 + n) (length body) whole (omega arith)) ∙ ap (take (4 + n)) there) ∙ drop-take 4 n body ∙ says.records_are
 
     pub blocks_go_on : BlocksGoOn b now own new records
     blocks_go_on = record {
@@ -460,12 +451,7 @@ module _ {b now : List ℕ} {kind : Kind} {before : List VariableShape} {own : V
       -- ---- the nodes
 
       counted_before_it : Each (Counts b) (nodes_of own.index)
-      counted_before_it =
-          let rows = (Hold-split (nodes_rows b s.records (negsuc 0) (pos record_number_limit) own.index) (flat_map (leaf_rows b s.records v) (leaves_of own.index)) (own_rules good among).1).0 in
-          each (Counts b) (nodes_of own.index) (λ m i.
-          let r = rooms_hold b s.records (negsuc 0) (pos record_number_limit) own.index rows m i in
-          let p = both (nat_le (number b m vxr_n_used_entries) (room_at b m) && nat_le (room_at b m) signed_limit) (holds b m (vxr_entries (room_at b m))) r in
-          le_of (number b m vxr_n_used_entries) (room_at b m) (both (nat_le (number b m vxr_n_used_entries) (room_at b m)) (nat_le (room_at b m) signed_limit) p.0).0)
+      counted_before_it = counts_hold b s.records (negsuc 0) (pos record_number_limit) own.index (Hold-split (nodes_rows b s.records (negsuc 0) (pos record_number_limit) own.index) (flat_map (leaf_rows b s.records v) (leaves_of own.index)) (own_rules good among).1).0
 
       -- ---- the blocks
 
@@ -510,8 +496,8 @@ module _ {b now : List ℕ} {kind : Kind} {before : List VariableShape} {own : V
         are_reborn = λ m i. inl i;
         reborn_are = λ m i. elim i [ inl j ↦ j | inr none ↦ absurd none ];
         times_are = λ m. omega (arith, nodes_with_leaf new at m own.index, new_times room at m, places_with_leaf new at 0 record_number_limit own.index order m, times-append m (new.place ∷ []) (new_nodes room at));
-        fresh = (taking).fresh_all;
-        taken_once = (taking).once;
+        fresh = taking.fresh_all;
+        taken_once = taking.once;
         in_use = λ m i u. elim (type_now plain m i) [ inl x ↦ apart vvr_type uir_type refl (sym x.1 ∙ u) | inr x ↦ apart vxr_type uir_type refl (sym x.2 ∙ u) ];
         were_nodes = λ m i. absurd i;
         freed_once = tt;
@@ -524,24 +510,21 @@ module _ {b now : List ℕ} {kind : Kind} {before : List VariableShape} {own : V
       born_read m i = elim (type_now plain m i) [ inl z ↦ ap (λ (t : ℕ). is_in t read_types) z.1 | inr z ↦ ap (λ (t : ℕ). is_in t read_types) z.2 ]
 
       pub good_now : Good now
-      good_now = changed_good good among (changed plain) reborn [] exchanged index_ruled born_read (end_now) short
+      good_now = changed_good good among (changed plain) reborn [] exchanged index_ruled born_read end_now short
 
       -- ---- how it goes on
-
-      abbrev entries : List Mark
-      entries = entry_marks kind v (new_nodes room at ++ nodes_of own.index) (length w.roomy)
 
       pub leaf_goes_on : GoesOn b now kind before own mine after step
       leaf_goes_on =
           let clear = unmarked-away entries uir_type in
-          goes_by good among x good_now (leaf_follows plain) (keeps_fields sound edit (records_are plain) s.gdr gdr_type (r_max_rec_field kind ++ space_fields) (gdr_in b s sound.has_shape) (gdr_typed b s sound.has_shape) (tests).heads_clear (tests).inside)
+          goes_by good among x good_now (leaf_follows plain) (keeps_fields sound edit (records_are plain) s.gdr gdr_type (r_max_rec_field kind ++ space_fields) (gdr_in b s sound.has_shape) (gdr_typed b s sound.has_shape) tests.heads_clear tests.inside)
           (λ m i free.
           let ok = sound.has_shape.unused_chain.linkable m i in
           let inside = linkable-in b s.records uir_type m ok in
-          let marked = listed_free (taking) m i (tile_lies b 8 (length b) s.records m sound.has_shape.tiled inside).long free in
+          let marked = listed_free taking m i (tile_lies b 8 (length b) s.records m sound.has_shape.tiled inside).long free in
           let away = clear m (index_unmarked kind v (new_nodes room at ++ nodes_of own.index) (field 12 (length w.roomy))) in
           keeps_within sound edit (records_are plain) m uir_type links inside (linkable-type b s.records uir_type m ok) (Avoids-append space entries uir_type m 0 12 marked.0 (away-avoids entries uir_type m 0 12 away)) (Within-append space entries uir_type m links marked.1 (away-within entries uir_type m links away)))
-          (λ m i typed out. keeps_away sound edit (records_are plain) m uir_type (Only []) i typed (Away-append space entries uir_type m (unlisted_away (taking) m i out) (clear m (index_unmarked kind v (new_nodes room at ++ nodes_of own.index) (field 12 (length w.roomy))))))
+          (λ m i typed out. keeps_away sound edit (records_are plain) m uir_type (Only []) i typed (Away-append space entries uir_type m (unlisted_away taking m i out) (clear m (index_unmarked kind v (new_nodes room at ++ nodes_of own.index) (field 12 (length w.roomy))))))
 
       pub r_max_rec_stays : r_max_rec now ≡ r_max_rec b
-      r_max_rec_stays = of_own.r_max_rec_kept good among (y plain) (tests).max_clear
+      r_max_rec_stays = of_own.r_max_rec_kept good among (y plain) tests.max_clear
