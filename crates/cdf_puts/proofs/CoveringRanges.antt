@@ -239,10 +239,7 @@ module _ {v : Variable} {index index' : Nodes} {n k taken : ℕ} (c : Covering v
   abbrev last : ℕ
   last = new_last v index' k
 
-  abbrev most : ℕ
-  most = block_count v
-
-  pub covering_ends : Ends k (next_first k (firsts_of index')) most last
+  pub covering_ends : Ends k (next_first k (firsts_of index')) (block_count v) last
   covering_ends = ends v (firsts_of index') k (omega arith)
 
   module _ (rule : is_sparse v.sparse ≡ false) (loose : v.rle ≡ false) (vacant : find (λ (leaf : Leaf). covers k (range leaf.first leaf.last)) (leaves_of index') ≡ None) where
@@ -287,7 +284,7 @@ module _ {v : Variable} {index index' : Nodes} {n k taken : ℕ} (c : Covering v
           more_bytes taken so_far.records so_far.blocks (last + 1 - k) (record_length v) (vxr_bytes (widest index)) (node_bytes k index') so_far.bytes_are (node_fits k (widest index) index' (omega arith))
 
       -- the new block is full, or one more First is passed
-      full_or_passed : last + 1 ≤ n → (last + 1 - k ≡ most) ⊎ (suc (count_upto k fs) ≤ count_upto (last + 1) fs)
+      full_or_passed : last + 1 ≤ n → (last + 1 - k ≡ block_count v) ⊎ (suc (count_upto k fs) ≤ count_upto (last + 1) fs)
       full_or_passed more =
           let past = next_past k (firsts_of index') (omega arith) in
           grind (arith, nat_tests, next_passed k fs)
@@ -299,7 +296,7 @@ module _ {v : Variable} {index index' : Nodes} {n k taken : ℕ} (c : Covering v
         records_are =
             let are = so_far.records_are in
             ap (covered (first_written v n) n) ranges_are ∙ covered_with (first_written v n) n (range k last) (ranges_of index') ∙ omega arith;
-        blocks_are = more_blocks so_far.blocks so_far.records (last + 1 - k) (count_upto k fs) (count_upto (last + 1) fs) most so_far.blocks_are (full_or_passed more) (count_more k (last + 1) fs (let o = covering_ends.ordered in omega arith));
+        blocks_are = more_blocks so_far.blocks so_far.records (last + 1 - k) (count_upto k fs) (count_upto (last + 1) fs) (block_count v) so_far.blocks_are (full_or_passed more) (count_more k (last + 1) fs (let o = covering_ends.ordered in omega arith));
         bytes_are = bytes';
       }
 

@@ -16,29 +16,26 @@ links = uir_next_uir ∷ uir_prev_uir ∷ []
 -- ---- what a put may change of the records of its variable
 
 module _ {b : List ℕ} {kind : Kind} {before : List VariableShape} {own : VariableShape} {after : List VariableShape} (good : Good b) (at : StandsAmong b kind before own after) (r : ℕ) where
-  abbrev found : Found
-  found = found_in b kind before own
-
   abbrev pub own_may : ℕ → Allowance
-  own_may m = (put_changes b (shape b) found r).variables kind (length before) m
+  own_may m = (put_changes b (shape b) (found_in b kind before own) r).variables kind (length before) m
 
   abbrev block : Range → Allowance
   block rg = anything_if (is_rewritten (variable_of b own) r rg)
 
-  allowed : (m : ℕ) (o : Option Range) → range_at (shape b) found m ≡ o → own_may m ≡ by_range b kind put_fields block m o
+  allowed : (m : ℕ) (o : Option Range) → range_at (shape b) (found_in b kind before own) m ≡ o → own_may m ≡ by_range b kind put_fields block m o
   allowed m o e =
       let same : same_kind kind kind ≡ true = same_as_itself kind in
       let number : (length before == length before) ≡ true = eq-eqb (length before) (length before) refl in
       λ i. if same i then (if number i then by_range b kind put_fields block m (e i) else only_of b m (vdr_type kind) []) else Only []
 
   pub descriptor_allowed : own_may own.vdr ≡ Only put_fields
-  descriptor_allowed = of_own.descriptor_allowed found good at refl put_fields block own_may allowed
+  descriptor_allowed = of_own.descriptor_allowed (found_in b kind before own) good at refl put_fields block own_may allowed
 
   pub node_allowed : (m : ℕ) → In m (nodes_of own.index) → own_may m ≡ Anything
-  node_allowed = of_own.node_allowed found good at refl put_fields block own_may allowed
+  node_allowed = of_own.node_allowed (found_in b kind before own) good at refl put_fields block own_may allowed
 
   pub block_allowed : (l : Leaf) → IsOneOf (leaves_of own.index) l → own_may l.place ≡ anything_if (is_rewritten (variable_of b own) r (range l.first l.last))
-  block_allowed = of_own.block_allowed found good at refl put_fields block own_may allowed
+  block_allowed = of_own.block_allowed (found_in b kind before own) good at refl put_fields block own_may allowed
 
 -- ---- the descriptor
 
@@ -76,22 +73,19 @@ module _ {b now : List ℕ} {kind : Kind} {before : List VariableShape} {own : V
 -- ---- an edit of one variable goes on
 
 module _ {b now : List ℕ} {kind : Kind} {before : List VariableShape} {own : VariableShape} {after : List VariableShape} {index : Nodes} {new list : List ℕ} {marks : List Mark} {reborn : List ℕ} (good : Good b) (at : StandsAmong b kind before own after) (x : IndexEdit b now kind own index new list marks reborn) where
-  abbrev s : Shape
-  s = shape b
-
   y : OwnEdit b now kind own index new list marks reborn
   y = own_edit good at x
 
-  sound : IsSound b s
+  sound : IsSound b (shape b)
   sound = good_is_sound b good
 
-  stand : (m : ℕ) → In m s.records → Kept b now m → Stood b now m
+  stand : (m : ℕ) → In m (shape b).records → Kept b now m → Stood b now m
   stand = stood sound x.edit (records_are good at y)
 
-  beside : (vs : List VariableShape) → ((m : ℕ) → In m (flat_map variable_records vs) → In m (all_variable_records s)) → ((m : ℕ) → In m (variable_records own) → In m (flat_map variable_records vs) → ⊥) → (m : ℕ) → In m (flat_map variable_records vs) → Stood b now m
-  beside vs sub out m i = let inside = variables_in b s sound m (sub m i) in stand m inside (kept_away x.edit m (type_at b m) inside refl (x.beside m (sub m i) (λ j. out m j i)))
+  beside : (vs : List VariableShape) → ((m : ℕ) → In m (flat_map variable_records vs) → In m (all_variable_records (shape b))) → ((m : ℕ) → In m (variable_records own) → In m (flat_map variable_records vs) → ⊥) → (m : ℕ) → In m (flat_map variable_records vs) → Stood b now m
+  beside vs sub out m i = let inside = variables_in b (shape b) sound m (sub m i) in stand m inside (kept_away x.edit m (type_at b m) inside refl (x.beside m (sub m i) (λ j. out m j i)))
 
-  pub goes_by : {acts : List Act} → Good now → ActsFollow b now acts → Stays b now s.gdr (r_max_rec_field kind ++ space_fields) → ListedStay b now acts → LooseStay b now → GoesOn b now kind before own (record own { index = index }) after acts
+  pub goes_by : {acts : List Act} → Good now → ActsFollow b now acts → Stays b now (shape b).gdr (r_max_rec_field kind ++ space_fields) → ListedStay b now acts → LooseStay b now → GoesOn b now kind before own (record own { index = index }) after acts
   goes_by still follow gdr listed loose = record {
     good = still;
     among = among_now good at y;
@@ -109,11 +103,11 @@ module _ {b now : List ℕ} {kind : Kind} {before : List VariableShape} {own : V
       same = λ n lt out. (of_index.part good at x n (n + 1) (beside_put n out) (omega arith)).each (own.vdr + n) (omega arith) (omega arith);
     };
     stay = record {
-      cdr = stand 8 (is_a-in b s.records cdr_type 8 sound.has_shape.cdr_stands) (cdr_kept sound x.edit x.file_clear);
+      cdr = stand 8 (is_a-in b (shape b).records cdr_type 8 sound.has_shape.cdr_stands) (cdr_kept sound x.edit x.file_clear);
       attributes = λ m i. stand m (all_attributes_in sound m i) (attributes_kept sound (splices good at y) m i);
       front = beside before (ours good at).0.sub (λ m i. (only good at y m i).in_before);
       back = beside after (after_ours good at).sub (λ m i. (only good at y m i).in_after);
-      others = beside (shapes_of s (other_kind kind)) (kind_ours b s sound (other_kind kind)).sub (λ m i. (only good at y m i).in_others);
+      others = beside (shapes_of (shape b) (other_kind kind)) (kind_ours b (shape b) sound (other_kind kind)).sub (λ m i. (only good at y m i).in_others);
     };
     listed = listed;
     loose = loose;

@@ -49,23 +49,11 @@ module _ {b now now' : List ℕ} {kind : Kind} {before : List VariableShape} {ow
   abbrev own'' : VariableShape
   own'' = record own' { index = with_leaf new at own'.index }
 
-  abbrev size : ℕ
-  size = record_bytes b own.vdr
-
   abbrev first : ℕ
   first = first_written (variable_of b own) r
 
-  abbrev most : ℕ
-  most = extent (max_rec_at b own.vdr)
-
-  abbrev olds : List Leaf
-  olds = leaves_of own.index
-
   abbrev leaves : List Leaf
   leaves = leaves_of own'.index
-
-  abbrev leaves' : List Leaf
-  leaves' = leaves_of own''.index
 
   abbrev upto : ℕ
   upto = min (last + 1) (r + 1)
@@ -85,14 +73,14 @@ module _ {b now now' : List ℕ} {kind : Kind} {before : List VariableShape} {ow
   small : last ≤ record_number_limit
   small = before_limit k last (firsts_of own'.index) vacant.before_next
 
-  in_new : (l : Leaf) → IsOneOf leaves l → IsOneOf leaves' l
+  in_new : (l : Leaf) → IsOneOf leaves l → IsOneOf (leaves_of own''.index) l
   in_new l i = leaf_stays new at 0 record_number_limit own'.index order l i
 
-  new_in : IsOneOf leaves' new
+  new_in : IsOneOf (leaves_of own''.index) new
   new_in = leaf_added new at 0 record_number_limit own'.index order
 
-  found_at : (j : ℕ) (l : Leaf) → IsOneOf leaves' l → l.first ≤ j → j ≤ l.last → find (λ (leaf : Leaf). covers j (range leaf.first leaf.last)) leaves' ≡ Some l
-  found_at j l i f t = find_covering j 0 (suc record_number_limit) leaves' (leaves_ascend good' among') l i f t
+  found_at : (j : ℕ) (l : Leaf) → IsOneOf (leaves_of own''.index) l → l.first ≤ j → j ≤ l.last → find (λ (leaf : Leaf). covers j (range leaf.first leaf.last)) (leaves_of own''.index) ≡ Some l
+  found_at j l i f t = find_covering j 0 (suc record_number_limit) (leaves_of own''.index) (leaves_ascend good' among') l i f t
 
   -- a leaf that was there ends before the new one, or begins behind it
   beside_new : (l : Leaf) → IsOneOf leaves l → l.first ≤ l.last → (l.last < k) ⊎ (last < l.first)
@@ -112,7 +100,7 @@ module _ {b now now' : List ℕ} {kind : Kind} {before : List VariableShape} {ow
 
   -- ---- their bytes
 
-  size_after : record_bytes now' own'.vdr ≡ size
+  size_after : record_bytes now' own'.vdr ≡ record_bytes b own.vdr
   size_after = record_alike (file so.goes.good so.goes.among w) (vdr_alike so.goes.good so.goes.among (index_edit so.goes.good so.goes.among (new_index so.goes.good so.goes.among w (plain_body body records holds)))) ∙ size_now so
 
   longer : length now ≤ length now'
@@ -127,7 +115,7 @@ module _ {b now now' : List ℕ} {kind : Kind} {before : List VariableShape} {ow
   more_upto : k < upto
   more_upto = let o = vacant.ordered in omega arith
 
-  old_block : (l : Leaf) → IsOneOf olds l → OldBlock b now' raw pad r first upto size l
+  old_block : (l : Leaf) → IsOneOf (leaves_of own.index) l → OldBlock b now' raw pad r first upto (record_bytes b own.vdr) l
   old_block l i =
       let j = so.blocks.stay l i in
       elim (beside_new l j ((old_plain so l i).ordered)) [
@@ -135,15 +123,15 @@ module _ {b now now' : List ℕ} {kind : Kind} {before : List VariableShape} {ow
         | inr lt ↦ old_goes_on so longer l (same l j) i (omega arith) (λ j' from low f t. absurd (omega arith))
       ]
 
-  new_block : NewBlock now' raw pad r first most upto size (acts ++ step) new
+  new_block : NewBlock now' raw pad r first (extent (max_rec_at b own.vdr)) upto (record_bytes b own.vdr) (acts ++ step) new
   new_block = record {
     from = so.covers.from;
     upto = more_upto;
     ends = λ lt. omega arith;
-    alone = λ lt. subst (λ (n : ℕ). n ≤ r) (sym (is ∙ one_alone (variable_of b own) (firsts_of own'.index) k (lt-ltb k most (omega arith)))) more;
+    alone = λ lt. subst (λ (n : ℕ). n ≤ r) (sym (is ∙ one_alone (variable_of b own) (firsts_of own'.index) k (lt-ltb k (extent (max_rec_at b own.vdr)) (omega arith)))) more;
     plain = refl;
     was_taken = taken_then acts step place (block_taken place (8 + length body) (new_room k own'.index) at);
-    written = λ j f t. sym (plain_piece now' own'.vdr size j new refl small size_after f t) ∙ ap (λ (xs : List ℕ). take size (drop ((j - k) * size) xs)) plain_is ∙ says.written j f t;
+    written = λ j f t. sym (plain_piece now' own'.vdr (record_bytes b own.vdr) j new refl small size_after f t) ∙ ap (λ (xs : List ℕ). take (record_bytes b own.vdr) (drop ((j - k) * (record_bytes b own.vdr)) xs)) plain_is ∙ says.written j f t;
     spare = λ i low high. (blocks_go_on so.goes.good so.goes.among w holds).spare i (subst (λ (n : ℕ). 12 + n ≤ i) (sym says.as_long) low) high;
   }
     where
@@ -159,7 +147,7 @@ module _ {b now now' : List ℕ} {kind : Kind} {before : List VariableShape} {ow
     apart = λ l i. taken_neither acts step l.place (so.blocks.apart l i) (leaf_apart l (so.blocks.stay l i));
     old = old_block;
     new = λ l i. elim (leaf_was_there new at 0 record_number_limit own'.index order l i) [
-      | inl q ↦ inr (subst (NewBlock now' raw pad r first most upto size (acts ++ step)) (sym q) new_block)
+      | inl q ↦ inr (subst (NewBlock now' raw pad r first (extent (max_rec_at b own.vdr)) upto (record_bytes b own.vdr) (acts ++ step)) (sym q) new_block)
       | inr j ↦ elim (so.blocks.new l j) [
         | inl o ↦ inl o
         | inr n ↦ inr (new_goes_on so longer l (same l j) j (let m = more_upto in omega arith) (taken_first acts step l.place n.was_taken) n)
@@ -204,14 +192,14 @@ module _ {b now now' : List ℕ} {kind : Kind} {before : List VariableShape} {ow
   one_new : new_ranges (ranges_of own.index) (ranges_of own''.index) ≡ rs ++ range k last ∷ []
   one_new =
       let rng = λ (l : Leaf). range l.first l.last in
-      let one = one_more (λ l. test (rng l)) (λ l. test (rng l)) 0 (suc record_number_limit) leaves new ascend (ap not (none_covers k olds (λ l i. out l (so.blocks.stay l i)))) (λ l i le. refl) (λ l i lt. let e = ap not (was_there l i lt (so.blocks.new l i)) in (e, e)) in
+      let one = one_more (λ l. test (rng l)) (λ l. test (rng l)) 0 (suc record_number_limit) leaves new ascend (ap not (none_covers k (leaves_of own.index) (λ l i. out l (so.blocks.stay l i)))) (λ l i le. refl) (λ l i lt. let e = ap not (was_there l i lt (so.blocks.new l i)) in (e, e)) in
       ap (λ (ls : List Leaf). filter test (map rng ls)) leaves_are ∙ filter_mapped rng test (with_new new leaves) ∙ ap (map rng) one ∙ map-append rng (filter (λ l. test (rng l)) leaves) (new ∷ []) ∙ ap (λ (xs : List Range). xs ++ range k last ∷ []) (sym (filter_mapped rng test leaves))
     where
       out : (l : Leaf) → IsOneOf leaves l → (l.last < k) ⊎ (k < l.first)
       out l i = elim (beside_new l i (ordered l i)) [ inl lt ↦ inl lt | inr lt ↦ inr (let o = vacant.ordered in omega arith) ]
 
-      was_there : (l : Leaf) → IsOneOf leaves l → k < l.first → IsOneOf olds l ⊎ NewBlock now raw pad r first most k (record_bytes b own.vdr) acts l → list_any (covers l.first) (ranges_of own.index) ≡ true
-      was_there l i lt (inl o) = covers_own olds l o (ordered l i)
+      was_there : (l : Leaf) → IsOneOf leaves l → k < l.first → IsOneOf (leaves_of own.index) l ⊎ NewBlock now raw pad r first (extent (max_rec_at b own.vdr)) k (record_bytes b own.vdr) acts l → list_any (covers l.first) (ranges_of own.index) ≡ true
+      was_there l i lt (inl o) = covers_own (leaves_of own.index) l o (ordered l i)
       was_there l i lt (inr x) = let u = x.upto in absurd (omega arith)
 
   -- ---- the nodes

@@ -33,20 +33,11 @@ outside_there first k size (x ∷ more) l place (inl q) from f t o =
     elim here [ inl lt ↦ (let s = starts_before first k l.first size f from in inl (omega arith)) | inr le ↦ (let e = ends_behind first k l.first l.last size f t from in inr (omega arith)) ]
 
 module _ {b now now' : List ℕ} {kind : Kind} {before : List VariableShape} {own own' : VariableShape} {after : List VariableShape} {raw pad : List ℕ} {r k : ℕ} {acts : List Act} {l : Leaf} (so : SoFar b now kind before own own' after raw pad r k acts) (more : k ≤ r) (w : RecordsWritten now now' own' l k (record_of raw pad r k)) (as_long : length (record_of raw pad r k) ≡ record_bytes b own.vdr) where
-  abbrev bytes : List ℕ
-  bytes = record_of raw pad r k
-
   abbrev size : ℕ
   size = record_bytes b own.vdr
 
   abbrev first : ℕ
   first = first_written (variable_of b own) r
-
-  abbrev most : ℕ
-  most = extent (max_rec_at b own.vdr)
-
-  abbrev olds : List Leaf
-  olds = leaves_of own.index
 
   abbrev leaves : List Leaf
   leaves = leaves_of own'.index
@@ -62,19 +53,19 @@ module _ {b now now' : List ℕ} {kind : Kind} {before : List VariableShape} {ow
 
   -- ---- what is put
 
-  written : now' ≡ put now (record_place l size k) bytes
-  written = w.written ∙ ap (λ (n : ℕ). put now (record_place l n k) bytes) (size_now so)
+  written : now' ≡ put now (record_place l size k) (record_of raw pad r k)
+  written = w.written ∙ ap (λ (n : ℕ). put now (record_place l n k) (record_of raw pad r k)) (size_now so)
 
   low : record_place l size k ≤ length now
   low = omega (arith, record_fits k l.first l.last size has_it.0 has_it.1, (now_plain so l is_leaf).room, inside_now so l is_leaf)
 
   beside : (place : ℕ) → (place < record_place l size k) ⊎ (record_place l size k + size ≤ place) → byte now' place ≡ byte now place
-  beside place (inl lt) = ap (λ (x : List ℕ). byte x place) written ∙ byte-put_before now (record_place l size k) bytes place low lt
-  beside place (inr le) = ap (λ (x : List ℕ). byte x place) written ∙ byte-put_after now (record_place l size k) bytes place low (subst (λ (n : ℕ). record_place l size k + n ≤ place) (sym as_long) le)
+  beside place (inl lt) = ap (λ (x : List ℕ). byte x place) written ∙ byte-put_before now (record_place l size k) (record_of raw pad r k) place low lt
+  beside place (inr le) = ap (λ (x : List ℕ). byte x place) written ∙ byte-put_after now (record_place l size k) (record_of raw pad r k) place low (subst (λ (n : ℕ). record_place l size k + n ≤ place) (sym as_long) le)
 
-  here : (n : ℕ) → BlockWritten now now' l size k n bytes
+  here : (n : ℕ) → BlockWritten now now' l size k n (record_of raw pad r k)
   here n = record {
-    there = ap (λ (x : List ℕ). take size (drop (record_place l size k) x)) written ∙ ap (λ (n : ℕ). take n (drop (record_place l size k) (put now (record_place l size k) bytes))) (sym as_long) ∙ put_there now (record_place l size k) bytes low;
+    there = ap (λ (x : List ℕ). take size (drop (record_place l size k) x)) written ∙ ap (λ (n : ℕ). take n (drop (record_place l size k) (put now (record_place l size k) (record_of raw pad r k)))) (sym as_long) ∙ put_there now (record_place l size k) (record_of raw pad r k) low;
     beside = λ i lt side. beside (l.place + i) (elim side [ inl before ↦ inl (omega arith) | inr behind ↦ inr (omega arith) ]);
   }
 
@@ -83,10 +74,10 @@ module _ {b now now' : List ℕ} {kind : Kind} {before : List VariableShape} {ow
   other : (l' : Leaf) → IsOneOf leaves l' → l'.place ≢ l.place → Same now now' l'.place (l'.place + size_at now l'.place)
   other l' i ne = (other_blocks so.goes.good so.goes.among w l'.place (place_in leaves l' i) ne).same
 
-  no_new : NewBlock now raw pad r first most k size acts l → ⊥
+  no_new : NewBlock now raw pad r first (extent (max_rec_at b own.vdr)) k size acts l → ⊥
   no_new n = let e = n.ends (let t = has_it.1 in omega arith) in omega arith
 
-  old_block : (l' : Leaf) → IsOneOf olds l' → OldBlock b now' raw pad r first (k + 1) size l'
+  old_block : (l' : Leaf) → IsOneOf (leaves_of own.index) l' → OldBlock b now' raw pad r first (k + 1) size l'
   old_block l' i =
       let x = old_plain so l' i in
       let j = so.blocks.stay l' i in
@@ -96,7 +87,7 @@ module _ {b now now' : List ℕ} {kind : Kind} {before : List VariableShape} {ow
             let begins : l'.first ≤ k = subst (λ (y : Leaf). y.first ≤ k) same has_it.0 in
             let ends : k ≤ l'.last = subst (λ (y : Leaf). k ≤ y.last) same has_it.1 in
             let inside = inside_old so l' i in
-            old_written longer (so.blocks.old l' i) x.room (omega arith) begins ends so.covers.from (subst (λ (y : Leaf). BlockWritten now now' y size k (size_at b l'.place) bytes) same (here (size_at b l'.place)))
+            old_written longer (so.blocks.old l' i) x.room (omega arith) begins ends so.covers.from (subst (λ (y : Leaf). BlockWritten now now' y size k (size_at b l'.place) (record_of raw pad r k)) same (here (size_at b l'.place)))
         | inr ne ↦
             elim (elsewhere l' j ne) [
               | inl lt ↦ old_goes_on so longer l' (other l' j ne) i (omega arith) (λ j' from upto f t. (omega arith))
@@ -114,9 +105,9 @@ module _ {b now now' : List ℕ} {kind : Kind} {before : List VariableShape} {ow
         ]
       ]
 
-  new_block : (l' : Leaf) → IsOneOf leaves l' → NewBlock now raw pad r first most k size acts l' → NewBlock now' raw pad r first most (k + 1) size acts l'
+  new_block : (l' : Leaf) → IsOneOf leaves l' → NewBlock now raw pad r first (extent (max_rec_at b own.vdr)) k size acts l' → NewBlock now' raw pad r first (extent (max_rec_at b own.vdr)) (k + 1) size acts l'
   new_block l' i n = elim (cases_eq l'.place l.place) [
-    | inl e ↦ let same : l' ≡ l = one_place leaves (leaves_apart so.goes.good so.goes.among) l' l i is_leaf e in absurd (no_new (subst (NewBlock now raw pad r first most k size acts) same n))
+    | inl e ↦ let same : l' ≡ l = one_place leaves (leaves_apart so.goes.good so.goes.among) l' l i is_leaf e in absurd (no_new (subst (NewBlock now raw pad r first (extent (max_rec_at b own.vdr)) k size acts) same n))
     | inr ne ↦ new_goes_on so longer l' (other l' i ne) i (omega arith) n.was_taken n
   ]
 
@@ -129,11 +120,11 @@ module _ {b now now' : List ℕ} {kind : Kind} {before : List VariableShape} {ow
     has = λ j from upto. elim (cases_lt j k) [ inl lt ↦ so.blocks.has j from lt | inr le ↦ (l, (is_leaf, (let f = has_it.0 in omega arith, let t = has_it.1 in omega arith))) ];
     quiet = λ e. record {
       longer = let a = so.goes.file.longer in let c = longer in omega arith;
-      same = λ place lt out. beside place (outside_there first k size olds l place is_old so.covers.from has_it.0 has_it.1 out) ∙ (so.blocks.quiet e).same place lt (outside_less first k size olds place out);
+      same = λ place lt out. beside place (outside_there first k size (leaves_of own.index) l place is_old so.covers.from has_it.0 has_it.1 out) ∙ (so.blocks.quiet e).same place lt (outside_less first k size (leaves_of own.index) place out);
     };
   }
     where
-      is_old : IsOneOf olds l
+      is_old : IsOneOf (leaves_of own.index) l
       is_old = elim (so.blocks.new l is_leaf) [ inl o ↦ o | inr n ↦ absurd (no_new n) ]
 
   -- ---- the index

@@ -29,10 +29,7 @@ pub record LastImage (b now last : List ℕ) (kind : Kind) (before : List Variab
   pub max_rec_is : max_rec_at last own.vdr ≡ last_number (greater (extent (max_rec_at b own.vdr)) (r + 1))
 
 module _ {b now : List ℕ} {kind : Kind} {before : List VariableShape} {own own' : VariableShape} {after : List VariableShape} {raw pad : List ℕ} {r : ℕ} {acts : List Act} (so : SoFar b now kind before own own' after raw pad r (r + 1) acts) where
-  abbrev was : ℕ
-  was = extent (max_rec_at b own.vdr)
-
-  still : r < was → LastImage b now now kind before own own' after r acts
+  still : r < (extent (max_rec_at b own.vdr)) → LastImage b now now kind before own own' after r acts
   still lt =
       let same = ap with_sign so.max_rec_is in
       record {
@@ -42,10 +39,10 @@ module _ {b now : List ℕ} {kind : Kind} {before : List VariableShape} {own own
         tail = refl;
         as_long = refl;
         changed = record { longer = omega arith; same = λ place l out. refl };
-        max_rec_is = same ∙ sym (last_of_extent (max_rec_at b own.vdr) r lt) ∙ ap last_number (sym (greater_is_first was r lt));
+        max_rec_is = same ∙ sym (last_of_extent (max_rec_at b own.vdr) r lt) ∙ ap last_number (sym (greater_is_first (extent (max_rec_at b own.vdr)) r lt));
       }
 
-  raised : {last : List ℕ} → was ≤ r → MaxRecRaised now last kind own' r → LastImage b now last kind before own own' after r acts
+  raised : {last : List ℕ} → (extent (max_rec_at b own.vdr)) ≤ r → MaxRecRaised now last kind own' r → LastImage b now last kind before own own' after r acts
   raised {last = last} past w =
       let good = so.goes.good in
       let at = so.goes.among in
@@ -55,12 +52,12 @@ module _ {b now : List ℕ} {kind : Kind} {before : List VariableShape} {own own
       let goes : GoesOn b last kind before own own' after acts = subst (GoesOn b last kind before own own' after) (append-nil acts) (goes_then so.start.good so.start.among so.goes (goes_written good at writes so.short) (only_takes acts so.takes) tt) in
       record {
         goes = goes;
-        r_max_rec = greatest_raised so.start.good so.start.among last (variable_of last own') goes.content_is (subst (λ (z : ℤ). was < extent z) (sym is) (omega arith)) w.greatest (λ z. r_max_rec_of_z good at writes z ∙ so.r_max_rec_is);
+        r_max_rec = greatest_raised so.start.good so.start.among last (variable_of last own') goes.content_is (subst (λ (z : ℤ). (extent (max_rec_at b own.vdr)) < extent z) (sym is) (omega arith)) w.greatest (λ z. r_max_rec_of_z good at writes z ∙ so.r_max_rec_is);
         behind = raised_behind good at w small;
         tail = raised_tail good at w small;
         as_long = w.as_long;
         changed = w.changed;
-        max_rec_is = ap (max_rec_at last) (sym so.goes.vdr_is) ∙ is ∙ sym (ap last_number (greater_is_last was r past));
+        max_rec_is = ap (max_rec_at last) (sym so.goes.vdr_is) ∙ is ∙ sym (ap last_number (greater_is_last (extent (max_rec_at b own.vdr)) r past));
       }
 
   pub last_image : {last : List ℕ} → MaxRecDone b now last kind own own' r → LastImage b now last kind before own own' after r acts

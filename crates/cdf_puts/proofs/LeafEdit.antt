@@ -161,12 +161,9 @@ module _ {b now : List ℕ} {kind : Kind} {before : List VariableShape} {own : V
   pub taking : TakenAll b w.roomy (leaf_acts new.place need room at) reborn enough
   taking = taken_then sound w.block.fills (omega arith) node_taking
 
-  abbrev grown : Edit b w.roomy (shape b).records (shape w.roomy).records (taking_all (shape b).unused reborn enough) reborn
-  grown = taking.grows.edit
-
   -- of the records of variables they leave each that there was
   kept_first : (m t : ℕ) → In m (shape b).records → type_at b m ≡ t → is_in t variable_types ≡ true → Kept b w.roomy m
-  kept_first m t i is variable = kept_away grown m t i is (all_unmarked-away (taking_all (shape b).unused reborn enough) variable_types t m refl variable)
+  kept_first m t i is variable = kept_away taking.grows.edit m t i is (all_unmarked-away (taking_all (shape b).unused reborn enough) variable_types t m refl variable)
 
   vdr_kept : Kept b w.roomy v
   vdr_kept = kept_first v type (tile good among) (typed good among) (vdr_of_variable kind)
@@ -209,12 +206,12 @@ module _ {b now : List ℕ} {kind : Kind} {before : List VariableShape} {own : V
   touch_marked t (inl x) =
       let size = size_kept b w.roomy v vdr_kept.same (omega (arith, vdr_kept.long)) in
       let wide = long good among in
-      marked x.0 (grown.sub v (tile good among)) (omega arith) (omega arith) (inl (record { typed = type_kept b w.roomy v vdr_kept.same vdr_kept.long ∙ typed good among; lies = inl refl; low = x.1; high = x.2 }))
+      marked x.0 (taking.grows.edit.sub v (tile good among)) (omega arith) (omega arith) (inl (record { typed = type_kept b w.roomy v vdr_kept.same vdr_kept.long ∙ typed good among; lies = inl refl; low = x.1; high = x.2 }))
   touch_marked t (inr x) = elim x.1 [
     | inl n ↦
         let k = node_kept t.tile n.0 in
         let fits_now = node_fits t.tile n.0 in
-        marked_node refl (grown.sub t.tile (node_in t.tile n.0)) (omega arith) x.0 (type_kept b w.roomy t.tile k.same k.long ∙ node_typed t.tile n.0) (In-append_right t.tile (new_nodes room at) nodes n.0)
+        marked_node refl (taking.grows.edit.sub t.tile (node_in t.tile n.0)) (omega arith) x.0 (type_kept b w.roomy t.tile k.same k.long ∙ node_typed t.tile n.0) (In-append_right t.tile (new_nodes room at) nodes n.0)
     | inr n ↦
         let there = node_stands room at (placed_grows sound w.block.fills).sound w.node n.0 in
         marked_node n.1 there.inside (omega arith) x.0 there.typed (In-append_left at (new_nodes room at) nodes (is_new_node room at n.0))
@@ -226,16 +223,13 @@ module _ {b now : List ℕ} {kind : Kind} {before : List VariableShape} {own : V
       (Each-map (IndexTouch w.roomy own room at) (Marked w.roomy (shape w.roomy).records entries []) touch_marked w.touches w.within) (some_bytes w.roomy (shape w.roomy) sound_roomy.has_shape)
 
   pub edit : Edit b now s.records (shape w.roomy).records marks reborn
-  edit = subst (Edit b now (shape b).records (shape w.roomy).records marks) (append-nil reborn) (edit_then grown entries_written)
+  edit = subst (Edit b now (shape b).records (shape w.roomy).records marks) (append-nil reborn) (edit_then taking.grows.edit entries_written)
 
   abbrev space : List Mark
   space = taking_all (shape b).unused reborn enough
 
   abbrev records' : List ℕ
   records' = (shape w.roomy).records
-
-  abbrev pub with_new : VariableShape
-  with_new = with_index own (with_leaf new at own.index)
 
   pub tests : IndexTests kind (r_max_rec_field kind ++ space_fields) marks
   tests = leaf_tests kind v s.unused reborn (new_nodes room at ++ nodes) enough most
@@ -348,7 +342,7 @@ module _ {b now : List ℕ} {kind : Kind} {before : List VariableShape} {own : V
       ]
 
   node_part : (m lo hi : ℕ) → In m nodes → (hi ≤ 12) ⊎ (28 + 16 * room_at w.roomy m ≤ lo) → hi ≤ size_at w.roomy m → Same w.roomy now (m + lo) (m + hi)
-  node_part m lo hi i side fits_in = changed_part w.roomy now (shape w.roomy).records (length w.roomy) sound_roomy.has_shape.tiled (omega arith) w.touches w.changed (placed w.touches w.within) m lo hi (grown.sub m (node_in m i)) fits_in (misses m lo hi i side w.touches w.within)
+  node_part m lo hi i side fits_in = changed_part w.roomy now (shape w.roomy).records (length w.roomy) sound_roomy.has_shape.tiled (omega arith) w.touches w.changed (placed w.touches w.within) m lo hi (taking.grows.edit.sub m (node_in m i)) fits_in (misses m lo hi i side w.touches w.within)
 
   size_stays : (m : ℕ) → In m nodes → size_at now m ≡ size_at b m
   size_stays m i = head_size w.roomy now m (node_part m 0 12 i (inl (omega arith)) (let size = roomy_size m i in let l = (node_kept m i).long in omega arith)) ∙ roomy_size m i
@@ -440,7 +434,7 @@ module _ {b now : List ℕ} {kind : Kind} {before : List VariableShape} {own : V
 
     module _ (loose : is_compressed b own.vdr ≡ false) (vacant : IsVacant own new.first new.last) (as_long : length records ≡ (new.last + 1 - new.first) * record_bytes b own.vdr) (short : length now ≤ image_limit) where
       abbrev mine : VariableShape
-      mine = with_new
+      mine = with_index own (with_leaf new at own.index)
 
       image : IsGoodByShape b s
       image = good_by_its_shape b good

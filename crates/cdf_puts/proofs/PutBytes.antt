@@ -106,19 +106,16 @@ old_written {b = b} {mid = mid} {now = now} {raw = raw} {pad = pad} {r = r} {fir
 -- ---- the blocks of a variable in which records are put
 
 module _ {b now : List ℕ} {kind : Kind} {before : List VariableShape} {own own' : VariableShape} {after : List VariableShape} {raw pad : List ℕ} {r k : ℕ} {acts : List Act} (so : SoFar b now kind before own own' after raw pad r k acts) where
-  abbrev size : ℕ
-  size = record_bytes b own.vdr
-
   abbrev first : ℕ
   first = first_written (variable_of b own) r
 
-  pub size_now : record_bytes now own'.vdr ≡ size
+  pub size_now : record_bytes now own'.vdr ≡ record_bytes b own.vdr
   size_now = later_size so.start.good so.start.among so.goes
 
-  pub now_plain : (l : Leaf) → IsOneOf (leaves_of own'.index) l → PlainLeaf now size l
+  pub now_plain : (l : Leaf) → IsOneOf (leaves_of own'.index) l → PlainLeaf now (record_bytes b own.vdr) l
   now_plain l i = subst (λ (n : ℕ). PlainLeaf now n l) size_now (plain_leaf so.goes.good so.goes.among (later_packed so.start.good so.start.among so.goes ∙ so.start.loose) l i)
 
-  pub old_plain : (l : Leaf) → IsOneOf (leaves_of own.index) l → PlainLeaf b size l
+  pub old_plain : (l : Leaf) → IsOneOf (leaves_of own.index) l → PlainLeaf b (record_bytes b own.vdr) l
   old_plain = plain_leaf so.start.good so.start.among so.start.loose
 
   pub inside_now : (l : Leaf) → IsOneOf (leaves_of own'.index) l → l.place + size_at now l.place ≤ length now
@@ -129,11 +126,11 @@ module _ {b now : List ℕ} {kind : Kind} {before : List VariableShape} {own own
 
   -- those in which nothing is written go on to another image
   module _ {now' : List ℕ} (longer : length now ≤ length now') {k' : ℕ} (l : Leaf) (same : Same now now' l.place (l.place + size_at now l.place)) where
-    pub old_goes_on : IsOneOf (leaves_of own.index) l → put_count first k' l ≡ put_count first k l → ((j : ℕ) → first ≤ j → j < k' → l.first ≤ j → j ≤ l.last → j < k) → OldBlock b now' raw pad r first k' size l
+    pub old_goes_on : IsOneOf (leaves_of own.index) l → put_count first k' l ≡ put_count first k l → ((j : ℕ) → first ≤ j → j < k' → l.first ≤ j → j ≤ l.last → j < k) → OldBlock b now' raw pad r first k' (record_bytes b own.vdr) l
     old_goes_on i count none =
         let room = (old_plain l i).room in
         let inside = inside_old l i in
         old_stays longer (so.blocks.old l i) room (omega arith) (subst (λ (n : ℕ). Same now now' l.place (l.place + n)) (old_size (so.blocks.old l i) (omega arith)) same) count none
 
-    pub new_goes_on : {acts' : List Act} → IsOneOf (leaves_of own'.index) l → k ≤ k' → is_taken_at acts' l.place ≡ true → NewBlock now raw pad r first (extent (max_rec_at b own.vdr)) k size acts l → NewBlock now' raw pad r first (extent (max_rec_at b own.vdr)) k' size acts' l
+    pub new_goes_on : {acts' : List Act} → IsOneOf (leaves_of own'.index) l → k ≤ k' → is_taken_at acts' l.place ≡ true → NewBlock now raw pad r first (extent (max_rec_at b own.vdr)) k (record_bytes b own.vdr) acts l → NewBlock now' raw pad r first (extent (max_rec_at b own.vdr)) k' (record_bytes b own.vdr) acts' l
     new_goes_on i more taken n = let x = now_plain l i in new_stays longer n x.ordered x.room (inside_now l i) same more taken

@@ -190,12 +190,6 @@ module _ {b now : List ℕ} {kind : Kind} {before : List VariableShape} {own : V
   abbrev so : SoFar b now kind before own own' after new.raw.items new.pad.items new.rec k is.acts
   so = is.so
 
-  abbrev head : ℕ
-  head = number now new.vdr vdr_vxr_head
-
-  abbrev size : ℕ
-  size = record_bytes b own.vdr
-
   image : IsGoodImage now (shape now)
   image = good_image now (shape now) (good_by_its_shape now so.goes.good)
 
@@ -208,7 +202,7 @@ module _ {b now : List ℕ} {kind : Kind} {before : List VariableShape} {own : V
   vdr_is : own'.vdr ≡ new.vdr
   vdr_is = so.goes.vdr_is ∙ p.vdr_is
 
-  size_now : record_bytes now own'.vdr ≡ size
+  size_now : record_bytes now own'.vdr ≡ record_bytes b own.vdr
   size_now = later_size so.start.good so.start.among so.goes
 
   pub lies : new.vdr + 340 ≤ length now
@@ -220,10 +214,10 @@ module _ {b now : List ℕ} {kind : Kind} {before : List VariableShape} {own : V
   index : HasIndex now (number now own'.vdr vdr_vxr_head) × (index_at now (number now own'.vdr vdr_vxr_head) ≡ own'.index)
   index = good_index now (shape now) among.front own' among.rest image sound among.all
 
-  pub has_index : HasIndex now head
+  pub has_index : HasIndex now (number now new.vdr vdr_vxr_head)
   has_index = subst (λ (v : ℕ). HasIndex now (number now v vdr_vxr_head)) vdr_is index.0
 
-  index_is : index_at now head ≡ own'.index
+  index_is : index_at now (number now new.vdr vdr_vxr_head) ≡ own'.index
   index_is = subst (λ (v : ℕ). index_at now (number now v vdr_vxr_head) ≡ own'.index) vdr_is index.1
 
   module _ (more : k ≤ new.rec) where
@@ -235,7 +229,7 @@ module _ {b now : List ℕ} {kind : Kind} {before : List VariableShape} {own : V
 
     -- ---- a block has the next one
 
-    module _ (l : Leaf) (found : Some (seen l) ≡ leaf_of k (leaves_of (index_at now head))) where
+    module _ (l : Leaf) (found : Some (seen l) ≡ leaf_of k (leaves_of (index_at now (number now new.vdr vdr_vxr_head)))) where
       here : leaf_of k (leaves_of own'.index) ≡ Some (seen l)
       here = sym (found ∙ ap (λ (x : Nodes). leaf_of k (leaves_of x)) index_is)
 
@@ -255,7 +249,7 @@ module _ {b now : List ℕ} {kind : Kind} {before : List VariableShape} {own : V
         module _ (bytes : List ℕ) (bytes_are : bytes ≡ record_put new.raw.items new.pad.items new.rec k) where
           pub held_within : (k - l.first) * n + length bytes ≤ (l.last + 1 - l.first) * n
           held_within =
-              let long = (ap length bytes_are ∙ record_long new.raw.items new.pad.items new.rec size p.start.raw_long p.pad_long k) ∙ sym size_now ∙ sized in
+              let long = (ap length bytes_are ∙ record_long new.raw.items new.pad.items new.rec (record_bytes b own.vdr) p.start.raw_long p.pad_long k) ∙ sym size_now ∙ sized in
               let from = held.1 in
               let upto = held.2 in
               let room = times_le (suc (k - l.first)) (l.last + 1 - l.first) n (omega arith) in
@@ -269,27 +263,24 @@ module _ {b now : List ℕ} {kind : Kind} {before : List VariableShape} {own : V
               found = here;
               within = let s = sym sized in let e = bytes_are in transport (λ i. (k - l.first) * s i + length (e i) ≤ (l.last + 1 - l.first) * s i) held_within;
               written = w ∙ (let s = sym sized in let e = bytes_are in λ i. put_at now (l.at + (12 + (k - l.first) * s i)) (e i));
-            }) (record_long new.raw.items new.pad.items new.rec size p.start.raw_long p.pad_long k);
+            }) (record_long new.raw.items new.pad.items new.rec (record_bytes b own.vdr) p.start.raw_long p.pad_long k);
           }
 
     -- ---- no block has it
 
-    abbrev v : Variable
-    v = variable_of b own
-
-    rule : is_sparse v.sparse ≡ false
+    rule : is_sparse (variable_of b own).sparse ≡ false
     rule = ap is_sparse so.start.no_rule
 
     abbrev last : ℕ
-    last = new_last v own'.index k
+    last = new_last (variable_of b own) own'.index k
 
-    ending : Ends k (next_first k (firsts_of own'.index)) (block_count v) last
+    ending : Ends k (next_first k (firsts_of own'.index)) (block_count (variable_of b own)) last
     ending = covering_ends so.covers so.start.small more
 
     last_is : last_in_new new.most own'.index k ≡ last
-    last_is = last_as v own'.index k new.rec new.most rule p.most_is so.covers.from more (let o = ending.ordered in let past = ending.before_next in omega arith)
+    last_is = last_as (variable_of b own) own'.index k new.rec new.most rule p.most_is so.covers.from more (let o = ending.ordered in let past = ending.before_next in omega arith)
 
-    module _ {at : ℕ} (at_is : at ≡ head) (vacant : leaf_of k (leaves_of (index_at now at)) ≡ None) where
+    module _ {at : ℕ} (at_is : at ≡ number now new.vdr vdr_vxr_head) (vacant : leaf_of k (leaves_of (index_at now at)) ≡ None) where
       tree_is : index_at now at ≡ own'.index
       tree_is = ap (index_at now) at_is ∙ index_is
 
@@ -300,10 +291,10 @@ module _ {b now : List ℕ} {kind : Kind} {before : List VariableShape} {own : V
         ends_at : end ≡ last
         ends_at = end_is ∙ ap (λ (x : Nodes). last_in_new new.most x k) tree_is ∙ last_is
 
-        need : 8 + length body ≡ block_bytes v k last
+        need : 8 + length body ≡ block_bytes (variable_of b own) k last
         need =
             body_long body (records_put new.raw.items new.pad.items new.rec (end + 1 - k) k) says
-            ∙ ap (λ (n : ℕ). max 28 (12 + n)) (records_long new.raw.items new.pad.items new.rec size p.start.raw_long p.pad_long (end + 1 - k) k ∙ ap (λ (n : ℕ). (n + 1 - k) * size) ends_at)
+            ∙ ap (λ (n : ℕ). max 28 (12 + n)) (records_long new.raw.items new.pad.items new.rec (record_bytes b own.vdr) p.start.raw_long p.pad_long (end + 1 - k) k ∙ ap (λ (n : ℕ). (n + 1 - k) * (record_bytes b own.vdr)) ends_at)
 
         room_here : length now + (8 + length body) + vxr_bytes (widest own'.index) ≤ limit
         room_here = omega (arith, longer_by b now is.acts so.goes.follow so.takes, need, covering_room so.covers so.start.small more rule so.start.loose none)
@@ -321,7 +312,7 @@ module _ {b now : List ℕ} {kind : Kind} {before : List VariableShape} {own : V
               own' = with_new_leaf own' (leaf k end a.place false) a.at;
               acts = is.acts ++ leaf_acts a.place (8 + length body) (new_room k own'.index) a.at;
               so = subst (λ (n : ℕ). SoFar b now' kind before own (with_new_leaf own' (leaf k end a.place false) a.at) after new.raw.items new.pad.items new.rec n (is.acts ++ leaf_acts a.place (8 + length body) (new_room k own'.index) a.at)) (omega arith)
-                  (so_far_added so more ends_at vacancy says (block_records new.raw.items new.pad.items new.rec size p.start.raw_long p.pad_long k end) a.added (not_long a.added));
+                  (so_far_added so more ends_at vacancy says (block_records new.raw.items new.pad.items new.rec (record_bytes b own.vdr) p.start.raw_long p.pad_long k end) a.added (not_long a.added));
             }
           where
             vacancy : IsVacant own' k end

@@ -80,18 +80,15 @@ small_number : (n : ℕ) → n ≤ record_number_limit → is_max_rec n ≡ true
 small_number n le = rw (le-leb n record_number_limit le) refl
 
 module _ {b now : List ℕ} {kind : Kind} {before : List VariableShape} {own : VariableShape} {after : List VariableShape} {r : ℕ} (good : Good b) (at : StandsAmong b kind before own after) (w : MaxRecRaised b now kind own r) (small : r ≤ record_number_limit) where
-  abbrev vdr : ℕ
-  vdr = own.vdr
-
   pub raise_writes : WritesRecords b now kind own []
   raise_writes = record {
-    changed = subst (Changed b now) (sym (append-nil (max_rec_touches b kind vdr))) w.changed;
+    changed = subst (Changed b now) (sym (append-nil (max_rec_touches b kind own.vdr))) w.changed;
     as_long = w.as_long;
     in_blocks = tt;
     max_rec_ruled = ap is_max_rec w.max_rec_is ∙ small_number r small;
   }
 
-  pub max_rec_raised : max_rec_at now vdr ≡ pos r
+  pub max_rec_raised : max_rec_at now own.vdr ≡ pos r
   max_rec_raised = ap with_sign w.max_rec_is ∙ signed r small
 
   -- ---- what stays
@@ -99,8 +96,8 @@ module _ {b now : List ℕ} {kind : Kind} {before : List VariableShape} {own : V
   pub raised_behind : (m : ℕ) → In m (index_records own) → Kept b now m
   raised_behind m i = behind_kept good at raise_writes m i (λ none. none)
 
-  pub raised_tail : number now vdr vdr_vxr_tail ≡ number b vdr vdr_vxr_tail
-  raised_tail = word_kept b now (vdr + 28) (vdr + 44) (part good at raise_writes 28 44 (inr (omega arith)) (let n = long good at in omega arith)) (vdr + 36) 8 (omega arith) (omega arith)
+  pub raised_tail : number now own.vdr vdr_vxr_tail ≡ number b own.vdr vdr_vxr_tail
+  raised_tail = word_kept b now (own.vdr + 28) (own.vdr + 44) (part good at raise_writes 28 44 (inr (omega arith)) (let n = long good at in omega arith)) (own.vdr + 36) 8 (omega arith) (omega arith)
 
   pub raised_shape : shape now ≡ shape b
   raised_shape = same_shape good at raise_writes

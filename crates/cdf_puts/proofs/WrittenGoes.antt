@@ -11,20 +11,11 @@ module _ {b now : List ℕ} {kind : Kind} {before : List VariableShape} {own : V
   abbrev s : Shape
   s = shape b
 
-  abbrev vdr : ℕ
-  vdr = own.vdr
-
   abbrev v : Variable
   v = variable_of b own
 
-  abbrev leaves : List Leaf
-  leaves = leaves_of own.index
-
-  abbrev size : ℕ
-  size = record_bytes b vdr
-
   abbrev offset : ℕ
-  offset = 12 + (k - l.first) * size
+  offset = 12 + (k - l.first) * (record_bytes b own.vdr)
 
   abbrev ts : List Touch
   ts = touch l.place offset (length raw) ∷ []
@@ -32,17 +23,17 @@ module _ {b now : List ℕ} {kind : Kind} {before : List VariableShape} {own : V
   h : HasShape b s
   h = (sound good at).has_shape
 
-  is_leaf : IsOneOf leaves l
-  is_leaf = (found_in (λ (leaf : Leaf). covers k (range leaf.first leaf.last)) leaves l w.found).0
+  is_leaf : IsOneOf (leaves_of own.index) l
+  is_leaf = (found_in (λ (leaf : Leaf). covers k (range leaf.first leaf.last)) (leaves_of own.index) l w.found).0
 
   has_it : (l.first ≤ k) × (k ≤ l.last)
-  has_it = covers_within k l (found_in (λ (leaf : Leaf). covers k (range leaf.first leaf.last)) leaves l w.found).1
+  has_it = covers_within k l (found_in (λ (leaf : Leaf). covers k (range leaf.first leaf.last)) (leaves_of own.index) l w.found).1
 
-  plain : (l : Leaf) → IsOneOf leaves l → PlainLeaf b size l
+  plain : (l : Leaf) → IsOneOf (leaves_of own.index) l → PlainLeaf b (record_bytes b own.vdr) l
   plain = plain_leaf good at (loose good at)
 
   block : In l.place s.records
-  block = behind_in good at l.place (block_behind own l.place (place_in leaves l is_leaf))
+  block = behind_in good at l.place (block_behind own l.place (place_in (leaves_of own.index) l is_leaf))
 
   fits_in : offset + length raw ≤ size_at b l.place
   fits_in = let within = w.within in let room = (plain l is_leaf).room in omega arith
@@ -70,23 +61,23 @@ module _ {b now : List ℕ} {kind : Kind} {before : List VariableShape} {own : V
   pub stays : (m lo hi : ℕ) → In m s.records → m ≢ l.place → hi ≤ size_at b m → Same b now (m + lo) (m + hi)
   stays m lo hi i other fit = changed_part b now s.records (length b) h.tiled (omega arith) ts changed_here (inl (block, fits_in), tt) m lo hi i fit ((λ e. absurd (other e)), tt)
 
-  no_block_here : vdr ≢ l.place
-  no_block_here e = no_block good at (subst (λ (x : ℕ). In x (places_of leaves)) (sym e) (place_in leaves l is_leaf))
+  no_block_here : own.vdr ≢ l.place
+  no_block_here e = no_block good at (subst (λ (x : ℕ). In x (places_of (leaves_of own.index))) (sym e) (place_in (leaves_of own.index) l is_leaf))
 
-  pub max_rec_kept : number now vdr vdr_max_rec ≡ number b vdr vdr_max_rec
-  max_rec_kept = word_kept b now (vdr + 24) (vdr + 28) (stays vdr 24 28 (tile good at) no_block_here (let n = long good at in omega arith)) (vdr + 24) 4 (omega arith) (omega arith)
+  pub max_rec_kept : number now own.vdr vdr_max_rec ≡ number b own.vdr vdr_max_rec
+  max_rec_kept = word_kept b now (own.vdr + 24) (own.vdr + 28) (stays own.vdr 24 28 (tile good at) no_block_here (let n = long good at in omega arith)) (own.vdr + 24) 4 (omega arith) (omega arith)
 
   pub writes : WritesRecords b now kind own ts
   writes = record {
-    changed = record { longer = changed_here.longer; same = λ place lt out. changed_here.same place lt (Outside-append (max_rec_touches b kind vdr) ts place out).1 };
+    changed = record { longer = changed_here.longer; same = λ place lt out. changed_here.same place lt (Outside-append (max_rec_touches b kind own.vdr) ts place out).1 };
     as_long = long_now;
-    in_blocks = (record { block = place_in leaves l is_leaf; typed = (plain l is_leaf).typed; later = omega arith; fits = fits_in }, tt);
+    in_blocks = (record { block = place_in (leaves_of own.index) l is_leaf; typed = (plain l is_leaf).typed; later = omega arith; fits = fits_in }, tt);
     max_rec_ruled = ap is_max_rec max_rec_kept ∙ (own_rules good at).0.1.1.1.1.1.1.1.0;
   }
 
   -- ---- the bytes of its blocks
 
-  pub other_blocks : (m : ℕ) → In m (places_of leaves) → m ≢ l.place → Kept b now m
+  pub other_blocks : (m : ℕ) → In m (places_of (leaves_of own.index)) → m ≢ l.place → Kept b now m
   other_blocks m i ne = block_kept good at writes m i (λ j. elim j [ inl e ↦ ne e | inr none ↦ none ])
 
   pub nodes_stay : (m : ℕ) → In m (nodes_of own.index) → Kept b now m
