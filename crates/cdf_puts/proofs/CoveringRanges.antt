@@ -13,7 +13,7 @@ of_leaves leaves = map (λ (leaf : Leaf). range leaf.first leaf.last) leaves
 
 pub find_range : (k : ℕ) (leaves : List Leaf) → find (covers k) (of_leaves leaves) ≡ option_map (λ (leaf : Leaf). range leaf.first leaf.last) (find (λ (leaf : Leaf). covers k (range leaf.first leaf.last)) leaves)
 find_range k [] = refl
-find_range k (x ∷ xs) = elim (either (covers k (range x.first x.last))) [ inl t ↦ rw t refl | inr t ↦ rw t (find_range k xs) ]
+find_range k (x ∷ xs) = grind (arith, find_range k xs)
 
 pub some_or_none : {X : Type 0} (o : Option X) → ((x : X) × (o ≡ Some x)) ⊎ (o ≡ None)
 some_or_none None = inr refl

@@ -38,10 +38,7 @@ pieces_repeat (suc n) size pad xs e f =
 
 -- what stands behind the records of a block is not written
 behind_written : (first r size : ℕ) (l : Leaf) (i : ℕ) → l.first ≤ l.last → 12 + (l.last + 1 - l.first) * size ≤ i → (i < put_from first size l) ⊎ (put_from first size l + put_count first (r + 1) l * size ≤ i)
-behind_written first r size l i ordered le = elim (cases_lt 0 (put_count first (r + 1) l)) [
-  | inl some ↦ let f = written_fits first r l size ordered some in inr (omega arith)
-  | inr none ↦ unwritten first (r + 1) size l i none
-]
+behind_written first r size l i ordered le = elim (cases_lt 0 (put_count first (r + 1) l)) [ inl some ↦ inr (omega (arith, written_fits first r l size ordered some)) | inr none ↦ unwritten first (r + 1) size l i none ]
 
 -- ---- touches
 

@@ -25,16 +25,10 @@ abbrev last_of : List ℕ → ℕ
 last_of xs = unwrap_or (last_or None xs) 0
 
 tail_then : (x y z : List ℕ) (first mid last : ℕ) → (y ≡ x) ⊎ (length x < length y) → (z ≡ y) ⊎ (length y < length z) → mid ≡ (if bytes_eq x y then first else last_of y) → last ≡ (if bytes_eq y z then mid else last_of z) → last ≡ (if bytes_eq x z then first else last_of z)
-tail_then x y z first mid last (inl e) g p q =
-    let same : mid ≡ first = p ∙ ap (λ (c : Bool). if c then first else last_of y) (ap (bytes_eq x) e ∙ bytes_eq-same x) in
-    q ∙ (λ i. if bytes_eq (e i) z then same i else last_of z)
-tail_then x y z first mid last (inr lt) (inl f) p q = grind (arith, bytes_longer x y lt, bytes_longer x z (omega (arith, ap length f)), bytes_eq-same y)
-tail_then x y z first mid last (inr lt) (inr lt') p q = rw (bytes_longer x z (omega arith)) (q ∙ ap (λ (c : Bool). if c then mid else last_of z) (bytes_longer y z lt'))
+tail_then x y z first mid last f g p q = grind (arith, f, g, bytes_longer x y, bytes_longer x z, bytes_longer y z, bytes_eq-same x, bytes_eq-same y)
 
 top_then : (x y z : List ℕ) → (y ≡ x) ⊎ (length x < length y) → (z ≡ y) ⊎ (length y < length z) → (z ≡ x) ⊎ (length x < length z)
-top_then x y z (inl e) g = subst (λ (w : List ℕ). (z ≡ w) ⊎ (length w < length z)) e g
-top_then x y z (inr lt) (inl f) = let same = ap length f in inr (omega arith)
-top_then x y z (inr lt) (inr lt') = inr (omega arith)
+top_then x y z f g = grind (arith, f, g)
 
 no_node_zero : (filled roomy : List ℕ) (room at : ℕ) → NodeTaken filled roomy room at → room ≡ 0 → at ≡ 0
 no_node_zero filled roomy zero at t e = t.1

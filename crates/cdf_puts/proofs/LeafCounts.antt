@@ -99,7 +99,7 @@ old_new l x (y ∷ ys) i = grind (arith, old_new l x ys)
 
 new_new : (l : Leaf) (xs : List Leaf) → IsOneOf (with_new l xs) l
 new_new l [] = inl refl
-new_new l (y ∷ ys) = elim (either (ltb l.first y.first)) [ inl t ↦ rw t (inl refl) | inr t ↦ rw t (inr (new_new l ys)) ]
+new_new l (y ∷ ys) = grind (arith, new_new l ys)
 
 one_new : (l x : Leaf) (xs : List Leaf) → IsOneOf (with_new l xs) x → (x ≡ l) ⊎ IsOneOf xs x
 one_new l x [] i = elim i [ inl e ↦ inl (sym e) | inr j ↦ absurd j ]

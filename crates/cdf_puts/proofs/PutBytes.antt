@@ -96,12 +96,10 @@ old_written {b = b} {mid = mid} {now = now} {raw = raw} {pad = pad} {r = r} {fir
 }
   where
     now_beside : (i : ℕ) → (i < put_from first size l) ⊎ (put_from first size l + put_count first (k + 1) l * size ≤ i) → (i < 12 + (k - l.first) * size) ⊎ (12 + (k - l.first) * size + size ≤ i)
-    now_beside i (inl lt) = let s = starts_before first k l.first size begins from in inl (omega arith)
-    now_beside i (inr le) = inr (subst (λ (n : ℕ). n ≤ i) (ends_behind first k l.first l.last size begins ends from) le)
+    now_beside i side = grind (arith, side, starts_before first k l.first size begins from, ends_behind first k l.first l.last size begins ends from)
 
     was_beside : (i : ℕ) → (i < put_from first size l) ⊎ (put_from first size l + put_count first (k + 1) l * size ≤ i) → (i < put_from first size l) ⊎ (put_from first size l + put_count first k l * size ≤ i)
-    was_beside i (inl lt) = inl lt
-    was_beside i (inr le) = let g = grows_by first k l.first l.last size in inr (omega arith)
+    was_beside i side = grind (arith, side, grows_by first k l.first l.last size)
 
 -- ---- the blocks of a variable in which records are put
 

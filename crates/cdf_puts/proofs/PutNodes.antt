@@ -204,10 +204,7 @@ pub top_grows : (new : Leaf) (at : ℕ) (index : Nodes) → TopGrows index (with
 top_grows new at index = by_leaf (top_steps new at) index
 
 pub bytes_longer : (xs ys : List ℕ) → length xs < length ys → bytes_eq xs ys ≡ false
-bytes_longer xs ys l = elim (either (bytes_eq xs ys)) [
-  | inl t ↦ let same = ap length (same_of_bytes_eq xs ys t) in absurd (omega arith)
-  | inr t ↦ t
-]
+bytes_longer xs ys l = elim (either (bytes_eq xs ys)) [ inl t ↦ absurd (omega (arith, ap length (same_of_bytes_eq xs ys t))) | inr t ↦ t ]
 
 -- ---- tests
 
@@ -233,10 +230,10 @@ pub taken_then : (acts acts' : List Act) (m : ℕ) → is_taken_at acts' m ≡ t
 taken_then acts acts' m e = taken_both acts acts' m ∙ or_right (is_taken_at acts m) (is_taken_at acts' m) e
 
 pub taken_neither : (acts acts' : List Act) (m : ℕ) → is_taken_at acts m ≡ false → is_taken_at acts' m ≡ false → is_taken_at (acts ++ acts') m ≡ false
-taken_neither acts acts' m e f = taken_both acts acts' m ∙ or_from (is_taken_at acts m) (is_taken_at acts' m) e f
+taken_neither acts acts' m e f = grind (arith, taken_both acts acts' m)
 
 pub neither_taken : (acts acts' : List Act) (m : ℕ) → is_taken_at (acts ++ acts') m ≡ false → (is_taken_at acts m ≡ false) × (is_taken_at acts' m ≡ false)
-neither_taken acts acts' m e = or_parts (is_taken_at acts m) (is_taken_at acts' m) (sym (taken_both acts acts' m) ∙ e)
+neither_taken acts acts' m e = grind (arith, taken_both acts acts' m)
 
 -- ---- nodes that stay
 

@@ -12,7 +12,7 @@ taken_sum (Took place need ∷ more) acts' = omega (arith, one_taken place need 
 taken_sum (Gave place size ∷ more) acts' = taken_sum more acts'
 
 end_by : (list : List (ℕ × ℕ)) (end need : ℕ) → eof_after list end need ≤ end + need
-end_by list end need = elim (either (place_for list end need == end)) [ inl t ↦ rw t (omega arith) | inr t ↦ rw t (omega arith) ]
+end_by list end need = grind arith
 
 end_after_acts : (l : SpaceLeft) (acts : List Act) → Each IsTaking acts → (fold after_act l acts).end ≤ l.end + taken_bytes acts
 end_after_acts l [] t = omega arith

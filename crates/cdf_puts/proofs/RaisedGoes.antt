@@ -18,7 +18,7 @@ same_test : (now_is was : List ℕ) (x y : ℤ) → now_is ≡ was → (if bytes
 same_test now_is was x y e = ap (λ (c : Bool). if c then x else y) (ap (bytes_eq was) e ∙ bytes_eq-same was)
 
 other_test : (now_is was : List ℕ) (x y : ℤ) → (was ≡ now_is → ⊥) → (if bytes_eq was now_is then x else y) ≡ y
-other_test now_is was x y differ = elim (either (bytes_eq was now_is)) [ inl t ↦ absurd (differ (same_of_bytes_eq was now_is t)) | inr t ↦ rw t refl ]
+other_test now_is was x y differ = grind (arith, same_of_bytes_eq was now_is)
 
 -- of a good image, one variable of a kind and the others of it
 module _ {b : List ℕ} {kind : Kind} {before : List VariableShape} {own : VariableShape} {after : List VariableShape} (good : Good b) (at : StandsAmong b kind before own after) where

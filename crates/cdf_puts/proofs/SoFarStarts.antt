@@ -5,13 +5,13 @@ use Rattle.cdf_puts.proofs.CoveringRanges.{of_leaves}
 -- ---- which leaves were put
 
 none_put : (first k : ℕ) (l : Leaf) → k ≤ max first l.first → was_put first k l ≡ false
-none_put first k l le = let e : min k (l.last + 1) - max first l.first ≡ 0 = omega arith in rw e refl
+none_put first k l le = grind (arith, nat_tests)
 
 some_put : (first k : ℕ) (l : Leaf) → first < k → l.first < k → first ≤ l.last → l.first ≤ l.last → was_put first k l ≡ true
-some_put first k l a c d e = lt-ltb 0 (put_count first k l) (omega arith)
+some_put first k l a c d e = grind (arith, nat_tests)
 
 all_put : (first k k' : ℕ) (l : Leaf) → l.last < k → l.last < k' → was_put first k l ≡ was_put first k' l
-all_put first k k' l a c = let e : min k (l.last + 1) ≡ min k' (l.last + 1) = omega arith in ap (λ (n : ℕ). nat_lt 0 (n - max first l.first)) e
+all_put first k k' l a c = grind (arith, nat_tests)
 
 -- the leaves past a number, where none of them passes a test
 none_past : (test : Leaf → Bool) (k low upto : ℕ) (leaves : List Leaf) → Ascending low upto leaves → k < low → ((l : Leaf) → IsOneOf leaves l → k < l.first → test l ≡ false) → filter test leaves ≡ []
@@ -92,12 +92,11 @@ puts_new b own own' leaves acts new need at so none needs no_node last size more
 
 none_put_yet : (first : ℕ) (leaves : List Leaf) → filter (was_put first first) leaves ≡ []
 none_put_yet first [] = refl
-none_put_yet first (x ∷ more) = let e : min first (x.last + 1) - max first x.first ≡ 0 = omega arith in rw e (none_put_yet first more)
+none_put_yet first (x ∷ more) = grind (arith, nat_tests, none_put_yet first more)
 
 pub covers_own : (leaves : List Leaf) (l : Leaf) → IsOneOf leaves l → l.first ≤ l.last → list_any (covers l.first) (of_leaves leaves) ≡ true
 covers_own [] l i le = absurd i
-covers_own (x ∷ more) l (inl q) le = let here : covers l.first (range x.first x.last) ≡ true = subst (λ (y : Leaf). covers l.first (range y.first y.last) ≡ true) (sym q) (covers_from l.first l (omega arith) le) in rw here refl
-covers_own (x ∷ more) l (inr i) le = or_right (covers l.first (range x.first x.last)) (list_any (covers l.first) (of_leaves more)) (covers_own more l i le)
+covers_own (x ∷ more) l i le = grind (arith, nat_tests, i, covers_own more l)
 
 pub none_new : (before : List Range) (leaves : List Leaf) → ((l : Leaf) → IsOneOf leaves l → list_any (covers l.first) before ≡ true) → new_ranges before (of_leaves leaves) ≡ []
 none_new before [] has = refl
