@@ -15,7 +15,7 @@ use Rattle.cdf_puts.proofs.SoFarStarts.{covers_own}
 
 none_taken_in : (acts : List Act) (xs : List ℕ) → ((m : ℕ) → In m xs → is_taken_at acts m ≡ false) → list_any (is_taken_at acts) xs ≡ false
 none_taken_in acts [] f = refl
-none_taken_in acts (x ∷ xs) f = let here = f x (inl refl) in rw here (none_taken_in acts xs (λ m i. f m (inr i)))
+none_taken_in acts (x ∷ xs) f = grind (arith, f x (inl refl), none_taken_in acts xs (λ m i. f m (inr i)))
 
 -- nothing is written in a block that has none of the records
 unwritten : (first k size : ℕ) (l : Leaf) (i : ℕ) → put_count first k l ≤ 0 → (i < put_from first size l) ⊎ (put_from first size l + put_count first k l * size ≤ i)
@@ -311,10 +311,7 @@ module _ {b now last : List ℕ} {kind : Kind} {before : List VariableShape} {ow
 
   some_covers : (k : ℕ) (ls : List Leaf) → list_any (covers k) (map (λ (x : Leaf). range x.first x.last) ls) ≡ true → (l : Leaf) × (find (λ (leaf : Leaf). covers k (range leaf.first leaf.last)) ls ≡ Some l)
   some_covers k [] e = absurd (true≢false (sym e))
-  some_covers k (x ∷ more) e = elim (either (covers k (range x.first x.last))) [
-    | inl t ↦ (x, rw t refl)
-    | inr t ↦ let rest : list_any (covers k) (map (λ (x : Leaf). range x.first x.last) more) ≡ true = rw t at e in let p = some_covers k more rest in (p.0, rw t p.1)
-  ]
+  some_covers k (x ∷ more) e = elim (either (covers k (range x.first x.last))) [ inl t ↦ (x, rw t refl) | inr t ↦ (let p = some_covers k more (rw t at e) in (p.0, rw t p.1)) ]
 
   unwritten_stay : UnwrittenStay b last v r own own'
   unwritten_stay k c side =

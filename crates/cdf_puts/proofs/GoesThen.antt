@@ -40,11 +40,10 @@ module _ {b : List ℕ} {kind : Kind} {before : List VariableShape} {own : Varia
 -- ---- the descriptor
 
 outside_put : (i : ℕ) → (i < 24) ⊎ (44 ≤ i) → OutsideFields put_fields i
-outside_put i (inl lt) = (inl (omega arith), (inl (omega arith), (inl (omega arith), tt)))
-outside_put i (inr le) = (inr (omega arith), (inr (omega arith), (inr (omega arith), tt)))
+outside_put i side = grind (arith, side)
 
 beside_put : (i : ℕ) → OutsideFields put_fields i → (i + 1 ≤ 24) ⊎ (44 ≤ i)
-beside_put i out = elim out.0 [ inl lt ↦ inl (omega arith) | inr le ↦ elim out.1.0 [ inl lt ↦ absurd (omega arith) | inr e ↦ elim out.1.1.0 [ inl lt ↦ absurd (omega arith) | inr u ↦ inr (omega arith) ] ] ]
+beside_put i out = grind (arith, out)
 
 module _ {b now : List ℕ} {kind : Kind} {before : List VariableShape} {own : VariableShape} {after : List VariableShape} (good : Good b) (at : StandsAmong b kind before own after) where
   pub stays : Stays b now own.vdr put_fields → VdrStays b now own.vdr

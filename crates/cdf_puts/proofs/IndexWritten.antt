@@ -22,15 +22,11 @@ nodes_still {b = b} {now = now} {now' = now'} {own = own} {own' = own'} {acts = 
 
 outside_less : (first k size : ℕ) (leaves : List Leaf) (place : ℕ) → Outside (put_touches first (k + 1) size leaves) place → Outside (put_touches first k size leaves) place
 outside_less first k size [] place o = tt
-outside_less first k size (x ∷ more) place o =
-    (elim o.0 [ inl lt ↦ inl lt | inr le ↦ (let g = grows_by first k x.first x.last size in inr (omega arith)) ], outside_less first k size more place o.1)
+outside_less first k size (x ∷ more) place o = (grind (arith, o.0, grows_by first k x.first x.last size), outside_less first k size more place o.1)
 
 outside_there : (first k size : ℕ) (leaves : List Leaf) (l : Leaf) (place : ℕ) → IsOneOf leaves l → first ≤ k → l.first ≤ k → k ≤ l.last → Outside (put_touches first (k + 1) size leaves) place → (place < record_place l size k) ⊎ (record_place l size k + size ≤ place)
 outside_there first k size [] l place i from f t o = absurd i
-outside_there first k size (x ∷ more) l place (inr i) from f t o = outside_there first k size more l place i from f t o.1
-outside_there first k size (x ∷ more) l place (inl q) from f t o =
-    let here : (place < l.place + put_from first size l) ⊎ (l.place + put_from first size l + put_count first (k + 1) l * size ≤ place) = subst (λ (y : Leaf). (place < y.place + put_from first size y) ⊎ (y.place + put_from first size y + put_count first (k + 1) y * size ≤ place)) q o.0 in
-    elim here [ inl lt ↦ (let s = starts_before first k l.first size f from in inl (omega arith)) | inr le ↦ (let e = ends_behind first k l.first l.last size f t from in inr (omega arith)) ]
+outside_there first k size (x ∷ more) l place i from f t o = grind (arith, i, o, outside_there first k size more l place, starts_before first k l.first size f from, ends_behind first k l.first l.last size f t from)
 
 module _ {b now now' : List ℕ} {kind : Kind} {before : List VariableShape} {own own' : VariableShape} {after : List VariableShape} {raw pad : List ℕ} {r k : ℕ} {acts : List Act} {l : Leaf} (so : SoFar b now kind before own own' after raw pad r k acts) (more : k ≤ r) (w : RecordsWritten now now' own' l k (record_of raw pad r k)) (as_long : length (record_of raw pad r k) ≡ record_bytes b own.vdr) where
   abbrev size : ℕ

@@ -73,7 +73,7 @@ block_taken place need room at = let e : (place == place) ≡ true = eq-eqb plac
 
 pub node_taken : (place need room at : ℕ) → 1 ≤ room → is_taken_at (leaf_acts place need room at) at ≡ true
 node_taken place need zero at some = absurd (omega arith)
-node_taken place need (suc room) at some = or_right (at == place) ((at == at) || false) (or_left (at == at) false (eq-eqb at at refl))
+node_taken place need (suc room) at some = grind (arith, eq-eqb at at refl)
 
 -- such a body begins with the type of a block that is not packed
 pub plain_body : (body records : List ℕ) → IsBlockBody body records → type_of_body body ≡ vvr_type
@@ -113,7 +113,7 @@ asked_hold false rows f = tt
 
 new_times : (room at m : ℕ) → times m (new_nodes room at) ≡ (if room == 0 then 0 else times m (at ∷ []))
 new_times zero at m = refl
-new_times (suc room) at m = rw (ne_eqb (suc room) 0 (λ e. absurd (omega arith))) refl
+new_times (suc room) at m = grind arith
 
 -- ---- the edit
 

@@ -145,18 +145,12 @@ module _ (b records : List ℕ) (vxr i : ℕ) (used : i < used_count b vxr) wher
     used_in levels no_node h m = absurd m
     used_in zero (node place room es more) h m = absurd h
     used_in (suc levels) (node place room es more) h (inl e) = or_left (eqb place vxr && ltb i (entry_count es)) (uses_entry_below vxr i es || uses_entry vxr i more) (here place es e h.0.used_is)
-    used_in (suc levels) (node place room es more) h (inr m) = elim (In-append vxr (lower_nodes es) (nodes_of more) m) [
-      | inl k ↦ or_right (eqb place vxr && ltb i (entry_count es)) (uses_entry_below vxr i es || uses_entry vxr i more) (or_left (uses_entry_below vxr i es) (uses_entry vxr i more) (used_below levels es h.1 k))
-      | inr k ↦ or_right (eqb place vxr && ltb i (entry_count es)) (uses_entry_below vxr i es || uses_entry vxr i more) (or_right (uses_entry_below vxr i es) (uses_entry vxr i more) (used_in (suc levels) more h.2 k))
-    ]
+    used_in (suc levels) (node place room es more) h (inr m) = grind (arith, In-append vxr (lower_nodes es) (nodes_of more) m, used_below levels es h.1, used_in (suc levels) more h.2)
 
     pub used_below : (levels : ℕ) (es : Entries) → Names b records levels es → In vxr (lower_nodes es) → uses_entry_below vxr i es ≡ true
     used_below levels no_entry n m = absurd m
     used_below levels (block first last place packed es) n m = used_below levels es n.2 m
-    used_below levels (lower first last nodes es) n m = elim (In-append vxr (nodes_of nodes) (lower_nodes es) m) [
-      | inl k ↦ or_left (uses_entry vxr i nodes) (uses_entry_below vxr i es) (used_in levels nodes n.1 k)
-      | inr k ↦ or_right (uses_entry vxr i nodes) (uses_entry_below vxr i es) (used_below levels es n.2 k)
-    ]
+    used_below levels (lower first last nodes es) n m = grind (arith, In-append vxr (nodes_of nodes) (lower_nodes es) m, used_in levels nodes n.1, used_below levels es n.2)
 
 -- ---- the indexes that a command goes through
 
@@ -179,9 +173,7 @@ last_of_through P index [] e = or_left (P index) false e
 last_of_through P index (x ∷ rs) e = or_right (P index) (list_any P (indexes_with (with_range_at_zero index x) rs)) (last_of_through P (with_range_at_zero index x) rs e)
 
 pub through_stays : (P : Nodes → Bool) (index : Nodes) (rs : List Range) (r : Range) → list_any P (indexes_with index rs) ≡ true → list_any P (indexes_with index (rs ++ r ∷ [])) ≡ true
-through_stays P index rs r e =
-    ap (list_any P) (through_one_more index rs r) ∙ list_any-append P (indexes_with index rs) (with_range_at_zero (with_ranges index rs) r ∷ [])
-    ∙ or_left (list_any P (indexes_with index rs)) (list_any P (with_range_at_zero (with_ranges index rs) r ∷ [])) e
+through_stays P index rs r e = grind (arith, through_one_more index rs r, list_any-append P (indexes_with index rs) (with_range_at_zero (with_ranges index rs) r ∷ []))
 
 -- ---- the top chain
 
@@ -220,14 +212,14 @@ unless_true {p = p} (inr t) e = absurd (both_ways p e t)
 
 pub taken_both : (acts acts' : List Act) (m : ℕ) → is_taken_at (acts ++ acts') m ≡ (is_taken_at acts m || is_taken_at acts' m)
 taken_both [] acts' m = refl
-taken_both (Took place need ∷ more) acts' m = ap (λ (p : Bool). (m == place) || p) (taken_both more acts' m) ∙ sym (or_assoc (m == place) (is_taken_at more m) (is_taken_at acts' m))
+taken_both (Took place need ∷ more) acts' m = grind (arith, taken_both more acts' m)
 taken_both (Gave place size ∷ more) acts' m = taken_both more acts' m
 
 pub taken_first : (acts acts' : List Act) (m : ℕ) → is_taken_at acts m ≡ true → is_taken_at (acts ++ acts') m ≡ true
-taken_first acts acts' m e = taken_both acts acts' m ∙ or_left (is_taken_at acts m) (is_taken_at acts' m) e
+taken_first acts acts' m e = grind (arith, taken_both acts acts' m)
 
 pub taken_then : (acts acts' : List Act) (m : ℕ) → is_taken_at acts' m ≡ true → is_taken_at (acts ++ acts') m ≡ true
-taken_then acts acts' m e = taken_both acts acts' m ∙ or_right (is_taken_at acts m) (is_taken_at acts' m) e
+taken_then acts acts' m e = grind (arith, taken_both acts acts' m)
 
 pub taken_neither : (acts acts' : List Act) (m : ℕ) → is_taken_at acts m ≡ false → is_taken_at acts' m ≡ false → is_taken_at (acts ++ acts') m ≡ false
 taken_neither acts acts' m e f = grind (arith, taken_both acts acts' m)
@@ -286,8 +278,7 @@ module _ (b mid now : List ℕ) (through through' : List Nodes) (before after : 
   AnyWay m i w = EntryIs b now m i w ⊎ ((list_any (uses_entry m i) through' ≡ true) × EntryIs b now m i false)
 
   empty_entry : (m i : ℕ) (w : Bool) → (w ≡ true → list_any (uses_entry m i) through' ≡ true) → EntryIs b now m i false → AnyWay m i w
-  empty_entry m i true used e = inr (used refl, e)
-  empty_entry m i false used e = inl e
+  empty_entry m i w used e = grind (arith, used, e)
 
   same_test : (m i : ℕ) → is_taken_at acts' m ≡ false → was_unused b before (acts ++ acts') m i ≡ was_unused b before acts m i
   same_test m i e =
@@ -298,9 +289,7 @@ module _ (b mid now : List ℕ) (through through' : List Nodes) (before after : 
   taken_test m i xs x done e = rw e (and_right (is_in m xs) false refl)
 
   now_empty : (m i : ℕ) (w : Bool) → w ≡ false → (EntryIs mid now m i w ⊎ ((list_any (uses_entry m i) (index ∷ []) ≡ true) × EntryIs mid now m i false)) → EntryIs b now m i false
-  now_empty m i true e s = absurd (true≢false e)
-  now_empty m i false e (inl s) = s
-  now_empty m i false e (inr s) = s.1
+  now_empty m i w e s = elim s [ inl x ↦ rw e at x | inr x ↦ x.1 ]
 
   module _ (f : NodesFollow b mid through before (nodes_of index) acts) (step : NodesStep mid now index after acts') (before_in : (m : ℕ) → In m before → In m (nodes_of index)) (sizes : (m : ℕ) → In m before → size_at mid m ≡ size_at b m)
       (come : (m : ℕ) → In m (nodes_of index) → In m before ⊎ (is_taken_at acts m ≡ true)) (more : (m i : ℕ) → list_any (uses_entry m i) through ≡ true → list_any (uses_entry m i) through' ≡ true)

@@ -166,7 +166,7 @@ count_few : (v : Variable) → block_count v ≤ 1048576
 count_few v = elim (either v.vary) [ inl t ↦ rw t (let q = div-le_self 1048576 (record_length v) in omega arith) | inr t ↦ rw t (omega arith) ]
 
 most_few : (v : Variable) (r : ℕ) → most_in_block v r ≤ 1048576
-most_few v r = elim (either (ltb r (extent v.max_rec))) [ inl t ↦ rw t (omega arith) | inr t ↦ rw t (count_few v) ]
+most_few v r = grind (arith, nat_tests, count_few v)
 
 -- up to MaxRec it is one record, which is the one that is put
 last_as : (v : Variable) (index : Nodes) (k r most : ℕ) → is_sparse v.sparse ≡ false → most ≡ most_in_block v r → first_written v r ≤ k → k ≤ r → k < next_first k (firsts_of index) → last_in_new most index k ≡ new_last v index k

@@ -7,15 +7,15 @@ abbrev extents : List Variable → List ℕ
 extents vs = map (λ (v : Variable). extent v.max_rec) vs
 
 middle_same : (xs zs : List Variable) (y y' : Variable) → extent y'.max_rec ≡ extent y.max_rec → extents (xs ++ y' ∷ zs) ≡ extents (xs ++ y ∷ zs)
-middle_same [] zs y y' e = ap (λ (n : ℕ). n ∷ extents zs) e
-middle_same (x ∷ xs) zs y y' e = ap (λ (ns : List ℕ). extent x.max_rec ∷ ns) (middle_same xs zs y y' e)
+middle_same [] zs y y' e = cc
+middle_same (x ∷ xs) zs y y' e = cc (middle_same xs zs y y' e)
 
 middle_differs : (xs zs : List Variable) (y y' : Variable) → extents (xs ++ y ∷ zs) ≡ extents (xs ++ y' ∷ zs) → extent y.max_rec ≡ extent y'.max_rec
-middle_differs [] zs y y' e = let same : extent y.max_rec ∷ extents zs ≡ extent y'.max_rec ∷ extents zs = e in cc
-middle_differs (x ∷ xs) zs y y' e = let same : extent x.max_rec ∷ extents (xs ++ y ∷ zs) ≡ extent x.max_rec ∷ extents (xs ++ y' ∷ zs) = e in let rest : extents (xs ++ y ∷ zs) ≡ extents (xs ++ y' ∷ zs) = (cc) in middle_differs xs zs y y' rest
+middle_differs [] zs y y' e = cc
+middle_differs (x ∷ xs) zs y y' e = grind (arith, e, middle_differs xs zs y y')
 
 same_test : (now_is was : List ℕ) (x y : ℤ) → now_is ≡ was → (if bytes_eq was now_is then x else y) ≡ x
-same_test now_is was x y e = ap (λ (c : Bool). if c then x else y) (ap (bytes_eq was) e ∙ bytes_eq-same was)
+same_test now_is was x y e = grind (arith, e, bytes_eq-same was)
 
 other_test : (now_is was : List ℕ) (x y : ℤ) → (was ≡ now_is → ⊥) → (if bytes_eq was now_is then x else y) ≡ y
 other_test now_is was x y differ = grind (arith, same_of_bytes_eq was now_is)

@@ -23,37 +23,26 @@ none_past test k low upto (x ∷ more) a lt out =
 pub one_more : (test test' : Leaf → Bool) (low upto : ℕ) (leaves : List Leaf) (new : Leaf) → Ascending low upto leaves → test' new ≡ true → ((l : Leaf) → IsOneOf leaves l → l.first ≤ new.first → test' l ≡ test l)
     → ((l : Leaf) → IsOneOf leaves l → new.first < l.first → (test l ≡ false) × (test' l ≡ false)) → filter test' (with_new new leaves) ≡ filter test leaves ++ new ∷ []
 one_more test test' low upto [] new a is early late = rw is refl
-one_more test test' low upto (x ∷ more) new a is early late = elim (cases_lt new.first x.first) [
-  | inl lt ↦
-      let up : Ascending x.first upto (x ∷ more) = (omega arith, a.1, a.2, a.3) in
-      grind (arith, nat_tests, is, none_past test new.first x.first upto (x ∷ more) up lt (λ l i g. (late l i g).0), none_past test' new.first x.first upto (x ∷ more) up lt (λ l i g. (late l i g).1))
-  | inr le ↦ grind (arith, nat_tests, early x (inl refl) le, one_more test test' (suc x.last) upto more new a.3 is (λ l i. early l (inr i)) (λ l i. late l (inr i)))
-]
+one_more test test' low upto (x ∷ more) new a is early late =
+    let up : new.first < x.first → Ascending x.first upto (x ∷ more) = λ lt. (omega arith, a.1, a.2, a.3) in
+    let none = λ (t : Leaf → Bool) (lt : new.first < x.first). none_past t new.first x.first upto (x ∷ more) (up lt) lt in
+    grind (arith, nat_tests, is, λ (lt : new.first < x.first). none test lt (λ l i g. (late l i g).0), λ (lt : new.first < x.first). none test' lt (λ l i g. (late l i g).1), early x (inl refl), one_more test test' (suc x.last) upto more new a.3 is (λ l i. early l (inr i)) (λ l i. late l (inr i)))
 
 -- the leaf that has record k was put, or it comes behind those that were
 pub put_next : (first k low upto : ℕ) (leaves : List Leaf) → Ascending low upto leaves → (l : Leaf) → IsOneOf leaves l → first ≤ k → l.first ≤ k → k ≤ l.last
     → filter (was_put first (k + 1)) leaves ≡ (if was_put first k l then filter (was_put first k) leaves else filter (was_put first k) leaves ++ l ∷ [])
 put_next first k low upto [] a l i from f t = absurd i
 put_next first k low upto (x ∷ more) a l (inl q) from f t =
-    let here : was_put first (k + 1) l ≡ true = some_put first (k + 1) l (omega arith) (omega arith) (omega arith) (omega arith) in
     let below = λ (n : ℕ) (le : n ≤ suc k). none_past (was_put first n) k (suc x.last) upto more a.3 (subst (λ (y : Leaf). k < suc y.last) (sym q) (omega arith)) (λ y j g. none_put first n y (omega arith)) in
-    rw (ap (was_put first (k + 1)) q ∙ here, below (k + 1) (omega arith), below k (omega arith), q) (elim (either (was_put first k l)) [ inl p ↦ rw p refl | inr p ↦ rw p refl ])
-put_next first k low upto (x ∷ more) a l (inr i) from f t =
-    let before = (in_order (suc x.last) upto more a.3 l i).from in
-    let same : was_put first (k + 1) x ≡ was_put first k x = all_put first (k + 1) k x (omega arith) (omega arith) in
-    grind (arith, same, put_next first k (suc x.last) upto more a.3 l i from f t)
+    grind (arith, q, some_put first (k + 1) l, below (k + 1) (omega arith), below k (omega arith))
+put_next first k low upto (x ∷ more) a l (inr i) from f t = grind (arith, (in_order (suc x.last) upto more a.3 l i).from, all_put first (k + 1) k x, put_next first k (suc x.last) upto more a.3 l i from f t)
 
 -- a leaf that is added comes behind them
 pub put_new : (first k k' low upto : ℕ) (leaves : List Leaf) (new : Leaf) → Ascending low upto leaves → ((l : Leaf) → IsOneOf leaves l → (l.last < k) ⊎ (new.last < l.first)) → new.first ≡ k → first ≤ k → k < k' → k' ≤ new.last + 1
     → filter (was_put first k') (with_new new leaves) ≡ filter (was_put first k) leaves ++ new ∷ []
 put_new first k k' low upto leaves new a beside is from more within =
-    one_more (was_put first k) (was_put first k') low upto leaves new a (some_put first k' new (omega arith) (omega arith) (omega arith) (omega arith)) (λ l i le. elim (beside l i) [
-      | inl lt ↦ all_put first k' k l (omega arith) lt
-      | inr lt ↦ absurd (omega arith)
-    ]) (λ l i lt. elim (beside l i) [
-      | inl before ↦ let o = (in_order low upto leaves a l i).ordered in absurd (omega arith)
-      | inr past ↦ (none_put first k l (omega arith), none_put first k' l (omega arith))
-    ])
+    one_more (was_put first k) (was_put first k') low upto leaves new a (some_put first k' new (omega arith) (omega arith) (omega arith) (omega arith)) (λ l i le. grind (arith, beside l i, all_put first k' k l))
+    (λ l i lt. grind (arith, beside l i, (in_order low upto leaves a l i).ordered, none_put first k l, none_put first k' l))
 
 -- no other leaf begins where none has the record
 pub none_begins : (k low upto : ℕ) (leaves : List Leaf) → Ascending low upto leaves → find (λ (leaf : Leaf). covers k (range leaf.first leaf.last)) leaves ≡ None → find (λ (old : Leaf). old.first == k) leaves ≡ None
@@ -116,7 +105,7 @@ nodes_first b through nodes = record {
 -- ---- where the writing begins
 
 first_upto : (s : Sparse) (m r : ℕ) → s ≡ NoRule → (if is_sparse s then r else min r m) ≤ r
-first_upto s m r e = subst (λ (x : Sparse). (if is_sparse x then r else min r m) ≤ r) (sym e) (omega arith)
+first_upto s m r e = grind (arith, e)
 
 module _ {b : List ℕ} {kind : Kind} {before : List VariableShape} {own : VariableShape} {after : List VariableShape} {raw pad : List ℕ} {r : ℕ} (start : PutStart b kind before own after raw pad r) where
   abbrev first : ℕ
