@@ -5,7 +5,7 @@ use Rattle.cdf_puts.proofs.LeafCounts.{leaf_added, leaf_stays, leaf_was_there}
 use Rattle.cdf_puts.proofs.LeafEdit.{block_taken, file, new_index, used_apart, node_in, node_taken, nodes_step}
 use Rattle.cdf_index.proofs.NewIndex.{index_edit}
 use Rattle.cdf_puts.proofs.LeafEdit.{blocks_go_on, plain_body}
-use Rattle.cdf_puts.proofs.PutBytes.{size_now, now_plain, old_plain, old_goes_on, new_goes_on}
+use Rattle.cdf_puts.proofs.PutBytes.{size_now, now_plain, old_plain, old_goes_on, new_goes_on, beside_one}
 use Rattle.cdf_puts.proofs.PutNodes.{taken_first, taken_then, taken_neither, NodesStep, nodes_then, taken_both, or_false, place_outside, same_with_leaf, same_uses, with_one_more, last_of_through, through_stays, top_grows, bytes_longer}
 use Rattle.cdf_puts.proofs.SoFarStarts.{one_more, put_new, none_begins, puts_new, covers_own}
 
@@ -77,19 +77,11 @@ module _ {b now now' : List ℕ} {kind : Kind} {before : List VariableShape} {ow
   found_at j l i f t = find_covering j 0 (suc record_number_limit) (leaves_of own''.index) (leaves_ascend good' among') l i f t
 
   -- a leaf that was there ends before the new one, or begins behind it
-  beside_new : (l : Leaf) → IsOneOf leaves l → l.first ≤ l.last → (l.last < k) ⊎ (last < l.first)
-  beside_new l i ordered = elim (cases_lt l.last k) [
+  beside_new : (l : Leaf) → IsOneOf leaves l → (l.last < k) ⊎ (last < l.first)
+  beside_new l i = elim (beside_one k 0 (suc record_number_limit) leaves ascend l i (λ e. let clash : Some l ≡ None = sym e ∙ vacant.uncovered in cc)) [
     | inl lt ↦ inl lt
-    | inr t ↦ elim (cases_lt last l.first) [
-      | inl lt ↦ inr lt
-      | inr g ↦ elim (cases_lt k l.first) [
-        | inl lt ↦
-            let same : l ≡ new = same_Some l new (sym (found_at l.first l (in_new l i) (omega arith) ordered) ∙ found_at l.first new new_in (omega arith) g) in
-            let e : l.first ≡ k = ap (λ (y : Leaf). y.first) same in
-            absurd (omega arith)
-        | inr f ↦ let e : None ≡ Some l = sym vacant.uncovered ∙ find_covering k 0 (suc record_number_limit) leaves ascend l i f t in absurd (cc)
-      ]
-    ]
+    | inr lt ↦ elim (beside_one l.first 0 (suc record_number_limit) (leaves_of own''.index) (leaves_ascend good' among') new new_in (λ e.
+        let same = ap (λ (y : Leaf). y.first) (same_Some l new (sym (found_at l.first l (in_new l i) (omega arith) (ordered l i)) ∙ e)) in absurd (omega arith))) [ inl u ↦ inr u | inr u ↦ absurd (omega arith) ]
   ]
 
   -- ---- their bytes
@@ -112,10 +104,8 @@ module _ {b now now' : List ℕ} {kind : Kind} {before : List VariableShape} {ow
   old_block : (l : Leaf) → IsOneOf (leaves_of own.index) l → OldBlock b now' raw pad r first upto (record_bytes b own.vdr) l
   old_block l i =
       let j = so.blocks.stay l i in
-      elim (beside_new l j ((old_plain so l i).ordered)) [
-        | inl lt ↦ old_goes_on so longer l (same l j) i (let m = more_upto in omega arith) (λ j' from low f t. (omega arith))
-        | inr lt ↦ old_goes_on so longer l (same l j) i (omega arith) (λ j' from low f t. absurd (omega arith))
-      ]
+      let side = beside_new l j in
+      old_goes_on so longer l (same l j) i (omega (arith, more_upto)) (λ j' from low f t. omega arith)
 
   new_block : NewBlock now' raw pad r first (extent (max_rec_at b own.vdr)) upto (record_bytes b own.vdr) (acts ++ step) new
   new_block = record {
@@ -171,7 +161,7 @@ module _ {b now now' : List ℕ} {kind : Kind} {before : List VariableShape} {ow
 
   puts_added : PutsBefore b own own'' (filter (was_put first upto) (leaves_of own''.index)) (acts ++ step)
   puts_added =
-      let one = put_new first k upto 0 (suc record_number_limit) leaves new ascend (λ l i. beside_new l i (ordered l i)) refl so.covers.from (let o = vacant.ordered in omega arith) (omega arith) in
+      let one = put_new first k upto 0 (suc record_number_limit) leaves new ascend (λ l i. beside_new l i) refl so.covers.from (let o = vacant.ordered in omega arith) (omega arith) in
       subst (λ (ls : List Leaf). PutsBefore b own own'' ls (acts ++ step)) (sym (ap (filter (was_put first upto)) leaves_are ∙ one))
       (puts_new b own own' (filter (was_put first k) leaves) acts new (8 + length body) at so.index.puts (none_begins k 0 (suc record_number_limit) leaves ascend vacant.uncovered) needs (no_node_zero w.filled w.roomy (new_room k own'.index) at w.node))
 
@@ -190,7 +180,7 @@ module _ {b now now' : List ℕ} {kind : Kind} {before : List VariableShape} {ow
       ap (λ (ls : List Leaf). filter test (map rng ls)) leaves_are ∙ filter_mapped rng test (with_new new leaves) ∙ ap (map rng) one ∙ map-append rng (filter (λ l. test (rng l)) leaves) (new ∷ []) ∙ ap (λ (xs : List Range). xs ++ range k last ∷ []) (sym (filter_mapped rng test leaves))
     where
       out : (l : Leaf) → IsOneOf leaves l → (l.last < k) ⊎ (k < l.first)
-      out l i = elim (beside_new l i (ordered l i)) [ inl lt ↦ inl lt | inr lt ↦ inr (let o = vacant.ordered in omega arith) ]
+      out l i = elim (beside_new l i) [ inl lt ↦ inl lt | inr lt ↦ inr (let o = vacant.ordered in omega arith) ]
 
       was_there : (l : Leaf) → IsOneOf leaves l → k < l.first → IsOneOf (leaves_of own.index) l ⊎ NewBlock now raw pad r first (extent (max_rec_at b own.vdr)) k (record_bytes b own.vdr) acts l → list_any (covers l.first) (ranges_of own.index) ≡ true
       was_there l i lt (inl o) = covers_own (leaves_of own.index) l o (ordered l i)

@@ -1,8 +1,8 @@
 -- A record is written in a block: the record holds its bytes, no other byte changes, and the index stays; of the leaves that were put the one of the record is the last by then.
-use Rattle.cdf_puts.proofs.Common.{cases_eq, cases_lt, same_Some, extent, record_number_limit, Kind, Outside, range, covers, first_written, Act, IsOneOf, find_covering, covers_within, place_in, record_place, leaves_ascend, leaves_apart, byte, Same, variable_of, size_at, Leaf, leaves_of, VariableShape, max_rec_at, record_bytes, byte-put_before, byte-put_after, SoFar, BlocksSoFar, OldBlock, NewBlock, record_of, put_count, put_from, put_touches, RecordsWritten, filter, places_of, fits, tile, long, no_block, Kept, Each-in, number, nodes_of, vdr_vxr_tail, NodeFits, In, word_kept, size_kept, either, IndexSoFar, NodesSoFar, PutsBefore, was_put, ◌≡◌, ◌≢◌, ◌⊎◌, ℕ, suc, ◌+◌, ◌*◌, ◌<◌, ◌≤◌, List, [], ◌∷◌, ◌++◌, length, take, drop, sym, ap, subst, ◌∙◌, arith, inl, inr, one_place, find_first}
+use Rattle.cdf_puts.proofs.Common.{cases_eq, cases_lt, same_Some, extent, record_number_limit, Kind, Outside, range, covers, first_written, Act, IsOneOf, find_covering, covers_within, place_in, record_place, leaves_ascend, leaves_apart, byte, Same, variable_of, size_at, Leaf, leaves_of, VariableShape, max_rec_at, record_bytes, byte-put_before, byte-put_after, SoFar, BlocksSoFar, OldBlock, NewBlock, record_of, put_count, put_from, put_touches, RecordsWritten, filter, places_of, fits, tile, long, no_block, Kept, Each-in, number, nodes_of, vdr_vxr_tail, NodeFits, In, word_kept, size_kept, either, IndexSoFar, NodesSoFar, PutsBefore, was_put, ◌≡◌, ◌≢◌, ◌⊎◌, ℕ, suc, ◌+◌, ◌*◌, ◌<◌, ◌≤◌, List, [], ◌∷◌, ◌++◌, length, take, drop, sym, ap, subst, ◌∙◌, arith, inl, inr, one_place, find_first, nat_tests}
 use Rattle.cdf_base.specs.Bytes.{put}
 use Rattle.cdf_edits.proofs.Edits.LeafPieces.{found_in}
-use Rattle.cdf_puts.proofs.PutBytes.{starts_before, ends_behind, grows_by, BlockWritten, old_written, size_now, now_plain, old_plain, inside_now, inside_old, old_goes_on, new_goes_on, put_there}
+use Rattle.cdf_puts.proofs.PutBytes.{starts_before, ends_behind, grows_by, BlockWritten, old_written, size_now, now_plain, old_plain, inside_now, inside_old, old_goes_on, new_goes_on, put_there, beside_one}
 use Rattle.cdf_puts.proofs.WrittenGoes.{record_fits, other_blocks, long_now, nodes_stay, stays}
 use Rattle.cdf_puts.proofs.SoFarStarts.{put_next, puts_old}
 use Rattle.cdf_puts.proofs.PutNodes.{nodes_same, unless_true}
@@ -85,21 +85,13 @@ module _ {b now now' : List ℕ} {kind : Kind} {before : List VariableShape} {ow
             let inside = inside_old so l' i in
             old_written longer (so.blocks.old l' i) x.room (omega arith) begins ends so.covers.from (subst (λ (y : Leaf). BlockWritten now now' y size k (size_at b l'.place) (record_of raw pad r k)) same (here (size_at b l'.place)))
         | inr ne ↦
-            elim (elsewhere l' j ne) [
-              | inl lt ↦ old_goes_on so longer l' (other l' j ne) i (omega arith) (λ j' from upto f t. (omega arith))
-              | inr lt ↦ old_goes_on so longer l' (other l' j ne) i (omega arith) (λ j' from upto f t. (omega arith))
-            ]
+            let side = elsewhere l' j ne in
+            old_goes_on so longer l' (other l' j ne) i (omega arith) (λ j' from upto f t. omega arith)
       ]
     where
       -- it does not have record k
       elsewhere : (l' : Leaf) → IsOneOf leaves l' → l'.place ≢ l.place → (l'.last < k) ⊎ (k < l'.first)
-      elsewhere l' j ne = elim (cases_lt l'.last k) [
-        | inl lt ↦ inl lt
-        | inr t ↦ elim (cases_lt k l'.first) [
-          | inl lt ↦ inr lt
-          | inr f ↦ absurd (ne (ap (λ (y : Leaf). y.place) (same_Some l' l (sym (find_covering k 0 (suc record_number_limit) leaves (leaves_ascend so.goes.good so.goes.among) l' j f t) ∙ w.found))))
-        ]
-      ]
+      elsewhere l' j ne = beside_one k 0 (suc record_number_limit) leaves (leaves_ascend so.goes.good so.goes.among) l' j (λ e. ne (ap (λ (y : Leaf). y.place) (same_Some l' l (sym e ∙ w.found))))
 
   new_block : (l' : Leaf) → IsOneOf leaves l' → NewBlock now raw pad r first (extent (max_rec_at b own.vdr)) k size acts l' → NewBlock now' raw pad r first (extent (max_rec_at b own.vdr)) (k + 1) size acts l'
   new_block l' i n = elim (cases_eq l'.place l.place) [

@@ -1,5 +1,5 @@
 -- The bytes of the blocks while records are put: what a record that is written leaves of them, and what a leaf that is added does.
-use Rattle.cdf_puts.proofs.Common.{refl, ◌++◌, take_at, drop_at, length-take, cases_eq, min, max, is_taken_at, Act, times_le, byte, Same, size_at, Leaf, leaves_of, Same-part, piece_kept, size_kept, word_kept, put_count, put_from, record_of, OldBlock, NewBlock, SoFar, Kind, VariableShape, record_bytes, max_rec_at, extent, first_written, variable_of, IsOneOf, PlainLeaf, plain_leaf, place_in, block_behind, behind_in, sound, tile_lies, shape, ◌≡◌, ◌⊎◌, ℕ, suc, ◌+◌, ◌-◌, ◌*◌, ◌<◌, ◌≤◌, List, length, true, sym, ap, subst, ◌∙◌, arith, inl, inr, RecordIs, take, drop, length-take, drop_at, ◌++◌}
+use Rattle.cdf_puts.proofs.Common.{refl, ◌++◌, take_at, drop_at, length-take, cases_eq, min, max, is_taken_at, Act, times_le, byte, Same, size_at, Leaf, leaves_of, Same-part, piece_kept, size_kept, word_kept, put_count, put_from, record_of, OldBlock, NewBlock, SoFar, Kind, VariableShape, record_bytes, max_rec_at, extent, first_written, variable_of, IsOneOf, PlainLeaf, plain_leaf, place_in, block_behind, behind_in, sound, tile_lies, shape, ◌≡◌, ◌⊎◌, ℕ, suc, ◌+◌, ◌-◌, ◌*◌, ◌<◌, ◌≤◌, List, length, true, sym, ap, subst, ◌∙◌, arith, inl, inr, RecordIs, take, drop, length-take, drop_at, ◌++◌, Ascending, find, covers, range, Some, cases_lt, taken, upto, kept, each, find_covering, long, leaf}
 use Rattle.cdf_puts.proofs.GoesThen.{later_size, later_packed}
 use Rattle.cdf_puts.proofs.WrittenGoes.{record_fits}
 use Rattle.cdf_base.specs.Bytes.{put}
@@ -7,6 +7,10 @@ use Rattle.cdf_base.specs.Bytes.{put}
 -- bytes that stay, counted from a place
 pub by_offsets : (b now : List ℕ) (place lo hi : ℕ) → ((i : ℕ) → lo ≤ i → i < hi → byte now (place + i) ≡ byte b (place + i)) → Same b now (place + lo) (place + hi)
 by_offsets b now place lo hi f = record { each = λ p low high. let q : place + (p - place) ≡ p = omega arith in subst (λ (y : ℕ). byte now y ≡ byte b y) q (f (p - place) (omega arith) (omega arith)) }
+
+-- a leaf that is not the one of a record ends before it, or begins behind it
+pub beside_one : (k low upto : ℕ) (leaves : List Leaf) → Ascending low upto leaves → (l : Leaf) → IsOneOf leaves l → (find (λ (leaf : Leaf). covers k (range leaf.first leaf.last)) leaves ≡ Some l → ⊥) → (l.last < k) ⊎ (k < l.first)
+beside_one k low upto leaves a l i out = elim (cases_lt l.last k) [ inl lt ↦ inl lt | inr t ↦ elim (cases_lt k l.first) [ inl lt ↦ inr lt | inr f ↦ absurd (out (find_covering k low upto leaves a l i f t)) ] ]
 
 -- bytes are read where they were put
 pub put_there : (b : List ℕ) (place : ℕ) (xs : List ℕ) → place ≤ length b → take (length xs) (drop place (put b place xs)) ≡ xs
