@@ -1,6 +1,6 @@
 -- All records are put: the index, what was taken for it and the bytes of the blocks are as the command says, and what is stored as each record.
-use Rattle.cdf_puts.proofs.Common.{find, eq-eqb, ◌&&◌, Outside-append, cases_lt, ne_eqb, option_map, min, if◌then◌else◌, Kind, Sparse, Variable, extent, record_number_limit, range, covers, first_written, is_sparse, stored_bytes, Act, IsOneOf, find_covering, covers_within, place_in, record_place, plain_piece, PlainLeaf, plain_leaf, leaves_ascend, block_behind, sound, behind_in, Same, variable_of, size_at, Leaf, leaves_of, VariableShape, shape, record_bytes, max_rec_at, piece_kept, tile_lies, MaxRecDone, SoFar, OldBlock, NewBlock, record_of, put_from, put_count, filter, list_any, nat_lt, PutsLeaves, ranges_of, cuts_before_put, is_taken_at, top_chain, last_node, node_behind, fits, Each-in, number, vdr_vxr_tail, NodeFits, In, bytes_eq-same, same_of_bytes_eq, length-take, length-drop, drop-drop, ◌==◌, turned, pad_record, r_max_rec_field, max_rec_touches, uncovered, put_room, blocks_room, packed_room, Touch, Outside, Changed, space_before, each_of, count_is, plain_bytes, vdr_max_rec, is_little, records_of_leaf, type_of_variable, either, both, put_touches, taken_bytes, GoesOn, is_rewritten, In-append, places_of, is_in, other_kind, true-is_in, eqb-true, uir_type, false-is_in, ◌≡◌, ◌≢◌, ◌⊎◌, ℕ, suc, ◌+◌, ◌-◌, ◌*◌, ◌<◌, ◌≤◌, List, length, take, drop, false, Some, None, refl, sym, ap, subst, ◌∙◌, arith, inl, inr, [], ◌∷◌, ◌++◌, append-nil, Bool, true, bytes_eq, zero, map, true≢false, take-append-drop, leaf_at, unwritten_apart, written_fits, mul-sub, transport, type_at, nat_tests, anything_if, Allowances, Keeps, AllKeep, unused_allowance, is_taken, shapes_of, Only, OneVariable, variable_records, unused_records, owned, Unused, keep_all, keep_file, keep_places, keep_kinds, keep_variable_parts, keep_attributes, keep_variables, keeps_stood, filter-says, unused_in, CutsFirst, PutsIndex, is_written, PutsBytes, StaysUnwritten, UnwrittenStay, HoldsPads, is_changed, was_leaf, written_in, stays_in_place, stored_in, put_changes, top_stays, TailFollows, block_end, SpareIs, ReservedIs, BlockFollows, nodes_of, repeat, touched_field, cut_open, ranges_before_put, changed_then, eq_of}
-use Rattle.cdf_edits.proofs.Edits.LeafPieces.{found_in}
+use Rattle.cdf_puts.proofs.Common.{find, eq-eqb, ◌&&◌, Outside-append, cases_lt, ne_eqb, option_map, min, if◌then◌else◌, Kind, Sparse, Variable, extent, record_number_limit, range, covers, first_written, is_sparse, stored_bytes, Act, IsOneOf, find_covering, covers_within, place_in, record_place, plain_piece, PlainLeaf, plain_leaf, leaves_ascend, block_behind, sound, behind_in, Same, variable_of, size_at, Leaf, leaves_of, VariableShape, shape, record_bytes, max_rec_at, piece_kept, MaxRecDone, SoFar, OldBlock, NewBlock, record_of, put_from, put_count, filter, list_any, nat_lt, PutsLeaves, ranges_of, cuts_before_put, is_taken_at, top_chain, last_node, node_behind, fits, Each-in, number, vdr_vxr_tail, NodeFits, In, bytes_eq-same, same_of_bytes_eq, length-take, drop-drop, ◌==◌, turned, pad_record, r_max_rec_field, max_rec_touches, uncovered, put_room, blocks_room, packed_room, Touch, Outside, Changed, space_before, each_of, count_is, plain_bytes, vdr_max_rec, is_little, records_of_leaf, type_of_variable, either, both, put_touches, taken_bytes, GoesOn, is_rewritten, In-append, places_of, is_in, other_kind, true-is_in, eqb-true, uir_type, false-is_in, ◌≡◌, ◌≢◌, ◌⊎◌, ℕ, suc, ◌+◌, ◌-◌, ◌*◌, ◌<◌, ◌≤◌, List, length, take, drop, false, Some, None, refl, sym, ap, subst, ◌∙◌, arith, inl, inr, [], ◌∷◌, ◌++◌, append-nil, Bool, true, bytes_eq, zero, map, true≢false, take-append-drop, leaf_at, unwritten_apart, written_fits, transport, type_at, nat_tests, anything_if, Allowances, Keeps, AllKeep, unused_allowance, is_taken, shapes_of, Only, OneVariable, variable_records, unused_records, owned, Unused, keep_all, keep_file, keep_places, keep_kinds, keep_variable_parts, keep_attributes, keep_variables, keeps_stood, filter-says, unused_in, CutsFirst, PutsIndex, is_written, PutsBytes, StaysUnwritten, UnwrittenStay, HoldsPads, is_changed, was_leaf, written_in, stays_in_place, stored_in, put_changes, top_stays, TailFollows, block_end, SpareIs, ReservedIs, BlockFollows, nodes_of, repeat, touched_field, cut_open, ranges_before_put, changed_then, eq_of, times_le}
+use Rattle.cdf_edits.proofs.Edits.LeafPieces.{found_in, times_le}
 use Rattle.cdf_puts.specs.Going.{found_in as own_found}
 use Rattle.cdf_puts.proofs.PutRules.{no_cpr}
 use Rattle.cdf_puts.proofs.LastImage.{IsPut, LastImage, last_image}
@@ -12,6 +12,7 @@ use Rattle.cdf_puts.proofs.GoesThen.{block_allowed, descriptor_allowed, later_pa
 use Rattle.cdf_puts.proofs.PutRoom.{none_given, no_node_given, none_without_bytes}
 use Rattle.cdf_leaves.proofs.TopChain.{chain_in}
 use Rattle.cdf_puts.proofs.SoFarStarts.{covers_own}
+use Rattle.std.proofs.lemmas.List.{drop_all}
 
 none_taken_in : (acts : List Act) (xs : List ℕ) → ((m : ℕ) → In m xs → is_taken_at acts m ≡ false) → list_any (is_taken_at acts) xs ≡ false
 none_taken_in acts [] f = refl
@@ -25,16 +26,12 @@ unwritten first k size l i none =
 
 -- ---- pieces that are all the same
 
-pieces_repeat : (n size : ℕ) (pad xs : List ℕ) → length xs ≡ n * size → ((i : ℕ) → i < n → take size (drop (i * size) xs) ≡ pad) → xs ≡ repeat n pad
-pieces_repeat zero size pad [] e f = refl
-pieces_repeat zero size pad (x ∷ xs) e f = absurd (omega arith)
-pieces_repeat (suc n) size pad xs e f =
-    let none : 0 ≡ 0 * size = omega arith in
-    let next : (i : ℕ) → size + i * size ≡ suc i * size = λ i. (omega arith) in
-    let first : take size xs ≡ pad = ap (λ (m : ℕ). take size (drop m xs)) none ∙ f 0 (omega arith) in
-    let left = length-drop size xs in
-    let rest = pieces_repeat n size pad (drop size xs) (omega arith) (λ i lt. ap (take size) (drop-drop (i * size) size xs) ∙ ap (λ (m : ℕ). take size (drop m xs)) (next i) ∙ f (suc i) (omega arith)) in
-    sym (take-append-drop size xs) ∙ (λ i. first i ++ rest i)
+pieces_repeat : (n s size : ℕ) (pad xs : List ℕ) → length xs ≤ (s + n) * size → ((j : ℕ) → s ≤ j → j < s + n → take size (drop (j * size) xs) ≡ pad) → drop (s * size) xs ≡ repeat n pad
+pieces_repeat zero s size pad xs e f = drop_all (s * size) xs (omega arith)
+pieces_repeat (suc n) s size pad xs e f =
+    let next : s * size + size ≡ suc s * size = omega arith in
+    let rest = drop-drop size (s * size) xs ∙ ap (λ (m : ℕ). drop m xs) next ∙ pieces_repeat n (suc s) size pad xs (omega arith) (λ j low high. f j (omega arith) (omega arith)) in
+    sym (take-append-drop size (drop (s * size) xs)) ∙ (λ i. f s (omega arith) (omega arith) i ++ rest i)
 
 -- what stands behind the records of a block is not written
 behind_written : (first r size : ℕ) (l : Leaf) (i : ℕ) → l.first ≤ l.last → 12 + (l.last + 1 - l.first) * size ≤ i → (i < put_from first size l) ⊎ (put_from first size l + put_count first (r + 1) l * size ≤ i)
@@ -139,9 +136,6 @@ module _ {b now last : List ℕ} {kind : Kind} {before : List VariableShape} {ow
 
   last_plain : (l : Leaf) → IsOneOf leaves l → PlainLeaf last size l
   last_plain l i = subst (λ (n : ℕ). PlainLeaf last n l) size_last (plain_leaf put.good put.among (later_packed so.start.good so.start.among put ∙ so.start.loose) l i)
-
-  inside_last : (l : Leaf) → IsOneOf leaves l → l.place + size_at last l.place ≤ length last
-  inside_last l i = (tile_lies last 8 (length last) (shape last).records l.place (sound put.good put.among).has_shape.tiled (behind_in put.good put.among l.place (block_behind own' l.place (place_in leaves l i)))).high
 
   kept : (l : Leaf) → IsOneOf leaves l → Same now last l.place (l.place + size_at now l.place)
   kept l i = (img.behind l.place (block_behind own' l.place (place_in leaves l i))).same
@@ -331,27 +325,15 @@ module _ {b now last : List ℕ} {kind : Kind} {before : List VariableShape} {ow
         let stored = stored_in v r l in
         let bytes = plain_bytes last own'.vdr l in
         let whole : bytes ≡ take ((l.last + 1 - l.first) * size) (drop (l.place + 12) last) = rw (x.plain, count, size_last) refl in
-        let high = inside_last l i in
-        let room = x.room in
-        let part = length-drop (l.place + 12) last in
-        let long : length bytes ≡ (l.last + 1 - l.first) * size = ap length whole ∙ length-take ((l.last + 1 - l.first) * size) (drop (l.place + 12) last) ∙ omega arith in
-        let minus = mul-sub size (l.last + 1 - l.first) stored in
-        pieces_repeat (records_of_leaf l - stored) size (turned v.type (is_little last) (pad_record v)) (drop (stored * size) bytes)
-        (length-drop (stored * size) bytes ∙ ap (λ (m : ℕ). m - stored * size) long ∙ (let e : (l.last + 1 - l.first) * size - stored * size ≡ (l.last + 1 - l.first - stored) * size = omega arith in e) ∙ ap (λ (m : ℕ). (m - stored) * size) (sym count))
-        (λ i' lt.
-        let lt' : i' < (l.last + 1 - l.first) - stored = subst (λ (m : ℕ). i' < m - stored) count lt in
-        let j = l.first + (stored + i') in
-        let t : j ≤ l.last = omega arith in
+        let cut = length-take ((l.last + 1 - l.first) * size) (drop (l.place + 12) last) in
+        let room = times_le (l.last + 1 - l.first) (stored + (records_of_leaf l - stored)) size (omega arith) in
+        pieces_repeat (records_of_leaf l - stored) stored size (turned v.type (is_little last) (pad_record v)) bytes (omega (arith, ap length whole)) (λ j low high.
+        let same : l.first + j - l.first ≡ j = omega arith in
+        let past : r < l.first + j = omega arith in
+        let upto : l.first + j ≤ l.last = omega arith in
         let le : most ≤ r = elim (cases_lt r most) [ inl few ↦ (let e = n.alone few in omega arith) | inr le ↦ le ] in
-        let joined : stored * size + i' * size ≡ (l.first + (stored + i') - l.first) * size = joins l.first stored i' size in
-        ap (take size) (drop-drop (i' * size) (stored * size) bytes)
-        ∙ ap (λ (m : ℕ). take size (drop m bytes)) joined
-        ∙ plain_piece last own'.vdr size j l x.plain x.small size_last (omega arith) t
-        ∙ n.written j (omega arith) t
-        ∙ pad_is j (λ e. absurd (omega arith)) ∙ pad_now le)
-      where
-        joins : (f s i n : ℕ) → s * n + i * n ≡ (f + (s + i) - f) * n
-        joins f s i n = let e : f + (s + i) - f ≡ s + i = omega arith in rw e (omega arith)
+        ap (λ (m : ℕ). take size (drop (m * size) bytes)) (sym same) ∙ plain_piece last own'.vdr size (l.first + j) l x.plain x.small size_last (omega arith) upto
+        ∙ n.written (l.first + j) (omega arith) upto ∙ pad_is (l.first + j) (λ e. absurd (omega arith)) ∙ pad_now le)
 
     padded : (l : Leaf) → IsOneOf leaves l → HoldsPads last v own'.vdr r (ranges_before_put v own.index r) l
     padded l i none = elim (last_new l i) [

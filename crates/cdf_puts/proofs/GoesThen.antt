@@ -1,5 +1,5 @@
 -- One image goes on to another: what a put may change of the records of its variable, what the descriptor says by then, that an edit of one variable is such a step, and that two steps are one.
-use Rattle.cdf_puts.proofs.Common.{◌==◌, if◌then◌else◌, IsOneOf, StandsAmong, fits, Only, shapes_of, put_changes, is_rewritten, Range, range, linkable-type, is_in, variable_of, type_at, Leaf, nodes_of, leaves_of, VariableShape, shape, In, Good, Found, Kind, R, Z, found_in, other_kind, Stays, r_max_rec_field, space_fields, Act, either, variable_records, AttributeShape, Shape, IsSound, tile, FileSame, record_alike, stays_alike, is_compressed, record_bytes, tile_lies, GoesOn, eq-eqb, length-map, set_at, list_any, slice_set, ◌&&◌, nat_le, nat_lt, long, OutsideFields, is_taken, ActsFollow, taken, linkable-in, good_is_sound, false-is_in, true-is_in, content, size_at, Field, uir_next_uir, uir_prev_uir, uir_type, DataSet, Variable, variables_of, with_variables, ListedStay, acts_joined, OnlyTakes, none_of_both, WritesRecords, own_rules, Touch, put_fields, max_rec_at, Nodes, image_limit, HasShape, LooseStay, Mark, flat_map, Kept, kept_away, ours, ◌≡◌, ℕ, List, [], ◌∷◌, length, true, false, Option, refl, sym, ap, ◌∙◌, inl, inr, ◌+◌, ◌<◌, ◌≤◌, ◌++◌, subst, arith, map, ◌⊎◌, Stood, keeps_stood, range_at, only_of, Allowance, Anything, anything_if, same_kind, vdr_type, among_now, content_replaced, only, others_are, records_are, splices, OwnEdit, same_as_itself, attribute_records, variable_stays, VdrStays, packed_stays, all_variable_records, listed_before, gdr_keeps, good_now, index_edit, marks, no_acts_follow, unused_stands, IndexEdit, vdr_size, own_edit, records_in, stood, variables_in, is_a-in, cdr_type, cdr_kept, after_ours, kind_ours}
+use Rattle.cdf_puts.proofs.Common.{◌==◌, if◌then◌else◌, IsOneOf, StandsAmong, fits, Only, shapes_of, put_changes, is_rewritten, Range, range, linkable-type, is_in, variable_of, type_at, Leaf, nodes_of, leaves_of, VariableShape, shape, In, Good, Kind, R, Z, found_in, other_kind, Stays, r_max_rec_field, space_fields, Act, either, variable_records, AttributeShape, Shape, IsSound, tile, FileSame, record_alike, stays_alike, is_compressed, record_bytes, tile_lies, GoesOn, eq-eqb, length-map, set_at, list_any, slice_set, ◌&&◌, nat_le, nat_lt, long, OutsideFields, is_taken, ActsFollow, taken, linkable-in, good_is_sound, false-is_in, true-is_in, content, size_at, Field, uir_next_uir, uir_prev_uir, uir_type, DataSet, Variable, variables_of, with_variables, ListedStay, acts_joined, OnlyTakes, none_of_both, WritesRecords, own_rules, Touch, put_fields, max_rec_at, Nodes, image_limit, HasShape, LooseStay, Mark, flat_map, Kept, kept_away, ours, ◌≡◌, ℕ, List, [], ◌∷◌, length, true, false, Option, refl, sym, ap, ◌∙◌, inl, inr, ◌+◌, ◌<◌, ◌≤◌, ◌++◌, subst, arith, map, ◌⊎◌, Stood, keeps_stood, range_at, only_of, Allowance, Anything, anything_if, same_kind, vdr_type, among_now, content_replaced, only, others_are, records_are, splices, OwnEdit, same_as_itself, attribute_records, variable_stays, VdrStays, packed_stays, all_variable_records, listed_before, gdr_keeps, good_now, index_edit, marks, no_acts_follow, unused_stands, IndexEdit, vdr_size, own_edit, records_in, stood, variables_in, is_a-in, cdr_type, cdr_kept, after_ours, kind_ours}
 use Rattle.cdf_puts.proofs.RaisedGoes.{set_is}
 use Rattle.cdf_edits.proofs.Edits.IndexEdited as of_index
 use Rattle.cdf_index.proofs.OwnRecords.{by_range}

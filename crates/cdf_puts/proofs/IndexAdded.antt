@@ -5,7 +5,7 @@ use Rattle.cdf_puts.proofs.LeafCounts.{leaf_added, leaf_stays, leaf_was_there}
 use Rattle.cdf_puts.proofs.LeafEdit.{block_taken, file, new_index, used_apart, node_in, node_taken, nodes_step}
 use Rattle.cdf_index.proofs.NewIndex.{index_edit}
 use Rattle.cdf_puts.proofs.LeafEdit.{blocks_go_on, plain_body}
-use Rattle.cdf_puts.proofs.PutBytes.{size_now, now_plain, old_plain, old_goes_on, new_goes_on, beside_one}
+use Rattle.cdf_puts.proofs.PutBytes.{size_now, now_plain, old_goes_on, new_goes_on, beside_one}
 use Rattle.cdf_puts.proofs.PutNodes.{taken_first, taken_then, taken_neither, NodesStep, nodes_then, taken_both, or_false, place_outside, same_with_leaf, same_uses, with_one_more, last_of_through, through_stays, top_grows, bytes_longer}
 use Rattle.cdf_puts.proofs.SoFarStarts.{one_more, put_new, none_begins, puts_new, covers_own}
 

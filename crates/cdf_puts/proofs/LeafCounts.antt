@@ -1,5 +1,5 @@
 -- What a leaf more makes of the nodes, the Firsts and the leaves of an index, and of how wide its nodes are and which room they have.
-use Rattle.cdf_puts.proofs.Common.{max, eqb-true, eq-eqb, le-ltb, ◌==◌, filter, fold, min, nat_lt, record_number_limit, next_first, with_both, places_of, IsOneOf, times-append, Nodes, no_node, node, Entries, no_entry, block, lower, Leaf, leaf, leaves_of, entry_count, room_at, times, Each, NodeFits, In, either, with_new, InOrder, leaves_more, ◌≡◌, ◌⊎◌, ℕ, zero, suc, ◌+◌, ◌≤◌, List, [], ◌∷◌, ◌++◌, Bool, false, ltb, append_assoc, refl, sym, ap, subst, ◌∙◌, arith, inl, inr, if◌then◌else◌, with_leaf, new_room, with_block, Each-split, Grows, by_leaf, weight_grows}
+use Rattle.cdf_puts.proofs.Common.{max, eqb-true, eq-eqb, le-ltb, ◌==◌, filter, fold, min, nat_lt, record_number_limit, next_first, with_both, places_of, IsOneOf, times-append, Nodes, no_node, node, Entries, no_entry, block, lower, Leaf, leaf, leaves_of, entry_count, room_at, times, Each, NodeFits, In, either, with_new, InOrder, leaves_more, ◌≡◌, ◌⊎◌, ℕ, zero, suc, ◌+◌, ◌≤◌, List, [], ◌∷◌, ◌++◌, Bool, false, append_assoc, refl, sym, ap, subst, ◌∙◌, arith, inl, inr, if◌then◌else◌, with_leaf, new_room, with_block, Each-split, Grows, by_leaf, weight_grows}
 use Rattle.std.proofs.lemmas.List.Elements.{filter-append}
 use Rattle.cdf_edits.specs.Commands.Room.{widest, widest_below}
 use Rattle.cdf_edits.specs.Index.Blocks.{firsts_of, entry_firsts}

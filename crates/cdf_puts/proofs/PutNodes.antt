@@ -1,12 +1,11 @@
 -- The nodes of an index that grows leaf by leaf: the index but for where its blocks and its new nodes stand, its top chain, and the unused entries and spare bytes of its nodes.
-use Rattle.cdf_puts.proofs.Common.{eq-eqb, ne_eqb, lt-ltb, list_any, ◌&&◌, ◌||◌, if◌then◌else◌, Range, with_both, with_ranges, is_in, Nodes, no_node, node, Entries, no_entry, block, lower, Leaf, leaf, entry_count, used_count, In, either, In-append, In-append_left, In-append_right, same_of_bytes_eq, le-leb, lt-leb, cases_lt, ◌==◌, nat_le, is_taken_at, uses_entry, UnusedEntries, NodeSpareStays, NodesFollow, Act, Took, Gave, Kept, Each-in, Same, size_at, nodes_of, room_at, Each, NodeFits, Same-part, is_in-true, true-is_in, both, le_of, ◌≡◌, ℕ, zero, suc, ◌<◌, List, [], ◌∷◌, ◌++◌, length, Bool, true, false, ltb, leb, eqb, refl, sym, ap, subst, ◌∙◌, arith, inl, inr, ◌⊎◌, ◌+◌, ◌*◌, ◌≤◌, not, true≢false, and_from, both_ways, or_left, or_right, and_right, or_from, or_parts, entries_outline, upto, chain_reaches, leads_down, past, reaches, with_entry, was_unused, EntryIs, first_at, last_at, offset_at, TopGrows, each, Grows, by_leaf, same-then}
+use Rattle.cdf_puts.proofs.Common.{eq-eqb, ne_eqb, lt-ltb, list_any, ◌&&◌, ◌||◌, if◌then◌else◌, Range, with_both, with_ranges, is_in, Nodes, no_node, node, Entries, no_entry, block, lower, Leaf, leaf, entry_count, used_count, In, either, In-append, In-append_left, In-append_right, same_of_bytes_eq, le-leb, lt-leb, cases_lt, nat_le, is_taken_at, uses_entry, UnusedEntries, NodeSpareStays, NodesFollow, Act, Took, Gave, Kept, Each-in, Same, size_at, nodes_of, room_at, Each, NodeFits, Same-part, is_in-true, true-is_in, both, le_of, ◌≡◌, ℕ, zero, suc, ◌<◌, List, [], ◌∷◌, ◌++◌, length, Bool, true, false, ltb, leb, eqb, refl, sym, ap, subst, ◌∙◌, arith, inl, inr, ◌⊎◌, ◌+◌, ◌*◌, ◌≤◌, not, and_from, both_ways, or_left, or_right, and_right, entries_outline, upto, chain_reaches, leads_down, past, reaches, with_entry, was_unused, EntryIs, first_at, last_at, offset_at, TopGrows, each, Grows, by_leaf, same-then}
 use Rattle.std.proofs.lemmas.List.Folds.{list_any-append}
 use Rattle.std.specs.Prelude.{bytes_eq}
 use Rattle.cdf_edits.specs.Index.Grown.{with_leaf, with_lower, indexes_with, outline}
 use Rattle.cdf_edits.specs.Index.Written.{uses_entry, uses_entry_below}
 use Rattle.cdf_format.specs.Index.{nodes_of, lower_nodes}
 use Rattle.cdf_format.specs.IndexOf.{HasNodes, Names, SaysEntry}
-use Rattle.std.proofs.Math.Bool.{or_assoc}
 use Rattle.cdf_edits.proofs.Frame.LinksStay.{SameHeads, room_same, used_same, entry_same}
 
 -- ---- an outline says the same of an index as the index does

@@ -1,7 +1,7 @@
 -- How much longer an image becomes by acts that only take, and that nothing is taken where no bytes are.
-use Rattle.cdf_puts.proofs.Common.{either, fold, ◌==◌, Act, Took, Gave, taken, space_before, ActsFollow, Each, IsTaking, taken_bytes, inl, inr, ◌≡◌, ℕ, ◌+◌, ◌≤◌, List, [], ◌∷◌, ◌++◌, length, map, refl, arith, SpaceLeft, after_act, AreActs, sum_by-cons}
+use Rattle.cdf_puts.proofs.Common.{fold, Act, Took, Gave, taken, space_before, ActsFollow, Each, IsTaking, taken_bytes, ◌≡◌, ℕ, ◌+◌, ◌≤◌, List, [], ◌∷◌, ◌++◌, length, map, refl, arith, SpaceLeft, after_act, AreActs, sum_by-cons}
 use Rattle.cdf_edits.specs.Index.Cut.{BlocksFreedStay, NodesFreedStay, none_written}
-use Rattle.cdf_edits.specs.Space.Placement.{place_for, eof_after}
+use Rattle.cdf_edits.specs.Space.Placement.{eof_after}
 
 one_taken : (place need : ℕ) (more : List Act) → taken_bytes (Took place need ∷ more) ≡ need + taken_bytes more
 one_taken place need more = sum_by-cons (λ x. x) need (map (λ (take : ℕ × ℕ). take.1) (taken more))

@@ -1,5 +1,5 @@
 -- MaxRec is raised to the record that was put: no byte changes but MaxRec, and rMaxRec of an r variable.
-use Rattle.cdf_puts.proofs.Common.{le-leb, length-map, map-append, set_at, if◌then◌else◌, slice_set, Kind, R, Z, DataSet, Variable, extent, record_number_limit, variables_of, with_variables, is_in, content, variable_of, number, type_at, with_sign, vdr_vxr_tail, VariableShape, shape, In, max_rec_at, is_max_rec, Good, word_kept, either, bytes_eq-same, same_of_bytes_eq, RMaxRecFollows, r_max_rec, max_rec_touches, Changed, type_in, variables_chain, index_records, WritesRecords, part, same_shape, variables_of_are, StandsAmong, sound, typed, long, has, fits, Kept, MaxRecRaised, ◌≡◌, ◌≢◌, ℕ, ℤ, pos, ◌+◌, ◌<◌, ◌≤◌, List, [], ◌∷◌, ◌++◌, length, map, Bool, true, bytes_eq, append-nil, refl, sym, ap, subst, ◌∙◌, arith, inl, inr, content_is, only_variable, r_extents, greatest_r_max_rec, index_types, signed, behind_kept, index_typed}
+use Rattle.cdf_puts.proofs.Common.{le-leb, length-map, map-append, set_at, if◌then◌else◌, slice_set, Kind, R, Z, DataSet, Variable, extent, record_number_limit, variables_of, with_variables, is_in, content, variable_of, number, type_at, with_sign, vdr_vxr_tail, VariableShape, shape, In, max_rec_at, is_max_rec, Good, word_kept, bytes_eq-same, same_of_bytes_eq, RMaxRecFollows, r_max_rec, max_rec_touches, Changed, type_in, variables_chain, index_records, WritesRecords, part, same_shape, variables_of_are, StandsAmong, sound, typed, long, has, fits, Kept, MaxRecRaised, ◌≡◌, ◌≢◌, ℕ, ℤ, pos, ◌+◌, ◌<◌, ◌≤◌, List, [], ◌∷◌, ◌++◌, length, map, true, bytes_eq, append-nil, refl, sym, ap, subst, ◌∙◌, arith, inl, inr, content_is, only_variable, r_extents, greatest_r_max_rec, index_types, signed, behind_kept, index_typed}
 
 -- ---- the greatest numbers of the r variables
 
