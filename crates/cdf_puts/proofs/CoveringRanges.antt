@@ -167,10 +167,7 @@ more_blocks j c m q q' most h (inr lt) le = let r = times_le (suc q) q' most lt 
 
 -- c records are in j blocks, each of them full but for q; then one block more is no more than the room counts for u + 1 records
 many_blocks : (j c q e u most : ℕ) → 1 ≤ most → j * most ≤ c + q * most → c ≤ u → q ≤ e → suc j ≤ quotient_up (suc u) most + e + 1
-many_blocks j c q e u most one h cu qe = elim (cases_lt j (quotient_up (suc u) most + e)) [
-  | inl lt ↦ omega arith
-  | inr ge ↦ let t = times_le (quotient_up (suc u) most + e) j most ge in let s = times_le q e most qe in absurd (omega arith)
-]
+many_blocks j c q e u most one h cu qe = elim (cases_lt j (quotient_up (suc u) most + e)) [ inl lt ↦ omega arith | inr ge ↦ absurd (omega (arith, times_le (quotient_up (suc u) most + e) j most ge, times_le q e most qe)) ]
 
 -- a block and a node more
 pub more_bytes : (t c j m size wide x : ℕ) → t ≤ c * size + j * (28 + wide) → x ≤ wide → t + max 28 (12 + m * size) + x ≤ (c + m) * size + suc j * (28 + wide)

@@ -85,11 +85,9 @@ module _ {b now last : List ℕ} {kind : Kind} {before : List VariableShape} {ow
 
   puts : PutsLeaves b last v.rle own'.vdr (filter (is_written v r) (leaves_of own'.index)) own.index acts own'.index
   puts =
-      let vdr = sym so.goes.vdr_is in
-      let loose = sym so.start.loose in
       let end = append-nil (filter (is_written v r) leaves) in
       let acts_end = append-nil acts in
-      transport (λ i. PutsLeaves b last (loose i) (vdr i) (end i) own.index (acts_end i) own'.index) (so.index.puts last last_size [] [] own'.index (refl, refl))
+      transport (λ i. PutsLeaves b last ((sym so.start.loose) i) ((sym so.goes.vdr_is) i) (end i) own.index (acts_end i) own'.index) (so.index.puts last last_size [] [] own'.index (refl, refl))
 
   -- ---- VXRtail
 
@@ -200,15 +198,12 @@ module _ {b now last : List ℕ} {kind : Kind} {before : List VariableShape} {ow
   stored_none : (j : ℕ) → find (λ (leaf : Leaf). covers j (range leaf.first leaf.last)) olds ≡ None → j < most → (j < first) ⊎ (r < j) → stored_bytes last own.vdr size leaves j ≡ stored_bytes b own.vdr size olds j
   stored_none j none below side = elim (some_or_none (find (λ (leaf : Leaf). covers j (range leaf.first leaf.last)) leaves)) [
     | inr e ↦ ap (option_map _) e ∙ sym (ap (option_map _) none)
-    | inl found ↦
-        let l = found.0 in
-        let g = found_in (λ (leaf : Leaf). covers j (range leaf.first leaf.last)) leaves l found.1 in
-        let c = covers_within j l g.1 in
-        let f = c.0 in
-        let t = c.1 in
-        elim (last_new l g.0) [
-          | inl o ↦ let e : Some l ≡ None = sym (find_covering j 0 (suc record_number_limit) olds (leaves_ascend so.start.good so.start.among) l o f t) ∙ none in absurd (cc)
-          | inr n ↦ elim side [ inl lt ↦ (let a = n.from in absurd (omega arith)) | inr lt ↦ (let a = n.alone (omega arith) in absurd (omega arith)) ]
+    | inl x ↦
+        let g = found_in (λ (leaf : Leaf). covers j (range leaf.first leaf.last)) leaves x.0 x.1 in
+        let c = covers_within j x.0 g.1 in
+        elim (last_new x.0 g.0) [
+          | inl o ↦ let e : Some x.0 ≡ None = sym (find_covering j 0 (suc record_number_limit) olds (leaves_ascend so.start.good so.start.among) x.0 o c.0 c.1) ∙ none in absurd (cc)
+          | inr n ↦ absurd (omega (arith, n.from, n.alone))
         ]
   ]
 

@@ -122,8 +122,7 @@ module _ {b now now' : List ℕ} {kind : Kind} {before : List VariableShape} {ow
       plain_is : plain_bytes now' own'.vdr new ≡ records
       plain_is =
           let count = count_is new small vacant.ordered in
-          let bytes = size_after in
-          ap (λ (n : ℕ). take n (drop (place + 12) now')) ((λ i. count i * bytes i) ∙ sym says.as_long) ∙ (blocks_go_on so.goes.good so.goes.among w holds).records_are
+          ap (λ (n : ℕ). take n (drop (place + 12) now')) ((λ i. count i * size_after i) ∙ sym says.as_long) ∙ (blocks_go_on so.goes.good so.goes.among w holds).records_are
 
   pub blocks_added : BlocksSoFar b now' own own'' raw pad r first upto (acts ++ step)
   blocks_added = record {

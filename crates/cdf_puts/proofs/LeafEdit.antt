@@ -66,10 +66,11 @@ taken_nodes zero at m = refl
 taken_nodes (suc room) at m = refl
 
 pub taken_places_are : (place need room at m : ℕ) → is_taken_at (leaf_acts place need room at) m ≡ is_in m (place ∷ new_nodes room at)
-taken_places_are place need room at m = ap (λ (p : Bool). (m == place) || p) (taken_nodes room at m)
+taken_places_are place need zero at m = refl
+taken_places_are place need (suc room) at m = refl
 
 pub block_taken : (place need room at : ℕ) → is_taken_at (leaf_acts place need room at) place ≡ true
-block_taken place need room at = let e : (place == place) ≡ true = eq-eqb place place refl in rw e refl
+block_taken place need room at = grind (arith, eq-eqb place place refl)
 
 pub node_taken : (place need room at : ℕ) → 1 ≤ room → is_taken_at (leaf_acts place need room at) at ≡ true
 node_taken place need zero at some = absurd (omega arith)
@@ -275,9 +276,8 @@ module _ {b now : List ℕ} {kind : Kind} {before : List VariableShape} {own : V
         let size : size_at now m ≡ need = ap (size_at now) x.0 ∙ size_kept w.filled now new.place k.same (let l = k.long in omega arith) ∙ filled_size sound w.block.fills in
         rw (x.1, size) (refl, subst (λ (t : ℕ). fixed_size t ≤ need) plain w.block.fills.fixed)
     | inr x ↦
-        let type = x.2 in
         let size : size_at now m ≡ vxr_bytes room = ap (size_at now) x.1 ∙ (node_now x.0).1 in
-        rw (type, size) (refl, omega arith)
+        rw (x.2, size) (refl, omega arith)
   ]
 
   -- ---- chains

@@ -105,9 +105,8 @@ mutual
   pub outline_agrees : (news news' : List ℕ) (index : Nodes) → ((m : ℕ) → In m (nodes_of index) → is_in m news' ≡ is_in m news) → outline news' index ≡ outline news index
   outline_agrees news news' no_node same = refl
   outline_agrees news news' (node place room es more) same =
-      let lower = entries_agree news news' es (λ m i. same m (inr (In-append_left m (lower_nodes es) (nodes_of more) i))) in
       let rest = outline_agrees news news' more (λ m i. same m (inr (In-append_right m (lower_nodes es) (nodes_of more) i))) in
-      λ k. node (if (same place (inl refl)) k then 0 else place) room (lower k) (rest k)
+      λ k. node (if (same place (inl refl)) k then 0 else place) room ((entries_agree news news' es (λ m i. same m (inr (In-append_left m (lower_nodes es) (nodes_of more) i)))) k) (rest k)
 
   pub entries_agree : (news news' : List ℕ) (es : Entries) → ((m : ℕ) → In m (lower_nodes es) → is_in m news' ≡ is_in m news) → entries_outline news' es ≡ entries_outline news es
   entries_agree news news' no_entry same = refl
@@ -200,12 +199,10 @@ bytes_longer xs ys l = elim (either (bytes_eq xs ys)) [ inl t ↦ absurd (omega 
 -- ---- tests
 
 pub or_false : (p : Bool) → (p || false) ≡ p
-or_false true = refl
-or_false false = refl
+or_false p = grind arith
 
 pub unless_true : {A : Type 0} {p : Bool} → A ⊎ (p ≡ true) → p ≡ false → A
-unless_true (inl a) e = a
-unless_true {p = p} (inr t) e = absurd (both_ways p e t)
+unless_true s e = grind (arith, s, e)
 
 -- ---- what was taken first, and then
 

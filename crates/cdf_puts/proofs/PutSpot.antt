@@ -133,10 +133,8 @@ module _ {b : List ℕ} {kind : Kind} {before : List VariableShape} {own : Varia
         let v = variable_of b own in
         let new = leaf k last place false in
         let step = leaf_acts place (8 + length body) (new_room k own'.index) at in
-        let plain = plain_body body records holds in
-        let size = later_size so.start.good so.start.among so.goes in
         let loose = later_packed so.start.good so.start.among so.goes ∙ so.start.loose in
-        let as_long : length records ≡ (last + 1 - k) * record_bytes now own'.vdr = says.as_long ∙ ap (λ (n : ℕ). (last + 1 - k) * n) (sym size) in
+        let as_long : length records ≡ (last + 1 - k) * record_bytes now own'.vdr = says.as_long ∙ ap (λ (n : ℕ). (last + 1 - k) * n) (sym (later_size so.start.good so.start.among so.goes)) in
         let goes : GoesOn now now' kind before own' (with_new_leaf own' new at) after step = leaf_goes_on good among w holds loose vacant as_long short in
         let need : 8 + length body ≡ block_bytes v k last = size_needed good among w holds ∙ ap (λ (n : ℕ). max 28 (12 + n)) says.as_long in
         let bytes : taken_bytes (acts ++ step) ≡ taken_bytes acts + block_bytes v k last + node_bytes k own'.index =
@@ -151,7 +149,7 @@ module _ {b : List ℕ} {kind : Kind} {before : List VariableShape} {own : Varia
           covers = subst (Covering v own.index (with_leaf new at own'.index) r (min (last + 1) (r + 1))) (sym bytes) covers;
           takes = takes_both acts step so.takes (leaf_takes place (8 + length body) (new_room k own'.index) at);
           short = short;
-          max_rec_is = subst (λ (v : ℕ). number now' v vdr_max_rec ≡ number now v vdr_max_rec) so.goes.vdr_is (leaf_max_rec good among w plain) ∙ so.max_rec_is;
+          max_rec_is = subst (λ (v : ℕ). number now' v vdr_max_rec ≡ number now v vdr_max_rec) so.goes.vdr_is (leaf_max_rec good among w (plain_body body records holds)) ∙ so.max_rec_is;
           r_max_rec_is = leaf_r_max_rec good among w holds loose vacant as_long short ∙ so.r_max_rec_is;
           index = index_added so more is vacant holds says w goes.good goes.among;
           blocks = blocks_added so more is vacant holds says w goes.good goes.among;
