@@ -1,7 +1,7 @@
 -- The names that most proofs of this crate cite, passed on from one place. Declares nothing.
-pub use Rattle.std.proofs.Common.{}
 pub use Rattle.cdf_area.proofs.Calls.{edit_done, edit_failed, edit_more, edit_without_memory, edits_by_read, keeps_by_read, read_more, read_once}
 pub use Rattle.cdf_area.specs.Frame.{Frame}
+pub use Rattle.cdf_base.specs.Bytes.{put}
 pub use Rattle.cdf_edits.proofs.Commands.KeptRecords.{Stood, keep_attributes, keep_variables, keeps_stood}
 pub use Rattle.cdf_edits.proofs.Edits.ActsJoined.{ListedStay, acts_joined, listed_before}
 pub use Rattle.cdf_edits.proofs.Edits.Composing.{changed_edit, edit_then, head_size, head_type, same-then}
@@ -36,7 +36,7 @@ pub use Rattle.cdf_edits.specs.Commands.GreatestRecord.{RMaxRecFollows, greatest
 pub use Rattle.cdf_edits.specs.Commands.Puts.{CutsFirst, HoldsPads, PutsBytes, PutsIndex, PutsLeaves, PutsRecord, StaysUnwritten, TakesNode, UnwrittenStay, is_changed, is_written, max_rec_touches, new_ranges, put_changes, stays_in_place, stored_in, was_leaf, written_in}
 pub use Rattle.cdf_edits.specs.Commands.Room.{blocks_room, is_rewritten, packed_room, put_room, quotient_up, room, room_of_variable, uncovered, widest}
 pub use Rattle.cdf_edits.specs.Edits.Edit.{Edit}
-pub use Rattle.cdf_edits.specs.Edits.Marks.{Avoids, Mark, Marked, avoided, index_types, keeps_file, unmarked, variable_types}
+pub use Rattle.cdf_edits.specs.Edits.Marks.{Avoids, Covered, Mark, Marked, avoided, index_types, keeps_file, unmarked, variable_types}
 pub use Rattle.cdf_edits.specs.Frame.Changed.{Changed, Misses, Outside, Touch, touch, touched_field}
 pub use Rattle.cdf_edits.specs.Index.Blocks.{Range, block_count, covered, covers, cut_open, cuts_before_put, first_written, firsts_of, is_sparse, new_range, next_first, range, ranges_after_put, ranges_before_put, ranges_of, record_length, shared, with_range}
 pub use Rattle.cdf_edits.specs.Index.Grown.{chain_reaches, entries_outline, indexes_with, leads_down, new_room, outline, past, reaches, upto, with_block, with_both, with_entry, with_leaf, with_ranges}
@@ -52,7 +52,7 @@ pub use Rattle.cdf_format.proofs.IndexLemmas.{nodes_stand}
 pub use Rattle.cdf_format.proofs.Members.{In-append, In-append_left, In-append_right, either, false-is_in, is_in-false, is_in-true, true-is_in}
 pub use Rattle.cdf_format.proofs.NameRules.{bytes_eq-same}
 pub use Rattle.cdf_format.proofs.RowLemmas.{Hold-append, Hold-split}
-pub use Rattle.cdf_format.proofs.ShapeLemmas.{Each-split, content_is}
+pub use Rattle.cdf_format.proofs.ShapeLemmas.{Each-append, Each-split, content_is}
 pub use Rattle.cdf_format.proofs.Tests.{both, eq_of, le_of, of_le, same_of_bytes_eq}
 pub use Rattle.cdf_format.proofs.TilesLemmas.{tile_lies}
 pub use Rattle.cdf_format.specs.Bytes.{Same, byte}
@@ -101,7 +101,7 @@ pub use Rattle.std.proofs.Math.Nat.{div-le_self, mul-sub}
 pub use Rattle.std.proofs.Math.Path.{transport}
 pub use Rattle.std.proofs.lemmas.Bool.{and_from, and_right, both_ways, cases_eq, cases_lt, eq-eqb, eqb-true, le-leb, le-ltb, leb-false, lt-leb, lt-ltb, ne_eqb, or_from, or_left, or_parts, or_right}
 pub use Rattle.std.proofs.lemmas.Bool.Decides.{nat_tests}
-pub use Rattle.std.proofs.lemmas.List.{drop-drop, drop_at, ext_get_or, get_or-drop, get_or-take, get_or_append_left, length-append, length-drop, length-map, length-take, map-append, set_at, take_at}
+pub use Rattle.std.proofs.lemmas.List.{drop-append-le, drop-drop, drop-take, drop_all, drop_at, ext_get_or, get_or-drop, get_or-take, get_or_append_left, length-append, length-drop, length-map, length-take, map-append, set_at, take-append-le, take-take, take_all, take_at}
 pub use Rattle.std.proofs.lemmas.List.Sums.{sum_by-cons}
 pub use Rattle.std.proofs.lemmas.Option.{same_Some}
 pub use Rattle.std.specs.Int.{cast_signed, w32}

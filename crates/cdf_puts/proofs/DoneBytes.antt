@@ -1,18 +1,27 @@
--- All records are put: the index, what was taken for it and the bytes of the blocks are as the command says, and what is stored as each record.
-use Rattle.cdf_puts.proofs.Common.{find, eq-eqb, ◌&&◌, Outside-append, cases_lt, ne_eqb, option_map, min, if◌then◌else◌, Kind, Sparse, Variable, extent, record_number_limit, range, covers, first_written, is_sparse, stored_bytes, Act, IsOneOf, find_covering, covers_within, place_in, record_place, plain_piece, PlainLeaf, plain_leaf, leaves_ascend, block_behind, sound, behind_in, Same, variable_of, size_at, Leaf, leaves_of, VariableShape, shape, record_bytes, max_rec_at, piece_kept, MaxRecDone, SoFar, OldBlock, NewBlock, record_of, put_from, put_count, filter, list_any, nat_lt, PutsLeaves, ranges_of, cuts_before_put, is_taken_at, top_chain, last_node, node_behind, fits, Each-in, number, vdr_vxr_tail, NodeFits, In, bytes_eq-same, same_of_bytes_eq, length-take, drop-drop, ◌==◌, turned, pad_record, r_max_rec_field, max_rec_touches, uncovered, put_room, blocks_room, packed_room, Touch, Outside, Changed, space_before, each_of, count_is, plain_bytes, vdr_max_rec, is_little, records_of_leaf, type_of_variable, either, both, put_touches, taken_bytes, GoesOn, is_rewritten, In-append, places_of, is_in, other_kind, true-is_in, eqb-true, uir_type, false-is_in, ◌≡◌, ◌≢◌, ◌⊎◌, ℕ, suc, ◌+◌, ◌-◌, ◌*◌, ◌<◌, ◌≤◌, List, length, take, drop, false, Some, None, refl, sym, ap, subst, ◌∙◌, arith, inl, inr, [], ◌∷◌, ◌++◌, append-nil, Bool, true, bytes_eq, zero, map, true≢false, take-append-drop, leaf_at, unwritten_apart, written_fits, transport, type_at, nat_tests, anything_if, Allowances, Keeps, AllKeep, unused_allowance, is_taken, shapes_of, Only, OneVariable, variable_records, unused_records, owned, Unused, keep_all, keep_file, keep_places, keep_kinds, keep_variable_parts, keep_attributes, keep_variables, keeps_stood, filter-says, unused_in, CutsFirst, PutsIndex, is_written, PutsBytes, StaysUnwritten, UnwrittenStay, HoldsPads, is_changed, was_leaf, written_in, stays_in_place, stored_in, put_changes, top_stays, TailFollows, block_end, SpareIs, ReservedIs, BlockFollows, nodes_of, repeat, touched_field, cut_open, ranges_before_put, changed_then, eq_of, times_le}
-use Rattle.cdf_edits.proofs.Edits.LeafPieces.{found_in, times_le}
+-- All records are put: the index, what was taken for it and the bytes of the blocks are as the command says, and what is stored as each record. The image follows the command.
+use Rattle.cdf_puts.proofs.Common.{find, eq-eqb, ◌&&◌, Outside-append, cases_lt, ne_eqb, option_map, min, if◌then◌else◌, Kind, Sparse, Variable, extent, record_number_limit, range, covers, first_written, is_sparse, stored_bytes, Act, IsOneOf, find_covering, covers_within, place_in, record_place, plain_piece, PlainLeaf, plain_leaf, leaves_ascend, block_behind, sound, behind_in, Same, variable_of, size_at, Leaf, leaves_of, VariableShape, shape, record_bytes, max_rec_at, piece_kept, MaxRecDone, SoFar, OldBlock, NewBlock, record_of, put_from, put_count, filter, list_any, nat_lt, PutsLeaves, ranges_of, cuts_before_put, is_taken_at, top_chain, last_node, node_behind, fits, Each-in, number, vdr_vxr_tail, NodeFits, In, bytes_eq-same, same_of_bytes_eq, length-take, drop-drop, ◌==◌, turned, pad_record, r_max_rec_field, max_rec_touches, uncovered, put_room, blocks_room, packed_room, Touch, Outside, Changed, space_before, each_of, count_is, plain_bytes, vdr_max_rec, is_little, records_of_leaf, type_of_variable, either, both, put_touches, taken_bytes, GoesOn, is_rewritten, In-append, places_of, is_in, other_kind, true-is_in, eqb-true, uir_type, false-is_in, ◌≡◌, ◌≢◌, ◌⊎◌, ℕ, suc, ◌+◌, ◌-◌, ◌*◌, ◌<◌, ◌≤◌, List, length, take, drop, false, Some, None, refl, sym, ap, subst, ◌∙◌, arith, inl, inr, [], ◌∷◌, ◌++◌, append-nil, Bool, true, bytes_eq, zero, map, true≢false, take-append-drop, leaf_at, unwritten_apart, written_fits, transport, type_at, nat_tests, anything_if, Allowances, Keeps, AllKeep, unused_allowance, is_taken, shapes_of, Only, OneVariable, variable_records, unused_records, owned, Unused, keep_all, keep_file, keep_places, keep_kinds, keep_variable_parts, keep_attributes, keep_variables, keeps_stood, filter-says, unused_in, CutsFirst, PutsIndex, is_written, PutsBytes, StaysUnwritten, UnwrittenStay, HoldsPads, is_changed, was_leaf, written_in, stays_in_place, stored_in, put_changes, top_stays, TailFollows, block_end, SpareIs, ReservedIs, BlockFollows, nodes_of, repeat, touched_field, cut_open, ranges_before_put, changed_then, eq_of, times_le, same_Some, DataSet, Found, with_record, with_variable, content, Nodes, Option, slice_get, variable_named, stays_all, PutsRecord, room, room_of_variable, drop_all}
+use Rattle.cdf_edits.proofs.Edits.LeafPieces.{found_in}
 use Rattle.cdf_puts.specs.Going.{found_in as own_found}
 use Rattle.cdf_puts.proofs.PutRules.{no_cpr}
-use Rattle.cdf_puts.proofs.LastImage.{IsPut, LastImage, last_image}
+use Rattle.cdf_puts.proofs.LastImage.{IsPut, LastImage, last_image, put_content}
 use Rattle.cdf_puts.proofs.PutBytes.{old_size, by_offsets, old_plain, inside_old, old_goes_on, new_goes_on}
 use Rattle.cdf_puts.proofs.WrittenGoes.{record_fits}
 use Rattle.cdf_puts.proofs.CoveringRanges.{some_or_none, covering_done}
 use Rattle.cdf_puts.proofs.IndexWritten.{nodes_still}
 use Rattle.cdf_puts.proofs.GoesThen.{block_allowed, descriptor_allowed, later_packed, later_size, node_allowed}
-use Rattle.cdf_puts.proofs.PutRoom.{none_given, no_node_given, none_without_bytes}
+use Rattle.cdf_puts.proofs.PutRoom.{none_given, no_node_given, none_without_bytes, longer_by}
 use Rattle.cdf_leaves.proofs.TopChain.{chain_in}
 use Rattle.cdf_puts.proofs.SoFarStarts.{covers_own}
-use Rattle.std.proofs.lemmas.List.{drop_all}
+use Rattle.cdf_edits.proofs.Commands.ListParts.{got-middle}
+use Rattle.cdf_model.specs.declared.answer.Reply.TheVariants as replies
+use Rattle.cdf_model.specs.declared.command.Command.{Command}
+use Rattle.cdf_model.specs.declared.command.Command.TheVariants as commands
+use Rattle.cdf_model.specs.Answers.{Go}
+use Rattle.cdf_model.specs.Step.{ByStep, step}
+use Rattle.cdf_edits.specs.Commands.Does.{Does}
+use Rattle.cdf_edits.specs.Commands.Keeps.{allowances}
+use Rattle.cdf_edits.specs.Commands.Named.{OfVariable}
+use Rattle.cdf_edits.specs.Follows.{Follows, only_reads}
 
 none_taken_in : (acts : List Act) (xs : List ℕ) → ((m : ℕ) → In m xs → is_taken_at acts m ≡ false) → list_any (is_taken_at acts) xs ≡ false
 none_taken_in acts [] f = refl
@@ -370,3 +379,58 @@ module _ {b now last : List ℕ} {kind : Kind} {before : List VariableShape} {ow
       padded = each_of (HoldsPads last v own'.vdr r (ranges_before_put v own.index r)) leaves padded;
       blocks = each_of (λ (l : Leaf). is_changed v r (ranges_of own.index) l ≡ true → BlockFollows b last v.rle own'.vdr (was_leaf olds l) acts l) leaves blocks;
     }
+
+    -- ---- the whole
+
+    abbrev found : Found
+    found = own_found b kind before own
+
+    pub so_far_done : PutsRecord b last kind v r own own' acts
+    so_far_done = record { index = index_done; bytes = bytes_done; r_max_rec = img.r_max_rec }
+
+    -- ---- of the variable that has a name
+
+    was_there : slice_get (shapes_of (shape b) kind) (length before) ≡ Some own
+    was_there = ap (λ (vs : List VariableShape). slice_get vs (length before)) so.start.among.was ∙ got-middle before own after
+
+    module _ (name : List ℕ) (named : variable_named (content b) name ≡ Some found) where
+      puts_named : OfVariable b last name (λ found v v'. PutsRecord b last found.kind found.variable r v v' acts)
+      puts_named found' x x' is =
+          let q : found ≡ found' = same_Some found found' (sym named ∙ is.named) in
+          let was : own ≡ x = same_Some own x (sym was_there ∙ ap (λ (f : Found). slice_get (shapes_of (shape b) f.kind) f.number) q ∙ is.before) in
+          let now_is : own' ≡ x' = same_Some own' x' (sym (ap (λ (vs : List VariableShape). slice_get vs (length before)) put.among.was ∙ got-middle before own' after) ∙ ap (λ (f : Found). slice_get (shapes_of (shape last) f.kind) f.number) q ∙ is.after) in
+          subst (λ (f : Found). PutsRecord b last f.kind f.variable r x x' acts) q (subst (λ (y : VariableShape). PutsRecord b last kind v r y x' acts) was (subst (λ (y : VariableShape). PutsRecord b last kind v r own y acts) now_is so_far_done))
+
+      module _ (bytes : List ℕ) (raw_is : turned (type_of_variable b own.vdr) (is_little b) raw ≡ bytes) (pad_is : extent (max_rec_at b own.vdr) < r → turned (type_of_variable b own.vdr) (is_little b) pad ≡ pad_record v) where
+        follows_by : (c : Command) → only_reads c ≡ false → step (content b) c ≡ ByStep (Go (with_variable (content b) found (with_record v r bytes)) replies.Plain) → room b c ≡ put_room v own.index r → allowances b (content b) (shape b) c ≡ put_changes b (shape b) found r → Does b c last acts → Follows b c last
+        follows_by c changes goes room_is may does =
+            let fits_in : taken_bytes acts ≤ room b c = subst (λ (n : ℕ). taken_bytes acts ≤ n) (sym room_is) so.covers.fits in
+            let long = longer_by b last acts put.follow so.takes in
+            record {
+              reply = replies.Plain;
+              goes = goes ∙ ap (λ (d : DataSet). ByStep (Go d replies.Plain)) (sym (put_content so.start.good so.start.among put is_put bytes raw_is pad_is));
+              good = put.good;
+              longer = put.file.longer;
+              within = omega arith;
+              reads = λ e. absurd (true≢false (sym e ∙ changes));
+              acts = acts;
+              takes_within = fits_in;
+              acts_follow = put.follow;
+              keeps = subst (λ (a : Allowances). AllKeep b last a acts (owned b (shape b))) (sym may) keeps;
+              does = does;
+            }
+
+        may_be : (f : Found → Allowances) → (elim (variable_named (content b) name) as (λ x. Allowances) [ None ↦ stays_all | Some found ↦ f found ]) ≡ f found
+        may_be f = ap (λ (o : Option Found). elim o as (λ x. Allowances) [ None ↦ stays_all | Some found ↦ f found ]) named
+
+        room_of : (f : Found → Nodes → ℕ) → room_of_variable (content b) (shape b) name f ≡ f found own.index
+        room_of f =
+            ap (λ (o : Option Found). elim o as (λ x. ℕ) [ None ↦ 0 | Some found ↦ elim (slice_get (shapes_of (shape b) found.kind) found.number) as (λ x. ℕ) [ None ↦ 0 | Some v ↦ f found v.index ] ]) named
+            ∙ ap (λ (o : Option VariableShape). elim o as (λ x. ℕ) [ None ↦ 0 | Some v ↦ f found v.index ]) was_there
+
+        -- as `put-rec` and as `put-val`
+        pub put_rec_done : (words : List (List ℕ)) → step (content b) (commands.PutRec name r words) ≡ ByStep (Go (with_variable (content b) found (with_record v r bytes)) replies.Plain) → Follows b (commands.PutRec name r words) last
+        put_rec_done words goes = follows_by (commands.PutRec name r words) refl goes (room_of (λ found nodes. put_room found.variable nodes r)) (may_be (λ f. put_changes b (shape b) f r)) puts_named
+
+        pub put_val_done : (index : List ℕ) (words : List (List ℕ)) → step (content b) (commands.PutVal name r index words) ≡ ByStep (Go (with_variable (content b) found (with_record v r bytes)) replies.Plain) → Follows b (commands.PutVal name r index words) last
+        put_val_done index words goes = follows_by (commands.PutVal name r index words) refl goes (room_of (λ found nodes. put_room found.variable nodes r)) (may_be (λ f. put_changes b (shape b) f r)) puts_named

@@ -1,6 +1,5 @@
 -- A record is written in a block: the record holds its bytes, no other byte changes, and the index stays; of the leaves that were put the one of the record is the last by then.
-use Rattle.cdf_puts.proofs.Common.{cases_eq, cases_lt, same_Some, extent, record_number_limit, Kind, Outside, range, covers, first_written, Act, IsOneOf, covers_within, place_in, record_place, leaves_ascend, leaves_apart, byte, Same, variable_of, size_at, Leaf, leaves_of, VariableShape, max_rec_at, record_bytes, byte-put_before, byte-put_after, SoFar, BlocksSoFar, OldBlock, NewBlock, record_of, put_touches, RecordsWritten, filter, places_of, fits, tile, long, no_block, Kept, Each-in, number, nodes_of, vdr_vxr_tail, NodeFits, In, word_kept, size_kept, either, IndexSoFar, NodesSoFar, PutsBefore, was_put, ◌≡◌, ◌≢◌, ◌⊎◌, ℕ, suc, ◌+◌, ◌<◌, ◌≤◌, List, [], ◌∷◌, ◌++◌, length, take, drop, sym, ap, subst, ◌∙◌, arith, inl, inr, one_place, find_first}
-use Rattle.cdf_base.specs.Bytes.{put}
+use Rattle.cdf_puts.proofs.Common.{cases_eq, cases_lt, same_Some, extent, record_number_limit, Kind, Outside, range, covers, first_written, Act, IsOneOf, covers_within, place_in, record_place, leaves_ascend, leaves_apart, byte, Same, variable_of, size_at, Leaf, leaves_of, VariableShape, max_rec_at, record_bytes, byte-put_before, byte-put_after, SoFar, BlocksSoFar, OldBlock, NewBlock, record_of, put_touches, RecordsWritten, filter, places_of, fits, tile, long, no_block, Kept, Each-in, number, nodes_of, vdr_vxr_tail, NodeFits, In, word_kept, size_kept, either, IndexSoFar, NodesSoFar, PutsBefore, was_put, ◌≡◌, ◌≢◌, ◌⊎◌, ℕ, suc, ◌+◌, ◌<◌, ◌≤◌, List, [], ◌∷◌, ◌++◌, length, take, drop, sym, ap, subst, ◌∙◌, arith, inl, inr, one_place, find_first, put}
 use Rattle.cdf_edits.proofs.Edits.LeafPieces.{found_in}
 use Rattle.cdf_puts.proofs.PutBytes.{starts_before, ends_behind, grows_by, BlockWritten, old_written, size_now, now_plain, old_plain, inside_now, inside_old, old_goes_on, new_goes_on, put_there, beside_one}
 use Rattle.cdf_puts.proofs.WrittenGoes.{record_fits, other_blocks, long_now, nodes_stay, stays}

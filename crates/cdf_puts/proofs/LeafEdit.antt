@@ -1,5 +1,5 @@
 -- A leaf that is added, as one edit: its block is taken and written, then a node where one is needed, and then the entries are. It leads from one good image to another.
-use Rattle.cdf_puts.proofs.Common.{eq-eqb, max, vxr_n_entries, r_max_rec_field, space_fields, node_acts, is_in-false, Kind, R, Z, size_at, type_at, eof, Leaf, nodes_of, room_at, vxr_type, VariableShape, shape, NodeFits, IsSound, In, Good, number_kept, size_kept, type_kept, linkable-type, good_is_sound, nodes_stand, In-append_left, In-append_right, tile_lies, vxr_bytes, Edit, Mark, unmarked, Touch, new_room, type_in, variables_chain, unmarked-away, kept_away, node_behind, StandsAmong, tile, typed, long, has, fits, behind_in, Kept, Each-in, NodeTaken, IndexTouch, LeafAdded, Same, is_in, number, Field, gdr_type, vvr_type, uir_type, is_record_type, fixed_size, Shape, Each, In-append, Avoids, with_leaf, away-avoids, FileSame, apart, type_of_body, is_taken_at, Act, changed_part, Same-part, leaf_acts, ◌&&◌, ActsFollow, both, nat_le, block_behind, leaves_of, vdr_max_rec, byte, place_in, each_of, IsBlockBody, BlocksGoOn, flat_map, ◌==◌, ◌||◌, if◌then◌else◌, image_limit, record_number_limit, with_sign, Nodes, no_node, node, Entries, no_entry, block, lower, times, cvvr_type, asked, is_compressed, record_bytes, good_by_its_shape, Hold-split, le_of, of_le, firsts_of, IsOneOf, count_is, plain_leaf, own_rules, times-append, record_alike, InOrder, GoesOn, IsVacant, before_limit, index_order, OwnEdit, IndexEdit, vdr_alike, r_max_rec, gdr_in, gdr_typed, Only, ◌≡◌, ℕ, zero, suc, ◌+◌, ◌*◌, ◌<◌, ◌≤◌, List, [], ◌∷◌, ◌++◌, length, true, append-nil, refl, sym, ap, subst, ◌∙◌, arith, inl, inr, ◌≢◌, ◌⊎◌, Bool, false, ◌-◌, take, drop, take-append-drop, ℤ, pos, negsuc, Marked, variable_types, keeps_file, avoided, both_ways, changed_edit, same-then, head_size, head_type, edit_then, some_bytes, Each-map, NodeStands, placed_grows, IsChain, is_a, field, gdr_eof, gdr_uir_head, vxr_n_used_entries, all_unmarked-away, the_one, Avoids-append, Within-append, away-within, Away-append, chain_stays, file_same, gdr_field, kept, Misses, in_nodes_with_leaf, node_stays, nodes_with_leaf, IndexTests, NewIndex, index_marks, index_unmarked, vdr_no_node, vdr_of_variable, Exchanged, node_room, max_rec_kept, is_a-from, is_a-type, linkable-in, get_or_append_left, word, word-same, byte-put_inside, signed_limit, read_types, Row, Hold, number_before, plain_size, Hold-append, Counts, each, index_rules_with_leaf, keeps_fields, keeps_within, keeps_away, covered, piece_kept, drop-drop}
+use Rattle.cdf_puts.proofs.Common.{eq-eqb, max, vxr_n_entries, r_max_rec_field, space_fields, node_acts, is_in-false, Kind, R, Z, size_at, type_at, eof, Leaf, nodes_of, room_at, vxr_type, VariableShape, shape, NodeFits, IsSound, In, Good, number_kept, size_kept, type_kept, linkable-type, good_is_sound, nodes_stand, In-append_left, In-append_right, tile_lies, vxr_bytes, Edit, Mark, unmarked, Touch, new_room, type_in, variables_chain, unmarked-away, kept_away, node_behind, StandsAmong, tile, typed, long, has, fits, behind_in, Kept, Each-in, NodeTaken, IndexTouch, LeafAdded, Same, is_in, number, Field, gdr_type, vvr_type, uir_type, is_record_type, fixed_size, Shape, Each, In-append, Avoids, with_leaf, away-avoids, FileSame, apart, type_of_body, is_taken_at, Act, changed_part, Same-part, leaf_acts, ◌&&◌, ActsFollow, both, nat_le, block_behind, leaves_of, vdr_max_rec, byte, place_in, each_of, IsBlockBody, BlocksGoOn, flat_map, ◌==◌, ◌||◌, if◌then◌else◌, image_limit, record_number_limit, with_sign, Nodes, no_node, node, Entries, no_entry, block, lower, times, cvvr_type, asked, is_compressed, record_bytes, good_by_its_shape, Hold-split, le_of, of_le, firsts_of, IsOneOf, count_is, plain_leaf, own_rules, times-append, record_alike, InOrder, GoesOn, IsVacant, before_limit, index_order, OwnEdit, IndexEdit, vdr_alike, r_max_rec, gdr_in, gdr_typed, Only, ◌≡◌, ℕ, zero, suc, ◌+◌, ◌*◌, ◌<◌, ◌≤◌, List, [], ◌∷◌, ◌++◌, length, true, append-nil, refl, sym, ap, subst, ◌∙◌, arith, inl, inr, ◌≢◌, ◌⊎◌, Bool, false, ◌-◌, take, drop, take-append-drop, ℤ, pos, negsuc, Marked, variable_types, keeps_file, avoided, both_ways, changed_edit, same-then, head_size, head_type, edit_then, some_bytes, Each-map, NodeStands, placed_grows, IsChain, is_a, field, gdr_eof, gdr_uir_head, vxr_n_used_entries, all_unmarked-away, the_one, Avoids-append, Within-append, away-within, Away-append, chain_stays, file_same, gdr_field, kept, Misses, in_nodes_with_leaf, node_stays, nodes_with_leaf, IndexTests, NewIndex, index_marks, index_unmarked, vdr_no_node, vdr_of_variable, Exchanged, node_room, max_rec_kept, is_a-from, is_a-type, linkable-in, get_or_append_left, word, word-same, byte-put_inside, signed_limit, read_types, Row, Hold, number_before, plain_size, Hold-append, Counts, each, index_rules_with_leaf, keeps_fields, keeps_within, keeps_away, covered, piece_kept, drop-drop, Each-append, Covered, drop-take, take-take}
 use Rattle.cdf_edits.proofs.Edits.MadeRecord.{place_in as placed_in, filled_size}
 use Rattle.cdf_edits.proofs.Edits.TakenAll.{TakenAll, none_taken, taken_then, taking_all, listed_free, unlisted_away}
 use Rattle.cdf_index.specs.Replacing.{with_index}
@@ -14,10 +14,7 @@ use Rattle.cdf_format.specs.Index.{nodes_of, lower_nodes}
 use Rattle.cdf_format.specs.IndexRules.{has_room, is_block, nodes_rows, used_rows, vvr_rows, cvvr_rows, leaf_rows, index_rows, end_of}
 use Rattle.cdf_format.proofs.GoodByShape.{IsGoodByShape}
 use Rattle.cdf_edits.proofs.Edits.OwnEdited as of_own
-use Rattle.cdf_format.proofs.ShapeLemmas.{Each-append}
-use Rattle.cdf_edits.specs.Edits.Marks.{Covered}
 use Rattle.cdf_puts.proofs.PutBytes.{put_there}
-use Rattle.std.proofs.lemmas.List.{drop-take, take-take}
 
 -- ---- marks
 
@@ -60,10 +57,6 @@ entries_clear R v nodes most = (refl, refl, refl)
 entries_clear Z v nodes most = (refl, refl, refl)
 
 -- ---- what is taken for a leaf
-
-taken_nodes : (room at m : ℕ) → is_taken_at (node_acts room at) m ≡ is_in m (new_nodes room at)
-taken_nodes zero at m = refl
-taken_nodes (suc room) at m = refl
 
 pub taken_places_are : (place need room at m : ℕ) → is_taken_at (leaf_acts place need room at) m ≡ is_in m (place ∷ new_nodes room at)
 taken_places_are place need zero at m = refl

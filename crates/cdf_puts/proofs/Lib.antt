@@ -12,7 +12,6 @@ pub mod PutNodes
 pub mod PutRoom
 pub mod PutRules
 pub mod RaisedGoes
-pub mod SoFarDone
 pub mod SoFarStarts
 pub mod WrittenGoes
 pub mod NewBlocks

@@ -1,6 +1,5 @@
 -- Records are written in their block: one image goes on to another, and no byte changes but those of the records.
-use Rattle.cdf_puts.proofs.Common.{w32, Outside-append, cast_signed, Kind, Variable, image_limit, Same, byte, variable_of, number, size_at, type_at, Leaf, nodes_of, leaves_of, vdr_max_rec, gdr_r_max_rec, gdr_type, vvr_type, VariableShape, Shape, HasShape, shape, In, record_bytes, is_max_rec, Good, word_kept, byte-put_before, byte-put_after, tile_lies, r_max_rec, max_rec_touches, Touch, Changed, range, covers, places_of, IsOneOf, covers_within, place_in, times_le, PlainLeaf, own_rules, plain_leaf, WritesRecords, file, good_now, gdr_in, gdr_typed, gdr_long, block_behind, StandsAmong, sound, tile, long, no_block, behind_in, changed_part, Kept, apart, RecordsWritten, ◌≡◌, ◌≢◌, ◌⊎◌, ℕ, suc, ◌+◌, ◌-◌, ◌*◌, ◌<◌, ◌≤◌, List, [], ◌∷◌, length, refl, sym, ap, subst, ◌∙◌, arith, inl, inr, gdr_offset, integer4, length-put, touch, node_kept, block_kept}
-use Rattle.cdf_base.specs.Bytes.{put}
+use Rattle.cdf_puts.proofs.Common.{w32, Outside-append, cast_signed, Kind, Variable, image_limit, Same, byte, variable_of, number, size_at, type_at, Leaf, nodes_of, leaves_of, vdr_max_rec, gdr_r_max_rec, gdr_type, vvr_type, VariableShape, Shape, HasShape, shape, In, record_bytes, is_max_rec, Good, word_kept, byte-put_before, byte-put_after, tile_lies, r_max_rec, max_rec_touches, Touch, Changed, range, covers, places_of, IsOneOf, covers_within, place_in, times_le, PlainLeaf, own_rules, plain_leaf, WritesRecords, file, good_now, gdr_in, gdr_typed, gdr_long, block_behind, StandsAmong, sound, tile, long, no_block, behind_in, changed_part, Kept, apart, RecordsWritten, ◌≡◌, ◌≢◌, ◌⊎◌, ℕ, suc, ◌+◌, ◌-◌, ◌*◌, ◌<◌, ◌≤◌, List, [], ◌∷◌, length, refl, sym, ap, subst, ◌∙◌, arith, inl, inr, gdr_offset, integer4, length-put, touch, node_kept, block_kept, put}
 use Rattle.cdf_edits.proofs.Edits.LeafPieces.{found_in}
 use Rattle.cdf_puts.proofs.PutRules.{loose}
 

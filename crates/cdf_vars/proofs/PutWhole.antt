@@ -8,10 +8,9 @@ use Rattle.cdf_puts.specs.Going.{found_in}
 use Rattle.cdf_puts.specs.Putting.{IsPut, Putting}
 use Rattle.cdf_puts.specs.SoFar.{MaxRecDone, PutStart}
 use Rattle.cdf_puts.proofs.PutRules.{loose}
-use Rattle.cdf_puts.proofs.DoneBytes.{is_put}
+use Rattle.cdf_puts.proofs.DoneBytes.{is_put, put_rec_done, put_val_done}
 use Rattle.cdf_puts.proofs.LastImage.{last_image, put_content}
 use Rattle.cdf_puts.proofs.RaisedGoes.{raised_shape}
-use Rattle.cdf_puts.proofs.SoFarDone.{put_rec_done, put_val_done}
 use Rattle.cdf_vars.proofs.VariableFound.{same_name_set}
 use Rattle.cdf_vars.proofs.PutParts.{pad_is_long, whole_record}
 
