@@ -1,10 +1,11 @@
 -- Records that get a block one after the other: by their ranges, in the room of a put, which is enough for them, and in an index.
-use Rattle.cdf_puts.proofs.Common.{min, max, le-ltb, lt-ltb, find, filter, fold, option_map, Variable, extent, record_number_limit, Nodes, no_node, node, Entries, no_entry, block, lower, Leaf, either, Range, range, covers, shared, block_count, next_first, new_range, Ascending, length-append, entry_count, widest, vxr_bytes, uncovered, blocks_room, put_room, ranges_of, record_length, is_sparse, first_written, new_room, times_le, node_bytes, leaf, leaves_of, firsts_of, ranges_after_put, with_leaf, find_covering, covers_within, InOrder, leaves_more, new_last, block_bytes, Covering, ◌≡◌, ◌⊎◌, ℕ, zero, suc, ◌+◌, ◌-◌, ◌<◌, ◌≤◌, List, [], ◌∷◌, map, true, false, ltb, Option, Some, None, refl, sym, ap, ◌∙◌, arith, inl, inr, ◌*◌, length, eqb, ap₂, subst, cases_eq, cases_lt, nat_tests, sum_by-cons, covered, with_range, quotient_up, ranges_new, Ahead, Counted, count_upto, order_with_leaf}
+use Rattle.cdf_puts.proofs.Common.{min, max, le-ltb, lt-ltb, find, filter, fold, option_map, Variable, extent, record_number_limit, Nodes, no_node, node, Entries, no_entry, block, lower, Leaf, either, Range, range, covers, shared, block_count, next_first, new_range, Ascending, length-append, entry_count, widest, vxr_bytes, uncovered, blocks_room, put_room, ranges_of, record_length, is_sparse, first_written, new_room, times_le, node_bytes, leaf, leaves_of, firsts_of, ranges_after_put, with_leaf, find_covering, covers_within, InOrder, leaves_more, new_last, block_bytes, Covering, ◌≡◌, ◌⊎◌, ℕ, zero, suc, ◌+◌, ◌-◌, ◌<◌, ◌≤◌, List, [], ◌∷◌, map, true, false, ltb, Option, Some, None, refl, sym, ap, ◌∙◌, arith, inl, inr, ◌*◌, length, eqb, ap₂, subst, cases_eq, cases_lt, nat_tests, sum_by-cons, covered, with_range, quotient_up, ranges_new, Ahead, Counted, count_upto, order_with_leaf, unwrap_or, leb, leb-false}
 use Rattle.cdf_edits.specs.Index.Blocks.{cover, firsts_of, entry_firsts}
 use Rattle.cdf_index.proofs.LeavesAscend.{leaves_ascend}
 use Rattle.cdf_edits.specs.Commands.Room.{entries_in, entries_below}
 use Rattle.cdf_edits.proofs.Edits.LeafPieces.{found_in}
 use Rattle.cdf_puts.proofs.LeafCounts.{Roomy, next_firsts_with_leaf, widest_with_leaf, new_room_widest}
+use Rattle.cdf_index.specs.Next.{least_first_past, number_within}
 
 abbrev pub of_leaves : List Leaf → List Range
 of_leaves leaves = map (λ (leaf : Leaf). range leaf.first leaf.last) leaves
@@ -37,6 +38,13 @@ next_past k fs le = least_past k (record_number_limit + 1) fs (omega arith)
 
 pub next_upto : (k : ℕ) (fs : List ℕ) → next_first k fs ≤ record_number_limit + 1
 next_upto k fs = least_upto k (record_number_limit + 1) fs
+
+-- the answer of a search, and one past the greatest number where there is none
+bound_of : (n : ℕ) → n ≤ record_number_limit + 1 → unwrap_or (number_within n) (record_number_limit + 1) ≡ n
+bound_of n l = elim (either (leb n record_number_limit)) [ inl t ↦ rw t refl | inr t ↦ rw t (let past = leb-false n record_number_limit t in omega arith) ]
+
+pub bound_is : (index : Nodes) (k : ℕ) (next : Option ℕ) → next ≡ least_first_past k index → unwrap_or next (record_number_limit + 1) ≡ next_first k (firsts_of index)
+bound_is index k next e = ap (λ (o : Option ℕ). unwrap_or o (record_number_limit + 1)) e ∙ bound_of (next_first k (firsts_of index)) (next_upto k (firsts_of index))
 
 -- a new block ends at its record, or where it is full, or before the next First
 pub one_alone : (v : Variable) (fs : List ℕ) (k : ℕ) → ltb k (extent v.max_rec) ≡ true → (new_range v fs k).last ≡ k

@@ -4,10 +4,9 @@ use Rattle.cdf_edits.proofs.Edits.LeafPieces.{found_in}
 use Rattle.cdf_puts.specs.Going.{found_in as own_found}
 use Rattle.cdf_puts.proofs.PutRules.{no_cpr}
 use Rattle.cdf_puts.proofs.LastImage.{IsPut, LastImage, last_image, put_content}
-use Rattle.cdf_puts.proofs.PutBytes.{old_size, by_offsets, old_plain, inside_old, old_goes_on, new_goes_on}
-use Rattle.cdf_puts.proofs.WrittenGoes.{record_fits}
-use Rattle.cdf_puts.proofs.CoveringRanges.{some_or_none, covering_done}
+use Rattle.cdf_puts.proofs.PutBytes.{record_fits, old_size, by_offsets, old_plain, inside_old, old_goes_on, new_goes_on}
 use Rattle.cdf_puts.proofs.IndexWritten.{nodes_still}
+use Rattle.cdf_puts.proofs.CoveringRanges.{some_or_none, covering_done}
 use Rattle.cdf_puts.proofs.GoesThen.{block_allowed, descriptor_allowed, later_packed, later_size, node_allowed}
 use Rattle.cdf_puts.proofs.PutRoom.{none_given, no_node_given, none_without_bytes, longer_by}
 use Rattle.cdf_leaves.proofs.TopChain.{chain_in}

@@ -13,6 +13,4 @@ pub mod PutRoom
 pub mod PutRules
 pub mod RaisedGoes
 pub mod SoFarStarts
-pub mod WrittenGoes
-pub mod NewBlocks
 pub mod PutSpot

@@ -1,7 +1,6 @@
 -- The bytes of the blocks while records are put: what a record that is written leaves of them, and what a leaf that is added does.
 use Rattle.cdf_puts.proofs.Common.{refl, ◌++◌, take_at, drop_at, length-take, cases_eq, min, max, is_taken_at, Act, times_le, byte, Same, size_at, Leaf, leaves_of, Same-part, piece_kept, size_kept, word_kept, put_count, put_from, record_of, OldBlock, NewBlock, SoFar, Kind, VariableShape, record_bytes, max_rec_at, extent, first_written, variable_of, IsOneOf, PlainLeaf, plain_leaf, place_in, block_behind, behind_in, sound, tile_lies, shape, ◌≡◌, ◌⊎◌, ℕ, suc, ◌+◌, ◌-◌, ◌*◌, ◌<◌, ◌≤◌, List, length, true, sym, ap, subst, ◌∙◌, arith, inl, inr, RecordIs, take, drop, length-take, drop_at, ◌++◌, Ascending, find, covers, range, Some, cases_lt, taken, upto, find_covering, long}
 use Rattle.cdf_puts.proofs.GoesThen.{later_size, later_packed}
-use Rattle.cdf_puts.proofs.WrittenGoes.{record_fits}
 use Rattle.cdf_base.specs.Bytes.{put}
 
 -- bytes that stay, counted from a place
@@ -20,6 +19,9 @@ put_there b place xs le =
     ap (take (length xs)) (drop_at (take place b) (xs ++ drop (place + length xs) b) place front) ∙ take_at xs (drop (place + length xs) b) (length xs) refl
 
 -- ---- where a record stands in its block
+
+pub record_fits : (k f t size : ℕ) → f ≤ k → k ≤ t → 12 + (k - f) * size + size ≤ 12 + (t + 1 - f) * size
+record_fits k f t size a c = let p = times_le (suc (k - f)) (t + 1 - f) size (omega arith) in omega arith
 
 -- records of one block do not meet
 records_apart : (j k f size : ℕ) → f ≤ j → j < k → 12 + (j - f) * size + size ≤ 12 + (k - f) * size

@@ -6,10 +6,9 @@ use Rattle.cdf_puts.proofs.GoesThen.{later_size, later_packed, goes_nowhere, goe
 use Rattle.cdf_puts.proofs.LastImage.{only_takes}
 use Rattle.cdf_puts.proofs.IndexAdded.{blocks_added, index_added}
 use Rattle.cdf_puts.proofs.LeafCounts.{roomy, new_room_widest}
-use Rattle.cdf_puts.proofs.IndexWritten.{blocks_written, index_written}
+use Rattle.cdf_puts.proofs.IndexWritten.{blocks_written, index_written, max_rec_kept, r_max_rec_stays, writes}
 use Rattle.cdf_puts.proofs.PutRoom.{taken_sum, longer_by}
 use Rattle.cdf_puts.proofs.SoFarStarts.{starts_upto, index_start, blocks_start}
-use Rattle.cdf_puts.proofs.WrittenGoes.{max_rec_kept, r_max_rec_stays, writes}
 use Rattle.cdf_index.proofs.OneVariable.{AmongAll, among_all}
 use Rattle.cdf_base.specs.Bytes.{put as put_at}
 use Rattle.cdf_format.specs.GoodImage.{IsGoodImage}
