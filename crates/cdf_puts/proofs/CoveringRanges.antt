@@ -41,7 +41,7 @@ next_upto k fs = least_upto k (record_number_limit + 1) fs
 
 -- the answer of a search, and one past the greatest number where there is none
 bound_of : (n : ℕ) → n ≤ record_number_limit + 1 → unwrap_or (number_within n) (record_number_limit + 1) ≡ n
-bound_of n l = elim (either (leb n record_number_limit)) [ inl t ↦ rw t refl | inr t ↦ rw t (let past = leb-false n record_number_limit t in omega arith) ]
+bound_of n l = grind (arith, nat_tests, l)
 
 pub bound_is : (index : Nodes) (k : ℕ) (next : Option ℕ) → next ≡ least_first_past k index → unwrap_or next (record_number_limit + 1) ≡ next_first k (firsts_of index)
 bound_is index k next e = ap (λ (o : Option ℕ). unwrap_or o (record_number_limit + 1)) e ∙ bound_of (next_first k (firsts_of index)) (next_upto k (firsts_of index))
@@ -60,7 +60,7 @@ pub record Ends (k next most last : ℕ) : Type 0 where
   pub no_more : last + 1 - k ≤ most
 
 pub ends : (v : Variable) (fs : List ℕ) (k : ℕ) → k ≤ record_number_limit → Ends k (next_first k fs) (block_count v) (new_range v fs k).last
-ends v fs k le = let past = next_past k fs le in let one = one_at_least v in record { ordered = grind (arith, nat_tests); before_next = grind (arith, nat_tests); no_more = grind (arith, nat_tests) }
+ends v fs k le = let past = next_past k fs le in let one = one_at_least v in grind (arith, nat_tests)
 
 -- ---- one record after the other
 
@@ -193,7 +193,7 @@ room_enough v nodes c m j q (suc u) some few full passed =
     omega arith
 
 node_fits : (k wide : ℕ) (nodes : Nodes) → new_room k nodes ≤ wide → node_bytes k nodes ≤ vxr_bytes wide
-node_fits k wide nodes le = elim (either (eqb (new_room k nodes) 0)) [ inl t ↦ rw t (omega arith) | inr t ↦ rw t (omega arith) ]
+node_fits k wide nodes le = grind (arith, nat_tests, le)
 
 -- ---- a put under way
 

@@ -26,7 +26,7 @@ module _ {b : List ℕ} {kind : Kind} {before : List VariableShape} {own : Varia
   allowed m o e =
       let same : same_kind kind kind ≡ true = same_as_itself kind in
       let number : (length before == length before) ≡ true = eq-eqb (length before) (length before) refl in
-      λ i. if same i then (if number i then by_range b kind put_fields block m (e i) else only_of b m (vdr_type kind) []) else Only []
+      rw (same, number, e)
 
   pub descriptor_allowed : own_may own.vdr ≡ Only put_fields
   descriptor_allowed = of_own.descriptor_allowed (found_in b kind before own) good at refl put_fields block own_may allowed

@@ -1,7 +1,7 @@
 -- A leaf is added while records are put: the blocks of the variable, which leaves were put by then, which ranges are new, the top chain and the nodes.
 use Rattle.cdf_puts.proofs.Common.{find, ◌||◌, length-append, cases_lt, lt-ltb, same_Some, min, extent, record_number_limit, Kind, range, covers, first_written, firsts_of, new_range, with_leaf, new_room, is_taken_at, Act, IsOneOf, find_covering, place_in, plain_piece, count_is, own_rules, leaves_ascend, block_behind, StandsAmong, sound, behind_in, apart, Same, variable_of, plain_bytes, size_at, Leaf, leaf, leaves_of, uir_type, vvr_type, VariableShape, shape, In, max_rec_at, record_bytes, Good, tile_lies, LeafAdded, leaf_acts, InOrder, BlockRecords, SoFar, BlocksSoFar, OldBlock, NewBlock, IsVacant, IsBlockBody, index_order, before_limit, vdr_alike, record_alike, map-append, filter, list_any, unwrap_or, if◌then◌else◌, new_ranges, Range, ranges_of, with_ranges, indexes_with, outline, block_need, uses_entry, NodesFollow, top_chain, last_node, in_order, Ascending, has, number, nodes_of, vdr_vxr_tail, records_of_leaf, either, bytes_eq-same, NodeTaken, with_new, leaves_more, IndexSoFar, NodesSoFar, PutsBefore, was_put, ◌≡◌, ◌⊎◌, ℕ, zero, suc, ◌+◌, ◌-◌, ◌*◌, ◌<◌, ◌≤◌, List, [], ◌∷◌, ◌++◌, length, take, drop, Bool, true, false, Some, None, refl, sym, ap, subst, ◌∙◌, arith, inl, inr, map, not, bytes_eq, nat_tests, of_each, last_or, TopGrows, taken_places}
 use Rattle.cdf_puts.proofs.CoveringRanges.{one_alone, of_leaves}
-use Rattle.cdf_puts.proofs.LeafCounts.{leaf_added, leaf_stays, leaf_was_there}
+use Rattle.cdf_puts.proofs.LeafCounts.{leaf_is_there, leaf_was_there}
 use Rattle.cdf_puts.proofs.LeafEdit.{block_taken, file, new_index, used_apart, node_in, node_taken, nodes_step}
 use Rattle.cdf_index.proofs.NewIndex.{index_edit}
 use Rattle.cdf_puts.proofs.LeafEdit.{blocks_go_on, plain_body}
@@ -68,10 +68,10 @@ module _ {b now now' : List ℕ} {kind : Kind} {before : List VariableShape} {ow
   small = before_limit k last (firsts_of own'.index) vacant.before_next
 
   in_new : (l : Leaf) → IsOneOf leaves l → IsOneOf (leaves_of own''.index) l
-  in_new l i = leaf_stays new at 0 record_number_limit own'.index order l i
+  in_new l i = leaf_is_there new at 0 record_number_limit own'.index order l (inr i)
 
   new_in : IsOneOf (leaves_of own''.index) new
-  new_in = leaf_added new at 0 record_number_limit own'.index order
+  new_in = leaf_is_there new at 0 record_number_limit own'.index order new (inl refl)
 
   found_at : (j : ℕ) (l : Leaf) → IsOneOf (leaves_of own''.index) l → l.first ≤ j → j ≤ l.last → find (λ (leaf : Leaf). covers j (range leaf.first leaf.last)) (leaves_of own''.index) ≡ Some l
   found_at j l i f t = find_covering j 0 (suc record_number_limit) (leaves_of own''.index) (leaves_ascend good' among') l i f t

@@ -39,7 +39,7 @@ differs now place room = if room_at now place == room then 0 else 1
 
 none_differs : (now ms : List ℕ) → total now (differs now) ms ≡ 0
 none_differs now [] = refl
-none_differs now (m ∷ ms) = let same = eq-eqb (room_at now m) (room_at now m) refl in rw same (omega (arith, none_differs now ms))
+none_differs now (m ∷ ms) = grind (arith, eq-eqb (room_at now m) (room_at now m) refl, none_differs now ms)
 
 same_rooms : (b now ms : List ℕ) → total b (differs now) ms ≡ 0 → (m : ℕ) → In m ms → room_at now m ≡ room_at b m
 same_rooms b now [] z m i = absurd i
@@ -93,23 +93,16 @@ places_new m l (x ∷ xs) = grind (arith, times-append m (l.place ∷ []) (place
 pub places_with_leaf : (new : Leaf) (at low high : ℕ) (index : Nodes) → InOrder low high index → (m : ℕ) → times m (places_of (leaves_of (with_leaf new at index))) ≡ times m (places_of (leaves_of index)) + times m (new.place ∷ [])
 places_with_leaf new at low high index o m = ap (λ (xs : List Leaf). times m (places_of xs)) (leaves_more new at low high index o) ∙ places_new m new (leaves_of index)
 
-old_new : (l x : Leaf) (xs : List Leaf) → IsOneOf xs x → IsOneOf (with_new l xs) x
-old_new l x [] i = absurd i
-old_new l x (y ∷ ys) i = grind (arith, old_new l x ys)
-
-new_new : (l : Leaf) (xs : List Leaf) → IsOneOf (with_new l xs) l
-new_new l [] = inl refl
-new_new l (y ∷ ys) = grind (arith, new_new l ys)
+with_new_has : (l x : Leaf) (xs : List Leaf) → (x ≡ l) ⊎ IsOneOf xs x → IsOneOf (with_new l xs) x
+with_new_has l x [] i = grind (arith, i)
+with_new_has l x (y ∷ ys) i = grind (arith, i, with_new_has l x ys)
 
 one_new : (l x : Leaf) (xs : List Leaf) → IsOneOf (with_new l xs) x → (x ≡ l) ⊎ IsOneOf xs x
 one_new l x [] i = elim i [ inl e ↦ inl (sym e) | inr j ↦ absurd j ]
 one_new l x (y ∷ ys) i = grind (arith, one_new l x ys)
 
-pub leaf_stays : (new : Leaf) (at low high : ℕ) (index : Nodes) → InOrder low high index → (l : Leaf) → IsOneOf (leaves_of index) l → IsOneOf (leaves_of (with_leaf new at index)) l
-leaf_stays new at low high index o l i = rw (leaves_more new at low high index o) (old_new new l (leaves_of index) i)
-
-pub leaf_added : (new : Leaf) (at low high : ℕ) (index : Nodes) → InOrder low high index → IsOneOf (leaves_of (with_leaf new at index)) new
-leaf_added new at low high index o = rw (leaves_more new at low high index o) (new_new new (leaves_of index))
+pub leaf_is_there : (new : Leaf) (at low high : ℕ) (index : Nodes) → InOrder low high index → (l : Leaf) → (l ≡ new) ⊎ IsOneOf (leaves_of index) l → IsOneOf (leaves_of (with_leaf new at index)) l
+leaf_is_there new at low high index o l i = rw (leaves_more new at low high index o) (with_new_has new l (leaves_of index) i)
 
 pub leaf_was_there : (new : Leaf) (at low high : ℕ) (index : Nodes) → InOrder low high index → (l : Leaf) → IsOneOf (leaves_of (with_leaf new at index)) l → (l ≡ new) ⊎ IsOneOf (leaves_of index) l
 leaf_was_there new at low high index o l i = one_new new l (leaves_of index) (rw (leaves_more new at low high index o) at i)

@@ -43,8 +43,7 @@ node_stands zero at sound taken some = absurd (omega arith)
 node_stands (suc room) at sound taken some = record { inside = placed_in sound taken.fills; typed = taken.fills.typed; size_is = filled_size sound taken.fills }
 
 is_new_node : (room at : ℕ) → 0 < room → In at (new_nodes room at)
-is_new_node zero at some = absurd (omega arith)
-is_new_node (suc room) at some = inl refl
+is_new_node room at some = grind (arith, some)
 
 -- ---- which records the marks leave by their types alone
 
@@ -100,8 +99,7 @@ mutual
       Each-append (Counts b) (nodes_of nodes) (lower_nodes entries) (counts_hold b records (number_before first) (with_sign last) nodes p.0) (counts_below b records vxr (with_sign last) high entries p.1)
 
 asked_hold : (p : Bool) (rows : List Row) → (p ≡ true → Hold rows) → Hold (asked p rows)
-asked_hold true rows f = f refl
-asked_hold false rows f = tt
+asked_hold p rows f = grind (arith, f)
 
 -- ---- how often its records stand in a variable
 

@@ -277,12 +277,10 @@ module _ (b mid now : List ℕ) (through through' : List Nodes) (before after : 
   empty_entry m i w used e = grind (arith, used, e)
 
   same_test : (m i : ℕ) → is_taken_at acts' m ≡ false → was_unused b before (acts ++ acts') m i ≡ was_unused b before acts m i
-  same_test m i e =
-      let t : is_taken_at (acts ++ acts') m ≡ is_taken_at acts m = taken_both acts acts' m ∙ ap (λ (p : Bool). is_taken_at acts m || p) e ∙ or_false (is_taken_at acts m) in
-      ap (λ (p : Bool). is_in m before && (not p && nat_le (used_count b m) i)) t
+  same_test m i e = grind (arith, e, taken_both acts acts' m)
 
   taken_test : (m i : ℕ) (xs : List ℕ) (x : List ℕ) (done : List Act) → is_taken_at done m ≡ true → was_unused x xs done m i ≡ false
-  taken_test m i xs x done e = rw e (and_right (is_in m xs) false refl)
+  taken_test m i xs x done e = grind (arith, e)
 
   now_empty : (m i : ℕ) (w : Bool) → w ≡ false → (EntryIs mid now m i w ⊎ ((list_any (uses_entry m i) (index ∷ []) ≡ true) × EntryIs mid now m i false)) → EntryIs b now m i false
   now_empty m i w e s = elim s [ inl x ↦ rw e at x | inr x ↦ x.1 ]

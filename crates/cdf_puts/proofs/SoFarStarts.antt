@@ -16,8 +16,7 @@ all_put first k k' l a c = grind (arith, nat_tests)
 -- the leaves past a number, where none of them passes a test
 none_past : (test : Leaf → Bool) (k low upto : ℕ) (leaves : List Leaf) → Ascending low upto leaves → k < low → ((l : Leaf) → IsOneOf leaves l → k < l.first → test l ≡ false) → filter test leaves ≡ []
 none_past test k low upto [] a lt out = refl
-none_past test k low upto (x ∷ more) a lt out =
-    rw (out x (inl refl) (omega arith)) (none_past test k (suc x.last) upto more a.3 (omega arith) (λ l i. out l (inr i)))
+none_past test k low upto (x ∷ more) a lt out = grind (arith, a.0, a.1, out x (inl refl), none_past test k (suc x.last) upto more a.3 (omega arith) (λ l i. out l (inr i)))
 
 -- one more leaf passes, and with it none past it does: it comes behind those that did
 pub one_more : (test test' : Leaf → Bool) (low upto : ℕ) (leaves : List Leaf) (new : Leaf) → Ascending low upto leaves → test' new ≡ true → ((l : Leaf) → IsOneOf leaves l → l.first ≤ new.first → test' l ≡ test l)
