@@ -150,10 +150,7 @@ module _ {b now last : List ℕ} {kind : Kind} {before : List VariableShape} {ow
   last_old l i = old_goes_on so longer l (kept l (so.blocks.stay l i)) i refl (λ j from low f t. low)
 
   last_new : (l : Leaf) → IsOneOf leaves l → IsOneOf olds l ⊎ NewBlock last raw pad r first most (r + 1) size acts l
-  last_new l i = elim (so.blocks.new l i) [
-    | inl o ↦ inl o
-    | inr n ↦ inr (new_goes_on so longer l (kept l i) i (omega arith) n.was_taken n)
-  ]
+  last_new l i = elim (so.blocks.new l i) [ inl o ↦ inl o | inr n ↦ inr (new_goes_on so longer l (kept l i) i (omega arith) n.was_taken n) ]
 
   -- ---- what is stored as a record
 
@@ -360,11 +357,7 @@ module _ {b now last : List ℕ} {kind : Kind} {before : List VariableShape} {ow
     ]
 
     blocks : (l : Leaf) → IsOneOf leaves l → is_changed v r (ranges_of own.index) l ≡ true → BlockFollows b last v.rle own'.vdr (was_leaf olds l) acts l
-    blocks l i changed = record {
-      packed = λ e. absurd (true≢false (sym e ∙ so.start.loose));
-      spare = spare l i;
-      reserved = reserved (is_taken_at acts l.place);
-    }
+    blocks l i changed = record { packed = λ e. absurd (true≢false (sym e ∙ so.start.loose)); spare = spare l i; reserved = reserved (is_taken_at acts l.place) }
       where
         reserved : (c : Bool) → ReservedIs b last (was_leaf olds l) l c
         reserved true = λ e. absurd (true≢false (sym e ∙ (last_plain l i).plain))

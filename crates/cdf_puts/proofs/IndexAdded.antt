@@ -136,10 +136,7 @@ module _ {b now now' : List ℕ} {kind : Kind} {before : List VariableShape} {ow
         | inr n ↦ inr (new_goes_on so longer l (same l j) j (let m = more_upto in omega arith) (taken_first acts step l.place n.was_taken) n)
       ]
     ];
-    has = λ j from low. elim (cases_lt j k) [
-      | inl lt ↦ let x = so.blocks.has j from lt in (x.0, (in_new x.0 x.1.0, x.1.1))
-      | inr le ↦ (new, (new_in, (le, omega arith)))
-    ];
+    has = λ j from low. elim (cases_lt j k) [ inl lt ↦ let x = so.blocks.has j from lt in (x.0, (in_new x.0 x.1.0, x.1.1)) | inr le ↦ (new, (new_in, (le, omega arith))) ];
     quiet = λ e. (let none = ap length e in let both = length-append acts step in absurd (omega arith));
   }
 

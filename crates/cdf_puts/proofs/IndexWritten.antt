@@ -42,10 +42,7 @@ module _ {b now : List ℕ} {kind : Kind} {before : List VariableShape} {own : V
   long_now = ap length w.written ∙ length-put b (l.place + offset) raw inside
 
   changed_here : Changed b now ts
-  changed_here = record {
-    longer = let e = long_now in omega arith;
-    same = λ place lt out. ap (λ (x : List ℕ). byte x place) w.written ∙ beside place out.0;
-  }
+  changed_here = record { longer = let e = long_now in omega arith; same = λ place lt out. ap (λ (x : List ℕ). byte x place) w.written ∙ beside place out.0 }
     where
       low : l.place + offset ≤ length b
       low = let e = inside in omega arith
