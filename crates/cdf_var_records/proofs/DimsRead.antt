@@ -1,7 +1,5 @@
 -- The dimensions that r variables share, as they are read.
-use Rattle.std.proofs.Common.{◌≡◌, ℕ, ◌+◌, ◌*◌, ◌≤◌, List, length, sym, ap, ◌∙◌, arith}
-use Rattle.cdf_var_records.proofs.Common.{cast_signed, w32, content, counted, word, words, gdr_offset, r_num_dims, shape, Good, cdr_fits, few_dimensions, good_is_sound, content_is, signed_limit, DataSet}
-use Rattle.cdf_format.proofs.GoodHead.{gdr_fits, sizes_fit}
+use Rattle.cdf_var_records.proofs.Common.{cast_signed, w32, content, counted, word, words, gdr_offset, r_num_dims, shape, Good, cdr_fits, few_dimensions, good_is_sound, content_is, signed_limit, DataSet, ◌≡◌, ℕ, ◌+◌, ◌*◌, ◌≤◌, List, length, sym, ap, ◌∙◌, arith, gdr_fits, sizes_fit}
 
 -- a small number that is read with its sign
 pub small_signed : (n : ℕ) → n ≤ signed_limit → counted (cast_signed w32 n) ≡ n

@@ -1,13 +1,10 @@
 -- How many records from a first on have a block, counted from stretch to stretch.
-use Rattle.std.proofs.Common.{◌≡◌, ℕ, suc, ◌+◌, ◌-◌, ◌<◌, ◌≤◌, List, [], ◌∷◌, ◌++◌, map, true, leb, min, max, Some, None, refl, sym, ap, subst, ◌∙◌, arith, inl, inr}
-use Rattle.cdf_var_records.proofs.Common.{record_number_limit, Nodes, either, covered, ranges_of, next_first, Ascending, leaf_of, IsStretch, covered_before}
-use Rattle.std.proofs.lemmas.Bool.{leb-false}
+use Rattle.cdf_var_records.proofs.Common.{record_number_limit, Nodes, either, covered, ranges_of, next_first, Ascending, leaf_of, IsStretch, covered_before, ◌≡◌, ℕ, suc, ◌+◌, ◌-◌, ◌<◌, ◌≤◌, List, [], ◌∷◌, ◌++◌, map, true, leb, min, max, Some, None, refl, sym, ap, subst, ◌∙◌, arith, inl, inr, leb-false, no_node, node, Entries, no_entry, block, lower, Range, range, of_leaves, next_past}
 use Rattle.std.proofs.lemmas.Bool.Decides.{nat_tests}
 use Rattle.std.proofs.lemmas.List.Sums.{sum_by-cons}
 use Rattle.std.proofs.lemmas.Option.{same_Some}
-use Rattle.cdf_format.specs.Index.{no_node, node, Entries, no_entry, block, lower, Leaf, leaves_of, entry_leaves}
-use Rattle.cdf_edits.specs.Index.Blocks.{Range, range, firsts_of, entry_firsts}
-use Rattle.cdf_puts.proofs.CoveringRanges.{of_leaves, next_past}
+use Rattle.cdf_format.specs.Index.{leaves_of, entry_leaves, Leaf}
+use Rattle.cdf_edits.specs.Index.Blocks.{firsts_of, entry_firsts}
 use Rattle.cdf_index.proofs.LeafRules.{NoneBegins, none_begins}
 use Rattle.cdf_var_records.specs.declared.put_room.Stretch.{Stretch}
 

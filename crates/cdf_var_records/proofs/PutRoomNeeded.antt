@@ -1,8 +1,5 @@
 -- How large a put makes the file at most, by what was read of the variable.
-use Rattle.std.proofs.Common.{◌≡◌, ℕ, suc, ◌+◌, ◌-◌, ◌≤◌, List, length, false, refl, sym, ap, ap₂, subst, ◌∙◌, arith, inl, inr}
-use Rattle.cdf_var_records.proofs.Common.{Variable, record_number_limit, number, Nodes, leaves_of, vdr_vxr_head, Good, either, blocks_room, covered, ranges_of, Ascending, HasIndex, index_at, Form, IsForm, variable_at}
-use Rattle.cdf_edits.specs.Commands.Room.{packed_room, put_room, uncovered}
-use Rattle.cdf_edits.specs.Index.Blocks.{cuts_before_put, first_written, is_sparse, ranges_before_put}
+use Rattle.cdf_var_records.proofs.Common.{Variable, record_number_limit, number, Nodes, leaves_of, vdr_vxr_head, Good, either, blocks_room, covered, ranges_of, Ascending, HasIndex, index_at, Form, IsForm, variable_at, ◌≡◌, ℕ, suc, ◌+◌, ◌-◌, ◌≤◌, List, length, false, refl, sym, ap, ap₂, subst, ◌∙◌, arith, inl, inr, packed_room, put_room, uncovered, cuts_before_put, first_written, is_sparse, ranges_before_put}
 use Rattle.cdf_index.specs.Sizes.{size_of}
 use Rattle.cdf_index.specs.declared.measuring.IndexSize.{IndexSize}
 use Rattle.cdf_index.proofs.LeavesAscend.{leaves_ascend}

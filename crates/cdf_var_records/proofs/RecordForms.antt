@@ -1,27 +1,17 @@
 -- What the VDR of a variable of a good image says of its records, and what its index is.
-use Rattle.std.proofs.Common.{◌≡◌, ◌⊎◌, ℕ, ℤ, pos, negsuc, suc, ◌+◌, ◌-◌, ◌*◌, ◌^◌, ◌≤◌, List, [], ◌∷◌, length, map, Bool, true, false, not, refl, sym, ap, ap₂, subst, ◌∙◌, arith, inl, inr, ltb}
-use Rattle.cdf_var_records.proofs.Common.{mul-le-mul_right, length-map, ◌==◌, ◌||◌, nat_le, if◌then◌else◌, content, counted, gdr_offset, has_bit, is_positive, number, size_at, word, words, Nodes, vdr_num_elems, vdr_vxr_head, vdr_z_num_dims, shape, variables, is_little, counted4, dimensions_at, dims_at, elems_at, has_pad, is_z, pad_field, record_bytes, type_of_variable, value_bytes, varys_at, has_dimensions, Good, few_dimensions, good_by_its_shape, good_is_sound, either, content_is, both, le_of, tile_lies, fits, sound, tile, HasIndex, index_at, DataType, Kind, R, Z, NoRule, DataSet, record_limit, record_size, size_of, Form, IsPlace, IsVdr, IsForm, variable_at}
-use Rattle.std.specs.List.{list_all}
-use Rattle.cdf_format.specs.Content.{majority_of, variable_of}
-use Rattle.cdf_format.specs.Fields.{r_sizes, with_sign}
+use Rattle.cdf_var_records.proofs.Common.{mul-le-mul_right, length-map, ◌==◌, ◌||◌, nat_le, if◌then◌else◌, content, counted, gdr_offset, has_bit, is_positive, number, size_at, word, words, Nodes, vdr_num_elems, vdr_vxr_head, vdr_z_num_dims, shape, variables, is_little, counted4, dimensions_at, dims_at, elems_at, has_pad, is_z, pad_field, record_bytes, type_of_variable, value_bytes, varys_at, has_dimensions, Good, few_dimensions, good_by_its_shape, good_is_sound, either, content_is, both, le_of, tile_lies, fits, sound, tile, HasIndex, index_at, DataType, Kind, R, Z, NoRule, DataSet, record_limit, record_size, size_of, Form, IsPlace, IsVdr, IsForm, variable_at, ◌≡◌, ◌⊎◌, ℕ, ℤ, pos, negsuc, suc, ◌+◌, ◌-◌, ◌*◌, ◌^◌, ◌≤◌, List, [], ◌∷◌, length, map, Bool, true, false, not, refl, sym, ap, ap₂, subst, ◌∙◌, arith, inl, inr, ltb, list_all, majority_of, variable_of, r_sizes, with_sign, gdr_r_num_dims, vdr_r_dim_vary, vdr_r_pad_value, vdr_s_records, vdr_z_dim_vary, vdr_z_pad_value, is_compressed, sparse_at, vary_field, cpr_link, cpr_rows, Pad, Previous, size_some}
 use Rattle.cdf_format.specs.GoodImage.{IsGoodImage}
 use Rattle.cdf_format.specs.NotRead.{unread_sparse}
-use Rattle.cdf_format.specs.Records.{gdr_r_num_dims, vdr_r_dim_vary, vdr_r_pad_value, vdr_s_records, vdr_z_dim_vary, vdr_z_pad_value}
 use Rattle.cdf_format.specs.Rules.{asked}
-use Rattle.cdf_format.specs.Shape.{is_compressed}
-use Rattle.cdf_format.specs.VariableFields.{sparse_at, vary_field}
-use Rattle.cdf_format.specs.VariableRules.{cpr_link, cpr_rows}
 use Rattle.cdf_format.proofs.GoodImageLemmas.{good_image}
 use Rattle.cdf_format.proofs.RowLemmas.{Hold-split}
 use Rattle.cdf_index.proofs.GoodIndex.{good_index}
 use Rattle.cdf_leaves.proofs.Own.{AmongAll, among_all}
-use Rattle.cdf_model.specs.declared.kinds.Sparse.TheVariants.{Pad, Previous}
 use Rattle.cdf_var_records.specs.declared.pad_place.PadPlace.{PadPlace}
 use Rattle.cdf_var_records.proofs.DimsRead.{small_signed}
 use Rattle.cdf_var_records.proofs.VdrParts.{at, inside, own}
 use Rattle.cdf_var_records.proofs.VdrParts.{dims_long, words_long}
 use Rattle.cdf_var_records.proofs.PadSites.{at_is, positive, r_count, r_typed, ruled, z_count, z_few, z_typed}
-use Rattle.cdf_values.proofs.ValueLengths.{size_some}
 
 -- ---- sizes as they are read
 

@@ -1,11 +1,6 @@
 -- What a record of a variable reads as, by what was read of its VDR.
-use Rattle.std.proofs.Common.{◌≡◌, ℕ, ◌+◌, ◌-◌, ◌*◌, ◌/◌, ◌%◌, ◌<◌, ◌≤◌, List, ◌++◌, length, take, drop, Bool, true, false, Some, None, refl, sym, ap, ap₂, subst, ◌∙◌, arith}
-use Rattle.cdf_var_records.proofs.Common.{mul-le-mul_right, option_map, nat_lt, if◌then◌else◌, plain_bytes, has_bit, number, leaves_of, vdr_vxr_head, network_bytes, dimensions_at, elems_at, has_pad, is_z, max_rec_at, pad_field, record_bytes, type_of_variable, value_bytes, Good, pad_width, HasIndex, index_at, leaf_of, HoldsRecords, record_in, record_of_leaf, seen, Leaf, DataType, turned, Variable, extent, item_at, default_value, record_limit, record_size, value_count, number_read, pad_record, pad_value, read, size_of, size_stays, Form, IsForm, leaf_in, variable_at, whole_elements}
-use Rattle.std.proofs.Math.Nat.{mul-div_cancel_left}
-use Rattle.std.proofs.lemmas.Bool.{le-ltb, lt-ltb}
-use Rattle.std.proofs.lemmas.List.{take_at}
+use Rattle.cdf_var_records.proofs.Common.{mul-le-mul_right, option_map, nat_lt, if◌then◌else◌, plain_bytes, has_bit, number, leaves_of, vdr_vxr_head, network_bytes, dimensions_at, elems_at, has_pad, is_z, max_rec_at, pad_field, record_bytes, type_of_variable, value_bytes, Good, pad_width, HasIndex, index_at, leaf_of, HoldsRecords, record_in, record_of_leaf, seen, Leaf, DataType, turned, Variable, extent, item_at, default_value, record_limit, record_size, value_count, number_read, pad_record, pad_value, read, size_of, size_stays, Form, IsForm, leaf_in, variable_at, whole_elements, ◌≡◌, ℕ, ◌+◌, ◌-◌, ◌*◌, ◌/◌, ◌%◌, ◌<◌, ◌≤◌, List, ◌++◌, length, take, drop, Bool, true, false, Some, None, refl, sym, ap, ap₂, subst, ◌∙◌, arith, mul-div_cancel_left, le-ltb, lt-ltb, take_at, IsRecordShape}
 use Rattle.cdf_shape.specs.declared.shape.Shape.{Shape}
-use Rattle.cdf_var_records.specs.Records.{IsRecordShape}
 use Rattle.cdf_var_records.proofs.PadSites.{vdr_lies}
 use Rattle.cdf_var_records.proofs.RecordForms.{has_index, pad_lies}
 use Rattle.cdf_var_records.proofs.RecordsRead.{by_leaf, holding, pad_by, pad_none, piece_long, read_is, stored_whole}

@@ -1,18 +1,11 @@
 -- What a record of a variable of a good image reads as, and how long it is.
-use Rattle.std.proofs.Common.{◌≡◌, ℕ, ◌+◌, ◌-◌, ◌*◌, ◌%◌, ◌≤◌, List, length, take, drop, Bool, true, false, Option, Some, None, refl, sym, ap, ◌∙◌, arith, inl, inr}
-use Rattle.cdf_var_records.proofs.Common.{mul-le-mul_right, option_map, unwrap_or, nat_lt, if◌then◌else◌, plain_bytes, number, Nodes, leaves_of, vdr_vxr_head, shape, is_little, network_bytes, dimensions_at, dims_at, elems_at, has_pad, is_z, max_rec_at, pad_field, record_bytes, type_of_variable, value_bytes, varys_at, Good, good_is_sound, either, pad_width, index_at, leaf_of, HoldsRecords, record_in, record_of_leaf, seen, Leaf, DataType, Byte, Kind, NoRule, Variable, extent, item_at, default_value, value_count, number_read, pad_record, pad_value, read, size_of, size_stays, IsVdr, leaf_in, variable_at, whole_elements}
-use Rattle.std.proofs.lemmas.List.{length-drop, length-take}
+use Rattle.cdf_var_records.proofs.Common.{mul-le-mul_right, option_map, unwrap_or, nat_lt, if◌then◌else◌, plain_bytes, number, Nodes, leaves_of, vdr_vxr_head, shape, is_little, network_bytes, dimensions_at, dims_at, elems_at, has_pad, is_z, max_rec_at, pad_field, record_bytes, type_of_variable, value_bytes, varys_at, Good, good_is_sound, either, pad_width, index_at, leaf_of, HoldsRecords, record_in, record_of_leaf, seen, Leaf, DataType, Byte, Kind, NoRule, Variable, extent, item_at, default_value, value_count, number_read, pad_record, pad_value, read, size_of, size_stays, IsVdr, leaf_in, variable_at, whole_elements, ◌≡◌, ℕ, ◌+◌, ◌-◌, ◌*◌, ◌%◌, ◌≤◌, List, length, take, drop, Bool, true, false, Option, Some, None, refl, sym, ap, ◌∙◌, arith, inl, inr, length-drop, length-take, field_bytes, Int1, Int2, Int4, Int8, UInt1, UInt2, UInt4, Real4, Real8, Epoch, Epoch16, TimeTt2000, Float, Double, Char, UChar, default_element, missing, read_at, length-repeat}
 use Rattle.cdf_format.specs.Index.{Leaf as TreeLeaf}
-use Rattle.cdf_format.specs.Stored.{field_bytes}
 use Rattle.cdf_index.proofs.GoodBlock.{good_block}
 use Rattle.cdf_index.proofs.PlainBlocks.{plain_block}
 use Rattle.cdf_index.proofs.RecordRead.{record_is}
 use Rattle.cdf_index.proofs.StoredRecords.{stored_record}
-use Rattle.cdf_model.specs.declared.data_type.DataType.TheVariants.{Int1, Int2, Int4, Int8, UInt1, UInt2, UInt4, Real4, Real8, Epoch, Epoch16, TimeTt2000, Float, Double, Char, UChar}
 use Rattle.cdf_model.specs.declared.kinds.Sparse.{Sparse}
-use Rattle.cdf_model.specs.Pads.{default_element}
-use Rattle.cdf_model.specs.Reading.{missing, read_at}
-use Rattle.cdf_model.proofs.Filled.{length-repeat}
 use Rattle.cdf_var_records.proofs.VdrParts.{own}
 use Rattle.cdf_var_records.proofs.RecordForms.{among, image, index_is, pad_lies, variable_is, without_rule}
 

@@ -1,10 +1,7 @@
 -- Where the VDR of a variable stands, and how long its parts are.
-use Rattle.std.proofs.Common.{◌≡◌, ℕ, zero, suc, ◌+◌, ◌≤◌, List, length, true, false, refl, ap, ◌∙◌, arith, inl, inr}
-use Rattle.cdf_var_records.proofs.Common.{length-map, ◌==◌, Kind, R, Z, type_at, words, z_vdr_type, counted4, dimensions_at, dims_at, is_z, pad_field, Good, either, vdr_bytes, fits, high, IsVdr}
-use Rattle.cdf_format.specs.Shape.{VariableShape}
+use Rattle.cdf_var_records.proofs.Common.{length-map, ◌==◌, Kind, R, Z, type_at, words, z_vdr_type, counted4, dimensions_at, dims_at, is_z, pad_field, Good, either, vdr_bytes, fits, high, IsVdr, ◌≡◌, ℕ, zero, suc, ◌+◌, ◌≤◌, List, length, true, false, refl, ap, ◌∙◌, arith, inl, inr, VariableShape, StandsAmong}
 use Rattle.cdf_edits.specs.Space.Chains.{type_in}
 use Rattle.cdf_edits.specs.Space.VariableChains.{variables_chain}
-use Rattle.cdf_edits.proofs.Edits.VdrEdited.{StandsAmong}
 
 pub words_long : (b : List ℕ) (p n : ℕ) → length (words b p n) ≡ n
 words_long b p zero = refl

@@ -1,5 +1,4 @@
-use Rattle.std.proofs.Common.{◌≡◌, ℕ, ◌+◌, List, ◌∙◌, ap, length, refl, arith}
-use Rattle.cdf_var_records.proofs.Common.{IfOk-weaker, content, words}
+use Rattle.cdf_var_records.proofs.Common.{IfOk-weaker, content, words, ◌≡◌, ℕ, ◌+◌, List, ◌∙◌, ap, length, refl, arith}
 use Rattle.cdf_var_records.proofs.DimsRead.{count_lies, dims_are, offset_lies, sizes_lie}
 use Rattle.cdf_var_records.proofs.form.read_dims.Goals as goal
 

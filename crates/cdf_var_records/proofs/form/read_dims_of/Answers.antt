@@ -1,5 +1,4 @@
-use Rattle.std.proofs.Common.{◌≡◌, ◌∙◌, ℕ, List, subst}
-use Rattle.cdf_var_records.proofs.Common.{IfOk-weaker, content, dims_at, Kind, IsVdr}
+use Rattle.cdf_var_records.proofs.Common.{IfOk-weaker, content, dims_at, Kind, IsVdr, ◌≡◌, ◌∙◌, ℕ, List, subst}
 use Rattle.cdf_var_records.proofs.RecordForms.{r_sizes_are}
 use Rattle.cdf_var_records.proofs.form.read_dims_of.Goals as goal
 

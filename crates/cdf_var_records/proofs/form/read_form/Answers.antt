@@ -1,5 +1,4 @@
-use Rattle.std.proofs.Common.{◌∙◌, ℕ, List, length, refl, sym, ap, subst, arith}
-use Rattle.cdf_var_records.proofs.Common.{read_done, read_more, read_once, is_little, dims_at, varys_at, Good, IsPlace, IsVdr}
+use Rattle.cdf_var_records.proofs.Common.{read_done, read_more, read_once, is_little, dims_at, varys_at, Good, IsPlace, IsVdr, ◌∙◌, ℕ, List, length, refl, sym, ap, subst, arith}
 use Rattle.cdf_var_records.proofs.PadSites.{vdr_lies}
 use Rattle.cdf_var_records.proofs.RecordForms.{form_is}
 use Rattle.cdf_var_records.proofs.form.read_form.Goals as goal

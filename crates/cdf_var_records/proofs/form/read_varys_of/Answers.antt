@@ -1,5 +1,4 @@
-use Rattle.std.proofs.Common.{◌≡◌, ◌+◌, ◌-◌, ◌*◌, ◌∙◌, List, Bool, map, not, arith}
-use Rattle.cdf_var_records.proofs.Common.{IfOk-weaker, ◌==◌, words, varys_at}
+use Rattle.cdf_var_records.proofs.Common.{IfOk-weaker, ◌==◌, words, varys_at, ◌≡◌, ◌+◌, ◌-◌, ◌*◌, ◌∙◌, List, Bool, map, not, arith}
 use Rattle.cdf_var_records.proofs.RecordForms.{count_few, varys_before, varys_inside, varys_read}
 use Rattle.cdf_var_records.proofs.form.read_varys_of.Goals as goal
 

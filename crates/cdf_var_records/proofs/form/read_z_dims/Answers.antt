@@ -1,5 +1,4 @@
-use Rattle.std.proofs.Common.{◌≡◌, ◌+◌, ◌∙◌, ℕ, List, length, ap, arith}
-use Rattle.cdf_var_records.proofs.Common.{IfOk-weaker, words, dims_at}
+use Rattle.cdf_var_records.proofs.Common.{IfOk-weaker, words, dims_at, ◌≡◌, ◌+◌, ◌∙◌, ℕ, List, length, ap, arith}
 use Rattle.cdf_var_records.proofs.RecordForms.{z_sizes_are, z_sizes_lie}
 use Rattle.cdf_var_records.proofs.form.read_z_dims.Goals as goal
 

@@ -1,5 +1,4 @@
-use Rattle.std.proofs.Common.{◌≡◌, ◌∙◌, sym, ap, subst}
-use Rattle.cdf_var_records.proofs.Common.{dimensions_at, Kind, vdr_bytes, IsVdr}
+use Rattle.cdf_var_records.proofs.Common.{dimensions_at, Kind, vdr_bytes, IsVdr, ◌≡◌, ◌∙◌, sym, ap, subst}
 use Rattle.cdf_var_records.proofs.PadSites.{at_is, r_count}
 use Rattle.cdf_var_records.proofs.pad_place.read_pad_offset.Goals.{in-R+in_ok-dimensions-in-R, in-Z+in_ok-dimensions-in-Z}
 use Rattle.cdf_var_records.proofs.pad_place.read_pad_offset.Goals as goal

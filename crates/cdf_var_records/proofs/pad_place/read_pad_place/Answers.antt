@@ -1,5 +1,4 @@
-use Rattle.std.proofs.Common.{◌≡◌, ◌∙◌, ℕ, List, length, refl, ap, subst, arith}
-use Rattle.cdf_var_records.proofs.Common.{unwrap_or, read_done, read_more, read_once, Byte, AreBytes}
+use Rattle.cdf_var_records.proofs.Common.{unwrap_or, read_done, read_more, read_once, Byte, AreBytes, ◌≡◌, ◌∙◌, ℕ, List, length, refl, ap, subst, arith}
 use Rattle.cdf_records.specs.declared.vdr.Vdr.{Vdr}
 use Rattle.cdf_records.specs.Heads.{vdr_at}
 use Rattle.cdf_var_records.proofs.PadSites.{elems_are as site_elems, type_is, vdr_lies}

@@ -1,4 +1,4 @@
-use Rattle.std.proofs.Common.{sym, subst, ◌≤◌, ℕ, arith}
+use Rattle.cdf_var_records.proofs.Common.{sym, subst, ◌≤◌, ℕ, arith}
 use Rattle.cdf_var_records.proofs.PadSites.{z_count, z_few, z_lies}
 use Rattle.cdf_var_records.proofs.pad_place.read_z_dimensions.Goals as goal
 

@@ -1,5 +1,4 @@
-use Rattle.std.proofs.Common.{ℕ, List, refl, subst, arith}
-use Rattle.cdf_var_records.proofs.Common.{read_more, ranges_of, index_at, IsStretch}
+use Rattle.cdf_var_records.proofs.Common.{read_more, ranges_of, index_at, IsStretch, ℕ, List, refl, subst, arith}
 use Rattle.cdf_var_records.proofs.PutRoomCount.{few_more, none_yet_of, one_more}
 use Rattle.cdf_var_records.proofs.put_room.count_missing.Goals as goal
 

@@ -1,6 +1,4 @@
-use Rattle.std.proofs.Common.{◌∙◌, ℕ, ap}
-use Rattle.cdf_var_records.proofs.Common.{read_done, read_once, has_bit}
-use Rattle.cdf_var_records.specs.Room.{count_in_block}
+use Rattle.cdf_var_records.proofs.Common.{read_done, read_once, has_bit, ◌∙◌, ℕ, ap, count_in_block}
 use Rattle.cdf_var_records.proofs.RecordReading.{lies, record_size_is}
 use Rattle.cdf_var_records.proofs.put_room.read_block_count.Goals as goal
 

@@ -1,6 +1,4 @@
-use Rattle.std.proofs.Common.{◌∙◌, List, sym, ap, subst, arith}
-use Rattle.cdf_var_records.proofs.Common.{read_done, read_failed, read_more, read_once, blocks_room, Good, variable_at}
-use Rattle.cdf_edits.specs.Index.Blocks.{block_count}
+use Rattle.cdf_var_records.proofs.Common.{read_done, read_failed, read_more, read_once, blocks_room, Good, variable_at, ◌∙◌, List, sym, ap, subst, arith, block_count}
 use Rattle.cdf_var_records.proofs.PutRoomNeeded.{first_within, head_lies, index_there, leaves_rise, nodes, room_there, size_there, v}
 use Rattle.cdf_var_records.proofs.RecordReading.{record_size_is}
 use Rattle.cdf_var_records.proofs.put_room.read_put_room.Goals as goal

@@ -1,8 +1,5 @@
-use Rattle.std.proofs.Common.{◌≡◌, ◌∙◌, ℕ, List, sym, ap, arith}
-use Rattle.cdf_var_records.proofs.Common.{option_map, next_first, index_at, seen}
-use Rattle.cdf_edits.specs.Index.Blocks.{firsts_of}
+use Rattle.cdf_var_records.proofs.Common.{option_map, next_first, index_at, seen, ◌≡◌, ◌∙◌, ℕ, List, sym, ap, arith, firsts_of, bound_is}
 use Rattle.cdf_index.specs.Next.{least_first_past}
-use Rattle.cdf_puts.proofs.CoveringRanges.{bound_is}
 use Rattle.cdf_var_records.proofs.PutRoomCount.{gap_some, gap_stretch, leaf_stretch}
 use Rattle.cdf_var_records.proofs.put_room.read_stretch.Goals as goal
 

@@ -1,5 +1,4 @@
-use Rattle.std.proofs.Common.{◌≡◌, ◌+◌, ◌∙◌, ℕ, List, sym, ap, arith}
-use Rattle.cdf_var_records.proofs.Common.{IfOk-weaker, option_map, number, word, leaves_of, vdr_vxr_head, HasIndex, index_at, leaf_of, seen, leaf_in}
+use Rattle.cdf_var_records.proofs.Common.{IfOk-weaker, option_map, number, word, leaves_of, vdr_vxr_head, HasIndex, index_at, leaf_of, seen, leaf_in, ◌≡◌, ◌+◌, ◌∙◌, ℕ, List, sym, ap, arith}
 use Rattle.std.proofs.Math.Path.{transport}
 use Rattle.cdf_var_records.proofs.RecordReading.{before_max, past_max}
 use Rattle.cdf_var_records.proofs.record.find_stored.Goals as goal

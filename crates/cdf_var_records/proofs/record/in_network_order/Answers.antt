@@ -1,5 +1,4 @@
-use Rattle.std.proofs.Common.{◌∙◌, ap, arith}
-use Rattle.cdf_model.specs.ByteOrder.{turned}
+use Rattle.cdf_var_records.proofs.Common.{◌∙◌, ap, arith, turned}
 use Rattle.cdf_var_records.proofs.RecordReading.{turned_in_place}
 use Rattle.cdf_var_records.proofs.record.in_network_order.Goals as goal
 

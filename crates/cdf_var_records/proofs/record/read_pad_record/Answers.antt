@@ -1,5 +1,4 @@
-use Rattle.std.proofs.Common.{◌∙◌, ap₂, List, ℕ}
-use Rattle.cdf_var_records.proofs.Common.{repeat, read_done, read_once}
+use Rattle.cdf_var_records.proofs.Common.{repeat, read_done, read_once, ◌∙◌, ap₂, List, ℕ}
 use Rattle.cdf_var_records.proofs.RecordReading.{count_is}
 use Rattle.cdf_var_records.proofs.record.read_pad_record.Goals as goal
 

@@ -1,5 +1,4 @@
-use Rattle.std.proofs.Common.{◌∙◌, ap, arith, sym}
-use Rattle.cdf_var_records.proofs.Common.{read_done, read_once, turned}
+use Rattle.cdf_var_records.proofs.Common.{read_done, read_once, turned, ◌∙◌, ap, arith, sym}
 use Rattle.cdf_var_records.proofs.RecordReading.{pad_is_inside, pad_whole, value_is_read}
 use Rattle.cdf_var_records.proofs.record.read_pad_value.Goals as goal
 

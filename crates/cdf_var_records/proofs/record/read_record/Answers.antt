@@ -1,5 +1,4 @@
-use Rattle.std.proofs.Common.{◌≡◌, ◌∙◌, ℕ, List, refl, sym, ap, subst}
-use Rattle.cdf_var_records.proofs.Common.{IfOk-weaker, read_done, read_failed, read_once, Good, pad_record, read, IsForm, variable_at}
+use Rattle.cdf_var_records.proofs.Common.{IfOk-weaker, read_done, read_failed, read_once, Good, pad_record, read, IsForm, variable_at, ◌≡◌, ◌∙◌, ℕ, List, refl, sym, ap, subst}
 use Rattle.cdf_var_records.proofs.RecordReading.{reads_pad, reads_stored}
 use Rattle.cdf_var_records.proofs.record.read_record.Goals as goal
 

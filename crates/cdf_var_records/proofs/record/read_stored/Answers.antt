@@ -1,5 +1,4 @@
-use Rattle.std.proofs.Common.{◌≡◌, ◌-◌, ◌∙◌, ℕ, List, length, refl, sym, ap, subst, arith}
-use Rattle.cdf_var_records.proofs.Common.{option_map, read_done, read_failed, read_more, read_once, plain_bytes, record_bytes, HoldsRecords, record_in, seen}
+use Rattle.cdf_var_records.proofs.Common.{option_map, read_done, read_failed, read_more, read_once, plain_bytes, record_bytes, HoldsRecords, record_in, seen, ◌≡◌, ◌-◌, ◌∙◌, ℕ, List, length, refl, sym, ap, subst, arith}
 use Rattle.cdf_var_records.proofs.RecordReading.{holds, holds_from, holds_upto, index, leaf_has, lies, no_record, whole}
 use Rattle.cdf_var_records.proofs.record.read_stored.Goals as goal
 

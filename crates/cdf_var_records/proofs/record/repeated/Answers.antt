@@ -1,5 +1,4 @@
-use Rattle.std.proofs.Common.{◌++◌, ◌∙◌, ℕ, List, sym, ap}
-use Rattle.cdf_model.proofs.Filled.{repeat_more}
+use Rattle.cdf_var_records.proofs.Common.{◌++◌, ◌∙◌, ℕ, List, sym, ap, repeat_more}
 use Rattle.cdf_var_records.proofs.record.repeated.Goals as goal
 
 pub loop-preserved : goal.loop-preserved
