@@ -78,9 +78,8 @@ module _ {b : List ℕ} {vdr : ℕ} (good : Good b) (v : IsVdr b Z vdr) where
 
   pub z_count : (n : ℕ) → n ≡ number b vdr vdr_z_num_dims → n ≡ dimensions_at b vdr
   z_count n e =
-      let z = z_typed in
       let few = z_few in
-      e ∙ sym (small_signed (number b vdr vdr_z_num_dims) (omega arith)) ∙ rw z refl
+      e ∙ sym (small_signed (number b vdr vdr_z_num_dims) (omega arith)) ∙ rw z_typed refl
 
 -- of an r variable
 module _ {b : List ℕ} {vdr : ℕ} (good : Good b) (v : IsVdr b R vdr) where

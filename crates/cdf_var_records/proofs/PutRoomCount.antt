@@ -73,8 +73,7 @@ none_covered k e last (x ∷ xs) le a none =
             nothing (covered_before k e (of_leaves (x ∷ xs))) (covered_before k e (of_leaves xs)) e x.first x.last k whole (none_covered k e last xs le a.1 (rw (t, u) at none)) (omega arith)
       ]
       | inr t ↦
-          let lt = leb-false x.first k t in
-          let past = a.0 lt in
+          let past = a.0 (leb-false x.first k t) in
           nothing (covered_before k e (of_leaves (x ∷ xs))) (covered_before k e (of_leaves xs)) e x.first x.last k whole (none_covered k e last xs le a.1 (rw t at none)) (omega arith)
     ]
 
@@ -98,10 +97,7 @@ none_before k low upto [] a lt = refl
 none_before k low upto (x ∷ xs) a lt =
     let a0 = a.0 in
     let a1 = a.1 in
-    elim (either (leb x.first k)) [
-      | inl t ↦ absurd (clash x.first k t (omega arith))
-      | inr t ↦ rw t (none_before k (suc x.last) upto xs a.3 (omega arith))
-    ]
+    elim (either (leb x.first k)) [ inl t ↦ absurd (clash x.first k t (omega arith)) | inr t ↦ rw t (none_before k (suc x.last) upto xs a.3 (omega arith)) ]
   where
     clash : (m n : ℕ) → leb m n ≡ true → n < m → ⊥
     clash m n e lt = grind (arith, nat_tests)

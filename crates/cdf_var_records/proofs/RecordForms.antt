@@ -122,8 +122,7 @@ module _ {b : List ℕ} {vdr : ℕ} (good : Good b) (v : IsVdr b R vdr) where
   pub r_sizes_are : (content b).rdims ≡ dims_at b vdr
   r_sizes_are =
       let h = (good_is_sound b good).has_shape in
-      let z = r_typed good v in
-      let plain : dims_at b vdr ≡ r_sizes b (gdr_offset b) = rw z refl in
+      let plain : dims_at b vdr ≡ r_sizes b (gdr_offset b) = rw (r_typed good v) refl in
       ap (λ (d : DataSet). d.rdims) (content_is b (shape b) h) ∙ ap (r_sizes b) (sym h.gdr_is) ∙ sym plain
 
 -- of each kind there are few dimensions

@@ -40,12 +40,7 @@ module _ {b : List ℕ} {form : Form} (good : Good b) (f : IsForm b form) where
   value_size_is = ap₂ (λ (t : DataType) (n : ℕ). size_of t * n) t_here elems_here
 
   pub record_size_is : record_size form.shape.t form.shape.elems form.shape.dims form.shape.varys ≡ record_bytes b vdr
-  record_size_is =
-      let t = t_here in
-      let n = elems_here in
-      let d = f.dims_are in
-      let w = f.varys_are in
-      λ i. record_size (t i) (n i) (d i) (w i)
+  record_size_is = λ i. record_size (t_here i) (elems_here i) (f.dims_are i) (f.varys_are i)
 
   -- ---- the pad value
 
@@ -118,10 +113,8 @@ module _ {b : List ℕ} {form : Form} (good : Good b) (f : IsForm b form) where
 
         pub leaf_has : (now : List ℕ) → now ≡ turned form.place.t form.encoding.little bytes → Some now ≡ item_at rec variable.recs
         leaf_has now turns =
-            let t = f.place.t_is in
-            let o = f.order in
             let e = is_stored in
-            ap Some turns ∙ (λ i. Some (turned (t i) (o i) (e i))) ∙ ap (option_map (record_of_leaf b vdr rec)) found ∙ sym (by_leaf good f.is_vdr rec)
+            ap Some turns ∙ (λ i. Some (turned (f.place.t_is i) (f.order i) (e i))) ∙ ap (option_map (record_of_leaf b vdr rec)) found ∙ sym (by_leaf good f.is_vdr rec)
 
   -- ---- a record as it reads
 

@@ -8,10 +8,7 @@ words_long b p zero = refl
 words_long b p (suc n) = ap suc (words_long b (p + 4) n)
 
 pub dims_long : (b : List ℕ) (v : ℕ) → length (dims_at b v) ≡ dimensions_at b v
-dims_long b v = elim (either (is_z b v)) [
-  | inl z ↦ rw z (length-map (words b _ _) counted4 ∙ words_long b _ _)
-  | inr z ↦ rw z (words_long b _ _)
-]
+dims_long b v = elim (either (is_z b v)) [ inl z ↦ rw z (length-map (words b _ _) counted4 ∙ words_long b _ _) | inr z ↦ rw z (words_long b _ _) ]
 
 pub pad_place : (kind : Kind) (b : List ℕ) (v : ℕ) → type_at b v ≡ type_in (variables_chain kind) → (pad_field b v).place ≡ vdr_bytes kind (dimensions_at b v)
 pad_place R b v e = let z : is_z b v ≡ false = ap (λ (t : ℕ). t == z_vdr_type) e in rw z refl
