@@ -95,8 +95,6 @@ leaf_upto k (x ∷ xs) l e = elim (either (leb x.first k)) [
 none_before : (k low upto : ℕ) (xs : List Leaf) → Ascending low upto xs → k < low → leaf_of k xs ≡ None
 none_before k low upto [] a lt = refl
 none_before k low upto (x ∷ xs) a lt =
-    let a0 = a.0 in
-    let a1 = a.1 in
     elim (either (leb x.first k)) [ inl t ↦ absurd (clash x.first k t (omega arith)) | inr t ↦ rw t (none_before k (suc x.last) upto xs a.3 (omega arith)) ]
   where
     clash : (m n : ℕ) → leb m n ≡ true → n < m → ⊥
@@ -105,8 +103,6 @@ none_before k low upto (x ∷ xs) a lt =
 none_after : (k e low upto : ℕ) (xs : List Leaf) → Ascending low upto xs → e ≤ low → covered_before k e (of_leaves xs) ≡ 0
 none_after k e low upto [] a le = refl
 none_after k e low upto (x ∷ xs) a le =
-    let a0 = a.0 in
-    let a1 = a.1 in
     nothing (covered_before k e (of_leaves (x ∷ xs))) (covered_before k e (of_leaves xs)) e x.first x.last k (before_more k e (range x.first x.last) (of_leaves xs)) (none_after k e (suc x.last) upto xs a.3 (omega arith)) (omega arith)
 
 all_covered : (k e low upto : ℕ) (xs : List Leaf) (l : Leaf) → Ascending low upto xs → leaf_of k xs ≡ Some l → e ≤ l.last + 1 → covered_before k e (of_leaves xs) ≡ e - k
@@ -125,7 +121,6 @@ all_covered k e low upto (x ∷ xs) l a is le =
       ]
       | inr t ↦
           let lt = leb-false x.first k t in
-          let a1 = a.1 in
           let further : leaf_of k xs ≡ Some l = rw t at is in
           absurd (none_is_some (sym (none_before k (suc x.last) upto xs a.3 (omega arith)) ∙ further))
     ]

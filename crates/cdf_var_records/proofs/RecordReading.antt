@@ -73,7 +73,6 @@ module _ {b : List ℕ} {form : Form} (good : Good b) (f : IsForm b form) where
   pub count_is : (size value : ℕ) → size ≡ record_size form.shape.t form.shape.elems form.shape.dims form.shape.varys → value ≡ size_of form.shape.t * form.shape.elems → size / value ≡ value_count variable.dims variable.varys
   count_is size value s w =
       let n = value_count form.shape.dims form.shape.varys in
-      let some = f.shaped.some in
       ap₂ (λ (x y : ℕ). x / y) s w ∙ mul-div_cancel_left n (omega arith) ∙ ap₂ (λ (d : List ℕ) (w : List Bool). value_count d w) f.dims_are f.varys_are
 
   -- ---- records that are stored

@@ -98,7 +98,6 @@ module _ {b : List ℕ} {kind : Kind} {vdr : ℕ} (good : Good b) (v : IsVdr b k
         let upto = holding.2 in
         let there : k + 1 ≤ leaf.last + 1 - leaf.first = omega arith in
         let room = mul-le-mul_right size there in
-        let inside = h.inside in
         let ends : leaf.at + (12 + k * size) + size ≤ length b = omega arith in
         ap length (sym (record_is b leaf size rec vdr h holding.1 upto refl)) ∙ piece_long b (leaf.at + (12 + k * size)) size ends
 
