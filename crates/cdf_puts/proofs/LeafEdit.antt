@@ -229,8 +229,6 @@ module _ {b now : List ℕ} {kind : Kind} {before : List VariableShape} {own : V
   pub file : FileSame b now
   file = file_same sound edit tests.file_clear
 
-  -- ---- what is new
-
   -- ---- the new records
 
   -- nothing of the block is written once it is placed

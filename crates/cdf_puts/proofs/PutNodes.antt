@@ -77,7 +77,7 @@ module _ (news : List ℕ) where
     outline_with_lower new at (block first last place packed es) = ap (block first last 0 false) (outline_with_lower new at es)
     outline_with_lower new at (lower first last nodes es) = grind (arith, reaches_outline new.first es, outline_with_leaf new at nodes, outline_with_lower new at es)
 
-  -- ---- how much room a new node has, Firsts, and which entries are used
+  -- ---- which entries are used
 
   module _ (vxr i : ℕ) (old : is_in vxr news ≡ false) (stands : vxr ≡ 0 → ⊥) where
     same_place : (place : ℕ) → eqb (place_outside news place) vxr ≡ eqb place vxr
