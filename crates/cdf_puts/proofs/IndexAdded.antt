@@ -131,10 +131,7 @@ module _ {b now now' : List ℕ} {kind : Kind} {before : List VariableShape} {ow
     old = old_block;
     new = λ l i. elim (leaf_was_there new at 0 record_number_limit own'.index order l i) [
       | inl q ↦ inr (subst (NewBlock now' raw pad r first (extent (max_rec_at b own.vdr)) upto (record_bytes b own.vdr) (acts ++ step)) (sym q) new_block)
-      | inr j ↦ elim (so.blocks.new l j) [
-        | inl o ↦ inl o
-        | inr n ↦ inr (new_goes_on so longer l (same l j) j (let m = more_upto in omega arith) (taken_first acts step l.place n.was_taken) n)
-      ]
+      | inr j ↦ elim (so.blocks.new l j) [ inl o ↦ inl o | inr n ↦ inr (new_goes_on so longer l (same l j) j (let m = more_upto in omega arith) (taken_first acts step l.place n.was_taken) n) ]
     ];
     has = λ j from low. elim (cases_lt j k) [ inl lt ↦ let x = so.blocks.has j from lt in (x.0, (in_new x.0 x.1.0, x.1.1)) | inr le ↦ (new, (new_in, (le, omega arith))) ];
     quiet = λ e. (let none = ap length e in let both = length-append acts step in absurd (omega arith));

@@ -13,8 +13,7 @@ module _ {b : List ℕ} {kind : Kind} {before : List VariableShape} {own : Varia
   no_lengths = loose
 
   pub no_rule : (variable_of b own).sparse ≡ NoRule
-  no_rule =
-      rw ((Hold-split (asked (is_compressed b own.vdr) (cpr_rows b (shape b).records (cpr_link b own.vdr))) (unread_sparse b own.vdr) ((own_rules good at).0.1.1.1.1.1.1.1.1.1.1.1)).1.0) refl
+  no_rule = rw ((Hold-split (asked (is_compressed b own.vdr) (cpr_rows b (shape b).records (cpr_link b own.vdr))) (unread_sparse b own.vdr) ((own_rules good at).0.1.1.1.1.1.1.1.1.1.1.1)).1.0) refl
 
   -- so no put cuts anything
   pub uncut : (r : ℕ) → cuts_before_put (variable_of b own) r ≡ false
