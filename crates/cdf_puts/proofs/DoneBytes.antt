@@ -1,32 +1,30 @@
--- All records are put: the index, what was taken for it and the bytes of the blocks are as the command says, and what is stored as each record.
-use Rattle.std.proofs.Common.{◌≡◌, ◌≢◌, ◌⊎◌, ℕ, suc, ◌+◌, ◌-◌, ◌*◌, ◌<◌, ◌≤◌, List, length, take, drop, false, Some, None, find, eq-eqb, refl, sym, ap, subst, ◌∙◌, arith, inl, inr, [], ◌∷◌, ◌++◌, append-nil, Bool, true, ◌&&◌, bytes_eq, zero, map, true≢false, take-append-drop}
-use Rattle.cdf_puts.proofs.Common.{Outside-append, cases_lt, ne_eqb, option_map, min, if◌then◌else◌, Kind, Sparse, Variable, extent, record_number_limit, range, covers, first_written, is_sparse, stored_bytes, Act, IsOneOf, find_covering, covers_within, place_in, record_place, plain_piece, PlainLeaf, plain_leaf, leaves_ascend, block_behind, sound, long, behind_in, Same, variable_of, size_at, Leaf, leaves_of, VariableShape, is_compressed, shape, record_bytes, max_rec_at, word_kept, piece_kept, tile_lies, MaxRecDone, SoFar, OldBlock, NewBlock, record_of, put_from, put_count, filter, list_any, nat_lt, PutsLeaves, ranges_of, cuts_before_put, ranges_after_put, is_taken_at, top_chain, last_node, node_behind, fits, Each-in, number, vdr_vxr_tail, NodeFits, In, bytes_eq-same, same_of_bytes_eq, NodesSoFar, length-take, length-drop, drop-drop, ◌==◌, turned, pad_record, r_max_rec_field, max_rec_touches, uncovered, put_room, blocks_room, packed_room, Touch, Outside, Changed, space_before, each_of, count_is, plain_bytes, vdr_max_rec, is_little, records_of_leaf, type_of_variable, either, both, put_touches, taken_bytes}
-use Rattle.cdf_edits.proofs.Edits.LeafPieces.{found_in, unwritten_apart, written_fits}
-use Rattle.std.proofs.Math.Nat.{mul-sub}
-use Rattle.std.proofs.Math.Path.{transport}
-use Rattle.cdf_format.specs.Fields.{has_bit}
-use Rattle.cdf_puts.proofs.LastImage.{LastImage, last_image, has_put}
-use Rattle.cdf_puts.proofs.PutBytes.{by_offsets, old_plain, inside_old, old_goes_on, new_goes_on}
-use Rattle.cdf_puts.proofs.WrittenGoes.{record_fits}
-use Rattle.cdf_puts.proofs.PutMeaning.{IsPut}
-use Rattle.cdf_edits.specs.Commands.Puts.{CutsFirst, PutsIndex, is_written, PutsBytes, StaysUnwritten, UnwrittenStay, HoldsPads, is_changed, was_leaf, written_in, stays_in_place, stored_in}
-use Rattle.cdf_edits.specs.Index.Written.{top_stays, TailFollows, block_end, SpareIs, ReservedIs, BlockFollows}
-use Rattle.cdf_format.specs.Index.{nodes_of}
-use Rattle.cdf_puts.proofs.CoveringRanges.{some_or_none, covering_done, covering_total}
+-- All records are put: the index, what was taken for it and the bytes of the blocks are as the command says, and what is stored as each record. The image follows the command.
+use Rattle.cdf_puts.proofs.Common.{find, eq-eqb, ◌&&◌, Outside-append, cases_lt, ne_eqb, option_map, min, if◌then◌else◌, Kind, Sparse, Variable, extent, record_number_limit, range, covers, first_written, is_sparse, stored_bytes, Act, IsOneOf, find_covering, covers_within, place_in, record_place, plain_piece, PlainLeaf, plain_leaf, leaves_ascend, block_behind, sound, behind_in, Same, variable_of, size_at, Leaf, leaves_of, VariableShape, shape, record_bytes, max_rec_at, piece_kept, MaxRecDone, SoFar, OldBlock, NewBlock, record_of, put_from, put_count, filter, list_any, nat_lt, PutsLeaves, ranges_of, cuts_before_put, is_taken_at, top_chain, last_node, node_behind, fits, Each-in, number, vdr_vxr_tail, NodeFits, In, bytes_eq-same, same_of_bytes_eq, length-take, drop-drop, ◌==◌, turned, pad_record, r_max_rec_field, max_rec_touches, uncovered, put_room, blocks_room, packed_room, Touch, Outside, Changed, space_before, each_of, count_is, plain_bytes, vdr_max_rec, is_little, records_of_leaf, type_of_variable, either, both, put_touches, taken_bytes, GoesOn, is_rewritten, In-append, places_of, is_in, other_kind, true-is_in, eqb-true, uir_type, false-is_in, ◌≡◌, ◌≢◌, ◌⊎◌, ℕ, suc, ◌+◌, ◌-◌, ◌*◌, ◌<◌, ◌≤◌, List, length, take, drop, false, Some, None, refl, sym, ap, subst, ◌∙◌, arith, inl, inr, [], ◌∷◌, ◌++◌, append-nil, Bool, true, bytes_eq, zero, map, true≢false, take-append-drop, leaf_at, unwritten_apart, written_fits, transport, type_at, nat_tests, anything_if, Allowances, Keeps, AllKeep, unused_allowance, is_taken, shapes_of, Only, OneVariable, variable_records, unused_records, owned, Unused, keep_all, keep_file, keep_places, keep_kinds, keep_variable_parts, keep_attributes, keep_variables, keeps_stood, filter-says, unused_in, CutsFirst, PutsIndex, is_written, PutsBytes, StaysUnwritten, UnwrittenStay, HoldsPads, is_changed, was_leaf, written_in, stays_in_place, stored_in, put_changes, top_stays, TailFollows, block_end, SpareIs, ReservedIs, BlockFollows, nodes_of, repeat, touched_field, cut_open, ranges_before_put, changed_then, eq_of, times_le, same_Some, DataSet, Found, with_record, with_variable, content, Nodes, Option, slice_get, variable_named, stays_all, PutsRecord, room, room_of_variable, drop_all}
+use Rattle.cdf_edits.proofs.Edits.LeafPieces.{found_in}
+use Rattle.cdf_puts.specs.Going.{found_in as own_found}
+use Rattle.cdf_puts.proofs.PutRules.{no_cpr}
+use Rattle.cdf_puts.proofs.LastImage.{IsPut, LastImage, last_image, put_content}
+use Rattle.cdf_puts.proofs.PutBytes.{record_fits, old_size, by_offsets, old_plain, inside_old, old_goes_on, new_goes_on}
 use Rattle.cdf_puts.proofs.IndexWritten.{nodes_still}
-use Rattle.cdf_puts.proofs.GoesThen.{Passes, record_stays}
-use Rattle.cdf_puts.proofs.PutRoom.{none_given, no_node_given, none_without_bytes}
-use Rattle.std.specs.List.{repeat}
-use Rattle.cdf_edits.specs.Frame.Changed.{touched_field}
-use Rattle.cdf_edits.specs.Index.Blocks.{cut_open, ranges_before_put}
-use Rattle.cdf_edits.proofs.Frame.ChangedBytes.{changed_then}
-use Rattle.cdf_format.proofs.Tests.{eq_of}
+use Rattle.cdf_puts.proofs.CoveringRanges.{some_or_none, covering_done}
+use Rattle.cdf_puts.proofs.GoesThen.{block_allowed, descriptor_allowed, later_packed, later_size, node_allowed}
+use Rattle.cdf_puts.proofs.PutRoom.{none_given, no_node_given, none_without_bytes, longer_by}
 use Rattle.cdf_leaves.proofs.TopChain.{chain_in}
 use Rattle.cdf_puts.proofs.SoFarStarts.{covers_own}
+use Rattle.cdf_edits.proofs.Commands.ListParts.{got-middle}
+use Rattle.cdf_model.specs.declared.answer.Reply.TheVariants as replies
+use Rattle.cdf_model.specs.declared.command.Command.{Command}
+use Rattle.cdf_model.specs.declared.command.Command.TheVariants as commands
+use Rattle.cdf_model.specs.Answers.{Go}
+use Rattle.cdf_model.specs.Step.{ByStep, step}
+use Rattle.cdf_edits.specs.Commands.Does.{Does}
+use Rattle.cdf_edits.specs.Commands.Keeps.{allowances}
+use Rattle.cdf_edits.specs.Commands.Named.{OfVariable}
+use Rattle.cdf_edits.specs.Follows.{Follows, only_reads}
 
 none_taken_in : (acts : List Act) (xs : List ℕ) → ((m : ℕ) → In m xs → is_taken_at acts m ≡ false) → list_any (is_taken_at acts) xs ≡ false
 none_taken_in acts [] f = refl
-none_taken_in acts (x ∷ xs) f = let here = f x (inl refl) in rw here (none_taken_in acts xs (λ m i. f m (inr i)))
+none_taken_in acts (x ∷ xs) f = grind (arith, f x (inl refl), none_taken_in acts xs (λ m i. f m (inr i)))
 
 -- nothing is written in a block that has none of the records
 unwritten : (first k size : ℕ) (l : Leaf) (i : ℕ) → put_count first k l ≤ 0 → (i < put_from first size l) ⊎ (put_from first size l + put_count first k l * size ≤ i)
@@ -36,23 +34,16 @@ unwritten first k size l i none =
 
 -- ---- pieces that are all the same
 
-pieces_repeat : (n size : ℕ) (pad xs : List ℕ) → length xs ≡ n * size → ((i : ℕ) → i < n → take size (drop (i * size) xs) ≡ pad) → xs ≡ repeat n pad
-pieces_repeat zero size pad [] e f = refl
-pieces_repeat zero size pad (x ∷ xs) e f = absurd (omega arith)
-pieces_repeat (suc n) size pad xs e f =
-    let none : 0 ≡ 0 * size = omega arith in
-    let next : (i : ℕ) → size + i * size ≡ suc i * size = λ i. (omega arith) in
-    let first : take size xs ≡ pad = ap (λ (m : ℕ). take size (drop m xs)) none ∙ f 0 (omega arith) in
-    let left = length-drop size xs in
-    let rest = pieces_repeat n size pad (drop size xs) (omega arith) (λ i lt. ap (take size) (drop-drop (i * size) size xs) ∙ ap (λ (m : ℕ). take size (drop m xs)) (next i) ∙ f (suc i) (omega arith)) in
-    sym (take-append-drop size xs) ∙ (λ i. first i ++ rest i)
+pieces_repeat : (n s size : ℕ) (pad xs : List ℕ) → length xs ≤ (s + n) * size → ((j : ℕ) → s ≤ j → j < s + n → take size (drop (j * size) xs) ≡ pad) → drop (s * size) xs ≡ repeat n pad
+pieces_repeat zero s size pad xs e f = drop_all (s * size) xs (omega arith)
+pieces_repeat (suc n) s size pad xs e f =
+    let next : s * size + size ≡ suc s * size = omega arith in
+    let rest = drop-drop size (s * size) xs ∙ ap (λ (m : ℕ). drop m xs) next ∙ pieces_repeat n (suc s) size pad xs (omega arith) (λ j low high. f j (omega arith) (omega arith)) in
+    sym (take-append-drop size (drop (s * size) xs)) ∙ (λ i. f s (omega arith) (omega arith) i ++ rest i)
 
 -- what stands behind the records of a block is not written
 behind_written : (first r size : ℕ) (l : Leaf) (i : ℕ) → l.first ≤ l.last → 12 + (l.last + 1 - l.first) * size ≤ i → (i < put_from first size l) ⊎ (put_from first size l + put_count first (r + 1) l * size ≤ i)
-behind_written first r size l i ordered le = elim (cases_lt 0 (put_count first (r + 1) l)) [
-  | inl some ↦ let f = written_fits first r l size ordered some in inr (omega arith)
-  | inr none ↦ unwritten first (r + 1) size l i none
-]
+behind_written first r size l i ordered le = elim (cases_lt 0 (put_count first (r + 1) l)) [ inl some ↦ inr (omega (arith, written_fits first r l size ordered some)) | inr none ↦ unwritten first (r + 1) size l i none ]
 
 -- ---- touches
 
@@ -83,28 +74,28 @@ module _ {b now last : List ℕ} {kind : Kind} {before : List VariableShape} {ow
   abbrev leaves : List Leaf
   leaves = leaves_of own'.index
 
-  img : LastImage b now last kind own own' r
+  img : LastImage b now last kind before own own' after r acts
   img = last_image so done
 
-  put : Passes b last kind before own own' after r acts
-  put = (has_put so done).step
+  put : GoesOn b last kind before own own' after acts
+  put = img.goes
 
   -- ---- the index
 
   uncut : cuts_before_put v r ≡ false
   uncut = ap (λ (s : Sparse). is_sparse s && nat_lt (extent v.max_rec) r) so.start.no_rule
 
+  size_last : record_bytes last own'.vdr ≡ size
+  size_last = later_size so.start.good so.start.among put
+
   last_size : record_bytes last own.vdr ≡ size
-  last_size = record_stays so.start.good so.start.among put.file put.descriptor
+  last_size = ap (record_bytes last) (sym put.vdr_is) ∙ size_last
 
   puts : PutsLeaves b last v.rle own'.vdr (filter (is_written v r) (leaves_of own'.index)) own.index acts own'.index
   puts =
-      let ls = filter (is_written v r) leaves in
-      let vdr = sym so.goes.vdr_is in
-      let loose = sym so.start.loose in
-      let end = append-nil ls in
+      let end = append-nil (filter (is_written v r) leaves) in
       let acts_end = append-nil acts in
-      transport (λ i. PutsLeaves b last (loose i) (vdr i) (end i) own.index (acts_end i) own'.index) (so.index.puts last last_size [] [] own'.index (refl, refl))
+      transport (λ i. PutsLeaves b last ((sym so.start.loose) i) ((sym so.goes.vdr_is) i) (end i) own.index (acts_end i) own'.index) (so.index.puts last last_size [] [] own'.index (refl, refl))
 
   -- ---- VXRtail
 
@@ -122,21 +113,14 @@ module _ {b now last : List ℕ} {kind : Kind} {before : List VariableShape} {ow
 
   tail : TailFollows b last acts own.index own own'
   tail =
-      let t = img.tail in
       let mid : number now own'.vdr vdr_vxr_tail ≡ (if tops then number b own.vdr vdr_vxr_tail else last_node own'.index) = subst (λ (x : ℕ). number now x vdr_vxr_tail ≡ (if tops then number b own.vdr vdr_vxr_tail else last_node own'.index)) (sym so.goes.vdr_is) so.index.tail in
-      t ∙ mid ∙ sym (ap (λ (c : Bool). if c then number b own.vdr vdr_vxr_tail else last_node own'.index) top_test)
+      img.tail ∙ mid ∙ sym (ap (λ (c : Bool). if c then number b own.vdr vdr_vxr_tail else last_node own'.index) top_test)
 
   -- ---- the whole
 
-  last_nodes : NodesSoFar b last own own' acts
-  last_nodes = nodes_still so.index.nodes (λ m i. Each-in (NodeFits now) (nodes_of own'.index) (fits so.goes.good so.goes.among).1 m i) (λ m i. img.behind m (node_behind own' m i))
-
-  ranges_done : ranges_of own'.index ≡ ranges_after_put v own.index r
-  ranges_done = covering_done v own.index r (ap is_sparse so.start.no_rule) so.start.small own'.index so.covered _ so.covers (so.covered_past (omega arith))
-
   pub index_done : PutsIndex b last v r own own' acts
   index_done = record {
-    ranges = ranges_done;
+    ranges = covering_done so.covers (omega arith);
     middle = own.index;
     cut = [];
     put = acts;
@@ -144,7 +128,7 @@ module _ {b now last : List ℕ} {kind : Kind} {before : List VariableShape} {ow
     cuts = subst (CutsFirst b last v own own' own.index []) (sym uncut) (refl, refl);
     puts = puts;
     tail = tail;
-    nodes = last_nodes.follow;
+    nodes = (nodes_still so.index.nodes (λ m i. Each-in (NodeFits now) (nodes_of own'.index) (fits so.goes.good so.goes.among).1 m i) (λ m i. img.behind m (node_behind own' m i))).follow;
     freed = none_given b last acts acts so.takes;
     nodes_freed = no_node_given b last acts acts so.takes;
   }
@@ -156,17 +140,8 @@ module _ {b now last : List ℕ} {kind : Kind} {before : List VariableShape} {ow
 
   -- ---- the leaves by now
 
-  last_packed : is_compressed last own'.vdr ≡ false
-  last_packed =
-      let behind : Same b last (own.vdr + 44) (own.vdr + size_at b own.vdr) = put.descriptor.behind in
-      ap (is_compressed last) put.vdr_is
-      ∙ ap (λ (n : ℕ). has_bit n 2) (word_kept b last (own.vdr + 44) (own.vdr + size_at b own.vdr) behind (own.vdr + 44) 4 (omega arith) (let n = long so.start.good so.start.among in omega arith)) ∙ so.start.loose
-
   last_plain : (l : Leaf) → IsOneOf leaves l → PlainLeaf last size l
-  last_plain l i = subst (λ (n : ℕ). PlainLeaf last n l) (ap (record_bytes last) put.vdr_is ∙ last_size) (plain_leaf put.good put.among last_packed l i)
-
-  inside_last : (l : Leaf) → IsOneOf leaves l → l.place + size_at last l.place ≤ length last
-  inside_last l i = (tile_lies last 8 (length last) (shape last).records l.place (sound put.good put.among).has_shape.tiled (behind_in put.good put.among l.place (block_behind own' l.place (place_in leaves l i)))).high
+  last_plain l i = subst (λ (n : ℕ). PlainLeaf last n l) size_last (plain_leaf put.good put.among (later_packed so.start.good so.start.among put ∙ so.start.loose) l i)
 
   kept : (l : Leaf) → IsOneOf leaves l → Same now last l.place (l.place + size_at now l.place)
   kept l i = (img.behind l.place (block_behind own' l.place (place_in leaves l i))).same
@@ -175,10 +150,7 @@ module _ {b now last : List ℕ} {kind : Kind} {before : List VariableShape} {ow
   last_old l i = old_goes_on so longer l (kept l (so.blocks.stay l i)) i refl (λ j from low f t. low)
 
   last_new : (l : Leaf) → IsOneOf leaves l → IsOneOf olds l ⊎ NewBlock last raw pad r first most (r + 1) size acts l
-  last_new l i = elim (so.blocks.new l i) [
-    | inl o ↦ inl o
-    | inr n ↦ inr (new_goes_on so longer l (kept l i) i (omega arith) n.was_taken n)
-  ]
+  last_new l i = elim (so.blocks.new l i) [ inl o ↦ inl o | inr n ↦ inr (new_goes_on so longer l (kept l i) i (omega arith) n.was_taken n) ]
 
   -- ---- what is stored as a record
 
@@ -207,7 +179,6 @@ module _ {b now last : List ℕ} {kind : Kind} {before : List VariableShape} {ow
       let x = old_plain so l i in
       let o = last_old l i in
       let fit = record_fits j l.first l.last size f t in
-      let room = x.room in
       let inside = inside_old so l i in
       let longer = put.file.longer in
       piece_kept b last _ _ (by_offsets b last l.place (12 + (j - l.first) * size) (12 + (j - l.first) * size + size) (λ n low high. o.kept n (omega arith) (beside n low high))) (record_place l size j) size (omega arith) (omega arith) (omega arith) (omega arith)
@@ -232,15 +203,12 @@ module _ {b now last : List ℕ} {kind : Kind} {before : List VariableShape} {ow
   stored_none : (j : ℕ) → find (λ (leaf : Leaf). covers j (range leaf.first leaf.last)) olds ≡ None → j < most → (j < first) ⊎ (r < j) → stored_bytes last own.vdr size leaves j ≡ stored_bytes b own.vdr size olds j
   stored_none j none below side = elim (some_or_none (find (λ (leaf : Leaf). covers j (range leaf.first leaf.last)) leaves)) [
     | inr e ↦ ap (option_map _) e ∙ sym (ap (option_map _) none)
-    | inl found ↦
-        let l = found.0 in
-        let g = found_in (λ (leaf : Leaf). covers j (range leaf.first leaf.last)) leaves l found.1 in
-        let c = covers_within j l g.1 in
-        let f = c.0 in
-        let t = c.1 in
-        elim (last_new l g.0) [
-          | inl o ↦ let e : Some l ≡ None = sym (find_covering j 0 (suc record_number_limit) olds (leaves_ascend so.start.good so.start.among) l o f t) ∙ none in absurd (cc)
-          | inr n ↦ elim side [ inl lt ↦ (let a = n.from in absurd (omega arith)) | inr lt ↦ (let a = n.alone (omega arith) in absurd (omega arith)) ]
+    | inl x ↦
+        let g = found_in (λ (leaf : Leaf). covers j (range leaf.first leaf.last)) leaves x.0 x.1 in
+        let c = covers_within j x.0 g.1 in
+        elim (last_new x.0 g.0) [
+          | inl o ↦ let e : Some x.0 ≡ None = sym (find_covering j 0 (suc record_number_limit) olds (leaves_ascend so.start.good so.start.among) x.0 o c.0 c.1) ∙ none in absurd (cc)
+          | inr n ↦ absurd (omega (arith, n.from, n.alone))
         ]
   ]
 
@@ -269,28 +237,64 @@ module _ {b now last : List ℕ} {kind : Kind} {before : List VariableShape} {ow
   before_is : ranges_before_put v own.index r ≡ ranges_of own.index
   before_is = ap (λ (c : Bool). if c then cut_open (extent v.max_rec) record_number_limit (ranges_of own.index) else ranges_of own.index) uncut
 
-  later_size : record_bytes last own'.vdr ≡ size
-  later_size = ap (record_bytes last) put.vdr_is ∙ last_size
+  -- ---- what each record keeps
+
+  abbrev may : Allowances
+  may = put_changes b (shape b) (own_found b kind before own) r
+
+  block_keeps : (l : Leaf) → IsOneOf olds l → Keeps b last l.place (anything_if (is_rewritten v r (range l.first l.last)))
+  block_keeps l i = elim (either (is_rewritten v r (range l.first l.last))) [
+    | inl t ↦ rw t tt
+    | inr t ↦
+        let none : put_count first (r + 1) l ≤ 0 = grind (arith, nat_tests, t) in
+        let room = (old_plain so l i).room in
+        let o = last_old l i in
+        rw t (record { stands = behind_in put.good put.among l.place (block_behind own' l.place (place_in leaves l (so.blocks.stay l i))); size_is = old_size o (omega arith); same = λ n lt out. o.kept n lt (unwritten first (r + 1) size l n none) })
+  ]
+
+  own_keeps : (m : ℕ) → In m (variable_records own) → Keeps b last m (may.variables kind (length before) m)
+  own_keeps m (inl q) = subst (λ (x : ℕ). Keeps b last x (may.variables kind (length before) x)) (sym q) (subst (Keeps b last own.vdr) (sym (descriptor_allowed so.start.good so.start.among r)) put.descriptor)
+  own_keeps m (inr j) = elim (In-append m (nodes_of own.index ++ places_of olds) own.cpr j) [
+    | inr c ↦ absurd (subst (In m) (no_cpr so.start.good so.start.among) c)
+    | inl k ↦ elim (In-append m (nodes_of own.index) (places_of olds) k) [
+      | inl n ↦ subst (Keeps b last m) (sym (node_allowed so.start.good so.start.among r m n)) tt
+      | inr n ↦
+          let l = leaf_at olds m n in
+          subst (λ (x : ℕ). Keeps b last x (may.variables kind (length before) x)) (sym l.1.1) (subst (Keeps b last l.0.place) (sym (block_allowed so.start.good so.start.among r l.0 l.1.0)) (block_keeps l.0 l.1.0))
+    ]
+  ]
+
+  unused_keeps : (m : ℕ) → In m (unused_records b (shape b)) → Keeps b last m (unused_allowance b (shape b) acts m)
+  unused_keeps m i = elim (either (is_in m (shape b).unused)) [
+    | inl x ↦ elim (either (is_taken b acts m)) [ inl t ↦ rw (x, t) tt | inr t ↦ rw (x, t) (put.listed m (true-is_in m (shape b).unused x) t) ]
+    | inr x ↦
+        let typed = eqb-true (type_at b m) uir_type (filter-says (λ place. type_at b place == uir_type) (shape b).records m i) in
+        rw x (put.loose m (unused_in b (shape b) (sound so.start.good so.start.among) m i) typed (false-is_in m (shape b).unused x))
+  ]
+
+  pub keeps : AllKeep b last (put_changes b (shape b) (own_found b kind before own) r) acts (owned b (shape b))
+  keeps =
+      let stay = put.stay in
+      let mine = keep_places b last may acts (OneVariable kind (length before)) (variable_records own) own_keeps in
+      let parts = keep_variable_parts b last may acts kind before own after so.start.among.was (keep_variables b last may acts kind 0 before stay.front) mine (keep_variables b last may acts kind (suc (length before)) after stay.back) in
+      let both = keep_kinds b last may acts kind parts (keep_variables b last may acts (other_kind kind) 0 (shapes_of (shape b) (other_kind kind)) stay.others) in
+      keep_all b last may acts (keep_file b last may acts (sound so.start.good so.start.among) (keeps_stood b last 8 stay.cdr (Only [])) put.gdr) (keep_attributes b last may acts 0 (shape b).attributes stay.attributes) both.0 both.1
+      (keep_places b last may acts Unused (unused_records b (shape b)) unused_keeps)
 
   -- ---- in place
 
   nothing_taken : uncovered v own.index r ≡ 0 → acts ≡ []
   nothing_taken e =
-      let fits = covering_total v own.index r (ap is_sparse so.start.no_rule) so.start.small own'.index so.covered (taken_bytes acts) so.covers in
       let unpacked : packed_room v own.index r ≡ 0 = rw so.start.loose refl in
       let none : put_room v own.index r ≡ 0 = λ i. blocks_room v own.index (e i) + unpacked i in
-      none_without_bytes (space_before b) acts so.goes.follow.are so.takes (subst (λ (n : ℕ). taken_bytes acts ≤ n) none fits)
+      none_without_bytes (space_before b) acts so.goes.follow.are so.takes (subst (λ (n : ℕ). taken_bytes acts ≤ n) none so.covers.fits)
 
   raised_touches : max_rec_touches now kind own'.vdr ≡ max_rec_touches b kind own.vdr
-  raised_touches =
-      let g = so.goes.gdr_is in
-      let e = so.goes.vdr_is in
-      λ i. map (touched_field (g i)) (r_max_rec_field kind) ++ touched_field (e i) vdr_max_rec ∷ []
+  raised_touches = λ i. map (touched_field (so.goes.gdr_is i)) (r_max_rec_field kind) ++ touched_field (so.goes.vdr_is i) vdr_max_rec ∷ []
 
   in_place : stays_in_place v own r ≡ true → Changed b last (max_rec_touches b kind own.vdr ++ written_in v first r olds)
   in_place e =
-      let covered = eq_of (uncovered v own.index r) 0 (both (uncovered v own.index r == 0) _ e).0 in
-      let none = nothing_taken covered in
+      let none = nothing_taken (eq_of (uncovered v own.index r) 0 (both (uncovered v own.index r == 0) _ e).0) in
       changed_swap b last (written_in v first r olds) (max_rec_touches b kind own.vdr)
       (subst (λ (ts : List Touch). Changed b last (written_in v first r olds ++ ts)) raised_touches (changed_then b now last (put_touches first (r + 1) size olds) (max_rec_touches now kind own'.vdr) (so.blocks.quiet none) img.changed))
 
@@ -301,10 +305,7 @@ module _ {b now last : List ℕ} {kind : Kind} {before : List VariableShape} {ow
 
   some_covers : (k : ℕ) (ls : List Leaf) → list_any (covers k) (map (λ (x : Leaf). range x.first x.last) ls) ≡ true → (l : Leaf) × (find (λ (leaf : Leaf). covers k (range leaf.first leaf.last)) ls ≡ Some l)
   some_covers k [] e = absurd (true≢false (sym e))
-  some_covers k (x ∷ more) e = elim (either (covers k (range x.first x.last))) [
-    | inl t ↦ (x, rw t refl)
-    | inr t ↦ let rest : list_any (covers k) (map (λ (x : Leaf). range x.first x.last) more) ≡ true = rw t at e in let p = some_covers k more rest in (p.0, rw t p.1)
-  ]
+  some_covers k (x ∷ more) e = elim (either (covers k (range x.first x.last))) [ inl t ↦ (x, rw t refl) | inr t ↦ (let p = some_covers k more (rw t at e) in (p.0, rw t p.1)) ]
 
   unwritten_stay : UnwrittenStay b last v r own own'
   unwritten_stay k c side =
@@ -314,42 +315,25 @@ module _ {b now last : List ℕ} {kind : Kind} {before : List VariableShape} {ow
   -- ---- pads
 
   module _ (pad_stored : extent (max_rec_at b own.vdr) ≤ r → pad ≡ turned (type_of_variable b own.vdr) (is_little b) (pad_record v)) where
-    abbrev pad_bytes : List ℕ
-    pad_bytes = turned v.type (is_little last) (pad_record v)
-
-    pad_now : most ≤ r → pad ≡ pad_bytes
+    pad_now : most ≤ r → pad ≡ (turned v.type (is_little last) (pad_record v))
     pad_now le = pad_stored le ∙ ap (λ (c : Bool). turned v.type c (pad_record v)) (sym put.file.little)
 
-    new_pads : (l : Leaf) → IsOneOf leaves l → NewBlock last raw pad r first most (r + 1) size acts l → drop (stored_in v r l * size) (plain_bytes last own'.vdr l) ≡ repeat (records_of_leaf l - stored_in v r l) pad_bytes
+    new_pads : (l : Leaf) → IsOneOf leaves l → NewBlock last raw pad r first most (r + 1) size acts l → drop (stored_in v r l * size) (plain_bytes last own'.vdr l) ≡ repeat (records_of_leaf l - stored_in v r l) (turned v.type (is_little last) (pad_record v))
     new_pads l i n =
         let x = last_plain l i in
         let count = count_is l x.small x.ordered in
         let stored = stored_in v r l in
         let bytes = plain_bytes last own'.vdr l in
-        let whole : bytes ≡ take ((l.last + 1 - l.first) * size) (drop (l.place + 12) last) = rw (x.plain, count, later_size) refl in
-        let high = inside_last l i in
-        let room = x.room in
-        let part = length-drop (l.place + 12) last in
-        let long : length bytes ≡ (l.last + 1 - l.first) * size = ap length whole ∙ length-take ((l.last + 1 - l.first) * size) (drop (l.place + 12) last) ∙ omega arith in
-        let minus = mul-sub size (l.last + 1 - l.first) stored in
-        pieces_repeat (records_of_leaf l - stored) size pad_bytes (drop (stored * size) bytes)
-        (length-drop (stored * size) bytes ∙ ap (λ (m : ℕ). m - stored * size) long ∙ (let e : (l.last + 1 - l.first) * size - stored * size ≡ (l.last + 1 - l.first - stored) * size = omega arith in e) ∙ ap (λ (m : ℕ). (m - stored) * size) (sym count))
-        (λ i' lt.
-        let lt' : i' < (l.last + 1 - l.first) - stored = subst (λ (m : ℕ). i' < m - stored) count lt in
-        let p = n.upto in
-        let j = l.first + (stored + i') in
-        let t : j ≤ l.last = omega arith in
-        let past : r < j = omega arith in
+        let whole : bytes ≡ take ((l.last + 1 - l.first) * size) (drop (l.place + 12) last) = rw (x.plain, count, size_last) refl in
+        let cut = length-take ((l.last + 1 - l.first) * size) (drop (l.place + 12) last) in
+        let room = times_le (l.last + 1 - l.first) (stored + (records_of_leaf l - stored)) size (omega arith) in
+        pieces_repeat (records_of_leaf l - stored) stored size (turned v.type (is_little last) (pad_record v)) bytes (omega (arith, ap length whole)) (λ j low high.
+        let same : l.first + j - l.first ≡ j = omega arith in
+        let past : r < l.first + j = omega arith in
+        let upto : l.first + j ≤ l.last = omega arith in
         let le : most ≤ r = elim (cases_lt r most) [ inl few ↦ (let e = n.alone few in omega arith) | inr le ↦ le ] in
-        let joined : stored * size + i' * size ≡ (l.first + (stored + i') - l.first) * size = joins l.first stored i' size in
-        ap (take size) (drop-drop (i' * size) (stored * size) bytes)
-        ∙ ap (λ (m : ℕ). take size (drop m bytes)) joined
-        ∙ plain_piece last own'.vdr size j l x.plain x.small later_size (omega arith) t
-        ∙ n.written j (omega arith) t
-        ∙ pad_is j (λ e. absurd (omega arith)) ∙ pad_now le)
-      where
-        joins : (f s i n : ℕ) → s * n + i * n ≡ (f + (s + i) - f) * n
-        joins f s i n = let e : f + (s + i) - f ≡ s + i = omega arith in rw e (omega arith)
+        ap (λ (m : ℕ). take size (drop (m * size) bytes)) (sym same) ∙ plain_piece last own'.vdr size (l.first + j) l x.plain x.small size_last (omega arith) upto
+        ∙ n.written (l.first + j) (omega arith) upto ∙ pad_is (l.first + j) (λ e. absurd (omega arith)) ∙ pad_now le)
 
     padded : (l : Leaf) → IsOneOf leaves l → HoldsPads last v own'.vdr r (ranges_before_put v own.index r) l
     padded l i none = elim (last_new l i) [
@@ -360,7 +344,7 @@ module _ {b now last : List ℕ} {kind : Kind} {before : List VariableShape} {ow
     -- ---- the blocks
 
     end_is : (l : Leaf) → IsOneOf leaves l → block_end last own'.vdr l ≡ 12 + (l.last + 1 - l.first) * size
-    end_is l i = let x = last_plain l i in let count = count_is l x.small x.ordered in rw (x.plain, count, later_size) refl
+    end_is l i = let x = last_plain l i in let count = count_is l x.small x.ordered in rw (x.plain, count, size_last) refl
 
     spare : (l : Leaf) → IsOneOf leaves l → SpareIs b last own'.vdr l (is_taken_at acts l.place)
     spare l i = elim (last_new l i) [
@@ -373,11 +357,7 @@ module _ {b now last : List ℕ} {kind : Kind} {before : List VariableShape} {ow
     ]
 
     blocks : (l : Leaf) → IsOneOf leaves l → is_changed v r (ranges_of own.index) l ≡ true → BlockFollows b last v.rle own'.vdr (was_leaf olds l) acts l
-    blocks l i changed = record {
-      packed = λ e. absurd (true≢false (sym e ∙ so.start.loose));
-      spare = spare l i;
-      reserved = reserved (is_taken_at acts l.place);
-    }
+    blocks l i changed = record { packed = λ e. absurd (true≢false (sym e ∙ so.start.loose)); spare = spare l i; reserved = reserved (is_taken_at acts l.place) }
       where
         reserved : (c : Bool) → ReservedIs b last (was_leaf olds l) l c
         reserved true = λ e. absurd (true≢false (sym e ∙ (last_plain l i).plain))
@@ -391,3 +371,58 @@ module _ {b now last : List ℕ} {kind : Kind} {before : List VariableShape} {ow
       padded = each_of (HoldsPads last v own'.vdr r (ranges_before_put v own.index r)) leaves padded;
       blocks = each_of (λ (l : Leaf). is_changed v r (ranges_of own.index) l ≡ true → BlockFollows b last v.rle own'.vdr (was_leaf olds l) acts l) leaves blocks;
     }
+
+    -- ---- the whole
+
+    abbrev found : Found
+    found = own_found b kind before own
+
+    pub so_far_done : PutsRecord b last kind v r own own' acts
+    so_far_done = record { index = index_done; bytes = bytes_done; r_max_rec = img.r_max_rec }
+
+    -- ---- of the variable that has a name
+
+    was_there : slice_get (shapes_of (shape b) kind) (length before) ≡ Some own
+    was_there = ap (λ (vs : List VariableShape). slice_get vs (length before)) so.start.among.was ∙ got-middle before own after
+
+    module _ (name : List ℕ) (named : variable_named (content b) name ≡ Some found) where
+      puts_named : OfVariable b last name (λ found v v'. PutsRecord b last found.kind found.variable r v v' acts)
+      puts_named found' x x' is =
+          let q : found ≡ found' = same_Some found found' (sym named ∙ is.named) in
+          let was : own ≡ x = same_Some own x (sym was_there ∙ ap (λ (f : Found). slice_get (shapes_of (shape b) f.kind) f.number) q ∙ is.before) in
+          let now_is : own' ≡ x' = same_Some own' x' (sym (ap (λ (vs : List VariableShape). slice_get vs (length before)) put.among.was ∙ got-middle before own' after) ∙ ap (λ (f : Found). slice_get (shapes_of (shape last) f.kind) f.number) q ∙ is.after) in
+          subst (λ (f : Found). PutsRecord b last f.kind f.variable r x x' acts) q (subst (λ (y : VariableShape). PutsRecord b last kind v r y x' acts) was (subst (λ (y : VariableShape). PutsRecord b last kind v r own y acts) now_is so_far_done))
+
+      module _ (bytes : List ℕ) (raw_is : turned (type_of_variable b own.vdr) (is_little b) raw ≡ bytes) (pad_is : extent (max_rec_at b own.vdr) < r → turned (type_of_variable b own.vdr) (is_little b) pad ≡ pad_record v) where
+        follows_by : (c : Command) → only_reads c ≡ false → step (content b) c ≡ ByStep (Go (with_variable (content b) found (with_record v r bytes)) replies.Plain) → room b c ≡ put_room v own.index r → allowances b (content b) (shape b) c ≡ put_changes b (shape b) found r → Does b c last acts → Follows b c last
+        follows_by c changes goes room_is may does =
+            let fits_in : taken_bytes acts ≤ room b c = subst (λ (n : ℕ). taken_bytes acts ≤ n) (sym room_is) so.covers.fits in
+            let long = longer_by b last acts put.follow so.takes in
+            record {
+              reply = replies.Plain;
+              goes = goes ∙ ap (λ (d : DataSet). ByStep (Go d replies.Plain)) (sym (put_content so.start.good so.start.among put is_put bytes raw_is pad_is));
+              good = put.good;
+              longer = put.file.longer;
+              within = omega arith;
+              reads = λ e. absurd (true≢false (sym e ∙ changes));
+              acts = acts;
+              takes_within = fits_in;
+              acts_follow = put.follow;
+              keeps = subst (λ (a : Allowances). AllKeep b last a acts (owned b (shape b))) (sym may) keeps;
+              does = does;
+            }
+
+        may_be : (f : Found → Allowances) → (elim (variable_named (content b) name) as (λ x. Allowances) [ None ↦ stays_all | Some found ↦ f found ]) ≡ f found
+        may_be f = ap (λ (o : Option Found). elim o as (λ x. Allowances) [ None ↦ stays_all | Some found ↦ f found ]) named
+
+        room_of : (f : Found → Nodes → ℕ) → room_of_variable (content b) (shape b) name f ≡ f found own.index
+        room_of f =
+            ap (λ (o : Option Found). elim o as (λ x. ℕ) [ None ↦ 0 | Some found ↦ elim (slice_get (shapes_of (shape b) found.kind) found.number) as (λ x. ℕ) [ None ↦ 0 | Some v ↦ f found v.index ] ]) named
+            ∙ ap (λ (o : Option VariableShape). elim o as (λ x. ℕ) [ None ↦ 0 | Some v ↦ f found v.index ]) was_there
+
+        -- as `put-rec` and as `put-val`
+        pub put_rec_done : (words : List (List ℕ)) → step (content b) (commands.PutRec name r words) ≡ ByStep (Go (with_variable (content b) found (with_record v r bytes)) replies.Plain) → Follows b (commands.PutRec name r words) last
+        put_rec_done words goes = follows_by (commands.PutRec name r words) refl goes (room_of (λ found nodes. put_room found.variable nodes r)) (may_be (λ f. put_changes b (shape b) f r)) puts_named
+
+        pub put_val_done : (index : List ℕ) (words : List (List ℕ)) → step (content b) (commands.PutVal name r index words) ≡ ByStep (Go (with_variable (content b) found (with_record v r bytes)) replies.Plain) → Follows b (commands.PutVal name r index words) last
+        put_val_done index words goes = follows_by (commands.PutVal name r index words) refl goes (room_of (λ found nodes. put_room found.variable nodes r)) (may_be (λ f. put_changes b (shape b) f r)) puts_named

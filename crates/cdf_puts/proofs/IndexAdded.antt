@@ -1,17 +1,12 @@
 -- A leaf is added while records are put: the blocks of the variable, which leaves were put by then, which ranges are new, the top chain and the nodes.
-use Rattle.std.proofs.Common.{◌≡◌, ◌⊎◌, ℕ, zero, suc, ◌+◌, ◌-◌, ◌*◌, ◌<◌, ◌≤◌, List, [], ◌∷◌, ◌++◌, length, take, drop, Bool, true, false, Some, None, find, ◌||◌, refl, sym, ap, subst, ◌∙◌, arith, inl, inr, map, not, bytes_eq}
-use Rattle.cdf_puts.proofs.Common.{length-append, cases_lt, lt-ltb, same_Some, min, extent, record_number_limit, Kind, range, covers, first_written, firsts_of, new_range, with_leaf, new_room, is_taken_at, Act, IsOneOf, find_covering, place_in, plain_piece, count_is, own_rules, leaves_ascend, block_behind, StandsAmong, sound, behind_in, apart, Same, variable_of, plain_bytes, size_at, Leaf, leaf, leaves_of, uir_type, vvr_type, VariableShape, shape, In, max_rec_at, record_bytes, Good, tile_lies, LeafAdded, leaf_acts, InOrder, BlockRecords, SoFar, BlocksSoFar, OldBlock, NewBlock, IsVacant, IsBlockBody, BlocksGoOn, index_order, before_limit, vdr_alike, record_alike, map-append, filter, list_any, unwrap_or, if◌then◌else◌, new_ranges, Range, ranges_of, with_ranges, indexes_with, outline, block_need, uses_entry, NodesFollow, top_chain, last_node, in_order, Ascending, has, number, nodes_of, vdr_vxr_tail, records_of_leaf, either, bytes_eq-same, NodeTaken, with_new, leaves_more, IndexSoFar, NodesSoFar, PutsBefore, was_put}
-use Rattle.std.proofs.lemmas.Bool.Decides.{nat_tests}
-use Rattle.cdf_edits.proofs.Edits.LeafPieces.{of_each}
+use Rattle.cdf_puts.proofs.Common.{find, ◌||◌, length-append, cases_lt, lt-ltb, same_Some, min, extent, record_number_limit, Kind, range, covers, first_written, firsts_of, new_range, with_leaf, new_room, is_taken_at, Act, IsOneOf, find_covering, place_in, plain_piece, count_is, own_rules, leaves_ascend, block_behind, StandsAmong, sound, behind_in, apart, Same, variable_of, plain_bytes, size_at, Leaf, leaf, leaves_of, uir_type, vvr_type, VariableShape, shape, In, max_rec_at, record_bytes, Good, tile_lies, LeafAdded, leaf_acts, InOrder, BlockRecords, SoFar, BlocksSoFar, OldBlock, NewBlock, IsVacant, IsBlockBody, index_order, before_limit, vdr_alike, record_alike, map-append, filter, list_any, unwrap_or, if◌then◌else◌, new_ranges, Range, ranges_of, with_ranges, indexes_with, outline, block_need, uses_entry, NodesFollow, top_chain, last_node, in_order, Ascending, has, number, nodes_of, vdr_vxr_tail, records_of_leaf, either, bytes_eq-same, NodeTaken, with_new, leaves_more, IndexSoFar, NodesSoFar, PutsBefore, was_put, ◌≡◌, ◌⊎◌, ℕ, zero, suc, ◌+◌, ◌-◌, ◌*◌, ◌<◌, ◌≤◌, List, [], ◌∷◌, ◌++◌, length, take, drop, Bool, true, false, Some, None, refl, sym, ap, subst, ◌∙◌, arith, inl, inr, map, not, bytes_eq, nat_tests, of_each, last_or, TopGrows, taken_places}
 use Rattle.cdf_puts.proofs.CoveringRanges.{one_alone, of_leaves}
-use Rattle.cdf_puts.proofs.LeafCounts.{leaf_added, leaf_stays, leaf_was_there}
+use Rattle.cdf_puts.proofs.LeafCounts.{leaf_is_there, leaf_was_there}
 use Rattle.cdf_puts.proofs.LeafEdit.{block_taken, file, new_index, used_apart, node_in, node_taken, nodes_step}
 use Rattle.cdf_index.proofs.NewIndex.{index_edit}
-use Rattle.cdf_puts.proofs.LeafGood.{blocks_go_on, plain_body}
-use Rattle.cdf_puts.proofs.PutBytes.{size_now, now_plain, old_plain, old_goes_on, new_goes_on}
+use Rattle.cdf_puts.proofs.LeafEdit.{blocks_go_on, plain_body}
+use Rattle.cdf_puts.proofs.PutBytes.{size_now, now_plain, old_goes_on, new_goes_on, beside_one}
 use Rattle.cdf_puts.proofs.PutNodes.{taken_first, taken_then, taken_neither, NodesStep, nodes_then, taken_both, or_false, place_outside, same_with_leaf, same_uses, with_one_more, last_of_through, through_stays, top_grows, bytes_longer}
-use Rattle.std.specs.List.{last_or}
-use Rattle.cdf_puts.specs.SoFar.{TopGrows, taken_places}
 use Rattle.cdf_puts.proofs.SoFarStarts.{one_more, put_new, none_begins, puts_new, covers_own}
 
 -- ---- the ranges that are new
@@ -30,16 +25,10 @@ abbrev last_of : List ℕ → ℕ
 last_of xs = unwrap_or (last_or None xs) 0
 
 tail_then : (x y z : List ℕ) (first mid last : ℕ) → (y ≡ x) ⊎ (length x < length y) → (z ≡ y) ⊎ (length y < length z) → mid ≡ (if bytes_eq x y then first else last_of y) → last ≡ (if bytes_eq y z then mid else last_of z) → last ≡ (if bytes_eq x z then first else last_of z)
-tail_then x y z first mid last (inl e) g p q =
-    let same : mid ≡ first = p ∙ ap (λ (c : Bool). if c then first else last_of y) (ap (bytes_eq x) e ∙ bytes_eq-same x) in
-    q ∙ (λ i. if bytes_eq (e i) z then same i else last_of z)
-tail_then x y z first mid last (inr lt) (inl f) p q = grind (arith, bytes_longer x y lt, bytes_longer x z (omega (arith, ap length f)), bytes_eq-same y)
-tail_then x y z first mid last (inr lt) (inr lt') p q = rw (bytes_longer x z (omega arith)) (q ∙ ap (λ (c : Bool). if c then mid else last_of z) (bytes_longer y z lt'))
+tail_then x y z first mid last f g p q = grind (arith, f, g, bytes_longer x y, bytes_longer x z, bytes_longer y z, bytes_eq-same x, bytes_eq-same y)
 
 top_then : (x y z : List ℕ) → (y ≡ x) ⊎ (length x < length y) → (z ≡ y) ⊎ (length y < length z) → (z ≡ x) ⊎ (length x < length z)
-top_then x y z (inl e) g = subst (λ (w : List ℕ). (z ≡ w) ⊎ (length w < length z)) e g
-top_then x y z (inr lt) (inl f) = let same = ap length f in inr (omega arith)
-top_then x y z (inr lt) (inr lt') = inr (omega arith)
+top_then x y z f g = grind (arith, f, g)
 
 no_node_zero : (filled roomy : List ℕ) (room at : ℕ) → NodeTaken filled roomy room at → room ≡ 0 → at ≡ 0
 no_node_zero filled roomy zero at t e = t.1
@@ -54,23 +43,11 @@ module _ {b now now' : List ℕ} {kind : Kind} {before : List VariableShape} {ow
   abbrev own'' : VariableShape
   own'' = record own' { index = with_leaf new at own'.index }
 
-  abbrev size : ℕ
-  size = record_bytes b own.vdr
-
   abbrev first : ℕ
   first = first_written (variable_of b own) r
 
-  abbrev most : ℕ
-  most = extent (max_rec_at b own.vdr)
-
-  abbrev olds : List Leaf
-  olds = leaves_of own.index
-
   abbrev leaves : List Leaf
   leaves = leaves_of own'.index
-
-  abbrev leaves' : List Leaf
-  leaves' = leaves_of own''.index
 
   abbrev upto : ℕ
   upto = min (last + 1) (r + 1)
@@ -90,44 +67,33 @@ module _ {b now now' : List ℕ} {kind : Kind} {before : List VariableShape} {ow
   small : last ≤ record_number_limit
   small = before_limit k last (firsts_of own'.index) vacant.before_next
 
-  in_new : (l : Leaf) → IsOneOf leaves l → IsOneOf leaves' l
-  in_new l i = leaf_stays new at 0 record_number_limit own'.index order l i
+  in_new : (l : Leaf) → IsOneOf leaves l → IsOneOf (leaves_of own''.index) l
+  in_new l i = leaf_is_there new at 0 record_number_limit own'.index order l (inr i)
 
-  new_in : IsOneOf leaves' new
-  new_in = leaf_added new at 0 record_number_limit own'.index order
+  new_in : IsOneOf (leaves_of own''.index) new
+  new_in = leaf_is_there new at 0 record_number_limit own'.index order new (inl refl)
 
-  found_at : (j : ℕ) (l : Leaf) → IsOneOf leaves' l → l.first ≤ j → j ≤ l.last → find (λ (leaf : Leaf). covers j (range leaf.first leaf.last)) leaves' ≡ Some l
-  found_at j l i f t = find_covering j 0 (suc record_number_limit) leaves' (leaves_ascend good' among') l i f t
+  found_at : (j : ℕ) (l : Leaf) → IsOneOf (leaves_of own''.index) l → l.first ≤ j → j ≤ l.last → find (λ (leaf : Leaf). covers j (range leaf.first leaf.last)) (leaves_of own''.index) ≡ Some l
+  found_at j l i f t = find_covering j 0 (suc record_number_limit) (leaves_of own''.index) (leaves_ascend good' among') l i f t
 
   -- a leaf that was there ends before the new one, or begins behind it
-  beside_new : (l : Leaf) → IsOneOf leaves l → l.first ≤ l.last → (l.last < k) ⊎ (last < l.first)
-  beside_new l i ordered = elim (cases_lt l.last k) [
+  beside_new : (l : Leaf) → IsOneOf leaves l → (l.last < k) ⊎ (last < l.first)
+  beside_new l i = elim (beside_one k 0 (suc record_number_limit) leaves ascend l i (λ e. let clash : Some l ≡ None = sym e ∙ vacant.uncovered in cc)) [
     | inl lt ↦ inl lt
-    | inr t ↦ elim (cases_lt last l.first) [
-      | inl lt ↦ inr lt
-      | inr g ↦ elim (cases_lt k l.first) [
-        | inl lt ↦
-            let same : l ≡ new = same_Some l new (sym (found_at l.first l (in_new l i) (omega arith) ordered) ∙ found_at l.first new new_in (omega arith) g) in
-            let e : l.first ≡ k = ap (λ (y : Leaf). y.first) same in
-            absurd (omega arith)
-        | inr f ↦ let e : None ≡ Some l = sym vacant.uncovered ∙ find_covering k 0 (suc record_number_limit) leaves ascend l i f t in absurd (cc)
-      ]
-    ]
+    | inr lt ↦ elim (beside_one l.first 0 (suc record_number_limit) (leaves_of own''.index) (leaves_ascend good' among') new new_in (λ e.
+        let same = ap (λ (y : Leaf). y.first) (same_Some l new (sym (found_at l.first l (in_new l i) (omega arith) (ordered l i)) ∙ e)) in absurd (omega arith))) [ inl u ↦ inr u | inr u ↦ absurd (omega arith) ]
   ]
 
   -- ---- their bytes
 
-  goes_on : BlocksGoOn now now' own' new records
-  goes_on = blocks_go_on so.goes.good so.goes.among w holds
-
-  size_after : record_bytes now' own'.vdr ≡ size
+  size_after : record_bytes now' own'.vdr ≡ record_bytes b own.vdr
   size_after = record_alike (file so.goes.good so.goes.among w) (vdr_alike so.goes.good so.goes.among (index_edit so.goes.good so.goes.among (new_index so.goes.good so.goes.among w (plain_body body records holds)))) ∙ size_now so
 
   longer : length now ≤ length now'
   longer = (file so.goes.good so.goes.among w).longer
 
   same : (l : Leaf) → IsOneOf leaves l → Same now now' l.place (l.place + size_at now l.place)
-  same l i = of_each (λ (l : Leaf). Same now now' l.place (l.place + size_at now l.place)) leaves l goes_on.old i
+  same l i = of_each (λ (l : Leaf). Same now now' l.place (l.place + size_at now l.place)) leaves l (blocks_go_on so.goes.good so.goes.among w holds).old i
 
   leaf_apart : (l : Leaf) → IsOneOf leaves l → is_taken_at step l.place ≡ false
   leaf_apart l i = used_apart so.goes.good so.goes.among w l.place (behind_in so.goes.good so.goes.among l.place (block_behind own' l.place (place_in leaves l i))) (λ e. absurd (apart vvr_type uir_type refl (sym (now_plain so l i).typed ∙ e)))
@@ -135,34 +101,28 @@ module _ {b now now' : List ℕ} {kind : Kind} {before : List VariableShape} {ow
   more_upto : k < upto
   more_upto = let o = vacant.ordered in omega arith
 
-  old_block : (l : Leaf) → IsOneOf olds l → OldBlock b now' raw pad r first upto size l
+  old_block : (l : Leaf) → IsOneOf (leaves_of own.index) l → OldBlock b now' raw pad r first upto (record_bytes b own.vdr) l
   old_block l i =
       let j = so.blocks.stay l i in
-      let x = old_plain so l i in
-      let ordered = x.ordered in
-      let o = vacant.ordered in
-      elim (beside_new l j ordered) [
-        | inl lt ↦ old_goes_on so longer l (same l j) i (let m = more_upto in omega arith) (λ j' from low f t. (omega arith))
-        | inr lt ↦ old_goes_on so longer l (same l j) i (omega arith) (λ j' from low f t. absurd (omega arith))
-      ]
+      let side = beside_new l j in
+      old_goes_on so longer l (same l j) i (omega (arith, more_upto)) (λ j' from low f t. omega arith)
 
-  new_block : NewBlock now' raw pad r first most upto size (acts ++ step) new
+  new_block : NewBlock now' raw pad r first (extent (max_rec_at b own.vdr)) upto (record_bytes b own.vdr) (acts ++ step) new
   new_block = record {
-    from = so.from;
+    from = so.covers.from;
     upto = more_upto;
     ends = λ lt. omega arith;
-    alone = λ lt. subst (λ (n : ℕ). n ≤ r) (sym (is ∙ one_alone (variable_of b own) (firsts_of own'.index) k (lt-ltb k most (omega arith)))) more;
+    alone = λ lt. subst (λ (n : ℕ). n ≤ r) (sym (is ∙ one_alone (variable_of b own) (firsts_of own'.index) k (lt-ltb k (extent (max_rec_at b own.vdr)) (omega arith)))) more;
     plain = refl;
     was_taken = taken_then acts step place (block_taken place (8 + length body) (new_room k own'.index) at);
-    written = λ j f t. sym (plain_piece now' own'.vdr size j new refl small size_after f t) ∙ ap (λ (xs : List ℕ). take size (drop ((j - k) * size) xs)) plain_is ∙ says.written j f t;
-    spare = λ i low high. goes_on.spare i (subst (λ (n : ℕ). 12 + n ≤ i) (sym says.as_long) low) high;
+    written = λ j f t. sym (plain_piece now' own'.vdr (record_bytes b own.vdr) j new refl small size_after f t) ∙ ap (λ (xs : List ℕ). take (record_bytes b own.vdr) (drop ((j - k) * (record_bytes b own.vdr)) xs)) plain_is ∙ says.written j f t;
+    spare = λ i low high. (blocks_go_on so.goes.good so.goes.among w holds).spare i (subst (λ (n : ℕ). 12 + n ≤ i) (sym says.as_long) low) high;
   }
     where
       plain_is : plain_bytes now' own'.vdr new ≡ records
       plain_is =
           let count = count_is new small vacant.ordered in
-          let bytes = size_after in
-          ap (λ (n : ℕ). take n (drop (place + 12) now')) ((λ i. count i * bytes i) ∙ sym says.as_long) ∙ goes_on.records_are
+          ap (λ (n : ℕ). take n (drop (place + 12) now')) ((λ i. count i * size_after i) ∙ sym says.as_long) ∙ (blocks_go_on so.goes.good so.goes.among w holds).records_are
 
   pub blocks_added : BlocksSoFar b now' own own'' raw pad r first upto (acts ++ step)
   blocks_added = record {
@@ -170,16 +130,10 @@ module _ {b now now' : List ℕ} {kind : Kind} {before : List VariableShape} {ow
     apart = λ l i. taken_neither acts step l.place (so.blocks.apart l i) (leaf_apart l (so.blocks.stay l i));
     old = old_block;
     new = λ l i. elim (leaf_was_there new at 0 record_number_limit own'.index order l i) [
-      | inl q ↦ inr (subst (NewBlock now' raw pad r first most upto size (acts ++ step)) (sym q) new_block)
-      | inr j ↦ elim (so.blocks.new l j) [
-        | inl o ↦ inl o
-        | inr n ↦ inr (new_goes_on so longer l (same l j) j (let m = more_upto in omega arith) (taken_first acts step l.place n.was_taken) n)
-      ]
+      | inl q ↦ inr (subst (NewBlock now' raw pad r first (extent (max_rec_at b own.vdr)) upto (record_bytes b own.vdr) (acts ++ step)) (sym q) new_block)
+      | inr j ↦ elim (so.blocks.new l j) [ inl o ↦ inl o | inr n ↦ inr (new_goes_on so longer l (same l j) j (let m = more_upto in omega arith) (taken_first acts step l.place n.was_taken) n) ]
     ];
-    has = λ j from low. elim (cases_lt j k) [
-      | inl lt ↦ let x = so.blocks.has j from lt in (x.0, (in_new x.0 x.1.0, x.1.1))
-      | inr le ↦ (new, (new_in, (le, omega arith)))
-    ];
+    has = λ j from low. elim (cases_lt j k) [ inl lt ↦ let x = so.blocks.has j from lt in (x.0, (in_new x.0 x.1.0, x.1.1)) | inr le ↦ (new, (new_in, (le, omega arith))) ];
     quiet = λ e. (let none = ap length e in let both = length-append acts step in absurd (omega arith));
   }
 
@@ -195,14 +149,12 @@ module _ {b now now' : List ℕ} {kind : Kind} {before : List VariableShape} {ow
 
   needs : (end : List ℕ) → record_bytes end own.vdr ≡ record_bytes b own.vdr → 8 + length body ≡ block_need end own.vdr new
   needs end same =
-      let count = count_is new small vacant.ordered in
-      let plain : records_of_leaf new * record_bytes end own.vdr ≡ length records = (λ i. count i * same i) ∙ sym says.as_long in
-      let long = holds.as_long in
+      let plain : records_of_leaf new * record_bytes end own.vdr ≡ length records = (λ i. (count_is new small vacant.ordered) i * same i) ∙ sym says.as_long in
       omega arith
 
   puts_added : PutsBefore b own own'' (filter (was_put first upto) (leaves_of own''.index)) (acts ++ step)
   puts_added =
-      let one = put_new first k upto 0 (suc record_number_limit) leaves new ascend (λ l i. beside_new l i (ordered l i)) refl so.from (let o = vacant.ordered in omega arith) (omega arith) in
+      let one = put_new first k upto 0 (suc record_number_limit) leaves new ascend (λ l i. beside_new l i) refl so.covers.from (let o = vacant.ordered in omega arith) (omega arith) in
       subst (λ (ls : List Leaf). PutsBefore b own own'' ls (acts ++ step)) (sym (ap (filter (was_put first upto)) leaves_are ∙ one))
       (puts_new b own own' (filter (was_put first k) leaves) acts new (8 + length body) at so.index.puts (none_begins k 0 (suc record_number_limit) leaves ascend vacant.uncovered) needs (no_node_zero w.filled w.roomy (new_room k own'.index) at w.node))
 
@@ -217,14 +169,14 @@ module _ {b now now' : List ℕ} {kind : Kind} {before : List VariableShape} {ow
   one_new : new_ranges (ranges_of own.index) (ranges_of own''.index) ≡ rs ++ range k last ∷ []
   one_new =
       let rng = λ (l : Leaf). range l.first l.last in
-      let one = one_more (λ l. test (rng l)) (λ l. test (rng l)) 0 (suc record_number_limit) leaves new ascend (ap not (none_covers k olds (λ l i. out l (so.blocks.stay l i)))) (λ l i le. refl) (λ l i lt. let e = ap not (was_there l i lt (so.blocks.new l i)) in (e, e)) in
+      let one = one_more (λ l. test (rng l)) (λ l. test (rng l)) 0 (suc record_number_limit) leaves new ascend (ap not (none_covers k (leaves_of own.index) (λ l i. out l (so.blocks.stay l i)))) (λ l i le. refl) (λ l i lt. let e = ap not (was_there l i lt (so.blocks.new l i)) in (e, e)) in
       ap (λ (ls : List Leaf). filter test (map rng ls)) leaves_are ∙ filter_mapped rng test (with_new new leaves) ∙ ap (map rng) one ∙ map-append rng (filter (λ l. test (rng l)) leaves) (new ∷ []) ∙ ap (λ (xs : List Range). xs ++ range k last ∷ []) (sym (filter_mapped rng test leaves))
     where
       out : (l : Leaf) → IsOneOf leaves l → (l.last < k) ⊎ (k < l.first)
-      out l i = elim (beside_new l i (ordered l i)) [ inl lt ↦ inl lt | inr lt ↦ inr (let o = vacant.ordered in omega arith) ]
+      out l i = elim (beside_new l i) [ inl lt ↦ inl lt | inr lt ↦ inr (let o = vacant.ordered in omega arith) ]
 
-      was_there : (l : Leaf) → IsOneOf leaves l → k < l.first → IsOneOf olds l ⊎ NewBlock now raw pad r first most k (record_bytes b own.vdr) acts l → list_any (covers l.first) (ranges_of own.index) ≡ true
-      was_there l i lt (inl o) = covers_own olds l o (ordered l i)
+      was_there : (l : Leaf) → IsOneOf leaves l → k < l.first → IsOneOf (leaves_of own.index) l ⊎ NewBlock now raw pad r first (extent (max_rec_at b own.vdr)) k (record_bytes b own.vdr) acts l → list_any (covers l.first) (ranges_of own.index) ≡ true
+      was_there l i lt (inl o) = covers_own (leaves_of own.index) l o (ordered l i)
       was_there l i lt (inr x) = let u = x.upto in absurd (omega arith)
 
   -- ---- the nodes

@@ -1,15 +1,11 @@
 -- What a leaf more makes of the nodes, the Firsts and the leaves of an index, and of how wide its nodes are and which room they have.
-use Rattle.std.proofs.Common.{◌≡◌, ◌⊎◌, ℕ, zero, suc, ◌+◌, ◌≤◌, max, List, [], ◌∷◌, ◌++◌, Bool, false, ltb, append_assoc, refl, sym, ap, subst, ◌∙◌, arith, inl, inr}
-use Rattle.cdf_puts.proofs.Common.{eqb-true, eq-eqb, le-ltb, ◌==◌, filter, fold, min, nat_lt, record_number_limit, next_first, with_both, places_of, IsOneOf, times-append, Nodes, no_node, node, Entries, no_entry, block, lower, Leaf, leaf, leaves_of, entry_count, room_at, times, Each, NodeFits, In, either, with_new, InOrder, leaves_more}
-use Rattle.std.specs.Prelude.{if◌then◌else◌}
+use Rattle.cdf_puts.proofs.Common.{max, eqb-true, eq-eqb, le-ltb, ◌==◌, filter, fold, min, nat_lt, record_number_limit, next_first, with_both, places_of, IsOneOf, times-append, Nodes, no_node, node, Entries, no_entry, block, lower, Leaf, leaf, leaves_of, entry_count, room_at, times, Each, NodeFits, In, either, with_new, InOrder, leaves_more, ◌≡◌, ◌⊎◌, ℕ, zero, suc, ◌+◌, ◌≤◌, List, [], ◌∷◌, ◌++◌, Bool, false, append_assoc, refl, sym, ap, subst, ◌∙◌, arith, inl, inr, if◌then◌else◌, with_leaf, new_room, with_block, Each-split, Grows, by_leaf, weight_grows}
 use Rattle.std.proofs.lemmas.List.Elements.{filter-append}
 use Rattle.cdf_edits.specs.Commands.Room.{widest, widest_below}
 use Rattle.cdf_edits.specs.Index.Blocks.{firsts_of, entry_firsts}
-use Rattle.cdf_edits.specs.Index.Grown.{with_leaf, new_room, with_block}
 use Rattle.cdf_format.specs.Index.{nodes_of, lower_nodes}
 use Rattle.cdf_format.specs.IndexOf.{HasNodes, Names}
-use Rattle.cdf_format.proofs.ShapeLemmas.{Each-split}
-use Rattle.cdf_index.proofs.ByLeaf.{Grows, by_leaf, weigh, weigh_below, weight_grows}
+use Rattle.cdf_index.proofs.ByLeaf.{weigh, weigh_below}
 use Rattle.cdf_index.proofs.Measured.{seven_at_least}
 use Rattle.cdf_index.proofs.Saying.{count_both}
 
@@ -43,7 +39,7 @@ differs now place room = if room_at now place == room then 0 else 1
 
 none_differs : (now ms : List ℕ) → total now (differs now) ms ≡ 0
 none_differs now [] = refl
-none_differs now (m ∷ ms) = let same = eq-eqb (room_at now m) (room_at now m) refl in rw same (omega (arith, none_differs now ms))
+none_differs now (m ∷ ms) = grind (arith, eq-eqb (room_at now m) (room_at now m) refl, none_differs now ms)
 
 same_rooms : (b now ms : List ℕ) → total b (differs now) ms ≡ 0 → (m : ℕ) → In m ms → room_at now m ≡ room_at b m
 same_rooms b now [] z m i = absurd i
@@ -97,23 +93,16 @@ places_new m l (x ∷ xs) = grind (arith, times-append m (l.place ∷ []) (place
 pub places_with_leaf : (new : Leaf) (at low high : ℕ) (index : Nodes) → InOrder low high index → (m : ℕ) → times m (places_of (leaves_of (with_leaf new at index))) ≡ times m (places_of (leaves_of index)) + times m (new.place ∷ [])
 places_with_leaf new at low high index o m = ap (λ (xs : List Leaf). times m (places_of xs)) (leaves_more new at low high index o) ∙ places_new m new (leaves_of index)
 
-old_new : (l x : Leaf) (xs : List Leaf) → IsOneOf xs x → IsOneOf (with_new l xs) x
-old_new l x [] i = absurd i
-old_new l x (y ∷ ys) i = grind (arith, old_new l x ys)
-
-new_new : (l : Leaf) (xs : List Leaf) → IsOneOf (with_new l xs) l
-new_new l [] = inl refl
-new_new l (y ∷ ys) = elim (either (ltb l.first y.first)) [ inl t ↦ rw t (inl refl) | inr t ↦ rw t (inr (new_new l ys)) ]
+with_new_has : (l x : Leaf) (xs : List Leaf) → (x ≡ l) ⊎ IsOneOf xs x → IsOneOf (with_new l xs) x
+with_new_has l x [] i = grind (arith, i)
+with_new_has l x (y ∷ ys) i = grind (arith, i, with_new_has l x ys)
 
 one_new : (l x : Leaf) (xs : List Leaf) → IsOneOf (with_new l xs) x → (x ≡ l) ⊎ IsOneOf xs x
 one_new l x [] i = elim i [ inl e ↦ inl (sym e) | inr j ↦ absurd j ]
 one_new l x (y ∷ ys) i = grind (arith, one_new l x ys)
 
-pub leaf_stays : (new : Leaf) (at low high : ℕ) (index : Nodes) → InOrder low high index → (l : Leaf) → IsOneOf (leaves_of index) l → IsOneOf (leaves_of (with_leaf new at index)) l
-leaf_stays new at low high index o l i = rw (leaves_more new at low high index o) (old_new new l (leaves_of index) i)
-
-pub leaf_added : (new : Leaf) (at low high : ℕ) (index : Nodes) → InOrder low high index → IsOneOf (leaves_of (with_leaf new at index)) new
-leaf_added new at low high index o = rw (leaves_more new at low high index o) (new_new new (leaves_of index))
+pub leaf_is_there : (new : Leaf) (at low high : ℕ) (index : Nodes) → InOrder low high index → (l : Leaf) → (l ≡ new) ⊎ IsOneOf (leaves_of index) l → IsOneOf (leaves_of (with_leaf new at index)) l
+leaf_is_there new at low high index o l i = rw (leaves_more new at low high index o) (with_new_has new l (leaves_of index) i)
 
 pub leaf_was_there : (new : Leaf) (at low high : ℕ) (index : Nodes) → InOrder low high index → (l : Leaf) → IsOneOf (leaves_of (with_leaf new at index)) l → (l ≡ new) ⊎ IsOneOf (leaves_of index) l
 leaf_was_there new at low high index o l i = one_new new l (leaves_of index) (rw (leaves_more new at low high index o) at i)
@@ -140,8 +129,6 @@ mutual
   roomy b records zero (node place room es more) h f = absurd h
   roomy b records (suc levels) (node place room es more) h f =
       let p = Each-split (NodeFits b) (lower_nodes es) (nodes_of more) f.1 in
-      let same = h.0.used_is in
-      let wide = h.0.room_is in
       let fits = f.0.1 in
       (omega arith, roomy_below b records levels es h.1 p.0, roomy b records (suc levels) more h.2 p.1)
 
@@ -181,9 +168,7 @@ wide_grows new at = record {
       let b = widest_both es fs in
       let c = widest_both es (with_block new no_entry) in
       let count = count_both es fs in
-      let few = r.0 in
       let s = seven_at_least more in
-      let t = seven_below es in
       (omega arith, omega arith);
 }
 

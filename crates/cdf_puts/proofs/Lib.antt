@@ -7,15 +7,10 @@ pub mod IndexWritten
 pub mod LastImage
 pub mod LeafCounts
 pub mod LeafEdit
-pub mod LeafGood
 pub mod PutBytes
-pub mod PutMeaning
 pub mod PutNodes
 pub mod PutRoom
 pub mod PutRules
 pub mod RaisedGoes
-pub mod SoFarDone
 pub mod SoFarStarts
-pub mod WrittenGoes
-pub mod NewBlocks
 pub mod PutSpot

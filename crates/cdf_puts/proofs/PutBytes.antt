@@ -1,15 +1,27 @@
 -- The bytes of the blocks while records are put: what a record that is written leaves of them, and what a leaf that is added does.
-use Rattle.std.proofs.Common.{◌≡◌, ◌⊎◌, ℕ, suc, ◌+◌, ◌-◌, ◌*◌, ◌<◌, ◌≤◌, List, length, true, sym, ap, subst, ◌∙◌, arith, inl, inr}
-use Rattle.cdf_puts.proofs.Common.{cases_eq, min, max, is_taken_at, Act, times_le, byte, Same, size_at, Leaf, leaves_of, Same-part, piece_kept, size_kept, word_kept, put_count, put_from, record_of, OldBlock, NewBlock, SoFar, Kind, VariableShape, record_bytes, max_rec_at, extent, first_written, variable_of, IsOneOf, PlainLeaf, plain_leaf, place_in, block_behind, behind_in, sound, tile_lies, shape}
-use Rattle.cdf_puts.specs.SoFar.{RecordIs}
+use Rattle.cdf_puts.proofs.Common.{refl, ◌++◌, take_at, drop_at, length-take, cases_eq, min, max, is_taken_at, Act, times_le, byte, Same, size_at, Leaf, leaves_of, Same-part, piece_kept, size_kept, word_kept, put_count, put_from, record_of, OldBlock, NewBlock, SoFar, Kind, VariableShape, record_bytes, max_rec_at, extent, first_written, variable_of, IsOneOf, PlainLeaf, plain_leaf, place_in, block_behind, behind_in, sound, tile_lies, shape, ◌≡◌, ◌⊎◌, ℕ, suc, ◌+◌, ◌-◌, ◌*◌, ◌<◌, ◌≤◌, List, length, true, sym, ap, subst, ◌∙◌, arith, inl, inr, RecordIs, take, drop, length-take, drop_at, ◌++◌, Ascending, find, covers, range, Some, cases_lt, taken, upto, find_covering, long}
 use Rattle.cdf_puts.proofs.GoesThen.{later_size, later_packed}
-use Rattle.cdf_puts.proofs.WrittenGoes.{record_fits}
+use Rattle.cdf_base.specs.Bytes.{put}
 
 -- bytes that stay, counted from a place
 pub by_offsets : (b now : List ℕ) (place lo hi : ℕ) → ((i : ℕ) → lo ≤ i → i < hi → byte now (place + i) ≡ byte b (place + i)) → Same b now (place + lo) (place + hi)
 by_offsets b now place lo hi f = record { each = λ p low high. let q : place + (p - place) ≡ p = omega arith in subst (λ (y : ℕ). byte now y ≡ byte b y) q (f (p - place) (omega arith) (omega arith)) }
 
+-- a leaf that is not the one of a record ends before it, or begins behind it
+pub beside_one : (k low upto : ℕ) (leaves : List Leaf) → Ascending low upto leaves → (l : Leaf) → IsOneOf leaves l → (find (λ (leaf : Leaf). covers k (range leaf.first leaf.last)) leaves ≡ Some l → ⊥) → (l.last < k) ⊎ (k < l.first)
+beside_one k low upto leaves a l i out = elim (cases_lt l.last k) [ inl lt ↦ inl lt | inr t ↦ elim (cases_lt k l.first) [ inl lt ↦ inr lt | inr f ↦ absurd (out (find_covering k low upto leaves a l i f t)) ] ]
+
+-- bytes are read where they were put
+pub put_there : (b : List ℕ) (place : ℕ) (xs : List ℕ) → place ≤ length b → take (length xs) (drop place (put b place xs)) ≡ xs
+unfolding put
+put_there b place xs le =
+    let front : length (take place b) ≡ place = omega (arith, length-take place b) in
+    ap (take (length xs)) (drop_at (take place b) (xs ++ drop (place + length xs) b) place front) ∙ take_at xs (drop (place + length xs) b) (length xs) refl
+
 -- ---- where a record stands in its block
+
+pub record_fits : (k f t size : ℕ) → f ≤ k → k ≤ t → 12 + (k - f) * size + size ≤ 12 + (t + 1 - f) * size
+record_fits k f t size a c = let p = times_le (suc (k - f)) (t + 1 - f) size (omega arith) in omega arith
 
 -- records of one block do not meet
 records_apart : (j k f size : ℕ) → f ≤ j → j < k → 12 + (j - f) * size + size ≤ 12 + (k - f) * size
@@ -55,7 +67,6 @@ pub new_stays : {mid now raw pad : List ℕ} {r first most k k' size : ℕ} {act
     → k ≤ k' → is_taken_at acts' l.place ≡ true → NewBlock now raw pad r first most k' size acts' l
 new_stays {mid = mid} {now = now} {raw = raw} {pad = pad} {r = r} {first = first} {k = k} {k' = k'} {size = size} {l = l} longer o ordered room inside same more taken =
     let size_same = size_kept mid now l.place same (omega arith) in
-    let upto = o.upto in
     record {
       from = o.from;
       upto = omega arith;
@@ -91,29 +102,24 @@ old_written {b = b} {mid = mid} {now = now} {raw = raw} {pad = pad} {r = r} {fir
 }
   where
     now_beside : (i : ℕ) → (i < put_from first size l) ⊎ (put_from first size l + put_count first (k + 1) l * size ≤ i) → (i < 12 + (k - l.first) * size) ⊎ (12 + (k - l.first) * size + size ≤ i)
-    now_beside i (inl lt) = let s = starts_before first k l.first size begins from in inl (omega arith)
-    now_beside i (inr le) = inr (subst (λ (n : ℕ). n ≤ i) (ends_behind first k l.first l.last size begins ends from) le)
+    now_beside i side = grind (arith, side, starts_before first k l.first size begins from, ends_behind first k l.first l.last size begins ends from)
 
     was_beside : (i : ℕ) → (i < put_from first size l) ⊎ (put_from first size l + put_count first (k + 1) l * size ≤ i) → (i < put_from first size l) ⊎ (put_from first size l + put_count first k l * size ≤ i)
-    was_beside i (inl lt) = inl lt
-    was_beside i (inr le) = let g = grows_by first k l.first l.last size in inr (omega arith)
+    was_beside i side = grind (arith, side, grows_by first k l.first l.last size)
 
 -- ---- the blocks of a variable in which records are put
 
 module _ {b now : List ℕ} {kind : Kind} {before : List VariableShape} {own own' : VariableShape} {after : List VariableShape} {raw pad : List ℕ} {r k : ℕ} {acts : List Act} (so : SoFar b now kind before own own' after raw pad r k acts) where
-  abbrev size : ℕ
-  size = record_bytes b own.vdr
-
   abbrev first : ℕ
   first = first_written (variable_of b own) r
 
-  pub size_now : record_bytes now own'.vdr ≡ size
+  pub size_now : record_bytes now own'.vdr ≡ record_bytes b own.vdr
   size_now = later_size so.start.good so.start.among so.goes
 
-  pub now_plain : (l : Leaf) → IsOneOf (leaves_of own'.index) l → PlainLeaf now size l
+  pub now_plain : (l : Leaf) → IsOneOf (leaves_of own'.index) l → PlainLeaf now (record_bytes b own.vdr) l
   now_plain l i = subst (λ (n : ℕ). PlainLeaf now n l) size_now (plain_leaf so.goes.good so.goes.among (later_packed so.start.good so.start.among so.goes ∙ so.start.loose) l i)
 
-  pub old_plain : (l : Leaf) → IsOneOf (leaves_of own.index) l → PlainLeaf b size l
+  pub old_plain : (l : Leaf) → IsOneOf (leaves_of own.index) l → PlainLeaf b (record_bytes b own.vdr) l
   old_plain = plain_leaf so.start.good so.start.among so.start.loose
 
   pub inside_now : (l : Leaf) → IsOneOf (leaves_of own'.index) l → l.place + size_at now l.place ≤ length now
@@ -124,12 +130,11 @@ module _ {b now : List ℕ} {kind : Kind} {before : List VariableShape} {own own
 
   -- those in which nothing is written go on to another image
   module _ {now' : List ℕ} (longer : length now ≤ length now') {k' : ℕ} (l : Leaf) (same : Same now now' l.place (l.place + size_at now l.place)) where
-    pub old_goes_on : IsOneOf (leaves_of own.index) l → put_count first k' l ≡ put_count first k l → ((j : ℕ) → first ≤ j → j < k' → l.first ≤ j → j ≤ l.last → j < k) → OldBlock b now' raw pad r first k' size l
+    pub old_goes_on : IsOneOf (leaves_of own.index) l → put_count first k' l ≡ put_count first k l → ((j : ℕ) → first ≤ j → j < k' → l.first ≤ j → j ≤ l.last → j < k) → OldBlock b now' raw pad r first k' (record_bytes b own.vdr) l
     old_goes_on i count none =
         let room = (old_plain l i).room in
         let inside = inside_old l i in
-        let grows = so.goes.longer in
         old_stays longer (so.blocks.old l i) room (omega arith) (subst (λ (n : ℕ). Same now now' l.place (l.place + n)) (old_size (so.blocks.old l i) (omega arith)) same) count none
 
-    pub new_goes_on : {acts' : List Act} → IsOneOf (leaves_of own'.index) l → k ≤ k' → is_taken_at acts' l.place ≡ true → NewBlock now raw pad r first (extent (max_rec_at b own.vdr)) k size acts l → NewBlock now' raw pad r first (extent (max_rec_at b own.vdr)) k' size acts' l
+    pub new_goes_on : {acts' : List Act} → IsOneOf (leaves_of own'.index) l → k ≤ k' → is_taken_at acts' l.place ≡ true → NewBlock now raw pad r first (extent (max_rec_at b own.vdr)) k (record_bytes b own.vdr) acts l → NewBlock now' raw pad r first (extent (max_rec_at b own.vdr)) k' (record_bytes b own.vdr) acts' l
     new_goes_on i more taken n = let x = now_plain l i in new_stays longer n x.ordered x.room (inside_now l i) same more taken

@@ -1,18 +1,11 @@
 -- The nodes of an index that grows leaf by leaf: the index but for where its blocks and its new nodes stand, its top chain, and the unused entries and spare bytes of its nodes.
-use Rattle.std.proofs.Common.{◌≡◌, ℕ, zero, suc, ◌<◌, List, [], ◌∷◌, ◌++◌, length, Bool, true, false, ltb, leb, eqb, refl, sym, ap, subst, ◌∙◌, arith, inl, inr, ◌⊎◌, ◌+◌, ◌*◌, ◌≤◌, not, ◌&&◌, ◌||◌, true≢false}
-use Rattle.cdf_puts.proofs.Common.{eq-eqb, ne_eqb, lt-ltb, list_any, ◌&&◌, ◌||◌, if◌then◌else◌, Range, with_both, with_ranges, is_in, Nodes, no_node, node, Entries, no_entry, block, lower, Leaf, leaf, entry_count, used_count, In, either, In-append, In-append_left, In-append_right, same_of_bytes_eq, le-leb, lt-leb, cases_lt, ◌==◌, nat_le, is_taken_at, uses_entry, UnusedEntries, NodeSpareStays, NodesFollow, Act, Took, Gave, Kept, Each-in, Same, size_at, nodes_of, room_at, Each, NodeFits, Same-part, is_in-true, true-is_in, both, le_of}
-use Rattle.std.proofs.lemmas.Bool.{and_from, both_ways, or_left, or_right, and_right, or_from, or_parts}
+use Rattle.cdf_puts.proofs.Common.{eq-eqb, ne_eqb, lt-ltb, list_any, ◌&&◌, ◌||◌, if◌then◌else◌, Range, with_both, with_ranges, is_in, Nodes, no_node, node, Entries, no_entry, block, lower, Leaf, leaf, entry_count, used_count, In, either, In-append, In-append_left, In-append_right, same_of_bytes_eq, le-leb, lt-leb, cases_lt, nat_le, is_taken_at, uses_entry, UnusedEntries, NodeSpareStays, NodesFollow, Act, Took, Gave, Kept, Each-in, Same, size_at, nodes_of, room_at, Each, NodeFits, Same-part, is_in-true, true-is_in, both, le_of, ◌≡◌, ℕ, zero, suc, ◌<◌, List, [], ◌∷◌, ◌++◌, length, Bool, true, false, ltb, leb, eqb, refl, sym, ap, subst, ◌∙◌, arith, inl, inr, ◌⊎◌, ◌+◌, ◌*◌, ◌≤◌, not, and_from, both_ways, or_left, or_right, and_right, entries_outline, upto, chain_reaches, leads_down, past, reaches, with_entry, was_unused, EntryIs, first_at, last_at, offset_at, TopGrows, each, Grows, by_leaf, same-then}
 use Rattle.std.proofs.lemmas.List.Folds.{list_any-append}
 use Rattle.std.specs.Prelude.{bytes_eq}
-use Rattle.cdf_edits.specs.Index.Grown.{with_leaf, with_lower, indexes_with, outline, entries_outline, upto, chain_reaches, leads_down, past, reaches, with_entry}
-use Rattle.cdf_edits.specs.Index.Written.{uses_entry, uses_entry_below, was_unused, EntryIs}
-use Rattle.cdf_format.specs.Index.{nodes_of, lower_nodes, first_at, last_at, offset_at}
+use Rattle.cdf_edits.specs.Index.Grown.{with_leaf, with_lower, indexes_with, outline}
+use Rattle.cdf_edits.specs.Index.Written.{uses_entry, uses_entry_below}
+use Rattle.cdf_format.specs.Index.{nodes_of, lower_nodes}
 use Rattle.cdf_format.specs.IndexOf.{HasNodes, Names, SaysEntry}
-use Rattle.cdf_puts.specs.SoFar.{TopGrows}
-use Rattle.cdf_edits.proofs.Space.ActsLeave.{each}
-use Rattle.cdf_index.proofs.ByLeaf.{Grows, by_leaf}
-use Rattle.std.proofs.Math.Bool.{or_assoc}
-use Rattle.cdf_edits.proofs.Edits.Composing.{same-then}
 use Rattle.cdf_edits.proofs.Frame.LinksStay.{SameHeads, room_same, used_same, entry_same}
 
 -- ---- an outline says the same of an index as the index does
@@ -84,7 +77,7 @@ module _ (news : List ℕ) where
     outline_with_lower new at (block first last place packed es) = ap (block first last 0 false) (outline_with_lower new at es)
     outline_with_lower new at (lower first last nodes es) = grind (arith, reaches_outline new.first es, outline_with_leaf new at nodes, outline_with_lower new at es)
 
-  -- ---- how much room a new node has, Firsts, and which entries are used
+  -- ---- which entries are used
 
   module _ (vxr i : ℕ) (old : is_in vxr news ≡ false) (stands : vxr ≡ 0 → ⊥) where
     same_place : (place : ℕ) → eqb (place_outside news place) vxr ≡ eqb place vxr
@@ -112,18 +105,15 @@ mutual
   pub outline_agrees : (news news' : List ℕ) (index : Nodes) → ((m : ℕ) → In m (nodes_of index) → is_in m news' ≡ is_in m news) → outline news' index ≡ outline news index
   outline_agrees news news' no_node same = refl
   outline_agrees news news' (node place room es more) same =
-      let here = same place (inl refl) in
-      let lower = entries_agree news news' es (λ m i. same m (inr (In-append_left m (lower_nodes es) (nodes_of more) i))) in
       let rest = outline_agrees news news' more (λ m i. same m (inr (In-append_right m (lower_nodes es) (nodes_of more) i))) in
-      λ k. node (if here k then 0 else place) room (lower k) (rest k)
+      λ k. node (if (same place (inl refl)) k then 0 else place) room ((entries_agree news news' es (λ m i. same m (inr (In-append_left m (lower_nodes es) (nodes_of more) i)))) k) (rest k)
 
   pub entries_agree : (news news' : List ℕ) (es : Entries) → ((m : ℕ) → In m (lower_nodes es) → is_in m news' ≡ is_in m news) → entries_outline news' es ≡ entries_outline news es
   entries_agree news news' no_entry same = refl
   entries_agree news news' (block first last place packed es) same = ap (block first last 0 false) (entries_agree news news' es same)
   entries_agree news news' (lower first last nodes es) same =
-      let below = outline_agrees news news' nodes (λ m i. same m (In-append_left m (nodes_of nodes) (lower_nodes es) i)) in
       let rest = entries_agree news news' es (λ m i. same m (In-append_right m (nodes_of nodes) (lower_nodes es) i)) in
-      λ k. lower first last (below k) (rest k)
+      λ k. lower first last ((outline_agrees news news' nodes (λ m i. same m (In-append_left m (nodes_of nodes) (lower_nodes es) i))) k) (rest k)
 
 -- ---- two indexes with the same outline, where new nodes stand at 0 in the second
 
@@ -153,18 +143,12 @@ module _ (b records : List ℕ) (vxr i : ℕ) (used : i < used_count b vxr) wher
     used_in levels no_node h m = absurd m
     used_in zero (node place room es more) h m = absurd h
     used_in (suc levels) (node place room es more) h (inl e) = or_left (eqb place vxr && ltb i (entry_count es)) (uses_entry_below vxr i es || uses_entry vxr i more) (here place es e h.0.used_is)
-    used_in (suc levels) (node place room es more) h (inr m) = elim (In-append vxr (lower_nodes es) (nodes_of more) m) [
-      | inl k ↦ or_right (eqb place vxr && ltb i (entry_count es)) (uses_entry_below vxr i es || uses_entry vxr i more) (or_left (uses_entry_below vxr i es) (uses_entry vxr i more) (used_below levels es h.1 k))
-      | inr k ↦ or_right (eqb place vxr && ltb i (entry_count es)) (uses_entry_below vxr i es || uses_entry vxr i more) (or_right (uses_entry_below vxr i es) (uses_entry vxr i more) (used_in (suc levels) more h.2 k))
-    ]
+    used_in (suc levels) (node place room es more) h (inr m) = grind (arith, In-append vxr (lower_nodes es) (nodes_of more) m, used_below levels es h.1, used_in (suc levels) more h.2)
 
     pub used_below : (levels : ℕ) (es : Entries) → Names b records levels es → In vxr (lower_nodes es) → uses_entry_below vxr i es ≡ true
     used_below levels no_entry n m = absurd m
     used_below levels (block first last place packed es) n m = used_below levels es n.2 m
-    used_below levels (lower first last nodes es) n m = elim (In-append vxr (nodes_of nodes) (lower_nodes es) m) [
-      | inl k ↦ or_left (uses_entry vxr i nodes) (uses_entry_below vxr i es) (used_in levels nodes n.1 k)
-      | inr k ↦ or_right (uses_entry vxr i nodes) (uses_entry_below vxr i es) (used_below levels es n.2 k)
-    ]
+    used_below levels (lower first last nodes es) n m = grind (arith, In-append vxr (nodes_of nodes) (lower_nodes es) m, used_in levels nodes n.1, used_below levels es n.2)
 
 -- ---- the indexes that a command goes through
 
@@ -187,9 +171,7 @@ last_of_through P index [] e = or_left (P index) false e
 last_of_through P index (x ∷ rs) e = or_right (P index) (list_any P (indexes_with (with_range_at_zero index x) rs)) (last_of_through P (with_range_at_zero index x) rs e)
 
 pub through_stays : (P : Nodes → Bool) (index : Nodes) (rs : List Range) (r : Range) → list_any P (indexes_with index rs) ≡ true → list_any P (indexes_with index (rs ++ r ∷ [])) ≡ true
-through_stays P index rs r e =
-    ap (list_any P) (through_one_more index rs r) ∙ list_any-append P (indexes_with index rs) (with_range_at_zero (with_ranges index rs) r ∷ [])
-    ∙ or_left (list_any P (indexes_with index rs)) (list_any P (with_range_at_zero (with_ranges index rs) r ∷ [])) e
+through_stays P index rs r e = grind (arith, through_one_more index rs r, list_any-append P (indexes_with index rs) (with_range_at_zero (with_ranges index rs) r ∷ []))
 
 -- ---- the top chain
 
@@ -212,39 +194,34 @@ pub top_grows : (new : Leaf) (at : ℕ) (index : Nodes) → TopGrows index (with
 top_grows new at index = by_leaf (top_steps new at) index
 
 pub bytes_longer : (xs ys : List ℕ) → length xs < length ys → bytes_eq xs ys ≡ false
-bytes_longer xs ys l = elim (either (bytes_eq xs ys)) [
-  | inl t ↦ let same = ap length (same_of_bytes_eq xs ys t) in absurd (omega arith)
-  | inr t ↦ t
-]
+bytes_longer xs ys l = elim (either (bytes_eq xs ys)) [ inl t ↦ absurd (omega (arith, ap length (same_of_bytes_eq xs ys t))) | inr t ↦ t ]
 
 -- ---- tests
 
 pub or_false : (p : Bool) → (p || false) ≡ p
-or_false true = refl
-or_false false = refl
+or_false p = grind arith
 
 pub unless_true : {A : Type 0} {p : Bool} → A ⊎ (p ≡ true) → p ≡ false → A
-unless_true (inl a) e = a
-unless_true {p = p} (inr t) e = absurd (both_ways p e t)
+unless_true s e = grind (arith, s, e)
 
 -- ---- what was taken first, and then
 
 pub taken_both : (acts acts' : List Act) (m : ℕ) → is_taken_at (acts ++ acts') m ≡ (is_taken_at acts m || is_taken_at acts' m)
 taken_both [] acts' m = refl
-taken_both (Took place need ∷ more) acts' m = ap (λ (p : Bool). (m == place) || p) (taken_both more acts' m) ∙ sym (or_assoc (m == place) (is_taken_at more m) (is_taken_at acts' m))
+taken_both (Took place need ∷ more) acts' m = grind (arith, taken_both more acts' m)
 taken_both (Gave place size ∷ more) acts' m = taken_both more acts' m
 
 pub taken_first : (acts acts' : List Act) (m : ℕ) → is_taken_at acts m ≡ true → is_taken_at (acts ++ acts') m ≡ true
-taken_first acts acts' m e = taken_both acts acts' m ∙ or_left (is_taken_at acts m) (is_taken_at acts' m) e
+taken_first acts acts' m e = grind (arith, taken_both acts acts' m)
 
 pub taken_then : (acts acts' : List Act) (m : ℕ) → is_taken_at acts' m ≡ true → is_taken_at (acts ++ acts') m ≡ true
-taken_then acts acts' m e = taken_both acts acts' m ∙ or_right (is_taken_at acts m) (is_taken_at acts' m) e
+taken_then acts acts' m e = grind (arith, taken_both acts acts' m)
 
 pub taken_neither : (acts acts' : List Act) (m : ℕ) → is_taken_at acts m ≡ false → is_taken_at acts' m ≡ false → is_taken_at (acts ++ acts') m ≡ false
-taken_neither acts acts' m e f = taken_both acts acts' m ∙ or_from (is_taken_at acts m) (is_taken_at acts' m) e f
+taken_neither acts acts' m e f = grind (arith, taken_both acts acts' m)
 
 pub neither_taken : (acts acts' : List Act) (m : ℕ) → is_taken_at (acts ++ acts') m ≡ false → (is_taken_at acts m ≡ false) × (is_taken_at acts' m ≡ false)
-neither_taken acts acts' m e = or_parts (is_taken_at acts m) (is_taken_at acts' m) (sym (taken_both acts acts' m) ∙ e)
+neither_taken acts acts' m e = grind (arith, taken_both acts acts' m)
 
 -- ---- nodes that stay
 
@@ -268,8 +245,6 @@ nodes_same b mid now through before after acts fit kept sizes f = record {
         | inr e ↦ inr (e.0, entry_stays b mid now m i false (kept m j) (fit m j) lt e.1)
       ]);
   spare = each (NodeSpareStays b now acts) after (λ m j e.
-      let room = room_same mid now [] [] (no_heads mid now) m (kept m j) (fit m j) in
-      let size = sizes m j e in
       let was = Each-in (NodeSpareStays b mid acts) after f.spare m j e in
       let k = kept m j in
       same-then b mid now (m + (28 + 16 * room_at now m)) (m + size_at b m) (Same-part b mid (m + (28 + 16 * room_at mid m)) (m + size_at b m) _ _ was (omega arith) (omega arith))
@@ -299,21 +274,16 @@ module _ (b mid now : List ℕ) (through through' : List Nodes) (before after : 
   AnyWay m i w = EntryIs b now m i w ⊎ ((list_any (uses_entry m i) through' ≡ true) × EntryIs b now m i false)
 
   empty_entry : (m i : ℕ) (w : Bool) → (w ≡ true → list_any (uses_entry m i) through' ≡ true) → EntryIs b now m i false → AnyWay m i w
-  empty_entry m i true used e = inr (used refl, e)
-  empty_entry m i false used e = inl e
+  empty_entry m i w used e = grind (arith, used, e)
 
   same_test : (m i : ℕ) → is_taken_at acts' m ≡ false → was_unused b before (acts ++ acts') m i ≡ was_unused b before acts m i
-  same_test m i e =
-      let t : is_taken_at (acts ++ acts') m ≡ is_taken_at acts m = taken_both acts acts' m ∙ ap (λ (p : Bool). is_taken_at acts m || p) e ∙ or_false (is_taken_at acts m) in
-      ap (λ (p : Bool). is_in m before && (not p && nat_le (used_count b m) i)) t
+  same_test m i e = grind (arith, e, taken_both acts acts' m)
 
   taken_test : (m i : ℕ) (xs : List ℕ) (x : List ℕ) (done : List Act) → is_taken_at done m ≡ true → was_unused x xs done m i ≡ false
-  taken_test m i xs x done e = rw e (and_right (is_in m xs) false refl)
+  taken_test m i xs x done e = grind (arith, e)
 
   now_empty : (m i : ℕ) (w : Bool) → w ≡ false → (EntryIs mid now m i w ⊎ ((list_any (uses_entry m i) (index ∷ []) ≡ true) × EntryIs mid now m i false)) → EntryIs b now m i false
-  now_empty m i true e s = absurd (true≢false e)
-  now_empty m i false e (inl s) = s
-  now_empty m i false e (inr s) = s.1
+  now_empty m i w e s = elim s [ inl x ↦ rw e at x | inr x ↦ x.1 ]
 
   module _ (f : NodesFollow b mid through before (nodes_of index) acts) (step : NodesStep mid now index after acts') (before_in : (m : ℕ) → In m before → In m (nodes_of index)) (sizes : (m : ℕ) → In m before → size_at mid m ≡ size_at b m)
       (come : (m : ℕ) → In m (nodes_of index) → In m before ⊎ (is_taken_at acts m ≡ true)) (more : (m i : ℕ) → list_any (uses_entry m i) through ≡ true → list_any (uses_entry m i) through' ≡ true)
@@ -321,8 +291,7 @@ module _ (b mid now : List ℕ) (through through' : List Nodes) (before after : 
     was_before : (m i : ℕ) (done : List Act) → was_unused b before done m i ≡ true → In m before × (used_count b m ≤ i)
     was_before m i done e =
         let p = both (is_in m before) (not (is_taken_at done m) && nat_le (used_count b m) i) e in
-        let q = both (not (is_taken_at done m)) (nat_le (used_count b m) i) p.1 in
-        (true-is_in m before p.0, le_of (used_count b m) i q.1)
+        (true-is_in m before p.0, le_of (used_count b m) i (both (not (is_taken_at done m)) (nat_le (used_count b m) i) p.1).1)
 
     old_entry : (m i : ℕ) → In m (nodes_of index) → used_count now m ≤ i → i < room_at now m → In m after → AnyWay m i (was_unused b before (acts ++ acts') m i)
     old_entry m i j low high k =
@@ -358,7 +327,6 @@ module _ (b mid now : List ℕ) (through through' : List Nodes) (before after : 
         let p = neither_taken acts acts' m e in
         let j = unless_true (step.come m k) p.1 in
         let size = sizes m (unless_true (come m j) p.0) in
-        let room = step.rooms m j in
         let first = Each-in (NodeSpareStays b mid acts) (nodes_of index) f.spare m j p.0 in
         same-then b mid now (m + (28 + 16 * room_at now m)) (m + size_at b m) (Same-part b mid (m + (28 + 16 * room_at mid m)) (m + size_at b m) _ _ first (omega arith) (omega arith))
         (Same-part mid now (m + (28 + 16 * room_at mid m)) (m + size_at mid m) _ _ (step.spare m j) (omega arith) (omega arith))

@@ -1,33 +1,22 @@
 -- How much longer an image becomes by acts that only take, and that nothing is taken where no bytes are.
-use Rattle.std.proofs.Common.{inl, inr, ◌≡◌, ℕ, ◌+◌, ◌≤◌, List, [], ◌∷◌, ◌++◌, length, map, refl, arith}
-use Rattle.cdf_puts.proofs.Common.{either, fold, ◌==◌, Act, Took, Gave, taken, space_before, ActsFollow, Each, IsTaking, taken_bytes}
+use Rattle.cdf_puts.proofs.Common.{fold, Act, Took, Gave, taken, space_before, ActsFollow, Each, IsTaking, taken_bytes, ◌≡◌, ℕ, ◌+◌, ◌≤◌, List, [], ◌∷◌, ◌++◌, length, map, refl, arith, SpaceLeft, after_act, AreActs, sum_by-cons}
 use Rattle.cdf_edits.specs.Index.Cut.{BlocksFreedStay, NodesFreedStay, none_written}
-use Rattle.cdf_edits.specs.Space.Acts.{SpaceLeft, after_act, AreActs}
-use Rattle.cdf_edits.specs.Space.Placement.{place_for, eof_after}
-use Rattle.std.proofs.lemmas.List.Sums.{sum_by-cons}
+use Rattle.cdf_edits.specs.Space.Placement.{eof_after}
 
 one_taken : (place need : ℕ) (more : List Act) → taken_bytes (Took place need ∷ more) ≡ need + taken_bytes more
 one_taken place need more = sum_by-cons (λ x. x) need (map (λ (take : ℕ × ℕ). take.1) (taken more))
 
 pub taken_sum : (acts acts' : List Act) → taken_bytes (acts ++ acts') ≡ taken_bytes acts + taken_bytes acts'
 taken_sum [] acts' = omega arith
-taken_sum (Took place need ∷ more) acts' =
-    let both = one_taken place need (more ++ acts') in
-    let first = one_taken place need more in
-    let rest = taken_sum more acts' in
-    omega arith
+taken_sum (Took place need ∷ more) acts' = omega (arith, one_taken place need (more ++ acts'), one_taken place need more, taken_sum more acts')
 taken_sum (Gave place size ∷ more) acts' = taken_sum more acts'
 
 end_by : (list : List (ℕ × ℕ)) (end need : ℕ) → eof_after list end need ≤ end + need
-end_by list end need = elim (either (place_for list end need == end)) [ inl t ↦ rw t (omega arith) | inr t ↦ rw t (omega arith) ]
+end_by list end need = grind arith
 
 end_after_acts : (l : SpaceLeft) (acts : List Act) → Each IsTaking acts → (fold after_act l acts).end ≤ l.end + taken_bytes acts
 end_after_acts l [] t = omega arith
-end_after_acts l (Took place need ∷ more) t =
-    let rest = end_after_acts (after_act l (Took place need)) more t.1 in
-    let here = end_by l.listed l.end need in
-    let all = one_taken place need more in
-    omega arith
+end_after_acts l (Took place need ∷ more) t = omega (arith, end_after_acts (after_act l (Took place need)) more t.1, end_by l.listed l.end need, one_taken place need more)
 end_after_acts l (Gave place size ∷ more) t = absurd t.0
 
 -- an image is longer by no more than was taken

@@ -1,22 +1,19 @@
 -- What the rules say of a variable of a good image in which records are put: so far none is compressed, none has a rule for missing records, and no block is packed (rules 4.99 and 7.99).
-use Rattle.std.proofs.Common.{◌≡◌, ℕ, ◌&&◌, List, false, refl, ap}
-use Rattle.cdf_puts.proofs.Common.{nat_lt, Kind, Sparse, NoRule, extent, variable_of, asked, VariableShape, is_compressed, shape, Good, good_by_its_shape, Hold-split, cuts_before_put, is_sparse, own_rules, StandsAmong, has, fits}
-use Rattle.cdf_format.specs.NotRead.{unread_sparse}
-use Rattle.cdf_format.specs.VariableRules.{cpr_link, cpr_rows}
+use Rattle.cdf_puts.proofs.Common.{◌&&◌, nat_lt, Kind, Sparse, NoRule, extent, variable_of, asked, VariableShape, is_compressed, shape, Good, good_by_its_shape, Hold-split, cuts_before_put, is_sparse, own_rules, StandsAmong, has, fits, ◌≡◌, ℕ, List, [], false, refl, ap, unread_sparse, cpr_link, cpr_rows}
 use Rattle.cdf_edits.proofs.Edits.PlainVariables.{is_uncompressed}
 
 module _ {b : List ℕ} {kind : Kind} {before : List VariableShape} {own : VariableShape} {after : List VariableShape} (good : Good b) (at : StandsAmong b kind before own after) where
   pub loose : is_compressed b own.vdr ≡ false
   loose = (is_uncompressed (good_by_its_shape b good) own (has good at) (fits good at)).no_flag
 
+  pub no_cpr : own.cpr ≡ []
+  no_cpr = (is_uncompressed (good_by_its_shape b good) own (has good at) (fits good at)).no_cpr
+
   pub no_lengths : (variable_of b own).rle ≡ false
   no_lengths = loose
 
   pub no_rule : (variable_of b own).sparse ≡ NoRule
-  no_rule =
-      let rows = (own_rules good at).0.1.1.1.1.1.1.1.1.1.1.1 in
-      let none = (Hold-split (asked (is_compressed b own.vdr) (cpr_rows b (shape b).records (cpr_link b own.vdr))) (unread_sparse b own.vdr) rows).1.0 in
-      rw none refl
+  no_rule = rw ((Hold-split (asked (is_compressed b own.vdr) (cpr_rows b (shape b).records (cpr_link b own.vdr))) (unread_sparse b own.vdr) ((own_rules good at).0.1.1.1.1.1.1.1.1.1.1.1)).1.0) refl
 
   -- so no put cuts anything
   pub uncut : (r : ℕ) → cuts_before_put (variable_of b own) r ≡ false

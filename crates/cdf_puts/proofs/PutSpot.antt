@@ -1,46 +1,29 @@
 -- Where the next record is put: the records of a new block, each step by which records are put, and what an image says of a variable of which some records are put.
-use Rattle.std.proofs.Common.{◌≡◌, ℕ, zero, suc, ◌+◌, ◌-◌, ◌*◌, ◌<◌, ◌≤◌, List, ◌++◌, append_assoc, append-nil, length, take, drop, max, sym, ap, subst, ◌∙◌, arith, inl, inr, [], ◌∷◌, false, refl, min, Some, None, ltb}
-use Rattle.cdf_puts.proofs.Common.{length-append, take_at, drop_at, drop-drop, ◌==◌, IsBody, uir_type, vvr_type, is_record_type, fixed_size, either, records_put, BlockRecords, record_of, IsBlockBody, min, max, if◌then◌else◌, image_limit, Kind, vxr_bytes, firsts_of, new_range, first_written, is_sparse, with_leaf, new_room, Act, variable_of, number, with_sign, Nodes, leaf, vdr_max_rec, VariableShape, Each, shape, record_bytes, max_rec_at, LeafAdded, leaf_acts, own_rules, has, fits, Covering, block_bytes, node_bytes, GoesOn, PutStart, SoFar, IsTaking, taken_bytes, RecordsWritten, IsVacant, index_order, find, widest, range, covers, next_first, block_count, record_length, times_le, StandsAmong, long, tile, leaves_of, vdr_vxr_head, variables, vdrs, IsSound, In, sparse_at, Good, good_by_its_shape, good_is_sound, tile_lies, NodeTaken, HasIndex, index_at, leaf_of, Variable, extent, record_number_limit, new_last, IsPut, SomePut, last_in_new}
-use Rattle.cdf_puts.proofs.LeafGood.{plain_body, leaf_goes_on, leaf_max_rec, size_needed}
-use Rattle.cdf_puts.proofs.CoveringRanges.{covering_starts, covering_has, covering_leaf, covering_room, covering_vacant, one_at_least}
-use Rattle.cdf_puts.proofs.GoesThen.{later_size, later_packed, goes_nowhere, goes_then}
+use Rattle.cdf_puts.proofs.Common.{length-append, drop_at, ◌==◌, IsBody, uir_type, vvr_type, is_record_type, fixed_size, either, records_put, BlockRecords, record_of, IsBlockBody, min, max, if◌then◌else◌, image_limit, Kind, vxr_bytes, firsts_of, new_range, first_written, is_sparse, with_leaf, new_room, Act, variable_of, number, Nodes, leaf, vdr_max_rec, VariableShape, Each, shape, record_bytes, max_rec_at, LeafAdded, leaf_acts, own_rules, has, fits, Covering, block_bytes, node_bytes, GoesOn, PutStart, SoFar, IsTaking, taken_bytes, RecordsWritten, IsVacant, index_order, find, widest, range, covers, next_first, block_count, record_length, times_le, StandsAmong, long, tile, leaves_of, vdr_vxr_head, variables, vdrs, IsSound, In, sparse_at, good_by_its_shape, good_is_sound, tile_lies, NodeTaken, HasIndex, index_at, leaf_of, Variable, extent, new_last, IsPut, SomePut, last_in_new, ◌≡◌, ℕ, zero, suc, ◌+◌, ◌-◌, ◌*◌, ◌<◌, ◌≤◌, List, ◌++◌, append-nil, length, take, drop, sym, ap, subst, ◌∙◌, arith, inl, inr, [], ◌∷◌, false, refl, Some, None, ltb, div-le_self, transport, nat_tests, in_middle, AddsLeaf, Putting, PutsOn, SomePutting, most_in_block, PutsUpTo, record_put, cases_lt, length-drop, drop-append-le, take-append-le, take_all}
+use Rattle.cdf_puts.proofs.LeafEdit.{r_max_rec_stays as leaf_r_max_rec, plain_body, leaf_goes_on, leaf_max_rec, size_needed}
+use Rattle.cdf_puts.proofs.CoveringRanges.{covering_starts, covering_has, covering_leaf, covering_room, covering_ends, Ends, one_at_least}
+use Rattle.cdf_puts.proofs.GoesThen.{later_size, later_packed, goes_nowhere, goes_then, goes_written}
 use Rattle.cdf_puts.proofs.LastImage.{only_takes}
 use Rattle.cdf_puts.proofs.IndexAdded.{blocks_added, index_added}
 use Rattle.cdf_puts.proofs.LeafCounts.{roomy, new_room_widest}
-use Rattle.cdf_puts.proofs.IndexWritten.{blocks_written, index_written}
-use Rattle.cdf_puts.proofs.PutMeaning.{first_goes}
+use Rattle.cdf_puts.proofs.IndexWritten.{blocks_written, index_written, max_rec_kept, r_max_rec_stays, writes}
 use Rattle.cdf_puts.proofs.PutRoom.{taken_sum, longer_by}
 use Rattle.cdf_puts.proofs.SoFarStarts.{starts_upto, index_start, blocks_start}
-use Rattle.cdf_puts.proofs.WrittenGoes.{written_goes, long_now, max_rec_kept}
 use Rattle.cdf_index.proofs.OneVariable.{AmongAll, among_all}
-use Rattle.std.proofs.Math.Nat.{div-le_self}
-use Rattle.std.proofs.Math.Path.{transport}
-use Rattle.std.proofs.lemmas.Bool.Decides.{nat_tests}
 use Rattle.cdf_base.specs.Bytes.{put as put_at}
-use Rattle.cdf_edits.proofs.Edits.StandsAmong.{in_middle}
 use Rattle.cdf_format.specs.GoodImage.{IsGoodImage}
 use Rattle.cdf_format.specs.Index.{Leaf as TreeLeaf}
 use Rattle.cdf_format.proofs.GoodImageLemmas.{good_image}
-use Rattle.cdf_index.specs.Adding.{AddsLeaf}
 use Rattle.cdf_index.specs.Reading.{HoldsRecords}
 use Rattle.cdf_index.specs.Sight.{seen}
 use Rattle.cdf_index.specs.declared.nodes.Leaf.{Leaf}
 use Rattle.cdf_index.proofs.GoodBlock.{good_block}
 use Rattle.cdf_index.proofs.GoodIndex.{good_index}
 use Rattle.cdf_index.proofs.PlainBlocks.{plain_block}
-use Rattle.cdf_puts.specs.Putting.{Putting, PutsOn, SomePutting, most_in_block, PutsUpTo, record_put}
 use Rattle.cdf_puts.specs.declared.putting.NewRecord.{NewRecord}
 
--- one record more behind the others
-records_more : (raw pad : List ℕ) (r count k : ℕ) → records_put raw pad r (suc count) k ≡ records_put raw pad r count k ++ record_put raw pad r (k + count)
-records_more raw pad r zero k = let same : k ≡ k + 0 = omega arith in append-nil (record_put raw pad r k) ∙ ap (record_put raw pad r) same
-records_more raw pad r (suc count) k =
-    let later : suc k + count ≡ k + suc count = omega arith in
-    ap (λ (x : List ℕ). record_put raw pad r k ++ x) (records_more raw pad r count (suc k) ∙ ap (λ (n : ℕ). records_put raw pad r count (suc k) ++ record_put raw pad r n) later)
-    ∙ sym (append_assoc (record_put raw pad r k) (records_put raw pad r count (suc k)) (record_put raw pad r (k + suc count)))
-
 pub one_more : (raw pad : List ℕ) (r count k : ℕ) → records_put raw pad r (count + 1) k ≡ records_put raw pad r count k ++ record_put raw pad r (k + count)
-one_more raw pad r count k = let next : count + 1 ≡ suc count = omega arith in ap (λ (n : ℕ). records_put raw pad r n k) next ∙ records_more raw pad r count k
+one_more raw pad r count k = let next : count + 1 ≡ suc count = omega arith in ap (λ (n : ℕ). records_put raw pad r n k) next
 
 module _ (raw pad : List ℕ) (r size : ℕ) (raw_long : length raw ≡ size) (pad_long : length pad ≡ size) where
   pub record_long : (k : ℕ) → length (record_put raw pad r k) ≡ size
@@ -48,38 +31,30 @@ module _ (raw pad : List ℕ) (r size : ℕ) (raw_long : length raw ≡ size) (p
 
   pub records_long : (count k : ℕ) → length (records_put raw pad r count k) ≡ count * size
   records_long zero k = omega arith
-  records_long (suc count) k =
-      let both = length-append (record_put raw pad r k) (records_put raw pad r count (suc k)) in
-      let here = record_long k in
-      let rest = records_long count (suc k) in
-      omega arith
+  records_long (suc count) k = omega (arith, length-append (records_put raw pad r count k) (record_put raw pad r (k + count)), record_long (k + count), records_long count k)
 
-  pub record_there : (count i k : ℕ) → i < count → take size (drop (i * size) (records_put raw pad r count k)) ≡ record_put raw pad r (k + i)
-  record_there zero i k lt = absurd (omega arith)
-  record_there (suc count) zero k lt =
-      let here = record_put raw pad r k in
-      let rest = records_put raw pad r count (suc k) in
-      let none : 0 * size ≡ 0 = omega arith in
-      let same : k ≡ k + 0 = omega arith in
-      ap (λ (n : ℕ). take size (drop n (here ++ rest))) none ∙ take_at here rest size (record_long k) ∙ ap (record_put raw pad r) same
-  record_there (suc count) (suc i) k lt =
-      let here = record_put raw pad r k in
-      let rest = records_put raw pad r count (suc k) in
-      let further : suc i * size ≡ size + i * size = omega arith in
-      let later : suc k + i ≡ k + suc i = omega arith in
-      ap (λ (n : ℕ). take size (drop n (here ++ rest))) further ∙ ap (take size) (sym (drop-drop (i * size) size (here ++ rest)) ∙ ap (drop (i * size)) (drop_at here rest size (record_long k)))
-      ∙ record_there count i (suc k) (omega arith) ∙ ap (record_put raw pad r) later
+  record_there : (count k j : ℕ) → k ≤ j → j < k + count → take size (drop ((j - k) * size) (records_put raw pad r count k)) ≡ record_put raw pad r j
+  record_there zero k j from upto = absurd (omega arith)
+  record_there (suc count) k j from upto =
+      let rest = records_put raw pad r count k in
+      let last = record_put raw pad r (k + count) in
+      elim (cases_lt j (k + count)) [
+        | inl lt ↦
+            let room = times_le (suc (j - k)) count size (omega arith) in
+            let long = records_long count k in
+            ap (take size) (drop-append-le ((j - k) * size) rest last (omega arith)) ∙ take-append-le size (drop ((j - k) * size) rest) last (omega (arith, length-drop ((j - k) * size) rest)) ∙ record_there count k j from lt
+        | inr ge ↦
+            let same : j ≡ k + count = omega arith in
+            let all : j - k ≡ count = omega arith in
+            ap (take size) (drop_at rest last ((j - k) * size) (records_long count k ∙ ap (λ (n : ℕ). n * size) (sym all))) ∙ take_all size last (omega (arith, record_long (k + count))) ∙ ap (record_put raw pad r) (sym same)
+      ]
 
   pub block_records : (k last : ℕ) → BlockRecords raw pad r k last size (records_put raw pad r (last + 1 - k) k)
-  block_records k last = record {
-    as_long = records_long (last + 1 - k) k;
-    written = λ j from upto. record_there (last + 1 - k) (j - k) k (omega arith) ∙ (let there : k + (j - k) ≡ j = omega arith in ap (record_of raw pad r) there);
-  }
+  block_records k last = record { as_long = records_long (last + 1 - k) k; written = λ j from upto. record_there (last + 1 - k) k j from (omega arith) }
 
 pub body_is : (body records : List ℕ) → IsBlockBody body records → IsBody body
 body_is body records says =
     let typed = plain_body body records says in
-    let e = says.as_long in
     record {
       enough = omega arith;
       real = ap is_record_type typed;
@@ -117,53 +92,32 @@ module _ {b : List ℕ} {kind : Kind} {before : List VariableShape} {own : Varia
   pub so_far_starts : PutStart b kind before own after raw pad r → SoFar b b kind before own own after raw pad r (first_written (variable_of b own) r) []
   so_far_starts start = record {
     start = start;
-    from = omega arith;
     upto = let l = starts_upto start in omega arith;
-    goes = goes_nowhere start.good start.among r;
-    covered = first_written (variable_of b own) r;
-    covered_is = λ le. refl;
-    covered_past = λ lt. lt;
-    covers = covering_starts (variable_of b own) own.index r (ap is_sparse start.no_rule) start.small (index_order b (shape b).records own.vdr own.index (own_rules start.good start.among).1);
+    goes = goes_nowhere start.good start.among start.short;
+    covers = covering_starts (variable_of b own) own.index r (ap is_sparse start.no_rule) (index_order b (shape b).records own.vdr own.index (own_rules start.good start.among).1);
     takes = tt;
     short = start.short;
     max_rec_is = refl;
+    r_max_rec_is = refl;
     index = index_start start;
     blocks = blocks_start start;
   }
 
   module _ {now : List ℕ} {own' : VariableShape} {k : ℕ} {acts : List Act} (so : SoFar b now kind before own own' after raw pad r k acts) (more : k ≤ r) where
-    -- the blocks that there are by now
-    pub covering_now : Covering (variable_of b own) own.index own'.index r k (taken_bytes acts)
-    covering_now = subst (λ (n : ℕ). Covering (variable_of b own) own.index own'.index r n (taken_bytes acts)) (so.covered_is more) so.covers
-
-    max_rec_same : max_rec_at now own.vdr ≡ max_rec_at b own.vdr
-    max_rec_same = ap with_sign so.max_rec_is
-
-    -- the first record that is written is the same by now
-    from_now : first_written (variable_of now own') r ≤ k
-    from_now = let same = first_goes so.start.good so.start.among so.goes max_rec_same in subst (λ (n : ℕ). n ≤ k) (sym same) so.from
-
     pub so_far_written : {now' : List ℕ} {l : TreeLeaf} → RecordsWritten now now' own' l k (record_of raw pad r k) → length (record_of raw pad r k) ≡ record_bytes b own.vdr → SoFar b now' kind before own own' after raw pad r (k + 1) acts
     so_far_written {now' = now'} {l = l} w as_long =
         let good = so.goes.good in
         let at = so.goes.among in
-        let small = so.start.small in
-        let step = written_goes good at w r from_now more small so.short in
-        let long = long_now good at w in
-        let short = so.short in
-        let from = so.from in
+        let step = goes_written good at (writes good at w) so.short in
         record {
           start = so.start;
-          from = omega arith;
           upto = omega arith;
-          goes = subst (GoesOn b now' kind before own own' after r) (append-nil acts) (goes_then so.start.good so.start.among so.goes step (only_takes acts so.takes) tt so.max_rec_is so.blocks.stay);
-          covered = k + 1;
-          covered_is = λ le. refl;
-          covered_past = λ lt. lt;
-          covers = covering_has (variable_of b own) own.index r (ap is_sparse so.start.no_rule) so.start.small own'.index k (taken_bytes acts) covering_now more l w.found;
+          goes = subst (GoesOn b now' kind before own own' after) (append-nil acts) (goes_then so.start.good so.start.among so.goes step (only_takes acts so.takes) tt);
+          covers = covering_has so.covers so.start.small more l w.found;
           takes = so.takes;
           short = omega arith;
           max_rec_is = subst (λ (v : ℕ). number now' v vdr_max_rec ≡ number now v vdr_max_rec) so.goes.vdr_is (max_rec_kept good at w) ∙ so.max_rec_is;
+          r_max_rec_is = r_max_rec_stays good at w ∙ so.r_max_rec_is;
           index = index_written so more w as_long;
           blocks = blocks_written so more w as_long;
         }
@@ -177,31 +131,24 @@ module _ {b : List ℕ} {kind : Kind} {before : List VariableShape} {own : Varia
         let v = variable_of b own in
         let new = leaf k last place false in
         let step = leaf_acts place (8 + length body) (new_room k own'.index) at in
-        let plain = plain_body body records holds in
-        let size = later_size so.start.good so.start.among so.goes in
         let loose = later_packed so.start.good so.start.among so.goes ∙ so.start.loose in
-        let as_long : length records ≡ (last + 1 - k) * record_bytes now own'.vdr = says.as_long ∙ ap (λ (n : ℕ). (last + 1 - k) * n) (sym size) in
-        let goes : GoesOn now now' kind before own' (with_new_leaf own' new at) after r step = leaf_goes_on good among w holds loose vacant as_long short r in
+        let as_long : length records ≡ (last + 1 - k) * record_bytes now own'.vdr = says.as_long ∙ ap (λ (n : ℕ). (last + 1 - k) * n) (sym (later_size so.start.good so.start.among so.goes)) in
+        let goes : GoesOn now now' kind before own' (with_new_leaf own' new at) after step = leaf_goes_on good among w holds loose vacant as_long short in
         let need : 8 + length body ≡ block_bytes v k last = size_needed good among w holds ∙ ap (λ (n : ℕ). max 28 (12 + n)) says.as_long in
         let bytes : taken_bytes (acts ++ step) ≡ taken_bytes acts + block_bytes v k last + node_bytes k own'.index =
         taken_sum acts step ∙ ap (λ (n : ℕ). taken_bytes acts + n) (leaf_bytes place (8 + length body) k at own'.index) ∙ ap (λ (n : ℕ). taken_bytes acts + (n + node_bytes k own'.index)) need ∙ omega arith in
-        let covers : Covering v own.index (with_leaf new at own'.index) r (last + 1) (taken_bytes acts + block_bytes v k last + node_bytes k own'.index) =
-        subst (λ (x : ℕ). Covering v own.index (with_leaf (leaf k x place false) at own'.index) r (x + 1) (taken_bytes acts + block_bytes v k x + node_bytes k own'.index)) (sym is)
-        (covering_leaf v own.index r (ap is_sparse so.start.no_rule) so.start.small own'.index k (taken_bytes acts) covering_now more so.start.loose vacant.uncovered place at (roomy now (shape now).records 8 own'.index (has good among).indexed.has_nodes (fits good among).1)) in
-        let ordered = vacant.ordered in
-        let from = so.from in
+        let covers : Covering v own.index (with_leaf new at own'.index) r (min (last + 1) (r + 1)) (taken_bytes acts + block_bytes v k last + node_bytes k own'.index) =
+        subst (λ (x : ℕ). Covering v own.index (with_leaf (leaf k x place false) at own'.index) r (min (x + 1) (r + 1)) (taken_bytes acts + block_bytes v k x + node_bytes k own'.index)) (sym is)
+        (covering_leaf so.covers so.start.small more (ap is_sparse so.start.no_rule) so.start.loose vacant.uncovered place at (roomy now (shape now).records 8 own'.index (has good among).indexed.has_nodes (fits good among).1)) in
         record {
           start = so.start;
-          from = omega arith;
           upto = omega arith;
-          goes = goes_then so.start.good so.start.among so.goes goes (only_takes acts so.takes) (only_takes step (leaf_takes place (8 + length body) (new_room k own'.index) at)) so.max_rec_is so.blocks.stay;
-          covered = last + 1;
-          covered_is = λ le. omega arith;
-          covered_past = λ lt. omega arith;
-          covers = subst (Covering v own.index (with_leaf new at own'.index) r (last + 1)) (sym bytes) covers;
+          goes = goes_then so.start.good so.start.among so.goes goes (only_takes acts so.takes) (only_takes step (leaf_takes place (8 + length body) (new_room k own'.index) at));
+          covers = subst (Covering v own.index (with_leaf new at own'.index) r (min (last + 1) (r + 1))) (sym bytes) covers;
           takes = takes_both acts step so.takes (leaf_takes place (8 + length body) (new_room k own'.index) at);
           short = short;
-          max_rec_is = subst (λ (v : ℕ). number now' v vdr_max_rec ≡ number now v vdr_max_rec) so.goes.vdr_is (leaf_max_rec good among w plain) ∙ so.max_rec_is;
+          max_rec_is = subst (λ (v : ℕ). number now' v vdr_max_rec ≡ number now v vdr_max_rec) so.goes.vdr_is (leaf_max_rec good among w (plain_body body records holds)) ∙ so.max_rec_is;
+          r_max_rec_is = leaf_r_max_rec good among w holds loose vacant as_long short ∙ so.r_max_rec_is;
           index = index_added so more is vacant holds says w goes.good goes.among;
           blocks = blocks_added so more is vacant holds says w goes.good goes.among;
         }
@@ -215,7 +162,7 @@ count_few : (v : Variable) → block_count v ≤ 1048576
 count_few v = elim (either v.vary) [ inl t ↦ rw t (let q = div-le_self 1048576 (record_length v) in omega arith) | inr t ↦ rw t (omega arith) ]
 
 most_few : (v : Variable) (r : ℕ) → most_in_block v r ≤ 1048576
-most_few v r = elim (either (ltb r (extent v.max_rec))) [ inl t ↦ rw t (omega arith) | inr t ↦ rw t (count_few v) ]
+most_few v r = grind (arith, nat_tests, count_few v)
 
 -- up to MaxRec it is one record, which is the one that is put
 last_as : (v : Variable) (index : Nodes) (k r most : ℕ) → is_sparse v.sparse ≡ false → most ≡ most_in_block v r → first_written v r ≤ k → k ≤ r → k < next_first k (firsts_of index) → last_in_new most index k ≡ new_last v index k
@@ -239,20 +186,11 @@ module _ {b now : List ℕ} {kind : Kind} {before : List VariableShape} {own : V
   abbrev so : SoFar b now kind before own own' after new.raw.items new.pad.items new.rec k is.acts
   so = is.so
 
-  abbrev head : ℕ
-  head = number now new.vdr vdr_vxr_head
-
-  abbrev size : ℕ
-  size = record_bytes b own.vdr
-
-  pub good : Good now
-  good = so.goes.good
-
   image : IsGoodImage now (shape now)
-  image = good_image now (shape now) (good_by_its_shape now good)
+  image = good_image now (shape now) (good_by_its_shape now so.goes.good)
 
   sound : IsSound now (shape now)
-  sound = good_is_sound now good
+  sound = good_is_sound now so.goes.good
 
   among : AmongAll (variables (shape now)) own'
   among = among_all now kind before own' after so.goes.among.was
@@ -260,16 +198,11 @@ module _ {b now : List ℕ} {kind : Kind} {before : List VariableShape} {own : V
   vdr_is : own'.vdr ≡ new.vdr
   vdr_is = so.goes.vdr_is ∙ p.vdr_is
 
-  size_now : record_bytes now own'.vdr ≡ size
+  size_now : record_bytes now own'.vdr ≡ record_bytes b own.vdr
   size_now = later_size so.start.good so.start.among so.goes
 
   pub lies : new.vdr + 340 ≤ length now
-  lies =
-      let wide = long good so.goes.among in
-      let there = tile_lies now 8 (length now) (shape now).records own'.vdr image.has_shape.tiled (tile good so.goes.among) in
-      let high = there.high in
-      let same = vdr_is in
-      omega arith
+  lies = omega (arith, long so.goes.good so.goes.among, tile_lies now 8 (length now) (shape now).records own'.vdr image.has_shape.tiled (tile so.goes.good so.goes.among))
 
   pub vdr_in : In new.vdr (vdrs (variables (shape now)))
   vdr_in = subst (λ (vs : List VariableShape). In new.vdr (vdrs vs)) (sym among.all) (subst (λ (v : ℕ). In v (vdrs (among.front ++ own' ∷ among.rest))) vdr_is (in_middle among.front own' among.rest))
@@ -277,14 +210,11 @@ module _ {b now : List ℕ} {kind : Kind} {before : List VariableShape} {own : V
   index : HasIndex now (number now own'.vdr vdr_vxr_head) × (index_at now (number now own'.vdr vdr_vxr_head) ≡ own'.index)
   index = good_index now (shape now) among.front own' among.rest image sound among.all
 
-  pub has_index : HasIndex now head
+  pub has_index : HasIndex now (number now new.vdr vdr_vxr_head)
   has_index = subst (λ (v : ℕ). HasIndex now (number now v vdr_vxr_head)) vdr_is index.0
 
-  index_is : index_at now head ≡ own'.index
+  index_is : index_at now (number now new.vdr vdr_vxr_head) ≡ own'.index
   index_is = subst (λ (v : ℕ). index_at now (number now v vdr_vxr_head) ≡ own'.index) vdr_is index.1
-
-  pub short : length now ≤ image_limit
-  short = so.short
 
   module _ (more : k ≤ new.rec) where
     pub some_most : 1 ≤ new.most
@@ -295,7 +225,7 @@ module _ {b now : List ℕ} {kind : Kind} {before : List VariableShape} {own : V
 
     -- ---- a block has the next one
 
-    module _ (l : Leaf) (found : Some (seen l) ≡ leaf_of k (leaves_of (index_at now head))) where
+    module _ (l : Leaf) (found : Some (seen l) ≡ leaf_of k (leaves_of (index_at now (number now new.vdr vdr_vxr_head)))) where
       here : leaf_of k (leaves_of own'.index) ≡ Some (seen l)
       here = sym (found ∙ ap (λ (x : Nodes). leaf_of k (leaves_of x)) index_is)
 
@@ -313,12 +243,9 @@ module _ {b now : List ℕ} {kind : Kind} {before : List VariableShape} {own : V
         holds = subst (HoldsRecords now l) sized held.0
 
         module _ (bytes : List ℕ) (bytes_are : bytes ≡ record_put new.raw.items new.pad.items new.rec k) where
-          bytes_long : length bytes ≡ size
-          bytes_long = ap length bytes_are ∙ record_long new.raw.items new.pad.items new.rec size p.start.raw_long p.pad_long k
-
           pub held_within : (k - l.first) * n + length bytes ≤ (l.last + 1 - l.first) * n
           held_within =
-              let long = bytes_long ∙ sym size_now ∙ sized in
+              let long = (ap length bytes_are ∙ record_long new.raw.items new.pad.items new.rec (record_bytes b own.vdr) p.start.raw_long p.pad_long k) ∙ sym size_now ∙ sized in
               let from = held.1 in
               let upto = held.2 in
               let room = times_le (suc (k - l.first)) (l.last + 1 - l.first) n (omega arith) in
@@ -332,61 +259,47 @@ module _ {b now : List ℕ} {kind : Kind} {before : List VariableShape} {own : V
               found = here;
               within = let s = sym sized in let e = bytes_are in transport (λ i. (k - l.first) * s i + length (e i) ≤ (l.last + 1 - l.first) * s i) held_within;
               written = w ∙ (let s = sym sized in let e = bytes_are in λ i. put_at now (l.at + (12 + (k - l.first) * s i)) (e i));
-            }) (record_long new.raw.items new.pad.items new.rec size p.start.raw_long p.pad_long k);
+            }) (record_long new.raw.items new.pad.items new.rec (record_bytes b own.vdr) p.start.raw_long p.pad_long k);
           }
 
     -- ---- no block has it
 
-    abbrev v : Variable
-    v = variable_of b own
-
-    rule : is_sparse v.sparse ≡ false
+    rule : is_sparse (variable_of b own).sparse ≡ false
     rule = ap is_sparse so.start.no_rule
 
-    abbrev taken_now : ℕ
-    taken_now = taken_bytes is.acts
-
-    covering : Covering v own.index own'.index new.rec k taken_now
-    covering = subst (λ (n : ℕ). Covering v own.index own'.index new.rec n taken_now) (so.covered_is more) so.covers
-
     abbrev last : ℕ
-    last = new_last v own'.index k
+    last = new_last (variable_of b own) own'.index k
 
-    ending : (k ≤ last) × (last < next_first k (firsts_of own'.index)) × (last ≤ record_number_limit)
-    ending = covering_vacant v own.index new.rec rule so.start.small own'.index k taken_now covering more
+    ending : Ends k (next_first k (firsts_of own'.index)) (block_count (variable_of b own)) last
+    ending = covering_ends so.covers so.start.small more
 
     last_is : last_in_new new.most own'.index k ≡ last
-    last_is = last_as v own'.index k new.rec new.most rule p.most_is so.from more (let o = ending.0 in let past = ending.1 in omega arith)
+    last_is = last_as (variable_of b own) own'.index k new.rec new.most rule p.most_is so.covers.from more (let o = ending.ordered in let past = ending.before_next in omega arith)
 
-    module _ (vacant : leaf_of k (leaves_of (index_at now head)) ≡ None) where
+    module _ {at : ℕ} (at_is : at ≡ number now new.vdr vdr_vxr_head) (vacant : leaf_of k (leaves_of (index_at now at)) ≡ None) where
+      tree_is : index_at now at ≡ own'.index
+      tree_is = ap (index_at now) at_is ∙ index_is
+
       none : find (λ (leaf : TreeLeaf). covers k (range leaf.first leaf.last)) (leaves_of own'.index) ≡ None
-      none = sym (ap (λ (x : Nodes). leaf_of k (leaves_of x)) index_is) ∙ vacant
+      none = sym (ap (λ (x : Nodes). leaf_of k (leaves_of x)) tree_is) ∙ vacant
 
-      module _ (end : ℕ) (end_is : end ≡ last_in_new new.most (index_at now head) k) (body : List ℕ) (says : IsBlockBody body (records_put new.raw.items new.pad.items new.rec (end + 1 - k) k)) where
+      module _ (end : ℕ) (end_is : end ≡ last_in_new new.most (index_at now at) k) (body : List ℕ) (says : IsBlockBody body (records_put new.raw.items new.pad.items new.rec (end + 1 - k) k)) where
         ends_at : end ≡ last
-        ends_at = end_is ∙ ap (λ (x : Nodes). last_in_new new.most x k) index_is ∙ last_is
+        ends_at = end_is ∙ ap (λ (x : Nodes). last_in_new new.most x k) tree_is ∙ last_is
 
-        need : 8 + length body ≡ block_bytes v k last
+        need : 8 + length body ≡ block_bytes (variable_of b own) k last
         need =
             body_long body (records_put new.raw.items new.pad.items new.rec (end + 1 - k) k) says
-            ∙ ap (λ (n : ℕ). max 28 (12 + n)) (records_long new.raw.items new.pad.items new.rec size p.start.raw_long p.pad_long (end + 1 - k) k ∙ ap (λ (n : ℕ). (n + 1 - k) * size) ends_at)
+            ∙ ap (λ (n : ℕ). max 28 (12 + n)) (records_long new.raw.items new.pad.items new.rec (record_bytes b own.vdr) p.start.raw_long p.pad_long (end + 1 - k) k ∙ ap (λ (n : ℕ). (n + 1 - k) * (record_bytes b own.vdr)) ends_at)
 
         room_here : length now + (8 + length body) + vxr_bytes (widest own'.index) ≤ limit
-        room_here =
-            let longer = longer_by b now is.acts so.goes.follow so.takes in
-            let long = need in
-            let enough = covering_room v own.index new.rec rule so.start.small own'.index k taken_now covering more so.start.loose none in
-            let room = p.room in
-            omega arith
-
-        room_left : length now + (8 + length body) + vxr_bytes (widest (index_at now head)) ≤ limit
-        room_left = subst (λ (x : Nodes). length now + (8 + length body) + vxr_bytes (widest x) ≤ limit) (sym index_is) room_here
+        room_here = omega (arith, longer_by b now is.acts so.goes.follow so.takes, need, covering_room so.covers so.start.small more rule so.start.loose none)
 
         -- an image that is read in between
         pub room_after : {mid : List ℕ} {bound : ℕ} → mid ≡ now → bound ≡ limit → length mid + (8 + length body) + vxr_bytes (widest (index_at mid (number mid new.vdr vdr_vxr_head))) ≤ bound
         room_after {mid = mid} same bounded =
             subst (λ (n : ℕ). length mid + (8 + length body) + vxr_bytes (widest (index_at mid (number mid new.vdr vdr_vxr_head))) ≤ n) (sym bounded)
-            (subst (λ (x : List ℕ). length x + (8 + length body) + vxr_bytes (widest (index_at x (number x new.vdr vdr_vxr_head))) ≤ limit) (sym same) room_left)
+            (subst (λ (x : List ℕ). length x + (8 + length body) + vxr_bytes (widest (index_at x (number x new.vdr vdr_vxr_head))) ≤ limit) (sym same) (subst (λ (x : Nodes). length now + (8 + length body) + vxr_bytes (widest x) ≤ limit) (sym index_is) room_here))
 
         pub added_on : {now' : List ℕ} → AddsOn now now' new.vdr k end body → limit ≤ image_limit → IsPut b now' kind before own after new (min end new.rec + 1)
         added_on {now' = now'} adds upto =
@@ -395,22 +308,20 @@ module _ {b now : List ℕ} {kind : Kind} {before : List VariableShape} {own : V
               own' = with_new_leaf own' (leaf k end a.place false) a.at;
               acts = is.acts ++ leaf_acts a.place (8 + length body) (new_room k own'.index) a.at;
               so = subst (λ (n : ℕ). SoFar b now' kind before own (with_new_leaf own' (leaf k end a.place false) a.at) after new.raw.items new.pad.items new.rec n (is.acts ++ leaf_acts a.place (8 + length body) (new_room k own'.index) a.at)) (omega arith)
-                  (so_far_added so more ends_at vacancy says (block_records new.raw.items new.pad.items new.rec size p.start.raw_long p.pad_long k end) a.added (not_long a.added));
+                  (so_far_added so more ends_at vacancy says (block_records new.raw.items new.pad.items new.rec (record_bytes b own.vdr) p.start.raw_long p.pad_long k end) a.added (not_long a.added));
             }
           where
             vacancy : IsVacant own' k end
             vacancy = record {
-              ordered = subst (λ (n : ℕ). k ≤ n) (sym ends_at) ending.0;
+              ordered = subst (λ (n : ℕ). k ≤ n) (sym ends_at) ending.ordered;
               uncovered = none;
-              before_next = subst (λ (n : ℕ). n < next_first k (firsts_of own'.index)) (sym ends_at) ending.1;
+              before_next = subst (λ (n : ℕ). n < next_first k (firsts_of own'.index)) (sym ends_at) ending.before_next;
             }
 
             not_long : {place at : ℕ} → LeafAdded now now' own' (leaf k end place false) body at → length now' ≤ image_limit
             not_long {at = at} w =
-                let wide = new_room_widest k own'.index (roomy now (shape now).records 8 own'.index (has good so.goes.among).indexed.has_nodes (fits good so.goes.among).1) in
+                let wide = new_room_widest k own'.index (roomy now (shape now).records 8 own'.index (has so.goes.good so.goes.among).indexed.has_nodes (fits so.goes.good so.goes.among).1) in
                 let node = node_long w.filled w.roomy (new_room k own'.index) at (widest own'.index) w.node wide in
-                let longest = w.block.longest in
-                let same = w.as_long in
                 let room = room_here in
                 omega arith
 
@@ -420,20 +331,16 @@ module _ {b now : List ℕ} {kind : Kind} {before : List VariableShape} {own : V
 starts_at : (b : List ℕ) (own other : VariableShape) (r : ℕ) → other.vdr ≡ own.vdr → first_written (variable_of b other) r ≡ first_written (variable_of b own) r
 starts_at b own other r e = ap (λ (v : ℕ). if is_sparse (sparse_at b v) then r else min r (extent (max_rec_at b v))) e
 
-module _ {b : List ℕ} {kind : Kind} {before : List VariableShape} {own : VariableShape} {after : List VariableShape} {new : NewRecord} {limit : ℕ} (p : Putting b kind before own after new limit) where
-  pub put_starts : (first : VariableShape) (from : ℕ) → from ≡ first_written (variable_of b first) new.rec → first.vdr ≡ new.vdr → IsPut b b kind before own after new from
-  put_starts first from is same = record {
-    own' = own;
-    acts = [];
-    so = subst (λ (n : ℕ). SoFar b b kind before own own after new.raw.items new.pad.items new.rec n []) (starts_at b first own new.rec (p.vdr_is ∙ sym same) ∙ sym is) (so_far_starts p.start);
-  }
-
 -- where what is read in between leaves the image and the limit
 pub on_after : {early mid now : List ℕ} {new : NewRecord} {k next limit bound : ℕ} → mid ≡ early → bound ≡ limit → PutsOn mid now bound new k next → PutsOn early now limit new k next
 on_after {early = early} {now = now} {new = new} {k = k} {next = next} {bound = bound} same bounded on = subst (λ (n : ℕ). PutsOn early now n new k next) bounded (subst (λ (x : List ℕ). PutsOn x now bound new k next) same on)
 
 pub all_start : {b : List ℕ} {new : NewRecord} {from limit : ℕ} → SomePutting b new from limit → PutsUpTo b b limit new from
-all_start {from = from} some kind before own after p = put_starts p some.own from some.from_is some.putting.vdr_is
+all_start {b = b} {new = new} some kind before own after p = record {
+  own' = own;
+  acts = [];
+  so = subst (λ (n : ℕ). SoFar b b kind before own own after new.raw.items new.pad.items new.rec n []) (starts_at b some.own own new.rec (p.vdr_is ∙ sym some.putting.vdr_is) ∙ sym some.from_is) (so_far_starts p.start);
+}
 
 pub some_put : {b now : List ℕ} {new : NewRecord} {from k limit : ℕ} → SomePutting b new from limit → PutsUpTo b now limit new k → SomePut now new k limit
 some_put {b = b} some all = record { b = b; kind = some.kind; before = some.before; own = some.own; after = some.after; putting = some.putting; is = all some.kind some.before some.own some.after some.putting }
@@ -445,5 +352,4 @@ all_on {b = b} all on kind before own after p = on b kind before own after p (al
 pub all_done : {b now : List ℕ} {new : NewRecord} {k limit : ℕ} → PutsUpTo b now limit new k → new.rec < k → PutsUpTo b now limit new (new.rec + 1)
 all_done {b = b} {now = now} {new = new} {k = k} all past kind before own after p =
     let is = all kind before own after p in
-    let upto = is.so.upto in
     subst (IsPut b now kind before own after new) (omega arith) is

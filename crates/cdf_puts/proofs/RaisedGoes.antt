@@ -1,13 +1,5 @@
 -- MaxRec is raised to the record that was put: no byte changes but MaxRec, and rMaxRec of an r variable.
-use Rattle.std.proofs.Common.{◌≡◌, ◌≢◌, ℕ, ℤ, pos, ◌+◌, ◌<◌, ◌≤◌, List, [], ◌∷◌, ◌++◌, length, map, Bool, true, bytes_eq, append-nil, refl, sym, ap, subst, ◌∙◌, arith, inl, inr}
-use Rattle.cdf_puts.proofs.Common.{le-leb, length-map, map-append, set_at, flat_map, if◌then◌else◌, slice_set, Kind, R, Z, DataSet, Variable, extent, record_number_limit, variables_of, with_variables, is_in, content, variable_of, number, type_at, with_sign, variable_records, vdr_vxr_tail, VariableShape, shape, In, max_rec_at, is_max_rec, Good, word_kept, either, In-append_left, bytes_eq-same, same_of_bytes_eq, RMaxRecFollows, r_max_rec, max_rec_touches, Changed, type_in, variables_chain, index_records, WritesRecords, part, same_shape, variables_of_are, StandsAmong, sound, typed, long, has, fits, ours, Kept, all_variable_records, MaxRecRaised}
-use Rattle.cdf_format.proofs.ShapeLemmas.{content_is}
-use Rattle.cdf_edits.proofs.Edits.VariableKept.{only_variable}
-use Rattle.cdf_edits.specs.Commands.GreatestRecord.{r_extents, greatest_r_max_rec}
-use Rattle.cdf_edits.specs.Edits.Marks.{index_types}
-use Rattle.cdf_edits.proofs.Edits.LeafRecords.{signed}
-use Rattle.cdf_edits.proofs.Edits.RecordsWritten.{behind_kept}
-use Rattle.cdf_edits.proofs.Edits.VariableFrame.{index_typed}
+use Rattle.cdf_puts.proofs.Common.{le-leb, length-map, map-append, set_at, if◌then◌else◌, slice_set, Kind, R, Z, DataSet, Variable, extent, record_number_limit, variables_of, with_variables, is_in, content, variable_of, number, type_at, with_sign, vdr_vxr_tail, VariableShape, shape, In, max_rec_at, is_max_rec, Good, word_kept, bytes_eq-same, same_of_bytes_eq, RMaxRecFollows, r_max_rec, max_rec_touches, Changed, type_in, variables_chain, index_records, WritesRecords, part, same_shape, variables_of_are, StandsAmong, sound, typed, long, has, fits, Kept, MaxRecRaised, ◌≡◌, ◌≢◌, ℕ, ℤ, pos, ◌+◌, ◌<◌, ◌≤◌, List, [], ◌∷◌, ◌++◌, length, map, true, bytes_eq, append-nil, refl, sym, ap, subst, ◌∙◌, arith, inl, inr, content_is, only_variable, r_extents, greatest_r_max_rec, index_types, signed, behind_kept, index_typed}
 
 -- ---- the greatest numbers of the r variables
 
@@ -15,18 +7,18 @@ abbrev extents : List Variable → List ℕ
 extents vs = map (λ (v : Variable). extent v.max_rec) vs
 
 middle_same : (xs zs : List Variable) (y y' : Variable) → extent y'.max_rec ≡ extent y.max_rec → extents (xs ++ y' ∷ zs) ≡ extents (xs ++ y ∷ zs)
-middle_same [] zs y y' e = ap (λ (n : ℕ). n ∷ extents zs) e
-middle_same (x ∷ xs) zs y y' e = ap (λ (ns : List ℕ). extent x.max_rec ∷ ns) (middle_same xs zs y y' e)
+middle_same [] zs y y' e = cc
+middle_same (x ∷ xs) zs y y' e = cc (middle_same xs zs y y' e)
 
 middle_differs : (xs zs : List Variable) (y y' : Variable) → extents (xs ++ y ∷ zs) ≡ extents (xs ++ y' ∷ zs) → extent y.max_rec ≡ extent y'.max_rec
-middle_differs [] zs y y' e = let same : extent y.max_rec ∷ extents zs ≡ extent y'.max_rec ∷ extents zs = e in cc
-middle_differs (x ∷ xs) zs y y' e = let same : extent x.max_rec ∷ extents (xs ++ y ∷ zs) ≡ extent x.max_rec ∷ extents (xs ++ y' ∷ zs) = e in let rest : extents (xs ++ y ∷ zs) ≡ extents (xs ++ y' ∷ zs) = (cc) in middle_differs xs zs y y' rest
+middle_differs [] zs y y' e = cc
+middle_differs (x ∷ xs) zs y y' e = grind (arith, e, middle_differs xs zs y y')
 
 same_test : (now_is was : List ℕ) (x y : ℤ) → now_is ≡ was → (if bytes_eq was now_is then x else y) ≡ x
-same_test now_is was x y e = ap (λ (c : Bool). if c then x else y) (ap (bytes_eq was) e ∙ bytes_eq-same was)
+same_test now_is was x y e = grind (arith, e, bytes_eq-same was)
 
 other_test : (now_is was : List ℕ) (x y : ℤ) → (was ≡ now_is → ⊥) → (if bytes_eq was now_is then x else y) ≡ y
-other_test now_is was x y differ = elim (either (bytes_eq was now_is)) [ inl t ↦ absurd (differ (same_of_bytes_eq was now_is t)) | inr t ↦ rw t refl ]
+other_test now_is was x y differ = grind (arith, same_of_bytes_eq was now_is)
 
 -- of a good image, one variable of a kind and the others of it
 module _ {b : List ℕ} {kind : Kind} {before : List VariableShape} {own : VariableShape} {after : List VariableShape} (good : Good b) (at : StandsAmong b kind before own after) where
@@ -72,9 +64,6 @@ module _ {b : List ℕ} {kind : Kind} {before : List VariableShape} {own : Varia
 -- ---- whose records are the GDR and the VDR
 
 module _ {b : List ℕ} {kind : Kind} {before : List VariableShape} {own : VariableShape} {after : List VariableShape} (good : Good b) (at : StandsAmong b kind before own after) where
-  pub own_in_all : (m : ℕ) → In m (variable_records own) → In m (all_variable_records (shape b))
-  own_in_all m i = (ours good at).1.sub m (In-append_left m (variable_records own) (flat_map variable_records after) i)
-
   pub vdr_no_gdr : own.vdr ≢ (shape b).gdr
   vdr_no_gdr e = (only_variable (sound good at) kind before own after at.was own.vdr (inl refl)).in_file (inr (inl e))
 
@@ -91,18 +80,15 @@ small_number : (n : ℕ) → n ≤ record_number_limit → is_max_rec n ≡ true
 small_number n le = rw (le-leb n record_number_limit le) refl
 
 module _ {b now : List ℕ} {kind : Kind} {before : List VariableShape} {own : VariableShape} {after : List VariableShape} {r : ℕ} (good : Good b) (at : StandsAmong b kind before own after) (w : MaxRecRaised b now kind own r) (small : r ≤ record_number_limit) where
-  abbrev vdr : ℕ
-  vdr = own.vdr
-
   pub raise_writes : WritesRecords b now kind own []
   raise_writes = record {
-    changed = subst (Changed b now) (sym (append-nil (max_rec_touches b kind vdr))) w.changed;
+    changed = subst (Changed b now) (sym (append-nil (max_rec_touches b kind own.vdr))) w.changed;
     as_long = w.as_long;
     in_blocks = tt;
     max_rec_ruled = ap is_max_rec w.max_rec_is ∙ small_number r small;
   }
 
-  pub max_rec_raised : max_rec_at now vdr ≡ pos r
+  pub max_rec_raised : max_rec_at now own.vdr ≡ pos r
   max_rec_raised = ap with_sign w.max_rec_is ∙ signed r small
 
   -- ---- what stays
@@ -110,8 +96,8 @@ module _ {b now : List ℕ} {kind : Kind} {before : List VariableShape} {own : V
   pub raised_behind : (m : ℕ) → In m (index_records own) → Kept b now m
   raised_behind m i = behind_kept good at raise_writes m i (λ none. none)
 
-  pub raised_tail : number now vdr vdr_vxr_tail ≡ number b vdr vdr_vxr_tail
-  raised_tail = word_kept b now (vdr + 28) (vdr + 44) (part good at raise_writes 28 44 (inr (omega arith)) (let n = long good at in omega arith)) (vdr + 36) 8 (omega arith) (omega arith)
+  pub raised_tail : number now own.vdr vdr_vxr_tail ≡ number b own.vdr vdr_vxr_tail
+  raised_tail = word_kept b now (own.vdr + 28) (own.vdr + 44) (part good at raise_writes 28 44 (inr (omega arith)) (let n = long good at in omega arith)) (own.vdr + 36) 8 (omega arith) (omega arith)
 
   pub raised_shape : shape now ≡ shape b
   raised_shape = same_shape good at raise_writes

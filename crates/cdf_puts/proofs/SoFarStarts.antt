@@ -1,68 +1,47 @@
 -- The leaves that were put so far: which one more there is once a record is written or a leaf is added, that a put goes through them one after the other, and how that starts.
-use Rattle.std.proofs.Common.{◌≡◌, ◌⊎◌, ℕ, zero, suc, ◌+◌, ◌-◌, ◌<◌, ◌≤◌, List, [], ◌∷◌, ◌++◌, Bool, true, false, Some, None, append_assoc, refl, sym, ap, subst, ◌∙◌, arith, inl, inr}
-use Rattle.cdf_puts.proofs.Common.{in_order, cases_lt, lt-ltb, ne_eqb, filter, min, max, nat_lt, find, ◌==◌, if◌then◌else◌, PutsLeaves, range, covers, with_leaf, new_room, block_need, Act, IsOneOf, Ascending, Leaf, leaves_of, VariableShape, record_bytes, either, node_acts, leaf_acts, with_new, put_count, was_put, PutsBefore, list_any, nat_le, Kind, Sparse, NoRule, extent, record_number_limit, new_ranges, Range, ranges_of, first_written, is_sparse, with_ranges, indexes_with, outline, UnusedEntries, NodeSpareStays, NodesFollow, top_chain, leaves_ascend, is_in, variable_of, Nodes, nodes_of, used_count, is_in-true, bytes_eq-same, of_le, PutStart, IndexSoFar, NodesSoFar, BlocksSoFar}
-use Rattle.cdf_edits.specs.Commands.Puts.{TakesNode}
-use Rattle.cdf_edits.proofs.Edits.LeafPieces.{covers_from}
+use Rattle.cdf_puts.proofs.Common.{in_order, ne_eqb, filter, min, max, find, ◌==◌, if◌then◌else◌, PutsLeaves, range, covers, with_leaf, new_room, block_need, Act, IsOneOf, Ascending, Leaf, leaves_of, VariableShape, record_bytes, node_acts, leaf_acts, with_new, was_put, PutsBefore, list_any, nat_le, Kind, Sparse, NoRule, extent, record_number_limit, new_ranges, Range, ranges_of, first_written, is_sparse, with_ranges, indexes_with, outline, UnusedEntries, NodeSpareStays, NodesFollow, top_chain, leaves_ascend, is_in, variable_of, Nodes, nodes_of, used_count, is_in-true, bytes_eq-same, of_le, PutStart, IndexSoFar, NodesSoFar, BlocksSoFar, ◌≡◌, ◌⊎◌, ℕ, zero, suc, ◌+◌, ◌<◌, ◌≤◌, List, [], ◌∷◌, ◌++◌, Bool, true, false, Some, None, append_assoc, refl, sym, ap, subst, arith, inl, inr, TakesNode, each, nat_tests}
 use Rattle.cdf_puts.proofs.CoveringRanges.{of_leaves}
-use Rattle.cdf_edits.proofs.Space.ActsLeave.{each}
-use Rattle.std.proofs.lemmas.Bool.Decides.{nat_tests}
-use Rattle.std.proofs.lemmas.Bool.{or_right}
 
 -- ---- which leaves were put
 
 none_put : (first k : ℕ) (l : Leaf) → k ≤ max first l.first → was_put first k l ≡ false
-none_put first k l le = let e : min k (l.last + 1) - max first l.first ≡ 0 = omega arith in rw e refl
+none_put first k l le = grind (arith, nat_tests)
 
 some_put : (first k : ℕ) (l : Leaf) → first < k → l.first < k → first ≤ l.last → l.first ≤ l.last → was_put first k l ≡ true
-some_put first k l a c d e = lt-ltb 0 (put_count first k l) (omega arith)
+some_put first k l a c d e = grind (arith, nat_tests)
 
 all_put : (first k k' : ℕ) (l : Leaf) → l.last < k → l.last < k' → was_put first k l ≡ was_put first k' l
-all_put first k k' l a c = let e : min k (l.last + 1) ≡ min k' (l.last + 1) = omega arith in ap (λ (n : ℕ). nat_lt 0 (n - max first l.first)) e
+all_put first k k' l a c = grind (arith, nat_tests)
 
 -- the leaves past a number, where none of them passes a test
 none_past : (test : Leaf → Bool) (k low upto : ℕ) (leaves : List Leaf) → Ascending low upto leaves → k < low → ((l : Leaf) → IsOneOf leaves l → k < l.first → test l ≡ false) → filter test leaves ≡ []
 none_past test k low upto [] a lt out = refl
-none_past test k low upto (x ∷ more) a lt out =
-    let a0 = a.0 in
-    let a1 = a.1 in
-    rw (out x (inl refl) (omega arith)) (none_past test k (suc x.last) upto more a.3 (omega arith) (λ l i. out l (inr i)))
+none_past test k low upto (x ∷ more) a lt out = grind (arith, a.0, a.1, out x (inl refl), none_past test k (suc x.last) upto more a.3 (omega arith) (λ l i. out l (inr i)))
 
 -- one more leaf passes, and with it none past it does: it comes behind those that did
 pub one_more : (test test' : Leaf → Bool) (low upto : ℕ) (leaves : List Leaf) (new : Leaf) → Ascending low upto leaves → test' new ≡ true → ((l : Leaf) → IsOneOf leaves l → l.first ≤ new.first → test' l ≡ test l)
     → ((l : Leaf) → IsOneOf leaves l → new.first < l.first → (test l ≡ false) × (test' l ≡ false)) → filter test' (with_new new leaves) ≡ filter test leaves ++ new ∷ []
 one_more test test' low upto [] new a is early late = rw is refl
-one_more test test' low upto (x ∷ more) new a is early late = elim (cases_lt new.first x.first) [
-  | inl lt ↦
-      let up : Ascending x.first upto (x ∷ more) = (omega arith, a.1, a.2, a.3) in
-      grind (arith, nat_tests, is, none_past test new.first x.first upto (x ∷ more) up lt (λ l i g. (late l i g).0), none_past test' new.first x.first upto (x ∷ more) up lt (λ l i g. (late l i g).1))
-  | inr le ↦ grind (arith, nat_tests, early x (inl refl) le, one_more test test' (suc x.last) upto more new a.3 is (λ l i. early l (inr i)) (λ l i. late l (inr i)))
-]
+one_more test test' low upto (x ∷ more) new a is early late =
+    let up : new.first < x.first → Ascending x.first upto (x ∷ more) = λ lt. (omega arith, a.1, a.2, a.3) in
+    let none = λ (t : Leaf → Bool) (lt : new.first < x.first). none_past t new.first x.first upto (x ∷ more) (up lt) lt in
+    grind (arith, nat_tests, is, λ (lt : new.first < x.first). none test lt (λ l i g. (late l i g).0), λ (lt : new.first < x.first). none test' lt (λ l i g. (late l i g).1), early x (inl refl), one_more test test' (suc x.last) upto more new a.3 is (λ l i. early l (inr i)) (λ l i. late l (inr i)))
 
 -- the leaf that has record k was put, or it comes behind those that were
 pub put_next : (first k low upto : ℕ) (leaves : List Leaf) → Ascending low upto leaves → (l : Leaf) → IsOneOf leaves l → first ≤ k → l.first ≤ k → k ≤ l.last
     → filter (was_put first (k + 1)) leaves ≡ (if was_put first k l then filter (was_put first k) leaves else filter (was_put first k) leaves ++ l ∷ [])
 put_next first k low upto [] a l i from f t = absurd i
 put_next first k low upto (x ∷ more) a l (inl q) from f t =
-    let here : was_put first (k + 1) l ≡ true = some_put first (k + 1) l (omega arith) (omega arith) (omega arith) (omega arith) in
     let below = λ (n : ℕ) (le : n ≤ suc k). none_past (was_put first n) k (suc x.last) upto more a.3 (subst (λ (y : Leaf). k < suc y.last) (sym q) (omega arith)) (λ y j g. none_put first n y (omega arith)) in
-    rw (ap (was_put first (k + 1)) q ∙ here, below (k + 1) (omega arith), below k (omega arith), q) (elim (either (was_put first k l)) [ inl p ↦ rw p refl | inr p ↦ rw p refl ])
-put_next first k low upto (x ∷ more) a l (inr i) from f t =
-    let before = (in_order (suc x.last) upto more a.3 l i).from in
-    let same : was_put first (k + 1) x ≡ was_put first k x = all_put first (k + 1) k x (omega arith) (omega arith) in
-    let rest = put_next first k (suc x.last) upto more a.3 l i from f t in
-    grind (arith, same, rest)
+    grind (arith, q, some_put first (k + 1) l, below (k + 1) (omega arith), below k (omega arith))
+put_next first k low upto (x ∷ more) a l (inr i) from f t = grind (arith, (in_order (suc x.last) upto more a.3 l i).from, all_put first (k + 1) k x, put_next first k (suc x.last) upto more a.3 l i from f t)
 
 -- a leaf that is added comes behind them
 pub put_new : (first k k' low upto : ℕ) (leaves : List Leaf) (new : Leaf) → Ascending low upto leaves → ((l : Leaf) → IsOneOf leaves l → (l.last < k) ⊎ (new.last < l.first)) → new.first ≡ k → first ≤ k → k < k' → k' ≤ new.last + 1
     → filter (was_put first k') (with_new new leaves) ≡ filter (was_put first k) leaves ++ new ∷ []
 put_new first k k' low upto leaves new a beside is from more within =
-    one_more (was_put first k) (was_put first k') low upto leaves new a (some_put first k' new (omega arith) (omega arith) (omega arith) (omega arith)) (λ l i le. elim (beside l i) [
-      | inl lt ↦ all_put first k' k l (omega arith) lt
-      | inr lt ↦ absurd (omega arith)
-    ]) (λ l i lt. elim (beside l i) [
-      | inl before ↦ let o = (in_order low upto leaves a l i).ordered in absurd (omega arith)
-      | inr past ↦ (none_put first k l (omega arith), none_put first k' l (omega arith))
-    ])
+    one_more (was_put first k) (was_put first k') low upto leaves new a (some_put first k' new (omega arith) (omega arith) (omega arith) (omega arith)) (λ l i le. grind (arith, beside l i, all_put first k' k l))
+    (λ l i lt. grind (arith, beside l i, (in_order low upto leaves a l i).ordered, none_put first k l, none_put first k' l))
 
 -- no other leaf begins where none has the record
 pub none_begins : (k low upto : ℕ) (leaves : List Leaf) → Ascending low upto leaves → find (λ (leaf : Leaf). covers k (range leaf.first leaf.last)) leaves ≡ None → find (λ (old : Leaf). old.first == k) leaves ≡ None
@@ -101,12 +80,11 @@ puts_new b own own' leaves acts new need at so none needs no_node last size more
 
 none_put_yet : (first : ℕ) (leaves : List Leaf) → filter (was_put first first) leaves ≡ []
 none_put_yet first [] = refl
-none_put_yet first (x ∷ more) = let e : min first (x.last + 1) - max first x.first ≡ 0 = omega arith in rw e (none_put_yet first more)
+none_put_yet first (x ∷ more) = grind (arith, nat_tests, none_put_yet first more)
 
 pub covers_own : (leaves : List Leaf) (l : Leaf) → IsOneOf leaves l → l.first ≤ l.last → list_any (covers l.first) (of_leaves leaves) ≡ true
 covers_own [] l i le = absurd i
-covers_own (x ∷ more) l (inl q) le = let here : covers l.first (range x.first x.last) ≡ true = subst (λ (y : Leaf). covers l.first (range y.first y.last) ≡ true) (sym q) (covers_from l.first l (omega arith) le) in rw here refl
-covers_own (x ∷ more) l (inr i) le = or_right (covers l.first (range x.first x.last)) (list_any (covers l.first) (of_leaves more)) (covers_own more l i le)
+covers_own (x ∷ more) l i le = grind (arith, nat_tests, i, covers_own more l)
 
 pub none_new : (before : List Range) (leaves : List Leaf) → ((l : Leaf) → IsOneOf leaves l → list_any (covers l.first) before ≡ true) → new_ranges before (of_leaves leaves) ≡ []
 none_new before [] has = refl
@@ -126,7 +104,7 @@ nodes_first b through nodes = record {
 -- ---- where the writing begins
 
 first_upto : (s : Sparse) (m r : ℕ) → s ≡ NoRule → (if is_sparse s then r else min r m) ≤ r
-first_upto s m r e = subst (λ (x : Sparse). (if is_sparse x then r else min r m) ≤ r) (sym e) (omega arith)
+first_upto s m r e = grind (arith, e)
 
 module _ {b : List ℕ} {kind : Kind} {before : List VariableShape} {own : VariableShape} {after : List VariableShape} {raw pad : List ℕ} {r : ℕ} (start : PutStart b kind before own after raw pad r) where
   abbrev first : ℕ

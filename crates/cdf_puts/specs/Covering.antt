@@ -1,9 +1,9 @@
 -- How a put gives its records a block, one after the other, and how many bytes that takes by then (own; of a variable without a sparse rule, whose blocks are not packed).
-use Rattle.std.specs.Prelude.{◌≡◌, ◌≤◌, ℕ, suc, ◌+◌, ◌-◌, ◌*◌, ◌==◌, max, List, [], ◌∷◌, nat_le, if◌then◌else◌}
+use Rattle.std.specs.Prelude.{◌≡◌, ◌≤◌, ◌<◌, ℕ, suc, ◌+◌, ◌-◌, ◌*◌, ◌==◌, max, List, [], ◌∷◌, nat_le, if◌then◌else◌, find, None}
 use Rattle.cdf_model.specs.DataSet.{Variable}
 use Rattle.cdf_model.specs.Limits.{record_number_limit}
 use Rattle.cdf_edits.specs.Commands.Room.{widest, put_room}
-use Rattle.cdf_edits.specs.Index.Blocks.{ranges_of, covered, record_length, block_count, firsts_of, next_first, new_range, cover, first_written, ranges_after_put}
+use Rattle.cdf_edits.specs.Index.Blocks.{Range, ranges_of, covers, covered, record_length, block_count, firsts_of, next_first, new_range, cover, first_written, ranges_after_put}
 use Rattle.cdf_edits.specs.Index.Grown.{new_room}
 use Rattle.cdf_format.specs.Index.{Nodes}
 use Rattle.cdf_format.specs.Records.{vxr_bytes, vvr_bytes, linked_size}
@@ -33,12 +33,21 @@ pub record Counted (v : Variable) (index index' : Nodes) (n k taken : ℕ) : Typ
   pub blocks_are : blocks * block_count v ≤ records + count_upto k (firsts_of index) * block_count v
   pub bytes_are : taken ≤ records * record_length v + blocks * (linked_size + vxr_bytes (widest index))
 
+-- Each record up to n gets a block where it has none, which makes these ranges of those: from `next` on, in so many steps at most; the records from k up to it have one.
+pub record Ahead (v : Variable) (firsts : List ℕ) (n k : ℕ) (ranges after : List Range) : Type 0 where
+  pub next : ℕ
+  pub steps : ℕ
+  pub upto : k ≤ next
+  pub enough : n + 1 ≤ steps + next
+  pub between : (j : ℕ) → k ≤ j → j < next → j ≤ n → find (covers j) ranges ≡ None → ⊥
+  pub leads : cover steps v firsts next n ranges ≡ after
+
 -- Record n is put. The index was `index` and is `index'` by now: what is written before record k has its block, and so many bytes were taken for it.
 -- What is left to do leads to the ranges that the put leaves; a First past k is one of `index`; no node is wider than its widest; and the room of the put is enough.
 pub record Covering (v : Variable) (index index' : Nodes) (n k taken : ℕ) : Type 0 where
   pub ordered : InOrder 0 record_number_limit index'
   pub from : first_written v n ≤ k
-  pub ahead : cover (n + 1 - k) v (firsts_of index) k n (ranges_of index') ≡ ranges_after_put v index n
+  pub ahead : Ahead v (firsts_of index) n k (ranges_of index') (ranges_after_put v index n)
   pub nexts : (m : ℕ) → k ≤ m → next_first m (firsts_of index') ≡ next_first m (firsts_of index)
   pub as_wide : widest index' ≤ widest index
   pub fits : taken ≤ put_room v index n

@@ -26,7 +26,7 @@ record_put raw pad r k = if k == r then raw else pad
 -- so many records from one on
 abbrev pub records_put : List ℕ → List ℕ → ℕ → ℕ → ℕ → List ℕ
 records_put raw pad r zero k = []
-records_put raw pad r (suc count) k = record_put raw pad r k ++ records_put raw pad r count (suc k)
+records_put raw pad r (suc count) k = records_put raw pad r count k ++ record_put raw pad r (k + count)
 
 -- the most records of a new block: up to MaxRec it has one
 abbrev pub most_in_block : Variable → ℕ → ℕ

@@ -5,6 +5,7 @@ use Rattle.cdf_model.specs.declared.kinds.Kind.{Kind}
 use Rattle.cdf_model.specs.declared.kinds.Sparse.TheVariants.{NoRule}
 use Rattle.cdf_model.specs.DataSet.{extent}
 use Rattle.cdf_model.specs.Limits.{image_limit, record_number_limit}
+use Rattle.cdf_edits.specs.Commands.GreatestRecord.{r_max_rec}
 use Rattle.cdf_edits.specs.Commands.Puts.{PutsLeaves, new_ranges}
 use Rattle.cdf_edits.specs.Frame.Changed.{Touch, touch, Changed}
 use Rattle.cdf_edits.specs.Index.Blocks.{ranges_of, first_written}
@@ -134,16 +135,13 @@ pub record BlocksSoFar (b now : List ℕ) (own own' : VariableShape) (raw pad : 
 
 pub record SoFar (b now : List ℕ) (kind : Kind) (before : List VariableShape) (own own' : VariableShape) (after : List VariableShape) (raw pad : List ℕ) (r k : ℕ) (acts : List Act) : Type 0 where
   pub start : PutStart b kind before own after raw pad r
-  pub from : first_written (variable_of b own) r ≤ k
   pub upto : k ≤ r + 1
-  pub goes : GoesOn b now kind before own own' after r acts
-  pub covered : ℕ
-  pub covered_is : k ≤ r → covered ≡ k
-  pub covered_past : r < k → r < covered
-  pub covers : Covering (variable_of b own) own.index own'.index r covered (taken_bytes acts)
+  pub goes : GoesOn b now kind before own own' after acts
+  pub covers : Covering (variable_of b own) own.index own'.index r k (taken_bytes acts)
   pub takes : Each IsTaking acts
   pub short : length now ≤ image_limit
   pub max_rec_is : number now own.vdr vdr_max_rec ≡ number b own.vdr vdr_max_rec
+  pub r_max_rec_is : r_max_rec now ≡ r_max_rec b
   pub index : IndexSoFar b now own own' (first_written (variable_of b own) r) k acts
   pub blocks : BlocksSoFar b now own own' raw pad r (first_written (variable_of b own) r) k acts
 

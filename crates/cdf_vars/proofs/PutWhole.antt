@@ -8,11 +8,9 @@ use Rattle.cdf_puts.specs.Going.{found_in}
 use Rattle.cdf_puts.specs.Putting.{IsPut, Putting}
 use Rattle.cdf_puts.specs.SoFar.{MaxRecDone, PutStart}
 use Rattle.cdf_puts.proofs.PutRules.{loose}
-use Rattle.cdf_puts.proofs.DoneBytes.{is_put}
-use Rattle.cdf_puts.proofs.LastImage.{has_put}
-use Rattle.cdf_puts.proofs.PutMeaning.{put_content}
+use Rattle.cdf_puts.proofs.DoneBytes.{is_put, put_rec_done, put_val_done}
+use Rattle.cdf_puts.proofs.LastImage.{last_image, put_content}
 use Rattle.cdf_puts.proofs.RaisedGoes.{raised_shape}
-use Rattle.cdf_puts.proofs.SoFarDone.{put_rec_done, put_val_done}
 use Rattle.cdf_vars.proofs.VariableFound.{same_name_set}
 use Rattle.cdf_vars.proofs.PutParts.{pad_is_long, whole_record}
 
@@ -202,7 +200,7 @@ module _ {b : List ℕ} {t : Target} {bytes : List ℕ} {put : NewRecord} (good 
           by (inr x) = ap shape x.1
 
       last_content : content last ≡ with_variable (content b) (found_in b kind can.is.before can.is.own) (with_record v put.rec bytes)
-      last_content = put_content good can.is.among (has_put done.so max_rec_done) (is_put done.so max_rec_done) bytes raw_is pad_is
+      last_content = put_content good can.is.among (last_image done.so max_rec_done).goes (is_put done.so max_rec_done) bytes raw_is pad_is
 
       last_places : (k : Kind) → vdrs (shapes_of (shape b) k) ≡ vdrs (shapes_of (shape last) k)
       last_places k = now_places k ∙ ap (λ (s : Shape). vdrs (shapes_of s k)) (sym last_shape)

@@ -1,38 +1,32 @@
 -- Records of a variable are written where they stand, in blocks that are not packed, and MaxRec with them: the image has its shape and its rules, and all but the variable stays.
-use Rattle.std.proofs.Common.{◌≡◌, ◌⊎◌, ℕ, suc, ◌+◌, ◌≤◌, List, [], ◌∷◌, ◌++◌, length, map, true, Option, Some, None, eqb, true≢false, eq-eqb, refl, sym, ap, subst, ◌∙◌, arith, inl, inr}
-use Rattle.cdf_edits.proofs.Common.{eqb-true, flat_map, slice_get, ◌==◌, find, if◌then◌else◌, slice_set, Kind, R, Z, image_limit, Found, variables_of, with_variables, Same, is_a, is_in, content, variable_of, number, size_at, type_at, Leaf, nodes_of, leaves_of, index_rows, OneVariable, Unused, variable_records, unused_records, owned, gdr_eof, gdr_uir_head, gdr_r_max_rec, vdr_max_rec, vdr_vxr_head, cdr_type, gdr_type, r_vdr_type, z_vdr_type, vxr_type, vvr_type, cvvr_type, cpr_type, uir_type, Hold, VariableShape, Shape, Each, HasShape, shape, IsSound, NodeFits, In, is_max_rec, Good, is_a-in, is_a-type, linkable-type, good_is_sound, nodes_stand, either, In-append, In-append_left, true-is_in, false-is_in, Each-append, tile_lies, Allowance, Allowances, Anything, Only, Keeps, AllKeep, OwnAllowances, stays_own, space_fields, only_of, same_kind, vdr_type, shapes_of, range_at, of_variable, r_max_rec_field, r_max_rec, put_changes, Edit, Mark, mark, Among, Avoids, Away, Within, Covered, Marked, avoided, unmarked, keeps_file, variable_types, Touch, touched_field, Changed, Range, range, ActsFollow, head_of, count_of, type_in, variables_chain, IsIndex}
-use Rattle.cdf_format.specs.Records.{vdr_vxr_tail}
-use Rattle.cdf_edits.specs.Commands.Allowances.{anything_if}
+use Rattle.std.proofs.Common.{◌≡◌, ◌⊎◌, ℕ, ◌+◌, ◌≤◌, List, [], ◌∷◌, ◌++◌, length, map, true, true≢false, refl, sym, ap, subst, ◌∙◌, arith, inl, inr}
+use Rattle.cdf_edits.proofs.Common.{flat_map, slice_set, Kind, R, Z, image_limit, variables_of, with_variables, Same, is_a, is_in, content, variable_of, number, size_at, type_at, nodes_of, leaves_of, index_rows, variable_records, gdr_eof, gdr_uir_head, gdr_r_max_rec, vdr_max_rec, vdr_vxr_head, gdr_type, r_vdr_type, z_vdr_type, vxr_type, vvr_type, cvvr_type, cpr_type, uir_type, Hold, VariableShape, Shape, Each, HasShape, shape, IsSound, NodeFits, In, is_max_rec, Good, is_a-type, linkable-type, good_is_sound, nodes_stand, either, In-append, In-append_left, true-is_in, false-is_in, Each-append, tile_lies, space_fields, r_max_rec_field, r_max_rec, Edit, Mark, mark, Among, Avoids, Away, Within, Covered, Marked, avoided, unmarked, keeps_file, variable_types, Touch, touched_field, Changed, ActsFollow, head_of, count_of, type_in, variables_chain, IsIndex, Stays}
 use Rattle.cdf_edits.specs.Commands.Puts.{max_rec_touches}
-use Rattle.cdf_edits.specs.Commands.Room.{is_rewritten}
 use Rattle.cdf_edits.specs.Edits.Marks.{Anywhere}
-use Rattle.cdf_edits.proofs.Commands.KeptRecords.{Stood, keeps_stood, keep_owned, keep_attributes, keep_variables}
-use Rattle.cdf_edits.proofs.Commands.ListParts.{got-middle}
+use Rattle.cdf_edits.proofs.Commands.KeptRecords.{Stood}
 use Rattle.cdf_edits.proofs.Edits.Composing.{head_size, head_type, changed_edit}
 use Rattle.cdf_edits.proofs.Edits.InRecords.{places_of, index_both, index_rows_both}
 use Rattle.cdf_edits.proofs.Edits.MarkLemmas.{the_one}
-use Rattle.cdf_edits.proofs.Edits.OwnedOnce.{all_attributes_in}
-use Rattle.cdf_edits.proofs.Edits.OwnersKept.{stood, keeps_within, keep_places, keep_file, keep_all}
-use Rattle.cdf_edits.proofs.Edits.RecordFrame.{index_records, cdr_kept, kept, kept_away, chain_stays, gdr_field, file_same}
+use Rattle.cdf_edits.proofs.Edits.OwnersKept.{stood, keeps_within}
+use Rattle.cdf_edits.proofs.Edits.RecordFrame.{index_records, kept, kept_away, chain_stays, gdr_field, file_same}
 use Rattle.cdf_edits.proofs.Edits.StepEdits.{gdr_in, gdr_typed, gdr_long, some_bytes}
 use Rattle.cdf_edits.proofs.Edits.VariableCopied.{node_behind, block_behind, cpr_behind}
-use Rattle.cdf_edits.proofs.Edits.VariableFrame.{IsRuled, variable_typed, variables_in}
-use Rattle.cdf_edits.proofs.Edits.VariableKept.{OnlyVariable, only_variable, same_as_itself, vdr_allowance, keep_variable_parts, keep_kinds}
-use Rattle.cdf_edits.proofs.Edits.VariableKinds.{other_kind, kind_type, keeps_kind, kind_ours}
-use Rattle.cdf_edits.proofs.Edits.VariableSplice.{attributes_kept, keeps_all_attributes}
+use Rattle.cdf_edits.proofs.Edits.VariableFrame.{IsRuled, variable_typed}
+use Rattle.cdf_edits.proofs.Edits.VariableKinds.{other_kind, keeps_kind}
+use Rattle.cdf_edits.proofs.Edits.VariableSplice.{keeps_all_attributes}
 use Rattle.cdf_edits.proofs.Edits.OwnEdited.{OwnEdit, shape_stays, good_in_place, named_before, r_max_rec_kept}
 use Rattle.cdf_edits.proofs.Edits.OwnEdited as of_own
 use Rattle.cdf_edits.proofs.Edits.IndexEdited.{IndexEdit}
 use Rattle.cdf_edits.proofs.Edits.IndexEdited as of_index
 use Rattle.cdf_edits.proofs.Frame.VdrStays.{packed_stays}
-use Rattle.cdf_edits.proofs.Edits.VdrEdited.{StandsAmong, tile, typed, long, has, fits, ours, after_ours, behind_in, no_block}
+use Rattle.cdf_edits.proofs.Edits.VdrEdited.{StandsAmong, tile, typed, long, has, fits, ours, behind_in, no_block}
 use Rattle.cdf_edits.proofs.Frame.LinksStay.{SameHeads, index_kept}
 use Rattle.cdf_edits.proofs.Frame.Meaning.{FileSame, Kept}
 use Rattle.cdf_edits.proofs.Frame.OwnerAlone.{Each-in}
-use Rattle.cdf_edits.proofs.Frame.OwnersApart.{all_variable_records, unused_in}
+use Rattle.cdf_edits.proofs.Frame.OwnersApart.{all_variable_records}
 use Rattle.cdf_edits.proofs.Frame.VdrAlike.{VdrAlike, Copied, copied_in_place, word_copied, plain_alike}
 use Rattle.cdf_edits.proofs.Rules.OfIndexes.{index_rules_written}
-use Rattle.cdf_edits.proofs.Space.UsedRecords.{apart, filter-says}
+use Rattle.cdf_edits.proofs.Space.UsedRecords.{apart}
 
 -- some bytes of a block of the variable that is not packed, behind its type
 pub record InBlock (b : List ℕ) (own : VariableShape) (t : Touch) : Type 0 where
@@ -208,10 +202,6 @@ module _ {b now : List ℕ} {kind : Kind} {before : List VariableShape} {own : V
   cpr_kept : (m : ℕ) → In m own.cpr → Kept b now m
   cpr_kept m i = kept edit m cpr_type (behind_in good at m (cpr_behind own m i)) (is_a-type b s.records cpr_type m (Each-in (λ x. is_a b s.records cpr_type x ≡ true) own.cpr (fits good at).3 m i)) tests.cpr_clear
 
-  -- no other variable has a record of this one
-  only : (m : ℕ) → In m (variable_records own) → OnlyVariable b s kind before after m
-  only m i = only_variable sound kind before own after at.was m i
-
   -- a block of which nothing is written
   pub block_kept : (m : ℕ) → In m (places_of (leaves_of own.index)) → (In m places → ⊥) → Kept b now m
   block_kept m i out = kept_away edit m (type_at b m) (in_records m i) refl (put_away kind v places (length b) (type_at b m) m (λ e. no_gdr m (variable_typed b s sound m (own_of m i)) e) (λ e. no_vdr m i e) (λ e j. out j))
@@ -256,7 +246,7 @@ module _ {b now : List ℕ} {kind : Kind} {before : List VariableShape} {own : V
   beside : (m : ℕ) → In m (all_variable_records s) → (In m (variable_records own) → ⊥) → Away marks (type_at b m) m
   beside m i out = put_away kind v places (length b) (type_at b m) m (λ e. true≢false (sym (ap (λ (x : ℕ). is_in x variable_types) (sym e) ∙ variable_typed b s sound m i))) (λ e. out (inl e)) (λ e j. out (inr (block_behind own m (block_in m j))))
 
-  index_edit : IndexEdit b now kind own own.index s.records s.unused marks []
+  pub index_edit : IndexEdit b now kind own own.index s.records s.unused marks []
   index_edit = record {
     edit = edit;
     file_clear = tests.file_clear;
@@ -330,86 +320,12 @@ module _ {b now : List ℕ} {kind : Kind} {before : List VariableShape} {own : V
 
   -- ---- what stays
 
-  stands : (xs : List ℕ) → ((m : ℕ) → In m xs → In m (all_variable_records s)) → ((m : ℕ) → In m (variable_records own) → In m xs → ⊥) → (m : ℕ) → In m xs → Stood b now m
-  stands xs sub out m i = let inside = variables_in b s sound m (sub m i) in stood sound edit records_are m inside (kept_away edit m (type_at b m) inside refl (beside m (sub m i) (λ j. out m j i)))
-
   gdr_within : (k : Kind) → Within (put_marks k v places (length b)) gdr_type s.gdr (r_max_rec_field k ++ space_fields)
   gdr_within R = ((λ same lies. refl), ((λ same lies. absurd (vdr_no_gdr R (sym same))), ((λ same lies. absurd (apart gdr_type vvr_type refl same)), tt)))
   gdr_within Z = ((λ same lies. absurd (vdr_no_gdr Z (sym same))), ((λ same lies. absurd (apart gdr_type vvr_type refl same)), tt))
 
-  vdr_within : (k : Kind) → Within (put_marks k v places (length b)) (type_in (variables_chain k)) v (vdr_max_rec ∷ vdr_vxr_head ∷ vdr_vxr_tail ∷ [])
-  vdr_within R = ((λ same lies. absurd (vdr_no_gdr R same)), ((λ same lies. refl), ((λ same lies. absurd (vdr_no_block R same)), tt)))
-  vdr_within Z = ((λ same lies. refl), ((λ same lies. absurd (vdr_no_block Z same)), tt))
+  pub gdr_keeps : Stays b now s.gdr (r_max_rec_field kind ++ space_fields)
+  gdr_keeps = keeps_within sound edit records_are s.gdr gdr_type (r_max_rec_field kind ++ space_fields) (gdr_in b s h) (gdr_typed b s h) (early kind v places (length b) gdr_type s.gdr 0 12 (omega arith)) (gdr_within kind)
 
-  module _ (found : Found) (kind_is : found.kind ≡ kind) (number_is : found.number ≡ length before) (n : ℕ)
-      (rewritten : (m : ℕ) → In m places → (l : Leaf) × ((find (λ (leaf : Leaf). leaf.place == m) (leaves_of own.index) ≡ Some l) × (is_rewritten found.variable n (range l.first l.last) ≡ true))) where
-    abbrev may : Allowances
-    may = put_changes b s found n
-
-    abbrev own_may : OwnAllowances
-    own_may = record stays_own { vdr = Only (vdr_max_rec ∷ vdr_vxr_head ∷ vdr_vxr_tail ∷ []); nodes = Anything; blocks = λ r. anything_if (is_rewritten found.variable n r) }
-
-    was : shapes_of s found.kind ≡ before ++ own ∷ after
-    was = ap (shapes_of s) kind_is ∙ at.was
-
-    keeps_own_vdr : Keeps b now v (may.variables kind (length before) v)
-    keeps_own_vdr =
-        let may_be : of_variable b s found own_may [] found.kind (length before) v ≡ Only (vdr_max_rec ∷ vdr_vxr_head ∷ vdr_vxr_tail ∷ []) = vdr_allowance b found before own after was number_is (typed good at ∙ ap (λ (k : Kind). type_in (variables_chain k)) (sym kind_is) ∙ kind_type found.kind) (no_block good at) own_may [] in
-        let kept_vdr : Keeps b now v (Only (vdr_max_rec ∷ vdr_vxr_head ∷ vdr_vxr_tail ∷ [])) = keeps_within sound edit records_are v type (vdr_max_rec ∷ vdr_vxr_head ∷ vdr_vxr_tail ∷ []) (tile good at) (typed good at) (early kind v places (length b) type v 0 12 (omega arith)) (vdr_within kind) in
-        subst (λ (k : Kind). Keeps b now v (may.variables k (length before) v)) kind_is (subst (Keeps b now v) (sym may_be) kept_vdr)
-
-    stood_behind : (m : ℕ) → In m (index_records own) → Kept b now m → Stood b now m
-    stood_behind m i k = stood sound edit records_are m (behind_in good at m i) k
-
-    -- a block that is written may change
-    block_free : (m : ℕ) → In m places → may.variables kind (length before) m ≡ Anything
-    block_free m i =
-        let x = rewritten m i in
-        let there : slice_get (shapes_of s found.kind) found.number ≡ Some own = ap (slice_get (shapes_of s found.kind)) number_is ∙ ap (λ (vs : List VariableShape). slice_get vs (length before)) was ∙ got-middle before own after in
-        let at_place : range_at s found m ≡ Some (range x.0.first x.0.last) = ap (range_in m) there ∙ ap in_leaf x.1.0 in
-        let same : same_kind found.kind kind ≡ true = ap (same_kind found.kind) (sym kind_is) ∙ same_as_itself found.kind in
-        let number : (found.number == length before) ≡ true = eq-eqb found.number (length before) number_is in
-        let written = x.1.1 in
-        (λ i. if same i then (if number i then (elim (at_place i) as (λ o. Allowance) [ Some r ↦ anything_if (is_rewritten found.variable n r) | None ↦ if type_at b m == vdr_type found.kind then own_may.vdr else (if type_at b m == vxr_type then own_may.nodes else own_may.cpr) ]) else only_of b m (vdr_type kind) []) else Only [])
-        ∙ ap anything_if written
-      where
-        in_leaf : Option Leaf → Option Range
-        in_leaf None = None
-        in_leaf (Some leaf) = Some (range leaf.first leaf.last)
-
-        range_in : ℕ → Option VariableShape → Option Range
-        range_in place None = None
-        range_in place (Some v) = in_leaf (find (λ (leaf : Leaf). leaf.place == place) (leaves_of v.index))
-
-    keeps_behind : (m : ℕ) → In m (index_records own) → Keeps b now m (may.variables kind (length before) m)
-    keeps_behind m i = elim (In-append m (nodes_of own.index ++ places_of (leaves_of own.index)) own.cpr i) [
-      | inr c ↦ keeps_stood b now m (stood_behind m i (cpr_kept m c)) (may.variables kind (length before) m)
-      | inl j ↦ elim (In-append m (nodes_of own.index) (places_of (leaves_of own.index)) j) [
-        | inl x ↦ keeps_stood b now m (stood_behind m i (node_kept m x)) (may.variables kind (length before) m)
-        | inr x ↦ elim (either (is_in m places)) [
-          | inl e ↦ subst (Keeps b now m) (sym (block_free m (true-is_in m places e))) tt
-          | inr e ↦ keeps_stood b now m (stood_behind m i (block_kept m x (false-is_in m places e))) (may.variables kind (length before) m)
-        ]
-      ]
-    ]
-
-    keeps_gdr : Keeps b now s.gdr may.gdr
-    keeps_gdr = keeps_within sound edit records_are s.gdr gdr_type (r_max_rec_field found.kind ++ space_fields) (gdr_in b s h) (gdr_typed b s h) (early kind v places (length b) gdr_type s.gdr 0 12 (omega arith))
-        (subst (λ (k : Kind). Within marks gdr_type s.gdr (r_max_rec_field k ++ space_fields)) (sym kind_is) (gdr_within kind))
-
-    keeps_cdr : Keeps b now 8 may.cdr
-    keeps_cdr = let k = cdr_kept sound edit tests.file_clear in keeps_stood b now 8 (stood sound edit records_are 8 (is_a-in b s.records cdr_type 8 h.cdr_stands) k) may.cdr
-
-    pub all_keep_put : AllKeep b now (put_changes b s found n) [] (owned b s)
-    all_keep_put =
-        let mine = keep_places b now may [] (OneVariable kind (length before)) (variable_records own) (λ m i. elim i [
-          | inl q ↦ subst (λ (x : ℕ). Keeps b now x (may.variables kind (length before) x)) (sym q) keeps_own_vdr
-          | inr j ↦ keeps_behind m j
-        ]) in
-        let parts = keep_variable_parts b now may [] kind before own after at.was
-        (keep_variables b now may [] kind 0 before (stands (flat_map variable_records before) (ours good at).0.sub (λ m i. (only m i).in_before))) mine
-        (keep_variables b now may [] kind (suc (length before)) after (stands (flat_map variable_records after) (after_ours good at).sub (λ m i. (only m i).in_after))) in
-        let both = keep_kinds b now may [] kind parts (keep_variables b now may [] (other_kind kind) 0 (shapes_of s (other_kind kind)) (stands (flat_map variable_records (shapes_of s (other_kind kind))) (kind_ours b s sound (other_kind kind)).sub (λ m i. (only m i).in_others))) in
-        keep_all b now may [] (keep_file b now may [] sound keeps_cdr keeps_gdr)
-        (keep_attributes b now may [] 0 s.attributes (λ m i. stood sound edit records_are m (all_attributes_in sound m i) (attributes_kept sound (of_own.splices good at own_edit) m i))) both.0 both.1
-        (keep_owned b now may [] Unused (unused_records b s) (λ m i. let inside = unused_in b s sound m i in stood sound edit records_are m inside (kept edit m uir_type inside (eqb-true _ _ (filter-says (λ (x : ℕ). eqb (type_at b x) uir_type) s.records m i)) tests.unused_clear)))
+  pub unused_stands : (m : ℕ) → In m s.records → type_at b m ≡ uir_type → Stood b now m
+  unused_stands m i t = stood sound edit records_are m i (kept edit m uir_type i t tests.unused_clear)

@@ -1,4 +1,4 @@
-use Rattle.cdf_puts.proofs.LeafGood.{good_now}
+use Rattle.cdf_puts.proofs.LeafEdit.{good_now}
 use Rattle.cdf_puts.proofs.PutRules.{loose}
 use Rattle.cdf_puts.proofs.laws.good_after_leaf.Goals as goal
 

@@ -1,4 +1,4 @@
-use Rattle.cdf_puts.proofs.WrittenGoes.{good_written}
+use Rattle.cdf_puts.proofs.IndexWritten.{good_written}
 use Rattle.cdf_puts.proofs.laws.good_after_records.Goals as goal
 
 pub returns : goal.returns

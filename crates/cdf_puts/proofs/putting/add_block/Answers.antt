@@ -1,7 +1,5 @@
-use Rattle.std.proofs.Common.{◌≡◌, ◌+◌, ◌-◌, ◌∙◌, ℕ, List, None, refl, sym, ap, subst}
-use Rattle.cdf_puts.proofs.Common.{Frame, edit_done, edit_failed, edit_more, edits_by_read, keeps_by_read, read_once, IsBody, leaves_of, shape, variables, vdrs, In, Good, HasIndex, index_at, leaf_of, IsPut, last_in_new, records_put, IsBlockBody}
-use Rattle.cdf_area.proofs.Calls.{edit_without_memory}
-use Rattle.cdf_puts.proofs.PutSpot.{body_is, AddsOn, added_on, few_most, good, has_index, room_after, some_most, vdr_in}
+use Rattle.cdf_puts.proofs.Common.{Frame, edit_done, edit_failed, edit_more, edits_by_read, keeps_by_read, read_once, IsBody, shape, variables, vdrs, In, Good, HasIndex, IsPut, records_put, IsBlockBody, ◌+◌, ◌-◌, ℕ, List, refl, sym, ap, subst, edit_without_memory}
+use Rattle.cdf_puts.proofs.PutSpot.{body_is, AddsOn, added_on, few_most, has_index, room_after, some_most, vdr_in}
 use Rattle.cdf_puts.proofs.putting.add_block.Goals as goal
 
 pub last_of_new-requires-clause-index : goal.last_of_new-requires-clause-index
@@ -22,7 +20,7 @@ pub returns-in_err-body-clause-area : goal.returns-in_err-body-clause-area
 returns-in_err-body-clause-area g c = edit_without_memory (keeps_by_read (read_once c.in_ok-last.ensures.area)) c.from_residual-in_err-body.ensures.1
 
 pub add_leaf-requires-clause-good : goal.add_leaf-requires-clause-good
-add_leaf-requires-clause-good g c = let s = c.requires.some in subst Good (sym c.last_of_new.ensures.area.image) (good s.putting s.is)
+add_leaf-requires-clause-good g c = let s = c.requires.some in subst Good (sym c.last_of_new.ensures.area.image) s.is.so.goes.good
 
 pub add_leaf-requires-clause-vdr : goal.add_leaf-requires-clause-vdr
 add_leaf-requires-clause-vdr g c = let s = c.requires.some in subst (λ (x : List ℕ). In c.args.put.now.vdr (vdrs (variables (shape x)))) (sym c.last_of_new.ensures.area.image) (vdr_in s.putting s.is)
@@ -36,11 +34,8 @@ pub add_leaf-requires-clause-room : goal.add_leaf-requires-clause-room
 add_leaf-requires-clause-room g c =
     let s = c.requires.some in
     let put = c.args.put.now in
-    let old = g.A.Area.image c.args.area.now in
-    let vacant = subst (λ (n : ℕ). leaf_of c.args.k (leaves_of (index_at old n)) ≡ None) c.requires.head c.requires.none in
-    let end_is = c.in_ok-last.ensures.last ∙ ap (λ (n : ℕ). last_in_new put.most (index_at old n) c.args.k) c.requires.head in
     let says = subst (λ (x : List ℕ). IsBlockBody x (records_put put.raw.items put.pad.items put.rec (c.in_ok-last.last + 1 - c.args.k) c.args.k)) (sym c.deref.ensures.value) c.in_ok-body.ensures.body in
-    room_after s.putting s.is c.requires.more vacant c.in_ok-last.last end_is c.deref.result.now says c.last_of_new.ensures.area.image (ap (λ (f : Frame g.A.Area.Under). f.limit) c.last_of_new.ensures.area.frame)
+    room_after s.putting s.is c.requires.more c.requires.head c.requires.none c.in_ok-last.last c.in_ok-last.ensures.last c.deref.result.now says c.last_of_new.ensures.area.image (ap (λ (f : Frame g.A.Area.Under). f.limit) c.last_of_new.ensures.area.frame)
 
 pub returns-in_err-add_leaf-clause-area : goal.returns-in_err-add_leaf-clause-area
 returns-in_err-add_leaf-clause-area g c = edit_failed (keeps_by_read (read_once c.in_ok-last.ensures.area)) c.in_err-add_leaf.ensures.area c.from_residual-in_err-add_leaf.ensures.1
@@ -48,13 +43,10 @@ returns-in_err-add_leaf-clause-area g c = edit_failed (keeps_by_read (read_once 
 pub returns-clause-put : goal.returns-clause-put
 returns-clause-put g c =
     let put = c.args.put.now in
-    let old = g.A.Area.image c.args.area.now in
-    let vacant = subst (λ (n : ℕ). leaf_of c.args.k (leaves_of (index_at old n)) ≡ None) c.requires.head c.requires.none in
-    let end_is = c.in_ok-last.ensures.last ∙ ap (λ (n : ℕ). last_in_new put.most (index_at old n) c.args.k) c.requires.head in
     let says = subst (λ (x : List ℕ). IsBlockBody x (records_put put.raw.items put.pad.items put.rec (c.in_ok-last.last + 1 - c.args.k) c.args.k)) (sym c.deref.ensures.value) c.in_ok-body.ensures.body in
     let now = g.A.Area.image c.add_leaf.new.area in
     let adds = subst (λ (x : List ℕ). AddsOn x now put.vdr c.args.k c.in_ok-last.last c.deref.result.now) c.last_of_new.ensures.area.image c.in_ok-add_leaf.ensures.added in
-    λ b kind before own after putting is. subst (λ (n : ℕ). IsPut b now kind before own after put (n + 1)) (sym c.min.ensures) (added_on putting is c.requires.more vacant c.in_ok-last.last end_is c.deref.result.now says adds c.requires.limit)
+    λ b kind before own after putting is. subst (λ (n : ℕ). IsPut b now kind before own after put (n + 1)) (sym c.min.ensures) (added_on putting is c.requires.more c.requires.head c.requires.none c.in_ok-last.last c.in_ok-last.ensures.last c.deref.result.now says adds c.requires.limit)
 
 pub returns-clause-area : goal.returns-clause-area
 returns-clause-area g c = edit_done (edit_more (keeps_by_read (read_once c.in_ok-last.ensures.area)) c.in_ok-add_leaf.ensures.area)

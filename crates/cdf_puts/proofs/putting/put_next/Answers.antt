@@ -1,16 +1,13 @@
-use Rattle.std.proofs.Common.{arith, refl, sym, ap}
-use Rattle.cdf_puts.proofs.Common.{Frame, edit_done, edit_failed, edit_more, edits_by_read, keeps_by_read, read_once, HasIndex}
-use Rattle.std.proofs.Math.Path.{transport}
-use Rattle.cdf_area.proofs.Calls.{read_more}
+use Rattle.cdf_puts.proofs.Common.{Frame, edit_done, edit_failed, edit_more, edits_by_read, keeps_by_read, read_once, HasIndex, arith, refl, sym, ap, transport, read_more}
 use Rattle.cdf_leaves.proofs.LastCall.{edit_last}
-use Rattle.cdf_puts.proofs.PutSpot.{has_index, lies, on_after, short}
+use Rattle.cdf_puts.proofs.PutSpot.{has_index, lies, on_after}
 use Rattle.cdf_puts.proofs.putting.put_next.Goals as goal
 
 pub overflow_add-put : goal.overflow_add-put
 overflow_add-put g c =
     let s = c.requires.some in
     let l = lies s.putting s.is in
-    let u = short s.putting s.is in
+    let u = s.is.so.short in
     omega (arith, l, u)
 
 pub read_unsigned8-requires : goal.read_unsigned8-requires

@@ -1,5 +1,4 @@
-use Rattle.std.proofs.Common.{ℕ, arith, refl, sym, ap, subst}
-use Rattle.cdf_puts.proofs.Common.{Frame, edit_done, edit_failed, edit_more, SomePut}
+use Rattle.cdf_puts.proofs.Common.{Frame, edit_done, edit_failed, edit_more, SomePut, ℕ, arith, refl, sym, ap, subst}
 use Rattle.cdf_puts.proofs.PutSpot.{all_done, all_on, all_start, on_after, some_put}
 use Rattle.cdf_puts.proofs.putting.put_records.Goals as goal
 
@@ -14,10 +13,7 @@ put_next-requires-clause-some g c =
 pub loop-k-preserved : goal.loop-k-preserved
 loop-k-preserved g c =
     let i = c.loop-k.invariant in
-    record {
-      puts = all_on i.puts (on_after refl (ap (λ (f : Frame g.A.Area.Under). f.limit) i.area.frame) c.in_ok-k.ensures.put);
-      area = edit_more i.area c.in_ok-k.ensures.area;
-    }
+    record { puts = all_on i.puts (on_after refl (ap (λ (f : Frame g.A.Area.Under). f.limit) i.area.frame) c.in_ok-k.ensures.put); area = edit_more i.area c.in_ok-k.ensures.area }
 
 pub returns-clause-put : goal.returns-clause-put
 returns-clause-put g c = all_done c.loop-k.invariant.puts (omega (arith, c.loop-k-test.false))

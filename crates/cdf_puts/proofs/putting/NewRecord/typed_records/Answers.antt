@@ -1,6 +1,5 @@
+use Rattle.cdf_puts.proofs.Common.{◌++◌, ◌+◌, append_assoc, sym, ap, ◌∙◌, block_type, record_put, records_put}
 use Rattle.cdf_puts.proofs.putting.NewRecord.typed_records.Goals as goal
-use Rattle.std.proofs.Common.{◌++◌, ◌+◌, append_assoc, sym, ap, ◌∙◌}
-use Rattle.cdf_puts.specs.Putting.{block_type, record_put, records_put}
 use Rattle.cdf_puts.proofs.PutSpot.{one_more}
 
 pub loop-i-preserved : goal.loop-i-preserved
