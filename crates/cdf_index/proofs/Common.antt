@@ -40,9 +40,9 @@ pub use Rattle.cdf_index.specs.Next.{least_from}
 pub use Rattle.cdf_index.specs.Order.{leaf_of, passed, past_entries}
 pub use Rattle.cdf_index.specs.Reading.{HoldsRecords, record_in}
 pub use Rattle.cdf_index.specs.Sight.{IsHead, seen}
-pub use Rattle.cdf_index.specs.Sizes.{block_counted, node_counted, size_of}
+pub use Rattle.cdf_index.specs.Sizes.{size_of}
 pub use Rattle.cdf_index.specs.Way.{down_at, placed, spot, way, widened, wider}
-pub use Rattle.cdf_index.specs.Whole.{SomeEntries, places_in, through, through_entries, with_block, with_node}
+pub use Rattle.cdf_index.specs.Whole.{Grew, Met, SomeChain, entry_met, met_block, met_node, place_met, places_in}
 pub use Rattle.cdf_index.specs.Writing.{Cleared, EntriesRead, EntrySet, HasRoomFor, Inserted, NodeWritten, Shortened, Split, StillSays, Widened, entry_in}
 pub use Rattle.cdf_index.specs.declared.descending.Spot.{Spot}
 pub use Rattle.cdf_index.specs.declared.descending.Step.{Step}

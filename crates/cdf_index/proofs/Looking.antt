@@ -8,7 +8,7 @@ use Rattle.cdf_format.proofs.ChainsLemmas.{is_a-type, some_place}
 use Rattle.cdf_index.specs.Order.{find_in, find_entry, nodes_passed, passed_from, NextsAreZero, LowerAreZero}
 use Rattle.cdf_edits.proofs.Edits.MarkLemmas.{or_cases}
 use Rattle.cdf_format.proofs.Owning.{block_in as block_stands}
-use Rattle.cdf_index.proofs.EntriesLeft.{EntriesLeft, past_first, past_lower_one, node_parts}
+use Rattle.cdf_index.proofs.EntriesLeft.{EntriesLeft, NodeParts, past_first, past_lower_one, node_parts}
 
 -- without the first entries that end before a record
 abbrev pub rest : ℕ → Entries → Entries
@@ -218,6 +218,25 @@ pub node_inside : (b : List ℕ) (at : ℕ) → SomeNode b at → NodeInside b a
 node_inside b at n = subst (λ (x : ℕ). NodeInside b x) (sym n.link) (inside_at b n.levels n.nodes n.tiled n.stands n.is_node)
 
 -- ---- the first node of a chain
+
+-- a node that stands, taken apart
+pub record Opened (b : List ℕ) (levels at : ℕ) (ns : Nodes) : Type 0 where
+  pub down : ℕ
+  pub room : ℕ
+  pub entries : Entries
+  pub more : Nodes
+  pub deep : levels ≡ suc down
+  pub is : ns ≡ node at room entries more
+  pub parts : NodeParts b down at room entries more
+  pub more_stands : Stands b levels more
+  pub here : IsOrderly b at
+
+pub opened : (b : List ℕ) (levels at : ℕ) (ns : Nodes) → Stands b levels ns → IsNode ns → at ≡ link_to ns → Opened b levels at ns
+unfolding HasNodes nodes_of
+opened b levels at no_node st is e = absurd is
+opened b zero at (node place room entries more) st is e = absurd st.has
+opened b (suc down) at (node place room entries more) st is e =
+    subst (λ (x : ℕ). Opened b (suc down) x (node place room entries more)) (sym e) (record { down = down; room = room; entries = entries; more = more; deep = refl; is = refl; parts = node_parts st; more_stands = (node_parts st).more_stands; here = st.orderly.0 })
 
 pub node_there : (ns : Nodes) → link_to ns ≢ 0 → IsNode ns
 node_there no_node ne = absurd (ne refl)
