@@ -1,64 +1,14 @@
 -- The walk over a whole chain, with what is below it.
-use Rattle.std.proofs.Common.{◌≡◌, ◌≢◌, ℕ, suc, ◌+◌, ◌-◌, ◌<◌, ◌≤◌, List, [], ◌∷◌, ◌++◌, append_assoc, append-nil, length, refl, sym, ap, subst, ◌∙◌, arith}
-use Rattle.cdf_index.proofs.Common.{length-append, next_of, type_at, Nodes, no_node, node, Entries, no_entry, block, lower, leaf, entry_count, link_to, room_at, used_count, first_at, last_at, offset_at, vxr_type, tiles, linkable-type, index_at, HasIndex, Stands, SomeNode, Grew, Met, met_block, met_node, SomeChain}
-use Rattle.cdf_format.specs.Index.{nodes_of, lower_nodes, entry_leaves}
-use Rattle.cdf_format.specs.IndexOf.{Names}
+use Rattle.std.proofs.Common.{◌≡◌, ◌≢◌, ℕ, ◌+◌, ◌-◌, ◌<◌, ◌≤◌, List, [], ◌∷◌, ◌++◌, append_assoc, append-nil, length, refl, sym, ap, subst, ◌∙◌, arith}
+use Rattle.cdf_index.proofs.Common.{length-append, next_of, type_at, Nodes, no_node, node, Entries, entry_count, link_to, room_at, used_count, first_at, last_at, offset_at, index_at, HasIndex, Stands, SomeNode, Grew, Met, met_block, met_node, SomeChain}
+use Rattle.cdf_format.specs.Index.{nodes_of, lower_nodes}
 use Rattle.cdf_index.specs.Whole.{met_in, met_below}
 use Rattle.cdf_index.proofs.Ascending.{index_stands}
-use Rattle.cdf_index.proofs.EntriesLeft.{EntriesLeft, past_first, past_lower_one}
-use Rattle.cdf_index.proofs.Looking.{block_type, no_node_type, node_linkable, node_there, none_there, opened}
+use Rattle.cdf_index.proofs.EntriesLeft.{EntriesLeft}
+use Rattle.cdf_index.proofs.FirstEntry.{FirstEntry, first_entry, opened}
+use Rattle.cdf_index.proofs.Looking.{node_there, none_there}
 use Rattle.cdf_index.proofs.Searching.{few_nodes}
 use Rattle.cdf_index.proofs.Saying.{no_entries}
-
--- ---- the first of some entries: what is met there, and the others
-
-record LowerMet (b : List ℕ) (down place : ℕ) (entries : Entries) (met : List Met) : Type 0 where
-  nodes : Nodes
-  stands : Stands b down nodes
-  link_is : place ≡ link_to nodes
-  met_is : met ≡ met_in nodes
-  few : length (nodes_of nodes) ≤ length (lower_nodes entries)
-
-record FirstMet (b : List ℕ) (down at i : ℕ) (entries : Entries) : Type 0 where
-  rest : Entries
-  met : List Met
-  left : EntriesLeft b down at (i + 1) rest
-  all : met_below entries ≡ met ++ met_below rest
-  count : entry_count entries ≡ suc (entry_count rest)
-  few : length (lower_nodes rest) ≤ length (lower_nodes entries)
-  of_block : type_at b (offset_at b at i) ≢ 6 → met ≡ met_block (first_at b at i) (last_at b at i) (offset_at b at i) ∷ []
-  of_lower : type_at b (offset_at b at i) ≡ 6 → LowerMet b down (offset_at b at i) entries met
-
-first_met : {b : List ℕ} {down at i : ℕ} (entries : Entries) → EntriesLeft b down at i entries → 1 ≤ entry_count entries → FirstMet b down at i entries
-unfolding Names lower_nodes entry_leaves met_below
-first_met no_entry l some = absurd (omega arith)
-first_met {b = b} {i = i} (block first last place packed entries) l some =
-    let z : suc i ≡ i + 1 = omega arith in
-    let e = l.say.0 in
-    record {
-      rest = entries;
-      met = met_block first last place ∷ [];
-      left = rw z at (past_first l);
-      all = refl;
-      count = refl;
-      few = omega arith;
-      of_block = λ n. rw (e.first_is, e.last_is, e.offset_is) refl;
-      of_lower = λ t. absurd (no_node_type (type_at b place) (block_type b (leaf first last place packed) l.blocks.0) (rw e.offset_is at t));
-    }
-first_met {b = b} {down = down} {i = i} (lower first last nodes entries) l some =
-    let z : suc i ≡ i + 1 = omega arith in
-    let e = l.say.0.offset_is in
-    let p = past_lower_one l in
-    record {
-      rest = entries;
-      met = met_in nodes;
-      left = rw z at p.1;
-      all = refl;
-      count = refl;
-      few = omega (arith, length-append (nodes_of nodes) (lower_nodes entries));
-      of_block = λ n. absurd (n (rw e (linkable-type b (tiles b) vxr_type (link_to nodes) (node_linkable b down nodes l.names.0 l.names.1))));
-      of_lower = λ t. record { nodes = nodes; stands = p.0; link_is = e; met_is = refl; few = omega (arith, length-append (nodes_of nodes) (lower_nodes entries)) };
-    }
 
 no_link : (ns : Nodes) → length (nodes_of ns) ≤ 0 → link_to ns ≡ 0
 unfolding nodes_of
@@ -139,10 +89,10 @@ module _ {G : Type 0} {has : G → List Met → Type 0} where
           });
     }
 
-  entry_first : {b : List ℕ} {levels at i turn : ℕ} {was now : G} {ns : Nodes} → (l : NodeLeft has b levels at i turn was now ns) → i < used_count b at → FirstMet b (levels - 1) at i l.entries
-  entry_first l lt = first_met l.entries l.left (omega (arith, l.many))
+  entry_here : {b : List ℕ} {levels at i turn : ℕ} {was now : G} {ns : Nodes} → (l : NodeLeft has b levels at i turn was now ns) → i < used_count b at → FirstEntry b (levels - 1) at i l.entries
+  entry_here l lt = first_entry l.entries l.left (omega (arith, l.many))
 
-  past_entry : {b : List ℕ} {levels at i turn : ℕ} {was now next : G} {ns : Nodes} → (l : NodeLeft has b levels at i turn was now ns) → (f : FirstMet b (levels - 1) at i l.entries) → Grew has now next f.met → NodeLeft has b levels at (i + 1) turn was next ns
+  past_entry : {b : List ℕ} {levels at i turn : ℕ} {was now next : G} {ns : Nodes} → (l : NodeLeft has b levels at i turn was now ns) → (f : FirstEntry b (levels - 1) at i l.entries) → Grew has now next f.met → NodeLeft has b levels at (i + 1) turn was next ns
   past_entry l f g = record {
     deep = l.deep;
     entries = f.rest;
@@ -150,36 +100,37 @@ module _ {G : Type 0} {has : G → List Met → Type 0} where
     left = f.left;
     more_stands = l.more_stands;
     next_is = l.next_is;
-    many = omega (arith, l.many, f.count);
-    all = λ end h. l.all end (rw f.all (rw append_assoc (grew_both g h)));
-    fewer = omega (arith, l.fewer, f.few);
+    many = omega (arith, l.many, f.many);
+    all = λ end h. l.all end (rw f.mets (rw append_assoc (grew_both g h)));
+    fewer = omega (arith, l.fewer, ap length f.nodes, length-append (nodes_of f.low) (lower_nodes f.rest));
   }
 
   module _ {b : List ℕ} {levels link at i turn : ℕ} {was now : G} where
     pub past_block : {next : G} {place kind : ℕ} → Gone has b levels link at i turn was now → i < used_count b at → place ≡ offset_at b at i → kind ≡ type_at b place → kind ≢ 6
         → Grew has now next (met_block (first_at b at i) (last_at b at i) place ∷ []) → Gone has b levels link at (i + 1) turn was next
-    past_block {next = next} w lt p k ne g = record {
+    past_block w lt p k ne g = record {
       left = λ ns st e.
           (let l = w.left ns st e in
-          let f = entry_first l lt in
-          past_entry l f (rw (f.of_block (λ t. ne (k ∙ ap (type_at b) p ∙ t))) (rw p at g)));
+          let f = entry_here l lt in
+          past_entry l f (rw (f.of_block (λ t. ne (k ∙ ap (type_at b) p ∙ t))).0 (rw p at g)));
     }
 
     pub past_lower : {next : G} {place kind : ℕ} → Gone has b levels link at i turn was now → i < used_count b at → place ≡ offset_at b at i → kind ≡ type_at b place → kind ≡ 6
         → ((ns : Nodes) → Stands b (levels - 1) ns → place ≡ link_to ns → Grew has now next (met_in ns)) → Gone has b levels link at (i + 1) turn was next
-    past_lower {next = next} w lt p k is told = record {
+    past_lower w lt p k is told = record {
       left = λ ns st e.
           (let l = w.left ns st e in
-          let f = entry_first l lt in
+          let f = entry_here l lt in
           let m = f.of_lower (ap (type_at b) (sym p) ∙ sym k ∙ is) in
-          past_entry l f (rw m.met_is (told m.nodes m.stands (p ∙ m.link_is))));
+          past_entry l f (rw m.1 (told f.low f.stands (p ∙ m.0))));
     }
 
     pub lower_chain : {place kind : ℕ} → SomeChain b levels link → Gone has b levels link at i turn was now → i < used_count b at → place ≡ offset_at b at i → kind ≡ type_at b place → kind ≡ 6 → (1 ≤ levels) × SomeChain b (levels - 1) place
     lower_chain some w lt p k is =
         let l = w.left some.nodes some.stands some.link_is in
-        let m = (entry_first l lt).of_lower (ap (type_at b) (sym p) ∙ sym k ∙ is) in
-        (l.deep, record { nodes = m.nodes; tiled = some.tiled; stands = m.stands; link_is = p ∙ m.link_is; few = omega (arith, m.few, l.fewer, some.few) })
+        let f = entry_here l lt in
+        let m = f.of_lower (ap (type_at b) (sym p) ∙ sym k ∙ is) in
+        (l.deep, record { nodes = f.low; tiled = some.tiled; stands = f.stands; link_is = p ∙ m.0; few = omega (arith, ap length f.nodes, length-append (nodes_of f.low) (lower_nodes f.rest), l.fewer, some.few) })
 
     pub walk_out : {next : ℕ} → Gone has b levels link at i turn was now → used_count b at ≤ i → next ≡ next_of b at → Walked has b levels link next (turn + 1) was now
     unfolding met_below

@@ -3,12 +3,10 @@
 ghost use Rattle.std.specs.Prelude.{◌≡◌, ◌+◌, ◌*◌, ◌≤◌, ◌<◌, length, IfOk};
 ghost use Rattle.cdf_area.specs.Calls.{Reads};
 ghost use Rattle.cdf_model.specs.Limits.{image_limit};
-ghost use Rattle.cdf_format.specs.Index.{Entries, entry_count, offset_at, used_count};
+ghost use Rattle.cdf_format.specs.Index.{offset_at, used_count};
 ghost use Rattle.cdf_format.specs.Fields.{type_at};
-ghost use Rattle.cdf_format.specs.IndexOf.{SayEntries};
 ghost use Rattle.cdf_index.specs.Ahead.{Begun};
-ghost use Rattle.cdf_index.specs.Finding.{Ascends, IsCut, SomeNode};
-ghost use Rattle.cdf_index.specs.Order.{passed};
+ghost use Rattle.cdf_index.specs.Finding.{Ascends, IsCut, Scanned, SomeNode};
 ghost use Rattle.cdf_index.specs.Sight.{IsHead};
 
 use crate::nodes::Head;
@@ -55,8 +53,7 @@ pub fn entries_before<A: Area>(
     requires head { IsHead (A.image area.old) at head.now }
     requires node { SomeNode (A.image area.old) at }
     requires short { length (A.image area.old) ≤ image_limit }
-    ensures passed { IfOk result (λ i. (entries : Entries) → used_count (A.image area.old) at ≡ entry_count entries → SayEntries (A.image area.old) at 0 entries → i ≡ passed rec entries) }
-    ensures most { IfOk result (λ i. i ≤ used_count (A.image area.old) at) }
+    ensures scanned { IfOk result (Scanned (A.image area.old) rec at) }
     ensures area { Reads A.image A.frame A.faults A.edited area.old area.new result }
 {
     let i = count_below(

@@ -30,7 +30,10 @@ count_below-requires-clause-ascends g c =
     let head = c.requires.head in
     subst (λ (n : ℕ). Ascends b c.args.at (28 + 4 * n) c.args.head.now.used) (sym head.room_is) (subst (Ascends b c.args.at (28 + 4 * room_at b c.args.at)) (sym head.used_is) (node_orderly b c.args.at c.requires.node).lasts)
 
-pub returns-clause-passed : goal.returns-clause-passed
-returns-clause-passed g c =
+pub returns-clause-scanned : goal.returns-clause-scanned
+returns-clause-scanned g c =
     let head = c.requires.head in
-    passed_by (g.A.Area.image c.args.area.now) c.args.at c.args.rec c.args.head.now.room c.args.head.now.used c.from.result c.in_ok-i.i head.room_is head.used_is c.from.ensures c.in_ok-i.ensures.cut
+    record {
+      pass = passed_by (g.A.Area.image c.args.area.now) c.args.at c.args.rec c.args.head.now.room c.args.head.now.used c.from.result c.in_ok-i.i head.room_is head.used_is c.from.ensures c.in_ok-i.ensures.cut;
+      most = omega (arith, c.in_ok-i.ensures.cut.most, head.used_is);
+    }
