@@ -6,7 +6,7 @@ use Rattle.cdf_index.specs.Whole.{met_in, met_below}
 use Rattle.cdf_index.proofs.Ascending.{index_stands}
 use Rattle.cdf_index.proofs.EntriesLeft.{EntriesLeft}
 use Rattle.cdf_index.proofs.FirstEntry.{FirstEntry, first_entry, opened}
-use Rattle.cdf_index.proofs.Looking.{node_there, none_there}
+use Rattle.cdf_index.proofs.Looking.{node_of, node_there, none_there}
 use Rattle.cdf_index.proofs.Searching.{few_nodes}
 use Rattle.cdf_index.proofs.Saying.{no_entries}
 
@@ -66,9 +66,7 @@ module _ {G : Type 0} {has : G → List Met → Type 0} where
 
     -- a node of the chain
     pub walk_node : SomeChain b levels link → Walked has b levels link at turn was now → at ≢ 0 → SomeNode b at
-    walk_node some w ne =
-        let l = w.left some.nodes some.stands some.link_is in
-        record { levels = levels; nodes = l.left; tiled = some.tiled; stands = l.stands; is_node = node_there l.left (λ z. ne (l.link_is ∙ z)); link = l.link_is }
+    walk_node some w ne = let l = w.left some.nodes some.stands some.link_is in node_of some.tiled l.stands l.link_is ne
 
     pub walk_in : {next : G} → Walked has b levels link at turn was now → at ≢ 0 → Grew has now next (met_node at (room_at b at) (used_count b at) ∷ []) → Gone has b levels link at 0 turn was next
     unfolding met_in nodes_of

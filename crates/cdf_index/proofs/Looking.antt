@@ -1,6 +1,6 @@
 -- What is read at one node leads the search on.
-use Rattle.std.proofs.Common.{◌≡◌, ◌≢◌, ℕ, zero, suc, ◌+◌, ◌*◌, ◌<◌, ◌≤◌, List, length, false, ltb, eqb, refl, sym, ap, subst, ◌∙◌, arith, inl, inr, Option, Some, None}
-use Rattle.cdf_index.proofs.Common.{nat_tests, length-append, next_of, word, type_at, Nodes, no_node, node, Entries, no_entry, block, lower, Leaf, leaf, entry_count, link_to, room_at, used_count, first_at, last_at, offset_at, SaysEntry, IsNode, vxr_type, In, AreTiles, tiles, linkable-in, either, tile_lies, NamesIn, passed, IsOrderly, SomeNode, NodeInside, At, Scanned}
+use Rattle.std.proofs.Common.{◌≡◌, ◌≢◌, ℕ, zero, suc, ◌+◌, ◌<◌, ◌≤◌, List, length, false, ltb, eqb, refl, sym, ap, subst, ◌∙◌, arith, inl, inr, Option, Some, None}
+use Rattle.cdf_index.proofs.Common.{Stands, nat_tests, length-append, next_of, type_at, Nodes, no_node, node, Entries, no_entry, block, lower, Leaf, leaf, entry_count, link_to, used_count, last_at, offset_at, SaysEntry, IsNode, vxr_type, In, AreTiles, tiles, linkable-in, either, tile_lies, NamesIn, passed, IsOrderly, SomeNode, NodeInside, At, Scanned}
 use Rattle.cdf_format.specs.Index.{nodes_of, lower_nodes}
 use Rattle.cdf_format.specs.IndexOf.{HasNodes, Names}
 use Rattle.cdf_format.proofs.ChainsLemmas.{some_place}
@@ -23,6 +23,9 @@ none_there b zero (node place room entries more) t h e = absurd h
 none_there b (suc levels) (node place room entries more) t h e = absurd (some_place b (tiles b) (length b) place t (linkable-in b (tiles b) vxr_type place h.0.linkable) e)
 
 -- ---- where it is safe to read
+
+pub node_of : {b : List ℕ} {levels at : ℕ} {nodes : Nodes} → AreTiles b 8 (length b) (tiles b) → Stands b levels nodes → at ≡ link_to nodes → at ≢ 0 → SomeNode b at
+node_of {levels = levels} {nodes = nodes} tiled st link some = record { levels = levels; nodes = nodes; tiled = tiled; stands = st; is_node = node_there nodes (λ z. some (link ∙ z)); link = link }
 
 node_opened : {b : List ℕ} {at : ℕ} → (n : SomeNode b at) → Opened b n.levels at n.nodes
 node_opened {b = b} {at = at} n = opened b n.levels at n.nodes n.stands n.is_node n.link
@@ -164,14 +167,3 @@ mutual
   from_levels b rec levels no_entry n z = omega arith
   from_levels b rec levels (block first last place packed entries) n z = elim (either (ltb last rec)) [ inl t ↦ rw t (from_levels b rec levels entries n.2 z) | inr t ↦ rw t (omega arith) ]
   from_levels b rec levels (lower first last nodes entries) n z = grind (arith, nat_tests, from_levels b rec levels entries n.2 z.1, passed_levels b rec levels nodes n.1 z.0)
-
--- ---- what code read
-
-pub read_first : (b now : List ℕ) (at i first : ℕ) → now ≡ b → first ≡ word now (at + (28 + 4 * i)) 4 → first ≡ first_at b at i
-read_first b now at i first e w = w ∙ ap (λ (x : List ℕ). word x (at + (28 + 4 * i)) 4) e
-
-pub read_place : (b now : List ℕ) (at room i place : ℕ) → now ≡ b → room ≡ room_at b at → place ≡ word now (at + (28 + 8 * room + 8 * i)) 8 → place ≡ offset_at b at i
-read_place b now at room i place e r w = w ∙ ap (λ (x : List ℕ). word x (at + (28 + 8 * room + 8 * i)) 8) e ∙ ap (λ (n : ℕ). word b (at + (28 + 8 * n + 8 * i)) 8) r
-
-pub read_type : (b now : List ℕ) (place type : ℕ) → now ≡ b → type ≡ word now (place + 8) 4 → type ≡ type_at b place
-read_type b now place type e w = w ∙ ap (λ (x : List ℕ). word x (place + 8) 4) e

@@ -18,35 +18,21 @@ sizes_both (met_node place room used ∷ xs) ys = omega (arith, sizes_both xs ys
 sizes_both (met_block first last place ∷ xs) ys = omega (arith, sizes_both xs ys)
 
 mutual
-  unfolding met_in met_below entries_in entries_below widest widest_below
+  unfolding met_in met_below leaves_of entry_leaves entries_in entries_below widest widest_below
 
-  measured : (nodes : Nodes) → (used_met (met_in nodes) ≡ entries_in nodes) × (max 7 (widest_met (met_in nodes)) ≡ widest nodes)
+  measured : (nodes : Nodes) → (used_met (met_in nodes) ≡ entries_in nodes) × (max 7 (widest_met (met_in nodes)) ≡ widest nodes) × (length (leaves_of nodes) ≤ entries_in nodes)
   measured no_node = omega arith
-  measured (node place room entries more) = omega (arith, sizes_both (met_below entries) (met_in more), measured_below entries, measured more)
+  measured (node place room entries more) = omega (arith, sizes_both (met_below entries) (met_in more), measured_below entries, measured more, length-append (entry_leaves entries) (leaves_of more))
 
-  measured_below : (entries : Entries) → (used_met (met_below entries) ≡ entries_below entries) × (max 7 (widest_met (met_below entries)) ≡ widest_below entries)
+  measured_below : (entries : Entries) → (used_met (met_below entries) ≡ entries_below entries) × (max 7 (widest_met (met_below entries)) ≡ widest_below entries) × (length (entry_leaves entries) ≤ entry_count entries + entries_below entries)
   measured_below no_entry = omega arith
-  measured_below (block first last place packed entries) = measured_below entries
-  measured_below (lower first last nodes entries) = omega (arith, sizes_both (met_in nodes) (met_below entries), measured nodes, measured_below entries)
-
--- ---- no count stops before its end
-
-mutual
-  unfolding leaves_of entry_leaves entries_in entries_below
-
-  leaves_few : (nodes : Nodes) → length (leaves_of nodes) ≤ entries_in nodes
-  leaves_few no_node = omega arith
-  leaves_few (node place room entries more) = omega (arith, leaves_below entries, leaves_few more, length-append (entry_leaves entries) (leaves_of more))
-
-  leaves_below : (entries : Entries) → length (entry_leaves entries) ≤ entry_count entries + entries_below entries
-  leaves_below no_entry = omega arith
-  leaves_below (block first last place packed entries) = omega (arith, leaves_below entries)
-  leaves_below (lower first last nodes entries) = omega (arith, leaves_few nodes, leaves_below entries, length-append (leaves_of nodes) (entry_leaves entries))
+  measured_below (block first last place packed entries) = omega (arith, measured_below entries)
+  measured_below (lower first last nodes entries) = omega (arith, sizes_both (met_in nodes) (met_below entries), measured nodes, measured_below entries, length-append (leaves_of nodes) (entry_leaves entries))
 
 pub seven_at_least : (nodes : Nodes) → 7 ≤ widest nodes
-unfolding widest
-seven_at_least no_node = omega arith
-seven_at_least (node place room entries more) = omega (arith, seven_at_least more)
+seven_at_least nodes = omega (arith, (measured nodes).1)
+
+-- ---- no count stops before its end
 
 -- a node has at most so many entries
 abbrev most : ℕ
@@ -80,7 +66,7 @@ measured_is b head has short size c =
     let few = few_in b has.tiled short 8 nodes (index_stands b head has) in
     let over = few_nodes has in
     let m = measured nodes in
-    let leaves : size.leaves ≡ length (leaves_of nodes) = omega (arith, c.leaves, ap length (collected nodes).0, length-map (leaves_of nodes) leaf_words, leaves_few nodes) in
+    let leaves : size.leaves ≡ length (leaves_of nodes) = omega (arith, c.leaves, ap length (collected nodes).0, length-map (leaves_of nodes) leaf_words, m.2) in
     let entries : size.entries ≡ entries_in nodes = omega (arith, c.entries, m.0) in
     let wide : size.widest ≡ widest nodes = omega (arith, c.widest, m.1) in
     λ j. record { leaves = leaves j; entries = entries j; widest = wide j }

@@ -1,6 +1,6 @@
 -- The search for the next First, from node to node.
-use Rattle.std.proofs.Common.{◌≡◌, ◌≢◌, ℕ, zero, suc, ◌+◌, ◌<◌, ◌≤◌, List, [], ◌∷◌, ◌++◌, length, append_assoc, append-nil, refl, sym, ap, subst, ◌∙◌, arith, Option, Some, None}
-use Rattle.cdf_index.proofs.Common.{length-append, next_of, Nodes, no_node, node, Entries, entry_count, link_to, used_count, first_at, AreTiles, tiles, record_number_limit, Begun, Climbs, chain_at, chain_before, first_past, IsWalk, index_at, HasIndex, NodeInside, SomeNode, Stands}
+use Rattle.std.proofs.Common.{◌≡◌, ◌≢◌, ℕ, zero, suc, ◌+◌, ◌<◌, ◌≤◌, List, [], ◌++◌, length, append_assoc, append-nil, refl, sym, ap, ◌∙◌, arith, Option, Some, None}
+use Rattle.cdf_index.proofs.Common.{length-append, next_of, Nodes, no_node, node, Entries, entry_count, link_to, used_count, first_at, AreTiles, tiles, record_number_limit, Begun, Climbs, chain_before, first_past, IsWalk, index_at, HasIndex, NodeInside, Stands}
 use Rattle.cdf_edits.specs.Index.Blocks.{firsts_of, entry_firsts}
 use Rattle.cdf_format.specs.Index.{nodes_of, lower_nodes, leaves_of}
 use Rattle.cdf_format.specs.IndexOf.{HasNodes}
@@ -10,61 +10,36 @@ use Rattle.cdf_index.specs.declared.next.Walk.{Walk}
 use Rattle.cdf_index.proofs.Ascending.{index_stands}
 use Rattle.cdf_index.proofs.EntriesLeft.{EntriesLeft}
 use Rattle.cdf_index.proofs.FirstEntry.{Opened, first_entry, opened}
-use Rattle.cdf_index.proofs.Looking.{none_there, node_inside, node_there}
+use Rattle.cdf_index.proofs.Looking.{none_there, node_inside, node_of, node_there}
 use Rattle.cdf_index.proofs.NextLemmas.{climbs_front, firsts_climb, first_decides, first_is_least, first_passed}
 use Rattle.cdf_index.proofs.Saying.{no_entries}
 use Rattle.cdf_index.proofs.Searching.{Turns, few_nodes}
-
--- of some entries, j + 1 are passed, the last one of them with number n: what it names, and the others
-record Passed (b : List ℕ) (levels at n j : ℕ) (entries : Entries) : Type 0 where
-  rest : Entries
-  low : Nodes
-  before : List ℕ
-  left : EntriesLeft b levels at (n + 1) rest
-  stands : Stands b levels low
-  chain : chain_at b at n ≡ link_to low
-  firsts : entry_firsts entries ≡ before ++ first_at b at n ∷ (firsts_of low ++ entry_firsts rest)
-  many : j + 1 + entry_count rest ≡ entry_count entries
-  few : length (nodes_of low) ≤ length (lower_nodes entries)
-  zero : LowerAreZero entries → NextsAreZero low
-
-passed_to : {b : List ℕ} {levels at : ℕ} (k j n : ℕ) → k + j ≡ n → (entries : Entries) → EntriesLeft b levels at k entries → j < entry_count entries → Passed b levels at n j entries
-passed_to {b = b} {levels = levels} {at = at} k zero n e entries l lt =
-    let f = first_entry entries l lt in
-    let z : k ≡ n = omega arith in
-    subst (λ (x : ℕ). Passed b levels at x 0 entries) z (record {
-      rest = f.rest;
-      low = f.low;
-      before = [];
-      left = f.left;
-      stands = f.stands;
-      chain = f.chain;
-      firsts = f.firsts;
-      many = omega (arith, f.many);
-      few = omega (arith, ap length f.nodes, length-append (nodes_of f.low) (lower_nodes f.rest));
-      zero = λ y. (f.zero y).0;
-    })
-passed_to {b = b} {at = at} k (suc j) n e entries l lt =
-    let f = first_entry entries l (omega arith) in
-    let r = passed_to (k + 1) j n (omega arith) f.rest f.left (omega (arith, f.many)) in
-    record {
-      rest = r.rest;
-      low = r.low;
-      before = first_at b at k ∷ (firsts_of f.low ++ r.before);
-      left = r.left;
-      stands = r.stands;
-      chain = r.chain;
-      firsts = f.firsts ∙ simp (r.firsts, append_assoc);
-      many = omega (arith, f.many, r.many);
-      few = omega (arith, ap length f.nodes, length-append (nodes_of f.low) (lower_nodes f.rest), r.few);
-      zero = λ y. r.zero (f.zero y).1;
-    }
 
 -- where no node has one behind it
 zero_node : (at room : ℕ) (entries : Entries) (more : Nodes) → NextsAreZero (node at room entries more) → LowerAreZero entries × (more ≡ no_node)
 unfolding NextsAreZero
 zero_node at room entries no_node z = (z, refl)
 zero_node at room entries (node at' room' entries' more) z = absurd z
+
+-- one chain alone is left
+one_chain : {b : List ℕ} {rec turn levels at : ℕ} {nodes left : Nodes} {best : Option ℕ} → Stands b levels left → at ≡ link_to left → Climbs 0 record_number_limit (firsts_of left) → first_past rec (firsts_of left) best ≡ least_first_past rec nodes
+    → length (nodes_of left) + turn ≤ length (nodes_of nodes) → (NextsAreZero nodes → NextsAreZero left × (levels + turn ≤ 8)) → IsWalk b rec nodes turn (record { best = best; at = at; lower = 0 })
+unfolding nodes_of firsts_of HasNodes leaves_of NextsAreZero
+one_chain {levels = levels} {left = left} st link climbs same few flat = record {
+  low_levels = 0;
+  low = no_node;
+  low_stands = record { has = tt; orderly = tt; blocks = tt };
+  lower_is = refl;
+  levels = levels;
+  left = left;
+  stands = st;
+  link_is = link;
+  ended = λ z. refl;
+  climbs = climbs;
+  same = same;
+  fewer = omega arith;
+  zero = λ z. (let y = flat z in (tt, refl, y.0, y.1));
+}
 
 -- ---- at a node, of which i entries begin at the record or before it
 
@@ -80,8 +55,8 @@ record Behind (b : List ℕ) (rec : ℕ) (nodes : Nodes) (turn : ℕ) (walk : Wa
   many : i + entry_count rest ≡ used_count b walk.at
   climbs : Climbs 0 record_number_limit (firsts_of low ++ (entry_firsts rest ++ firsts_of more))
   same : first_past rec (firsts_of low ++ (entry_firsts rest ++ firsts_of more)) walk.best ≡ least_first_past rec nodes
-  fewer : length (nodes_of low) + length (nodes_of more) + (turn + 1) ≤ length (nodes_of nodes)
-  zero : NextsAreZero nodes → NextsAreZero low × (more ≡ no_node) × (levels + (turn + 1) ≤ 8)
+  fewer : length (nodes_of low) + length (lower_nodes rest) + length (nodes_of more) + (turn + 1) ≤ length (nodes_of nodes)
+  zero : NextsAreZero nodes → NextsAreZero low × (levels + (turn + 1) ≤ 8) × LowerAreZero rest × (down + (turn + 1) ≤ 8) × (more ≡ no_node)
 
 module _ {b : List ℕ} {rec turn : ℕ} {nodes : Nodes} {walk : Walk} (w : IsWalk b rec nodes turn walk) (inside : NodeInside b walk.at) where
   here : Opened b w.levels walk.at w.left
@@ -91,9 +66,9 @@ module _ {b : List ℕ} {rec turn : ℕ} {nodes : Nodes} {walk : Walk} (w : IsWa
   unfolding nodes_of
   few_here = omega (arith, ap (λ (x : Nodes). length (nodes_of x)) here.is, length-append (lower_nodes here.entries) (nodes_of here.more))
 
-  behind : (i : ℕ) → Begun b walk.at rec i → Behind b rec nodes turn walk i here.more
+  behind : (i : ℕ) → ((j : ℕ) → j < i → first_at b walk.at j ≤ rec) → i ≤ used_count b walk.at → Behind b rec nodes turn walk i here.more
   unfolding firsts_of
-  behind zero g =
+  behind zero begun most =
       let o = here in
       record {
         levels = w.low_levels;
@@ -107,53 +82,38 @@ module _ {b : List ℕ} {rec turn : ℕ} {nodes : Nodes} {walk : Walk} (w : IsWa
         climbs = rw o.is at w.climbs;
         same = rw o.is at w.same;
         fewer = omega (arith, w.fewer, few_here);
-        zero = λ z. (let y = w.zero z in (y.0, (zero_node walk.at o.room o.entries o.more (rw o.is at y.2)).1, omega (arith, y.1, y.3, o.deep)));
+        zero = λ z. (let y = w.zero z in let n = zero_node walk.at o.room o.entries o.more (rw o.is at y.2) in (y.0, omega (arith, y.1, y.3, o.deep), n.0, omega (arith, y.3, o.deep), n.1));
       }
-  behind (suc j) g =
-      let o = here in
+  behind (suc j) begun most =
+      let h = behind j (λ k lt. begun k (omega arith)) (omega arith) in
+      let f = first_entry h.rest h.left (omega (arith, h.many)) in
       let n : j + 1 ≡ suc j = omega arith in
-      let p = passed_to 0 j j (omega arith) o.entries o.parts.left (omega (arith, g.most, o.parts.says.used_is)) in
-      let whole : firsts_of w.low ++ firsts_of w.left ≡ (firsts_of w.low ++ p.before) ++ first_at b walk.at j ∷ (firsts_of p.low ++ (entry_firsts p.rest ++ firsts_of o.more)) = ap (λ (x : Nodes). firsts_of w.low ++ firsts_of x) o.is ∙ simp (p.firsts, append_assoc) in
-      let f = first_passed rec 0 record_number_limit (first_at b walk.at j) (firsts_of w.low ++ p.before) (firsts_of p.low ++ (entry_firsts p.rest ++ firsts_of o.more)) walk.best (rw whole at w.climbs) (g.before j (omega arith)) in
+      let ys = firsts_of f.low ++ (entry_firsts f.rest ++ firsts_of here.more) in
+      let p = first_passed rec 0 record_number_limit (first_at b walk.at j) (firsts_of h.low) ys walk.best (rw (f.firsts, append_assoc) at h.climbs) (begun j (omega arith)) in
       record {
-        levels = o.down;
-        low = p.low;
-        stands = p.stands;
-        under = p.chain;
-        down = o.down;
-        rest = p.rest;
-        left = rw n at p.left;
-        many = omega (arith, p.many, o.parts.says.used_is);
-        climbs = f.1;
-        same = sym f.0 ∙ rw whole at w.same;
-        fewer = omega (arith, w.fewer, few_here, p.few);
-        zero = λ z. (let y = w.zero z in let e = zero_node walk.at o.room o.entries o.more (rw o.is at y.2) in (p.zero e.0, e.1, omega (arith, y.3, o.deep)));
+        levels = h.down;
+        low = f.low;
+        stands = f.stands;
+        under = f.chain;
+        down = h.down;
+        rest = f.rest;
+        left = rw n at f.left;
+        many = omega (arith, h.many, f.many);
+        climbs = p.1;
+        same = sym p.0 ∙ rw (f.firsts, append_assoc) at h.same;
+        fewer = omega (arith, h.fewer, ap length f.nodes, length-append (nodes_of f.low) (lower_nodes f.rest));
+        zero = λ z. (let y = h.zero z in let e = f.zero y.2 in (e.0, y.3, e.1, y.3, y.4));
       }
 
   module _ (i : ℕ) (g : Begun b walk.at rec i) (lower : ℕ) (lower_is : lower ≡ chain_before b walk.at walk.lower i) where
     -- the walk goes on below
     walk_down : (shown : Option ℕ) → (h : Behind b rec nodes turn walk i here.more) → first_past rec (firsts_of h.low) shown ≡ least_first_past rec nodes → IsWalk b rec nodes (turn + 1) (record { best = shown; at = lower; lower = 0 })
-    unfolding nodes_of firsts_of HasNodes leaves_of NextsAreZero
-    walk_down shown h same = record {
-      low_levels = 0;
-      low = no_node;
-      low_stands = record { has = tt; orderly = tt; blocks = tt };
-      lower_is = refl;
-      levels = h.levels;
-      left = h.low;
-      stands = h.stands;
-      link_is = lower_is ∙ h.under;
-      ended = λ z. refl;
-      climbs = climbs_front 0 record_number_limit (firsts_of h.low) (entry_firsts h.rest ++ firsts_of here.more) h.climbs;
-      same = same;
-      fewer = omega (arith, h.fewer);
-      zero = λ z. (let y = h.zero z in (tt, refl, y.0, y.2));
-    }
+    walk_down shown h same = one_chain h.stands (lower_is ∙ h.under) (climbs_front 0 record_number_limit (firsts_of h.low) (entry_firsts h.rest ++ firsts_of here.more) h.climbs) same (omega (arith, h.fewer)) (λ z. (let y = h.zero z in (y.0, y.1)))
 
     -- an entry past the record
     pub walk_decided : i < used_count b walk.at → (first : ℕ) → first ≡ first_at b walk.at i → IsWalk b rec nodes (turn + 1) (record { best = Some first; at = lower; lower = 0 })
     walk_decided lt first e =
-        let h = behind i g in
+        let h = behind i g.before g.most in
         let f = first_entry h.rest h.left (omega (arith, h.many)) in
         walk_down (Some first) h (rw e (sym (first_decides rec (firsts_of h.low) _ (first_at b walk.at i) walk.best (g.stop lt)) ∙ rw f.firsts at h.same))
 
@@ -166,14 +126,14 @@ module _ {b : List ℕ} {rec turn : ℕ} {nodes : Nodes} {walk : Walk} (w : IsWa
       pub walk_below : AreTiles b 8 (length b) (tiles b) → next_of b walk.at ≡ 0 → IsWalk b rec nodes (turn + 1) (record { best = walk.best; at = lower; lower = 0 })
       unfolding firsts_of
       walk_below tiled next =
-          let h = behind i g in
+          let h = behind i g.before g.most in
           let none = none_there b w.levels here.more tiled here.more_stands.has (sym here.parts.says.next_is ∙ next) in
           walk_down walk.best h (rw (none_here h, ap firsts_of none, append-nil) at h.same)
 
       -- it goes on
       pub walk_along : (next : ℕ) → next ≡ next_of b walk.at → next ≢ 0 → IsWalk b rec nodes (turn + 1) (record { best = walk.best; at = next; lower = lower })
       walk_along next e some =
-          let h = behind i g in
+          let h = behind i g.before g.most in
           let link = e ∙ here.parts.says.next_is in
           record {
             low_levels = h.levels;
@@ -187,32 +147,17 @@ module _ {b : List ℕ} {rec turn : ℕ} {nodes : Nodes} {walk : Walk} (w : IsWa
             ended = λ z. absurd (some z);
             climbs = rw (none_here h) at h.climbs;
             same = rw (none_here h) at h.same;
-            fewer = h.fewer;
-            zero = λ z. absurd (some (link ∙ ap link_to (h.zero z).1));
+            fewer = omega (arith, h.fewer);
+            zero = λ z. absurd (some (link ∙ ap link_to (h.zero z).4));
           }
 
 -- ---- the walk over an index
 
 module _ {b : List ℕ} {head rec : ℕ} (has : HasIndex b head) where
   pub walk_start : IsWalk b rec (index_at b head) 0 (record { best = None; at = head; lower = 0 })
-  unfolding nodes_of firsts_of HasNodes leaves_of NextsAreZero
   walk_start =
       let climbs : Climbs 0 record_number_limit (firsts_of (index_at b head)) = rw append-nil at (firsts_climb 0 record_number_limit record_number_limit (index_at b head) [] has.order (omega arith) (omega arith) tt) in
-      record {
-        low_levels = 0;
-        low = no_node;
-        low_stands = record { has = tt; orderly = tt; blocks = tt };
-        lower_is = refl;
-        levels = 8;
-        left = index_at b head;
-        stands = index_stands b head has;
-        link_is = has.index.link_is;
-        ended = λ z. refl;
-        climbs = climbs;
-        same = first_is_least rec 0 (firsts_of (index_at b head)) climbs;
-        fewer = omega arith;
-        zero = λ z. (tt, refl, z, omega arith);
-      }
+      one_chain (index_stands b head has) has.index.link_is climbs (first_is_least rec 0 (firsts_of (index_at b head)) climbs) (omega arith) (λ z. (z, omega arith))
 
   module _ {turn : ℕ} {walk : Walk} (w : IsWalk b rec (index_at b head) turn walk) where
     pub walk_over : length b ≤ turn → ⊥
@@ -225,14 +170,14 @@ module _ {b : List ℕ} {head rec : ℕ} (has : HasIndex b head) where
         let none_low = none_there b w.low_levels w.low has.tiled w.low_stands.has (sym w.lower_is ∙ w.ended e) in
         rw (none, none_low) at w.same
 
-    walk_node : walk.at ≢ 0 → SomeNode b walk.at
-    walk_node some = record { levels = w.levels; nodes = w.left; tiled = has.tiled; stands = w.stands; is_node = node_there w.left (λ z. some (w.link_is ∙ z)); link = w.link_is }
-
     pub walk_turns : Turns b turn walk.at (index_at b head) (length (nodes_of (index_at b head)))
-    walk_turns = record {
-      node = walk_node;
-      inside = λ some. node_inside b walk.at (walk_node some);
-      one = λ some. omega (arith, few_here w (node_inside b walk.at (walk_node some)), w.fewer);
-      flat = λ z. omega (arith, (w.zero z).3);
-      flat_one = λ z some. (let o = here w (node_inside b walk.at (walk_node some)) in omega (arith, o.deep, (w.zero z).3));
-    }
+    walk_turns =
+        let there = node_of has.tiled w.stands w.link_is in
+        let inside = λ (some : walk.at ≢ 0). node_inside b walk.at (there some) in
+        record {
+          node = there;
+          inside = inside;
+          one = λ some. omega (arith, few_here w (inside some), w.fewer);
+          flat = λ z. omega (arith, (w.zero z).3);
+          flat_one = λ z some. omega (arith, (here w (inside some)).deep, (w.zero z).3);
+        }

@@ -26,6 +26,7 @@ enum Sight {
 }
 
 /// What a node tells of a record.
+#[tactic(auto, using(crate::proofs::Looking::names_in))]
 fn look<A: Area>(area: &mut A, at: u64, head: &Head, rec: u32) -> Result<Sight, AreaError>
     requires head { IsHead (A.image area.old) at head.now }
     requires node { SomeNode (A.image area.old) at }

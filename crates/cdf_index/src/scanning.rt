@@ -44,6 +44,7 @@ fn count_below<A: Area>(
 }
 
 /// The number of the first entry of a node that ends at a record or later.
+#[tactic(auto, using(crate::proofs::Looking::node_inside))]
 pub fn entries_before<A: Area>(
     area: &mut A,
     at: u64,
@@ -67,6 +68,7 @@ pub fn entries_before<A: Area>(
 }
 
 /// How many of the first entries of a node begin at a record or before it.
+#[tactic(auto, using(crate::proofs::Looking::node_inside))]
 pub fn entries_begun<A: Area>(
     area: &mut A,
     at: u64,
@@ -91,6 +93,7 @@ pub struct Named {
 }
 
 /// What the used entry with number `i` of a node names.
+#[tactic(auto, using(crate::proofs::Looking::node_inside, crate::proofs::Looking::names_in))]
 pub fn read_named<A: Area>(area: &mut A, at: u64, head: &Head, i: u64) -> Result<Named, AreaError>
     requires head { IsHead (A.image area.old) at head.now }
     requires node { SomeNode (A.image area.old) at }

@@ -1,5 +1,5 @@
-use Rattle.std.proofs.Common.{length, arith, ap, sym, ◌∙◌}
-use Rattle.cdf_index.proofs.Looking.{names_in, look_next, look_tells}
+use Rattle.std.proofs.Common.{sym, ◌∙◌}
+use Rattle.cdf_index.proofs.Looking.{look_next, look_tells}
 use Rattle.cdf_index.proofs.finding.look.Goals as goal
 
 pub returns-then-i-head-clause-told : goal.returns-then-i-head-clause-told
@@ -11,18 +11,6 @@ pub returns-then-rec-entry-clause-told : goal.returns-then-rec-entry-clause-told
 returns-then-rec-entry-clause-told g c =
     let says = rw c.in_ok-i.ensures.area.image at c.in_ok-entry.ensures.value in
     λ nodes turn a. (look_tells a c.requires.inside c.in_ok-i.ensures.scanned _ _ _ (λ z. c.if-i-head.false (z ∙ sym c.requires.head.used_is)) says).nothing c.if-rec-entry.true
-
-pub overflow_add-entry : goal.overflow_add-entry
-overflow_add-entry g c =
-    let says = rw c.in_ok-i.ensures.area.image at c.in_ok-entry.ensures.value in
-    let s = c.in_ok-i.ensures.scanned in
-    omega (arith, names_in _ c.args.at c.requires.node c.in_ok-i.i (omega (arith, s.most, c.if-i-head.false, c.requires.head.used_is)), says.offset_is, c.requires.short)
-
-pub read_unsigned4-requires : goal.read_unsigned4-requires
-read_unsigned4-requires g c =
-    let says = rw c.in_ok-i.ensures.area.image at c.in_ok-entry.ensures.value in
-    let s = c.in_ok-i.ensures.scanned in
-    omega (arith, names_in _ c.args.at c.requires.node c.in_ok-i.i (omega (arith, s.most, c.if-i-head.false, c.requires.head.used_is)), says.offset_is, ap length (c.in_ok-entry.ensures.area.image ∙ c.in_ok-i.ensures.area.image))
 
 pub returns-then-kind-eq-VXR_TYPE-clause-told : goal.returns-then-kind-eq-VXR_TYPE-clause-told
 returns-then-kind-eq-VXR_TYPE-clause-told g c =

@@ -1,6 +1,5 @@
 use Rattle.std.proofs.Common.{◌<◌, arith, ◌∙◌}
 use Rattle.cdf_index.proofs.Common.{read_more, used_count}
-use Rattle.cdf_area.proofs.Calls.{read_failed}
 use Rattle.cdf_index.proofs.Looking.{node_inside}
 use Rattle.cdf_index.proofs.ChainWalk.{walk_end, walk_over, walk_node, walk_in, lower_chain, past_block, past_lower, walk_out}
 use Rattle.cdf_index.proofs.gathering.+gather_chain.Goals.{then-named-eq-VXR_TYPE+in_ok-gather_chain, else-named-eq-VXR_TYPE+in_ok-block}
@@ -9,29 +8,11 @@ use Rattle.cdf_index.proofs.gathering.+gather_chain.Goals as goal
 pub returns-then-at-eq0-clause-grew : goal.returns-then-at-eq0-clause-grew
 returns-then-at-eq0-clause-grew g t c = walk_end c.requires.chain c.loop-turn.invariant.walked c.if-at-eq0.true
 
-pub read_head-requires-clause-inside : goal.read_head-requires-clause-inside
-read_head-requires-clause-inside g t c =
-    let i = c.loop-turn.invariant in
-    rw i.area.image (node_inside _ c.loop-turn.at (walk_node c.requires.chain i.walked c.if-at-eq0.false))
-
-pub node-requires : goal.node-requires
-node-requires g t c =
-    let i = c.loop-turn.invariant in
-    let n = node_inside _ c.loop-turn.at (walk_node c.requires.chain i.walked c.if-at-eq0.false) in
-    let h = rw i.area.image at c.in_ok-head.ensures.head in
-    omega (arith, n.room, h.room_is, c.requires.short)
-
 pub loop-i-init : goal.loop-i-init
 loop-i-init g t c =
     let i = c.loop-turn.invariant in
     let h = rw i.area.image at c.in_ok-head.ensures.head in
     record { gone = walk_in i.walked c.if-at-eq0.false (rw (h.used_is, h.room_is) at c.in_ok-node.ensures); area = read_more i.area c.in_ok-head.ensures.area }
-
-pub read_named-requires-clause-node : goal.read_named-requires-clause-node
-read_named-requires-clause-node g t c = rw c.loop-i.invariant.area.image (walk_node c.requires.chain c.loop-turn.invariant.walked c.if-at-eq0.false)
-
-pub returns-in_err-named-clause-area : goal.returns-in_err-named-clause-area
-returns-in_err-named-clause-area g t c = read_failed c.loop-i.invariant.area c.in_err-named.ensures.area c.from_residual-in_err-named.ensures.1
 
 pub gather_chain-requires : goal.gather_chain-requires
 gather_chain-requires g t c =
@@ -40,16 +21,6 @@ gather_chain-requires g t c =
     let h = rw c.loop-turn.invariant.area.image at c.in_ok-head.ensures.head in
     let chain = lower_chain c.requires.chain l.invariant.gone (omega (arith, h.used_is)) (rw l.invariant.area.image at c.in_ok-named.ensures.place) (rw l.invariant.area.image at c.in_ok-named.ensures.kind) c.if-named-eq-VXR_TYPE.true in
     λ κs w. (omega (arith, c.decreases, chain.0), (w.0, (w.1, (rw e chain.1, rw e c.requires.short))))
-
-pub block-requires-clause-inside : goal.block-requires-clause-inside
-block-requires-clause-inside g t c =
-    rw c.in_ok-named.ensures.area.image (rw c.loop-i.invariant.area.image (node_inside _ c.loop-turn.at (walk_node c.requires.chain c.loop-turn.invariant.walked c.if-at-eq0.false)))
-
-pub block-requires-clause-below : goal.block-requires-clause-below
-block-requires-clause-below g t c =
-    let n = node_inside _ c.loop-turn.at (walk_node c.requires.chain c.loop-turn.invariant.walked c.if-at-eq0.false) in
-    let h = rw c.loop-turn.invariant.area.image at c.in_ok-head.ensures.head in
-    omega (arith, n.fits, h.used_is, h.room_is)
 
 pub loop-i-preserved : goal.loop-i-preserved
 loop-i-preserved g t c =
@@ -77,3 +48,8 @@ pub returns-clause-grew : goal.returns-clause-grew
 returns-clause-grew g t c =
     let i = c.loop-turn.invariant in
     walk_end c.requires.chain i.walked (walk_over c.requires.chain i.walked (omega (arith, c.size-turn-end.ensures, c.loop-turn-test.false)))
+
+pub read_head-requires-clause-inside : goal.read_head-requires-clause-inside
+read_head-requires-clause-inside g t c =
+    let i = c.loop-turn.invariant in
+    rw i.area.image (node_inside _ c.loop-turn.at (walk_node c.requires.chain i.walked c.if-at-eq0.false))

@@ -1,10 +1,6 @@
 use Rattle.std.proofs.Common.{arith, sym, ◌∙◌}
-use Rattle.cdf_index.proofs.Looking.{names_in}
 use Rattle.cdf_index.proofs.Walking.{walk_decided, walk_below, walk_along}
 use Rattle.cdf_index.proofs.next.advance.Goals as goal
-
-pub lower_before-requires-clause-names : goal.lower_before-requires-clause-names
-lower_before-requires-clause-names g c = rw c.in_ok-i.ensures.area.image (names_in _ c.args.walk.now.at c.requires.node)
 
 pub returns-then-i-head-clause-told : goal.returns-then-i-head-clause-told
 returns-then-i-head-clause-told g c =
