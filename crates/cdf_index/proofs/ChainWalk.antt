@@ -1,6 +1,6 @@
 -- The walk over a whole chain, with what is below it.
 use Rattle.std.proofs.Common.{◌≡◌, ◌≢◌, ℕ, ◌+◌, ◌-◌, ◌<◌, ◌≤◌, List, [], ◌∷◌, ◌++◌, append_assoc, append-nil, length, refl, sym, ap, subst, ◌∙◌, arith}
-use Rattle.cdf_index.proofs.Common.{length-append, next_of, type_at, Nodes, no_node, node, Entries, entry_count, link_to, room_at, used_count, first_at, last_at, offset_at, index_at, HasIndex, Stands, SomeNode, Grew, Met, met_block, met_node, SomeChain}
+use Rattle.cdf_index.proofs.Common.{length-append, next_of, type_at, Nodes, no_node, node, Entries, entry_count, link_to, room_at, used_count, first_at, last_at, offset_at, index_at, HasIndex, Stands, SomeNode, AreTiles, tiles, Grew, Met, met_block, met_node, SomeChain}
 use Rattle.cdf_format.specs.Index.{nodes_of, lower_nodes}
 use Rattle.cdf_index.specs.Whole.{met_in, met_below}
 use Rattle.cdf_index.proofs.Ascending.{index_stands}
@@ -36,11 +36,12 @@ module _ {G : Type 0} (has : G → List Met → Type 0) where
     pub all : (end : G) → Grew has now end (met_below entries ++ met_in more) → Grew has was end (met_in ns)
     pub fewer : length (lower_nodes entries) + length (nodes_of more) + (turn + 1) ≤ length (nodes_of ns)
 
-  pub record Walked (b : List ℕ) (levels link at turn : ℕ) (was now : G) : Type 0 where
-    pub left : (ns : Nodes) → Stands b levels ns → link ≡ link_to ns → ChainLeft b levels at turn was now ns
+  -- of whichever nodes begin at a link
+  abbrev pub Walked : List ℕ → ℕ → ℕ → ℕ → ℕ → G → G → Type 0
+  Walked b levels link at turn was now = (ns : Nodes) → Stands b levels ns → link ≡ link_to ns → ChainLeft b levels at turn was now ns
 
-  pub record Gone (b : List ℕ) (levels link at i turn : ℕ) (was now : G) : Type 0 where
-    pub left : (ns : Nodes) → Stands b levels ns → link ≡ link_to ns → NodeLeft b levels at i turn was now ns
+  abbrev pub Gone : List ℕ → ℕ → ℕ → ℕ → ℕ → ℕ → G → G → Type 0
+  Gone b levels link at i turn was now = (ns : Nodes) → Stands b levels ns → link ≡ link_to ns → NodeLeft b levels at i turn was now ns
 
 module _ {G : Type 0} {has : G → List Met → Type 0} where
   grew_none : (g : G) → Grew has g g []
@@ -49,95 +50,73 @@ module _ {G : Type 0} {has : G → List Met → Type 0} where
   grew_both : {a b c : G} {xs ys : List Met} → Grew has a b xs → Grew has b c ys → Grew has a c (xs ++ ys)
   grew_both {xs = xs} {ys = ys} p q = record { also = λ met h. rw append_assoc at (q.also (met ++ xs) (p.also met h)) }
 
-  pub walk_start : {b : List ℕ} {levels link : ℕ} {g : G} → Walked has b levels link link 0 g g
-  walk_start = record { left = λ ns st e. record { left = ns; stands = st; link_is = e; all = λ end h. h; fewer = omega arith } }
-
-  module _ {b : List ℕ} {levels link at turn : ℕ} {was now : G} where
-    pub walk_end : SomeChain b levels link → Walked has b levels link at turn was now → at ≡ 0 → (ns : Nodes) → Stands b levels ns → link ≡ link_to ns → Grew has was now (met_in ns)
+  module _ {b : List ℕ} {levels at turn : ℕ} {was now : G} {ns : Nodes} (l : ChainLeft has b levels at turn was now ns) where
+    pub walk_end : AreTiles b 8 (length b) (tiles b) → at ≡ 0 → Grew has was now (met_in ns)
     unfolding met_in
-    walk_end some w z ns st e =
-        let l = w.left ns st e in
-        l.all now (rw (none_there b levels l.left some.tiled l.stands.has (sym l.link_is ∙ z)) (grew_none now))
+    walk_end tiled z = l.all now (rw (none_there b levels l.left tiled l.stands.has (sym l.link_is ∙ z)) (grew_none now))
 
-    pub walk_over : SomeChain b levels link → Walked has b levels link at turn was now → length b ≤ turn → at ≡ 0
-    walk_over some w le =
-        let l = w.left some.nodes some.stands some.link_is in
-        l.link_is ∙ no_link l.left (omega (arith, l.fewer, some.few))
+    pub walk_over : length (nodes_of ns) ≤ turn → at ≡ 0
+    walk_over le = l.link_is ∙ no_link l.left (omega (arith, l.fewer))
 
-    -- a node of the chain
-    pub walk_node : SomeChain b levels link → Walked has b levels link at turn was now → at ≢ 0 → SomeNode b at
-    walk_node some w ne = let l = w.left some.nodes some.stands some.link_is in node_of some.tiled l.stands l.link_is ne
-
-    pub walk_in : {next : G} → Walked has b levels link at turn was now → at ≢ 0 → Grew has now next (met_node at (room_at b at) (used_count b at) ∷ []) → Gone has b levels link at 0 turn was next
+    pub walk_in : {next : G} → at ≢ 0 → Grew has now next (met_node at (room_at b at) (used_count b at) ∷ []) → NodeLeft has b levels at 0 turn was next ns
     unfolding met_in nodes_of
-    walk_in w ne g = record {
-      left = λ ns st e.
-          (let l = w.left ns st e in
-          let o = opened b levels at l.left l.stands (node_there l.left (λ z. ne (l.link_is ∙ z))) l.link_is in
-          record {
-            deep = omega (arith, o.deep);
-            entries = o.entries;
-            more = o.more;
-            left = subst (λ (x : ℕ). EntriesLeft b x at 0 o.entries) (omega (arith, o.deep)) o.parts.left;
-            more_stands = o.more_stands;
-            next_is = o.parts.says.next_is;
-            many = omega (arith, o.parts.says.used_is);
-            all = λ end h. l.all end (rw o.is (rw (o.parts.says.used_is, o.parts.says.room_is) at (grew_both g h)));
-            fewer = omega (arith, l.fewer, ap (λ (x : Nodes). length (nodes_of x)) o.is, length-append (lower_nodes o.entries) (nodes_of o.more));
-          });
-    }
+    walk_in ne g =
+        let o = opened b levels at l.left l.stands (node_there l.left (λ z. ne (l.link_is ∙ z))) l.link_is in
+        record {
+          deep = omega (arith, o.deep);
+          entries = o.entries;
+          more = o.more;
+          left = subst (λ (x : ℕ). EntriesLeft b x at 0 o.entries) (omega (arith, o.deep)) o.parts.left;
+          more_stands = o.more_stands;
+          next_is = o.parts.says.next_is;
+          many = omega (arith, o.parts.says.used_is);
+          all = λ end h. l.all end (rw o.is (rw (o.parts.says.used_is, o.parts.says.room_is) at (grew_both g h)));
+          fewer = omega (arith, l.fewer, ap (λ (x : Nodes). length (nodes_of x)) o.is, length-append (lower_nodes o.entries) (nodes_of o.more));
+        }
 
-  entry_here : {b : List ℕ} {levels at i turn : ℕ} {was now : G} {ns : Nodes} → (l : NodeLeft has b levels at i turn was now ns) → i < used_count b at → FirstEntry b (levels - 1) at i l.entries
-  entry_here l lt = first_entry l.entries l.left (omega (arith, l.many))
-
-  past_entry : {b : List ℕ} {levels at i turn : ℕ} {was now next : G} {ns : Nodes} → (l : NodeLeft has b levels at i turn was now ns) → (f : FirstEntry b (levels - 1) at i l.entries) → Grew has now next f.met → NodeLeft has b levels at (i + 1) turn was next ns
-  past_entry l f g = record {
-    deep = l.deep;
-    entries = f.rest;
-    more = l.more;
-    left = f.left;
-    more_stands = l.more_stands;
-    next_is = l.next_is;
-    many = omega (arith, l.many, f.many);
-    all = λ end h. l.all end (rw f.mets (rw append_assoc (grew_both g h)));
-    fewer = omega (arith, l.fewer, ap length f.nodes, length-append (nodes_of f.low) (lower_nodes f.rest));
-  }
-
-  module _ {b : List ℕ} {levels link at i turn : ℕ} {was now : G} where
-    pub past_block : {next : G} {place kind : ℕ} → Gone has b levels link at i turn was now → i < used_count b at → place ≡ offset_at b at i → kind ≡ type_at b place → kind ≢ 6
-        → Grew has now next (met_block (first_at b at i) (last_at b at i) place ∷ []) → Gone has b levels link at (i + 1) turn was next
-    past_block w lt p k ne g = record {
-      left = λ ns st e.
-          (let l = w.left ns st e in
-          let f = entry_here l lt in
-          past_entry l f (rw (f.of_block (λ t. ne (k ∙ ap (type_at b) p ∙ t))).0 (rw p at g)));
-    }
-
-    pub past_lower : {next : G} {place kind : ℕ} → Gone has b levels link at i turn was now → i < used_count b at → place ≡ offset_at b at i → kind ≡ type_at b place → kind ≡ 6
-        → ((ns : Nodes) → Stands b (levels - 1) ns → place ≡ link_to ns → Grew has now next (met_in ns)) → Gone has b levels link at (i + 1) turn was next
-    past_lower w lt p k is told = record {
-      left = λ ns st e.
-          (let l = w.left ns st e in
-          let f = entry_here l lt in
-          let m = f.of_lower (ap (type_at b) (sym p) ∙ sym k ∙ is) in
-          past_entry l f (rw m.1 (told f.low f.stands (p ∙ m.0))));
-    }
-
-    pub lower_chain : {place kind : ℕ} → SomeChain b levels link → Gone has b levels link at i turn was now → i < used_count b at → place ≡ offset_at b at i → kind ≡ type_at b place → kind ≡ 6 → (1 ≤ levels) × SomeChain b (levels - 1) place
-    lower_chain some w lt p k is =
-        let l = w.left some.nodes some.stands some.link_is in
-        let f = entry_here l lt in
-        let m = f.of_lower (ap (type_at b) (sym p) ∙ sym k ∙ is) in
-        (l.deep, record { nodes = f.low; tiled = some.tiled; stands = f.stands; link_is = p ∙ m.0; few = omega (arith, ap length f.nodes, length-append (nodes_of f.low) (lower_nodes f.rest), l.fewer, some.few) })
-
-    pub walk_out : {next : ℕ} → Gone has b levels link at i turn was now → used_count b at ≤ i → next ≡ next_of b at → Walked has b levels link next (turn + 1) was now
+  module _ {b : List ℕ} {levels at i turn : ℕ} {was now : G} {ns : Nodes} (l : NodeLeft has b levels at i turn was now ns) where
+    pub walk_out : {next : ℕ} → used_count b at ≤ i → next ≡ next_of b at → ChainLeft has b levels next (turn + 1) was now ns
     unfolding met_below
-    walk_out w le nx = record {
-      left = λ ns st e.
-          (let l = w.left ns st e in
-          let none = no_entries l.entries (omega (arith, l.many)) in
-          record { left = l.more; stands = l.more_stands; link_is = nx ∙ l.next_is; all = λ end h. l.all end (rw none h); fewer = omega (arith, l.fewer) });
+    walk_out le nx =
+        let none = no_entries l.entries (omega (arith, l.many)) in
+        record { left = l.more; stands = l.more_stands; link_is = nx ∙ l.next_is; all = λ end h. l.all end (rw none h); fewer = omega (arith, l.fewer) }
+
+    past_entry : {next : G} → (f : FirstEntry b (levels - 1) at i l.entries) → Grew has now next f.met → NodeLeft has b levels at (i + 1) turn was next ns
+    past_entry f g = record {
+      deep = l.deep;
+      entries = f.rest;
+      more = l.more;
+      left = f.left;
+      more_stands = l.more_stands;
+      next_is = l.next_is;
+      many = omega (arith, l.many, f.many);
+      all = λ end h. l.all end (rw f.mets (rw append_assoc (grew_both g h)));
+      fewer = omega (arith, l.fewer, ap length f.nodes, length-append (nodes_of f.low) (lower_nodes f.rest));
     }
+
+    -- at an entry that names a place
+    module _ {place kind : ℕ} (lt : i < used_count b at) (p : place ≡ offset_at b at i) (k : kind ≡ type_at b place) where
+      entry_here : FirstEntry b (levels - 1) at i l.entries
+      entry_here = first_entry l.entries l.left (omega (arith, l.many))
+
+      pub past_block : {next : G} → kind ≢ 6 → Grew has now next (met_block (first_at b at i) (last_at b at i) place ∷ []) → NodeLeft has b levels at (i + 1) turn was next ns
+      past_block ne g = past_entry entry_here (rw (entry_here.of_block (λ t. ne (k ∙ ap (type_at b) p ∙ t))).0 (rw p at g))
+
+      module _ (is : kind ≡ 6) where
+        lower_here : (offset_at b at i ≡ link_to entry_here.low) × (entry_here.met ≡ met_in entry_here.low)
+        lower_here = let m = entry_here.of_lower (ap (type_at b) (sym p) ∙ sym k ∙ is) in (m.0, m.1)
+
+        pub past_lower : {next : G} → ((low : Nodes) → Stands b (levels - 1) low → place ≡ link_to low → Grew has now next (met_in low)) → NodeLeft has b levels at (i + 1) turn was next ns
+        past_lower told = past_entry entry_here (rw lower_here.1 (told entry_here.low entry_here.stands (p ∙ lower_here.0)))
+
+        pub lower_chain : AreTiles b 8 (length b) (tiles b) → length (nodes_of ns) ≤ length b → SomeChain b (levels - 1) place
+        lower_chain tiled few =
+            let f = entry_here in
+            record { nodes = f.low; tiled = tiled; stands = f.stands; link_is = p ∙ lower_here.0; few = omega (arith, ap length f.nodes, length-append (nodes_of f.low) (lower_nodes f.rest), l.fewer) }
+
+-- a node of the chain
+pub walk_node : {G : Type 0} {has : G → List Met → Type 0} {b : List ℕ} {levels link at turn : ℕ} {was now : G} → SomeChain b levels link → Walked has b levels link at turn was now → at ≢ 0 → SomeNode b at
+walk_node some w ne = let l = w some.nodes some.stands some.link_is in node_of some.tiled l.stands l.link_is ne
 
 -- ---- from the head of an index
 
