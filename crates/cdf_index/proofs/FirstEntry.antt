@@ -1,6 +1,6 @@
 -- A chain that stands, taken apart at its first node, and the entries of a node at the first of them.
 use Rattle.std.proofs.Common.{◌≡◌, ◌≢◌, ◌⊎◌, ℕ, zero, suc, ◌+◌, ◌<◌, List, [], ◌∷◌, ◌++◌, true, false, ltb, eqb, refl, sym, ap, subst, ◌∙◌, arith, inl, inr, Option, Some, None}
-use Rattle.cdf_index.proofs.Common.{nat_tests, is_a, is_linkable, type_at, Nodes, no_node, node, Entries, no_entry, block, lower, Leaf, leaf, entry_count, link_to, first_at, last_at, offset_at, IsNode, vxr_type, cvvr_type, In, tiles, linkable-in, linkable-type, chain_at, passed, IsBlock, IsOrderly, Stands, Met, met_block}
+use Rattle.cdf_index.proofs.Common.{nat_tests, is_a, is_linkable, type_at, Nodes, no_node, node, Entries, no_entry, block, lower, Leaf, leaf, entry_count, link_to, first_at, last_at, offset_at, IsNode, vxr_type, cvvr_type, In, tiles, linkable-in, linkable-type, chain_at, IsBlock, IsOrderly, NodeInside, Stands, NodeInside, Met, met_block}
 use Rattle.cdf_format.specs.Index.{nodes_of, lower_nodes, entry_leaves}
 use Rattle.cdf_format.specs.IndexOf.{HasNodes, Names}
 use Rattle.cdf_format.specs.RecordTypes.{vvr_type}
@@ -32,6 +32,10 @@ opened b zero at (node place room entries more) st is e = absurd st.has
 opened b (suc down) at (node place room entries more) st is e =
     let p = node_parts st in
     subst (λ (x : ℕ). Opened b (suc down) x (node place room entries more)) (sym e) (record { down = down; room = room; entries = entries; more = more; deep = refl; is = refl; parts = p; more_stands = p.more_stands; here = st.orderly.0 })
+
+pub opened_inside : {b : List ℕ} {levels at : ℕ} {ns : Nodes} → Stands b levels ns → at ≡ link_to ns → NodeInside b at → Opened b levels at ns
+opened_inside {ns = no_node} st e inside = let low = inside.low in absurd (omega arith)
+opened_inside {b = b} {levels = levels} {at = at} {ns = node place room entries more} st e inside = opened b levels at (node place room entries more) st tt e
 
 -- ---- what an entry names
 
@@ -69,8 +73,7 @@ pub record FirstEntry (b : List ℕ) (down at i : ℕ) (entries : Entries) : Typ
   pub nodes : lower_nodes entries ≡ nodes_of low ++ lower_nodes rest
   pub firsts : entry_firsts entries ≡ first_at b at i ∷ (firsts_of low ++ entry_firsts rest)
   pub mets : met_below entries ≡ met ++ met_below rest
-  pub skips : (rec : ℕ) → ltb (last_at b at i) rec ≡ true → (passed rec entries ≡ suc (passed rec rest)) × ((other : Option Leaf) → find_entry rec entries other ≡ find_entry rec rest other) × ((other : ℕ) → passed_from rec entries other ≡ passed_from rec rest other)
-  pub stops : (rec : ℕ) → ltb (last_at b at i) rec ≡ false → passed rec entries ≡ 0
+  pub skips : (rec : ℕ) → ltb (last_at b at i) rec ≡ true → ((other : Option Leaf) → find_entry rec entries other ≡ find_entry rec rest other) × ((other : ℕ) → passed_from rec entries other ≡ passed_from rec rest other)
   pub gap : (rec : ℕ) → ltb (last_at b at i) rec ≡ false → ltb rec (first_at b at i) ≡ true → (other : Option Leaf) → find_entry rec entries other ≡ None
   pub has : (rec : ℕ) → ltb (last_at b at i) rec ≡ false → ltb rec (first_at b at i) ≡ false → ((other : Option Leaf) → find_entry rec entries other ≡ leaf_here rec) × ((other : ℕ) → passed_from rec entries other ≡ nodes_passed rec low)
   pub zero : LowerAreZero entries → NextsAreZero low × LowerAreZero rest
@@ -97,8 +100,7 @@ first_entry {b = b} {at = at} {i = i} (block first last place packed entries) l 
       nodes = refl;
       firsts = rw e.first_is refl;
       mets = refl;
-      skips = λ rec t. (let u = rw e.last_is at t in (rw u refl, λ other. rw u refl, λ other. rw u refl));
-      stops = λ rec t. (let u = rw e.last_is at t in rw u refl);
+      skips = λ rec t. (let u = rw e.last_is at t in (λ other. rw u refl, λ other. rw u refl));
       gap = λ rec t h other. (let u = rw e.last_is at t in let v = rw e.first_is at h in rw (u, v) refl);
       has = λ rec t h. (let u = rw e.last_is at t in let v = rw e.first_is at h in (λ other. rw (u, v) refl, λ other. rw u refl));
       zero = λ z. (tt, z);
@@ -124,8 +126,7 @@ first_entry {b = b} {down = down} {at = at} {i = i} (lower first last nodes entr
       nodes = refl;
       firsts = rw e.first_is refl;
       mets = refl;
-      skips = λ rec t. (let u = rw e.last_is at t in (rw u refl, λ other. rw u refl, λ other. rw u refl));
-      stops = λ rec t. (let u = rw e.last_is at t in rw u refl);
+      skips = λ rec t. (let u = rw e.last_is at t in (λ other. rw u refl, λ other. rw u refl));
       gap = λ rec t h other. (let u = rw e.last_is at t in let v = rw e.first_is at h in rw (u, v) refl);
       has = λ rec t h. (let u = rw e.last_is at t in let v = rw e.first_is at h in (λ other. rw (u, v) refl, λ other. rw (u, v) refl));
       zero = λ z. z;

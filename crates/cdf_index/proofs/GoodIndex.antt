@@ -1,9 +1,9 @@
 -- The index of a variable of a good image is one that can be searched.
 use Rattle.std.proofs.Common.{arith, ◌≡◌, ℕ, ℤ, pos, negsuc, zero, suc, List, [], ◌∷◌, ◌++◌, length, refl, sym, ap, subst, ◌∙◌}
-use Rattle.cdf_index.proofs.Common.{flat_map, record_number_limit, with_sign, number, IsGoodImage, Nodes, no_node, node, Entries, no_entry, block, lower, Leaf, nodes_of, leaves_of, end_of, is_block, leaf_rows, Hold, VariableShape, Shape, variables, Each, HasVariable, NodeFits, LeafFits, VariableFits, IsSound, AreTiles, tiles, number_before, Hold-split, Each-split, tiles_are, before_number, index_at, IsBlock, HasIndex, past_entries}
+use Rattle.cdf_index.proofs.Common.{flat_map, record_number_limit, with_sign, number, IsGoodImage, Nodes, no_node, node, Entries, no_entry, block, lower, nodes_of, leaves_of, end_of, is_block, leaf_rows, Hold, VariableShape, Shape, variables, Each, HasVariable, LeafFits, VariableFits, IsSound, AreTiles, tiles, number_before, Hold-split, Each-split, tiles_are, before_number, index_at, IsBlock, HasIndex, past_entries}
 use Rattle.cdf_format.specs.IndexOf.{IsIndex}
 use Rattle.cdf_format.specs.IndexRules.{nodes_rows, used_rows, index_rows, met_rows, phase8}
-use Rattle.cdf_format.specs.IndexWalk.{Met, met, lost, nodes_met, nodes_on, levels_on}
+use Rattle.cdf_format.specs.IndexWalk.{Met, met, nodes_met, nodes_on, levels_on}
 use Rattle.cdf_format.specs.Records.{vdr_vxr_head}
 use Rattle.cdf_format.specs.Rules.{Row}
 use Rattle.cdf_format.specs.Shape.{vdrs, index_of}

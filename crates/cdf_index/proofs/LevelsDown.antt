@@ -1,6 +1,6 @@
 -- The way down to the place of a new entry, from level to level.
-use Rattle.std.proofs.Common.{◌≡◌, ◌≢◌, ℕ, ◌+◌, ◌-◌, ◌<◌, ◌≤◌, List, [], ◌∷◌, ◌++◌, length, map, append_assoc, append-nil, refl, sym, ap, subst, ◌∙◌, inl, inr, arith}
-use Rattle.cdf_index.proofs.Common.{map-append, Nodes, no_node, node, link_to, nodes_of, room_at, used_count, AreTiles, In, tiles, Each, Each-append, record_number_limit, IsTree, SomeTree, SpotIs, index_at, HasIndex, SomeNode, way, spot, Spot, Step}
+use Rattle.std.proofs.Common.{◌≡◌, ◌≢◌, ℕ, ◌+◌, ◌-◌, ◌≤◌, List, [], ◌∷◌, ◌++◌, length, map, append_assoc, append-nil, refl, sym, ap, subst, ◌∙◌, inl, inr, arith}
+use Rattle.cdf_index.proofs.Common.{map-append, Nodes, no_node, node, link_to, nodes_of, room_at, AreTiles, In, tiles, Each, Each-append, record_number_limit, IsTree, SomeTree, SpotIs, index_at, HasIndex, SomeNode, way, spot, Spot, Step}
 use Rattle.cdf_format.specs.IndexOf.{HasNodes}
 use Rattle.cdf_index.specs.Descent.{IsAmong, StepSays, step_pair}
 use Rattle.cdf_index.proofs.Ascending.{index_stands}

@@ -1,12 +1,12 @@
 -- What is read at one node leads the search on.
-use Rattle.std.proofs.Common.{◌≡◌, ◌≢◌, ℕ, zero, suc, ◌+◌, ◌<◌, ◌≤◌, List, length, false, ltb, eqb, refl, sym, ap, subst, ◌∙◌, arith, inl, inr, Option, Some, None}
-use Rattle.cdf_index.proofs.Common.{Stands, nat_tests, length-append, next_of, type_at, Nodes, no_node, node, Entries, no_entry, block, lower, Leaf, leaf, entry_count, link_to, used_count, last_at, offset_at, SaysEntry, IsNode, vxr_type, In, AreTiles, tiles, linkable-in, either, tile_lies, NamesIn, passed, IsOrderly, SomeNode, NodeInside, At, Scanned}
+use Rattle.std.proofs.Common.{◌≡◌, ◌≢◌, ℕ, zero, suc, ◌+◌, ◌<◌, ◌≤◌, List, length, ltb, eqb, refl, sym, subst, ◌∙◌, arith, inl, inr, Some, None}
+use Rattle.cdf_index.proofs.Common.{Stands, nat_tests, length-append, next_of, type_at, Nodes, no_node, node, Entries, no_entry, block, lower, leaf, entry_count, link_to, used_count, last_at, offset_at, SaysEntry, IsNode, vxr_type, In, AreTiles, tiles, linkable-in, either, tile_lies, NamesIn, IsOrderly, SomeNode, NodeInside, At, Scanned}
 use Rattle.cdf_format.specs.Index.{nodes_of, lower_nodes}
 use Rattle.cdf_format.specs.IndexOf.{HasNodes, Names}
 use Rattle.cdf_format.proofs.ChainsLemmas.{some_place}
 use Rattle.cdf_index.specs.Order.{find_in, find_entry, nodes_passed, passed_from, NextsAreZero, LowerAreZero}
 use Rattle.cdf_index.proofs.EntriesLeft.{EntriesLeft}
-use Rattle.cdf_index.proofs.FirstEntry.{Opened, opened, first_entry}
+use Rattle.cdf_index.proofs.FirstEntry.{Opened, first_entry, opened, opened_inside}
 use Rattle.cdf_index.proofs.Saying.{no_entries}
 use Rattle.std.proofs.lemmas.Bool.{lt-ltb, le-ltb}
 
@@ -52,86 +52,63 @@ node_inside b at n =
     let f0 = fits.0 in
     record { low = lies.low; inside = lies.high; room = omega (arith, lies.high); entries = f0; fits = fits.1 }
 
--- ---- the first entry that ends at a record or later
-
--- what is left from entry number i on
-record Left (b : List ℕ) (rec levels at i : ℕ) (entries : Entries) : Type 0 where
-  rest : Entries
-  left : EntriesLeft b levels at i rest
-  none : passed rec rest ≡ 0
-  same : (other : Option Leaf) → find_entry rec entries other ≡ find_entry rec rest other
-  steps : (other : ℕ) → passed_from rec entries other ≡ passed_from rec rest other
-
-left_over : {b : List ℕ} {levels at : ℕ} (rec k n m : ℕ) → k + n ≡ m → (entries : Entries) → EntriesLeft b levels at k entries → n ≡ passed rec entries → n ≤ entry_count entries → (l : Left b rec levels at m entries) × (n + entry_count l.rest ≡ entry_count entries)
-left_over {b = b} {levels = levels} {at = at} rec k zero m e entries l p le =
-    let z : k ≡ m = omega arith in
-    (record { rest = entries; left = subst (λ (x : ℕ). EntriesLeft b levels at x entries) z l; none = sym p; same = λ other. refl; steps = λ other. refl }, omega arith)
-left_over {b = b} {at = at} rec k (suc n) m e entries l p le =
-    let f = first_entry entries l (omega arith) in
-    elim (either (ltb (last_at b at k) rec)) [
-      | inr t ↦ absurd (omega (arith, f.stops rec t))
-      | inl t ↦
-          let w = f.skips rec t in
-          let r = left_over rec (k + 1) n m (omega arith) f.rest f.left (omega (arith, w.0)) (omega (arith, f.many)) in
-          (record { rest = r.0.rest; left = r.0.left; none = r.0.none; same = λ other. w.1 other ∙ r.0.same other; steps = λ other. w.2 other ∙ r.0.steps other }, omega (arith, f.many, r.1))
-    ]
-
 -- ---- from the node at which a search is
 
-module _ {b : List ℕ} {rec turn at i : ℕ} {nodes : Nodes} (a : At b rec turn nodes at) (inside : NodeInside b at) (s : Scanned b rec at i) where
+-- what is left from entry number i on
+record Left (b : List ℕ) (rec turn : ℕ) (nodes : Nodes) (at i : ℕ) (more : Nodes) : Type 0 where
+  down : ℕ
+  rest : Entries
+  left : EntriesLeft b down at i rest
+  many : i + entry_count rest ≡ used_count b at
+  same : find_entry rec rest (find_in rec more) ≡ find_in rec nodes
+  steps : suc (passed_from rec rest (nodes_passed rec more)) + turn ≡ nodes_passed rec nodes
+
+module _ {b : List ℕ} {rec turn at : ℕ} {nodes : Nodes} (a : At b rec turn nodes at) (inside : NodeInside b at) where
   here : Opened b a.levels at a.left
-  here = opened b a.levels at a.left a.stands (node_there a.left (λ z. (let low = inside.low in let at_is = a.link_is in absurd (omega arith)))) a.link_is
+  here = opened_inside a.stands a.link_is inside
 
-  over : (l : Left b rec here.down at i here.entries) × (i + entry_count l.rest ≡ entry_count here.entries)
-  over = left_over rec 0 i i (omega arith) here.entries here.parts.left (s.pass here.entries here.parts.says.used_is here.parts.says.say_entries) (omega (arith, s.most, here.parts.says.used_is))
-
-  -- the whole node was passed
-  pub look_next : (link : ℕ) → i ≡ used_count b at → link ≡ next_of b at → At b rec (turn + 1) nodes link
-  unfolding find_in find_entry nodes_passed passed_from
-  look_next link e x =
+  left_over : (i : ℕ) → ((j : ℕ) → j < i → last_at b at j < rec) → i ≤ used_count b at → Left b rec turn nodes at i here.more
+  unfolding find_in nodes_passed
+  left_over zero before most =
       let o = here in
-      let l = over in
-      let none = no_entries l.0.rest (omega (arith, l.1, o.parts.says.used_is)) in
-      let found : find_entry rec o.entries (find_in rec o.more) ≡ find_in rec o.more = rw none at (l.0.same (find_in rec o.more)) in
-      let steps : passed_from rec o.entries (nodes_passed rec o.more) ≡ nodes_passed rec o.more = rw none at (l.0.steps (nodes_passed rec o.more)) in
-      record {
-        levels = a.levels;
-        left = o.more;
-        stands = o.more_stands;
-        link_is = x ∙ o.parts.says.next_is;
-        same = sym (ap (find_in rec) o.is ∙ found) ∙ a.same;
-        passed = omega (arith, a.passed, ap (nodes_passed rec) o.is, steps);
-      }
+      record { down = o.down; rest = o.entries; left = o.parts.left; many = omega (arith, o.parts.says.used_is); same = rw o.is at a.same; steps = omega (arith, rw o.is at a.passed) }
+  left_over (suc j) before most =
+      let h = left_over j (λ k lt. before k (omega arith)) (omega arith) in
+      let f = first_entry h.rest h.left (omega (arith, h.many)) in
+      let w = f.skips rec (lt-ltb (last_at b at j) rec (before j (omega arith))) in
+      let n : j + 1 ≡ suc j = omega arith in
+      record { down = h.down; rest = f.rest; left = rw n at f.left; many = omega (arith, h.many, f.many); same = sym (w.0 (find_in rec here.more)) ∙ h.same; steps = omega (arith, h.steps, w.1 (nodes_passed rec here.more)) }
 
-  -- an entry tells: no leaf has the record, or the search goes on below it, or it names the leaf
-  pub record Tells (first last place : ℕ) : Type 0 where
-    pub nothing : rec < first → find_in rec nodes ≡ None
-    pub below : first ≤ rec → type_at b place ≡ 6 → At b rec (turn + 1) nodes place
-    pub found : first ≤ rec → type_at b place ≢ 6 → find_in rec nodes ≡ Some (leaf first last place (eqb (type_at b place) 13))
+  module _ {i : ℕ} (s : Scanned b rec at i) where
+    over : Left b rec turn nodes at i here.more
+    over = left_over i s.before s.most
 
-  pub look_tells : (first last place : ℕ) → i ≢ used_count b at → SaysEntry b at i first last place → Tells first last place
-  unfolding find_in find_entry nodes_passed passed_from
-  look_tells first last place ne q =
-      let o = here in
-      let l = over in
-      let f = first_entry l.0.rest l.0.left (omega (arith, l.1, o.parts.says.used_is, s.most)) in
-      let t : ltb (last_at b at i) rec ≡ false = elim (either (ltb (last_at b at i) rec)) [ inr t ↦ t | inl t ↦ absurd (omega (arith, (f.skips rec t).0, l.0.none)) ] in
-      let all = λ (found : Option Leaf) (e : find_entry rec l.0.rest (find_in rec o.more) ≡ found). sym a.same ∙ ap (find_in rec) o.is ∙ l.0.same (find_in rec o.more) ∙ e in
-      rw (sym q.first_is, sym q.last_is, sym q.offset_is) (record {
-        nothing = λ h. all None (f.gap rec t (lt-ltb rec _ h) (find_in rec o.more));
-        below = λ h six.
-            (let d = f.has rec t (le-ltb _ _ h) in
-            let m = f.of_lower six in
-            record {
-              levels = here.down;
-              left = f.low;
-              stands = f.stands;
-              link_is = m.0;
-              same = sym (all (find_in rec f.low) (d.0 (find_in rec o.more) ∙ m.2 rec));
-              passed = omega (arith, a.passed, ap (nodes_passed rec) o.is, l.0.steps (nodes_passed rec o.more), d.1 (nodes_passed rec o.more));
-            });
-        found = λ h no. all _ ((f.has rec t (le-ltb _ _ h)).0 (find_in rec o.more) ∙ (f.of_block no).1 rec);
-      })
+    -- the whole node was passed
+    pub look_next : (link : ℕ) → i ≡ used_count b at → link ≡ next_of b at → At b rec (turn + 1) nodes link
+    unfolding find_entry passed_from
+    look_next link e x =
+        let none = no_entries over.rest (omega (arith, over.many)) in
+        record { levels = a.levels; left = here.more; stands = here.more_stands; link_is = x ∙ here.parts.says.next_is; same = rw none at over.same; passed = omega (arith, rw none at over.steps) }
+
+    -- an entry tells: no leaf has the record, or the search goes on below it, or it names the leaf
+    pub record Tells (first last place : ℕ) : Type 0 where
+      pub nothing : rec < first → find_in rec nodes ≡ None
+      pub below : first ≤ rec → type_at b place ≡ 6 → At b rec (turn + 1) nodes place
+      pub found : first ≤ rec → type_at b place ≢ 6 → find_in rec nodes ≡ Some (leaf first last place (eqb (type_at b place) 13))
+
+    pub look_tells : (first last place : ℕ) → i ≢ used_count b at → SaysEntry b at i first last place → Tells first last place
+    look_tells first last place ne q =
+        let f = first_entry over.rest over.left (omega (arith, over.many, s.most)) in
+        let t = le-ltb (last_at b at i) rec (s.stop (omega (arith, s.most))) in
+        let same = sym over.same in
+        rw (sym q.first_is, sym q.last_is, sym q.offset_is) (record {
+          nothing = λ h. same ∙ f.gap rec t (lt-ltb rec _ h) (find_in rec here.more);
+          below = λ h six.
+              (let d = f.has rec t (le-ltb _ _ h) in
+              let m = f.of_lower six in
+              record { levels = over.down; left = f.low; stands = f.stands; link_is = m.0; same = sym (same ∙ d.0 (find_in rec here.more) ∙ m.2 rec); passed = omega (arith, over.steps, d.1 (nodes_passed rec here.more)) });
+          found = λ h no. same ∙ (f.has rec t (le-ltb _ _ h)).0 (find_in rec here.more) ∙ (f.of_block no).1 rec;
+        })
 
 -- ---- how many nodes are passed
 

@@ -9,8 +9,8 @@ use Rattle.cdf_index.specs.Order.{NextsAreZero, LowerAreZero}
 use Rattle.cdf_index.specs.declared.next.Walk.{Walk}
 use Rattle.cdf_index.proofs.Ascending.{index_stands}
 use Rattle.cdf_index.proofs.EntriesLeft.{EntriesLeft}
-use Rattle.cdf_index.proofs.FirstEntry.{Opened, first_entry, opened}
-use Rattle.cdf_index.proofs.Looking.{none_there, node_inside, node_of, node_there}
+use Rattle.cdf_index.proofs.FirstEntry.{Opened, first_entry, opened_inside}
+use Rattle.cdf_index.proofs.Looking.{none_there, node_inside, node_of}
 use Rattle.cdf_index.proofs.NextLemmas.{climbs_front, firsts_climb, first_decides, first_is_least, first_passed}
 use Rattle.cdf_index.proofs.Saying.{no_entries}
 use Rattle.cdf_index.proofs.Searching.{Turns, few_nodes}
@@ -60,7 +60,7 @@ record Behind (b : List ℕ) (rec : ℕ) (nodes : Nodes) (turn : ℕ) (walk : Wa
 
 module _ {b : List ℕ} {rec turn : ℕ} {nodes : Nodes} {walk : Walk} (w : IsWalk b rec nodes turn walk) (inside : NodeInside b walk.at) where
   here : Opened b w.levels walk.at w.left
-  here = opened b w.levels walk.at w.left w.stands (node_there w.left (λ z. (let low = inside.low in let at_is = w.link_is in absurd (omega arith)))) w.link_is
+  here = opened_inside w.stands w.link_is inside
 
   few_here : length (nodes_of w.left) ≡ 1 + length (lower_nodes here.entries) + length (nodes_of here.more)
   unfolding nodes_of

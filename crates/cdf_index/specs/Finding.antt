@@ -3,14 +3,14 @@ use Rattle.std.specs.Prelude.{◌≡◌, ◌≤◌, ◌<◌, ℕ, ◌+◌, ◌*�
 use Rattle.cdf_model.specs.Limits.{level_limit, record_number_limit}
 use Rattle.cdf_format.specs.Sound.{NodeFits}
 use Rattle.cdf_format.specs.Fields.{size_at, word}
-use Rattle.cdf_format.specs.Index.{Nodes, Entries, Leaf, nodes_of, leaves_of, entry_count, link_to, room_at, used_count}
-use Rattle.cdf_format.specs.IndexOf.{IsNode, HasNodes, IsIndex, SayEntries}
+use Rattle.cdf_format.specs.Index.{Nodes, Leaf, nodes_of, leaves_of, link_to, room_at, used_count, last_at}
+use Rattle.cdf_format.specs.IndexOf.{IsNode, HasNodes, IsIndex}
 use Rattle.cdf_format.specs.IndexRules.{is_block}
 use Rattle.cdf_format.specs.IndexWalk.{levels_on, nodes_met}
 use Rattle.cdf_format.specs.Shape.{Each}
 use Rattle.cdf_format.specs.Tiles.{AreTiles, tiles}
 use Rattle.cdf_format.specs.Records.{cdr_place, vxr_first, vxr_bytes}
-use Rattle.cdf_index.specs.Order.{InOrder, find_in, nodes_passed, passed}
+use Rattle.cdf_index.specs.Order.{InOrder, find_in, nodes_passed}
 
 -- the index that a link leads to
 abbrev pub index_at : List ℕ → ℕ → Nodes
@@ -70,10 +70,11 @@ pub record NodeInside (b : List ℕ) (at : ℕ) : Type 0 where
   pub entries : vxr_bytes (room_at b at) ≤ size_at b at
   pub fits : used_count b at ≤ room_at b at
 
--- what was read of a node: the number of the first entry that ends at a record or later
+-- the first i entries of a node end before a record, and the one behind them does not
 pub record Scanned (b : List ℕ) (rec at i : ℕ) : Type 0 where
-  pub pass : (entries : Entries) → used_count b at ≡ entry_count entries → SayEntries b at 0 entries → i ≡ passed rec entries
+  pub before : (j : ℕ) → j < i → last_at b at j < rec
   pub most : i ≤ used_count b at
+  pub stop : i < used_count b at → rec ≤ last_at b at i
 
 -- after so many turns the search is at a link
 pub record At (b : List ℕ) (rec turn : ℕ) (nodes : Nodes) (link : ℕ) : Type 0 where
