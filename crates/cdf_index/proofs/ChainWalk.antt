@@ -1,14 +1,12 @@
 -- The walk over a whole chain, with what is below it.
 use Rattle.std.proofs.Common.{◌≡◌, ◌≢◌, ℕ, ◌+◌, ◌-◌, ◌<◌, ◌≤◌, List, [], ◌∷◌, ◌++◌, append_assoc, append-nil, length, refl, sym, ap, subst, ◌∙◌, arith}
-use Rattle.cdf_index.proofs.Common.{length-append, next_of, type_at, Nodes, no_node, node, Entries, entry_count, link_to, room_at, used_count, first_at, last_at, offset_at, index_at, HasIndex, Stands, SomeNode, AreTiles, tiles, Grew, Met, met_block, met_node, SomeChain}
-use Rattle.cdf_format.specs.Index.{nodes_of, lower_nodes}
+use Rattle.cdf_index.proofs.Common.{next_of, type_at, Nodes, no_node, node, Entries, link_to, room_at, used_count, first_at, last_at, offset_at, index_at, HasIndex, Stands, SomeNode, AreTiles, tiles, Grew, Met, met_block, met_node, SomeChain}
+use Rattle.cdf_format.specs.Index.{nodes_of}
 use Rattle.cdf_index.specs.Whole.{met_in, met_below}
 use Rattle.cdf_index.proofs.Ascending.{index_stands}
-use Rattle.cdf_index.proofs.EntriesLeft.{EntriesLeft}
-use Rattle.cdf_index.proofs.FirstEntry.{FirstEntry, first_entry, opened}
+use Rattle.cdf_index.proofs.FirstEntry.{AtEntry, FirstEntry, enter, entry_here, few_below, none_here, opened, pass}
 use Rattle.cdf_index.proofs.Looking.{node_of, node_there, none_there}
 use Rattle.cdf_index.proofs.Searching.{few_nodes}
-use Rattle.cdf_index.proofs.Saying.{no_entries}
 
 no_link : (ns : Nodes) → length (nodes_of ns) ≤ 0 → link_to ns ≡ 0
 unfolding nodes_of
@@ -26,15 +24,12 @@ module _ {G : Type 0} (has : G → List Met → Type 0) where
     pub fewer : length (nodes_of left) + turn ≤ length (nodes_of ns)
 
   pub record NodeLeft (b : List ℕ) (levels at i turn : ℕ) (was now : G) (ns : Nodes) : Type 0 where
-    pub deep : 1 ≤ levels
-    pub entries : Entries
+    pub down : ℕ
+    pub low : Nodes
+    pub rest : Entries
     pub more : Nodes
-    pub left : EntriesLeft b (levels - 1) at i entries
-    pub more_stands : Stands b levels more
-    pub next_is : next_of b at ≡ link_to more
-    pub many : i + entry_count entries ≡ used_count b at
-    pub all : (end : G) → Grew has now end (met_below entries ++ met_in more) → Grew has was end (met_in ns)
-    pub fewer : length (lower_nodes entries) + length (nodes_of more) + (turn + 1) ≤ length (nodes_of ns)
+    pub entry : AtEntry b levels down turn at i ns low more rest
+    pub all : (end : G) → Grew has now end (met_below rest ++ met_in more) → Grew has was end (met_in ns)
 
   -- of whichever nodes begin at a link
   abbrev pub Walked : List ℕ → ℕ → ℕ → ℕ → ℕ → G → G → Type 0
@@ -63,56 +58,41 @@ module _ {G : Type 0} {has : G → List Met → Type 0} where
     walk_in ne g =
         let o = opened b levels at l.left l.stands (node_there l.left (λ z. ne (l.link_is ∙ z))) l.link_is in
         record {
-          deep = omega (arith, o.deep);
-          entries = o.entries;
+          down = o.down;
+          low = no_node;
+          rest = o.entries;
           more = o.more;
-          left = subst (λ (x : ℕ). EntriesLeft b x at 0 o.entries) (omega (arith, o.deep)) o.parts.left;
-          more_stands = o.more_stands;
-          next_is = o.parts.says.next_is;
-          many = omega (arith, o.parts.says.used_is);
+          entry = enter no_node o (omega (arith, l.fewer));
           all = λ end h. l.all end (rw o.is (rw (o.parts.says.used_is, o.parts.says.room_is) at (grew_both g h)));
-          fewer = omega (arith, l.fewer, ap (λ (x : Nodes). length (nodes_of x)) o.is, length-append (lower_nodes o.entries) (nodes_of o.more));
         }
 
   module _ {b : List ℕ} {levels at i turn : ℕ} {was now : G} {ns : Nodes} (l : NodeLeft has b levels at i turn was now ns) where
     pub walk_out : {next : ℕ} → used_count b at ≤ i → next ≡ next_of b at → ChainLeft has b levels next (turn + 1) was now ns
     unfolding met_below
     walk_out le nx =
-        let none = no_entries l.entries (omega (arith, l.many)) in
-        record { left = l.more; stands = l.more_stands; link_is = nx ∙ l.next_is; all = λ end h. l.all end (rw none h); fewer = omega (arith, l.fewer) }
+        let none = none_here l.entry le in
+        record { left = l.more; stands = l.entry.more_stands; link_is = nx ∙ l.entry.next_is; all = λ end h. l.all end (rw none h); fewer = omega (arith, l.entry.fewer) }
 
-    past_entry : {next : G} → (f : FirstEntry b (levels - 1) at i l.entries) → Grew has now next f.met → NodeLeft has b levels at (i + 1) turn was next ns
-    past_entry f g = record {
-      deep = l.deep;
-      entries = f.rest;
-      more = l.more;
-      left = f.left;
-      more_stands = l.more_stands;
-      next_is = l.next_is;
-      many = omega (arith, l.many, f.many);
-      all = λ end h. l.all end (rw f.mets (rw append_assoc (grew_both g h)));
-      fewer = omega (arith, l.fewer, ap length f.nodes, length-append (nodes_of f.low) (lower_nodes f.rest));
-    }
+    past_entry : {next : G} → (f : FirstEntry b l.down at i l.rest) → Grew has now next f.met → NodeLeft has b levels at (i + 1) turn was next ns
+    past_entry f g = record { down = l.down; low = f.low; rest = f.rest; more = l.more; entry = pass l.entry f; all = λ end h. l.all end (rw f.mets (rw append_assoc (grew_both g h))) }
 
     -- at an entry that names a place
     module _ {place kind : ℕ} (lt : i < used_count b at) (p : place ≡ offset_at b at i) (k : kind ≡ type_at b place) where
-      entry_here : FirstEntry b (levels - 1) at i l.entries
-      entry_here = first_entry l.entries l.left (omega (arith, l.many))
+      first : FirstEntry b l.down at i l.rest
+      first = entry_here l.entry lt
 
       pub past_block : {next : G} → kind ≢ 6 → Grew has now next (met_block (first_at b at i) (last_at b at i) place ∷ []) → NodeLeft has b levels at (i + 1) turn was next ns
-      past_block ne g = past_entry entry_here (rw (entry_here.of_block (λ t. ne (k ∙ ap (type_at b) p ∙ t))).0 (rw p at g))
+      past_block ne g = past_entry first (rw (first.of_block (λ t. ne (k ∙ ap (type_at b) p ∙ t))).0 (rw p at g))
 
       module _ (is : kind ≡ 6) where
-        lower_here : (offset_at b at i ≡ link_to entry_here.low) × (entry_here.met ≡ met_in entry_here.low)
-        lower_here = let m = entry_here.of_lower (ap (type_at b) (sym p) ∙ sym k ∙ is) in (m.0, m.1)
+        lower_here : (place ≡ link_to first.low) × (first.met ≡ met_in first.low) × Stands b (levels - 1) first.low
+        lower_here = let m = first.of_lower (ap (type_at b) (sym p) ∙ sym k ∙ is) in (p ∙ m.0, m.1, subst (λ (x : ℕ). Stands b x first.low) (omega (arith, l.entry.deep)) first.stands)
 
         pub past_lower : {next : G} → ((low : Nodes) → Stands b (levels - 1) low → place ≡ link_to low → Grew has now next (met_in low)) → NodeLeft has b levels at (i + 1) turn was next ns
-        past_lower told = past_entry entry_here (rw lower_here.1 (told entry_here.low entry_here.stands (p ∙ lower_here.0)))
+        past_lower told = past_entry first (rw lower_here.1 (told first.low lower_here.2 lower_here.0))
 
         pub lower_chain : AreTiles b 8 (length b) (tiles b) → length (nodes_of ns) ≤ length b → SomeChain b (levels - 1) place
-        lower_chain tiled few =
-            let f = entry_here in
-            record { nodes = f.low; tiled = tiled; stands = f.stands; link_is = p ∙ lower_here.0; few = omega (arith, ap length f.nodes, length-append (nodes_of f.low) (lower_nodes f.rest), l.fewer) }
+        lower_chain tiled few = record { nodes = first.low; tiled = tiled; stands = lower_here.2; link_is = lower_here.0; few = omega (arith, few_below l.entry first, l.entry.fewer) }
 
 -- a node of the chain
 pub walk_node : {G : Type 0} {has : G → List Met → Type 0} {b : List ℕ} {levels link at turn : ℕ} {was now : G} → SomeChain b levels link → Walked has b levels link at turn was now → at ≢ 0 → SomeNode b at

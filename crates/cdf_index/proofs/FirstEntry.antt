@@ -1,6 +1,6 @@
 -- A chain that stands, taken apart at its first node, and the entries of a node at the first of them.
-use Rattle.std.proofs.Common.{◌≡◌, ◌≢◌, ◌⊎◌, ℕ, zero, suc, ◌+◌, ◌<◌, List, [], ◌∷◌, ◌++◌, true, false, ltb, eqb, refl, sym, ap, subst, ◌∙◌, arith, inl, inr, Option, Some, None}
-use Rattle.cdf_index.proofs.Common.{nat_tests, is_a, is_linkable, type_at, Nodes, no_node, node, Entries, no_entry, block, lower, Leaf, leaf, entry_count, link_to, first_at, last_at, offset_at, IsNode, vxr_type, cvvr_type, In, tiles, linkable-in, linkable-type, chain_at, IsBlock, IsOrderly, NodeInside, Stands, NodeInside, Met, met_block}
+use Rattle.std.proofs.Common.{◌≡◌, ◌≢◌, ◌⊎◌, ℕ, zero, suc, ◌+◌, ◌<◌, List, [], ◌∷◌, ◌++◌, true, false, ltb, eqb, refl, sym, ap, subst, ◌∙◌, arith, inl, inr, Option, Some, None, length, ◌≤◌}
+use Rattle.cdf_index.proofs.Common.{nat_tests, is_a, is_linkable, type_at, Nodes, no_node, node, Entries, no_entry, block, lower, Leaf, leaf, entry_count, link_to, first_at, last_at, offset_at, IsNode, vxr_type, cvvr_type, In, tiles, linkable-in, linkable-type, chain_at, IsBlock, IsOrderly, NodeInside, Stands, NodeInside, Met, met_block, next_of, used_count, length-append}
 use Rattle.cdf_format.specs.Index.{nodes_of, lower_nodes, entry_leaves}
 use Rattle.cdf_format.specs.IndexOf.{HasNodes, Names}
 use Rattle.cdf_format.specs.RecordTypes.{vvr_type}
@@ -10,6 +10,7 @@ use Rattle.cdf_edits.proofs.Edits.MarkLemmas.{or_cases}
 use Rattle.cdf_edits.specs.Index.Blocks.{firsts_of, entry_firsts}
 use Rattle.cdf_index.specs.Order.{find_in, find_entry, nodes_passed, passed_from, NextsAreZero, LowerAreZero}
 use Rattle.cdf_index.specs.Whole.{met_in, met_below}
+use Rattle.cdf_index.proofs.Saying.{no_entries}
 use Rattle.cdf_index.proofs.EntriesLeft.{EntriesLeft, NodeParts, past_first, past_lower_one, node_parts}
 
 -- ---- a node
@@ -36,6 +37,19 @@ opened b (suc down) at (node place room entries more) st is e =
 pub opened_inside : {b : List ℕ} {levels at : ℕ} {ns : Nodes} → Stands b levels ns → at ≡ link_to ns → NodeInside b at → Opened b levels at ns
 opened_inside {ns = no_node} st e inside = let low = inside.low in absurd (omega arith)
 opened_inside {b = b} {levels = levels} {at = at} {ns = node place room entries more} st e inside = opened b levels at (node place room entries more) st tt e
+
+-- it has these nodes, and where none has one behind it, none below
+pub opened_nodes : {b : List ℕ} {levels at : ℕ} {ns : Nodes} → (o : Opened b levels at ns) → length (nodes_of ns) ≡ 1 + length (lower_nodes o.entries) + length (nodes_of o.more)
+unfolding nodes_of
+opened_nodes o = omega (arith, ap (λ (x : Nodes). length (nodes_of x)) o.is, length-append (lower_nodes o.entries) (nodes_of o.more))
+
+zero_node : (at room : ℕ) (entries : Entries) (more : Nodes) → NextsAreZero (node at room entries more) → LowerAreZero entries × (more ≡ no_node)
+unfolding NextsAreZero
+zero_node at room entries no_node z = (z, refl)
+zero_node at room entries (node at' room' entries' more) z = absurd z
+
+pub opened_zero : {b : List ℕ} {levels at : ℕ} {ns : Nodes} → (o : Opened b levels at ns) → NextsAreZero ns → LowerAreZero o.entries × (o.more ≡ no_node)
+opened_zero {at = at} o z = zero_node at o.room o.entries o.more (rw o.is at z)
 
 -- ---- what an entry names
 
@@ -133,3 +147,30 @@ first_entry {b = b} {down = down} {at = at} {i = i} (lower first last nodes entr
       of_block = λ n. absurd (n six);
       of_lower = λ t. (e.offset_is, refl, λ rec. refl);
     }
+
+-- ---- on the way along the entries of a node, from number i on
+
+-- the chain below the entry before, the other entries and the nodes behind this one have fewer nodes than there were at first, as many turns ago
+pub record AtEntry (b : List ℕ) (levels down turn at i : ℕ) (nodes low more : Nodes) (rest : Entries) : Type 0 where
+  pub deep : levels ≡ suc down
+  pub left : EntriesLeft b down at i rest
+  pub many : i + entry_count rest ≡ used_count b at
+  pub more_stands : Stands b levels more
+  pub next_is : next_of b at ≡ link_to more
+  pub fewer : length (nodes_of low) + length (lower_nodes rest) + length (nodes_of more) + (turn + 1) ≤ length (nodes_of nodes)
+
+pub enter : {b : List ℕ} {levels turn at : ℕ} {nodes ns : Nodes} → (low : Nodes) → (o : Opened b levels at ns) → length (nodes_of low) + length (nodes_of ns) + turn ≤ length (nodes_of nodes) → AtEntry b levels o.down turn at 0 nodes low o.more o.entries
+enter low o few = record { deep = o.deep; left = o.parts.left; many = omega (arith, o.parts.says.used_is); more_stands = o.more_stands; next_is = o.parts.says.next_is; fewer = omega (arith, opened_nodes o) }
+
+module _ {b : List ℕ} {levels down turn at i : ℕ} {nodes low more : Nodes} {rest : Entries} (e : AtEntry b levels down turn at i nodes low more rest) where
+  pub entry_here : i < used_count b at → FirstEntry b down at i rest
+  entry_here lt = first_entry rest e.left (omega (arith, e.many))
+
+  pub few_below : (f : FirstEntry b down at i rest) → length (lower_nodes rest) ≡ length (nodes_of f.low) + length (lower_nodes f.rest)
+  few_below f = ap length f.nodes ∙ length-append (nodes_of f.low) (lower_nodes f.rest)
+
+  pub pass : (f : FirstEntry b down at i rest) → AtEntry b levels down turn at (i + 1) nodes f.low more f.rest
+  pass f = record { deep = e.deep; left = f.left; many = omega (arith, e.many, f.many); more_stands = e.more_stands; next_is = e.next_is; fewer = omega (arith, e.fewer, few_below f) }
+
+  pub none_here : used_count b at ≤ i → rest ≡ no_entry
+  none_here le = no_entries rest (omega (arith, e.many))

@@ -1,13 +1,12 @@
 -- What is read at one node leads the search on.
-use Rattle.std.proofs.Common.{◌≡◌, ◌≢◌, ℕ, zero, suc, ◌+◌, ◌<◌, ◌≤◌, List, length, ltb, eqb, refl, sym, subst, ◌∙◌, arith, inl, inr, Some, None}
-use Rattle.cdf_index.proofs.Common.{Stands, nat_tests, length-append, next_of, type_at, Nodes, no_node, node, Entries, no_entry, block, lower, leaf, entry_count, link_to, used_count, last_at, offset_at, SaysEntry, IsNode, vxr_type, In, AreTiles, tiles, linkable-in, either, tile_lies, NamesIn, IsOrderly, SomeNode, NodeInside, At, Scanned}
-use Rattle.cdf_format.specs.Index.{nodes_of, lower_nodes}
-use Rattle.cdf_format.specs.IndexOf.{HasNodes, Names}
+use Rattle.std.proofs.Common.{◌≡◌, ◌≢◌, ℕ, zero, suc, ◌+◌, ◌<◌, ◌≤◌, List, length, eqb, refl, sym, subst, ◌∙◌, arith, Some, None}
+use Rattle.cdf_index.proofs.Common.{Stands, next_of, type_at, Nodes, no_node, node, Entries, leaf, entry_count, link_to, used_count, last_at, offset_at, SaysEntry, IsNode, vxr_type, In, AreTiles, tiles, linkable-in, tile_lies, NamesIn, IsOrderly, SomeNode, NodeInside, At, Scanned}
+use Rattle.cdf_format.specs.Index.{nodes_of}
+use Rattle.cdf_format.specs.IndexOf.{HasNodes}
 use Rattle.cdf_format.proofs.ChainsLemmas.{some_place}
 use Rattle.cdf_index.specs.Order.{find_in, find_entry, nodes_passed, passed_from, NextsAreZero, LowerAreZero}
 use Rattle.cdf_index.proofs.EntriesLeft.{EntriesLeft}
-use Rattle.cdf_index.proofs.FirstEntry.{Opened, first_entry, opened, opened_inside}
-use Rattle.cdf_index.proofs.Saying.{no_entries}
+use Rattle.cdf_index.proofs.FirstEntry.{AtEntry, Opened, enter, entry_here, first_entry, none_here, opened, opened_inside, opened_zero, pass}
 use Rattle.std.proofs.lemmas.Bool.{lt-ltb, le-ltb}
 
 -- ---- the first node of a chain
@@ -55,40 +54,66 @@ node_inside b at n =
 -- ---- from the node at which a search is
 
 -- what is left from entry number i on
-record Left (b : List ℕ) (rec turn : ℕ) (nodes : Nodes) (at i : ℕ) (more : Nodes) : Type 0 where
+record Left (b : List ℕ) (rec turn : ℕ) (nodes : Nodes) (levels at i : ℕ) (more : Nodes) : Type 0 where
   down : ℕ
+  low : Nodes
   rest : Entries
-  left : EntriesLeft b down at i rest
-  many : i + entry_count rest ≡ used_count b at
+  entry : AtEntry b levels down turn at i nodes low more rest
   same : find_entry rec rest (find_in rec more) ≡ find_in rec nodes
   steps : suc (passed_from rec rest (nodes_passed rec more)) + turn ≡ nodes_passed rec nodes
+  zero : NextsAreZero nodes → LowerAreZero rest × (levels + turn ≤ 8) × (more ≡ no_node)
 
 module _ {b : List ℕ} {rec turn at : ℕ} {nodes : Nodes} (a : At b rec turn nodes at) (inside : NodeInside b at) where
   here : Opened b a.levels at a.left
   here = opened_inside a.stands a.link_is inside
 
-  left_over : (i : ℕ) → ((j : ℕ) → j < i → last_at b at j < rec) → i ≤ used_count b at → Left b rec turn nodes at i here.more
-  unfolding find_in nodes_passed
+  left_over : (i : ℕ) → ((j : ℕ) → j < i → last_at b at j < rec) → i ≤ used_count b at → Left b rec turn nodes a.levels at i here.more
+  unfolding find_in nodes_passed nodes_of
   left_over zero before most =
       let o = here in
-      record { down = o.down; rest = o.entries; left = o.parts.left; many = omega (arith, o.parts.says.used_is); same = rw o.is at a.same; steps = omega (arith, rw o.is at a.passed) }
+      record {
+        down = o.down;
+        low = no_node;
+        rest = o.entries;
+        entry = enter no_node o (omega (arith, a.fewer));
+        same = rw o.is at a.same;
+        steps = omega (arith, rw o.is at a.passed);
+        zero = λ z. (let y = a.zero z in let n = opened_zero o y.0 in (n.0, y.2 (rw o.is tt), n.1));
+      }
   left_over (suc j) before most =
       let h = left_over j (λ k lt. before k (omega arith)) (omega arith) in
-      let f = first_entry h.rest h.left (omega (arith, h.many)) in
+      let f = entry_here h.entry (omega arith) in
       let w = f.skips rec (lt-ltb (last_at b at j) rec (before j (omega arith))) in
       let n : j + 1 ≡ suc j = omega arith in
-      record { down = h.down; rest = f.rest; left = rw n at f.left; many = omega (arith, h.many, f.many); same = sym (w.0 (find_in rec here.more)) ∙ h.same; steps = omega (arith, h.steps, w.1 (nodes_passed rec here.more)) }
+      record {
+        down = h.down;
+        low = f.low;
+        rest = f.rest;
+        entry = rw n at (pass h.entry f);
+        same = sym (w.0 (find_in rec here.more)) ∙ h.same;
+        steps = omega (arith, h.steps, w.1 (nodes_passed rec here.more));
+        zero = λ z. (let y = h.zero z in ((f.zero y.0).1, y.1, y.2));
+      }
 
   module _ {i : ℕ} (s : Scanned b rec at i) where
-    over : Left b rec turn nodes at i here.more
+    over : Left b rec turn nodes a.levels at i here.more
     over = left_over i s.before s.most
 
     -- the whole node was passed
     pub look_next : (link : ℕ) → i ≡ used_count b at → link ≡ next_of b at → At b rec (turn + 1) nodes link
-    unfolding find_entry passed_from
+    unfolding find_entry passed_from NextsAreZero
     look_next link e x =
-        let none = no_entries over.rest (omega (arith, over.many)) in
-        record { levels = a.levels; left = here.more; stands = here.more_stands; link_is = x ∙ here.parts.says.next_is; same = rw none at over.same; passed = omega (arith, rw none at over.steps) }
+        let none = none_here over.entry (omega arith) in
+        record {
+          levels = a.levels;
+          left = here.more;
+          stands = here.more_stands;
+          link_is = x ∙ here.parts.says.next_is;
+          same = rw none at over.same;
+          passed = omega (arith, rw none at over.steps);
+          fewer = omega (arith, over.entry.fewer);
+          zero = λ z. (let y = over.zero z in (rw y.2 tt, omega (arith, y.1, over.entry.deep), λ is. absurd (rw y.2 at is)));
+        }
 
     -- an entry tells: no leaf has the record, or the search goes on below it, or it names the leaf
     pub record Tells (first last place : ℕ) : Type 0 where
@@ -98,7 +123,7 @@ module _ {b : List ℕ} {rec turn at : ℕ} {nodes : Nodes} (a : At b rec turn n
 
     pub look_tells : (first last place : ℕ) → i ≢ used_count b at → SaysEntry b at i first last place → Tells first last place
     look_tells first last place ne q =
-        let f = first_entry over.rest over.left (omega (arith, over.many, s.most)) in
+        let f = entry_here over.entry (omega (arith, s.most)) in
         let t = le-ltb (last_at b at i) rec (s.stop (omega (arith, s.most))) in
         let same = sym over.same in
         rw (sym q.first_is, sym q.last_is, sym q.offset_is) (record {
@@ -106,7 +131,17 @@ module _ {b : List ℕ} {rec turn at : ℕ} {nodes : Nodes} (a : At b rec turn n
           below = λ h six.
               (let d = f.has rec t (le-ltb _ _ h) in
               let m = f.of_lower six in
-              record { levels = over.down; left = f.low; stands = f.stands; link_is = m.0; same = sym (same ∙ d.0 (find_in rec here.more) ∙ m.2 rec); passed = omega (arith, over.steps, d.1 (nodes_passed rec here.more)) });
+              let e = pass over.entry f in
+              record {
+                levels = over.down;
+                left = f.low;
+                stands = f.stands;
+                link_is = m.0;
+                same = sym (same ∙ d.0 (find_in rec here.more) ∙ m.2 rec);
+                passed = omega (arith, over.steps, d.1 (nodes_passed rec here.more));
+                fewer = omega (arith, e.fewer);
+                zero = λ z. (let y = over.zero z in ((f.zero y.0).0, omega (arith, y.1, e.deep), λ is. omega (arith, y.1, e.deep)));
+              });
           found = λ h no. same ∙ (f.has rec t (le-ltb _ _ h)).0 (find_in rec here.more) ∙ (f.of_block no).1 rec;
         })
 
@@ -116,31 +151,3 @@ pub one_passed : (rec : ℕ) (ns : Nodes) → IsNode ns → 1 ≤ nodes_passed r
 unfolding nodes_passed
 one_passed rec no_node is = absurd is
 one_passed rec (node place room entries more) is = omega arith
-
-mutual
-  unfolding nodes_passed passed_from nodes_of lower_nodes
-
-  -- no node is passed twice
-  pub few_passed : (rec : ℕ) (ns : Nodes) → nodes_passed rec ns ≤ length (nodes_of ns)
-  few_passed rec no_node = omega arith
-  few_passed rec (node place room entries more) = omega (arith, few_from rec entries (nodes_passed rec more), few_passed rec more, length-append (lower_nodes entries) (nodes_of more))
-
-  few_from : (rec : ℕ) (entries : Entries) (other : ℕ) → passed_from rec entries other ≤ length (lower_nodes entries) + other
-  few_from rec no_entry other = omega arith
-  few_from rec (block first last place packed entries) other = elim (either (ltb last rec)) [ inl t ↦ rw t (few_from rec entries other) | inr t ↦ rw t (omega arith) ]
-  few_from rec (lower first last nodes entries) other = grind (arith, nat_tests, length-append (nodes_of nodes) (lower_nodes entries), few_from rec entries other, few_passed rec nodes)
-
-mutual
-  unfolding HasNodes Names NextsAreZero LowerAreZero nodes_passed passed_from
-
-  -- one a level, where no node has one behind it
-  pub passed_levels : (b : List ℕ) (rec levels : ℕ) (ns : Nodes) → HasNodes b (tiles b) levels ns → NextsAreZero ns → nodes_passed rec ns ≤ levels
-  passed_levels b rec levels no_node h z = omega arith
-  passed_levels b rec zero (node place room entries more) h z = absurd h
-  passed_levels b rec (suc levels) (node place room entries no_node) h z = omega (arith, from_levels b rec levels entries h.1 z)
-  passed_levels b rec (suc levels) (node place room entries (node place' room' entries' more)) h z = absurd z
-
-  from_levels : (b : List ℕ) (rec levels : ℕ) (entries : Entries) → Names b (tiles b) levels entries → LowerAreZero entries → passed_from rec entries 0 ≤ levels
-  from_levels b rec levels no_entry n z = omega arith
-  from_levels b rec levels (block first last place packed entries) n z = elim (either (ltb last rec)) [ inl t ↦ rw t (from_levels b rec levels entries n.2 z) | inr t ↦ rw t (omega arith) ]
-  from_levels b rec levels (lower first last nodes entries) n z = grind (arith, nat_tests, from_levels b rec levels entries n.2 z.1, passed_levels b rec levels nodes n.1 z.0)

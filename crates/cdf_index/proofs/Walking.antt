@@ -1,25 +1,17 @@
 -- The search for the next First, from node to node.
 use Rattle.std.proofs.Common.{◌≡◌, ◌≢◌, ℕ, zero, suc, ◌+◌, ◌<◌, ◌≤◌, List, [], ◌++◌, length, append_assoc, append-nil, refl, sym, ap, ◌∙◌, arith, Option, Some, None}
-use Rattle.cdf_index.proofs.Common.{length-append, next_of, Nodes, no_node, node, Entries, entry_count, link_to, used_count, first_at, AreTiles, tiles, record_number_limit, Begun, Climbs, chain_before, first_past, IsWalk, index_at, HasIndex, NodeInside, Stands}
+use Rattle.cdf_index.proofs.Common.{next_of, Nodes, no_node, Entries, link_to, used_count, first_at, AreTiles, tiles, record_number_limit, Begun, Climbs, chain_before, first_past, IsWalk, index_at, HasIndex, NodeInside, Stands}
 use Rattle.cdf_edits.specs.Index.Blocks.{firsts_of, entry_firsts}
-use Rattle.cdf_format.specs.Index.{nodes_of, lower_nodes, leaves_of}
+use Rattle.cdf_format.specs.Index.{nodes_of, leaves_of}
 use Rattle.cdf_format.specs.IndexOf.{HasNodes}
 use Rattle.cdf_index.specs.Next.{least_first_past}
 use Rattle.cdf_index.specs.Order.{NextsAreZero, LowerAreZero}
 use Rattle.cdf_index.specs.declared.next.Walk.{Walk}
 use Rattle.cdf_index.proofs.Ascending.{index_stands}
-use Rattle.cdf_index.proofs.EntriesLeft.{EntriesLeft}
-use Rattle.cdf_index.proofs.FirstEntry.{Opened, first_entry, opened_inside}
+use Rattle.cdf_index.proofs.FirstEntry.{AtEntry, Opened, enter, entry_here, none_here, opened_inside, opened_nodes, opened_zero, pass}
 use Rattle.cdf_index.proofs.Looking.{none_there, node_inside, node_of}
 use Rattle.cdf_index.proofs.NextLemmas.{climbs_front, firsts_climb, first_decides, first_is_least, first_passed}
-use Rattle.cdf_index.proofs.Saying.{no_entries}
 use Rattle.cdf_index.proofs.Searching.{Turns, few_nodes}
-
--- where no node has one behind it
-zero_node : (at room : ℕ) (entries : Entries) (more : Nodes) → NextsAreZero (node at room entries more) → LowerAreZero entries × (more ≡ no_node)
-unfolding NextsAreZero
-zero_node at room entries no_node z = (z, refl)
-zero_node at room entries (node at' room' entries' more) z = absurd z
 
 -- one chain alone is left
 one_chain : {b : List ℕ} {rec turn levels at : ℕ} {nodes left : Nodes} {best : Option ℕ} → Stands b levels left → at ≡ link_to left → Climbs 0 record_number_limit (firsts_of left) → first_past rec (firsts_of left) best ≡ least_first_past rec nodes
@@ -44,83 +36,73 @@ one_chain {levels = levels} {left = left} st link climbs same few flat = record 
 -- ---- at a node, of which i entries begin at the record or before it
 
 -- what is left: the chain below the last of these entries, the others, and the next nodes
-record Behind (b : List ℕ) (rec : ℕ) (nodes : Nodes) (turn : ℕ) (walk : Walk) (i : ℕ) (more : Nodes) : Type 0 where
-  levels : ℕ
+record Behind (b : List ℕ) (rec : ℕ) (nodes : Nodes) (turn : ℕ) (walk : Walk) (levels i : ℕ) (more : Nodes) : Type 0 where
+  low_levels : ℕ
   low : Nodes
-  stands : Stands b levels low
+  stands : Stands b low_levels low
   under : chain_before b walk.at walk.lower i ≡ link_to low
   down : ℕ
   rest : Entries
-  left : EntriesLeft b down walk.at i rest
-  many : i + entry_count rest ≡ used_count b walk.at
+  entry : AtEntry b levels down turn walk.at i nodes low more rest
   climbs : Climbs 0 record_number_limit (firsts_of low ++ (entry_firsts rest ++ firsts_of more))
   same : first_past rec (firsts_of low ++ (entry_firsts rest ++ firsts_of more)) walk.best ≡ least_first_past rec nodes
-  fewer : length (nodes_of low) + length (lower_nodes rest) + length (nodes_of more) + (turn + 1) ≤ length (nodes_of nodes)
-  zero : NextsAreZero nodes → NextsAreZero low × (levels + (turn + 1) ≤ 8) × LowerAreZero rest × (down + (turn + 1) ≤ 8) × (more ≡ no_node)
+  zero : NextsAreZero nodes → NextsAreZero low × (low_levels + (turn + 1) ≤ 8) × LowerAreZero rest × (levels + turn ≤ 8) × (more ≡ no_node)
 
 module _ {b : List ℕ} {rec turn : ℕ} {nodes : Nodes} {walk : Walk} (w : IsWalk b rec nodes turn walk) (inside : NodeInside b walk.at) where
   here : Opened b w.levels walk.at w.left
   here = opened_inside w.stands w.link_is inside
 
-  few_here : length (nodes_of w.left) ≡ 1 + length (lower_nodes here.entries) + length (nodes_of here.more)
-  unfolding nodes_of
-  few_here = omega (arith, ap (λ (x : Nodes). length (nodes_of x)) here.is, length-append (lower_nodes here.entries) (nodes_of here.more))
-
-  behind : (i : ℕ) → ((j : ℕ) → j < i → first_at b walk.at j ≤ rec) → i ≤ used_count b walk.at → Behind b rec nodes turn walk i here.more
+  behind : (i : ℕ) → ((j : ℕ) → j < i → first_at b walk.at j ≤ rec) → i ≤ used_count b walk.at → Behind b rec nodes turn walk w.levels i here.more
   unfolding firsts_of
   behind zero begun most =
       let o = here in
       record {
-        levels = w.low_levels;
+        low_levels = w.low_levels;
         low = w.low;
         stands = w.low_stands;
         under = w.lower_is;
         down = o.down;
         rest = o.entries;
-        left = o.parts.left;
-        many = omega (arith, o.parts.says.used_is);
+        entry = enter w.low o w.fewer;
         climbs = rw o.is at w.climbs;
         same = rw o.is at w.same;
-        fewer = omega (arith, w.fewer, few_here);
-        zero = λ z. (let y = w.zero z in let n = zero_node walk.at o.room o.entries o.more (rw o.is at y.2) in (y.0, omega (arith, y.1, y.3, o.deep), n.0, omega (arith, y.3, o.deep), n.1));
+        zero = λ z. (let y = w.zero z in let n = opened_zero o y.2 in (y.0, omega (arith, y.1, y.3, o.deep), n.0, y.3, n.1));
       }
   behind (suc j) begun most =
       let h = behind j (λ k lt. begun k (omega arith)) (omega arith) in
-      let f = first_entry h.rest h.left (omega (arith, h.many)) in
+      let f = entry_here h.entry (omega arith) in
       let n : j + 1 ≡ suc j = omega arith in
       let ys = firsts_of f.low ++ (entry_firsts f.rest ++ firsts_of here.more) in
       let p = first_passed rec 0 record_number_limit (first_at b walk.at j) (firsts_of h.low) ys walk.best (rw (f.firsts, append_assoc) at h.climbs) (begun j (omega arith)) in
       record {
-        levels = h.down;
+        low_levels = h.down;
         low = f.low;
         stands = f.stands;
         under = f.chain;
         down = h.down;
         rest = f.rest;
-        left = rw n at f.left;
-        many = omega (arith, h.many, f.many);
+        entry = rw n at (pass h.entry f);
         climbs = p.1;
         same = sym p.0 ∙ rw (f.firsts, append_assoc) at h.same;
-        fewer = omega (arith, h.fewer, ap length f.nodes, length-append (nodes_of f.low) (lower_nodes f.rest));
-        zero = λ z. (let y = h.zero z in let e = f.zero y.2 in (e.0, y.3, e.1, y.3, y.4));
+        zero = λ z. (let y = h.zero z in let e = f.zero y.2 in (e.0, omega (arith, y.3, h.entry.deep), e.1, y.3, y.4));
       }
 
   module _ (i : ℕ) (g : Begun b walk.at rec i) (lower : ℕ) (lower_is : lower ≡ chain_before b walk.at walk.lower i) where
     -- the walk goes on below
-    walk_down : (shown : Option ℕ) → (h : Behind b rec nodes turn walk i here.more) → first_past rec (firsts_of h.low) shown ≡ least_first_past rec nodes → IsWalk b rec nodes (turn + 1) (record { best = shown; at = lower; lower = 0 })
-    walk_down shown h same = one_chain h.stands (lower_is ∙ h.under) (climbs_front 0 record_number_limit (firsts_of h.low) (entry_firsts h.rest ++ firsts_of here.more) h.climbs) same (omega (arith, h.fewer)) (λ z. (let y = h.zero z in (y.0, y.1)))
+    walk_down : (shown : Option ℕ) → (h : Behind b rec nodes turn walk w.levels i here.more) → first_past rec (firsts_of h.low) shown ≡ least_first_past rec nodes → IsWalk b rec nodes (turn + 1) (record { best = shown; at = lower; lower = 0 })
+    walk_down shown h same = one_chain h.stands (lower_is ∙ h.under) (climbs_front 0 record_number_limit (firsts_of h.low) (entry_firsts h.rest ++ firsts_of here.more) h.climbs) same (omega (arith, h.entry.fewer)) (λ z. (let y = h.zero z in (y.0, y.1)))
 
     -- an entry past the record
     pub walk_decided : i < used_count b walk.at → (first : ℕ) → first ≡ first_at b walk.at i → IsWalk b rec nodes (turn + 1) (record { best = Some first; at = lower; lower = 0 })
     walk_decided lt first e =
         let h = behind i g.before g.most in
-        let f = first_entry h.rest h.left (omega (arith, h.many)) in
+        let f = entry_here h.entry lt in
         walk_down (Some first) h (rw e (sym (first_decides rec (firsts_of h.low) _ (first_at b walk.at i) walk.best (g.stop lt)) ∙ rw f.firsts at h.same))
 
     module _ (all : i ≡ used_count b walk.at) where
-      none_here : (h : Behind b rec nodes turn walk i here.more) → entry_firsts h.rest ≡ []
+      none_left : (h : Behind b rec nodes turn walk w.levels i here.more) → entry_firsts h.rest ≡ []
       unfolding entry_firsts
-      none_here h = ap entry_firsts (no_entries h.rest (omega (arith, h.many)))
+      none_left h = ap entry_firsts (none_here h.entry (omega arith))
 
       -- the chain ended
       pub walk_below : AreTiles b 8 (length b) (tiles b) → next_of b walk.at ≡ 0 → IsWalk b rec nodes (turn + 1) (record { best = walk.best; at = lower; lower = 0 })
@@ -128,7 +110,7 @@ module _ {b : List ℕ} {rec turn : ℕ} {nodes : Nodes} {walk : Walk} (w : IsWa
       walk_below tiled next =
           let h = behind i g.before g.most in
           let none = none_there b w.levels here.more tiled here.more_stands.has (sym here.parts.says.next_is ∙ next) in
-          walk_down walk.best h (rw (none_here h, ap firsts_of none, append-nil) at h.same)
+          walk_down walk.best h (rw (none_left h, ap firsts_of none, append-nil) at h.same)
 
       -- it goes on
       pub walk_along : (next : ℕ) → next ≡ next_of b walk.at → next ≢ 0 → IsWalk b rec nodes (turn + 1) (record { best = walk.best; at = next; lower = lower })
@@ -136,7 +118,7 @@ module _ {b : List ℕ} {rec turn : ℕ} {nodes : Nodes} {walk : Walk} (w : IsWa
           let h = behind i g.before g.most in
           let link = e ∙ here.parts.says.next_is in
           record {
-            low_levels = h.levels;
+            low_levels = h.low_levels;
             low = h.low;
             low_stands = h.stands;
             lower_is = lower_is ∙ h.under;
@@ -145,9 +127,9 @@ module _ {b : List ℕ} {rec turn : ℕ} {nodes : Nodes} {walk : Walk} (w : IsWa
             stands = here.more_stands;
             link_is = link;
             ended = λ z. absurd (some z);
-            climbs = rw (none_here h) at h.climbs;
-            same = rw (none_here h) at h.same;
-            fewer = omega (arith, h.fewer);
+            climbs = rw (none_left h) at h.climbs;
+            same = rw (none_left h) at h.same;
+            fewer = omega (arith, h.entry.fewer);
             zero = λ z. absurd (some (link ∙ ap link_to (h.zero z).4));
           }
 
@@ -177,7 +159,7 @@ module _ {b : List ℕ} {head rec : ℕ} (has : HasIndex b head) where
         record {
           node = there;
           inside = inside;
-          one = λ some. omega (arith, few_here w (inside some), w.fewer);
+          one = λ some. omega (arith, opened_nodes (here w (inside some)), w.fewer);
           flat = λ z. omega (arith, (w.zero z).3);
           flat_one = λ z some. omega (arith, (here w (inside some)).deep, (w.zero z).3);
         }

@@ -10,7 +10,7 @@ use Rattle.cdf_format.specs.IndexWalk.{levels_on, nodes_met}
 use Rattle.cdf_format.specs.Shape.{Each}
 use Rattle.cdf_format.specs.Tiles.{AreTiles, tiles}
 use Rattle.cdf_format.specs.Records.{cdr_place, vxr_first, vxr_bytes}
-use Rattle.cdf_index.specs.Order.{InOrder, find_in, nodes_passed}
+use Rattle.cdf_index.specs.Order.{InOrder, NextsAreZero, find_in, nodes_passed}
 
 -- the index that a link leads to
 abbrev pub index_at : List ℕ → ℕ → Nodes
@@ -76,7 +76,7 @@ pub record Scanned (b : List ℕ) (rec at i : ℕ) : Type 0 where
   pub most : i ≤ used_count b at
   pub stop : i < used_count b at → rec ≤ last_at b at i
 
--- after so many turns the search is at a link
+-- after so many turns the search is at a link; where no node has one behind it, each turn leads a level down
 pub record At (b : List ℕ) (rec turn : ℕ) (nodes : Nodes) (link : ℕ) : Type 0 where
   pub levels : ℕ
   pub left : Nodes
@@ -84,3 +84,5 @@ pub record At (b : List ℕ) (rec turn : ℕ) (nodes : Nodes) (link : ℕ) : Typ
   pub link_is : link ≡ link_to left
   pub same : find_in rec left ≡ find_in rec nodes
   pub passed : nodes_passed rec left + turn ≡ nodes_passed rec nodes
+  pub fewer : length (nodes_of left) + turn ≤ length (nodes_of nodes)
+  pub zero : NextsAreZero nodes → NextsAreZero left × (turn ≤ level_limit) × (IsNode left → levels + turn ≤ level_limit)
