@@ -4,8 +4,8 @@ use Rattle.cdf_index.proofs.Common.{next_of, type_at, Nodes, no_node, node, Entr
 use Rattle.cdf_format.specs.Index.{nodes_of}
 use Rattle.cdf_index.specs.Whole.{met_in, met_below}
 use Rattle.cdf_index.proofs.Ascending.{index_stands}
-use Rattle.cdf_index.proofs.FirstEntry.{AtEntry, FirstEntry, enter, entry_here, few_below, none_here, opened, pass}
-use Rattle.cdf_index.proofs.Looking.{node_of, node_there, none_there}
+use Rattle.cdf_index.proofs.FirstEntry.{AtEntry, FirstEntry, enter, entry_here, few_below, none_here, opened, pass, node_there}
+use Rattle.cdf_index.proofs.Looking.{node_of, none_there}
 use Rattle.cdf_index.proofs.Searching.{few_nodes}
 
 no_link : (ns : Nodes) → length (nodes_of ns) ≤ 0 → link_to ns ≡ 0
@@ -96,7 +96,7 @@ module _ {G : Type 0} {has : G → List Met → Type 0} where
 
 -- a node of the chain
 pub walk_node : {G : Type 0} {has : G → List Met → Type 0} {b : List ℕ} {levels link at turn : ℕ} {was now : G} → SomeChain b levels link → Walked has b levels link at turn was now → at ≢ 0 → SomeNode b at
-walk_node some w ne = let l = w some.nodes some.stands some.link_is in node_of some.tiled l.stands l.link_is ne
+walk_node {levels = levels} some w ne = let l = w some.nodes some.stands some.link_is in node_of some.tiled (record { levels = levels; nodes = l.left; stands = l.stands; link_is = l.link_is }) ne
 
 -- ---- from the head of an index
 

@@ -1,6 +1,6 @@
 -- A chain that stands, taken apart at its first node, and the entries of a node at the first of them.
 use Rattle.std.proofs.Common.{◌≡◌, ◌≢◌, ◌⊎◌, ℕ, zero, suc, ◌+◌, ◌<◌, List, [], ◌∷◌, ◌++◌, true, false, ltb, eqb, refl, sym, ap, subst, ◌∙◌, arith, inl, inr, Option, Some, None, length, ◌≤◌}
-use Rattle.cdf_index.proofs.Common.{nat_tests, is_a, is_linkable, type_at, Nodes, no_node, node, Entries, no_entry, block, lower, Leaf, leaf, entry_count, link_to, first_at, last_at, offset_at, IsNode, vxr_type, cvvr_type, In, tiles, linkable-in, linkable-type, chain_at, IsBlock, IsOrderly, NodeInside, Stands, NodeInside, Met, met_block, next_of, used_count, length-append}
+use Rattle.cdf_index.proofs.Common.{nat_tests, is_a, is_linkable, type_at, Nodes, no_node, node, Entries, no_entry, block, lower, Leaf, leaf, entry_count, link_to, first_at, last_at, offset_at, IsNode, vxr_type, cvvr_type, In, tiles, linkable-in, linkable-type, chain_at, IsBlock, IsOrderly, ChainFrom, NodeInside, Stands, Met, met_block, next_of, used_count, length-append}
 use Rattle.cdf_format.specs.Index.{nodes_of, lower_nodes, entry_leaves}
 use Rattle.cdf_format.specs.IndexOf.{HasNodes, Names}
 use Rattle.cdf_format.specs.RecordTypes.{vvr_type}
@@ -14,6 +14,10 @@ use Rattle.cdf_index.proofs.Saying.{no_entries}
 use Rattle.cdf_index.proofs.EntriesLeft.{EntriesLeft, NodeParts, past_first, past_lower_one, node_parts}
 
 -- ---- a node
+
+pub node_there : (ns : Nodes) → link_to ns ≢ 0 → IsNode ns
+node_there no_node ne = absurd (ne refl)
+node_there (node place room entries more) ne = tt
 
 pub record Opened (b : List ℕ) (levels at : ℕ) (ns : Nodes) : Type 0 where
   pub down : ℕ
@@ -34,9 +38,8 @@ opened b (suc down) at (node place room entries more) st is e =
     let p = node_parts st in
     subst (λ (x : ℕ). Opened b (suc down) x (node place room entries more)) (sym e) (record { down = down; room = room; entries = entries; more = more; deep = refl; is = refl; parts = p; more_stands = p.more_stands; here = st.orderly.0 })
 
-pub opened_inside : {b : List ℕ} {levels at : ℕ} {ns : Nodes} → Stands b levels ns → at ≡ link_to ns → NodeInside b at → Opened b levels at ns
-opened_inside {ns = no_node} st e inside = let low = inside.low in absurd (omega arith)
-opened_inside {b = b} {levels = levels} {at = at} {ns = node place room entries more} st e inside = opened b levels at (node place room entries more) st tt e
+pub opened_inside : {b : List ℕ} {at : ℕ} → (c : ChainFrom b at) → NodeInside b at → Opened b c.levels at c.nodes
+opened_inside {b = b} {at = at} c inside = opened b c.levels at c.nodes c.stands (node_there c.nodes (λ z. (let low = inside.low in let is = c.link_is in absurd (omega arith)))) c.link_is
 
 -- it has these nodes, and where none has one behind it, none below
 pub opened_nodes : {b : List ℕ} {levels at : ℕ} {ns : Nodes} → (o : Opened b levels at ns) → length (nodes_of ns) ≡ 1 + length (lower_nodes o.entries) + length (nodes_of o.more)

@@ -1,19 +1,16 @@
 -- What is read at one node leads the search on.
 use Rattle.std.proofs.Common.{◌≡◌, ◌≢◌, ℕ, zero, suc, ◌+◌, ◌<◌, ◌≤◌, List, length, eqb, refl, sym, subst, ◌∙◌, arith, Some, None}
-use Rattle.cdf_index.proofs.Common.{Stands, next_of, type_at, Nodes, no_node, node, Entries, leaf, entry_count, link_to, used_count, last_at, offset_at, SaysEntry, IsNode, vxr_type, In, AreTiles, tiles, linkable-in, tile_lies, NamesIn, IsOrderly, SomeNode, NodeInside, At, Scanned}
+use Rattle.cdf_index.proofs.Common.{next_of, type_at, Nodes, no_node, node, Entries, leaf, entry_count, link_to, used_count, last_at, offset_at, SaysEntry, IsNode, vxr_type, In, AreTiles, tiles, linkable-in, tile_lies, NamesIn, IsOrderly, SomeNode, NodeInside, At, Scanned, ChainFrom}
 use Rattle.cdf_format.specs.Index.{nodes_of}
 use Rattle.cdf_format.specs.IndexOf.{HasNodes}
 use Rattle.cdf_format.proofs.ChainsLemmas.{some_place}
 use Rattle.cdf_index.specs.Order.{find_in, find_entry, nodes_passed, passed_from, NextsAreZero, LowerAreZero}
 use Rattle.cdf_index.proofs.EntriesLeft.{EntriesLeft}
+pub use Rattle.cdf_index.proofs.FirstEntry.{node_there}
 use Rattle.cdf_index.proofs.FirstEntry.{AtEntry, Opened, enter, entry_here, first_entry, none_here, opened, opened_inside, opened_zero, pass}
 use Rattle.std.proofs.lemmas.Bool.{lt-ltb, le-ltb}
 
 -- ---- the first node of a chain
-
-pub node_there : (ns : Nodes) → link_to ns ≢ 0 → IsNode ns
-node_there no_node ne = absurd (ne refl)
-node_there (node place room entries more) ne = tt
 
 pub none_there : (b : List ℕ) (levels : ℕ) (ns : Nodes) → AreTiles b 8 (length b) (tiles b) → HasNodes b (tiles b) levels ns → link_to ns ≡ 0 → ns ≡ no_node
 unfolding HasNodes
@@ -23,8 +20,8 @@ none_there b (suc levels) (node place room entries more) t h e = absurd (some_pl
 
 -- ---- where it is safe to read
 
-pub node_of : {b : List ℕ} {levels at : ℕ} {nodes : Nodes} → AreTiles b 8 (length b) (tiles b) → Stands b levels nodes → at ≡ link_to nodes → at ≢ 0 → SomeNode b at
-node_of {levels = levels} {nodes = nodes} tiled st link some = record { levels = levels; nodes = nodes; tiled = tiled; stands = st; is_node = node_there nodes (λ z. some (link ∙ z)); link = link }
+pub node_of : {b : List ℕ} {at : ℕ} → AreTiles b 8 (length b) (tiles b) → ChainFrom b at → at ≢ 0 → SomeNode b at
+node_of tiled c some = record { levels = c.levels; nodes = c.nodes; tiled = tiled; stands = c.stands; is_node = node_there c.nodes (λ z. some (c.link_is ∙ z)); link = c.link_is }
 
 node_opened : {b : List ℕ} {at : ℕ} → (n : SomeNode b at) → Opened b n.levels at n.nodes
 node_opened {b = b} {at = at} n = opened b n.levels at n.nodes n.stands n.is_node n.link
@@ -64,10 +61,10 @@ record Left (b : List ℕ) (rec turn : ℕ) (nodes : Nodes) (levels at i : ℕ) 
   zero : NextsAreZero nodes → LowerAreZero rest × (levels + turn ≤ 8) × (more ≡ no_node)
 
 module _ {b : List ℕ} {rec turn at : ℕ} {nodes : Nodes} (a : At b rec turn nodes at) (inside : NodeInside b at) where
-  here : Opened b a.levels at a.left
-  here = opened_inside a.stands a.link_is inside
+  here : Opened b a.left.levels at a.left.nodes
+  here = opened_inside a.left inside
 
-  left_over : (i : ℕ) → ((j : ℕ) → j < i → last_at b at j < rec) → i ≤ used_count b at → Left b rec turn nodes a.levels at i here.more
+  left_over : (i : ℕ) → ((j : ℕ) → j < i → last_at b at j < rec) → i ≤ used_count b at → Left b rec turn nodes a.left.levels at i here.more
   unfolding find_in nodes_passed nodes_of
   left_over zero before most =
       let o = here in
@@ -96,7 +93,7 @@ module _ {b : List ℕ} {rec turn at : ℕ} {nodes : Nodes} (a : At b rec turn n
       }
 
   module _ {i : ℕ} (s : Scanned b rec at i) where
-    over : Left b rec turn nodes a.levels at i here.more
+    over : Left b rec turn nodes a.left.levels at i here.more
     over = left_over i s.before s.most
 
     -- the whole node was passed
@@ -105,10 +102,7 @@ module _ {b : List ℕ} {rec turn at : ℕ} {nodes : Nodes} (a : At b rec turn n
     look_next link e x =
         let none = none_here over.entry (omega arith) in
         record {
-          levels = a.levels;
-          left = here.more;
-          stands = here.more_stands;
-          link_is = x ∙ here.parts.says.next_is;
+          left = record { levels = a.left.levels; nodes = here.more; stands = here.more_stands; link_is = x ∙ here.parts.says.next_is };
           same = rw none at over.same;
           passed = omega (arith, rw none at over.steps);
           fewer = omega (arith, over.entry.fewer);
@@ -133,10 +127,7 @@ module _ {b : List ℕ} {rec turn at : ℕ} {nodes : Nodes} (a : At b rec turn n
               let m = f.of_lower six in
               let e = pass over.entry f in
               record {
-                levels = over.down;
-                left = f.low;
-                stands = f.stands;
-                link_is = m.0;
+                left = record { levels = over.down; nodes = f.low; stands = f.stands; link_is = m.0 };
                 same = sym (same ∙ d.0 (find_in rec here.more) ∙ m.2 rec);
                 passed = omega (arith, over.steps, d.1 (nodes_passed rec here.more));
                 fewer = omega (arith, e.fewer);

@@ -1,31 +1,24 @@
 -- The search for the next First, from node to node.
 use Rattle.std.proofs.Common.{◌≡◌, ◌≢◌, ℕ, zero, suc, ◌+◌, ◌<◌, ◌≤◌, List, [], ◌++◌, length, append_assoc, append-nil, refl, sym, ap, ◌∙◌, arith, Option, Some, None}
-use Rattle.cdf_index.proofs.Common.{next_of, Nodes, no_node, Entries, link_to, used_count, first_at, AreTiles, tiles, record_number_limit, Begun, Climbs, chain_before, first_past, IsWalk, index_at, HasIndex, NodeInside, Stands}
+use Rattle.cdf_index.proofs.Common.{next_of, Nodes, no_node, Entries, link_to, used_count, first_at, AreTiles, tiles, record_number_limit, Begun, Climbs, chain_before, first_past, IsWalk, index_at, HasIndex, NodeInside, ChainFrom}
 use Rattle.cdf_edits.specs.Index.Blocks.{firsts_of, entry_firsts}
 use Rattle.cdf_format.specs.Index.{nodes_of, leaves_of}
 use Rattle.cdf_format.specs.IndexOf.{HasNodes}
 use Rattle.cdf_index.specs.Next.{least_first_past}
 use Rattle.cdf_index.specs.Order.{NextsAreZero, LowerAreZero}
 use Rattle.cdf_index.specs.declared.next.Walk.{Walk}
-use Rattle.cdf_index.proofs.Ascending.{index_stands}
 use Rattle.cdf_index.proofs.FirstEntry.{AtEntry, Opened, enter, entry_here, none_here, opened_inside, opened_nodes, opened_zero, pass}
 use Rattle.cdf_index.proofs.Looking.{none_there, node_inside, node_of}
 use Rattle.cdf_index.proofs.NextLemmas.{climbs_front, firsts_climb, first_decides, first_is_least, first_passed}
-use Rattle.cdf_index.proofs.Searching.{Turns, few_nodes}
+use Rattle.cdf_index.proofs.Searching.{Turns, few_nodes, index_chain}
 
 -- one chain alone is left
-one_chain : {b : List ℕ} {rec turn levels at : ℕ} {nodes left : Nodes} {best : Option ℕ} → Stands b levels left → at ≡ link_to left → Climbs 0 record_number_limit (firsts_of left) → first_past rec (firsts_of left) best ≡ least_first_past rec nodes
-    → length (nodes_of left) + turn ≤ length (nodes_of nodes) → (NextsAreZero nodes → NextsAreZero left × (levels + turn ≤ 8)) → IsWalk b rec nodes turn (record { best = best; at = at; lower = 0 })
+one_chain : {b : List ℕ} {rec turn at : ℕ} {nodes : Nodes} {best : Option ℕ} → (c : ChainFrom b at) → Climbs 0 record_number_limit (firsts_of c.nodes) → first_past rec (firsts_of c.nodes) best ≡ least_first_past rec nodes → length (nodes_of c.nodes) + turn ≤ length (nodes_of nodes)
+    → (NextsAreZero nodes → NextsAreZero c.nodes × (c.levels + turn ≤ 8)) → IsWalk b rec nodes turn (record { best = best; at = at; lower = 0 })
 unfolding nodes_of firsts_of HasNodes leaves_of NextsAreZero
-one_chain {levels = levels} {left = left} st link climbs same few flat = record {
-  low_levels = 0;
-  low = no_node;
-  low_stands = record { has = tt; orderly = tt; blocks = tt };
-  lower_is = refl;
-  levels = levels;
-  left = left;
-  stands = st;
-  link_is = link;
+one_chain c climbs same few flat = record {
+  low = record { levels = 0; nodes = no_node; stands = record { has = tt; orderly = tt; blocks = tt }; link_is = refl };
+  left = c;
   ended = λ z. refl;
   climbs = climbs;
   same = same;
@@ -37,33 +30,27 @@ one_chain {levels = levels} {left = left} st link climbs same few flat = record 
 
 -- what is left: the chain below the last of these entries, the others, and the next nodes
 record Behind (b : List ℕ) (rec : ℕ) (nodes : Nodes) (turn : ℕ) (walk : Walk) (levels i : ℕ) (more : Nodes) : Type 0 where
-  low_levels : ℕ
-  low : Nodes
-  stands : Stands b low_levels low
-  under : chain_before b walk.at walk.lower i ≡ link_to low
+  low : ChainFrom b (chain_before b walk.at walk.lower i)
   down : ℕ
   rest : Entries
-  entry : AtEntry b levels down turn walk.at i nodes low more rest
-  climbs : Climbs 0 record_number_limit (firsts_of low ++ (entry_firsts rest ++ firsts_of more))
-  same : first_past rec (firsts_of low ++ (entry_firsts rest ++ firsts_of more)) walk.best ≡ least_first_past rec nodes
-  zero : NextsAreZero nodes → NextsAreZero low × (low_levels + (turn + 1) ≤ 8) × LowerAreZero rest × (levels + turn ≤ 8) × (more ≡ no_node)
+  entry : AtEntry b levels down turn walk.at i nodes low.nodes more rest
+  climbs : Climbs 0 record_number_limit (firsts_of low.nodes ++ (entry_firsts rest ++ firsts_of more))
+  same : first_past rec (firsts_of low.nodes ++ (entry_firsts rest ++ firsts_of more)) walk.best ≡ least_first_past rec nodes
+  zero : NextsAreZero nodes → NextsAreZero low.nodes × (low.levels + (turn + 1) ≤ 8) × LowerAreZero rest × (levels + turn ≤ 8) × (more ≡ no_node)
 
 module _ {b : List ℕ} {rec turn : ℕ} {nodes : Nodes} {walk : Walk} (w : IsWalk b rec nodes turn walk) (inside : NodeInside b walk.at) where
-  here : Opened b w.levels walk.at w.left
-  here = opened_inside w.stands w.link_is inside
+  here : Opened b w.left.levels walk.at w.left.nodes
+  here = opened_inside w.left inside
 
-  behind : (i : ℕ) → ((j : ℕ) → j < i → first_at b walk.at j ≤ rec) → i ≤ used_count b walk.at → Behind b rec nodes turn walk w.levels i here.more
+  behind : (i : ℕ) → ((j : ℕ) → j < i → first_at b walk.at j ≤ rec) → i ≤ used_count b walk.at → Behind b rec nodes turn walk w.left.levels i here.more
   unfolding firsts_of
   behind zero begun most =
       let o = here in
       record {
-        low_levels = w.low_levels;
         low = w.low;
-        stands = w.low_stands;
-        under = w.lower_is;
         down = o.down;
         rest = o.entries;
-        entry = enter w.low o w.fewer;
+        entry = enter w.low.nodes o w.fewer;
         climbs = rw o.is at w.climbs;
         same = rw o.is at w.same;
         zero = λ z. (let y = w.zero z in let n = opened_zero o y.2 in (y.0, omega (arith, y.1, y.3, o.deep), n.0, y.3, n.1));
@@ -73,12 +60,9 @@ module _ {b : List ℕ} {rec turn : ℕ} {nodes : Nodes} {walk : Walk} (w : IsWa
       let f = entry_here h.entry (omega arith) in
       let n : j + 1 ≡ suc j = omega arith in
       let ys = firsts_of f.low ++ (entry_firsts f.rest ++ firsts_of here.more) in
-      let p = first_passed rec 0 record_number_limit (first_at b walk.at j) (firsts_of h.low) ys walk.best (rw (f.firsts, append_assoc) at h.climbs) (begun j (omega arith)) in
+      let p = first_passed rec 0 record_number_limit (first_at b walk.at j) (firsts_of h.low.nodes) ys walk.best (rw (f.firsts, append_assoc) at h.climbs) (begun j (omega arith)) in
       record {
-        low_levels = h.down;
-        low = f.low;
-        stands = f.stands;
-        under = f.chain;
+        low = record { levels = h.down; nodes = f.low; stands = f.stands; link_is = f.chain };
         down = h.down;
         rest = f.rest;
         entry = rw n at (pass h.entry f);
@@ -89,18 +73,20 @@ module _ {b : List ℕ} {rec turn : ℕ} {nodes : Nodes} {walk : Walk} (w : IsWa
 
   module _ (i : ℕ) (g : Begun b walk.at rec i) (lower : ℕ) (lower_is : lower ≡ chain_before b walk.at walk.lower i) where
     -- the walk goes on below
-    walk_down : (shown : Option ℕ) → (h : Behind b rec nodes turn walk w.levels i here.more) → first_past rec (firsts_of h.low) shown ≡ least_first_past rec nodes → IsWalk b rec nodes (turn + 1) (record { best = shown; at = lower; lower = 0 })
-    walk_down shown h same = one_chain h.stands (lower_is ∙ h.under) (climbs_front 0 record_number_limit (firsts_of h.low) (entry_firsts h.rest ++ firsts_of here.more) h.climbs) same (omega (arith, h.entry.fewer)) (λ z. (let y = h.zero z in (y.0, y.1)))
+    walk_down : (shown : Option ℕ) → (h : Behind b rec nodes turn walk w.left.levels i here.more) → first_past rec (firsts_of h.low.nodes) shown ≡ least_first_past rec nodes → IsWalk b rec nodes (turn + 1) (record { best = shown; at = lower; lower = 0 })
+    walk_down shown h same =
+        let low : ChainFrom b lower = record { levels = h.low.levels; nodes = h.low.nodes; stands = h.low.stands; link_is = lower_is ∙ h.low.link_is } in
+        one_chain low (climbs_front 0 record_number_limit (firsts_of h.low.nodes) (entry_firsts h.rest ++ firsts_of here.more) h.climbs) same (omega (arith, h.entry.fewer)) (λ z. (let y = h.zero z in (y.0, y.1)))
 
     -- an entry past the record
     pub walk_decided : i < used_count b walk.at → (first : ℕ) → first ≡ first_at b walk.at i → IsWalk b rec nodes (turn + 1) (record { best = Some first; at = lower; lower = 0 })
     walk_decided lt first e =
         let h = behind i g.before g.most in
         let f = entry_here h.entry lt in
-        walk_down (Some first) h (rw e (sym (first_decides rec (firsts_of h.low) _ (first_at b walk.at i) walk.best (g.stop lt)) ∙ rw f.firsts at h.same))
+        walk_down (Some first) h (rw e (sym (first_decides rec (firsts_of h.low.nodes) _ (first_at b walk.at i) walk.best (g.stop lt)) ∙ rw f.firsts at h.same))
 
     module _ (all : i ≡ used_count b walk.at) where
-      none_left : (h : Behind b rec nodes turn walk w.levels i here.more) → entry_firsts h.rest ≡ []
+      none_left : (h : Behind b rec nodes turn walk w.left.levels i here.more) → entry_firsts h.rest ≡ []
       unfolding entry_firsts
       none_left h = ap entry_firsts (none_here h.entry (omega arith))
 
@@ -109,7 +95,7 @@ module _ {b : List ℕ} {rec turn : ℕ} {nodes : Nodes} {walk : Walk} (w : IsWa
       unfolding firsts_of
       walk_below tiled next =
           let h = behind i g.before g.most in
-          let none = none_there b w.levels here.more tiled here.more_stands.has (sym here.parts.says.next_is ∙ next) in
+          let none = none_there b w.left.levels here.more tiled here.more_stands.has (sym here.parts.says.next_is ∙ next) in
           walk_down walk.best h (rw (none_left h, ap firsts_of none, append-nil) at h.same)
 
       -- it goes on
@@ -118,14 +104,8 @@ module _ {b : List ℕ} {rec turn : ℕ} {nodes : Nodes} {walk : Walk} (w : IsWa
           let h = behind i g.before g.most in
           let link = e ∙ here.parts.says.next_is in
           record {
-            low_levels = h.low_levels;
-            low = h.low;
-            low_stands = h.stands;
-            lower_is = lower_is ∙ h.under;
-            levels = w.levels;
-            left = here.more;
-            stands = here.more_stands;
-            link_is = link;
+            low = record { levels = h.low.levels; nodes = h.low.nodes; stands = h.low.stands; link_is = lower_is ∙ h.low.link_is };
+            left = record { levels = w.left.levels; nodes = here.more; stands = here.more_stands; link_is = link };
             ended = λ z. absurd (some z);
             climbs = rw (none_left h) at h.climbs;
             same = rw (none_left h) at h.same;
@@ -139,7 +119,7 @@ module _ {b : List ℕ} {head rec : ℕ} (has : HasIndex b head) where
   pub walk_start : IsWalk b rec (index_at b head) 0 (record { best = None; at = head; lower = 0 })
   walk_start =
       let climbs : Climbs 0 record_number_limit (firsts_of (index_at b head)) = rw append-nil at (firsts_climb 0 record_number_limit record_number_limit (index_at b head) [] has.order (omega arith) (omega arith) tt) in
-      one_chain (index_stands b head has) has.index.link_is climbs (first_is_least rec 0 (firsts_of (index_at b head)) climbs) (omega arith) (λ z. (z, omega arith))
+      one_chain (index_chain has) climbs (first_is_least rec 0 (firsts_of (index_at b head)) climbs) (omega arith) (λ z. (z, omega arith))
 
   module _ {turn : ℕ} {walk : Walk} (w : IsWalk b rec (index_at b head) turn walk) where
     pub walk_over : length b ≤ turn → ⊥
@@ -148,13 +128,13 @@ module _ {b : List ℕ} {head rec : ℕ} (has : HasIndex b head) where
     pub walk_end : walk.at ≡ 0 → walk.best ≡ least_first_past rec (index_at b head)
     unfolding firsts_of
     walk_end e =
-        let none = none_there b w.levels w.left has.tiled w.stands.has (sym w.link_is ∙ e) in
-        let none_low = none_there b w.low_levels w.low has.tiled w.low_stands.has (sym w.lower_is ∙ w.ended e) in
+        let none = none_there b w.left.levels w.left.nodes has.tiled w.left.stands.has (sym w.left.link_is ∙ e) in
+        let none_low = none_there b w.low.levels w.low.nodes has.tiled w.low.stands.has (sym w.low.link_is ∙ w.ended e) in
         rw (none, none_low) at w.same
 
     pub walk_turns : Turns b turn walk.at (index_at b head) (length (nodes_of (index_at b head)))
     walk_turns =
-        let there = node_of has.tiled w.stands w.link_is in
+        let there = node_of has.tiled w.left in
         let inside = λ (some : walk.at ≢ 0). node_inside b walk.at (there some) in
         record {
           node = there;

@@ -3,10 +3,10 @@ use Rattle.std.specs.Prelude.{◌≡◌, ◌≤◌, ◌<◌, ◌+◌, ◌==◌, 
 use Rattle.std.specs.declared.option.Option.{Option}
 use Rattle.cdf_edits.specs.Index.Blocks.{firsts_of}
 use Rattle.cdf_format.specs.Fields.{type_at}
-use Rattle.cdf_format.specs.Index.{Nodes, nodes_of, link_to, used_count, first_at, offset_at}
+use Rattle.cdf_format.specs.Index.{Nodes, nodes_of, used_count, first_at, offset_at}
 use Rattle.cdf_format.specs.Records.{past, record_type}
 use Rattle.cdf_format.specs.RecordTypes.{vxr_type}
-use Rattle.cdf_index.specs.Finding.{Stands}
+use Rattle.cdf_index.specs.Finding.{ChainFrom}
 use Rattle.cdf_index.specs.Next.{least_first_past}
 use Rattle.cdf_index.specs.Order.{NextsAreZero}
 use Rattle.cdf_index.specs.declared.next.Walk.{Walk}
@@ -43,16 +43,10 @@ Climbs from upto (n ∷ more) = (from ≤ n) × (n ≤ upto) × Climbs n upto mo
 
 -- After so many turns of a walk over these nodes what is left are those below the last entry passed, and then the nodes from `at` on. The first First past the record in them, or else the best one so far, is the one asked for. Where no node has one behind it, each turn leads a level down.
 pub record IsWalk (b : List ℕ) (rec : ℕ) (nodes : Nodes) (turn : ℕ) (walk : Walk) : Type 0 where
-  pub low_levels : ℕ
-  pub low : Nodes
-  pub low_stands : Stands b low_levels low
-  pub lower_is : walk.lower ≡ link_to low
-  pub levels : ℕ
-  pub left : Nodes
-  pub stands : Stands b levels left
-  pub link_is : walk.at ≡ link_to left
+  pub low : ChainFrom b walk.lower
+  pub left : ChainFrom b walk.at
   pub ended : walk.at ≡ 0 → walk.lower ≡ 0
-  pub climbs : Climbs 0 record_number_limit (firsts_of low ++ firsts_of left)
-  pub same : first_past rec (firsts_of low ++ firsts_of left) walk.best ≡ least_first_past rec nodes
-  pub fewer : length (nodes_of low) + length (nodes_of left) + turn ≤ length (nodes_of nodes)
-  pub zero : NextsAreZero nodes → NextsAreZero low × (low_levels ≡ 0) × NextsAreZero left × (levels + turn ≤ level_limit)
+  pub climbs : Climbs 0 record_number_limit (firsts_of low.nodes ++ firsts_of left.nodes)
+  pub same : first_past rec (firsts_of low.nodes ++ firsts_of left.nodes) walk.best ≡ least_first_past rec nodes
+  pub fewer : length (nodes_of low.nodes) + length (nodes_of left.nodes) + turn ≤ length (nodes_of nodes)
+  pub zero : NextsAreZero nodes → NextsAreZero low.nodes × (low.levels ≡ 0) × NextsAreZero left.nodes × (left.levels + turn ≤ level_limit)

@@ -76,13 +76,17 @@ pub record Scanned (b : List ℕ) (rec at i : ℕ) : Type 0 where
   pub most : i ≤ used_count b at
   pub stop : i < used_count b at → rec ≤ last_at b at i
 
+-- a chain that stands begins at a link
+pub record ChainFrom (b : List ℕ) (link : ℕ) : Type 0 where
+  pub levels : ℕ
+  pub nodes : Nodes
+  pub stands : Stands b levels nodes
+  pub link_is : link ≡ link_to nodes
+
 -- after so many turns the search is at a link; where no node has one behind it, each turn leads a level down
 pub record At (b : List ℕ) (rec turn : ℕ) (nodes : Nodes) (link : ℕ) : Type 0 where
-  pub levels : ℕ
-  pub left : Nodes
-  pub stands : Stands b levels left
-  pub link_is : link ≡ link_to left
-  pub same : find_in rec left ≡ find_in rec nodes
-  pub passed : nodes_passed rec left + turn ≡ nodes_passed rec nodes
-  pub fewer : length (nodes_of left) + turn ≤ length (nodes_of nodes)
-  pub zero : NextsAreZero nodes → NextsAreZero left × (turn ≤ level_limit) × (IsNode left → levels + turn ≤ level_limit)
+  pub left : ChainFrom b link
+  pub same : find_in rec left.nodes ≡ find_in rec nodes
+  pub passed : nodes_passed rec left.nodes + turn ≡ nodes_passed rec nodes
+  pub fewer : length (nodes_of left.nodes) + turn ≤ length (nodes_of nodes)
+  pub zero : NextsAreZero nodes → NextsAreZero left.nodes × (turn ≤ level_limit) × (IsNode left.nodes → left.levels + turn ≤ level_limit)
