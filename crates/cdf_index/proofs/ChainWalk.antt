@@ -32,8 +32,8 @@ module _ {G : Type 0} (has : G → List Met → Type 0) where
     pub all : (end : G) → Grew has now end (met_below rest ++ met_in more) → Grew has was end (met_in ns)
 
   -- of whichever nodes begin at a link
-  abbrev pub Walked : List ℕ → ℕ → ℕ → ℕ → ℕ → G → G → Type 0
-  Walked b levels link at turn was now = (ns : Nodes) → Stands b levels ns → link ≡ link_to ns → ChainLeft b levels at turn was now ns
+  pub record Walked (b : List ℕ) (levels link at turn : ℕ) (was now : G) : Type 0 where
+    pub left : (ns : Nodes) → Stands b levels ns → link ≡ link_to ns → ChainLeft b levels at turn was now ns
 
   abbrev pub Gone : List ℕ → ℕ → ℕ → ℕ → ℕ → ℕ → G → G → Type 0
   Gone b levels link at i turn was now = (ns : Nodes) → Stands b levels ns → link ≡ link_to ns → NodeLeft b levels at i turn was now ns
@@ -96,7 +96,7 @@ module _ {G : Type 0} {has : G → List Met → Type 0} where
 
 -- a node of the chain
 pub walk_node : {G : Type 0} {has : G → List Met → Type 0} {b : List ℕ} {levels link at turn : ℕ} {was now : G} → SomeChain b levels link → Walked has b levels link at turn was now → at ≢ 0 → SomeNode b at
-walk_node {levels = levels} some w ne = let l = w some.nodes some.stands some.link_is in node_of some.tiled (record { levels = levels; nodes = l.left; stands = l.stands; link_is = l.link_is }) ne
+walk_node {levels = levels} some w ne = let l = w.left some.nodes some.stands some.link_is in node_of some.tiled (record { levels = levels; nodes = l.left; stands = l.stands; link_is = l.link_is }) ne
 
 -- ---- from the head of an index
 

@@ -41,7 +41,7 @@ pub trait Gather {
 }
 
 /// Has the nodes of a chain gathered, and what is below them.
-#[tactic(auto, using(crate::proofs::Looking::node_inside))]
+#[tactic(auto, using(crate::proofs::Looking::node_inside, crate::proofs::ChainWalk::walk_node))]
 pub fn gather_chain<A: Area, G: Gather>(
     area: &mut A,
     link: u64,

@@ -6,19 +6,13 @@ use Rattle.cdf_index.proofs.gathering.+gather_chain.Goals.{then-named-eq-VXR_TYP
 use Rattle.cdf_index.proofs.gathering.+gather_chain.Goals as goal
 
 pub returns-then-at-eq0-clause-grew : goal.returns-then-at-eq0-clause-grew
-returns-then-at-eq0-clause-grew g t c = λ ns st e. walk_end (c.loop-turn.invariant.walked ns st e) c.requires.chain.tiled c.if-at-eq0.true
+returns-then-at-eq0-clause-grew g t c = λ ns st e. walk_end (c.loop-turn.invariant.walked.left ns st e) c.requires.chain.tiled c.if-at-eq0.true
 
 pub loop-i-init : goal.loop-i-init
 loop-i-init g t c =
     let i = c.loop-turn.invariant in
     let h = rw i.area.image at c.in_ok-head.ensures.head in
-    let node = walk_node c.requires.chain i.walked c.if-at-eq0.false in
-    record {
-      node = node;
-      inside = node_inside _ c.loop-turn.at node;
-      gone = λ ns st e. walk_in (i.walked ns st e) c.if-at-eq0.false (rw (h.used_is, h.room_is) at c.in_ok-node.ensures);
-      area = read_more i.area c.in_ok-head.ensures.area;
-    }
+    record { gone = λ ns st e. walk_in (i.walked.left ns st e) c.if-at-eq0.false (rw (h.used_is, h.room_is) at c.in_ok-node.ensures); area = read_more i.area c.in_ok-head.ensures.area }
 
 pub gather_chain-requires : goal.gather_chain-requires
 gather_chain-requires g t c =
@@ -41,30 +35,26 @@ loop-i-preserved g t c =
     let same = c.in_ok-named.ensures.area.image ∙ l.invariant.area.image in
     let area = read_more l.invariant.area c.in_ok-named.ensures.area in
     elim c.if-named-eq-VXR_TYPE.branch [
-      | then-named-eq-VXR_TYPE+in_ok-gather_chain w ↦ rw (w.gathered-is, w.area-is)
-          (record { node = l.invariant.node; inside = l.invariant.inside; gone = λ ns st e. past_lower (l.invariant.gone ns st e) lt place kind w.if-named-eq-VXR_TYPE.true (rw same at w.in_ok-gather_chain.ensures.grew); area = read_more area w.in_ok-gather_chain.ensures.area })
-      | else-named-eq-VXR_TYPE+in_ok-block w ↦ rw (w.gathered-is, w.area-is)
-          (record { node = l.invariant.node; inside = l.invariant.inside; gone = λ ns st e. past_block (l.invariant.gone ns st e) lt place kind w.if-named-eq-VXR_TYPE.false (rw same at w.in_ok-block.ensures.grew); area = read_more area w.in_ok-block.ensures.area })
+      | then-named-eq-VXR_TYPE+in_ok-gather_chain w ↦
+          let told = rw same at w.in_ok-gather_chain.ensures.grew in
+          rw (w.gathered-is, w.area-is) (record { gone = λ ns st e. past_lower (l.invariant.gone ns st e) lt place kind w.if-named-eq-VXR_TYPE.true told; area = read_more area w.in_ok-gather_chain.ensures.area })
+      | else-named-eq-VXR_TYPE+in_ok-block w ↦
+          let grew = rw same at w.in_ok-block.ensures.grew in
+          rw (w.gathered-is, w.area-is) (record { gone = λ ns st e. past_block (l.invariant.gone ns st e) lt place kind w.if-named-eq-VXR_TYPE.false grew; area = read_more area w.in_ok-block.ensures.area })
     ]
 
 pub loop-turn-preserved : goal.loop-turn-preserved
 loop-turn-preserved g t c =
     let h = rw c.loop-turn.invariant.area.image at c.in_ok-head.ensures.head in
-    record { walked = λ ns st e. walk_out (c.loop-i.invariant.gone ns st e) (omega (arith, h.used_is, c.loop-i-test.false)) h.next_is; area = c.loop-i.invariant.area }
+    record { walked = record { left = λ ns st e. walk_out (c.loop-i.invariant.gone ns st e) (omega (arith, h.used_is, c.loop-i-test.false)) h.next_is }; area = c.loop-i.invariant.area }
 
 pub returns-clause-grew : goal.returns-clause-grew
 returns-clause-grew g t c =
     let some = c.requires.chain in
-    let over = walk_over (c.loop-turn.invariant.walked some.nodes some.stands some.link_is) (omega (arith, some.few, c.size-turn-end.ensures, c.loop-turn-test.false)) in
-    λ ns st e. walk_end (c.loop-turn.invariant.walked ns st e) some.tiled over
+    let over = walk_over (c.loop-turn.invariant.walked.left some.nodes some.stands some.link_is) (omega (arith, some.few, c.size-turn-end.ensures, c.loop-turn-test.false)) in
+    λ ns st e. walk_end (c.loop-turn.invariant.walked.left ns st e) some.tiled over
 
 pub read_head-requires-clause-inside : goal.read_head-requires-clause-inside
 read_head-requires-clause-inside g t c =
     let i = c.loop-turn.invariant in
     rw i.area.image (node_inside _ c.loop-turn.at (walk_node c.requires.chain i.walked c.if-at-eq0.false))
-
-pub node-requires : goal.node-requires
-node-requires g t c =
-    let n = node_inside _ c.loop-turn.at (walk_node c.requires.chain c.loop-turn.invariant.walked c.if-at-eq0.false) in
-    let h = rw c.loop-turn.invariant.area.image at c.in_ok-head.ensures.head in
-    omega (arith, n.room, h.room_is, c.requires.short)

@@ -1,4 +1,4 @@
-use Rattle.cdf_index.proofs.Common.{Stays, NodeInside, SomeNode}
+use Rattle.cdf_index.proofs.Common.{Stays}
 use Rattle.cdf_index.proofs.ChainWalk.{Walked, Gone}
 use Rattle.cdf_index.proofs.gathering.+gather_chain.Given as goal
 
@@ -13,8 +13,6 @@ invariant-loop-turn g l = record {
 
 abbrev pub invariant-loop-i : goal.invariant-loop-i
 invariant-loop-i g l = record {
-  node : SomeNode (g.A.Area.image l.fn.area) l.at;
-  inside : NodeInside (g.A.Area.image l.fn.area) l.at;
   gone : Gone g.G.Gather.has (g.A.Area.image l.fn.area) l.fn.levels l.fn.link l.at l.i l.turn l.fn.gathered l.gathered;
   area : Stays g.A.Area.image g.A.Area.frame g.A.Area.faults g.A.Area.edited l.fn.area l.area;
 }
