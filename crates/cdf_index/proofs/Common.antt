@@ -36,7 +36,7 @@ pub use Rattle.cdf_format.specs.VariableFields.{number_before, record_bytes}
 pub use Rattle.cdf_index.specs.Ahead.{Begun, Climbs, IsWalk, NamesIn, chain_at, chain_before, first_past}
 pub use Rattle.cdf_index.specs.Descent.{IsTree, SeesNode, SomeTree, SpotIs, spot_at}
 pub use Rattle.cdf_index.specs.Finding.{Ascends, At, ChainFrom, HasIndex, IsBlock, IsOrderly, NodeInside, Scanned, SomeNode, Stands, in_column, index_at}
-pub use Rattle.cdf_index.specs.Order.{leaf_of, passed, past_entries}
+pub use Rattle.cdf_index.specs.Order.{leaf_of, past_entries}
 pub use Rattle.cdf_index.specs.Reading.{HoldsRecords, record_in}
 pub use Rattle.cdf_index.specs.Sight.{IsHead, seen}
 pub use Rattle.cdf_index.specs.Sizes.{size_of}
