@@ -24,12 +24,10 @@ module _ {G : Type 0} (has : G → List Met → Type 0) where
     pub fewer : length (nodes_of left) + turn ≤ length (nodes_of ns)
 
   pub record NodeLeft (b : List ℕ) (levels at i turn : ℕ) (was now : G) (ns : Nodes) : Type 0 where
-    pub down : ℕ
     pub low : Nodes
-    pub rest : Entries
     pub more : Nodes
-    pub entry : AtEntry b levels down turn at i ns low more rest
-    pub all : (end : G) → Grew has now end (met_below rest ++ met_in more) → Grew has was end (met_in ns)
+    pub entry : AtEntry b levels turn at i ns low more
+    pub all : (end : G) → Grew has now end (met_below entry.rest ++ met_in more) → Grew has was end (met_in ns)
 
   -- of whichever nodes begin at a link
   pub record Walked (b : List ℕ) (levels link at turn : ℕ) (was now : G) : Type 0 where
@@ -58,9 +56,7 @@ module _ {G : Type 0} {has : G → List Met → Type 0} where
     walk_in ne g =
         let o = opened b levels at l.left l.stands (node_there l.left (λ z. ne (l.link_is ∙ z))) l.link_is in
         record {
-          down = o.down;
           low = no_node;
-          rest = o.entries;
           more = o.more;
           entry = enter no_node o (omega (arith, l.fewer));
           all = λ end h. l.all end (rw o.is (rw (o.parts.says.used_is, o.parts.says.room_is) at (grew_both g h)));
@@ -73,12 +69,12 @@ module _ {G : Type 0} {has : G → List Met → Type 0} where
         let none = none_here l.entry le in
         record { left = l.more; stands = l.entry.more_stands; link_is = nx ∙ l.entry.next_is; all = λ end h. l.all end (rw none h); fewer = omega (arith, l.entry.fewer) }
 
-    past_entry : {next : G} → (f : FirstEntry b l.down at i l.rest) → Grew has now next f.met → NodeLeft has b levels at (i + 1) turn was next ns
-    past_entry f g = record { down = l.down; low = f.low; rest = f.rest; more = l.more; entry = pass l.entry f; all = λ end h. l.all end (rw f.mets (rw append_assoc (grew_both g h))) }
+    past_entry : {next : G} → (f : FirstEntry b l.entry.down at i l.entry.rest) → Grew has now next f.met → NodeLeft has b levels at (i + 1) turn was next ns
+    past_entry f g = record { low = f.low; more = l.more; entry = pass l.entry (i + 1) refl f; all = λ end h. l.all end (rw f.mets (rw append_assoc (grew_both g h))) }
 
     -- at an entry that names a place
     module _ {place kind : ℕ} (lt : i < used_count b at) (p : place ≡ offset_at b at i) (k : kind ≡ type_at b place) where
-      first : FirstEntry b l.down at i l.rest
+      first : FirstEntry b l.entry.down at i l.entry.rest
       first = entry_here l.entry lt
 
       pub past_block : {next : G} → kind ≢ 6 → Grew has now next (met_block (first_at b at i) (last_at b at i) place ∷ []) → NodeLeft has b levels at (i + 1) turn was next ns

@@ -22,7 +22,3 @@ mutual
       let n = collected nodes in
       let e = collected_below entries in
       (simp (flat_map-append, map-append, e.0, n.0), simp (flat_map-append, e.1, n.1))
-
-pub places_of_words : (leaves : List Leaf) → places_in (map leaf_words leaves) ≡ map (λ leaf. leaf.place) leaves
-places_of_words [] = refl
-places_of_words (leaf ∷ more) = ap (λ (ns : List ℕ). leaf.place ∷ ns) (places_of_words more)

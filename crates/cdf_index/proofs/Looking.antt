@@ -52,13 +52,11 @@ node_inside b at n =
 
 -- what is left from entry number i on
 record Left (b : List ℕ) (rec turn : ℕ) (nodes : Nodes) (levels at i : ℕ) (more : Nodes) : Type 0 where
-  down : ℕ
   low : Nodes
-  rest : Entries
-  entry : AtEntry b levels down turn at i nodes low more rest
-  same : find_entry rec rest (find_in rec more) ≡ find_in rec nodes
-  steps : suc (passed_from rec rest (nodes_passed rec more)) + turn ≡ nodes_passed rec nodes
-  zero : NextsAreZero nodes → LowerAreZero rest × (levels + turn ≤ 8) × (more ≡ no_node)
+  entry : AtEntry b levels turn at i nodes low more
+  same : find_entry rec entry.rest (find_in rec more) ≡ find_in rec nodes
+  steps : suc (passed_from rec entry.rest (nodes_passed rec more)) + turn ≡ nodes_passed rec nodes
+  zero : NextsAreZero nodes → LowerAreZero entry.rest × (levels + turn ≤ 8) × (more ≡ no_node)
 
 module _ {b : List ℕ} {rec turn at : ℕ} {nodes : Nodes} (a : At b rec turn nodes at) (inside : NodeInside b at) where
   here : Opened b a.left.levels at a.left.nodes
@@ -69,9 +67,7 @@ module _ {b : List ℕ} {rec turn at : ℕ} {nodes : Nodes} (a : At b rec turn n
   left_over zero before most =
       let o = here in
       record {
-        down = o.down;
         low = no_node;
-        rest = o.entries;
         entry = enter no_node o (omega (arith, a.fewer));
         same = rw o.is at a.same;
         steps = omega (arith, rw o.is at a.passed);
@@ -81,12 +77,9 @@ module _ {b : List ℕ} {rec turn at : ℕ} {nodes : Nodes} (a : At b rec turn n
       let h = left_over j (λ k lt. before k (omega arith)) (omega arith) in
       let f = entry_here h.entry (omega arith) in
       let w = f.skips rec (lt-ltb (last_at b at j) rec (before j (omega arith))) in
-      let n : j + 1 ≡ suc j = omega arith in
       record {
-        down = h.down;
         low = f.low;
-        rest = f.rest;
-        entry = rw n at (pass h.entry f);
+        entry = pass h.entry (suc j) (omega arith) f;
         same = sym (w.0 (find_in rec here.more)) ∙ h.same;
         steps = omega (arith, h.steps, w.1 (nodes_passed rec here.more));
         zero = λ z. (let y = h.zero z in ((f.zero y.0).1, y.1, y.2));
@@ -125,9 +118,9 @@ module _ {b : List ℕ} {rec turn at : ℕ} {nodes : Nodes} (a : At b rec turn n
           below = λ h six.
               (let d = f.has rec t (le-ltb _ _ h) in
               let m = f.of_lower six in
-              let e = pass over.entry f in
+              let e = pass over.entry (i + 1) refl f in
               record {
-                left = record { levels = over.down; nodes = f.low; stands = f.stands; link_is = m.0 };
+                left = record { levels = over.entry.down; nodes = f.low; stands = f.stands; link_is = m.0 };
                 same = sym (same ∙ d.0 (find_in rec here.more) ∙ m.2 rec);
                 passed = omega (arith, over.steps, d.1 (nodes_passed rec here.more));
                 fewer = omega (arith, e.fewer);
