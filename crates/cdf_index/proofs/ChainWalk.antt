@@ -4,7 +4,7 @@ use Rattle.cdf_index.proofs.Common.{next_of, type_at, Nodes, no_node, node, Entr
 use Rattle.cdf_format.specs.Index.{nodes_of}
 use Rattle.cdf_index.specs.Whole.{met_in, met_below}
 use Rattle.cdf_index.proofs.Ascending.{index_stands}
-use Rattle.cdf_index.proofs.FirstEntry.{AtEntry, FirstEntry, enter, entry_here, few_below, none_here, opened, pass, node_there}
+use Rattle.cdf_index.proofs.FirstEntry.{AtEntry, FirstEntry, enter, entry_here, few_below, none_here, opened, pass, node_there, Opened}
 use Rattle.cdf_index.proofs.Looking.{node_of, none_there}
 use Rattle.cdf_index.proofs.Searching.{few_nodes}
 
@@ -24,10 +24,11 @@ module _ {G : Type 0} (has : G → List Met → Type 0) where
     pub fewer : length (nodes_of left) + turn ≤ length (nodes_of ns)
 
   pub record NodeLeft (b : List ℕ) (levels at i turn : ℕ) (was now : G) (ns : Nodes) : Type 0 where
+    pub nodes : Nodes
+    pub node : Opened b levels at nodes
     pub low : Nodes
-    pub more : Nodes
-    pub entry : AtEntry b levels turn at i ns low more
-    pub all : (end : G) → Grew has now end (met_below entry.rest ++ met_in more) → Grew has was end (met_in ns)
+    pub entry : AtEntry node turn i ns low
+    pub all : (end : G) → Grew has now end (met_below entry.rest ++ met_in node.more) → Grew has was end (met_in ns)
 
   -- of whichever nodes begin at a link
   pub record Walked (b : List ℕ) (levels link at turn : ℕ) (was now : G) : Type 0 where
@@ -56,9 +57,10 @@ module _ {G : Type 0} {has : G → List Met → Type 0} where
     walk_in ne g =
         let o = opened b levels at l.left l.stands (node_there l.left (λ z. ne (l.link_is ∙ z))) l.link_is in
         record {
+          nodes = l.left;
+          node = o;
           low = no_node;
-          more = o.more;
-          entry = enter no_node o (omega (arith, l.fewer));
+          entry = enter o no_node (omega (arith, l.fewer));
           all = λ end h. l.all end (rw o.is (rw (o.parts.says.used_is, o.parts.says.room_is) at (grew_both g h)));
         }
 
@@ -66,29 +68,29 @@ module _ {G : Type 0} {has : G → List Met → Type 0} where
     pub walk_out : {next : ℕ} → used_count b at ≤ i → next ≡ next_of b at → ChainLeft has b levels next (turn + 1) was now ns
     unfolding met_below
     walk_out le nx =
-        let none = none_here l.entry le in
-        record { left = l.more; stands = l.entry.more_stands; link_is = nx ∙ l.entry.next_is; all = λ end h. l.all end (rw none h); fewer = omega (arith, l.entry.fewer) }
+        let none = none_here l.node l.entry le in
+        record { left = l.node.more; stands = l.node.more_stands; link_is = nx ∙ l.node.parts.says.next_is; all = λ end h. l.all end (rw none h); fewer = omega (arith, l.entry.fewer) }
 
-    past_entry : {next : G} → (f : FirstEntry b l.entry.down at i l.entry.rest) → Grew has now next f.met → NodeLeft has b levels at (i + 1) turn was next ns
-    past_entry f g = record { low = f.low; more = l.more; entry = pass l.entry (i + 1) refl f; all = λ end h. l.all end (rw f.mets (rw append_assoc (grew_both g h))) }
+    past_entry : {next : G} → (f : FirstEntry b l.node.down at i l.entry.rest) → Grew has now next f.met → NodeLeft has b levels at (i + 1) turn was next ns
+    past_entry f g = record { nodes = l.nodes; node = l.node; low = f.low; entry = pass l.node l.entry (i + 1) refl f; all = λ end h. l.all end (rw f.mets (rw append_assoc (grew_both g h))) }
 
     -- at an entry that names a place
     module _ {place kind : ℕ} (lt : i < used_count b at) (p : place ≡ offset_at b at i) (k : kind ≡ type_at b place) where
-      first : FirstEntry b l.entry.down at i l.entry.rest
-      first = entry_here l.entry lt
+      first : FirstEntry b l.node.down at i l.entry.rest
+      first = entry_here l.node l.entry lt
 
       pub past_block : {next : G} → kind ≢ 6 → Grew has now next (met_block (first_at b at i) (last_at b at i) place ∷ []) → NodeLeft has b levels at (i + 1) turn was next ns
       past_block ne g = past_entry first (rw (first.of_block (λ t. ne (k ∙ ap (type_at b) p ∙ t))).0 (rw p at g))
 
       module _ (is : kind ≡ 6) where
         lower_here : (place ≡ link_to first.low) × (first.met ≡ met_in first.low) × Stands b (levels - 1) first.low
-        lower_here = let m = first.of_lower (ap (type_at b) (sym p) ∙ sym k ∙ is) in (p ∙ m.0, m.1, subst (λ (x : ℕ). Stands b x first.low) (omega (arith, l.entry.deep)) first.stands)
+        lower_here = let m = first.of_lower (ap (type_at b) (sym p) ∙ sym k ∙ is) in (p ∙ m.0, m.1, subst (λ (x : ℕ). Stands b x first.low) (omega (arith, l.node.deep)) first.stands)
 
         pub past_lower : {next : G} → ((low : Nodes) → Stands b (levels - 1) low → place ≡ link_to low → Grew has now next (met_in low)) → NodeLeft has b levels at (i + 1) turn was next ns
         past_lower told = past_entry first (rw lower_here.1 (told first.low lower_here.2 lower_here.0))
 
         pub lower_chain : AreTiles b 8 (length b) (tiles b) → length (nodes_of ns) ≤ length b → SomeChain b (levels - 1) place
-        lower_chain tiled few = record { nodes = first.low; tiled = tiled; stands = lower_here.2; link_is = lower_here.0; few = omega (arith, few_below l.entry first, l.entry.fewer) }
+        lower_chain tiled few = record { nodes = first.low; tiled = tiled; stands = lower_here.2; link_is = lower_here.0; few = omega (arith, few_below l.node l.entry first, l.entry.fewer) }
 
 -- a node of the chain
 pub walk_node : {G : Type 0} {has : G → List Met → Type 0} {b : List ℕ} {levels link at turn : ℕ} {was now : G} → SomeChain b levels link → Walked has b levels link at turn was now → at ≢ 0 → SomeNode b at

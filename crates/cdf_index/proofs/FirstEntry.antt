@@ -154,28 +154,25 @@ first_entry {b = b} {down = down} {at = at} {i = i} (lower first last nodes entr
 -- ---- on the way along the entries of a node, from number i on
 
 -- the chain below the entry before, the other entries and the nodes behind this one have fewer nodes than there were at first, as many turns ago
-pub record AtEntry (b : List ℕ) (levels turn at i : ℕ) (nodes low more : Nodes) : Type 0 where
-  pub down : ℕ
+pub record AtEntry {b : List ℕ} {levels at : ℕ} {ns : Nodes} (o : Opened b levels at ns) (turn i : ℕ) (nodes low : Nodes) : Type 0 where
   pub rest : Entries
-  pub deep : levels ≡ suc down
-  pub left : EntriesLeft b down at i rest
+  pub left : EntriesLeft b o.down at i rest
   pub many : i + entry_count rest ≡ used_count b at
-  pub more_stands : Stands b levels more
-  pub next_is : next_of b at ≡ link_to more
-  pub fewer : length (nodes_of low) + length (lower_nodes rest) + length (nodes_of more) + (turn + 1) ≤ length (nodes_of nodes)
+  pub fewer : length (nodes_of low) + length (lower_nodes rest) + length (nodes_of o.more) + (turn + 1) ≤ length (nodes_of nodes)
 
-abbrev pub enter : {b : List ℕ} {levels turn at : ℕ} {nodes ns : Nodes} → (low : Nodes) → (o : Opened b levels at ns) → length (nodes_of low) + length (nodes_of ns) + turn ≤ length (nodes_of nodes) → AtEntry b levels turn at 0 nodes low o.more
-enter low o few = record { down = o.down; rest = o.entries; deep = o.deep; left = o.parts.left; many = omega (arith, o.parts.says.used_is); more_stands = o.more_stands; next_is = o.parts.says.next_is; fewer = omega (arith, opened_nodes o) }
+module _ {b : List ℕ} {levels at : ℕ} {ns : Nodes} (o : Opened b levels at ns) where
+  abbrev pub enter : {turn : ℕ} {nodes : Nodes} → (low : Nodes) → length (nodes_of low) + length (nodes_of ns) + turn ≤ length (nodes_of nodes) → AtEntry o turn 0 nodes low
+  enter low few = record { rest = o.entries; left = o.parts.left; many = omega (arith, o.parts.says.used_is); fewer = omega (arith, opened_nodes o) }
 
-module _ {b : List ℕ} {levels turn at i : ℕ} {nodes low more : Nodes} (e : AtEntry b levels turn at i nodes low more) where
-  pub entry_here : i < used_count b at → FirstEntry b e.down at i e.rest
-  entry_here lt = first_entry e.rest e.left (omega (arith, e.many))
+  module _ {turn i : ℕ} {nodes low : Nodes} (e : AtEntry o turn i nodes low) where
+    pub entry_here : i < used_count b at → FirstEntry b o.down at i e.rest
+    entry_here lt = first_entry e.rest e.left (omega (arith, e.many))
 
-  pub few_below : (f : FirstEntry b e.down at i e.rest) → length (lower_nodes e.rest) ≡ length (nodes_of f.low) + length (lower_nodes f.rest)
-  few_below f = ap length f.nodes ∙ length-append (nodes_of f.low) (lower_nodes f.rest)
+    pub few_below : (f : FirstEntry b o.down at i e.rest) → length (lower_nodes e.rest) ≡ length (nodes_of f.low) + length (lower_nodes f.rest)
+    few_below f = ap length f.nodes ∙ length-append (nodes_of f.low) (lower_nodes f.rest)
 
-  abbrev pub pass : (k : ℕ) → i + 1 ≡ k → (f : FirstEntry b e.down at i e.rest) → AtEntry b levels turn at k nodes f.low more
-  pass k is f = record { down = e.down; rest = f.rest; deep = e.deep; left = subst (λ (x : ℕ). EntriesLeft b e.down at x f.rest) is f.left; many = omega (arith, e.many, f.many); more_stands = e.more_stands; next_is = e.next_is; fewer = omega (arith, e.fewer, few_below f) }
+    abbrev pub pass : (k : ℕ) → i + 1 ≡ k → (f : FirstEntry b o.down at i e.rest) → AtEntry o turn k nodes f.low
+    pass k is f = record { rest = f.rest; left = subst (λ (x : ℕ). EntriesLeft b o.down at x f.rest) is f.left; many = omega (arith, e.many, f.many); fewer = omega (arith, e.fewer, few_below f) }
 
-  pub none_here : used_count b at ≤ i → e.rest ≡ no_entry
-  none_here le = no_entries e.rest (omega (arith, e.many))
+    pub none_here : used_count b at ≤ i → e.rest ≡ no_entry
+    none_here le = no_entries e.rest (omega (arith, e.many))

@@ -51,55 +51,55 @@ node_inside b at n =
 -- ---- from the node at which a search is
 
 -- what is left from entry number i on
-record Left (b : List ℕ) (rec turn : ℕ) (nodes : Nodes) (levels at i : ℕ) (more : Nodes) : Type 0 where
+record Left {b : List ℕ} {levels at : ℕ} {ns : Nodes} (o : Opened b levels at ns) (rec turn i : ℕ) (nodes : Nodes) : Type 0 where
   low : Nodes
-  entry : AtEntry b levels turn at i nodes low more
-  same : find_entry rec entry.rest (find_in rec more) ≡ find_in rec nodes
-  steps : suc (passed_from rec entry.rest (nodes_passed rec more)) + turn ≡ nodes_passed rec nodes
-  zero : NextsAreZero nodes → LowerAreZero entry.rest × (levels + turn ≤ 8) × (more ≡ no_node)
+  entry : AtEntry o turn i nodes low
+  same : find_entry rec entry.rest (find_in rec o.more) ≡ find_in rec nodes
+  steps : suc (passed_from rec entry.rest (nodes_passed rec o.more)) + turn ≡ nodes_passed rec nodes
+  zero : NextsAreZero nodes → LowerAreZero entry.rest × (levels + turn ≤ 8) × (o.more ≡ no_node)
 
 module _ {b : List ℕ} {rec turn at : ℕ} {nodes : Nodes} (a : At b rec turn nodes at) (inside : NodeInside b at) where
   here : Opened b a.left.levels at a.left.nodes
   here = opened_inside a.left inside
 
-  left_over : (i : ℕ) → ((j : ℕ) → j < i → last_at b at j < rec) → i ≤ used_count b at → Left b rec turn nodes a.left.levels at i here.more
+  left_over : (i : ℕ) → ((j : ℕ) → j < i → last_at b at j < rec) → i ≤ used_count b at → Left here rec turn i nodes
   unfolding find_in nodes_passed nodes_of
   left_over zero before most =
       let o = here in
       record {
         low = no_node;
-        entry = enter no_node o (omega (arith, a.fewer));
+        entry = enter o no_node (omega (arith, a.fewer));
         same = rw o.is at a.same;
         steps = omega (arith, rw o.is at a.passed);
         zero = λ z. (let y = a.zero z in let n = opened_zero o y.0 in (n.0, y.2 (rw o.is tt), n.1));
       }
   left_over (suc j) before most =
       let h = left_over j (λ k lt. before k (omega arith)) (omega arith) in
-      let f = entry_here h.entry (omega arith) in
+      let f = entry_here here h.entry (omega arith) in
       let w = f.skips rec (lt-ltb (last_at b at j) rec (before j (omega arith))) in
       record {
         low = f.low;
-        entry = pass h.entry (suc j) (omega arith) f;
+        entry = pass here h.entry (suc j) (omega arith) f;
         same = sym (w.0 (find_in rec here.more)) ∙ h.same;
         steps = omega (arith, h.steps, w.1 (nodes_passed rec here.more));
         zero = λ z. (let y = h.zero z in ((f.zero y.0).1, y.1, y.2));
       }
 
   module _ {i : ℕ} (s : Scanned b rec at i) where
-    over : Left b rec turn nodes a.left.levels at i here.more
+    over : Left here rec turn i nodes
     over = left_over i s.before s.most
 
     -- the whole node was passed
     pub look_next : (link : ℕ) → i ≡ used_count b at → link ≡ next_of b at → At b rec (turn + 1) nodes link
     unfolding find_entry passed_from NextsAreZero
     look_next link e x =
-        let none = none_here over.entry (omega arith) in
+        let none = none_here here over.entry (omega arith) in
         record {
           left = record { levels = a.left.levels; nodes = here.more; stands = here.more_stands; link_is = x ∙ here.parts.says.next_is };
           same = rw none at over.same;
           passed = omega (arith, rw none at over.steps);
           fewer = omega (arith, over.entry.fewer);
-          zero = λ z. (let y = over.zero z in (rw y.2 tt, omega (arith, y.1, over.entry.deep), λ is. absurd (rw y.2 at is)));
+          zero = λ z. (let y = over.zero z in (rw y.2 tt, omega (arith, y.1, here.deep), λ is. absurd (rw y.2 at is)));
         }
 
     -- an entry tells: no leaf has the record, or the search goes on below it, or it names the leaf
@@ -110,7 +110,7 @@ module _ {b : List ℕ} {rec turn at : ℕ} {nodes : Nodes} (a : At b rec turn n
 
     pub look_tells : (first last place : ℕ) → i ≢ used_count b at → SaysEntry b at i first last place → Tells first last place
     look_tells first last place ne q =
-        let f = entry_here over.entry (omega (arith, s.most)) in
+        let f = entry_here here over.entry (omega (arith, s.most)) in
         let t = le-ltb (last_at b at i) rec (s.stop (omega (arith, s.most))) in
         let same = sym over.same in
         rw (sym q.first_is, sym q.last_is, sym q.offset_is) (record {
@@ -118,13 +118,13 @@ module _ {b : List ℕ} {rec turn at : ℕ} {nodes : Nodes} (a : At b rec turn n
           below = λ h six.
               (let d = f.has rec t (le-ltb _ _ h) in
               let m = f.of_lower six in
-              let e = pass over.entry (i + 1) refl f in
+              let e = pass here over.entry (i + 1) refl f in
               record {
-                left = record { levels = over.entry.down; nodes = f.low; stands = f.stands; link_is = m.0 };
+                left = record { levels = here.down; nodes = f.low; stands = f.stands; link_is = m.0 };
                 same = sym (same ∙ d.0 (find_in rec here.more) ∙ m.2 rec);
                 passed = omega (arith, over.steps, d.1 (nodes_passed rec here.more));
                 fewer = omega (arith, e.fewer);
-                zero = λ z. (let y = over.zero z in ((f.zero y.0).0, omega (arith, y.1, e.deep), λ is. omega (arith, y.1, e.deep)));
+                zero = λ z. (let y = over.zero z in ((f.zero y.0).0, omega (arith, y.1, here.deep), λ is. omega (arith, y.1, here.deep)));
               });
           found = λ h no. same ∙ (f.has rec t (le-ltb _ _ h)).0 (find_in rec here.more) ∙ (f.of_block no).1 rec;
         })

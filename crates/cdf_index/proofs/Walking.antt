@@ -29,44 +29,44 @@ one_chain c climbs same few flat = record {
 -- ---- at a node, of which i entries begin at the record or before it
 
 -- what is left: the chain below the last of these entries, the others, and the next nodes
-record Behind (b : List ℕ) (rec : ℕ) (nodes : Nodes) (turn : ℕ) (walk : Walk) (levels i : ℕ) (more : Nodes) : Type 0 where
+record Behind {b : List ℕ} {levels : ℕ} {ns : Nodes} (walk : Walk) (o : Opened b levels walk.at ns) (rec turn i : ℕ) (nodes : Nodes) : Type 0 where
   low : ChainFrom b (chain_before b walk.at walk.lower i)
-  entry : AtEntry b levels turn walk.at i nodes low.nodes more
-  climbs : Climbs 0 record_number_limit (firsts_of low.nodes ++ (entry_firsts entry.rest ++ firsts_of more))
-  same : first_past rec (firsts_of low.nodes ++ (entry_firsts entry.rest ++ firsts_of more)) walk.best ≡ least_first_past rec nodes
-  zero : NextsAreZero nodes → NextsAreZero low.nodes × (low.levels + (turn + 1) ≤ 8) × LowerAreZero entry.rest × (levels + turn ≤ 8) × (more ≡ no_node)
+  entry : AtEntry o turn i nodes low.nodes
+  climbs : Climbs 0 record_number_limit (firsts_of low.nodes ++ (entry_firsts entry.rest ++ firsts_of o.more))
+  same : first_past rec (firsts_of low.nodes ++ (entry_firsts entry.rest ++ firsts_of o.more)) walk.best ≡ least_first_past rec nodes
+  zero : NextsAreZero nodes → NextsAreZero low.nodes × (low.levels + (turn + 1) ≤ 8) × LowerAreZero entry.rest × (levels + turn ≤ 8) × (o.more ≡ no_node)
 
 module _ {b : List ℕ} {rec turn : ℕ} {nodes : Nodes} {walk : Walk} (w : IsWalk b rec nodes turn walk) (inside : NodeInside b walk.at) where
   here : Opened b w.left.levels walk.at w.left.nodes
   here = opened_inside w.left inside
 
-  behind : (i : ℕ) → ((j : ℕ) → j < i → first_at b walk.at j ≤ rec) → i ≤ used_count b walk.at → Behind b rec nodes turn walk w.left.levels i here.more
+  behind : (i : ℕ) → ((j : ℕ) → j < i → first_at b walk.at j ≤ rec) → i ≤ used_count b walk.at → Behind walk here rec turn i nodes
   unfolding firsts_of
   behind zero begun most =
       let o = here in
       record {
         low = w.low;
-        entry = enter w.low.nodes o w.fewer;
+        entry = enter o w.low.nodes w.fewer;
         climbs = rw o.is at w.climbs;
         same = rw o.is at w.same;
         zero = λ z. (let y = w.zero z in let n = opened_zero o y.2 in (y.0, omega (arith, y.1, y.3, o.deep), n.0, y.3, n.1));
       }
   behind (suc j) begun most =
       let h = behind j (λ k lt. begun k (omega arith)) (omega arith) in
-      let f = entry_here h.entry (omega arith) in
+      let f = entry_here here h.entry (omega arith) in
       let ys = firsts_of f.low ++ (entry_firsts f.rest ++ firsts_of here.more) in
       let p = first_passed rec 0 record_number_limit (first_at b walk.at j) (firsts_of h.low.nodes) ys walk.best (rw (f.firsts, append_assoc) at h.climbs) (begun j (omega arith)) in
       record {
-        low = record { levels = h.entry.down; nodes = f.low; stands = f.stands; link_is = f.chain };
-        entry = pass h.entry (suc j) (omega arith) f;
+        low = record { levels = here.down; nodes = f.low; stands = f.stands; link_is = f.chain };
+        entry = pass here h.entry (suc j) (omega arith) f;
         climbs = p.1;
         same = sym p.0 ∙ rw (f.firsts, append_assoc) at h.same;
-        zero = λ z. (let y = h.zero z in let e = f.zero y.2 in (e.0, omega (arith, y.3, h.entry.deep), e.1, y.3, y.4));
+        zero = λ z. (let y = h.zero z in let e = f.zero y.2 in (e.0, omega (arith, y.3, here.deep), e.1, y.3, y.4));
       }
 
   module _ (i : ℕ) (g : Begun b walk.at rec i) (lower : ℕ) (lower_is : lower ≡ chain_before b walk.at walk.lower i) where
     -- the walk goes on below
-    walk_down : (shown : Option ℕ) → (h : Behind b rec nodes turn walk w.left.levels i here.more) → first_past rec (firsts_of h.low.nodes) shown ≡ least_first_past rec nodes → IsWalk b rec nodes (turn + 1) (record { best = shown; at = lower; lower = 0 })
+    walk_down : (shown : Option ℕ) → (h : Behind walk here rec turn i nodes) → first_past rec (firsts_of h.low.nodes) shown ≡ least_first_past rec nodes → IsWalk b rec nodes (turn + 1) (record { best = shown; at = lower; lower = 0 })
     walk_down shown h same =
         let low : ChainFrom b lower = record { levels = h.low.levels; nodes = h.low.nodes; stands = h.low.stands; link_is = lower_is ∙ h.low.link_is } in
         one_chain low (climbs_front 0 record_number_limit (firsts_of h.low.nodes) (entry_firsts h.entry.rest ++ firsts_of here.more) h.climbs) same (omega (arith, h.entry.fewer)) (λ z. (let y = h.zero z in (y.0, y.1)))
@@ -75,13 +75,13 @@ module _ {b : List ℕ} {rec turn : ℕ} {nodes : Nodes} {walk : Walk} (w : IsWa
     pub walk_decided : i < used_count b walk.at → (first : ℕ) → first ≡ first_at b walk.at i → IsWalk b rec nodes (turn + 1) (record { best = Some first; at = lower; lower = 0 })
     walk_decided lt first e =
         let h = behind i g.before g.most in
-        let f = entry_here h.entry lt in
+        let f = entry_here here h.entry lt in
         walk_down (Some first) h (rw e (sym (first_decides rec (firsts_of h.low.nodes) _ (first_at b walk.at i) walk.best (g.stop lt)) ∙ rw f.firsts at h.same))
 
     module _ (all : i ≡ used_count b walk.at) where
-      none_left : (h : Behind b rec nodes turn walk w.left.levels i here.more) → entry_firsts h.entry.rest ≡ []
+      none_left : (h : Behind walk here rec turn i nodes) → entry_firsts h.entry.rest ≡ []
       unfolding entry_firsts
-      none_left h = ap entry_firsts (none_here h.entry (omega arith))
+      none_left h = ap entry_firsts (none_here here h.entry (omega arith))
 
       -- the chain ended
       pub walk_below : AreTiles b 8 (length b) (tiles b) → next_of b walk.at ≡ 0 → IsWalk b rec nodes (turn + 1) (record { best = walk.best; at = lower; lower = 0 })

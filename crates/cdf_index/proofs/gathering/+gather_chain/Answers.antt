@@ -22,7 +22,7 @@ gather_chain-requires g t c =
     let some = c.requires.chain in
     let n = l.invariant.gone some.nodes some.stands some.link_is in
     let chain = lower_chain n (omega (arith, h.used_is)) (rw l.invariant.area.image at c.in_ok-named.ensures.place) (rw l.invariant.area.image at c.in_ok-named.ensures.kind) c.if-named-eq-VXR_TYPE.true some.tiled some.few in
-    λ κs w. (omega (arith, c.decreases, n.entry.deep), (w.0, (w.1, (rw e chain, rw e c.requires.short))))
+    λ κs w. (omega (arith, c.decreases, n.node.deep), (w.0, (w.1, (rw e chain, rw e c.requires.short))))
 
 pub loop-i-preserved : goal.loop-i-preserved
 loop-i-preserved g t c =
