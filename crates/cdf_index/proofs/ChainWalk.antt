@@ -1,6 +1,6 @@
 -- The walk over a whole chain, with what is below it.
 use Rattle.std.proofs.Common.{◌≡◌, ◌≢◌, ℕ, ◌+◌, ◌-◌, ◌<◌, ◌≤◌, List, [], ◌∷◌, ◌++◌, append_assoc, append-nil, length, refl, sym, ap, subst, ◌∙◌, arith}
-use Rattle.cdf_index.proofs.Common.{next_of, type_at, Nodes, no_node, node, Entries, link_to, room_at, used_count, first_at, last_at, offset_at, index_at, HasIndex, Stands, SomeNode, AreTiles, tiles, Grew, Met, met_block, met_node, SomeChain}
+use Rattle.cdf_index.proofs.Common.{next_of, type_at, Nodes, no_node, node, link_to, room_at, used_count, first_at, last_at, offset_at, index_at, HasIndex, Stands, SomeNode, AreTiles, tiles, Grew, Met, met_block, met_node, SomeChain}
 use Rattle.cdf_format.specs.Index.{nodes_of}
 use Rattle.cdf_index.specs.Whole.{met_in, met_below}
 use Rattle.cdf_index.proofs.Ascending.{index_stands}

@@ -1,6 +1,6 @@
 -- The entries of blocks and the places of nodes that a walk over an index collects.
-use Rattle.std.proofs.Common.{◌≡◌, ℕ, List, [], ◌∷◌, map, refl, ap}
-use Rattle.cdf_index.proofs.Common.{flat_map, map-append, Nodes, no_node, node, Entries, no_entry, block, lower, Leaf, places_in, entry_met, place_met}
+use Rattle.std.proofs.Common.{◌≡◌, map, refl}
+use Rattle.cdf_index.proofs.Common.{flat_map, map-append, Nodes, no_node, node, Entries, no_entry, block, lower, entry_met, place_met}
 use Rattle.std.proofs.lemmas.Grind.{flat_map-append}
 use Rattle.cdf_format.specs.Index.{nodes_of, lower_nodes, leaves_of, entry_leaves}
 use Rattle.cdf_index.specs.Whole.{leaf_words, met_in, met_below}

@@ -1,6 +1,6 @@
 -- A chain that stands, taken apart at its first node, and the entries of a node at the first of them.
 use Rattle.std.proofs.Common.{◌≡◌, ◌≢◌, ◌⊎◌, ℕ, zero, suc, ◌+◌, ◌<◌, List, [], ◌∷◌, ◌++◌, true, false, ltb, eqb, refl, sym, ap, subst, ◌∙◌, arith, inl, inr, Option, Some, None, length, ◌≤◌}
-use Rattle.cdf_index.proofs.Common.{nat_tests, is_a, is_linkable, type_at, Nodes, no_node, node, Entries, no_entry, block, lower, Leaf, leaf, entry_count, link_to, first_at, last_at, offset_at, IsNode, vxr_type, cvvr_type, In, tiles, linkable-in, linkable-type, chain_at, IsBlock, IsOrderly, ChainFrom, NodeInside, Stands, Met, met_block, next_of, used_count, length-append}
+use Rattle.cdf_index.proofs.Common.{nat_tests, is_a, is_linkable, type_at, Nodes, no_node, node, Entries, no_entry, block, lower, Leaf, leaf, entry_count, link_to, first_at, last_at, offset_at, IsNode, vxr_type, cvvr_type, In, tiles, linkable-in, linkable-type, chain_at, IsBlock, IsOrderly, ChainFrom, NodeInside, Stands, Met, met_block, used_count, length-append}
 use Rattle.cdf_format.specs.Index.{nodes_of, lower_nodes, entry_leaves}
 use Rattle.cdf_format.specs.IndexOf.{HasNodes, Names}
 use Rattle.cdf_format.specs.RecordTypes.{vvr_type}

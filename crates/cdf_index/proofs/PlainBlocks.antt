@@ -1,9 +1,9 @@
 -- The blocks that the index of a variable of a good image names are not packed, since no packed one is read so far.
-use Rattle.std.proofs.Common.{arith, ◌≡◌, ℕ, zero, suc, List, ◌∷◌, ◌++◌, false, true≢false, sym, ap, subst, ◌∙◌, Some, inl, inr}
-use Rattle.cdf_index.proofs.Common.{nat_tests, eqb-true, ◌==◌, flat_map, range, covers, is_in, type_at, IsGoodImage, Nodes, no_node, node, Entries, no_entry, block, lower, Leaf, cvvr_type, Hold, VariableShape, Shape, variables, Each, HasVariable, LeafFits, VariableFits, IsSound, In, either, Each-append, Each-split, leaf_of, is_linkable, vxr_type}
+use Rattle.std.proofs.Common.{arith, ◌≡◌, ℕ, zero, suc, List, ◌∷◌, ◌++◌, false, sym, subst, ◌∙◌, Some}
+use Rattle.cdf_index.proofs.Common.{nat_tests, ◌==◌, flat_map, range, covers, type_at, IsGoodImage, Nodes, no_node, node, Entries, no_entry, block, lower, Leaf, cvvr_type, Hold, VariableShape, Shape, variables, Each, HasVariable, LeafFits, VariableFits, IsSound, In, Each-append, Each-split, leaf_of, is_linkable, vxr_type}
 use Rattle.cdf_format.specs.Index.{leaves_of, entry_leaves}
 use Rattle.cdf_format.specs.IndexOf.{HasNodes, Names}
-use Rattle.cdf_format.specs.NotRead.{read_types, unread_type}
+use Rattle.cdf_format.specs.NotRead.{unread_type}
 use Rattle.cdf_format.proofs.RowLemmas.{Hold-member}
 use Rattle.cdf_format.proofs.Owning.{block_in}
 use Rattle.cdf_edits.proofs.Edits.LeafPieces.{found_in, of_each}

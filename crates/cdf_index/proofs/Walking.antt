@@ -1,6 +1,6 @@
 -- The search for the next First, from node to node.
 use Rattle.std.proofs.Common.{◌≡◌, ◌≢◌, ℕ, zero, suc, ◌+◌, ◌<◌, ◌≤◌, List, [], ◌++◌, length, append_assoc, append-nil, refl, sym, ap, ◌∙◌, arith, Option, Some, None}
-use Rattle.cdf_index.proofs.Common.{next_of, Nodes, no_node, Entries, link_to, used_count, first_at, AreTiles, tiles, record_number_limit, Begun, Climbs, chain_before, first_past, IsWalk, index_at, HasIndex, NodeInside, ChainFrom}
+use Rattle.cdf_index.proofs.Common.{next_of, Nodes, no_node, link_to, used_count, first_at, AreTiles, tiles, record_number_limit, Begun, Climbs, chain_before, first_past, IsWalk, index_at, HasIndex, NodeInside, ChainFrom}
 use Rattle.cdf_edits.specs.Index.Blocks.{firsts_of, entry_firsts}
 use Rattle.cdf_format.specs.Index.{nodes_of, leaves_of}
 use Rattle.cdf_format.specs.IndexOf.{HasNodes}
