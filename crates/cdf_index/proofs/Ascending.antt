@@ -1,48 +1,41 @@
 -- The entries of each node of an index ascend.
-use Rattle.std.proofs.Common.{◌≡◌, ℕ, zero, suc, ◌+◌, ◌<◌, ◌≤◌, List, arith}
+use Rattle.std.proofs.Common.{◌≡◌, ℕ, zero, suc, ◌+◌, ◌<◌, ◌≤◌, List, refl, arith}
 use Rattle.cdf_index.proofs.Common.{Nodes, no_node, node, Entries, no_entry, block, lower, entry_count, used_count, first_at, last_at, SayEntries, Each, NodeFits, tiles, Each-append, Each-split, record_number_limit, index_at, HasIndex, IsOrderly, Stands, past_entries}
 use Rattle.cdf_format.specs.Index.{nodes_of, lower_nodes}
 use Rattle.cdf_format.specs.IndexOf.{HasNodes, Names}
 use Rattle.cdf_index.specs.Order.{InOrder, AreInOrder}
 
--- an entry begins and ends at a later one's First and Last or before them
-abbrev Before : List ℕ → ℕ → ℕ → ℕ → Type 0
-Before b at i j = (first_at b at i ≤ first_at b at j) × (last_at b at i ≤ last_at b at j)
+-- the first of some entries in order, and the others
+record FirstInOrder (b : List ℕ) (at k low high : ℕ) (es : Entries) : Type 0 where
+  rest : Entries
+  say : SayEntries b at (k + 1) rest
+  order : AreInOrder (suc (last_at b at k)) high rest
+  many : entry_count es ≡ suc (entry_count rest)
+  begins : low ≤ first_at b at k
+  ends : first_at b at k ≤ last_at b at k
 
-module _ (b : List ℕ) (at : ℕ) where
-  -- the first of some entries begins where it may, and does not end before that
-  begins : (k low high : ℕ) (es : Entries) → SayEntries b at k es → AreInOrder low high es → 0 < entry_count es → (low ≤ first_at b at k) × (first_at b at k ≤ last_at b at k)
+module _ (b : List ℕ) (at high : ℕ) where
+  first_in_order : (k low : ℕ) (es : Entries) → SayEntries b at k es → AreInOrder low high es → 0 < entry_count es → FirstInOrder b at k low high es
   unfolding AreInOrder
-  begins k low high no_entry s o lt = absurd (omega arith)
-  begins k low high (block first last place packed es) s o lt = let e = s.0 in let o0 = o.0 in let o1 = o.1 in (omega arith, omega arith)
-  begins k low high (lower first last nodes es) s o lt = let e = s.0 in let o0 = o.0 in let o1 = o.1 in (omega arith, omega arith)
+  first_in_order k low no_entry s o lt = absurd (omega arith)
+  first_in_order k low (block first last place packed es) s o lt =
+      let z : suc k ≡ k + 1 = omega arith in
+      record { rest = es; say = rw z at s.1; order = rw s.0.last_is o.3; many = refl; begins = rw s.0.first_is o.0; ends = rw (s.0.first_is, s.0.last_is) o.1 }
+  first_in_order k low (lower first last nodes es) s o lt =
+      let z : suc k ≡ k + 1 = omega arith in
+      record { rest = es; say = rw z at s.1; order = rw s.0.last_is o.4; many = refl; begins = rw s.0.first_is o.0; ends = rw (s.0.first_is, s.0.last_is) o.1 }
 
-  here : (k first last : ℕ) → first_at b at k ≡ first → last_at b at k ≡ last → first ≤ last → (suc last ≤ first_at b at (suc k)) × (first_at b at (suc k) ≤ last_at b at (suc k)) → Before b at (k + 0) (k + 1)
-  here k first last f l le n =
-      let z : k + 0 ≡ k = omega arith in
-      let y : k + 1 ≡ suc k = omega arith in
-      let n0 = n.0 in
-      let n1 = n.1 in
-      rw (z, y) (omega arith, omega arith)
+  -- an entry begins and ends at the next one's First and Last or before them
+  ascend : (k j i low : ℕ) (es : Entries) → k + j ≡ i → SayEntries b at k es → AreInOrder low high es → j + 1 < entry_count es → (first_at b at i ≤ first_at b at (i + 1)) × (last_at b at i ≤ last_at b at (i + 1))
+  ascend k zero i low es e s o lt =
+      let f = first_in_order k low es s o (omega arith) in
+      let n = first_in_order (k + 1) (suc (last_at b at k)) f.rest f.say f.order (omega (arith, f.many)) in
+      let z : i ≡ k = omega arith in
+      rw z (omega (arith, f.ends, n.begins), omega (arith, n.begins, n.ends))
+  ascend k (suc j) i low es e s o lt = let f = first_in_order k low es s o (omega arith) in ascend (k + 1) j i (suc (last_at b at k)) f.rest (omega arith) f.say f.order (omega (arith, f.many))
 
-  there : (k j : ℕ) → Before b at (suc k + j) (suc k + (j + 1)) → Before b at (k + suc j) (k + (suc j + 1))
-  there k j h =
-      let z : k + suc j ≡ suc k + j = omega arith in
-      let y : k + (suc j + 1) ≡ suc k + (j + 1) = omega arith in
-      rw (z, y) h
-
-  ascend : (k low high j : ℕ) (es : Entries) → SayEntries b at k es → AreInOrder low high es → j + 1 < entry_count es → Before b at (k + j) (k + (j + 1))
-  unfolding AreInOrder
-  ascend k low high j no_entry s o lt = absurd (omega arith)
-  ascend k low high zero (block first last place packed es) s o lt = here k first last s.0.first_is s.0.last_is o.1 (begins (suc k) (suc last) high es s.1 o.3 (omega arith))
-  ascend k low high (suc j) (block first last place packed es) s o lt = there k j (ascend (suc k) (suc last) high j es s.1 o.3 (omega arith))
-  ascend k low high zero (lower first last nodes es) s o lt = here k first last s.0.first_is s.0.last_is o.1 (begins (suc k) (suc last) high es s.1 o.4 (omega arith))
-  ascend k low high (suc j) (lower first last nodes es) s o lt = there k j (ascend (suc k) (suc last) high j es s.1 o.4 (omega arith))
-
-  orderly : (low high : ℕ) (es : Entries) → used_count b at ≡ entry_count es → SayEntries b at 0 es → AreInOrder low high es → NodeFits b at → IsOrderly b at
-  orderly low high es u s o f =
-      let all : (i : ℕ) → i + 1 < used_count b at → Before b at i (i + 1) = λ i lt. (let z : 0 + i ≡ i = omega arith in let y : 0 + (i + 1) ≡ i + 1 = omega arith in rw (z, y) at (ascend 0 low high i es s o (omega arith))) in
-      record { fits = f; firsts = λ i lt. (all i lt).0; lasts = λ i lt. (all i lt).1 }
+  orderly : (low : ℕ) (es : Entries) → used_count b at ≡ entry_count es → SayEntries b at 0 es → AreInOrder low high es → NodeFits b at → IsOrderly b at
+  orderly low es u s o f = record { fits = f; firsts = λ i lt. (ascend 0 i i low es (omega arith) s o (omega arith)).0; lasts = λ i lt. (ascend 0 i i low es (omega arith) s o (omega arith)).1 }
 
 module _ (b : List ℕ) where
   mutual
@@ -53,7 +46,7 @@ module _ (b : List ℕ) where
     all_orderly zero low high (node place room es more) h o f = absurd h
     all_orderly (suc levels) low high (node place room es more) h o f =
         let fs = Each-split (NodeFits b) (lower_nodes es) (nodes_of more) f.1 in
-        (orderly b place low high es h.0.used_is h.0.say_entries o.0 f.0, Each-append (IsOrderly b) (lower_nodes es) (nodes_of more) (all_below levels low high es h.1 o.0 fs.0) (all_orderly (suc levels) (past_entries low es) high more h.2 o.1 fs.1))
+        (orderly b place high low es h.0.used_is h.0.say_entries o.0 f.0, Each-append (IsOrderly b) (lower_nodes es) (nodes_of more) (all_below levels low high es h.1 o.0 fs.0) (all_orderly (suc levels) (past_entries low es) high more h.2 o.1 fs.1))
 
     all_below : (levels low high : ℕ) (es : Entries) → Names b (tiles b) levels es → AreInOrder low high es → Each (NodeFits b) (lower_nodes es) → Each (IsOrderly b) (lower_nodes es)
     all_below levels low high no_entry n o f = tt

@@ -1,244 +1,100 @@
 -- The walk over a whole chain, with what is below it.
-use Rattle.std.proofs.Common.{◌≡◌, ◌≢◌, ℕ, suc, ◌+◌, ◌-◌, ◌<◌, ◌≤◌, List, length, refl, sym, ap, subst, ◌∙◌, arith}
-use Rattle.cdf_index.proofs.Common.{length-append, next_of, type_at, Nodes, no_node, node, Entries, no_entry, block, lower, leaf, entry_count, link_to, room_at, used_count, offset_at, SaysEntry, IsNode, vxr_type, In, tiles, linkable-type, tile_lies, index_at, HasIndex, Stands, SomeNode, SomeEntries}
-use Rattle.cdf_format.specs.Index.{nodes_of, lower_nodes, leaves_of, entry_leaves}
-use Rattle.cdf_format.specs.IndexOf.{HasNodes, Names}
-use Rattle.cdf_index.specs.Whole.{through, through_entries, EntriesStand, SomeChain}
+use Rattle.std.proofs.Common.{◌≡◌, ◌≢◌, ℕ, ◌+◌, ◌-◌, ◌<◌, ◌≤◌, List, [], ◌∷◌, ◌++◌, append_assoc, append-nil, length, refl, sym, ap, subst, ◌∙◌, arith}
+use Rattle.cdf_index.proofs.Common.{next_of, type_at, Nodes, no_node, node, link_to, room_at, used_count, first_at, last_at, offset_at, index_at, HasIndex, Stands, SomeNode, AreTiles, tiles, Grew, Met, met_block, met_node, SomeChain}
+use Rattle.cdf_format.specs.Index.{nodes_of}
+use Rattle.cdf_index.specs.Whole.{met_in, met_below}
 use Rattle.cdf_index.proofs.Ascending.{index_stands}
-use Rattle.cdf_index.proofs.EntriesLeft.{EntriesLeft, past_first, past_lower_one, node_parts}
-use Rattle.cdf_index.proofs.Looking.{named_at, block_type, no_node_type, node_linkable, node_there, none_there, a_level, one_node}
+use Rattle.cdf_index.proofs.FirstEntry.{AtEntry, FirstEntry, enter, entry_here, few_below, none_here, opened, pass, node_there, Opened}
+use Rattle.cdf_index.proofs.Looking.{node_of, none_there}
 use Rattle.cdf_index.proofs.Searching.{few_nodes}
-use Rattle.cdf_index.proofs.Saying.{no_entries}
 
--- ---- nodes and entries
-
-one_less : (levels : ℕ) → 1 ≤ levels → suc (levels - 1) ≡ levels
-one_less levels h = omega arith
-
-none_of_none : (n : ℕ) → n ≤ 0 → n ≡ 0
-none_of_none n h = omega arith
-
-no_link : (ns : Nodes) → length (nodes_of ns) ≡ 0 → link_to ns ≡ 0
+no_link : (ns : Nodes) → length (nodes_of ns) ≤ 0 → link_to ns ≡ 0
+unfolding nodes_of
 no_link no_node e = refl
-no_link (node place room entries more) e = absurd (omega (arith, one_node (node place room entries more) tt))
+no_link (node place room entries more) e = absurd (omega arith)
 
-count_left : (i n k : ℕ) → i + n ≡ k → i < k → 1 ≤ n
-count_left i n k e h = omega arith
+-- ---- what is left of a chain at a link, or at the entry with number i of a node
 
-none_left : (i n k : ℕ) → i + n ≡ k → k ≤ i → n ≡ 0
-none_left i n k e h = omega arith
-
--- the lower chain of an entry that names a node
-record LowerThere (b : List ℕ) (levels place : ℕ) (es : Entries) : Type 0 where
-  nodes : Nodes
-  stands : Stands b levels nodes
-  link_is : place ≡ link_to nodes
-  few : length (nodes_of nodes) ≤ length (lower_nodes es)
-
-lower_there : (b : List ℕ) (levels at i place type : ℕ) (es : Entries) → EntriesLeft b levels at i es → 1 ≤ entry_count es → place ≡ offset_at b at i → type ≡ type_at b place → type ≡ 6 → LowerThere b levels place es
-unfolding lower_nodes entry_leaves
-lower_there b levels at i place type no_entry r c q qt is = absurd (omega arith)
-lower_there b levels at i place type (block fi la p packed es) r c q qt is =
-    let e : place ≡ p = q ∙ r.say.0.offset_is in
-    absurd (no_node_type (type_at b p) (block_type b (leaf fi la p packed) r.blocks.0) (ap (type_at b) (sym e) ∙ sym qt ∙ is))
-lower_there b levels at i place type (lower fi la nodes es) r c q qt is =
-    record { nodes = nodes; stands = (past_lower_one r).0; link_is = q ∙ r.say.0.offset_is; few = omega (arith, length-append (nodes_of nodes) (lower_nodes es)) }
-
--- ---- a value on its way
-
-module _ {S : Type 0} (at_node : S → ℕ → ℕ → ℕ → S) (at_block : S → ℕ → ℕ → ℕ → S) where
-  -- what is left of a chain at a link
-  pub record ChainLeft (b : List ℕ) (levels at turn : ℕ) (was s : S) (ns : Nodes) : Type 0 where
+module _ {G : Type 0} (has : G → List Met → Type 0) where
+  pub record ChainLeft (b : List ℕ) (levels at turn : ℕ) (was now : G) (ns : Nodes) : Type 0 where
     pub left : Nodes
     pub stands : Stands b levels left
     pub link_is : at ≡ link_to left
-    pub same : through at_node at_block s left ≡ through at_node at_block was ns
+    pub all : (end : G) → Grew has now end (met_in left) → Grew has was end (met_in ns)
     pub fewer : length (nodes_of left) + turn ≤ length (nodes_of ns)
 
-  pub record Walked (b : List ℕ) (levels link at turn : ℕ) (was s : S) : Type 0 where
-    pub left : (ns : Nodes) → Stands b levels ns → link ≡ link_to ns → ChainLeft b levels at turn was s ns
+  pub record NodeLeft (b : List ℕ) (levels at i turn : ℕ) (was now : G) (ns : Nodes) : Type 0 where
+    pub nodes : Nodes
+    pub node : Opened b levels at nodes
+    pub low : Nodes
+    pub entry : AtEntry node turn i ns low
+    pub all : (end : G) → Grew has now end (met_below entry.rest ++ met_in node.more) → Grew has was end (met_in ns)
 
-  -- its entries
-  record NodeLeft (b : List ℕ) (levels at : ℕ) (s : S) (ns : Nodes) : Type 0 where
-    entries : Entries
-    more : Nodes
-    stand : EntriesStand b at levels entries
-    more_stands : Stands b (suc levels) more
-    next_is : next_of b at ≡ link_to more
-    same : through at_node at_block s ns ≡ through at_node at_block (through_entries at_node at_block (at_node s at (room_at b at) (used_count b at)) entries) more
-    length_is : length (nodes_of ns) ≡ suc (length (lower_nodes entries) + length (nodes_of more))
+  -- of whichever nodes begin at a link
+  pub record Walked (b : List ℕ) (levels link at turn : ℕ) (was now : G) : Type 0 where
+    pub left : (ns : Nodes) → Stands b levels ns → link ≡ link_to ns → ChainLeft b levels at turn was now ns
 
-  pub record BelowLeft (b : List ℕ) (at levels i : ℕ) (was s : S) (entries : Entries) : Type 0 where
-    pub left : Entries
-    pub stand : EntriesLeft b levels at i left
-    pub many : i + entry_count left ≡ entry_count entries
-    pub same : through_entries at_node at_block s left ≡ through_entries at_node at_block was entries
-    pub fewer : length (lower_nodes left) ≤ length (lower_nodes entries)
+  abbrev pub Gone : List ℕ → ℕ → ℕ → ℕ → ℕ → ℕ → G → G → Type 0
+  Gone b levels link at i turn was now = (ns : Nodes) → Stands b levels ns → link ≡ link_to ns → NodeLeft b levels at i turn was now ns
 
-  pub record Gone (b : List ℕ) (at levels i : ℕ) (was s : S) : Type 0 where
-    pub left : (entries : Entries) → EntriesStand b at levels entries → BelowLeft b at levels i was s entries
+module _ {G : Type 0} {has : G → List Met → Type 0} where
+  grew_none : (g : G) → Grew has g g []
+  grew_none g = record { also = λ met h. rw append-nil h }
 
-  -- ---- of an image that is the same
+  grew_both : {a b c : G} {xs ys : List Met} → Grew has a b xs → Grew has b c ys → Grew has a c (xs ++ ys)
+  grew_both {xs = xs} {ys = ys} p q = record { also = λ met h. rw append_assoc at (q.also (met ++ xs) (p.also met h)) }
 
-  pub entries_told : (b now : List ℕ) (at levels : ℕ) (was s : S) → now ≡ b → ((es : Entries) → EntriesStand now at levels es → s ≡ through_entries at_node at_block was es) → (es : Entries) → EntriesStand b at levels es → s ≡ through_entries at_node at_block was es
-  entries_told b now at levels was s e told = subst (λ (x : List ℕ). (es : Entries) → EntriesStand x at levels es → s ≡ through_entries at_node at_block was es) e told
+  module _ {b : List ℕ} {levels at turn : ℕ} {was now : G} {ns : Nodes} (l : ChainLeft has b levels at turn was now ns) where
+    pub walk_end : AreTiles b 8 (length b) (tiles b) → at ≡ 0 → Grew has was now (met_in ns)
+    unfolding met_in
+    walk_end tiled z = l.all now (rw (none_there b levels l.left tiled l.stands.has (sym l.link_is ∙ z)) (grew_none now))
 
-  pub chain_told : (b now : List ℕ) (levels link : ℕ) (was s : S) → now ≡ b → ((ns : Nodes) → Stands now levels ns → link ≡ link_to ns → s ≡ through at_node at_block was ns) → (ns : Nodes) → Stands b levels ns → link ≡ link_to ns → s ≡ through at_node at_block was ns
-  chain_told b now levels link was s e told = subst (λ (x : List ℕ). (ns : Nodes) → Stands x levels ns → link ≡ link_to ns → s ≡ through at_node at_block was ns) e told
+    pub walk_over : length (nodes_of ns) ≤ turn → at ≡ 0
+    walk_over le = l.link_is ∙ no_link l.left (omega (arith, l.fewer))
 
-  nothing_through : (ns : Nodes) (s : S) → ns ≡ no_node → through at_node at_block s ns ≡ s
-  unfolding through
-  nothing_through ns s e = rw e refl
-
-  nothing_below : (es : Entries) (s : S) → es ≡ no_entry → through_entries at_node at_block s es ≡ s
-  unfolding through_entries
-  nothing_below es s e = rw e refl
-
-module _ {S : Type 0} {at_node : S → ℕ → ℕ → ℕ → S} {at_block : S → ℕ → ℕ → ℕ → S} where
-  pub walk_end : {b : List ℕ} {levels link at turn : ℕ} {was s : S} → SomeChain b levels link → Walked at_node at_block b levels link at turn was s → at ≡ 0 → (ns : Nodes) → Stands b levels ns → link ≡ link_to ns → s ≡ through at_node at_block was ns
-  walk_end {b = b} {levels = levels} {s = s} some w z ns st e =
-      let l = w.left ns st e in
-      sym (nothing_through at_node at_block l.left s (none_there b levels l.left some.tiled l.stands.has (sym l.link_is ∙ z))) ∙ l.same
-
-  pub walk_over : {b : List ℕ} {levels link at turn : ℕ} {was s : S} → SomeChain b levels link → Walked at_node at_block b levels link at turn was s → length b ≤ turn → at ≡ 0
-  walk_over some w le =
-      let l = w.left some.nodes some.stands some.link_is in
-      l.link_is ∙ no_link l.left (let f = l.fewer in let g = some.few in none_of_none (length (nodes_of l.left)) (omega arith))
-
-  -- a node of the chain
-  pub walk_node : {b : List ℕ} {levels link at turn : ℕ} {was s : S} → SomeChain b levels link → Walked at_node at_block b levels link at turn was s → at ≢ 0 → SomeNode b at × (1 ≤ levels)
-  walk_node {b = b} {levels = levels} {link = link} some w ne =
-      let l = w.left some.nodes some.stands some.link_is in
-      let is = node_there l.left (λ z. ne (l.link_is ∙ z)) in
-      (record { levels = levels; nodes = l.left; tiled = some.tiled; stands = l.stands; is_node = is; link = l.link_is }, a_level b levels l.left is l.stands.has)
-
-  node_here : (b : List ℕ) (levels : ℕ) (s : S) (ns : Nodes) → Stands b (suc levels) ns → IsNode ns → NodeLeft at_node at_block b levels (link_to ns) s ns
-  unfolding HasNodes nodes_of leaves_of through
-  node_here b levels s no_node st is = absurd is
-  node_here b levels s (node place room entries more) st is =
-      let p = node_parts st in
-      record {
-        entries = entries;
-        more = more;
-        stand = record { used_is = p.says.used_is; say = p.left.say; names = p.left.names; orderly = p.left.orderly; blocks = p.left.blocks };
-        more_stands = p.more_stands;
-        next_is = p.says.next_is;
-        same =
-            ap (λ (x : ℕ). through at_node at_block (through_entries at_node at_block (at_node s place x (entry_count entries)) entries) more) (sym p.says.room_is)
-            ∙ ap (λ (x : ℕ). through at_node at_block (through_entries at_node at_block (at_node s place (room_at b place) x) entries) more) (sym p.says.used_is);
-        length_is = ap suc (length-append (lower_nodes entries) (nodes_of more));
-      }
-
-  node_left : (b : List ℕ) (levels at : ℕ) (s : S) (ns : Nodes) → Stands b (suc levels) ns → IsNode ns → at ≡ link_to ns → NodeLeft at_node at_block b levels at s ns
-  node_left b levels at s ns st is e = subst (λ (x : ℕ). NodeLeft at_node at_block b levels x s ns) (sym e) (node_here b levels s ns st is)
-
-  at_one : (b : List ℕ) (levels link at turn : ℕ) (was s : S) (ns : Nodes) → ChainLeft at_node at_block b levels at turn was s ns → at ≢ 0 → (l : ChainLeft at_node at_block b levels at turn was s ns) × NodeLeft at_node at_block b (levels - 1) at s l.left × (1 ≤ levels)
-  at_one b levels link at turn was s ns l ne =
-      let is = node_there l.left (λ z. ne (l.link_is ∙ z)) in
-      let lv = a_level b levels l.left is l.stands.has in
-      (l, node_left b (levels - 1) at s l.left (subst (λ (x : ℕ). Stands b x l.left) (sym (one_less levels lv)) l.stands) is l.link_is, lv)
-
-  pub walk_entries : {b : List ℕ} {levels link at turn : ℕ} {was s : S} → SomeChain b levels link → Walked at_node at_block b levels link at turn was s → at ≢ 0 → SomeEntries b at (levels - 1)
-  walk_entries {b = b} {levels = levels} {link = link} {at = at} {turn = turn} {was = was} {s = s} some w ne =
-      let q = at_one b levels link at turn was s some.nodes (w.left some.nodes some.stands some.link_is) ne in
-      let f = q.0.fewer in
-      let g = some.few in
-      let n = q.1.length_is in
-      record { entries = q.1.entries; tiled = some.tiled; stand = q.1.stand; few = omega arith }
-
-  pub walk_on : {b : List ℕ} {levels link at turn next : ℕ} {was s now : S} → Walked at_node at_block b levels link at turn was s → at ≢ 0 → next ≡ next_of b at
-      → ((entries : Entries) → EntriesStand b at (levels - 1) entries → now ≡ through_entries at_node at_block (at_node s at (room_at b at) (used_count b at)) entries) → Walked at_node at_block b levels link next (turn + 1) was now
-  walk_on {b = b} {levels = levels} {link = link} {at = at} {turn = turn} {was = was} {s = s} w ne nx told = record {
-    left = λ ns st e.
-        (let q = at_one b levels link at turn was s ns (w.left ns st e) ne in
-        let n = q.1 in
-        let f = q.0.fewer in
-        let li = n.length_is in
+    pub walk_in : {next : G} → at ≢ 0 → Grew has now next (met_node at (room_at b at) (used_count b at) ∷ []) → NodeLeft has b levels at 0 turn was next ns
+    unfolding met_in nodes_of
+    walk_in ne g =
+        let o = opened b levels at l.left l.stands (node_there l.left (λ z. ne (l.link_is ∙ z))) l.link_is in
         record {
-          left = n.more;
-          stands = subst (λ (x : ℕ). Stands b x n.more) (one_less levels q.2) n.more_stands;
-          link_is = nx ∙ n.next_is;
-          same = ap (λ (x : S). through at_node at_block x n.more) (told n.entries n.stand) ∙ sym n.same ∙ q.0.same;
-          fewer = omega arith;
-        });
-  }
+          nodes = l.left;
+          node = o;
+          low = no_node;
+          entry = enter o no_node (omega (arith, l.fewer));
+          all = λ end h. l.all end (rw o.is (rw (o.parts.says.used_is, o.parts.says.room_is) at (grew_both g h)));
+        }
 
-  pub below_end : {b : List ℕ} {at levels i : ℕ} {was s : S} → Gone at_node at_block b at levels i was s → used_count b at ≤ i → (entries : Entries) → EntriesStand b at levels entries → s ≡ through_entries at_node at_block was entries
-  below_end {i = i} {s = s} g le es st =
-      let l = g.left es st in
-      let m = l.many in
-      let u = st.used_is in
-      sym (nothing_below at_node at_block l.left s (no_entries l.left (none_left i (entry_count l.left) (entry_count es) m (omega arith)))) ∙ l.same
+  module _ {b : List ℕ} {levels at i turn : ℕ} {was now : G} {ns : Nodes} (l : NodeLeft has b levels at i turn was now ns) where
+    pub walk_out : {next : ℕ} → used_count b at ≤ i → next ≡ next_of b at → ChainLeft has b levels next (turn + 1) was now ns
+    unfolding met_below
+    walk_out le nx =
+        let none = none_here l.node l.entry le in
+        record { left = l.node.more; stands = l.node.more_stands; link_is = nx ∙ l.node.parts.says.next_is; all = λ end h. l.all end (rw none h); fewer = omega (arith, l.entry.fewer) }
 
-  -- the block or the node that an entry names lies in the image
-  pub named_lies : {b : List ℕ} {at levels i place : ℕ} {was s : S} → SomeEntries b at levels → Gone at_node at_block b at levels i was s → i < used_count b at → place ≡ offset_at b at i → place + 12 ≤ length b
-  named_lies {b = b} {at = at} {levels = levels} {i = i} {place = place} some g lt q =
-      let l = g.left some.entries some.stand in
-      let z : i + 0 ≡ i = omega arith in
-      let there = rw z at (named_at b levels at i 0 l.left l.stand (count_left i (entry_count l.left) (entry_count some.entries) l.many (subst (λ (x : ℕ). i < x) some.stand.used_is lt))) in
-      let lies = tile_lies b 8 (length b) (tiles b) place some.tiled (subst (λ (x : ℕ). In x (tiles b)) (sym q) there) in
-      omega (arith, lies.high, lies.long)
+    past_entry : {next : G} → (f : FirstEntry b l.node.down at i l.entry.rest) → Grew has now next f.met → NodeLeft has b levels at (i + 1) turn was next ns
+    past_entry f g = record { nodes = l.nodes; node = l.node; low = f.low; entry = pass l.node l.entry (i + 1) refl f; all = λ end h. l.all end (rw f.mets (rw append_assoc (grew_both g h))) }
 
-  pub lower_chain : {b : List ℕ} {at levels i place type : ℕ} {was s : S} → SomeEntries b at levels → Gone at_node at_block b at levels i was s → i < used_count b at → place ≡ offset_at b at i → type ≡ type_at b place → type ≡ 6 → SomeChain b levels place
-  lower_chain {b = b} {at = at} {levels = levels} {i = i} {place = place} {type = type} some g lt q qt is =
-      let l = g.left some.entries some.stand in
-      let t = lower_there b levels at i place type l.left l.stand (count_left i (entry_count l.left) (entry_count some.entries) l.many (subst (λ (x : ℕ). i < x) some.stand.used_is lt)) q qt is in
-      let f1 = t.few in
-      let f2 = l.fewer in
-      let f3 = some.few in
-      record { nodes = t.nodes; tiled = some.tiled; stands = t.stands; link_is = t.link_is; few = omega arith }
+    -- at an entry that names a place
+    module _ {place kind : ℕ} (lt : i < used_count b at) (p : place ≡ offset_at b at i) (k : kind ≡ type_at b place) where
+      first : FirstEntry b l.node.down at i l.entry.rest
+      first = entry_here l.node l.entry lt
 
-  -- past a block
-  block_gone : (b : List ℕ) (at levels i first last place type : ℕ) (was s : S) (es left : Entries) → EntriesLeft b levels at i left → i + entry_count left ≡ entry_count es → through_entries at_node at_block s left ≡ through_entries at_node at_block was es
-      → length (lower_nodes left) ≤ length (lower_nodes es) → i < entry_count es → SaysEntry b at i first last place → type ≡ type_at b place → type ≢ 6 → BelowLeft at_node at_block b at levels (i + 1) was (at_block s first last place) es
-  unfolding Names entry_leaves lower_nodes through_entries
-  block_gone b at levels i first last place type was s es no_entry r m same few lt q qt is = absurd (omega arith)
-  block_gone b at levels i first last place type was s es (block fi la p packed left) r m same few lt q qt is =
-      let z : suc i ≡ i + 1 = omega arith in
-      let ef : first ≡ fi = sym q.first_is ∙ r.say.0.first_is in
-      let el : last ≡ la = sym q.last_is ∙ r.say.0.last_is in
-      let ep : place ≡ p = sym q.offset_is ∙ r.say.0.offset_is in
-      let here : through_entries at_node at_block (at_block s first last place) left ≡ through_entries at_node at_block (at_block s fi la p) left = λ j. through_entries at_node at_block (at_block s (ef j) (el j) (ep j)) left in
-      record { left = left; stand = rw z at (past_first r); many = omega arith; same = here ∙ same; fewer = few }
-  block_gone b at levels i first last place type was s es (lower fi la nodes left) r m same few lt q qt is =
-      let ep : place ≡ link_to nodes = sym q.offset_is ∙ r.say.0.offset_is in
-      absurd (is (qt ∙ ap (type_at b) ep ∙ linkable-type b (tiles b) vxr_type (link_to nodes) (node_linkable b levels nodes r.names.0 r.names.1)))
+      pub past_block : {next : G} → kind ≢ 6 → Grew has now next (met_block (first_at b at i) (last_at b at i) place ∷ []) → NodeLeft has b levels at (i + 1) turn was next ns
+      past_block ne g = past_entry first (rw (first.of_block (λ t. ne (k ∙ ap (type_at b) p ∙ t))).0 (rw p at g))
 
-  pub past_block : {b : List ℕ} {at levels i first last place type : ℕ} {was s : S} → Gone at_node at_block b at levels i was s → i < used_count b at → SaysEntry b at i first last place → type ≡ type_at b place → type ≢ 6 → Gone at_node at_block b at levels (i + 1) was (at_block s first last place)
-  past_block {b = b} {at = at} {levels = levels} {i = i} {first = first} {last = last} {place = place} {type = type} {was = was} {s = s} g lt q qt is = record {
-    left = λ es st. (let l = g.left es st in block_gone b at levels i first last place type was s es l.left l.stand l.many l.same l.fewer (subst (λ (x : ℕ). i < x) st.used_is lt) q qt is);
-  }
+      module _ (is : kind ≡ 6) where
+        lower_here : (place ≡ link_to first.low) × (first.met ≡ met_in first.low) × Stands b (levels - 1) first.low
+        lower_here = let m = first.of_lower (ap (type_at b) (sym p) ∙ sym k ∙ is) in (p ∙ m.0, m.1, subst (λ (x : ℕ). Stands b x first.low) (omega (arith, l.node.deep)) first.stands)
 
-  -- past a lower chain
-  lower_gone : (b : List ℕ) (at levels i place type : ℕ) (was s now : S) (es left : Entries) → EntriesLeft b levels at i left → i + entry_count left ≡ entry_count es → through_entries at_node at_block s left ≡ through_entries at_node at_block was es → length (lower_nodes left) ≤ length (lower_nodes es)
-      → i < entry_count es → place ≡ offset_at b at i → type ≡ type_at b place → type ≡ 6 → ((ns : Nodes) → Stands b levels ns → place ≡ link_to ns → now ≡ through at_node at_block s ns) → BelowLeft at_node at_block b at levels (i + 1) was now es
-  unfolding Names entry_leaves lower_nodes through_entries
-  lower_gone b at levels i place type was s now es no_entry r m same few lt q qt is told = absurd (omega arith)
-  lower_gone b at levels i place type was s now es (block fi la p packed left) r m same few lt q qt is told =
-      let e : place ≡ p = q ∙ r.say.0.offset_is in
-      absurd (no_node_type (type_at b p) (block_type b (leaf fi la p packed) r.blocks.0) (ap (type_at b) (sym e) ∙ sym qt ∙ is))
-  lower_gone b at levels i place type was s now es (lower fi la nodes left) r m same few lt q qt is told =
-      let z : suc i ≡ i + 1 = omega arith in
-      let p = past_lower_one r in
-      let t = told nodes p.0 (q ∙ r.say.0.offset_is) in
-      record {
-        left = left;
-        stand = rw z at p.1;
-        many = omega arith;
-        same = ap (λ (x : S). through_entries at_node at_block x left) t ∙ same;
-        fewer = omega (arith, length-append (nodes_of nodes) (lower_nodes left));
-      }
+        pub past_lower : {next : G} → ((low : Nodes) → Stands b (levels - 1) low → place ≡ link_to low → Grew has now next (met_in low)) → NodeLeft has b levels at (i + 1) turn was next ns
+        past_lower told = past_entry first (rw lower_here.1 (told first.low lower_here.2 lower_here.0))
 
-  pub past_lower : {b : List ℕ} {at levels i place type : ℕ} {was s now : S} → Gone at_node at_block b at levels i was s → i < used_count b at → place ≡ offset_at b at i → type ≡ type_at b place → type ≡ 6 → ((ns : Nodes) → Stands b levels ns → place ≡ link_to ns → now ≡ through at_node at_block s ns) → Gone at_node at_block b at levels (i + 1) was now
-  past_lower {b = b} {at = at} {levels = levels} {i = i} {place = place} {type = type} {was = was} {s = s} {now = now} g lt q qt is told = record {
-    left = λ es st. (let l = g.left es st in lower_gone b at levels i place type was s now es l.left l.stand l.many l.same l.fewer (subst (λ (x : ℕ). i < x) st.used_is lt) q qt is told);
-  }
+        pub lower_chain : AreTiles b 8 (length b) (tiles b) → length (nodes_of ns) ≤ length b → SomeChain b (levels - 1) place
+        lower_chain tiled few = record { nodes = first.low; tiled = tiled; stands = lower_here.2; link_is = lower_here.0; few = omega (arith, few_below l.node l.entry first, l.entry.fewer) }
 
-pub entries_now : (b now : List ℕ) (at levels : ℕ) → now ≡ b → SomeEntries b at levels → SomeEntries now at levels
-entries_now b now at levels e s = subst (λ (x : List ℕ). SomeEntries x at levels) (sym e) s
-
-pub chain_now : (b now : List ℕ) (levels link : ℕ) → now ≡ b → SomeChain b levels link → SomeChain now levels link
-chain_now b now levels link e s = subst (λ (x : List ℕ). SomeChain x levels link) (sym e) s
+-- a node of the chain
+pub walk_node : {G : Type 0} {has : G → List Met → Type 0} {b : List ℕ} {levels link at turn : ℕ} {was now : G} → SomeChain b levels link → Walked has b levels link at turn was now → at ≢ 0 → SomeNode b at
+walk_node {levels = levels} some w ne = let l = w.left some.nodes some.stands some.link_is in node_of some.tiled (record { levels = levels; nodes = l.left; stands = l.stands; link_is = l.link_is }) ne
 
 -- ---- from the head of an index
 
@@ -247,3 +103,7 @@ whole_chain b head has = record { nodes = index_at b head; tiled = has.tiled; st
   where
     few : length (nodes_of (index_at b head)) ≤ length b
     few = let over = few_nodes has in omega (arith, over)
+
+-- what was begun with nothing has all of it
+pub whole_met : {G : Type 0} {has : G → List Met → Type 0} {b : List ℕ} {head : ℕ} {was now : G} → HasIndex b head → ((chain : Nodes) → Stands b 8 chain → head ≡ link_to chain → Grew has was now (met_in chain)) → has was [] → has now (met_in (index_at b head))
+whole_met {b = b} {head = head} index told none = (told (index_at b head) (index_stands b head index) index.index.link_is).also [] none

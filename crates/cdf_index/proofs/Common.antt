@@ -33,16 +33,15 @@ pub use Rattle.cdf_format.specs.Shape.{Each, HasVariable, Shape, VariableShape, 
 pub use Rattle.cdf_format.specs.Sound.{IsSound, LeafFits, NodeFits, VariableFits}
 pub use Rattle.cdf_format.specs.Tiles.{AreTiles, Distinct, In, tiles}
 pub use Rattle.cdf_format.specs.VariableFields.{number_before, record_bytes}
-pub use Rattle.cdf_index.specs.Ahead.{Begun, IsWalk, NamesIn, chain_at, chain_before}
+pub use Rattle.cdf_index.specs.Ahead.{Begun, Climbs, IsWalk, NamesIn, chain_at, chain_before, first_past}
 pub use Rattle.cdf_index.specs.Descent.{IsTree, SeesNode, SomeTree, SpotIs, spot_at}
-pub use Rattle.cdf_index.specs.Finding.{Ascends, At, HasIndex, IsBlock, IsOrderly, NodeInside, Onward, SomeNode, Stands, in_column, index_at}
-pub use Rattle.cdf_index.specs.Next.{least_from}
-pub use Rattle.cdf_index.specs.Order.{leaf_of, passed, past_entries}
+pub use Rattle.cdf_index.specs.Finding.{Ascends, At, ChainFrom, HasIndex, IsBlock, IsOrderly, NodeInside, Scanned, SomeNode, Stands, in_column, index_at}
+pub use Rattle.cdf_index.specs.Order.{leaf_of, past_entries}
 pub use Rattle.cdf_index.specs.Reading.{HoldsRecords, record_in}
 pub use Rattle.cdf_index.specs.Sight.{IsHead, seen}
-pub use Rattle.cdf_index.specs.Sizes.{block_counted, node_counted, size_of}
+pub use Rattle.cdf_index.specs.Sizes.{size_of}
 pub use Rattle.cdf_index.specs.Way.{down_at, placed, spot, way, widened, wider}
-pub use Rattle.cdf_index.specs.Whole.{SomeEntries, places_in, through, through_entries, with_block, with_node}
+pub use Rattle.cdf_index.specs.Whole.{Grew, Met, SomeChain, entry_met, met_block, met_node, place_met, places_in}
 pub use Rattle.cdf_index.specs.Writing.{Cleared, EntriesRead, EntrySet, HasRoomFor, Inserted, NodeWritten, Shortened, Split, StillSays, Widened, entry_in}
 pub use Rattle.cdf_index.specs.declared.descending.Spot.{Spot}
 pub use Rattle.cdf_index.specs.declared.descending.Step.{Step}

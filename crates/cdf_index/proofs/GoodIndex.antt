@@ -1,14 +1,15 @@
 -- The index of a variable of a good image is one that can be searched.
 use Rattle.std.proofs.Common.{arith, ◌≡◌, ℕ, ℤ, pos, negsuc, zero, suc, List, [], ◌∷◌, ◌++◌, length, refl, sym, ap, subst, ◌∙◌}
-use Rattle.cdf_index.proofs.Common.{flat_map, record_number_limit, with_sign, number, IsGoodImage, Nodes, no_node, node, Entries, no_entry, block, lower, Leaf, nodes_of, leaves_of, end_of, is_block, leaf_rows, Hold, VariableShape, Shape, variables, Each, HasVariable, NodeFits, LeafFits, VariableFits, IsSound, AreTiles, tiles, number_before, Hold-split, Each-split, tiles_are, before_number, index_at, IsBlock, HasIndex, past_entries}
+use Rattle.cdf_index.proofs.Common.{flat_map, record_number_limit, with_sign, number, IsGoodImage, Nodes, no_node, node, Entries, no_entry, block, lower, nodes_of, leaves_of, end_of, is_block, leaf_rows, Hold, VariableShape, Shape, variables, Each, HasVariable, LeafFits, VariableFits, IsSound, AreTiles, tiles, number_before, Hold-split, Each-split, tiles_are, before_number, index_at, IsBlock, HasIndex, past_entries}
 use Rattle.cdf_format.specs.IndexOf.{IsIndex}
 use Rattle.cdf_format.specs.IndexRules.{nodes_rows, used_rows, index_rows, met_rows, phase8}
-use Rattle.cdf_format.specs.IndexWalk.{Met, met, lost, nodes_met, nodes_on, levels_on}
+use Rattle.cdf_format.specs.IndexWalk.{Met, met, nodes_met, nodes_on, levels_on}
 use Rattle.cdf_format.specs.Records.{vdr_vxr_head}
 use Rattle.cdf_format.specs.Rules.{Row}
 use Rattle.cdf_format.specs.Shape.{vdrs, index_of}
 use Rattle.cdf_format.proofs.IndexLemmas.{index_complete}
 use Rattle.cdf_edits.proofs.Edits.LeavesOrder.{between, before_is}
+use Rattle.cdf_edits.proofs.Edits.VariableFrame.{Each-map}
 use Rattle.cdf_index.specs.Order.{InOrder, AreInOrder}
 
 module _ (b records : List ℕ) where
@@ -39,24 +40,13 @@ rows_of : (f : ℕ → List Row) (before : List VariableShape) (v : VariableShap
 rows_of f [] v after h = (Hold-split (f v.vdr) (flat_map f (vdrs after)) h).0
 rows_of f (w ∷ before) v after h = rows_of f before v after (Hold-split (f w.vdr) (flat_map f (vdrs (before ++ v ∷ after))) h).1
 
-blocks_from : (b records : List ℕ) (vdr : ℕ) (leaves : List Leaf) → tiles b ≡ records → Each (LeafFits b records vdr) leaves → Each (IsBlock b) leaves
-blocks_from b records vdr [] t h = tt
-blocks_from b records vdr (leaf ∷ more) t h = (ap (λ (x : List ℕ). is_block b x leaf.place) t ∙ h.0.0, blocks_from b records vdr more t h.1)
-
 -- ---- the walk from a link alone
-
-never_lost : {A : Type 0} (place : ℕ) (seen : List ℕ) (a : A) → lost place ≡ met seen a → ⊥
-never_lost {A} place seen a e = subst is_lost e tt
-  where
-    is_lost : Met A → Type 0
-    is_lost (met seen a) = ⊥
-    is_lost (lost place) = Unit {0}
 
 -- the record that holds the link matters only where the walk leads wrong
 any_holder : (below : List ℕ → ℕ → ℕ → Met Nodes) (most : ℕ) (b ts seen : List ℕ) (holder other link : ℕ) (all : List ℕ) (nodes : Nodes) → nodes_on below most b ts seen holder link ≡ met all nodes → nodes_on below most b ts seen other link ≡ met all nodes
 unfolding nodes_on
-any_holder below zero b ts seen holder other link all nodes e = grind (arith, never_lost holder all nodes)
-any_holder below (suc most) b ts seen holder other link all nodes e = grind (arith, never_lost holder all nodes)
+any_holder below zero b ts seen holder other link all nodes e = grind arith
+any_holder below (suc most) b ts seen holder other link all nodes e = grind arith
 
 index_at_is : (b : List ℕ) (upto vdr : ℕ) (nodes : Nodes) → AreTiles b 8 upto (tiles b) → IsIndex b (tiles b) (number b vdr vdr_vxr_head) nodes → index_at b (number b vdr vdr_vxr_head) ≡ nodes
 unfolding levels_on
@@ -81,10 +71,10 @@ good_index b s before v after good sound all =
     let order = order_from b s.records 0 record_number_limit v.index (Hold-split (nodes_rows b s.records (negsuc 0) (pos record_number_limit) v.index) (flat_map (leaf_rows b s.records v.vdr) (leaves_of v.index)) (index_ruled b s before v after good all)).0 in (
       record {
         tiled = tiled;
-        index = subst (λ (x : Nodes). IsIndex b (tiles b) (number b v.vdr vdr_vxr_head) x) (sym same) index;
-        fits = subst (λ (x : Nodes). Each (NodeFits b) (nodes_of x)) (sym same) fits.1;
-        blocks = subst (λ (x : Nodes). Each (IsBlock b) (leaves_of x)) (sym same) (blocks_from b s.records v.vdr (leaves_of v.index) t fits.2);
-        order = subst (λ (x : Nodes). InOrder 0 record_number_limit x) (sym same) order;
+        index = rw same index;
+        fits = rw same fits.1;
+        blocks = rw same (Each-map (LeafFits b s.records v.vdr) (IsBlock b) (λ leaf h. ap (λ (x : List ℕ). is_block b x leaf.place) t ∙ h.0) (leaves_of v.index) fits.2);
+        order = rw same order;
       },
       same,
     )

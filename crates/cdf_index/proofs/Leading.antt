@@ -8,8 +8,7 @@ use Rattle.cdf_index.specs.Way.{way_below, spot_below}
 use Rattle.cdf_index.proofs.EntriesCut.{Parted, parted_rest}
 use Rattle.cdf_index.proofs.EntriesLeft.{EntriesLeft, past_first, past_lower_one}
 use Rattle.cdf_index.proofs.LeafMore.{not_reached, leads_none}
-use Rattle.cdf_index.proofs.Looking.{block_type, no_node_type, node_linkable}
-use Rattle.cdf_index.proofs.Walking.{chain_is, no_chain}
+use Rattle.cdf_index.proofs.FirstEntry.{block_type, chain_is, no_chain, no_node_type, node_linkable}
 use Rattle.std.proofs.lemmas.Bool.{le-leb, lt-leb, eq-eqb, ne_eqb}
 
 -- the last of the entries passed, with number j, which is number i of the node

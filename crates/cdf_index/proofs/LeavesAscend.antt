@@ -7,7 +7,7 @@ use Rattle.cdf_edits.proofs.Edits.LeavesOrder.{ascending_from, ascending_both}
 use Rattle.cdf_index.specs.Order.{InOrder, AreInOrder}
 use Rattle.cdf_index.proofs.OrderLemmas.{end_after}
 
-end_before : (low high : ℕ) (entries : Entries) → AreInOrder low high entries → low ≤ suc high → past_entries low entries ≤ suc high
+pub end_before : (low high : ℕ) (entries : Entries) → AreInOrder low high entries → low ≤ suc high → past_entries low entries ≤ suc high
 unfolding AreInOrder
 end_before low high no_entry o le = le
 end_before low high (block first last place packed entries) o le = let l = o.2 in end_before (suc last) high entries o.3 (omega arith)

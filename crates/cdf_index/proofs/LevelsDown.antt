@@ -1,6 +1,6 @@
 -- The way down to the place of a new entry, from level to level.
-use Rattle.std.proofs.Common.{◌≡◌, ◌≢◌, ℕ, ◌+◌, ◌-◌, ◌<◌, ◌≤◌, List, [], ◌∷◌, ◌++◌, length, map, append_assoc, append-nil, refl, sym, ap, subst, ◌∙◌, inl, inr, arith}
-use Rattle.cdf_index.proofs.Common.{map-append, Nodes, no_node, node, link_to, nodes_of, room_at, used_count, AreTiles, In, tiles, Each, Each-append, record_number_limit, IsTree, SomeTree, SpotIs, index_at, HasIndex, SomeNode, way, spot, Spot, Step}
+use Rattle.std.proofs.Common.{◌≡◌, ◌≢◌, ℕ, ◌+◌, ◌-◌, ◌≤◌, List, [], ◌∷◌, ◌++◌, length, map, append_assoc, append-nil, refl, sym, ap, subst, ◌∙◌, inl, inr, arith}
+use Rattle.cdf_index.proofs.Common.{map-append, Nodes, no_node, node, link_to, nodes_of, room_at, AreTiles, In, tiles, Each, Each-append, record_number_limit, IsTree, SomeTree, SpotIs, index_at, HasIndex, SomeNode, way, spot, Spot, Step}
 use Rattle.cdf_format.specs.IndexOf.{HasNodes}
 use Rattle.cdf_index.specs.Descent.{IsAmong, StepSays, step_pair}
 use Rattle.cdf_index.proofs.Ascending.{index_stands}
@@ -47,7 +47,7 @@ module _ {b : List ℕ} {f turn : ℕ} {total : Nodes} {passed : List Step} {end
   way_done e =
       let t = eq-eqb end.lower 0 e in
       let none : way f d.nodes ≡ [] = d.ends.way_is ∙ rw t refl in
-      sym (d.way_is ∙ ap (λ (xs : List (ℕ × ℕ)). map step_pair passed ++ xs) none ∙ append-nil (map step_pair passed))
+      rw (d.way_is, none, append-nil) refl
 
   pub end_done : end.lower ≡ 0 → end.place ≡ spot f total
   end_done e = let t = eq-eqb end.lower 0 e in let here : spot f d.nodes ≡ end.place = d.ends.end_is ∙ rw t refl in sym (d.end_is ∙ here)
@@ -69,32 +69,23 @@ module _ {b : List ℕ} {f turn : ℕ} {total : Nodes} {passed : List Step} {end
   descend_more step next n p i r s =
       let t = ne_eqb end.lower 0 n in
       let here : way f d.nodes ≡ (end.place, end.begun - 1) ∷ way f d.ends.low = d.ends.way_is ∙ rw t refl in
-      let mine : step_pair step ≡ (end.place, end.begun - 1) = ap (λ (x : ℕ). (x, step.entry)) p ∙ ap (λ (x : ℕ). (end.place, x)) i in
       let there : spot f d.nodes ≡ spot f d.ends.low = d.ends.end_is ∙ rw t refl in
+      let some = d.ends.leads n in
+      let most = d.ends.sees.begun.most in
+      let says : StepSays b step = record { room_is = r ∙ d.ends.sees.room_is ∙ ap (room_at b) (sym p); within = rw p (omega arith) } in
       record {
         levels = d.ends.down;
         nodes = d.ends.low;
         tree = d.ends.below n;
         deep = omega (arith, d.deep, d.ends.fewer n);
         ends = s d.ends.down d.ends.low (d.ends.below n) d.ends.lower_is;
-        way_is =
-            d.way_is ∙ ap (λ (xs : List (ℕ × ℕ)). map step_pair passed ++ xs) (here ∙ ap (λ (x : ℕ × ℕ). x ∷ way f d.ends.low) (sym mine))
-            ∙ sym (append_assoc (map step_pair passed) (step_pair step ∷ []) (way f d.ends.low)) ∙ ap (λ (xs : List (ℕ × ℕ)). xs ++ way f d.ends.low) (sym (map-append step_pair passed (step ∷ [])));
+        way_is = d.way_is ∙ rw here (simp (map-append, append_assoc, p, i));
         end_is = d.end_is ∙ there;
-        say = Each-append (StepSays b) passed (step ∷ []) d.say (says step n p i r, tt);
+        say = Each-append (StepSays b) passed (step ∷ []) d.say (says, tt);
       }
-    where
-      says : (step : Step) → end.lower ≢ 0 → step.place ≡ end.place → step.entry ≡ end.begun - 1 → step.room ≡ end.room → StepSays b step
-      says step n p i r =
-          let some = d.ends.leads n in
-          let most = d.ends.sees.begun.most in
-          record { room_is = r ∙ d.ends.sees.room_is ∙ ap (room_at b) (sym p); within = subst (λ (x : ℕ). step.entry < used_count b x) (sym p) (omega arith) }
 
   pub descend_never : 8 ≤ turn → ⊥
-  descend_never le = no_level d.levels d.nodes d.tree (let e = d.deep in omega arith)
-    where
-      no_level : (levels : ℕ) (nodes : Nodes) → IsTree b levels nodes → levels ≡ 0 → ⊥
-      no_level levels nodes t e = no_nodes b nodes (subst (λ (x : ℕ). IsTree b x nodes) e t)
+  descend_never le = let none : d.levels ≡ 0 = omega (arith, d.deep) in no_nodes b d.nodes (subst (λ (x : ℕ). IsTree b x d.nodes) none d.tree)
 
 pub some_node : (b : List ℕ) (at : ℕ) → SomeTree b at → SomeNode b at
 some_node b at t = record { levels = t.levels; nodes = t.nodes; tiled = t.tiled; stands = t.tree.stands; is_node = t.tree.is_node; link = t.link }

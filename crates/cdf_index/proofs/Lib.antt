@@ -1,6 +1,7 @@
 pub mod Common
 pub mod Ascending
 pub mod OrderLemmas
+pub mod FirstEntry
 pub mod Looking
 pub mod EntriesCut
 pub mod Searching

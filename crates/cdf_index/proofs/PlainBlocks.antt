@@ -1,9 +1,9 @@
 -- The blocks that the index of a variable of a good image names are not packed, since no packed one is read so far.
-use Rattle.std.proofs.Common.{◌≡◌, ℕ, zero, suc, List, ◌∷◌, ◌++◌, false, true≢false, sym, ap, subst, ◌∙◌, Some, inl, inr}
-use Rattle.cdf_index.proofs.Common.{eqb-true, ◌==◌, flat_map, range, covers, is_in, type_at, IsGoodImage, Nodes, no_node, node, Entries, no_entry, block, lower, Leaf, cvvr_type, Hold, VariableShape, Shape, variables, Each, HasVariable, LeafFits, VariableFits, IsSound, In, either, Each-append, Each-split, leaf_of, is_linkable, vxr_type}
+use Rattle.std.proofs.Common.{arith, ◌≡◌, ℕ, zero, suc, List, ◌∷◌, ◌++◌, false, sym, subst, ◌∙◌, Some}
+use Rattle.cdf_index.proofs.Common.{nat_tests, ◌==◌, flat_map, range, covers, type_at, IsGoodImage, Nodes, no_node, node, Entries, no_entry, block, lower, Leaf, cvvr_type, Hold, VariableShape, Shape, variables, Each, HasVariable, LeafFits, VariableFits, IsSound, In, Each-append, Each-split, leaf_of, is_linkable, vxr_type}
 use Rattle.cdf_format.specs.Index.{leaves_of, entry_leaves}
 use Rattle.cdf_format.specs.IndexOf.{HasNodes, Names}
-use Rattle.cdf_format.specs.NotRead.{read_types, unread_type}
+use Rattle.cdf_format.specs.NotRead.{unread_type}
 use Rattle.cdf_format.proofs.RowLemmas.{Hold-member}
 use Rattle.cdf_format.proofs.Owning.{block_in}
 use Rattle.cdf_edits.proofs.Edits.LeafPieces.{found_in, of_each}
@@ -28,10 +28,7 @@ module _ (now records : List ℕ) where
 
 module _ (b records : List ℕ) where
   no_packed : (m : ℕ) → In m records → Hold (flat_map (unread_type b) records) → (type_at b m == cvvr_type) ≡ false
-  no_packed m i h = elim (either (type_at b m == cvvr_type)) [
-    | inr e ↦ e
-    | inl e ↦ absurd (true≢false (sym (Hold-member (unread_type b) records m h i).0 ∙ ap (λ (t : ℕ). is_in t read_types) (eqb-true (type_at b m) cvvr_type e)))
-  ]
+  no_packed m i h = grind (arith, nat_tests, (Hold-member (unread_type b) records m h i).0)
 
 pub plain_block : (b : List ℕ) (s : Shape) (before : List VariableShape) (v : VariableShape) (after : List VariableShape) → IsGoodImage b s → IsSound b s → variables s ≡ before ++ v ∷ after
     → (rec : ℕ) (leaf : Leaf) → leaf_of rec (leaves_of v.index) ≡ Some leaf → leaf.packed ≡ false

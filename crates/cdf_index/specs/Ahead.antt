@@ -1,13 +1,14 @@
 -- The search for the least First past a record, on its way.
-use Rattle.std.specs.Prelude.{◌≡◌, ◌≤◌, ◌<◌, ◌+◌, ◌==◌, ℕ, zero, suc, List, ◌++◌, length, if◌then◌else◌}
-use Rattle.cdf_edits.specs.Index.Blocks.{firsts_of, next_first}
+use Rattle.std.specs.Prelude.{◌≡◌, ◌≤◌, ◌<◌, ◌+◌, ◌==◌, ℕ, zero, suc, List, [], ◌∷◌, ◌++◌, length, nat_lt, Some, if◌then◌else◌}
+use Rattle.std.specs.declared.option.Option.{Option}
+use Rattle.cdf_edits.specs.Index.Blocks.{firsts_of}
 use Rattle.cdf_format.specs.Fields.{type_at}
-use Rattle.cdf_format.specs.Index.{Nodes, nodes_of, link_to, used_count, first_at, offset_at}
+use Rattle.cdf_format.specs.Index.{Nodes, nodes_of, used_count, first_at, offset_at}
 use Rattle.cdf_format.specs.Records.{past, record_type}
 use Rattle.cdf_format.specs.RecordTypes.{vxr_type}
-use Rattle.cdf_index.specs.Finding.{Stands}
-use Rattle.cdf_index.specs.Next.{least_from, number_within}
-use Rattle.cdf_index.specs.Order.{InOrder, NextsAreZero}
+use Rattle.cdf_index.specs.Finding.{ChainFrom}
+use Rattle.cdf_index.specs.Next.{least_first_past}
+use Rattle.cdf_index.specs.Order.{NextsAreZero}
 use Rattle.cdf_index.specs.declared.next.Walk.{Walk}
 use Rattle.cdf_model.specs.Limits.{level_limit, record_number_limit}
 
@@ -30,29 +31,22 @@ abbrev pub chain_before : List ℕ → ℕ → ℕ → ℕ → ℕ
 chain_before b at lower zero = lower
 chain_before b at lower (suc j) = chain_at b at j
 
--- After so many turns of a walk over these nodes what is left are the nodes from `at` on and those below the last entry passed. Of the Firsts in them, and the best one so far, the least past the record is the one asked for. Where no node has one behind it, each turn leads a level down.
+-- the first of these numbers that is past the record, else another one
+abbrev pub first_past : ℕ → List ℕ → Option ℕ → Option ℕ
+first_past rec [] other = other
+first_past rec (n ∷ more) other = if nat_lt rec n then Some n else first_past rec more other
+
+-- numbers from a first to a last that never fall
+abbrev pub Climbs : ℕ → ℕ → List ℕ → Type 0
+Climbs from upto [] = Unit {0}
+Climbs from upto (n ∷ more) = (from ≤ n) × (n ≤ upto) × Climbs n upto more
+
+-- After so many turns of a walk over these nodes what is left are those below the last entry passed, and then the nodes from `at` on. The first First past the record in them, or else the best one so far, is the one asked for. Where no node has one behind it, each turn leads a level down.
 pub record IsWalk (b : List ℕ) (rec : ℕ) (nodes : Nodes) (turn : ℕ) (walk : Walk) : Type 0 where
-  pub levels : ℕ
-  pub low_levels : ℕ
-  pub left : Nodes
-  pub low : Nodes
-  pub stands : Stands b levels left
-  pub low_stands : Stands b low_levels low
-  pub link_is : walk.at ≡ link_to left
-  pub lower_is : walk.lower ≡ link_to low
+  pub low : ChainFrom b walk.lower
+  pub left : ChainFrom b walk.at
   pub ended : walk.at ≡ 0 → walk.lower ≡ 0
-  pub from : ℕ
-  pub upto : ℕ
-  pub middle : ℕ
-  pub high : ℕ
-  pub low_order : InOrder from upto low
-  pub order : InOrder middle high left
-  pub ascends : upto ≤ middle
-  pub low_most : upto ≤ high
-  pub most : high ≤ record_number_limit
-  pub best : ℕ
-  pub best_is : walk.best ≡ number_within best
-  pub past : high ≤ best
-  pub same : least_from rec best (firsts_of low ++ firsts_of left) ≡ next_first rec (firsts_of nodes)
-  pub fewer : length (nodes_of low) + length (nodes_of left) + turn ≤ length (nodes_of nodes)
-  pub zero : NextsAreZero nodes → NextsAreZero left × (low_levels ≡ 0) × (levels + turn ≤ level_limit)
+  pub climbs : Climbs 0 record_number_limit (firsts_of low.nodes ++ firsts_of left.nodes)
+  pub same : first_past rec (firsts_of low.nodes ++ firsts_of left.nodes) walk.best ≡ least_first_past rec nodes
+  pub fewer : length (nodes_of low.nodes) + length (nodes_of left.nodes) + turn ≤ length (nodes_of nodes)
+  pub zero : NextsAreZero nodes → NextsAreZero low.nodes × (low.levels ≡ 0) × NextsAreZero left.nodes × (left.levels + turn ≤ level_limit)

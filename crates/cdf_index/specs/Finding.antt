@@ -1,16 +1,16 @@
 -- An index that a link leads to, as code walks it: what stands in the bytes, and what a search meets.
-use Rattle.std.specs.Prelude.{◌≡◌, ◌≤◌, ◌<◌, ℕ, suc, ◌+◌, ◌*◌, List, [], length, true}
+use Rattle.std.specs.Prelude.{◌≡◌, ◌≤◌, ◌<◌, ℕ, ◌+◌, ◌*◌, List, [], length, true}
 use Rattle.cdf_model.specs.Limits.{level_limit, record_number_limit}
 use Rattle.cdf_format.specs.Sound.{NodeFits}
 use Rattle.cdf_format.specs.Fields.{size_at, word}
-use Rattle.cdf_format.specs.Index.{Nodes, Leaf, nodes_of, leaves_of, link_to, room_at, used_count}
+use Rattle.cdf_format.specs.Index.{Nodes, Leaf, nodes_of, leaves_of, link_to, room_at, used_count, last_at}
 use Rattle.cdf_format.specs.IndexOf.{IsNode, HasNodes, IsIndex}
 use Rattle.cdf_format.specs.IndexRules.{is_block}
 use Rattle.cdf_format.specs.IndexWalk.{levels_on, nodes_met}
 use Rattle.cdf_format.specs.Shape.{Each}
 use Rattle.cdf_format.specs.Tiles.{AreTiles, tiles}
 use Rattle.cdf_format.specs.Records.{cdr_place, vxr_first, vxr_bytes}
-use Rattle.cdf_index.specs.Order.{InOrder, find_in, nodes_passed}
+use Rattle.cdf_index.specs.Order.{InOrder, NextsAreZero, find_in, nodes_passed}
 
 -- the index that a link leads to
 abbrev pub index_at : List ℕ → ℕ → Nodes
@@ -70,20 +70,23 @@ pub record NodeInside (b : List ℕ) (at : ℕ) : Type 0 where
   pub entries : vxr_bytes (room_at b at) ≤ size_at b at
   pub fits : used_count b at ≤ room_at b at
 
--- from a link on the search goes on as from these nodes, with one node less to pass
-pub record Onward (b : List ℕ) (rec levels : ℕ) (nodes : Nodes) (link : ℕ) : Type 0 where
-  pub down : ℕ
-  pub left : Nodes
-  pub stands : Stands b down left
-  pub link_is : link ≡ link_to left
-  pub same : find_in rec left ≡ find_in rec nodes
-  pub one : suc (nodes_passed rec left) ≡ nodes_passed rec nodes
+-- the first i entries of a node end before a record, and the one behind them does not
+pub record Scanned (b : List ℕ) (rec at i : ℕ) : Type 0 where
+  pub before : (j : ℕ) → j < i → last_at b at j < rec
+  pub most : i ≤ used_count b at
+  pub stop : i < used_count b at → rec ≤ last_at b at i
 
--- after so many turns the search is at a link
-pub record At (b : List ℕ) (rec turn : ℕ) (nodes : Nodes) (link : ℕ) : Type 0 where
+-- a chain that stands begins at a link
+pub record ChainFrom (b : List ℕ) (link : ℕ) : Type 0 where
   pub levels : ℕ
-  pub left : Nodes
-  pub stands : Stands b levels left
-  pub link_is : link ≡ link_to left
-  pub same : find_in rec left ≡ find_in rec nodes
-  pub passed : nodes_passed rec left + turn ≡ nodes_passed rec nodes
+  pub nodes : Nodes
+  pub stands : Stands b levels nodes
+  pub link_is : link ≡ link_to nodes
+
+-- after so many turns the search is at a link; where no node has one behind it, each turn leads a level down
+pub record At (b : List ℕ) (rec turn : ℕ) (nodes : Nodes) (link : ℕ) : Type 0 where
+  pub left : ChainFrom b link
+  pub same : find_in rec left.nodes ≡ find_in rec nodes
+  pub passed : nodes_passed rec left.nodes + turn ≡ nodes_passed rec nodes
+  pub fewer : length (nodes_of left.nodes) + turn ≤ length (nodes_of nodes)
+  pub zero : NextsAreZero nodes → NextsAreZero left.nodes × (turn ≤ level_limit) × (IsNode left.nodes → left.levels + turn ≤ level_limit)

@@ -1,6 +1,5 @@
 -- The least First past a record, of all entries of an index.
-use Rattle.std.specs.Prelude.{ℕ, List, min, nat_lt, nat_le, Some, None, if◌then◌else◌}
-use Rattle.std.specs.List.{filter, fold}
+use Rattle.std.specs.Prelude.{ℕ, nat_le, Some, None, if◌then◌else◌}
 use Rattle.std.specs.declared.option.Option.{Option}
 use Rattle.cdf_model.specs.Limits.{record_number_limit}
 use Rattle.cdf_edits.specs.Index.Blocks.{firsts_of, next_first}
@@ -12,7 +11,3 @@ number_within n = if nat_le n record_number_limit then Some n else None
 
 abbrev pub least_first_past : ℕ → Nodes → Option ℕ
 least_first_past rec nodes = number_within (next_first rec (firsts_of nodes))
-
--- the least of a number and of those past the record
-abbrev pub least_from : ℕ → ℕ → List ℕ → ℕ
-least_from rec best firsts = fold min best (filter (nat_lt rec) firsts)

@@ -47,12 +47,6 @@ unfoldable mutual
   passed_from rec (block first last place packed entries) other = if nat_lt last rec then passed_from rec entries other else 0
   passed_from rec (lower first last nodes entries) other = if nat_lt last rec then passed_from rec entries other else (if nat_lt rec first then 0 else nodes_passed rec nodes)
 
--- how many of the first entries end before a record
-abbrev pub passed : ℕ → Entries → ℕ
-passed rec no_entry = 0
-passed rec (block first last place packed entries) = if nat_lt last rec then suc (passed rec entries) else 0
-passed rec (lower first last nodes entries) = if nat_lt last rec then suc (passed rec entries) else 0
-
 unfoldable mutual
   -- no node has one behind it
   pub NextsAreZero : Nodes → Type 0

@@ -4,7 +4,7 @@ use Rattle.cdf_format.specs.Chains.{next_of}
 use Rattle.cdf_format.specs.Index.{Nodes, room_at, used_count}
 use Rattle.cdf_format.specs.Index.{Leaf as TreeLeaf}
 use Rattle.cdf_index.specs.Order.{find_in}
-use Rattle.cdf_index.specs.Finding.{Onward}
+use Rattle.cdf_index.specs.Finding.{At}
 use Rattle.cdf_index.specs.declared.nodes.Head.{Head}
 use Rattle.cdf_index.specs.declared.nodes.Leaf.{Leaf}
 use Rattle.cdf_index.specs.declared.finding.Sight.{Sight}
@@ -20,7 +20,8 @@ pub record IsHead (b : List ℕ) (at : ℕ) (head : Head) : Type 0 where
   pub used_is : head.used ≡ used_count b at
   pub next_is : head.next ≡ next_of b at
 
+-- after so many turns of a search in these nodes
 abbrev pub SightIs : List ℕ → ℕ → ℕ → Nodes → Sight → Type 0
-SightIs b rec levels nodes (On link) = Onward b rec levels nodes link
-SightIs b rec levels nodes (Found l) = find_in rec nodes ≡ Some (seen l)
-SightIs b rec levels nodes Nothing = find_in rec nodes ≡ None
+SightIs b rec turn nodes (On link) = At b rec turn nodes link
+SightIs b rec turn nodes (Found l) = find_in rec nodes ≡ Some (seen l)
+SightIs b rec turn nodes Nothing = find_in rec nodes ≡ None

@@ -1,7 +1,10 @@
 -- How large an index is.
-use Rattle.std.specs.Prelude.{ℕ, ◌+◌, ◌-◌, ◌^◌, min, max, length}
+use Rattle.std.specs.Prelude.{◌≡◌, ℕ, ◌+◌, ◌-◌, ◌^◌, min, max, List, [], ◌∷◌, length}
+use Rattle.std.specs.List.{flat_map}
 use Rattle.cdf_edits.specs.Commands.Room.{entries_in, widest}
+use Rattle.cdf_edits.specs.Index.Grown.{new_entries}
 use Rattle.cdf_format.specs.Index.{Nodes, leaves_of}
+use Rattle.cdf_index.specs.Whole.{Met, met_node, met_block, entry_met}
 use Rattle.cdf_index.specs.declared.measuring.IndexSize.{IndexSize}
 
 -- its leaves, the used entries of all nodes, and Nentries of the widest node, or of a new one
@@ -10,12 +13,21 @@ size_of nodes = record { leaves = length (leaves_of nodes); entries = entries_in
 
 -- ---- on the way
 
+abbrev pub used_met : List Met → ℕ
+used_met [] = 0
+used_met (met_node place room used ∷ more) = used + used_met more
+used_met (met_block first last place ∷ more) = used_met more
+
+abbrev pub widest_met : List Met → ℕ
+widest_met [] = 0
+widest_met (met_node place room used ∷ more) = max room (widest_met more)
+widest_met (met_block first last place ∷ more) = widest_met more
+
 -- a count that stops at the greatest number of 64 bits
-abbrev pub more_of : ℕ → ℕ → ℕ
-more_of count more = min (count + more) (2 ^ 64 - 1)
+abbrev pub stopped : ℕ → ℕ
+stopped count = min count (2 ^ 64 - 1)
 
-abbrev pub node_counted : IndexSize → ℕ → ℕ → ℕ → IndexSize
-node_counted size place room used = record { leaves = size.leaves; entries = more_of size.entries used; widest = max size.widest room }
-
-abbrev pub block_counted : IndexSize → ℕ → ℕ → ℕ → IndexSize
-block_counted size first last place = record { leaves = more_of size.leaves 1; entries = size.entries; widest = size.widest }
+pub record Counts (size : IndexSize) (met : List Met) : Type 0 where
+  pub leaves : size.leaves ≡ stopped (length (flat_map entry_met met))
+  pub entries : size.entries ≡ stopped (used_met met)
+  pub widest : size.widest ≡ max new_entries (widest_met met)

@@ -1,23 +1,32 @@
 -- The walk over a whole index.
 use Rattle.std.specs.Prelude.{◌≡◌, ◌≤◌, ℕ, List, [], ◌∷◌, ◌++◌, length, map}
-use Rattle.cdf_format.specs.Index.{Nodes, no_node, node, Entries, no_entry, block, lower, Leaf, nodes_of, lower_nodes, entry_leaves, entry_count, link_to, used_count}
-use Rattle.cdf_format.specs.IndexOf.{SayEntries, Names}
+use Rattle.std.specs.List.{flat_map}
+use Rattle.cdf_format.specs.Index.{Nodes, no_node, node, Entries, no_entry, block, lower, Leaf, nodes_of, entry_count, link_to}
 use Rattle.cdf_format.specs.Records.{cdr_place}
-use Rattle.cdf_format.specs.Shape.{Each}
 use Rattle.cdf_format.specs.Tiles.{AreTiles, tiles}
-use Rattle.cdf_index.specs.Finding.{IsBlock, IsOrderly, Stands}
+use Rattle.cdf_index.specs.Finding.{Stands}
+use Rattle.cdf_index.specs.declared.collecting.IndexParts.{IndexParts}
 use Rattle.cdf_index.specs.declared.entries.Entry.{Entry}
 
-unfoldable mutual
-  -- what becomes of a value at each node, by its place, its room and the number of its entries, then at the blocks that it names, by First, Last and the place of each, and in the lower chains, and then at the next node of its chain
-  pub through : {S : Type 0} → (S → ℕ → ℕ → ℕ → S) → (S → ℕ → ℕ → ℕ → S) → S → Nodes → S
-  through at_node at_block s no_node = s
-  through at_node at_block s (node place room entries more) = through at_node at_block (through_entries at_node at_block (at_node s place room (entry_count entries)) entries) more
+-- what is met: a node, by its place, its room and the number of its entries, or a block, by First, Last and its place
+pub data Met : Type 0 where
+  met_node : ℕ → ℕ → ℕ → Met
+  met_block : ℕ → ℕ → ℕ → Met
 
-  pub through_entries : {S : Type 0} → (S → ℕ → ℕ → ℕ → S) → (S → ℕ → ℕ → ℕ → S) → S → Entries → S
-  through_entries at_node at_block s no_entry = s
-  through_entries at_node at_block s (block first last place packed entries) = through_entries at_node at_block (at_block s first last place) entries
-  through_entries at_node at_block s (lower first last nodes entries) = through_entries at_node at_block (through at_node at_block s nodes) entries
+unfoldable mutual
+  -- a node, then what its entries name, in order, a lower chain with all that is below it, and then the next node of its chain
+  pub met_in : Nodes → List Met
+  met_in no_node = []
+  met_in (node place room entries more) = met_node place room (entry_count entries) ∷ met_below entries ++ met_in more
+
+  pub met_below : Entries → List Met
+  met_below no_entry = []
+  met_below (block first last place packed entries) = met_block first last place ∷ met_below entries
+  met_below (lower first last nodes entries) = met_in nodes ++ met_below entries
+
+-- what had gathered some now has these too
+pub record Grew {G : Type 0} (has : G → List Met → Type 0) (was now : G) (more : List Met) : Type 0 where
+  pub also : (met : List Met) → has was met → has now (met ++ more)
 
 -- ---- the entries of blocks and the places of nodes, collected
 
@@ -28,21 +37,18 @@ leaf_words leaf = record { first = leaf.first; last = leaf.last; place = leaf.pl
 abbrev pub places_in : List Entry → List ℕ
 places_in entries = map (λ entry. entry.place) entries
 
-abbrev pub with_node : List Entry × List ℕ → ℕ → ℕ → ℕ → List Entry × List ℕ
-with_node parts place room used = (parts.0, parts.1 ++ place ∷ [])
+abbrev pub entry_met : Met → List Entry
+entry_met (met_node place room used) = []
+entry_met (met_block first last place) = record { first = first; last = last; place = place } ∷ []
 
-abbrev pub with_block : List Entry × List ℕ → ℕ → ℕ → ℕ → List Entry × List ℕ
-with_block parts first last place = (parts.0 ++ record { first = first; last = last; place = place } ∷ [], parts.1)
+abbrev pub place_met : Met → List ℕ
+place_met (met_node place room used) = place ∷ []
+place_met (met_block first last place) = []
+
+abbrev pub parts_of : IndexParts → List Met → Type 0
+parts_of parts met = (parts.leaves.items ≡ flat_map entry_met met) × (parts.nodes.items ≡ flat_map place_met met)
 
 -- ---- what stands in the image
-
--- the entries of a node stand in the image, with what is below them
-pub record EntriesStand (b : List ℕ) (at levels : ℕ) (entries : Entries) : Type 0 where
-  pub used_is : used_count b at ≡ entry_count entries
-  pub say : SayEntries b at 0 entries
-  pub names : Names b (tiles b) levels entries
-  pub orderly : Each (IsOrderly b) (lower_nodes entries)
-  pub blocks : Each (IsBlock b) (entry_leaves entries)
 
 -- a chain begins at a link
 pub record SomeChain (b : List ℕ) (levels link : ℕ) : Type 0 where
@@ -51,10 +57,3 @@ pub record SomeChain (b : List ℕ) (levels link : ℕ) : Type 0 where
   pub stands : Stands b levels nodes
   pub link_is : link ≡ link_to nodes
   pub few : length (nodes_of nodes) ≤ length b
-
--- entries stand in a node at a place
-pub record SomeEntries (b : List ℕ) (at levels : ℕ) : Type 0 where
-  pub entries : Entries
-  pub tiled : AreTiles b cdr_place (length b) (tiles b)
-  pub stand : EntriesStand b at levels entries
-  pub few : length (lower_nodes entries) ≤ length b

@@ -1,84 +1,51 @@
 //! The records of an index, collected, with what the entries of its blocks say.
 
-ghost use Rattle.std.specs.Prelude.{◌≡◌, ◌++◌, ◌≤◌, ℕ, List, length, map, IfOk, OnOk};
+ghost use Rattle.std.specs.Prelude.{◌≡◌, ◌++◌, ◌≤◌, length, map, IfOk};
 ghost use Rattle.cdf_area.specs.Calls.{Reads};
-ghost use Rattle.cdf_format.specs.Index.{Nodes, Entries, nodes_of, leaves_of, link_to};
-ghost use Rattle.cdf_model.specs.Limits.{image_limit, level_limit};
-ghost use Rattle.cdf_index.specs.Finding.{index_at, HasIndex, NodeInside, Stands};
-ghost use Rattle.cdf_index.specs.Sight.{IsHead};
-ghost use Rattle.cdf_index.specs.Whole.{EntriesStand, SomeChain, SomeEntries, through, through_entries, leaf_words, places_in, with_block, with_node};
+ghost use Rattle.cdf_format.specs.Index.{nodes_of, leaves_of};
+ghost use Rattle.cdf_model.specs.Limits.{image_limit};
+ghost use Rattle.cdf_index.specs.Finding.{index_at, HasIndex};
+ghost use Rattle.cdf_index.specs.Whole.{leaf_words, places_in};
 
-use crate::entries::{Entry, read_entry};
-use crate::nodes::{Head, read_head};
+use crate::entries::Entry;
+use crate::gathering::{Gather, gather_chain};
+use crate::nodes::Head;
 use cdf_area::{Area, AreaError};
-use cdf_format::fields::{RECORD_TYPE, VXR_TYPE};
+use cdf_format::fields::VXR_FIRST;
 use cdf_model::limits::LEVEL_LIMIT;
 use cdf_records::read_unsigned4;
 use std::alloc::{AllocError, Global};
-
-/// Puts the entries of the blocks and the places of the nodes of a chain behind those of two lists.
-#[cycle(collecting)]
-fn collect<A: Area>(
-    area: &mut A,
-    link: u64,
-    levels: u64,
-    blocks: &mut Vec<Entry>,
-    nodes: &mut Vec<u64>,
-) -> Result<(), AreaError>
-    requires chain { SomeChain (A.image area.old) levels link }
-    requires few { levels ≤ level_limit }
-    requires short { length (A.image area.old) ≤ image_limit }
-    ensures places { OnOk result ((chain : Nodes) → Stands (A.image area.old) levels chain → link ≡ link_to chain → (blocks.new.items, nodes.new.items) ≡ through with_node with_block (blocks.old.items, nodes.old.items) chain) }
-    ensures area { Reads A.image A.frame A.faults A.edited area.old area.new result }
-{
-    let mut at = link;
-    for turn in 0..area.size() {
-        if at == 0 {
-            return Ok(());
-        }
-        let head = read_head(area, at)?;
-        nodes.push(at)?;
-        collect_below(area, at, &head, levels - 1, blocks, nodes)?;
-        at = head.next;
-    }
-    Ok(())
-}
-
-/// The same for what the entries of a node name.
-#[cycle(collecting)]
-fn collect_below<A: Area>(
-    area: &mut A,
-    at: u64,
-    head: &Head,
-    levels: u64,
-    blocks: &mut Vec<Entry>,
-    nodes: &mut Vec<u64>,
-) -> Result<(), AreaError>
-    requires head { IsHead (A.image area.old) at head.now }
-    requires inside { NodeInside (A.image area.old) at }
-    requires entries { SomeEntries (A.image area.old) at levels }
-    requires few { levels ≤ level_limit }
-    requires short { length (A.image area.old) ≤ image_limit }
-    ensures places { OnOk result ((entries : Entries) → EntriesStand (A.image area.old) at levels entries → (blocks.new.items, nodes.new.items) ≡ through_entries with_node with_block (blocks.old.items, nodes.old.items) entries) }
-    ensures area { Reads A.image A.frame A.faults A.edited area.old area.new result }
-{
-    for i in 0..head.used {
-        let entry = read_entry(area, at, head.room, i)?;
-        let kind = read_unsigned4(area, entry.place + RECORD_TYPE)?;
-        if kind == VXR_TYPE {
-            collect(area, entry.place, levels, blocks, nodes)?;
-        } else {
-            blocks.push(entry)?;
-        }
-    }
-    Ok(())
-}
 
 /// The parts of an index: what the entries of its blocks say, by record number, and the places of its nodes in order.
 #[derive(Drop)]
 pub struct IndexParts {
     pub leaves: Vec<Entry>,
     pub nodes: Vec<u64>,
+}
+
+impl Gather for IndexParts {
+    ghost use Rattle.cdf_index.specs.Whole.{parts_of};
+
+    ghost has = { parts_of };
+
+    fn node(&mut self, place: u64, head: &Head) -> Result<(), AllocError> {
+        self.nodes.push(place)?;
+        Ok(())
+    }
+
+    fn block<A: Area>(
+        &mut self,
+        area: &mut A,
+        at: u64,
+        room: u64,
+        i: u64,
+        place: u64,
+    ) -> Result<(), AreaError> {
+        let first = read_unsigned4(area, at + (VXR_FIRST + 4 * i))?;
+        let last = read_unsigned4(area, at + (VXR_FIRST + 4 * room + 4 * i))?;
+        self.leaves.push(Entry { first, last, place })?;
+        Ok(())
+    }
 }
 
 /// The parts of the index that a link leads to.
@@ -89,10 +56,12 @@ pub fn index_parts<A: Area>(alloc: Global, area: &mut A, head: u64) -> Result<In
     ensures nodes { IfOk result (λ parts. parts.nodes.items ≡ nodes_of (index_at (A.image area.old) head)) }
     ensures area { Reads A.image A.frame A.faults A.edited area.old area.new result }
 {
-    let mut leaves = Vec::new(alloc);
-    let mut nodes = Vec::new(alloc);
-    collect(area, head, LEVEL_LIMIT, &mut leaves, &mut nodes)?;
-    Ok(IndexParts { leaves, nodes })
+    let mut parts = IndexParts {
+        leaves: Vec::new(alloc),
+        nodes: Vec::new(alloc),
+    };
+    gather_chain(area, head, LEVEL_LIMIT, &mut parts)?;
+    Ok(parts)
 }
 
 /// The places that entries name.

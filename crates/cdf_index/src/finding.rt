@@ -4,10 +4,9 @@ ghost use Rattle.std.specs.Prelude.{◌≡◌, ◌+◌, ◌≤◌, ℕ, length, 
 ghost use Rattle.std.specs.Option.{option_map};
 ghost use Rattle.cdf_area.specs.Calls.{Reads};
 ghost use Rattle.cdf_model.specs.Limits.{image_limit, level_limit};
-ghost use Rattle.cdf_format.specs.Index.{Nodes, leaves_of, link_to};
-ghost use Rattle.cdf_format.specs.IndexOf.{IsNode};
+ghost use Rattle.cdf_format.specs.Index.{Nodes, leaves_of};
 ghost use Rattle.cdf_index.specs.Order.{leaf_of, nodes_passed, NextsAreZero};
-ghost use Rattle.cdf_index.specs.Finding.{index_at, HasIndex, NodeInside, SomeNode, Stands};
+ghost use Rattle.cdf_index.specs.Finding.{index_at, At, HasIndex, NodeInside, SomeNode};
 ghost use Rattle.cdf_index.specs.Sight.{IsHead, SightIs, seen};
 
 use crate::entries::read_entry;
@@ -27,12 +26,13 @@ enum Sight {
 }
 
 /// What a node tells of a record.
+#[tactic(auto, using(crate::proofs::Looking::names_in))]
 fn look<A: Area>(area: &mut A, at: u64, head: &Head, rec: u32) -> Result<Sight, AreaError>
     requires head { IsHead (A.image area.old) at head.now }
     requires node { SomeNode (A.image area.old) at }
     requires inside { NodeInside (A.image area.old) at }
     requires short { length (A.image area.old) ≤ image_limit }
-    ensures told { IfOk result (λ sight. (levels : ℕ) (nodes : Nodes) → Stands (A.image area.old) levels nodes → IsNode nodes → at ≡ link_to nodes → SightIs (A.image area.old) rec levels nodes sight) }
+    ensures told { IfOk result (λ sight. (nodes : Nodes) (turn : ℕ) → At (A.image area.old) rec turn nodes at → SightIs (A.image area.old) rec (turn + 1) nodes sight) }
     ensures area { Reads A.image A.frame A.faults A.edited area.old area.new result }
 {
     let i = entries_before(area, at, head, rec)?;

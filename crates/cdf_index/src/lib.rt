@@ -5,6 +5,7 @@ mod collecting;
 mod descending;
 mod entries;
 mod finding;
+mod gathering;
 pub mod laws;
 mod making;
 mod measuring;

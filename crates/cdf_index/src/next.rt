@@ -50,6 +50,7 @@ pub fn lower_before<A: Area>(
 }
 
 /// The search behind a node.
+#[tactic(auto, using(crate::proofs::Looking::names_in))]
 fn advance<A: Area>(area: &mut A, walk: &Walk, head: &Head, rec: u32) -> Result<Walk, AreaError>
     requires head { IsHead (A.image area.old) walk.now.at head.now }
     requires inside { NodeInside (A.image area.old) walk.now.at }

@@ -1,19 +1,18 @@
 //! How many of the entries of a node come before a record. They are in order, so the last one is looked at first, and then one in the middle of those that are left.
 
-ghost use Rattle.std.specs.Prelude.{◌≡◌, ◌+◌, ◌*◌, ◌≤◌, length, IfOk};
+ghost use Rattle.std.specs.Prelude.{◌≡◌, ◌+◌, ◌*◌, ◌≤◌, ◌<◌, length, IfOk};
 ghost use Rattle.cdf_area.specs.Calls.{Reads};
 ghost use Rattle.cdf_model.specs.Limits.{image_limit};
-ghost use Rattle.cdf_format.specs.Index.{Entries, entry_count, used_count};
-ghost use Rattle.cdf_format.specs.IndexOf.{SayEntries};
+ghost use Rattle.cdf_format.specs.Index.{offset_at, used_count};
+ghost use Rattle.cdf_format.specs.Fields.{type_at};
 ghost use Rattle.cdf_index.specs.Ahead.{Begun};
-ghost use Rattle.cdf_index.specs.Finding.{Ascends, IsCut, SomeNode};
-ghost use Rattle.cdf_index.specs.Order.{passed};
+ghost use Rattle.cdf_index.specs.Finding.{Ascends, IsCut, Scanned, SomeNode};
 ghost use Rattle.cdf_index.specs.Sight.{IsHead};
 
 use crate::nodes::Head;
 use cdf_area::{Area, AreaError};
-use cdf_format::fields::VXR_FIRST;
-use cdf_records::read_unsigned4;
+use cdf_format::fields::{RECORD_TYPE, VXR_FIRST};
+use cdf_records::{read_unsigned4, read_unsigned8};
 
 /// How many of the first numbers of a column of a node are below a bound.
 fn count_below<A: Area>(
@@ -45,6 +44,7 @@ fn count_below<A: Area>(
 }
 
 /// The number of the first entry of a node that ends at a record or later.
+#[tactic(auto, using(crate::proofs::Looking::node_inside))]
 pub fn entries_before<A: Area>(
     area: &mut A,
     at: u64,
@@ -54,8 +54,7 @@ pub fn entries_before<A: Area>(
     requires head { IsHead (A.image area.old) at head.now }
     requires node { SomeNode (A.image area.old) at }
     requires short { length (A.image area.old) ≤ image_limit }
-    ensures passed { IfOk result (λ i. (entries : Entries) → used_count (A.image area.old) at ≡ entry_count entries → SayEntries (A.image area.old) at 0 entries → i ≡ passed rec entries) }
-    ensures most { IfOk result (λ i. i ≤ used_count (A.image area.old) at) }
+    ensures scanned { IfOk result (Scanned (A.image area.old) rec at) }
     ensures area { Reads A.image A.frame A.faults A.edited area.old area.new result }
 {
     let i = count_below(
@@ -69,6 +68,7 @@ pub fn entries_before<A: Area>(
 }
 
 /// How many of the first entries of a node begin at a record or before it.
+#[tactic(auto, using(crate::proofs::Looking::node_inside))]
 pub fn entries_begun<A: Area>(
     area: &mut A,
     at: u64,
@@ -83,4 +83,27 @@ pub fn entries_begun<A: Area>(
 {
     let i = count_below(area, at, VXR_FIRST, head.used, u64::from(rec) + 1)?;
     Ok(i)
+}
+
+/// What an entry of a node names: where it stands, and its type.
+#[derive(Clone, Copy)]
+pub struct Named {
+    pub place: u64,
+    pub kind: u32,
+}
+
+/// What the used entry with number `i` of a node names.
+#[tactic(auto, using(crate::proofs::Looking::node_inside, crate::proofs::Looking::names_in))]
+pub fn read_named<A: Area>(area: &mut A, at: u64, head: &Head, i: u64) -> Result<Named, AreaError>
+    requires head { IsHead (A.image area.old) at head.now }
+    requires node { SomeNode (A.image area.old) at }
+    requires used { i < used_count (A.image area.old) at }
+    requires short { length (A.image area.old) ≤ image_limit }
+    ensures place { IfOk result (λ named. named.place ≡ offset_at (A.image area.old) at i) }
+    ensures kind { IfOk result (λ named. named.kind ≡ type_at (A.image area.old) named.place) }
+    ensures area { Reads A.image A.frame A.faults A.edited area.old area.new result }
+{
+    let place = read_unsigned8(area, at + (VXR_FIRST + 8 * head.room + 8 * i))?;
+    let kind = read_unsigned4(area, place + RECORD_TYPE)?;
+    Ok(Named { place, kind })
 }

@@ -1,0 +1,178 @@
+-- A chain that stands, taken apart at its first node, and the entries of a node at the first of them.
+use Rattle.std.proofs.Common.{◌≡◌, ◌≢◌, ◌⊎◌, ℕ, zero, suc, ◌+◌, ◌<◌, List, [], ◌∷◌, ◌++◌, true, false, ltb, eqb, refl, sym, ap, subst, ◌∙◌, arith, inl, inr, Option, Some, None, length, ◌≤◌}
+use Rattle.cdf_index.proofs.Common.{nat_tests, is_a, is_linkable, type_at, Nodes, no_node, node, Entries, no_entry, block, lower, Leaf, leaf, entry_count, link_to, first_at, last_at, offset_at, IsNode, vxr_type, cvvr_type, In, tiles, linkable-in, linkable-type, chain_at, IsBlock, IsOrderly, ChainFrom, NodeInside, Stands, Met, met_block, used_count, length-append}
+use Rattle.cdf_format.specs.Index.{nodes_of, lower_nodes, entry_leaves}
+use Rattle.cdf_format.specs.IndexOf.{HasNodes, Names}
+use Rattle.cdf_format.specs.RecordTypes.{vvr_type}
+use Rattle.cdf_format.proofs.ChainsLemmas.{is_a-type}
+use Rattle.cdf_format.proofs.Owning.{block_in}
+use Rattle.cdf_edits.proofs.Edits.MarkLemmas.{or_cases}
+use Rattle.cdf_edits.specs.Index.Blocks.{firsts_of, entry_firsts}
+use Rattle.cdf_index.specs.Order.{find_in, find_entry, nodes_passed, passed_from, NextsAreZero, LowerAreZero}
+use Rattle.cdf_index.specs.Whole.{met_in, met_below}
+use Rattle.cdf_index.proofs.Saying.{no_entries}
+use Rattle.cdf_index.proofs.EntriesLeft.{EntriesLeft, NodeParts, past_first, past_lower_one, node_parts}
+
+-- ---- a node
+
+pub node_there : (ns : Nodes) → link_to ns ≢ 0 → IsNode ns
+node_there no_node ne = absurd (ne refl)
+node_there (node place room entries more) ne = tt
+
+pub record Opened (b : List ℕ) (levels at : ℕ) (ns : Nodes) : Type 0 where
+  pub down : ℕ
+  pub room : ℕ
+  pub entries : Entries
+  pub more : Nodes
+  pub deep : levels ≡ suc down
+  pub is : ns ≡ node at room entries more
+  pub parts : NodeParts b down at room entries more
+  pub more_stands : Stands b levels more
+  pub here : IsOrderly b at
+
+pub opened : (b : List ℕ) (levels at : ℕ) (ns : Nodes) → Stands b levels ns → IsNode ns → at ≡ link_to ns → Opened b levels at ns
+unfolding HasNodes nodes_of
+opened b levels at no_node st is e = absurd is
+opened b zero at (node place room entries more) st is e = absurd st.has
+opened b (suc down) at (node place room entries more) st is e =
+    let p = node_parts st in
+    subst (λ (x : ℕ). Opened b (suc down) x (node place room entries more)) (sym e) (record { down = down; room = room; entries = entries; more = more; deep = refl; is = refl; parts = p; more_stands = p.more_stands; here = st.orderly.0 })
+
+pub opened_inside : {b : List ℕ} {at : ℕ} → (c : ChainFrom b at) → NodeInside b at → Opened b c.levels at c.nodes
+opened_inside {b = b} {at = at} c inside = opened b c.levels at c.nodes c.stands (node_there c.nodes (λ z. (let low = inside.low in let is = c.link_is in absurd (omega arith)))) c.link_is
+
+-- it has these nodes, and where none has one behind it, none below
+pub opened_nodes : {b : List ℕ} {levels at : ℕ} {ns : Nodes} → (o : Opened b levels at ns) → length (nodes_of ns) ≡ 1 + length (lower_nodes o.entries) + length (nodes_of o.more)
+unfolding nodes_of
+opened_nodes o = omega (arith, ap (λ (x : Nodes). length (nodes_of x)) o.is, length-append (lower_nodes o.entries) (nodes_of o.more))
+
+zero_node : (at room : ℕ) (entries : Entries) (more : Nodes) → NextsAreZero (node at room entries more) → LowerAreZero entries × (more ≡ no_node)
+unfolding NextsAreZero
+zero_node at room entries no_node z = (z, refl)
+zero_node at room entries (node at' room' entries' more) z = absurd z
+
+pub opened_zero : {b : List ℕ} {levels at : ℕ} {ns : Nodes} → (o : Opened b levels at ns) → NextsAreZero ns → LowerAreZero o.entries × (o.more ≡ no_node)
+opened_zero {at = at} o z = zero_node at o.room o.entries o.more (rw o.is at z)
+
+-- ---- what an entry names
+
+-- a block is a VVR or a CVVR
+pub block_type : (b : List ℕ) (l : Leaf) → IsBlock b l → (type_at b l.place ≡ vvr_type) ⊎ (type_at b l.place ≡ cvvr_type)
+block_type b l e = elim (or_cases (is_a b (tiles b) vvr_type l.place) (is_a b (tiles b) cvvr_type l.place) e) [ inl p ↦ inl (is_a-type b (tiles b) vvr_type l.place p) | inr p ↦ inr (is_a-type b (tiles b) cvvr_type l.place p) ]
+
+pub no_node_type : (t : ℕ) → (t ≡ vvr_type) ⊎ (t ≡ cvvr_type) → t ≡ 6 → ⊥
+no_node_type t (inl e) z = omega arith
+no_node_type t (inr e) z = omega arith
+
+pub node_linkable : (b : List ℕ) (levels : ℕ) (nodes : Nodes) → IsNode nodes → HasNodes b (tiles b) levels nodes → is_linkable b (tiles b) vxr_type (link_to nodes) ≡ true
+unfolding HasNodes
+node_linkable b levels no_node is h = absurd is
+node_linkable b zero (node place room entries more) is h = absurd h
+node_linkable b (suc levels) (node place room entries more) is h = h.0.linkable
+
+pub chain_is : (b : List ℕ) (at k : ℕ) → type_at b (offset_at b at k) ≡ 6 → chain_at b at k ≡ offset_at b at k
+chain_is b at k e = rw e refl
+
+pub no_chain : (b : List ℕ) (at k : ℕ) → type_at b (offset_at b at k) ≢ 6 → chain_at b at k ≡ 0
+no_chain b at k e = grind (arith, nat_tests)
+
+-- The first entry of some, and the others. It names this lower chain, or none where it names a block. Of what is asked of all of them it tells what it adds.
+pub record FirstEntry (b : List ℕ) (down at i : ℕ) (entries : Entries) : Type 0 where
+  pub rest : Entries
+  pub low : Nodes
+  pub met : List Met
+  pub leaf_here : ℕ → Option Leaf
+  pub left : EntriesLeft b down at (i + 1) rest
+  pub stands : Stands b down low
+  pub named : In (offset_at b at i) (tiles b)
+  pub chain : chain_at b at i ≡ link_to low
+  pub many : entry_count entries ≡ suc (entry_count rest)
+  pub nodes : lower_nodes entries ≡ nodes_of low ++ lower_nodes rest
+  pub firsts : entry_firsts entries ≡ first_at b at i ∷ (firsts_of low ++ entry_firsts rest)
+  pub mets : met_below entries ≡ met ++ met_below rest
+  pub skips : (rec : ℕ) → ltb (last_at b at i) rec ≡ true → ((other : Option Leaf) → find_entry rec entries other ≡ find_entry rec rest other) × ((other : ℕ) → passed_from rec entries other ≡ passed_from rec rest other)
+  pub gap : (rec : ℕ) → ltb (last_at b at i) rec ≡ false → ltb rec (first_at b at i) ≡ true → (other : Option Leaf) → find_entry rec entries other ≡ None
+  pub has : (rec : ℕ) → ltb (last_at b at i) rec ≡ false → ltb rec (first_at b at i) ≡ false → ((other : Option Leaf) → find_entry rec entries other ≡ leaf_here rec) × ((other : ℕ) → passed_from rec entries other ≡ nodes_passed rec low)
+  pub zero : LowerAreZero entries → NextsAreZero low × LowerAreZero rest
+  pub of_block : type_at b (offset_at b at i) ≢ 6 → (met ≡ met_block (first_at b at i) (last_at b at i) (offset_at b at i) ∷ []) × ((rec : ℕ) → leaf_here rec ≡ Some (leaf (first_at b at i) (last_at b at i) (offset_at b at i) (eqb (type_at b (offset_at b at i)) 13)))
+  pub of_lower : type_at b (offset_at b at i) ≡ 6 → (offset_at b at i ≡ link_to low) × (met ≡ met_in low) × ((rec : ℕ) → leaf_here rec ≡ find_in rec low)
+
+pub first_entry : {b : List ℕ} {down at i : ℕ} (entries : Entries) → EntriesLeft b down at i entries → 0 < entry_count entries → FirstEntry b down at i entries
+unfolding HasNodes Names nodes_of lower_nodes entry_leaves firsts_of entry_firsts met_in met_below find_in find_entry nodes_passed passed_from NextsAreZero LowerAreZero
+first_entry no_entry l some = absurd (omega arith)
+first_entry {b = b} {at = at} {i = i} (block first last place packed entries) l some =
+    let z : suc i ≡ i + 1 = omega arith in
+    let e = l.say.0 in
+    let no = no_node_type (type_at b place) (block_type b (leaf first last place packed) l.blocks.0) in
+    record {
+      rest = entries;
+      low = no_node;
+      met = met_block first last place ∷ [];
+      leaf_here = λ rec. Some (leaf first last place packed);
+      left = rw z at (past_first l);
+      stands = record { has = tt; orderly = tt; blocks = tt };
+      named = rw e.offset_is (block_in b (tiles b) place l.blocks.0);
+      chain = no_chain b at i (λ t. no (rw e.offset_is at t));
+      many = refl;
+      nodes = refl;
+      firsts = rw e.first_is refl;
+      mets = refl;
+      skips = λ rec t. (let u = rw e.last_is at t in (λ other. rw u refl, λ other. rw u refl));
+      gap = λ rec t h other. (let u = rw e.last_is at t in let v = rw e.first_is at h in rw (u, v) refl);
+      has = λ rec t h. (let u = rw e.last_is at t in let v = rw e.first_is at h in (λ other. rw (u, v) refl, λ other. rw u refl));
+      zero = λ z. (tt, z);
+      of_block = λ n. rw (e.first_is, e.last_is, e.offset_is) (refl, λ rec. ap (λ x. Some (leaf first last place x)) (sym l.names.1));
+      of_lower = λ t. absurd (no (rw e.offset_is at t));
+    }
+first_entry {b = b} {down = down} {at = at} {i = i} (lower first last nodes entries) l some =
+    let z : suc i ≡ i + 1 = omega arith in
+    let e = l.say.0 in
+    let p = past_lower_one l in
+    let link = node_linkable b down nodes l.names.0 l.names.1 in
+    let six : type_at b (offset_at b at i) ≡ 6 = rw e.offset_is (linkable-type b (tiles b) vxr_type (link_to nodes) link) in
+    record {
+      rest = entries;
+      low = nodes;
+      met = met_in nodes;
+      leaf_here = λ rec. find_in rec nodes;
+      left = rw z at p.1;
+      stands = p.0;
+      named = rw e.offset_is (linkable-in b (tiles b) vxr_type (link_to nodes) link);
+      chain = chain_is b at i six ∙ e.offset_is;
+      many = refl;
+      nodes = refl;
+      firsts = rw e.first_is refl;
+      mets = refl;
+      skips = λ rec t. (let u = rw e.last_is at t in (λ other. rw u refl, λ other. rw u refl));
+      gap = λ rec t h other. (let u = rw e.last_is at t in let v = rw e.first_is at h in rw (u, v) refl);
+      has = λ rec t h. (let u = rw e.last_is at t in let v = rw e.first_is at h in (λ other. rw (u, v) refl, λ other. rw (u, v) refl));
+      zero = λ z. z;
+      of_block = λ n. absurd (n six);
+      of_lower = λ t. (e.offset_is, refl, λ rec. refl);
+    }
+
+-- ---- on the way along the entries of a node, from number i on
+
+-- the chain below the entry before, the other entries and the nodes behind this one have fewer nodes than there were at first, as many turns ago
+pub record AtEntry {b : List ℕ} {levels at : ℕ} {ns : Nodes} (o : Opened b levels at ns) (turn i : ℕ) (nodes low : Nodes) : Type 0 where
+  pub rest : Entries
+  pub left : EntriesLeft b o.down at i rest
+  pub many : i + entry_count rest ≡ used_count b at
+  pub fewer : length (nodes_of low) + length (lower_nodes rest) + length (nodes_of o.more) + (turn + 1) ≤ length (nodes_of nodes)
+
+module _ {b : List ℕ} {levels at : ℕ} {ns : Nodes} (o : Opened b levels at ns) where
+  abbrev pub enter : {turn : ℕ} {nodes : Nodes} → (low : Nodes) → length (nodes_of low) + length (nodes_of ns) + turn ≤ length (nodes_of nodes) → AtEntry o turn 0 nodes low
+  enter low few = record { rest = o.entries; left = o.parts.left; many = omega (arith, o.parts.says.used_is); fewer = omega (arith, opened_nodes o) }
+
+  module _ {turn i : ℕ} {nodes low : Nodes} (e : AtEntry o turn i nodes low) where
+    pub entry_here : i < used_count b at → FirstEntry b o.down at i e.rest
+    entry_here lt = first_entry e.rest e.left (omega (arith, e.many))
+
+    pub few_below : (f : FirstEntry b o.down at i e.rest) → length (lower_nodes e.rest) ≡ length (nodes_of f.low) + length (lower_nodes f.rest)
+    few_below f = ap length f.nodes ∙ length-append (nodes_of f.low) (lower_nodes f.rest)
+
+    abbrev pub pass : (k : ℕ) → i + 1 ≡ k → (f : FirstEntry b o.down at i e.rest) → AtEntry o turn k nodes f.low
+    pass k is f = record { rest = f.rest; left = subst (λ (x : ℕ). EntriesLeft b o.down at x f.rest) is f.left; many = omega (arith, e.many, f.many); fewer = omega (arith, e.fewer, few_below f) }
+
+    pub none_here : used_count b at ≤ i → e.rest ≡ no_entry
+    none_here le = no_entries e.rest (omega (arith, e.many))
