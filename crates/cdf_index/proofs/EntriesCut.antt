@@ -1,5 +1,5 @@
 -- Where the entries of a node are cut in two: those before a record, and the others.
-use Rattle.std.proofs.Common.{◌≡◌, ℕ, zero, suc, ◌+◌, ◌*◌, ◌<◌, ◌≤◌, List, true, false, ltb, if◌then◌else◌, refl, ap, subst, ◌∙◌, arith, inl, inr}
+use Rattle.std.proofs.Common.{◌≡◌, ℕ, zero, suc, ◌+◌, ◌*◌, ◌<◌, ◌≤◌, List, Bool, true, false, ltb, if◌then◌else◌, refl, ap, subst, ◌∙◌, arith, inl, inr}
 use Rattle.cdf_index.proofs.Common.{nat_tests, word, Entries, no_entry, block, lower, entry_count, room_at, used_count, last_at, SayEntries, Begun, in_column, Ascends, passed}
 use Rattle.cdf_index.specs.Finding.{IsCut}
 use Rattle.std.proofs.lemmas.Bool.{cases_lt}
@@ -38,30 +38,20 @@ parted_all P Q n count before stop most = record { before = λ j lt. subst P (sa
     same : (j : ℕ) → j ≡ 0 + j
     same j = omega arith
 
+-- so many pass a test
+pub one_more : (P Q : ℕ → Type 0) (k i count : ℕ) (t : Bool) (rest : ℕ) → (P k → t ≡ true) → (Q k → t ≡ false) → Parted P Q k i (suc count) → ((m : ℕ) → Parted P Q (suc k) m count → m ≡ rest) → i ≡ (if t then suc rest else 0)
+one_more P Q k zero count t rest passes fails p r = let z : k + 0 ≡ k = omega arith in rw (fails (subst Q z (p.stop (omega arith)))) refl
+one_more P Q k (suc i) count t rest passes fails p r = let z : k + 0 ≡ k = omega arith in rw (passes (subst P z (p.before 0 (omega arith)))) (ap suc (r i (parted_rest P Q k i count p)))
+
 module _ (b : List ℕ) (at rec : ℕ) where
   -- the first i of so many entries from number k on end before the record
   abbrev Cuts : ℕ → ℕ → ℕ → Type 0
   Cuts k i count = Parted (λ j. last_at b at j < rec) (λ j. rec ≤ last_at b at j) k i count
 
-  one_more : (k i count last rest : ℕ) → last_at b at k ≡ last → Cuts k i (suc count) → ((m : ℕ) → i ≡ suc m → m ≡ rest) → i ≡ (if ltb last rec then suc rest else 0)
-  one_more k zero count last rest e c r =
-      let z : k + 0 ≡ k = omega arith in
-      let g = rw z at (c.stop (omega arith)) in
-      let t : ltb last rec ≡ false = grind (arith, nat_tests) in
-      rw t refl
-  one_more k (suc i) count last rest e c r =
-      let z : k + 0 ≡ k = omega arith in
-      let g = rw z at (c.before 0 (omega arith)) in
-      let t : ltb last rec ≡ true = grind (arith, nat_tests) in
-      rw t (ap suc (r i refl))
-
-  rest : (k i m count : ℕ) → Cuts k i (suc count) → i ≡ suc m → Cuts (suc k) m count
-  rest k i m count c e = parted_rest (λ j. last_at b at j < rec) (λ j. rec ≤ last_at b at j) k m count (subst (λ (x : ℕ). Cuts k x (suc count)) e c)
-
   passed_is : (k i : ℕ) (es : Entries) → SayEntries b at k es → Cuts k i (entry_count es) → i ≡ passed rec es
   passed_is k i no_entry s c = let m = c.most in omega arith
-  passed_is k i (block first last place packed es) s c = one_more k i (entry_count es) last (passed rec es) s.0.last_is c (λ m e. passed_is (suc k) m es s.1 (rest k i m (entry_count es) c e))
-  passed_is k i (lower first last nodes es) s c = one_more k i (entry_count es) last (passed rec es) s.0.last_is c (λ m e. passed_is (suc k) m es s.1 (rest k i m (entry_count es) c e))
+  passed_is k i (block first last place packed es) s c = one_more (λ j. last_at b at j < rec) (λ j. rec ≤ last_at b at j) k i (entry_count es) (ltb last rec) (passed rec es) (λ x. grind (arith, nat_tests, s.0.last_is)) (λ x. grind (arith, nat_tests, s.0.last_is)) c (λ m r. passed_is (suc k) m es s.1 r)
+  passed_is k i (lower first last nodes es) s c = one_more (λ j. last_at b at j < rec) (λ j. rec ≤ last_at b at j) k i (entry_count es) (ltb last rec) (passed rec es) (λ x. grind (arith, nat_tests, s.0.last_is)) (λ x. grind (arith, nat_tests, s.0.last_is)) c (λ m r. passed_is (suc k) m es s.1 r)
 
   pub passed_by : (room used bound i : ℕ) → room ≡ room_at b at → used ≡ used_count b at → bound ≡ rec → IsCut b at (28 + 4 * room) used bound i → (es : Entries) → used_count b at ≡ entry_count es → SayEntries b at 0 es → i ≡ passed rec es
   passed_by room used bound i r u q c es e s =

@@ -8,7 +8,8 @@ use Rattle.cdf_format.specs.RecordTypes.{cvvr_type}
 use Rattle.cdf_format.proofs.Members.{is_in-true, is_in-false}
 use Rattle.cdf_index.specs.Writing.{SaysUnused, Shortened}
 use Rattle.cdf_leaves.proofs.Spares.{Spares}
-use Rattle.cdf_leaves.proofs.SpotNode.{SpotNode, begins_by}
+use Rattle.cdf_leaves.proofs.SpotNode.{SpotNode}
+use Rattle.cdf_index.proofs.Leading.{begins_by}
 use Rattle.cdf_leaves.proofs.State.{NodeNow}
 use Rattle.cdf_index.proofs.OneNode.{entry_past}
 

@@ -29,7 +29,8 @@ use Rattle.cdf_leaves.proofs.NodesMore.{places, all_wider}
 use Rattle.cdf_leaves.proofs.NodesOf.{in_new, node_of, old_in, all_once}
 use Rattle.cdf_leaves.proofs.Own.{searchable, own_node, node_fits, vdr_apart, now_has, now_blocks, node_kept, node_spares, vdr_kept, vdr_in, vdr_used}
 use Rattle.cdf_leaves.proofs.Spares.{Spares, spares_kept, all_entries, fits_still, node_inside, front_lies, node_long}
-use Rattle.cdf_leaves.proofs.SpotNode.{SpotNode, NotAt, spot_node, way_apart, begins_by}
+use Rattle.cdf_leaves.proofs.SpotNode.{SpotNode, NotAt, spot_node, way_apart}
+use Rattle.cdf_index.proofs.Leading.{begins_by}
 use Rattle.cdf_leaves.proofs.State.{NodeNow, node_then, NodeTouch, State, OnWay, first_step, widened_all}
 use Rattle.cdf_format.proofs.IndexLemmas.{nodes_stand}
 use Rattle.cdf_edits.proofs.Edits.RecordFrame.{through}

@@ -1,16 +1,13 @@
 -- The node at the end of the way.
-use Rattle.std.proofs.Common.{◌≡◌, ◌≢◌, ◌⊎◌, ℕ, zero, suc, ◌+◌, ◌<◌, ◌≤◌, max, List, [], ◌∷◌, true, false, leb, refl, sym, ap, subst, ◌∙◌, arith, inl, inr}
-use Rattle.cdf_index.proofs.EntriesCut.{parted_all, parted_rest}
-use Rattle.cdf_index.proofs.Leading.{Passed}
-use Rattle.cdf_leaves.proofs.Common.{chain_reaches, leads_down, past, room_of_new, is_linkable, Nodes, no_node, node, Entries, no_entry, block, lower, entry_count, room_at, SaysNode, vxr_type, In, Distinct, either, In-append, In-append_right, Distinct-back, Begun, Begins}
+use Rattle.std.proofs.Common.{◌≡◌, ◌≢◌, ◌⊎◌, ℕ, zero, suc, ◌≤◌, max, List, [], ◌∷◌, true, false, refl, sym, subst, ◌∙◌, arith, inl, inr}
+use Rattle.cdf_leaves.proofs.Common.{chain_reaches, leads_down, room_of_new, is_linkable, Nodes, no_node, node, Entries, no_entry, block, lower, room_at, SaysNode, vxr_type, In, Distinct, either, In-append, In-append_right, Distinct-back}
 use Rattle.cdf_edits.specs.Commands.Room.{widest, widest_below}
 use Rattle.cdf_edits.specs.Index.Grown.{new_room, new_room_below, reaches}
-use Rattle.cdf_format.specs.Index.{nodes_of, lower_nodes, first_at}
-use Rattle.cdf_format.specs.IndexOf.{SayEntries, HasNodes, Names}
+use Rattle.cdf_format.specs.Index.{nodes_of, lower_nodes}
+use Rattle.cdf_format.specs.IndexOf.{HasNodes, Names}
 use Rattle.cdf_format.proofs.Members.{In-append_left, Distinct-front}
 use Rattle.cdf_index.specs.Way.{way, way_below, spot, spot_below}
 use Rattle.cdf_index.proofs.WayDown.{spot_below_in}
-use Rattle.std.proofs.lemmas.Bool.{lt-leb, le-leb}
 
 -- a node is at the end of the way, and the new one has so much room
 pub record SpotNode (b ts : List ℕ) (f at new : ℕ) : Type 0 where
@@ -104,25 +101,3 @@ mutual
     | inl j ↦ let r = nodes_linkable b ts levels m nodes n.1 j in (r.0, most_left (widest nodes) (widest_below es) (room_at b m) r.1)
     | inr j ↦ let r = lower_linkable b ts levels m es n.2 j in (r.0, most_right (widest nodes) (widest_below es) (room_at b m) r.1)
   ]
-
--- ---- its entries that begin at a record or before it
-
-module _ (b : List ℕ) (at f : ℕ) where
-  past_it : (k first : ℕ) → f < first_at b at (k + 0) → first_at b at k ≡ first → leb first f ≡ false
-  past_it k first g is = let z : k + 0 ≡ k = omega arith in lt-leb first f (subst (λ (n : ℕ). f < n) (ap (first_at b at) z ∙ is) g)
-
-  upto_it : (k first : ℕ) → first_at b at (k + 0) ≤ f → first_at b at k ≡ first → leb first f ≡ true
-  upto_it k first g is = let z : k + 0 ≡ k = omega arith in le-leb first f (subst (λ (n : ℕ). n ≤ f) (ap (first_at b at) z ∙ is) g)
-
-  rest : (k n count : ℕ) → Passed b f at k (suc n) (suc count) → Passed b f at (suc k) n count
-  rest = parted_rest (λ j. first_at b at j ≤ f) (λ j. f < first_at b at j)
-
-  past_count : (k n : ℕ) (es : Entries) → SayEntries b at k es → Passed b f at k n (entry_count es) → n + entry_count (past f es) ≡ entry_count es
-  past_count k n no_entry s p = let m = p.most in omega arith
-  past_count k zero (block first last place packed es) s p = rw (past_it k first (p.stop (omega arith)) s.0.first_is) (omega arith)
-  past_count k zero (lower first last nodes es) s p = rw (past_it k first (p.stop (omega arith)) s.0.first_is) (omega arith)
-  past_count k (suc n) (block first last place packed es) s p = let r = past_count (suc k) n es s.1 (rest k n (entry_count es) p) in rw (upto_it k first (p.before 0 (omega arith)) s.0.first_is) (omega arith)
-  past_count k (suc n) (lower first last nodes es) s p = let r = past_count (suc k) n es s.1 (rest k n (entry_count es) p) in rw (upto_it k first (p.before 0 (omega arith)) s.0.first_is) (omega arith)
-
-pub begins_by : (b : List ℕ) (at f p : ℕ) → Begun b at f p → Begins b at f p
-begins_by b at f p g es u s = let most = g.most in past_count b at f 0 p es s (parted_all (λ j. first_at b at j ≤ f) (λ j. f < first_at b at j) p (entry_count es) g.before (λ lt. g.stop (omega arith)) (omega arith))
