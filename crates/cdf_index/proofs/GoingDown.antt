@@ -8,9 +8,9 @@ use Rattle.cdf_format.specs.IndexOf.{HasNodes}
 use Rattle.cdf_index.specs.Way.{way, way_below, spot, spot_below}
 use Rattle.cdf_index.proofs.EntriesLeft.{node_parts}
 use Rattle.cdf_index.proofs.Leading.{Below, Stand, begun_in, below, counted_begun, ends_past, LedBy, is_some, lead, lead_none, leads, led, reached_is, some_node}
-use Rattle.cdf_index.proofs.LeafMore.{chain_not_reached}
+use Rattle.cdf_index.proofs.Coming.{chain_not_reached}
 use Rattle.cdf_index.proofs.Looking.{node_there}
-use Rattle.cdf_index.proofs.WayDown.{no_zero, spot_in, way_in}
+use Rattle.cdf_index.proofs.WayDown.{no_zero, way_in}
 use Rattle.cdf_format.proofs.IndexLemmas.{nodes_stand}
 use Rattle.std.proofs.lemmas.Bool.{ne_eqb}
 use Rattle.cdf_format.proofs.TilesLemmas.{length_tiles}
@@ -165,14 +165,14 @@ module _ {b : List ℕ} {f turn levels : ℕ} {nodes : Nodes} {best here : Spot}
   out no_node d e n w = rw (d, e) (ap (λ (x : ℕ). ([], x)) (sym c.best_sees.place_is))
   out (node place room fs more) d e n w = let t = ne_eqb best.lower 0 (λ z. n tt (sym e ∙ z)) in let r = w refl in rw (d, t) (grind (arith, r.way_is, r.spot_is, r.entry_is, c.best_sees.place_is, begun_best))
 
-  among : route f nodes ≡ route_here f c.best_of → In best.place (nodes_of nodes)
-  among r = subst (λ (x : ℕ). In x (nodes_of nodes)) (sym c.best_sees.place_is) (elim (either (leads_down f false es)) [
-    | inl d ↦ let e : way f nodes ≡ (link_to c.best_of, down_at f es) ∷ way_below f es = ap (λ (x : Route). x.0) r ∙ rw d refl in (rw e at (way_in f nodes)).0
-    | inr d ↦ let e : spot f nodes ≡ link_to c.best_of = ap (λ (x : Route). x.1) r ∙ rw d refl in elim (spot_in f nodes) [ inl z ↦ absurd (link_there levels c.best_of c.best_tree (sym e ∙ z)) | inr i ↦ subst (λ (x : ℕ). In x (nodes_of nodes)) e i ]
+  among : IsTree b levels nodes → route f nodes ≡ route_here f c.best_of → In best.place (nodes_of nodes)
+  among t r = subst (λ (x : ℕ). In x (nodes_of nodes)) (sym c.best_sees.place_is) (elim (either (leads_down f false es)) [
+    | inl d ↦ let e : way f nodes ≡ (link_to c.best_of, down_at f es) ∷ way_below f es = ap (λ (x : Route). x.0) r ∙ rw d refl in (rw e at (way_in f t.from t.upto nodes t.order).0).0
+    | inr d ↦ let e : spot f nodes ≡ link_to c.best_of = ap (λ (x : Route). x.1) r ∙ rw d refl in elim (way_in f t.from t.upto nodes t.order).1 [ inl z ↦ absurd (link_there levels c.best_of c.best_tree (sym e ∙ z)) | inr i ↦ subst (λ (x : ℕ). In x (nodes_of nodes)) e i ]
   ])
 
-  pub spot_found : (here.begun < here.used) ⊎ (here.next ≡ 0) → SpotIs b f levels nodes best
-  spot_found o =
+  pub spot_found : IsTree b levels nodes → (here.begun < here.used) ⊎ (here.next ≡ 0) → SpotIs b f levels nodes best
+  spot_found t o =
       let none = over o in
       let here_route : route f nodes ≡ route_here f c.best_of = c.route_is ∙ rw none refl in
       let place = c.best_sees.place_is in
@@ -182,7 +182,7 @@ module _ {b : List ℕ} {f turn levels : ℕ} {nodes : Nodes} {best here : Spot}
       let all = here_route ∙ out low (leads b (tiles b) best_top.levels_below f no_node es best_top.stand.left.names) lower (λ is. link_there best_top.levels_below low (led_best.tree is)) (λ t. led f best_top.low best_top.high no_node es best_top.stand.order (begun t) t) in
       record {
         sees = subst (λ (x : ℕ). SeesNode b x f best) (sym place) c.best_sees;
-        among = among here_route;
+        among = among t here_route;
         down = best_top.levels_below;
         low = low;
         lower_is = lower;

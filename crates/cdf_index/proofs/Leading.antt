@@ -8,7 +8,7 @@ use Rattle.cdf_index.specs.Order.{AreInOrder}
 use Rattle.cdf_index.specs.Way.{way_below, spot_below}
 use Rattle.cdf_index.proofs.EntriesCut.{Parted, one_more, parted_all}
 use Rattle.cdf_index.proofs.EntriesLeft.{EntriesLeft, past_first, past_lower_one}
-use Rattle.cdf_index.proofs.LeafMore.{not_reached}
+use Rattle.cdf_index.proofs.Coming.{not_reached}
 use Rattle.cdf_index.proofs.Looking.{block_type, no_node_type, node_linkable}
 use Rattle.cdf_index.proofs.OrderLemmas.{end_after}
 use Rattle.cdf_index.proofs.Walking.{chain_is, no_chain}

@@ -4,7 +4,7 @@ use Rattle.cdf_index.proofs.Common.{eqb-true, filter, flat_map, fold, find, nat_
 use Rattle.std.proofs.lemmas.Bool.{ltb-false, leb-true, leb-false, le-leb, lt-ltb, or_parts}
 use Rattle.std.specs.Prelude.{int_lt}
 use Rattle.cdf_edits.specs.Index.Blocks.{firsts_of, entry_firsts}
-use Rattle.cdf_edits.specs.Index.Grown.{with_block, with_leaf, with_lower}
+use Rattle.cdf_edits.specs.Index.Grown.{with_block, with_leaf}
 use Rattle.cdf_edits.proofs.Edits.LeafPieces.{IsOneOf}
 use Rattle.cdf_edits.proofs.Edits.LeafRecords.{signed}
 use Rattle.cdf_format.specs.Index.{nodes_of, lower_nodes, leaves_of, entry_leaves}
@@ -12,7 +12,8 @@ use Rattle.cdf_format.specs.IndexRules.{has_room, is_between, nodes_rows, used_r
 use Rattle.cdf_format.proofs.RowLemmas.{Hold-append}
 use Rattle.cdf_index.specs.Order.{InOrder, AreInOrder}
 use Rattle.cdf_index.proofs.GoodIndex.{order_from}
-use Rattle.cdf_index.proofs.LeafMore.{chain_reaches_from, reaches_from, not_reached, none_reached, parts_in_order}
+use Rattle.cdf_index.proofs.Coming.{Comes, comes, comes_along, comes_below, comes_first, comes_here, chain_reaches_from}
+use Rattle.cdf_index.proofs.LeafMore.{leaves_both, none_reached, parts_in_order}
 use Rattle.cdf_index.proofs.OrderLemmas.{end_after}
 use Rattle.cdf_index.proofs.Saying.{front, front_past, upto_both, upto_is, no_entries}
 use Rattle.cdf_edits.proofs.Edits.LeavesOrder.{before_is}
@@ -164,60 +165,40 @@ order_with_entry new at place room low high es more o d c l k h u n n' =
       ]
     ]
 
-pub none_behind : (f first last high : ℕ) (es : Entries) → f < first → first ≤ last → AreInOrder (suc last) high es → reaches f es ≡ false
-none_behind f first last high es g l o = not_reached f (suc last) high es o (omega arith)
-
 -- ---- the index
 
-mutual
-  unfolding InOrder AreInOrder leaves_of entry_leaves firsts_of entry_firsts with_leaf with_lower
-
-  pub leaf_in_order : (new : Leaf) (at low high : ℕ) (index : Nodes) → InOrder low high index → low ≤ new.first → new.first ≤ new.last → new.last ≤ high → Uncovered new.first (leaves_of index) → NoneBegins new.first new.last (firsts_of index) → InOrder low high (with_leaf new at index)
-  leaf_in_order new at low high no_node o l k h u n = ((l, k, h, tt), tt)
-  leaf_in_order new at low high (node place room es more) o l k h u n =
-      let us = Each-split (Misses new.first) (entry_leaves es) (leaves_of more) u in
-      let ns = Each-split (BeginsBehind new.first new.last) (entry_firsts es) (firsts_of more) n in
-      elim (either (chain_reaches new.first more)) [
-        | inl r ↦ rw r (o.0, leaf_in_order new at (past_entries low es) high more o.1 (chain_reaches_from new.first (past_entries low es) high more o.1 r) k h us.1 ns.1)
-        | inr r ↦ elim (either (leads_down new.first false es)) [
-          | inl d ↦
-              let p = lower_in_order new at low high false es o.0 d (λ e. absurd (true≢false (sym e))) k h us.0 ns.0 in
-              rw (r, d) (p.0, raised new.first new.last (past_entries low es) (past_entries low (with_lower new at es)) high more o.1 r ns.1 p.1)
-          | inr d ↦ rw (r, d) (order_with_entry new at place room low high es more o d r l k h us.0 ns.0 ns.1)
-        ]
-      ]
-
-  pub lower_in_order : (new : Leaf) (at low high : ℕ) (given : Bool) (es : Entries) → AreInOrder low high es → leads_down new.first given es ≡ true → (given ≡ true → reaches new.first es ≡ true) → new.first ≤ new.last → new.last ≤ high
-      → Uncovered new.first (entry_leaves es) → NoneBegins new.first new.last (entry_firsts es) → AreInOrder low high (with_lower new at es) × (past_entries low (with_lower new at es) ≤ max (past_entries low es) (suc new.last))
-  lower_in_order new at low high given no_entry o d g k h u n = absurd (true≢false (sym (g d)))
-  lower_in_order new at low high given (block first last place packed es) o d g k h u n = elim (either (leb first new.first)) [
-    | inl s ↦ let r = lower_in_order new at (suc last) high false es o.3 (rw s at d) (λ e. absurd (true≢false (sym e))) k h u.1 n.1 in ((o.0, o.1, o.2, r.0), r.1)
-    | inr s ↦ absurd (omega (arith, leb-false first new.first s, reaches_from new.first (suc last) high es o.3 (rw s at (g (rw s at d))), o.1))
-  ]
-  lower_in_order new at low high given (lower first last nodes es) o d g k h u n =
-      let us = Each-split (Misses new.first) (leaves_of nodes) (entry_leaves es) u in
-      let ns = Each-split (BeginsBehind new.first new.last) (firsts_of nodes) (entry_firsts es) n.1 in
-      elim (either (leb first new.first)) [
-        | inl s ↦ elim (either (reaches new.first es)) [
-          | inl r ↦ let p = lower_in_order new at (suc last) high true es o.4 (rw s at d) (λ e. r) k h us.1 ns.1 in rw r ((o.0, o.1, o.2, o.3, p.0), p.1)
-          | inr r ↦
-              let o1 = o.1 in
-              let o2 = o.2 in
-              let wide = max last new.last in
-              let low_wide = widened first last wide nodes (omega arith) o.3 in
-              let inner = leaf_in_order new at first wide nodes low_wide (leb-true first new.first s) k (omega arith) us.0 ns.0 in
-              let rest = raised_entries new.first new.last (suc last) (suc wide) high es o.4 r ns.1 (omega arith) in
-              let most = past_most (suc last) (suc wide) es in
-              let end = end_after (suc last) high es o.4 in
-              rw r ((o.0, omega arith, omega arith, inner, rest), omega arith)
-        ]
-        | inr s ↦ absurd (omega (arith, leb-false first new.first s, reaches_from new.first (suc last) high es o.4 (rw s at (g (rw s at d))), o.1))
-      ]
+order_come : {new : Leaf} {at : ℕ} {w : List (ℕ × ℕ)} {x n : ℕ} {ns ns' : Nodes} → Comes new at w x n ns ns' → (low high : ℕ) → InOrder low high ns → low ≤ new.first → new.first ≤ new.last → new.last ≤ high → Uncovered new.first (leaves_of ns) → NoneBegins new.first new.last (firsts_of ns) → InOrder low high ns'
+unfolding InOrder AreInOrder leaves_of entry_leaves firsts_of entry_firsts
+order_come comes_first low high o l k h u n = ((l, k, h, tt), tt)
+order_come {new = new} (comes_along {es = es} {more = more} t c) low high o l k h u n =
+    let us = Each-split (Misses new.first) (entry_leaves es) (leaves_of more) u in
+    let ns = Each-split (BeginsBehind new.first new.last) (entry_firsts es) (firsts_of more) n in
+    (o.0, order_come c (past_entries low es) high o.1 (chain_reaches_from new.first (past_entries low es) high more o.1 t) k h us.1 ns.1)
+order_come {new = new} (comes_below {more = more} fs first last nodes nodes' es t le r c) low high o l k h u n =
+    let whole = with_both fs (lower first last nodes es) in
+    let p = parts_in_order low high fs (lower first last nodes es) o.0 in
+    let us = Each-split (Misses new.first) (entry_leaves whole) (leaves_of more) u in
+    let ns = Each-split (BeginsBehind new.first new.last) (entry_firsts whole) (firsts_of more) n in
+    let ul = Each-split (Misses new.first) (leaves_of nodes) (entry_leaves es) (Each-split (Misses new.first) (entry_leaves fs) (entry_leaves (lower first last nodes es)) (subst (Uncovered new.first) (leaves_both fs (lower first last nodes es)) us.0)).1 in
+    let nl = Each-split (BeginsBehind new.first new.last) (firsts_of nodes) (entry_firsts es) (firsts_both new.first new.last fs (lower first last nodes es) ns.0).1 in
+    let wide = max last new.last in
+    let o1 = p.1.1 in
+    let o2 = p.1.2 in
+    let inner = order_come c first wide (widened first last wide nodes (omega arith) p.1.3) le k (omega arith) ul.0 nl.0 in
+    let rest = raised_entries new.first new.last (suc last) (suc wide) high es p.1.4 r nl.1 (omega arith) in
+    let end = end_after (suc last) high es p.1.4 in
+    let past_all : past_entries low whole ≡ past_entries (suc last) es = past_both low fs (lower first last nodes es) in
+    let past_now : past_entries low (with_both fs (lower first wide nodes' es)) ≡ past_entries (suc wide) es = past_both low fs (lower first wide nodes' es) in
+    (both_in_order low high fs (lower first wide nodes' es) p.0 (p.1.0, omega arith, omega arith, inner, rest), raised new.first new.last (past_entries low whole) (past_entries low (with_both fs (lower first wide nodes' es))) high more o.1 t ns.1 (omega (arith, past_most (suc last) (suc wide) es)))
+order_come {new = new} {at = at} (comes_here {place = place} {room = room} {es = es} {more = more} t d) low high o l k h u n =
+    let us = Each-split (Misses new.first) (entry_leaves es) (leaves_of more) u in
+    let ns = Each-split (BeginsBehind new.first new.last) (entry_firsts es) (firsts_of more) n in
+    order_with_entry new at place room low high es more o d t l k h us.0 ns.0 ns.1
 
 pub order_with_leaf : (new : Leaf) (at : ℕ) (index : Nodes) → InOrder 0 record_number_limit index → new.first ≤ new.last → find (λ (leaf : Leaf). covers new.first (range leaf.first leaf.last)) (leaves_of index) ≡ None → new.last < next_first new.first (firsts_of index)
     → InOrder 0 record_number_limit (with_leaf new at index)
 order_with_leaf new at index o k u n =
-    leaf_in_order new at 0 record_number_limit index o (omega arith) k (before_limit new.first new.last (firsts_of index) n) (uncovered_by new.first (leaves_of index) u) (none_begins new.first new.last (firsts_of index) n)
+    order_come (comes new at 0 record_number_limit index o) 0 record_number_limit o (omega arith) k (before_limit new.first new.last (firsts_of index) n) (uncovered_by new.first (leaves_of index) u) (none_begins new.first new.last (firsts_of index) n)
 
 -- ---- from the order to the rules
 

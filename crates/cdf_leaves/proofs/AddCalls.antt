@@ -14,9 +14,11 @@ use Rattle.cdf_leaves.proofs.Grown.{was}
 use Rattle.cdf_leaves.proofs.NodesOf.{old_in}
 use Rattle.cdf_index.proofs.FieldSet.{field_set}
 use Rattle.cdf_leaves.proofs.LeafStarted.{first_added}
-use Rattle.cdf_leaves.proofs.Own.{searchable, own_node, node_fits, node_kept, node_spares}
+use Rattle.cdf_leaves.proofs.Own.{searchable, own_order, own_node, node_fits, node_kept, node_spares}
 use Rattle.cdf_leaves.proofs.Spares.{fits_still, front_lies, node_inside, node_long}
 use Rattle.cdf_index.proofs.Measured.{seven_at_least}
+use Rattle.cdf_index.proofs.Coming.{Comes, comes}
+use Rattle.cdf_model.specs.Limits.{record_number_limit}
 use Rattle.cdf_leaves.proofs.SpotNode.{NotAt, nodes_linkable, way_apart}
 use Rattle.cdf_leaves.proofs.State.{State}
 use Rattle.cdf_index.proofs.OneVariable.{one_of}
@@ -153,7 +155,9 @@ module _ {b : List ℕ} {kind : Kind} {before : List VariableShape} {own : Varia
       is_steps = subst (Each (IsStep b own.index)) way_is (steps_of found.steps.items among_own w.say)
 
       not_end : NotAt found.end.place (map step_pair found.steps.items)
-      not_end = subst (λ (ws : List (ℕ × ℕ)). NotAt found.end.place ws) (sym way_is) (subst (λ (y : ℕ). NotAt y (way first own.index)) (sym end_is) (way_apart first own.index (has good at_own).indexed.once no_0))
+      not_end =
+          let come = subst (λ (y : ℕ). Comes (leaf first 0 0 false) 0 (way first own.index) y (new_room first own.index) own.index (with_leaf (leaf first 0 0 false) 0 own.index)) (sym end_is) (comes (leaf first 0 0 false) 0 0 record_number_limit own.index (own_order good at_own)) in
+          subst (NotAt found.end.place) (sym way_is) (way_apart come (λ z. no_0 (subst (λ (y : ℕ). In y (nodes_of own.index)) z last_there)) (has good at_own).indexed.once)
 
       pub entry_long : {grown : List ℕ} {e : Entry} {at : ℕ} → EntryPut filled grown found.end e at → length grown ≤ length filled + vxr_bytes (max 7 found.end.room)
       entry_long put =

@@ -13,13 +13,13 @@ use Rattle.cdf_format.proofs.Tests.{same_of_bytes_eq}
 use Rattle.cdf_index.specs.Adding.{NodePlaced, IndexTouch, TailGoesOn}
 use Rattle.cdf_index.specs.Way.{placed}
 use Rattle.cdf_index.specs.Writing.{EntriesRead, Split, Chained}
+use Rattle.cdf_index.proofs.Coming.{Comes, comes}
 use Rattle.cdf_index.proofs.LeafMore.{leaves_more}
 use Rattle.cdf_index.proofs.NodeGrown.{grown_owed, split_owed, chained_owed, placed_link, placed_node as entry_placed}
 use Rattle.cdf_index.proofs.NodeSplit.{split}
 use Rattle.cdf_index.proofs.WayDown.{made, node_there_by}
 use Rattle.cdf_leaves.proofs.TopChain.{top_stays, top_grows, chain_inside, end_is_last, last_in}
 use Rattle.cdf_leaves.specs.Putting.{SplitMade, ChainMade}
-use Rattle.cdf_index.specs.Order.{InOrder}
 use Rattle.cdf_edits.proofs.Edits.RecordGrown.{grew_none, kept_then}
 use Rattle.cdf_leaves.proofs.Grown.{below, was, was_old, was_new, old_node, new_node, inserted_node, shortened_node, names_leaf, room_with, room_full}
 use Rattle.cdf_edits.proofs.Edits.ActsThen.{each_in}
@@ -27,7 +27,7 @@ use Rattle.cdf_index.proofs.FieldSet.{field_set}
 use Rattle.cdf_leaves.proofs.Linked.{link_set, link_room, link_used, link_entries, link_spares}
 use Rattle.cdf_leaves.proofs.NodesMore.{places, all_wider}
 use Rattle.cdf_leaves.proofs.NodesOf.{in_new, node_of, old_in, all_once}
-use Rattle.cdf_leaves.proofs.Own.{searchable, own_node, node_fits, vdr_apart, now_has, now_blocks, node_kept, node_spares, vdr_kept, vdr_in, vdr_used}
+use Rattle.cdf_leaves.proofs.Own.{own_order, own_node, node_fits, vdr_apart, now_has, now_blocks, node_kept, node_spares, vdr_kept, vdr_in, vdr_used}
 use Rattle.cdf_leaves.proofs.Spares.{Spares, spares_kept, all_entries, fits_still, node_inside, front_lies, node_long}
 use Rattle.cdf_leaves.proofs.SpotNode.{SpotNode, NotAt, spot_node, way_apart}
 use Rattle.cdf_index.proofs.Leading.{begins_by}
@@ -99,25 +99,25 @@ module _ {b : List ℕ} {kind : Kind} {before : List VariableShape} {own : Varia
   no_0 : In 0 (nodes_of index) → ⊥
   no_0 = no_zero b (shape b).records 8 index (sound good stood).has_shape.tiled h8
 
+  x_some : x ≢ 0
+  x_some z = no_0 (subst (λ (y : ℕ). In y (nodes_of index)) z among)
+
+  coming : (at : ℕ) → Comes l at (way l.first index) x new index (with_leaf l at index)
+  coming at = subst (λ (y : ℕ). Comes l at (way l.first index) y new index (with_leaf l at index)) (sym end_is) (comes l at 0 record_number_limit index (own_order good stood))
+
   spot_here : SpotNode b (shape b).records l.first x new
-  spot_here = elim (spot_node b (shape b).records 8 l.first index h8) [
-    | inl z ↦ absurd (no_0 (subst (λ (y : ℕ). In y (nodes_of index)) (end_is ∙ z) among))
-    | inr s ↦ subst (λ (y : ℕ). SpotNode b (shape b).records l.first y new) (sym end_is) s
-  ]
+  spot_here = spot_node (coming 0) b (shape b).records 8 h8 x_some
 
   -- the law, with the node where it was seen
   law : (at : ℕ) → widen_all l.last (way l.first index) (redo x (placed l at x) index) ≡ with_leaf l at index
-  law at =
-      ap (λ (y : ℕ). widen_all l.last (way l.first index) (redo y (placed l at y) index)) end_is
-      ∙ made b (shape b).records 8 at l index h8 (node_there_by (number b own.vdr vdr_vxr_head) index (has good stood).indexed.link_is some) once no_0
+  law at = made (coming at) x_some once
 
   same_nodes : (at : ℕ) → nodes_of (redo x (placed l at x) index) ≡ nodes_of (with_leaf l at index)
   same_nodes at = sym (all_wider l.last (way l.first index) (redo x (placed l at x) index)).0 ∙ ap nodes_of (law at)
 
   same_places : (at : ℕ) → places (leaves_of (redo x (placed l at x) index)) ≡ places (with_new l (leaves_of index))
   same_places at =
-      let s = searchable good stood in
-      let leaves : leaves_of (with_leaf l at index) ≡ with_new l (leaves_of index) = leaves_more l at 0 record_number_limit index (subst (λ (n : Nodes). InOrder 0 record_number_limit n) s.1 s.0.order) in
+      let leaves : leaves_of (with_leaf l at index) ≡ with_new l (leaves_of index) = leaves_more l at 0 record_number_limit index (own_order good stood) in
       sym (all_wider l.last (way l.first index) (redo x (placed l at x) index)).1 ∙ ap (λ (n : Nodes). places (leaves_of n)) (law at) ∙ ap places leaves
 
   -- ---- an image in which all records were taken
@@ -445,7 +445,7 @@ module _ {b : List ℕ} {kind : Kind} {before : List VariableShape} {own : Varia
     pub wide_state : {wide : List ℕ} → Each (IsStep b index) (way l.first index) → WidenedAlong grown wide l.last (way l.first index) → State b e.roomy wide recs every spare_was x after_leaf
     wide_state {wide = wide} steps w =
         subst (State b e.roomy wide recs every spare_was x) (law at)
-        (widened_all b e.roomy recs every spare_was x stand_every once_every grown wide l.last (redo x (placed l at x) index) (way l.first index) (on_way (way l.first index) steps (subst (λ (y : ℕ). NotAt y (way l.first index)) (sym end_is) (way_apart l.first index once no_0))) e.state w)
+        (widened_all b e.roomy recs every spare_was x stand_every once_every grown wide l.last (redo x (placed l at x) index) (way l.first index) (on_way (way l.first index) steps (way_apart (coming at) x_some once)) e.state w)
 
     -- ---- what stays
 

@@ -15,6 +15,8 @@ use Rattle.cdf_leaves.proofs.NodesMore.{places}
 use Rattle.cdf_leaves.proofs.Spares.{Spares, spares_kept}
 use Rattle.cdf_leaves.proofs.SpotNode.{nodes_linkable}
 pub use Rattle.cdf_index.proofs.OneVariable.{AmongAll, among_all}
+use Rattle.cdf_index.specs.Order.{InOrder}
+use Rattle.cdf_model.specs.Limits.{record_number_limit}
 
 the_own : {A : Type 0} (P : A → Type 0) (vs front : List A) (own : A) (rest : List A) → vs ≡ front ++ own ∷ rest → Each P vs → P own
 the_own P vs front own rest all e = (Each-split P front (own ∷ rest) (subst (Each P) all e)).1.0
@@ -45,6 +47,9 @@ module _ {b : List ℕ} {kind : Kind} {before : List VariableShape} {own : Varia
 
   pub searchable : HasIndex b (number b own.vdr vdr_vxr_head) × (index_at b (number b own.vdr vdr_vxr_head) ≡ own.index)
   searchable = good_index b (shape b) among.front own among.rest image (good_is_sound b good) among.all
+
+  pub own_order : InOrder 0 record_number_limit own.index
+  own_order = let s = searchable in subst (InOrder 0 record_number_limit) s.1 s.0.order
 
   pub own_node : (m : ℕ) → In m (nodes_of own.index) → In m (shape b).records × (type_at b m ≡ vxr_type)
   own_node m i = let l = (nodes_linkable b (shape b).records 8 m own.index (has good at).indexed.has_nodes i).0 in (linkable-in b (shape b).records vxr_type m l, linkable-type b (shape b).records vxr_type m l)

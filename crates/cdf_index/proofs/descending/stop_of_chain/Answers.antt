@@ -40,7 +40,7 @@ pub returns-clause-node : goal.returns-clause-node
 returns-clause-node g c = let t = c.requires.tree in best_node t.tiled (c.loop-turn.invariant.chain t.levels t.nodes t.tree t.link)
 
 pub returns-then-ends_search-clause-spot : goal.returns-then-ends_search-clause-spot
-returns-then-ends_search-clause-spot g c = λ levels nodes tree e. spot_found c.requires.tree.tiled (c.loop-turn.invariant.chain levels nodes tree e) (c.ends_search.ensures.ends c.if-ends_search.true)
+returns-then-ends_search-clause-spot g c = λ levels nodes tree e. spot_found c.requires.tree.tiled (c.loop-turn.invariant.chain levels nodes tree e) tree (c.ends_search.ensures.ends c.if-ends_search.true)
 
 pub returns-then-ends_search-clause-node : goal.returns-then-ends_search-clause-node
 returns-then-ends_search-clause-node g c = let t = c.requires.tree in best_node t.tiled (c.loop-turn.invariant.chain t.levels t.nodes t.tree t.link)
