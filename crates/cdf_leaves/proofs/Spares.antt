@@ -22,14 +22,11 @@ spares_then b mid now m p q = record {
   room_is = q.room_is ∙ p.room_is;
   used_is = q.used_is ∙ p.used_is;
   count_is = q.count_is ∙ p.count_is;
-  spare = λ i le lt f l o s. q.spare i (subst (λ (n : ℕ). n ≤ i) (sym p.used_is) le) (subst (λ (n : ℕ). i < n) (sym p.room_is) lt) f l o (p.spare i le lt f l o s);
+  spare = λ i le lt f l o s. q.spare i (omega (arith, p.used_is)) (omega (arith, p.room_is)) f l o (p.spare i le lt f l o s);
 }
 
 pub fits_still : (mid now : List ℕ) (m : ℕ) → Spares mid now m → NodeFits mid m → NodeFits now m
-fits_still mid now m s fits = (
-  subst (λ (n : ℕ). 28 + 16 * room_at now m ≤ n) (sym s.size_is) (subst (λ (n : ℕ). 28 + 16 * n ≤ size_at mid m) (sym s.room_is) fits.0),
-  subst (λ (n : ℕ). used_count now m ≤ n) (sym s.room_is) (subst (λ (n : ℕ). n ≤ room_at mid m) (sym s.used_is) fits.1),
-)
+fits_still mid now m s fits = (omega (arith, fits.0), omega (arith, fits.1))
 
 pub node_long : (r s : ℕ) → 28 + 16 * r ≤ s → 24 + 4 ≤ s
 node_long r s h = omega arith

@@ -25,12 +25,9 @@ node_then b roomy mid now was x m n s = record {
   size_is = s.size_is ∙ n.size_is;
   room_is = s.room_is ∙ n.room_is;
   fits = fits_still mid now m s n.fits;
-  count = λ c. subst (λ (k : ℕ). k ≤ room_at now m) (sym s.count_is) (subst (λ (k : ℕ). number mid m vxr_n_used_entries ≤ k) (sym s.room_is) (n.count c));
+  count = λ c. omega (arith, s.count_is, s.room_is, n.count c);
   stays = λ ne. s.used_is ∙ n.stays ne;
-  spare = λ i le lt.
-      (let le' : used_count mid m ≤ i = subst (λ (k : ℕ). k ≤ i) s.used_is le in
-      let lt' : i < room_at mid m = subst (λ (k : ℕ). i < k) s.room_is lt in
-      entry_still b mid now m i (was m i) (n.spare i le' lt') (s.spare i le' lt'));
+  spare = λ i le lt. entry_still b mid now m i (was m i) (n.spare i (omega (arith, s.used_is)) (omega (arith, s.room_is))) (s.spare i (omega (arith, s.used_is)) (omega (arith, s.room_is)));
 }
 
 -- it lies in one of the nodes, behind the type
