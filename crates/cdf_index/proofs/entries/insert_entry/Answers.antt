@@ -25,7 +25,7 @@ loop-moved-preserved g c =
     let set = subst (λ (x : List ℕ). EntrySet x (g.A.Area.image c.set_entry.new.area) c.args.at (c.args.used - c.loop-moved.moved) c.in_ok-before.before.first c.in_ok-before.before.last c.in_ok-before.before.place) e c.in_ok-set_entry.ensures.set in
     record {
       shifted = shift_more b (g.A.Area.image c.loop-moved.area) (g.A.Area.image c.set_entry.new.area) c.args.at c.args.used c.loop-moved.moved c.in_ok-before.before.first c.in_ok-before.before.last c.in_ok-before.before.place
-          i.shifted (omega arith) (subst (λ (x : ℕ). c.args.used < x) c.requires.room full) (let t = c.loop-moved-test.true in omega arith) c.in_ok-before.ensures.value set;
+          i.shifted c.requires.inside (subst (λ (x : ℕ). c.args.used < x) c.requires.room full) (let t = c.loop-moved-test.true in omega arith) c.in_ok-before.ensures.value set;
       area = edit_more (edit_more i.area (edits_by_read c.in_ok-before.ensures.area)) c.in_ok-set_entry.ensures.area;
       far = let t = c.loop-moved-test.true in omega arith;
     }
