@@ -21,7 +21,8 @@ use Rattle.cdf_index.proofs.WayDown.{made, node_there_by}
 use Rattle.cdf_leaves.proofs.TopChain.{top_stays, top_grows, chain_inside, end_is_last, last_in}
 use Rattle.cdf_leaves.specs.Putting.{SplitMade, ChainMade}
 use Rattle.cdf_edits.proofs.Edits.RecordGrown.{grew_none, kept_then}
-use Rattle.cdf_leaves.proofs.Grown.{below, was, was_old, was_new, old_node, new_node, inserted_node, shortened_node, names_leaf, room_with, room_full}
+use Rattle.std.proofs.lemmas.Bool.{lt-leb}
+use Rattle.cdf_leaves.proofs.Grown.{was, was_old, was_new, old_node, new_node, inserted_node, shortened_node, names_leaf, room_with, room_full}
 use Rattle.cdf_edits.proofs.Edits.ActsThen.{each_in}
 use Rattle.cdf_index.proofs.FieldSet.{field_set}
 use Rattle.cdf_leaves.proofs.Linked.{link_set, link_room, link_used, link_entries, link_spares}
@@ -347,7 +348,7 @@ module _ {b : List ℕ} {kind : Kind} {before : List VariableShape} {own : Varia
         counted = λ s. at_counted w (let m = sp.read.many in few_of (seen.used - seen.begun) (length sp.behind) (omega arith));
         wide_as = λ s. w.written.room_is ∙ sym full;
         state = the_first roomy g on at (λ s. at_there w) (λ s. at_apart w) (at_new w) grown 12 (16 + 16 * room_at roomy x) (omega arith) fit sh.changed sh.as_long h
-            (shortened_node b roomy grown (was b (nodes_of index) l.place need new at) x (old_x w) (inside_x roomy g on) seen.used seen.begun l.first l.last l.place at sh used lt (λ i less. is_old roomy g on at (λ s. at_there w) (λ s. at_apart w) (at_new w) x among i ∙ below (used_count b x) i (subst (λ (n : ℕ). i < n) used_is less)));
+            (shortened_node b roomy grown (was b (nodes_of index) l.place need new at) x (old_x w) (inside_x roomy g on) seen.used seen.begun l.first l.last l.place at sh used lt (λ i less. is_old roomy g on at (λ s. at_there w) (λ s. at_apart w) (at_new w) x among i ∙ lt-leb (used_count b x) i (omega (arith, used_is))));
       }
     where
       few_of : (n k : ℕ) → k ≡ n → k ≤ max 7 n
