@@ -1,5 +1,5 @@
 -- An entry more in a node: those behind it stand one further.
-use Rattle.std.proofs.Common.{◌≡◌, ◌≢◌, ℕ, suc, ◌+◌, ◌-◌, ◌*◌, ◌^◌, ◌<◌, ◌≤◌, inl, inr, List, [], ◌∷◌, length, refl, sym, subst, ◌∙◌, arith}
+use Rattle.std.proofs.Common.{◌≡◌, ◌≢◌, ℕ, suc, ◌+◌, ◌-◌, ◌*◌, ◌<◌, ◌≤◌, inl, inr, List, [], ◌∷◌, length, refl, sym, subst, ◌∙◌, arith}
 use Rattle.cdf_index.proofs.Common.{cases_eq, image_limit, Changed, touch, word, number, with_field, size_at, room_at, used_count, SaysEntry, vxr_n_used_entries, NodeInside, StillSays, EntrySet, Inserted}
 use Rattle.cdf_edits.specs.Frame.Changed.{Touch}
 use Rattle.cdf_format.proofs.BytesLemmas.{word-same}

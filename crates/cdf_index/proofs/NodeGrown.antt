@@ -1,6 +1,6 @@
 -- A node with one entry more, or it and a new node behind it, in the tree.
-use Rattle.std.proofs.Common.{◌≡◌, ℕ, suc, ◌+◌, ◌-◌, ◌*◌, ◌<◌, ◌≤◌, max, List, true, ltb, eqb, length, sym, ap, subst, ◌∙◌, inl, inr, arith}
-use Rattle.cdf_index.proofs.Common.{upto, past, with_both, SameHeads, linkable_kept, Owed, is_linkable, Nodes, node, Entries, no_entry, Leaf, entry_count, link_to, room_at, used_count, SaysEntry, SayEntries, SaysNode, IsNode, vxr_type, either, placed, Inserted, Split, StillSays}
+use Rattle.std.proofs.Common.{◌≡◌, ℕ, suc, ◌+◌, ◌-◌, ◌*◌, ◌<◌, ◌≤◌, max, List, true, ltb, eqb, length, sym, ap, ◌∙◌, inl, inr, arith}
+use Rattle.cdf_index.proofs.Common.{past, with_both, SameHeads, linkable_kept, Owed, is_linkable, Nodes, node, Entries, no_entry, Leaf, entry_count, link_to, room_at, used_count, SayEntries, SaysNode, IsNode, vxr_type, either, placed, Inserted, Split, StillSays}
 use Rattle.cdf_edits.specs.Index.Grown.{with_block}
 use Rattle.cdf_format.specs.IndexOf.{HasNodes, Names}
 use Rattle.cdf_index.specs.Growing.{Begins, MayName}

@@ -1,5 +1,5 @@
 -- A record becomes a node.
-use Rattle.std.proofs.Common.{◌≡◌, ◌≢◌, ℕ, ◌+◌, ◌*◌, ◌^◌, ◌<◌, ◌≤◌, inl, inr, List, [], ◌∷◌, length, refl, sym, subst, ◌∙◌, arith}
+use Rattle.std.proofs.Common.{◌≡◌, ℕ, ◌+◌, ◌*◌, ◌^◌, ◌<◌, ◌≤◌, inl, inr, List, [], ◌∷◌, length, refl, subst, ◌∙◌, arith}
 use Rattle.cdf_index.proofs.Common.{cases_eq, image_limit, Changed, touch, number, with_field, size_at, room_at, used_count, SaysEntry, NodeInside, EntrySet, HasRoomFor, entry_in, NodeWritten, Entry}
 use Rattle.cdf_format.specs.Records.{field}
 use Rattle.cdf_index.specs.Writing.{HeadWritten, SaysFirst}

@@ -1,10 +1,9 @@
 -- A full node that gives up entries.
-use Rattle.std.proofs.Common.{◌≡◌, ◌⊎◌, ◌≢◌, ℕ, zero, suc, ◌+◌, ◌*◌, ◌^◌, ◌<◌, ◌≤◌, max, inl, inr, List, [], ◌∷◌, ◌++◌, length, refl, sym, ap, subst, ◌∙◌, arith}
-use Rattle.cdf_index.proofs.Common.{cases_eq, length-append, image_limit, Changed, touch, number, with_field, size_at, room_at, SaysEntry, vxr_n_used_entries, NodeInside, entry_in, StillSays, EntrySet, EntriesRead, Cleared, Shortened, Widened, Entry}
+use Rattle.std.proofs.Common.{◌≡◌, ◌≢◌, ℕ, zero, suc, ◌+◌, ◌*◌, ◌^◌, ◌<◌, ◌≤◌, max, inl, inr, List, [], ◌∷◌, ◌++◌, length, refl, sym, ap, ◌∙◌, arith}
+use Rattle.cdf_index.proofs.Common.{cases_eq, length-append, image_limit, number, with_field, room_at, SaysEntry, vxr_n_used_entries, NodeInside, entry_in, StillSays, EntrySet, EntriesRead, Cleared, Shortened, Widened, Entry}
 use Rattle.cdf_format.specs.Records.{vxr_vxr_next}
-use Rattle.cdf_index.specs.Writing.{SaysUnused}
-use Rattle.cdf_index.proofs.FieldSet.{FieldSet, field_set, changed_again, changed_wider, node_head, node_small, used_by_count, size_beside, room_beside, entries_beside}
-use Rattle.cdf_index.proofs.Inserting.{SetMore, count_set, nothing_changed, set_more}
+use Rattle.cdf_index.proofs.FieldSet.{FieldSet, field_set, changed_again, changed_wider, node_head, used_by_count, size_beside, room_beside, entries_beside}
+use Rattle.cdf_index.proofs.Inserting.{count_set, nothing_changed, set_more}
 
 -- ---- an entry that ends later
 

@@ -1,6 +1,6 @@
 -- The variable whose index gets a leaf, in the images in which records were taken.
-use Rattle.std.proofs.Common.{◌≡◌, ◌≢◌, ℕ, List, [], ◌∷◌, ◌++◌, refl, sym, ap, subst, ◌∙◌, inl, inr}
-use Rattle.cdf_leaves.proofs.Common.{Kind, R, Z, StandsAmong, sound, tile, typed, has, Kept, apart, type_in, variables_chain, number, type_at, Leaf, nodes_of, leaves_of, vdr_vxr_head, gdr_type, uir_type, vxr_type, VariableShape, Each, shape, variables, NodeFits, In, Good, type_kept, linkable-in, good_is_sound, HasIndex, index_at, Grew}
+use Rattle.std.proofs.Common.{◌≡◌, ◌≢◌, ℕ, ◌<◌, arith, List, [], ◌∷◌, ◌++◌, refl, sym, ap, subst, ◌∙◌, inl, inr}
+use Rattle.cdf_leaves.proofs.Common.{Kind, R, Z, StandsAmong, sound, tile, typed, has, Kept, apart, type_in, variables_chain, number, type_at, next_of, room_at, used_count, Begun, Spot, Leaf, nodes_of, leaves_of, vdr_vxr_head, gdr_type, uir_type, vxr_type, VariableShape, Each, shape, variables, NodeFits, In, Good, type_kept, linkable-in, good_is_sound, HasIndex, index_at, Grew}
 use Rattle.cdf_format.specs.GoodImage.{IsGoodImage}
 use Rattle.cdf_format.specs.Shape.{HasVariable}
 use Rattle.cdf_format.specs.Sound.{LeafFits, VariableFits}
@@ -15,8 +15,17 @@ use Rattle.cdf_leaves.proofs.NodesMore.{places}
 use Rattle.cdf_leaves.proofs.Spares.{Spares, spares_kept}
 use Rattle.cdf_leaves.proofs.SpotNode.{nodes_linkable}
 pub use Rattle.cdf_index.proofs.OneVariable.{AmongAll, among_all}
+use Rattle.cdf_format.specs.Index.{first_at}
+use Rattle.cdf_index.proofs.OneNode.{SameNode, same_node}
+use Rattle.cdf_index.specs.Descent.{SeesNode}
 use Rattle.cdf_index.specs.Order.{InOrder}
 use Rattle.cdf_model.specs.Limits.{record_number_limit}
+
+pub record StillSees (now : List ℕ) (seen : Spot) (f : ℕ) : Type 0 where
+  pub room_is : seen.room ≡ room_at now seen.place
+  pub used_is : seen.used ≡ used_count now seen.place
+  pub next_is : seen.next ≡ next_of now seen.place
+  pub begun : Begun now seen.place f seen.begun
 
 the_own : {A : Type 0} (P : A → Type 0) (vs front : List A) (own : A) (rest : List A) → vs ≡ front ++ own ∷ rest → Each P vs → P own
 the_own P vs front own rest all e = (Each-split P front (own ∷ rest) (subst (Each P) all e)).1.0
@@ -79,8 +88,26 @@ module _ {b : List ℕ} {kind : Kind} {before : List VariableShape} {own : Varia
     pub node_kept : (m : ℕ) → In m (nodes_of own.index) → Kept b now m
     node_kept m i = let n = own_node m i in g.kept m n.0 (λ u. apart vxr_type uir_type refl (sym n.1 ∙ u)) (λ u. apart vxr_type gdr_type refl (sym n.1 ∙ u))
 
+    pub node_same : (m : ℕ) → In m (nodes_of own.index) → SameNode b now m
+    node_same m i = same_node b now m (node_kept m i) (node_fits m i)
+
     pub node_spares : (m : ℕ) → In m (nodes_of own.index) → Spares b now m
     node_spares m i = spares_kept b now m (node_kept m i) (node_fits m i)
+
+    -- what was seen of a node of the index is still to be seen
+    pub still_sees : {f : ℕ} {seen : Spot} → SeesNode b seen.place f seen → In seen.place (nodes_of own.index) → StillSees now seen f
+    still_sees {seen = seen} s i =
+        let n = node_same seen.place i in
+        let fits = (node_fits seen.place i).1 in
+        let first : (j : ℕ) → j < used_count b seen.place → first_at now seen.place j ≡ first_at b seen.place j = λ j lt. (n.entries j (omega arith) _ _ _ (record { first_is = refl; last_is = refl; offset_is = refl })).first_is in
+        let most = s.begun.most in
+        let used = n.used_is in
+        record {
+          room_is = s.room_is ∙ sym n.room_is;
+          used_is = s.used_is ∙ sym used;
+          next_is = s.next_is ∙ sym n.next_is;
+          begun = record { before = λ j lt. rw (first j (omega arith)) (s.begun.before j lt); most = omega arith; stop = λ lt. rw (first seen.begun (omega arith)) (s.begun.stop (omega arith)) };
+        }
 
     pub vdr_kept : Kept b now own.vdr
     vdr_kept = g.kept own.vdr (tile good at) (λ u. no_uir kind (sym (typed good at) ∙ u)) (λ u. no_gdr kind (sym (typed good at) ∙ u))

@@ -1,11 +1,10 @@
 -- An index in the making: what holds of an image, from the one in which all records were taken.
 use Rattle.std.proofs.Common.{◌≡◌, ◌≢◌, ℕ, ◌+◌, ◌*◌, ◌<◌, ◌≤◌, List, [], ◌∷◌, ◌++◌, length, Bool, true, false, sym, subst, ◌∙◌, arith, inl, inr}
-use Rattle.cdf_leaves.proofs.Common.{cases_eq, changed_then, SameHeads, tiles_same, redo, Touch, touch, Changed, EntryIs, number, size_at, Nodes, nodes_of, leaves_of, room_at, used_count, HasNodes, vxr_n_used_entries, Each, NodeFits, AreTiles, Distinct, In, Each-append, Counts, wider, widen_all, StillSays, Widened, heads_stay, others_stay, WidenedAlong}
+use Rattle.cdf_leaves.proofs.Common.{cases_eq, changed_then, SameHeads, tiles_same, redo, Touch, touch, Changed, EntryIs, size_at, Nodes, nodes_of, leaves_of, room_at, used_count, HasNodes, Each, NodeFits, AreTiles, Distinct, In, Each-append, Counts, wider, widen_all, StillSays, Widened, heads_stay, others_stay, WidenedAlong}
 use Rattle.cdf_index.proofs.NodeWider.{wider_owed}
 use Rattle.cdf_index.proofs.TreeTouched.{edited}
 use Rattle.cdf_leaves.proofs.NodesMore.{places, nodes_wider}
 use Rattle.cdf_leaves.proofs.Spares.{Spares, spares_kept, spares_widened, fits_still, node_inside, front_lies}
-use Rattle.cdf_edits.proofs.Edits.RecordFrame.{through}
 
 -- a node: only the one at `x` may use more entries or fewer; its unused ones are as they have to be
 pub record NodeNow (b roomy now : List ℕ) (was : ℕ → ℕ → Bool) (x m : ℕ) : Type 0 where
@@ -46,28 +45,6 @@ pub record State (b roomy now records all : List ℕ) (was : ℕ → ℕ → Boo
   pub each : (m : ℕ) → In m all → NodeNow b roomy now was x m
 
 module _ (b roomy records all : List ℕ) (was : ℕ → ℕ → Bool) (x : ℕ) (stand : (m : ℕ) → In m all → In m records) (once : Distinct all) where
-  -- ---- the first step
-
-  pub first_step : (now : List ℕ) (from n : ℕ) (tree : Nodes) → AreTiles roomy 8 (length roomy) records → ((m : ℕ) → In m all → NodeNow b roomy roomy was x m) → In x all → 12 ≤ from → from + n ≤ 28 + 16 * room_at roomy x → Changed roomy now (touch x from n ∷ []) → length now ≡ length roomy
-      → HasNodes now records 8 tree → nodes_of tree ≡ all → ((m : ℕ) → In m (places (leaves_of tree)) → In m records) → NodeNow b roomy now was x x → State b roomy now records all was x tree
-  first_step now from n tree tiled start there late fit changed long has are blocks here =
-      let whole : from + n ≤ size_at roomy x = through (from + n) (28 + 16 * room_at roomy x) (size_at roomy x) fit (start x there).fits.0 in
-      let heads = heads_stay roomy now records tiled x from n (stand x there) late whole changed in
-      record {
-        as_long = long;
-        tiled = subst (λ (k : ℕ). AreTiles now 8 k records) (sym long) (tiles_same roomy now 8 (length roomy) records tiled heads.sizes);
-        touches = touch x from n ∷ [];
-        changed = changed;
-        within = ((there, late, fit), tt);
-        has = has;
-        nodes_are = are;
-        blocks = blocks;
-        each = λ m i. elim (cases_eq m x) [
-          | inl e ↦ subst (NodeNow b roomy now was x) (sym e) here
-          | inr ne ↦ node_then b roomy roomy now was x m (start m i) (spares_kept roomy now m (others_stay roomy now records tiled x from n (stand x there) late whole changed m (stand m i) ne) (start m i).fits)
-        ];
-      }
-
   -- ---- a node is widened
 
   module _ (mid now : List ℕ) (tree : Nodes) (s : State b roomy mid records all was x tree) (y i last : ℕ) (there : In y all) (other : y ≢ x) (used : i < used_count roomy y) (w : Widened mid now y i last) where
