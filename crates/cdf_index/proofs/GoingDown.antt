@@ -1,5 +1,6 @@
 -- The way down to the place of a new entry, along a chain.
 use Rattle.std.proofs.Common.{◌≡◌, ◌≢◌, ◌⊎◌, ℕ, zero, suc, ◌+◌, ◌<◌, ◌≤◌, List, [], ◌∷◌, length, true, false, refl, sym, ap, subst, ◌∙◌, arith, inl, inr}
+use Rattle.cdf_edits.proofs.Common.{nodes_stand, ne_eqb}
 use Rattle.cdf_index.proofs.Common.{either, if◌then◌else◌, nat_tests, length-append, reaches, chain_reaches, leads_down, next_of, vxr_type, Nodes, no_node, node, Entries, no_entry, entry_count, link_to, used_count, IsNode, AreTiles, In, tiles, linkable-in, Distinct-front, Distinct-back, length-le_from_distinct, down_at, IsTree, SeesNode, SpotIs, Spot, SomeNode, past_entries}
 use Rattle.cdf_format.specs.Index.{nodes_of, lower_nodes, leaves_of}
 use Rattle.cdf_index.specs.Descent.{way_from, end_from}
@@ -11,8 +12,6 @@ use Rattle.cdf_index.proofs.Leading.{Below, Stand, begun_in, below, counted_begu
 use Rattle.cdf_index.proofs.Coming.{chain_not_reached}
 use Rattle.cdf_index.proofs.Looking.{node_there}
 use Rattle.cdf_index.proofs.WayDown.{no_zero, way_in}
-use Rattle.cdf_format.proofs.IndexLemmas.{nodes_stand}
-use Rattle.std.proofs.lemmas.Bool.{ne_eqb}
 use Rattle.cdf_format.proofs.TilesLemmas.{length_tiles}
 
 -- ---- a chain: the entries of its first node, and the others

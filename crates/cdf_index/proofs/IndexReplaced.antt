@@ -1,14 +1,8 @@
 -- The index of one variable becomes another one: a sound image stays sound, and every other owner is as before.
 use Rattle.std.proofs.Common.{◌≡◌, ◌⊎◌, ℕ, ◌+◌, ◌≤◌, List, [], ◌∷◌, ◌++◌, length, true, sym, ap, subst, ◌∙◌, arith, inl, inr}
+use Rattle.cdf_edits.proofs.Common.{ChangedWithin, FileStays, Leaves, IsChain, times, attribute_records, variable_records, unused_records, owned_records, gdr_r_vdr_head, gdr_z_vdr_head, cdr_type, gdr_type, adr_type, r_vdr_type, z_vdr_type, cpr_type, HasShape, attributes_in}
+use Rattle.cdf_edits.proofs.Edits.Common.{FileSame}
 use Rattle.cdf_index.proofs.Common.{flat_map, VariableFits, IsSound, is_a, number, Nodes, VariableShape, Shape, variables, Each, HasVariable, In, AreTiles, In-append, In-append_left, In-append_right, linkable-in, Each-split, Each-append, Kept, SameHeads}
-use Rattle.cdf_edits.specs.Frame.Leaves.{ChangedWithin, FileStays, Leaves}
-use Rattle.cdf_format.specs.Chains.{IsChain}
-use Rattle.cdf_format.specs.Owners.{times, attribute_records, variable_records, unused_records, owned_records}
-use Rattle.cdf_format.specs.Records.{gdr_r_vdr_head, gdr_z_vdr_head}
-use Rattle.cdf_format.specs.RecordTypes.{cdr_type, gdr_type, adr_type, r_vdr_type, z_vdr_type, cpr_type}
-use Rattle.cdf_format.specs.Shape.{HasShape}
-use Rattle.cdf_format.proofs.Owning.{attributes_in}
-use Rattle.cdf_edits.proofs.Frame.Meaning.{FileSame}
 use Rattle.cdf_edits.proofs.Frame.OwnerAlone.{heads, stays}
 use Rattle.cdf_edits.proofs.Frame.OwnersApart.{flat-append, times-append, times-in, owned-times, file_records, all_attribute_records, all_variable_records, vdrs_stand, file_same_is, gdr_room, variable_alone}
 use Rattle.cdf_edits.proofs.Frame.SoundStays.{attributes_fit_kept, variables_fit_kept, unused_kept}

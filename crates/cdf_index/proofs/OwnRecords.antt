@@ -1,32 +1,16 @@
 -- The records of one variable: how often each stands in it, of which types they are, and what a command on the variable may do to them.
 use Rattle.std.proofs.Common.{◌≡◌, ◌⊎◌, ℕ, ◌+◌, List, [], ◌∷◌, ◌++◌, length, true, false, Option, Some, None, true≢false, refl, sym, ap, ◌∙◌, inl, inr}
+use Rattle.cdf_edits.proofs.Common.{Found, Kind, R, Z, times, variable_records, Field, cpr_type, vvr_type, shape, Good, is_a-type, nodes_stand, Allowance, Anything, Only, range_at, shapes_of, vdr_type, Range}
+use Rattle.cdf_edits.proofs.Edits.Common.{got-middle, index_records, fits, has, typed, kind_type, times-append}
 use Rattle.std.specs.Prelude.{find, slice_get, ◌==◌, if◌then◌else◌}
-use Rattle.cdf_index.proofs.Common.{range, is_a, is_in, type_at, Leaf, leaves_of, Each, In, VariableShape, LeafFits}
-use Rattle.cdf_model.specs.Names.{Found}
-use Rattle.cdf_model.specs.declared.kinds.Kind.{Kind}
-use Rattle.cdf_model.specs.declared.kinds.Kind.TheVariants.{R, Z}
-use Rattle.cdf_format.specs.Index.{nodes_of}
-use Rattle.cdf_format.specs.Owners.{times, variable_records}
-use Rattle.cdf_format.specs.Records.{Field}
-use Rattle.cdf_format.specs.RecordTypes.{cpr_type, vvr_type, cvvr_type, vxr_type}
-use Rattle.cdf_format.specs.Shape.{shape}
-use Rattle.cdf_format.specs.WellFormed.{Good}
-use Rattle.cdf_format.proofs.ChainsLemmas.{is_a-type, linkable-type}
-use Rattle.cdf_format.proofs.IndexLemmas.{nodes_stand}
-use Rattle.cdf_edits.specs.Commands.Allowances.{Allowance, Anything, Only, range_at, shapes_of, vdr_type}
-use Rattle.cdf_edits.specs.Index.Blocks.{Range}
-use Rattle.cdf_edits.proofs.Commands.ListParts.{got-middle}
+use Rattle.cdf_index.proofs.Common.{range, is_a, is_in, type_at, Leaf, leaves_of, Each, In, VariableShape, LeafFits, nodes_of, cvvr_type, vxr_type, linkable-type}
 use Rattle.cdf_edits.proofs.Edits.InRecords.{places_of}
 use Rattle.cdf_edits.proofs.Edits.LeafPieces.{IsOneOf, find_place}
 use Rattle.cdf_edits.proofs.Edits.MarkLemmas.{or_cases}
 use Rattle.cdf_edits.proofs.Edits.PlainLeaves.{leaves_apart}
-use Rattle.cdf_edits.proofs.Edits.RecordFrame.{index_records}
 use Rattle.cdf_edits.proofs.Edits.StandsAmong.{StandsAmong}
-use Rattle.cdf_edits.proofs.Edits.VdrEdited.{fits, has, typed}
 use Rattle.cdf_edits.proofs.Edits.VariableKept.{find_none}
-use Rattle.cdf_edits.proofs.Edits.VariableKinds.{kind_type}
 use Rattle.cdf_edits.proofs.Frame.OwnerAlone.{Each-in}
-use Rattle.cdf_edits.proofs.Frame.OwnersApart.{times-append}
 
 pub parts_times : (v : VariableShape) (m : ℕ) → times m (variable_records v) ≡ times m (v.vdr ∷ []) + (times m (nodes_of v.index) + times m (places_of (leaves_of v.index)) + times m v.cpr)
 parts_times v m =

@@ -1,11 +1,9 @@
 -- What the calls ask for that add a leaf, and what they leave.
 use Rattle.cdf_edits.proofs.Edits.RecordGrown as of_grown
+use Rattle.cdf_edits.proofs.Common.{type_of_body, eof, gdr_offset, vdrs}
 use Rattle.std.proofs.Common.{◌≡◌, ◌≢◌, ◌⊎◌, ℕ, ◌+◌, ◌*◌, ◌≤◌, max, List, [], ◌∷◌, ◌++◌, length, map, false, refl, sym, ap, subst, ◌∙◌, arith, inl, inr}
 use Rattle.cdf_leaves.proofs.Common.{Kind, image_limit, vxr_bytes, widest, with_leaf, new_room, Placed, StandsAmong, sound, tile, has, long, apart, number, with_field, Nodes, nodes_of, vdr_vxr_head, vdr_vxr_tail, vxr_vxr_next, uir_type, vxr_type, vvr_type, VariableShape, Each, shape, variables, In, Good, type_kept, tile_lies, AddsLeaf, step_pair, HasIndex, index_at, way, spot, Spot, Step, IsStep, entry, EntryPut, IndexStarted, MayPut, ChainInside, chain_end, StepStands, WayStands, WidenedAlong, Grew, grew, stands, unlike, Entry}
-use Rattle.cdf_edits.specs.Space.Placing.{type_of_body}
-use Rattle.cdf_format.specs.Fields.{eof, gdr_offset}
 use Rattle.cdf_format.specs.Index.{leaf}
-use Rattle.cdf_format.specs.Shape.{vdrs}
 use Rattle.cdf_index.specs.Descent.{IsAmong, StepSays}
 use Rattle.cdf_index.specs.declared.descending.Way.{Way}
 use Rattle.cdf_leaves.specs.Added.{IsWay}

@@ -1,9 +1,8 @@
 -- The nodes and the blocks of an index with a leaf more.
 use Rattle.std.proofs.Common.{◌≡◌, ◌≢◌, ◌⊎◌, ℕ, zero, suc, ◌+◌, ◌<◌, ◌≤◌, List, [], ◌∷◌, Bool, true, false, ltb, refl, subst, arith, inl, inr}
+use Rattle.cdf_edits.proofs.Edits.Common.{distinct_if, times-in}
+use Rattle.cdf_edits.proofs.Common.{times-none, times-once}
 use Rattle.cdf_leaves.proofs.Common.{cases_eq, with_leaf, new_room, Nodes, Leaf, nodes_of, times, Distinct, In, with_new}
-use Rattle.cdf_edits.proofs.Edits.LeftOwners.{distinct_if}
-use Rattle.cdf_edits.proofs.Frame.OwnersApart.{times-in}
-use Rattle.cdf_format.proofs.Owning.{times-none, times-once}
 use Rattle.cdf_leaves.proofs.NodesMore.{places, taken_at, nodes_more, cons_times}
 
 single : (m x : ℕ) → m ≢ x → times m (x ∷ []) ≡ 0

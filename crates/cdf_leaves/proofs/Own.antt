@@ -1,14 +1,9 @@
 -- The variable whose index gets a leaf, in the images in which records were taken.
 use Rattle.std.proofs.Common.{◌≡◌, ◌≢◌, ℕ, ◌<◌, arith, List, [], ◌∷◌, ◌++◌, refl, sym, ap, subst, ◌∙◌, inl, inr}
+use Rattle.cdf_edits.proofs.Common.{HasVariable, LeafFits, VariableFits, linkable-type, good_by_its_shape, block_in, Each-split, record_number_limit}
 use Rattle.cdf_leaves.proofs.Common.{Kind, R, Z, StandsAmong, sound, tile, typed, has, Kept, apart, type_in, variables_chain, number, type_at, next_of, room_at, used_count, Begun, Spot, Leaf, nodes_of, leaves_of, vdr_vxr_head, gdr_type, uir_type, vxr_type, VariableShape, Each, shape, variables, NodeFits, In, Good, type_kept, linkable-in, good_is_sound, HasIndex, index_at, Grew}
 use Rattle.cdf_format.specs.GoodImage.{IsGoodImage}
-use Rattle.cdf_format.specs.Shape.{HasVariable}
-use Rattle.cdf_format.specs.Sound.{LeafFits, VariableFits}
-use Rattle.cdf_format.proofs.ChainsLemmas.{linkable-type}
 use Rattle.cdf_format.proofs.GoodImageLemmas.{good_image}
-use Rattle.cdf_format.proofs.GoodSound.{good_by_its_shape}
-use Rattle.cdf_format.proofs.Owning.{block_in}
-use Rattle.cdf_format.proofs.ShapeLemmas.{Each-split}
 use Rattle.cdf_edits.proofs.Edits.ActsThen.{each_in}
 use Rattle.cdf_index.proofs.GoodIndex.{good_index}
 use Rattle.cdf_leaves.proofs.NodesMore.{places}
@@ -19,7 +14,6 @@ use Rattle.cdf_format.specs.Index.{first_at}
 use Rattle.cdf_index.proofs.OneNode.{SameNode, same_node}
 use Rattle.cdf_index.specs.Descent.{SeesNode}
 use Rattle.cdf_index.specs.Order.{InOrder}
-use Rattle.cdf_model.specs.Limits.{record_number_limit}
 
 pub record StillSees (now : List ℕ) (seen : Spot) (f : ℕ) : Type 0 where
   pub room_is : seen.room ≡ room_at now seen.place
