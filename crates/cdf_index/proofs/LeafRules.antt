@@ -1,7 +1,7 @@
 -- An index with a leaf more keeps the rules: its entries are in order, its nodes have room for theirs, and each leaf has a block.
-use Rattle.std.proofs.Common.{◌≡◌, ℕ, ℤ, pos, negsuc, zero, suc, ◌+◌, ◌<◌, ◌≤◌, max, min, List, [], ◌∷◌, ◌++◌, Bool, true, false, Some, None, ltb, leb, eqb, refl, sym, ap, subst, ◌∙◌, arith, inl, inr, true≢false}
-use Rattle.cdf_index.proofs.Common.{eqb-true, filter, flat_map, fold, find, nat_lt, record_number_limit, range, covers, next_first, reaches, chain_reaches, leads_down, past, with_both, with_entry, with_sign, Nodes, no_node, node, Entries, no_entry, block, lower, Leaf, leaf, entry_count, is_block, end_of, leaf_rows, Hold, In, number_before, either, In-append_left, In-append_right, Hold-split, past_entries, before_number, Each, Each-split}
-use Rattle.std.proofs.lemmas.Bool.{ltb-false, leb-true, leb-false, le-leb, lt-ltb, or_parts}
+use Rattle.std.proofs.Common.{◌≡◌, ℕ, ℤ, pos, negsuc, zero, suc, ◌+◌, ◌<◌, ◌≤◌, max, min, List, [], ◌∷◌, ◌++◌, Bool, true, false, None, ltb, leb, eqb, refl, sym, ap, subst, ◌∙◌, arith, inl, inr, true≢false}
+use Rattle.cdf_index.proofs.Common.{nat_tests, eqb-true, filter, flat_map, fold, find, nat_lt, record_number_limit, range, covers, next_first, reaches, chain_reaches, leads_down, past, with_both, with_entry, with_sign, Nodes, no_node, node, Entries, no_entry, block, lower, Leaf, leaf, entry_count, is_block, end_of, leaf_rows, Hold, In, number_before, either, In-append_left, In-append_right, Hold-split, past_entries, before_number, Each, Each-split}
+use Rattle.std.proofs.lemmas.Bool.{cases_lt, le-ltb, leb-true, leb-false, le-leb, lt-ltb, or_parts}
 use Rattle.std.specs.Prelude.{int_lt}
 use Rattle.cdf_edits.specs.Index.Blocks.{firsts_of, entry_firsts}
 use Rattle.cdf_edits.specs.Index.Grown.{with_block, with_leaf}
@@ -35,28 +35,17 @@ NoneBegins f last xs = Each (BeginsBehind f last) xs
 
 pub uncovered_by : (f : ℕ) (xs : List Leaf) → find (λ (leaf : Leaf). covers f (range leaf.first leaf.last)) xs ≡ None → Uncovered f xs
 uncovered_by f [] e = tt
-uncovered_by f (x ∷ xs) e = elim (either (leb x.first f)) [
-  | inl t ↦ elim (either (leb f x.last)) [
-    | inl u ↦ absurd (none_is (rw (t, u) at e))
-    | inr u ↦ (λ h. leb-false f x.last u, uncovered_by f xs (rw (t, u) at e))
-  ]
-  | inr t ↦ (λ h. (let g = leb-false x.first f t in absurd (omega arith)), uncovered_by f xs (rw t at e))
-]
-  where
-    none_is : {a : Leaf} → Some a ≡ None → ⊥
-    none_is e = cc
+uncovered_by f (x ∷ xs) e = ((λ h. grind (arith, nat_tests, e)), uncovered_by f xs (grind (arith, nat_tests, e)))
 
 pub least_below : (best : ℕ) (xs : List ℕ) → fold min best xs ≤ best
 least_below best [] = omega arith
-least_below best (x ∷ xs) = let r = least_below (min best x) xs in omega arith
+least_below best (x ∷ xs) = omega (arith, least_below (min best x) xs)
 
 none_before : (f last best : ℕ) (xs : List ℕ) → last < fold min best (filter (nat_lt f) xs) → NoneBegins f last xs
 none_before f last best [] h = tt
-none_before f last best (x ∷ xs) h = elim (either (ltb f x)) [
-  | inl t ↦
-      let k : last < fold min (min best x) (filter (nat_lt f) xs) = rw t at h in
-      ((λ g. (let r = least_below (min best x) (filter (nat_lt f) xs) in omega arith)), none_before f last (min best x) xs k)
-  | inr t ↦ ((λ g. (let le = ltb-false f x t in absurd (omega arith))), none_before f last best xs (rw t at h))
+none_before f last best (x ∷ xs) h = elim (cases_lt f x) [
+  | inl t ↦ let k : last < fold min (min best x) (filter (nat_lt f) xs) = rw (lt-ltb f x t) at h in ((λ g. omega (arith, least_below (min best x) (filter (nat_lt f) xs))), none_before f last (min best x) xs k)
+  | inr t ↦ ((λ g. absurd (omega arith)), none_before f last best xs (rw (le-ltb f x t) at h))
 ]
 
 pub none_begins : (f last : ℕ) (firsts : List ℕ) → last < next_first f firsts → NoneBegins f last firsts

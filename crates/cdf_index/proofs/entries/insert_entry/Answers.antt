@@ -1,13 +1,10 @@
-use Rattle.std.proofs.Common.{◌≡◌, ◌-◌, ◌<◌, ℕ, List, subst, ap, sym, refl, ◌∙◌, arith, ◌+◌, add-one}
+use Rattle.std.proofs.Common.{◌≡◌, ◌-◌, ◌<◌, ℕ, List, subst, ap, sym, ◌∙◌, arith, ◌+◌, add-one}
 use Rattle.std.proofs.lemmas.Int.{of_z-to_z}
 use Rattle.std.specs.Int.{w32}
 use Rattle.cdf_index.proofs.Common.{on_ok_weaker, edit_more, with_field, vxr_n_used_entries, NodeInside, EntrySet}
 use Rattle.cdf_area.proofs.Calls.{edits_by_read}
-use Rattle.cdf_index.proofs.Inserting.{Shifted, shift_start, inside_stays, shift_more, inserted}
+use Rattle.cdf_index.proofs.Inserting.{Shifted, inside_stays, shift_more, inserted}
 use Rattle.cdf_index.proofs.entries.insert_entry.Goals as goal
-
-pub loop-moved-init : goal.loop-moved-init
-loop-moved-init g c = record { shifted = shift_start (g.A.Area.image c.args.area.now) c.args.at c.args.used; area = record { frame = refl; faults = refl }; far = omega arith }
 
 pub set_entry-requires-clause-inside : goal.set_entry-requires-clause-inside
 set_entry-requires-clause-inside g c =

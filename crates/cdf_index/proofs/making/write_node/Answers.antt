@@ -1,16 +1,7 @@
 use Rattle.std.proofs.Common.{◌≡◌, ◌<◌, ℕ, subst, sym, arith}
-use Rattle.cdf_area.proofs.Calls.{edit_once, edit_more}
-use Rattle.cdf_index.proofs.Inserting.{inside_stays}
-use Rattle.cdf_index.proofs.NodeMade.{Making, making_start, making_more, node_written}
+use Rattle.cdf_area.proofs.Calls.{edit_more}
+use Rattle.cdf_index.proofs.NodeMade.{Making, making_more, node_written}
 use Rattle.cdf_index.proofs.making.write_node.Goals as goal
-
-pub loop-i-init : goal.loop-i-init
-loop-i-init g c = record { making = making_start (g.A.Area.image c.write_head.new.area) c.args.at c.args.entries.now; area = edit_once c.in_ok-write_head.ensures.area }
-
-pub set_entry-requires-clause-inside : goal.set_entry-requires-clause-inside
-set_entry-requires-clause-inside g c =
-    let m = c.loop-i.invariant.making in
-    inside_stays (g.A.Area.image c.write_head.new.area) (g.A.Area.image c.loop-i.area) c.args.at _ m.changed m.as_long c.in_ok-write_head.ensures.written.inside
 
 pub loop-i-preserved : goal.loop-i-preserved
 loop-i-preserved g c =

@@ -1,16 +1,7 @@
-use Rattle.std.proofs.Common.{◌≡◌, ◌<◌, ℕ, subst, refl, arith}
+use Rattle.std.proofs.Common.{◌≡◌, ◌<◌, ℕ, subst, arith}
 use Rattle.cdf_index.proofs.Common.{edit_more, Cleared}
-use Rattle.cdf_index.proofs.Inserting.{inside_stays}
-use Rattle.cdf_index.proofs.NodeShortened.{clear_start, clear_more}
+use Rattle.cdf_index.proofs.NodeShortened.{clear_more}
 use Rattle.cdf_index.proofs.splitting.clear_entries.Goals as goal
-
-pub loop-i-init : goal.loop-i-init
-loop-i-init g c = record { cleared = clear_start (g.A.Area.image c.args.area.now) c.args.at c.args.from; area = record { frame = refl; faults = refl }; lower = omega arith }
-
-pub set_entry-requires-clause-inside : goal.set_entry-requires-clause-inside
-set_entry-requires-clause-inside g c =
-    let i = c.loop-i.invariant.cleared in
-    inside_stays (g.A.Area.image c.args.area.now) (g.A.Area.image c.loop-i.area) c.args.at _ i.changed i.as_long c.requires.inside
 
 pub loop-i-preserved : goal.loop-i-preserved
 loop-i-preserved g c =

@@ -1,10 +1,7 @@
-use Rattle.std.proofs.Common.{◌≡◌, ◌+◌, ℕ, List, subst, sym, refl, arith}
+use Rattle.std.proofs.Common.{◌≡◌, ◌+◌, ℕ, List, subst, sym, arith}
 use Rattle.cdf_index.proofs.Common.{read_more, read_without_memory, SaysEntry, EntriesRead, Entry}
-use Rattle.cdf_index.proofs.NodeShortened.{read_none, read_one}
+use Rattle.cdf_index.proofs.NodeShortened.{read_one}
 use Rattle.cdf_index.proofs.splitting.read_entries.Goals as goal
-
-pub loop-i-init : goal.loop-i-init
-loop-i-init g c = record { read = subst (λ (xs : List Entry). EntriesRead (g.A.Area.image c.args.area.now) c.args.at c.args.from c.args.from xs) (sym c.new-entries.ensures.items) (read_none (g.A.Area.image c.args.area.now) c.args.at c.args.from); area = record { image = refl; edited = refl; frame = refl; faults = refl } }
 
 pub loop-i-preserved : goal.loop-i-preserved
 loop-i-preserved g c =
