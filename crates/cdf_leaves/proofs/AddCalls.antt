@@ -9,7 +9,7 @@ use Rattle.cdf_index.specs.declared.descending.Way.{Way}
 use Rattle.cdf_leaves.specs.Added.{IsWay}
 use Rattle.cdf_leaves.proofs.LeafGrown.{EntryStands, Onto, not_on_way, entry_stands, wide_state, chain_ready, vdr_lies, tail_stays, tail_written}
 use Rattle.cdf_leaves.proofs.Grown.{was}
-use Rattle.cdf_leaves.proofs.NodesOf.{old_in}
+use Rattle.cdf_index.proofs.ByLeaf.{node_stays}
 use Rattle.cdf_index.proofs.FieldSet.{field_set}
 use Rattle.cdf_leaves.proofs.LeafStarted.{first_added}
 use Rattle.cdf_leaves.proofs.Own.{searchable, own_node, node_fits, node_kept, node_spares, still_sees}
@@ -156,7 +156,7 @@ module _ {b : List ℕ} {kind : Kind} {before : List VariableShape} {own : Varia
         all_steps [] a s n = tt
         all_steps (step ∷ more) a s n =
             let e = stands_now in
-            let now_node = e.state.each step.place (old_in own.index (leaf first last place false) at step.place a.0) in
+            let now_node = e.state.each step.place (node_stays (leaf first last place false) at own.index step.place a.0) in
             let old = node_spares good at_own e.grew step.place a.0 in (
               record { there = e.grew.sub step.place (own_node good at_own step.place a.0).0; fits = now_node.fits; room_is = s.0.room_is ∙ sym (now_node.room_is ∙ old.room_is); within = omega (arith, now_node.stays n.0, old.used_is, s.0.within) },
               all_steps more a.1 s.1 n.1,

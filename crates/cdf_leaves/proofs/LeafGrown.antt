@@ -29,7 +29,8 @@ use Rattle.cdf_edits.proofs.Edits.ActsThen.{each_in}
 use Rattle.cdf_index.proofs.FieldSet.{field_set}
 use Rattle.cdf_leaves.proofs.Linked.{link_set, link_room, link_used, link_entries, link_spares}
 use Rattle.cdf_leaves.proofs.NodesMore.{places, all_wider}
-use Rattle.cdf_leaves.proofs.NodesOf.{in_new, node_of, old_in, all_once}
+use Rattle.cdf_leaves.proofs.NodesOf.{in_new, all_once}
+use Rattle.cdf_index.proofs.ByLeaf.{in_nodes_with_leaf, node_stays}
 use Rattle.cdf_leaves.proofs.Own.{own_order, own_node, node_fits, vdr_apart, now_has, now_blocks, node_kept, node_spares, still_sees, vdr_kept, vdr_in, vdr_used}
 use Rattle.cdf_leaves.proofs.Spares.{spares_kept, fits_still, node_inside, front_lies}
 use Rattle.cdf_leaves.proofs.SpotNode.{SpotNode, NotAt, spot_node, way_apart}
@@ -137,8 +138,8 @@ module _ {b : List ℕ} {kind : Kind} {before : List VariableShape} {own : Varia
         let place_in = on.sub l.place o.block_in in
         let names = names_leaf grown records l (heads.types l.place place_in ∙ type_kept filled roomy l.place block.same block.long ∙ o.block_is) o.plain in
         let old : (m : ℕ) → In m (nodes_of index) → NodeNow b roomy roomy (spare at) x m = λ m j. old_node b roomy (spare at) x m (node_spares good stood g m j) (fits m j) (λ i. was_old b (nodes_of index) l.place need new at m i j (o.block_fresh m j) (λ s e. (fresh s).outside (rw e at j))) in
-        let start : (m : ℕ) → In m nodes → NodeNow b roomy roomy (spare at) x m = λ m i. elim (node_of index l at m i) [ inl j ↦ old m j | inr p ↦ rw p.1 (fresh p.0).now ] in
-        let stand : (m : ℕ) → In m nodes → In m records = λ m i. elim (node_of index l at m i) [ inl j ↦ old_stands m j | inr p ↦ rw p.1 (fresh p.0).stands ] in
+        let start : (m : ℕ) → In m nodes → NodeNow b roomy roomy (spare at) x m = λ m i. elim (in_nodes_with_leaf l at index m i) [ inl j ↦ old m j | inr p ↦ rw p.0 (fresh p.1).now ] in
+        let stand : (m : ℕ) → In m nodes → In m records = λ m i. elim (in_nodes_with_leaf l at index m i) [ inl j ↦ old_stands m j | inr p ↦ rw p.0 (fresh p.1).stands ] in
         let wider = all_wider l.last (way l.first index) (redo x (placed l at x) index) in
         let leaves : places (leaves_of (redo x (placed l at x) index)) ≡ places (with_new l (leaves_of index)) = sym wider.1 ∙ ap (λ (n : Nodes). places (leaves_of n)) (law at) ∙ ap places (leaves_more l at 0 record_number_limit index (own_order good stood)) in
         record {
@@ -152,7 +153,7 @@ module _ {b : List ℕ} {kind : Kind} {before : List VariableShape} {own : Varia
             tiled = subst (λ (k : ℕ). AreTiles grown 8 k records) (sym as_long) (tiles_same roomy grown 8 (length roomy) records tiled heads.sizes);
             touches = touch x from n ∷ [];
             changed = changed;
-            within = ((old_in index l at x o.among, behind, fit), tt);
+            within = ((node_stays l at index x o.among, behind, fit), tt);
             has = redone roomy grown records records heads x (placed l at x) (owed heads names) 8 index (now_has good stood g).indexed.has_nodes once (λ m i ne. (others m (old_stands m i) ne, fits m i)) (now_blocks good stood g);
             nodes_are = sym wider.0 ∙ ap nodes_of (law at);
             blocks = λ m i. elim (in_new l m (leaves_of index) (subst (In m) leaves i)) [ inl e ↦ rw e place_in | inr j ↦ now_blocks good stood g m j ];
@@ -293,7 +294,7 @@ module _ {b : List ℕ} {kind : Kind} {before : List VariableShape} {own : Varia
 
     on_way : (steps : List (ℕ × ℕ)) → Each (IsStep b index) steps → NotAt x steps → Each (OnWay b e.roomy recs every (spare at) x stand_every once_every) steps
     on_way [] s n = tt
-    on_way (step ∷ more) s n = ((old_in index l at step.0 s.0.0, n.0, omega (arith, s.0.1, (node_spares good stood e.grew step.0 s.0.0).used_is)), on_way more s.1 n.1)
+    on_way (step ∷ more) s n = ((node_stays l at index step.0 s.0.0, n.0, omega (arith, s.0.1, (node_spares good stood e.grew step.0 s.0.0).used_is)), on_way more s.1 n.1)
 
     pub wide_state : {wide : List ℕ} → Each (IsStep b index) (way l.first index) → WidenedAlong grown wide l.last (way l.first index) → State b e.roomy wide recs every (spare at) x after_leaf
     wide_state {wide = wide} steps w =
@@ -304,7 +305,7 @@ module _ {b : List ℕ} {kind : Kind} {before : List VariableShape} {own : Varia
 
     module _ {wide : List ℕ} (st : State b e.roomy wide recs every (spare at) x after_leaf) where
       node_apart : (m : ℕ) → In m every → m ≢ own.vdr
-      node_apart m i q = elim (node_of index l at m i) [ inl j ↦ vdr_apart good stood m (own_node good stood m j).1 q | inr p ↦ (e.fresh p.0).apart (sym p.1 ∙ q) ]
+      node_apart m i q = elim (in_nodes_with_leaf l at index m i) [ inl j ↦ vdr_apart good stood m (own_node good stood m j).1 q | inr p ↦ (e.fresh p.1).apart (sym p.0 ∙ q) ]
 
       touches_in : (ts : List Touch) → Each (NodeTouch e.roomy every) ts → ChangedPlaced e.roomy recs (length e.roomy) ts × TouchesNone ts (own.vdr ∷ []) × Each (IndexTouch e.roomy own new at) ts
       touches_in [] s = (tt, tt, tt)
@@ -314,7 +315,7 @@ module _ {b : List ℕ} {kind : Kind} {before : List VariableShape} {own : Varia
           let here : t.place + t.width ≤ 28 + 16 * room_at e.roomy t.tile = s.0.2 in (
             (inl (stand_every t.tile s.0.0, omega (arith, n.size_is, n.room_is, n.fits.0)), rest.0),
             ((λ j. elim j [ inl q ↦ node_apart t.tile s.0.0 q | inr none ↦ none ]), rest.1),
-            (inr (s.0.1, elim (node_of index l at t.tile s.0.0) [ inl j ↦ inl (j, here) | inr p ↦ inr (p.0, p.1, omega (arith, here, ap (room_at e.roomy) p.1, (e.fresh p.0).wide_as)) ]), rest.2),
+            (inr (s.0.1, elim (in_nodes_with_leaf l at index t.tile s.0.0) [ inl j ↦ inl (j, here) | inr p ↦ inr (p.1, p.0, omega (arith, here, ap (room_at e.roomy) p.0, (e.fresh p.1).wide_as)) ]), rest.2),
           )
 
       vdr_first : In own.vdr recs
@@ -357,9 +358,9 @@ module _ {b : List ℕ} {kind : Kind} {before : List VariableShape} {own : Varia
         node_now m i = node_then b e.roomy wide now (spare at) x m (st.each m i) (spares_kept wide now m (stay m i) (st.each m i).fits)
 
         counts_now : Each (Counts b) (nodes_of index) → (m : ℕ) → In m every → Counts now m
-        counts_now c m i = (node_now m i).count (elim (node_of index l at m i) [
+        counts_now c m i = (node_now m i).count (elim (in_nodes_with_leaf l at index m i) [
           | inl j ↦ (let s = node_spares good stood e.grew m j in omega (arith, s.count_is, s.room_is, each_in (Counts b) (nodes_of index) m c j))
-          | inr p ↦ rw p.1 (e.fresh p.0).counted
+          | inr p ↦ rw p.0 (e.fresh p.1).counted
         ])
 
         pub leaf_added : LeafAdded b now own l body at

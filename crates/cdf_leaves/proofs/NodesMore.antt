@@ -1,4 +1,4 @@
--- The nodes of an index with one leaf more, and of one some of whose entries end later.
+-- The nodes of an index some of whose entries end later.
 use Rattle.std.proofs.Common.{◌≡◌, ℕ, zero, suc, ◌+◌, List, [], ◌∷◌, ◌++◌, map, eqb, refl, sym, ap, ap₂, ◌∙◌, arith, inl, inr}
 use Rattle.cdf_edits.proofs.Common.{ne_eqb, ◌==◌}
 use Rattle.cdf_edits.proofs.Edits.Common.{times-append}
@@ -7,22 +7,6 @@ use Rattle.cdf_edits.proofs.Index.NodeEdited.{redo, redo_below}
 use Rattle.cdf_format.specs.Index.{nodes_of, lower_nodes, leaves_of, entry_leaves}
 use Rattle.cdf_index.specs.Way.{widened}
 use Rattle.cdf_index.proofs.ByLeaf.{nodes_with_leaf}
-
--- the new node, where one is needed
-abbrev pub taken_at : ℕ → ℕ → List ℕ
-taken_at zero at = []
-taken_at (suc room) at = at ∷ []
-
-taken_times : (m n at : ℕ) → (if n == 0 then 0 else times m (at ∷ [])) ≡ times m (taken_at n at)
-taken_times m zero at = refl
-taken_times m (suc n) at = rw (ne_eqb (suc n) 0 (λ e. absurd (omega arith))) refl
-
--- how often a node stands in the tree
-pub nodes_more : (m at : ℕ) (l : Leaf) (nodes : Nodes) → times m (nodes_of (with_leaf l at nodes)) ≡ times m (nodes_of nodes) + times m (taken_at (new_room l.first nodes) at)
-nodes_more m at l nodes = nodes_with_leaf l at m nodes ∙ ap (λ (n : ℕ). times m (nodes_of nodes) + n) (taken_times m (new_room l.first nodes) at)
-
-pub cons_times : (m p : ℕ) (xs : List ℕ) → times m (p ∷ xs) ≡ times m (p ∷ []) + times m xs
-cons_times m p xs = times-append m (p ∷ []) xs
 
 -- ---- an entry that ends later
 

@@ -59,18 +59,17 @@ pub record StillNodes (b now records : List ℕ) : Type 0 where
 pub still_none : (b records : List ℕ) → AreTiles b 8 (length b) records → StillNodes b b records
 still_none b records tiled = record { as_long = refl; tiled = tiled; still = λ m i fits. spares_none b m }
 
-pub still_widened : (b mid now records : List ℕ) → StillNodes b mid records → (x i last : ℕ) → In x records → NodeFits b x → i < used_count b x → Widened mid now x i last → StillNodes b now records
-still_widened b mid now records s x i last there fits used w =
-    let here = s.still x there fits in
-    let fits_mid = fits_still b mid x here fits in
-    let heads = heads_stay mid now records s.tiled x 28 (16 * room_at mid x) there (omega arith) fits_mid.0 w.changed in
-    let other = others_stay mid now records s.tiled x 28 (16 * room_at mid x) there (omega arith) fits_mid.0 w.changed in
-    let one : (m : ℕ) → In m records → NodeFits b m → Spares mid now m = λ m j f. elim (cases_eq m x) [
-      | inl e ↦ rw e (spares_widened mid now x i last w (front_lies mid x (node_inside mid records x s.tiled there fits_mid)) (omega (arith, here.used_is)))
-      | inr ne ↦ spares_kept mid now m (other m j ne) (fits_still b mid m (s.still m j f) f)
-    ] in
+pub still_then : (b mid now records : List ℕ) → StillNodes b mid records → StillNodes mid now records → StillNodes b now records
+still_then b mid now records s t = record { as_long = t.as_long ∙ s.as_long; tiled = t.tiled; still = λ m i f. spares_then b mid now m (s.still m i f) (t.still m i (fits_still b mid m (s.still m i f) f)) }
+
+pub widened_one : (mid now records : List ℕ) (x i last : ℕ) → AreTiles mid 8 (length mid) records → In x records → NodeFits mid x → i < used_count mid x → Widened mid now x i last → StillNodes mid now records
+widened_one mid now records x i last tiled there fits used w =
+    let heads = heads_stay mid now records tiled x 28 (16 * room_at mid x) there (omega arith) fits.0 w.changed in
     record {
-      as_long = w.as_long ∙ s.as_long;
-      tiled = subst (λ (n : ℕ). AreTiles now 8 n records) (sym w.as_long) (tiles_same mid now 8 (length mid) records s.tiled heads.sizes);
-      still = λ m j f. spares_then b mid now m (s.still m j f) (one m j f);
+      as_long = w.as_long;
+      tiled = subst (λ (n : ℕ). AreTiles now 8 n records) (sym w.as_long) (tiles_same mid now 8 (length mid) records tiled heads.sizes);
+      still = λ m j f. elim (cases_eq m x) [
+        | inl e ↦ rw e (spares_widened mid now x i last w (front_lies mid x (node_inside mid records x tiled there fits)) used)
+        | inr ne ↦ spares_kept mid now m (others_stay mid now records tiled x 28 (16 * room_at mid x) there (omega arith) fits.0 w.changed m j ne) f
+      ];
     }
