@@ -19,10 +19,7 @@ entry_top l at place room es more = ((λ e. grind arith), (λ ne. grind arith))
 
 pub top_stays : (l : Leaf) (at : ℕ) (nodes : Nodes) → (new_room l.first nodes ≡ 0) ⊎ (way l.first nodes ≢ []) → top_chain (with_leaf l at nodes) ≡ top_chain nodes
 unfolding with_leaf new_room way
-top_stays l at no_node (inl e) = absurd (seven e)
-  where
-    seven : ◌≡◌ {A = ℕ} 7 0 → ⊥
-    seven e = omega arith
+top_stays l at no_node (inl e) = absurd (omega (arith, e))
 top_stays l at no_node (inr ne) = absurd (ne refl)
 top_stays l at (node place room es more) h = grind (arith, top_stays l at more, (entry_top l at place room es more).0)
 
@@ -56,10 +53,7 @@ module _ (b ts : List ℕ) (tiled : AreTiles b 8 (length b) ts) where
   chain_inside (suc most) (suc levels) (node place room es more) h is =
       let l = tile_lies b 8 (length b) ts place tiled (linkable-in b ts vxr_type place h.0.linkable) in
       let long = linkable-long b ts vxr_type place h.0.linkable in
-      (reach (size_at b place) l.high long, λ n. subst (λ (x : ℕ). ChainInside most b x) (sym h.0.next_is) (chain_inside most (suc levels) more h.2 (node_there more (λ e. n (h.0.next_is ∙ e)))))
-    where
-      reach : (s : ℕ) → place + s ≤ length b → 28 ≤ s → place + 20 ≤ length b
-      reach s p q = omega arith
+      (omega (arith, l.high, long), λ n. subst (λ (x : ℕ). ChainInside most b x) (sym h.0.next_is) (chain_inside most (suc levels) more h.2 (node_there more (λ e. n (h.0.next_is ∙ e)))))
 
   end_from : (most levels p : ℕ) (nodes : Nodes) → HasNodes b ts levels nodes → length (top_chain nodes) ≤ most → next_of b p ≡ link_to nodes → chain_end (suc most) b p ≡ last_from p nodes
   unfolding HasNodes
