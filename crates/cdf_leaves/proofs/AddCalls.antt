@@ -130,7 +130,7 @@ module _ {b : List ℕ} {kind : Kind} {before : List VariableShape} {own : Varia
       -- ---- the entry was put
 
       module _ {grown : List ℕ} {last at : ℕ} (some : head ≢ 0) (type_is : type_of_body body ≡ vvr_type) (lim : ℕ) (room : length b + (8 + length body) + vxr_bytes (widest (index_at b head)) ≤ lim) (limit : lim ≤ image_limit) (put : EntryPut filled grown found.end (entry first last place) at) where
-        pub grown_short : length grown ≤ image_limit
+        grown_short : length grown ≤ image_limit
         grown_short =
             let m = may_put in
             let long = put_long (omega (arith, m.room_is, m.used_is, m.fits.1)) (front_lies filled found.end.place (node_inside filled (shape filled).records found.end.place m.sound.has_shape.tiled m.there m.fits)) put in
@@ -149,7 +149,7 @@ module _ {b : List ℕ} {kind : Kind} {before : List VariableShape} {own : Varia
           sees = w.sees;
         }
 
-        pub stands_now : EntryStands b filled grown (leaf first last place false) at own found.end.place (8 + length body)
+        stands_now : EntryStands b filled grown (leaf first last place false) at own found.end.place (8 + length body)
         stands_now = entry_stands good at_own onto (8 + length body) grown_short put
 
         all_steps : (steps : List Step) → Each (IsAmong own.index) steps → Each (StepSays b) steps → NotAt found.end.place (map step_pair steps) → Each (StepStands grown (shape stands_now.roomy).records) steps
@@ -162,8 +162,8 @@ module _ {b : List ℕ} {kind : Kind} {before : List VariableShape} {own : Varia
               all_steps more a.1 s.1 n.1,
             )
 
-        pub way_stands : WayStands grown found.steps.items
-        way_stands = record { records = (shape stands_now.roomy).records; tiled = stands_now.state.tiled; stand = all_steps found.steps.items among_own w.say (rw (← way_is) at (not_on_way good at_own onto (8 + length body))) }
+        pub way_ready : WayStands grown found.steps.items × (length grown ≤ image_limit)
+        way_ready = (record { records = (shape stands_now.roomy).records; tiled = stands_now.state.tiled; stand = all_steps found.steps.items among_own w.say (rw (← way_is) at (not_on_way good at_own onto (8 + length body))) }, grown_short)
 
         -- ---- the nodes on the way were widened
 
@@ -171,14 +171,8 @@ module _ {b : List ℕ} {kind : Kind} {before : List VariableShape} {own : Varia
           state : State b stands_now.roomy wide (shape stands_now.roomy).records (nodes_of (with_leaf (leaf first last place false) at own.index)) (was b (nodes_of own.index) place (8 + length body) (new_room first own.index) at) found.end.place (with_leaf (leaf first last place false) at own.index)
           state = wide_state good at_own onto (8 + length body) stands_now is_steps (rw way_is at widened)
 
-          pub tail_chain : ChainInside (length wide) wide head
-          tail_chain = rw head_is (chain_ready good at_own onto (8 + length body) stands_now state)
-
-          pub tail_lies : own.vdr + 44 ≤ length wide
-          tail_lies = omega (arith, vdr_lies good at_own onto (8 + length body) stands_now state)
-
-          pub wide_short : length wide ≤ image_limit
-          wide_short = omega (arith, state.as_long, stands_now.state.as_long, grown_short)
+          pub tail_ready : ChainInside (length wide) wide head × (own.vdr + 44 ≤ length wide) × (length wide ≤ image_limit)
+          tail_ready = (rw head_is (chain_ready good at_own onto (8 + length body) stands_now state), omega (arith, vdr_lies good at_own onto (8 + length body) stands_now state), omega (arith, state.as_long, stands_now.state.as_long, grown_short))
 
           pub grown_stays : (at ≡ 0) ⊎ (found.steps.items ≢ []) → AddsLeaf b wide own first last body
           grown_stays why = record { place = place; at = at; added = tail_stays good at_own onto (8 + length body) stands_now state block refl (elim why [ inl z ↦ inl z | inr ne ↦ inr (λ z. ne (no_steps found.steps.items (way_is ∙ z))) ]) }

@@ -6,7 +6,7 @@ use Rattle.cdf_format.specs.Index.{nodes_of, lower_nodes}
 use Rattle.cdf_format.specs.IndexOf.{HasNodes, Names}
 use Rattle.cdf_leaves.proofs.Grown.{was, was_new, new_node, names_leaf}
 use Rattle.cdf_index.proofs.FieldSet.{FieldSet, field_set}
-use Rattle.cdf_leaves.proofs.Own.{vdr_kept, vdr_in, vdr_used}
+use Rattle.cdf_leaves.proofs.Own.{no_type, vdr_kept, vdr_in, vdr_used}
 use Rattle.cdf_leaves.proofs.Spares.{spares_kept}
 use Rattle.cdf_index.proofs.OneNode.{SameNode, same_node}
 use Rattle.cdf_leaves.proofs.State.{NodeNow, node_then}
@@ -112,14 +112,10 @@ module _ {b : List ℕ} {kind : Kind} {before : List VariableShape} {own : Varia
   at_small : at < 256 ^ 8
   at_small = omega (arith, st.made.written.inside.inside, now_long)
 
-  not_vvr : (kind : Kind) → type_in (variables_chain kind) ≡ vvr_type → ⊥
-  not_vvr R e = cc
-  not_vvr Z e = cc
-
   block_now : type_at now l.place ≡ vvr_type
   block_now =
       let v_kept = vdr_kept good stood late in
-      let block_apart : l.place ≢ v = λ q. not_vvr kind (sym (typed good stood) ∙ sym (type_kept b filled v v_kept.same v_kept.long) ∙ ap (type_at filled) (sym q) ∙ block_is) in
+      let block_apart : l.place ≢ v = λ q. no_type kind vvr_type refl refl (sym (typed good stood) ∙ sym (type_kept b filled v v_kept.same v_kept.long) ∙ ap (type_at filled) (sym q) ∙ block_is) in
       let k = on.kept l.place block_in (λ u. apart vvr_type uir_type refl (sym block_is ∙ u)) (λ u. apart vvr_type gdr_type refl (sym block_is ∙ u)) in
       let m = keeps l.place (on.sub l.place block_in) block_apart in
       type_kept roomy now l.place m.same m.long ∙ type_kept filled roomy l.place k.same k.long ∙ block_is

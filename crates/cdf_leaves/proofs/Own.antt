@@ -1,5 +1,5 @@
 -- The variable whose index gets a leaf, in the images in which records were taken.
-use Rattle.std.proofs.Common.{◌≡◌, ◌≢◌, ℕ, ◌<◌, arith, List, [], ◌∷◌, ◌++◌, refl, sym, ap, subst, ◌∙◌, inl, inr}
+use Rattle.std.proofs.Common.{◌≡◌, ◌≢◌, ℕ, ◌<◌, arith, List, [], ◌∷◌, ◌++◌, false, eqb, refl, sym, ap, subst, ◌∙◌, inl, inr}
 use Rattle.cdf_edits.proofs.Common.{HasVariable, LeafFits, VariableFits, linkable-type, good_by_its_shape, block_in, Each-split, record_number_limit}
 use Rattle.cdf_leaves.proofs.Common.{Kind, R, Z, StandsAmong, sound, tile, typed, has, Kept, apart, type_in, variables_chain, number, type_at, next_of, room_at, used_count, Begun, Spot, Leaf, nodes_of, leaves_of, vdr_vxr_head, gdr_type, uir_type, vxr_type, VariableShape, Each, shape, variables, NodeFits, In, Good, type_kept, linkable-in, good_is_sound, HasIndex, index_at, Grew}
 use Rattle.cdf_format.specs.GoodImage.{IsGoodImage}
@@ -29,17 +29,10 @@ leaf_each b records vdr [] m e i = absurd i
 leaf_each b records vdr (x ∷ xs) m e (inl q) = subst (λ (y : ℕ). In y records) (sym q) (block_in b records x.place e.0.0)
 leaf_each b records vdr (x ∷ xs) m e (inr i) = leaf_each b records vdr xs m e.1 i
 
-no_gdr : (kind : Kind) → type_in (variables_chain kind) ≢ gdr_type
-no_gdr R = apart (type_in (variables_chain R)) gdr_type refl
-no_gdr Z = apart (type_in (variables_chain Z)) gdr_type refl
-
-no_uir : (kind : Kind) → type_in (variables_chain kind) ≢ uir_type
-no_uir R = apart (type_in (variables_chain R)) uir_type refl
-no_uir Z = apart (type_in (variables_chain Z)) uir_type refl
-
-no_vxr : (kind : Kind) → type_in (variables_chain kind) ≢ vxr_type
-no_vxr R = apart (type_in (variables_chain R)) vxr_type refl
-no_vxr Z = apart (type_in (variables_chain Z)) vxr_type refl
+-- the type of a descriptor is another one
+pub no_type : (kind : Kind) (t : ℕ) → eqb (type_in (variables_chain R)) t ≡ false → eqb (type_in (variables_chain Z)) t ≡ false → type_in (variables_chain kind) ≢ t
+no_type R t r z = apart (type_in (variables_chain R)) t r
+no_type Z t r z = apart (type_in (variables_chain Z)) t z
 
 module _ {b : List ℕ} {kind : Kind} {before : List VariableShape} {own : VariableShape} {after : List VariableShape} (good : Good b) (at : StandsAmong b kind before own after) where
   among : AmongAll (variables (shape b)) own
@@ -64,7 +57,7 @@ module _ {b : List ℕ} {kind : Kind} {before : List VariableShape} {own : Varia
   node_fits m i = each_in (NodeFits b) (nodes_of own.index) m own_fits.1 i
 
   pub vdr_apart : (m : ℕ) → type_at b m ≡ vxr_type → m ≢ own.vdr
-  vdr_apart m t e = no_vxr kind (sym (typed good at) ∙ ap (type_at b) (sym e) ∙ t)
+  vdr_apart m t e = no_type kind vxr_type refl refl (sym (typed good at) ∙ ap (type_at b) (sym e) ∙ t)
 
   module _ {now : List ℕ} (g : Grew b now) where
     now_all : variables (shape now) ≡ among.front ++ own ∷ among.rest
@@ -104,10 +97,10 @@ module _ {b : List ℕ} {kind : Kind} {before : List VariableShape} {own : Varia
         }
 
     pub vdr_kept : Kept b now own.vdr
-    vdr_kept = g.kept own.vdr (tile good at) (λ u. no_uir kind (sym (typed good at) ∙ u)) (λ u. no_gdr kind (sym (typed good at) ∙ u))
+    vdr_kept = g.kept own.vdr (tile good at) (λ u. no_type kind uir_type refl refl (sym (typed good at) ∙ u)) (λ u. no_type kind gdr_type refl refl (sym (typed good at) ∙ u))
 
     pub vdr_in : In own.vdr (shape now).records
     vdr_in = g.sub own.vdr (tile good at)
 
     pub vdr_used : type_at now own.vdr ≢ uir_type
-    vdr_used u = let k = vdr_kept in no_uir kind (sym (type_kept b now own.vdr k.same k.long ∙ typed good at) ∙ u)
+    vdr_used u = let k = vdr_kept in no_type kind uir_type refl refl (sym (type_kept b now own.vdr k.same k.long ∙ typed good at) ∙ u)
