@@ -60,8 +60,4 @@ module _ (b : List ℕ) (at rec : ℕ) where
       passed_is 0 i es s (parted_all (λ j. last_at b at j < rec) (λ j. rec ≤ last_at b at j) i (entry_count es) here.before (λ lt. here.stop (omega arith)) (omega arith))
 
 pub begun_by : (b : List ℕ) (at rec used bound i : ℕ) → used ≡ used_count b at → bound ≡ rec → IsCut b at 28 used (bound + 1) i → Begun b at rec i
-begun_by b at rec used bound i u q c = record {
-  before = λ j lt. (let h = c.before j lt in omega arith);
-  most = let m = c.most in omega arith;
-  stop = λ lt. (let h = c.stop (omega arith) in omega arith);
-}
+begun_by b at rec used bound i u q c = record { before = λ j lt. (let h = c.before j lt in omega arith); most = let m = c.most in omega arith; stop = λ lt. (let h = c.stop (omega arith) in omega arith) }

@@ -10,10 +10,7 @@ see_node-requires-clause-node g c = some_node (g.A.Area.image c.args.area.now) c
 pub loop-turn-init : goal.loop-turn-init
 loop-turn-init g c =
     let b = g.A.Area.image c.args.area.now in
-    record {
-      chain = λ levels nodes t e. chain_start b c.args.first c.args.at levels nodes (spot_at b c.in_ok-here.here) t e c.in_ok-here.ensures.sees;
-      area = read_once c.in_ok-here.ensures.area;
-    }
+    record { chain = λ levels nodes t e. chain_start b c.args.first c.args.at levels nodes (spot_at b c.in_ok-here.here) t e c.in_ok-here.ensures.sees; area = read_once c.in_ok-here.ensures.area }
 
 pub see_node-requires-in-loop-turn-clause-node : goal.see_node-requires-in-loop-turn-clause-node
 see_node-requires-in-loop-turn-clause-node g c =
