@@ -39,12 +39,6 @@ module _ (b now : List ℕ) (s : Shape) (before : List VariableShape) (v : Varia
   from_file : (m : ℕ) → In m (file_records s) → In m mine → ⊥
   from_file m i j = absurd (omega (arith, limit m, parts m, times-in m mine j, times-in m (file_records s) i))
 
-  from_attributes : (m : ℕ) → In m (flat_map attribute_records s.attributes) → In m mine → ⊥
-  from_attributes m i j = absurd (omega (arith, limit m, parts m, times-in m mine j, times-in m (all_attribute_records s) i))
-
-  from_others : (m : ℕ) → In m (flat_map variable_records (before ++ after)) → In m mine → ⊥
-  from_others m i j = absurd (omega (arith, limit m, parts m, times-in m mine j, others m, times-in m (flat_map variable_records (before ++ after)) i))
-
   stand : (m : ℕ) → 1 ≤ times m (all_variable_records s) → In m s.records
   stand m some = variables_stand b s.records (variables s) (vdrs_stand b s sound) h.have_variables sound.variables_fit m (in-times m (all_variable_records s) some)
 
@@ -70,7 +64,7 @@ module _ (b now : List ℕ) (s : Shape) (before : List VariableShape) (v : Varia
   old_fits = let p = Each-split (VariableFits b s.records) before (v ∷ after) (subst (Each (VariableFits b s.records)) shaped.was sound.variables_fit) in (p.0, p.1.0, p.1.1)
 
   others_fit : Each (VariableFits now s.records) (before ++ after)
-  others_fit = variables_fit_kept b now s.records s.records file same (before ++ after) (λ m i. kept m (stand m (omega (arith, parts m, others m, times-in m (flat_map variable_records (before ++ after)) i))) (from_others m i)) (Each-append (VariableFits b s.records) before after old_fits.0 old_fits.2)
+  others_fit = variables_fit_kept b now s.records s.records file same (before ++ after) (λ m i. kept m (stand m (omega (arith, parts m, others m, times-in m (flat_map variable_records (before ++ after)) i))) (λ j. absurd (omega (arith, limit m, parts m, times-in m mine j, others m, times-in m (flat_map variable_records (before ++ after)) i)))) (Each-append (VariableFits b s.records) before after old_fits.0 old_fits.2)
 
   cprs_stay : (cs : List ℕ) → Each (λ (cpr : ℕ). is_a b s.records cpr_type cpr ≡ true) cs → Each (λ (cpr : ℕ). is_a now s.records cpr_type cpr ≡ true) cs
   cprs_stay [] e = tt
@@ -109,7 +103,7 @@ module _ (b now : List ℕ) (s : Shape) (before : List VariableShape) (v : Varia
     sound = record {
       has_shape = shape_now;
       gdr_fits = gdr_room b s sound now mine change inside from_file s.records all;
-      attributes_fit = attributes_fit_kept b now s.records s.records file same s.attributes (λ m i. kept m (attributes_in b s.records s.attributes h.entry_chains (λ k j. linkable-in b s.records adr_type k (h.attribute_chain.linkable k j)) m i) (from_attributes m i)) sound.attributes_fit;
+      attributes_fit = attributes_fit_kept b now s.records s.records file same s.attributes (λ m i. kept m (attributes_in b s.records s.attributes h.entry_chains (λ k j. linkable-in b s.records adr_type k (h.attribute_chain.linkable k j)) m i) (λ j. absurd (omega (arith, limit m, parts m, times-in m mine j, times-in m (all_attribute_records s) i)))) sound.attributes_fit;
       variables_fit = with_it (VariableFits now s.records) others_fit (new.vdr_fits, new.nodes_fit, new.leaves_fit, cprs_stay v.cpr old_fits.1.3);
       not_twice = once;
     };

@@ -66,8 +66,9 @@ module _ (b now records records' : List ℕ) (heads : SameHeads b now records re
   -- ---- a node with room
 
   module _ (fits : used < room_at b at) (ins : Inserted b now at used p l.first l.last l.place) (inside : at + 28 ≤ length b) where
-    grown_stands : (levels r : ℕ) (es : Entries) (more : Nodes) → SaysNode b records at r es more → Names now records' levels es → HasNodes now records' (suc levels) more → HasNodes now records' (suc levels) (placed l new at r es more)
-    grown_stands levels r es more h n m =
+    -- the new image has the node with one entry more, and all else of the tree
+    pub grown_owed : Owed b now records records' at (placed l new at)
+    grown_owed = record { same_link = placed_link l new at; is_node = placed_node l new at; stands = λ levels r es more h n m. (
         let q = parts levels r es more h n in
         let fr = front l.first es in
         let bk = past l.first es in
@@ -79,18 +80,15 @@ module _ (b now records records' : List ℕ) (heads : SameHeads b now records re
           room_is = ins.room_stays ∙ h.room_is;
           used_is = ins.used_is ∙ omega (arith, q.count, q.front_count, count_both fr (with_block l bk));
           say_entries = say_on p fr (with_block l bk) q.say_front q.front_count ins.earlier (ins.here, last);
-        }) (names_both now records' levels fr (with_block l bk) q.names_front (leaf_names now records' levels l bk names q.names_past)) m)
-
-    -- the new image has the node with one entry more, and all else of the tree
-    pub grown_owed : Owed b now records records' at (placed l new at)
-    grown_owed = record { same_link = placed_link l new at; is_node = placed_node l new at; stands = grown_stands }
+        }) (names_both now records' levels fr (with_block l bk) q.names_front (leaf_names now records' levels l bk names q.names_past)) m)) }
 
   -- ---- a full node
 
   module _ (full : room_at b at ≤ used) (fresh : is_linkable now records' vxr_type new ≡ true) where
     module _ (sp : Split b now at new used p l.first l.last l.place) (behind : p < used) where
-      split_stands : (levels r : ℕ) (es : Entries) (more : Nodes) → SaysNode b records at r es more → Names now records' levels es → HasNodes now records' (suc levels) more → HasNodes now records' (suc levels) (placed l new at r es more)
-      split_stands levels r es more h n m =
+      -- the new image has the two nodes, and all else of the tree
+      pub split_owed : Owed b now records records' at (placed l new at)
+      split_owed = record { same_link = placed_link l new at; is_node = placed_node l new at; stands = λ levels r es more h n m. (
           let q = parts levels r es more h n in
           let fr = front l.first es in
           let bk = past l.first es in
@@ -110,15 +108,11 @@ module _ (b now records records' : List ℕ) (heads : SameHeads b now records re
             room_is = sp.new_room ∙ ap (max 7) (omega (arith, q.count));
             used_is = sp.new_used ∙ omega (arith, q.count);
             say_entries = last;
-          }) q.names_past m))
-
-      -- the new image has the two nodes, and all else of the tree
-      pub split_owed : Owed b now records records' at (placed l new at)
-      split_owed = record { same_link = placed_link l new at; is_node = placed_node l new at; stands = split_stands }
+          }) q.names_past m))) }
 
     module _ (ch : Chained b now at new used l.first l.last l.place) (last : p ≡ used) where
-      chained_stands : (levels r : ℕ) (es : Entries) (more : Nodes) → SaysNode b records at r es more → Names now records' levels es → HasNodes now records' (suc levels) more → HasNodes now records' (suc levels) (placed l new at r es more)
-      chained_stands levels r es more h n m =
+      pub chained_owed : Owed b now records records' at (placed l new at)
+      chained_owed = record { same_link = placed_link l new at; is_node = placed_node l new at; stands = λ levels r es more h n m. (
           let q = parts levels r es more h n in
           let bk = past l.first es in
           let test = le-ltb (entry_count es) r (omega (arith, q.all, h.room_is)) in
@@ -136,7 +130,4 @@ module _ (b now records records' : List ℕ) (heads : SameHeads b now records re
             room_is = ch.new_room ∙ ap (max 7) (sym empty);
             used_is = ch.new_used;
             say_entries = (ch.here, tt);
-          }) (leaf_alone now records' levels l names) m))
-
-      pub chained_owed : Owed b now records records' at (placed l new at)
-      chained_owed = record { same_link = placed_link l new at; is_node = placed_node l new at; stands = chained_stands }
+          }) (leaf_alone now records' levels l names) m))) }

@@ -53,11 +53,8 @@ by_types Z fields = (refl, refl, refl, refl)
 
 module _ {b : List ℕ} (found : Found) {before : List VariableShape} {own : VariableShape} {after : List VariableShape} (good : Good b) (among : StandsAmong b found.kind before own after) (number_is : found.number ≡ length before) (fields : List Field) (block : Range → Allowance) (may : ℕ → Allowance)
     (allowed : (m : ℕ) (o : Option Range) → range_at (shape b) found m ≡ o → may m ≡ by_range b found.kind fields block m o) where
-  there : slice_get (shapes_of (shape b) found.kind) found.number ≡ Some own
-  there = ap (slice_get (shapes_of (shape b) found.kind)) number_is ∙ ap (λ (vs : List VariableShape). slice_get vs (length before)) among.was ∙ got-middle before own after
-
   ranged : (m : ℕ) (o : Option Leaf) → find (λ (leaf : Leaf). leaf.place == m) (leaves_of own.index) ≡ o → range_at (shape b) found m ≡ in_leaf o
-  ranged m o e = ap (range_in m) there ∙ ap in_leaf e
+  ranged m o e = ap (range_in m) (ap (slice_get (shapes_of (shape b) found.kind)) number_is ∙ ap (λ (vs : List VariableShape). slice_get vs (length before)) among.was ∙ got-middle before own after) ∙ ap in_leaf e
 
   -- a record of another type is no block
   no_block_of : (m type : ℕ) → type_at b m ≡ type → is_in type block_types ≡ false → In m (places_of (leaves_of own.index)) → ⊥
@@ -72,11 +69,8 @@ module _ {b : List ℕ} (found : Found) {before : List VariableShape} {own : Var
   pub descriptor_allowed : may own.vdr ≡ Only fields
   descriptor_allowed = typed_allowed own.vdr (vdr_type found.kind) (typed good among ∙ kind_type found.kind) (by_types found.kind fields).3 ∙ (by_types found.kind fields).2
 
-  node_typed : (m : ℕ) → In m (nodes_of own.index) → type_at b m ≡ vxr_type
-  node_typed m i = linkable-type b (shape b).records vxr_type m (nodes_stand b (shape b).records 8 own.index (has good among).indexed.has_nodes m i)
-
   pub node_allowed : (m : ℕ) → In m (nodes_of own.index) → may m ≡ Anything
-  node_allowed m i = typed_allowed m vxr_type (node_typed m i) refl ∙ (by_types found.kind fields).0
+  node_allowed m i = typed_allowed m vxr_type (linkable-type b (shape b).records vxr_type m (nodes_stand b (shape b).records 8 own.index (has good among).indexed.has_nodes m i)) refl ∙ (by_types found.kind fields).0
 
   pub parameters_allowed : (m : ℕ) → In m own.cpr → may m ≡ Only []
   parameters_allowed m i = typed_allowed m cpr_type (is_a-type b (shape b).records cpr_type m (Each-in (λ x. is_a b (shape b).records cpr_type x ≡ true) own.cpr (fits good among).3 m i)) refl ∙ (by_types found.kind fields).1

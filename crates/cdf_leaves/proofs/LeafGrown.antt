@@ -347,21 +347,12 @@ module _ {b : List ℕ} {kind : Kind} {before : List VariableShape} {own : Varia
       chain_found : chain_end (length wide) wide (number b own.vdr vdr_vxr_head) ≡ last_node after_leaf
       chain_found = ap (chain_end (length wide) wide) link_is ∙ end_is_last wide recs st.tiled 8 after_leaf st.has after_node once_every stand_every
 
-      last_low : last_node after_leaf ≤ length wide
-      last_low = omega (arith, (tile_lies wide 8 (length wide) recs (last_node after_leaf) st.tiled (stand_every (last_node after_leaf) (last_in after_leaf after_node))).high)
-
       -- ---- what a write in the descriptor leaves
 
       module _ {now body : List ℕ} (block : Placed b filled body l.place) (need_is : need ≡ 8 + length body) (touches : List Touch) (changed : Changed wide now touches) (within : Each (IndexTouch e.roomy own new at) touches) (as_long : length now ≡ length wide) (stay : (m : ℕ) → In m every → Kept wide now m) (heads : SameHeads wide now recs recs)
           (head_stays : number now own.vdr vdr_vxr_head ≡ number wide own.vdr vdr_vxr_head) (tail : TailGoesOn b now own.vdr index after_leaf) where
         node_now : (m : ℕ) → In m every → NodeNow b e.roomy now (spare at) x m
         node_now m i = node_then b e.roomy wide now (spare at) x m (st.each m i) (spares_kept wide now m (stay m i) (st.each m i).fits)
-
-        counts_now : Each (Counts b) (nodes_of index) → (m : ℕ) → In m every → Counts now m
-        counts_now c m i = (node_now m i).count (elim (in_nodes_with_leaf l at index m i) [
-          | inl j ↦ (let s = node_spares good stood e.grew m j in omega (arith, s.count_is, s.room_is, each_in (Counts b) (nodes_of index) m c j))
-          | inr p ↦ rw p.0 (e.fresh p.1).counted
-        ])
 
         pub leaf_added : LeafAdded b now own l body at
         leaf_added = record {
@@ -379,7 +370,10 @@ module _ {b : List ℕ} {kind : Kind} {before : List VariableShape} {own : Varia
             once = once_every;
           };
           fits = each (NodeFits now) every (λ m i. (node_now m i).fits);
-          counts = λ c. each (Counts now) every (counts_now c);
+          counts = λ c. each (Counts now) every (λ m i. (node_now m i).count (elim (in_nodes_with_leaf l at index m i) [
+            | inl j ↦ (let s = node_spares good stood e.grew m j in omega (arith, s.count_is, s.room_is, each_in (Counts b) (nodes_of index) m c j))
+            | inr p ↦ rw p.0 (e.fresh p.1).counted
+          ]));
           tail = tail;
           unused = each (UnusedEntries b now (index ∷ []) (nodes_of index) (leaf_acts l.place (8 + length body) new at)) every
               (λ m i j le lt. inl (subst (λ (k : ℕ). EntryIs b now m j (was_unused b (nodes_of index) (leaf_acts l.place k new at) m j)) need_is ((node_now m i).spare j le lt)));
@@ -406,4 +400,4 @@ module _ {b : List ℕ} {kind : Kind} {before : List VariableShape} {own : Varia
             leaf_added block need_is (touch own.vdr 36 8 ∷ []) set.changed (inl (refl, omega arith, omega arith), tt) set.as_long
             (λ m i. others_stay wide now recs st.tiled own.vdr 36 8 vdr_first (omega arith) fit set.changed m (stand_every m i) (node_apart m i))
             (heads_stay wide now recs st.tiled own.vdr 36 8 vdr_first (omega arith) fit set.changed) (set.past (own.vdr + 28) 8 (inl (omega arith)))
-            (set.reads (omega (arith, chain_found, last_low, st.as_long, e.state.as_long)) ∙ chain_found ∙ rw longer refl)
+            (set.reads (omega (arith, chain_found, (tile_lies wide 8 (length wide) recs (last_node after_leaf) st.tiled (stand_every (last_node after_leaf) (last_in after_leaf after_node))).high, st.as_long, e.state.as_long)) ∙ chain_found ∙ rw longer refl)

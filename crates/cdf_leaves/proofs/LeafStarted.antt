@@ -16,25 +16,13 @@ unfolding HasNodes
 no_nodes b ts no_node tiled h e = refl
 no_nodes b ts (node place room es more) tiled h e = absurd (some_place b ts (length b) place tiled (linkable-in b ts vxr_type place h.0.linkable) (sym e))
 
-one_leaf : (l : Leaf) (at : ℕ) → with_leaf l at no_node ≡ node at 7 (with_block l no_entry) no_node
-unfolding with_leaf
-one_leaf l at = refl
+first_leaf : (l : Leaf) (at : ℕ) → (with_leaf l at no_node ≡ node at 7 (with_block l no_entry) no_node) × (new_room l.first no_node ≡ 7) × (nodes_of (node at 7 (with_block l no_entry) no_node) ≡ at ∷ [])
+unfolding with_leaf new_room nodes_of lower_nodes
+first_leaf l at = (refl, refl, refl)
 
-seven_new : (f : ℕ) → new_room f no_node ≡ 7
-unfolding new_room
-seven_new f = refl
-
-one_node : (l : Leaf) (at : ℕ) → nodes_of (node at 7 (with_block l no_entry) no_node) ≡ at ∷ []
-unfolding nodes_of lower_nodes
-one_node l at = refl
-
-has_one : (b ts : List ℕ) (l : Leaf) (at : ℕ) → SaysNode b ts at 7 (with_block l no_entry) no_node → Names b ts 7 (with_block l no_entry) → HasNodes b ts 8 (node at 7 (with_block l no_entry) no_node)
-unfolding HasNodes
-has_one b ts l at s n = (s, n, tt)
-
-names_one : (b ts : List ℕ) (l : Leaf) → MayName b ts l → Names b ts 7 (with_block l no_entry)
-unfolding Names
-names_one b ts l m = (m.no_node, m.packed_is, tt)
+has_one : (b ts : List ℕ) (l : Leaf) (at : ℕ) → SaysNode b ts at 7 (with_block l no_entry) no_node → MayName b ts l → HasNodes b ts 8 (node at 7 (with_block l no_entry) no_node)
+unfolding HasNodes Names
+has_one b ts l at s m = (s, (m.no_node, m.packed_is, tt), tt)
 
 module _ {b : List ℕ} {kind : Kind} {before : List VariableShape} {own : VariableShape} {after : List VariableShape} (good : Good b) (stood : StandsAmong b kind before own after) {filled : List ℕ} (l : Leaf) (late : Grew b filled) (block_in : In l.place (shape filled).records) (block_is : type_at filled l.place ≡ vvr_type) (plain : l.packed ≡ false) (none : number b own.vdr vdr_vxr_head ≡ 0)
     {now : List ℕ} (short : length now ≤ image_limit) (st : IndexStarted filled now own.vdr (entry l.first l.last l.place)) where
@@ -54,13 +42,13 @@ module _ {b : List ℕ} {kind : Kind} {before : List VariableShape} {own : Varia
   index_none = no_nodes b (shape b).records own.index (sound good stood).has_shape.tiled (has good stood).indexed.has_nodes (sym none ∙ (has good stood).indexed.link_is)
 
   one_is : with_leaf l at own.index ≡ node at 7 (with_block l no_entry) no_node
-  one_is = ap (with_leaf l at) index_none ∙ one_leaf l at
+  one_is = ap (with_leaf l at) index_none ∙ (first_leaf l at).0
 
   new_is : new_room l.first own.index ≡ 7
-  new_is = ap (new_room l.first) index_none ∙ seven_new l.first
+  new_is = ap (new_room l.first) index_none ∙ (first_leaf l at).1
 
   nodes_are : nodes_of (with_leaf l at own.index) ≡ at ∷ []
-  nodes_are = ap nodes_of one_is ∙ one_node l at
+  nodes_are = ap nodes_of one_is ∙ (first_leaf l at).2
 
   on : Grew filled roomy
   on = grew late.sound st.made.fills
@@ -151,7 +139,7 @@ module _ {b : List ℕ} {kind : Kind} {before : List VariableShape} {own : Varia
       changed = changed;
       within = (inl (refl, omega arith, omega arith), (inl (refl, omega arith, omega arith), tt));
       as_long = now_long;
-      index = rw one_is (record { link_is = tail_set.past (v + 28) 8 (inl (omega arith)) ∙ head_set.reads at_small; has_nodes = has_one now records l at says (names_one now records l (names_leaf now records l block_now plain)); once = subst Distinct (sym (one_node l at)) ((λ i. i), tt) });
+      index = rw one_is (record { link_is = tail_set.past (v + 28) 8 (inl (omega arith)) ∙ head_set.reads at_small; has_nodes = has_one now records l at says (names_leaf now records l block_now plain); once = subst Distinct (sym (first_leaf l at).2) ((λ i. i), tt) });
       fits = each_one (NodeFits now) fresh_node.fits;
       counts = λ c. each_one (Counts now) (fresh_node.count (omega (arith, st.made.written.count_is, st.made.written.room_is)));
       tail = tail_set.reads at_small ∙ sym (ap (λ (n : Nodes). if bytes_eq (top_chain n) (top_chain (with_leaf l at own.index)) then number b v vdr_vxr_tail else last_node (with_leaf l at own.index)) index_none ∙ ap (λ (n : Nodes). if bytes_eq [] (top_chain n) then number b v vdr_vxr_tail else last_node n) one_is);

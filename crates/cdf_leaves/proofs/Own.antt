@@ -38,11 +38,8 @@ module _ {b : List ℕ} {kind : Kind} {before : List VariableShape} {own : Varia
   among : AmongAll (variables (shape b)) own
   among = among_all b kind before own after at.was
 
-  image : IsGoodImage b (shape b)
-  image = good_image b (shape b) (good_by_its_shape b good)
-
   pub searchable : HasIndex b (number b own.vdr vdr_vxr_head) × (index_at b (number b own.vdr vdr_vxr_head) ≡ own.index)
-  searchable = good_index b (shape b) among.front own among.rest image (good_is_sound b good) among.all
+  searchable = good_index b (shape b) among.front own among.rest (good_image b (shape b) (good_by_its_shape b good)) (good_is_sound b good) among.all
 
   pub own_order : InOrder 0 record_number_limit own.index
   own_order = let s = searchable in subst (InOrder 0 record_number_limit) s.1 s.0.order
