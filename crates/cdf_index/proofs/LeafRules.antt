@@ -10,6 +10,7 @@ use Rattle.cdf_edits.proofs.Edits.LeafRecords.{signed}
 use Rattle.cdf_format.specs.Index.{nodes_of, lower_nodes, leaves_of, entry_leaves}
 use Rattle.cdf_format.specs.IndexRules.{has_room, is_between, nodes_rows, used_rows, index_rows}
 use Rattle.cdf_format.proofs.RowLemmas.{Hold-append}
+use Rattle.cdf_edits.proofs.Space.ActsLeave.{each as each_of}
 use Rattle.cdf_index.specs.Order.{InOrder, AreInOrder}
 use Rattle.cdf_index.proofs.GoodIndex.{order_from}
 use Rattle.cdf_index.proofs.Coming.{Comes, comes, comes_along, comes_below, comes_first, comes_here, chain_reaches_from}
@@ -196,53 +197,45 @@ lt_between zero first l = refl
 lt_between (suc low) first l = lt-ltb low first l
 
 between_by : (low high first last : ℕ) → high ≤ record_number_limit → low ≤ first → first ≤ last → last ≤ high → is_between (before_number low) (pos high) first last ≡ true
-between_by low high first last m l k h =
-    let a = signed first (omega arith) in
-    let b = signed last (omega arith) in
-    let p = lt_between low first l in
-    let q = le-leb first last k in
-    let r = le-leb last high h in
-    rw (a, b, p, q, r) refl
+between_by low high first last m l k h = rw (signed first (omega arith), signed last (omega arith), lt_between low first l, le-leb first last k, le-leb last high h) refl
 
-one_left : (l : Leaf) (xs ys : List Leaf) → IsOneOf xs l → IsOneOf (xs ++ ys) l
-one_left l [] ys i = absurd i
-one_left l (x ∷ xs) ys (inl e) = inl e
-one_left l (x ∷ xs) ys (inr i) = inr (one_left l xs ys i)
-
-one_right : (l : Leaf) (xs ys : List Leaf) → IsOneOf ys l → IsOneOf (xs ++ ys) l
-one_right l [] ys i = i
-one_right l (x ∷ xs) ys i = inr (one_right l xs ys i)
+each_leaf : (P : Leaf → Type 0) (leaves : List Leaf) → ((l : Leaf) → IsOneOf leaves l → P l) → Each P leaves
+each_leaf P [] f = tt
+each_leaf P (x ∷ xs) f = (f x (inl refl), each_leaf P xs (λ l i. f l (inr i)))
 
 module _ (b records : List ℕ) where
+  abbrev HasRoom : ℕ → Type 0
+  HasRoom m = has_room b m ≡ true
+
+  abbrev HasBlock : Leaf → Type 0
+  HasBlock l = is_block b records l.place ≡ true
+
   mutual
     unfolding nodes_rows used_rows InOrder AreInOrder nodes_of lower_nodes leaves_of entry_leaves
 
-    pub rules_from : (low high : ℕ) (nodes : Nodes) → high ≤ record_number_limit → InOrder low high nodes → ((m : ℕ) → In m (nodes_of nodes) → has_room b m ≡ true) → ((l : Leaf) → IsOneOf (leaves_of nodes) l → is_block b records l.place ≡ true)
-        → Hold (nodes_rows b records (before_number low) (pos high) nodes)
+    rules_from : (low high : ℕ) (nodes : Nodes) → high ≤ record_number_limit → InOrder low high nodes → Each HasRoom (nodes_of nodes) → Each HasBlock (leaves_of nodes) → Hold (nodes_rows b records (before_number low) (pos high) nodes)
     rules_from low high no_node m o room is = tt
     rules_from low high (node place wide entries more) m o room is =
-        let p = entries_rules_from place low high entries m o.0 (λ k i. room k (inr (In-append_left k (lower_nodes entries) (nodes_of more) i))) (λ l i. is l (one_left l (entry_leaves entries) (leaves_of more) i)) in
-        let q = rules_from (past_entries low entries) high more m o.1 (λ k i. room k (inr (In-append_right k (lower_nodes entries) (nodes_of more) i))) (λ l i. is l (one_right l (entry_leaves entries) (leaves_of more) i)) in
-        (room place (inl refl), Hold-append (used_rows b records place (before_number low) (pos high) entries) (nodes_rows b records (end_of (before_number low) entries) (pos high) more) p.0 (subst (λ (z : ℤ). Hold (nodes_rows b records z (pos high) more)) (sym p.1) q))
+        let rooms = Each-split HasRoom (lower_nodes entries) (nodes_of more) room.1 in
+        let blocks = Each-split HasBlock (entry_leaves entries) (leaves_of more) is in
+        let p = entries_rules_from place low high entries m o.0 rooms.0 blocks.0 in
+        (room.0, Hold-append (used_rows b records place (before_number low) (pos high) entries) (nodes_rows b records (end_of (before_number low) entries) (pos high) more) p.0 (rw p.1 (rules_from (past_entries low entries) high more m o.1 rooms.1 blocks.1)))
 
-    entries_rules_from : (vxr low high : ℕ) (entries : Entries) → high ≤ record_number_limit → AreInOrder low high entries → ((m : ℕ) → In m (lower_nodes entries) → has_room b m ≡ true) → ((l : Leaf) → IsOneOf (entry_leaves entries) l → is_block b records l.place ≡ true)
+    entries_rules_from : (vxr low high : ℕ) (entries : Entries) → high ≤ record_number_limit → AreInOrder low high entries → Each HasRoom (lower_nodes entries) → Each HasBlock (entry_leaves entries)
         → Hold (used_rows b records vxr (before_number low) (pos high) entries) × (end_of (before_number low) entries ≡ before_number (past_entries low entries))
     entries_rules_from vxr low high no_entry m o room is = (tt, refl)
     entries_rules_from vxr low high (block first last place packed entries) m o room is =
-        let o2 = o.2 in
-        let s = signed last (omega arith) in
-        let r = entries_rules_from vxr (suc last) high entries m o.3 room (λ l i. is l (inr i)) in
-        ((is (leaf first last place packed) (inl refl), (between_by low high first last m o.0 o.1 o.2, subst (λ (z : ℤ). Hold (used_rows b records vxr z (pos high) entries)) (sym s) r.0)), ap (λ (z : ℤ). end_of z entries) s ∙ r.1)
+        let s = signed last (omega (arith, o.2)) in
+        let r = entries_rules_from vxr (suc last) high entries m o.3 room is.1 in
+        ((is.0, (between_by low high first last m o.0 o.1 o.2, rw s r.0)), ap (λ (z : ℤ). end_of z entries) s ∙ r.1)
     entries_rules_from vxr low high (lower first last nodes entries) m o room is =
-        let o1 = o.1 in
-        let o2 = o.2 in
-        let s = signed last (omega arith) in
-        let f = before_is first (signed first (omega arith)) in
-        let low_rules = rules_from first last nodes (omega arith) o.3 (λ k i. room k (In-append_left k (nodes_of nodes) (lower_nodes entries) i)) (λ l i. is l (one_left l (leaves_of nodes) (entry_leaves entries) i)) in
-        let r = entries_rules_from vxr (suc last) high entries m o.4 (λ k i. room k (In-append_right k (nodes_of nodes) (lower_nodes entries) i)) (λ l i. is l (one_right l (leaves_of nodes) (entry_leaves entries) i)) in
-        let here = subst (λ (z : ℤ). Hold (nodes_rows b records (number_before first) z nodes)) (sym s) (subst (λ (z : ℤ). Hold (nodes_rows b records z (pos last) nodes)) (sym f) low_rules) in
-        let behind = subst (λ (z : ℤ). Hold (used_rows b records vxr z (pos high) entries)) (sym s) r.0 in
-        ((between_by low high first last m o.0 o.1 o.2, Hold-append (nodes_rows b records (number_before first) (with_sign last) nodes) (used_rows b records vxr (with_sign last) (pos high) entries) here behind), ap (λ (z : ℤ). end_of z entries) s ∙ r.1)
+        let s = signed last (omega (arith, o.2)) in
+        let f = before_is first (signed first (omega (arith, o.1, o.2))) in
+        let rooms = Each-split HasRoom (nodes_of nodes) (lower_nodes entries) room in
+        let blocks = Each-split HasBlock (leaves_of nodes) (entry_leaves entries) is in
+        let below = rules_from first last nodes (omega (arith, o.2)) o.3 rooms.0 blocks.0 in
+        let r = entries_rules_from vxr (suc last) high entries m o.4 rooms.1 blocks.1 in
+        ((between_by low high first last m o.0 o.1 o.2, Hold-append (nodes_rows b records (number_before first) (with_sign last) nodes) (used_rows b records vxr (with_sign last) (pos high) entries) (rw (f, s) below) (rw s r.0)), ap (λ (z : ℤ). end_of z entries) s ∙ r.1)
 
   leaves_rules : (vdr : ℕ) (leaves : List Leaf) → ((l : Leaf) → IsOneOf leaves l → Hold (leaf_rows b records vdr l)) → Hold (flat_map (leaf_rows b records vdr) leaves)
   leaves_rules vdr [] each = tt
@@ -252,7 +245,7 @@ module _ (b records : List ℕ) where
   pub index_rules : (vdr : ℕ) (index : Nodes) → InOrder 0 record_number_limit index → ((m : ℕ) → In m (nodes_of index) → has_room b m ≡ true) → ((l : Leaf) → IsOneOf (leaves_of index) l → (is_block b records l.place ≡ true) × Hold (leaf_rows b records vdr l))
       → Hold (index_rows b records vdr index)
   index_rules vdr index o room each =
-      Hold-append (nodes_rows b records (negsuc 0) (pos record_number_limit) index) (flat_map (leaf_rows b records vdr) (leaves_of index)) (rules_from 0 record_number_limit index (omega arith) o room (λ l i. (each l i).0))
+      Hold-append (nodes_rows b records (negsuc 0) (pos record_number_limit) index) (flat_map (leaf_rows b records vdr) (leaves_of index)) (rules_from 0 record_number_limit index (omega arith) o (each_of HasRoom (nodes_of index) room) (each_leaf HasBlock (leaves_of index) (λ l i. (each l i).0)))
       (leaves_rules vdr (leaves_of index) (λ l i. (each l i).1))
 
   pub index_order : (vdr : ℕ) (index : Nodes) → Hold (index_rows b records vdr index) → InOrder 0 record_number_limit index
