@@ -29,12 +29,10 @@ module _ {new : Leaf} {at : ℕ} {P : ℕ → Nodes → Nodes → Type 0} {Q : �
       let p = past new.first es in
       let whole = front_past new.first es in
       elim (either (ltb (entry_count es) room)) [
-        | inl t ↦ rw (t, upto_both new es p) (subst (λ (x : Entries). P 0 (node place room x more) (node place room (with_both f (with_block new p)) more)) whole (g.fits place room f p more))
+        | inl t ↦ rw (t, upto_both new es p) (rw whole at (g.fits place room f p more))
         | inr t ↦ elim (either (eqb (entry_count p) 0)) [
-          | inl z ↦ let none = eqb-true (entry_count p) 0 z in let seven : max 7 (entry_count p) ≡ 7 = omega arith in rw (t, z, seven) (g.behind place room es more)
-          | inr z ↦
-              let n = max 7 (entry_count p) in
-              rw (t, z, upto_is new es) (subst (λ (x : Entries). P n (node place room x more) (node place room (with_both f (with_block new no_entry)) (node at n p more))) whole (g.split n place room f p more refl))
+          | inl z ↦ let seven : max 7 (entry_count p) ≡ 7 = omega (arith, eqb-true (entry_count p) 0 z) in rw (t, z, seven) (g.behind place room es more)
+          | inr z ↦ rw (t, z, upto_is new es) (rw whole at (g.split (max 7 (entry_count p)) place room f p more refl))
         ]
       ]
 

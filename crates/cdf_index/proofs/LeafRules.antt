@@ -130,28 +130,18 @@ order_with_entry new at place room low high es more o d c l k h u n n' =
     let fr = front f es in
     let bk = past f es in
     let whole = front_past f es in
-    let parts = parts_in_order low high fr bk (subst (AreInOrder low high) (sym whole) o.0) in
+    let parts = parts_in_order low high fr bk (rw whole o.0) in
     let ends = front_ends f low high false es o.0 d (λ e. l) u in
-    let begin = firsts_both f new.last fr bk (subst (λ (x : Entries). NoneBegins f new.last (entry_firsts x)) (sym whole) n) in
-    let unreached = none_reached f low high es o.0 in
-    let back = raised_entries f new.last (past_entries low fr) (suc new.last) high bk parts.1 unreached begin (omega arith) in
+    let back = raised_entries f new.last (past_entries low fr) (suc new.last) high bk parts.1 (none_reached f low high es o.0) (firsts_both f new.last fr bk (rw whole n)) (omega arith) in
     let past_is : past_entries low es ≡ past_entries (past_entries low fr) bk = ap (past_entries low) (sym whole) ∙ past_both low fr bk in
-    let most = past_most (past_entries low fr) (suc new.last) bk in
-    let rest = raised f new.last (past_entries low es) (past_entries (suc new.last) bk) high more o.1 c n' (omega arith) in
+    let rest = raised f new.last (past_entries low es) (past_entries (suc new.last) bk) high more o.1 c n' (omega (arith, past_is, past_most (past_entries low fr) (suc new.last) bk)) in
     elim (either (ltb (entry_count es) room)) [
-      | inl t ↦
-          let same = upto_both new es bk in
-          let past_all : past_entries low (with_both fr (with_block new bk)) ≡ past_entries (suc new.last) bk = past_both low fr (with_block new bk) in
-          rw (t, same) (both_in_order low high fr (with_block new bk) parts.0 (ends, k, h, back), rw past_all rest)
+      | inl t ↦ rw (t, upto_both new es bk) (both_in_order low high fr (with_block new bk) parts.0 (ends, k, h, back), rw (past_both low fr (with_block new bk)) rest)
       | inr t ↦ elim (either (eqb (entry_count bk) 0)) [
         | inl z ↦
             let none = ap (past_entries (past_entries low fr)) (no_entries bk (eqb-true (entry_count bk) 0 z)) in
-            let last_ones = raised f new.last (past_entries low es) (suc new.last) high more o.1 c n' (omega arith) in
-            rw (t, z) (o.0, ((omega arith, k, h, tt), last_ones))
-        | inr z ↦
-            let same = upto_is new es in
-            let past_all : past_entries low (with_both fr (with_block new no_entry)) ≡ suc new.last = past_both low fr (with_block new no_entry) in
-            rw (t, z, same) (both_in_order low high fr (with_block new no_entry) parts.0 (ends, k, h, tt), rw past_all (back, rest))
+            rw (t, z) (o.0, ((omega (arith, past_is, none), k, h, tt), raised f new.last (past_entries low es) (suc new.last) high more o.1 c n' (omega (arith, past_is, none))))
+        | inr z ↦ rw (t, z, upto_is new es) (both_in_order low high fr (with_block new no_entry) parts.0 (ends, k, h, tt), rw (past_both low fr (with_block new no_entry)) (back, rest))
       ]
     ]
 
