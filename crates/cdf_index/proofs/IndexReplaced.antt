@@ -1,6 +1,6 @@
 -- The index of one variable becomes another one: a sound image stays sound, and every other owner is as before.
 use Rattle.std.proofs.Common.{◌≡◌, ℕ, ◌+◌, ◌≤◌, List, [], ◌∷◌, ◌++◌, length, true, sym, ap, subst, ◌∙◌, arith, inl, inr}
-use Rattle.cdf_edits.proofs.Common.{ChangedWithin, FileStays, Leaves, IsChain, times, attribute_records, variable_records, unused_records, owned_records, gdr_r_vdr_head, gdr_z_vdr_head, cdr_type, gdr_type, adr_type, r_vdr_type, z_vdr_type, cpr_type, HasShape, attributes_in}
+use Rattle.cdf_edits.proofs.Common.{ChangedWithin, FileStays, Leaves, IsChain, times, variable_records, unused_records, owned_records, gdr_r_vdr_head, gdr_z_vdr_head, cdr_type, gdr_type, adr_type, r_vdr_type, z_vdr_type, cpr_type, HasShape, attributes_in}
 use Rattle.cdf_edits.proofs.Edits.Common.{FileSame}
 use Rattle.cdf_index.proofs.Common.{flat_map, VariableFits, IsSound, is_a, number, Nodes, VariableShape, Shape, variables, Each, HasVariable, In, AreTiles, linkable-in, Each-split, Each-append, Kept, SameHeads}
 use Rattle.cdf_edits.proofs.Frame.OwnerAlone.{heads, stays}

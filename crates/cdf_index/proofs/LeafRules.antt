@@ -1,6 +1,6 @@
 -- An index with a leaf more keeps the rules: its entries are in order, its nodes have room for theirs, and each leaf has a block.
-use Rattle.std.proofs.Common.{◌≡◌, ℕ, ℤ, pos, negsuc, zero, suc, ◌+◌, ◌<◌, ◌≤◌, max, min, List, [], ◌∷◌, ◌++◌, Bool, true, false, None, ltb, leb, eqb, refl, sym, ap, subst, ◌∙◌, arith, inl, inr, true≢false}
-use Rattle.cdf_index.proofs.Common.{nat_tests, eqb-true, filter, flat_map, fold, find, nat_lt, record_number_limit, range, covers, next_first, reaches, chain_reaches, leads_down, past, with_both, with_entry, with_sign, Nodes, no_node, node, Entries, no_entry, block, lower, Leaf, leaf, entry_count, is_block, end_of, leaf_rows, Hold, In, number_before, either, In-append_left, In-append_right, Hold-split, past_entries, before_number, Each, Each-split}
+use Rattle.std.proofs.Common.{◌≡◌, ℕ, ℤ, pos, negsuc, zero, suc, ◌+◌, ◌<◌, ◌≤◌, max, min, List, [], ◌∷◌, Bool, true, false, None, ltb, leb, eqb, refl, sym, ap, subst, ◌∙◌, arith, inl, inr, true≢false}
+use Rattle.cdf_index.proofs.Common.{nat_tests, eqb-true, filter, flat_map, fold, find, nat_lt, record_number_limit, range, covers, next_first, reaches, chain_reaches, leads_down, past, with_both, with_entry, with_sign, Nodes, no_node, node, Entries, no_entry, block, lower, Leaf, entry_count, is_block, end_of, leaf_rows, Hold, In, number_before, either, Hold-split, past_entries, before_number, Each, Each-split}
 use Rattle.std.proofs.lemmas.Bool.{cases_lt, le-ltb, leb-true, leb-false, le-leb, lt-ltb, or_parts}
 use Rattle.std.specs.Prelude.{int_lt}
 use Rattle.cdf_edits.specs.Index.Blocks.{firsts_of, entry_firsts}

@@ -68,19 +68,23 @@ module _ (b now records records' : List ℕ) (heads : SameHeads b now records re
   module _ (fits : used < room_at b at) (ins : Inserted b now at used p l.first l.last l.place) (inside : at + 28 ≤ length b) where
     -- the new image has the node with one entry more, and all else of the tree
     pub grown_owed : Owed b now records records' at (placed l new at)
-    grown_owed = record { same_link = placed_link l new at; is_node = placed_node l new at; stands = λ levels r es more h n m. (
-        let q = parts levels r es more h n in
-        let fr = front l.first es in
-        let bk = past l.first es in
-        let test = lt-ltb (entry_count es) r (omega (arith, q.all, h.room_is)) in
-        let last = say_moved b now at at p (suc p) bk q.say_past (λ j f k o lt says. (let x : suc (p + j) ≡ suc p + j = omega arith in rw x at (ins.later (p + j) (omega arith) (omega (arith, q.count)) f k o says))) in
-        rw (test, upto_both l es bk) (node_has now records' levels at r (with_both fr (with_block l bk)) more (record {
-          linkable = linked r es more h;
-          next_is = front_stays b now at 24 (4 + 16 * room_at b at) ins.changed (omega arith) 12 8 (omega arith) ∙ h.next_is;
-          room_is = ins.room_stays ∙ h.room_is;
-          used_is = ins.used_is ∙ omega (arith, q.count, q.front_count, count_both fr (with_block l bk));
-          say_entries = say_on p fr (with_block l bk) q.say_front q.front_count ins.earlier (ins.here, last);
-        }) (names_both now records' levels fr (with_block l bk) q.names_front (leaf_names now records' levels l bk names q.names_past)) m)) }
+    grown_owed = record {
+      same_link = placed_link l new at;
+      is_node = placed_node l new at;
+      stands = λ levels r es more h n m. (
+          let q = parts levels r es more h n in
+          let fr = front l.first es in
+          let bk = past l.first es in
+          let test = lt-ltb (entry_count es) r (omega (arith, q.all, h.room_is)) in
+          let last = say_moved b now at at p (suc p) bk q.say_past (λ j f k o lt says. (let x : suc (p + j) ≡ suc p + j = omega arith in rw x at (ins.later (p + j) (omega arith) (omega (arith, q.count)) f k o says))) in
+          rw (test, upto_both l es bk) (node_has now records' levels at r (with_both fr (with_block l bk)) more (record {
+            linkable = linked r es more h;
+            next_is = front_stays b now at 24 (4 + 16 * room_at b at) ins.changed (omega arith) 12 8 (omega arith) ∙ h.next_is;
+            room_is = ins.room_stays ∙ h.room_is;
+            used_is = ins.used_is ∙ omega (arith, q.count, q.front_count, count_both fr (with_block l bk));
+            say_entries = say_on p fr (with_block l bk) q.say_front q.front_count ins.earlier (ins.here, last);
+          }) (names_both now records' levels fr (with_block l bk) q.names_front (leaf_names now records' levels l bk names q.names_past)) m));
+    }
 
   -- ---- a full node
 
@@ -88,46 +92,54 @@ module _ (b now records records' : List ℕ) (heads : SameHeads b now records re
     module _ (sp : Split b now at new used p l.first l.last l.place) (behind : p < used) where
       -- the new image has the two nodes, and all else of the tree
       pub split_owed : Owed b now records records' at (placed l new at)
-      split_owed = record { same_link = placed_link l new at; is_node = placed_node l new at; stands = λ levels r es more h n m. (
-          let q = parts levels r es more h n in
-          let fr = front l.first es in
-          let bk = past l.first es in
-          let test = le-ltb (entry_count es) r (omega (arith, q.all, h.room_is)) in
-          let some = ne_eqb (entry_count bk) 0 (λ e. absurd (omega (arith, q.count))) in
-          let last = say_moved b now at new p 0 bk q.say_past (λ j f o w lt says. (let x : (p + j) - p ≡ 0 + j = omega arith in rw x at (sp.moved (p + j) f o w (omega arith) (omega (arith, q.count)) says))) in
-          rw (test, some, upto_is l es) (node_has now records' levels at r (with_both fr (with_block l no_entry)) (node new (max 7 (entry_count bk)) bk more) (record {
-            linkable = linked r es more h;
-            next_is = sp.next_is;
-            room_is = sp.room_stays ∙ h.room_is;
-            used_is = sp.used_is ∙ omega (arith, q.front_count, count_both fr (with_block l no_entry));
-            say_entries = say_on p fr (with_block l no_entry) q.say_front q.front_count sp.earlier (sp.here, tt);
-          }) (names_both now records' levels fr (with_block l no_entry) q.names_front (leaf_alone now records' levels l names))
-          (node_has now records' levels new (max 7 (entry_count bk)) bk more (record {
-            linkable = fresh;
-            next_is = sp.new_next ∙ h.next_is;
-            room_is = sp.new_room ∙ ap (max 7) (omega (arith, q.count));
-            used_is = sp.new_used ∙ omega (arith, q.count);
-            say_entries = last;
-          }) q.names_past m))) }
+      split_owed = record {
+        same_link = placed_link l new at;
+        is_node = placed_node l new at;
+        stands = λ levels r es more h n m. (
+            let q = parts levels r es more h n in
+            let fr = front l.first es in
+            let bk = past l.first es in
+            let test = le-ltb (entry_count es) r (omega (arith, q.all, h.room_is)) in
+            let some = ne_eqb (entry_count bk) 0 (λ e. absurd (omega (arith, q.count))) in
+            let last = say_moved b now at new p 0 bk q.say_past (λ j f o w lt says. (let x : (p + j) - p ≡ 0 + j = omega arith in rw x at (sp.moved (p + j) f o w (omega arith) (omega (arith, q.count)) says))) in
+            rw (test, some, upto_is l es) (node_has now records' levels at r (with_both fr (with_block l no_entry)) (node new (max 7 (entry_count bk)) bk more) (record {
+              linkable = linked r es more h;
+              next_is = sp.next_is;
+              room_is = sp.room_stays ∙ h.room_is;
+              used_is = sp.used_is ∙ omega (arith, q.front_count, count_both fr (with_block l no_entry));
+              say_entries = say_on p fr (with_block l no_entry) q.say_front q.front_count sp.earlier (sp.here, tt);
+            }) (names_both now records' levels fr (with_block l no_entry) q.names_front (leaf_alone now records' levels l names))
+            (node_has now records' levels new (max 7 (entry_count bk)) bk more (record {
+              linkable = fresh;
+              next_is = sp.new_next ∙ h.next_is;
+              room_is = sp.new_room ∙ ap (max 7) (omega (arith, q.count));
+              used_is = sp.new_used ∙ omega (arith, q.count);
+              say_entries = last;
+            }) q.names_past m)));
+      }
 
     module _ (ch : Chained b now at new used l.first l.last l.place) (last : p ≡ used) where
       pub chained_owed : Owed b now records records' at (placed l new at)
-      chained_owed = record { same_link = placed_link l new at; is_node = placed_node l new at; stands = λ levels r es more h n m. (
-          let q = parts levels r es more h n in
-          let bk = past l.first es in
-          let test = le-ltb (entry_count es) r (omega (arith, q.all, h.room_is)) in
-          let empty : entry_count bk ≡ 0 = omega (arith, q.count) in
-          rw (test, eq-eqb (entry_count bk) 0 empty) (node_has now records' levels at r es (node new (max 7 (entry_count bk)) (with_block l no_entry) more) (record {
-            linkable = linked r es more h;
-            next_is = ch.next_is;
-            room_is = ch.room_stays ∙ h.room_is;
-            used_is = ch.used_is ∙ used_is ∙ h.used_is;
-            say_entries = say_moved b now at at 0 0 es h.say_entries (λ j f o w lt says. ch.stay (0 + j) (omega (arith, q.all)) f o w says);
-          }) n
-          (node_has now records' levels new (max 7 (entry_count bk)) (with_block l no_entry) more (record {
-            linkable = fresh;
-            next_is = ch.new_next ∙ h.next_is;
-            room_is = ch.new_room ∙ ap (max 7) (sym empty);
-            used_is = ch.new_used;
-            say_entries = (ch.here, tt);
-          }) (leaf_alone now records' levels l names) m))) }
+      chained_owed = record {
+        same_link = placed_link l new at;
+        is_node = placed_node l new at;
+        stands = λ levels r es more h n m. (
+            let q = parts levels r es more h n in
+            let bk = past l.first es in
+            let test = le-ltb (entry_count es) r (omega (arith, q.all, h.room_is)) in
+            let empty : entry_count bk ≡ 0 = omega (arith, q.count) in
+            rw (test, eq-eqb (entry_count bk) 0 empty) (node_has now records' levels at r es (node new (max 7 (entry_count bk)) (with_block l no_entry) more) (record {
+              linkable = linked r es more h;
+              next_is = ch.next_is;
+              room_is = ch.room_stays ∙ h.room_is;
+              used_is = ch.used_is ∙ used_is ∙ h.used_is;
+              say_entries = say_moved b now at at 0 0 es h.say_entries (λ j f o w lt says. ch.stay (0 + j) (omega (arith, q.all)) f o w says);
+            }) n
+            (node_has now records' levels new (max 7 (entry_count bk)) (with_block l no_entry) more (record {
+              linkable = fresh;
+              next_is = ch.new_next ∙ h.next_is;
+              room_is = ch.new_room ∙ ap (max 7) (sym empty);
+              used_is = ch.new_used;
+              say_entries = (ch.here, tt);
+            }) (leaf_alone now records' levels l names) m)));
+      }

@@ -1,6 +1,6 @@
 -- A node on the way whose entry ends later, in the tree.
-use Rattle.std.proofs.Common.{◌≡◌, ◌≢◌, ℕ, zero, suc, ◌+◌, ◌*◌, ◌<◌, ◌≤◌, max, List, length, refl, sym, ap, subst, ◌∙◌, arith}
-use Rattle.cdf_index.proofs.Common.{SameHeads, linkable_kept, Owed, Nodes, Entries, no_entry, block, lower, entry_count, link_to, room_at, used_count, SaysEntry, SayEntries, SaysNode, HasNodes, vxr_type, widened, wider, StillSays, Widened}
+use Rattle.std.proofs.Common.{◌≡◌, ◌≢◌, ℕ, zero, suc, ◌+◌, ◌*◌, ◌<◌, ◌≤◌, max, List, length, refl, sym, ap, ◌∙◌, arith}
+use Rattle.cdf_index.proofs.Common.{SameHeads, linkable_kept, Owed, Entries, no_entry, block, lower, entry_count, link_to, room_at, used_count, SaysEntry, SayEntries, vxr_type, widened, wider, StillSays, Widened}
 use Rattle.cdf_format.specs.IndexOf.{Names}
 use Rattle.cdf_index.proofs.Inserting.{front_stays, room_stays, used_stays}
 use Rattle.cdf_index.proofs.NodeGrown.{node_has}
@@ -36,12 +36,16 @@ say_widened b now at last i k (suc n) (lower first end nodes es) e here others s
 module _ (b now records records' : List ℕ) (heads : SameHeads b now records records') (at i last : ℕ) (w : Widened b now at i last) (most : used_count b at ≤ room_at b at) (inside : at + 28 ≤ length b) where
   -- the new image has the node with the wider entry, and all else of the tree
   pub wider_owed : Owed b now records records' at (wider last at i)
-  wider_owed = record { same_link = λ r es more. refl; is_node = λ r es more. tt; stands = λ levels r es more h n m.
-    (let u = h.used_is in
-    node_has now records' levels at r (widened last i es) more (record {
-      linkable = linkable_kept b now records records' heads vxr_type at h.linkable;
-      next_is = front_stays b now at 28 (16 * room_at b at) w.changed inside 12 8 (omega arith) ∙ h.next_is;
-      room_is = room_stays b now at (16 * room_at b at) w.changed inside ∙ h.room_is;
-      used_is = used_stays b now at (16 * room_at b at) w.changed inside ∙ h.used_is ∙ sym (count_widened last i es);
-      say_entries = say_widened b now at last i 0 i es (omega arith) w.here (λ j lt ne. w.others j (omega arith) ne) h.say_entries;
-    }) (names_widened now records' levels last i es n) m) }
+  wider_owed = record {
+    same_link = λ r es more. refl;
+    is_node = λ r es more. tt;
+    stands = λ levels r es more h n m.
+        (let u = h.used_is in
+        node_has now records' levels at r (widened last i es) more (record {
+          linkable = linkable_kept b now records records' heads vxr_type at h.linkable;
+          next_is = front_stays b now at 28 (16 * room_at b at) w.changed inside 12 8 (omega arith) ∙ h.next_is;
+          room_is = room_stays b now at (16 * room_at b at) w.changed inside ∙ h.room_is;
+          used_is = used_stays b now at (16 * room_at b at) w.changed inside ∙ h.used_is ∙ sym (count_widened last i es);
+          say_entries = say_widened b now at last i 0 i es (omega arith) w.here (λ j lt ne. w.others j (omega arith) ne) h.say_entries;
+        }) (names_widened now records' levels last i es n) m);
+  }

@@ -1,5 +1,5 @@
 -- The nodes on a way are widened one by one, the last one first.
-use Rattle.std.proofs.Common.{◌≡◌, ℕ, zero, suc, ◌<◌, List, [], ◌∷◌, length, map, drop, slice_index_or, sym, subst, ◌∙◌, arith}
+use Rattle.std.proofs.Common.{◌≡◌, ℕ, zero, suc, ◌<◌, List, [], ◌∷◌, length, map, drop, slice_index_or, sym, ◌∙◌, arith}
 use Rattle.cdf_leaves.proofs.Common.{room_at, Each, step_pair, NodeInside, Step, StepStands, WayStands, WidenedAlong}
 use Rattle.cdf_leaves.proofs.Spares.{StillNodes, still_none, still_then, widened_one, fits_still, node_inside}
 

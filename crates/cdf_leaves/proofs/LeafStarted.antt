@@ -1,6 +1,6 @@
 -- The first leaf of an index: its node is taken, and the descriptor leads to it.
 use Rattle.std.proofs.Common.{◌≡◌, ◌≢◌, ℕ, ◌+◌, ◌^◌, ◌<◌, ◌≤◌, List, [], ◌∷◌, length, Bool, false, refl, sym, ap, subst, ◌∙◌, arith, inl, inr}
-use Rattle.cdf_leaves.proofs.Common.{if◌then◌else◌, bytes_eq, Kind, R, Z, image_limit, touch, Touch, Changed, UnusedEntries, top_chain, last_node, Placed, StandsAmong, sound, typed, has, long, changed_then, changed_whole, Kept, apart, number, size_at, type_at, with_field, Nodes, no_node, node, no_entry, Leaf, link_to, SaysNode, vdr_vxr_head, vdr_vxr_tail, gdr_type, uir_type, vxr_type, vvr_type, VariableShape, Each, shape, NodeFits, AreTiles, Distinct, In, Good, type_kept, size_kept, linkable-in, linkable-from, some_place, tile_lies, Counts, LeafAdded, leaf_acts, MayName, type_in, variables_chain, entry, IndexStarted, Grew, grew, grew_then, stands, unlike}
+use Rattle.cdf_leaves.proofs.Common.{if◌then◌else◌, bytes_eq, Kind, image_limit, touch, Touch, Changed, UnusedEntries, top_chain, last_node, Placed, StandsAmong, sound, typed, has, long, changed_then, changed_whole, Kept, apart, number, size_at, type_at, with_field, Nodes, no_node, node, no_entry, Leaf, link_to, SaysNode, vdr_vxr_head, vdr_vxr_tail, gdr_type, uir_type, vxr_type, vvr_type, VariableShape, Each, shape, NodeFits, AreTiles, Distinct, In, Good, type_kept, size_kept, linkable-in, linkable-from, some_place, tile_lies, Counts, LeafAdded, leaf_acts, MayName, entry, IndexStarted, Grew, grew, grew_then, stands, unlike}
 use Rattle.cdf_edits.specs.Index.Grown.{with_leaf, new_room, with_block}
 use Rattle.cdf_format.specs.Index.{nodes_of, lower_nodes}
 use Rattle.cdf_format.specs.IndexOf.{HasNodes, Names}

@@ -1,12 +1,9 @@
 -- The nodes of an index some of whose entries end later.
-use Rattle.std.proofs.Common.{◌≡◌, ℕ, zero, suc, ◌+◌, List, [], ◌∷◌, ◌++◌, map, eqb, refl, sym, ap, ap₂, ◌∙◌, arith, inl, inr}
-use Rattle.cdf_edits.proofs.Common.{ne_eqb, ◌==◌}
-use Rattle.cdf_edits.proofs.Edits.Common.{times-append}
-use Rattle.cdf_leaves.proofs.Common.{eqb-true, map-append, Nodes, no_node, node, Entries, no_entry, block, lower, Leaf, times, either, wider, widen_all, if◌then◌else◌, with_leaf, new_room}
+use Rattle.std.proofs.Common.{◌≡◌, ℕ, zero, suc, List, [], ◌∷◌, ◌++◌, map, eqb, refl, sym, ap, ap₂, ◌∙◌, inl, inr}
+use Rattle.cdf_leaves.proofs.Common.{eqb-true, map-append, Nodes, no_node, node, Entries, no_entry, block, lower, Leaf, either, wider, widen_all}
 use Rattle.cdf_edits.proofs.Index.NodeEdited.{redo, redo_below}
 use Rattle.cdf_format.specs.Index.{nodes_of, lower_nodes, leaves_of, entry_leaves}
 use Rattle.cdf_index.specs.Way.{widened}
-use Rattle.cdf_index.proofs.ByLeaf.{nodes_with_leaf}
 
 -- ---- an entry that ends later
 

@@ -1,6 +1,6 @@
 -- An index in the making: what holds of an image, from the one in which all records were taken.
-use Rattle.std.proofs.Common.{◌≡◌, ◌≢◌, ℕ, ◌+◌, ◌*◌, ◌<◌, ◌≤◌, List, [], ◌∷◌, ◌++◌, length, Bool, true, false, sym, subst, ◌∙◌, arith, inl, inr}
-use Rattle.cdf_leaves.proofs.Common.{cases_eq, changed_then, SameHeads, tiles_same, redo, Touch, touch, Changed, EntryIs, size_at, Nodes, nodes_of, leaves_of, room_at, used_count, HasNodes, Each, NodeFits, AreTiles, Distinct, In, Each-append, Counts, wider, widen_all, StillSays, Widened, heads_stay, others_stay, WidenedAlong}
+use Rattle.std.proofs.Common.{◌≡◌, ◌≢◌, ℕ, ◌+◌, ◌*◌, ◌<◌, ◌≤◌, List, [], ◌∷◌, ◌++◌, length, Bool, true, false, sym, subst, ◌∙◌, arith}
+use Rattle.cdf_leaves.proofs.Common.{changed_then, redo, Touch, touch, Changed, EntryIs, size_at, Nodes, nodes_of, leaves_of, room_at, used_count, HasNodes, Each, NodeFits, AreTiles, Distinct, In, Each-append, Counts, wider, widen_all, StillSays, Widened, heads_stay, WidenedAlong}
 use Rattle.cdf_index.proofs.NodeWider.{wider_owed}
 use Rattle.cdf_index.proofs.TreeTouched.{edited}
 use Rattle.cdf_leaves.proofs.NodesMore.{places, nodes_wider}

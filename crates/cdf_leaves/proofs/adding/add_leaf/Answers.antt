@@ -1,9 +1,8 @@
-use Rattle.std.proofs.Common.{◌≡◌, ◌+◌, ◌≤◌, ◌∙◌, ℕ, List, length, refl, sym, ap, subst, arith}
-use Rattle.cdf_leaves.proofs.Common.{Frame, edit_more, keeps_by_read, read_once, Placed, Good, good_is_sound, good_eof, OnOk, Kind, image_limit, vxr_bytes, StandsAmong, number, vdr_vxr_head, VariableShape, AddsLeaf, entry, IndexStarted}
+use Rattle.std.proofs.Common.{◌≡◌, ◌≤◌, ◌∙◌, ℕ, List, length, refl, sym, ap, subst, arith}
+use Rattle.cdf_leaves.proofs.Common.{Frame, edit_more, keeps_by_read, read_once, Good, good_is_sound, good_eof, OnOk, Kind, image_limit, StandsAmong, number, vdr_vxr_head, VariableShape, AddsLeaf, entry, IndexStarted}
 use Rattle.cdf_leaves.proofs.AddCalls.{among_kind, seven_fit, started, started_long, vdr_late, vdr_there, late_ends}
 use Rattle.cdf_leaves.proofs.LastCall.{edit_last}
 use Rattle.cdf_leaves.proofs.adding.add_leaf.Goals as goal
-use Rattle.cdf_edits.proofs.Edits.RecordFrame.{through}
 use Rattle.std.proofs.lemmas.Result.{on_ok_weaker}
 
 pub read_unsigned8-requires : goal.read_unsigned8-requires
