@@ -1,7 +1,6 @@
 -- A chain of nodes followed to its end.
 use Rattle.std.proofs.Common.{◌≡◌, ◌≢◌, ℕ, zero, suc, ◌+◌, ◌<◌, List, length, arith}
-use Rattle.cdf_leaves.proofs.Common.{next_of, chain_end, ChainInside}
-use Rattle.std.proofs.lemmas.Bool.{eq-eqb, ne_eqb}
+use Rattle.cdf_leaves.proofs.Common.{next_of, chain_end, ChainInside, eq-eqb, ne_eqb}
 
 -- so many turns are left
 pub record Following (b : List ℕ) (at turn here : ℕ) : Type 0 where

@@ -2,7 +2,7 @@
 use Rattle.std.proofs.Common.{◌≡◌, ◌≢◌, ◌⊎◌, ℕ, zero, suc, ◌+◌, ◌-◌, ◌*◌, ◌^◌, ◌<◌, ◌≤◌, max, List, [], ◌∷◌, ◌++◌, length, Bool, true, false, refl, sym, ap, subst, ◌∙◌, arith, inl, inr}
 use Rattle.cdf_edits.proofs.Common.{record_number_limit, TouchesNone, lt-leb, nodes_stand}
 use Rattle.cdf_edits.proofs.Edits.Common.{each}
-use Rattle.cdf_leaves.proofs.Common.{bytes_eq, Kind, image_limit, touch, Touch, Changed, new_room, chain_reaches, leads_down, UnusedEntries, EntryIs, was_unused, top_chain, last_node, Placed, StandsAmong, sound, tile, has, long, changed_then, changed_whole, SameHeads, Kept, redo, apart, is_linkable, number, size_at, type_at, with_field, Nodes, no_node, node, Leaf, nodes_of, leaves_of, link_to, room_at, used_count, SaysEntry, IsNode, vdr_vxr_head, vdr_vxr_tail, gdr_type, uir_type, vxr_type, vvr_type, VariableShape, Each, shape, NodeFits, AreTiles, Distinct, In, Good, number_kept, type_kept, size_kept, linkable-from, either, Each-append, tile_lies, Counts, NodeTaken, LeafAdded, leaf_acts, with_new, MayName, way, spot, widen_all, NodeWritten, Inserted, Spot, Entry, heads_stay, others_stay, no_zero, IsStep, entry, ChainInside, chain_end, WidenedAlong, NodeMade, EntryPut, Grew, grew, grew_then, stands, unlike, linkable-in, cases_eq, tiles_same}
+use Rattle.cdf_leaves.proofs.Common.{bytes_eq, Kind, image_limit, touch, Touch, Changed, new_room, chain_reaches, leads_down, UnusedEntries, EntryIs, was_unused, top_chain, last_node, Placed, StandsAmong, sound, tile, has, long, changed_then, changed_whole, SameHeads, Kept, redo, apart, is_linkable, number, size_at, type_at, with_field, Nodes, no_node, node, Leaf, nodes_of, leaves_of, link_to, room_at, used_count, SaysEntry, IsNode, vdr_vxr_head, vdr_vxr_tail, gdr_type, uir_type, vxr_type, vvr_type, VariableShape, Each, shape, NodeFits, AreTiles, Distinct, In, Good, number_kept, type_kept, size_kept, linkable-from, either, Each-append, tile_lies, Counts, NodeTaken, LeafAdded, leaf_acts, with_new, MayName, way, spot, widen_all, NodeWritten, Inserted, Spot, Entry, heads_stay, others_stay, no_zero, IsStep, entry, ChainInside, chain_end, WidenedAlong, NodeMade, EntryPut, Grew, grew, grew_then, stands, unlike, linkable-in, cases_eq, tiles_same, same_node, SeesNode, field_set, begins_by, each_in}
 use Rattle.cdf_edits.specs.Frame.Changed.{Placed as ChangedPlaced}
 use Rattle.cdf_edits.specs.Index.Grown.{with_leaf}
 use Rattle.cdf_edits.proofs.Frame.LinksStay.{nodes_kept}
@@ -16,17 +16,13 @@ use Rattle.cdf_index.proofs.Coming.{Comes, comes}
 use Rattle.cdf_index.proofs.LeafMore.{leaves_more}
 use Rattle.cdf_index.proofs.NodeGrown.{grown_owed, split_owed, chained_owed, placed_link, placed_node as entry_placed}
 use Rattle.cdf_index.proofs.NodeSplit.{split}
-use Rattle.cdf_index.proofs.OneNode.{same_node}
 use Rattle.cdf_index.proofs.Inserting.{nothing_changed}
-use Rattle.cdf_index.specs.Descent.{SeesNode}
 use Rattle.cdf_edits.proofs.Index.NodeEdited.{Owed}
 use Rattle.cdf_index.proofs.WayDown.{made, node_there_by}
 use Rattle.cdf_leaves.proofs.TopChain.{top_stays, top_grows, chain_inside, end_is_last, last_in}
 use Rattle.cdf_leaves.specs.Putting.{SplitMade, ChainMade}
 use Rattle.cdf_edits.proofs.Edits.RecordGrown.{grew_none, kept_then}
 use Rattle.cdf_leaves.proofs.Grown.{was, was_old, was_new, old_node, new_node, inserted_node, shortened_node, names_leaf, room_with, room_full}
-use Rattle.cdf_edits.proofs.Edits.ActsThen.{each_in}
-use Rattle.cdf_index.proofs.FieldSet.{field_set}
 use Rattle.cdf_leaves.proofs.Linked.{link_set, link_room, link_used, link_entries, link_spares}
 use Rattle.cdf_leaves.proofs.NodesMore.{places, all_wider}
 use Rattle.cdf_leaves.proofs.NodesOf.{in_new, all_once}
@@ -34,7 +30,6 @@ use Rattle.cdf_index.proofs.ByLeaf.{in_nodes_with_leaf, node_stays}
 use Rattle.cdf_leaves.proofs.Own.{own_order, own_node, node_fits, vdr_apart, now_has, now_blocks, node_kept, node_spares, still_sees, vdr_kept, vdr_in, vdr_used}
 use Rattle.cdf_leaves.proofs.Spares.{spares_kept, fits_still, node_inside, front_lies}
 use Rattle.cdf_leaves.proofs.SpotNode.{SpotNode, NotAt, spot_node, way_apart}
-use Rattle.cdf_index.proofs.Leading.{begins_by}
 use Rattle.cdf_leaves.proofs.State.{NodeNow, node_then, NodeTouch, State, OnWay, widened_all}
 
 -- ---- small things

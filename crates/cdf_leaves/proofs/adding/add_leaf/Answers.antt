@@ -1,9 +1,8 @@
 use Rattle.std.proofs.Common.{◌≡◌, ◌≤◌, ◌∙◌, ℕ, List, length, refl, sym, ap, subst, arith}
-use Rattle.cdf_leaves.proofs.Common.{Frame, edit_more, keeps_by_read, read_once, Good, good_is_sound, good_eof, OnOk, Kind, image_limit, StandsAmong, number, vdr_vxr_head, VariableShape, AddsLeaf, entry, IndexStarted}
+use Rattle.cdf_leaves.proofs.Common.{Frame, edit_more, keeps_by_read, read_once, Good, good_is_sound, good_eof, OnOk, Kind, image_limit, StandsAmong, number, vdr_vxr_head, VariableShape, AddsLeaf, entry, IndexStarted, on_ok_weaker}
 use Rattle.cdf_leaves.proofs.AddCalls.{among_kind, seven_fit, started, started_long, vdr_late, vdr_there, late_ends}
 use Rattle.cdf_leaves.proofs.LastCall.{edit_last}
 use Rattle.cdf_leaves.proofs.adding.add_leaf.Goals as goal
-use Rattle.std.proofs.lemmas.Result.{on_ok_weaker}
 
 pub read_unsigned8-requires : goal.read_unsigned8-requires
 read_unsigned8-requires g c = let v = vdr_there c.requires.good (among_kind (g.A.Area.image c.args.area.now) c.args.vdr c.requires.vdr) in omega arith

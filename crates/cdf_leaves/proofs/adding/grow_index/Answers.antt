@@ -1,11 +1,10 @@
 use Rattle.std.proofs.Common.{arith, rules, ◌≡◌, ◌∙◌, ℕ, List, [], length, map, sym, ap, subst, inl, inr}
-use Rattle.cdf_leaves.proofs.Common.{eqb-true, Frame, edit_done, edit_failed, edit_more, keeps_by_read, read_once, Good, good_is_sound, good_eof, number, with_field, vdr_vxr_head, vdr_vxr_tail, step_pair, Step, chain_end, WidenedAlong}
+use Rattle.cdf_leaves.proofs.Common.{eqb-true, Frame, edit_done, edit_failed, edit_more, keeps_by_read, read_once, Good, good_is_sound, good_eof, number, with_field, vdr_vxr_head, vdr_vxr_tail, step_pair, Step, chain_end, WidenedAlong, on_ok_weaker}
 use Rattle.std.specs.Vec.{vec_len}
 use Rattle.cdf_leaves.proofs.AddCalls.{among_kind, grown_stays, grown_tail, index_there, may_put, tail_ready, way_ready, wide_enough}
 use Rattle.cdf_leaves.proofs.LastCall.{edit_last}
 use Rattle.cdf_leaves.proofs.adding.grow_index.Goals.{then-at-eq0-via-then-at-eq0, then-at-eq0-via-else-at-eq0+then-not-is_empty}
 use Rattle.cdf_leaves.proofs.adding.grow_index.Goals as goal
-use Rattle.std.proofs.lemmas.Result.{on_ok_weaker}
 use Rattle.std.proofs.lemmas.List.{nil_from_length}
 
 pub find_way-requires-clause-index : goal.find_way-requires-clause-index
