@@ -32,16 +32,11 @@ put_long {seen = seen} fits lies (inr q) = elim q.1 [
 
 -- an index that has its first node
 pub started_long : {filled now : List ℕ} {vdr : ℕ} {e : Entry} → vdr + 44 ≤ length filled → IndexStarted filled now vdr e → length now ≤ length filled + vxr_bytes 7
-started_long {filled = filled} {now = now} {vdr = vdr} lies st =
-    let a = st.made.fills.takes.changed.longer in
-    let c = st.made.fills.long in
-    let l = st.made.longest in
-    let m = (field_set {b = st.roomy} {now = with_field st.roomy vdr vdr_vxr_head st.at} {at = vdr} {f = vdr_vxr_head} (omega arith) refl).as_long in
-    let n = (field_set {at = vdr} {f = vdr_vxr_tail} (omega arith) st.linked).as_long in
-    omega arith
-
-pub fits_room : (f b n w m lim lim' : ℕ) → f ≤ b + n → m ≤ w → b + n + (28 + 16 * w) ≤ lim → lim' ≡ lim → f + (28 + 16 * m) ≤ lim'
-fits_room f b n w m lim lim' a c d e = omega arith
+started_long {vdr = vdr} lies st =
+    let made = st.made in
+    let head = field_set {b = st.roomy} {now = with_field st.roomy vdr vdr_vxr_head st.at} {at = vdr} {f = vdr_vxr_head} (omega (arith, made.fills.takes.changed.longer, made.fills.long)) refl in
+    let tail = field_set {at = vdr} {f = vdr_vxr_tail} (omega (arith, head.as_long, made.fills.takes.changed.longer, made.fills.long)) st.linked in
+    omega (arith, made.longest, head.as_long, tail.as_long)
 
 -- it is a variable of its kind
 pub among_kind : (b : List ℕ) (vdr : ℕ) (i : In vdr (vdrs (variables (shape b)))) → StandsAmong b (one_of b vdr i).kind (one_of b vdr i).before (record (one_of b vdr i).own { vdr = vdr }) (one_of b vdr i).after
@@ -50,9 +45,6 @@ among_kind b vdr i = let o = one_of b vdr i in record { was = o.among.was ∙ ap
 module _ {b : List ℕ} {kind : Kind} {before : List VariableShape} {own : VariableShape} {after : List VariableShape} (good : Good b) (at_own : StandsAmong b kind before own after) where
   pub index_there : {head : ℕ} → head ≡ number b own.vdr vdr_vxr_head → HasIndex b head
   index_there e = subst (HasIndex b) (sym e) (searchable good at_own).0
-
-  index_same : {head : ℕ} → head ≡ number b own.vdr vdr_vxr_head → index_at b head ≡ own.index
-  index_same e = ap (index_at b) e ∙ (searchable good at_own).1
 
   pub vdr_there : own.vdr + 340 ≤ length b
   vdr_there = omega (arith, (tile_lies b 8 (length b) (shape b).records own.vdr (sound good at_own).has_shape.tiled (tile good at_own)).high, long good at_own)
@@ -70,7 +62,7 @@ module _ {b : List ℕ} {kind : Kind} {before : List VariableShape} {own : Varia
     vdr_late = let l = late.longer in let v = vdr_there in omega arith
 
     pub seven_fit : {head : ℕ} → head ≡ number b own.vdr vdr_vxr_head → (lim lim' : ℕ) → length b + (8 + length body) + vxr_bytes (widest (index_at b head)) ≤ lim → lim' ≡ lim → length filled + vxr_bytes 7 ≤ lim'
-    seven_fit {head = head} e lim lim' room same = fits_room (length filled) (length b) (8 + length body) (widest (index_at b head)) 7 lim lim' block.longest (seven_at_least (index_at b head)) room same
+    seven_fit {head = head} e lim lim' room same = omega (arith, block.longest, seven_at_least (index_at b head))
 
     -- ---- the index had no node
 
@@ -85,10 +77,10 @@ module _ {b : List ℕ} {kind : Kind} {before : List VariableShape} {own : Varia
 
     module _ {head first : ℕ} (head_is : head ≡ number b own.vdr vdr_vxr_head) {found : Way} (w : IsWay b head first found) where
       index : index_at b head ≡ own.index
-      index = index_same head_is
+      index = ap (index_at b) head_is ∙ (searchable good at_own).1
 
       last_there : In found.end.place (nodes_of own.index)
-      last_there = subst (λ (n : Nodes). In found.end.place (nodes_of n)) index w.last
+      last_there = rw index at w.last
 
       end_is : found.end.place ≡ spot first own.index
       end_is = w.end_is ∙ ap (spot first) index
