@@ -6,20 +6,13 @@ use Rattle.cdf_index.proofs.Inserting.{front_stays, room_stays, used_stays}
 use Rattle.cdf_index.proofs.NodeGrown.{node_has}
 use Rattle.cdf_index.proofs.Saying.{say_moved}
 
-count_widened : (last i : ℕ) (es : Entries) → entry_count (widened last i es) ≡ entry_count es
-count_widened last i no_entry = refl
-count_widened last zero (block first end place packed es) = refl
-count_widened last zero (lower first end nodes es) = refl
-count_widened last (suc i) (block first end place packed es) = ap suc (count_widened last i es)
-count_widened last (suc i) (lower first end nodes es) = ap suc (count_widened last i es)
-
-names_widened : (b ts : List ℕ) (levels last i : ℕ) (es : Entries) → Names b ts levels es → Names b ts levels (widened last i es)
+names_widened : (b ts : List ℕ) (levels last i : ℕ) (es : Entries) → Names b ts levels es → Names b ts levels (widened last i es) × (entry_count (widened last i es) ≡ entry_count es)
 unfolding Names
-names_widened b ts levels last i no_entry n = n
-names_widened b ts levels last zero (block first end place packed es) n = n
-names_widened b ts levels last zero (lower first end nodes es) n = n
-names_widened b ts levels last (suc i) (block first end place packed es) n = (n.0, n.1, names_widened b ts levels last i es n.2)
-names_widened b ts levels last (suc i) (lower first end nodes es) n = (n.0, n.1, names_widened b ts levels last i es n.2)
+names_widened b ts levels last i no_entry n = (n, refl)
+names_widened b ts levels last zero (block first end place packed es) n = (n, refl)
+names_widened b ts levels last zero (lower first end nodes es) n = (n, refl)
+names_widened b ts levels last (suc i) (block first end place packed es) n = let r = names_widened b ts levels last i es n.2 in ((n.0, n.1, r.0), ap suc r.1)
+names_widened b ts levels last (suc i) (lower first end nodes es) n = let r = names_widened b ts levels last i es n.2 in ((n.0, n.1, r.0), ap suc r.1)
 
 -- the entries from number k on, the one with number i wider and the others as they were
 say_widened : (b now : List ℕ) (at last i k n : ℕ) (es : Entries) → i ≡ k + n → ((f l o : ℕ) → SaysEntry b at i f l o → SaysEntry now at i f (max l last) o) → ((j : ℕ) → j < k + entry_count es → j ≢ i → StillSays b now at j j) → SayEntries b at k es → SayEntries now at k (widened last n es)
@@ -41,11 +34,12 @@ module _ (b now records records' : List ℕ) (heads : SameHeads b now records re
     is_node = λ r es more. tt;
     stands = λ levels r es more h n m.
         (let u = h.used_is in
+    let wide = names_widened now records' levels last i es n in
         node_has now records' levels at r (widened last i es) more (record {
           linkable = linkable_kept b now records records' heads vxr_type at h.linkable;
           next_is = front_stays b now at 28 (16 * room_at b at) w.changed inside 12 8 (omega arith) ∙ h.next_is;
           room_is = room_stays b now at (16 * room_at b at) w.changed inside ∙ h.room_is;
-          used_is = used_stays b now at (16 * room_at b at) w.changed inside ∙ h.used_is ∙ sym (count_widened last i es);
+          used_is = used_stays b now at (16 * room_at b at) w.changed inside ∙ h.used_is ∙ sym wide.1;
           say_entries = say_widened b now at last i 0 i es (omega arith) w.here (λ j lt ne. w.others j (omega arith) ne) h.say_entries;
-        }) (names_widened now records' levels last i es n) m);
+        }) wide.0 m);
   }

@@ -10,25 +10,16 @@ use Rattle.cdf_index.specs.Way.{widened}
 abbrev pub places : List Leaf → List ℕ
 places leaves = map (λ (leaf : Leaf). leaf.place) leaves
 
-lower_widened : (last i : ℕ) (es : Entries) → lower_nodes (widened last i es) ≡ lower_nodes es
-unfolding nodes_of lower_nodes
-lower_widened last i no_entry = refl
-lower_widened last zero (block first end place packed es) = refl
-lower_widened last zero (lower first end nodes es) = refl
-lower_widened last (suc i) (block first end place packed es) = lower_widened last i es
-lower_widened last (suc i) (lower first end nodes es) = ap (λ (xs : List ℕ). nodes_of nodes ++ xs) (lower_widened last i es)
-
-places_widened : (last i : ℕ) (es : Entries) → places (entry_leaves (widened last i es)) ≡ places (entry_leaves es)
-unfolding leaves_of entry_leaves
-places_widened last i no_entry = refl
-places_widened last zero (block first end place packed es) = refl
-places_widened last zero (lower first end nodes es) = refl
-places_widened last (suc i) (block first end place packed es) = ap (λ (xs : List ℕ). place ∷ xs) (places_widened last i es)
-places_widened last (suc i) (lower first end nodes es) =
-    map-append (λ (leaf : Leaf). leaf.place) (leaves_of nodes) (entry_leaves (widened last i es)) ∙ ap (λ (xs : List ℕ). places (leaves_of nodes) ++ xs) (places_widened last i es) ∙ sym (map-append (λ (leaf : Leaf). leaf.place) (leaves_of nodes) (entry_leaves es))
-
 parted : (xs xs' ys ys' : List Leaf) → places xs ≡ places xs' → places ys ≡ places ys' → places (xs ++ ys) ≡ places (xs' ++ ys')
 parted xs xs' ys ys' e f = map-append (λ (leaf : Leaf). leaf.place) xs ys ∙ ap₂ (λ (a c : List ℕ). a ++ c) e f ∙ sym (map-append (λ (leaf : Leaf). leaf.place) xs' ys')
+
+widened_keeps : (last i : ℕ) (es : Entries) → (lower_nodes (widened last i es) ≡ lower_nodes es) × (places (entry_leaves (widened last i es)) ≡ places (entry_leaves es))
+unfolding nodes_of lower_nodes leaves_of entry_leaves
+widened_keeps last i no_entry = (refl, refl)
+widened_keeps last zero (block first end place packed es) = (refl, refl)
+widened_keeps last zero (lower first end nodes es) = (refl, refl)
+widened_keeps last (suc i) (block first end place packed es) = let r = widened_keeps last i es in (r.0, ap (λ (xs : List ℕ). place ∷ xs) r.1)
+widened_keeps last (suc i) (lower first end nodes es) = let r = widened_keeps last i es in (ap (λ (xs : List ℕ). nodes_of nodes ++ xs) r.0, parted (leaves_of nodes) (leaves_of nodes) (entry_leaves (widened last i es)) (entry_leaves es) refl r.1)
 
 module _ (x last i : ℕ) where
   mutual
@@ -39,7 +30,7 @@ module _ (x last i : ℕ) where
     nodes_wider (node place room es more) = elim (either (eqb place x)) [
       | inl t ↦
           let e : x ≡ place = sym (eqb-true place x t) in
-          rw t (ap₂ (λ (p : ℕ) (xs : List ℕ). p ∷ xs ++ nodes_of more) e (lower_widened last i es), parted (entry_leaves (widened last i es)) (entry_leaves es) (leaves_of more) (leaves_of more) (places_widened last i es) refl)
+          rw t (ap₂ (λ (p : ℕ) (xs : List ℕ). p ∷ xs ++ nodes_of more) e (widened_keeps last i es).0, parted (entry_leaves (widened last i es)) (entry_leaves es) (leaves_of more) (leaves_of more) (widened_keeps last i es).1 refl)
       | inr t ↦
           let r = nodes_wider more in
           let s = lower_wider es in
