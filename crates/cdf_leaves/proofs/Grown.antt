@@ -11,20 +11,9 @@ use Rattle.cdf_index.proofs.OneNode.{entry_past}
 
 -- ---- what counts as unused before
 
-and_false : (p : Bool) → (p && false) ≡ false
-and_false true = refl
-and_false false = refl
-
-both_false : (p q : Bool) → ((p && false) && q) ≡ false
-both_false true q = refl
-both_false false q = refl
-
-taken_in : (place need room at m : ℕ) → In m (map (λ (take : ℕ × ℕ). take.0) (taken (leaf_acts place need room at))) → (m ≡ place) ⊎ ((0 < room) × (m ≡ at))
-taken_in place need zero at m (inl e) = inl e
-taken_in place need zero at m (inr i) = absurd i
-taken_in place need (suc room) at m (inl e) = inl e
-taken_in place need (suc room) at m (inr (inl e)) = inr (omega arith, e)
-taken_in place need (suc room) at m (inr (inr i)) = absurd i
+not_taken : (place need room at m : ℕ) → m ≢ place → (0 < room → m ≢ at) → is_taken_at (leaf_acts place need room at) m ≡ false
+not_taken place need zero at m p q = grind (arith, nat_tests)
+not_taken place need (suc room) at m p q = let out = q (omega arith) in grind (arith, nat_tests, out)
 
 module _ (b before : List ℕ) (place need room at : ℕ) where
   abbrev pub was : ℕ → ℕ → Bool
@@ -33,15 +22,15 @@ module _ (b before : List ℕ) (place need room at : ℕ) where
   pub was_old : (m i : ℕ) → In m before → m ≢ place → (0 < room → m ≢ at) → was m i ≡ leb (used_count b m) i
   was_old m i j p q =
       let there = is_in-true m before j in
-      let out : is_taken_at (leaf_acts place need room at) m ≡ false = is_in-false m (map (λ (take : ℕ × ℕ). take.0) (taken (leaf_acts place need room at))) (λ k. elim (taken_in place need room at m k) [ inl e ↦ p e | inr e ↦ q e.0 e.1 ]) in
+      let out = not_taken place need room at m p q in
       λ k. there k && (not (out k) && leb (used_count b m) i)
 
   pub was_new : (i : ℕ) → 0 < room → was at i ≡ false
-  was_new i some = let out = given room some in (λ k. is_in at before && (not (out k) && leb (used_count b at) i)) ∙ and_false (is_in at before)
+  was_new i some = go room some
     where
-      given : (room : ℕ) → 0 < room → is_taken_at (leaf_acts place need room at) at ≡ true
-      given zero some = absurd (omega arith)
-      given (suc room) some = is_in-true at (place ∷ at ∷ []) (inr (inl refl))
+      go : (room : ℕ) → 0 < room → was_unused b before (leaf_acts place need room at) at i ≡ false
+      go zero some = absurd (omega arith)
+      go (suc room) some = grind (arith, nat_tests)
 
 -- ---- a node where nothing was written yet
 
@@ -103,10 +92,7 @@ module _ (b roomy now : List ℕ) (was : ℕ → ℕ → Bool) (x : ℕ) (n : No
 -- ---- the leaf may be named
 
 pub names_leaf : (now records : List ℕ) (l : Leaf) → type_at now l.place ≡ vvr_type → l.packed ≡ false → MayName now records l
-names_leaf now records l t p = record {
-  no_node = (let e : eqb (type_at now l.place) vxr_type ≡ false = ap (λ (k : ℕ). eqb k vxr_type) t in (λ k. (is_in l.place records && e k) && leb 28 (size_at now l.place)) ∙ both_false (is_in l.place records) (leb 28 (size_at now l.place)));
-  packed_is = ap (λ (k : ℕ). eqb k cvvr_type) t ∙ sym p;
-}
+names_leaf now records l t p = record { no_node = grind (arith, nat_tests, t); packed_is = grind (arith, nat_tests, t, p) }
 
 -- ---- the room of a new node
 

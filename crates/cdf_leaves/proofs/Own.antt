@@ -9,6 +9,7 @@ use Rattle.cdf_leaves.proofs.Spares.{Spares, spares_kept}
 use Rattle.cdf_leaves.proofs.SpotNode.{nodes_linkable}
 pub use Rattle.cdf_index.proofs.OneVariable.{AmongAll, among_all}
 use Rattle.cdf_format.specs.Index.{first_at}
+use Rattle.cdf_edits.proofs.Edits.StandsAmong.{fits}
 use Rattle.cdf_index.specs.Order.{InOrder}
 
 pub record StillSees (now : List ℕ) (seen : Spot) (f : ℕ) : Type 0 where
@@ -43,11 +44,8 @@ module _ {b : List ℕ} {kind : Kind} {before : List VariableShape} {own : Varia
   pub own_node : (m : ℕ) → In m (nodes_of own.index) → In m (shape b).records × (type_at b m ≡ vxr_type)
   own_node m i = let l = (nodes_linkable b (shape b).records 8 m own.index (has good at).indexed.has_nodes i).0 in (linkable-in b (shape b).records vxr_type m l, linkable-type b (shape b).records vxr_type m l)
 
-  pub own_fits : VariableFits b (shape b).records own
-  own_fits = the_own (VariableFits b (shape b).records) (variables (shape b)) among.front own among.rest among.all (sound good at).variables_fit
-
   pub node_fits : (m : ℕ) → In m (nodes_of own.index) → NodeFits b m
-  node_fits m i = each_in (NodeFits b) (nodes_of own.index) m own_fits.1 i
+  node_fits m i = each_in (NodeFits b) (nodes_of own.index) m (fits good at).1 i
 
   pub vdr_apart : (m : ℕ) → type_at b m ≡ vxr_type → m ≢ own.vdr
   vdr_apart m t e = no_type kind vxr_type refl refl (sym (typed good at) ∙ ap (type_at b) (sym e) ∙ t)

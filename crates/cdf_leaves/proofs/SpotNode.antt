@@ -48,30 +48,22 @@ way_apart (comes_here t d) some o = tt
 
 -- ---- all nodes
 
-most_left : (a c n : ℕ) → n ≤ a → n ≤ max a c
-most_left a c n l = grind arith
-
-most_right : (a c n : ℕ) → n ≤ c → n ≤ max a c
-most_right a c n l = grind arith
-
 mutual
   unfolding HasNodes Names nodes_of lower_nodes widest widest_below
 
   pub nodes_linkable : (b ts : List ℕ) (levels m : ℕ) (nodes : Nodes) → HasNodes b ts levels nodes → In m (nodes_of nodes) → (is_linkable b ts vxr_type m ≡ true) × (room_at b m ≤ widest nodes)
   nodes_linkable b ts levels m no_node h i = absurd i
   nodes_linkable b ts zero m (node place room es more) h i = absurd h
-  nodes_linkable b ts (suc levels) m (node place room es more) h (inl e) =
-      let here : room_at b place ≤ room = subst (λ (r : ℕ). room_at b place ≤ r) h.0.room_is (omega arith) in
-      subst (λ (x : ℕ). (is_linkable b ts vxr_type x ≡ true) × (room_at b x ≤ max room (max (widest_below es) (widest more)))) (sym e) (h.0.linkable, most_left room (max (widest_below es) (widest more)) (room_at b place) here)
+  nodes_linkable b ts (suc levels) m (node place room es more) h (inl e) = rw e (h.0.linkable, omega (arith, h.0.room_is))
   nodes_linkable b ts (suc levels) m (node place room es more) h (inr i) = elim (In-append m (lower_nodes es) (nodes_of more) i) [
-    | inl j ↦ let r = lower_linkable b ts levels m es h.1 j in (r.0, most_right room (max (widest_below es) (widest more)) (room_at b m) (most_left (widest_below es) (widest more) (room_at b m) r.1))
-    | inr j ↦ let r = nodes_linkable b ts (suc levels) m more h.2 j in (r.0, most_right room (max (widest_below es) (widest more)) (room_at b m) (most_right (widest_below es) (widest more) (room_at b m) r.1))
+    | inl j ↦ let r = lower_linkable b ts levels m es h.1 j in (r.0, omega (arith, r.1))
+    | inr j ↦ let r = nodes_linkable b ts (suc levels) m more h.2 j in (r.0, omega (arith, r.1))
   ]
 
   lower_linkable : (b ts : List ℕ) (levels m : ℕ) (es : Entries) → Names b ts levels es → In m (lower_nodes es) → (is_linkable b ts vxr_type m ≡ true) × (room_at b m ≤ widest_below es)
   lower_linkable b ts levels m no_entry n i = absurd i
   lower_linkable b ts levels m (block first last place packed es) n i = lower_linkable b ts levels m es n.2 i
   lower_linkable b ts levels m (lower first last nodes es) n i = elim (In-append m (nodes_of nodes) (lower_nodes es) i) [
-    | inl j ↦ let r = nodes_linkable b ts levels m nodes n.1 j in (r.0, most_left (widest nodes) (widest_below es) (room_at b m) r.1)
-    | inr j ↦ let r = lower_linkable b ts levels m es n.2 j in (r.0, most_right (widest nodes) (widest_below es) (room_at b m) r.1)
+    | inl j ↦ let r = nodes_linkable b ts levels m nodes n.1 j in (r.0, omega (arith, r.1))
+    | inr j ↦ let r = lower_linkable b ts levels m es n.2 j in (r.0, omega (arith, r.1))
   ]
