@@ -87,8 +87,8 @@ shift_start b at used = record { as_long = refl; changed = nothing_changed; stay
 pub still_it : {b now : List ℕ} {at to i j first last offset : ℕ} → SaysEntry b at i first last offset → SaysEntry now to j first last offset → (f l o : ℕ) → SaysEntry b at i f l o → SaysEntry now to j f l o
 still_it r s f l o t = record { first_is = s.first_is ∙ sym r.first_is ∙ t.first_is; last_is = s.last_is ∙ sym r.last_is ∙ t.last_is; offset_is = s.offset_is ∙ sym r.offset_is ∙ t.offset_is }
 
-pub shift_more : (b mid now : List ℕ) (at used k first last offset : ℕ) → Shifted b mid at used k → NodeInside b at → used < room_at b at → k < used → SaysEntry mid at (used - k - 1) first last offset → EntrySet mid now at (used - k) first last offset → Shifted b now at used (k + 1)
-shift_more b mid now at used k first last offset sh inside room more read set =
+pub shift_more : {b mid now : List ℕ} {at used k first last offset : ℕ} → Shifted b mid at used k → NodeInside b at → used < room_at b at → k < used → SaysEntry mid at (used - k - 1) first last offset → EntrySet mid now at (used - k) first last offset → Shifted b now at used (k + 1)
+shift_more {used = used} {k = k} sh inside room more read set =
     let m = set_more inside sh.as_long sh.changed set in
     record {
       as_long = m.as_long;
@@ -103,8 +103,8 @@ shift_more b mid now at used k first last offset sh inside room more read set =
 
 -- ---- the new entry, and the count
 
-pub inserted : (b mid mid2 now : List ℕ) (at used p first last offset : ℕ) → Shifted b mid at used (used - p) → NodeInside b at → length b ≤ image_limit → used < room_at b at → p ≤ used → EntrySet mid mid2 at p first last offset → now ≡ with_field mid2 at vxr_n_used_entries (suc used) → Inserted b now at used p first last offset
-inserted b mid mid2 now at used p first last offset sh inside short room place set write =
+pub inserted : {b mid mid2 now : List ℕ} {at used p first last offset : ℕ} → Shifted b mid at used (used - p) → NodeInside b at → length b ≤ image_limit → used < room_at b at → p ≤ used → EntrySet mid mid2 at p first last offset → now ≡ with_field mid2 at vxr_n_used_entries (suc used) → Inserted b now at used p first last offset
+inserted {p = p} {first = first} {last = last} {offset = offset} sh inside short room place set write =
     let m = set_more inside sh.as_long sh.changed set in
     let c = count_set inside short m.as_long m.changed room write in
     record {

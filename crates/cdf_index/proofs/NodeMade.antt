@@ -43,8 +43,8 @@ pub record Making (head mid : List ℕ) (at n : ℕ) (entries : List Entry) : Ty
 pub making_start : (head : List ℕ) (at : ℕ) (entries : List Entry) → Making head head at 0 entries
 making_start head at entries = record { as_long = refl; changed = nothing_changed; says = λ i lt. absurd (omega arith) }
 
-pub making_more : (head mid now : List ℕ) (at n : ℕ) (entries : List Entry) (to : Entry) → NodeInside head at → Making head mid at n entries → n < room_at head at → to ≡ entry_in entries n → EntrySet mid now at n to.first to.last to.place → Making head now at (n + 1) entries
-making_more head mid now at n entries to inside m lt is set =
+pub making_more : {head mid now : List ℕ} {at n : ℕ} {entries : List Entry} {to : Entry} → NodeInside head at → Making head mid at n entries → n < room_at head at → to ≡ entry_in entries n → EntrySet mid now at n to.first to.last to.place → Making head now at (n + 1) entries
+making_more {now = now} {at = at} {n = n} inside m lt is set =
     let more = set_more inside m.as_long m.changed set in
     record {
       as_long = more.as_long;
@@ -55,8 +55,8 @@ making_more head mid now at n entries to inside m lt is set =
       ];
     }
 
-pub node_written : (b head now : List ℕ) (at room next : ℕ) (entries : List Entry) → HeadWritten b head at room (length entries) next → Making head now at room entries → NodeWritten b now at room next entries
-node_written b head now at room next entries w m =
+pub node_written : {b head now : List ℕ} {at room next : ℕ} {entries : List Entry} → HeadWritten b head at room (length entries) next → Making head now at room entries → NodeWritten b now at room next entries
+node_written {head = head} {now = now} {at = at} {room = room} w m =
     let start = node_head w.inside in
     let c : Changed head now (touch at 28 (16 * room) ∷ []) = subst (λ (x : ℕ). Changed head now (touch at 28 (16 * x) ∷ [])) w.room_is m.changed in
     record {

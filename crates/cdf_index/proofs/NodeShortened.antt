@@ -32,8 +32,8 @@ read_none b at from = record { many = omega arith; say = λ i lt. absurd (omega 
 abbrev SaysIt : List ℕ → ℕ → ℕ → Entry → Type 0
 SaysIt b at i e = SaysEntry b at i e.first e.last e.place
 
-pub read_one : (b : List ℕ) (at from i : ℕ) (xs : List Entry) (e : Entry) → EntriesRead b at from i xs → SaysIt b at i e → EntriesRead b at from (i + 1) (xs ++ e ∷ [])
-read_one b at from i xs e r s =
+pub read_one : {b : List ℕ} {at from i : ℕ} {xs : List Entry} (e : Entry) → EntriesRead b at from i xs → SaysIt b at i e → EntriesRead b at from (i + 1) (xs ++ e ∷ [])
+read_one {from = from} {i = i} {xs = xs} e r s =
     let more = length-append xs (e ∷ []) in
     let m = r.many in
     record {
@@ -49,8 +49,8 @@ read_one b at from i xs e r s =
 pub clear_start : (b : List ℕ) (at from : ℕ) → Cleared b b at from from
 clear_start b at from = record { as_long = refl; changed = nothing_changed; gone = λ j le lt. absurd (omega arith); others = λ j lt o f l k s. s }
 
-pub clear_more : (b mid now : List ℕ) (at from i : ℕ) → NodeInside b at → Cleared b mid at from i → from ≤ i → i < room_at b at → EntrySet mid now at i 0xffffffff 0xffffffff 0xffffffffffffffff → Cleared b now at from (i + 1)
-clear_more b mid now at from i inside c le lt set =
+pub clear_more : {b mid now : List ℕ} {at from i : ℕ} → NodeInside b at → Cleared b mid at from i → from ≤ i → i < room_at b at → EntrySet mid now at i 0xffffffff 0xffffffff 0xffffffffffffffff → Cleared b now at from (i + 1)
+clear_more {i = i} inside c le lt set =
     let m = set_more inside c.as_long c.changed set in
     record {
       as_long = m.as_long;

@@ -34,7 +34,7 @@ module _ (b now records records' : List ℕ) (heads : SameHeads b now records re
     is_node = λ r es more. tt;
     stands = λ levels r es more h n m.
         (let u = h.used_is in
-    let wide = names_widened now records' levels last i es n in
+        let wide = names_widened now records' levels last i es n in
         node_has now records' levels at r (widened last i es) more (record {
           linkable = linkable_kept b now records records' heads vxr_type at h.linkable;
           next_is = front_stays b now at 28 (16 * room_at b at) w.changed inside 12 8 (omega arith) ∙ h.next_is;

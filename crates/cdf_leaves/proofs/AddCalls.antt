@@ -1,8 +1,8 @@
 -- What the calls ask for that add a leaf, and what they leave.
 use Rattle.cdf_edits.proofs.Edits.RecordGrown as of_grown
 use Rattle.cdf_edits.proofs.Common.{type_of_body, eof, gdr_offset, vdrs}
-use Rattle.std.proofs.Common.{◌≡◌, ◌≢◌, ◌⊎◌, ℕ, ◌+◌, ◌*◌, ◌≤◌, max, List, [], ◌∷◌, ◌++◌, length, map, false, refl, sym, ap, subst, ◌∙◌, arith, inl, inr}
-use Rattle.cdf_leaves.proofs.Common.{Kind, image_limit, vxr_bytes, widest, with_leaf, new_room, Placed, StandsAmong, sound, tile, has, long, apart, number, with_field, Nodes, nodes_of, vdr_vxr_head, vdr_vxr_tail, vxr_vxr_next, uir_type, vxr_type, vvr_type, VariableShape, Each, shape, variables, In, Good, type_kept, tile_lies, AddsLeaf, step_pair, HasIndex, index_at, way, spot, Spot, Step, IsStep, entry, EntryPut, IndexStarted, MayPut, ChainInside, chain_end, StepStands, WayStands, WidenedAlong, Grew, grew, stands, unlike, Entry, field_set}
+use Rattle.std.proofs.Common.{◌≡◌, ◌≢◌, ◌⊎◌, ℕ, ◌+◌, ◌≤◌, max, List, [], ◌∷◌, ◌++◌, length, map, false, refl, sym, ap, subst, ◌∙◌, arith, inl, inr}
+use Rattle.cdf_leaves.proofs.Common.{Kind, image_limit, vxr_bytes, widest, with_leaf, new_room, Placed, StandsAmong, sound, tile, has, long, apart, number, with_field, nodes_of, vdr_vxr_head, vdr_vxr_tail, vxr_vxr_next, uir_type, vxr_type, vvr_type, VariableShape, Each, shape, variables, In, Good, type_kept, tile_lies, AddsLeaf, step_pair, HasIndex, index_at, way, spot, Spot, Step, IsStep, entry, EntryPut, IndexStarted, MayPut, ChainInside, chain_end, StepStands, WayStands, WidenedAlong, Grew, grew, stands, unlike, Entry, field_set}
 use Rattle.cdf_format.specs.Index.{leaf}
 use Rattle.cdf_index.specs.Descent.{IsAmong, StepSays}
 use Rattle.cdf_index.specs.declared.descending.Way.{Way}

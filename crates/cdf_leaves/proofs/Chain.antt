@@ -1,5 +1,5 @@
 -- A chain of nodes followed to its end.
-use Rattle.std.proofs.Common.{◌-◌, ◌≡◌, ◌≢◌, ℕ, zero, suc, ◌+◌, ◌<◌, List, length, arith}
+use Rattle.std.proofs.Common.{◌-◌, ◌≡◌, ◌≢◌, ℕ, suc, ◌+◌, ◌<◌, List, length, arith}
 use Rattle.cdf_leaves.proofs.Common.{next_of, chain_end, ChainInside, eq-eqb, ne_eqb}
 
 pub record Following (b : List ℕ) (at turn here : ℕ) : Type 0 where

@@ -1,7 +1,7 @@
 -- The entry of a leaf was put into an index: what the new image has of it.
-use Rattle.std.proofs.Common.{◌≡◌, ◌≢◌, ◌⊎◌, ℕ, zero, suc, ◌+◌, ◌-◌, ◌*◌, ◌<◌, ◌≤◌, max, List, [], ◌∷◌, length, map, Bool, true, false, not, ◌&&◌, leb, eqb, refl, sym, ap, subst, ◌∙◌, arith, inl, inr}
-use Rattle.cdf_edits.proofs.Common.{taken, is_in, cvvr_type, is_in-true, is_in-false, cases_lt, le-leb}
-use Rattle.cdf_leaves.proofs.Common.{nat_tests, was_unused, size_at, type_at, Leaf, room_at, used_count, SaysEntry, vxr_type, vvr_type, NodeFits, In, leaf_acts, Begun, MayName, Inserted, NodeWritten, Entry, front_stays, begins_by}
+use Rattle.std.proofs.Common.{◌≡◌, ◌≢◌, ℕ, zero, suc, ◌+◌, ◌-◌, ◌*◌, ◌<◌, ◌≤◌, max, List, length, Bool, true, false, not, ◌&&◌, leb, refl, subst, ◌∙◌, arith, inl, inr}
+use Rattle.cdf_edits.proofs.Common.{is_in-true, cases_lt, le-leb}
+use Rattle.cdf_leaves.proofs.Common.{nat_tests, was_unused, size_at, type_at, Leaf, room_at, used_count, SaysEntry, vvr_type, NodeFits, In, leaf_acts, Begun, MayName, Inserted, NodeWritten, Entry, front_stays, begins_by}
 use Rattle.cdf_edits.specs.Index.Written.{is_taken_at}
 use Rattle.cdf_index.specs.Writing.{Shortened}
 use Rattle.cdf_leaves.proofs.Spares.{Spares}

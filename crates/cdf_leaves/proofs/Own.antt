@@ -1,7 +1,7 @@
 -- The variable whose index gets a leaf, in the images in which records were taken.
 use Rattle.std.proofs.Common.{◌≡◌, ◌≢◌, ℕ, ◌<◌, arith, List, [], ◌∷◌, ◌++◌, false, eqb, refl, sym, ap, subst, ◌∙◌, inl, inr}
 use Rattle.cdf_edits.proofs.Common.{HasVariable, LeafFits, VariableFits, linkable-type, good_by_its_shape, block_in, Each-split, record_number_limit}
-use Rattle.cdf_leaves.proofs.Common.{Kind, R, Z, StandsAmong, sound, tile, typed, has, Kept, apart, type_in, variables_chain, number, type_at, next_of, room_at, used_count, Begun, Spot, Leaf, nodes_of, leaves_of, vdr_vxr_head, gdr_type, uir_type, vxr_type, VariableShape, Each, shape, variables, NodeFits, In, Good, type_kept, linkable-in, good_is_sound, HasIndex, index_at, Grew, SameNode, same_node, SeesNode, each_in}
+use Rattle.cdf_leaves.proofs.Common.{Kind, R, Z, StandsAmong, tile, typed, has, Kept, apart, type_in, variables_chain, number, type_at, next_of, room_at, used_count, Begun, Spot, Leaf, nodes_of, leaves_of, vdr_vxr_head, gdr_type, uir_type, vxr_type, VariableShape, Each, shape, variables, NodeFits, In, Good, type_kept, linkable-in, good_is_sound, HasIndex, index_at, Grew, SameNode, same_node, SeesNode, each_in}
 use Rattle.cdf_format.proofs.GoodImageLemmas.{good_image}
 use Rattle.cdf_index.proofs.GoodIndex.{good_index}
 use Rattle.cdf_leaves.proofs.NodesMore.{places}

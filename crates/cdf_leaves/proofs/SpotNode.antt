@@ -1,5 +1,5 @@
 -- The node at the end of the way.
-use Rattle.std.proofs.Common.{◌≡◌, ◌≢◌, ℕ, zero, suc, ◌≤◌, max, List, [], ◌∷◌, ◌++◌, true, refl, sym, subst, arith, inl, inr}
+use Rattle.std.proofs.Common.{◌≡◌, ◌≢◌, ℕ, zero, suc, ◌≤◌, List, [], ◌∷◌, ◌++◌, true, refl, sym, arith, inl, inr}
 use Rattle.cdf_leaves.proofs.Common.{room_of_new, is_linkable, Nodes, no_node, node, Entries, no_entry, block, lower, room_at, SaysNode, vxr_type, In, Distinct, In-append, Distinct-back, Leaf}
 use Rattle.cdf_edits.specs.Commands.Room.{widest, widest_below}
 use Rattle.cdf_format.specs.Index.{nodes_of, lower_nodes}

@@ -1,7 +1,7 @@
-use Rattle.std.proofs.Common.{◌≡◌, ◌+◌, ℕ, List, sym, subst, ap, ◌∙◌, arith}
+use Rattle.std.proofs.Common.{◌≡◌, ℕ, List, sym, ap, ◌∙◌, arith}
 use Rattle.cdf_area.proofs.Calls.{read_more}
 use Rattle.cdf_format.specs.Chains.{next_of}
-use Rattle.cdf_leaves.proofs.Chain.{Following, follow_end, follow_more}
+use Rattle.cdf_leaves.proofs.Chain.{follow_end, follow_more}
 use Rattle.cdf_leaves.proofs.tail.last_of_chain.Goals as goal
 
 pub returns-then-next-eq0-clause-last : goal.returns-then-next-eq0-clause-last
