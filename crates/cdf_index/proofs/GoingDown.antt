@@ -139,7 +139,8 @@ module _ {b : List ℕ} {f turn levels : ℕ} {nodes : Nodes} {best here : Spot}
   over : (here.begun < here.used) ⊎ (here.next ≡ 0) → chain_reaches f (rest_of c.left) ≡ false
   over (inl lt) =
       let u = here_top.used_is in
-      chain_not_reached f (past_entries here_top.low (entries_of c.left)) here_top.high (rest_of c.left) here_top.order (ends_past f here_top.low here_top.high (entries_of c.left) here_top.stand.order (omega (arith, counted_begun b (link_to c.left) f here.begun (entries_of c.left) c.sees.begun here_top.used_is here_top.stand.left.say, c.sees.used_is)))
+      let begun = counted_begun b (link_to c.left) f here.begun (entries_of c.left) c.sees.begun here_top.used_is here_top.stand.left.say in
+      chain_not_reached f (past_entries here_top.low (entries_of c.left)) here_top.high (rest_of c.left) here_top.order (ends_past f here_top.low here_top.high (entries_of c.left) here_top.stand.order (omega (arith, begun, c.sees.used_is)))
   over (inr e) = no_more (rest_of c.left) here_top.rest (sym next_link ∙ e)
 
   best_top : Top b levels c.best_of

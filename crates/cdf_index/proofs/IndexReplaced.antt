@@ -64,7 +64,9 @@ module _ (b now : List ℕ) (s : Shape) (before : List VariableShape) (v : Varia
   old_fits = let p = Each-split (VariableFits b s.records) before (v ∷ after) (subst (Each (VariableFits b s.records)) shaped.was sound.variables_fit) in (p.0, p.1.0, p.1.1)
 
   others_fit : Each (VariableFits now s.records) (before ++ after)
-  others_fit = variables_fit_kept b now s.records s.records file same (before ++ after) (λ m i. kept m (stand m (omega (arith, parts m, others m, times-in m (flat_map variable_records (before ++ after)) i))) (λ j. absurd (omega (arith, limit m, parts m, times-in m mine j, others m, times-in m (flat_map variable_records (before ++ after)) i)))) (Each-append (VariableFits b s.records) before after old_fits.0 old_fits.2)
+  others_fit = variables_fit_kept b now s.records s.records file same (before ++ after)
+      (λ m i. (let other = times-in m (flat_map variable_records (before ++ after)) i in kept m (stand m (omega (arith, parts m, others m, other))) (λ j. absurd (omega (arith, limit m, parts m, times-in m mine j, others m, other)))))
+      (Each-append (VariableFits b s.records) before after old_fits.0 old_fits.2)
 
   cprs_stay : (cs : List ℕ) → Each (λ (cpr : ℕ). is_a b s.records cpr_type cpr ≡ true) cs → Each (λ (cpr : ℕ). is_a now s.records cpr_type cpr ≡ true) cs
   cprs_stay [] e = tt

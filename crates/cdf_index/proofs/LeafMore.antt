@@ -144,7 +144,8 @@ leaves_come {l = l} (comes_below {more = more} fs first last nodes nodes' es t l
     let behind = entries_past l.first (suc last) high es p.1.4 u in
     let later = nodes_past l.first (past_entries low (with_both fs (lower first last nodes es))) high more o.1 t in
     let inner = leaves_come c first last p.1.3 in
-    rw (leaves_both fs (lower first last nodes es), leaves_both fs (lower first (max last l.last) nodes' es), new_before l (entry_leaves fs ++ (leaves_of nodes ++ entry_leaves es)) (leaves_of more) later, new_behind l (entry_leaves fs) (leaves_of nodes ++ entry_leaves es) before, new_before l (leaves_of nodes) (entry_leaves es) behind, inner) refl
+    let all = leaves_of nodes ++ entry_leaves es in
+    rw (leaves_both fs (lower first last nodes es), leaves_both fs (lower first (max last l.last) nodes' es), new_before l (entry_leaves fs ++ all) (leaves_of more) later, new_behind l (entry_leaves fs) all before, new_before l (leaves_of nodes) (entry_leaves es) behind, inner) refl
 leaves_come {l = l} {at = at} (comes_here {place = place} {room = room} {es = es} {more = more} t d) low high o =
     let later = nodes_past l.first (past_entries low es) high more o.1 t in
     let old = front_by l.first low high false es o.0 d in

@@ -122,7 +122,8 @@ pub made : {l : Leaf} {at : ℕ} {w : List (ℕ × ℕ)} {x n : ℕ} {ns ns' : N
 unfolding redo redo_below nodes_of lower_nodes
 made comes_first some d = absurd (some refl)
 made {l = l} {at = at} {w = w} {x = x} (comes_along {place = place} {room = room} {es = es} {more = more} t c) some d =
-    made_in l.last (node place room es) (place ∷ lower_nodes es) (λ y e m out. redo_along y e place room es m out) w x (nodes_of more) (placed l at x) more (way_lies c) some (λ y i j. apart_by y (place ∷ lower_nodes es ++ nodes_of more) (nodes_of more) (place ∷ lower_nodes es) d (omega (arith, times-append y (place ∷ lower_nodes es) (nodes_of more))) i j)
+    let out = place ∷ lower_nodes es in
+    made_in l.last (node place room es) out (λ y e m o. redo_along y e place room es m o) w x (nodes_of more) (placed l at x) more (way_lies c) some (λ y i j. apart_by y (out ++ nodes_of more) (nodes_of more) out d (omega (arith, times-append y out (nodes_of more))) i j)
     ∙ ap (node place room es) (made c some (Distinct-back (lower_nodes es) (nodes_of more) d.1))
 made {l = l} {at = at} {x = x} (comes_below {w = w} {place = place} {room = room} {more = more} fs first last nodes nodes' es t le r c) some d =
     let all = nodes_of (node place room (with_both fs (lower first last nodes es)) more) in
