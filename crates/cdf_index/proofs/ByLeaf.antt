@@ -1,11 +1,10 @@
 -- What a leaf more makes of an index, step by step on the way to it, and how often a node stands in it by then.
-use Rattle.std.proofs.Common.{◌≡◌, ◌⊎◌, ℕ, ◌+◌, ◌≤◌, max, [], ◌∷◌, ◌++◌, Bool, false, ltb, eqb, refl, sym, ap, subst, ◌∙◌, arith, inl, inr}
-use Rattle.cdf_index.proofs.Common.{eqb-true, if◌then◌else◌, ◌==◌, In, either, reaches, chain_reaches, leads_down, past, with_both, with_entry, Nodes, no_node, node, Entries, no_entry, block, lower, Leaf, entry_count}
-use Rattle.std.proofs.lemmas.Bool.{eqb-false, ne_eqb}
+use Rattle.std.proofs.Common.{◌≡◌, ◌⊎◌, ℕ, ◌+◌, ◌≤◌, max, [], ◌∷◌, ◌++◌, Bool, false, ltb, eqb, refl, sym, ap, ◌∙◌, arith, inl, inr}
+use Rattle.cdf_edits.proofs.Common.{ne_eqb, times, cases_lt}
+use Rattle.cdf_edits.proofs.Edits.Common.{in-times, times-append, times-in}
+use Rattle.cdf_index.proofs.Common.{nat_tests, eqb-true, if◌then◌else◌, ◌==◌, In, either, reaches, chain_reaches, leads_down, past, with_both, with_entry, Nodes, no_node, node, Entries, no_entry, block, lower, Leaf, entry_count}
 use Rattle.cdf_edits.specs.Index.Grown.{with_leaf, with_lower, new_room, new_room_below, room_of_new, with_block}
-use Rattle.cdf_edits.proofs.Frame.OwnersApart.{in-times, times-append, times-in}
 use Rattle.cdf_format.specs.Index.{nodes_of, lower_nodes}
-use Rattle.cdf_format.specs.Owners.{times}
 use Rattle.cdf_index.proofs.Saying.{upto_both, front, front_past, upto_is}
 
 -- ---- the steps to a leaf more
@@ -30,12 +29,10 @@ module _ {new : Leaf} {at : ℕ} {P : ℕ → Nodes → Nodes → Type 0} {Q : �
       let p = past new.first es in
       let whole = front_past new.first es in
       elim (either (ltb (entry_count es) room)) [
-        | inl t ↦ rw (t, upto_both new es p) (subst (λ (x : Entries). P 0 (node place room x more) (node place room (with_both f (with_block new p)) more)) whole (g.fits place room f p more))
+        | inl t ↦ rw (t, upto_both new es p) (rw whole at (g.fits place room f p more))
         | inr t ↦ elim (either (eqb (entry_count p) 0)) [
-          | inl z ↦ let none = eqb-true (entry_count p) 0 z in let seven : max 7 (entry_count p) ≡ 7 = omega arith in rw (t, z, seven) (g.behind place room es more)
-          | inr z ↦
-              let n = max 7 (entry_count p) in
-              rw (t, z, upto_is new es) (subst (λ (x : Entries). P n (node place room x more) (node place room (with_both f (with_block new no_entry)) (node at n p more))) whole (g.split n place room f p more refl))
+          | inl z ↦ let seven : max 7 (entry_count p) ≡ 7 = omega (arith, eqb-true (entry_count p) 0 z) in rw (t, z, seven) (g.behind place room es more)
+          | inr z ↦ rw (t, z, upto_is new es) (rw whole at (g.split (max 7 (entry_count p)) place room f p more refl))
         ]
       ]
 
@@ -103,14 +100,12 @@ mutual
 
   nodes_weighed : (m : ℕ) (nodes : Nodes) → times m (nodes_of nodes) ≡ weigh (λ p r. times m (p ∷ [])) nodes
   nodes_weighed m no_node = refl
-  nodes_weighed m (node place room es more) =
-      times-append m (place ∷ []) (lower_nodes es ++ nodes_of more)
-      ∙ ap (λ (n : ℕ). times m (place ∷ []) + n) (times-append m (lower_nodes es) (nodes_of more) ∙ (let a = entries_weighed m es in let b = nodes_weighed m more in λ i. a i + b i))
+  nodes_weighed m (node place room es more) = omega (arith, times-append m (place ∷ []) (lower_nodes es ++ nodes_of more), times-append m (lower_nodes es) (nodes_of more), entries_weighed m es, nodes_weighed m more)
 
   entries_weighed : (m : ℕ) (es : Entries) → times m (lower_nodes es) ≡ weigh_below (λ p r. times m (p ∷ [])) es
   entries_weighed m no_entry = refl
   entries_weighed m (block first last place packed es) = entries_weighed m es
-  entries_weighed m (lower first last nodes es) = times-append m (nodes_of nodes) (lower_nodes es) ∙ (let a = nodes_weighed m nodes in let b = entries_weighed m es in λ i. a i + b i)
+  entries_weighed m (lower first last nodes es) = omega (arith, times-append m (nodes_of nodes) (lower_nodes es), nodes_weighed m nodes, entries_weighed m es)
 
 -- the new node stands once more, where one is needed
 pub nodes_with_leaf : (new : Leaf) (at m : ℕ) (index : Nodes) → times m (nodes_of (with_leaf new at index)) ≡ times m (nodes_of index) + (if new_room new.first index == 0 then 0 else times m (at ∷ []))
@@ -123,13 +118,7 @@ pub in_nodes_with_leaf : (new : Leaf) (at : ℕ) (index : Nodes) (m : ℕ) → I
 in_nodes_with_leaf new at index m i =
     let some = times-in m (nodes_of (with_leaf new at index)) i in
     let more = nodes_with_leaf new at m index in
-    elim (either (eqb (new_room new.first index) 0)) [
-      | inl t ↦ let same : times m (nodes_of (with_leaf new at index)) ≡ times m (nodes_of index) + 0 = rw t at more in inl (in-times m (nodes_of index) (omega arith))
-      | inr t ↦ elim (either (eqb m at)) [
-        | inl e ↦ inr (eqb-true m at e, (let out = eqb-false (new_room new.first index) 0 t in omega arith))
-        | inr e ↦ let same : times m (nodes_of (with_leaf new at index)) ≡ times m (nodes_of index) + 0 = rw (t, e) at more in inl (in-times m (nodes_of index) (omega arith))
-      ]
-    ]
+    elim (cases_lt 0 (times m (nodes_of index))) [ inl p ↦ inl (in-times m (nodes_of index) p) | inr z ↦ inr (grind (arith, nat_tests, some, more), grind (arith, nat_tests, some, more)) ]
 
 -- each node of the index stays
 pub node_stays : (new : Leaf) (at : ℕ) (index : Nodes) (m : ℕ) → In m (nodes_of index) → In m (nodes_of (with_leaf new at index))

@@ -1,5 +1,5 @@
 -- Where the entries of a node are cut in two: those before a record, and the others.
-use Rattle.std.proofs.Common.{◌≡◌, ℕ, zero, suc, ◌+◌, ◌<◌, ◌≤◌, List, subst, arith, inl, inr}
+use Rattle.std.proofs.Common.{◌≡◌, ℕ, zero, suc, ◌+◌, ◌<◌, ◌≤◌, List, Bool, true, false, if◌then◌else◌, refl, ap, subst, arith, inl, inr}
 use Rattle.cdf_index.proofs.Common.{used_count, Begun, in_column, Ascends}
 use Rattle.cdf_index.specs.Finding.{IsCut}
 use Rattle.std.proofs.lemmas.Bool.{cases_lt}
@@ -34,9 +34,10 @@ parted_all P Q n count before stop most = record { before = λ j lt. subst P (sa
     same : (j : ℕ) → j ≡ 0 + j
     same j = omega arith
 
+-- so many pass a test
+pub one_more : (P Q : ℕ → Type 0) (k i count : ℕ) (t : Bool) (rest : ℕ) → (P k → t ≡ true) → (Q k → t ≡ false) → Parted P Q k i (suc count) → ((m : ℕ) → Parted P Q (suc k) m count → m ≡ rest) → i ≡ (if t then suc rest else 0)
+one_more P Q k zero count t rest passes fails p r = let z : k + 0 ≡ k = omega arith in rw (fails (subst Q z (p.stop (omega arith)))) refl
+one_more P Q k (suc i) count t rest passes fails p r = let z : k + 0 ≡ k = omega arith in rw (passes (subst P z (p.before 0 (omega arith)))) (ap suc (r i (parted_rest P Q k i count p)))
+
 pub begun_by : (b : List ℕ) (at rec used bound i : ℕ) → used ≡ used_count b at → bound ≡ rec → IsCut b at 28 used (bound + 1) i → Begun b at rec i
-begun_by b at rec used bound i u q c = record {
-  before = λ j lt. (let h = c.before j lt in omega arith);
-  most = let m = c.most in omega arith;
-  stop = λ lt. (let h = c.stop (omega arith) in omega arith);
-}
+begun_by b at rec used bound i u q c = record { before = λ j lt. (let h = c.before j lt in omega arith); most = let m = c.most in omega arith; stop = λ lt. (let h = c.stop (omega arith) in omega arith) }

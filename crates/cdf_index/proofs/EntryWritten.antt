@@ -1,7 +1,6 @@
 -- What a write of an entry leaves of a node.
-use Rattle.std.proofs.Common.{◌≡◌, ◌⊎◌, ◌≢◌, ℕ, ◌+◌, ◌*◌, ◌^◌, ◌<◌, ◌≤◌, inl, inr, List, [], ◌∷◌, length, sym, ap, subst, ◌∙◌, arith}
+use Rattle.std.proofs.Common.{◌≡◌, ◌≢◌, ℕ, ◌+◌, ◌*◌, ◌^◌, ◌<◌, ◌≤◌, inl, inr, List, [], ◌∷◌, length, sym, ap, subst, ◌∙◌, arith}
 use Rattle.cdf_index.proofs.Common.{Changed, touch, word, with_field, room_at, SaysEntry, vxr_first, vxr_last, vxr_offset, StillSays, EntrySet}
-use Rattle.std.proofs.lemmas.Bool.{cases_lt}
 use Rattle.cdf_index.proofs.FieldSet.{FieldSet, field_set, changed_again, changed_wider}
 
 module _ (b b1 b2 now : List ℕ) (at n i first last offset : ℕ) (room_is : n ≡ room_at b at) (below : i < n) (inside : at + (28 + 16 * n) ≤ length b) (first_fits : first < 256 ^ 4) (last_fits : last < 256 ^ 4) (offset_fits : offset < 256 ^ 8)
@@ -12,65 +11,34 @@ module _ (b b1 b2 now : List ℕ) (at n i first last offset : ℕ) (room_is : n 
   ended : FieldSet b1 b2 at (vxr_last n i) last
   ended = field_set (let e = begun.as_long in omega arith) two
 
-  long2 : length b2 ≡ length b
-  long2 = ended.as_long ∙ begun.as_long
-
   named : FieldSet b2 now at (vxr_offset n i) offset
-  named = field_set (let e = long2 in omega arith) three
-
-  room_stays : room_at now at ≡ n
-  room_stays = named.past (at + 20) 4 (inl (omega arith)) ∙ ended.past (at + 20) 4 (inl (omega arith)) ∙ begun.past (at + 20) 4 (inl (omega arith)) ∙ sym room_is
+  named = field_set (let d = begun.as_long in let e = ended.as_long in omega arith) three
 
   says_by : (j f l o : ℕ) → word now (at + (28 + 4 * j)) 4 ≡ f → word now (at + (28 + 4 * n + 4 * j)) 4 ≡ l → word now (at + (28 + 8 * n + 8 * j)) 8 ≡ o → SaysEntry now at j f l o
-  says_by j f l o ef el eo = record {
-    first_is = ef;
-    last_is = ap (λ (x : ℕ). word now (at + (28 + 4 * x + 4 * j)) 4) room_stays ∙ el;
-    offset_is = ap (λ (x : ℕ). word now (at + (28 + 8 * x + 8 * j)) 8) room_stays ∙ eo;
-  }
-
-  here : SaysEntry now at i first last offset
-  here = says_by i first last offset
-      (named.past (at + (28 + 4 * i)) 4 (inl (omega arith)) ∙ ended.past (at + (28 + 4 * i)) 4 (inl (omega arith)) ∙ begun.reads first_fits)
-      (named.past (at + (28 + 4 * n + 4 * i)) 4 (inl (omega arith)) ∙ ended.reads last_fits)
-      (named.reads offset_fits)
-
-  -- one of two different entries comes first, and so does each of its fields
-  side : (j : ℕ) → j ≢ i → (i < j) ⊎ (j < i)
-  side j other = elim (cases_lt i j) [ inl less ↦ inl less | inr le ↦ inr (omega arith) ]
-
-  first_apart : (j : ℕ) → (i < j) ⊎ (j < i) → (at + (28 + 4 * j) + 4 ≤ at + (28 + 4 * i)) ⊎ (at + (28 + 4 * i) + 4 ≤ at + (28 + 4 * j))
-  first_apart j (inl less) = inr (omega arith)
-  first_apart j (inr more) = inl (omega arith)
-
-  last_apart : (j : ℕ) → (i < j) ⊎ (j < i) → (at + (28 + 4 * n + 4 * j) + 4 ≤ at + (28 + 4 * n + 4 * i)) ⊎ (at + (28 + 4 * n + 4 * i) + 4 ≤ at + (28 + 4 * n + 4 * j))
-  last_apart j (inl less) = inr (omega arith)
-  last_apart j (inr more) = inl (omega arith)
-
-  offset_apart : (j : ℕ) → (i < j) ⊎ (j < i) → (at + (28 + 8 * n + 8 * j) + 8 ≤ at + (28 + 8 * n + 8 * i)) ⊎ (at + (28 + 8 * n + 8 * i) + 8 ≤ at + (28 + 8 * n + 8 * j))
-  offset_apart j (inl less) = inr (omega arith)
-  offset_apart j (inr more) = inl (omega arith)
+  says_by j f l o ef el eo =
+      let room : room_at now at ≡ n = named.past (at + 20) 4 (inl (omega arith)) ∙ ended.past (at + 20) 4 (inl (omega arith)) ∙ begun.past (at + 20) 4 (inl (omega arith)) ∙ sym room_is in
+      record { first_is = ef; last_is = ap (λ (x : ℕ). word now (at + (28 + 4 * x + 4 * j)) 4) room ∙ el; offset_is = ap (λ (x : ℕ). word now (at + (28 + 8 * x + 8 * j)) 8) room ∙ eo }
 
   others : (j : ℕ) → j < n → j ≢ i → StillSays b now at j j
   others j lt ne f l o s =
-      let which = side j ne in
       let pf = at + (28 + 4 * j) in
       let pl = at + (28 + 4 * n + 4 * j) in
       let po = at + (28 + 8 * n + 8 * j) in
       says_by j f l o
-      (named.past pf 4 (inl (omega arith)) ∙ ended.past pf 4 (inl (omega arith)) ∙ begun.past pf 4 (first_apart j which) ∙ s.first_is)
-      (named.past pl 4 (inl (omega arith)) ∙ ended.past pl 4 (last_apart j which) ∙ begun.past pl 4 (inr (omega arith)) ∙ ap (λ (x : ℕ). word b (at + (28 + 4 * x + 4 * j)) 4) room_is ∙ s.last_is)
-      (named.past po 8 (offset_apart j which) ∙ ended.past po 8 (inr (omega arith)) ∙ begun.past po 8 (inr (omega arith)) ∙ ap (λ (x : ℕ). word b (at + (28 + 8 * x + 8 * j)) 8) room_is ∙ s.offset_is)
-
-  wider : {x y : List ℕ} {place width : ℕ} → Changed x y (touch at place width ∷ []) → 28 ≤ place → place + width ≤ 28 + 16 * n → Changed x y (touch at 28 (16 * n) ∷ [])
-  wider = changed_wider 28 (16 * n)
-
-  changed : Changed b now (touch at 28 (16 * n) ∷ [])
-  changed = changed_again (changed_again (wider begun.changed (omega arith) (omega arith)) begun.as_long (wider ended.changed (omega arith) (omega arith))) long2 (wider named.changed (omega arith) (omega arith))
+      (named.past pf 4 (inl (omega arith)) ∙ ended.past pf 4 (inl (omega arith)) ∙ begun.past pf 4 (grind arith) ∙ s.first_is)
+      (named.past pl 4 (inl (omega arith)) ∙ ended.past pl 4 (grind arith) ∙ begun.past pl 4 (inr (omega arith)) ∙ ap (λ (x : ℕ). word b (at + (28 + 4 * x + 4 * j)) 4) room_is ∙ s.last_is)
+      (named.past po 8 (grind arith) ∙ ended.past po 8 (inr (omega arith)) ∙ begun.past po 8 (inr (omega arith)) ∙ ap (λ (x : ℕ). word b (at + (28 + 8 * x + 8 * j)) 8) room_is ∙ s.offset_is)
 
   pub entry_set : EntrySet b now at i first last offset
-  entry_set = record {
-    as_long = named.as_long ∙ long2;
-    changed = subst (λ (x : ℕ). Changed b now (touch at 28 (16 * x) ∷ [])) room_is changed;
-    here = here;
-    others = λ j lt ne. others j (omega arith) ne;
-  }
+  entry_set =
+      let front = changed_again (changed_wider 28 (16 * n) begun.changed (omega arith) (omega arith)) begun.as_long (changed_wider 28 (16 * n) ended.changed (omega arith) (omega arith)) in
+      let all = changed_again front (ended.as_long ∙ begun.as_long) (changed_wider 28 (16 * n) named.changed (omega arith) (omega arith)) in
+      record {
+        as_long = named.as_long ∙ ended.as_long ∙ begun.as_long;
+        changed = subst (λ (x : ℕ). Changed b now (touch at 28 (16 * x) ∷ [])) room_is all;
+        here = says_by i first last offset
+            (named.past (at + (28 + 4 * i)) 4 (inl (omega arith)) ∙ ended.past (at + (28 + 4 * i)) 4 (inl (omega arith)) ∙ begun.reads first_fits)
+            (named.past (at + (28 + 4 * n + 4 * i)) 4 (inl (omega arith)) ∙ ended.reads last_fits)
+            (named.reads offset_fits);
+        others = λ j lt ne. others j (omega arith) ne;
+      }

@@ -1,10 +1,8 @@
 -- What a write of one field leaves of a record, and of a node where the field stands before its entries.
 use Rattle.std.proofs.Common.{◌≡◌, ◌⊎◌, ℕ, ◌+◌, ◌*◌, ◌/◌, ◌-◌, ◌^◌, ◌<◌, ◌≤◌, inl, inr, List, [], ◌∷◌, length, slice_index, ap, ◌∙◌, arith}
+use Rattle.cdf_edits.proofs.Common.{LiesIn, w32, cast_signed, Field}
 use Rattle.cdf_index.proofs.Common.{min, image_limit, Changed, touch, counted, word, number, with_field, size_at, room_at, used_count, vxr_n_used_entries, NodeInside, StillSays}
-use Rattle.cdf_format.specs.Fields.{LiesIn}
 use Rattle.cdf_fields.proofs.Writes.{field_reads, length-with_field, other_bytes, other_words}
-use Rattle.std.specs.Int.{w32, cast_signed}
-use Rattle.cdf_format.specs.Records.{Field}
 
 pub record FieldSet (b now : List ℕ) (at : ℕ) (f : Field) (n : ℕ) : Type 0 where
   pub as_long : length now ≡ length b
@@ -28,25 +26,15 @@ pub changed_again : {b mid now : List ℕ} {at from n : ℕ} → Changed b mid (
 changed_again c long d = record { longer = omega (arith, c.longer, d.longer); same = λ i lt o. d.same i (omega arith) o ∙ c.same i lt o }
 
 pub changed_wider : {b now : List ℕ} {at place width : ℕ} (from n : ℕ) → Changed b now (touch at place width ∷ []) → from ≤ place → place + width ≤ from + n → Changed b now (touch at from n ∷ [])
-changed_wider {at = at} {place = place} {width = width} from n c low high = record { longer = c.longer; same = λ i lt o. c.same i lt (outside i o.0, tt) }
-  where
-    outside : (i : ℕ) → (i < at + from) ⊎ (at + from + n ≤ i) → (i < at + place) ⊎ (at + place + width ≤ i)
-    outside i (inl l) = inl (omega arith)
-    outside i (inr r) = inr (omega arith)
+changed_wider {at = at} {place = place} {width = width} from n c low high = record { longer = c.longer; same = λ i lt o. c.same i lt (elim o.0 [ inl l ↦ inl (omega arith) | inr r ↦ inr (omega arith) ], tt) }
 
 -- ---- a node
 
 pub node_head : {b : List ℕ} {at : ℕ} → NodeInside b at → at + 28 ≤ length b
-node_head {b = b} {at = at} inside = head (room_at b at) (length b) inside.room
-  where
-    head : (r l : ℕ) → at + (28 + 16 * r) ≤ l → at + 28 ≤ l
-    head r l h = omega arith
+node_head inside = omega (arith, inside.room)
 
 pub node_small : {b : List ℕ} {at : ℕ} → NodeInside b at → length b ≤ image_limit → room_at b at < 2 ^ 31
-node_small {b = b} {at = at} inside short = small (room_at b at) (length b) inside.room short
-  where
-    small : (r l : ℕ) → at + (28 + 16 * r) ≤ l → l ≤ image_limit → r < 2 ^ 31
-    small r l h s = omega arith
+node_small inside short = omega (arith, inside.room)
 
 abbrev pub counts : ℕ → ℕ → ℕ → ℕ
 counts u r s = min (counted (cast_signed w32 u)) (min (counted (cast_signed w32 r)) ((s - 28) / 16))
@@ -69,12 +57,6 @@ module _ {b now : List ℕ} {at : ℕ} {f : Field} {n : ℕ} (set : FieldSet b n
   pub entries_beside : (i : ℕ) → StillSays b now at i i
   entries_beside i first last offset s = record {
     first_is = set.past (at + (28 + 4 * i)) 4 (inr (omega arith)) ∙ s.first_is;
-    last_is = ap (λ (y : ℕ). word now (at + (28 + 4 * y + 4 * i)) 4) room_beside ∙ set.past (at + (28 + 4 * room_at b at + 4 * i)) 4 (inr (behind4 (room_at b at))) ∙ s.last_is;
-    offset_is = ap (λ (y : ℕ). word now (at + (28 + 8 * y + 8 * i)) 8) room_beside ∙ set.past (at + (28 + 8 * room_at b at + 8 * i)) 8 (inr (behind8 (room_at b at))) ∙ s.offset_is;
+    last_is = ap (λ (y : ℕ). word now (at + (28 + 4 * y + 4 * i)) 4) room_beside ∙ set.past (at + (28 + 4 * room_at b at + 4 * i)) 4 (inr (omega arith)) ∙ s.last_is;
+    offset_is = ap (λ (y : ℕ). word now (at + (28 + 8 * y + 8 * i)) 8) room_beside ∙ set.past (at + (28 + 8 * room_at b at + 8 * i)) 8 (inr (omega arith)) ∙ s.offset_is;
   }
-    where
-      behind4 : (r : ℕ) → at + f.place + f.width ≤ at + (28 + 4 * r + 4 * i)
-      behind4 r = omega arith
-
-      behind8 : (r : ℕ) → at + f.place + f.width ≤ at + (28 + 8 * r + 8 * i)
-      behind8 r = omega arith

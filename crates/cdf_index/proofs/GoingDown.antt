@@ -1,343 +1,200 @@
--- The way down to the place of a new entry, along each chain and from level to level.
-use Rattle.std.proofs.Common.{◌≡◌, ◌≢◌, ◌⊎◌, ℕ, zero, suc, ◌+◌, ◌-◌, ◌<◌, ◌≤◌, List, ◌∷◌, length, Bool, true, false, not, eqb, refl, sym, ap, subst, ◌∙◌, arith, inl, inr}
-use Rattle.cdf_index.proofs.Common.{length-append, reaches, chain_reaches, leads_down, Nodes, no_node, node, Entries, no_entry, block, lower, entry_count, link_to, used_count, first_at, SayEntries, SaysNode, IsNode, AreTiles, In, tiles, either, In-append_right, Distinct-front, Distinct-back, length-le_from_distinct, Begun, chain_at, chain_before, IsTree, SeesNode, SpotIs, SomeNode, past_entries, Spot, linkable-in, vxr_type}
+-- The way down to the place of a new entry, along a chain.
+use Rattle.std.proofs.Common.{◌≡◌, ◌≢◌, ◌⊎◌, ℕ, zero, suc, ◌+◌, ◌<◌, ◌≤◌, List, [], ◌∷◌, length, true, false, refl, sym, ap, subst, ◌∙◌, arith, inl, inr}
+use Rattle.cdf_edits.proofs.Common.{nodes_stand, ne_eqb}
+use Rattle.cdf_index.proofs.Common.{either, if◌then◌else◌, nat_tests, length-append, reaches, chain_reaches, leads_down, next_of, vxr_type, Nodes, no_node, node, Entries, no_entry, entry_count, link_to, used_count, IsNode, AreTiles, In, tiles, linkable-in, Distinct-front, Distinct-back, length-le_from_distinct, down_at, IsTree, SeesNode, SpotIs, Spot, SomeNode, past_entries}
 use Rattle.cdf_format.specs.Index.{nodes_of, lower_nodes, leaves_of}
-use Rattle.cdf_format.specs.IndexOf.{HasNodes}
 use Rattle.cdf_index.specs.Descent.{way_from, end_from}
-use Rattle.cdf_index.specs.Order.{InOrder, AreInOrder}
-use Rattle.cdf_index.specs.Way.{way, way_below, spot}
-use Rattle.cdf_index.proofs.EntriesCut.{parted_all}
+use Rattle.cdf_index.specs.Order.{InOrder}
+use Rattle.cdf_format.specs.IndexOf.{HasNodes}
+use Rattle.cdf_index.specs.Way.{way, way_below, spot, spot_below}
 use Rattle.cdf_index.proofs.EntriesLeft.{node_parts}
-use Rattle.cdf_index.proofs.Leading.{Led, Leads, Passed, led}
-use Rattle.cdf_index.proofs.OrderLemmas.{end_after}
-use Rattle.cdf_index.proofs.WayDown.{no_zero}
+use Rattle.cdf_index.proofs.Leading.{Below, Stand, begun_in, below, counted_begun, ends_past, LedBy, is_some, lead, lead_none, leads, led, reached_is, some_node}
+use Rattle.cdf_index.proofs.Coming.{chain_not_reached}
 use Rattle.cdf_index.proofs.Looking.{node_there}
-use Rattle.cdf_format.proofs.IndexLemmas.{nodes_stand}
+use Rattle.cdf_index.proofs.WayDown.{no_zero, way_in}
 use Rattle.cdf_format.proofs.TilesLemmas.{length_tiles}
-use Rattle.cdf_index.proofs.LeafMore.{leads_none, chain_not_reached}
-use Rattle.std.proofs.lemmas.Bool.{eq-eqb}
 
--- ---- a tree, its first node, and the rest of its chain
+-- ---- a chain: the entries of its first node, and the others
 
-record Parts (b : List ℕ) (levels place room : ℕ) (es : Entries) (more : Nodes) : Type 0 where
-  pub says : SaysNode b (tiles b) place room es more
+abbrev pub entries_of : Nodes → Entries
+entries_of no_node = no_entry
+entries_of (node place room es more) = es
+
+abbrev pub rest_of : Nodes → Nodes
+rest_of no_node = no_node
+rest_of (node place room es more) = more
+
+record Top (b : List ℕ) (levels : ℕ) (nodes : Nodes) : Type 0 where
+  pub levels_below : ℕ
+  pub fewer : levels_below < levels
+  pub used_is : used_count b (link_to nodes) ≡ entry_count (entries_of nodes)
+  pub next_is : next_of b (link_to nodes) ≡ link_to (rest_of nodes)
   pub low : ℕ
   pub high : ℕ
-  pub order : AreInOrder low high es
-  pub rest_order : InOrder (past_entries low es) high more
-  pub rest : IsNode more → IsTree b (suc levels) more
+  pub stand : Stand b levels_below (link_to nodes) 0 low high (entries_of nodes)
+  pub order : InOrder (past_entries low (entries_of nodes)) high (rest_of nodes)
+  pub rest : IsNode (rest_of nodes) → IsTree b levels (rest_of nodes)
+  pub nodes_left : length (nodes_of (rest_of nodes)) < length (nodes_of nodes)
 
-tree_parts : (b : List ℕ) (levels place room : ℕ) (es : Entries) (more : Nodes) → IsTree b (suc levels) (node place room es more) → Parts b levels place room es more
+top : (b : List ℕ) (levels : ℕ) (nodes : Nodes) → IsTree b levels nodes → Top b levels nodes
 unfolding HasNodes nodes_of leaves_of InOrder
-tree_parts b levels place room es more t =
+top b levels no_node t = absurd t.is_node
+top b zero (node place room es more) t = absurd t.stands.has
+top b (suc levels) (node place room es more) t =
     let p = node_parts t.stands in
     record {
-      says = p.says;
+      levels_below = levels;
+      fewer = omega arith;
+      used_is = p.says.used_is;
+      next_is = p.says.next_is;
       low = t.from;
       high = t.upto;
-      order = t.order.0;
-      rest_order = t.order.1;
+      stand = record { left = p.left; once = Distinct-front (lower_nodes es) (nodes_of more) t.once.1; order = t.order.0 };
+      order = t.order.1;
       rest = λ is. record { stands = p.more_stands; is_node = is; once = Distinct-back (lower_nodes es) (nodes_of more) t.once.1; from = past_entries t.from es; upto = t.upto; order = t.order.1 };
+      nodes_left = omega (arith, length-append (lower_nodes es) (nodes_of more));
     }
 
-passed_of : (b : List ℕ) (f at n : ℕ) (es : Entries) → used_count b at ≡ entry_count es → Begun b at f n → Passed b f at 0 n (entry_count es)
-passed_of b f at n es u g = let most = g.most in parted_all (λ j. first_at b at j ≤ f) (λ j. f < first_at b at j) n (entry_count es) g.before (λ lt. g.stop (omega arith)) (omega arith)
+-- ---- where a chain leads
 
-node_led : (b : List ℕ) (f levels place room n : ℕ) (es : Entries) (more : Nodes) → AreTiles b 8 (length b) (tiles b) → IsTree b (suc levels) (node place room es more) → Begun b place f n → Led b f levels place 0 n es
-unfolding HasNodes nodes_of leaves_of InOrder
-node_led b f levels place room n es more tiled t g =
-    let p = node_parts t.stands in
-    led b f levels place tiled 0 n t.from t.upto es (record { left = p.left; once = Distinct-front (lower_nodes es) (nodes_of more) t.once.1; order = t.order.0 }) (passed_of b f place n es p.says.used_is g)
+abbrev Route : Type 0
+Route = List (ℕ × ℕ) × ℕ
 
--- ---- what was seen of the node tells where it leads
+abbrev route : ℕ → Nodes → Route
+route f nodes = (way f nodes, spot f nodes)
 
-record Here (b : List ℕ) (f levels place room : ℕ) (es : Entries) (more : Nodes) (seen : Spot) : Type 0 where
-  pub low : Nodes
-  pub lower_is : seen.lower ≡ link_to low
-  pub below : seen.lower ≢ 0 → IsTree b levels low
-  pub leads : seen.lower ≢ 0 → 0 < seen.begun
-  pub reached : 0 < seen.begun → reaches f es ≡ true
-  pub not_reached : seen.begun ≡ 0 → reaches f es ≡ false
-  pub way_is : chain_reaches f more ≡ false → way f (node place room es more) ≡ way_from f seen low
-  pub end_is : chain_reaches f more ≡ false → spot f (node place room es more) ≡ end_from f seen low
+-- from its first node
+abbrev route_here : ℕ → Nodes → Route
+route_here f nodes = if leads_down f false (entries_of nodes) then ((link_to nodes, down_at f (entries_of nodes)) ∷ way_below f (entries_of nodes), spot_below f (entries_of nodes)) else ([], link_to nodes)
 
-here_by : (b : List ℕ) (f levels place room n : ℕ) (es : Entries) (more : Nodes) (seen : Spot) → Led b f levels place 0 n es → seen.begun ≡ n → seen.place ≡ place → seen.lower ≡ chain_before b place 0 n → Here b f levels place room es more seen
+-- from that of another one, unless these others reach the record
+abbrev route_along : ℕ → Nodes → Nodes → Route
+route_along f best others = if chain_reaches f others then route f others else route_here f best
+
+route_is : (f : ℕ) (nodes : Nodes) → IsNode nodes → route f nodes ≡ route_along f nodes (rest_of nodes)
 unfolding way spot
-here_by b f levels place room zero es more seen l g p c = record {
-  low = no_node;
-  lower_is = c;
-  below = λ x. absurd (x c);
-  leads = λ x. absurd (x c);
-  reached = λ lt. absurd (omega arith);
-  not_reached = λ e. l.none refl;
-  way_is = λ t. (let d = leads_none f false es (l.none refl) in rw (t, d, eq-eqb seen.lower 0 c) refl);
-  end_is = λ t. (let d = leads_none f false es (l.none refl) in rw (t, d, eq-eqb seen.lower 0 c) (sym p));
-}
-here_by b f levels place room (suc j) es more seen l g p c =
-    let w : Leads b f levels place (0 + j) j es = l.some j refl in
-    let z : 0 + j ≡ j = omega arith in
-    let same : chain_at b place (0 + j) ≡ seen.lower = ap (chain_at b place) z ∙ sym c in
-    let here : seen.begun - 1 ≡ j = omega arith in
-    record {
-      low = w.low;
-      lower_is = sym same ∙ w.chain;
-      below = λ x. w.tree (λ e. x (sym same ∙ e));
-      leads = λ x. omega arith;
-      reached = λ lt. w.reached;
-      not_reached = λ e. absurd (omega arith);
-      way_is = λ t. elim (either (eqb seen.lower 0)) [
-        | inl e ↦ let d : leads_down f false es ≡ false = w.down false ∙ ap (λ (x : ℕ). not (eqb x 0)) same ∙ ap not e in rw (t, d, e) refl
-        | inr e ↦
-            let some : chain_at b place (0 + j) ≢ 0 = λ q. absurd (no_both seen.lower (sym same ∙ q) e) in
-            let d : leads_down f false es ≡ true = w.down false ∙ ap (λ (x : ℕ). not (eqb x 0)) same ∙ ap not e in
-            rw (t, d, e) (ap (λ (i : ℕ). (place, i) ∷ way_below f es) (w.entry_is some ∙ sym here) ∙ ap (λ (xs : List (ℕ × ℕ)). (place, seen.begun - 1) ∷ xs) (w.way_is some) ∙ ap (λ (x : ℕ). (x, seen.begun - 1) ∷ way f w.low) (sym p))
-      ];
-      end_is = λ t. elim (either (eqb seen.lower 0)) [
-        | inl e ↦ let d : leads_down f false es ≡ false = w.down false ∙ ap (λ (x : ℕ). not (eqb x 0)) same ∙ ap not e in rw (t, d, e) (sym p)
-        | inr e ↦
-            let some : chain_at b place (0 + j) ≢ 0 = λ q. absurd (no_both seen.lower (sym same ∙ q) e) in
-            let d : leads_down f false es ≡ true = w.down false ∙ ap (λ (x : ℕ). not (eqb x 0)) same ∙ ap not e in
-            rw (t, d, e) (w.spot_is some)
-      ];
-    }
-  where
-    no_both : (n : ℕ) → n ≡ 0 → eqb n 0 ≡ false → ⊥
-    no_both n e t = let u = eq-eqb n 0 e in absurd (cc)
+route_is f no_node is = absurd is
+route_is f (node place room es more) is = grind arith
 
-here_is : (b : List ℕ) (f levels place room : ℕ) (es : Entries) (more : Nodes) (seen : Spot) → AreTiles b 8 (length b) (tiles b) → IsTree b (suc levels) (node place room es more) → SeesNode b place f seen → Here b f levels place room es more seen
-here_is b f levels place room es more seen tiled t s = here_by b f levels place room seen.begun es more seen (node_led b f levels place room seen.begun es more tiled t s.begun) refl s.place_is s.lower_is
+route_on : (f : ℕ) (best nodes : Nodes) → IsNode nodes → route_along f best nodes ≡ route_along f (if reaches f (entries_of nodes) then nodes else best) (rest_of nodes)
+route_on f best no_node is = absurd is
+route_on f best (node place room es more) is = grind (arith, route_is f (node place room es more) is)
 
--- ---- along a chain
-
+-- After so many turns along a chain these nodes are left, `here` the first of them, and `best` is the last node passed that reaches the record.
 pub record ChainAt (b : List ℕ) (f turn levels : ℕ) (nodes : Nodes) (best here : Spot) : Type 0 where
-  pub room : ℕ
-  pub es : Entries
-  pub more : Nodes
-  pub tree : IsTree b levels (node here.place room es more)
-  pub sees : SeesNode b here.place f here
-  pub best_sees : SeesNode b best.place f best
-  pub among : In best.place (nodes_of nodes)
-  pub down : ℕ
-  pub low : Nodes
-  pub lower_is : best.lower ≡ link_to low
-  pub fewer : best.lower ≢ 0 → down < levels
-  pub below : best.lower ≢ 0 → IsTree b down low
-  pub leads : best.lower ≢ 0 → 0 < best.begun
-  pub way_is : (chain_reaches f more ≡ true → way f nodes ≡ way f more) × (chain_reaches f more ≡ false → way f nodes ≡ way_from f best low)
-  pub end_is : (chain_reaches f more ≡ true → spot f nodes ≡ spot f more) × (chain_reaches f more ≡ false → spot f nodes ≡ end_from f best low)
-  pub within : (m : ℕ) → In m (nodes_of (node here.place room es more)) → In m (nodes_of nodes)
-  pub left : length (nodes_of (node here.place room es more)) + turn ≤ length (nodes_of nodes)
+  pub left : Nodes
+  pub tree : IsTree b levels left
+  pub sees : SeesNode b (link_to left) f here
+  pub best_of : Nodes
+  pub best_tree : IsTree b levels best_of
+  pub best_sees : SeesNode b (link_to best_of) f best
+  pub route_is : route f nodes ≡ route_along f best_of (rest_of left)
+  pub fewer : length (nodes_of left) + turn ≤ length (nodes_of nodes)
 
-own_place : (b : List ℕ) (f at : ℕ) (seen : Spot) → SeesNode b at f seen → SeesNode b seen.place f seen
-own_place b f at seen s = subst (λ (x : ℕ). SeesNode b x f seen) (sym s.place_is) s
+pub chain_start : (b : List ℕ) (f at levels : ℕ) (nodes : Nodes) (here : Spot) → IsTree b levels nodes → at ≡ link_to nodes → SeesNode b at f here → ChainAt b f 0 levels nodes here here
+chain_start b f at levels nodes here t e s =
+    let sees = subst (λ (x : ℕ). SeesNode b x f here) e s in
+    record { left = nodes; tree = t; sees = sees; best_of = nodes; best_tree = t; best_sees = sees; route_is = route_is f nodes t.is_node; fewer = omega arith }
 
-pub chain_start : (b : List ℕ) (f at levels : ℕ) (nodes : Nodes) (here : Spot) → AreTiles b 8 (length b) (tiles b) → IsTree b levels nodes → at ≡ link_to nodes → SeesNode b at f here → ChainAt b f 0 levels nodes here here
-unfolding HasNodes nodes_of way spot
-chain_start b f at levels no_node here tiled t e s = absurd t.is_node
-chain_start b f at zero (node place room es more) here tiled t e s = absurd t.stands.has
-chain_start b f at (suc levels) (node place room es more) here tiled t e s =
-    let q : here.place ≡ place = s.place_is ∙ e in
-    let own = own_place b f at here s in
-    let here_tree : IsTree b (suc levels) (node here.place room es more) = subst (λ (x : ℕ). IsTree b (suc levels) (node x room es more)) (sym q) t in
-    let h = here_is b f levels place room es more here tiled t (subst (λ (x : ℕ). SeesNode b x f here) e s) in
-    record {
-      room = room;
-      es = es;
-      more = more;
-      tree = here_tree;
-      sees = own;
-      best_sees = own;
-      among = inl q;
-      down = levels;
-      low = h.low;
-      lower_is = h.lower_is;
-      fewer = λ x. omega arith;
-      below = h.below;
-      leads = h.leads;
-      way_is = ((λ r. rw r refl), h.way_is);
-      end_is = ((λ r. rw r refl), h.end_is);
-      within = λ m i. subst (λ (x : ℕ). In m (nodes_of (node x room es more))) q i;
-      left = omega arith;
-    }
+module _ {b : List ℕ} {f turn levels : ℕ} {nodes : Nodes} {best here : Spot} (tiled : AreTiles b 8 (length b) (tiles b)) (c : ChainAt b f turn levels nodes best here) where
+  here_top : Top b levels c.left
+  here_top = top b levels c.left c.tree
 
-ends_past : (b : List ℕ) (at k i low high : ℕ) (es : Entries) → SayEntries b at k es → AreInOrder low high es → i < entry_count es → first_at b at (k + i) < past_entries low es
-unfolding AreInOrder
-ends_past b at k i low high no_entry s o lt = absurd (omega arith)
-ends_past b at k zero low high (block first last place packed es) s o lt =
-    let z : k + 0 ≡ k = omega arith in
-    let e = end_after (suc last) high es o.3 in
-    let o1 = o.1 in
-    rw z (omega (arith, s.0.first_is))
-ends_past b at k (suc i) low high (block first last place packed es) s o lt = let z : k + suc i ≡ suc k + i = omega arith in rw z (ends_past b at (suc k) i (suc last) high es s.1 o.3 (omega arith))
-ends_past b at k zero low high (lower first last nodes es) s o lt =
-    let z : k + 0 ≡ k = omega arith in
-    let e = end_after (suc last) high es o.4 in
-    let o1 = o.1 in
-    rw z (omega (arith, s.0.first_is))
-ends_past b at k (suc i) low high (lower first last nodes es) s o lt = let z : k + suc i ≡ suc k + i = omega arith in rw z (ends_past b at (suc k) i (suc last) high es s.1 o.4 (omega arith))
+  next_link : here.next ≡ link_to (rest_of c.left)
+  next_link = c.sees.next_is ∙ here_top.next_is
 
--- the chain is over, or its other entries are past the record
-chain_over : (b : List ℕ) (f levels : ℕ) (room : ℕ) (es : Entries) (more : Nodes) (here : Spot) → AreTiles b 8 (length b) (tiles b) → IsTree b levels (node here.place room es more) → SeesNode b here.place f here → here.begun < here.used → chain_reaches f more ≡ false
-unfolding HasNodes
-chain_over b f zero room es more here tiled t s lt = absurd t.stands.has
-chain_over b f (suc levels) room es more here tiled t s lt =
-    let p = tree_parts b levels here.place room es more t in
-    let u = p.says.used_is in
-    let v = s.used_is in
-    let stop = s.begun.stop (omega arith) in
-    let z : 0 + here.begun ≡ here.begun = omega arith in
-    let e = rw z at (ends_past b here.place 0 here.begun p.low p.high es p.says.say_entries p.order (omega arith)) in
-    chain_not_reached f (past_entries p.low es) p.high more p.rest_order (omega arith)
+  more_left : here.next ≢ 0 → IsTree b levels (rest_of c.left)
+  more_left n = here_top.rest (node_there (rest_of c.left) (λ z. n (next_link ∙ z)))
 
-no_more : (b : List ℕ) (levels room f : ℕ) (es : Entries) (more : Nodes) (here : Spot) → AreTiles b 8 (length b) (tiles b) → IsTree b levels (node here.place room es more) → SeesNode b here.place f here → here.next ≡ 0 → chain_reaches f more ≡ false
-unfolding HasNodes nodes_of
-no_more b levels room f es no_node here tiled t s e = refl
-no_more b zero room f es (node place room' es' more) here tiled t s e = absurd t.stands.has
-no_more b (suc levels) room f es (node place room' es' more) here tiled t s e =
-    let p = tree_parts b levels here.place room es (node place room' es' more) t in
-    let q : place ≡ 0 = sym p.says.next_is ∙ sym s.next_is ∙ e in
-    absurd (no_zero b (tiles b) (suc levels) (node place room' es' more) tiled (p.rest tt).stands.has (inl (sym q)))
+  -- the next node of the chain
+  pub next_tree : here.next ≢ 0 → SomeNode b here.next
+  next_tree n = let t = more_left n in record { levels = levels; nodes = rest_of c.left; tiled = tiled; stands = t.stands; is_node = t.is_node; link = next_link }
 
-spot_by : (b : List ℕ) (f turn levels : ℕ) (nodes : Nodes) (best here : Spot) (c : ChainAt b f turn levels nodes best here) → chain_reaches f c.more ≡ false → SpotIs b f levels nodes best
-spot_by b f turn levels nodes best here c none = record {
-  sees = c.best_sees;
-  among = c.among;
-  down = c.down;
-  low = c.low;
-  lower_is = c.lower_is;
-  fewer = c.fewer;
-  below = c.below;
-  leads = c.leads;
-  way_is = c.way_is.1 none;
-  end_is = c.end_is.1 none;
-}
+  pub better_chain : (next best' : Spot) → here.next ≢ 0 → SeesNode b here.next f next → (0 < next.begun → best' ≡ next) → (next.begun ≡ 0 → best' ≡ best) → ChainAt b f (turn + 1) levels nodes best' next
+  better_chain next best' n s taken kept =
+      let there = rest_of c.left in
+      let t = more_left n in
+      let p = top b levels there t in
+      let sees = subst (λ (x : ℕ). SeesNode b x f next) next_link s in
+      let begun = counted_begun b (link_to there) f next.begun (entries_of there) sees.begun p.used_is p.stand.left.say in
+      let reached = reached_is f p.low p.high (entries_of there) p.stand.order in
+      let on = c.route_is ∙ route_on f c.best_of there t.is_node in
+      let fewer : length (nodes_of there) + (turn + 1) ≤ length (nodes_of nodes) = omega (arith, c.fewer, here_top.nodes_left) in
+      elim (either (reaches f (entries_of there))) [
+        | inl r ↦ let e = taken (grind (arith, nat_tests, begun, reached, r)) in record { left = there; tree = t; sees = sees; best_of = there; best_tree = t; best_sees = subst (SeesNode b (link_to there) f) (sym e) sees; route_is = rw r at on; fewer = fewer }
+        | inr r ↦ let e = kept (grind (arith, nat_tests, begun, reached, r)) in record { left = there; tree = t; sees = sees; best_of = c.best_of; best_tree = c.best_tree; best_sees = subst (SeesNode b (link_to c.best_of) f) (sym e) c.best_sees; route_is = rw r at on; fewer = fewer }
+      ]
 
-spot_past : (b : List ℕ) (f turn levels : ℕ) (nodes : Nodes) (best here : Spot) → AreTiles b 8 (length b) (tiles b) → ChainAt b f turn levels nodes best here → here.begun < here.used → SpotIs b f levels nodes best
-spot_past b f turn levels nodes best here tiled c lt = spot_by b f turn levels nodes best here c (chain_over b f levels c.room c.es c.more here tiled c.tree c.sees lt)
+  -- ---- the chain is over, or its other entries are past the record
 
-spot_last : (b : List ℕ) (f turn levels : ℕ) (nodes : Nodes) (best here : Spot) → AreTiles b 8 (length b) (tiles b) → ChainAt b f turn levels nodes best here → here.next ≡ 0 → SpotIs b f levels nodes best
-spot_last b f turn levels nodes best here tiled c e = spot_by b f turn levels nodes best here c (no_more b levels c.room f c.es c.more here tiled c.tree c.sees e)
+  link_there : (levels : ℕ) (ns : Nodes) → IsTree b levels ns → link_to ns ≢ 0
+  unfolding nodes_of
+  link_there levels no_node t e = t.is_node
+  link_there levels (node place room es more) t e = no_zero b (tiles b) levels (node place room es more) tiled t.stands.has (inl (sym e))
 
-pub spot_found : (b : List ℕ) (f turn levels : ℕ) (nodes : Nodes) (best here : Spot) → AreTiles b 8 (length b) (tiles b) → ChainAt b f turn levels nodes best here → (here.begun < here.used) ⊎ (here.next ≡ 0) → SpotIs b f levels nodes best
-spot_found b f turn levels nodes best here tiled c (inl lt) = spot_past b f turn levels nodes best here tiled c lt
-spot_found b f turn levels nodes best here tiled c (inr e) = spot_last b f turn levels nodes best here tiled c e
+  no_more : (ns : Nodes) → (IsNode ns → IsTree b levels ns) → link_to ns ≡ 0 → chain_reaches f ns ≡ false
+  no_more no_node t e = refl
+  no_more (node place room es more) t e = absurd (link_there levels (node place room es more) (t tt) e)
 
-no_levels : (b : List ℕ) (place room : ℕ) (es : Entries) (more : Nodes) → IsTree b 0 (node place room es more) → ⊥
-unfolding HasNodes
-no_levels b place room es more t = t.stands.has
+  over : (here.begun < here.used) ⊎ (here.next ≡ 0) → chain_reaches f (rest_of c.left) ≡ false
+  over (inl lt) =
+      let u = here_top.used_is in
+      let begun = counted_begun b (link_to c.left) f here.begun (entries_of c.left) c.sees.begun here_top.used_is here_top.stand.left.say in
+      chain_not_reached f (past_entries here_top.low (entries_of c.left)) here_top.high (rest_of c.left) here_top.order (ends_past f here_top.low here_top.high (entries_of c.left) here_top.stand.order (omega (arith, begun, c.sees.used_is)))
+  over (inr e) = no_more (rest_of c.left) here_top.rest (sym next_link ∙ e)
 
--- the next node of the chain
-pub next_tree : (b : List ℕ) (f turn levels : ℕ) (nodes : Nodes) (best here : Spot) → AreTiles b 8 (length b) (tiles b) → ChainAt b f turn levels nodes best here → here.next ≢ 0 → SomeNode b here.next
-next_tree b f turn zero nodes best here tiled c n = absurd (no_levels b here.place c.room c.es c.more c.tree)
-next_tree b f turn (suc levels) nodes best here tiled c n =
-    let p = tree_parts b levels here.place c.room c.es c.more c.tree in
-    let e : here.next ≡ link_to c.more = c.sees.next_is ∙ p.says.next_is in
-    let is = node_there c.more (λ z. n (e ∙ z)) in
-    record { levels = suc levels; nodes = c.more; tiled = tiled; stands = (p.rest is).stands; is_node = is; link = e }
+  best_top : Top b levels c.best_of
+  best_top = top b levels c.best_of c.best_tree
 
-chain_on : (b : List ℕ) (f turn levels : ℕ) (nodes : Nodes) (best here next : Spot) → AreTiles b 8 (length b) (tiles b) → (c : ChainAt b f turn (suc levels) nodes best here) → (place room : ℕ) (es : Entries) (more : Nodes) → c.more ≡ node place room es more → SeesNode b here.next f next
-    → (0 < next.begun → ChainAt b f (turn + 1) (suc levels) nodes next next) × (next.begun ≡ 0 → ChainAt b f (turn + 1) (suc levels) nodes best next)
-unfolding nodes_of way spot
-chain_on b f turn levels nodes best here next tiled c place room es more is s =
-    let p = tree_parts b levels here.place c.room c.es c.more c.tree in
-    let some : IsNode c.more = subst IsNode (sym is) tt in
-    let e : here.next ≡ place = c.sees.next_is ∙ p.says.next_is ∙ ap link_to is in
-    let q : next.place ≡ place = s.place_is ∙ e in
-    let own = own_place b f here.next next s in
-    let t : IsTree b (suc levels) (node place room es more) = subst (λ (x : Nodes). IsTree b (suc levels) x) is (p.rest some) in
-    let next_tree : IsTree b (suc levels) (node next.place room es more) = subst (λ (x : ℕ). IsTree b (suc levels) (node x room es more)) (sym q) t in
-    let h = here_is b f levels place room es more next tiled t (subst (λ (x : ℕ). SeesNode b x f next) e s) in
-    let inside : (m : ℕ) → In m (nodes_of (node next.place room es more)) → In m (nodes_of nodes) = λ m i. c.within m (inr (In-append_right m (lower_nodes c.es) (nodes_of c.more) (subst (λ (x : Nodes). In m (nodes_of x)) (sym is) (subst (λ (x : ℕ). In m (nodes_of (node x room es more))) q i)))) in
-    let many : length (nodes_of c.more) ≡ length (nodes_of (node next.place room es more)) = ap (λ (x : Nodes). length (nodes_of x)) is in
-    let la = length-append (lower_nodes c.es) (nodes_of c.more) in
-    let fewer_left : length (nodes_of (node next.place room es more)) + (turn + 1) ≤ length (nodes_of nodes) = omega (arith, c.left, la, many) in
-    let there : (g : Bool) → chain_reaches f (node place room es more) ≡ g → chain_reaches f c.more ≡ g = λ g r. ap (chain_reaches f) is ∙ r in
-    let same_way : way f c.more ≡ way f (node place room es more) = ap (way f) is in
-    let same_end : spot f c.more ≡ spot f (node place room es more) = ap (spot f) is in (
-      (λ begun. (let r = h.reached begun in
-          let all : chain_reaches f (node place room es more) ≡ true = rw r refl in
-          record {
-            room = room;
-            es = es;
-            more = more;
-            tree = next_tree;
-            sees = own;
-            best_sees = own;
-            among = inside next.place (inl refl);
-            down = levels;
-            low = h.low;
-            lower_is = h.lower_is;
-            fewer = λ x. omega arith;
-            below = h.below;
-            leads = h.leads;
-            way_is = ((λ u. c.way_is.0 (there true all) ∙ same_way ∙ rw u refl), λ u. c.way_is.0 (there true all) ∙ same_way ∙ h.way_is u);
-            end_is = ((λ u. c.end_is.0 (there true all) ∙ same_end ∙ rw u refl), λ u. c.end_is.0 (there true all) ∙ same_end ∙ h.end_is u);
-            within = inside;
-            left = fewer_left;
-          })),
-      λ none. (let r = h.not_reached none in
-          record {
-            room = room;
-            es = es;
-            more = more;
-            tree = next_tree;
-            sees = own;
-            best_sees = c.best_sees;
-            among = c.among;
-            down = c.down;
-            low = c.low;
-            lower_is = c.lower_is;
-            fewer = c.fewer;
-            below = c.below;
-            leads = c.leads;
-            way_is = ((λ u. (let all : chain_reaches f (node place room es more) ≡ true = rw (r, u) refl in c.way_is.0 (there true all) ∙ same_way ∙ rw u refl)), λ u. (let all : chain_reaches f (node place room es more) ≡ false = rw (r, u) refl in c.way_is.1 (there false all)));
-            end_is = ((λ u. (let all : chain_reaches f (node place room es more) ≡ true = rw (r, u) refl in c.end_is.0 (there true all) ∙ same_end ∙ rw u refl)), λ u. (let all : chain_reaches f (node place room es more) ≡ false = rw (r, u) refl in c.end_is.1 (there false all)));
-            within = inside;
-            left = fewer_left;
-          }),
-    )
+  abbrev es : Entries
+  es = entries_of c.best_of
 
-record NodeParts (ns : Nodes) : Type 0 where
-  pub place : ℕ
-  pub room : ℕ
-  pub es : Entries
-  pub more : Nodes
-  pub is : ns ≡ node place room es more
+  abbrev low : Nodes
+  low = lead f no_node es
 
-parts_of : (ns : Nodes) → link_to ns ≢ 0 → NodeParts ns
-parts_of no_node x = absurd (x refl)
-parts_of (node place room es more) x = record { place = place; room = room; es = es; more = more; is = refl }
+  begun_best : best.begun ≡ begun_in f es
+  begun_best = counted_begun b (link_to c.best_of) f best.begun es c.best_sees.begun best_top.used_is best_top.stand.left.say
 
-module _ (b : List ℕ) (f turn levels : ℕ) (nodes : Nodes) (best here next : Spot) (tiled : AreTiles b 8 (length b) (tiles b)) (c : ChainAt b f turn levels nodes best here) (some : here.next ≢ 0) (s : SeesNode b here.next f next) where
-  both : (ls : ℕ) → levels ≡ ls → (0 < next.begun → ChainAt b f (turn + 1) levels nodes next next) × (next.begun ≡ 0 → ChainAt b f (turn + 1) levels nodes best next)
-  both zero e = absurd (no_levels b here.place c.room c.es c.more (subst (λ (x : ℕ). IsTree b x (node here.place c.room c.es c.more)) e c.tree))
-  both (suc ls) e =
-      let c' : ChainAt b f turn (suc ls) nodes best here = subst (λ (x : ℕ). ChainAt b f turn x nodes best here) e c in
-      let p = tree_parts b ls here.place c'.room c'.es c'.more c'.tree in
-      let q = parts_of c'.more (λ z. some (c'.sees.next_is ∙ p.says.next_is ∙ z)) in
-      let r = chain_on b f turn ls nodes best here next tiled c' q.place q.room q.es q.more q.is s in
-      ((λ lt. subst (λ (x : ℕ). ChainAt b f (turn + 1) x nodes next next) (sym e) (r.0 lt)), λ z. subst (λ (x : ℕ). ChainAt b f (turn + 1) x nodes best next) (sym e) (r.1 z))
+  led_best : Below b best_top.levels_below (link_to c.best_of) best.begun low
+  led_best = subst (λ (n : ℕ). Below b best_top.levels_below (link_to c.best_of) n low) (omega (arith, begun_best)) (below b f best_top.levels_below (link_to c.best_of) 0 best_top.low best_top.high no_node es best_top.stand (record { link = refl; tree = λ x. absurd x }))
 
-  pub chain_taken : 0 < next.begun → ChainAt b f (turn + 1) levels nodes next next
-  chain_taken lt = (both levels refl).0 lt
+  out : (ns : Nodes) → leads_down f false es ≡ is_some ns → best.lower ≡ link_to ns → (IsNode ns → link_to ns ≢ 0) → (is_some ns ≡ true → LedBy f es ns) → route_here f c.best_of ≡ (way_from f best ns, end_from f best ns)
+  out no_node d e n w = rw (d, e) (ap (λ (x : ℕ). ([], x)) (sym c.best_sees.place_is))
+  out (node place room fs more) d e n w = let t = ne_eqb best.lower 0 (λ z. n tt (sym e ∙ z)) in let r = w refl in rw (d, t) (grind (arith, r.way_is, r.spot_is, r.entry_is, c.best_sees.place_is, begun_best))
 
-  pub chain_passed : next.begun ≡ 0 → ChainAt b f (turn + 1) levels nodes best next
-  chain_passed z = (both levels refl).1 z
+  among : IsTree b levels nodes → route f nodes ≡ route_here f c.best_of → In best.place (nodes_of nodes)
+  among t r = subst (λ (x : ℕ). In x (nodes_of nodes)) (sym c.best_sees.place_is) (elim (either (leads_down f false es)) [
+    | inl d ↦ let e : way f nodes ≡ (link_to c.best_of, down_at f es) ∷ way_below f es = ap (λ (x : Route). x.0) r ∙ rw d refl in (rw e at (way_in f t.from t.upto nodes t.order).0).0
+    | inr d ↦ let e : spot f nodes ≡ link_to c.best_of = ap (λ (x : Route). x.1) r ∙ rw d refl in elim (way_in f t.from t.upto nodes t.order).1 [ inl z ↦ absurd (link_there levels c.best_of c.best_tree (sym e ∙ z)) | inr i ↦ subst (λ (x : ℕ). In x (nodes_of nodes)) e i ]
+  ])
 
--- ---- fuel
+  pub spot_found : IsTree b levels nodes → (here.begun < here.used) ⊎ (here.next ≡ 0) → SpotIs b f levels nodes best
+  spot_found t o =
+      let none = over o in
+      let here_route : route f nodes ≡ route_here f c.best_of = c.route_is ∙ rw none refl in
+      let place = c.best_sees.place_is in
+      let lower = c.best_sees.lower_is ∙ led_best.link in
+      let tree : best.lower ≢ 0 → IsTree b best_top.levels_below low = λ x. led_best.tree (node_there low (λ z. x (lower ∙ z))) in
+      let begun : is_some low ≡ true → 0 < begun_in f es = λ t. grind (arith, nat_tests, lead_none f no_node es, t) in
+      let all = here_route ∙ out low (leads b (tiles b) best_top.levels_below f no_node es best_top.stand.left.names) lower (λ is. link_there best_top.levels_below low (led_best.tree is)) (λ t. led f best_top.low best_top.high no_node es best_top.stand.order (begun t) t) in
+      record {
+        sees = subst (λ (x : ℕ). SeesNode b x f best) (sym place) c.best_sees;
+        among = among t here_route;
+        down = best_top.levels_below;
+        low = low;
+        lower_is = lower;
+        fewer = λ x. best_top.fewer;
+        below = tree;
+        leads = λ x. rw begun_best (begun (some_node low (node_there low (λ z. x (lower ∙ z)))));
+        way_is = ap (λ (r : Route). r.0) all;
+        end_is = ap (λ (r : Route). r.1) all;
+      }
 
-pub few : (b : List ℕ) (levels : ℕ) (nodes : Nodes) → AreTiles b 8 (length b) (tiles b) → IsTree b levels nodes → length (nodes_of nodes) < length b
-few b levels nodes tiled t =
-    let le = length-le_from_distinct (nodes_of nodes) (tiles b) t.once (λ m j. linkable-in b (tiles b) vxr_type m (nodes_stand b (tiles b) levels nodes t.stands.has m j)) in
-    omega (arith, le, length_tiles b 8 (length b) (tiles b) tiled)
+  pub best_node : SomeNode b best.place
+  best_node = record { levels = levels; nodes = c.best_of; tiled = tiled; stands = c.best_tree.stands; is_node = c.best_tree.is_node; link = c.best_sees.place_is }
 
-pub spot_never : (b : List ℕ) (f turn levels : ℕ) (nodes : Nodes) (best here : Spot) → AreTiles b 8 (length b) (tiles b) → IsTree b levels nodes → ChainAt b f turn levels nodes best here → length b ≤ turn → ⊥
-spot_never b f turn levels nodes best here tiled t c le = let n = few b levels nodes tiled t in let l = c.left in absurd (omega arith)
-
--- what holds of the node that is met now, where it has such an entry, and else of the best one so far
-pub better_of : {S : Type 0} (P : S → Type 0) {best next best' : S} (begun : ℕ) → (0 < begun → best' ≡ next) → (begun ≡ 0 → best' ≡ best) → (0 < begun → P next) → (begun ≡ 0 → P best) → P best'
-better_of P zero taken kept n o = subst P (sym (kept refl)) (o refl)
-better_of P (suc k) taken kept n o = let lt : 0 < suc k = omega arith in subst P (sym (taken lt)) (n lt)
-
-pub better_chain : (b : List ℕ) (f turn levels : ℕ) (nodes : Nodes) (best here next best' : Spot) → AreTiles b 8 (length b) (tiles b) → ChainAt b f turn levels nodes best here → here.next ≢ 0 → SeesNode b here.next f next → (0 < next.begun → best' ≡ next) → (next.begun ≡ 0 → best' ≡ best) → ChainAt b f (turn + 1) levels nodes best' next
-better_chain b f turn levels nodes best here next best' tiled c some s taken kept = better_of (λ (x : Spot). ChainAt b f (turn + 1) levels nodes x next) next.begun taken kept (chain_taken b f turn levels nodes best here next tiled c some s) (chain_passed b f turn levels nodes best here next tiled c some s)
+  pub spot_never : IsTree b levels nodes → length b ≤ turn → ⊥
+  spot_never t le =
+      let few = length-le_from_distinct (nodes_of nodes) (tiles b) t.once (λ m j. linkable-in b (tiles b) vxr_type m (nodes_stand b (tiles b) levels nodes t.stands.has m j)) in
+      let left = here_top.nodes_left in
+      absurd (omega (arith, few, length_tiles b 8 (length b) (tiles b) tiled, c.fewer))

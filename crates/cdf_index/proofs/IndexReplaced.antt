@@ -1,16 +1,10 @@
 -- The index of one variable becomes another one: a sound image stays sound, and every other owner is as before.
-use Rattle.std.proofs.Common.{◌≡◌, ◌⊎◌, ℕ, ◌+◌, ◌≤◌, List, [], ◌∷◌, ◌++◌, length, true, sym, ap, subst, ◌∙◌, arith, inl, inr}
-use Rattle.cdf_index.proofs.Common.{flat_map, VariableFits, IsSound, is_a, number, Nodes, VariableShape, Shape, variables, Each, HasVariable, In, AreTiles, In-append, In-append_left, In-append_right, linkable-in, Each-split, Each-append, Kept, SameHeads}
-use Rattle.cdf_edits.specs.Frame.Leaves.{ChangedWithin, FileStays, Leaves}
-use Rattle.cdf_format.specs.Chains.{IsChain}
-use Rattle.cdf_format.specs.Owners.{times, attribute_records, variable_records, unused_records, owned_records}
-use Rattle.cdf_format.specs.Records.{gdr_r_vdr_head, gdr_z_vdr_head}
-use Rattle.cdf_format.specs.RecordTypes.{cdr_type, gdr_type, adr_type, r_vdr_type, z_vdr_type, cpr_type}
-use Rattle.cdf_format.specs.Shape.{HasShape}
-use Rattle.cdf_format.proofs.Owning.{attributes_in}
-use Rattle.cdf_edits.proofs.Frame.Meaning.{FileSame}
+use Rattle.std.proofs.Common.{◌≡◌, ℕ, ◌+◌, ◌≤◌, List, [], ◌∷◌, ◌++◌, length, true, sym, ap, subst, ◌∙◌, arith, inl, inr}
+use Rattle.cdf_edits.proofs.Common.{ChangedWithin, FileStays, Leaves, IsChain, times, variable_records, unused_records, owned_records, gdr_r_vdr_head, gdr_z_vdr_head, cdr_type, gdr_type, adr_type, r_vdr_type, z_vdr_type, cpr_type, HasShape, attributes_in}
+use Rattle.cdf_edits.proofs.Edits.Common.{FileSame}
+use Rattle.cdf_index.proofs.Common.{flat_map, VariableFits, IsSound, is_a, number, Nodes, VariableShape, Shape, variables, Each, HasVariable, In, AreTiles, linkable-in, Each-split, Each-append, Kept, SameHeads}
 use Rattle.cdf_edits.proofs.Frame.OwnerAlone.{heads, stays}
-use Rattle.cdf_edits.proofs.Frame.OwnersApart.{flat-append, times-append, times-in, owned-times, file_records, all_attribute_records, all_variable_records, vdrs_stand, file_same_is, gdr_room, variable_alone}
+use Rattle.cdf_edits.proofs.Frame.OwnersApart.{flat-append, times-append, times-in, in-times, owned-times, file_records, all_attribute_records, all_variable_records, vdrs_stand, file_same_is, gdr_room, variable_alone}
 use Rattle.cdf_edits.proofs.Frame.SoundStays.{attributes_fit_kept, variables_fit_kept, unused_kept}
 use Rattle.cdf_edits.proofs.Frame.FileSound.{variables_stand}
 use Rattle.cdf_edits.proofs.Frame.SameShape.{same_attributes, same_variables, has_entries, has_variables, is_a_kept, typed_kept, fixed_kept}
@@ -37,31 +31,19 @@ module _ (b now : List ℕ) (s : Shape) (before : List VariableShape) (v : Varia
   parts' m = ap (λ (x : List VariableShape). times m (flat_map variable_records x)) shaped.is ∙ times-parts variable_records m before (with_index v index) after
 
   limit : (m : ℕ) → times m (file_records s) + (times m (all_attribute_records s) + (times m (all_variable_records s) + times m (unused_records b s))) ≤ 1
-  limit m = subst (λ (n : ℕ). n ≤ 1) (owned-times b s m) (sound.not_twice m)
+  limit m = rw owned-times at (sound.not_twice m)
 
-  not_both : (o f a w u x y : ℕ) → f + (a + (w + u)) ≤ 1 → w ≡ x + (o + y) → 1 ≤ o → (1 ≤ f) ⊎ ((1 ≤ a) ⊎ (1 ≤ x + y)) → ⊥
-  not_both o f a w u x y l e p (inl q) = absurd (omega arith)
-  not_both o f a w u x y l e p (inr (inl q)) = absurd (omega arith)
-  not_both o f a w u x y l e p (inr (inr q)) = absurd (omega arith)
+  others : (m : ℕ) → times m (flat_map variable_records (before ++ after)) ≡ times m (flat_map variable_records before) + times m (flat_map variable_records after)
+  others m = ap (times m) (flat-append variable_records before after) ∙ times-append m (flat_map variable_records before) (flat_map variable_records after)
 
   from_file : (m : ℕ) → In m (file_records s) → In m mine → ⊥
-  from_file m i j = not_both (times m mine) _ _ _ _ _ _ (limit m) (parts m) (times-in m mine j) (inl (times-in m (file_records s) i))
+  from_file m i j = absurd (omega (arith, limit m, parts m, times-in m mine j, times-in m (file_records s) i))
 
-  from_attributes : (m : ℕ) → In m (flat_map attribute_records s.attributes) → In m mine → ⊥
-  from_attributes m i j = not_both (times m mine) _ _ _ _ _ _ (limit m) (parts m) (times-in m mine j) (inr (inl (times-in m (all_attribute_records s) i)))
-
-  from_others : (m : ℕ) → In m (flat_map variable_records (before ++ after)) → In m mine → ⊥
-  from_others m i j =
-      let t = times-in m (flat_map variable_records (before ++ after)) i in
-      let e : times m (flat_map variable_records (before ++ after)) ≡ times m (flat_map variable_records before) + times m (flat_map variable_records after) = ap (times m) (flat-append variable_records before after) ∙ times-append m (flat_map variable_records before) (flat_map variable_records after) in
-      not_both (times m mine) _ _ _ _ _ _ (limit m) (parts m) (times-in m mine j) (inr (inr (subst (λ (n : ℕ). 1 ≤ n) e t)))
-
-  all_stand : (m : ℕ) → In m (flat_map variable_records (variables s)) → In m s.records
-  all_stand = variables_stand b s.records (variables s) (vdrs_stand b s sound) h.have_variables sound.variables_fit
+  stand : (m : ℕ) → 1 ≤ times m (all_variable_records s) → In m s.records
+  stand m some = variables_stand b s.records (variables s) (vdrs_stand b s sound) h.have_variables sound.variables_fit m (in-times m (all_variable_records s) some)
 
   inside : (m : ℕ) → In m mine → In m s.records
-  inside m i = all_stand m (subst (λ (x : List VariableShape). In m (flat_map variable_records x)) (sym shaped.was)
-      (subst (λ (x : List ℕ). In m x) (sym (flat-append variable_records before (v ∷ after))) (In-append_right m (flat_map variable_records before) (mine ++ flat_map variable_records after) (In-append_left m mine (flat_map variable_records after) i))))
+  inside m i = stand m (omega (arith, parts m, times-in m mine i))
 
   all : (m : ℕ) → In m s.records → In m s.records
   all m i = i
@@ -82,14 +64,9 @@ module _ (b now : List ℕ) (s : Shape) (before : List VariableShape) (v : Varia
   old_fits = let p = Each-split (VariableFits b s.records) before (v ∷ after) (subst (Each (VariableFits b s.records)) shaped.was sound.variables_fit) in (p.0, p.1.0, p.1.1)
 
   others_fit : Each (VariableFits now s.records) (before ++ after)
-  others_fit = variables_fit_kept b now s.records s.records file same (before ++ after) (λ m i. kept m (all_stand m (of_all m i)) (from_others m i)) (Each-append (VariableFits b s.records) before after old_fits.0 old_fits.2)
-    where
-      of_all : (m : ℕ) → In m (flat_map variable_records (before ++ after)) → In m (flat_map variable_records (variables s))
-      of_all m i = subst (λ (x : List VariableShape). In m (flat_map variable_records x)) (sym shaped.was) (subst (λ (x : List ℕ). In m x) (sym (flat-append variable_records before (v ∷ after)))
-          (elim (In-append m (flat_map variable_records before) (flat_map variable_records after) (subst (λ (x : List ℕ). In m x) (flat-append variable_records before after) i)) [
-            | inl j ↦ In-append_left m (flat_map variable_records before) (mine ++ flat_map variable_records after) j
-            | inr j ↦ In-append_right m (flat_map variable_records before) (mine ++ flat_map variable_records after) (In-append_right m mine (flat_map variable_records after) j)
-          ]))
+  others_fit = variables_fit_kept b now s.records s.records file same (before ++ after)
+      (λ m i. (let other = times-in m (flat_map variable_records (before ++ after)) i in kept m (stand m (omega (arith, parts m, others m, other))) (λ j. absurd (omega (arith, limit m, parts m, times-in m mine j, others m, other)))))
+      (Each-append (VariableFits b s.records) before after old_fits.0 old_fits.2)
 
   cprs_stay : (cs : List ℕ) → Each (λ (cpr : ℕ). is_a b s.records cpr_type cpr ≡ true) cs → Each (λ (cpr : ℕ). is_a now s.records cpr_type cpr ≡ true) cs
   cprs_stay [] e = tt
@@ -118,27 +95,17 @@ module _ (b now : List ℕ) (s : Shape) (before : List VariableShape) (v : Varia
       }
 
   -- nothing is owned twice
-  fewer : (f a w w' u x y o o' : ℕ) → f + (a + (w + u)) ≤ 1 → w ≡ x + (o + y) → w' ≡ x + (o' + y) → o' ≤ o → f + (a + (w' + u)) ≤ 1
-  fewer f a w w' u x y o o' l e e' le = omega arith
-
-  fresh : (t f a w w' u x y o o' : ℕ) → t ≡ f + (a + (w + u)) → t ≡ 0 → w ≡ x + (o + y) → w' ≡ x + (o' + y) → o' ≤ 1 → f + (a + (w' + u)) ≤ 1
-  fresh t f a w w' u x y o o' i z e e' le = omega arith
-
   once : (m : ℕ) → times m (owned_records now s') ≤ 1
   once m =
-      let u : unused_records now s' ≡ unused_records b s = unused_kept b now s same.types in
-      let step : times m (file_records s) + (times m (all_attribute_records s) + (times m (all_variable_records s') + times m (unused_records b s))) ≤ 1 = elim (new.own m) [
-        | inl le ↦ fewer _ _ _ _ _ _ _ _ _ (limit m) (parts m) (parts' m) le
-        | inr p ↦ fresh _ _ _ _ _ _ _ _ _ _ (owned-times b s m) p.0 (parts m) (parts' m) p.1
-      ] in
-      subst (λ (n : ℕ). n ≤ 1) (sym (owned-times now s' m)) (subst (λ (x : List ℕ). times m (file_records s) + (times m (all_attribute_records s) + (times m (all_variable_records s') + times m x)) ≤ 1) (sym u) step)
+      let u : times m (unused_records now s') ≡ times m (unused_records b s) = ap (times m) (unused_kept b now s same.types) in
+      elim (new.own m) [ inl le ↦ omega (arith, limit m, parts m, parts' m, owned-times now s' m, u) | inr p ↦ omega (arith, owned-times b s m, p.0, p.1, parts m, parts' m, owned-times now s' m, u) ]
 
   pub index_replaced : IsReplaced b now s (with_variables s rs zs) (before ++ after)
   index_replaced = record {
     sound = record {
       has_shape = shape_now;
       gdr_fits = gdr_room b s sound now mine change inside from_file s.records all;
-      attributes_fit = attributes_fit_kept b now s.records s.records file same s.attributes (λ m i. kept m (attributes_in b s.records s.attributes h.entry_chains (λ k j. linkable-in b s.records adr_type k (h.attribute_chain.linkable k j)) m i) (from_attributes m i)) sound.attributes_fit;
+      attributes_fit = attributes_fit_kept b now s.records s.records file same s.attributes (λ m i. kept m (attributes_in b s.records s.attributes h.entry_chains (λ k j. linkable-in b s.records adr_type k (h.attribute_chain.linkable k j)) m i) (λ j. absurd (omega (arith, limit m, parts m, times-in m mine j, times-in m (all_attribute_records s) i)))) sound.attributes_fit;
       variables_fit = with_it (VariableFits now s.records) others_fit (new.vdr_fits, new.nodes_fit, new.leaves_fit, cprs_stay v.cpr old_fits.1.3);
       not_twice = once;
     };

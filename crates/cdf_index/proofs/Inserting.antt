@@ -1,6 +1,7 @@
 -- An entry more in a node: those behind it stand one further.
-use Rattle.std.proofs.Common.{◌≡◌, ◌≢◌, ℕ, suc, ◌+◌, ◌-◌, ◌*◌, ◌^◌, ◌<◌, ◌≤◌, inl, inr, List, [], ◌∷◌, length, refl, sym, subst, ◌∙◌, arith}
+use Rattle.std.proofs.Common.{◌≡◌, ◌≢◌, ℕ, suc, ◌+◌, ◌-◌, ◌*◌, ◌<◌, ◌≤◌, inl, inr, List, [], ◌∷◌, length, refl, sym, subst, ◌∙◌, arith}
 use Rattle.cdf_index.proofs.Common.{cases_eq, image_limit, Changed, touch, word, number, with_field, size_at, room_at, used_count, SaysEntry, vxr_n_used_entries, NodeInside, StillSays, EntrySet, Inserted}
+use Rattle.cdf_edits.specs.Frame.Changed.{Touch}
 use Rattle.cdf_format.proofs.BytesLemmas.{word-same}
 use Rattle.cdf_index.proofs.FieldSet.{FieldSet, field_set, changed_again, changed_wider, counts, node_head, node_small, used_by_count, size_beside, room_beside, entries_beside}
 
@@ -9,15 +10,15 @@ use Rattle.cdf_index.proofs.FieldSet.{FieldSet, field_set, changed_again, change
 pub front_stays : (b now : List ℕ) (at from n : ℕ) → Changed b now (touch at from n ∷ []) → at + from ≤ length b → (o m : ℕ) → o + m ≤ from → word now (at + o) m ≡ word b (at + o) m
 front_stays b now at from n c room o m le = word-same b now (at + o) m (record { each = λ i l h. c.same i (omega arith) (inl (omega arith), tt) })
 
+pub room_stays : (b now : List ℕ) (at n : ℕ) → Changed b now (touch at 28 n ∷ []) → at + 28 ≤ length b → room_at now at ≡ room_at b at
+room_stays b now at n c room = front_stays b now at 28 n c room 20 4 (omega arith)
+
 pub used_stays : (b now : List ℕ) (at n : ℕ) → Changed b now (touch at 28 n ∷ []) → at + 28 ≤ length b → used_count now at ≡ used_count b at
 used_stays b now at n c room =
     let u = front_stays b now at 28 n c room 24 4 (omega arith) in
-    let r = front_stays b now at 28 n c room 20 4 (omega arith) in
+    let r = room_stays b now at n c room in
     let s = front_stays b now at 28 n c room 0 8 (omega arith) in
     λ i. counts (u i) (r i) (s i)
-
-pub room_stays : (b now : List ℕ) (at n : ℕ) → Changed b now (touch at 28 n ∷ []) → at + 28 ≤ length b → room_at now at ≡ room_at b at
-room_stays b now at n c room = front_stays b now at 28 n c room 20 4 (omega arith)
 
 pub inside_stays : (b now : List ℕ) (at n : ℕ) → Changed b now (touch at 28 n ∷ []) → length now ≡ length b → NodeInside b at → NodeInside now at
 inside_stays b now at n c long i =
@@ -25,12 +26,45 @@ inside_stays b now at n c long i =
     let r = room_stays b now at n c h in
     let u = used_stays b now at n c h in
     let s : size_at now at ≡ size_at b at = front_stays b now at 28 n c h 0 8 (omega arith) in
+    record { low = i.low; inside = omega (arith, i.inside); room = omega (arith, i.room); entries = omega (arith, i.entries); fits = omega (arith, i.fits) }
+
+-- what one more entry leaves, where entries of a node alone were written before
+pub record SetMore (b mid now : List ℕ) (at i : ℕ) : Type 0 where
+  pub as_long : length now ≡ length b
+  pub changed : Changed b now (touch at 28 (16 * room_at b at) ∷ [])
+  pub others : (j : ℕ) → j < room_at b at → j ≢ i → StillSays mid now at j j
+
+pub set_more : {b mid now : List ℕ} {at i first last offset : ℕ} → NodeInside b at → length mid ≡ length b → Changed b mid (touch at 28 (16 * room_at b at) ∷ []) → EntrySet mid now at i first last offset → SetMore b mid now at i
+set_more {b = b} {mid = mid} {now = now} {at = at} inside long c set =
+    let room = room_stays b mid at (16 * room_at b at) c (node_head inside) in
+    record { as_long = set.as_long ∙ long; changed = changed_again c long (subst (λ (x : ℕ). Changed mid now (touch at 28 (16 * x) ∷ [])) room set.changed); others = λ j lt. set.others j (omega arith) }
+
+-- and the count behind them
+pub record CountSet (b mid now : List ℕ) (at n : ℕ) : Type 0 where
+  pub as_long : length now ≡ length b
+  pub changed : Changed b now (touch at 24 (4 + 16 * room_at b at) ∷ [])
+  pub size_is : size_at now at ≡ size_at b at
+  pub room_is : room_at now at ≡ room_at b at
+  pub count_is : number now at vxr_n_used_entries ≡ n
+  pub used_is : used_count now at ≡ n
+  pub entries : (i : ℕ) → StillSays mid now at i i
+
+pub count_set : {b mid now : List ℕ} {at n : ℕ} → NodeInside b at → length b ≤ image_limit → length mid ≡ length b → Changed b mid (touch at 28 (16 * room_at b at) ∷ []) → n ≤ room_at b at → now ≡ with_field mid at vxr_n_used_entries n → CountSet b mid now at n
+count_set {b = b} {mid = mid} {now = now} {at = at} {n = n} inside short long c few is =
+    let head = node_head inside in
+    let small = node_small inside short in
+    let set : FieldSet mid now at vxr_n_used_entries n = field_set (omega arith) is in
+    let size = size_beside set (omega arith) (omega arith) (inr (omega arith)) ∙ front_stays b mid at 28 (16 * room_at b at) c head 0 8 (omega arith) in
+    let room = room_beside set (omega arith) (omega arith) (inr (omega arith)) ∙ room_stays b mid at (16 * room_at b at) c head in
+    let count = set.reads (omega arith) in
     record {
-      low = i.low;
-      inside = subst (λ (x : ℕ). at + size_at now at ≤ x) (sym long) (subst (λ (x : ℕ). at + x ≤ length b) (sym s) i.inside);
-      room = subst (λ (x : ℕ). at + (28 + 16 * room_at now at) ≤ x) (sym long) (subst (λ (x : ℕ). at + (28 + 16 * x) ≤ length b) (sym r) i.room);
-      entries = subst (λ (x : ℕ). 28 + 16 * room_at now at ≤ x) (sym s) (subst (λ (x : ℕ). 28 + 16 * x ≤ size_at b at) (sym r) i.entries);
-      fits = subst (λ (x : ℕ). used_count now at ≤ x) (sym r) (subst (λ (x : ℕ). x ≤ room_at b at) (sym u) i.fits);
+      as_long = set.as_long ∙ long;
+      changed = changed_again (changed_wider 24 (4 + 16 * room_at b at) c (omega arith) (omega arith)) long (changed_wider 24 (4 + 16 * room_at b at) set.changed (omega arith) (omega arith));
+      size_is = size;
+      room_is = room;
+      count_is = count;
+      used_is = used_by_count now inside short count room size few;
+      entries = entries_beside set (omega arith) (omega arith) (inr (omega arith));
     }
 
 -- ---- entries move on, the last one first
@@ -43,106 +77,44 @@ pub record Shifted (b now : List ℕ) (at used moved : ℕ) : Type 0 where
   pub moved_on : (j : ℕ) → used ≤ j + moved → j < used → StillSays b now at j (suc j)
   pub unused : (j : ℕ) → used < j → j < room_at b at → StillSays b now at j j
 
+pub nothing_changed : {b : List ℕ} {ts : List Touch} → Changed b b ts
+nothing_changed = record { longer = omega arith; same = λ i lt o. refl }
+
 pub shift_start : (b : List ℕ) (at used : ℕ) → Shifted b b at used 0
-shift_start b at used = record {
-  as_long = refl;
-  changed = record { longer = omega arith; same = λ i lt o. refl };
-  stay = λ j le f l o s. s;
-  moved_on = λ j le lt f l o s. absurd (no_place used j le lt);
-  unused = λ j lt room f l o s. s;
-}
-  where
-    no_place : (used j : ℕ) → used ≤ j + 0 → j < used → ⊥
-    no_place used j le lt = absurd (omega arith)
+shift_start b at used = record { as_long = refl; changed = nothing_changed; stay = λ j le f l o s. s; moved_on = λ j le lt. absurd (omega arith); unused = λ j lt room f l o s. s }
 
-module _ (b mid now : List ℕ) (at used k first last offset : ℕ) (sh : Shifted b mid at used k) (inside : at + 28 ≤ length b) (room : used < room_at b at) (more : k < used) (read : SaysEntry mid at (used - k - 1) first last offset) (set : EntrySet mid now at (used - k) first last offset) where
-  same_room : room_at mid at ≡ room_at b at
-  same_room = room_stays b mid at (16 * room_at b at) sh.changed inside
+-- what two sayings of one entry have in common
+pub still_it : {b now : List ℕ} {at to i j first last offset : ℕ} → SaysEntry b at i first last offset → SaysEntry now to j first last offset → (f l o : ℕ) → SaysEntry b at i f l o → SaysEntry now to j f l o
+still_it r s f l o t = record { first_is = s.first_is ∙ sym r.first_is ∙ t.first_is; last_is = s.last_is ∙ sym r.last_is ∙ t.last_is; offset_is = s.offset_is ∙ sym r.offset_is ∙ t.offset_is }
 
-  still : (j : ℕ) → j < room_at b at → j ≢ used - k → StillSays mid now at j j
-  still j lt ne = set.others j (subst (λ (x : ℕ). j < x) (sym same_room) lt) ne
-
-  moved_one : (j : ℕ) → j ≡ used - k - 1 → StillSays b now at j (suc j)
-  moved_one j e f l o s =
-      let m : SaysEntry mid at j f l o = sh.stay j (omega arith) f l o s in
-      let r : SaysEntry mid at j first last offset = subst (λ (x : ℕ). SaysEntry mid at x first last offset) (sym e) read in
-      let there : used - k ≡ suc j = omega arith in
-      let ef : first ≡ f = sym r.first_is ∙ m.first_is in
-      let el : last ≡ l = sym r.last_is ∙ m.last_is in
-      let eo : offset ≡ o = sym r.offset_is ∙ m.offset_is in
-      let h : SaysEntry now at (suc j) first last offset = subst (λ (x : ℕ). SaysEntry now at x first last offset) there set.here in
-      record { first_is = h.first_is ∙ ef; last_is = h.last_is ∙ el; offset_is = h.offset_is ∙ eo }
-
-  pub shift_more : Shifted b now at used (k + 1)
-  shift_more = record {
-    as_long = set.as_long ∙ sh.as_long;
-    changed = changed_again sh.changed sh.as_long (subst (λ (x : ℕ). Changed mid now (touch at 28 (16 * x) ∷ [])) same_room set.changed);
-    stay = λ j le f l o s. still j (omega arith) (apart j le) f l o (sh.stay j (omega arith) f l o s);
-    moved_on = λ j le lt. elim (cases_eq j (used - k - 1)) [
-      | inl e ↦ moved_one j e
-      | inr ne ↦ λ f l o s. still (suc j) (omega arith) (later j le lt ne) f l o (sh.moved_on j (far j le ne) lt f l o s)
-    ];
-    unused = λ j lt in_room f l o s. still j in_room (behind j lt) f l o (sh.unused j lt in_room f l o s);
-  }
-    where
-      apart : (j : ℕ) → j + (k + 1) ≤ used → j ≢ used - k
-      apart j le e = absurd (omega arith)
-
-      far : (j : ℕ) → used ≤ j + (k + 1) → j ≢ used - k - 1 → used ≤ j + k
-      far j le ne = omega arith
-
-      later : (j : ℕ) → used ≤ j + (k + 1) → j < used → j ≢ used - k - 1 → suc j ≢ used - k
-      later j le lt ne e = ne (omega arith)
-
-      behind : (j : ℕ) → used < j → j ≢ used - k
-      behind j lt e = absurd (omega arith)
+pub shift_more : {b mid now : List ℕ} {at used k first last offset : ℕ} → Shifted b mid at used k → NodeInside b at → used < room_at b at → k < used → SaysEntry mid at (used - k - 1) first last offset → EntrySet mid now at (used - k) first last offset → Shifted b now at used (k + 1)
+shift_more {used = used} {k = k} sh inside room more read set =
+    let m = set_more inside sh.as_long sh.changed set in
+    record {
+      as_long = m.as_long;
+      changed = m.changed;
+      stay = λ j le f l o s. m.others j (omega arith) (λ e. absurd (omega arith)) f l o (sh.stay j (omega arith) f l o s);
+      moved_on = λ j le lt f l o s. elim (cases_eq j (used - k - 1)) [
+        | inl e ↦ (let there : used - k ≡ suc j = omega arith in rw there at (still_it (rw (← e) at read) set.here f l o (sh.stay j (omega arith) f l o s)))
+        | inr ne ↦ m.others (suc j) (omega arith) (λ e. ne (omega arith)) f l o (sh.moved_on j (omega arith) lt f l o s)
+      ];
+      unused = λ j lt in_room f l o s. m.others j in_room (λ e. absurd (omega arith)) f l o (sh.unused j lt in_room f l o s);
+    }
 
 -- ---- the new entry, and the count
 
-module _ (b mid mid2 now : List ℕ) (at used p first last offset : ℕ) (sh : Shifted b mid at used (used - p)) (inside : NodeInside b at) (short : length b ≤ image_limit) (room : used < room_at b at) (place : p ≤ used) (set : EntrySet mid mid2 at p first last offset)
-    (write : now ≡ with_field mid2 at vxr_n_used_entries (suc used)) where
-  head : at + 28 ≤ length b
-  head = node_head inside
-
-  room1 : room_at mid at ≡ room_at b at
-  room1 = room_stays b mid at (16 * room_at b at) sh.changed head
-
-  changed2 : Changed b mid2 (touch at 28 (16 * room_at b at) ∷ [])
-  changed2 = changed_again sh.changed sh.as_long (subst (λ (x : ℕ). Changed mid mid2 (touch at 28 (16 * x) ∷ [])) room1 set.changed)
-
-  long2 : length mid2 ≡ length b
-  long2 = set.as_long ∙ sh.as_long
-
-  counted_now : FieldSet mid2 now at vxr_n_used_entries (suc used)
-  counted_now = field_set (let h = head in let l = long2 in omega arith) write
-
-  entries_too : (i : ℕ) → StillSays mid2 now at i i
-  entries_too = entries_beside counted_now (omega arith) (omega arith) (inr (omega arith))
-
-  room_is : room_at now at ≡ room_at b at
-  room_is = room_beside counted_now (omega arith) (omega arith) (inr (omega arith)) ∙ room_stays b mid2 at (16 * room_at b at) changed2 head
-
-  kept : (j : ℕ) → j < room_at b at → j ≢ p → StillSays mid now at j j
-  kept j lt ne f l o s = entries_too j f l o (set.others j (subst (λ (x : ℕ). j < x) (sym room1) lt) ne f l o s)
-
-  count_now : number now at vxr_n_used_entries ≡ suc used
-  count_now = counted_now.reads (bits (room_at b at) (node_small inside short) room)
-    where
-      bits : (r : ℕ) → r < 2 ^ 31 → used < r → suc used < 256 ^ 4
-      bits r s h = omega arith
-
-  size_is : size_at now at ≡ size_at b at
-  size_is = size_beside counted_now (omega arith) (omega arith) (inr (omega arith)) ∙ front_stays b mid2 at 28 (16 * room_at b at) changed2 head 0 8 (omega arith)
-
-  pub inserted : Inserted b now at used p first last offset
-  inserted = record {
-    as_long = counted_now.as_long ∙ long2;
-    changed = changed_again (changed_wider 24 (4 + 16 * room_at b at) changed2 (omega arith) (omega arith)) long2 (changed_wider 24 (4 + 16 * room_at b at) counted_now.changed (omega arith) (omega arith));
-    earlier = λ j lt f l o s. kept j (omega arith) (λ e. absurd (omega arith)) f l o (sh.stay j (omega arith) f l o s);
-    here = entries_too p first last offset set.here;
-    later = λ j le lt f l o s. kept (suc j) (omega arith) (λ e. absurd (omega arith)) f l o (sh.moved_on j (omega arith) lt f l o s);
-    unused = λ j lt in_room f l o s. kept j in_room (λ e. absurd (omega arith)) f l o (sh.unused j lt in_room f l o s);
-    room_stays = room_is;
-    used_is = used_by_count now inside short count_now room_is size_is room;
-    count_is = count_now;
-  }
+pub inserted : {b mid mid2 now : List ℕ} {at used p first last offset : ℕ} → Shifted b mid at used (used - p) → NodeInside b at → length b ≤ image_limit → used < room_at b at → p ≤ used → EntrySet mid mid2 at p first last offset → now ≡ with_field mid2 at vxr_n_used_entries (suc used) → Inserted b now at used p first last offset
+inserted {p = p} {first = first} {last = last} {offset = offset} sh inside short room place set write =
+    let m = set_more inside sh.as_long sh.changed set in
+    let c = count_set inside short m.as_long m.changed room write in
+    record {
+      as_long = c.as_long;
+      changed = c.changed;
+      earlier = λ j lt f l o s. c.entries j f l o (m.others j (omega arith) (λ e. absurd (omega arith)) f l o (sh.stay j (omega arith) f l o s));
+      here = c.entries p first last offset set.here;
+      later = λ j le lt f l o s. c.entries (suc j) f l o (m.others (suc j) (omega arith) (λ e. absurd (omega arith)) f l o (sh.moved_on j (omega arith) lt f l o s));
+      unused = λ j lt in_room f l o s. c.entries j f l o (m.others j in_room (λ e. absurd (omega arith)) f l o (sh.unused j lt in_room f l o s));
+      room_stays = c.room_is;
+      used_is = c.used_is;
+      count_is = c.count_is;
+    }

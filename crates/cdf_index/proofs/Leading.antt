@@ -1,30 +1,85 @@
--- The entries of a node, of which so many begin at a record or before it: where they lead to.
-use Rattle.std.proofs.Common.{◌≡◌, ◌≢◌, ℕ, zero, suc, ◌+◌, ◌<◌, ◌≤◌, List, length, Bool, true, false, not, leb, eqb, refl, sym, ap, subst, ◌∙◌, arith}
-use Rattle.cdf_index.proofs.Common.{reaches, leads_down, type_at, Nodes, no_node, Entries, no_entry, block, lower, leaf, entry_count, link_to, first_at, offset_at, IsNode, HasNodes, vxr_type, AreTiles, Distinct, tiles, linkable-in, linkable-type, Distinct-front, Distinct-back, tile_lies, chain_at, IsTree, IsBlock, down_at, way, spot}
+-- The entries of a node that begin at a record or before it: how many they are, and where the last of them leads to.
+use Rattle.std.proofs.Common.{◌≡◌, ℕ, suc, ◌+◌, ◌<◌, ◌≤◌, List, Bool, true, false, leb, ltb, refl, sym, ap, ◌∙◌, arith, inl, inr}
+use Rattle.cdf_index.proofs.Common.{either, if◌then◌else◌, nat_tests, reaches, leads_down, past, type_at, Nodes, no_node, node, Entries, no_entry, block, lower, leaf, entry_count, link_to, first_at, IsNode, Distinct, tiles, linkable-type, Distinct-front, Distinct-back, chain_before, Begun, used_count, vxr_type, SayEntries, IsTree, down_at, way, spot, past_entries}
 use Rattle.cdf_format.specs.Index.{nodes_of, lower_nodes, leaves_of, entry_leaves}
 use Rattle.cdf_format.specs.IndexOf.{Names}
+use Rattle.cdf_index.specs.Growing.{Begins}
 use Rattle.cdf_index.specs.Order.{AreInOrder}
 use Rattle.cdf_index.specs.Way.{way_below, spot_below}
-use Rattle.cdf_index.proofs.EntriesCut.{Parted, parted_rest}
+use Rattle.cdf_index.proofs.EntriesCut.{Parted, one_more, parted_all}
 use Rattle.cdf_index.proofs.EntriesLeft.{EntriesLeft, past_first, past_lower_one}
-use Rattle.cdf_index.proofs.LeafMore.{not_reached, leads_none}
+use Rattle.cdf_index.proofs.Coming.{not_reached}
+use Rattle.cdf_index.proofs.OrderLemmas.{end_after}
 use Rattle.cdf_index.proofs.FirstEntry.{block_type, chain_is, no_chain, no_node_type, node_linkable}
-use Rattle.std.proofs.lemmas.Bool.{le-leb, lt-leb, eq-eqb, ne_eqb}
+use Rattle.std.proofs.lemmas.Bool.{cases_lt}
 
--- the last of the entries passed, with number j, which is number i of the node
-pub record Leads (b : List ℕ) (f levels at i j : ℕ) (es : Entries) : Type 0 where
-  pub reached : reaches f es ≡ true
-  pub low : Nodes
-  pub chain : chain_at b at i ≡ link_to low
-  pub tree : chain_at b at i ≢ 0 → IsTree b levels low
-  pub down : (g : Bool) → leads_down f g es ≡ not (eqb (chain_at b at i) 0)
-  pub entry_is : chain_at b at i ≢ 0 → down_at f es ≡ j
-  pub way_is : chain_at b at i ≢ 0 → way_below f es ≡ way f low
-  pub spot_is : chain_at b at i ≢ 0 → spot_below f es ≡ spot f low
+-- the lower chain that the last of them names, none where it names a block; this one where there are none
+abbrev pub lead : ℕ → Nodes → Entries → Nodes
+lead f low no_entry = low
+lead f low (block first last place packed es) = if leb first f then lead f no_node es else low
+lead f low (lower first last nodes es) = if leb first f then lead f nodes es else low
 
-pub record Led (b : List ℕ) (f levels at k n : ℕ) (es : Entries) : Type 0 where
-  pub none : n ≡ 0 → reaches f es ≡ false
-  pub some : (j : ℕ) → n ≡ suc j → Leads b f levels at (k + j) j es
+abbrev pub is_some : Nodes → Bool
+is_some no_node = false
+is_some (node place room es more) = true
+
+pub some_node : (nodes : Nodes) → IsNode nodes → is_some nodes ≡ true
+some_node no_node is = absurd is
+some_node (node place room es more) is = refl
+
+-- how many they are
+abbrev pub begun_in : ℕ → Entries → ℕ
+begun_in f no_entry = 0
+begun_in f (block first last place packed es) = if leb first f then suc (begun_in f es) else 0
+begun_in f (lower first last nodes es) = if leb first f then suc (begun_in f es) else 0
+
+pub reached_is : (f low high : ℕ) (es : Entries) → AreInOrder low high es → reaches f es ≡ ltb 0 (begun_in f es)
+unfolding AreInOrder
+reached_is f low high no_entry o = refl
+reached_is f low high (block first last place packed es) o = grind (arith, nat_tests, not_reached f (suc last) high es o.3, o.1)
+reached_is f low high (lower first last nodes es) o = grind (arith, nat_tests, not_reached f (suc last) high es o.4, o.1)
+
+-- where others stand behind them, the record is before the end
+pub ends_past : (f low high : ℕ) (es : Entries) → AreInOrder low high es → begun_in f es < entry_count es → f < past_entries low es
+unfolding AreInOrder
+ends_past f low high no_entry o lt = absurd (omega arith)
+ends_past f low high (block first last place packed es) o lt = grind (arith, nat_tests, ends_past f (suc last) high es o.3, end_after (suc last) high es o.3, o.1)
+ends_past f low high (lower first last nodes es) o lt = grind (arith, nat_tests, ends_past f (suc last) high es o.4, end_after (suc last) high es o.4, o.1)
+
+pub lead_none : (f : ℕ) (nodes : Nodes) (es : Entries) → begun_in f es ≡ 0 → lead f nodes es ≡ nodes
+lead_none f nodes no_entry z = refl
+lead_none f nodes (block first last place packed es) z = grind (arith, nat_tests)
+lead_none f nodes (lower first last ns es) z = grind (arith, nat_tests)
+
+-- the last of them leads down where it names a chain
+pub leads : (b ts : List ℕ) (levels f : ℕ) (low : Nodes) (es : Entries) → Names b ts levels es → leads_down f (is_some low) es ≡ is_some (lead f low es)
+unfolding Names
+leads b ts levels f low no_entry n = refl
+leads b ts levels f low (block first last place packed es) n = grind (arith, nat_tests, leads b ts levels f no_node es n.2)
+leads b ts levels f low (lower first last no_node es) n = absurd n.0
+leads b ts levels f low (lower first last (node place room fs more) es) n = grind (arith, nat_tests, leads b ts levels f (node place room fs more) es n.2)
+
+-- the way on below them
+pub record LedBy (f : ℕ) (es : Entries) (low : Nodes) : Type 0 where
+  pub way_is : way_below f es ≡ way f low
+  pub spot_is : spot_below f es ≡ spot f low
+  pub entry_is : suc (down_at f es) ≡ begun_in f es
+
+pub led : (f low high : ℕ) (nodes : Nodes) (es : Entries) → AreInOrder low high es → 0 < begun_in f es → is_some (lead f nodes es) ≡ true → LedBy f es (lead f nodes es)
+unfolding AreInOrder way_below spot_below
+led f low high nodes no_entry o lt t = absurd (omega arith)
+led f low high nodes (block first last place packed es) o lt t = elim (cases_lt 0 (begun_in f es)) [
+  | inl s ↦ let r = led f (suc last) high no_node es o.3 s (grind (arith, nat_tests, t)) in record { way_is = grind (arith, nat_tests, r.way_is); spot_is = grind (arith, nat_tests, r.spot_is); entry_is = grind (arith, nat_tests, r.entry_is) }
+  | inr z ↦ absurd (grind (arith, nat_tests, lead_none f no_node es, t))
+]
+led f low high nodes (lower first last ns es) o lt t =
+    let h = reached_is f (suc last) high es o.4 in
+    elim (cases_lt 0 (begun_in f es)) [
+      | inl s ↦ let r = led f (suc last) high ns es o.4 s (grind (arith, nat_tests, t)) in record { way_is = grind (arith, nat_tests, h, r.way_is); spot_is = grind (arith, nat_tests, h, r.spot_is); entry_is = grind (arith, nat_tests, h, r.entry_is) }
+      | inr z ↦ record { way_is = grind (arith, nat_tests, h, lead_none f ns es); spot_is = grind (arith, nat_tests, h, lead_none f ns es); entry_is = grind (arith, nat_tests, h) }
+    ]
+
+-- ---- as the bytes say them
 
 -- what is given of entries from number k on
 pub record Stand (b : List ℕ) (levels at k low high : ℕ) (es : Entries) : Type 0 where
@@ -32,112 +87,43 @@ pub record Stand (b : List ℕ) (levels at k low high : ℕ) (es : Entries) : Ty
   pub once : Distinct (lower_nodes es)
   pub order : AreInOrder low high es
 
--- the first n of so many entries from number k on begin at the record or before it
-abbrev pub Passed : List ℕ → ℕ → ℕ → ℕ → ℕ → ℕ → Type 0
-Passed b f at k n count = Parted (λ j. first_at b at j ≤ f) (λ j. f < first_at b at j) k n count
+-- the chain below the entry before number k
+pub record Below (b : List ℕ) (levels at k : ℕ) (low : Nodes) : Type 0 where
+  pub link : chain_before b at 0 k ≡ link_to low
+  pub tree : IsNode low → IsTree b levels low
 
-module _ (b : List ℕ) (f levels at : ℕ) (tiled : AreTiles b 8 (length b) (tiles b)) where
-  some_link : (nodes : Nodes) → IsNode nodes → HasNodes b (tiles b) levels nodes → link_to nodes ≢ 0
-  some_link nodes is h e =
-      let there = linkable-in b (tiles b) vxr_type (link_to nodes) (node_linkable b levels nodes is h) in
-      absurd (omega (arith, (tile_lies b 8 (length b) (tiles b) (link_to nodes) tiled there).low))
+pub below : (b : List ℕ) (f levels at k low high : ℕ) (before : Nodes) (es : Entries) → Stand b levels at k low high es → Below b levels at k before → Below b levels at (k + begun_in f es) (lead f before es)
+unfolding Names lower_nodes nodes_of leaves_of entry_leaves AreInOrder
+below b f levels at k low high before no_entry s w = let z : k + 0 ≡ k = omega arith in rw z w
+below b f levels at k low high before (block first last place packed es) s w =
+    let none = no_chain b at k (λ z. no_node_type (type_at b place) (block_type b (leaf first last place packed) s.left.blocks.0) (ap (type_at b) (sym s.left.say.0.offset_is) ∙ z)) in
+    let r = below b f levels at (suc k) (suc last) high no_node es (record { left = past_first s.left; once = s.once; order = s.order.3 }) (record { link = none; tree = λ x. absurd x }) in
+    let z : k + 0 ≡ k = omega arith in
+    let y : k + suc (begun_in f es) ≡ suc k + begun_in f es = omega arith in
+    elim (either (leb first f)) [ inl t ↦ rw (t, y) r | inr t ↦ rw (t, z) w ]
+below b f levels at k low high before (lower first last nodes es) s w =
+    let type = linkable-type b (tiles b) vxr_type (link_to nodes) (node_linkable b levels nodes s.left.names.0 s.left.names.1) in
+    let p = past_lower_one s.left in
+    let tree : IsTree b levels nodes = record { stands = p.0; is_node = s.left.names.0; once = Distinct-front (nodes_of nodes) (lower_nodes es) s.once; from = first; upto = last; order = s.order.3 } in
+    let r = below b f levels at (suc k) (suc last) high nodes es (record { left = p.1; once = Distinct-back (nodes_of nodes) (lower_nodes es) s.once; order = s.order.4 })
+    (record { link = chain_is b at k (ap (type_at b) s.left.say.0.offset_is ∙ type) ∙ s.left.say.0.offset_is; tree = λ x. tree }) in
+    let z : k + 0 ≡ k = omega arith in
+    let y : k + suc (begun_in f es) ≡ suc k + begun_in f es = omega arith in
+    elim (either (leb first f)) [ inl t ↦ rw (t, y) r | inr t ↦ rw (t, z) w ]
 
-  node_chain : (k : ℕ) (nodes : Nodes) → IsNode nodes → HasNodes b (tiles b) levels nodes → offset_at b at k ≡ link_to nodes → chain_at b at k ≡ link_to nodes
-  node_chain k nodes is h e =
-      let type = linkable-type b (tiles b) vxr_type (link_to nodes) (node_linkable b levels nodes is h) in
-      chain_is b at k (ap (type_at b) e ∙ type) ∙ e
+begun_is : (b : List ℕ) (at f k n : ℕ) (es : Entries) → SayEntries b at k es → Parted (λ j. first_at b at j ≤ f) (λ j. f < first_at b at j) k n (entry_count es) → n ≡ begun_in f es
+begun_is b at f k n no_entry s p = let m = p.most in omega arith
+begun_is b at f k n (block first last place packed es) s p = one_more (λ j. first_at b at j ≤ f) (λ j. f < first_at b at j) k n (entry_count es) (leb first f) (begun_in f es) (λ x. grind (arith, nat_tests, s.0.first_is)) (λ x. grind (arith, nat_tests, s.0.first_is)) p (λ m r. begun_is b at f (suc k) m es s.1 r)
+begun_is b at f k n (lower first last nodes es) s p = one_more (λ j. first_at b at j ≤ f) (λ j. f < first_at b at j) k n (entry_count es) (leb first f) (begun_in f es) (λ x. grind (arith, nat_tests, s.0.first_is)) (λ x. grind (arith, nat_tests, s.0.first_is)) p (λ m r. begun_is b at f (suc k) m es s.1 r)
 
-  block_chain : (k first last place : ℕ) (packed : Bool) → IsBlock b (leaf first last place packed) → offset_at b at k ≡ place → chain_at b at k ≡ 0
-  block_chain k first last place packed is e = no_chain b at k (λ z. no_node_type (type_at b place) (block_type b (leaf first last place packed) is) (ap (type_at b) (sym e) ∙ z))
+-- so many of them were counted
+pub counted_begun : (b : List ℕ) (at f n : ℕ) (es : Entries) → Begun b at f n → used_count b at ≡ entry_count es → SayEntries b at 0 es → n ≡ begun_in f es
+counted_begun b at f n es g u s = let most = g.most in begun_is b at f 0 n es s (parted_all (λ j. first_at b at j ≤ f) (λ j. f < first_at b at j) n (entry_count es) g.before (λ lt. g.stop (omega arith)) (omega arith))
 
-  block_leads : (k m j first last place : ℕ) (packed : Bool) (es : Entries) → leb first f ≡ true → chain_at b at k ≡ 0 → Led b f levels at (suc k) m es → m ≡ j → Leads b f levels at (k + j) j (block first last place packed es)
-  unfolding way_below spot_below
-  block_leads k m zero first last place packed es le c r e =
-      let z : k + 0 ≡ k = omega arith in
-      let c0 : chain_at b at (k + 0) ≡ 0 = ap (chain_at b at) z ∙ c in
-      let n = r.none e in
-      record {
-        reached = rw le refl;
-        low = no_node;
-        chain = c0;
-        tree = λ x. absurd (x c0);
-        down = λ g. rw (le, eq-eqb (chain_at b at (k + 0)) 0 c0) (leads_none f false es n);
-        entry_is = λ x. absurd (x c0);
-        way_is = λ x. absurd (x c0);
-        spot_is = λ x. absurd (x c0);
-      }
-  block_leads k m (suc j) first last place packed es le c r e =
-      let w = r.some j e in
-      let z : suc k + j ≡ k + suc j = omega arith in
-      let there : Leads b f levels at (k + suc j) j es = subst (λ (x : ℕ). Leads b f levels at x j es) z w in
-      record {
-        reached = rw le refl;
-        low = there.low;
-        chain = there.chain;
-        tree = there.tree;
-        down = λ g. rw le (there.down false);
-        entry_is = λ x. ap suc (there.entry_is x);
-        way_is = there.way_is;
-        spot_is = there.spot_is;
-      }
+begun_past : (f : ℕ) (es : Entries) → begun_in f es + entry_count (past f es) ≡ entry_count es
+begun_past f no_entry = refl
+begun_past f (block first last place packed es) = grind (arith, begun_past f es)
+begun_past f (lower first last nodes es) = grind (arith, begun_past f es)
 
-  lower_leads : (k m j first last : ℕ) (nodes : Nodes) (es : Entries) → leb first f ≡ true → chain_at b at k ≡ link_to nodes → link_to nodes ≢ 0 → IsTree b levels nodes → Led b f levels at (suc k) m es → m ≡ j → Leads b f levels at (k + j) j (lower first last nodes es)
-  unfolding way_below spot_below
-  lower_leads k m zero first last nodes es le c some tree r e =
-      let z : k + 0 ≡ k = omega arith in
-      let c0 : chain_at b at (k + 0) ≡ link_to nodes = ap (chain_at b at) z ∙ c in
-      let n = r.none e in
-      record {
-        reached = rw le refl;
-        low = nodes;
-        chain = c0;
-        tree = λ x. tree;
-        down = λ g. rw (le, ne_eqb (chain_at b at (k + 0)) 0 (λ q. some (sym c0 ∙ q))) (leads_none f true es n);
-        entry_is = λ x. rw n refl;
-        way_is = λ x. rw n refl;
-        spot_is = λ x. rw n refl;
-      }
-  lower_leads k m (suc j) first last nodes es le c some tree r e =
-      let w = r.some j e in
-      let z : suc k + j ≡ k + suc j = omega arith in
-      let there : Leads b f levels at (k + suc j) j es = subst (λ (x : ℕ). Leads b f levels at x j es) z w in
-      record {
-        reached = rw le refl;
-        low = there.low;
-        chain = there.chain;
-        tree = there.tree;
-        down = λ g. rw le (there.down true);
-        entry_is = λ x. rw there.reached (ap suc (there.entry_is x));
-        way_is = λ x. rw there.reached (there.way_is x);
-        spot_is = λ x. rw there.reached (there.spot_is x);
-      }
-
-  pub led : (k n low high : ℕ) (es : Entries) → Stand b levels at k low high es → Passed b f at k n (entry_count es) → Led b f levels at k n es
-  unfolding Names lower_nodes leaves_of entry_leaves AreInOrder nodes_of
-  led k n low high no_entry s p = record { none = λ e. refl; some = λ j e. (let m = p.most in absurd (omega arith)) }
-  led k zero low high (block first last place packed es) s p =
-      let z : k + 0 ≡ k = omega arith in
-      let past = rw z at (p.stop (omega arith)) in
-      let gt : f < first = omega (arith, s.left.say.0.first_is) in
-      let o1 = s.order.1 in
-      record { none = λ e. rw (lt-leb first f gt) (not_reached f (suc last) high es s.order.3 (omega arith)); some = λ j e. absurd (omega arith) }
-  led k (suc m) low high (block first last place packed es) s p =
-      let z : k + 0 ≡ k = omega arith in
-      let by = rw z at (p.before 0 (omega arith)) in
-      let le : leb first f ≡ true = le-leb first f (omega (arith, s.left.say.0.first_is)) in
-      let rest = led (suc k) m (suc last) high es (record { left = past_first s.left; once = s.once; order = s.order.3 }) (parted_rest (λ j. first_at b at j ≤ f) (λ j. f < first_at b at j) k m (entry_count es) p) in
-      record { none = λ e. absurd (omega arith); some = λ j e. block_leads k m j first last place packed es le (block_chain k first last place packed s.left.blocks.0 s.left.say.0.offset_is) rest (omega arith) }
-  led k zero low high (lower first last nodes es) s p =
-      let z : k + 0 ≡ k = omega arith in
-      let past = rw z at (p.stop (omega arith)) in
-      let gt : f < first = omega (arith, s.left.say.0.first_is) in
-      let o1 = s.order.1 in
-      record { none = λ e. rw (lt-leb first f gt) (not_reached f (suc last) high es s.order.4 (omega arith)); some = λ j e. absurd (omega arith) }
-  led k (suc m) low high (lower first last nodes es) s p =
-      let z : k + 0 ≡ k = omega arith in
-      let by = rw z at (p.before 0 (omega arith)) in
-      let le : leb first f ≡ true = le-leb first f (omega (arith, s.left.say.0.first_is)) in
-      let parts = past_lower_one s.left in
-      let rest = led (suc k) m (suc last) high es (record { left = parts.1; once = Distinct-back (nodes_of nodes) (lower_nodes es) s.once; order = s.order.4 }) (parted_rest (λ j. first_at b at j ≤ f) (λ j. f < first_at b at j) k m (entry_count es) p) in
-      let tree : IsTree b levels nodes = record { stands = parts.0; is_node = s.left.names.0; once = Distinct-front (nodes_of nodes) (lower_nodes es) s.once; from = first; upto = last; order = s.order.3 } in
-      record { none = λ e. absurd (omega arith); some = λ j e. lower_leads k m j first last nodes es le (node_chain k nodes s.left.names.0 s.left.names.1 s.left.say.0.offset_is) (some_link nodes s.left.names.0 s.left.names.1) tree rest (omega arith) }
+pub begins_by : (b : List ℕ) (at f p : ℕ) → Begun b at f p → Begins b at f p
+begins_by b at f p g es u s = omega (arith, counted_begun b at f p es g u s, begun_past f es)

@@ -1,14 +1,15 @@
 -- The leaves of an index with one leaf more.
-use Rattle.std.proofs.Common.{◌≡◌, ℕ, suc, ◌<◌, ◌≤◌, List, [], ◌∷◌, ◌++◌, map, Bool, true, false, leb, append_assoc, refl, sym, ap, ◌∙◌, arith, inl, inr, true≢false, subst}
+use Rattle.std.proofs.Common.{◌≡◌, ℕ, suc, ◌<◌, ◌≤◌, max, List, [], ◌∷◌, ◌++◌, map, Bool, true, false, leb, append_assoc, refl, sym, ap, ◌∙◌, arith, inl, inr, true≢false, subst}
 use Rattle.cdf_index.proofs.Common.{nat_tests, range, reaches, chain_reaches, leads_down, upto, past, with_both, with_entry, Nodes, no_node, node, Entries, no_entry, block, lower, Leaf, either, past_entries, Each, Each-append}
 use Rattle.cdf_edits.specs.Index.Blocks.{with_range}
-use Rattle.cdf_edits.specs.Index.Grown.{with_block, with_leaf, with_lower}
+use Rattle.cdf_edits.specs.Index.Grown.{with_block, with_leaf}
 use Rattle.cdf_format.specs.Index.{leaves_of, entry_leaves}
 use Rattle.cdf_index.specs.Growing.{with_new}
 use Rattle.cdf_index.specs.Order.{InOrder, AreInOrder}
+use Rattle.cdf_index.proofs.Coming.{Comes, comes, comes_along, comes_below, comes_first, comes_here, chain_reaches_from, leads_none, not_reached, reaches_from}
 use Rattle.cdf_index.proofs.OrderLemmas.{Within, leaves_within, end_after, InRange}
 use Rattle.cdf_index.proofs.Saying.{front, front_past, upto_both, both_none, no_entries}
-use Rattle.std.proofs.lemmas.Bool.{or_from, or_parts, lt-leb, le-leb, le-ltb, leb-true, leb-false, cases_lt}
+use Rattle.std.proofs.lemmas.Bool.{or_parts, leb-true, leb-false}
 use Rattle.cdf_edits.proofs.Edits.VariableFrame.{Each-map}
 
 -- ---- leaves that begin at a record or before it, and leaves past it
@@ -45,29 +46,6 @@ ranges_new l [] = refl
 ranges_new l (x ∷ xs) = grind (arith, ranges_new l xs)
 
 -- ---- entries that reach a record
-
-pub not_reached : (f low high : ℕ) (es : Entries) → AreInOrder low high es → f < low → reaches f es ≡ false
-unfolding AreInOrder
-not_reached f low high no_entry o lt = refl
-not_reached f low high (block first last place packed es) o lt = or_from (leb first f) (reaches f es) (lt-leb first f (omega (arith, o.0))) (not_reached f (suc last) high es o.3 (omega (arith, o.0, o.1)))
-not_reached f low high (lower first last nodes es) o lt = or_from (leb first f) (reaches f es) (lt-leb first f (omega (arith, o.0))) (not_reached f (suc last) high es o.4 (omega (arith, o.0, o.1)))
-
-pub chain_not_reached : (f low high : ℕ) (ns : Nodes) → InOrder low high ns → f < low → chain_reaches f ns ≡ false
-unfolding InOrder
-chain_not_reached f low high no_node o lt = refl
-chain_not_reached f low high (node place room es more) o lt =
-    or_from (reaches f es) (chain_reaches f more) (not_reached f low high es o.0 lt) (chain_not_reached f (past_entries low es) high more o.1 (omega (arith, end_after low high es o.0)))
-
-pub reaches_from : (f low high : ℕ) (es : Entries) → AreInOrder low high es → reaches f es ≡ true → low ≤ f
-reaches_from f low high es o t = elim (cases_lt f low) [ inl lt ↦ absurd (true≢false (sym t ∙ not_reached f low high es o lt)) | inr le ↦ le ]
-
-pub chain_reaches_from : (f low high : ℕ) (ns : Nodes) → InOrder low high ns → chain_reaches f ns ≡ true → low ≤ f
-chain_reaches_from f low high ns o t = elim (cases_lt f low) [ inl lt ↦ absurd (true≢false (sym t ∙ chain_not_reached f low high ns o lt)) | inr le ↦ le ]
-
-pub leads_none : (f : ℕ) (g : Bool) (es : Entries) → reaches f es ≡ false → leads_down f g es ≡ g
-leads_none f g no_entry t = refl
-leads_none f g (block first last place packed es) t = rw (or_parts (leb first f) (reaches f es) t).0 refl
-leads_none f g (lower first last nodes es) t = rw (or_parts (leb first f) (reaches f es) t).0 refl
 
 entries_past : (f low high : ℕ) (es : Entries) → AreInOrder low high es → reaches f es ≡ false → BeginPast f (entry_leaves es)
 unfolding AreInOrder leaves_of entry_leaves
@@ -154,43 +132,26 @@ chain_by f low high (lower first last nodes es) o h =
 
 -- ---- the index
 
-mutual
-  unfolding InOrder AreInOrder leaves_of entry_leaves with_leaf with_lower
+leaves_come : {l : Leaf} {at : ℕ} {w : List (ℕ × ℕ)} {x n : ℕ} {ns ns' : Nodes} → Comes l at w x n ns ns' → (low high : ℕ) → InOrder low high ns → leaves_of ns' ≡ with_new l (leaves_of ns)
+unfolding InOrder AreInOrder leaves_of entry_leaves
+leaves_come comes_first low high o = refl
+leaves_come {l = l} (comes_along {es = es} {more = more} t c) low high o =
+    let old = chain_by l.first low high es o.0 (chain_reaches_from l.first (past_entries low es) high more o.1 t) in
+    rw (leaves_come c (past_entries low es) high o.1, new_behind l (entry_leaves es) (leaves_of more) old) refl
+leaves_come {l = l} (comes_below {more = more} fs first last nodes nodes' es t le u c) low high o =
+    let p = parts_in_order low high fs (lower first last nodes es) o.0 in
+    let before = chain_by l.first low high fs p.0 (omega (arith, p.1.0, le)) in
+    let behind = entries_past l.first (suc last) high es p.1.4 u in
+    let later = nodes_past l.first (past_entries low (with_both fs (lower first last nodes es))) high more o.1 t in
+    let inner = leaves_come c first last p.1.3 in
+    let all = leaves_of nodes ++ entry_leaves es in
+    rw (leaves_both fs (lower first last nodes es), leaves_both fs (lower first (max last l.last) nodes' es), new_before l (entry_leaves fs ++ all) (leaves_of more) later, new_behind l (entry_leaves fs) all before, new_before l (leaves_of nodes) (entry_leaves es) behind, inner) refl
+leaves_come {l = l} {at = at} (comes_here {place = place} {room = room} {es = es} {more = more} t d) low high o =
+    let later = nodes_past l.first (past_entries low es) high more o.1 t in
+    let old = front_by l.first low high false es o.0 d in
+    let new = new_first l (entry_leaves (past l.first es)) (later_past l.first low high es o.0) in
+    let parts : with_new l (entry_leaves es) ≡ entry_leaves (front l.first es) ++ l ∷ entry_leaves (past l.first es) = ap (with_new l) (leaves_parts l.first es) ∙ rw (new_behind l (entry_leaves (front l.first es)) (entry_leaves (past l.first es)) old, new) refl in
+    rw (leaves_with_entry l at place room es more, new_before l (entry_leaves es) (leaves_of more) later, parts) (sym (append_assoc (entry_leaves (front l.first es)) (l ∷ entry_leaves (past l.first es)) (leaves_of more)))
 
-  pub leaves_more : (l : Leaf) (at low high : ℕ) (ns : Nodes) → InOrder low high ns → leaves_of (with_leaf l at ns) ≡ with_new l (leaves_of ns)
-  leaves_more l at low high no_node o = refl
-  leaves_more l at low high (node place room es more) o = elim (either (chain_reaches l.first more)) [
-    | inl r ↦
-        let from = chain_reaches_from l.first (past_entries low es) high more o.1 r in
-        let old = chain_by l.first low high es o.0 from in
-        rw (r, leaves_more l at (past_entries low es) high more o.1) (sym (new_behind l (entry_leaves es) (leaves_of more) old))
-    | inr r ↦
-        let later = nodes_past l.first (past_entries low es) high more o.1 r in
-        let left = new_before l (entry_leaves es) (leaves_of more) later in
-        elim (either (leads_down l.first false es)) [
-          | inl d ↦ rw (r, d) (ap (λ (xs : List Leaf). xs ++ leaves_of more) (leaves_below l at low high false es o.0 d (λ k. absurd (true≢false (sym k)))) ∙ sym left)
-          | inr d ↦
-              let front_old = front_by l.first low high false es o.0 d in
-              let back_new = later_past l.first low high es o.0 in
-              let here : with_new l (entry_leaves es) ≡ entry_leaves (front l.first es) ++ l ∷ entry_leaves (past l.first es) =
-              ap (with_new l) (leaves_parts l.first es) ∙ new_behind l (entry_leaves (front l.first es)) (entry_leaves (past l.first es)) front_old ∙ ap (λ (xs : List Leaf). entry_leaves (front l.first es) ++ xs) (new_first l (entry_leaves (past l.first es)) back_new) in
-              rw (r, d) (leaves_with_entry l at place room es more ∙ sym (append_assoc (entry_leaves (front l.first es)) (l ∷ entry_leaves (past l.first es)) (leaves_of more)) ∙ ap (λ (xs : List Leaf). xs ++ leaves_of more) (sym here) ∙ sym left)
-        ]
-  ]
-
-  leaves_below : (l : Leaf) (at low high : ℕ) (given : Bool) (es : Entries) → AreInOrder low high es → leads_down l.first given es ≡ true → (given ≡ true → reaches l.first es ≡ true) → entry_leaves (with_lower l at es) ≡ with_new l (entry_leaves es)
-  leaves_below l at low high given no_entry o t g = absurd (true≢false (sym (g t)))
-  leaves_below l at low high given (block first last place packed es) o t g = elim (either (leb first l.first)) [
-    | inl s ↦
-        let test = le-ltb l.first first (leb-true first l.first s) in
-        rw test (ap (λ (xs : List Leaf). record { first = first; last = last; place = place; packed = packed } ∷ xs) (leaves_below l at (suc last) high false es o.3 (rw s at t) (λ k. absurd (true≢false (sym k)))))
-    | inr s ↦ absurd (omega (arith, leb-false first l.first s, reaches_from l.first (suc last) high es o.3 (rw s at (g (rw s at t))), o.1))
-  ]
-  leaves_below l at low high given (lower first last nodes es) o t g = elim (either (reaches l.first es)) [
-    | inl u ↦
-        let e = reaches_from l.first (suc last) high es o.4 u in
-        let s = le-leb first l.first (omega (arith, o.1)) in
-        let d : leads_down l.first true es ≡ true = rw s at t in
-        rw u (ap (λ (xs : List Leaf). leaves_of nodes ++ xs) (leaves_below l at (suc last) high true es o.4 d (λ k. u)) ∙ sym (new_behind l (leaves_of nodes) (entry_leaves es) (within_by l.first first last (leaves_of nodes) (leaves_within first last nodes o.3) (omega arith))))
-    | inr u ↦ rw u (ap (λ (xs : List Leaf). xs ++ entry_leaves es) (leaves_more l at first last nodes o.3) ∙ sym (new_before l (leaves_of nodes) (entry_leaves es) (entries_past l.first (suc last) high es o.4 u)))
-  ]
+pub leaves_more : (l : Leaf) (at low high : ℕ) (ns : Nodes) → InOrder low high ns → leaves_of (with_leaf l at ns) ≡ with_new l (leaves_of ns)
+leaves_more l at low high ns o = leaves_come (comes l at low high ns o) low high o

@@ -1,18 +1,20 @@
 -- An index with a leaf more keeps the rules: its entries are in order, its nodes have room for theirs, and each leaf has a block.
-use Rattle.std.proofs.Common.{◌≡◌, ℕ, ℤ, pos, negsuc, zero, suc, ◌+◌, ◌<◌, ◌≤◌, max, min, List, [], ◌∷◌, ◌++◌, Bool, true, false, Some, None, ltb, leb, eqb, refl, sym, ap, subst, ◌∙◌, arith, inl, inr, true≢false}
-use Rattle.cdf_index.proofs.Common.{eqb-true, filter, flat_map, fold, find, nat_lt, record_number_limit, range, covers, next_first, reaches, chain_reaches, leads_down, past, with_both, with_entry, with_sign, Nodes, no_node, node, Entries, no_entry, block, lower, Leaf, leaf, entry_count, is_block, end_of, leaf_rows, Hold, In, number_before, either, In-append_left, In-append_right, Hold-split, past_entries, before_number, Each, Each-split}
-use Rattle.std.proofs.lemmas.Bool.{ltb-false, leb-true, leb-false, le-leb, lt-ltb, or_parts}
+use Rattle.std.proofs.Common.{◌≡◌, ℕ, ℤ, pos, negsuc, zero, suc, ◌+◌, ◌<◌, ◌≤◌, max, min, List, [], ◌∷◌, Bool, true, false, None, ltb, leb, eqb, refl, sym, ap, subst, ◌∙◌, arith, inl, inr, true≢false}
+use Rattle.cdf_index.proofs.Common.{nat_tests, eqb-true, filter, flat_map, fold, find, nat_lt, record_number_limit, range, covers, next_first, reaches, chain_reaches, leads_down, past, with_both, with_entry, with_sign, Nodes, no_node, node, Entries, no_entry, block, lower, Leaf, entry_count, is_block, end_of, leaf_rows, Hold, In, number_before, either, Hold-split, past_entries, before_number, Each, Each-split}
+use Rattle.std.proofs.lemmas.Bool.{cases_lt, le-ltb, leb-true, leb-false, le-leb, lt-ltb, or_parts}
 use Rattle.std.specs.Prelude.{int_lt}
 use Rattle.cdf_edits.specs.Index.Blocks.{firsts_of, entry_firsts}
-use Rattle.cdf_edits.specs.Index.Grown.{with_block, with_leaf, with_lower}
+use Rattle.cdf_edits.specs.Index.Grown.{with_block, with_leaf}
 use Rattle.cdf_edits.proofs.Edits.LeafPieces.{IsOneOf}
 use Rattle.cdf_edits.proofs.Edits.LeafRecords.{signed}
 use Rattle.cdf_format.specs.Index.{nodes_of, lower_nodes, leaves_of, entry_leaves}
 use Rattle.cdf_format.specs.IndexRules.{has_room, is_between, nodes_rows, used_rows, index_rows}
 use Rattle.cdf_format.proofs.RowLemmas.{Hold-append}
+use Rattle.cdf_edits.proofs.Space.ActsLeave.{each as each_of}
 use Rattle.cdf_index.specs.Order.{InOrder, AreInOrder}
 use Rattle.cdf_index.proofs.GoodIndex.{order_from}
-use Rattle.cdf_index.proofs.LeafMore.{chain_reaches_from, reaches_from, not_reached, none_reached, parts_in_order}
+use Rattle.cdf_index.proofs.Coming.{Comes, comes, comes_along, comes_below, comes_first, comes_here, chain_reaches_from}
+use Rattle.cdf_index.proofs.LeafMore.{leaves_both, none_reached, parts_in_order}
 use Rattle.cdf_index.proofs.OrderLemmas.{end_after}
 use Rattle.cdf_index.proofs.Saying.{front, front_past, upto_both, upto_is, no_entries}
 use Rattle.cdf_edits.proofs.Edits.LeavesOrder.{before_is}
@@ -34,28 +36,17 @@ NoneBegins f last xs = Each (BeginsBehind f last) xs
 
 pub uncovered_by : (f : ℕ) (xs : List Leaf) → find (λ (leaf : Leaf). covers f (range leaf.first leaf.last)) xs ≡ None → Uncovered f xs
 uncovered_by f [] e = tt
-uncovered_by f (x ∷ xs) e = elim (either (leb x.first f)) [
-  | inl t ↦ elim (either (leb f x.last)) [
-    | inl u ↦ absurd (none_is (rw (t, u) at e))
-    | inr u ↦ (λ h. leb-false f x.last u, uncovered_by f xs (rw (t, u) at e))
-  ]
-  | inr t ↦ (λ h. (let g = leb-false x.first f t in absurd (omega arith)), uncovered_by f xs (rw t at e))
-]
-  where
-    none_is : {a : Leaf} → Some a ≡ None → ⊥
-    none_is e = cc
+uncovered_by f (x ∷ xs) e = ((λ h. grind (arith, nat_tests, e)), uncovered_by f xs (grind (arith, nat_tests, e)))
 
 pub least_below : (best : ℕ) (xs : List ℕ) → fold min best xs ≤ best
 least_below best [] = omega arith
-least_below best (x ∷ xs) = let r = least_below (min best x) xs in omega arith
+least_below best (x ∷ xs) = omega (arith, least_below (min best x) xs)
 
 none_before : (f last best : ℕ) (xs : List ℕ) → last < fold min best (filter (nat_lt f) xs) → NoneBegins f last xs
 none_before f last best [] h = tt
-none_before f last best (x ∷ xs) h = elim (either (ltb f x)) [
-  | inl t ↦
-      let k : last < fold min (min best x) (filter (nat_lt f) xs) = rw t at h in
-      ((λ g. (let r = least_below (min best x) (filter (nat_lt f) xs) in omega arith)), none_before f last (min best x) xs k)
-  | inr t ↦ ((λ g. (let le = ltb-false f x t in absurd (omega arith))), none_before f last best xs (rw t at h))
+none_before f last best (x ∷ xs) h = elim (cases_lt f x) [
+  | inl t ↦ let k : last < fold min (min best x) (filter (nat_lt f) xs) = rw (lt-ltb f x t) at h in ((λ g. omega (arith, least_below (min best x) (filter (nat_lt f) xs))), none_before f last (min best x) xs k)
+  | inr t ↦ ((λ g. absurd (omega arith)), none_before f last best xs (rw (le-ltb f x t) at h))
 ]
 
 pub none_begins : (f last : ℕ) (firsts : List ℕ) → last < next_first f firsts → NoneBegins f last firsts
@@ -139,85 +130,55 @@ order_with_entry new at place room low high es more o d c l k h u n n' =
     let fr = front f es in
     let bk = past f es in
     let whole = front_past f es in
-    let parts = parts_in_order low high fr bk (subst (AreInOrder low high) (sym whole) o.0) in
+    let parts = parts_in_order low high fr bk (rw whole o.0) in
     let ends = front_ends f low high false es o.0 d (λ e. l) u in
-    let begin = firsts_both f new.last fr bk (subst (λ (x : Entries). NoneBegins f new.last (entry_firsts x)) (sym whole) n) in
-    let unreached = none_reached f low high es o.0 in
-    let back = raised_entries f new.last (past_entries low fr) (suc new.last) high bk parts.1 unreached begin (omega arith) in
+    let back = raised_entries f new.last (past_entries low fr) (suc new.last) high bk parts.1 (none_reached f low high es o.0) (firsts_both f new.last fr bk (rw whole n)) (omega arith) in
     let past_is : past_entries low es ≡ past_entries (past_entries low fr) bk = ap (past_entries low) (sym whole) ∙ past_both low fr bk in
-    let most = past_most (past_entries low fr) (suc new.last) bk in
-    let rest = raised f new.last (past_entries low es) (past_entries (suc new.last) bk) high more o.1 c n' (omega arith) in
+    let rest = raised f new.last (past_entries low es) (past_entries (suc new.last) bk) high more o.1 c n' (omega (arith, past_is, past_most (past_entries low fr) (suc new.last) bk)) in
     elim (either (ltb (entry_count es) room)) [
-      | inl t ↦
-          let same = upto_both new es bk in
-          let past_all : past_entries low (with_both fr (with_block new bk)) ≡ past_entries (suc new.last) bk = past_both low fr (with_block new bk) in
-          rw (t, same) (both_in_order low high fr (with_block new bk) parts.0 (ends, k, h, back), rw past_all rest)
+      | inl t ↦ rw (t, upto_both new es bk) (both_in_order low high fr (with_block new bk) parts.0 (ends, k, h, back), rw (past_both low fr (with_block new bk)) rest)
       | inr t ↦ elim (either (eqb (entry_count bk) 0)) [
         | inl z ↦
             let none = ap (past_entries (past_entries low fr)) (no_entries bk (eqb-true (entry_count bk) 0 z)) in
-            let last_ones = raised f new.last (past_entries low es) (suc new.last) high more o.1 c n' (omega arith) in
-            rw (t, z) (o.0, ((omega arith, k, h, tt), last_ones))
-        | inr z ↦
-            let same = upto_is new es in
-            let past_all : past_entries low (with_both fr (with_block new no_entry)) ≡ suc new.last = past_both low fr (with_block new no_entry) in
-            rw (t, z, same) (both_in_order low high fr (with_block new no_entry) parts.0 (ends, k, h, tt), rw past_all (back, rest))
+            rw (t, z) (o.0, ((omega (arith, past_is, none), k, h, tt), raised f new.last (past_entries low es) (suc new.last) high more o.1 c n' (omega (arith, past_is, none))))
+        | inr z ↦ rw (t, z, upto_is new es) (both_in_order low high fr (with_block new no_entry) parts.0 (ends, k, h, tt), rw (past_both low fr (with_block new no_entry)) (back, rest))
       ]
     ]
 
-pub none_behind : (f first last high : ℕ) (es : Entries) → f < first → first ≤ last → AreInOrder (suc last) high es → reaches f es ≡ false
-none_behind f first last high es g l o = not_reached f (suc last) high es o (omega arith)
-
 -- ---- the index
 
-mutual
-  unfolding InOrder AreInOrder leaves_of entry_leaves firsts_of entry_firsts with_leaf with_lower
-
-  pub leaf_in_order : (new : Leaf) (at low high : ℕ) (index : Nodes) → InOrder low high index → low ≤ new.first → new.first ≤ new.last → new.last ≤ high → Uncovered new.first (leaves_of index) → NoneBegins new.first new.last (firsts_of index) → InOrder low high (with_leaf new at index)
-  leaf_in_order new at low high no_node o l k h u n = ((l, k, h, tt), tt)
-  leaf_in_order new at low high (node place room es more) o l k h u n =
-      let us = Each-split (Misses new.first) (entry_leaves es) (leaves_of more) u in
-      let ns = Each-split (BeginsBehind new.first new.last) (entry_firsts es) (firsts_of more) n in
-      elim (either (chain_reaches new.first more)) [
-        | inl r ↦ rw r (o.0, leaf_in_order new at (past_entries low es) high more o.1 (chain_reaches_from new.first (past_entries low es) high more o.1 r) k h us.1 ns.1)
-        | inr r ↦ elim (either (leads_down new.first false es)) [
-          | inl d ↦
-              let p = lower_in_order new at low high false es o.0 d (λ e. absurd (true≢false (sym e))) k h us.0 ns.0 in
-              rw (r, d) (p.0, raised new.first new.last (past_entries low es) (past_entries low (with_lower new at es)) high more o.1 r ns.1 p.1)
-          | inr d ↦ rw (r, d) (order_with_entry new at place room low high es more o d r l k h us.0 ns.0 ns.1)
-        ]
-      ]
-
-  pub lower_in_order : (new : Leaf) (at low high : ℕ) (given : Bool) (es : Entries) → AreInOrder low high es → leads_down new.first given es ≡ true → (given ≡ true → reaches new.first es ≡ true) → new.first ≤ new.last → new.last ≤ high
-      → Uncovered new.first (entry_leaves es) → NoneBegins new.first new.last (entry_firsts es) → AreInOrder low high (with_lower new at es) × (past_entries low (with_lower new at es) ≤ max (past_entries low es) (suc new.last))
-  lower_in_order new at low high given no_entry o d g k h u n = absurd (true≢false (sym (g d)))
-  lower_in_order new at low high given (block first last place packed es) o d g k h u n = elim (either (leb first new.first)) [
-    | inl s ↦ let r = lower_in_order new at (suc last) high false es o.3 (rw s at d) (λ e. absurd (true≢false (sym e))) k h u.1 n.1 in ((o.0, o.1, o.2, r.0), r.1)
-    | inr s ↦ absurd (omega (arith, leb-false first new.first s, reaches_from new.first (suc last) high es o.3 (rw s at (g (rw s at d))), o.1))
-  ]
-  lower_in_order new at low high given (lower first last nodes es) o d g k h u n =
-      let us = Each-split (Misses new.first) (leaves_of nodes) (entry_leaves es) u in
-      let ns = Each-split (BeginsBehind new.first new.last) (firsts_of nodes) (entry_firsts es) n.1 in
-      elim (either (leb first new.first)) [
-        | inl s ↦ elim (either (reaches new.first es)) [
-          | inl r ↦ let p = lower_in_order new at (suc last) high true es o.4 (rw s at d) (λ e. r) k h us.1 ns.1 in rw r ((o.0, o.1, o.2, o.3, p.0), p.1)
-          | inr r ↦
-              let o1 = o.1 in
-              let o2 = o.2 in
-              let wide = max last new.last in
-              let low_wide = widened first last wide nodes (omega arith) o.3 in
-              let inner = leaf_in_order new at first wide nodes low_wide (leb-true first new.first s) k (omega arith) us.0 ns.0 in
-              let rest = raised_entries new.first new.last (suc last) (suc wide) high es o.4 r ns.1 (omega arith) in
-              let most = past_most (suc last) (suc wide) es in
-              let end = end_after (suc last) high es o.4 in
-              rw r ((o.0, omega arith, omega arith, inner, rest), omega arith)
-        ]
-        | inr s ↦ absurd (omega (arith, leb-false first new.first s, reaches_from new.first (suc last) high es o.4 (rw s at (g (rw s at d))), o.1))
-      ]
+order_come : {new : Leaf} {at : ℕ} {w : List (ℕ × ℕ)} {x n : ℕ} {ns ns' : Nodes} → Comes new at w x n ns ns' → (low high : ℕ) → InOrder low high ns → low ≤ new.first → new.first ≤ new.last → new.last ≤ high → Uncovered new.first (leaves_of ns) → NoneBegins new.first new.last (firsts_of ns) → InOrder low high ns'
+unfolding InOrder AreInOrder leaves_of entry_leaves firsts_of entry_firsts
+order_come comes_first low high o l k h u n = ((l, k, h, tt), tt)
+order_come {new = new} (comes_along {es = es} {more = more} t c) low high o l k h u n =
+    let us = Each-split (Misses new.first) (entry_leaves es) (leaves_of more) u in
+    let ns = Each-split (BeginsBehind new.first new.last) (entry_firsts es) (firsts_of more) n in
+    (o.0, order_come c (past_entries low es) high o.1 (chain_reaches_from new.first (past_entries low es) high more o.1 t) k h us.1 ns.1)
+order_come {new = new} (comes_below {more = more} fs first last nodes nodes' es t le r c) low high o l k h u n =
+    let whole = with_both fs (lower first last nodes es) in
+    let p = parts_in_order low high fs (lower first last nodes es) o.0 in
+    let us = Each-split (Misses new.first) (entry_leaves whole) (leaves_of more) u in
+    let ns = Each-split (BeginsBehind new.first new.last) (entry_firsts whole) (firsts_of more) n in
+    let ul = Each-split (Misses new.first) (leaves_of nodes) (entry_leaves es) (Each-split (Misses new.first) (entry_leaves fs) (entry_leaves (lower first last nodes es)) (subst (Uncovered new.first) (leaves_both fs (lower first last nodes es)) us.0)).1 in
+    let nl = Each-split (BeginsBehind new.first new.last) (firsts_of nodes) (entry_firsts es) (firsts_both new.first new.last fs (lower first last nodes es) ns.0).1 in
+    let wide = max last new.last in
+    let o1 = p.1.1 in
+    let o2 = p.1.2 in
+    let inner = order_come c first wide (widened first last wide nodes (omega arith) p.1.3) le k (omega arith) ul.0 nl.0 in
+    let rest = raised_entries new.first new.last (suc last) (suc wide) high es p.1.4 r nl.1 (omega arith) in
+    let end = end_after (suc last) high es p.1.4 in
+    let past_all : past_entries low whole ≡ past_entries (suc last) es = past_both low fs (lower first last nodes es) in
+    let past_now : past_entries low (with_both fs (lower first wide nodes' es)) ≡ past_entries (suc wide) es = past_both low fs (lower first wide nodes' es) in
+    (both_in_order low high fs (lower first wide nodes' es) p.0 (p.1.0, omega arith, omega arith, inner, rest), raised new.first new.last (past_entries low whole) (past_entries low (with_both fs (lower first wide nodes' es))) high more o.1 t ns.1 (omega (arith, past_most (suc last) (suc wide) es)))
+order_come {new = new} {at = at} (comes_here {place = place} {room = room} {es = es} {more = more} t d) low high o l k h u n =
+    let us = Each-split (Misses new.first) (entry_leaves es) (leaves_of more) u in
+    let ns = Each-split (BeginsBehind new.first new.last) (entry_firsts es) (firsts_of more) n in
+    order_with_entry new at place room low high es more o d t l k h us.0 ns.0 ns.1
 
 pub order_with_leaf : (new : Leaf) (at : ℕ) (index : Nodes) → InOrder 0 record_number_limit index → new.first ≤ new.last → find (λ (leaf : Leaf). covers new.first (range leaf.first leaf.last)) (leaves_of index) ≡ None → new.last < next_first new.first (firsts_of index)
     → InOrder 0 record_number_limit (with_leaf new at index)
 order_with_leaf new at index o k u n =
-    leaf_in_order new at 0 record_number_limit index o (omega arith) k (before_limit new.first new.last (firsts_of index) n) (uncovered_by new.first (leaves_of index) u) (none_begins new.first new.last (firsts_of index) n)
+    order_come (comes new at 0 record_number_limit index o) 0 record_number_limit o (omega arith) k (before_limit new.first new.last (firsts_of index) n) (uncovered_by new.first (leaves_of index) u) (none_begins new.first new.last (firsts_of index) n)
 
 -- ---- from the order to the rules
 
@@ -226,53 +187,45 @@ lt_between zero first l = refl
 lt_between (suc low) first l = lt-ltb low first l
 
 between_by : (low high first last : ℕ) → high ≤ record_number_limit → low ≤ first → first ≤ last → last ≤ high → is_between (before_number low) (pos high) first last ≡ true
-between_by low high first last m l k h =
-    let a = signed first (omega arith) in
-    let b = signed last (omega arith) in
-    let p = lt_between low first l in
-    let q = le-leb first last k in
-    let r = le-leb last high h in
-    rw (a, b, p, q, r) refl
+between_by low high first last m l k h = rw (signed first (omega arith), signed last (omega arith), lt_between low first l, le-leb first last k, le-leb last high h) refl
 
-one_left : (l : Leaf) (xs ys : List Leaf) → IsOneOf xs l → IsOneOf (xs ++ ys) l
-one_left l [] ys i = absurd i
-one_left l (x ∷ xs) ys (inl e) = inl e
-one_left l (x ∷ xs) ys (inr i) = inr (one_left l xs ys i)
-
-one_right : (l : Leaf) (xs ys : List Leaf) → IsOneOf ys l → IsOneOf (xs ++ ys) l
-one_right l [] ys i = i
-one_right l (x ∷ xs) ys i = inr (one_right l xs ys i)
+each_leaf : (P : Leaf → Type 0) (leaves : List Leaf) → ((l : Leaf) → IsOneOf leaves l → P l) → Each P leaves
+each_leaf P [] f = tt
+each_leaf P (x ∷ xs) f = (f x (inl refl), each_leaf P xs (λ l i. f l (inr i)))
 
 module _ (b records : List ℕ) where
+  abbrev HasRoom : ℕ → Type 0
+  HasRoom m = has_room b m ≡ true
+
+  abbrev HasBlock : Leaf → Type 0
+  HasBlock l = is_block b records l.place ≡ true
+
   mutual
     unfolding nodes_rows used_rows InOrder AreInOrder nodes_of lower_nodes leaves_of entry_leaves
 
-    pub rules_from : (low high : ℕ) (nodes : Nodes) → high ≤ record_number_limit → InOrder low high nodes → ((m : ℕ) → In m (nodes_of nodes) → has_room b m ≡ true) → ((l : Leaf) → IsOneOf (leaves_of nodes) l → is_block b records l.place ≡ true)
-        → Hold (nodes_rows b records (before_number low) (pos high) nodes)
+    rules_from : (low high : ℕ) (nodes : Nodes) → high ≤ record_number_limit → InOrder low high nodes → Each HasRoom (nodes_of nodes) → Each HasBlock (leaves_of nodes) → Hold (nodes_rows b records (before_number low) (pos high) nodes)
     rules_from low high no_node m o room is = tt
     rules_from low high (node place wide entries more) m o room is =
-        let p = entries_rules_from place low high entries m o.0 (λ k i. room k (inr (In-append_left k (lower_nodes entries) (nodes_of more) i))) (λ l i. is l (one_left l (entry_leaves entries) (leaves_of more) i)) in
-        let q = rules_from (past_entries low entries) high more m o.1 (λ k i. room k (inr (In-append_right k (lower_nodes entries) (nodes_of more) i))) (λ l i. is l (one_right l (entry_leaves entries) (leaves_of more) i)) in
-        (room place (inl refl), Hold-append (used_rows b records place (before_number low) (pos high) entries) (nodes_rows b records (end_of (before_number low) entries) (pos high) more) p.0 (subst (λ (z : ℤ). Hold (nodes_rows b records z (pos high) more)) (sym p.1) q))
+        let rooms = Each-split HasRoom (lower_nodes entries) (nodes_of more) room.1 in
+        let blocks = Each-split HasBlock (entry_leaves entries) (leaves_of more) is in
+        let p = entries_rules_from place low high entries m o.0 rooms.0 blocks.0 in
+        (room.0, Hold-append (used_rows b records place (before_number low) (pos high) entries) (nodes_rows b records (end_of (before_number low) entries) (pos high) more) p.0 (rw p.1 (rules_from (past_entries low entries) high more m o.1 rooms.1 blocks.1)))
 
-    entries_rules_from : (vxr low high : ℕ) (entries : Entries) → high ≤ record_number_limit → AreInOrder low high entries → ((m : ℕ) → In m (lower_nodes entries) → has_room b m ≡ true) → ((l : Leaf) → IsOneOf (entry_leaves entries) l → is_block b records l.place ≡ true)
+    entries_rules_from : (vxr low high : ℕ) (entries : Entries) → high ≤ record_number_limit → AreInOrder low high entries → Each HasRoom (lower_nodes entries) → Each HasBlock (entry_leaves entries)
         → Hold (used_rows b records vxr (before_number low) (pos high) entries) × (end_of (before_number low) entries ≡ before_number (past_entries low entries))
     entries_rules_from vxr low high no_entry m o room is = (tt, refl)
     entries_rules_from vxr low high (block first last place packed entries) m o room is =
-        let o2 = o.2 in
-        let s = signed last (omega arith) in
-        let r = entries_rules_from vxr (suc last) high entries m o.3 room (λ l i. is l (inr i)) in
-        ((is (leaf first last place packed) (inl refl), (between_by low high first last m o.0 o.1 o.2, subst (λ (z : ℤ). Hold (used_rows b records vxr z (pos high) entries)) (sym s) r.0)), ap (λ (z : ℤ). end_of z entries) s ∙ r.1)
+        let s = signed last (omega (arith, o.2)) in
+        let r = entries_rules_from vxr (suc last) high entries m o.3 room is.1 in
+        ((is.0, (between_by low high first last m o.0 o.1 o.2, rw s r.0)), ap (λ (z : ℤ). end_of z entries) s ∙ r.1)
     entries_rules_from vxr low high (lower first last nodes entries) m o room is =
-        let o1 = o.1 in
-        let o2 = o.2 in
-        let s = signed last (omega arith) in
-        let f = before_is first (signed first (omega arith)) in
-        let low_rules = rules_from first last nodes (omega arith) o.3 (λ k i. room k (In-append_left k (nodes_of nodes) (lower_nodes entries) i)) (λ l i. is l (one_left l (leaves_of nodes) (entry_leaves entries) i)) in
-        let r = entries_rules_from vxr (suc last) high entries m o.4 (λ k i. room k (In-append_right k (nodes_of nodes) (lower_nodes entries) i)) (λ l i. is l (one_right l (leaves_of nodes) (entry_leaves entries) i)) in
-        let here = subst (λ (z : ℤ). Hold (nodes_rows b records (number_before first) z nodes)) (sym s) (subst (λ (z : ℤ). Hold (nodes_rows b records z (pos last) nodes)) (sym f) low_rules) in
-        let behind = subst (λ (z : ℤ). Hold (used_rows b records vxr z (pos high) entries)) (sym s) r.0 in
-        ((between_by low high first last m o.0 o.1 o.2, Hold-append (nodes_rows b records (number_before first) (with_sign last) nodes) (used_rows b records vxr (with_sign last) (pos high) entries) here behind), ap (λ (z : ℤ). end_of z entries) s ∙ r.1)
+        let s = signed last (omega (arith, o.2)) in
+        let f = before_is first (signed first (omega (arith, o.1, o.2))) in
+        let rooms = Each-split HasRoom (nodes_of nodes) (lower_nodes entries) room in
+        let blocks = Each-split HasBlock (leaves_of nodes) (entry_leaves entries) is in
+        let below = rules_from first last nodes (omega (arith, o.2)) o.3 rooms.0 blocks.0 in
+        let r = entries_rules_from vxr (suc last) high entries m o.4 rooms.1 blocks.1 in
+        ((between_by low high first last m o.0 o.1 o.2, Hold-append (nodes_rows b records (number_before first) (with_sign last) nodes) (used_rows b records vxr (with_sign last) (pos high) entries) (rw (f, s) below) (rw s r.0)), ap (λ (z : ℤ). end_of z entries) s ∙ r.1)
 
   leaves_rules : (vdr : ℕ) (leaves : List Leaf) → ((l : Leaf) → IsOneOf leaves l → Hold (leaf_rows b records vdr l)) → Hold (flat_map (leaf_rows b records vdr) leaves)
   leaves_rules vdr [] each = tt
@@ -282,7 +235,7 @@ module _ (b records : List ℕ) where
   pub index_rules : (vdr : ℕ) (index : Nodes) → InOrder 0 record_number_limit index → ((m : ℕ) → In m (nodes_of index) → has_room b m ≡ true) → ((l : Leaf) → IsOneOf (leaves_of index) l → (is_block b records l.place ≡ true) × Hold (leaf_rows b records vdr l))
       → Hold (index_rows b records vdr index)
   index_rules vdr index o room each =
-      Hold-append (nodes_rows b records (negsuc 0) (pos record_number_limit) index) (flat_map (leaf_rows b records vdr) (leaves_of index)) (rules_from 0 record_number_limit index (omega arith) o room (λ l i. (each l i).0))
+      Hold-append (nodes_rows b records (negsuc 0) (pos record_number_limit) index) (flat_map (leaf_rows b records vdr) (leaves_of index)) (rules_from 0 record_number_limit index (omega arith) o (each_of HasRoom (nodes_of index) room) (each_leaf HasBlock (leaves_of index) (λ l i. (each l i).0)))
       (leaves_rules vdr (leaves_of index) (λ l i. (each l i).1))
 
   pub index_order : (vdr : ℕ) (index : Nodes) → Hold (index_rows b records vdr index) → InOrder 0 record_number_limit index

@@ -2,9 +2,10 @@
 use Rattle.std.proofs.Common.{◌≡◌, ◌≢◌, ℕ, ◌+◌, ◌-◌, ◌≤◌, List, [], ◌∷◌, ◌++◌, length, map, append_assoc, append-nil, refl, sym, ap, subst, ◌∙◌, inl, inr, arith}
 use Rattle.cdf_index.proofs.Common.{map-append, Nodes, no_node, node, link_to, nodes_of, room_at, AreTiles, In, tiles, Each, Each-append, record_number_limit, IsTree, SomeTree, SpotIs, index_at, HasIndex, SomeNode, way, spot, Spot, Step}
 use Rattle.cdf_format.specs.IndexOf.{HasNodes}
+use Rattle.cdf_index.specs.Order.{InOrder}
 use Rattle.cdf_index.specs.Descent.{IsAmong, StepSays, step_pair}
 use Rattle.cdf_index.proofs.Ascending.{index_stands}
-use Rattle.cdf_index.proofs.WayDown.{AllIn, node_there_by, no_zero, spot_in, way_in}
+use Rattle.cdf_index.proofs.WayDown.{AllIn, node_there_by, no_zero, way_in}
 use Rattle.std.proofs.lemmas.Bool.{eq-eqb, ne_eqb}
 
 no_nodes : (b : List ℕ) (nodes : Nodes) → IsTree b 0 nodes → ⊥
@@ -52,14 +53,14 @@ module _ {b : List ℕ} {f turn : ℕ} {total : Nodes} {passed : List Step} {end
   pub end_done : end.lower ≡ 0 → end.place ≡ spot f total
   end_done e = let t = eq-eqb end.lower 0 e in let here : spot f d.nodes ≡ end.place = d.ends.end_is ∙ rw t refl in sym (d.end_is ∙ here)
 
-  pub last_among : AreTiles b 8 (length b) (tiles b) → end.lower ≡ 0 → In end.place (nodes_of total)
-  last_among tiled e = elim (spot_in f total) [
+  pub last_among : InOrder 0 record_number_limit total → AreTiles b 8 (length b) (tiles b) → end.lower ≡ 0 → In end.place (nodes_of total)
+  last_among o tiled e = elim (way_in f 0 record_number_limit total o).1 [
     | inl z ↦ absurd (no_zero b (tiles b) d.levels d.nodes tiled d.tree.stands.has (subst (λ (x : ℕ). In x (nodes_of d.nodes)) (end_done e ∙ z) d.ends.among))
     | inr i ↦ subst (λ (x : ℕ). In x (nodes_of total)) (sym (end_done e)) i
   ]
 
-  pub all_among : end.lower ≡ 0 → Each (IsAmong total) passed
-  all_among e = pairs_among passed (subst (λ (w : List (ℕ × ℕ)). AllIn w (nodes_of total)) (sym (way_done e)) (way_in f total))
+  pub all_among : InOrder 0 record_number_limit total → end.lower ≡ 0 → Each (IsAmong total) passed
+  all_among o e = pairs_among passed (subst (λ (w : List (ℕ × ℕ)). AllIn w (nodes_of total)) (sym (way_done e)) (way_in f 0 record_number_limit total o).0)
     where
       pairs_among : (steps : List Step) → AllIn (map step_pair steps) (nodes_of total) → Each (IsAmong total) steps
       pairs_among [] a = tt

@@ -18,6 +18,7 @@ pub mod Measured
 pub mod NodeMade
 pub mod IndexReplaced
 pub mod LeafMore
+pub mod Coming
 pub mod NodeGrown
 pub mod GoingDown
 pub mod Leading

@@ -1,24 +1,8 @@
 -- One variable has another index by now, and an edit met its VXRhead and VXRtail, nodes and unused records alone: what follows of the image, and what each record keeps.
 use Rattle.std.proofs.Common.{◌≡◌, ◌≢◌, ◌⊎◌, ℕ, suc, ◌+◌, ◌*◌, ◌≤◌, List, [], ◌∷◌, ◌++◌, length, false, true, refl, sym, ap, subst, ◌∙◌, arith, inl, inr}
-use Rattle.cdf_index.proofs.Common.{flat_map, is_a, is_in, number, size_at, type_at, Nodes, leaves_of, nodes_of, vxr_type, cvvr_type, VariableShape, In, Kept, In-append, is_a-in, linkable-in, linkable-type, tile_lies, Distinct, Hold, NodeFits, room_at, image_limit, vxr_n_used_entries}
-use Rattle.cdf_model.specs.declared.kinds.Kind.{Kind}
-use Rattle.cdf_model.specs.declared.kinds.Kind.TheVariants.{R, Z}
-use Rattle.cdf_format.specs.Bytes.{Same}
-use Rattle.cdf_format.specs.Chains.{IsChain}
-use Rattle.cdf_format.specs.IndexOf.{IsIndex}
-use Rattle.cdf_format.specs.Owners.{OneVariable, OwnedOnce, owned, times, variable_records}
-use Rattle.cdf_format.specs.Records.{Field, gdr_uir_head, uir_next_uir, uir_prev_uir, vdr_max_rec, vdr_vxr_head, vdr_vxr_tail}
-use Rattle.cdf_format.specs.RecordTypes.{cdr_type, gdr_type, vvr_type, cpr_type, uir_type, is_record_type, fixed_size}
-use Rattle.cdf_format.specs.Shape.{Each, Shape, HasShape, shape}
-use Rattle.cdf_format.specs.WellFormed.{Good}
-use Rattle.cdf_format.proofs.BytesLemmas.{word_kept}
-use Rattle.cdf_format.proofs.ChainsLemmas.{is_a-type}
-use Rattle.cdf_edits.specs.Commands.Allowances.{Allowances, AllKeep, Anything, Keeps, Only, OutsideFields, Stays, is_taken, shapes_of}
-use Rattle.cdf_edits.specs.Edits.Edit.{Edit}
-use Rattle.cdf_edits.specs.Edits.Marks.{Among, Avoids, Away, Mark, Within, all_unmarked, avoided, keeps_file, mark, unmarked, variable_types, within}
-use Rattle.cdf_edits.specs.Space.Acts.{Act}
-use Rattle.cdf_edits.specs.Space.Chains.{count_of, head_of, type_in}
-use Rattle.cdf_edits.specs.Space.VariableChains.{variables_chain}
+use Rattle.cdf_edits.proofs.Common.{Kind, R, Z, Same, IsChain, IsIndex, OneVariable, OwnedOnce, owned, times, variable_records, Field, gdr_uir_head, uir_next_uir, uir_prev_uir, vdr_max_rec, vdr_vxr_head, vdr_vxr_tail, cdr_type, gdr_type, vvr_type, cpr_type, uir_type, is_record_type, fixed_size, HasShape, shape, Good, word_kept, is_a-type, Allowances, AllKeep, Anything, Keeps, Only, OutsideFields, Stays, is_taken, shapes_of, Edit, Among, Avoids, Away, Mark, Within, all_unmarked, avoided, keeps_file, mark, unmarked, variable_types, within, Act, count_of, head_of, type_in, variables_chain, eof, has_room, index_rows, read_types, is_max_rec, good_by_its_shape, nodes_stand, times-none, times-once, of_le, signed_limit}
+use Rattle.cdf_edits.proofs.Edits.Common.{keep_all, keep_file, keep_places, keep_unused, keeps_fields, stood, cdr_kept, kept, kept_away, gdr_in, gdr_typed, variable_typed, variables_in, keep_kinds, keep_variable_parts, keeps_kind, kind_ours, other_kind, spliced_times, with_shapes, attributes_kept, keeps_all_attributes, all_variable_records, times-append, apart}
+use Rattle.cdf_index.proofs.Common.{flat_map, is_a, is_in, number, size_at, type_at, Nodes, leaves_of, nodes_of, vxr_type, cvvr_type, VariableShape, In, Kept, In-append, is_a-in, linkable-in, linkable-type, tile_lies, Distinct, Hold, NodeFits, room_at, image_limit, vxr_n_used_entries, Each, Shape}
 use Rattle.cdf_edits.proofs.Commands.KeptRecords.{Stood, keep_attributes, keep_variables, keeps_stood}
 use Rattle.cdf_edits.proofs.Edits.IndexEdited.{IndexEdit, vdr_size}
 use Rattle.cdf_edits.proofs.Edits.IndexEdited as of_index
@@ -26,29 +10,11 @@ use Rattle.cdf_edits.proofs.Edits.InRecords.{places_of}
 use Rattle.cdf_edits.proofs.Edits.MarkLemmas.{Avoids-append, Away-append, Within-append, all_unmarked-away, away-avoids, away-within, the_one, unmarked-away}
 use Rattle.cdf_edits.proofs.Edits.OwnEdited.{OwnEdit, only, records_are, splices}
 use Rattle.cdf_edits.proofs.Edits.OwnedOnce.{IsSorted, all_attributes_in, fresh_unowned, owned_once_if, sorted_before, used_times}
-use Rattle.cdf_edits.proofs.Edits.OwnersKept.{keep_all, keep_file, keep_places, keep_unused, keeps_fields, stood}
-use Rattle.cdf_edits.proofs.Edits.RecordFrame.{cdr_kept, kept, kept_away}
 use Rattle.cdf_edits.proofs.Edits.RecordPlaced.{links_mark}
 use Rattle.cdf_edits.proofs.Edits.StandsAmong.{StandsAmong, after_ours, behind_in, fits, has, long, ours, sound, through, tile, typed}
-use Rattle.cdf_edits.proofs.Edits.StepEdits.{gdr_in, gdr_typed}
 use Rattle.cdf_edits.proofs.Edits.VariableCopied.{block_behind, cpr_behind, node_behind}
-use Rattle.cdf_edits.proofs.Edits.VariableFrame.{variable_typed, variables_in}
-use Rattle.cdf_edits.proofs.Edits.VariableKept.{keep_kinds, keep_variable_parts}
-use Rattle.cdf_edits.proofs.Edits.VariableKinds.{keeps_kind, kind_ours, other_kind, spliced_times, with_shapes}
-use Rattle.cdf_edits.proofs.Edits.VariableSplice.{attributes_kept, keeps_all_attributes}
 use Rattle.cdf_edits.proofs.Frame.OwnerAlone.{Each-in}
-use Rattle.cdf_edits.proofs.Frame.OwnersApart.{all_variable_records, times-append}
-use Rattle.cdf_edits.proofs.Space.UsedRecords.{apart}
 use Rattle.cdf_edits.proofs.Edits.PlainLeaves.{own_rules}
-use Rattle.cdf_format.specs.Fields.{eof}
-use Rattle.cdf_format.specs.IndexRules.{has_room, index_rows}
-use Rattle.cdf_format.specs.NotRead.{read_types}
-use Rattle.cdf_format.specs.VariableRules.{is_max_rec}
-use Rattle.cdf_format.proofs.GoodSound.{good_by_its_shape}
-use Rattle.cdf_format.proofs.IndexLemmas.{nodes_stand}
-use Rattle.cdf_format.proofs.Owning.{times-none, times-once}
-use Rattle.cdf_format.proofs.Tests.{of_le}
-use Rattle.cdf_model.specs.Limits.{signed_limit}
 use Rattle.cdf_index.specs.Adding.{Counts}
 use Rattle.cdf_index.proofs.OwnRecords.{block_type, parts_times}
 

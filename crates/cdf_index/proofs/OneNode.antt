@@ -1,7 +1,8 @@
 -- One node whose record stays, and the entries behind those that it has.
-use Rattle.std.proofs.Common.{◌≡◌, ℕ, zero, suc, ◌≤◌, List, [], ◌∷◌, length, refl, sym, subst, arith, inl, inr}
-use Rattle.cdf_index.proofs.Common.{SameHeads, Kept, size_at, type_at, entry_in, Entry}
-use Rattle.cdf_format.proofs.BytesLemmas.{size_kept, type_kept}
+use Rattle.std.proofs.Common.{◌≡◌, ℕ, zero, suc, ◌<◌, ◌≤◌, List, [], ◌∷◌, length, refl, sym, subst, arith, inl, inr}
+use Rattle.cdf_index.proofs.Common.{SameHeads, Kept, NodeFits, StillSays, next_of, number, room_at, used_count, vxr_n_used_entries, size_at, type_at, entry_in, Entry}
+use Rattle.cdf_format.proofs.BytesLemmas.{next_kept, number_kept, size_kept, type_kept}
+use Rattle.cdf_edits.proofs.Frame.LinksStay.{room_same, used_same, entry_same}
 use Rattle.cdf_index.specs.Writing.{unused_entry}
 
 pub one_head : (mid now : List ℕ) (m : ℕ) → Kept mid now m → SameHeads mid now (m ∷ []) (m ∷ [])
@@ -10,6 +11,26 @@ one_head mid now m k = record {
   types = λ x i. elim i [ inl e ↦ subst (λ (y : ℕ). type_at now y ≡ type_at mid y) (sym e) (type_kept mid now m k.same k.long) | inr none ↦ absurd none ];
   sub = λ x i. i;
 }
+
+pub record SameNode (b now : List ℕ) (m : ℕ) : Type 0 where
+  pub size_is : size_at now m ≡ size_at b m
+  pub room_is : room_at now m ≡ room_at b m
+  pub used_is : used_count now m ≡ used_count b m
+  pub count_is : number now m vxr_n_used_entries ≡ number b m vxr_n_used_entries
+  pub next_is : next_of now m ≡ next_of b m
+  pub entries : (j : ℕ) → j < room_at b m → StillSays b now m j j
+
+pub same_node : (b now : List ℕ) (m : ℕ) → Kept b now m → NodeFits b m → SameNode b now m
+same_node b now m k fits =
+    let h = one_head b now m k in
+    record {
+      size_is = h.sizes m (inl refl);
+      room_is = room_same b now (m ∷ []) (m ∷ []) h m k fits;
+      used_is = used_same b now (m ∷ []) (m ∷ []) h m k fits;
+      count_is = number_kept b now m k.same vxr_n_used_entries (omega (arith, fits.0));
+      next_is = next_kept b now m k.same (omega (arith, fits.0));
+      entries = λ j lt f l o e. entry_same b now (m ∷ []) (m ∷ []) h m k fits j f l o lt e;
+    }
 
 pub entry_past : (entries : List Entry) (i : ℕ) → length entries ≤ i → entry_in entries i ≡ unused_entry
 entry_past [] i le = refl

@@ -1,11 +1,8 @@
 -- A variable among those of its kind, by its VDR, and among all variables.
 use Rattle.std.proofs.Common.{◌≡◌, ℕ, List, [], ◌∷◌, ◌++◌, append_assoc, refl, sym, ap, subst, ◌∙◌, inl, inr}
+use Rattle.cdf_edits.proofs.Common.{shapes_of, shape, vdrs, Kind, R, Z}
 use Rattle.cdf_index.proofs.Common.{VariableShape, variables, In, In-append, map-append}
-use Rattle.cdf_edits.specs.Commands.Allowances.{shapes_of}
 use Rattle.cdf_edits.proofs.Edits.StandsAmong.{StandsAmong}
-use Rattle.cdf_format.specs.Shape.{shape, vdrs}
-use Rattle.cdf_model.specs.declared.kinds.Kind.{Kind}
-use Rattle.cdf_model.specs.declared.kinds.Kind.TheVariants.{R, Z}
 
 record StandsIn (vs : List VariableShape) (vdr : ℕ) : Type 0 where
   before : List VariableShape

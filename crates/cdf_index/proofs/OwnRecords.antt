@@ -1,32 +1,16 @@
 -- The records of one variable: how often each stands in it, of which types they are, and what a command on the variable may do to them.
 use Rattle.std.proofs.Common.{◌≡◌, ◌⊎◌, ℕ, ◌+◌, List, [], ◌∷◌, ◌++◌, length, true, false, Option, Some, None, true≢false, refl, sym, ap, ◌∙◌, inl, inr}
+use Rattle.cdf_edits.proofs.Common.{Found, Kind, R, Z, times, variable_records, Field, cpr_type, vvr_type, shape, Good, is_a-type, nodes_stand, Allowance, Anything, Only, range_at, shapes_of, vdr_type, Range}
+use Rattle.cdf_edits.proofs.Edits.Common.{got-middle, index_records, fits, has, typed, kind_type, times-append}
 use Rattle.std.specs.Prelude.{find, slice_get, ◌==◌, if◌then◌else◌}
-use Rattle.cdf_index.proofs.Common.{range, is_a, is_in, type_at, Leaf, leaves_of, Each, In, VariableShape, LeafFits}
-use Rattle.cdf_model.specs.Names.{Found}
-use Rattle.cdf_model.specs.declared.kinds.Kind.{Kind}
-use Rattle.cdf_model.specs.declared.kinds.Kind.TheVariants.{R, Z}
-use Rattle.cdf_format.specs.Index.{nodes_of}
-use Rattle.cdf_format.specs.Owners.{times, variable_records}
-use Rattle.cdf_format.specs.Records.{Field}
-use Rattle.cdf_format.specs.RecordTypes.{cpr_type, vvr_type, cvvr_type, vxr_type}
-use Rattle.cdf_format.specs.Shape.{shape}
-use Rattle.cdf_format.specs.WellFormed.{Good}
-use Rattle.cdf_format.proofs.ChainsLemmas.{is_a-type, linkable-type}
-use Rattle.cdf_format.proofs.IndexLemmas.{nodes_stand}
-use Rattle.cdf_edits.specs.Commands.Allowances.{Allowance, Anything, Only, range_at, shapes_of, vdr_type}
-use Rattle.cdf_edits.specs.Index.Blocks.{Range}
-use Rattle.cdf_edits.proofs.Commands.ListParts.{got-middle}
+use Rattle.cdf_index.proofs.Common.{range, is_a, is_in, type_at, Leaf, leaves_of, Each, In, VariableShape, LeafFits, nodes_of, cvvr_type, vxr_type, linkable-type}
 use Rattle.cdf_edits.proofs.Edits.InRecords.{places_of}
 use Rattle.cdf_edits.proofs.Edits.LeafPieces.{IsOneOf, find_place}
 use Rattle.cdf_edits.proofs.Edits.MarkLemmas.{or_cases}
 use Rattle.cdf_edits.proofs.Edits.PlainLeaves.{leaves_apart}
-use Rattle.cdf_edits.proofs.Edits.RecordFrame.{index_records}
 use Rattle.cdf_edits.proofs.Edits.StandsAmong.{StandsAmong}
-use Rattle.cdf_edits.proofs.Edits.VdrEdited.{fits, has, typed}
 use Rattle.cdf_edits.proofs.Edits.VariableKept.{find_none}
-use Rattle.cdf_edits.proofs.Edits.VariableKinds.{kind_type}
 use Rattle.cdf_edits.proofs.Frame.OwnerAlone.{Each-in}
-use Rattle.cdf_edits.proofs.Frame.OwnersApart.{times-append}
 
 pub parts_times : (v : VariableShape) (m : ℕ) → times m (variable_records v) ≡ times m (v.vdr ∷ []) + (times m (nodes_of v.index) + times m (places_of (leaves_of v.index)) + times m v.cpr)
 parts_times v m =
@@ -69,11 +53,8 @@ by_types Z fields = (refl, refl, refl, refl)
 
 module _ {b : List ℕ} (found : Found) {before : List VariableShape} {own : VariableShape} {after : List VariableShape} (good : Good b) (among : StandsAmong b found.kind before own after) (number_is : found.number ≡ length before) (fields : List Field) (block : Range → Allowance) (may : ℕ → Allowance)
     (allowed : (m : ℕ) (o : Option Range) → range_at (shape b) found m ≡ o → may m ≡ by_range b found.kind fields block m o) where
-  there : slice_get (shapes_of (shape b) found.kind) found.number ≡ Some own
-  there = ap (slice_get (shapes_of (shape b) found.kind)) number_is ∙ ap (λ (vs : List VariableShape). slice_get vs (length before)) among.was ∙ got-middle before own after
-
   ranged : (m : ℕ) (o : Option Leaf) → find (λ (leaf : Leaf). leaf.place == m) (leaves_of own.index) ≡ o → range_at (shape b) found m ≡ in_leaf o
-  ranged m o e = ap (range_in m) there ∙ ap in_leaf e
+  ranged m o e = ap (range_in m) (ap (slice_get (shapes_of (shape b) found.kind)) number_is ∙ ap (λ (vs : List VariableShape). slice_get vs (length before)) among.was ∙ got-middle before own after) ∙ ap in_leaf e
 
   -- a record of another type is no block
   no_block_of : (m type : ℕ) → type_at b m ≡ type → is_in type block_types ≡ false → In m (places_of (leaves_of own.index)) → ⊥
@@ -88,11 +69,8 @@ module _ {b : List ℕ} (found : Found) {before : List VariableShape} {own : Var
   pub descriptor_allowed : may own.vdr ≡ Only fields
   descriptor_allowed = typed_allowed own.vdr (vdr_type found.kind) (typed good among ∙ kind_type found.kind) (by_types found.kind fields).3 ∙ (by_types found.kind fields).2
 
-  node_typed : (m : ℕ) → In m (nodes_of own.index) → type_at b m ≡ vxr_type
-  node_typed m i = linkable-type b (shape b).records vxr_type m (nodes_stand b (shape b).records 8 own.index (has good among).indexed.has_nodes m i)
-
   pub node_allowed : (m : ℕ) → In m (nodes_of own.index) → may m ≡ Anything
-  node_allowed m i = typed_allowed m vxr_type (node_typed m i) refl ∙ (by_types found.kind fields).0
+  node_allowed m i = typed_allowed m vxr_type (linkable-type b (shape b).records vxr_type m (nodes_stand b (shape b).records 8 own.index (has good among).indexed.has_nodes m i)) refl ∙ (by_types found.kind fields).0
 
   pub parameters_allowed : (m : ℕ) → In m own.cpr → may m ≡ Only []
   parameters_allowed m i = typed_allowed m cpr_type (is_a-type b (shape b).records cpr_type m (Each-in (λ x. is_a b (shape b).records cpr_type x ≡ true) own.cpr (fits good among).3 m i)) refl ∙ (by_types found.kind fields).1

@@ -1,11 +1,9 @@
 -- One node of an index was touched behind its first 12 bytes: what stays, and what the tree becomes.
 use Rattle.std.proofs.Common.{◌≢◌, ℕ, ◌+◌, ◌≤◌, List, [], ◌∷◌, map, length, refl, sym, arith, inl, inr}
+use Rattle.cdf_edits.proofs.Common.{Placed, Same, word_kept}
 use Rattle.cdf_index.proofs.Common.{touch, Changed, SameHeads, Kept, Edit, Owed, redone, size_at, Nodes, Leaf, nodes_of, leaves_of, HasNodes, NodeFits, In, Distinct, AreTiles, tile_lies}
-use Rattle.cdf_edits.specs.Frame.Changed.{Placed}
 use Rattle.cdf_edits.proofs.Frame.ChangedBytes.{changed_part, changed_whole}
 use Rattle.cdf_edits.proofs.Index.NodeEdited.{redo}
-use Rattle.cdf_format.specs.Bytes.{Same}
-use Rattle.cdf_format.proofs.BytesLemmas.{word_kept}
 
 module _ (b now records : List ℕ) (tiled : AreTiles b 8 (length b) records) (at from n : ℕ) (there : In at records) (later : 12 ≤ from) (fits : from + n ≤ size_at b at) (change : Changed b now (touch at from n ∷ [])) where
   lies_there : Placed b records (length b) (touch at from n ∷ [])

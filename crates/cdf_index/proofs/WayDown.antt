@@ -1,20 +1,16 @@
 -- An index with one leaf more, made by one edit at the end of the way and one in each node on it, from the bottom up.
-use Rattle.std.proofs.Common.{◌≡◌, ◌≢◌, ◌⊎◌, ℕ, zero, suc, List, [], ◌∷◌, ◌++◌, max, Bool, true, false, eqb, refl, sym, ap, ap₂, subst, ◌∙◌, inl, inr, eq-eqb, length}
-use Rattle.cdf_index.proofs.Common.{reaches, chain_reaches, leads_down, Edit, Nodes, no_node, node, Entries, no_entry, block, lower, Leaf, link_to, IsNode, vxr_type, In, Distinct, AreTiles, linkable-in, either, In-append_left, In-append_right, Distinct-front, Distinct-back, down_at, widened, wider, placed, Each}
-use Rattle.cdf_edits.specs.Index.Grown.{with_leaf, with_lower}
+use Rattle.std.proofs.Common.{◌≡◌, ◌≢◌, ◌⊎◌, ℕ, zero, suc, ◌+◌, List, [], ◌∷◌, ◌++◌, max, true, false, eqb, refl, sym, ap, ap₂, subst, ◌∙◌, inl, inr, eq-eqb, length, arith}
+use Rattle.cdf_edits.proofs.Edits.Common.{in-times, times-append, times-in, Each-map}
+use Rattle.cdf_edits.proofs.Common.{times, ne_eqb, nodes_stand, some_place, times-once}
+use Rattle.cdf_index.proofs.Common.{chain_reaches, with_both, Edit, Nodes, no_node, node, Entries, no_entry, block, lower, Leaf, leaf, entry_count, link_to, IsNode, vxr_type, In, Distinct, AreTiles, linkable-in, In-append_left, In-append_right, Distinct-front, Distinct-back, widened, wider, placed, way, spot, Each}
 use Rattle.cdf_edits.proofs.Index.NodeEdited.{redo, redo_below}
 use Rattle.cdf_format.specs.Index.{nodes_of, lower_nodes}
 use Rattle.cdf_format.specs.IndexOf.{HasNodes, Names}
-use Rattle.cdf_index.specs.Way.{way, way_below, spot, spot_below, widen_all}
-use Rattle.std.proofs.lemmas.Bool.{ne_eqb}
-use Rattle.cdf_edits.proofs.Edits.VariableFrame.{Each-map}
+use Rattle.cdf_index.specs.Order.{InOrder}
+use Rattle.cdf_index.specs.Way.{widen_all}
+use Rattle.cdf_index.proofs.Coming.{Comes, comes, comes_along, comes_below, comes_first, comes_here}
+use Rattle.cdf_index.proofs.Saying.{lower_both, names_parts}
 use Rattle.cdf_index.proofs.Looking.{node_there}
-use Rattle.cdf_format.proofs.IndexLemmas.{nodes_stand}
-use Rattle.cdf_format.proofs.ChainsLemmas.{some_place}
-
-abbrev widen_below : ℕ → List (ℕ × ℕ) → Entries → Entries
-widen_below last [] entries = entries
-widen_below last (step ∷ more) entries = redo_below step.0 (wider last step.0 step.1) (widen_below last more entries)
 
 -- ---- an edit of no node of an index
 
@@ -33,199 +29,110 @@ mutual
   redo_below_none x edit (lower first last nodes es) n =
       ap₂ (λ (a : Nodes) (c : Entries). lower first last a c) (redo_none x edit nodes (λ i. n (In-append_left x (nodes_of nodes) (lower_nodes es) i))) (redo_below_none x edit es (λ i. n (In-append_right x (nodes_of nodes) (lower_nodes es) i)))
 
--- each node of the way is none of these
-abbrev Apart : List (ℕ × ℕ) → List ℕ → Type 0
-Apart steps xs = Each (λ (step : ℕ × ℕ). In step.0 xs → ⊥) steps
-
--- all of them are among these
-abbrev pub AllIn : List (ℕ × ℕ) → List ℕ → Type 0
-AllIn steps xs = Each (λ (step : ℕ × ℕ). In step.0 xs) steps
-
-in_more : (w : List (ℕ × ℕ)) (xs ys : List ℕ) → AllIn w xs → ((m : ℕ) → In m xs → In m ys) → AllIn w ys
-in_more w xs ys a f = Each-map (λ (step : ℕ × ℕ). In step.0 xs) (λ (step : ℕ × ℕ). In step.0 ys) (λ step. f step.0) w a
-
-apart_from : (w : List (ℕ × ℕ)) (xs ys : List ℕ) → AllIn w xs → ((m : ℕ) → In m xs → In m ys → ⊥) → Apart w ys
-apart_from w xs ys a f = Each-map (λ (step : ℕ × ℕ). In step.0 xs) (λ (step : ℕ × ℕ). In step.0 ys → ⊥) (λ step. f step.0) w a
-
--- ---- widening below a node
-
-module _ (last place room : ℕ) where
-  widen_more : (w : List (ℕ × ℕ)) (es : Entries) (more : Nodes) → Apart w (place ∷ lower_nodes es) → widen_all last w (node place room es more) ≡ node place room es (widen_all last w more)
-  unfolding redo redo_below
-  widen_more [] es more a = refl
-  widen_more (step ∷ w) es more a =
-      let test : eqb place step.0 ≡ false = ne_eqb place step.0 (λ e. a.0 (inl (sym e))) in
-      ap (redo step.0 (wider last step.0 step.1)) (widen_more w es more a.1)
-      ∙ rw test (ap (λ (x : Entries). node place room x (redo step.0 (wider last step.0 step.1) (widen_all last w more))) (redo_below_none step.0 (wider last step.0 step.1) es (λ i. a.0 (inr i))))
-
-  widen_low : (w : List (ℕ × ℕ)) (es : Entries) (more : Nodes) → Apart w (place ∷ nodes_of more) → widen_all last w (node place room es more) ≡ node place room (widen_below last w es) more
-  unfolding redo redo_below
-  widen_low [] es more a = refl
-  widen_low (step ∷ w) es more a =
-      let test : eqb place step.0 ≡ false = ne_eqb place step.0 (λ e. a.0 (inl (sym e))) in
-      ap (redo step.0 (wider last step.0 step.1)) (widen_low w es more a.1)
-      ∙ rw test (ap (λ (x : Nodes). node place room (redo_below step.0 (wider last step.0 step.1) (widen_below last w es)) x) (redo_none step.0 (wider last step.0 step.1) more (λ i. a.0 (inr i))))
-
-widen_block : (last : ℕ) (w : List (ℕ × ℕ)) (f l p : ℕ) (q : Bool) (es : Entries) → widen_below last w (block f l p q es) ≡ block f l p q (widen_below last w es)
-unfolding redo redo_below
-widen_block last [] f l p q es = refl
-widen_block last (step ∷ w) f l p q es = ap (redo_below step.0 (wider last step.0 step.1)) (widen_block last w f l p q es)
-
-widen_here : (last : ℕ) (w : List (ℕ × ℕ)) (f l : ℕ) (ns : Nodes) (es : Entries) → Apart w (lower_nodes es) → widen_below last w (lower f l ns es) ≡ lower f l (widen_all last w ns) es
-unfolding redo redo_below
-widen_here last [] f l ns es a = refl
-widen_here last (step ∷ w) f l ns es a =
-    ap (redo_below step.0 (wider last step.0 step.1)) (widen_here last w f l ns es a.1)
-    ∙ ap (λ (x : Entries). lower f l (redo step.0 (wider last step.0 step.1) (widen_all last w ns)) x) (redo_below_none step.0 (wider last step.0 step.1) es a.0)
-
-widen_rest : (last : ℕ) (w : List (ℕ × ℕ)) (f l : ℕ) (ns : Nodes) (es : Entries) → Apart w (nodes_of ns) → widen_below last w (lower f l ns es) ≡ lower f l ns (widen_below last w es)
-unfolding redo redo_below
-widen_rest last [] f l ns es a = refl
-widen_rest last (step ∷ w) f l ns es a =
-    ap (redo_below step.0 (wider last step.0 step.1)) (widen_rest last w f l ns es a.1)
-    ∙ ap (λ (x : Nodes). lower f l x (redo_below step.0 (wider last step.0 step.1) (widen_below last w es))) (redo_none step.0 (wider last step.0 step.1) ns a.0)
-
 -- ---- the way lies in the index
 
-mutual
-  unfolding way way_below nodes_of lower_nodes
+-- each node of the way is one of these
+abbrev pub AllIn : List (ℕ × ℕ) → List ℕ → Type 0
+AllIn w xs = Each (λ (step : ℕ × ℕ). In step.0 xs) w
 
-  pub way_in : (f : ℕ) (nodes : Nodes) → AllIn (way f nodes) (nodes_of nodes)
-  way_in f no_node = tt
-  way_in f (node place room es more) = elim (either (chain_reaches f more)) [
-    | inl t ↦ rw t (in_more (way f more) (nodes_of more) (place ∷ lower_nodes es ++ nodes_of more) (way_in f more) (λ m i. inr (In-append_right m (lower_nodes es) (nodes_of more) i)))
-    | inr t ↦ elim (either (leads_down f false es)) [
-      | inl d ↦ rw (t, d) (inl refl, in_more (way_below f es) (lower_nodes es) (place ∷ lower_nodes es ++ nodes_of more) (way_below_in f es) (λ m i. inr (In-append_left m (lower_nodes es) (nodes_of more) i)))
-      | inr d ↦ rw (t, d) tt
-    ]
-  ]
+-- and so is the one at its end, if there is one
+abbrev pub LiesIn : List (ℕ × ℕ) → ℕ → List ℕ → Type 0
+LiesIn w x xs = AllIn w xs × ((x ≡ 0) ⊎ In x xs)
 
-  way_below_in : (f : ℕ) (es : Entries) → AllIn (way_below f es) (lower_nodes es)
-  way_below_in f no_entry = tt
-  way_below_in f (block first last place packed es) = way_below_in f es
-  way_below_in f (lower first last nodes es) = elim (either (reaches f es)) [
-    | inl t ↦ rw t (in_more (way_below f es) (lower_nodes es) (nodes_of nodes ++ lower_nodes es) (way_below_in f es) (λ m i. In-append_right m (nodes_of nodes) (lower_nodes es) i))
-    | inr t ↦ rw t (in_more (way f nodes) (nodes_of nodes) (nodes_of nodes ++ lower_nodes es) (way_in f nodes) (λ m i. In-append_left m (nodes_of nodes) (lower_nodes es) i))
-  ]
+lies_in : (w : List (ℕ × ℕ)) (x : ℕ) (xs ys : List ℕ) → ((m : ℕ) → In m xs → In m ys) → LiesIn w x xs → LiesIn w x ys
+lies_in w x xs ys f l = (Each-map (λ (step : ℕ × ℕ). In step.0 xs) (λ (step : ℕ × ℕ). In step.0 ys) (λ step. f step.0) w l.0, elim l.1 [ inl z ↦ inl z | inr i ↦ inr (f x i) ])
 
-mutual
-  unfolding spot spot_below nodes_of lower_nodes
+-- how often a node below entries stands in all
+pub below_times : (m place room first last : ℕ) (fs es : Entries) (nodes more : Nodes) → times m (nodes_of (node place room (with_both fs (lower first last nodes es)) more)) ≡ times m (nodes_of nodes) + times m (place ∷ lower_nodes fs ++ (lower_nodes es ++ nodes_of more))
+unfolding nodes_of lower_nodes
+below_times m place room first last fs es nodes more =
+    let all = nodes_of nodes ++ lower_nodes es in
+    ap (λ (xs : List ℕ). times m (place ∷ xs ++ nodes_of more)) (lower_both fs (lower first last nodes es))
+    ∙ omega (arith, times-append m (place ∷ (lower_nodes fs ++ all)) (nodes_of more), times-append m (place ∷ lower_nodes fs) all, times-append m (nodes_of nodes) (lower_nodes es), times-append m (place ∷ lower_nodes fs) (lower_nodes es ++ nodes_of more), times-append m (lower_nodes es) (nodes_of more))
 
-  pub spot_in : (f : ℕ) (nodes : Nodes) → (spot f nodes ≡ 0) ⊎ In (spot f nodes) (nodes_of nodes)
-  spot_in f no_node = inl refl
-  spot_in f (node place room es more) =
-      let all = place ∷ lower_nodes es ++ nodes_of more in
-      elim (either (chain_reaches f more)) [
-        | inl t ↦
-            let e : spot f (node place room es more) ≡ spot f more = rw t refl in
-            elim (spot_in f more) [ inl z ↦ inl (e ∙ z) | inr i ↦ inr (subst (λ (x : ℕ). In x all) (sym e) (inr (In-append_right (spot f more) (lower_nodes es) (nodes_of more) i))) ]
-        | inr t ↦ elim (either (leads_down f false es)) [
-          | inl d ↦
-              let e : spot f (node place room es more) ≡ spot_below f es = rw (t, d) refl in
-              elim (spot_below_in f es) [ inl z ↦ inl (e ∙ z) | inr i ↦ inr (subst (λ (x : ℕ). In x all) (sym e) (inr (In-append_left (spot_below f es) (lower_nodes es) (nodes_of more) i))) ]
-          | inr d ↦ let e : spot f (node place room es more) ≡ place = rw (t, d) refl in inr (inl e)
-        ]
-      ]
+pub way_lies : {l : Leaf} {at : ℕ} {w : List (ℕ × ℕ)} {x n : ℕ} {ns ns' : Nodes} → Comes l at w x n ns ns' → LiesIn w x (nodes_of ns)
+unfolding nodes_of lower_nodes
+way_lies comes_first = (tt, inl refl)
+way_lies {w = w} {x = x} (comes_along {place = place} {es = es} {more = more} t c) = lies_in w x (nodes_of more) (place ∷ lower_nodes es ++ nodes_of more) (λ m i. inr (In-append_right m (lower_nodes es) (nodes_of more) i)) (way_lies c)
+way_lies (comes_below {w = w} {x = x} {place = place} {room = room} {more = more} fs first last nodes nodes' es t le r c) =
+    let all = nodes_of (node place room (with_both fs (lower first last nodes es)) more) in
+    let l = lies_in w x (nodes_of nodes) all (λ m i. in-times m all (omega (arith, times-in m (nodes_of nodes) i, below_times m place room first last fs es nodes more))) (way_lies c) in
+    ((inl refl, l.0), l.1)
+way_lies (comes_here t d) = (tt, inr (inl refl))
 
-  pub spot_below_in : (f : ℕ) (es : Entries) → (spot_below f es ≡ 0) ⊎ In (spot_below f es) (lower_nodes es)
-  spot_below_in f no_entry = inl refl
-  spot_below_in f (block first last place packed es) = spot_below_in f es
-  spot_below_in f (lower first last nodes es) =
-      let all = nodes_of nodes ++ lower_nodes es in
-      elim (either (reaches f es)) [
-        | inl t ↦
-            let e : spot_below f (lower first last nodes es) ≡ spot_below f es = rw t refl in
-            elim (spot_below_in f es) [ inl z ↦ inl (e ∙ z) | inr i ↦ inr (subst (λ (x : ℕ). In x all) (sym e) (In-append_right (spot_below f es) (nodes_of nodes) (lower_nodes es) i)) ]
-        | inr t ↦
-            let e : spot_below f (lower first last nodes es) ≡ spot f nodes = rw t refl in
-            elim (spot_in f nodes) [ inl z ↦ inl (e ∙ z) | inr i ↦ inr (subst (λ (x : ℕ). In x all) (sym e) (In-append_left (spot f nodes) (nodes_of nodes) (lower_nodes es) i)) ]
-      ]
+pub way_in : (f low high : ℕ) (nodes : Nodes) → InOrder low high nodes → LiesIn (way f nodes) (spot f nodes) (nodes_of nodes)
+way_in f low high nodes o = way_lies (comes (leaf f 0 0 false) 0 low high nodes o)
 
-apart_lists : (xs ys : List ℕ) → Distinct (xs ++ ys) → (m : ℕ) → In m xs → In m ys → ⊥
-apart_lists [] ys d m i j = i
-apart_lists (x ∷ xs) ys d m (inl e) j = d.0 (subst (λ (y : ℕ). In y (xs ++ ys)) e (In-append_right m xs ys j))
-apart_lists (x ∷ xs) ys d m (inr i) j = apart_lists xs ys d.1 m i j
+-- ---- edits of other nodes
 
-chain_there : (f : ℕ) (nodes : Nodes) → chain_reaches f nodes ≡ true → IsNode nodes
-chain_there f no_node t = absurd (cc)
-chain_there f (node place room es more) t = tt
+module _ (x : ℕ) (edit : Edit) where
+  redo_along : (place room : ℕ) (es : Entries) (more : Nodes) → (In x (place ∷ lower_nodes es) → ⊥) → redo x edit (node place room es more) ≡ node place room es (redo x edit more)
+  unfolding redo
+  redo_along place room es more out = let test = ne_eqb place x (λ e. out (inl (sym e))) in rw (test, redo_below_none x edit es (λ i. out (inr i))) refl
+
+  redo_both : (fs es : Entries) → redo_below x edit (with_both fs es) ≡ with_both (redo_below x edit fs) (redo_below x edit es)
+  unfolding redo redo_below
+  redo_both no_entry es = refl
+  redo_both (block first last place packed fs) es = ap (block first last place packed) (redo_both fs es)
+  redo_both (lower first last nodes fs) es = ap (lower first last (redo x edit nodes)) (redo_both fs es)
+
+  redo_under : (place room first last : ℕ) (fs es : Entries) (nodes more : Nodes) → (In x (place ∷ lower_nodes fs ++ (lower_nodes es ++ nodes_of more)) → ⊥)
+      → redo x edit (node place room (with_both fs (lower first last nodes es)) more) ≡ node place room (with_both fs (lower first last (redo x edit nodes) es)) more
+  unfolding redo redo_below
+  redo_under place room first last fs es nodes more out =
+      let test = ne_eqb place x (λ e. out (inl (sym e))) in
+      let in_es = In-append_left x (lower_nodes es) (nodes_of more) in
+      rw (
+        test,
+        redo_both fs (lower first last nodes es),
+        redo_below_none x edit fs (λ i. out (inr (In-append_left x (lower_nodes fs) (lower_nodes es ++ nodes_of more) i))),
+        redo_below_none x edit es (λ i. out (inr (In-append_right x (lower_nodes fs) (lower_nodes es ++ nodes_of more) (in_es i)))),
+        redo_none x edit more (λ i. out (inr (In-append_right x (lower_nodes fs) (lower_nodes es ++ nodes_of more) (In-append_right x (lower_nodes es) (nodes_of more) i)))),
+      ) refl
+
+-- all nodes of the way in what stands in one place of an index
+module _ (last : ℕ) (whole : Nodes → Nodes) (out : List ℕ) (past : (x : ℕ) (edit : Edit) (m : Nodes) → (In x out → ⊥) → redo x edit (whole m) ≡ whole (redo x edit m)) where
+  widen_in : (w : List (ℕ × ℕ)) (xs : List ℕ) (m : Nodes) → AllIn w xs → ((y : ℕ) → In y xs → In y out → ⊥) → widen_all last w (whole m) ≡ whole (widen_all last w m)
+  widen_in [] xs m a apart = refl
+  widen_in (step ∷ w) xs m a apart = ap (redo step.0 (wider last step.0 step.1)) (widen_in w xs m a.1 apart) ∙ past step.0 (wider last step.0 step.1) (widen_all last w m) (apart step.0 a.0)
+
+  made_in : (w : List (ℕ × ℕ)) (x : ℕ) (xs : List ℕ) (edit : Edit) (m : Nodes) → LiesIn w x xs → x ≢ 0 → ((y : ℕ) → In y xs → In y out → ⊥) → widen_all last w (redo x edit (whole m)) ≡ whole (widen_all last w (redo x edit m))
+  made_in w x xs edit m l some apart =
+      let here = past x edit m (elim l.1 [ inl z ↦ absurd (some z) | inr i ↦ apart x i ]) in
+      ap (widen_all last w) here ∙ widen_in w xs (redo x edit m) l.0 apart
+
+widened_both : (last : ℕ) (fs : Entries) (first end : ℕ) (nodes : Nodes) (es : Entries) → widened last (entry_count fs) (with_both fs (lower first end nodes es)) ≡ with_both fs (lower first (max end last) nodes es)
+widened_both last no_entry first end nodes es = refl
+widened_both last (block f l p packed fs) first end nodes es = ap (block f l p packed) (widened_both last fs first end nodes es)
+widened_both last (lower f l ns fs) first end nodes es = ap (lower f l ns) (widened_both last fs first end nodes es)
+
+-- what stands in two parts of a list does not stand in it once
+pub apart_by : (m : ℕ) (all xs ys : List ℕ) → Distinct all → times m all ≡ times m xs + times m ys → In m xs → In m ys → ⊥
+apart_by m all xs ys d e i j = let a = times-in m xs i in let c = times-in m ys j in absurd (omega (arith, times-once m all d (in-times m all (omega arith))))
+
+pub below_once : (place room first last : ℕ) (fs es : Entries) (nodes more : Nodes) → Distinct (nodes_of (node place room (with_both fs (lower first last nodes es)) more)) → Distinct (nodes_of nodes)
+unfolding nodes_of lower_nodes
+below_once place room first last fs es nodes more d =
+    let all = Distinct-front (lower_nodes (with_both fs (lower first last nodes es))) (nodes_of more) d.1 in
+    Distinct-front (nodes_of nodes) (lower_nodes es) (Distinct-back (lower_nodes fs) (nodes_of nodes ++ lower_nodes es) (subst Distinct (lower_both fs (lower first last nodes es)) all))
 
 -- ---- the law
 
-mutual
-  unfolding redo redo_below way way_below spot spot_below nodes_of lower_nodes with_leaf with_lower HasNodes Names
-
-  pub made : (b ts : List ℕ) (levels at : ℕ) (l : Leaf) (nodes : Nodes) → HasNodes b ts levels nodes → IsNode nodes → Distinct (nodes_of nodes) → (In 0 (nodes_of nodes) → ⊥) → widen_all l.last (way l.first nodes) (redo (spot l.first nodes) (placed l at (spot l.first nodes)) nodes) ≡ with_leaf l at nodes
-  made b ts levels at l no_node h i d z = absurd i
-  made b ts zero at l (node place room es more) h i d z = absurd h
-  made b ts (suc levels) at l (node place room es more) h i d z = elim (either (chain_reaches l.first more)) [
-    | inl t ↦
-        let x = spot l.first more in
-        let edit = placed l at x in
-        let x_apart : In x (place ∷ lower_nodes es) → ⊥ = λ k. elim (spot_in l.first more) [
-          | inl q ↦ z (subst (λ (y : ℕ). In y (place ∷ lower_nodes es ++ nodes_of more)) q (elim k [ inl e ↦ inl e | inr j ↦ inr (In-append_left x (lower_nodes es) (nodes_of more) j) ]))
-          | inr j ↦ elim k [ inl e ↦ d.0 (subst (λ (y : ℕ). In y (lower_nodes es ++ nodes_of more)) e (In-append_right x (lower_nodes es) (nodes_of more) j)) | inr u ↦ apart_lists (lower_nodes es) (nodes_of more) d.1 x u j ]
-        ] in
-        let test : eqb place x ≡ false = ne_eqb place x (λ e. x_apart (inl (sym e))) in
-        let w_apart : Apart (way l.first more) (place ∷ lower_nodes es) = apart_from (way l.first more) (nodes_of more) (place ∷ lower_nodes es) (way_in l.first more) (λ m u v. elim v [
-          | inl e ↦ d.0 (subst (λ (y : ℕ). In y (lower_nodes es ++ nodes_of more)) e (In-append_right m (lower_nodes es) (nodes_of more) u))
-          | inr v ↦ apart_lists (lower_nodes es) (nodes_of more) d.1 m v u
-        ]) in
-        rw (t, test) (ap (λ (e : Entries). widen_all l.last (way l.first more) (node place room e (redo x edit more))) (redo_below_none x edit es (λ j. x_apart (inr j)))
-        ∙ widen_more l.last place room (way l.first more) es (redo x edit more) w_apart
-        ∙ ap (node place room es) (made b ts (suc levels) at l more h.2 (chain_there l.first more t) (Distinct-back (lower_nodes es) (nodes_of more) d.1) (λ j. z (inr (In-append_right 0 (lower_nodes es) (nodes_of more) j)))))
-    | inr t ↦ elim (either (leads_down l.first false es)) [
-      | inl u ↦
-          let x = spot_below l.first es in
-          let edit = placed l at x in
-          let x_apart : In x (place ∷ nodes_of more) → ⊥ = λ k. elim (spot_below_in l.first es) [
-            | inl q ↦ z (subst (λ (y : ℕ). In y (place ∷ lower_nodes es ++ nodes_of more)) q (elim k [ inl e ↦ inl e | inr j ↦ inr (In-append_right x (lower_nodes es) (nodes_of more) j) ]))
-            | inr j ↦ elim k [ inl e ↦ d.0 (subst (λ (y : ℕ). In y (lower_nodes es ++ nodes_of more)) e (In-append_left x (lower_nodes es) (nodes_of more) j)) | inr v ↦ apart_lists (lower_nodes es) (nodes_of more) d.1 x j v ]
-          ] in
-          let test : eqb place x ≡ false = ne_eqb place x (λ e. x_apart (inl (sym e))) in
-          let w_apart : Apart (way_below l.first es) (place ∷ nodes_of more) = apart_from (way_below l.first es) (lower_nodes es) (place ∷ nodes_of more) (way_below_in l.first es) (λ m i j. elim j [
-            | inl e ↦ d.0 (subst (λ (y : ℕ). In y (lower_nodes es ++ nodes_of more)) e (In-append_left m (lower_nodes es) (nodes_of more) i))
-            | inr j ↦ apart_lists (lower_nodes es) (nodes_of more) d.1 m i j
-          ]) in
-          let same : eqb place place ≡ true = eq-eqb place place refl in
-          let below = made_below b ts levels at l es h.1 (Distinct-front (lower_nodes es) (nodes_of more) d.1) (λ j. z (inr (In-append_left 0 (lower_nodes es) (nodes_of more) j))) in
-          rw (t, u, test) (
-          ap (redo place (wider l.last place (down_at l.first es))) (ap (λ (c : Nodes). widen_all l.last (way_below l.first es) (node place room (redo_below x edit es) c)) (redo_none x edit more (λ j. x_apart (inr j))) ∙ widen_low l.last place room (way_below l.first es) (redo_below x edit es) more w_apart)
-          ∙ rw same (ap (λ (e : Entries). node place room e more) below)
-          )
-      | inr u ↦ let same : eqb place place ≡ true = eq-eqb place place refl in rw (t, u, same) refl
-    ]
-  ]
-
-  made_below : (b ts : List ℕ) (levels at : ℕ) (l : Leaf) (es : Entries) → Names b ts levels es → Distinct (lower_nodes es) → (In 0 (lower_nodes es) → ⊥) → widened l.last (down_at l.first es) (widen_below l.last (way_below l.first es) (redo_below (spot_below l.first es) (placed l at (spot_below l.first es)) es)) ≡ with_lower l at es
-  made_below b ts levels at l no_entry n d z = refl
-  made_below b ts levels at l (block first last place packed es) n d z =
-      ap (widened l.last (suc (down_at l.first es))) (widen_block l.last (way_below l.first es) first last place packed (redo_below (spot_below l.first es) (placed l at (spot_below l.first es)) es))
-      ∙ ap (block first last place packed) (made_below b ts levels at l es n.2 d z)
-  made_below b ts levels at l (lower first last nodes es) n d z = elim (either (reaches l.first es)) [
-    | inl t ↦
-        let x = spot_below l.first es in
-        let edit = placed l at x in
-        let none : redo x edit nodes ≡ nodes = redo_none x edit nodes (λ k. elim (spot_below_in l.first es) [
-          | inl q ↦ z (subst (λ (y : ℕ). In y (nodes_of nodes ++ lower_nodes es)) q (In-append_left x (nodes_of nodes) (lower_nodes es) k))
-          | inr j ↦ apart_lists (nodes_of nodes) (lower_nodes es) d x k j
-        ]) in
-        let w_apart : Apart (way_below l.first es) (nodes_of nodes) = apart_from (way_below l.first es) (lower_nodes es) (nodes_of nodes) (way_below_in l.first es) (λ m i j. apart_lists (nodes_of nodes) (lower_nodes es) d m j i) in
-        rw t (ap (λ (c : Nodes). widened l.last (suc (down_at l.first es)) (widen_below l.last (way_below l.first es) (lower first last c (redo_below x edit es)))) none
-        ∙ ap (widened l.last (suc (down_at l.first es))) (widen_rest l.last (way_below l.first es) first last nodes (redo_below x edit es) w_apart)
-        ∙ ap (lower first last nodes) (made_below b ts levels at l es n.2 (Distinct-back (nodes_of nodes) (lower_nodes es) d) (λ j. z (In-append_right 0 (nodes_of nodes) (lower_nodes es) j))))
-    | inr t ↦
-        let x = spot l.first nodes in
-        let edit = placed l at x in
-        let none : redo_below x edit es ≡ es = redo_below_none x edit es (λ k. elim (spot_in l.first nodes) [
-          | inl q ↦ z (subst (λ (y : ℕ). In y (nodes_of nodes ++ lower_nodes es)) q (In-append_right x (nodes_of nodes) (lower_nodes es) k))
-          | inr j ↦ apart_lists (nodes_of nodes) (lower_nodes es) d x j k
-        ]) in
-        let w_apart : Apart (way l.first nodes) (lower_nodes es) = apart_from (way l.first nodes) (nodes_of nodes) (lower_nodes es) (way_in l.first nodes) (λ m i j. apart_lists (nodes_of nodes) (lower_nodes es) d m i j) in
-        rw t (ap (λ (c : Entries). widened l.last 0 (widen_below l.last (way l.first nodes) (lower first last (redo x edit nodes) c))) none
-        ∙ ap (widened l.last 0) (widen_here l.last (way l.first nodes) first last (redo x edit nodes) es w_apart)
-        ∙ ap (λ (c : Nodes). lower first (max last l.last) c es) (made b ts levels at l nodes n.1 n.0 (Distinct-front (nodes_of nodes) (lower_nodes es) d) (λ j. z (In-append_left 0 (nodes_of nodes) (lower_nodes es) j))))
-  ]
+pub made : {l : Leaf} {at : ℕ} {w : List (ℕ × ℕ)} {x n : ℕ} {ns ns' : Nodes} → Comes l at w x n ns ns' → x ≢ 0 → Distinct (nodes_of ns) → widen_all l.last w (redo x (placed l at x) ns) ≡ ns'
+unfolding redo redo_below nodes_of lower_nodes
+made comes_first some d = absurd (some refl)
+made {l = l} {at = at} {w = w} {x = x} (comes_along {place = place} {room = room} {es = es} {more = more} t c) some d =
+    let out = place ∷ lower_nodes es in
+    made_in l.last (node place room es) out (λ y e m o. redo_along y e place room es m o) w x (nodes_of more) (placed l at x) more (way_lies c) some (λ y i j. apart_by y (out ++ nodes_of more) (nodes_of more) out d (omega (arith, times-append y out (nodes_of more))) i j)
+    ∙ ap (node place room es) (made c some (Distinct-back (lower_nodes es) (nodes_of more) d.1))
+made {l = l} {at = at} {x = x} (comes_below {w = w} {place = place} {room = room} {more = more} fs first last nodes nodes' es t le r c) some d =
+    let all = nodes_of (node place room (with_both fs (lower first last nodes es)) more) in
+    let whole = λ (m : Nodes). node place room (with_both fs (lower first last m es)) more in
+    let out = place ∷ lower_nodes fs ++ (lower_nodes es ++ nodes_of more) in
+    let inner = made_in l.last whole out (λ y e m o. redo_under y e place room first last fs es m more o) w x (nodes_of nodes) (placed l at x) nodes (way_lies c) some (λ y i j. apart_by y all (nodes_of nodes) out d (below_times y place room first last fs es nodes more) i j)
+    ∙ ap whole (made c some (below_once place room first last fs es nodes more d)) in
+    ap (redo place (wider l.last place (entry_count fs))) inner ∙ rw (eq-eqb place place refl, widened_both l.last fs first last nodes' es) refl
+made (comes_here {place = place} t d) some o = rw (eq-eqb place place refl) refl
 
 -- ---- an index that a link leads to
 
@@ -234,3 +141,19 @@ node_there_by head nodes e n = node_there nodes (λ z. n (e ∙ z))
 
 pub no_zero : (b ts : List ℕ) (levels : ℕ) (nodes : Nodes) → AreTiles b 8 (length b) ts → HasNodes b ts levels nodes → In 0 (nodes_of nodes) → ⊥
 no_zero b ts levels nodes t h i = some_place b ts (length b) 0 t (linkable-in b ts vxr_type 0 (nodes_stand b ts levels nodes h 0 i)) refl
+
+chain_there : (f : ℕ) (nodes : Nodes) → chain_reaches f nodes ≡ true → IsNode nodes
+chain_there f no_node t = absurd (cc)
+chain_there f (node place room es more) t = tt
+
+-- the way ends at a node
+pub spot_there : {l : Leaf} {at : ℕ} {w : List (ℕ × ℕ)} {x n : ℕ} {ns ns' : Nodes} → Comes l at w x n ns ns' → (b ts : List ℕ) (levels : ℕ) → HasNodes b ts levels ns → IsNode ns → In x (nodes_of ns)
+unfolding HasNodes Names nodes_of lower_nodes
+spot_there comes_first b ts levels h is = absurd is
+spot_there (comes_along t c) b ts zero h is = absurd h
+spot_there {l = l} {x = x} (comes_along {es = es} {more = more} t c) b ts (suc levels) h is = inr (In-append_right x (lower_nodes es) (nodes_of more) (spot_there c b ts (suc levels) h.2 (chain_there l.first more t)))
+spot_there (comes_below fs first last nodes nodes' es t le r c) b ts zero h is = absurd h
+spot_there {x = x} (comes_below {place = place} {room = room} {more = more} fs first last nodes nodes' es t le r c) b ts (suc levels) h is =
+    let n = (names_parts b ts levels fs (lower first last nodes es) h.1).1 in
+    in-times x (nodes_of (node place room (with_both fs (lower first last nodes es)) more)) (omega (arith, times-in x (nodes_of nodes) (spot_there c b ts levels n.1 n.0), below_times x place room first last fs es nodes more))
+spot_there (comes_here t d) b ts levels h is = inl refl

@@ -1,61 +1,42 @@
 -- What the calls ask for that add a leaf, and what they leave.
 use Rattle.cdf_edits.proofs.Edits.RecordGrown as of_grown
-use Rattle.std.proofs.Common.{◌≡◌, ◌≢◌, ◌⊎◌, ℕ, ◌+◌, ◌-◌, ◌*◌, ◌<◌, ◌≤◌, max, List, [], ◌∷◌, ◌++◌, length, map, false, refl, sym, ap, subst, ◌∙◌, arith, inl, inr}
-use Rattle.cdf_leaves.proofs.Common.{Kind, image_limit, vxr_bytes, widest, with_leaf, new_room, Placed, StandsAmong, sound, tile, has, long, apart, number, size_at, with_field, Nodes, Leaf, nodes_of, room_at, vdr_vxr_head, vdr_vxr_tail, vxr_vxr_next, uir_type, vxr_type, vvr_type, VariableShape, Each, shape, variables, In, Good, type_kept, next_kept, tile_lies, AddsLeaf, step_pair, HasIndex, index_at, way, spot, Spot, Step, IsStep, entry, EntryPut, IndexStarted, MayPut, NodeMade, ChainInside, chain_end, StepStands, WayStands, WidenedAlong, Grew, grew, stands, unlike, Entry, no_zero}
-use Rattle.cdf_edits.specs.Space.Placing.{type_of_body}
-use Rattle.cdf_format.specs.Fields.{eof, gdr_offset}
+use Rattle.cdf_edits.proofs.Common.{type_of_body, eof, gdr_offset, vdrs}
+use Rattle.std.proofs.Common.{◌≡◌, ◌≢◌, ◌⊎◌, ℕ, ◌+◌, ◌≤◌, max, List, [], ◌∷◌, ◌++◌, length, map, false, refl, sym, ap, subst, ◌∙◌, arith, inl, inr}
+use Rattle.cdf_leaves.proofs.Common.{Kind, image_limit, vxr_bytes, widest, with_leaf, new_room, Placed, StandsAmong, sound, tile, has, long, apart, number, with_field, nodes_of, vdr_vxr_head, vdr_vxr_tail, vxr_vxr_next, uir_type, vxr_type, vvr_type, VariableShape, Each, shape, variables, In, Good, type_kept, tile_lies, AddsLeaf, step_pair, HasIndex, index_at, way, spot, Spot, Step, IsStep, entry, EntryPut, IndexStarted, MayPut, ChainInside, chain_end, StepStands, WayStands, WidenedAlong, Grew, grew, stands, unlike, Entry, field_set}
 use Rattle.cdf_format.specs.Index.{leaf}
-use Rattle.cdf_format.specs.Shape.{vdrs}
 use Rattle.cdf_index.specs.Descent.{IsAmong, StepSays}
 use Rattle.cdf_index.specs.declared.descending.Way.{Way}
 use Rattle.cdf_leaves.specs.Added.{IsWay}
-use Rattle.cdf_leaves.proofs.LeafGrown.{EntryStands, entry_stands, wide_state, chain_ready, vdr_lies, tail_stays, tail_written}
+use Rattle.cdf_leaves.proofs.LeafGrown.{EntryStands, Onto, not_on_way, entry_stands, wide_state, chain_ready, vdr_lies, tail_stays, tail_written}
 use Rattle.cdf_leaves.proofs.Grown.{was}
-use Rattle.cdf_leaves.proofs.NodesOf.{old_in}
-use Rattle.cdf_index.proofs.FieldSet.{field_set}
+use Rattle.cdf_index.proofs.ByLeaf.{node_stays}
 use Rattle.cdf_leaves.proofs.LeafStarted.{first_added}
-use Rattle.cdf_leaves.proofs.Own.{searchable, own_node, node_fits, node_kept, node_spares}
-use Rattle.cdf_leaves.proofs.Spares.{fits_still, front_lies, node_inside, node_long}
+use Rattle.cdf_leaves.proofs.Own.{searchable, own_node, node_fits, node_kept, node_spares, still_sees}
+use Rattle.cdf_leaves.proofs.Spares.{fits_still, front_lies, node_inside}
 use Rattle.cdf_index.proofs.Measured.{seven_at_least}
-use Rattle.cdf_leaves.proofs.SpotNode.{NotAt, nodes_linkable, way_apart}
+use Rattle.cdf_leaves.proofs.SpotNode.{NotAt, nodes_linkable}
 use Rattle.cdf_leaves.proofs.State.{State}
 use Rattle.cdf_index.proofs.OneVariable.{one_of}
-use Rattle.cdf_edits.proofs.Edits.RecordFrame.{through}
 
 -- ---- how long an image gets
 
 pub put_long : {filled grown : List ℕ} {seen : Spot} {e : Entry} {at : ℕ} → seen.used ≤ seen.room → seen.place + 28 ≤ length filled → EntryPut filled grown seen e at → length grown ≤ length filled + vxr_bytes (max 7 seen.room)
-put_long {filled = filled} {seen = seen} fits lies (inl p) = let l = p.2.as_long in omega arith
-put_long {filled = filled} {grown = grown} {seen = seen} fits lies (inr q) = elim q.1 [
-  | inl s ↦ let l = s.1.made.longest in let m = s.1.shortened.as_long in bound (length filled) (length s.1.roomy) (length grown) (seen.used - seen.begun) seen.room (omega arith) l m
+put_long fits lies (inl p) = omega (arith, p.2.as_long)
+put_long {seen = seen} fits lies (inr q) = elim q.1 [
+  | inl s ↦ omega (arith, s.1.made.longest, s.1.shortened.as_long)
   | inr c ↦
-      let l = c.1.made.longest in
-      let longer = takes_longer c.1.made in
-      let m = (field_set {b = c.1.roomy} {at = seen.place} {f = vxr_vxr_next} (omega arith) c.1.linked).as_long in
-      bound_7 (length filled) (length c.1.roomy) (length grown) seen.room l m
+      let made = c.1.made in
+      let set = field_set {b = c.1.roomy} {at = seen.place} {f = vxr_vxr_next} (omega (arith, made.fills.takes.changed.longer, made.fills.long)) c.1.linked in
+      omega (arith, made.longest, set.as_long)
 ]
-  where
-    bound : (f r n d room : ℕ) → d ≤ room → r ≤ f + (28 + 16 * max 7 d) → n ≡ r → n ≤ f + (28 + 16 * max 7 room)
-    bound f r n d room a c e = grind arith
-
-    bound_7 : (f r n room : ℕ) → r ≤ f + (28 + 16 * 7) → n ≡ r → n ≤ f + (28 + 16 * max 7 room)
-    bound_7 f r n room c e = grind arith
-
-    takes_longer : {roomy : List ℕ} {room next at : ℕ} {entries : List Entry} → NodeMade filled roomy room next entries at → length filled ≤ length roomy
-    takes_longer made = let a = made.fills.takes.changed.longer in let b = made.fills.long in omega arith
 
 -- an index that has its first node
 pub started_long : {filled now : List ℕ} {vdr : ℕ} {e : Entry} → vdr + 44 ≤ length filled → IndexStarted filled now vdr e → length now ≤ length filled + vxr_bytes 7
-started_long {filled = filled} {now = now} {vdr = vdr} lies st =
-    let a = st.made.fills.takes.changed.longer in
-    let c = st.made.fills.long in
-    let l = st.made.longest in
-    let m = (field_set {b = st.roomy} {now = with_field st.roomy vdr vdr_vxr_head st.at} {at = vdr} {f = vdr_vxr_head} (omega arith) refl).as_long in
-    let n = (field_set {at = vdr} {f = vdr_vxr_tail} (omega arith) st.linked).as_long in
-    omega arith
-
-pub fits_room : (f b n w m lim lim' : ℕ) → f ≤ b + n → m ≤ w → b + n + (28 + 16 * w) ≤ lim → lim' ≡ lim → f + (28 + 16 * m) ≤ lim'
-fits_room f b n w m lim lim' a c d e = omega arith
+started_long {vdr = vdr} lies st =
+    let made = st.made in
+    let head = field_set {b = st.roomy} {now = with_field st.roomy vdr vdr_vxr_head st.at} {at = vdr} {f = vdr_vxr_head} (omega (arith, made.fills.takes.changed.longer, made.fills.long)) refl in
+    let tail = field_set {at = vdr} {f = vdr_vxr_tail} (omega (arith, head.as_long, made.fills.takes.changed.longer, made.fills.long)) st.linked in
+    omega (arith, made.longest, head.as_long, tail.as_long)
 
 -- it is a variable of its kind
 pub among_kind : (b : List ℕ) (vdr : ℕ) (i : In vdr (vdrs (variables (shape b)))) → StandsAmong b (one_of b vdr i).kind (one_of b vdr i).before (record (one_of b vdr i).own { vdr = vdr }) (one_of b vdr i).after
@@ -65,17 +46,8 @@ module _ {b : List ℕ} {kind : Kind} {before : List VariableShape} {own : Varia
   pub index_there : {head : ℕ} → head ≡ number b own.vdr vdr_vxr_head → HasIndex b head
   index_there e = subst (HasIndex b) (sym e) (searchable good at_own).0
 
-  index_same : {head : ℕ} → head ≡ number b own.vdr vdr_vxr_head → index_at b head ≡ own.index
-  index_same e = ap (index_at b) e ∙ (searchable good at_own).1
-
   pub vdr_there : own.vdr + 340 ≤ length b
-  vdr_there = let t = tile_lies b 8 (length b) (shape b).records own.vdr (sound good at_own).has_shape.tiled (tile good at_own) in ends (size_at b own.vdr) t.high (long good at_own)
-    where
-      ends : (s : ℕ) → own.vdr + s ≤ length b → 340 ≤ s → own.vdr + 340 ≤ length b
-      ends s a c = omega arith
-
-  no_0 : In 0 (nodes_of own.index) → ⊥
-  no_0 = no_zero b (shape b).records 8 own.index (sound good at_own).has_shape.tiled (has good at_own).indexed.has_nodes
+  vdr_there = omega (arith, (tile_lies b 8 (length b) (shape b).records own.vdr (sound good at_own).has_shape.tiled (tile good at_own)).high, long good at_own)
 
   -- ---- a block was placed
 
@@ -90,7 +62,7 @@ module _ {b : List ℕ} {kind : Kind} {before : List VariableShape} {own : Varia
     vdr_late = let l = late.longer in let v = vdr_there in omega arith
 
     pub seven_fit : {head : ℕ} → head ≡ number b own.vdr vdr_vxr_head → (lim lim' : ℕ) → length b + (8 + length body) + vxr_bytes (widest (index_at b head)) ≤ lim → lim' ≡ lim → length filled + vxr_bytes 7 ≤ lim'
-    seven_fit {head = head} e lim lim' room same = fits_room (length filled) (length b) (8 + length body) (widest (index_at b head)) 7 lim lim' block.longest (seven_at_least (index_at b head)) room same
+    seven_fit {head = head} e lim lim' room same = omega (arith, block.longest, seven_at_least (index_at b head))
 
     -- ---- the index had no node
 
@@ -105,10 +77,10 @@ module _ {b : List ℕ} {kind : Kind} {before : List VariableShape} {own : Varia
 
     module _ {head first : ℕ} (head_is : head ≡ number b own.vdr vdr_vxr_head) {found : Way} (w : IsWay b head first found) where
       index : index_at b head ≡ own.index
-      index = index_same head_is
+      index = ap (index_at b) head_is ∙ (searchable good at_own).1
 
       last_there : In found.end.place (nodes_of own.index)
-      last_there = subst (λ (n : Nodes). In found.end.place (nodes_of n)) index w.last
+      last_there = rw index at w.last
 
       end_is : found.end.place ≡ spot first own.index
       end_is = w.end_is ∙ ap (spot first) index
@@ -120,113 +92,85 @@ module _ {b : List ℕ} {kind : Kind} {before : List VariableShape} {own : Varia
       may_put =
           let n = own_node good at_own found.end.place last_there in
           let k = node_kept good at_own late found.end.place last_there in
-          let s = node_spares good at_own late found.end.place last_there in
-          let f = node_fits good at_own found.end.place last_there in
+          let s = still_sees good at_own late w.sees last_there in
           record {
             sound = late.sound;
             ends = late_ends;
             there = late.sub found.end.place n.0;
             typed = type_kept b filled found.end.place k.same k.long ∙ n.1;
-            fits = fits_still b filled found.end.place s f;
-            room_is = w.sees.room_is ∙ sym s.room_is;
-            used_is = w.sees.used_is ∙ sym s.used_is;
-            next_is = w.sees.next_is ∙ sym (next_kept b filled found.end.place k.same (through 20 28 (size_at b found.end.place) (omega arith) (node_long (room_at b found.end.place) (size_at b found.end.place) f.0)));
-            most = subst (λ (u : ℕ). found.end.begun ≤ u) (sym w.sees.used_is) w.sees.begun.most;
+            fits = fits_still b filled found.end.place (node_spares good at_own late found.end.place last_there) (node_fits good at_own found.end.place last_there);
+            room_is = s.room_is;
+            used_is = s.used_is;
+            next_is = s.next_is;
+            most = omega (arith, w.sees.used_is, w.sees.begun.most);
           }
 
       pub wide_enough : max 7 found.end.room ≤ widest (index_at b head)
-      wide_enough =
-          subst (λ (n : Nodes). max 7 found.end.room ≤ widest n) (sym index)
-          (subst (λ (r : ℕ). max 7 r ≤ widest own.index) (sym w.sees.room_is) (both_least (room_at b found.end.place) (widest own.index) (seven_at_least own.index) (nodes_linkable b (shape b).records 8 found.end.place own.index (has good at_own).indexed.has_nodes last_there).1))
-        where
-          both_least : (r n : ℕ) → 7 ≤ n → r ≤ n → max 7 r ≤ n
-          both_least r n p q = grind arith
+      wide_enough = rw index (omega (arith, w.sees.room_is, seven_at_least own.index, (nodes_linkable b (shape b).records 8 found.end.place own.index (has good at_own).indexed.has_nodes last_there).1))
 
       steps_of : (steps : List Step) → Each (IsAmong own.index) steps → Each (StepSays b) steps → Each (IsStep b own.index) (map step_pair steps)
       steps_of [] a s = tt
       steps_of (step ∷ more) a s = ((a.0, s.0.within), steps_of more a.1 s.1)
 
       among_own : Each (IsAmong own.index) found.steps.items
-      among_own = subst (λ (n : Nodes). Each (IsAmong n) found.steps.items) index w.among
+      among_own = rw index at w.among
 
       is_steps : Each (IsStep b own.index) (way first own.index)
-      is_steps = subst (Each (IsStep b own.index)) way_is (steps_of found.steps.items among_own w.say)
-
-      not_end : NotAt found.end.place (map step_pair found.steps.items)
-      not_end = subst (λ (ws : List (ℕ × ℕ)). NotAt found.end.place ws) (sym way_is) (subst (λ (y : ℕ). NotAt y (way first own.index)) (sym end_is) (way_apart first own.index (has good at_own).indexed.once no_0))
-
-      pub entry_long : {grown : List ℕ} {e : Entry} {at : ℕ} → EntryPut filled grown found.end e at → length grown ≤ length filled + vxr_bytes (max 7 found.end.room)
-      entry_long put =
-          let m = may_put in
-          put_long (subst (λ (r : ℕ). found.end.used ≤ r) (sym m.room_is) (subst (λ (u : ℕ). u ≤ room_at filled found.end.place) (sym m.used_is) m.fits.1)) (front_lies filled found.end.place (node_inside filled (shape filled).records found.end.place m.sound.has_shape.tiled m.there m.fits)) put
-
-      pub grown_short : {grown : List ℕ} {e : Entry} {at : ℕ} → EntryPut filled grown found.end e at → (lim : ℕ) → length b + (8 + length body) + vxr_bytes (widest (index_at b head)) ≤ lim → lim ≤ image_limit → length grown ≤ image_limit
-      grown_short {grown = grown} put lim room limit =
-          through (length grown) (length filled + vxr_bytes (max 7 found.end.room)) image_limit (entry_long put)
-          (through (length filled + vxr_bytes (max 7 found.end.room)) lim image_limit (fits_room (length filled) (length b) (8 + length body) (widest (index_at b head)) (max 7 found.end.room) lim lim block.longest wide_enough room refl) limit)
+      is_steps = rw way_is at (steps_of found.steps.items among_own w.say)
 
       -- ---- the entry was put
 
-      module _ {grown : List ℕ} {last at : ℕ} (some : head ≢ 0) (type_is : type_of_body body ≡ vvr_type) (short : length grown ≤ image_limit) (put : EntryPut filled grown found.end (entry first last place) at) where
-        abbrev l : Leaf
-        l = leaf first last place false
+      module _ {grown : List ℕ} {last at : ℕ} (some : head ≢ 0) (type_is : type_of_body body ≡ vvr_type) (lim : ℕ) (room : length b + (8 + length body) + vxr_bytes (widest (index_at b head)) ≤ lim) (limit : lim ≤ image_limit) (put : EntryPut filled grown found.end (entry first last place) at) where
+        grown_short : length grown ≤ image_limit
+        grown_short =
+            let m = may_put in
+            let long = put_long (omega (arith, m.room_is, m.used_is, m.fits.1)) (front_lies filled found.end.place (node_inside filled (shape filled).records found.end.place m.sound.has_shape.tiled m.there m.fits)) put in
+            omega (arith, long, block.longest, wide_enough)
 
-        block_apart : (m : ℕ) → In m (nodes_of own.index) → m ≢ place
-        block_apart m j = let n = own_node good at_own m j in unlike (sound good at_own) block.fills m n.0 (λ u. apart vxr_type uir_type refl (sym n.1 ∙ u))
+        onto : Onto b filled own (leaf first last place false) found.end
+        onto = record {
+          late = late;
+          block_in = stands (sound good at_own) block.fills;
+          block_is = block.fills.typed ∙ type_is;
+          plain = refl;
+          block_fresh = λ m j. (let n = own_node good at_own m j in unlike (sound good at_own) block.fills m n.0 (λ u. apart vxr_type uir_type refl (sym n.1 ∙ u)));
+          some = λ z. some (head_is ∙ z);
+          end_is = end_is;
+          among = last_there;
+          sees = w.sees;
+        }
 
-        pub stands_now : EntryStands b filled grown (leaf first last place false) at own found.end.place (8 + length body)
-        stands_now = entry_stands good at_own (leaf first last place false) (8 + length body) late (stands (sound good at_own) block.fills) (block.fills.typed ∙ type_is) refl block_apart (λ z. some (head_is ∙ z)) found.end end_is last_there w.sees.room_is w.sees.used_is w.sees.next_is w.sees.begun short put
+        stands_now : EntryStands b filled grown (leaf first last place false) at own found.end.place (8 + length body)
+        stands_now = entry_stands good at_own onto (8 + length body) grown_short put
 
         all_steps : (steps : List Step) → Each (IsAmong own.index) steps → Each (StepSays b) steps → NotAt found.end.place (map step_pair steps) → Each (StepStands grown (shape stands_now.roomy).records) steps
         all_steps [] a s n = tt
         all_steps (step ∷ more) a s n =
             let e = stands_now in
-            let i = old_in own.index (leaf first last place false) at step.place a.0 in
-            let now_node = e.state.each step.place i in
+            let now_node = e.state.each step.place (node_stays (leaf first last place false) at own.index step.place a.0) in
             let old = node_spares good at_own e.grew step.place a.0 in (
-              record {
-                there = e.grew.sub step.place (own_node good at_own step.place a.0).0;
-                fits = now_node.fits;
-                room_is = s.0.room_is ∙ sym (now_node.room_is ∙ old.room_is);
-                within = subst (λ (u : ℕ). step.entry < u) (sym (now_node.stays n.0 ∙ old.used_is)) s.0.within;
-              },
+              record { there = e.grew.sub step.place (own_node good at_own step.place a.0).0; fits = now_node.fits; room_is = s.0.room_is ∙ sym (now_node.room_is ∙ old.room_is); within = omega (arith, now_node.stays n.0, old.used_is, s.0.within) },
               all_steps more a.1 s.1 n.1,
             )
 
-        pub way_stands : WayStands grown found.steps.items
-        way_stands = record { records = (shape stands_now.roomy).records; tiled = stands_now.state.tiled; stand = all_steps found.steps.items among_own w.say not_end }
+        pub way_ready : WayStands grown found.steps.items × (length grown ≤ image_limit)
+        way_ready = (record { records = (shape stands_now.roomy).records; tiled = stands_now.state.tiled; stand = all_steps found.steps.items among_own w.say (rw (← way_is) at (not_on_way good at_own onto (8 + length body))) }, grown_short)
 
         -- ---- the nodes on the way were widened
 
         module _ (wide : List ℕ) (widened : WidenedAlong grown wide last (map step_pair found.steps.items)) where
           state : State b stands_now.roomy wide (shape stands_now.roomy).records (nodes_of (with_leaf (leaf first last place false) at own.index)) (was b (nodes_of own.index) place (8 + length body) (new_room first own.index) at) found.end.place (with_leaf (leaf first last place false) at own.index)
-          state = wide_state good at_own (leaf first last place false) (8 + length body) late (stands (sound good at_own) block.fills) (block.fills.typed ∙ type_is) refl block_apart (λ z. some (head_is ∙ z)) found.end end_is last_there w.sees.room_is w.sees.used_is w.sees.next_is w.sees.begun stands_now is_steps (subst (WidenedAlong grown wide last) way_is widened)
+          state = wide_state good at_own onto (8 + length body) stands_now is_steps (rw way_is at widened)
 
-          pub tail_chain : ChainInside (length wide) wide head
-          tail_chain = subst (ChainInside (length wide) wide) (sym head_is) (chain_ready good at_own (leaf first last place false) (8 + length body) late (stands (sound good at_own) block.fills) (block.fills.typed ∙ type_is) refl block_apart (λ z. some (head_is ∙ z)) found.end end_is last_there w.sees.room_is w.sees.used_is w.sees.next_is w.sees.begun stands_now state)
-
-          pub tail_lies : own.vdr + 44 ≤ length wide
-          tail_lies = let v = vdr_lies good at_own (leaf first last place false) (8 + length body) late (stands (sound good at_own) block.fills) (block.fills.typed ∙ type_is) refl block_apart (λ z. some (head_is ∙ z)) found.end end_is last_there w.sees.room_is w.sees.used_is w.sees.next_is w.sees.begun stands_now state in omega arith
-
-          pub wide_long : length wide ≡ length grown
-          wide_long = state.as_long ∙ sym stands_now.state.as_long
+          pub tail_ready : ChainInside (length wide) wide head × (own.vdr + 44 ≤ length wide) × (length wide ≤ image_limit)
+          tail_ready = (rw head_is (chain_ready good at_own onto (8 + length body) stands_now state), omega (arith, vdr_lies good at_own onto (8 + length body) stands_now state), omega (arith, state.as_long, stands_now.state.as_long, grown_short))
 
           pub grown_stays : (at ≡ 0) ⊎ (found.steps.items ≢ []) → AddsLeaf b wide own first last body
-          grown_stays why = record {
-            place = place;
-            at = at;
-            added = tail_stays good at_own (leaf first last place false) (8 + length body) late (stands (sound good at_own) block.fills) (block.fills.typed ∙ type_is) refl block_apart (λ z. some (head_is ∙ z)) found.end end_is last_there w.sees.room_is w.sees.used_is w.sees.next_is w.sees.begun stands_now state block refl
-                (elim why [ inl z ↦ inl z | inr ne ↦ inr (λ z. ne (no_steps found.steps.items (way_is ∙ z))) ]);
-          }
+          grown_stays why = record { place = place; at = at; added = tail_stays good at_own onto (8 + length body) stands_now state block refl (elim why [ inl z ↦ inl z | inr ne ↦ inr (λ z. ne (no_steps found.steps.items (way_is ∙ z))) ]) }
             where
               no_steps : (steps : List Step) → map step_pair steps ≡ [] → steps ≡ []
               no_steps [] e = refl
               no_steps (step ∷ more) e = absurd (cc)
 
           pub grown_tail : {now : List ℕ} → at ≢ 0 → found.steps.items ≡ [] → now ≡ with_field wide own.vdr vdr_vxr_tail (chain_end (length wide) wide head) → AddsLeaf b now own first last body
-          grown_tail {now = now} ne none is = record {
-            place = place;
-            at = at;
-            added = tail_written good at_own (leaf first last place false) (8 + length body) late (stands (sound good at_own) block.fills) (block.fills.typed ∙ type_is) refl block_apart (λ z. some (head_is ∙ z)) found.end end_is last_there w.sees.room_is w.sees.used_is w.sees.next_is w.sees.begun stands_now state block refl
-                short ne (sym way_is ∙ ap (map step_pair) none) (is ∙ ap (λ (h : ℕ). with_field wide own.vdr vdr_vxr_tail (chain_end (length wide) wide h)) head_is);
-          }
+          grown_tail ne none is = record { place = place; at = at; added = tail_written good at_own onto (8 + length body) stands_now state block refl grown_short ne (sym way_is ∙ ap (map step_pair) none) (is ∙ ap (λ (h : ℕ). with_field wide own.vdr vdr_vxr_tail (chain_end (length wide) wide h)) head_is) }

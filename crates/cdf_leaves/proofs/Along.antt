@@ -1,12 +1,14 @@
 -- The nodes on a way are widened one by one, the last one first.
-use Rattle.std.proofs.Common.{◌≡◌, ℕ, zero, suc, ◌<◌, List, [], ◌∷◌, length, map, drop, slice_index_or, sym, subst, ◌∙◌, arith}
+use Rattle.std.proofs.Common.{◌≡◌, ℕ, zero, suc, ◌<◌, List, [], ◌∷◌, length, map, drop, slice_index_or, sym, ◌∙◌, arith}
 use Rattle.cdf_leaves.proofs.Common.{room_at, Each, step_pair, NodeInside, Step, StepStands, WayStands, WidenedAlong}
-use Rattle.cdf_leaves.proofs.Spares.{StillNodes, still_none, still_widened, fits_still, node_inside}
+use Rattle.cdf_leaves.proofs.Spares.{StillNodes, still_none, still_then, widened_one, fits_still, node_inside}
 
 pub along : (b mid records : List ℕ) (last : ℕ) (steps : List Step) → StillNodes b b records → Each (StepStands b records) steps → WidenedAlong b mid last (map step_pair steps) → StillNodes b mid records
-along b mid records last [] s e w = subst (λ (x : List ℕ). StillNodes b x records) (sym w) s
+along b mid records last [] s e w = rw w s
 along b mid records last (step ∷ more) s e w =
-    still_widened b w.0 mid records (along b w.0 records last more s e.1 w.1.0) step.place step.entry last e.0.there e.0.fits e.0.within w.1.1
+    let before = along b w.0 records last more s e.1 w.1.0 in
+    let here = before.still step.place e.0.there e.0.fits in
+    still_then b w.0 mid records before (widened_one w.0 mid records step.place step.entry last before.tiled e.0.there (fits_still b w.0 step.place here e.0.fits) (omega (arith, here.used_is, e.0.within)) w.1.1)
 
 pub each_drop : {A : Type 0} (P : A → Type 0) (k : ℕ) (xs : List A) → Each P xs → Each P (drop k xs)
 each_drop P zero xs e = e

@@ -1,26 +1,17 @@
 -- A chain of nodes followed to its end.
-use Rattle.std.proofs.Common.{◌≡◌, ◌≢◌, ℕ, zero, suc, ◌+◌, ◌<◌, List, length, arith}
-use Rattle.cdf_leaves.proofs.Common.{next_of, chain_end, ChainInside}
-use Rattle.std.proofs.lemmas.Bool.{eq-eqb, ne_eqb}
+use Rattle.std.proofs.Common.{◌-◌, ◌≡◌, ◌≢◌, ℕ, suc, ◌+◌, ◌<◌, List, length, arith}
+use Rattle.cdf_leaves.proofs.Common.{next_of, chain_end, ChainInside, eq-eqb, ne_eqb}
 
--- so many turns are left
 pub record Following (b : List ℕ) (at turn here : ℕ) : Type 0 where
-  pub left : ℕ
-  pub turns : turn + left ≡ length b
-  pub inside : ChainInside left b here
-  pub same : chain_end left b here ≡ chain_end (length b) b at
+  pub inside : ChainInside (length b - turn) b here
+  pub same : chain_end (length b - turn) b here ≡ chain_end (length b) b at
 
-module _ (b : List ℕ) (at turn here : ℕ) (f : Following b at turn here) where
-  pub follow_end : turn < length b → next_of b here ≡ 0 → here ≡ chain_end (length b) b at
-  follow_end lt z = go f.left f.turns f.same
-    where
-      go : (left : ℕ) → turn + left ≡ length b → chain_end left b here ≡ chain_end (length b) b at → here ≡ chain_end (length b) b at
-      go zero e s = absurd (omega arith)
-      go (suc left) e s = let t = eq-eqb (next_of b here) 0 z in rw t at s
+module _ {b : List ℕ} {at turn here : ℕ} (f : Following b at turn here) (lt : turn < length b) where
+  one_less : length b - turn ≡ suc (length b - (turn + 1))
+  one_less = omega arith
 
-  pub follow_more : turn < length b → next_of b here ≢ 0 → Following b at (turn + 1) (next_of b here)
-  follow_more lt n = go f.left f.turns f.inside f.same
-    where
-      go : (left : ℕ) → turn + left ≡ length b → ChainInside left b here → chain_end left b here ≡ chain_end (length b) b at → Following b at (turn + 1) (next_of b here)
-      go zero e i s = absurd (omega arith)
-      go (suc left) e i s = let t = ne_eqb (next_of b here) 0 n in record { left = left; turns = omega arith; inside = i.1 n; same = rw t at s }
+  pub follow_end : next_of b here ≡ 0 → here ≡ chain_end (length b) b at
+  follow_end z = let t = eq-eqb (next_of b here) 0 z in rw (one_less, t) at f.same
+
+  pub follow_more : next_of b here ≢ 0 → Following b at (turn + 1) (next_of b here)
+  follow_more n = let t = ne_eqb (next_of b here) 0 n in record { inside = (rw one_less at f.inside).1 n; same = rw (one_less, t) at f.same }

@@ -1,33 +1,19 @@
 -- The entry of a leaf was put into an index: what the new image has of it.
-use Rattle.std.proofs.Common.{◌≡◌, ◌≢◌, ◌⊎◌, ℕ, zero, suc, ◌+◌, ◌-◌, ◌*◌, ◌<◌, ◌≤◌, max, List, [], ◌∷◌, length, map, Bool, true, false, not, ◌&&◌, ltb, leb, eqb, refl, sym, ap, subst, ◌∙◌, arith, inl, inr}
-use Rattle.cdf_leaves.proofs.Common.{nat_tests, past, room_of_new, EntryIs, was_unused, size_at, type_at, Leaf, entry_count, room_at, used_count, SaysEntry, vxr_type, vvr_type, NodeFits, In, leaf_acts, Begun, MayName, StillSays, Inserted, NodeWritten, Entry, front_stays}
+use Rattle.std.proofs.Common.{◌≡◌, ◌≢◌, ℕ, zero, suc, ◌+◌, ◌-◌, ◌*◌, ◌<◌, ◌≤◌, max, List, length, Bool, true, false, not, ◌&&◌, leb, refl, subst, ◌∙◌, arith, inl, inr}
+use Rattle.cdf_edits.proofs.Common.{is_in-true, cases_lt, le-leb}
+use Rattle.cdf_leaves.proofs.Common.{nat_tests, was_unused, size_at, type_at, Leaf, room_at, used_count, SaysEntry, vvr_type, NodeFits, In, leaf_acts, Begun, MayName, Inserted, NodeWritten, Entry, front_stays, begins_by}
 use Rattle.cdf_edits.specs.Index.Written.{is_taken_at}
-use Rattle.cdf_edits.specs.Space.Acts.{taken}
-use Rattle.cdf_format.specs.Chains.{is_in}
-use Rattle.cdf_format.specs.RecordTypes.{cvvr_type}
-use Rattle.cdf_format.proofs.Members.{is_in-true, is_in-false}
-use Rattle.cdf_index.specs.Writing.{SaysUnused, Shortened}
+use Rattle.cdf_index.specs.Writing.{Shortened}
 use Rattle.cdf_leaves.proofs.Spares.{Spares}
-use Rattle.cdf_leaves.proofs.SpotNode.{SpotNode, begins_by}
-use Rattle.cdf_leaves.proofs.State.{NodeNow}
+use Rattle.cdf_leaves.proofs.SpotNode.{SpotNode}
+use Rattle.cdf_leaves.proofs.State.{entry_still, NodeNow}
 use Rattle.cdf_index.proofs.OneNode.{entry_past}
 
 -- ---- what counts as unused before
 
-and_false : (p : Bool) → (p && false) ≡ false
-and_false true = refl
-and_false false = refl
-
-both_false : (p q : Bool) → ((p && false) && q) ≡ false
-both_false true q = refl
-both_false false q = refl
-
-taken_in : (place need room at m : ℕ) → In m (map (λ (take : ℕ × ℕ). take.0) (taken (leaf_acts place need room at))) → (m ≡ place) ⊎ ((0 < room) × (m ≡ at))
-taken_in place need zero at m (inl e) = inl e
-taken_in place need zero at m (inr i) = absurd i
-taken_in place need (suc room) at m (inl e) = inl e
-taken_in place need (suc room) at m (inr (inl e)) = inr (omega arith, e)
-taken_in place need (suc room) at m (inr (inr i)) = absurd i
+not_taken : (place need room at m : ℕ) → m ≢ place → (0 < room → m ≢ at) → is_taken_at (leaf_acts place need room at) m ≡ false
+not_taken place need zero at m p q = grind (arith, nat_tests)
+not_taken place need (suc room) at m p q = let out = q (omega arith) in grind (arith, nat_tests, out)
 
 module _ (b before : List ℕ) (place need room at : ℕ) where
   abbrev pub was : ℕ → ℕ → Bool
@@ -36,21 +22,15 @@ module _ (b before : List ℕ) (place need room at : ℕ) where
   pub was_old : (m i : ℕ) → In m before → m ≢ place → (0 < room → m ≢ at) → was m i ≡ leb (used_count b m) i
   was_old m i j p q =
       let there = is_in-true m before j in
-      let out : is_taken_at (leaf_acts place need room at) m ≡ false = is_in-false m (map (λ (take : ℕ × ℕ). take.0) (taken (leaf_acts place need room at))) (λ k. elim (taken_in place need room at m k) [ inl e ↦ p e | inr e ↦ q e.0 e.1 ]) in
+      let out = not_taken place need room at m p q in
       λ k. there k && (not (out k) && leb (used_count b m) i)
 
   pub was_new : (i : ℕ) → 0 < room → was at i ≡ false
-  was_new i some = let out = given room some in (λ k. is_in at before && (not (out k) && leb (used_count b at) i)) ∙ and_false (is_in at before)
+  was_new i some = go room some
     where
-      given : (room : ℕ) → 0 < room → is_taken_at (leaf_acts place need room at) at ≡ true
-      given zero some = absurd (omega arith)
-      given (suc room) some = is_in-true at (place ∷ at ∷ []) (inr (inl refl))
-
-above : (m n : ℕ) → m ≤ n → leb m n ≡ true
-above m n h = grind (arith, nat_tests)
-
-pub below : (m n : ℕ) → n < m → leb m n ≡ false
-below m n h = grind (arith, nat_tests)
+      go : (room : ℕ) → 0 < room → was_unused b before (leaf_acts place need room at) at i ≡ false
+      go zero some = absurd (omega arith)
+      go (suc room) some = grind (arith, nat_tests)
 
 -- ---- a node where nothing was written yet
 
@@ -61,10 +41,7 @@ old_node b roomy was x m s fits is = record {
   fits = fits;
   count = λ c. c;
   stays = λ ne. refl;
-  spare = λ i le lt.
-      (let le' : used_count b m ≤ i = subst (λ (k : ℕ). k ≤ i) s.used_is le in
-      let t : was m i ≡ true = is i ∙ above (used_count b m) i le' in
-      subst (EntryIs b roomy m i) (sym t) (s.spare i le' (subst (λ (k : ℕ). i < k) s.room_is lt) _ _ _ (record { first_is = refl; last_is = refl; offset_is = refl })));
+  spare = λ i le lt. (let unused : was m i ≡ true = is i ∙ le-leb (used_count b m) i (omega (arith, s.used_is)) in rw unused (s.spare i (omega (arith, s.used_is)) (omega (arith, s.room_is)) _ _ _ (record { first_is = refl; last_is = refl; offset_is = refl })));
 }
 
 pub new_node : (b mid roomy : List ℕ) (was : ℕ → ℕ → Bool) (x at room next : ℕ) (entries : List Entry) → NodeWritten mid roomy at room next entries → ((i : ℕ) → was at i ≡ false) → NodeNow b roomy roomy was x at
@@ -74,94 +51,53 @@ new_node b mid roomy was x at room next entries w is = record {
   fits = (w.inside.entries, w.inside.fits);
   count = λ c. c;
   stays = λ ne. refl;
-  spare = λ i le lt. subst (EntryIs b roomy at i) (sym (is i)) (none i (subst (λ (k : ℕ). k ≤ i) w.used_is le) (subst (λ (k : ℕ). i < k) w.room_is lt));
+  spare = λ i le lt. (let e = w.used_is in let r = w.room_is in rw (is i) (subst (λ (e : Entry). SaysEntry roomy at i e.first e.last e.place) (entry_past entries i (omega arith)) (w.says i (omega arith))));
 }
-  where
-    none : (i : ℕ) → length entries ≤ i → i < room → SaysUnused roomy at i
-    none i le lt = subst (λ (e : Entry). SaysEntry roomy at i e.first e.last e.place) (entry_past entries i le) (w.says i lt)
 
 -- ---- the node that gets the entry
 
 module _ (b roomy now : List ℕ) (was : ℕ → ℕ → Bool) (x : ℕ) (n : NodeNow b roomy roomy was x x) (lies : x + 28 ≤ length roomy) where
-  still : (i : ℕ) (w : Bool) → EntryIs b roomy x i w → StillSays roomy now x i i → EntryIs b now x i w
-  still i true e s = s _ _ _ e
-  still i false e s = s _ _ _ e
-
   pub inserted_node : (used p first last offset : ℕ) → Inserted roomy now x used p first last offset → used ≡ used_count roomy x → used < room_at roomy x → NodeNow b roomy now was x x
   inserted_node used p first last offset ins is room =
       let size : size_at now x ≡ size_at roomy x = front_stays roomy now x 24 (4 + 16 * room_at roomy x) ins.changed (omega arith) 0 8 (omega arith) in
+      let more = ins.used_is in
+      let same = ins.room_stays in
       record {
         size_is = size;
-        room_is = ins.room_stays;
-        fits = (
-          subst (λ (k : ℕ). 28 + 16 * room_at now x ≤ k) (sym size) (subst (λ (k : ℕ). 28 + 16 * k ≤ size_at roomy x) (sym ins.room_stays) n.fits.0),
-          subst (λ (k : ℕ). used_count now x ≤ k) (sym ins.room_stays) (subst (λ (k : ℕ). k ≤ room_at roomy x) (sym ins.used_is) room),
-        );
-        count = λ c. subst (λ (k : ℕ). k ≤ room_at now x) (sym ins.count_is) (subst (λ (k : ℕ). suc used ≤ k) (sym ins.room_stays) room);
+        room_is = same;
+        fits = (omega (arith, n.fits.0), omega arith);
+        count = λ c. omega (arith, ins.count_is);
         stays = λ ne. absurd (ne refl);
-        spare = λ i le lt.
-            (let le' : suc used ≤ i = subst (λ (k : ℕ). k ≤ i) ins.used_is le in
-            let lt' : i < room_at roomy x = subst (λ (k : ℕ). i < k) ins.room_stays lt in
-            still i (was x i) (n.spare i (subst (λ (k : ℕ). k ≤ i) is (omega arith)) lt') (ins.unused i (omega arith) lt'));
+        spare = λ i le lt. entry_still b roomy now x i (was x i) (n.spare i (omega arith) (omega arith)) (ins.unused i (omega arith) (omega arith));
       }
 
   pub shortened_node : (used p first last offset next : ℕ) → Shortened roomy now x used p first last offset next → used ≡ used_count roomy x → p < used → ((i : ℕ) → i < used → was x i ≡ false) → NodeNow b roomy now was x x
   shortened_node used p first last offset next sh is lt_used unused =
       let size : size_at now x ≡ size_at roomy x = front_stays roomy now x 12 (16 + 16 * room_at roomy x) sh.changed (omega arith) 0 8 (omega arith) in
-      let most : used ≤ room_at roomy x = subst (λ (k : ℕ). k ≤ room_at roomy x) (sym is) n.fits.1 in
+      let left = sh.used_is in
+      let same = sh.room_stays in
+      let most = n.fits.1 in
       record {
         size_is = size;
-        room_is = sh.room_stays;
-        fits = (
-          subst (λ (k : ℕ). 28 + 16 * room_at now x ≤ k) (sym size) (subst (λ (k : ℕ). 28 + 16 * k ≤ size_at roomy x) (sym sh.room_stays) n.fits.0),
-          subst (λ (k : ℕ). used_count now x ≤ k) (sym sh.room_stays) (subst (λ (k : ℕ). k ≤ room_at roomy x) (sym sh.used_is) (through p used (room_at roomy x) lt_used most)),
-        );
-        count = λ c. subst (λ (k : ℕ). k ≤ room_at now x) (sym sh.count_is) (subst (λ (k : ℕ). suc p ≤ k) (sym sh.room_stays) (through p used (room_at roomy x) lt_used most));
+        room_is = same;
+        fits = (omega (arith, n.fits.0), omega arith);
+        count = λ c. omega (arith, sh.count_is);
         stays = λ ne. absurd (ne refl);
-        spare = λ i le lt.
-            (let le' : suc p ≤ i = subst (λ (k : ℕ). k ≤ i) sh.used_is le in
-            let lt' : i < room_at roomy x = subst (λ (k : ℕ). i < k) sh.room_stays lt in
-            elim (apart i used) [
-              | inl less ↦ subst (EntryIs b now x i) (sym (unused i less)) (sh.gone i le' less)
-              | inr more ↦ still i (was x i) (n.spare i (subst (λ (k : ℕ). k ≤ i) is more) lt') (sh.unused i more lt')
-            ]);
+        spare = λ i le lt. elim (cases_lt i used) [
+          | inl less ↦ rw (unused i less) (sh.gone i (omega arith) less)
+          | inr more ↦ entry_still b roomy now x i (was x i) (n.spare i (omega arith) (omega arith)) (sh.unused i more (omega arith))
+        ];
       }
-    where
-      through : (p u r : ℕ) → p < u → u ≤ r → suc p ≤ r
-      through p u r a c = omega arith
-
-      apart : (i u : ℕ) → (i < u) ⊎ (u ≤ i)
-      apart i u = grind arith
 
 -- ---- the leaf may be named
 
 pub names_leaf : (now records : List ℕ) (l : Leaf) → type_at now l.place ≡ vvr_type → l.packed ≡ false → MayName now records l
-names_leaf now records l t p = record {
-  no_node = (let e : eqb (type_at now l.place) vxr_type ≡ false = ap (λ (k : ℕ). eqb k vxr_type) t in (λ k. (is_in l.place records && e k) && leb 28 (size_at now l.place)) ∙ both_false (is_in l.place records) (leb 28 (size_at now l.place)));
-  packed_is = ap (λ (k : ℕ). eqb k cvvr_type) t ∙ sym p;
-}
+names_leaf now records l t p = record { no_node = grind (arith, nat_tests, t); packed_is = grind (arith, nat_tests, t, p) }
 
 -- ---- the room of a new node
 
 pub room_with : (b ts : List ℕ) (f x new used room : ℕ) → SpotNode b ts f x new → used ≡ used_count b x → room ≡ room_at b x → used < room → new ≡ 0
-room_with b ts f x new used room s u r lt = s.new_is ∙ none (sym s.says.used_is ∙ sym u) (sym s.says.room_is ∙ sym r)
-  where
-    test : (m n : ℕ) → m < n → ltb m n ≡ true
-    test m n h = grind (arith, nat_tests)
-
-    none : entry_count s.entries ≡ used → s.room ≡ room → room_of_new f s.room s.entries ≡ 0
-    none e g = let t : ltb (entry_count s.entries) s.room ≡ true = test (entry_count s.entries) s.room (omega arith) in rw t refl
+room_with b ts f x new used room s u r lt = grind (arith, nat_tests, s.new_is, s.says.used_is, s.says.room_is)
 
 pub room_full : (b ts : List ℕ) (f x new used room p : ℕ) → SpotNode b ts f x new → used ≡ used_count b x → room ≡ room_at b x → room ≤ used → Begun b x f p → new ≡ max 7 (used - p)
-room_full b ts f x new used room p s u r le begun =
-    let g = begins_by b x f p begun s.entries s.says.used_is s.says.say_entries in
-    s.new_is ∙ some (sym s.says.used_is ∙ sym u) (sym s.says.room_is ∙ sym r) g
-  where
-    test : (m n : ℕ) → n ≤ m → ltb m n ≡ false
-    test m n h = grind (arith, nat_tests)
-
-    some : entry_count s.entries ≡ used → s.room ≡ room → p + entry_count (past f s.entries) ≡ entry_count s.entries → room_of_new f s.room s.entries ≡ max 7 (used - p)
-    some e g h =
-        let t : ltb (entry_count s.entries) s.room ≡ false = test (entry_count s.entries) s.room (omega arith) in
-        let d : entry_count (past f s.entries) ≡ used - p = omega arith in
-        rw t (ap (max 7) d)
+room_full b ts f x new used room p s u r le begun = grind (arith, nat_tests, s.new_is, s.says.used_is, s.says.room_is, begins_by b x f p begun s.entries s.says.used_is s.says.say_entries)

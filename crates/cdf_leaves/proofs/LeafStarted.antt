@@ -1,40 +1,26 @@
 -- The first leaf of an index: its node is taken, and the descriptor leads to it.
 use Rattle.std.proofs.Common.{◌≡◌, ◌≢◌, ℕ, ◌+◌, ◌^◌, ◌<◌, ◌≤◌, List, [], ◌∷◌, length, Bool, false, refl, sym, ap, subst, ◌∙◌, arith, inl, inr}
-use Rattle.cdf_leaves.proofs.Common.{if◌then◌else◌, bytes_eq, Kind, R, Z, image_limit, touch, Touch, Changed, UnusedEntries, top_chain, last_node, Placed, StandsAmong, sound, typed, has, long, changed_then, changed_whole, Kept, apart, number, size_at, type_at, with_field, Nodes, no_node, node, no_entry, Leaf, link_to, room_at, SaysNode, vdr_vxr_head, vdr_vxr_tail, gdr_type, uir_type, vxr_type, vvr_type, VariableShape, Each, shape, NodeFits, AreTiles, Distinct, In, Good, type_kept, next_kept, size_kept, linkable-in, linkable-from, some_place, tile_lies, Counts, NodeTaken, LeafAdded, leaf_acts, MayName, type_in, variables_chain, entry, IndexStarted, Grew, grew, grew_then, stands, unlike}
+use Rattle.cdf_leaves.proofs.Common.{if◌then◌else◌, bytes_eq, Kind, image_limit, touch, Touch, Changed, UnusedEntries, top_chain, last_node, Placed, StandsAmong, sound, typed, has, long, changed_then, changed_whole, Kept, apart, number, size_at, type_at, with_field, Nodes, no_node, node, no_entry, Leaf, link_to, SaysNode, vdr_vxr_head, vdr_vxr_tail, gdr_type, uir_type, vxr_type, vvr_type, VariableShape, Each, shape, NodeFits, AreTiles, Distinct, In, Good, type_kept, size_kept, linkable-in, linkable-from, some_place, tile_lies, Counts, LeafAdded, leaf_acts, MayName, entry, IndexStarted, Grew, grew, grew_then, stands, unlike, SameNode, same_node, FieldSet, field_set}
 use Rattle.cdf_edits.specs.Index.Grown.{with_leaf, new_room, with_block}
 use Rattle.cdf_format.specs.Index.{nodes_of, lower_nodes}
-use Rattle.cdf_format.specs.IndexOf.{IsIndex, HasNodes, Names}
+use Rattle.cdf_format.specs.IndexOf.{HasNodes, Names}
 use Rattle.cdf_leaves.proofs.Grown.{was, was_new, new_node, names_leaf}
-use Rattle.cdf_index.proofs.FieldSet.{FieldSet, field_set}
-use Rattle.cdf_leaves.proofs.Own.{vdr_kept, vdr_in, vdr_used}
-use Rattle.cdf_leaves.proofs.Spares.{Spares, spares_kept, all_entries, node_long}
+use Rattle.cdf_leaves.proofs.Own.{no_type, vdr_kept, vdr_in, vdr_used}
+use Rattle.cdf_leaves.proofs.Spares.{spares_kept}
 use Rattle.cdf_leaves.proofs.State.{NodeNow, node_then}
-use Rattle.cdf_edits.proofs.Edits.RecordFrame.{through}
 
 no_nodes : (b ts : List ℕ) (nodes : Nodes) → AreTiles b 8 (length b) ts → HasNodes b ts 8 nodes → 0 ≡ link_to nodes → nodes ≡ no_node
 unfolding HasNodes
 no_nodes b ts no_node tiled h e = refl
 no_nodes b ts (node place room es more) tiled h e = absurd (some_place b ts (length b) place tiled (linkable-in b ts vxr_type place h.0.linkable) (sym e))
 
-one_leaf : (l : Leaf) (at : ℕ) → with_leaf l at no_node ≡ node at 7 (with_block l no_entry) no_node
-unfolding with_leaf
-one_leaf l at = refl
+first_leaf : (l : Leaf) (at : ℕ) → (with_leaf l at no_node ≡ node at 7 (with_block l no_entry) no_node) × (new_room l.first no_node ≡ 7) × (nodes_of (node at 7 (with_block l no_entry) no_node) ≡ at ∷ [])
+unfolding with_leaf new_room nodes_of lower_nodes
+first_leaf l at = (refl, refl, refl)
 
-seven_new : (f : ℕ) → new_room f no_node ≡ 7
-unfolding new_room
-seven_new f = refl
-
-one_node : (l : Leaf) (at : ℕ) → nodes_of (node at 7 (with_block l no_entry) no_node) ≡ at ∷ []
-unfolding nodes_of lower_nodes
-one_node l at = refl
-
-has_one : (b ts : List ℕ) (l : Leaf) (at : ℕ) → SaysNode b ts at 7 (with_block l no_entry) no_node → Names b ts 7 (with_block l no_entry) → HasNodes b ts 8 (node at 7 (with_block l no_entry) no_node)
-unfolding HasNodes
-has_one b ts l at s n = (s, n, tt)
-
-names_one : (b ts : List ℕ) (l : Leaf) → MayName b ts l → Names b ts 7 (with_block l no_entry)
-unfolding Names
-names_one b ts l m = (m.no_node, m.packed_is, tt)
+has_one : (b ts : List ℕ) (l : Leaf) (at : ℕ) → SaysNode b ts at 7 (with_block l no_entry) no_node → MayName b ts l → HasNodes b ts 8 (node at 7 (with_block l no_entry) no_node)
+unfolding HasNodes Names
+has_one b ts l at s m = (s, (m.no_node, m.packed_is, tt), tt)
 
 module _ {b : List ℕ} {kind : Kind} {before : List VariableShape} {own : VariableShape} {after : List VariableShape} (good : Good b) (stood : StandsAmong b kind before own after) {filled : List ℕ} (l : Leaf) (late : Grew b filled) (block_in : In l.place (shape filled).records) (block_is : type_at filled l.place ≡ vvr_type) (plain : l.packed ≡ false) (none : number b own.vdr vdr_vxr_head ≡ 0)
     {now : List ℕ} (short : length now ≤ image_limit) (st : IndexStarted filled now own.vdr (entry l.first l.last l.place)) where
@@ -50,20 +36,17 @@ module _ {b : List ℕ} {kind : Kind} {before : List VariableShape} {own : Varia
   abbrev records : List ℕ
   records = (shape st.roomy).records
 
-  abbrev one : Nodes
-  one = node st.at 7 (with_block l no_entry) no_node
-
   index_none : own.index ≡ no_node
   index_none = no_nodes b (shape b).records own.index (sound good stood).has_shape.tiled (has good stood).indexed.has_nodes (sym none ∙ (has good stood).indexed.link_is)
 
-  one_is : with_leaf l at own.index ≡ one
-  one_is = ap (with_leaf l at) index_none ∙ one_leaf l at
+  one_is : with_leaf l at own.index ≡ node at 7 (with_block l no_entry) no_node
+  one_is = ap (with_leaf l at) index_none ∙ (first_leaf l at).0
 
   new_is : new_room l.first own.index ≡ 7
-  new_is = ap (new_room l.first) index_none ∙ seven_new l.first
+  new_is = ap (new_room l.first) index_none ∙ (first_leaf l at).1
 
   nodes_are : nodes_of (with_leaf l at own.index) ≡ at ∷ []
-  nodes_are = ap nodes_of one_is ∙ one_node l at
+  nodes_are = ap nodes_of one_is ∙ (first_leaf l at).2
 
   on : Grew filled roomy
   on = grew late.sound st.made.fills
@@ -74,31 +57,16 @@ module _ {b : List ℕ} {kind : Kind} {before : List VariableShape} {own : Varia
   at_in : In at records
   at_in = stands late.sound st.made.fills
 
-  tiled : AreTiles roomy 8 (length roomy) records
-  tiled = g.sound.has_shape.tiled
-
-  v_in : In v records
-  v_in = vdr_in good stood g
-
-  at_apart : at ≢ v
-  at_apart q = unlike late.sound st.made.fills v (vdr_in good stood late) (vdr_used good stood late) (sym q)
-
   v_size : 340 ≤ size_at roomy v
-  v_size = let k = vdr_kept good stood g in subst (λ (n : ℕ). 340 ≤ n) (sym (size_kept b roomy v k.same (let s = k.long in omega arith))) (long good stood)
+  v_size = let k = vdr_kept good stood g in omega (arith, size_kept b roomy v k.same (let s = k.long in omega arith), long good stood)
 
   v_lies : v + 340 ≤ length roomy
-  v_lies = let t = tile_lies roomy 8 (length roomy) records v tiled v_in in ends (size_at roomy v) t.high v_size
-    where
-      ends : (s : ℕ) → v + s ≤ length roomy → 340 ≤ s → v + 340 ≤ length roomy
-      ends s a c = omega arith
+  v_lies = omega (arith, v_size, (tile_lies roomy 8 (length roomy) records v g.sound.has_shape.tiled (vdr_in good stood g)).high)
 
-  abbrev mid : List ℕ
-  mid = with_field roomy v vdr_vxr_head at
-
-  head_set : FieldSet roomy mid v vdr_vxr_head at
+  head_set : FieldSet roomy (with_field roomy v vdr_vxr_head at) v vdr_vxr_head at
   head_set = field_set (let s = v_lies in omega arith) refl
 
-  tail_set : FieldSet mid now v vdr_vxr_tail at
+  tail_set : FieldSet (with_field roomy v vdr_vxr_head at) now v vdr_vxr_tail at
   tail_set = field_set (let s = v_lies in let m = head_set.as_long in omega arith) st.linked
 
   now_long : length now ≡ length roomy
@@ -108,87 +76,70 @@ module _ {b : List ℕ} {kind : Kind} {before : List VariableShape} {own : Varia
   touches = touch v 28 8 ∷ touch v 36 8 ∷ []
 
   changed : Changed roomy now touches
-  changed = changed_then roomy mid now (touch v 28 8 ∷ []) (touch v 36 8 ∷ []) head_set.changed tail_set.changed
+  changed = changed_then roomy (with_field roomy v vdr_vxr_head at) now (touch v 28 8 ∷ []) (touch v 36 8 ∷ []) head_set.changed tail_set.changed
 
   keeps : (m : ℕ) → In m records → m ≢ v → Kept roomy now m
   keeps m i ne =
-      let t = tile_lies roomy 8 (length roomy) records m tiled i in
+      let t = tile_lies roomy 8 (length roomy) records m g.sound.has_shape.tiled i in
       let out : In v (m ∷ []) → ⊥ = λ j. elim j [ inl q ↦ ne (sym q) | inr never ↦ never ] in
       let s = v_size in
-      record {
-        same = changed_whole roomy now records (length roomy) tiled (omega arith) touches changed (inl (v_in, omega arith), (inl (v_in, omega arith), tt)) (m ∷ []) m i (inl refl) (out, (out, tt));
-        inside = t.high;
-        long = t.long;
-      }
+      let v_in = vdr_in good stood g in
+      record { same = changed_whole roomy now records (length roomy) g.sound.has_shape.tiled (omega arith) touches changed (inl (v_in, omega arith), (inl (v_in, omega arith), tt)) (m ∷ []) m i (inl refl) (out, (out, tt)); inside = t.high; long = t.long }
 
   at_kept : Kept roomy now at
-  at_kept = keeps at at_in at_apart
+  at_kept = keeps at at_in (λ q. unlike late.sound st.made.fills v (vdr_in good stood late) (vdr_used good stood late) (sym q))
 
-  fits_roomy : NodeFits roomy at
+  abbrev fits_roomy : NodeFits roomy at
   fits_roomy = (st.made.written.inside.entries, st.made.written.inside.fits)
 
-  spares : Spares roomy now at
-  spares = spares_kept roomy now at at_kept fits_roomy
+  at_same : SameNode roomy now at
+  at_same = same_node roomy now at at_kept fits_roomy
 
   at_small : at < 256 ^ 8
-  at_small = let i = st.made.written.inside.inside in let s = now_long in first (size_at roomy at) i (omega arith)
-    where
-      first : (s : ℕ) → at + s ≤ length roomy → length roomy ≤ image_limit → at < 256 ^ 8
-      first s a c = omega arith
-
-  block_apart : l.place ≢ v
-  block_apart q =
-      let k = vdr_kept good stood late in
-      not_vvr kind (sym (typed good stood) ∙ sym (type_kept b filled v k.same k.long) ∙ ap (type_at filled) (sym q) ∙ block_is)
-    where
-      not_vvr : (kind : Kind) → type_in (variables_chain kind) ≡ vvr_type → ⊥
-      not_vvr R e = cc
-      not_vvr Z e = cc
+  at_small = omega (arith, st.made.written.inside.inside, now_long)
 
   block_now : type_at now l.place ≡ vvr_type
   block_now =
+      let v_kept = vdr_kept good stood late in
+      let block_apart : l.place ≢ v = λ q. no_type kind vvr_type refl refl (sym (typed good stood) ∙ sym (type_kept b filled v v_kept.same v_kept.long) ∙ ap (type_at filled) (sym q) ∙ block_is) in
       let k = on.kept l.place block_in (λ u. apart vvr_type uir_type refl (sym block_is ∙ u)) (λ u. apart vvr_type gdr_type refl (sym block_is ∙ u)) in
       let m = keeps l.place (on.sub l.place block_in) block_apart in
       type_kept roomy now l.place m.same m.long ∙ type_kept filled roomy l.place k.same k.long ∙ block_is
 
   says : SaysNode now records at 7 (with_block l no_entry) no_node
-  says = record {
-    linkable = linkable-from now records vxr_type at at_in (type_kept roomy now at at_kept.same at_kept.long ∙ st.made.fills.typed) (subst (λ (n : ℕ). 28 ≤ n) (sym spares.size_is) (node_long (room_at roomy at) (size_at roomy at) fits_roomy.0));
-    next_is = next_kept roomy now at at_kept.same (through 20 28 (size_at roomy at) (omega arith) (node_long (room_at roomy at) (size_at roomy at) fits_roomy.0)) ∙ st.made.written.next_is;
-    room_is = spares.room_is ∙ st.made.written.room_is;
-    used_is = spares.used_is ∙ st.made.written.used_is;
-    say_entries = (all_entries roomy now at at_kept fits_roomy 0 (subst (λ (n : ℕ). 0 < n) (sym st.made.written.room_is) (omega arith)) l.first l.last l.place (st.made.written.says 0 (omega arith)), tt);
-  }
-
-  head_reads : number now v vdr_vxr_head ≡ at
-  head_reads = tail_set.past (v + 28) 8 (inl (omega arith)) ∙ head_set.reads at_small
-
-  tail_reads : number now v vdr_vxr_tail ≡ at
-  tail_reads = tail_set.reads at_small
+  says =
+      let w = st.made.written in
+      record {
+        linkable = linkable-from now records vxr_type at at_in (type_kept roomy now at at_kept.same at_kept.long ∙ st.made.fills.typed) (omega (arith, at_same.size_is, fits_roomy.0));
+        next_is = at_same.next_is ∙ w.next_is;
+        room_is = at_same.room_is ∙ w.room_is;
+        used_is = at_same.used_is ∙ w.used_is;
+        say_entries = (at_same.entries 0 (omega (arith, w.room_is)) l.first l.last l.place (w.says 0 (omega arith)), tt);
+      }
 
   module _ {body : List ℕ} (block : Placed b filled body l.place) where
     abbrev waz : ℕ → ℕ → Bool
     waz = was b (nodes_of own.index) l.place (8 + length body) (new_room l.first own.index) at
 
     fresh_node : NodeNow b roomy now waz 0 at
-    fresh_node = node_then b roomy roomy now waz 0 at (new_node b st.made.taken roomy waz 0 at 7 0 (entry l.first l.last l.place ∷ []) st.made.written (λ i. was_new b (nodes_of own.index) l.place (8 + length body) (new_room l.first own.index) at i (subst (λ (n : ℕ). 0 < n) (sym new_is) (omega arith)))) spares
+    fresh_node = node_then b roomy roomy now waz 0 at (new_node b st.made.taken roomy waz 0 at 7 0 (entry l.first l.last l.place ∷ []) st.made.written (λ i. was_new b (nodes_of own.index) l.place (8 + length body) (new_room l.first own.index) at i (omega (arith, new_is)))) (spares_kept roomy now at at_kept fits_roomy)
 
     each_one : (P : ℕ → Type 0) → P at → Each P (nodes_of (with_leaf l at own.index))
-    each_one P p = subst (Each P) (sym nodes_are) (p, tt)
+    each_one P p = rw nodes_are (p, tt)
 
     pub first_added : LeafAdded b now own l body at
     first_added = record {
       filled = filled;
       block = block;
       roomy = roomy;
-      node = subst (λ (n : ℕ). NodeTaken filled roomy n at) (sym new_is) (record { taken = st.made.taken; fills = st.made.fills; longest = st.made.longest });
+      node = rw new_is (record { taken = st.made.taken; fills = st.made.fills; longest = st.made.longest });
       touches = touches;
       changed = changed;
       within = (inl (refl, omega arith, omega arith), (inl (refl, omega arith, omega arith), tt));
       as_long = now_long;
-      index = subst (IsIndex now records (number now v vdr_vxr_head)) (sym one_is) (record { link_is = head_reads; has_nodes = has_one now records l at says (names_one now records l (names_leaf now records l block_now plain)); once = subst Distinct (sym (one_node l at)) ((λ i. i), tt) });
+      index = rw one_is (record { link_is = tail_set.past (v + 28) 8 (inl (omega arith)) ∙ head_set.reads at_small; has_nodes = has_one now records l at says (names_leaf now records l block_now plain); once = subst Distinct (sym (first_leaf l at).2) ((λ i. i), tt) });
       fits = each_one (NodeFits now) fresh_node.fits;
-      counts = λ c. each_one (Counts now) (fresh_node.count (subst (λ (k : ℕ). k ≤ room_at roomy at) (sym st.made.written.count_is) (subst (λ (k : ℕ). 1 ≤ k) (sym st.made.written.room_is) (omega arith))));
-      tail = tail_reads ∙ sym (ap (λ (n : Nodes). if bytes_eq (top_chain n) (top_chain (with_leaf l at own.index)) then number b v vdr_vxr_tail else last_node (with_leaf l at own.index)) index_none ∙ ap (λ (n : Nodes). if bytes_eq [] (top_chain n) then number b v vdr_vxr_tail else last_node n) one_is);
+      counts = λ c. each_one (Counts now) (fresh_node.count (omega (arith, st.made.written.count_is, st.made.written.room_is)));
+      tail = tail_set.reads at_small ∙ sym (ap (λ (n : Nodes). if bytes_eq (top_chain n) (top_chain (with_leaf l at own.index)) then number b v vdr_vxr_tail else last_node (with_leaf l at own.index)) index_none ∙ ap (λ (n : Nodes). if bytes_eq [] (top_chain n) then number b v vdr_vxr_tail else last_node n) one_is);
       unused = each_one (UnusedEntries b now (own.index ∷ []) (nodes_of own.index) (leaf_acts l.place (8 + length body) (new_room l.first own.index) at)) (λ j le lt. inl (fresh_node.spare j le lt));
     }

@@ -1,9 +1,7 @@
 -- A record that was taken becomes a node.
 use Rattle.std.proofs.Common.{◌≡◌, ℕ, List}
+use Rattle.cdf_edits.proofs.Common.{Takes, content, IsSound}
 use Rattle.cdf_leaves.proofs.Common.{vxr_bytes, shape, NodeWritten, Entry, NodeMade}
-use Rattle.cdf_edits.specs.Space.Placement.{Takes}
-use Rattle.cdf_format.specs.Content.{content}
-use Rattle.cdf_format.specs.Sound.{IsSound}
 use Rattle.cdf_index.proofs.NodeFilled.{fills, node_short}
 
 pub node_made : (b taken : List ℕ) (room place : ℕ) (sound : IsSound b (shape b)) (takes : Takes b taken (shape b) (shape taken) (vxr_bytes room) place) (sound_taken : IsSound taken (shape taken)) (stays : content taken ≡ content b) (now : List ℕ) (next : ℕ) (entries : List Entry) → NodeWritten taken now place room next entries → NodeMade b now room next entries place

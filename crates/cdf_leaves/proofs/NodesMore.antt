@@ -1,55 +1,25 @@
--- The nodes of an index with one leaf more, and of one some of whose entries end later.
-use Rattle.std.proofs.Common.{◌≡◌, ℕ, zero, suc, ◌+◌, List, [], ◌∷◌, ◌++◌, map, eqb, refl, sym, ap, ap₂, ◌∙◌, arith, inl, inr}
-use Rattle.std.proofs.lemmas.Bool.{ne_eqb}
-use Rattle.std.specs.Prelude.{◌==◌, if◌then◌else◌}
-use Rattle.cdf_leaves.proofs.Common.{eqb-true, map-append, Nodes, no_node, node, Entries, no_entry, block, lower, Leaf, times, either, wider, widen_all}
-use Rattle.cdf_edits.proofs.Frame.OwnersApart.{times-append}
+-- The nodes of an index some of whose entries end later.
+use Rattle.std.proofs.Common.{◌≡◌, ℕ, zero, suc, List, [], ◌∷◌, ◌++◌, map, eqb, refl, sym, ap, ap₂, ◌∙◌, inl, inr}
+use Rattle.cdf_leaves.proofs.Common.{eqb-true, map-append, Nodes, no_node, node, Entries, no_entry, block, lower, Leaf, either, wider, widen_all}
 use Rattle.cdf_edits.proofs.Index.NodeEdited.{redo, redo_below}
-use Rattle.cdf_edits.specs.Index.Grown.{with_leaf, new_room}
 use Rattle.cdf_format.specs.Index.{nodes_of, lower_nodes, leaves_of, entry_leaves}
 use Rattle.cdf_index.specs.Way.{widened}
-use Rattle.cdf_index.proofs.ByLeaf.{nodes_with_leaf}
-
--- the new node, where one is needed
-abbrev pub taken_at : ℕ → ℕ → List ℕ
-taken_at zero at = []
-taken_at (suc room) at = at ∷ []
-
-taken_times : (m n at : ℕ) → (if n == 0 then 0 else times m (at ∷ [])) ≡ times m (taken_at n at)
-taken_times m zero at = refl
-taken_times m (suc n) at = rw (ne_eqb (suc n) 0 (λ e. absurd (omega arith))) refl
-
--- how often a node stands in the tree
-pub nodes_more : (m at : ℕ) (l : Leaf) (nodes : Nodes) → times m (nodes_of (with_leaf l at nodes)) ≡ times m (nodes_of nodes) + times m (taken_at (new_room l.first nodes) at)
-nodes_more m at l nodes = nodes_with_leaf l at m nodes ∙ ap (λ (n : ℕ). times m (nodes_of nodes) + n) (taken_times m (new_room l.first nodes) at)
-
-pub cons_times : (m p : ℕ) (xs : List ℕ) → times m (p ∷ xs) ≡ times m (p ∷ []) + times m xs
-cons_times m p xs = times-append m (p ∷ []) xs
 
 -- ---- an entry that ends later
 
 abbrev pub places : List Leaf → List ℕ
 places leaves = map (λ (leaf : Leaf). leaf.place) leaves
 
-lower_widened : (last i : ℕ) (es : Entries) → lower_nodes (widened last i es) ≡ lower_nodes es
-unfolding nodes_of lower_nodes
-lower_widened last i no_entry = refl
-lower_widened last zero (block first end place packed es) = refl
-lower_widened last zero (lower first end nodes es) = refl
-lower_widened last (suc i) (block first end place packed es) = lower_widened last i es
-lower_widened last (suc i) (lower first end nodes es) = ap (λ (xs : List ℕ). nodes_of nodes ++ xs) (lower_widened last i es)
-
-places_widened : (last i : ℕ) (es : Entries) → places (entry_leaves (widened last i es)) ≡ places (entry_leaves es)
-unfolding leaves_of entry_leaves
-places_widened last i no_entry = refl
-places_widened last zero (block first end place packed es) = refl
-places_widened last zero (lower first end nodes es) = refl
-places_widened last (suc i) (block first end place packed es) = ap (λ (xs : List ℕ). place ∷ xs) (places_widened last i es)
-places_widened last (suc i) (lower first end nodes es) =
-    map-append (λ (leaf : Leaf). leaf.place) (leaves_of nodes) (entry_leaves (widened last i es)) ∙ ap (λ (xs : List ℕ). places (leaves_of nodes) ++ xs) (places_widened last i es) ∙ sym (map-append (λ (leaf : Leaf). leaf.place) (leaves_of nodes) (entry_leaves es))
-
 parted : (xs xs' ys ys' : List Leaf) → places xs ≡ places xs' → places ys ≡ places ys' → places (xs ++ ys) ≡ places (xs' ++ ys')
 parted xs xs' ys ys' e f = map-append (λ (leaf : Leaf). leaf.place) xs ys ∙ ap₂ (λ (a c : List ℕ). a ++ c) e f ∙ sym (map-append (λ (leaf : Leaf). leaf.place) xs' ys')
+
+widened_keeps : (last i : ℕ) (es : Entries) → (lower_nodes (widened last i es) ≡ lower_nodes es) × (places (entry_leaves (widened last i es)) ≡ places (entry_leaves es))
+unfolding nodes_of lower_nodes leaves_of entry_leaves
+widened_keeps last i no_entry = (refl, refl)
+widened_keeps last zero (block first end place packed es) = (refl, refl)
+widened_keeps last zero (lower first end nodes es) = (refl, refl)
+widened_keeps last (suc i) (block first end place packed es) = let r = widened_keeps last i es in (r.0, ap (λ (xs : List ℕ). place ∷ xs) r.1)
+widened_keeps last (suc i) (lower first end nodes es) = let r = widened_keeps last i es in (ap (λ (xs : List ℕ). nodes_of nodes ++ xs) r.0, parted (leaves_of nodes) (leaves_of nodes) (entry_leaves (widened last i es)) (entry_leaves es) refl r.1)
 
 module _ (x last i : ℕ) where
   mutual
@@ -60,7 +30,7 @@ module _ (x last i : ℕ) where
     nodes_wider (node place room es more) = elim (either (eqb place x)) [
       | inl t ↦
           let e : x ≡ place = sym (eqb-true place x t) in
-          rw t (ap₂ (λ (p : ℕ) (xs : List ℕ). p ∷ xs ++ nodes_of more) e (lower_widened last i es), parted (entry_leaves (widened last i es)) (entry_leaves es) (leaves_of more) (leaves_of more) (places_widened last i es) refl)
+          rw t (ap₂ (λ (p : ℕ) (xs : List ℕ). p ∷ xs ++ nodes_of more) e (widened_keeps last i es).0, parted (entry_leaves (widened last i es)) (entry_leaves es) (leaves_of more) (leaves_of more) (widened_keeps last i es).1 refl)
       | inr t ↦
           let r = nodes_wider more in
           let s = lower_wider es in

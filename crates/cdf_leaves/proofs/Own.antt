@@ -1,20 +1,22 @@
 -- The variable whose index gets a leaf, in the images in which records were taken.
-use Rattle.std.proofs.Common.{◌≡◌, ◌≢◌, ℕ, List, [], ◌∷◌, ◌++◌, refl, sym, ap, subst, ◌∙◌, inl, inr}
-use Rattle.cdf_leaves.proofs.Common.{Kind, R, Z, StandsAmong, sound, tile, typed, has, Kept, apart, type_in, variables_chain, number, type_at, Leaf, nodes_of, leaves_of, vdr_vxr_head, gdr_type, uir_type, vxr_type, VariableShape, Each, shape, variables, NodeFits, In, Good, type_kept, linkable-in, good_is_sound, HasIndex, index_at, Grew}
-use Rattle.cdf_format.specs.GoodImage.{IsGoodImage}
-use Rattle.cdf_format.specs.Shape.{HasVariable}
-use Rattle.cdf_format.specs.Sound.{LeafFits, VariableFits}
-use Rattle.cdf_format.proofs.ChainsLemmas.{linkable-type}
+use Rattle.std.proofs.Common.{◌≡◌, ◌≢◌, ℕ, ◌<◌, arith, List, [], ◌∷◌, ◌++◌, false, eqb, refl, sym, ap, subst, ◌∙◌, inl, inr}
+use Rattle.cdf_edits.proofs.Common.{HasVariable, LeafFits, VariableFits, linkable-type, good_by_its_shape, block_in, Each-split, record_number_limit}
+use Rattle.cdf_leaves.proofs.Common.{Kind, R, Z, StandsAmong, tile, typed, has, Kept, apart, type_in, variables_chain, number, type_at, next_of, room_at, used_count, Begun, Spot, Leaf, nodes_of, leaves_of, vdr_vxr_head, gdr_type, uir_type, vxr_type, VariableShape, Each, shape, variables, NodeFits, In, Good, type_kept, linkable-in, good_is_sound, HasIndex, index_at, Grew, SameNode, same_node, SeesNode, each_in}
 use Rattle.cdf_format.proofs.GoodImageLemmas.{good_image}
-use Rattle.cdf_format.proofs.GoodSound.{good_by_its_shape}
-use Rattle.cdf_format.proofs.Owning.{block_in}
-use Rattle.cdf_format.proofs.ShapeLemmas.{Each-split}
-use Rattle.cdf_edits.proofs.Edits.ActsThen.{each_in}
 use Rattle.cdf_index.proofs.GoodIndex.{good_index}
 use Rattle.cdf_leaves.proofs.NodesMore.{places}
 use Rattle.cdf_leaves.proofs.Spares.{Spares, spares_kept}
 use Rattle.cdf_leaves.proofs.SpotNode.{nodes_linkable}
 pub use Rattle.cdf_index.proofs.OneVariable.{AmongAll, among_all}
+use Rattle.cdf_format.specs.Index.{first_at}
+use Rattle.cdf_edits.proofs.Edits.StandsAmong.{fits}
+use Rattle.cdf_index.specs.Order.{InOrder}
+
+pub record StillSees (now : List ℕ) (seen : Spot) (f : ℕ) : Type 0 where
+  pub room_is : seen.room ≡ room_at now seen.place
+  pub used_is : seen.used ≡ used_count now seen.place
+  pub next_is : seen.next ≡ next_of now seen.place
+  pub begun : Begun now seen.place f seen.begun
 
 the_own : {A : Type 0} (P : A → Type 0) (vs front : List A) (own : A) (rest : List A) → vs ≡ front ++ own ∷ rest → Each P vs → P own
 the_own P vs front own rest all e = (Each-split P front (own ∷ rest) (subst (Each P) all e)).1.0
@@ -24,39 +26,29 @@ leaf_each b records vdr [] m e i = absurd i
 leaf_each b records vdr (x ∷ xs) m e (inl q) = subst (λ (y : ℕ). In y records) (sym q) (block_in b records x.place e.0.0)
 leaf_each b records vdr (x ∷ xs) m e (inr i) = leaf_each b records vdr xs m e.1 i
 
-no_gdr : (kind : Kind) → type_in (variables_chain kind) ≢ gdr_type
-no_gdr R = apart (type_in (variables_chain R)) gdr_type refl
-no_gdr Z = apart (type_in (variables_chain Z)) gdr_type refl
-
-no_uir : (kind : Kind) → type_in (variables_chain kind) ≢ uir_type
-no_uir R = apart (type_in (variables_chain R)) uir_type refl
-no_uir Z = apart (type_in (variables_chain Z)) uir_type refl
-
-no_vxr : (kind : Kind) → type_in (variables_chain kind) ≢ vxr_type
-no_vxr R = apart (type_in (variables_chain R)) vxr_type refl
-no_vxr Z = apart (type_in (variables_chain Z)) vxr_type refl
+-- the type of a descriptor is another one
+pub no_type : (kind : Kind) (t : ℕ) → eqb (type_in (variables_chain R)) t ≡ false → eqb (type_in (variables_chain Z)) t ≡ false → type_in (variables_chain kind) ≢ t
+no_type R t r z = apart (type_in (variables_chain R)) t r
+no_type Z t r z = apart (type_in (variables_chain Z)) t z
 
 module _ {b : List ℕ} {kind : Kind} {before : List VariableShape} {own : VariableShape} {after : List VariableShape} (good : Good b) (at : StandsAmong b kind before own after) where
   among : AmongAll (variables (shape b)) own
   among = among_all b kind before own after at.was
 
-  image : IsGoodImage b (shape b)
-  image = good_image b (shape b) (good_by_its_shape b good)
-
   pub searchable : HasIndex b (number b own.vdr vdr_vxr_head) × (index_at b (number b own.vdr vdr_vxr_head) ≡ own.index)
-  searchable = good_index b (shape b) among.front own among.rest image (good_is_sound b good) among.all
+  searchable = good_index b (shape b) among.front own among.rest (good_image b (shape b) (good_by_its_shape b good)) (good_is_sound b good) among.all
+
+  pub own_order : InOrder 0 record_number_limit own.index
+  own_order = let s = searchable in subst (InOrder 0 record_number_limit) s.1 s.0.order
 
   pub own_node : (m : ℕ) → In m (nodes_of own.index) → In m (shape b).records × (type_at b m ≡ vxr_type)
   own_node m i = let l = (nodes_linkable b (shape b).records 8 m own.index (has good at).indexed.has_nodes i).0 in (linkable-in b (shape b).records vxr_type m l, linkable-type b (shape b).records vxr_type m l)
 
-  pub own_fits : VariableFits b (shape b).records own
-  own_fits = the_own (VariableFits b (shape b).records) (variables (shape b)) among.front own among.rest among.all (sound good at).variables_fit
-
   pub node_fits : (m : ℕ) → In m (nodes_of own.index) → NodeFits b m
-  node_fits m i = each_in (NodeFits b) (nodes_of own.index) m own_fits.1 i
+  node_fits m i = each_in (NodeFits b) (nodes_of own.index) m (fits good at).1 i
 
   pub vdr_apart : (m : ℕ) → type_at b m ≡ vxr_type → m ≢ own.vdr
-  vdr_apart m t e = no_vxr kind (sym (typed good at) ∙ ap (type_at b) (sym e) ∙ t)
+  vdr_apart m t e = no_type kind vxr_type refl refl (sym (typed good at) ∙ ap (type_at b) (sym e) ∙ t)
 
   module _ {now : List ℕ} (g : Grew b now) where
     now_all : variables (shape now) ≡ among.front ++ own ∷ among.rest
@@ -74,14 +66,32 @@ module _ {b : List ℕ} {kind : Kind} {before : List VariableShape} {own : Varia
     pub node_kept : (m : ℕ) → In m (nodes_of own.index) → Kept b now m
     node_kept m i = let n = own_node m i in g.kept m n.0 (λ u. apart vxr_type uir_type refl (sym n.1 ∙ u)) (λ u. apart vxr_type gdr_type refl (sym n.1 ∙ u))
 
+    pub node_same : (m : ℕ) → In m (nodes_of own.index) → SameNode b now m
+    node_same m i = same_node b now m (node_kept m i) (node_fits m i)
+
     pub node_spares : (m : ℕ) → In m (nodes_of own.index) → Spares b now m
     node_spares m i = spares_kept b now m (node_kept m i) (node_fits m i)
 
+    -- what was seen of a node of the index is still to be seen
+    pub still_sees : {f : ℕ} {seen : Spot} → SeesNode b seen.place f seen → In seen.place (nodes_of own.index) → StillSees now seen f
+    still_sees {seen = seen} s i =
+        let n = node_same seen.place i in
+        let fits = (node_fits seen.place i).1 in
+        let first : (j : ℕ) → j < used_count b seen.place → first_at now seen.place j ≡ first_at b seen.place j = λ j lt. (n.entries j (omega arith) _ _ _ (record { first_is = refl; last_is = refl; offset_is = refl })).first_is in
+        let most = s.begun.most in
+        let used = n.used_is in
+        record {
+          room_is = s.room_is ∙ sym n.room_is;
+          used_is = s.used_is ∙ sym used;
+          next_is = s.next_is ∙ sym n.next_is;
+          begun = record { before = λ j lt. rw (first j (omega arith)) (s.begun.before j lt); most = omega arith; stop = λ lt. rw (first seen.begun (omega arith)) (s.begun.stop (omega arith)) };
+        }
+
     pub vdr_kept : Kept b now own.vdr
-    vdr_kept = g.kept own.vdr (tile good at) (λ u. no_uir kind (sym (typed good at) ∙ u)) (λ u. no_gdr kind (sym (typed good at) ∙ u))
+    vdr_kept = g.kept own.vdr (tile good at) (λ u. no_type kind uir_type refl refl (sym (typed good at) ∙ u)) (λ u. no_type kind gdr_type refl refl (sym (typed good at) ∙ u))
 
     pub vdr_in : In own.vdr (shape now).records
     vdr_in = g.sub own.vdr (tile good at)
 
     pub vdr_used : type_at now own.vdr ≢ uir_type
-    vdr_used u = let k = vdr_kept in no_uir kind (sym (type_kept b now own.vdr k.same k.long ∙ typed good at) ∙ u)
+    vdr_used u = let k = vdr_kept in no_type kind uir_type refl refl (sym (type_kept b now own.vdr k.same k.long ∙ typed good at) ∙ u)

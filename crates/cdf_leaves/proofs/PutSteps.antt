@@ -1,13 +1,7 @@
 -- A node that gets an entry, once another record was taken.
-use Rattle.std.proofs.Common.{◌≡◌, ◌≢◌, ℕ, List, refl, sym, ◌∙◌}
-use Rattle.cdf_leaves.proofs.Common.{Kept, apart, type_at, room_at, used_count, gdr_type, uir_type, vxr_type, shape, NodeInside, Spot, Entry, MayPut, NodeMade, Grew, grew}
+use Rattle.std.proofs.Common.{◌≡◌, ℕ, List, refl, sym, ◌∙◌}
+use Rattle.cdf_leaves.proofs.Common.{apart, room_at, used_count, gdr_type, uir_type, vxr_type, shape, NodeInside, Spot, Entry, MayPut, NodeMade, Grew, grew}
 use Rattle.cdf_leaves.proofs.Spares.{Spares, spares_kept, fits_still, node_inside}
-
-pub node_used : (b : List ℕ) (m : ℕ) → type_at b m ≡ vxr_type → type_at b m ≢ uir_type
-node_used b m t e = apart vxr_type uir_type refl (sym t ∙ e)
-
-pub node_no_gdr : (b : List ℕ) (m : ℕ) → type_at b m ≡ vxr_type → type_at b m ≢ gdr_type
-node_no_gdr b m t e = apart vxr_type gdr_type refl (sym t ∙ e)
 
 pub record StaysThere (now : List ℕ) (seen : Spot) : Type 0 where
   pub inside : NodeInside now seen.place
@@ -21,7 +15,7 @@ module _ (b : List ℕ) (seen : Spot) (may : MayPut b seen) where
   pub stays_there : (now : List ℕ) (room next at : ℕ) (entries : List Entry) → NodeMade b now room next entries at → StaysThere now seen
   stays_there now room next at entries made =
       let g : Grew b now = grew may.sound made.fills in
-      let k : Kept b now seen.place = g.kept seen.place may.there (node_used b seen.place may.typed) (node_no_gdr b seen.place may.typed) in
+      let k = g.kept seen.place may.there (λ e. apart vxr_type uir_type refl (sym may.typed ∙ e)) (λ e. apart vxr_type gdr_type refl (sym may.typed ∙ e)) in
       let s : Spares b now seen.place = spares_kept b now seen.place k may.fits in
       record {
         inside = node_inside now (shape now).records seen.place g.sound.has_shape.tiled (g.sub seen.place may.there) (fits_still b now seen.place s may.fits);

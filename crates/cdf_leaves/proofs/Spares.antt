@@ -1,9 +1,7 @@
 -- Nodes that stay but for their used entries.
-use Rattle.std.proofs.Common.{◌≡◌, ◌≢◌, ℕ, ◌+◌, ◌*◌, ◌<◌, ◌≤◌, List, [], ◌∷◌, length, refl, sym, subst, ◌∙◌, inl, inr, arith}
-use Rattle.cdf_leaves.proofs.Common.{cases_eq, SameHeads, tiles_same, Kept, number_kept, size_kept, tile_lies, number, size_at, room_at, used_count, vxr_n_used_entries, NodeFits, AreTiles, In, NodeInside, StillSays, Widened, front_stays, heads_stay, others_stay}
-use Rattle.cdf_edits.proofs.Frame.LinksStay.{room_same, used_same, entry_same}
+use Rattle.std.proofs.Common.{◌≡◌, ℕ, ◌+◌, ◌*◌, ◌<◌, ◌≤◌, List, length, refl, sym, subst, ◌∙◌, inl, inr, arith}
+use Rattle.cdf_leaves.proofs.Common.{cases_eq, tiles_same, Kept, tile_lies, number, size_at, room_at, used_count, vxr_n_used_entries, NodeFits, AreTiles, In, NodeInside, StillSays, Widened, front_stays, heads_stay, others_stay, same_node}
 use Rattle.cdf_index.proofs.Inserting.{room_stays, used_stays}
-use Rattle.cdf_index.proofs.OneNode.{one_head}
 
 -- a node is as it was but for its used entries
 pub record Spares (mid now : List ℕ) (m : ℕ) : Type 0 where
@@ -22,29 +20,14 @@ spares_then b mid now m p q = record {
   room_is = q.room_is ∙ p.room_is;
   used_is = q.used_is ∙ p.used_is;
   count_is = q.count_is ∙ p.count_is;
-  spare = λ i le lt f l o s. q.spare i (subst (λ (n : ℕ). n ≤ i) (sym p.used_is) le) (subst (λ (n : ℕ). i < n) (sym p.room_is) lt) f l o (p.spare i le lt f l o s);
+  spare = λ i le lt f l o s. q.spare i (omega (arith, p.used_is)) (omega (arith, p.room_is)) f l o (p.spare i le lt f l o s);
 }
 
 pub fits_still : (mid now : List ℕ) (m : ℕ) → Spares mid now m → NodeFits mid m → NodeFits now m
-fits_still mid now m s fits = (
-  subst (λ (n : ℕ). 28 + 16 * room_at now m ≤ n) (sym s.size_is) (subst (λ (n : ℕ). 28 + 16 * n ≤ size_at mid m) (sym s.room_is) fits.0),
-  subst (λ (n : ℕ). used_count now m ≤ n) (sym s.room_is) (subst (λ (n : ℕ). n ≤ room_at mid m) (sym s.used_is) fits.1),
-)
-
-pub node_long : (r s : ℕ) → 28 + 16 * r ≤ s → 24 + 4 ≤ s
-node_long r s h = omega arith
+fits_still mid now m s fits = (omega (arith, fits.0), omega (arith, fits.1))
 
 pub spares_kept : (mid now : List ℕ) (m : ℕ) → Kept mid now m → NodeFits mid m → Spares mid now m
-spares_kept mid now m k fits = record {
-  size_is = size_kept mid now m k.same (let l = k.long in omega arith);
-  room_is = room_same mid now (m ∷ []) (m ∷ []) (one_head mid now m k) m k fits;
-  used_is = used_same mid now (m ∷ []) (m ∷ []) (one_head mid now m k) m k fits;
-  count_is = number_kept mid now m k.same vxr_n_used_entries (node_long (room_at mid m) (size_at mid m) fits.0);
-  spare = λ i le lt f l o s. entry_same mid now (m ∷ []) (m ∷ []) (one_head mid now m k) m k fits i f l o lt s;
-}
-
-pub all_entries : (mid now : List ℕ) (m : ℕ) → Kept mid now m → NodeFits mid m → (i : ℕ) → i < room_at mid m → StillSays mid now m i i
-all_entries mid now m k fits i lt f l o s = entry_same mid now (m ∷ []) (m ∷ []) (one_head mid now m k) m k fits i f l o lt s
+spares_kept mid now m k fits = let n = same_node mid now m k fits in record { size_is = n.size_is; room_is = n.room_is; used_is = n.used_is; count_is = n.count_is; spare = λ i le. n.entries i }
 
 -- one of whose used entries another Last was written
 pub spares_widened : (mid now : List ℕ) (m i last : ℕ) → Widened mid now m i last → m + 28 ≤ length mid → i < used_count mid m → Spares mid now m
@@ -53,26 +36,17 @@ spares_widened mid now m i last w lies used = record {
   room_is = room_stays mid now m (16 * room_at mid m) w.changed lies;
   used_is = used_stays mid now m (16 * room_at mid m) w.changed lies;
   count_is = front_stays mid now m 28 (16 * room_at mid m) w.changed lies 24 4 (omega arith);
-  spare = λ j le lt. w.others j lt (past j le);
+  spare = λ j le lt. w.others j lt (λ e. absurd (omega arith));
 }
-  where
-    past : (j : ℕ) → used_count mid m ≤ j → j ≢ i
-    past j le e = absurd (omega arith)
 
 -- where it stands
 pub node_inside : (b records : List ℕ) (m : ℕ) → AreTiles b 8 (length b) records → In m records → NodeFits b m → NodeInside b m
 node_inside b records m tiled i fits =
     let l = tile_lies b 8 (length b) records m tiled i in
-    record { low = l.low; inside = l.high; room = fit (room_at b m) (size_at b m) fits.0 l.high; entries = fits.0; fits = fits.1 }
-  where
-    fit : (r s : ℕ) → 28 + 16 * r ≤ s → m + s ≤ length b → m + (28 + 16 * r) ≤ length b
-    fit r s p q = omega arith
+    record { low = l.low; inside = l.high; room = omega (arith, l.high, fits.0); entries = fits.0; fits = fits.1 }
 
 pub front_lies : (b : List ℕ) (m : ℕ) → NodeInside b m → m + 28 ≤ length b
-front_lies b m i = front (room_at b m) i.room
-  where
-    front : (r : ℕ) → m + (28 + 16 * r) ≤ length b → m + 28 ≤ length b
-    front r p = omega arith
+front_lies b m i = omega (arith, i.room)
 
 -- ---- all nodes among the records of an image
 
@@ -84,25 +58,17 @@ pub record StillNodes (b now records : List ℕ) : Type 0 where
 pub still_none : (b records : List ℕ) → AreTiles b 8 (length b) records → StillNodes b b records
 still_none b records tiled = record { as_long = refl; tiled = tiled; still = λ m i fits. spares_none b m }
 
-module _ (b mid now records : List ℕ) (s : StillNodes b mid records) (x i last : ℕ) (there : In x records) (fits : NodeFits b x) (used : i < used_count b x) (w : Widened mid now x i last) where
-  fits_mid : NodeFits mid x
-  fits_mid = fits_still b mid x (s.still x there fits) fits
+pub still_then : (b mid now records : List ℕ) → StillNodes b mid records → StillNodes mid now records → StillNodes b now records
+still_then b mid now records s t = record { as_long = t.as_long ∙ s.as_long; tiled = t.tiled; still = λ m i f. spares_then b mid now m (s.still m i f) (t.still m i (fits_still b mid m (s.still m i f) f)) }
 
-  heads : SameHeads mid now records records
-  heads = heads_stay mid now records s.tiled x 28 (16 * room_at mid x) there (omega arith) fits_mid.0 w.changed
-
-  used_mid : i < used_count mid x
-  used_mid = subst (λ (n : ℕ). i < n) (sym (s.still x there fits).used_is) used
-
-  one : (m : ℕ) → In m records → NodeFits b m → Spares mid now m
-  one m j f = elim (cases_eq m x) [
-    | inl e ↦ subst (Spares mid now) (sym e) (spares_widened mid now x i last w (front_lies mid x (node_inside mid records x s.tiled there fits_mid)) used_mid)
-    | inr ne ↦ spares_kept mid now m (others_stay mid now records s.tiled x 28 (16 * room_at mid x) there (omega arith) fits_mid.0 w.changed m j ne) (fits_still b mid m (s.still m j f) f)
-  ]
-
-  pub still_widened : StillNodes b now records
-  still_widened = record {
-    as_long = w.as_long ∙ s.as_long;
-    tiled = subst (λ (n : ℕ). AreTiles now 8 n records) (sym w.as_long) (tiles_same mid now 8 (length mid) records s.tiled heads.sizes);
-    still = λ m j f. spares_then b mid now m (s.still m j f) (one m j f);
-  }
+pub widened_one : (mid now records : List ℕ) (x i last : ℕ) → AreTiles mid 8 (length mid) records → In x records → NodeFits mid x → i < used_count mid x → Widened mid now x i last → StillNodes mid now records
+widened_one mid now records x i last tiled there fits used w =
+    let heads = heads_stay mid now records tiled x 28 (16 * room_at mid x) there (omega arith) fits.0 w.changed in
+    record {
+      as_long = w.as_long;
+      tiled = subst (λ (n : ℕ). AreTiles now 8 n records) (sym w.as_long) (tiles_same mid now 8 (length mid) records tiled heads.sizes);
+      still = λ m j f. elim (cases_eq m x) [
+        | inl e ↦ rw e (spares_widened mid now x i last w (front_lies mid x (node_inside mid records x tiled there fits)) used)
+        | inr ne ↦ spares_kept mid now m (others_stay mid now records tiled x 28 (16 * room_at mid x) there (omega arith) fits.0 w.changed m j ne) f
+      ];
+    }

@@ -1,16 +1,13 @@
 -- The node at the end of the way.
-use Rattle.std.proofs.Common.{◌≡◌, ◌≢◌, ◌⊎◌, ℕ, zero, suc, ◌+◌, ◌<◌, ◌≤◌, max, List, [], ◌∷◌, true, false, leb, refl, sym, ap, subst, ◌∙◌, arith, inl, inr}
-use Rattle.cdf_index.proofs.EntriesCut.{parted_all, parted_rest}
-use Rattle.cdf_index.proofs.Leading.{Passed}
-use Rattle.cdf_leaves.proofs.Common.{chain_reaches, leads_down, past, room_of_new, is_linkable, Nodes, no_node, node, Entries, no_entry, block, lower, entry_count, room_at, SaysNode, vxr_type, In, Distinct, either, In-append, In-append_right, Distinct-back, Begun, Begins}
+use Rattle.std.proofs.Common.{◌≡◌, ◌≢◌, ℕ, zero, suc, ◌≤◌, List, [], ◌∷◌, ◌++◌, true, refl, sym, arith, inl, inr}
+use Rattle.cdf_leaves.proofs.Common.{room_of_new, is_linkable, Nodes, no_node, node, Entries, no_entry, block, lower, room_at, SaysNode, vxr_type, In, Distinct, In-append, Distinct-back, Leaf}
 use Rattle.cdf_edits.specs.Commands.Room.{widest, widest_below}
-use Rattle.cdf_edits.specs.Index.Grown.{new_room, new_room_below, reaches}
-use Rattle.cdf_format.specs.Index.{nodes_of, lower_nodes, first_at}
-use Rattle.cdf_format.specs.IndexOf.{SayEntries, HasNodes, Names}
-use Rattle.cdf_format.proofs.Members.{In-append_left, Distinct-front}
-use Rattle.cdf_index.specs.Way.{way, way_below, spot, spot_below}
-use Rattle.cdf_index.proofs.WayDown.{spot_below_in}
-use Rattle.std.proofs.lemmas.Bool.{lt-leb, le-leb}
+use Rattle.cdf_format.specs.Index.{nodes_of, lower_nodes}
+use Rattle.cdf_format.specs.IndexOf.{HasNodes, Names}
+use Rattle.cdf_edits.specs.Index.Grown.{with_both}
+use Rattle.cdf_index.proofs.Coming.{Comes, comes_along, comes_below, comes_first, comes_here}
+use Rattle.cdf_index.proofs.Saying.{names_parts}
+use Rattle.cdf_index.proofs.WayDown.{apart_by, below_once, below_times, way_lies}
 
 -- a node is at the end of the way, and the new one has so much room
 pub record SpotNode (b ts : List ℕ) (f at new : ℕ) : Type 0 where
@@ -20,27 +17,15 @@ pub record SpotNode (b ts : List ℕ) (f at new : ℕ) : Type 0 where
   pub says : SaysNode b ts at room entries more
   pub new_is : new ≡ room_of_new f room entries
 
-mutual
-  unfolding HasNodes Names spot spot_below new_room new_room_below
-
-  pub spot_node : (b ts : List ℕ) (levels f : ℕ) (nodes : Nodes) → HasNodes b ts levels nodes → (spot f nodes ≡ 0) ⊎ SpotNode b ts f (spot f nodes) (new_room f nodes)
-  spot_node b ts levels f no_node h = inl refl
-  spot_node b ts zero f (node place room es more) h = absurd h
-  spot_node b ts (suc levels) f (node place room es more) h = elim (either (chain_reaches f more)) [
-    | inl t ↦ rw t (spot_node b ts (suc levels) f more h.2)
-    | inr t ↦ elim (either (leads_down f false es)) [
-      | inl u ↦ rw (t, u) (spot_below_node b ts levels f es h.1)
-      | inr u ↦ rw (t, u) (inr (record { room = room; entries = es; more = more; says = h.0; new_is = refl }))
-    ]
-  ]
-
-  spot_below_node : (b ts : List ℕ) (levels f : ℕ) (es : Entries) → Names b ts levels es → (spot_below f es ≡ 0) ⊎ SpotNode b ts f (spot_below f es) (new_room_below f es)
-  spot_below_node b ts levels f no_entry n = inl refl
-  spot_below_node b ts levels f (block first last place packed es) n = spot_below_node b ts levels f es n.2
-  spot_below_node b ts levels f (lower first last nodes es) n = elim (either (reaches f es)) [
-    | inl t ↦ rw t (spot_below_node b ts levels f es n.2)
-    | inr t ↦ rw t (spot_node b ts levels f nodes n.1)
-  ]
+pub spot_node : {l : Leaf} {at : ℕ} {w : List (ℕ × ℕ)} {x n : ℕ} {ns ns' : Nodes} → Comes l at w x n ns ns' → (b ts : List ℕ) (levels : ℕ) → HasNodes b ts levels ns → x ≢ 0 → SpotNode b ts l.first x n
+unfolding HasNodes Names
+spot_node comes_first b ts levels h some = absurd (some refl)
+spot_node (comes_along t c) b ts zero h some = absurd h
+spot_node (comes_along t c) b ts (suc levels) h some = spot_node c b ts (suc levels) h.2 some
+spot_node (comes_below fs first last nodes nodes' es t le r c) b ts zero h some = absurd h
+spot_node (comes_below fs first last nodes nodes' es t le r c) b ts (suc levels) h some = spot_node c b ts levels (names_parts b ts levels fs (lower first last nodes es) h.1).1.1 some
+spot_node (comes_here t d) b ts zero h some = absurd h
+spot_node (comes_here {room = room} {es = es} {more = more} t d) b ts (suc levels) h some = record { room = room; entries = es; more = more; says = h.0; new_is = refl }
 
 -- ---- the way does not lead through it
 
@@ -48,40 +33,20 @@ abbrev pub NotAt : ℕ → List (ℕ × ℕ) → Type 0
 NotAt x [] = Unit {0}
 NotAt x (step ∷ more) = (step.0 ≢ x) × NotAt x more
 
-mutual
-  unfolding way way_below spot spot_below nodes_of lower_nodes
-
-  pub way_apart : (f : ℕ) (nodes : Nodes) → Distinct (nodes_of nodes) → (In 0 (nodes_of nodes) → ⊥) → NotAt (spot f nodes) (way f nodes)
-  way_apart f no_node d z = tt
-  way_apart f (node place room es more) d z = elim (either (chain_reaches f more)) [
-    | inl t ↦ rw t (way_apart f more (Distinct-back (lower_nodes es) (nodes_of more) d.1) (λ i. z (inr (In-append_right 0 (lower_nodes es) (nodes_of more) i))))
-    | inr t ↦ elim (either (leads_down f false es)) [
-      | inl u ↦ rw (t, u) (
-        (λ e. elim (spot_below_in f es) [
-          | inl q ↦ z (inl (sym (e ∙ q)))
-          | inr i ↦ d.0 (In-append_left place (lower_nodes es) (nodes_of more) (subst (λ (x : ℕ). In x (lower_nodes es)) (sym e) i))
-        ]),
-        below_apart f es (Distinct-front (lower_nodes es) (nodes_of more) d.1) (λ i. z (inr (In-append_left 0 (lower_nodes es) (nodes_of more) i))),
-      )
-      | inr u ↦ rw (t, u) tt
-    ]
-  ]
-
-  below_apart : (f : ℕ) (es : Entries) → Distinct (lower_nodes es) → (In 0 (lower_nodes es) → ⊥) → NotAt (spot_below f es) (way_below f es)
-  below_apart f no_entry d z = tt
-  below_apart f (block first last place packed es) d z = below_apart f es d z
-  below_apart f (lower first last nodes es) d z = elim (either (reaches f es)) [
-    | inl t ↦ rw t (below_apart f es (Distinct-back (nodes_of nodes) (lower_nodes es) d) (λ i. z (In-append_right 0 (nodes_of nodes) (lower_nodes es) i)))
-    | inr t ↦ rw t (way_apart f nodes (Distinct-front (nodes_of nodes) (lower_nodes es) d) (λ i. z (In-append_left 0 (nodes_of nodes) (lower_nodes es) i)))
-  ]
+pub way_apart : {l : Leaf} {at : ℕ} {w : List (ℕ × ℕ)} {x n : ℕ} {ns ns' : Nodes} → Comes l at w x n ns ns' → x ≢ 0 → Distinct (nodes_of ns) → NotAt x w
+unfolding nodes_of lower_nodes
+way_apart comes_first some d = tt
+way_apart (comes_along {es = es} {more = more} t c) some d = way_apart c some (Distinct-back (lower_nodes es) (nodes_of more) d.1)
+way_apart (comes_below {x = x} {place = place} {room = room} {more = more} fs first last nodes nodes' es t le r c) some d = (
+  (λ e. elim (way_lies c).1 [
+    | inl z ↦ some z
+    | inr i ↦ apart_by x (nodes_of (node place room (with_both fs (lower first last nodes es)) more)) (nodes_of nodes) (place ∷ lower_nodes fs ++ (lower_nodes es ++ nodes_of more)) d (below_times x place room first last fs es nodes more) i (inl (sym e))
+  ]),
+  way_apart c some (below_once place room first last fs es nodes more d),
+)
+way_apart (comes_here t d) some o = tt
 
 -- ---- all nodes
-
-most_left : (a c n : ℕ) → n ≤ a → n ≤ max a c
-most_left a c n l = grind arith
-
-most_right : (a c n : ℕ) → n ≤ c → n ≤ max a c
-most_right a c n l = grind arith
 
 mutual
   unfolding HasNodes Names nodes_of lower_nodes widest widest_below
@@ -89,40 +54,16 @@ mutual
   pub nodes_linkable : (b ts : List ℕ) (levels m : ℕ) (nodes : Nodes) → HasNodes b ts levels nodes → In m (nodes_of nodes) → (is_linkable b ts vxr_type m ≡ true) × (room_at b m ≤ widest nodes)
   nodes_linkable b ts levels m no_node h i = absurd i
   nodes_linkable b ts zero m (node place room es more) h i = absurd h
-  nodes_linkable b ts (suc levels) m (node place room es more) h (inl e) =
-      let here : room_at b place ≤ room = subst (λ (r : ℕ). room_at b place ≤ r) h.0.room_is (omega arith) in
-      subst (λ (x : ℕ). (is_linkable b ts vxr_type x ≡ true) × (room_at b x ≤ max room (max (widest_below es) (widest more)))) (sym e) (h.0.linkable, most_left room (max (widest_below es) (widest more)) (room_at b place) here)
+  nodes_linkable b ts (suc levels) m (node place room es more) h (inl e) = rw e (h.0.linkable, omega (arith, h.0.room_is))
   nodes_linkable b ts (suc levels) m (node place room es more) h (inr i) = elim (In-append m (lower_nodes es) (nodes_of more) i) [
-    | inl j ↦ let r = lower_linkable b ts levels m es h.1 j in (r.0, most_right room (max (widest_below es) (widest more)) (room_at b m) (most_left (widest_below es) (widest more) (room_at b m) r.1))
-    | inr j ↦ let r = nodes_linkable b ts (suc levels) m more h.2 j in (r.0, most_right room (max (widest_below es) (widest more)) (room_at b m) (most_right (widest_below es) (widest more) (room_at b m) r.1))
+    | inl j ↦ let r = lower_linkable b ts levels m es h.1 j in (r.0, omega (arith, r.1))
+    | inr j ↦ let r = nodes_linkable b ts (suc levels) m more h.2 j in (r.0, omega (arith, r.1))
   ]
 
   lower_linkable : (b ts : List ℕ) (levels m : ℕ) (es : Entries) → Names b ts levels es → In m (lower_nodes es) → (is_linkable b ts vxr_type m ≡ true) × (room_at b m ≤ widest_below es)
   lower_linkable b ts levels m no_entry n i = absurd i
   lower_linkable b ts levels m (block first last place packed es) n i = lower_linkable b ts levels m es n.2 i
   lower_linkable b ts levels m (lower first last nodes es) n i = elim (In-append m (nodes_of nodes) (lower_nodes es) i) [
-    | inl j ↦ let r = nodes_linkable b ts levels m nodes n.1 j in (r.0, most_left (widest nodes) (widest_below es) (room_at b m) r.1)
-    | inr j ↦ let r = lower_linkable b ts levels m es n.2 j in (r.0, most_right (widest nodes) (widest_below es) (room_at b m) r.1)
+    | inl j ↦ let r = nodes_linkable b ts levels m nodes n.1 j in (r.0, omega (arith, r.1))
+    | inr j ↦ let r = lower_linkable b ts levels m es n.2 j in (r.0, omega (arith, r.1))
   ]
-
--- ---- its entries that begin at a record or before it
-
-module _ (b : List ℕ) (at f : ℕ) where
-  past_it : (k first : ℕ) → f < first_at b at (k + 0) → first_at b at k ≡ first → leb first f ≡ false
-  past_it k first g is = let z : k + 0 ≡ k = omega arith in lt-leb first f (subst (λ (n : ℕ). f < n) (ap (first_at b at) z ∙ is) g)
-
-  upto_it : (k first : ℕ) → first_at b at (k + 0) ≤ f → first_at b at k ≡ first → leb first f ≡ true
-  upto_it k first g is = let z : k + 0 ≡ k = omega arith in le-leb first f (subst (λ (n : ℕ). n ≤ f) (ap (first_at b at) z ∙ is) g)
-
-  rest : (k n count : ℕ) → Passed b f at k (suc n) (suc count) → Passed b f at (suc k) n count
-  rest = parted_rest (λ j. first_at b at j ≤ f) (λ j. f < first_at b at j)
-
-  past_count : (k n : ℕ) (es : Entries) → SayEntries b at k es → Passed b f at k n (entry_count es) → n + entry_count (past f es) ≡ entry_count es
-  past_count k n no_entry s p = let m = p.most in omega arith
-  past_count k zero (block first last place packed es) s p = rw (past_it k first (p.stop (omega arith)) s.0.first_is) (omega arith)
-  past_count k zero (lower first last nodes es) s p = rw (past_it k first (p.stop (omega arith)) s.0.first_is) (omega arith)
-  past_count k (suc n) (block first last place packed es) s p = let r = past_count (suc k) n es s.1 (rest k n (entry_count es) p) in rw (upto_it k first (p.before 0 (omega arith)) s.0.first_is) (omega arith)
-  past_count k (suc n) (lower first last nodes es) s p = let r = past_count (suc k) n es s.1 (rest k n (entry_count es) p) in rw (upto_it k first (p.before 0 (omega arith)) s.0.first_is) (omega arith)
-
-pub begins_by : (b : List ℕ) (at f p : ℕ) → Begun b at f p → Begins b at f p
-begins_by b at f p g es u s = let most = g.most in past_count b at f 0 p es s (parted_all (λ j. first_at b at j ≤ f) (λ j. f < first_at b at j) p (entry_count es) g.before (λ lt. g.stop (omega arith)) (omega arith))

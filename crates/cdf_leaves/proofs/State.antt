@@ -1,11 +1,10 @@
 -- An index in the making: what holds of an image, from the one in which all records were taken.
-use Rattle.std.proofs.Common.{◌≡◌, ◌≢◌, ℕ, ◌+◌, ◌*◌, ◌<◌, ◌≤◌, List, [], ◌∷◌, ◌++◌, length, Bool, true, false, sym, subst, ◌∙◌, arith, inl, inr}
-use Rattle.cdf_leaves.proofs.Common.{cases_eq, changed_then, SameHeads, tiles_same, redo, Touch, touch, Changed, EntryIs, number, size_at, Nodes, nodes_of, leaves_of, room_at, used_count, HasNodes, vxr_n_used_entries, Each, NodeFits, AreTiles, Distinct, In, Each-append, Counts, wider, widen_all, StillSays, Widened, heads_stay, others_stay, WidenedAlong}
+use Rattle.std.proofs.Common.{◌≡◌, ◌≢◌, ℕ, ◌+◌, ◌*◌, ◌<◌, ◌≤◌, List, [], ◌∷◌, ◌++◌, length, Bool, true, false, sym, subst, ◌∙◌, arith}
+use Rattle.cdf_leaves.proofs.Common.{changed_then, redo, Touch, touch, Changed, EntryIs, size_at, Nodes, nodes_of, leaves_of, room_at, used_count, HasNodes, Each, NodeFits, AreTiles, Distinct, In, Each-append, Counts, wider, widen_all, StillSays, Widened, heads_stay, WidenedAlong}
 use Rattle.cdf_index.proofs.NodeWider.{wider_owed}
 use Rattle.cdf_index.proofs.TreeTouched.{edited}
 use Rattle.cdf_leaves.proofs.NodesMore.{places, nodes_wider}
-use Rattle.cdf_leaves.proofs.Spares.{Spares, spares_kept, spares_widened, fits_still, node_inside, front_lies}
-use Rattle.cdf_edits.proofs.Edits.RecordFrame.{through}
+use Rattle.cdf_leaves.proofs.Spares.{Spares, fits_still, front_lies, node_inside, widened_one}
 
 -- a node: only the one at `x` may use more entries or fewer; its unused ones are as they have to be
 pub record NodeNow (b roomy now : List ℕ) (was : ℕ → ℕ → Bool) (x m : ℕ) : Type 0 where
@@ -25,12 +24,9 @@ node_then b roomy mid now was x m n s = record {
   size_is = s.size_is ∙ n.size_is;
   room_is = s.room_is ∙ n.room_is;
   fits = fits_still mid now m s n.fits;
-  count = λ c. subst (λ (k : ℕ). k ≤ room_at now m) (sym s.count_is) (subst (λ (k : ℕ). number mid m vxr_n_used_entries ≤ k) (sym s.room_is) (n.count c));
+  count = λ c. omega (arith, s.count_is, s.room_is, n.count c);
   stays = λ ne. s.used_is ∙ n.stays ne;
-  spare = λ i le lt.
-      (let le' : used_count mid m ≤ i = subst (λ (k : ℕ). k ≤ i) s.used_is le in
-      let lt' : i < room_at mid m = subst (λ (k : ℕ). i < k) s.room_is lt in
-      entry_still b mid now m i (was m i) (n.spare i le' lt') (s.spare i le' lt'));
+  spare = λ i le lt. entry_still b mid now m i (was m i) (n.spare i (omega (arith, s.used_is)) (omega (arith, s.room_is))) (s.spare i (omega (arith, s.used_is)) (omega (arith, s.room_is)));
 }
 
 -- it lies in one of the nodes, behind the type
@@ -49,73 +45,32 @@ pub record State (b roomy now records all : List ℕ) (was : ℕ → ℕ → Boo
   pub each : (m : ℕ) → In m all → NodeNow b roomy now was x m
 
 module _ (b roomy records all : List ℕ) (was : ℕ → ℕ → Bool) (x : ℕ) (stand : (m : ℕ) → In m all → In m records) (once : Distinct all) where
-  -- ---- the first step
-
-  pub first_step : (now : List ℕ) (from n : ℕ) (tree : Nodes) → AreTiles roomy 8 (length roomy) records → ((m : ℕ) → In m all → NodeNow b roomy roomy was x m) → In x all → 12 ≤ from → from + n ≤ 28 + 16 * room_at roomy x → Changed roomy now (touch x from n ∷ []) → length now ≡ length roomy
-      → HasNodes now records 8 tree → nodes_of tree ≡ all → ((m : ℕ) → In m (places (leaves_of tree)) → In m records) → NodeNow b roomy now was x x → State b roomy now records all was x tree
-  first_step now from n tree tiled start there late fit changed long has are blocks here =
-      let whole : from + n ≤ size_at roomy x = through (from + n) (28 + 16 * room_at roomy x) (size_at roomy x) fit (start x there).fits.0 in
-      let heads = heads_stay roomy now records tiled x from n (stand x there) late whole changed in
+  -- a node is widened
+  widened_step : (mid now : List ℕ) (tree : Nodes) → State b roomy mid records all was x tree → (y i last : ℕ) → In y all → y ≢ x → i < used_count roomy y → Widened mid now y i last → State b roomy now records all was x (redo y (wider last y i) tree)
+  widened_step mid now tree s y i last there other used w =
+      let n = s.each y there in
+      let same = nodes_wider y last i tree in
+      let still = widened_one mid now records y i last s.tiled (stand y there) n.fits (omega (arith, n.stays other)) w in
+      let heads = heads_stay mid now records s.tiled y 28 (16 * room_at mid y) (stand y there) (omega arith) n.fits.0 w.changed in
+      let touched = touch y 28 (16 * room_at mid y) ∷ [] in
       record {
-        as_long = long;
-        tiled = subst (λ (k : ℕ). AreTiles now 8 k records) (sym long) (tiles_same roomy now 8 (length roomy) records tiled heads.sizes);
-        touches = touch x from n ∷ [];
-        changed = changed;
-        within = ((there, late, fit), tt);
-        has = has;
-        nodes_are = are;
-        blocks = blocks;
-        each = λ m i. elim (cases_eq m x) [
-          | inl e ↦ subst (NodeNow b roomy now was x) (sym e) here
-          | inr ne ↦ node_then b roomy roomy now was x m (start m i) (spares_kept roomy now m (others_stay roomy now records tiled x from n (stand x there) late whole changed m (stand m i) ne) (start m i).fits)
-        ];
+        as_long = w.as_long ∙ s.as_long;
+        tiled = still.tiled;
+        touches = s.touches ++ touched;
+        changed = changed_then roomy mid now s.touches touched s.changed w.changed;
+        within = Each-append (NodeTouch roomy all) s.touches touched s.within ((there, omega arith, omega (arith, n.room_is)), tt);
+        has = edited mid now records y 28 (16 * room_at mid y) 8 (wider last y i) tree s.tiled (stand y there) (omega arith) n.fits.0 w.changed (wider_owed mid now records records heads y i last w n.fits.1 (front_lies mid y (node_inside mid records y s.tiled (stand y there) n.fits)))
+            s.has (subst Distinct (sym s.nodes_are) once) (λ m j. let k = subst (In m) s.nodes_are j in (stand m k, (s.each m k).fits)) s.blocks;
+        nodes_are = same.0 ∙ s.nodes_are;
+        blocks = λ m j. s.blocks m (subst (In m) same.1 j);
+        each = λ m j. node_then b roomy mid now was x m (s.each m j) (still.still m (stand m j) (s.each m j).fits);
       }
-
-  -- ---- a node is widened
-
-  module _ (mid now : List ℕ) (tree : Nodes) (s : State b roomy mid records all was x tree) (y i last : ℕ) (there : In y all) (other : y ≢ x) (used : i < used_count roomy y) (w : Widened mid now y i last) where
-    fits : NodeFits mid y
-    fits = (s.each y there).fits
-
-    heads : SameHeads mid now records records
-    heads = heads_stay mid now records s.tiled y 28 (16 * room_at mid y) (stand y there) (omega arith) fits.0 w.changed
-
-    lies : y + 28 ≤ length mid
-    lies = front_lies mid y (node_inside mid records y s.tiled (stand y there) fits)
-
-    used_mid : i < used_count mid y
-    used_mid = subst (λ (k : ℕ). i < k) (sym ((s.each y there).stays other)) used
-
-    spares : (m : ℕ) → In m all → Spares mid now m
-    spares m j = elim (cases_eq m y) [
-      | inl e ↦ subst (Spares mid now) (sym e) (spares_widened mid now y i last w lies used_mid)
-      | inr ne ↦ spares_kept mid now m (others_stay mid now records s.tiled y 28 (16 * room_at mid y) (stand y there) (omega arith) fits.0 w.changed m (stand m j) ne) (s.each m j).fits
-    ]
-
-    abbrev wide_tree : Nodes
-    wide_tree = redo y (wider last y i) tree
-
-    pub widened_step : State b roomy now records all was x wide_tree
-    widened_step =
-        let same = nodes_wider y last i tree in
-        record {
-          as_long = w.as_long ∙ s.as_long;
-          tiled = subst (λ (k : ℕ). AreTiles now 8 k records) (sym w.as_long) (tiles_same mid now 8 (length mid) records s.tiled heads.sizes);
-          touches = s.touches ++ touch y 28 (16 * room_at mid y) ∷ [];
-          changed = changed_then roomy mid now s.touches (touch y 28 (16 * room_at mid y) ∷ []) s.changed w.changed;
-          within = Each-append (NodeTouch roomy all) s.touches (touch y 28 (16 * room_at mid y) ∷ []) s.within ((there, omega arith, subst (λ (r : ℕ). 28 + 16 * r ≤ 28 + 16 * room_at roomy y) (sym (s.each y there).room_is) (omega arith)), tt);
-          has = edited mid now records y 28 (16 * room_at mid y) 8 (wider last y i) tree s.tiled (stand y there) (omega arith) fits.0 w.changed (wider_owed mid now records records heads y i last w fits.1 lies)
-              s.has (subst Distinct (sym s.nodes_are) once) (λ m j. let k = subst (In m) s.nodes_are j in (stand m k, (s.each m k).fits)) s.blocks;
-          nodes_are = same.0 ∙ s.nodes_are;
-          blocks = λ m j. s.blocks m (subst (In m) same.1 j);
-          each = λ m j. node_then b roomy mid now was x m (s.each m j) (spares m j);
-        }
 
   -- a step of the way is none of the last node
   abbrev pub OnWay : ℕ × ℕ → Type 0
   OnWay step = In step.0 all × (step.0 ≢ x) × (step.1 < used_count roomy step.0)
 
   pub widened_all : (grown now : List ℕ) (last : ℕ) (tree : Nodes) (steps : List (ℕ × ℕ)) → Each OnWay steps → State b roomy grown records all was x tree → WidenedAlong grown now last steps → State b roomy now records all was x (widen_all last steps tree)
-  widened_all grown now last tree [] e s w = subst (λ (y : List ℕ). State b roomy y records all was x tree) (sym w) s
+  widened_all grown now last tree [] e s w = rw w s
   widened_all grown now last tree (step ∷ more) e s w =
       widened_step w.0 now (widen_all last more tree) (widened_all grown w.0 last tree more e.1 s w.1.0) step.0 step.1 last e.0.0 e.0.1 e.0.2 w.1.1

@@ -1,16 +1,14 @@
 -- The top chain of an index that gets a leaf, and its end in the bytes.
-use Rattle.std.proofs.Common.{◌≡◌, ◌≢◌, ◌⊎◌, ℕ, zero, suc, ◌+◌, ◌≤◌, List, [], ◌∷◌, length, refl, sym, ap, subst, ◌∙◌, arith, inl, inr, Some}
-use Rattle.cdf_leaves.proofs.Common.{room_of_new, top_chain, last_node, next_of, size_at, Nodes, no_node, node, Entries, Leaf, link_to, IsNode, vxr_type, AreTiles, In, Distinct, linkable-in, some_place, In-append_right, Distinct-back, tile_lies, chain_end, ChainInside}
+use Rattle.std.proofs.Common.{◌≡◌, ◌≢◌, ◌⊎◌, ℕ, zero, suc, ◌≤◌, List, [], ◌∷◌, length, refl, sym, ap, subst, ◌∙◌, arith, inl, inr, Some}
+use Rattle.cdf_edits.proofs.Common.{unwrap_or, linkable-long}
+use Rattle.cdf_leaves.proofs.Common.{room_of_new, top_chain, last_node, next_of, Nodes, no_node, node, Entries, Leaf, link_to, IsNode, vxr_type, AreTiles, In, Distinct, linkable-in, some_place, In-append_right, Distinct-back, tile_lies, chain_end, ChainInside, eq-eqb, ne_eqb}
 use Rattle.std.specs.List.{last_or}
-use Rattle.std.specs.Option.{unwrap_or}
 use Rattle.cdf_edits.specs.Index.Grown.{with_leaf, new_room, with_entry}
 use Rattle.cdf_format.specs.Index.{nodes_of, lower_nodes}
 use Rattle.cdf_format.specs.IndexOf.{HasNodes}
-use Rattle.cdf_format.proofs.ChainsLemmas.{linkable-long}
 use Rattle.cdf_format.proofs.Members.{length-le_from_distinct}
 use Rattle.cdf_format.proofs.TilesLemmas.{length_tiles}
 use Rattle.cdf_index.specs.Way.{way}
-use Rattle.std.proofs.lemmas.Bool.{eq-eqb, ne_eqb}
 use Rattle.cdf_index.proofs.Looking.{node_there}
 
 -- ---- in the tree
@@ -20,10 +18,7 @@ entry_top l at place room es more = ((λ e. grind arith), (λ ne. grind arith))
 
 pub top_stays : (l : Leaf) (at : ℕ) (nodes : Nodes) → (new_room l.first nodes ≡ 0) ⊎ (way l.first nodes ≢ []) → top_chain (with_leaf l at nodes) ≡ top_chain nodes
 unfolding with_leaf new_room way
-top_stays l at no_node (inl e) = absurd (seven e)
-  where
-    seven : ◌≡◌ {A = ℕ} 7 0 → ⊥
-    seven e = omega arith
+top_stays l at no_node (inl e) = absurd (omega (arith, e))
 top_stays l at no_node (inr ne) = absurd (ne refl)
 top_stays l at (node place room es more) h = grind (arith, top_stays l at more, (entry_top l at place room es more).0)
 
@@ -57,10 +52,7 @@ module _ (b ts : List ℕ) (tiled : AreTiles b 8 (length b) ts) where
   chain_inside (suc most) (suc levels) (node place room es more) h is =
       let l = tile_lies b 8 (length b) ts place tiled (linkable-in b ts vxr_type place h.0.linkable) in
       let long = linkable-long b ts vxr_type place h.0.linkable in
-      (reach (size_at b place) l.high long, λ n. subst (λ (x : ℕ). ChainInside most b x) (sym h.0.next_is) (chain_inside most (suc levels) more h.2 (node_there more (λ e. n (h.0.next_is ∙ e)))))
-    where
-      reach : (s : ℕ) → place + s ≤ length b → 28 ≤ s → place + 20 ≤ length b
-      reach s p q = omega arith
+      (omega (arith, l.high, long), λ n. subst (λ (x : ℕ). ChainInside most b x) (sym h.0.next_is) (chain_inside most (suc levels) more h.2 (node_there more (λ e. n (h.0.next_is ∙ e)))))
 
   end_from : (most levels p : ℕ) (nodes : Nodes) → HasNodes b ts levels nodes → length (top_chain nodes) ≤ most → next_of b p ≡ link_to nodes → chain_end (suc most) b p ≡ last_from p nodes
   unfolding HasNodes

@@ -1,7 +1,6 @@
 use Rattle.std.proofs.Common.{ℕ, List, length, sym, subst, ap, arith}
 use Rattle.cdf_index.proofs.Common.{read_more, read_once, SeesNode, spot_at, SomeNode}
-use Rattle.cdf_index.specs.declared.descending.Stop.{Stop}
-use Rattle.cdf_index.proofs.GoingDown.{chain_start, spot_found, next_tree, better_chain, better_of, spot_never}
+use Rattle.cdf_index.proofs.GoingDown.{chain_start, spot_found, best_node, next_tree, better_chain, spot_never}
 use Rattle.cdf_index.proofs.LevelsDown.{some_node}
 use Rattle.cdf_index.proofs.descending.stop_of_chain.Goals as goal
 
@@ -11,46 +10,34 @@ see_node-requires-clause-node g c = some_node (g.A.Area.image c.args.area.now) c
 pub loop-turn-init : goal.loop-turn-init
 loop-turn-init g c =
     let b = g.A.Area.image c.args.area.now in
-    record {
-      node = subst (SomeNode b) (sym c.in_ok-here.ensures.sees.place_is) (some_node b c.args.at c.requires.tree);
-      chain = λ levels nodes t e. chain_start b c.args.first c.args.at levels nodes (spot_at b c.in_ok-here.here) c.requires.tree.tiled t e c.in_ok-here.ensures.sees;
-      area = read_once c.in_ok-here.ensures.area;
-    }
+    record { chain = λ levels nodes t e. chain_start b c.args.first c.args.at levels nodes (spot_at b c.in_ok-here.here) t e c.in_ok-here.ensures.sees; area = read_once c.in_ok-here.ensures.area }
 
 pub see_node-requires-in-loop-turn-clause-node : goal.see_node-requires-in-loop-turn-clause-node
 see_node-requires-in-loop-turn-clause-node g c =
-    let b = g.A.Area.image c.args.area.now in
     let i = c.loop-turn.invariant in
     let t = c.requires.tree in
-    subst (λ (x : List ℕ). SomeNode x c.loop-turn.here.head.next) (sym i.area.image) (next_tree b c.args.first c.loop-turn.turn t.levels t.nodes (spot_at b c.loop-turn.best) (spot_at b c.loop-turn.here) t.tiled (i.chain t.levels t.nodes t.tree t.link) (c.ends_search.ensures.goes_on c.if-ends_search.false))
+    subst (λ (x : List ℕ). SomeNode x c.loop-turn.here.head.next) (sym i.area.image) (next_tree t.tiled (i.chain t.levels t.nodes t.tree t.link) (c.ends_search.ensures.goes_on c.if-ends_search.false))
 
 pub loop-turn-preserved : goal.loop-turn-preserved
 loop-turn-preserved g c =
     let b = g.A.Area.image c.args.area.now in
     let i = c.loop-turn.invariant in
-    let t = c.requires.tree in
-    let on = c.ends_search.ensures.goes_on c.if-ends_search.false in
     let sees = subst (λ (x : List ℕ). SeesNode x c.loop-turn.here.head.next c.args.first (spot_at x c.in_ok-next.next)) i.area.image c.in_ok-next.ensures.sees in
-    let next = next_tree b c.args.first c.loop-turn.turn t.levels t.nodes (spot_at b c.loop-turn.best) (spot_at b c.loop-turn.here) t.tiled (i.chain t.levels t.nodes t.tree t.link) on in
-    let taken = c.better-best.ensures.taken in
-    let kept = c.better-best.ensures.kept in
     record {
-      node = better_of (λ (s : Stop). SomeNode b s.place) c.in_ok-next.next.begun taken kept (λ lt. subst (SomeNode b) (sym sees.place_is) next) (λ z. i.node);
-      chain = λ levels nodes tree e. better_chain b c.args.first c.loop-turn.turn levels nodes (spot_at b c.loop-turn.best) (spot_at b c.loop-turn.here) (spot_at b c.in_ok-next.next) (spot_at b c.better-best.result) t.tiled (i.chain levels nodes tree e) on sees (λ lt. ap (spot_at b) (taken lt)) (λ z. ap (spot_at b) (kept z));
+      chain = λ levels nodes tree e. better_chain c.requires.tree.tiled (i.chain levels nodes tree e) (spot_at b c.in_ok-next.next) (spot_at b c.better-best.result) (c.ends_search.ensures.goes_on c.if-ends_search.false) sees (λ lt. ap (spot_at b) (c.better-best.ensures.taken lt)) (λ z. ap (spot_at b) (c.better-best.ensures.kept z));
       area = read_more i.area c.in_ok-next.ensures.area;
     }
 
 pub returns-clause-spot : goal.returns-clause-spot
 returns-clause-spot g c = λ levels nodes tree e.
-    (let b = g.A.Area.image c.args.area.now in
-    let i = c.loop-turn.invariant in
-    let over = c.loop-turn-test.false in
-    let size = c.size-turn-end.ensures in
-    let same = ap (λ (x : List ℕ). length x) c.in_ok-here.ensures.area.image in
-    absurd (spot_never b c.args.first c.loop-turn.turn levels nodes (spot_at b c.loop-turn.best) (spot_at b c.loop-turn.here) c.requires.tree.tiled tree (i.chain levels nodes tree e) (omega arith)))
+    (let same = ap (λ (x : List ℕ). length x) c.in_ok-here.ensures.area.image in
+    absurd (spot_never c.requires.tree.tiled (c.loop-turn.invariant.chain levels nodes tree e) tree (omega (arith, c.loop-turn-test.false, c.size-turn-end.ensures))))
+
+pub returns-clause-node : goal.returns-clause-node
+returns-clause-node g c = let t = c.requires.tree in best_node t.tiled (c.loop-turn.invariant.chain t.levels t.nodes t.tree t.link)
 
 pub returns-then-ends_search-clause-spot : goal.returns-then-ends_search-clause-spot
-returns-then-ends_search-clause-spot g c = λ levels nodes tree e.
-    (let b = g.A.Area.image c.args.area.now in
-    let i = c.loop-turn.invariant in
-    spot_found b c.args.first c.loop-turn.turn levels nodes (spot_at b c.loop-turn.best) (spot_at b c.loop-turn.here) c.requires.tree.tiled (i.chain levels nodes tree e) (c.ends_search.ensures.ends c.if-ends_search.true))
+returns-then-ends_search-clause-spot g c = λ levels nodes tree e. spot_found c.requires.tree.tiled (c.loop-turn.invariant.chain levels nodes tree e) tree (c.ends_search.ensures.ends c.if-ends_search.true)
+
+pub returns-then-ends_search-clause-node : goal.returns-then-ends_search-clause-node
+returns-then-ends_search-clause-node g c = let t = c.requires.tree in best_node t.tiled (c.loop-turn.invariant.chain t.levels t.nodes t.tree t.link)

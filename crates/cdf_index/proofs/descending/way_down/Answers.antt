@@ -41,10 +41,10 @@ pub returns-then-end-eq0-clause-sees : goal.returns-then-end-eq0-clause-sees
 returns-then-end-eq0-clause-sees g c = c.loop-turn.invariant.descending.ends.sees
 
 pub returns-then-end-eq0-clause-last : goal.returns-then-end-eq0-clause-last
-returns-then-end-eq0-clause-last g c = last_among c.loop-turn.invariant.descending c.requires.index.tiled c.if-end-eq0.true
+returns-then-end-eq0-clause-last g c = last_among c.loop-turn.invariant.descending c.requires.index.order c.requires.index.tiled c.if-end-eq0.true
 
 pub returns-then-end-eq0-clause-among : goal.returns-then-end-eq0-clause-among
-returns-then-end-eq0-clause-among g c = all_among c.loop-turn.invariant.descending c.if-end-eq0.true
+returns-then-end-eq0-clause-among g c = all_among c.loop-turn.invariant.descending c.requires.index.order c.if-end-eq0.true
 
 pub returns-then-end-eq0-clause-say : goal.returns-then-end-eq0-clause-say
 returns-then-end-eq0-clause-say g c = c.loop-turn.invariant.descending.say

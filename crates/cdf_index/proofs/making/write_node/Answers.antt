@@ -1,31 +1,13 @@
-use Rattle.std.proofs.Common.{◌≡◌, ◌<◌, ℕ, subst, sym, arith}
-use Rattle.cdf_area.proofs.Calls.{edit_once, edit_more}
-use Rattle.cdf_index.proofs.Inserting.{inside_stays}
-use Rattle.cdf_index.proofs.NodeMade.{Making, making_start, making_more, node_written}
+use Rattle.std.proofs.Common.{◌≡◌, arith}
+use Rattle.cdf_area.proofs.Calls.{edit_more}
+use Rattle.cdf_index.proofs.NodeMade.{making_more, node_written}
 use Rattle.cdf_index.proofs.making.write_node.Goals as goal
-
-pub loop-i-init : goal.loop-i-init
-loop-i-init g c = record { making = making_start (g.A.Area.image c.write_head.new.area) c.args.at c.args.entries.now; area = edit_once c.in_ok-write_head.ensures.area }
-
-pub set_entry-requires-clause-inside : goal.set_entry-requires-clause-inside
-set_entry-requires-clause-inside g c =
-    let m = c.loop-i.invariant.making in
-    inside_stays (g.A.Area.image c.write_head.new.area) (g.A.Area.image c.loop-i.area) c.args.at _ m.changed m.as_long c.in_ok-write_head.ensures.written.inside
 
 pub loop-i-preserved : goal.loop-i-preserved
 loop-i-preserved g c =
     let i = c.loop-i.invariant in
     let w = c.in_ok-write_head.ensures.written in
-    let t = c.loop-i-test.true in
-    record {
-      making = making_more (g.A.Area.image c.write_head.new.area) (g.A.Area.image c.loop-i.area) (g.A.Area.image c.set_entry.new.area) c.args.at c.loop-i.i c.args.entries.now c.entry_of.result w.inside i.making (subst (λ (n : ℕ). c.loop-i.i < n) (sym w.room_is) t) c.entry_of.ensures c.in_ok-set_entry.ensures.set;
-      area = edit_more i.area c.in_ok-set_entry.ensures.area;
-    }
+    record { making = making_more w.inside i.making (omega (arith, w.room_is, c.loop-i-test.true)) c.entry_of.ensures c.in_ok-set_entry.ensures.set; area = edit_more i.area c.in_ok-set_entry.ensures.area }
 
 pub returns-clause-written : goal.returns-clause-written
-returns-clause-written g c =
-    let b = g.A.Area.image c.args.area.now in
-    let head = g.A.Area.image c.write_head.new.area in
-    let mid = g.A.Area.image c.loop-i.area in
-    let stop : c.loop-i.i ≡ c.args.room = let p = c.loop-i-test.false in let q = c.loop-i.auto.i-end in omega arith in
-    node_written b head mid c.args.at c.args.room c.args.next c.args.entries.now c.in_ok-write_head.ensures.written (subst (λ (n : ℕ). Making head mid c.args.at n c.args.entries.now) stop c.loop-i.invariant.making)
+returns-clause-written g c = let stop : c.loop-i.i ≡ c.args.room = omega (arith, c.loop-i-test.false, c.loop-i.auto.i-end) in node_written c.in_ok-write_head.ensures.written (rw stop at c.loop-i.invariant.making)

@@ -1,30 +1,16 @@
-use Rattle.std.proofs.Common.{◌≡◌, ◌<◌, ℕ, subst, refl, arith}
-use Rattle.cdf_index.proofs.Common.{edit_more, Cleared}
-use Rattle.cdf_index.proofs.Inserting.{inside_stays}
-use Rattle.cdf_index.proofs.NodeShortened.{clear_start, clear_more}
+use Rattle.std.proofs.Common.{◌≡◌, arith}
+use Rattle.cdf_index.proofs.Common.{edit_more}
+use Rattle.cdf_index.proofs.NodeShortened.{clear_more}
 use Rattle.cdf_index.proofs.splitting.clear_entries.Goals as goal
-
-pub loop-i-init : goal.loop-i-init
-loop-i-init g c = record { cleared = clear_start (g.A.Area.image c.args.area.now) c.args.at c.args.from; area = record { frame = refl; faults = refl }; lower = omega arith }
-
-pub set_entry-requires-clause-inside : goal.set_entry-requires-clause-inside
-set_entry-requires-clause-inside g c =
-    let i = c.loop-i.invariant.cleared in
-    inside_stays (g.A.Area.image c.args.area.now) (g.A.Area.image c.loop-i.area) c.args.at _ i.changed i.as_long c.requires.inside
 
 pub loop-i-preserved : goal.loop-i-preserved
 loop-i-preserved g c =
     let i = c.loop-i.invariant in
-    let t = c.loop-i-test.true in
-    let below = c.requires.below in
-    let lower = i.lower in
     record {
-      cleared = clear_more (g.A.Area.image c.args.area.now) (g.A.Area.image c.loop-i.area) (g.A.Area.image c.set_entry.new.area) c.args.at c.args.from c.loop-i.i c.requires.inside i.cleared i.lower (subst (λ (n : ℕ). c.loop-i.i < n) c.requires.room (omega arith)) c.in_ok-set_entry.ensures.set;
+      cleared = clear_more c.requires.inside i.cleared i.lower (omega (arith, c.requires.room, c.requires.below, c.loop-i-test.true)) c.in_ok-set_entry.ensures.set;
       area = edit_more i.area c.in_ok-set_entry.ensures.area;
-      lower = omega arith;
+      lower = omega (arith, i.lower);
     }
 
 pub returns-clause-cleared : goal.returns-clause-cleared
-returns-clause-cleared g c =
-    let stop : c.loop-i.i ≡ c.args.upto = let p = c.loop-i-test.false in let q = c.loop-i.auto.i-end in omega arith in
-    subst (λ (n : ℕ). Cleared (g.A.Area.image c.args.area.now) (g.A.Area.image c.loop-i.area) c.args.at c.args.from n) stop c.loop-i.invariant.cleared
+returns-clause-cleared g c = let stop : c.loop-i.i ≡ c.args.upto = omega (arith, c.loop-i-test.false, c.loop-i.auto.i-end) in rw stop at c.loop-i.invariant.cleared

@@ -1,10 +1,8 @@
-use Rattle.std.proofs.Common.{◌≡◌, ◌+◌, ◌≤◌, ◌∙◌, ℕ, List, length, refl, sym, ap, subst, arith}
-use Rattle.cdf_leaves.proofs.Common.{Frame, edit_more, keeps_by_read, read_once, Placed, Good, good_is_sound, good_eof, OnOk, Kind, image_limit, vxr_bytes, StandsAmong, number, vdr_vxr_head, VariableShape, AddsLeaf, entry, IndexStarted}
+use Rattle.std.proofs.Common.{◌≡◌, ◌≤◌, ◌∙◌, ℕ, List, length, refl, sym, ap, subst, arith}
+use Rattle.cdf_leaves.proofs.Common.{Frame, edit_more, keeps_by_read, read_once, Good, good_is_sound, good_eof, OnOk, Kind, image_limit, StandsAmong, number, vdr_vxr_head, VariableShape, AddsLeaf, entry, IndexStarted, on_ok_weaker}
 use Rattle.cdf_leaves.proofs.AddCalls.{among_kind, seven_fit, started, started_long, vdr_late, vdr_there, late_ends}
 use Rattle.cdf_leaves.proofs.LastCall.{edit_last}
 use Rattle.cdf_leaves.proofs.adding.add_leaf.Goals as goal
-use Rattle.cdf_edits.proofs.Edits.RecordFrame.{through}
-use Rattle.std.proofs.lemmas.Result.{on_ok_weaker}
 
 pub read_unsigned8-requires : goal.read_unsigned8-requires
 read_unsigned8-requires g c = let v = vdr_there c.requires.good (among_kind (g.A.Area.image c.args.area.now) c.args.vdr c.requires.vdr) in omega arith
@@ -27,38 +25,22 @@ returns-then-head-ne0-clause-added g c =
     c.in_ok-head.ensures.area.image c.grow_index.ensures.added
 
 pub start_index-requires-clause-eof : goal.start_index-requires-clause-eof
-start_index-requires-clause-eof g c =
-    let b = g.A.Area.image c.args.area.now in
-    let placed = subst (λ (x : List ℕ). Placed x (g.A.Area.image c.place_record.new.area) c.args.body.now c.in_ok-place.place) c.in_ok-head.ensures.area.image c.in_ok-place.ensures.placed in
-    let own = among_kind b c.args.vdr c.requires.vdr in
-    late_ends c.requires.good own placed
+start_index-requires-clause-eof g c = late_ends c.requires.good (among_kind (g.A.Area.image c.args.area.now) c.args.vdr c.requires.vdr) (rw c.in_ok-head.ensures.area.image at c.in_ok-place.ensures.placed)
 
 pub start_index-requires-clause-lies : goal.start_index-requires-clause-lies
-start_index-requires-clause-lies g c =
-    let b = g.A.Area.image c.args.area.now in
-    let placed = subst (λ (x : List ℕ). Placed x (g.A.Area.image c.place_record.new.area) c.args.body.now c.in_ok-place.place) c.in_ok-head.ensures.area.image c.in_ok-place.ensures.placed in
-    let own = among_kind b c.args.vdr c.requires.vdr in
-    vdr_late c.requires.good own placed
+start_index-requires-clause-lies g c = vdr_late c.requires.good (among_kind (g.A.Area.image c.args.area.now) c.args.vdr c.requires.vdr) (rw c.in_ok-head.ensures.area.image at c.in_ok-place.ensures.placed)
 
 pub start_index-requires-clause-room : goal.start_index-requires-clause-room
-start_index-requires-clause-room g c =
-    let b = g.A.Area.image c.args.area.now in
-    let placed = subst (λ (x : List ℕ). Placed x (g.A.Area.image c.place_record.new.area) c.args.body.now c.in_ok-place.place) c.in_ok-head.ensures.area.image c.in_ok-place.ensures.placed in
-    let own = among_kind b c.args.vdr c.requires.vdr in
-    seven_fit c.requires.good own placed refl (g.A.Area.frame c.args.area.now).limit _ c.requires.room (ap (λ (f : Frame _). f.limit) (c.in_ok-place.ensures.area.frame ∙ c.in_ok-head.ensures.area.frame))
+start_index-requires-clause-room g c = seven_fit c.requires.good (among_kind (g.A.Area.image c.args.area.now) c.args.vdr c.requires.vdr) (rw c.in_ok-head.ensures.area.image at c.in_ok-place.ensures.placed) refl (g.A.Area.frame c.args.area.now).limit _ c.requires.room (ap (λ (f : Frame _). f.limit) (c.in_ok-place.ensures.area.frame ∙ c.in_ok-head.ensures.area.frame))
 
 pub returns-clause-added : goal.returns-clause-added
 returns-clause-added g c =
-    let b = g.A.Area.image c.args.area.now in
-    let placed = subst (λ (x : List ℕ). Placed x (g.A.Area.image c.place_record.new.area) c.args.body.now c.in_ok-place.place) c.in_ok-head.ensures.area.image c.in_ok-place.ensures.placed in
-    let own = among_kind b c.args.vdr c.requires.vdr in
-    let lies = vdr_late c.requires.good own placed in
-    let fits : length (g.A.Area.image c.place_record.new.area) + vxr_bytes 7 ≤ (g.A.Area.frame c.args.area.now).limit = seven_fit c.requires.good own placed refl (g.A.Area.frame c.args.area.now).limit (g.A.Area.frame c.args.area.now).limit c.requires.room refl in
-    let zero : c.in_ok-head.head ≡ 0 = c.if-head-ne0.false in
+    let placed = rw c.in_ok-head.ensures.area.image at c.in_ok-place.ensures.placed in
+    let own = among_kind (g.A.Area.image c.args.area.now) c.args.vdr c.requires.vdr in
+    let fits = seven_fit c.requires.good own placed refl (g.A.Area.frame c.args.area.now).limit (g.A.Area.frame c.args.area.now).limit c.requires.room refl in
     on_ok_weaker c.start_index.result (λ st kind before own' after stood is.
-    (let none : number b own'.vdr vdr_vxr_head ≡ 0 = ap (λ (v : ℕ). number b v vdr_vxr_head) is ∙ sym c.in_ok-head.ensures.value ∙ zero in
-    let short : length (g.A.Area.image c.start_index.new.area) ≤ image_limit =
-    through (length (g.A.Area.image c.start_index.new.area)) (length (g.A.Area.image c.place_record.new.area) + vxr_bytes 7) image_limit (started_long lies st) (through (length (g.A.Area.image c.place_record.new.area) + vxr_bytes 7) (g.A.Area.frame c.args.area.now).limit image_limit fits c.requires.limit) in
+    (let none : number (g.A.Area.image c.args.area.now) own'.vdr vdr_vxr_head ≡ 0 = ap (λ (v : ℕ). number (g.A.Area.image c.args.area.now) v vdr_vxr_head) is ∙ sym c.in_ok-head.ensures.value ∙ c.if-head-ne0.false in
+    let short : length (g.A.Area.image c.start_index.new.area) ≤ image_limit = omega (arith, started_long (vdr_late c.requires.good own placed) st, fits, c.requires.limit) in
     started c.requires.good stood placed none c.requires.block short (subst (λ (v : ℕ). IndexStarted (g.A.Area.image c.place_record.new.area) (g.A.Area.image c.start_index.new.area) v (entry c.args.first c.args.last c.in_ok-place.place)) (sym is) st))) c.start_index.ensures.started
 
 pub returns-clause-area : goal.returns-clause-area

@@ -1,5 +1,4 @@
 use Rattle.std.proofs.Common.{arith}
-use Rattle.cdf_area.proofs.Calls.{edit_done, edit_failed, edit_more, edit_once, edits_by_write}
 use Rattle.cdf_leaves.proofs.PutSteps.{stays_there}
 use Rattle.cdf_leaves.proofs.Spares.{front_lies}
 use Rattle.cdf_leaves.proofs.putting.chain_node.Goals as goal
@@ -9,9 +8,3 @@ set_unsigned8-requires g c =
     let there = stays_there (g.A.Area.image c.args.area.now) c.args.end c.requires.end (g.A.Area.image c.make_node.new.area) _ _ _ _ c.in_ok-at.ensures.made in
     let l = front_lies (g.A.Area.image c.make_node.new.area) c.args.end.place there.inside in
     omega arith
-
-pub returns-in_err-set_unsigned8-clause-area : goal.returns-in_err-set_unsigned8-clause-area
-returns-in_err-set_unsigned8-clause-area g c = edit_failed (edit_once c.in_ok-at.ensures.area) (edits_by_write c.in_err-set_unsigned8.ensures.area) c.from_residual-in_err-set_unsigned8.ensures.1
-
-pub returns-clause-area : goal.returns-clause-area
-returns-clause-area g c = edit_done (edit_more (edit_once c.in_ok-at.ensures.area) (edits_by_write c.in_ok-set_unsigned8.ensures.area))
