@@ -1,10 +1,7 @@
 -- The chain of the attributes, as an image with a shape has it.
-use Rattle.std.proofs.Common.{◌≡◌, ℕ, zero, suc, ◌+◌, ◌<◌, ◌≤◌, List, [], ◌∷◌, length, slice_index, refl, sym, ap, subst, ◌∙◌, arith, inl, inr}
-use Rattle.cdf_attrs.proofs.Common.{slice_get, got-middle, AttributeShape, EntryKind, IsOfAttribute, Stands, entries_chain, shape, stands_at, length-map, attribute_names, number, size_at, gdr_offset, LiesIn, gdr_adr_head, adr_name, adr_type, In, tiles, IsChain, content, Shape, adrs, HasShape, length-le_from_distinct, tile_lies, length_tiles, linkable-in, linkable-type, tiles_are, attribute_names_are, HasChain, members_of, Attrs}
-use Rattle.cdf_format.specs.RecordTypes.{fixed_size}
+use Rattle.cdf_attrs.proofs.Common.{AttributeShape, Attrs, EntryKind, HasChain, HasShape, In, IsChain, IsOfAttribute, LiesIn, List, Shape, Stands, [], adr_chain_is, adr_name, adr_type, adrs, ap, arith, attribute_names, attribute_names_are, chain, content, entries_chain, fixed_size, gdr_adr_head, gdr_offset, got-middle, inl, inr, length, length-le_from_distinct, length-map, length_tiles, linkable-in, linkable-type, members_of, number, refl, shape, size_at, slice_get, stands_at, subst, suc, sym, tile_lies, tiles, tiles_are, zero, ℕ, ◌+◌, ◌<◌, ◌∙◌, ◌∷◌, ◌≡◌, ◌≤◌}
+use Rattle.std.proofs.Common.{slice_index}
 use Rattle.cdf_format.specs.Walks.{records_of}
-use Rattle.cdf_format.specs.Chains.{chain}
-use Rattle.cdf_format.proofs.ShapeLemmas.{adr_chain_is}
 
 module _ (b : List ℕ) (s : Shape) (h : HasShape b s) where
   pub attribute_members : members_of b Attrs ≡ adrs s

@@ -1,7 +1,5 @@
 -- The attribute with a name, by what is kept of the attributes.
-use Rattle.std.proofs.Common.{◌≡◌, ℕ, zero, suc, ◌+◌, ◌<◌, ◌≤◌, List, [], ◌∷◌, length, map, get_or, true, false, Some, sym, ap, ap₂, subst, ◌∙◌, arith}
-use Rattle.cdf_attrs.proofs.Common.{length-map, slice_get, Chain, content, attribute_of, scope_of, number, adr_scope, AttributeShape, adrs, shape, HasShape, In, Good, good_is_sound, content_is, EntryKind, Scope, is_wrong_scope, DataSet, attribute_names, attribute_named, number_of, FindsChain, entries_chain, Cut, cut, got-map, got-middle, slice_get_within}
-use Rattle.cdf_attrs.specs.Finding.{HasWrongScope}
+use Rattle.cdf_attrs.proofs.Common.{AttributeShape, Chain, Cut, DataSet, EntryKind, FindsChain, Good, HasShape, HasWrongScope, In, List, Scope, Some, [], adr_scope, adrs, ap, ap₂, arith, attribute_named, attribute_names, attribute_of, content, content_is, cut, entries_chain, false, get_or, good_is_sound, got-map, got-middle, is_wrong_scope, length, length-map, map, number, number_of, scope_of, shape, slice_get, slice_get_within, subst, suc, sym, true, zero, ℕ, ◌+◌, ◌<◌, ◌∙◌, ◌∷◌, ◌≡◌, ◌≤◌}
 use Rattle.cdf_attrs.proofs.AttributeChain.{adr_inside, index_in, names_count}
 use Rattle.cdf_attrs.proofs.NamesChanged.{named_there, number_within}
 

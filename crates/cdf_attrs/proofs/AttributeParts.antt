@@ -1,11 +1,7 @@
 -- An attribute of an image, with those before it and those after it; and an image in which one of its chains is another.
-use Rattle.std.proofs.Common.{◌≡◌, ℕ, zero, suc, ◌+◌, List, [], ◌∷◌, ◌++◌, length, map, Some, refl, sym, ap, ap₂, ◌∙◌, arith}
-use Rattle.cdf_attrs.proofs.Common.{same_Some, slice_get_within, map-append, map-set, slice_get, slice_set, EntryKind, with_entries, Attribute, DataSet, Entry, attribute_names, content, attribute_of, adrs_rows, count_rows, r_vdrs_rows, z_vdrs_rows, number, gdr_offset, adr_num, gdr_num_attr, Hold, AttributeShape, Shape, adrs, shape, vdrs, IsSound, Good, good_by_its_shape, good_is_sound, Hold-split, content_is, eq_of, entries_chain, with_chain, Mark, members_of, chain_now, adr_of, members_are, Rechains, of_shape, shape_now, IsAttributeAt, got-map, got-middle}
+use Rattle.cdf_attrs.proofs.Common.{Attribute, AttributeShape, DataSet, Entry, EntryKind, Good, Hold, Hold-split, IsAttributeAt, IsSound, List, Mark, Rechains, Shape, Some, [], adr_num, adr_of, adrs, adrs_rows, ap, ap₂, arith, attribute_names, attribute_of, chain_now, content, content_is, content_rechained, count_rows, cut, entries_chain, eq_of, gdr_num_attr, gdr_offset, good_by_its_shape, good_is_sound, got-map, got-middle, length, made, map, map-append, map-set, members_are, members_of, now_is, number, number_rows, of_shape, r_vdrs_rows, refl, same_Some, shape, shape_now, slice_get, slice_get_within, slice_set, splices, suc, sym, vdrs, with_chain, with_entries, z_vdrs_rows, zero, ℕ, ◌++◌, ◌+◌, ◌∙◌, ◌∷◌, ◌≡◌}
 use Rattle.cdf_model.specs.declared.kinds.EntryKind.TheVariants as entries
 use Rattle.cdf_format.specs.Content.{entries_of as chain_items}
-use Rattle.cdf_format.specs.ChainRules.{number_rows}
-use Rattle.cdf_edits.proofs.Commands.ListParts.{cut}
-use Rattle.cdf_edits.proofs.Edits.ChainSpliced.{made, splices, now_is, content_rechained}
 
 -- ---- the parts
 

@@ -1,10 +1,7 @@
 -- What is read of the attributes of a good image where their ADRs stand: their names, and the listing of them.
-use Rattle.std.proofs.Common.{◌≡◌, ℕ, zero, suc, ◌+◌, ◌<◌, ◌≤◌, List, [], ◌∷◌, ◌++◌, length, map, take, drop, get_or, false, refl, sym, ap, ap₂, subst, ◌∙◌, append_assoc, append-nil, add-one, arith, bytes_eq}
-use Rattle.cdf_attrs.proofs.Common.{length-map, length-append, map-append, take-suc, Scope, DataSet, attribute_items, attribute_names, has_name, number, name_in, name_at, type_at, LiesIn, adr_scope, adr_name, adr_type, In, content, attribute_of, scope_of, AttributeShape, Shape, adrs, vdrs, shape, HasShape, adrs_rows, r_vdrs_rows, z_vdrs_rows, IsGoodByShape, Good, le_of, eq_of, Hold-split, linkable-type, names_at, attribute_names_are, content_is, good_by_its_shape, rules_of_good, Attrs, counted_in, members_of}
-use Rattle.std.specs.List.{IsDistinct}
+use Rattle.cdf_attrs.proofs.Common.{AttributeShape, Attrs, DataSet, Good, HasShape, Hold-split, In, IsDistinct, IsGoodByShape, LiesIn, List, Scope, Shape, [], add-one, adr_name, adr_scope, adr_type, adrs, adrs_rows, ap, append-nil, append_assoc, ap₂, arith, attribute_items, attribute_names, attribute_names_are, attribute_of, bytes_eq, content, content_is, counted_in, drop, eq_of, false, get_or, good_by_its_shape, has_name, le_of, length, length-append, length-map, linkable-type, map, map-append, members_of, name_at, name_field, name_in, names_at, number, r_vdrs_rows, refl, rules_of_good, scope_of, shape, subst, suc, sym, take, take-suc, type_at, vdrs, z_vdrs_rows, zero, ℕ, ◌++◌, ◌+◌, ◌<◌, ◌∙◌, ◌∷◌, ◌≡◌, ◌≤◌}
 use Rattle.cdf_model.specs.declared.item.Item.{Item}
 use Rattle.cdf_model.specs.declared.item.Item.TheVariants.{Attr}
-use Rattle.cdf_format.specs.Fields.{name_field}
 use Rattle.cdf_format.specs.Sealed.{trailer, sealed}
 use Rattle.cdf_attrs.proofs.AttributeChain.{adr_inside, attribute_members, few_attributes, index_in, name_lies}
 use Rattle.cdf_names.proofs.Apart.{distinct_apart}

@@ -1,28 +1,12 @@
 -- The making of an attribute, as an edit, leads from a good image to the one that follows.
-use Rattle.std.proofs.Common.{◌≡◌, ◌≢◌, ℕ, suc, ◌+◌, ◌^◌, ◌-◌, ◌<◌, ◌≤◌, List, [], ◌∷◌, ◌++◌, length, map, Bool, false, not, eqb, eq-eqb, Some, refl, sym, ap, subst, ◌∙◌, append-nil, arith, inl, inr}
-use Rattle.cdf_attrs.proofs.Common.{keep_attributes_alone, ends, new_in, new_type, and_from, eqb-true, length-append, map-append, flat_map, slice_get, ◌==◌, ◌&&◌, nat_le, if◌then◌else◌, Plain, Command, Attr, Scope, Go, new_attribute, Attribute, DataSet, image_limit, is_bad_name, is_among, attribute_names, ByStep, IsSound, AllKeep, Allowances, Only, Keeps, only_of, same_name, adrs_rows, differ_rows, r_vdrs_rows, z_vdrs_rows, next_field, is_in, IsChain, content, scope_of, attribute_of, number, name_in, type_at, gdr_offset, IsGoodByShape, attribute_shape_rows, Follows, Act, Took, OneAttribute, attribute_records, owned_by, owned, gdr_adr_head, gdr_num_attr, adr_name, adr_scope, adr_num, adr_type, agr_edr_type, az_edr_type, Hold, AttributeShape, Shape, adrs, vdrs, HasShape, shape, In, Good, linkable-in, linkable-type, good_by_its_shape, good_is_sound, rules_of_good, AllKeep-append, either, stands_in, AreNew, names_at, names_differ, differ_by_names, attribute_names_are, Hold-append, Hold-split, good_long, sealed_kept, content_is, shape_is, of_le, tile_lies, Attrs, Mark, Edit, AreThere, keeps_fields, used_times, owned_once_if, spliced, Splices, shape_now, OwnRules, good_image_if, Added, scope_code, adr_body, fine_is_some, got-middle, Each, all_remain, AttributeLives, file_same}
-use Rattle.std.specs.List.{All, before_first}
+use Rattle.cdf_attrs.proofs.Common.{Act, Added, AllKeep, AllKeep-append, Allowances, AreNew, AreThere, Attr, Attribute, AttributeLives, AttributeShape, Attrs, Bool, ByStep, Command, DataSet, Each, Edit, Follows, Go, Good, HasShape, Hold, Hold-append, Hold-split, In, IsChain, IsGoodByShape, IsJoined, IsSound, Keeps, List, MakesAttribute, Mark, OneAttribute, Only, OwnRules, Plain, Scope, Shape, Some, Splices, Took, [], acts_then, adding_marks, adr_body, adr_name, adr_num, adr_scope, adr_type, adrs, adrs_linked, adrs_rows, agr_edr_type, all_remain, all_unmarked-away, and_from, ap, append-nil, arith, attr_changes, attribute_names, attribute_names_are, attribute_of, attribute_records, attribute_shape_rows, attributes_gdr_fields, az_edr_type, before_first, before_zeros, content, content_is, content_now, differ_by_names, differ_rows, edit, either, ends, entry, eq-eqb, eqb, eqb-true, false, file, file_same, filled_size, filled_sound, fills, fine_is_some, flat_map, gdr_adr_head, gdr_num_attr, gdr_offset, gdr_place, good_by_its_shape, good_image_if, good_is_sound, good_long, got-middle, if◌then◌else◌, image_limit, inl, inr, is_among, is_bad_name, is_in, keep_attributes_alone, keep_places, keeps_away, keeps_fields, length, length-append, linkable-in, linkable-type, lives_clear, longest, making_marks, map, map-append, more_there, name_in, names_at, names_differ, nat_le, new_attribute, new_in, new_once, new_part, new_pushed, new_type, new_typed, next_field, number, number_rows-push, number_rows_kept, nums_stay, of_le, only_of, owned, owned_by, owned_by_attributes, owned_once_if, r_vdrs_rows, refl, remaining_names, rules_of_good, same_name, scope_code, scope_of, sealed_kept, shape, shape_is, shape_now, slice_get, spliced, spliced_times, stands_in, subst, suc, sym, tile_lies, times, type_at, unused_chain, unused_kept, used_times, variables_kept, vdrs, z_vdrs_rows, ℕ, ◌&&◌, ◌++◌, ◌+◌, ◌-◌, ◌<◌, ◌==◌, ◌^◌, ◌∙◌, ◌∷◌, ◌≡◌, ◌≢◌, ◌≤◌}
+use Rattle.std.proofs.Common.{not}
+use Rattle.std.specs.List.{All}
 use Rattle.cdf_model.specs.declared.kinds.Scope.TheVariants.{Global, Variable, GlobalAssumed, VariableAssumed}
-use Rattle.cdf_edits.specs.Commands.Attributes.{MakesAttribute, attr_changes, attributes_gdr_fields}
-use Rattle.cdf_format.specs.Owners.{owned_by_attributes, times}
 use Rattle.cdf_format.specs.NotRead.{read_types}
-use Rattle.cdf_format.proofs.NameRules.{new_pushed}
-use Rattle.cdf_edits.proofs.Frame.OwnersApart.{adrs_linked}
-use Rattle.cdf_edits.proofs.Rules.WithoutLinks.{number_rows_kept, number_rows-push}
-use Rattle.cdf_edits.specs.Edits.Marks.{making_marks}
-use Rattle.cdf_edits.proofs.Edits.AttributeFrame.{entry, lives_clear, remaining_names, nums_stay, more_there}
-use Rattle.cdf_edits.proofs.Edits.RecordFrame.{gdr_place}
-use Rattle.cdf_edits.proofs.Edits.OwnersKept.{keeps_away, keep_places}
-use Rattle.cdf_edits.proofs.Edits.JoinedRecord.{IsJoined, acts_then, edit, fills, longest, new_once, new_part, new_typed, unused_chain, unused_kept}
-use Rattle.cdf_edits.proofs.Edits.MadeRecord.{filled_size, filled_sound}
-use Rattle.cdf_edits.proofs.Edits.MarkLemmas.{all_unmarked-away}
-use Rattle.cdf_edits.proofs.Edits.OwnedOnce.{spliced_times}
-use Rattle.cdf_edits.proofs.Edits.Splice.{content_now, file, variables_kept}
-use Rattle.cdf_edits.specs.Space.Adding.{adding_marks}
 use Rattle.cdf_attrs.proofs.AttributeChain.{attribute_members}
 use Rattle.cdf_attrs.proofs.AttributesRead.{counted_is}
 use Rattle.cdf_attrs.proofs.NewAdr.{IsNewAdr, body_made, length-body, adr_written}
-use Rattle.cdf_fields.proofs.NamesWritten.{before_zeros}
 use Rattle.cdf_attrs.proofs.CreatingAnswers.{with_last}
 
 -- ---- scopes and the rules of a new ADR

@@ -1,8 +1,5 @@
 -- What the command on a new attribute is answered.
-use Rattle.std.proofs.Common.{◌≡◌, ℕ, ◌+◌, ◌<◌, ◌≤◌, List, [], ◌∷◌, ◌++◌, length, true, false, refl}
-use Rattle.cdf_attrs.proofs.Common.{Done, Refused, TooLarge, Plain, Command, Attr, Scope, Go, new_attribute, Attribute, DataSet, is_bad_name, is_among, attribute_names, ByStep, content, Follows, Answers, refused, gone}
-use Rattle.cdf_model.specs.declared.answer.Reason.TheVariants.{BadName, NameTaken}
-use Rattle.cdf_model.specs.Step.{step}
+use Rattle.cdf_attrs.proofs.Common.{Answers, Attr, Attribute, BadName, ByStep, Command, DataSet, Done, Follows, Go, List, NameTaken, Plain, Refused, Scope, TooLarge, [], attribute_names, content, false, gone, is_among, is_bad_name, length, new_attribute, refl, refused, step, true, ℕ, ◌++◌, ◌+◌, ◌<◌, ◌∷◌, ◌≡◌, ◌≤◌}
 use Rattle.cdf_edits.proofs.Commands.Answered.{too_large as no_room}
 
 -- a data set with an attribute more

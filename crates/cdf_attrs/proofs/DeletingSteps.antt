@@ -1,6 +1,5 @@
 -- Fields in which numbers are written.
-use Rattle.std.proofs.Common.{◌≡◌, ℕ, List, [], ◌∷◌, length, arith}
-use Rattle.cdf_attrs.proofs.Common.{AllLie, Write}
+use Rattle.cdf_attrs.proofs.Common.{AllLie, List, Write, [], arith, length, ℕ, ◌∷◌, ◌≡◌}
 
 -- they lie in an image that is as long
 pub lie_still : (b now : List ℕ) (ws : List Write) → length now ≡ length b → AllLie b ws → AllLie now ws

@@ -1,6 +1,6 @@
 -- The entries for a variable go from one attribute after the other: what is asked of a chain, what is written, and what it all comes to.
-use Rattle.std.proofs.Common.{◌≡◌, ℕ, ◌-◌, ◌≤◌, List, [], ◌∷◌, length, map, w32, refl, sym, ap, ap₂, subst, ◌∙◌, arith, inl, inr, ◌++◌, Bool, Some, true, false, eq-eqb, ◌<◌, Result, Ok, Err, ◌+◌, All, zero, suc}
-use Rattle.cdf_attrs.proofs.Common.{if◌then◌else◌, nat_tests, cases_lt, lt-ltb, le-ltb, cast_unsigned, entries_of, image_limit, signed_limit, closed_up, attribute_of, number, integer4, with_field, aedr_num, In, Good, Chain, chain_of, max_field, greatest_number, fallen, Write, with_writes, write, nums, LowersChain, LowersNumbers, lower_writes, IsOfAttribute, KnownEntries, KnowsEntries, IsGreatest, numbers_fell, Attribute, AttributeShape, Change, DropsFrom, DropsNumber, EditsEntries, Entry, EntryKind, IsScoped, KeepsAttributes, Lowers, TakenAt, attributes_agree, attributes_of, drops, drops_both, edits_rest, either, entries_chain, items_of, list_any, lowers, nat_lt, ne_eqb, num_in, numbered, only_at, position, shape, takes, without, ◌==◌, OnOk, slice_index, IsEntryOf, without_at, slice_get, is_global, is_wrong_scope, attribute_names, Kind, Scope, entry_bytes, content, scope_of, LiesIn, adr_scope, adrs, kind_of_entries, max_lies, good_is_sound, AllLie, slice_index_or, length-map, Found, DropsUpTo, finish, next_dropped, next_global, still_scoped, untouched, entries_now, greatest_lowered, later, lowered, nums_now, fallen_under, entries_closed, rests, DropsEntries, IfOk}
+use Rattle.cdf_attrs.proofs.Common.{All, AllLie, Attribute, AttributeShape, Bool, Chain, Change, DropsEntries, DropsFrom, DropsNumber, DropsUpTo, EditsEntries, Entry, EntryKind, Err, Found, Good, IfOk, In, IsEntryOf, IsGreatest, IsOfAttribute, IsScoped, KeepsAttributes, Kind, KnownEntries, KnowsEntries, LiesIn, List, Lowers, LowersChain, LowersNumbers, Ok, OnOk, Result, Scope, Some, TakenAt, Write, [], adr_scope, adrs, aedr_num, ap, ap₂, arith, attribute_names, attribute_of, attributes_agree, attributes_of, cases_lt, cast_unsigned, chain_of, closed_up, content, drops, drops_both, edits_rest, either, entries_chain, entries_closed, entries_now, entries_of, entry_bytes, eq-eqb, fallen, fallen_under, false, finish, good_is_sound, greatest_lowered, greatest_number, if◌then◌else◌, image_limit, inl, inr, integer4, is_global, is_wrong_scope, items_of, kind_of_entries, later, le-ltb, length, length-map, list_any, lower_writes, lowered, lowers, lt-ltb, map, max_field, max_lies, nat_lt, nat_tests, ne_eqb, next_dropped, next_global, num_in, number, numbered, numbers_fell, nums, nums_now, only_at, position, refl, rests, scope_of, shape, signed_limit, slice_get, slice_index, slice_index_or, still_scoped, subst, suc, sym, takes, true, untouched, with_field, with_writes, without, without_at, write, zero, ℕ, ◌++◌, ◌+◌, ◌-◌, ◌<◌, ◌==◌, ◌∙◌, ◌∷◌, ◌≡◌, ◌≤◌}
+use Rattle.std.proofs.Common.{w32}
 use Rattle.cdf_attrs.proofs.AttributeChain.{adr_inside, adr_parts, index_in, of_attribute}
 use Rattle.cdf_attrs.proofs.AttributeParts.{name_stays}
 use Rattle.cdf_attrs.proofs.EntryChains.{members, entry_inside}

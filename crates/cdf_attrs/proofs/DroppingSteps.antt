@@ -1,7 +1,6 @@
 -- The numbers of entries that are less by one: index by index, the greatest of them, and where they are written.
-use Rattle.std.proofs.Common.{◌≡◌, ℕ, ◌+◌, ◌-◌, ◌<◌, ◌≤◌, List, [], ◌∷◌, All, Contains, drop, get_or, length, map, w32, refl, ap, ◌∙◌, arith}
-use Rattle.std.proofs.lemmas.List.Elements.{All-map}
-use Rattle.cdf_attrs.proofs.Common.{cast_signed, length-map, lt-ltb, nat_tests, nat_lt, if◌then◌else◌, signed_limit, AllLie, lower_writes, IsGreatest, fallen, length-with_field, LiesIn, with_field, Write, with_writes, write, Field, aedr_num, drop_more, get_or-map}
+use Rattle.cdf_attrs.proofs.Common.{All, All-map, AllLie, Contains, Field, IsGreatest, LiesIn, List, Write, [], aedr_num, ap, arith, cast_signed, drop, drop_more, fallen, get_or, get_or-map, if◌then◌else◌, length, length-map, length-with_field, lower_writes, lt-ltb, map, nat_lt, nat_tests, refl, signed_limit, with_field, with_writes, write, ℕ, ◌+◌, ◌-◌, ◌<◌, ◌∙◌, ◌∷◌, ◌≡◌, ◌≤◌}
+use Rattle.std.proofs.Common.{w32}
 use Rattle.cdf_attrs.proofs.DeletingSteps.{lie_still}
 use Rattle.cdf_attrs.proofs.GreatestNumber.{as_greatest}
 

@@ -1,6 +1,5 @@
 -- The numbers of the entries of a chain, as they are read; what is known of a chain that is read.
-use Rattle.std.proofs.Common.{◌≡◌, ℕ, ◌+◌, ◌<◌, ◌≤◌, List, [], ◌∷◌, ◌++◌, length, map, take, get_or, sym, ap, subst, ◌∙◌, add-one, arith}
-use Rattle.cdf_attrs.proofs.Common.{map-append, take-suc, Chain, members_of, entry_bytes, number, aedr_num, In, Good, IsOfAttribute, KnowsEntries}
+use Rattle.cdf_attrs.proofs.Common.{Chain, Good, In, IsOfAttribute, KnowsEntries, List, [], add-one, aedr_num, ap, arith, entry_bytes, get_or, length, map, map-append, members_of, number, subst, sym, take, take-suc, ℕ, ◌++◌, ◌+◌, ◌<◌, ◌∙◌, ◌∷◌, ◌≡◌, ◌≤◌}
 use Rattle.cdf_attrs.proofs.AttributeChain.{index_in}
 use Rattle.cdf_attrs.proofs.AttributesRead.{take_all}
 use Rattle.cdf_attrs.proofs.EntryChains.{entry_inside}

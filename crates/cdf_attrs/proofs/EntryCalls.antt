@@ -1,9 +1,6 @@
 -- What calls ask for that take an entry out of its chain, and what they leave.
-use Rattle.std.proofs.Common.{◌≡◌, ℕ, ◌+◌, ◌≤◌, List, [], ◌∷◌, length, true, sym, subst, arith}
-use Rattle.cdf_attrs.proofs.Common.{EntryKind, is_a, is_in, LiesIn, with_field, size_at, adr_type, HasShape, shape, IsSound, tiles, linkable-is_a, tiles_are, max_field, entries_chain, count_field, HasChain, HolderStands, Removed, members_of, has_chain, LeavesChain, max_lies, count_is, max_written, of_shape, parts_there, IsEntryOf}
+use Rattle.cdf_attrs.proofs.Common.{EntryKind, HasChain, HasShape, HolderStands, IsEntryOf, IsSound, LeavesChain, LiesIn, List, Removed, [], adr_type, arith, count_field, count_is, end_of, entries_chain, has_chain, is_a, is_in, is_member, length, linkable-is_a, long_of, max_field, max_lies, max_written, members_of, of_shape, parts_there, shape, size_at, subst, sym, tiles, tiles_are, true, with_field, ℕ, ◌+◌, ◌∷◌, ◌≡◌, ◌≤◌}
 use Rattle.cdf_model.specs.declared.kinds.EntryKind.TheVariants as entries
-use Rattle.cdf_edits.proofs.Edits.ChainsOfShape.{is_member}
-use Rattle.cdf_edits.proofs.Space.ChainHeads.{long_of, end_of}
 
 -- what the image has of the chain of an entry
 pub record HasEntry (b : List ℕ) (kind : EntryKind) (adr entry : ℕ) : Type 0 where

@@ -1,11 +1,5 @@
 -- The chains of the entries of an attribute of a good image.
-use Rattle.std.proofs.Common.{◌≡◌, ℕ, zero, suc, ◌+◌, ◌≤◌, List, [], ◌∷◌, ◌++◌, length, map, true, Option, Some, None, refl, sym, ap, subst, ◌∙◌, arith, inl, inr}
-use Rattle.cdf_attrs.proofs.Common.{flat_map, slice_get, EntryKind, G, R, Z, record_number_limit, Chain, GrEntries, ZEntries, chain_of, counted_in, members_of, type_in, HasChain, HolderStands, nums, members_are, has_chain, entry_bytes, entry_rows, has_value, same_name, count_rows, differ_rows, is_a, number, size_at, Field, adr_name, adr_ngr_entries, adr_nz_entries, aedr_num, adr_type, Hold, AttributeShape, Shape, adrs, shape, Each, HasEntries, HasShape, EntryFits, IsSound, Distinct, In, tiles, Good, linkable-in, linkable-is_a, attribute_shape_rows, good_by_its_shape, good_is_sound, length-le_from_distinct, Hold-split, tiles_are, eq_of, le_of, length_tiles, tile_lies, IsOfAttribute, entries_chain}
-use Rattle.cdf_edits.proofs.Edits.ChainEntries.{nums_differ}
-use Rattle.cdf_edits.proofs.Edits.ChainsOfShape.{IsOf}
-use Rattle.cdf_format.specs.AttributeRules.{adr_rows, entries_rows, same_number}
-use Rattle.cdf_format.specs.Sound.{AttributeFits}
-use Rattle.cdf_format.proofs.RowLemmas.{Hold-member}
+use Rattle.cdf_attrs.proofs.Common.{AttributeFits, AttributeShape, Chain, Distinct, Each, EntryFits, EntryKind, Field, G, Good, GrEntries, HasChain, HasEntries, HasShape, Hold, Hold-member, Hold-split, HolderStands, In, IsOf, IsOfAttribute, IsSound, List, None, Option, R, Shape, Some, Z, ZEntries, [], adr_name, adr_ngr_entries, adr_nz_entries, adr_rows, adr_type, adrs, aedr_num, ap, arith, attribute_shape_rows, chain_of, count_rows, counted_in, differ_rows, entries_chain, entries_rows, entry_bytes, entry_rows, eq_of, flat_map, good_by_its_shape, good_is_sound, has_chain, has_value, inl, inr, is_a, le_of, length, length-le_from_distinct, length_tiles, linkable-in, linkable-is_a, map, members_are, members_of, number, nums, nums_differ, record_number_limit, refl, same_name, same_number, shape, size_at, slice_get, subst, suc, sym, tile_lies, tiles, tiles_are, true, type_in, zero, ℕ, ◌++◌, ◌+◌, ◌∙◌, ◌∷◌, ◌≡◌, ◌≤◌}
 
 -- what there is of an attribute that stands in a good image
 record Stands (b : List ℕ) (s : Shape) (a : AttributeShape) : Type 0 where

@@ -1,12 +1,10 @@
 -- The command `del-entry`: what it is answered, and what is known of the attributes after it.
-use Rattle.std.proofs.Common.{◌≡◌, ℕ, zero, suc, ◌+◌, ◌^◌, ◌<◌, ◌≤◌, List, [], ◌∷◌, length, Some, None, w32, refl, sym, ap, subst, ◌∙◌, arith}
-use Rattle.cdf_attrs.proofs.Common.{cast_unsigned, position, remove, slice_get, option_and_then, ◌==◌, slice_index, Done, Refused, Reason, NoSuchAttr, WrongScope, NoSuchEntry, Plain, DelEntry, EntryKind, Answer, Go, entries_of, with_attribute, with_entries, Attribute, Entry, image_limit, attribute_names, attribute_named, without, ByStep, entry_bytes, content, attribute_of, entry_of, number, integer4, size_at, adr_type, aedr_num, AttributeShape, adrs, shape, IsSound, In, Good, good_is_sound, Chain, Answers, chain_of, max_field, greatest_number, entries_chain, count_field, Follows, counted_in, members_of, refused, gone, EntryLives, nums, nums_live, entries_left, greatest_integer, greatest_same, LeavesChain, left_frees, max_lies, FindsChain, IsOfAttribute, IsRefusedFor, KnownEntries, Knows, KnowsEntries, IsEntryOf, IsGreatest, TakenAt, without_at}
+use Rattle.cdf_attrs.proofs.Common.{Answer, Answers, Attribute, AttributeShape, ByStep, Chain, DelEntry, Done, Entry, EntryKind, EntryLives, FindsChain, Follows, Go, Good, In, IsEntryOf, IsGreatest, IsOfAttribute, IsRefusedFor, IsSound, KnownEntries, Knows, KnowsEntries, LeavesChain, List, NoSuchAttr, NoSuchEntry, None, Plain, Reason, Refused, Some, TakenAt, WrongScope, [], adr_type, adrs, aedr_num, ap, arith, attribute_named, attribute_names, attribute_of, cast_unsigned, chain_of, content, count_field, count_now, counted_in, entries_chain, entries_left, entries_of, entry_bytes, entry_of, gone, good_is_sound, greatest_integer, greatest_number, greatest_same, image_limit, integer4, left_frees, left_greatest, length, max_field, max_lies, members_of, members_stay, number, nums, nums_live, of_count, option_and_then, others, position, refl, refused, remove, shape, size_at, slice_get, slice_index, subst, suc, sym, with_attribute, with_entries, without, without_at, zero, ℕ, ◌+◌, ◌<◌, ◌==◌, ◌^◌, ◌∙◌, ◌∷◌, ◌≡◌, ◌≤◌}
+use Rattle.std.proofs.Common.{w32}
 use Rattle.cdf_model.specs.declared.kinds.EntryKind.TheVariants as entries
 use Rattle.cdf_format.specs.Content.{entries_of as chain_items}
 use Rattle.cdf_edits.specs.Space.Chains.{without as left_of}
 use Rattle.cdf_edits.proofs.Edits.FieldWritten.{written_reads}
-use Rattle.cdf_edits.proofs.Edits.LeftEntry.{count_now, left_greatest, of_count}
-use Rattle.cdf_edits.proofs.Edits.TakenEntry.{members_stay, others}
 use Rattle.cdf_attrs.proofs.AttributeChain.{index_in}
 use Rattle.cdf_attrs.proofs.EntryCalls.{leaves}
 use Rattle.cdf_attrs.proofs.EntryChains.{counted, entries_differ, entry_lies, few_entries, members}

@@ -1,13 +1,8 @@
 -- An entry that was taken out of its chain and freed leads from a good image to the one that follows.
-use Rattle.std.proofs.Common.{◌≡◌, ℕ, ◌+◌, ◌≤◌, List, [], ◌∷◌, length, find, false, None, Option, Some, refl, sym, ap, ◌∙◌, arith}
-use Rattle.cdf_attrs.proofs.Common.{◌==◌, Plain, DelEntry, EntryKind, Go, entries_of, is_wrong_scope, with_attribute, with_entries, Entry, image_limit, attribute_named, attribute_names, item_at, without, ByStep, content, attribute_of, number, integer4, size_at, aedr_num, AttributeShape, shape, adrs, IsSound, In, Good, good_is_sound, chain_after, chain_of, entry_at, max_field, greatest_number, entries_chain, count_field, with_chain, Follows, Act, Gave, gave, members_of, Gives, nums, chain_now, found_none, found_one, freed_bytes, LeavesChain, the_one, Chained, chain_follows, differ_before, follows_chained, items_of, of_named}
-use Rattle.std.specs.Option.{option_to_list}
-use Rattle.cdf_model.specs.AttributeSteps.{del_entry_step}
+use Rattle.cdf_attrs.proofs.Common.{Act, AttributeShape, ByStep, Chained, DelEntry, DeletesEntry, Entry, EntryKind, Follows, Gave, Gives, Go, Good, In, IsSound, LeavesChain, List, None, Option, Plain, Some, [], adrs, aedr_num, ap, arith, attribute_named, attribute_names, attribute_of, chain_after, chain_follows, chain_now, chain_of, content, count_field, count_left, del_entry_step, differ_before, differ_left, entries_chain, entries_of, entry_at, f, false, follows_chained, found_none, found_one, freed_bytes, gave, good_is_sound, greatest_number, image_limit, integer4, is_wrong_scope, item_at, items_left, items_of, left_after, length, max_field, members_of, members_stay, number, nums, of_named, once, option_to_list, others, r, refl, rules_left, settled, shape, size_at, sym, the_one, with_attribute, with_chain, with_entries, without, ℕ, ◌+◌, ◌==◌, ◌∙◌, ◌∷◌, ◌≡◌, ◌≤◌}
+use Rattle.std.proofs.Common.{find}
 use Rattle.cdf_format.specs.Content.{entries_of as chain_items}
-use Rattle.cdf_edits.specs.Commands.Entries.{DeletesEntry}
 use Rattle.cdf_edits.specs.Space.Chains.{without as left_of}
-use Rattle.cdf_edits.proofs.Edits.ChainFollowed.{left_after}
-use Rattle.cdf_edits.proofs.Edits.TakenEntry.{count_left, differ_left, f, items_left, members_stay, once, others, r, rules_left, settled}
 use Rattle.cdf_attrs.proofs.EntryTakenAt.{from_map}
 use Rattle.cdf_attrs.proofs.AttributeParts.{members_rechained, names_rechained, places_rechained}
 

@@ -1,6 +1,6 @@
 -- The entry with a number: among the numbers and the places of a chain, and among the entries that the chain means.
-use Rattle.std.proofs.Common.{◌≡◌, ℕ, zero, suc, ◌+◌, ◌≤◌, List, [], ◌∷◌, length, map, Bool, true, false, not, cond, Option, Some, None, nat_lt, refl, sym, ap, ◌∙◌, arith, inl, inr}
-use Rattle.cdf_attrs.proofs.Common.{length-map, ◌==◌, if◌then◌else◌, find, position, position_or_len, slice_get, option_and_then, option_map, item_at, with_item, entry_of, number, aedr_num, either, eq_of}
+use Rattle.cdf_attrs.proofs.Common.{Bool, List, None, Option, Some, [], aedr_num, ap, arith, cond, either, entry_of, eq_of, false, find, if◌then◌else◌, inl, inr, item_at, length, length-map, map, number, option_and_then, option_map, position, position_or_len, refl, slice_get, suc, sym, true, with_item, zero, ℕ, ◌+◌, ◌==◌, ◌∙◌, ◌∷◌, ◌≡◌, ◌≤◌}
+use Rattle.std.proofs.Common.{not, nat_lt}
 use Rattle.cdf_format.specs.Content.{entries_of}
 
 -- ---- a place by its number

@@ -1,36 +1,15 @@
 -- The command `put-entry`: an entry is put as a last one of its chain, in the record of the one of its number, or in another record in its place.
-use Rattle.std.proofs.Common.{◌≡◌, ℕ, ◌+◌, ◌*◌, ◌^◌, ◌<◌, ◌≤◌, List, [], ◌∷◌, length, take, true, is_some, Some, refl, sym, ap, subst, ◌∙◌, arith, lit<, ◌++◌, find, eq-eqb, inl, inr, ◌≢◌, drop, None, Option, FitsSigned, w32}
-use Rattle.cdf_attrs.proofs.Common.{with_in_place, ends, new_in, new_type, typed_body, w32, cast_signed, cast_unsigned, last_or, position, nat_le, ◌==◌, slice_index, slice_set, and_from, le-leb, to_z-of_z, length-map, map-append, length-append, slice_get_within, Go, entries_of, with_attribute, with_entries, turned, Entry, signed_limit, record_number_limit, with_item, record_limit, ByStep, size_of, Plain, PutEntry, EntryKind, size_stays, entry_bytes, has_value, entry_rows, Same, entry_of, content, attribute_of, word, number, is_positive, size_at, LiesIn, integer4, with_field, uir_type, record_type, aedr_data_type, aedr_num, aedr_value, Field, Hold, AttributeShape, shape, EntryFits, IsSound, field_bytes, known_type, data_type_in, is_little, In, Distinct, Good, good_is_sound, In-append_right, of_le, tile_lies, word4_fits, chain_after, entry_type, chain_of, max_field, entry_at, greatest_number, Says, room, entries_chain, count_field, with_chain, Mark, Act, Gave, Took, Added, counted_in, members_of, type_in, before, Gives, IsBody, Placed, type_of_body, Chain, nums, EntryLives, nums_live, chain_now, found_one, found_none, greatest_integer, Rechains, entry_stays, max_lies, count_is, max_written, Frees, count_same, freed_bytes, freed_rechains, freed_settled, greatest_same, the_one, Chained, chain_follows, follows_chained, items_of, of_named, once_before, rules_live, counted_before, differ_before, laid_kept, placed_laid, value_laid, apart, IsOfAttribute, KnownEntries, HasOld, IsPut, IsReady, IsStored, new_reserved, IsGreatest, NewEntry}
-use Rattle.std.proofs.lemmas.Bool.{lt-leb}
+use Rattle.cdf_attrs.proofs.Common.{Act, Added, AttributeShape, ByStep, Chain, Chained, Distinct, Entry, EntryFits, EntryFollows, EntryKind, EntryLives, Exchanged, Field, Fit, FitsSigned, FreedStay, Frees, Gave, Gives, Go, Good, HasOld, Hold, In, In-append_right, IsBody, IsGreatest, IsOfAttribute, IsPut, IsReady, IsSound, IsStored, IsType, Joined, KnownEntries, LiesIn, List, Mark, MovesForRoom, NewEntry, None, Option, Placed, Plain, PutEntry, PutsEntry, Rechains, Same, Same-part, Says, Settled, Some, Took, [], adr_stands, aedr_aedr_next, aedr_body, aedr_data_type, aedr_fields, aedr_num, aedr_rfu_b, aedr_rfu_c, aedr_rfu_d, aedr_rfu_e, aedr_value, and_from, ap, apart, arith, as_count, as_long_now, attribute_of, before, cast_signed, cast_unsigned, chain_after, chain_follows, chain_now, chain_of, content, count_field, count_is, count_same, counted_before, counted_in, data_type_in, differ_before, drop, drop-put_there, ends, entries_chain, entries_live, entries_of, entries_pushed, entries_replaced, entry_at, entry_bytes, entry_end, entry_of, entry_rows, entry_stays, entry_type, eq-eqb, field_bytes, file_now, filled_edit, follows_chained, found_none, found_one, freed_bytes, freed_rechains, freed_settled, good_is_sound, greatest_integer, greatest_number, greatest_same, has_value, inl, inr, integer4, is_little, is_positive, is_some, items_of, known_type, laid_kept, laid_out, last_or, le-leb, length, length-append, length-map, list, lit<, lt-leb, map-append, marks, max_field, max_lies, max_written, members_of, moved_for_room, nat_le, new_entry, new_in, new_reserved, new_size, new_type, no_fields, num_same, number, nums, nums_live, nums_pushed, nums_replaced, of_le, of_named, once_before, other_kept, placed_laid, position, record_limit, record_number_limit, record_type, records, refl, replaced_after, room, rules_live, shape, signed_limit, size_at, size_kept, size_of, size_stays, slice_get_within, slice_index, slice_set, subst, sym, take, the_one, tile_lies, to_z-of_z, true, turned, type_in, type_of_body, typed_body, uir_type, value_laid, w32, with_attribute, with_chain, with_entries, with_field, with_in_place, with_item, word, word4_fits, ℕ, ◌*◌, ◌++◌, ◌+◌, ◌<◌, ◌==◌, ◌^◌, ◌∙◌, ◌∷◌, ◌≡◌, ◌≢◌, ◌≤◌}
+use Rattle.std.proofs.Common.{find, w32}
 use Rattle.cdf_base.specs.Bytes.{put}
 use Rattle.cdf_model.specs.declared.kinds.EntryKind.TheVariants as entries
 use Rattle.cdf_format.specs.Content.{entries_of as chain_items}
-use Rattle.cdf_format.specs.Records.{aedr_aedr_next, aedr_rfu_b, aedr_rfu_c, aedr_rfu_d, aedr_rfu_e}
-use Rattle.cdf_format.proofs.BytesLemmas.{Same-part, size_kept}
-use Rattle.cdf_fields.proofs.Writes.{drop-put_there}
-use Rattle.cdf_edits.specs.Commands.Allowances.{FreedStay, no_fields}
-use Rattle.cdf_edits.specs.Commands.Entries.{PutsEntry, EntryFollows, entry_end}
-use Rattle.cdf_edits.specs.Commands.NewRecords.{MovesForRoom, moved_for_room}
-use Rattle.cdf_edits.specs.Space.Adding.{Joined, Exchanged}
-use Rattle.cdf_edits.specs.Space.Placing.{laid_out}
 use Rattle.cdf_edits.proofs.Commands.TypeCodes.{type_back, code_small}
-use Rattle.cdf_edits.proofs.Edits.ChainEntries.{entries_live, entries_pushed, entries_replaced, nums_pushed, nums_replaced}
-use Rattle.cdf_edits.proofs.Edits.ChainFollowed.{replaced_after}
 use Rattle.cdf_edits.proofs.Edits.ChainOwners.{traded_member, came_in, one_within}
-use Rattle.cdf_edits.proofs.Edits.ChainSpliced.{num_same, file_now}
 use Rattle.cdf_edits.proofs.Edits.Composing.{same-then}
-use Rattle.cdf_edits.proofs.Edits.EntryFields.{as_count}
-use Rattle.cdf_edits.proofs.Edits.FreedEntry.{as_long_now, other_kept}
-use Rattle.cdf_edits.proofs.Edits.MadeRecord.{filled_edit}
-use Rattle.cdf_edits.proofs.Edits.OneChain.{Settled}
 use Rattle.cdf_edits.proofs.Edits.ChainMembers.{IsAmong, member as stands}
 use Rattle.cdf_edits.proofs.Edits.PutEntry.{JoinsEntry, changes, count_now, exchanges, frees, greatest_now, in_its_place, new_record, new_value, not_old, pushes, rechains, settled}
-use Rattle.cdf_edits.proofs.Edits.JoinedRecord.{list, marks, new_size, records}
 use Rattle.cdf_edits.proofs.Edits.WrittenEntries.{as_long as over_long, count_now as over_count, greatest_now as over_greatest, mid_kept, mid_size, part_beside, rechains as over_rechains, settled as over_settled, size_now}
-use Rattle.cdf_edits.proofs.Edits.Splice.{adr_stands}
-use Rattle.cdf_edits.proofs.Space.LaidOut.{IsType}
-use Rattle.cdf_attrs.specs.PutValues.{new_entry}
-use Rattle.cdf_attrs.specs.Putting.{aedr_fields, aedr_body, Fit}
 use Rattle.cdf_attrs.specs.declared.entry_bytes.OldEntry.{OldEntry}
 use Rattle.cdf_attrs.specs.declared.entry_bytes.Reserved.{Reserved}
 use Rattle.cdf_attrs.proofs.AttributeChain.{few_attributes, index_in}

@@ -1,7 +1,5 @@
 -- What the steps of commands on an entry that is there come to, one reason after the other.
-use Rattle.std.proofs.Common.{◌≡◌, ℕ, List, true, false, Some, None, refl}
-use Rattle.cdf_attrs.proofs.Common.{NoSuchAttr, WrongScope, NoSuchEntry, EntryKind, Answer, Refuse, entries_of, is_wrong_scope, Attribute, DataSet, Entry, attribute_named, item_at}
-use Rattle.cdf_model.specs.AttributeSteps.{on_entry}
+use Rattle.cdf_attrs.proofs.Common.{Answer, Attribute, DataSet, Entry, EntryKind, List, NoSuchAttr, NoSuchEntry, None, Refuse, Some, WrongScope, attribute_named, entries_of, false, is_wrong_scope, item_at, on_entry, refl, true, ℕ, ◌≡◌}
 
 module _ (d : DataSet) (name : List ℕ) (kind : EntryKind) (num : ℕ) (answer : ℕ → Attribute → Entry → Answer) where
   pub no_attribute : attribute_named d name ≡ None → on_entry d name kind num answer ≡ Refuse NoSuchAttr

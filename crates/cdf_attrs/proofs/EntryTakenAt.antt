@@ -1,7 +1,6 @@
 -- An entry at an index of its chain: what of the chain is before it and without it, and what calls ask for that take it out.
-use Rattle.std.proofs.Common.{◌≡◌, ℕ, zero, suc, ◌+◌, ◌<◌, ◌≤◌, pos, List, [], ◌∷◌, ◌++◌, length, map, take, get_or, slice_index_or, Some, All, eq-eqb, FitsSigned, w32, None, refl, sym, ap, ap₂, subst, ◌∙◌, arith, inl, inr}
-use Rattle.cdf_attrs.proofs.Common.{eqb-true, ne_eqb, same_Some, slice_get_within, shape, Cut, cut, ints, of_z-to_z, cast_signed, cast_unsigned, length-map, position-Some, last_or, position, remove, slice_get, ◌==◌, slice_index, EntryKind, image_limit, record_number_limit, signed_limit, number, aedr_num, AttributeShape, In, Distinct, Good, Chain, entries_chain, before, members_of, IsOfAttribute, KnownEntries, KnowsEntries, IsEntryOf, got-middle, with_in_place, slice_set}
-use Rattle.std.proofs.lemmas.List.{get_or-map}
+use Rattle.cdf_attrs.proofs.Common.{All, AttributeShape, Chain, Cut, Distinct, EntryKind, FitsSigned, Good, In, IsEntryOf, IsOfAttribute, KnownEntries, KnowsEntries, List, None, Some, [], aedr_num, ap, ap₂, arith, before, cast_signed, cast_unsigned, cut, entries_chain, eq-eqb, eqb-true, get_or, get_or-map, got-middle, image_limit, inl, inr, ints, last_or, length, length-map, map, members_of, ne_eqb, number, of_z-to_z, pos, position, position-Some, record_number_limit, refl, remove, same_Some, shape, signed_limit, slice_get, slice_get_within, slice_index, slice_set, subst, suc, sym, take, with_in_place, zero, ℕ, ◌++◌, ◌+◌, ◌<◌, ◌==◌, ◌∙◌, ◌∷◌, ◌≡◌, ◌≤◌}
+use Rattle.std.proofs.Common.{slice_index_or, w32}
 use Rattle.std.proofs.lemmas.List.Edits.{length-remove}
 use Rattle.cdf_edits.specs.Space.Chains.{without}
 use Rattle.cdf_attrs.proofs.AttributeChain.{index_in}

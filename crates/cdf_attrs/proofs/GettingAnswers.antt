@@ -1,6 +1,5 @@
 -- What the command that shows an entry is answered.
-use Rattle.std.proofs.Common.{◌≡◌, ℕ, ◌+◌, ◌≤◌, List, [], ◌∷◌, length, Bool, true, false, cond, Option, Some, None, refl, sym, ap, subst, ◌∙◌, arith, inl, inr}
-use Rattle.cdf_attrs.proofs.Common.{◌==◌, find, position, slice_get, option_and_then, option_map, Done, Refused, Reason, NoSuchAttr, WrongScope, NoSuchEntry, Reply, Command, GetEntry, EntryKind, G, R, Z, Answer, Go, entries_of, Attribute, Entry, item_at, ByStep, Chain, Answers, chain_of, entry_at, members_of, refused, gone, entry_bytes, content, attribute_of, entry_of, number, aedr_num, AttributeShape, In, Good, FindsChain, IsOfAttribute, IsRefusedFor, entry_reply, KnownEntries, KnowsEntries}
+use Rattle.cdf_attrs.proofs.Common.{Answer, Answers, Attribute, AttributeShape, Bool, ByStep, Chain, Command, Done, Entry, EntryKind, FindsChain, G, GetEntry, Go, Good, In, IsOfAttribute, IsRefusedFor, KnownEntries, KnowsEntries, List, NoSuchAttr, NoSuchEntry, None, Option, R, Reason, Refused, Reply, Some, WrongScope, Z, [], aedr_num, ap, arith, attribute_of, chain_of, cond, content, entries_of, entry_at, entry_bytes, entry_of, entry_reply, false, find, gone, inl, inr, item_at, length, members_of, number, option_and_then, option_map, position, refl, refused, slice_get, subst, sym, true, ℕ, ◌+◌, ◌==◌, ◌∙◌, ◌∷◌, ◌≡◌, ◌≤◌}
 use Rattle.cdf_edits.proofs.Commands.ReadingFollows.{reading_follows}
 use Rattle.cdf_format.specs.Content.{entries_of as items_of}
 use Rattle.cdf_attrs.proofs.EntryChains.{members, entry_inside}

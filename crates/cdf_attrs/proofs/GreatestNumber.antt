@@ -1,7 +1,6 @@
 -- The greatest of the numbers of entries is that of the items that they are.
-use Rattle.std.proofs.Common.{◌≡◌, ◌⊎◌, ℕ, zero, suc, ◌+◌, ◌<◌, ◌≤◌, ℤ, pos, List, [], ◌∷◌, length, map, FitsSigned, w32, nat_lt, ◌==◌, slice_index_or, All, Contains, refl, sym, ap, subst, ◌∙◌, arith, inl, inr}
-use Rattle.cdf_attrs.proofs.Common.{cast_signed, ints, to_z_pos, Entry, signed_limit, with_item, entry_of, number, aedr_num, In, either, eq_of, greatest_number, nums, IsGreatest}
-use Rattle.std.proofs.lemmas.List.Elements.{All-head, All-tail}
+use Rattle.cdf_attrs.proofs.Common.{All, All-head, All-tail, Contains, Entry, FitsSigned, In, IsGreatest, List, [], aedr_num, ap, arith, cast_signed, either, entry_of, eq_of, greatest_number, inl, inr, ints, length, map, number, nums, pos, refl, signed_limit, subst, suc, sym, to_z_pos, with_item, zero, ℕ, ℤ, ◌+◌, ◌<◌, ◌∙◌, ◌∷◌, ◌≡◌, ◌≤◌, ◌⊎◌}
+use Rattle.std.proofs.Common.{w32, nat_lt, ◌==◌, slice_index_or}
 use Rattle.cdf_format.specs.Content.{entries_of}
 use Rattle.cdf_edits.proofs.Edits.NumberedItems.{Rising, rising_with}
 

@@ -1,6 +1,5 @@
 -- What is kept of the attributes, in terms of an image.
-use Rattle.std.proofs.Common.{◌≡◌, ℕ, List, None, ap, ◌∙◌}
-use Rattle.cdf_attrs.proofs.Common.{content, adrs, shape, attribute_names, Known, Knows}
+use Rattle.cdf_attrs.proofs.Common.{Known, Knows, List, None, adrs, ap, attribute_names, content, shape, ℕ, ◌∙◌, ◌≡◌}
 
 module _ {b : List ℕ} {v known : Known} (knows : Knows b known) (is : v ≡ known) where
   pub names_known : v.names ≡ attribute_names (content b)

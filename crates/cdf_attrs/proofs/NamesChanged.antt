@@ -1,6 +1,5 @@
 -- The names of attributes, and what a renaming makes of them.
-use Rattle.std.proofs.Common.{◌≡◌, ℕ, ◌<◌, List, length, None, Some, bytes_eq, sym, ap, ap₂, refl, ◌∙◌, arith}
-use Rattle.cdf_attrs.proofs.Common.{length-map, map-set, slice_get_within, slice_set, position, slice_get, with_attribute, Attribute, DataSet, attribute_names, attribute_named, number_of, cut, got-middle}
+use Rattle.cdf_attrs.proofs.Common.{Attribute, DataSet, List, None, Some, ap, ap₂, arith, attribute_named, attribute_names, bytes_eq, cut, got-middle, length, length-map, map-set, number_of, position, refl, slice_get, slice_get_within, slice_set, sym, with_attribute, ℕ, ◌<◌, ◌∙◌, ◌≡◌}
 use Rattle.cdf_model.specs.Names.{numbered}
 use Rattle.cdf_names.proofs.Keys.{number_of-keys, found_at}
 

@@ -1,8 +1,5 @@
 -- The names of the attributes of a good image differ.
-use Rattle.std.proofs.Common.{◌≡◌, ℕ, List, [], ◌∷◌, ◌++◌, Bool, true, false, ◌||◌, bytes_eq, refl, sym, subst, append_assoc}
-use Rattle.cdf_attrs.proofs.Common.{list_any, AllByRecursion, attribute_names, same_name, differ_rows, content, adr_name, adrs, shape, Good, Hold-split, AreNew, differ-turned, names_differ, attribute_names_are, good_by_its_shape}
-use Rattle.std.specs.List.{IsDistinct}
-use Rattle.cdf_format.proofs.NameRules.{absent-split}
+use Rattle.cdf_attrs.proofs.Common.{AllByRecursion, AreNew, Bool, Good, Hold-split, IsDistinct, List, [], absent-split, adr_name, adrs, append_assoc, attribute_names, attribute_names_are, bytes_eq, content, differ-turned, differ_rows, false, good_by_its_shape, list_any, names_differ, refl, same_name, shape, subst, sym, true, ℕ, ◌++◌, ◌||◌, ◌∷◌, ◌≡◌}
 
 first_false : (p q : Bool) → (p || q) ≡ false → p ≡ false
 first_false true q e = absurd cc

@@ -1,11 +1,5 @@
 -- A new ADR: what was written of it reads back.
-use Rattle.std.proofs.Common.{◌≡◌, ℕ, ◌+◌, ◌-◌, ◌^◌, ◌<◌, ◌≤◌, List, [], ◌∷◌, ◌++◌, length, take, drop, replicate, refl, sym, ap, ◌∙◌, arith, lit<}
-use Rattle.cdf_attrs.proofs.Common.{laid_kept, placed_laid, typed_body, value_laid, type_of_body, length-append, Same, number, record_type, adr_agr_edr_head, adr_scope, adr_num, adr_ngr_entries, adr_az_edr_head, adr_nz_entries, adr_name, uir_type, Says, IsFilled, IsBody, Placed, apart}
-use Rattle.cdf_edits.specs.Space.Placing.{laid_out}
-use Rattle.std.proofs.lemmas.List.{length-replicate}
-use Rattle.cdf_format.specs.Records.{adr_adr_next}
-use Rattle.cdf_edits.specs.Commands.Attributes.{new_adr}
-use Rattle.cdf_attrs.specs.Creating.{adr_fields, adr_body}
+use Rattle.cdf_attrs.proofs.Common.{IsBody, IsFilled, List, Placed, Same, Says, [], adr_adr_next, adr_agr_edr_head, adr_az_edr_head, adr_body, adr_fields, adr_name, adr_ngr_entries, adr_num, adr_nz_entries, adr_scope, ap, apart, arith, drop, laid_kept, laid_out, length, length-append, length-replicate, lit<, new_adr, number, placed_laid, record_type, refl, replicate, sym, take, type_of_body, typed_body, uir_type, value_laid, ℕ, ◌++◌, ◌+◌, ◌-◌, ◌<◌, ◌^◌, ◌∙◌, ◌∷◌, ◌≡◌, ◌≤◌}
 
 -- what the fields of a new ADR say
 pub record IsNewAdr (b : List ℕ) (place scope num : ℕ) (name : List ℕ) : Type 0 where

@@ -1,6 +1,6 @@
 -- A number that stands nowhere in a chain: there was none, or its entry went.
-use Rattle.std.proofs.Common.{◌≡◌, ◌∙◌, ℕ, zero, suc, ◌+◌, ◌<◌, List, [], ◌∷◌, Bool, true, false, Some, None, cond, not, eq-eqb, eqb-true, length, refl, sym, ap, subst, arith, inl, inr}
-use Rattle.cdf_attrs.proofs.Common.{lt-ltb, position-Some, position, position_or_len, remove, ◌==◌, slice_index, Distinct, In, Good, EntryKind, DropsNumber, IsOfAttribute, KnownEntries, KnowsEntries, Chain, nums}
+use Rattle.cdf_attrs.proofs.Common.{Bool, Chain, Distinct, DropsNumber, EntryKind, Good, In, IsOfAttribute, KnownEntries, KnowsEntries, List, None, Some, [], ap, arith, cond, eq-eqb, false, inl, inr, length, lt-ltb, nums, position, position-Some, position_or_len, refl, remove, slice_index, subst, suc, sym, true, zero, ℕ, ◌+◌, ◌<◌, ◌==◌, ◌∙◌, ◌∷◌, ◌≡◌}
+use Rattle.std.proofs.Common.{not, eqb-true}
 use Rattle.cdf_attrs.proofs.AttributeChain.{index_in}
 use Rattle.cdf_attrs.proofs.EntryChains.{entries_differ, members}
 use Rattle.cdf_attrs.proofs.EntryTakenAt.{places_are}

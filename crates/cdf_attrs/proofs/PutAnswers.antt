@@ -1,10 +1,6 @@
 -- What the command that puts an entry is answered.
-use Rattle.std.proofs.Common.{◌≡◌, ℕ, ◌+◌, ◌<◌, ◌≤◌, max, List, [], ◌∷◌, length, Err, false, refl, sym, ap, ◌∙◌, arith, inl, inr, pos, ℤ, FitsSigned, w32}
-use Rattle.cdf_attrs.proofs.Common.{fold, slice_index, cases_lt, Go, Refuse, entries_of, is_out_of_range, with_attribute, with_entries, DataSet, record_number_limit, signed_limit, image_limit, ints, IsReady, with_item, ByStep, Done, Refused, Reason, TooLarge, Plain, Command, PutEntry, DataType, EntryKind, size_stays, content, attribute_of, adrs, shape, is_little, In, Good, Answers, room, entries_chain, Chain, gone, FindsChain, KnownEntries, KnowsEntries, Puts, stored_entry, entry_of_words}
-use Rattle.cdf_model.specs.AttributeSteps.{put_entry_step}
-use Rattle.cdf_edits.specs.Commands.Room.{entry_length}
-use Rattle.cdf_edits.proofs.Commands.Answered.{too_large}
-use Rattle.cdf_attrs.specs.PutValues.{Asks}
+use Rattle.cdf_attrs.proofs.Common.{Answers, Asks, ByStep, Chain, Command, DataSet, DataType, Done, EntryKind, Err, FindsChain, FitsSigned, Go, Good, In, IsReady, KnownEntries, KnowsEntries, List, Plain, PutEntry, Puts, Reason, Refuse, Refused, TooLarge, [], adrs, ap, arith, attribute_of, cases_lt, content, entries_chain, entries_of, entry_length, entry_of_words, false, fold, gone, image_limit, inl, inr, ints, is_little, is_out_of_range, length, max, pos, put_entry_step, record_number_limit, refl, room, shape, signed_limit, size_stays, slice_index, stored_entry, sym, too_large, with_attribute, with_entries, with_item, ℕ, ℤ, ◌+◌, ◌<◌, ◌∙◌, ◌∷◌, ◌≡◌, ◌≤◌}
+use Rattle.std.proofs.Common.{w32}
 use Rattle.cdf_attrs.specs.Requests.{MayPut}
 use Rattle.cdf_attrs.specs.declared.entry_bytes.StoredValue.{StoredValue}
 use Rattle.cdf_attrs.proofs.AttributeFound.{adr_is}

@@ -1,9 +1,6 @@
 -- How many variables a good image says that it has, and the numbers that entries may have by it.
-use Rattle.std.proofs.Common.{◌≡◌, ℕ, ◌+◌, ◌<◌, ◌≤◌, List, length, map, false, sym, ap, subst, ◌∙◌, arith}
-use Rattle.cdf_attrs.proofs.Common.{nat_tests, length-map, nat_le, EntryKind, G, R, Z, is_out_of_range, DataSet, image_limit, record_number_limit, IsChain, content, gdr_offset, word, HasShape, shape, vdrs, Good, linkable-in, good_by_its_shape, good_is_sound, length-le_from_distinct, content_is, length_tiles, cdr_room}
+use Rattle.cdf_attrs.proofs.Common.{DataSet, EntryKind, G, Good, HasShape, IsChain, List, R, VariableShape, Z, ap, arith, cdr_room, content, content_is, content_of, false, gdr_offset, good_by_its_shape, good_is_sound, image_limit, is_out_of_range, length, length-le_from_distinct, length-map, length_tiles, linkable-in, map, nat_le, nat_tests, record_number_limit, shape, subst, sym, variable_of, vdrs, word, ℕ, ◌+◌, ◌<◌, ◌∙◌, ◌≡◌, ◌≤◌}
 use Rattle.cdf_model.specs.declared.head.Head.{Head}
-use Rattle.cdf_format.specs.Content.{content_of, variable_of}
-use Rattle.cdf_format.specs.Shape.{VariableShape}
 use Rattle.cdf_format.proofs.GoodHead.{gdr_fits}
 use Rattle.cdf_format.proofs.HeadOf.{head_of_good}
 

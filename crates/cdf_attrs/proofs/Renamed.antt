@@ -1,29 +1,15 @@
 -- A renaming leads from a good image to one in which one attribute has another name.
-use Rattle.std.proofs.Common.{◌≡◌, ℕ, ◌+◌, ◌≤◌, List, [], ◌∷◌, ◌++◌, length, map, true, false, not, Option, Some, None, eq-eqb, refl, sym, ap, subst, ◌∙◌, arith, inl, inr}
-use Rattle.cdf_attrs.proofs.Common.{◌==◌, if◌then◌else◌, flat_map, slice_get, Command, Go, Refuse, with_attribute, Attribute, DataSet, image_limit, is_bad_name, is_among, attribute_names, attribute_named, IsSound, AllKeep, Allowances, Only, Keeps, only_of, same_name, differ_rows, IsGoodByShape, attribute_shape_rows, Hold, IsChain, content, attribute_of, scope_of, number, size_at, type_at, Follows, IsFilled, ByStep, unwrap_or, eqb-true, OneAttribute, owned_by, attribute_records, owned, Field, gdr_adr_head, adr_agr_edr_head, adr_az_edr_head, adr_scope, adr_num, adr_name, adr_type, agr_edr_type, az_edr_type, uir_type, AttributeShape, Shape, adrs, HasShape, shape, In, Good, linkable-in, linkable-type, good_by_its_shape, good_is_sound, rules_of_good, AllKeep-append, In-append, In-append_left, In-append_right, stands_in, AreNew, names_at, names_differ, differ_by_names, attribute_names_are, Hold-append, Hold-split, good_long, sealed_kept, shape_is, Mark, Edit, AreThere, stood, keeps_fields, all_keep, used_times, owned_once_if, variables_in, word_kept, spliced, Splices, parts_there, shape_now, OwnRules, good_image_if, fixed_long, Renamed, fine_is_some, got-middle, Each, all_remain, AttributeLives, file_same}
+use Rattle.cdf_attrs.proofs.Common.{AllKeep, AllKeep-append, Allowances, AreNew, AreThere, Attribute, AttributeLives, AttributeShape, Away, ByStep, Command, DataSet, Each, Edit, Field, File, Follows, Go, Good, HasShape, Hold, Hold-append, Hold-split, In, In-append, In-append_left, In-append_right, IsChain, IsFilled, IsGoodByShape, IsSorted, IsSound, Keeps, List, Mark, None, OneAttribute, Only, Option, OwnRules, Refuse, Renamed, Shape, Some, Splices, Stood, Unused, [], adr_agr_edr_head, adr_az_edr_head, adr_name, adr_no_entry, adr_num, adr_scope, adr_type, adrs, agr_edr_type, all_attributes_in, all_keep, all_remain, all_variable_records, ap, arith, attribute_named, attribute_names, attribute_names_are, attribute_of, attribute_records, attribute_shape_rows, az_edr_type, chain_clear, chain_kept, content, differ_by_names, differ_rows, eof_by_rules, eq-eqb, eqb-true, false, field_edit, field_marks, file_in, file_same, fine_is_some, fixed_long, flat-append, flat_map, flat_map-append, gdr_adr_head, gdr_eof, gdr_field, gdr_uir_head, good_by_its_shape, good_image_if, good_is_sound, good_long, got-middle, if◌then◌else◌, image_limit, inl, inr, is_among, is_bad_name, keep_attributes, keep_owned, keep_parts, keeps_fields, kept_away, length, linkable-in, linkable-type, map, names_at, names_differ, new_replaced, number, only_of, only_owns, owned, owned_by, owned_once_if, part_clear, parts_there, refl, rename_attr_changes, rename_attr_step, rules_of_good, same_name, scope_of, sealed_kept, shape, shape_is, shape_now, size_at, slice_get, spliced, stands_in, stood, subst, sym, true, type_at, uir_type, unused_in, unused_records, unwrap_or, used_times, variables_in, with_attribute, word_kept, ℕ, ◌++◌, ◌+◌, ◌==◌, ◌∙◌, ◌∷◌, ◌≡◌, ◌≤◌}
+use Rattle.std.proofs.Common.{not}
 use Rattle.cdf_model.specs.declared.answer.Reason.TheVariants as reasons
 use Rattle.cdf_model.specs.declared.answer.Reply.TheVariants as replies
 use Rattle.cdf_model.specs.declared.command.Command.TheVariants as commands
-use Rattle.cdf_model.specs.AttributeSteps.{rename_attr_step}
-use Rattle.cdf_edits.specs.Commands.Attributes.{rename_attr_changes}
 use Rattle.cdf_format.specs.AttributeRules.{has_name}
 use Rattle.cdf_edits.specs.Commands.Named.{is_attribute, IsAttribute}
-use Rattle.cdf_format.specs.Owners.{File, Unused, unused_records}
-use Rattle.cdf_format.specs.Records.{gdr_eof, gdr_uir_head}
 use Rattle.cdf_edits.proofs.Rules.OfAttributes.{attribute_rules_kept}
-use Rattle.cdf_edits.proofs.Rules.WithoutLinks.{eof_by_rules}
-use Rattle.cdf_edits.proofs.Commands.KeptRecords.{Stood, keep_owned, keep_attributes}
 use Rattle.cdf_edits.proofs.Frame.Meaning.{Kept, entries_kept}
-use Rattle.cdf_format.proofs.NameRules.{new_replaced}
-use Rattle.cdf_edits.proofs.Frame.OwnersApart.{flat-append, file_in, unused_in, all_variable_records}
-use Rattle.cdf_format.proofs.RowLemmas.{flat_map-append}
-use Rattle.cdf_edits.specs.Edits.Marks.{Away, field_marks}
 use Rattle.cdf_edits.proofs.Edits.EditActs.{acts_none}
-use Rattle.cdf_edits.proofs.Edits.RecordFrame.{part_clear, chain_clear, chain_kept, kept_away, gdr_field}
-use Rattle.cdf_edits.proofs.Edits.OwnersKept.{keep_parts}
-use Rattle.cdf_edits.proofs.Edits.OwnedOnce.{only_owns, adr_no_entry, all_attributes_in, IsSorted}
 use Rattle.cdf_edits.proofs.Edits.OneSpliced.{beside_live, content_replaced, counted, names_now, names_before}
-use Rattle.cdf_edits.proofs.Edits.StepEdits.{field_edit}
 
 -- ---- the step
 

@@ -1,13 +1,9 @@
 -- What the calls of a renaming come to.
-use Rattle.std.proofs.Common.{◌≡◌, ℕ, ◌<◌, ◌≤◌, List, [], ◌∷◌, ◌++◌, length, map, true, false, Some, None, refl, sym, ap, ap₂, subst, ◌∙◌, arith, inl, inr}
-use Rattle.cdf_attrs.proofs.Common.{length-map, map-append, slice_index, slice_set, slice_get, Done, Refused, with_attribute, DataSet, image_limit, is_bad_name, attribute_names, attribute_named, ByStep, has_name, number_of, last_to, LiesIn, adr_name, content, attribute_of, Answers, AttributeShape, adrs, shape, In, Good, good_is_sound, content_is, refused, gone, Renamed, fine_is_short, fine_has_no_zeros, Cut, cut, got-middle, got-map}
-use Rattle.std.proofs.Math.Seq.{get_or-append_seam}
+use Rattle.cdf_attrs.proofs.Common.{Answers, AttributeShape, ByStep, Cut, DataSet, Done, Good, In, LiesIn, List, None, Refused, Renamed, Some, [], adr_name, adrs, ap, ap₂, arith, attribute_named, attribute_names, attribute_of, content, content_is, cut, false, fine_has_no_zeros, fine_is_short, get_or-append_seam, gone, good_is_sound, got-map, got-middle, has_name, image_limit, inl, inr, is_bad_name, last_to, length, length-map, map, map-append, name_reads, number_of, refl, refused, shape, slice_get, slice_index, slice_set, subst, sym, true, with_attribute, with_name, ℕ, ◌++◌, ◌<◌, ◌∙◌, ◌∷◌, ◌≡◌, ◌≤◌}
 use Rattle.cdf_model.specs.declared.answer.Reason.TheVariants as reasons
 use Rattle.cdf_model.specs.declared.answer.Reply.TheVariants as replies
 use Rattle.cdf_model.specs.declared.command.Command.TheVariants as commands
-use Rattle.cdf_format.specs.Fields.{with_name}
 use Rattle.cdf_edits.proofs.Edits.NameWritten.{name_filled, length-with_name, name_changed}
-use Rattle.cdf_fields.proofs.NamesWritten.{name_reads}
 use Rattle.cdf_names.proofs.Moved.{last_moved}
 use Rattle.cdf_attrs.proofs.NamesChanged.{none_named, number_within, named_there, some_named, renamed_names}
 use Rattle.cdf_attrs.proofs.AttributeChain.{name_lies, few_attributes, names_count}

@@ -1,14 +1,8 @@
 -- What words come to as the value of an entry.
-use Rattle.std.proofs.Common.{◌≡◌, ℕ, ◌%◌, ◌≤◌, List, ◌++◌, length, take, drop, Bool, false, Ok, refl, sym, ap, subst, ◌∙◌, arith}
-use Rattle.cdf_attrs.proofs.Common.{turned, size_of, values_in, DataType, size_stays, fewer, IsStored, IsWritten}
-use Rattle.cdf_model.specs.AttributeSteps.{number_entry}
+use Rattle.cdf_attrs.proofs.Common.{Bool, DataType, IsStored, IsWritten, List, Ok, Sizes, ap, arith, back, bytes_of_words, drop, false, fewer, in_place, is_text, length, number_entry, refl, size_of, size_stays, subst, sym, take, turned, values_in, whole_elements, whole_text, words_sized, ℕ, ◌%◌, ◌++◌, ◌∙◌, ◌≡◌, ◌≤◌}
 use Rattle.cdf_model.specs.Sayable.{Fit}
-use Rattle.cdf_model.specs.Values.{bytes_of_words}
 use Rattle.cdf_model.specs.declared.data_type.DataType.TheVariants.{Char, UChar}
 use Rattle.cdf_values.proofs.ReadLemmas.{counted}
-use Rattle.cdf_values.proofs.TurnedLemmas.{back, in_place}
-use Rattle.cdf_values.proofs.ValueLengths.{Sizes, whole_elements, whole_text, words_sized}
-use Rattle.cdf_attrs.specs.Valued.{is_text}
 
 -- what the numbers of a line write may be stored
 pub numbers_written : (t : DataType) (words : List (List ℕ)) (bytes : List ℕ) → is_text t ≡ false → 1 ≤ length words → Fit words → values_in t 1 (length words) words ≡ Ok bytes → IsWritten false t words (length words) bytes

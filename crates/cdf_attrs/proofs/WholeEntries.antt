@@ -1,17 +1,11 @@
 -- The value of an entry of a good image has a byte for each of its elements' bytes, and no more.
-use Rattle.std.proofs.Common.{◌≡◌, ℕ, zero, suc, ◌+◌, ◌*◌, ◌%◌, ◌≤◌, List, [], ◌∷◌, length, map, take, drop, Bool, true, false, Option, Some, None, nat_le, ◌&&◌, refl, sym, ap, subst, ◌∙◌, arith}
-use Rattle.cdf_attrs.proofs.Common.{find, ◌==◌, slice_get, option_map, NoSuchAttr, WrongScope, NoSuchEntry, Reply, EntryKind, Answer, Go, entries_of, is_wrong_scope, Attribute, DataSet, Entry, attribute_named, item_at, size_of, Chain, chain_of, members_of, entry_bytes, content, attribute_of, entry_of, number, is_positive, aedr_data_type, aedr_num, aedr_value, AttributeShape, shape, data_type_in, field_bytes, is_little, known_type, In, Good, good_is_sound, content_is, le_of, signed_limit, record_limit, size_stays, IsOfAttribute, entries_chain}
-use Rattle.std.proofs.lemmas.List.{length-drop, length-take-le}
+use Rattle.cdf_attrs.proofs.Common.{Answer, Attribute, AttributeShape, Bool, Chain, DataSet, Entry, EntryKind, Go, Good, In, IsOfAttribute, List, NoSuchAttr, NoSuchEntry, None, Option, Reply, Some, WrongScope, [], aedr_data_type, aedr_num, aedr_num_elems, aedr_value, ap, arith, attribute_named, attribute_of, both, chain_of, content, content_is, data_type_in, drop, entries_chain, entries_of, entry_bytes, entry_of, false, field_bytes, find, get_entry_step, given, good_is_sound, holds, is_little, is_positive, is_wrong_scope, item_at, known_type, le_of, length, length-drop, length-take-le, map, members_of, number, option_map, record_limit, refl, shape, signed_limit, size_of, size_stays, slice_get, subst, suc, sym, take, true, unless, zero, ℕ, ◌%◌, ◌*◌, ◌+◌, ◌==◌, ◌∙◌, ◌∷◌, ◌≡◌, ◌≤◌}
+use Rattle.std.proofs.Common.{nat_le, ◌&&◌}
 use Rattle.std.proofs.Math.Nat.{mod_self, mul-mod_right}
 use Rattle.std.specs.Prelude.{is_some}
 use Rattle.cdf_model.specs.declared.answer.Reply.TheVariants as replies
-use Rattle.cdf_model.specs.Answers.{unless, given}
-use Rattle.cdf_model.specs.AttributeSteps.{get_entry_step}
 use Rattle.cdf_model.specs.Names.{numbered}
 use Rattle.cdf_model.specs.Whole.{IsWhole, HasWholeValues}
-use Rattle.cdf_format.specs.Fields.{holds}
-use Rattle.cdf_format.specs.Records.{aedr_num_elems}
-use Rattle.cdf_format.proofs.Tests.{both}
 use Rattle.cdf_attrs.proofs.EntryChains.{members, entry_has_value, entry_inside}
 use Rattle.cdf_attrs.proofs.EntryLookup.{item_of_chain}
 use Rattle.cdf_attrs.proofs.GettingAnswers.{entries_by_chain, found_in}

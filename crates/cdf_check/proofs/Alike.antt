@@ -1,8 +1,5 @@
 -- No two members of a list are alike, or two of them are.
-use Rattle.std.proofs.Common.{◌≡◌, ◌≢◌, ℕ, List, [], ◌∷◌, ◌++◌, Bool, true, false, ◌&&◌, eqb, true≢false, refl, sym, ap, ap₂, subst, ◌∙◌, append_assoc, append-nil, arith, inl, inr, bytes_eq}
-use Rattle.cdf_check.proofs.Common.{nat_tests, list_all, list_any, differ_rows, Hold, IsBroken, In, Distinct, either, In-append}
-use Rattle.std.proofs.lemmas.Bool.{and_from, not-false, not-true}
-use Rattle.cdf_format.proofs.Members.{Distinct-middle}
+use Rattle.cdf_check.proofs.Common.{Bool, Distinct, Distinct-middle, Hold, In, In-append, IsBroken, List, [], and_from, ap, append-nil, append_assoc, ap₂, arith, bytes_eq, differ_rows, either, eqb, false, inl, inr, list_all, list_any, nat_tests, not-false, not-true, refl, subst, sym, true, true≢false, ℕ, ◌&&◌, ◌++◌, ◌∙◌, ◌∷◌, ◌≡◌, ◌≢◌}
 
 one_of_any : (p : ℕ → Bool) (xs : List ℕ) → list_any p xs ≡ true → (o : ℕ) × In o xs × (p o ≡ true)
 one_of_any p [] h = absurd cc

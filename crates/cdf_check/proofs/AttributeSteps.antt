@@ -1,9 +1,5 @@
 -- The attributes of an image, one after the other.
-use Rattle.std.proofs.Common.{◌≡◌, ℕ, ◌≤◌, List, [], ◌∷◌, ◌++◌, length, refl, ap, ◌∙◌, arith, append_assoc}
-use Rattle.cdf_check.proofs.Common.{flat_map, same_name, attribute_rows, phase6, differ_rows, LiesIn, name_at, name_field, name_in, type_at, adr_name, Hold, IsBroken, adr_chain, gdr_offset, AreTiles, whole, chain_sound, linkable-in, linkable-type, length-le_from_distinct, Hold-append, IsBroken-before, IsBroken-after, tile_lies, length_tiles, AreLong}
-use Rattle.cdf_format.specs.Records.{gdr_adr_head}
-use Rattle.cdf_format.specs.RecordTypes.{adr_type}
-use Rattle.cdf_check.specs.Entries.{IsAttribute, AreAttributes}
+use Rattle.cdf_check.proofs.Common.{AreAttributes, AreLong, AreTiles, Hold, Hold-append, IsAttribute, IsBroken, IsBroken-after, IsBroken-before, LiesIn, List, [], adr_chain, adr_name, adr_type, ap, append_assoc, arith, attribute_rows, chain_sound, differ_rows, flat_map, gdr_adr_head, gdr_offset, length, length-le_from_distinct, length_tiles, linkable-in, linkable-type, name_at, name_field, name_in, phase6, refl, same_name, tile_lies, type_at, whole, ℕ, ◌++◌, ◌∙◌, ◌∷◌, ◌≡◌, ◌≤◌}
 
 -- ---- the Name of an attribute
 

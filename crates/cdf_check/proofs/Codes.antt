@@ -1,6 +1,5 @@
 -- The code of an encoding is small, so it is the same with a sign and without one.
-use Rattle.std.proofs.Common.{◌≡◌, ℕ, ◌-◌, ◌^◌, ◌<◌, ◌≤◌, suc, ℤ, false, inl, inr, sym, ◌∙◌, ap, arith}
-use Rattle.cdf_check.proofs.Common.{cases_lt, nat_tests, to_z_pos, of_z-to_z, to_z-neg, is_some, w32, cast_signed, cast_unsigned}
+use Rattle.cdf_check.proofs.Common.{ap, arith, cases_lt, cast_signed, cast_unsigned, false, inl, inr, is_some, nat_tests, of_z-to_z, suc, sym, to_z-neg, to_z_pos, w32, ℕ, ℤ, ◌-◌, ◌<◌, ◌^◌, ◌∙◌, ◌≡◌, ◌≤◌}
 use Rattle.cdf_model.specs.Encodings.{encoding_of, encoding_at}
 
 large_is_unknown : (code : ℕ) → 2 ^ 31 ≤ code → is_some (encoding_at code) ≡ false

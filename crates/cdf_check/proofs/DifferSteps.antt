@@ -1,6 +1,5 @@
 -- No member of a list is like one before it.
-use Rattle.std.proofs.Common.{◌≡◌, ℕ, ◌+◌, ◌<◌, List, [], ◌∷◌, ◌++◌, length, map, take, drop, get_or, Bool, true, false, not, ◌||◌, eqb, refl, sym, ap, ◌∙◌, inl, inr, Option, Some, None, add-one, append-nil, append_assoc}
-use Rattle.cdf_check.proofs.Common.{take_more, map-append, list_any, is_in, Row, row, Hold, IsBroken, differ_rows, Hold-append, IsBroken-before, IsBroken-after, Finding, Finds}
+use Rattle.cdf_check.proofs.Common.{Bool, Finding, Finds, Hold, Hold-append, IsBroken, IsBroken-after, IsBroken-before, List, None, Option, Row, Some, [], add-one, ap, append-nil, append_assoc, differ_rows, drop, eqb, false, get_or, inl, inr, is_in, length, list_any, map, map-append, not, refl, row, sym, take, take_more, true, ℕ, ◌++◌, ◌+◌, ◌<◌, ◌||◌, ◌∙◌, ◌∷◌, ◌≡◌}
 use Rattle.std.proofs.Math.Seq.{drop-cons}
 
 -- what a member is compared by

@@ -1,14 +1,9 @@
 -- The fields of a variable, as they are read, and the rules on them among all its rules.
-use Rattle.std.proofs.Common.{◌≡◌, ℕ, ◌+◌, ◌≤◌, List, [], true, inl, inr, ap, ◌∙◌, refl, arith}
-use Rattle.cdf_check.proofs.Common.{of_z-to_z, w32, cast_signed, cast_unsigned, has_name, number, Field, vdr_data_type, vdr_name, vdr_num_elems, Hold, IsBroken, is_compressed, variable_rows, AreRead, AreFields, packing_rows, records_rows, shape_rows, value_rows}
-use Rattle.std.specs.Int.{w64}
+use Rattle.cdf_check.proofs.Common.{AreFields, AreRead, Field, Hold, IsBroken, List, [], ap, arith, cast_signed, cast_unsigned, cpr_link, has_name, inl, inr, is_compressed, number, of_z-to_z, packing_rows, record_type, records_rows, refl, shape_rows, true, value_rows, variable_rows, vdr_cpr_or_spr_offset, vdr_data_type, vdr_max_rec, vdr_name, vdr_num_elems, vdr_s_records, w32, w64, word_fits, ℕ, ◌+◌, ◌∙◌, ◌≡◌, ◌≤◌}
 use Rattle.cdf_model.specs.Types.{type_of}
-use Rattle.cdf_format.specs.Records.{record_type, vdr_max_rec, vdr_s_records, vdr_cpr_or_spr_offset}
-use Rattle.cdf_format.specs.VariableRules.{cpr_link}
 use Rattle.cdf_records.specs.Heads.{vdr_at}
 use Rattle.cdf_records.specs.Pieces.{AreBytes}
 use Rattle.cdf_records.specs.declared.vdr.Vdr.{Vdr}
-use Rattle.cdf_records.proofs.Places.{word_fits}
 use Rattle.cdf_structure.proofs.IndexSteps.{no_cpr}
 use Rattle.cdf_check.specs.declared.variable_fields.Fields.{Fields}
 

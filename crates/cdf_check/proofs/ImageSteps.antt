@@ -1,21 +1,10 @@
 -- What follows from the rules on the records of an image for its other rules.
-use Rattle.std.proofs.Common.{◌≡◌, ℕ, ◌+◌, ◌*◌, ◌≤◌, List, [], ◌∷◌, ◌++◌, length, map, refl, sym, ap, ap₂, ◌∙◌, subst, arith, append_assoc}
-use Rattle.cdf_check.proofs.Common.{◌==◌, flat_map, phase6, phase5, gdr_offset, r_num_dims, size_at, type_at, phase8, attribute_records, variable_records, phase9, image_phases, phase4, phase7, Row, Hold, IsBroken, AllHold, FirstBroken, adr_chain, attribute_shape, variable_shape, Distinct, AreTiles, Walk, whole, records_of, Hold-member, le_of, tile_lies, tiling_sound, AreLong, AreChains, AreRead, AreVariables, HasRoomForSizes}
-use Rattle.std.specs.List.{filter}
+use Rattle.cdf_check.proofs.Common.{AllHold, AreChains, AreLong, AreRead, AreTiles, AreVariables, AttributeShape, Distinct, FirstBroken, HasRoomForSizes, HasSizes, Hold, Hold-member, Hold-split, IsBroken, List, Row, Walk, [], adr_chain, adrs, ap, append_assoc, ap₂, arith, attribute_records, attribute_shape, filter, flat_map, gdr_offset, gdr_r_vdr_head, gdr_type, gdr_z_vdr_head, image_phases, is_a-in, le_of, length, map, owned_records, phase4, phase5, phase6, phase7, phase8, phase9, r_num_dims, r_vdr_chain, record_rows, records_of, refl, shape, size_at, subst, sym, tile_lies, tiles, tiling, tiling_sound, type_at, uir_type, unused_records, variable_records, variable_shape, vdrs, whole, z_vdr_chain, ℕ, ◌*◌, ◌++◌, ◌+◌, ◌==◌, ◌∙◌, ◌∷◌, ◌≡◌, ◌≤◌}
 use Rattle.cdf_format.specs.NotRead.{unread_type}
-use Rattle.cdf_format.specs.Owners.{owned_records, unused_records}
-use Rattle.cdf_format.specs.Records.{gdr_r_vdr_head, gdr_z_vdr_head}
-use Rattle.cdf_format.specs.RecordTypes.{gdr_type, uir_type}
-use Rattle.cdf_format.specs.RecordRules.{record_rows}
-use Rattle.cdf_format.specs.Shape.{AttributeShape, adrs, vdrs, shape, r_vdr_chain, z_vdr_chain}
 use Rattle.cdf_format.specs.Shape.{variables as shape_variables}
-use Rattle.cdf_format.specs.Tiles.{tiles, tiling}
-use Rattle.cdf_format.proofs.ChainsLemmas.{is_a-in}
 use Rattle.cdf_format.proofs.GoodImageLemmas.{map_adrs, map_vdrs, vdrs_append}
 use Rattle.cdf_format.proofs.Owning.{owned_is}
-use Rattle.cdf_format.proofs.RowLemmas.{Hold-split}
 use Rattle.cdf_structure.specs.declared.file_chains.Chains.{Chains}
-use Rattle.cdf_check.specs.Variables.{HasSizes}
 use Rattle.cdf_structure.proofs.TileSteps.{whole_rows}
 use Rattle.cdf_check.proofs.VariableSteps.{all_variables, all_once, all_few}
 

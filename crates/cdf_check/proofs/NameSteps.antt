@@ -1,7 +1,5 @@
 -- The Names of records, one after the other.
-use Rattle.std.proofs.Common.{◌≡◌, ℕ, List, [], ◌∷◌, ◌++◌, true, false, refl, sym, arith, Option, Some, None, bytes_eq}
-use Rattle.cdf_check.proofs.Common.{map-append, is_some, list_any, differ_rows, Finding, AreNamed, Finds, none_found}
-use Rattle.std.proofs.lemmas.List.{length_push}
+use Rattle.cdf_check.proofs.Common.{AreNamed, Finding, Finds, List, None, Option, Some, [], arith, bytes_eq, differ_rows, false, is_some, length_push, list_any, map-append, none_found, refl, sym, true, ℕ, ◌++◌, ◌∷◌, ◌≡◌}
 use Rattle.cdf_check.specs.declared.names.Names.{Names}
 use Rattle.cdf_check.proofs.DifferSteps.{push_broken, push_met, push_new}
 

@@ -1,23 +1,14 @@
 -- The phases of a file, put together.
-use Rattle.std.proofs.Common.{◌≡◌, ◌≢◌, ℕ, zero, suc, ◌+◌, ◌*◌, ◌-◌, ◌<◌, ◌≤◌, ◌^◌, List, [], ◌∷◌, ◌++◌, length, length-take, take, drop, Bool, true, false, refl, sym, ap, ◌∙◌, subst, arith}
-use Rattle.cdf_check.proofs.Common.{nat_le, w32, cast_signed, subst₂, counted, gdr_offset, number, r_num_dims, size_at, image_phases, Row, row, Hold, IsBroken, AllHold, FirstBroken, trailer_length, image_of, both, le_of, Finding, HasRoomForSizes, Finds, JudgesImage}
-use Rattle.std.specs.Prelude.{if◌then◌else◌, bytes_eq, Some}
+use Rattle.cdf_check.proofs.Common.{AllHold, Bool, Finding, Finds, FirstBroken, HasRoomForSizes, Hold, Hold-asked, Holds, IsBroken, Judges, JudgesImage, List, Row, [], ap, arith, asked, both, cast_signed, counted, drop, false, first_phases, gdr_offset, gdr_r_dim_sizes, gdr_r_num_dims, gdr_rows, has_checksum, has_gdr, if◌then◌else◌, image_of, image_phases, is_record, le_of, length, length-take, nat_le, number, phase10, r_num_dims, refl, row, size_at, subst, subst₂, suc, sym, take, trailer_length, trailer_size, true, w32, word, zero, ℕ, ◌*◌, ◌++◌, ◌+◌, ◌-◌, ◌<◌, ◌^◌, ◌∙◌, ◌∷◌, ◌≡◌, ◌≢◌, ◌≤◌}
+use Rattle.std.specs.Prelude.{bytes_eq, Some}
 use Rattle.std.specs.declared.option.Option.{Option}
 use Rattle.md5.specs.Md5.{md5}
 use Rattle.cdf_model.specs.Limits.{image_limit}
-use Rattle.cdf_format.specs.Fields.{Holds, word}
-use Rattle.cdf_format.specs.FileRules.{gdr_rows, has_gdr, is_record}
-use Rattle.cdf_format.specs.Phases.{first_phases, phase10}
-use Rattle.cdf_format.specs.Records.{gdr_r_dim_sizes, gdr_r_num_dims}
-use Rattle.cdf_format.specs.Rules.{asked}
-use Rattle.cdf_format.specs.Sealed.{has_checksum, trailer_size}
 use Rattle.cdf_format.specs.WellFormed.{WellFormed, Breaks}
 use Rattle.cdf_format.proofs.FileRecords.{record-of}
 use Rattle.cdf_format.proofs.ImageOf.{short_trailer}
 use Rattle.cdf_format.proofs.Pieces.{word-piece}
-use Rattle.cdf_format.proofs.RowLemmas.{Hold-asked}
 use Rattle.cdf_check.specs.declared.verdict.Broken.{Broken}
-use Rattle.cdf_check.specs.Verdicts.{Judges}
 
 -- ---- phases before others
 

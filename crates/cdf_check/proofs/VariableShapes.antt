@@ -1,13 +1,8 @@
 -- What a VDR says of the values and the dimensions of its variable, as it is read, and what its fields and its record take.
-use Rattle.std.proofs.Common.{◌≡◌, ℕ, zero, suc, ◌+◌, ◌-◌, ◌<◌, ◌≤◌, ◌^◌, List, [], ◌∷◌, length, map, get_or, Bool, true, false, not, ◌&&◌, ◌||◌, refl, sym, ap, ap₂, ◌∙◌, arith, inl, inr, Some, None}
-use Rattle.cdf_check.proofs.Common.{◌==◌, nat_le, subst₂, cases_lt, nat_tests, to_z_pos, to_z-neg, w32, cast_signed, list_all, SomeIff, counted, number, words, vdr_data_type, vdr_num_elems, Hold, known_type, either, both, le_of, of_le, AreValues, value_rows}
-use Rattle.std.proofs.lemmas.List.{length-map}
+use Rattle.cdf_check.proofs.Common.{AreValues, Bool, Hold, List, None, Some, SomeIff, [], ap, ap₂, arith, both, cases_lt, cast_signed, counted, counted4, dimensions_at, dims_at, either, elems_at, false, get_or, has_elements, inl, inr, is_positive, is_z, known_type, le_of, length, length-map, list_all, map, nat_le, nat_tests, not, number, of_le, refl, subst₂, suc, sym, to_z-neg, to_z_pos, true, type_of_variable, value_rows, vdr_data_type, vdr_num_elems, w32, words, zero, ℕ, ◌&&◌, ◌+◌, ◌-◌, ◌<◌, ◌==◌, ◌^◌, ◌||◌, ◌∙◌, ◌∷◌, ◌≡◌, ◌≤◌}
 use Rattle.cdf_model.specs.declared.data_type.DataType.{DataType}
 use Rattle.cdf_model.specs.Values.{notation_of}
 use Rattle.cdf_model.specs.VariableSteps.{is_characters}
-use Rattle.cdf_format.specs.Fields.{is_positive}
-use Rattle.cdf_format.specs.VariableFields.{counted4, is_z, dimensions_at, dims_at, elems_at, type_of_variable}
-use Rattle.cdf_format.specs.VariableRules.{has_elements}
 
 -- ---- numbers with a sign
 

@@ -1,14 +1,6 @@
 -- The variables of an image, one after the other.
-use Rattle.std.proofs.Common.{◌≡◌, ◌≢◌, ℕ, ◌≤◌, List, [], ◌∷◌, ◌++◌, length, true, false, not, ◌||◌, eqb, eq-eqb, true≢false, refl, sym, subst, ◌∙◌, arith, inl, inr, Option, Some, None}
-use Rattle.cdf_check.proofs.Common.{◌==◌, flat_map, same_name, differ_rows, LiesIn, name_at, name_field, name_in, size_at, type_at, Field, vdr_name, Row, Hold, IsBroken, In, Distinct, AreTiles, variable_rows, phase7, whole, chain_sound, linkable-in, linkable-type, either, In-append, length-le_from_distinct, Hold-member, IsBroken-before, IsBroken-after, tile_lies, length_tiles, AreLong, AreVariables, Finds, Finding}
-use Rattle.std.proofs.lemmas.Bool.{ne_eqb}
-use Rattle.cdf_format.specs.RecordTypes.{fixed_size, r_vdr_type, z_vdr_type}
-use Rattle.cdf_format.specs.VariableRules.{is_named_apart}
-use Rattle.cdf_format.specs.Chains.{chain}
-use Rattle.cdf_format.proofs.RowLemmas.{Hold-members}
-use Rattle.cdf_check.specs.Variables.{IsVariable}
+use Rattle.cdf_check.proofs.Common.{AreLong, AreTiles, AreVariables, Distinct, Field, Finding, Finds, Hold, Hold-member, Hold-members, In, In-append, IsBroken, IsBroken-after, IsBroken-before, IsBroken-split, IsVariable, LiesIn, List, None, Option, Row, Some, [], arith, chain, chain_sound, differ_rows, either, eq-eqb, eqb, false, fixed_size, flat_map, inl, inr, is_named_apart, length, length-le_from_distinct, length_tiles, linkable-in, linkable-type, name_at, name_field, name_in, ne_eqb, not, phase7, r_vdr_type, refl, same_name, size_at, subst, sym, tile_lies, true, true≢false, type_at, variable_rows, vdr_name, whole, z_vdr_type, ℕ, ◌++◌, ◌==◌, ◌||◌, ◌∙◌, ◌∷◌, ◌≡◌, ◌≢◌, ◌≤◌}
 use Rattle.cdf_check.proofs.Alike.{all_of_each, not_all, bytes_eq-sym, one_is_like, none_is_like}
-use Rattle.cdf_structure.proofs.Rows.{IsBroken-split}
 
 -- ---- the Name of a variable
 

@@ -1,7 +1,6 @@
 -- Places of bytes that are compared one by one, computed.
-use Rattle.std.proofs.Common.{◌≡◌, ◌≤◌, ◌<◌, ◌⊎◌, ℕ, zero, suc, ◌+◌, ◌-◌, Bool, true, false, ◌&&◌, ◌||◌, ◌==◌, nat_le, nat_lt, List, [], ◌∷◌, length, drop, refl, inl, inr, subst, ap, ◌∙◌, arith}
-use Rattle.cdf_examples.proofs.Common.{slice_index, eqb-true, leb-true, get_or-drop, byte}
-use Rattle.std.proofs.lemmas.Bool.{cases_lt}
+use Rattle.cdf_examples.proofs.Common.{Bool, List, [], ap, arith, byte, cases_lt, drop, eqb-true, false, get_or-drop, inl, inr, leb-true, length, refl, slice_index, subst, suc, true, zero, ℕ, ◌+◌, ◌-◌, ◌<◌, ◌==◌, ◌||◌, ◌∙◌, ◌∷◌, ◌≡◌, ◌≤◌, ◌⊎◌}
+use Rattle.std.proofs.Common.{◌&&◌, nat_le, nat_lt}
 use Rattle.cdf_edits.specs.Frame.Changed.{Touch, Outside, Changed}
 
 -- it holds of each number below n

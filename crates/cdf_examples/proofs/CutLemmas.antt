@@ -1,8 +1,5 @@
 -- What a cut takes, and where a record is taken after records were freed.
-use Rattle.std.proofs.Common.{◌≡◌, ◌≢◌, ℕ, Bool, true, false, not, ◌||◌, ◌==◌, List, [], ◌∷◌, ◌++◌, refl, sym, subst, ap, ◌∙◌, inl, inr, eq-eqb}
-use Rattle.cdf_examples.proofs.Common.{nat_le, if◌then◌else◌, list_any, filter, Variable, IsNeeded, Act, Took, Gave, Among, taken, SpaceLeft, AreActs, after_act, fits, place_for, Nodes, Each}
-use Rattle.cdf_edits.specs.Index.Cut.{sized_nodes, sized_blocks}
-use Rattle.cdf_edits.specs.Index.Written.{AnyOf}
+use Rattle.cdf_examples.proofs.Common.{Act, Among, AnyOf, AreActs, Bool, Each, Gave, IsNeeded, List, Nodes, SpaceLeft, Took, Variable, [], after_act, ap, eq-eqb, false, filter, fits, if◌then◌else◌, inl, inr, list_any, nat_le, not, place_for, refl, sized_blocks, sized_nodes, subst, sym, taken, true, ℕ, ◌++◌, ◌==◌, ◌||◌, ◌∙◌, ◌∷◌, ◌≡◌, ◌≢◌}
 use Rattle.cdf_examples.proofs.Refusing.{has, not_among}
 
 clash : (p : Bool) → p ≡ true → p ≡ false → ⊥

@@ -1,20 +1,8 @@
 -- What acts leave and what records keep, computed as truth values over the bytes of two images.
-use Rattle.std.proofs.Common.{◌≡◌, ◌⊎◌, ◌<◌, ◌≤◌, ℕ, zero, suc, ◌+◌, ◌-◌, ◌*◌, ◌^◌, Bool, true, false, not, ◌&&◌, ◌||◌, ◌==◌, List, [], ◌∷◌, length, map, drop, min, refl, inl, inr, subst, sym, eq-eqb, ap, ap₂, ◌∙◌, arith}
-use Rattle.cdf_examples.proofs.Common.{eqb-true, leb-true, get_or-drop, nat_le, nat_lt, slice_index, Some, None, Option, filter, fold, slice_get, FreedStay, shapes_of, Anything, Only, Keeps, AllKeep, allowances, Act, Took, Gave, SpaceLeft, Among, AreActs, ActsFollow, after_act, used_records, loose_records, space_before, place_for, unused, Command, Found, variable_named, UnusedEntries, NodeSpareStays, is_taken_at, byte, content_of, Nodes, used_count, room_at, first_at, last_at, offset_at, is_in, word, number, size_at, type_at, owned, Field, uir_prev_uir, vxr_type, uir_type, AttributeShape, VariableShape, Shape, Each, shape}
-use Rattle.std.proofs.lemmas.Bool.{lt-ltb}
-use Rattle.cdf_edits.specs.Commands.Allowances.{FreedStays, GivenStay, Allowance, OutsideFields, Allowances, allowance}
-use Rattle.cdf_edits.specs.Space.Acts.{RestStays, sized, back_of, links_end}
-use Rattle.cdf_model.specs.DataSet.{Attribute}
-use Rattle.cdf_model.specs.Names.{attribute_named}
+use Rattle.cdf_examples.proofs.Common.{Act, ActsFollow, AllKeep, Allowance, Allowances, Among, Anything, AreActs, Attribute, AttributeShape, Bool, Command, DeletesNamed, DeletesVariable, Each, EntryIs, Field, Found, FreedStay, FreedStays, Gave, GivenStay, Keeps, List, NodeSpareStays, Nodes, NodesFollow, NodesFreedStay, None, Only, Option, OutsideFields, Owner, RestStays, Same, Shape, Some, SpaceLeft, Took, UnusedEntries, VariableShape, [], after_act, allowance, allowances, ap, ap₂, arith, attribute_named, back_of, byte, content, content_of, drop, eq-eqb, eqb-true, false, field, filter, first_at, fold, get_or-drop, inl, inr, is_in, is_taken_at, last_at, leb-true, length, links_end, loose_records, lt-ltb, min, nat_le, nat_lt, not, number, offset_at, owned, place_for, refl, room_at, shape, shapes_of, size_at, sized, slice_get, slice_index, space_before, subst, suc, sym, true, type_at, uir_prev_uir, uir_type, unused, unused_records, used_count, used_records, variable_named, vxr_type, was_unused, word, zero, ℕ, ◌*◌, ◌+◌, ◌-◌, ◌<◌, ◌==◌, ◌^◌, ◌||◌, ◌∙◌, ◌∷◌, ◌≡◌, ◌≤◌, ◌⊎◌}
+use Rattle.std.proofs.Common.{◌&&◌, map}
 use Rattle.cdf_edits.specs.Commands.Named.{OfAttribute, OfVariable}
-use Rattle.cdf_edits.specs.Commands.Variables.{DeletesVariable, DeletesNamed}
-use Rattle.cdf_edits.specs.Index.Cut.{NodesFreedStay}
-use Rattle.cdf_edits.specs.Index.Written.{EntryIs, NodesFollow, was_unused}
-use Rattle.cdf_format.specs.Bytes.{Same}
-use Rattle.cdf_format.specs.Content.{content}
 use Rattle.cdf_format.specs.IndexOf.{SaysEntry}
-use Rattle.cdf_format.specs.Owners.{Owner, unused_records}
-use Rattle.cdf_format.specs.Records.{field}
 use Rattle.cdf_format.proofs.Members.{true-is_in}
 use Rattle.cdf_examples.proofs.BytesKept.{all_below, below, agree_in, agreed}
 use Rattle.cdf_examples.proofs.Refusing.{has}

@@ -1,9 +1,5 @@
 -- The digests of files with a checksum, computed, and what follows for the files.
-use Rattle.std.proofs.Common.{◌≡◌, ℕ, true, List, ◌++◌, length, refl, sym, ◌∙◌, ap, subst}
-use Rattle.cdf_examples.proofs.Common.{sealed, checksum_digest, Change, Verdict, EachBreaks, usual_digest}
-use Rattle.md5.specs.Md5.{md5, digest_bytes, hash_after, compress, rounds, block_words}
-use Rattle.cdf_examples.specs.ChecksumFile.{checksum_image}
-use Rattle.cdf_examples.specs.Usual.{usual_image}
+use Rattle.cdf_examples.proofs.Common.{Change, EachBreaks, List, Verdict, ap, block_words, checksum_digest, checksum_image, compress, digest_bytes, hash_after, length, md5, refl, rounds, sealed, subst, sym, true, usual_digest, usual_image, ℕ, ◌++◌, ◌∙◌, ◌≡◌}
 use Rattle.cdf_examples.proofs.Tests.{each_breaks, EachBreaks-by}
 
 pub checksum_digest_is : md5 checksum_image ≡ checksum_digest

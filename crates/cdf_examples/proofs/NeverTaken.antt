@@ -1,10 +1,5 @@
 -- A record that acts do not free is not taken by them either: whatever they take stands behind the end, or in records that were unused or that they freed.
-use Rattle.std.proofs.Common.{◌≡◌, ◌⊎◌, ◌<◌, ◌≤◌, ℕ, ◌+◌, ◌-◌, Bool, true, false, not, ◌==◌, List, [], ◌∷◌, refl, sym, subst, ap, inl, inr, arith}
-use Rattle.cdf_examples.proofs.Common.{eqb-true, leb-true, nat_le, if◌then◌else◌, Act, Took, Gave, Among, taken, SpaceLeft, AreActs, after_act, fits, place_for, Each}
-use Rattle.std.proofs.lemmas.Bool.{or_cases, or_parts}
-use Rattle.cdf_edits.specs.Index.Written.{is_given_at}
-use Rattle.cdf_edits.specs.Space.Acts.{Happens}
-use Rattle.cdf_edits.specs.Space.Placement.{taken_from}
+use Rattle.cdf_examples.proofs.Common.{Act, Among, AreActs, Bool, Each, Gave, Happens, List, SpaceLeft, Took, [], after_act, ap, arith, eqb-true, false, fits, if◌then◌else◌, inl, inr, is_given_at, leb-true, nat_le, not, or_cases, or_parts, place_for, refl, subst, sym, taken, taken_from, true, ℕ, ◌+◌, ◌-◌, ◌<◌, ◌==◌, ◌∷◌, ◌≡◌, ◌≤◌, ◌⊎◌}
 use Rattle.cdf_examples.proofs.CutLemmas.{each_among, each_filter}
 use Rattle.cdf_examples.proofs.Refusing.{unequal}
 

@@ -1,5 +1,5 @@
 -- Bytes other than 0 are as many when they are packed.
-use Rattle.std.proofs.Common.{◌≡◌, ℕ, zero, suc, List, [], ◌∷◌, length, replicate, refl, ap, subst, sym}
+use Rattle.cdf_examples.proofs.Common.{List, [], ap, length, refl, replicate, subst, suc, sym, zero, ℕ, ◌∷◌, ◌≡◌}
 use Rattle.cdf_model.specs.RunLengths.{Packs}
 
 abbrev pub tail_of : List ℕ → List ℕ

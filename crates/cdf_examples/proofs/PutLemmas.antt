@@ -1,9 +1,5 @@
 -- What the acts of a put are that cuts nothing first, one after the other.
-use Rattle.std.proofs.Common.{◌≡◌, ℕ, false, List, [], ◌∷◌, ◌++◌, sym, subst, ap, ◌∙◌}
-use Rattle.cdf_examples.proofs.Common.{filter, Variable, Act, Took, Gave, Nodes, VariableShape}
-use Rattle.cdf_edits.specs.Commands.Puts.{TakesFirst, FreesFirst, PutsIndex, PutsLeaves, CutsFirst, is_written}
-use Rattle.cdf_edits.specs.Index.Blocks.{cuts_before_put}
-use Rattle.cdf_format.specs.Index.{leaves_of}
+use Rattle.cdf_examples.proofs.Common.{Act, CutsFirst, FreesFirst, Gave, List, Nodes, PutsIndex, PutsLeaves, TakesFirst, Took, Variable, VariableShape, [], ap, cuts_before_put, false, filter, is_written, leaves_of, subst, sym, ℕ, ◌++◌, ◌∙◌, ◌∷◌, ◌≡◌}
 
 -- the first act is this one, and then the others follow
 pub record FirstTake (need : ℕ) (Then : ℕ → List Act → Type 0) (acts : List Act) : Type 0 where

@@ -1,9 +1,7 @@
 -- What acts leave, whichever they are: records in use were in use or are taken, and unlisted ones were unlisted or have fewer than 28 bytes.
-use Rattle.std.proofs.Common.{◌≡◌, ◌⊎◌, ℕ, suc, Bool, true, false, not, ◌&&◌, ◌||◌, ◌==◌, List, [], ◌∷◌, refl, inl, inr, subst, sym, ap, eq-eqb}
-use Rattle.cdf_examples.proofs.Common.{nat_le, if◌then◌else◌, Some, None, Option, fold, filter, list_any, Command, Act, Took, Gave, taken, SpaceLeft, Among, after_act, used_records, loose_records, space_before, ActsFollow, size_at, Nodes, no_node, node, Entries, no_entry, block, lower, Each, Refused}
+use Rattle.cdf_examples.proofs.Common.{Act, ActsFollow, Among, Bool, Command, Each, Entries, Gave, In, List, Nodes, None, Option, Refused, Some, SpaceLeft, Took, [], after_act, ap, block, entry_count, eq-eqb, false, filter, fold, if◌then◌else◌, inl, inr, list_any, loose_records, lower, nat_le, no_entry, no_node, node, not, refl, size_at, space_before, subst, suc, sym, taken, true, used_records, ℕ, ◌==◌, ◌||◌, ◌∷◌, ◌≡◌, ◌⊎◌}
+use Rattle.std.proofs.Common.{◌&&◌}
 use Rattle.cdf_edits.specs.Follows.{Follows}
-use Rattle.cdf_format.specs.Index.{entry_count}
-use Rattle.cdf_format.specs.Tiles.{In}
 
 -- no acts lead to an image that is refused, so the command does not
 pub never_follows : (b : List ℕ) (c : Command) (now : List ℕ) → Refused b c now → Follows b c now → ⊥

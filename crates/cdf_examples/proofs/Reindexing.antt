@@ -1,13 +1,9 @@
 -- What `reindex` makes of the first z variable, and that no acts of it lead to an image, by truth values of its index: the content, the old index and the new one are computed no further than these ask.
-use Rattle.std.proofs.Common.{◌≡◌, ◌++◌, ℕ, Bool, true, false, not, ◌&&◌, ◌==◌, List, [], ◌∷◌, length, map, refl, sym, subst, ap, ◌∙◌, eq-eqb}
-use Rattle.cdf_examples.proofs.Common.{eqb-true, Some, None, Option, slice_get, Variable, Found, variable_named, shapes_of, Does, MakesIndex, FullFromLeft, levels_up, vxr_bytes, Act, Took, AreActs, ActsFollow, space_before, unused, place_for, Nodes, VariableShape, shape}
+use Rattle.cdf_examples.proofs.Common.{Act, ActsFollow, AreActs, Bool, Does, Found, FullFromLeft, List, MakesIndex, Nodes, None, Option, Some, Took, Variable, VariableShape, [], ap, content, eq-eqb, eqb-true, false, gave, length, levels_up, nodes_at, nodes_of, not, place_for, refl, shape, shapes_of, slice_get, space_before, subst, sym, true, unused, variable_named, vxr_bytes, ℕ, ◌++◌, ◌==◌, ◌∙◌, ◌∷◌, ◌≡◌}
+use Rattle.std.proofs.Common.{◌&&◌, map}
 use Rattle.cdf_model.specs.declared.command.Command.TheVariants as commands
 use Rattle.cdf_model.specs.declared.kinds.Kind.{Kind}
 use Rattle.cdf_model.specs.declared.kinds.Kind.TheVariants.{R, Z}
-use Rattle.cdf_edits.specs.Commands.Reindex.{nodes_at}
-use Rattle.cdf_edits.specs.Space.Acts.{gave}
-use Rattle.cdf_format.specs.Content.{content}
-use Rattle.cdf_format.specs.Index.{nodes_of}
 use Rattle.cdf_examples.proofs.Deciding.{or_else}
 
 -- ---- what a command makes of the first z variable

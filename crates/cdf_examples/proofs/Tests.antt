@@ -1,19 +1,11 @@
 -- Rules that are computed: as truth values, and what follows of them.
-use Rattle.std.proofs.Common.{◌≡◌, ◌⊎◌, ℕ, zero, suc, Bool, true, false, not, ◌&&◌, ◌||◌, ◌==◌, List, [], ◌∷◌, map, refl, inl, inr, bytes_eq, subst, sym}
-use Rattle.cdf_examples.proofs.Common.{eqb-true, Row, IsBroken, shape, lasting_phases, KeepsRules, BreaksFirst, Change, Verdict, changed, EachBreaks}
-use Rattle.cdf_format.proofs.Tests.{same_of_bytes_eq}
+use Rattle.cdf_examples.proofs.Common.{AllHold, Bool, BreaksFirst, Change, EachBreaks, FirstBroken, Hold, IsBroken, KeepsRules, List, Row, Verdict, [], adrs, bytes_eq, changed, eqb-true, false, image_of, inl, inr, lasting, lasting_phases, not, owned_records, phase10, phase8, phase9, refl, same_of_bytes_eq, shape, subst, suc, sym, true, variables, vdrs, zero, ℕ, ◌==◌, ◌||◌, ◌∷◌, ◌≡◌, ◌⊎◌}
+use Rattle.std.proofs.Common.{◌&&◌, map}
 use Rattle.cdf_format.specs.AttributeRules.{phase6}
 use Rattle.cdf_format.specs.ChainRules.{phase5}
 use Rattle.cdf_format.specs.FileRules.{phase0, phase1, phase2, phase3}
-use Rattle.cdf_format.specs.IndexRules.{phase8}
-use Rattle.cdf_format.specs.Owners.{owned_records}
-use Rattle.cdf_format.specs.Phases.{phase9, phase10}
 use Rattle.cdf_format.specs.RecordRules.{phase4}
-use Rattle.cdf_format.specs.Rules.{Hold, AllHold, FirstBroken}
-use Rattle.cdf_format.specs.Sealed.{image_of}
-use Rattle.cdf_format.specs.Shape.{adrs, vdrs, variables}
 use Rattle.cdf_format.specs.VariableRules.{phase7}
-use Rattle.cdf_examples.specs.Asked.{lasting}
 
 abbrev pub hold : List Row → Bool
 hold [] = true

@@ -1,11 +1,7 @@
 -- What is computed of the files of 65 leaves, once for all that speak of them.
-use Rattle.std.proofs.Common.{◌≡◌, true, List, [], ◌∷◌, ◌++◌, ℕ, length, map, codes, refl, sym, ap, subst}
-use Rattle.cdf_examples.proofs.Common.{unused, variable_named, content_of, Nodes, Shape, shape, w_shape, wide_node_index}
-use Rattle.std.specs.List.{range_with_len}
-use Rattle.cdf_format.specs.Chains.{chain_on}
-use Rattle.cdf_format.specs.Content.{content}
+use Rattle.cdf_examples.proofs.Common.{List, Nodes, Shape, [], ap, chain_on, codes, content, content_of, length, range_with_len, refl, shape, subst, sym, true, unused, variable_named, w_block_at, w_shape, wide_node_file, wide_node_index, ℕ, ◌++◌, ◌∷◌, ◌≡◌}
+use Rattle.std.proofs.Common.{map}
 use Rattle.cdf_examples.specs.OneVariable.{variable_shape}
-use Rattle.cdf_examples.specs.WideIndexes.{w_block_at, wide_node_file}
 use Rattle.cdf_examples.proofs.Reindexing.{names_first_z}
 use Rattle.cdf_examples.proofs.Walking.{shape_by}
 

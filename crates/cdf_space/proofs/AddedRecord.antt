@@ -1,17 +1,9 @@
 -- A record that is taken and written becomes the last one of a chain, and is counted there; or it takes the place of another one.
-use Rattle.std.proofs.Common.{◌≡◌, ℕ, ◌+◌, ◌^◌, ◌<◌, ◌≤◌, List, [], ◌∷◌, ◌++◌, length, true, refl, sym, ap, subst, ◌∙◌, arith, inl}
-use Rattle.std.proofs.Common.{false}
-use Rattle.cdf_space.proofs.Common.{◌==◌, IsChain, LiesIn, number, with_field, size_at, type_at, cdr_gdr_offset, cdr_type, uir_type, fixed_size, Shape, HasShape, shape, IsSound, In, tiles, is_a-in, is_a-type, linkable-type, linkable-in, shape_is, tiles_are, tile_lies, field_reads, length-with_field, other_bytes, Chain, Attrs, RVars, ZVars, GrEntries, ZEntries, Edit, avoided, touched_field, Changed, holder_of, head_of, count_of, counted_in, holder_type, type_in, members_of, HolderStands, HasChain, MayJoin, Appended, Replaced, with_space, Placed, Fills, type_of_body, field_clear, IsOf, apart, holder_stands, head_fits, long_of, cdr_room}
-use Rattle.cdf_format.specs.Chains.{is_a}
-use Rattle.cdf_format.proofs.ChainsLemmas.{is_a-from}
-use Rattle.cdf_edits.specs.Edits.Marks.{Mark, whole, field_marks, taking_marks, append_marks, replacing_marks}
+use Rattle.cdf_space.proofs.Common.{Appended, Attrs, Chain, Changed, Edit, Fills, GrEntries, HasChain, HasShape, HolderStands, In, IsChain, IsOf, IsSound, LiesIn, List, Mark, MayJoin, Placed, RVars, Replaced, Shape, ZEntries, ZVars, [], ap, apart, append_changed, append_edit, append_marks, arith, avoided, cdr_gdr_offset, cdr_room, cdr_type, chain_clear, count_of, counted_in, false, field_clear, field_marks, field_reads, fixed_size, has_chain, head_fits, head_of, holder_of, holder_stands, holder_type, inl, is_a, is_a-from, is_a-in, is_a-type, joined_chain, length, length-with_field, linkable-in, linkable-type, long_of, may_join, members_are, members_of, number, other_bytes, part_clear, refl, replaced_chain, replacing_marks, shape, shape_is, size_at, subst, sym, taking_marks, tile_lies, tiles, tiles_are, touched_field, true, type_at, type_in, type_of_body, uir_type, whole, with_field, with_space, ℕ, ◌++◌, ◌+◌, ◌<◌, ◌==◌, ◌^◌, ◌∙◌, ◌∷◌, ◌≡◌, ◌≤◌}
 use Rattle.cdf_edits.specs.Space.Adding.{Added, Exchanged}
 use Rattle.cdf_edits.proofs.Edits.Composing.{edit_then, edit_wider, changed_edit, head_size, head_type}
-use Rattle.cdf_edits.proofs.Edits.RecordFrame.{part_clear, chain_clear}
 use Rattle.cdf_edits.proofs.Edits.ChainEdits.{replaced_edit}
-use Rattle.cdf_edits.proofs.Edits.ChainsOfShape.{members_are, has_chain, may_join, append_changed, joined_chain, replaced_chain}
 use Rattle.cdf_edits.proofs.Edits.MadeRecord.{place_in, filled_sound, filled_size, filled_edit, fresh}
-use Rattle.cdf_edits.proofs.Edits.StepEdits.{append_edit}
 use Rattle.cdf_space.proofs.Linking.{holder_same}
 
 -- where the count stands in its record

@@ -1,7 +1,5 @@
 -- A chain that is read from its head on, record by record.
-use Rattle.std.proofs.Common.{◌≡◌, ℕ, ◌+◌, ◌<◌, ◌≤◌, List, [], ◌∷◌, ◌++◌, length, Option, Some, None, refl, sym, ap, subst, ◌∙◌, append_assoc, append-nil, arith}
-use Rattle.cdf_space.proofs.Common.{last_or, word, size_at, Leads, fixed_size, shape, IsSound, In, tiles, In-append_left, Chain, Attrs, RVars, ZVars, GrEntries, ZEntries, holder_of, head_of, count_of, holder_type, HolderStands, HasChain, members_of, head_width, long_of, holder_stands, link_place}
-use Rattle.cdf_edits.proofs.Space.ChainHeads.{end_of}
+use Rattle.cdf_space.proofs.Common.{Attrs, Chain, GrEntries, HasChain, HolderStands, In, In-append_left, IsSound, Leads, List, None, Option, RVars, Some, ZEntries, ZVars, [], ap, append-nil, append_assoc, arith, count_of, end_of, fixed_size, head_of, head_width, holder_of, holder_stands, holder_type, last_or, length, link_place, long_of, members_of, refl, shape, size_at, subst, sym, tiles, word, ℕ, ◌++◌, ◌+◌, ◌<◌, ◌∙◌, ◌∷◌, ◌≡◌, ◌≤◌}
 use Rattle.cdf_space.proofs.Linking.{link_inside}
 
 -- so many records were read, and the link at a place leads to the others

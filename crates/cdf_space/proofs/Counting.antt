@@ -1,10 +1,6 @@
 -- Walks along the records of an image and along its unused list, by what is left of them.
-use Rattle.std.proofs.Common.{◌≡◌, ◌≢◌, ◌<◌, ◌≤◌, ℕ, ◌+◌, ◌-◌, List, [], ◌∷◌, length, Bool, false, eqb, eq-eqb, refl, sym, subst, ◌∙◌, arith, inl, inr}
-use Rattle.cdf_space.proofs.Common.{eqb-true, number, size_at, type_at, gdr_uir_head, uir_type, next_of, Leads, Shape, HasShape, IsSound, In, AreTiles, linkable-in, linkable-long, some_place, either, tile_lies, length_tiles, Tallies}
-use Rattle.std.specs.List.{filter}
-use Rattle.cdf_format.specs.Owners.{bytes_in, space_of, unused_records}
+use Rattle.cdf_space.proofs.Common.{AreTiles, Bool, HasShape, In, IsSound, Leads, List, Shape, Tallies, [], arith, bytes_in, either, eq-eqb, eqb, eqb-true, false, filter, gdr_uir_head, inl, inr, length, length_tiles, linkable-in, linkable-long, next_of, number, refl, size_at, some_place, space_of, subst, sym, tile_lies, tiles_end, type_at, uir_type, unused_records, ℕ, ◌+◌, ◌-◌, ◌<◌, ◌∙◌, ◌∷◌, ◌≡◌, ◌≢◌, ◌≤◌}
 use Rattle.cdf_format.proofs.SpaceLemmas.{space_adds_up_lem, unused_bytes, unused_count}
-use Rattle.cdf_format.proofs.TilesLemmas.{tiles_end}
 use Rattle.cdf_space.specs.declared.measuring.Tally.{Tally}
 
 abbrev is_unused : List ℕ → ℕ → Bool

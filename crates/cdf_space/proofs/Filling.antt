@@ -1,10 +1,7 @@
 -- A record that was taken is written.
-use Rattle.std.proofs.Common.{◌≡◌, ℕ, zero, suc, ◌+◌, ◌-◌, ◌*◌, ◌^◌, ◌≤◌, List, [], ◌∷◌, length, true, refl, sym, ap, ap₂, subst, ◌∙◌, arith}
-use Rattle.cdf_space.proofs.Common.{put, IsSound, touch, Changed, content, word, size_at, type_at, with_space, Takes, uir_type, fixed_size, Shape, shape, byte-put_inside, length-put, is_a-in, changed_put, shape_is, tile_lies, type_of_body, Fills, Placed}
-use Rattle.cdf_format.specs.RecordTypes.{is_record_type}
+use Rattle.cdf_space.proofs.Common.{Changed, Fills, IsBody, IsSound, List, Placed, Shape, Takes, [], ap, ap₂, arith, byte-put_inside, changed_put, content, fixed_size, is_a-in, is_record_type, length, length-put, put, refl, shape, shape_is, size_at, subst, suc, sym, tile_lies, touch, true, type_at, type_of_body, uir_type, with_space, word, zero, ℕ, ◌*◌, ◌+◌, ◌-◌, ◌^◌, ◌∙◌, ◌∷◌, ◌≡◌, ◌≤◌}
 use Rattle.cdf_edits.proofs.Space.RecordFilled.{filled_stays_sound}
 use Rattle.cdf_edits.proofs.Space.TakenLeaves.{takes_longest}
-use Rattle.cdf_edits.specs.Space.Placing.{IsBody}
 
 -- a number within bytes that were written
 pub word-put_inside : (b xs : List ℕ) (place i n : ℕ) → place ≤ length b → i + n ≤ length xs → word (put b place xs) (place + i) n ≡ word xs i n

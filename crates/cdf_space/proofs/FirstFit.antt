@@ -1,7 +1,5 @@
 -- A walk along the unused list, up to the first record that fits.
-use Rattle.std.proofs.Common.{◌≡◌, ◌≢◌, ℕ, ◌+◌, ◌≤◌, List, [], ◌∷◌, ◌++◌, length, true, false, refl, sym, ap, subst, ◌∙◌, append_assoc, append-nil, arith, inl}
-use Rattle.cdf_space.proofs.Common.{length-append, number, size_at, gdr_uir_head, uir_type, next_of, Leads, end_place, fits, Shape, HasShape, NoneFit, last_of, In, IsSound, In-append_right, tile_lies, length_tiles, linkable-in, linkable-long, some_place, IsFirstFit}
-use Rattle.cdf_format.proofs.Members.{length-le_from_distinct}
+use Rattle.cdf_space.proofs.Common.{HasShape, In, In-append_right, IsFirstFit, IsSound, Leads, List, NoneFit, Shape, [], ap, append-nil, append_assoc, arith, end_place, false, fits, gdr_uir_head, inl, last_of, length, length-append, length-le_from_distinct, length_tiles, linkable-in, linkable-long, next_of, number, refl, size_at, some_place, subst, sym, tile_lies, true, uir_type, ℕ, ◌++◌, ◌+◌, ◌∙◌, ◌∷◌, ◌≡◌, ◌≢◌, ◌≤◌}
 use Rattle.cdf_edits.proofs.Space.UnusedLists.{last_push}
 
 -- the records of a front part do not fit, and the list goes on behind them

@@ -1,8 +1,5 @@
 -- A record of no owner is freed by writes of fields.
-use Rattle.std.proofs.Common.{◌≡◌, ◌≢◌, ◌⊎◌, ℕ, ◌+◌, ◌<◌, ◌≤◌, List, [], ◌∷◌, length, ◌^◌, refl, sym, ap, subst, ◌∙◌, arith, inl, inr}
-use Rattle.cdf_space.proofs.Common.{LiesIn, word, number, with_field, size_at, record_type, gdr_uir_head, uir_next_uir, uir_prev_uir, gdr_type, uir_type, fixed_size, Touch, touch, touched_field, Outside, In, Leads, first_back_link, Shape, HasShape, shape, prev_of, FirstBack, IsGiven, IsSound, tile_lies, tiles_lie_apart, is_a-in, is_a-type, linkable-in, linkable-long, some_place, shape_is, changed_then, back_link, Relinked, Fit}
-use Rattle.std.proofs.lemmas.Bool.{cases_eq}
-use Rattle.cdf_format.specs.Owners.{times, owned_records}
+use Rattle.cdf_space.proofs.Common.{FirstBack, Fit, HasShape, In, IsGiven, IsSound, Leads, LiesIn, List, Outside, Relinked, Shape, Touch, [], ap, arith, back_link, cases_eq, changed_then, first_back_link, fixed_size, gdr_type, gdr_uir_head, inl, inr, is_a-in, is_a-type, length, linkable-in, linkable-long, number, owned_records, prev_of, record_type, refl, shape, shape_is, size_at, some_place, subst, sym, tile_lies, tiles_lie_apart, times, touch, touched_field, uir_next_uir, uir_prev_uir, uir_type, with_field, word, ℕ, ◌+◌, ◌<◌, ◌^◌, ◌∙◌, ◌∷◌, ◌≡◌, ◌≢◌, ◌≤◌, ◌⊎◌}
 use Rattle.cdf_edits.proofs.Space.RecordFreed.{not_gdr, not_listed, gdr_unlisted, unlisted_given, first_given}
 use Rattle.cdf_space.proofs.Writing.{Clear, word_clear, changed_weaker, changed_field, field_is, length_is, back_link_none, back_link_some}
 

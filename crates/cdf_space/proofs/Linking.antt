@@ -1,22 +1,9 @@
 -- A link of a chain that is written anew: a record joins behind the last one, a member goes, or another record takes its place.
-use Rattle.std.proofs.Common.{◌≡◌, ◌≢◌, ◌⊎◌, ℕ, ◌+◌, ◌^◌, ◌<◌, ◌≤◌, List, [], ◌∷◌, ◌++◌, length, Option, Some, None, true, false, refl, sym, ap, ap₂, subst, ◌∙◌, append-nil, arith, inl, inr}
-use Rattle.cdf_space.proofs.Common.{eqb-true, last_or, ◌==◌, LiesIn, word, number, with_field, size_at, type_at, gdr_offset, Field, field, uir_next_uir, cdr_type, is_in, is_linkable, next_of, Leads, IsChain, shape, IsSound, In, Distinct, AreTiles, tiles, either, In-append_left, In-append_right, tile_lies, tiles_lie_apart, is_a-in, is_a-type, linkable-in, linkable-type, linkable-long, Touch, touch, touched_field, Changed, end_place, holder_of, head_of, holder_type, type_in, HolderStands, HasChain, members_of, MayJoin, before, Appended, Removed, Replaced, Chain, Attrs, RVars, ZVars, GrEntries, ZEntries, changed_then, distinct_apart, leads_rest, apart, field_reads, length-with_field, link_place, head_width, long_of, holder_stands, head_fits, head_lies}
-use Rattle.cdf_format.specs.Bytes.{Same}
-use Rattle.cdf_format.specs.Chains.{next_field, linked_types}
+use Rattle.cdf_space.proofs.Common.{AllSpare, Appended, AreTiles, Attrs, Chain, ChainHead, Changed, Distinct, Field, GrEntries, HasChain, HolderStands, In, In-append, In-append_left, In-append_right, IsChain, IsHead, IsSound, Leads, LiesIn, List, MayJoin, Misses, None, Option, RVars, Removed, Replaced, Same, Some, Touch, ZEntries, ZVars, [], ap, apart, append-nil, ap₂, arith, before, cdr_stands, cdr_type, chain_complete, chain_head, changed_part, changed_then, distinct_apart, distinct_with, distinct_without, either, end_place, eqb-true, false, false-is_in, field, field_reads, gdr_offset, head_fits, head_lies, head_of, head_width, holder_of, holder_stands, holder_type, inl, inr, is_a-in, is_a-type, is_in, is_linkable, last_or, leads_rest, length, length-with_field, link_behind, link_place, linkable-from, linkable-in, linkable-long, linkable-type, linked_types, long_of, member_lies, members_of, next_field, next_of, number, other_words, refl, shape, size_at, subst, sym, tile_lies, tiled, tiles, tiles_lie_apart, tiling_complete, touch, touched_field, true, true-is_in, type_at, type_in, uir_next_uir, with_field, with_in_place, with_members, without, word, word_kept, ℕ, ◌++◌, ◌+◌, ◌<◌, ◌==◌, ◌^◌, ◌∙◌, ◌∷◌, ◌≡◌, ◌≢◌, ◌≤◌, ◌⊎◌}
 use Rattle.cdf_format.specs.Walks.{records_of}
-use Rattle.cdf_format.proofs.Members.{In-append, true-is_in, false-is_in}
-use Rattle.cdf_format.proofs.TilesLemmas.{tiling_complete}
-use Rattle.cdf_format.proofs.ChainsLemmas.{linkable-from, chain_complete}
-use Rattle.cdf_format.proofs.BytesLemmas.{word_kept}
-use Rattle.cdf_edits.specs.Frame.Changed.{Placed, Misses}
-use Rattle.cdf_edits.specs.Frame.Links.{ChainHead, chain_head, with_members, IsHead, AllSpare}
-use Rattle.cdf_edits.specs.Space.Chains.{link_behind, without, with_in_place}
-use Rattle.cdf_edits.proofs.Frame.ChangedBytes.{changed_part}
+use Rattle.cdf_edits.specs.Frame.Changed.{Placed}
 use Rattle.cdf_edits.proofs.Frame.LinksStay.{tiles_same, leads_same}
 use Rattle.cdf_edits.proofs.Frame.LinkWritten.{one_chain}
-use Rattle.cdf_edits.proofs.Space.TakenFromList.{distinct_with, distinct_without}
-use Rattle.cdf_fields.proofs.Writes.{other_words}
-use Rattle.cdf_edits.proofs.Space.ChainHeads.{tiled, cdr_stands, member_lies}
 use Rattle.cdf_space.proofs.Writing.{changed_field}
 
 -- ---- the link behind a front part of a chain

@@ -1,12 +1,6 @@
 -- A member that is taken out of a chain, and counted there no more.
-use Rattle.std.proofs.Common.{◌≡◌, ℕ, zero, suc, ◌+◌, ◌-◌, ◌<◌, ◌≤◌, List, [], ◌∷◌, length, take, true, None, get_or, eq-eqb, refl, sym, ap, subst, ◌∙◌, arith, inl, inr}
-use Rattle.cdf_space.proofs.Common.{eqb-true, last_or, ◌==◌, is_in, IsChain, number, with_field, size_at, type_at, cdr_gdr_offset, cdr_type, fixed_size, shape, IsSound, In, Distinct, tiles, is_a-in, is_a-type, either, tiles_are, tile_lies, length-with_field, Chain, Attrs, RVars, ZVars, GrEntries, ZEntries, Edit, avoided, holder_of, head_of, count_of, counted_in, holder_type, type_in, members_of, before, Removed, IsOf, field_clear, holder_stands, head_fits, head_width, long_of, cdr_room}
-use Rattle.cdf_format.proofs.Members.{is_in-true}
-use Rattle.cdf_edits.specs.Edits.Marks.{removing_marks}
+use Rattle.cdf_space.proofs.Common.{Attrs, Chain, Distinct, Edit, GrEntries, In, IsChain, IsOf, IsSound, List, None, RVars, Removed, ZEntries, ZVars, [], ap, arith, avoided, before, cdr_gdr_offset, cdr_room, cdr_type, count_of, counted_in, either, eq-eqb, eqb-true, field_clear, fixed_long, fixed_size, get_or, got_in, head_fits, head_of, head_width, holder_of, holder_stands, holder_type, inl, inr, is_a-in, is_a-type, is_in, is_in-true, last_or, length, length-with_field, long_of, members_of, number, refl, remove_changed, remove_edit, removing_marks, shape, size_at, subst, suc, sym, take, tile_lies, tiles, tiles_are, true, type_at, type_in, with_field, zero, ℕ, ◌+◌, ◌-◌, ◌<◌, ◌==◌, ◌∙◌, ◌∷◌, ◌≡◌, ◌≤◌}
 use Rattle.cdf_edits.specs.Space.TakingOut.{Lists, TakenOut}
-use Rattle.cdf_edits.proofs.Commands.ListParts.{got_in}
-use Rattle.cdf_edits.proofs.Edits.ChainsOfShape.{remove_changed}
-use Rattle.cdf_edits.proofs.Edits.StepEdits.{fixed_long, remove_edit}
 use Rattle.cdf_space.proofs.AddedRecord.{count_fits}
 use Rattle.cdf_space.proofs.Linking.{holder_same}
 

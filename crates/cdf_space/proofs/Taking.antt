@@ -1,11 +1,6 @@
 -- A record of the unused list is taken by writes of fields.
-use Rattle.std.proofs.Common.{◌≡◌, ◌≢◌, ◌⊎◌, ℕ, ◌+◌, ◌-◌, ◌<◌, ◌≤◌, List, [], ◌∷◌, ◌++◌, length, Bool, Option, None, Result, Ok, Err, ◌||◌, ◌^◌, true, false, eqb, leb, refl, sym, ap, subst, ◌∙◌, arith, inl, inr}
-use Rattle.cdf_space.proofs.Common.{eqb-true, LiesIn, word, number, with_field, size_at, type_at, eof, gdr_offset, Field, record_size, gdr_uir_head, gdr_type, uir_type, fixed_size, byte, Touch, touch, touched_field, Outside, In, Distinct, is_linkable, next_of, Leads, end_place, first_back_link, Shape, HasShape, shape, NoneFit, EndBytes, last_of, prev_of, FirstBack, IsTaken, IsSound, In-append_left, In-append_right, tile_lies, tiles_lie_apart, is_a-in, is_a-type, linkable-in, linkable-type, linkable-long, some_place, shape_is, changed_then, apart, leads_rest, distinct_apart, IsFirstFit, back_link, Relinked, Listed, Cleared, Fit}
-use Rattle.std.proofs.lemmas.Bool.{leb-true}
-use Rattle.std.specs.Prelude.{IfOk, OnOk, MatchOption}
-use Rattle.cdf_edits.specs.Space.Taking.{link_tile, link_field, touched_by, TakenBytes, RestBytes}
-use Rattle.cdf_format.proofs.Members.{Distinct-back}
-use Rattle.cdf_edits.proofs.Space.TakenFromList.{link_after, link_wide, member_split}
+use Rattle.cdf_space.proofs.Common.{Bool, Cleared, Distinct, Distinct-back, EndBytes, Err, Field, FirstBack, Fit, HasShape, IfOk, In, In-append_left, In-append_right, IsFirstFit, IsSound, IsTaken, Leads, LiesIn, List, Listed, MatchOption, None, NoneFit, Ok, Option, Outside, Relinked, RestBytes, Result, Shape, TakenBytes, Touch, [], ap, apart, arith, back_link, byte, changed_then, distinct_apart, end_place, eof, eqb, eqb-true, false, first_back_link, fixed_size, gdr_offset, gdr_type, gdr_uir_head, inl, inr, is_a-in, is_a-type, is_linkable, last_of, leads_rest, leb, leb-true, length, link_after, link_field, link_tile, link_wide, linkable-in, linkable-long, linkable-type, member_split, next_of, number, prev_of, record_size, refl, shape, shape_is, size_at, some_place, subst, sym, tile_lies, tiles_lie_apart, touch, touched_by, touched_field, true, type_at, uir_type, with_field, word, ℕ, ◌++◌, ◌+◌, ◌-◌, ◌<◌, ◌^◌, ◌||◌, ◌∙◌, ◌∷◌, ◌≡◌, ◌≢◌, ◌≤◌, ◌⊎◌}
+use Rattle.std.specs.Prelude.{OnOk}
 use Rattle.cdf_edits.proofs.Space.TakenWays.{whole_taken, split_taken, end_taken}
 use Rattle.cdf_space.proofs.Writing.{Clear, word_clear, changed_weaker, changed_field, field_is, length_is, back_link_none, back_link_some}
 

@@ -1,11 +1,5 @@
 -- What writes of fields leave of an image.
-use Rattle.std.proofs.Common.{◌≡◌, ◌≢◌, ◌⊎◌, ℕ, ◌+◌, ◌-◌, ◌^◌, ◌<◌, ◌≤◌, List, [], ◌∷◌, ◌++◌, length, replicate, false, eqb, eq-eqb, refl, sym, ap, ap₂, subst, ◌∙◌, arith, inl, inr}
-use Rattle.cdf_space.proofs.Common.{eqb-true, either, length-append, length-replicate, get_or-replicate, put, LiesIn, word, number, with_field, size_at, type_at, Field, field, record_size, record_type, uir_next_uir, uir_prev_uir, uir_type, byte, Touch, touch, touched_field, Outside, Changed, EndBytes, length-put, byte-put_inside, changed_put, changed_then, field_reads, other_bytes, length-with_field, Listed, Cleared, back_link, Relinked, Fit}
-use Rattle.std.proofs.lemmas.Bool.{cases_lt}
-use Rattle.std.proofs.lemmas.List.{get_or-append_right}
-use Rattle.cdf_format.specs.Records.{gdr_eof}
-use Rattle.cdf_format.proofs.BytesLemmas.{word-same}
-use Rattle.cdf_edits.proofs.Frame.ChangedBytes.{changed_more}
+use Rattle.cdf_space.proofs.Common.{Changed, Cleared, EndBytes, Field, Fit, LiesIn, List, Listed, Outside, Relinked, Touch, [], ap, ap₂, arith, back_link, byte, byte-put_inside, cases_lt, changed_more, changed_put, changed_then, either, eq-eqb, eqb, eqb-true, false, field, field_reads, gdr_eof, get_or-append_right, get_or-replicate, inl, inr, length, length-append, length-put, length-replicate, length-with_field, number, other_bytes, put, record_size, record_type, refl, replicate, size_at, subst, sym, touch, touched_field, type_at, uir_next_uir, uir_prev_uir, uir_type, with_field, word, word-same, ℕ, ◌++◌, ◌+◌, ◌-◌, ◌<◌, ◌^◌, ◌∙◌, ◌∷◌, ◌≡◌, ◌≢◌, ◌≤◌, ◌⊎◌}
 
 -- ---- bytes that no touch meets
 

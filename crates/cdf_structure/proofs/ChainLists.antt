@@ -1,8 +1,5 @@
 -- The rules on the chains of an image, put together, and the record in which they begin.
-use Rattle.std.proofs.Common.{◌≡◌, ℕ, ◌+◌, ◌≤◌, List, length, true, subst, arith}
-use Rattle.cdf_structure.proofs.Common.{is_a, size_at, fixed_size, Hold, IsBroken, AreTiles, is_a-in, is_a-type, Hold-append, IsBroken-before, IsBroken-after, tile_lies, AreLong}
-use Rattle.cdf_format.specs.ChainRules.{link_rows}
-use Rattle.cdf_structure.specs.FileChains.{member_rows, unused_rows}
+use Rattle.cdf_structure.proofs.Common.{AreLong, AreTiles, Hold, Hold-append, IsBroken, IsBroken-after, IsBroken-before, List, arith, fixed_size, is_a, is_a-in, is_a-type, length, link_rows, member_rows, size_at, subst, tile_lies, true, unused_rows, ℕ, ◌+◌, ◌≡◌, ◌≤◌}
 
 module _ (b ts : List ℕ) where
   pub links_hold : Hold (member_rows b ts) → Hold (unused_rows b ts) → Hold (link_rows b ts)

@@ -1,8 +1,5 @@
 -- Steps of a walk along links.
-use Rattle.std.proofs.Common.{◌≡◌, ℕ, zero, suc, ◌+◌, ◌<◌, ◌≤◌, List, [], ◌∷◌, ◌++◌, true, false, not, ◌&&◌, eqb, refl, sym, ◌∙◌, arith}
-use Rattle.cdf_structure.proofs.Common.{and_parts, nat_tests, AreTiles, Walk, whole, stuck, is_in, is_linkable, next_of, linkable-in, tile_lies}
-use Rattle.cdf_format.specs.Chains.{chain_on}
-use Rattle.cdf_format.proofs.ChainsLemmas.{linkable-long}
+use Rattle.cdf_structure.proofs.Common.{AreTiles, List, Walk, [], and_parts, arith, chain_on, eqb, false, is_in, is_linkable, linkable-in, linkable-long, nat_tests, next_of, not, refl, stuck, suc, sym, tile_lies, true, whole, zero, ℕ, ◌&&◌, ◌++◌, ◌+◌, ◌<◌, ◌∙◌, ◌∷◌, ◌≡◌, ◌≤◌}
 
 module _ (b ts : List ℕ) (type : ℕ) (met : List ℕ) (holder link most : ℕ) (w : Walk) (goes : chain_on most b ts type met holder link ≡ w) where
   pub chain_ends : link ≡ 0 → w ≡ whole met

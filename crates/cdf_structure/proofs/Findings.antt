@@ -1,6 +1,5 @@
 -- What the check of a phase finds, once it is known which of the two it is.
-use Rattle.std.proofs.Common.{◌≡◌, List, Some, None, Option}
-use Rattle.cdf_structure.proofs.Common.{Row, Hold, IsBroken, Finding, Finds}
+use Rattle.cdf_structure.proofs.Common.{Finding, Finds, Hold, IsBroken, List, None, Option, Row, Some, ◌≡◌}
 
 pub none_found : (rows : List Row) (found : Option Finding) → Finds rows found → found ≡ None → Hold rows
 none_found rows found finds is = rw is at finds

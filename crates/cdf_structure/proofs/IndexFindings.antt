@@ -1,6 +1,5 @@
 -- Rules that were asked one after the other, of which the first broken one is kept.
-use Rattle.std.proofs.Common.{◌≡◌, List, [], ◌++◌, refl, sym, subst, Option, Some, None}
-use Rattle.cdf_structure.proofs.Common.{Row, Hold-append, IsBroken-before, IsBroken-after, FindsMore, Finds, Finding}
+use Rattle.cdf_structure.proofs.Common.{Finding, Finds, FindsMore, Hold-append, IsBroken-after, IsBroken-before, List, None, Option, Row, Some, [], refl, subst, sym, ◌++◌, ◌≡◌}
 
 pub more_found : (before then now : Option Finding) (xs ys : List Row) → FindsMore before then xs → FindsMore then now ys → FindsMore before now (xs ++ ys)
 more_found None None None xs ys p q = Hold-append xs ys p q

@@ -1,8 +1,5 @@
 -- Chains and entries, one behind the other, and their blocks and rules.
-use Rattle.std.proofs.Common.{◌≡◌, ℕ, ℤ, List, ◌∷◌, ◌++◌, append_assoc, refl, sym, ap, ◌∙◌}
-use Rattle.cdf_structure.proofs.Common.{with_sign, Nodes, no_node, node, Entries, no_entry, block, lower, Leaf, has_room, is_block, is_between, end_of, Row, row, number_before}
-use Rattle.cdf_format.specs.Index.{leaves_of, entry_leaves}
-use Rattle.cdf_format.specs.IndexRules.{nodes_rows, used_rows}
+use Rattle.cdf_structure.proofs.Common.{Entries, Leaf, List, Nodes, Row, ap, append_assoc, block, end_of, entry_leaves, has_room, is_between, is_block, leaves_of, lower, no_entry, no_node, node, nodes_rows, number_before, refl, row, sym, used_rows, with_sign, ℕ, ℤ, ◌++◌, ◌∙◌, ◌∷◌, ◌≡◌}
 
 -- one list of entries behind another
 abbrev pub join : Entries → Entries → Entries

@@ -1,11 +1,6 @@
 -- The indexes of variables, one after the other.
-use Rattle.std.proofs.Common.{◌≡◌, ℕ, ◌+◌, ◌<◌, ◌≤◌, List, [], ◌∷◌, ◌++◌, length, map, take, get_or, false, sym, ap, ◌∙◌, append-nil}
-use Rattle.cdf_structure.proofs.Common.{map-append, take_more, flat_map, Hold, is_compressed, record_bytes, variable_rows, AreRead}
-use Rattle.std.proofs.lemmas.Grind.{flat_map-append}
-use Rattle.std.proofs.lemmas.List.{get_or-map}
+use Rattle.cdf_structure.proofs.Common.{AreRead, Hold, Hold-member, List, [], ap, append-nil, false, flat_map, flat_map-append, get_or, get_or-map, is_compressed, length, map, map-append, phase7, record_bytes, sym, take, take_more, variable_rows, ℕ, ◌++◌, ◌+◌, ◌<◌, ◌∙◌, ◌∷◌, ◌≡◌, ◌≤◌}
 use Rattle.cdf_model.specs.Place.{record_limit}
-use Rattle.cdf_format.specs.VariableRules.{phase7}
-use Rattle.cdf_format.proofs.RowLemmas.{Hold-member}
 use Rattle.cdf_format.proofs.Tests.{le_of}
 use Rattle.cdf_structure.proofs.IndexSteps.{plain}
 use Rattle.cdf_structure.proofs.Rows.{In-get_or}

@@ -1,16 +1,11 @@
 -- What a walk over an index has met, entry by entry and node by node.
-use Rattle.std.proofs.Common.{◌≡◌, ◌≢◌, ℕ, ℤ, pos, negsuc, zero, suc, ◌+◌, ◌-◌, ◌<◌, List, [], ◌∷◌, ◌++◌, length, map, true, false, not, ◌&&◌, eqb, eq-eqb, refl, sym, ap, subst, ◌∙◌, append_assoc, append-nil, arith, Ok, Err, None}
-use Rattle.cdf_structure.proofs.Common.{ne_eqb, is_in, is_linkable, record_number_limit, number, with_sign, type_at, Nodes, no_node, node, Entries, no_entry, block, lower, Leaf, room_at, used_count, first_at, last_at, offset_at, has_room, is_block, is_between, end_of, Met, met, lost, vxr_type, cvvr_type, vdr_vxr_head, Row, row, index_of, number_before, Block, Index, block_of, FindsMore, Enters, WalksEntries, WalksIndex, Agrees, Finds}
+use Rattle.cdf_structure.proofs.Common.{Agrees, Block, EndsAt, Enters, Entries, Err, Finds, FindsMore, Index, IsEntryAt, Leaf, List, Met, Nodes, None, Ok, Row, WalksEntries, WalksIndex, WalksNodes, [], ap, append-nil, append_assoc, arith, block, block_in, block_of, cvvr_type, end_of, entries_on, entry_leaves, eq-eqb, eqb, false, first_at, has_room, index_of, is_between, is_block, is_in, is_linkable, last_at, leaves_of, length, levels_on, lost, lower, map, met, ne_eqb, negsuc, no_entry, no_node, node, nodes_on, nodes_rows, not, number, number_before, offset_at, pos, record_number_limit, refl, room_at, row, subst, suc, sym, true, type_at, used_count, used_rows, vdr_vxr_head, vxr_type, with_sign, zero, ℕ, ℤ, ◌&&◌, ◌++◌, ◌+◌, ◌-◌, ◌<◌, ◌∙◌, ◌∷◌, ◌≡◌, ◌≢◌}
 use Rattle.std.specs.declared.result.Result.{Result}
-use Rattle.cdf_format.specs.Index.{leaves_of, entry_leaves}
-use Rattle.cdf_format.specs.IndexRules.{nodes_rows, used_rows}
-use Rattle.cdf_format.specs.IndexWalk.{entries_on, nodes_on, levels_on}
 use Rattle.cdf_structure.specs.declared.index_walk.Between.{Between}
 use Rattle.cdf_structure.specs.declared.index_walk.Chain.{Chain}
 use Rattle.cdf_structure.specs.declared.met.Met.{Met as MetNodes}
 use Rattle.cdf_structure.specs.declared.nodes.Entry.{Entry}
 use Rattle.cdf_structure.specs.declared.nodes.Node.{Node}
-use Rattle.cdf_structure.specs.Indexes.{IsEntryAt, block_in, WalksNodes, EndsAt}
 use Rattle.cdf_structure.proofs.IndexFindings.{more_found, none_asked, from_none}
 use Rattle.cdf_structure.proofs.IndexJoins.{join, leaves-join, end-join, rows-join, link_chains, chain_end, leaves-chains, end-chains, rows-chains}
 use Rattle.cdf_structure.proofs.IndexWalks.{one_block, one_lower, one_lost, no_entries, more_met, more_lost, lost_on, chain_ends, chain_spent, chain_stops, node_lost, node_met, behind_nodes, behind_one}

@@ -1,16 +1,6 @@
 -- The rules on the index of a variable, and its records.
-use Rattle.std.proofs.Common.{◌≡◌, ℕ, pos, negsuc, List, [], ◌∷◌, ◌++◌, length, map, true, false, not, ◌||◌, true≢false, refl, sym, ap, ap₂, subst, ◌∙◌, append-nil, inl, inr, Option, Some, None, Ok}
-use Rattle.cdf_structure.proofs.Common.{flat_map, record_number_limit, is_a, is_in, Nodes, Leaf, met_rows, Met, met, lost, variable_records, vdr_vxr_head, cvvr_type, Row, Hold, IsBroken, index_of, is_compressed, variable_shape, AreTiles, record_bytes, variable_rows, is_a-in, is_a-type, either, Hold-append, IsBroken-before, IsBroken-after, WalksIndex, block_of, block_rows, index_records, AreRead, Finds, Block, Index, Finding}
-use Rattle.cdf_format.specs.Index.{nodes_of, leaves_of}
-use Rattle.cdf_format.specs.IndexRules.{nodes_rows, leaf_rows, vvr_rows}
-use Rattle.cdf_format.specs.IndexWalk.{nodes_met}
-use Rattle.cdf_format.specs.NotRead.{read_types}
-use Rattle.cdf_format.specs.RecordTypes.{vvr_type, cpr_type}
-use Rattle.cdf_format.specs.Rules.{asked}
-use Rattle.cdf_format.specs.Shape.{cpr_of}
-use Rattle.cdf_format.specs.VariableRules.{cpr_link, is_cpr}
+use Rattle.cdf_structure.proofs.Common.{AreRead, AreTiles, Block, Finding, Finds, Hold, Hold-append, Index, IsBroken, IsBroken-after, IsBroken-before, Leaf, List, MeetsIndex, Met, Nodes, None, Ok, Option, Row, Some, WalksIndex, [], ap, append-nil, ap₂, asked, block_of, block_rows, cpr_link, cpr_of, cpr_type, cvvr_type, either, false, flat_map, index_of, index_records, inl, inr, is_a, is_a-in, is_a-type, is_compressed, is_cpr, is_in, leaf_rows, leaves_of, length, lost, map, met, met_rows, negsuc, nodes_met, nodes_of, nodes_rows, not, pos, read_types, record_bytes, record_number_limit, refl, subst, sym, true, true≢false, variable_records, variable_rows, variable_shape, vdr_vxr_head, vvr_rows, vvr_type, ℕ, ◌++◌, ◌||◌, ◌∙◌, ◌∷◌, ◌≡◌}
 use Rattle.cdf_format.proofs.IndexLemmas.{index_sound, index_complete}
-use Rattle.cdf_structure.specs.Indexes.{MeetsIndex}
 use Rattle.cdf_structure.proofs.Findings.{none_found, one_found}
 
 module _ (b ts : List ℕ) (read : AreRead b ts) where

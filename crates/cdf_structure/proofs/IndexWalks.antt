@@ -1,7 +1,5 @@
 -- Steps of a walk over an index.
-use Rattle.std.proofs.Common.{◌≡◌, ◌≢◌, ℕ, zero, suc, ◌+◌, List, [], ◌∷◌, ◌++◌, true, false, not, ◌&&◌, eqb, eq-eqb, refl, sym, ap, ◌∙◌, inl, inr, arith}
-use Rattle.cdf_structure.proofs.Common.{ne_eqb, is_in, is_linkable, next_of, type_at, Nodes, no_node, node, Entries, no_entry, block, lower, room_at, used_count, first_at, last_at, offset_at, Met, met, lost, vxr_type, cvvr_type, either}
-use Rattle.cdf_format.specs.IndexWalk.{and_then, entries_on, nodes_on}
+use Rattle.cdf_structure.proofs.Common.{Entries, List, Met, Nodes, [], and_then, ap, arith, block, cvvr_type, either, entries_on, eq-eqb, eqb, false, first_at, inl, inr, is_in, is_linkable, last_at, lost, lower, met, ne_eqb, next_of, no_entry, no_node, node, nodes_on, not, offset_at, refl, room_at, suc, sym, true, type_at, used_count, vxr_type, zero, ℕ, ◌&&◌, ◌++◌, ◌+◌, ◌∙◌, ◌∷◌, ◌≡◌, ◌≢◌}
 use Rattle.cdf_structure.proofs.IndexJoins.{join, link_chains, chains-assoc}
 
 -- ---- entries

@@ -1,6 +1,5 @@
 -- Nodes and entries of an index, as they are read. A byte behind the image counts as 0.
-use Rattle.std.proofs.Common.{◌≡◌, ℕ, suc, ◌+◌, ◌-◌, ◌*◌, ◌/◌, ◌<◌, ◌≤◌, min, List, slice_index, arith}
-use Rattle.cdf_format.specs.Fields.{word}
+use Rattle.cdf_structure.proofs.Common.{List, arith, min, slice_index, suc, word, ℕ, ◌*◌, ◌+◌, ◌-◌, ◌/◌, ◌<◌, ◌≡◌, ◌≤◌}
 
 -- the entries that are used lie in their record
 pub used_lies : (used room size i : ℕ) → 28 ≤ size → i < min used (min room ((size - 28) / 16)) → 28 + 16 * i + 16 ≤ size

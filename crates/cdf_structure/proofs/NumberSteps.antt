@@ -1,9 +1,6 @@
 -- The numbers of the members of a chain, one after the other.
-use Rattle.std.proofs.Common.{◌≡◌, ◌≢◌, ℕ, suc, ◌+◌, ◌<◌, ◌≤◌, List, length, drop, get_or, eq-eqb, refl, arith, inl, inr, Option, Some, None}
-use Rattle.cdf_structure.proofs.Common.{ne_eqb, number, fixed_size, In, AreTiles, IsBroken, whole, chain, number_rows, linkable-in, tile_lies, Finding, AreLong, Finds}
+use Rattle.cdf_structure.proofs.Common.{AreLong, AreTiles, Field, Finding, Finds, In, IsBroken, List, None, Option, Some, arith, chain, chain_sound, drop, eq-eqb, fixed_size, get_or, inl, inr, length, linkable-in, linkable-type, ne_eqb, number, number_rows, refl, suc, tile_lies, whole, ℕ, ◌+◌, ◌<◌, ◌≡◌, ◌≢◌, ◌≤◌}
 use Rattle.std.proofs.Math.Seq.{drop-cons}
-use Rattle.cdf_format.specs.Records.{Field}
-use Rattle.cdf_format.proofs.ChainsLemmas.{chain_sound, linkable-type}
 
 module _ (rule : ℕ) (b : List ℕ) (num : Field) (ms : List ℕ) (i : ℕ) (lt : i < length ms) where
   pub number_wrong : number b (get_or ms i 0) num ≢ i → IsBroken (number_rows rule b num i (drop i ms)) rule (get_or ms i 0)

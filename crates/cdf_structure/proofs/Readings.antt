@@ -1,6 +1,5 @@
 -- Fields of a record and the bytes that are read for them.
-use Rattle.std.proofs.Common.{◌≡◌, ℕ, ◌+◌, List, ap, arith}
-use Rattle.cdf_format.specs.Fields.{word, size_at}
+use Rattle.cdf_structure.proofs.Common.{List, ap, arith, size_at, word, ℕ, ◌+◌, ◌≡◌}
 
 -- the first field stands where the record does
 pub first_word : (b : List ℕ) (place : ℕ) → size_at b place ≡ word b place 8

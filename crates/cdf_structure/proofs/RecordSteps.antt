@@ -1,11 +1,7 @@
 -- The records of an image, one after the other in one walk.
-use Rattle.std.proofs.Common.{◌≡◌, ◌≢◌, ℕ, List, [], ◌∷◌, ◌++◌, cond, Bool, sym, ap, ◌∙◌, subst, eq-eqb, append-nil, Option, Some, None, Ok}
-use Rattle.cdf_structure.proofs.Common.{ne_eqb, flat_map, option_or, size_at, type_at, unread_type, record_rows, phase4, Row, Hold, IsBroken, Finding, WalksTiles, Finds, Yields}
+use Rattle.cdf_structure.proofs.Common.{AreRecords, Bool, Finding, Finds, Hold, IsBroken, List, None, Ok, Option, Row, Some, WalksTiles, Yields, [], ap, append-nil, cond, eq-eqb, flat_map, head_rows, ne_eqb, option_or, phase4, record_rows, size_at, subst, sym, type_at, uir_type, unread_type, unused_of, ℕ, ◌++◌, ◌==◌, ◌∙◌, ◌∷◌, ◌≡◌, ◌≢◌}
 use Rattle.std.proofs.lemmas.List.Elements.{filter-append}
-use Rattle.std.specs.Prelude.{◌==◌}
-use Rattle.cdf_format.specs.RecordTypes.{uir_type}
 use Rattle.cdf_structure.specs.declared.tiles.Walked.{Walked}
-use Rattle.cdf_structure.specs.Records.{AreRecords, head_rows, unused_of}
 use Rattle.cdf_structure.proofs.Findings.{none_found, one_found}
 use Rattle.cdf_structure.proofs.Rows.{found_more}
 use Rattle.cdf_structure.proofs.TileSteps.{whole_rows}

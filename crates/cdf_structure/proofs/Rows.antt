@@ -1,7 +1,6 @@
 -- The rules of each member of a list, one after the other.
-use Rattle.std.proofs.Common.{◌≡◌, ℕ, zero, suc, ◌+◌, ◌<◌, List, [], ◌∷◌, ◌++◌, length, map, take, get_or, refl, sym, ap, ◌∙◌, inl, inr, ◌⊎◌, arith, append-nil, Option, Some, None}
-use Rattle.cdf_structure.proofs.Common.{map-append, take_more, flat_map, option_or, Row, Hold, IsBroken, In, Hold-append, IsBroken-before, IsBroken-after, Finding, Finds}
-use Rattle.cdf_format.proofs.RowLemmas.{Hold-split, flat_map-append}
+use Rattle.cdf_structure.proofs.Common.{Finding, Finds, Hold, Hold-append, Hold-split, In, IsBroken, IsBroken-after, IsBroken-before, List, None, Option, Row, Some, [], ap, append-nil, arith, flat_map, get_or, inl, inr, length, map, map-append, option_or, refl, suc, sym, take, take_more, zero, ℕ, ◌++◌, ◌+◌, ◌<◌, ◌∙◌, ◌∷◌, ◌≡◌, ◌⊎◌}
+use Rattle.cdf_format.proofs.RowLemmas.{flat_map-append}
 
 pub In-get_or : (xs : List ℕ) (i : ℕ) → i < length xs → In (get_or xs i 0) xs
 In-get_or [] i lt = absurd (omega arith)

@@ -1,10 +1,6 @@
 -- The search of a number among the places of records, which ascend.
-use Rattle.std.proofs.Common.{◌≡◌, ℕ, zero, suc, ◌+◌, ◌-◌, ◌<◌, ◌≤◌, List, [], ◌∷◌, length, get_or, true, false, Some, sym, subst, arith, inl, inr}
-use Rattle.cdf_structure.proofs.Common.{cases_lt, size_at, is_in, In, AreTiles, tile_lies, Climbs}
+use Rattle.cdf_structure.proofs.Common.{AreTiles, Ascends, Climbs, In, List, Some, [], arith, cases_lt, false, get_or, inl, inr, is_in, is_in-false, is_in-true, length, size_at, slice_get, subst, suc, sym, tile_lies, true, zero, ℕ, ◌+◌, ◌-◌, ◌<◌, ◌∷◌, ◌≡◌, ◌≤◌}
 use Rattle.std.proofs.lemmas.Option.{get_or_from_slice_get}
-use Rattle.std.specs.Prelude.{slice_get}
-use Rattle.cdf_format.proofs.Members.{is_in-true, is_in-false}
-use Rattle.cdf_structure.specs.Met.{Ascends}
 use Rattle.cdf_structure.proofs.Rows.{In-get_or}
 
 place_of : (x : ℕ) (xs : List ℕ) → In x xs → (i : ℕ) × (i < length xs) × (get_or xs i 0 ≡ x)

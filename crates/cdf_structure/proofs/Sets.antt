@@ -1,6 +1,5 @@
 -- A set beside a list.
-use Rattle.std.proofs.Common.{◌≡◌, ℕ, List, [], ◌∷◌, ◌++◌, Bool, true, false, cond, ◌||◌, eqb, refl, sym, ap, ◌∙◌, arith, nat_cmp, is_eq}
-use Rattle.cdf_structure.proofs.Common.{nat_tests, is_in}
+use Rattle.cdf_structure.proofs.Common.{Bool, List, [], ap, arith, cond, eqb, false, is_eq, is_in, nat_cmp, nat_tests, refl, sym, true, ℕ, ◌++◌, ◌||◌, ◌∙◌, ◌∷◌, ◌≡◌}
 
 or_assoc : (p q r : Bool) → ((p || q) || r) ≡ (p || (q || r))
 or_assoc true q r = refl

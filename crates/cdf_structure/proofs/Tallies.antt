@@ -1,10 +1,5 @@
 -- How often records stand in a list.
-use Rattle.std.proofs.Common.{◌≡◌, ◌≢◌, ℕ, ◌+◌, ◌<◌, ◌≤◌, List, [], ◌∷◌, ◌++◌, length, get_or, take, set, cond, eqb, eq-eqb, refl, true≢false, length-set, min, replicate, sym, ap, ◌∙◌, arith, inl, inr, get_or-set_same, get_or-set_other, None}
-use Rattle.std.proofs.lemmas.Bool.{eqb-true, cases_lt, ne_eqb}
-use Rattle.std.proofs.lemmas.List.{take_more, length-replicate, get_or-replicate}
-use Rattle.cdf_format.specs.Owners.{times}
-use Rattle.cdf_format.proofs.Members.{either}
-use Rattle.cdf_structure.specs.Walked.{Climbs, StandsAt, Counts}
+use Rattle.cdf_structure.proofs.Common.{Climbs, Counts, List, None, StandsAt, [], ap, arith, cases_lt, cond, either, eq-eqb, eqb, eqb-true, get_or, get_or-replicate, get_or-set_other, get_or-set_same, inl, inr, length, length-replicate, length-set, min, ne_eqb, refl, replicate, set, sym, take, take_more, times, true≢false, ℕ, ◌++◌, ◌+◌, ◌<◌, ◌∙◌, ◌∷◌, ◌≡◌, ◌≢◌, ◌≤◌}
 
 times-append : (x : ℕ) (ys zs : List ℕ) → times x (ys ++ zs) ≡ times x ys + times x zs
 times-append x [] zs = omega arith

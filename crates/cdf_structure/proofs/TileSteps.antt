@@ -1,9 +1,5 @@
 -- Steps of the walk over the records of an image.
-use Rattle.std.proofs.Common.{◌≡◌, ◌≢◌, ℕ, zero, suc, ◌+◌, ◌≤◌, List, [], ◌∷◌, ◌++◌, length, true, false, leb, eq-eqb, refl, sym, ap, ◌∙◌, inl, append_assoc, append-nil, arith}
-use Rattle.cdf_structure.proofs.Common.{and_parts, ne_eqb, size_at, Walk, whole, stuck, IsBroken, tiling, unread_type, record_rows, phase4, flat_map}
-use Rattle.std.proofs.lemmas.Bool.{leb-true}
-use Rattle.cdf_format.specs.Walks.{after_first}
-use Rattle.cdf_format.specs.Tiles.{is_tile, tiles_from}
+use Rattle.cdf_structure.proofs.Common.{IsBroken, List, Walk, [], after_first, and_parts, ap, append-nil, append_assoc, arith, eq-eqb, false, flat_map, inl, is_tile, leb, leb-true, length, ne_eqb, phase4, record_rows, refl, size_at, stuck, suc, sym, tiles_from, tiling, true, unread_type, whole, zero, ℕ, ◌++◌, ◌+◌, ◌∙◌, ◌∷◌, ◌≡◌, ◌≢◌, ◌≤◌}
 
 -- a walk that begins with these records
 abbrev pub behind : List ℕ → Walk → Walk

@@ -1,5 +1,4 @@
-use Rattle.std.proofs.Common.{◌≡◌, ℕ, List, ◌++◌, ◌∷◌, [], length, None, ap, ap₂, sym, subst, ◌∙◌, arith}
-use Rattle.cdf_attrs.proofs.Common.{last_or, good_is_sound, good_eof, adrs, shape, Added, IsBody, type_of_body, Attrs, scope_code, adr_body, last_got, fine_is_short, fine_has_no_zeros}
+use Rattle.cdf_attrs.proofs.Common.{Added, Attrs, IsBody, List, None, [], adr_body, adrs, ap, ap₂, arith, fine_has_no_zeros, fine_is_short, good_eof, good_is_sound, last_got, last_or, length, scope_code, shape, subst, sym, type_of_body, ℕ, ◌++◌, ◌∙◌, ◌∷◌, ◌≡◌}
 use Rattle.cdf_attrs.proofs.AttributeChain.{attribute_members, has_attribute_chain, few_attributes}
 use Rattle.cdf_attrs.proofs.AttributesRead.{counted_is}
 use Rattle.cdf_attrs.proofs.Created.{follows, names_now, places_now}

@@ -1,5 +1,4 @@
-use Rattle.std.proofs.Common.{◌∙◌, map, ap}
-use Rattle.cdf_attrs.proofs.Common.{on_ok_weaker, write_of, own, good_is_sound, attributes_listed, lie_after, unlinked_by}
+use Rattle.cdf_attrs.proofs.Common.{ap, attributes_listed, good_is_sound, lie_after, map, on_ok_weaker, own, unlinked_by, write_of, ◌∙◌}
 use Rattle.cdf_attrs.proofs.deleting.delete.Goals as goal
 
 pub read_records-requires-clause-adr : goal.read_records-requires-clause-adr

@@ -1,6 +1,4 @@
-use Rattle.std.proofs.Common.{◌≡◌, ◌++◌, ◌∷◌, drop, map}
-use Rattle.cdf_attrs.proofs.Common.{write_of, write, adr_num}
-use Rattle.cdf_attrs.specs.Numbering.{entry_numbers}
+use Rattle.cdf_attrs.proofs.Common.{adr_num, drop, entry_numbers, map, write, write_of, ◌++◌, ◌∷◌, ◌≡◌}
 use Rattle.cdf_attrs.proofs.deleting.push_numbers.Given as goal
 
 abbrev pub invariant-loop-entry : goal.invariant-loop-entry

@@ -1,5 +1,4 @@
-use Rattle.std.proofs.Common.{◌∙◌, ◌-◌, map, length, ap, append-nil, arith}
-use Rattle.cdf_attrs.proofs.Common.{at_drop_all, numbers_more, length-map, read_more, write_of, numbers_from, own, AttributeShape, shape}
+use Rattle.cdf_attrs.proofs.Common.{AttributeShape, ap, append-nil, arith, at_drop_all, length, length-map, map, numbers_from, numbers_more, own, read_more, shape, write_of, ◌-◌, ◌∙◌}
 use Rattle.cdf_attrs.proofs.AttributesRead.{few_places}
 use Rattle.cdf_attrs.proofs.deleting.read_numbers.Goals as goal
 

@@ -1,5 +1,4 @@
-use Rattle.std.proofs.Common.{◌≡◌, ◌++◌, ◌-◌, ◌+◌, drop, map}
-use Rattle.cdf_attrs.proofs.Common.{Stays, write_of, numbers_from, shape}
+use Rattle.cdf_attrs.proofs.Common.{Stays, drop, map, numbers_from, shape, write_of, ◌++◌, ◌+◌, ◌-◌, ◌≡◌}
 use Rattle.cdf_attrs.proofs.deleting.read_numbers.Given as goal
 
 abbrev pub invariant-loop-i : goal.invariant-loop-i

@@ -1,5 +1,4 @@
-use Rattle.std.proofs.Common.{rules, ◌≡◌, false, sym, arith}
-use Rattle.cdf_attrs.proofs.Common.{on_ok_weaker, good_is_sound, shape, is_global}
+use Rattle.cdf_attrs.proofs.Common.{arith, false, good_is_sound, is_global, on_ok_weaker, rules, shape, sym, ◌≡◌}
 use Rattle.cdf_attrs.proofs.AttributeChain.{adr_inside, of_attribute}
 use Rattle.cdf_attrs.proofs.DroppedChains as from
 use Rattle.cdf_attrs.proofs.dropping.drop_from.Goals as goal

@@ -1,5 +1,4 @@
-use Rattle.std.proofs.Common.{sym}
-use Rattle.cdf_attrs.proofs.Common.{on_ok_weaker, KnowsEntries, without_at}
+use Rattle.cdf_attrs.proofs.Common.{KnowsEntries, on_ok_weaker, sym, without_at}
 use Rattle.cdf_attrs.proofs.DroppedChains.{entry_there, if_given, taken_now, within}
 use Rattle.cdf_attrs.proofs.dropping.drop_number.Goals as goal
 

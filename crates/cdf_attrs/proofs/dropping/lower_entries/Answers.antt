@@ -1,5 +1,5 @@
-use Rattle.std.proofs.Common.{◌∙◌, ◌-◌, ◌≤◌, ℕ, List, All, Contains, w32, map, ap, subst, inr}
-use Rattle.cdf_attrs.proofs.Common.{on_ok_weaker, signed_limit, cast_signed, cast_unsigned, write_of, lower_writes, KnownEntries, max_field, with_writes, with_field}
+use Rattle.cdf_attrs.proofs.Common.{All, Contains, KnownEntries, List, ap, cast_signed, cast_unsigned, inr, lower_writes, map, max_field, on_ok_weaker, signed_limit, subst, with_field, with_writes, write_of, ℕ, ◌-◌, ◌∙◌, ◌≤◌}
+use Rattle.std.proofs.Common.{w32}
 use Rattle.cdf_attrs.proofs.GreatestNumber.{each_of, is_member}
 use Rattle.cdf_attrs.proofs.DroppingSteps.{lies_after, lowered_greatest}
 use Rattle.cdf_attrs.proofs.dropping.lower_entries.Goals as goal

@@ -1,4 +1,4 @@
-use Rattle.std.proofs.Common.{arith}
+use Rattle.cdf_attrs.proofs.Common.{arith}
 use Rattle.std.proofs.lemmas.Grind.{common_steps}
 use Rattle.cdf_attrs.proofs.DroppingSteps.{lower_step}
 use Rattle.cdf_attrs.proofs.dropping.lower_numbers.Goals as goal

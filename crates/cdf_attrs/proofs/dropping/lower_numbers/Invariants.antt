@@ -1,5 +1,4 @@
-use Rattle.std.proofs.Common.{◌≡◌, ◌++◌, drop, map}
-use Rattle.cdf_attrs.proofs.Common.{write_of, lower_writes}
+use Rattle.cdf_attrs.proofs.Common.{drop, lower_writes, map, write_of, ◌++◌, ◌≡◌}
 use Rattle.cdf_attrs.proofs.dropping.lower_numbers.Given as goal
 
 abbrev pub invariant-loop-i : goal.invariant-loop-i

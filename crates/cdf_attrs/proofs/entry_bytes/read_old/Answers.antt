@@ -1,6 +1,5 @@
-use Rattle.std.proofs.Common.{◌≡◌, ◌∙◌, ◌+◌, ◌≤◌, ℕ, ℤ, List, w32, ap, arith}
-use Rattle.cdf_attrs.proofs.Common.{of_z-to_z, cast_signed, cast_unsigned, word, AreBytes, word4_fits}
-use Rattle.cdf_area.proofs.Calls.{read_done, read_once}
+use Rattle.cdf_attrs.proofs.Common.{AreBytes, List, ap, arith, cast_signed, cast_unsigned, of_z-to_z, read_done, read_once, word, word4_fits, ℕ, ℤ, ◌+◌, ◌∙◌, ◌≡◌, ◌≤◌}
+use Rattle.std.proofs.Common.{w32}
 use Rattle.cdf_records.specs.declared.aedr.Aedr.{Aedr}
 use Rattle.cdf_attrs.proofs.entry_bytes.read_old.Goals as goal
 

@@ -1,5 +1,4 @@
-use Rattle.std.proofs.Common.{◌≡◌, take}
-use Rattle.cdf_area.specs.Calls.{Stays}
+use Rattle.cdf_attrs.proofs.Common.{Stays, take, ◌≡◌}
 use Rattle.cdf_attrs.proofs.EntriesRead.{numbers_at}
 use Rattle.cdf_attrs.proofs.entry_chain.read_numbers.Given as goal
 

@@ -1,6 +1,4 @@
-use Rattle.std.proofs.Common.{◌∙◌, ◌+◌, ℕ, List, map, drop, sym, ap, subst}
-use Rattle.cdf_attrs.proofs.Common.{edit_more, edits_by_write, AllLie, write_of, Numbered, with_writes}
-use Rattle.std.proofs.lemmas.List.{at_drop_more}
+use Rattle.cdf_attrs.proofs.Common.{AllLie, List, Numbered, ap, at_drop_more, drop, edit_more, edits_by_write, map, subst, sym, with_writes, write_of, ℕ, ◌+◌, ◌∙◌}
 use Rattle.cdf_attrs.proofs.DeletingSteps.{lie_still}
 use Rattle.cdf_attrs.proofs.numbering.set_numbers.Goals as goal
 

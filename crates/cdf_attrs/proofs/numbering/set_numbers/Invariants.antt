@@ -1,5 +1,4 @@
-use Rattle.std.proofs.Common.{◌≡◌, drop, map}
-use Rattle.cdf_attrs.proofs.Common.{AllLie, write_of, with_writes}
+use Rattle.cdf_attrs.proofs.Common.{AllLie, drop, map, with_writes, write_of, ◌≡◌}
 use Rattle.cdf_area.specs.Calls.{Keeps}
 use Rattle.cdf_attrs.proofs.numbering.set_numbers.Given as goal
 

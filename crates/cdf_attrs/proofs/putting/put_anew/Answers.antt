@@ -1,6 +1,4 @@
-use Rattle.std.proofs.Common.{◌∙◌, List, ℕ, None, take, ap, subst, sym, arith}
-use Rattle.cdf_attrs.proofs.Common.{last_or, In, edit_done, edit_failed, edit_more, edit_once, good_is_sound, good_eof, old_free, old_stands, sound_late, last_got, KnownEntries}
-use Rattle.cdf_format.proofs.Members.{is_in-true}
+use Rattle.cdf_attrs.proofs.Common.{In, KnownEntries, List, None, ap, arith, edit_done, edit_failed, edit_more, edit_once, good_eof, good_is_sound, is_in-true, last_got, last_or, old_free, old_stands, sound_late, subst, sym, take, ℕ, ◌∙◌}
 use Rattle.cdf_attrs.proofs.EntryChains.{chain_there, holder_stands, members}
 use Rattle.cdf_attrs.proofs.EntryPut.{behind_at, body_kind, body_long, body_made, freed, max_joined, member, of_chain, put_anew}
 use Rattle.cdf_attrs.proofs.putting.put_anew.Goals as goal

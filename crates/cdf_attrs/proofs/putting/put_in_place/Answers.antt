@@ -1,5 +1,4 @@
-use Rattle.std.proofs.Common.{◌∙◌, ℕ, List, ap, arith}
-use Rattle.cdf_attrs.proofs.Common.{with_field, max_field}
+use Rattle.cdf_attrs.proofs.Common.{List, ap, arith, max_field, with_field, ℕ, ◌∙◌}
 use Rattle.cdf_attrs.proofs.EntryPut.{begins_at, fields_inside, max_inside, put_over, stored}
 use Rattle.cdf_attrs.proofs.putting.put_in_place.Goals as goal
 

@@ -1,6 +1,4 @@
-use Rattle.std.proofs.Common.{◌∙◌, None, ap, arith}
-use Rattle.cdf_attrs.proofs.Common.{last_or, edit_done, edit_failed, edit_more, edit_once, good_is_sound, good_eof, last_got, KnownEntries, new_reserved}
-use Rattle.cdf_area.proofs.Calls.{edit_without_memory}
+use Rattle.cdf_attrs.proofs.Common.{KnownEntries, None, ap, arith, edit_done, edit_failed, edit_more, edit_once, edit_without_memory, good_eof, good_is_sound, last_got, last_or, new_reserved, ◌∙◌}
 use Rattle.cdf_attrs.proofs.EntryChains.{chain_there, counted, few_entries, holder_stands}
 use Rattle.cdf_attrs.proofs.EntryPut.{body_kind, body_long, body_made, body_of, known_at, max_joined, of_chain, pushed}
 use Rattle.cdf_attrs.proofs.putting.put_last.Goals as goal

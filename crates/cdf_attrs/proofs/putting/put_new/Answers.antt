@@ -1,5 +1,4 @@
-use Rattle.std.proofs.Common.{◌∙◌, ℕ, List, ap, sym}
-use Rattle.cdf_attrs.proofs.Common.{slice_index, KnownEntries}
+use Rattle.cdf_attrs.proofs.Common.{KnownEntries, List, ap, slice_index, sym, ℕ, ◌∙◌}
 use Rattle.cdf_attrs.proofs.EntryPut.{begins_at, numbered}
 use Rattle.cdf_attrs.proofs.putting.put_new.Goals as goal
 

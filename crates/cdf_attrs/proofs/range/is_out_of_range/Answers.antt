@@ -1,4 +1,4 @@
-use Rattle.std.proofs.Common.{arith}
+use Rattle.cdf_attrs.proofs.Common.{arith}
 use Rattle.cdf_attrs.proofs.RangeCounts.{cdr_there, gdr_there, r_range, z_range}
 use Rattle.cdf_attrs.proofs.range.is_out_of_range.Goals as goal
 

@@ -1,5 +1,4 @@
-use Rattle.std.proofs.Common.{rules, ◌∙◌, List, ℕ, get_or, ap, arith}
-use Rattle.cdf_attrs.proofs.Common.{read_more, scope_of, number, name_at, adr_scope}
+use Rattle.cdf_attrs.proofs.Common.{List, adr_scope, ap, arith, get_or, name_at, number, read_more, rules, scope_of, ℕ, ◌∙◌}
 use Rattle.cdf_attrs.proofs.AttributesRead.{few_places, items_start, all_listed, name_read, scope_read, next_item}
 use Rattle.cdf_attrs.proofs.reading.read_items.Goals as goal
 

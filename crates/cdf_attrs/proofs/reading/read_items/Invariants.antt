@@ -1,5 +1,4 @@
-use Rattle.std.proofs.Common.{◌≡◌, ◌++◌, map, drop}
-use Rattle.cdf_attrs.proofs.Common.{Stays, content, attribute_of, shape, attribute_items}
+use Rattle.cdf_attrs.proofs.Common.{Stays, attribute_items, attribute_of, content, drop, map, shape, ◌++◌, ◌≡◌}
 use Rattle.cdf_attrs.proofs.reading.read_items.Given as goal
 
 abbrev pub invariant-loop-number : goal.invariant-loop-number

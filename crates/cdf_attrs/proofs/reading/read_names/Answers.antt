@@ -1,6 +1,4 @@
-use Rattle.std.proofs.Common.{◌∙◌, List, ℕ, get_or, ap, arith}
-use Rattle.cdf_area.proofs.Calls.{read_more, read_without_memory}
-use Rattle.cdf_format.specs.Fields.{name_at}
+use Rattle.cdf_attrs.proofs.Common.{List, ap, arith, get_or, name_at, read_more, read_without_memory, ℕ, ◌∙◌}
 use Rattle.cdf_attrs.proofs.AttributesRead.{few_names, all_named, name_read, next_is_new, next_named}
 use Rattle.cdf_attrs.proofs.reading.read_names.Goals as goal
 

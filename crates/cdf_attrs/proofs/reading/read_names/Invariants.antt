@@ -1,5 +1,4 @@
-use Rattle.std.proofs.Common.{◌≡◌, take}
-use Rattle.cdf_attrs.proofs.Common.{Stays, adr_name, names_at}
+use Rattle.cdf_attrs.proofs.Common.{Stays, adr_name, names_at, take, ◌≡◌}
 use Rattle.cdf_attrs.proofs.reading.read_names.Given as goal
 
 abbrev pub invariant-loop-place : goal.invariant-loop-place

@@ -1,6 +1,5 @@
-use Rattle.std.proofs.Common.{◌≡◌, ◌∙◌, ◌<◌, ◌≤◌, ℕ, ℤ, pos, List, FitsSigned, w32, All, None, length, take, sym, ap, subst}
-use Rattle.cdf_attrs.proofs.Common.{to_z-of_z, last_or, remove, slice_index, slice_index_or, cast_signed, cast_unsigned, signed_limit, edit_done, edit_once, before, members_of, good_is_sound, KnownEntries, IsEntryOf, entries_chain, IsGreatest, last_got, EntryKind}
-use Rattle.cdf_attrs.specs.Putting.{RemovedAs}
+use Rattle.cdf_attrs.proofs.Common.{All, EntryKind, FitsSigned, IsEntryOf, IsGreatest, KnownEntries, List, None, RemovedAs, ap, before, cast_signed, cast_unsigned, edit_done, edit_once, entries_chain, good_is_sound, last_got, last_or, length, members_of, pos, remove, signed_limit, slice_index, slice_index_or, subst, sym, take, to_z-of_z, ℕ, ℤ, ◌<◌, ◌∙◌, ◌≡◌, ◌≤◌}
+use Rattle.std.proofs.Common.{w32}
 use Rattle.cdf_attrs.proofs.EntryTakenAt.{of_entry, all_from, left_fits, left_small, left_written, stands_behind, index_same}
 use Rattle.cdf_attrs.proofs.GreatestNumber.{greatest_fits}
 use Rattle.cdf_attrs.proofs.removing.remove_at.Goals as goal

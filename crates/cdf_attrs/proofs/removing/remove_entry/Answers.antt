@@ -1,5 +1,4 @@
-use Rattle.std.proofs.Common.{◌≡◌, length, true, sym, ap, subst, ◌∙◌}
-use Rattle.cdf_attrs.proofs.Common.{is_in, HasChain, HolderStands, Removed, members_of, Chain, sound_late, old_stands, old_free, left_frees, length-with_field}
+use Rattle.cdf_attrs.proofs.Common.{Chain, HasChain, HolderStands, Removed, ap, is_in, left_frees, length, length-with_field, members_of, old_free, old_stands, sound_late, subst, sym, true, ◌∙◌, ◌≡◌}
 use Rattle.cdf_attrs.proofs.EntryCalls.{has_entry, count_lies, greatest_lies, leaves}
 use Rattle.cdf_attrs.proofs.removing.remove_entry.Goals as goal
 

@@ -1,5 +1,4 @@
-use Rattle.std.proofs.Common.{arith}
-use Rattle.cdf_attrs.proofs.Common.{fewer}
+use Rattle.cdf_attrs.proofs.Common.{arith, fewer}
 use Rattle.cdf_attrs.proofs.ValueWords.{numbers_written}
 use Rattle.cdf_attrs.proofs.value.read_numbers.Goals as goal
 

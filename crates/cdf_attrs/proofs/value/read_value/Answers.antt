@@ -1,5 +1,4 @@
-use Rattle.std.proofs.Common.{ap, ◌∙◌}
-use Rattle.cdf_model.specs.ByteOrder.{turned}
+use Rattle.cdf_attrs.proofs.Common.{ap, turned, ◌∙◌}
 use Rattle.cdf_attrs.proofs.ValueWords.{back_written}
 use Rattle.cdf_attrs.proofs.value.read_value.Goals as goal
 

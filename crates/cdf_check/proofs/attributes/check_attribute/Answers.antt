@@ -1,9 +1,4 @@
-use Rattle.std.proofs.Common.{◌≡◌, ℕ, List, Ok, Err}
-use Rattle.cdf_check.proofs.Common.{Vec, Global, name_in, adr_name, Row, whole, Yields, all_of_three, second_of_three}
-use Rattle.cdf_format.specs.AttributeRules.{adr_rows, entries_rows}
-use Rattle.cdf_format.specs.ChainRules.{chain_rows}
-use Rattle.cdf_format.specs.Records.{adr_ngr_entries, adr_nz_entries}
-use Rattle.cdf_format.specs.Shape.{gr_entry_chain, z_entry_chain}
+use Rattle.cdf_check.proofs.Common.{Err, Global, List, Ok, Row, Vec, Yields, adr_name, adr_ngr_entries, adr_nz_entries, adr_rows, all_of_three, chain_rows, entries_rows, gr_entry_chain, name_in, second_of_three, whole, z_entry_chain, ℕ, ◌≡◌}
 use Rattle.cdf_check.proofs.attributes.check_attribute.Goals as goal
 
 gr_rows : List ℕ → List ℕ → ℕ → List Row

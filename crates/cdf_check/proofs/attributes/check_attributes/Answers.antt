@@ -1,4 +1,4 @@
-use Rattle.std.proofs.Common.{arith}
+use Rattle.cdf_check.proofs.Common.{arith}
 use Rattle.cdf_check.proofs.AttributeSteps.{chain_attributes, chain_few}
 use Rattle.cdf_check.proofs.attributes.check_attributes.Goals as goal
 

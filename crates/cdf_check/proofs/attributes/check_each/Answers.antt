@@ -1,6 +1,4 @@
-use Rattle.std.proofs.Common.{◌≡◌, ◌++◌, ◌∷◌, ◌∙◌, get_or, map, take, [], sym, ap, ap₂, subst, add-one, arith, Ok, Err, List, ℕ}
-use Rattle.cdf_check.proofs.Common.{take_all, take_more, flat_map, name_in, adr_name, attribute_records, attribute_shape, Walk, records_of, attribute_rows, same_name, differ_rows, Hold, AreNamed, Finds, Yields, read_more, none_found, one_found, In-get_or, broken_member, holds_more}
-use Rattle.cdf_check.specs.Entries.{Describes}
+use Rattle.cdf_check.proofs.Common.{AreNamed, Describes, Err, Finds, Hold, In-get_or, List, Ok, Walk, Yields, [], add-one, adr_name, ap, ap₂, arith, attribute_records, attribute_rows, attribute_shape, broken_member, differ_rows, flat_map, get_or, holds_more, map, name_in, none_found, one_found, read_more, records_of, same_name, subst, sym, take, take_all, take_more, ℕ, ◌++◌, ◌∙◌, ◌∷◌, ◌≡◌}
 use Rattle.cdf_structure.proofs.IndexLists.{list_more}
 use Rattle.cdf_check.proofs.AttributeSteps.{attributes_break, names_break, phase6_holds}
 use Rattle.cdf_check.proofs.attributes.check_each.Goals as goal

@@ -1,5 +1,4 @@
-use Rattle.std.proofs.Common.{◌≡◌, map, take}
-use Rattle.cdf_check.proofs.Common.{flat_map, Stays, name_in, attribute_records, adr_name, Hold, attribute_shape, attribute_rows, AreNamed}
+use Rattle.cdf_check.proofs.Common.{AreNamed, Hold, Stays, adr_name, attribute_records, attribute_rows, attribute_shape, flat_map, map, name_in, take, ◌≡◌}
 use Rattle.cdf_check.proofs.attributes.check_each.Given as goal
 
 abbrev pub invariant-loop-adr : goal.invariant-loop-adr

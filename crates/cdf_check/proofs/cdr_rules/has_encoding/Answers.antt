@@ -1,8 +1,5 @@
-use Rattle.std.proofs.Common.{◌∙◌, ap, arith}
-use Rattle.std.specs.Prelude.{is_some}
-use Rattle.cdf_format.specs.Fields.{encoding}
+use Rattle.cdf_check.proofs.Common.{ap, arith, encoding, is_some, word4_fits, ◌∙◌}
 use Rattle.cdf_records.specs.declared.cdr.Cdr.{Cdr}
-use Rattle.cdf_records.proofs.Places.{word4_fits}
 use Rattle.cdf_check.proofs.Codes.{known_code}
 use Rattle.cdf_check.proofs.cdr_rules.has_encoding.Goals as goal
 

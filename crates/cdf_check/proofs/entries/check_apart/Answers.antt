@@ -1,5 +1,4 @@
-use Rattle.std.proofs.Common.{◌≡◌, ℕ, get_or, eqb, true, false, sym, ap, ◌∙◌, arith, Some}
-use Rattle.cdf_check.proofs.Common.{list_any, is_in, number, aedr_num, read_more, In-get_or}
+use Rattle.cdf_check.proofs.Common.{In-get_or, Some, aedr_num, ap, arith, eqb, false, get_or, is_in, list_any, number, read_more, sym, true, ℕ, ◌∙◌, ◌≡◌}
 use Rattle.cdf_check.proofs.DifferSteps.{key_met, key_new, keys_more, is_in-any}
 use Rattle.cdf_check.proofs.entries.check_apart.Goals as goal
 

@@ -1,5 +1,4 @@
-use Rattle.std.proofs.Common.{◌≡◌, [], map, take, drop, Option}
-use Rattle.cdf_check.proofs.Common.{Stays, same_number, differ_rows, number, aedr_num, Finds, Finding}
+use Rattle.cdf_check.proofs.Common.{Finding, Finds, Option, Stays, [], aedr_num, differ_rows, drop, map, number, same_number, take, ◌≡◌}
 use Rattle.cdf_structure.specs.Met.{Agrees}
 use Rattle.cdf_check.proofs.entries.check_apart.Given as goal
 

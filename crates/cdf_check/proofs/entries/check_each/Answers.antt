@@ -1,5 +1,4 @@
-use Rattle.std.proofs.Common.{get_or, add-one, Some, None}
-use Rattle.cdf_check.proofs.Common.{entry_rows, Finds, read_more, In-get_or, broken_member, holds_more}
+use Rattle.cdf_check.proofs.Common.{Finds, In-get_or, None, Some, add-one, broken_member, entry_rows, get_or, holds_more, read_more}
 use Rattle.cdf_check.proofs.entries.check_each.Goals as goal
 
 pub check_entry-requires-clause-entry : goal.check_entry-requires-clause-entry

@@ -1,5 +1,4 @@
-use Rattle.std.proofs.Common.{take}
-use Rattle.cdf_check.proofs.Common.{flat_map, Stays, entry_rows, Hold}
+use Rattle.cdf_check.proofs.Common.{Hold, Stays, entry_rows, flat_map, take}
 use Rattle.cdf_check.proofs.entries.check_each.Given as goal
 
 abbrev pub invariant-loop-entry : goal.invariant-loop-entry

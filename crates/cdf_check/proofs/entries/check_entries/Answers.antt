@@ -1,7 +1,5 @@
-use Rattle.std.proofs.Common.{◌≡◌, length}
-use Rattle.cdf_check.proofs.Common.{field, whole}
+use Rattle.cdf_check.proofs.Common.{entry_walk, field, length, whole, ◌≡◌}
 use Rattle.cdf_structure.proofs.NumberSteps.{member_fields}
-use Rattle.cdf_check.specs.Entries.{entry_walk}
 use Rattle.cdf_check.proofs.entries.check_entries.Goals as goal
 
 pub check_members-requires-clause-entries : goal.check_members-requires-clause-entries

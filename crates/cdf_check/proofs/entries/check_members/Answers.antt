@@ -1,7 +1,4 @@
-use Rattle.std.proofs.Common.{ℕ, List, []}
-use Rattle.cdf_check.proofs.Common.{flat_map, entry_rows, same_number, differ_rows, field, Row, Hold, IsBroken, all_of_three, second_of_three}
-use Rattle.cdf_format.specs.ChainRules.{count_rows}
-use Rattle.cdf_structure.proofs.Rows.{first_of_three, third_of_three}
+use Rattle.cdf_check.proofs.Common.{Hold, IsBroken, List, Row, [], all_of_three, count_rows, differ_rows, entry_rows, field, first_of_three, flat_map, same_number, second_of_three, third_of_three, ℕ}
 use Rattle.cdf_check.proofs.entries.check_members.Goals as goal
 
 abbrev counted : List ℕ → ℕ → ℕ → List ℕ → List Row

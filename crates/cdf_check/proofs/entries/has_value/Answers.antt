@@ -1,4 +1,4 @@
-use Rattle.cdf_area.proofs.Calls.{read_done, read_more, read_once}
+use Rattle.cdf_check.proofs.Common.{read_done, read_more, read_once}
 use Rattle.cdf_check.proofs.entries.has_value.Goals as goal
 
 pub returns-then-bytes-le-RECORD_LIMIT-clause-area : goal.returns-then-bytes-le-RECORD_LIMIT-clause-area

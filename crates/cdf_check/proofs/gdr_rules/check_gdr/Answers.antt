@@ -1,4 +1,4 @@
-use Rattle.cdf_area.proofs.Calls.{read_done, read_once}
+use Rattle.cdf_check.proofs.Common.{read_done, read_once}
 use Rattle.cdf_check.proofs.gdr_rules.check_gdr.Goals as goal
 
 pub returns-then-not-has_gdr-clause-area : goal.returns-then-not-has_gdr-clause-area

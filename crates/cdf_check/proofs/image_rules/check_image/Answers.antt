@@ -1,6 +1,4 @@
-use Rattle.std.proofs.Common.{Ok}
-use Rattle.cdf_check.proofs.Common.{phase4, Yields}
-use Rattle.cdf_structure.specs.Records.{AreRecords}
+use Rattle.cdf_check.proofs.Common.{AreRecords, Ok, Yields, phase4}
 use Rattle.cdf_check.proofs.image_rules.check_image.Goals as goal
 
 pub check_linked-requires-clause-tiling : goal.check_linked-requires-clause-tiling

@@ -1,5 +1,4 @@
-use Rattle.std.proofs.Common.{refl, Ok}
-use Rattle.cdf_check.proofs.Common.{phase5, IsBroken, tiling_sound, AreChains, Yields}
+use Rattle.cdf_check.proofs.Common.{AreChains, IsBroken, Ok, Yields, phase5, refl, tiling_sound}
 use Rattle.cdf_check.proofs.ImageSteps.{all_long, linked_break}
 use Rattle.cdf_check.proofs.image_rules.check_linked.Goals as goal
 

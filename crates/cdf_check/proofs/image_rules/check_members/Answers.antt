@@ -1,5 +1,4 @@
-use Rattle.std.proofs.Common.{◌≡◌, ℕ, map, refl, Ok}
-use Rattle.cdf_check.proofs.Common.{Vec, Global, flat_map, phase6, attribute_records, IsBroken, attribute_shape, tiling_sound, Yields}
+use Rattle.cdf_check.proofs.Common.{Global, IsBroken, Ok, Vec, Yields, attribute_records, attribute_shape, flat_map, map, phase6, refl, tiling_sound, ℕ, ◌≡◌}
 use Rattle.cdf_check.proofs.ImageSteps.{all_long, attributes_break}
 use Rattle.cdf_check.proofs.image_rules.check_members.Goals as goal
 

@@ -1,7 +1,4 @@
-use Rattle.std.proofs.Common.{◌≡◌, ℕ, List, ◌∷◌, ◌++◌, length, map, refl, arith, Some, None, Ok, Err}
-use Rattle.cdf_check.proofs.Common.{flat_map, Global, Vec, phase8, variable_records, phase9, variable_shape, phase7, tiling_sound, Finds, Yields}
-use Rattle.cdf_structure.specs.Records.{unused_of}
-use Rattle.cdf_check.specs.Variables.{AreDescribed}
+use Rattle.cdf_check.proofs.Common.{AreDescribed, Err, Finds, Global, List, None, Ok, Some, Vec, Yields, arith, flat_map, length, map, phase7, phase8, phase9, refl, tiling_sound, unused_of, variable_records, variable_shape, ℕ, ◌++◌, ◌∷◌, ◌≡◌}
 use Rattle.cdf_structure.proofs.Searches.{tiles_climb}
 use Rattle.cdf_check.proofs.ImageSteps.{all_read, sizes_lie, variables, variables_once, variables_few, variables_break, indexes_break, owners_break, all_held}
 use Rattle.cdf_check.proofs.image_rules.check_variable_members.Goals as goal

@@ -1,6 +1,4 @@
-use Rattle.std.proofs.Common.{◌≡◌, ◌≢◌, ◌-◌, length, sym, refl, ◌∙◌, Some, None}
-use Rattle.cdf_check.proofs.Common.{read_once, read_more, read_done, image_of, trailer_length, JudgesImage}
-use Rattle.cdf_check.specs.Verdicts.{JudgesStart}
+use Rattle.cdf_check.proofs.Common.{JudgesImage, JudgesStart, None, Some, image_of, length, read_done, read_more, read_once, refl, sym, trailer_length, ◌-◌, ◌∙◌, ◌≡◌, ◌≢◌}
 use Rattle.cdf_check.proofs.PhaseSteps.{image_read, last_read, image_some, image_gdr, image_sizes, image_judged, unsealed_judged, seal_fits, seal_held, seal_broken}
 use Rattle.cdf_check.proofs.validator.check.Goals as goal
 

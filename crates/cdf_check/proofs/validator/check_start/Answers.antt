@@ -1,5 +1,4 @@
-use Rattle.cdf_format.specs.FileRules.{phase0, phase1, phase2, phase3}
-use Rattle.cdf_structure.proofs.Findings.{none_found, one_found}
+use Rattle.cdf_check.proofs.Common.{none_found, one_found, phase0, phase1, phase2, phase3}
 use Rattle.cdf_check.proofs.validator.check_start.Goals as goal
 
 pub returns-in-Some-3-clause-verdict : goal.returns-in-Some-3-clause-verdict

@@ -1,6 +1,4 @@
-use Rattle.std.proofs.Common.{◌≡◌, ◌∙◌, true, ap, sym}
-use Rattle.cdf_format.specs.Fields.{has_bit}
-use Rattle.cdf_format.specs.Shape.{is_compressed}
+use Rattle.cdf_check.proofs.Common.{ap, has_bit, is_compressed, sym, true, ◌∙◌, ◌≡◌}
 use Rattle.cdf_check.proofs.FieldSteps.{packed_breaks}
 use Rattle.cdf_check.proofs.variable.check_packing.Goals as goal
 

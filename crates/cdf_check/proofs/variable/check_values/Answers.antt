@@ -1,5 +1,4 @@
-use Rattle.std.proofs.Common.{◌≡◌, ◌∙◌, sym, Some}
-use Rattle.cdf_check.proofs.Common.{vdr_data_type, known_type}
+use Rattle.cdf_check.proofs.Common.{Some, known_type, sym, vdr_data_type, ◌∙◌, ◌≡◌}
 use Rattle.cdf_check.proofs.VariableShapes.{values_are}
 use Rattle.cdf_check.proofs.variable.check_values.Goals as goal
 

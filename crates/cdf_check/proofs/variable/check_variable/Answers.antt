@@ -1,5 +1,4 @@
-use Rattle.std.proofs.Common.{◌≡◌, ℕ, true, None, Some, Ok, Err, rules}
-use Rattle.cdf_check.proofs.Common.{read_done, read_more, read_once, has_name, vdr_name, record_bytes, AreFields, AreValues, packing_rows, records_rows, shape_rows, value_rows, Finds, Yields}
+use Rattle.cdf_check.proofs.Common.{AreFields, AreValues, Err, Finds, None, Ok, Some, Yields, has_name, packing_rows, read_done, read_more, read_once, record_bytes, records_rows, rules, shape_rows, true, value_rows, vdr_name, ℕ, ◌≡◌}
 use Rattle.cdf_check.proofs.FieldSteps.{all_parts, packing_breaks, records_break, values_break}
 use Rattle.cdf_check.proofs.variable.check_variable.Goals as goal
 

@@ -1,5 +1,4 @@
-use Rattle.std.proofs.Common.{refl}
-use Rattle.cdf_area.proofs.Calls.{read_done, read_once}
+use Rattle.cdf_check.proofs.Common.{read_done, read_once, refl}
 use Rattle.cdf_check.proofs.FieldSteps.{fields_are}
 use Rattle.cdf_check.proofs.variable_fields.read_fields.Goals as goal
 

@@ -1,7 +1,4 @@
-use Rattle.std.proofs.Common.{◌≡◌, ◌≤◌, refl, arith, inl, inr, None, Some}
-use Rattle.cdf_check.proofs.Common.{SomeIff, read_done, read_more, read_once, record_limit, size_at, record_bytes, of_le}
-use Rattle.cdf_format.specs.VariableRules.{vdr_end}
-use Rattle.cdf_check.specs.Variables.{Measures}
+use Rattle.cdf_check.proofs.Common.{Measures, None, Some, SomeIff, arith, inl, inr, of_le, read_done, read_more, read_once, record_bytes, record_limit, refl, size_at, vdr_end, ◌≡◌, ◌≤◌}
 use Rattle.cdf_check.proofs.VariableShapes.{is_longer, is_small_enough, is_too_large}
 use Rattle.cdf_check.proofs.variable_shape.check_shape.Goals as goal
 

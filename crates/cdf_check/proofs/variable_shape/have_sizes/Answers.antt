@@ -1,4 +1,4 @@
-use Rattle.std.proofs.Common.{◌∙◌, sym, rules}
+use Rattle.cdf_check.proofs.Common.{rules, sym, ◌∙◌}
 use Rattle.cdf_check.proofs.VariableShapes.{all_signed, as_read}
 use Rattle.cdf_check.proofs.variable_shape.have_sizes.Goals as goal
 

@@ -1,7 +1,4 @@
-use Rattle.std.proofs.Common.{◌≡◌, ℕ, ◌+◌, ◌≤◌, ◌∙◌, length, map, not, sym, ap, ap₂, subst}
-use Rattle.cdf_check.proofs.Common.{◌==◌, SomeIff, record_limit, words, record_bytes}
-use Rattle.cdf_model.specs.Place.{record_size}
-use Rattle.cdf_format.specs.VariableFields.{varys_at}
+use Rattle.cdf_check.proofs.Common.{SomeIff, ap, ap₂, length, map, not, record_bytes, record_limit, record_size, subst, sym, varys_at, words, ℕ, ◌+◌, ◌==◌, ◌∙◌, ◌≡◌, ◌≤◌}
 use Rattle.cdf_check.proofs.VariableShapes.{length-dims, length-varys}
 use Rattle.cdf_check.proofs.variable_shape.read_record_bytes.Goals as goal
 

@@ -1,8 +1,4 @@
-use Rattle.std.proofs.Common.{◌≡◌, ◌∙◌, [], get_or, take, map, sym, ap, subst, add-one, arith, Ok, Err, List, ℕ}
-use Rattle.cdf_check.proofs.Common.{take_all, take_more, flat_map, read_done, read_more, same_name, differ_rows, name_in, number, vdr_name, vdr_vxr_head, Hold, record_bytes, phase7, variable_rows, AreNamed, Finds, Yields, none_found, one_found, In-get_or, broken_member, holds_more}
-use Rattle.cdf_area.proofs.Calls.{read_failed}
-use Rattle.cdf_check.specs.Variables.{IsVariableOf}
-use Rattle.cdf_structure.proofs.Rows.{one_more}
+use Rattle.cdf_check.proofs.Common.{AreNamed, Err, Finds, Hold, In-get_or, IsVariableOf, List, Ok, Yields, [], add-one, ap, arith, broken_member, differ_rows, flat_map, get_or, holds_more, map, name_in, none_found, number, one_found, one_more, phase7, read_done, read_failed, read_more, record_bytes, same_name, subst, sym, take, take_all, take_more, variable_rows, vdr_name, vdr_vxr_head, ℕ, ◌∙◌, ◌≡◌}
 use Rattle.cdf_check.proofs.VariableSteps.{each_breaks, all_found}
 use Rattle.cdf_check.proofs.variables.check_variables.Goals as goal
 

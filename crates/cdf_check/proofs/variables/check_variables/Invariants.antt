@@ -1,5 +1,4 @@
-use Rattle.std.proofs.Common.{◌≡◌, [], map, take}
-use Rattle.cdf_check.proofs.Common.{flat_map, Stays, name_in, number, vdr_name, vdr_vxr_head, Hold, record_bytes, variable_rows, AreNamed}
+use Rattle.cdf_check.proofs.Common.{AreNamed, Hold, Stays, [], flat_map, map, name_in, number, record_bytes, take, variable_rows, vdr_name, vdr_vxr_head, ◌≡◌}
 use Rattle.cdf_check.proofs.variables.check_variables.Given as goal
 
 abbrev pub invariant-loop-vdr : goal.invariant-loop-vdr

@@ -1,26 +1,9 @@
-use Rattle.std.proofs.Common.{refl, inl, inr, sym, subst, ◌≡◌, ◌⊎◌, ℕ, [], ◌∷◌, codes, pos, false, true, arith, replicate}
-use Rattle.cdf_edits.specs.Index.Blocks.{firsts_of, entry_firsts, cover}
-use Rattle.cdf_edits.specs.Index.Grown.{new_room, with_leaf, new_room_below, with_lower, cut_nodes, cut_entries, outline, entries_outline, with_place, with_place_in}
-use Rattle.cdf_edits.specs.Index.Cut.{sized_nodes, sized_nodes_below}
-use Rattle.cdf_format.specs.Chains.{chain_on}
-use Rattle.cdf_format.specs.Content.{content}
-use Rattle.cdf_format.specs.Index.{nodes_of, lower_nodes, leaves_of, entry_leaves}
-use Rattle.cdf_format.specs.IndexRules.{nodes_rows, used_rows}
-use Rattle.cdf_format.specs.IndexWalk.{entries_on, nodes_on, levels_on}
-use Rattle.cdf_format.specs.Shape.{shape}
-use Rattle.cdf_format.specs.Tiles.{tiles_from}
-use Rattle.cdf_examples.specs.PackedFiles.{packed_file, plain_file}
+use Rattle.cdf_examples.proofs.Common.{ActsFollow, AllKeep, Does, Gave, PutsRecord, Took, VariableShape, [], allowances, arith, block, chain_on, codes, content, cover, cut_entries, cut_nodes, digits, entries_below, entries_in, entries_on, entries_outline, entry_firsts, entry_leaves, false, firsts_of, found_z, inl, inr, leaves_of, levels_on, lower_nodes, nat_le, nat_lt, new_room, new_room_below, no_entry, no_fields, nodes_above, nodes_of, nodes_on, nodes_rows, one_node, outline, owned, packed_file, plain_file, pos, put_r, r_data, record_length, refl, replicate, run_script, shape, sized_nodes, sized_nodes_below, stored_bytes, subst, sym, tiles_from, true, used_rows, widest, widest_below, with_leaf, with_lower, with_place, with_place_in, ℕ, ◌&&◌, ◌+◌, ◌<◌, ◌∷◌, ◌≡◌, ◌⊎◌}
 use Rattle.cdf_examples.proofs.Tests.{keeps_rules}
 use Rattle.cdf_examples.proofs.Deciding.{acts_follow_if, all_keep_if}
-use Rattle.cdf_edits.specs.Commands.Room.{entries_in, entries_below, widest, widest_below, nodes_above}
-use Rattle.cdf_examples.specs.Scripts.{run_script}
-use Rattle.std.specs.Fmt.{digits}
 use Rattle.cdf_examples.proofs.Deciding.{of_variable, nodes_freed_if, nodes_if, freed_if}
-use Rattle.std.proofs.Common.{◌<◌}
 use Rattle.cdf_examples.proofs.Deciding.{of_one}
 use Rattle.cdf_examples.proofs.Packing.{ones_packed}
-use Rattle.std.proofs.Common.{◌+◌}
-use Rattle.cdf_examples.proofs.Common.{Took, Gave, block, no_entry, VariableShape, one_node, r_data, put_r, found_z, nat_le, nat_lt, ◌&&◌, allowances, owned, Does, PutsRecord, no_fields, record_length, stored_bytes, ActsFollow, AllKeep}
 use Rattle.cdf_examples.proofs.admitted.block_replaced.Goals as goal
 
 follow : ActsFollow packed_file plain_file (Took 952 52 ∷ Gave 784 28 ∷ [])

@@ -1,23 +1,7 @@
-use Rattle.std.proofs.Common.{refl, [], ◌∷◌, codes, negsuc, true, arith}
-use Rattle.cdf_examples.proofs.Common.{Took, no_node, t_data, t_shape, found_z, compress_t, allowances, owned, Does, ActsFollow, AllKeep}
-use Rattle.cdf_edits.specs.Index.Blocks.{firsts_of, entry_firsts, cover}
-use Rattle.cdf_edits.specs.Index.Grown.{new_room, with_leaf, new_room_below, with_lower, cut_nodes, cut_entries, outline, entries_outline}
-use Rattle.cdf_edits.specs.Index.Cut.{sized_nodes, sized_nodes_below}
-use Rattle.cdf_format.specs.Chains.{chain_on}
-use Rattle.cdf_format.specs.Content.{content}
-use Rattle.cdf_format.specs.Index.{nodes_of, lower_nodes, leaves_of, entry_leaves}
-use Rattle.cdf_format.specs.IndexRules.{nodes_rows, used_rows}
-use Rattle.cdf_format.specs.IndexWalk.{entries_on, nodes_on, levels_on}
-use Rattle.cdf_format.specs.Shape.{shape}
-use Rattle.cdf_format.specs.Tiles.{tiles_from}
+use Rattle.cdf_examples.proofs.Common.{ActsFollow, AllKeep, Does, SetsCompress, Took, [], allowances, arith, chain_on, codes, compress_t, content, cover, cpr_placed_file, cut_entries, cut_nodes, digits, entries_below, entries_in, entries_on, entries_outline, entry_firsts, entry_leaves, firsts_of, found_z, leaves_of, levels_on, lower_nodes, negsuc, new_room, new_room_below, no_node, nodes_above, nodes_of, nodes_on, nodes_rows, outline, owned, refl, run_script, shape, sized_nodes, sized_nodes_below, t_data, t_shape, tiles_from, true, uncompressed_file, used_rows, widest, widest_below, with_leaf, with_lower, ◌∷◌}
 use Rattle.cdf_examples.proofs.Tests.{keeps_rules}
-use Rattle.cdf_examples.specs.WrongCuts.{uncompressed_file, cpr_placed_file}
 use Rattle.cdf_examples.proofs.Deciding.{acts_follow_if, all_keep_if}
-use Rattle.cdf_edits.specs.Commands.Room.{entries_in, entries_below, widest, widest_below, nodes_above}
-use Rattle.cdf_examples.specs.Scripts.{run_script}
-use Rattle.std.specs.Fmt.{digits}
 use Rattle.cdf_examples.proofs.Deciding.{of_variable}
-use Rattle.cdf_edits.specs.Commands.Cuts.{SetsCompress}
 use Rattle.cdf_examples.proofs.admitted.cpr_placed.Goals as goal
 
 follow : ActsFollow uncompressed_file cpr_placed_file (Took 748 28 ∷ [])

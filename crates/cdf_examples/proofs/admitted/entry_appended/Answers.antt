@@ -1,22 +1,6 @@
-use Rattle.std.proofs.Common.{refl, [], ◌∷◌, codes, arith}
-use Rattle.cdf_examples.proofs.Common.{Took, put_second, AttributeShape, allowances, owned, Does, GreatestIs, share_chain, EntryKind, ActsFollow, AllKeep}
-use Rattle.cdf_edits.specs.Index.Blocks.{firsts_of, entry_firsts, cover}
-use Rattle.cdf_edits.specs.Index.Grown.{new_room, with_leaf, new_room_below, with_lower, cut_nodes, cut_entries, outline, entries_outline}
-use Rattle.cdf_edits.specs.Index.Cut.{sized_nodes, sized_nodes_below}
-use Rattle.cdf_format.specs.Chains.{chain_on}
-use Rattle.cdf_format.specs.Content.{content}
-use Rattle.cdf_format.specs.Index.{nodes_of, lower_nodes, leaves_of, entry_leaves}
-use Rattle.cdf_format.specs.IndexRules.{nodes_rows, used_rows}
-use Rattle.cdf_format.specs.IndexWalk.{entries_on, nodes_on, levels_on}
-use Rattle.cdf_format.specs.Shape.{shape}
-use Rattle.cdf_format.specs.Tiles.{tiles_from}
-use Rattle.cdf_examples.specs.WrongEntries.{one_entry_file, entry_last_file}
+use Rattle.cdf_examples.proofs.Common.{ActsFollow, AllKeep, AttributeShape, Does, EntryKind, GreatestIs, PutsEntry, Took, [], allowances, arith, chain_on, codes, content, cover, cut_entries, cut_nodes, digits, entries_below, entries_in, entries_on, entries_outline, entry_firsts, entry_last_file, entry_leaves, firsts_of, leaves_of, levels_on, lower_nodes, new_room, new_room_below, nodes_above, nodes_of, nodes_on, nodes_rows, one_entry_file, outline, owned, put_second, refl, run_script, shape, share_chain, sized_nodes, sized_nodes_below, tiles_from, used_rows, widest, widest_below, with_leaf, with_lower, ◌∷◌}
 use Rattle.cdf_examples.proofs.Deciding.{acts_follow_if, all_keep_if}
-use Rattle.cdf_edits.specs.Commands.Room.{entries_in, entries_below, widest, widest_below, nodes_above}
-use Rattle.cdf_examples.specs.Scripts.{run_script}
-use Rattle.std.specs.Fmt.{digits}
 use Rattle.cdf_examples.proofs.Deciding.{of_attribute}
-use Rattle.cdf_edits.specs.Commands.Entries.{PutsEntry}
 use Rattle.cdf_model.specs.declared.kinds.EntryKind.TheVariants as entries
 use Rattle.cdf_examples.proofs.admitted.entry_appended.Goals as goal
 

@@ -1,23 +1,7 @@
-use Rattle.std.proofs.Common.{refl, ◌≡◌, [], ◌∷◌, codes, pos, false, true, Bool, arith}
-use Rattle.cdf_edits.specs.Index.Blocks.{firsts_of, entry_firsts, cover}
-use Rattle.cdf_edits.specs.Index.Grown.{new_room, with_leaf, new_room_below, with_lower, cut_nodes, cut_entries, outline, entries_outline}
-use Rattle.cdf_edits.specs.Index.Cut.{sized_nodes, sized_nodes_below}
-use Rattle.cdf_format.specs.Chains.{chain_on}
-use Rattle.cdf_format.specs.Content.{content}
-use Rattle.cdf_format.specs.Index.{nodes_of, lower_nodes, leaves_of, entry_leaves}
-use Rattle.cdf_format.specs.IndexRules.{nodes_rows, used_rows}
-use Rattle.cdf_format.specs.IndexWalk.{entries_on, nodes_on, levels_on}
-use Rattle.cdf_format.specs.Shape.{shape}
-use Rattle.cdf_format.specs.Tiles.{tiles_from}
+use Rattle.cdf_examples.proofs.Common.{ActsFollow, AllKeep, Bool, DeletesRecords, Does, Gave, VariableShape, [], allowances, arith, block, chain_on, codes, content, cover, cut_entries, cut_nodes, delete_t, digits, entries_below, entries_in, entries_on, entries_outline, entry_firsts, entry_leaves, false, firsts_of, found_z, high_first, is_deleted, is_taken_at, leaves_of, levels_on, lower_nodes, nat_le, new_room, new_room_below, no_entry, no_fields, node, node_freed_file, nodes_above, nodes_of, nodes_on, nodes_rows, not, number_after_cut, one_node, outline, owned, pad_high_first, pos, record_length, records_index, refl, room_at, run_script, shape, size_at, sized_nodes, sized_nodes_below, stored_bytes, t_data, t_shape, tiles_from, true, two_nodes_file, used_rows, vxr_bytes, widest, widest_below, with_leaf, with_lower, ◌&&◌, ◌∷◌, ◌≡◌}
 use Rattle.cdf_examples.proofs.Tests.{keeps_rules}
-use Rattle.cdf_examples.specs.WrongCuts.{two_nodes_file, node_freed_file}
 use Rattle.cdf_examples.proofs.Deciding.{acts_follow_if, all_keep_if}
-use Rattle.cdf_edits.specs.Commands.Room.{entries_in, entries_below, widest, widest_below, nodes_above}
-use Rattle.cdf_examples.specs.Scripts.{run_script}
-use Rattle.std.specs.Fmt.{digits}
 use Rattle.cdf_examples.proofs.Deciding.{of_variable, nodes_freed_if, nodes_if, given_if, each_if}
-use Rattle.std.proofs.Common.{not}
-use Rattle.cdf_examples.proofs.Common.{Gave, node, block, no_entry, VariableShape, size_at, one_node, t_data, t_shape, records_index, high_first, pad_high_first, found_z, delete_t, nat_le, ◌&&◌, allowances, owned, Does, DeletesRecords, no_fields, is_taken_at, record_length, stored_bytes, is_deleted, number_after_cut, vxr_bytes, room_at, ActsFollow, AllKeep}
 use Rattle.cdf_examples.proofs.Deciding.{first_or_second, not_kept}
 use Rattle.cdf_examples.proofs.admitted.node_freed.Goals as goal
 

@@ -1,25 +1,9 @@
-use Rattle.std.proofs.Common.{refl, inl, inr, ◌≡◌, ◌++◌, ◌⊎◌, [], ◌∷◌, codes, pos, arith}
-use Rattle.cdf_edits.specs.Index.Blocks.{firsts_of, entry_firsts, cover}
-use Rattle.cdf_edits.specs.Index.Grown.{new_room, with_leaf, new_room_below, with_lower, cut_nodes, cut_entries, outline, entries_outline}
-use Rattle.cdf_edits.specs.Index.Cut.{sized_nodes, sized_nodes_below}
-use Rattle.cdf_format.specs.Chains.{chain_on}
-use Rattle.cdf_format.specs.Content.{content}
-use Rattle.cdf_format.specs.Index.{nodes_of, lower_nodes, leaves_of, entry_leaves}
-use Rattle.cdf_format.specs.IndexRules.{nodes_rows, used_rows}
-use Rattle.cdf_format.specs.IndexWalk.{entries_on, nodes_on, levels_on}
-use Rattle.cdf_format.specs.Shape.{shape}
-use Rattle.cdf_format.specs.Tiles.{tiles_from}
-use Rattle.cdf_examples.specs.WrongPuts.{first_put_file, put_again_file}
+use Rattle.cdf_examples.proofs.Common.{ActsFollow, AllKeep, Does, PutsRecord, VariableShape, [], allowances, arith, chain_on, codes, content, cover, cut_entries, cut_nodes, digits, entries_below, entries_in, entries_on, entries_outline, entry_firsts, entry_leaves, first_put_file, first_written, firsts_of, found_z, high_first, inl, inr, leaves_of, levels_on, lower_nodes, max_rec_touches, new_room, new_room_below, nodes_above, nodes_of, nodes_on, nodes_rows, outline, owned, pos, put_again_file, put_t, record_length, records_index, refl, run_script, shape, sized_nodes, sized_nodes_below, stored_bytes, t_data, t_shape, tiles_from, used_rows, widest, widest_below, with_leaf, with_lower, written_in, ◌++◌, ◌<◌, ◌∷◌, ◌≡◌, ◌⊎◌}
 use Rattle.cdf_examples.proofs.Tests.{keeps_rules}
 use Rattle.cdf_examples.proofs.Deciding.{acts_follow_if, all_keep_if}
-use Rattle.cdf_edits.specs.Commands.Room.{entries_in, entries_below, widest, widest_below, nodes_above}
-use Rattle.cdf_examples.specs.Scripts.{run_script}
-use Rattle.std.specs.Fmt.{digits}
 use Rattle.cdf_examples.proofs.Deciding.{of_variable, nodes_freed_if, nodes_if}
 use Rattle.cdf_examples.proofs.Deciding.{of_four}
 use Rattle.cdf_examples.proofs.BytesKept.{changed_by}
-use Rattle.std.proofs.Common.{◌<◌}
-use Rattle.cdf_examples.proofs.Common.{VariableShape, t_data, t_shape, records_index, high_first, put_t, found_z, allowances, owned, Does, PutsRecord, max_rec_touches, written_in, first_written, record_length, stored_bytes, ActsFollow, AllKeep}
 use Rattle.cdf_model.specs.declared.kinds.Kind.TheVariants as kinds
 use Rattle.cdf_examples.proofs.admitted.record_put_again.Goals as goal
 

@@ -1,21 +1,6 @@
-use Rattle.std.proofs.Common.{refl, [], ◌∷◌, codes, negsuc, false, arith}
-use Rattle.cdf_examples.proofs.Common.{Took, no_node, block, no_entry, VariableShape, one_node, t_data, t_shape, put_t, found_z, allowances, owned, Does, PutsRecord, ActsFollow, AllKeep}
-use Rattle.cdf_edits.specs.Index.Blocks.{firsts_of, entry_firsts, cover}
-use Rattle.cdf_edits.specs.Index.Grown.{new_room, with_leaf, new_room_below, with_lower, cut_nodes, cut_entries, outline, entries_outline}
-use Rattle.cdf_edits.specs.Index.Cut.{sized_nodes, sized_nodes_below}
-use Rattle.cdf_format.specs.Chains.{chain_on}
-use Rattle.cdf_format.specs.Content.{content}
-use Rattle.cdf_format.specs.Index.{nodes_of, lower_nodes, leaves_of, entry_leaves}
-use Rattle.cdf_format.specs.IndexRules.{nodes_rows, used_rows}
-use Rattle.cdf_format.specs.IndexWalk.{entries_on, nodes_on, levels_on}
-use Rattle.cdf_format.specs.Shape.{shape}
-use Rattle.cdf_format.specs.Tiles.{tiles_from}
-use Rattle.cdf_examples.specs.WrongPuts.{spare_file, rest_listed_file}
+use Rattle.cdf_examples.proofs.Common.{ActsFollow, AllKeep, Does, PutsRecord, Took, VariableShape, [], allowances, arith, block, chain_on, codes, content, cover, cut_entries, cut_nodes, digits, entries_below, entries_in, entries_on, entries_outline, entry_firsts, entry_leaves, false, firsts_of, found_z, leaves_of, levels_on, lower_nodes, negsuc, new_room, new_room_below, no_entry, no_node, nodes_above, nodes_of, nodes_on, nodes_rows, one_node, outline, owned, put_t, refl, rest_listed_file, run_script, shape, sized_nodes, sized_nodes_below, spare_file, t_data, t_shape, tiles_from, used_rows, widest, widest_below, with_leaf, with_lower, ◌∷◌}
 use Rattle.cdf_examples.proofs.Tests.{keeps_rules}
 use Rattle.cdf_examples.proofs.Deciding.{acts_follow_if, all_keep_if}
-use Rattle.cdf_edits.specs.Commands.Room.{entries_in, entries_below, widest, widest_below, nodes_above}
-use Rattle.cdf_examples.specs.Scripts.{run_script}
-use Rattle.std.specs.Fmt.{digits}
 use Rattle.cdf_examples.proofs.Deciding.{of_variable, nodes_freed_if, nodes_if}
 use Rattle.cdf_examples.proofs.admitted.record_split.Goals as goal
 

@@ -1,12 +1,5 @@
-use Rattle.std.proofs.Common.{refl, sym, ap, subst, ◌≡◌, ◌⊎◌, ◌≤◌, ℕ, zero, suc, ◌+◌, List, [], ◌∷◌, length, map, codes, inl, inr, arith}
-use Rattle.cdf_examples.proofs.Common.{AllKeep, FreedStay, no_fields, allowances, MakesIndex, FullFromLeft, UnusedEntries, NodeSpareStays, Act, Took, Gave, ActsFollow, content_of, owned, Shape, shape, reindex_w, w_shape, wide_node_index}
-use Rattle.std.specs.List.{sum}
-use Rattle.cdf_edits.specs.Commands.Reindex.{IsPyramid, nodes_at, nodes_below, AreTight, EntriesTight}
-use Rattle.cdf_edits.specs.Commands.Room.{room_in, room, nodes_above}
-use Rattle.cdf_format.specs.Chains.{chain_on}
-use Rattle.cdf_format.specs.Content.{content}
-use Rattle.cdf_format.specs.Index.{nodes_of, lower_nodes, leaves_of, entry_leaves}
-use Rattle.cdf_examples.specs.WideIndexes.{wide_node_file, two_levels_made_file, two_levels_made_index}
+use Rattle.cdf_examples.proofs.Common.{Act, ActsFollow, AllKeep, AreTight, EntriesTight, FreedStay, FullFromLeft, Gave, IsPyramid, List, MakesIndex, NodeSpareStays, Shape, Took, UnusedEntries, [], allowances, ap, arith, chain_on, codes, content, content_of, entry_leaves, inl, inr, leaves_of, length, lower_nodes, no_fields, nodes_above, nodes_at, nodes_below, nodes_of, owned, refl, reindex_w, room, room_in, shape, subst, suc, sum, sym, two_levels_made_file, two_levels_made_index, w_shape, wide_node_file, wide_node_index, zero, ℕ, ◌+◌, ◌∷◌, ◌≡◌, ◌≤◌, ◌⊎◌}
+use Rattle.std.proofs.Common.{map}
 use Rattle.cdf_examples.proofs.Deciding.{follow_in, keep_in, bare_if, freed_in}
 use Rattle.cdf_examples.proofs.Reindexing.{reindexes}
 use Rattle.cdf_examples.proofs.Walking.{shape_by}

@@ -1,22 +1,6 @@
-use Rattle.std.proofs.Common.{refl, [], ◌∷◌, codes, pos, false, inl, arith}
-use Rattle.cdf_examples.proofs.Common.{Gave, block, no_entry, one_node, t_data, t_shape, high_first, found_z, delete_var_t, allowances, owned, Does, ActsFollow, AllKeep}
-use Rattle.cdf_edits.specs.Commands.Variables.{emptied_fields}
-use Rattle.cdf_edits.specs.Index.Blocks.{firsts_of, entry_firsts, cover}
-use Rattle.cdf_edits.specs.Index.Grown.{new_room, with_leaf, new_room_below, with_lower, cut_nodes, cut_entries, outline, entries_outline}
-use Rattle.cdf_edits.specs.Index.Cut.{sized_nodes, sized_nodes_below}
-use Rattle.cdf_format.specs.Chains.{chain_on}
-use Rattle.cdf_format.specs.Content.{content}
-use Rattle.cdf_format.specs.Index.{nodes_of, lower_nodes, leaves_of, entry_leaves}
-use Rattle.cdf_format.specs.IndexRules.{nodes_rows, used_rows}
-use Rattle.cdf_format.specs.IndexWalk.{entries_on, nodes_on, levels_on}
-use Rattle.cdf_format.specs.Shape.{shape}
-use Rattle.cdf_format.specs.Tiles.{tiles_from}
+use Rattle.cdf_examples.proofs.Common.{ActsFollow, AllKeep, Does, Gave, [], allowances, arith, block, chain_on, codes, content, cover, cut_entries, cut_nodes, delete_var_t, digits, emptied_fields, entries_below, entries_in, entries_on, entries_outline, entry_firsts, entry_leaves, false, firsts_of, found_z, high_first, inl, leaves_of, levels_on, lower_nodes, new_room, new_room_below, no_entry, nodes_above, nodes_of, nodes_on, nodes_rows, one_node, outline, owned, pos, refl, run_script, shape, sized_nodes, sized_nodes_below, small_block_file, t_data, t_shape, tiles_from, used_rows, var_deleted_file, widest, widest_below, with_leaf, with_lower, ◌∷◌}
 use Rattle.cdf_examples.proofs.Tests.{keeps_rules}
-use Rattle.cdf_examples.specs.WrongCuts.{small_block_file, var_deleted_file}
 use Rattle.cdf_examples.proofs.Deciding.{acts_follow_if, all_keep_if}
-use Rattle.cdf_edits.specs.Commands.Room.{entries_in, entries_below, widest, widest_below, nodes_above}
-use Rattle.cdf_examples.specs.Scripts.{run_script}
-use Rattle.std.specs.Fmt.{digits}
 use Rattle.cdf_examples.proofs.Deciding.{deleted_named, freed_if}
 use Rattle.cdf_model.specs.declared.kinds.Kind.TheVariants as kinds
 use Rattle.cdf_examples.proofs.admitted.variable_deleted.Goals as goal

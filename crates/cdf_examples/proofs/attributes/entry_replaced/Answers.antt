@@ -1,10 +1,4 @@
-use Rattle.std.proofs.Common.{refl}
-use Rattle.cdf_format.specs.Chains.{chain_on}
-use Rattle.cdf_format.specs.Content.{content}
-use Rattle.cdf_format.specs.Shape.{shape}
-use Rattle.cdf_format.specs.Tiles.{tiles_from}
-use Rattle.cdf_examples.specs.Attributes.{entry_file, replaced_file, moved_file}
-use Rattle.cdf_examples.specs.Scripts.{run_script}
+use Rattle.cdf_examples.proofs.Common.{chain_on, content, entry_file, moved_file, refl, replaced_file, run_script, shape, tiles_from}
 use Rattle.cdf_examples.proofs.Tests.{keeps_rules}
 use Rattle.cdf_examples.proofs.attributes.entry_replaced.Goals as goal
 

@@ -1,12 +1,4 @@
-use Rattle.std.proofs.Common.{refl}
-use Rattle.std.specs.Fmt.{digits}
-use Rattle.cdf_format.specs.Chains.{chain_on}
-use Rattle.cdf_format.specs.Content.{content}
-use Rattle.cdf_format.specs.Shape.{shape}
-use Rattle.cdf_format.specs.Tiles.{tiles_from}
-use Rattle.cdf_examples.specs.Attributes.{attribute_file}
-use Rattle.cdf_examples.specs.NewFile.{new_file}
-use Rattle.cdf_examples.specs.Scripts.{run_script}
+use Rattle.cdf_examples.proofs.Common.{attribute_file, chain_on, content, digits, new_file, refl, run_script, shape, tiles_from}
 use Rattle.cdf_examples.proofs.Tests.{keeps_rules}
 use Rattle.cdf_examples.proofs.attributes.made.Goals as goal
 

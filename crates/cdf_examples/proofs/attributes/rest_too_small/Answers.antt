@@ -1,10 +1,4 @@
-use Rattle.std.proofs.Common.{refl}
-use Rattle.cdf_format.specs.Chains.{chain_on}
-use Rattle.cdf_format.specs.Content.{content}
-use Rattle.cdf_format.specs.Shape.{shape}
-use Rattle.cdf_format.specs.Tiles.{tiles_from}
-use Rattle.cdf_examples.specs.Attributes.{freed100_file, behind_file}
-use Rattle.cdf_examples.specs.Scripts.{run_script}
+use Rattle.cdf_examples.proofs.Common.{behind_file, chain_on, content, freed100_file, refl, run_script, shape, tiles_from}
 use Rattle.cdf_examples.proofs.Tests.{keeps_rules}
 use Rattle.cdf_examples.proofs.attributes.rest_too_small.Goals as goal
 

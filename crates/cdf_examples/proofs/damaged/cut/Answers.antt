@@ -1,6 +1,4 @@
-use Rattle.std.proofs.Common.{[], take, refl}
-use Rattle.cdf_format.specs.Sealed.{sealed}
-use Rattle.cdf_examples.specs.Usual.{usual_image}
+use Rattle.cdf_examples.proofs.Common.{[], refl, sealed, take, usual_image}
 use Rattle.cdf_examples.proofs.Tests.{breaks_first}
 use Rattle.cdf_examples.proofs.damaged.cut.Goals as goal
 

@@ -1,16 +1,6 @@
-use Rattle.std.proofs.Common.{◌≡◌, ◌≢◌, ℕ, Bool, true, false, not, ◌&&◌, ◌||◌, ◌==◌, List, [], ◌∷◌, ◌++◌, refl, sym, ◌∙◌, ap, subst, inl, inr}
-use Rattle.cdf_examples.proofs.Common.{sealed, BreaksFirst, checksum_digest, usual_digest}
+use Rattle.cdf_examples.proofs.Common.{Bool, BreaksFirst, List, [], ap, block_words, chain_on, checksum_digest, checksum_image, compress, digest_bytes, entries_on, entry_leaves, false, hash_after, inl, inr, leaves_of, levels_on, lower_nodes, md5, nodes_of, nodes_on, nodes_rows, not, put, refl, rounds, sealed, shape, subst, sym, tiles_from, true, used_rows, usual_digest, usual_image, ℕ, ◌++◌, ◌==◌, ◌||◌, ◌∙◌, ◌∷◌, ◌≡◌, ◌≢◌}
+use Rattle.std.proofs.Common.{◌&&◌}
 use Rattle.std.proofs.lemmas.Bool.Decides.{eqb_tells}
-use Rattle.md5.specs.Md5.{md5, digest_bytes, hash_after, compress, rounds, block_words}
-use Rattle.cdf_base.specs.Bytes.{put}
-use Rattle.cdf_format.specs.Chains.{chain_on}
-use Rattle.cdf_format.specs.Index.{nodes_of, lower_nodes, leaves_of, entry_leaves}
-use Rattle.cdf_format.specs.IndexRules.{nodes_rows, used_rows}
-use Rattle.cdf_format.specs.IndexWalk.{entries_on, nodes_on, levels_on}
-use Rattle.cdf_format.specs.Shape.{shape}
-use Rattle.cdf_format.specs.Tiles.{tiles_from}
-use Rattle.cdf_examples.specs.ChecksumFile.{checksum_image}
-use Rattle.cdf_examples.specs.Usual.{usual_image}
 use Rattle.cdf_examples.proofs.Digests.{checksum_sealed, usual_sealed}
 use Rattle.cdf_examples.proofs.Tests.{breaks, breaks_first}
 use Rattle.cdf_examples.proofs.damaged.digests.Goals as goal

@@ -1,11 +1,4 @@
-use Rattle.std.proofs.Common.{refl}
-use Rattle.cdf_base.specs.Bytes.{put}
-use Rattle.cdf_format.specs.Chains.{chain_on}
-use Rattle.cdf_format.specs.Fields.{with_field}
-use Rattle.cdf_format.specs.Shape.{shape}
-use Rattle.cdf_format.specs.Tiles.{tiles_from}
-use Rattle.cdf_examples.specs.DamagedNew.{not_owned_file, damaged_new}
-use Rattle.cdf_examples.specs.NewFile.{new_file}
+use Rattle.cdf_examples.proofs.Common.{chain_on, damaged_new, new_file, not_owned_file, put, refl, shape, tiles_from, with_field}
 use Rattle.cdf_examples.proofs.Tests.{EachBreaks-by, breaks_first}
 use Rattle.cdf_examples.proofs.damaged.new_file_changed.Goals as goal
 

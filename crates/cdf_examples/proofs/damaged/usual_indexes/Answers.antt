@@ -1,14 +1,4 @@
-use Rattle.std.proofs.Common.{◌≡◌, true, ◌++◌, refl}
-use Rattle.cdf_base.specs.Bytes.{put}
-use Rattle.cdf_format.specs.Chains.{chain_on}
-use Rattle.cdf_format.specs.Fields.{with_field, with_name}
-use Rattle.cdf_format.specs.Index.{nodes_of, lower_nodes, leaves_of, entry_leaves}
-use Rattle.cdf_format.specs.IndexRules.{nodes_rows, used_rows}
-use Rattle.cdf_format.specs.IndexWalk.{entries_on, nodes_on, levels_on}
-use Rattle.cdf_format.specs.Shape.{shape}
-use Rattle.cdf_format.specs.Tiles.{tiles_from}
-use Rattle.cdf_examples.specs.DamagedUsual.{damaged_indexes}
-use Rattle.cdf_examples.specs.Usual.{usual_image, usual_digest}
+use Rattle.cdf_examples.proofs.Common.{chain_on, damaged_indexes, entries_on, entry_leaves, leaves_of, levels_on, lower_nodes, nodes_of, nodes_on, nodes_rows, put, refl, shape, tiles_from, true, used_rows, usual_digest, usual_image, with_field, with_name, ◌++◌, ◌≡◌}
 use Rattle.cdf_examples.proofs.Digests.{usual_breaks}
 use Rattle.cdf_examples.proofs.Tests.{each_breaks}
 use Rattle.cdf_examples.proofs.damaged.usual_indexes.Goals as goal

@@ -1,4 +1,4 @@
-use Rattle.std.proofs.Common.{refl}
+use Rattle.cdf_examples.proofs.Common.{refl}
 use Rattle.cdf_examples.proofs.layout.in_order.Goals as goal
 
 pub returns : goal.returns

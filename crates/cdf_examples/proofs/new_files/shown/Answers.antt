@@ -1,6 +1,4 @@
-use Rattle.std.proofs.Common.{refl}
-use Rattle.std.specs.Fmt.{digits}
-use Rattle.cdf_examples.specs.Scripts.{run_script}
+use Rattle.cdf_examples.proofs.Common.{digits, refl, run_script}
 use Rattle.cdf_examples.proofs.new_files.shown.Goals as goal
 
 pub returns : goal.returns

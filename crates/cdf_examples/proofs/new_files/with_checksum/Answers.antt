@@ -1,14 +1,4 @@
-use Rattle.std.proofs.Common.{◌≡◌, true, ◌++◌, refl, sym, subst}
-use Rattle.md5.specs.Md5.{md5, digest_bytes, hash_after, compress, rounds, block_words}
-use Rattle.cdf_format.specs.Chains.{chain_on}
-use Rattle.std.specs.Fmt.{digits}
-use Rattle.cdf_format.specs.Content.{content}
-use Rattle.cdf_examples.specs.NewFile.{new_file}
-use Rattle.cdf_examples.specs.Scripts.{run_script}
-use Rattle.cdf_format.specs.Shape.{shape}
-use Rattle.cdf_format.specs.Tiles.{tiles_from}
-use Rattle.cdf_examples.specs.Asked.{lasting_phases, KeepsRules}
-use Rattle.cdf_examples.specs.ChecksumFile.{checksum_image, checksum_digest}
+use Rattle.cdf_examples.proofs.Common.{KeepsRules, block_words, chain_on, checksum_digest, checksum_image, compress, content, digest_bytes, digits, hash_after, lasting_phases, md5, new_file, refl, rounds, run_script, shape, subst, sym, tiles_from, true, ◌++◌, ◌≡◌}
 use Rattle.cdf_examples.proofs.Digests.{checksum_sealed, checksum_digest_is, checksum_length}
 use Rattle.cdf_examples.proofs.Tests.{all_hold, keeps_rules}
 use Rattle.cdf_examples.proofs.new_files.with_checksum.Goals as goal

@@ -1,5 +1,4 @@
-use Rattle.std.proofs.Common.{refl}
-use Rattle.cdf_examples.specs.NewFile.{new_file}
+use Rattle.cdf_examples.proofs.Common.{new_file, refl}
 use Rattle.cdf_examples.proofs.new_files.written.Goals as goal
 
 pub returns : goal.returns

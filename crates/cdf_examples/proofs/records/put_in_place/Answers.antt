@@ -1,17 +1,6 @@
-use Rattle.std.proofs.Common.{◌≡◌, ◌++◌, ◌&&◌, ◌||◌, Bool, true, false, zero, suc, refl, inl, inr, arith}
-use Rattle.std.proofs.lemmas.Bool.{leb-true}
-use Rattle.cdf_edits.specs.Index.Blocks.{cover, firsts_of, entry_firsts, first_written}
-use Rattle.cdf_format.specs.Chains.{chain_on}
-use Rattle.cdf_format.specs.Content.{content}
-use Rattle.cdf_format.specs.Index.{nodes_of, lower_nodes, leaves_of, entry_leaves}
-use Rattle.cdf_format.specs.IndexWalk.{entries_on, nodes_on, levels_on}
-use Rattle.cdf_edits.specs.Commands.Puts.{max_rec_touches, written_in, UnwrittenStay}
-use Rattle.cdf_edits.specs.Commands.Room.{entries_in, entries_below, widest, widest_below}
-use Rattle.cdf_format.specs.Shape.{shape}
-use Rattle.cdf_format.specs.Tiles.{tiles_from}
+use Rattle.cdf_examples.proofs.Common.{Bool, UnwrittenStay, arith, chain_on, content, cover, entries_below, entries_in, entries_on, entry_firsts, entry_leaves, false, first_written, firsts_of, in_place_file, inl, inr, leaves_of, leb-true, levels_on, lower_nodes, max_rec_touches, nodes_of, nodes_on, records_data, records_file, records_index, refl, run_script, shape, suc, t_shape, tiles_from, true, widest, widest_below, written_in, zero, ◌++◌, ◌||◌, ◌≡◌}
+use Rattle.std.proofs.Common.{◌&&◌}
 use Rattle.cdf_model.specs.declared.kinds.Kind.TheVariants as kinds
-use Rattle.cdf_examples.specs.RecordFiles.{records_file, records_index, records_data, in_place_file, t_shape}
-use Rattle.cdf_examples.specs.Scripts.{run_script}
 use Rattle.cdf_examples.proofs.BytesKept.{changed_by}
 use Rattle.cdf_examples.proofs.records.put_in_place.Goals as goal
 

@@ -1,17 +1,6 @@
-use Rattle.std.proofs.Common.{refl, subst, [], ◌∷◌, negsuc}
-use Rattle.cdf_examples.proofs.Common.{space_before, AreActs, no_node, VariableShape, Refused, t_data, t_shape, found_z, compress_t}
-use Rattle.cdf_edits.specs.Index.Grown.{cut_nodes, cut_entries, outline, entries_outline}
-use Rattle.cdf_edits.specs.Index.Cut.{sized_nodes, sized_nodes_below}
-use Rattle.cdf_format.specs.Chains.{chain_on}
-use Rattle.cdf_format.specs.Content.{content}
-use Rattle.cdf_format.specs.Index.{nodes_of, lower_nodes, leaves_of, entry_leaves}
-use Rattle.cdf_format.specs.IndexRules.{nodes_rows, used_rows}
-use Rattle.cdf_format.specs.IndexWalk.{entries_on, nodes_on, levels_on}
-use Rattle.cdf_format.specs.Shape.{shape}
-use Rattle.cdf_format.specs.Tiles.{tiles_from}
+use Rattle.cdf_examples.proofs.Common.{AreActs, Refused, VariableShape, [], chain_on, compress_t, content, cpr_at_end_file, cpr_placed_file, cut_entries, cut_nodes, entries_on, entries_outline, entry_leaves, found_z, leaves_of, levels_on, lower_nodes, negsuc, no_node, nodes_of, nodes_on, nodes_rows, outline, refl, shape, sized_nodes, sized_nodes_below, space_before, subst, t_data, t_shape, tiles_from, uncompressed_file, used_rows, ◌∷◌}
 use Rattle.cdf_examples.proofs.Tests.{keeps_rules}
 use Rattle.cdf_examples.proofs.Refusing.{unequal}
-use Rattle.cdf_examples.specs.WrongCuts.{uncompressed_file, cpr_placed_file, cpr_at_end_file}
 use Rattle.cdf_examples.proofs.CutLemmas.{not_at_end}
 use Rattle.cdf_examples.proofs.refused_cuts.cpr_at_end.Goals as goal
 

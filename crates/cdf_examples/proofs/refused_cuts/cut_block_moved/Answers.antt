@@ -1,20 +1,6 @@
-use Rattle.std.proofs.Common.{refl, subst, false}
-use Rattle.cdf_examples.proofs.Common.{Nodes, block, no_entry, VariableShape, Refused, one_node, t_shape, records_index, records_data, found_z, delete_t, Each}
-use Rattle.cdf_edits.specs.Index.Grown.{cut_nodes, cut_entries, outline, entries_outline}
-use Rattle.cdf_edits.specs.Index.Cut.{sized_nodes, sized_nodes_below}
-use Rattle.cdf_format.specs.Chains.{chain_on}
-use Rattle.cdf_format.specs.Content.{content}
-use Rattle.cdf_format.specs.Index.{nodes_of, lower_nodes, leaves_of, entry_leaves}
-use Rattle.cdf_format.specs.IndexRules.{nodes_rows, used_rows}
-use Rattle.cdf_format.specs.IndexWalk.{entries_on, nodes_on, levels_on}
-use Rattle.cdf_format.specs.Shape.{shape}
-use Rattle.cdf_format.specs.Tiles.{tiles_from}
-use Rattle.cdf_examples.specs.RecordFiles.{records_file}
+use Rattle.cdf_examples.proofs.Common.{Each, Nodes, Refused, StaysWhole, VariableShape, block, block_moved_file, chain_on, content, cut_entries, cut_nodes, delete_t, entries_on, entries_outline, entry_leaves, false, found_z, kept_closed, last_deleted_file, leaves_of, levels_on, lower_nodes, no_entry, nodes_of, nodes_on, nodes_rows, one_node, outline, records_data, records_file, records_index, refl, shape, sized_nodes, sized_nodes_below, subst, t_shape, tiles_from, used_rows}
 use Rattle.cdf_examples.proofs.Tests.{keeps_rules}
 use Rattle.cdf_examples.proofs.Refusing.{unequal}
-use Rattle.cdf_examples.specs.WrongCuts.{last_deleted_file, block_moved_file}
-use Rattle.cdf_edits.specs.Index.Cut.{StaysWhole}
-use Rattle.cdf_edits.specs.Index.Grown.{kept_closed}
 use Rattle.cdf_examples.proofs.refused_cuts.cut_block_moved.Goals as goal
 
 refused : Refused records_file (delete_t 3 3) block_moved_file

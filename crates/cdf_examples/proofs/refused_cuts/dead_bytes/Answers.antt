@@ -1,18 +1,6 @@
-use Rattle.std.proofs.Common.{refl, inl}
-use Rattle.cdf_edits.specs.Index.Grown.{cut_nodes, cut_entries, outline, entries_outline}
-use Rattle.cdf_edits.specs.Index.Cut.{sized_nodes, sized_nodes_below}
-use Rattle.cdf_format.specs.Chains.{chain_on}
-use Rattle.cdf_format.specs.Content.{content}
-use Rattle.cdf_format.specs.Index.{nodes_of, lower_nodes, leaves_of, entry_leaves}
-use Rattle.cdf_format.specs.IndexRules.{nodes_rows, used_rows}
-use Rattle.cdf_format.specs.IndexWalk.{entries_on, nodes_on, levels_on}
-use Rattle.cdf_format.specs.Shape.{shape}
-use Rattle.cdf_format.specs.Tiles.{tiles_from}
-use Rattle.cdf_examples.specs.Claimed.{Refused}
-use Rattle.cdf_examples.specs.RecordFiles.{records_file}
+use Rattle.cdf_examples.proofs.Common.{Refused, chain_on, content, cut_entries, cut_nodes, dead_bytes_file, delete_t, entries_on, entries_outline, entry_leaves, inl, last_deleted_file, leaves_of, levels_on, lower_nodes, nodes_of, nodes_on, nodes_rows, outline, records_file, refl, shape, sized_nodes, sized_nodes_below, tiles_from, used_rows}
 use Rattle.cdf_examples.proofs.Tests.{keeps_rules}
 use Rattle.cdf_examples.proofs.Refusing.{none_unlisted}
-use Rattle.cdf_examples.specs.WrongCuts.{delete_t, last_deleted_file, dead_bytes_file}
 use Rattle.cdf_examples.proofs.refused_cuts.dead_bytes.Goals as goal
 
 refused : Refused records_file (delete_t 3 3) dead_bytes_file

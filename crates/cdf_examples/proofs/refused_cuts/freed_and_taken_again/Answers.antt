@@ -1,15 +1,4 @@
-use Rattle.std.proofs.Common.{refl, inl, inr, [], ◌∷◌, pos, false, replicate, arith}
-use Rattle.cdf_examples.proofs.Common.{space_before, block, no_entry, VariableShape, Refused, one_node, t_shape, found_z, delete_u, u_data}
-use Rattle.cdf_edits.specs.Index.Grown.{cut_nodes, cut_entries, outline, entries_outline}
-use Rattle.cdf_edits.specs.Index.Cut.{sized_nodes, sized_nodes_below}
-use Rattle.cdf_format.specs.Chains.{chain_on}
-use Rattle.cdf_format.specs.Content.{content}
-use Rattle.cdf_format.specs.Index.{nodes_of, lower_nodes, leaves_of, entry_leaves}
-use Rattle.cdf_format.specs.IndexRules.{nodes_rows, used_rows}
-use Rattle.cdf_format.specs.IndexWalk.{entries_on, nodes_on, levels_on}
-use Rattle.cdf_format.specs.Shape.{shape}
-use Rattle.cdf_format.specs.Tiles.{tiles_from}
-use Rattle.cdf_examples.specs.WrongCuts.{two_of_forty_file, one_of_forty_file, taken_again_file}
+use Rattle.cdf_examples.proofs.Common.{Refused, VariableShape, [], arith, block, chain_on, content, cut_entries, cut_nodes, delete_u, entries_on, entries_outline, entry_leaves, false, found_z, inl, inr, leaves_of, levels_on, lower_nodes, no_entry, nodes_of, nodes_on, nodes_rows, one_node, one_of_forty_file, outline, pos, refl, replicate, shape, sized_nodes, sized_nodes_below, space_before, t_shape, taken_again_file, tiles_from, two_of_forty_file, u_data, used_rows, ◌∷◌}
 use Rattle.cdf_examples.proofs.NeverTaken.{IsInUse, never_taken}
 use Rattle.cdf_examples.proofs.Refusing.{is_taken_if}
 use Rattle.cdf_examples.proofs.Tests.{keeps_rules}

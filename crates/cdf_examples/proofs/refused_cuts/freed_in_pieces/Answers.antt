@@ -1,17 +1,6 @@
-use Rattle.std.proofs.Common.{refl, inl, subst, List, [], ◌∷◌, pos, false}
-use Rattle.cdf_examples.proofs.Common.{Act, Gave, Among, space_before, loose_records, after_act, block, no_entry, size_at, Refused, one_node, t_data, t_shape, high_first, found_z, delete_var_t, fold}
-use Rattle.cdf_edits.specs.Index.Grown.{cut_nodes, cut_entries, outline, entries_outline}
-use Rattle.cdf_edits.specs.Index.Cut.{sized_nodes, sized_nodes_below}
-use Rattle.cdf_format.specs.Chains.{chain_on}
-use Rattle.cdf_format.specs.Content.{content}
-use Rattle.cdf_format.specs.Index.{nodes_of, lower_nodes, leaves_of, entry_leaves}
-use Rattle.cdf_format.specs.IndexRules.{nodes_rows, used_rows}
-use Rattle.cdf_format.specs.IndexWalk.{entries_on, nodes_on, levels_on}
-use Rattle.cdf_format.specs.Shape.{shape}
-use Rattle.cdf_format.specs.Tiles.{tiles_from}
+use Rattle.cdf_examples.proofs.Common.{Act, Among, Gave, List, Refused, [], after_act, block, chain_on, content, cut_entries, cut_nodes, delete_var_t, entries_on, entries_outline, entry_leaves, false, fold, found_z, high_first, inl, leaves_of, levels_on, loose_records, lower_nodes, no_entry, nodes_of, nodes_on, nodes_rows, one_node, outline, pos, refl, shape, size_at, sized_nodes, sized_nodes_below, small_block_file, space_before, subst, t_data, t_shape, tiles_from, two_pieces_file, used_rows, var_deleted_file, ◌∷◌}
 use Rattle.cdf_examples.proofs.Tests.{keeps_rules}
 use Rattle.cdf_examples.proofs.Refusing.{not_among}
-use Rattle.cdf_examples.specs.WrongCuts.{small_block_file, var_deleted_file, two_pieces_file}
 use Rattle.cdf_examples.proofs.Refusing.{each_in}
 use Rattle.cdf_examples.proofs.refused_cuts.freed_in_pieces.Goals as goal
 

@@ -1,19 +1,7 @@
-use Rattle.std.proofs.Common.{refl, inr, sym, subst, ◌≡◌, List, [], ◌∷◌, false, Bool, arith}
-use Rattle.cdf_examples.proofs.Common.{Act, taken, Nodes, block, no_entry, VariableShape, Refused, one_node, t_shape, records_index, records_data, found_z, delete_t, Each, IsNeeded, nat_le, nat_lt, ◌&&◌, if◌then◌else◌, Keeps, Anything, Only, uir_next_uir, uir_prev_uir}
-use Rattle.cdf_edits.specs.Index.Grown.{cut_nodes, cut_entries, outline, entries_outline}
-use Rattle.cdf_edits.specs.Index.Cut.{sized_nodes, sized_nodes_below}
-use Rattle.cdf_format.specs.Chains.{chain_on}
-use Rattle.cdf_format.specs.Content.{content}
-use Rattle.cdf_format.specs.Index.{nodes_of, lower_nodes, leaves_of, entry_leaves}
-use Rattle.cdf_format.specs.IndexRules.{nodes_rows, used_rows}
-use Rattle.cdf_format.specs.IndexWalk.{entries_on, nodes_on, levels_on}
-use Rattle.cdf_format.specs.Shape.{shape}
-use Rattle.cdf_format.specs.Tiles.{tiles_from}
+use Rattle.cdf_examples.proofs.Common.{Act, Anything, Bool, Each, IsNeeded, Keeps, List, Nodes, Only, Refused, VariableShape, [], arith, block, chain_on, content, cut_entries, cut_nodes, delete_t, entries_on, entries_outline, entry_leaves, false, found_z, if◌then◌else◌, inr, is_taken, leaves_of, levels_on, lower_nodes, nat_le, nat_lt, no_entry, nodes_of, nodes_on, nodes_rows, one_node, outline, records_data, records_index, refl, shape, sized_nodes, sized_nodes_below, spare_behind_file, spare_overwritten_file, spare_stays_file, subst, sym, t_shape, taken, tiles_from, uir_next_uir, uir_prev_uir, used_rows, ◌&&◌, ◌∷◌, ◌≡◌}
 use Rattle.cdf_examples.proofs.Tests.{keeps_rules}
 use Rattle.cdf_examples.proofs.Refusing.{unequal}
-use Rattle.cdf_examples.specs.WrongCuts.{spare_behind_file, spare_stays_file, spare_overwritten_file}
 use Rattle.cdf_examples.proofs.CutLemmas.{only_cut, none_taken}
-use Rattle.cdf_edits.specs.Commands.Allowances.{is_taken}
 use Rattle.cdf_examples.proofs.refused_cuts.listed_overwritten.Goals as goal
 
 refused : Refused spare_behind_file (delete_t 3 3) spare_overwritten_file

@@ -1,17 +1,6 @@
-use Rattle.std.proofs.Common.{refl, sym, ap, ◌∙◌, [], ◌∷◌, pos, false}
-use Rattle.cdf_examples.proofs.Common.{taken, node, Nodes, block, no_entry, VariableShape, Refused, one_node, t_data, t_shape, high_first, pad_high_first, found_z, delete_t, map}
-use Rattle.cdf_edits.specs.Index.Grown.{cut_nodes, cut_entries, outline, entries_outline}
-use Rattle.cdf_edits.specs.Index.Cut.{sized_nodes, sized_nodes_below}
-use Rattle.cdf_format.specs.Chains.{chain_on}
-use Rattle.cdf_format.specs.Content.{content}
-use Rattle.cdf_format.specs.Index.{nodes_of, lower_nodes, leaves_of, entry_leaves}
-use Rattle.cdf_format.specs.IndexRules.{nodes_rows, used_rows}
-use Rattle.cdf_format.specs.IndexWalk.{entries_on, nodes_on, levels_on}
-use Rattle.cdf_format.specs.Shape.{shape}
-use Rattle.cdf_format.specs.Tiles.{tiles_from}
+use Rattle.cdf_examples.proofs.Common.{Nodes, Refused, VariableShape, [], ap, bare_node_file, block, chain_on, content, cut_entries, cut_nodes, delete_t, entries_on, entries_outline, entry_leaves, false, found_z, high_first, leaves_of, levels_on, lower_nodes, map, no_entry, node, node_freed_file, nodes_of, nodes_on, nodes_rows, one_node, outline, pad_high_first, pos, refl, shape, sized_nodes, sized_nodes_below, sym, t_data, t_shape, taken, tiles_from, two_nodes_file, used_rows, ◌∙◌, ◌∷◌}
 use Rattle.cdf_examples.proofs.Tests.{keeps_rules}
 use Rattle.cdf_examples.proofs.Refusing.{unequal}
-use Rattle.cdf_examples.specs.WrongCuts.{two_nodes_file, node_freed_file, bare_node_file}
 use Rattle.cdf_examples.proofs.Refusing.{chain_count}
 use Rattle.cdf_examples.proofs.refused_cuts.node_bare.Goals as goal
 

@@ -1,15 +1,4 @@
-use Rattle.std.proofs.Common.{refl, [], ◌∷◌, pos, true, replicate}
-use Rattle.cdf_examples.proofs.Common.{block, no_entry, VariableShape, Refused, one_node, r_data, found_z}
-use Rattle.cdf_edits.specs.Index.Grown.{cut_nodes, cut_entries, outline, entries_outline}
-use Rattle.cdf_edits.specs.Index.Cut.{sized_nodes, sized_nodes_below}
-use Rattle.cdf_format.specs.Chains.{chain_on}
-use Rattle.cdf_format.specs.Content.{content}
-use Rattle.cdf_format.specs.Index.{nodes_of, lower_nodes, leaves_of, entry_leaves}
-use Rattle.cdf_format.specs.IndexRules.{nodes_rows, used_rows}
-use Rattle.cdf_format.specs.IndexWalk.{entries_on, nodes_on, levels_on}
-use Rattle.cdf_format.specs.Shape.{shape}
-use Rattle.cdf_format.specs.Tiles.{tiles_from}
-use Rattle.cdf_examples.specs.WrongCuts.{delete_r, two_packed_file, packed_stays_file, packed_elsewhere_file}
+use Rattle.cdf_examples.proofs.Common.{Refused, VariableShape, [], block, chain_on, content, cut_entries, cut_nodes, delete_r, entries_on, entries_outline, entry_leaves, found_z, leaves_of, levels_on, lower_nodes, no_entry, nodes_of, nodes_on, nodes_rows, one_node, outline, packed_elsewhere_file, packed_stays_file, pos, r_data, refl, replicate, shape, sized_nodes, sized_nodes_below, tiles_from, true, two_packed_file, used_rows, ◌∷◌}
 use Rattle.cdf_examples.proofs.Tests.{keeps_rules}
 use Rattle.cdf_examples.proofs.Refusing.{unequal}
 use Rattle.cdf_examples.proofs.refused_cuts.packed_elsewhere.Goals as goal

@@ -1,17 +1,6 @@
-use Rattle.std.proofs.Common.{refl, ap, [], ◌∷◌, pos, false}
-use Rattle.cdf_examples.proofs.Common.{block, no_entry, VariableShape, Refused, one_node, t_data, t_shape, records_index, high_first, found_z, delete_t}
-use Rattle.cdf_edits.specs.Index.Grown.{cut_nodes, cut_entries, outline, entries_outline}
-use Rattle.cdf_edits.specs.Index.Cut.{sized_nodes, sized_nodes_below}
-use Rattle.cdf_format.specs.Chains.{chain_on}
-use Rattle.cdf_format.specs.Content.{content}
-use Rattle.cdf_format.specs.Index.{nodes_of, lower_nodes, leaves_of, entry_leaves}
-use Rattle.cdf_format.specs.IndexRules.{nodes_rows, used_rows}
-use Rattle.cdf_format.specs.IndexWalk.{entries_on, nodes_on, levels_on}
-use Rattle.cdf_format.specs.Shape.{shape}
-use Rattle.cdf_format.specs.Tiles.{tiles_from}
+use Rattle.cdf_examples.proofs.Common.{Refused, VariableShape, [], ap, block, chain_on, content, cut_entries, cut_nodes, delete_t, entries_on, entries_outline, entry_leaves, false, first_cut_file, found_z, high_first, leaves_of, levels_on, lower_nodes, no_entry, nodes_of, nodes_on, nodes_rows, one_node, outline, past_cut_file, pos, records_index, refl, shape, sized_nodes, sized_nodes_below, t_data, t_shape, tiles_from, two_stored_file, used_rows, ◌∷◌}
 use Rattle.cdf_examples.proofs.Tests.{keeps_rules}
 use Rattle.cdf_examples.proofs.Refusing.{unequal, first_byte}
-use Rattle.cdf_examples.specs.WrongCuts.{two_stored_file, first_cut_file, past_cut_file}
 use Rattle.cdf_examples.proofs.refused_cuts.past_max_rec_cut.Goals as goal
 
 refused : Refused two_stored_file (delete_t 0 0) past_cut_file

@@ -1,16 +1,5 @@
-use Rattle.std.proofs.Common.{refl, [], ◌∷◌, pos, false}
-use Rattle.cdf_examples.proofs.Common.{block, no_entry, Refused, one_node, t_data, t_shape, high_first, found_z, delete_var_t}
-use Rattle.cdf_edits.specs.Index.Grown.{cut_nodes, cut_entries, outline, entries_outline}
-use Rattle.cdf_edits.specs.Index.Cut.{sized_nodes, sized_nodes_below}
-use Rattle.cdf_format.specs.Chains.{chain_on}
-use Rattle.cdf_format.specs.Content.{content}
-use Rattle.cdf_format.specs.Index.{nodes_of, lower_nodes, leaves_of, entry_leaves}
-use Rattle.cdf_format.specs.IndexRules.{nodes_rows, used_rows}
-use Rattle.cdf_format.specs.IndexWalk.{entries_on, nodes_on, levels_on}
-use Rattle.cdf_format.specs.Shape.{shape}
-use Rattle.cdf_format.specs.Tiles.{tiles_from}
+use Rattle.cdf_examples.proofs.Common.{Refused, [], block, chain_on, content, cut_entries, cut_nodes, delete_var_t, entries_on, entries_outline, entry_leaves, false, found_z, head_left_file, high_first, leaves_of, levels_on, lower_nodes, no_entry, nodes_of, nodes_on, nodes_rows, one_node, outline, pos, refl, shape, sized_nodes, sized_nodes_below, small_block_file, t_data, t_shape, tiles_from, used_rows, var_deleted_file, ◌∷◌}
 use Rattle.cdf_examples.proofs.Tests.{keeps_rules}
-use Rattle.cdf_examples.specs.WrongCuts.{small_block_file, var_deleted_file, head_left_file}
 use Rattle.cdf_examples.proofs.Refusing.{unequal}
 use Rattle.cdf_examples.proofs.refused_cuts.vdr_leads_on.Goals as goal
 

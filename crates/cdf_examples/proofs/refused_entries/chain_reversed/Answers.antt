@@ -1,16 +1,7 @@
-use Rattle.std.proofs.Common.{refl, ap, [], ◌∷◌}
-use Rattle.cdf_examples.proofs.Common.{Refused, delete_second, AttributeShape}
-use Rattle.cdf_format.specs.Chains.{chain_on}
-use Rattle.cdf_format.specs.Content.{content}
-use Rattle.cdf_format.specs.Index.{nodes_of, lower_nodes, leaves_of, entry_leaves}
-use Rattle.cdf_format.specs.IndexRules.{nodes_rows, used_rows}
-use Rattle.cdf_format.specs.IndexWalk.{entries_on, nodes_on, levels_on}
-use Rattle.cdf_format.specs.Shape.{shape}
-use Rattle.cdf_format.specs.Tiles.{tiles_from}
+use Rattle.cdf_examples.proofs.Common.{AttributeShape, Refused, [], ap, chain_on, content, delete_second, entries_on, entry_leaves, leaves_of, levels_on, lower_nodes, nodes_of, nodes_on, nodes_rows, refl, reversed_file, second_deleted_file, shape, three_entries_file, tiles_from, used_rows, ◌∷◌}
 use Rattle.cdf_examples.proofs.Tests.{keeps_rules}
 use Rattle.cdf_examples.proofs.Refusing.{unequal}
 use Rattle.cdf_examples.proofs.Refusing.{first_number}
-use Rattle.cdf_examples.specs.WrongEntries.{three_entries_file, second_deleted_file, reversed_file}
 use Rattle.cdf_examples.proofs.refused_entries.chain_reversed.Goals as goal
 
 refused : Refused three_entries_file delete_second reversed_file

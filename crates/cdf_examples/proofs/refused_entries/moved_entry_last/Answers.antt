@@ -1,16 +1,7 @@
-use Rattle.std.proofs.Common.{refl, ap, [], ◌∷◌}
-use Rattle.cdf_examples.proofs.Common.{Refused, AttributeShape}
-use Rattle.cdf_format.specs.Chains.{chain_on}
-use Rattle.cdf_format.specs.Content.{content}
-use Rattle.cdf_format.specs.Index.{nodes_of, lower_nodes, leaves_of, entry_leaves}
-use Rattle.cdf_format.specs.IndexRules.{nodes_rows, used_rows}
-use Rattle.cdf_format.specs.IndexWalk.{entries_on, nodes_on, levels_on}
-use Rattle.cdf_format.specs.Shape.{shape}
-use Rattle.cdf_format.specs.Tiles.{tiles_from}
+use Rattle.cdf_examples.proofs.Common.{AttributeShape, Refused, [], ap, chain_on, content, entries_on, entry_last_file, entry_leaves, entry_moved_file, leaves_of, levels_on, lower_nodes, moved_last_file, nodes_of, nodes_on, nodes_rows, put_longer, refl, shape, tiles_from, used_rows, ◌∷◌}
 use Rattle.cdf_examples.proofs.Tests.{keeps_rules}
 use Rattle.cdf_examples.proofs.Refusing.{unequal}
 use Rattle.cdf_examples.proofs.Refusing.{first_number}
-use Rattle.cdf_examples.specs.WrongEntries.{entry_last_file, put_longer, entry_moved_file, moved_last_file}
 use Rattle.cdf_examples.proofs.refused_entries.moved_entry_last.Goals as goal
 
 refused : Refused entry_last_file put_longer moved_last_file

@@ -1,16 +1,7 @@
-use Rattle.std.proofs.Common.{refl, ap, [], ◌∷◌}
-use Rattle.cdf_examples.proofs.Common.{Refused, put_second, AttributeShape}
-use Rattle.cdf_format.specs.Chains.{chain_on}
-use Rattle.cdf_format.specs.Content.{content}
-use Rattle.cdf_format.specs.Index.{nodes_of, lower_nodes, leaves_of, entry_leaves}
-use Rattle.cdf_format.specs.IndexRules.{nodes_rows, used_rows}
-use Rattle.cdf_format.specs.IndexWalk.{entries_on, nodes_on, levels_on}
-use Rattle.cdf_format.specs.Shape.{shape}
-use Rattle.cdf_format.specs.Tiles.{tiles_from}
+use Rattle.cdf_examples.proofs.Common.{AttributeShape, Refused, [], ap, chain_on, content, entries_on, entry_first_file, entry_last_file, entry_leaves, leaves_of, levels_on, lower_nodes, nodes_of, nodes_on, nodes_rows, one_entry_file, put_second, refl, shape, tiles_from, used_rows, ◌∷◌}
 use Rattle.cdf_examples.proofs.Tests.{keeps_rules}
 use Rattle.cdf_examples.proofs.Refusing.{unequal}
 use Rattle.cdf_examples.proofs.Refusing.{first_number}
-use Rattle.cdf_examples.specs.WrongEntries.{one_entry_file, entry_last_file, entry_first_file}
 use Rattle.cdf_examples.proofs.refused_entries.new_entry_first.Goals as goal
 
 refused : Refused one_entry_file put_second entry_first_file

@@ -1,6 +1,4 @@
-use Rattle.std.proofs.Common.{◌≡◌, length, refl, subst}
-use Rattle.cdf_edits.specs.Commands.Room.{nodes_above}
-use Rattle.cdf_format.specs.Index.{Nodes, nodes_of, lower_nodes, leaves_of, entry_leaves}
+use Rattle.cdf_examples.proofs.Common.{Nodes, entry_leaves, leaves_of, length, lower_nodes, nodes_above, nodes_of, refl, subst, ◌≡◌}
 use Rattle.cdf_examples.proofs.Refusing.{unequal}
 use Rattle.cdf_examples.proofs.refused_indexes.not_a_root_more.Goals as goal
 

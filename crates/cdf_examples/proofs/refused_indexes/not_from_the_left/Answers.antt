@@ -1,9 +1,4 @@
-use Rattle.std.proofs.Common.{◌≡◌, true, [], ◌∷◌, codes, refl, sym, subst, ap}
-use Rattle.cdf_examples.proofs.Common.{FullFromLeft, Shape, shape, Refused, reindex_w, w_shape, wide_node_file, wide_node_index}
-use Rattle.cdf_edits.specs.Commands.Reindex.{nodes_at, nodes_below}
-use Rattle.cdf_format.specs.Chains.{chain_on}
-use Rattle.cdf_format.specs.Index.{leaves_of, entry_leaves}
-use Rattle.cdf_examples.specs.WideIndexes.{from_the_right_file, from_the_right_index}
+use Rattle.cdf_examples.proofs.Common.{FullFromLeft, Refused, Shape, [], ap, chain_on, codes, entry_leaves, from_the_right_file, from_the_right_index, leaves_of, nodes_at, nodes_below, refl, reindex_w, shape, subst, sym, true, w_shape, wide_node_file, wide_node_index, ◌∷◌, ◌≡◌}
 use Rattle.cdf_examples.proofs.Refusing.{unequal}
 use Rattle.cdf_examples.proofs.Reindexing.{has_gap, no_gap, makes_none}
 use Rattle.cdf_examples.proofs.WideNodes.{reindexed_records, reindexed_shape, names_w, wide_index_is}

@@ -1,9 +1,4 @@
-use Rattle.std.proofs.Common.{◌≡◌, true, [], ◌∷◌, codes, refl, ap}
-use Rattle.cdf_examples.proofs.Common.{levels_up, Shape, shape, Refused, reindex_w, w_shape, wide_node_file, wide_node_index}
-use Rattle.cdf_edits.specs.Commands.Reindex.{nodes_at, nodes_below}
-use Rattle.cdf_format.specs.Chains.{chain_on}
-use Rattle.cdf_format.specs.Index.{leaves_of, entry_leaves}
-use Rattle.cdf_examples.specs.WideIndexes.{root_first_file, root_first_index}
+use Rattle.cdf_examples.proofs.Common.{Refused, Shape, [], ap, chain_on, codes, entry_leaves, leaves_of, levels_up, nodes_at, nodes_below, refl, reindex_w, root_first_file, root_first_index, shape, true, w_shape, wide_node_file, wide_node_index, ◌∷◌, ◌≡◌}
 use Rattle.cdf_examples.proofs.Reindexing.{first_at_end, begins_elsewhere, begins_at_end, makes_none}
 use Rattle.cdf_examples.proofs.WideNodes.{reindexed_records, reindexed_shape, names_w, wide_index_is, wide_end_is, none_unused}
 use Rattle.cdf_examples.proofs.Walking.{shape_by}

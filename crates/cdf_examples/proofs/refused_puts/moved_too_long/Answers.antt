@@ -1,15 +1,4 @@
-use Rattle.std.proofs.Common.{refl, inl, inr, subst, ap, ◌∙◌, ◌≡◌, List, [], ◌∷◌, codes, pos, false, true, replicate}
-use Rattle.cdf_examples.proofs.Common.{Act, Took, Gave, Among, taken, block, no_entry, VariableShape, Refused, one_node, r_data, put_r, found_z}
-use Rattle.cdf_edits.specs.Index.Grown.{new_room, with_leaf, with_place, with_place_in}
-use Rattle.cdf_format.specs.Chains.{chain_on}
-use Rattle.cdf_format.specs.Content.{content}
-use Rattle.cdf_format.specs.Index.{nodes_of, lower_nodes, leaves_of, entry_leaves}
-use Rattle.cdf_format.specs.IndexRules.{nodes_rows, used_rows}
-use Rattle.cdf_format.specs.IndexWalk.{entries_on, nodes_on, levels_on}
-use Rattle.cdf_format.specs.Shape.{shape}
-use Rattle.cdf_format.specs.Tiles.{tiles_from}
-use Rattle.cdf_examples.specs.PackedFiles.{packed_file, plain_file}
-use Rattle.cdf_examples.specs.WrongPuts.{long_plain_file}
+use Rattle.cdf_examples.proofs.Common.{Act, Among, Gave, List, Refused, Took, VariableShape, [], ap, block, chain_on, codes, content, entries_on, entry_leaves, false, found_z, inl, inr, leaves_of, levels_on, long_plain_file, lower_nodes, new_room, no_entry, nodes_of, nodes_on, nodes_rows, one_node, packed_file, plain_file, pos, put_r, r_data, refl, replicate, shape, subst, taken, tiles_from, true, used_rows, with_leaf, with_place, with_place_in, ◌∙◌, ◌∷◌, ◌≡◌}
 use Rattle.cdf_examples.proofs.Tests.{keeps_rules}
 use Rattle.cdf_examples.proofs.Refusing.{is_taken_if, no_size}
 use Rattle.cdf_examples.proofs.PutLemmas.{first_take, first_freed, puts_only}

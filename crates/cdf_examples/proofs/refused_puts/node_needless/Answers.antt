@@ -1,15 +1,4 @@
-use Rattle.std.proofs.Common.{refl, ap, codes, false}
-use Rattle.cdf_examples.proofs.Common.{node, block, no_entry, VariableShape, Refused, one_node, t_shape, records_index, records_data, put_t, found_z}
-use Rattle.cdf_edits.specs.Index.Grown.{new_room, with_leaf}
-use Rattle.cdf_format.specs.Chains.{chain_on}
-use Rattle.cdf_format.specs.Content.{content}
-use Rattle.cdf_format.specs.Index.{nodes_of, lower_nodes, leaves_of, entry_leaves}
-use Rattle.cdf_format.specs.IndexRules.{nodes_rows, used_rows}
-use Rattle.cdf_format.specs.IndexWalk.{entries_on, nodes_on, levels_on}
-use Rattle.cdf_format.specs.Shape.{shape}
-use Rattle.cdf_format.specs.Tiles.{tiles_from}
-use Rattle.cdf_examples.specs.RecordFiles.{records_file}
-use Rattle.cdf_examples.specs.WrongPuts.{second_block_file, needless_node_file}
+use Rattle.cdf_examples.proofs.Common.{Refused, VariableShape, ap, block, chain_on, codes, content, entries_on, entry_leaves, false, found_z, leaves_of, levels_on, lower_nodes, needless_node_file, new_room, no_entry, node, nodes_of, nodes_on, nodes_rows, one_node, put_t, records_data, records_file, records_index, refl, second_block_file, shape, t_shape, tiles_from, used_rows, with_leaf}
 use Rattle.cdf_examples.proofs.Tests.{keeps_rules}
 use Rattle.cdf_examples.proofs.Refusing.{unequal, first_entries}
 use Rattle.cdf_examples.proofs.PutLemmas.{first_take, puts_only}

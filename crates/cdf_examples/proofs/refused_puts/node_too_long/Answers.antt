@@ -1,15 +1,4 @@
-use Rattle.std.proofs.Common.{refl, inl, inr, subst, ap, ◌∙◌, ◌≡◌, List, [], ◌∷◌, codes, negsuc, false}
-use Rattle.cdf_examples.proofs.Common.{Act, Took, Among, taken, no_node, block, no_entry, VariableShape, Refused, one_node, t_data, t_shape, put_t, found_z}
-use Rattle.cdf_edits.specs.Index.Grown.{new_room, with_leaf}
-use Rattle.cdf_format.specs.Chains.{chain_on}
-use Rattle.cdf_format.specs.Content.{content}
-use Rattle.cdf_format.specs.Index.{nodes_of, lower_nodes, leaves_of, entry_leaves}
-use Rattle.cdf_format.specs.IndexRules.{nodes_rows, used_rows}
-use Rattle.cdf_format.specs.IndexWalk.{entries_on, nodes_on, levels_on}
-use Rattle.cdf_format.specs.Shape.{shape}
-use Rattle.cdf_format.specs.Tiles.{tiles_from}
-use Rattle.cdf_examples.specs.RecordFiles.{variable_file}
-use Rattle.cdf_examples.specs.WrongPuts.{first_put_file, long_node_file}
+use Rattle.cdf_examples.proofs.Common.{Act, Among, List, Refused, Took, VariableShape, [], ap, block, chain_on, codes, content, entries_on, entry_leaves, false, first_put_file, found_z, inl, inr, leaves_of, levels_on, long_node_file, lower_nodes, negsuc, new_room, no_entry, no_node, nodes_of, nodes_on, nodes_rows, one_node, put_t, refl, shape, subst, t_data, t_shape, taken, tiles_from, used_rows, variable_file, with_leaf, ◌∙◌, ◌∷◌, ◌≡◌}
 use Rattle.cdf_examples.proofs.Tests.{keeps_rules}
 use Rattle.cdf_examples.proofs.Refusing.{is_taken_if, no_size}
 use Rattle.cdf_examples.proofs.PutLemmas.{first_take, puts_only}

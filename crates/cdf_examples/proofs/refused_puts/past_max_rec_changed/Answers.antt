@@ -1,14 +1,4 @@
-use Rattle.std.proofs.Common.{refl, inr, ap, [], ◌∷◌, codes, pos, arith}
-use Rattle.cdf_examples.proofs.Common.{VariableShape, Refused, t_data, t_shape, records_index, high_first, put_t, found_z}
-use Rattle.cdf_edits.specs.Index.Grown.{new_room, with_leaf}
-use Rattle.cdf_format.specs.Chains.{chain_on}
-use Rattle.cdf_format.specs.Content.{content}
-use Rattle.cdf_format.specs.Index.{nodes_of, lower_nodes, leaves_of, entry_leaves}
-use Rattle.cdf_format.specs.IndexRules.{nodes_rows, used_rows}
-use Rattle.cdf_format.specs.IndexWalk.{entries_on, nodes_on, levels_on}
-use Rattle.cdf_format.specs.Shape.{shape}
-use Rattle.cdf_format.specs.Tiles.{tiles_from}
-use Rattle.cdf_examples.specs.WrongPuts.{first_put_file, put_again_file, past_changed_file}
+use Rattle.cdf_examples.proofs.Common.{Refused, VariableShape, [], ap, arith, chain_on, codes, content, entries_on, entry_leaves, first_put_file, found_z, high_first, inr, leaves_of, levels_on, lower_nodes, new_room, nodes_of, nodes_on, nodes_rows, past_changed_file, pos, put_again_file, put_t, records_index, refl, shape, t_data, t_shape, tiles_from, used_rows, with_leaf, ◌∷◌}
 use Rattle.cdf_examples.proofs.Tests.{keeps_rules}
 use Rattle.cdf_examples.proofs.Refusing.{unequal, first_byte}
 use Rattle.cdf_examples.proofs.PutLemmas.{puts_only}

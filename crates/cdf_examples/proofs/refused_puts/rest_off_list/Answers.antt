@@ -1,14 +1,4 @@
-use Rattle.std.proofs.Common.{refl, inl, [], codes, negsuc, false}
-use Rattle.cdf_examples.proofs.Common.{no_node, block, no_entry, VariableShape, Refused, one_node, t_data, t_shape, put_t, found_z}
-use Rattle.cdf_edits.specs.Index.Grown.{new_room, with_leaf}
-use Rattle.cdf_format.specs.Chains.{chain_on}
-use Rattle.cdf_format.specs.Content.{content}
-use Rattle.cdf_format.specs.Index.{nodes_of, lower_nodes, leaves_of, entry_leaves}
-use Rattle.cdf_format.specs.IndexRules.{nodes_rows, used_rows}
-use Rattle.cdf_format.specs.IndexWalk.{entries_on, nodes_on, levels_on}
-use Rattle.cdf_format.specs.Shape.{shape}
-use Rattle.cdf_format.specs.Tiles.{tiles_from}
-use Rattle.cdf_examples.specs.WrongPuts.{spare_file, rest_listed_file, rest_unlisted_file}
+use Rattle.cdf_examples.proofs.Common.{Refused, VariableShape, [], block, chain_on, codes, content, entries_on, entry_leaves, false, found_z, inl, leaves_of, levels_on, lower_nodes, negsuc, new_room, no_entry, no_node, nodes_of, nodes_on, nodes_rows, one_node, put_t, refl, rest_listed_file, rest_unlisted_file, shape, spare_file, t_data, t_shape, tiles_from, used_rows, with_leaf}
 use Rattle.cdf_examples.proofs.Tests.{keeps_rules}
 use Rattle.cdf_examples.proofs.Refusing.{none_unlisted}
 use Rattle.cdf_examples.proofs.PutLemmas.{puts_only}

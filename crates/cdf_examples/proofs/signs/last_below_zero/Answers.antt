@@ -1,16 +1,6 @@
-use Rattle.std.proofs.Common.{◌≡◌, ℕ, Bool, true, false, true≢false, ◌&&◌, ◌||◌, ◌==◌, not, ◌++◌, List, [], ◌∷◌, refl, sym, inl, inr, eq-eqb}
-use Rattle.cdf_examples.proofs.Common.{Row, IsBroken, changed, usual_digest}
-use Rattle.cdf_base.specs.Bytes.{put}
-use Rattle.cdf_format.specs.Chains.{chain_on}
-use Rattle.cdf_format.specs.Fields.{with_field, with_name}
-use Rattle.cdf_format.specs.Index.{nodes_of, lower_nodes, leaves_of, entry_leaves}
-use Rattle.cdf_format.specs.IndexRules.{nodes_rows, used_rows}
-use Rattle.cdf_format.specs.IndexWalk.{entries_on, nodes_on, levels_on}
-use Rattle.cdf_format.specs.Shape.{shape}
-use Rattle.cdf_format.specs.Tiles.{tiles_from}
-use Rattle.cdf_format.proofs.Tests.{both}
+use Rattle.cdf_examples.proofs.Common.{Bool, IsBroken, List, Row, [], both, chain_on, changed, entries_on, entry_leaves, eq-eqb, false, inl, inr, leaves_of, levels_on, lower_nodes, nodes_of, nodes_on, nodes_rows, not, put, refl, shape, sym, tiles_from, true, true≢false, used_rows, usual_digest, usual_image, with_field, with_name, ℕ, ◌++◌, ◌==◌, ◌||◌, ◌∷◌, ◌≡◌}
+use Rattle.std.proofs.Common.{◌&&◌}
 use Rattle.cdf_examples.specs.Signs.{HoldsEverywhere, index_rules, last_below_zero, last_broken}
-use Rattle.cdf_examples.specs.Usual.{usual_image}
 use Rattle.cdf_examples.proofs.Digests.{usual_breaks}
 use Rattle.cdf_examples.proofs.Tests.{each_breaks}
 use Rattle.cdf_examples.proofs.signs.last_below_zero.Goals as goal

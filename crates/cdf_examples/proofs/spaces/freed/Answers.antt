@@ -1,12 +1,4 @@
-use Rattle.std.proofs.Common.{[], ◌∷◌, refl, arith}
-use Rattle.cdf_examples.proofs.Common.{chain_sound, tiling_sound, gdr_uir_head, uir_type}
-use Rattle.cdf_format.specs.Chains.{chain_on}
-use Rattle.cdf_format.specs.IndexWalk.{entries_on, nodes_on, levels_on}
-use Rattle.cdf_edits.specs.Space.Placement.{giving}
-use Rattle.cdf_format.specs.Shape.{shape}
-use Rattle.cdf_format.specs.Tiles.{tiles_from}
-use Rattle.cdf_examples.specs.DeletedVariable.{two_variables}
-use Rattle.cdf_examples.specs.Spaces.{half_deleted}
+use Rattle.cdf_examples.proofs.Common.{[], arith, chain_on, chain_sound, entries_on, gdr_uir_head, giving, half_deleted, levels_on, nodes_on, refl, shape, tiles_from, tiling_sound, two_variables, uir_type, ◌∷◌}
 use Rattle.cdf_examples.proofs.BytesKept.{changed_by}
 use Rattle.cdf_examples.proofs.spaces.freed.Goals as goal
 

@@ -1,10 +1,4 @@
-use Rattle.std.proofs.Common.{[], ◌∷◌, refl, arith}
-use Rattle.cdf_examples.proofs.Common.{chain_sound, tiling_sound, taking, gdr_uir_head, uir_type}
-use Rattle.cdf_format.specs.Chains.{chain_on}
-use Rattle.cdf_format.specs.Shape.{shape}
-use Rattle.cdf_format.specs.Tiles.{tiles_from}
-use Rattle.cdf_examples.specs.Attributes.{freed100_file}
-use Rattle.cdf_examples.specs.Spaces.{taken_in_list}
+use Rattle.cdf_examples.proofs.Common.{[], arith, chain_on, chain_sound, freed100_file, gdr_uir_head, refl, shape, taken_in_list, taking, tiles_from, tiling_sound, uir_type, ◌∷◌}
 use Rattle.cdf_examples.proofs.BytesKept.{changed_by, zeros_by}
 use Rattle.cdf_examples.proofs.spaces.taken_from_list.Goals as goal
 

@@ -1,16 +1,4 @@
-use Rattle.std.proofs.Common.{refl}
-use Rattle.std.specs.Fmt.{digits}
-use Rattle.cdf_edits.specs.Index.Blocks.{firsts_of, entry_firsts, cover}
-use Rattle.cdf_format.specs.Chains.{chain_on}
-use Rattle.cdf_format.specs.Content.{content}
-use Rattle.cdf_format.specs.Index.{nodes_of, lower_nodes, leaves_of, entry_leaves}
-use Rattle.cdf_format.specs.IndexRules.{nodes_rows, used_rows}
-use Rattle.cdf_format.specs.IndexWalk.{entries_on, nodes_on, levels_on}
-use Rattle.cdf_edits.specs.Commands.Room.{entries_in, entries_below, widest, widest_below, nodes_above}
-use Rattle.cdf_format.specs.Shape.{shape}
-use Rattle.cdf_format.specs.Tiles.{tiles_from}
-use Rattle.cdf_examples.specs.Scripts.{run_script}
-use Rattle.cdf_examples.specs.SparseFiles.{foreign_file, foreign_file_after}
+use Rattle.cdf_examples.proofs.Common.{chain_on, content, cover, digits, entries_below, entries_in, entries_on, entry_firsts, entry_leaves, firsts_of, foreign_file, foreign_file_after, leaves_of, levels_on, lower_nodes, nodes_above, nodes_of, nodes_on, nodes_rows, refl, run_script, shape, tiles_from, used_rows, widest, widest_below}
 use Rattle.cdf_examples.proofs.Tests.{keeps_rules}
 use Rattle.cdf_examples.proofs.sparse_records.foreign_block.Goals as goal
 

@@ -1,5 +1,4 @@
-use Rattle.std.proofs.Common.{refl}
-use Rattle.std.specs.Fmt.{digits}
+use Rattle.cdf_examples.proofs.Common.{digits, refl}
 use Rattle.cdf_examples.proofs.usual.listed.Goals as goal
 
 pub returns : goal.returns

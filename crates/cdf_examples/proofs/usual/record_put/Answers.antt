@@ -1,16 +1,4 @@
-use Rattle.std.proofs.Common.{refl}
-use Rattle.cdf_base.specs.Bytes.{put}
-use Rattle.cdf_edits.specs.Index.Blocks.{firsts_of, entry_firsts, cover}
-use Rattle.cdf_format.specs.Chains.{chain_on}
-use Rattle.cdf_format.specs.Content.{content}
-use Rattle.cdf_format.specs.Index.{nodes_of, lower_nodes, leaves_of, entry_leaves}
-use Rattle.cdf_format.specs.IndexRules.{nodes_rows, used_rows}
-use Rattle.cdf_format.specs.IndexWalk.{entries_on, nodes_on, levels_on}
-use Rattle.cdf_edits.specs.Commands.Room.{entries_in, entries_below, widest, widest_below}
-use Rattle.cdf_format.specs.Shape.{shape}
-use Rattle.cdf_format.specs.Tiles.{tiles_from}
-use Rattle.cdf_examples.specs.Scripts.{run_script}
-use Rattle.cdf_examples.specs.Usual.{usual_image}
+use Rattle.cdf_examples.proofs.Common.{chain_on, content, cover, entries_below, entries_in, entries_on, entry_firsts, entry_leaves, firsts_of, leaves_of, levels_on, lower_nodes, nodes_of, nodes_on, nodes_rows, put, refl, run_script, shape, tiles_from, used_rows, usual_image, widest, widest_below}
 use Rattle.cdf_examples.proofs.usual.record_put.Goals as goal
 
 pub returns : goal.returns

@@ -1,11 +1,4 @@
-use Rattle.std.proofs.Common.{refl}
-use Rattle.cdf_format.specs.Chains.{chain_on}
-use Rattle.cdf_format.specs.Index.{nodes_of, lower_nodes, leaves_of, entry_leaves}
-use Rattle.cdf_format.specs.IndexRules.{nodes_rows, used_rows}
-use Rattle.cdf_format.specs.IndexWalk.{entries_on, nodes_on, levels_on}
-use Rattle.cdf_format.specs.Shape.{shape}
-use Rattle.cdf_format.specs.Tiles.{tiles_from}
-use Rattle.cdf_examples.specs.Usual.{usual_image}
+use Rattle.cdf_examples.proofs.Common.{chain_on, entries_on, entry_leaves, leaves_of, levels_on, lower_nodes, nodes_of, nodes_on, nodes_rows, refl, shape, tiles_from, used_rows, usual_image}
 use Rattle.cdf_examples.proofs.usual.records.Goals as goal
 
 pub returns : goal.returns

@@ -1,5 +1,4 @@
-use Rattle.std.proofs.Common.{◌+◌, ◌^◌, ◌<◌, ℕ, None, ap, subst, sym, ◌∙◌, arith}
-use Rattle.std.specs.List.{last_or}
+use Rattle.cdf_space.proofs.Common.{None, ap, arith, last_or, subst, sym, ℕ, ◌+◌, ◌<◌, ◌^◌, ◌∙◌}
 use Rattle.cdf_space.proofs.AddedRecord.{filled_members, filled_stands, filled_has_chain, filled_joins, mid_long, count_room, counted_then, is_added}
 use Rattle.cdf_space.proofs.adding.append_record.Goals as goal
 

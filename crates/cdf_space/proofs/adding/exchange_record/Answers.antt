@@ -1,5 +1,4 @@
-use Rattle.std.proofs.Common.{◌≡◌, List, ℕ, None, true, ap, subst, sym, ◌∙◌, arith}
-use Rattle.cdf_space.proofs.Common.{last_or, is_in, before}
+use Rattle.cdf_space.proofs.Common.{List, None, ap, arith, before, is_in, last_or, subst, sym, true, ℕ, ◌∙◌, ◌≡◌}
 use Rattle.cdf_space.proofs.AddedRecord.{filled_members, filled_stands, filled_has_chain, filled_joins, is_exchanged}
 use Rattle.cdf_space.proofs.adding.exchange_record.Goals as goal
 

@@ -1,5 +1,4 @@
-use Rattle.std.proofs.Common.{◌≡◌, ◌+◌, ◌≤◌, arith, length, subst, sym, ◌∙◌, ap, List, ℕ, None}
-use Rattle.cdf_space.proofs.Common.{last_or, on_ok_weaker, LiesIn, with_field, uir_next_uir, members_of, link_place, cdr_room}
+use Rattle.cdf_space.proofs.Common.{LiesIn, List, None, ap, arith, cdr_room, last_or, length, link_place, members_of, on_ok_weaker, subst, sym, uir_next_uir, with_field, ℕ, ◌+◌, ◌∙◌, ◌≡◌, ◌≤◌}
 use Rattle.cdf_space.proofs.Linking.{link_inside, by_lies, appended_by}
 use Rattle.cdf_space.proofs.chains.chain_append.Goals as goal
 

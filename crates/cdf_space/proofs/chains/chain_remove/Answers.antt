@@ -1,5 +1,4 @@
-use Rattle.std.proofs.Common.{◌≡◌, ◌+◌, ◌≤◌, arith, length, ◌∙◌, ap, List, ℕ, None}
-use Rattle.cdf_space.proofs.Common.{on_ok_weaker, last_or, next_of, word, with_field, field, members_of, before, link_place, cdr_room}
+use Rattle.cdf_space.proofs.Common.{List, None, ap, arith, before, cdr_room, field, last_or, length, link_place, members_of, next_of, on_ok_weaker, with_field, word, ℕ, ◌+◌, ◌∙◌, ◌≡◌, ◌≤◌}
 use Rattle.cdf_space.proofs.Linking.{place_lies, front_inside, removed_by}
 use Rattle.cdf_space.proofs.chains.chain_remove.Goals as goal
 

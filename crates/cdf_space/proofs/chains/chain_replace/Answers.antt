@@ -1,5 +1,4 @@
-use Rattle.std.proofs.Common.{◌≡◌, ◌+◌, ◌≤◌, arith, length, subst, sym, ◌∙◌, ap, List, ℕ, None}
-use Rattle.cdf_space.proofs.Common.{on_ok_weaker, last_or, next_of, LiesIn, word, with_field, uir_next_uir, members_of, before, link_place, cdr_room}
+use Rattle.cdf_space.proofs.Common.{LiesIn, List, None, ap, arith, before, cdr_room, last_or, length, link_place, members_of, next_of, on_ok_weaker, subst, sym, uir_next_uir, with_field, word, ℕ, ◌+◌, ◌∙◌, ◌≡◌, ◌≤◌}
 use Rattle.cdf_space.proofs.Linking.{place_lies, front_inside, by_lies, replaced_by}
 use Rattle.cdf_space.proofs.chains.chain_replace.Goals as goal
 

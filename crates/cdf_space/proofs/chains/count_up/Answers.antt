@@ -1,5 +1,4 @@
-use Rattle.std.proofs.Common.{◌≡◌, ◌∙◌, ◌+◌, ap}
-use Rattle.cdf_space.proofs.Common.{on_ok_weaker, number, word, with_field, Field, field, counted_in, holder_of, count_field}
+use Rattle.cdf_space.proofs.Common.{Field, ap, count_field, counted_in, field, holder_of, number, on_ok_weaker, with_field, word, ◌+◌, ◌∙◌, ◌≡◌}
 use Rattle.cdf_space.proofs.chains.count_up.Goals as goal
 
 pub returns-clause-counted : goal.returns-clause-counted

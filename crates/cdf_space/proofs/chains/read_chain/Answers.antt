@@ -1,5 +1,4 @@
-use Rattle.std.proofs.Common.{◌≡◌, ◌∙◌, ◌+◌, ◌≤◌, ℕ, List, sym, ap, subst, length, arith}
-use Rattle.cdf_space.proofs.Common.{read_once, read_more, number, word, count_of, counted_in, holder_of, Chain, cdr_room, count_field, head_lies}
+use Rattle.cdf_space.proofs.Common.{Chain, List, ap, arith, cdr_room, count_field, count_of, counted_in, head_lies, holder_of, length, number, read_more, read_once, subst, sym, word, ℕ, ◌+◌, ◌∙◌, ◌≡◌, ◌≤◌}
 use Rattle.cdf_space.proofs.ChainRead.{count_inside, link_fits, at_head, further, at_end}
 use Rattle.cdf_space.proofs.chains.read_chain.Goals as goal
 

@@ -1,4 +1,4 @@
-use Rattle.cdf_area.specs.Calls.{Stays}
+use Rattle.cdf_space.proofs.Common.{Stays}
 use Rattle.cdf_space.proofs.ChainRead.{OnChain}
 use Rattle.cdf_space.proofs.chains.read_chain.Given as goal
 

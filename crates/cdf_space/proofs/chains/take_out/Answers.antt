@@ -1,6 +1,4 @@
-use Rattle.std.proofs.Common.{◌∙◌, take}
-use Rattle.std.proofs.lemmas.Result.{on_ok_weaker}
-use Rattle.cdf_edits.proofs.Commands.ListParts.{last_got}
+use Rattle.cdf_space.proofs.Common.{last_got, on_ok_weaker, take, ◌∙◌}
 use Rattle.cdf_space.proofs.TakenOut.{member_there, behind_there, first_cdr, first_room, first_some, taken_out}
 use Rattle.cdf_space.proofs.chains.take_out.Goals as goal
 

@@ -1,5 +1,4 @@
-use Rattle.std.proofs.Common.{arith, subst}
-use Rattle.cdf_space.proofs.Common.{shape, Tallies}
+use Rattle.cdf_space.proofs.Common.{Tallies, arith, shape, subst}
 use Rattle.cdf_space.proofs.Counting.{parts, space_is}
 use Rattle.cdf_space.proofs.measuring.space_of.Goals as goal
 

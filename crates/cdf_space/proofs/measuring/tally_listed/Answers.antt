@@ -1,5 +1,4 @@
-use Rattle.std.proofs.Common.{◌≡◌, ◌∙◌, ◌+◌, ◌≤◌, ℕ, List, ap, arith, length, subst, sym}
-use Rattle.cdf_space.proofs.Common.{read_done, read_failed, read_more, read_once, cdr_room, gdr_field, next_of, number, size_at, gdr_uir_head, shape}
+use Rattle.cdf_space.proofs.Common.{List, ap, arith, cdr_room, gdr_field, gdr_uir_head, length, next_of, number, read_done, read_failed, read_more, read_once, shape, size_at, subst, sym, ℕ, ◌+◌, ◌∙◌, ◌≡◌, ◌≤◌}
 use Rattle.cdf_space.proofs.Counting.{AreListed, all_listed, few_listed, is_next, list_over}
 use Rattle.cdf_space.proofs.measuring.tally_listed.Goals as goal
 

@@ -1,5 +1,4 @@
-use Rattle.std.proofs.Common.{◌-◌, length}
-use Rattle.cdf_space.proofs.Common.{Stays, shape}
+use Rattle.cdf_space.proofs.Common.{Stays, length, shape, ◌-◌}
 use Rattle.cdf_space.proofs.Counting.{AreListed}
 use Rattle.cdf_space.proofs.measuring.tally_listed.Given as goal
 

@@ -1,5 +1,4 @@
-use Rattle.std.proofs.Common.{◌≡◌, ◌≢◌, ◌∙◌, ◌+◌, ◌≤◌, ℕ, List, ap, arith, length, refl, subst, sym}
-use Rattle.cdf_space.proofs.Common.{read_done, read_failed, read_more, size_at, type_at, uir_type, shape}
+use Rattle.cdf_space.proofs.Common.{List, ap, arith, length, read_done, read_failed, read_more, refl, shape, size_at, subst, sym, type_at, uir_type, ℕ, ◌+◌, ◌∙◌, ◌≡◌, ◌≢◌, ◌≤◌}
 use Rattle.std.proofs.Math.Path.{transport}
 use Rattle.cdf_space.proofs.Counting.{AreLeft, all_left, none_left, stands, unused_fits, unused_left, used_left}
 use Rattle.cdf_space.proofs.measuring.tally_unused.Goals as goal

@@ -1,5 +1,4 @@
-use Rattle.std.proofs.Common.{◌-◌}
-use Rattle.cdf_space.proofs.Common.{Stays, shape}
+use Rattle.cdf_space.proofs.Common.{Stays, shape, ◌-◌}
 use Rattle.cdf_space.proofs.Counting.{AreLeft}
 use Rattle.cdf_space.proofs.measuring.tally_unused.Given as goal
 

@@ -1,5 +1,4 @@
-use Rattle.std.proofs.Common.{length, arith, sym, ◌∙◌, ap, ℕ, subst}
-use Rattle.cdf_space.proofs.Common.{on_ok_weaker, Takes, shape, EndBytes, IsTaken, cdr_room, gdr_field}
+use Rattle.cdf_space.proofs.Common.{EndBytes, IsTaken, Takes, ap, arith, cdr_room, gdr_field, length, on_ok_weaker, shape, subst, sym, ℕ, ◌∙◌}
 use Rattle.cdf_space.proofs.Taking.{taken_end, none_found, if_both}
 use Rattle.cdf_space.proofs.placing.alloc_record.Goals as goal
 

@@ -1,5 +1,4 @@
-use Rattle.std.proofs.Common.{arith, ℕ, rules, replicate, refl}
-use Rattle.cdf_space.proofs.Common.{length-replicate, get_or-replicate, edit_more}
+use Rattle.cdf_space.proofs.Common.{arith, edit_more, get_or-replicate, length-replicate, refl, replicate, rules, ℕ}
 use Rattle.cdf_space.proofs.Writing.{cleared_more, cleared_none}
 use Rattle.cdf_space.proofs.placing.clear.Goals as goal
 

@@ -1,5 +1,4 @@
-use Rattle.std.proofs.Common.{◌≤◌, ◌-◌}
-use Rattle.cdf_space.proofs.Common.{Keeps, Cleared}
+use Rattle.cdf_space.proofs.Common.{Cleared, Keeps, ◌-◌, ◌≤◌}
 use Rattle.cdf_space.proofs.placing.clear.Given as goal
 
 abbrev pub invariant-loop-done : goal.invariant-loop-done

@@ -1,5 +1,4 @@
-use Rattle.std.proofs.Common.{◌≡◌, ◌≤◌, ◌+◌, length, arith, subst, sym, ◌∙◌, ap, List, ℕ, true, false}
-use Rattle.cdf_space.proofs.Common.{read_more, read_once, next_of, number, size_at, fits, gdr_uir_head, shape, gdr_field}
+use Rattle.cdf_space.proofs.Common.{List, ap, arith, false, fits, gdr_field, gdr_uir_head, length, next_of, number, read_more, read_once, shape, size_at, subst, sym, true, ℕ, ◌+◌, ◌∙◌, ◌≡◌, ◌≤◌}
 use Rattle.cdf_space.proofs.FirstFit.{IsOnTheList, list_start, listed_lies, place_listed, list_on, list_found, list_ends, list_short}
 use Rattle.cdf_space.proofs.placing.first_fit.Goals as goal
 

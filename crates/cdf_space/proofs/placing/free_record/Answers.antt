@@ -1,5 +1,4 @@
-use Rattle.std.proofs.Common.{◌+◌, ◌<◌, ◌≤◌, ◌^◌, ℕ, length, arith, sym, ap, subst, ◌∙◌, inl, inr}
-use Rattle.cdf_space.proofs.Common.{on_ok_weaker, size_at, with_field, IsGiven, record_type, uir_type, shape, Relinked, cdr_room}
+use Rattle.cdf_space.proofs.Common.{IsGiven, Relinked, ap, arith, cdr_room, inl, inr, length, on_ok_weaker, record_type, shape, size_at, subst, sym, uir_type, with_field, ℕ, ◌+◌, ◌<◌, ◌^◌, ◌∙◌, ◌≤◌}
 use Rattle.cdf_space.proofs.Freeing.{ends, long, gdr_ends, head_lies, head_from_gdr, head_small, freed_small, freed_first, size_read, gdr_read, head_read}
 use Rattle.cdf_space.proofs.placing.free_record.Goals as goal
 

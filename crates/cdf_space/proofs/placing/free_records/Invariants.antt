@@ -1,5 +1,4 @@
-use Rattle.std.proofs.Common.{◌≡◌, ℕ, List, drop}
-use Rattle.cdf_space.proofs.Common.{Keeps, AllGiven, AreFree, content, shape, IsSound}
+use Rattle.cdf_space.proofs.Common.{AllGiven, AreFree, IsSound, Keeps, List, content, drop, shape, ℕ, ◌≡◌}
 use Rattle.cdf_space.proofs.placing.free_records.Given as goal
 
 abbrev pub invariant-loop-place : goal.invariant-loop-place

@@ -1,4 +1,4 @@
-use Rattle.std.proofs.lemmas.Result.{on_ok_weaker}
+use Rattle.cdf_space.proofs.Common.{on_ok_weaker}
 use Rattle.cdf_space.proofs.Writing.{listed_by}
 use Rattle.cdf_space.proofs.placing.list.Goals as goal
 

@@ -1,4 +1,4 @@
-use Rattle.std.proofs.Common.{◌+◌, length, refl, arith}
+use Rattle.cdf_space.proofs.Common.{arith, length, refl, ◌+◌}
 use Rattle.cdf_space.proofs.Filling.{lies, placed_by, placed_sound, placed_content}
 use Rattle.cdf_space.proofs.placing.place_record.Goals as goal
 

@@ -1,6 +1,4 @@
-use Rattle.std.proofs.Common.{◌≡◌, List, ℕ, subst, OnOk}
-use Rattle.std.proofs.lemmas.List.{take-replicate}
-use Rattle.cdf_base.specs.Bytes.{put}
+use Rattle.cdf_space.proofs.Common.{List, OnOk, put, subst, take-replicate, ℕ, ◌≡◌}
 use Rattle.cdf_space.proofs.placing.set_zeros.Goals as goal
 
 pub returns-clause-written : goal.returns-clause-written

@@ -1,4 +1,4 @@
-use Rattle.std.proofs.Common.{arith}
+use Rattle.cdf_space.proofs.Common.{arith}
 use Rattle.cdf_space.proofs.Writing.{end_bytes}
 use Rattle.cdf_space.proofs.placing.take_end.Goals as goal
 

@@ -1,5 +1,4 @@
-use Rattle.std.proofs.Common.{◌≡◌, length, arith, sym, ◌∙◌, ap}
-use Rattle.cdf_space.proofs.Common.{on_ok_weaker, eof, shape}
+use Rattle.cdf_space.proofs.Common.{ap, arith, eof, length, on_ok_weaker, shape, sym, ◌∙◌, ◌≡◌}
 use Rattle.cdf_space.proofs.Taking.{a_ends, link_lies, next_lies, next_apart, taken_whole}
 use Rattle.cdf_space.proofs.placing.take_whole.Goals as goal
 

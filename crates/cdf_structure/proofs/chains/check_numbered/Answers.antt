@@ -1,6 +1,4 @@
-use Rattle.std.proofs.Common.{◌≡◌, ◌+◌, length, arith}
-use Rattle.cdf_structure.proofs.Common.{field, whole}
-use Rattle.cdf_structure.specs.FileChains.{walk_of}
+use Rattle.cdf_structure.proofs.Common.{arith, field, length, walk_of, whole, ◌+◌, ◌≡◌}
 use Rattle.cdf_structure.proofs.NumberSteps.{member_fields}
 use Rattle.cdf_structure.proofs.chains.check_numbered.Goals as goal
 

@@ -1,4 +1,4 @@
-use Rattle.std.proofs.Common.{get_or, arith}
+use Rattle.cdf_structure.proofs.Common.{arith, get_or}
 use Rattle.cdf_structure.proofs.Rows.{In-get_or}
 use Rattle.cdf_structure.proofs.chains.check_numbers.Goals as goal
 

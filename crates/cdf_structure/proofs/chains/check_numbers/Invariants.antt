@@ -1,5 +1,4 @@
-use Rattle.std.proofs.Common.{drop, Option}
-use Rattle.cdf_structure.proofs.Common.{Stays, number_rows, field, Finds, Finding}
+use Rattle.cdf_structure.proofs.Common.{Finding, Finds, Option, Stays, drop, field, number_rows}
 use Rattle.cdf_structure.proofs.chains.check_numbers.Given as goal
 
 abbrev pub invariant-loop-i : goal.invariant-loop-i

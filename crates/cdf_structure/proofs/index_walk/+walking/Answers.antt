@@ -1,8 +1,5 @@
-use Rattle.std.proofs.Common.{◌≡◌, ℕ, ℤ, FitsSigned, w64, rules, ◌+◌, ◌-◌, ◌&&◌, not, suc, length, true, false, refl, sym, subst, ◌∙◌, arith, Ok, Err}
-use Rattle.cdf_structure.proofs.Common.{ints, read_more, is_in, is_linkable, with_sign, WalksEntries, Enters}
-use Rattle.std.proofs.lemmas.Int.{to_z-of_z}
+use Rattle.cdf_structure.proofs.Common.{Enters, Err, FitsSigned, Ok, WalksEntries, arith, false, ints, is_in, is_linkable, length, not, read_done, read_failed, read_more, read_once, refl, rules, subst, suc, sym, to_z-of_z, true, w64, with_sign, ℕ, ℤ, ◌&&◌, ◌+◌, ◌-◌, ◌∙◌, ◌≡◌}
 use Rattle.std.specs.Int.{cast_signed, cast_unsigned}
-use Rattle.cdf_area.proofs.Calls.{read_done, read_once, read_failed}
 use Rattle.cdf_structure.proofs.IndexMet.{ChainMet, entry_block, entry_lower, entry_lost, entries_start, entries_more, entries_lost, chain_start, no_levels, chain_ended, chain_stopped, chain_over, chain_lost, chain_more}
 use Rattle.cdf_structure.proofs.index_walk.+walking.Goals as goal
 

@@ -1,5 +1,4 @@
-use Rattle.std.proofs.Common.{◌+◌, ◌*◌, ◌-◌, length, Ok}
-use Rattle.cdf_structure.proofs.Common.{Stays, WalksEntries}
+use Rattle.cdf_structure.proofs.Common.{Ok, Stays, WalksEntries, length, ◌*◌, ◌+◌, ◌-◌}
 use Rattle.cdf_structure.proofs.IndexMet.{ChainMet}
 use Rattle.cdf_structure.proofs.index_walk.+walking.Given as goal
 

@@ -1,5 +1,4 @@
-use Rattle.std.proofs.Common.{length}
-use Rattle.cdf_structure.proofs.Common.{linkable-in, tile_lies}
+use Rattle.cdf_structure.proofs.Common.{length, linkable-in, tile_lies}
 use Rattle.cdf_structure.proofs.index_walk.enter.Goals as goal
 
 pub read_node-requires-clause-fits : goal.read_node-requires-clause-fits

@@ -1,5 +1,4 @@
-use Rattle.std.proofs.Common.{add-one}
-use Rattle.cdf_structure.proofs.Common.{read_more, block_rows}
+use Rattle.cdf_structure.proofs.Common.{add-one, block_rows, read_more}
 use Rattle.cdf_structure.proofs.Rows.{broken_member, holds_more}
 use Rattle.cdf_structure.proofs.indexes.check_blocks.Goals as goal
 

@@ -1,5 +1,4 @@
-use Rattle.std.proofs.Common.{take}
-use Rattle.cdf_structure.proofs.Common.{flat_map, Stays, Hold, block_rows}
+use Rattle.cdf_structure.proofs.Common.{Hold, Stays, block_rows, flat_map, take}
 use Rattle.cdf_structure.proofs.indexes.check_blocks.Given as goal
 
 abbrev pub invariant-loop-block : goal.invariant-loop-block

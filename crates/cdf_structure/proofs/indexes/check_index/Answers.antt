@@ -1,5 +1,4 @@
-use Rattle.std.proofs.Common.{Ok, Err}
-use Rattle.cdf_structure.proofs.Common.{flat_map, block_rows, WalksIndex, Finds}
+use Rattle.cdf_structure.proofs.Common.{Err, Finds, Ok, WalksIndex, block_rows, flat_map}
 use Rattle.cdf_structure.proofs.IndexSteps.{index_lost, found_in_nodes, found_in_blocks, none_found_in_index, records_are}
 use Rattle.cdf_structure.proofs.indexes.check_index.Goals as goal
 

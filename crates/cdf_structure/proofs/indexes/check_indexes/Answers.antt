@@ -1,7 +1,4 @@
-use Rattle.std.proofs.Common.{◌≡◌, ◌∙◌, ◌++◌, ℕ, List, length, map, get_or, take, add-one, arith, ap, Ok, Err}
-use Rattle.cdf_structure.proofs.Common.{take_all, flat_map, read_more, number, met_rows, variable_records, vdr_vxr_head, Hold, index_of, variable_shape, record_bytes, index_records, Yields, Index}
-use Rattle.std.proofs.lemmas.List.{length-map}
-use Rattle.cdf_format.specs.IndexRules.{phase8}
+use Rattle.cdf_structure.proofs.Common.{Err, Hold, Index, List, Ok, Yields, add-one, ap, arith, flat_map, get_or, index_of, index_records, length, length-map, map, met_rows, number, phase8, read_more, record_bytes, take, take_all, variable_records, variable_shape, vdr_vxr_head, ℕ, ◌++◌, ◌∙◌, ◌≡◌}
 use Rattle.cdf_structure.proofs.IndexLists.{had_at, is_plain, is_small, list_more}
 use Rattle.cdf_structure.proofs.Rows.{broken_member, holds_more}
 use Rattle.cdf_structure.proofs.indexes.check_indexes.Goals as goal

@@ -1,5 +1,4 @@
-use Rattle.std.proofs.Common.{◌≡◌, map, take}
-use Rattle.cdf_structure.proofs.Common.{flat_map, Stays, met_rows, variable_records, Hold, index_of, variable_shape}
+use Rattle.cdf_structure.proofs.Common.{Hold, Stays, flat_map, index_of, map, met_rows, take, variable_records, variable_shape, ◌≡◌}
 use Rattle.cdf_structure.proofs.indexes.check_indexes.Given as goal
 
 abbrev pub invariant-loop-i : goal.invariant-loop-i

@@ -1,5 +1,4 @@
-use Rattle.std.proofs.Common.{◌≡◌, ◌∷◌, ◌++◌, map, take}
-use Rattle.cdf_structure.specs.declared.index_walk.Block.{Block}
+use Rattle.cdf_structure.proofs.Common.{Block, map, take, ◌++◌, ◌∷◌, ◌≡◌}
 use Rattle.cdf_structure.proofs.indexes.own.Given as goal
 
 abbrev pub invariant-loop-block : goal.invariant-loop-block

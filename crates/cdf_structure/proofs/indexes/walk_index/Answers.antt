@@ -1,5 +1,4 @@
-use Rattle.std.proofs.Common.{negsuc, refl, arith}
-use Rattle.std.proofs.lemmas.Int.{ints}
+use Rattle.cdf_structure.proofs.Common.{arith, ints, negsuc, refl}
 use Rattle.cdf_structure.proofs.IndexMet.{index_met, index_is_lost}
 use Rattle.cdf_structure.proofs.indexes.walk_index.Goals as goal
 

@@ -1,6 +1,4 @@
-use Rattle.std.proofs.Common.{sym, ◌∙◌, arith}
-use Rattle.cdf_format.proofs.Members.{true-is_in}
-use Rattle.cdf_format.proofs.TilesLemmas.{tile_lies}
+use Rattle.cdf_structure.proofs.Common.{arith, sym, tile_lies, true-is_in, ◌∙◌}
 use Rattle.cdf_structure.proofs.Searches.{tiles_ascend}
 use Rattle.cdf_structure.proofs.links.is_a.Goals as goal
 

@@ -1,5 +1,4 @@
-use Rattle.std.proofs.Common.{length, sym, ◌∙◌, arith}
-use Rattle.cdf_structure.proofs.Common.{is_a-in, tile_lies}
+use Rattle.cdf_structure.proofs.Common.{arith, is_a-in, length, sym, tile_lies, ◌∙◌}
 use Rattle.cdf_structure.proofs.links.is_linkable.Goals as goal
 
 pub read_size-requires : goal.read_size-requires

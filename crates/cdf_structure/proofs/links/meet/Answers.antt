@@ -1,5 +1,4 @@
-use Rattle.std.proofs.Common.{◌≡◌, length, true, not, ◌&&◌, sym, ◌∙◌, arith}
-use Rattle.cdf_format.specs.Chains.{is_in, is_linkable}
+use Rattle.cdf_structure.proofs.Common.{arith, is_in, is_linkable, length, not, sym, true, ◌&&◌, ◌∙◌, ◌≡◌}
 use Rattle.cdf_structure.proofs.ChainSteps.{next_lies}
 use Rattle.cdf_structure.proofs.links.meet.Goals as goal
 

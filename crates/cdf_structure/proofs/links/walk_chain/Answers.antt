@@ -1,6 +1,4 @@
-use Rattle.std.proofs.Common.{◌≡◌, suc, ◌+◌, ◌-◌, length, arith, Some, None}
-use Rattle.cdf_structure.proofs.Common.{chain, field, read_more}
-use Rattle.cdf_structure.specs.Walked.{Meets}
+use Rattle.cdf_structure.proofs.Common.{Meets, None, Some, arith, chain, field, length, read_more, suc, ◌+◌, ◌-◌, ◌≡◌}
 use Rattle.cdf_structure.proofs.ChainSteps.{chain_ends, chain_stops, chain_spent, chain_more}
 use Rattle.cdf_structure.proofs.links.walk_chain.Goals as goal
 

@@ -1,6 +1,4 @@
-use Rattle.std.proofs.Common.{◌≡◌, ◌-◌, length}
-use Rattle.cdf_structure.proofs.Common.{Stays, chain, field, Agrees}
-use Rattle.cdf_format.specs.Chains.{chain_on}
+use Rattle.cdf_structure.proofs.Common.{Agrees, Stays, chain, chain_on, field, length, ◌-◌, ◌≡◌}
 use Rattle.cdf_structure.proofs.links.walk_chain.Given as goal
 
 abbrev pub invariant-loop-turn : goal.invariant-loop-turn

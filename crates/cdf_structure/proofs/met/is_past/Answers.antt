@@ -1,5 +1,4 @@
-use Rattle.std.proofs.Common.{◌<◌, arith}
-use Rattle.std.proofs.lemmas.Bool.Decides.{nat_tests}
+use Rattle.cdf_structure.proofs.Common.{arith, nat_tests, ◌<◌}
 use Rattle.cdf_structure.proofs.Searches.{past_last}
 use Rattle.cdf_structure.proofs.met.is_past.Goals as goal
 

@@ -1,6 +1,4 @@
-use Rattle.std.proofs.Common.{get_or, take, sym, ap, ◌∙◌}
-use Rattle.std.proofs.lemmas.Grind.{take_at_read}
-use Rattle.cdf_format.specs.Chains.{is_in}
+use Rattle.cdf_structure.proofs.Common.{ap, get_or, is_in, sym, take, take_at_read, ◌∙◌}
 use Rattle.cdf_structure.proofs.Sets.{agrees_more}
 use Rattle.cdf_structure.proofs.met.set_of.Goals as goal
 

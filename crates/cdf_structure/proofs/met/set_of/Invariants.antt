@@ -1,7 +1,6 @@
-use Rattle.std.proofs.Common.{◌≡◌, take, ℕ}
+use Rattle.cdf_structure.proofs.Common.{is_in, take, ℕ, ◌≡◌}
 use Rattle.std.specs.BTreeSet.{contains}
 use Rattle.std.specs.Ordering.{nat_cmp}
-use Rattle.cdf_format.specs.Chains.{is_in}
 use Rattle.cdf_structure.proofs.met.set_of.Given as goal
 
 abbrev pub invariant-loop-number : goal.invariant-loop-number

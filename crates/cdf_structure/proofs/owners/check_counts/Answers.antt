@@ -1,5 +1,4 @@
-use Rattle.std.proofs.Common.{get_or, refl, arith, add-one, inl, eq-eqb, ◌∙◌}
-use Rattle.cdf_structure.proofs.Common.{ne_eqb, owner_rows}
+use Rattle.cdf_structure.proofs.Common.{add-one, arith, eq-eqb, get_or, inl, ne_eqb, owner_rows, refl, ◌∙◌}
 use Rattle.cdf_structure.proofs.Rows.{broken_member, holds_more}
 use Rattle.cdf_structure.proofs.owners.check_counts.Goals as goal
 

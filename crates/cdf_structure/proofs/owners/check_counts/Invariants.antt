@@ -1,5 +1,4 @@
-use Rattle.std.proofs.Common.{ℕ, List, take}
-use Rattle.cdf_structure.proofs.Common.{flat_map, owner_rows, Hold, Counts}
+use Rattle.cdf_structure.proofs.Common.{Counts, Hold, List, flat_map, owner_rows, take, ℕ}
 use Rattle.cdf_structure.proofs.owners.check_counts.Given as goal
 
 abbrev pub invariant-loop-i : goal.invariant-loop-i

@@ -1,5 +1,4 @@
-use Rattle.std.proofs.Common.{[], subst, sym, ◌∙◌}
-use Rattle.cdf_structure.specs.Walked.{Counts}
+use Rattle.cdf_structure.proofs.Common.{Counts, [], subst, sym, ◌∙◌}
 use Rattle.cdf_structure.proofs.Tallies.{counts_none}
 use Rattle.cdf_structure.proofs.owners.check_owners.Goals as goal
 

@@ -1,5 +1,4 @@
-use Rattle.std.proofs.Common.{ℕ, List, ◌+◌, ◌++◌, take, set, sym, ◌∙◌, subst, length-set, append-nil}
-use Rattle.cdf_structure.proofs.Common.{take_all, Counts}
+use Rattle.cdf_structure.proofs.Common.{Counts, List, append-nil, length-set, set, subst, sym, take, take_all, ℕ, ◌++◌, ◌+◌, ◌∙◌}
 use Rattle.cdf_structure.proofs.Tallies.{counts_hit, counts_miss}
 use Rattle.cdf_structure.proofs.owners.count_owned.Goals.{in-Some, in_default}
 use Rattle.cdf_structure.proofs.owners.count_owned.Goals as goal

@@ -1,5 +1,4 @@
-use Rattle.std.proofs.Common.{◌≡◌, ℕ, List, ◌++◌, length, take}
-use Rattle.cdf_structure.specs.Walked.{Counts}
+use Rattle.cdf_structure.proofs.Common.{Counts, List, length, take, ℕ, ◌++◌, ◌≡◌}
 use Rattle.cdf_structure.proofs.owners.count_owned.Given as goal
 
 abbrev pub invariant-loop-place : goal.invariant-loop-place

@@ -1,5 +1,4 @@
-use Rattle.std.proofs.Common.{Ok, Err, arith, inl, inr}
-use Rattle.cdf_structure.proofs.Common.{cases_lt, searched}
+use Rattle.cdf_structure.proofs.Common.{Err, Ok, arith, cases_lt, inl, inr, searched}
 use Rattle.cdf_structure.proofs.Searches.{climbs_ascends}
 use Rattle.cdf_structure.proofs.owners.place_in.Goals as goal
 

@@ -1,5 +1,4 @@
-use Rattle.std.proofs.Common.{sym, Ok, Err}
-use Rattle.std.proofs.lemmas.List.Sorted.{searched}
+use Rattle.cdf_structure.proofs.Common.{Err, Ok, searched, sym}
 use Rattle.cdf_structure.proofs.Searches.{found_in, not_found_in}
 use Rattle.cdf_structure.proofs.sorted.stands_in.Goals as goal
 

@@ -1,5 +1,4 @@
-use Rattle.std.proofs.Common.{Ok}
-use Rattle.cdf_structure.specs.Records.{WalksTiles}
+use Rattle.cdf_structure.proofs.Common.{Ok, WalksTiles}
 use Rattle.cdf_structure.proofs.RecordSteps.{records_hold, records_break}
 use Rattle.cdf_structure.proofs.tiles.check_tiles.Goals as goal
 

@@ -1,4 +1,4 @@
-use Rattle.std.proofs.Common.{ℕ, List, [], ◌∷◌, ◌++◌, ap}
+use Rattle.cdf_structure.proofs.Common.{List, [], ap, ℕ, ◌++◌, ◌∷◌}
 use Rattle.cdf_structure.proofs.RecordSteps.{found_first, unused_more, unused_same}
 use Rattle.cdf_structure.proofs.tiles.put_record.Goals as goal
 

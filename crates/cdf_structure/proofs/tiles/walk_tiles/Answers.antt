@@ -1,6 +1,4 @@
-use Rattle.std.proofs.Common.{◌≡◌, ◌≢◌, suc, ◌+◌, ◌-◌, length, ◌∙◌, arith, Some, None}
-use Rattle.cdf_structure.proofs.Common.{tiling, read_more}
-use Rattle.cdf_structure.specs.Walked.{SizesTile}
+use Rattle.cdf_structure.proofs.Common.{None, SizesTile, Some, arith, length, read_more, suc, tiling, ◌+◌, ◌-◌, ◌∙◌, ◌≡◌, ◌≢◌}
 use Rattle.cdf_structure.proofs.TileSteps.{tiles_end, tiles_stop, tiles_spent, tiles_more, tile_ends, tile_room}
 use Rattle.cdf_structure.proofs.tiles.walk_tiles.Goals as goal
 

@@ -1,7 +1,4 @@
-use Rattle.std.proofs.Common.{◌≡◌, ◌-◌, ◌≤◌, length}
-use Rattle.cdf_area.specs.Calls.{Stays}
-use Rattle.cdf_format.specs.Tiles.{tiles_from, tiling}
-use Rattle.cdf_structure.specs.Records.{AreSorted}
+use Rattle.cdf_structure.proofs.Common.{AreSorted, Stays, length, tiles_from, tiling, ◌-◌, ◌≡◌, ◌≤◌}
 use Rattle.cdf_structure.proofs.TileSteps.{behind}
 use Rattle.cdf_structure.proofs.tiles.walk_tiles.Given as goal
 

@@ -1,5 +1,4 @@
-use Rattle.std.proofs.Common.{◌≡◌, List, ℕ, [], ◌∷◌, ◌++◌, ap, ap₂, sym, ◌∙◌, arith}
-use Rattle.cdf_attrs.proofs.Common.{remove, has_name, shape, good_is_sound, last_removed}
+use Rattle.cdf_attrs.proofs.Common.{List, [], ap, ap₂, arith, good_is_sound, has_name, last_removed, remove, shape, sym, ℕ, ◌++◌, ◌∙◌, ◌∷◌, ◌≡◌}
 use Rattle.cdf_attrs.proofs.AttributeChain.{few_attributes, names_count}
 use Rattle.cdf_attrs.proofs.CreatingAnswers.{badly_named, name_taken, too_large, is_done}
 use Rattle.cdf_attrs.proofs.KnownAttributes.{names_known, places_known, none_known}

@@ -1,5 +1,4 @@
-use Rattle.std.proofs.Common.{◌∙◌, ℕ, List, sym, ap, subst, arith}
-use Rattle.cdf_attrs.proofs.Common.{Good, Refused, NoSuchEntry, DelEntry, Answers, entries_chain, Finds, Known, KnowsEntries}
+use Rattle.cdf_attrs.proofs.Common.{Answers, DelEntry, Finds, Good, Known, KnowsEntries, List, NoSuchEntry, Refused, ap, arith, entries_chain, subst, sym, ℕ, ◌∙◌}
 use Rattle.cdf_attrs.proofs.AttributeFound.{adr_is, place_within}
 use Rattle.cdf_attrs.proofs.EntryDeleted.{refused_for, is_missing, there_in, taken_in, within, entry_there, is_deleted, known_after}
 use Rattle.cdf_attrs.proofs.GettingAnswers.{of_attribute}

@@ -1,5 +1,4 @@
-use Rattle.std.proofs.Common.{◌∙◌, refl, sym, ap, arith}
-use Rattle.cdf_attrs.proofs.Common.{edit_more, Known, start}
+use Rattle.cdf_attrs.proofs.Common.{Known, ap, arith, edit_more, refl, start, sym, ◌∙◌}
 use Rattle.cdf_attrs.proofs.DroppedChains.{all_done, at_index, drops_more, keeps_same}
 use Rattle.cdf_attrs.proofs.attrs.Attrs.drop_var.Goals as goal
 

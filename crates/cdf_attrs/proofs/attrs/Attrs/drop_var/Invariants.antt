@@ -1,5 +1,4 @@
-use Rattle.std.proofs.Common.{◌≡◌}
-use Rattle.cdf_attrs.proofs.Common.{Found, DropsUpTo, KeepsAttributes, Good}
+use Rattle.cdf_attrs.proofs.Common.{DropsUpTo, Found, Good, KeepsAttributes, ◌≡◌}
 use Rattle.cdf_area.specs.Calls.{Keeps}
 use Rattle.cdf_attrs.proofs.attrs.Attrs.drop_var.Given as goal
 

@@ -1,5 +1,4 @@
-use Rattle.std.proofs.Common.{◌∙◌, sym}
-use Rattle.cdf_format.specs.Content.{content}
+use Rattle.cdf_attrs.proofs.Common.{content, sym, ◌∙◌}
 use Rattle.cdf_attrs.proofs.AttributeFound.{has_place, scope_inside, is_wrong, is_found}
 use Rattle.cdf_attrs.proofs.KnownAttributes.{names_known, places_known}
 use Rattle.cdf_attrs.proofs.NamesChanged.{none_named}

@@ -1,5 +1,4 @@
-use Rattle.std.proofs.Common.{◌∙◌, ◌+◌, ◌≤◌, ℕ, List, length, sym, ap, subst, arith}
-use Rattle.cdf_attrs.proofs.Common.{Answers, cdr_room, entry_bytes, entry_of, Good, good_is_sound, Done, Refused, NoSuchEntry, GetEntry, Finds, entry_reply, KnowsEntries}
+use Rattle.cdf_attrs.proofs.Common.{Answers, Done, Finds, GetEntry, Good, KnowsEntries, List, NoSuchEntry, Refused, ap, arith, cdr_room, entry_bytes, entry_of, entry_reply, good_is_sound, length, subst, sym, ℕ, ◌+◌, ◌∙◌, ◌≤◌}
 use Rattle.cdf_attrs.proofs.GettingAnswers.{entry_fits, refused_for, is_missing, is_shown}
 use Rattle.cdf_attrs.proofs.attrs.Attrs.get_entry.Goals as goal
 

@@ -1,5 +1,4 @@
-use Rattle.std.proofs.Common.{◌∙◌, List, ℕ, sym, ap, subst}
-use Rattle.cdf_attrs.proofs.Common.{content, adrs, shape, Good, good_is_sound, attribute_names}
+use Rattle.cdf_attrs.proofs.Common.{Good, List, adrs, ap, attribute_names, content, good_is_sound, shape, subst, sym, ℕ, ◌∙◌}
 use Rattle.cdf_attrs.proofs.AttributeChain.{attribute_members, has_attribute_chain}
 use Rattle.cdf_attrs.proofs.AttributesRead.{counted_members}
 use Rattle.cdf_attrs.proofs.KnownAttributes.{none_known}

@@ -1,5 +1,5 @@
-use Rattle.std.proofs.Common.{◌∙◌, ◌≤◌, ℕ, pos, max, List, length, w32, ap, arith}
-use Rattle.cdf_attrs.proofs.Common.{to_z-of_z, image_limit, fold, ByStep, refused, Known, KnownEntries}
+use Rattle.cdf_attrs.proofs.Common.{ByStep, Known, KnownEntries, List, ap, arith, fold, image_limit, length, max, pos, refused, to_z-of_z, ℕ, ◌∙◌, ◌≤◌}
+use Rattle.std.proofs.Common.{w32}
 use Rattle.cdf_attrs.proofs.AttributeFound.{place_within}
 use Rattle.cdf_attrs.proofs.PutAnswers.{greatest_signed, greatest_within, put_done, put_ready, put_too_large}
 use Rattle.cdf_attrs.proofs.attrs.Attrs.put_entry.Goals as goal

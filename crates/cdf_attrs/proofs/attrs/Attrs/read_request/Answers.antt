@@ -1,5 +1,4 @@
-use Rattle.std.proofs.Common.{◌∙◌, ℕ, List, sym, ap, arith}
-use Rattle.cdf_attrs.proofs.Common.{cdr_room, content, good_is_sound, is_out_of_range, entry_of_words}
+use Rattle.cdf_attrs.proofs.Common.{List, ap, arith, cdr_room, content, entry_of_words, good_is_sound, is_out_of_range, sym, ℕ, ◌∙◌}
 use Rattle.cdf_attrs.proofs.PutAnswers.{no_value}
 use Rattle.cdf_attrs.proofs.attrs.Attrs.read_request.Goals as goal
 

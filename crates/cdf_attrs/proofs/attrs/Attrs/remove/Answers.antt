@@ -1,5 +1,4 @@
-use Rattle.std.proofs.Common.{◌∙◌, ℕ, List, ap, sym, length, arith}
-use Rattle.cdf_attrs.proofs.Common.{remove, content, delete_refused, delete_done, names_after, places_after}
+use Rattle.cdf_attrs.proofs.Common.{List, ap, arith, content, delete_done, delete_refused, length, names_after, places_after, remove, sym, ℕ, ◌∙◌}
 use Rattle.cdf_attrs.proofs.KnownAttributes.{names_known, places_known, none_known}
 use Rattle.cdf_attrs.proofs.NamesChanged.{none_named, number_within, some_named}
 use Rattle.cdf_attrs.proofs.RenamingSteps.{number_is_adr}

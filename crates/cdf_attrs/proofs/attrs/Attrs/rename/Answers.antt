@@ -1,5 +1,5 @@
-use Rattle.std.proofs.Common.{◌≡◌, ◌∙◌, ℕ, List, ◌++◌, ◌∷◌, [], ◌+◌, ◌<◌, refl, ap, sym, subst, length, arith, length-append}
-use Rattle.cdf_attrs.proofs.Common.{remove, slice_index, last_to, shape, In, good_is_sound, last_removed}
+use Rattle.cdf_attrs.proofs.Common.{In, List, [], ap, arith, good_is_sound, last_removed, last_to, length, refl, remove, shape, slice_index, subst, sym, ℕ, ◌++◌, ◌+◌, ◌<◌, ◌∙◌, ◌∷◌, ◌≡◌}
+use Rattle.std.proofs.Common.{length-append}
 use Rattle.cdf_attrs.proofs.AttributeChain.{name_lies, index_in}
 use Rattle.cdf_attrs.proofs.KnownAttributes.{names_known, places_known, none_known}
 use Rattle.cdf_attrs.proofs.NamesChanged.{number_within}

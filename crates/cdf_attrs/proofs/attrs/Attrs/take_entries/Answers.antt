@@ -1,5 +1,4 @@
-use Rattle.std.proofs.Common.{◌≡◌, ◌∙◌, Some, sym, ap}
-use Rattle.cdf_attrs.specs.Known.{Known, KnownEntries}
+use Rattle.cdf_attrs.proofs.Common.{Known, KnownEntries, Some, ap, sym, ◌∙◌, ◌≡◌}
 use Rattle.cdf_attrs.proofs.attrs.Attrs.take_entries.Goals as goal
 
 pub returns-then-are_same_entries-clause-chain : goal.returns-then-are_same_entries-clause-chain

@@ -1,5 +1,4 @@
-use Rattle.std.proofs.Common.{◌∙◌}
-use Rattle.cdf_format.proofs.GoodSound.{good_is_sound}
+use Rattle.cdf_attrs.proofs.Common.{good_is_sound, ◌∙◌}
 use Rattle.cdf_attrs.proofs.EntriesRead.{numbers_at, places_inside, entries_known}
 use Rattle.cdf_attrs.proofs.EntryChains.{holder_stands, chain_there, counted}
 use Rattle.cdf_attrs.proofs.entry_chain.EntryChain.load.Goals as goal

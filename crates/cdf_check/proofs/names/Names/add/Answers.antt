@@ -1,4 +1,4 @@
-use Rattle.std.proofs.Common.{◌≡◌, true, false, sym, ◌∙◌}
+use Rattle.cdf_check.proofs.Common.{false, sym, true, ◌∙◌, ◌≡◌}
 use Rattle.cdf_names.specs.Names.{has_name}
 use Rattle.cdf_check.proofs.NameSteps.{named_anew, named_still, named_twice, none_broken}
 use Rattle.cdf_check.proofs.names.Names.add.Goals as goal

@@ -1,4 +1,4 @@
-use Rattle.std.proofs.Common.{◌∙◌}
+use Rattle.cdf_structure.proofs.Common.{◌∙◌}
 use Rattle.cdf_structure.proofs.Sets.{agrees_more}
 use Rattle.cdf_structure.proofs.met.Met.add.Goals as goal
 
