@@ -1,14 +1,6 @@
 -- A well-formed file is taken up.
-use Rattle.std.proofs.Common.{◌≡◌, ℕ, ◌-◌, ◌≤◌, List, length, take, None, sym, ap, subst, ◌∙◌, arith}
-use Rattle.std.proofs.Math.Path.{transport}
-use Rattle.cdf_area.specs.Frame.{Frame}
-use Rattle.cdf_attrs.specs.Known.{Known, Knows}
+use Rattle.cdf_session.proofs.Common.{Adopts, Frame, Good, IsOpen, Known, Knows, List, None, WellFormed, ap, arith, image_fits, image_is_good, image_limit, image_of, length, subst, sym, take, trailer_length, transport, ℕ, ◌-◌, ◌∙◌, ◌≡◌, ◌≤◌}
 use Rattle.cdf_vars.specs.Known.{Known as KnownVariables, Knows as KnowsVariables}
-use Rattle.cdf_format.specs.Sealed.{image_of, trailer_length}
-use Rattle.cdf_format.specs.WellFormed.{WellFormed, Good}
-use Rattle.cdf_format.proofs.GoodHead.{image_is_good, image_fits}
-use Rattle.cdf_model.specs.Limits.{image_limit}
-use Rattle.cdf_session.specs.Sessions.{Adopts, IsOpen}
 
 -- a file without its trailer is its image
 pub shortened : (f read now : List ℕ) (n : ℕ) → read ≡ f → n ≡ trailer_length f → now ≡ take (length read - n) read → now ≡ image_of f

@@ -1,34 +1,18 @@
 -- A checksum is put in use, or out of use.
-use Rattle.std.proofs.Common.{◌≡◌, ℕ, ◌<◌, ◌≤◌, ◌^◌, List, [], ◌∷◌, length, Bool, true, false, Some, None, take, refl, sym, ap, subst, ◌∙◌, arith}
-use Rattle.std.specs.Prelude.{if◌then◌else◌}
-use Rattle.cdf_area.specs.Frame.{Frame}
-use Rattle.cdf_attrs.specs.Known.{Known}
+use Rattle.cdf_session.proofs.Common.{Answers, Bool, Cdr, Done, Follows, Frame, Good, HasShape, IsOpen, Known, List, None, Some, [], ap, arith, cdr_at, content, false, flags, good_is_sound, has_bit, has_checksum, if◌then◌else◌, image_limit, length, refl, shape, subst, sym, take, true, with_field, ℕ, ◌<◌, ◌^◌, ◌∙◌, ◌∷◌, ◌≡◌, ◌≤◌}
 use Rattle.cdf_vars.specs.Known.{Known as KnownVariables}
-use Rattle.cdf_edits.specs.Answers.{Answers}
 use Rattle.cdf_edits.specs.Commands.NewRecords.{with_bits}
-use Rattle.cdf_edits.specs.Follows.{Follows}
 use Rattle.cdf_edits.specs.Frame.Changed.{Changed, touched_field}
 use Rattle.cdf_edits.proofs.Commands.Answered.{gone}
 use Rattle.cdf_edits.proofs.Edits.ChecksumSet.{checksum_follows}
 use Rattle.cdf_edits.proofs.Edits.FieldWritten.{IsField, written_changed, written_reads}
 use Rattle.cdf_edits.proofs.Edits.StepEdits.{fixed_long}
-use Rattle.cdf_format.specs.Content.{content}
-use Rattle.cdf_format.specs.Fields.{flags, has_bit, with_field}
 use Rattle.cdf_format.specs.Records.{cdr_flags}
 use Rattle.cdf_format.specs.RecordTypes.{cdr_type}
-use Rattle.cdf_format.specs.Sealed.{has_checksum}
-use Rattle.cdf_format.specs.Shape.{HasShape, shape}
-use Rattle.cdf_format.specs.WellFormed.{Good}
 use Rattle.cdf_format.proofs.ChainsLemmas.{is_a-in, is_a-type}
-use Rattle.cdf_format.proofs.GoodSound.{good_is_sound}
-use Rattle.cdf_model.specs.declared.answer.Outcome.TheVariants.{Done}
 use Rattle.cdf_model.specs.declared.answer.Reply.TheVariants as replies
 use Rattle.cdf_model.specs.declared.command.Command.TheVariants as commands
-use Rattle.cdf_model.specs.Limits.{image_limit}
-use Rattle.cdf_records.specs.declared.cdr.Cdr.{Cdr}
-use Rattle.cdf_records.specs.Heads.{cdr_at}
 use Rattle.cdf_session.specs.Seals.{seal_of}
-use Rattle.cdf_session.specs.Sessions.{IsOpen}
 use Rattle.cdf_session.proofs.OpenLemmas.{attributes_known, variables_known}
 use Rattle.md5.specs.Md5.{md5 as md5_of}
 use Rattle.std.proofs.lemmas.List.{take_all}

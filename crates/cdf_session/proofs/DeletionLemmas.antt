@@ -1,14 +1,10 @@
 -- What is kept of attributes and variables while a variable goes with its entries.
-use Rattle.std.proofs.Common.{◌≡◌, ◌<◌, ◌≤◌, ℕ, List, length, map, refl, sym, ap, subst, ◌∙◌, Some, None, arith}
+use Rattle.cdf_session.proofs.Common.{DelVar, Known, Knows, List, None, Parts, Some, ap, arith, delete_done, length, map, refl, subst, sym, the_parts, ℕ, ◌<◌, ◌∙◌, ◌≡◌, ◌≤◌}
 use Rattle.cdf_edits.proofs.Common.{DropsEntries, RemovesVariable, content, adrs, vdrs, Good, DataSet, Variable, Found, attribute_names, variable_named, variables_of, with_variables, Kind, R, Z, Answers, variable_of, image_limit, Done, Plain}
-use Rattle.cdf_attrs.specs.Known.{Known, Knows}
 use Rattle.cdf_edits.proofs.Edits.RemovedVariable.{content_after, shape_after}
-use Rattle.cdf_edits.proofs.Edits.VariableDeletionFollows.{delete_done}
-use Rattle.cdf_model.specs.declared.command.Command.TheVariants.{DelVar}
 use Rattle.cdf_vars.specs.Finding.{found_among}
 use Rattle.cdf_vars.specs.Known.{Known as KnownVariables, KnownKind, KnowsKind, Knows as KnowsVariables, known_of}
 use Rattle.cdf_vars.specs.declared.vars.VarId.{VarId}
-use Rattle.cdf_vars.proofs.VariableFound.{Parts, the_parts}
 
 same_names : (d : DataSet) (kind : Kind) (vs : List Variable) → attribute_names (with_variables d kind vs) ≡ attribute_names d
 same_names d kind vs = grind arith

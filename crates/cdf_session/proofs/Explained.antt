@@ -1,12 +1,9 @@
 -- Why no session began, by the count of the area's faults.
-use Rattle.std.proofs.Common.{◌≡◌, ◌<◌, ◌≤◌, ℕ, List, Result, Ok, Err, ◌∙◌, refl, subst, arith}
-use Rattle.cdf_area.specs.Frame.{Frame}
-use Rattle.cdf_area.specs.declared.area.AreaError.{AreaError}
+use Rattle.cdf_session.proofs.Common.{AreaError, Begins, Err, Explains, Frame, List, Ok, Result, arith, refl, subst, ℕ, ◌<◌, ◌∙◌, ◌≡◌, ◌≤◌}
 use Rattle.cdf_area.specs.declared.area.AreaError.TheVariants as areas
 use Rattle.cdf_base.specs.Causes.{HasCauseOf}
 use Rattle.cdf_session.specs.declared.refusal.AdoptError.TheVariants as errors
 use Rattle.cdf_session.specs.declared.refusal.Refusal.{Refusal}
-use Rattle.cdf_session.specs.Sessions.{Begins, Explains}
 
 -- by the error of a call over the area
 pub explained : {T : Type 0} (error : AreaError) (before now : ℕ) → HasCauseOf {T = T} areas.Fault before now (Err error) → Explains (errors.Failed error) before now

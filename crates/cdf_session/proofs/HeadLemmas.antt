@@ -1,19 +1,9 @@
 -- What a good image has of its two first records, as they are read.
-use Rattle.std.proofs.Common.{◌≡◌, ℕ, ◌+◌, ◌*◌, ◌≤◌, pos, List, length, sym, ◌∙◌, ap, arith}
-use Rattle.std.proofs.Math.Path.{transport}
+use Rattle.cdf_session.proofs.Common.{Cdr, Good, List, ap, arith, cdr_at, content, few_dimensions, flags, gdr_at, gdr_fits, gdr_offset, good_by_its_shape, has_bit, head_by_fields, head_of, length, majority_of, pos, r_num_dims, r_sizes, shape, signed4, sizes_fit, sym, transport, version_is, word, ℕ, ◌*◌, ◌+◌, ◌∙◌, ◌≡◌, ◌≤◌}
 use Rattle.std.proofs.lemmas.Int.{of_z-to_z}
 use Rattle.std.specs.Int.{w32, cast_signed, cast_unsigned}
-use Rattle.cdf_format.specs.Content.{content, head_by_fields, majority_of}
-use Rattle.cdf_format.specs.Fields.{word, signed4, has_bit, gdr_offset, flags, r_num_dims, r_sizes}
-use Rattle.cdf_format.specs.Shape.{shape}
-use Rattle.cdf_format.specs.WellFormed.{Good}
-use Rattle.cdf_format.proofs.GoodHead.{gdr_fits, few_dimensions, sizes_fit, version_is}
-use Rattle.cdf_format.proofs.GoodSound.{good_by_its_shape}
 use Rattle.cdf_format.proofs.HeadOf.{head_of_good}
-use Rattle.cdf_model.specs.DataSet.{head_of}
-use Rattle.cdf_records.specs.declared.cdr.Cdr.{Cdr}
 use Rattle.cdf_records.specs.declared.gdr.Gdr.{Gdr}
-use Rattle.cdf_records.specs.Heads.{cdr_at, gdr_at}
 use Rattle.cdf_records.specs.Pieces.{AreBytes}
 use Rattle.cdf_records.proofs.Places.{word_fits}
 use Rattle.cdf_session.specs.Heads.{head_with}

@@ -1,3 +1,4 @@
+pub mod Common
 pub mod HeadLemmas
 pub mod OpenLemmas
 pub mod ChecksumLemmas

@@ -1,16 +1,8 @@
 -- The new file is written.
-use Rattle.std.proofs.Common.{◌≡◌, ℕ, ◌+◌, ◌≤◌, List, [], ◌++◌, append_assoc, length, None, Some, Result, Ok, Err, refl, sym, ap, subst, ◌∙◌, arith}
-use Rattle.std.proofs.Math.Path.{transport}
-use Rattle.std.specs.Prelude.{replicate, OnOk}
-use Rattle.cdf_area.specs.Frame.{Frame, with_base}
-use Rattle.cdf_attrs.specs.Known.{Known, Knows}
+use Rattle.cdf_session.proofs.Common.{Err, Frame, Good, IsOpen, Known, Knows, List, None, Ok, OnOk, Result, Some, [], ap, append_assoc, arith, image_limit, length, new_image, refl, replicate, subst, sym, transport, with_base, ℕ, ◌++◌, ◌+◌, ◌∙◌, ◌≡◌, ◌≤◌}
 use Rattle.cdf_vars.specs.Known.{Known as KnownVariables, Knows as KnowsVariables}
 use Rattle.cdf_base.specs.Bytes.{put}
-use Rattle.cdf_format.specs.NewFile.{new_image}
-use Rattle.cdf_format.specs.WellFormed.{Good}
 use Rattle.cdf_format.proofs.NewFileRules.{new_is_good, new_length}
-use Rattle.cdf_model.specs.Limits.{image_limit}
-use Rattle.cdf_session.specs.Sessions.{IsOpen}
 use Rattle.cdf_session.proofs.OpenLemmas.{frame_back}
 
 -- bytes that are appended in two parts

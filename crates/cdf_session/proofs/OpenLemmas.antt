@@ -1,23 +1,13 @@
 -- A session stays open.
-use Rattle.std.proofs.Common.{◌≡◌, ℕ, ◌+◌, ◌≤◌, List, ◌++◌, length, Bool, true, false, ◌&&◌, Some, None, Result, Ok, Err, inl, inr, refl, sym, ap, subst, ◌∙◌, arith}
-use Rattle.std.proofs.Math.Path.{transport}
-use Rattle.std.specs.Prelude.{nat_lt, IfOk, OnOk, OnErr}
-use Rattle.cdf_area.specs.declared.area.AreaError.{AreaError}
-use Rattle.cdf_area.specs.Frame.{Frame, with_base}
-use Rattle.cdf_attrs.specs.Known.{Known, Knows}
+use Rattle.cdf_session.proofs.Common.{Answers, AreaError, Bool, Done, Err, Follows, Frame, Good, IfOk, IsOpen, Known, Knows, List, MovesIf, None, Ok, OnErr, OnOk, Result, Some, ap, arith, content, false, head_of, inl, inr, is_full, length, nat_lt, refl, subst, sym, transport, true, with_base, ℕ, ◌&&◌, ◌++◌, ◌+◌, ◌∙◌, ◌≡◌, ◌≤◌}
 use Rattle.cdf_attrs.proofs.KnownAttributes.{none_known}
 use Rattle.cdf_vars.specs.Known.{Known as KnownVariables, Knows as KnowsVariables}
-use Rattle.cdf_format.specs.Content.{content}
-use Rattle.cdf_edits.specs.Answers.{is_full, MovesIf, Answers}
-use Rattle.cdf_edits.specs.Follows.{Follows}
 use Rattle.cdf_edits.specs.Commands.Others.{is_on_attributes, is_on_variables}
 use Rattle.cdf_edits.specs.Commands.Room.{room}
-use Rattle.cdf_format.specs.WellFormed.{Good}
 use Rattle.cdf_edits.proofs.Commands.OthersStay.{attributes_stay, variables_stay}
 use Rattle.cdf_edits.proofs.Commands.ReadingFollows.{reading_follows}
 use Rattle.cdf_format.proofs.Members.{either}
 use Rattle.cdf_model.specs.declared.answer.Outcome.{Outcome}
-use Rattle.cdf_model.specs.declared.answer.Outcome.TheVariants.{Done}
 use Rattle.cdf_model.specs.declared.answer.Reply.TheVariants as replies
 use Rattle.cdf_model.specs.declared.command.Command.{Command}
 use Rattle.cdf_model.specs.declared.command.Command.TheVariants as commands
@@ -25,9 +15,7 @@ use Rattle.cdf_model.specs.declared.head.Head.{Head}
 use Rattle.cdf_model.specs.declared.item.Item.{Item}
 use Rattle.cdf_model.specs.declared.kinds.Kind.TheVariants.{R, Z}
 use Rattle.cdf_model.specs.Answers.{Answer, Go, Refuse, is_accepted}
-use Rattle.cdf_model.specs.DataSet.{head_of}
 use Rattle.cdf_model.specs.Listing.{attribute_items, items_of, variable_items}
-use Rattle.cdf_session.specs.Sessions.{IsOpen}
 
 -- ---- the image stays
 

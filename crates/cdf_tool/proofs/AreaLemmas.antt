@@ -1,10 +1,8 @@
 -- How a run over an area ends.
-use Rattle.std.proofs.Common.{◌≡◌, ℕ, Bool, true, false, List, Option, Result, Ok, Err, refl, sym, ◌∙◌, ap, subst, inl, inr}
-use Rattle.cdf_tool.proofs.Common.{IfOk, AreaError, Broken, WellFormed, rejected_text, AdoptError, Disk, file_of, Status, Refuses, EndsOver, EndsUnread, Rejects, SaysRejected, status_of_area}
+use Rattle.cdf_tool.proofs.Common.{AdoptError, AreaError, Bool, Broken, Disk, EndsOver, EndsUnread, Err, IfOk, List, Ok, Option, Refuses, Rejects, Result, SaysRejected, Status, WellFormed, ap, false, file_of, inl, inr, refl, rejected_text, rejection, status_of_area, subst, sym, true, ℕ, ◌∙◌, ◌≡◌}
 use Rattle.cdf_area.specs.declared.area.AreaError.TheVariants as areas
 use Rattle.cdf_session.specs.declared.refusal.AdoptError.TheVariants as errors
 use Rattle.cdf_tool.specs.declared.status.Status.TheVariants as statuses
-use Rattle.cdf_tool.specs.Says.{rejection}
 
 -- a rejection ends a run
 rejected_ends : (file : List ℕ) (first now : Option (List ℕ)) (r : Rejects file) (status : Status) → SaysRejected (rejection r) first now status → EndsUnread false file first now status

@@ -1,8 +1,6 @@
 -- What follows of a run by whether a check was asked for.
-use Rattle.std.proofs.Common.{◌≡◌, ℕ, Bool, true, false, List, Option, Some, None, sym, ◌∙◌, ap, inl, inr}
-use Rattle.cdf_tool.proofs.Common.{◌||◌, ◌&&◌, not, IfSome, option_map, Disk, lookup, Accepts, Asked, Status, EndsChecked, EndsNamed, EndsWithout, EndsAsked, IsUnsaved, Attached}
+use Rattle.cdf_tool.proofs.Common.{Accepts, Asked, Attached, Bool, Disk, EndsAsked, EndsChecked, EndsNamed, EndsWithout, FilesStay, IfSome, IsUnsaved, List, Looked, None, Option, Some, Status, Untouched, ap, false, inl, inr, lookup, not, option_map, sym, true, ℕ, ◌&&◌, ◌||◌, ◌∙◌, ◌≡◌}
 use Rattle.cdf_tool.specs.declared.status.Status.TheVariants as statuses
-use Rattle.cdf_tool.specs.Due.{FilesStay, Looked, Untouched}
 use Rattle.cdf_tool.proofs.RunStore.{found_lookup_in, kept_attached}
 
 module _ {U : Type 0} (a : Asked) (d d' : Disk U) (before left first now : Option (List ℕ)) (status : Status) where

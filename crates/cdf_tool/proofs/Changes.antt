@@ -1,11 +1,8 @@
 -- What a run wrote of the file under the name.
-use Rattle.std.proofs.Common.{◌≡◌, ℕ, ◌<◌, ◌≤◌, Bool, true, false, List, length, Option, Some, None, refl, sym, ◌∙◌, ap, subst, arith, length-append, inl, inr}
-use Rattle.cdf_tool.proofs.Common.{IfSome, image_of, sealed, Good, Differs, Touches, touches_none, touches_weaker, Disk, file_in, found_or_made, lookup, Asked, Status, EndsNamed, Runs, IsDone, IsRewritten, KeptBy, StoredBy}
+use Rattle.cdf_tool.proofs.Common.{Asked, Bool, Differs, Disk, EndsNamed, Good, IfSome, IsChanged, IsDone, IsRewritten, KeptBy, List, None, Option, Runs, Some, Status, StoredBy, Touches, ap, arith, false, file_in, found_or_made, image_of, inl, inr, length, length-append, lookup, refl, sealed, subst, sym, touches_none, touches_weaker, trailer, true, ℕ, ◌<◌, ◌∙◌, ◌≡◌, ◌≤◌}
 use Rattle.std.proofs.Math.ListN.{get_or-append}
 use Rattle.std.proofs.Math.Seq.{take-append_seam}
-use Rattle.cdf_format.specs.Sealed.{trailer}
 use Rattle.cdf_tool.specs.declared.status.Status.TheVariants as statuses
-use Rattle.cdf_tool.specs.Stored.{IsChanged}
 use Rattle.cdf_tool.proofs.AskedLemmas.{if_some}
 use Rattle.cdf_tool.proofs.Headline.{unread_not_done, without_not_done}
 use Rattle.cdf_tool.proofs.StoredLemmas.{front_is_image}

@@ -1,11 +1,8 @@
 -- A file that is checked and no more.
-use Rattle.std.proofs.Common.{◌≡◌, ℕ, Bool, true, false, List, ◌++◌, Option, Some, refl, sym, ◌∙◌, inl, inr, subst}
-use Rattle.cdf_tool.proofs.Common.{Disk, all_phases, image_of, shape, WellFormed, excluded, Asked, Status, EndsChecked, EndsOverFile, SaysAccepted, accepted_text, Counted, counts, EndsUnread, EndsWithout, Exactly, Attached, KeptBy}
+use Rattle.cdf_tool.proofs.Common.{Asked, Attached, Bool, Checks, Counted, Disk, EndsChecked, EndsOverFile, EndsUnread, EndsWithout, Exactly, IsAnswered, KeptBy, List, Option, SaysAccepted, Some, Status, WellFormed, accepted_text, all_phases, counts, excluded, false, image_of, inl, inr, refl, shape, space_text, subst, sym, true, yes_text, ℕ, ◌++◌, ◌∙◌, ◌≡◌}
 use Rattle.cdf_format.specs.Owners.{space_of}
 use Rattle.cdf_model.specs.declared.space.Space.{Space}
-use Rattle.cdf_model.specs.Texts.{space_text}
 use Rattle.cdf_tool.specs.declared.status.Status.TheVariants as statuses
-use Rattle.cdf_tool.specs.Checking.{Checks, IsAnswered, yes_text}
 use Rattle.cdf_tool.proofs.RunStore.{kept_attached}
 
 some_same : (x y : List ℕ) → Some x ≡ Some y → x ≡ y

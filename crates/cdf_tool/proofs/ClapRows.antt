@@ -1,11 +1,9 @@
 -- The rows that clap finds: one for each argument that was used, and at the end one for each flag that was not.
-use Rattle.std.proofs.Common.{◌≡◌, ◌∙◌, true, false, List, [], ◌∷◌, Option, Some, None, refl, sym, ap, codes, if◌then◌else◌, inl, inr, map}
-use Rattle.cdf_tool.proofs.Common.{bytes_eq, fold, is_some, cases_Bool, Row, Rule, Text, filled, has_row, with_default, bytes_eq-same, same_of_bytes_eq, flag_rule}
-use Rattle.std.specs.Prelude.{find}
+use Rattle.cdf_tool.proofs.Common.{List, None, Option, Row, Rule, Some, Text, [], ap, bytes_eq, bytes_eq-same, cases_Bool, codes, false, filled, find, flag_rule, fold, has_row, inl, inr, is_some, map, reading_by, refl, same_of_bytes_eq, sym, true, with_default, with_values, without, ◌∙◌, ◌∷◌, ◌≡◌}
+use Rattle.std.proofs.Common.{if◌then◌else◌}
 use Rattle.clap.specs.declared.parser.matches.ValueSource.TheVariants.{CommandLine, DefaultValue}
 use Rattle.clap.specs.declared.parser.matches.ValueSource.{ValueSource}
 use Rattle.clap.specs.declared.builder.value_parser.Reading.{Reading}
-use Rattle.clap.specs.Walk.{reading_by, with_values, without}
 use Rattle.cdf_tool.proofs.FlagLemmas.{or_parts}
 
 abbrev pub flag_arg : Text → Rule

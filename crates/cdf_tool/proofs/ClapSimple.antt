@@ -1,7 +1,5 @@
 -- The command is one of which clap's clauses say all.
-use Rattle.std.proofs.Common.{◌≡◌, true, refl}
-use Rattle.clap.specs.Words.{is_simple, is_simple_and_free}
-use Rattle.cdf_tool.specs.CommandLine.{command}
+use Rattle.cdf_tool.proofs.Common.{command, is_simple, is_simple_and_free, refl, true, ◌≡◌}
 
 pub simple : is_simple command ≡ true
 unfolding command

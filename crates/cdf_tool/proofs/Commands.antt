@@ -1,19 +1,14 @@
 -- A command is answered, or is not known.
-use Rattle.std.proofs.Common.{◌≡◌, ℕ, Bool, true, false, List, [], Option, Ok, refl, sym, ◌∙◌, ap, subst}
-use Rattle.cdf_tool.proofs.Common.{transport, if◌then◌else◌, content, Answers, is_full, CommandLeads, RouteLeads, LineLeads, UnknownWord, Outcome, Command, Answer, Parsed, Blank, Asks, Faulty, parse, Turn, asked, faulty, Route, ByStep, step, built, AnswersBuilt, turn_over, asked_by, IsShort, Turns}
+use Rattle.cdf_tool.proofs.Common.{Answer, Answers, AnswersBuilt, Asks, Blank, Bool, ByStep, Command, CommandLeads, Faulty, IsSayable, IsShort, LineLeads, List, Ok, Option, Outcome, Parsed, Route, RouteLeads, StepLeads, Turn, Turns, UnknownWord, [], answered, ap, asked, asked_by, built, content, false, faulty, if◌then◌else◌, is_full, is_refused, parse, refl, reply_text, step, subst, sym, transport, true, turn_over, ℕ, ◌∙◌, ◌≡◌}
 use Rattle.std.specs.Prelude.{Some, None}
-use Rattle.cdf_edits.specs.Answers.{StepLeads}
 use Rattle.cdf_model.specs.declared.answer.LineError.{LineError}
 use Rattle.cdf_model.specs.declared.answer.Outcome.TheVariants.{Refused}
 use Rattle.cdf_model.specs.declared.answer.Reason.TheVariants.{BadLine}
-use Rattle.cdf_model.specs.Turns.{answered, is_refused}
-use Rattle.cdf_model.specs.Texts.{reply_text}
 use Rattle.cdf_model.specs.Sayable.{Sayable}
 use Rattle.cdf_model.proofs.SayableForms.{sayable-line}
 use Rattle.cdf_script.specs.declared.parsing.Parsed.{Parsed as Read}
 use Rattle.cdf_script.specs.declared.parsing.Parsed.TheVariants as forms
 use Rattle.cdf_script.specs.Asking.{Parses}
-use Rattle.cdf_tool.specs.Replay.{IsSayable}
 
 module _ (limit : ℕ) (b : List ℕ) (n : ℕ) (c : Command) (o : Outcome) (end : List ℕ) where
   turn_built : built c ≡ true → (answer : Answer) (full : Bool) → step (content b) c ≡ ByStep answer → turn_over b n (Asks c) full ≡ answered (content b) [] n answer full

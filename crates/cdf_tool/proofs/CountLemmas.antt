@@ -1,12 +1,9 @@
 -- What the counts of faults say of the status.
-use Rattle.std.proofs.Common.{◌≡◌, ℕ, ◌≤◌, ◌<◌, Bool, true, false, List, Option, Result, Ok, Err, inl, inr, refl, ap, ◌∙◌, subst, sym, arith}
-use Rattle.cdf_tool.proofs.Common.{not, transport, AreaError, Broken, AdoptError, Asked, Disk, EndsSaving, EndsStored, Status, Counted, CountedIn, counts, EndsNamed, IsUnsaved, status_of, status_of_area}
+use Rattle.cdf_tool.proofs.Common.{AdoptError, AreaError, Asked, Bool, Broken, Counted, CountedIn, Counts, Disk, EndsNamed, EndsSaving, EndsStored, Err, Explains, IsUnsaved, List, Ok, Option, ReadsCounted, ReadsCountedBehind, Result, Status, WritesCounted, ap, arith, counts, false, inl, inr, not, refl, status_of, status_of_area, subst, sym, transport, true, ℕ, ◌<◌, ◌∙◌, ◌≡◌, ◌≤◌}
 use Rattle.cdf_area.specs.declared.area.AreaError.TheVariants as areas
 use Rattle.cdf_base.specs.Causes.{HasCauseOf, Rose}
 use Rattle.cdf_session.specs.declared.refusal.AdoptError.TheVariants as errors
-use Rattle.cdf_session.specs.Sessions.{Explains}
 use Rattle.cdf_tool.specs.declared.status.Status.TheVariants as statuses
-use Rattle.cdf_tool.specs.Counts.{Counts, ReadsCounted, ReadsCountedBehind, WritesCounted}
 
 -- no count rose
 pub counts_stay : (r w o s r' w' o' s' : ℕ) → r' ≡ r → w' ≡ w → o' ≡ o → s' ≡ s → counts r' w' o' s' ≡ counts r w o s

@@ -1,9 +1,6 @@
 -- How a run of a named file ends.
-use Rattle.std.proofs.Common.{◌≡◌, ℕ, Bool, true, false, List, [], Option, Result, Ok, Err, refl, sym, subst, inl, inr}
-use Rattle.cdf_tool.proofs.Common.{transport, IfOk, Disk, Good, image_limit, Asked, Status, EndsOver, EndsSaving, EndsStored, status_from, Runs, EndsNamed, status_of, Attached, Kept, StoredBy}
+use Rattle.cdf_tool.proofs.Common.{Asked, Attached, Bool, Disk, EndsAttached, EndsInMemory, EndsNamed, EndsOver, EndsSaving, EndsStored, Err, FinishesWith, Good, HaltsWith, IfOk, Kept, List, Ok, Option, Result, Runs, Status, StoredBy, [], false, image_limit, inl, inr, refl, status_from, status_of, subst, sym, transport, true, ℕ, ◌≡◌}
 use Rattle.cdf_tool.specs.declared.status.Status.TheVariants as statuses
-use Rattle.cdf_tool.specs.Areas.{EndsAttached, EndsInMemory}
-use Rattle.cdf_tool.specs.Script.{FinishesWith, HaltsWith}
 use Rattle.cdf_tool.proofs.AreaLemmas.{over_file}
 use Rattle.cdf_tool.proofs.StoredLemmas.{kept, replaced, rewritten, spoiled}
 

@@ -1,8 +1,6 @@
 -- Flags that are known, and of which none stands twice.
-use Rattle.std.proofs.Common.{◌≡◌, ℕ, Bool, true, false, not, ◌&&◌, ◌||◌, List, [], ◌∷◌, ◌++◌, inl, inr, refl, ◌∙◌, ap, subst}
-use Rattle.cdf_tool.proofs.Common.{bytes_eq, cases_Bool, bytes_eq-same, differ-turned, both, same_of_bytes_eq, is_among, are_fine, known_flags}
-use Rattle.std.proofs.lemmas.List.Folds.{list_any-append}
-use Rattle.cdf_format.proofs.Tests.{not_false}
+use Rattle.cdf_tool.proofs.Common.{Bool, List, [], ap, are_fine, both, bytes_eq, bytes_eq-same, cases_Bool, differ-turned, false, inl, inr, is_among, known_flags, list_any-append, not_false, refl, same_of_bytes_eq, subst, true, ℕ, ◌++◌, ◌∙◌, ◌∷◌, ◌≡◌}
+use Rattle.std.proofs.Common.{not, ◌&&◌, ◌||◌}
 
 pub and_false : (a : Bool) → (a && false) ≡ false
 and_false true = refl

@@ -1,6 +1,5 @@
 -- What was written and what is gathered of a text.
-use Rattle.std.proofs.Common.{◌≡◌, ℕ, List, [], ◌++◌, append_assoc, append-nil, Option, Result, Ok, Err, sym, ◌∙◌, ap, subst}
-use Rattle.cdf_tool.proofs.Common.{Appends-nil, Appends-trans, Appends, AppendsFront, Gathers}
+use Rattle.cdf_tool.proofs.Common.{Appends, Appends-nil, Appends-trans, AppendsFront, Err, Gathers, List, Ok, Option, Result, [], ap, append-nil, append_assoc, subst, sym, ℕ, ◌++◌, ◌∙◌, ◌≡◌}
 use Rattle.std.specs.Prelude.{OnOk}
 use Rattle.cdf_store.proofs.Fronts.{front_after}
 

@@ -1,12 +1,7 @@
 -- What a run with status 0 or 1 comes to, over devices that tell their bytes.
-use Rattle.std.proofs.Common.{◌≡◌, ℕ, ◌≤◌, Bool, true, false, List, [], ◌∷◌, ◌++◌, append-nil, append_assoc, map, length, Option, Some, None, refl, sym, ◌∙◌, ap, subst, inl, inr}
-use Rattle.cdf_tool.proofs.Common.{Appends, Consumes, IsAtEnd, Disk, content, Moment, image_limit, script_limit, lines, State, run_on, Asked, Status, Accepts, Opens, Completes, Runs, EndsUnread, EndsWithout, EndsNamed, Goes, line_of_moment, flagged_line, tale, Finishes, IsDone}
-use Rattle.std.specs.Prelude.{◌↔◌}
-use Rattle.cdf_model.specs.Turns.{start}
-use Rattle.cdf_session.specs.Run.{flagged, run_of}
+use Rattle.cdf_tool.proofs.Common.{Accepts, Appends, Asked, Bool, Completes, Consumes, Disk, EndsNamed, EndsUnread, EndsWithout, Finishes, Goes, IsAtEnd, IsDone, List, Moment, None, Opens, Option, Runs, Some, State, Status, [], ap, append-nil, append_assoc, content, false, flagged, flagged_line, image_limit, inl, inr, last_line, length, line_of_moment, lines, map, refl, run_of, run_on, script_limit, start, subst, sym, tale, true, ℕ, ◌++◌, ◌↔◌, ◌∙◌, ◌∷◌, ◌≡◌, ◌≤◌}
 use Rattle.cdf_tool.specs.declared.status.Status.TheVariants as statuses
 use Rattle.cdf_tool.specs.Accepts.{Accepted}
-use Rattle.cdf_tool.specs.Script.{last_line}
 
 -- what was taken to the end was all that was left
 all_taken : (script taken : List ℕ) (left : Option (List ℕ)) → Consumes (Some script) left taken → IsAtEnd left → (left ≡ Some []) × (taken ≡ script)

@@ -1,13 +1,9 @@
 -- How the lines that are ready are answered.
-use Rattle.std.proofs.Common.{◌≡◌, ℕ, ◌+◌, ◌<◌, Bool, true, false, cond, List, [], ◌∷◌, ◌++◌, map, length, length-append, append_assoc, append-nil, Option, Some, None, refl, sym, ◌∙◌, ap, subst, inl, inr, arith, leb-true}
-use Rattle.cdf_tool.proofs.Common.{transport, ◌||◌, Appends, AreaError, AppendsFront, Parsed, Blank, parse, split, kept, Pending, last_of, line_of, new_lines, Status, Gathers, AreShort, GivesNext, Goes, IsDrained, IsShort, Passes, Replies, Stops, Turns, status_of_area}
-use Rattle.std.specs.Prelude.{◌⊎◌, nat_le}
+use Rattle.cdf_tool.proofs.Common.{Appends, AppendsFront, AreBlank, AreShort, AreaError, Blank, Bool, Gathers, GathersReply, GivesLine, GivesNext, Goes, IsDrained, IsReply, IsShort, List, None, Option, Parsed, Passes, PassesAll, Pending, Replies, Some, Status, Stops, StopsAt, Turns, Wrote, [], ap, append-nil, append_assoc, arith, cond, false, grown, inl, inr, kept, last_of, leb-true, length, length-append, line_limit, line_of, lines_ended, map, nat_le, new_lines, parse, refl, split, status_of_area, subst, sym, transport, true, ℕ, ◌++◌, ◌+◌, ◌<◌, ◌||◌, ◌∙◌, ◌∷◌, ◌≡◌}
+use Rattle.std.specs.Prelude.{◌⊎◌}
 use Rattle.cdf_area.specs.declared.area.AreaError.TheVariants as areas
-use Rattle.cdf_model.specs.Limits.{line_limit}
 use Rattle.cdf_lines.specs.declared.line.Line.{Line}
-use Rattle.cdf_lines.specs.Pending.{GivesLine, grown, lines_ended}
 use Rattle.cdf_tool.specs.declared.status.Status.TheVariants as statuses
-use Rattle.cdf_tool.specs.Replay.{AreBlank, GathersReply, IsReply, PassesAll, StopsAt, Wrote}
 use Rattle.cdf_tool.proofs.Commands.{turns_blank}
 use Rattle.cdf_tool.proofs.Gathered.{gathers_nothing, gathers_more, gathered_whole, gathered_in_part, gathered_written, gathered_cut}
 use Rattle.cdf_tool.proofs.Moments.{goes_nowhere, goes_one, goes_more}

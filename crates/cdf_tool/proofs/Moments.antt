@@ -1,14 +1,7 @@
 -- Moments one after the other, and the run that they tell.
-use Rattle.std.proofs.Common.{◌≡◌, ℕ, ◌+◌, Bool, true, false, List, [], ◌∷◌, ◌++◌, map, append_assoc, append-nil, length, Option, refl, sym, ◌∙◌, ap, subst, arith}
-use Rattle.cdf_tool.proofs.Common.{Appends-trans, Appends-nil, ◌||◌, if◌then◌else◌, UnknownWord, Command, Answer, Go, Refuse, is_accepted, DataSet, Parsed, Blank, Asks, Faulty, parse, Turn, State, asked, faulty, run_on, Route, ByStep, step, built, content, MovesIf, RouteLeads, CommandLeads, LineLeads, Moment, turn_over, line_of_moment, flagged_line, tale, Turns, Goes, Replies, Stops}
+use Rattle.cdf_tool.proofs.Common.{Answer, Appends-nil, Appends-trans, Asks, Blank, Bool, ByContent, ByStep, ByTaps, Command, CommandLeads, DataSet, Faulty, Go, Goes, LineLeads, LinesLead, List, Moment, Moves, MovesIf, Option, Parsed, Refuse, Replies, Route, RouteLeads, State, Stops, Turn, Turns, UnknownWord, [], advance, ap, append-nil, append_assoc, arith, asked, begun, built, content, data_after, false, faulty, flagged_line, if◌then◌else◌, is_accepted, last_image, length, line_of_moment, map, parse, refl, run_on, step, subst, sym, tale, true, turn, turn_over, ℕ, ◌++◌, ◌+◌, ◌||◌, ◌∙◌, ◌∷◌, ◌≡◌}
 use Rattle.std.proofs.lemmas.List.{map-append, length-map}
-use Rattle.cdf_model.specs.Answers.{data_after}
-use Rattle.cdf_session.specs.Run.{turn, advance}
-use Rattle.cdf_model.specs.Step.{ByContent, ByTaps}
-use Rattle.cdf_edits.specs.Answers.{Moves}
-use Rattle.cdf_session.specs.History.{LinesLead, last_image}
 use Rattle.cdf_tool.specs.declared.status.Status.TheVariants.{NoMemory}
-use Rattle.cdf_tool.specs.Replay.{begun}
 
 -- ---- the content of the image follows the data set
 

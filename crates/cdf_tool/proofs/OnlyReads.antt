@@ -1,10 +1,6 @@
 -- A script that only reads.
-use Rattle.std.proofs.Common.{◌≡◌, ℕ, Bool, true, false, List, ◌++◌, Option, Some, None, Ok, Err, OnOk, Result, refl, sym, ◌∙◌, ap, inl, inr, append-nil}
-use Rattle.cdf_tool.proofs.Common.{Consumes, Stays, Frame, MovesIf, is_full, both, Pending, last_of, new_lines, whole_lines-append, lines-split, Outcome, Command, is_accepted, split, kept, lines, whole_lines, AnswersBuilt, Disk, files_attached, Status, IfReads, all_read, line_reads, GivesNext, Passes}
-use Rattle.std.proofs.lemmas.List.Folds.{list_all-append}
+use Rattle.cdf_tool.proofs.Common.{AnswersBuilt, AttachesIn, Bool, Command, Consumes, Disk, Err, Frame, GivesNext, IfReads, List, MovesIf, None, Ok, OnOk, Option, Outcome, Passes, Pending, Result, Some, Status, Stays, WritesNothing, all_read, ap, append-nil, both, false, files_attached, inl, inr, is_accepted, is_full, kept, last_of, line_reads, lines, lines-split, list_all-append, new_lines, refl, split, sym, true, whole_lines, whole_lines-append, ℕ, ◌++◌, ◌∙◌, ◌≡◌}
 use Rattle.cdf_edits.specs.Follows.{only_reads}
-use Rattle.cdf_store.specs.Named.{AttachesIn}
-use Rattle.cdf_tool.specs.Reading.{WritesNothing}
 use Rattle.cdf_tool.proofs.Standing.{HasTaken, IsReady}
 
 -- ---- one command

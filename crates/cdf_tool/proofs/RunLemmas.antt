@@ -1,11 +1,6 @@
 -- What follows from how a run ends.
-use Rattle.std.proofs.Common.{◌≡◌, ◌⊎◌, ℕ, ◌+◌, ◌-◌, ◌<◌, ◌≤◌, Bool, true, false, List, [], length, Option, Some, None, refl, sym, ◌∙◌, ap, subst, inl, inr, arith, length-append}
-use Rattle.cdf_tool.proofs.Common.{IfSome, Consumes, Disk, lookup, WellFormed, all_phases, excluded, image_limit, script_limit, Asked, Status, Consumes-nil, EndsChecked, Opens, Completes, Runs, EndsUnread, EndsWithout, Without, EndsNamed, Rejects, Finishes, IsDone, Exactly, Attached, Kept, StoredBy}
+use Rattle.cdf_tool.proofs.Common.{Accepted, Asked, Attached, Bool, CanBegin, Completes, Consumes, Consumes-nil, Disk, EndsChecked, EndsNamed, EndsUnread, EndsWithout, Exactly, Finishes, IfSome, IsDone, IsFailure, IsGood, Kept, List, None, Opens, Option, Rejects, Runs, SaysUsage, Some, Status, StoredBy, WellFormed, Without, [], all_phases, ap, arith, excluded, false, image_limit, inl, inr, length, length-append, lookup, refl, script_limit, subst, sym, true, ℕ, ◌+◌, ◌-◌, ◌<◌, ◌∙◌, ◌≡◌, ◌≤◌, ◌⊎◌}
 use Rattle.cdf_tool.specs.declared.status.Status.TheVariants as statuses
-use Rattle.cdf_tool.specs.Checking.{Accepted}
-use Rattle.cdf_tool.specs.Due.{CanBegin, IsGood}
-use Rattle.cdf_tool.specs.Says.{SaysUsage}
-use Rattle.cdf_tool.specs.Statuses.{IsFailure}
 use Rattle.cdf_tool.proofs.RunStore.{found_lookup_in, kept_attached}
 
 -- ---- statuses

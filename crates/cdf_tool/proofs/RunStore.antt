@@ -1,6 +1,5 @@
 -- A run over a file that is no new one.
-use Rattle.std.proofs.Common.{◌≡◌, ℕ, Bool, true, false, List, Option, Some, None}
-use Rattle.cdf_tool.proofs.Common.{IfSome, Disk, found_or_made, lookup, Asked, Attached, KeptBy}
+use Rattle.cdf_tool.proofs.Common.{Asked, Attached, Bool, Disk, IfSome, KeptBy, List, None, Option, Some, false, found_or_made, lookup, true, ℕ, ◌≡◌}
 
 -- it is the one under the name
 found_lookup : (new : Bool) (under : Option (List ℕ)) (file : List ℕ) → new ≡ false → found_or_made new under ≡ Some file → under ≡ Some file

@@ -1,12 +1,7 @@
 -- What the run of a script leaves, at each of its ends.
-use Rattle.std.proofs.Common.{◌≡◌, ℕ, ◌+◌, ◌≤◌, Bool, true, false, List, [], ◌++◌, append-nil, length, Option, refl, sym, ◌∙◌, ap, subst, inl, inr, arith, length-append}
-use Rattle.cdf_tool.proofs.Common.{transport, Consumes-nil, ◌||◌, Consumes, script_limit, lines, split, whole_lines, Pending, last_of, new_lines, whole_lines-append, lines-split, Status, AreShort, IsDrained, IsShort, Replies, Stops, Finishes, piece_limit}
-use Rattle.std.proofs.KnownBytes.{Consumes-trans}
-use Rattle.cdf_lines.specs.Pending.{fed, new_rest, nothing_fed, finished}
-use Rattle.cdf_lines.proofs.Pieces.{rest-append}
+use Rattle.cdf_tool.proofs.Common.{AreShort, Bool, Consumes, Consumes-nil, Consumes-trans, Finishes, Follow, Halts, HaltsAfter, IsDrained, IsShort, List, Option, Pending, Pieces, Replies, Status, Stops, StopsIn, Takes, TakesLast, TakesNone, TakesPiece, [], ap, append-nil, arith, false, fed, inl, inr, last_of, length, length-append, lines, lines-split, new_lines, new_rest, nothing_fed, piece_limit, refl, rest-append, script_limit, split, subst, sym, transport, true, whole_lines, whole_lines-append, ℕ, ◌++◌, ◌+◌, ◌||◌, ◌∙◌, ◌≡◌, ◌≤◌}
+use Rattle.cdf_lines.specs.Pending.{finished}
 use Rattle.cdf_tool.specs.declared.status.Status.TheVariants as statuses
-use Rattle.cdf_tool.specs.Script.{Follow, Halts, HaltsAfter, Pieces, StopsIn}
-use Rattle.cdf_tool.specs.Taking.{Takes, TakesLast, TakesNone, TakesPiece}
 use Rattle.cdf_tool.proofs.Lines.{kept_short, last_short, new_short}
 use Rattle.cdf_tool.proofs.Moments.{more_replies, no_replies, stops_nowhere}
 use Rattle.cdf_tool.proofs.Standing.{HasTaken, IsAfter, IsReady}

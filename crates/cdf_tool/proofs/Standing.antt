@@ -1,6 +1,5 @@
 -- What stays true while a script is replayed.
-use Rattle.std.proofs.Common.{◌≡◌, ◌≤◌, ℕ, ◌+◌, List, [], ◌++◌, length, Bool, true, false, Option}
-use Rattle.cdf_tool.proofs.Common.{Consumes, IsAtEnd, script_limit, split, kept, lines, whole_lines, Pending, Gathers, AreShort, Goes, Replies, piece_limit}
+use Rattle.cdf_tool.proofs.Common.{AreShort, Bool, Consumes, Gathers, Goes, IsAtEnd, List, Option, Pending, Replies, [], false, kept, length, lines, piece_limit, script_limit, split, true, whole_lines, ℕ, ◌++◌, ◌+◌, ◌≡◌, ◌≤◌}
 
 -- on the way through these lines: some are answered, and these are left
 pub record Reached (limit : ℕ) (b : List ℕ) (given : ℕ) (lines : List (Option (List ℕ))) (was : Option (List ℕ)) (given' : ℕ) (ready : List (Option (List ℕ))) (image : List ℕ) (refused : Bool) (now : Option (List ℕ)) (gathered : List ℕ) : Type 0 where

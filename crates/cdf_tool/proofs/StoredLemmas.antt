@@ -1,23 +1,16 @@
 -- What becomes of the store.
-use Rattle.std.proofs.Common.{◌≡◌, ℕ, Bool, true, false, List, [], ◌∷◌, ◌++◌, ◌+◌, ◌-◌, ◌≤◌, length, length-append, take, arith, Option, Some, None, Ok, IsTrue, refl, sym, ◌∙◌, ap, subst, inl, inr}
-use Rattle.cdf_tool.proofs.Common.{◌&&◌, bytes_eq, is_some, if◌then◌else◌, IfSome, IsSome, option_map, Disk, file_in, file_of, files_attached, found_or_made, lookup, Differs, Touches, touches_none, touches_weaker, image_of, sealed, shape, Good, WellFormed, Asked, transport, Status, EndsSaving, EndsStored, status_of, Attached, IsRewritten, KeptBy}
+use Rattle.cdf_tool.proofs.Common.{Asked, Attached, Bool, Differs, Disk, EndsSaving, EndsStored, Good, Holds, HoldsBetween, IfSome, IsBetween, IsChangedRange, IsRewritten, IsSome, IsTrue, IsWhole, KeptBy, List, None, Ok, Option, Replaced, Rewrites, Some, Spoiled, Status, Touches, WellFormed, [], ap, arith, bytes_eq, eq_of, false, file_in, file_of, files_attached, files_with, found_or_made, has_checksum, if◌then◌else◌, image_of, inl, inr, is_some, length, length-append, lookup, option_map, refl, sealed, shape, status_of, subst, sym, tail_bytes, take, touches_none, touches_weaker, trailer_length, transport, true, with_file, ℕ, ◌&&◌, ◌++◌, ◌+◌, ◌-◌, ◌∙◌, ◌∷◌, ◌≡◌, ◌≤◌}
 use Rattle.std.proofs.lemmas.Slice.Eq.{bytes_eq-Decides}
-use Rattle.cdf_store.specs.Disk.{IsWhole, files_with}
-use Rattle.cdf_store.specs.Named.{with_file}
-use Rattle.cdf_pages.specs.Saving.{Holds, HoldsBetween, IsBetween, IsChangedRange, tail_bytes}
 use Rattle.cdf_pages.proofs.Disks.{holds_first}
 use Rattle.cdf_format.specs.Fields.{gdr_offset, eof, word}
-use Rattle.cdf_format.specs.Sealed.{has_checksum, trailer_length}
 use Rattle.cdf_format.proofs.FileRecords.{gdr_holds}
 use Rattle.cdf_format.proofs.GoodHead.{gdr_fits}
 use Rattle.cdf_format.proofs.GoodSound.{good_by_its_shape, good_eof}
 use Rattle.cdf_format.proofs.ImageOf.{sealed_is_file}
 use Rattle.cdf_format.proofs.Pieces.{word-piece}
 use Rattle.cdf_format.proofs.SealedRules.{good_long}
-use Rattle.cdf_format.proofs.Tests.{eq_of}
 use Rattle.md5.specs.Md5.{md5}
 use Rattle.cdf_session.specs.Seals.{seal_of}
-use Rattle.cdf_tool.specs.Stored.{Replaced, Rewrites, Spoiled}
 
 -- ---- files by name
 

@@ -1,12 +1,8 @@
 -- A rule is handed back exactly where a file was rejected.
-use Rattle.std.proofs.Common.{◌≡◌, ℕ, Bool, true, false, List, Option, Some, None, Result, Ok, Err, refl, sym, ◌∙◌, ap, subst}
-use Rattle.cdf_tool.proofs.Common.{IfOk, IfSome, AreaError, Broken, rejected_text, AdoptError, Disk, file_of, Status, EndsSaving, EndsStored, Refuses, status_from, SaysRejected, Tells, status_of, status_of_area}
-use Rattle.std.specs.Prelude.{◌≢◌}
+use Rattle.cdf_tool.proofs.Common.{AdoptError, AreaError, Bool, Breaks, Broken, Disk, EndsSaving, EndsStored, Err, IfOk, IfSome, List, Names, None, Ok, Option, Refuses, Result, SaysRejected, Some, Status, Tells, ap, false, file_of, old_file, refl, rejected_text, status_from, status_of, status_of_area, subst, sym, true, ℕ, ◌∙◌, ◌≡◌, ◌≢◌}
 use Rattle.cdf_area.specs.declared.area.AreaError.TheVariants as areas
-use Rattle.cdf_format.specs.WellFormed.{Breaks}
 use Rattle.cdf_session.specs.declared.refusal.AdoptError.TheVariants as errors
 use Rattle.cdf_tool.specs.declared.status.Status.TheVariants as statuses
-use Rattle.cdf_tool.specs.Says.{Names, old_file}
 
 -- ---- statuses of no rejected file
 

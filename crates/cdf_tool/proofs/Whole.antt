@@ -1,9 +1,5 @@
 -- What a session answers can be written.
-use Rattle.std.proofs.Common.{◌≡◌, ℕ, Bool, true, false, List, [], ◌∷◌, ◌++◌, Option, Some, None, Result, Ok, Err, refl, sym, ◌∙◌, subst}
-use Rattle.cdf_tool.proofs.Common.{if◌then◌else◌, not, Answers, MovesIf, is_full, content, Good, Outcome, Command, Answer, Go, Refuse, is_accepted, DataSet, is_among, ByStep, step, built, AnswersBuilt}
-use Rattle.std.specs.Prelude.{pos, nat_lt}
-use Rattle.std.specs.List.{remove}
-use Rattle.std.specs.Option.{is_none}
+use Rattle.cdf_tool.proofs.Common.{Answer, Answers, AnswersBuilt, Attribute, Bool, ByStep, Command, DataSet, Entry, Err, Found, Go, Good, List, MovesIf, None, Ok, Option, Outcome, Refuse, Result, Some, [], attribute_named, attribute_names, built, content, false, given, if◌then◌else◌, is_accepted, is_among, is_bad_name, is_full, is_none, nat_lt, not, outcome, pos, refl, remove, signed_limit, step, subst, sym, true, unless, valued, variable_named, variable_names, variables_of, with_variables, ℕ, ◌++◌, ◌∙◌, ◌∷◌, ◌≡◌}
 use Rattle.cdf_attrs.proofs.WholeEntries.{shown_is_whole}
 use Rattle.cdf_model.specs.declared.answer.Reason.{Reason}
 use Rattle.cdf_model.specs.declared.answer.Reason.TheVariants as reasons
@@ -16,11 +12,7 @@ use Rattle.cdf_model.specs.declared.kinds.Scope.{Scope}
 use Rattle.cdf_model.specs.declared.data_type.DataType.{DataType}
 use Rattle.cdf_model.specs.declared.kinds.EntryKind.{EntryKind}
 use Rattle.cdf_model.specs.AttributeSteps.{attr_step, rename_attr_step, del_attr_step, put_entry_step, get_entry_step, del_entry_step, entries_of, entry_by, is_out_of_range, is_wrong_scope, new_attribute, with_attribute, with_entries}
-use Rattle.cdf_model.specs.Answers.{outcome, unless, given, valued}
-use Rattle.cdf_model.specs.DataSet.{Attribute, Entry}
 use Rattle.cdf_model.specs.Encodings.{encoding_at}
-use Rattle.cdf_model.specs.Limits.{signed_limit}
-use Rattle.cdf_model.specs.Names.{Found, is_bad_name, attribute_names, attribute_named, variable_named, variable_names, variables_of, with_variables}
 use Rattle.cdf_model.specs.Numbered.{item_at, with_item, without}
 use Rattle.cdf_model.specs.Values.{notation_of, values_in}
 use Rattle.cdf_model.specs.Place.{value_count}

@@ -1,12 +1,7 @@
 -- The bytes of a number, and its range.
-use Rattle.std.proofs.Common.{◌≡◌, ℕ, zero, suc, ◌+◌, ◌-◌, ◌*◌, ◌^◌, ◌<◌, ◌≤◌, pos, negsuc, List, ◌∷◌, ◌++◌, drop, refl, sym, ap, ◌∙◌, add-one, lit<, arith}
-use Rattle.std.proofs.Math.Nat.{pow-succ', pow-le-pow_right}
-use Rattle.std.proofs.lemmas.Nat.{pow-add}
+use Rattle.cdf_values.proofs.Common.{List, OnOk, Result, add-one, ap, arith, bytes_high_first, decimal, drop, if◌then◌else◌, is_ok, lit<, negsuc, pos, pow-add, pow-le-pow_right, pow-succ', refl, signed_decimal, suc, sym, zero, ℕ, ◌*◌, ◌++◌, ◌+◌, ◌-ℤ◌, ◌-◌, ◌<◌, ◌^◌, ◌∙◌, ◌∷◌, ◌≡◌, ◌≤◌}
 use Rattle.std.proofs.lemmas.Int.{ints}
-use Rattle.std.specs.Prelude.{◌-ℤ◌, Result, Ok, Err, OnOk, if◌then◌else◌}
-use Rattle.std.specs.Result.{is_ok}
-use Rattle.std.specs.Fmt.{decimal, signed_decimal}
-use Rattle.std.specs.Int.{bytes_high_first}
+use Rattle.std.specs.Prelude.{Ok, Err}
 
 -- the last bytes of a number are its lowest ones
 pub lowest : (k n m x : ℕ) → m ≡ k + n → drop k (bytes_high_first m x) ≡ bytes_high_first n x

@@ -1,11 +1,6 @@
 -- Reading pairs of hexadecimal digits.
-use Rattle.std.proofs.Common.{◌≡◌, ℕ, ◌+◌, ◌*◌, ◌≤◌, Bool, true, false, cond, List, [], ◌∷◌, ◌++◌, length, get_or, arith, refl}
-use Rattle.std.specs.Prelude.{Option, Some, None, ◌&&◌, ◌==◌, if◌then◌else◌}
-use Rattle.std.specs.Char.{is_ascii_hexdigit}
-use Rattle.std.specs.List.{list_all}
-use Rattle.cdf_model.specs.Quoting.{hex_value}
-use Rattle.cdf_model.specs.Values.{hex_bytes, digits_in}
-use Rattle.cdf_values.specs.Reading.{IsRead, pair_byte}
+use Rattle.cdf_values.proofs.Common.{Bool, IsRead, List, [], arith, cond, digits_in, false, get_or, hex_bytes, hex_value, if◌then◌else◌, is_ascii_hexdigit, length, list_all, pair_byte, refl, true, ℕ, ◌&&◌, ◌*◌, ◌++◌, ◌+◌, ◌==◌, ◌∷◌, ◌≡◌, ◌≤◌}
+use Rattle.std.specs.Prelude.{Option, Some, None}
 
 -- the bytes so far and those of the digits that are left
 abbrev pub pairs_onto : List ℕ → List ℕ → Option (List ℕ)

@@ -1,3 +1,4 @@
+pub mod Common
 pub mod ByteLemmas
 pub mod HexLemmas
 pub mod ListLemmas

@@ -1,12 +1,7 @@
 -- Lists that are gone through element by element, or part by part.
-use Rattle.std.proofs.Common.{◌≡◌, ℕ, zero, suc, ◌+◌, ◌-◌, ◌*◌, ◌/◌, ◌<◌, ◌≤◌, List, [], ◌∷◌, ◌++◌, length, take, drop, reverse, refl, sym, ap, ◌∙◌, append_assoc, length-append, length-take, length-drop, add-one, arith}
-use Rattle.std.proofs.lemmas.List.{append-nil, drop-drop, drop_at, length-reverse}
+use Rattle.cdf_values.proofs.Common.{List, [], add-one, ap, append-nil, append_assoc, arith, div-mul-le_self, drop, drop-drop, drop_at, flat_map, length, length-append, length-drop, length-reverse, length-take, mul-le, parts, refl, reverse, suc, sym, take, zero, ℕ, ◌*◌, ◌++◌, ◌+◌, ◌-◌, ◌/◌, ◌<◌, ◌∙◌, ◌∷◌, ◌≡◌, ◌≤◌}
 use Rattle.cdf_model.proofs.Filled.{filled_more}
 use borrow.Rule.Slice.PartMut.{put_mid}
-use Rattle.std.proofs.Math.Nat.{div-mul-le_self}
-use Rattle.std.proofs.lemmas.Nat.{mul-le}
-use Rattle.std.specs.List.{flat_map}
-use Rattle.cdf_model.specs.ByteOrder.{parts}
 
 pub flat_map-append : {A B : Type 0} (f : A → List B) (xs ys : List A) → flat_map f (xs ++ ys) ≡ flat_map f xs ++ flat_map f ys
 flat_map-append f [] ys = refl

@@ -1,10 +1,6 @@
 -- Reading decimal digits up to a greatest number.
-use Rattle.std.proofs.Common.{◌≡◌, ℕ, ◌+◌, ◌-◌, ◌*◌, ◌≤◌, Bool, true, false, cond, List, [], ◌∷◌, refl, arith}
-use Rattle.std.specs.Prelude.{Some, None, ◌&&◌, nat_le}
-use Rattle.std.proofs.lemmas.Bool.Decides.{nat_tests}
-use Rattle.std.specs.Char.{is_ascii_digit}
-use Rattle.std.specs.List.{fold, list_all}
-use Rattle.cdf_values.specs.Numbers.{with_digit, digits_from}
+use Rattle.cdf_values.proofs.Common.{Bool, List, [], arith, cond, digits_from, false, fold, is_ascii_digit, list_all, nat_le, nat_tests, refl, true, with_digit, ℕ, ◌&&◌, ◌*◌, ◌+◌, ◌-◌, ◌∷◌, ◌≡◌, ◌≤◌}
+use Rattle.std.specs.Prelude.{Some, None}
 
 grows : (n : ℕ) (word : List ℕ) → n ≤ fold (λ n b. 10 * n + (b - 48)) n word
 grows n [] = omega arith

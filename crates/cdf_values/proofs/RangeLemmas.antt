@@ -1,14 +1,7 @@
 -- Numbers that are read within the range of so many bytes.
-use Rattle.std.proofs.Common.{◌≡◌, ℕ, ◌+◌, ◌-◌, ◌*◌, ◌^◌, ◌<◌, ◌≤◌, Bool, true, false, cond, List, ◌∷◌, length, refl, ap, arith}
-use Rattle.std.proofs.lemmas.Bool.Decides.{nat_tests}
-use Rattle.std.proofs.lemmas.Nat.{pow_pos}
-use Rattle.std.specs.Prelude.{Some, None, not, ◌==◌, ◌&&◌, nat_le, nat_lt}
-use Rattle.std.specs.Fmt.{decimal, signed_decimal}
-use Rattle.std.specs.Int.{bytes_high_first}
-use Rattle.std.specs.Option.{option_map}
+use Rattle.cdf_values.proofs.Common.{Bool, List, ap, arith, bytes_high_first, cond, decimal, false, length, nat_le, nat_lt, nat_tests, negative_in, not, number_of, option_map, plain_up_to, pow_pos, refl, signed_decimal, signed_of, true, unsigned_in, ℕ, ◌&&◌, ◌*◌, ◌+◌, ◌-◌, ◌<◌, ◌==◌, ◌^◌, ◌∷◌, ◌≡◌, ◌≤◌}
+use Rattle.std.specs.Prelude.{Some, None}
 use Rattle.cdf_model.specs.Arguments.{is_plain_number, value}
-use Rattle.cdf_model.specs.Values.{number_of, signed_of, negative_in, unsigned_in}
-use Rattle.cdf_values.specs.Numbers.{plain_up_to}
 use Rattle.cdf_values.proofs.ByteLemmas.{two_halves, bytes_as_bits, negative_text}
 
 mapped : (plain b c : Bool) (size v : ℕ) → b ≡ c → option_map (λ n. bytes_high_first size n) (cond (plain && b) (Some v) None) ≡ cond (plain && c) (Some (bytes_high_first size v)) None

@@ -1,16 +1,7 @@
 -- Reading words one by one.
-use Rattle.std.proofs.Common.{◌≡◌, ℕ, suc, ◌+◌, Bool, true, false, cond, List, ◌∷◌, ◌++◌, length, refl, sym, ap, ◌∙◌, append_assoc, arith}
-use Rattle.std.proofs.lemmas.Bool.{false≢true}
-use Rattle.std.proofs.lemmas.Bool.Decides.{nat_tests}
-use Rattle.std.proofs.lemmas.List.{append-nil}
-use Rattle.std.specs.Prelude.{Option, Some, None, Result, Ok, Err, position, nat_lt, ◌==◌}
-use Rattle.std.specs.List.{flat_map, position_or_len}
-use Rattle.std.specs.Option.{is_none, option_to_list}
+use Rattle.cdf_values.proofs.Common.{BadValue, Bool, DataType, IsRead, List, Notation, Result, ap, append-nil, append_assoc, arith, bytes_by, bytes_in, bytes_of_words, cond, false, false≢true, flat_map, is_none, length, nat_lt, nat_tests, notation_of, option_to_list, position, position_or_len, refl, suc, sym, text_size, true, values_in, ℕ, ◌++◌, ◌+◌, ◌==◌, ◌∙◌, ◌∷◌, ◌≡◌}
+use Rattle.std.specs.Prelude.{Option, Some, None, Ok, Err}
 use Rattle.cdf_model.specs.declared.answer.Reason.{Reason}
-use Rattle.cdf_model.specs.declared.answer.Reason.TheVariants.{BadValue}
-use Rattle.cdf_model.specs.declared.data_type.DataType.{DataType}
-use Rattle.cdf_model.specs.Values.{Notation, bytes_by, bytes_in, bytes_of_words, notation_of, text_size, values_in}
-use Rattle.cdf_values.specs.Reading.{IsRead}
 
 -- the bytes, or the place of a bad word
 abbrev pub outcome : Option ℕ → ℕ → List ℕ → Result (List ℕ) Reason

@@ -1,12 +1,5 @@
 -- Parts that are turned round twice.
-use Rattle.std.proofs.Common.{◌≡◌, ℕ, zero, suc, ◌*◌, ◌/◌, ◌%◌, Bool, true, false, List, ◌++◌, length, take, drop, reverse, refl, sym, ap, ap₂, ◌∙◌, length-take, length-drop, arith}
-use Rattle.std.proofs.Math.Nat.{div-add-mod}
-use Rattle.std.proofs.lemmas.List.{take_at, drop_at, nil_from_length, length-reverse, reverse-reverse, take-append-drop}
-use Rattle.std.specs.List.{flat_map}
-use Rattle.cdf_model.specs.declared.data_type.DataType.{DataType}
-use Rattle.cdf_model.specs.declared.data_type.DataType.TheVariants.{Int1, Int2, Int4, Int8, UInt1, UInt2, UInt4, Real4, Real8, Epoch, Epoch16, TimeTt2000, Byte, Float, Double, Char, UChar}
-use Rattle.cdf_model.specs.ByteOrder.{parts, turned, unit_of}
-use Rattle.cdf_model.specs.Types.{size_of}
+use Rattle.cdf_values.proofs.Common.{Bool, Byte, Char, DataType, Double, Epoch, Epoch16, Float, Int1, Int2, Int4, Int8, List, Real4, Real8, TimeTt2000, UChar, UInt1, UInt2, UInt4, ap, ap₂, arith, div-add-mod, drop, drop_at, false, flat_map, length, length-drop, length-reverse, length-take, nil_from_length, parts, refl, reverse, reverse-reverse, size_of, suc, sym, take, take-append-drop, take_at, true, turned, unit_of, zero, ℕ, ◌%◌, ◌*◌, ◌++◌, ◌/◌, ◌∙◌, ◌≡◌}
 use Rattle.cdf_values.proofs.ListLemmas.{length-turned}
 use Rattle.cdf_values.proofs.WriteLemmas.{whole_by}
 

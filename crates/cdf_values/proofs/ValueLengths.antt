@@ -1,19 +1,7 @@
 -- How many bytes the values are that words write.
-use Rattle.std.proofs.Common.{◌≡◌, ℕ, zero, suc, ◌+◌, ◌*◌, ◌%◌, ◌≤◌, List, [], ◌∷◌, ◌++◌, length, map, Bool, true, false, Option, Some, None, Ok, Err, refl, sym, ap, ap₂, ◌∙◌, rules, arith}
-use Rattle.std.proofs.Math.Nat.{mul-mod_right}
-use Rattle.std.proofs.lemmas.Bool.Decides.{nat_tests}
+use Rattle.cdf_values.proofs.Common.{BadValue, Bool, Char, Characters, DataType, Err, HasSize, Hexadecimal, List, None, Notation, Ok, Option, Signed, Some, UChar, Unsigned, WrongCount, [], ap, ap₂, arith, bytes_by, bytes_high_first, bytes_in, bytes_of_words, false, fold, hex_bytes, if◌then◌else◌, is_none, length, map, mul-mod_right, nat_tests, negative_in, notation_of, position, positive_in, refl, rules, size_of, suc, sum, sym, text_size, true, values_in, zero, ℕ, ◌%◌, ◌*◌, ◌++◌, ◌+◌, ◌==◌, ◌||◌, ◌∙◌, ◌∷◌, ◌≡◌, ◌≤◌}
 use Rattle.std.proofs.lemmas.List.{length-append}
-use Rattle.std.specs.Int.{bytes_high_first}
-use Rattle.std.specs.List.{fold, sum}
-use Rattle.std.specs.Option.{is_none}
-use Rattle.std.specs.Prelude.{◌==◌, ◌||◌, if◌then◌else◌, position}
-use Rattle.cdf_model.specs.declared.answer.Reason.TheVariants.{BadValue, WrongCount}
-use Rattle.cdf_model.specs.declared.data_type.DataType.{DataType}
-use Rattle.cdf_model.specs.declared.data_type.DataType.TheVariants.{Char, UChar}
-use Rattle.cdf_model.specs.Types.{size_of}
-use Rattle.cdf_model.specs.Values.{Notation, Signed, Unsigned, Hexadecimal, Characters, bytes_by, bytes_in, bytes_of_words, hex_bytes, negative_in, notation_of, positive_in, text_size, values_in}
 use Rattle.cdf_model.specs.VariableSteps.{is_characters}
-use Rattle.cdf_values.specs.Notations.{HasSize}
 use Rattle.cdf_values.proofs.ReadLemmas.{words_onto, takes_word, stops_at_word}
 
 -- a type has a byte or more

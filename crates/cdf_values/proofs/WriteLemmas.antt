@@ -1,16 +1,6 @@
 -- Texts of values, each with a blank in front.
-use Rattle.std.proofs.Common.{◌≡◌, ℕ, suc, ◌+◌, ◌-◌, ◌*◌, ◌/◌, ◌%◌, ◌<◌, ◌≤◌, List, [], ◌∷◌, ◌++◌, length, take, drop, map, sym, ap, ◌∙◌, append_assoc, length-drop, add-one, ◌⊎◌, inl, inr, arith}
-use Rattle.std.proofs.lemmas.Bool.{cases_lt}
-use Rattle.std.proofs.lemmas.Bool.Decides.{nat_tests}
-use Rattle.std.specs.Prelude.{false, ◌==◌}
-use Rattle.std.proofs.Math.Nat.{div-eq-sub-div, mul-mod_right, div-add-mod, mod-eq_of_lt, add-mod_right}
-use Rattle.std.proofs.lemmas.List.{append-nil}
-use Rattle.std.specs.List.{flat_map, join_with_byte}
-use Rattle.cdf_model.specs.declared.data_type.DataType.{DataType}
-use Rattle.cdf_model.specs.declared.data_type.DataType.TheVariants.{Int1, Int2, Int4, Int8, UInt1, UInt2, UInt4, Real4, Real8, Epoch, Epoch16, TimeTt2000, Byte, Float, Double, Char, UChar}
-use Rattle.cdf_model.specs.ByteOrder.{parts}
-use Rattle.cdf_model.specs.Types.{size_of}
-use Rattle.cdf_model.specs.Values.{notation_of, text_by, text_size, values_text}
+use Rattle.cdf_values.proofs.Common.{Byte, Char, DataType, Double, Epoch, Epoch16, Float, Int1, Int2, Int4, Int8, List, Real4, Real8, TimeTt2000, UChar, UInt1, UInt2, UInt4, [], add-mod_right, add-one, ap, append-nil, append_assoc, arith, cases_lt, div-add-mod, div-eq-sub-div, drop, flat_map, inl, inr, join_with_byte, length, length-drop, map, mod-eq_of_lt, mul-mod_right, nat_tests, notation_of, parts, size_of, suc, sym, take, text_by, text_size, values_text, ℕ, ◌%◌, ◌*◌, ◌++◌, ◌+◌, ◌-◌, ◌/◌, ◌<◌, ◌==◌, ◌∙◌, ◌∷◌, ◌≡◌, ◌≤◌, ◌⊎◌}
+use Rattle.std.specs.Prelude.{false}
 
 abbrev pub led : DataType → ℕ → List ℕ → List ℕ
 led t size rest = flat_map (λ part. 32 ∷ text_by (notation_of t) part) (parts size (length rest / size) rest)

@@ -1,5 +1,4 @@
-use Rattle.std.proofs.Common.{sym, subst}
-use Rattle.cdf_format.specs.WellFormed.{Good}
+use Rattle.cdf_session.proofs.Common.{Good, subst, sym}
 use Rattle.cdf_session.proofs.adopting.load_image.Goals as goal
 
 pub load-requires : goal.load-requires

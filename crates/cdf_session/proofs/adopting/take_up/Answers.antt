@@ -1,5 +1,4 @@
-use Rattle.std.proofs.Common.{sym, subst, ◌∙◌, List, ℕ}
-use Rattle.cdf_session.specs.Loading.{AreOf}
+use Rattle.cdf_session.proofs.Common.{AreOf, List, subst, sym, ℕ, ◌∙◌}
 use Rattle.cdf_session.proofs.AdoptLemmas.{front_is, shortened, taken_good}
 use Rattle.cdf_session.proofs.adopting.take_up.Goals as goal
 

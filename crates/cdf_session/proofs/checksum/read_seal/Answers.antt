@@ -1,5 +1,4 @@
-use Rattle.std.proofs.Common.{arith}
-use Rattle.cdf_format.proofs.GoodHead.{cdr_fits}
+use Rattle.cdf_session.proofs.Common.{arith, cdr_fits}
 use Rattle.cdf_session.proofs.checksum.read_seal.Goals as goal
 
 pub read_cdr-requires : goal.read_cdr-requires

@@ -1,6 +1,5 @@
-use Rattle.std.proofs.Common.{length, ap, ◌∙◌, arith}
+use Rattle.cdf_session.proofs.Common.{ap, arith, cdr_fits, length, ◌∙◌}
 use Rattle.std.proofs.lemmas.Result.{on_ok_weaker}
-use Rattle.cdf_format.proofs.GoodHead.{cdr_fits}
 use Rattle.cdf_session.proofs.ChecksumLemmas.{flags_written, flags_changed, flags_read}
 use Rattle.cdf_session.proofs.checksum.set_checksum.Goals as goal
 

@@ -1,7 +1,4 @@
-use Rattle.std.proofs.Common.{◌∙◌, sym, ap, arith}
-use Rattle.cdf_edits.proofs.Edits.VariableDeletionFollows.{delete_refused}
-use Rattle.cdf_attrs.specs.Known.{Known}
-use Rattle.cdf_vars.proofs.VariableFound.{none_found}
+use Rattle.cdf_session.proofs.Common.{Known, ap, arith, delete_refused, none_found, sym, ◌∙◌}
 use Rattle.cdf_session.proofs.DeletionLemmas as deletion
 use Rattle.cdf_session.proofs.OpenLemmas.{on_err}
 use Rattle.cdf_session.proofs.deleting.delete_variable.Goals as goal

@@ -1,6 +1,5 @@
-use Rattle.std.proofs.Common.{rules, sym, subst}
+use Rattle.cdf_session.proofs.Common.{Good, rules, subst, sym}
 use Rattle.cdf_area.proofs.Calls.{read_done, read_failed, read_more, read_once}
-use Rattle.cdf_format.specs.WellFormed.{Good}
 use Rattle.cdf_session.proofs.loading.load.Goals as goal
 
 pub load-requires-2 : goal.load-requires-2

@@ -1,4 +1,4 @@
-use Rattle.cdf_format.specs.NewFile.{new_image}
+use Rattle.cdf_session.proofs.Common.{new_image}
 use Rattle.cdf_session.proofs.NewFileLemmas.{appended}
 use Rattle.cdf_session.proofs.new_file.new_bytes.Goals as goal
 

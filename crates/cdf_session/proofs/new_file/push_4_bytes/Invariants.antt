@@ -1,5 +1,4 @@
-use Rattle.std.proofs.Common.{◌≡◌, ◌++◌, take}
-use Rattle.cdf_format.specs.NewFile.{of_4_bytes}
+use Rattle.cdf_session.proofs.Common.{of_4_bytes, take, ◌++◌, ◌≡◌}
 use Rattle.cdf_session.proofs.new_file.push_4_bytes.Given as goal
 
 abbrev pub invariant-loop-number : goal.invariant-loop-number

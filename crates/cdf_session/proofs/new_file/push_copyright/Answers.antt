@@ -1,5 +1,4 @@
-use Rattle.std.proofs.Common.{refl}
-use Rattle.cdf_format.specs.NewFile.{copyright}
+use Rattle.cdf_session.proofs.Common.{copyright, refl}
 use Rattle.cdf_session.proofs.NewFileLemmas.{in_two}
 use Rattle.cdf_session.proofs.new_file.push_copyright.Goals as goal
 

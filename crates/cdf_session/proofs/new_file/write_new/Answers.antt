@@ -1,6 +1,4 @@
-use Rattle.std.proofs.Common.{◌∙◌, List, ℕ, subst}
-use Rattle.std.specs.Prelude.{IfOk}
-use Rattle.cdf_session.specs.Loading.{AreOf}
+use Rattle.cdf_session.proofs.Common.{AreOf, IfOk, List, subst, ℕ, ◌∙◌}
 use Rattle.cdf_session.proofs.NewFileLemmas.{new_fits, written_new, good_new, on_ok}
 use Rattle.cdf_session.proofs.new_file.write_new.Goals as goal
 

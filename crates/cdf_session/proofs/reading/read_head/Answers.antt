@@ -1,5 +1,4 @@
-use Rattle.std.proofs.Common.{◌∙◌, arith}
-use Rattle.cdf_format.proofs.GoodHead.{cdr_fits}
+use Rattle.cdf_session.proofs.Common.{arith, cdr_fits, ◌∙◌}
 use Rattle.cdf_session.proofs.HeadLemmas.{gdr_fits_at, few_dimensions_at, sizes_fit_at, head_is}
 use Rattle.cdf_session.proofs.reading.read_head.Goals as goal
 

@@ -1,5 +1,4 @@
-use Rattle.std.proofs.Common.{ℕ, List, false, inl, inr, subst, sym}
-use Rattle.cdf_tool.proofs.Common.{transport, SaysAccepted, accepted_text, Counted, counts, Status}
+use Rattle.cdf_tool.proofs.Common.{Counted, List, SaysAccepted, Status, accepted_text, counts, false, inl, inr, subst, sym, transport, ℕ}
 use Rattle.cdf_tool.proofs.checked.check_area.Goals as goal
 
 pub returns-in-Ok-clause-ends : goal.returns-in-Ok-clause-ends

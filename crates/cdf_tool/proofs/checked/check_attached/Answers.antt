@@ -1,5 +1,4 @@
-use Rattle.std.proofs.Common.{ℕ, List, Option, ◌∙◌, ap, subst, sym}
-use Rattle.cdf_tool.proofs.Common.{transport, Frame, Disk, file_in, EndsOverFile, Counted, counts, Tells}
+use Rattle.cdf_tool.proofs.Common.{Counted, Disk, EndsOverFile, Frame, List, Option, Tells, ap, counts, file_in, subst, sym, transport, ℕ, ◌∙◌}
 use Rattle.cdf_tool.proofs.CountLemmas.{stopped_counted}
 use Rattle.cdf_tool.proofs.checked.check_attached.Goals as goal
 

@@ -1,5 +1,4 @@
-use Rattle.std.proofs.Common.{◌≡◌, ◌∙◌, ap, false, refl, Some}
-use Rattle.cdf_tool.proofs.Common.{option_map, Disk, file_of, asked_for, Attached}
+use Rattle.cdf_tool.proofs.Common.{Attached, Disk, Some, ap, asked_for, false, file_of, option_map, refl, ◌∙◌, ◌≡◌}
 use Rattle.cdf_tool.proofs.CheckLemmas.{never_six, over_attached}
 use Rattle.cdf_tool.proofs.CountLemmas.{counted_from, writes_stay}
 use Rattle.cdf_tool.proofs.OnlyReads.{attached_files}

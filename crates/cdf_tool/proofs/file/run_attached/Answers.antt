@@ -1,5 +1,5 @@
-use Rattle.std.proofs.Common.{◌≡◌, ◌∙◌, ℕ, List, [], Option, None, Some, Err, IsSome, refl, sym, ap, subst, inl, length}
-use Rattle.cdf_tool.proofs.Common.{option_map, Frame, Disk, file_of}
+use Rattle.cdf_tool.proofs.Common.{Disk, Err, Frame, List, None, Option, Some, [], ap, file_of, inl, length, option_map, refl, subst, sym, ℕ, ◌∙◌, ◌≡◌}
+use Rattle.std.proofs.Common.{IsSome}
 use Rattle.cdf_tool.specs.declared.status.Status.TheVariants as statuses
 use Rattle.cdf_tool.proofs.AreaLemmas.{attached_holds}
 use Rattle.cdf_tool.proofs.CountLemmas.{counted_attached, no_write}

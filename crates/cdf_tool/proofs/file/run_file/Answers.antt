@@ -1,6 +1,4 @@
-use Rattle.std.proofs.Common.{◌≡◌, ◌∙◌, ap, subst, sym, Some}
-use Rattle.cdf_tool.proofs.Common.{option_map, file_of, asked_for, Status, Attached}
-use Rattle.cdf_tool.specs.Says.{SaysNoFile}
+use Rattle.cdf_tool.proofs.Common.{Attached, SaysNoFile, Some, Status, ap, asked_for, file_of, option_map, subst, sym, ◌∙◌, ◌≡◌}
 use Rattle.cdf_tool.proofs.CountLemmas.{counted_from}
 use Rattle.cdf_tool.proofs.EndLemmas.{attached_ends, in_memory_ends}
 use Rattle.cdf_tool.proofs.OnlyReads.{attached_files, if_reads, if_reads_map, nothing_before}

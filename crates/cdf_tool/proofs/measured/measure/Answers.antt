@@ -1,5 +1,4 @@
-use Rattle.std.proofs.Common.{ℕ, subst}
-use Rattle.cdf_tool.specs.Counts.{CountedIn, counts}
+use Rattle.cdf_tool.proofs.Common.{CountedIn, counts, subst, ℕ}
 use Rattle.cdf_tool.proofs.measured.measure.Goals as goal
 
 pub returns-in-Ok-clause-counted : goal.returns-in-Ok-clause-counted

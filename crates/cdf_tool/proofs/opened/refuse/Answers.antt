@@ -1,4 +1,4 @@
-use Rattle.std.proofs.Common.{sym, ◌∙◌}
+use Rattle.cdf_tool.proofs.Common.{sym, ◌∙◌}
 use Rattle.cdf_tool.proofs.AreaLemmas.{refused_ends, failed_ends}
 use Rattle.cdf_tool.proofs.CountLemmas.{rejected_counted, refused_counted}
 use Rattle.cdf_tool.proofs.Told.{never_of_area, refused_tells}

@@ -1,5 +1,4 @@
-use Rattle.std.proofs.Common.{refl}
-use Rattle.cdf_tool.proofs.Common.{Asks, built}
+use Rattle.cdf_tool.proofs.Common.{Asks, built, refl}
 use Rattle.cdf_tool.proofs.Commands.{command_turns}
 use Rattle.cdf_tool.proofs.OnlyReads.{reads_same}
 use Rattle.cdf_tool.proofs.Whole.{can_be_written}

@@ -1,6 +1,5 @@
-use Rattle.std.proofs.Common.{◌≡◌, true, IfOk, OnOk, sym, subst}
-use Rattle.cdf_tool.proofs.Common.{Stays, line_of, Parsed, parse, Turns, asked_by}
-use Rattle.cdf_tool.specs.Reading.{reads}
+use Rattle.cdf_tool.proofs.Common.{OnOk, Parsed, Stays, Turns, asked_by, line_of, parse, reads, subst, sym, true, ◌≡◌}
+use Rattle.std.proofs.Common.{IfOk}
 use Rattle.cdf_tool.proofs.Commands.{asked_is, asked_sayable}
 use Rattle.cdf_tool.proofs.replay.answer_line.Goals as goal
 

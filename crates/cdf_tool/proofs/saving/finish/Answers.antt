@@ -1,4 +1,4 @@
-use Rattle.std.proofs.Common.{sym, ◌∙◌}
+use Rattle.cdf_tool.proofs.Common.{sym, ◌∙◌}
 use Rattle.cdf_tool.proofs.StoredLemmas.{saved_already, stored_same}
 use Rattle.cdf_tool.proofs.saving.finish.Goals.{then-no_save, else-no_save}
 use Rattle.cdf_tool.proofs.saving.finish.Goals as goal

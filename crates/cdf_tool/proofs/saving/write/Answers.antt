@@ -1,4 +1,4 @@
-use Rattle.std.proofs.Common.{ap, Err}
+use Rattle.cdf_tool.proofs.Common.{Err, ap}
 use Rattle.cdf_tool.proofs.StoredLemmas.{rewrites, saved_done, saved_in_part}
 use Rattle.cdf_tool.proofs.saving.write.Goals as goal
 

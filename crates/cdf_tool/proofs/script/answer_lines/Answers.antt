@@ -1,5 +1,4 @@
-use Rattle.std.proofs.Common.{◌∙◌, ap, subst, sym, refl}
-use Rattle.cdf_tool.proofs.Common.{counts, line_reads, GivesNext, IsShort}
+use Rattle.cdf_tool.proofs.Common.{GivesNext, IsShort, ap, counts, line_reads, refl, subst, sym, ◌∙◌}
 use Rattle.cdf_tool.specs.declared.status.Status.TheVariants as statuses
 use Rattle.cdf_tool.proofs.CountLemmas.{counted_on, counts_stay, sink_counted, with_source}
 use Rattle.cdf_tool.proofs.Lines.{all_drained, all_replies, next_answered, next_fewer, next_same, next_short, next_stops, starts, stopped_cut}

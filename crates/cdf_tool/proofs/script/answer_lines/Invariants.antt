@@ -1,5 +1,4 @@
-use Rattle.std.proofs.Common.{◌≡◌, true, length}
-use Rattle.cdf_tool.proofs.Common.{Stays, counts, all_read, AreShort}
+use Rattle.cdf_tool.proofs.Common.{AreShort, Stays, all_read, counts, length, true, ◌≡◌}
 use Rattle.cdf_tool.proofs.Standing.{Reached}
 use Rattle.cdf_tool.proofs.script.answer_lines.Given as goal
 

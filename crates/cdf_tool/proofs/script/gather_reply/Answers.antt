@@ -1,5 +1,4 @@
-use Rattle.std.proofs.Common.{ℕ, List, ◌++◌, inr, refl, subst}
-use Rattle.cdf_tool.proofs.Common.{AppendsFront, Gathers}
+use Rattle.cdf_tool.proofs.Common.{AppendsFront, Gathers, List, inr, refl, subst, ℕ, ◌++◌}
 use Rattle.cdf_tool.proofs.CountLemmas.{area_counted, counts_stay, output_counted}
 use Rattle.cdf_tool.proofs.Lines.{stops_before, stops_cut}
 use Rattle.cdf_tool.proofs.script.gather_reply.Goals as goal

@@ -1,5 +1,4 @@
-use Rattle.std.proofs.Common.{length}
-use Rattle.cdf_tool.specs.Replay.{Passes}
+use Rattle.cdf_tool.proofs.Common.{Passes, length}
 use Rattle.cdf_tool.proofs.script.next_to_answer.Given as goal
 
 abbrev pub invariant-ready : goal.invariant-ready

@@ -1,5 +1,4 @@
-use Rattle.std.proofs.Common.{ap, refl, arith, ◌∙◌}
-use Rattle.cdf_area.specs.Calls.{Stays}
+use Rattle.cdf_tool.proofs.Common.{Stays, ap, arith, refl, ◌∙◌}
 use Rattle.cdf_tool.proofs.CountLemmas.{counted_on}
 use Rattle.cdf_tool.proofs.ScriptLemmas.{at_end, at_start, goes_on, halted, has_taken, none_taken, taken_more}
 use Rattle.cdf_tool.proofs.OnlyReads.{if_reads, stays_on, stays_still, taken_reads}

@@ -1,5 +1,4 @@
-use Rattle.std.proofs.Common.{◌≡◌, ◌≤◌, []}
-use Rattle.cdf_tool.proofs.Common.{script_limit, Stays, counts, IfReads}
+use Rattle.cdf_tool.proofs.Common.{IfReads, Stays, [], counts, script_limit, ◌≡◌, ◌≤◌}
 use Rattle.cdf_tool.proofs.Standing.{IsAfter}
 use Rattle.cdf_tool.proofs.script.run_script.Given as goal
 

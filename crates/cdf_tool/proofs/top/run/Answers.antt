@@ -1,5 +1,4 @@
-use Rattle.std.proofs.Common.{map, string_bytes}
-use Rattle.cdf_tool.specs.Asking.{ask, asked_for}
+use Rattle.cdf_tool.proofs.Common.{ask, asked_for, map, string_bytes}
 use Rattle.cdf_tool.specs.declared.status.Status.TheVariants as statuses
 use Rattle.cdf_tool.proofs.AskedLemmas.{accepts_checked, check_ends, check_leaves, old_called, run_ends, unsaved_run, untouched_old}
 use Rattle.cdf_tool.proofs.Changes.{run_changes, unstarted_changes, unwritten_changes}

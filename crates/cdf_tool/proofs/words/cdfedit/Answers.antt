@@ -1,6 +1,4 @@
-use Rattle.std.proofs.Common.{◌≡◌, ◌∙◌, ap₂, codes, rules}
-use Rattle.clap.specs.Words.{rule_of, with_rule}
-use Rattle.cdf_tool.specs.CommandLine.{command, flag_rule}
+use Rattle.cdf_tool.proofs.Common.{ap₂, codes, command, flag_rule, rule_of, rules, with_rule, ◌∙◌, ◌≡◌}
 use Rattle.cdf_tool.proofs.words.cdfedit.Goals as goal
 
 pub returns : goal.returns

@@ -1,9 +1,7 @@
-use Rattle.std.proofs.Common.{◌≡◌, ◌∙◌, ap, sym, subst, inl, inr, codes, map, string_bytes, [], Option, Some, None, true}
-use Rattle.std.specs.Prelude.{IsSome, is_some, option_map}
+use Rattle.cdf_tool.proofs.Common.{IsAmong, IsSome, None, Option, Some, Text, [], ap, app_of, codes, fault_of, faults, first_of, found, found_of, inl, inr, is_simple, is_simple_and_free, is_some, kind_of, map, matches_of, one_of, rows_of, string_bytes, subst, sym, true, ◌∙◌, ◌≡◌}
+use Rattle.std.specs.Prelude.{option_map}
 use Rattle.std.specs.Borrow.{Bor}
-use Rattle.clap.specs.Words.{Text, app_of, fault_of, first_of, found_of, is_simple, is_simple_and_free, IsAmong, kind_of, matches_of, one_of, rows_of}
 use Rattle.clap.proofs.WalkLemmas.{first_value-rows, one_text-rows}
-use Rattle.cdf_tool.specs.CommandLine.{faults, found}
 use Rattle.cdf_tool.specs.declared.words.WordsError.TheVariants.{Usage}
 use Rattle.cdf_tool.proofs.ClapLine.{says, says_none, has_file}
 use Rattle.cdf_tool.proofs.ClapSimple.{simple, simple_and_free}

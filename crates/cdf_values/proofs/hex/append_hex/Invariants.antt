@@ -1,5 +1,4 @@
-use Rattle.std.proofs.Common.{◌≡◌, ◌++◌, take}
-use Rattle.cdf_model.specs.Values.{hex_text}
+use Rattle.cdf_values.proofs.Common.{hex_text, take, ◌++◌, ◌≡◌}
 use Rattle.cdf_values.proofs.hex.append_hex.Given as goal
 
 abbrev pub invariant-loop-byte : goal.invariant-loop-byte

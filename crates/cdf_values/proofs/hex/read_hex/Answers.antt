@@ -1,4 +1,4 @@
-use Rattle.std.proofs.Common.{sym, ◌∙◌}
+use Rattle.cdf_values.proofs.Common.{sym, ◌∙◌}
 use Rattle.cdf_values.proofs.HexLemmas.{refused, stops_in_front}
 use Rattle.cdf_values.proofs.hex.read_hex.Goals as goal
 

@@ -1,4 +1,4 @@
-use Rattle.std.proofs.Common.{◌≡◌, ◌%◌, length}
+use Rattle.cdf_values.proofs.Common.{length, ◌%◌, ◌≡◌}
 use Rattle.cdf_values.proofs.HexLemmas.{pairs_onto}
 use Rattle.cdf_values.proofs.hex.read_hex.Given as goal
 

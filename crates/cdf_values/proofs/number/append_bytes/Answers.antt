@@ -1,8 +1,4 @@
-use Rattle.std.proofs.Common.{◌≡◌, ◌≤◌, ◌-◌, ◌++◌, take, drop, ap, ◌∙◌, arith}
-use Rattle.std.proofs.lemmas.List.{take_rest}
-use Rattle.std.specs.Int.{bytes_high_first}
-use Rattle.std.specs.Prelude.{if◌then◌else◌}
-use Rattle.std.specs.Result.{is_ok}
+use Rattle.cdf_values.proofs.Common.{ap, arith, bytes_high_first, drop, if◌then◌else◌, is_ok, take, take_rest, ◌++◌, ◌-◌, ◌∙◌, ◌≡◌, ◌≤◌}
 use Rattle.cdf_values.proofs.ByteLemmas.{lowest, ok_items}
 use Rattle.cdf_values.proofs.number.append_bytes.Goals as goal
 

@@ -1,6 +1,4 @@
-use Rattle.std.proofs.Common.{◌≡◌, ◌-◌, [], ◌∷◌, ◌++◌, length, sym, ap, ◌∙◌, append_assoc}
-use Rattle.std.specs.Fmt.{decimal, signed_decimal}
-use Rattle.cdf_model.specs.Values.{signed_of}
+use Rattle.cdf_values.proofs.Common.{[], ap, append_assoc, decimal, length, signed_decimal, signed_of, sym, ◌++◌, ◌-◌, ◌∙◌, ◌∷◌, ◌≡◌}
 use Rattle.cdf_values.proofs.RangeLemmas.{negative, within_range}
 use Rattle.cdf_values.proofs.number.append_signed.Goals as goal
 

@@ -1,6 +1,4 @@
-use Rattle.std.proofs.Common.{◌+◌, get_or, drop, sym, ◌∙◌, arith}
-use Rattle.std.proofs.lemmas.List.{at_drop_more}
-use Rattle.cdf_values.specs.Numbers.{digits_from}
+use Rattle.cdf_values.proofs.Common.{arith, at_drop_more, digits_from, drop, get_or, sym, ◌+◌, ◌∙◌}
 use Rattle.cdf_values.proofs.NumberLemmas.{stops_at}
 use Rattle.cdf_values.proofs.number.digits_up_to.Goals as goal
 

@@ -1,5 +1,4 @@
-use Rattle.std.proofs.Common.{◌≡◌, ◌≤◌, drop}
-use Rattle.cdf_values.specs.Numbers.{digits_from}
+use Rattle.cdf_values.proofs.Common.{digits_from, drop, ◌≡◌, ◌≤◌}
 use Rattle.cdf_values.proofs.number.digits_up_to.Given as goal
 
 abbrev pub invariant-loop-byte : goal.invariant-loop-byte

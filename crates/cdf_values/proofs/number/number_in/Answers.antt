@@ -1,4 +1,4 @@
-use Rattle.std.proofs.Common.{arith}
+use Rattle.cdf_values.proofs.Common.{arith}
 use Rattle.cdf_values.proofs.ByteLemmas.{room_of_eight}
 use Rattle.cdf_values.proofs.number.number_in.Goals as goal
 

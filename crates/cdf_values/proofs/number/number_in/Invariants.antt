@@ -1,5 +1,4 @@
-use Rattle.std.proofs.Common.{◌≡◌, ◌<◌, ◌^◌, take}
-use Rattle.cdf_model.specs.Values.{number_of}
+use Rattle.cdf_values.proofs.Common.{number_of, take, ◌<◌, ◌^◌, ◌≡◌}
 use Rattle.cdf_values.proofs.number.number_in.Given as goal
 
 abbrev pub invariant-loop-byte : goal.invariant-loop-byte

@@ -1,4 +1,4 @@
-use Rattle.std.proofs.Common.{sym, ◌∙◌, arith}
+use Rattle.cdf_values.proofs.Common.{arith, sym, ◌∙◌}
 use Rattle.cdf_values.proofs.RangeLemmas.{negative_up_to}
 use Rattle.cdf_values.proofs.number.read_negative.Goals as goal
 

@@ -1,6 +1,4 @@
-use Rattle.std.proofs.Common.{ap, ◌∙◌}
-use Rattle.std.specs.Int.{bytes_high_first}
-use Rattle.std.specs.Option.{option_map}
+use Rattle.cdf_values.proofs.Common.{ap, bytes_high_first, option_map, ◌∙◌}
 use Rattle.cdf_values.proofs.RangeLemmas.{unsigned_up_to}
 use Rattle.cdf_values.proofs.number.read_unsigned.Goals as goal
 

@@ -1,4 +1,4 @@
-use Rattle.std.proofs.Common.{length}
+use Rattle.cdf_values.proofs.Common.{length}
 use Rattle.cdf_values.proofs.ListLemmas.{turned_more, turned_singly, has_part}
 use Rattle.cdf_values.proofs.order.reverse_parts.Goals as goal
 

@@ -1,6 +1,4 @@
-use Rattle.std.proofs.Common.{◌≡◌, ◌*◌, ◌++◌, drop, reverse}
-use Rattle.std.specs.List.{flat_map}
-use Rattle.cdf_model.specs.ByteOrder.{parts}
+use Rattle.cdf_values.proofs.Common.{drop, flat_map, parts, reverse, ◌*◌, ◌++◌, ◌≡◌}
 use Rattle.cdf_values.proofs.order.reverse_parts.Given as goal
 
 abbrev pub invariant-loop-i : goal.invariant-loop-i

@@ -1,7 +1,4 @@
-use Rattle.std.proofs.Common.{◌≡◌, ◌∷◌, ◌++◌, take}
-use Rattle.std.specs.List.{flat_map}
-use Rattle.cdf_model.specs.Quoting.{quote}
-use Rattle.cdf_model.specs.Values.{quoted_byte}
+use Rattle.cdf_values.proofs.Common.{flat_map, quote, quoted_byte, take, ◌++◌, ◌∷◌, ◌≡◌}
 use Rattle.cdf_values.proofs.quoted.append_quoted.Given as goal
 
 abbrev pub invariant-loop-byte : goal.invariant-loop-byte

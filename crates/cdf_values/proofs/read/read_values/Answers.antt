@@ -1,7 +1,6 @@
-use Rattle.std.proofs.Common.{◌≡◌, length, sym, ap, ◌∙◌, arith}
+use Rattle.cdf_values.proofs.Common.{ap, arith, length, meant, sym, ◌∙◌, ◌≡◌}
 use Rattle.cdf_values.proofs.ReadLemmas.{counted, goes_on, stops}
 use Rattle.cdf_values.proofs.NotationLemmas.{has_size}
-use Rattle.cdf_values.specs.Notations.{meant}
 use Rattle.cdf_values.proofs.read.read_values.Goals as goal
 
 pub read_word-requires : goal.read_word-requires

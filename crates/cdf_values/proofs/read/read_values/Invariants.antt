@@ -1,5 +1,4 @@
-use Rattle.std.proofs.Common.{◌≡◌, ◌+◌, length}
-use Rattle.cdf_model.specs.Values.{bytes_of_words}
+use Rattle.cdf_values.proofs.Common.{bytes_of_words, length, ◌+◌, ◌≡◌}
 use Rattle.cdf_values.proofs.ReadLemmas.{words_onto}
 use Rattle.cdf_values.proofs.read.read_values.Given as goal
 

@@ -1,6 +1,4 @@
-use Rattle.std.proofs.Common.{◌≡◌, ◌%◌, ◌≤◌, ◌<◌, ◌++◌, [], ◌∷◌, length, take, ap, sym, ◌∙◌, length-drop, arith}
-use Rattle.cdf_model.specs.Values.{notation_of, text_by}
-use Rattle.cdf_values.specs.Notations.{meant}
+use Rattle.cdf_values.proofs.Common.{[], ap, arith, length, length-drop, meant, notation_of, sym, take, text_by, ◌%◌, ◌++◌, ◌<◌, ◌∙◌, ◌∷◌, ◌≡◌, ◌≤◌}
 use Rattle.cdf_values.proofs.NotationLemmas.{has_size}
 use Rattle.cdf_values.proofs.WriteLemmas.{led, begins, goes_on, not_none, some_bytes, some_part, still_whole, whole_texts}
 use Rattle.cdf_values.proofs.write.write_values.Goals as goal

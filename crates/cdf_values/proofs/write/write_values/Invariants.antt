@@ -1,5 +1,4 @@
-use Rattle.std.proofs.Common.{◌≡◌, ◌%◌, ◌++◌, length}
-use Rattle.cdf_model.specs.Values.{values_text}
+use Rattle.cdf_values.proofs.Common.{length, values_text, ◌%◌, ◌++◌, ◌≡◌}
 use Rattle.cdf_values.proofs.WriteLemmas.{led}
 use Rattle.cdf_values.proofs.write.write_values.Given as goal
 

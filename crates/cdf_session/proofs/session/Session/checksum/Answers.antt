@@ -1,6 +1,4 @@
-use Rattle.std.proofs.Common.{sym, subst}
-use Rattle.cdf_attrs.specs.Known.{Known}
-use Rattle.cdf_session.specs.Sessions.{IsOpen}
+use Rattle.cdf_session.proofs.Common.{IsOpen, Known, subst, sym}
 use Rattle.cdf_session.proofs.OpenLemmas.{stays_open}
 use Rattle.cdf_session.proofs.ChecksumLemmas.{checksum_answers, checksum_open}
 use Rattle.cdf_session.proofs.session.Session.checksum.Goals as goal

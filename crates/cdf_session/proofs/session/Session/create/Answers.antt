@@ -1,5 +1,4 @@
-use Rattle.std.proofs.Common.{◌≡◌, Some, ap, sym, ◌∙◌}
-use Rattle.cdf_area.specs.Frame.{Frame}
+use Rattle.cdf_session.proofs.Common.{Frame, Some, ap, sym, ◌∙◌, ◌≡◌}
 use Rattle.cdf_session.proofs.NewFileLemmas.{new_open}
 use Rattle.cdf_session.proofs.OpenLemmas.{frame_back}
 use Rattle.cdf_session.proofs.Explained.{explained}

@@ -1,5 +1,4 @@
-use Rattle.std.proofs.Common.{refl}
-use Rattle.cdf_model.specs.declared.command.Command.TheVariants.{DelEntry}
+use Rattle.cdf_session.proofs.Common.{DelEntry, refl}
 use Rattle.cdf_session.proofs.OpenLemmas.{good_stays, ends_open}
 use Rattle.cdf_session.proofs.session.Session.del_entry.Goals as goal
 

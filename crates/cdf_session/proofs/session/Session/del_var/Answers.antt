@@ -1,4 +1,4 @@
-use Rattle.cdf_model.specs.declared.command.Command.TheVariants.{DelVar}
+use Rattle.cdf_session.proofs.Common.{DelVar}
 use Rattle.cdf_session.proofs.OpenLemmas.{good_stays, ends_known}
 use Rattle.cdf_session.proofs.session.Session.del_var.Goals as goal
 

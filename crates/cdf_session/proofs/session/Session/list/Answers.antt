@@ -1,4 +1,4 @@
-use Rattle.std.proofs.Common.{◌∙◌}
+use Rattle.cdf_session.proofs.Common.{◌∙◌}
 use Rattle.cdf_session.proofs.OpenLemmas.{good_stays, list_answers, listed, stays_open}
 use Rattle.cdf_session.proofs.session.Session.list.Goals as goal
 

@@ -1,5 +1,4 @@
-use Rattle.std.proofs.Common.{refl}
-use Rattle.cdf_model.specs.declared.command.Command.TheVariants.{PutEntry}
+use Rattle.cdf_session.proofs.Common.{PutEntry, refl}
 use Rattle.cdf_session.proofs.OpenLemmas.{good_stays, ends_open}
 use Rattle.cdf_session.proofs.session.Session.put_entry.Goals as goal
 

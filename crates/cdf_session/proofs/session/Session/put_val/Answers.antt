@@ -1,5 +1,4 @@
-use Rattle.std.proofs.Common.{refl}
-use Rattle.cdf_model.specs.declared.command.Command.TheVariants.{PutVal}
+use Rattle.cdf_session.proofs.Common.{PutVal, refl}
 use Rattle.cdf_session.proofs.OpenLemmas.{good_stays, ends_on_records}
 use Rattle.cdf_session.proofs.session.Session.put_val.Goals as goal
 

@@ -1,5 +1,4 @@
-use Rattle.std.proofs.Common.{refl}
-use Rattle.cdf_model.specs.declared.command.Command.TheVariants.{RenameVar}
+use Rattle.cdf_session.proofs.Common.{RenameVar, refl}
 use Rattle.cdf_session.proofs.OpenLemmas.{good_stays, ends_on_variables}
 use Rattle.cdf_session.proofs.session.Session.rename_var.Goals as goal
 

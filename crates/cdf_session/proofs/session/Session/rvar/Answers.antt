@@ -1,5 +1,4 @@
-use Rattle.std.proofs.Common.{refl}
-use Rattle.cdf_model.specs.declared.command.Command.TheVariants.{RVar}
+use Rattle.cdf_session.proofs.Common.{RVar, refl}
 use Rattle.cdf_session.proofs.OpenLemmas.{good_stays, ends_on_variables}
 use Rattle.cdf_session.proofs.session.Session.rvar.Goals as goal
 

@@ -1,5 +1,4 @@
-use Rattle.std.proofs.Common.{refl}
-use Rattle.cdf_model.specs.declared.command.Command.TheVariants.{Setup}
+use Rattle.cdf_session.proofs.Common.{Setup, refl}
 use Rattle.cdf_session.proofs.OpenLemmas.{good_stays, ends_on_neither}
 use Rattle.cdf_session.proofs.session.Session.setup.Goals as goal
 

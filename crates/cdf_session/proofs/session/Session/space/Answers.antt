@@ -1,4 +1,4 @@
-use Rattle.cdf_format.proofs.GoodSound.{good_is_sound}
+use Rattle.cdf_session.proofs.Common.{good_is_sound}
 use Rattle.cdf_session.proofs.OpenLemmas.{stays_open}
 use Rattle.cdf_session.proofs.session.Session.space.Goals as goal
 

@@ -1,5 +1,4 @@
-use Rattle.std.proofs.Common.{refl}
-use Rattle.cdf_model.specs.declared.command.Command.TheVariants.{ZVar}
+use Rattle.cdf_session.proofs.Common.{ZVar, refl}
 use Rattle.cdf_session.proofs.OpenLemmas.{good_stays, ends_on_variables}
 use Rattle.cdf_session.proofs.session.Session.zvar.Goals as goal
 
