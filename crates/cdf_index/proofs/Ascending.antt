@@ -1,9 +1,5 @@
 -- The entries of each node of an index ascend.
-use Rattle.std.proofs.Common.{◌≡◌, ℕ, zero, suc, ◌+◌, ◌<◌, ◌≤◌, List, refl, arith}
-use Rattle.cdf_index.proofs.Common.{Nodes, no_node, node, Entries, no_entry, block, lower, entry_count, used_count, first_at, last_at, SayEntries, Each, NodeFits, tiles, Each-append, Each-split, record_number_limit, index_at, HasIndex, IsOrderly, Stands, past_entries}
-use Rattle.cdf_format.specs.Index.{nodes_of, lower_nodes}
-use Rattle.cdf_format.specs.IndexOf.{HasNodes, Names}
-use Rattle.cdf_index.specs.Order.{InOrder, AreInOrder}
+use Rattle.cdf_index.proofs.Common.{AreInOrder, Each, Each-append, Each-split, Entries, HasIndex, HasNodes, InOrder, IsOrderly, List, Names, NodeFits, Nodes, SayEntries, Stands, arith, block, entry_count, first_at, index_at, last_at, lower, lower_nodes, no_entry, no_node, node, nodes_of, past_entries, record_number_limit, refl, suc, tiles, used_count, zero, ℕ, ◌+◌, ◌<◌, ◌≡◌, ◌≤◌}
 
 -- the first of some entries in order, and the others
 record FirstInOrder (b : List ℕ) (at k low high : ℕ) (es : Entries) : Type 0 where

@@ -1,10 +1,5 @@
 -- What a leaf more makes of an index, step by step on the way to it, and how often a node stands in it by then.
-use Rattle.std.proofs.Common.{◌≡◌, ◌⊎◌, ℕ, ◌+◌, ◌≤◌, max, [], ◌∷◌, ◌++◌, Bool, false, ltb, eqb, refl, sym, ap, ◌∙◌, arith, inl, inr}
-use Rattle.cdf_edits.proofs.Common.{ne_eqb, times, cases_lt}
-use Rattle.cdf_edits.proofs.Edits.Common.{in-times, times-append, times-in}
-use Rattle.cdf_index.proofs.Common.{nat_tests, eqb-true, if◌then◌else◌, ◌==◌, In, either, reaches, chain_reaches, leads_down, past, with_both, with_entry, Nodes, no_node, node, Entries, no_entry, block, lower, Leaf, entry_count}
-use Rattle.cdf_edits.specs.Index.Grown.{with_leaf, with_lower, new_room, new_room_below, room_of_new, with_block}
-use Rattle.cdf_format.specs.Index.{nodes_of, lower_nodes}
+use Rattle.cdf_index.proofs.Common.{Bool, Entries, In, Leaf, Nodes, [], ap, arith, block, cases_lt, chain_reaches, either, entry_count, eqb, eqb-true, false, if◌then◌else◌, in-times, inl, inr, leads_down, lower, lower_nodes, ltb, max, nat_tests, ne_eqb, new_room, new_room_below, no_entry, no_node, node, nodes_of, past, reaches, refl, room_of_new, sym, times, times-append, times-in, with_block, with_both, with_entry, with_leaf, with_lower, ℕ, ◌++◌, ◌+◌, ◌==◌, ◌∙◌, ◌∷◌, ◌≡◌, ◌≤◌, ◌⊎◌}
 use Rattle.cdf_index.proofs.Saying.{upto_both, front, front_past, upto_is}
 
 -- ---- the steps to a leaf more

@@ -1,8 +1,5 @@
 -- The walk over a whole chain, with what is below it.
-use Rattle.std.proofs.Common.{◌≡◌, ◌≢◌, ℕ, ◌+◌, ◌-◌, ◌<◌, ◌≤◌, List, [], ◌∷◌, ◌++◌, append_assoc, append-nil, length, refl, sym, ap, subst, ◌∙◌, arith}
-use Rattle.cdf_index.proofs.Common.{next_of, type_at, Nodes, no_node, node, link_to, room_at, used_count, first_at, last_at, offset_at, index_at, HasIndex, Stands, SomeNode, AreTiles, tiles, Grew, Met, met_block, met_node, SomeChain}
-use Rattle.cdf_format.specs.Index.{nodes_of}
-use Rattle.cdf_index.specs.Whole.{met_in, met_below}
+use Rattle.cdf_index.proofs.Common.{AreTiles, Grew, HasIndex, List, Met, Nodes, SomeChain, SomeNode, Stands, [], ap, append-nil, append_assoc, arith, first_at, index_at, last_at, length, link_to, met_below, met_block, met_in, met_node, next_of, no_node, node, nodes_of, offset_at, refl, room_at, subst, sym, tiles, type_at, used_count, ℕ, ◌++◌, ◌+◌, ◌-◌, ◌<◌, ◌∙◌, ◌∷◌, ◌≡◌, ◌≢◌, ◌≤◌}
 use Rattle.cdf_index.proofs.Ascending.{index_stands}
 use Rattle.cdf_index.proofs.FirstEntry.{AtEntry, FirstEntry, enter, entry_here, few_below, none_here, opened, pass, node_there, Opened}
 use Rattle.cdf_index.proofs.Looking.{node_of, none_there}

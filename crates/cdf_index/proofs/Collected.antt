@@ -1,9 +1,6 @@
 -- The entries of blocks and the places of nodes that a walk over an index collects.
-use Rattle.std.proofs.Common.{◌≡◌, map, refl}
-use Rattle.cdf_index.proofs.Common.{flat_map, map-append, Nodes, no_node, node, Entries, no_entry, block, lower, entry_met, place_met}
+use Rattle.cdf_index.proofs.Common.{Entries, Nodes, block, entry_leaves, entry_met, flat_map, leaf_words, leaves_of, lower, lower_nodes, map, map-append, met_below, met_in, no_entry, no_node, node, nodes_of, place_met, refl, ◌≡◌}
 use Rattle.std.proofs.lemmas.Grind.{flat_map-append}
-use Rattle.cdf_format.specs.Index.{nodes_of, lower_nodes, leaves_of, entry_leaves}
-use Rattle.cdf_index.specs.Whole.{leaf_words, met_in, met_below}
 
 mutual
   unfolding met_in met_below nodes_of lower_nodes leaves_of entry_leaves

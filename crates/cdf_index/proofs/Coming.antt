@@ -1,10 +1,6 @@
 -- How a leaf comes into an index whose entries are in order: along the chain and down through entries that reach it, step by step.
-use Rattle.std.proofs.Common.{◌≡◌, ℕ, suc, ◌<◌, ◌≤◌, max, List, [], ◌∷◌, Bool, true, false, leb, refl, sym, ◌∙◌, arith, inl, inr, true≢false}
-use Rattle.cdf_index.proofs.Common.{either, reaches, chain_reaches, leads_down, with_both, with_entry, Nodes, no_node, node, Entries, no_entry, block, lower, Leaf, entry_count, down_at, past_entries}
-use Rattle.cdf_edits.specs.Index.Grown.{with_block, with_leaf, with_lower, new_room, new_room_below, room_of_new}
-use Rattle.cdf_index.specs.Order.{InOrder, AreInOrder}
-use Rattle.cdf_index.specs.Way.{way, way_below, spot, spot_below}
-use Rattle.std.proofs.lemmas.Bool.{or_from, or_parts, lt-leb, le-leb, leb-true, leb-false, cases_lt}
+use Rattle.cdf_index.proofs.Common.{AreInOrder, Bool, Entries, InOrder, Leaf, List, Nodes, [], arith, block, chain_reaches, down_at, either, entry_count, false, inl, inr, le-leb, leads_down, leb, leb-false, leb-true, lower, lt-leb, max, new_room, new_room_below, no_entry, no_node, node, or_from, or_parts, past_entries, reaches, refl, room_of_new, spot, spot_below, suc, sym, true, true≢false, way, way_below, with_block, with_both, with_entry, with_leaf, with_lower, ℕ, ◌<◌, ◌∙◌, ◌∷◌, ◌≡◌, ◌≤◌}
+use Rattle.std.proofs.lemmas.Bool.{cases_lt}
 use Rattle.cdf_index.proofs.OrderLemmas.{end_after}
 
 -- ---- entries that reach a record

@@ -1,7 +1,6 @@
 -- Where the entries of a node are cut in two: those before a record, and the others.
-use Rattle.std.proofs.Common.{◌≡◌, ℕ, zero, suc, ◌+◌, ◌<◌, ◌≤◌, List, Bool, true, false, if◌then◌else◌, refl, ap, subst, arith, inl, inr}
-use Rattle.cdf_index.proofs.Common.{used_count, Begun, in_column, Ascends}
-use Rattle.cdf_index.specs.Finding.{IsCut}
+use Rattle.cdf_index.proofs.Common.{Ascends, Begun, Bool, IsCut, List, ap, arith, false, in_column, inl, inr, refl, subst, suc, true, used_count, zero, ℕ, ◌+◌, ◌<◌, ◌≡◌, ◌≤◌}
+use Rattle.std.proofs.Common.{if◌then◌else◌}
 use Rattle.std.proofs.lemmas.Bool.{cases_lt}
 
 -- a number of a column is at most a later one

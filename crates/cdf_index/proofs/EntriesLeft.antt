@@ -1,8 +1,5 @@
 -- Entries of a node, from a number on, as they stand in the image with what is below them.
-use Rattle.std.proofs.Common.{ℕ, suc, List, Bool}
-use Rattle.cdf_index.proofs.Common.{Nodes, node, Entries, block, lower, SayEntries, SaysNode, Each, Each-split, tiles, IsBlock, IsOrderly, Stands}
-use Rattle.cdf_format.specs.Index.{nodes_of, lower_nodes, leaves_of, entry_leaves}
-use Rattle.cdf_format.specs.IndexOf.{HasNodes, Names}
+use Rattle.cdf_index.proofs.Common.{Bool, Each, Each-split, Entries, HasNodes, IsBlock, IsOrderly, List, Names, Nodes, SayEntries, SaysNode, Stands, block, entry_leaves, leaves_of, lower, lower_nodes, node, nodes_of, suc, tiles, ℕ}
 
 pub record EntriesLeft (b : List ℕ) (levels at i : ℕ) (es : Entries) : Type 0 where
   pub say : SayEntries b at i es

@@ -1,6 +1,5 @@
 -- What a write of an entry leaves of a node.
-use Rattle.std.proofs.Common.{◌≡◌, ◌≢◌, ℕ, ◌+◌, ◌*◌, ◌^◌, ◌<◌, ◌≤◌, inl, inr, List, [], ◌∷◌, length, sym, ap, subst, ◌∙◌, arith}
-use Rattle.cdf_index.proofs.Common.{Changed, touch, word, with_field, room_at, SaysEntry, vxr_first, vxr_last, vxr_offset, StillSays, EntrySet}
+use Rattle.cdf_index.proofs.Common.{Changed, EntrySet, List, SaysEntry, StillSays, [], ap, arith, inl, inr, length, room_at, subst, sym, touch, vxr_first, vxr_last, vxr_offset, with_field, word, ℕ, ◌*◌, ◌+◌, ◌<◌, ◌^◌, ◌∙◌, ◌∷◌, ◌≡◌, ◌≢◌, ◌≤◌}
 use Rattle.cdf_index.proofs.FieldSet.{FieldSet, field_set, changed_again, changed_wider}
 
 module _ (b b1 b2 now : List ℕ) (at n i first last offset : ℕ) (room_is : n ≡ room_at b at) (below : i < n) (inside : at + (28 + 16 * n) ≤ length b) (first_fits : first < 256 ^ 4) (last_fits : last < 256 ^ 4) (offset_fits : offset < 256 ^ 8)

@@ -1,7 +1,5 @@
 -- What a write of one field leaves of a record, and of a node where the field stands before its entries.
-use Rattle.std.proofs.Common.{◌≡◌, ◌⊎◌, ℕ, ◌+◌, ◌*◌, ◌/◌, ◌-◌, ◌^◌, ◌<◌, ◌≤◌, inl, inr, List, [], ◌∷◌, length, slice_index, ap, ◌∙◌, arith}
-use Rattle.cdf_edits.proofs.Common.{LiesIn, w32, cast_signed, Field}
-use Rattle.cdf_index.proofs.Common.{min, image_limit, Changed, touch, counted, word, number, with_field, size_at, room_at, used_count, vxr_n_used_entries, NodeInside, StillSays}
+use Rattle.cdf_index.proofs.Common.{Changed, Field, LiesIn, List, NodeInside, StillSays, [], ap, arith, cast_signed, counted, image_limit, inl, inr, length, min, number, room_at, size_at, slice_index, touch, used_count, vxr_n_used_entries, w32, with_field, word, ℕ, ◌*◌, ◌+◌, ◌-◌, ◌/◌, ◌<◌, ◌^◌, ◌∙◌, ◌∷◌, ◌≡◌, ◌≤◌, ◌⊎◌}
 use Rattle.cdf_fields.proofs.Writes.{field_reads, length-with_field, other_bytes, other_words}
 
 pub record FieldSet (b now : List ℕ) (at : ℕ) (f : Field) (n : ℕ) : Type 0 where

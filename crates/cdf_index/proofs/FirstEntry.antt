@@ -1,15 +1,7 @@
 -- A chain that stands, taken apart at its first node, and the entries of a node at the first of them.
-use Rattle.std.proofs.Common.{◌≡◌, ◌≢◌, ◌⊎◌, ℕ, zero, suc, ◌+◌, ◌<◌, List, [], ◌∷◌, ◌++◌, true, false, ltb, eqb, refl, sym, ap, subst, ◌∙◌, arith, inl, inr, Option, Some, None, length, ◌≤◌}
-use Rattle.cdf_index.proofs.Common.{nat_tests, is_a, is_linkable, type_at, Nodes, no_node, node, Entries, no_entry, block, lower, Leaf, leaf, entry_count, link_to, first_at, last_at, offset_at, IsNode, vxr_type, cvvr_type, In, tiles, linkable-in, linkable-type, chain_at, IsBlock, IsOrderly, ChainFrom, NodeInside, Stands, Met, met_block, used_count, length-append}
-use Rattle.cdf_format.specs.Index.{nodes_of, lower_nodes, entry_leaves}
-use Rattle.cdf_format.specs.IndexOf.{HasNodes, Names}
+use Rattle.cdf_index.proofs.Common.{ChainFrom, Entries, HasNodes, In, IsBlock, IsNode, IsOrderly, Leaf, List, LowerAreZero, Met, Names, NextsAreZero, NodeInside, Nodes, None, Option, Some, Stands, [], ap, arith, block, block_in, chain_at, cvvr_type, entry_count, entry_firsts, entry_leaves, eqb, false, find_entry, find_in, first_at, firsts_of, inl, inr, is_a, is_linkable, last_at, leaf, length, length-append, link_to, linkable-in, linkable-type, lower, lower_nodes, ltb, met_below, met_block, met_in, nat_tests, no_entry, no_node, node, nodes_of, nodes_passed, offset_at, or_cases, passed_from, refl, subst, suc, sym, tiles, true, type_at, used_count, vxr_type, zero, ℕ, ◌++◌, ◌+◌, ◌<◌, ◌∙◌, ◌∷◌, ◌≡◌, ◌≢◌, ◌≤◌, ◌⊎◌}
 use Rattle.cdf_format.specs.RecordTypes.{vvr_type}
 use Rattle.cdf_format.proofs.ChainsLemmas.{is_a-type}
-use Rattle.cdf_format.proofs.Owning.{block_in}
-use Rattle.cdf_edits.proofs.Edits.MarkLemmas.{or_cases}
-use Rattle.cdf_edits.specs.Index.Blocks.{firsts_of, entry_firsts}
-use Rattle.cdf_index.specs.Order.{find_in, find_entry, nodes_passed, passed_from, NextsAreZero, LowerAreZero}
-use Rattle.cdf_index.specs.Whole.{met_in, met_below}
 use Rattle.cdf_index.proofs.Saying.{no_entries}
 use Rattle.cdf_index.proofs.EntriesLeft.{EntriesLeft, NodeParts, past_first, past_lower_one, node_parts}
 

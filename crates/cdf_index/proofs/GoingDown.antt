@@ -1,18 +1,10 @@
 -- The way down to the place of a new entry, along a chain.
-use Rattle.std.proofs.Common.{◌≡◌, ◌≢◌, ◌⊎◌, ℕ, zero, suc, ◌+◌, ◌<◌, ◌≤◌, List, [], ◌∷◌, length, true, false, refl, sym, ap, subst, ◌∙◌, arith, inl, inr}
-use Rattle.cdf_edits.proofs.Common.{nodes_stand, ne_eqb}
-use Rattle.cdf_index.proofs.Common.{either, if◌then◌else◌, nat_tests, length-append, reaches, chain_reaches, leads_down, next_of, vxr_type, Nodes, no_node, node, Entries, no_entry, entry_count, link_to, used_count, IsNode, AreTiles, In, tiles, linkable-in, Distinct-front, Distinct-back, length-le_from_distinct, down_at, IsTree, SeesNode, SpotIs, Spot, SomeNode, past_entries}
-use Rattle.cdf_format.specs.Index.{nodes_of, lower_nodes, leaves_of}
-use Rattle.cdf_index.specs.Descent.{way_from, end_from}
-use Rattle.cdf_index.specs.Order.{InOrder}
-use Rattle.cdf_format.specs.IndexOf.{HasNodes}
-use Rattle.cdf_index.specs.Way.{way, way_below, spot, spot_below}
+use Rattle.cdf_index.proofs.Common.{AreTiles, Distinct-back, Distinct-front, Entries, HasNodes, In, InOrder, IsNode, IsTree, List, Nodes, SeesNode, SomeNode, Spot, SpotIs, [], ap, arith, chain_reaches, down_at, either, end_from, entry_count, false, if◌then◌else◌, inl, inr, leads_down, leaves_of, length, length-append, length-le_from_distinct, length_tiles, link_to, linkable-in, lower_nodes, nat_tests, ne_eqb, next_of, no_entry, no_node, node, nodes_of, nodes_stand, past_entries, reaches, refl, spot, spot_below, subst, suc, sym, tiles, true, used_count, vxr_type, way, way_below, way_from, zero, ℕ, ◌+◌, ◌<◌, ◌∙◌, ◌∷◌, ◌≡◌, ◌≢◌, ◌≤◌, ◌⊎◌}
 use Rattle.cdf_index.proofs.EntriesLeft.{node_parts}
 use Rattle.cdf_index.proofs.Leading.{Below, Stand, begun_in, below, counted_begun, ends_past, LedBy, is_some, lead, lead_none, leads, led, reached_is, some_node}
 use Rattle.cdf_index.proofs.Coming.{chain_not_reached}
 use Rattle.cdf_index.proofs.Looking.{node_there}
 use Rattle.cdf_index.proofs.WayDown.{no_zero, way_in}
-use Rattle.cdf_format.proofs.TilesLemmas.{length_tiles}
 
 -- ---- a chain: the entries of its first node, and the others
 

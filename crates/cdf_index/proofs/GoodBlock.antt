@@ -1,13 +1,6 @@
 -- A block of a variable of a good image, not packed, has its records.
-use Rattle.std.proofs.Common.{◌≡◌, ℕ, ◌+◌, ◌-◌, ◌*◌, ◌≤◌, suc, List, ◌∷◌, ◌++◌, length, false, ap, subst, arith, Some}
-use Rattle.cdf_index.proofs.Common.{range, covers, record_number_limit, size_at, IsGoodImage, leaves_of, VariableShape, Shape, variables, Each, LeafFits, VariableFits, IsSound, record_bytes, Each-split, tile_lies, leaf_of, HoldsRecords, seen}
-use Rattle.cdf_edits.proofs.Edits.LeafPieces.{covers_within, found_in, in_order, of_each}
-use Rattle.cdf_edits.proofs.Edits.LeafRecords.{count_is}
-use Rattle.cdf_edits.proofs.Edits.LeavesOrder.{index_ascends}
+use Rattle.cdf_index.proofs.Common.{BlockFits, Each, Each-split, HoldsRecords, IsGoodImage, IsSound, LeafFits, List, Shape, Some, VariableFits, VariableShape, ap, arith, block_in, count_is, covers, covers_within, false, found_in, in_order, index_ascends, leaf_of, leaves_of, length, of_each, plain_size, range, record_bytes, record_number_limit, seen, size_at, subst, suc, tile_lies, variables, ℕ, ◌*◌, ◌++◌, ◌+◌, ◌-◌, ◌∷◌, ◌≡◌, ◌≤◌}
 use Rattle.cdf_format.specs.Index.{Leaf as TreeLeaf}
-use Rattle.cdf_format.specs.Sound.{BlockFits}
-use Rattle.cdf_format.specs.VariableFields.{plain_size}
-use Rattle.cdf_format.proofs.Owning.{block_in}
 use Rattle.cdf_index.specs.declared.nodes.Leaf.{Leaf}
 use Rattle.cdf_index.proofs.GoodIndex.{index_ruled}
 

@@ -1,16 +1,10 @@
 -- The index of a variable of a good image is one that can be searched.
-use Rattle.std.proofs.Common.{arith, ◌≡◌, ℕ, ℤ, pos, negsuc, zero, suc, List, [], ◌∷◌, ◌++◌, length, refl, sym, ap, subst, ◌∙◌}
-use Rattle.cdf_index.proofs.Common.{flat_map, record_number_limit, with_sign, number, IsGoodImage, Nodes, no_node, node, Entries, no_entry, block, lower, nodes_of, leaves_of, end_of, is_block, leaf_rows, Hold, VariableShape, Shape, variables, Each, HasVariable, LeafFits, VariableFits, IsSound, AreTiles, tiles, number_before, Hold-split, Each-split, tiles_are, before_number, index_at, IsBlock, HasIndex, past_entries}
-use Rattle.cdf_format.specs.IndexOf.{IsIndex}
-use Rattle.cdf_format.specs.IndexRules.{nodes_rows, used_rows, index_rows, met_rows, phase8}
+use Rattle.cdf_index.proofs.Common.{AreInOrder, AreTiles, Each, Each-split, Entries, HasIndex, HasVariable, Hold, Hold-split, InOrder, IsBlock, IsGoodImage, IsIndex, IsSound, LeafFits, List, Nodes, Row, Shape, VariableFits, VariableShape, [], ap, arith, before_is, before_number, between, block, end_of, flat_map, index_at, index_complete, index_of, is_block, leaf_rows, leaves_of, length, lower, met_rows, negsuc, no_entry, no_node, node, nodes_of, nodes_rows, number, number_before, past_entries, phase8, pos, record_number_limit, refl, subst, suc, sym, tiles, tiles_are, used_rows, variables, with_sign, zero, ℕ, ℤ, ◌++◌, ◌∙◌, ◌∷◌, ◌≡◌}
+use Rattle.cdf_format.specs.IndexRules.{index_rows}
 use Rattle.cdf_format.specs.IndexWalk.{Met, met, nodes_met, nodes_on, levels_on}
 use Rattle.cdf_format.specs.Records.{vdr_vxr_head}
-use Rattle.cdf_format.specs.Rules.{Row}
-use Rattle.cdf_format.specs.Shape.{vdrs, index_of}
-use Rattle.cdf_format.proofs.IndexLemmas.{index_complete}
-use Rattle.cdf_edits.proofs.Edits.LeavesOrder.{between, before_is}
+use Rattle.cdf_format.specs.Shape.{vdrs}
 use Rattle.cdf_edits.proofs.Edits.VariableFrame.{Each-map}
-use Rattle.cdf_index.specs.Order.{InOrder, AreInOrder}
 
 module _ (b records : List ℕ) where
   mutual

@@ -1,9 +1,5 @@
 -- The index of one variable becomes another one: a sound image stays sound, and every other owner is as before.
-use Rattle.std.proofs.Common.{◌≡◌, ℕ, ◌+◌, ◌≤◌, List, [], ◌∷◌, ◌++◌, length, true, sym, ap, subst, ◌∙◌, arith, inl, inr}
-use Rattle.cdf_edits.proofs.Common.{ChangedWithin, FileStays, Leaves, IsChain, times, variable_records, unused_records, owned_records, gdr_r_vdr_head, gdr_z_vdr_head, cdr_type, gdr_type, adr_type, r_vdr_type, z_vdr_type, cpr_type, HasShape, attributes_in}
-use Rattle.cdf_edits.proofs.Edits.Common.{FileSame}
-use Rattle.cdf_index.proofs.Common.{flat_map, VariableFits, IsSound, is_a, number, Nodes, VariableShape, Shape, variables, Each, HasVariable, In, AreTiles, linkable-in, Each-split, Each-append, Kept, SameHeads}
-use Rattle.cdf_edits.proofs.Frame.OwnerAlone.{heads, stays}
+use Rattle.cdf_index.proofs.Common.{AreTiles, ChangedWithin, Each, Each-append, Each-split, FileSame, FileStays, HasShape, HasVariable, In, IsChain, IsSound, Kept, Leaves, List, Nodes, SameHeads, Shape, VariableFits, VariableShape, [], adr_type, ap, arith, attributes_in, cdr_type, cpr_type, flat_map, gdr_r_vdr_head, gdr_type, gdr_z_vdr_head, heads, inl, inr, is_a, length, linkable-in, number, owned_records, r_vdr_type, stays, subst, sym, times, true, unused_records, variable_records, variables, z_vdr_type, ℕ, ◌++◌, ◌+◌, ◌∙◌, ◌∷◌, ◌≡◌, ◌≤◌}
 use Rattle.cdf_edits.proofs.Frame.OwnersApart.{flat-append, times-append, times-in, in-times, owned-times, file_records, all_attribute_records, all_variable_records, vdrs_stand, file_same_is, gdr_room, variable_alone}
 use Rattle.cdf_edits.proofs.Frame.SoundStays.{attributes_fit_kept, variables_fit_kept, unused_kept}
 use Rattle.cdf_edits.proofs.Frame.FileSound.{variables_stand}

@@ -1,8 +1,5 @@
 -- An entry more in a node: those behind it stand one further.
-use Rattle.std.proofs.Common.{◌≡◌, ◌≢◌, ℕ, suc, ◌+◌, ◌-◌, ◌*◌, ◌<◌, ◌≤◌, inl, inr, List, [], ◌∷◌, length, refl, sym, subst, ◌∙◌, arith}
-use Rattle.cdf_index.proofs.Common.{cases_eq, image_limit, Changed, touch, word, number, with_field, size_at, room_at, used_count, SaysEntry, vxr_n_used_entries, NodeInside, StillSays, EntrySet, Inserted}
-use Rattle.cdf_edits.specs.Frame.Changed.{Touch}
-use Rattle.cdf_format.proofs.BytesLemmas.{word-same}
+use Rattle.cdf_index.proofs.Common.{Changed, EntrySet, Inserted, List, NodeInside, SaysEntry, StillSays, Touch, [], arith, cases_eq, image_limit, inl, inr, length, number, refl, room_at, size_at, subst, suc, sym, touch, used_count, vxr_n_used_entries, with_field, word, word-same, ℕ, ◌*◌, ◌+◌, ◌-◌, ◌<◌, ◌∙◌, ◌∷◌, ◌≡◌, ◌≢◌, ◌≤◌}
 use Rattle.cdf_index.proofs.FieldSet.{FieldSet, field_set, changed_again, changed_wider, counts, node_head, node_small, used_by_count, size_beside, room_beside, entries_beside}
 
 -- ---- what stands before a place in a node stays

@@ -1,11 +1,5 @@
 -- The entries of a node that begin at a record or before it: how many they are, and where the last of them leads to.
-use Rattle.std.proofs.Common.{◌≡◌, ℕ, suc, ◌+◌, ◌<◌, ◌≤◌, List, Bool, true, false, leb, ltb, refl, sym, ap, ◌∙◌, arith, inl, inr}
-use Rattle.cdf_index.proofs.Common.{either, if◌then◌else◌, nat_tests, reaches, leads_down, past, type_at, Nodes, no_node, node, Entries, no_entry, block, lower, leaf, entry_count, link_to, first_at, IsNode, Distinct, tiles, linkable-type, Distinct-front, Distinct-back, chain_before, Begun, used_count, vxr_type, SayEntries, IsTree, down_at, way, spot, past_entries}
-use Rattle.cdf_format.specs.Index.{nodes_of, lower_nodes, leaves_of, entry_leaves}
-use Rattle.cdf_format.specs.IndexOf.{Names}
-use Rattle.cdf_index.specs.Growing.{Begins}
-use Rattle.cdf_index.specs.Order.{AreInOrder}
-use Rattle.cdf_index.specs.Way.{way_below, spot_below}
+use Rattle.cdf_index.proofs.Common.{AreInOrder, Begins, Begun, Bool, Distinct, Distinct-back, Distinct-front, Entries, IsNode, IsTree, List, Names, Nodes, SayEntries, ap, arith, block, chain_before, down_at, either, entry_count, entry_leaves, false, first_at, if◌then◌else◌, inl, inr, leads_down, leaf, leaves_of, leb, link_to, linkable-type, lower, lower_nodes, ltb, nat_tests, no_entry, no_node, node, nodes_of, past, past_entries, reaches, refl, spot, spot_below, suc, sym, tiles, true, type_at, used_count, vxr_type, way, way_below, ℕ, ◌+◌, ◌<◌, ◌∙◌, ◌≡◌, ◌≤◌}
 use Rattle.cdf_index.proofs.EntriesCut.{Parted, one_more, parted_all}
 use Rattle.cdf_index.proofs.EntriesLeft.{EntriesLeft, past_first, past_lower_one}
 use Rattle.cdf_index.proofs.Coming.{not_reached}

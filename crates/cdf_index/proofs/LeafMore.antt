@@ -1,15 +1,8 @@
 -- The leaves of an index with one leaf more.
-use Rattle.std.proofs.Common.{◌≡◌, ℕ, suc, ◌<◌, ◌≤◌, max, List, [], ◌∷◌, ◌++◌, map, Bool, true, false, leb, append_assoc, refl, sym, ap, ◌∙◌, arith, inl, inr, true≢false, subst}
-use Rattle.cdf_index.proofs.Common.{nat_tests, range, reaches, chain_reaches, leads_down, upto, past, with_both, with_entry, Nodes, no_node, node, Entries, no_entry, block, lower, Leaf, either, past_entries, Each, Each-append}
-use Rattle.cdf_edits.specs.Index.Blocks.{with_range}
-use Rattle.cdf_edits.specs.Index.Grown.{with_block, with_leaf}
-use Rattle.cdf_format.specs.Index.{leaves_of, entry_leaves}
-use Rattle.cdf_index.specs.Growing.{with_new}
-use Rattle.cdf_index.specs.Order.{InOrder, AreInOrder}
+use Rattle.cdf_index.proofs.Common.{AreInOrder, Bool, Each, Each-append, Entries, InOrder, Leaf, List, Nodes, [], ap, append_assoc, arith, block, chain_reaches, either, entry_leaves, false, inl, inr, leads_down, leaves_of, leb, leb-false, leb-true, lower, map, max, nat_tests, no_entry, no_node, node, or_parts, past, past_entries, range, reaches, refl, subst, suc, sym, true, true≢false, upto, with_block, with_both, with_entry, with_leaf, with_new, with_range, ℕ, ◌++◌, ◌<◌, ◌∙◌, ◌∷◌, ◌≡◌, ◌≤◌}
 use Rattle.cdf_index.proofs.Coming.{Comes, comes, comes_along, comes_below, comes_first, comes_here, chain_reaches_from, leads_none, not_reached, reaches_from}
 use Rattle.cdf_index.proofs.OrderLemmas.{Within, leaves_within, end_after, InRange}
 use Rattle.cdf_index.proofs.Saying.{front, front_past, upto_both, both_none, no_entries}
-use Rattle.std.proofs.lemmas.Bool.{or_parts, leb-true, leb-false}
 use Rattle.cdf_edits.proofs.Edits.VariableFrame.{Each-map}
 
 -- ---- leaves that begin at a record or before it, and leaves past it

@@ -1,23 +1,14 @@
 -- An index with a leaf more keeps the rules: its entries are in order, its nodes have room for theirs, and each leaf has a block.
-use Rattle.std.proofs.Common.{◌≡◌, ℕ, ℤ, pos, negsuc, zero, suc, ◌+◌, ◌<◌, ◌≤◌, max, min, List, [], ◌∷◌, Bool, true, false, None, ltb, leb, eqb, refl, sym, ap, subst, ◌∙◌, arith, inl, inr, true≢false}
-use Rattle.cdf_index.proofs.Common.{nat_tests, eqb-true, filter, flat_map, fold, find, nat_lt, record_number_limit, range, covers, next_first, reaches, chain_reaches, leads_down, past, with_both, with_entry, with_sign, Nodes, no_node, node, Entries, no_entry, block, lower, Leaf, entry_count, is_block, end_of, leaf_rows, Hold, In, number_before, either, Hold-split, past_entries, before_number, Each, Each-split}
-use Rattle.std.proofs.lemmas.Bool.{cases_lt, le-ltb, leb-true, leb-false, le-leb, lt-ltb, or_parts}
-use Rattle.std.specs.Prelude.{int_lt}
-use Rattle.cdf_edits.specs.Index.Blocks.{firsts_of, entry_firsts}
-use Rattle.cdf_edits.specs.Index.Grown.{with_block, with_leaf}
-use Rattle.cdf_edits.proofs.Edits.LeafPieces.{IsOneOf}
-use Rattle.cdf_edits.proofs.Edits.LeafRecords.{signed}
-use Rattle.cdf_format.specs.Index.{nodes_of, lower_nodes, leaves_of, entry_leaves}
-use Rattle.cdf_format.specs.IndexRules.{has_room, is_between, nodes_rows, used_rows, index_rows}
-use Rattle.cdf_format.proofs.RowLemmas.{Hold-append}
+use Rattle.cdf_index.proofs.Common.{AreInOrder, Bool, Each, Each-split, Entries, Hold, Hold-append, Hold-split, In, InOrder, IsOneOf, Leaf, List, Nodes, None, [], ap, arith, before_is, before_number, block, chain_reaches, covers, either, end_of, entry_count, entry_firsts, entry_leaves, eqb, eqb-true, false, filter, find, firsts_of, flat_map, fold, inl, inr, int_lt, is_between, is_block, le-leb, le-ltb, leads_down, leaf_rows, leaves_of, leb, leb-false, leb-true, lower, lower_nodes, lt-ltb, ltb, max, nat_lt, nat_tests, negsuc, next_first, no_entry, no_node, node, nodes_of, nodes_rows, number_before, or_parts, past, past_entries, pos, range, reaches, record_number_limit, refl, signed, subst, suc, sym, true, true≢false, used_rows, with_block, with_both, with_entry, with_leaf, with_sign, zero, ℕ, ℤ, ◌+◌, ◌<◌, ◌∙◌, ◌∷◌, ◌≡◌, ◌≤◌}
+use Rattle.std.proofs.Common.{min}
+use Rattle.std.proofs.lemmas.Bool.{cases_lt}
+use Rattle.cdf_format.specs.IndexRules.{has_room, index_rows}
 use Rattle.cdf_edits.proofs.Space.ActsLeave.{each as each_of}
-use Rattle.cdf_index.specs.Order.{InOrder, AreInOrder}
 use Rattle.cdf_index.proofs.GoodIndex.{order_from}
 use Rattle.cdf_index.proofs.Coming.{Comes, comes, comes_along, comes_below, comes_first, comes_here, chain_reaches_from}
 use Rattle.cdf_index.proofs.LeafMore.{leaves_both, none_reached, parts_in_order}
 use Rattle.cdf_index.proofs.OrderLemmas.{end_after}
 use Rattle.cdf_index.proofs.Saying.{front, front_past, upto_both, upto_is, no_entries}
-use Rattle.cdf_edits.proofs.Edits.LeavesOrder.{before_is}
 
 -- ---- what a leaf may be added to
 

@@ -1,10 +1,5 @@
 -- The leaves of an index that is in order are so.
-use Rattle.std.proofs.Common.{ℕ, suc, ◌≤◌, ◌++◌, arith}
-use Rattle.cdf_index.proofs.Common.{Nodes, no_node, node, Entries, no_entry, block, lower, past_entries}
-use Rattle.cdf_format.specs.Index.{leaves_of, entry_leaves}
-use Rattle.cdf_edits.proofs.Edits.LeafRecords.{Ascending}
-use Rattle.cdf_edits.proofs.Edits.LeavesOrder.{ascending_from, ascending_both}
-use Rattle.cdf_index.specs.Order.{InOrder, AreInOrder}
+use Rattle.cdf_index.proofs.Common.{AreInOrder, Ascending, Entries, InOrder, Nodes, arith, ascending_both, ascending_from, block, entry_leaves, leaves_of, lower, no_entry, no_node, node, past_entries, suc, ℕ, ◌++◌, ◌≤◌}
 use Rattle.cdf_index.proofs.OrderLemmas.{end_after}
 
 pub end_before : (low high : ℕ) (entries : Entries) → AreInOrder low high entries → low ≤ suc high → past_entries low entries ≤ suc high

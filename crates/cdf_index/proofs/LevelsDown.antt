@@ -1,9 +1,5 @@
 -- The way down to the place of a new entry, from level to level.
-use Rattle.std.proofs.Common.{◌≡◌, ◌≢◌, ℕ, ◌+◌, ◌-◌, ◌≤◌, List, [], ◌∷◌, ◌++◌, length, map, append_assoc, append-nil, refl, sym, ap, subst, ◌∙◌, inl, inr, arith}
-use Rattle.cdf_index.proofs.Common.{map-append, Nodes, no_node, node, link_to, nodes_of, room_at, AreTiles, In, tiles, Each, Each-append, record_number_limit, IsTree, SomeTree, SpotIs, index_at, HasIndex, SomeNode, way, spot, Spot, Step}
-use Rattle.cdf_format.specs.IndexOf.{HasNodes}
-use Rattle.cdf_index.specs.Order.{InOrder}
-use Rattle.cdf_index.specs.Descent.{IsAmong, StepSays, step_pair}
+use Rattle.cdf_index.proofs.Common.{AreTiles, Each, Each-append, HasIndex, HasNodes, In, InOrder, IsAmong, IsTree, List, Nodes, SomeNode, SomeTree, Spot, SpotIs, Step, StepSays, [], ap, append-nil, append_assoc, arith, index_at, inl, inr, length, link_to, map, map-append, no_node, node, nodes_of, record_number_limit, refl, room_at, spot, step_pair, subst, sym, tiles, way, ℕ, ◌++◌, ◌+◌, ◌-◌, ◌∙◌, ◌∷◌, ◌≡◌, ◌≢◌, ◌≤◌}
 use Rattle.cdf_index.proofs.Ascending.{index_stands}
 use Rattle.cdf_index.proofs.WayDown.{AllIn, node_there_by, no_zero, way_in}
 use Rattle.std.proofs.lemmas.Bool.{eq-eqb, ne_eqb}

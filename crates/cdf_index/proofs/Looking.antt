@@ -1,14 +1,9 @@
 -- What is read at one node leads the search on.
-use Rattle.std.proofs.Common.{◌≡◌, ◌≢◌, ℕ, zero, suc, ◌+◌, ◌<◌, ◌≤◌, List, length, eqb, refl, sym, subst, ◌∙◌, arith, Some, None}
-use Rattle.cdf_index.proofs.Common.{next_of, type_at, Nodes, no_node, node, Entries, leaf, entry_count, link_to, used_count, last_at, offset_at, SaysEntry, IsNode, vxr_type, In, AreTiles, tiles, linkable-in, tile_lies, NamesIn, IsOrderly, SomeNode, NodeInside, At, Scanned, ChainFrom}
-use Rattle.cdf_format.specs.Index.{nodes_of}
-use Rattle.cdf_format.specs.IndexOf.{HasNodes}
+use Rattle.cdf_index.proofs.Common.{AreTiles, At, ChainFrom, Entries, HasNodes, In, IsNode, IsOrderly, List, LowerAreZero, NamesIn, NextsAreZero, NodeInside, Nodes, None, SaysEntry, Scanned, Some, SomeNode, arith, entry_count, eqb, find_entry, find_in, last_at, le-ltb, leaf, length, link_to, linkable-in, lt-ltb, next_of, no_node, node, nodes_of, nodes_passed, offset_at, passed_from, refl, subst, suc, sym, tile_lies, tiles, type_at, used_count, vxr_type, zero, ℕ, ◌+◌, ◌<◌, ◌∙◌, ◌≡◌, ◌≢◌, ◌≤◌}
 use Rattle.cdf_format.proofs.ChainsLemmas.{some_place}
-use Rattle.cdf_index.specs.Order.{find_in, find_entry, nodes_passed, passed_from, NextsAreZero, LowerAreZero}
 use Rattle.cdf_index.proofs.EntriesLeft.{EntriesLeft}
 pub use Rattle.cdf_index.proofs.FirstEntry.{node_there}
 use Rattle.cdf_index.proofs.FirstEntry.{AtEntry, Opened, enter, entry_here, first_entry, none_here, opened, opened_inside, opened_zero, pass}
-use Rattle.std.proofs.lemmas.Bool.{lt-ltb, le-ltb}
 
 -- ---- the first node of a chain
 

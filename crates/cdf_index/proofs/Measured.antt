@@ -1,12 +1,6 @@
 -- The size of an index that a walk over it counts.
-use Rattle.std.proofs.Common.{◌≡◌, ℕ, zero, suc, ◌+◌, ◌*◌, ◌≤◌, max, List, [], ◌∷◌, ◌++◌, length, ap, arith}
-use Rattle.cdf_index.proofs.Common.{flat_map, length-append, Nodes, no_node, node, Entries, no_entry, block, lower, entry_count, AreTiles, tiles, linkable-in, tile_lies, image_limit, index_at, HasIndex, Stands, size_of, IndexSize, Met, met_node, met_block, entry_met}
-use Rattle.std.proofs.lemmas.List.{length-map}
+use Rattle.cdf_index.proofs.Common.{AreTiles, Counts, Entries, HasIndex, HasNodes, IndexSize, List, Met, Nodes, Stands, [], ap, arith, block, entry_count, entry_leaves, entry_met, flat_map, image_limit, index_at, leaf_words, leaves_of, length, length-append, length-map, linkable-in, lower, lower_nodes, max, met_below, met_block, met_in, met_node, no_entry, no_node, node, nodes_of, size_of, suc, tile_lies, tiles, used_met, widest_met, zero, ℕ, ◌*◌, ◌++◌, ◌+◌, ◌∷◌, ◌≡◌, ◌≤◌}
 use Rattle.cdf_edits.specs.Commands.Room.{entries_in, entries_below, widest, widest_below}
-use Rattle.cdf_format.specs.Index.{nodes_of, lower_nodes, leaves_of, entry_leaves}
-use Rattle.cdf_format.specs.IndexOf.{HasNodes}
-use Rattle.cdf_index.specs.Sizes.{Counts, used_met, widest_met}
-use Rattle.cdf_index.specs.Whole.{leaf_words, met_in, met_below}
 use Rattle.cdf_index.proofs.Ascending.{index_stands}
 use Rattle.cdf_index.proofs.Collected.{collected}
 use Rattle.cdf_index.proofs.EntriesLeft.{EntriesLeft, past_first, past_lower_one, node_parts}

@@ -1,9 +1,5 @@
 -- The first of numbers that climb that is past a record, which is the least one.
-use Rattle.std.proofs.Common.{◌≡◌, ℕ, suc, ◌≤◌, ◌<◌, List, [], ◌∷◌, ◌++◌, ltb, append_assoc, refl, arith, Option, Some, None}
-use Rattle.cdf_index.proofs.Common.{filter, fold, min, nat_tests, next_first, record_number_limit, Nodes, no_node, node, Entries, no_entry, block, lower, Climbs, first_past, past_entries}
-use Rattle.cdf_edits.specs.Index.Blocks.{firsts_of, entry_firsts}
-use Rattle.cdf_index.specs.Next.{number_within}
-use Rattle.cdf_index.specs.Order.{InOrder, AreInOrder}
+use Rattle.cdf_index.proofs.Common.{AreInOrder, Climbs, Entries, InOrder, List, Nodes, None, Option, Some, [], append_assoc, arith, block, entry_firsts, filter, first_past, firsts_of, fold, lower, ltb, min, nat_tests, next_first, no_entry, no_node, node, number_within, past_entries, record_number_limit, refl, suc, ℕ, ◌++◌, ◌<◌, ◌∷◌, ◌≡◌, ◌≤◌}
 use Rattle.cdf_index.proofs.LeavesAscend.{end_before}
 
 climbs_from : (from from' upto : ℕ) (xs : List ℕ) → from ≤ from' → Climbs from' upto xs → Climbs from upto xs

@@ -1,11 +1,7 @@
 -- A record that was taken becomes a node: the image is sound with it, and has its content.
-use Rattle.std.proofs.Common.{◌≡◌, ℕ, ◌+◌, ◌-◌, ◌*◌, ◌≤◌, List, [], ◌∷◌, length, true, refl, sym, subst, ◌∙◌, arith}
-use Rattle.cdf_edits.proofs.Edits.Common.{apart}
-use Rattle.cdf_edits.proofs.Common.{with_space, Takes, Fills, shape_is, content, uir_type, is_record_type, fixed_size, shape}
-use Rattle.cdf_index.proofs.Common.{touch, Changed, is_a-in, tile_lies, size_at, vxr_type, Shape, IsSound, HasRoomFor, NodeWritten, Entry}
+use Rattle.cdf_index.proofs.Common.{Changed, Entry, Fills, HasRoomFor, IsSound, List, NodeWritten, Shape, Takes, [], apart, arith, content, fixed_size, is_a-in, is_record_type, length, refl, shape, shape_is, size_at, subst, sym, tile_lies, touch, true, uir_type, vxr_bytes, vxr_type, with_space, ℕ, ◌*◌, ◌+◌, ◌-◌, ◌∙◌, ◌∷◌, ◌≡◌, ◌≤◌}
 use Rattle.cdf_edits.proofs.Space.RecordFilled.{filled_stays_sound}
 use Rattle.cdf_edits.proofs.Space.TakenLeaves.{takes_longest}
-use Rattle.cdf_format.specs.Records.{vxr_bytes}
 
 module _ (b taken : List ℕ) (room place : ℕ) (sound : IsSound b (shape b)) (takes : Takes b taken (shape b) (shape taken) (vxr_bytes room) place) (sound_taken : IsSound taken (shape taken)) (stays : content taken ≡ content b) where
   pub has_room : HasRoomFor taken place room

@@ -1,13 +1,8 @@
 -- A node with one entry more, or it and a new node behind it, in the tree.
-use Rattle.std.proofs.Common.{◌≡◌, ℕ, suc, ◌+◌, ◌-◌, ◌*◌, ◌<◌, ◌≤◌, max, List, true, ltb, eqb, length, sym, ap, ◌∙◌, inl, inr, arith}
-use Rattle.cdf_index.proofs.Common.{past, with_both, SameHeads, linkable_kept, Owed, is_linkable, Nodes, node, Entries, no_entry, Leaf, entry_count, link_to, room_at, used_count, SayEntries, SaysNode, IsNode, vxr_type, either, placed, Inserted, Split, StillSays}
-use Rattle.cdf_edits.specs.Index.Grown.{with_block}
-use Rattle.cdf_format.specs.IndexOf.{HasNodes, Names}
-use Rattle.cdf_index.specs.Growing.{Begins, MayName}
-use Rattle.cdf_index.specs.Writing.{Chained}
+use Rattle.cdf_index.proofs.Common.{Begins, Chained, Entries, HasNodes, Inserted, IsNode, Leaf, List, MayName, Names, Nodes, Owed, SameHeads, SayEntries, SaysNode, Split, StillSays, ap, arith, either, entry_count, eqb, inl, inr, is_linkable, le-ltb, length, link_to, linkable_kept, lt-ltb, ltb, max, no_entry, node, past, placed, room_at, suc, sym, true, used_count, vxr_type, with_block, with_both, ℕ, ◌*◌, ◌+◌, ◌-◌, ◌<◌, ◌∙◌, ◌≡◌, ◌≤◌}
 use Rattle.cdf_index.proofs.Inserting.{front_stays}
 use Rattle.cdf_index.proofs.Saying.{front, front_past, upto_both, upto_is, count_both, say_both, say_parts, names_both, names_parts, say_moved}
-use Rattle.std.proofs.lemmas.Bool.{lt-ltb, le-ltb, ne_eqb, eq-eqb}
+use Rattle.std.proofs.lemmas.Bool.{ne_eqb, eq-eqb}
 
 pub node_has : (now records : List ℕ) (levels place room : ℕ) (es : Entries) (more : Nodes) → SaysNode now records place room es more → Names now records levels es → HasNodes now records (suc levels) more → HasNodes now records (suc levels) (node place room es more)
 unfolding HasNodes

@@ -1,8 +1,5 @@
 -- A record becomes a node.
-use Rattle.std.proofs.Common.{◌≡◌, ℕ, ◌+◌, ◌*◌, ◌^◌, ◌<◌, ◌≤◌, inl, inr, List, [], ◌∷◌, length, refl, subst, ◌∙◌, arith}
-use Rattle.cdf_index.proofs.Common.{cases_eq, image_limit, Changed, touch, number, with_field, size_at, room_at, used_count, SaysEntry, NodeInside, EntrySet, HasRoomFor, entry_in, NodeWritten, Entry}
-use Rattle.cdf_format.specs.Records.{field}
-use Rattle.cdf_index.specs.Writing.{HeadWritten, SaysFirst}
+use Rattle.cdf_index.proofs.Common.{Changed, Entry, EntrySet, HasRoomFor, HeadWritten, List, NodeInside, NodeWritten, SaysEntry, SaysFirst, [], arith, cases_eq, entry_in, field, image_limit, inl, inr, length, number, refl, room_at, size_at, subst, touch, used_count, with_field, ℕ, ◌*◌, ◌+◌, ◌<◌, ◌^◌, ◌∙◌, ◌∷◌, ◌≡◌, ◌≤◌}
 use Rattle.cdf_index.proofs.FieldSet.{FieldSet, field_set, changed_again, changed_wider, counts, count_is, node_head}
 use Rattle.cdf_index.proofs.Inserting.{front_stays, used_stays, room_stays, inside_stays, nothing_changed, set_more}
 

@@ -1,6 +1,5 @@
 -- A full node and a new one behind it, in the bytes: what was written of both makes the split.
-use Rattle.std.proofs.Common.{◌≡◌, ℕ, ◌+◌, ◌-◌, ◌≤◌, max, List, sym, ◌∙◌, arith}
-use Rattle.cdf_index.proofs.Common.{Kept, next_of, room_at, SaysEntry, entry_in, NodeWritten, EntriesRead, Shortened, Split, Entry, NodeFits}
+use Rattle.cdf_index.proofs.Common.{EntriesRead, Entry, Kept, List, NodeFits, NodeWritten, SaysEntry, Shortened, Split, arith, entry_in, max, next_of, room_at, sym, ℕ, ◌+◌, ◌-◌, ◌∙◌, ◌≡◌, ◌≤◌}
 use Rattle.cdf_index.proofs.Inserting.{still_it}
 use Rattle.cdf_index.proofs.OneNode.{same_node}
 

@@ -1,7 +1,5 @@
 -- A node on the way whose entry ends later, in the tree.
-use Rattle.std.proofs.Common.{◌≡◌, ◌≢◌, ℕ, zero, suc, ◌+◌, ◌*◌, ◌<◌, ◌≤◌, max, List, length, refl, sym, ap, ◌∙◌, arith}
-use Rattle.cdf_index.proofs.Common.{SameHeads, linkable_kept, Owed, Entries, no_entry, block, lower, entry_count, link_to, room_at, used_count, SaysEntry, SayEntries, vxr_type, widened, wider, StillSays, Widened}
-use Rattle.cdf_format.specs.IndexOf.{Names}
+use Rattle.cdf_index.proofs.Common.{Entries, List, Names, Owed, SameHeads, SayEntries, SaysEntry, StillSays, Widened, ap, arith, block, entry_count, length, link_to, linkable_kept, lower, max, no_entry, refl, room_at, suc, sym, used_count, vxr_type, widened, wider, zero, ℕ, ◌*◌, ◌+◌, ◌<◌, ◌∙◌, ◌≡◌, ◌≢◌, ◌≤◌}
 use Rattle.cdf_index.proofs.Inserting.{front_stays, room_stays, used_stays}
 use Rattle.cdf_index.proofs.NodeGrown.{node_has}
 use Rattle.cdf_index.proofs.Saying.{say_moved}

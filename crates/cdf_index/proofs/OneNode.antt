@@ -1,9 +1,5 @@
 -- One node whose record stays, and the entries behind those that it has.
-use Rattle.std.proofs.Common.{◌≡◌, ℕ, zero, suc, ◌<◌, ◌≤◌, List, [], ◌∷◌, length, refl, sym, subst, arith, inl, inr}
-use Rattle.cdf_index.proofs.Common.{SameHeads, Kept, NodeFits, StillSays, next_of, number, room_at, used_count, vxr_n_used_entries, size_at, type_at, entry_in, Entry}
-use Rattle.cdf_format.proofs.BytesLemmas.{next_kept, number_kept, size_kept, type_kept}
-use Rattle.cdf_edits.proofs.Frame.LinksStay.{room_same, used_same, entry_same}
-use Rattle.cdf_index.specs.Writing.{unused_entry}
+use Rattle.cdf_index.proofs.Common.{Entry, Kept, List, NodeFits, SameHeads, StillSays, [], arith, entry_in, entry_same, inl, inr, length, next_kept, next_of, number, number_kept, refl, room_at, room_same, size_at, size_kept, subst, suc, sym, type_at, type_kept, unused_entry, used_count, used_same, vxr_n_used_entries, zero, ℕ, ◌<◌, ◌∷◌, ◌≡◌, ◌≤◌}
 
 pub one_head : (mid now : List ℕ) (m : ℕ) → Kept mid now m → SameHeads mid now (m ∷ []) (m ∷ [])
 one_head mid now m k = record {

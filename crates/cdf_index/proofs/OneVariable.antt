@@ -1,8 +1,5 @@
 -- A variable among those of its kind, by its VDR, and among all variables.
-use Rattle.std.proofs.Common.{◌≡◌, ℕ, List, [], ◌∷◌, ◌++◌, append_assoc, refl, sym, ap, subst, ◌∙◌, inl, inr}
-use Rattle.cdf_edits.proofs.Common.{shapes_of, shape, vdrs, Kind, R, Z}
-use Rattle.cdf_index.proofs.Common.{VariableShape, variables, In, In-append, map-append}
-use Rattle.cdf_edits.proofs.Edits.StandsAmong.{StandsAmong}
+use Rattle.cdf_index.proofs.Common.{In, In-append, Kind, List, R, StandsAmong, VariableShape, Z, [], ap, append_assoc, inl, inr, map-append, refl, shape, shapes_of, subst, sym, variables, vdrs, ℕ, ◌++◌, ◌∙◌, ◌∷◌, ◌≡◌}
 
 record StandsIn (vs : List VariableShape) (vdr : ℕ) : Type 0 where
   before : List VariableShape

@@ -1,8 +1,5 @@
 -- The leaf that has a record, found on the way down.
-use Rattle.std.proofs.Common.{◌≡◌, ℕ, suc, ◌<◌, ◌≤◌, List, [], ◌∷◌, ◌++◌, true, false, ltb, append_assoc, refl, arith, Option, None}
-use Rattle.cdf_index.proofs.Common.{nat_tests, Nodes, no_node, node, Entries, no_entry, block, lower, Leaf, past_entries, leaf_of, Each, Each-append}
-use Rattle.cdf_format.specs.Index.{leaves_of, entry_leaves}
-use Rattle.cdf_index.specs.Order.{InOrder, AreInOrder, find_in, find_entry}
+use Rattle.cdf_index.proofs.Common.{AreInOrder, Each, Each-append, Entries, InOrder, Leaf, List, Nodes, None, Option, [], append_assoc, arith, block, entry_leaves, false, find_entry, find_in, leaf_of, leaves_of, lower, ltb, nat_tests, no_entry, no_node, node, past_entries, refl, suc, true, ℕ, ◌++◌, ◌<◌, ◌∷◌, ◌≡◌, ◌≤◌}
 use Rattle.cdf_edits.proofs.Edits.VariableFrame.{Each-map}
 
 -- each of the leaves has records from low to high alone

@@ -1,16 +1,6 @@
 -- The records of one variable: how often each stands in it, of which types they are, and what a command on the variable may do to them.
-use Rattle.std.proofs.Common.{◌≡◌, ◌⊎◌, ℕ, ◌+◌, List, [], ◌∷◌, ◌++◌, length, true, false, Option, Some, None, true≢false, refl, sym, ap, ◌∙◌, inl, inr}
-use Rattle.cdf_edits.proofs.Common.{Found, Kind, R, Z, times, variable_records, Field, cpr_type, vvr_type, shape, Good, is_a-type, nodes_stand, Allowance, Anything, Only, range_at, shapes_of, vdr_type, Range}
-use Rattle.cdf_edits.proofs.Edits.Common.{got-middle, index_records, fits, has, typed, kind_type, times-append}
-use Rattle.std.specs.Prelude.{find, slice_get, ◌==◌, if◌then◌else◌}
-use Rattle.cdf_index.proofs.Common.{range, is_a, is_in, type_at, Leaf, leaves_of, Each, In, VariableShape, LeafFits, nodes_of, cvvr_type, vxr_type, linkable-type}
-use Rattle.cdf_edits.proofs.Edits.InRecords.{places_of}
-use Rattle.cdf_edits.proofs.Edits.LeafPieces.{IsOneOf, find_place}
-use Rattle.cdf_edits.proofs.Edits.MarkLemmas.{or_cases}
-use Rattle.cdf_edits.proofs.Edits.PlainLeaves.{leaves_apart}
-use Rattle.cdf_edits.proofs.Edits.StandsAmong.{StandsAmong}
+use Rattle.cdf_index.proofs.Common.{Allowance, Anything, Each, Each-in, Field, Found, Good, In, IsOneOf, Kind, Leaf, LeafFits, List, None, Only, Option, R, Range, Some, StandsAmong, VariableShape, Z, [], ap, cpr_type, cvvr_type, false, find, find_place, fits, got-middle, has, if◌then◌else◌, index_records, inl, inr, is_a, is_a-type, is_in, kind_type, leaves_apart, leaves_of, length, linkable-type, nodes_of, nodes_stand, or_cases, places_of, range, range_at, refl, shape, shapes_of, slice_get, sym, times, times-append, true, true≢false, type_at, typed, variable_records, vdr_type, vvr_type, vxr_type, ℕ, ◌++◌, ◌+◌, ◌==◌, ◌∙◌, ◌∷◌, ◌≡◌, ◌⊎◌}
 use Rattle.cdf_edits.proofs.Edits.VariableKept.{find_none}
-use Rattle.cdf_edits.proofs.Frame.OwnerAlone.{Each-in}
 
 pub parts_times : (v : VariableShape) (m : ℕ) → times m (variable_records v) ≡ times m (v.vdr ∷ []) + (times m (nodes_of v.index) + times m (places_of (leaves_of v.index)) + times m v.cpr)
 parts_times v m =

@@ -1,12 +1,6 @@
 -- The blocks that the index of a variable of a good image names are not packed, since no packed one is read so far.
-use Rattle.std.proofs.Common.{arith, ◌≡◌, ℕ, zero, suc, List, ◌∷◌, ◌++◌, false, sym, subst, ◌∙◌, Some}
-use Rattle.cdf_index.proofs.Common.{nat_tests, ◌==◌, flat_map, range, covers, type_at, IsGoodImage, Nodes, no_node, node, Entries, no_entry, block, lower, Leaf, cvvr_type, Hold, VariableShape, Shape, variables, Each, HasVariable, LeafFits, VariableFits, IsSound, In, Each-append, Each-split, leaf_of, is_linkable, vxr_type}
-use Rattle.cdf_format.specs.Index.{leaves_of, entry_leaves}
-use Rattle.cdf_format.specs.IndexOf.{HasNodes, Names}
+use Rattle.cdf_index.proofs.Common.{Each, Each-append, Each-split, Entries, HasNodes, HasVariable, Hold, Hold-member, In, IsGoodImage, IsSound, Leaf, LeafFits, List, Names, Nodes, Shape, Some, VariableFits, VariableShape, arith, block, block_in, covers, cvvr_type, entry_leaves, false, flat_map, found_in, is_linkable, leaf_of, leaves_of, lower, nat_tests, no_entry, no_node, node, of_each, range, subst, suc, sym, type_at, variables, vxr_type, zero, ℕ, ◌++◌, ◌==◌, ◌∙◌, ◌∷◌, ◌≡◌}
 use Rattle.cdf_format.specs.NotRead.{unread_type}
-use Rattle.cdf_format.proofs.RowLemmas.{Hold-member}
-use Rattle.cdf_format.proofs.Owning.{block_in}
-use Rattle.cdf_edits.proofs.Edits.LeafPieces.{found_in, of_each}
 
 -- a leaf names a block
 abbrev pub Named : List ℕ → List ℕ → Leaf → Type 0

@@ -1,7 +1,5 @@
 -- Where a record stands in its block.
-use Rattle.std.proofs.Common.{◌≡◌, ℕ, ◌+◌, ◌-◌, ◌*◌, ◌≤◌, List, take, drop, sym}
-use Rattle.cdf_index.proofs.Common.{plain_bytes, record_bytes, HoldsRecords, record_in, seen}
-use Rattle.cdf_edits.proofs.Edits.LeafPieces.{plain_piece}
+use Rattle.cdf_index.proofs.Common.{HoldsRecords, List, drop, plain_bytes, plain_piece, record_bytes, record_in, seen, sym, take, ℕ, ◌*◌, ◌+◌, ◌-◌, ◌≡◌, ◌≤◌}
 use Rattle.cdf_index.specs.declared.nodes.Leaf.{Leaf}
 
 pub record_is : (b : List ℕ) (leaf : Leaf) (size rec vdr : ℕ) → HoldsRecords b leaf size → leaf.first ≤ rec → rec ≤ leaf.last → record_bytes b vdr ≡ size

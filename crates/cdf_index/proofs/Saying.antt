@@ -1,10 +1,5 @@
 -- The entries of a node, and what it says of them, taken apart and put together.
-use Rattle.std.proofs.Common.{◌≡◌, ℕ, suc, ◌+◌, ◌<◌, List, leb, refl, ap, sym, ◌∙◌, arith, inl, inr, ◌++◌, append_assoc}
-use Rattle.cdf_index.proofs.Common.{if◌then◌else◌, upto, past, with_both, Entries, no_entry, block, lower, Leaf, entry_count, link_to, SaysEntry, SayEntries, either}
-use Rattle.std.specs.Prelude.{nat_le}
-use Rattle.cdf_edits.specs.Index.Grown.{with_block}
-use Rattle.cdf_format.specs.IndexOf.{Names}
-use Rattle.cdf_format.specs.Index.{nodes_of, lower_nodes}
+use Rattle.cdf_index.proofs.Common.{Entries, Leaf, List, Names, SayEntries, SaysEntry, ap, append_assoc, arith, block, either, entry_count, if◌then◌else◌, inl, inr, leb, link_to, lower, lower_nodes, nat_le, no_entry, nodes_of, past, refl, suc, sym, upto, with_block, with_both, ℕ, ◌++◌, ◌+◌, ◌<◌, ◌∙◌, ◌≡◌}
 
 -- the entries that begin at a record or before it
 abbrev pub front : ℕ → Entries → Entries

@@ -1,9 +1,6 @@
 -- One node of an index was touched behind its first 12 bytes: what stays, and what the tree becomes.
-use Rattle.std.proofs.Common.{◌≢◌, ℕ, ◌+◌, ◌≤◌, List, [], ◌∷◌, map, length, refl, sym, arith, inl, inr}
-use Rattle.cdf_edits.proofs.Common.{Placed, Same, word_kept}
-use Rattle.cdf_index.proofs.Common.{touch, Changed, SameHeads, Kept, Edit, Owed, redone, size_at, Nodes, Leaf, nodes_of, leaves_of, HasNodes, NodeFits, In, Distinct, AreTiles, tile_lies}
+use Rattle.cdf_index.proofs.Common.{AreTiles, Changed, Distinct, Edit, HasNodes, In, Kept, Leaf, List, NodeFits, Nodes, Owed, Placed, Same, SameHeads, [], arith, inl, inr, leaves_of, length, map, nodes_of, redo, redone, refl, size_at, sym, tile_lies, touch, word_kept, ℕ, ◌+◌, ◌∷◌, ◌≢◌, ◌≤◌}
 use Rattle.cdf_edits.proofs.Frame.ChangedBytes.{changed_part, changed_whole}
-use Rattle.cdf_edits.proofs.Index.NodeEdited.{redo}
 
 module _ (b now records : List ℕ) (tiled : AreTiles b 8 (length b) records) (at from n : ℕ) (there : In at records) (later : 12 ≤ from) (fits : from + n ≤ size_at b at) (change : Changed b now (touch at from n ∷ [])) where
   lies_there : Placed b records (length b) (touch at from n ∷ [])

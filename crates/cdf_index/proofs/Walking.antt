@@ -1,11 +1,5 @@
 -- The search for the next First, from node to node.
-use Rattle.std.proofs.Common.{◌≡◌, ◌≢◌, ℕ, zero, suc, ◌+◌, ◌<◌, ◌≤◌, List, [], ◌++◌, length, append_assoc, append-nil, refl, sym, ap, ◌∙◌, arith, Option, Some, None}
-use Rattle.cdf_index.proofs.Common.{next_of, Nodes, no_node, link_to, used_count, first_at, AreTiles, tiles, record_number_limit, Begun, Climbs, chain_before, first_past, IsWalk, index_at, HasIndex, NodeInside, ChainFrom}
-use Rattle.cdf_edits.specs.Index.Blocks.{firsts_of, entry_firsts}
-use Rattle.cdf_format.specs.Index.{nodes_of, leaves_of}
-use Rattle.cdf_format.specs.IndexOf.{HasNodes}
-use Rattle.cdf_index.specs.Next.{least_first_past}
-use Rattle.cdf_index.specs.Order.{NextsAreZero, LowerAreZero}
+use Rattle.cdf_index.proofs.Common.{AreTiles, Begun, ChainFrom, Climbs, HasIndex, HasNodes, IsWalk, List, LowerAreZero, NextsAreZero, NodeInside, Nodes, None, Option, Some, [], ap, append-nil, append_assoc, arith, chain_before, entry_firsts, first_at, first_past, firsts_of, index_at, least_first_past, leaves_of, length, link_to, next_of, no_node, nodes_of, record_number_limit, refl, suc, sym, tiles, used_count, zero, ℕ, ◌++◌, ◌+◌, ◌<◌, ◌∙◌, ◌≡◌, ◌≢◌, ◌≤◌}
 use Rattle.cdf_index.specs.declared.next.Walk.{Walk}
 use Rattle.cdf_index.proofs.FirstEntry.{AtEntry, Opened, enter, entry_here, none_here, opened_inside, opened_nodes, opened_zero, pass}
 use Rattle.cdf_index.proofs.Looking.{none_there, node_inside, node_of}

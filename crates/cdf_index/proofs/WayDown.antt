@@ -1,13 +1,5 @@
 -- An index with one leaf more, made by one edit at the end of the way and one in each node on it, from the bottom up.
-use Rattle.std.proofs.Common.{◌≡◌, ◌≢◌, ◌⊎◌, ℕ, zero, suc, ◌+◌, List, [], ◌∷◌, ◌++◌, max, true, false, eqb, refl, sym, ap, ap₂, subst, ◌∙◌, inl, inr, eq-eqb, length, arith}
-use Rattle.cdf_edits.proofs.Edits.Common.{in-times, times-append, times-in, Each-map}
-use Rattle.cdf_edits.proofs.Common.{times, ne_eqb, nodes_stand, some_place, times-once}
-use Rattle.cdf_index.proofs.Common.{chain_reaches, with_both, Edit, Nodes, no_node, node, Entries, no_entry, block, lower, Leaf, leaf, entry_count, link_to, IsNode, vxr_type, In, Distinct, AreTiles, linkable-in, In-append_left, In-append_right, Distinct-front, Distinct-back, widened, wider, placed, way, spot, Each}
-use Rattle.cdf_edits.proofs.Index.NodeEdited.{redo, redo_below}
-use Rattle.cdf_format.specs.Index.{nodes_of, lower_nodes}
-use Rattle.cdf_format.specs.IndexOf.{HasNodes, Names}
-use Rattle.cdf_index.specs.Order.{InOrder}
-use Rattle.cdf_index.specs.Way.{widen_all}
+use Rattle.cdf_index.proofs.Common.{AreTiles, Distinct, Distinct-back, Distinct-front, Each, Each-map, Edit, Entries, HasNodes, In, In-append_left, In-append_right, InOrder, IsNode, Leaf, List, Names, Nodes, [], ap, ap₂, arith, block, chain_reaches, entry_count, eq-eqb, eqb, false, in-times, inl, inr, leaf, length, link_to, linkable-in, lower, lower_nodes, max, ne_eqb, no_entry, no_node, node, nodes_of, nodes_stand, placed, redo, redo_below, refl, some_place, spot, subst, suc, sym, times, times-append, times-in, times-once, true, vxr_type, way, widen_all, widened, wider, with_both, zero, ℕ, ◌++◌, ◌+◌, ◌∙◌, ◌∷◌, ◌≡◌, ◌≢◌, ◌⊎◌}
 use Rattle.cdf_index.proofs.Coming.{Comes, comes, comes_along, comes_below, comes_first, comes_here}
 use Rattle.cdf_index.proofs.Saying.{lower_both, names_parts}
 use Rattle.cdf_index.proofs.Looking.{node_there}

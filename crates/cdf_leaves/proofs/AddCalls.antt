@@ -1,15 +1,9 @@
 -- What the calls ask for that add a leaf, and what they leave.
 use Rattle.cdf_edits.proofs.Edits.RecordGrown as of_grown
-use Rattle.cdf_edits.proofs.Common.{type_of_body, eof, gdr_offset, vdrs}
-use Rattle.std.proofs.Common.{◌≡◌, ◌≢◌, ◌⊎◌, ℕ, ◌+◌, ◌≤◌, max, List, [], ◌∷◌, ◌++◌, length, map, false, refl, sym, ap, subst, ◌∙◌, arith, inl, inr}
-use Rattle.cdf_leaves.proofs.Common.{Kind, image_limit, vxr_bytes, widest, with_leaf, new_room, Placed, StandsAmong, sound, tile, has, long, apart, number, with_field, nodes_of, vdr_vxr_head, vdr_vxr_tail, vxr_vxr_next, uir_type, vxr_type, vvr_type, VariableShape, Each, shape, variables, In, Good, type_kept, tile_lies, AddsLeaf, step_pair, HasIndex, index_at, way, spot, Spot, Step, IsStep, entry, EntryPut, IndexStarted, MayPut, ChainInside, chain_end, StepStands, WayStands, WidenedAlong, Grew, grew, stands, unlike, Entry, field_set}
-use Rattle.cdf_format.specs.Index.{leaf}
-use Rattle.cdf_index.specs.Descent.{IsAmong, StepSays}
+use Rattle.cdf_leaves.proofs.Common.{AddsLeaf, ChainInside, Each, Entry, EntryPut, Good, Grew, HasIndex, In, IndexStarted, IsAmong, IsStep, IsWay, Kind, List, MayPut, Placed, Spot, StandsAmong, Step, StepSays, StepStands, VariableShape, WayStands, WidenedAlong, [], ap, apart, arith, chain_end, entry, eof, false, field_set, gdr_offset, grew, has, image_limit, index_at, inl, inr, leaf, length, long, map, max, new_room, node_stays, nodes_of, number, refl, shape, sound, spot, stands, step_pair, subst, sym, tile, tile_lies, type_kept, type_of_body, uir_type, unlike, variables, vdr_vxr_head, vdr_vxr_tail, vdrs, vvr_type, vxr_bytes, vxr_type, vxr_vxr_next, way, widest, with_field, with_leaf, ℕ, ◌++◌, ◌+◌, ◌∙◌, ◌∷◌, ◌≡◌, ◌≢◌, ◌≤◌, ◌⊎◌}
 use Rattle.cdf_index.specs.declared.descending.Way.{Way}
-use Rattle.cdf_leaves.specs.Added.{IsWay}
 use Rattle.cdf_leaves.proofs.LeafGrown.{EntryStands, Onto, not_on_way, entry_stands, wide_state, chain_ready, vdr_lies, tail_stays, tail_written}
 use Rattle.cdf_leaves.proofs.Grown.{was}
-use Rattle.cdf_index.proofs.ByLeaf.{node_stays}
 use Rattle.cdf_leaves.proofs.LeafStarted.{first_added}
 use Rattle.cdf_leaves.proofs.Own.{searchable, own_node, node_fits, node_kept, node_spares, still_sees}
 use Rattle.cdf_leaves.proofs.Spares.{fits_still, front_lies, node_inside}

@@ -1,6 +1,5 @@
 -- The nodes on a way are widened one by one, the last one first.
-use Rattle.std.proofs.Common.{◌≡◌, ℕ, zero, suc, ◌<◌, List, [], ◌∷◌, length, map, drop, slice_index_or, sym, ◌∙◌, arith}
-use Rattle.cdf_leaves.proofs.Common.{room_at, Each, step_pair, NodeInside, Step, StepStands, WayStands, WidenedAlong}
+use Rattle.cdf_leaves.proofs.Common.{Each, List, NodeInside, Step, StepStands, WayStands, WidenedAlong, [], arith, drop, length, map, room_at, slice_index_or, step_pair, suc, sym, zero, ℕ, ◌<◌, ◌∙◌, ◌∷◌, ◌≡◌}
 use Rattle.cdf_leaves.proofs.Spares.{StillNodes, still_none, still_then, widened_one, fits_still, node_inside}
 
 pub along : (b mid records : List ℕ) (last : ℕ) (steps : List Step) → StillNodes b b records → Each (StepStands b records) steps → WidenedAlong b mid last (map step_pair steps) → StillNodes b mid records

@@ -1,6 +1,5 @@
 -- A chain of nodes followed to its end.
-use Rattle.std.proofs.Common.{◌-◌, ◌≡◌, ◌≢◌, ℕ, suc, ◌+◌, ◌<◌, List, length, arith}
-use Rattle.cdf_leaves.proofs.Common.{next_of, chain_end, ChainInside, eq-eqb, ne_eqb}
+use Rattle.cdf_leaves.proofs.Common.{ChainInside, List, arith, chain_end, eq-eqb, length, ne_eqb, next_of, suc, ℕ, ◌+◌, ◌-◌, ◌<◌, ◌≡◌, ◌≢◌}
 
 pub record Following (b : List ℕ) (at turn here : ℕ) : Type 0 where
   pub inside : ChainInside (length b - turn) b here

@@ -1,13 +1,8 @@
 -- The entry of a leaf was put into an index: what the new image has of it.
-use Rattle.std.proofs.Common.{◌≡◌, ◌≢◌, ℕ, zero, suc, ◌+◌, ◌-◌, ◌*◌, ◌<◌, ◌≤◌, max, List, length, Bool, true, false, not, ◌&&◌, leb, refl, subst, ◌∙◌, arith, inl, inr}
-use Rattle.cdf_edits.proofs.Common.{is_in-true, cases_lt, le-leb}
-use Rattle.cdf_leaves.proofs.Common.{nat_tests, was_unused, size_at, type_at, Leaf, room_at, used_count, SaysEntry, vvr_type, NodeFits, In, leaf_acts, Begun, MayName, Inserted, NodeWritten, Entry, front_stays, begins_by}
-use Rattle.cdf_edits.specs.Index.Written.{is_taken_at}
-use Rattle.cdf_index.specs.Writing.{Shortened}
+use Rattle.cdf_leaves.proofs.Common.{Begun, Bool, Entry, In, Inserted, Leaf, List, MayName, NodeFits, NodeWritten, SaysEntry, Shortened, arith, begins_by, cases_lt, entry_past, false, front_stays, inl, inr, is_in-true, is_taken_at, le-leb, leaf_acts, leb, length, max, nat_tests, not, refl, room_at, size_at, subst, suc, true, type_at, used_count, vvr_type, was_unused, zero, ℕ, ◌&&◌, ◌*◌, ◌+◌, ◌-◌, ◌<◌, ◌∙◌, ◌≡◌, ◌≢◌, ◌≤◌}
 use Rattle.cdf_leaves.proofs.Spares.{Spares}
 use Rattle.cdf_leaves.proofs.SpotNode.{SpotNode}
 use Rattle.cdf_leaves.proofs.State.{entry_still, NodeNow}
-use Rattle.cdf_index.proofs.OneNode.{entry_past}
 
 -- ---- what counts as unused before
 

@@ -1,9 +1,7 @@
 -- The last call of a function, whose answer is its own.
-use Rattle.std.proofs.Common.{ℕ, subst, ◌∙◌}
-use Rattle.cdf_leaves.proofs.Common.{Keeps, Frame}
+use Rattle.cdf_leaves.proofs.Common.{Edits, Frame, Keeps, subst, ℕ, ◌∙◌}
 use Rattle.std.specs.declared.result.Result.{Result}
 use Rattle.cdf_base.specs.Causes.{HasCauseOf}
-use Rattle.cdf_area.specs.Calls.{Edits}
 use Rattle.cdf_area.specs.declared.area.AreaError.{AreaError}
 use Rattle.cdf_area.specs.declared.area.AreaError.TheVariants.{Fault}
 

@@ -1,32 +1,16 @@
 -- A leaf more in an index that has a node: what was done step by step is what a leaf more makes of the image.
-use Rattle.std.proofs.Common.{◌≡◌, ◌≢◌, ◌⊎◌, ℕ, zero, suc, ◌+◌, ◌-◌, ◌*◌, ◌^◌, ◌<◌, ◌≤◌, max, List, [], ◌∷◌, ◌++◌, length, Bool, true, false, refl, sym, ap, subst, ◌∙◌, arith, inl, inr}
-use Rattle.cdf_edits.proofs.Common.{record_number_limit, TouchesNone, lt-leb, nodes_stand}
-use Rattle.cdf_edits.proofs.Edits.Common.{each}
-use Rattle.cdf_leaves.proofs.Common.{bytes_eq, Kind, image_limit, touch, Touch, Changed, new_room, chain_reaches, leads_down, UnusedEntries, EntryIs, was_unused, top_chain, last_node, Placed, StandsAmong, sound, tile, has, long, changed_then, changed_whole, SameHeads, Kept, redo, apart, is_linkable, number, size_at, type_at, with_field, Nodes, no_node, node, Leaf, nodes_of, leaves_of, link_to, room_at, used_count, SaysEntry, IsNode, vdr_vxr_head, vdr_vxr_tail, gdr_type, uir_type, vxr_type, vvr_type, VariableShape, Each, shape, NodeFits, AreTiles, Distinct, In, Good, number_kept, type_kept, size_kept, linkable-from, either, Each-append, tile_lies, Counts, NodeTaken, LeafAdded, leaf_acts, with_new, MayName, way, spot, widen_all, NodeWritten, Inserted, Spot, Entry, heads_stay, others_stay, no_zero, IsStep, entry, ChainInside, chain_end, WidenedAlong, NodeMade, EntryPut, Grew, grew, grew_then, stands, unlike, linkable-in, cases_eq, tiles_same, same_node, SeesNode, field_set, begins_by, each_in}
+use Rattle.cdf_leaves.proofs.Common.{AreTiles, Bool, ChainInside, ChainMade, Changed, Comes, Counts, Distinct, Each, Each-append, EntriesRead, Entry, EntryIs, EntryPut, Good, Grew, In, IndexTouch, Inserted, IsNode, IsStep, Kept, Kind, Leaf, LeafAdded, List, MayName, NodeFits, NodeMade, NodeTaken, NodeWritten, Nodes, Owed, Placed, SameHeads, SaysEntry, SeesNode, SplitMade, Spot, StandsAmong, TailGoesOn, Touch, TouchesNone, UnusedEntries, VariableShape, WidenedAlong, [], ap, apart, arith, begins_by, bytes_eq, cases_eq, chain_end, chain_reaches, changed_then, changed_whole, comes, each, each_in, either, entry, false, field_set, gdr_type, grew, grew_none, grew_then, has, heads_stay, image_limit, in_nodes_with_leaf, inl, inr, is_linkable, kept_then, last_node, leads_down, leaf_acts, leaves_of, length, link_to, linkable-from, linkable-in, long, lt-leb, made, max, new_room, no_node, no_zero, node, node_stays, node_there_by, nodes_kept, nodes_of, nodes_stand, nothing_changed, number, number_kept, others_stay, placed, record_number_limit, redo, redone, refl, room_at, same_node, shape, size_at, size_kept, sound, spot, stands, subst, suc, sym, tile, tile_lies, tiles_same, top_chain, touch, true, type_at, type_kept, uir_type, unlike, used_count, vdr_vxr_head, vdr_vxr_tail, vvr_type, vxr_type, was_unused, way, widen_all, with_field, with_leaf, with_new, zero, ℕ, ◌*◌, ◌++◌, ◌+◌, ◌-◌, ◌<◌, ◌^◌, ◌∙◌, ◌∷◌, ◌≡◌, ◌≢◌, ◌≤◌, ◌⊎◌}
 use Rattle.cdf_edits.specs.Frame.Changed.{Placed as ChangedPlaced}
-use Rattle.cdf_edits.specs.Index.Grown.{with_leaf}
-use Rattle.cdf_edits.proofs.Frame.LinksStay.{nodes_kept}
-use Rattle.cdf_edits.proofs.Index.NodeEdited.{redone}
 use Rattle.cdf_format.proofs.NameRules.{bytes_eq-same}
 use Rattle.cdf_format.proofs.Tests.{same_of_bytes_eq}
-use Rattle.cdf_index.specs.Adding.{IndexTouch, TailGoesOn}
-use Rattle.cdf_index.specs.Way.{placed}
-use Rattle.cdf_index.specs.Writing.{EntriesRead}
-use Rattle.cdf_index.proofs.Coming.{Comes, comes}
 use Rattle.cdf_index.proofs.LeafMore.{leaves_more}
 use Rattle.cdf_index.proofs.NodeGrown.{grown_owed, split_owed, chained_owed, placed_link, placed_node as entry_placed}
 use Rattle.cdf_index.proofs.NodeSplit.{split}
-use Rattle.cdf_index.proofs.Inserting.{nothing_changed}
-use Rattle.cdf_edits.proofs.Index.NodeEdited.{Owed}
-use Rattle.cdf_index.proofs.WayDown.{made, node_there_by}
 use Rattle.cdf_leaves.proofs.TopChain.{top_stays, top_grows, chain_inside, end_is_last, last_in}
-use Rattle.cdf_leaves.specs.Putting.{SplitMade, ChainMade}
-use Rattle.cdf_edits.proofs.Edits.RecordGrown.{grew_none, kept_then}
 use Rattle.cdf_leaves.proofs.Grown.{was, was_old, was_new, old_node, new_node, inserted_node, shortened_node, names_leaf, room_with, room_full}
 use Rattle.cdf_leaves.proofs.Linked.{link_set, link_room, link_used, link_entries, link_spares}
 use Rattle.cdf_leaves.proofs.NodesMore.{places, all_wider}
 use Rattle.cdf_leaves.proofs.NodesOf.{in_new, all_once}
-use Rattle.cdf_index.proofs.ByLeaf.{in_nodes_with_leaf, node_stays}
 use Rattle.cdf_leaves.proofs.Own.{own_order, own_node, node_fits, vdr_apart, now_has, now_blocks, node_kept, node_spares, still_sees, vdr_kept, vdr_in, vdr_used}
 use Rattle.cdf_leaves.proofs.Spares.{spares_kept, fits_still, node_inside, front_lies}
 use Rattle.cdf_leaves.proofs.SpotNode.{SpotNode, NotAt, spot_node, way_apart}

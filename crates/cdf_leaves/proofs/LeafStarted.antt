@@ -1,9 +1,7 @@
 -- The first leaf of an index: its node is taken, and the descriptor leads to it.
-use Rattle.std.proofs.Common.{◌≡◌, ◌≢◌, ℕ, ◌+◌, ◌^◌, ◌<◌, ◌≤◌, List, [], ◌∷◌, length, Bool, false, refl, sym, ap, subst, ◌∙◌, arith, inl, inr}
-use Rattle.cdf_leaves.proofs.Common.{if◌then◌else◌, bytes_eq, Kind, image_limit, touch, Touch, Changed, UnusedEntries, top_chain, last_node, Placed, StandsAmong, sound, typed, has, long, changed_then, changed_whole, Kept, apart, number, size_at, type_at, with_field, Nodes, no_node, node, no_entry, Leaf, link_to, SaysNode, vdr_vxr_head, vdr_vxr_tail, gdr_type, uir_type, vxr_type, vvr_type, VariableShape, Each, shape, NodeFits, AreTiles, Distinct, In, Good, type_kept, size_kept, linkable-in, linkable-from, some_place, tile_lies, Counts, LeafAdded, leaf_acts, MayName, entry, IndexStarted, Grew, grew, grew_then, stands, unlike, SameNode, same_node, FieldSet, field_set}
-use Rattle.cdf_edits.specs.Index.Grown.{with_leaf, new_room, with_block}
-use Rattle.cdf_format.specs.Index.{nodes_of, lower_nodes}
-use Rattle.cdf_format.specs.IndexOf.{HasNodes, Names}
+use Rattle.cdf_leaves.proofs.Common.{AreTiles, Bool, Changed, Counts, Distinct, Each, FieldSet, Good, Grew, In, IndexStarted, Kept, Kind, Leaf, LeafAdded, List, MayName, Names, NodeFits, Nodes, Placed, SameNode, SaysNode, StandsAmong, Touch, UnusedEntries, VariableShape, [], ap, apart, arith, bytes_eq, changed_then, changed_whole, entry, false, field_set, gdr_type, grew, grew_then, has, if◌then◌else◌, image_limit, inl, inr, last_node, leaf_acts, length, link_to, linkable-from, linkable-in, long, lower_nodes, new_room, no_entry, no_node, node, number, refl, same_node, shape, size_at, size_kept, some_place, sound, stands, subst, sym, tile_lies, top_chain, touch, type_at, type_kept, typed, uir_type, unlike, vdr_vxr_head, vdr_vxr_tail, vvr_type, vxr_type, with_block, with_field, with_leaf, ℕ, ◌+◌, ◌<◌, ◌^◌, ◌∙◌, ◌∷◌, ◌≡◌, ◌≢◌, ◌≤◌}
+use Rattle.cdf_format.specs.Index.{nodes_of}
+use Rattle.cdf_format.specs.IndexOf.{HasNodes}
 use Rattle.cdf_leaves.proofs.Grown.{was, was_new, new_node, names_leaf}
 use Rattle.cdf_leaves.proofs.Own.{no_type, vdr_kept, vdr_in, vdr_used}
 use Rattle.cdf_leaves.proofs.Spares.{spares_kept}

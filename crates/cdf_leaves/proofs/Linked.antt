@@ -1,7 +1,5 @@
 -- VXRnext of a node was written.
-use Rattle.std.proofs.Common.{◌≡◌, ℕ, ◌+◌, ◌≤◌, List, length, arith, inl, inr}
-use Rattle.cdf_leaves.proofs.Common.{with_field, size_at, room_at, used_count, vxr_vxr_next, StillSays, FieldSet, field_set}
-use Rattle.cdf_index.proofs.FieldSet.{counts, size_beside, room_beside, entries_beside}
+use Rattle.cdf_leaves.proofs.Common.{FieldSet, List, StillSays, arith, counts, entries_beside, field_set, inl, inr, length, room_at, room_beside, size_at, size_beside, used_count, vxr_vxr_next, with_field, ℕ, ◌+◌, ◌≡◌, ◌≤◌}
 use Rattle.cdf_leaves.proofs.Spares.{Spares}
 
 module _ (b now : List ℕ) (x at : ℕ) (lies : x + 28 ≤ length b) (is : now ≡ with_field b x vxr_vxr_next at) where

@@ -1,9 +1,6 @@
 -- The nodes of an index some of whose entries end later.
-use Rattle.std.proofs.Common.{◌≡◌, ℕ, zero, suc, List, [], ◌∷◌, ◌++◌, map, eqb, refl, sym, ap, ap₂, ◌∙◌, inl, inr}
-use Rattle.cdf_leaves.proofs.Common.{eqb-true, map-append, Nodes, no_node, node, Entries, no_entry, block, lower, Leaf, either, wider, widen_all}
-use Rattle.cdf_edits.proofs.Index.NodeEdited.{redo, redo_below}
-use Rattle.cdf_format.specs.Index.{nodes_of, lower_nodes, leaves_of, entry_leaves}
-use Rattle.cdf_index.specs.Way.{widened}
+use Rattle.cdf_leaves.proofs.Common.{Entries, Leaf, List, Nodes, [], ap, ap₂, block, either, entry_leaves, eqb, eqb-true, inl, inr, lower, lower_nodes, map, map-append, no_entry, no_node, node, redo, redo_below, refl, suc, sym, widen_all, widened, wider, zero, ℕ, ◌++◌, ◌∙◌, ◌∷◌, ◌≡◌}
+use Rattle.cdf_format.specs.Index.{nodes_of, leaves_of}
 
 -- ---- an entry that ends later
 

@@ -1,15 +1,11 @@
 -- The variable whose index gets a leaf, in the images in which records were taken.
-use Rattle.std.proofs.Common.{◌≡◌, ◌≢◌, ℕ, ◌<◌, arith, List, [], ◌∷◌, ◌++◌, false, eqb, refl, sym, ap, subst, ◌∙◌, inl, inr}
-use Rattle.cdf_edits.proofs.Common.{HasVariable, LeafFits, VariableFits, linkable-type, good_by_its_shape, block_in, Each-split, record_number_limit}
-use Rattle.cdf_leaves.proofs.Common.{Kind, R, Z, StandsAmong, tile, typed, has, Kept, apart, type_in, variables_chain, number, type_at, next_of, room_at, used_count, Begun, Spot, Leaf, nodes_of, leaves_of, vdr_vxr_head, gdr_type, uir_type, vxr_type, VariableShape, Each, shape, variables, NodeFits, In, Good, type_kept, linkable-in, good_is_sound, HasIndex, index_at, Grew, SameNode, same_node, SeesNode, each_in}
+use Rattle.cdf_leaves.proofs.Common.{Begun, Each, Each-split, Good, Grew, HasIndex, HasVariable, In, Kept, Kind, Leaf, LeafFits, List, NodeFits, R, SameNode, SeesNode, Spot, StandsAmong, VariableFits, VariableShape, Z, [], ap, apart, arith, block_in, each_in, eqb, false, first_at, fits, gdr_type, good_by_its_shape, good_is_sound, has, index_at, inl, inr, leaves_of, linkable-in, linkable-type, next_of, nodes_of, number, record_number_limit, refl, room_at, same_node, shape, subst, sym, tile, type_at, type_in, type_kept, typed, uir_type, used_count, variables, variables_chain, vdr_vxr_head, vxr_type, ℕ, ◌++◌, ◌<◌, ◌∙◌, ◌∷◌, ◌≡◌, ◌≢◌}
 use Rattle.cdf_format.proofs.GoodImageLemmas.{good_image}
 use Rattle.cdf_index.proofs.GoodIndex.{good_index}
 use Rattle.cdf_leaves.proofs.NodesMore.{places}
 use Rattle.cdf_leaves.proofs.Spares.{Spares, spares_kept}
 use Rattle.cdf_leaves.proofs.SpotNode.{nodes_linkable}
 pub use Rattle.cdf_index.proofs.OneVariable.{AmongAll, among_all}
-use Rattle.cdf_format.specs.Index.{first_at}
-use Rattle.cdf_edits.proofs.Edits.StandsAmong.{fits}
 use Rattle.cdf_index.specs.Order.{InOrder}
 
 pub record StillSees (now : List ℕ) (seen : Spot) (f : ℕ) : Type 0 where

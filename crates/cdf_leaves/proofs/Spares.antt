@@ -1,7 +1,5 @@
 -- Nodes that stay but for their used entries.
-use Rattle.std.proofs.Common.{◌≡◌, ℕ, ◌+◌, ◌*◌, ◌<◌, ◌≤◌, List, length, refl, sym, subst, ◌∙◌, inl, inr, arith}
-use Rattle.cdf_leaves.proofs.Common.{cases_eq, tiles_same, Kept, tile_lies, number, size_at, room_at, used_count, vxr_n_used_entries, NodeFits, AreTiles, In, NodeInside, StillSays, Widened, front_stays, heads_stay, others_stay, same_node}
-use Rattle.cdf_index.proofs.Inserting.{room_stays, used_stays}
+use Rattle.cdf_leaves.proofs.Common.{AreTiles, In, Kept, List, NodeFits, NodeInside, StillSays, Widened, arith, cases_eq, front_stays, heads_stay, inl, inr, length, number, others_stay, refl, room_at, room_stays, same_node, size_at, subst, sym, tile_lies, tiles_same, used_count, used_stays, vxr_n_used_entries, ℕ, ◌*◌, ◌+◌, ◌<◌, ◌∙◌, ◌≡◌, ◌≤◌}
 
 -- a node is as it was but for its used entries
 pub record Spares (mid now : List ℕ) (m : ℕ) : Type 0 where

@@ -1,13 +1,8 @@
 -- The node at the end of the way.
-use Rattle.std.proofs.Common.{◌≡◌, ◌≢◌, ℕ, zero, suc, ◌≤◌, List, [], ◌∷◌, ◌++◌, true, refl, sym, arith, inl, inr}
-use Rattle.cdf_leaves.proofs.Common.{room_of_new, is_linkable, Nodes, no_node, node, Entries, no_entry, block, lower, room_at, SaysNode, vxr_type, In, Distinct, In-append, Distinct-back, Leaf}
-use Rattle.cdf_edits.specs.Commands.Room.{widest, widest_below}
-use Rattle.cdf_format.specs.Index.{nodes_of, lower_nodes}
-use Rattle.cdf_format.specs.IndexOf.{HasNodes, Names}
-use Rattle.cdf_edits.specs.Index.Grown.{with_both}
-use Rattle.cdf_index.proofs.Coming.{Comes, comes_along, comes_below, comes_first, comes_here}
+use Rattle.cdf_leaves.proofs.Common.{Comes, Distinct, Distinct-back, Entries, In, In-append, Leaf, List, Names, Nodes, SaysNode, [], apart_by, arith, below_once, below_times, block, comes_along, comes_below, comes_first, comes_here, inl, inr, is_linkable, lower, lower_nodes, no_entry, no_node, node, refl, room_at, room_of_new, suc, sym, true, vxr_type, way_lies, widest, widest_below, with_both, zero, ℕ, ◌++◌, ◌∷◌, ◌≡◌, ◌≢◌, ◌≤◌}
+use Rattle.cdf_format.specs.Index.{nodes_of}
+use Rattle.cdf_format.specs.IndexOf.{HasNodes}
 use Rattle.cdf_index.proofs.Saying.{names_parts}
-use Rattle.cdf_index.proofs.WayDown.{apart_by, below_once, below_times, way_lies}
 
 -- a node is at the end of the way, and the new one has so much room
 pub record SpotNode (b ts : List ℕ) (f at new : ℕ) : Type 0 where

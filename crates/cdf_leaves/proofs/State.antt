@@ -1,8 +1,6 @@
 -- An index in the making: what holds of an image, from the one in which all records were taken.
-use Rattle.std.proofs.Common.{◌≡◌, ◌≢◌, ℕ, ◌+◌, ◌*◌, ◌<◌, ◌≤◌, List, [], ◌∷◌, ◌++◌, length, Bool, true, false, sym, subst, ◌∙◌, arith}
-use Rattle.cdf_leaves.proofs.Common.{changed_then, redo, Touch, touch, Changed, EntryIs, size_at, Nodes, nodes_of, leaves_of, room_at, used_count, HasNodes, Each, NodeFits, AreTiles, Distinct, In, Each-append, Counts, wider, widen_all, StillSays, Widened, heads_stay, WidenedAlong}
+use Rattle.cdf_leaves.proofs.Common.{AreTiles, Bool, Changed, Counts, Distinct, Each, Each-append, EntryIs, HasNodes, In, List, NodeFits, Nodes, StillSays, Touch, Widened, WidenedAlong, [], arith, changed_then, edited, false, heads_stay, leaves_of, length, nodes_of, redo, room_at, size_at, subst, sym, touch, true, used_count, widen_all, wider, ℕ, ◌*◌, ◌++◌, ◌+◌, ◌<◌, ◌∙◌, ◌∷◌, ◌≡◌, ◌≢◌, ◌≤◌}
 use Rattle.cdf_index.proofs.NodeWider.{wider_owed}
-use Rattle.cdf_index.proofs.TreeTouched.{edited}
 use Rattle.cdf_leaves.proofs.NodesMore.{places, nodes_wider}
 use Rattle.cdf_leaves.proofs.Spares.{Spares, fits_still, front_lies, node_inside, widened_one}
 

@@ -1,14 +1,10 @@
 -- The top chain of an index that gets a leaf, and its end in the bytes.
-use Rattle.std.proofs.Common.{◌≡◌, ◌≢◌, ◌⊎◌, ℕ, zero, suc, ◌≤◌, List, [], ◌∷◌, length, refl, sym, ap, subst, ◌∙◌, arith, inl, inr, Some}
-use Rattle.cdf_edits.proofs.Common.{unwrap_or, linkable-long}
-use Rattle.cdf_leaves.proofs.Common.{room_of_new, top_chain, last_node, next_of, Nodes, no_node, node, Entries, Leaf, link_to, IsNode, vxr_type, AreTiles, In, Distinct, linkable-in, some_place, In-append_right, Distinct-back, tile_lies, chain_end, ChainInside, eq-eqb, ne_eqb}
+use Rattle.cdf_leaves.proofs.Common.{AreTiles, ChainInside, Distinct, Distinct-back, Entries, In, In-append_right, IsNode, Leaf, List, Nodes, Some, [], ap, arith, chain_end, eq-eqb, inl, inr, last_node, length, link_to, linkable-in, linkable-long, lower_nodes, ne_eqb, new_room, next_of, no_node, node, refl, room_of_new, some_place, subst, suc, sym, tile_lies, top_chain, unwrap_or, vxr_type, way, with_entry, with_leaf, zero, ℕ, ◌∙◌, ◌∷◌, ◌≡◌, ◌≢◌, ◌≤◌, ◌⊎◌}
 use Rattle.std.specs.List.{last_or}
-use Rattle.cdf_edits.specs.Index.Grown.{with_leaf, new_room, with_entry}
-use Rattle.cdf_format.specs.Index.{nodes_of, lower_nodes}
+use Rattle.cdf_format.specs.Index.{nodes_of}
 use Rattle.cdf_format.specs.IndexOf.{HasNodes}
 use Rattle.cdf_format.proofs.Members.{length-le_from_distinct}
 use Rattle.cdf_format.proofs.TilesLemmas.{length_tiles}
-use Rattle.cdf_index.specs.Way.{way}
 use Rattle.cdf_index.proofs.Looking.{node_there}
 
 -- ---- in the tree

@@ -1,10 +1,5 @@
 -- A file into which parts of a new one are written stays between the old one and the new one.
-use Rattle.std.proofs.Common.{◌≡◌, ℕ, ◌+◌, ◌-◌, ◌≤◌, ◌<◌, max, List, ◌++◌, length, take, drop, slice_index, refl, sym, ◌∙◌, ap, subst, arith, inl, inr, append_assoc, append-nil, length-append}
-use Rattle.cdf_pages.proofs.Common.{cases_lt, length-take-le, get_or-take, take_at, drop_all, byte-put_before, byte-put_inside, byte-put_after, Disk, IsWhole, WrittenPart, cut, file_of, length-written, written, IsSome, Holds, HoldsBetween}
-use Rattle.std.proofs.lemmas.List.{get_or-append_right}
-use Rattle.cdf_base.specs.Bytes.{put}
-use Rattle.cdf_base.proofs.Puts.{take-put}
-use Rattle.cdf_pages.specs.Saving.{IsBetween}
+use Rattle.cdf_pages.proofs.Common.{Disk, Holds, HoldsBetween, IsBetween, IsSome, IsWhole, List, WrittenPart, ap, append-nil, append_assoc, arith, byte-put_after, byte-put_before, byte-put_inside, cases_lt, cut, drop, drop_all, file_of, get_or-append_right, get_or-take, inl, inr, length, length-append, length-take-le, length-written, max, put, refl, slice_index, subst, sym, take, take-put, take_at, written, ℕ, ◌++◌, ◌+◌, ◌-◌, ◌<◌, ◌∙◌, ◌≡◌, ◌≤◌}
 use Rattle.cdf_pages.proofs.Disks.{file_held, holds_cut, holds_first, holds_next}
 
 pub between_same : (old new : List ℕ) → IsBetween old new old

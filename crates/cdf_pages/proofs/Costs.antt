@@ -1,7 +1,5 @@
 -- What reading and writing pages one after another costs, and the clean pages that it leaves.
-use Rattle.std.proofs.Common.{◌≡◌, ◌∙◌, ◌⊎◌, ℕ, zero, suc, ◌+◌, ◌-◌, ◌*◌, ◌/◌, ◌%◌, ◌<◌, ◌≤◌, Bool, true, false, List, min, Option, Some, None, refl, sym, ap, subst, arith, inl, inr, nat_eq}
-use Rattle.cdf_pages.proofs.Common.{is_some, keys_of, cases_lt, RemovesSome, removed, TakesAtMost, is_in, Changes, ChangesSome, page_cost, pages_in, used}
-use Rattle.cdf_pages.specs.Standing.{IsPageOf, cost_of_reading, cost_of_writing, used_from, without_from}
+use Rattle.cdf_pages.proofs.Common.{Bool, Changes, ChangesSome, IsPageOf, List, None, Option, RemovesSome, Some, TakesAtMost, ap, arith, cases_lt, cost_of_reading, cost_of_writing, false, inl, inr, is_in, is_some, keys_of, min, nat_eq, page_cost, pages_in, refl, removed, subst, suc, sym, true, used, used_from, without_from, zero, ℕ, ◌%◌, ◌*◌, ◌+◌, ◌-◌, ◌/◌, ◌<◌, ◌∙◌, ◌≡◌, ◌≤◌, ◌⊎◌}
 use Rattle.cdf_pages.proofs.Keys.{keys-removed_from}
 
 -- ---- pages of a range

@@ -1,13 +1,7 @@
 -- What is kept of a page: old bytes that are put back over whatever was written.
-use Rattle.std.proofs.Common.{◌≡◌, ◌∙◌, ◌⊎◌, ℕ, ◌+◌, ◌-◌, ◌≤◌, ◌<◌, List, [], ◌∷◌, ◌++◌, length, take, drop, slice_index, Bool, Option, Some, None, refl, sym, ap, subst, arith, inl, inr}
-use Rattle.cdf_pages.proofs.Common.{Err, Ok, Result, is_some, if◌then◌else◌, put, byte-put_before, byte-put_inside, byte-put_after, cases_lt, length-take-le, length-drop, was}
-use Rattle.std.proofs.lemmas.List.{same_lists, get_or_default}
-use Rattle.std.proofs.lemmas.List.Elements.{All-head, All-push, All-tail}
-use Rattle.std.specs.Prelude.{OnErr, OnOk}
-use Rattle.cdf_base.proofs.Puts.{length-put, put_own}
-use Rattle.cdf_area.specs.OldBytes.{AllLieBelow, LiesBelow, Old, back}
+use Rattle.cdf_pages.proofs.Common.{All-head, All-push, All-tail, AllLieBelow, Bool, Covers, Err, LiesBelow, List, None, Ok, Old, OnErr, Option, Result, Some, [], ap, arith, back, byte-put_after, byte-put_before, byte-put_inside, cases_lt, drop, get_or_default, if◌then◌else◌, inl, inr, is_some, length, length-drop, length-put, length-take-le, put, put_own, refl, same_lists, slice_index, subst, sym, take, was, ℕ, ◌++◌, ◌+◌, ◌-◌, ◌<◌, ◌∙◌, ◌∷◌, ◌≡◌, ◌≤◌, ◌⊎◌}
+use Rattle.std.specs.Prelude.{OnOk}
 use Rattle.cdf_area.proofs.Backs.{back-push}
-use Rattle.cdf_pages.specs.Pages.{Covers}
 use Rattle.cdf_pages.proofs.Images.{same_or_not}
 
 pub length_back : (n : ℕ) (olds : List Old) (bytes : List ℕ) → AllLieBelow n olds → length bytes ≡ n → length (back olds bytes) ≡ n

@@ -1,8 +1,7 @@
 -- What writes and cuts leave of the disk.
-use Rattle.std.proofs.Common.{◌≡◌, ℕ, List, [], ◌∷◌, take, true, Option, refl, sym, ◌∙◌, ap, subst, eq-eqb, inl, inr}
-use Rattle.cdf_pages.proofs.Common.{cases_Bool, IsSome, IfSome, put, Disk, IsWhole, cut, file_in, file_of, written, Holds}
-use Rattle.std.specs.Prelude.{bytes_eq, Some, None}
-use Rattle.cdf_store.specs.Disk.{files_with}
+use Rattle.cdf_pages.proofs.Common.{Disk, Holds, IfSome, IsSome, IsWhole, List, Option, [], ap, bytes_eq, cases_Bool, cut, file_in, file_of, files_with, inl, inr, put, refl, subst, sym, take, true, written, ℕ, ◌∙◌, ◌∷◌, ◌≡◌}
+use Rattle.std.proofs.Common.{eq-eqb}
+use Rattle.std.specs.Prelude.{Some, None}
 use Rattle.cdf_store.specs.Named.{lookup, lookup_in, with_file}
 
 file_stays : (name bytes : List ℕ) (files : List (List ℕ × List ℕ)) → lookup name files ≡ Some bytes → with_file name bytes files ≡ files

@@ -1,11 +1,8 @@
 -- A part of a buffer is filled.
-use Rattle.std.proofs.Common.{◌≡◌, ◌∙◌, ℕ, ◌+◌, ◌-◌, ◌≤◌, ◌<◌, List, ◌++◌, length, take, drop, Option, Some, None, sym, ap, ap₂, subst, refl, ◌*◌, min, true, false, inl, inr, rules, arith}
-use Rattle.cdf_pages.proofs.Common.{is_some, cases_lt, length-take-le, Result, Ok, Err, ReadsAt, ReadsPiece, file_in, TakesAtMost}
+use Rattle.cdf_pages.proofs.Common.{Counts, Err, List, None, Ok, OnErr, Option, ReadsAt, ReadsPiece, Result, Some, TakesAtMost, ap, ap₂, arith, cases_lt, drop, false, file_in, inl, inr, is_some, length, length-take-le, min, refl, rules, subst, sym, take, take-append-le, true, ℕ, ◌*◌, ◌++◌, ◌+◌, ◌-◌, ◌<◌, ◌∙◌, ◌≡◌, ◌≤◌}
 use borrow.Rule.Slice.PartMut.{put_mid, post_of}
 use lib.Seq.{take-append-add, take-add}
-use Rattle.std.proofs.lemmas.List.{take-append-le}
-use Rattle.std.specs.Prelude.{OnErr, OnOk}
-use Rattle.cdf_store.specs.Reading.{Counts}
+use Rattle.std.specs.Prelude.{OnOk}
 
 pub filled : (out ys src : List ℕ) (done n k : ℕ) → done ≤ length out → n ≤ length ys → take done out ≡ take done src → take n ys ≡ take n (drop done src)
     → take (done + n) (put_mid done k out ys) ≡ take (done + n) src

@@ -1,15 +1,9 @@
 -- Pages become changed ones, one after another.
-use Rattle.std.proofs.Common.{◌≡◌, ◌∙◌, ◌⊎◌, ℕ, zero, suc, ◌+◌, ◌-◌, ◌/◌, ◌*◌, ◌<◌, slice_index, length, ◌≤◌, List, Option, Some, None, IsSome, refl, sym, ap, subst, arith, inl, inr, nat_eq, Bool, true, false, cond, [], ◌∷◌}
-use Rattle.cdf_pages.proofs.Common.{is_some, All, All-cons, cases_lt, remove_entry, lookup, keys_of, eqb-true, eq-eqb, LruCache, promoted, put_entries, Grown, Owned, RemovesSome, Backed, Shows, byte_of}
-use Rattle.std.proofs.lemmas.List.Elements.{All-head, All-tail}
-use Rattle.std.specs.List.{IsDistinct}
+use Rattle.cdf_pages.proofs.Common.{All, All-cons, All-head, All-tail, Backed, Bool, Contains-promoted, Contains-put_entries, Covers, Grown, IsDistinct, List, LruCache, None, Old, Option, Owned, RemovesSome, Shows, Some, [], ap, arith, byte_of, cases_lt, cond, eq-eqb, eqb-true, false, inl, inr, is_some, keys_of, length, lookup, nat_eq, part_from, part_upto, promoted, put_entries, refl, remove_entry, removed, slice_index, subst, suc, sym, true, zero, ℕ, ◌*◌, ◌+◌, ◌-◌, ◌/◌, ◌<◌, ◌∙◌, ◌∷◌, ◌≡◌, ◌≤◌, ◌⊎◌}
+use Rattle.std.proofs.Common.{IsSome}
 use Rattle.std.specs.Cmp.{nat_eq_equiv}
 use Rattle.std.proofs.lemmas.Map.{lookup-remove_entry}
 use Rattle.std.proofs.lemmas.Map.Views.{lookup-from_Contains, Contains-from_lookup}
-use Rattle.lru.proofs.CallerLemmas.{Contains-promoted, Contains-put_entries}
-use Rattle.cdf_area.specs.OldBytes.{Old}
-use Rattle.cdf_pages.specs.Grown.{removed}
-use Rattle.cdf_pages.specs.Pages.{Covers, part_from, part_upto}
 use Rattle.cdf_pages.proofs.Filling.{false_not_true}
 
 pub grown_refl : (file : List ℕ) (n : ℕ) (m : Option ℕ) (p : ℕ → Option (List ℕ)) (k : ℕ → Option (Option (List Old))) → Grown file n m p k p k

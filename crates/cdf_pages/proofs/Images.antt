@@ -1,12 +1,8 @@
 -- Images in pages.
-use Rattle.std.proofs.Common.{◌≡◌, ◌∙◌, ◌⊎◌, min, replicate, ℕ, zero, suc, ◌+◌, ◌-◌, ◌*◌, ◌/◌, ◌%◌, ◌<◌, ◌≤◌, List, [], ◌∷◌, ◌++◌, length, take, drop, get_or, slice_index, Option, Some, None, refl, sym, ap, ap₂, arith, inl, inr}
-use Rattle.cdf_pages.proofs.Common.{get_or-take, get_or-drop, length-drop, length-take-le, length-replicate, take_at, drop_all, cases_lt, byte-put_before, byte-put_inside, byte-put_after, is_some, byte_from, byte_of, Shows}
-use Rattle.std.proofs.lemmas.List.{same_lists, get_or_default, take-append-drop, append-nil, replicate-append-replicate}
-use Rattle.cdf_base.specs.Bytes.{put}
-use Rattle.cdf_base.proofs.Puts.{length-put, put_more}
+use Rattle.cdf_pages.proofs.Common.{List, None, Option, Shows, Some, [], ap, ap₂, arith, byte-put_after, byte-put_before, byte-put_inside, byte_from, byte_of, cases_lt, drop, drop_all, get_or, get_or-drop, get_or-take, get_or_default, image_of, inl, inr, is_some, length, length-drop, length-put, length-replicate, length-take-le, listed, min, put, put_more, refl, replicate, replicate-append-replicate, same_lists, slice_index, suc, sym, take, take-append-drop, take_at, zero, ℕ, ◌%◌, ◌*◌, ◌++◌, ◌+◌, ◌-◌, ◌/◌, ◌<◌, ◌∙◌, ◌∷◌, ◌≡◌, ◌≤◌, ◌⊎◌}
+use Rattle.std.proofs.lemmas.List.{append-nil}
 use lib.Seq.{take-add}
 use Rattle.cdf_pages.proofs.Filling.{false_not_true}
-use Rattle.cdf_pages.specs.Pages.{listed, image_of}
 
 pub length-listed : (f : ℕ → ℕ) (i n : ℕ) → length (listed f i n) ≡ n
 unfolding listed

@@ -1,14 +1,8 @@
 -- The numbers of the pages in a cache.
-use Rattle.std.proofs.Common.{◌≡◌, ◌∙◌, ℕ, zero, suc, ◌+◌, ◌-◌, ◌≤◌, true, false, cond, List, [], ◌∷◌, length, take, Option, Some, None, refl, sym, ap, arith, inl, inr, nat_eq, IsSome, slice_get}
-use Rattle.cdf_pages.proofs.Common.{is_some, option_map, keys_of, lookup, remove_entry, list_any, cases_Bool, eq-eqb, eqb-true, take_all, same_Some, LruCache, promoted, put_entries}
-use Rattle.std.specs.Option.{option_map_or}
-use Rattle.std.specs.Map.{lookup_entry}
+use Rattle.cdf_pages.proofs.Common.{Contains-lookup_entry, List, LruCache, None, Option, Some, [], ap, arith, cases_Bool, cond, eq-eqb, eqb-true, false, inl, inr, is_some, keys_of, length, list_any, lookup, lookup-lookup_entry, lookup_entry, nat_eq, option_map, option_map_or, promoted, put_entries, refl, remove_entry, removed, same_Some, slice_get, suc, sym, take, take_all, to_front, true, without, without_from, zero, ℕ, ◌+◌, ◌-◌, ◌∙◌, ◌∷◌, ◌≡◌, ◌≤◌}
+use Rattle.std.proofs.Common.{IsSome}
 use Rattle.std.proofs.lemmas.Map.Made.{is_some-lookup}
 use Rattle.std.proofs.lemmas.Map.Entries.{length-keys_of}
-use Rattle.lru.proofs.CallerLemmas.{Contains-lookup_entry}
-use Rattle.lru.proofs.Pairs.{lookup-lookup_entry}
-use Rattle.cdf_pages.specs.Grown.{removed}
-use Rattle.cdf_pages.specs.Standing.{without, without_from, to_front}
 
 pub keys-removed : {X : Type 0} (k : ℕ) (es : List (ℕ × X)) → keys_of (remove_entry (nat_eq k) es) ≡ without k (keys_of es)
 keys-removed k [] = refl

@@ -1,9 +1,7 @@
 -- What a save leaves of an area.
-use Rattle.std.proofs.Common.{◌≡◌, ◌∙◌, ℕ, ◌+◌, ◌*◌, ◌/◌, ◌≤◌, ◌<◌, ◌++◌, max, Bool, true, false, not, List, [], length, get_or, slice_index, Option, Some, None, Ok, Err, OnOk, Result, refl, sym, ap, subst, arith, append-nil, length-append}
-use Rattle.cdf_pages.proofs.Common.{IsSome, IsErrOf, option_map, eqb-true, take_all, Fault, NoMemory, Disk, IsWhole, file_of, AllShow, Backed, byte_from, byte_of, image_of, is_in, HasNothingToSave, Holds, IsSavedAlready}
-use Rattle.std.specs.Prelude.{◌||◌, ◌==◌}
+use Rattle.cdf_pages.proofs.Common.{AllShow, Backed, Bool, Disk, Fault, HasNothingToSave, Holds, IsErrOf, IsSavedAlready, IsSome, IsWhole, List, NoMemory, None, OnOk, Option, Some, [], ap, append-nil, arith, byte_from, byte_of, eqb-true, false, file_of, get_or, image_of, is_edited, is_in, length, length-append, max, most_of, option_map, refl, slice_index, subst, sym, take_all, true, ℕ, ◌*◌, ◌++◌, ◌+◌, ◌/◌, ◌<◌, ◌==◌, ◌||◌, ◌∙◌, ◌≡◌, ◌≤◌}
+use Rattle.std.proofs.Common.{not, Ok, Err, Result}
 use Rattle.cdf_area.specs.declared.area.AreaError.{AreaError}
-use Rattle.cdf_pages.specs.Saving.{is_edited, most_of}
 use Rattle.cdf_pages.proofs.Disks.{file_held, holds_first}
 use Rattle.cdf_pages.proofs.Filling.{none_is}
 use Rattle.cdf_pages.proofs.Images.{byte-image, image_file}

@@ -1,7 +1,5 @@
 -- A page is written to the file.
-use Rattle.std.proofs.Common.{◌≡◌, ◌∙◌, min, ℕ, ◌+◌, ◌-◌, ◌*◌, ◌/◌, ◌%◌, ◌<◌, ◌≤◌, max, ◌++◌, List, length, take, slice_index, Option, Some, None, refl, sym, ap, arith, inl, inr}
-use Rattle.std.proofs.Common.{length-append}
-use Rattle.cdf_pages.proofs.Common.{get_or-take, get_or_append_left, length-take-le, take_at, cases_Bool, cases_lt, IsSome, IsTrue, is_some, put, byte-put_before, byte-put_inside, byte-put_after, Disk, WrittenPart, file_of, length-written, written, Backed, byte_from, image_of, is_in}
+use Rattle.cdf_pages.proofs.Common.{Backed, Disk, IsSome, IsTrue, List, None, Option, Some, WrittenPart, ap, arith, byte-put_after, byte-put_before, byte-put_inside, byte_from, cases_Bool, cases_lt, file_of, get_or-take, get_or_append_left, image_of, inl, inr, is_in, is_some, length, length-append, length-take-le, length-written, max, min, put, refl, slice_index, sym, take, take_at, written, ℕ, ◌%◌, ◌*◌, ◌++◌, ◌+◌, ◌-◌, ◌/◌, ◌<◌, ◌∙◌, ◌≡◌, ◌≤◌}
 use Rattle.cdf_pages.proofs.Filling.{false_not_true, none_is}
 use Rattle.cdf_pages.proofs.Images.{at_page, byte-image, image_file, image_same, length-image, same_or_not}
 

@@ -1,7 +1,5 @@
 -- A changed page is compared to the file.
-use Rattle.std.proofs.Common.{◌≡◌, ◌∙◌, ◌⊎◌, ℕ, suc, ◌+◌, ◌-◌, ◌*◌, ◌/◌, ◌%◌, ◌<◌, ◌≤◌, true, false, min, List, [], ◌∷◌, length, take, drop, slice_index, Option, Some, None, refl, sym, ap, subst, arith, inl, inr, nat_eq}
-use Rattle.cdf_pages.proofs.Common.{IfSome, IsSome, IsTrue, Ok, Err, if◌then◌else◌, not, is_some, Result, cases_Bool, cases_lt, eq-eqb, eqb-true, get_or-take, get_or-drop, take_all, Backed, Shows, TakesAtMost, byte_from, image_of, is_in, Differs, cost_of_writing, page_cost, pages_in}
-use Rattle.std.specs.Prelude.{IfNone, IfOk}
+use Rattle.cdf_pages.proofs.Common.{Backed, Differs, Err, IfNone, IfOk, IfSome, IsSome, IsTrue, List, None, Ok, Option, Result, Shows, Some, TakesAtMost, [], ap, arith, byte_from, cases_Bool, cases_lt, cost_of_writing, drop, eq-eqb, eqb-true, false, get_or-drop, get_or-take, if◌then◌else◌, image_of, inl, inr, is_in, is_some, length, min, nat_eq, not, page_cost, pages_in, refl, slice_index, subst, suc, sym, take, take_all, true, ℕ, ◌%◌, ◌*◌, ◌+◌, ◌-◌, ◌/◌, ◌<◌, ◌∙◌, ◌∷◌, ◌≡◌, ◌≤◌, ◌⊎◌}
 use Rattle.std.specs.Cmp.Lexicographic.{pointwise}
 use Rattle.cdf_pages.proofs.Costs.{takes_then, write_cost_grows, write_cost_next}
 use Rattle.cdf_pages.proofs.Filling.{false_not_true, takes_less}

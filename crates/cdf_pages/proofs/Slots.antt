@@ -1,10 +1,7 @@
 -- Changed pages in places of their own: one that is put in, one that goes, places more.
-use Rattle.std.proofs.Common.{◌≡◌, ◌≢◌, ◌∙◌, ℕ, zero, suc, ◌+◌, ◌<◌, ◌≤◌, ◌++◌, List, [], ◌∷◌, Option, Some, None, length, take, refl, ap, arith}
-use Rattle.cdf_pages.proofs.Common.{IsSome, if◌then◌else◌, is_some}
-use Rattle.std.specs.Prelude.{get_or, slice_set}
-use Rattle.std.proofs.lemmas.List.{get_or-set_other, get_or-set_same, get_or_past}
+use Rattle.cdf_pages.proofs.Common.{IsSome, List, None, Option, Some, [], ap, arith, get_or-set_other, get_or-set_same, get_or_past, if◌then◌else◌, is_some, length, page_at, pages_held, refl, slice_set, suc, take, zero, ℕ, ◌++◌, ◌+◌, ◌<◌, ◌∙◌, ◌∷◌, ◌≡◌, ◌≢◌, ◌≤◌}
+use Rattle.std.specs.Prelude.{get_or}
 use Rattle.cdf_pages.proofs.Filling.{false_not_true}
-use Rattle.cdf_pages.specs.Table.{page_at, pages_held}
 
 pub no_pages : (n : ℕ) → page_at [] n ≡ None
 unfolding page_at

@@ -1,7 +1,5 @@
 -- Ranges that writes add to the written ones.
-use Rattle.std.proofs.Common.{◌≡◌, ◌∙◌, ℕ, ◌≤◌, List, [], ◌∷◌, ◌++◌, length, take, Option, Some, None, refl, sym, ap, subst, inl, inr, append_assoc, append-nil}
-use Rattle.cdf_pages.proofs.Common.{option_map, length-take-le, All-cons, Disk, WrittenPart, written, Touches}
-use Rattle.std.proofs.lemmas.List.Elements.{All-append, All-nil, All-weaker}
+use Rattle.cdf_pages.proofs.Common.{All-append, All-cons, All-nil, All-weaker, Disk, List, None, Option, Some, Touches, WrittenPart, [], ap, append-nil, append_assoc, inl, inr, length, length-take-le, option_map, refl, subst, sym, take, written, ℕ, ◌++◌, ◌∙◌, ◌∷◌, ◌≡◌, ◌≤◌}
 
 pub touches_none : (P : ℕ × ℕ → Type 0) (before after : Option (List (ℕ × ℕ))) → after ≡ before → Touches P before after
 touches_none P before after e = record { ranges = []; all = All-nil P; added = e ∙ same before }

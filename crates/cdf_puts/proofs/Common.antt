@@ -1,7 +1,7 @@
 -- The names that most proofs of this crate cite, passed on from one place. Declares nothing.
 pub use Rattle.cdf_area.proofs.Calls.{edit_done, edit_failed, edit_more, edit_without_memory, edits_by_read, keeps_by_read, read_more, read_once}
 pub use Rattle.cdf_area.specs.Frame.{Frame}
-pub use Rattle.cdf_base.specs.Bytes.{put}
+unfoldable pub use Rattle.cdf_base.specs.Bytes.{put}
 pub use Rattle.cdf_edits.proofs.Commands.KeptRecords.{Stood, keep_attributes, keep_variables, keeps_stood}
 pub use Rattle.cdf_edits.proofs.Edits.ActsJoined.{ListedStay, acts_joined, listed_before}
 pub use Rattle.cdf_edits.proofs.Edits.Composing.{changed_edit, edit_then, head_size, head_type, same-then}
@@ -34,13 +34,17 @@ pub use Rattle.cdf_edits.proofs.Space.UsedRecords.{apart, filter-says}
 pub use Rattle.cdf_edits.specs.Commands.Allowances.{AllKeep, Allowance, Allowances, Anything, Keeps, Only, OutsideFields, Stays, anything_if, is_taken, only_of, r_max_rec_field, range_at, same_kind, shapes_of, space_fields, stays_all, unused_allowance, vdr_type}
 pub use Rattle.cdf_edits.specs.Commands.GreatestRecord.{RMaxRecFollows, greatest_r_max_rec, r_extents, r_max_rec}
 pub use Rattle.cdf_edits.specs.Commands.Puts.{CutsFirst, HoldsPads, PutsBytes, PutsIndex, PutsLeaves, PutsRecord, StaysUnwritten, TakesNode, UnwrittenStay, is_changed, is_written, max_rec_touches, new_ranges, put_changes, stays_in_place, stored_in, was_leaf, written_in}
-pub use Rattle.cdf_edits.specs.Commands.Room.{blocks_room, is_rewritten, packed_room, put_room, quotient_up, room, room_of_variable, uncovered, widest}
+pub use Rattle.cdf_edits.specs.Commands.Room.{blocks_room, is_rewritten, packed_room, put_room, quotient_up, room, room_of_variable, uncovered}
+unfoldable pub use Rattle.cdf_edits.specs.Commands.Room.{entries_below, entries_in, widest, widest_below}
 pub use Rattle.cdf_edits.specs.Edits.Edit.{Edit}
 pub use Rattle.cdf_edits.specs.Edits.Marks.{Avoids, Covered, Mark, Marked, avoided, index_types, keeps_file, unmarked, variable_types}
 pub use Rattle.cdf_edits.specs.Frame.Changed.{Changed, Misses, Outside, Touch, touch, touched_field}
-pub use Rattle.cdf_edits.specs.Index.Blocks.{Range, block_count, covered, covers, cut_open, cuts_before_put, first_written, firsts_of, is_sparse, new_range, next_first, range, ranges_after_put, ranges_before_put, ranges_of, record_length, shared, with_range}
-pub use Rattle.cdf_edits.specs.Index.Grown.{chain_reaches, entries_outline, indexes_with, leads_down, new_room, outline, past, reaches, upto, with_block, with_both, with_entry, with_leaf, with_ranges}
-pub use Rattle.cdf_edits.specs.Index.Written.{BlockFollows, EntryIs, NodeSpareStays, NodesFollow, ReservedIs, SpareIs, TailFollows, UnusedEntries, block_end, block_need, is_taken_at, last_node, stored_bytes, top_chain, top_stays, uses_entry, was_unused}
+pub use Rattle.cdf_edits.specs.Index.Blocks.{Range, block_count, covered, covers, cut_open, cuts_before_put, first_written, is_sparse, new_range, next_first, range, ranges_after_put, ranges_before_put, ranges_of, record_length, shared, with_range}
+unfoldable pub use Rattle.cdf_edits.specs.Index.Blocks.{cover, entry_firsts, firsts_of}
+pub use Rattle.cdf_edits.specs.Index.Grown.{chain_reaches, entries_outline, leads_down, new_room, past, reaches, upto, with_block, with_both, with_entry, with_ranges}
+unfoldable pub use Rattle.cdf_edits.specs.Index.Grown.{indexes_with, outline, with_leaf, with_lower}
+pub use Rattle.cdf_edits.specs.Index.Written.{BlockFollows, EntryIs, NodeSpareStays, NodesFollow, ReservedIs, SpareIs, TailFollows, UnusedEntries, block_end, block_need, is_taken_at, last_node, stored_bytes, top_chain, top_stays, was_unused}
+unfoldable pub use Rattle.cdf_edits.specs.Index.Written.{uses_entry, uses_entry_below}
 pub use Rattle.cdf_edits.specs.Space.Acts.{Act, ActsFollow, AreActs, Gave, SpaceLeft, Took, after_act, space_before, taken}
 pub use Rattle.cdf_edits.specs.Space.Chains.{type_in}
 pub use Rattle.cdf_edits.specs.Space.Placing.{IsBody, type_of_body}
@@ -59,7 +63,10 @@ pub use Rattle.cdf_format.specs.Bytes.{Same, byte}
 pub use Rattle.cdf_format.specs.Chains.{IsChain, is_a, is_in}
 pub use Rattle.cdf_format.specs.Content.{content, plain_bytes, records_in, variable_of}
 pub use Rattle.cdf_format.specs.Fields.{eof, gdr_offset, holds, integer4, number, size_at, type_at, with_sign, word}
-pub use Rattle.cdf_format.specs.Index.{Entries, Leaf, Nodes, block, entry_count, first_at, last_at, leaf, leaves_of, lower, no_entry, no_node, node, nodes_of, offset_at, room_at, used_count}
+pub use Rattle.cdf_format.specs.Index.{Entries, Leaf, Nodes, block, entry_count, first_at, last_at, leaf, leaves_of, lower, no_entry, no_node, node, offset_at, room_at, used_count}
+unfoldable pub use Rattle.cdf_format.specs.Index.{lower_nodes, nodes_of}
+pub use Rattle.cdf_format.specs.IndexOf.{SaysEntry}
+unfoldable pub use Rattle.cdf_format.specs.IndexOf.{HasNodes, Names}
 pub use Rattle.cdf_format.specs.NotRead.{read_types, unread_sparse}
 pub use Rattle.cdf_format.specs.Owners.{OneVariable, Unused, attribute_records, owned, times, unused_records, variable_records}
 pub use Rattle.cdf_format.specs.RecordTypes.{cdr_type, cvvr_type, fixed_size, gdr_type, is_record_type, uir_type, vvr_type, vxr_type}
@@ -73,6 +80,7 @@ pub use Rattle.cdf_format.specs.VariableFields.{max_rec_at, number_before, plain
 pub use Rattle.cdf_format.specs.VariableRules.{cpr_link, cpr_rows, is_max_rec}
 pub use Rattle.cdf_format.specs.WellFormed.{Good}
 pub use Rattle.cdf_index.proofs.ByLeaf.{Grows, by_leaf, in_nodes_with_leaf, node_stays, nodes_with_leaf, weight_grows}
+unfoldable pub use Rattle.cdf_index.proofs.ByLeaf.{weigh, weigh_below}
 pub use Rattle.cdf_index.proofs.LeafMore.{leaves_more, ranges_new}
 pub use Rattle.cdf_index.proofs.LeafRules.{before_limit, index_order, index_rules_with_leaf, order_with_leaf}
 pub use Rattle.cdf_index.proofs.NewIndex.{Exchanged, IndexTests, NewIndex, index_marks, index_unmarked, max_rec_kept, node_room, vdr_no_node, vdr_of_variable}

@@ -1,5 +1,5 @@
 -- All records are put: the index, what was taken for it and the bytes of the blocks are as the command says, and what is stored as each record. The image follows the command.
-use Rattle.cdf_puts.proofs.Common.{find, eq-eqb, ◌&&◌, Outside-append, cases_lt, ne_eqb, option_map, min, if◌then◌else◌, Kind, Sparse, Variable, extent, record_number_limit, range, covers, first_written, is_sparse, stored_bytes, Act, IsOneOf, find_covering, covers_within, place_in, record_place, plain_piece, PlainLeaf, plain_leaf, leaves_ascend, block_behind, sound, behind_in, Same, variable_of, size_at, Leaf, leaves_of, VariableShape, shape, record_bytes, max_rec_at, piece_kept, MaxRecDone, SoFar, OldBlock, NewBlock, record_of, put_from, put_count, filter, list_any, nat_lt, PutsLeaves, ranges_of, cuts_before_put, is_taken_at, top_chain, last_node, node_behind, fits, Each-in, number, vdr_vxr_tail, NodeFits, In, bytes_eq-same, same_of_bytes_eq, length-take, drop-drop, ◌==◌, turned, pad_record, r_max_rec_field, max_rec_touches, uncovered, put_room, blocks_room, packed_room, Touch, Outside, Changed, space_before, each_of, count_is, plain_bytes, vdr_max_rec, is_little, records_of_leaf, type_of_variable, either, both, put_touches, taken_bytes, GoesOn, is_rewritten, In-append, places_of, is_in, other_kind, true-is_in, eqb-true, uir_type, false-is_in, ◌≡◌, ◌≢◌, ◌⊎◌, ℕ, suc, ◌+◌, ◌-◌, ◌*◌, ◌<◌, ◌≤◌, List, length, take, drop, false, Some, None, refl, sym, ap, subst, ◌∙◌, arith, inl, inr, [], ◌∷◌, ◌++◌, append-nil, Bool, true, bytes_eq, zero, map, true≢false, take-append-drop, leaf_at, unwritten_apart, written_fits, transport, type_at, nat_tests, anything_if, Allowances, Keeps, AllKeep, unused_allowance, is_taken, shapes_of, Only, OneVariable, variable_records, unused_records, owned, Unused, keep_all, keep_file, keep_places, keep_kinds, keep_variable_parts, keep_attributes, keep_variables, keeps_stood, filter-says, unused_in, CutsFirst, PutsIndex, is_written, PutsBytes, StaysUnwritten, UnwrittenStay, HoldsPads, is_changed, was_leaf, written_in, stays_in_place, stored_in, put_changes, top_stays, TailFollows, block_end, SpareIs, ReservedIs, BlockFollows, nodes_of, repeat, touched_field, cut_open, ranges_before_put, changed_then, eq_of, times_le, same_Some, DataSet, Found, with_record, with_variable, content, Nodes, Option, slice_get, variable_named, stays_all, PutsRecord, room, room_of_variable, drop_all}
+use Rattle.cdf_puts.proofs.Common.{Act, AllKeep, Allowances, BlockFollows, Bool, Changed, CutsFirst, DataSet, Each-in, Found, GoesOn, HoldsPads, In, In-append, IsOneOf, Keeps, Kind, Leaf, List, MaxRecDone, NewBlock, NodeFits, Nodes, None, OldBlock, OneVariable, Only, Option, Outside, Outside-append, PlainLeaf, PutsBytes, PutsIndex, PutsLeaves, PutsRecord, ReservedIs, Same, SoFar, Some, SpareIs, Sparse, StaysUnwritten, TailFollows, Touch, Unused, UnwrittenStay, Variable, VariableShape, [], anything_if, ap, append-nil, arith, behind_in, block_behind, block_end, blocks_room, both, bytes_eq, bytes_eq-same, cases_lt, changed_then, content, count_is, covers, covers_within, cut_open, cuts_before_put, drop, drop-drop, drop_all, each_of, either, eq-eqb, eq_of, eqb-true, extent, false, false-is_in, filter, filter-says, find, find_covering, first_written, fits, if◌then◌else◌, inl, inr, is_changed, is_in, is_little, is_rewritten, is_sparse, is_taken, is_taken_at, is_written, keep_all, keep_attributes, keep_file, keep_kinds, keep_places, keep_variable_parts, keep_variables, keeps_stood, last_node, leaf_at, leaves_ascend, leaves_of, length, length-take, list_any, map, max_rec_at, max_rec_touches, min, nat_lt, nat_tests, ne_eqb, node_behind, nodes_of, number, option_map, other_kind, owned, packed_room, pad_record, piece_kept, place_in, places_of, plain_bytes, plain_leaf, plain_piece, put_changes, put_count, put_from, put_room, put_touches, r_max_rec_field, range, ranges_before_put, ranges_of, record_bytes, record_number_limit, record_of, record_place, records_of_leaf, refl, repeat, room, room_of_variable, same_Some, same_of_bytes_eq, shape, shapes_of, size_at, slice_get, sound, space_before, stays_all, stays_in_place, stored_bytes, stored_in, subst, suc, sym, take, take-append-drop, taken_bytes, times_le, top_chain, top_stays, touched_field, transport, true, true-is_in, true≢false, turned, type_at, type_of_variable, uir_type, uncovered, unused_allowance, unused_in, unused_records, unwritten_apart, variable_named, variable_of, variable_records, vdr_max_rec, vdr_vxr_tail, was_leaf, with_record, with_variable, written_fits, written_in, zero, ℕ, ◌&&◌, ◌*◌, ◌++◌, ◌+◌, ◌-◌, ◌<◌, ◌==◌, ◌∙◌, ◌∷◌, ◌≡◌, ◌≢◌, ◌≤◌, ◌⊎◌}
 use Rattle.cdf_edits.proofs.Edits.LeafPieces.{found_in}
 use Rattle.cdf_puts.specs.Going.{found_in as own_found}
 use Rattle.cdf_puts.proofs.PutRules.{no_cpr}

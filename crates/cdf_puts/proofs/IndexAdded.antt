@@ -1,5 +1,5 @@
 -- A leaf is added while records are put: the blocks of the variable, which leaves were put by then, which ranges are new, the top chain and the nodes.
-use Rattle.cdf_puts.proofs.Common.{find, ◌||◌, length-append, cases_lt, lt-ltb, same_Some, min, extent, record_number_limit, Kind, range, covers, first_written, firsts_of, new_range, with_leaf, new_room, is_taken_at, Act, IsOneOf, find_covering, place_in, plain_piece, count_is, own_rules, leaves_ascend, block_behind, StandsAmong, sound, behind_in, apart, Same, variable_of, plain_bytes, size_at, Leaf, leaf, leaves_of, uir_type, vvr_type, VariableShape, shape, In, max_rec_at, record_bytes, Good, tile_lies, LeafAdded, leaf_acts, InOrder, BlockRecords, SoFar, BlocksSoFar, OldBlock, NewBlock, IsVacant, IsBlockBody, index_order, before_limit, vdr_alike, record_alike, map-append, filter, list_any, unwrap_or, if◌then◌else◌, new_ranges, Range, ranges_of, with_ranges, indexes_with, outline, block_need, uses_entry, NodesFollow, top_chain, last_node, in_order, Ascending, has, number, nodes_of, vdr_vxr_tail, records_of_leaf, either, bytes_eq-same, NodeTaken, with_new, leaves_more, IndexSoFar, NodesSoFar, PutsBefore, was_put, ◌≡◌, ◌⊎◌, ℕ, zero, suc, ◌+◌, ◌-◌, ◌*◌, ◌<◌, ◌≤◌, List, [], ◌∷◌, ◌++◌, length, take, drop, Bool, true, false, Some, None, refl, sym, ap, subst, ◌∙◌, arith, inl, inr, map, not, bytes_eq, nat_tests, of_each, last_or, TopGrows, taken_places}
+use Rattle.cdf_puts.proofs.Common.{Act, Ascending, BlockRecords, BlocksSoFar, Bool, Good, In, InOrder, IndexSoFar, IsBlockBody, IsOneOf, IsVacant, Kind, Leaf, LeafAdded, List, NewBlock, NodeTaken, NodesFollow, NodesSoFar, None, OldBlock, PutsBefore, Range, Same, SoFar, Some, StandsAmong, TopGrows, VariableShape, [], ap, apart, arith, before_limit, behind_in, block_behind, block_need, bytes_eq, bytes_eq-same, cases_lt, count_is, covers, drop, either, extent, false, filter, find, find_covering, first_written, firsts_of, has, if◌then◌else◌, in_order, index_order, indexes_with, inl, inr, is_taken_at, last_node, last_or, leaf, leaf_acts, leaves_ascend, leaves_more, leaves_of, length, length-append, list_any, lt-ltb, map, map-append, max_rec_at, min, nat_tests, new_range, new_ranges, new_room, nodes_of, not, number, of_each, outline, own_rules, place_in, plain_bytes, plain_piece, range, ranges_of, record_alike, record_bytes, record_number_limit, records_of_leaf, refl, same_Some, shape, size_at, sound, subst, suc, sym, take, taken_places, tile_lies, top_chain, true, uir_type, unwrap_or, uses_entry, variable_of, vdr_alike, vdr_vxr_tail, vvr_type, was_put, with_leaf, with_new, with_ranges, zero, ℕ, ◌*◌, ◌++◌, ◌+◌, ◌-◌, ◌<◌, ◌||◌, ◌∙◌, ◌∷◌, ◌≡◌, ◌≤◌, ◌⊎◌}
 use Rattle.cdf_puts.proofs.CoveringRanges.{one_alone, of_leaves}
 use Rattle.cdf_puts.proofs.LeafCounts.{leaf_is_there, leaf_was_there}
 use Rattle.cdf_puts.proofs.LeafEdit.{block_taken, file, new_index, used_apart, node_in, node_taken, nodes_step}

@@ -1,5 +1,5 @@
 -- A record is written in a block: the record holds its bytes, no other byte changes, and the index stays; of the leaves that were put the one of the record is the last by then.
-use Rattle.cdf_puts.proofs.Common.{cases_eq, cases_lt, same_Some, extent, record_number_limit, Kind, Outside, range, covers, first_written, Act, IsOneOf, covers_within, place_in, record_place, leaves_ascend, leaves_apart, byte, Same, variable_of, size_at, Leaf, leaves_of, VariableShape, max_rec_at, record_bytes, byte-put_before, byte-put_after, SoFar, BlocksSoFar, OldBlock, NewBlock, record_of, put_touches, RecordsWritten, filter, places_of, fits, tile, long, no_block, Kept, Each-in, number, nodes_of, vdr_vxr_tail, NodeFits, In, word_kept, size_kept, either, IndexSoFar, NodesSoFar, PutsBefore, was_put, ◌≡◌, ◌≢◌, ◌⊎◌, ℕ, suc, ◌+◌, ◌<◌, ◌≤◌, List, [], ◌∷◌, ◌++◌, length, take, drop, sym, ap, subst, ◌∙◌, arith, inl, inr, one_place, find_first, put, w32, Outside-append, cast_signed, Variable, image_limit, type_at, vdr_max_rec, gdr_r_max_rec, gdr_type, vvr_type, Shape, HasShape, shape, is_max_rec, Good, tile_lies, r_max_rec, max_rec_touches, Touch, Changed, PlainLeaf, own_rules, plain_leaf, WritesRecords, file, good_now, gdr_in, gdr_typed, gdr_long, block_behind, StandsAmong, sound, behind_in, changed_part, apart, ◌-◌, ◌*◌, refl, gdr_offset, integer4, length-put, touch, node_kept, block_kept}
+use Rattle.cdf_puts.proofs.Common.{Act, BlocksSoFar, Changed, Each-in, Good, HasShape, In, IndexSoFar, IsOneOf, Kept, Kind, Leaf, List, NewBlock, NodeFits, NodesSoFar, OldBlock, Outside, Outside-append, PlainLeaf, PutsBefore, RecordsWritten, Same, Shape, SoFar, StandsAmong, Touch, Variable, VariableShape, WritesRecords, [], ap, apart, arith, behind_in, block_behind, block_kept, byte, byte-put_after, byte-put_before, cases_eq, cases_lt, cast_signed, changed_part, covers, covers_within, drop, either, extent, file, filter, find_first, first_written, fits, gdr_in, gdr_long, gdr_offset, gdr_r_max_rec, gdr_type, gdr_typed, good_now, image_limit, inl, inr, integer4, is_max_rec, leaves_apart, leaves_ascend, leaves_of, length, length-put, long, max_rec_at, max_rec_touches, no_block, node_kept, nodes_of, number, one_place, own_rules, place_in, places_of, plain_leaf, put, put_touches, r_max_rec, range, record_bytes, record_number_limit, record_of, record_place, refl, same_Some, shape, size_at, size_kept, sound, subst, suc, sym, take, tile, tile_lies, touch, type_at, variable_of, vdr_max_rec, vdr_vxr_tail, vvr_type, w32, was_put, word_kept, ℕ, ◌*◌, ◌++◌, ◌+◌, ◌-◌, ◌<◌, ◌∙◌, ◌∷◌, ◌≡◌, ◌≢◌, ◌≤◌, ◌⊎◌}
 use Rattle.cdf_edits.proofs.Edits.LeafPieces.{found_in}
 use Rattle.cdf_puts.proofs.PutBytes.{starts_before, ends_behind, grows_by, BlockWritten, old_written, size_now, now_plain, old_plain, inside_now, inside_old, old_goes_on, new_goes_on, put_there, beside_one, record_fits}
 use Rattle.cdf_puts.proofs.SoFarStarts.{put_next, puts_old}

@@ -1,5 +1,5 @@
 -- The last step of a put: MaxRec is raised, or nothing is done; and what the variable means by then: it has the record, in blocks that may be others, and pads before it where there were none.
-use Rattle.cdf_puts.proofs.Common.{Kind, extent, last_number, greater, turned, pad_record, option_map, stored_bytes, with_record, with_variable, content, variable_of, is_little, type_of_variable, record_bytes, leaves_of, leaves_ascend, max_rec_touches, Changed, Act, Took, Gave, index_records, sound, behind_in, Kept, number, with_sign, vdr_vxr_tail, VariableShape, Each, shape, In, max_rec_at, tile_lies, RMaxRecFollows, SoFar, MaxRecDone, MaxRecRaised, IsTaking, OnlyTakes, GoesOn, Good, StandsAmong, found_in, ◌≡◌, ◌≢◌, ℕ, ℤ, pos, negsuc, suc, ◌+◌, ◌<◌, ◌≤◌, List, [], ◌∷◌, Some, append-nil, length, refl, sym, ap, subst, ◌∙◌, arith, inl, inr, r_max_rec_of_z, type_alike, stays_alike, records_in, filled}
+use Rattle.cdf_puts.proofs.Common.{Act, Changed, Each, Gave, GoesOn, Good, In, IsTaking, Kept, Kind, List, MaxRecDone, MaxRecRaised, OnlyTakes, RMaxRecFollows, SoFar, Some, StandsAmong, Took, VariableShape, [], ap, append-nil, arith, behind_in, content, extent, filled, found_in, greater, index_records, inl, inr, is_little, last_number, leaves_ascend, leaves_of, length, max_rec_at, max_rec_touches, negsuc, number, option_map, pad_record, pos, r_max_rec_of_z, record_bytes, records_in, refl, shape, sound, stays_alike, stored_bytes, subst, suc, sym, tile_lies, turned, type_alike, type_of_variable, variable_of, vdr_vxr_tail, with_record, with_sign, with_variable, ℕ, ℤ, ◌+◌, ◌<◌, ◌∙◌, ◌∷◌, ◌≡◌, ◌≢◌, ◌≤◌}
 use Rattle.cdf_puts.proofs.RaisedGoes.{greatest_stays, greatest_raised, raise_writes, max_rec_raised, raised_behind, raised_tail}
 use Rattle.cdf_puts.proofs.GoesThen.{stays, later_size, later_variable, goes_then, goes_written}
 use Rattle.cdf_puts.proofs.PutRules.{uncut}

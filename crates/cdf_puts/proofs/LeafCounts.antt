@@ -1,11 +1,6 @@
 -- What a leaf more makes of the nodes, the Firsts and the leaves of an index, and of how wide its nodes are and which room they have.
-use Rattle.cdf_puts.proofs.Common.{max, eqb-true, eq-eqb, le-ltb, ◌==◌, filter, fold, min, nat_lt, record_number_limit, next_first, with_both, places_of, IsOneOf, times-append, Nodes, no_node, node, Entries, no_entry, block, lower, Leaf, leaf, leaves_of, entry_count, room_at, times, Each, NodeFits, In, either, with_new, InOrder, leaves_more, ◌≡◌, ◌⊎◌, ℕ, zero, suc, ◌+◌, ◌≤◌, List, [], ◌∷◌, ◌++◌, Bool, false, append_assoc, refl, sym, ap, subst, ◌∙◌, arith, inl, inr, if◌then◌else◌, with_leaf, new_room, with_block, Each-split, Grows, by_leaf, weight_grows}
+use Rattle.cdf_puts.proofs.Common.{Bool, Each, Each-split, Entries, Grows, HasNodes, In, InOrder, IsOneOf, Leaf, List, Names, NodeFits, Nodes, [], ap, append_assoc, arith, block, by_leaf, either, entry_count, entry_firsts, eq-eqb, eqb-true, false, filter, firsts_of, fold, if◌then◌else◌, inl, inr, le-ltb, leaf, leaves_more, leaves_of, lower, lower_nodes, max, min, nat_lt, new_room, next_first, no_entry, no_node, node, nodes_of, places_of, record_number_limit, refl, room_at, subst, suc, sym, times, times-append, weigh, weigh_below, weight_grows, widest, widest_below, with_block, with_both, with_leaf, with_new, zero, ℕ, ◌++◌, ◌+◌, ◌==◌, ◌∙◌, ◌∷◌, ◌≡◌, ◌≤◌, ◌⊎◌}
 use Rattle.std.proofs.lemmas.List.Elements.{filter-append}
-use Rattle.cdf_edits.specs.Commands.Room.{widest, widest_below}
-use Rattle.cdf_edits.specs.Index.Blocks.{firsts_of, entry_firsts}
-use Rattle.cdf_format.specs.Index.{nodes_of, lower_nodes}
-use Rattle.cdf_format.specs.IndexOf.{HasNodes, Names}
-use Rattle.cdf_index.proofs.ByLeaf.{weigh, weigh_below}
 use Rattle.cdf_index.proofs.Measured.{seven_at_least}
 use Rattle.cdf_index.proofs.Saying.{count_both}
 

@@ -1,5 +1,5 @@
 -- A leaf that is added, as one edit: its block is taken and written, then a node where one is needed, and then the entries are. It leads from one good image to another.
-use Rattle.cdf_puts.proofs.Common.{eq-eqb, max, vxr_n_entries, r_max_rec_field, space_fields, node_acts, is_in-false, Kind, R, Z, size_at, type_at, eof, Leaf, nodes_of, room_at, vxr_type, VariableShape, shape, NodeFits, IsSound, In, Good, number_kept, size_kept, type_kept, linkable-type, good_is_sound, nodes_stand, In-append_left, In-append_right, tile_lies, vxr_bytes, Edit, Mark, unmarked, Touch, new_room, type_in, variables_chain, unmarked-away, kept_away, node_behind, StandsAmong, tile, typed, long, has, fits, behind_in, Kept, Each-in, NodeTaken, IndexTouch, LeafAdded, Same, is_in, number, Field, gdr_type, vvr_type, uir_type, is_record_type, fixed_size, Shape, Each, In-append, Avoids, with_leaf, away-avoids, FileSame, apart, type_of_body, is_taken_at, Act, changed_part, Same-part, leaf_acts, ◌&&◌, ActsFollow, both, nat_le, block_behind, leaves_of, vdr_max_rec, byte, place_in, each_of, IsBlockBody, BlocksGoOn, flat_map, ◌==◌, ◌||◌, if◌then◌else◌, image_limit, record_number_limit, with_sign, Nodes, no_node, node, Entries, no_entry, block, lower, times, cvvr_type, asked, is_compressed, record_bytes, good_by_its_shape, Hold-split, le_of, of_le, firsts_of, IsOneOf, count_is, plain_leaf, own_rules, times-append, record_alike, InOrder, GoesOn, IsVacant, before_limit, index_order, OwnEdit, IndexEdit, vdr_alike, r_max_rec, gdr_in, gdr_typed, Only, ◌≡◌, ℕ, zero, suc, ◌+◌, ◌*◌, ◌<◌, ◌≤◌, List, [], ◌∷◌, ◌++◌, length, true, append-nil, refl, sym, ap, subst, ◌∙◌, arith, inl, inr, ◌≢◌, ◌⊎◌, Bool, false, ◌-◌, take, drop, take-append-drop, ℤ, pos, negsuc, Marked, variable_types, keeps_file, avoided, both_ways, changed_edit, same-then, head_size, head_type, edit_then, some_bytes, Each-map, NodeStands, placed_grows, IsChain, is_a, field, gdr_eof, gdr_uir_head, vxr_n_used_entries, all_unmarked-away, the_one, Avoids-append, Within-append, away-within, Away-append, chain_stays, file_same, gdr_field, kept, Misses, in_nodes_with_leaf, node_stays, nodes_with_leaf, IndexTests, NewIndex, index_marks, index_unmarked, vdr_no_node, vdr_of_variable, Exchanged, node_room, max_rec_kept, is_a-from, is_a-type, linkable-in, get_or_append_left, word, word-same, byte-put_inside, signed_limit, read_types, Row, Hold, number_before, plain_size, Hold-append, Counts, each, index_rules_with_leaf, keeps_fields, keeps_within, keeps_away, covered, piece_kept, drop-drop, Each-append, Covered, drop-take, take-take}
+use Rattle.cdf_puts.proofs.Common.{Act, ActsFollow, Avoids, Avoids-append, Away-append, BlocksGoOn, Bool, Counts, Covered, Each, Each-append, Each-in, Each-map, Edit, Entries, Exchanged, Field, FileSame, GoesOn, Good, Hold, Hold-append, Hold-split, In, In-append, In-append_left, In-append_right, InOrder, IndexEdit, IndexTests, IndexTouch, IsBlockBody, IsChain, IsOneOf, IsSound, IsVacant, Kept, Kind, Leaf, LeafAdded, List, Mark, Marked, Misses, NewIndex, NodeFits, NodeStands, NodeTaken, Nodes, Only, OwnEdit, R, Row, Same, Same-part, Shape, StandsAmong, Touch, VariableShape, Within-append, Z, [], all_unmarked-away, ap, apart, append-nil, arith, asked, avoided, away-avoids, away-within, before_limit, behind_in, block, block_behind, both, both_ways, byte, byte-put_inside, chain_stays, changed_edit, changed_part, count_is, covered, cvvr_type, drop, drop-drop, drop-take, each, each_of, edit_then, eof, eq-eqb, false, field, file_same, firsts_of, fits, fixed_size, flat_map, gdr_eof, gdr_field, gdr_in, gdr_type, gdr_typed, gdr_uir_head, get_or_append_left, good_by_its_shape, good_is_sound, has, head_size, head_type, if◌then◌else◌, image_limit, in_nodes_with_leaf, index_marks, index_order, index_rules_with_leaf, index_unmarked, inl, inr, is_a, is_a-from, is_a-type, is_compressed, is_in, is_in-false, is_record_type, is_taken_at, keeps_away, keeps_fields, keeps_file, keeps_within, kept, kept_away, le_of, leaf_acts, leaves_of, length, linkable-in, linkable-type, long, lower, lower_nodes, max, max_rec_kept, nat_le, negsuc, new_room, no_entry, no_node, node, node_acts, node_behind, node_room, node_stays, nodes_of, nodes_stand, nodes_with_leaf, number, number_before, number_kept, of_le, own_rules, piece_kept, place_in, placed_grows, plain_leaf, plain_size, pos, r_max_rec, r_max_rec_field, read_types, record_alike, record_bytes, record_number_limit, refl, room_at, same-then, shape, signed_limit, size_at, size_kept, some_bytes, space_fields, subst, suc, sym, take, take-append-drop, take-take, the_one, tile, tile_lies, times, times-append, true, type_at, type_in, type_kept, type_of_body, typed, uir_type, unmarked, unmarked-away, variable_types, variables_chain, vdr_alike, vdr_max_rec, vdr_no_node, vdr_of_variable, vvr_type, vxr_bytes, vxr_n_entries, vxr_n_used_entries, vxr_type, with_leaf, with_sign, word, word-same, zero, ℕ, ℤ, ◌&&◌, ◌*◌, ◌++◌, ◌+◌, ◌-◌, ◌<◌, ◌==◌, ◌||◌, ◌∙◌, ◌∷◌, ◌≡◌, ◌≢◌, ◌≤◌, ◌⊎◌}
 use Rattle.cdf_edits.proofs.Edits.MadeRecord.{place_in as placed_in, filled_size}
 use Rattle.cdf_edits.proofs.Edits.TakenAll.{TakenAll, none_taken, taken_then, taking_all, listed_free, unlisted_away}
 use Rattle.cdf_index.specs.Replacing.{with_index}
@@ -10,7 +10,6 @@ use Rattle.cdf_puts.proofs.PutNodes.{NodesStep}
 use Rattle.cdf_index.proofs.NewIndex.{good_now as changed_good, block_kept, index_edit, own_edit}
 use Rattle.cdf_edits.proofs.Edits.ActsStill.{acts_still_by}
 use Rattle.cdf_puts.proofs.GoesThen.{goes_by, links}
-use Rattle.cdf_format.specs.Index.{nodes_of, lower_nodes}
 use Rattle.cdf_format.specs.IndexRules.{has_room, is_block, nodes_rows, used_rows, vvr_rows, cvvr_rows, leaf_rows, index_rows, end_of}
 use Rattle.cdf_format.proofs.GoodByShape.{IsGoodByShape}
 use Rattle.cdf_edits.proofs.Edits.OwnEdited as of_own

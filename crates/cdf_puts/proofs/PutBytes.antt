@@ -1,7 +1,6 @@
 -- The bytes of the blocks while records are put: what a record that is written leaves of them, and what a leaf that is added does.
-use Rattle.cdf_puts.proofs.Common.{refl, ◌++◌, take_at, drop_at, length-take, cases_eq, min, max, is_taken_at, Act, times_le, byte, Same, size_at, Leaf, leaves_of, Same-part, piece_kept, size_kept, word_kept, put_count, put_from, record_of, OldBlock, NewBlock, SoFar, Kind, VariableShape, record_bytes, max_rec_at, extent, first_written, variable_of, IsOneOf, PlainLeaf, plain_leaf, place_in, block_behind, behind_in, sound, tile_lies, shape, ◌≡◌, ◌⊎◌, ℕ, suc, ◌+◌, ◌-◌, ◌*◌, ◌<◌, ◌≤◌, List, length, true, sym, ap, subst, ◌∙◌, arith, inl, inr, RecordIs, take, drop, length-take, drop_at, ◌++◌, Ascending, find, covers, range, Some, cases_lt, taken, upto, find_covering, long}
+use Rattle.cdf_puts.proofs.Common.{Act, Ascending, IsOneOf, Kind, Leaf, List, NewBlock, OldBlock, PlainLeaf, RecordIs, Same, Same-part, SoFar, Some, VariableShape, ap, arith, behind_in, block_behind, byte, cases_eq, cases_lt, covers, drop, drop_at, extent, find, find_covering, first_written, inl, inr, is_taken_at, leaves_of, length, length-take, long, max, max_rec_at, min, piece_kept, place_in, plain_leaf, put, put_count, put_from, range, record_bytes, record_of, refl, shape, size_at, size_kept, sound, subst, suc, sym, take, take_at, taken, tile_lies, times_le, true, upto, variable_of, word_kept, ℕ, ◌*◌, ◌++◌, ◌+◌, ◌-◌, ◌<◌, ◌∙◌, ◌≡◌, ◌≤◌, ◌⊎◌}
 use Rattle.cdf_puts.proofs.GoesThen.{later_size, later_packed}
-use Rattle.cdf_base.specs.Bytes.{put}
 
 -- bytes that stay, counted from a place
 pub by_offsets : (b now : List ℕ) (place lo hi : ℕ) → ((i : ℕ) → lo ≤ i → i < hi → byte now (place + i) ≡ byte b (place + i)) → Same b now (place + lo) (place + hi)

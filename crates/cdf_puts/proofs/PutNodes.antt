@@ -1,11 +1,7 @@
 -- The nodes of an index that grows leaf by leaf: the index but for where its blocks and its new nodes stand, its top chain, and the unused entries and spare bytes of its nodes.
-use Rattle.cdf_puts.proofs.Common.{eq-eqb, ne_eqb, lt-ltb, list_any, ◌&&◌, ◌||◌, if◌then◌else◌, Range, with_both, with_ranges, is_in, Nodes, no_node, node, Entries, no_entry, block, lower, Leaf, leaf, entry_count, used_count, In, either, In-append, In-append_left, In-append_right, same_of_bytes_eq, le-leb, lt-leb, cases_lt, nat_le, is_taken_at, uses_entry, UnusedEntries, NodeSpareStays, NodesFollow, Act, Took, Gave, Kept, Each-in, Same, size_at, nodes_of, room_at, Each, NodeFits, Same-part, is_in-true, true-is_in, both, le_of, ◌≡◌, ℕ, zero, suc, ◌<◌, List, [], ◌∷◌, ◌++◌, length, Bool, true, false, ltb, leb, eqb, refl, sym, ap, subst, ◌∙◌, arith, inl, inr, ◌⊎◌, ◌+◌, ◌*◌, ◌≤◌, not, and_from, both_ways, or_left, or_right, and_right, entries_outline, upto, chain_reaches, leads_down, past, reaches, with_entry, was_unused, EntryIs, first_at, last_at, offset_at, TopGrows, each, Grows, by_leaf, same-then}
+use Rattle.cdf_puts.proofs.Common.{Act, Bool, Each, Each-in, Entries, EntryIs, Gave, Grows, HasNodes, In, In-append, In-append_left, In-append_right, Kept, Leaf, List, Names, NodeFits, NodeSpareStays, Nodes, NodesFollow, Range, Same, Same-part, SaysEntry, Took, TopGrows, UnusedEntries, [], and_from, and_right, ap, arith, block, both, both_ways, by_leaf, cases_lt, chain_reaches, each, either, entries_outline, entry_count, eq-eqb, eqb, false, first_at, if◌then◌else◌, indexes_with, inl, inr, is_in, is_in-true, is_taken_at, last_at, le-leb, le_of, leads_down, leaf, leb, length, list_any, lower, lower_nodes, lt-leb, lt-ltb, ltb, nat_le, ne_eqb, no_entry, no_node, node, nodes_of, not, offset_at, or_left, or_right, outline, past, reaches, refl, room_at, same-then, same_of_bytes_eq, size_at, subst, suc, sym, true, true-is_in, upto, used_count, uses_entry, uses_entry_below, was_unused, with_both, with_entry, with_leaf, with_lower, with_ranges, zero, ℕ, ◌&&◌, ◌*◌, ◌++◌, ◌+◌, ◌<◌, ◌||◌, ◌∙◌, ◌∷◌, ◌≡◌, ◌≤◌, ◌⊎◌}
 use Rattle.std.proofs.lemmas.List.Folds.{list_any-append}
 use Rattle.std.specs.Prelude.{bytes_eq}
-use Rattle.cdf_edits.specs.Index.Grown.{with_leaf, with_lower, indexes_with, outline}
-use Rattle.cdf_edits.specs.Index.Written.{uses_entry, uses_entry_below}
-use Rattle.cdf_format.specs.Index.{nodes_of, lower_nodes}
-use Rattle.cdf_format.specs.IndexOf.{HasNodes, Names, SaysEntry}
 use Rattle.cdf_edits.proofs.Frame.LinksStay.{SameHeads, room_same, used_same, entry_same}
 
 -- ---- an outline says the same of an index as the index does

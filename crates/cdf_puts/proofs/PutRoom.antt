@@ -1,5 +1,5 @@
 -- How much longer an image becomes by acts that only take, and that nothing is taken where no bytes are.
-use Rattle.cdf_puts.proofs.Common.{fold, Act, Took, Gave, taken, space_before, ActsFollow, Each, IsTaking, taken_bytes, ◌≡◌, ℕ, ◌+◌, ◌≤◌, List, [], ◌∷◌, ◌++◌, length, map, refl, arith, SpaceLeft, after_act, AreActs, sum_by-cons}
+use Rattle.cdf_puts.proofs.Common.{Act, ActsFollow, AreActs, Each, Gave, IsTaking, List, SpaceLeft, Took, [], after_act, arith, fold, length, map, refl, space_before, sum_by-cons, taken, taken_bytes, ℕ, ◌++◌, ◌+◌, ◌∷◌, ◌≡◌, ◌≤◌}
 use Rattle.cdf_edits.specs.Index.Cut.{BlocksFreedStay, NodesFreedStay, none_written}
 use Rattle.cdf_edits.specs.Space.Placement.{eof_after}
 

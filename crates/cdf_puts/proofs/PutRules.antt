@@ -1,5 +1,5 @@
 -- What the rules say of a variable of a good image in which records are put: so far none is compressed, none has a rule for missing records, and no block is packed (rules 4.99 and 7.99).
-use Rattle.cdf_puts.proofs.Common.{◌&&◌, nat_lt, Kind, Sparse, NoRule, extent, variable_of, asked, VariableShape, is_compressed, shape, Good, good_by_its_shape, Hold-split, cuts_before_put, is_sparse, own_rules, StandsAmong, has, fits, ◌≡◌, ℕ, List, [], false, refl, ap, unread_sparse, cpr_link, cpr_rows}
+use Rattle.cdf_puts.proofs.Common.{Good, Hold-split, Kind, List, NoRule, Sparse, StandsAmong, VariableShape, [], ap, asked, cpr_link, cpr_rows, cuts_before_put, extent, false, fits, good_by_its_shape, has, is_compressed, is_sparse, nat_lt, own_rules, refl, shape, unread_sparse, variable_of, ℕ, ◌&&◌, ◌≡◌}
 use Rattle.cdf_edits.proofs.Edits.PlainVariables.{is_uncompressed}
 
 module _ {b : List ℕ} {kind : Kind} {before : List VariableShape} {own : VariableShape} {after : List VariableShape} (good : Good b) (at : StandsAmong b kind before own after) where

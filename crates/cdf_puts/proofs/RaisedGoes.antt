@@ -1,5 +1,5 @@
 -- MaxRec is raised to the record that was put: no byte changes but MaxRec, and rMaxRec of an r variable.
-use Rattle.cdf_puts.proofs.Common.{le-leb, length-map, map-append, set_at, if◌then◌else◌, slice_set, Kind, R, Z, DataSet, Variable, extent, record_number_limit, variables_of, with_variables, is_in, content, variable_of, number, type_at, with_sign, vdr_vxr_tail, VariableShape, shape, In, max_rec_at, is_max_rec, Good, word_kept, bytes_eq-same, same_of_bytes_eq, RMaxRecFollows, r_max_rec, max_rec_touches, Changed, type_in, variables_chain, index_records, WritesRecords, part, same_shape, variables_of_are, StandsAmong, sound, typed, long, has, fits, Kept, MaxRecRaised, ◌≡◌, ◌≢◌, ℕ, ℤ, pos, ◌+◌, ◌<◌, ◌≤◌, List, [], ◌∷◌, ◌++◌, length, map, true, bytes_eq, append-nil, refl, sym, ap, subst, ◌∙◌, arith, inl, inr, content_is, only_variable, r_extents, greatest_r_max_rec, index_types, signed, behind_kept, index_typed}
+use Rattle.cdf_puts.proofs.Common.{Changed, DataSet, Good, In, Kept, Kind, List, MaxRecRaised, R, RMaxRecFollows, StandsAmong, Variable, VariableShape, WritesRecords, Z, [], ap, append-nil, arith, behind_kept, bytes_eq, bytes_eq-same, content, content_is, extent, fits, greatest_r_max_rec, has, if◌then◌else◌, index_records, index_typed, index_types, inl, inr, is_in, is_max_rec, le-leb, length, length-map, long, map, map-append, max_rec_at, max_rec_touches, number, only_variable, part, pos, r_extents, r_max_rec, record_number_limit, refl, same_of_bytes_eq, same_shape, set_at, shape, signed, slice_set, sound, subst, sym, true, type_at, type_in, typed, variable_of, variables_chain, variables_of, variables_of_are, vdr_vxr_tail, with_sign, with_variables, word_kept, ℕ, ℤ, ◌++◌, ◌+◌, ◌<◌, ◌∙◌, ◌∷◌, ◌≡◌, ◌≢◌, ◌≤◌}
 
 -- ---- the greatest numbers of the r variables
 

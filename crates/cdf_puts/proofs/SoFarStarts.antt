@@ -1,5 +1,5 @@
 -- The leaves that were put so far: which one more there is once a record is written or a leaf is added, that a put goes through them one after the other, and how that starts.
-use Rattle.cdf_puts.proofs.Common.{in_order, ne_eqb, filter, min, max, find, ◌==◌, if◌then◌else◌, PutsLeaves, range, covers, with_leaf, new_room, block_need, Act, IsOneOf, Ascending, Leaf, leaves_of, VariableShape, record_bytes, node_acts, leaf_acts, with_new, was_put, PutsBefore, list_any, nat_le, Kind, Sparse, NoRule, extent, record_number_limit, new_ranges, Range, ranges_of, first_written, is_sparse, with_ranges, indexes_with, outline, UnusedEntries, NodeSpareStays, NodesFollow, top_chain, leaves_ascend, is_in, variable_of, Nodes, nodes_of, used_count, is_in-true, bytes_eq-same, of_le, PutStart, IndexSoFar, NodesSoFar, BlocksSoFar, ◌≡◌, ◌⊎◌, ℕ, zero, suc, ◌+◌, ◌<◌, ◌≤◌, List, [], ◌∷◌, ◌++◌, Bool, true, false, Some, None, append_assoc, refl, sym, ap, subst, arith, inl, inr, TakesNode, each, nat_tests}
+use Rattle.cdf_puts.proofs.Common.{Act, Ascending, BlocksSoFar, Bool, IndexSoFar, IsOneOf, Kind, Leaf, List, NoRule, NodeSpareStays, Nodes, NodesFollow, NodesSoFar, None, PutStart, PutsBefore, PutsLeaves, Range, Some, Sparse, TakesNode, UnusedEntries, VariableShape, [], ap, append_assoc, arith, block_need, bytes_eq-same, covers, each, extent, false, filter, find, first_written, if◌then◌else◌, in_order, indexes_with, inl, inr, is_in, is_in-true, is_sparse, leaf_acts, leaves_ascend, leaves_of, list_any, max, min, nat_le, nat_tests, ne_eqb, new_ranges, new_room, node_acts, nodes_of, of_le, outline, range, ranges_of, record_bytes, record_number_limit, refl, subst, suc, sym, top_chain, true, used_count, variable_of, was_put, with_leaf, with_new, with_ranges, zero, ℕ, ◌++◌, ◌+◌, ◌<◌, ◌==◌, ◌∷◌, ◌≡◌, ◌≤◌, ◌⊎◌}
 use Rattle.cdf_puts.proofs.CoveringRanges.{of_leaves}
 
 -- ---- which leaves were put

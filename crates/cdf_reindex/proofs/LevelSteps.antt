@@ -1,6 +1,5 @@
 -- The steps by which code makes the levels of an index, one by one.
-use Rattle.std.proofs.Common.{List, [], ap, append-nil, append_assoc, arith, false, get_or, length, map, min, refl, subst, suc, sym, ℕ, ◌*◌, ◌++◌, ◌+◌, ◌∙◌, ◌∷◌, ◌≡◌, ◌≤◌}
-use Rattle.cdf_reindex.proofs.Common.{AllMade, AreLevels, Entries, Entry, Filled, Leaf, LevelMade, LevelsMade, NewNode, NodeMade, PyramidMade, entries_for, entries_of, entry_count, first_of, from_below, last_of, leaf_words, length-append, length-map, naming, nodes_above, quotient_up, uppers, with_both, words, words_of}
+use Rattle.cdf_reindex.proofs.Common.{AllMade, AreLevels, Entries, Entry, Filled, Leaf, LevelMade, LevelsMade, List, NewNode, NodeMade, PyramidMade, [], ap, append-nil, append_assoc, arith, entries_for, entries_of, entry_count, false, first_of, from_below, get_or, last_of, leaf_words, length, length-append, length-map, map, min, naming, nodes_above, quotient_up, refl, subst, suc, sym, uppers, with_both, words, words_of, ℕ, ◌*◌, ◌++◌, ◌+◌, ◌∙◌, ◌∷◌, ◌≡◌, ◌≤◌}
 use Rattle.cdf_reindex.proofs.Levels.{above_is, few_levels, left_more, level_length, raised, top_filled, total_is}
 use Rattle.cdf_reindex.proofs.WordsOfLevels.{leaves_saying, length_words, named, none_said, parted, they_say, words_for}
 

@@ -1,11 +1,7 @@
 -- Levels make an index of their leaves: what the entries that name the nodes of a level have of those in them, and what holds of all levels.
-use Rattle.std.proofs.Common.{List, None, Option, Some, [], ap, append-nil, append_assoc, ap₂, arith, inl, inr, length, map, refl, subst, suc, sym, zero, ℕ, ◌*◌, ◌++◌, ◌+◌, ◌∙◌, ◌∷◌, ◌≡◌, ◌≤◌, ◌⊎◌}
-use Rattle.cdf_reindex.proofs.Common.{AreLevels, Distinct, Entries, Filled, FullFromLeft, In, Leaf, MakesPyramid, NewNode, Spans, alone, block, cases_lt, count_both, either, entries_for, entries_of, entry_count, false-is_in, first_of, from_below, is_in, last_of, length-append, length-map, levels_up, lower, lower_both, map-append, no_entry, nodes_left, option_map, places_of, quotient_up, slice_get, sum, times, times-append, times-in, times-none, times-once, true-is_in, uppers, with_both, nat_tests, sum_by-cons}
-use Rattle.cdf_edits.specs.Commands.Reindex.{AreTight, EntriesTight, nodes_at, nodes_below}
-use Rattle.cdf_edits.specs.Commands.Room.{nodes_above}
-use Rattle.cdf_format.specs.Index.{entry_leaves, leaves_of, lower_nodes, nodes_of}
+use Rattle.cdf_reindex.proofs.Common.{AreInOrder, AreLevels, AreTight, Distinct, Entries, EntriesTight, Filled, FullFromLeft, In, InOrder, Leaf, List, LowerAreZero, MakesPyramid, NewNode, NextsAreZero, None, Option, Some, Spans, [], alone, ap, append-nil, append_assoc, ap₂, arith, block, cases_lt, count_both, either, entries_for, entries_of, entry_count, entry_leaves, false-is_in, first_of, from_below, inl, inr, is_in, last_of, length, length-append, length-map, levels_up, lower, lower_both, lower_nodes, map, map-append, nat_tests, no_entry, nodes_above, nodes_at, nodes_below, nodes_left, option_map, past_entries, places_of, quotient_up, refl, slice_get, subst, suc, sum, sum_by-cons, sym, times, times-append, times-in, times-none, times-once, true-is_in, uppers, with_both, zero, ℕ, ◌*◌, ◌++◌, ◌+◌, ◌∙◌, ◌∷◌, ◌≡◌, ◌≤◌, ◌⊎◌}
+use Rattle.cdf_format.specs.Index.{leaves_of, nodes_of}
 use Rattle.cdf_index.proofs.LeafMore.{leaves_both, parts_in_order}
-use Rattle.cdf_index.specs.Order.{AreInOrder, InOrder, LowerAreZero, NextsAreZero, past_entries}
 use Rattle.std.specs.List.{last_or}
 
 -- what counts a list by its parts

@@ -1,6 +1,5 @@
 -- The acts by which an index is made anew: the nodes are taken, and then the old ones are freed.
-use Rattle.std.proofs.Common.{List, [], ap, arith, length, map, subst, ℕ, ◌*◌, ◌++◌, ◌∷◌, ◌≡◌, ◌≤◌, ◌∙◌}
-use Rattle.cdf_reindex.proofs.Common.{Act, ActsFollow, Good, In, IsRebuilt, Kind, StandsAmong, VariableShape, acts_still_by, all_gave, gave, gave-same, good_is_sound, levels_up, made_acts, nodes_of, reindex_room, size_at, size_kept, sum, taken, vxr_bytes, vxr_type, sum_by-cons}
+use Rattle.cdf_reindex.proofs.Common.{Act, ActsFollow, Good, In, IsRebuilt, Kind, List, StandsAmong, VariableShape, [], acts_still_by, all_gave, ap, arith, gave, gave-same, good_is_sound, length, levels_up, made_acts, map, nodes_of, reindex_room, size_at, size_kept, subst, sum, sum_by-cons, taken, vxr_bytes, vxr_type, ℕ, ◌*◌, ◌++◌, ◌∙◌, ◌∷◌, ◌≡◌, ◌≤◌}
 use Rattle.cdf_edits.proofs.Edits.ActsThen.{taken-gave}
 use Rattle.cdf_reindex.proofs.MadeEdit.{heads_edit, linked_long, node_linked, sound_made, t, tests}
 use Rattle.cdf_reindex.proofs.MadeFreed.{linked_records, linked_unused, may_free}

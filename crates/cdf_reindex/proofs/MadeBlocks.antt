@@ -1,6 +1,5 @@
 -- The rules of blocks that stay, of a VDR that stays but for MaxRec, VXRhead and VXRtail.
-use Rattle.std.proofs.Common.{List, [], inl, inr, refl, subst, sym, true, ℕ, ◌&&◌, ◌==◌, ◌||◌, ◌∙◌, ◌∷◌, ◌≡◌, ◌≤◌}
-use Rattle.cdf_reindex.proofs.Common.{Each, FileSame, Hold, Hold-split, In, IsOneOf, Kept, Leaf, LeafFits, VdrStays, block_fits_alike, cvvr_type, fixed_size, flat_map, is_a, is_block, is_in, is_in-true, leaf_rows, packed_stays, plain_alike, size_at, stays_alike, type_at, type_kept, vvr_type}
+use Rattle.cdf_reindex.proofs.Common.{Each, FileSame, Hold, Hold-split, In, IsOneOf, Kept, Leaf, LeafFits, List, VdrStays, [], block_fits_alike, cvvr_type, fixed_size, flat_map, inl, inr, is_a, is_block, is_in, is_in-true, leaf_rows, packed_stays, plain_alike, refl, size_at, stays_alike, subst, sym, true, type_at, type_kept, vvr_type, ℕ, ◌&&◌, ◌==◌, ◌||◌, ◌∙◌, ◌∷◌, ◌≡◌, ◌≤◌}
 use Rattle.cdf_edits.proofs.Edits.InRecords.{places_of}
 use Rattle.cdf_edits.proofs.Rules.OfIndexes.{leaf_same}
 

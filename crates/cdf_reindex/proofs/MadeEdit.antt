@@ -1,6 +1,5 @@
 -- The new nodes are taken and written, and VXRhead and VXRtail lead to them: one edit, by which the image stays sound, and the old nodes can be freed.
-use Rattle.std.proofs.Common.{List, [], ap, append-nil, arith, inl, inr, length, map, refl, rules, subst, sym, true, w32, ℕ, ◌++◌, ◌+◌, ◌∙◌, ◌∷◌, ◌≡◌, ◌≢◌, ◌≤◌}
-use Rattle.cdf_reindex.proofs.Common.{AreFree, AreTiles, DataSet, Each, Each-in, Each-map, Edit, Field, Good, In, IndexEdit, IndexTests, IsBare, IsBuilt, IsChain, IsSound, Kept, Kind, Leaf, LeafFits, LiesIn, Mark, MayWrite, NewIndex, NodeFits, Nodes, OwnEdit, R, SameHeads, Shape, StandsAmong, TakenAll, Variable, VariableFits, VariableShape, Z, among_now, apart, avoided, behind_in, block_behind, block_kept, cast_signed, content, content_is, content_now, cpr_behind, cpr_type, distinct_if, each, edit_then, edit_under, end_stays, field, field_reads, file, fits, fixed_size, freeing_marks, gdr_field, gdr_type, gdr_uir_head, good_is_sound, has, heads_written, index_edit, index_marks, is_a, is_a-from, is_a-type, is_record_type, keeps_file, kept, kept_then, leaves_of, length-with_field, levels_up, link_to, linkable-type, links_mark, long, map-append, max_rec_kept, node_behind, nodes_kept, nodes_of, nodes_stand, none_in_use, not_twice_kept, number, other_words, own_edit, owned-times, owned_records, parts_times, r_vdr_type, records_alike, records_in, same_shape, shape, size_at, size_kept, sizes_by_tiles, some_bytes, sound_if, space_fields, spliced_times, splices, stays, taking_all, through, tile, times, times-append, times-in, times-none, times-once, type_at, type_in, type_kept, typed, uir_type, unmarked, unmarked-away, used_times, variable_of, variable_records, variable_stays, variables_chain, variables_of, variables_of_are, vdr_alike, vdr_size, vdr_vxr_head, vdr_vxr_tail, vxr_bytes, vxr_type, with_field, with_index, with_shapes, with_variables, with_writes, write, write_lies, writes_edit, writes_long, z_vdr_type}
+use Rattle.cdf_reindex.proofs.Common.{AreFree, AreTiles, DataSet, Each, Each-in, Each-map, Edit, Field, Good, In, IndexEdit, IndexTests, IsBare, IsBuilt, IsChain, IsSound, Kept, Kind, Leaf, LeafFits, LiesIn, List, Mark, MayWrite, NewIndex, NodeFits, Nodes, OwnEdit, R, SameHeads, Shape, StandsAmong, TakenAll, Variable, VariableFits, VariableShape, Z, [], among_now, ap, apart, append-nil, arith, avoided, behind_in, block_behind, block_kept, cast_signed, content, content_is, content_now, cpr_behind, cpr_type, distinct_if, each, edit_then, edit_under, end_stays, field, field_reads, file, fits, fixed_size, freeing_marks, gdr_field, gdr_type, gdr_uir_head, good_is_sound, has, heads_written, index_edit, index_marks, inl, inr, is_a, is_a-from, is_a-type, is_record_type, keeps_file, kept, kept_then, leaves_of, length, length-with_field, levels_up, link_to, linkable-type, links_mark, long, map, map-append, max_rec_kept, node_behind, nodes_kept, nodes_of, nodes_stand, none_in_use, not_twice_kept, number, other_words, own_edit, owned-times, owned_records, parts_times, r_vdr_type, records_alike, records_in, refl, rules, same_shape, shape, size_at, size_kept, sizes_by_tiles, some_bytes, sound_if, space_fields, spliced_times, splices, stays, subst, sym, taking_all, through, tile, times, times-append, times-in, times-none, times-once, true, type_at, type_in, type_kept, typed, uir_type, unmarked, unmarked-away, used_times, variable_of, variable_records, variable_stays, variables_chain, variables_of, variables_of_are, vdr_alike, vdr_size, vdr_vxr_head, vdr_vxr_tail, vxr_bytes, vxr_type, w32, with_field, with_index, with_shapes, with_variables, with_writes, write, write_lies, writes_edit, writes_long, z_vdr_type, ℕ, ◌++◌, ◌+◌, ◌∙◌, ◌∷◌, ◌≡◌, ◌≢◌, ◌≤◌}
 use Rattle.cdf_edits.proofs.Edits.InRecords.{places_of}
 use Rattle.cdf_edits.proofs.Edits.IndexEdited.{vdr_type}
 use Rattle.cdf_edits.proofs.Edits.MarkLemmas.{away-avoids}

@@ -1,10 +1,7 @@
 -- An index made anew follows `reindex`.
-use Rattle.std.proofs.Common.{Bool, List, None, Option, Some, [], ap, arith, false, if◌then◌else◌, inl, inr, length, map, refl, subst, sym, true, true≢false, ℕ, ◌++◌, ◌+◌, ◌<◌, ◌∙◌, ◌∷◌, ◌≡◌, ◌≢◌, ◌≤◌}
-use Rattle.cdf_reindex.proofs.Common.{Act, AllKeep, Allowances, AreTiles, ByStep, DataSet, Each-map, Follows, Found, FreedStay, GivenStay, Go, Good, In, IsBare, IsNode, IsRebuilt, Kind, MakesIndex, NodeSpareStays, Nodes, NodesFollow, Reindexed, Same, StandsAmong, TailFollows, UnusedEntries, VariableShape, allowances, apart, content, each, freed_stay, gave, gdr_type, gdr_typed, got-middle, image_limit, is_in-true, is_taken_at, last_node, levels_up, links_end, made_acts, next_of, no_fields, no_node, node, number, owned, reindex_changes, reindex_room, room, room_at, same_Some, shape, shapes_of, size_at, sizes_by_tiles, slice_get, stays_all, sum, taken, top_stays, type_at, variable_named, vdr_vxr_tail, vdrs, vxr_type, with_index}
+use Rattle.cdf_reindex.proofs.Common.{Act, AllKeep, Allowances, AreTiles, Bool, ByStep, DataSet, Each-map, Follows, Found, FreedStay, GivenStay, Go, Good, In, IsBare, IsNode, IsRebuilt, Kind, List, MakesIndex, NodeSpareStays, Nodes, NodesFollow, None, Option, Reindexed, Same, Some, StandsAmong, TailFollows, UnusedEntries, VariableShape, [], allowances, ap, apart, arith, content, each, false, freed_stay, gave, gdr_type, gdr_typed, got-middle, if◌then◌else◌, image_limit, inl, inr, is_in-true, is_taken_at, last_node, length, levels_up, links_end, made_acts, map, next_of, no_fields, no_node, node, nodes_above, nodes_at, number, owned, refl, reindex_changes, reindex_room, room, room_at, same_Some, shape, shapes_of, size_at, sizes_by_tiles, slice_get, stays_all, subst, sum, sym, taken, top_stays, true, true≢false, type_at, variable_named, vdr_vxr_tail, vdrs, vxr_type, with_index, ℕ, ◌++◌, ◌+◌, ◌<◌, ◌∙◌, ◌∷◌, ◌≡◌, ◌≢◌, ◌≤◌}
 use Rattle.cdf_edits.proofs.Commands.ReadingFollows.{staying_follows}
 use Rattle.cdf_edits.specs.Commands.Named.{OfVariable}
-use Rattle.cdf_edits.specs.Commands.Reindex.{nodes_at}
-use Rattle.cdf_edits.specs.Commands.Room.{nodes_above}
 use Rattle.cdf_format.specs.Index.{leaves_of, nodes_of}
 use Rattle.cdf_model.specs.VariableSteps.{reindex_step}
 use Rattle.cdf_reindex.proofs.Levels.{in_by_times}

@@ -1,8 +1,6 @@
 -- The old nodes are freed: an index made anew, as one edit, and what stands in the image then.
-use Rattle.std.proofs.Common.{List, [], ap, arith, inl, inr, length, refl, subst, sym, ℕ, ◌++◌, ◌+◌, ◌∙◌, ◌∷◌, ◌≡◌, ◌≤◌}
-use Rattle.cdf_reindex.proofs.Common.{AllGiven, Avoids-append, Each, Each-in, Edit, Good, HasVariable, In, In-append, IsBare, IsBuilt, IsChain, IsIndex, IsLeft, IsRebuilt, IsSound, Kept, Kind, Mark, NewIndex, Nodes, Shape, StandsAmong, VariableShape, all_left, apart, each, edit_then, edit_under, field, freeing_marks, gdr_place, gdr_type, gdr_uir_head, good_is_sound, has, heads_written, is_in, kept_away, last_node, link_to, no_node, node, nodes_of, number, number_kept, reindex_room, shape, space_fields, taking_all, type_in, uir_type, variables_chain, vdr_vxr_head, vdr_vxr_tail, vxr_bytes, vxr_type, with_index, with_writes}
+use Rattle.cdf_reindex.proofs.Common.{AllGiven, Avoids-append, Each, Each-in, Edit, Good, HasVariable, In, In-append, IsBare, IsBuilt, IsChain, IsIndex, IsLeft, IsRebuilt, IsSound, Kept, Kind, List, Mark, NewIndex, NextsAreZero, Nodes, Shape, StandsAmong, VariableShape, [], all_left, ap, apart, arith, each, edit_then, edit_under, field, freeing_marks, gdr_place, gdr_type, gdr_uir_head, good_is_sound, has, heads_written, inl, inr, is_in, kept_away, last_node, length, link_to, no_node, node, nodes_of, number, number_kept, refl, reindex_room, shape, space_fields, subst, sym, taking_all, type_in, uir_type, variables_chain, vdr_vxr_head, vdr_vxr_tail, vxr_bytes, vxr_type, with_index, with_writes, ℕ, ◌++◌, ◌+◌, ◌∙◌, ◌∷◌, ◌≡◌, ◌≤◌}
 use Rattle.cdf_edits.proofs.Edits.FreedRecords.{MayFree, all_given_edit}
-use Rattle.cdf_index.specs.Order.{NextsAreZero}
 use Rattle.cdf_reindex.proofs.MadeEdit.{among_linked, bare_linked, both, content_linked, in_places, index_made_marks, linked_long, linked_shape, new_apart, new_linked, node_before, old_linked, old_stands, olds, places, sound_linked, t, tail_is, taken, tests, vdr_linked, vdr_there}
 use Rattle.cdf_reindex.proofs.MadeTaken.{among_space, own_of}
 use Rattle.cdf_reindex.proofs.NodesMade.{bare_by}

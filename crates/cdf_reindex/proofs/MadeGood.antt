@@ -1,6 +1,5 @@
 -- An index made anew leads from one good image to another, with the same content.
-use Rattle.std.proofs.Common.{List, [], ap, arith, inl, inr, length, negsuc, pos, refl, subst, sym, true, ℕ, ◌++◌, ◌+◌, ◌∙◌, ◌∷◌, ◌≡◌, ◌≤◌}
-use Rattle.cdf_reindex.proofs.Common.{Each-map, Edit, Good, HasShape, Hold, Hold-split, In, In-append, In-append_left, In-append_right, IndexEdit, IsBare, IsGoodByShape, IsOneOf, IsRebuilt, IsRuled, IsSound, Kind, NodeFits, OwnEdit, R, Reindexed, Shape, StandsAmong, VariableShape, Z, all_unused, apart, behind_in, block_behind, by_kind, edit_then, eof, field, file, fits, flat_map, gdr_eof, gdr_field, good_by_its_shape, good_is_sound, has, image_limit, index_rows, is_in, leaf_rows, leaves_of, levels_up, linkable-type, nodes_of, nodes_stand, number, read_types, record_number_limit, reindex_room, shape, shapes_of, shapes_with, space_fields, stays, taking_all, times, type_at, uir_type, vdrs, vxr_bytes, vxr_n_used_entries, vxr_type, with_index, with_shapes}
+use Rattle.cdf_reindex.proofs.Common.{Each-map, Edit, Exchanged, Good, HasShape, Hold, Hold-split, In, In-append, In-append_left, In-append_right, IndexEdit, IsBare, IsGoodByShape, IsOneOf, IsRebuilt, IsRuled, IsSound, Kind, List, NewIndex, NodeFits, OwnEdit, R, Reindexed, Shape, StandsAmong, VariableShape, Z, [], all_unused, ap, apart, arith, behind_in, block_behind, block_kept, by_kind, edit_then, eof, field, file, fits, flat_map, gdr_eof, gdr_field, good_by_its_shape, good_is_sound, has, image_limit, index_edit, index_rows, inl, inr, is_in, leaf_rows, leaves_of, length, levels_up, linkable-type, negsuc, node_room, nodes_of, nodes_stand, number, own_edit, pos, read_types, record_number_limit, refl, reindex_room, shape, shapes_of, shapes_with, space_fields, stays, subst, sym, taking_all, times, true, type_at, uir_type, vdrs, vxr_bytes, vxr_n_used_entries, vxr_type, with_index, with_shapes, ℕ, ◌++◌, ◌+◌, ◌∙◌, ◌∷◌, ◌≡◌, ◌≤◌}
 use Rattle.cdf_edits.proofs.Edits.InRecords.{places_of}
 use Rattle.cdf_edits.proofs.Edits.PlainLeaves.{own_rules}
 use Rattle.cdf_format.specs.IndexRules.{nodes_rows}
@@ -10,7 +9,7 @@ use Rattle.cdf_reindex.proofs.Levels.{in_by_times}
 use Rattle.cdf_reindex.proofs.MadeBlocks.{StandsOn, leaves_on}
 use Rattle.cdf_reindex.proofs.MadeEdit.{heads_edit, sound_made, t, tests}
 use Rattle.cdf_reindex.proofs.MadeFreed.{edit, gives_edit, long_now, marks, may_free, new_index}
-use Rattle.cdf_index.proofs.NewIndex.{Exchanged, NewIndex, block_kept, good_now as changed_good, index_edit, node_room, own_edit}
+use Rattle.cdf_index.proofs.NewIndex.{good_now as changed_good}
 use Rattle.cdf_edits.proofs.Edits.OwnEdited as of_own_edit
 
 module _ {b now : List ℕ} {kind : Kind} {before : List VariableShape} {own : VariableShape} {after : List VariableShape} (good : Good b) (among : StandsAmong b kind before own after) (r : IsRebuilt b now own) (short : length now ≤ image_limit) where

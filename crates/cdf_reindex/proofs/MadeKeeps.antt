@@ -1,6 +1,5 @@
 -- An index made anew: what it keeps of the records of each owner.
-use Rattle.std.proofs.Common.{List, Option, [], eq-eqb, false, if◌then◌else◌, length, refl, true, ℕ, ◌&&◌, ◌+◌, ◌==◌, ◌∷◌, ◌≡◌, ◌≤◌}
-use Rattle.cdf_reindex.proofs.Common.{AllKeep, Allowance, Allowances, Avoids, Field, Found, Good, In, IsRebuilt, Only, Range, StandsAmong, VariableShape, Within, by_range, descriptor_allowed, gave, index_keeps, is_taken, levels_up, listed_free, nat_le, nat_lt, node_allowed, nodes_of, only_of, owned, range_at, reindex_changes, same_as_itself, same_kind, shape, size_at, taking_all, uir_next_uir, uir_prev_uir, uir_type, unlisted_away, vdr_type, vdr_vxr_head, vdr_vxr_tail, vxr_bytes}
+use Rattle.cdf_reindex.proofs.Common.{AllKeep, Allowance, Allowances, Avoids, Field, Found, Good, In, IsRebuilt, List, Only, Option, Range, StandsAmong, VariableShape, Within, [], by_range, descriptor_allowed, eq-eqb, false, gave, if◌then◌else◌, index_keeps, is_taken, length, levels_up, listed_free, nat_le, nat_lt, node_allowed, nodes_of, only_of, owned, range_at, refl, reindex_changes, same_as_itself, same_kind, shape, size_at, taking_all, true, uir_next_uir, uir_prev_uir, uir_type, unlisted_away, vdr_type, vdr_vxr_head, vdr_vxr_tail, vxr_bytes, ℕ, ◌&&◌, ◌+◌, ◌==◌, ◌∷◌, ◌≡◌, ◌≤◌}
 use Rattle.cdf_edits.proofs.Edits.OnlyTaken.{none_of_both}
 use Rattle.cdf_reindex.proofs.MadeActs.{acts}
 use Rattle.cdf_reindex.proofs.MadeEdit.{t}

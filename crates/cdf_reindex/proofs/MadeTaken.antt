@@ -1,6 +1,5 @@
 -- The nodes of a new index are taken one after the other: one edit, and acts that follow.
-use Rattle.std.proofs.Common.{List, [], ap, arith, inl, inr, length, map, refl, subst, sym, ℕ, ◌∙◌, ◌∷◌, ◌≡◌}
-use Rattle.cdf_reindex.proofs.Common.{Act, AllTaken, Each, Each-split, Good, In, IsSound, Kind, NodeStands, R, StandsAmong, TakenAll, Took, VariableShape, Z, eof, eof_by_rules, filled_size, good_by_its_shape, good_is_sound, good_long, kept, none_taken, of_kind, place_in, placed_grows, rules_of_good, sealed_kept, shape, shapes_of, size_kept, taken_then, type_kept, variables, vxr_bytes, vxr_type, with_space}
+use Rattle.cdf_reindex.proofs.Common.{Act, AllTaken, Each, Each-split, Good, In, IsSound, Kind, List, NodeStands, R, StandsAmong, TakenAll, Took, VariableShape, Z, [], ap, arith, eof, eof_by_rules, filled_size, good_by_its_shape, good_is_sound, good_long, inl, inr, kept, length, map, none_taken, of_kind, place_in, placed_grows, refl, rules_of_good, sealed_kept, shape, shapes_of, size_kept, subst, sym, taken_then, type_kept, variables, vxr_bytes, vxr_type, with_space, ℕ, ◌∙◌, ◌∷◌, ◌≡◌}
 
 abbrev pub node_takes : List ℕ → List Act
 node_takes places = map (λ vxr. Took vxr (vxr_bytes 64)) places

@@ -1,6 +1,5 @@
 -- A record that was taken becomes a node.
-use Rattle.std.proofs.Common.{List, length, ℕ, ◌≡◌}
-use Rattle.cdf_reindex.proofs.Common.{Entry, IsSound, NodeMade, NodeWritten, Takes, content, ends, eof, fills, gdr_offset, node_short, shape}
+use Rattle.cdf_reindex.proofs.Common.{Entry, IsSound, List, NodeMade, NodeWritten, Takes, content, ends, eof, fills, gdr_offset, length, node_short, shape, ℕ, ◌≡◌}
 
 module _ (b taken : List ℕ) (place : ℕ) (sound : IsSound b (shape b)) (takes : Takes b taken (shape b) (shape taken) 1052 place) (sound_taken : IsSound taken (shape taken)) (stays : content taken ≡ content b) (now : List ℕ) (entries : List Entry) (w : NodeWritten taken now place 64 0 entries) where
   pub node_made : NodeMade b now entries place

@@ -1,7 +1,5 @@
 -- New nodes stand in the image, with none behind them, and with -1 in the entries that are not used.
-use Rattle.std.proofs.Common.{List, [], arith, inl, inr, length, refl, subst, sym, ℕ, ◌*◌, ◌+◌, ◌<◌, ◌∙◌, ◌∷◌, ◌≡◌, ◌≤◌}
-use Rattle.cdf_reindex.proofs.Common.{AllMade, AllTaken, Each, Entry, In, IsBare, IsSound, Kept, NewNode, NodeMade, SameHeads, SaysEntry, SaysNode, entry_count, entry_in, entry_same, eof, filled_size, kept, linkable-from, next_kept, no_node, node_fits_kept, node_kept, number_kept, place_in, placed_grows, places_of, room_same, shape, size_at, used_same, vxr_n_used_entries, vxr_type, words_of}
-use Rattle.cdf_format.specs.Index.{used_count}
+use Rattle.cdf_reindex.proofs.Common.{AllMade, AllTaken, Each, Entry, In, IsBare, IsSound, Kept, List, NewNode, NodeMade, SameHeads, SaysEntry, SaysNode, [], arith, entry_count, entry_in, entry_same, eof, filled_size, inl, inr, kept, length, linkable-from, next_kept, no_node, node_fits_kept, node_kept, number_kept, place_in, placed_grows, places_of, refl, room_same, shape, size_at, subst, sym, used_count, used_same, vxr_n_used_entries, vxr_type, words_of, ℕ, ◌*◌, ◌+◌, ◌<◌, ◌∙◌, ◌∷◌, ◌≡◌, ◌≤◌}
 use Rattle.cdf_index.proofs.OneNode.{entry_past, one_head}
 use Rattle.cdf_index.proofs.WayDown.{made}
 use Rattle.cdf_reindex.proofs.MadeTaken.{all_taken}

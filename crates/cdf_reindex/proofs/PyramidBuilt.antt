@@ -1,13 +1,8 @@
 -- The levels that code made, as a tree that stands in the image.
-use Rattle.std.proofs.Common.{List, [], ap, arith, inl, length, map, refl, subst, suc, sym, ℕ, ◌+◌, ◌<◌, ◌^◌, ◌∙◌, ◌∷◌, ◌≡◌, ◌≤◌}
-use Rattle.cdf_reindex.proofs.Common.{AllTaken, AreLevels, Each, Each-append, Filled, Good, HasVariable, IndexMade, IsBare, IsBuilt, IsPyramid, IsSound, Kind, Leaf, NewNode, Nodes, PyramidMade, StandsAmong, VariableShape, alone, each, entries_for, from_below, good_is_sound, leaf_words, leaves_named, length-map, link_to, no_node, places_of, record_number_limit, shape, times}
+use Rattle.cdf_reindex.proofs.Common.{AllTaken, AreInOrder, AreLevels, AreTight, Each, Each-append, EntriesTight, Filled, Good, HasNodes, HasVariable, InOrder, IndexMade, IsBare, IsBuilt, IsPyramid, IsSound, Kind, Leaf, List, NewNode, NextsAreZero, Nodes, PyramidMade, StandsAmong, VariableShape, [], alone, ap, arith, each, entries_for, from_below, good_is_sound, inl, leaf_words, leaves_named, length, length-map, link_to, map, no_node, nodes_above, nodes_at, places_of, record_number_limit, refl, shape, subst, suc, sym, times, ℕ, ◌+◌, ◌<◌, ◌^◌, ◌∙◌, ◌∷◌, ◌≡◌, ◌≤◌}
 use Rattle.cdf_edits.proofs.Edits.LeafRecords.{Ascending}
-use Rattle.cdf_edits.specs.Commands.Reindex.{AreTight, EntriesTight, nodes_at}
-use Rattle.cdf_edits.specs.Commands.Room.{nodes_above}
 use Rattle.cdf_format.specs.Index.{leaves_of, nodes_of}
-use Rattle.cdf_format.specs.IndexOf.{HasNodes}
 use Rattle.cdf_index.proofs.LeavesAscend.{leaves_ascend}
-use Rattle.cdf_index.specs.Order.{AreInOrder, InOrder, NextsAreZero}
 use Rattle.cdf_reindex.proofs.LevelSteps.{all_longest}
 use Rattle.cdf_reindex.proofs.Levels.{in_by_times, lengths_add, makes_pyramid, nodes_are, times_add}
 use Rattle.cdf_reindex.proofs.MadeTaken.{all_taken, among_space, end_before, own_of}

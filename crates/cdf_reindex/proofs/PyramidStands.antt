@@ -1,7 +1,5 @@
 -- Levels whose nodes stand in an image make an index of it.
-use Rattle.std.proofs.Common.{List, [], arith, length, subst, suc, sym, zero, ℕ, ◌∷◌, ◌≤◌}
-use Rattle.cdf_reindex.proofs.Common.{AreLevels, Each, Each-split, Leaf, Named, NewNode, alone, entries_for, entries_of, from_below, names_parts, shape, uppers}
-use Rattle.cdf_format.specs.IndexOf.{HasNodes, Names}
+use Rattle.cdf_reindex.proofs.Common.{AreLevels, Each, Each-split, HasNodes, Leaf, List, Named, Names, NewNode, [], alone, arith, entries_for, entries_of, from_below, length, names_parts, shape, subst, suc, sym, uppers, zero, ℕ, ◌∷◌, ◌≤◌}
 use Rattle.cdf_reindex.proofs.NodesMade.{Stands}
 
 module _ (now : List ℕ) where

@@ -1,6 +1,5 @@
 -- What a good image gives for the calls by which the index of one of its variables is made anew, and what they come to.
-use Rattle.std.proofs.Common.{List, [], ap, arith, inl, inr, length, map, refl, subst, sym, ℕ, ◌*◌, ◌+◌, ◌<◌, ◌^◌, ◌∙◌, ◌≡◌, ◌≤◌}
-use Rattle.cdf_reindex.proofs.Common.{AllGiven, AreFree, Entry, Good, In, IndexMade, IsNode, IsRebuilt, IsSound, Kind, LiesIn, Nodes, Reindexed, StandsAmong, VariableShape, good_by_its_shape, good_is_sound, heads_written, image_limit, index_of, leaf_words, leaves_of, length-map, name_room, nil_from_length, no_node, node, nodes_above, number, reindex_room, shape, variables, vdr_vxr_head, vdr_vxr_tail, vdrs, with_field, with_writes}
+use Rattle.cdf_reindex.proofs.Common.{AllGiven, AreFree, Entry, Good, In, IndexMade, IsNode, IsRebuilt, IsSound, Kind, LiesIn, List, Nodes, Reindexed, StandsAmong, VariableShape, [], ap, arith, good_by_its_shape, good_is_sound, heads_written, image_limit, index_of, inl, inr, leaf_words, leaves_of, length, length-map, map, name_room, nil_from_length, no_node, node, nodes_above, number, refl, reindex_room, shape, subst, sym, variables, vdr_vxr_head, vdr_vxr_tail, vdrs, with_field, with_writes, ℕ, ◌*◌, ◌+◌, ◌<◌, ◌^◌, ◌∙◌, ◌≡◌, ◌≤◌}
 use Rattle.cdf_format.proofs.GoodImageLemmas.{good_image}
 use Rattle.cdf_format.specs.Index.{nodes_of}
 use Rattle.cdf_index.proofs.GoodIndex.{good_index}

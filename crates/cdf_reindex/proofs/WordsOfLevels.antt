@@ -1,6 +1,5 @@
 -- Entries that are known by what they say.
-use Rattle.std.proofs.Common.{List, [], ap, arith, false, get_or, length, map, refl, suc, ℕ, ◌++◌, ◌+◌, ◌-◌, ◌<◌, ◌∙◌, ◌∷◌, ◌≡◌, ◌≤◌}
-use Rattle.cdf_reindex.proofs.Common.{Entries, Entry, Leaf, SayEntries, SaysEntry, block, entries_for, entry_count, entry_in, first_of, last_of, leaf_words, link_to, lower, naming, no_entry, with_both, words, words_of}
+use Rattle.cdf_reindex.proofs.Common.{Entries, Entry, Leaf, List, SayEntries, SaysEntry, [], ap, arith, block, entries_for, entry_count, entry_in, false, first_of, get_or, last_of, leaf_words, length, link_to, lower, map, naming, no_entry, refl, suc, with_both, words, words_of, ℕ, ◌++◌, ◌+◌, ◌-◌, ◌<◌, ◌∙◌, ◌∷◌, ◌≡◌, ◌≤◌}
 
 pub length_words : (entries : Entries) → length (words_of entries) ≡ entry_count entries
 length_words no_entry = refl

@@ -4,7 +4,8 @@ pub use Rattle.cdf_edits.proofs.Common.{Byte, DataSet, DataType, Each, Each-spli
 pub use Rattle.cdf_edits.proofs.Edits.Common.{IsRuled, StandsAmong, fits, high, name_room, of_kind, pad_width, sound, tile, typed}
 pub use Rattle.cdf_edits.proofs.Edits.LeafRecords.{Ascending}
 pub use Rattle.cdf_edits.specs.Commands.Room.{blocks_room, packed_room, put_room, uncovered, vdr_bytes}
-pub use Rattle.cdf_edits.specs.Index.Blocks.{block_count, covered, cuts_before_put, first_written, firsts_of, is_sparse, next_first, ranges_before_put, ranges_of}
+pub use Rattle.cdf_edits.specs.Index.Blocks.{block_count, covered, cuts_before_put, first_written, is_sparse, next_first, ranges_before_put, ranges_of}
+unfoldable pub use Rattle.cdf_edits.specs.Index.Blocks.{entry_firsts, firsts_of}
 pub use Rattle.cdf_format.proofs.GoodHead.{cdr_fits, few_dimensions, gdr_fits, sizes_fit}
 pub use Rattle.cdf_format.specs.Stored.{known_type, network_bytes}
 pub use Rattle.cdf_format.specs.VariableFields.{elems_at, sparse_at, vary_field, varys_at}
@@ -17,6 +18,7 @@ pub use Rattle.cdf_model.proofs.Filled.{length-repeat, repeat_more}
 pub use Rattle.cdf_model.specs.Pads.{default_element, default_value}
 pub use Rattle.cdf_model.specs.Place.{record_size, value_count}
 pub use Rattle.cdf_model.specs.Reading.{missing, number_read, pad_record, pad_value, read_at}
+pub use Rattle.cdf_puts.proofs.CoveringRanges.{bound_is, next_past, of_leaves}
 pub use Rattle.cdf_records.specs.Pieces.{AreBytes}
 pub use Rattle.cdf_values.proofs.TurnedLemmas.{size_stays}
 pub use Rattle.cdf_values.proofs.ValueLengths.{size_some, whole_elements}
@@ -24,6 +26,7 @@ pub use Rattle.cdf_var_records.specs.Descriptors.{HasElements, IsPlace, IsVdr}
 pub use Rattle.cdf_var_records.specs.Records.{IsForm, IsRecordShape, leaf_in, variable_at}
 pub use Rattle.cdf_var_records.specs.Room.{IsStretch, count_in_block, covered_before}
 pub use Rattle.cdf_var_records.specs.declared.form.Form.{Form}
+pub use Rattle.std.proofs.Common.{Bool, List, None, Option, Some, [], ap, ap₂, arith, drop, false, inl, inr, leb, length, ltb, map, max, min, negsuc, not, pos, refl, subst, suc, sym, take, true, zero, ℕ, ℤ, ◌%◌, ◌*◌, ◌++◌, ◌+◌, ◌-◌, ◌/◌, ◌<◌, ◌^◌, ◌∙◌, ◌∷◌, ◌≡◌, ◌≤◌, ◌⊎◌}
 pub use Rattle.std.proofs.Math.Nat.{mul-div_cancel_left, mul-le-mul_right}
 pub use Rattle.std.proofs.lemmas.Result.{IfOk-weaker}
 pub use Rattle.std.specs.List.{repeat}

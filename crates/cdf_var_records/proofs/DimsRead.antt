@@ -1,6 +1,5 @@
 -- The dimensions that r variables share, as they are read.
-use Rattle.std.proofs.Common.{List, ap, arith, length, sym, ℕ, ◌*◌, ◌+◌, ◌∙◌, ◌≡◌, ◌≤◌}
-use Rattle.cdf_var_records.proofs.Common.{DataSet, Good, cast_signed, cdr_fits, content, content_is, counted, few_dimensions, gdr_fits, gdr_offset, good_is_sound, r_num_dims, shape, signed_limit, sizes_fit, w32, word, words}
+use Rattle.cdf_var_records.proofs.Common.{DataSet, Good, List, ap, arith, cast_signed, cdr_fits, content, content_is, counted, few_dimensions, gdr_fits, gdr_offset, good_is_sound, length, r_num_dims, shape, signed_limit, sizes_fit, sym, w32, word, words, ℕ, ◌*◌, ◌+◌, ◌∙◌, ◌≡◌, ◌≤◌}
 
 -- a small number that is read with its sign
 pub small_signed : (n : ℕ) → n ≤ signed_limit → counted (cast_signed w32 n) ≡ n

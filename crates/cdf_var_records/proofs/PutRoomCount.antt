@@ -1,11 +1,8 @@
 -- How many records from a first on have a block, counted from stretch to stretch.
-use Rattle.std.proofs.Common.{List, None, Some, [], ap, arith, inl, inr, leb, map, max, min, refl, subst, suc, sym, ℕ, ◌++◌, ◌+◌, ◌-◌, ◌<◌, ◌∙◌, ◌∷◌, ◌≡◌, ◌≤◌, ◌⊎◌}
-use Rattle.cdf_var_records.proofs.Common.{Ascending, Entries, IsStretch, Nodes, Range, block, covered, covered_before, either, leaf_of, lower, next_first, no_entry, no_node, node, range, ranges_of, record_number_limit, same_Some, le_of}
+use Rattle.cdf_var_records.proofs.Common.{Ascending, Entries, IsStretch, List, Nodes, None, Range, Some, [], ap, arith, block, covered, covered_before, either, entry_firsts, firsts_of, inl, inr, le_of, leaf_of, leb, lower, map, max, min, next_first, next_past, no_entry, no_node, node, of_leaves, range, ranges_of, record_number_limit, refl, same_Some, subst, suc, sym, ℕ, ◌++◌, ◌+◌, ◌-◌, ◌<◌, ◌∙◌, ◌∷◌, ◌≡◌, ◌≤◌, ◌⊎◌}
 use Rattle.cdf_edits.proofs.Common.{Leaf}
-use Rattle.cdf_edits.specs.Index.Blocks.{entry_firsts, firsts_of}
 use Rattle.cdf_format.specs.Index.{entry_leaves, leaves_of}
 use Rattle.cdf_index.proofs.LeafRules.{NoneBegins, none_begins}
-use Rattle.cdf_puts.proofs.CoveringRanges.{next_past, of_leaves}
 use Rattle.cdf_var_records.specs.declared.put_room.Stretch.{Stretch}
 use Rattle.std.proofs.lemmas.Bool.{leb-false}
 use Rattle.std.proofs.lemmas.List.Sums.{sum_by-cons}

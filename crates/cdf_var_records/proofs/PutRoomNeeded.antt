@@ -1,6 +1,5 @@
 -- How large a put makes the file at most, by what was read of the variable.
-use Rattle.std.proofs.Common.{List, ap, ap₂, arith, false, inl, inr, length, refl, subst, suc, sym, ℕ, ◌+◌, ◌-◌, ◌∙◌, ◌≡◌, ◌≤◌}
-use Rattle.cdf_var_records.proofs.Common.{Ascending, Form, Good, HasIndex, IsForm, Nodes, Variable, blocks_room, covered, cuts_before_put, either, first_written, index_at, is_sparse, leaves_of, number, packed_room, put_room, ranges_before_put, ranges_of, record_number_limit, uncovered, variable_at, vdr_vxr_head}
+use Rattle.cdf_var_records.proofs.Common.{Ascending, Form, Good, HasIndex, IsForm, List, Nodes, Variable, ap, ap₂, arith, blocks_room, covered, cuts_before_put, either, false, first_written, index_at, inl, inr, is_sparse, leaves_of, length, number, packed_room, put_room, ranges_before_put, ranges_of, record_number_limit, refl, subst, suc, sym, uncovered, variable_at, vdr_vxr_head, ℕ, ◌+◌, ◌-◌, ◌∙◌, ◌≡◌, ◌≤◌}
 use Rattle.cdf_index.proofs.LeavesAscend.{leaves_ascend}
 use Rattle.cdf_index.specs.Sizes.{size_of}
 use Rattle.cdf_index.specs.declared.measuring.IndexSize.{IndexSize}

@@ -1,6 +1,5 @@
 -- What the VDR of a variable of a good image says of its records, and what its index is.
-use Rattle.std.proofs.Common.{Bool, List, [], ap, ap₂, arith, false, inl, inr, length, ltb, map, negsuc, not, pos, refl, subst, suc, sym, true, ℕ, ℤ, ◌*◌, ◌+◌, ◌-◌, ◌^◌, ◌∙◌, ◌∷◌, ◌≡◌, ◌≤◌, ◌⊎◌}
-use Rattle.cdf_var_records.proofs.Common.{DataSet, DataType, Form, Good, HasIndex, Hold-split, IsForm, IsPlace, IsVdr, Kind, NoRule, Nodes, Pad, Previous, R, Z, asked, both, content, content_is, counted, counted4, cpr_link, cpr_rows, dimensions_at, dims_at, either, elems_at, few_dimensions, fits, gdr_offset, gdr_r_num_dims, good_by_its_shape, good_is_sound, has_bit, has_dimensions, has_pad, if◌then◌else◌, index_at, is_compressed, is_little, is_positive, is_z, le_of, length-map, list_all, majority_of, mul-le-mul_right, nat_le, number, pad_field, r_sizes, record_bytes, record_limit, record_size, shape, size_at, size_of, size_some, sound, sparse_at, tile, tile_lies, type_of_variable, value_bytes, variable_at, variable_of, variables, vary_field, varys_at, vdr_num_elems, vdr_r_dim_vary, vdr_r_pad_value, vdr_s_records, vdr_vxr_head, vdr_z_dim_vary, vdr_z_num_dims, vdr_z_pad_value, with_sign, word, words, ◌==◌, ◌||◌}
+use Rattle.cdf_var_records.proofs.Common.{Bool, DataSet, DataType, Form, Good, HasIndex, Hold-split, IsForm, IsPlace, IsVdr, Kind, List, NoRule, Nodes, Pad, Previous, R, Z, [], ap, ap₂, arith, asked, both, content, content_is, counted, counted4, cpr_link, cpr_rows, dimensions_at, dims_at, either, elems_at, false, few_dimensions, fits, gdr_offset, gdr_r_num_dims, good_by_its_shape, good_is_sound, has_bit, has_dimensions, has_pad, if◌then◌else◌, index_at, inl, inr, is_compressed, is_little, is_positive, is_z, le_of, length, length-map, list_all, ltb, majority_of, map, mul-le-mul_right, nat_le, negsuc, not, number, pad_field, pos, r_sizes, record_bytes, record_limit, record_size, refl, shape, size_at, size_of, size_some, sound, sparse_at, subst, suc, sym, tile, tile_lies, true, type_of_variable, value_bytes, variable_at, variable_of, variables, vary_field, varys_at, vdr_num_elems, vdr_r_dim_vary, vdr_r_pad_value, vdr_s_records, vdr_vxr_head, vdr_z_dim_vary, vdr_z_num_dims, vdr_z_pad_value, with_sign, word, words, ℕ, ℤ, ◌*◌, ◌+◌, ◌-◌, ◌==◌, ◌^◌, ◌||◌, ◌∙◌, ◌∷◌, ◌≡◌, ◌≤◌, ◌⊎◌}
 use Rattle.cdf_format.proofs.GoodImageLemmas.{good_image}
 use Rattle.cdf_format.specs.GoodImage.{IsGoodImage}
 use Rattle.cdf_format.specs.NotRead.{unread_sparse}

@@ -1,6 +1,5 @@
 -- What a record of a variable reads as, by what was read of its VDR.
-use Rattle.std.proofs.Common.{Bool, List, None, Some, ap, ap₂, arith, drop, false, length, refl, subst, sym, take, true, ℕ, ◌%◌, ◌*◌, ◌++◌, ◌+◌, ◌-◌, ◌/◌, ◌<◌, ◌∙◌, ◌≡◌, ◌≤◌}
-use Rattle.cdf_var_records.proofs.Common.{DataType, Form, Good, HasIndex, HoldsRecords, IsForm, IsRecordShape, Leaf, Variable, default_value, dimensions_at, elems_at, extent, has_bit, has_pad, if◌then◌else◌, index_at, is_z, item_at, le-ltb, leaf_in, leaf_of, leaves_of, lt-ltb, max_rec_at, mul-div_cancel_left, mul-le-mul_right, nat_lt, network_bytes, number, number_read, option_map, pad_field, pad_record, pad_value, pad_width, plain_bytes, read, record_bytes, record_in, record_limit, record_of_leaf, record_size, seen, size_of, size_stays, take_at, turned, type_of_variable, value_bytes, value_count, variable_at, vdr_vxr_head, whole_elements}
+use Rattle.cdf_var_records.proofs.Common.{Bool, DataType, Form, Good, HasIndex, HoldsRecords, IsForm, IsRecordShape, Leaf, List, None, Some, Variable, ap, ap₂, arith, default_value, dimensions_at, drop, elems_at, extent, false, has_bit, has_pad, if◌then◌else◌, index_at, is_z, item_at, le-ltb, leaf_in, leaf_of, leaves_of, length, lt-ltb, max_rec_at, mul-div_cancel_left, mul-le-mul_right, nat_lt, network_bytes, number, number_read, option_map, pad_field, pad_record, pad_value, pad_width, plain_bytes, read, record_bytes, record_in, record_limit, record_of_leaf, record_size, refl, seen, size_of, size_stays, subst, sym, take, take_at, true, turned, type_of_variable, value_bytes, value_count, variable_at, vdr_vxr_head, whole_elements, ℕ, ◌%◌, ◌*◌, ◌++◌, ◌+◌, ◌-◌, ◌/◌, ◌<◌, ◌∙◌, ◌≡◌, ◌≤◌}
 use Rattle.cdf_shape.specs.declared.shape.Shape.{Shape}
 use Rattle.cdf_var_records.proofs.PadSites.{vdr_lies}
 use Rattle.cdf_var_records.proofs.RecordForms.{has_index, pad_lies}

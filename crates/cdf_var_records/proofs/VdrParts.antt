@@ -1,6 +1,5 @@
 -- Where the VDR of a variable stands, and how long its parts are.
-use Rattle.std.proofs.Common.{List, ap, arith, false, inl, inr, length, refl, suc, true, zero, ℕ, ◌+◌, ◌∙◌, ◌≡◌, ◌≤◌}
-use Rattle.cdf_var_records.proofs.Common.{Good, IsVdr, Kind, R, StandsAmong, VariableShape, Z, counted4, dimensions_at, dims_at, either, fits, high, is_z, length-map, pad_field, type_at, type_in, variables_chain, vdr_bytes, words, z_vdr_type, ◌==◌}
+use Rattle.cdf_var_records.proofs.Common.{Good, IsVdr, Kind, List, R, StandsAmong, VariableShape, Z, ap, arith, counted4, dimensions_at, dims_at, either, false, fits, high, inl, inr, is_z, length, length-map, pad_field, refl, suc, true, type_at, type_in, variables_chain, vdr_bytes, words, z_vdr_type, zero, ℕ, ◌+◌, ◌==◌, ◌∙◌, ◌≡◌, ◌≤◌}
 
 pub words_long : (b : List ℕ) (p n : ℕ) → length (words b p n) ≡ n
 words_long b p zero = refl

@@ -1,5 +1,4 @@
-use Rattle.std.proofs.Common.{◌∙◌}
-use Rattle.cdf_index.proofs.Common.{index_at}
+use Rattle.cdf_index.proofs.Common.{index_at, ◌∙◌}
 use Rattle.cdf_index.proofs.ChainWalk.{whole_chain, whole_met}
 use Rattle.cdf_index.proofs.Collected.{collected}
 use Rattle.cdf_index.proofs.collecting.index_parts.Goals as goal

@@ -1,5 +1,4 @@
-use Rattle.std.proofs.Common.{◌≡◌, take}
-use Rattle.cdf_index.specs.Whole.{places_in}
+use Rattle.cdf_index.proofs.Common.{places_in, take, ◌≡◌}
 use Rattle.cdf_index.proofs.collecting.places_of.Given as goal
 
 abbrev pub invariant-loop-entry : goal.invariant-loop-entry

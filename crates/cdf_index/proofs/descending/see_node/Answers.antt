@@ -1,5 +1,4 @@
-use Rattle.std.proofs.Common.{ℕ, List, refl, subst}
-use Rattle.cdf_index.specs.Ahead.{Begun}
+use Rattle.cdf_index.proofs.Common.{Begun, List, refl, subst, ℕ}
 use Rattle.cdf_index.proofs.Looking.{node_inside}
 use Rattle.cdf_index.proofs.Searching.{node_now}
 use Rattle.cdf_index.proofs.descending.see_node.Goals as goal

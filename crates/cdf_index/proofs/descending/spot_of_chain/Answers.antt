@@ -1,5 +1,4 @@
-use Rattle.std.proofs.Common.{◌≡◌, ◌≤◌, ℕ, List, refl, sym, subst, ap, ◌∙◌}
-use Rattle.cdf_index.proofs.Common.{used_count, NamesIn, chain_before, SpotIs, spot_at, IsHead}
+use Rattle.cdf_index.proofs.Common.{IsHead, List, NamesIn, SpotIs, ap, chain_before, refl, spot_at, subst, sym, used_count, ℕ, ◌∙◌, ◌≡◌, ◌≤◌}
 use Rattle.cdf_index.proofs.Looking.{names_in}
 use Rattle.cdf_index.proofs.Searching.{inside_now}
 use Rattle.cdf_index.proofs.descending.spot_of_chain.Goals as goal

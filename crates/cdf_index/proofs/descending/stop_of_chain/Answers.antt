@@ -1,5 +1,4 @@
-use Rattle.std.proofs.Common.{ℕ, List, length, sym, subst, ap, arith}
-use Rattle.cdf_index.proofs.Common.{read_more, read_once, SeesNode, spot_at, SomeNode}
+use Rattle.cdf_index.proofs.Common.{List, SeesNode, SomeNode, ap, arith, length, read_more, read_once, spot_at, subst, sym, ℕ}
 use Rattle.cdf_index.proofs.GoingDown.{chain_start, spot_found, best_node, next_tree, better_chain, spot_never}
 use Rattle.cdf_index.proofs.LevelsDown.{some_node}
 use Rattle.cdf_index.proofs.descending.stop_of_chain.Goals as goal

@@ -1,5 +1,4 @@
-use Rattle.std.proofs.Common.{◌≡◌, ℕ}
-use Rattle.cdf_index.proofs.Common.{Stays, Nodes, link_to, IsTree, spot_at}
+use Rattle.cdf_index.proofs.Common.{IsTree, Nodes, Stays, link_to, spot_at, ℕ, ◌≡◌}
 use Rattle.cdf_index.proofs.GoingDown.{ChainAt}
 use Rattle.cdf_index.proofs.descending.stop_of_chain.Given as goal
 

@@ -1,5 +1,4 @@
-use Rattle.std.proofs.Common.{◌≡◌, ◌+◌, ◌-◌, ℕ, List, refl, sym, subst, arith}
-use Rattle.cdf_index.proofs.Common.{read_more, read_once, Nodes, link_to, IsTree, SomeTree, SpotIs, index_at, Step}
+use Rattle.cdf_index.proofs.Common.{IsTree, List, Nodes, SomeTree, SpotIs, Step, arith, index_at, link_to, read_more, read_once, refl, subst, sym, ℕ, ◌+◌, ◌-◌, ◌≡◌}
 use Rattle.cdf_index.proofs.LevelsDown.{Descending, some_tree, descend_start, next_level, way_done, end_done, last_among, all_among, descend_more, descend_never}
 use Rattle.cdf_index.proofs.descending.way_down.Goals as goal
 

@@ -1,8 +1,5 @@
-use Rattle.std.proofs.Common.{◌≡◌, ◌-◌, ℕ, ap, ◌∙◌, arith, ◌+◌, add-one}
-use Rattle.std.proofs.lemmas.Int.{of_z-to_z}
+use Rattle.cdf_index.proofs.Common.{add-one, ap, arith, edit_more, edits_by_read, of_z-to_z, on_ok_weaker, vxr_n_used_entries, with_field, ℕ, ◌+◌, ◌-◌, ◌∙◌, ◌≡◌}
 use Rattle.std.specs.Int.{w32}
-use Rattle.cdf_index.proofs.Common.{on_ok_weaker, edit_more, with_field, vxr_n_used_entries}
-use Rattle.cdf_area.proofs.Calls.{edits_by_read}
 use Rattle.cdf_index.proofs.Inserting.{inside_stays, shift_more, inserted}
 use Rattle.cdf_index.proofs.entries.insert_entry.Goals as goal
 

@@ -1,5 +1,4 @@
-use Rattle.std.proofs.Common.{◌≤◌, ◌-◌}
-use Rattle.cdf_area.specs.Calls.{Keeps}
+use Rattle.cdf_index.proofs.Common.{Keeps, ◌-◌, ◌≤◌}
 use Rattle.cdf_index.proofs.Inserting.{Shifted}
 use Rattle.cdf_index.proofs.entries.insert_entry.Given as goal
 

@@ -1,5 +1,4 @@
-use Rattle.std.proofs.Common.{List, subst, ℕ}
-use Rattle.cdf_index.proofs.Common.{on_ok_weaker, EntrySet}
+use Rattle.cdf_index.proofs.Common.{EntrySet, List, on_ok_weaker, subst, ℕ}
 use Rattle.cdf_index.proofs.NodeShortened.{widened_by}
 use Rattle.cdf_index.proofs.entries.widen_entry.Goals as goal
 

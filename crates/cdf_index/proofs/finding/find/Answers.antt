@@ -1,5 +1,4 @@
-use Rattle.std.proofs.Common.{rules, arith, Some, None}
-use Rattle.cdf_index.proofs.Common.{read_more, seen}
+use Rattle.cdf_index.proofs.Common.{None, Some, arith, read_more, rules, seen}
 use Rattle.cdf_index.proofs.Searching.{at_start, turns, answer, none_left, over}
 use Rattle.cdf_index.proofs.finding.find.Goals as goal
 

@@ -1,6 +1,4 @@
-use Rattle.std.proofs.Common.{◌≡◌, ◌+◌}
-use Rattle.cdf_index.proofs.Common.{Stays, index_at, At}
-use Rattle.cdf_index.specs.Order.{nodes_passed}
+use Rattle.cdf_index.proofs.Common.{At, Stays, index_at, nodes_passed, ◌+◌, ◌≡◌}
 use Rattle.cdf_index.proofs.Searching.{Turns}
 use Rattle.cdf_index.proofs.finding.find.Given as goal
 

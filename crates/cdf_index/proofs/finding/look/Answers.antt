@@ -1,4 +1,4 @@
-use Rattle.std.proofs.Common.{sym, ◌∙◌}
+use Rattle.cdf_index.proofs.Common.{sym, ◌∙◌}
 use Rattle.cdf_index.proofs.Looking.{look_next, look_tells}
 use Rattle.cdf_index.proofs.finding.look.Goals as goal
 

@@ -1,5 +1,4 @@
-use Rattle.std.proofs.Common.{◌<◌, arith, ◌∙◌}
-use Rattle.cdf_index.proofs.Common.{read_more, used_count}
+use Rattle.cdf_index.proofs.Common.{arith, read_more, used_count, ◌<◌, ◌∙◌}
 use Rattle.cdf_index.proofs.Looking.{node_inside}
 use Rattle.cdf_index.proofs.ChainWalk.{walk_end, walk_over, walk_node, walk_in, lower_chain, past_block, past_lower, walk_out}
 use Rattle.cdf_index.proofs.gathering.+gather_chain.Goals.{then-named-eq-VXR_TYPE+in_ok-gather_chain, else-named-eq-VXR_TYPE+in_ok-block}

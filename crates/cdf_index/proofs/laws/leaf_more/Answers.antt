@@ -1,5 +1,4 @@
-use Rattle.std.proofs.Common.{map, ap, ◌∙◌}
-use Rattle.cdf_index.proofs.Common.{range, Leaf, leaves_of, record_number_limit, index_at}
+use Rattle.cdf_index.proofs.Common.{Leaf, ap, index_at, leaves_of, map, range, record_number_limit, ◌∙◌}
 use Rattle.cdf_index.proofs.LeafMore.{leaves_more, ranges_new}
 use Rattle.cdf_index.proofs.laws.leaf_more.Goals as goal
 

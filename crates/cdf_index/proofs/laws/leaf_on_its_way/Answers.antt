@@ -1,5 +1,4 @@
-use Rattle.std.proofs.Common.{ℕ, subst}
-use Rattle.cdf_index.proofs.Common.{In, tiles, index_at, nodes_of, record_number_limit}
+use Rattle.cdf_index.proofs.Common.{In, index_at, nodes_of, record_number_limit, subst, tiles, ℕ}
 use Rattle.cdf_index.proofs.Coming.{comes}
 use Rattle.cdf_index.proofs.WayDown.{made, node_there_by, no_zero, spot_there}
 use Rattle.cdf_index.proofs.laws.leaf_on_its_way.Goals as goal

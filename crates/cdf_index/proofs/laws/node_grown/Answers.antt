@@ -1,4 +1,4 @@
-use Rattle.cdf_index.proofs.Common.{redone, placed}
+use Rattle.cdf_index.proofs.Common.{placed, redone}
 use Rattle.cdf_index.proofs.NodeGrown.{grown_owed, split_owed, chained_owed}
 use Rattle.cdf_index.proofs.laws.node_grown.Goals as goal
 

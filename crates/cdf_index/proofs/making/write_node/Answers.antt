@@ -1,5 +1,4 @@
-use Rattle.std.proofs.Common.{◌≡◌, arith}
-use Rattle.cdf_area.proofs.Calls.{edit_more}
+use Rattle.cdf_index.proofs.Common.{arith, edit_more, ◌≡◌}
 use Rattle.cdf_index.proofs.NodeMade.{making_more, node_written}
 use Rattle.cdf_index.proofs.making.write_node.Goals as goal
 

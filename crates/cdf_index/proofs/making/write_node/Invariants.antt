@@ -1,4 +1,4 @@
-use Rattle.cdf_area.specs.Calls.{Keeps}
+use Rattle.cdf_index.proofs.Common.{Keeps}
 use Rattle.cdf_index.proofs.NodeMade.{Making}
 use Rattle.cdf_index.proofs.making.write_node.Given as goal
 

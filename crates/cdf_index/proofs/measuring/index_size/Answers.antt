@@ -1,4 +1,4 @@
-use Rattle.std.proofs.Common.{refl}
+use Rattle.cdf_index.proofs.Common.{refl}
 use Rattle.cdf_index.proofs.ChainWalk.{whole_chain, whole_met}
 use Rattle.cdf_index.proofs.Measured.{measured_is}
 use Rattle.cdf_index.proofs.measuring.index_size.Goals as goal

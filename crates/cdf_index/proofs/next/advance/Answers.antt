@@ -1,4 +1,4 @@
-use Rattle.std.proofs.Common.{arith, sym, ◌∙◌}
+use Rattle.cdf_index.proofs.Common.{arith, sym, ◌∙◌}
 use Rattle.cdf_index.proofs.Walking.{walk_decided, walk_below, walk_along}
 use Rattle.cdf_index.proofs.next.advance.Goals as goal
 

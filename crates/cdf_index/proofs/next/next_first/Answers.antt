@@ -1,5 +1,4 @@
-use Rattle.std.proofs.Common.{rules, arith}
-use Rattle.cdf_index.proofs.Common.{read_more}
+use Rattle.cdf_index.proofs.Common.{arith, read_more, rules}
 use Rattle.cdf_index.proofs.Walking.{walk_start, walk_over, walk_end, walk_turns}
 use Rattle.cdf_index.proofs.next.next_first.Goals as goal
 

@@ -1,5 +1,4 @@
-use Rattle.std.proofs.Common.{◌≡◌, ◌+◌, length}
-use Rattle.cdf_index.proofs.Common.{Stays, IsWalk, index_at, nodes_of}
+use Rattle.cdf_index.proofs.Common.{IsWalk, Stays, index_at, length, nodes_of, ◌+◌, ◌≡◌}
 use Rattle.cdf_index.proofs.Searching.{Turns}
 use Rattle.cdf_index.proofs.next.next_first.Given as goal
 

@@ -1,5 +1,4 @@
-use Rattle.std.proofs.Common.{◌∙◌, ◌≡◌, ◌+◌, ◌*◌, ◌-◌, ℕ, take, drop}
-use Rattle.cdf_index.proofs.Common.{IfOk-weaker, plain_bytes, record_bytes, record_in, seen}
+use Rattle.cdf_index.proofs.Common.{IfOk-weaker, drop, plain_bytes, record_bytes, record_in, seen, take, ℕ, ◌*◌, ◌+◌, ◌-◌, ◌∙◌, ◌≡◌}
 use Rattle.cdf_index.proofs.RecordRead.{record_is}
 use Rattle.cdf_index.proofs.records.read_rec.Goals as goal
 

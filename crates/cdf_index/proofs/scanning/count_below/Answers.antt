@@ -1,5 +1,4 @@
-use Rattle.std.proofs.Common.{arith}
-use Rattle.cdf_area.proofs.Calls.{read_more}
+use Rattle.cdf_index.proofs.Common.{arith, read_more}
 use Rattle.cdf_index.proofs.EntriesCut.{below_too}
 use Rattle.cdf_index.proofs.scanning.count_below.Goals as goal
 use Rattle.cdf_index.proofs.scanning.count_below.Goals.{then-from-bound, else-from-bound}

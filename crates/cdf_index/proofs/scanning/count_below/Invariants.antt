@@ -1,5 +1,4 @@
-use Rattle.std.proofs.Common.{◌-◌, ◌<◌, ◌≤◌, ℕ}
-use Rattle.cdf_index.proofs.Common.{Stays, in_column}
+use Rattle.cdf_index.proofs.Common.{Stays, in_column, ℕ, ◌-◌, ◌<◌, ◌≤◌}
 use Rattle.cdf_index.proofs.scanning.count_below.Given as goal
 
 abbrev pub invariant-loop-low : goal.invariant-loop-low

@@ -1,5 +1,4 @@
-use Rattle.std.proofs.Common.{◌≡◌, arith}
-use Rattle.cdf_index.proofs.Common.{edit_more}
+use Rattle.cdf_index.proofs.Common.{arith, edit_more, ◌≡◌}
 use Rattle.cdf_index.proofs.NodeShortened.{clear_more}
 use Rattle.cdf_index.proofs.splitting.clear_entries.Goals as goal
 

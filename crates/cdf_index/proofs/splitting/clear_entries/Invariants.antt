@@ -1,5 +1,4 @@
-use Rattle.std.proofs.Common.{◌≤◌}
-use Rattle.cdf_index.proofs.Common.{Keeps, Cleared}
+use Rattle.cdf_index.proofs.Common.{Cleared, Keeps, ◌≤◌}
 use Rattle.cdf_index.proofs.splitting.clear_entries.Given as goal
 
 abbrev pub invariant-loop-i : goal.invariant-loop-i

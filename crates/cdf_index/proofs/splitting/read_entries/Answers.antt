@@ -1,5 +1,4 @@
-use Rattle.std.proofs.Common.{◌≡◌, arith}
-use Rattle.cdf_index.proofs.Common.{read_more, read_without_memory}
+use Rattle.cdf_index.proofs.Common.{arith, read_more, read_without_memory, ◌≡◌}
 use Rattle.cdf_index.proofs.NodeShortened.{read_one}
 use Rattle.cdf_index.proofs.splitting.read_entries.Goals as goal
 

@@ -1,4 +1,4 @@
-use Rattle.cdf_index.proofs.Common.{Stays, EntriesRead}
+use Rattle.cdf_index.proofs.Common.{EntriesRead, Stays}
 use Rattle.cdf_index.proofs.splitting.read_entries.Given as goal
 
 abbrev pub invariant-loop-i : goal.invariant-loop-i

@@ -1,7 +1,5 @@
-use Rattle.std.proofs.Common.{◌≤◌, ℕ, subst, ap, sym, ◌∙◌, arith, ◌+◌}
-use Rattle.std.proofs.lemmas.Int.{of_z-to_z}
+use Rattle.cdf_index.proofs.Common.{ap, arith, of_z-to_z, on_ok_weaker, room_at, subst, sym, vxr_n_used_entries, with_field, ℕ, ◌+◌, ◌∙◌, ◌≤◌}
 use Rattle.std.specs.Int.{w32}
-use Rattle.cdf_index.proofs.Common.{on_ok_weaker, with_field, room_at, vxr_n_used_entries}
 use Rattle.cdf_index.proofs.NodeShortened.{shortened}
 use Rattle.cdf_index.proofs.splitting.shorten_node.Goals as goal
 

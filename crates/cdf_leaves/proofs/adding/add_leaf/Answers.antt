@@ -1,5 +1,4 @@
-use Rattle.std.proofs.Common.{◌≡◌, ◌≤◌, ◌∙◌, ℕ, List, length, refl, sym, ap, subst, arith}
-use Rattle.cdf_leaves.proofs.Common.{Frame, edit_more, keeps_by_read, read_once, Good, good_is_sound, good_eof, OnOk, Kind, image_limit, StandsAmong, number, vdr_vxr_head, VariableShape, AddsLeaf, entry, IndexStarted, on_ok_weaker}
+use Rattle.cdf_leaves.proofs.Common.{AddsLeaf, Frame, Good, IndexStarted, Kind, List, OnOk, StandsAmong, VariableShape, ap, arith, edit_more, entry, good_eof, good_is_sound, image_limit, keeps_by_read, length, number, on_ok_weaker, read_once, refl, subst, sym, vdr_vxr_head, ℕ, ◌∙◌, ◌≡◌, ◌≤◌}
 use Rattle.cdf_leaves.proofs.AddCalls.{among_kind, seven_fit, started, started_long, vdr_late, vdr_there, late_ends}
 use Rattle.cdf_leaves.proofs.LastCall.{edit_last}
 use Rattle.cdf_leaves.proofs.adding.add_leaf.Goals as goal

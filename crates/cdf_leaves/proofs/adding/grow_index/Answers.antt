@@ -1,5 +1,4 @@
-use Rattle.std.proofs.Common.{arith, rules, ◌≡◌, ◌∙◌, ℕ, List, [], length, map, sym, ap, subst, inl, inr}
-use Rattle.cdf_leaves.proofs.Common.{eqb-true, Frame, edit_done, edit_failed, edit_more, keeps_by_read, read_once, Good, good_is_sound, good_eof, number, with_field, vdr_vxr_head, vdr_vxr_tail, step_pair, Step, chain_end, WidenedAlong, on_ok_weaker}
+use Rattle.cdf_leaves.proofs.Common.{Frame, Good, List, Step, WidenedAlong, [], ap, arith, chain_end, edit_done, edit_failed, edit_more, eqb-true, good_eof, good_is_sound, inl, inr, keeps_by_read, length, map, number, on_ok_weaker, read_once, rules, step_pair, subst, sym, vdr_vxr_head, vdr_vxr_tail, with_field, ℕ, ◌∙◌, ◌≡◌}
 use Rattle.std.specs.Vec.{vec_len}
 use Rattle.cdf_leaves.proofs.AddCalls.{among_kind, grown_stays, grown_tail, index_there, may_put, tail_ready, way_ready, wide_enough}
 use Rattle.cdf_leaves.proofs.LastCall.{edit_last}

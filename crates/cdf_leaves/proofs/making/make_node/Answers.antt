@@ -1,4 +1,4 @@
-use Rattle.cdf_index.proofs.NodeFilled.{has_room}
+use Rattle.cdf_leaves.proofs.Common.{has_room}
 use Rattle.cdf_leaves.proofs.NodeTaking.{node_made}
 use Rattle.cdf_leaves.proofs.making.make_node.Goals as goal
 

@@ -1,4 +1,4 @@
-use Rattle.std.proofs.Common.{arith}
+use Rattle.cdf_leaves.proofs.Common.{arith}
 use Rattle.cdf_leaves.proofs.PutSteps.{stays_there}
 use Rattle.cdf_leaves.proofs.Spares.{front_lies}
 use Rattle.cdf_leaves.proofs.putting.chain_node.Goals as goal

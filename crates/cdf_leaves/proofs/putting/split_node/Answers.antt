@@ -1,5 +1,4 @@
-use Rattle.std.proofs.Common.{List, ℕ, sym, subst}
-use Rattle.cdf_leaves.proofs.Common.{edit_done, edit_failed, edit_more, keeps_by_read, read_once, MayPut}
+use Rattle.cdf_leaves.proofs.Common.{List, MayPut, edit_done, edit_failed, edit_more, keeps_by_read, read_once, subst, sym, ℕ}
 use Rattle.cdf_leaves.proofs.PutSteps.{inside_before, stays_there}
 use Rattle.cdf_leaves.proofs.putting.split_node.Goals as goal
 

@@ -1,5 +1,4 @@
-use Rattle.std.proofs.Common.{◌≡◌, ℕ, List, sym, ap, ◌∙◌, arith}
-use Rattle.cdf_area.proofs.Calls.{read_more}
+use Rattle.cdf_leaves.proofs.Common.{List, ap, arith, read_more, sym, ℕ, ◌∙◌, ◌≡◌}
 use Rattle.cdf_format.specs.Chains.{next_of}
 use Rattle.cdf_leaves.proofs.Chain.{follow_end, follow_more}
 use Rattle.cdf_leaves.proofs.tail.last_of_chain.Goals as goal

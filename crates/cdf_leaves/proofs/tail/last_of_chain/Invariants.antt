@@ -1,4 +1,4 @@
-use Rattle.cdf_area.specs.Calls.{Stays}
+use Rattle.cdf_leaves.proofs.Common.{Stays}
 use Rattle.cdf_leaves.proofs.Chain.{Following}
 use Rattle.cdf_leaves.proofs.tail.last_of_chain.Given as goal
 

@@ -1,4 +1,4 @@
-use Rattle.std.proofs.Common.{◌-◌, length, arith}
+use Rattle.cdf_leaves.proofs.Common.{arith, length, ◌-◌}
 use Rattle.cdf_leaves.proofs.Along.{next_step}
 use Rattle.cdf_leaves.proofs.widening.widen_way.Goals as goal
 

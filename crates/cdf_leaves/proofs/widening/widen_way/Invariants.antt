@@ -1,5 +1,4 @@
-use Rattle.std.proofs.Common.{◌-◌, length, map, drop}
-use Rattle.cdf_leaves.proofs.Common.{Keeps, step_pair, WidenedAlong}
+use Rattle.cdf_leaves.proofs.Common.{Keeps, WidenedAlong, drop, length, map, step_pair, ◌-◌}
 use Rattle.cdf_leaves.proofs.widening.widen_way.Given as goal
 
 abbrev pub invariant-loop-turn : goal.invariant-loop-turn

@@ -1,5 +1,4 @@
-use Rattle.std.proofs.Common.{◌≡◌, ◌∙◌, ◌+◌, ◌*◌, ◌/◌, sym, ap, arith, None}
-use Rattle.cdf_pages.proofs.Common.{page_at}
+use Rattle.cdf_pages.proofs.Common.{None, ap, arith, page_at, sym, ◌*◌, ◌+◌, ◌/◌, ◌∙◌, ◌≡◌}
 use Rattle.cdf_pages.proofs.Filling.{none_is}
 use Rattle.cdf_pages.proofs.Growing.{out_by, fewer_by, apart_by}
 use Rattle.cdf_pages.proofs.owning.own_page.Goals as goal

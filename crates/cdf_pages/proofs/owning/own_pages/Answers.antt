@@ -1,6 +1,4 @@
-use Rattle.std.proofs.Common.{◌≡◌, ◌∙◌, ◌+◌, ◌-◌, ◌≤◌, ◌*◌, ℕ, List, Option, length, min, refl, sym, ap, subst, arith, nat_eq, inl, inr}
-use Rattle.cdf_pages.proofs.Common.{page_at, nat_cmp, get, keys_of, lookup, is_some, if◌then◌else◌, file_of, Owned, is_in, cost_of_writing, page_cost, list_any, cases_lt}
-use Rattle.cdf_pages.specs.Grown.{removed}
+use Rattle.cdf_pages.proofs.Common.{List, Option, Owned, ap, arith, cases_lt, cost_of_writing, file_of, get, if◌then◌else◌, inl, inr, is_in, is_some, keys_of, length, list_any, lookup, min, nat_cmp, nat_eq, page_at, page_cost, refl, removed, subst, sym, ℕ, ◌*◌, ◌+◌, ◌-◌, ◌∙◌, ◌≡◌, ◌≤◌}
 use Rattle.cdf_pages.proofs.Costs.{takes_same, takes_then, write_cost_grows, write_cost_next}
 use Rattle.cdf_pages.proofs.Covered.{covers_less}
 use Rattle.cdf_pages.proofs.Filling.{takes_less}

@@ -1,5 +1,4 @@
-use Rattle.std.proofs.Common.{◌≡◌, ◌-◌, ◌≤◌, ◌<◌, ◌⊎◌, ℕ, List, length, Some, None, nat_eq}
-use Rattle.cdf_pages.proofs.Common.{page_at, nat_cmp, get, keys_of, lookup, file_of, Grown, Owned, removed, TakesAtMost, is_in, cost_of_writing}
+use Rattle.cdf_pages.proofs.Common.{Grown, List, None, Owned, Some, TakesAtMost, cost_of_writing, file_of, get, is_in, keys_of, length, lookup, nat_cmp, nat_eq, page_at, removed, ℕ, ◌-◌, ◌<◌, ◌≡◌, ◌≤◌, ◌⊎◌}
 use Rattle.cdf_pages.proofs.owning.own_pages.Given as goal
 
 abbrev pub invariant-loop-number : goal.invariant-loop-number

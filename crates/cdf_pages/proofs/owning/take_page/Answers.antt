@@ -1,5 +1,4 @@
-use Rattle.std.proofs.Common.{◌≡◌, ◌∙◌, sym, None, nat_eq}
-use Rattle.cdf_pages.proofs.Common.{lookup}
+use Rattle.cdf_pages.proofs.Common.{None, lookup, nat_eq, sym, ◌∙◌, ◌≡◌}
 use Rattle.cdf_pages.proofs.Filling.{backed_live, takes_live}
 use Rattle.cdf_pages.proofs.owning.take_page.Goals as goal
 

@@ -1,5 +1,4 @@
-use Rattle.std.proofs.Common.{rules, ◌≡◌, ◌∙◌, ◌+◌, ◌-◌, ◌≤◌, ◌<◌, length, take, drop, arith, ap, sym}
-use Rattle.cdf_pages.proofs.Common.{file_of}
+use Rattle.cdf_pages.proofs.Common.{ap, arith, drop, file_of, length, rules, sym, take, ◌+◌, ◌-◌, ◌<◌, ◌∙◌, ◌≡◌, ◌≤◌}
 use lib.Seq.{drop-drop}
 use Rattle.cdf_pages.proofs.Filling.{filled, takes_more, reads_piece}
 use Rattle.cdf_pages.proofs.reading.fill.Goals as goal

@@ -1,5 +1,4 @@
-use Rattle.std.proofs.Common.{◌≡◌, ◌-◌, ◌≤◌, length, take, drop}
-use Rattle.cdf_pages.proofs.Common.{file_of, TakesAtMost}
+use Rattle.cdf_pages.proofs.Common.{TakesAtMost, drop, file_of, length, take, ◌-◌, ◌≡◌, ◌≤◌}
 use Rattle.cdf_pages.proofs.reading.fill.Given as goal
 
 abbrev pub invariant-loop-done : goal.invariant-loop-done

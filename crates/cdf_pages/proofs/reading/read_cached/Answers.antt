@@ -1,8 +1,4 @@
-use Rattle.std.proofs.Common.{◌≡◌, ◌∙◌, sym, ap, subst, take, drop, length, Some, nat_eq, slice_get}
-use Rattle.cdf_pages.proofs.Common.{option_map, promoted}
-use Rattle.std.proofs.lemmas.Option.{none-some}
-use Rattle.lru.specs.LruCache.{lru_cache}
-use Rattle.lru.proofs.Pairs.{promoted_absent}
+use Rattle.cdf_pages.proofs.Common.{Some, ap, drop, length, lru_cache, nat_eq, none-some, option_map, promoted, promoted_absent, slice_get, subst, sym, take, ◌∙◌, ◌≡◌}
 use Rattle.cdf_pages.proofs.Keys.{front_promoted, front_value}
 use Rattle.cdf_pages.proofs.reading.read_cached.Goals as goal
 

@@ -1,6 +1,4 @@
-use Rattle.std.proofs.Common.{◌≡◌, ◌∙◌, sym, ap, arith, length, nat_eq, true, inl}
-use Rattle.cdf_pages.proofs.Common.{keys_of, lookup, is_some, file_of}
-use Rattle.lru.proofs.Pairs.{promoted_put}
+use Rattle.cdf_pages.proofs.Common.{ap, arith, file_of, inl, is_some, keys_of, length, lookup, nat_eq, promoted_put, sym, true, ◌∙◌, ◌≡◌}
 use Rattle.cdf_pages.proofs.Growing.{promoted_old}
 use Rattle.cdf_pages.proofs.Images.{shown_part}
 use Rattle.cdf_pages.proofs.Keys.{used_there}

@@ -1,5 +1,4 @@
-use Rattle.std.proofs.Common.{◌≡◌, ◌∙◌, refl, true, false, ◌+◌, ◌*◌, ◌/◌, sym, ap, arith, length, None, option_copied, inl, inr, subst}
-use Rattle.cdf_pages.proofs.Common.{page_at, is_some, file_of, Shows}
+use Rattle.cdf_pages.proofs.Common.{None, Shows, ap, arith, false, file_of, inl, inr, is_some, length, option_copied, page_at, refl, subst, sym, true, ◌*◌, ◌+◌, ◌/◌, ◌∙◌, ◌≡◌}
 use Rattle.cdf_pages.proofs.Images.{image_part, file_part}
 use Rattle.cdf_pages.proofs.Costs.{takes_same}
 use Rattle.cdf_pages.proofs.Filling.{on_ok_map}

@@ -1,5 +1,4 @@
-use Rattle.std.proofs.Common.{◌≡◌, ◌∙◌, sym, ap, length, None, false, nat_eq, ℕ, List, inl, inr, subst}
-use Rattle.cdf_pages.proofs.Common.{keys_of, lookup, list_any, is_some, put_entries, file_of, Shows}
+use Rattle.cdf_pages.proofs.Common.{List, None, Shows, ap, false, file_of, inl, inr, is_some, keys_of, length, list_any, lookup, nat_eq, put_entries, subst, sym, ℕ, ◌∙◌, ◌≡◌}
 use Rattle.cdf_pages.proofs.Keys.{is_there, used_missing}
 use Rattle.cdf_pages.proofs.Images.{shown_part, load_shows}
 use Rattle.cdf_pages.proofs.Growing.{put_old}

@@ -1,8 +1,5 @@
-use Rattle.std.proofs.Common.{rules, ◌≡◌, ◌∙◌, ◌+◌, ◌-◌, ◌*◌, ◌/◌, ◌%◌, ◌<◌, sym, ap, arith, take, drop, length, min, slice_index, ℕ, suc, Bool, List, refl, nat_eq, subst}
-use Rattle.cdf_pages.proofs.Common.{page_at, file_of, keys_of, IsValid, LruCache, image_of, is_in, page_cost, pages_in, used}
-use Rattle.std.proofs.lemmas.List.{take-take, drop-drop}
+use Rattle.cdf_pages.proofs.Common.{Bool, IsValid, List, LruCache, ReadsSome, ap, arith, cost_of_reading, drop, drop-drop, file_of, image_of, is_in, keys_of, length, min, nat_eq, page_at, page_cost, pages_in, refl, rules, slice_index, subst, suc, sym, take, take-take, used, used_from, ℕ, ◌%◌, ◌*◌, ◌+◌, ◌-◌, ◌/◌, ◌<◌, ◌∙◌, ◌≡◌}
 use borrow.Rule.Slice.PartMut.{put_mid}
-use Rattle.cdf_pages.specs.Standing.{ReadsSome, cost_of_reading, used_from}
 use Rattle.cdf_pages.proofs.Costs.{page_next, page_now, pages_grow, read_cost_grows, read_cost_next, takes_same, takes_then, used_next}
 use Rattle.cdf_pages.proofs.Filling.{filled, on_err, takes_less}
 use Rattle.cdf_pages.proofs.reading.read_range.Goals as goal

@@ -1,6 +1,4 @@
-use Rattle.std.proofs.Common.{◌-◌, ◌≡◌, ◌+◌, ◌/◌, ◌%◌, ◌<◌, ◌≤◌, length, take, drop, nat_eq}
-use Rattle.cdf_pages.proofs.Common.{page_at, keys_of, IsValid, file_of, AllShow, TakesAtMost, image_of, is_in, pages_in}
-use Rattle.cdf_pages.specs.Standing.{cost_of_reading, used_from}
+use Rattle.cdf_pages.proofs.Common.{AllShow, IsValid, TakesAtMost, cost_of_reading, drop, file_of, image_of, is_in, keys_of, length, nat_eq, page_at, pages_in, take, used_from, ◌%◌, ◌+◌, ◌-◌, ◌/◌, ◌<◌, ◌≡◌, ◌≤◌}
 use Rattle.cdf_pages.proofs.reading.read_range.Given as goal
 
 abbrev pub invariant-loop-done : goal.invariant-loop-done

@@ -1,5 +1,4 @@
-use Rattle.std.proofs.Common.{◌≡◌, ◌∙◌, false, ◌+◌, ◌*◌, ◌/◌, ◌<◌, sym, ap, arith, length, ℕ}
-use Rattle.cdf_pages.proofs.Common.{page_at, is_some, file_of}
+use Rattle.cdf_pages.proofs.Common.{ap, arith, false, file_of, is_some, length, page_at, sym, ℕ, ◌*◌, ◌+◌, ◌/◌, ◌<◌, ◌∙◌, ◌≡◌}
 use Rattle.cdf_pages.proofs.Images.{file_part, shown_part}
 use Rattle.cdf_pages.proofs.Keys.{first_stays, first_there}
 use Rattle.cdf_pages.proofs.reading.read_within.Goals as goal

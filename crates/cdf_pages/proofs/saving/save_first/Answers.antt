@@ -1,5 +1,4 @@
-use Rattle.std.proofs.Common.{rules, ◌*◌, ◌≤◌, ◌<◌, ◌∙◌, refl, sym, length, inl, inr}
-use Rattle.cdf_pages.proofs.Common.{page_at, cases_lt, file_of, LiesIn}
+use Rattle.cdf_pages.proofs.Common.{LiesIn, cases_lt, file_of, inl, inr, length, page_at, refl, rules, sym, ◌*◌, ◌<◌, ◌∙◌, ◌≤◌}
 use Rattle.cdf_pages.proofs.Filling.{true_not_false}
 use Rattle.cdf_pages.proofs.SavedPage.{forgotten_backed, forgotten_same, less_saved, place_in_file}
 use Rattle.cdf_pages.proofs.Touched.{touches_none}

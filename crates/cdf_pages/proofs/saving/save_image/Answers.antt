@@ -1,5 +1,4 @@
-use Rattle.std.proofs.Common.{◌++◌, ℕ, List, ap, arith, length, length-append}
-use Rattle.cdf_pages.proofs.Common.{page_at, file_of, image_of}
+use Rattle.cdf_pages.proofs.Common.{List, ap, arith, file_of, image_of, length, length-append, page_at, ℕ, ◌++◌}
 use Rattle.cdf_pages.proofs.Between.{between_bound}
 use Rattle.cdf_pages.proofs.Disks.{file_held}
 use Rattle.cdf_pages.proofs.Images.{image_size}

@@ -1,5 +1,4 @@
-use Rattle.std.proofs.Common.{rules, ◌≡◌, ◌∙◌, ◌*◌, ◌≤◌, ℕ, Some, refl, sym, ap, arith, take, length, inl, inr}
-use Rattle.cdf_pages.proofs.Common.{page_at, length-take-le, file_of, image_of, LiesIn}
+use Rattle.cdf_pages.proofs.Common.{LiesIn, Some, ap, arith, file_of, image_of, inl, inr, length, length-take-le, page_at, refl, rules, sym, take, ℕ, ◌*◌, ◌∙◌, ◌≡◌, ◌≤◌}
 use Rattle.cdf_pages.proofs.Between.{part_between, written_between}
 use Rattle.cdf_pages.proofs.Images.{image_pages}
 use Rattle.cdf_pages.proofs.SavedPage.{backed_longer, backed_part, backed_saved, given_back, part_same, saved_same, page_in_image}

@@ -1,5 +1,5 @@
-use Rattle.std.proofs.Common.{◌≡◌, ◌∙◌, ◌++◌, ℕ, List, Option, None, IsSome, refl, sym, ap, subst, arith}
-use Rattle.cdf_pages.proofs.Common.{page_at, IsTrue, Disk, file_of, image_of, is_in, HoldsBetween, LiesIn, Touches}
+use Rattle.cdf_pages.proofs.Common.{Disk, HoldsBetween, IsTrue, LiesIn, List, None, Option, Touches, ap, arith, file_of, image_of, is_in, page_at, refl, subst, sym, ℕ, ◌++◌, ◌∙◌, ◌≡◌}
+use Rattle.std.proofs.Common.{IsSome}
 use Rattle.cdf_pages.proofs.SavedPage.{changed_at_first}
 use Rattle.cdf_pages.proofs.Touched.{touches_none, touches_then, touches_weaker}
 use Rattle.cdf_pages.proofs.saving.save_pages.Goals as goal

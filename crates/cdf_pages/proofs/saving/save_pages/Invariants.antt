@@ -1,6 +1,5 @@
-use Rattle.std.proofs.Common.{◌≡◌, ◌+◌, ◌≤◌, ◌++◌, ℕ, List, length, None, IsSome}
-use Rattle.cdf_pages.proofs.Common.{page_at, IsTrue, Disk, file_of, Backed, image_of, is_in, HoldsBetween, LiesIn, Touches}
-use Rattle.cdf_pages.specs.Table.{pages_held}
+use Rattle.cdf_pages.proofs.Common.{Backed, Disk, HoldsBetween, IsTrue, LiesIn, List, None, Touches, file_of, image_of, is_in, length, page_at, pages_held, ℕ, ◌++◌, ◌+◌, ◌≡◌, ◌≤◌}
+use Rattle.std.proofs.Common.{IsSome}
 use Rattle.cdf_pages.proofs.saving.save_pages.Given as goal
 
 abbrev pub invariant-loop-number : goal.invariant-loop-number

@@ -1,5 +1,4 @@
-use Rattle.std.proofs.Common.{◌∙◌, ◌++◌, refl, sym, ap, arith, length}
-use Rattle.cdf_pages.proofs.Common.{eqb-true, file_of}
+use Rattle.cdf_pages.proofs.Common.{ap, arith, eqb-true, file_of, length, refl, sym, ◌++◌, ◌∙◌}
 use Rattle.cdf_pages.proofs.Between.{front_part, front_written, longer_part, longer_written, part_between, tail_in, written_between}
 use Rattle.cdf_pages.proofs.Images.{put_empty}
 use Rattle.cdf_pages.proofs.Touched.{touches_none, touches_part, touches_write}

@@ -1,5 +1,4 @@
-use Rattle.std.proofs.Common.{◌≡◌, ◌∙◌, ◌+◌, ◌≤◌, ◌++◌, ℕ, List, Bool, Option, None, sym, ap, subst, arith, inl, inr, take, length, length-append}
-use Rattle.cdf_pages.proofs.Common.{length-written, page_at, IsTrue, put, Disk, file_of, Backed, image_of, is_in, HoldsBetween, IsChangedRange, LiesIn, Touches}
+use Rattle.cdf_pages.proofs.Common.{Backed, Bool, Disk, HoldsBetween, IsChangedRange, IsTrue, LiesIn, List, None, Option, Touches, ap, arith, file_of, image_of, inl, inr, is_in, length, length-append, length-written, page_at, put, subst, sym, take, ℕ, ◌++◌, ◌+◌, ◌∙◌, ◌≡◌, ◌≤◌}
 use Rattle.cdf_pages.proofs.Between.{between_bound, cut_new, holds_between_first, holds_new, tail_cut, tail_last}
 use Rattle.cdf_pages.proofs.Disks.{file_held}
 use Rattle.cdf_pages.proofs.Filling.{on_err}

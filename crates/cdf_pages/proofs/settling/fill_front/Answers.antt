@@ -1,5 +1,5 @@
-use Rattle.std.proofs.Common.{rules, ◌≡◌, ◌∙◌, ◌+◌, ◌-◌, ◌≤◌, ℕ, List, Option, None, Some, IsSome, Ok, length, take, drop, arith, ap, sym, subst}
-use Rattle.cdf_pages.proofs.Common.{length-take, length-drop, file_in, file_of, ReadsAt, ReadsPiece}
+use Rattle.cdf_pages.proofs.Common.{List, None, Option, ReadsAt, ReadsPiece, Some, ap, arith, drop, file_in, file_of, length, length-drop, length-take, rules, subst, sym, take, ℕ, ◌+◌, ◌-◌, ◌∙◌, ◌≡◌, ◌≤◌}
+use Rattle.std.proofs.Common.{IsSome, Ok}
 use lib.Seq.{drop-drop}
 use Rattle.cdf_pages.proofs.Filling.{filled, takes_more}
 use Rattle.cdf_pages.proofs.settling.fill_front.Goals as goal

@@ -1,5 +1,4 @@
-use Rattle.std.proofs.Common.{◌≡◌, ◌-◌, ◌≤◌, length, min, take, drop}
-use Rattle.cdf_pages.proofs.Common.{file_of, TakesAtMost}
+use Rattle.cdf_pages.proofs.Common.{TakesAtMost, drop, file_of, length, min, take, ◌-◌, ◌≡◌, ◌≤◌}
 use Rattle.cdf_pages.proofs.settling.fill_front.Given as goal
 
 abbrev pub invariant-loop-done : goal.invariant-loop-done

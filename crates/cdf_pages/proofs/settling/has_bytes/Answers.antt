@@ -1,5 +1,4 @@
-use Rattle.std.proofs.Common.{◌∙◌, sym, arith, inr}
-use Rattle.cdf_store.specs.Disk.{file_of}
+use Rattle.cdf_pages.proofs.Common.{arith, file_of, inr, sym, ◌∙◌}
 use Rattle.cdf_pages.proofs.Settled.{other_byte, same_bytes}
 use Rattle.cdf_pages.proofs.settling.has_bytes.Goals as goal
 

@@ -1,5 +1,4 @@
-use Rattle.std.proofs.Common.{◌∙◌, ℕ, List, sym, subst, arith}
-use Rattle.cdf_pages.proofs.Common.{page_at, same_Some, file_of, Shows}
+use Rattle.cdf_pages.proofs.Common.{List, Shows, arith, file_of, page_at, same_Some, subst, sym, ℕ, ◌∙◌}
 use Rattle.cdf_pages.proofs.Settled.{beyond, differs_there, if_ok_map, shows_file}
 use Rattle.cdf_pages.proofs.settling.has_page.Goals as goal
 

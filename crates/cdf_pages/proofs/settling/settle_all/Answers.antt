@@ -1,5 +1,4 @@
-use Rattle.std.proofs.Common.{◌≡◌, ◌∙◌, ◌-◌, ◌*◌, min, ℕ, List, Option, None, Some, sym, ap, ap₂, subst, arith, length}
-use Rattle.cdf_pages.proofs.Common.{page_at, IfSome, IsSome, IsTrue, file_of, TakesAtMost, image_of, is_in, Differs, pages_in}
+use Rattle.cdf_pages.proofs.Common.{Differs, IfSome, IsSome, IsTrue, List, None, Option, Some, TakesAtMost, ap, ap₂, arith, file_of, image_of, is_in, length, min, page_at, pages_in, subst, sym, ℕ, ◌*◌, ◌-◌, ◌∙◌, ◌≡◌}
 use Rattle.cdf_pages.proofs.SavedPage.{changed_at_first}
 use Rattle.cdf_pages.proofs.Settled.{compared_cost, compared_upto, differs_next, upto_next}
 use Rattle.cdf_pages.proofs.settling.settle_all.Goals as goal

@@ -1,5 +1,5 @@
-use Rattle.std.proofs.Common.{◌≡◌, ◌⊎◌, ℕ, [], length, None, IsSome}
-use Rattle.cdf_pages.proofs.Common.{page_at, IfSome, IsTrue, not, file_of, Backed, TakesAtMost, image_of, is_in, Differs, cost_of_writing, pages_in}
+use Rattle.cdf_pages.proofs.Common.{Backed, Differs, IfSome, IsTrue, None, TakesAtMost, [], cost_of_writing, file_of, image_of, is_in, length, not, page_at, pages_in, ℕ, ◌≡◌, ◌⊎◌}
+use Rattle.std.proofs.Common.{IsSome}
 use Rattle.cdf_pages.proofs.Settled.{Remains, compared_upto, numbers_left}
 use Rattle.cdf_pages.proofs.settling.settle_all.Given as goal
 

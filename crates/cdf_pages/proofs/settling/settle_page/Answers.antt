@@ -1,5 +1,4 @@
-use Rattle.std.proofs.Common.{◌≡◌, length, true}
-use Rattle.cdf_pages.proofs.Common.{page_at, file_of}
+use Rattle.cdf_pages.proofs.Common.{file_of, length, page_at, true, ◌≡◌}
 use Rattle.cdf_pages.proofs.Growing.{some_not_none}
 use Rattle.cdf_pages.proofs.Images.{some_of}
 use Rattle.cdf_pages.proofs.Settled.{dropped_backed, dropped_same}

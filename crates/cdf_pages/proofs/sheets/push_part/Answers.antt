@@ -1,6 +1,4 @@
-use Rattle.std.proofs.Common.{Some, sym, subst, arith, ap, ◌∙◌}
-use Rattle.cdf_area.specs.OldBytes.{AllLieBelow}
-use Rattle.cdf_pages.proofs.Common.{same_Some, was}
+use Rattle.cdf_pages.proofs.Common.{AllLieBelow, Some, ap, arith, same_Some, subst, sym, was, ◌∙◌}
 use Rattle.cdf_pages.proofs.Covered.{below_kept, covers_kept, was_kept}
 use Rattle.cdf_pages.proofs.sheets.push_part.Goals as goal
 

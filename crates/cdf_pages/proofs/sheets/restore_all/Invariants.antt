@@ -1,6 +1,4 @@
-use Rattle.std.proofs.Common.{◌≡◌, ℕ, List, length, Some}
-use Rattle.cdf_area.specs.OldBytes.{AllLieBelow, Old}
-use Rattle.cdf_pages.proofs.Common.{page_at, nat_cmp, get, was}
+use Rattle.cdf_pages.proofs.Common.{AllLieBelow, List, Old, Some, get, length, nat_cmp, page_at, was, ℕ, ◌≡◌}
 use Rattle.cdf_pages.proofs.sheets.restore_all.Given as goal
 
 abbrev pub invariant-loop-number : goal.invariant-loop-number

@@ -1,5 +1,4 @@
-use Rattle.std.proofs.Common.{◌≡◌, ◌+◌, ◌-◌, ℕ, length}
-use Rattle.cdf_pages.proofs.Common.{page_at}
+use Rattle.cdf_pages.proofs.Common.{length, page_at, ℕ, ◌+◌, ◌-◌, ◌≡◌}
 use Rattle.cdf_pages.proofs.table.reach.Given as goal
 
 abbrev pub invariant-loop-slots : goal.invariant-loop-slots

@@ -1,5 +1,4 @@
-use Rattle.std.proofs.Common.{◌≡◌, ◌∙◌, ◌+◌, ◌-◌, ◌/◌, ◌%◌, ◌≤◌, ◌<◌, refl, sym, ap, arith, take, drop, min, length, inl, inr}
-use Rattle.cdf_pages.proofs.Common.{page_at, nat_cmp, get, length-take-le, length-drop}
+use Rattle.cdf_pages.proofs.Common.{ap, arith, drop, get, inl, inr, length, length-drop, length-take-le, min, nat_cmp, page_at, refl, sym, take, ◌%◌, ◌+◌, ◌-◌, ◌/◌, ◌<◌, ◌∙◌, ◌≡◌, ◌≤◌}
 use Rattle.cdf_pages.proofs.Covered.{was_step}
 use Rattle.cdf_pages.proofs.Images.{some_of, put_none, write_step, less_step, length-image}
 use Rattle.cdf_pages.proofs.writing.write_range.Goals as goal

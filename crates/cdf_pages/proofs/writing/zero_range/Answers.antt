@@ -1,6 +1,4 @@
-use Rattle.std.proofs.Common.{rules, ◌≡◌, ◌∙◌, ◌+◌, ◌≤◌, ℕ, List, refl, sym, ap, ap₂, subst, arith, take, length, replicate, inl, inr}
-use Rattle.cdf_pages.proofs.Common.{page_at, length-replicate, nat_cmp, get, put, image_of, IsSome, was}
-use Rattle.cdf_pages.specs.Pages.{Covers, part_from, part_upto}
+use Rattle.cdf_pages.proofs.Common.{Covers, IsSome, List, ap, ap₂, arith, get, image_of, inl, inr, length, length-replicate, nat_cmp, page_at, part_from, part_upto, put, refl, replicate, rules, subst, sym, take, was, ℕ, ◌+◌, ◌∙◌, ◌≡◌, ◌≤◌}
 use Rattle.cdf_pages.proofs.Covered.{covers_less}
 use Rattle.cdf_pages.proofs.Images.{put_none, take_zeros, zeros_more, put_end, length-image}
 use Rattle.cdf_pages.proofs.writing.zero_range.Goals as goal

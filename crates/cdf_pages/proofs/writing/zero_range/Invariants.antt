@@ -1,5 +1,4 @@
-use Rattle.std.proofs.Common.{◌-◌, ◌≡◌, ◌+◌, ◌*◌, ◌/◌, ◌≤◌, ◌<◌, ℕ, List, replicate, None, ◌⊎◌}
-use Rattle.cdf_pages.proofs.Common.{page_at, nat_cmp, get, put, image_of, IsSome, was}
+use Rattle.cdf_pages.proofs.Common.{IsSome, List, None, get, image_of, nat_cmp, page_at, put, replicate, was, ℕ, ◌*◌, ◌+◌, ◌-◌, ◌/◌, ◌<◌, ◌≡◌, ◌≤◌, ◌⊎◌}
 use Rattle.cdf_pages.proofs.writing.zero_range.Given as goal
 
 abbrev pub invariant-loop-done : goal.invariant-loop-done

@@ -1,4 +1,4 @@
-use Rattle.cdf_puts.proofs.Common.{Frame, edit_done, edit_failed, edit_more, edits_by_read, keeps_by_read, read_once, IsBody, shape, variables, vdrs, In, Good, HasIndex, IsPut, records_put, IsBlockBody, ◌+◌, ◌-◌, ℕ, List, refl, sym, ap, subst, edit_without_memory}
+use Rattle.cdf_puts.proofs.Common.{Frame, Good, HasIndex, In, IsBlockBody, IsBody, IsPut, List, ap, edit_done, edit_failed, edit_more, edit_without_memory, edits_by_read, keeps_by_read, read_once, records_put, refl, shape, subst, sym, variables, vdrs, ℕ, ◌+◌, ◌-◌}
 use Rattle.cdf_puts.proofs.PutSpot.{body_is, AddsOn, added_on, few_most, has_index, room_after, some_most, vdr_in}
 use Rattle.cdf_puts.proofs.putting.add_block.Goals as goal
 

@@ -1,4 +1,4 @@
-use Rattle.cdf_puts.proofs.Common.{Frame, edit_done, edit_failed, edit_more, edits_by_read, keeps_by_read, read_once, HasIndex, arith, refl, sym, ap, transport, read_more}
+use Rattle.cdf_puts.proofs.Common.{Frame, HasIndex, ap, arith, edit_done, edit_failed, edit_more, edits_by_read, keeps_by_read, read_more, read_once, refl, sym, transport}
 use Rattle.cdf_leaves.proofs.LastCall.{edit_last}
 use Rattle.cdf_puts.proofs.PutSpot.{has_index, lies, on_after}
 use Rattle.cdf_puts.proofs.putting.put_next.Goals as goal

@@ -1,4 +1,4 @@
-use Rattle.cdf_puts.proofs.Common.{Frame, edit_done, edit_failed, edit_more, SomePut, ℕ, arith, refl, sym, ap, subst}
+use Rattle.cdf_puts.proofs.Common.{Frame, SomePut, ap, arith, edit_done, edit_failed, edit_more, refl, subst, sym, ℕ}
 use Rattle.cdf_puts.proofs.PutSpot.{all_done, all_on, all_start, on_after, some_put}
 use Rattle.cdf_puts.proofs.putting.put_records.Goals as goal
 

@@ -1,6 +1,5 @@
-use Rattle.std.proofs.Common.{◌+◌, ◌-◌}
+use Rattle.cdf_puts.proofs.Common.{PutsUpTo, ◌+◌, ◌-◌}
 use Rattle.cdf_area.specs.Calls.{Keeps}
-use Rattle.cdf_puts.specs.Putting.{PutsUpTo}
 use Rattle.cdf_puts.proofs.putting.put_records.Given as goal
 
 abbrev pub invariant-loop-k : goal.invariant-loop-k

@@ -1,4 +1,4 @@
-use Rattle.cdf_puts.proofs.Common.{◌≡◌, length, arith}
+use Rattle.cdf_puts.proofs.Common.{arith, length, ◌≡◌}
 use Rattle.std.proofs.lemmas.Result.{on_ok_weaker}
 use Rattle.cdf_puts.proofs.PutSpot.{held_from, held_within, holds, written_on}
 use Rattle.cdf_puts.proofs.putting.write_one.Goals as goal

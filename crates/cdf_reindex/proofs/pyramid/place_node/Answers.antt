@@ -1,5 +1,4 @@
-use Rattle.std.proofs.Common.{arith}
-use Rattle.cdf_reindex.proofs.Common.{has_room, node_sound, taken_short}
+use Rattle.cdf_reindex.proofs.Common.{arith, has_room, node_sound, taken_short}
 use Rattle.cdf_reindex.proofs.NodePlacing.{node_eof, node_made}
 use Rattle.cdf_reindex.proofs.pyramid.place_node.Goals as goal
 

@@ -1,5 +1,4 @@
-use Rattle.std.proofs.Common.{[], ap, length, min, refl, rules, subst, sym, ℕ, ◌++◌, ◌+◌, ◌∙◌, ◌∷◌, ◌≡◌, ◌≤◌}
-use Rattle.cdf_reindex.proofs.Common.{Entry, chunks_rest, edit_more, length-append, nil_from_length}
+use Rattle.cdf_reindex.proofs.Common.{Entry, [], ap, chunks_rest, edit_more, length, length-append, min, nil_from_length, refl, rules, subst, sym, ℕ, ◌++◌, ◌+◌, ◌∙◌, ◌∷◌, ◌≡◌, ◌≤◌}
 use Rattle.cdf_reindex.proofs.LevelSteps.{Goes, chunk_few, chunk_some, goes_last, goes_more, goes_start, room_more, room_one}
 use Rattle.cdf_reindex.proofs.pyramid.write_level.Goals as goal
 

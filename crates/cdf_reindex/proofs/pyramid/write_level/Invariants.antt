@@ -1,5 +1,4 @@
-use Rattle.std.proofs.Common.{length, ◌*◌, ◌+◌, ◌≡◌, ◌≤◌}
-use Rattle.cdf_reindex.proofs.Common.{Entries, IsSound, Keeps, chunks_rest, chunks_size, eof, gdr_offset, quotient_up, shape, words_of}
+use Rattle.cdf_reindex.proofs.Common.{Entries, IsSound, Keeps, chunks_rest, chunks_size, eof, gdr_offset, length, quotient_up, shape, words_of, ◌*◌, ◌+◌, ◌≡◌, ◌≤◌}
 use Rattle.cdf_reindex.proofs.LevelSteps.{Goes}
 use Rattle.cdf_reindex.proofs.pyramid.write_level.Given as goal
 

@@ -1,5 +1,4 @@
-use Rattle.std.proofs.Common.{ap, arith, length, sym, ◌∙◌, ◌≤◌}
-use Rattle.cdf_reindex.proofs.Common.{Entry, edit_more, edit_once, entries_for, uppers}
+use Rattle.cdf_reindex.proofs.Common.{Entry, ap, arith, edit_more, edit_once, entries_for, length, sym, uppers, ◌∙◌, ◌≤◌}
 use Rattle.cdf_reindex.proofs.LevelSteps.{levels_first, levels_more, made_count, pyramid_last, room_level, room_next}
 use Rattle.cdf_reindex.proofs.WordsOfLevels.{words_for}
 use Rattle.cdf_reindex.proofs.pyramid.write_levels.Goals as goal

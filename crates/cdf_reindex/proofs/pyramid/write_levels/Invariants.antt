@@ -1,5 +1,4 @@
-use Rattle.std.proofs.Common.{List, length, map, ◌≡◌, ◌≤◌}
-use Rattle.cdf_reindex.proofs.Common.{IsSound, Keeps, Leaf, LevelsMade, eof, gdr_offset, leaf_words, shape}
+use Rattle.cdf_reindex.proofs.Common.{IsSound, Keeps, Leaf, LevelsMade, List, eof, gdr_offset, leaf_words, length, map, shape, ◌≡◌, ◌≤◌}
 use Rattle.cdf_reindex.proofs.pyramid.write_levels.Given as goal
 
 abbrev pub invariant-loop-alloc : goal.invariant-loop-alloc

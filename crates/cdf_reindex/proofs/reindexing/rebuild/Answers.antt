@@ -1,5 +1,4 @@
-use Rattle.std.proofs.Common.{arith}
-use Rattle.cdf_reindex.proofs.Common.{good_is_sound, on_ok_weaker}
+use Rattle.cdf_reindex.proofs.Common.{arith, good_is_sound, on_ok_weaker}
 use Rattle.cdf_format.proofs.GoodSound.{good_eof}
 use Rattle.cdf_reindex.proofs.ReindexCalls.{few, links, links_one, room}
 use Rattle.cdf_reindex.proofs.reindexing.rebuild.Goals as goal

@@ -1,5 +1,4 @@
-use Rattle.std.proofs.Common.{arith, eq-eqb, length, rules, subst, sym, true≢false, ◌∙◌, ◌≡◌}
-use Rattle.cdf_reindex.proofs.Common.{Good, eqb-true, on_ok_weaker}
+use Rattle.cdf_reindex.proofs.Common.{Good, arith, eq-eqb, eqb-true, length, on_ok_weaker, rules, subst, sym, true≢false, ◌∙◌, ◌≡◌}
 use Rattle.cdf_reindex.proofs.ReindexCalls.{good_again, has_index, head_there, nothing_done, reindexed}
 use Rattle.cdf_reindex.proofs.reindexing.reindex.Goals as goal
 

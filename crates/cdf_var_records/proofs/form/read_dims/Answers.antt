@@ -1,5 +1,4 @@
-use Rattle.std.proofs.Common.{List, ap, arith, length, refl, ℕ, ◌+◌, ◌∙◌, ◌≡◌}
-use Rattle.cdf_var_records.proofs.Common.{IfOk-weaker, content, words}
+use Rattle.cdf_var_records.proofs.Common.{IfOk-weaker, List, ap, arith, content, length, refl, words, ℕ, ◌+◌, ◌∙◌, ◌≡◌}
 use Rattle.cdf_var_records.proofs.DimsRead.{count_lies, dims_are, offset_lies, sizes_lie}
 use Rattle.cdf_var_records.proofs.form.read_dims.Goals as goal
 

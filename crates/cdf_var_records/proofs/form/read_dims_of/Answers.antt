@@ -1,5 +1,4 @@
-use Rattle.std.proofs.Common.{List, subst, ℕ, ◌∙◌, ◌≡◌}
-use Rattle.cdf_var_records.proofs.Common.{IfOk-weaker, IsVdr, Kind, content, dims_at}
+use Rattle.cdf_var_records.proofs.Common.{IfOk-weaker, IsVdr, Kind, List, content, dims_at, subst, ℕ, ◌∙◌, ◌≡◌}
 use Rattle.cdf_var_records.proofs.RecordForms.{r_sizes_are}
 use Rattle.cdf_var_records.proofs.form.read_dims_of.Goals as goal
 

@@ -1,5 +1,4 @@
-use Rattle.std.proofs.Common.{List, ap, arith, length, refl, subst, sym, ℕ, ◌∙◌}
-use Rattle.cdf_var_records.proofs.Common.{Good, IsPlace, IsVdr, dims_at, is_little, varys_at}
+use Rattle.cdf_var_records.proofs.Common.{Good, IsPlace, IsVdr, List, ap, arith, dims_at, is_little, length, refl, subst, sym, varys_at, ℕ, ◌∙◌}
 use Rattle.cdf_var_records.proofs.PadSites.{vdr_lies}
 use Rattle.cdf_var_records.proofs.RecordForms.{form_is}
 use Rattle.cdf_var_records.proofs.form.read_form.Goals as goal

@@ -1,5 +1,4 @@
-use Rattle.std.proofs.Common.{arith, ◌∙◌}
-use Rattle.cdf_var_records.proofs.Common.{cdr_fits}
+use Rattle.cdf_var_records.proofs.Common.{arith, cdr_fits, ◌∙◌}
 use Rattle.cdf_var_records.proofs.RecordForms.{majority_is}
 use Rattle.cdf_var_records.proofs.form.read_majority.Goals as goal
 

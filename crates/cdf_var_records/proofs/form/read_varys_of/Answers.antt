@@ -1,5 +1,4 @@
-use Rattle.std.proofs.Common.{Bool, List, arith, map, not, ◌*◌, ◌+◌, ◌-◌, ◌∙◌, ◌≡◌}
-use Rattle.cdf_var_records.proofs.Common.{IfOk-weaker, varys_at, words, ◌==◌}
+use Rattle.cdf_var_records.proofs.Common.{Bool, IfOk-weaker, List, arith, map, not, varys_at, words, ◌*◌, ◌+◌, ◌-◌, ◌==◌, ◌∙◌, ◌≡◌}
 use Rattle.cdf_var_records.proofs.RecordForms.{count_few, varys_before, varys_inside, varys_read}
 use Rattle.cdf_var_records.proofs.form.read_varys_of.Goals as goal
 

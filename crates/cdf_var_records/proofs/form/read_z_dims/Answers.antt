@@ -1,5 +1,4 @@
-use Rattle.std.proofs.Common.{List, ap, arith, length, ℕ, ◌+◌, ◌∙◌, ◌≡◌}
-use Rattle.cdf_var_records.proofs.Common.{IfOk-weaker, dims_at, words}
+use Rattle.cdf_var_records.proofs.Common.{IfOk-weaker, List, ap, arith, dims_at, length, words, ℕ, ◌+◌, ◌∙◌, ◌≡◌}
 use Rattle.cdf_var_records.proofs.RecordForms.{z_sizes_are, z_sizes_lie}
 use Rattle.cdf_var_records.proofs.form.read_z_dims.Goals as goal
 

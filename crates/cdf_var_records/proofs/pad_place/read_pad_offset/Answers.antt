@@ -1,5 +1,4 @@
-use Rattle.std.proofs.Common.{ap, subst, sym, ◌∙◌, ◌≡◌}
-use Rattle.cdf_var_records.proofs.Common.{IsVdr, Kind, dimensions_at, vdr_bytes}
+use Rattle.cdf_var_records.proofs.Common.{IsVdr, Kind, ap, dimensions_at, subst, sym, vdr_bytes, ◌∙◌, ◌≡◌}
 use Rattle.cdf_var_records.proofs.PadSites.{at_is, r_count}
 use Rattle.cdf_var_records.proofs.pad_place.read_pad_offset.Goals.{in-R+in_ok-dimensions-in-R, in-Z+in_ok-dimensions-in-Z}
 use Rattle.cdf_var_records.proofs.pad_place.read_pad_offset.Goals as goal

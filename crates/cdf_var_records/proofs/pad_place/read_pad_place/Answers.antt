@@ -1,5 +1,4 @@
-use Rattle.std.proofs.Common.{List, ap, arith, length, refl, subst, ℕ, ◌∙◌, ◌≡◌}
-use Rattle.cdf_var_records.proofs.Common.{AreBytes, Byte, read_done, read_more, read_once, unwrap_or}
+use Rattle.cdf_var_records.proofs.Common.{AreBytes, Byte, List, ap, arith, length, read_done, read_more, read_once, refl, subst, unwrap_or, ℕ, ◌∙◌, ◌≡◌}
 use Rattle.cdf_records.specs.Heads.{vdr_at}
 use Rattle.cdf_records.specs.declared.vdr.Vdr.{Vdr}
 use Rattle.cdf_var_records.proofs.PadSites.{elems_are as site_elems, type_is, vdr_lies}

@@ -1,5 +1,4 @@
-use Rattle.std.proofs.Common.{ap, arith, length, subst, sym, ℕ, ◌+◌, ◌∙◌, ◌≤◌}
-use Rattle.cdf_var_records.proofs.Common.{few_dimensions, word}
+use Rattle.cdf_var_records.proofs.Common.{ap, arith, few_dimensions, length, subst, sym, word, ℕ, ◌+◌, ◌∙◌, ◌≤◌}
 use Rattle.cdf_var_records.proofs.DimsRead.{count_is, count_lies, offset_lies}
 use Rattle.cdf_var_records.proofs.pad_place.read_r_dimensions.Goals as goal
 

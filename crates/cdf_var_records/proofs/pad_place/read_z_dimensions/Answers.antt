@@ -1,4 +1,4 @@
-use Rattle.std.proofs.Common.{arith, subst, sym, ℕ, ◌≤◌}
+use Rattle.cdf_var_records.proofs.Common.{arith, subst, sym, ℕ, ◌≤◌}
 use Rattle.cdf_var_records.proofs.PadSites.{z_count, z_few, z_lies}
 use Rattle.cdf_var_records.proofs.pad_place.read_z_dimensions.Goals as goal
 

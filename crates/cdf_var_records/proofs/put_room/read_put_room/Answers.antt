@@ -1,5 +1,4 @@
-use Rattle.std.proofs.Common.{List, ap, arith, subst, sym, ◌∙◌}
-use Rattle.cdf_var_records.proofs.Common.{Good, block_count, blocks_room, variable_at}
+use Rattle.cdf_var_records.proofs.Common.{Good, List, ap, arith, block_count, blocks_room, subst, sym, variable_at, ◌∙◌}
 use Rattle.cdf_var_records.proofs.PutRoomNeeded.{head_lies, index_there, leaves_rise, nodes, room_there, size_there, v}
 use Rattle.cdf_var_records.proofs.RecordReading.{record_size_is}
 use Rattle.cdf_var_records.proofs.put_room.read_put_room.Goals as goal

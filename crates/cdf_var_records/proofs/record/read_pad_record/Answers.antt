@@ -1,5 +1,4 @@
-use Rattle.std.proofs.Common.{List, ap₂, ℕ, ◌∙◌}
-use Rattle.cdf_var_records.proofs.Common.{repeat}
+use Rattle.cdf_var_records.proofs.Common.{List, ap₂, repeat, ℕ, ◌∙◌}
 use Rattle.cdf_var_records.proofs.RecordReading.{count_is}
 use Rattle.cdf_var_records.proofs.record.read_pad_record.Goals as goal
 

@@ -1,4 +1,4 @@
-use Rattle.std.proofs.Common.{arith, sym, ◌∙◌}
+use Rattle.cdf_var_records.proofs.Common.{arith, sym, ◌∙◌}
 use Rattle.cdf_var_records.proofs.RecordReading.{pad_is_inside, pad_whole}
 use Rattle.cdf_var_records.proofs.record.read_pad_value.Goals as goal
 

@@ -1,5 +1,4 @@
-use Rattle.std.proofs.Common.{List, ap, subst, sym, ℕ, ◌∙◌, ◌≡◌}
-use Rattle.cdf_var_records.proofs.Common.{Good, IfOk-weaker, IsForm, pad_record, read, variable_at}
+use Rattle.cdf_var_records.proofs.Common.{Good, IfOk-weaker, IsForm, List, ap, pad_record, read, subst, sym, variable_at, ℕ, ◌∙◌, ◌≡◌}
 use Rattle.cdf_var_records.proofs.RecordReading.{reads_pad, reads_stored}
 use Rattle.cdf_var_records.proofs.record.read_record.Goals as goal
 

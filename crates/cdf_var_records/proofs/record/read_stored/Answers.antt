@@ -1,5 +1,4 @@
-use Rattle.std.proofs.Common.{List, ap, subst, sym, ℕ, ◌-◌, ◌∙◌, ◌≡◌}
-use Rattle.cdf_var_records.proofs.Common.{HoldsRecords, option_map, plain_bytes, record_bytes, record_in, seen}
+use Rattle.cdf_var_records.proofs.Common.{HoldsRecords, List, ap, option_map, plain_bytes, record_bytes, record_in, seen, subst, sym, ℕ, ◌-◌, ◌∙◌, ◌≡◌}
 use Rattle.cdf_var_records.proofs.RecordReading.{holds, holds_from, holds_upto, index, leaf_has, lies, no_record, whole}
 use Rattle.cdf_var_records.proofs.record.read_stored.Goals as goal
 

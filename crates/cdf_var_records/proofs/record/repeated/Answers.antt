@@ -1,5 +1,4 @@
-use Rattle.std.proofs.Common.{List, ap, sym, ℕ, ◌++◌, ◌∙◌}
-use Rattle.cdf_var_records.proofs.Common.{repeat_more}
+use Rattle.cdf_var_records.proofs.Common.{List, ap, repeat_more, sym, ℕ, ◌++◌, ◌∙◌}
 use Rattle.cdf_var_records.proofs.record.repeated.Goals as goal
 
 pub loop-preserved : goal.loop-preserved

@@ -1,5 +1,4 @@
-use Rattle.std.proofs.Common.{◌≡◌}
-use Rattle.cdf_var_records.proofs.Common.{repeat}
+use Rattle.cdf_var_records.proofs.Common.{repeat, ◌≡◌}
 use Rattle.cdf_var_records.proofs.record.repeated.Given as goal
 
 abbrev pub invariant-loop : goal.invariant-loop

@@ -1,5 +1,4 @@
-use Rattle.std.proofs.Common.{[], ◌∷◌, arith}
-use Rattle.cdf_index.proofs.Common.{first_at, last_at, met_block}
+use Rattle.cdf_index.proofs.Common.{[], arith, first_at, last_at, met_block, ◌∷◌}
 use Rattle.cdf_index.proofs.Measured.{sizes_both}
 use Rattle.cdf_index.proofs.measuring.IndexSizeGather.block.Goals as goal
 

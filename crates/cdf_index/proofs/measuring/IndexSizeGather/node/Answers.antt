@@ -1,5 +1,4 @@
-use Rattle.std.proofs.Common.{[], ◌∷◌, arith}
-use Rattle.cdf_index.proofs.Common.{met_node}
+use Rattle.cdf_index.proofs.Common.{[], arith, met_node, ◌∷◌}
 use Rattle.cdf_index.proofs.Measured.{sizes_both}
 use Rattle.cdf_index.proofs.measuring.IndexSizeGather.node.Goals as goal
 

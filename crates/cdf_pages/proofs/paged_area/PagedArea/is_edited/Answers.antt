@@ -1,5 +1,4 @@
-use Rattle.std.proofs.Common.{◌≡◌, ◌≤◌, ℕ, zero, suc, List, Option, None, arith, length}
-use Rattle.cdf_pages.proofs.Common.{page_at, file_of, Backed}
+use Rattle.cdf_pages.proofs.Common.{Backed, List, None, Option, arith, file_of, length, page_at, suc, zero, ℕ, ◌≡◌, ◌≤◌}
 use Rattle.cdf_pages.proofs.Images.{image_file, length-image}
 use Rattle.cdf_pages.proofs.paged_area.PagedArea.is_edited.Goals as goal
 

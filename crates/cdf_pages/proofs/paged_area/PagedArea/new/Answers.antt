@@ -1,5 +1,4 @@
-use Rattle.std.proofs.Common.{◌∙◌, ap, arith}
-use Rattle.cdf_pages.proofs.Common.{page_at, file_of, image_of}
+use Rattle.cdf_pages.proofs.Common.{ap, arith, file_of, image_of, page_at, ◌∙◌}
 use Rattle.cdf_pages.proofs.Images.{image_file}
 use Rattle.cdf_pages.proofs.paged_area.PagedArea.new.Goals as goal
 

@@ -1,6 +1,4 @@
-use Rattle.std.proofs.Common.{◌∙◌, ◌+◌, ◌≤◌, ◌++◌, ℕ, List, None, OnOk, refl, sym, ap, subst, arith, length}
-use Rattle.cdf_pages.proofs.Common.{page_at, is_some, file_of, image_of, is_in, Holds, HoldsBetween, IsChangedRange, Touches}
-use Rattle.cdf_pages.specs.Saving.{tail_bytes}
+use Rattle.cdf_pages.proofs.Common.{Holds, HoldsBetween, IsChangedRange, List, None, OnOk, Touches, ap, arith, file_of, image_of, is_in, is_some, length, page_at, refl, subst, sym, tail_bytes, ℕ, ◌++◌, ◌+◌, ◌∙◌, ◌≤◌}
 use Rattle.cdf_pages.proofs.Filling.{on_ok_map, true_not_false}
 use Rattle.cdf_pages.proofs.Images.{image_size}
 use Rattle.cdf_pages.proofs.SavedArea.{no_mark, nothing_to_save, saved_already, saved_bound, saved_shows, saved_whole}

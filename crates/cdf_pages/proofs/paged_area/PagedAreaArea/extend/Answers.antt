@@ -1,6 +1,4 @@
-use Rattle.std.proofs.Common.{rules, ◌≡◌, ◌∙◌, ◌+◌, ◌*◌, ◌/◌, ◌≤◌, ◌<◌, ◌⊎◌, ℕ, List, refl, sym, ap, ap₂, subst, arith, length, replicate, ◌++◌}
-use Rattle.cdf_pages.proofs.Common.{page_at, nat_cmp, get, file_of, image_of, was, keys_of, TakesAtMost, is_in, Changes, ChangesSome, cost_of_writing, pages_in}
-use Rattle.cdf_pages.specs.Pages.{Covers, part_from, part_upto}
+use Rattle.cdf_pages.proofs.Common.{Changes, ChangesSome, Covers, List, TakesAtMost, ap, ap₂, arith, cost_of_writing, file_of, get, image_of, is_in, keys_of, length, nat_cmp, page_at, pages_in, part_from, part_upto, refl, replicate, rules, subst, sym, was, ℕ, ◌*◌, ◌++◌, ◌+◌, ◌/◌, ◌<◌, ◌∙◌, ◌≡◌, ◌≤◌, ◌⊎◌}
 use Rattle.cdf_pages.proofs.Filling.{on_err, true_not_false}
 use Rattle.cdf_pages.proofs.Images.{image_same, image_size}
 use Rattle.cdf_pages.proofs.Growing.{kept_backed, was_backed, kept_shows}

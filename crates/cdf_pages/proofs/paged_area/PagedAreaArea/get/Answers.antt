@@ -1,5 +1,4 @@
-use Rattle.std.proofs.Common.{◌∙◌, ◌+◌, ◌*◌, sym, ap, arith, length, slice_index}
-use Rattle.cdf_store.specs.Disk.{file_of}
+use Rattle.cdf_pages.proofs.Common.{ap, arith, file_of, length, slice_index, sym, ◌*◌, ◌+◌, ◌∙◌}
 use Rattle.cdf_pages.proofs.paged_area.PagedAreaArea.get.Goals as goal
 
 pub invariant_of-self : goal.invariant_of-self

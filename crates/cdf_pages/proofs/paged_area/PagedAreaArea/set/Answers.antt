@@ -1,5 +1,4 @@
-use Rattle.std.proofs.Common.{rules, ◌≡◌, ◌∙◌, ◌/◌, ◌<◌, ℕ, refl, sym, ap, ap₂, subst, arith, length}
-use Rattle.cdf_pages.proofs.Common.{page_at, nat_cmp, get, put, file_of, image_of, was, eqb-true, keys_of, TakesAtMost, is_in, cost_of_writing}
+use Rattle.cdf_pages.proofs.Common.{TakesAtMost, ap, ap₂, arith, cost_of_writing, eqb-true, file_of, get, image_of, is_in, keys_of, length, nat_cmp, page_at, put, refl, rules, subst, sym, was, ℕ, ◌/◌, ◌<◌, ◌∙◌, ◌≡◌}
 use Rattle.cdf_pages.proofs.Filling.{on_err, true_not_false}
 use Rattle.cdf_pages.proofs.Images.{image_same, image_size, put_empty}
 use Rattle.cdf_pages.proofs.Growing.{kept_backed, was_backed, kept_shows}

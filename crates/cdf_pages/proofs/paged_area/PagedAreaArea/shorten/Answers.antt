@@ -1,5 +1,4 @@
-use Rattle.std.proofs.Common.{◌≡◌, ◌∙◌, ◌+◌, ◌-◌, sym, ap, arith, take}
-use Rattle.cdf_pages.proofs.Common.{page_at, file_of, image_of}
+use Rattle.cdf_pages.proofs.Common.{ap, arith, file_of, image_of, page_at, sym, take, ◌+◌, ◌-◌, ◌∙◌, ◌≡◌}
 use Rattle.cdf_pages.proofs.Images.{image_take, image_size}
 use Rattle.cdf_pages.proofs.paged_area.PagedAreaArea.shorten.Goals as goal
 

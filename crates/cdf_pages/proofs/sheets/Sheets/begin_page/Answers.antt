@@ -1,5 +1,4 @@
-use Rattle.std.proofs.Common.{rules, ◌≡◌, ◌∙◌, Some, None, sym, subst, ap, inl, inr}
-use Rattle.cdf_pages.proofs.Common.{page_at, nat_cmp, get, was}
+use Rattle.cdf_pages.proofs.Common.{None, Some, ap, get, inl, inr, nat_cmp, page_at, rules, subst, sym, was, ◌∙◌, ◌≡◌}
 use Rattle.cdf_pages.proofs.Covered.{was_log}
 use Rattle.cdf_pages.proofs.Images.{same_or_not}
 use Rattle.cdf_pages.proofs.sheets.Sheets.begin_page.Goals as goal

@@ -1,5 +1,4 @@
-use Rattle.std.proofs.Common.{rules, ◌≡◌, ◌<◌, [], length, sym, arith}
-use Rattle.cdf_pages.proofs.Common.{is_some, if◌then◌else◌, page_at}
+use Rattle.cdf_pages.proofs.Common.{[], arith, if◌then◌else◌, is_some, length, page_at, rules, sym, ◌<◌, ◌≡◌}
 use Rattle.cdf_pages.proofs.Slots.{none_counted, one_counted, page_read}
 use Rattle.cdf_pages.proofs.table.Table.count.Goals as goal
 

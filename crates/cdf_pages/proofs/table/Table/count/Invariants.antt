@@ -1,5 +1,4 @@
-use Rattle.std.proofs.Common.{◌≡◌, take}
-use Rattle.cdf_pages.specs.Table.{pages_held}
+use Rattle.cdf_pages.proofs.Common.{pages_held, take, ◌≡◌}
 use Rattle.cdf_pages.proofs.table.Table.count.Given as goal
 
 abbrev pub invariant-loop-at : goal.invariant-loop-at

@@ -1,5 +1,4 @@
-use Rattle.std.proofs.Common.{◌≡◌, ◌-◌, ◌≤◌, ◌<◌, ℕ, length, None}
-use Rattle.cdf_pages.proofs.Common.{page_at}
+use Rattle.cdf_pages.proofs.Common.{None, length, page_at, ℕ, ◌-◌, ◌<◌, ◌≡◌, ◌≤◌}
 use Rattle.cdf_pages.proofs.table.Table.first_from.Given as goal
 
 abbrev pub invariant-loop-at : goal.invariant-loop-at

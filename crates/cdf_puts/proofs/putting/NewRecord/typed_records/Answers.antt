@@ -1,4 +1,4 @@
-use Rattle.cdf_puts.proofs.Common.{◌++◌, ◌+◌, append_assoc, sym, ap, ◌∙◌, block_type, record_put, records_put}
+use Rattle.cdf_puts.proofs.Common.{ap, append_assoc, block_type, record_put, records_put, sym, ◌++◌, ◌+◌, ◌∙◌}
 use Rattle.cdf_puts.proofs.putting.NewRecord.typed_records.Goals as goal
 use Rattle.cdf_puts.proofs.PutSpot.{one_more}
 

@@ -1,5 +1,5 @@
 use Rattle.std.specs.Prelude.{◌≡◌, ◌++◌}
-use Rattle.cdf_puts.specs.Putting.{block_type, records_put}
+use Rattle.cdf_puts.proofs.Common.{block_type, records_put}
 use Rattle.cdf_puts.proofs.putting.NewRecord.typed_records.Given as goal
 
 abbrev pub invariant-loop-i : goal.invariant-loop-i
