@@ -129,6 +129,7 @@ impl Vars {
     }
 
     /// Puts a record of a variable, which there is room for. After an error a part of this may have been done.
+    #[tactic(auto, using(cdf_area::proofs::Calls::edit_done, cdf_area::proofs::Calls::edit_failed, cdf_area::proofs::Calls::edit_more, cdf_area::proofs::Calls::edits_by_read, cdf_area::proofs::Calls::keeps_by_read, cdf_area::proofs::Calls::read_once))]
     fn write_record<A: Area>(
         &self,
         area: &mut A,
@@ -153,6 +154,7 @@ impl Vars {
     }
 
     /// Puts a record of a variable where there is room for it. After an error a part of this may have been done in the area.
+    #[tactic(auto, using(cdf_area::proofs::Calls::edit_done, cdf_area::proofs::Calls::edit_failed, cdf_area::proofs::Calls::edit_more, cdf_area::proofs::Calls::edits_by_read, cdf_area::proofs::Calls::keeps_by_read, cdf_area::proofs::Calls::read_failed, cdf_area::proofs::Calls::read_more, cdf_area::proofs::Calls::read_once))]
     pub(crate) fn put_bytes<A: Area>(
         &self,
         area: &mut A,
