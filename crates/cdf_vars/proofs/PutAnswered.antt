@@ -10,7 +10,7 @@ module _ {b : List ℕ} {t : Target} {r : ℕ} {bytes : List ℕ} (good : Good b
   abbrev vdr : ℕ
   vdr = t.form.place.vdr
 
-  abbrev wanted : ℕ
+  abbrev pub wanted : ℕ
   wanted = put_room (variable_at b vdr) (index_at b (number b vdr vdr_vxr_head)) r
 
   there : slice_get (shapes_of (shape b) t.id.kind) t.id.num ≡ Some can.is.own

@@ -80,8 +80,8 @@ module _ {b : List ℕ} {kind : Kind} {vdr : ℕ} (good : Good b) (is : IsVdr b 
 
 -- ---- rMaxRec is written
 
-module _ {b m last : List ℕ} {vdr r : ℕ} (good : Good b) (is : IsVdr b R vdr) (small : r ≤ record_number_limit) (short : length b ≤ image_limit) (written : m ≡ with_field b vdr vdr_max_rec (cast_unsigned w32 (cast_signed w32 r))) (places : List ℕ) (are : places ≡ vdrs (shapes_of (shape b) R))
-    (put : last ≡ with_field m (gdr_offset m) gdr_r_max_rec (cast_unsigned w32 (greatest_at m places))) where
+module _ {b m last : List ℕ} {vdr r : ℕ} (good : Good b) (is : IsVdr b R vdr) (small : r ≤ record_number_limit) (short : length b ≤ image_limit) (written : m ≡ with_field b vdr vdr_max_rec (cast_unsigned w32 (cast_signed w32 r)))
+    (places : List ℕ) (are : places ≡ vdrs (shapes_of (shape b) R)) (put : last ≡ with_field m (gdr_offset m) gdr_r_max_rec (cast_unsigned w32 (greatest_at m places))) where
   abbrev gdr : ℕ
   gdr = (shape m).gdr
 
@@ -98,14 +98,17 @@ module _ {b m last : List ℕ} {vdr r : ℕ} (good : Good b) (is : IsVdr b R vdr
   last_long = ap length put ∙ length-with_field m (gdr_offset m) gdr_r_max_rec (cast_unsigned w32 (greatest_at m places)) (greatest_lies m good_m)
 
   last_others : (i : ℕ) → (i < gdr + 52) ⊎ (gdr + 52 + 4 ≤ i) → byte last i ≡ byte m i
-  last_others i out = ap (λ (x : List ℕ). byte x i) put ∙ other_bytes m (gdr_offset m) gdr_r_max_rec (cast_unsigned w32 (greatest_at m places)) i (greatest_lies m good_m) (subst (λ (g : ℕ). (i < g + 52) ⊎ (g + 52 + 4 ≤ i)) (sym has.gdr_is) out)
+  last_others i out =
+      ap (λ (x : List ℕ). byte x i) put
+      ∙ other_bytes m (gdr_offset m) gdr_r_max_rec (cast_unsigned w32 (greatest_at m places)) i (greatest_lies m good_m) (subst (λ (g : ℕ). (i < g + 52) ⊎ (g + 52 + 4 ≤ i)) (sym has.gdr_is) out)
 
   max_rec_stays : (before : List VariableShape) (x : VariableShape) (after : List VariableShape) → shapes_of (shape b) R ≡ before ++ x ∷ after → number last x.vdr vdr_max_rec ≡ number m x.vdr vdr_max_rec
   max_rec_stays before x after e =
       let among : StandsAmong m R before x after = record { was = ap (λ (s : Shape). shapes_of s R) shape_m ∙ e } in
-      let alone : Changed m last (touched_field gdr gdr_r_max_rec ∷ []) = record { longer = (let l = last_long in omega arith); same = λ i lt out. last_others i out.0 } in
-      let placed : Placed m (shape m).records (length m) (touched_field gdr gdr_r_max_rec ∷ []) = (inl (gdr_in m (shape m) has, (let l = gdr_long m (shape m) has in omega arith)), tt) in
-      let part = changed_part m last (shape m).records (length m) has.tiled (omega arith) (touched_field gdr gdr_r_max_rec ∷ []) alone placed x.vdr 24 28 (tile good_m among) (let l = long good_m among in omega arith) ((λ q. absurd (vdr_no_gdr good_m among q)), tt) in
+      let only = touched_field gdr gdr_r_max_rec ∷ [] in
+      let alone : Changed m last only = record { longer = (let l = last_long in omega arith); same = λ i lt out. last_others i out.0 } in
+      let placed : Placed m (shape m).records (length m) only = (inl (gdr_in m (shape m) has, (let l = gdr_long m (shape m) has in omega arith)), tt) in
+      let part = changed_part m last (shape m).records (length m) has.tiled (omega arith) only alone placed x.vdr 24 28 (tile good_m among) (let l = long good_m among in omega arith) ((λ q. absurd (vdr_no_gdr good_m among q)), tt) in
       word_kept m last (x.vdr + 24) (x.vdr + 28) part (x.vdr + 24) 4 (omega arith) (omega arith)
 
   extents : (before xs : List VariableShape) → shapes_of (shape b) R ≡ before ++ xs → map (λ (v : Variable). extent v.max_rec) (map (variable_of last) xs) ≡ map (λ (v : ℕ). extent (max_rec_at m v)) (vdrs xs)
@@ -129,15 +132,22 @@ module _ {b m last : List ℕ} {vdr r : ℕ} (good : Good b) (is : IsVdr b R vdr
       ap r_extents (content_is last (shape last) has_now) ∙ ap (λ (s : Shape). map (λ (v : Variable). extent v.max_rec) (map (variable_of last) (shapes_of s R))) shape_now
       ∙ extents [] (shapes_of (shape b) R) refl ∙ ap (map (λ (v : ℕ). extent (max_rec_at m v))) (sym are) in
       let place : gdr_offset last ≡ gdr_offset m = has_now.gdr_is ∙ ap (λ (s : Shape). s.gdr) (shape_now ∙ sym shape_m) ∙ sym has.gdr_is in
-      let read : integer4 last (gdr_offset m) gdr_r_max_rec ≡ greatest_at m places = ap (λ (x : List ℕ). integer4 x (gdr_offset m) gdr_r_max_rec) put ∙ field_reads4 m (gdr_offset m) gdr_r_max_rec (greatest_at m places) refl (greatest_lies m good_m) (greatest_fits m places) in
-      record { changed = all_changed; as_long = long; max_rec_is = says; greatest = λ q. ap (λ (g : ℕ). integer4 last g gdr_r_max_rec) place ∙ read ∙ ap (λ (ns : List ℕ). last_number (fold max 0 ns)) (sym all) }
+      let read : integer4 last (gdr_offset m) gdr_r_max_rec ≡ greatest_at m places =
+      ap (λ (x : List ℕ). integer4 x (gdr_offset m) gdr_r_max_rec) put ∙ field_reads4 m (gdr_offset m) gdr_r_max_rec (greatest_at m places) refl (greatest_lies m good_m) (greatest_fits m places) in
+      let greatest = ap (λ (g : ℕ). integer4 last g gdr_r_max_rec) place ∙ read ∙ ap (λ (ns : List ℕ). last_number (fold max 0 ns)) (sym all) in
+      record { changed = all_changed; as_long = long; max_rec_is = says; greatest = λ q. greatest }
 
 -- ---- both
 
-pub raised : {b m last : List ℕ} (kind : Kind) {vdr r : ℕ} (good : Good b) (is : IsVdr b kind vdr) (small : r ≤ record_number_limit) (short : length b ≤ image_limit) → m ≡ with_field b vdr vdr_max_rec (cast_unsigned w32 (cast_signed w32 r)) → (places : List ℕ) → places ≡ vdrs (shapes_of (shape b) R)
+pub raised : {b m last : List ℕ} (kind : Kind) {vdr r : ℕ} (good : Good b) (is : IsVdr b kind vdr) (small : r ≤ record_number_limit) (short : length b ≤ image_limit)
+    → m ≡ with_field b vdr vdr_max_rec (cast_unsigned w32 (cast_signed w32 r)) → (places : List ℕ) → places ≡ vdrs (shapes_of (shape b) R)
     → ((greatest : ℤ) → greatest ≡ greatest_at m places → last ≡ with_writes m (r_max_writes kind (gdr_offset m) greatest)) → (v : VariableShape) → v.vdr ≡ vdr → MaxRecRaised b last kind v r
 raised {b} {m} {last} kind {vdr} {r} good is small short written places are follows v e = subst (λ (k : ℕ). MaxRecRaised b last kind (record v { vdr = k }) r) (sym e) (by kind is follows)
   where
     by : (kind : Kind) → IsVdr b kind vdr → ((greatest : ℤ) → greatest ≡ greatest_at m places → last ≡ with_writes m (r_max_writes kind (gdr_offset m) greatest)) → MaxRecRaised b last kind (record v { vdr = vdr }) r
-    by R is follows = let all = raised_r good is small short written places are (follows (greatest_at m places) refl) in record { changed = all.changed; as_long = all.as_long; max_rec_is = all.max_rec_is; greatest = all.greatest }
-    by Z is follows = rw (follows (greatest_at m places) refl) (record { changed = mid_changed good is small short written Z; as_long = mid_long good is small short written; max_rec_is = mid_number good is small short written; greatest = λ q. absurd cc })
+    by R is follows =
+        let all = raised_r good is small short written places are (follows (greatest_at m places) refl) in
+        record { changed = all.changed; as_long = all.as_long; max_rec_is = all.max_rec_is; greatest = all.greatest }
+    by Z is follows =
+        rw (follows (greatest_at m places) refl)
+        (record { changed = mid_changed good is small short written Z; as_long = mid_long good is small short written; max_rec_is = mid_number good is small short written; greatest = λ q. absurd cc })

@@ -26,7 +26,8 @@ module _ {b name : List ℕ} {t : Target} (h : HasTarget b name t) (r : ℕ) whe
   pub one_long : Good b → (words : List (List ℕ)) (value : List ℕ) → values_in t.form.shape.t t.form.shape.elems 1 words ≡ Ok value → length value ≡ size_of t.form.shape.t * t.form.shape.elems
   one_long good words value is = omega (arith, long good 1 words value is)
 
-  may_put : (c : Command) (bytes : List ℕ) → PutsAs name r c → cannot_be_put v r ≡ false → length bytes ≡ record_bytes b t.form.place.vdr → step (content b) c ≡ ByStep (Go (with_variable (content b) so_formed (with_record (formed t.form v) r bytes)) replies.Plain) → MayPut b c name r t bytes
+  may_put : (c : Command) (bytes : List ℕ) → PutsAs name r c → cannot_be_put v r ≡ false → length bytes ≡ record_bytes b t.form.place.vdr
+      → step (content b) c ≡ ByStep (Go (with_variable (content b) so_formed (with_record (formed t.form v) r bytes)) replies.Plain) → MayPut b c name r t bytes
   may_put c bytes puts can long goes =
       let same = formed_is form in
       record {
@@ -35,12 +36,15 @@ module _ {b name : List ℕ} {t : Target} (h : HasTarget b name t) (r : ℕ) whe
       }
 
   module _ (good : Good b) (can : cannot_be_put v r ≡ false) (words : List (List ℕ)) where
-    pub rec_may : {n : ℕ} → n ≡ value_count t.form.shape.dims t.form.shape.varys → (bytes : List ℕ) → values_in t.form.shape.t t.form.shape.elems n words ≡ Ok bytes → MayPut b (commands.PutRec name r words) name r t bytes
+    pub rec_may : {n : ℕ} → n ≡ value_count t.form.shape.dims t.form.shape.varys
+        → (bytes : List ℕ) → values_in t.form.shape.t t.form.shape.elems n words ≡ Ok bytes → MayPut b (commands.PutRec name r words) name r t bytes
     rec_may {n} all bytes is = may_put (commands.PutRec name r words) bytes (refl, refl) can
         (long good n words bytes is ∙ ap (λ (k : ℕ). size_of t.form.shape.t * t.form.shape.elems * k) all ∙ record_size_is good form)
         (rw (named_formed form name h.named, ← all, is, can) refl)
 
-    pub val_may : (index : List ℕ) {n : ℕ} → place (content b).majority t.form.shape.dims t.form.shape.varys index ≡ Some n → {size : ℕ} → size ≡ size_of t.form.shape.t * t.form.shape.elems → (old : List ℕ) → old ≡ read v r → n * size + size ≤ length old → (value bytes : List ℕ) → values_in t.form.shape.t t.form.shape.elems 1 words ≡ Ok value → length value ≡ size → bytes ≡ take (n * size) old ++ value ++ drop ((n + 1) * size) old
+    pub val_may : (index : List ℕ) {n : ℕ} → place (content b).majority t.form.shape.dims t.form.shape.varys index ≡ Some n
+        → {size : ℕ} → size ≡ size_of t.form.shape.t * t.form.shape.elems → (old : List ℕ) → old ≡ read v r → n * size + size ≤ length old
+        → (value bytes : List ℕ) → values_in t.form.shape.t t.form.shape.elems 1 words ≡ Ok value → length value ≡ size → bytes ≡ take (n * size) old ++ value ++ drop ((n + 1) * size) old
         → MayPut b (commands.PutVal name r index words) name r t bytes
     val_may index {n} at {size} wide old is_read within value bytes says one made =
         let read_so : read (formed t.form v) r ≡ old = ap (λ (w : Variable). read w r) (sym (formed_is form)) ∙ sym is_read in

@@ -4,7 +4,8 @@ use Rattle.cdf_vars.proofs.Common.{Good, Form, VarId, found_among, Known, Knows,
 use Rattle.cdf_vars.specs.Records.{HasForm}
 use Rattle.cdf_vars.proofs.VariableFound.{own_is, parts_there, variable_there}
 
-module _ {b : List ℕ} (name : List ℕ) {known : Known} {result : Option VarId} (knows : Knows b known) (asked : result ≡ found_among known name) {id : VarId} (good : Good b) (some : result ≡ Some id) {at : ℕ} (is : at ≡ get_or (known_of known id.kind).places id.num 0) (form : Form) (f : IsForm b form) (there : form.place.vdr ≡ at) where
+module _ {b : List ℕ} (name : List ℕ) {known : Known} {result : Option VarId} (knows : Knows b known) (asked : result ≡ found_among known name) {id : VarId} (good : Good b) (some : result ≡ Some id)
+    {at : ℕ} (is : at ≡ get_or (known_of known id.kind).places id.num 0) (form : Form) (f : IsForm b form) (there : form.place.vdr ≡ at) where
   pub has_target : HasTarget b name (record { id = id; form = form })
   has_target =
       let parts = parts_there name knows asked good some in

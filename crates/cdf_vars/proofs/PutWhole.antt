@@ -20,7 +20,8 @@ use Rattle.cdf_vars.proofs.PutParts.{pad_is_long, whole_record}
 
 -- ---- what is kept of the variables where one has other records
 
-names_set : (d : DataSet) (kind : Kind) (n : ℕ) (x v : Variable) → slice_get (variables_of d kind) n ≡ Some v → x.name ≡ v.name → (k : Kind) → map (λ (w : Variable). w.name) (variables_of d k) ≡ map (λ (w : Variable). w.name) (variables_of (with_variables d kind (slice_set (variables_of d kind) n x)) k)
+names_set : (d : DataSet) (kind : Kind) (n : ℕ) (x v : Variable) → slice_get (variables_of d kind) n ≡ Some v → x.name ≡ v.name → (k : Kind)
+    → map (λ (w : Variable). w.name) (variables_of d k) ≡ map (λ (w : Variable). w.name) (variables_of (with_variables d kind (slice_set (variables_of d kind) n x)) k)
 names_set d R n x v there same R = same_name_set d.r_variables n x v there same
 names_set d R n x v there same Z = refl
 names_set d Z n x v there same R = refl
@@ -63,7 +64,8 @@ pub record Ready (b : List ℕ) (t : Target) (r : ℕ) (bytes : List ℕ) (put :
   pub new : IsNewRecord b t r bytes put
 
 -- of an image that is read before
-pub ready : {b x : List ℕ} {t : Target} {r : ℕ} {bytes : List ℕ} {put : NewRecord} {limit limit' : ℕ} → x ≡ b → limit' ≡ limit → Good b → CanPut b r t bytes → HasRoom b t r limit → limit ≤ image_limit → IsNewRecord b t r bytes put → Ready x t put.rec bytes put limit'
+pub ready : {b x : List ℕ} {t : Target} {r : ℕ} {bytes : List ℕ} {put : NewRecord} {limit limit' : ℕ}
+    → x ≡ b → limit' ≡ limit → Good b → CanPut b r t bytes → HasRoom b t r limit → limit ≤ image_limit → IsNewRecord b t r bytes put → Ready x t put.rec bytes put limit'
 ready {b} {x} {t} {r} {bytes} {put} {limit} {limit'} same frame good can room most new =
     let k : Ready b t r bytes put limit = record { good = good; can = can; short = omega arith; room = room; new = new } in
     let at_rec = subst (λ (n : ℕ). Ready b t n bytes put limit) (sym new.rec_is) k in

@@ -37,7 +37,8 @@ module _ {b : List ℕ} {form : Form} (f : IsForm b form) where
   named_formed name {kind = kind} {number = number} named = named ∙ ap (λ (v : Variable). Some (record { kind = kind; number = number; variable = v })) formed_is
 
   -- a record of it that was read has the value of an index
-  pub inside : Good b → (rec : ℕ) (majority : Majority) (index : List ℕ) {size n : ℕ} {bytes : List ℕ} → bytes ≡ read (variable_at b form.place.vdr) rec → size ≡ size_of form.shape.t * form.shape.elems → place majority form.shape.dims form.shape.varys index ≡ Some n → n * size + size ≤ length bytes
+  pub inside : Good b → (rec : ℕ) (majority : Majority) (index : List ℕ) {size n : ℕ} {bytes : List ℕ}
+      → bytes ≡ read (variable_at b form.place.vdr) rec → size ≡ size_of form.shape.t * form.shape.elems → place majority form.shape.dims form.shape.varys index ≡ Some n → n * size + size ≤ length bytes
   inside good rec majority index {size} {n} {bytes} is_read wide at =
       let count = value_count form.shape.dims form.shape.varys in
       let long : length bytes ≡ size * count = ap length is_read ∙ read_long good f.is_vdr rec ∙ sym (record_size_is good f) ∙ ap (λ (k : ℕ). k * count) (sym wide) in

@@ -21,7 +21,8 @@ few_counted {x = x} good same vdr {head = head} head_is i size size_is = subst (
 pub vdr_in : {b : List ℕ} {kind : Kind} {vdr : ℕ} → IsVdr b kind vdr → In vdr (vdrs (variables (shape b)))
 vdr_in {b} {kind} {vdr} v = vdr_among kind (shape b) vdr (subst (λ (vs : List VariableShape). In vdr (vdrs vs)) (sym v.was) (in_middle v.before (record v.own { vdr = vdr }) v.after))
 
-module _ {b : List ℕ} (name : List ℕ) {kind : Kind} {vdr : ℕ} {x : Variable} (good : Good b) (v : IsVdr b kind vdr) (named : variable_named (content b) name ≡ Some (record { kind = kind; number = length v.before; variable = x })) {need : ℕ} (need_is : need ≡ reindex_room (index_at b (number b vdr vdr_vxr_head))) (limit : ℕ) where
+module _ {b : List ℕ} (name : List ℕ) {kind : Kind} {vdr : ℕ} {x : Variable} (good : Good b) (v : IsVdr b kind vdr)
+    (named : variable_named (content b) name ≡ Some (record { kind = kind; number = length v.before; variable = x })) {need : ℕ} (need_is : need ≡ reindex_room (index_at b (number b vdr vdr_vxr_head))) (limit : ℕ) where
   abbrev mine : Found
   mine = record { kind = kind; number = length v.before; variable = x }
 
@@ -38,7 +39,9 @@ module _ {b : List ℕ} (name : List ℕ) {kind : Kind} {vdr : ℕ} {x : Variabl
         elim made [ inl y ↦ omega (arith, ap length y.1) | inr y ↦ omega (arith, y.1.longest, room) ]
 
     pub answers_done : Answers limit b (commands.Reindex name) (Done replies.Plain) now
-    answers_done = gone limit b (commands.Reindex name) (content b) replies.Plain now (ap ByStep (goes_by (content b) name mine named)) (rw needed fits) (reindexed_follows mine name good (at good v) refl named long made)
+    answers_done =
+        gone limit b (commands.Reindex name) (content b) replies.Plain now (ap ByStep (goes_by (content b) name mine named)) (rw needed fits)
+        (reindexed_follows mine name good (at good v) refl named long made)
 
     pub known_done : {known : Known} → Knows b known → Knows now known
     known_done knows =

@@ -5,7 +5,9 @@ use Rattle.cdf_vars.proofs.RecordAnswers.{shown_rec}
 use Rattle.cdf_vars.proofs.vars.Vars.get_rec.Goals as goal
 
 pub returns-in-Missing-clause-answers : goal.returns-in-Missing-clause-answers
-returns-in-Missing-clause-answers g c = let none = rw c.in-Missing.is at c.in_ok-form.ensures.form in rw (c.find_form.ensures.area.image) (refused _ _ (GetRec c.args.name.now c.args.rec) NoSuchVar (rw none refl))
+returns-in-Missing-clause-answers g c =
+    let none = rw c.in-Missing.is at c.in_ok-form.ensures.form in
+    rw (c.find_form.ensures.area.image) (refused _ _ (GetRec c.args.name.now c.args.rec) NoSuchVar (rw none refl))
 
 pub returns-then-rec-gt-RECORD_NUMBER_LIMIT-clause-answers : goal.returns-then-rec-gt-RECORD_NUMBER_LIMIT-clause-answers
 returns-then-rec-gt-RECORD_NUMBER_LIMIT-clause-answers g c =

@@ -1,5 +1,5 @@
 use Rattle.std.proofs.Common.{◌≡◌, ◌+◌, ◌*◌, ◌≤◌, ◌∙◌, ℕ, List, length, take, drop, refl, sym, ap, arith}
-use Rattle.cdf_vars.proofs.Common.{lt-ltb, refused, record_number_limit, content, NoSuchVar, IndexOutOfRange, RecordOutOfRange, place, read, variable_at, values_fit}
+use Rattle.cdf_vars.proofs.Common.{image_limit, lt-ltb, refused, record_number_limit, content, NoSuchVar, IndexOutOfRange, RecordOutOfRange, place, read, variable_at, values_fit}
 use Rattle.cdf_model.specs.declared.command.Command.TheVariants.{GetVal}
 use Rattle.cdf_vars.specs.Records.{HasForm}
 use Rattle.cdf_vars.proofs.RecordAnswers.{shown_val}
@@ -24,10 +24,14 @@ record_is g c = c.in_ok-record.ensures.record ∙ ap (λ (x : List ℕ). read (v
 value_inside : (g : Over) (c : After-value_size-size g) → c.in-Some.number * c.value_size-size.result + c.value_size-size.result ≤ length c.in_ok-record.record.items
 value_inside g c =
     let b = g.A.Area.image c.args.area.now in
-    inside (has g (goal.at.After-value_size-size g c).In-Found).is_form c.requires.good c.args.rec (content b).majority c.args.index.now (record_is g (goal.at.After-value_size-size g c).In_ok-record) c.value_size-size.ensures (at g (goal.at.After-value_size-size g c).After-place_of ∙ c.in-Some.is)
+    let there = at g (goal.at.After-value_size-size g c).After-place_of ∙ c.in-Some.is in
+    inside (has g (goal.at.After-value_size-size g c).In-Found).is_form c.requires.good c.args.rec (content b).majority c.args.index.now
+    (record_is g (goal.at.After-value_size-size g c).In_ok-record) c.value_size-size.ensures there
 
 pub returns-in-Missing-clause-answers : goal.returns-in-Missing-clause-answers
-returns-in-Missing-clause-answers g c = let none = rw c.in-Missing.is at c.in_ok-form.ensures.form in rw (c.find_form.ensures.area.image) (refused _ _ (GetVal c.args.name.now c.args.rec c.args.index.now) NoSuchVar (rw none refl))
+returns-in-Missing-clause-answers g c =
+    let none = rw c.in-Missing.is at c.in_ok-form.ensures.form in
+    rw (c.find_form.ensures.area.image) (refused _ _ (GetVal c.args.name.now c.args.rec c.args.index.now) NoSuchVar (rw none refl))
 
 pub read_majority-requires : goal.read_majority-requires
 read_majority-requires g c = rw (c.find_form.ensures.area.image) c.requires.good
@@ -39,18 +43,21 @@ pub returns-in_default-clause-answers : goal.returns-in_default-clause-answers
 returns-in_default-clause-answers g c =
     let h = has g (goal.at.returns-in_default-clause-answers g c).In-Found in
     let outside = at g (goal.at.returns-in_default-clause-answers g c).After-place_of ∙ c.in_default.is in
-    rw (c.read_majority.ensures.area.image, c.find_form.ensures.area.image) (refused _ _ (GetVal c.args.name.now c.args.rec c.args.index.now) IndexOutOfRange (rw (named_formed h.is_form c.args.name.now h.named, outside) refl))
+    rw (c.read_majority.ensures.area.image, c.find_form.ensures.area.image)
+    (refused _ _ (GetVal c.args.name.now c.args.rec c.args.index.now) IndexOutOfRange (rw (named_formed h.is_form c.args.name.now h.named, outside) refl))
 
 pub returns-then-rec-gt-RECORD_NUMBER_LIMIT-clause-answers : goal.returns-then-rec-gt-RECORD_NUMBER_LIMIT-clause-answers
 returns-then-rec-gt-RECORD_NUMBER_LIMIT-clause-answers g c =
     let h = has g (goal.at.returns-then-rec-gt-RECORD_NUMBER_LIMIT-clause-answers g c).In-Found in
     let there = at g (goal.at.returns-then-rec-gt-RECORD_NUMBER_LIMIT-clause-answers g c).After-place_of ∙ c.in-Some.is in
     let over = lt-ltb record_number_limit c.args.rec c.if-rec-gt-RECORD_NUMBER_LIMIT.true in
-    rw (c.read_majority.ensures.area.image, c.find_form.ensures.area.image) (refused _ _ (GetVal c.args.name.now c.args.rec c.args.index.now) RecordOutOfRange (rw (named_formed h.is_form c.args.name.now h.named, there, over) refl))
+    rw (c.read_majority.ensures.area.image, c.find_form.ensures.area.image)
+    (refused _ _ (GetVal c.args.name.now c.args.rec c.args.index.now) RecordOutOfRange (rw (named_formed h.is_form c.args.name.now h.named, there, over) refl))
 
 pub read_record-requires : goal.read_record-requires
 read_record-requires g c =
-    rw (c.read_majority.ensures.area.image, c.find_form.ensures.area.image) (record { good = c.requires.good; short = (let fits = c.requires.fits in let limit = c.requires.limit in omega arith); form = (has g (goal.at.read_record-requires g c).In-Found).is_form })
+    let short : length (g.A.Area.image c.args.area.now) ≤ image_limit = omega (arith, c.requires.fits, c.requires.limit) in
+    rw (c.read_majority.ensures.area.image, c.find_form.ensures.area.image) (record { good = c.requires.good; short = short; form = (has g (goal.at.read_record-requires g c).In-Found).is_form })
 
 pub overflow_mul-number : goal.overflow_mul-number
 overflow_mul-number g c = omega (arith, value_inside g (goal.at.overflow_mul-number g c).After-value_size-size, c.in_ok-record.record.ok)
@@ -64,4 +71,6 @@ returns-clause-answers g c =
     let there = at g (goal.at.returns-clause-answers g c).After-place_of ∙ c.in-Some.is in
     let size = c.value_size-size.result in
     let value = c.new.ensures ∙ c.in_ok-value.ensures ∙ ap (λ (xs : List ℕ). take size (drop (c.in-Some.number * size) xs)) c.deref.ensures.value in
-    rw (c.read_record.ensures.area.image, c.read_majority.ensures.area.image, c.find_form.ensures.area.image) (shown_val (g.A.Area.frame c.args.area.now).limit h c.requires.good c.requires.fits c.if-rec-gt-RECORD_NUMBER_LIMIT.false (record_is g (goal.at.returns-clause-answers g c).In_ok-record) c.args.index.now there c.value_size-size.ensures c.new.result value)
+    let bytes = record_is g (goal.at.returns-clause-answers g c).In_ok-record in
+    rw (c.read_record.ensures.area.image, c.read_majority.ensures.area.image, c.find_form.ensures.area.image)
+    (shown_val (g.A.Area.frame c.args.area.now).limit h c.requires.good c.requires.fits c.if-rec-gt-RECORD_NUMBER_LIMIT.false bytes c.args.index.now there c.value_size-size.ensures c.new.result value)

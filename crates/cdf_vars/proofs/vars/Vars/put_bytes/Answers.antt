@@ -1,6 +1,6 @@
 use Rattle.std.proofs.Common.{◌≡◌, ◌∙◌, ℕ, ◌+◌, List, length, sym, ap, arith}
 use Rattle.cdf_vars.proofs.Common.{Frame, edit_failed, keeps_by_read, read_more, read_once, put_room, first_written, number, vdr_vxr_head, Variable, index_at, variable_at}
-use Rattle.cdf_vars.proofs.PutAnswered.{put_answers, put_refused}
+use Rattle.cdf_vars.proofs.PutAnswered.{put_answers, put_refused, wanted}
 use Rattle.cdf_vars.proofs.PutWhole.{from_is, within}
 use Rattle.cdf_var_records.proofs.PutRoomNeeded.{head_lies}
 use Rattle.cdf_vars.proofs.vars.Vars.put_bytes.Given.{Over}
@@ -22,7 +22,7 @@ read_put_room-requires-clause-from g c =
     rw (c.read_extent.ensures.area.image) (c.min.ensures ∙ from_is c.requires.good is c.args.rec c.in_ok-count.ensures.extent ∙ ap (λ (v : Variable). first_written v c.args.rec) (sym is.variable_is))
 
 -- the room that there is, and what is needed
-room_is : (g : Over) (c : After-from g) → (c.from.result + length (g.A.Area.image c.args.area.now) ≡ (g.A.Area.frame c.args.area.now).limit) × (c.in_ok-room.room ≡ put_room (variable_at (g.A.Area.image c.args.area.now) c.args.target.now.form.place.vdr) (index_at (g.A.Area.image c.args.area.now) (number (g.A.Area.image c.args.area.now) c.args.target.now.form.place.vdr vdr_vxr_head)) c.args.rec)
+room_is : (g : Over) (c : After-from g) → (c.from.result + length (g.A.Area.image c.args.area.now) ≡ (g.A.Area.frame c.args.area.now).limit) × (c.in_ok-room.room ≡ wanted c.requires.good c.requires.can)
 room_is g c =
     let vdr = c.args.target.now.form.place.vdr in
     let read = c.read_extent.ensures.area in
@@ -33,7 +33,8 @@ room_is g c =
 pub returns-then-from-room-clause-answers : goal.returns-then-from-room-clause-answers
 returns-then-from-room-clause-answers g c d name so =
     let is = room_is g (goal.at.returns-then-from-room-clause-answers g c).After-from in
-    rw (c.read_put_room.ensures.area.image, c.read_extent.ensures.area.image) (put_refused c.requires.good c.requires.can (g.A.Area.frame c.args.area.now).limit d name so (omega (arith, is.0, is.1, c.if-from-room.true)))
+    rw (c.read_put_room.ensures.area.image, c.read_extent.ensures.area.image)
+    (put_refused c.requires.good c.requires.can (g.A.Area.frame c.args.area.now).limit d name so (omega (arith, is.0, is.1, c.if-from-room.true)))
 
 pub write_record-requires-clause-good : goal.write_record-requires-clause-good
 write_record-requires-clause-good g c = rw (c.read_put_room.ensures.area.image, c.read_extent.ensures.area.image) c.requires.good
@@ -42,7 +43,10 @@ pub returns-clause-answers : goal.returns-clause-answers
 returns-clause-answers g c d name so =
     let is = room_is g (goal.at.returns-clause-answers g c).After-from in
     let follows = rw (c.read_put_room.ensures.area.image, c.read_extent.ensures.area.image) at c.in_ok-write_record.ensures.follows in
-    put_answers c.requires.good c.requires.can (g.A.Area.frame c.args.area.now).limit d name so (g.A.Area.image c.write_record.new.area) (omega (arith, is.0, is.1, c.if-from-room.false)) (follows d name so)
+    put_answers c.requires.good c.requires.can (g.A.Area.frame c.args.area.now).limit d name so (g.A.Area.image c.write_record.new.area)
+    (omega (arith, is.0, is.1, c.if-from-room.false)) (follows d name so)
 
 pub returns-in_err-write_record-clause-area : goal.returns-in_err-write_record-clause-area
-returns-in_err-write_record-clause-area g c = edit_failed (keeps_by_read (read_more (read_once c.in_ok-count.ensures.area) c.in_ok-room.ensures.area)) c.in_err-write_record.ensures.area c.from_residual-in_err-write_record.ensures.1
+returns-in_err-write_record-clause-area g c =
+    let stays = read_more (read_once c.in_ok-count.ensures.area) c.in_ok-room.ensures.area in
+    edit_failed (keeps_by_read stays) c.in_err-write_record.ensures.area c.from_residual-in_err-write_record.ensures.1

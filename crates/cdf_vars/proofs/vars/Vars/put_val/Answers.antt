@@ -4,7 +4,8 @@ use Rattle.cdf_vars.proofs.vars.Vars.put_val.Goals as goal
 pub put_bytes-requires : goal.put_bytes-requires
 put_bytes-requires g c =
     let may = rw c.in-Put.is at c.in_ok-target.ensures.request in
-    rw (c.read_value_request.ensures.area.image, c.read_value_request.ensures.area.frame) (record { good = c.requires.good; known = c.requires.known; can = may.can; fits = c.requires.fits; limit = c.requires.limit })
+    let stays = c.read_value_request.ensures.area in
+    rw (stays.image, stays.frame) (record { good = c.requires.good; known = c.requires.known; can = may.can; fits = c.requires.fits; limit = c.requires.limit })
 
 pub returns-in-Put-clause-answers : goal.returns-in-Put-clause-answers
 returns-in-Put-clause-answers g c =

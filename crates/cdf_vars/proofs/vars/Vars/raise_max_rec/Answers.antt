@@ -7,7 +7,10 @@ pub set_vdr_max_rec-requires : goal.set_vdr_max_rec-requires
 set_vdr_max_rec-requires g c = let l = vdr_lies c.requires.good c.requires.vdr in omega arith
 
 pub follow_max_rec-requires-clause-cdr : goal.follow_max_rec-requires-clause-cdr
-follow_max_rec-requires-clause-cdr g c = let l = cdr_fits (g.A.Area.image c.set_vdr_max_rec.new.area) (mid_good c.requires.good c.requires.vdr c.requires.within c.requires.short c.in_ok-set_vdr_max_rec.ensures.ok) in omega arith
+follow_max_rec-requires-clause-cdr g c =
+    let good = mid_good c.requires.good c.requires.vdr c.requires.within c.requires.short c.in_ok-set_vdr_max_rec.ensures.ok in
+    let l = cdr_fits (g.A.Area.image c.set_vdr_max_rec.new.area) good in
+    omega arith
 
 pub follow_max_rec-requires-clause-field : goal.follow_max_rec-requires-clause-field
 follow_max_rec-requires-clause-field g c = greatest_lies _ (mid_good c.requires.good c.requires.vdr c.requires.within c.requires.short c.in_ok-set_vdr_max_rec.ensures.ok)

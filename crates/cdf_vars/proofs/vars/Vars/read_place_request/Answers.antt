@@ -19,7 +19,8 @@ record_is g c = c.in_ok-record.ensures.record ∙ ap (λ (x : List ℕ). read (v
 
 value_inside : (g : Over) (c : After-value_size-size g) → c.in-Some.number * c.value_size-size.result + c.value_size-size.result ≤ length c.in_ok-record.record.items
 value_inside g c =
-    inside c.requires.target.is_form c.requires.good c.args.rec (content (g.A.Area.image c.args.area.now)).majority c.args.index.now (record_is g c) c.value_size-size.ensures (at g (goal.at.After-value_size-size g c).After-place_of ∙ c.in-Some.is)
+    let there = at g (goal.at.After-value_size-size g c).After-place_of ∙ c.in-Some.is in
+    inside c.requires.target.is_form c.requires.good c.args.rec (content (g.A.Area.image c.args.area.now)).majority c.args.index.now (record_is g c) c.value_size-size.ensures there
 
 pub place_of-requires : goal.place_of-requires
 place_of-requires g c = let shaped = c.requires.target.is_form.shaped in record { one_each = shaped.one_each; fits = values_fit c.args.target.form.shape shaped }
@@ -48,4 +49,5 @@ returns-clause-request g c name words h says =
     let size = c.value_size-size.result in
     let made = c.in_ok-bytes.ensures ∙ ap (λ (xs : List ℕ). take (c.in-Some.number * size) xs ++ c.args.value.now ++ drop ((c.in-Some.number + 1) * size) xs) c.deref.ensures.value in
     let can = sym (c.is_out_of_range.ensures (g.A.Area.image c.args.area.now) c.requires.target.is_form) ∙ c.if-is_out_of_range.false in
-    val_may h c.args.rec c.requires.good can words c.args.index.now there c.value_size-size.ensures c.in_ok-record.record.items (record_is g read) (value_inside g read) c.args.value.now c.in_ok-bytes.bytes.items says (c.requires.long ∙ sym c.value_size-size.ensures) made
+    val_may h c.args.rec c.requires.good can words c.args.index.now there c.value_size-size.ensures c.in_ok-record.record.items (record_is g read) (value_inside g read)
+    c.args.value.now c.in_ok-bytes.bytes.items says (c.requires.long ∙ sym c.value_size-size.ensures) made

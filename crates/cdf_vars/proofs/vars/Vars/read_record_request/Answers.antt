@@ -6,7 +6,9 @@ use Rattle.cdf_vars.proofs.RecordPlaces.{named_formed}
 use Rattle.cdf_vars.proofs.vars.Vars.read_record_request.Goals as goal
 
 pub returns-in_default-clause-request : goal.returns-in_default-clause-request
-returns-in_default-clause-request g c limit = let none = rw c.in_default.is at c.in_ok-target.ensures.target in refused limit _ (PutRec c.args.name.now c.args.rec c.args.words.now) NoSuchVar (rw none refl)
+returns-in_default-clause-request g c limit =
+    let none = rw c.in_default.is at c.in_ok-target.ensures.target in
+    refused limit _ (PutRec c.args.name.now c.args.rec c.args.words.now) NoSuchVar (rw none refl)
 
 pub returns-then-is_out_of_range-clause-request : goal.returns-then-is_out_of_range-clause-request
 returns-then-is_out_of_range-clause-request g c limit =

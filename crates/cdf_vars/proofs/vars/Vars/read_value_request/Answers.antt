@@ -5,7 +5,9 @@ use Rattle.cdf_vars.proofs.RecordPlaces.{named_formed}
 use Rattle.cdf_vars.proofs.vars.Vars.read_value_request.Goals as goal
 
 pub returns-in_default-clause-request : goal.returns-in_default-clause-request
-returns-in_default-clause-request g c limit = let none = rw c.in_default.is at c.in_ok-target.ensures.target in refused limit _ (PutVal c.args.name.now c.args.rec c.args.index.now c.args.words.now) NoSuchVar (rw none refl)
+returns-in_default-clause-request g c limit =
+    let none = rw c.in_default.is at c.in_ok-target.ensures.target in
+    refused limit _ (PutVal c.args.name.now c.args.rec c.args.index.now c.args.words.now) NoSuchVar (rw none refl)
 
 pub read_place_request-requires : goal.read_place_request-requires
 read_place_request-requires g c =

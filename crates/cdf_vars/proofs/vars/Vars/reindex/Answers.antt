@@ -37,7 +37,9 @@ pub returns-then-limit-size-clause-answers : goal.returns-then-limit-size-clause
 returns-then-limit-size-clause-answers g c =
     let named = named_as c.args.name.now c.requires.known c.find.ensures.found c.requires.good c.in-Some.is c.place_of-vdr.ensures in
     let is = sizes g (goal.at.returns-then-limit-size-clause-answers g c).After-size in
-    rw (c.in_ok-need.ensures.area.image) (over c.args.name.now c.requires.good (there g (goal.at.returns-then-limit-size-clause-answers g c).After-place_of-vdr) named c.in_ok-need.ensures.room (g.A.Area.frame c.args.area.now).limit (omega (arith, is.0, is.1, c.if-limit-size.true, c.requires.fits)))
+    let v = there g (goal.at.returns-then-limit-size-clause-answers g c).After-place_of-vdr in
+    rw (c.in_ok-need.ensures.area.image)
+    (over c.args.name.now c.requires.good v named c.in_ok-need.ensures.room (g.A.Area.frame c.args.area.now).limit (omega (arith, is.0, is.1, c.if-limit-size.true, c.requires.fits)))
 
 pub reindex-requires-clause-good : goal.reindex-requires-clause-good
 reindex-requires-clause-good g c = rw (c.in_ok-need.ensures.area.image) c.requires.good
@@ -49,10 +51,16 @@ pub returns-clause-answers : goal.returns-clause-answers
 returns-clause-answers g c =
     let named = named_as c.args.name.now c.requires.known c.find.ensures.found c.requires.good c.in-Some.is c.place_of-vdr.ensures in
     let is = sizes g (goal.at.returns-clause-answers g c).After-size in
-    answers_done c.args.name.now c.requires.good (there g (goal.at.returns-clause-answers g c).After-place_of-vdr) named c.in_ok-need.ensures.room (g.A.Area.frame c.args.area.now).limit (omega (arith, is.0, is.1, c.if-limit-size.false, c.requires.fits)) c.requires.limit (made g (goal.at.returns-clause-answers g c).In_ok-reindex)
+    let v = there g (goal.at.returns-clause-answers g c).After-place_of-vdr in
+    let now_is = made g (goal.at.returns-clause-answers g c).In_ok-reindex in
+    answers_done c.args.name.now c.requires.good v named c.in_ok-need.ensures.room (g.A.Area.frame c.args.area.now).limit
+    (omega (arith, is.0, is.1, c.if-limit-size.false, c.requires.fits)) c.requires.limit now_is
 
 pub returns-clause-known : goal.returns-clause-known
 returns-clause-known g c =
     let named = named_as c.args.name.now c.requires.known c.find.ensures.found c.requires.good c.in-Some.is c.place_of-vdr.ensures in
     let is = sizes g (goal.at.returns-clause-known g c).After-size in
-    known_done c.args.name.now c.requires.good (there g (goal.at.returns-clause-known g c).After-place_of-vdr) named c.in_ok-need.ensures.room (g.A.Area.frame c.args.area.now).limit (omega (arith, is.0, is.1, c.if-limit-size.false, c.requires.fits)) c.requires.limit (made g (goal.at.returns-clause-known g c).In_ok-reindex) c.requires.known
+    let v = there g (goal.at.returns-clause-known g c).After-place_of-vdr in
+    let now_is = made g (goal.at.returns-clause-known g c).In_ok-reindex in
+    known_done c.args.name.now c.requires.good v named c.in_ok-need.ensures.room (g.A.Area.frame c.args.area.now).limit
+    (omega (arith, is.0, is.1, c.if-limit-size.false, c.requires.fits)) c.requires.limit now_is c.requires.known
