@@ -60,6 +60,7 @@ fn read_most<A: Area>(area: &mut A, form: &Form, rec: u32, count: u32) -> Result
 }
 
 /// What is put of a variable, by the bytes of the record in network order.
+#[tactic(auto, using(cdf_area::proofs::Calls::read_done, cdf_area::proofs::Calls::read_failed, cdf_area::proofs::Calls::read_more, cdf_area::proofs::Calls::read_once))]
 fn read_new_record<A: Area>(
     alloc: Global,
     area: &mut A,
