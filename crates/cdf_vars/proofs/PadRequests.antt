@@ -1,39 +1,18 @@
 -- What `set-pad` asks for: the variable of a name, where its pad value belongs, and what the word says.
-use Rattle.std.proofs.Common.{◌≡◌, ℕ, ◌<◌, List, ◌∷◌, ◌++◌, length, Bool, Option, Some, None, Result, Err, get_or, refl, sym, ap, ap₂, subst, ◌∙◌}
-use Rattle.cdf_vars.proofs.Common.{Refused, Reason, DataType, values_in, is_little, elems_at, type_of_variable, Good, Answers, ValueError, Explains, PadPlace, VarId, found_among, Known, Knows, known_of, HasElements, IsPlace, IsVdr, IsValue, MayPad, has_so_many, refused}
-use Rattle.cdf_model.specs.declared.answer.Reason.TheVariants as reasons
+use Rattle.std.proofs.Common.{◌≡◌, ℕ, List, Bool, Option, Some, Result, Err, get_or, refl, sym, ap, ap₂, subst, ◌∙◌}
+use Rattle.cdf_vars.proofs.Common.{Refused, Reason, DataType, values_in, is_little, elems_at, type_of_variable, Good, Answers, ValueError, Explains, PadPlace, VarId, found_among, Known, Knows, known_of, HasElements, IsPlace, IsValue, MayPad, has_so_many, refused}
 use Rattle.cdf_model.specs.declared.command.Command.TheVariants as commands
-use Rattle.cdf_vars.proofs.VariableFound.{Parts, none_found, the_parts, within_places}
+use Rattle.cdf_vars.proofs.VariableFound.{is_vdr, own_is, parts_there}
 
 module _ {b : List ℕ} (name : List ℕ) (words : List (List ℕ)) {known : Known} {result : Option VarId} (knows : Knows b known) (asked : result ≡ found_among known name) where
-  pub missing : result ≡ None → (limit : ℕ) → Answers limit b (commands.SetPad name words) (Refused reasons.NoSuchVar) b
-  missing none limit = refused limit b (commands.SetPad name words) reasons.NoSuchVar (rw (none_found b known name knows (sym asked ∙ none)) refl)
+  module _ {id : VarId} (good : Good b) (some : result ≡ Some id) {place : ℕ} (is : place ≡ get_or (known_of known id.kind).places id.num 0) {p : PadPlace} (there : IsPlace b place p) where
+    pub elements : HasElements p.t p.elems
+    elements = subst (λ (t : DataType). HasElements t p.elems) (sym there.t_is) (subst (λ (n : ℕ). HasElements (type_of_variable b place) n) (sym there.elems_are) (has_so_many good (is_vdr name knows asked good some is)))
 
-  module _ {id : VarId} (good : Good b) (some : result ≡ Some id) where
-    found : found_among known name ≡ Some id
-    found = sym asked ∙ some
+    pub may : (little : Bool) (bytes : List ℕ) → little ≡ is_little b → IsValue little p.t p.elems words bytes → MayPad b known name words id p bytes
+    may little bytes same value = record { found = sym asked ∙ some; place = subst (λ (v : ℕ). IsPlace b v p) (sym there.vdr_is) there; vdr_is = there.vdr_is ∙ is; value = subst (λ (l : Bool). IsValue l p.t p.elems words bytes) same value }
 
-    parts : Parts b known name id
-    parts = the_parts name good knows found
-
-    pub placed : id.num < length (known_of known id.kind).places
-    placed = within_places name good knows found
-
-    module _ {place : ℕ} (is : place ≡ get_or (known_of known id.kind).places id.num 0) where
-      own_is : parts.own.vdr ≡ place
-      own_is = sym parts.place_is ∙ sym is
-
-      pub is_vdr : IsVdr b id.kind place
-      is_vdr = record { before = parts.before; own = parts.own; after = parts.after; was = parts.at.was ∙ ap (λ (k : ℕ). parts.before ++ record parts.own { vdr = k } ∷ parts.after) own_is }
-
-      module _ {p : PadPlace} (there : IsPlace b place p) where
-        pub elements : HasElements p.t p.elems
-        elements = subst (λ (t : DataType). HasElements t p.elems) (sym there.t_is) (subst (λ (n : ℕ). HasElements (type_of_variable b place) n) (sym there.elems_are) (has_so_many good is_vdr))
-
-        pub may : (little : Bool) (bytes : List ℕ) → little ≡ is_little b → IsValue little p.t p.elems words bytes → MayPad b known name words id p bytes
-        may little bytes same value = record { found = found; place = subst (λ (v : ℕ). IsPlace b v p) (sym there.vdr_is) there; vdr_is = there.vdr_is ∙ is; value = subst (λ (l : Bool). IsValue l p.t p.elems words bytes) same value }
-
-        pub no_value : (error : ValueError) (why : Reason) → Explains (values_in p.t p.elems 1 words) error → ((meaning : Result (List ℕ) Reason) → Explains meaning error → meaning ≡ Err why) → (limit : ℕ) → Answers limit b (commands.SetPad name words) (Refused why) b
-        no_value error why says reason limit =
-            let same = ap (λ (v : ℕ). values_in (type_of_variable b v) (elems_at b v) 1 words) own_is ∙ ap₂ (λ (t : DataType) (n : ℕ). values_in t n 1 words) (sym there.t_is) (sym there.elems_are) in
-            refused limit b (commands.SetPad name words) why (rw (parts.named, same ∙ reason (values_in p.t p.elems 1 words) says) refl)
+    pub no_value : (error : ValueError) (why : Reason) → Explains (values_in p.t p.elems 1 words) error → ((meaning : Result (List ℕ) Reason) → Explains meaning error → meaning ≡ Err why) → (limit : ℕ) → Answers limit b (commands.SetPad name words) (Refused why) b
+    no_value error why says reason limit =
+        let same = ap (λ (v : ℕ). values_in (type_of_variable b v) (elems_at b v) 1 words) (own_is name knows asked good some is) ∙ ap₂ (λ (t : DataType) (n : ℕ). values_in t n 1 words) (sym there.t_is) (sym there.elems_are) in
+        refused limit b (commands.SetPad name words) why (rw ((parts_there name knows asked good some).named, same ∙ reason (values_in p.t p.elems 1 words) says) refl)

@@ -1,38 +1,20 @@
--- The variable of which a record is put, by its name.
-use Rattle.std.proofs.Common.{◌≡◌, ℕ, List, ◌∷◌, ◌++◌, Option, Some, get_or, sym, ap, ◌∙◌}
-use Rattle.cdf_vars.proofs.Common.{variable_of, Good, Form, VarId, found_among, Known, Knows, known_of, IsVdr, HasTarget, IsForm, variable_at, variable_is}
-use Rattle.cdf_vars.proofs.VariableFound.{Parts, the_parts}
+-- The variable of which a record is put or read, by its name.
+use Rattle.std.proofs.Common.{◌≡◌, ℕ, List, Option, Some, get_or, sym, ap, ◌∙◌}
+use Rattle.cdf_vars.proofs.Common.{Good, Form, VarId, found_among, Known, Knows, known_of, HasTarget, IsForm, variable_at}
+use Rattle.cdf_vars.specs.Records.{HasForm}
+use Rattle.cdf_vars.proofs.VariableFound.{own_is, parts_there, variable_there}
 
-module _ {b : List ℕ} (name : List ℕ) {known : Known} {result : Option VarId} (knows : Knows b known) (asked : result ≡ found_among known name) {id : VarId} (good : Good b) (some : result ≡ Some id) where
-  found : found_among known name ≡ Some id
-  found = sym asked ∙ some
+module _ {b : List ℕ} (name : List ℕ) {known : Known} {result : Option VarId} (knows : Knows b known) (asked : result ≡ found_among known name) {id : VarId} (good : Good b) (some : result ≡ Some id)
+    {at : ℕ} (is : at ≡ get_or (known_of known id.kind).places id.num 0) (form : Form) (f : IsForm b form) (there : form.place.vdr ≡ at) where
+  pub has_target : HasTarget b name (record { id = id; form = form })
+  has_target =
+      let parts = parts_there name knows asked good some in
+      let count = parts.count in
+      let here = ap (variable_at b) there ∙ variable_there name knows asked good some is in
+      record {
+        is = record { before = parts.before; own = parts.own; after = parts.after; among = parts.at; number_is = count; vdr_is = own_is name knows asked good some is ∙ sym there; variable_is = here; is_form = f };
+        named = parts.named ∙ (λ i. Some (record { kind = id.kind; number = count i; variable = sym here i }));
+      }
 
-  parts : Parts b known name id
-  parts = the_parts name good knows found
-
-  module _ {at : ℕ} (is : at ≡ get_or (known_of known id.kind).places id.num 0) where
-    own_is : parts.own.vdr ≡ at
-    own_is = sym parts.place_is ∙ sym is
-
-    is_vdr : IsVdr b id.kind at
-    is_vdr = record { before = parts.before; own = parts.own; after = parts.after; was = parts.at.was ∙ ap (λ (k : ℕ). parts.before ++ record parts.own { vdr = k } ∷ parts.after) own_is }
-
-    pub has_target : (form : Form) → IsForm b form → form.place.vdr ≡ at → HasTarget b name (record { id = id; form = form })
-    unfolding is_vdr
-    has_target form f there =
-        let own = ap (λ (k : ℕ). variable_of b (record parts.own { vdr = k })) own_is in
-        let here : variable_of b parts.own ≡ variable_at b form.place.vdr = own ∙ sym (variable_is good is_vdr) ∙ ap (variable_at b) (sym there) in
-        let count = parts.count in
-        record {
-          is = record {
-            before = parts.before;
-            own = parts.own;
-            after = parts.after;
-            among = parts.at;
-            number_is = parts.count;
-            vdr_is = own_is ∙ sym there;
-            variable_is = sym here;
-            is_form = f;
-          };
-          named = parts.named ∙ (λ i. Some (record { kind = id.kind; number = count i; variable = here i }));
-        }
+  pub has_form : HasForm b name form
+  has_form = record { kind = id.kind; number = id.num; is_form = f; named = has_target.named }

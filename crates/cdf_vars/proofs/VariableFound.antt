@@ -1,6 +1,6 @@
 -- The variable of a name, by what is kept of the variables, in the data set, and among those of its kind; and where it becomes another one: what is kept then, and the commands that change it where its VDR stands.
 use Rattle.std.proofs.Common.{◌≡◌, ℕ, zero, suc, ◌<◌, List, [], ◌∷◌, length, map, true, Option, Some, None, is_some, get_or, bytes_eq, refl, sym, ap, ap₂, subst, ◌∙◌, arith, ◌+◌, ◌≤◌, ◌++◌, false, not, pos, w32, inl}
-use Rattle.cdf_vars.proofs.Common.{length-map, same_Some, slice_get, option_map, shapes_of, Allowances, Only, stays_own, content, variable_of, VariableShape, shape, vdrs, Shape, Good, good_is_sound, good_by_its_shape, Kind, R, Z, DataSet, Variable, Found, variable_named, variables_of, is_among, is_bad_name, variable_names, with_variables, VarId, found_among, id_of, Known, Knows, KnowsKind, known_of, KnownKind, cut, got-middle, StandsAmong, in_middle, sound, typed, In, le-ltb, cast_signed, cast_unsigned, ◌==◌, nat_lt, slice_set, Done, Plain, Command, RenameVar, SetBlocking, Go, image_limit, signed_limit, ByStep, step, with_variable, field_reads4, length-with_field, other_bytes, LiesIn, integer4, name_in, with_field, Field, vdr_blocking_factor, vdr_name, absent-split, Answers, Does, allowances, IsFilled, Mark, Follows, only_reads, gone, fine_has_no_zeros, fine_is_short, fine_is_some, kind_type, with_shapes, beside_in, OthersStay}
+use Rattle.cdf_vars.proofs.Common.{length-map, same_Some, slice_get, option_map, shapes_of, Allowances, Only, stays_own, content, variable_of, VariableShape, shape, vdrs, Shape, Good, good_is_sound, good_by_its_shape, Kind, R, Z, DataSet, Variable, Found, variable_named, variables_of, is_among, is_bad_name, variable_names, with_variables, VarId, found_among, id_of, Known, Knows, KnowsKind, known_of, KnownKind, cut, got-middle, StandsAmong, in_middle, sound, typed, In, le-ltb, cast_signed, cast_unsigned, ◌==◌, nat_lt, slice_set, Done, Plain, Command, RenameVar, SetBlocking, Go, image_limit, signed_limit, ByStep, step, with_variable, field_reads4, length-with_field, other_bytes, LiesIn, integer4, name_in, with_field, Field, vdr_blocking_factor, vdr_name, absent-split, Answers, Does, allowances, IsFilled, Mark, Follows, only_reads, gone, fine_has_no_zeros, fine_is_short, fine_is_some, kind_type, with_shapes, beside_in, OthersStay, IsVdr, variable_at, variable_is}
 use Rattle.std.proofs.lemmas.List.{map-set}
 use Rattle.std.proofs.lemmas.List.Quantifiers.{position-Some}
 use Rattle.std.proofs.lemmas.Option.{slice_get_within}
@@ -166,6 +166,33 @@ module _ {b : List ℕ} (name : List ℕ) {known : Known} {id : VarId} (good : G
   pub within_places : id.num < length (known_of known id.kind).places
   within_places = the_parts.within
 
+-- by what a call found
+module _ {b : List ℕ} (name : List ℕ) {known : Known} {result : Option VarId} (knows : Knows b known) (asked : result ≡ found_among known name) where
+  pub missing : result ≡ None → variable_named (content b) name ≡ None
+  missing none = none_found b known name knows (sym asked ∙ none)
+
+  module _ {id : VarId} (good : Good b) (some : result ≡ Some id) where
+    pub parts_there : Parts b known name id
+    parts_there = the_parts name good knows (sym asked ∙ some)
+
+    pub placed : id.num < length (known_of known id.kind).places
+    placed = parts_there.within
+
+    module _ {at : ℕ} (is : at ≡ get_or (known_of known id.kind).places id.num 0) where
+      pub own_is : parts_there.own.vdr ≡ at
+      own_is = sym parts_there.place_is ∙ sym is
+
+      pub is_vdr : IsVdr b id.kind at
+      is_vdr = record { before = parts_there.before; own = parts_there.own; after = parts_there.after; was = parts_there.at.was ∙ ap (λ (k : ℕ). parts_there.before ++ record parts_there.own { vdr = k } ∷ parts_there.after) own_is }
+
+      pub variable_there : variable_at b at ≡ variable_of b parts_there.own
+      unfolding is_vdr
+      variable_there = variable_is good is_vdr ∙ ap (λ (k : ℕ). variable_of b (record parts_there.own { vdr = k })) (sym own_is)
+
+      pub named_as : variable_named (content b) name ≡ Some (record { kind = id.kind; number = length is_vdr.before; variable = variable_of b parts_there.own })
+      unfolding is_vdr
+      named_as = parts_there.named
+
 -- as a call meets it, by the parts of what is kept
 pub knows_view : {b : List ℕ} {view known : Known} → view ≡ known → Knows b known → Knows b view
 knows_view {b = b} is knows = subst (Knows b) (sym is) knows
@@ -222,6 +249,13 @@ knows_made {b = b} {now = now} {view = view} {k = k} Z e knows is mine others = 
 
 pub knows_with : {b now : List ℕ} {known : Known} {k : KnownKind} {records unused : List ℕ} (xs : List Variable) (ws : List VariableShape) → Knows b known → (kind : Kind) → content now ≡ with_variables (content b) kind xs → shape now ≡ with_shapes (shape b) kind records unused ws → k.names ≡ map (λ (v : Variable). v.name) xs → k.places ≡ vdrs ws → Knows now (with_known known kind k)
 knows_with xs ws knows kind made is names places = knows_made kind refl knows refl (kind_with _ _ xs ws kind made is names places) (others_with _ _ xs ws kind made is)
+
+-- of an image with the same names, and the same places
+pub knows_now : {b now : List ℕ} {known : Known} → Knows b known → ((k : Kind) → map (λ (v : Variable). v.name) (variables_of (content b) k) ≡ map (λ (v : Variable). v.name) (variables_of (content now) k)) → ((k : Kind) → vdrs (shapes_of (shape b) k) ≡ vdrs (shapes_of (shape now) k)) → Knows now known
+knows_now knows names places = record {
+  r_known = record { names_are = knows.r_known.names_are ∙ names R; places_are = knows.r_known.places_are ∙ places R };
+  z_known = record { names_are = knows.z_known.names_are ∙ names Z; places_are = knows.z_known.places_are ∙ places Z };
+}
 
 as_known : (known : Known) (kind : Kind) → with_known known kind (known_of known kind) ≡ known
 as_known known R = refl

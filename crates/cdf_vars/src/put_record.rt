@@ -60,6 +60,7 @@ fn read_most<A: Area>(area: &mut A, form: &Form, rec: u32, count: u32) -> Result
 }
 
 /// What is put of a variable, by the bytes of the record in network order.
+#[tactic(auto, using(cdf_area::proofs::Calls::read_done, cdf_area::proofs::Calls::read_failed, cdf_area::proofs::Calls::read_more, cdf_area::proofs::Calls::read_once))]
 fn read_new_record<A: Area>(
     alloc: Global,
     area: &mut A,
@@ -129,6 +130,7 @@ impl Vars {
     }
 
     /// Puts a record of a variable, which there is room for. After an error a part of this may have been done.
+    #[tactic(auto, using(cdf_area::proofs::Calls::edit_done, cdf_area::proofs::Calls::edit_failed, cdf_area::proofs::Calls::edit_more, cdf_area::proofs::Calls::edits_by_read, cdf_area::proofs::Calls::keeps_by_read, cdf_area::proofs::Calls::read_once))]
     fn write_record<A: Area>(
         &self,
         area: &mut A,
@@ -153,6 +155,7 @@ impl Vars {
     }
 
     /// Puts a record of a variable where there is room for it. After an error a part of this may have been done in the area.
+    #[tactic(auto, using(cdf_area::proofs::Calls::edit_done, cdf_area::proofs::Calls::edit_failed, cdf_area::proofs::Calls::edit_more, cdf_area::proofs::Calls::edits_by_read, cdf_area::proofs::Calls::keeps_by_read, cdf_area::proofs::Calls::read_failed, cdf_area::proofs::Calls::read_more, cdf_area::proofs::Calls::read_once))]
     pub(crate) fn put_bytes<A: Area>(
         &self,
         area: &mut A,

@@ -109,6 +109,7 @@ impl Vars {
     }
 
     /// What `put-val` asks for that puts a value in the place of an index.
+    #[tactic(auto, using(cdf_area::proofs::Calls::read_done, cdf_area::proofs::Calls::read_failed, cdf_area::proofs::Calls::read_more, cdf_area::proofs::Calls::read_once, cdf_area::proofs::Calls::read_without_memory))]
     fn read_place_request<A: Area>(
         &self,
         area: &mut A,

@@ -52,6 +52,7 @@ impl Vars {
     }
 
     /// Shows a record of a variable: the command `get-rec`.
+    #[tactic(auto, using(cdf_area::proofs::Calls::read_done, cdf_area::proofs::Calls::read_failed, cdf_area::proofs::Calls::read_more, cdf_area::proofs::Calls::read_once))]
     pub fn get_rec<A: Area>(
         &self,
         area: &mut A,
@@ -89,6 +90,7 @@ impl Vars {
     }
 
     /// Shows one value of a record of a variable: the command `get-val`.
+    #[tactic(auto, using(cdf_area::proofs::Calls::read_done, cdf_area::proofs::Calls::read_failed, cdf_area::proofs::Calls::read_more, cdf_area::proofs::Calls::read_once, cdf_area::proofs::Calls::read_without_memory))]
     pub fn get_val<A: Area>(
         &self,
         area: &mut A,

@@ -1,4 +1,5 @@
-use Rattle.cdf_vars.proofs.RecordAnswers.{has_form, is_vdr, missing, placed}
+use Rattle.cdf_vars.proofs.PutTargets.{has_form}
+use Rattle.cdf_vars.proofs.VariableFound.{is_vdr, missing, placed}
 use Rattle.cdf_vars.proofs.vars.Vars.find_form.Goals as goal
 
 pub returns-in_default-clause-form : goal.returns-in_default-clause-form

@@ -1,5 +1,5 @@
 use Rattle.cdf_vars.proofs.PutTargets.{has_target}
-use Rattle.cdf_vars.proofs.RecordAnswers.{is_vdr, missing, placed}
+use Rattle.cdf_vars.proofs.VariableFound.{is_vdr, missing, placed}
 use Rattle.cdf_vars.proofs.vars.Vars.find_target.Goals as goal
 
 pub returns-in_default-clause-target : goal.returns-in_default-clause-target

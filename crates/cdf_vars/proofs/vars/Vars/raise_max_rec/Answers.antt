@@ -1,13 +1,16 @@
 use Rattle.std.proofs.Common.{◌≤◌, arith, inl}
-use Rattle.cdf_vars.proofs.Common.{max_rec_at, extent, R, on_ok_weaker}
-use Rattle.cdf_vars.proofs.PutRaised.{cdr_there, greatest_lies, max_rec_lies, mid_good, mid_places, raised, vdrs_lie}
+use Rattle.cdf_vars.proofs.Common.{cdr_fits, max_rec_at, extent, R, vdr_lies, on_ok_weaker}
+use Rattle.cdf_vars.proofs.PutRaised.{greatest_lies, mid_good, mid_places, raised, vdrs_lie}
 use Rattle.cdf_vars.proofs.vars.Vars.raise_max_rec.Goals as goal
 
 pub set_vdr_max_rec-requires : goal.set_vdr_max_rec-requires
-set_vdr_max_rec-requires g c = max_rec_lies c.requires.good c.requires.vdr
+set_vdr_max_rec-requires g c = let l = vdr_lies c.requires.good c.requires.vdr in omega arith
 
 pub follow_max_rec-requires-clause-cdr : goal.follow_max_rec-requires-clause-cdr
-follow_max_rec-requires-clause-cdr g c = cdr_there _ (mid_good c.requires.good c.requires.vdr c.requires.within c.requires.short c.in_ok-set_vdr_max_rec.ensures.ok)
+follow_max_rec-requires-clause-cdr g c =
+    let good = mid_good c.requires.good c.requires.vdr c.requires.within c.requires.short c.in_ok-set_vdr_max_rec.ensures.ok in
+    let l = cdr_fits (g.A.Area.image c.set_vdr_max_rec.new.area) good in
+    omega arith
 
 pub follow_max_rec-requires-clause-field : goal.follow_max_rec-requires-clause-field
 follow_max_rec-requires-clause-field g c = greatest_lies _ (mid_good c.requires.good c.requires.vdr c.requires.within c.requires.short c.in_ok-set_vdr_max_rec.ensures.ok)

@@ -1,77 +1,53 @@
-use Rattle.std.proofs.Common.{◌≡◌, ◌∙◌, ◌+◌, ◌*◌, ◌++◌, ◌≤◌, ℕ, List, length, take, drop, refl, sym, ap, subst, arith}
-use Rattle.cdf_vars.proofs.Common.{read_done, read_failed, read_more, read_once, read_without_memory, Good, place, read, IsForm, variable_at, values_fit}
-use Rattle.cdf_vars.proofs.PutRequests.{val_may, val_outside, val_over, value_within}
+use Rattle.std.proofs.Common.{◌≡◌, ◌∙◌, ◌+◌, ◌*◌, ◌++◌, ◌≤◌, ℕ, List, length, take, drop, refl, sym, ap}
+use Rattle.cdf_vars.proofs.Common.{refused, content, IndexOutOfRange, RecordOutOfRange, PutVal, place, read, variable_at, values_fit}
+use Rattle.cdf_vars.proofs.PutRequests.{val_may}
+use Rattle.cdf_vars.proofs.RecordPlaces.{inside, named_formed}
+use Rattle.cdf_vars.proofs.vars.Vars.read_place_request.Given.{Over}
+use Rattle.cdf_vars.proofs.vars.Vars.read_place_request.Goals.{After-place_of, After-value_size-size}
 use Rattle.cdf_vars.proofs.vars.Vars.read_place_request.Goals as goal
 
+at : (g : Over) (c : After-place_of g) → place (content (g.A.Area.image c.args.area.now)).majority c.args.target.form.shape.dims c.args.target.form.shape.varys c.args.index.now ≡ c.place_of.result
+at g c =
+    let shape = c.args.target.form.shape in
+    let majority = c.in_ok-majority.ensures.majority in
+    let index = c.as_slice.ensures in
+    (λ i. place (sym majority i) shape.dims shape.varys (sym index i)) ∙ sym c.place_of.ensures
+
+-- what was read, and that the value lies in it
+record_is : (g : Over) (c : After-value_size-size g) → c.in_ok-record.record.items ≡ read (variable_at (g.A.Area.image c.args.area.now) c.args.target.form.place.vdr) c.args.rec
+record_is g c = c.in_ok-record.ensures.record ∙ ap (λ (x : List ℕ). read (variable_at x c.args.target.form.place.vdr) c.args.rec) c.read_majority.ensures.area.image
+
+value_inside : (g : Over) (c : After-value_size-size g) → c.in-Some.number * c.value_size-size.result + c.value_size-size.result ≤ length c.in_ok-record.record.items
+value_inside g c =
+    let there = at g (goal.at.After-value_size-size g c).After-place_of ∙ c.in-Some.is in
+    inside c.requires.target.is_form c.requires.good c.args.rec (content (g.A.Area.image c.args.area.now)).majority c.args.index.now (record_is g c) c.value_size-size.ensures there
+
 pub place_of-requires : goal.place_of-requires
-place_of-requires g c =
-    let f = c.requires.target.is_form in
-    record { one_each = f.shaped.one_each; fits = values_fit c.args.target.form.shape f.shaped }
+place_of-requires g c = let shaped = c.requires.target.is_form.shaped in record { one_each = shaped.one_each; fits = values_fit c.args.target.form.shape shaped }
 
 pub returns-in_default-clause-request : goal.returns-in_default-clause-request
-returns-in_default-clause-request g c =
-    let shape = c.args.target.form.shape in
-    let at = c.place_of.ensures ∙ ap (place c.in_ok-majority.majority shape.dims shape.varys) c.as_slice.ensures in
-    λ name words h says. val_outside h c.args.rec c.args.index.now words c.args.value.now says c.in_ok-majority.ensures.majority at c.in_default.is
+returns-in_default-clause-request g c name words h says limit =
+    let outside = at g (goal.at.returns-in_default-clause-request g c).After-place_of ∙ c.in_default.is in
+    refused limit _ (PutVal name c.args.rec c.args.index.now words) IndexOutOfRange (rw (named_formed c.requires.target.is_form name h.named, says, outside) refl)
 
 pub returns-then-is_out_of_range-clause-request : goal.returns-then-is_out_of_range-clause-request
-returns-then-is_out_of_range-clause-request g c =
-    let b = g.A.Area.image c.args.area.now in
-    let shape = c.args.target.form.shape in
-    let at = c.place_of.ensures ∙ ap (place c.in_ok-majority.majority shape.dims shape.varys) c.as_slice.ensures in
-    let over = sym (c.is_out_of_range.ensures b c.requires.target.is_form) ∙ c.if-is_out_of_range.true in
-    λ name words h says. val_over h c.args.rec c.args.index.now words c.args.value.now says c.in_ok-majority.ensures.majority at c.in-Some.is over
+returns-then-is_out_of_range-clause-request g c name words h says limit =
+    let there = at g (goal.at.returns-then-is_out_of_range-clause-request g c).After-place_of ∙ c.in-Some.is in
+    let over = sym (c.is_out_of_range.ensures (g.A.Area.image c.args.area.now) c.requires.target.is_form) ∙ c.if-is_out_of_range.true in
+    refused limit _ (PutVal name c.args.rec c.args.index.now words) RecordOutOfRange (rw (named_formed c.requires.target.is_form name h.named, says, there, over) refl)
 
 pub read_record-requires : goal.read_record-requires
-read_record-requires g c =
-    let same = c.read_majority.ensures.area.image in
-    record {
-      good = subst Good (sym same) c.requires.good;
-      short = (let short = c.requires.short in let long = ap (λ (x : List ℕ). length x) same in omega arith);
-      form = subst (λ (x : List ℕ). IsForm x c.args.target.form) (sym same) c.requires.target.is_form;
-    }
-
--- what was read, as lemmas take it
-read_so : (b later : List ℕ) (bytes : List ℕ) (vdr rec : ℕ) → later ≡ b → bytes ≡ read (variable_at later vdr) rec → bytes ≡ read (variable_at b vdr) rec
-read_so b later bytes vdr rec same e = e ∙ ap (λ (x : List ℕ). read (variable_at x vdr) rec) same
+read_record-requires g c = rw (c.read_majority.ensures.area.image) (record { good = c.requires.good; short = c.requires.short; form = c.requires.target.is_form })
 
 pub with_value-requires : goal.with_value-requires
-with_value-requires g c =
-    let b = g.A.Area.image c.args.area.now in
-    let shape = c.args.target.form.shape in
-    let at = c.place_of.ensures ∙ ap (place c.in_ok-majority.majority shape.dims shape.varys) c.as_slice.ensures in
-    let size = c.value_size-size.result in
-    let record_is = read_so b _ c.in_ok-record.record.items c.args.target.form.place.vdr _ c.read_majority.ensures.area.image c.in_ok-record.ensures.record in
-    let within = value_within c.requires.target c.requires.good _ c.args.index.now size c.in_ok-record.record.items c.value_size-size.ensures record_is c.in_ok-majority.majority c.place_of.result c.in-Some.number at c.in-Some.is in
-    record { inside = subst (λ (xs : List ℕ). c.in-Some.number * size + size ≤ length xs) (sym c.deref.ensures.value) within }
+with_value-requires g c = record { inside = rw c.deref.ensures.value (value_inside g (goal.at.with_value-requires g c).After-value_size-size) }
 
 pub returns-clause-request : goal.returns-clause-request
-returns-clause-request g c =
-    let b = g.A.Area.image c.args.area.now in
-    let shape = c.args.target.form.shape in
-    let at = c.place_of.ensures ∙ ap (place c.in_ok-majority.majority shape.dims shape.varys) c.as_slice.ensures in
+returns-clause-request g c name words h says =
+    let read = (goal.at.returns-clause-request g c).After-value_size-size in
+    let there = at g (goal.at.returns-clause-request g c).After-place_of ∙ c.in-Some.is in
     let size = c.value_size-size.result in
-    let value = c.args.value.now in
-    let record_is = read_so b _ c.in_ok-record.record.items c.args.target.form.place.vdr c.args.rec c.read_majority.ensures.area.image c.in_ok-record.ensures.record in
-    let made = c.in_ok-bytes.ensures ∙ ap (λ (xs : List ℕ). take (c.in-Some.number * size) xs ++ value ++ drop ((c.in-Some.number + 1) * size) xs) c.deref.ensures.value in
-    let can = sym (c.is_out_of_range.ensures b c.requires.target.is_form) ∙ c.if-is_out_of_range.false in
-    λ name words h says. val_may c.requires.target c.requires.good c.args.rec c.args.index.now size c.in_ok-record.record.items c.value_size-size.ensures record_is c.in_ok-majority.majority c.place_of.result c.in-Some.number at c.in-Some.is
-    h c.in_ok-majority.ensures.majority words value c.in_ok-bytes.bytes.items says (c.requires.long ∙ sym c.value_size-size.ensures) made can
-
-pub returns-in_err-majority-clause-area : goal.returns-in_err-majority-clause-area
-returns-in_err-majority-clause-area g c = read_failed (record { image = refl; edited = refl; frame = refl; faults = refl }) c.in_err-majority.ensures.area c.from_residual.ensures.1
-
-pub returns-in_default-clause-area : goal.returns-in_default-clause-area
-returns-in_default-clause-area g c = read_done (read_once c.in_ok-majority.ensures.area)
-
-pub returns-then-is_out_of_range-clause-area : goal.returns-then-is_out_of_range-clause-area
-returns-then-is_out_of_range-clause-area g c = read_done (read_once c.in_ok-majority.ensures.area)
-
-pub returns-in_err-record-clause-area : goal.returns-in_err-record-clause-area
-returns-in_err-record-clause-area g c = read_failed (read_once c.in_ok-majority.ensures.area) c.in_err-record.ensures.area c.from_residual-in_err-record.ensures.1
-
-pub returns-in_err-bytes-clause-area : goal.returns-in_err-bytes-clause-area
-returns-in_err-bytes-clause-area g c = read_without_memory (read_more (read_once c.in_ok-majority.ensures.area) c.in_ok-record.ensures.area) c.from_residual-in_err-bytes.ensures.1
-
-pub returns-clause-area : goal.returns-clause-area
-returns-clause-area g c = read_done (read_more (read_once c.in_ok-majority.ensures.area) c.in_ok-record.ensures.area)
+    let made = c.in_ok-bytes.ensures ∙ ap (λ (xs : List ℕ). take (c.in-Some.number * size) xs ++ c.args.value.now ++ drop ((c.in-Some.number + 1) * size) xs) c.deref.ensures.value in
+    let can = sym (c.is_out_of_range.ensures (g.A.Area.image c.args.area.now) c.requires.target.is_form) ∙ c.if-is_out_of_range.false in
+    val_may h c.args.rec c.requires.good can words c.args.index.now there c.value_size-size.ensures c.in_ok-record.record.items (record_is g read) (value_inside g read)
+    c.args.value.now c.in_ok-bytes.bytes.items says (c.requires.long ∙ sym c.value_size-size.ensures) made

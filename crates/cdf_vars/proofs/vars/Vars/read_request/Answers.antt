@@ -1,16 +1,18 @@
-use Rattle.std.proofs.Common.{◌≤◌, ◌∙◌, ℕ, List, length, sym, ap, subst}
-use Rattle.cdf_vars.proofs.Common.{cdr_fits, is_little}
-use Rattle.cdf_vars.proofs.PadRequests.{elements, is_vdr, may, missing, no_value, placed}
+use Rattle.std.proofs.Common.{◌≤◌, ◌∙◌, ℕ, List, length, refl, sym, ap, subst}
+use Rattle.cdf_vars.proofs.Common.{cdr_fits, is_little, refused, NoSuchVar}
+use Rattle.cdf_model.specs.declared.command.Command.TheVariants.{SetPad}
+use Rattle.cdf_vars.proofs.PadRequests.{elements, may, no_value}
+use Rattle.cdf_vars.proofs.VariableFound.{is_vdr, missing, placed}
 use Rattle.cdf_vars.proofs.vars.Vars.read_request.Goals as goal
 
 pub returns-in_default-clause-request : goal.returns-in_default-clause-request
-returns-in_default-clause-request g c = missing c.args.name.now c.args.words.now c.requires.known c.find.ensures.found c.in_default.is
+returns-in_default-clause-request g c limit = refused limit _ (SetPad c.args.name.now c.args.words.now) NoSuchVar (rw (missing c.args.name.now c.requires.known c.find.ensures.found c.in_default.is) refl)
 
 pub place_of-vdr-requires : goal.place_of-vdr-requires
-place_of-vdr-requires g c = placed c.args.name.now c.args.words.now c.requires.known c.find.ensures.found c.requires.good c.in-Some.is
+place_of-vdr-requires g c = placed c.args.name.now c.requires.known c.find.ensures.found c.requires.good c.in-Some.is
 
 pub read_pad_place-requires-clause-vdr : goal.read_pad_place-requires-clause-vdr
-read_pad_place-requires-clause-vdr g c = is_vdr c.args.name.now c.args.words.now c.requires.known c.find.ensures.found c.requires.good c.in-Some.is c.place_of-vdr.ensures
+read_pad_place-requires-clause-vdr g c = is_vdr c.args.name.now c.requires.known c.find.ensures.found c.requires.good c.in-Some.is c.place_of-vdr.ensures
 
 pub read_encoding-requires : goal.read_encoding-requires
 read_encoding-requires g c = subst (λ (x : List ℕ). 320 ≤ length x) (sym c.read_pad_place.ensures.area.image) (cdr_fits _ c.requires.good)

@@ -1,51 +1,66 @@
-use Rattle.std.proofs.Common.{◌≡◌, ◌∙◌, ◌+◌, ◌≤◌, ℕ, List, length, sym, ap, subst, arith}
-use Rattle.cdf_vars.proofs.Common.{Frame, Answers, shape, variables, vdrs, In, Good, Refused, TooLarge}
+use Rattle.std.proofs.Common.{◌≡◌, ◌∙◌, ℕ, List, length, refl, ap, arith}
+use Rattle.cdf_vars.proofs.Common.{Frame, IsVdr, refused, vdr_lies, NoSuchVar}
 use Rattle.cdf_model.specs.declared.command.Command.TheVariants.{Reindex}
-use Rattle.cdf_vars.proofs.ReindexAnswers.{answers_done, known_done, lies, missing, over, placed, vdr_in}
+use Rattle.cdf_reindex.specs.Reindexed.{Reindexed}
+use Rattle.cdf_var_records.proofs.VdrParts.{at, own}
+use Rattle.cdf_vars.proofs.ReindexAnswers.{answers_done, known_done, over, vdr_in}
+use Rattle.cdf_vars.proofs.VariableFound.{is_vdr, missing, named_as, placed}
+use Rattle.cdf_vars.proofs.vars.Vars.reindex.Given.{Over}
+use Rattle.cdf_vars.proofs.vars.Vars.reindex.Goals.{After-place_of-vdr, After-size, In_ok-reindex}
 use Rattle.cdf_vars.proofs.vars.Vars.reindex.Goals as goal
 
+abbrev there : (g : Over) (c : After-place_of-vdr g) → IsVdr (g.A.Area.image c.args.area.now) c.in-Some.found.kind c.place_of-vdr.result
+there g c = is_vdr c.args.name.now c.requires.known c.find.ensures.found c.requires.good c.in-Some.is c.place_of-vdr.ensures
+
+-- the size and the limit are those that there were
+sizes : (g : Over) (c : After-size g) → (c.size.result ≡ length (g.A.Area.image c.args.area.now)) × (c.limit.result ≡ (g.A.Area.frame c.args.area.now).limit)
+sizes g c = (c.size.ensures ∙ ap (λ (x : List ℕ). length x) c.in_ok-need.ensures.area.image, c.limit.ensures ∙ ap (λ (f : Frame _). f.limit) c.in_ok-need.ensures.area.frame)
+
+made : (g : Over) (c : In_ok-reindex g) → Reindexed (g.A.Area.image c.args.area.now) (g.A.Area.image c.reindex.new.area) (own c.requires.good (there g (goal.at.In_ok-reindex g c).After-place_of-vdr))
+made g c =
+    let v = there g (goal.at.In_ok-reindex g c).After-place_of-vdr in
+    (rw (c.in_ok-need.ensures.area.image) at c.in_ok-reindex.ensures.made) c.in-Some.found.kind v.before (own c.requires.good v) v.after (at c.requires.good v) refl
+
 pub returns-in_default-clause-answers : goal.returns-in_default-clause-answers
-returns-in_default-clause-answers g c = missing c.args.name.now c.requires.known c.find.ensures.found _ c.in_default.is
+returns-in_default-clause-answers g c = refused _ _ (Reindex c.args.name.now) NoSuchVar (rw (missing c.args.name.now c.requires.known c.find.ensures.found c.in_default.is) refl)
 
 pub place_of-vdr-requires : goal.place_of-vdr-requires
 place_of-vdr-requires g c = placed c.args.name.now c.requires.known c.find.ensures.found c.requires.good c.in-Some.is
 
 pub read_room-requires-clause-vdr : goal.read_room-requires-clause-vdr
-read_room-requires-clause-vdr g c = vdr_in c.args.name.now c.requires.good c.requires.known (sym c.find.ensures.found ∙ c.in-Some.is) c.place_of-vdr.result c.place_of-vdr.ensures
+read_room-requires-clause-vdr g c = vdr_in (there g (goal.at.read_room-requires-clause-vdr g c).After-place_of-vdr)
 
 pub read_room-requires-clause-lies : goal.read_room-requires-clause-lies
-read_room-requires-clause-lies g c = lies c.args.name.now c.requires.good c.requires.known (sym c.find.ensures.found ∙ c.in-Some.is) c.place_of-vdr.result c.place_of-vdr.ensures
+read_room-requires-clause-lies g c = let l = vdr_lies c.requires.good (there g (goal.at.read_room-requires-clause-lies g c).After-place_of-vdr) in omega arith
 
 pub returns-then-limit-size-clause-answers : goal.returns-then-limit-size-clause-answers
 returns-then-limit-size-clause-answers g c =
-    let b = g.A.Area.image c.args.area.now in
-    let same = c.in_ok-need.ensures.area.image in
-    let size : c.size.result ≡ length b = c.size.ensures ∙ ap (λ (x : List ℕ). length x) same in
-    let limit : c.limit.result ≡ (g.A.Area.frame c.args.area.now).limit = c.limit.ensures ∙ ap (λ (f : Frame _). f.limit) c.in_ok-need.ensures.area.frame in
-    subst (λ (x : List ℕ). Answers (g.A.Area.frame c.args.area.now).limit b (Reindex c.args.name.now) (Refused TooLarge) x) (sym same)
-    (over c.args.name.now c.requires.good c.requires.known (sym c.find.ensures.found ∙ c.in-Some.is) c.place_of-vdr.result c.place_of-vdr.ensures c.in_ok-need.need (g.A.Area.frame c.args.area.now).limit c.in_ok-need.ensures.room (omega (arith, size, limit, c.if-limit-size.true, c.requires.fits)))
+    let named = named_as c.args.name.now c.requires.known c.find.ensures.found c.requires.good c.in-Some.is c.place_of-vdr.ensures in
+    let is = sizes g (goal.at.returns-then-limit-size-clause-answers g c).After-size in
+    let v = there g (goal.at.returns-then-limit-size-clause-answers g c).After-place_of-vdr in
+    rw (c.in_ok-need.ensures.area.image)
+    (over c.args.name.now c.requires.good v named c.in_ok-need.ensures.room (g.A.Area.frame c.args.area.now).limit (omega (arith, is.0, is.1, c.if-limit-size.true, c.requires.fits)))
 
 pub reindex-requires-clause-good : goal.reindex-requires-clause-good
-reindex-requires-clause-good g c = subst Good (sym c.in_ok-need.ensures.area.image) c.requires.good
+reindex-requires-clause-good g c = rw (c.in_ok-need.ensures.area.image) c.requires.good
 
 pub reindex-requires-clause-vdr : goal.reindex-requires-clause-vdr
-reindex-requires-clause-vdr g c =
-    subst (λ (x : List ℕ). In c.place_of-vdr.result (vdrs (variables (shape x)))) (sym c.in_ok-need.ensures.area.image) (vdr_in c.args.name.now c.requires.good c.requires.known (sym c.find.ensures.found ∙ c.in-Some.is) c.place_of-vdr.result c.place_of-vdr.ensures)
+reindex-requires-clause-vdr g c = rw (c.in_ok-need.ensures.area.image) (vdr_in (there g (goal.at.reindex-requires-clause-vdr g c).After-place_of-vdr))
 
 pub returns-clause-answers : goal.returns-clause-answers
 returns-clause-answers g c =
-    let b = g.A.Area.image c.args.area.now in
-    let same = c.in_ok-need.ensures.area.image in
-    let size : c.size.result ≡ length b = c.size.ensures ∙ ap (λ (x : List ℕ). length x) same in
-    let limit : c.limit.result ≡ (g.A.Area.frame c.args.area.now).limit = c.limit.ensures ∙ ap (λ (f : Frame _). f.limit) c.in_ok-need.ensures.area.frame in
-    let fits : length b + c.in_ok-need.need ≤ (g.A.Area.frame c.args.area.now).limit = omega (arith, size, limit, c.if-limit-size.false, c.requires.fits) in
-    answers_done c.args.name.now c.requires.good c.requires.known (sym c.find.ensures.found ∙ c.in-Some.is) c.place_of-vdr.result c.place_of-vdr.ensures c.in_ok-need.need (g.A.Area.frame c.args.area.now).limit c.in_ok-need.ensures.room same fits c.requires.limit c.in_ok-reindex.ensures.made
+    let named = named_as c.args.name.now c.requires.known c.find.ensures.found c.requires.good c.in-Some.is c.place_of-vdr.ensures in
+    let is = sizes g (goal.at.returns-clause-answers g c).After-size in
+    let v = there g (goal.at.returns-clause-answers g c).After-place_of-vdr in
+    let now_is = made g (goal.at.returns-clause-answers g c).In_ok-reindex in
+    answers_done c.args.name.now c.requires.good v named c.in_ok-need.ensures.room (g.A.Area.frame c.args.area.now).limit
+    (omega (arith, is.0, is.1, c.if-limit-size.false, c.requires.fits)) c.requires.limit now_is
 
 pub returns-clause-known : goal.returns-clause-known
 returns-clause-known g c =
-    let b = g.A.Area.image c.args.area.now in
-    let same = c.in_ok-need.ensures.area.image in
-    let size : c.size.result ≡ length b = c.size.ensures ∙ ap (λ (x : List ℕ). length x) same in
-    let limit : c.limit.result ≡ (g.A.Area.frame c.args.area.now).limit = c.limit.ensures ∙ ap (λ (f : Frame _). f.limit) c.in_ok-need.ensures.area.frame in
-    let fits : length b + c.in_ok-need.need ≤ (g.A.Area.frame c.args.area.now).limit = omega (arith, size, limit, c.if-limit-size.false, c.requires.fits) in
-    known_done c.args.name.now c.requires.good c.requires.known (sym c.find.ensures.found ∙ c.in-Some.is) c.place_of-vdr.result c.place_of-vdr.ensures c.in_ok-need.need (g.A.Area.frame c.args.area.now).limit c.in_ok-need.ensures.room same fits c.requires.limit c.in_ok-reindex.ensures.made
+    let named = named_as c.args.name.now c.requires.known c.find.ensures.found c.requires.good c.in-Some.is c.place_of-vdr.ensures in
+    let is = sizes g (goal.at.returns-clause-known g c).After-size in
+    let v = there g (goal.at.returns-clause-known g c).After-place_of-vdr in
+    let now_is = made g (goal.at.returns-clause-known g c).In_ok-reindex in
+    known_done c.args.name.now c.requires.good v named c.in_ok-need.ensures.room (g.A.Area.frame c.args.area.now).limit
+    (omega (arith, is.0, is.1, c.if-limit-size.false, c.requires.fits)) c.requires.limit now_is c.requires.known
