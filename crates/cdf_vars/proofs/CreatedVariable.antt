@@ -1,16 +1,8 @@
 -- A new variable: the making of its VDR leads from a good image to the one that follows, what is known of the variables then, and what the command is answered.
-use Rattle.std.proofs.Common.{◌≡◌, ◌≢◌, ℕ, ◌+◌, ◌^◌, ◌<◌, ◌≤◌, List, [], ◌∷◌, ◌++◌, length, map, true, false, bytes_eq, eq-eqb, Some, refl, sym, ap, subst, true≢false, ◌∙◌, append-nil, arith, inl}
-use Rattle.cdf_vars.proofs.Common.{Same, if◌then◌else◌, map-append, All, flat_map, slice_get, Go, DataSet, Variable, Plain, Kind, R, Z, image_limit, is_bad_name, is_among, variable_names, variables_of, with_variables, ByStep, step, is_bad_shape, new_variable, next_field, is_in, content, variable_of, number, name_in, r_sizes, size_at, type_at, owned, times, vdr_name, Hold, VariableShape, Shape, vdrs, HasShape, shape, IsSound, In, Good, IsGoodByShape, vdrs_append, good_by_its_shape, good_is_sound, rules_of_good, good_long, sealed_kept, content_is, shape_is, AllKeep, Allowances, Only, shapes_of, vdr_type, Chain, Does, allowances, room, vdr_bytes, Follows, only_reads, Act, Took, type_in, counted_in, IsBody, type_of_body, variables_chain, fine_is_some, fine_has_no_zeros, fine_is_short, got-middle, the_one, variables_of_are, counted_before, with_shapes, kind_type, beside_in, NewVariable, making, OthersStay, KnowsKind, Answers, gone, too_large, Done, Refused, TooLarge, made_once}
-use Rattle.cdf_model.specs.VariableSteps.{var_step}
-use Rattle.cdf_format.specs.Index.{leaves_of, nodes_of}
-use Rattle.cdf_edits.proofs.Common.{Keeps, count_of, members_of, only_of, read_types, same_kind, times-none, variable_records}
-use Rattle.cdf_edits.specs.Commands.Variables.{MakesVariable, variable_changes}
+use Rattle.cdf_vars.proofs.Common.{Act, All, AllKeep, Allowances, Answers, ByStep, Chain, DataSet, Does, Done, Follows, Go, Good, HasDims, HasShape, Hold, In, IsBody, IsGoodByShape, IsSound, JoinsVdr, Keeps, Kind, KnowsKind, List, MakesVariable, NewVariable, Only, OthersStay, OwnRules, Plain, R, Refused, Same, Shape, Some, TooLarge, Took, Variable, VariableLives, VariableShape, VariableSplices, Z, [], allowances, ap, apart_if, append-nil, arith, attributes_kept, behind_link, beside_in, bytes_eq, content, content_is, content_now, count_of, counted_before, counted_in, edit, ends, eq-eqb, false, file, fills, fine_has_no_zeros, fine_is_short, fine_is_some, flat_map, gdr_is, gdr_place, gone, good_by_its_shape, good_image_if, good_is_sound, good_long, got-middle, if◌then◌else◌, image_limit, inl, is_among, is_bad_name, is_bad_shape, is_in, is_vdr_body, joined_acts, joined_size, joined_splices, joined_type, kind_ours, kind_type, leaves_of, length, linked, lives, made_keeps_unused, made_once, making, map, map-append, marks, member_in, name_in, new_variable, next_field, nodes_of, number, numbers_kept, nums_from, of_kind, only_of, only_reads, owned, owned_once_if, r_sizes, read_types, refl, room, rules_of_good, same_as_itself, same_kind, sealed_kept, shape, shape_is, shape_now, shapes_of, size_at, slice_get, spliced_times, step, subst, sym, t, the_one, times, times-none, too_large, true, true≢false, type_at, type_in, type_of_body, used_times, var_step, variable_changes, variable_names, variable_of, variable_records, variables_chain, variables_of, variables_of_are, vdr_body, vdr_bytes, vdr_name, vdr_type, vdrs, vdrs_append, vdrs_rows, vdrs_rows-push, with_shapes, with_variables, ℕ, ◌++◌, ◌+◌, ◌<◌, ◌^◌, ◌∙◌, ◌∷◌, ◌≡◌, ◌≢◌, ◌≤◌}
+use Rattle.cdf_edits.proofs.Common.{members_of}
 use Rattle.cdf_edits.specs.Space.Adding.{Added}
-use Rattle.cdf_edits.proofs.Edits.JoinedVdr.{JoinsVdr, behind_link, edit, ends, file, fills, gdr_is, joined_acts, joined_size, joined_splices, joined_type, linked, lives, member_in, is_vdr_body, marks, t}
-use Rattle.cdf_edits.proofs.Edits.Common.{OwnRules, VariableLives, VariableSplices, apart_if, attributes_kept, content_now, gdr_place, good_image_if, made_keeps_unused, nums_from, owned_once_if, same_as_itself, shape_now, used_times}
-use Rattle.cdf_edits.proofs.Edits.VariableKinds.{kind_ours, numbers_kept, of_kind, spliced_times, vdrs_rows, vdrs_rows-push}
 use Rattle.cdf_edits.proofs.Edits.VariablesLinked.{keep_numbered, keep_with_kind, next_keeps, other_stays}
-use Rattle.cdf_vars.specs.Creating.{HasDims, vdr_body}
 use Rattle.cdf_vars.proofs.VariableChains.{counted_members, variable_members, few_variables}
 use Rattle.cdf_vars.proofs.NewVdr.{IsNewVdr, IsShaped, Shares, bare_variable, end_is, has, length-body, means, name_is, ruled, shaped, type_in_body, varys_written, vdr_written}
 use Rattle.cdf_vars.proofs.VariableFound.{kind_with, others_with}

@@ -1,10 +1,6 @@
 -- What is read of records with names, one after the other, and so of the variables of a kind of a good image.
-use Rattle.std.proofs.Common.{◌≡◌, ℕ, suc, ◌+◌, ◌<◌, ◌≤◌, List, [], ◌∷◌, ◌++◌, length, map, take, drop, take-append-drop, drop-cons, get_or, false, sym, ap, ap₂, subst, ◌∙◌, append_assoc, append-nil, arith, bytes_eq}
-use Rattle.cdf_vars.proofs.Common.{length-map, length-take, map-append, at_drop_more, at_drop_all, take_all, got_in, shapes_of, Chain, members_of, content, name_at, name_field, type_at, LiesIn, shape, vdrs, HasShape, Good, good_is_sound, Item, Kind, variable_items, variables_of, chain_of, KnowsKind, AreNamed, items_at}
-use Rattle.std.proofs.lemmas.List.{map_more}
-use Rattle.std.specs.List.{IsDistinct}
+use Rattle.cdf_vars.proofs.Common.{AreNamed, Chain, Good, HasShape, IsDistinct, Item, Kind, KnowsKind, LiesIn, List, [], ap, append-nil, append_assoc, ap₂, arith, at_drop_all, at_drop_more, bytes_eq, chain_of, content, drop, drop-cons, false, get_or, good_is_sound, got_in, has_name, items_at, length, length-map, length-take, map, map-append, map_more, members_of, name_at, name_field, shape, shapes_of, subst, suc, sym, take, take-append-drop, take_all, type_at, variable_items, variables_of, vdrs, ℕ, ◌++◌, ◌+◌, ◌<◌, ◌∙◌, ◌∷◌, ◌≡◌, ◌≤◌}
 use Rattle.cdf_model.specs.declared.item.Item.TheVariants.{Var}
-use Rattle.cdf_names.specs.Names.{has_name}
 use Rattle.cdf_names.proofs.Apart.{distinct_apart}
 use Rattle.cdf_vars.proofs.VariableChains.{variable_members}
 use Rattle.cdf_vars.proofs.VariableNames.{are_named, items_read, names_read, variable_names_are}

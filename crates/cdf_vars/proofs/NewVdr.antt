@@ -1,21 +1,9 @@
 -- A new VDR: what a shape has that is not refused, that what was written reads back, what it means, and that it keeps the rules.
-use Rattle.std.proofs.Common.{◌≡◌, ℕ, ◌*◌, ◌≤◌, List, [], ◌∷◌, length, Bool, true, false, not, ◌||◌, refl, arith, ◌+◌, ◌-◌, ◌^◌, ◌<◌, ◌++◌, map, drop, replicate, sym, ap, ◌∙◌, append_assoc, lit<, ◌≢◌, Option, None, ap₂}
-use Rattle.cdf_vars.proofs.Common.{flat_map, All, before_first, ◌==◌, ◌&&◌, nat_lt, if◌then◌else◌, nat_le, is_some, Each, HasVariable, VariableShape, DataType, signed_limit, value_count, size_of, are_bad_sizes, is_bad_shape, new_variable, drop-drop, length-append, length-map, take_at, big_bytes, vdr_type, IsFilled, vdr_bytes, length-words, words_laid_out, Same, word, words, counted, is_positive, name_in, number, gdr_offset, r_num_dims, r_sizes, size_at, type_at, has_bit, record_type, vdr_name, z_vdr_type, Kind, R, Z, NewVariable, own_dims, vary_code, eqb-true, le-leb, w32, cast_signed, variable_of, dimensions_at, dims_at, elems_at, has_pad, is_z, pad_field, type_of_variable, value_bytes, is_max_rec, vdr_end, NoRule, small_signed, drop_at, vdr_fields, ltb-false, and_from, VarysWritten, counted4, pad_at, vary_field, varys_at}
+use Rattle.cdf_vars.proofs.Common.{All, Bool, Byte, DataType, Each, HasVariable, IsFilled, IsRuled, Kind, List, NewVariable, NoRule, None, Option, Pad, Placed, Previous, R, Same, Says, VariableShape, VarysWritten, Z, [], and_from, ap, append_assoc, ap₂, are_bad_sizes, arith, before_first, before_zeros, big_bytes, cast_signed, code_small, counted, counted4, dimension_limit, dimensions_at, dims_at, drop, drop-drop, drop_at, elems_at, eqb-true, false, flat_map, gdr_offset, has_bit, has_dimensions, has_pad, if◌then◌else◌, is_bad_shape, is_characters, is_compressed, is_max_rec, is_no_link, is_positive, is_some, is_z, laid_kept, laid_out, le-leb, le-mul_of_pos_right, leaves_of, length, length-append, length-map, length-replicate, length-words, lit<, ltb-false, map, name_in, nat_le, nat_lt, new_variable, no_node, nodes_of, not, notation_of, number, own_dims, pad_at, pad_field, pad_place, placed_laid, r_num_dims, r_sizes, record_limit, record_size, record_type, refl, replicate, says_laid_out, signed_limit, size_at, size_of, size_some, small_signed, sym, take_at, true, type_at, type_back, type_of, type_of_variable, unwrap_or, value_bytes, value_count, variable_of, vary_code, vary_field, varys_at, vdr_body, vdr_bytes, vdr_end, vdr_fields, vdr_name, vdr_num_elems, vdr_type, vdr_vdr_next, vdr_z_num_dims, w32, word, words, words_laid_out, words_long, z_vdr_type, ℕ, ◌&&◌, ◌*◌, ◌++◌, ◌+◌, ◌-◌, ◌<◌, ◌==◌, ◌^◌, ◌∙◌, ◌∷◌, ◌≡◌, ◌≢◌, ◌≤◌}
+use Rattle.std.proofs.Common.{◌||◌}
 use Rattle.std.proofs.lemmas.List.Concat.{flat_map-append}
-use Rattle.std.proofs.Math.Nat.{le-mul_of_pos_right}
-use Rattle.cdf_format.specs.Index.{leaves_of, nodes_of}
-use Rattle.cdf_edits.proofs.Common.{Byte, Pad, Previous, dimension_limit, has_dimensions, is_characters, is_compressed, is_no_link, no_node, notation_of, type_of, unwrap_or}
-use Rattle.cdf_model.specs.Place.{record_limit, record_size}
-use Rattle.cdf_values.proofs.ValueLengths.{size_some}
-use Rattle.std.proofs.lemmas.List.{length-replicate}
-use Rattle.cdf_edits.specs.Commands.NewRecords.{Says}
-use Rattle.cdf_edits.specs.Space.Placing.{Placed, laid_out}
-use Rattle.cdf_edits.proofs.Edits.Common.{IsRuled, code_small, kind_type, type_back, laid_kept, placed_laid, says_laid_out}
-use Rattle.cdf_format.specs.Records.{vdr_vdr_next, vdr_num_elems, vdr_z_num_dims}
-use Rattle.cdf_vars.specs.Creating.{vdr_body}
+use Rattle.cdf_edits.proofs.Edits.Common.{kind_type}
 use Rattle.cdf_vars.proofs.Sizes.{IsSize, fine_sizes, not_zero, positive_sizes, signed_small, sizes_small}
-use Rattle.cdf_var_records.proofs.VdrParts.{pad_place, words_long}
-use Rattle.cdf_fields.proofs.NamesWritten.{before_zeros}
 use Rattle.cdf_format.specs.IndexOf.{HasNodes}
 use Rattle.cdf_format.specs.IndexRules.{nodes_rows}
 

@@ -1,6 +1,6 @@
 -- What `set-pad` asks for: the variable of a name, where its pad value belongs, and what the word says.
-use Rattle.std.proofs.Common.{◌≡◌, ℕ, List, Bool, Option, Some, Result, Err, get_or, refl, sym, ap, ap₂, subst, ◌∙◌}
-use Rattle.cdf_vars.proofs.Common.{Refused, Reason, DataType, values_in, is_little, elems_at, type_of_variable, Good, Answers, ValueError, Explains, PadPlace, VarId, found_among, Known, Knows, known_of, HasElements, IsPlace, IsValue, MayPad, has_so_many, refused}
+use Rattle.cdf_vars.proofs.Common.{Answers, Bool, DataType, Err, Explains, Good, HasElements, IsPlace, IsValue, Known, Knows, List, MayPad, Option, PadPlace, Reason, Refused, Some, ValueError, VarId, ap, ap₂, elems_at, found_among, get_or, has_so_many, is_little, known_of, refl, refused, subst, sym, type_of_variable, values_in, ℕ, ◌∙◌, ◌≡◌}
+use Rattle.std.proofs.Common.{Result}
 use Rattle.cdf_model.specs.declared.command.Command.TheVariants as commands
 use Rattle.cdf_vars.proofs.VariableFound.{is_vdr, own_is, parts_there}
 

@@ -1,17 +1,11 @@
 -- The command `set-pad`: the bytes of a VDR with a pad value, the one that takes the place of the old one where that has no room for it, what the command answers, and what is kept of the variables.
-use Rattle.std.proofs.Common.{◌≡◌, ◌⊎◌, ℕ, ◌+◌, ◌-◌, ◌^◌, ◌<◌, ◌≤◌, List, [], ◌∷◌, ◌++◌, length, take, drop, refl, sym, ap, ◌∙◌, append_assoc, arith, inl, inr, zero, suc, ◌*◌, true, subst, None, eq-eqb, Option, Some, Ok, true≢false, ap₂}
-use Rattle.cdf_vars.proofs.Common.{AtNumber, at_number, put, slice_index, get_or-drop, get_or-take, get_or_append_left, drop_at, word-put_number, byte-put_before, byte-put_inside, byte-put_after, length-append, length-take, length-drop, take_at, drop-drop, big_bytes, drop-put_there, byte, Same, word, number, with_field, length-put, piece_kept, word_kept, last_or, slice_get, slice_set, Kind, Leads, next_of, next_field, is_in, vdr_flags, VariableShape, vdrs, shape, IsSound, dimensions_at, pad_field, value_bytes, dims_at, elems_at, type_of_variable, Good, shapes_of, AllKeep, Allowances, stays_own, head_of, members_of, type_in, before, type_of_body, IsBody, variables_chain, kind_chain, StandsAmong, sound, typed, in_middle, AreBytes, word_fits, owned_records, times, owned, In, Distinct, vdr_bytes, room, IsVdr, IsPlace, MayPad, padded_flags, ne_eqb, good_is_sound, got-middle, PadPlace, Done, Refused, TooLarge, Plain, DataType, Go, turned, DataSet, Variable, image_limit, Found, value_size, ByStep, step, size_of, values_in, with_variable, content, variable_of, is_little, Answers, gone, too_large, VarId, Known, Knows, known_of}
-use Rattle.cdf_edits.proofs.Common.{Anything, Exchanged, length-map, SetsPad, cases_lt, is_in-true, length-bytes_high_first, set_at, set_pad_changes, vdrs_append}
-use Rattle.cdf_edits.proofs.Edits.Common.{Copied, fits, high, leads_rest, pad_late, pad_wide, same_link, word_copied}
-use Rattle.cdf_edits.proofs.Edits.JoinedVdr.{behind_link, is_vdr_body, joined_type}
+use Rattle.cdf_vars.proofs.Common.{AllKeep, Allowances, Answers, Anything, AreBytes, AtNumber, ByStep, Copied, DataSet, DataType, Distinct, Done, Exchanged, Found, Go, Good, In, IsBody, IsPadded, IsPlace, IsRequest, IsSound, IsVdr, Kind, Known, Knows, Leads, List, MayPad, MovedTo, Moves, None, Ok, Option, PadPlace, Plain, Refused, Same, SetPad, SetsPad, Some, StandsAmong, TooLarge, VarId, Variable, VariableShape, [], ap, append_assoc, ap₂, arith, at_number, before, behind_link, big_bytes, byte, byte-put_after, byte-put_before, byte-put_inside, cases_lt, content, dimensions_at, dims_at, dims_long, drop, drop-drop, drop-put_there, drop_at, elems_at, eq-eqb, fits, get_or-drop, get_or-take, get_or_append_left, gone, good_is_sound, got-middle, head_of, high, image_limit, in_middle, inl, inr, is_in, is_in-true, is_little, is_vdr_body, joined_type, kind_chain, known_of, last_or, leads_rest, length, length-append, length-bytes_high_first, length-drop, length-put, length-take, members_of, ne_eqb, next_field, next_of, number, owned, owned_records, pad_field, pad_late, pad_place, pad_wide, padded_body, padded_flags, piece_kept, put, refl, room, same_link, set_at, set_pad_changes, shape, shapes_of, size_of, slice_get, slice_index, slice_set, sound, stays_own, step, subst, suc, sym, take, take_at, times, too_large, true, true≢false, turned, type_in, type_of_body, type_of_variable, typed, value_bytes, value_size, values_in, variable_of, variables_chain, vdr_bytes, vdr_flags, vdrs, with_field, with_variable, word, word-put_inside, word-put_number, word_copied, word_fits, word_kept, zero, ℕ, ◌*◌, ◌++◌, ◌+◌, ◌-◌, ◌<◌, ◌^◌, ◌∙◌, ◌∷◌, ◌≡◌, ◌≤◌, ◌⊎◌}
+use Rattle.cdf_edits.proofs.Common.{length-map, vdrs_append}
 use Rattle.cdf_edits.proofs.Edits.MovedVdr.{CopiesVdr, MovesVdr, chain_late, members, old_free, old_in, own', sound_late}
 use Rattle.cdf_edits.proofs.Edits.PadWritten.{WritesPad, edits, meaning, pads_in_place, small_flags}
 use Rattle.cdf_vars.proofs.VariableChains.{has_variable_chain, variable_members}
 use Rattle.cdf_base.proofs.Puts.{put-append}
-use Rattle.cdf_space.proofs.Filling.{word-put_inside}
-use Rattle.cdf_vars.specs.Padding.{IsPadded, padded_body, IsRequest, MovedTo, Moves}
-use Rattle.cdf_var_records.proofs.VdrParts.{pad_place, at as vdr_at, inside as vdr_inside, own as vdr_own, dims_long}
-use Rattle.cdf_model.specs.declared.command.Command.TheVariants.{SetPad}
+use Rattle.cdf_var_records.proofs.VdrParts.{at as vdr_at, inside as vdr_inside, own as vdr_own}
 use Rattle.cdf_edits.proofs.Edits.FreedVdr.{acts, acts_now, edit_now, freed_content, freed_good, freed_is, keeps_now, long_now, moved_sets_pad, pad_means}
 use Rattle.cdf_vars.specs.declared.padding.PadRequest.{PadRequest}
 use Rattle.cdf_vars.specs.declared.padding.PadRequest.TheVariants.{Put}

@@ -1,7 +1,5 @@
 -- How many bytes the word of a pad value writes.
-use Rattle.std.proofs.Common.{◌≡◌, ℕ, ◌*◌, List, ◌++◌, length, take, drop, Bool, Ok, sym, subst, ◌∙◌, arith}
-use Rattle.cdf_vars.proofs.Common.{DataType, size_of, values_in, turned, back, size_stays, values_long, whole_elements, HasElements, IsValue}
-use Rattle.cdf_values.proofs.TurnedLemmas.{in_place}
+use Rattle.cdf_vars.proofs.Common.{Bool, DataType, HasElements, IsValue, List, Ok, arith, back, drop, in_place, length, size_of, size_stays, subst, sym, take, turned, values_in, values_long, whole_elements, ℕ, ◌*◌, ◌++◌, ◌∙◌, ◌≡◌}
 
 -- of one word
 pub value_long : (t : DataType) (elems : ℕ) (words : List (List ℕ)) (value : List ℕ) → HasElements t elems → values_in t elems 1 words ≡ Ok value → length value ≡ size_of t * elems

@@ -1,7 +1,5 @@
 -- What a put answers, by the room that it asks for.
-use Rattle.std.proofs.Common.{◌≡◌, ℕ, ◌+◌, ◌<◌, ◌≤◌, List, length, Some, sym, ap, ◌∙◌}
-use Rattle.cdf_vars.proofs.Common.{slice_get, Answers, shapes_of, put_room, room, Follows, gone, too_large, got-middle, content, number, vdr_vxr_head, VariableShape, shape, Good, index_at, Done, Refused, TooLarge, Command, variable_named, with_variable, with_record, Target, CanPut, PutsAs, PutsSo, target_found, variable_at}
-use Rattle.cdf_edits.specs.Commands.Room.{room_of_variable}
+use Rattle.cdf_vars.proofs.Common.{Answers, CanPut, Command, Done, Follows, Good, List, PutsAs, PutsSo, Refused, Some, Target, TooLarge, VariableShape, ap, content, gone, got-middle, index_at, length, number, put_room, room, room_of_variable, shape, shapes_of, slice_get, sym, target_found, too_large, variable_at, variable_named, vdr_vxr_head, with_record, with_variable, ℕ, ◌+◌, ◌<◌, ◌∙◌, ◌≡◌, ◌≤◌}
 use Rattle.cdf_model.specs.declared.answer.Reply.TheVariants as replies
 use Rattle.cdf_model.specs.declared.command.Command.TheVariants as commands
 use Rattle.cdf_vars.proofs.PutWhole.{index_there}

@@ -1,8 +1,5 @@
 -- What is put as a record: how many records a new block has, and whole elements.
-use Rattle.std.proofs.Common.{◌≡◌, ℕ, ◌*◌, ◌%◌, ◌<◌, ◌≤◌, List, length, true, false, refl, sym, ap, subst, ◌∙◌, arith}
-use Rattle.cdf_vars.proofs.Common.{le-ltb, lt-ltb, nat_lt, IfOk, Result, AreaError, max_rec_at, record_bytes, Good, extent, value_count, pad_record, size_of, most_in_block, Form, IsForm, variable_at, whole_elements, record_size_is}
-use Rattle.cdf_edits.specs.Index.Blocks.{block_count}
-use Rattle.cdf_var_records.proofs.RecordsRead.{pad_long}
+use Rattle.cdf_vars.proofs.Common.{AreaError, Form, Good, IfOk, IsForm, List, Result, ap, arith, block_count, extent, false, le-ltb, length, lt-ltb, max_rec_at, most_in_block, nat_lt, pad_long, pad_record, record_bytes, record_size_is, refl, size_of, subst, sym, true, value_count, variable_at, whole_elements, ℕ, ◌%◌, ◌*◌, ◌<◌, ◌∙◌, ◌≡◌, ◌≤◌}
 
 module _ (b : List ℕ) (vdr r : ℕ) {count : ℕ} (is : count ≡ extent (max_rec_at b vdr)) where
   pub most_within : r < count → 1 ≡ most_in_block (variable_at b vdr) r

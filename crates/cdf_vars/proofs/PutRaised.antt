@@ -1,17 +1,12 @@
 -- MaxRec of a variable is raised, and of an r variable rMaxRec follows: what may be written, and what that leaves.
-use Rattle.std.proofs.Common.{◌≡◌, ◌⊎◌, ℕ, ℤ, ◌+◌, ◌<◌, ◌≤◌, List, [], ◌∷◌, ◌++◌, length, map, max, append-nil, append_assoc, Result, w32, refl, sym, ap, ap₂, subst, ◌∙◌, arith, inl}
-use Rattle.cdf_vars.proofs.Common.{le-leb, of_z-to_z, cast_signed, cast_unsigned, fold, AreaError, field_reads, field_reads4, length-with_field, other_bytes, byte, content, variable_of, LiesIn, gdr_offset, integer4, number, with_field, with_sign, gdr_r_max_rec, HasShape, Shape, VariableShape, shape, vdrs, In, max_rec_at, is_max_rec, Good, word_kept, good_is_sound, content_is, shapes_of, greatest_at, with_writes, Changed, touched_field, greatest_fits, gdr_fits, gdr_in, gdr_long, StandsAmong, tile, Kind, R, Z, Variable, extent, image_limit, record_number_limit, last_number, MaxRecRaised, IsVdr, VdrsLie, vdr_lies, on_ok_weaker}
+use Rattle.cdf_vars.proofs.Common.{AreaError, Changed, Good, HasShape, In, IsVdr, Kind, LiesIn, List, MaxRecRaised, R, Shape, StandsAmong, Variable, VariableShape, VdrsLie, Z, [], ap, append-nil, append_assoc, ap₂, arith, at, byte, cast_signed, cast_unsigned, content, content_is, extent, field_reads, field_reads4, fold, gdr_fits, gdr_in, gdr_long, gdr_offset, gdr_r_max_rec, good_is_sound, greatest_at, greatest_fits, image_limit, inl, integer4, is_max_rec, last_number, le-leb, length, length-with_field, long, map, max, max_rec_at, number, of_z-to_z, on_ok_weaker, other_bytes, own, r_max_writes, record_number_limit, refl, shape, shapes_of, subst, sym, tile, touched_field, variable_of, vdr_lies, vdr_max_rec, vdr_no_gdr, vdrs, with_field, with_sign, with_writes, word_kept, ℕ, ℤ, ◌++◌, ◌+◌, ◌<◌, ◌∙◌, ◌∷◌, ◌≡◌, ◌≤◌, ◌⊎◌}
+use Rattle.std.proofs.Common.{Result, w32}
 use Rattle.std.specs.Prelude.{OnOk}
-use Rattle.cdf_format.specs.Records.{vdr_max_rec}
 use Rattle.cdf_edits.specs.Commands.GreatestRecord.{r_extents}
 use Rattle.cdf_edits.specs.Commands.Puts.{max_rec_touches}
-use Rattle.cdf_edits.specs.Edits.RemovesVariable.{r_max_writes}
 use Rattle.cdf_edits.specs.Frame.Changed.{Placed}
 use Rattle.cdf_edits.proofs.Edits.RecordsWritten.{WritesRecords, good_now, same_shape}
-use Rattle.cdf_edits.proofs.Edits.VdrEdited.{long}
 use Rattle.cdf_edits.proofs.Frame.ChangedBytes.{changed_part}
-use Rattle.cdf_puts.proofs.RaisedGoes.{vdr_no_gdr}
-use Rattle.cdf_var_records.proofs.VdrParts.{at, own}
 use Rattle.cdf_vars.proofs.VariableChains.{vdr_inside}
 
 -- rMaxRec as it is written

@@ -1,6 +1,5 @@
 -- What `put-rec` and `put-val` ask for: the bytes that become a record of a variable.
-use Rattle.std.proofs.Common.{◌≡◌, ℕ, ◌+◌, ◌*◌, ◌≤◌, List, ◌++◌, length, take, drop, false, Some, Ok, refl, sym, ap, subst, ◌∙◌, arith}
-use Rattle.cdf_vars.proofs.Common.{length-append, length-drop, length-take, content, record_bytes, Good, Command, Found, Go, Variable, place, value_count, read, cannot_be_put, with_record, with_value, ByStep, step, size_of, values_in, with_variable, Target, HasElements, HasTarget, MayPut, PutsAs, IsForm, variable_at, has_so_many, values_long, record_size_is, read_long}
+use Rattle.cdf_vars.proofs.Common.{ByStep, Command, Found, Go, Good, HasElements, HasTarget, IsForm, List, MayPut, Ok, PutsAs, Some, Target, Variable, ap, arith, cannot_be_put, content, drop, false, has_so_many, length, length-append, length-drop, length-take, place, read, read_long, record_bytes, record_size_is, refl, size_of, step, subst, sym, take, value_count, values_in, values_long, variable_at, with_record, with_value, with_variable, ℕ, ◌*◌, ◌++◌, ◌+◌, ◌∙◌, ◌≡◌, ◌≤◌}
 use Rattle.cdf_model.specs.declared.answer.Reply.TheVariants as replies
 use Rattle.cdf_model.specs.declared.command.Command.TheVariants as commands
 use Rattle.cdf_vars.proofs.RecordPlaces.{formed, formed_is, named_formed}

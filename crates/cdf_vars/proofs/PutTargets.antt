@@ -1,7 +1,5 @@
 -- The variable of which a record is put or read, by its name.
-use Rattle.std.proofs.Common.{◌≡◌, ℕ, List, Option, Some, get_or, sym, ap, ◌∙◌}
-use Rattle.cdf_vars.proofs.Common.{Good, Form, VarId, found_among, Known, Knows, known_of, HasTarget, IsForm, variable_at}
-use Rattle.cdf_vars.specs.Records.{HasForm}
+use Rattle.cdf_vars.proofs.Common.{Form, Good, HasForm, HasTarget, IsForm, Known, Knows, List, Option, Some, VarId, ap, found_among, get_or, known_of, sym, variable_at, ℕ, ◌∙◌, ◌≡◌}
 use Rattle.cdf_vars.proofs.VariableFound.{own_is, parts_there, variable_there}
 
 module _ {b : List ℕ} (name : List ℕ) {known : Known} {result : Option VarId} (knows : Knows b known) (asked : result ≡ found_among known name) {id : VarId} (good : Good b) (some : result ≡ Some id)

@@ -1,17 +1,12 @@
 -- The whole of a put: what is put under way, and that the last image follows the command.
-use Rattle.std.proofs.Common.{◌≡◌, ◌⊎◌, ℕ, ◌+◌, ◌%◌, ◌<◌, ◌≤◌, List, ◌∷◌, ◌++◌, length, map, min, Bool, false, true, Some, true≢false, refl, sym, ap, subst, ◌∙◌, arith, inl, inr}
-use Rattle.cdf_vars.proofs.Common.{nat_tests, nat_lt, slice_set, ◌||◌, ◌&&◌, ◌==◌, slice_get, shapes_of, put_room, Follows, first_written, got-middle, other_kind, content, variable_of, number, with_sign, vdr_vxr_head, Shape, VariableShape, shape, vdrs, vdrs_append, is_little, max_rec_at, record_bytes, type_of_variable, Good, good_is_sound, index_at, Command, Kind, R, Z, DataType, turned, DataSet, Variable, extent, image_limit, record_number_limit, Go, variable_named, variables_of, with_variables, ByStep, step, with_variable, pad_record, cannot_be_put, with_record, size_of, PutsUpTo, SomePutting, most_in_block, MaxRecRaised, NewRecord, no_rule, back, size_stays, Target, Known, Knows, IsVdr, CanPut, HasRoom, IsNewRecord, IsTarget, MaxRecRaises, PutsAs, PutsSo, target_found, variable_at, index_is}
+use Rattle.cdf_vars.proofs.Common.{Bool, ByStep, CanPut, Command, DataSet, DataType, Follows, Go, Good, HasRoom, IsNewRecord, IsPut, IsTarget, IsVdr, Kind, Known, Knows, List, MaxRecRaised, MaxRecRaises, NewRecord, PutsAs, PutsSo, PutsUpTo, Putting, R, Shape, Some, SomePutting, Target, Variable, VariableShape, Z, ap, arith, back, cannot_be_put, content, extent, false, first_written, good_is_sound, got-map, got-middle, image_limit, index_at, index_is, inl, inr, is_little, length, loose, map, max_rec_at, min, most_in_block, nat_lt, nat_tests, no_rule, number, other_kind, pad_record, put_room, raised_shape, record_bytes, record_number_limit, refl, shape, shapes_of, size_of, size_stays, slice_get, slice_set, step, subst, sym, target_found, true, true≢false, turned, type_of_variable, variable_at, variable_named, variable_of, variables_of, vdr_vxr_head, vdrs, vdrs_append, with_record, with_sign, with_variable, with_variables, ℕ, ◌%◌, ◌&&◌, ◌++◌, ◌+◌, ◌<◌, ◌==◌, ◌||◌, ◌∙◌, ◌∷◌, ◌≡◌, ◌≤◌, ◌⊎◌}
 use Rattle.std.specs.Prelude.{not}
-use Rattle.cdf_edits.proofs.Commands.ListParts.{got-map}
 use Rattle.cdf_model.specs.declared.command.Command.TheVariants as commands
 use Rattle.cdf_model.specs.declared.answer.Reply.TheVariants as replies
 use Rattle.cdf_puts.specs.Going.{found_in}
-use Rattle.cdf_puts.specs.Putting.{IsPut, Putting}
 use Rattle.cdf_puts.specs.SoFar.{MaxRecDone}
-use Rattle.cdf_puts.proofs.PutRules.{loose}
 use Rattle.cdf_puts.proofs.DoneBytes.{is_put, put_rec_done, put_val_done}
 use Rattle.cdf_puts.proofs.LastImage.{last_image, put_content}
-use Rattle.cdf_puts.proofs.RaisedGoes.{raised_shape}
 use Rattle.cdf_vars.proofs.VariableFound.{knows_now, same_name_set}
 use Rattle.cdf_vars.proofs.VariableNames.{variables_are}
 use Rattle.cdf_vars.proofs.PutParts.{pad_is_long, whole_record}

@@ -1,10 +1,8 @@
 -- What `get-rec` and `get-val` answer that show what was read.
-use Rattle.std.proofs.Common.{◌≡◌, ℕ, ◌*◌, ◌≤◌, List, length, take, drop, Some, true, refl, sym, ap, ◌∙◌, arith}
-use Rattle.cdf_vars.proofs.Common.{le-ltb, Answers, gone, room, only_reads, content, Good, Done, Reply, Command, Go, step, record_number_limit, place, read, ByStep, size_of, Form, variable_at}
+use Rattle.cdf_vars.proofs.Common.{Answers, ByStep, Command, Done, Form, Go, Good, HasForm, List, Reply, Some, ap, arith, content, drop, gone, le-ltb, length, only_reads, place, read, record_number_limit, refl, room, size_of, step, sym, take, true, variable_at, ℕ, ◌*◌, ◌∙◌, ◌≡◌, ◌≤◌}
 use Rattle.cdf_edits.proofs.Commands.ReadingFollows.{reading_follows}
 use Rattle.cdf_model.specs.declared.answer.Reply.TheVariants as replies
 use Rattle.cdf_model.specs.declared.command.Command.TheVariants as commands
-use Rattle.cdf_vars.specs.Records.{HasForm}
 use Rattle.cdf_vars.proofs.RecordPlaces.{formed, formed_is, named_formed}
 
 shown : (limit : ℕ) (b : List ℕ) (c : Command) (reply : Reply) → step (content b) c ≡ ByStep (Go (content b) reply) → only_reads c ≡ true → room b c ≡ 0 → Good b → length b ≤ limit → Answers limit b c (Done reply) b

@@ -1,8 +1,6 @@
 -- A variable as its form has it, and the place of an index, which is one of the values of a record.
-use Rattle.std.proofs.Common.{◌≡◌, ℕ, ◌+◌, ◌*◌, ◌<◌, ◌≤◌, List, length, Bool, true, false, Some, None, refl, sym, ap, subst, ◌∙◌, arith}
-use Rattle.cdf_vars.proofs.Common.{if◌then◌else◌, content, Good, Majority, Row, Column, Kind, Variable, variable_named, place, read, value_count, size_of, Form, IsForm, variable_at, record_size_is, read_long}
-use Rattle.std.proofs.Math.Nat.{mul-le-mul_right}
-use Rattle.cdf_model.specs.Place.{has_place, place_in}
+use Rattle.cdf_vars.proofs.Common.{Bool, Column, Form, Good, IsForm, Kind, List, Majority, None, Row, Some, Variable, ap, arith, content, false, has_place, if◌then◌else◌, length, mul-le-mul_right, place, read, read_long, record_size_is, refl, size_of, subst, sym, true, value_count, variable_at, variable_named, ℕ, ◌*◌, ◌+◌, ◌<◌, ◌∙◌, ◌≡◌, ◌≤◌}
+use Rattle.cdf_model.specs.Place.{place_in}
 use Rattle.cdf_shape.proofs.Places.{column_below, row_below}
 
 pub place_below : (majority : Majority) (dims : List ℕ) (varys : List Bool) (index : List ℕ) (n : ℕ) → place majority dims varys index ≡ Some n → n < value_count dims varys

@@ -1,16 +1,12 @@
 -- What `reindex` answers, of a variable whose descriptor was found.
-use Rattle.std.proofs.Common.{◌≡◌, ℕ, ◌+◌, ◌<◌, ◌≤◌, List, length, map, Some, refl, sym, ap, subst, ◌∙◌, arith, inl, inr}
-use Rattle.cdf_vars.proofs.Common.{slice_get, Done, Refused, Kind, DataSet, Variable, variables_of, image_limit, Found, variable_named, ByStep, content, number, vdr_vxr_head, VariableShape, shape, variables, vdrs, In, Good, Answers, room, gone, too_large, got-middle, in_middle, index_at, IsVdr, index_is, Known, Knows}
+use Rattle.cdf_vars.proofs.Common.{Answers, ByStep, DataSet, Done, Found, Good, In, IsVdr, Kind, Known, Knows, List, Refused, Reindexed, Some, Variable, VariableShape, ap, arith, at, content, gone, got-middle, image_limit, in_middle, index_at, index_is, inl, inr, length, map, number, own, refl, reindex_room, room, shape, slice_get, subst, sym, too_large, variable_named, variables, variables_of, vdr_vxr_head, vdrs, ℕ, ◌+◌, ◌<◌, ◌∙◌, ◌≡◌, ◌≤◌}
 use Rattle.cdf_model.specs.declared.answer.Reason.TheVariants as reasons
 use Rattle.cdf_model.specs.declared.answer.Reply.TheVariants as replies
 use Rattle.cdf_model.specs.declared.command.Command.TheVariants as commands
-use Rattle.cdf_edits.specs.Commands.Room.{reindex_room}
 use Rattle.cdf_index.specs.Sizes.{size_of}
 use Rattle.cdf_index.specs.declared.measuring.IndexSize.{IndexSize}
-use Rattle.cdf_reindex.specs.Reindexed.{Reindexed}
 use Rattle.cdf_reindex.proofs.MadeFollows.{goes_by, reindexed_content, reindexed_follows, reindexed_places, room_is}
 use Rattle.cdf_reindex.proofs.PyramidBuilt.{few_leaves}
-use Rattle.cdf_var_records.proofs.VdrParts.{at, own}
 use Rattle.cdf_vars.proofs.RemovalAnswers.{has_index, vdr_among}
 use Rattle.cdf_vars.proofs.VariableFound.{knows_now}
 

@@ -1,7 +1,5 @@
 -- How many nodes an index has that is made anew, counted level by level.
-use Rattle.std.proofs.Common.{◌≡◌, ◌≢◌, ◌⊎◌, ℕ, zero, suc, ◌+◌, ◌-◌, Bool, false, refl, sym, ap, ◌∙◌, arith, inl, inr}
-use Rattle.cdf_vars.proofs.Common.{ne_eqb, ◌==◌, if◌then◌else◌}
-use Rattle.cdf_edits.specs.Commands.Room.{nodes_above, quotient_up}
+use Rattle.cdf_vars.proofs.Common.{Bool, ap, arith, false, if◌then◌else◌, inl, inr, ne_eqb, nodes_above, quotient_up, refl, suc, sym, zero, ℕ, ◌+◌, ◌-◌, ◌==◌, ◌∙◌, ◌≡◌, ◌≢◌, ◌⊎◌}
 
 pub none_above : (levels entries : ℕ) → (levels ≡ 0) ⊎ (entries ≡ 0) → nodes_above levels entries ≡ 0
 unfolding nodes_above

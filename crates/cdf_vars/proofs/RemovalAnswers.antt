@@ -1,21 +1,11 @@
 -- What the calls of the removal of a variable ask: the greatest MaxRec that is left, the numbers that are written, and the records that go; and what is kept of the variables then.
-use Rattle.std.proofs.Common.{◌≡◌, ℕ, suc, ◌+◌, ◌^◌, ◌<◌, ◌≤◌, List, [], ◌∷◌, ◌++◌, length, map, max, take, drop, get_or, refl, sym, ap, ◌∙◌, arith, inl, inr, subst, append_assoc, ℤ, ◌-◌, Result, Ok, Err, OnOk, FitsSigned}
-use Rattle.cdf_vars.proofs.Common.{at_drop_more, take_all, length-map, length-drop, map-append, fold, remove, greatest_at, numbers_on, with_writes, with_field, number, vdr_vxr_head, In, max_rec_at, extent, DataSet, Variable, last_number, VdrsLie, shapes_of, vdrs_append, good_by_its_shape, good_is_sound, In-append_left, In-append_right, VariableShape, Shape, Each, HasVariable, shape, variables, vdrs, VariableFits, IsSound, Good, index_at, Kind, R, Z, to_z-of_z, w32, cast_signed, cast_unsigned, this, image_limit, greatest_fits, other_kind, with_shapes, content, variable_of, variables_of, with_variables, KnownKind, KnowsKind}
+use Rattle.cdf_vars.proofs.Common.{AreRecordsAt, DataSet, Each, Each-split, Err, FitsSigned, Good, HasIndex, HasVariable, In, In-append_left, In-append_right, IsSound, Kind, KnownKind, KnowsKind, Leaf, List, Ok, OnOk, R, RemovesVariable, Shape, Variable, VariableFits, VariableShape, VdrsLie, Z, [], ap, append_assoc, arith, at_drop_more, cast_signed, cast_unsigned, content, content_after, drop, extent, fold, freed_with_variable, get_or, good_by_its_shape, good_image, good_is_sound, greatest_at, greatest_fits, image_limit, index_at, inl, inr, last_number, leaves_of, length, length-drop, length-map, map, map-append, map-removed, max, max_rec_at, nodes_of, number, numbers_on, other_kind, refl, remove, removed-at, shape, shape_after, shapes_of, subst, suc, sym, take, take_all, this, to_z-of_z, variable_of, variables, variables_of, vdr_num, vdr_vxr_head, vdrs, vdrs_append, w32, with_field, with_shapes, with_variables, with_writes, ℕ, ℤ, ◌++◌, ◌+◌, ◌-◌, ◌<◌, ◌^◌, ◌∙◌, ◌∷◌, ◌≡◌, ◌≤◌}
+use Rattle.std.proofs.Common.{Result}
 use Rattle.std.proofs.lemmas.List.{take-append-drop}
 use Rattle.std.proofs.lemmas.List.Sums.{fold-append}
-use Rattle.cdf_edits.specs.Edits.RemovesVariable.{RemovesVariable}
-use Rattle.cdf_format.specs.Records.{vdr_num}
-use Rattle.cdf_vars.specs.Removing.{AreRecordsAt}
 use Rattle.cdf_edits.proofs.Edits.OwnVariable.{without_cpr}
 use Rattle.cdf_edits.proofs.Edits.PlainVariables.{is_uncompressed}
-use Rattle.cdf_edits.specs.Commands.Variables.{freed_with_variable}
-use Rattle.cdf_format.proofs.GoodImageLemmas.{good_image}
-use Rattle.cdf_format.proofs.ShapeLemmas.{Each-split}
-use Rattle.cdf_format.specs.Index.{Leaf, leaves_of, nodes_of}
 use Rattle.cdf_index.proofs.GoodIndex.{good_index}
-use Rattle.cdf_index.specs.Finding.{HasIndex}
-use Rattle.cdf_edits.proofs.Edits.RemovedVariable.{content_after, shape_after}
-use Rattle.cdf_edits.proofs.Commands.ListParts.{map-removed, removed-at}
 use Rattle.cdf_vars.proofs.VariableNames.{variables_are}
 
 -- ---- lists

@@ -1,6 +1,5 @@
 -- What the command `setup` is answered, which dimensions it takes, and what its calls ask for.
-use Rattle.std.proofs.Common.{◌≡◌, ℕ, ◌+◌, ◌*◌, ◌≤◌, List, length, Bool, true, false, not, refl, sym, ap, subst, ◌∙◌, arith}
-use Rattle.cdf_vars.proofs.Common.{of_z-to_z, w32, cast_unsigned, ◌==◌, ◌&&◌, is_some, Plain, Setup, Majority, Go, DataSet, encoding_at, ByStep, step, are_bad_sizes, is_empty_set, Takes, content, word, size_at, gdr_offset, uir_type, shape, IsSound, Good, is_a-in, good_by_its_shape, good_is_sound, tile_lies, gdr_in, Cdr, AreBytes, word_fits, is_none, signed4}
+use Rattle.cdf_vars.proofs.Common.{AreBytes, Bool, ByStep, Cdr, DataSet, Go, Good, IsSound, List, Majority, Plain, Setup, Takes, ap, are_bad_sizes, arith, cast_unsigned, content, encoding_at, false, gdr_in, gdr_offset, good_by_its_shape, good_is_sound, is_a-in, is_empty_set, is_none, is_some, length, not, of_z-to_z, refl, shape, signed4, size_at, step, subst, sym, tile_lies, true, uir_type, w32, word, word_fits, ℕ, ◌&&◌, ◌*◌, ◌+◌, ◌==◌, ◌∙◌, ◌≡◌, ◌≤◌}
 use Rattle.std.proofs.Math.Path.{transport}
 use Rattle.cdf_model.specs.declared.head.Head.{Head}
 use Rattle.cdf_format.proofs.HeadOf.{head_of_good}

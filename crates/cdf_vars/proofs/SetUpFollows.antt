@@ -1,16 +1,14 @@
 -- `setup` follows its command: the dimensions of a GDR and the CDR are written, what the image has by then, whatever became of the GDR, and the two ways, in its place and moved.
-use Rattle.std.proofs.Common.{◌≡◌, ◌≢◌, ℕ, ◌+◌, ◌-◌, ◌*◌, ◌<◌, ◌≤◌, List, [], ◌∷◌, ◌++◌, length, map, drop, Bool, true, false, not, ◌||◌, refl, sym, ap, subst, ◌∙◌, arith, inl, inr, ◌^◌}
-use Rattle.cdf_vars.proofs.Common.{gdr_fits, IsGoodByShape, is_in, le-leb, length-take, length-drop, w32, cast_signed, list_all, ◌==◌, is_some, nat_le, if◌then◌else◌, put, Majority, DataSet, encoding_at, image_limit, are_bad_sizes, is_empty_set, AllKeep, Edit, Mark, avoided, within, is_late, making_marks, Follows, Changed, touched_field, Act, Took, Gave, Fills, keep_attributes, acts_took, end_now, filled_size, filled_sound, list_chain, made_edit, place_in, shorter, the_one, unmarked-away, keep_file, keeps_fields, gdr_typed, apart, length-words, words_laid_out, byte, IsChain, content, counted, has_bit, is_positive, number, word, words, size_at, type_at, gdr_offset, r_num_dims, r_sizes, with_field, owned_records, times, Field, cdr_encoding, cdr_flags, gdr_r_max_rec, gdr_r_num_dims, record_type, cdr_type, gdr_type, uir_type, fixed_size, is_record_type, Shape, HasShape, shape, IsSound, In, Good, of_4_bytes, length-put, word_kept, words_kept, good_by_its_shape, good_eof, good_is_sound, rules_of_good, good_long, sealed_kept, content_is, shape_is, WritesHeads, small_signed, drop-put_there, ne_eqb, nat_tests, touch, Away, away-avoids, away-within, either, with_bits, MovesForRoom, moved_for_room, Among, mark, field_marks, ActsFollow, Avoids-append, FirstSays, IsHeld, IsSorted, Within-append, acts_none, all_attribute_records, all_keep, all_variable_records, avoided-avoids, chain_clear, changed_put, edit_then, first_hold, first_said, keep_unused, keeps_within, none_in_use, owned_once_if, part_clear, places-sized, placing_marks, read_now, same_link, sizes_by_tiles, takes_edit, within-within, or_cases, filled_content, filled_edit, listed_before, listed_marks, loose_away, second, unlike, cdr_increment, cdr_release, cdr_version, cdr_gdr_offset, gdr_eof, gdr_leap_second_last_updated, gdr_num_attr, gdr_nr_vars, gdr_nz_vars, gdr_r_dim_sizes, gdr_rfu_c, gdr_rfu_e, gdr_uir_head, uir_next_uir, uir_prev_uir, gdr_adr_head, gdr_r_vdr_head, gdr_z_vdr_head, MakesGdr, gdr_fields}
-use Rattle.cdf_edits.proofs.Common.{AreTiles, Holds, IsGiven, Unused, content_of, eof, flags, is_a-from, leb-true, lt-leb, majority_of, owned_by, read_types, sealed_keeps, unused, unused_records, with_space}
+use Rattle.cdf_vars.proofs.Common.{Act, ActsFollow, AllKeep, Among, AreTiles, Avoids-append, Away, Bool, Changed, DataSet, Edit, Field, Fills, FirstSays, Follows, FreedStay, Gave, Good, HasShape, Holds, In, IsChain, IsGiven, IsGoodByShape, IsHeld, IsSorted, IsSound, List, Majority, MakesGdr, Mark, MovesForRoom, Shape, StaysOrSays, Took, Unused, Within-append, WritesHeads, [], acts_none, acts_took, all_attribute_records, all_keep, all_variable_records, ap, apart, are_bad_sizes, arith, avoided, avoided-avoids, away-avoids, away-within, byte, cast_signed, cdr_encoding, cdr_flags, cdr_gdr_offset, cdr_increment, cdr_release, cdr_type, cdr_version, chain_clear, changed_put, content, content_is, content_of, counted, drop, drop-put_there, edit_then, either, encoding_at, end_now, eof, false, field_marks, filled_content, filled_edit, filled_size, filled_sound, first_hold, first_said, fixed_size, flags, gdr_adr_head, gdr_eof, gdr_fields, gdr_fits, gdr_leap_second_last_updated, gdr_nr_vars, gdr_num_attr, gdr_nz_vars, gdr_offset, gdr_r_dim_sizes, gdr_r_max_rec, gdr_r_num_dims, gdr_r_vdr_head, gdr_rfu_c, gdr_rfu_e, gdr_type, gdr_typed, gdr_uir_head, gdr_z_vdr_head, good_by_its_shape, good_eof, good_is_sound, good_long, has_bit, if◌then◌else◌, image_limit, inl, inr, is_a-from, is_empty_set, is_in, is_late, is_positive, is_record_type, is_some, keep_attributes, keep_file, keep_unused, keeps_fields, keeps_within, le-leb, leb-true, length, length-drop, length-put, length-take, length-words, list_all, list_chain, listed_before, listed_marks, loose_away, lt-leb, made_edit, majority_of, making_marks, map, mark, moved_for_room, nat_le, nat_tests, ne_eqb, none_in_use, not, number, of_4_bytes, or_cases, owned_by, owned_once_if, owned_records, part_clear, place_in, places-sized, placing_marks, put, r_num_dims, r_sizes, read_now, read_types, record_type, refl, rules_of_good, same_link, sealed_keeps, sealed_kept, second, shape, shape_is, shorter, size_at, sizes_by_tiles, small_signed, space_fields, subst, sym, takes_edit, the_one, times, touch, touched_field, true, type_at, uir_next_uir, uir_prev_uir, uir_type, unlike, unmarked-away, unused, unused_records, w32, with_bits, with_field, with_space, within, within-within, word, word-put_inside, word_kept, words, words_kept, words_laid_out, ℕ, ◌*◌, ◌++◌, ◌+◌, ◌-◌, ◌<◌, ◌==◌, ◌^◌, ◌∙◌, ◌∷◌, ◌≡◌, ◌≢◌, ◌≤◌}
+use Rattle.std.proofs.Common.{◌||◌}
 use Rattle.cdf_model.specs.declared.answer.Reply.TheVariants as replies
 use Rattle.cdf_model.specs.declared.command.Command.TheVariants as commands
-use Rattle.cdf_edits.specs.Commands.Allowances.{FreedStay, Stays, StaysOrSays, space_fields}
+use Rattle.cdf_edits.specs.Commands.Allowances.{Stays}
 use Rattle.cdf_edits.specs.Commands.Setup.{majority_bit, setup_changes, space_taken}
 use Rattle.cdf_edits.specs.Space.Taking.{IsTaken}
 use Rattle.cdf_edits.proofs.Edits.EmptySet.{times_with, gdr_once, others_none, empty_shape, empty_sound, is_empty}
 use Rattle.cdf_edits.proofs.Edits.FieldWritten.{Stands, stands_fixed, field_in, still_stands, still_says, touched_edit, written_edit, written_long, written_reads}
 use Rattle.cdf_edits.proofs.Edits.FreedRecord.{FreesRecord, as_long_now, behind_links, freed_acts, freed_bytes, freed_edit, freed_keeps_unused, freed_type, gdr_beside, given, given_marks, gives, records_now}
-use Rattle.cdf_space.proofs.Filling.{word-put_inside}
 use Rattle.cdf_format.proofs.Pieces.{word-piece}
 use Rattle.cdf_vars.proofs.SetUpAnswers.{set_up, step_goes, taken_lies}
 use Rattle.cdf_vars.proofs.Sizes.{fine_sizes, positive_sizes, sizes_small}

@@ -1,7 +1,6 @@
 -- Sizes of dimensions that are not refused.
-use Rattle.std.proofs.Common.{◌≡◌, ℕ, ◌^◌, ◌<◌, ◌≤◌, List, [], ◌∷◌, length, true, false, ◌||◌, refl, arith}
-use Rattle.cdf_vars.proofs.Common.{nat_tests, list_any, list_all, ◌==◌, nat_lt, Each, signed_limit, are_bad_sizes, is_positive, le-leb, or_parts}
-use Rattle.std.proofs.lemmas.Bool.{ltb-false, and_from}
+use Rattle.cdf_vars.proofs.Common.{Each, List, [], and_from, are_bad_sizes, arith, false, is_positive, le-leb, length, list_all, list_any, ltb-false, nat_lt, nat_tests, or_parts, refl, signed_limit, true, ℕ, ◌<◌, ◌==◌, ◌^◌, ◌∷◌, ◌≡◌, ◌≤◌}
+use Rattle.std.proofs.Common.{◌||◌}
 use Rattle.cdf_model.specs.Limits.{dimension_limit}
 
 abbrev pub IsSize : ℕ → Type 0

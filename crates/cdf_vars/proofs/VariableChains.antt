@@ -1,13 +1,9 @@
 -- The chains of the variables, as a good image has them.
-use Rattle.std.proofs.Common.{◌≡◌, ℕ, ◌+◌, ◌<◌, ◌≤◌, List, length, sym, ap, subst, ◌∙◌, arith}
-use Rattle.cdf_vars.proofs.Common.{length-append, shapes_of, vdr_type, counted_in, head_of, members_of, HasChain, HolderStands, counted_before, kind_chain, IsChain, number, size_at, fixed_size, Shape, vdrs, shape, HasShape, In, Good, linkable-type, IsGoodByShape, good_by_its_shape, rules_of_good, tile_lies, Kind, R, Z, chain_of}
+use Rattle.cdf_vars.proofs.Common.{Good, HasChain, HasShape, HolderStands, In, IsChain, IsGoodByShape, Kind, List, R, Shape, Z, ap, arith, chain_of, counted_before, counted_in, fixed_size, good_by_its_shape, head_of, kind_chain, length, length-append, length-le_from_distinct, length_tiles, linkable-in, linkable-type, members_of, number, rules_of_good, shape, shapes_of, size_at, subst, sym, tile_lies, vdr_type, vdrs, ℕ, ◌+◌, ◌<◌, ◌∙◌, ◌≡◌, ◌≤◌}
 use Rattle.cdf_edits.proofs.Edits.ChainsOfShape.{IsOf, has_chain, members_are}
 use Rattle.cdf_edits.proofs.Edits.UnlinkedVariable.{in_holder}
 use Rattle.cdf_format.specs.Sealed.{trailer, sealed}
-use Rattle.cdf_format.proofs.ChainsLemmas.{linkable-in}
-use Rattle.cdf_format.proofs.Members.{length-le_from_distinct}
 use Rattle.cdf_format.proofs.Tests.{le_of, eq_of}
-use Rattle.cdf_format.proofs.TilesLemmas.{length_tiles}
 
 -- the fixed part of a VDR
 least_size : (kind : Kind) → 340 ≤ fixed_size (vdr_type kind)

@@ -1,30 +1,16 @@
 -- The variable of a name, by what is kept of the variables, in the data set, and among those of its kind; and where it becomes another one: what is kept then, and the commands that change it where its VDR stands.
-use Rattle.std.proofs.Common.{◌≡◌, ℕ, zero, suc, ◌<◌, List, [], ◌∷◌, length, map, true, Option, Some, None, is_some, get_or, bytes_eq, refl, sym, ap, ap₂, subst, ◌∙◌, arith, ◌+◌, ◌≤◌, ◌++◌, false, not, pos, w32, inl}
-use Rattle.cdf_vars.proofs.Common.{length-map, same_Some, slice_get, option_map, shapes_of, Allowances, Only, stays_own, content, variable_of, VariableShape, shape, vdrs, Shape, Good, good_is_sound, good_by_its_shape, Kind, R, Z, DataSet, Variable, Found, variable_named, variables_of, is_among, is_bad_name, variable_names, with_variables, VarId, found_among, id_of, Known, Knows, KnowsKind, known_of, KnownKind, cut, got-middle, StandsAmong, in_middle, sound, typed, In, le-ltb, cast_signed, cast_unsigned, ◌==◌, nat_lt, slice_set, Done, Plain, Command, RenameVar, SetBlocking, Go, image_limit, signed_limit, ByStep, step, with_variable, field_reads4, length-with_field, other_bytes, LiesIn, integer4, name_in, with_field, Field, vdr_blocking_factor, vdr_name, absent-split, Answers, Does, allowances, IsFilled, Mark, Follows, only_reads, gone, fine_has_no_zeros, fine_is_short, fine_is_some, kind_type, with_shapes, beside_in, OthersStay, IsVdr, variable_at, variable_is}
-use Rattle.std.proofs.lemmas.List.{map-set}
+use Rattle.cdf_vars.proofs.Common.{Allowances, Answers, ByStep, Command, DataSet, Does, Done, EditsVdr, Field, Follows, Found, Go, Good, In, IsBeside, IsFilled, IsVdr, Kind, Known, KnownKind, Knows, KnowsKind, LiesIn, List, Mark, MayRename, None, Only, Option, OthersStay, OwnAllowances, Plain, R, RenameVar, RenamesVariable, SetBlocking, Shape, Some, StandsAmong, VarId, Variable, VariableShape, Z, [], absent-split, allowances, ap, ap₂, arith, beside_in, bytes_eq, cast_signed, cast_unsigned, content, content_replaced, cut, false, field_reads4, fine_has_no_zeros, fine_is_short, fine_is_some, follows_by, found_among, found_in, found_of, get_or, gone, good_by_its_shape, good_is_sound, good_now, got-map, got-middle, id_of, image_limit, in_middle, inl, integer4, is_among, is_bad_name, keeps_vdr, kind_type, known_of, le-ltb, length, length-map, length-with_field, map, map-set, name_in, name_reads, names_of, nat_lt, no_block, not, number_of, numbered, of_named, of_variable, only_reads, option_map, option_or, other_bytes, own_names_apart, own_ruled, pos, position, refl, rename_var_changes, same_Some, same_shape, set_blocking_changes, shape, shapes_of, signed_limit, slice_get, slice_get_within, slice_set, sound, splices, stays_all, stays_own, step, subst, suc, sym, to_z_pos, true, typed, variable_at, variable_is, variable_named, variable_names, variable_of, variables_of, vdr_blocking_factor, vdr_name, vdrs, with_field, with_name, with_shapes, with_variable, with_variables, zero, ℕ, ◌++◌, ◌+◌, ◌<◌, ◌==◌, ◌∙◌, ◌∷◌, ◌≡◌, ◌≤◌}
+use Rattle.std.proofs.Common.{is_some, w32}
 use Rattle.std.proofs.lemmas.List.Quantifiers.{position-Some}
-use Rattle.std.proofs.lemmas.Option.{slice_get_within}
-use Rattle.std.specs.List.{position}
-use Rattle.std.specs.Option.{option_or}
-use Rattle.cdf_edits.specs.Commands.Allowances.{Keeps, OwnAllowances, of_named, of_variable, stays_all}
-use Rattle.cdf_model.specs.Names.{found_in, numbered}
-use Rattle.cdf_names.specs.Names.{number_of, has_name as has_name_among}
+use Rattle.cdf_edits.specs.Commands.Allowances.{Keeps}
+use Rattle.cdf_names.specs.Names.{has_name as has_name_among}
 use Rattle.cdf_names.proofs.Keys.{number_of-keys}
-use Rattle.cdf_vars.specs.Finding.{found_of, names_of}
-use Rattle.cdf_vars.specs.Known.{MayRename}
 use Rattle.cdf_vars.proofs.VariableNames.{variables_are, absent_from}
-use Rattle.cdf_edits.proofs.Commands.ListParts.{got-map}
-use Rattle.cdf_edits.proofs.Edits.VdrEdited.{EditsVdr, content_replaced, follows_by, good_now, keeps_vdr, no_block, own_ruled, same_shape, splices}
 use Rattle.cdf_vars.proofs.VariableChains.{vdr_inside, few_places}
-use Rattle.std.proofs.lemmas.Int.{to_z_pos}
-use Rattle.cdf_fields.proofs.NamesWritten.{name_reads}
 use Rattle.cdf_format.specs.AttributeRules.{has_name}
-use Rattle.cdf_format.specs.Fields.{with_name}
 use Rattle.cdf_edits.specs.Commands.Named.{IsVariable}
-use Rattle.cdf_edits.specs.Commands.Variables.{RenamesVariable, rename_var_changes, set_blocking_changes}
 use Rattle.cdf_edits.proofs.Edits.NameWritten.{length-with_name, name_changed, name_filled}
 use Rattle.cdf_edits.proofs.Edits.VariableKept.{vdr_allowance}
-use Rattle.cdf_edits.proofs.Edits.VariableNames.{IsBeside, own_names_apart}
 use Rattle.cdf_edits.proofs.Edits.VdrWritten.{WritesVdr, blocking_same, edits, marks_within, meaning, name_same}
 
 -- ---- which variable of the data set it is

@@ -1,10 +1,5 @@
 -- The names of the variables of a good image, as they are read where their descriptors stand.
-use Rattle.std.proofs.Common.{◌≡◌, ◌≢◌, ℕ, ◌+◌, List, [], ◌∷◌, map, false, bytes_eq, refl, sym, ap, ap₂, subst, ◌∙◌, arith, inl, inr}
-use Rattle.cdf_vars.proofs.Common.{or_parts, map-append, shapes_of, vdr_type, content, variable_of, name_at, name_field, name_in, type_at, LiesIn, vdr_name, Shape, VariableShape, shape, variables, vdrs, HasShape, In, Distinct, Good, linkable-type, IsGoodByShape, good_by_its_shape, In-append_left, In-append_right, absent-split, content_is, Item, Kind, R, Z, DataSet, Variable, variable_items, is_among, variable_names, variables_of, AreNamed, items_at}
-use Rattle.std.specs.List.{AllByRecursion, IsDistinct}
-use Rattle.cdf_edits.proofs.Edits.VariableNames.{names_apart}
-use Rattle.cdf_format.proofs.Members.{In-append}
-use Rattle.cdf_format.proofs.NameRules.{names_at}
+use Rattle.cdf_vars.proofs.Common.{AllByRecursion, AreNamed, DataSet, Distinct, Good, HasShape, In, In-append, In-append_left, In-append_right, IsDistinct, IsGoodByShape, Item, Kind, LiesIn, List, R, Shape, Variable, VariableShape, Z, [], absent-split, ap, ap₂, arith, bytes_eq, content, content_is, false, good_by_its_shape, inl, inr, is_among, items_at, linkable-type, map, map-append, name_at, name_field, name_in, names_apart, names_at, or_parts, refl, shape, shapes_of, subst, sym, type_at, variable_items, variable_names, variable_of, variables, variables_of, vdr_name, vdr_type, vdrs, ℕ, ◌+◌, ◌∙◌, ◌∷◌, ◌≡◌, ◌≢◌}
 use Rattle.cdf_model.specs.declared.item.Item.TheVariants as items
 use Rattle.cdf_vars.proofs.VariableChains.{few_places, own_chain, vdr_inside}
 

@@ -1,11 +1,7 @@
 -- What `get-rec` and `get-val` show are whole values.
-use Rattle.std.proofs.Common.{◌≡◌, ℕ, ◌*◌, ◌%◌, ◌≤◌, List, ◌∷◌, [], length, map, take, drop, Bool, true, false, Option, Some, None, refl, sym, ap, subst, ◌∙◌, arith}
-use Rattle.cdf_vars.proofs.Common.{length-drop, length-take, same_Some, option_map, nat_lt, shapes_of, content, variable_of, shape, vdrs, record_bytes, Good, NoSuchVar, IndexOutOfRange, RecordOutOfRange, Reply, Kind, R, Z, Go, DataSet, Variable, record_number_limit, Found, variable_named, variables_of, value_count, read, get_rec_step, get_val_step, place_in_record, value_size, id_of, Known, KnownKind, Knows, IsVdr, variable_is, read_long}
-use Rattle.std.proofs.Math.Nat.{mul-mod_right}
+use Rattle.cdf_vars.proofs.Common.{Answer, Bool, DataSet, Found, Go, Good, IndexOutOfRange, IsVdr, Kind, Known, KnownKind, Knows, List, NoSuchVar, None, Option, R, RecordOutOfRange, Reply, Some, Variable, Z, [], ap, arith, content, drop, false, get_rec_step, get_val_step, given, id_of, length, length-drop, length-take, map, mul-mod_right, nat_lt, option_map, place_in_record, read, read_long, record_bytes, record_number_limit, refl, same_Some, shape, shapes_of, some_elements, subst, sym, take, true, unless, value_count, value_size, variable_is, variable_named, variable_of, variables_of, vdrs, ℕ, ◌%◌, ◌*◌, ◌∙◌, ◌∷◌, ◌≡◌, ◌≤◌}
 use Rattle.cdf_model.specs.declared.answer.Reply.TheVariants as replies
-use Rattle.cdf_model.specs.Answers.{Answer, given, unless}
 use Rattle.cdf_model.specs.Whole.{HasWholeValues, IsWhole}
-use Rattle.cdf_var_records.proofs.RecordForms.{some_elements}
 use Rattle.cdf_vars.proofs.RecordPlaces.{place_below, value_inside}
 use Rattle.cdf_vars.proofs.VariableFound.{found_is}
 use Rattle.cdf_vars.proofs.VariableFound.{Parts, the_parts}

@@ -1,9 +1,6 @@
 -- What a call answers that carries out a command: the outcome of its step, over the image that the step leads to.
-use Rattle.std.proofs.Common.{◌≡◌, ℕ, ◌+◌, ◌<◌, ◌≤◌, List, length, Bool, true, false, refl, sym, ap, subst, map, arith}
-use Rattle.cdf_edits.proofs.Common.{le-ltb, lt-ltb, Done, Refused, Reason, Reply, Command, Go, Refuse, DataSet, ByStep, step, content, Follows, only_reads, Answers, room, sum, Plain, owned, shape, Good, AllKeep, Does, allowances, gave, ActsFollow}
+use Rattle.cdf_edits.proofs.Common.{ActsFollow, AllKeep, Answers, Bool, ByStep, Command, DataSet, Does, Done, Follows, Go, Good, List, MovesIf, Plain, Reason, Refuse, Refused, Reply, allowances, ap, arith, content, false, gave, is_accepted, is_full, le-ltb, length, lt-ltb, map, only_reads, outcome, owned, refl, room, shape, step, subst, sum, sym, true, ℕ, ◌+◌, ◌<◌, ◌≡◌, ◌≤◌}
 use Rattle.cdf_model.specs.declared.answer.Reason.TheVariants.{TooLarge}
-use Rattle.cdf_model.specs.Answers.{is_accepted, outcome}
-use Rattle.cdf_edits.specs.Answers.{MovesIf, is_full}
 use Rattle.cdf_edits.proofs.Edits.ActsThen.{taken-gave}
 
 -- a step that refuses

@@ -1,8 +1,6 @@
 -- A chain whose head and links stay, by the allowances of a command, has the same records.
-use Rattle.std.proofs.Common.{◌≡◌, ℕ, suc, ◌+◌, ◌-◌, ◌<◌, ◌≤◌, List, [], ◌∷◌, ◌++◌, length, map, Bool, true, false, ◌||◌, sym, ap, subst, ◌∙◌, arith, inl, inr}
-use Rattle.cdf_edits.proofs.Common.{and_parts, ne_eqb, list_all, nat_le, ◌==◌, if◌then◌else◌, Kind, R, Z, Allowance, Anything, Only, OutsideFields, Keeps, Allowances, AllKeep, shapes_of, vdr_type, Act, byte, IsChain, next_field, next_of, number, size_at, type_at, gdr_offset, Owner, OneAttribute, OneVariable, attribute_records, variable_records, unused_records, owned_by, owned_by_attributes, owned_by_variables, owned, Unused, Field, cdr_gdr_offset, gdr_adr_head, gdr_r_vdr_head, gdr_z_vdr_head, cdr_type, gdr_type, adr_type, r_vdr_type, z_vdr_type, AttributeShape, VariableShape, Shape, HasShape, adrs, vdrs, In, AreTiles, word_kept, is_a-in, is_a-type, linkable-in, linkable-long, linkable-type, some_place, le_of}
-use Rattle.std.proofs.lemmas.Bool.{or_cases}
-use Rattle.cdf_format.proofs.ChainsLemmas.{leads_unique}
+use Rattle.cdf_edits.proofs.Common.{Act, AllKeep, Allowance, Allowances, Anything, AreTiles, AttributeShape, Bool, Field, HasShape, In, IsChain, Keeps, Kind, List, OneAttribute, OneVariable, Only, OutsideFields, Owner, R, Shape, Unused, VariableShape, Z, [], adr_type, adrs, and_parts, ap, arith, attribute_records, byte, cdr_gdr_offset, cdr_type, false, gdr_adr_head, gdr_offset, gdr_r_vdr_head, gdr_type, gdr_z_vdr_head, if◌then◌else◌, inl, inr, is_a-in, is_a-type, le_of, leads_unique, length, linkable-in, linkable-long, linkable-type, list_all, map, nat_le, ne_eqb, next_field, next_of, number, or_cases, owned, owned_by, owned_by_attributes, owned_by_variables, r_vdr_type, shapes_of, size_at, some_place, subst, suc, sym, true, type_at, unused_records, variable_records, vdr_type, vdrs, word_kept, z_vdr_type, ℕ, ◌++◌, ◌+◌, ◌-◌, ◌<◌, ◌==◌, ◌∙◌, ◌∷◌, ◌≡◌, ◌≤◌}
+use Rattle.std.proofs.Common.{◌||◌}
 use Rattle.cdf_edits.proofs.Edits.StepEdits.{fixed_long, gdr_long, gdr_typed}
 use Rattle.cdf_edits.proofs.Frame.LinksStay.{leads_same}
 

@@ -1,10 +1,7 @@
 -- What a name has that is not bad.
-use Rattle.std.proofs.Common.{◌≡◌, ◌≢◌, ℕ, ◌≤◌, List, [], ◌∷◌, length, Bool, true, false, ◌||◌, eq-eqb, true≢false, refl, sym, ◌∙◌}
-use Rattle.std.proofs.lemmas.Bool.{ltb-false}
+use Rattle.cdf_edits.proofs.Common.{All, Bool, List, [], eq-eqb, false, is_bad_name, length, list_any, ltb-false, name_limit, nat_lt, refl, sym, true, true≢false, ℕ, ◌==◌, ◌∙◌, ◌∷◌, ◌≡◌, ◌≢◌, ◌≤◌}
+use Rattle.std.proofs.Common.{◌||◌}
 use Rattle.std.proofs.lemmas.List.Elements.{All-nil, All-cons}
-use Rattle.std.specs.List.{All, list_any}
-use Rattle.std.specs.Prelude.{nat_lt, ◌==◌}
-use Rattle.cdf_model.specs.Names.{name_limit, is_bad_name}
 
 or_false : (p q : Bool) → (p || q) ≡ false → (p ≡ false) × (q ≡ false)
 or_false true q e = absurd cc

@@ -1,6 +1,5 @@
 -- Records whose bytes stay keep what any command has to leave of them.
-use Rattle.std.proofs.Common.{ℕ, suc, ◌+◌, List, [], ◌∷◌, ◌++◌, refl, arith, inl, inr}
-use Rattle.cdf_edits.proofs.Common.{flat_map, Kind, In, AttributeShape, VariableShape, shape, Owner, OneAttribute, OneVariable, attribute_records, variable_records, owned_by, owned_by_attributes, owned_by_variables, Allowance, Anything, Only, Keeps, Allowances, allowance, AllKeep, Act, In-append_left, In-append_right, size_kept}
+use Rattle.cdf_edits.proofs.Common.{Act, AllKeep, Allowance, Allowances, Anything, AttributeShape, In, In-append_left, In-append_right, Keeps, Kind, List, OneAttribute, OneVariable, Only, Owner, VariableShape, [], allowance, arith, attribute_records, flat_map, inl, inr, owned_by, owned_by_attributes, owned_by_variables, refl, shape, size_kept, suc, variable_records, ℕ, ◌++◌, ◌+◌, ◌∷◌}
 use Rattle.cdf_edits.proofs.Frame.Meaning.{Kept}
 
 pub AllKeep-append : (b now : List ℕ) (may : Allowances) (acts : List Act) (xs ys : List (ℕ × Owner)) → AllKeep b now may acts xs → AllKeep b now may acts ys → AllKeep b now may acts (xs ++ ys)

@@ -1,7 +1,6 @@
 -- A list at a number.
-use Rattle.std.proofs.Common.{◌≡◌, ℕ, zero, suc, ◌+◌, ◌-◌, ◌<◌, List, [], ◌∷◌, ◌++◌, length, map, take, drop, get_or, Option, Some, None, refl, sym, ap, ap₂, subst, append-nil, ◌∙◌, arith, inl, inr}
-use Rattle.cdf_edits.proofs.Common.{same_Some, length-append, length-map, map-append, take_at, remove, slice_get, In}
-use Rattle.std.specs.List.{last_or}
+use Rattle.cdf_edits.proofs.Common.{In, List, None, Option, Some, [], ap, append-nil, ap₂, arith, drop, get_or, inl, inr, last_or, length, length-append, length-map, map, map-append, refl, remove, same_Some, slice_get, subst, suc, sym, take_at, zero, ℕ, ◌++◌, ◌+◌, ◌-◌, ◌<◌, ◌∙◌, ◌∷◌, ◌≡◌}
+use Rattle.std.proofs.Common.{take}
 
 -- the elements before a number, the one with it, and those after
 pub record Cut {A : Type 0} (xs : List A) (n : ℕ) : Type 0 where

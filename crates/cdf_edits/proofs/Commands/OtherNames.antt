@@ -1,18 +1,9 @@
 -- What the step of a command leaves of the names of the attributes and of the variables where it is not on them.
-use Rattle.std.proofs.Common.{◌≡◌, ℕ, pos, List, [], ◌∷◌, ◌++◌, map, not, Bool, true, false, ◌||◌, Option, Some, None, Result, Ok, Err, refl, ap₂, ◌∙◌}
-use Rattle.cdf_edits.proofs.Common.{remove, if◌then◌else◌, nat_le, nat_lt, Reason, Reply, Command, DataType, Majority, Kind, R, Z, entries_of, is_global, with_attribute, with_entries, Go, Refuse, Attribute, DataSet, Entry, Variable, extent, encoding_at, signed_limit, Found, attribute_named, attribute_names, is_bad_name, variable_named, variables_of, with_variables, item_at, with_item, without, read, ByStep, step, notation_of, attribute_without, is_empty_set, is_on_attributes, is_on_variables, only_reads}
-use Rattle.std.specs.Option.{is_none}
+use Rattle.cdf_edits.proofs.Common.{Answer, Attribute, Bool, ByStep, Command, DataSet, DataType, Entry, Err, Found, Go, Kind, List, Majority, None, Ok, Option, R, Reason, Refuse, Reply, Result, Route, Some, Variable, Z, [], ap₂, are_bad_sizes, attribute_named, attribute_names, attribute_without, cannot_be_put, encoding_at, entries_of, entries_without, entry_by, extent, false, given, has_records, if◌then◌else◌, is_among, is_bad_name, is_bad_shape, is_empty_set, is_global, is_none, is_on_attributes, is_on_variables, is_out_of_range, is_wrong_scope, item_at, map, nat_le, nat_lt, new_attribute, new_variable, notation_of, only_reads, place_in_record, pos, put_rec_step, put_record, put_val_step, read, refl, remove, set_pad_step, setup_step, signed_limit, step, true, unless, value_count, valued, values_in, var_step, variable_named, variable_names, variables_of, with_attribute, with_entries, with_item, with_record, with_value, with_variable, with_variables, without, without_records, without_variable, ℕ, ◌++◌, ◌∙◌, ◌∷◌, ◌≡◌}
+use Rattle.std.proofs.Common.{not, ◌||◌}
 use Rattle.cdf_model.specs.declared.answer.Reason.TheVariants as reasons
 use Rattle.cdf_model.specs.declared.answer.Reply.TheVariants as replies
 use Rattle.cdf_model.specs.declared.command.Command.TheVariants as commands
-use Rattle.cdf_model.specs.AttributeSteps.{entry_by, is_out_of_range, is_wrong_scope, new_attribute}
-use Rattle.cdf_model.specs.Answers.{Answer, unless, given, valued}
-use Rattle.cdf_model.specs.Names.{is_among, variable_names}
-use Rattle.cdf_model.specs.Place.{value_count}
-use Rattle.cdf_model.specs.RecordSteps.{cannot_be_put, place_in_record, put_rec_step, put_record, put_val_step, with_record, with_value, without_records}
-use Rattle.cdf_model.specs.Step.{Route}
-use Rattle.cdf_model.specs.Values.{values_in}
-use Rattle.cdf_model.specs.VariableSteps.{are_bad_sizes, entries_without, has_records, is_bad_shape, new_variable, set_pad_step, setup_step, var_step, with_variable, without_variable}
 
 -- ---- of the data set that an answer makes
 

@@ -1,13 +1,9 @@
 -- A command leaves the names and the places of the attributes and of the variables where it is not on them.
-use Rattle.std.proofs.Common.{◌≡◌, ℕ, List, [], ◌++◌, length, map, Bool, true, false, ◌&&◌, Option, Some, None, eq-eqb, refl, sym, ap, subst, ◌∙◌, inl, inr}
-use Rattle.cdf_edits.proofs.Common.{and_parts, eqb-true, length-map, ◌==◌, if◌then◌else◌, Command, Majority, Kind, R, Z, DataSet, Variable, Found, variable_named, variables_of, is_empty_set, Only, Allowances, stays_all, shapes_of, r_max_rec_field, space_fields, entry_allowance, kind_of_entries, allowances, is_on_attributes, is_on_variables, put_changes, del_var_changes, entries_allowance, fields_beside, is_global_attribute, set_pad_changes, variables_gdr_fields, Follows, only_reads, next_field, content, attribute_of, variable_of, type_at, gdr_adr_head, adr_type, AttributeShape, VariableShape, Shape, HasShape, adrs, vdrs, shape, Good, good_is_sound, content_is}
-use Rattle.std.proofs.lemmas.Bool.{cases_Bool}
-use Rattle.std.proofs.lemmas.List.{nil_from_length}
+use Rattle.cdf_edits.proofs.Common.{Allowances, AttributeShape, AttributesStay, Bool, Command, DataSet, Follows, Found, Good, HasShape, Kind, List, Majority, None, Only, Option, R, Shape, Some, Variable, VariableShape, VariablesStay, Z, [], adr_type, adrs, allowances, and_parts, ap, attribute_of, cases_Bool, content, content_is, del_var_changes, entries_allowance, entry_allowance, eq-eqb, eqb-true, false, fields_beside, gdr_adr_head, good_is_sound, if◌then◌else◌, inl, inr, is_empty_set, is_global_attribute, is_on_attributes, is_on_variables, kind_of_entries, length, length-map, map, next_field, nil_from_length, only_reads, put_changes, r_max_rec_field, refl, rename_var_changes, set_blocking_changes, set_pad_changes, shape, shapes_of, space_fields, stays_all, subst, sym, true, type_at, variable_named, variable_of, variables_gdr_fields, variables_of, vdrs, ℕ, ◌++◌, ◌==◌, ◌∙◌, ◌≡◌}
+use Rattle.std.proofs.Common.{◌&&◌}
 use Rattle.cdf_model.specs.declared.command.Command.TheVariants as commands
 use Rattle.cdf_edits.specs.Commands.Cuts.{del_recs_changes, set_compress_changes, set_sparse_changes}
-use Rattle.cdf_edits.specs.Commands.Others.{AttributesStay, VariablesStay}
 use Rattle.cdf_edits.specs.Commands.Reindex.{reindex_changes}
-use Rattle.cdf_edits.specs.Commands.Variables.{rename_var_changes, set_blocking_changes}
 use Rattle.cdf_edits.proofs.Commands.ChainsStay.{spares, SparesAttributes, SparesVariables, adrs_stay, vdrs_stay}
 use Rattle.cdf_edits.proofs.Commands.OtherNames.{OfRoute, SameNames, SameVariables, same_names, same_variables, setup_attributes, setup_empty}
 

@@ -1,9 +1,7 @@
 -- A good image is good by its shape, and a command that only reads leaves it.
-use Rattle.std.proofs.Common.{◌≡◌, ℕ, List, [], ◌∷◌, map, true, refl, arith, inl, inr}
-use Rattle.cdf_edits.proofs.Common.{Reply, Command, Go, ByStep, step, Allowance, Anything, Only, Keeps, Allowances, allowance, AllKeep, content, Does, allowances, Act, only_reads, Follows, Owner, owned, shape, In, Good, good_by_its_shape, good_is_sound}
+use Rattle.cdf_edits.proofs.Common.{Act, AllKeep, Allowance, Allowances, Anything, ByStep, Command, Does, Follows, Go, Good, In, Keeps, List, Only, Owner, Reply, [], allowance, allowances, arith, content, good_by_its_shape, good_is_sound, inl, inr, map, only_reads, owned, owned_stand, refl, shape, step, true, ℕ, ◌∷◌, ◌≡◌}
 use Rattle.cdf_model.specs.declared.command.Command.TheVariants as commands
 use Rattle.cdf_edits.proofs.Space.ActsLeave.{no_acts}
-use Rattle.cdf_format.proofs.Owning.{owned_stand}
 
 -- a record keeps itself, whatever may change
 keeps_itself : (b : List ℕ) (place : ℕ) (a : Allowance) → In place (shape b).records → Keeps b b place a

@@ -1,8 +1,5 @@
 -- The codes of the types of values, as they are stored.
-use Rattle.std.proofs.Common.{◌≡◌, ◌^◌, ◌<◌, Some, refl, lit<}
-use Rattle.cdf_edits.proofs.Common.{w32, cast_signed, DataType, Byte, type_of}
-use Rattle.cdf_model.specs.declared.data_type.DataType.TheVariants.{Int1, Int2, Int4, Int8, UInt1, UInt2, UInt4, Real4, Real8, Epoch, Epoch16, TimeTt2000, Float, Double, Char, UChar}
-use Rattle.cdf_model.specs.Types.{code_of}
+use Rattle.cdf_edits.proofs.Common.{Byte, Char, DataType, Double, Epoch, Epoch16, Float, Int1, Int2, Int4, Int8, Real4, Real8, Some, TimeTt2000, UChar, UInt1, UInt2, UInt4, cast_signed, code_of, lit<, refl, type_of, w32, ◌<◌, ◌^◌, ◌≡◌}
 
 -- a code means its type
 pub type_back : (t : DataType) → type_of (cast_signed w32 (code_of t)) ≡ Some t

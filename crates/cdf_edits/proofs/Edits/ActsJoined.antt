@@ -1,6 +1,5 @@
 -- Acts that follow from one image to another, and from there on to a third, follow from the first to the third, where they only take.
-use Rattle.std.proofs.Common.{◌≡◌, ◌⊎◌, ℕ, ◌+◌, ◌-◌, ◌<◌, ◌≤◌, List, [], ◌∷◌, ◌++◌, length, false, refl, sym, ap, subst, ◌∙◌, arith, inl, inr}
-use Rattle.cdf_edits.proofs.Common.{fold-append, fold, ◌&&◌, nat_le, nat_lt, Stays, is_taken, Act, Took, Gave, SpaceLeft, HasLeft, sized, used_records, loose_records, space_before, after_act, AreActs, Happens, lies_in_taken, RestStays, ActsFollow, unused, place_for, linkable-in, tile_lies, tiles_lie_apart, byte, size_at, uir_next_uir, uir_prev_uir, uir_type, Each, HasShape, shape, In, Distinct}
+use Rattle.cdf_edits.proofs.Common.{Act, ActsFollow, AreActs, Distinct, Each, Gave, Happens, HasLeft, HasShape, In, List, RestStays, SpaceLeft, Stays, Took, [], after_act, ap, arith, byte, false, fold, fold-append, inl, inr, is_taken, length, lies_in_taken, linkable-in, loose_records, nat_le, nat_lt, place_for, refl, shape, size_at, sized, space_before, subst, sym, tile_lies, tiles_lie_apart, uir_next_uir, uir_prev_uir, uir_type, unused, used_records, ℕ, ◌&&◌, ◌++◌, ◌+◌, ◌-◌, ◌<◌, ◌∙◌, ◌∷◌, ◌≡◌, ◌≤◌, ◌⊎◌}
 use Rattle.cdf_edits.proofs.Edits.ActsThen.{each_in}
 use Rattle.cdf_edits.proofs.Space.ActsLeave.{each, among_sized, no_rest}
 use Rattle.cdf_edits.specs.Space.Acts.{Among}

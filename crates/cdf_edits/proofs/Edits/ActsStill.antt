@@ -1,6 +1,5 @@
 -- Acts that led to an image lead on to one that an edit makes of it which changes no unused record.
-use Rattle.std.proofs.Common.{◌≡◌, ◌≢◌, ℕ, ◌+◌, ◌≤◌, ◌<◌, List, [], length, true, sym, ap, subst, ◌∙◌, arith, inl, inr}
-use Rattle.cdf_edits.proofs.Common.{eqb-true, fold, ◌==◌, Edit, Mark, unmarked, Act, ActsFollow, SpaceLeft, RestStays, after_act, loose_records, sized, space_before, used_records, byte, size_at, type_at, record_size, record_type, uir_prev_uir, uir_type, HasShape, Each, shape, IsSound, In, number_kept, linkable-in, linkable-long, linkable-type, either}
+use Rattle.cdf_edits.proofs.Common.{Act, ActsFollow, Each, Edit, HasShape, In, IsSound, List, Mark, RestStays, SpaceLeft, [], after_act, ap, arith, byte, either, eqb-true, fold, inl, inr, length, linkable-in, linkable-long, linkable-type, loose_records, number_kept, record_size, record_type, shape, size_at, sized, space_before, subst, sym, true, type_at, uir_prev_uir, uir_type, unmarked, used_records, ℕ, ◌+◌, ◌<◌, ◌==◌, ◌∙◌, ◌≡◌, ◌≢◌, ◌≤◌}
 use Rattle.cdf_edits.proofs.Edits.ActsThen.{each_in}
 use Rattle.cdf_edits.proofs.Edits.Composing.{head_size, head_type}
 use Rattle.cdf_edits.proofs.Edits.EditActs.{differs}

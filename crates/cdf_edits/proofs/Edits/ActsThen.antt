@@ -1,6 +1,5 @@
 -- Acts that follow, and then a record is freed, or some one after the other.
-use Rattle.std.proofs.Common.{◌≡◌, ◌≢◌, ◌⊎◌, ℕ, ◌+◌, ◌<◌, ◌≤◌, List, [], ◌∷◌, ◌++◌, map, Bool, true, false, eq-eqb, refl, sym, ap, ap₂, subst, ◌∙◌, arith, inl, inr, append-nil, append_assoc}
-use Rattle.cdf_edits.proofs.Common.{cases_eq, ne_eqb, le-leb, lt-ltb, fold-append, fold, list_any, ◌&&◌, ◌||◌, nat_le, nat_lt, if◌then◌else◌, Same, size_at, type_at, gdr_type, uir_type, Each, HasShape, shape, IsSound, In, is_a-type, linkable-in, linkable-type, Edit, Avoids, giving_marks, Act, Took, Gave, SpaceLeft, HasLeft, sized, used_records, loose_records, space_before, back_after, taken, after_act, AreActs, Happens, lies_in_taken, RestStays, ActsFollow, gave, unused, given_to, giving, Gives, AllGiven}
+use Rattle.cdf_edits.proofs.Common.{Act, ActsFollow, AllGiven, AreActs, Avoids, Bool, Each, Edit, Gave, Gives, Happens, HasLeft, HasShape, In, IsSound, List, RestStays, Same, SpaceLeft, Took, [], after_act, ap, append-nil, append_assoc, ap₂, arith, back_after, cases_eq, eq-eqb, false, fold, fold-append, gave, gdr_type, given_to, giving, giving_marks, if◌then◌else◌, inl, inr, is_a-type, le-leb, lies_in_taken, linkable-in, linkable-type, list_any, loose_records, lt-ltb, map, nat_le, nat_lt, ne_eqb, refl, shape, size_at, sized, space_before, subst, sym, taken, true, type_at, uir_type, unused, used_records, ℕ, ◌&&◌, ◌++◌, ◌+◌, ◌<◌, ◌||◌, ◌∙◌, ◌∷◌, ◌≡◌, ◌≢◌, ◌≤◌, ◌⊎◌}
 use Rattle.cdf_edits.specs.Space.Acts.{Among, without}
 use Rattle.cdf_edits.proofs.Edits.Composing.{sizes}
 use Rattle.cdf_edits.proofs.Edits.StepEdits.{gives_edit, all_marked}

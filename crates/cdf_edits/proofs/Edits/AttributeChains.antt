@@ -1,6 +1,5 @@
 -- The attribute that has an ADR.
-use Rattle.std.proofs.Common.{◌≡◌, ℕ, List, [], ◌∷◌, ◌++◌, map, refl, sym, ap, inl, inr}
-use Rattle.cdf_edits.proofs.Common.{AttributeShape, In}
+use Rattle.cdf_edits.proofs.Common.{AttributeShape, In, List, [], ap, inl, inr, map, refl, sym, ℕ, ◌++◌, ◌∷◌, ◌≡◌}
 
 -- the attribute that has an ADR, and those before and behind it
 pub record Stands (as_ : List AttributeShape) (adr : ℕ) : Type 0 where

@@ -1,8 +1,6 @@
 -- Attributes that an edit leaves.
-use Rattle.std.proofs.Common.{◌≡◌, ℕ, ◌≤◌, ◌∙◌, List, [], ◌∷◌, ◌++◌, map, true, refl, sym, ap, subst, arith, inl, inr}
-use Rattle.cdf_edits.proofs.Common.{Attribute, linkable-long, aedr_attr_num, number_kept, flat_map, ◌&&◌, AttributeFits, IsSound, AttributeStays, is_in, is_linkable, number, size_at, type_at, attribute_shape_rows, attribute_records, adr_num, adr_name, adr_type, agr_edr_type, az_edr_type, Hold, AttributeShape, Shape, Each, HasEntries, In, linkable-in, linkable-type, In-append, In-append_left, In-append_right, names_at, Hold-append, Hold-split, both, Mark, Away, avoided, ended, all_unmarked, Edit}
+use Rattle.cdf_edits.proofs.Common.{Attribute, AttributeFits, AttributeShape, AttributeStays, Away, Each, Edit, HasEntries, Hold, Hold-append, Hold-split, In, In-append, In-append_left, In-append_right, IsSound, List, Mark, Shape, [], adr_name, adr_num, adr_type, aedr_attr_num, agr_edr_type, all_unmarked, ap, arith, attribute_records, attribute_shape_rows, avoided, az_edr_type, both, ended, flat_map, inl, inr, is_in, is_linkable, keeps_attributes, linkable-in, linkable-long, linkable-type, map, names_at, number, number_kept, refl, size_at, subst, sym, true, type_at, ℕ, ◌&&◌, ◌++◌, ◌∙◌, ◌∷◌, ◌≡◌, ◌≤◌}
 use Rattle.cdf_edits.proofs.Frame.Meaning.{FileSame, late_number}
-use Rattle.cdf_edits.specs.Edits.Marks.{keeps_attributes}
 use Rattle.cdf_edits.proofs.Edits.RecordFrame.{AttributeLives, kept_away, kept_but_link}
 use Rattle.cdf_edits.proofs.Edits.AttributeRemains.{AttributeLasts, AttributeRemains, attribute_remains}
 use Rattle.cdf_edits.proofs.Edits.StaysBut.{stays_kept, stays_link}

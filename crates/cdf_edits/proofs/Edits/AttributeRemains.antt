@@ -1,8 +1,7 @@
 -- An attribute that stays but for the link to the next one and for its number, which its entries say: it means what it meant, and keeps its rules.
-use Rattle.std.proofs.Common.{◌≡◌, ℕ, ◌+◌, ◌≤◌, List, [], ◌∷◌, ◌++◌, length, true, not, ◌&&◌, eq-eqb, refl, sym, ap, subst, ◌∙◌, arith, inl, inr}
-use Rattle.cdf_edits.proofs.Common.{next_field, ◌==◌, nat_le, before_first, flat_map, record_number_limit, with_item, entry_bytes, entry_rows, same_number, entries_rows, differ_rows, is_linkable, Leads, IsChain, scope_of, number, name_in, size_at, attribute_shape_rows, Field, adr_agr_edr_head, adr_az_edr_head, adr_scope, adr_num, adr_name, adr_ngr_entries, adr_nz_entries, aedr_attr_num, aedr_num, adr_type, agr_edr_type, az_edr_type, Hold, AttributeShape, Shape, Each, HasEntries, EntryFits, AttributeFits, IsSound, In, piece_kept, linkable-from, linkable-in, linkable-type, linkable-long, In-append_left, In-append_right, eq_of, Hold-append, Hold-split, Edit, Mark, AttributeStays}
+use Rattle.cdf_edits.proofs.Common.{AttributeFits, AttributeShape, AttributeStays, Each, Edit, EntryFits, Field, HasEntries, Hold, Hold-append, Hold-split, In, In-append_left, In-append_right, IsChain, IsSound, Leads, List, Mark, Shape, [], adr_agr_edr_head, adr_az_edr_head, adr_name, adr_ngr_entries, adr_num, adr_nz_entries, adr_scope, adr_type, aedr_attr_num, aedr_num, agr_edr_type, ap, arith, attribute_shape_rows, az_edr_type, before_first, differ_rows, entries_rows, entry_bytes, entry_rows, eq-eqb, eq_of, flat_map, inl, inr, is_linkable, length, linkable-from, linkable-in, linkable-long, linkable-type, name_in, nat_le, next_field, number, piece_kept, record_number_limit, record_size, record_type, refl, same_number, scope_of, size_at, subst, sym, true, with_item, ℕ, ◌++◌, ◌+◌, ◌==◌, ◌∙◌, ◌∷◌, ◌≡◌, ◌≤◌}
+use Rattle.std.proofs.Common.{not, ◌&&◌}
 use Rattle.cdf_format.specs.Content.{entries_of}
-use Rattle.cdf_format.specs.Records.{record_size, record_type}
 use Rattle.cdf_edits.proofs.Edits.StaysBut.{StaysBut, part_stays, field_stays}
 use Rattle.cdf_edits.proofs.Edits.StepEdits.{fixed_long}
 use Rattle.cdf_edits.proofs.Frame.LinksStay.{leads_same}

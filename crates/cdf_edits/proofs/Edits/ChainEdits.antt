@@ -1,6 +1,5 @@
 -- What a call leaves that links a record behind a chain, takes a member out of it or puts another in its place: each is an edit.
-use Rattle.std.proofs.Common.{◌≡◌, ◌≢◌, ◌⊎◌, ℕ, ◌+◌, ◌≤◌, List, [], ◌∷◌, length, eq-eqb, refl, sym, ap, subst, ◌∙◌, arith, inl, inr}
-use Rattle.cdf_edits.proofs.Common.{cases_eq, ne_eqb, Same-part, tile_lies, Leads, next_field, next_of, type_at, Field, before, link_behind, IsChain, number, size_at, fixed_size, Shape, HasShape, shape, IsSound, In, tiles, is_a-in, is_a-type, linkable-in, linkable-type, linkable-long, tiles_are, Chain, Edit, removing_marks, replacing_marks, holder_of, head_of, holder_type, type_in, members_of, HolderStands, HasChain, MayJoin, Removed, Replaced}
+use Rattle.cdf_edits.proofs.Common.{Chain, Edit, Field, HasChain, HasShape, HolderStands, In, IsChain, IsSound, Leads, List, MayJoin, Removed, Replaced, Same-part, Shape, [], ap, arith, before, cases_eq, eq-eqb, fixed_size, head_of, holder_of, holder_type, inl, inr, is_a-in, is_a-type, length, link_behind, linkable-in, linkable-long, linkable-type, members_of, ne_eqb, next_field, next_of, number, refl, removing_marks, replacing_marks, shape, size_at, subst, sym, tile_lies, tiles, tiles_are, type_at, type_in, ℕ, ◌+◌, ◌∙◌, ◌∷◌, ◌≡◌, ◌≢◌, ◌≤◌, ◌⊎◌}
 use Rattle.cdf_edits.proofs.Edits.StepEdits.{Linked, Joins, before_in, link_marked, remove_edit, replace_edit}
 use Rattle.cdf_edits.proofs.Frame.ChangedBytes.{changed_part}
 use Rattle.cdf_edits.proofs.Frame.Meaning.{Kept}

@@ -1,6 +1,6 @@
 -- Entries of a chain: what of them stays where their bytes do, that their numbers differ, and what they mean where one is added to the chain, replaced in it, or goes.
-use Rattle.std.proofs.Common.{◌≡◌, ◌≢◌, ℕ, List, [], ◌∷◌, ◌++◌, map, Bool, true, false, not, ◌||◌, eq-eqb, refl, sym, ap, ap₂, subst, ◌∙◌, append_assoc, append-nil, arith, inl, inr}
-use Rattle.cdf_edits.proofs.Common.{cases_eq, ne_eqb, map-append, list_any, ◌==◌, nat_le, record_number_limit, with_item, without, entry_bytes, has_value, entry_rows, same_number, differ_rows, is_in, entry_of, number, size_at, adr_num, aedr_attr_num, aedr_num, row, Hold, EntryFits, In, Distinct, Distinct-push, Distinct-middle, is_in-true, is_in-false, not_false, with_in_place}
+use Rattle.cdf_edits.proofs.Common.{Bool, Distinct, Distinct-middle, Distinct-push, EntryFits, Hold, In, List, [], adr_num, aedr_attr_num, aedr_num, ap, append-nil, append_assoc, ap₂, arith, cases_eq, differ_rows, entry_bytes, entry_of, entry_rows, eq-eqb, false, has_value, inl, inr, is_in, is_in-false, is_in-true, list_any, map, map-append, nat_le, ne_eqb, not_false, number, record_number_limit, refl, row, same_number, size_at, subst, sym, true, with_in_place, with_item, without, ℕ, ◌++◌, ◌==◌, ◌∙◌, ◌∷◌, ◌≡◌, ◌≢◌}
+use Rattle.std.proofs.Common.{not, ◌||◌}
 use Rattle.cdf_format.specs.Content.{entries_of}
 use Rattle.cdf_edits.specs.Space.Chains.{without as left_of}
 use Rattle.cdf_edits.proofs.Edits.NumberedItems.{Rising, rising_with}

@@ -1,6 +1,6 @@
 -- What is said of a chain of entries after a command on one of them: where the entry of a number stands, the chain, and the greatest numbers.
-use Rattle.std.proofs.Common.{◌≡◌, ℕ, List, [], ◌∷◌, true, false, Option, Some, None, find, eq-eqb, refl, sym, ap, subst, ◌∙◌, inl, inr}
-use Rattle.cdf_edits.proofs.Common.{cases_eq, eqb-true, ne_eqb, w32, cast_signed, flat_map, slice_get, unwrap_or, ◌==◌, if◌then◌else◌, EntryKind, entries_of, Attribute, attribute_named, content, attribute_of, number, integer4, aedr_num, AttributeShape, shape, In, Distinct, chain_of, max_field, greatest_number, share_chain, GreatestIs, is_attribute, OfAttribute, with_chain, with_in_place}
+use Rattle.cdf_edits.proofs.Common.{Attribute, AttributeShape, Distinct, EntryKind, GreatestIs, In, List, None, OfAttribute, Option, Some, [], aedr_num, ap, attribute_named, attribute_of, cases_eq, cast_signed, chain_of, content, entries_of, eq-eqb, eqb-true, false, flat_map, greatest_number, if◌then◌else◌, inl, inr, integer4, is_attribute, max_field, ne_eqb, number, refl, shape, share_chain, slice_get, subst, sym, true, unwrap_or, w32, with_chain, with_in_place, ℕ, ◌==◌, ◌∙◌, ◌∷◌, ◌≡◌}
+use Rattle.std.proofs.Common.{find}
 use Rattle.cdf_model.specs.declared.kinds.EntryKind.TheVariants as entries
 use Rattle.cdf_edits.specs.Space.Chains.{without}
 use Rattle.cdf_edits.proofs.Edits.ChainEntries.{nums, num_in}

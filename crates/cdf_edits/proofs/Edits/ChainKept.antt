@@ -1,6 +1,5 @@
 -- What a command on an entry may change of records, where one chain of an attribute is another.
-use Rattle.std.proofs.Common.{◌≡◌, ℕ, ◌+◌, List, [], ◌∷◌, length, Bool, true, false, eq-eqb, refl, sym, ap, subst, ◌∙◌, arith, inl, inr}
-use Rattle.cdf_edits.proofs.Common.{◌==◌, if◌then◌else◌, EntryKind, next_field, content, number, type_at, OneAttribute, Unused, attribute_records, owned, owned_by, unused_records, Field, aedr_num, gdr_type, adr_type, AttributeShape, Shape, shape, IsSound, In, linkable-in, linkable-type, either, In-append, Allowances, Anything, Only, Keeps, AllKeep, space_fields, entry_changes, chain_of, chain_fields, entry_allowance, entry_type, is_attribute, Mark, within, Act}
+use Rattle.cdf_edits.proofs.Common.{Act, AllKeep, Allowances, Anything, AttributeShape, Bool, EntryKind, Field, In, In-append, IsSound, Keeps, List, Mark, OneAttribute, Only, Shape, Unused, [], adr_type, aedr_num, ap, arith, attribute_records, chain_fields, chain_of, content, either, entry_allowance, entry_changes, entry_type, eq-eqb, false, gdr_type, if◌then◌else◌, inl, inr, is_attribute, length, linkable-in, linkable-type, next_field, number, owned, owned_by, refl, shape, space_fields, subst, sym, true, type_at, unused_records, within, ℕ, ◌+◌, ◌==◌, ◌∙◌, ◌∷◌, ◌≡◌}
 use Rattle.cdf_model.specs.declared.kinds.EntryKind.TheVariants as entries
 use Rattle.cdf_edits.proofs.Commands.KeptRecords.{AllKeep-append, keeps_stood, keep_attributes}
 use Rattle.cdf_edits.proofs.Edits.ChainKinds.{other_of, other_type, chain_has, other_has}

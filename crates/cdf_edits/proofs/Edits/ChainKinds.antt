@@ -1,9 +1,7 @@
 -- The two chains of entries of an attribute, by the kind of entries: the one of the kind, and the other.
-use Rattle.std.proofs.Common.{◌≡◌, ℕ, ◌+◌, ◌≤◌, List, [], ◌∷◌, ◌++◌, Bool, true, refl, ap, ◌∙◌, arith, inl, inr}
-use Rattle.cdf_edits.proofs.Common.{flat_map, ◌&&◌, EntryKind, with_entries, Entry, adr_rows, entries_rows, IsChain, is_in, attribute_of, scope_of, number, name_in, type_at, attribute_shape_rows, attribute_records, Field, adr_agr_edr_head, adr_az_edr_head, adr_ngr_entries, adr_nz_entries, adr_scope, adr_name, adr_type, agr_edr_type, az_edr_type, Hold, AttributeShape, Each, HasEntries, AttributeFits, EntryFits, In, linkable-type, In-append, In-append_left, In-append_right, Hold-append, Hold-split, both, chain_of, entry_type, head_field, count_field, with_chain, keeps_other, Mark, avoided, unmarked, attribute_types}
+use Rattle.cdf_edits.proofs.Common.{AttributeFits, AttributeShape, Bool, Each, Entry, EntryFits, EntryKind, Field, HasEntries, Hold, Hold-append, Hold-split, In, In-append, In-append_left, In-append_right, IsChain, List, Mark, [], adr_agr_edr_head, adr_az_edr_head, adr_max_gr_entry, adr_max_z_entry, adr_name, adr_ngr_entries, adr_nz_entries, adr_rows, adr_scope, adr_type, agr_edr_type, ap, arith, attribute_of, attribute_records, attribute_shape_rows, attribute_types, avoided, az_edr_type, both, chain_of, count_field, entries_rows, entry_type, flat_map, head_field, inl, inr, is_in, keeps_other, linkable-type, name_in, number, refl, scope_of, true, type_at, unmarked, with_chain, with_entries, ℕ, ◌&&◌, ◌++◌, ◌+◌, ◌∙◌, ◌∷◌, ◌≡◌, ◌≤◌}
 use Rattle.cdf_model.specs.declared.kinds.EntryKind.TheVariants as entries
 use Rattle.cdf_format.specs.Content.{entries_of}
-use Rattle.cdf_format.specs.Records.{adr_max_gr_entry, adr_max_z_entry}
 use Rattle.cdf_edits.proofs.Edits.AttributeFrame.{AreThere, more_there}
 
 -- the other chain of an attribute, where its head stands and its count, and what type its entries have

@@ -1,6 +1,5 @@
 -- An attribute among those of an image: that it is there, and what is known of each member of one of its chains of entries.
-use Rattle.std.proofs.Common.{◌≡◌, ℕ, List, [], ◌∷◌, ◌++◌, sym, subst, inl, inr}
-use Rattle.cdf_edits.proofs.Common.{EntryKind, size_at, AttributeShape, Each, shape, EntryFits, IsSound, In, linkable-in, linkable-long, linkable-type, chain_of, entry_type, Edit, entries_chain, Mark, Avoids, members_of}
+use Rattle.cdf_edits.proofs.Common.{AttributeShape, Avoids, Each, Edit, EntryFits, EntryKind, In, IsSound, List, Mark, [], chain_of, entries_chain, entry_type, inl, inr, linkable-in, linkable-long, linkable-type, members_of, shape, size_at, subst, sym, ℕ, ◌++◌, ◌∷◌, ◌≡◌}
 use Rattle.cdf_edits.proofs.Edits.AttributeFrame.{AreThere}
 use Rattle.cdf_edits.proofs.Edits.ChainKinds.{chain_fits, chain_has}
 use Rattle.cdf_edits.proofs.Edits.ChainsOfShape.{members_are}

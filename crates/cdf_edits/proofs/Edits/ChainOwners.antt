@@ -1,6 +1,5 @@
 -- Who owns the records of an image where the entries of one attribute have come to be others.
-use Rattle.std.proofs.Common.{◌≡◌, ◌≢◌, ◌⊎◌, ℕ, ◌+◌, ◌≤◌, List, [], ◌∷◌, ◌++◌, length, eqb, eq-eqb, refl, sym, ap, subst, ◌∙◌, append-nil, arith, inl, inr}
-use Rattle.cdf_edits.proofs.Common.{cases_eq, ne_eqb, EntryKind, is_in, type_at, attribute_records, unused_records, times, owned_records, uir_type, AttributeShape, Shape, IsSound, In, AreTiles, Distinct, either, true-is_in, false-is_in, times-none, times-once, filter-in, chain_of, Edit, with_chain, Mark, with_in_place}
+use Rattle.cdf_edits.proofs.Common.{AreTiles, AttributeShape, Distinct, Edit, EntryKind, In, IsSound, List, Mark, Shape, [], ap, append-nil, arith, attribute_records, cases_eq, chain_of, either, eq-eqb, eqb, false-is_in, filter-in, inl, inr, is_in, length, ne_eqb, owned_records, refl, subst, sym, times, times-none, times-once, true-is_in, type_at, uir_type, unused_records, with_chain, with_in_place, ℕ, ◌++◌, ◌+◌, ◌∙◌, ◌∷◌, ◌≡◌, ◌≢◌, ◌≤◌, ◌⊎◌}
 use Rattle.cdf_model.specs.declared.kinds.EntryKind.TheVariants as entries
 use Rattle.cdf_edits.specs.Space.Chains.{without}
 use Rattle.cdf_edits.proofs.Edits.OwnedOnce.{none_in_use, used_times, unused_none, unused_once, outside_unowned, unused_unowned, spliced_times}

@@ -1,8 +1,7 @@
 -- An edit after which one chain of entries of an attribute is another: the image has its shape and its content, and keeps the rules if the chain does.
-use Rattle.std.proofs.Common.{◌≡◌, ℕ, ◌+◌, ◌≤◌, List, [], ◌∷◌, ◌++◌, length, map, true, not, refl, sym, ap, subst, ◌∙◌, arith, inl, inr}
-use Rattle.cdf_edits.proofs.Common.{map-append, before_first, flat_map, ◌==◌, ◌&&◌, nat_le, EntryKind, with_attribute, with_entries, Entry, same_name, adr_rows, entries_rows, differ_rows, IsChain, is_in, attribute_of, content, number, name_in, size_at, type_at, IsGoodByShape, attribute_shape_rows, read_types, attribute_records, times, Field, gdr_adr_head, gdr_uir_head, adr_num, adr_scope, adr_name, gdr_type, adr_type, uir_type, is_record_type, fixed_size, row, Hold, AttributeShape, Shape, adrs, Each, HasShape, shape, EntryFits, IsSound, In, Same, word_kept, piece_kept, linkable-in, linkable-type, In-append, AreNew, names_at, names_differ, differ_by_names, Hold-append, Hold-split, flat_map-append, shape_is, both, tile_lies, chain_of, entry_type, Edit, head_field, count_field, with_chain, keeps_other, keeps_but_chain, Mark, Avoids, Away, avoided, keeps_file, keeps_variables, Confined, attribute_types}
+use Rattle.cdf_edits.proofs.Common.{AreNew, AttributeShape, Avoids, Away, Confined, Each, Edit, Entry, EntryFits, EntryKind, Field, HasShape, Hold, Hold-append, Hold-split, In, In-append, IsChain, IsGoodByShape, IsSound, List, Mark, Same, Shape, [], adr_name, adr_num, adr_rows, adr_scope, adr_type, adrs, ap, arith, attribute_of, attribute_records, attribute_shape_rows, attribute_types, avoided, before_first, both, chain_of, content, count_field, differ_by_names, differ_rows, entries_rows, entry_type, fixed_size, flat_map, flat_map-append, gdr_adr_head, gdr_type, gdr_uir_head, head_field, inl, inr, is_in, is_record_type, keeps_adr, keeps_but_chain, keeps_file, keeps_other, keeps_variables, length, linkable-in, linkable-type, map, map-append, name_in, names_at, names_differ, nat_le, number, piece_kept, read_types, refl, row, same_name, shape, shape_is, size_at, subst, sym, tile_lies, times, true, type_at, uir_type, with_attribute, with_chain, with_entries, word_kept, ℕ, ◌&&◌, ◌++◌, ◌+◌, ◌==◌, ◌∙◌, ◌∷◌, ◌≡◌, ◌≤◌}
+use Rattle.std.proofs.Common.{not}
 use Rattle.cdf_format.specs.Content.{entries_of}
-use Rattle.cdf_edits.specs.Edits.EntryMarks.{keeps_adr}
 use Rattle.cdf_edits.proofs.Edits.AttributeFrame.{AreThere, lives_away, all_remain}
 use Rattle.cdf_edits.proofs.Edits.ChainEntries.{EntryLives, entry_lives}
 use Rattle.cdf_edits.proofs.Edits.ChainOwners.{Trades, rechained, traded, IsHeld, not_twice_kept}

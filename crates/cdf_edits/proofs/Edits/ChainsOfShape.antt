@@ -1,11 +1,6 @@
 -- The chains of an image with a shape as calls speak of them; a record that joined one, one that went, and one that took the place of another.
-use Rattle.std.proofs.Common.{◌≡◌, ℕ, suc, ◌-◌, ◌≤◌, List, [], ◌∷◌, ◌++◌, length, true, false, sym, ap, subst, ◌∙◌, arith}
-use Rattle.cdf_edits.proofs.Common.{TakenOut, count_of, with_field, shape, image_limit, Touch, touched_field, Changed, next_field, is_in, is_linkable, IsChain, number, size_at, type_at, Shape, HasShape, In, AreTiles, tiles, linkable-from, linkable-in, is_in-false, is_in-true, tiles_are, Chain, Lists, holder_of, head_of, counted_in, type_in, members_of, HasChain, HolderStands, MayJoin, link_behind, before, with_in_place, Appended, Removed, Replaced}
-use Rattle.cdf_format.specs.Chains.{chain}
+use Rattle.cdf_edits.proofs.Common.{Appended, AreTiles, Chain, Changed, HasChain, HasShape, HolderStands, In, IsChain, List, Lists, MayJoin, Removed, Replaced, Shape, TakenOut, Touch, [], ap, arith, before, chain, chain_complete, count_of, counted_in, false, head_of, holder_of, image_limit, is_in, is_in-false, is_in-true, is_linkable, length, length-le_from_distinct, length_tiles, link_behind, linkable-from, linkable-in, members_of, next_field, number, shape, size_at, subst, suc, sym, tiles, tiles_are, tiling_complete, touched_field, true, type_at, type_in, with_field, with_in_place, ℕ, ◌++◌, ◌-◌, ◌∙◌, ◌∷◌, ◌≡◌, ◌≤◌}
 use Rattle.cdf_format.specs.Walks.{records_of}
-use Rattle.cdf_format.proofs.ChainsLemmas.{chain_complete}
-use Rattle.cdf_format.proofs.Members.{length-le_from_distinct}
-use Rattle.cdf_format.proofs.TilesLemmas.{length_tiles, tiling_complete}
 use Rattle.cdf_edits.specs.Space.Chains.{without}
 
 -- a chain of the image: where the record stands that has its head, and its members

@@ -1,6 +1,6 @@
 -- `checksum` writes two bits of Flags: the image is good as before, and its data set says whether a checksum is in use.
-use Rattle.std.proofs.Common.{◌≡◌, ◌≢◌, ℕ, ◌+◌, ◌*◌, ◌/◌, ◌%◌, ◌≤◌, List, [], ◌∷◌, ◌++◌, length, Bool, true, false, not, ◌||◌, refl, sym, ap, subst, ◌∙◌, arith, inl, inr}
-use Rattle.cdf_edits.proofs.Common.{list_all, is_some, encoding_at, is_positive, encoding, gdr_r_num_dims, w32, cast_signed, flat_map, ◌==◌, if◌then◌else◌, Go, DataSet, image_limit, ByStep, same_name, Same, adrs_rows, r_vdrs_rows, z_vdrs_rows, differ_rows, is_in, linked_types, content, content_of, majority_of, number, has_bit, size_at, type_at, gdr_offset, flags, r_sizes, Unused, unused_records, owned, first_phases, Field, cdr_flags, gdr_eof, gdr_num_attr, gdr_nr_vars, gdr_nz_vars, adr_name, adr_num, vdr_num, cdr_type, gdr_type, row, Hold, AllHold, sealed, Shape, adrs, vdrs, variables, Each, HasShape, shape, IsSound, In, Good, number_kept, word_kept, is_a-in, is_a-type, IsGoodByShape, attribute_shape_rows, vdrs_append, good_by_its_shape, good_is_sound, rules_of_good, In-append_left, In-append_right, AreNew, names_differ, differ_by_names, Hold-append, Hold-split, good_long, sealed_keeps, sealed_kept, Each-split, content_is, shape_is, AllKeep, Only, Allowances, with_bits, Edit, Mark, field_marks, Follows, touched_field, Changed, ChangedWithin, Leaves, LeavesFinding, VariableStays}
+use Rattle.cdf_edits.proofs.Common.{AllHold, AllKeep, Allowances, AreNew, Bool, ByStep, Changed, ChangedWithin, DataSet, Each, Each-split, Edit, Field, Follows, Go, Good, HasShape, Hold, Hold-append, Hold-split, In, In-append_left, In-append_right, IsGoodByShape, IsSound, Leaves, LeavesFinding, List, Mark, Only, Same, Shape, Unused, VariableStays, [], adr_name, adr_num, adrs, adrs_rows, ap, arith, attribute_shape_rows, cast_signed, cdr_flags, cdr_type, content, content_is, content_of, differ_by_names, differ_rows, encoding, encoding_at, false, field_marks, first_phases, flags, flat_map, gdr_eof, gdr_nr_vars, gdr_num_attr, gdr_nz_vars, gdr_offset, gdr_r_num_dims, gdr_type, good_by_its_shape, good_is_sound, good_long, has_bit, if◌then◌else◌, image_limit, inl, inr, is_a-in, is_a-type, is_in, is_positive, is_some, length, linked_types, list_all, majority_of, names_differ, number, number_kept, owned, r_sizes, r_vdrs_rows, refl, row, rules_of_good, same_name, sealed, sealed_keeps, sealed_kept, shape, shape_is, size_at, subst, sym, touched_field, true, type_at, unused_records, variables, vdr_num, vdrs, vdrs_append, w32, with_bits, word_kept, z_vdrs_rows, ℕ, ◌%◌, ◌*◌, ◌++◌, ◌+◌, ◌/◌, ◌==◌, ◌∙◌, ◌∷◌, ◌≡◌, ◌≢◌, ◌≤◌}
+use Rattle.std.proofs.Common.{not, ◌||◌}
 use Rattle.cdf_model.specs.declared.answer.Reply.TheVariants as replies
 use Rattle.cdf_model.specs.declared.command.Command.TheVariants as commands
 use Rattle.cdf_edits.specs.Commands.Setup.{checksum_changes}

@@ -1,6 +1,5 @@
 -- Edits, and what each step of a command is as an edit.
-use Rattle.std.proofs.Common.{◌≡◌, ◌≢◌, ℕ, ◌+◌, ◌<◌, ◌≤◌, List, [], ◌∷◌, ◌++◌, length, sym, subst, ◌∙◌, arith, inl, inr}
-use Rattle.cdf_edits.proofs.Common.{Same, Touch, Outside, Changed, Placed, Misses, size_at, type_at, Each, uir_type, In, AreTiles, word_kept, either, In-append_left, In-append_right, true-is_in, false-is_in, is_in, tile_lies, Mark, Avoids, Marked, Edit}
+use Rattle.cdf_edits.proofs.Common.{AreTiles, Avoids, Changed, Each, Edit, In, In-append_left, In-append_right, List, Mark, Marked, Misses, Outside, Placed, Same, Touch, [], arith, either, false-is_in, inl, inr, is_in, length, size_at, subst, sym, tile_lies, true-is_in, type_at, uir_type, word_kept, ℕ, ◌++◌, ◌+◌, ◌<◌, ◌∙◌, ◌∷◌, ◌≡◌, ◌≢◌, ◌≤◌}
 use Rattle.cdf_edits.proofs.Frame.ChangedBytes.{changed_part}
 use Rattle.cdf_edits.proofs.Frame.LinksStay.{tiles_same}
 use Rattle.cdf_edits.specs.Edits.Edit.{Kind}

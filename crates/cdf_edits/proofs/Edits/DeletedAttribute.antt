@@ -1,6 +1,5 @@
 -- An attribute is taken out of the chain, counted no more, those behind it are numbered anew, and its records are freed: the image is good, with the content without it, and what it keeps of each record.
-use Rattle.std.proofs.Common.{◌≡◌, ℕ, suc, ◌+◌, ◌<◌, ◌≤◌, List, [], ◌∷◌, ◌++◌, length, map, true, false, eq-eqb, refl, sym, ap, subst, ◌∙◌, arith, inl, inr, Bool, Option, Some, None, ◌-◌, drop, get_or, ap₂, append_assoc}
-use Rattle.cdf_edits.proofs.Common.{Covered, touched_field, Plain, Each-append, Field, eqb-true, map-append, flat_map, ◌==◌, if◌then◌else◌, IsChain, number, size_at, type_at, attribute_records, times, gdr_adr_head, gdr_uir_head, gdr_num_attr, aedr_attr_num, adr_num, adr_type, agr_edr_type, az_edr_type, uir_type, AttributeShape, Shape, Each, HasShape, adrs, shape, IsSound, In, linkable-in, linkable-type, In-append, In-append_left, In-append_right, Distinct-push, Edit, unlinking_marks, deleting_marks, freeing_marks, Mark, attribute_types, Unlinks, Write, write, with_writes, numbers_from, AreFree, Attrs, Same, remove, slice_get, image_limit, is_in, next_field, content, LiesIn, OneAttribute, owned_by, owned, gdr_eof, uir_next_uir, uir_prev_uir, Good, good_by_its_shape, good_is_sound, rules_of_good, good_long, sealed_kept, Allowances, Anything, Only, Keeps, AllKeep, gave, links_end, Act, Go, Attribute, DataSet, attribute_named, attribute_names, ByStep, is_attribute, Done, Refused, Answers, drop-append_seam, eq_of, members_of, Removed, AllGiven, Lists, TakenOut, GrEntries, ZEntries, same_name, adrs_rows, differ_rows, attribute_of, name_in, attribute_shape_rows, read_types, adr_name, Hold, AreNew, names_at, names_differ, differ_by_names, Hold-split, content_is, true-is_in, numbering_marks, Deletes, del_attr_step, absent-split, absent-append, stands_in}
+use Rattle.cdf_edits.proofs.Common.{Act, AllGiven, AllKeep, Allowances, Answers, Anything, AreFree, AreNew, Attribute, AttributeShape, Attrs, Bool, ByStep, Covered, DataSet, Deletes, Distinct-push, Done, Each, Each-append, Edit, Field, Go, Good, GrEntries, HasShape, Hold, Hold-split, In, In-append, In-append_left, In-append_right, IsChain, IsSound, Keeps, LiesIn, List, Lists, Mark, None, OneAttribute, Only, Option, Plain, Refused, Removed, Same, Shape, Some, TakenOut, Unlinks, Write, ZEntries, [], absent-append, absent-split, adr_name, adr_num, adr_type, adrs, adrs_rows, aedr_attr_num, agr_edr_type, ap, append_assoc, ap₂, arith, attribute_named, attribute_names, attribute_of, attribute_records, attribute_shape_rows, attribute_types, az_edr_type, content, content_is, del_attr_step, deleting_marks, differ_by_names, differ_rows, drop, drop-append_seam, eq-eqb, eq_of, eqb-true, false, flat_map, freeing_marks, gave, gdr_adr_head, gdr_eof, gdr_num_attr, gdr_uir_head, get_or, good_by_its_shape, good_is_sound, good_long, if◌then◌else◌, image_limit, inl, inr, is_attribute, is_in, length, linkable-in, linkable-type, links_end, map, map-append, members_of, name_in, names_at, names_differ, next_field, number, numbering_marks, numbers_from, owned, owned_by, read_types, refl, remove, rules_of_good, same_name, sealed_kept, shape, size_at, slice_get, stands_in, subst, suc, sym, times, touched_field, true, true-is_in, type_at, uir_next_uir, uir_prev_uir, uir_type, unlinking_marks, with_writes, write, ℕ, ◌++◌, ◌+◌, ◌-◌, ◌<◌, ◌==◌, ◌∙◌, ◌∷◌, ◌≡◌, ◌≤◌}
 use Rattle.cdf_edits.proofs.Edits.Common.{edit_under, unused_real, fewer_rows, tiles_numbered, place_in, numbering, others_say, are_numbered, LeavingTests, LeavesChain, may_linked, left_edit, said_now, chain_now, list_now, as_long, counted_now, may_now, distinct_if, mine_once, not_twice, can_be_freed, Left, owned_left, left_of, Avoids-split, avoided-avoids, within-within, away-of_type, within-of_type, avoids-of_type, OnlyOwns, parts_once, own_in, only_owns, back_in, front_in, gdr_typed, some_bytes, fixed_long, MayWrite, writes_lie, times-in, attribute_typed, Frees, freed_edit, sound_now, all_freed, says_still, gdr_still, behind_stays, gdr_field, file_same, gdr_place, refused, gone_by_giving, AllKeep-append, keep_unused, keep_places, keep_parts, keeps_stays, keep_each, attributes_counted, Each-map, all_variables_kept, Each-apply, map-removed, AtNumber, at_number, map-without, IsOf, few_members, lists, others_in, SaysNumber, may_write, freed_shape, freed_records, freed_long, freed_types, freed_acts, freed_bytes, out_counted, shape_there, sound_there, same_middle, keep_attributes_alone, end_before, StaysBut, stays_within, field_stays}
 use Rattle.cdf_edits.proofs.Edits.AttributeFrame.{all_last, AreThere, more_there, entry, each_there, remaining_names}
 use Rattle.cdf_edits.proofs.Edits.OwnedOnce.{spliced_times}

@@ -1,6 +1,5 @@
 -- Attributes drop their entries for a variable, one after the other: what it does to each, and that it leads to `DropsEntries`.
-use Rattle.std.proofs.Common.{◌≡◌, ℕ, ◌+◌, ◌-◌, List, [], ◌∷◌, ◌++◌, map, Bool, false, eq-eqb, refl, sym, ap, subst, ◌∙◌, arith, inl, inr, ◌≢◌, ◌⊎◌, suc, ◌≤◌, true, Some, eqb, ◌<◌, length, Option, None}
-use Rattle.cdf_edits.proofs.Common.{type_at, cases_eq, ne_eqb, nat_tests, filter, list_any, not, ◌&&◌, ◌||◌, ◌==◌, nat_le, nat_lt, if◌then◌else◌, Attribute, Entry, EntryKind, entries_of, closed_up, without, next_field, next_of, attribute_of, number, Field, aedr_num, AttributeShape, either, OutsideFields, chain_fields, chain_of, fields_beside, fallen, le-ltb, lt-ltb, same_Some, slice_get, take, Found, is_global, Leads, shape, In, Good, In-append, filter-in, Stays, kind_of_entries, entries_for, cast_signed, w32, Kind, with_entries, attribute_without, content, integer4, linkable-type, good_is_sound, Anything, Keeps, Only, GreatestIs, entry_type, max_field, share_chain, entries_allowance, is_global_attribute, AttributeDropped, DropsEntries, IsDropped, gave, ActsFollow, take-suc, take-length, get_or_from_slice_get, slice_get_within, NumbersFall, is_renumbered, AttributeKeeps}
+use Rattle.cdf_edits.proofs.Common.{ActsFollow, Anything, Attribute, AttributeDropped, AttributeKeeps, AttributeShape, Bool, DropsEntries, Entry, EntryKind, Field, Found, Good, GreatestIs, In, In-append, IsDropped, Keeps, Kind, Leads, List, None, NumbersFall, Only, Option, OutsideFields, Some, Stays, [], aedr_num, ap, arith, attribute_of, attribute_without, cases_eq, cast_signed, chain_fields, chain_of, closed_up, content, either, entries_allowance, entries_for, entries_of, entry_type, eq-eqb, eqb, fallen, false, fields_beside, filter, filter-in, gave, get_or_from_slice_get, good_is_sound, if◌then◌else◌, inl, inr, integer4, is_global, is_global_attribute, is_renumbered, kind_of_entries, le-ltb, length, linkable-type, list_any, lt-ltb, map, max_field, nat_le, nat_lt, nat_tests, ne_eqb, next_field, next_of, not, number, refl, same_Some, shape, share_chain, slice_get, slice_get_within, subst, suc, sym, take, take-length, take-suc, true, type_at, w32, with_entries, without, ℕ, ◌&&◌, ◌++◌, ◌+◌, ◌-◌, ◌<◌, ◌==◌, ◌||◌, ◌∙◌, ◌∷◌, ◌≡◌, ◌≢◌, ◌≤◌, ◌⊎◌}
 use Rattle.cdf_edits.proofs.Edits.VariableDeleted.{greatest_field}
 use Rattle.cdf_edits.proofs.Edits.Common.{stays_word, chain_has, each, got-map, no_acts, other_has, other_of, other_type, items_with}
 use Rattle.cdf_edits.proofs.Edits.EntriesEdited.{Change, EditsEntries, Edited, idle, Lasts, attributes_agree, only_at, edits_same, entry_same, has_own, with_own, adr_long, is_adr, attributes_of, Joins, edits_then}

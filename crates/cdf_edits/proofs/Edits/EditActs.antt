@@ -1,6 +1,5 @@
 -- What an edit leaves of the space of an image: of one that takes nothing, and of one that makes a record.
-use Rattle.std.proofs.Common.{◌≡◌, ◌≢◌, ℕ, ◌+◌, List, [], ◌∷◌, length, map, Bool, true, false, eq-eqb, refl, sym, ap, ap₂, subst, ◌∙◌, arith, inl, inr}
-use Rattle.cdf_edits.proofs.Common.{eqb-true, ◌==◌, nat_le, Took, sized, used_records, loose_records, back_after, RestStays, ActsFollow, IsSound, Same, size_at, type_at, unused, place_for, taken_from, record_size, record_type, uir_prev_uir, uir_type, Shape, Each, shape, In, number_kept, linkable-in, linkable-type, linkable-long, either, false-is_in, tile_lies, Mark, unmarked, making_marks, is_late, Edit, Fills}
+use Rattle.cdf_edits.proofs.Common.{ActsFollow, Bool, Each, Edit, Fills, In, IsSound, List, Mark, RestStays, Same, Shape, Took, [], ap, ap₂, arith, back_after, either, eq-eqb, eqb-true, false, false-is_in, inl, inr, is_late, length, linkable-in, linkable-long, linkable-type, loose_records, making_marks, map, nat_le, number_kept, place_for, record_size, record_type, refl, shape, size_at, sized, subst, sym, taken_from, tile_lies, true, type_at, uir_prev_uir, uir_type, unmarked, unused, used_records, ℕ, ◌+◌, ◌==◌, ◌∙◌, ◌∷◌, ◌≡◌, ◌≢◌}
 use Rattle.cdf_edits.specs.Space.Acts.{Among}
 use Rattle.cdf_edits.proofs.Space.ActsLeave.{each, places-sized, among_sized, used_says, used_if, loose_says, loose_if, backs, backs_follow, no_rest, no_acts}
 use Rattle.cdf_edits.proofs.Edits.Composing.{head_size, head_type}

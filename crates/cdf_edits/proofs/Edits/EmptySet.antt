@@ -1,6 +1,5 @@
 -- An image of a data set without attributes and variables: its CDR, its GDR, and unused records.
-use Rattle.std.proofs.Common.{◌≡◌, ◌≢◌, ℕ, suc, ◌≤◌, List, [], ◌∷◌, length, map, true, eq-eqb, refl, sym, ap, ◌∙◌, arith}
-use Rattle.cdf_edits.proofs.Common.{Edit, Mark, ne_eqb, ◌==◌, ◌&&◌, is_empty_set, content, content_of, attribute_of, variable_of, Holds, r_num_dims, gdr_r_dim_sizes, Shape, HasShape, shape, IsSound, In, Good, good_is_sound, content_is, both, eq_of}
+use Rattle.cdf_edits.proofs.Common.{Edit, Good, HasShape, Holds, In, IsSound, List, Mark, Shape, [], ap, arith, attribute_of, both, content, content_is, content_of, eq-eqb, eq_of, gdr_r_dim_sizes, good_is_sound, is_empty_set, length, map, ne_eqb, r_num_dims, refl, shape, suc, sym, true, variable_of, ℕ, ◌&&◌, ◌==◌, ◌∙◌, ◌∷◌, ◌≡◌, ◌≢◌, ◌≤◌}
 use Rattle.cdf_edits.proofs.Edits.Common.{IsHeld, not_twice_kept, used_times}
 
 abbrev pub empty_shape : List ℕ → ℕ → List ℕ → Shape

@@ -1,6 +1,5 @@
 -- An image in which entries of a kind were edited, attribute by attribute, and all beside them stands: what every step on the way to `DropsEntries` comes to.
-use Rattle.std.proofs.Common.{◌≡◌, ◌⊎◌, ℕ, ◌+◌, ◌≤◌, ◌<◌, List, [], ◌∷◌, ◌++◌, length, map, suc, Bool, true, false, Some, refl, sym, ap, ap₂, subst, ◌∙◌, arith, append_assoc, inl, inr, append-nil, ◌≢◌, zero, eq-eqb}
-use Rattle.cdf_edits.proofs.Common.{AttributeStays, Each, same_Some, slice_get, flat_map, Entry, EntryKind, Kind, entries_of, with_entries, attribute_of, content, integer4, number, size_at, type_at, variable_records, Field, aedr_num, uir_next_uir, uir_prev_uir, uir_type, AttributeShape, HasShape, shape, In, Good, OutsideFields, Stays, shapes_of, space_fields, chain_of, greatest_number, max_field, IsDropped, Act, gave, ActsFollow, r_max_rec, map-append, Attribute, DataSet, is_in, VariableShape, AreTiles, linkable-in, linkable-type, good_is_sound, either, In-append, true-is_in, false-is_in, tile_lies, Gave, cast_signed, w32, content_is, attribute_records, adr_type, agr_edr_type, az_edr_type, cdr_type, HasEntries, IsSound, is_a-in, entry_type, cases_eq, ne_eqb, length-append, ◌==◌, if◌then◌else◌, with_attribute, gdr_r_max_rec, gdr_type, Shape, type_kept, is_a-type, In-append_left, In-append_right, both, Only, chain_fields, with_chain, Away, Mark, avoided, unmarked, within}
+use Rattle.cdf_edits.proofs.Common.{Act, ActsFollow, AreTiles, Attribute, AttributeShape, AttributeStays, Away, Bool, DataSet, Each, Entry, EntryKind, Field, Gave, Good, HasEntries, HasShape, In, In-append, In-append_left, In-append_right, IsDropped, IsSound, Kind, List, Mark, Only, OutsideFields, Shape, Some, Stays, VariableShape, [], adr_type, aedr_num, agr_edr_type, ap, append-nil, append_assoc, ap₂, arith, attribute_of, attribute_records, avoided, az_edr_type, both, cases_eq, cast_signed, cdr_type, chain_fields, chain_of, content, content_is, either, entries_of, entry_type, eq-eqb, false, false-is_in, flat_map, gave, gdr_r_max_rec, gdr_type, good_is_sound, greatest_number, if◌then◌else◌, inl, inr, integer4, is_a-in, is_a-type, is_in, length, length-append, linkable-in, linkable-type, map, map-append, max_field, ne_eqb, number, r_max_rec, refl, same_Some, shape, shapes_of, size_at, slice_get, space_fields, subst, suc, sym, tile_lies, true, true-is_in, type_at, type_kept, uir_next_uir, uir_prev_uir, uir_type, unmarked, variable_records, w32, with_attribute, with_chain, with_entries, within, zero, ℕ, ◌++◌, ◌+◌, ◌<◌, ◌==◌, ◌∙◌, ◌∷◌, ◌≡◌, ◌≢◌, ◌≤◌, ◌⊎◌}
 use Rattle.cdf_edits.proofs.Edits.VariableDeleted.{adr_at, each_at, greatest_field, least_entry}
 use Rattle.cdf_edits.proofs.Edits.Common.{stays_bytes, stays_word, other_of, gave-same, sizes_by_tiles, stays_then, type_stays, chain_has, chain_in, fixed_long, gdr_in, kind_in, other_in, Kept, Rechains, adr_in, adr_of, adr_start, adr_typed, after_away, after_in, attribute_now, before_away, before_in, clear_file, content_replaced, gdr_field, gdr_place, gdr_start, gdr_typed, head_type, keeps_away, keeps_fields, keeps_stood, keeps_within, kept_away, kind_ours, now_is, other_has, other_kept, other_type, records_are, splices, stood, there, unmarked-away, within-within, got_middle, items_with}
 use Rattle.cdf_edits.proofs.Edits.Splice.{after_stay, before_stay, variables_kept}

@@ -1,6 +1,5 @@
 -- The fields of a chain of entries in its ADR, by the kind; and what an image comes to in which its greatest number is written.
-use Rattle.std.proofs.Common.{◌≡◌, ℕ, ℤ, ◌+◌, ◌≤◌, List, [], ◌∷◌, length, true, refl, sym, subst, arith, inl, inr}
-use Rattle.cdf_edits.proofs.Common.{w32, cast_unsigned, FitsSigned, EntryKind, IsChain, number, integer4, with_field, adr_type, AttributeShape, HasEntries, Shape, AreTiles, In, chain_of, entry_type, max_field, Edit, entries_chain, head_field, count_field, avoided, field_marks, holder_of, head_of, count_of, type_in}
+use Rattle.cdf_edits.proofs.Common.{AreTiles, AttributeShape, Edit, EntryKind, FitsSigned, HasEntries, In, IsChain, List, Shape, [], adr_type, arith, avoided, cast_unsigned, chain_of, count_field, count_of, entries_chain, entry_type, field_marks, head_field, head_of, holder_of, inl, inr, integer4, length, max_field, number, refl, subst, sym, true, type_in, w32, with_field, ℕ, ℤ, ◌+◌, ◌∷◌, ◌≡◌, ◌≤◌}
 use Rattle.cdf_model.specs.declared.kinds.EntryKind.TheVariants as entries
 use Rattle.cdf_edits.proofs.Edits.ChainsOfShape.{IsOf}
 use Rattle.cdf_edits.proofs.Edits.FieldWritten.{IsField, written_edit, written_long, written_integer, Stands, still_says, field_in}

@@ -1,6 +1,5 @@
 -- An entry is taken out of one chain of an attribute and freed: the image is good, all beside the chain stands, and the acts before go on.
-use Rattle.std.proofs.Common.{◌≡◌, ◌≢◌, ℕ, ◌+◌, ◌≤◌, List, [], ◌∷◌, ◌++◌, length, true, false, eq-eqb, refl, sym, ap, ap₂, subst, ◌∙◌, arith, inl, inr}
-use Rattle.cdf_edits.proofs.Common.{nat_tests, if◌then◌else◌, cases_eq, ne_eqb, ◌==◌, Same, adr_type, field_marks, holder_type, linkable-long, type_in, unmarked, EntryKind, entries_of, image_limit, without, next_field, next_of, attribute_of, integer4, number, size_at, type_at, aedr_num, gdr_type, uir_type, AttributeShape, HasShape, Shape, shape, IsSound, In, Distinct, Good, size_kept, type_kept, linkable-in, linkable-type, good_is_sound, tile_lies, Stays, chain_of, entry_type, greatest_number, max_field, IsDropped, count_field, entries_chain, with_chain, Away, giving_marks, ActsFollow, Act, Gave, gave, members_of, Gives, eqb-false}
+use Rattle.cdf_edits.proofs.Common.{Act, ActsFollow, AttributeShape, Away, Distinct, EntryKind, Gave, Gives, Good, HasShape, In, IsDropped, IsSound, List, Same, Shape, Stays, [], adr_type, aedr_num, ap, ap₂, arith, attribute_of, cases_eq, chain_of, count_field, entries_chain, entries_of, entry_type, eq-eqb, eqb-false, false, field_marks, gave, gdr_type, giving_marks, good_is_sound, greatest_number, holder_type, if◌then◌else◌, image_limit, inl, inr, integer4, length, linkable-in, linkable-long, linkable-type, max_field, members_of, nat_tests, ne_eqb, next_field, next_of, number, refl, shape, size_at, size_kept, subst, sym, tile_lies, true, type_at, type_in, type_kept, uir_type, unmarked, with_chain, without, ℕ, ◌++◌, ◌+◌, ◌==◌, ◌∙◌, ◌∷◌, ◌≡◌, ◌≢◌, ◌≤◌}
 use Rattle.cdf_edits.proofs.Edits.ChainEdits.{removed_keeps}
 use Rattle.cdf_edits.proofs.Edits.ChainFollowed.{chain_now}
 use Rattle.cdf_edits.proofs.Edits.Common.{Away-append, Kept, KeptButLink, acts_still_by, apart, chain_has, differ_before, edit_then, has_chain, kept, late_size, late_type, members_are, of_shape, same-then, the_one, there, unmarked-away, acts_gave, was_listed, link_allowed, num_in, nums}

@@ -1,6 +1,5 @@
 -- Entries of a chain get numbers less by one, where they are greater than one that none has, and the greatest number of the chain is written.
-use Rattle.std.proofs.Common.{◌≡◌, ℕ, ℤ, ◌-◌, ◌<◌, ◌≤◌, ◌^◌, List, [], ◌∷◌, ◌++◌, length, map, refl, sym, ap, subst, ◌∙◌, arith, inl, inr, ◌+◌, true, append-nil, ◌≢◌, ap₂}
-use Rattle.cdf_edits.proofs.Common.{w32, cast_unsigned, FitsSigned, integer4, cases_lt, lt-ltb, le-leb, leb-true, filter, ◌==◌, nat_lt, EntryKind, entries_of, image_limit, record_number_limit, closed_up, entry_rows, attribute_of, number, size_at, with_field, aedr_num, Hold, AttributeShape, Each, shape, IsSound, In, Distinct, Good, number_kept, good_is_sound, filter-in, tile_lies, chain_of, entry_type, max_field, Edit, fallen, Among, Mark, mark, Write, write, with_writes, word_kept, aedr_attr_num, le-ltb, uir_type, Shape, Only, Stays, ActsFollow, greatest_number, with_chain, ltb-true, nat_tests, if◌then◌else◌, with_item, entry_of}
+use Rattle.cdf_edits.proofs.Common.{ActsFollow, Among, AttributeShape, Distinct, Each, Edit, EntryKind, FitsSigned, Good, Hold, In, IsSound, List, Mark, Only, Shape, Stays, Write, [], aedr_attr_num, aedr_num, ap, append-nil, ap₂, arith, attribute_of, cases_lt, cast_unsigned, chain_of, closed_up, entries_of, entry_of, entry_rows, entry_type, fallen, filter, filter-in, good_is_sound, greatest_number, if◌then◌else◌, image_limit, inl, inr, integer4, le-leb, le-ltb, leb-true, length, lt-ltb, ltb-true, map, mark, max_field, nat_lt, nat_tests, number, number_kept, record_number_limit, refl, shape, size_at, subst, sym, tile_lies, true, uir_type, w32, with_chain, with_field, with_item, with_writes, word_kept, write, ℕ, ℤ, ◌++◌, ◌+◌, ◌-◌, ◌<◌, ◌==◌, ◌^◌, ◌∙◌, ◌∷◌, ◌≡◌, ◌≢◌, ◌≤◌}
 use Rattle.cdf_edits.proofs.Edits.ChainMembers.{IsAmong, member, member_fits, own_there}
 use Rattle.cdf_edits.proofs.Edits.OneChain.{counted_before}
 use Rattle.cdf_edits.proofs.Edits.ChainFollowed.{chain_now}

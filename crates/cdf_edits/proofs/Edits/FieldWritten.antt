@@ -1,9 +1,6 @@
 -- A number that is written as a field of a record is an edit.
-use Rattle.std.proofs.Common.{◌≡◌, ℕ, ℤ, ◌+◌, ◌^◌, ◌<◌, ◌≤◌, List, [], ◌∷◌, length, refl, sym, ap, subst, ◌∙◌, arith, inl, true}
-use Rattle.cdf_edits.proofs.Common.{w32, cast_unsigned, FitsSigned, LiesIn, number, integer4, size_at, type_at, with_field, Field, Shape, HasShape, fixed_size, is_a-in, is_a-type, In, AreTiles, tile_lies, field_reads, field_reads4, length-with_field, Edit, Mark, avoided, field_marks, touched_field, Changed}
-use Rattle.cdf_fields.proofs.Writes.{other_bytes}
+use Rattle.cdf_edits.proofs.Common.{AreTiles, Changed, Edit, Field, FitsSigned, HasShape, In, LiesIn, List, Mark, Shape, [], ap, arith, avoided, cast_unsigned, field_marks, field_reads, field_reads4, fixed_size, inl, integer4, is_a, is_a-in, is_a-type, length, length-with_field, number, other_bytes, refl, size_at, subst, sym, tile_lies, touched_field, true, type_at, w32, with_field, ℕ, ℤ, ◌+◌, ◌<◌, ◌^◌, ◌∙◌, ◌∷◌, ◌≡◌, ◌≤◌}
 use Rattle.cdf_edits.proofs.Edits.Composing.{changed_edit, head_size, head_type}
-use Rattle.cdf_format.specs.Chains.{is_a}
 use Rattle.cdf_edits.proofs.Edits.RecordFrame.{part_clear, field_clear, through}
 use Rattle.cdf_edits.proofs.Edits.StepEdits.{fixed_long}
 

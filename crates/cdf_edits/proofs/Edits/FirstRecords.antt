@@ -1,7 +1,6 @@
 -- What every edit leaves that keeps the CDR and the GDR: the types of all records, and the rules on the file.
-use Rattle.std.proofs.Common.{◌≡◌, ℕ, ◌+◌, ◌*◌, ◌≤◌, List, length, true, not, ◌||◌, refl, sym, ap, subst, ◌∙◌, arith, inl, inr}
-use Rattle.cdf_edits.proofs.Common.{cases_eq, flat_map, list_all, is_some, encoding_at, IsSound, is_in, is_positive, first_phases, sealed, size_at, type_at, has_bit, eof, r_num_dims, read_types, unread_type, cdr_type, gdr_type, uir_type, is_record_type, fixed_size, AllHold, Hold, Shape, HasShape, In, number_kept, type_kept, word_kept, is_a-type, tile_lies, either, true-is_in, false-is_in, Hold-member, Hold-members, tile_lies, Mark, keeps_file, Edit}
-use Rattle.cdf_format.specs.Records.{cdr_version}
+use Rattle.cdf_edits.proofs.Common.{AllHold, Edit, HasShape, Hold, Hold-member, Hold-members, In, IsSound, List, Mark, Shape, ap, arith, cases_eq, cdr_type, cdr_version, either, encoding_at, eof, false-is_in, first_phases, fixed_size, flat_map, gdr_type, has_bit, inl, inr, is_a-type, is_in, is_positive, is_record_type, is_some, keeps_file, length, list_all, number_kept, r_num_dims, read_types, refl, sealed, size_at, subst, sym, tile_lies, true, true-is_in, type_at, type_kept, uir_type, unread_type, word_kept, ℕ, ◌*◌, ◌+◌, ◌∙◌, ◌≡◌, ◌≤◌}
+use Rattle.std.proofs.Common.{not, ◌||◌}
 use Rattle.cdf_edits.proofs.Rules.FirstHead.{FirstSays, first_said}
 use Rattle.cdf_edits.proofs.Edits.RecordFrame.{cdr_kept, cdr_long, gdr_start, gdr_part, gdr_dimensions, dimensions_same, file_stays}
 use Rattle.cdf_edits.proofs.Edits.StepEdits.{gdr_typed, gdr_long}

@@ -1,6 +1,6 @@
 -- Records that nothing leads to any more, which are freed after another edit of the image.
-use Rattle.std.proofs.Common.{arith, ◌≡◌, ◌≢◌, ℕ, ◌+◌, ◌≤◌, List, [], ◌∷◌, ◌++◌, length, Bool, true, false, ◌||◌, eq-eqb, refl, sym, ap, subst, ◌∙◌, inl, inr}
-use Rattle.cdf_edits.proofs.Common.{◌==◌, Same, is_in, number, size_at, type_at, Field, gdr_type, uir_type, Shape, Each, shape, IsSound, In, AreTiles, number_kept, FreedStay, no_fields, Edit, freeing_marks, wholes, Mark, Avoids, Away, unmarked, Write, gave, links_end, ActsFollow, AllGiven, AreFree, with_space}
+use Rattle.cdf_edits.proofs.Common.{ActsFollow, AllGiven, AreFree, AreTiles, Avoids, Away, Bool, Each, Edit, Field, FreedStay, In, IsSound, List, Mark, Same, Shape, Write, [], ap, arith, eq-eqb, false, freeing_marks, gave, gdr_type, inl, inr, is_in, length, links_end, no_fields, number, number_kept, refl, shape, size_at, subst, sym, true, type_at, uir_type, unmarked, wholes, with_space, ℕ, ◌++◌, ◌+◌, ◌==◌, ◌∙◌, ◌∷◌, ◌≡◌, ◌≢◌, ◌≤◌}
+use Rattle.std.proofs.Common.{◌||◌}
 use Rattle.cdf_edits.proofs.Edits.ActsThen.{gave-same, all_gave}
 use Rattle.cdf_edits.proofs.Edits.Composing.{head_size, edit_then, same-then}
 use Rattle.cdf_edits.proofs.Edits.EditActs.{acts_none}

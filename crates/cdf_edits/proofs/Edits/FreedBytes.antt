@@ -1,7 +1,5 @@
 -- What is freed keeps its bytes behind the links of an unused record.
-use Rattle.std.proofs.Common.{◌≡◌, ◌≢◌, ℕ, ◌+◌, ◌<◌, ◌≤◌, List, [], ◌∷◌, length, eq-eqb, refl, sym, ap, subst, ◌∙◌, arith, inl, inr}
-use Rattle.cdf_edits.proofs.Common.{byte, OutsideFields, cases_eq, eqb-true, leb-true, le-leb, ◌==◌, nat_le, Field, GivenStay, giving_marks, Misses, Act, gave, links_end, AllGiven, AreFree, IsGiven, first_back_link, giving, with_space, Gives, Same, content, size_at, type_at, times, owned_records, unused_records, uir_type, Shape, shape, HasShape, IsSound, In, AreTiles, is_a-type, linkable-long, either, times-none, filter-in, tiles_lie_apart, Same-part}
-use Rattle.cdf_edits.specs.Commands.Allowances.{FreedStays}
+use Rattle.cdf_edits.proofs.Common.{Act, AllGiven, AreFree, AreTiles, Field, FreedStays, GivenStay, Gives, HasShape, In, IsGiven, IsSound, List, Misses, OutsideFields, Same, Same-part, Shape, [], ap, arith, byte, cases_eq, content, either, eq-eqb, eqb-true, filter-in, first_back_link, gave, giving, giving_marks, inl, inr, is_a-type, le-leb, leb-true, length, linkable-long, links_end, nat_le, owned_records, refl, shape, size_at, subst, sym, tiles_lie_apart, times, times-none, type_at, uir_type, unused_records, with_space, ℕ, ◌+◌, ◌<◌, ◌==◌, ◌∙◌, ◌∷◌, ◌≡◌, ◌≢◌, ◌≤◌}
 use Rattle.cdf_edits.proofs.Edits.Composing.{head_type, part}
 use Rattle.cdf_edits.proofs.Edits.FreedRecords.{one_given, others_still, sizes_stay}
 use Rattle.cdf_edits.proofs.Edits.StaysBut.{StaysBut, part_stays}

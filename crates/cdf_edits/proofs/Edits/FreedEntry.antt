@@ -1,6 +1,5 @@
 -- An entry that its chain has no more is freed.
-use Rattle.std.proofs.Common.{◌≡◌, ◌≢◌, ℕ, ◌+◌, ◌≤◌, List, [], ◌∷◌, ◌++◌, length, map, true, false, refl, sym, ap, subst, ◌∙◌, arith, inl, inr}
-use Rattle.cdf_edits.proofs.Common.{EntryKind, Same, sum, is_in, eof, number, size_at, type_at, read_types, attribute_records, owned_records, times, Field, gdr_eof, uir_next_uir, uir_prev_uir, gdr_type, adr_type, uir_type, is_record_type, fixed_size, AttributeShape, Each, Shape, shape, EntryFits, IsSound, In, linkable-in, linkable-type, In-append, In-append_left, In-append_right, times-none, is_taken, GivenStay, no_fields, space_fields, chain_fields, chain_of, entry_type, max_field, head_field, count_field, keeps_but_chain, Mark, Avoids, Away, Within, Confined, attribute_types, avoided, giving_marks, within, Act, Gave, ActsFollow, gave, taken, Gives}
+use Rattle.cdf_edits.proofs.Common.{Act, ActsFollow, AttributeShape, Avoids, Away, Confined, Each, EntryFits, EntryKind, Field, Gave, GivenStay, Gives, In, In-append, In-append_left, In-append_right, IsSound, List, Mark, Same, Shape, Within, [], adr_type, ap, arith, attribute_records, attribute_types, avoided, chain_fields, chain_of, count_field, entry_type, eof, false, fixed_size, gave, gdr_eof, gdr_type, giving_marks, head_field, inl, inr, is_in, is_record_type, is_taken, keeps_but_chain, length, linkable-in, linkable-type, map, max_field, no_fields, number, owned_records, read_types, refl, shape, size_at, space_fields, subst, sum, sym, taken, times, times-none, true, type_at, uir_next_uir, uir_prev_uir, uir_type, within, ℕ, ◌++◌, ◌+◌, ◌∙◌, ◌∷◌, ◌≡◌, ◌≢◌, ◌≤◌}
 use Rattle.cdf_model.specs.declared.kinds.EntryKind.TheVariants as entries
 use Rattle.cdf_edits.proofs.Edits.ChainKinds.{chain_has, chain_in}
 use Rattle.cdf_edits.proofs.Edits.ChainOwners.{rechained, gone_free, gone_unowned, traded_member}

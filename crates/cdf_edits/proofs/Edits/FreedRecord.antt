@@ -1,6 +1,5 @@
 -- A record that an edit left in use, and no owner has, is freed: what the image is then.
-use Rattle.std.proofs.Common.{◌≡◌, ◌≢◌, ℕ, ◌+◌, ◌≤◌, List, [], ◌∷◌, ◌++◌, length, true, false, refl, sym, ap, subst, ◌∙◌, arith, inl, inr, ◌⊎◌}
-use Rattle.cdf_edits.proofs.Common.{le-leb, Same, IsChain, number, size_at, type_at, Unused, owned_by, unused_records, Field, gdr_uir_head, uir_next_uir, uir_prev_uir, gdr_type, uir_type, is_record_type, fixed_size, Shape, HasShape, shape, IsSound, In, AreTiles, Same-part, is_a-type, Allowances, AllKeep, is_taken, GivenStay, no_fields, Edit, Mark, Avoids, Away, Within, giving_marks, Act, Gave, ActsFollow, gave, links_end, Gives, giving, In-append}
+use Rattle.cdf_edits.proofs.Common.{Act, ActsFollow, AllKeep, Allowances, AreTiles, Avoids, Away, Edit, Field, Gave, GivenStay, Gives, HasShape, In, In-append, IsChain, IsSound, List, Mark, Same, Same-part, Shape, Unused, Within, [], ap, arith, false, fixed_size, gave, gdr_type, gdr_uir_head, giving, giving_marks, inl, inr, is_a-type, is_record_type, is_taken, le-leb, length, links_end, no_fields, number, owned_by, refl, shape, size_at, subst, sym, true, type_at, uir_next_uir, uir_prev_uir, uir_type, unused_records, ℕ, ◌++◌, ◌+◌, ◌∙◌, ◌∷◌, ◌≡◌, ◌≢◌, ◌≤◌, ◌⊎◌}
 use Rattle.cdf_edits.proofs.Edits.ActsThen.{acts_gave}
 use Rattle.cdf_edits.proofs.Edits.Composing.{edit_then, same-then, sizes}
 use Rattle.cdf_edits.proofs.Edits.FreedBytes.{behind_one, BytesStay, end_long, freed_stay_but}

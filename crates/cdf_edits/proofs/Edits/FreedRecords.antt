@@ -1,6 +1,5 @@
 -- Records that are freed one after the other are one edit.
-use Rattle.std.proofs.Common.{◌≡◌, ◌≢◌, ◌⊎◌, ℕ, ◌+◌, ◌≤◌, List, [], ◌∷◌, length, map, true, refl, sym, ap, subst, ◌∙◌, arith, inl, inr}
-use Rattle.cdf_edits.proofs.Common.{is_record_type, fixed_size, eqb-true, ◌==◌, nat_le, Same, is_in, size_at, type_at, uir_type, Shape, shape, IsSound, In, AreTiles, Distinct, either, tile_lies, Edit, wholes, freeing_marks, Mark, Avoids, giving_marks, AllGiven, unused, given_to, IsGiven}
+use Rattle.cdf_edits.proofs.Common.{AllGiven, AreTiles, Avoids, Distinct, Edit, In, IsGiven, IsSound, List, Mark, Same, Shape, [], ap, arith, either, eqb-true, fixed_size, freeing_marks, given_to, giving_marks, inl, inr, is_in, is_record_type, length, map, nat_le, refl, shape, size_at, subst, sym, tile_lies, true, type_at, uir_type, unused, wholes, ℕ, ◌+◌, ◌==◌, ◌∙◌, ◌∷◌, ◌≡◌, ◌≢◌, ◌≤◌, ◌⊎◌}
 use Rattle.cdf_edits.proofs.Space.ActsLeave.{places-sized}
 use Rattle.cdf_edits.proofs.Edits.Composing.{head_type, edit_then}
 use Rattle.cdf_edits.proofs.Edits.MarkLemmas.{or_cases, Avoids-append}

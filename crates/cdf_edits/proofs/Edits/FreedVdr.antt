@@ -1,6 +1,6 @@
 -- The old VDR is freed that another one took the place of: what the image is then, and what `set-pad` does where the VDR moves.
-use Rattle.std.proofs.Common.{◌≡◌, ◌≢◌, ◌⊎◌, not, ℕ, suc, ◌+◌, ◌<◌, ◌≤◌, List, [], ◌∷◌, ◌++◌, length, Some, eq-eqb, true, refl, sym, ap, subst, ◌∙◌, arith, inl, inr, le_refl}
-use Rattle.cdf_edits.proofs.Common.{size_kept, ne_eqb, lt-leb, ◌==◌, slice_set, turned, Kind, R, Z, Variable, image_limit, Found, variables_of, with_variables, is_in, next_field, content, variable_of, number, size_at, type_at, gdr_offset, read_types, Unused, owned, owned_by, unused_records, Field, gdr_eof, vdr_flags, fixed_size, is_record_type, VariableShape, Shape, vdrs, vdrs_append, is_little, Each, shape, In, In-append, pad_field, type_of_variable, vdr_end, Good, type_kept, number_kept, bytes_kept, good_by_its_shape, times-none, Hold-member, shape_is, AllKeep, Allowances, Anything, Keeps, Only, shapes_of, stays_own, vdr_type, set_pad_changes, unread_type, Edit, Mark, making_marks, giving_marks, adding_marks, Act, ActsFollow, Gave, Took, head_of, count_of, type_in, Gives, SetsPad, variables_chain}
+use Rattle.cdf_edits.proofs.Common.{Act, ActsFollow, AllKeep, Allowances, Anything, Each, Edit, Field, Found, Gave, Gives, Good, Hold-member, In, In-append, Keeps, Kind, List, Mark, Only, R, SetsPad, Shape, Some, Took, Unused, Variable, VariableShape, Z, [], adding_marks, ap, arith, bytes_kept, content, count_of, eq-eqb, fixed_size, gdr_eof, gdr_offset, giving_marks, good_by_its_shape, head_of, image_limit, inl, inr, is_in, is_little, is_record_type, le_refl, length, lt-leb, making_marks, ne_eqb, next_field, number, number_kept, owned, owned_by, pad_field, read_types, refl, set_pad_changes, shape, shape_is, shapes_of, size_at, size_kept, slice_set, stays_own, subst, suc, sym, times-none, true, turned, type_at, type_in, type_kept, type_of_variable, unread_type, unused_records, variable_of, variables_chain, variables_of, vdr_end, vdr_flags, vdr_type, vdrs, vdrs_append, with_variables, ℕ, ◌++◌, ◌+◌, ◌<◌, ◌==◌, ◌∙◌, ◌∷◌, ◌≡◌, ◌≢◌, ◌≤◌, ◌⊎◌}
+use Rattle.std.proofs.Common.{not}
 use Rattle.cdf_edits.proofs.Edits.VdrEdited.{ours}
 use Rattle.cdf_edits.proofs.Edits.MadeRecord.{place_in}
 use Rattle.cdf_edits.proofs.Edits.Common.{FileSame, FreesRecord, IsRuled, IsSorted, Kept, KeptButLink, StandsAmong, VariableLives, VariableSplices, after_ours, attributes_kept, as_long_now, behind_in, content_copied, fits, freed_each, freed_keeps_unused, freed_list, freed_real, freed_type, file_same, gdr_place, gdr_same, has, index_records, index_rules_stay, keep_own, keep_variable_parts, kind_type, links_copied, listed_before, listed_marks, long, loose_away, name_room, no_block, nums_from, other_chain, other_links, owned_once_if, pad_late, pad_wide, records_now, remain_from, rules_stay, same_as_itself, shape_now, sound, stood, the_one, through, tile, typed, used_times, vdr_allowance, with_shapes}

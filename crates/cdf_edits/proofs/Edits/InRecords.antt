@@ -1,12 +1,6 @@
 -- What is linked through some records of an image is linked through others that hold the same ones.
-use Rattle.std.proofs.Common.{◌≡◌, ℕ, ℤ, pos, negsuc, zero, suc, List, [], ◌∷◌, ◌++◌, map, Bool, true, false, not, ◌&&◌, ◌||◌, ◌+◌, ◌*◌, refl, sym, ap, subst, ◌∙◌, inl, inr}
-use Rattle.cdf_edits.proofs.Common.{map-append, flat_map, nat_le, is_some, ◌==◌, record_number_limit, is_positive, with_sign, number, size_at, type_at, vxr_type, vvr_type, cvvr_type, cpr_type, In, is_a, is_in, is_linkable, Nodes, no_node, node, Entries, no_entry, block, lower, Leaf, IsIndex, is_block, is_between, end_of, has_room, leaf_rows, vvr_rows, cvvr_rows, index_rows, Row, row, asked, Each, is_compressed, LeafFits, has_name, vdr_data_type, vdr_max_rec, vdr_s_records, vdr_name, cpr_p_count, is_z, number_before, record_bytes, has_dimensions, vdr_end, is_max_rec, cpr_link, is_no_link, is_cpr, is_known_packing, cpr_rows, is_named_apart, variable_rows, record_limit, In-append_left, In-append_right, is_in-true}
-use Rattle.cdf_format.specs.Index.{nodes_of, lower_nodes, leaves_of, entry_leaves}
-use Rattle.cdf_format.specs.IndexOf.{HasNodes, Names}
-use Rattle.cdf_format.specs.IndexRules.{nodes_rows, used_rows}
-use Rattle.cdf_format.specs.NotRead.{unread_sparse}
-use Rattle.cdf_format.specs.Stored.{known_type}
-use Rattle.cdf_format.specs.VariableRules.{has_elements}
+use Rattle.cdf_edits.proofs.Common.{Bool, Each, Entries, HasNodes, In, In-append_left, In-append_right, IsIndex, Leaf, LeafFits, List, Names, Nodes, Row, [], ap, asked, block, cpr_link, cpr_p_count, cpr_rows, cpr_type, cvvr_rows, cvvr_type, end_of, entry_leaves, false, flat_map, has_dimensions, has_elements, has_name, has_room, index_rows, inl, inr, is_a, is_between, is_block, is_compressed, is_cpr, is_in, is_in-true, is_known_packing, is_linkable, is_max_rec, is_named_apart, is_no_link, is_positive, is_some, is_z, known_type, leaf_rows, leaves_of, lower, lower_nodes, map, map-append, nat_le, negsuc, no_entry, no_node, node, nodes_of, nodes_rows, number, number_before, pos, record_bytes, record_limit, record_number_limit, refl, row, size_at, subst, suc, sym, true, type_at, unread_sparse, used_rows, variable_rows, vdr_data_type, vdr_end, vdr_max_rec, vdr_name, vdr_s_records, vvr_rows, vvr_type, vxr_type, with_sign, zero, ℕ, ℤ, ◌*◌, ◌++◌, ◌+◌, ◌==◌, ◌∙◌, ◌∷◌, ◌≡◌}
+use Rattle.std.proofs.Common.{not, ◌&&◌, ◌||◌}
 use Rattle.cdf_edits.proofs.Rules.OfVariables.{asked_same}
 
 -- a record that both have

@@ -12,8 +12,8 @@ use Rattle.cdf_edits.proofs.Frame.OwnersApart.{all_variable_records}
 use Rattle.cdf_edits.proofs.Frame.VdrAlike.{VdrAlike}
 use Rattle.cdf_edits.proofs.Rules.OfVdrCopied.{cpr_stays, variable_rules_alike}
 use Rattle.cdf_model.specs.Forms.{rows}
-use Rattle.std.proofs.Common.{[], ◌≡◌, ℕ, ◌≤◌, Bool, List, length, arith, not, ◌+◌, ◌∷◌, ◌++◌, sym, ◌∙◌, ap, ◌⊎◌, inl, inr, refl, ◌==◌, true, subst, if◌then◌else◌, max}
-use Rattle.cdf_edits.proofs.Common.{shapes_of, Edit, unmarked, Mark, Avoids, Away, avoided, keeps_file, type_in, count_of, head_of, variables_chain, word_kept, linkable-type, is_a-type, linkable-in, tile_lies, Same, is_in, is_a, IsChain, number, name_in, size_at, type_at, eof, Nodes, IsIndex, index_rows, read_types, owned, variable_records, OwnedOnce, uir_type, gdr_type, is_record_type, fixed_size, cpr_type, vdr_max_rec, vdr_name, vdr_vxr_head, gdr_uir_head, vdr_num, Hold, VariableShape, shape, Shape, HasVariable, HasShape, vdrs, is_compressed, In, cpr_link, is_max_rec, Good, image_limit, read, Kind}
+use Rattle.cdf_edits.proofs.Common.{Avoids, Away, Bool, Edit, Good, HasShape, HasVariable, Hold, In, IsChain, IsIndex, Kind, List, Mark, Nodes, OwnedOnce, Same, Shape, VariableShape, [], ap, arith, avoided, count_of, cpr_link, cpr_type, eof, fixed_size, gdr_type, gdr_uir_head, head_of, image_limit, index_rows, inl, inr, is_a, is_a-type, is_compressed, is_in, is_max_rec, is_record_type, keeps_file, length, linkable-in, linkable-type, max, name_in, number, owned, read, read_types, refl, shape, shapes_of, size_at, subst, sym, tile_lies, true, type_at, type_in, uir_type, unmarked, variable_records, variables_chain, vdr_max_rec, vdr_name, vdr_num, vdr_vxr_head, vdrs, word_kept, ℕ, ◌++◌, ◌+◌, ◌∙◌, ◌∷◌, ◌≡◌, ◌≤◌, ◌⊎◌}
+use Rattle.std.proofs.Common.{not, ◌==◌, if◌then◌else◌}
 use Rattle.cdf_edits.proofs.Edits.StandsAmong.{StandsAmong, sound, tile, typed, long, has, fits, behind_in, through, least_size}
 use Rattle.cdf_edits.proofs.Edits.OwnEdited.{OwnEdit, named_before, own_ruled}
 use Rattle.cdf_edits.proofs.Edits.OwnEdited as of_own

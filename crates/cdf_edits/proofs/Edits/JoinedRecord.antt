@@ -1,6 +1,5 @@
 -- A record of a type was made and then linked: what commands that make a record for a chain come to, with the steps that follow.
-use Rattle.std.proofs.Common.{◌≡◌, ◌≢◌, ℕ, ◌+◌, ◌≤◌, List, [], ◌∷◌, length, subst, true}
-use Rattle.cdf_edits.proofs.Common.{Took, IsSound, Same, IsChain, number, size_at, type_at, eof, gdr_uir_head, uir_type, is_record_type, fixed_size, Shape, shape, In, times, Fills, Mark, avoided, making_marks, is_late, Edit, ActsFollow, AllKeep, Allowances, Unused, owned_by, unused_records, type_of_body}
+use Rattle.cdf_edits.proofs.Common.{ActsFollow, AllKeep, Allowances, Edit, Fills, In, IsChain, IsSound, List, Mark, Same, Shape, Took, Unused, [], avoided, eof, fixed_size, gdr_uir_head, is_late, is_record_type, length, making_marks, number, owned_by, shape, size_at, subst, times, true, type_at, type_of_body, uir_type, unused_records, ℕ, ◌+◌, ◌∷◌, ◌≡◌, ◌≢◌, ◌≤◌}
 use Rattle.cdf_edits.specs.Space.Placing.{Placed}
 use Rattle.cdf_edits.proofs.Edits.EditActs.{acts_took}
 use Rattle.cdf_edits.proofs.Edits.MadeRecord.{end_now, list_chain, made_edit, made_keeps_unused, made_once, made_part, made_size, made_type, made_typed, place_in, shorter}

@@ -1,9 +1,5 @@
 -- A VDR is placed and linked among those of its kind, at the end or in the place of another one: what the image is then.
-use Rattle.std.proofs.Common.{◌≡◌, ◌≢◌, ℕ, ◌+◌, ◌≤◌, List, [], ◌∷◌, ◌++◌, length, true, refl, sym, ap, subst, ◌∙◌, arith}
-use Rattle.cdf_edits.proofs.Common.{Kind, R, Z, IsChain, eof, number, size_at, type_at, gdr_offset, gdr_type, uir_type, r_vdr_type, z_vdr_type, fixed_size, is_record_type, VariableShape, Shape, vdrs, variables, HasVariable, Each, Each-split, shape, IsSound, In, linkable-in, linkable-type, shape_is, shapes_of, variables_gdr_fields, ActsFollow, Took, Edit, Mark, all_unmarked, avoided, ended, index_types, is_late, keeps_file, keeps_index_records, making_marks, unmarked, within, adding_marks, head_of, holder_of, type_in, Fills, type_of_body, variables_chain, Chain, Same}
-use Rattle.cdf_edits.specs.Commands.Room.{vdr_bytes}
-use Rattle.cdf_edits.specs.Space.Adding.{Joined}
-use Rattle.cdf_edits.specs.Space.Placing.{IsBody}
+use Rattle.cdf_edits.proofs.Common.{ActsFollow, Chain, Each, Each-split, Edit, Fills, HasVariable, In, IsBody, IsChain, IsSound, Joined, Kind, List, Mark, R, Same, Shape, Took, VariableShape, Z, [], adding_marks, all_unmarked, ap, arith, avoided, ended, eof, fixed_size, gdr_offset, gdr_type, head_of, holder_of, index_types, is_late, is_record_type, keeps_file, keeps_index_records, length, linkable-in, linkable-type, making_marks, number, r_vdr_type, refl, shape, shape_is, shapes_of, size_at, subst, sym, true, type_at, type_in, type_of_body, uir_type, unmarked, variables, variables_chain, variables_gdr_fields, vdr_bytes, vdrs, within, z_vdr_type, ℕ, ◌++◌, ◌+◌, ◌∙◌, ◌∷◌, ◌≡◌, ◌≢◌, ◌≤◌}
 use Rattle.cdf_edits.proofs.Edits.Common.{FileSame, IsPlain, KeptButLink, VariableLives, VariableSplices, acts_took, apart, avoided-avoids, end_now, ended-avoids, file_same, keeps_all_attributes, keeps_kind, kept_but_link, kind_chain, kind_ours, list_chain, made_edit, made_part, made_size, made_type, of_kind, other_kind, shape_now, the_one, with_shapes}
 use Rattle.cdf_edits.proofs.Edits.VariableFrame.{AreOurs, clear_live, ours_parts, remain_from}
 

@@ -1,14 +1,10 @@
 -- Leaves in order, each with its place: how one is found, and the bytes of its records where it is not packed.
-use Rattle.std.proofs.Common.{◌≡◌, ◌⊎◌, ℕ, zero, suc, ◌+◌, ◌-◌, ◌*◌, ◌<◌, ◌≤◌, List, [], ◌∷◌, take, drop, Bool, true, false, Some, None, leb, eq-eqb, refl, sym, ap, subst, ◌∙◌, arith, inl, inr}
-use Rattle.cdf_edits.proofs.Common.{le-leb, lt-leb, ne_eqb, drop-drop, same_Some, ◌==◌, find, if◌then◌else◌, record_number_limit, plain_bytes, Leaf, times, Each, In, record_bytes, either, both, le_of, range, covers}
-use Rattle.std.proofs.lemmas.List.{take-take, drop-take}
+use Rattle.cdf_edits.proofs.Common.{AnyOf, Bool, Each, In, Leaf, List, None, Some, [], ap, arith, both, covers, drop, drop-drop, drop-take, either, eq-eqb, false, find, if◌then◌else◌, inl, inr, le-leb, le_of, leb, lt-leb, ne_eqb, plain_bytes, range, record_bytes, record_number_limit, refl, same_Some, shared, subst, suc, sym, take-take, times, true, vvr_place, zero, ℕ, ◌*◌, ◌+◌, ◌-◌, ◌<◌, ◌==◌, ◌∙◌, ◌∷◌, ◌≡◌, ◌≤◌, ◌⊎◌}
+use Rattle.std.proofs.Common.{take}
 use Rattle.std.specs.Prelude.{max}
-use Rattle.cdf_edits.specs.Index.Blocks.{shared}
-use Rattle.cdf_edits.specs.Index.Written.{AnyOf}
 use Rattle.cdf_edits.proofs.Edits.InRecords.{places_of}
 use Rattle.cdf_edits.proofs.Edits.LeafRecords.{Ascending, count_is}
 use Rattle.cdf_edits.proofs.Frame.OwnersApart.{times-in}
-use Rattle.cdf_format.specs.Records.{vvr_place}
 
 abbrev pub IsOneOf : List Leaf → Leaf → Type 0
 IsOneOf leaves l = AnyOf (λ (other : Leaf). other ≡ l) leaves

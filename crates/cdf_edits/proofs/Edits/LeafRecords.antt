@@ -1,6 +1,6 @@
 -- The records of leaves in order, by their numbers: which record has a number, and that the numbers rise.
-use Rattle.std.proofs.Common.{◌≡◌, ◌⊎◌, ℕ, ℤ, pos, zero, suc, ◌+◌, ◌-◌, ◌*◌, ◌^◌, ◌<◌, ◌≤◌, List, [], ◌∷◌, ◌++◌, map, take, drop, true, false, Option, Some, None, ltb, leb, refl, sym, ap, subst, ◌∙◌, arith, inl, inr}
-use Rattle.cdf_edits.proofs.Common.{lt-ltb, le-ltb, cases_eq, cases_lt, le-leb, lt-leb, nat_tests, drop-drop, -ℤ_one, enumerate_from, flat_map, option_map, find, ◌-ℤ◌, parts, turned, extent, record_number_limit, item_at, plain_bytes, leaf_records, records_in, with_sign, counted, Leaf, is_little, counted4, number_before, type_of_variable, record_bytes, max_rec_at, records_of_leaf, either, range, covers, stored_bytes}
+use Rattle.cdf_edits.proofs.Common.{ -ℤ_one, Leaf, List, None, Option, Some, [], ap, arith, cases_eq, cases_lt, counted, counted4, covers, drop, drop-drop, either, enumerate_from, extent, false, find, flat_map, inl, inr, is_little, item_at, le-leb, le-ltb, leaf_records, leb, lt-leb, lt-ltb, ltb, map, max_rec_at, nat_tests, number_before, option_map, parts, plain_bytes, pos, range, record_bytes, record_number_limit, records_in, records_of_leaf, refl, stored_bytes, subst, suc, sym, true, turned, type_of_variable, with_sign, zero, ℕ, ℤ, ◌*◌, ◌++◌, ◌+◌, ◌-ℤ◌, ◌-◌, ◌<◌, ◌^◌, ◌∙◌, ◌∷◌, ◌≡◌, ◌≤◌, ◌⊎◌}
+use Rattle.std.proofs.Common.{take}
 use Rattle.cdf_edits.proofs.Edits.NumberedItems.{Rising, none, one}
 use Rattle.cdf_edits.proofs.Edits.NumberedLookup.{item_here, item_later, none_below, those, rising_those, item_those, none_those}
 

@@ -1,9 +1,6 @@
 -- The leaves of an index that keeps its rules are in order.
-use Rattle.std.proofs.Common.{◌≡◌, ◌⊎◌, ℕ, ℤ, pos, negsuc, zero, suc, ◌-◌, ◌^◌, ◌<◌, ◌≤◌, List, [], ◌∷◌, ◌++◌, true, ◌&&◌, ltb, true≢false, refl, sym, ap, subst, ◌∙◌, arith, inl, inr}
-use Rattle.cdf_edits.proofs.Common.{nat_tests, -ℤ_one, flat_map, ◌-ℤ◌, record_number_limit, with_sign, Nodes, no_node, node, Entries, no_entry, block, lower, Leaf, end_of, is_between, leaf_rows, index_rows, Hold, number_before, either, Hold-split, both, le_of}
-use Rattle.std.specs.Prelude.{int_lt, int_le}
-use Rattle.cdf_format.specs.Index.{leaves_of, entry_leaves}
-use Rattle.cdf_format.specs.IndexRules.{nodes_rows, used_rows}
+use Rattle.cdf_edits.proofs.Common.{ -ℤ_one, Entries, Hold, Hold-split, Leaf, List, Nodes, [], ap, arith, block, both, either, end_of, entry_leaves, flat_map, index_rows, inl, inr, int_le, int_lt, is_between, le_of, leaf_rows, leaves_of, lower, ltb, nat_tests, negsuc, no_entry, no_node, node, nodes_rows, number_before, pos, record_number_limit, refl, subst, suc, sym, true, true≢false, used_rows, with_sign, zero, ℕ, ℤ, ◌++◌, ◌-ℤ◌, ◌-◌, ◌<◌, ◌^◌, ◌∙◌, ◌∷◌, ◌≡◌, ◌≤◌, ◌⊎◌}
+use Rattle.std.proofs.Common.{◌&&◌}
 use Rattle.cdf_edits.proofs.Edits.LeafRecords.{Ascending}
 
 -- ---- leaves in order

@@ -1,6 +1,5 @@
 -- A member of a chain of the GDR that leaves it: the count falls, fields of those behind are written, and then others of the GDR.
-use Rattle.std.proofs.Common.{◌≡◌, ◌≢◌, ℕ, ◌+◌, ◌^◌, ◌<◌, ◌≤◌, List, [], ◌∷◌, ◌++◌, length, map, true, eq-eqb, refl, sym, ap, subst, ◌∙◌, arith, inl, inr}
-use Rattle.cdf_edits.proofs.Common.{flat_map, length-append, length-map, map-append, In-append_right, Covered, touched_field, Field, is_linkable, fixed_size, linkable-in, linkable-type, eqb-true, ◌==◌, Same, IsChain, number, size_at, type_at, gdr_offset, gdr_uir_head, gdr_type, uir_type, Shape, Each, HasShape, IsSound, In, Distinct, Distinct-middle, either, Edit, Mark, avoided, keeps_file, field_marks, removing_marks, Write, write, with_writes, holder_of, head_of, count_of, type_in, Removed, Chain}
+use Rattle.cdf_edits.proofs.Common.{Chain, Covered, Distinct, Distinct-middle, Each, Edit, Field, HasShape, In, In-append_right, IsChain, IsSound, List, Mark, Removed, Same, Shape, Write, [], ap, arith, avoided, count_of, either, eq-eqb, eqb-true, field_marks, fixed_size, flat_map, gdr_offset, gdr_type, gdr_uir_head, head_of, holder_of, inl, inr, is_linkable, keeps_file, length, length-append, length-map, linkable-in, linkable-type, map, map-append, number, refl, removing_marks, size_at, subst, sym, touched_field, true, type_at, type_in, uir_type, with_writes, write, ℕ, ◌++◌, ◌+◌, ◌<◌, ◌==◌, ◌^◌, ◌∙◌, ◌∷◌, ◌≡◌, ◌≢◌, ◌≤◌}
 use Rattle.cdf_edits.specs.Space.Chains.{without}
 use Rattle.cdf_edits.proofs.Edits.ChainsOfShape.{IsOf, remove_changed, left_chain}
 use Rattle.cdf_edits.proofs.Edits.Composing.{head_size, head_type, edit_then}

@@ -1,6 +1,5 @@
 -- An entry is taken out of a chain of an attribute, which then counts one less, and the greatest number is written.
-use Rattle.std.proofs.Common.{◌≡◌, ◌≢◌, ℕ, ◌+◌, ◌≤◌, List, [], ◌∷◌, ◌++◌, length, ℤ, true, eq-eqb, refl, sym, ap, subst, ◌∙◌, arith, inl, inr}
-use Rattle.cdf_edits.proofs.Common.{cases_eq, ne_eqb, w32, cast_unsigned, FitsSigned, EntryKind, IsChain, eof, number, integer4, size_at, type_at, with_field, attribute_records, gdr_eof, gdr_uir_head, uir_next_uir, uir_prev_uir, gdr_type, adr_type, uir_type, AttributeShape, HasShape, Shape, shape, IsSound, In, Distinct, linkable-in, linkable-type, space_fields, chain_of, chain_fields, entry_type, max_field, Edit, entries_chain, head_field, count_field, keeps_but_chain, Mark, avoided, ended, unmarked, within, removing_marks, giving_marks, field_marks, ActsFollow, HolderStands, Removed, head_of, holder_of, holder_type, members_of, type_in}
+use Rattle.cdf_edits.proofs.Common.{ActsFollow, AttributeShape, Distinct, Edit, EntryKind, FitsSigned, HasShape, HolderStands, In, IsChain, IsSound, List, Mark, Removed, Shape, [], adr_type, ap, arith, attribute_records, avoided, cases_eq, cast_unsigned, chain_fields, chain_of, count_field, ended, entries_chain, entry_type, eof, eq-eqb, field_marks, gdr_eof, gdr_type, gdr_uir_head, giving_marks, head_field, head_of, holder_of, holder_type, inl, inr, integer4, keeps_but_chain, length, linkable-in, linkable-type, max_field, members_of, ne_eqb, number, refl, removing_marks, shape, size_at, space_fields, subst, sym, true, type_at, type_in, uir_next_uir, uir_prev_uir, uir_type, unmarked, w32, with_field, within, ℕ, ℤ, ◌++◌, ◌+◌, ◌∙◌, ◌∷◌, ◌≡◌, ◌≢◌, ◌≤◌}
 use Rattle.cdf_model.specs.declared.kinds.EntryKind.TheVariants as entries
 use Rattle.cdf_edits.specs.Space.Chains.{without}
 use Rattle.cdf_edits.proofs.Edits.AttributeFrame.{AreThere}

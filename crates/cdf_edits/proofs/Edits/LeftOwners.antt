@@ -1,6 +1,5 @@
 -- The owners of an image of which one has gone: each other one has what it had.
-use Rattle.std.proofs.Common.{◌≡◌, ◌≢◌, ℕ, suc, ◌+◌, ◌≤◌, List, [], ◌∷◌, true, false, ◌⊎◌, eq-eqb, refl, sym, subst, ◌∙◌, arith, inl, inr}
-use Rattle.cdf_edits.proofs.Common.{shape_is, flat_map, ◌==◌, type_at, times, owned_records, unused_records, OwnedOnce, uir_type, Shape, shape, AreFree, IsSound, In, Distinct, either, times-none, Edit, Mark}
+use Rattle.cdf_edits.proofs.Common.{AreFree, Distinct, Edit, In, IsSound, List, Mark, OwnedOnce, Shape, [], arith, either, eq-eqb, false, flat_map, inl, inr, owned_records, refl, shape, shape_is, subst, suc, sym, times, times-none, true, type_at, uir_type, unused_records, ℕ, ◌+◌, ◌==◌, ◌∙◌, ◌∷◌, ◌≡◌, ◌≢◌, ◌≤◌, ◌⊎◌}
 use Rattle.cdf_edits.proofs.Edits.ChainOwners.{not_twice_kept}
 use Rattle.cdf_edits.proofs.Edits.OwnedOnce.{used_times, owned_once_if, none_in_use, unused_unowned}
 use Rattle.cdf_edits.proofs.Frame.OwnersApart.{times-append, times-in, owned-times, file_records, all_attribute_records, all_variable_records}

@@ -1,6 +1,5 @@
 -- A record is taken and written anew, and then it is linked and counted: what every command has that makes a record.
-use Rattle.std.proofs.Common.{◌≡◌, ◌≢◌, ◌⊎◌, ℕ, ◌+◌, ◌-◌, ◌<◌, ◌≤◌, List, [], ◌∷◌, ◌++◌, length, map, true, false, eq-eqb, refl, sym, ap, ap₂, subst, ◌∙◌, arith, inl, inr}
-use Rattle.cdf_edits.proofs.Common.{leb-true, ◌==◌, ◌&&◌, nat_le, Took, sized, IsSound, Allowances, is_taken, AllKeep, Same, touch, Changed, is_in, IsChain, content, number, size_at, type_at, eof, Unused, owned_by, unused_records, unused, place_for, taken_from, eof_after, with_space, back_links, Field, record_size, gdr_eof, gdr_uir_head, uir_next_uir, uir_prev_uir, gdr_type, uir_type, is_record_type, fixed_size, Shape, HasShape, shape, In, times, word_kept, is_a-in, is_a-type, linkable-in, linkable-type, linkable-long, either, true-is_in, false-is_in, both, tile_lies, Fills, Mark, whole, Avoids, Away, Within, avoided, unmarked, taking_marks, making_marks, is_late, Edit}
+use Rattle.cdf_edits.proofs.Common.{AllKeep, Allowances, Avoids, Away, Changed, Edit, Field, Fills, HasShape, In, IsChain, IsSound, List, Mark, Same, Shape, Took, Unused, Within, [], ap, ap₂, arith, avoided, back_links, both, content, either, eof, eof_after, eq-eqb, false, false-is_in, fixed_size, gdr_eof, gdr_type, gdr_uir_head, inl, inr, is_a-in, is_a-type, is_in, is_late, is_record_type, is_taken, leb-true, length, linkable-in, linkable-long, linkable-type, making_marks, map, nat_le, number, owned_by, place_for, record_size, refl, shape, size_at, sized, subst, sym, taken_from, taking_marks, tile_lies, times, touch, true, true-is_in, type_at, uir_next_uir, uir_prev_uir, uir_type, unmarked, unused, unused_records, whole, with_space, word_kept, ℕ, ◌&&◌, ◌++◌, ◌+◌, ◌-◌, ◌<◌, ◌==◌, ◌∙◌, ◌∷◌, ◌≡◌, ◌≢◌, ◌≤◌, ◌⊎◌}
 use Rattle.cdf_edits.proofs.Space.RecordFilled.{filled_stays_sound}
 use Rattle.cdf_edits.proofs.Space.TakenLeaves.{KeepsTaken, IsRest, takes_keep, takes_new, takes_longest}
 use Rattle.cdf_edits.proofs.Space.ActsLeave.{no_rest, places-sized}

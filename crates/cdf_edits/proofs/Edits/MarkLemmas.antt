@@ -1,7 +1,6 @@
 -- What avoids marks.
-use Rattle.std.proofs.Common.{◌≡◌, ◌⊎◌, ℕ, ◌+◌, ◌≤◌, List, [], ◌∷◌, ◌++◌, Bool, true, false, not, ◌||◌, eq-eqb, refl, subst, sym, true≢false, ◌∙◌, arith, inl, inr, ap}
-use Rattle.cdf_edits.proofs.Common.{leb-true, eqb-true, ◌==◌, nat_le, ◌&&◌, if◌then◌else◌, OutsideFields, Touch, Misses, is_in, type_at, Field, Each, In, both, Lies, Mark, Avoids, Away, Within, Confined, avoided, ended, unmarked, all_unmarked, within, Covered, Marked, either}
-use Rattle.cdf_edits.specs.Edits.Marks.{has_mark}
+use Rattle.cdf_edits.proofs.Common.{Avoids, Away, Bool, Confined, Covered, Each, Field, In, Lies, List, Mark, Marked, Misses, OutsideFields, Touch, Within, [], all_unmarked, ap, arith, avoided, both, either, ended, eq-eqb, eqb-true, false, has_mark, if◌then◌else◌, inl, inr, is_in, leb-true, nat_le, refl, subst, sym, true, true≢false, type_at, unmarked, within, ℕ, ◌&&◌, ◌++◌, ◌+◌, ◌==◌, ◌∙◌, ◌∷◌, ◌≡◌, ◌≤◌, ◌⊎◌}
+use Rattle.std.proofs.Common.{not, ◌||◌}
 
 pub the_one : (x m : ℕ) → In m (x ∷ []) → m ≡ x
 the_one x m (inl q) = q

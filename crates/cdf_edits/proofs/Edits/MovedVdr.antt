@@ -1,6 +1,5 @@
 -- A VDR is placed anew and takes the place of the old one in its chain: the image until the old one is freed.
-use Rattle.std.proofs.Common.{◌≡◌, ◌≢◌, ◌⊎◌, ℕ, ◌+◌, ◌<◌, ◌≤◌, List, [], ◌∷◌, ◌++◌, length, eq-eqb, refl, sym, ap, subst, ◌∙◌, arith, inl, inr, le_refl}
-use Rattle.cdf_edits.proofs.Common.{ne_eqb, Kind, IsChain, number, size_at, type_at, times, owned_records, VariableShape, Shape, vdrs, HasVariable, HasShape, Each, shape, IsSound, In, In-append_left, In-append_right, Distinct, Distinct-back, Distinct-middle, pad_field, value_bytes, vdr_end, Good, Each-split, vdrs_append, shapes_of, counted_in, head_of, members_of, type_in, with_in_place, variables_chain}
+use Rattle.cdf_edits.proofs.Common.{Distinct, Distinct-back, Distinct-middle, Each, Each-split, Good, HasShape, HasVariable, In, In-append_left, In-append_right, IsChain, IsSound, Kind, List, Shape, VariableShape, [], ap, arith, counted_in, eq-eqb, head_of, inl, inr, le_refl, length, members_of, ne_eqb, number, owned_records, pad_field, refl, shape, shapes_of, size_at, subst, sym, times, type_at, type_in, value_bytes, variables_chain, vdr_end, vdrs, vdrs_append, with_in_place, ℕ, ◌++◌, ◌+◌, ◌<◌, ◌∙◌, ◌∷◌, ◌≡◌, ◌≢◌, ◌≤◌, ◌⊎◌}
 use Rattle.cdf_edits.proofs.Edits.Common.{unlike, IsHeld, StandsAmong, VariableLives, behind_in, fits, fits_copied, has, index_records, kind_chain, late_type, links_copied, made_once, members_are, not_twice_kept, of_kind, owned-times, sound, sound_if, spliced_times, the_one, tile, times-append, typed, none_in_use, used_times, with_shapes}
 use Rattle.cdf_edits.proofs.Edits.JoinedVdr.{JoinsVdr, chain, edit, file, fills, gdr_is, joined_is, joined_size, joined_splices, list, lives, marks, plain_kind, records, t, used}
 use Rattle.cdf_edits.proofs.Edits.PadWritten.{HoldsPad, copied, packed, padded_end}

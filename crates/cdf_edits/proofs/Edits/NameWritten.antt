@@ -1,9 +1,6 @@
 -- A name that is written as a field of a record: the field is filled with it and with bytes 0, and no other byte changes.
-use Rattle.std.proofs.Common.{◌≡◌, ℕ, ◌+◌, ◌-◌, ◌≤◌, List, [], ◌∷◌, ◌++◌, length, take, drop, replicate, ◌∙◌, ap, arith}
-use Rattle.cdf_edits.proofs.Common.{length-append, take_at, LiesIn, Field, length-put, drop-put_there, touched_field, Changed}
-use Rattle.std.proofs.lemmas.List.{length-replicate}
-use Rattle.cdf_format.specs.Fields.{with_name}
-use Rattle.cdf_edits.specs.Commands.NewRecords.{IsFilled}
+use Rattle.cdf_edits.proofs.Common.{Changed, Field, IsFilled, LiesIn, List, [], ap, arith, drop, drop-put_there, length, length-append, length-put, length-replicate, replicate, take_at, touched_field, with_name, ℕ, ◌++◌, ◌+◌, ◌-◌, ◌∙◌, ◌∷◌, ◌≡◌, ◌≤◌}
+use Rattle.std.proofs.Common.{take}
 use Rattle.cdf_edits.proofs.Frame.ChangedBytes.{changed_put}
 
 module _ (b : List ℕ) (place : ℕ) (f : Field) (to : List ℕ) (lies : LiesIn b place f) (short : length to ≤ f.width) where

@@ -1,6 +1,5 @@
 -- Items by their numbers, which rise; and what becomes of them where one is put in.
-use Rattle.std.proofs.Common.{◌≡◌, ℕ, ◌+◌, ◌<◌, ◌≤◌, List, [], ◌∷◌, eq-eqb, refl, sym, subst, arith, inl, inr}
-use Rattle.cdf_edits.proofs.Common.{cases_eq, cases_lt, lt-ltb, le-ltb, ne_eqb, with_item}
+use Rattle.cdf_edits.proofs.Common.{List, [], arith, cases_eq, cases_lt, eq-eqb, inl, inr, le-ltb, lt-ltb, ne_eqb, refl, subst, sym, with_item, ℕ, ◌+◌, ◌<◌, ◌∷◌, ◌≡◌, ◌≤◌}
 
 -- ---- an item that is put in
 

@@ -1,6 +1,5 @@
 -- Items by their numbers, told by what each number has: of lists whose numbers rise, those that have the same are the same.
-use Rattle.std.proofs.Common.{◌≡◌, ◌≢◌, ℕ, zero, suc, ◌+◌, ◌<◌, ◌≤◌, List, [], ◌∷◌, Bool, true, false, true≢false, Some, None, eq-eqb, refl, sym, ap, subst, ◌∙◌, arith, inl, inr}
-use Rattle.cdf_edits.proofs.Common.{cases_eq, cases_lt, le-leb, lt-leb, ne_eqb, either, filter, nat_le, not, ◌&&◌, item_at, with_item, with_items, without}
+use Rattle.cdf_edits.proofs.Common.{Bool, List, None, Some, [], ap, arith, cases_eq, cases_lt, either, eq-eqb, false, filter, inl, inr, item_at, le-leb, lt-leb, nat_le, ne_eqb, not, refl, subst, suc, sym, true, true≢false, with_item, with_items, without, zero, ℕ, ◌&&◌, ◌+◌, ◌<◌, ◌∙◌, ◌∷◌, ◌≡◌, ◌≢◌, ◌≤◌}
 use Rattle.cdf_edits.proofs.Edits.NumberedItems.{before_first, at_first, behind_first, Order, Below, Equal, Above, order, Rising, none, one, rising_lower, rising_with}
 
 differ : (p : ℕ → Bool) (n k : ℕ) → p n ≡ true → p k ≡ false → n ≢ k

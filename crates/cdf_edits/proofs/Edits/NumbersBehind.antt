@@ -1,6 +1,5 @@
 -- Numbers that the members of a chain get one after the other, and that other records of theirs say.
-use Rattle.std.proofs.Common.{◌≡◌, ℕ, suc, ◌+◌, ◌^◌, ◌<◌, ◌≤◌, List, [], ◌∷◌, ◌++◌, length, map, refl, sym, ap, subst, ◌∙◌, arith, inl, inr}
-use Rattle.cdf_edits.proofs.Common.{length-map, number_rows, Hold, flat_map, map-append, number, Field, Each, In, In-append, In-append_left, In-append_right, Each-split, Each-append, Write, write}
+use Rattle.cdf_edits.proofs.Common.{Each, Each-append, Each-split, Field, Hold, In, In-append, In-append_left, In-append_right, List, Write, [], ap, arith, flat_map, inl, inr, length, length-map, map, map-append, number, number_rows, refl, subst, suc, sym, write, ℕ, ◌++◌, ◌+◌, ◌<◌, ◌^◌, ◌∙◌, ◌∷◌, ◌≡◌, ◌≤◌}
 use Rattle.cdf_edits.proofs.Edits.RowsOneLess.{AreNumbered, one_less}
 use Rattle.cdf_edits.proofs.Edits.WrittenFields.{written_tiles}
 

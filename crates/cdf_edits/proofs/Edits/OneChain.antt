@@ -1,10 +1,7 @@
 -- What an image comes to in which one chain of entries of an attribute is another, for a command on an entry of a number.
-use Rattle.std.proofs.Common.{◌≡◌, ◌≤◌, ◌+◌, ℕ, List, [], ◌∷◌, length, map, true, false, true≢false, Some, refl, sym, ap, subst, ◌∙◌, eq-eqb, ◌++◌, arith}
-use Rattle.cdf_edits.proofs.Common.{flat_map, slice_get, sum, Plain, Command, EntryKind, Go, entries_of, with_attribute, with_entries, Attribute, DataSet, Entry, image_limit, attribute_named, ByStep, step, entry_rows, same_number, entries_rows, differ_rows, is_in, content, attribute_of, number, integer4, type_at, eof, read_types, Unused, owned_by, times, unused_records, owned, aedr_num, gdr_type, adr_type, Hold, AttributeShape, Shape, shape, IsSound, In, Distinct, Good, good_by_its_shape, rules_of_good, good_is_sound, Hold-append, Hold-members, Hold-split, Hold-member, good_long, sealed_kept, Allowances, AllKeep, space_fields, Does, entry_changes, chain_of, chain_fields, max_field, greatest_number, allowances, OfAttribute, room, count_field, with_chain, Mark, within, Follows, only_reads, Act, ActsFollow, taken, eq_of}
+use Rattle.cdf_edits.proofs.Common.{Act, ActsFollow, AllKeep, Allowances, Attribute, AttributeShape, ByStep, ChainFollows, Command, DataSet, Distinct, Does, Entry, EntryKind, Follows, Go, Good, Hold, Hold-append, Hold-member, Hold-members, Hold-split, In, IsSound, List, Mark, OfAttribute, Plain, Shape, Some, Unused, [], adr_type, aedr_num, allowances, ap, arith, attribute_named, attribute_of, chain_after, chain_fields, chain_of, content, count_field, differ_rows, entries_of, entries_rows, entry_at, entry_changes, entry_rows, eof, eq-eqb, eq_of, false, flat_map, gdr_type, good_by_its_shape, good_is_sound, good_long, greatest_number, image_limit, integer4, is_in, length, map, max_field, number, only_reads, owned, owned_by, read_types, refl, room, rules_of_good, same_number, sealed_kept, shape, slice_get, space_fields, step, subst, sum, sym, taken, times, true, true≢false, type_at, unused_records, with_attribute, with_chain, with_entries, within, ℕ, ◌++◌, ◌+◌, ◌∙◌, ◌∷◌, ◌≡◌, ◌≤◌}
 use Rattle.cdf_model.specs.declared.kinds.EntryKind.TheVariants as entries
 use Rattle.cdf_format.specs.Content.{entries_of as chain_items}
-use Rattle.cdf_edits.specs.Commands.Entries.{ChainFollows, chain_after}
-use Rattle.cdf_edits.specs.Commands.EntryChains.{entry_at}
 use Rattle.cdf_edits.proofs.Edits.ChainEntries.{nums, differ_by_nums, nums_differ, entry_rules_live}
 use Rattle.cdf_edits.proofs.Edits.ChainFollowed.{of_attribute, is_named, greatest_follow}
 use Rattle.cdf_edits.proofs.Edits.ChainKept.{entry_keeps}

@@ -1,6 +1,5 @@
 -- An edit that changes one attribute, which stays in its place.
-use Rattle.std.proofs.Common.{◌≡◌, ℕ, List, [], ◌∷◌, ◌++◌, length, map, true, sym, ap, subst, ◌∙◌, arith, inl, inr}
-use Rattle.cdf_edits.proofs.Common.{length-map, map-append, set_at, flat_map, slice_set, ◌==◌, Attribute, DataSet, with_attribute, IsSound, adrs_rows, content, attribute_of, number, name_in, type_at, gdr_offset, IsGoodByShape, attribute_records, gdr_num_attr, adr_name, adr_num, gdr_type, row, Hold, AttributeShape, Shape, adrs, Each, In, In-append, In-append_left, In-append_right, names_at, content_is, Mark, Away, avoided, Edit}
+use Rattle.cdf_edits.proofs.Common.{Attribute, AttributeShape, Away, DataSet, Each, Edit, Hold, In, In-append, In-append_left, In-append_right, IsGoodByShape, IsSound, List, Mark, Shape, [], adr_name, adr_num, adrs, adrs_rows, ap, arith, attribute_of, attribute_records, avoided, content, content_is, flat_map, gdr_num_attr, gdr_offset, gdr_type, inl, inr, length, length-map, map, map-append, name_in, names_at, number, row, set_at, slice_set, subst, sym, true, type_at, with_attribute, ℕ, ◌++◌, ◌==◌, ◌∙◌, ◌∷◌, ◌≡◌}
 use Rattle.cdf_edits.proofs.Rules.WithoutLinks.{number_rows_kept}
 use Rattle.cdf_edits.proofs.Edits.AttributeFrame.{AreThere, lives_away, remaining_names, nums_stay}
 use Rattle.cdf_edits.proofs.Edits.RecordFrame.{AttributeLives, gdr_field, gdr_place}

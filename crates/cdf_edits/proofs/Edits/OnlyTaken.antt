@@ -1,6 +1,5 @@
 -- Acts that take records and free none: what they leave of the unused list.
-use Rattle.std.proofs.Common.{◌≡◌, ◌⊎◌, ℕ, ◌+◌, ◌-◌, ◌<◌, ◌≤◌, List, [], ◌∷◌, ◌++◌, Bool, true, false, refl, ap, ◌∙◌, arith, inl, inr}
-use Rattle.cdf_edits.proofs.Common.{lt-leb, le-ltb, fold, list_any, ◌==◌, ◌&&◌, ◌||◌, nat_le, nat_lt, if◌then◌else◌, Act, Took, Gave, SpaceLeft, taken, after_act, AreActs, is_taken, fits, place_for, taken_from, eof_after, size_at, either, le_of}
+use Rattle.cdf_edits.proofs.Common.{Act, AreActs, Bool, Gave, List, SpaceLeft, Took, [], after_act, ap, arith, either, eof_after, false, fits, fold, if◌then◌else◌, inl, inr, is_taken, le-ltb, le_of, list_any, lt-leb, nat_le, nat_lt, place_for, refl, size_at, taken, taken_from, true, ℕ, ◌&&◌, ◌++◌, ◌+◌, ◌-◌, ◌<◌, ◌==◌, ◌||◌, ◌∙◌, ◌∷◌, ◌≡◌, ◌≤◌, ◌⊎◌}
 use Rattle.cdf_edits.specs.Space.Acts.{Among}
 
 -- no record is freed

@@ -12,8 +12,7 @@ use Rattle.cdf_edits.proofs.Edits.VariableNames.{own_names_apart, apart_if, IsBe
 use Rattle.cdf_edits.proofs.Edits.VariableSplice.{VariableSplices, shape_now, good_image_if, keeps_all_attributes, content_now, parts_ruled}
 use Rattle.cdf_edits.proofs.Frame.Meaning.{FileSame}
 use Rattle.cdf_edits.proofs.Frame.OwnersApart.{all_variable_records}
-use Rattle.std.proofs.Common.{suc, inr, ap, [], ◌≡◌, ℕ, ◌≤◌, List, length, ◌+◌, ◌∷◌, ◌++◌, sym, ◌∙◌, inl, refl, true, false, subst, map, bytes_eq, arith}
-use Rattle.cdf_edits.proofs.Common.{length-append, number_rows, ◌==◌, r_max_rec, w32, cast_signed, integer4, name_in, number, size_at, type_at, eof, gdr_offset, gdr_r_max_rec, gdr_eof, Field, vdr_name, gdr_uir_head, vdr_num, word_kept, ActsFollow, shapes_of, Edit, Mark, Avoids, Away, avoided, keeps_file, unmarked, type_in, count_of, head_of, variables_chain, vdrs_append, good_by_its_shape, rules_of_good, good_long, sealed_kept, shape_is, content_is, is_in, IsChain, variable_of, content, Nodes, read_types, owned, variable_records, OwnedOnce, uir_type, gdr_type, is_record_type, fixed_size, Hold, vdrs, VariableShape, shape, Shape, HasVariable, HasShape, In, Good, Variable, DataSet, image_limit, with_variables, variables_of, read, Kind, R, Z, map-append, length-map, set_at, flat_map, slice_set}
+use Rattle.cdf_edits.proofs.Common.{ActsFollow, Avoids, Away, DataSet, Edit, Field, Good, HasShape, HasVariable, Hold, In, IsChain, Kind, List, Mark, Nodes, OwnedOnce, R, Shape, Variable, VariableShape, Z, [], ap, arith, avoided, bytes_eq, cast_signed, content, content_is, count_of, eof, false, fixed_size, flat_map, gdr_eof, gdr_offset, gdr_r_max_rec, gdr_type, gdr_uir_head, good_by_its_shape, good_long, head_of, image_limit, inl, inr, integer4, is_in, is_record_type, keeps_file, length, length-append, length-map, map, map-append, name_in, number, number_rows, owned, r_max_rec, read, read_types, refl, rules_of_good, sealed_kept, set_at, shape, shape_is, shapes_of, size_at, slice_set, subst, suc, sym, true, type_at, type_in, uir_type, unmarked, variable_of, variable_records, variables_chain, variables_of, vdr_name, vdr_num, vdrs, vdrs_append, w32, with_variables, word_kept, ℕ, ◌++◌, ◌+◌, ◌==◌, ◌∙◌, ◌∷◌, ◌≡◌, ◌≤◌}
 use Rattle.cdf_edits.proofs.Edits.StandsAmong.{StandsAmong, sound, ours, after_ours}
 
 -- ---- one variable of a kind became another one

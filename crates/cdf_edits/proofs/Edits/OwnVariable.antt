@@ -1,6 +1,5 @@
 -- The records of one variable in the order in which they are freed are those that it has.
-use Rattle.std.proofs.Common.{◌≡◌, ℕ, ◌≤◌, List, [], ◌∷◌, ◌++◌, append-nil, sym, ap, subst, ◌∙◌, arith}
-use Rattle.cdf_edits.proofs.Common.{nodes_of, leaves_of, variable_records, times, VariableShape, In, freed_with_variable}
+use Rattle.cdf_edits.proofs.Common.{In, List, VariableShape, [], ap, append-nil, arith, freed_with_variable, leaves_of, nodes_of, subst, sym, times, variable_records, ℕ, ◌++◌, ◌∙◌, ◌∷◌, ◌≡◌, ◌≤◌}
 use Rattle.cdf_edits.proofs.Edits.Common.{times-append, in-times, times-in}
 use Rattle.cdf_edits.proofs.Edits.InRecords.{places_of}
 

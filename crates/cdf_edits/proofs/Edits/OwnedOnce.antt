@@ -1,6 +1,5 @@
 -- Which records are owned once an image was edited, and how owners stand apart.
-use Rattle.std.proofs.Common.{◌≡◌, ◌≢◌, ◌⊎◌, ℕ, suc, ◌+◌, ◌≤◌, List, ◌∷◌, ◌++◌, length, eqb, eq-eqb, refl, sym, ap, subst, ◌∙◌, arith, inl, inr}
-use Rattle.cdf_edits.proofs.Common.{cases_eq, eqb-true, flat_map, IsSound, is_in, type_at, attribute_records, unused_records, times, owned_records, OwnedOnce, adr_type, uir_type, AttributeShape, Shape, HasShape, In, AreTiles, linkable-in, either, true-is_in, false-is_in, In-append_right, In-append_left, times-none, times-once, tiles_distinct, attributes_in, Mark, Edit}
+use Rattle.cdf_edits.proofs.Common.{AreTiles, AttributeShape, Edit, HasShape, In, In-append_left, In-append_right, IsSound, List, Mark, OwnedOnce, Shape, adr_type, ap, arith, attribute_records, attributes_in, cases_eq, either, eq-eqb, eqb, eqb-true, false-is_in, flat_map, inl, inr, is_in, length, linkable-in, owned_records, refl, subst, suc, sym, tiles_distinct, times, times-none, times-once, true-is_in, type_at, uir_type, unused_records, ℕ, ◌++◌, ◌+◌, ◌∙◌, ◌∷◌, ◌≡◌, ◌≢◌, ◌≤◌, ◌⊎◌}
 use Rattle.cdf_edits.proofs.Frame.OwnersApart.{flat-append, times-append, times-three, times-in, owned-times, file_records, all_attribute_records, all_variable_records, unused_from_file, unused_from_attributes, unused_from_variables, file_in}
 use Rattle.cdf_edits.proofs.Space.UsedRecords.{filter-keeps, filter-says, filter-distinct}
 use Rattle.cdf_edits.proofs.Edits.VariableFrame.{variables_in}

@@ -1,6 +1,6 @@
 -- What a command may change of records, shown by the marks of its edit.
-use Rattle.std.proofs.Common.{◌≡◌, ℕ, suc, ◌+◌, ◌≤◌, List, [], ◌∷◌, ◌++◌, length, Bool, true, false, ◌||◌, eqb, refl, sym, ap, subst, ◌∙◌, append_assoc, arith, inl, inr}
-use Rattle.cdf_edits.proofs.Common.{keeps_file, both, unmarked, is_a-in, Same, eqb-true, le-leb, lt-ltb, flat_map, ◌==◌, ◌&&◌, nat_le, nat_lt, if◌then◌else◌, Kind, R, Z, IsSound, Allowance, Anything, Only, Keeps, Allowances, is_taken, allowance, AllKeep, is_in, size_at, type_at, Owner, File, OneAttribute, OneVariable, Unused, attribute_records, variable_records, owned_by, owned_by_attributes, owned_by_variables, unused_records, owned, Field, uir_next_uir, uir_prev_uir, cdr_type, gdr_type, uir_type, AttributeShape, VariableShape, Shape, vdrs, shape, In, Act, Took, is_a-type, either, In-append, In-append_left, In-append_right, true-is_in, false-is_in, filter-in, tile_lies, Mark, Avoids, Away, Within, avoided, within, Edit}
+use Rattle.cdf_edits.proofs.Common.{Act, AllKeep, Allowance, Allowances, Anything, AttributeShape, Avoids, Away, Bool, Edit, Field, File, In, In-append, In-append_left, In-append_right, IsSound, Keeps, Kind, List, Mark, OneAttribute, OneVariable, Only, Owner, R, Same, Shape, Took, Unused, VariableShape, Within, Z, [], allowance, ap, append_assoc, arith, attribute_records, avoided, both, cdr_type, either, eqb, eqb-true, false, false-is_in, filter-in, flat_map, gdr_type, if◌then◌else◌, inl, inr, is_a-in, is_a-type, is_in, is_taken, keeps_file, le-leb, length, lt-ltb, nat_le, nat_lt, owned, owned_by, owned_by_attributes, owned_by_variables, refl, shape, size_at, subst, suc, sym, tile_lies, true, true-is_in, type_at, uir_next_uir, uir_prev_uir, uir_type, unmarked, unused_records, variable_records, vdrs, within, ℕ, ◌&&◌, ◌++◌, ◌+◌, ◌==◌, ◌∙◌, ◌∷◌, ◌≡◌, ◌≤◌}
+use Rattle.std.proofs.Common.{◌||◌}
 use Rattle.cdf_edits.proofs.Commands.KeptRecords.{Stood, AllKeep-append, keeps_stood, keep_owned, keep_variables}
 use Rattle.cdf_edits.proofs.Frame.Meaning.{Kept}
 use Rattle.cdf_edits.proofs.Frame.OwnersApart.{all_variable_records}

@@ -1,10 +1,8 @@
 -- A VDR gets another pad value, and the flag that says that there is one: what it says then, and that it is written where there is room for it.
-use Rattle.std.proofs.Common.{drop, ◌^◌, ◌≡◌, ℕ, ◌+◌, ◌*◌, ◌/◌, ◌%◌, ◌<◌, ◌≤◌, Bool, List, [], ◌∷◌, length, true, None, Some, refl, sym, ap, subst, ◌∙◌, arith, inl, inr}
-use Rattle.cdf_edits.proofs.Common.{LiesIn, drop-put_there, field_reads, length-put, length-with_field, put, take, take_at, with_field, before_first, byte, cast_signed, w32, ◌==◌, if◌then◌else◌, Kind, turned, variable_of, number, name_in, integer4, has_bit, size_at, type_at, Field, OutsideFields, vdr_flags, vdr_num, vdr_blocking_factor, vdr_name, VariableShape, is_compressed, records_vary, shape, field_bytes, is_little, value_bytes, has_pad, pad_field, pad_at, type_of_variable, vdr_end, Good, of_le, with_bits, SetsPad, Took, Gave, Edit, Mark, mark, Among, touched_field, Changed, type_in, variables_chain}
+use Rattle.cdf_edits.proofs.Common.{Among, Bool, Changed, Edit, Field, Gave, Good, Kind, LiesIn, List, Mark, None, OutsideFields, SetsPad, Some, Took, VariableShape, [], ap, arith, before_first, byte, cast_signed, drop, drop-put_there, field_bytes, field_reads, has_bit, has_pad, if◌then◌else◌, inl, inr, integer4, is_compressed, is_little, length, length-put, length-with_field, mark, name_in, number, of_le, pad_at, pad_field, put, records_vary, refl, shape, size_at, subst, sym, take, take_at, touched_field, true, turned, type_at, type_in, type_of_variable, value_bytes, variable_of, variables_chain, vdr_blocking_factor, vdr_end, vdr_flags, vdr_name, vdr_num, w32, with_bits, with_field, word-put_outside, ℕ, ◌%◌, ◌*◌, ◌+◌, ◌/◌, ◌<◌, ◌==◌, ◌^◌, ◌∙◌, ◌∷◌, ◌≡◌, ◌≤◌}
 use Rattle.cdf_edits.proofs.Edits.Common.{Copied, EditsVdr, FileSame, MarkTests, StandsAmong, VdrCopied, behind_in, behind_kept, changed_edit, content_copied, copied_part, file, file_same, fits, has, high, long, name_room, pad_field_copied, pad_late, pad_wide, piece_copied, some_bytes, sound, through, tile, type_copied, typed, value_copied, word_copied}
 use Rattle.cdf_edits.proofs.Edits.WrittenFields.{with_field_changed}
 use Rattle.cdf_edits.proofs.Frame.ChangedBytes.{changed_put, changed_then}
-use Rattle.cdf_fields.proofs.Writes.{word-put_outside}
 
 -- ---- bit 1 of the flags
 

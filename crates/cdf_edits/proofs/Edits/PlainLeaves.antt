@@ -1,9 +1,5 @@
 -- The leaves of a variable of a good image that is not compressed: no block is packed, each has room for its records, and no two stand at one place.
-use Rattle.std.proofs.Common.{◌≡◌, ℕ, zero, suc, ◌+◌, ◌-◌, ◌*◌, ◌≤◌, List, [], ◌∷◌, ◌++◌, Bool, true, false, true≢false, sym, ap, subst, ◌∙◌, arith, inl, inr}
-use Rattle.cdf_edits.proofs.Common.{flat_map, ◌==◌, if◌then◌else◌, Kind, R, Z, record_number_limit, is_a, size_at, type_at, Nodes, no_node, node, Entries, no_entry, block, lower, Leaf, nodes_of, is_block, holds_packed, vvr_rows, cvvr_rows, leaf_rows, times, variable_records, owned_records, unused_records, vvr_type, cvvr_type, Hold, asked, VariableShape, Shape, vdrs, variables, is_compressed, Each, shape, LeafFits, BlockFits, record_bytes, Good, is_a-type, good_by_its_shape, Hold-split, Hold-asked, Each-split, Each-append, both, shapes_of}
-use Rattle.cdf_format.specs.Index.{leaves_of, entry_leaves}
-use Rattle.cdf_format.specs.IndexOf.{HasNodes, Names}
-use Rattle.cdf_format.specs.IndexRules.{nodes_rows}
+use Rattle.cdf_edits.proofs.Common.{BlockFits, Bool, Each, Each-append, Each-split, Entries, Good, HasNodes, Hold, Hold-asked, Hold-split, Kind, Leaf, LeafFits, List, Names, Nodes, R, Shape, VariableShape, Z, [], ap, arith, asked, block, both, cvvr_rows, cvvr_type, entry_leaves, false, flat_map, good_by_its_shape, holds_packed, if◌then◌else◌, inl, inr, is_a, is_a-type, is_block, is_compressed, leaf_rows, leaves_of, lower, no_entry, no_node, node, nodes_of, nodes_rows, owned_records, record_bytes, record_number_limit, shape, shapes_of, size_at, subst, suc, sym, times, true, true≢false, type_at, unused_records, variable_records, variables, vdrs, vvr_rows, vvr_type, zero, ℕ, ◌*◌, ◌++◌, ◌+◌, ◌-◌, ◌==◌, ◌∙◌, ◌∷◌, ◌≡◌, ◌≤◌}
 use Rattle.cdf_edits.proofs.Edits.InRecords.{places_of}
 use Rattle.cdf_edits.proofs.Edits.LeafPieces.{IsOneOf, in_order, PlacedApart, of_each}
 use Rattle.cdf_edits.proofs.Edits.LeafRecords.{Ascending, count_is}

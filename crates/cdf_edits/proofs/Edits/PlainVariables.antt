@@ -1,6 +1,5 @@
 -- So far no variable of a good image is compressed: records of parameters and of packed blocks are refused (rule 4.99).
-use Rattle.std.proofs.Common.{◌≡◌, ℕ, List, [], ◌∷◌, Bool, true, false, true≢false, refl, sym, ap, ◌∙◌, inl, inr}
-use Rattle.cdf_edits.proofs.Common.{◌==◌, if◌then◌else◌, is_a, is_in, number, type_at, Leaf, leaves_of, read_types, unread_type, vdr_cpr_or_spr_offset, vvr_type, cvvr_type, cpr_type, VariableShape, Shape, is_compressed, Each, HasVariable, LeafFits, VariableFits, In, is_a-in, is_a-type, IsGoodByShape, Hold-member}
+use Rattle.cdf_edits.proofs.Common.{Bool, Each, HasVariable, Hold-member, In, IsGoodByShape, Leaf, LeafFits, List, Shape, VariableFits, VariableShape, [], ap, cpr_type, cvvr_type, false, if◌then◌else◌, inl, inr, is_a, is_a-in, is_a-type, is_compressed, is_in, leaves_of, number, read_types, refl, sym, true, true≢false, type_at, unread_type, vdr_cpr_or_spr_offset, vvr_type, ℕ, ◌==◌, ◌∙◌, ◌∷◌, ◌≡◌}
 use Rattle.cdf_edits.proofs.Edits.MarkLemmas.{or_cases}
 use Rattle.cdf_edits.proofs.Frame.OwnerAlone.{Each-in}
 use Rattle.cdf_format.proofs.SoundLemmas.{IsPackedAs, leaves_packed}

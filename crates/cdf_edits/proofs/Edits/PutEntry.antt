@@ -1,8 +1,6 @@
 -- An entry is put into a chain of an attribute: made and linked, behind the last one or in the place of another one, or changed in its place; then the greatest number is written.
-use Rattle.std.proofs.Common.{◌≡◌, ◌≢◌, ℕ, ℤ, ◌+◌, ◌≤◌, List, [], ◌∷◌, ◌++◌, length, eq-eqb, true, true≢false, refl, sym, ap, subst, ◌∙◌, arith, inl, inr}
-use Rattle.cdf_edits.proofs.Common.{w32, cast_unsigned, FitsSigned, cases_eq, ne_eqb, put, EntryKind, Same, is_in, number, integer4, size_at, type_at, read_types, attribute_records, times, gdr_type, adr_type, uir_type, field, AttributeShape, shape, EntryFits, IsSound, In, length-put, times-none, tile_lies, space_fields, chain_of, chain_fields, entry_type, max_field, entries_chain, count_field, keeps_but_chain, Mark, Confined, attribute_types, avoided, ended, within, making_marks, giving_marks, field_marks, is_late, Took, Exchanged, adding_marks, counted_in, members_of, with_in_place, type_of_body}
+use Rattle.cdf_edits.proofs.Common.{Added, AttributeShape, Confined, EntryFits, EntryKind, Exchanged, FitsSigned, In, IsSound, Joined, List, Mark, Same, Took, [], adding_marks, adr_type, ap, arith, attribute_records, attribute_types, avoided, cases_eq, cast_unsigned, chain_fields, chain_of, count_field, counted_in, ended, entries_chain, entry_type, eq-eqb, field, field_marks, gdr_type, giving_marks, inl, inr, integer4, is_in, is_late, keeps_but_chain, length, length-put, making_marks, max_field, members_of, ne_eqb, number, put, read_types, refl, shape, size_at, space_fields, subst, sym, tile_lies, times, times-none, true, true≢false, type_at, type_of_body, uir_type, w32, with_in_place, within, ℕ, ℤ, ◌++◌, ◌+◌, ◌∙◌, ◌∷◌, ◌≡◌, ◌≢◌, ◌≤◌}
 use Rattle.cdf_model.specs.declared.kinds.EntryKind.TheVariants as entries
-use Rattle.cdf_edits.specs.Space.Adding.{Added, Joined}
 use Rattle.cdf_edits.proofs.Edits.ChainKept.{records_are, list_is}
 use Rattle.cdf_edits.proofs.Edits.ChainKinds.{chain_in}
 use Rattle.cdf_edits.proofs.Edits.ChainMembers.{IsAmong, member, member_kept, members_chain}

@@ -1,6 +1,5 @@
 -- What an edit leaves: decided by the types of its marks.
-use Rattle.std.proofs.Common.{◌≡◌, ℕ, ◌+◌, ◌*◌, ◌≤◌, List, [], ◌∷◌, ◌++◌, length, true, sym, ap, subst, ◌∙◌, arith, inl, inr}
-use Rattle.cdf_edits.proofs.Common.{w32, cast_signed, ◌&&◌, if◌then◌else◌, NodeFits, VariableFits, IsSound, FileStays, VariableStays, Same, next_field, Leads, IsChain, words, counted, number, size_at, type_at, gdr_offset, encoding, r_num_dims, r_sizes, nodes_of, leaves_of, Field, cdr_gdr_offset, cdr_encoding, cdr_flags, cdr_release, cdr_increment, vdr_vxr_head, cdr_type, gdr_type, AttributeShape, VariableShape, Shape, cpr_of, HasVariable, HasShape, variable_records, In, Same-part, word_kept, words_kept, number_kept, integer_kept, next_kept, size_kept, type_kept, is_a-in, is_a-type, linkable-from, linkable-in, linkable-type, linkable-long, In-append_left, In-append_right, both, tile_lies, Mark, Avoids, Away, avoided, ended, unmarked, keeps_file, Edit}
+use Rattle.cdf_edits.proofs.Common.{AttributeShape, Avoids, Away, Edit, Field, FileStays, HasShape, HasVariable, In, In-append_left, In-append_right, IsChain, IsSound, Leads, List, Mark, NodeFits, Same, Same-part, Shape, VariableFits, VariableShape, VariableStays, [], ap, arith, avoided, both, cast_signed, cdr_encoding, cdr_flags, cdr_gdr_offset, cdr_increment, cdr_release, cdr_type, counted, cpr_of, encoding, ended, gdr_offset, gdr_type, if◌then◌else◌, inl, inr, integer_kept, is_a-in, is_a-type, keeps_file, leaves_of, length, linkable-from, linkable-in, linkable-long, linkable-type, next_field, next_kept, nodes_of, number, number_kept, r_num_dims, r_sizes, size_at, size_kept, subst, sym, tile_lies, true, type_at, type_kept, unmarked, variable_records, vdr_vxr_head, w32, word_kept, words, words_kept, ℕ, ◌&&◌, ◌*◌, ◌++◌, ◌+◌, ◌∙◌, ◌∷◌, ◌≡◌, ◌≤◌}
 use Rattle.cdf_edits.proofs.Frame.OwnerAlone.{Each-in, little_code}
 use Rattle.cdf_edits.proofs.Frame.Meaning.{FileSame, Kept, KeptButLink, late_size, late_type}
 use Rattle.cdf_edits.proofs.Frame.VdrCopied.{cpr_link_copied, index_link_copied}

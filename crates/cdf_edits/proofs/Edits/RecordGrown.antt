@@ -1,6 +1,5 @@
 -- An image has all that another has, but for its unused records and for links and numbers in its GDR: records were taken from the one and written, or nothing was done.
-use Rattle.std.proofs.Common.{◌≡◌, ◌≢◌, ℕ, ◌+◌, ◌≤◌, List, [], ◌∷◌, length, refl, sym, ap, subst, ◌∙◌, arith, inl, inr}
-use Rattle.cdf_edits.proofs.Common.{Same, content, eof, gdr_offset, size_at, type_at, gdr_type, uir_type, Shape, shape, IsSound, In, size_kept, shape_is, tile_lies, Edit, Away, with_space, Fills}
+use Rattle.cdf_edits.proofs.Common.{Away, Edit, Fills, In, IsSound, List, Same, Shape, [], ap, arith, content, eof, gdr_offset, gdr_type, inl, inr, length, refl, shape, shape_is, size_at, size_kept, subst, sym, tile_lies, type_at, uir_type, with_space, ℕ, ◌+◌, ◌∙◌, ◌∷◌, ◌≡◌, ◌≢◌, ◌≤◌}
 use Rattle.cdf_edits.proofs.Edits.Composing.{head_type, same-then}
 pub use Rattle.cdf_edits.proofs.Edits.MadeRecord.{unlike}
 use Rattle.cdf_edits.proofs.Edits.MadeRecord.{place_in, filled_edit, filled_sound, filled_content, end_now}

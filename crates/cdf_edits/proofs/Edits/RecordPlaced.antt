@@ -1,10 +1,8 @@
 -- An image whose records and unused list alone are others: a record was taken from an image and written, or nothing was done.
-use Rattle.std.proofs.Common.{◌≡◌, ℕ, List, [], ◌∷◌, ◌++◌, length, refl, sym, ap, subst, ◌∙◌, arith}
-use Rattle.cdf_edits.proofs.Common.{Kind, content, size_at, type_at, eof, vxr_type, uir_type, Shape, HasShape, shape, IsSound, In, shape_is, Edit, Mark, whole, Among, taking_marks, Changed, type_in, with_space, Fills, variables_chain}
+use Rattle.cdf_edits.proofs.Common.{Among, Changed, Edit, Fills, HasShape, In, IsSound, Kind, List, Mark, Shape, [], ap, arith, content, eof, length, refl, shape, shape_is, size_at, subst, sym, taking_marks, type_at, type_in, uir_type, variables_chain, vxr_bytes, vxr_type, whole, with_space, ℕ, ◌++◌, ◌∙◌, ◌∷◌, ◌≡◌}
 use Rattle.cdf_edits.proofs.Edits.Composing.{changed_edit}
 use Rattle.cdf_edits.proofs.Edits.MadeRecord.{filled_edit, filled_sound, filled_content, end_now}
 use Rattle.cdf_edits.proofs.Edits.StepEdits.{some_bytes}
-use Rattle.cdf_format.specs.Records.{vxr_bytes}
 
 -- ---- marks
 

@@ -1,10 +1,7 @@
 -- The records of a variable once one is put: what its leaves hold then says that they are those of the content.
-use Rattle.std.proofs.Common.{◌≡◌, ◌≢◌, ◌⊎◌, ℕ, zero, suc, ◌+◌, ◌-◌, ◌<◌, ◌≤◌, List, true, false, ◌&&◌, Some, refl, sym, ap, subst, ◌∙◌, arith, inl, inr}
-use Rattle.cdf_edits.proofs.Common.{cases_eq, cases_lt, lt-ltb, le-ltb, nat_tests, option_map, nat_lt, NoRule, Pad, Previous, turned, Variable, extent, record_number_limit, item_at, with_item, with_items, last_number, records_in, Leaf, is_little, type_of_variable, record_bytes, max_rec_at, stored_bytes}
+use Rattle.cdf_edits.proofs.Common.{Leaf, List, NoRule, Pad, Previous, Some, Variable, ap, arith, cases_eq, cases_lt, cuts_before_put, extent, false, filled, greater, inl, inr, is_little, is_sparse, item_at, last_number, le-ltb, lt-ltb, max_rec_at, nat_lt, nat_tests, option_map, pad_record, record_bytes, record_number_limit, records_in, refl, stored_bytes, subst, suc, sym, true, turned, type_of_variable, with_item, with_items, zero, ℕ, ◌+◌, ◌-◌, ◌<◌, ◌∙◌, ◌≡◌, ◌≢◌, ◌≤◌, ◌⊎◌}
+use Rattle.std.proofs.Common.{◌&&◌}
 use Rattle.cdf_model.specs.declared.kinds.Sparse.{Sparse}
-use Rattle.cdf_model.specs.Reading.{pad_record}
-use Rattle.cdf_model.specs.RecordSteps.{greater, filled}
-use Rattle.cdf_edits.specs.Index.Blocks.{is_sparse, cuts_before_put}
 use Rattle.cdf_edits.proofs.Edits.LeafRecords.{Ascending, rising_records, record_is, record_past}
 use Rattle.cdf_edits.proofs.Edits.NumberedItems.{rising_with}
 use Rattle.cdf_edits.proofs.Edits.NumberedLookup.{same_items, item_with, item_beside, rising_with_items, item_among, item_before_all, item_past_all}

@@ -1,8 +1,5 @@
 -- Records of a variable are written where they stand, in blocks that are not packed, and MaxRec with them: the image has its shape and its rules, and all but the variable stays.
-use Rattle.std.proofs.Common.{◌≡◌, ◌⊎◌, ℕ, ◌+◌, ◌≤◌, List, [], ◌∷◌, ◌++◌, length, map, true, true≢false, refl, sym, ap, subst, ◌∙◌, arith, inl, inr}
-use Rattle.cdf_edits.proofs.Common.{flat_map, slice_set, Kind, R, Z, image_limit, variables_of, with_variables, Same, is_a, is_in, content, variable_of, number, size_at, type_at, nodes_of, leaves_of, index_rows, variable_records, gdr_eof, gdr_uir_head, gdr_r_max_rec, vdr_max_rec, vdr_vxr_head, gdr_type, r_vdr_type, z_vdr_type, vxr_type, vvr_type, cvvr_type, cpr_type, uir_type, Hold, VariableShape, Shape, Each, HasShape, shape, IsSound, NodeFits, In, is_max_rec, Good, is_a-type, linkable-type, good_is_sound, nodes_stand, either, In-append, In-append_left, true-is_in, false-is_in, Each-append, tile_lies, space_fields, r_max_rec_field, r_max_rec, Edit, Mark, mark, Among, Avoids, Away, Within, Covered, Marked, avoided, unmarked, keeps_file, variable_types, Touch, touched_field, Changed, ActsFollow, head_of, count_of, type_in, variables_chain, IsIndex, Stays}
-use Rattle.cdf_edits.specs.Commands.Puts.{max_rec_touches}
-use Rattle.cdf_edits.specs.Edits.Marks.{Anywhere}
+use Rattle.cdf_edits.proofs.Common.{ActsFollow, Among, Anywhere, Avoids, Away, Changed, Covered, Each, Each-append, Edit, Good, HasShape, Hold, In, In-append, In-append_left, IsIndex, IsSound, Kind, List, Mark, Marked, NodeFits, R, Same, Shape, Stays, Touch, VariableShape, Within, Z, [], ap, arith, avoided, content, count_of, cpr_type, cvvr_type, either, false-is_in, flat_map, gdr_eof, gdr_r_max_rec, gdr_type, gdr_uir_head, good_is_sound, head_of, image_limit, index_rows, inl, inr, is_a, is_a-type, is_in, is_max_rec, keeps_file, leaves_of, length, linkable-type, map, mark, max_rec_touches, nodes_of, nodes_stand, number, r_max_rec, r_max_rec_field, r_vdr_type, refl, shape, size_at, slice_set, space_fields, subst, sym, tile_lies, touched_field, true, true-is_in, true≢false, type_at, type_in, uir_type, unmarked, variable_of, variable_records, variable_types, variables_chain, variables_of, vdr_max_rec, vdr_vxr_head, vvr_type, vxr_type, with_variables, z_vdr_type, ℕ, ◌++◌, ◌+◌, ◌∙◌, ◌∷◌, ◌≡◌, ◌≤◌, ◌⊎◌}
 use Rattle.cdf_edits.proofs.Commands.KeptRecords.{Stood}
 use Rattle.cdf_edits.proofs.Edits.Composing.{head_size, head_type, changed_edit}
 use Rattle.cdf_edits.proofs.Edits.InRecords.{places_of, index_both, index_rows_both}

@@ -1,6 +1,5 @@
 -- What the calls of the removal of a variable come to, by the places of the VDRs of its kind and its number.
-use Rattle.std.proofs.Common.{◌≡◌, ℕ, ℤ, ◌+◌, ◌<◌, ◌≤◌, List, ◌∷◌, ◌++◌, length, drop, get_or, refl, sym, ap, subst, ◌∙◌, arith}
-use Rattle.cdf_edits.proofs.Common.{remove, Kind, R, Z, image_limit, number, gdr_offset, LiesIn, gdr_r_max_rec, vdr_name, empty_writes, VariableShape, vdrs, shape, IsSound, In, Good, linkable-in, linkable-type, good_by_its_shape, good_is_sound, tile_lies, shapes_of, freed_with_variable, UnlinksVariable, RemovesVariable, numbers_on, r_max_writes, greatest_at, write, with_writes, count_of, counted_in, type_in, HolderStands, AllGiven, AreFree, variables_chain, Hold, Lists, TakenOut, Chain}
+use Rattle.cdf_edits.proofs.Common.{AllGiven, AreFree, Chain, Good, Hold, HolderStands, In, IsSound, Kind, LiesIn, List, Lists, R, RemovesVariable, TakenOut, UnlinksVariable, VariableShape, Z, ap, arith, count_of, counted_in, drop, empty_writes, freed_with_variable, gdr_offset, gdr_r_max_rec, get_or, good_by_its_shape, good_is_sound, greatest_at, image_limit, length, linkable-in, linkable-type, number, numbers_on, r_max_writes, refl, remove, shape, shapes_of, subst, sym, tile_lies, type_in, variables_chain, vdr_name, vdrs, with_writes, write, ℕ, ℤ, ◌++◌, ◌+◌, ◌<◌, ◌∙◌, ◌∷◌, ◌≡◌, ◌≤◌}
 use Rattle.cdf_edits.proofs.Edits.Common.{AtNumber, at_number, got_in, IsOf, few_members, lists, gdr_place, gdr_in, gdr_long, fixed_long, least_size, as_long, e_early, counted_before, kind_chain, vdrs_rows, out_counted}
 use Rattle.cdf_edits.proofs.Edits.UnlinkedVariable.{emptied_free, emptied_sound, in_holder, leaves, leaving_tests}
 use Rattle.cdf_edits.proofs.Space.ChainHeads.{cdr_room}

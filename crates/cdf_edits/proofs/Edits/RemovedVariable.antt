@@ -1,6 +1,5 @@
 -- The image after a variable went: its shape, its content, its rules and its space.
-use Rattle.std.proofs.Common.{◌≡◌, ℕ, zero, suc, ◌+◌, ◌≤◌, List, [], ◌∷◌, ◌++◌, length, map, max, refl, sym, ap, subst, ◌∙◌, arith, inl, inr, false}
-use Rattle.cdf_edits.proofs.Common.{Field, Says, emptied_fields, empty_writes, freeing_marks, no_index, le-leb, type_at, with_writes, word_kept, w32, cast_signed, fold, remove, Kind, R, Z, extent, image_limit, variables_of, with_variables, last_number, IsChain, is_in, content, variable_of, number, integer4, size_at, gdr_offset, variable_records, gdr_eof, gdr_uir_head, gdr_r_max_rec, vdr_num, gdr_type, uir_type, VariableShape, Shape, vdrs, shape, IsSound, In, max_rec_at, Good, good_by_its_shape, good_is_sound, rules_of_good, good_long, sealed_kept, shapes_of, RMaxRecOf, freed_with_variable, index_types, RemovesVariable, greatest_at, variable_unlinking_marks, links_end, head_of, count_of, type_in, variables_chain, field_reads4, number_kept, r_extents}
+use Rattle.cdf_edits.proofs.Common.{Field, Good, In, IsChain, IsSound, Kind, List, R, RMaxRecOf, RemovesVariable, Says, Shape, VariableShape, Z, [], ap, arith, cast_signed, content, count_of, emptied_fields, empty_writes, extent, false, field_reads4, fold, freed_with_variable, freeing_marks, gdr_eof, gdr_offset, gdr_r_max_rec, gdr_type, gdr_uir_head, good_by_its_shape, good_is_sound, good_long, greatest_at, head_of, image_limit, index_types, inl, inr, integer4, is_in, last_number, le-leb, length, links_end, map, max, max_rec_at, no_index, number, number_kept, r_extents, refl, remove, rules_of_good, sealed_kept, shape, shapes_of, size_at, subst, suc, sym, type_at, type_in, uir_type, variable_of, variable_records, variable_unlinking_marks, variables_chain, variables_of, vdr_num, vdrs, w32, with_variables, with_writes, word_kept, zero, ℕ, ◌++◌, ◌+◌, ◌∙◌, ◌∷◌, ◌≡◌, ◌≤◌}
 use Rattle.cdf_edits.proofs.Edits.Common.{head_size, field_clear, gdr_field, gdr_place, gdr_in, gdr_typed, gdr_long, TakesVariable, SaysTaken, tests, without_variable, content_taken, taken_good, vdr_there, back_out, e_second, e_early, some_second, lasts_second, counted_now, numbered_still, kind_chain, with_shapes, content_now, write_lies, Frees, freed_edit, sound_now, others_kept, all_freed, gdr_still, freeing_behind, BytesStay, edit_under, Avoids-append, Avoids-split, freed_shape, freed_records, freed_long, freed_types, end_before}
 use Rattle.std.specs.Int.RustNames.{FitsSigned}
 use Rattle.cdf_edits.proofs.Edits.OwnVariable.{freed_mine, mine_freed}

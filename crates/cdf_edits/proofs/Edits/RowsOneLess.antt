@@ -1,6 +1,5 @@
 -- The rules on the numbers of the records of a chain of which one goes: those behind it have numbers less by one.
-use Rattle.std.proofs.Common.{◌≡◌, ℕ, suc, ◌+◌, List, [], ◌∷◌, ◌++◌, length, eq-eqb, refl, ap, ◌∙◌, arith, inl, inr}
-use Rattle.cdf_edits.proofs.Common.{◌==◌, number_rows, number, Field, Hold, In}
+use Rattle.cdf_edits.proofs.Common.{Field, Hold, In, List, [], ap, arith, eq-eqb, inl, inr, length, number, number_rows, refl, suc, ℕ, ◌++◌, ◌+◌, ◌==◌, ◌∙◌, ◌∷◌, ◌≡◌}
 
 -- records have the numbers from one on
 abbrev pub AreNumbered : List ℕ → Field → ℕ → List ℕ → Type 0

@@ -1,6 +1,5 @@
 -- An edit that puts some attributes in the place of others: the image has its shape, its content and its rules if these have theirs.
-use Rattle.std.proofs.Common.{◌≡◌, ℕ, ◌+◌, ◌≤◌, List, [], ◌∷◌, ◌++◌, length, map, true, refl, sym, ap, subst, ◌∙◌, arith}
-use Rattle.cdf_edits.proofs.Common.{map-append, flat_map, ◌==◌, ◌&&◌, Attribute, DataSet, image_limit, IsSound, AttributeFits, FileStays, AttributeStays, VariableStays, same_name, adrs_rows, r_vdrs_rows, z_vdrs_rows, differ_rows, is_in, is_linkable, IsChain, content, content_of, attribute_of, majority_of, number, size_at, type_at, has_bit, gdr_offset, eof, IsGoodByShape, attribute_shape_rows, read_types, OwnedOnce, times, owned_records, first_phases, Field, gdr_adr_head, gdr_nr_vars, gdr_nz_vars, gdr_r_vdr_head, gdr_z_vdr_head, gdr_uir_head, adr_name, vdr_num, cdr_type, gdr_type, adr_type, r_vdr_type, z_vdr_type, uir_type, is_record_type, fixed_size, row, Hold, AllHold, sealed, AttributeShape, Shape, adrs, vdrs, variables, Each, HasEntries, HasShape, In, Good, is_a-from, is_a-in, linkable-in, linkable-type, vdrs_append, In-append_left, In-append_right, Hold-append, Hold-split, flat_map-append, sealed_keeps, Each-split, Each-append, content_is, both, Mark, avoided, all_unmarked, variable_types, keeps_file, keeps_variables, Edit}
+use Rattle.cdf_edits.proofs.Common.{AllHold, Attribute, AttributeFits, AttributeShape, AttributeStays, DataSet, Each, Each-append, Each-split, Edit, Field, FileStays, Good, HasEntries, HasShape, Hold, Hold-append, Hold-split, In, In-append_left, In-append_right, IsChain, IsGoodByShape, IsSound, List, Mark, OwnedOnce, Shape, VariableStays, [], adr_name, adr_type, adrs, adrs_rows, all_unmarked, ap, arith, attribute_of, attribute_shape_rows, avoided, both, cdr_type, content, content_is, content_of, differ_rows, eof, first_phases, fixed_size, flat_map, flat_map-append, gdr_adr_head, gdr_nr_vars, gdr_nz_vars, gdr_offset, gdr_r_vdr_head, gdr_type, gdr_uir_head, gdr_z_vdr_head, has_bit, image_limit, is_a-from, is_a-in, is_in, is_linkable, is_record_type, keeps_file, keeps_variables, length, linkable-in, linkable-type, majority_of, map, map-append, number, owned_records, r_vdr_type, r_vdrs_rows, read_types, refl, row, same_name, sealed, sealed_keeps, size_at, subst, sym, times, true, type_at, uir_type, variable_types, variables, vdr_num, vdrs, vdrs_append, z_vdr_type, z_vdrs_rows, ℕ, ◌&&◌, ◌++◌, ◌+◌, ◌==◌, ◌∙◌, ◌∷◌, ◌≡◌, ◌≤◌}
 use Rattle.cdf_edits.proofs.Frame.SameShape.{has_entries, has_variables, same_attributes, same_variables}
 use Rattle.cdf_edits.proofs.Rules.FirstHead.{first_hold}
 use Rattle.cdf_edits.proofs.Frame.Meaning.{FileSame, Kept}

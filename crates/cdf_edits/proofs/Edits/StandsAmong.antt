@@ -1,6 +1,5 @@
 -- One variable of a good image among those of its kind: where it stands, and that its links, its records and its rules are as they are to be.
-use Rattle.std.proofs.Common.{◌+◌, length, ◌≡◌, ℕ, ◌≤◌, List, [], ◌∷◌, ◌++◌, true, refl, sym, ap, subst, ◌∙◌, arith, inl, inr}
-use Rattle.cdf_edits.proofs.Common.{tile_lies, flat_map, Kind, R, Z, is_in, is_linkable, size_at, type_at, leaves_of, variable_records, fixed_size, VariableShape, Shape, vdrs, HasVariable, HasShape, shape, IsSound, VariableFits, In, Good, linkable-in, linkable-type, good_is_sound, In-append_left, shapes_of, index_types, type_in, variables_chain}
+use Rattle.cdf_edits.proofs.Common.{Good, HasShape, HasVariable, In, In-append_left, IsSound, Kind, List, R, Shape, VariableFits, VariableShape, Z, [], ap, arith, fixed_size, flat_map, good_is_sound, index_types, inl, inr, is_in, is_linkable, leaves_of, length, linkable-in, linkable-type, refl, shape, shapes_of, size_at, subst, sym, tile_lies, true, type_at, type_in, variable_records, variables_chain, vdrs, ℕ, ◌++◌, ◌+◌, ◌∙◌, ◌∷◌, ◌≡◌, ◌≤◌}
 use Rattle.cdf_edits.proofs.Edits.InRecords.{places_of}
 use Rattle.cdf_edits.proofs.Edits.RecordFrame.{index_records}
 use Rattle.cdf_edits.proofs.Edits.StepEdits.{fixed_long}

@@ -1,6 +1,5 @@
 -- A record of which all bytes stay but those of some fields.
-use Rattle.std.proofs.Common.{◌≡◌, ℕ, ◌+◌, ◌-◌, ◌<◌, ◌≤◌, List, ◌∷◌, length, sym, subst, arith, inl, inr}
-use Rattle.cdf_edits.proofs.Common.{byte, next_field, number, size_at, type_at, word_kept, Field, Same, In, OutsideFields, tile_lies, Mark, Avoids, Within, Edit}
+use Rattle.cdf_edits.proofs.Common.{Avoids, Edit, Field, In, List, Mark, OutsideFields, Same, Within, arith, byte, inl, inr, length, next_field, number, size_at, subst, sym, tile_lies, type_at, word_kept, ℕ, ◌+◌, ◌-◌, ◌<◌, ◌∷◌, ◌≡◌, ◌≤◌}
 use Rattle.cdf_edits.proofs.Edits.MarkLemmas.{within-avoids}
 use Rattle.cdf_edits.proofs.Frame.Meaning.{Kept, KeptButLink}
 

@@ -1,9 +1,7 @@
 -- The steps of a command, each as an edit.
-use Rattle.std.proofs.Common.{◌≡◌, ◌≢◌, ◌⊎◌, ℕ, ◌+◌, ◌-◌, ◌≤◌, List, [], ◌∷◌, length, refl, sym, ap, subst, ◌∙◌, arith, inl, inr}
-use Rattle.cdf_edits.proofs.Common.{cases_eq, leb-true, nat_le, ◌==◌, IsSound, Same, touch, touched_field, Changed, next_field, is_in, IsChain, size_at, type_at, first_back_link, giving, Takes, Gives, Field, record_type, gdr_uir_head, uir_next_uir, uir_prev_uir, gdr_type, uir_type, fixed_size, Shape, Each, HasShape, In, Same-part, is_a-in, is_a-type, linkable-in, linkable-type, linkable-long, either, true-is_in, false-is_in, tile_lies, link_behind, before, Among, Mark, mark, whole, Avoids, Marked, field_marks, taking_marks, giving_marks, append_marks, removing_marks, replacing_marks, Edit}
+use Rattle.cdf_edits.proofs.Common.{Among, Avoids, Changed, Covers, Each, Edit, Field, Gives, HasShape, In, IsChain, IsSound, List, Mark, Marked, Same, Same-part, Shape, Takes, [], ap, append_marks, arith, before, cases_eq, either, false-is_in, field_marks, first_back_link, fixed_size, gdr_type, gdr_uir_head, giving, giving_marks, inl, inr, is_a-in, is_a-type, is_in, leb-true, length, link_behind, linkable-in, linkable-long, linkable-type, mark, nat_le, next_field, record_type, refl, removing_marks, replacing_marks, size_at, subst, sym, taking_marks, tile_lies, touch, touched_field, true-is_in, type_at, uir_next_uir, uir_prev_uir, uir_type, whole, ℕ, ◌+◌, ◌-◌, ◌==◌, ◌∙◌, ◌∷◌, ◌≡◌, ◌≢◌, ◌≤◌, ◌⊎◌}
 use Rattle.cdf_edits.proofs.Space.TakenLeaves.{KeepsTaken, takes_keep}
 use Rattle.cdf_edits.proofs.Space.UsedRecords.{apart}
-use Rattle.cdf_edits.specs.Edits.Marks.{Covers}
 use Rattle.cdf_edits.specs.Edits.Edit.{Kind}
 use Rattle.cdf_edits.proofs.Edits.Composing.{head_type, changed_edit}
 

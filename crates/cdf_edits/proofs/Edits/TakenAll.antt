@@ -1,10 +1,6 @@
 -- Records that are taken and written one after the other: one edit, and acts that follow.
-use Rattle.std.proofs.Common.{◌≡◌, ◌⊎◌, ℕ, ◌+◌, ◌≤◌, List, [], ◌∷◌, length, false, refl, sym, ap, subst, ◌∙◌, arith, inl, inr}
-use Rattle.cdf_edits.proofs.Common.{is_in, size_at, type_at, eof, Field, field, gdr_eof, gdr_uir_head, uir_next_uir, uir_prev_uir, gdr_type, uir_type, Shape, shape, IsSound, In, Distinct, linkable-in, linkable-type, either, true-is_in, false-is_in, tile_lies, is_taken, Edit, Mark, mark, Avoids, Away, Act, ActsFollow, Took, with_space}
+use Rattle.cdf_edits.proofs.Common.{Act, ActsFollow, Among, Anywhere, Avoids, Away, Distinct, Edit, Field, Fills, In, IsSound, List, Mark, Shape, Took, Within, [], ap, arith, either, eof, false, false-is_in, field, gdr_eof, gdr_type, gdr_uir_head, inl, inr, is_in, is_taken, length, linkable-in, linkable-type, mark, or_parts, refl, shape, size_at, subst, sym, tile_lies, true-is_in, type_at, uir_next_uir, uir_prev_uir, uir_type, with_space, ℕ, ◌+◌, ◌∙◌, ◌∷◌, ◌≡◌, ◌≤◌, ◌⊎◌}
 use Rattle.cdf_edits.proofs.Edits.Common.{Avoids-append, acts_none, acts_took, apart, edit_then, fresh, keeps_within, made_edit, placing_marks, the_one}
-use Rattle.std.proofs.lemmas.Bool.{or_parts}
-use Rattle.cdf_edits.specs.Edits.Marks.{Among, Anywhere, Within}
-use Rattle.cdf_edits.specs.Space.Placing.{Fills}
 use Rattle.cdf_edits.proofs.Edits.ActsJoined.{ListedStay, acts_joined}
 use Rattle.cdf_edits.proofs.Edits.FreedRecords.{edit_under}
 use Rattle.cdf_edits.proofs.Edits.MadeRecord.{listed_before, listed_marks, loose_away, place_in}

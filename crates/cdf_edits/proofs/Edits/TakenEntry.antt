@@ -1,6 +1,5 @@
 -- An entry was taken out of one chain of an attribute and freed: those that are left keep the rules, and the image is good.
-use Rattle.std.proofs.Common.{◌≡◌, ◌≢◌, ℕ, ◌+◌, ◌≤◌, List, [], ◌∷◌, length, refl, sym, ap, ◌∙◌, arith}
-use Rattle.cdf_edits.proofs.Common.{EntryKind, entries_of, image_limit, without, attribute_of, number, size_at, aedr_num, entry_rows, Hold, AttributeShape, shape, IsSound, In, Distinct, Good, good_is_sound, chain_of, count_field, Gave, Gives}
+use Rattle.cdf_edits.proofs.Common.{AttributeShape, Distinct, EntryKind, Gave, Gives, Good, Hold, In, IsSound, List, [], aedr_num, ap, arith, attribute_of, chain_of, count_field, entries_of, entry_rows, good_is_sound, image_limit, length, number, refl, shape, size_at, sym, without, ℕ, ◌+◌, ◌∙◌, ◌∷◌, ◌≡◌, ◌≢◌, ◌≤◌}
 use Rattle.cdf_format.specs.Content.{entries_of as chain_items}
 use Rattle.cdf_edits.specs.Space.Chains.{without as left_of}
 use Rattle.cdf_edits.proofs.Edits.ChainEntries.{EntryLives, entries_left, nums, nums_left}

@@ -1,6 +1,5 @@
 -- An image from which one variable went has its shape, its content and its rules.
-use Rattle.std.proofs.Common.{◌≡◌, ◌⊎◌, ℕ, ◌≤◌, List, [], ◌∷◌, ◌++◌, length, true, eq-eqb, refl, sym, ap, subst, ◌∙◌, arith, inl, inr}
-use Rattle.cdf_edits.proofs.Common.{flat_map, remove, DataSet, Variable, image_limit, variables_of, with_variables, Kind, R, Z, is_in, IsChain, content, variable_of, number, size_at, type_at, gdr_offset, eof, read_types, variable_records, times, owned_records, first_phases, gdr_uir_head, vdr_num, gdr_type, r_vdr_type, z_vdr_type, uir_type, fixed_size, Hold, AllHold, sealed, VariableShape, Shape, vdrs, Each, HasShape, IsSound, In, Distinct, Good, linkable-in, linkable-type, IsGoodByShape, vdrs_append, In-append_left, In-append_right, content_is, tile_lies, shapes_of, Edit, wholes, Mark, Avoids, Confined, avoided, unmarked, index_types, keeps_file, variable_removing_marks, head_of, count_of, type_in, variables_chain}
+use Rattle.cdf_edits.proofs.Common.{AllHold, Avoids, Confined, DataSet, Distinct, Each, Edit, Good, HasShape, Hold, In, In-append_left, In-append_right, IsChain, IsGoodByShape, IsSound, Kind, List, Mark, R, Shape, Variable, VariableShape, Z, [], ap, arith, avoided, content, content_is, count_of, eof, eq-eqb, first_phases, fixed_size, flat_map, gdr_offset, gdr_type, gdr_uir_head, head_of, image_limit, index_types, inl, inr, is_in, keeps_file, length, linkable-in, linkable-type, number, owned_records, r_vdr_type, read_types, refl, remove, sealed, shapes_of, size_at, subst, sym, tile_lies, times, true, type_at, type_in, uir_type, unmarked, variable_of, variable_records, variable_removing_marks, variables_chain, variables_of, vdr_num, vdrs, vdrs_append, wholes, with_variables, z_vdr_type, ℕ, ◌++◌, ◌∙◌, ◌∷◌, ◌≡◌, ◌≤◌, ◌⊎◌}
 use Rattle.cdf_edits.proofs.Commands.ListParts.{map-without}
 use Rattle.cdf_edits.proofs.Edits.MarkLemmas.{avoids-of_type, confined-away, unmarked-away}
 use Rattle.cdf_edits.proofs.Edits.FreedRecords.{unused_real}

@@ -1,6 +1,5 @@
 -- A variable that is taken out of the chain, counted no more, those behind it numbered anew, and whose VDR then leads to no node: the image is sound, and no one has the records of the variable.
-use Rattle.std.proofs.Common.{◌≢◌, ◌⊎◌, ◌<◌, eq-eqb, ◌≡◌, ℕ, ℤ, suc, ◌+◌, ◌≤◌, List, [], ◌∷◌, ◌++◌, length, true, refl, sym, ap, subst, ◌∙◌, arith, inl, inr}
-use Rattle.cdf_edits.proofs.Common.{is_in, either, ◌==◌, head_of, byte, number, with_field, LiesIn, Field, vdr_vxr_head, vdr_vxr_tail, emptied_fields, empty_writes, number_kept, tile_lies, OutsideFields, vdr_type, Avoids, Within, avoided, field_marks, length-with_field, field_reads, next_field, r_vdr_type, z_vdr_type, gdr_uir_head, if◌then◌else◌, flat_map, Kind, R, Z, size_at, type_at, gdr_offset, variable_records, vdr_num, gdr_type, uir_type, VariableShape, Shape, vdrs, Each, HasShape, shape, IsSound, In, Distinct, Good, good_is_sound, Distinct-back, shapes_of, freed_with_variable, Edit, freeing_marks, Among, Mark, mark, all_unmarked, index_types, UnlinksVariable, numbers_on, r_max_writes, greatest_at, variable_unlinking_marks, variable_removing_marks, Write, write, with_writes, links_end, holder_of, count_of, type_in, AreFree, variables_chain, r_max_marks, other_words}
+use Rattle.cdf_edits.proofs.Common.{Among, AreFree, Avoids, Distinct, Distinct-back, Each, Edit, Field, Good, HasShape, In, IsSound, Kind, LiesIn, List, Mark, OutsideFields, R, Shape, UnlinksVariable, VariableShape, Within, Write, Z, [], all_unmarked, ap, arith, avoided, byte, count_of, either, emptied_fields, empty_writes, eq-eqb, field_marks, field_reads, flat_map, freed_with_variable, freeing_marks, gdr_offset, gdr_type, gdr_uir_head, good_is_sound, greatest_at, head_of, holder_of, if◌then◌else◌, index_types, inl, inr, is_in, length, length-with_field, links_end, mark, next_field, number, number_kept, numbers_on, other_words, r_max_marks, r_max_writes, r_vdr_type, refl, shape, shapes_of, size_at, subst, suc, sym, tile_lies, true, type_at, type_in, uir_type, variable_records, variable_removing_marks, variable_unlinking_marks, variables_chain, vdr_num, vdr_type, vdr_vxr_head, vdr_vxr_tail, vdrs, with_field, with_writes, write, z_vdr_type, ℕ, ℤ, ◌++◌, ◌+◌, ◌<◌, ◌==◌, ◌∙◌, ◌∷◌, ◌≡◌, ◌≢◌, ◌≤◌, ◌⊎◌}
 use Rattle.cdf_edits.proofs.Edits.Common.{edit_under, Avoids-split, all_unmarked-away, kept_away, gdr_in, gdr_typed, gdr_long, Stands, TakesVariable, vdr_there, own_stand, once, ours, vdr_record, left_by, sound_taken, are_numbered, LeavingTests, LeavesChain, left_edit, said_now, chain_now, list_now, not_twice, can_be_freed, AreNumbered, index_typed, only_variable, kind_chain, MayWrite, written_tiles, BytesStay, end_long, head_size, edit_then, the_one, Avoids-append, avoided-avoids, within-of_type, as_long, shape_there, sound_there, with_shapes, kind_type, may_after, writes_edit, writes_long, write_lies, chain_clear, numbered_still, some_bytes, stays_within, apart, mine_times, distinct_if}
 use Rattle.cdf_edits.proofs.Edits.OwnVariable.{freed-times, mine_freed, freed_mine}
 use Rattle.cdf_edits.proofs.Edits.TakenVariable.{back_in, own_in}

@@ -1,6 +1,5 @@
 -- A variable whose VDR stands at another place, or is another where it is, and whose other records an edit leaves: its links, its content and its rules.
-use Rattle.std.proofs.Common.{◌≡◌, ℕ, ◌≤◌, List, [], ◌∷◌, ◌++◌, Bool, true, sym, ap, subst, ◌∙◌, arith, inl, inr, refl}
-use Rattle.cdf_edits.proofs.Common.{if◌then◌else◌, has_name, variable_of, number, name_in, integer4, size_at, Leaf, nodes_of, leaves_of, index_rows, vdr_vxr_head, vdr_blocking_factor, vdr_name, Hold, VariableShape, Shape, cpr_of, is_compressed, Each, HasVariable, LeafFits, NodeFits, VariableFits, IsSound, In, records_vary, pad_at, vdr_end, cpr_link, is_named_apart, variable_rows, size_kept, type_kept, In-append_left, In-append_right, Edit, Mark}
+use Rattle.cdf_edits.proofs.Common.{Bool, Each, Edit, HasVariable, Hold, In, In-append_left, In-append_right, IsSound, Leaf, LeafFits, List, Mark, NodeFits, Shape, VariableFits, VariableShape, [], ap, arith, cpr_link, cpr_of, has_name, if◌then◌else◌, index_rows, inl, inr, integer4, is_compressed, is_named_apart, leaves_of, name_in, nodes_of, number, pad_at, records_vary, refl, size_at, size_kept, subst, sym, true, type_kept, variable_of, variable_rows, vdr_blocking_factor, vdr_end, vdr_name, vdr_vxr_head, ℕ, ◌++◌, ◌∙◌, ◌∷◌, ◌≡◌, ◌≤◌}
 use Rattle.cdf_edits.proofs.Edits.InRecords.{places_of, index_both, index_rows_both, leaves_fit_both, cprs_both}
 use Rattle.cdf_edits.proofs.Edits.RecordFrame.{index_records}
 use Rattle.cdf_edits.proofs.Frame.LinksStay.{SameHeads, index_kept}

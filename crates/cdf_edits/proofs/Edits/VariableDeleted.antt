@@ -1,6 +1,5 @@
 -- What the deletion of a variable leaves of the attributes, and of the records that it frees.
-use Rattle.std.proofs.Common.{◌≡◌, ◌⊎◌, ℕ, zero, suc, ◌+◌, ◌<◌, ◌≤◌, List, [], ◌∷◌, ◌++◌, length, map, Bool, true, Some, refl, sym, ap, subst, ◌∙◌, arith, inl, inr}
-use Rattle.cdf_edits.proofs.Common.{le-leb, same_Some, flat_map, slice_get, if◌then◌else◌, EntryKind, Kind, entries_of, Attribute, Found, Same, tile_lies, attribute_of, number, integer4, size_at, type_at, attribute_records, variable_records, aedr_num, adr_type, fixed_size, uir_type, AttributeShape, VariableShape, Shape, Each, HasEntries, shape, vdrs, In, AreTiles, Good, integer_kept, number_kept, linkable-in, linkable-type, good_is_sound, In-append, In-append_left, In-append_right, FreedStay, OutsideFields, shapes_of, GreatestIs, chain_of, entry_type, greatest_number, kind_of_entries, max_field, AttributeFollows, emptied_fields, entries_for, freed_with_variable, DropsEntries, AttributeDropped, avoided, ended, RemovesVariable, variable_removing_marks, AttributeStays, gave, links_end, NumbersFall}
+use Rattle.cdf_edits.proofs.Common.{AreTiles, Attribute, AttributeDropped, AttributeFollows, AttributeShape, AttributeStays, Bool, DropsEntries, Each, EntryKind, Found, FreedStay, Good, GreatestIs, HasEntries, In, In-append, In-append_left, In-append_right, Kind, List, NumbersFall, OutsideFields, RemovesVariable, Same, Shape, Some, VariableShape, [], adr_type, aedr_num, ap, arith, attribute_of, attribute_records, avoided, chain_of, emptied_fields, ended, entries_for, entries_of, entry_type, fixed_size, flat_map, freed_with_variable, gave, good_is_sound, greatest_number, if◌then◌else◌, inl, inr, integer4, integer_kept, kind_of_entries, le-leb, length, linkable-in, linkable-type, links_end, map, max_field, number, number_kept, refl, same_Some, shape, shapes_of, size_at, slice_get, subst, suc, sym, tile_lies, true, type_at, uir_type, variable_records, variable_removing_marks, vdrs, zero, ℕ, ◌++◌, ◌+◌, ◌<◌, ◌∙◌, ◌∷◌, ◌≡◌, ◌≤◌, ◌⊎◌}
 use Rattle.cdf_edits.proofs.Edits.Common.{type_stays, chain_has, chain_in, BytesStay, freed_stay_but, sizes_by_tiles, avoided-avoids, ended-avoids, fixed_long, attributes_kept, attributes_stay, Kept, flat-append}
 use Rattle.cdf_edits.proofs.Edits.OwnVariable.{freed_mine}
 use Rattle.cdf_edits.proofs.Edits.RemovedVariable.{sound, emptied, takes, says, behind, shape_after}

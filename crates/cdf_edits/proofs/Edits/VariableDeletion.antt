@@ -1,6 +1,5 @@
 -- The deletion of a variable follows: its entries went, and then the variable.
-use Rattle.std.proofs.Common.{◌≡◌, ℕ, ◌≤◌, List, ◌∷◌, ◌++◌, length, map, true, Some, refl, sym, ap, subst, ◌∙◌, arith}
-use Rattle.cdf_edits.proofs.Common.{map-append, remove, Kind, R, Z, Go, Attribute, DataSet, Variable, image_limit, Found, variable_named, variables_of, with_variables, attribute_without, del_var_step, content, size_at, uir_type, Shape, HasShape, shape, vdrs, In, AreTiles, Good, good_is_sound, RMaxRecOf, entries_for, freed_with_variable, DropsEntries, index_types, unmarked, RemovesVariable, variable_unlinking_marks, shapes_of, type_in, variables_chain, Act, Gave, gave, ActsFollow}
+use Rattle.cdf_edits.proofs.Common.{Act, ActsFollow, AreTiles, Attribute, DataSet, DropsEntries, Found, Gave, Go, Good, HasShape, In, Kind, List, R, RMaxRecOf, RemovesVariable, Shape, Some, Variable, Z, ap, arith, attribute_without, content, del_var_step, entries_for, freed_with_variable, gave, good_is_sound, image_limit, index_types, length, map, map-append, refl, remove, shape, shapes_of, size_at, subst, sym, true, type_in, uir_type, unmarked, variable_named, variable_unlinking_marks, variables_chain, variables_of, vdrs, with_variables, ℕ, ◌++◌, ◌∙◌, ◌∷◌, ◌≡◌, ◌≤◌}
 use Rattle.cdf_edits.proofs.Edits.Common.{acts_still_by, all_gave, gave-same, may_free, freed_places, sizes_before, sizes_by_tiles}
 use Rattle.cdf_model.specs.declared.answer.Reply.TheVariants as replies
 use Rattle.cdf_model.specs.VariableSteps.{without_variable as without_found}

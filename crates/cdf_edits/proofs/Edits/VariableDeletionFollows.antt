@@ -1,6 +1,5 @@
 -- The two calls of a deletion together follow the command.
-use Rattle.std.proofs.Common.{◌≡◌, ℕ, ◌≤◌, List, ◌++◌, length, Option, Some, None, refl, sym, ap, subst, ◌∙◌}
-use Rattle.cdf_edits.proofs.Common.{same_Some, slice_get, Done, Refused, Refuse, DataSet, image_limit, Found, variable_named, ByStep, del_var_step, content, owned, VariableShape, shape, Good, Answers, AllKeep, Allowances, shapes_of, stays_all, Says, del_var_changes, entries_for, freed_with_variable, no_index, DropsEntries, RemovesVariable, gave, DeletesNamed, DeletesVariable}
+use Rattle.cdf_edits.proofs.Common.{AllKeep, Allowances, Answers, ByStep, DataSet, DeletesNamed, DeletesVariable, Done, DropsEntries, Found, Good, List, None, Option, Refuse, Refused, RemovesVariable, Says, Some, VariableShape, ap, content, del_var_changes, del_var_step, entries_for, freed_with_variable, gave, image_limit, length, no_index, owned, refl, same_Some, shape, shapes_of, slice_get, stays_all, subst, sym, variable_named, ℕ, ◌++◌, ◌∙◌, ◌≡◌, ◌≤◌}
 use Rattle.cdf_edits.proofs.Edits.Common.{gone_by_giving, refused, all_kept, same_middle}
 use Rattle.cdf_model.specs.declared.answer.Reason.TheVariants as reasons
 use Rattle.cdf_model.specs.declared.answer.Reply.TheVariants as replies

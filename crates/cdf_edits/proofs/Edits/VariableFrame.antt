@@ -1,7 +1,5 @@
 -- Variables whose records an edit leaves stay, and keep their rules, whatever records an image has beside.
-use Rattle.std.proofs.Common.{◌≡◌, ◌⊎◌, ℕ, ◌≤◌, List, [], ◌∷◌, ◌++◌, Bool, true, refl, sym, ap, subst, ◌∙◌, arith, inl, inr}
-use Rattle.cdf_edits.proofs.Common.{flat_map, ◌==◌, ◌&&◌, if◌then◌else◌, NodeFits, VariableFits, IsSound, VariableStays, is_a, is_in, is_linkable, number, name_in, size_at, type_at, Leaf, nodes_of, leaves_of, is_block, index_rows, variable_records, vdr_num, vdr_name, r_vdr_type, z_vdr_type, vxr_type, vvr_type, cvvr_type, cpr_type, fixed_size, Row, Hold, VariableShape, Shape, vdrs, variables, is_compressed, Each, HasVariable, HasShape, In, cpr_link, is_named_apart, variable_rows, LeafFits, is_a-in, is_a-type, linkable-in, linkable-type, vdrs_append, nodes_stand, either, In-append, In-append_left, In-append_right, Each-split, both, Hold-append, Hold-split, Variable, Mark, Away, avoided, ended, all_unmarked, variable_types, index_types, keeps_index_records, Edit}
-use Rattle.cdf_format.proofs.GoodByShape.{variables_shape_rows, indexes_shape_rows}
+use Rattle.cdf_edits.proofs.Common.{Away, Bool, Each, Each-split, Edit, HasShape, HasVariable, Hold, Hold-append, Hold-split, In, In-append, In-append_left, In-append_right, IsSound, Leaf, LeafFits, List, Mark, NodeFits, Row, Shape, Variable, VariableFits, VariableShape, VariableStays, [], all_unmarked, ap, arith, avoided, both, cpr_link, cpr_type, cvvr_type, either, ended, fixed_size, flat_map, if◌then◌else◌, index_rows, index_types, indexes_shape_rows, inl, inr, is_a, is_a-in, is_a-type, is_block, is_compressed, is_in, is_linkable, is_named_apart, keeps_index_records, leaves_of, linkable-in, linkable-type, name_in, nodes_of, nodes_stand, number, r_vdr_type, refl, size_at, subst, sym, true, type_at, variable_records, variable_rows, variable_types, variables, variables_shape_rows, vdr_name, vdr_num, vdrs, vdrs_append, vvr_type, vxr_type, z_vdr_type, ℕ, ◌&&◌, ◌++◌, ◌==◌, ◌∙◌, ◌∷◌, ◌≡◌, ◌≤◌, ◌⊎◌}
 use Rattle.cdf_edits.proofs.Frame.OwnerAlone.{Each-in}
 use Rattle.cdf_edits.proofs.Rules.OfIndexes.{index_rules_kept}
 use Rattle.cdf_edits.proofs.Frame.Meaning.{FileSame, Kept, KeptButLink, but_link}

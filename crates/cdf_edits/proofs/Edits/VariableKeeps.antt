@@ -1,7 +1,5 @@
 -- What the deletion of a variable keeps of each record, by its owner.
-use Rattle.std.proofs.Common.{◌≡◌, ◌⊎◌, ℕ, zero, suc, ◌+◌, ◌-◌, ◌<◌, ◌≤◌, List, [], ◌∷◌, ◌++◌, length, Bool, true, false, true≢false, Option, Some, None, eq-eqb, eqb, refl, sym, ap, subst, ◌∙◌, arith, inl, inr}
-use Rattle.cdf_edits.proofs.Common.{Same, word, word_kept, eqb-true, same_Some, flat_map, slice_get, ◌==◌, if◌then◌else◌, Kind, R, Z, Found, byte, is_in, is_linkable, next_field, content, size_at, type_at, OneAttribute, OneVariable, Unused, attribute_records, owned, owned_by, owned_by_attributes, owned_by_variables, unused_records, variable_records, Field, uir_next_uir, uir_prev_uir, vdr_num, cdr_type, gdr_type, r_vdr_type, z_vdr_type, vxr_type, uir_type, AttributeShape, VariableShape, Shape, HasShape, shape, vdrs, IsSound, In, Good, is_a-in, is_a-type, linkable-type, good_is_sound, either, true-is_in, false-is_in, In-append_left, In-append_right, filter-in, both, tile_lies, Allowance, AllKeep, range_at, Allowances, Anything, Keeps, Only, OutsideFields, Stays, is_taken, only_of, r_max_rec_field, same_kind, shapes_of, space_fields, vdr_type, del_var_changes, entries_allowance, entries_for, freed_with_variable, variables_gdr_fields, DropsEntries, Edit, Mark, Away, Within, all_unmarked, attribute_types, avoided, index_types, within, RemovesVariable, variable_removing_marks, Range, Act, gave, type_in, variables_chain}
-use Rattle.cdf_edits.specs.Commands.Allowances.{own_allowance, unused_allowance}
+use Rattle.cdf_edits.proofs.Common.{Act, AllKeep, Allowance, Allowances, Anything, AttributeShape, Away, Bool, DropsEntries, Edit, Field, Found, Good, HasShape, In, In-append_left, In-append_right, IsSound, Keeps, Kind, List, Mark, None, OneAttribute, OneVariable, Only, Option, OutsideFields, R, Range, RemovesVariable, Same, Shape, Some, Stays, Unused, VariableShape, Within, Z, [], all_unmarked, ap, arith, attribute_records, attribute_types, avoided, both, byte, cdr_type, content, del_var_changes, either, entries_allowance, entries_for, eq-eqb, eqb, eqb-true, false, false-is_in, filter-in, flat_map, freed_with_variable, gave, gdr_type, good_is_sound, if◌then◌else◌, index_types, inl, inr, is_a-in, is_a-type, is_in, is_linkable, is_taken, length, linkable-type, next_field, only_of, own_allowance, owned, owned_by, owned_by_attributes, owned_by_variables, r_max_rec_field, r_vdr_type, range_at, refl, same_Some, same_kind, shape, shapes_of, size_at, slice_get, space_fields, subst, suc, sym, tile_lies, true, true-is_in, true≢false, type_at, type_in, uir_next_uir, uir_prev_uir, uir_type, unused_allowance, unused_records, variable_records, variable_removing_marks, variables_chain, variables_gdr_fields, vdr_num, vdr_type, vdrs, vxr_type, within, word, word_kept, z_vdr_type, zero, ℕ, ◌++◌, ◌+◌, ◌-◌, ◌<◌, ◌==◌, ◌∙◌, ◌∷◌, ◌≡◌, ◌≤◌, ◌⊎◌}
 use Rattle.cdf_edits.proofs.Commands.KeptRecords.{AllKeep-append}
 use Rattle.cdf_edits.proofs.Edits.AttributeFrame.{AreThere}
 use Rattle.cdf_edits.proofs.Edits.ChainKinds.{attribute_typed}

@@ -1,6 +1,5 @@
 -- The records of a variable are those of no other owner; and what a command may change of all records, where it changes the VDR of one variable.
-use Rattle.std.proofs.Common.{◌≡◌, ℕ, suc, ◌+◌, ◌≤◌, List, [], ◌∷◌, ◌++◌, length, true, Option, Some, None, eq-eqb, refl, sym, ap, subst, ◌∙◌, append_assoc, arith, inl, inr}
-use Rattle.cdf_edits.proofs.Common.{ne_eqb, flat_map, slice_get, ◌==◌, find, if◌then◌else◌, Kind, R, Z, Found, type_at, Leaf, leaves_of, Owner, File, OneVariable, Unused, variable_records, owned_by, owned_by_attributes, owned_by_variables, unused_records, times, owned_records, owned, Field, vxr_type, VariableShape, Shape, shape, IsSound, In, Allowance, Only, Allowances, only_of, OwnAllowances, Keeps, AllKeep, vdr_type, same_kind, shapes_of, range_at, of_variable, Range, range, Act}
+use Rattle.cdf_edits.proofs.Common.{Act, AllKeep, Allowance, Allowances, Field, File, Found, In, IsSound, Keeps, Kind, Leaf, List, None, OneVariable, Only, Option, OwnAllowances, Owner, R, Range, Shape, Some, Unused, VariableShape, Z, [], ap, append_assoc, arith, eq-eqb, find, flat_map, if◌then◌else◌, inl, inr, leaves_of, length, ne_eqb, of_variable, only_of, owned, owned_by, owned_by_attributes, owned_by_variables, owned_records, range, range_at, refl, same_kind, shape, shapes_of, slice_get, subst, suc, sym, times, true, type_at, unused_records, variable_records, vdr_type, vxr_type, ℕ, ◌++◌, ◌+◌, ◌==◌, ◌∙◌, ◌∷◌, ◌≡◌, ◌≤◌}
 use Rattle.cdf_edits.proofs.Commands.KeptRecords.{Stood, AllKeep-append, keep_owned, keep_variables}
 use Rattle.cdf_edits.proofs.Commands.ListParts.{got-middle}
 use Rattle.cdf_edits.proofs.Edits.InRecords.{places_of}

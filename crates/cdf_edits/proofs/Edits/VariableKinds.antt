@@ -1,6 +1,5 @@
 -- The variables of one kind among those of an image, and others in their place.
-use Rattle.std.proofs.Common.{◌≡◌, ℕ, ◌+◌, ◌≤◌, List, [], ◌∷◌, ◌++◌, length, map, Bool, eq-eqb, refl, sym, ap, subst, ◌∙◌, arith}
-use Rattle.cdf_edits.proofs.Common.{length-append, flat_map, ◌==◌, ◌&&◌, DataSet, Variable, variables_of, with_variables, Kind, R, Z, shapes_of, vdr_type, Mark, avoided, head_of, count_of, type_in, variables_chain, IsGoodByShape, Hold-split, Each-split, Each-append, adrs_rows, number_rows, r_vdrs_rows, z_vdrs_rows, IsChain, content_of, variable_of, number, gdr_offset, variable_records, times, gdr_type, vdr_num, Row, row, Hold, VariableShape, Shape, adrs, vdrs, variables, Each, HasShape, IsSound, In}
+use Rattle.cdf_edits.proofs.Common.{Bool, DataSet, Each, Each-append, Each-split, HasShape, Hold, Hold-split, In, IsChain, IsGoodByShape, IsSound, Kind, List, Mark, R, Row, Shape, Variable, VariableShape, Z, [], adrs, adrs_rows, ap, arith, avoided, content_of, count_of, eq-eqb, flat_map, gdr_offset, gdr_type, head_of, length, length-append, map, number, number_rows, r_vdrs_rows, refl, row, shapes_of, subst, sym, times, type_in, variable_of, variable_records, variables, variables_chain, variables_of, vdr_num, vdr_type, vdrs, with_variables, z_vdrs_rows, ℕ, ◌&&◌, ◌++◌, ◌+◌, ◌==◌, ◌∙◌, ◌∷◌, ◌≡◌, ◌≤◌}
 use Rattle.cdf_edits.proofs.Edits.VariableFrame.{AreOurs, all_ours, ours_parts, variables_in}
 use Rattle.cdf_edits.proofs.Frame.OwnersApart.{flat-append, all_variable_records, times-append, times-three, file_records, all_attribute_records}
 use Rattle.cdf_edits.proofs.Edits.OwnedOnce.{used_times}

@@ -1,7 +1,6 @@
 -- That no two variables have one name, where some were put in the place of others.
-use Rattle.std.proofs.Common.{◌≡◌, ◌≢◌, ◌⊎◌, ℕ, List, [], ◌∷◌, ◌++◌, Bool, true, false, not, ◌||◌, bytes_eq, eq-eqb, refl, sym, ap, subst, ◌∙◌, inl, inr}
-use Rattle.cdf_edits.proofs.Common.{and_from, cases_eq, eqb-true, ◌==◌, Kind, R, Z, same_name, name_in, type_at, vdr_name, r_vdr_type, z_vdr_type, VariableShape, Shape, vdrs, variables, IsSound, In, Distinct, is_named_apart, variable_rows, linkable-type, IsGoodByShape, vdrs_append, either, Distinct-back, In-append, In-append_left, In-append_right, Hold-member, both, not_false, shapes_of, Mark, type_in, variables_chain}
-use Rattle.cdf_format.proofs.NameRules.{differ-turned}
+use Rattle.cdf_edits.proofs.Common.{Bool, Distinct, Distinct-back, Hold-member, In, In-append, In-append_left, In-append_right, IsGoodByShape, IsSound, Kind, List, Mark, R, Shape, VariableShape, Z, [], and_from, ap, both, bytes_eq, cases_eq, differ-turned, either, eq-eqb, eqb-true, false, inl, inr, is_named_apart, linkable-type, name_in, not_false, r_vdr_type, refl, same_name, shapes_of, subst, sym, true, type_at, type_in, variable_rows, variables, variables_chain, vdr_name, vdrs, vdrs_append, z_vdr_type, ℕ, ◌++◌, ◌==◌, ◌∙◌, ◌∷◌, ◌≡◌, ◌≢◌, ◌⊎◌}
+use Rattle.std.proofs.Common.{not, ◌||◌}
 use Rattle.cdf_edits.proofs.Edits.VariableFrame.{remaining_names}
 use Rattle.cdf_edits.proofs.Edits.VariableKinds.{other_kind, shapes_with, by_kind, kind_chain}
 use Rattle.cdf_edits.proofs.Edits.VariableSplice.{VariableSplices, s', variables', others_remain}

@@ -1,6 +1,6 @@
 -- A variable whose VDR gets another number and another link to the next one, and whose other records an edit leaves: it means what it meant, and keeps its rules.
-use Rattle.std.proofs.Common.{◌≡◌, ℕ, ◌+◌, ◌≤◌, List, [], length, true, not, refl, sym, ap, subst, ◌∙◌, arith}
-use Rattle.cdf_edits.proofs.Common.{w32, cast_signed, before_first, ◌==◌, if◌then◌else◌, Same, variable_of, number, name_in, integer4, has_bit, size_at, vdr_flags, vdr_blocking_factor, vdr_name, VariableShape, Shape, is_compressed, HasVariable, VariableFits, IsSound, field_bytes, In, value_bytes, has_pad, pad_field, vdr_end, Same-part, word_kept, piece_kept, Edit, Mark}
+use Rattle.cdf_edits.proofs.Common.{Edit, HasVariable, In, IsSound, List, Mark, Same, Same-part, Shape, VariableFits, VariableShape, [], ap, arith, before_first, cast_signed, field_bytes, has_bit, has_pad, if◌then◌else◌, integer4, is_compressed, length, name_in, number, pad_field, piece_kept, refl, size_at, subst, sym, true, value_bytes, variable_of, vdr_blocking_factor, vdr_end, vdr_flags, vdr_name, w32, word_kept, ℕ, ◌+◌, ◌==◌, ◌∙◌, ◌≡◌, ◌≤◌}
+use Rattle.std.proofs.Common.{not}
 use Rattle.cdf_edits.proofs.Edits.Composing.{head_size, head_type}
 use Rattle.cdf_edits.proofs.Edits.RecordFrame.{index_records, through}
 use Rattle.cdf_edits.proofs.Edits.VariableCopied.{links_copied, content_copied, index_rules_stay, rules_stay, fits_copied}

@@ -1,6 +1,5 @@
 -- An edit that puts some variables of a kind in the place of others: the image has its shape, its content and its rules if these have theirs.
-use Rattle.std.proofs.Common.{◌≡◌, ℕ, ◌+◌, ◌≤◌, List, [], ◌∷◌, ◌++◌, length, map, Bool, true, refl, sym, ap, subst, ◌∙◌, arith}
-use Rattle.cdf_edits.proofs.Common.{map-append, flat_map, ◌==◌, ◌&&◌, DataSet, Variable, image_limit, with_variables, Kind, R, Z, same_name, adrs_rows, r_vdrs_rows, z_vdrs_rows, differ_rows, is_in, IsChain, content, content_of, variable_of, majority_of, number, size_at, type_at, has_bit, gdr_offset, eof, index_rows, read_types, OwnedOnce, times, owned_records, first_phases, Field, gdr_adr_head, gdr_num_attr, gdr_uir_head, adr_name, adr_num, cdr_type, gdr_type, adr_type, uir_type, is_record_type, fixed_size, row, Hold, AllHold, sealed, VariableShape, Shape, adrs, vdrs, variables, Each, HasVariable, HasShape, IsSound, VariableFits, In, is_named_apart, Good, is_a-from, is_a-in, IsGoodByShape, attribute_shape_rows, AreNew, names_differ, differ_by_names, Hold-append, Hold-split, sealed_keeps, Each-split, Each-append, content_is, both, shapes_of, Edit, Mark, avoided, all_unmarked, attribute_types, keeps_file, FileStays, AttributeStays, VariableStays, head_of, count_of, type_in, variables_chain}
+use Rattle.cdf_edits.proofs.Common.{AllHold, AreNew, AttributeStays, Bool, DataSet, Each, Each-append, Each-split, Edit, Field, FileStays, Good, HasShape, HasVariable, Hold, Hold-append, Hold-split, In, IsChain, IsGoodByShape, IsSound, Kind, List, Mark, OwnedOnce, R, Shape, Variable, VariableFits, VariableShape, VariableStays, Z, [], adr_name, adr_num, adr_type, adrs, adrs_rows, all_unmarked, ap, arith, attribute_shape_rows, attribute_types, avoided, both, cdr_type, content, content_is, content_of, count_of, differ_by_names, differ_rows, eof, first_phases, fixed_size, flat_map, gdr_adr_head, gdr_num_attr, gdr_offset, gdr_type, gdr_uir_head, has_bit, head_of, image_limit, index_rows, is_a-from, is_a-in, is_in, is_named_apart, is_record_type, keeps_file, length, majority_of, map, map-append, names_differ, number, owned_records, r_vdrs_rows, read_types, refl, row, same_name, sealed, sealed_keeps, shapes_of, size_at, subst, sym, times, true, type_at, type_in, uir_type, variable_of, variables, variables_chain, vdrs, with_variables, z_vdrs_rows, ℕ, ◌&&◌, ◌++◌, ◌+◌, ◌==◌, ◌∙◌, ◌∷◌, ◌≡◌, ◌≤◌}
 use Rattle.cdf_edits.proofs.Edits.AttributeFrame.{AreThere, lives_away, all_remain, they_stay, they_fit, remaining_rules, remaining_names, nums_stay}
 use Rattle.cdf_edits.proofs.Edits.AttributeRemains.{AttributeRemains}
 use Rattle.cdf_edits.proofs.Edits.ChainKinds.{attribute_typed}

@@ -1,6 +1,5 @@
 -- What a command may change of variables of one kind that stay but for the links from one to the next, where those of the other kind stay.
-use Rattle.std.proofs.Common.{false, ◌≡◌, ℕ, suc, ◌+◌, ◌<◌, ◌≤◌, List, [], ◌∷◌, length, refl, sym, subst, arith, inl, inr}
-use Rattle.cdf_edits.proofs.Common.{same_kind, flat_map, Kind, next_field, type_at, variable_records, VariableShape, Shape, vdrs, shape, IsSound, In, linkable-in, linkable-type, In-append_left, gdr_type, cdr_type, is_a-in, Each, index_types, HasVariable, VariableFits, AllKeep, Allowance, Allowances, Keeps, Only, shapes_of, stays_all, variables_gdr_fields, OneVariable, Unused, owned, owned_by, owned_by_variables, unused_records, Edit, Mark, Act, type_in, variables_chain}
+use Rattle.cdf_edits.proofs.Common.{Act, AllKeep, Allowance, Allowances, Each, Edit, HasVariable, In, In-append_left, IsSound, Keeps, Kind, List, Mark, OneVariable, Only, Shape, Unused, VariableFits, VariableShape, [], arith, cdr_type, false, flat_map, gdr_type, index_types, inl, inr, is_a-in, length, linkable-in, linkable-type, next_field, owned, owned_by, owned_by_variables, refl, same_kind, shape, shapes_of, stays_all, subst, suc, sym, type_at, type_in, unused_records, variable_records, variables_chain, variables_gdr_fields, vdrs, ℕ, ◌+◌, ◌<◌, ◌∷◌, ◌≡◌, ◌≤◌}
 use Rattle.cdf_edits.proofs.Edits.Common.{AllKeep-append, Kept, KeptButLink, VariableLives, all_attribute_records, all_attributes_in, all_unmarked-away, but_link, cdr_kept, gdr_in, gdr_start, gdr_typed, index_records, keep_all, keep_attributes, keep_file, keep_kinds, keep_own, keeps_fields, keeps_stood, kept, kept_away, kind_chain, kind_ours, late_size, other_kind, stood}
 use Rattle.cdf_edits.proofs.Edits.JoinedVdr.{KindTests}
 use Rattle.cdf_edits.proofs.Edits.VariableFrame.{AreOurs, index_typed, rest_ours, variables_in}

@@ -1,7 +1,5 @@
 -- An edit that changes a VDR where it stands, behind its link and in what leaves the variable its records: the image has its shape and its rules, and the other variables stay.
-use Rattle.std.proofs.Common.{◌≡◌, ℕ, ◌≤◌, List, [], ◌∷◌, length, true, refl, sym, ap, subst, ◌∙◌, arith, inl, inr, bytes_eq, false, true≢false}
-use Rattle.cdf_edits.proofs.Common.{cases_eq, flat_map, slice_set, Reply, Command, Kind, Go, image_limit, variables_of, with_variables, ByStep, step, has_name, content, variable_of, number, name_in, size_at, type_at, File, Unused, variable_records, unused_records, owned, Field, gdr_uir_head, vdr_num, vdr_name, gdr_type, uir_type, fixed_size, VariableShape, Shape, vdrs, is_compressed, HasShape, shape, In, vdr_end, Good, number_kept, linkable-in, linkable-type, IsGoodByShape, Only, Keeps, Allowances, AllKeep, shapes_of, Does, allowances, Edit, Mark, Among, Lies, Avoids, Away, Within, avoided, unmarked, all_unmarked, index_types, keeps_file, Follows, only_reads, type_in, variables_chain}
-use Rattle.cdf_edits.specs.Edits.Marks.{Where}
+use Rattle.cdf_edits.proofs.Common.{AllKeep, Allowances, Among, Avoids, Away, ByStep, Command, Does, Edit, Field, File, Follows, Go, Good, HasShape, In, IsGoodByShape, Keeps, Kind, Lies, List, Mark, Only, Reply, Shape, Unused, VariableShape, Where, Within, [], all_unmarked, allowances, ap, arith, avoided, bytes_eq, cases_eq, content, false, fixed_size, flat_map, gdr_type, gdr_uir_head, has_name, image_limit, index_types, inl, inr, is_compressed, keeps_file, length, linkable-in, linkable-type, name_in, number, number_kept, only_reads, owned, refl, shape, shapes_of, size_at, slice_set, step, subst, sym, true, true≢false, type_at, type_in, uir_type, unmarked, unused_records, variable_of, variable_records, variables_chain, variables_of, vdr_end, vdr_name, vdr_num, vdrs, with_variables, ℕ, ◌∙◌, ◌∷◌, ◌≡◌, ◌≤◌}
 use Rattle.cdf_edits.proofs.Commands.KeptRecords.{Stood, keep_owned, keep_attributes}
 use Rattle.cdf_edits.proofs.Edits.Composing.{head_size}
 use Rattle.cdf_edits.proofs.Edits.MarkLemmas.{all_unmarked-away}

@@ -1,6 +1,5 @@
 -- BlockingFactor or Name of a VDR is written where it stands.
-use Rattle.std.proofs.Common.{◌≡◌, ◌⊎◌, ℕ, ◌+◌, ◌≤◌, List, [], ◌∷◌, length, true, refl, sym, ap, subst, ◌∙◌, arith, inl, inr}
-use Rattle.cdf_edits.proofs.Common.{w32, cast_signed, before_first, ◌==◌, if◌then◌else◌, Kind, R, Z, Same, variable_of, number, name_in, integer4, has_bit, size_at, Field, vdr_flags, vdr_blocking_factor, vdr_name, VariableShape, is_compressed, shape, field_bytes, value_bytes, has_pad, pad_field, pad_at, vdr_end, Good, word_kept, piece_kept, of_le, Edit, Mark, Within, field_marks, touched_field, Changed, type_in, variables_chain}
+use Rattle.cdf_edits.proofs.Common.{Changed, Edit, Field, Good, Kind, List, Mark, R, Same, VariableShape, Within, Z, [], ap, arith, before_first, cast_signed, field_bytes, field_marks, has_bit, has_pad, if◌then◌else◌, inl, inr, integer4, is_compressed, length, name_in, number, of_le, pad_at, pad_field, piece_kept, refl, shape, size_at, subst, sym, touched_field, true, type_in, value_bytes, variable_of, variables_chain, vdr_blocking_factor, vdr_end, vdr_flags, vdr_name, w32, word_kept, ℕ, ◌+◌, ◌==◌, ◌∙◌, ◌∷◌, ◌≡◌, ◌≤◌, ◌⊎◌}
 use Rattle.cdf_edits.proofs.Edits.Common.{EditsVdr, FileSame, MarkTests, StandsAmong, VdrCopied, behind_in, behind_kept, changed_edit, content_copied, copied_in_place, file, file_same, fits, has, head_type, high, long, pad_field_copied, pad_late, pad_wide, some_bytes, sound, tile, typed, value_copied}
 use Rattle.cdf_edits.proofs.Frame.Meaning.{end_fits}
 use Rattle.cdf_edits.proofs.Frame.VdrCopied.{pad_copied}

@@ -1,6 +1,5 @@
 -- A part of some entries of a chain is written, which all stay, and then the greatest number of the chain.
-use Rattle.std.proofs.Common.{◌≡◌, ◌≢◌, ◌⊎◌, ℕ, ℤ, ◌+◌, ◌≤◌, List, [], ◌∷◌, length, true, eqb, refl, sym, ◌∙◌, arith, inl, inr}
-use Rattle.cdf_edits.proofs.Common.{eqb-true, w32, cast_unsigned, FitsSigned, EntryKind, Same, number, integer4, size_at, type_at, Unused, unused_records, attribute_records, Field, gdr_eof, gdr_uir_head, gdr_type, adr_type, uir_type, AttributeShape, shape, IsSound, In, Good, space_fields, chain_fields, chain_of, entry_type, max_field, Edit, head_field, count_field, keeps_but_chain, Among, Mark, Avoids, Away, avoided, field_marks, mark, unmarked, within}
+use Rattle.cdf_edits.proofs.Common.{Among, AttributeShape, Avoids, Away, Edit, EntryKind, Field, FitsSigned, Good, In, IsSound, List, Mark, Same, Unused, [], adr_type, arith, attribute_records, avoided, cast_unsigned, chain_fields, chain_of, count_field, entry_type, eqb, eqb-true, field_marks, gdr_eof, gdr_type, gdr_uir_head, head_field, inl, inr, integer4, keeps_but_chain, length, mark, max_field, number, refl, shape, size_at, space_fields, sym, true, type_at, uir_type, unmarked, unused_records, w32, within, ℕ, ℤ, ◌+◌, ◌∙◌, ◌∷◌, ◌≡◌, ◌≢◌, ◌≤◌, ◌⊎◌}
 use Rattle.cdf_model.specs.declared.kinds.EntryKind.TheVariants as entries
 use Rattle.cdf_edits.proofs.Commands.KeptRecords.{keep_owned}
 use Rattle.cdf_edits.proofs.Edits.ChainKept.{records_are, list_is}

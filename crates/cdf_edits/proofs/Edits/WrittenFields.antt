@@ -1,7 +1,5 @@
 -- Numbers that are written in fields of records, one after the other: one edit, and each field has its number.
-use Rattle.std.proofs.Common.{◌≡◌, ◌≢◌, ℕ, ◌+◌, ◌<◌, ◌≤◌, ◌^◌, List, [], ◌∷◌, length, map, refl, sym, subst, ◌∙◌, arith, inl, inr}
-use Rattle.cdf_edits.proofs.Common.{Same, number, size_at, type_at, LiesIn, Field, uir_type, Each, big_bytes, length-bytes_high_first, In, AreTiles, Distinct, tile_lies, field_reads, length-with_field, Edit, Among, Mark, mark, Covered, Write, with_writes, Touch, touched_field, Changed}
-use Rattle.cdf_format.specs.Fields.{with_field}
+use Rattle.cdf_edits.proofs.Common.{Among, AreTiles, Changed, Covered, Distinct, Each, Edit, Field, In, LiesIn, List, Mark, Same, Touch, Write, [], arith, big_bytes, field_reads, inl, inr, length, length-bytes_high_first, length-with_field, map, mark, number, refl, size_at, subst, sym, tile_lies, touched_field, type_at, uir_type, with_field, with_writes, ℕ, ◌+◌, ◌<◌, ◌^◌, ◌∙◌, ◌∷◌, ◌≡◌, ◌≢◌, ◌≤◌}
 use Rattle.cdf_edits.proofs.Edits.Composing.{head_size, head_type, edit_then, changed_edit}
 use Rattle.cdf_edits.proofs.Edits.FreedRecords.{edit_under, same_edit}
 use Rattle.cdf_edits.proofs.Edits.MarkLemmas.{Avoids-append}

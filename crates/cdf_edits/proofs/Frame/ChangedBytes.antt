@@ -1,7 +1,5 @@
 -- Changes add up, and what they miss stays.
-use Rattle.std.proofs.Common.{◌≡◌, ◌⊎◌, ℕ, ◌+◌, ◌<◌, ◌≤◌, List, [], ◌∷◌, ◌++◌, length, subst, ◌∙◌, arith, inl, inr}
-use Rattle.cdf_edits.proofs.Common.{cases_eq, length-append, get_or_append_left, put, size_at, In, AreTiles, Same, Touch, touch, Outside, Changed, Placed, Misses, TouchesNone, length-put, tile_lies, tiles_lie_apart}
-use Rattle.cdf_format.proofs.BytesLemmas.{byte-put_before, byte-put_after}
+use Rattle.cdf_edits.proofs.Common.{AreTiles, Changed, In, List, Misses, Outside, Placed, Same, Touch, TouchesNone, [], arith, byte-put_after, byte-put_before, cases_eq, get_or_append_left, inl, inr, length, length-append, length-put, put, size_at, subst, tile_lies, tiles_lie_apart, touch, ℕ, ◌++◌, ◌+◌, ◌<◌, ◌∙◌, ◌∷◌, ◌≡◌, ◌≤◌, ◌⊎◌}
 
 pub Outside-append : (ts us : List Touch) (i : ℕ) → Outside (ts ++ us) i → Outside ts i × Outside us i
 Outside-append [] us i o = (tt, o)

@@ -1,6 +1,5 @@
 -- A change within unused records, or within the CDR and the GDR, leaves a sound image sound.
-use Rattle.std.proofs.Common.{◌≡◌, ℕ, ◌+◌, ◌*◌, ◌≤◌, List, [], ◌∷◌, ◌++◌, length, map, true, refl, sym, ap, subst, ◌∙◌, inl, inr}
-use Rattle.cdf_edits.proofs.Common.{flat_map, size_at, r_num_dims, cdr_type, gdr_type, adr_type, vxr_type, cpr_type, In, AreTiles, is_a, Leaf, nodes_of, leaves_of, VariableShape, Shape, variables, Each, HasVariable, attribute_records, variable_records, unused_records, times, owned_records, VariableFits, IsSound, ChangedWithin, LeavesFinding, Leaves, In-append, is_a-in, linkable-in, nodes_stand, attributes_in, owned_is, content}
+use Rattle.cdf_edits.proofs.Common.{AreTiles, ChangedWithin, Each, HasVariable, In, In-append, IsSound, Leaf, Leaves, LeavesFinding, List, Shape, VariableFits, VariableShape, [], adr_type, ap, attribute_records, attributes_in, cdr_type, content, cpr_type, flat_map, gdr_type, inl, inr, is_a, is_a-in, leaves_of, length, linkable-in, map, nodes_of, nodes_stand, owned_is, owned_records, r_num_dims, refl, size_at, subst, sym, times, true, unused_records, variable_records, variables, vxr_type, ℕ, ◌*◌, ◌++◌, ◌+◌, ◌∙◌, ◌∷◌, ◌≡◌, ◌≤◌}
 use Rattle.cdf_edits.proofs.Frame.Meaning.{FileSame}
 use Rattle.cdf_edits.proofs.Frame.OwnerAlone.{Each-in, blocks_stand, stays, heads}
 use Rattle.cdf_edits.proofs.Frame.OwnersApart.{vdrs_stand, unused_in, unused_from_file, unused_from_attributes, unused_from_variables, unused_are_alone, file_same_is, gdr_room, file_in, file_from_attributes, file_from_variables, file_found, dimensions_found, file_is_alone}

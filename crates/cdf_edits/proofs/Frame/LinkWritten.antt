@@ -1,7 +1,5 @@
 -- A link that is written changes one chain, and leaves the others.
-use Rattle.std.proofs.Common.{◌≡◌, ◌≢◌, ◌⊎◌, ℕ, ◌+◌, ◌≤◌, List, [], ◌∷◌, ◌++◌, length, true, refl, true≢false, sym, ap, subst, ◌∙◌, arith, inl, inr}
-use Rattle.cdf_edits.proofs.Common.{cases_eq, word, size_at, type_at, Same, Touch, touch, Changed, Placed, Misses, In, Distinct, AreTiles, next_of, is_in, is_linkable, Leads, IsChain, linked_types, IsHead, AllSpare, end_place, In-append, In-append_left, Distinct-front, tile_lies, tiles_lie_apart, linkable-in, linkable-type, linkable-long, linkable-from, word_kept}
-use Rattle.cdf_edits.specs.Frame.Links.{ChainHead, with_members, head_place, IsLinkAfter, IsOther}
+use Rattle.cdf_edits.proofs.Common.{AllSpare, AreTiles, ChainHead, Changed, Distinct, Distinct-front, In, In-append, In-append_left, IsChain, IsHead, IsLinkAfter, IsOther, Leads, List, Misses, Placed, Same, Touch, [], ap, arith, cases_eq, end_place, head_place, inl, inr, is_in, is_linkable, length, linkable-from, linkable-in, linkable-long, linkable-type, linked_types, next_of, refl, size_at, subst, sym, tile_lies, tiles_lie_apart, touch, true, true≢false, type_at, with_members, word, word_kept, ℕ, ◌++◌, ◌+◌, ◌∙◌, ◌∷◌, ◌≡◌, ◌≢◌, ◌≤◌, ◌⊎◌}
 use Rattle.cdf_edits.proofs.Frame.ChangedBytes.{changed_part}
 use Rattle.cdf_edits.proofs.Frame.LinksStay.{leads_same}
 

@@ -1,10 +1,6 @@
 -- Tilings, chains and indexes stay where sizes, types and links do.
-use Rattle.std.proofs.Common.{◌≡◌, ℕ, zero, suc, ◌+◌, ◌-◌, ◌*◌, ◌/◌, ◌≤◌, List, [], ◌∷◌, map, true, ◌&&◌, refl, sym, ap, subst, ◌∙◌, arith, inl, inr}
-use Rattle.cdf_edits.proofs.Common.{map-append, ◌==◌, nat_le, counted, number, size_at, type_at, vxr_n_entries, vxr_n_used_entries, vxr_type, cvvr_type, In, AreTiles, next_of, is_in, is_linkable, Leads, IsChain, Nodes, no_node, node, Entries, no_entry, block, lower, Leaf, entry_count, link_to, room_at, SaysEntry, SayEntries, SaysNode, IsIndex, NodeFits, In-append_left, In-append_right, is_in-true, linkable-in, number_kept, integer_kept, size_kept, next_kept}
-use Rattle.std.specs.Prelude.{min}
-use Rattle.cdf_format.specs.Records.{vxr_first, vxr_last, vxr_offset}
-use Rattle.cdf_format.specs.Index.{nodes_of, lower_nodes, leaves_of, entry_leaves, used_count}
-use Rattle.cdf_format.specs.IndexOf.{HasNodes, Names}
+use Rattle.cdf_edits.proofs.Common.{AreTiles, Entries, HasNodes, In, In-append_left, In-append_right, IsChain, IsIndex, Leads, Leaf, List, Names, NodeFits, Nodes, SayEntries, SaysEntry, SaysNode, [], ap, arith, block, counted, cvvr_type, entry_count, entry_leaves, inl, inr, integer_kept, is_in, is_in-true, is_linkable, leaves_of, link_to, linkable-in, lower, lower_nodes, map, map-append, min, nat_le, next_kept, next_of, no_entry, no_node, node, nodes_of, number, number_kept, refl, room_at, size_at, size_kept, subst, suc, sym, true, type_at, used_count, vxr_first, vxr_last, vxr_n_entries, vxr_n_used_entries, vxr_offset, vxr_type, zero, ℕ, ◌*◌, ◌+◌, ◌-◌, ◌/◌, ◌==◌, ◌∙◌, ◌∷◌, ◌≡◌, ◌≤◌}
+use Rattle.std.proofs.Common.{◌&&◌}
 use Rattle.cdf_edits.proofs.Frame.Meaning.{Kept}
 
 -- the same sizes, the same tiles

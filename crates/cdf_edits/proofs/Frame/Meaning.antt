@@ -1,8 +1,6 @@
 -- What records mean stays where their bytes do.
-use Rattle.std.proofs.Common.{◌≡◌, ℕ, ℤ, ◌+◌, ◌*◌, ◌≤◌, List, [], ◌∷◌, length, Bool, true, false, is_some, ◌&&◌, refl, sym, ap, subst, ◌∙◌, arith, inl, inr}
-use Rattle.cdf_edits.proofs.Common.{is_z, dimensions_at, value_bytes, pad_field, nat_le, record_limit, has_value, is_positive, if◌then◌else◌, w32, w64, cast_signed, unwrap_or, DataType, Byte, turned, Entry, with_item, size_of, type_of, Field, adr_name, adr_scope, aedr_data_type, aedr_num, aedr_num_elems, aedr_value, vdr_r_dim_vary, vdr_r_pad_value, vdr_z_dim_vary, vdr_z_pad_value, cvvr_c_size, counted, number, integer4, size_at, type_at, gdr_offset, r_num_dims, r_sizes, Same, In, field_bytes, is_little, data_type_in, AttributeShape, Each, entry_bytes, scope_of, entry_of, attribute_of, EntryFits, AttributeFits, Same-part, word_kept, piece_kept, number_kept, bytes_kept, name_kept}
-use Rattle.cdf_format.specs.Records.{cvvr_packed}
-use Rattle.cdf_format.specs.Stored.{packed_bytes}
+use Rattle.cdf_edits.proofs.Common.{AttributeFits, AttributeShape, Bool, Byte, DataType, Each, Entry, EntryFits, Field, In, List, Same, Same-part, [], adr_name, adr_scope, aedr_data_type, aedr_num, aedr_num_elems, aedr_value, ap, arith, attribute_of, bytes_kept, cast_signed, counted, cvvr_c_size, cvvr_packed, data_type_in, dimensions_at, entry_bytes, entry_of, false, field_bytes, gdr_offset, has_value, if◌then◌else◌, inl, inr, integer4, is_little, is_positive, is_z, length, name_kept, nat_le, number, number_kept, packed_bytes, pad_field, piece_kept, r_num_dims, r_sizes, record_limit, refl, scope_of, size_at, size_of, subst, sym, true, turned, type_at, type_of, unwrap_or, value_bytes, vdr_r_dim_vary, vdr_r_pad_value, vdr_z_dim_vary, vdr_z_pad_value, w32, w64, with_item, word_kept, ℕ, ℤ, ◌*◌, ◌+◌, ◌∙◌, ◌∷◌, ◌≡◌, ◌≤◌}
+use Rattle.std.proofs.Common.{is_some, ◌&&◌}
 use Rattle.cdf_format.specs.Content.{entries_of}
 
 -- what the CDR and the GDR say of other records

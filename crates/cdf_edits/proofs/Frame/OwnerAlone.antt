@@ -1,7 +1,5 @@
 -- A change within the records of one owner leaves those of every other.
-use Rattle.std.proofs.Common.{◌≡◌, ℕ, ◌+◌, ◌*◌, ◌≤◌, List, [], ◌∷◌, ◌++◌, length, map, Bool, true, false, Some, None, refl, sym, ap, subst, ◌∙◌, arith, inl, inr}
-use Rattle.cdf_edits.proofs.Common.{if◌then◌else◌, flat_map, encoding_at, Field, cdr_gdr_offset, cdr_encoding, cdr_flags, cdr_release, cdr_increment, gdr_r_vdr_head, gdr_z_vdr_head, gdr_adr_head, gdr_r_num_dims, gdr_uir_head, adr_agr_edr_head, adr_az_edr_head, vdr_vxr_head, cdr_type, gdr_type, adr_type, agr_edr_type, az_edr_type, r_vdr_type, z_vdr_type, vxr_type, uir_type, fixed_size, words, counted, number, size_at, type_at, gdr_offset, encoding, r_num_dims, r_sizes, Same, Touch, Placed, Misses, TouchesNone, In, AreTiles, next_of, is_in, is_linkable, IsChain, Leaf, nodes_of, leaves_of, AttributeShape, VariableShape, Shape, adrs, vdrs, cpr_of, Each, HasEntries, HasVariable, HasShape, attribute_records, variable_records, AttributeFits, NodeFits, LeafFits, VariableFits, linked_types, ChangedWithin, FileStays, AttributeStays, VariableStays, In-append_left, In-append_right, tile_lies, is_a-in, is_a-type, linkable-in, linkable-type, linkable-long, nodes_stand, block_in, word_kept, words_kept, number_kept, integer_kept}
-use Rattle.cdf_edits.specs.Frame.Leaves.{after_links, LeavesLinks, ChainsStay}
+use Rattle.cdf_edits.proofs.Common.{AreTiles, AttributeFits, AttributeShape, AttributeStays, Bool, ChainsStay, ChangedWithin, Each, Field, FileStays, HasEntries, HasShape, HasVariable, In, In-append_left, In-append_right, IsChain, Leaf, LeafFits, LeavesLinks, List, Misses, NodeFits, None, Placed, Same, Shape, Some, Touch, TouchesNone, VariableFits, VariableShape, VariableStays, [], adr_agr_edr_head, adr_az_edr_head, adr_type, adrs, after_links, agr_edr_type, ap, arith, attribute_records, az_edr_type, block_in, cdr_encoding, cdr_flags, cdr_gdr_offset, cdr_increment, cdr_release, cdr_type, counted, cpr_of, encoding, encoding_at, false, fixed_size, flat_map, gdr_adr_head, gdr_offset, gdr_r_num_dims, gdr_r_vdr_head, gdr_type, gdr_uir_head, gdr_z_vdr_head, if◌then◌else◌, inl, inr, integer_kept, is_a-in, is_a-type, is_in, is_linkable, leaves_of, length, linkable-in, linkable-long, linkable-type, linked_types, map, next_of, nodes_of, nodes_stand, number, number_kept, r_num_dims, r_sizes, r_vdr_type, refl, size_at, subst, sym, tile_lies, true, type_at, uir_type, variable_records, vdr_vxr_head, vdrs, vxr_type, word_kept, words, words_kept, z_vdr_type, ℕ, ◌*◌, ◌++◌, ◌+◌, ◌∙◌, ◌∷◌, ◌≡◌, ◌≤◌}
 use Rattle.cdf_edits.proofs.Frame.ChangedBytes.{changed_part, changed_whole}
 use Rattle.cdf_edits.proofs.Frame.Meaning.{FileSame, Kept, but_link, attribute_kept}
 use Rattle.cdf_edits.proofs.Frame.VdrCopied.{cpr_link_copied, index_link_copied}

@@ -1,6 +1,5 @@
 -- Owners share no record, so a change within the records of one leaves those of every other.
-use Rattle.std.proofs.Common.{◌≡◌, ℕ, suc, ◌+◌, ◌*◌, ◌≤◌, List, [], ◌∷◌, ◌++◌, map, Bool, true, false, eqb, eq-eqb, refl, sym, ap, subst, ◌∙◌, append_assoc, arith, inl, inr}
-use Rattle.cdf_edits.proofs.Common.{eqb-true, flat_map, w32, cast_signed, cdr_type, gdr_type, adr_type, agr_edr_type, az_edr_type, r_vdr_type, z_vdr_type, cpr_type, vxr_type, uir_type, In, is_linkable, is_a, AttributeShape, VariableShape, Shape, vdrs, variables, Each, HasEntries, HasVariable, HasShape, attribute_records, variable_records, unused_records, times, owned_records, AttributeFits, VariableFits, IsSound, ChangedWithin, FileStays, Leaves, LeavesFinding, either, In-append, is_a-in, linkable-in, Each-split, Each-append, vdrs_append, owned_is, filter-in, counted, number, type_at, r_num_dims, words, gdr_offset, encoding, r_sizes, size_at, Leaf, nodes_of, leaves_of, nodes_stand, word_kept, words_kept, size_kept, integer_kept, gdr_r_num_dims, Same, Misses}
+use Rattle.cdf_edits.proofs.Common.{AttributeFits, AttributeShape, Bool, ChangedWithin, Each, Each-append, Each-split, FileStays, HasEntries, HasShape, HasVariable, In, In-append, IsSound, Leaf, Leaves, LeavesFinding, List, Misses, Same, Shape, VariableFits, VariableShape, [], adr_type, agr_edr_type, ap, append_assoc, arith, attribute_records, az_edr_type, cast_signed, cdr_type, counted, cpr_type, either, encoding, eq-eqb, eqb, eqb-true, false, filter-in, flat_map, gdr_offset, gdr_r_num_dims, gdr_type, inl, inr, integer_kept, is_a, is_a-in, is_linkable, leaves_of, linkable-in, map, nodes_of, nodes_stand, number, owned_is, owned_records, r_num_dims, r_sizes, r_vdr_type, refl, size_at, size_kept, subst, suc, sym, times, true, type_at, uir_type, unused_records, variable_records, variables, vdrs, vdrs_append, vxr_type, w32, word_kept, words, words_kept, z_vdr_type, ℕ, ◌*◌, ◌++◌, ◌+◌, ◌∙◌, ◌∷◌, ◌≡◌, ◌≤◌}
 use Rattle.cdf_edits.proofs.Frame.Meaning.{Kept, FileSame}
 use Rattle.cdf_edits.proofs.Frame.OwnerAlone.{stays, tiling_stays, attributes_stay, variables_stay, file_same, chains_stay, file_stays, Each-in, blocks_stand, part, cdr_long, gdr_long, chains_by_links, file_same_by}
 

@@ -1,6 +1,5 @@
 -- An image whose chains, attributes and variables stay has the old shape, and the old content.
-use Rattle.std.proofs.Common.{◌≡◌, ℕ, ◌≤◌, List, [], ◌∷◌, length, map, true, refl, sym, ap₂, subst, ◌∙◌}
-use Rattle.cdf_edits.proofs.Common.{Attribute, Variable, has_bit, size_at, type_at, cdr_type, gdr_type, is_record_type, fixed_size, In, AreTiles, is_a, AttributeShape, VariableShape, Shape, variables, with_records, Each, HasEntries, HasVariable, HasShape, unused_records, content_of, content, attribute_of, variable_of, majority_of, IsSound, ChangedWithin, FileStays, AttributeStays, VariableStays, Leaves, is_a-from, is_a-in, is_a-type, Each-split, content_is}
+use Rattle.cdf_edits.proofs.Common.{AreTiles, Attribute, AttributeShape, AttributeStays, ChangedWithin, Each, Each-split, FileStays, HasEntries, HasShape, HasVariable, In, IsSound, Leaves, List, Shape, Variable, VariableShape, VariableStays, [], ap₂, attribute_of, cdr_type, content, content_is, content_of, fixed_size, gdr_type, has_bit, is_a, is_a-from, is_a-in, is_a-type, is_record_type, length, majority_of, map, refl, size_at, subst, sym, true, type_at, unused_records, variable_of, variables, with_records, ℕ, ◌∙◌, ◌∷◌, ◌≡◌, ◌≤◌}
 use Rattle.cdf_edits.proofs.Frame.LinksStay.{SameHeads}
 use Rattle.cdf_edits.proofs.Frame.OwnerAlone.{heads}
 use Rattle.cdf_edits.proofs.Frame.OwnersApart.{unused_are_alone, unused_in}

@@ -1,6 +1,6 @@
 -- A change within the CDR, the GDR and unused records leaves a sound image sound.
-use Rattle.std.proofs.Common.{◌≡◌, ℕ, ◌≤◌, List, [], ◌∷◌, ◌++◌, map, Bool, true, ◌&&◌, ◌||◌, cond, refl, sym, ap, ◌∙◌, inl, inr}
-use Rattle.cdf_edits.proofs.Common.{◌==◌, flat_map, filter, size_at, type_at, vvr_type, cvvr_type, cpr_type, uir_type, In, is_a, is_in, Leaf, nodes_of, leaves_of, is_block, AttributeShape, VariableShape, Shape, Each, attribute_records, variable_records, unused_records, EntryFits, AttributeFits, NodeFits, LeafFits, VariableFits, In-append_left, In-append_right, is_in-true, is_a-in, block_in, vdr_end}
+use Rattle.cdf_edits.proofs.Common.{AttributeFits, AttributeShape, Bool, Each, EntryFits, In, In-append_left, In-append_right, Leaf, LeafFits, List, NodeFits, Shape, VariableFits, VariableShape, [], ap, attribute_records, block_in, cond, cpr_type, cvvr_type, filter, flat_map, inl, inr, is_a, is_a-in, is_block, is_in, is_in-true, leaves_of, map, nodes_of, refl, size_at, sym, true, type_at, uir_type, unused_records, variable_records, vdr_end, vvr_type, ℕ, ◌++◌, ◌==◌, ◌∙◌, ◌∷◌, ◌≡◌, ◌≤◌}
+use Rattle.std.proofs.Common.{◌&&◌, ◌||◌}
 use Rattle.cdf_edits.proofs.Frame.Meaning.{FileSame, Kept, KeptButLink, but_link, entry_fits_kept}
 use Rattle.cdf_edits.proofs.Frame.VdrCopied.{block_fits_copied}
 use Rattle.cdf_edits.proofs.Frame.VdrKept.{vdr_kept, end_kept}

@@ -1,6 +1,5 @@
 -- One more record at the end of an image, and one that is split into two.
-use Rattle.std.proofs.Common.{◌≡◌, ℕ, ◌+◌, ◌≤◌, List, [], ◌∷◌, ◌++◌, refl, sym, ap, subst, ◌∙◌, arith, inl, inr}
-use Rattle.cdf_edits.proofs.Common.{size_at, In, AreTiles}
+use Rattle.cdf_edits.proofs.Common.{AreTiles, In, List, [], ap, arith, inl, inr, refl, size_at, subst, sym, ℕ, ◌++◌, ◌+◌, ◌∙◌, ◌∷◌, ◌≡◌, ◌≤◌}
 use Rattle.cdf_edits.proofs.Frame.LinksStay.{tiles_same}
 
 pub tiles_push : (b : List ℕ) (from upto n : ℕ) (ts : List ℕ) → AreTiles b from upto ts → size_at b upto ≡ n → 12 ≤ n → AreTiles b from (upto + n) (ts ++ upto ∷ [])

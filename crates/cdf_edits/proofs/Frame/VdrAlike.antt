@@ -1,12 +1,8 @@
 -- What a VDR means that stands at another place, or that has another name, blocking factor, flags, pad value or MaxRec where it is.
-use Rattle.std.proofs.Common.{◌≡◌, ℕ, ℤ, zero, suc, ◌+◌, ◌*◌, ◌^◌, ◌<◌, ◌≤◌, List, [], ◌∷◌, ◌++◌, length, drop, map, Bool, true, false, not, Some, refl, sym, ap, ap₂, subst, ◌∙◌, arith, inl, inr}
-use Rattle.cdf_edits.proofs.Common.{take, ◌==◌, nat_lt, if◌then◌else◌, w32, cast_signed, enumerate_from, filter, flat_map, unwrap_or, Byte, NoRule, Pad, Previous, parts, turned, extent, size_of, type_of, Field, vdr_data_type, vdr_max_rec, vdr_vxr_head, vdr_flags, vdr_s_records, vdr_num_elems, vdr_cpr_or_spr_offset, vdr_blocking_factor, vdr_name, vdr_r_dim_vary, vdr_r_pad_value, vdr_z_num_dims, vdr_z_dim_vary, vdr_z_pad_value, cvvr_c_size, z_vdr_type, word, words, counted, number, name_in, integer4, has_bit, size_at, type_at, byte, Same, In, field_bytes, is_little, Leaf, leaves_of, VariableShape, Each, is_compressed, is_z, counted4, dimensions_at, dims_at, type_of_variable, value_bytes, record_bytes, records_vary, has_pad, pad_field, pad_at, max_rec_at, records_of_leaf, plain_size, plain_bytes, leaf_records, records_in, variable_of, BlockFits, LeafFits, bytes_kept, number_kept, size_kept}
-use Rattle.std.proofs.lemmas.List.{ext_get_or, get_or-drop, get_or-take, length-drop, length-take}
+use Rattle.cdf_edits.proofs.Common.{BlockFits, Bool, Byte, Each, Field, In, Leaf, LeafFits, List, NoRule, Pad, Previous, Same, Some, VariableShape, [], ap, ap₂, arith, byte, bytes_kept, cast_signed, counted, counted4, cvvr_c_size, dimensions_at, dims_at, drop, elems_at, enumerate_from, ext_get_or, extent, false, field_bytes, filter, flat_map, get_or-drop, get_or-take, has_bit, has_pad, if◌then◌else◌, inl, inr, integer4, is_compressed, is_little, is_z, leaf_records, leaves_of, length, length-drop, length-take, map, max_rec_at, name_in, nat_lt, network_bytes, number, number_kept, pad_at, pad_field, parts, plain_bytes, plain_size, record_bytes, records_in, records_of_leaf, records_vary, refl, size_at, size_kept, size_of, sparse_at, subst, suc, sym, take, true, turned, type_at, type_of, type_of_variable, unwrap_or, value_bytes, variable_of, vary_field, varys_at, vdr_blocking_factor, vdr_cpr_or_spr_offset, vdr_data_type, vdr_flags, vdr_max_rec, vdr_name, vdr_num_elems, vdr_r_dim_vary, vdr_r_pad_value, vdr_s_records, vdr_vxr_head, vdr_z_dim_vary, vdr_z_num_dims, vdr_z_pad_value, vvr_records, w32, word, words, z_vdr_type, zero, ℕ, ℤ, ◌*◌, ◌++◌, ◌+◌, ◌<◌, ◌==◌, ◌^◌, ◌∙◌, ◌∷◌, ◌≡◌, ◌≤◌}
+use Rattle.std.proofs.Common.{not}
 use Rattle.cdf_model.specs.Place.{record_size}
 use Rattle.cdf_model.specs.RunLengths.{plain_of}
-use Rattle.cdf_format.specs.Records.{vvr_records}
-use Rattle.cdf_format.specs.Stored.{network_bytes}
-use Rattle.cdf_format.specs.VariableFields.{elems_at, vary_field, varys_at, sparse_at}
 use Rattle.cdf_edits.proofs.Frame.Meaning.{FileSame, Kept, if_same, pad_place, vary_fits, packed_same}
 
 -- ---- bytes that stand at another place too

@@ -1,6 +1,5 @@
 -- What a VDR means that stands at another place, or that has another name, blocking factor, flags or pad value where it is.
-use Rattle.std.proofs.Common.{◌≡◌, ℕ, List, map, Bool, true, ap, ◌∙◌, arith}
-use Rattle.cdf_edits.proofs.Common.{w32, cast_signed, vdr_data_type, vdr_max_rec, vdr_vxr_head, vdr_flags, vdr_s_records, vdr_num_elems, vdr_cpr_or_spr_offset, vdr_blocking_factor, vdr_name, number, name_in, integer4, type_at, In, field_bytes, Leaf, leaves_of, VariableShape, Each, is_compressed, is_z, dims_at, type_of_variable, value_bytes, record_bytes, records_vary, has_pad, pad_field, pad_at, plain_size, records_in, variable_of, BlockFits, LeafFits}
+use Rattle.cdf_edits.proofs.Common.{BlockFits, Bool, Each, In, Leaf, LeafFits, List, VariableShape, ap, arith, cast_signed, dims_at, field_bytes, has_pad, integer4, is_compressed, is_z, leaves_of, map, name_in, number, pad_at, pad_field, plain_size, record_bytes, records_in, records_vary, true, type_at, type_of_variable, value_bytes, variable_of, vdr_blocking_factor, vdr_cpr_or_spr_offset, vdr_data_type, vdr_flags, vdr_max_rec, vdr_name, vdr_num_elems, vdr_s_records, vdr_vxr_head, w32, ℕ, ◌∙◌, ◌≡◌}
 use Rattle.cdf_edits.proofs.Frame.Meaning.{FileSame, Kept}
 use Rattle.cdf_edits.proofs.Frame.VdrAlike.{Copied, word_copied, copied_part, VdrAlike, plain_alike, z_alike, dims_alike, raw_type_alike, type_alike, raw_elems_alike, value_alike, record_alike, pad_field_alike, raw_sparse_alike, cpr_link_alike, index_link_alike, pad_alike, records_alike, block_fits_alike, variable_alike}
 pub use Rattle.cdf_edits.proofs.Frame.VdrAlike.{Copied, copied_in_place, copied_part, piece_copied, word_copied, words_copied}

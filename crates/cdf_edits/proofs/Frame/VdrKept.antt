@@ -1,6 +1,5 @@
 -- What a VDR means stays where its bytes do, but for its link.
-use Rattle.std.proofs.Common.{◌≡◌, ℕ, ◌+◌, ◌≤◌, List, map, refl, ◌∙◌, arith}
-use Rattle.cdf_edits.proofs.Common.{w32, cast_signed, Same, variable_of, number, name_in, size_at, Leaf, leaves_of, Field, vdr_flags, vdr_name, VariableShape, Each, is_compressed, LeafFits, In, vdr_end, Same-part}
+use Rattle.cdf_edits.proofs.Common.{Each, Field, In, Leaf, LeafFits, List, Same, Same-part, VariableShape, arith, cast_signed, is_compressed, leaves_of, map, name_in, number, refl, size_at, variable_of, vdr_end, vdr_flags, vdr_name, w32, ℕ, ◌+◌, ◌∙◌, ◌≡◌, ◌≤◌}
 use Rattle.cdf_edits.proofs.Frame.Meaning.{FileSame, Kept, KeptButLink, late_size, late_type, late_number}
 use Rattle.cdf_edits.proofs.Frame.VdrAlike.{records_alike}
 use Rattle.cdf_edits.proofs.Frame.VdrCopied.{VdrCopied, alike, copied_in_place, raw_max_copied}

@@ -1,6 +1,5 @@
 -- What a VDR means of which all but its link, MaxRec, VXRhead and VXRtail stays.
-use Rattle.std.proofs.Common.{◌≡◌, ℕ, ◌+◌, ◌*◌, ◌≤◌, List, [], ◌∷◌, length, true, sym, ap, subst, ◌∙◌, arith}
-use Rattle.cdf_edits.proofs.Common.{w32, cast_signed, before_first, ◌==◌, if◌then◌else◌, Same, variable_of, records_in, number, name_in, has_bit, size_at, type_at, leaves_of, Field, vdr_flags, vdr_blocking_factor, vdr_name, VariableShape, cpr_of, is_compressed, field_bytes, is_z, dimensions_at, value_bytes, has_pad, pad_field, pad_at, max_rec_at, vdr_end, Same-part, word_kept, piece_kept}
+use Rattle.cdf_edits.proofs.Common.{Field, List, Same, Same-part, VariableShape, [], ap, arith, before_first, cast_signed, cpr_of, dimensions_at, field_bytes, has_bit, has_pad, if◌then◌else◌, is_compressed, is_z, leaves_of, length, max_rec_at, name_in, number, pad_at, pad_field, piece_kept, records_in, size_at, subst, sym, true, type_at, value_bytes, variable_of, vdr_blocking_factor, vdr_end, vdr_flags, vdr_name, w32, word_kept, ℕ, ◌*◌, ◌+◌, ◌==◌, ◌∙◌, ◌∷◌, ◌≡◌, ◌≤◌}
 use Rattle.cdf_edits.proofs.Frame.Meaning.{FileSame, pad_place, pad_long, pad_width, end_fits}
 use Rattle.cdf_edits.proofs.Frame.VdrAlike.{VdrAlike, copied_in_place, pad_alike, pad_field_alike, value_alike, cpr_link_alike, variable_alike}
 

@@ -1,8 +1,5 @@
 -- One node of an index is edited, with the chain behind it: where all other nodes stay, the new image has the edited index.
-use Rattle.std.proofs.Common.{◌≡◌, ◌≢◌, ℕ, zero, suc, List, ◌++◌, map, true, false, eqb, eq-eqb, refl, sym, ap, subst, ◌∙◌, inl, inr}
-use Rattle.cdf_edits.proofs.Common.{cases_eq, eqb-true, map-append, ◌==◌, if◌then◌else◌, In, Distinct, Nodes, no_node, node, Entries, no_entry, block, lower, Leaf, entry_count, link_to, SaysEntry, SayEntries, SaysNode, NodeFits, either, In-append_left, In-append_right, Distinct-front, Distinct-back}
-use Rattle.cdf_format.specs.Index.{nodes_of, lower_nodes, leaves_of, entry_leaves}
-use Rattle.cdf_format.specs.IndexOf.{IsNode, HasNodes, Names}
+use Rattle.cdf_edits.proofs.Common.{Distinct, Distinct-back, Distinct-front, Entries, HasNodes, In, In-append_left, In-append_right, IsNode, Leaf, List, Names, NodeFits, Nodes, SayEntries, SaysEntry, SaysNode, ap, block, cases_eq, either, entry_count, entry_leaves, eq-eqb, eqb, eqb-true, false, if◌then◌else◌, inl, inr, leaves_of, link_to, lower, lower_nodes, map, map-append, no_entry, no_node, node, nodes_of, refl, subst, suc, sym, true, zero, ℕ, ◌++◌, ◌==◌, ◌∙◌, ◌≡◌, ◌≢◌}
 use Rattle.cdf_edits.proofs.Frame.Meaning.{Kept}
 use Rattle.cdf_edits.proofs.Frame.LinksStay.{SameHeads, node_kept, nodes_kept, names_kept}
 

@@ -1,7 +1,6 @@
 -- The rules on the length, the magic numbers and the two first records of a sealed image, by what the image says.
-use Rattle.std.proofs.Common.{◌≡◌, ℕ, ◌+◌, ◌-◌, ◌*◌, ◌≤◌, List, length, Bool, true, not, ◌||◌, eq-eqb, sym, ap, subst, ◌∙◌, arith}
-use Rattle.cdf_edits.proofs.Common.{and_from, both, leb-true, length-append, get_or_append_left, w32, w64, cast_signed, list_all, is_some, nat_le, if◌then◌else◌, encoding_at, image_limit, Same, Holds, word, words, counted, is_positive, number, has_bit, size_at, type_at, gdr_offset, encoding, flags, eof, r_num_dims, r_sizes, has_gdr, is_record, gdr_rows, first_phases, gdr_r_num_dims, gdr_r_dim_sizes, cdr_type, gdr_type, fixed_size, Hold, AllHold, asked, has_checksum, trailer, trailer_length, sealed, Shape, HasShape, word_kept, words_kept, is_a-in, is_a-type, short_trailer, flags_of_front, trailer_is, eq_of, of_le, tile_lies}
-use Rattle.cdf_format.specs.Fields.{version}
+use Rattle.cdf_edits.proofs.Common.{AllHold, Bool, HasShape, Hold, Holds, List, Same, Shape, and_from, ap, arith, asked, both, cast_signed, cdr_type, counted, encoding, encoding_at, eof, eq-eqb, eq_of, first_phases, fixed_size, flags, flags_of_front, gdr_offset, gdr_r_dim_sizes, gdr_r_num_dims, gdr_rows, gdr_type, get_or_append_left, has_bit, has_checksum, has_gdr, if◌then◌else◌, image_limit, is_a-in, is_a-type, is_positive, is_record, is_some, leb-true, length, length-append, list_all, nat_le, number, of_le, r_num_dims, r_sizes, sealed, short_trailer, size_at, subst, sym, tile_lies, trailer, trailer_is, trailer_length, true, type_at, version, w32, w64, word, word_kept, words, words_kept, ℕ, ◌*◌, ◌+◌, ◌-◌, ◌∙◌, ◌≡◌, ◌≤◌}
+use Rattle.std.proofs.Common.{not, ◌||◌}
 
 -- what the rules ask of the magic numbers, the CDR, and the GDR at a place
 pub record FirstSays (b : List ℕ) (gdr : ℕ) : Type 0 where

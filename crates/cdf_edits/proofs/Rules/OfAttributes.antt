@@ -1,6 +1,6 @@
 -- The rules of an attribute and of its entries stay where their fields do.
-use Rattle.std.proofs.Common.{◌≡◌, ℕ, ◌+◌, ◌*◌, ◌≤◌, List, [], ◌∷◌, ◌++◌, length, true, not, is_some, ◌&&◌, ◌||◌, refl, sym, subst, arith, inl, inr}
-use Rattle.cdf_edits.proofs.Common.{nat_le, ◌==◌, flat_map, list_any, unwrap_or, Byte, record_number_limit, record_limit, size_of, type_of, Field, adr_name, adr_scope, adr_num, adr_ngr_entries, adr_nz_entries, aedr_attr_num, aedr_data_type, aedr_num, aedr_num_elems, is_positive, number, size_at, In, Row, row, Hold, AttributeShape, Each, differ_rows, has_name, entry_bytes, entry_rows, same_number, entries_rows, attribute_shape_rows, EntryFits, AttributeFits, In-append_left, In-append_right, number_kept, integer_kept, size_kept}
+use Rattle.cdf_edits.proofs.Common.{AttributeFits, AttributeShape, Byte, Each, EntryFits, Field, Hold, In, In-append_left, In-append_right, List, Row, [], adr_name, adr_ngr_entries, adr_num, adr_nz_entries, adr_scope, aedr_attr_num, aedr_data_type, aedr_num, aedr_num_elems, arith, attribute_shape_rows, differ_rows, entries_rows, entry_bytes, entry_rows, flat_map, has_name, inl, inr, integer_kept, is_positive, length, list_any, nat_le, number, number_kept, record_limit, record_number_limit, refl, row, same_number, size_at, size_kept, size_of, subst, sym, true, type_of, unwrap_or, ℕ, ◌*◌, ◌++◌, ◌+◌, ◌==◌, ◌∷◌, ◌≡◌, ◌≤◌}
+use Rattle.std.proofs.Common.{not, is_some, ◌&&◌, ◌||◌}
 use Rattle.cdf_edits.proofs.Frame.Meaning.{Kept}
 
 long_entry : (n s : ℕ) → 56 + n ≤ s → 56 ≤ s

@@ -1,8 +1,6 @@
 -- The rules of indexes and of blocks stay where the bytes of their records do.
-use Rattle.std.proofs.Common.{◌≡◌, ◌⊎◌, true≢false, eq-eqb, ◌∙◌, ℕ, ℤ, pos, negsuc, ◌+◌, ◌*◌, ◌≤◌, List, [], ◌∷◌, ◌++◌, map, ◌&&◌, refl, sym, subst, arith, inl, inr}
-use Rattle.cdf_edits.proofs.Common.{nat_le, flat_map, record_number_limit, signed_limit, record_limit, vxr_n_entries, vxr_n_used_entries, cvvr_c_size, vvr_type, cvvr_type, fixed_size, with_sign, number, size_at, type_at, In, is_a, row, Hold, asked, Nodes, no_node, node, Entries, no_entry, block, lower, Leaf, leaves_of, room_at, is_compressed, vdr_end, number_before, plain_size, has_room, is_between, end_of, holds_packed, vvr_rows, cvvr_rows, leaf_rows, index_rows, NodeFits, In-append_left, In-append_right, both, le_of, Hold-append, Hold-split, Hold-asked, is_a-in, is_a-type, number_kept, size_kept}
-use Rattle.cdf_format.specs.Index.{nodes_of, lower_nodes}
-use Rattle.cdf_format.specs.IndexRules.{nodes_rows, used_rows, unpacks_to}
+use Rattle.cdf_edits.proofs.Common.{Entries, Hold, Hold-append, Hold-asked, Hold-split, In, In-append_left, In-append_right, Leaf, List, NodeFits, Nodes, [], arith, asked, block, both, cvvr_c_size, cvvr_rows, cvvr_type, end_of, eq-eqb, fixed_size, flat_map, has_room, holds_packed, index_rows, inl, inr, is_a, is_a-in, is_a-type, is_between, is_compressed, le_of, leaf_rows, leaves_of, lower, lower_nodes, map, nat_le, negsuc, no_entry, no_node, node, nodes_of, nodes_rows, number, number_before, number_kept, plain_size, pos, record_limit, record_number_limit, refl, room_at, row, signed_limit, size_at, size_kept, subst, sym, true≢false, type_at, unpacks_to, used_rows, vdr_end, vvr_rows, vvr_type, vxr_n_entries, vxr_n_used_entries, with_sign, ℕ, ℤ, ◌*◌, ◌++◌, ◌+◌, ◌∙◌, ◌∷◌, ◌≡◌, ◌≤◌, ◌⊎◌}
+use Rattle.std.proofs.Common.{◌&&◌}
 use Rattle.cdf_edits.proofs.Frame.Meaning.{FileSame, Kept, KeptButLink, packed_same}
 use Rattle.cdf_edits.proofs.Frame.VdrCopied.{plain_copied}
 use Rattle.cdf_edits.proofs.Frame.VdrKept.{vdr_kept, compressed_same}

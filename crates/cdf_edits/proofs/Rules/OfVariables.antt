@@ -1,8 +1,7 @@
 -- The rules of variables stay where the bytes of their records do.
-use Rattle.std.proofs.Common.{◌≡◌, ℕ, ◌+◌, ◌*◌, ◌≤◌, List, [], ◌∷◌, ◌++◌, length, Bool, true, false, not, is_some, ◌&&◌, ◌||◌, refl, ap, subst, ◌∙◌, arith, inl, inr}
-use Rattle.cdf_edits.proofs.Common.{nat_le, ◌==◌, if◌then◌else◌, list_all, dimension_limit, signed_limit, record_limit, type_of, notation_of, is_characters, vdr_name, vdr_z_num_dims, cpr_c_type, cpr_p_count, cpr_parameter, cpr_type, vvr_type, cvvr_type, fixed_size, is_positive, number, name_in, has_bit, size_at, type_at, In, is_a, is_in, Row, row, asked, is_z, dimensions_at, has_dimensions, vdr_end, is_max_rec, cpr_link, is_no_link, is_cpr, is_known_packing, cpr_rows, is_named_apart, variable_rows, is_block, true-is_in, both, le_of, is_a-in, is_a-type, number_kept, size_kept}
+use Rattle.cdf_edits.proofs.Common.{Bool, In, List, Row, [], ap, arith, asked, both, cpr_c_type, cpr_link, cpr_p_count, cpr_parameter, cpr_rows, cpr_type, cvvr_type, dimension_limit, dimensions_at, false, fixed_size, has_bit, has_dimensions, if◌then◌else◌, inl, inr, is_a, is_a-in, is_a-type, is_block, is_characters, is_cpr, is_in, is_known_packing, is_max_rec, is_named_apart, is_no_link, is_positive, is_z, le_of, length, list_all, name_in, nat_le, notation_of, number, number_kept, record_limit, refl, row, signed_limit, size_at, size_kept, subst, true, true-is_in, type_at, type_of, variable_rows, vdr_end, vdr_name, vdr_z_dim_size, vdr_z_num_dims, vvr_type, ℕ, ◌*◌, ◌++◌, ◌+◌, ◌==◌, ◌∙◌, ◌∷◌, ◌≡◌, ◌≤◌}
+use Rattle.std.proofs.Common.{not, is_some, ◌&&◌, ◌||◌}
 use Rattle.std.specs.Prelude.{bytes_eq}
-use Rattle.cdf_format.specs.Records.{vdr_z_dim_size}
 use Rattle.cdf_edits.proofs.Frame.Meaning.{FileSame, Kept, KeptButLink, late_size, late_number}
 use Rattle.cdf_edits.proofs.Frame.VdrCopied.{z_copied, dims_copied, raw_type_copied, type_copied, raw_elems_copied, value_copied, record_copied, pad_field_copied, raw_max_copied, raw_sparse_copied, cpr_link_copied}
 use Rattle.cdf_edits.proofs.Frame.VdrStays.{long_z}

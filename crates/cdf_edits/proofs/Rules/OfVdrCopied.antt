@@ -1,6 +1,6 @@
 -- The rules of a variable whose VDR stands at another place, or that has another name, flags, pad value or MaxRec where it is.
-use Rattle.std.proofs.Common.{◌≡◌, ℕ, ℤ, ◌+◌, ◌*◌, ◌≤◌, List, [], ◌∷◌, Bool, true, false, not, is_some, ◌&&◌, ◌||◌, refl, sym, ap, subst, ◌∙◌, arith}
-use Rattle.cdf_edits.proofs.Common.{nat_le, ◌==◌, list_all, dimension_limit, signed_limit, record_limit, type_of, notation_of, is_characters, has_name, vdr_max_rec, vdr_s_records, vdr_name, vdr_z_num_dims, cpr_c_type, cpr_p_count, cpr_parameter, cpr_type, is_positive, number, size_at, In, is_a, Row, row, Hold, asked, is_compressed, is_z, dims_at, has_dimensions, vdr_end, is_max_rec, cpr_link, is_no_link, is_cpr, is_known_packing, cpr_rows, is_named_apart, variable_rows, Hold-append, Hold-split, Hold-asked, both, le_of, of_le, is_a-type, is_a-from, number_kept, size_kept, type_kept}
+use Rattle.cdf_edits.proofs.Common.{Bool, Hold, Hold-append, Hold-asked, Hold-split, In, List, Row, [], ap, arith, asked, both, cpr_c_type, cpr_link, cpr_p_count, cpr_parameter, cpr_rows, cpr_type, dimension_limit, dims_at, false, has_dimensions, has_name, is_a, is_a-from, is_a-type, is_characters, is_compressed, is_cpr, is_known_packing, is_max_rec, is_named_apart, is_no_link, is_positive, is_z, le_of, list_all, nat_le, notation_of, number, number_kept, of_le, record_limit, refl, row, signed_limit, size_at, size_kept, subst, sym, true, type_kept, type_of, variable_rows, vdr_end, vdr_max_rec, vdr_name, vdr_s_records, vdr_z_num_dims, ℕ, ℤ, ◌*◌, ◌+◌, ◌==◌, ◌∙◌, ◌∷◌, ◌≡◌, ◌≤◌}
+use Rattle.std.proofs.Common.{not, is_some, ◌&&◌, ◌||◌}
 use Rattle.cdf_edits.proofs.Frame.Meaning.{FileSame, Kept}
 use Rattle.cdf_edits.proofs.Frame.VdrAlike.{VdrAlike, z_alike, count_alike, dims_alike, raw_type_alike, type_alike, raw_elems_alike, record_alike, raw_sparse_alike, cpr_link_alike}
 use Rattle.cdf_edits.proofs.Frame.VdrCopied.{VdrCopied, alike, raw_max_copied}

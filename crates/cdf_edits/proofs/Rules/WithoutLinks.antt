@@ -1,6 +1,5 @@
 -- The rules of an image that follow no link stay for records whose sizes and types do, and for variables whose records stay whole.
-use Rattle.std.proofs.Common.{◌≡◌, ℕ, suc, ◌+◌, List, [], ◌∷◌, ◌++◌, length, eq-eqb, refl, ◌∙◌, arith, inl, inr}
-use Rattle.cdf_edits.proofs.Common.{◌==◌, Field, number, eof, In, row, Hold, AllHold, first_phases, sealed, Shape, number_rows, IsSound}
+use Rattle.cdf_edits.proofs.Common.{AllHold, Field, Hold, In, IsSound, List, Shape, [], arith, eof, eq-eqb, first_phases, inl, inr, length, number, number_rows, refl, row, sealed, suc, ℕ, ◌++◌, ◌+◌, ◌==◌, ◌∙◌, ◌∷◌, ◌≡◌}
 use Rattle.cdf_edits.proofs.Rules.FirstHead.{first_said}
 
 -- the numbers of records, in order

@@ -1,7 +1,7 @@
 -- The space that acts leave: of none, and of one that takes a record.
-use Rattle.std.proofs.Common.{◌≡◌, ◌≢◌, ℕ, ◌+◌, ◌<◌, List, [], ◌∷◌, length, map, Bool, true, false, not, ◌&&◌, ◌||◌, eq-eqb, refl, sym, ap, ap₂, subst, ◌∙◌, arith, inl, inr}
-use Rattle.cdf_edits.proofs.Common.{eqb-true, ◌==◌, if◌then◌else◌, sized, used_records, loose_records, back_after, RestStays, ActsFollow, is_in, number, size_at, type_at, unused_records, stands_behind, back_links, uir_prev_uir, uir_type, Each, HasShape, shape, In, linkable-in, either, is_in-false, false-is_in, filter-in, tiles_lie_apart}
-use Rattle.cdf_edits.specs.Space.Acts.{Among, back_in}
+use Rattle.cdf_edits.proofs.Common.{ActsFollow, Bool, Each, HasShape, In, List, RestStays, [], ap, ap₂, arith, back_after, back_in, back_links, either, eq-eqb, eqb-true, false, false-is_in, filter-in, if◌then◌else◌, inl, inr, is_in, is_in-false, length, linkable-in, loose_records, map, number, refl, shape, size_at, sized, stands_behind, subst, sym, tiles_lie_apart, true, type_at, uir_prev_uir, uir_type, unused_records, used_records, ℕ, ◌+◌, ◌<◌, ◌==◌, ◌∙◌, ◌∷◌, ◌≡◌, ◌≢◌}
+use Rattle.std.proofs.Common.{not, ◌&&◌, ◌||◌}
+use Rattle.cdf_edits.specs.Space.Acts.{Among}
 use Rattle.cdf_format.proofs.SpaceLemmas.{in-filter}
 use Rattle.cdf_edits.proofs.Space.UsedRecords.{filter-says}
 

@@ -1,7 +1,5 @@
 -- The record that has the head of a chain, and where the head, the count and the members lie in a sound image.
-use Rattle.std.proofs.Common.{◌≡◌, ℕ, ◌+◌, ◌≤◌, List, length, true, refl, sym, subst, arith}
-use Rattle.cdf_edits.proofs.Common.{size_at, gdr_offset, field, cdr_type, gdr_type, fixed_size, is_a, In, AreTiles, tiles, HasShape, shape, IsSound, tile_lies, is_a-in, is_a-type, linkable-in, linkable-long, tiles_are, holder_of, head_of, count_of, holder_type, type_in, HolderStands, HasChain, members_of, Chain, Attrs, GrEntries, ZEntries}
-use Rattle.cdf_edits.specs.declared.chain.Chain.TheVariants.{RVars, ZVars}
+use Rattle.cdf_edits.proofs.Common.{AreTiles, Attrs, Chain, GrEntries, HasChain, HasShape, HolderStands, In, IsSound, List, RVars, ZEntries, ZVars, arith, cdr_type, count_of, field, fixed_size, gdr_offset, gdr_type, head_of, holder_of, holder_type, is_a, is_a-in, is_a-type, length, linkable-in, linkable-long, members_of, refl, shape, size_at, subst, sym, tile_lies, tiles, tiles_are, true, type_in, ℕ, ◌+◌, ◌≡◌, ◌≤◌}
 
 pub head_width : (c : Chain) → (head_of c).width ≡ 8
 head_width Attrs = refl

@@ -1,6 +1,5 @@
 -- A record of type UIR behind the last one, on no list, leaves a sound image sound.
-use Rattle.std.proofs.Common.{◌≡◌, ℕ, ◌+◌, ◌*◌, ◌≤◌, List, [], ◌∷◌, ◌++◌, length, Bool, true, eqb, eq-eqb, refl, sym, ap, subst, ◌∙◌, append_assoc, arith, inl, inr}
-use Rattle.cdf_edits.proofs.Common.{eqb-true, flat_map, filter, size_at, type_at, r_num_dims, cdr_type, gdr_type, adr_type, uir_type, is_record_type, fixed_size, In, AreTiles, with_records, Shape, variables, attribute_records, variable_records, unused_records, times, owned_records, IsSound, ChangedWithin, LeavesFinding, either, In-append, In-append_left, tile_lies, linkable-in, attributes_in, owned_is, times-none}
+use Rattle.cdf_edits.proofs.Common.{AreTiles, Bool, ChangedWithin, In, In-append, In-append_left, IsSound, LeavesFinding, List, Shape, [], adr_type, ap, append_assoc, arith, attribute_records, attributes_in, cdr_type, either, eq-eqb, eqb, eqb-true, filter, fixed_size, flat_map, gdr_type, inl, inr, is_record_type, length, linkable-in, owned_is, owned_records, r_num_dims, refl, size_at, subst, sym, tile_lies, times, times-none, true, type_at, uir_type, unused_records, variable_records, variables, with_records, ℕ, ◌*◌, ◌++◌, ◌+◌, ◌∙◌, ◌∷◌, ◌≡◌, ◌≤◌}
 use Rattle.cdf_edits.proofs.Frame.TilesGrow.{tiles_push}
 use Rattle.cdf_edits.proofs.Frame.OwnerAlone.{stays, heads}
 use Rattle.cdf_edits.proofs.Frame.OwnersApart.{times-append, owned-times, file_records, all_attribute_records, all_variable_records, vdrs_stand, unused_in, file_in, file_from_attributes, file_from_variables, file_found, dimensions_found, file_is_alone}

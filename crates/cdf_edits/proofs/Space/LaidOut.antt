@@ -1,11 +1,8 @@
 -- Fields that are written one behind the other read back.
-use Rattle.std.proofs.Common.{◌≡◌, ℕ, suc, ◌+◌, ◌*◌, ◌^◌, ◌<◌, ◌≤◌, List, [], ◌∷◌, ◌++◌, length, drop, take, Bool, true, ◌≢◌, refl, sym, ap, ap₂, ◌∙◌, append_assoc, arith}
-use Rattle.cdf_edits.proofs.Common.{Says, eqb-true, drop-drop, length-append, drop-append_seam, flat_map, ◌==◌, ◌&&◌, big_bytes, length-bytes_high_first, Same, word, words, Field, Each, both, drop-put_there, piece_kept, take_at, is_record_type, fixed_size, uir_type, type_of_body, record_type}
-use Rattle.std.proofs.lemmas.List.{take-append-drop}
-use Rattle.byteorder.specs.Endian.{big_from}
-use Rattle.byteorder.specs.Numbers.{big_number-reads_back, big_from-take}
+use Rattle.cdf_edits.proofs.Common.{Bool, Each, Field, IsBody, List, Same, Says, [], ap, append_assoc, ap₂, arith, big_bytes, big_from, big_from-take, big_number-reads_back, both, drop, drop-append_seam, drop-drop, drop-put_there, eqb-true, fixed_size, flat_map, is_record_type, laid_out, length, length-append, length-bytes_high_first, piece_kept, record_type, refl, suc, sym, take-append-drop, take_at, true, type_of_body, uir_type, word, words, ℕ, ◌&&◌, ◌*◌, ◌++◌, ◌+◌, ◌<◌, ◌==◌, ◌^◌, ◌∙◌, ◌∷◌, ◌≡◌, ◌≢◌, ◌≤◌}
+use Rattle.std.proofs.Common.{take}
 use Rattle.cdf_format.proofs.Pieces.{word_of_piece_lem}
-use Rattle.cdf_edits.specs.Space.Placing.{IsBody, Placed, laid_out}
+use Rattle.cdf_edits.specs.Space.Placing.{Placed}
 
 -- each stands where the one before it ends
 abbrev pub are_in_order : ℕ → List (Field × ℕ) → Bool

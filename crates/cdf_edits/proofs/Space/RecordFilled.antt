@@ -1,6 +1,5 @@
 -- An unused record that is on no list is filled anew.
-use Rattle.std.proofs.Common.{◌≡◌, ◌≢◌, ℕ, ◌+◌, ◌-◌, ◌≤◌, List, [], ◌∷◌, length, true, false, refl, sym, ap, subst, ◌∙◌, arith, inl, inr}
-use Rattle.cdf_edits.proofs.Common.{cases_eq, number, size_at, type_at, gdr_uir_head, gdr_type, uir_type, is_record_type, fixed_size, Same, Touch, touch, Changed, Placed, In, AreTiles, is_a, is_in, Leads, IsChain, Shape, content, IsSound, false-is_in, tile_lies, is_a-in, is_a-type, linkable-in, linkable-type, linkable-long, linkable-from, Same-part, word_kept, number_kept, type_kept, next_kept}
+use Rattle.cdf_edits.proofs.Common.{AreTiles, Changed, In, IsChain, IsSound, Leads, List, Placed, Same, Same-part, Shape, Touch, [], ap, arith, cases_eq, content, false, false-is_in, fixed_size, gdr_type, gdr_uir_head, inl, inr, is_a, is_a-in, is_a-type, is_in, is_record_type, length, linkable-from, linkable-in, linkable-long, linkable-type, next_kept, number, number_kept, refl, size_at, subst, sym, tile_lies, touch, true, type_at, type_kept, uir_type, word_kept, ℕ, ◌+◌, ◌-◌, ◌∙◌, ◌∷◌, ◌≡◌, ◌≢◌, ◌≤◌}
 use Rattle.cdf_edits.proofs.Frame.ChangedBytes.{changed_part, changed_whole}
 use Rattle.cdf_edits.proofs.Frame.LinksStay.{tiles_same, leads_same}
 use Rattle.cdf_edits.proofs.Space.UsedRecords.{apart, used-in}

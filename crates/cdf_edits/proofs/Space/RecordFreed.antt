@@ -1,7 +1,5 @@
 -- A record of no owner is freed: a small one is on no list, a larger one becomes the first of the list.
-use Rattle.std.proofs.Common.{◌≡◌, ◌≢◌, ◌⊎◌, ℕ, ◌+◌, ◌<◌, ◌≤◌, List, [], ◌∷◌, length, true, false, refl, sym, ap, ap₂, subst, ◌∙◌, arith, eq-eqb, inl, inr}
-use Rattle.cdf_edits.proofs.Common.{cases_eq, le-leb, lt-leb, ◌==◌, nat_le, number, size_at, type_at, record_type, gdr_uir_head, uir_next_uir, uir_prev_uir, gdr_type, uir_type, is_record_type, fixed_size, Same, Touch, touched_field, Changed, Placed, Misses, TouchesNone, In, Distinct, AreTiles, is_linkable, next_of, Leads, IsChain, with_space, first_back_link, given_to, unused, Shape, HasShape, unused_records, times, owned_records, content, IsSound, IsGiven, tile_lies, is_a-in, is_a-type, is_a-from, linkable-in, linkable-type, linkable-long, linkable-from, some_place, Same-part, word_kept}
-use Rattle.cdf_edits.specs.Space.Giving.{UnlistedBytes, FirstBytes}
+use Rattle.cdf_edits.proofs.Common.{AreTiles, Changed, Distinct, FirstBytes, HasShape, In, IsChain, IsGiven, IsSound, Leads, List, Misses, Placed, Same, Same-part, Shape, Touch, TouchesNone, UnlistedBytes, [], ap, ap₂, arith, cases_eq, content, eq-eqb, false, first_back_link, fixed_size, gdr_type, gdr_uir_head, given_to, inl, inr, is_a-from, is_a-in, is_a-type, is_linkable, is_record_type, le-leb, length, linkable-from, linkable-in, linkable-long, linkable-type, lt-leb, nat_le, next_of, number, owned_records, record_type, refl, size_at, some_place, subst, sym, tile_lies, times, touched_field, true, type_at, uir_next_uir, uir_prev_uir, uir_type, unused, unused_records, with_space, word_kept, ℕ, ◌+◌, ◌<◌, ◌==◌, ◌∙◌, ◌∷◌, ◌≡◌, ◌≢◌, ◌≤◌, ◌⊎◌}
 use Rattle.cdf_edits.proofs.Frame.ChangedBytes.{changed_part, changed_whole}
 use Rattle.cdf_edits.proofs.Frame.LinksStay.{tiles_same, leads_same}
 use Rattle.cdf_edits.proofs.Space.UsedRecords.{apart, filter-keeps, used-in}

@@ -1,6 +1,5 @@
 -- A change that leaves the used records, and of the GDR all but eof and UIRhead, leaves a sound image sound with the records and the unused list that it now has.
-use Rattle.std.proofs.Common.{◌≡◌, ◌≢◌, ℕ, ◌+◌, ◌*◌, ◌≤◌, List, [], ◌∷◌, ◌++◌, length, map, true, eqb, eq-eqb, refl, sym, ap, subst, ◌∙◌, arith, inl, inr}
-use Rattle.cdf_edits.proofs.Common.{cases_eq, eqb-true, if◌then◌else◌, flat_map, w32, cast_signed, words, counted, number, size_at, type_at, gdr_offset, encoding, r_num_dims, r_sizes, Field, cdr_gdr_offset, cdr_encoding, cdr_flags, cdr_release, cdr_increment, gdr_r_vdr_head, gdr_z_vdr_head, gdr_adr_head, gdr_uir_head, adr_agr_edr_head, adr_az_edr_head, vdr_vxr_head, cdr_type, gdr_type, adr_type, agr_edr_type, az_edr_type, r_vdr_type, z_vdr_type, uir_type, is_record_type, fixed_size, Same, In, AreTiles, is_linkable, IsChain, Leaf, nodes_of, leaves_of, with_space, AttributeShape, VariableShape, Shape, adrs, vdrs, variables, cpr_of, Each, HasEntries, HasVariable, HasShape, attribute_records, variable_records, unused_records, times, owned_records, content, AttributeFits, NodeFits, VariableFits, IsSound, FileStays, AttributeStays, VariableStays, either, In-append_left, In-append_right, true-is_in, false-is_in, is_in, tile_lies, is_a-in, is_a-type, linkable-in, linkable-type, linkable-long, content_is, attributes_in, times-none, times-once, tiles_distinct, Same-part, word_kept, words_kept, number_kept, integer_kept, next_kept}
+use Rattle.cdf_edits.proofs.Common.{AreTiles, AttributeFits, AttributeShape, AttributeStays, Each, Field, FileStays, HasEntries, HasShape, HasVariable, In, In-append_left, In-append_right, IsChain, IsSound, Leaf, List, NodeFits, Same, Same-part, Shape, VariableFits, VariableShape, VariableStays, [], adr_agr_edr_head, adr_az_edr_head, adr_type, adrs, agr_edr_type, ap, arith, attribute_records, attributes_in, az_edr_type, cases_eq, cast_signed, cdr_encoding, cdr_flags, cdr_gdr_offset, cdr_increment, cdr_release, cdr_type, content, content_is, counted, cpr_of, either, encoding, eq-eqb, eqb, eqb-true, false-is_in, fixed_size, flat_map, gdr_adr_head, gdr_offset, gdr_r_vdr_head, gdr_type, gdr_uir_head, gdr_z_vdr_head, if◌then◌else◌, inl, inr, integer_kept, is_a-in, is_a-type, is_in, is_linkable, is_record_type, leaves_of, length, linkable-in, linkable-long, linkable-type, map, next_kept, nodes_of, number, number_kept, owned_records, r_num_dims, r_sizes, r_vdr_type, refl, size_at, subst, sym, tile_lies, tiles_distinct, times, times-none, times-once, true, true-is_in, type_at, uir_type, unused_records, variable_records, variables, vdr_vxr_head, vdrs, w32, with_space, word_kept, words, words_kept, z_vdr_type, ℕ, ◌*◌, ◌++◌, ◌+◌, ◌∙◌, ◌∷◌, ◌≡◌, ◌≢◌, ◌≤◌}
 use Rattle.cdf_edits.proofs.Frame.Meaning.{FileSame, Kept, but_link, attribute_kept}
 use Rattle.cdf_edits.proofs.Frame.VdrCopied.{cpr_link_copied, index_link_copied}
 use Rattle.cdf_edits.proofs.Frame.VdrKept.{vdr_kept, variable_kept, compressed_same}

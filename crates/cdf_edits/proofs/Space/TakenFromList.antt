@@ -1,8 +1,5 @@
 -- A record of the unused list is taken, whole or split.
-use Rattle.std.proofs.Common.{◌≡◌, ◌≢◌, ◌⊎◌, ℕ, ◌+◌, ◌≤◌, List, [], ◌∷◌, ◌++◌, length, Bool, true, false, eqb, refl, sym, ap, subst, ◌∙◌, arith, inl, inr}
-use Rattle.cdf_edits.proofs.Common.{cases_eq, eqb-true, if◌then◌else◌, number, word, size_at, type_at, eof, Field, gdr_uir_head, uir_next_uir, gdr_type, uir_type, is_record_type, fixed_size, Same, Touch, touch, touched_field, Changed, Placed, Misses, TouchesNone, In, Distinct, AreTiles, is_linkable, next_of, Leads, IsChain, IsHead, AllSpare, end_place, with_space, Takes, fits, first_back_link, split_width, taking, unused, place_for, taken_from, eof_after, BackLinksFollow, Shape, HasShape, content, IsSound, NoneFit, link_tile, link_field, prev_of, TakenBytes, either, In-append, In-append_left, In-append_right, Distinct-back, Distinct-middle, is_in-false, tile_lies, is_a-in, is_a-type, is_a-from, linkable-in, linkable-type, linkable-long, Same-part, word_kept}
-use Rattle.cdf_edits.specs.Frame.Links.{chain_head}
-use Rattle.cdf_edits.specs.Space.Taking.{touched_by}
+use Rattle.cdf_edits.proofs.Common.{AllSpare, AreTiles, BackLinksFollow, Bool, Changed, Distinct, Distinct-back, Distinct-middle, Field, HasShape, In, In-append, In-append_left, In-append_right, IsChain, IsHead, IsSound, Leads, List, Misses, NoneFit, Placed, Same, Same-part, Shape, TakenBytes, Takes, Touch, TouchesNone, [], ap, arith, cases_eq, chain_head, content, either, end_place, eof, eof_after, eqb, eqb-true, false, first_back_link, fits, fixed_size, gdr_type, gdr_uir_head, if◌then◌else◌, inl, inr, is_a-from, is_a-in, is_a-type, is_in-false, is_linkable, is_record_type, length, link_field, link_tile, linkable-in, linkable-long, linkable-type, next_of, number, place_for, prev_of, refl, size_at, split_width, subst, sym, taken_from, taking, tile_lies, touch, touched_by, touched_field, true, type_at, uir_next_uir, uir_type, unused, with_space, word, word_kept, ℕ, ◌++◌, ◌+◌, ◌∙◌, ◌∷◌, ◌≡◌, ◌≢◌, ◌≤◌, ◌⊎◌}
 use Rattle.cdf_edits.proofs.Frame.ChangedBytes.{changed_part, changed_whole}
 use Rattle.cdf_edits.proofs.Frame.LinksStay.{leads_same}
 use Rattle.cdf_edits.proofs.Frame.LinkWritten.{one_chain}

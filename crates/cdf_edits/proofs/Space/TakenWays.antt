@@ -1,7 +1,6 @@
 -- The three ways in which a record is taken: a record of the unused list whole, one that is split, and one at the end of the image.
-use Rattle.std.proofs.Common.{◌≡◌, ◌≢◌, ◌⊎◌, ℕ, ◌+◌, ◌≤◌, List, [], ◌∷◌, ◌++◌, length, map, Bool, true, false, ◌||◌, eqb, leb, eq-eqb, refl, sym, ap, subst, ◌∙◌, arith, inl, inr}
-use Rattle.cdf_edits.proofs.Common.{cases_eq, le-leb, eqb-true, if◌then◌else◌, number, size_at, type_at, eof, gdr_eof, gdr_uir_head, uir_prev_uir, gdr_type, uir_type, is_record_type, fixed_size, Same, Touch, touched_field, Changed, Placed, In, Distinct, AreTiles, is_linkable, next_of, Leads, IsChain, with_space, fits, split_width, unused, place_for, eof_after, back_links, BackLinksFollow, Shape, HasShape, IsSound, NoneFit, last_of, FirstBack, TakenBytes, either, In-append, In-append_left, In-append_right, is_in-false, tile_lies, tiles_lie_apart, is_a-in, is_a-type, is_a-from, linkable-in, linkable-type, linkable-long, linkable-from, some_place, tiles_distinct, Same-part, word_kept, next_kept}
-use Rattle.cdf_edits.specs.Space.Taking.{RestBytes, EndBytes, IsTaken}
+use Rattle.cdf_edits.proofs.Common.{AreTiles, BackLinksFollow, Bool, Changed, Distinct, EndBytes, FirstBack, HasShape, In, In-append, In-append_left, In-append_right, IsChain, IsSound, IsTaken, Leads, List, NoneFit, Placed, RestBytes, Same, Same-part, Shape, TakenBytes, Touch, [], ap, arith, back_links, cases_eq, either, eof, eof_after, eq-eqb, eqb, eqb-true, false, fits, fixed_size, gdr_eof, gdr_type, gdr_uir_head, if◌then◌else◌, inl, inr, is_a-from, is_a-in, is_a-type, is_in-false, is_linkable, is_record_type, last_of, le-leb, leb, length, linkable-from, linkable-in, linkable-long, linkable-type, map, next_kept, next_of, number, place_for, refl, size_at, some_place, split_width, subst, sym, tile_lies, tiles_distinct, tiles_lie_apart, touched_field, true, type_at, uir_prev_uir, uir_type, unused, with_space, word_kept, ℕ, ◌++◌, ◌+◌, ◌∙◌, ◌∷◌, ◌≡◌, ◌≢◌, ◌≤◌, ◌⊎◌}
+use Rattle.std.proofs.Common.{◌||◌}
 use Rattle.cdf_edits.proofs.Frame.TilesGrow.{tiles_push, tiles_split}
 use Rattle.cdf_edits.proofs.Frame.ChangedBytes.{changed_part, changed_whole}
 use Rattle.cdf_edits.proofs.Frame.LinksStay.{tiles_same, leads_same}

@@ -1,6 +1,6 @@
 -- The unused list where one record of it is taken: lists alone.
-use Rattle.std.proofs.Common.{◌≡◌, ◌≢◌, ℕ, ◌+◌, ◌-◌, ◌≤◌, List, [], ◌∷◌, ◌++◌, map, Bool, true, false, ◌&&◌, ◌||◌, eqb, eq-eqb, refl, sym, ap, ap₂, subst, ◌∙◌, append_assoc, append-nil, arith, inl, inr}
-use Rattle.cdf_edits.proofs.Common.{eqb-true, le-leb, map-append, ◌==◌, nat_le, size_at, Field, uir_next_uir, touch, touched_field, In, Distinct, fits, place_for, taken_from, stands_behind, back_links, split_width, taking, first_back_link, NoneFit, link_tile, link_field, last_of, prev_of, FirstBack, either, In-append_right}
+use Rattle.cdf_edits.proofs.Common.{Bool, Distinct, Field, FirstBack, In, In-append_right, List, NoneFit, [], ap, append-nil, append_assoc, ap₂, arith, back_links, either, eq-eqb, eqb, eqb-true, false, first_back_link, fits, inl, inr, last_of, le-leb, link_field, link_tile, map, map-append, nat_le, place_for, prev_of, refl, size_at, split_width, stands_behind, subst, sym, taken_from, taking, touch, touched_field, true, uir_next_uir, ℕ, ◌++◌, ◌+◌, ◌-◌, ◌==◌, ◌∙◌, ◌∷◌, ◌≡◌, ◌≢◌, ◌≤◌}
+use Rattle.std.proofs.Common.{◌&&◌, ◌||◌}
 
 -- where the records of a list stand, with their sizes
 abbrev pub sized : List ℕ → List ℕ → List (ℕ × ℕ)

@@ -1,8 +1,6 @@
 -- What is linked through the used records of an image is linked through them alone, also where some that it does not lead through are gone.
-use Rattle.std.proofs.Common.{◌≡◌, ◌≢◌, ℕ, zero, suc, List, [], ◌∷◌, ◌++◌, map, Bool, true, false, not, ◌&&◌, ◌||◌, eqb, eq-eqb, refl, true≢false, sym, ap, ◌∙◌, inl, inr}
-use Rattle.cdf_edits.proofs.Common.{eqb-true, nat_le, filter, size_at, type_at, vxr_type, vvr_type, cvvr_type, cpr_type, uir_type, In, Distinct, is_a, is_in, is_linkable, IsChain, Nodes, no_node, node, Entries, no_entry, block, lower, Leaf, leaves_of, is_block, VariableShape, Each, HasVariable, LeafFits, VariableFits, variable_records, either, In-append_left, In-append_right, false-is_in, is_in-false, is_a-from, is_a-in, is_a-type, linkable-in, linkable-type, linkable-long, linkable-from, filter-in}
-use Rattle.cdf_format.specs.Index.{nodes_of, lower_nodes}
-use Rattle.cdf_format.specs.IndexOf.{HasNodes, Names}
+use Rattle.cdf_edits.proofs.Common.{Bool, Distinct, Each, Entries, HasNodes, HasVariable, In, In-append_left, In-append_right, IsChain, Leaf, LeafFits, List, Names, Nodes, VariableFits, VariableShape, [], ap, block, cpr_type, cvvr_type, either, eq-eqb, eqb, eqb-true, false, false-is_in, filter, filter-in, inl, inr, is_a, is_a-from, is_a-in, is_a-type, is_block, is_in, is_in-false, is_linkable, leaves_of, linkable-from, linkable-in, linkable-long, linkable-type, lower, lower_nodes, map, nat_le, no_entry, no_node, node, nodes_of, refl, size_at, suc, sym, true, true≢false, type_at, uir_type, variable_records, vvr_type, vxr_type, zero, ℕ, ◌++◌, ◌∙◌, ◌∷◌, ◌≡◌, ◌≢◌}
+use Rattle.std.proofs.Common.{not, ◌&&◌, ◌||◌}
 
 -- ---- members of a list that pass a test
 

@@ -1,5 +1,4 @@
-use Rattle.std.proofs.Common.{length, None, ap, sym, ◌∙◌, arith}
-use Rattle.cdf_vars.proofs.Common.{last_or, good_is_sound, good_eof, shape, members_of, type_in, last_got, wanted}
+use Rattle.cdf_vars.proofs.Common.{None, ap, arith, good_eof, good_is_sound, last_got, last_or, length, members_of, shape, sym, type_in, wanted, ◌∙◌}
 use Rattle.cdf_vars.proofs.CreatedVariable.{few, few_counted, follows, has_room, is_body, is_typed, known, others}
 use Rattle.cdf_vars.proofs.VariableChains.{has_variable_chain, holder_stands, variable_members}
 use Rattle.cdf_vars.proofs.creating.make.Goals as goal

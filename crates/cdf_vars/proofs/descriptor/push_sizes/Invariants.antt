@@ -1,5 +1,4 @@
-use Rattle.std.proofs.Common.{◌≡◌, ◌∷◌, ◌++◌, drop, length}
-use Rattle.cdf_vars.proofs.Common.{flat_map, big_bytes}
+use Rattle.cdf_vars.proofs.Common.{big_bytes, drop, flat_map, length, ◌++◌, ◌∷◌, ◌≡◌}
 use Rattle.cdf_vars.proofs.descriptor.push_sizes.Given as goal
 
 abbrev pub invariant-loop-size : goal.invariant-loop-size

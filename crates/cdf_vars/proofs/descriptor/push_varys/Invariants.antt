@@ -1,5 +1,4 @@
-use Rattle.std.proofs.Common.{◌≡◌, ◌++◌, drop, map}
-use Rattle.cdf_vars.proofs.Common.{flat_map, big_bytes, vary_code}
+use Rattle.cdf_vars.proofs.Common.{big_bytes, drop, flat_map, map, vary_code, ◌++◌, ◌≡◌}
 use Rattle.cdf_vars.proofs.descriptor.push_varys.Given as goal
 
 abbrev pub invariant-loop-varies : goal.invariant-loop-varies

@@ -1,5 +1,4 @@
-use Rattle.std.proofs.Common.{◌++◌, ◌∙◌, List, ℕ, ap₂, map}
-use Rattle.cdf_vars.proofs.Common.{flat_map, big_bytes, own_dims, vary_code, wanted}
+use Rattle.cdf_vars.proofs.Common.{List, ap₂, big_bytes, flat_map, map, own_dims, vary_code, wanted, ℕ, ◌++◌, ◌∙◌}
 use Rattle.cdf_vars.proofs.NewVdr.{body_parts}
 use Rattle.cdf_vars.proofs.descriptor.vdr_body.Goals as goal
 

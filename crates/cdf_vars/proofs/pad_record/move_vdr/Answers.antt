@@ -1,5 +1,4 @@
-use Rattle.std.proofs.Common.{◌≡◌, ◌+◌, ◌∙◌, ℕ, List, length, take, None, sym, ap, subst, arith}
-use Rattle.cdf_vars.proofs.Common.{last_or, Frame, edit_done, edit_failed, edit_more, keeps_by_read, read_once, Good, before, members_of, variables_chain, last_got, IsVdr, padded_flags}
+use Rattle.cdf_vars.proofs.Common.{Frame, Good, IsVdr, List, None, ap, arith, before, edit_done, edit_failed, edit_more, keeps_by_read, last_got, last_or, length, members_of, padded_flags, read_once, subst, sym, take, variables_chain, ℕ, ◌+◌, ◌∙◌, ◌≡◌}
 use Rattle.cdf_vars.proofs.PadSet.{body_long, is_vdr, old_long, place_in, stands_behind}
 use Rattle.cdf_vars.proofs.pad_record.move_vdr.Goals as goal
 

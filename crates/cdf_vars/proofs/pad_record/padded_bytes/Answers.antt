@@ -1,6 +1,4 @@
-use Rattle.std.proofs.Common.{◌≡◌, ◌∙◌, ◌-◌, length, take, drop, append_assoc, sym, arith}
-use Rattle.cdf_vars.proofs.Common.{length-drop, length-take, take_all}
-use Rattle.cdf_base.specs.Bytes.{put}
+use Rattle.cdf_vars.proofs.Common.{append_assoc, arith, drop, length, length-drop, length-take, put, sym, take, take_all, ◌-◌, ◌∙◌, ◌≡◌}
 use Rattle.cdf_vars.proofs.pad_record.padded_bytes.Goals as goal
 
 pub slice_bounds-extend_from_slice-end : goal.slice_bounds-extend_from_slice-end

@@ -1,4 +1,4 @@
-use Rattle.cdf_vars.proofs.Common.{good_is_sound, good_eof}
+use Rattle.cdf_vars.proofs.Common.{good_eof, good_is_sound}
 use Rattle.cdf_vars.proofs.PadSet.{is_body, is_member, long_late, may_free, type_is}
 use Rattle.cdf_vars.proofs.VariableChains.{has_variable_chain, holder_stands}
 use Rattle.cdf_vars.proofs.pad_record.replace_vdr.Goals as goal

@@ -1,5 +1,4 @@
-use Rattle.std.proofs.Common.{◌≡◌, ◌∙◌, ◌%◌, ℕ, List, length, sym, ap, subst, arith}
-use Rattle.cdf_vars.proofs.Common.{size_of, turned, whole_elements}
+use Rattle.cdf_vars.proofs.Common.{List, ap, arith, length, size_of, subst, sym, turned, whole_elements, ℕ, ◌%◌, ◌∙◌, ◌≡◌}
 use Rattle.cdf_vars.proofs.PadValues.{is_value, value_long}
 use Rattle.cdf_vars.proofs.padding.read_pad.Goals as goal
 

@@ -1,5 +1,4 @@
-use Rattle.std.proofs.Common.{◌∙◌, List, ℕ, get_or, ap, arith}
-use Rattle.cdf_vars.proofs.Common.{read_more, name_at}
+use Rattle.cdf_vars.proofs.Common.{List, ap, arith, get_or, name_at, read_more, ℕ, ◌∙◌}
 use Rattle.cdf_vars.proofs.NamesRead.{all_listed, name_lies, next_listed}
 use Rattle.cdf_vars.proofs.reading.push_items_at.Goals as goal
 

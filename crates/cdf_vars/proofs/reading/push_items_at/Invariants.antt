@@ -1,5 +1,4 @@
-use Rattle.std.proofs.Common.{◌++◌}
-use Rattle.cdf_vars.proofs.Common.{Stays, items_at}
+use Rattle.cdf_vars.proofs.Common.{Stays, items_at, ◌++◌}
 use Rattle.cdf_vars.proofs.NamesRead.{Listed}
 use Rattle.cdf_vars.proofs.reading.push_items_at.Given as goal
 

@@ -1,5 +1,4 @@
-use Rattle.std.proofs.Common.{◌∙◌, List, ℕ, get_or, ap, arith}
-use Rattle.cdf_vars.proofs.Common.{read_more, read_without_memory, name_at}
+use Rattle.cdf_vars.proofs.Common.{List, ap, arith, get_or, name_at, read_more, read_without_memory, ℕ, ◌∙◌}
 use Rattle.cdf_vars.proofs.NamesRead.{few_names, all_named, name_lies, next_is_new, next_named}
 use Rattle.cdf_vars.proofs.reading.read_names.Goals as goal
 

@@ -1,5 +1,4 @@
-use Rattle.std.proofs.Common.{◌≡◌, map, take}
-use Rattle.cdf_vars.proofs.Common.{Stays, name_at}
+use Rattle.cdf_vars.proofs.Common.{Stays, map, name_at, take, ◌≡◌}
 use Rattle.cdf_vars.proofs.reading.read_names.Given as goal
 
 abbrev pub invariant-loop-place : goal.invariant-loop-place

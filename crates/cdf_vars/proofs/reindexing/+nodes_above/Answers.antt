@@ -1,4 +1,4 @@
-use Rattle.std.proofs.Common.{◌+◌, ◌-◌, ◌/◌, ◌∙◌, ℕ, sym, ap, arith, inl, inr}
+use Rattle.cdf_vars.proofs.Common.{ap, arith, inl, inr, sym, ℕ, ◌+◌, ◌-◌, ◌/◌, ◌∙◌}
 use Rattle.cdf_vars.proofs.ReindexRoom.{none_above, one_above, more_above}
 use Rattle.cdf_vars.proofs.reindexing.+nodes_above.Goals.{then-levels-eq0-via-then-levels-eq0, then-levels-eq0-via-else-levels-eq0+then-entries-eq0}
 use Rattle.cdf_vars.proofs.reindexing.+nodes_above.Goals as goal

@@ -1,4 +1,4 @@
-use Rattle.std.proofs.Common.{arith}
+use Rattle.cdf_vars.proofs.Common.{arith}
 use Rattle.cdf_vars.proofs.RemovalAnswers.{has_index}
 use Rattle.cdf_vars.proofs.ReindexAnswers.{few_counted}
 use Rattle.cdf_vars.proofs.reindexing.read_room.Goals as goal

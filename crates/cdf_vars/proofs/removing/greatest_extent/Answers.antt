@@ -1,5 +1,4 @@
-use Rattle.std.proofs.Common.{◌∙◌, ◌≤◌, ◌^◌, ℕ, List, ◌+◌, max, drop, get_or, sym, ap, subst, arith}
-use Rattle.cdf_vars.proofs.Common.{at_drop_all, fold, read_more, LiesIn, vdr_name, max_rec_at, extent, got_in}
+use Rattle.cdf_vars.proofs.Common.{LiesIn, List, ap, arith, at_drop_all, drop, extent, fold, get_or, got_in, max, max_rec_at, read_more, subst, sym, vdr_name, ℕ, ◌+◌, ◌^◌, ◌∙◌, ◌≤◌}
 use Rattle.cdf_vars.proofs.RemovalAnswers.{extents, max_few, one_read}
 use Rattle.cdf_vars.proofs.removing.greatest_extent.Goals as goal
 

@@ -1,5 +1,4 @@
-use Rattle.std.proofs.Common.{◌≡◌, ◌≤◌, ◌^◌, max, drop}
-use Rattle.cdf_vars.proofs.Common.{fold, Stays}
+use Rattle.cdf_vars.proofs.Common.{Stays, drop, fold, max, ◌^◌, ◌≡◌, ◌≤◌}
 use Rattle.cdf_vars.proofs.RemovalAnswers.{extents}
 use Rattle.cdf_vars.proofs.removing.greatest_extent.Given as goal
 

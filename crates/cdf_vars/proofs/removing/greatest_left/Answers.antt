@@ -1,5 +1,4 @@
-use Rattle.std.proofs.Common.{◌∙◌, ◌+◌, ℕ, List, FitsSigned, max, drop, sym, ap, subst}
-use Rattle.cdf_vars.proofs.Common.{to_z-of_z, w32, fold, last_fits, VdrsLie}
+use Rattle.cdf_vars.proofs.Common.{FitsSigned, List, VdrsLie, ap, drop, fold, last_fits, max, subst, sym, to_z-of_z, w32, ℕ, ◌+◌, ◌∙◌}
 use Rattle.cdf_vars.proofs.RemovalAnswers.{to_the_end, extents, greatest_of_parts, in_taken, in_dropped}
 use Rattle.cdf_vars.proofs.removing.greatest_left.Goals as goal
 

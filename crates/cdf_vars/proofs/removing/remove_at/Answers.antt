@@ -1,6 +1,4 @@
-use Rattle.std.proofs.Common.{◌∙◌, ◌+◌, subst, arith}
-use Rattle.cdf_vars.proofs.Common.{remove, got_in, this, good_is_sound, shape, In, on_ok_weaker}
-use Rattle.cdf_edits.proofs.Edits.RemovalCalls.{inside, few, variables_listed, lie_after, cdr_second, field_second, lies_mid, emptied_by}
+use Rattle.cdf_vars.proofs.Common.{In, arith, cdr_second, emptied_by, few, field_second, good_is_sound, got_in, inside, lie_after, lies_mid, on_ok_weaker, remove, shape, subst, this, variables_listed, ◌+◌, ◌∙◌}
 use Rattle.cdf_vars.proofs.RemovalAnswers.{handed_on, to_the_end, numbers_written, few_behind, own_are, vdr_among, in_dropped}
 use Rattle.cdf_vars.proofs.removing.remove_at.Goals as goal
 

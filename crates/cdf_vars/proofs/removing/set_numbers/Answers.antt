@@ -1,8 +1,4 @@
-use Rattle.std.proofs.Common.{◌+◌, ◌∙◌, get_or, ap, arith}
-use Rattle.cdf_area.proofs.Calls.{edit_more, edits_by_write}
-use Rattle.cdf_edits.proofs.Commands.ListParts.{got_in}
-use Rattle.cdf_format.specs.Records.{vdr_num}
-use Rattle.cdf_vars.proofs.Common.{of_z-to_z, w32, with_field}
+use Rattle.cdf_vars.proofs.Common.{ap, arith, edit_more, edits_by_write, get_or, got_in, of_z-to_z, vdr_num, w32, with_field, ◌+◌, ◌∙◌}
 use Rattle.cdf_vars.proofs.RemovalAnswers.{lie_still, one_numbered}
 use Rattle.cdf_vars.proofs.removing.set_numbers.Goals as goal
 

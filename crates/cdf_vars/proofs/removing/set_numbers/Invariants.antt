@@ -1,5 +1,4 @@
-use Rattle.std.proofs.Common.{◌≡◌, ◌+◌, drop}
-use Rattle.cdf_vars.proofs.Common.{numbers_on, with_writes, VdrsLie}
+use Rattle.cdf_vars.proofs.Common.{VdrsLie, drop, numbers_on, with_writes, ◌+◌, ◌≡◌}
 use Rattle.cdf_area.specs.Calls.{Keeps}
 use Rattle.cdf_vars.proofs.removing.set_numbers.Given as goal
 

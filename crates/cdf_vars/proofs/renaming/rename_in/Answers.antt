@@ -1,6 +1,4 @@
-use Rattle.std.proofs.Common.{◌≡◌, ◌∙◌, ℕ, ◌<◌, List, [], ◌∷◌, ◌++◌, length, ap, sym, subst}
-use Rattle.cdf_vars.proofs.Common.{slice_set, KnownKind}
-use Rattle.cdf_names.specs.Names.{last_to}
+use Rattle.cdf_vars.proofs.Common.{KnownKind, List, [], ap, last_to, length, slice_set, subst, sym, ℕ, ◌++◌, ◌<◌, ◌∙◌, ◌∷◌, ◌≡◌}
 use Rattle.cdf_names.proofs.Moved.{last_moved}
 use Rattle.cdf_vars.proofs.renaming.rename_in.Goals as goal
 

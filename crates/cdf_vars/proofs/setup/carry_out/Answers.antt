@@ -1,5 +1,4 @@
-use Rattle.std.proofs.Common.{ℕ, ap, ◌∙◌, arith}
-use Rattle.cdf_vars.proofs.Common.{on_ok_weaker, cdr_fits, MovesGdr}
+use Rattle.cdf_vars.proofs.Common.{MovesGdr, ap, arith, cdr_fits, on_ok_weaker, ℕ, ◌∙◌}
 use Rattle.cdf_vars.proofs.SetUpAnswers.{fits_gdr}
 use Rattle.cdf_vars.proofs.SetUpFollows.{majority_flags, keeps_follows, moves_follows}
 use Rattle.cdf_vars.proofs.setup.carry_out.Goals as goal

@@ -1,5 +1,4 @@
-use Rattle.std.proofs.Common.{arith, rules}
-use Rattle.cdf_vars.proofs.Common.{cdr_fits, gdr_fits, good_is_sound, good_eof}
+use Rattle.cdf_vars.proofs.Common.{arith, cdr_fits, gdr_fits, good_eof, good_is_sound, rules}
 use Rattle.cdf_vars.proofs.SetUpAnswers.{taken_lies}
 use Rattle.cdf_vars.proofs.setup.make_gdr.Goals as goal
 

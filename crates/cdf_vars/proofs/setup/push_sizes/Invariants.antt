@@ -1,5 +1,4 @@
-use Rattle.std.proofs.Common.{◌≡◌, ◌++◌, take}
-use Rattle.cdf_vars.proofs.Common.{of_4_bytes}
+use Rattle.cdf_vars.proofs.Common.{of_4_bytes, take, ◌++◌, ◌≡◌}
 use Rattle.cdf_vars.proofs.setup.push_sizes.Given as goal
 
 abbrev pub invariant-loop-size : goal.invariant-loop-size

@@ -1,5 +1,4 @@
-use Rattle.std.proofs.Common.{length, sym, ap, ◌∙◌, arith}
-use Rattle.cdf_vars.proofs.Common.{cdr_fits, gdr_fits, Cdr}
+use Rattle.cdf_vars.proofs.Common.{Cdr, ap, arith, cdr_fits, gdr_fits, length, sym, ◌∙◌}
 use Rattle.cdf_vars.proofs.SetUpAnswers.{size_read, counts_read}
 use Rattle.cdf_vars.proofs.setup.read_heads.Goals as goal
 

@@ -1,5 +1,4 @@
-use Rattle.std.proofs.Common.{length, not, refl, ap, sym, ◌∙◌, arith}
-use Rattle.cdf_vars.proofs.Common.{BadShape, Frame, NumberOutOfRange, Plain, Setup, are_bad_sizes, content, gone, refused, too_large, InUse}
+use Rattle.cdf_vars.proofs.Common.{BadShape, Frame, InUse, NumberOutOfRange, Plain, Setup, ap, are_bad_sizes, arith, content, gone, length, not, refl, refused, sym, too_large, ◌∙◌}
 use Rattle.cdf_vars.proofs.SetUpAnswers.{is_unread, step_goes}
 use Rattle.cdf_vars.proofs.setup.set_up.Goals as goal
 

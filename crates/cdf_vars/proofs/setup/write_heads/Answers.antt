@@ -1,5 +1,4 @@
-use Rattle.std.proofs.Common.{◌≡◌, ℕ, List, ◌++◌, length, ap, ◌∙◌, arith}
-use Rattle.cdf_vars.proofs.Common.{of_z-to_z, on_ok_weaker, cast_unsigned, w32, length-words, with_field, of_4_bytes, cdr_flags}
+use Rattle.cdf_vars.proofs.Common.{List, ap, arith, cast_unsigned, cdr_flags, length, length-words, of_4_bytes, of_z-to_z, on_ok_weaker, w32, with_field, ℕ, ◌++◌, ◌∙◌, ◌≡◌}
 use Rattle.cdf_vars.proofs.Sizes.{fine_sizes}
 use Rattle.cdf_vars.proofs.setup.write_heads.Goals as goal
 

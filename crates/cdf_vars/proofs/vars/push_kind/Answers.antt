@@ -1,5 +1,4 @@
-use Rattle.std.proofs.Common.{◌∙◌}
-use Rattle.std.proofs.lemmas.Result.{on_ok_weaker}
+use Rattle.cdf_vars.proofs.Common.{on_ok_weaker, ◌∙◌}
 use Rattle.cdf_vars.proofs.NamesRead.{items_listed, named_at}
 use Rattle.cdf_vars.proofs.vars.push_kind.Goals as goal
 

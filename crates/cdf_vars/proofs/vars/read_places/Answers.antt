@@ -1,5 +1,4 @@
-use Rattle.std.proofs.Common.{◌≡◌, length, sym, subst}
-use Rattle.cdf_vars.proofs.Common.{IfOk-weaker, Chain, counted_in, members_of, HasChain, HolderStands, shape, good_is_sound}
+use Rattle.cdf_vars.proofs.Common.{Chain, HasChain, HolderStands, IfOk-weaker, counted_in, good_is_sound, length, members_of, shape, subst, sym, ◌≡◌}
 use Rattle.cdf_vars.proofs.VariableChains.{counted_members, has_variable_chain, holder_stands}
 use Rattle.cdf_vars.proofs.NamesRead.{places_read}
 use Rattle.cdf_vars.proofs.vars.read_places.Goals as goal

@@ -1,5 +1,4 @@
-use Rattle.std.proofs.Common.{◌∙◌, ℕ, List, [], ◌∷◌, ◌++◌, ap, subst, sym}
-use Rattle.cdf_vars.proofs.Common.{remove, KnowsKind, last_removed}
+use Rattle.cdf_vars.proofs.Common.{KnowsKind, List, [], ap, last_removed, remove, subst, sym, ℕ, ◌++◌, ◌∙◌, ◌∷◌}
 use Rattle.cdf_vars.proofs.VariableFound.{kind_absent, kind_few, kind_view}
 use Rattle.cdf_vars.proofs.vars.VarTable.add.Goals as goal
 

@@ -1,5 +1,4 @@
-use Rattle.std.proofs.Common.{◌∙◌, map}
-use Rattle.cdf_format.specs.Fields.{name_at}
+use Rattle.cdf_vars.proofs.Common.{map, name_at, ◌∙◌}
 use Rattle.cdf_vars.proofs.NamesRead.{kind_known, named_at}
 use Rattle.cdf_vars.proofs.vars.VarTable.load.Goals as goal
 

@@ -1,5 +1,4 @@
-use Rattle.std.proofs.Common.{◌∙◌, length, ap, arith}
-use Rattle.cdf_vars.proofs.Common.{remove, KnownKind}
+use Rattle.cdf_vars.proofs.Common.{KnownKind, ap, arith, length, remove, ◌∙◌}
 use Rattle.cdf_vars.proofs.RemovalAnswers.{knows_less, named_too}
 use Rattle.cdf_vars.proofs.vars.VarTable.remove.Goals as goal
 

@@ -1,5 +1,4 @@
-use Rattle.std.proofs.Common.{◌∙◌, ℕ, List, ap, length, refl, sym, arith}
-use Rattle.cdf_vars.proofs.Common.{vdr_bytes, Follows, refused, BadName, BadShape, NameTaken, R, Z, is_among, making, wanted}
+use Rattle.cdf_vars.proofs.Common.{BadName, BadShape, Follows, List, NameTaken, R, Z, ap, arith, is_among, length, making, refl, refused, sym, vdr_bytes, wanted, ℕ, ◌∙◌}
 use Rattle.cdf_vars.proofs.CreatedVariable.{is_done, is_making, no_room}
 use Rattle.cdf_vars.proofs.VariableFound.{all_names, knows_made}
 use Rattle.cdf_vars.proofs.vars.Vars.create.Goals as goal

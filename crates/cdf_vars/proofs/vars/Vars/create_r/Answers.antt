@@ -1,5 +1,4 @@
-use Rattle.std.proofs.Common.{subst, sym}
-use Rattle.cdf_vars.proofs.Common.{Good}
+use Rattle.cdf_vars.proofs.Common.{Good, subst, sym}
 use Rattle.cdf_vars.proofs.vars.Vars.create_r.Goals as goal
 
 pub create-requires-clause-good : goal.create-requires-clause-good

@@ -1,5 +1,4 @@
-use Rattle.std.proofs.Common.{sym, subst, ◌∙◌}
-use Rattle.cdf_vars.specs.Known.{Knows}
+use Rattle.cdf_vars.proofs.Common.{Knows, subst, sym, ◌∙◌}
 use Rattle.cdf_vars.proofs.VariableFound.{named_first, named_second}
 use Rattle.cdf_vars.proofs.vars.Vars.find.Goals as goal
 

@@ -1,5 +1,4 @@
-use Rattle.std.proofs.Common.{◌∙◌, FitsSigned, sym, subst}
-use Rattle.cdf_vars.proofs.Common.{to_z-of_z, w32, last_fits, VdrsLie}
+use Rattle.cdf_vars.proofs.Common.{FitsSigned, VdrsLie, last_fits, subst, sym, to_z-of_z, w32, ◌∙◌}
 use Rattle.cdf_vars.proofs.PutRaised.{greatest_written}
 use Rattle.cdf_vars.proofs.vars.Vars.follow_max_rec.Goals as goal
 

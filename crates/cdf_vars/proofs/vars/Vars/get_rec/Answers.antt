@@ -1,6 +1,4 @@
-use Rattle.std.proofs.Common.{◌∙◌, ℕ, List, refl, ap, arith}
-use Rattle.cdf_vars.proofs.Common.{lt-ltb, refused, record_number_limit, NoSuchVar, RecordOutOfRange, read, variable_at}
-use Rattle.cdf_model.specs.declared.command.Command.TheVariants.{GetRec}
+use Rattle.cdf_vars.proofs.Common.{GetRec, List, NoSuchVar, RecordOutOfRange, ap, arith, lt-ltb, read, record_number_limit, refl, refused, variable_at, ℕ, ◌∙◌}
 use Rattle.cdf_vars.proofs.RecordAnswers.{shown_rec}
 use Rattle.cdf_vars.proofs.vars.Vars.get_rec.Goals as goal
 

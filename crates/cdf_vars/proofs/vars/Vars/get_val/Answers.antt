@@ -1,7 +1,4 @@
-use Rattle.std.proofs.Common.{◌≡◌, ◌+◌, ◌*◌, ◌≤◌, ◌∙◌, ℕ, List, length, take, drop, refl, sym, ap, arith}
-use Rattle.cdf_vars.proofs.Common.{image_limit, lt-ltb, refused, record_number_limit, content, NoSuchVar, IndexOutOfRange, RecordOutOfRange, place, read, variable_at, values_fit}
-use Rattle.cdf_model.specs.declared.command.Command.TheVariants.{GetVal}
-use Rattle.cdf_vars.specs.Records.{HasForm}
+use Rattle.cdf_vars.proofs.Common.{GetVal, HasForm, IndexOutOfRange, List, NoSuchVar, RecordOutOfRange, ap, arith, content, drop, image_limit, length, lt-ltb, place, read, record_number_limit, refl, refused, sym, take, values_fit, variable_at, ℕ, ◌*◌, ◌+◌, ◌∙◌, ◌≡◌, ◌≤◌}
 use Rattle.cdf_vars.proofs.RecordAnswers.{shown_val}
 use Rattle.cdf_vars.proofs.RecordPlaces.{inside, named_formed}
 use Rattle.cdf_vars.proofs.vars.Vars.get_val.Given.{Over}

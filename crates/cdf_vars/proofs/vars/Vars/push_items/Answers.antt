@@ -1,5 +1,4 @@
-use Rattle.std.proofs.Common.{sym, subst}
-use Rattle.cdf_format.specs.WellFormed.{Good}
+use Rattle.cdf_vars.proofs.Common.{Good, subst, sym}
 use Rattle.cdf_vars.proofs.vars.Vars.push_items.Goals as goal
 
 pub push_kind-requires-2 : goal.push_kind-requires-2

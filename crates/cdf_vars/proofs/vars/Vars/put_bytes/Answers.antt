@@ -1,5 +1,4 @@
-use Rattle.std.proofs.Common.{◌≡◌, ◌∙◌, ℕ, ◌+◌, List, length, sym, ap, arith}
-use Rattle.cdf_vars.proofs.Common.{Frame, edit_failed, keeps_by_read, read_more, read_once, put_room, first_written, number, vdr_vxr_head, Variable, index_at, variable_at}
+use Rattle.cdf_vars.proofs.Common.{Frame, List, Variable, ap, arith, edit_failed, first_written, index_at, keeps_by_read, length, number, put_room, read_more, read_once, sym, variable_at, vdr_vxr_head, ℕ, ◌+◌, ◌∙◌, ◌≡◌}
 use Rattle.cdf_vars.proofs.PutAnswered.{put_answers, put_refused, wanted}
 use Rattle.cdf_vars.proofs.PutWhole.{from_is, within}
 use Rattle.cdf_var_records.proofs.PutRoomNeeded.{head_lies}

@@ -1,5 +1,4 @@
-use Rattle.cdf_vars.proofs.Common.{IfOk-weaker}
-use Rattle.cdf_model.specs.declared.command.Command.TheVariants.{PutRec}
+use Rattle.cdf_vars.proofs.Common.{IfOk-weaker, PutRec}
 use Rattle.cdf_vars.proofs.vars.Vars.put_rec.Goals as goal
 
 pub put_bytes-requires : goal.put_bytes-requires

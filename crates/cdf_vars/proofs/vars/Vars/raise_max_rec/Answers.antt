@@ -1,5 +1,4 @@
-use Rattle.std.proofs.Common.{◌≤◌, arith, inl}
-use Rattle.cdf_vars.proofs.Common.{cdr_fits, max_rec_at, extent, R, vdr_lies, on_ok_weaker}
+use Rattle.cdf_vars.proofs.Common.{R, arith, cdr_fits, extent, inl, max_rec_at, on_ok_weaker, vdr_lies, ◌≤◌}
 use Rattle.cdf_vars.proofs.PutRaised.{greatest_lies, mid_good, mid_places, raised, vdrs_lie}
 use Rattle.cdf_vars.proofs.vars.Vars.raise_max_rec.Goals as goal
 

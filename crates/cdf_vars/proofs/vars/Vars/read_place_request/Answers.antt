@@ -1,5 +1,4 @@
-use Rattle.std.proofs.Common.{◌≡◌, ◌∙◌, ◌+◌, ◌*◌, ◌++◌, ◌≤◌, ℕ, List, length, take, drop, refl, sym, ap}
-use Rattle.cdf_vars.proofs.Common.{refused, content, IndexOutOfRange, RecordOutOfRange, PutVal, place, read, variable_at, values_fit}
+use Rattle.cdf_vars.proofs.Common.{IndexOutOfRange, List, PutVal, RecordOutOfRange, ap, content, drop, length, place, read, refl, refused, sym, take, values_fit, variable_at, ℕ, ◌*◌, ◌++◌, ◌+◌, ◌∙◌, ◌≡◌, ◌≤◌}
 use Rattle.cdf_vars.proofs.PutRequests.{val_may}
 use Rattle.cdf_vars.proofs.RecordPlaces.{inside, named_formed}
 use Rattle.cdf_vars.proofs.vars.Vars.read_place_request.Given.{Over}

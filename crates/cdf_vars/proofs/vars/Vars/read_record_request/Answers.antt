@@ -1,6 +1,4 @@
-use Rattle.std.proofs.Common.{refl, sym, ◌∙◌}
-use Rattle.cdf_vars.proofs.Common.{read_once, read_without_memory, refused, NoSuchVar, RecordOutOfRange}
-use Rattle.cdf_model.specs.declared.command.Command.TheVariants.{PutRec}
+use Rattle.cdf_vars.proofs.Common.{NoSuchVar, PutRec, RecordOutOfRange, read_once, read_without_memory, refl, refused, sym, ◌∙◌}
 use Rattle.cdf_vars.proofs.PutRequests.{rec_may}
 use Rattle.cdf_vars.proofs.RecordPlaces.{named_formed}
 use Rattle.cdf_vars.proofs.vars.Vars.read_record_request.Goals as goal

@@ -1,6 +1,4 @@
-use Rattle.std.proofs.Common.{◌≤◌, ◌∙◌, ℕ, List, length, refl, sym, ap, subst}
-use Rattle.cdf_vars.proofs.Common.{cdr_fits, is_little, refused, NoSuchVar}
-use Rattle.cdf_model.specs.declared.command.Command.TheVariants.{SetPad}
+use Rattle.cdf_vars.proofs.Common.{List, NoSuchVar, SetPad, ap, cdr_fits, is_little, length, refl, refused, subst, sym, ℕ, ◌∙◌, ◌≤◌}
 use Rattle.cdf_vars.proofs.PadRequests.{elements, may, no_value}
 use Rattle.cdf_vars.proofs.VariableFound.{is_vdr, missing, placed}
 use Rattle.cdf_vars.proofs.vars.Vars.read_request.Goals as goal

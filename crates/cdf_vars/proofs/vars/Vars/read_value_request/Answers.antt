@@ -1,5 +1,4 @@
-use Rattle.std.proofs.Common.{Ok, length, List, ℕ, refl, sym, ap, ◌∙◌}
-use Rattle.cdf_vars.proofs.Common.{IfOk-weaker, read_once, read_without_memory, refused, NoSuchVar, PutVal}
+use Rattle.cdf_vars.proofs.Common.{IfOk-weaker, List, NoSuchVar, Ok, PutVal, ap, length, read_once, read_without_memory, refl, refused, sym, ℕ, ◌∙◌}
 use Rattle.cdf_vars.proofs.PutRequests.{one_long}
 use Rattle.cdf_vars.proofs.RecordPlaces.{named_formed}
 use Rattle.cdf_vars.proofs.vars.Vars.read_value_request.Goals as goal

@@ -1,8 +1,4 @@
-use Rattle.std.proofs.Common.{◌≡◌, ◌∙◌, ℕ, List, length, refl, ap, arith}
-use Rattle.cdf_vars.proofs.Common.{Frame, IsVdr, refused, vdr_lies, NoSuchVar}
-use Rattle.cdf_model.specs.declared.command.Command.TheVariants.{Reindex}
-use Rattle.cdf_reindex.specs.Reindexed.{Reindexed}
-use Rattle.cdf_var_records.proofs.VdrParts.{at, own}
+use Rattle.cdf_vars.proofs.Common.{Frame, IsVdr, List, NoSuchVar, Reindex, Reindexed, ap, arith, at, length, own, refl, refused, vdr_lies, ℕ, ◌∙◌, ◌≡◌}
 use Rattle.cdf_vars.proofs.ReindexAnswers.{answers_done, known_done, over, vdr_in}
 use Rattle.cdf_vars.proofs.VariableFound.{is_vdr, missing, named_as, placed}
 use Rattle.cdf_vars.proofs.vars.Vars.reindex.Given.{Over}

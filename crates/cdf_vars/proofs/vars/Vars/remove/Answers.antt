@@ -1,5 +1,4 @@
-use Rattle.std.proofs.Common.{sym, ap, subst}
-use Rattle.cdf_vars.proofs.Common.{R, Z, Known, KnowsKind}
+use Rattle.cdf_vars.proofs.Common.{Known, KnowsKind, R, Z, ap, subst, sym}
 use Rattle.cdf_vars.proofs.RemovalAnswers.{on_ok_all, knows_other}
 use Rattle.cdf_vars.proofs.vars.Vars.remove.Goals as goal
 

@@ -1,5 +1,4 @@
-use Rattle.std.proofs.Common.{sym, ap, ◌∙◌, refl}
-use Rattle.cdf_vars.proofs.Common.{refused, BadName, NameTaken, NoSuchVar, RenameVar, is_among}
+use Rattle.cdf_vars.proofs.Common.{BadName, NameTaken, NoSuchVar, RenameVar, ap, is_among, refl, refused, sym, ◌∙◌}
 use Rattle.cdf_vars.proofs.VariableFound.{all_names, may_rename, rename_done, rename_knows, found_view, knows_view, none_found, the_parts}
 use Rattle.cdf_vars.proofs.vars.Vars.rename.Goals.{in-R+in_ok-rename_in-in-R, in-Z+in_ok-rename_in-in-Z}
 use Rattle.cdf_vars.proofs.vars.Vars.rename.Goals as goal

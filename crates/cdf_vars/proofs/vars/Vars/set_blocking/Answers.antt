@@ -1,5 +1,4 @@
-use Rattle.std.proofs.Common.{◌∙◌, refl, sym, arith}
-use Rattle.cdf_vars.proofs.Common.{lt-ltb, refused, NoSuchVar, NumberOutOfRange, SetBlocking, signed_limit, vdr_blocking_factor}
+use Rattle.cdf_vars.proofs.Common.{NoSuchVar, NumberOutOfRange, SetBlocking, arith, lt-ltb, refl, refused, signed_limit, sym, vdr_blocking_factor, ◌∙◌}
 use Rattle.cdf_vars.proofs.VariableFound.{blocking_done, blocking_knows, field_lies, none_found, the_parts, within_places}
 use Rattle.cdf_vars.proofs.vars.Vars.set_blocking.Goals as goal
 

@@ -1,5 +1,4 @@
-use Rattle.std.proofs.Common.{◌≡◌, ◌∙◌, ◌+◌, ◌-◌, ◌≤◌, ℕ, List, length, refl, sym, ap, subst, arith}
-use Rattle.cdf_vars.proofs.Common.{Frame, edit_done, edit_more, keeps_by_read, read_once, Good, Knows}
+use Rattle.cdf_vars.proofs.Common.{Frame, Good, Knows, List, ap, arith, edit_done, edit_more, keeps_by_read, length, read_once, refl, subst, sym, ℕ, ◌+◌, ◌-◌, ◌∙◌, ◌≡◌, ◌≤◌}
 use Rattle.cdf_vars.proofs.PadSet.{at_inside, moved_done, need_inside, over, put_asked, put_done, within_known}
 use Rattle.cdf_vars.proofs.vars.Vars.set_pad.Goals.{then-need-place+in_ok-write_pad, else-need-place+in-R+in_ok-move_vdr-in-R, else-need-place+in-Z+in_ok-move_vdr-in-Z}
 use Rattle.cdf_vars.proofs.vars.Vars.set_pad.Goals as goal
