@@ -1,5 +1,5 @@
 -- One image goes on to another: what a put may change of the records of its variable, what the descriptor says by then, that an edit of one variable is such a step, and that two steps are one.
-use Rattle.cdf_puts.proofs.Common.{Act, ActsFollow, Allowance, Anything, AttributeShape, DataSet, Field, FileSame, GoesOn, Good, HasShape, In, IndexEdit, IsOneOf, IsSound, Kept, Kind, Leaf, List, ListedStay, LooseStay, Mark, Nodes, Only, OnlyTakes, Option, OutsideFields, OwnEdit, R, Range, Shape, StandsAmong, Stays, Stood, Touch, Variable, VariableShape, VdrStays, WritesRecords, Z, [], acts_joined, after_ours, all_variable_records, among_now, anything_if, ap, arith, attribute_records, cdr_kept, cdr_type, content, content_replaced, either, eq-eqb, false, false-is_in, fits, flat_map, found_in, gdr_keeps, good_is_sound, good_now, if◌then◌else◌, image_limit, index_edit, inl, inr, is_a-in, is_compressed, is_in, is_rewritten, is_taken, keeps_stood, kept_away, kind_ours, leaves_of, length, length-map, linkable-in, linkable-type, list_any, listed_before, long, map, marks, max_rec_at, nat_le, nat_lt, no_acts_follow, nodes_of, none_of_both, only, only_of, other_kind, others_are, ours, own_edit, own_rules, packed_stays, put_changes, put_fields, r_max_rec_field, range, range_at, record_alike, record_bytes, records_are, records_in, refl, same_as_itself, same_kind, set_at, shape, shapes_of, size_at, slice_set, space_fields, splices, stays_alike, stood, subst, sym, taken, tile, tile_lies, true, true-is_in, type_at, uir_next_uir, uir_prev_uir, uir_type, unused_stands, variable_of, variable_records, variable_stays, variables_in, variables_of, vdr_size, vdr_type, with_variables, ℕ, ◌&&◌, ◌++◌, ◌+◌, ◌<◌, ◌==◌, ◌∙◌, ◌∷◌, ◌≡◌, ◌≤◌, ◌⊎◌}
+use Rattle.cdf_puts.proofs.Common.{Act, ActsFollow, Allowance, Anything, AttributeShape, DataSet, Field, FileSame, GoesOn, Good, HasShape, In, IndexEdit, IsOneOf, IsSound, Kept, Kind, Leaf, List, ListedStay, LooseStay, Mark, Nodes, Only, OnlyTakes, Option, OutsideFields, OwnEdit, R, Range, Shape, StandsAmong, Stays, Stood, Touch, Variable, VariableShape, VdrStays, WritesRecords, Z, [], acts_joined, after_ours, all_variable_records, among_now, anything_if, ap, arith, attribute_records, cdr_kept, cdr_type, content, content_replaced, either, eq-eqb, false, false-is_in, fits, flat_map, found_in, gdr_keeps, good_is_sound, good_now, image_limit, index_edit, inl, inr, is_a-in, is_compressed, is_in, is_rewritten, is_taken, keeps_stood, kept_away, kind_ours, leaves_of, length, length-map, linkable-in, linkable-type, list_any, listed_before, long, map, marks, max_rec_at, nat_le, nat_lt, no_acts_follow, nodes_of, none_of_both, only, other_kind, others_are, ours, own_edit, own_rules, packed_stays, put_changes, put_fields, r_max_rec_field, range, range_at, record_alike, record_bytes, records_are, records_in, refl, same_as_itself, same_kind, set_at, shape, shapes_of, size_at, slice_set, space_fields, splices, stays_alike, stood, subst, sym, taken, tile, tile_lies, true, true-is_in, type_at, uir_next_uir, uir_prev_uir, uir_type, unused_stands, variable_of, variable_records, variable_stays, variables_in, variables_of, vdr_size, with_variables, ℕ, ◌&&◌, ◌++◌, ◌+◌, ◌<◌, ◌==◌, ◌∙◌, ◌∷◌, ◌≡◌, ◌≤◌, ◌⊎◌}
 use Rattle.cdf_puts.proofs.RaisedGoes.{set_is}
 use Rattle.cdf_edits.proofs.Edits.IndexEdited as of_index
 use Rattle.cdf_index.proofs.OwnRecords.{by_range}
