@@ -1,5 +1,16 @@
 -- What a search has that starts along the top chain of an index, and what of the index it has with the search from the first node.
+use Rattle.cdf_index.proofs.Common.{AreInOrder, AreTiles, Distinct, Distinct-back, Entries, HasIndex, HasNodes, In, In-append_right, InOrder, IsNode, IsOrderly, IsTree, Leaf, List, NodeFits, Nodes, Option, Stands, [], ap, append_assoc, arith, block, cases_eq, chain_reaches, either, entry_firsts, filter, find_entry, find_in, firsts_of, fold, has, index_at, inl, inr, leaf_of, least_first_past, leaves_of, length, link_to, lower, lower_nodes, ltb, min, nat_tests, no_entry, no_node, node, nodes_of, number_within, past_entries, record_number_limit, refl, spot, subst, suc, sym, tiles, way, with_leaf, zero, ℕ, ◌++◌, ◌+◌, ◌<◌, ◌∙◌, ◌≡◌, ◌≢◌, ◌≤◌}
 use Rattle.cdf_edits.specs.Index.Written.{last_node, top_chain}
+use Rattle.cdf_format.proofs.IndexLemmas.{levels_complete}
+use Rattle.cdf_format.specs.IndexWalk.{nodes_met}
+use Rattle.cdf_edits.proofs.Edits.VariableFrame.{Each-map}
+use Rattle.cdf_index.proofs.Ascending.{index_stands}
+use Rattle.cdf_index.proofs.Coming.{chain_reaches_from}
+use Rattle.cdf_index.proofs.EntriesLeft.{node_parts}
+use Rattle.cdf_index.proofs.LeavesAscend.{end_before}
+use Rattle.cdf_index.proofs.Looking.{none_there}
+use Rattle.cdf_index.proofs.OrderLemmas.{end_after, find_is}
+use Rattle.cdf_index.proofs.WayDown.{chain_there, node_there_by}
 use Rattle.cdf_index.specs.Starting.{IsStart, from_reached}
 
 -- ---- a chain from one of its nodes on
@@ -22,11 +33,11 @@ unfolding nodes_of
 rest_among whole m i = i
 rest_among (behind {es = es} {more = more} r) m i = inr (In-append_right m (lower_nodes es) (nodes_of more) (rest_among r m i))
 
-pub rest_has : {b ts : List ℕ} {levels : ℕ} {s ns : Nodes} → Rest s ns → HasNodes b ts levels ns → HasNodes b ts levels s
+pub rest_has : (b ts : List ℕ) (levels : ℕ) {s ns : Nodes} → Rest s ns → HasNodes b ts levels ns → HasNodes b ts levels s
 unfolding HasNodes
-rest_has whole h = h
-rest_has {levels = zero} (behind r) h = absurd h
-rest_has {levels = suc levels} (behind r) h = rest_has r h.2
+rest_has b ts levels whole h = h
+rest_has b ts zero (behind r) h = absurd h
+rest_has b ts (suc levels) (behind r) h = rest_has b ts (suc levels) r h.2
 
 pub rest_once : {s ns : Nodes} → Rest s ns → Distinct (nodes_of ns) → Distinct (nodes_of s)
 unfolding nodes_of
@@ -63,7 +74,7 @@ rest_index {b = b} {at = at} {s = s} tiled p e =
     let same : index_at b at ≡ s = ap nodes_met (levels_complete b (tiles b) (length b) tiled 8 [] 0 at s e p.stands.has p.once) in (
       record {
         tiled = tiled;
-        index = record { link_is = rw same e; has_nodes = rw same p.stands.has; once = rw same p.once };
+        index = rw same (record { link_is = e; has_nodes = p.stands.has; once = p.once });
         fits = rw same (Each-map (IsOrderly b) (NodeFits b) (λ m o. o.fits) (nodes_of s) p.stands.orderly);
         blocks = rw same p.stands.blocks;
         order = rw same p.order;
@@ -83,13 +94,15 @@ mutual
   chain_passed f low high no_node xs o le lt = refl
   chain_passed f low high (node place room es more) xs o le lt =
       let e = end_before low high es o.0 le in
-      grind (append_assoc (entry_firsts es) (firsts_of more) xs, firsts_passed f low high es (firsts_of more ++ xs) o.0 (omega arith), chain_passed f (past_entries low es) high more xs o.1 e lt)
+      rw append_assoc (firsts_passed f low high es (firsts_of more ++ xs) o.0 (omega arith) ∙ chain_passed f (past_entries low es) high more xs o.1 e lt)
 
   firsts_passed : (f low high : ℕ) (es : Entries) (xs : List ℕ) → AreInOrder low high es → past_entries low es ≤ f → filter (ltb f) (entry_firsts es ++ xs) ≡ filter (ltb f) xs
   firsts_passed f low high no_entry xs o le = refl
   firsts_passed f low high (block first last place packed es) xs o le = grind (arith, nat_tests, end_after (suc last) high es o.3, firsts_passed f (suc last) high es xs o.3 le, o.1)
   firsts_passed f low high (lower first last nodes es) xs o le =
-      grind (arith, nat_tests, end_after (suc last) high es o.4, append_assoc (firsts_of nodes) (entry_firsts es) xs, chain_passed f first last nodes (entry_firsts es ++ xs) o.3, firsts_passed f (suc last) high es xs o.4 le, o.1)
+      let e = end_after (suc last) high es o.4 in
+      let fl = o.1 in
+      grind (arith, nat_tests, append_assoc (firsts_of nodes) (entry_firsts es) xs, chain_passed f first last nodes (entry_firsts es ++ xs) o.3 (omega arith) (omega arith), firsts_passed f (suc last) high es xs o.4 le)
 
 entries_passed : (f low high : ℕ) (es : Entries) (other : Option Leaf) → AreInOrder low high es → past_entries low es ≤ f → find_entry f es other ≡ other
 unfolding AreInOrder find_entry
@@ -126,6 +139,12 @@ same_from f low high (node place room es more) o = elim (either (chain_reaches f
   | inr t ↦ rw t (record { rest = whole; way_is = refl; spot_is = refl; find_is = refl; firsts_are = refl; top = λ is. (tt, inl refl) })
 ]
 
+-- a leaf that is added there is added to the index
+pub leaf_rest : (l : Leaf) (at : ℕ) (ns : Nodes) → Rest (with_leaf l at (from_reached l.first ns)) (with_leaf l at ns)
+unfolding with_leaf
+leaf_rest l at no_node = whole
+leaf_rest l at (node place room es more) = elim (either (chain_reaches l.first more)) [ inl t ↦ rw t (behind (leaf_rest l at more)) | inr t ↦ rw t (rw t whole) ]
+
 -- what a start has, and what of the index
 pub record StartsAt (b : List ℕ) (head rec start : ℕ) : Type 0 where
   pub has : HasIndex b start
@@ -136,15 +155,20 @@ pub record StartsAt (b : List ℕ) (head rec start : ℕ) : Type 0 where
   pub way_is : way rec (index_at b start) ≡ way rec (index_at b head)
   pub spot_is : spot rec (index_at b start) ≡ spot rec (index_at b head)
   pub among : (m : ℕ) → In m (nodes_of (index_at b start)) → In m (nodes_of (index_at b head))
-  pub some : head ≢ 0 → start ≢ 0
-  pub top : head ≢ 0 → In start (top_chain (index_at b head))
+  pub empty : start ≡ 0 → head ≡ 0
+  pub some : start ≢ 0 → head ≢ 0
+  pub top : start ≢ 0 → In start (top_chain (index_at b head))
+
+pub none_starts : {b : List ℕ} {head : ℕ} → HasIndex b head → (rec : ℕ) → head ≡ 0 → link_to (from_reached rec (index_at b head)) ≡ 0
+none_starts {b = b} {head = head} has rec z = ap (λ (x : Nodes). link_to (from_reached rec x)) (none_there b 8 (index_at b head) has.tiled has.index.has_nodes (sym has.index.link_is ∙ z))
 
 pub starts_at : {b : List ℕ} {head rec start : ℕ} → HasIndex b head → IsStart b head rec start → StartsAt b head rec start
 starts_at {b = b} {head = head} {rec = rec} {start = start} has e =
     let ns = index_at b head in
     let same = same_from rec 0 record_number_limit ns has.order in
     let x = rest_index has.tiled (rest_stands same.rest (index_standing has)) e in
-    let there = λ (some : head ≢ 0). same.top (node_there_by head ns has.index.link_is some) in
+    let there = λ (n : head ≢ 0). same.top (node_there_by head ns has.index.link_is n) in
+    let some : start ≢ 0 → head ≢ 0 = λ n z. n (e ∙ none_starts has rec z) in
     record {
       has = x.0;
       index_is = x.1;
@@ -154,6 +178,7 @@ starts_at {b = b} {head = head} {rec = rec} {start = start} has e =
       way_is = rw x.1 same.way_is;
       spot_is = rw x.1 same.spot_is;
       among = rw x.1 (rest_among same.rest);
-      some = λ some z. subst IsNode (none_there b 8 (from_reached rec ns) has.tiled (rest_has same.rest has.index.has_nodes) (sym e ∙ z)) (there some).0;
-      top = λ some. rw e (there some).1;
+      empty = λ z. elim (cases_eq head 0) [ inl none ↦ none | inr n ↦ absurd (subst IsNode (none_there b 8 (from_reached rec ns) has.tiled (rest_has b (tiles b) 8 same.rest has.index.has_nodes) (sym e ∙ z)) (there n).0) ];
+      some = some;
+      top = λ n. rw e (there (some n)).1;
     }

@@ -1,6 +1,11 @@
 -- The walk to the start of a search, from a node that is known or from the first one.
+use Rattle.cdf_index.proofs.Common.{HasIndex, In, IsNode, IsTree, List, Nodes, SeesNode, SomeTree, Spot, SpotIs, [], ap₂, arith, chain_reaches, index_at, inl, inr, link_to, nat_tests, no_node, node, refl, seen, spot, subst, true, way, ℕ, ◌<◌, ◌∷◌, ◌≡◌, ◌≢◌}
 use Rattle.cdf_edits.specs.Index.Written.{top_chain}
-use Rattle.cdf_index.specs.Starting.{IsStart, LeadsToStart, from_reached}
+use Rattle.cdf_index.proofs.FromReached.{Rest, behind, rest_tree, whole}
+use Rattle.cdf_index.proofs.GoingDown.{top}
+use Rattle.cdf_index.proofs.Leading.{counted_begun, reached_is}
+use Rattle.cdf_index.proofs.LevelsDown.{index_tree}
+use Rattle.cdf_index.specs.Starting.{LeadsToStart, from_reached}
 
 -- ---- the last node that reaches the record is the one at which the way begins
 
@@ -20,8 +25,8 @@ stop_is {f = f} {ns = ns} s = grind (arith, ap₂ first_on s.way_is s.end_is, fi
 
 known_rest : (m : ℕ) (ns : Nodes) → In m (top_chain ns) → (s : Nodes) × (Rest s ns × IsNode s × (m ≡ link_to s))
 known_rest m no_node i = absurd i
-known_rest m (node place room es more) (inl e) = (node place room es more, whole, tt, e)
-known_rest m (node place room es more) (inr i) = let r = known_rest m more i in (r.0, behind r.1.0, r.1.1, r.1.2)
+known_rest m (node place room es more) (inl e) = (node place room es more, (whole, tt, e))
+known_rest m (node place room es more) (inr i) = let r = known_rest m more i in (r.0, (behind r.1.0, r.1.1, r.1.2))
 
 rest_reached : {s ns : Nodes} → Rest s ns → (f : ℕ) → chain_reaches f s ≡ true → (chain_reaches f ns ≡ true) × (from_reached f s ≡ from_reached f ns)
 rest_reached whole f t = (t, refl)
