@@ -1,8 +1,11 @@
 -- What the calls ask for that add a leaf, and what they leave.
+use Rattle.cdf_leaves.proofs.Common.{AddsLeaf, ChainInside, Each, Entry, EntryPut, Good, Grew, In, IndexStarted, IsAmong, IsStep, IsWay, Kind, List, MayPut, Nodes, Placed, Spot, StandsAmong, Step, StepSays, StepStands, VariableShape, WayStands, WidenedAlong, [], ap, apart, arith, chain_end, entry, eof, false, field_set, fits, gdr_offset, grew, has, image_limit, index_at, inl, inr, leaf, length, link_to, long, map, max, new_room, node_stays, nodes_of, number, refl, shape, sound, spot, stands, step_pair, sym, tile, tile_lies, type_kept, type_of_body, uir_type, unlike, variables, vdr_vxr_head, vdr_vxr_tail, vdrs, vvr_type, vxr_bytes, vxr_type, vxr_vxr_next, way, widest, with_field, with_leaf, ℕ, ◌++◌, ◌+◌, ◌∙◌, ◌∷◌, ◌≡◌, ◌≢◌, ◌≤◌, ◌⊎◌}
 use Rattle.cdf_edits.proofs.Edits.RecordGrown as of_grown
-use Rattle.cdf_leaves.proofs.Common.{AddsLeaf, ChainInside, Each, Entry, EntryPut, Good, Grew, HasIndex, In, IndexStarted, IsAmong, IsStep, IsWay, Kind, List, MayPut, Placed, Spot, StandsAmong, Step, StepSays, StepStands, VariableShape, WayStands, WidenedAlong, [], ap, apart, arith, chain_end, entry, eof, false, field_set, gdr_offset, grew, has, image_limit, index_at, inl, inr, leaf, length, long, map, max, new_room, node_stays, nodes_of, number, refl, shape, sound, spot, stands, step_pair, subst, sym, tile, tile_lies, type_kept, type_of_body, uir_type, unlike, variables, vdr_vxr_head, vdr_vxr_tail, vdrs, vvr_type, vxr_bytes, vxr_type, vxr_vxr_next, way, widest, with_field, with_leaf, ℕ, ◌++◌, ◌+◌, ◌∙◌, ◌∷◌, ◌≡◌, ◌≢◌, ◌≤◌, ◌⊎◌}
+use Rattle.cdf_edits.proofs.Edits.VariableFrame.{Each-map}
+use Rattle.cdf_index.proofs.FromReached.{StartsAt, starts_at}
+use Rattle.cdf_index.specs.Starting.{IsStart, from_reached}
 use Rattle.cdf_index.specs.declared.descending.Way.{Way}
-use Rattle.cdf_leaves.proofs.LeafGrown.{EntryStands, Onto, not_on_way, entry_stands, wide_state, chain_ready, vdr_lies, tail_stays, tail_written}
+use Rattle.cdf_leaves.proofs.LeafGrown.{EntryStands, Onto, not_on_way, entry_stands, wide_state, chain_found, chain_ready, vdr_lies, tail_stays, tail_written}
 use Rattle.cdf_leaves.proofs.Grown.{was}
 use Rattle.cdf_leaves.proofs.LeafStarted.{first_added}
 use Rattle.cdf_leaves.proofs.Own.{searchable, own_node, node_fits, node_kept, node_spares, still_sees}

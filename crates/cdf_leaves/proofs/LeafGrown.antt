@@ -333,10 +333,10 @@ module _ {b : List ℕ} {kind : Kind} {before : List VariableShape} {own : Varia
         from_node = node_leaf l at (from_reached l.first index)
 
         pub chain_ready : ChainInside (length wide) wide start
-        chain_ready = rw start_link (chain_inside wide recs st.tiled (length wide) 8 from_start (rest_has rest st.has) from_node)
+        chain_ready = rw start_link (chain_inside wide recs st.tiled (length wide) 8 from_start (rest_has wide recs 8 rest st.has) from_node)
 
         pub chain_found : chain_end (length wide) wide start ≡ last_node after_leaf
-        chain_found = ap (chain_end (length wide) wide) start_link ∙ end_is_last wide recs st.tiled 8 from_start (rest_has rest st.has) from_node (rest_once rest once_every) (λ m i. stand_every m (rest_among rest m i)) ∙ rest_last rest from_node
+        chain_found = ap (chain_end (length wide) wide) start_link ∙ end_is_last wide recs st.tiled 8 from_start (rest_has wide recs 8 rest st.has) from_node (rest_once rest once_every) (λ m i. stand_every m (rest_among rest m i)) ∙ rest_last rest from_node
 
       -- ---- what a write in the descriptor leaves
 

@@ -1,4 +1,4 @@
-use Rattle.cdf_leaves.proofs.Common.{Frame, IndexStarted, List, ap, arith, edit_more, entry, good_eof, good_is_sound, image_limit, keeps_by_read, length, number, on_ok_weaker, refl, subst, sym, vdr_vxr_head, ℕ, ◌∙◌, ◌≡◌, ◌≤◌}
+use Rattle.cdf_leaves.proofs.Common.{Frame, IndexStarted, ap, arith, edit_more, entry, good_eof, good_is_sound, image_limit, length, number, on_ok_weaker, refl, subst, sym, vdr_vxr_head, ℕ, ◌∙◌, ◌≡◌, ◌≤◌}
 use Rattle.cdf_leaves.proofs.AddCalls.{among_kind, seven_fit, start_there, started, started_long, vdr_late, late_ends}
 use Rattle.cdf_leaves.proofs.LastCall.{edit_last}
 use Rattle.cdf_leaves.proofs.adding.add_leaf.Goals as goal

@@ -1,4 +1,4 @@
-use Rattle.cdf_leaves.proofs.Common.{Frame, Good, List, Step, WidenedAlong, [], ap, arith, chain_end, edit_done, edit_failed, edit_more, eqb-true, good_eof, good_is_sound, inl, inr, keeps_by_read, length, map, number, on_ok_weaker, read_once, rules, step_pair, subst, sym, vdr_vxr_head, vdr_vxr_tail, with_field, ℕ, ◌∙◌, ◌≡◌}
+use Rattle.cdf_leaves.proofs.Common.{Frame, Good, List, Step, WidenedAlong, [], ap, arith, chain_end, edit_done, edit_failed, edit_more, eqb-true, good_eof, good_is_sound, inl, inr, keeps_by_read, length, map, number, on_ok_weaker, read_once, refl, rules, step_pair, subst, sym, vdr_vxr_head, vdr_vxr_tail, with_field, ℕ, ◌∙◌, ◌≡◌}
 use Rattle.std.specs.Vec.{vec_len}
 use Rattle.cdf_leaves.proofs.AddCalls.{among_kind, grown_stays, grown_tail, may_put, start_there, tail_ready, way_ready, wide_enough}
 use Rattle.cdf_leaves.proofs.LastCall.{edit_last}
