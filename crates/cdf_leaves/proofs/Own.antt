@@ -1,5 +1,5 @@
 -- The variable whose index gets a leaf, in the images in which records were taken.
-use Rattle.cdf_leaves.proofs.Common.{Begun, Each, Each-split, Good, Grew, HasIndex, HasVariable, In, Kept, Kind, Leaf, LeafFits, List, NodeFits, R, SameNode, SeesNode, Spot, StandsAmong, VariableFits, VariableShape, Z, [], ap, apart, arith, block_in, each_in, eqb, false, first_at, fits, gdr_type, good_by_its_shape, good_is_sound, has, index_at, inl, inr, leaves_of, linkable-in, linkable-type, next_of, nodes_of, number, record_number_limit, refl, room_at, same_node, shape, subst, sym, tile, type_at, type_in, type_kept, typed, uir_type, used_count, variables, variables_chain, vdr_vxr_head, vxr_type, ℕ, ◌++◌, ◌<◌, ◌∙◌, ◌∷◌, ◌≡◌, ◌≢◌}
+use Rattle.cdf_leaves.proofs.Common.{Begun, Each, Each-split, Good, Grew, HasIndex, HasVariable, In, Kept, Kind, Leaf, LeafFits, List, NodeFits, R, SameNode, SeesNode, Spot, StandsAmong, VariableFits, VariableShape, Z, ap, apart, arith, block_in, each_in, eqb, false, first_at, fits, gdr_type, good_by_its_shape, good_is_sound, has, index_at, inl, inr, leaves_of, linkable-in, linkable-type, next_of, nodes_of, number, record_number_limit, refl, room_at, same_node, shape, subst, sym, tile, type_at, type_in, type_kept, typed, uir_type, used_count, variables, variables_chain, vdr_vxr_head, vxr_type, ℕ, ◌++◌, ◌<◌, ◌∙◌, ◌∷◌, ◌≡◌, ◌≢◌}
 use Rattle.cdf_format.proofs.GoodImageLemmas.{good_image}
 use Rattle.cdf_index.proofs.GoodIndex.{good_index}
 use Rattle.cdf_leaves.proofs.NodesMore.{places}
@@ -61,6 +61,9 @@ module _ {b : List ℕ} {kind : Kind} {before : List VariableShape} {own : Varia
 
     pub node_kept : (m : ℕ) → In m (nodes_of own.index) → Kept b now m
     node_kept m i = let n = own_node m i in g.kept m n.0 (λ u. apart vxr_type uir_type refl (sym n.1 ∙ u)) (λ u. apart vxr_type gdr_type refl (sym n.1 ∙ u))
+
+    pub node_type : (m : ℕ) → In m (nodes_of own.index) → type_at now m ≡ vxr_type
+    node_type m i = let k = node_kept m i in type_kept b now m k.same k.long ∙ (own_node m i).1
 
     pub node_same : (m : ℕ) → In m (nodes_of own.index) → SameNode b now m
     node_same m i = same_node b now m (node_kept m i) (node_fits m i)

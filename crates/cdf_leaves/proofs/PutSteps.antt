@@ -1,5 +1,5 @@
 -- A node that gets an entry, once another record was taken.
-use Rattle.cdf_leaves.proofs.Common.{Entry, Grew, List, MayPut, NodeInside, NodeMade, Spot, apart, gdr_type, grew, refl, room_at, shape, sym, uir_type, used_count, vxr_type, ℕ, ◌∙◌, ◌≡◌}
+use Rattle.cdf_leaves.proofs.Common.{Entry, Grew, List, MayPut, NodeInside, NodeMade, Spot, apart, gdr_type, grew, made, refl, room_at, shape, sym, uir_type, used_count, vxr_type, ℕ, ◌∙◌, ◌≡◌}
 use Rattle.cdf_leaves.proofs.Spares.{Spares, spares_kept, fits_still, node_inside}
 
 pub record StaysThere (now : List ℕ) (seen : Spot) : Type 0 where

@@ -1,7 +1,5 @@
 -- The node at the end of the way.
-use Rattle.cdf_leaves.proofs.Common.{Comes, Distinct, Distinct-back, Entries, In, In-append, Leaf, List, Names, Nodes, SaysNode, [], apart_by, arith, below_once, below_times, block, comes_along, comes_below, comes_first, comes_here, inl, inr, is_linkable, lower, lower_nodes, no_entry, no_node, node, refl, room_at, room_of_new, suc, sym, true, vxr_type, way_lies, widest, widest_below, with_both, zero, ℕ, ◌++◌, ◌∷◌, ◌≡◌, ◌≢◌, ◌≤◌}
-use Rattle.cdf_format.specs.Index.{nodes_of}
-use Rattle.cdf_format.specs.IndexOf.{HasNodes}
+use Rattle.cdf_leaves.proofs.Common.{Comes, Distinct, Distinct-back, Each, Entries, HasNodes, In, In-append, Leaf, List, Names, Nodes, SaysNode, apart_by, arith, below_once, below_times, block, comes_along, comes_below, comes_first, comes_here, inl, inr, is_linkable, lower, lower_nodes, no_entry, no_node, node, nodes_of, refl, room_at, room_of_new, suc, sym, true, vxr_type, way_lies, widest, widest_below, with_both, zero, ℕ, ◌++◌, ◌∷◌, ◌≡◌, ◌≢◌, ◌≤◌}
 use Rattle.cdf_index.proofs.Saying.{names_parts}
 
 -- a node is at the end of the way, and the new one has so much room
@@ -24,11 +22,7 @@ spot_node (comes_here {room = room} {es = es} {more = more} t d) b ts (suc level
 
 -- ---- the way does not lead through it
 
-abbrev pub NotAt : ℕ → List (ℕ × ℕ) → Type 0
-NotAt x [] = Unit {0}
-NotAt x (step ∷ more) = (step.0 ≢ x) × NotAt x more
-
-pub way_apart : {l : Leaf} {at : ℕ} {w : List (ℕ × ℕ)} {x n : ℕ} {ns ns' : Nodes} → Comes l at w x n ns ns' → x ≢ 0 → Distinct (nodes_of ns) → NotAt x w
+pub way_apart : {l : Leaf} {at : ℕ} {w : List (ℕ × ℕ)} {x n : ℕ} {ns ns' : Nodes} → Comes l at w x n ns ns' → x ≢ 0 → Distinct (nodes_of ns) → Each (λ (step : ℕ × ℕ). step.0 ≢ x) w
 unfolding nodes_of lower_nodes
 way_apart comes_first some d = tt
 way_apart (comes_along {es = es} {more = more} t c) some d = way_apart c some (Distinct-back (lower_nodes es) (nodes_of more) d.1)
