@@ -61,7 +61,7 @@ module _ (b now records records' : List ℕ) (heads : SameHeads b now records re
         next_is = next;
         room_is = room ∙ h.room_is;
         used_is = used ∙ omega (arith, q.front_count, count_both fr (with_block l rest));
-        say_entries = say_both now at 0 fr (with_block l rest) first (rw z at (here, say));
+        say_entries = say_both now at 0 fr (with_block l rest) first (rw (← z) (here, say));
       }) (names_both now records' levels fr (with_block l rest) q.names_front (leaf_names now records' levels l rest names n)) m
 
   -- ---- a node with room

@@ -1,5 +1,5 @@
 -- What the calls ask for that add a leaf, and what they leave.
-use Rattle.cdf_leaves.proofs.Common.{AddsLeaf, AreTiles, Bool, ChainInside, ChainMade, Changed, Comes, Distinct, Each, Each-append, Each-map, Entry, EntryPut, Field, FieldSet, Good, Grew, HasIndex, HasNodes, In, IndexStarted, IndexTouch, Inserted, IsAmong, IsWay, Kept, Kind, Leaf, List, MayName, MayPut, NodeFits, NodeMade, Nodes, Owed, Placed, SameHeads, SplitMade, Spot, StandsAmong, Step, StepSays, StepStands, VariableShape, WayStands, WidenedAlong, ap, apart, arith, begins_by, block, bytes_eq, cases_eq, cases_lt, chain_end, changed_then, changed_wider, comes, each, either, entries_beside, entry, eof, false, field_set, front_stays, gdr_offset, gdr_type, grew, heads_stay, image_limit, index_at, inl, inr, is_linkable, kept_then, last_node, leaf, leaves_of, length, link_to, linkable-from, long, lt-leb, made, map, max, new_room, no_zero, node, nodes_of, nothing_changed, number, number_kept, others_stay, placed, record_number_limit, redo, redone, refl, room_at, room_stays, same_node, shape, size_at, sound, spot, step_pair, subst, sym, tile, tile_lies, tiles_same, top_chain, touch, true, type_of_body, typed, uir_type, used_count, variables, vdr_vxr_head, vdr_vxr_tail, vdrs, vvr_type, vxr_bytes, vxr_type, vxr_vxr_next, way, widen_all, widened, widest, with_field, with_leaf, ℕ, ◌*◌, ◌++◌, ◌+◌, ◌-◌, ◌<◌, ◌∙◌, ◌∷◌, ◌≡◌, ◌≢◌, ◌≤◌, ◌⊎◌}
+use Rattle.cdf_leaves.proofs.Common.{AddsLeaf, AreTiles, Bool, ChainInside, ChainMade, Changed, Comes, Distinct, Each, Each-append, Each-map, Entry, EntryPut, Field, FieldSet, Good, Grew, HasIndex, HasNodes, In, IndexStarted, IndexTouch, Inserted, IsAmong, IsWay, Kept, Kind, Leaf, List, MayName, MayPut, NodeFits, NodeMade, Nodes, Owed, Placed, SameHeads, SplitMade, Spot, StandsAmong, Step, StepSays, StepStands, VariableShape, WayStands, WidenedAlong, [], ap, apart, arith, begins_by, block, bytes_eq, cases_eq, cases_lt, chain_end, changed_then, changed_wider, comes, each, either, entries_beside, entry, eof, false, field_set, front_stays, gdr_offset, gdr_type, grew, has, heads_stay, image_limit, index_at, inl, inr, is_linkable, kept_then, last_node, leaf, leaves_of, length, link_to, linkable-from, long, lt-leb, made, map, max, new_room, no_zero, node, nodes_of, nothing_changed, number, number_kept, others_stay, placed, record_number_limit, redo, redone, refl, room_at, room_stays, same_node, shape, size_at, sound, spot, step_pair, subst, sym, tile, tile_lies, tiles_same, top_chain, touch, true, type_of_body, typed, uir_type, used_count, variables, vdr_vxr_head, vdr_vxr_tail, vdrs, vvr_type, vxr_bytes, vxr_type, vxr_vxr_next, way, widen_all, widened, widest, with_field, with_leaf, ℕ, ◌*◌, ◌++◌, ◌+◌, ◌-◌, ◌<◌, ◌∙◌, ◌∷◌, ◌≡◌, ◌≢◌, ◌≤◌, ◌⊎◌}
 use Rattle.cdf_edits.proofs.Edits.RecordGrown as of_grown
 use Rattle.cdf_format.proofs.NameRules.{bytes_eq-same}
 use Rattle.cdf_format.proofs.Tests.{same_of_bytes_eq}
@@ -14,7 +14,7 @@ use Rattle.cdf_leaves.proofs.LeafGrown.{Roomy, State, all_taken, block_is, block
 use Rattle.cdf_leaves.proofs.NodesMore.{places, all_wider}
 use Rattle.cdf_leaves.proofs.Own.{searchable, own_order, own_node, node_fits, node_spares, node_type, now_has, now_blocks, still_sees, vdr_apart, vdr_in, vdr_kept}
 use Rattle.cdf_leaves.proofs.Spares.{Spares, fits_still, front_lies, node_inside, spares_kept, spares_linked, spares_then}
-use Rattle.cdf_leaves.proofs.SpotNode.{SpotNode, nodes_linkable, spot_node, way_apart}
+use Rattle.cdf_leaves.proofs.SpotNode.{SpotNode, room_in, spot_node, way_apart}
 use Rattle.cdf_leaves.proofs.TopChain.{TopGrown, top_grown, chain_inside, end_is_last, last_in}
 
 -- ---- an entry was put
@@ -109,7 +109,7 @@ module _ {b : List ℕ} {kind : Kind} {before : List VariableShape} {own : Varia
           }
 
       pub wide_enough : max 7 found.end.room ≤ widest (index_at b head)
-      wide_enough = rw index (omega (arith, w.sees.room_is, seven_at_least own.index, (nodes_linkable b (shape b).records 8 found.end.place own.index (has good at_own).indexed.has_nodes last_there).1))
+      wide_enough = rw index (omega (arith, w.sees.room_is, seven_at_least own.index, room_in b (shape b).records 8 found.end.place own.index (has good at_own).indexed.has_nodes last_there))
 
       among_own : Each (IsAmong own.index) found.steps.items
       among_own = rw index at w.among
@@ -178,8 +178,8 @@ module _ {b : List ℕ} {kind : Kind} {before : List VariableShape} {own : Varia
           x_lies : x + 28 ≤ length roomy
           x_lies = front_lies roomy x (node_inside roomy recs x g.sound.has_shape.tiled (there x last_there) (fits x last_there))
 
-          before : NodeNow b roomy nodes (spare x) x
-          before = old good at_own block type_is first last at r x last_there
+          x_before : NodeNow b roomy nodes (spare x) x
+          x_before = old good at_own block type_is first last at r x last_there
 
           put_done : (from n : ℕ) → 12 ≤ from → from + n ≤ 28 + 16 * room_at roomy x → Changed roomy grown (touch x from n ∷ []) → length grown ≡ length roomy
               → (SameHeads roomy grown recs recs → ((m : ℕ) → In m recs → m ≢ x → Kept roomy grown m) → MayName grown recs l → Owed roomy grown recs recs x (placed l at x)) → NodeNow b grown nodes (spare x) x → Stands
@@ -217,20 +217,20 @@ module _ {b : List ℕ} {kind : Kind} {before : List VariableShape} {own : Varia
             let less : seen.used < room_at filled x = omega (arith, s.room_is) in
             put_done r 24 (4 + 16 * room_at filled x) (omega arith) (omega arith) ins.changed ins.as_long
             (λ heads others names. grown_owed filled grown (recs r) (recs r) heads x at seen.used seen.begun l s.used_is (begins_by filled x first seen.begun s.begun) names less ins (x_lies r))
-            (fed_node (before r) (front_stays filled grown x 24 (4 + 16 * room_at filled x) ins.changed (let l = x_lies r in omega arith) 0 8 (omega arith)) ins.room_stays ins.used_is ins.count_is (omega arith) (λ i le lt. inr (omega (arith, s.used_is), ins.unused i (omega arith) lt)))
+            (fed_node (x_before r) (front_stays filled grown x 24 (4 + 16 * room_at filled x) ins.changed (let l = x_lies r in omega arith) 0 8 (omega arith)) ins.room_stays ins.used_is ins.count_is (omega arith) (λ i le lt. inr (omega (arith, s.used_is), ins.unused i (omega arith) lt)))
 
         -- ---- it is full, and a new node was made
 
-        module _ {roomy : List ℕ} {room next : ℕ} {entries : List Entry} (w : NodeMade filled roomy room next entries at) (is : new ≡ room) (seven : 7 ≤ room) where
+        module _ {roomy : List ℕ} {size next : ℕ} {entries : List Entry} (made_it : NodeMade filled roomy size next entries at) (is : new ≡ size) (seven : 7 ≤ size) where
           made_room : Roomy b filled roomy own new at (spare at)
-          made_room = made_roomy good at_own block type_is first last at w is (omega arith)
+          made_room = made_roomy good at_own block type_is first last at made_it is (omega arith)
 
           made_done : (from n : ℕ) → 12 ≤ from → from + n ≤ 28 + 16 * room_at roomy x → Changed roomy grown (touch x from n ∷ []) → length grown ≡ length roomy
               → (SameHeads roomy grown (shape roomy).records (shape roomy).records → MayName grown (shape roomy).records l → Kept roomy grown at → is_linkable grown (shape roomy).records vxr_type at ≡ true → Owed roomy grown (shape roomy).records (shape roomy).records x (placed l at x)) → NodeNow b grown nodes (spare x) x → Stands
           made_done from n behind fit changed as_long owed here =
               let f = made_room.fresh (omega arith) in
               put_done made_room from n behind fit changed as_long
-              (λ heads others names. owed heads names (others at f.stands (λ e. f.outside (rw e last_there))) (linkable-from grown (shape roomy).records vxr_type at f.stands (heads.types at f.stands ∙ w.fills.typed) (omega (arith, heads.sizes at f.stands, w.written.inside.entries)))) here
+              (λ heads others names. owed heads names (others at f.stands (λ e. f.outside (rw e last_there))) (linkable-from grown (shape roomy).records vxr_type at f.stands (heads.types at f.stands ∙ made_it.fills.typed) (omega (arith, heads.sizes at f.stands, made_it.written.inside.entries)))) here
 
         full : seen.room ≤ seen.used → new ≡ max 7 (seen.used - seen.begun)
         full le = room_full b (shape b).records first x new seen.used seen.room seen.begun spot_here w.sees.used_is w.sees.room_is le w.sees.begun
@@ -247,7 +247,7 @@ module _ {b : List ℕ} {kind : Kind} {before : List VariableShape} {own : Varia
             made_done sp.made (full le) (omega arith) 12 (16 + 16 * room_at roomy x) (omega arith) (omega arith) sh.changed sh.as_long
             (λ heads names stays link. split_owed roomy grown (recs r) (recs r) heads x at seen.used seen.begun l s.used_is (begins_by roomy x first seen.begun s.begun) names (omega (arith, s.room_is)) link
             (split sp.made.taken filled roomy grown x at (max 7 (seen.used - seen.begun)) seen.next seen.used seen.begun first last place sp.behind kept stays m.fits (omega (arith, m.used_is, m.fits.1)) (omega arith) sp.made.written sp.read m.next_is refl sh) lt)
-            (fed_node (before r) (front_stays roomy grown x 12 (16 + 16 * room_at roomy x) sh.changed (let l = x_lies r in omega arith) 0 8 (omega arith)) sh.room_stays sh.used_is sh.count_is (omega (arith, s.used_is, (fits r x last_there).1)) (λ i above below. elim (cases_lt i seen.used) [
+            (fed_node (x_before r) (front_stays roomy grown x 12 (16 + 16 * room_at roomy x) sh.changed (let l = x_lies r in omega arith) 0 8 (omega arith)) sh.room_stays sh.used_is sh.count_is (omega (arith, s.used_is, (fits r x last_there).1)) (λ i above below. elim (cases_lt i seen.used) [
               | inl less ↦ inl (sh.gone i above less, spare_old good at_own block type_is first last at x i last_there (λ n e. (r.fresh n).outside (rw (← e) last_there)) ∙ lt-leb (used_count b x) i (omega (arith, w.sees.used_is)))
               | inr more ↦ inr (omega (arith, s.used_is), sh.unused i more below)
             ]))
@@ -274,7 +274,7 @@ module _ {b : List ℕ} {kind : Kind} {before : List VariableShape} {own : Varia
               new_room = n.room_is ∙ node.room_is;
               new_used = n.used_is ∙ node.used_is;
               new_next = n.next_is ∙ node.next_is ∙ s.next_is;
-            }) (omega (arith, w.sees.used_is)))) (node_then (before r) stays)
+            }) (omega (arith, w.sees.used_is)))) (node_then (x_before r) stays)
 
         stands_now : Stands
         stands_now = elim put [ inl p ↦ with_room p.0 p.1 p.2 | inr q ↦ elim q.1 [ inl s ↦ with_split q.0 s.0 s.1 | inr c ↦ with_chain q.0 c.0 c.1 ] ]

@@ -1,5 +1,5 @@
 -- The nodes on a way are widened one by one, the last one first.
-use Rattle.cdf_leaves.proofs.Common.{AreTiles, Changed, Distinct, Each, Each-append, Each-map, HasNodes, In, Kept, List, NodeFits, NodeInside, Nodes, Step, StepStands, Touch, WayStands, Widened, WidenedAlong, arith, cases_eq, changed_then, drop, edited, fits, heads_stay, inl, inr, kept_then, leaves_of, length, map, nodes_of, nothing_changed, others_stay, refl, room_at, slice_index_or, step_pair, subst, suc, sym, tiles_same, touch, way, widen_all, wider, zero, ℕ, ◌*◌, ◌++◌, ◌+◌, ◌<◌, ◌∙◌, ◌∷◌, ◌≡◌, ◌≤◌}
+use Rattle.cdf_leaves.proofs.Common.{AreTiles, Changed, Distinct, Each, Each-append, Each-map, HasNodes, In, Kept, List, NodeFits, NodeInside, Nodes, Step, StepStands, Touch, WayStands, Widened, WidenedAlong, [], arith, cases_eq, changed_then, drop, edited, fits, has, heads_stay, inl, inr, kept_then, leaves_of, length, map, nodes_of, nothing_changed, others_stay, refl, room_at, slice_index_or, step_pair, subst, suc, sym, tiles_same, touch, widen_all, wider, zero, ℕ, ◌*◌, ◌++◌, ◌+◌, ◌<◌, ◌∙◌, ◌∷◌, ◌≡◌, ◌≤◌}
 use Rattle.cdf_index.proofs.NodeWider.{wider_owed}
 use Rattle.cdf_leaves.proofs.NodesMore.{places, all_wider}
 use Rattle.cdf_leaves.proofs.Spares.{Spares, fits_still, front_lies, kept_self, node_inside, spares_kept, spares_then, spares_widened}
@@ -30,7 +30,7 @@ abbrev pub OnWay : List ℕ → List ℕ → (ℕ → Type 0) → Step → Type 
 OnWay b records Y step = StepStands b records step × Y step.place
 
 pub along : (b now records : List ℕ) (Y : ℕ → Type 0) (last : ℕ) (steps : List Step) → AreTiles b 8 (length b) records → Each (OnWay b records Y) steps → WidenedAlong b now last (map step_pair steps) → Along b now records Y last (map step_pair steps)
-along b now records Y last [] tiled e w = rw w (record { as_long = refl; tiled = tiled; touches = []; changed = nothing_changed; within = tt; still = λ m i. spares_kept b b m (kept_self tiled i); others = λ m i out. kept_self tiled i; has = λ tree r. r.has })
+along b now records Y last [] tiled e w = rw w (record { as_long = refl; tiled = tiled; touches = []; changed = nothing_changed; within = tt; still = λ m i. spares_kept b b m (kept_self b records m tiled i); others = λ m i out. kept_self b records m tiled i; has = λ tree r. r.has })
 along b now records Y last (step ∷ more) tiled e w =
     let mid = w.0 in
     let x = step.place in
@@ -75,12 +75,12 @@ pub record IsNext (b mid : List ℕ) (step : Step) : Type 0 where
   pub room_is : step.room ≡ room_at mid step.place
   pub as_long : length mid ≡ length b
 
-pub next_step : (b mid : List ℕ) (last j k : ℕ) (steps : List Step) (none : Step) → WayStands b steps → WidenedAlong b mid last (map step_pair (drop j steps)) → k < length steps → IsNext b mid (slice_index_or steps k none)
-next_step b mid last j k steps none way w lt =
-    let records = way.records in
+pub next_step : (b mid : List ℕ) (last : ℕ) (steps : List Step) (j k : ℕ) (none : Step) → WayStands b steps → WidenedAlong b mid last (map step_pair (drop j steps)) → k < length steps → IsNext b mid (slice_index_or steps k none)
+next_step b mid last steps j k none ready w lt =
+    let records = ready.records in
     let some = λ (m : ℕ). In m records in
-    let s = along b mid records some last (drop j steps) way.tiled (Each-map (StepStands b records) (OnWay b records some) (λ step e. (e, e.there)) (drop j steps) (each_drop (StepStands b records) j steps way.stand)) w in
-    let here = each_at (StepStands b records) none k steps lt way.stand in
+    let s = along b mid records some last (drop j steps) ready.tiled (Each-map (StepStands b records) (OnWay b records some) (λ step e. (e, e.there)) (drop j steps) (each_drop (StepStands b records) j steps ready.stand)) w in
+    let here = each_at (StepStands b records) none k steps lt ready.stand in
     let place = (slice_index_or steps k none).place in
     let x = s.still place here.there here.fits in
     record { inside = node_inside mid records place s.tiled here.there (fits_still b mid place x here.fits); room_is = here.room_is ∙ sym x.room_is; as_long = s.as_long }

@@ -16,7 +16,7 @@ pub use Rattle.cdf_format.proofs.GoodSound.{good_eof, good_is_sound}
 pub use Rattle.cdf_format.specs.Records.{vdr_vxr_head, vdr_vxr_tail}
 pub use Rattle.cdf_index.proofs.ByLeaf.{in_nodes_with_leaf, node_stays, nodes_with_leaf}
 pub use Rattle.cdf_index.proofs.Coming.{Comes, comes, comes_along, comes_below, comes_first, comes_here}
-pub use Rattle.cdf_index.proofs.Common.{Field, Begins, Begun, Bool, EntriesRead, Entry, Good, HasIndex, Inserted, IsAmong, IsNode, Keeps, Kept, Kind, List, MayName, NodeInside, NodeWritten, Owed, R, SameHeads, SeesNode, Shortened, Some, Spot, StandsAmong, Stays, Step, StepSays, StillSays, Takes, Widened, Z, [], ap, apart, ap₂, arith, cases_eq, cases_lt, chain_reaches, content, drop, edit_more, eof, eqb, eqb-true, false, first_at, gdr_type, good_by_its_shape, in-times, index_at, inl, inr, leads_down, leaf, leb, length, long, ltb, map, max, nodes_stand, on_ok_weaker, past, placed, read_more, read_once, redone, refl, room_of_new, rules, shape, some_place, sound, step_pair, subst, suc, sym, tile, times, times-once, true, type_in, uir_type, used_count, variables_chain, vdrs, vvr_type, vxr_bytes, vxr_n_used_entries, vxr_vxr_next, widen_all, widened, wider, with_block, with_both, with_entry, with_new, zero, ℕ, ◌*◌, ◌++◌, ◌+◌, ◌-◌, ◌<◌, ◌^◌, ◌∙◌, ◌∷◌, ◌≡◌, ◌≢◌, ◌≤◌, ◌⊎◌}
+pub use Rattle.cdf_index.proofs.Common.{Begins, Begun, Bool, EntriesRead, Field, Good, HasIndex, Inserted, IsAmong, IsNode, Keeps, Kept, Kind, List, MayName, NodeInside, NodeWritten, Owed, R, SameHeads, SeesNode, Shortened, Some, StandsAmong, Stays, StepSays, StillSays, Takes, Widened, Z, [], ap, apart, ap₂, arith, cases_eq, cases_lt, chain_reaches, content, drop, edit_more, eof, eqb, eqb-true, false, first_at, gdr_type, good_by_its_shape, in-times, index_at, inl, inr, leads_down, leaf, leb, length, long, ltb, map, max, nodes_stand, on_ok_weaker, past, placed, read_more, read_once, redone, refl, room_of_new, rules, shape, some_place, sound, step_pair, subst, suc, sym, tile, times, times-once, true, type_in, uir_type, used_count, variables_chain, vdrs, vvr_type, vxr_bytes, vxr_n_used_entries, vxr_vxr_next, widen_all, widened, wider, with_block, with_both, with_entry, with_new, zero, ℕ, ◌*◌, ◌++◌, ◌+◌, ◌-◌, ◌<◌, ◌^◌, ◌∙◌, ◌∷◌, ◌≡◌, ◌≢◌, ◌≤◌, ◌⊎◌}
 unfoldable pub use Rattle.cdf_index.proofs.Common.{HasNodes, Names, entry_leaves, leaves_of, lower_nodes, new_room, nodes_of, redo, redo_below, way, with_leaf}
 pub use Rattle.cdf_index.proofs.FieldSet.{FieldSet, changed_again, changed_wider, counts, entries_beside, field_set, room_beside, size_beside}
 pub use Rattle.cdf_index.proofs.Inserting.{front_stays, nothing_changed, room_stays, used_stays}
@@ -28,6 +28,9 @@ pub use Rattle.cdf_index.proofs.WayDown.{apart_by, below_once, below_times, made
 pub use Rattle.cdf_index.specs.Adding.{AddsLeaf, Counts, IndexTouch, LeafAdded, NodeTaken, TailGoesOn, leaf_acts}
 pub use Rattle.cdf_index.specs.Way.{spot}
 pub use Rattle.cdf_index.specs.Writing.{SaysUnused}
+pub use Rattle.cdf_index.specs.declared.descending.Spot.{Spot}
+pub use Rattle.cdf_index.specs.declared.descending.Step.{Step}
+pub use Rattle.cdf_index.specs.declared.entries.Entry.{Entry}
 pub use Rattle.cdf_leaves.specs.Added.{IsStep, IsWay, entry}
 pub use Rattle.cdf_leaves.specs.Putting.{ChainMade, EntryPut, IndexStarted, MayPut, NodeMade, SplitMade}
 pub use Rattle.cdf_leaves.specs.Tail.{ChainInside, chain_end}

@@ -1,5 +1,5 @@
 -- A leaf more in an index, from the image in which its block was placed: what was done step by step is what a leaf more makes of the image.
-use Rattle.cdf_leaves.proofs.Common.{AreTiles, Bool, Changed, Counts, Distinct, Each, Each-append, Entry, FieldSet, Good, Grew, HasNodes, In, IndexTouch, Kept, Kind, Leaf, LeafAdded, List, MayName, Names, NodeFits, NodeMade, NodeTaken, Nodes, Placed, SaysNode, StandsAmong, TailGoesOn, Touch, UnusedEntries, VariableShape, ap, arith, block, changed_again, changed_then, changed_wider, counts, entry, false, field_set, fills, fits, gdr_type, grew, grew_none, grew_then, heads_stay, image_limit, in_nodes_with_leaf, inl, inr, leaf, leaf_acts, leaves_of, leb, length, link_to, linkable-from, linkable-in, long, made, new_room, no_entry, no_node, nodes_kept, nodes_of, nothing_changed, number, others_stay, record_number_limit, refl, shape, size_at, size_kept, some_place, sound, subst, suc, sym, tile_lies, touch, type_at, type_kept, type_of_body, uir_type, unlike, used_count, vdr_vxr_head, vdr_vxr_tail, vvr_type, vxr_type, with_block, with_field, with_leaf, zero, ℕ, ◌++◌, ◌+◌, ◌<◌, ◌^◌, ◌∙◌, ◌∷◌, ◌≡◌, ◌≢◌, ◌≤◌}
+use Rattle.cdf_leaves.proofs.Common.{AreTiles, Bool, Changed, Counts, Distinct, Each, Each-append, Entry, FieldSet, Good, Grew, HasNodes, In, IndexTouch, Kept, Kind, Leaf, LeafAdded, List, MayName, Names, NodeFits, NodeMade, NodeTaken, Nodes, Placed, SaysNode, StandsAmong, TailGoesOn, Touch, UnusedEntries, VariableShape, [], ap, apart, arith, block, changed_again, changed_then, changed_wider, counts, each, entry, false, field_set, fills, fits, gdr_type, grew, grew_none, grew_then, has, heads_stay, image_limit, in_nodes_with_leaf, inl, inr, leaf, leaf_acts, leaves_of, leb, length, link_to, linkable-from, linkable-in, long, made, new_room, no_entry, no_node, node, nodes_kept, nodes_of, nothing_changed, number, others_stay, record_number_limit, refl, shape, size_at, size_kept, some_place, sound, stands, subst, suc, sym, tile_lies, touch, type_at, type_kept, type_of_body, uir_type, unlike, used_count, vdr_vxr_head, vdr_vxr_tail, vvr_type, vxr_type, with_block, with_field, with_leaf, zero, ℕ, ◌++◌, ◌+◌, ◌<◌, ◌^◌, ◌∙◌, ◌∷◌, ◌≡◌, ◌≢◌, ◌≤◌}
 use Rattle.cdf_index.proofs.LeafMore.{leaves_more}
 use Rattle.cdf_leaves.proofs.Grown.{NodeNow, names_leaf, new_node, node_then, old_node, was, was_new, was_old}
 use Rattle.cdf_leaves.proofs.NodesMore.{places}

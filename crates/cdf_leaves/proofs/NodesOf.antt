@@ -1,5 +1,5 @@
 -- The nodes and the blocks of an index with a leaf more.
-use Rattle.cdf_leaves.proofs.Common.{Distinct, In, Leaf, List, Nodes, arith, cases_eq, cases_lt, distinct_if, each, either, in-times, inl, inr, ltb, nat_tests, new_room, nodes_of, nodes_with_leaf, times, times-once, with_leaf, with_new, ℕ, ◌<◌, ◌∷◌, ◌≡◌, ◌≤◌, ◌⊎◌}
+use Rattle.cdf_leaves.proofs.Common.{Distinct, In, Leaf, List, Nodes, [], arith, cases_eq, cases_lt, distinct_if, either, in-times, inl, inr, ltb, nat_tests, new_room, nodes_of, nodes_with_leaf, times, times-once, with_leaf, with_new, ℕ, ◌<◌, ◌∷◌, ◌≡◌, ◌≤◌, ◌⊎◌}
 use Rattle.cdf_leaves.proofs.NodesMore.{places}
 
 pub in_new : (l : Leaf) (m : ℕ) (ls : List Leaf) → In m (places (with_new l ls)) → (m ≡ l.place) ⊎ In m (places ls)

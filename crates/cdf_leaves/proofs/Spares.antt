@@ -43,8 +43,8 @@ spares_widened mid now m i last w lies used = record {
 }
 
 -- a record of which nothing was written
-pub kept_self : {b records : List ℕ} {m : ℕ} → AreTiles b 8 (length b) records → In m records → Kept b b m
-kept_self {b = b} {records = records} {m = m} tiled i = let l = tile_lies b 8 (length b) records m tiled i in record { same = record { each = λ n a u. refl }; inside = l.high; long = l.long }
+pub kept_self : (b records : List ℕ) (m : ℕ) → AreTiles b 8 (length b) records → In m records → Kept b b m
+kept_self b records m tiled i = let l = tile_lies b 8 (length b) records m tiled i in record { same = record { each = λ n a u. refl }; inside = l.high; long = l.long }
 
 -- where it stands
 pub node_inside : (b records : List ℕ) (m : ℕ) → AreTiles b 8 (length b) records → In m records → NodeFits b m → NodeInside b m
