@@ -1,5 +1,5 @@
 -- What the calls ask for that add a leaf, and what they leave.
-use Rattle.cdf_leaves.proofs.Common.{AddsLeaf, AreTiles, Bool, ChainInside, ChainMade, Changed, Comes, Distinct, Each, Each-append, Each-map, Entry, EntryPut, Field, FieldSet, Good, Grew, HasIndex, HasNodes, In, IndexStarted, IndexTouch, Inserted, IsAmong, IsWay, Kept, Kind, Leaf, List, MayName, MayPut, NodeFits, NodeMade, Nodes, Owed, Placed, SameHeads, SplitMade, Spot, StandsAmong, Step, StepSays, StepStands, VariableShape, WayStands, WidenedAlong, [], ap, apart, arith, begins_by, block, bytes_eq, cases_eq, cases_lt, chain_end, changed_then, changed_wider, comes, each, either, entries_beside, entry, eof, false, field_set, front_stays, gdr_offset, gdr_type, grew, has, heads_stay, image_limit, index_at, inl, inr, is_linkable, kept_then, last_node, leaf, leaves_of, length, link_to, linkable-from, long, lt-leb, made, map, max, new_room, no_zero, node, nodes_of, nothing_changed, number, number_kept, others_stay, placed, record_number_limit, redo, redone, refl, room_at, room_stays, same_node, shape, size_at, sound, spot, step_pair, subst, sym, tile, tile_lies, tiles_same, top_chain, touch, true, type_of_body, typed, uir_type, used_count, variables, vdr_vxr_head, vdr_vxr_tail, vdrs, vvr_type, vxr_bytes, vxr_type, vxr_vxr_next, way, widen_all, widened, widest, with_field, with_leaf, ℕ, ◌*◌, ◌++◌, ◌+◌, ◌-◌, ◌<◌, ◌∙◌, ◌∷◌, ◌≡◌, ◌≢◌, ◌≤◌, ◌⊎◌}
+use Rattle.cdf_leaves.proofs.Common.{AddsLeaf, AreTiles, Bool, ChainInside, ChainMade, Changed, Comes, Distinct, Each, Each-append, Each-map, Entry, EntryPut, Field, FieldSet, Good, Grew, HasIndex, HasNodes, In, IndexStarted, IndexTouch, Inserted, IsAmong, IsWay, Kept, Kind, Leaf, List, MayName, MayPut, NodeFits, NodeMade, Nodes, Owed, Placed, SameHeads, SplitMade, Spot, StandsAmong, Step, StepSays, StepStands, VariableShape, WayStands, WidenedAlong, [], ap, apart, arith, begins_by, bytes_eq, cases_eq, cases_lt, chain_end, changed_then, changed_wider, comes, either, entries_beside, entry, eof, false, field_set, front_stays, gdr_offset, gdr_type, grew, has, heads_stay, image_limit, index_at, inl, inr, is_linkable, kept_then, last_node, leaf, leaves_of, length, link_to, linkable-from, long, lt-leb, made, map, max, new_room, no_zero, nodes_of, nothing_changed, number, number_kept, others_stay, placed, record_number_limit, redo, redone, refl, room_at, same_node, shape, size_at, sound, spot, step_pair, subst, sym, tile, tile_lies, tiles_same, top_chain, touch, true, type_of_body, uir_type, used_count, variables, vdr_vxr_head, vdr_vxr_tail, vdrs, vvr_type, vxr_bytes, vxr_type, vxr_vxr_next, way, widen_all, widest, with_field, with_leaf, ℕ, ◌*◌, ◌++◌, ◌+◌, ◌-◌, ◌<◌, ◌∙◌, ◌∷◌, ◌≡◌, ◌≢◌, ◌≤◌, ◌⊎◌}
 use Rattle.cdf_edits.proofs.Edits.RecordGrown as of_grown
 use Rattle.cdf_format.proofs.NameRules.{bytes_eq-same}
 use Rattle.cdf_format.proofs.Tests.{same_of_bytes_eq}
@@ -375,5 +375,9 @@ module _ {b : List ℕ} {kind : Kind} {before : List VariableShape} {own : Varia
               let in_records = λ (m : ℕ) (i : In m (nodes_of after_leaf)). (stand good at_own block type_is first last at r m i).0 in
               let end = ap (chain_end (length wide) wide) (head_is ∙ link_is) ∙ end_is_last wide now_records state.tiled 8 after_leaf state.has top.is_node (once_every good at_own block type_is first last at r) in_records in
               let small = (tile_lies wide 8 (length wide) now_records (last_node after_leaf) state.tiled (in_records (last_node after_leaf) (last_in after_leaf top.is_node))).high in
-              record { place = place; at = at; added = leaf_added good at_own block type_is first last at r state (changed_wider 28 16 set.changed (omega arith) (omega arith)) set.as_long
-              (set.past (own.vdr + 28) 8 (inl (omega arith)) ∙ vdr_field vdr_vxr_head (omega arith) ∙ link_is) (rw longer (set.reads (omega (arith, end, small, state.as_long, stands_now.state.as_long, grown_short)) ∙ end)) }
+              record {
+                place = place;
+                at = at;
+                added = leaf_added good at_own block type_is first last at r state (changed_wider 28 16 set.changed (omega arith) (omega arith)) set.as_long
+                    (set.past (own.vdr + 28) 8 (inl (omega arith)) ∙ vdr_field vdr_vxr_head (omega arith) ∙ link_is) (rw longer (set.reads (omega (arith, end, small, state.as_long, stands_now.state.as_long, grown_short)) ∙ end));
+              }

@@ -1,5 +1,5 @@
 -- A node of an index that gets a leaf, from the image in which nothing was done: what holds of it by now.
-use Rattle.cdf_leaves.proofs.Common.{Begun, Bool, Counts, Each, Entry, EntryIs, In, Leaf, List, MayName, NodeFits, NodeWritten, SaysEntry, SaysUnused, StillSays, arith, begins_by, each_in, entry_past, false, fits, inl, inr, is_in-true, is_taken_at, le-leb, leaf_acts, leb, max, nat_tests, no_node, not, number, refl, room_at, size_at, subst, suc, true, type_at, used_count, vvr_type, vxr_n_used_entries, was_unused, zero, ℕ, ◌&&◌, ◌-◌, ◌<◌, ◌∙◌, ◌≡◌, ◌≢◌, ◌≤◌, ◌⊎◌}
+use Rattle.cdf_leaves.proofs.Common.{Begun, Bool, Counts, Each, Entry, EntryIs, In, Leaf, List, MayName, NodeFits, NodeWritten, SaysEntry, SaysUnused, StillSays, arith, begins_by, each_in, entry_past, false, fits, inl, inr, is_in-true, is_taken_at, le-leb, leaf_acts, leb, max, nat_tests, not, number, refl, room_at, size_at, subst, suc, true, type_at, used_count, vvr_type, vxr_n_used_entries, was_unused, zero, ℕ, ◌&&◌, ◌-◌, ◌<◌, ◌∙◌, ◌≡◌, ◌≢◌, ◌≤◌, ◌⊎◌}
 use Rattle.cdf_leaves.proofs.Spares.{Spares, fits_still}
 use Rattle.cdf_leaves.proofs.SpotNode.{SpotNode}
 

@@ -1,11 +1,11 @@
 -- A leaf more in an index, from the image in which its block was placed: what was done step by step is what a leaf more makes of the image.
-use Rattle.cdf_leaves.proofs.Common.{AreTiles, Bool, Changed, Counts, Distinct, Each, Each-append, Entry, FieldSet, Good, Grew, HasNodes, In, IndexTouch, Kept, Kind, Leaf, LeafAdded, List, MayName, Names, NodeFits, NodeMade, NodeTaken, Nodes, Placed, SaysNode, StandsAmong, TailGoesOn, Touch, UnusedEntries, VariableShape, [], ap, apart, arith, block, changed_again, changed_then, changed_wider, counts, each, entry, false, field_set, fills, fits, gdr_type, grew, grew_none, grew_then, has, heads_stay, image_limit, in_nodes_with_leaf, inl, inr, leaf, leaf_acts, leaves_of, leb, length, link_to, linkable-from, linkable-in, long, made, new_room, no_entry, no_node, node, nodes_kept, nodes_of, nothing_changed, number, others_stay, record_number_limit, refl, shape, size_at, size_kept, some_place, sound, stands, subst, suc, sym, tile_lies, touch, type_at, type_kept, type_of_body, uir_type, unlike, used_count, vdr_vxr_head, vdr_vxr_tail, vvr_type, vxr_type, with_block, with_field, with_leaf, zero, ℕ, ◌++◌, ◌+◌, ◌<◌, ◌^◌, ◌∙◌, ◌∷◌, ◌≡◌, ◌≢◌, ◌≤◌}
+use Rattle.cdf_leaves.proofs.Common.{AreTiles, Bool, Changed, Counts, Distinct, Each, Each-append, Entry, FieldSet, Good, Grew, HasNodes, In, IndexTouch, Kept, Kind, Leaf, LeafAdded, List, MayName, Names, NodeFits, NodeMade, NodeTaken, Nodes, Placed, SaysNode, StandsAmong, TailGoesOn, Touch, UnusedEntries, VariableShape, [], ap, apart, arith, changed_again, changed_then, changed_wider, each, entry, false, field_set, gdr_type, grew, grew_none, grew_then, has, heads_stay, image_limit, in_nodes_with_leaf, inl, inr, leaf, leaf_acts, leaves_of, leb, length, link_to, linkable-from, linkable-in, long, made, new_room, no_entry, no_node, node, nodes_kept, nodes_of, nothing_changed, number, others_stay, record_number_limit, refl, shape, size_at, size_kept, some_place, sound, stands, subst, suc, sym, tile_lies, touch, type_at, type_kept, type_of_body, uir_type, unlike, used_count, vdr_vxr_head, vdr_vxr_tail, vvr_type, vxr_type, with_block, with_field, with_leaf, zero, ℕ, ◌++◌, ◌+◌, ◌<◌, ◌^◌, ◌∙◌, ◌∷◌, ◌≡◌, ◌≢◌, ◌≤◌}
 use Rattle.cdf_index.proofs.LeafMore.{leaves_more}
 use Rattle.cdf_leaves.proofs.Grown.{NodeNow, names_leaf, new_node, node_then, old_node, was, was_new, was_old}
 use Rattle.cdf_leaves.proofs.NodesMore.{places}
 use Rattle.cdf_leaves.proofs.NodesOf.{in_new, all_once}
-use Rattle.cdf_leaves.proofs.Own.{no_type, node_fits, node_spares, node_type, now_blocks, own_node, own_order, vdr_apart, vdr_in, vdr_kept, vdr_used}
-use Rattle.cdf_leaves.proofs.Spares.{Spares, spares_kept}
+use Rattle.cdf_leaves.proofs.Own.{node_fits, node_spares, node_type, now_blocks, own_node, own_order, vdr_apart, vdr_in, vdr_kept, vdr_used}
+use Rattle.cdf_leaves.proofs.Spares.{spares_kept}
 
 -- a record that was taken became a node
 pub record IsNew (b roomy : List ℕ) (own : VariableShape) (was : ℕ → Bool) (at : ℕ) : Type 0 where
