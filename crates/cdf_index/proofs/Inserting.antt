@@ -77,9 +77,6 @@ pub record Shifted (b now : List ℕ) (at used moved : ℕ) : Type 0 where
 pub nothing_changed : {b : List ℕ} {ts : List Touch} → Changed b b ts
 nothing_changed = record { longer = omega arith; same = λ i lt o. refl }
 
-pub shift_start : (b : List ℕ) (at used : ℕ) → Shifted b b at used 0
-shift_start b at used = record { as_long = refl; changed = nothing_changed; stay = λ j le f l o s. s; moved_on = λ j le lt. absurd (omega arith); unused = λ j lt room f l o s. s }
-
 -- what two sayings of one entry have in common
 pub still_it : {b now : List ℕ} {at to i j first last offset : ℕ} → SaysEntry b at i first last offset → SaysEntry now to j first last offset → (f l o : ℕ) → SaysEntry b at i f l o → SaysEntry now to j f l o
 still_it r s f l o t = record { first_is = s.first_is ∙ sym r.first_is ∙ t.first_is; last_is = s.last_is ∙ sym r.last_is ∙ t.last_is; offset_is = s.offset_is ∙ sym r.offset_is ∙ t.offset_is }

@@ -1,7 +1,7 @@
 -- The leaves of an index with one leaf more.
 use Rattle.cdf_index.proofs.Common.{AreInOrder, Bool, Each, Each-append, Entries, InOrder, Leaf, List, Nodes, [], ap, append_assoc, arith, block, chain_reaches, either, entry_leaves, false, inl, inr, leads_down, leaves_of, leb, leb-false, leb-true, lower, map, max, nat_tests, no_entry, no_node, node, or_parts, past, past_entries, range, reaches, refl, subst, suc, sym, true, true≢false, upto, with_block, with_both, with_entry, with_leaf, with_new, with_range, ℕ, ◌++◌, ◌<◌, ◌∙◌, ◌∷◌, ◌≡◌, ◌≤◌}
 use Rattle.cdf_index.proofs.Coming.{Comes, comes, comes_along, comes_below, comes_first, comes_here, chain_reaches_from, leads_none, not_reached, reaches_from}
-use Rattle.cdf_index.proofs.OrderLemmas.{Within, leaves_within, end_after, InRange}
+use Rattle.cdf_index.proofs.OrderLemmas.{Within, entries_within, leaves_within, end_after, InRange}
 use Rattle.cdf_index.proofs.Saying.{front, front_past, upto_both, both_none, no_entries}
 use Rattle.cdf_edits.proofs.Edits.VariableFrame.{Each-map}
 
@@ -75,44 +75,34 @@ none_reached f low high no_entry o = refl
 none_reached f low high (block first last place packed es) o = grind (arith, nat_tests, none_reached f (suc last) high es o.3, not_reached f (suc last) high es o.3, o.1)
 none_reached f low high (lower first last nodes es) o = grind (arith, nat_tests, none_reached f (suc last) high es o.4, not_reached f (suc last) high es o.4, o.1)
 
-later_past : (f low high : ℕ) (es : Entries) → AreInOrder low high es → BeginPast f (entry_leaves (past f es))
-later_past f low high es o =
-    entries_past f (past_entries low (front f es)) high (past f es) (parts_in_order low high (front f es) (past f es) (subst (AreInOrder low high) (sym (front_past f es)) o)).1 (none_reached f low high es o)
-
--- where the last entry of those that reach a record names a block, all leaves of these begin by then
-front_by : (f low high : ℕ) (given : Bool) (es : Entries) → AreInOrder low high es → leads_down f given es ≡ false → BeginBy f (entry_leaves (front f es))
-unfolding AreInOrder leaves_of entry_leaves
-front_by f low high given no_entry o t = tt
-front_by f low high given (block first last place packed es) o t = elim (either (leb first f)) [
-  | inl s ↦ let d : leads_down f false es ≡ false = rw s at t in rw s (leb-true first f s, front_by f (suc last) high false es o.3 d)
-  | inr s ↦ rw s tt
-]
-front_by f low high given (lower first last nodes es) o t = elim (either (leb first f)) [
-  | inl s ↦
-      let d : leads_down f true es ≡ false = rw s at t in
-      let e = reaches_from f (suc last) high es o.4 (reached d) in
-      rw s (Each-append (λ (x : Leaf). x.first ≤ f) (leaves_of nodes) (entry_leaves (front f es)) (within_by f first last (leaves_of nodes) (leaves_within first last nodes o.3) (omega arith)) (front_by f (suc last) high true es o.4 d))
-  | inr s ↦ rw s tt
-]
-  where
-    reached : leads_down f true es ≡ false → reaches f es ≡ true
-    reached d = elim (either (reaches f es)) [ inl r ↦ r | inr r ↦ absurd (true≢false (sym (leads_none f true es r) ∙ d)) ]
-
 -- ---- a node, or it and a new one
 
-leaves_upto : (l : Leaf) (es fs : Entries) → entry_leaves (with_both (upto l es) fs) ≡ entry_leaves (front l.first es) ++ l ∷ entry_leaves fs
-unfolding leaves_of entry_leaves
-leaves_upto l es fs = ap entry_leaves (upto_both l es fs) ∙ leaves_both (front l.first es) (with_block l fs)
-
-leaves_with_entry : (l : Leaf) (at place room : ℕ) (es : Entries) (more : Nodes) → leaves_of (with_entry l at place room es more) ≡ entry_leaves (front l.first es) ++ l ∷ (entry_leaves (past l.first es) ++ leaves_of more)
+leaves_with_entry : (l : Leaf) (at place room : ℕ) (es : Entries) (more : Nodes) → leaves_of (with_entry l at place room es more) ≡ entry_leaves (with_both (upto l es) (past l.first es)) ++ leaves_of more
 unfolding leaves_of entry_leaves
 leaves_with_entry l at place room es more =
     let f = front l.first es in
     let p = past l.first es in
-    grind (arith, leaves_upto l es p, leaves_upto l es no_entry, both_none (upto l es), both_none f, front_past l.first es, no_entries p, append_assoc (entry_leaves f) (l ∷ entry_leaves p) (leaves_of more), append_assoc (entry_leaves f) (l ∷ []) (entry_leaves p ++ leaves_of more))
+    let u = upto l es in
+    grind (arith, leaves_both u p, leaves_both f (with_block l no_entry), upto_both l es no_entry, both_none u, both_none f, front_past l.first es, no_entries p, append_assoc (entry_leaves u) (entry_leaves p) (leaves_of more), append_assoc (entry_leaves f) (l ∷ []) (leaves_of more))
 
-leaves_parts : (f : ℕ) (es : Entries) → entry_leaves es ≡ entry_leaves (front f es) ++ entry_leaves (past f es)
-leaves_parts f es = ap entry_leaves (sym (front_past f es)) ∙ leaves_both (front f es) (past f es)
+-- where the last entry of those that reach a record names a block, the leaf goes behind them
+here_new : (l : Leaf) (low high : ℕ) (given : Bool) (es : Entries) → AreInOrder low high es → leads_down l.first given es ≡ false → with_new l (entry_leaves es) ≡ entry_leaves (with_both (upto l es) (past l.first es))
+unfolding AreInOrder leaves_of entry_leaves
+here_new l low high given no_entry o t = refl
+here_new l low high given (block first last place packed es) o t = grind (arith, nat_tests, here_new l (suc last) high false es o.3, t)
+here_new l low high given (lower first last nodes es) o t = elim (either (leb first l.first)) [
+  | inl s ↦
+      let d : leads_down l.first true es ≡ false = rw s at t in
+      let e = reaches_from l.first (suc last) high es o.4 (reached d) in
+      rw s (new_behind l (leaves_of nodes) (entry_leaves es) (within_by l.first first last (leaves_of nodes) (leaves_within first last nodes o.3) (omega arith)) ∙ ap (λ (xs : List Leaf). leaves_of nodes ++ xs) (here_new l (suc last) high true es o.4 d))
+  | inr s ↦
+      let past_it = leb-false first l.first s in
+      let all = Each-append (λ (x : Leaf). l.first < x.first) (leaves_of nodes) (entry_leaves es) (within_past l.first first last (leaves_of nodes) (leaves_within first last nodes o.3) past_it) (within_past l.first (suc last) high (entry_leaves es) (entries_within (suc last) high es o.4) (omega (arith, past_it, o.1))) in
+      rw s (new_first l (leaves_of nodes ++ entry_leaves es) all)
+]
+  where
+    reached : leads_down l.first true es ≡ false → reaches l.first es ≡ true
+    reached d = elim (either (reaches l.first es)) [ inl r ↦ r | inr r ↦ absurd (true≢false (sym (leads_none l.first true es r) ∙ d)) ]
 
 -- entries before a chain that reaches a record
 chain_by : (f low high : ℕ) (es : Entries) → AreInOrder low high es → past_entries low es ≤ f → BeginBy f (entry_leaves es)
@@ -140,11 +130,7 @@ leaves_come {l = l} (comes_below {more = more} fs first last nodes nodes' es t l
     let all = leaves_of nodes ++ entry_leaves es in
     rw (leaves_both fs (lower first last nodes es), leaves_both fs (lower first (max last l.last) nodes' es), new_before l (entry_leaves fs ++ all) (leaves_of more) later, new_behind l (entry_leaves fs) all before, new_before l (leaves_of nodes) (entry_leaves es) behind, inner) refl
 leaves_come {l = l} {at = at} (comes_here {place = place} {room = room} {es = es} {more = more} t d) low high o =
-    let later = nodes_past l.first (past_entries low es) high more o.1 t in
-    let old = front_by l.first low high false es o.0 d in
-    let new = new_first l (entry_leaves (past l.first es)) (later_past l.first low high es o.0) in
-    let parts : with_new l (entry_leaves es) ≡ entry_leaves (front l.first es) ++ l ∷ entry_leaves (past l.first es) = ap (with_new l) (leaves_parts l.first es) ∙ rw (new_behind l (entry_leaves (front l.first es)) (entry_leaves (past l.first es)) old, new) refl in
-    rw (leaves_with_entry l at place room es more, new_before l (entry_leaves es) (leaves_of more) later, parts) (sym (append_assoc (entry_leaves (front l.first es)) (l ∷ entry_leaves (past l.first es)) (leaves_of more)))
+    rw (leaves_with_entry l at place room es more, new_before l (entry_leaves es) (leaves_of more) (nodes_past l.first (past_entries low es) high more o.1 t), here_new l low high false es o.0 d) refl
 
 pub leaves_more : (l : Leaf) (at low high : ℕ) (ns : Nodes) → InOrder low high ns → leaves_of (with_leaf l at ns) ≡ with_new l (leaves_of ns)
 leaves_more l at low high ns o = leaves_come (comes l at low high ns o) low high o

@@ -44,8 +44,5 @@ module _ (b taken : List ℕ) (room place : ℕ) (sound : IsSound b (shape b)) (
     pub node_sound : IsSound now (shape now)
     node_sound = subst (IsSound now) (sym shape_now) filled.0
 
-    pub node_content : content now ≡ content b
-    node_content = filled.1 ∙ stays
-
     pub node_short : length now ≤ length b + vxr_bytes room
     node_short = let l = taken_short in let e = w.as_long in omega arith

@@ -1,5 +1,5 @@
 -- A node with one entry more, or it and a new node behind it, in the tree.
-use Rattle.cdf_index.proofs.Common.{Begins, Chained, Entries, HasNodes, Inserted, IsNode, Leaf, List, MayName, Names, Nodes, Owed, SameHeads, SayEntries, SaysNode, Split, StillSays, ap, arith, either, entry_count, eqb, inl, inr, is_linkable, le-ltb, length, link_to, linkable_kept, lt-ltb, ltb, max, no_entry, node, past, placed, room_at, suc, sym, true, used_count, vxr_type, with_block, with_both, ℕ, ◌*◌, ◌+◌, ◌-◌, ◌<◌, ◌∙◌, ◌≡◌, ◌≤◌}
+use Rattle.cdf_index.proofs.Common.{Begins, Chained, Entries, HasNodes, Inserted, IsNode, Leaf, List, MayName, Names, Nodes, Owed, SameHeads, SayEntries, SaysEntry, SaysNode, Split, StillSays, ap, arith, either, entry_count, eqb, inl, inr, is_linkable, le-ltb, length, link_to, linkable_kept, lt-ltb, ltb, max, next_of, no_entry, node, past, placed, room_at, suc, sym, true, used_count, vxr_type, with_block, with_both, ℕ, ◌*◌, ◌+◌, ◌-◌, ◌<◌, ◌∙◌, ◌≡◌, ◌≤◌}
 use Rattle.cdf_index.proofs.Inserting.{front_stays}
 use Rattle.cdf_index.proofs.Saying.{front, front_past, upto_both, upto_is, count_both, say_both, say_parts, names_both, names_parts, say_moved}
 use Rattle.std.proofs.lemmas.Bool.{ne_eqb, eq-eqb}
@@ -12,10 +12,6 @@ leaf_names : (now records : List ℕ) (levels : ℕ) (l : Leaf) (es : Entries) �
 unfolding Names
 leaf_names now records levels l es k n = (k.no_node, k.packed_is, n)
 
-leaf_alone : (now records : List ℕ) (levels : ℕ) (l : Leaf) → MayName now records l → Names now records levels (with_block l no_entry)
-unfolding Names
-leaf_alone now records levels l k = (k.no_node, k.packed_is, tt)
-
 -- the entries before a new one and those behind it, as the node says them
 record Parts (b now records : List ℕ) (levels at f used p : ℕ) (es : Entries) : Type 0 where
   pub front_count : entry_count (front f es) ≡ p
@@ -24,6 +20,7 @@ record Parts (b now records : List ℕ) (levels at f used p : ℕ) (es : Entries
   pub say_front : SayEntries b at 0 (front f es)
   pub say_past : SayEntries b at p (past f es)
   pub names_front : Names now records levels (front f es)
+  pub names_none : Names now records levels no_entry
   pub names_past : Names now records levels (past f es)
 
 pub placed_link : (l : Leaf) (new at room : ℕ) (es : Entries) (more : Nodes) → link_to (placed l new at room es more) ≡ at
@@ -47,16 +44,25 @@ module _ (b now records records' : List ℕ) (heads : SameHeads b now records re
       let k = names_parts now records' levels fr bk (rw whole n) in
       let z : 0 + entry_count fr ≡ p = omega arith in
       let all = sym (used_is ∙ h.used_is) in
-      record { front_count = omega arith; count = e ∙ all; all = all; say_front = q.0; say_past = rw z at q.1; names_front = k.0; names_past = k.1 }
+      record { front_count = omega arith; count = e ∙ all; all = all; say_front = q.0; say_past = rw z at q.1; names_front = k.0; names_none = (names_parts now records' levels no_entry es n).0; names_past = k.1 }
 
   linked : (r : ℕ) (es : Entries) (more : Nodes) → SaysNode b records at r es more → is_linkable now records' vxr_type at ≡ true
   linked r es more h = linkable_kept b now records records' heads vxr_type at h.linkable
 
-  -- the first of these entries, which stay, and others behind them
-  say_on : (k : ℕ) (fr es : Entries) → SayEntries b at 0 fr → entry_count fr ≡ k → ((j : ℕ) → j < k → StillSays b now at j j) → SayEntries now at k es → SayEntries now at 0 (with_both fr es)
-  say_on k fr es s e still t =
-      let z : k ≡ 0 + entry_count fr = omega arith in
-      say_both now at 0 fr es (say_moved b now at at 0 0 fr s (λ j f o w lt says. still (0 + j) (omega arith) f o w says)) (rw z at t)
+  -- the node with the first of its entries, which stay, then the leaf, and others behind it
+  fed_has : (levels r : ℕ) (es : Entries) (more : Nodes) → SaysNode b records at r es more → Parts b now records' levels at l.first used p es → (rest : Entries) (behind : Nodes) → next_of now at ≡ link_to behind → room_at now at ≡ room_at b at → used_count now at ≡ suc p + entry_count rest
+      → ((j : ℕ) → j < p → StillSays b now at j j) → SaysEntry now at p l.first l.last l.place → SayEntries now at (suc p) rest → Names now records' levels rest → HasNodes now records' (suc levels) behind → HasNodes now records' (suc levels) (node at r (with_both (front l.first es) (with_block l rest)) behind)
+  fed_has levels r es more h q rest behind next room used earlier here say n m =
+      let fr = front l.first es in
+      let z : p ≡ 0 + entry_count fr = omega (arith, q.front_count) in
+      let first = say_moved b now at at 0 0 fr q.say_front (λ j f o w lt says. earlier (0 + j) (omega (arith, q.front_count)) f o w says) in
+      node_has now records' levels at r (with_both fr (with_block l rest)) behind (record {
+        linkable = linked r es more h;
+        next_is = next;
+        room_is = room ∙ h.room_is;
+        used_is = used ∙ omega (arith, q.front_count, count_both fr (with_block l rest));
+        say_entries = say_both now at 0 fr (with_block l rest) first (rw (← z) (here, say));
+      }) (names_both now records' levels fr (with_block l rest) q.names_front (leaf_names now records' levels l rest names n)) m
 
   -- ---- a node with room
 
@@ -68,17 +74,10 @@ module _ (b now records records' : List ℕ) (heads : SameHeads b now records re
       is_node = placed_node l new at;
       stands = λ levels r es more h n m. (
           let q = parts levels r es more h n in
-          let fr = front l.first es in
           let bk = past l.first es in
           let test = lt-ltb (entry_count es) r (omega (arith, q.all, h.room_is)) in
           let last = say_moved b now at at p (suc p) bk q.say_past (λ j f k o lt says. (let x : suc (p + j) ≡ suc p + j = omega arith in rw x at (ins.later (p + j) (omega arith) (omega (arith, q.count)) f k o says))) in
-          rw (test, upto_both l es bk) (node_has now records' levels at r (with_both fr (with_block l bk)) more (record {
-            linkable = linked r es more h;
-            next_is = front_stays b now at 24 (4 + 16 * room_at b at) ins.changed (omega arith) 12 8 (omega arith) ∙ h.next_is;
-            room_is = ins.room_stays ∙ h.room_is;
-            used_is = ins.used_is ∙ omega (arith, q.count, q.front_count, count_both fr (with_block l bk));
-            say_entries = say_on p fr (with_block l bk) q.say_front q.front_count ins.earlier (ins.here, last);
-          }) (names_both now records' levels fr (with_block l bk) q.names_front (leaf_names now records' levels l bk names q.names_past)) m));
+          rw (test, upto_both l es bk) (fed_has levels r es more h q bk more (front_stays b now at 24 (4 + 16 * room_at b at) ins.changed (omega arith) 12 8 (omega arith) ∙ h.next_is) ins.room_stays (ins.used_is ∙ omega (arith, q.count)) ins.earlier ins.here last q.names_past m));
     }
 
   -- ---- a full node
@@ -92,18 +91,11 @@ module _ (b now records records' : List ℕ) (heads : SameHeads b now records re
         is_node = placed_node l new at;
         stands = λ levels r es more h n m. (
             let q = parts levels r es more h n in
-            let fr = front l.first es in
             let bk = past l.first es in
             let test = le-ltb (entry_count es) r (omega (arith, q.all, h.room_is)) in
             let some = ne_eqb (entry_count bk) 0 (λ e. absurd (omega (arith, q.count))) in
             let last = say_moved b now at new p 0 bk q.say_past (λ j f o w lt says. (let x : (p + j) - p ≡ 0 + j = omega arith in rw x at (sp.moved (p + j) f o w (omega arith) (omega (arith, q.count)) says))) in
-            rw (test, some, upto_is l es) (node_has now records' levels at r (with_both fr (with_block l no_entry)) (node new (max 7 (entry_count bk)) bk more) (record {
-              linkable = linked r es more h;
-              next_is = sp.next_is;
-              room_is = sp.room_stays ∙ h.room_is;
-              used_is = sp.used_is ∙ omega (arith, q.front_count, count_both fr (with_block l no_entry));
-              say_entries = say_on p fr (with_block l no_entry) q.say_front q.front_count sp.earlier (sp.here, tt);
-            }) (names_both now records' levels fr (with_block l no_entry) q.names_front (leaf_alone now records' levels l names))
+            rw (test, some, upto_is l es) (fed_has levels r es more h q no_entry (node new (max 7 (entry_count bk)) bk more) sp.next_is sp.room_stays (sp.used_is ∙ omega arith) sp.earlier sp.here tt q.names_none
             (node_has now records' levels new (max 7 (entry_count bk)) bk more (record {
               linkable = fresh;
               next_is = sp.new_next ∙ h.next_is;
@@ -136,5 +128,5 @@ module _ (b now records records' : List ℕ) (heads : SameHeads b now records re
               room_is = ch.new_room ∙ ap (max 7) (sym empty);
               used_is = ch.new_used;
               say_entries = (ch.here, tt);
-            }) (leaf_alone now records' levels l names) m)));
+            }) (leaf_names now records' levels l no_entry names q.names_none) m)));
       }

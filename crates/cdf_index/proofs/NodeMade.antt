@@ -37,9 +37,6 @@ pub record Making (head mid : List ℕ) (at n : ℕ) (entries : List Entry) : Ty
   pub changed : Changed head mid (touch at 28 (16 * room_at head at) ∷ [])
   pub says : SaysFirst mid at entries n
 
-pub making_start : (head : List ℕ) (at : ℕ) (entries : List Entry) → Making head head at 0 entries
-making_start head at entries = record { as_long = refl; changed = nothing_changed; says = λ i lt. absurd (omega arith) }
-
 pub making_more : {head mid now : List ℕ} {at n : ℕ} {entries : List Entry} {to : Entry} → NodeInside head at → Making head mid at n entries → n < room_at head at → to ≡ entry_in entries n → EntrySet mid now at n to.first to.last to.place → Making head now at (n + 1) entries
 making_more {now = now} {at = at} {n = n} inside m lt is set =
     let more = set_more inside m.as_long m.changed set in

@@ -44,9 +44,6 @@ read_one {from = from} {i = i} {xs = xs} e r s =
 
 -- ---- entries that are not used any more
 
-pub clear_start : (b : List ℕ) (at from : ℕ) → Cleared b b at from from
-clear_start b at from = record { as_long = refl; changed = nothing_changed; gone = λ j le lt. absurd (omega arith); others = λ j lt o f l k s. s }
-
 pub clear_more : {b mid now : List ℕ} {at from i : ℕ} → NodeInside b at → Cleared b mid at from i → from ≤ i → i < room_at b at → EntrySet mid now at i 0xffffffff 0xffffffff 0xffffffffffffffff → Cleared b now at from (i + 1)
 clear_more {i = i} inside c le lt set =
     let m = set_more inside c.as_long c.changed set in

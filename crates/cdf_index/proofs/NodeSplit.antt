@@ -4,9 +4,9 @@ use Rattle.cdf_index.proofs.Inserting.{still_it}
 use Rattle.cdf_index.proofs.OneNode.{same_node}
 
 -- the new node was made of a record, then the full one was shortened
-pub split : (b made now : List ℕ) (at new room next used p first last offset : ℕ) (entries : List Entry) → Kept b made at → Kept made now new → NodeFits b at → used ≤ room_at b at → used - p ≤ room → NodeWritten b made new room next entries → EntriesRead b at p used entries → next ≡ next_of b at
+pub split : (t b made now : List ℕ) (at new room next used p first last offset : ℕ) (entries : List Entry) → Kept b made at → Kept made now new → NodeFits b at → used ≤ room_at b at → used - p ≤ room → NodeWritten t made new room next entries → EntriesRead b at p used entries → next ≡ next_of b at
     → room ≡ max 7 (used - p) → Shortened made now at used p first last offset new → Split made now at new used p first last offset
-split b made now at new room next used p first last offset entries full_stays new_stays fits most below w r next_is room_is sh =
+split t b made now at new room next used p first last offset entries full_stays new_stays fits most below w r next_is room_is sh =
     let at_made = same_node b made at full_stays fits in
     let new_now = same_node made now new new_stays (w.inside.entries, w.inside.fits) in
     let many = r.many in

@@ -1,13 +1,63 @@
 -- The nodes on a way are widened one by one, the last one first.
-use Rattle.cdf_leaves.proofs.Common.{Each, List, NodeInside, Step, StepStands, WayStands, WidenedAlong, [], arith, drop, length, map, room_at, slice_index_or, step_pair, suc, sym, zero, ℕ, ◌<◌, ◌∙◌, ◌∷◌, ◌≡◌}
-use Rattle.cdf_leaves.proofs.Spares.{StillNodes, still_none, still_then, widened_one, fits_still, node_inside}
+use Rattle.cdf_leaves.proofs.Common.{AreTiles, Changed, Distinct, Each, Each-append, Each-map, HasNodes, In, Kept, List, NodeFits, NodeInside, Nodes, Step, StepStands, Touch, WayStands, Widened, WidenedAlong, [], arith, cases_eq, changed_then, drop, edited, heads_stay, inl, inr, kept_then, leaves_of, length, map, nodes_of, nothing_changed, others_stay, refl, room_at, slice_index_or, step_pair, subst, suc, sym, tiles_same, touch, widen_all, wider, zero, ℕ, ◌*◌, ◌++◌, ◌+◌, ◌<◌, ◌∙◌, ◌∷◌, ◌≡◌, ◌≤◌}
+use Rattle.cdf_index.proofs.NodeWider.{wider_owed}
+use Rattle.cdf_leaves.proofs.NodesMore.{places, all_wider}
+use Rattle.cdf_leaves.proofs.Spares.{Spares, fits_still, front_lies, kept_self, node_inside, spares_kept, spares_then, spares_widened}
 
-pub along : (b mid records : List ℕ) (last : ℕ) (steps : List Step) → StillNodes b b records → Each (StepStands b records) steps → WidenedAlong b mid last (map step_pair steps) → StillNodes b mid records
-along b mid records last [] s e w = rw w s
-along b mid records last (step ∷ more) s e w =
-    let before = along b w.0 records last more s e.1 w.1.0 in
-    let here = before.still step.place e.0.there e.0.fits in
-    still_then b w.0 mid records before (widened_one w.0 mid records step.place step.entry last before.tiled e.0.there (fits_still b w.0 step.place here e.0.fits) (omega (arith, here.used_is, e.0.within)) w.1.1)
+-- an index whose nodes and blocks are among the records of an image
+pub record Ready (b records : List ℕ) (tree : Nodes) : Type 0 where
+  pub has : HasNodes b records 8 tree
+  pub once : Distinct (nodes_of tree)
+  pub stand : (m : ℕ) → In m (nodes_of tree) → In m records × NodeFits b m
+  pub blocks : (m : ℕ) → In m (places (leaves_of tree)) → In m records
+
+-- behind the type of a node of which this holds, up to its entries' end
+abbrev pub InNode : List ℕ → (ℕ → Type 0) → Touch → Type 0
+InNode b Y t = Y t.tile × (12 ≤ t.place) × (t.place + t.width ≤ 28 + 16 * room_at b t.tile)
+
+-- what is left of the records, and what an index becomes, where this holds of each node on the way
+pub record Along (b now records : List ℕ) (Y : ℕ → Type 0) (last : ℕ) (steps : List (ℕ × ℕ)) : Type 0 where
+  pub as_long : length now ≡ length b
+  pub tiled : AreTiles now 8 (length now) records
+  pub touches : List Touch
+  pub changed : Changed b now touches
+  pub within : Each (InNode b Y) touches
+  pub still : (m : ℕ) → In m records → NodeFits b m → Spares b now m
+  pub others : (m : ℕ) → In m records → (Y m → ⊥) → Kept b now m
+  pub has : (tree : Nodes) → Ready b records tree → HasNodes now records 8 (widen_all last steps tree)
+
+abbrev pub OnWay : List ℕ → List ℕ → (ℕ → Type 0) → Step → Type 0
+OnWay b records Y step = StepStands b records step × Y step.place
+
+pub along : (b now records : List ℕ) (Y : ℕ → Type 0) (last : ℕ) (steps : List Step) → AreTiles b 8 (length b) records → Each (OnWay b records Y) steps → WidenedAlong b now last (map step_pair steps) → Along b now records Y last (map step_pair steps)
+along b now records Y last [] tiled e w = rw w (record { as_long = refl; tiled = tiled; touches = []; changed = nothing_changed; within = tt; still = λ m i. spares_kept b b m (kept_self b records m tiled i); others = λ m i out. kept_self b records m tiled i; has = λ tree r. r.has })
+along b now records Y last (step ∷ more) tiled e w =
+    let mid = w.0 in
+    let x = step.place in
+    let n = 16 * room_at mid x in
+    let write : Widened mid now x step.entry last = w.1.1 in
+    let there = e.0.0.there in
+    let a = along b mid records Y last more tiled e.1 w.1.0 in
+    let here = a.still x there e.0.0.fits in
+    let fits = fits_still b mid x here e.0.0.fits in
+    let lies = front_lies mid x (node_inside mid records x a.tiled there fits) in
+    let heads = heads_stay mid now records a.tiled x 28 n there (omega arith) fits.0 write.changed in
+    let kept = others_stay mid now records a.tiled x 28 n there (omega arith) fits.0 write.changed in
+    record {
+      as_long = write.as_long ∙ a.as_long;
+      tiled = subst (λ (k : ℕ). AreTiles now 8 k records) (sym write.as_long) (tiles_same mid now 8 (length mid) records a.tiled heads.sizes);
+      touches = a.touches ++ touch x 28 n ∷ [];
+      changed = changed_then b mid now a.touches (touch x 28 n ∷ []) a.changed write.changed;
+      within = Each-append (InNode b Y) a.touches (touch x 28 n ∷ []) a.within ((e.0.1, omega arith, omega (arith, here.room_is)), tt);
+      still = λ m i f. (let s = a.still m i f in spares_then b mid now m s (elim (cases_eq m x) [
+        | inl q ↦ rw q (spares_widened mid now x step.entry last write lies (omega (arith, here.used_is, e.0.0.within)))
+        | inr ne ↦ spares_kept mid now m (kept m i ne) (fits_still b mid m s f)
+      ]));
+      others = λ m i out. kept_then b mid now m (a.others m i out) (kept m i (λ q. out (rw q e.0.1)));
+      has = λ tree r. (let same = all_wider last (map step_pair more) tree in
+          edited mid now records x 28 n 8 (wider last x step.entry) (widen_all last (map step_pair more) tree) a.tiled there (omega arith) fits.0 write.changed (wider_owed mid now records records heads x step.entry last write fits.1 lies)
+          (a.has tree r) (subst Distinct (sym same.0) r.once) (λ m j. let k = r.stand m (subst (In m) same.0 j) in (k.0, fits_still b mid m (a.still m k.0 k.1) k.1)) (λ m j. r.blocks m (subst (In m) same.1 j)));
+    }
 
 pub each_drop : {A : Type 0} (P : A → Type 0) (k : ℕ) (xs : List A) → Each P xs → Each P (drop k xs)
 each_drop P zero xs e = e
@@ -25,13 +75,12 @@ pub record IsNext (b mid : List ℕ) (step : Step) : Type 0 where
   pub room_is : step.room ≡ room_at mid step.place
   pub as_long : length mid ≡ length b
 
-pub next_step : (b mid : List ℕ) (last j k : ℕ) (steps : List Step) (none : Step) → WayStands b steps → WidenedAlong b mid last (map step_pair (drop j steps)) → k < length steps → IsNext b mid (slice_index_or steps k none)
-next_step b mid last j k steps none way w lt =
-    let s = along b mid way.records last (drop j steps) (still_none b way.records way.tiled) (each_drop (StepStands b way.records) j steps way.stand) w in
-    let here = each_at (StepStands b way.records) none k steps lt way.stand in
-    let x = s.still (slice_index_or steps k none).place here.there here.fits in
-    record {
-      inside = node_inside mid way.records (slice_index_or steps k none).place s.tiled here.there (fits_still b mid (slice_index_or steps k none).place x here.fits);
-      room_is = here.room_is ∙ sym x.room_is;
-      as_long = s.as_long;
-    }
+pub next_step : (b mid : List ℕ) (last : ℕ) (steps : List Step) (j k : ℕ) (none : Step) → WayStands b steps → WidenedAlong b mid last (map step_pair (drop j steps)) → k < length steps → IsNext b mid (slice_index_or steps k none)
+next_step b mid last steps j k none ready w lt =
+    let records = ready.records in
+    let some = λ (m : ℕ). In m records in
+    let s = along b mid records some last (drop j steps) ready.tiled (Each-map (StepStands b records) (OnWay b records some) (λ step e. (e, e.there)) (drop j steps) (each_drop (StepStands b records) j steps ready.stand)) w in
+    let here = each_at (StepStands b records) none k steps lt ready.stand in
+    let place = (slice_index_or steps k none).place in
+    let x = s.still place here.there here.fits in
+    record { inside = node_inside mid records place s.tiled here.there (fits_still b mid place x here.fits); room_is = here.room_is ∙ sym x.room_is; as_long = s.as_long }

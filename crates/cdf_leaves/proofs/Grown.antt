@@ -1,8 +1,7 @@
--- The entry of a leaf was put into an index: what the new image has of it.
-use Rattle.cdf_leaves.proofs.Common.{Begun, Bool, Entry, In, Inserted, Leaf, List, MayName, NodeFits, NodeWritten, SaysEntry, Shortened, arith, begins_by, cases_lt, entry_past, false, front_stays, inl, inr, is_in-true, is_taken_at, le-leb, leaf_acts, leb, length, max, nat_tests, not, refl, room_at, size_at, subst, suc, true, type_at, used_count, vvr_type, was_unused, zero, ℕ, ◌&&◌, ◌*◌, ◌+◌, ◌-◌, ◌<◌, ◌∙◌, ◌≡◌, ◌≢◌, ◌≤◌}
-use Rattle.cdf_leaves.proofs.Spares.{Spares}
+-- A node of an index that gets a leaf, from the image in which nothing was done: what holds of it by now.
+use Rattle.cdf_leaves.proofs.Common.{Begun, Bool, Counts, Each, Entry, EntryIs, In, Leaf, List, MayName, NodeFits, NodeWritten, SaysEntry, SaysUnused, StillSays, arith, begins_by, each_in, entry_past, false, fits, inl, inr, is_in-true, is_taken_at, le-leb, leaf_acts, leb, max, nat_tests, not, number, refl, room_at, size_at, subst, suc, true, type_at, used_count, vvr_type, vxr_n_used_entries, was_unused, zero, ℕ, ◌&&◌, ◌-◌, ◌<◌, ◌∙◌, ◌≡◌, ◌≢◌, ◌≤◌, ◌⊎◌}
+use Rattle.cdf_leaves.proofs.Spares.{Spares, fits_still}
 use Rattle.cdf_leaves.proofs.SpotNode.{SpotNode}
-use Rattle.cdf_leaves.proofs.State.{entry_still, NodeNow}
 
 -- ---- what counts as unused before
 
@@ -27,62 +26,49 @@ module _ (b before : List ℕ) (place need room at : ℕ) where
       go zero some = absurd (omega arith)
       go (suc room) some = grind (arith, nat_tests)
 
--- ---- a node where nothing was written yet
+-- ---- one node
 
-pub old_node : (b roomy : List ℕ) (was : ℕ → ℕ → Bool) (x m : ℕ) → Spares b roomy m → NodeFits roomy m → ((i : ℕ) → was m i ≡ leb (used_count b m) i) → NodeNow b roomy roomy was x m
-old_node b roomy was x m s fits is = record {
-  size_is = refl;
-  room_is = refl;
+-- it has room for its entries, counts no more than that where all nodes did, and its unused entries are as they have to be
+pub record NodeNow (b now nodes : List ℕ) (was : ℕ → Bool) (m : ℕ) : Type 0 where
+  pub fits : NodeFits now m
+  pub count : Each (Counts b) nodes → Counts now m
+  pub spare : (i : ℕ) → used_count now m ≤ i → i < room_at now m → EntryIs b now m i (was i)
+
+entry_still : (b mid now : List ℕ) (m i : ℕ) (w : Bool) → EntryIs b mid m i w → StillSays mid now m i i → EntryIs b now m i w
+entry_still b mid now m i true e s = s _ _ _ e
+entry_still b mid now m i false e s = s _ _ _ e
+
+pub node_then : {b mid now nodes : List ℕ} {was : ℕ → Bool} {m : ℕ} → NodeNow b mid nodes was m → Spares mid now m → NodeNow b now nodes was m
+node_then {b = b} {mid = mid} {now = now} {was = was} {m = m} n s = record {
+  fits = fits_still mid now m s n.fits;
+  count = λ c. omega (arith, s.count_is, s.room_is, n.count c);
+  spare = λ i le lt. entry_still b mid now m i (was i) (n.spare i (omega (arith, s.used_is)) (omega (arith, s.room_is))) (s.spare i (omega (arith, s.used_is)) (omega (arith, s.room_is)));
+}
+
+-- one that was there
+pub old_node : {b nodes : List ℕ} {was : ℕ → Bool} {m : ℕ} → In m nodes → NodeFits b m → ((i : ℕ) → was i ≡ leb (used_count b m) i) → NodeNow b b nodes was m
+old_node {b = b} {nodes = nodes} {m = m} j fits is = record {
   fits = fits;
-  count = λ c. c;
-  stays = λ ne. refl;
-  spare = λ i le lt. (let unused : was m i ≡ true = is i ∙ le-leb (used_count b m) i (omega (arith, s.used_is)) in rw unused (s.spare i (omega (arith, s.used_is)) (omega (arith, s.room_is)) _ _ _ (record { first_is = refl; last_is = refl; offset_is = refl })));
+  count = λ c. each_in (Counts b) nodes m c j;
+  spare = λ i le lt. rw (is i ∙ le-leb (used_count b m) i le) (record { first_is = refl; last_is = refl; offset_is = refl });
 }
 
-pub new_node : (b mid roomy : List ℕ) (was : ℕ → ℕ → Bool) (x at room next : ℕ) (entries : List Entry) → NodeWritten mid roomy at room next entries → ((i : ℕ) → was at i ≡ false) → NodeNow b roomy roomy was x at
-new_node b mid roomy was x at room next entries w is = record {
-  size_is = refl;
-  room_is = refl;
+-- a new one
+pub new_node : {b mid roomy nodes : List ℕ} {was : ℕ → Bool} {at room next : ℕ} {entries : List Entry} → NodeWritten mid roomy at room next entries → ((i : ℕ) → was i ≡ false) → NodeNow b roomy nodes was at
+new_node {roomy = roomy} {at = at} {entries = entries} w is = record {
   fits = (w.inside.entries, w.inside.fits);
-  count = λ c. c;
-  stays = λ ne. refl;
-  spare = λ i le lt. (let e = w.used_is in let r = w.room_is in rw (is i) (subst (λ (e : Entry). SaysEntry roomy at i e.first e.last e.place) (entry_past entries i (omega arith)) (w.says i (omega arith))));
+  count = λ c. omega (arith, w.count_is, w.used_is, w.inside.fits);
+  spare = λ i le lt. rw (is i) (subst (λ (e : Entry). SaysEntry roomy at i e.first e.last e.place) (entry_past entries i (omega (arith, w.used_is))) (w.says i (omega (arith, w.room_is))));
 }
 
--- ---- the node that gets the entry
-
-module _ (b roomy now : List ℕ) (was : ℕ → ℕ → Bool) (x : ℕ) (n : NodeNow b roomy roomy was x x) (lies : x + 28 ≤ length roomy) where
-  pub inserted_node : (used p first last offset : ℕ) → Inserted roomy now x used p first last offset → used ≡ used_count roomy x → used < room_at roomy x → NodeNow b roomy now was x x
-  inserted_node used p first last offset ins is room =
-      let size : size_at now x ≡ size_at roomy x = front_stays roomy now x 24 (4 + 16 * room_at roomy x) ins.changed (omega arith) 0 8 (omega arith) in
-      let more = ins.used_is in
-      let same = ins.room_stays in
-      record {
-        size_is = size;
-        room_is = same;
-        fits = (omega (arith, n.fits.0), omega arith);
-        count = λ c. omega (arith, ins.count_is);
-        stays = λ ne. absurd (ne refl);
-        spare = λ i le lt. entry_still b roomy now x i (was x i) (n.spare i (omega arith) (omega arith)) (ins.unused i (omega arith) (omega arith));
-      }
-
-  pub shortened_node : (used p first last offset next : ℕ) → Shortened roomy now x used p first last offset next → used ≡ used_count roomy x → p < used → ((i : ℕ) → i < used → was x i ≡ false) → NodeNow b roomy now was x x
-  shortened_node used p first last offset next sh is lt_used unused =
-      let size : size_at now x ≡ size_at roomy x = front_stays roomy now x 12 (16 + 16 * room_at roomy x) sh.changed (omega arith) 0 8 (omega arith) in
-      let left = sh.used_is in
-      let same = sh.room_stays in
-      let most = n.fits.1 in
-      record {
-        size_is = size;
-        room_is = same;
-        fits = (omega (arith, n.fits.0), omega arith);
-        count = λ c. omega (arith, sh.count_is);
-        stays = λ ne. absurd (ne refl);
-        spare = λ i le lt. elim (cases_lt i used) [
-          | inl less ↦ rw (unused i less) (sh.gone i (omega arith) less)
-          | inr more ↦ entry_still b roomy now x i (was x i) (n.spare i (omega arith) (omega arith)) (sh.unused i more (omega arith))
-        ];
-      }
+-- one that gets an entry, and may give up others
+pub fed_node : {b roomy now nodes : List ℕ} {was : ℕ → Bool} {m k : ℕ} → NodeNow b roomy nodes was m → size_at now m ≡ size_at roomy m → room_at now m ≡ room_at roomy m → used_count now m ≡ suc k → number now m vxr_n_used_entries ≡ suc k → suc k ≤ room_at roomy m
+    → ((i : ℕ) → suc k ≤ i → i < room_at roomy m → (SaysUnused now m i × (was i ≡ false)) ⊎ ((used_count roomy m ≤ i) × StillSays roomy now m i i)) → NodeNow b now nodes was m
+fed_node {b = b} {roomy = roomy} {now = now} {was = was} {m = m} n size room used count most h = record {
+  fits = (omega (arith, n.fits.0), omega arith);
+  count = λ c. omega arith;
+  spare = λ i le lt. elim (h i (omega arith) (omega arith)) [ inl p ↦ rw p.1 p.0 | inr p ↦ entry_still b roomy now m i (was i) (n.spare i p.0 (omega arith)) p.1 ];
+}
 
 -- ---- the leaf may be named
 

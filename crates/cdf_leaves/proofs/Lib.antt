@@ -6,13 +6,10 @@ pub mod Along
 pub mod Chain
 pub mod NodesMore
 pub mod SpotNode
-pub mod State
 pub mod TopChain
 pub mod Own
 pub mod Grown
 pub mod NodesOf
-pub mod Linked
 pub mod LeafGrown
-pub mod LeafStarted
 pub mod AddCalls
 pub mod LastCall

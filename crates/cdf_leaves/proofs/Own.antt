@@ -1,10 +1,11 @@
 -- The variable whose index gets a leaf, in the images in which records were taken.
-use Rattle.cdf_leaves.proofs.Common.{Begun, Each, Each-split, Good, Grew, HasIndex, HasVariable, In, Kept, Kind, Leaf, LeafFits, List, NodeFits, R, SameNode, SeesNode, Spot, StandsAmong, VariableFits, VariableShape, Z, [], ap, apart, arith, block_in, each_in, eqb, false, first_at, fits, gdr_type, good_by_its_shape, good_is_sound, has, index_at, inl, inr, leaves_of, linkable-in, linkable-type, next_of, nodes_of, number, record_number_limit, refl, room_at, same_node, shape, subst, sym, tile, type_at, type_in, type_kept, typed, uir_type, used_count, variables, variables_chain, vdr_vxr_head, vxr_type, ℕ, ◌++◌, ◌<◌, ◌∙◌, ◌∷◌, ◌≡◌, ◌≢◌}
+use Rattle.cdf_leaves.proofs.Common.{Begun, Each, Each-split, Good, Grew, HasIndex, HasVariable, In, Kept, Kind, List, NodeFits, R, SameNode, SeesNode, Spot, StandsAmong, VariableShape, Z, ap, apart, arith, each_in, eqb, false, first_at, fits, gdr_type, good_by_its_shape, good_is_sound, has, index_at, leaves_of, linkable-in, linkable-type, next_of, nodes_of, nodes_stand, number, record_number_limit, refl, room_at, same_node, shape, subst, sym, tile, type_at, type_in, type_kept, typed, uir_type, used_count, variables, variables_chain, vdr_vxr_head, vxr_type, ℕ, ◌++◌, ◌<◌, ◌∙◌, ◌∷◌, ◌≡◌, ◌≢◌}
 use Rattle.cdf_format.proofs.GoodImageLemmas.{good_image}
+use Rattle.cdf_edits.proofs.Edits.StandsAmong.{behind_in}
+use Rattle.cdf_edits.proofs.Edits.VariableCopied.{block_behind}
 use Rattle.cdf_index.proofs.GoodIndex.{good_index}
 use Rattle.cdf_leaves.proofs.NodesMore.{places}
 use Rattle.cdf_leaves.proofs.Spares.{Spares, spares_kept}
-use Rattle.cdf_leaves.proofs.SpotNode.{nodes_linkable}
 pub use Rattle.cdf_index.proofs.OneVariable.{AmongAll, among_all}
 use Rattle.cdf_index.specs.Order.{InOrder}
 
@@ -16,11 +17,6 @@ pub record StillSees (now : List ℕ) (seen : Spot) (f : ℕ) : Type 0 where
 
 the_own : {A : Type 0} (P : A → Type 0) (vs front : List A) (own : A) (rest : List A) → vs ≡ front ++ own ∷ rest → Each P vs → P own
 the_own P vs front own rest all e = (Each-split P front (own ∷ rest) (subst (Each P) all e)).1.0
-
-leaf_each : (b records : List ℕ) (vdr : ℕ) (xs : List Leaf) (m : ℕ) → Each (LeafFits b records vdr) xs → In m (places xs) → In m records
-leaf_each b records vdr [] m e i = absurd i
-leaf_each b records vdr (x ∷ xs) m e (inl q) = subst (λ (y : ℕ). In y records) (sym q) (block_in b records x.place e.0.0)
-leaf_each b records vdr (x ∷ xs) m e (inr i) = leaf_each b records vdr xs m e.1 i
 
 -- the type of a descriptor is another one
 pub no_type : (kind : Kind) (t : ℕ) → eqb (type_in (variables_chain R)) t ≡ false → eqb (type_in (variables_chain Z)) t ≡ false → type_in (variables_chain kind) ≢ t
@@ -38,7 +34,7 @@ module _ {b : List ℕ} {kind : Kind} {before : List VariableShape} {own : Varia
   own_order = let s = searchable in subst (InOrder 0 record_number_limit) s.1 s.0.order
 
   pub own_node : (m : ℕ) → In m (nodes_of own.index) → In m (shape b).records × (type_at b m ≡ vxr_type)
-  own_node m i = let l = (nodes_linkable b (shape b).records 8 m own.index (has good at).indexed.has_nodes i).0 in (linkable-in b (shape b).records vxr_type m l, linkable-type b (shape b).records vxr_type m l)
+  own_node m i = let l = nodes_stand b (shape b).records 8 own.index (has good at).indexed.has_nodes m i in (linkable-in b (shape b).records vxr_type m l, linkable-type b (shape b).records vxr_type m l)
 
   pub node_fits : (m : ℕ) → In m (nodes_of own.index) → NodeFits b m
   node_fits m i = each_in (NodeFits b) (nodes_of own.index) m (fits good at).1 i
@@ -47,20 +43,17 @@ module _ {b : List ℕ} {kind : Kind} {before : List VariableShape} {own : Varia
   vdr_apart m t e = no_type kind vxr_type refl refl (sym (typed good at) ∙ ap (type_at b) (sym e) ∙ t)
 
   module _ {now : List ℕ} (g : Grew b now) where
-    now_all : variables (shape now) ≡ among.front ++ own ∷ among.rest
-    now_all = ap variables g.shape_is ∙ among.all
-
     pub now_has : HasVariable now (shape now).records own
-    now_has = the_own (HasVariable now (shape now).records) (variables (shape now)) among.front own among.rest now_all g.sound.has_shape.have_variables
-
-    pub now_fits : VariableFits now (shape now).records own
-    now_fits = the_own (VariableFits now (shape now).records) (variables (shape now)) among.front own among.rest now_all g.sound.variables_fit
+    now_has = the_own (HasVariable now (shape now).records) (variables (shape now)) among.front own among.rest (ap variables g.shape_is ∙ among.all) g.sound.has_shape.have_variables
 
     pub now_blocks : (m : ℕ) → In m (places (leaves_of own.index)) → In m (shape now).records
-    now_blocks m i = leaf_each now (shape now).records own.vdr (leaves_of own.index) m now_fits.2 i
+    now_blocks m i = g.sub m (behind_in good at m (block_behind own m i))
 
     pub node_kept : (m : ℕ) → In m (nodes_of own.index) → Kept b now m
     node_kept m i = let n = own_node m i in g.kept m n.0 (λ u. apart vxr_type uir_type refl (sym n.1 ∙ u)) (λ u. apart vxr_type gdr_type refl (sym n.1 ∙ u))
+
+    pub node_type : (m : ℕ) → In m (nodes_of own.index) → type_at now m ≡ vxr_type
+    node_type m i = let k = node_kept m i in type_kept b now m k.same k.long ∙ (own_node m i).1
 
     pub node_same : (m : ℕ) → In m (nodes_of own.index) → SameNode b now m
     node_same m i = same_node b now m (node_kept m i) (node_fits m i)

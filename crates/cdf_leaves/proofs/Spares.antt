@@ -1,5 +1,5 @@
 -- Nodes that stay but for their used entries.
-use Rattle.cdf_leaves.proofs.Common.{AreTiles, In, Kept, List, NodeFits, NodeInside, StillSays, Widened, arith, cases_eq, front_stays, heads_stay, inl, inr, length, number, others_stay, refl, room_at, room_stays, same_node, size_at, subst, sym, tile_lies, tiles_same, used_count, used_stays, vxr_n_used_entries, ℕ, ◌*◌, ◌+◌, ◌<◌, ◌∙◌, ◌≡◌, ◌≤◌}
+use Rattle.cdf_leaves.proofs.Common.{AreTiles, FieldSet, In, Kept, List, NodeFits, NodeInside, StillSays, Widened, arith, counts, entries_beside, fits, front_stays, inl, inr, length, number, refl, room_at, room_beside, room_stays, same_node, size_at, size_beside, tile_lies, used_count, used_stays, vxr_n_used_entries, vxr_vxr_next, ℕ, ◌*◌, ◌+◌, ◌<◌, ◌∙◌, ◌≡◌, ◌≤◌}
 
 -- a node is as it was but for its used entries
 pub record Spares (mid now : List ℕ) (m : ℕ) : Type 0 where
@@ -8,9 +8,6 @@ pub record Spares (mid now : List ℕ) (m : ℕ) : Type 0 where
   pub used_is : used_count now m ≡ used_count mid m
   pub count_is : number now m vxr_n_used_entries ≡ number mid m vxr_n_used_entries
   pub spare : (i : ℕ) → used_count mid m ≤ i → i < room_at mid m → StillSays mid now m i i
-
-pub spares_none : (b : List ℕ) (m : ℕ) → Spares b b m
-spares_none b m = record { size_is = refl; room_is = refl; used_is = refl; count_is = refl; spare = λ i le lt f l o s. s }
 
 pub spares_then : (b mid now : List ℕ) (m : ℕ) → Spares b mid m → Spares mid now m → Spares b now m
 spares_then b mid now m p q = record {
@@ -27,6 +24,14 @@ fits_still mid now m s fits = (omega (arith, fits.0), omega (arith, fits.1))
 pub spares_kept : (mid now : List ℕ) (m : ℕ) → Kept mid now m → NodeFits mid m → Spares mid now m
 spares_kept mid now m k fits = let n = same_node mid now m k fits in record { size_is = n.size_is; room_is = n.room_is; used_is = n.used_is; count_is = n.count_is; spare = λ i le. n.entries i }
 
+-- of which VXRnext was written
+pub spares_linked : {b now : List ℕ} {m next : ℕ} → FieldSet b now m vxr_vxr_next next → Spares b now m
+spares_linked {m = m} set =
+    let size = size_beside set (omega arith) (omega arith) (inl (omega arith)) in
+    let room = room_beside set (omega arith) (omega arith) (inl (omega arith)) in
+    let count = set.past (m + 24) 4 (inr (omega arith)) in
+    record { size_is = size; room_is = room; used_is = λ i. counts (count i) (room i) (size i); count_is = count; spare = λ i le lt. entries_beside set (omega arith) (omega arith) (inl (omega arith)) i }
+
 -- one of whose used entries another Last was written
 pub spares_widened : (mid now : List ℕ) (m i last : ℕ) → Widened mid now m i last → m + 28 ≤ length mid → i < used_count mid m → Spares mid now m
 spares_widened mid now m i last w lies used = record {
@@ -37,6 +42,10 @@ spares_widened mid now m i last w lies used = record {
   spare = λ j le lt. w.others j lt (λ e. absurd (omega arith));
 }
 
+-- a record of which nothing was written
+pub kept_self : (b records : List ℕ) (m : ℕ) → AreTiles b 8 (length b) records → In m records → Kept b b m
+kept_self b records m tiled i = let l = tile_lies b 8 (length b) records m tiled i in record { same = record { each = λ n a u. refl }; inside = l.high; long = l.long }
+
 -- where it stands
 pub node_inside : (b records : List ℕ) (m : ℕ) → AreTiles b 8 (length b) records → In m records → NodeFits b m → NodeInside b m
 node_inside b records m tiled i fits =
@@ -45,28 +54,3 @@ node_inside b records m tiled i fits =
 
 pub front_lies : (b : List ℕ) (m : ℕ) → NodeInside b m → m + 28 ≤ length b
 front_lies b m i = omega (arith, i.room)
-
--- ---- all nodes among the records of an image
-
-pub record StillNodes (b now records : List ℕ) : Type 0 where
-  pub as_long : length now ≡ length b
-  pub tiled : AreTiles now 8 (length now) records
-  pub still : (m : ℕ) → In m records → NodeFits b m → Spares b now m
-
-pub still_none : (b records : List ℕ) → AreTiles b 8 (length b) records → StillNodes b b records
-still_none b records tiled = record { as_long = refl; tiled = tiled; still = λ m i fits. spares_none b m }
-
-pub still_then : (b mid now records : List ℕ) → StillNodes b mid records → StillNodes mid now records → StillNodes b now records
-still_then b mid now records s t = record { as_long = t.as_long ∙ s.as_long; tiled = t.tiled; still = λ m i f. spares_then b mid now m (s.still m i f) (t.still m i (fits_still b mid m (s.still m i f) f)) }
-
-pub widened_one : (mid now records : List ℕ) (x i last : ℕ) → AreTiles mid 8 (length mid) records → In x records → NodeFits mid x → i < used_count mid x → Widened mid now x i last → StillNodes mid now records
-widened_one mid now records x i last tiled there fits used w =
-    let heads = heads_stay mid now records tiled x 28 (16 * room_at mid x) there (omega arith) fits.0 w.changed in
-    record {
-      as_long = w.as_long;
-      tiled = subst (λ (n : ℕ). AreTiles now 8 n records) (sym w.as_long) (tiles_same mid now 8 (length mid) records tiled heads.sizes);
-      still = λ m j f. elim (cases_eq m x) [
-        | inl e ↦ rw e (spares_widened mid now x i last w (front_lies mid x (node_inside mid records x tiled there fits)) used)
-        | inr ne ↦ spares_kept mid now m (others_stay mid now records tiled x 28 (16 * room_at mid x) there (omega arith) fits.0 w.changed m j ne) f
-      ];
-    }

@@ -1,7 +1,5 @@
 -- The node at the end of the way.
-use Rattle.cdf_leaves.proofs.Common.{Comes, Distinct, Distinct-back, Entries, In, In-append, Leaf, List, Names, Nodes, SaysNode, [], apart_by, arith, below_once, below_times, block, comes_along, comes_below, comes_first, comes_here, inl, inr, is_linkable, lower, lower_nodes, no_entry, no_node, node, refl, room_at, room_of_new, suc, sym, true, vxr_type, way_lies, widest, widest_below, with_both, zero, ℕ, ◌++◌, ◌∷◌, ◌≡◌, ◌≢◌, ◌≤◌}
-use Rattle.cdf_format.specs.Index.{nodes_of}
-use Rattle.cdf_format.specs.IndexOf.{HasNodes}
+use Rattle.cdf_leaves.proofs.Common.{Comes, Distinct, Distinct-back, Each, Entries, HasNodes, In, In-append, Leaf, List, Names, Nodes, SaysNode, apart_by, arith, below_once, below_times, block, comes_along, comes_below, comes_first, comes_here, inl, inr, lower, lower_nodes, no_entry, no_node, node, nodes_of, refl, room_at, room_of_new, suc, sym, way_lies, widest, widest_below, with_both, zero, ℕ, ◌++◌, ◌∷◌, ◌≡◌, ◌≢◌, ◌≤◌}
 use Rattle.cdf_index.proofs.Saying.{names_parts}
 
 -- a node is at the end of the way, and the new one has so much room
@@ -24,11 +22,7 @@ spot_node (comes_here {room = room} {es = es} {more = more} t d) b ts (suc level
 
 -- ---- the way does not lead through it
 
-abbrev pub NotAt : ℕ → List (ℕ × ℕ) → Type 0
-NotAt x [] = Unit {0}
-NotAt x (step ∷ more) = (step.0 ≢ x) × NotAt x more
-
-pub way_apart : {l : Leaf} {at : ℕ} {w : List (ℕ × ℕ)} {x n : ℕ} {ns ns' : Nodes} → Comes l at w x n ns ns' → x ≢ 0 → Distinct (nodes_of ns) → NotAt x w
+pub way_apart : {l : Leaf} {at : ℕ} {w : List (ℕ × ℕ)} {x n : ℕ} {ns ns' : Nodes} → Comes l at w x n ns ns' → x ≢ 0 → Distinct (nodes_of ns) → Each (λ (step : ℕ × ℕ). step.0 ≢ x) w
 unfolding nodes_of lower_nodes
 way_apart comes_first some d = tt
 way_apart (comes_along {es = es} {more = more} t c) some d = way_apart c some (Distinct-back (lower_nodes es) (nodes_of more) d.1)
@@ -41,24 +35,18 @@ way_apart (comes_below {x = x} {place = place} {room = room} {more = more} fs fi
 )
 way_apart (comes_here t d) some o = tt
 
--- ---- all nodes
+-- ---- no node has more room than the widest
 
 mutual
   unfolding HasNodes Names nodes_of lower_nodes widest widest_below
 
-  pub nodes_linkable : (b ts : List ℕ) (levels m : ℕ) (nodes : Nodes) → HasNodes b ts levels nodes → In m (nodes_of nodes) → (is_linkable b ts vxr_type m ≡ true) × (room_at b m ≤ widest nodes)
-  nodes_linkable b ts levels m no_node h i = absurd i
-  nodes_linkable b ts zero m (node place room es more) h i = absurd h
-  nodes_linkable b ts (suc levels) m (node place room es more) h (inl e) = rw e (h.0.linkable, omega (arith, h.0.room_is))
-  nodes_linkable b ts (suc levels) m (node place room es more) h (inr i) = elim (In-append m (lower_nodes es) (nodes_of more) i) [
-    | inl j ↦ let r = lower_linkable b ts levels m es h.1 j in (r.0, omega (arith, r.1))
-    | inr j ↦ let r = nodes_linkable b ts (suc levels) m more h.2 j in (r.0, omega (arith, r.1))
-  ]
+  pub room_in : (b ts : List ℕ) (levels m : ℕ) (nodes : Nodes) → HasNodes b ts levels nodes → In m (nodes_of nodes) → room_at b m ≤ widest nodes
+  room_in b ts levels m no_node h i = absurd i
+  room_in b ts zero m (node place room es more) h i = absurd h
+  room_in b ts (suc levels) m (node place room es more) h (inl e) = rw e (omega (arith, h.0.room_is))
+  room_in b ts (suc levels) m (node place room es more) h (inr i) = elim (In-append m (lower_nodes es) (nodes_of more) i) [ inl j ↦ omega (arith, room_below b ts levels m es h.1 j) | inr j ↦ omega (arith, room_in b ts (suc levels) m more h.2 j) ]
 
-  lower_linkable : (b ts : List ℕ) (levels m : ℕ) (es : Entries) → Names b ts levels es → In m (lower_nodes es) → (is_linkable b ts vxr_type m ≡ true) × (room_at b m ≤ widest_below es)
-  lower_linkable b ts levels m no_entry n i = absurd i
-  lower_linkable b ts levels m (block first last place packed es) n i = lower_linkable b ts levels m es n.2 i
-  lower_linkable b ts levels m (lower first last nodes es) n i = elim (In-append m (nodes_of nodes) (lower_nodes es) i) [
-    | inl j ↦ let r = nodes_linkable b ts levels m nodes n.1 j in (r.0, omega (arith, r.1))
-    | inr j ↦ let r = lower_linkable b ts levels m es n.2 j in (r.0, omega (arith, r.1))
-  ]
+  room_below : (b ts : List ℕ) (levels m : ℕ) (es : Entries) → Names b ts levels es → In m (lower_nodes es) → room_at b m ≤ widest_below es
+  room_below b ts levels m no_entry n i = absurd i
+  room_below b ts levels m (block first last place packed es) n i = room_below b ts levels m es n.2 i
+  room_below b ts levels m (lower first last nodes es) n i = elim (In-append m (nodes_of nodes) (lower_nodes es) i) [ inl j ↦ omega (arith, room_in b ts levels m nodes n.1 j) | inr j ↦ omega (arith, room_below b ts levels m es n.2 j) ]

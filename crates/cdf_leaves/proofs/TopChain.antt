@@ -1,27 +1,30 @@
 -- The top chain of an index that gets a leaf, and its end in the bytes.
-use Rattle.cdf_leaves.proofs.Common.{AreTiles, ChainInside, Distinct, Distinct-back, Entries, In, In-append_right, IsNode, Leaf, List, Nodes, Some, [], ap, arith, chain_end, eq-eqb, inl, inr, last_node, length, link_to, linkable-in, linkable-long, lower_nodes, ne_eqb, new_room, next_of, no_node, node, refl, room_of_new, some_place, subst, suc, sym, tile_lies, top_chain, unwrap_or, vxr_type, way, with_entry, with_leaf, zero, ℕ, ◌∙◌, ◌∷◌, ◌≡◌, ◌≢◌, ◌≤◌, ◌⊎◌}
+use Rattle.cdf_leaves.proofs.Common.{AreTiles, ChainInside, Comes, Distinct, Distinct-back, Entries, HasNodes, In, In-append_right, IsNode, Leaf, List, Nodes, Some, [], ap, arith, chain_end, comes_along, comes_below, comes_first, comes_here, eq-eqb, inl, inr, last_node, length, link_to, linkable-in, linkable-long, lower_nodes, ne_eqb, next_of, no_node, node, nodes_of, refl, room_of_new, some_place, subst, suc, sym, tile_lies, top_chain, unwrap_or, vxr_type, with_entry, zero, ℕ, ◌<◌, ◌∙◌, ◌∷◌, ◌≡◌, ◌≢◌, ◌⊎◌}
 use Rattle.std.specs.List.{last_or}
-use Rattle.cdf_format.specs.Index.{nodes_of}
-use Rattle.cdf_format.specs.IndexOf.{HasNodes}
 use Rattle.cdf_format.proofs.Members.{length-le_from_distinct}
 use Rattle.cdf_format.proofs.TilesLemmas.{length_tiles}
 use Rattle.cdf_index.proofs.Looking.{node_there}
+use Rattle.cdf_index.proofs.NodeGrown.{placed_link, placed_node}
 
 -- ---- in the tree
 
 entry_top : (l : Leaf) (at place room : ℕ) (es : Entries) (more : Nodes) → (room_of_new l.first room es ≡ 0 → top_chain (with_entry l at place room es more) ≡ place ∷ top_chain more) × (room_of_new l.first room es ≢ 0 → length (top_chain (with_entry l at place room es more)) ≡ suc (suc (length (top_chain more))))
 entry_top l at place room es more = ((λ e. grind arith), (λ ne. grind arith))
 
-pub top_stays : (l : Leaf) (at : ℕ) (nodes : Nodes) → (new_room l.first nodes ≡ 0) ⊎ (way l.first nodes ≢ []) → top_chain (with_leaf l at nodes) ≡ top_chain nodes
-unfolding with_leaf new_room way
-top_stays l at no_node (inl e) = absurd (omega (arith, e))
-top_stays l at no_node (inr ne) = absurd (ne refl)
-top_stays l at (node place room es more) h = grind (arith, top_stays l at more, (entry_top l at place room es more).0)
+-- what a leaf more leaves of the first node, and of the chain behind it
+pub record TopGrown (w : List (ℕ × ℕ)) (n : ℕ) (before after : Nodes) : Type 0 where
+  pub link_is : link_to after ≡ link_to before
+  pub is_node : IsNode after
+  pub stays : (n ≡ 0) ⊎ (w ≢ []) → top_chain after ≡ top_chain before
+  pub grows : w ≡ [] → n ≢ 0 → length (top_chain after) ≡ suc (length (top_chain before))
 
-pub top_grows : (l : Leaf) (at : ℕ) (nodes : Nodes) → way l.first nodes ≡ [] → new_room l.first nodes ≢ 0 → length (top_chain (with_leaf l at nodes)) ≡ suc (length (top_chain nodes))
-unfolding with_leaf new_room way
-top_grows l at no_node w n = refl
-top_grows l at (node place room es more) w n = grind (arith, top_grows l at more, (entry_top l at place room es more).1)
+pub top_grown : {l : Leaf} {at : ℕ} {w : List (ℕ × ℕ)} {x n : ℕ} {ns ns' : Nodes} → Comes l at w x n ns ns' → x ≢ 0 → TopGrown w n ns ns'
+top_grown comes_first some = absurd (some refl)
+top_grown (comes_along {place = place} t c) some = let r = top_grown c some in record { link_is = refl; is_node = tt; stays = λ h. ap (λ (xs : List ℕ). place ∷ xs) (r.stays h); grows = λ e n. ap suc (r.grows e n) }
+top_grown (comes_below fs first last nodes nodes' es t le r c) some = record { link_is = refl; is_node = tt; stays = λ h. refl; grows = λ e. absurd (cc) }
+top_grown {l = l} {at = at} (comes_here {place = place} {room = room} {es = es} {more = more} t d) some =
+    let top = entry_top l at place room es more in
+    record { link_is = placed_link l at place room es more; is_node = placed_node l at place room es more; stays = λ h. elim h [ inl z ↦ top.0 z | inr ne ↦ absurd (ne refl) ]; grows = λ e n. top.1 n }
 
 -- ---- in the bytes
 
@@ -50,15 +53,15 @@ module _ (b ts : List ℕ) (tiled : AreTiles b 8 (length b) ts) where
       let long = linkable-long b ts vxr_type place h.0.linkable in
       (omega (arith, l.high, long), λ n. subst (λ (x : ℕ). ChainInside most b x) (sym h.0.next_is) (chain_inside most (suc levels) more h.2 (node_there more (λ e. n (h.0.next_is ∙ e)))))
 
-  end_from : (most levels p : ℕ) (nodes : Nodes) → HasNodes b ts levels nodes → length (top_chain nodes) ≤ most → next_of b p ≡ link_to nodes → chain_end (suc most) b p ≡ last_from p nodes
+  end_from : (n levels p : ℕ) (nodes : Nodes) → HasNodes b ts levels nodes → length (top_chain nodes) < n → next_of b p ≡ link_to nodes → chain_end n b p ≡ last_from p nodes
   unfolding HasNodes
-  end_from most levels p no_node h le e = let t = eq-eqb (next_of b p) 0 e in rw t refl
-  end_from most zero p (node place room es more) h le e = absurd h
-  end_from zero (suc levels) p (node place room es more) h le e = absurd (omega arith)
-  end_from (suc most) (suc levels) p (node place room es more) h le e =
+  end_from zero levels p nodes h lt e = absurd (omega arith)
+  end_from (suc n) levels p no_node h lt e = let t = eq-eqb (next_of b p) 0 e in rw t refl
+  end_from (suc n) zero p (node place room es more) h lt e = absurd h
+  end_from (suc n) (suc levels) p (node place room es more) h lt e =
       let some : place ≢ 0 = some_place b ts (length b) place tiled (linkable-in b ts vxr_type place h.0.linkable) in
       let t = ne_eqb (next_of b p) 0 (λ z. some (sym e ∙ z)) in
-      rw t (ap (chain_end (suc most) b) e ∙ end_from most (suc levels) place more h.2 (omega arith) h.0.next_is)
+      rw t (ap (chain_end n b) e ∙ end_from n (suc levels) place more h.2 (omega arith) h.0.next_is)
 
   pub end_is_last : (levels : ℕ) (nodes : Nodes) → HasNodes b ts levels nodes → IsNode nodes → Distinct (nodes_of nodes) → ((m : ℕ) → In m (nodes_of nodes) → In m ts) → chain_end (length b) b (link_to nodes) ≡ last_node nodes
   unfolding HasNodes
@@ -66,12 +69,7 @@ module _ (b ts : List ℕ) (tiled : AreTiles b 8 (length b) ts) where
   end_is_last zero (node place room es more) h is once stand = absurd h
   end_is_last (suc levels) (node place room es more) h is once stand =
       let few = length-le_from_distinct (top_chain (node place room es more)) ts (chain_once (node place room es more) once) (λ m i. stand m (chain_in (node place room es more) m i)) in
-      let all = length_tiles b 8 (length b) ts tiled in
-      go (length b) (omega arith)
-    where
-      go : (n : ℕ) → suc (length (top_chain more)) ≤ n → chain_end n b place ≡ last_from place more
-      go zero le = absurd (omega arith)
-      go (suc n) le = end_from n (suc levels) place more h.2 (omega arith) h.0.next_is
+      end_from (length b) (suc levels) place more h.2 (omega (arith, few, length_tiles b 8 (length b) ts tiled)) h.0.next_is
 
 last_one : (p : ℕ) (xs : List ℕ) → In (unwrap_or (last_or (Some p) xs) 0) (p ∷ xs)
 last_one p [] = inl refl

@@ -35,7 +35,7 @@ returns-then-at-eq0-clause-area g c = edit_done (edit_more (edit_more (edit_more
 
 pub widen_way-requires : goal.widen_way-requires
 widen_way-requires g c =
-    let ready = way_ready c.requires.good (among_kind (g.A.Area.image c.args.area.now) c.args.vdr c.requires.vdr) (rw c.in_ok-way.ensures.area.image at c.in_ok-place.ensures.placed) refl c.requires.start c.in_ok-way.ensures.way c.requires.there c.requires.block (g.A.Area.frame c.args.area.now).limit c.requires.room c.requires.limit c.in_ok-at.ensures.put in
+    let ready = way_ready c.requires.good (among_kind (g.A.Area.image c.args.area.now) c.args.vdr c.requires.vdr) (rw c.in_ok-way.ensures.area.image at c.in_ok-place.ensures.placed) refl c.requires.start c.in_ok-way.ensures.way c.requires.block (g.A.Area.frame c.args.area.now).limit c.requires.room c.requires.limit c.in_ok-at.ensures.put in
     record { stands = rw c.deref.ensures.value ready.0; short = ready.1 }
 
 pub returns-then-at-eq0-clause-added : goal.returns-then-at-eq0-clause-added
@@ -46,7 +46,7 @@ returns-then-at-eq0-clause-added g c = λ kind before own' after stood is.
     let way = c.in_ok-way.ensures.way in
     let widened = subst (λ (s : List Step). WidenedAlong (g.A.Area.image c.put_entry.new.area) (g.A.Area.image c.widen_way.new.area) c.args.last (map step_pair s)) c.deref.ensures.value c.in_ok-widen_way.ensures.widened in
     let head = ap (λ (v : ℕ). number b v vdr_vxr_head) (sym is) in
-    grown_stays c.requires.good stood placed head c.requires.start way c.requires.there c.requires.block (g.A.Area.frame c.args.area.now).limit c.requires.room c.requires.limit c.in_ok-at.ensures.put (g.A.Area.image c.widen_way.new.area) widened (elim c.then-at-eq0.branch [
+    grown_stays c.requires.good stood placed head c.requires.start way c.requires.block (g.A.Area.frame c.args.area.now).limit c.requires.room c.requires.limit c.in_ok-at.ensures.put (g.A.Area.image c.widen_way.new.area) widened (elim c.then-at-eq0.branch [
       | then-at-eq0-via-then-at-eq0 w ↦ inl w.if-at-eq0.true
       | then-at-eq0-via-else-at-eq0+then-not-is_empty w ↦ inr (λ z. (let l = ap (λ (s : List Step). length s) z in absurd (search (rules, l, w.is_empty.ensures, w.if-not-is_empty.true))))
     ]))
@@ -54,7 +54,7 @@ returns-then-at-eq0-clause-added g c = λ kind before own' after stood is.
 pub set_tail-requires : goal.set_tail-requires
 set_tail-requires g c =
     let widened = subst (λ (s : List Step). WidenedAlong (g.A.Area.image c.put_entry.new.area) (g.A.Area.image c.widen_way.new.area) c.args.last (map step_pair s)) c.deref.ensures.value c.in_ok-widen_way.ensures.widened in
-    let ready = tail_ready c.requires.good (among_kind (g.A.Area.image c.args.area.now) c.args.vdr c.requires.vdr) (rw c.in_ok-way.ensures.area.image at c.in_ok-place.ensures.placed) refl c.requires.start c.in_ok-way.ensures.way c.requires.there c.requires.block (g.A.Area.frame c.args.area.now).limit c.requires.room c.requires.limit c.in_ok-at.ensures.put (g.A.Area.image c.widen_way.new.area) widened in
+    let ready = tail_ready c.requires.good (among_kind (g.A.Area.image c.args.area.now) c.args.vdr c.requires.vdr) (rw c.in_ok-way.ensures.area.image at c.in_ok-place.ensures.placed) refl c.requires.start c.in_ok-way.ensures.way c.requires.block (g.A.Area.frame c.args.area.now).limit c.requires.room c.requires.limit c.in_ok-at.ensures.put (g.A.Area.image c.widen_way.new.area) widened in
     record { chain = ready.0; lies = ready.1; short = ready.2 }
 
 pub returns-clause-added : goal.returns-clause-added
@@ -67,7 +67,7 @@ returns-clause-added g c =
     let none : c.in_ok-way.way.steps.items ≡ [] = nil_from_length c.in_ok-way.way.steps.items (ap (λ (s : List Step). length s) (sym c.deref.ensures.value) ∙ c.deref.ensures.len ∙ eqb-true (vec_len c.in_ok-way.way.steps) 0 (sym c.is_empty.ensures ∙ c.if-not-is_empty.false)) in
     on_ok_weaker c.set_tail.result (λ set kind before own' after stood is.
     (let head = ap (λ (v : ℕ). number b v vdr_vxr_head) (sym is) in
-    grown_tail c.requires.good stood placed head c.requires.start way c.requires.there c.requires.block (g.A.Area.frame c.args.area.now).limit c.requires.room c.requires.limit c.in_ok-at.ensures.put (g.A.Area.image c.widen_way.new.area) widened c.if-at-eq0.false none
+    grown_tail c.requires.good stood placed head c.requires.start way c.requires.block (g.A.Area.frame c.args.area.now).limit c.requires.room c.requires.limit c.in_ok-at.ensures.put (g.A.Area.image c.widen_way.new.area) widened c.if-at-eq0.false none
     (set ∙ ap (λ (v : ℕ). with_field (g.A.Area.image c.widen_way.new.area) v vdr_vxr_tail (chain_end (length (g.A.Area.image c.widen_way.new.area)) (g.A.Area.image c.widen_way.new.area) c.args.start)) (sym is)))) c.set_tail.ensures.set
 
 pub returns-clause-area : goal.returns-clause-area

@@ -3,11 +3,7 @@ use Rattle.cdf_leaves.proofs.NodeTaking.{node_made}
 use Rattle.cdf_leaves.proofs.making.make_node.Goals as goal
 
 pub write_node-requires-clause-place : goal.write_node-requires-clause-place
-write_node-requires-clause-place g c =
-    let at = c.in_ok-at.ensures in
-    has_room (g.A.Area.image c.args.area.now) (g.A.Area.image c.alloc_record.new.area) c.args.room c.in_ok-at.at c.requires.sound at.takes at.sound at.content
+write_node-requires-clause-place g c = let at = c.in_ok-at.ensures in has_room _ _ c.args.room c.in_ok-at.at c.requires.sound at.takes at.sound at.content
 
 pub returns-clause-made : goal.returns-clause-made
-returns-clause-made g c =
-    let at = c.in_ok-at.ensures in
-    node_made (g.A.Area.image c.args.area.now) (g.A.Area.image c.alloc_record.new.area) c.args.room c.in_ok-at.at c.requires.sound at.takes at.sound at.content (g.A.Area.image c.write_node.new.area) c.args.next c.args.entries.now c.in_ok-write_node.ensures.written
+returns-clause-made g c = let at = c.in_ok-at.ensures in node_made _ _ c.args.room c.in_ok-at.at c.requires.sound at.takes at.sound at.content _ c.args.next c.args.entries.now c.in_ok-write_node.ensures.written
