@@ -1,37 +1,17 @@
 -- The entries of each node of an index ascend.
-use Rattle.cdf_index.proofs.Common.{AreInOrder, Each, Each-append, Each-split, Entries, HasIndex, HasNodes, InOrder, IsOrderly, List, Names, NodeFits, Nodes, SayEntries, Stands, arith, block, entry_count, first_at, index_at, last_at, lower, lower_nodes, no_entry, no_node, node, nodes_of, past_entries, record_number_limit, refl, suc, tiles, used_count, zero, ℕ, ◌+◌, ◌<◌, ◌≡◌, ◌≤◌}
-
--- the first of some entries in order, and the others
-record FirstInOrder (b : List ℕ) (at k low high : ℕ) (es : Entries) : Type 0 where
-  rest : Entries
-  say : SayEntries b at (k + 1) rest
-  order : AreInOrder (suc (last_at b at k)) high rest
-  many : entry_count es ≡ suc (entry_count rest)
-  begins : low ≤ first_at b at k
-  ends : first_at b at k ≤ last_at b at k
+use Rattle.cdf_index.proofs.Common.{AreInOrder, Each, Each-append, Each-split, Entries, HasIndex, HasNodes, InOrder, IsOrderly, List, Names, NodeFits, Nodes, SayEntries, Stands, arith, block, cases_lt, entry_count, first_at, has, index_at, last_at, lower, lower_nodes, no_entry, no_node, node, nodes_of, past_entries, record_number_limit, suc, tiles, used_count, zero, ℕ, ◌+◌, ◌<◌, ◌≡◌, ◌≤◌}
 
 module _ (b : List ℕ) (at high : ℕ) where
-  first_in_order : (k low : ℕ) (es : Entries) → SayEntries b at k es → AreInOrder low high es → 0 < entry_count es → FirstInOrder b at k low high es
-  unfolding AreInOrder
-  first_in_order k low no_entry s o lt = absurd (omega arith)
-  first_in_order k low (block first last place packed es) s o lt =
-      let z : suc k ≡ k + 1 = omega arith in
-      record { rest = es; say = rw z at s.1; order = rw s.0.last_is o.3; many = refl; begins = rw s.0.first_is o.0; ends = rw (s.0.first_is, s.0.last_is) o.1 }
-  first_in_order k low (lower first last nodes es) s o lt =
-      let z : suc k ≡ k + 1 = omega arith in
-      record { rest = es; say = rw z at s.1; order = rw s.0.last_is o.4; many = refl; begins = rw s.0.first_is o.0; ends = rw (s.0.first_is, s.0.last_is) o.1 }
-
   -- an entry begins and ends at the next one's First and Last or before them
-  ascend : (k j i low : ℕ) (es : Entries) → k + j ≡ i → SayEntries b at k es → AreInOrder low high es → j + 1 < entry_count es → (first_at b at i ≤ first_at b at (i + 1)) × (last_at b at i ≤ last_at b at (i + 1))
-  ascend k zero i low es e s o lt =
-      let f = first_in_order k low es s o (omega arith) in
-      let n = first_in_order (k + 1) (suc (last_at b at k)) f.rest f.say f.order (omega (arith, f.many)) in
-      let z : i ≡ k = omega arith in
-      rw z (omega (arith, f.ends, n.begins), omega (arith, n.begins, n.ends))
-  ascend k (suc j) i low es e s o lt = let f = first_in_order k low es s o (omega arith) in ascend (k + 1) j i (suc (last_at b at k)) f.rest (omega arith) f.say f.order (omega (arith, f.many))
+  ascend : (k low i : ℕ) (es : Entries) → SayEntries b at k es → AreInOrder low high es → k ≤ i → i < k + entry_count es
+      → (low ≤ first_at b at i) × (first_at b at i ≤ last_at b at i) × (i + 1 < k + entry_count es → (first_at b at i ≤ first_at b at (i + 1)) × (last_at b at i ≤ last_at b at (i + 1)))
+  unfolding AreInOrder
+  ascend k low i no_entry s o le lt = absurd (omega arith)
+  ascend k low i (block first last place packed es) s o le lt = grind (arith, cases_lt k i, s.0.first_is, s.0.last_is, o.0, o.1, ascend (suc k) (suc last) i es s.1 o.3, ascend (suc k) (suc last) (i + 1) es s.1 o.3)
+  ascend k low i (lower first last nodes es) s o le lt = grind (arith, cases_lt k i, s.0.first_is, s.0.last_is, o.0, o.1, ascend (suc k) (suc last) i es s.1 o.4, ascend (suc k) (suc last) (i + 1) es s.1 o.4)
 
   orderly : (low : ℕ) (es : Entries) → used_count b at ≡ entry_count es → SayEntries b at 0 es → AreInOrder low high es → NodeFits b at → IsOrderly b at
-  orderly low es u s o f = record { fits = f; firsts = λ i lt. (ascend 0 i i low es (omega arith) s o (omega arith)).0; lasts = λ i lt. (ascend 0 i i low es (omega arith) s o (omega arith)).1 }
+  orderly low es u s o f = record { fits = f; firsts = λ i lt. ((ascend 0 low i es s o (omega arith) (omega arith)).2 (omega arith)).0; lasts = λ i lt. ((ascend 0 low i es s o (omega arith) (omega arith)).2 (omega arith)).1 }
 
 module _ (b : List ℕ) where
   mutual

@@ -96,10 +96,7 @@ walk_node {levels = levels} some w ne = let l = w.left some.nodes some.stands so
 -- ---- from the head of an index
 
 pub whole_chain : (b : List ℕ) (head : ℕ) → HasIndex b head → SomeChain b 8 head
-whole_chain b head has = record { nodes = index_at b head; tiled = has.tiled; stands = index_stands b head has; link_is = has.index.link_is; few = few }
-  where
-    few : length (nodes_of (index_at b head)) ≤ length b
-    few = let over = few_nodes has in omega (arith, over)
+whole_chain b head has = record { nodes = index_at b head; tiled = has.tiled; stands = index_stands b head has; link_is = has.index.link_is; few = omega (arith, few_nodes has) }
 
 -- what was begun with nothing has all of it
 pub whole_met : {G : Type 0} {has : G → List Met → Type 0} {b : List ℕ} {head : ℕ} {was now : G} → HasIndex b head → ((chain : Nodes) → Stands b 8 chain → head ≡ link_to chain → Grew has was now (met_in chain)) → has was [] → has now (met_in (index_at b head))

@@ -1,5 +1,5 @@
 -- A chain that stands, taken apart at its first node, and the entries of a node at the first of them.
-use Rattle.cdf_index.proofs.Common.{ChainFrom, Entries, HasNodes, In, IsBlock, IsNode, IsOrderly, Leaf, List, LowerAreZero, Met, Names, NextsAreZero, NodeInside, Nodes, None, Option, Some, Stands, [], ap, arith, block, block_in, chain_at, cvvr_type, entry_count, entry_firsts, entry_leaves, eqb, false, find_entry, find_in, first_at, firsts_of, inl, inr, is_a, is_linkable, last_at, leaf, length, length-append, link_to, linkable-in, linkable-type, lower, lower_nodes, ltb, met_below, met_block, met_in, nat_tests, no_entry, no_node, node, nodes_of, nodes_passed, offset_at, or_cases, passed_from, refl, subst, suc, sym, tiles, true, type_at, used_count, vxr_type, zero, ℕ, ◌++◌, ◌+◌, ◌<◌, ◌∙◌, ◌∷◌, ◌≡◌, ◌≢◌, ◌≤◌, ◌⊎◌}
+use Rattle.cdf_index.proofs.Common.{ChainFrom, Entries, HasNodes, In, IsBlock, IsNode, IsOrderly, Leaf, List, LowerAreZero, Met, Names, NextsAreZero, NodeInside, Nodes, None, Option, Some, Stands, [], ap, arith, block, block_in, chain_at, cvvr_type, entry_count, entry_firsts, entry_leaves, eqb, find_entry, find_in, first_at, firsts_of, if◌then◌else◌, inl, inr, is_a, is_linkable, last_at, leaf, length, length-append, link_to, linkable-in, linkable-type, lower, lower_nodes, ltb, met_below, met_block, met_in, nat_tests, no_entry, no_node, node, nodes_of, nodes_passed, offset_at, or_cases, passed_from, refl, subst, suc, sym, tiles, true, type_at, used_count, vxr_type, zero, ℕ, ◌++◌, ◌+◌, ◌<◌, ◌∙◌, ◌∷◌, ◌≡◌, ◌≢◌, ◌≤◌, ◌⊎◌}
 use Rattle.cdf_format.specs.RecordTypes.{vvr_type}
 use Rattle.cdf_format.proofs.ChainsLemmas.{is_a-type}
 use Rattle.cdf_index.proofs.Saying.{no_entries}
@@ -82,9 +82,8 @@ pub record FirstEntry (b : List ℕ) (down at i : ℕ) (entries : Entries) : Typ
   pub nodes : lower_nodes entries ≡ nodes_of low ++ lower_nodes rest
   pub firsts : entry_firsts entries ≡ first_at b at i ∷ (firsts_of low ++ entry_firsts rest)
   pub mets : met_below entries ≡ met ++ met_below rest
-  pub skips : (rec : ℕ) → ltb (last_at b at i) rec ≡ true → ((other : Option Leaf) → find_entry rec entries other ≡ find_entry rec rest other) × ((other : ℕ) → passed_from rec entries other ≡ passed_from rec rest other)
-  pub gap : (rec : ℕ) → ltb (last_at b at i) rec ≡ false → ltb rec (first_at b at i) ≡ true → (other : Option Leaf) → find_entry rec entries other ≡ None
-  pub has : (rec : ℕ) → ltb (last_at b at i) rec ≡ false → ltb rec (first_at b at i) ≡ false → ((other : Option Leaf) → find_entry rec entries other ≡ leaf_here rec) × ((other : ℕ) → passed_from rec entries other ≡ nodes_passed rec low)
+  pub find : (rec : ℕ) (other : Option Leaf) → find_entry rec entries other ≡ (if ltb (last_at b at i) rec then find_entry rec rest other else (if ltb rec (first_at b at i) then None else leaf_here rec))
+  pub passed : (rec other : ℕ) → passed_from rec entries other ≡ (if ltb (last_at b at i) rec then passed_from rec rest other else (if ltb rec (first_at b at i) then 0 else nodes_passed rec low))
   pub zero : LowerAreZero entries → NextsAreZero low × LowerAreZero rest
   pub of_block : type_at b (offset_at b at i) ≢ 6 → (met ≡ met_block (first_at b at i) (last_at b at i) (offset_at b at i) ∷ []) × ((rec : ℕ) → leaf_here rec ≡ Some (leaf (first_at b at i) (last_at b at i) (offset_at b at i) (eqb (type_at b (offset_at b at i)) 13)))
   pub of_lower : type_at b (offset_at b at i) ≡ 6 → (offset_at b at i ≡ link_to low) × (met ≡ met_in low) × ((rec : ℕ) → leaf_here rec ≡ find_in rec low)
@@ -109,9 +108,8 @@ first_entry {b = b} {at = at} {i = i} (block first last place packed entries) l 
       nodes = refl;
       firsts = rw e.first_is refl;
       mets = refl;
-      skips = λ rec t. (let u = rw e.last_is at t in (λ other. rw u refl, λ other. rw u refl));
-      gap = λ rec t h other. (let u = rw e.last_is at t in let v = rw e.first_is at h in rw (u, v) refl);
-      has = λ rec t h. (let u = rw e.last_is at t in let v = rw e.first_is at h in (λ other. rw (u, v) refl, λ other. rw u refl));
+      find = λ rec other. rw (e.first_is, e.last_is) refl;
+      passed = λ rec other. rw (e.first_is, e.last_is) (grind (arith, nat_tests));
       zero = λ z. (tt, z);
       of_block = λ n. rw (e.first_is, e.last_is, e.offset_is) (refl, λ rec. ap (λ x. Some (leaf first last place x)) (sym l.names.1));
       of_lower = λ t. absurd (no (rw e.offset_is at t));
@@ -135,9 +133,8 @@ first_entry {b = b} {down = down} {at = at} {i = i} (lower first last nodes entr
       nodes = refl;
       firsts = rw e.first_is refl;
       mets = refl;
-      skips = λ rec t. (let u = rw e.last_is at t in (λ other. rw u refl, λ other. rw u refl));
-      gap = λ rec t h other. (let u = rw e.last_is at t in let v = rw e.first_is at h in rw (u, v) refl);
-      has = λ rec t h. (let u = rw e.last_is at t in let v = rw e.first_is at h in (λ other. rw (u, v) refl, λ other. rw (u, v) refl));
+      find = λ rec other. rw (e.first_is, e.last_is) refl;
+      passed = λ rec other. rw (e.first_is, e.last_is) refl;
       zero = λ z. z;
       of_block = λ n. absurd (n six);
       of_lower = λ t. (e.offset_is, refl, λ rec. refl);

@@ -1,10 +1,10 @@
 -- The way down to the place of a new entry, along a chain.
-use Rattle.cdf_index.proofs.Common.{AreTiles, Distinct-back, Distinct-front, Entries, HasNodes, In, InOrder, IsNode, IsTree, List, Nodes, SeesNode, SomeNode, Spot, SpotIs, [], ap, arith, chain_reaches, down_at, either, end_from, entry_count, false, if◌then◌else◌, inl, inr, leads_down, leaves_of, length, length-append, length-le_from_distinct, length_tiles, link_to, linkable-in, lower_nodes, nat_tests, ne_eqb, next_of, no_entry, no_node, node, nodes_of, nodes_stand, past_entries, reaches, refl, spot, spot_below, subst, suc, sym, tiles, true, used_count, vxr_type, way, way_below, way_from, zero, ℕ, ◌+◌, ◌<◌, ◌∙◌, ◌∷◌, ◌≡◌, ◌≢◌, ◌≤◌, ◌⊎◌}
+use Rattle.cdf_index.proofs.Common.{AreTiles, Distinct, Distinct-back, Distinct-front, Entries, HasNodes, InOrder, IsNode, IsTree, List, Nodes, SeesNode, SomeNode, Spot, SpotIs, Stands, [], ap, arith, chain_reaches, down_at, either, end_from, entry_count, false, if◌then◌else◌, inl, inr, kept, leads_down, leaves_of, length, length-append, link_to, lower_nodes, nat_tests, ne_eqb, next_of, no_entry, no_node, node, nodes_of, past_entries, reaches, refl, spot, spot_below, subst, suc, sym, tiles, true, used_count, way, way_below, way_from, zero, ℕ, ◌+◌, ◌<◌, ◌∙◌, ◌∷◌, ◌≡◌, ◌≢◌, ◌≤◌, ◌⊎◌}
 use Rattle.cdf_index.proofs.EntriesLeft.{node_parts}
-use Rattle.cdf_index.proofs.Leading.{Below, Stand, begun_in, below, counted_begun, ends_past, LedBy, is_some, lead, lead_none, leads, led, reached_is, some_node}
+use Rattle.cdf_index.proofs.Leading.{Stand, begun_in, below, counted_begun, ends_past, LedBy, is_some, lead, lead_none, leads, led, reached_is, some_node}
 use Rattle.cdf_index.proofs.Coming.{chain_not_reached}
-use Rattle.cdf_index.proofs.Looking.{node_there}
-use Rattle.cdf_index.proofs.WayDown.{no_zero, way_in}
+use Rattle.cdf_index.proofs.Looking.{node_there, none_there}
+use Rattle.cdf_index.proofs.Searching.{few}
 
 -- ---- a chain: the entries of its first node, and the others
 
@@ -25,7 +25,8 @@ pub record Top (b : List ℕ) (levels : ℕ) (nodes : Nodes) : Type 0 where
   pub high : ℕ
   pub stand : Stand b levels_below (link_to nodes) 0 low high (entries_of nodes)
   pub order : InOrder (past_entries low (entries_of nodes)) high (rest_of nodes)
-  pub rest : IsNode (rest_of nodes) → IsTree b levels (rest_of nodes)
+  pub rest : Stands b levels (rest_of nodes)
+  pub rest_once : Distinct (nodes_of (rest_of nodes))
   pub nodes_left : length (nodes_of (rest_of nodes)) < length (nodes_of nodes)
 
 pub top : (b : List ℕ) (levels : ℕ) (nodes : Nodes) → IsTree b levels nodes → Top b levels nodes
@@ -43,7 +44,8 @@ top b (suc levels) (node place room es more) t =
       high = t.upto;
       stand = record { left = p.left; once = Distinct-front (lower_nodes es) (nodes_of more) t.once.1; order = t.order.0 };
       order = t.order.1;
-      rest = λ is. record { stands = p.more_stands; is_node = is; once = Distinct-back (lower_nodes es) (nodes_of more) t.once.1; from = past_entries t.from es; upto = t.upto; order = t.order.1 };
+      rest = p.more_stands;
+      rest_once = Distinct-back (lower_nodes es) (nodes_of more) t.once.1;
       nodes_left = omega (arith, length-append (lower_nodes es) (nodes_of more));
     }
 
@@ -96,7 +98,7 @@ module _ {b : List ℕ} {f turn levels : ℕ} {nodes : Nodes} {best here : Spot}
   next_link = c.sees.next_is ∙ here_top.next_is
 
   more_left : here.next ≢ 0 → IsTree b levels (rest_of c.left)
-  more_left n = here_top.rest (node_there (rest_of c.left) (λ z. n (next_link ∙ z)))
+  more_left n = record { stands = here_top.rest; is_node = node_there (rest_of c.left) (λ z. n (next_link ∙ z)); once = here_top.rest_once; from = past_entries here_top.low (entries_of c.left); upto = here_top.high; order = here_top.order }
 
   -- the next node of the chain
   pub next_tree : here.next ≢ 0 → SomeNode b here.next
@@ -120,64 +122,38 @@ module _ {b : List ℕ} {f turn levels : ℕ} {nodes : Nodes} {best here : Spot}
   -- ---- the chain is over, or its other entries are past the record
 
   link_there : (levels : ℕ) (ns : Nodes) → IsTree b levels ns → link_to ns ≢ 0
-  unfolding nodes_of
-  link_there levels no_node t e = t.is_node
-  link_there levels (node place room es more) t e = no_zero b (tiles b) levels (node place room es more) tiled t.stands.has (inl (sym e))
-
-  no_more : (ns : Nodes) → (IsNode ns → IsTree b levels ns) → link_to ns ≡ 0 → chain_reaches f ns ≡ false
-  no_more no_node t e = refl
-  no_more (node place room es more) t e = absurd (link_there levels (node place room es more) (t tt) e)
+  link_there levels ns t e = subst IsNode (none_there b levels ns tiled t.stands.has e) t.is_node
 
   over : (here.begun < here.used) ⊎ (here.next ≡ 0) → chain_reaches f (rest_of c.left) ≡ false
   over (inl lt) =
       let u = here_top.used_is in
       let begun = counted_begun b (link_to c.left) f here.begun (entries_of c.left) c.sees.begun here_top.used_is here_top.stand.left.say in
       chain_not_reached f (past_entries here_top.low (entries_of c.left)) here_top.high (rest_of c.left) here_top.order (ends_past f here_top.low here_top.high (entries_of c.left) here_top.stand.order (omega (arith, begun, c.sees.used_is)))
-  over (inr e) = no_more (rest_of c.left) here_top.rest (sym next_link ∙ e)
+  over (inr e) = ap (chain_reaches f) (none_there b levels (rest_of c.left) tiled here_top.rest.has (sym next_link ∙ e))
 
-  best_top : Top b levels c.best_of
-  best_top = top b levels c.best_of c.best_tree
-
-  abbrev es : Entries
-  es = entries_of c.best_of
-
-  abbrev low : Nodes
-  low = lead f no_node es
-
-  begun_best : best.begun ≡ begun_in f es
-  begun_best = counted_begun b (link_to c.best_of) f best.begun es c.best_sees.begun best_top.used_is best_top.stand.left.say
-
-  led_best : Below b best_top.levels_below (link_to c.best_of) best.begun low
-  led_best = subst (λ (n : ℕ). Below b best_top.levels_below (link_to c.best_of) n low) (omega (arith, begun_best)) (below b f best_top.levels_below (link_to c.best_of) 0 best_top.low best_top.high no_node es best_top.stand (record { link = refl; tree = λ x. absurd x }))
-
-  out : (ns : Nodes) → leads_down f false es ≡ is_some ns → best.lower ≡ link_to ns → (IsNode ns → link_to ns ≢ 0) → (is_some ns ≡ true → LedBy f es ns) → route_here f c.best_of ≡ (way_from f best ns, end_from f best ns)
-  out no_node d e n w = rw (d, e) (ap (λ (x : ℕ). ([], x)) (sym c.best_sees.place_is))
-  out (node place room fs more) d e n w = let t = ne_eqb best.lower 0 (λ z. n tt (sym e ∙ z)) in let r = w refl in rw (d, t) (grind (arith, r.way_is, r.spot_is, r.entry_is, c.best_sees.place_is, begun_best))
-
-  among : IsTree b levels nodes → route f nodes ≡ route_here f c.best_of → In best.place (nodes_of nodes)
-  among t r = subst (λ (x : ℕ). In x (nodes_of nodes)) (sym c.best_sees.place_is) (elim (either (leads_down f false es)) [
-    | inl d ↦ let e : way f nodes ≡ (link_to c.best_of, down_at f es) ∷ way_below f es = ap (λ (x : Route). x.0) r ∙ rw d refl in (rw e at (way_in f t.from t.upto nodes t.order).0).0
-    | inr d ↦ let e : spot f nodes ≡ link_to c.best_of = ap (λ (x : Route). x.1) r ∙ rw d refl in elim (way_in f t.from t.upto nodes t.order).1 [ inl z ↦ absurd (link_there levels c.best_of c.best_tree (sym e ∙ z)) | inr i ↦ subst (λ (x : ℕ). In x (nodes_of nodes)) e i ]
-  ])
+  out : (ns : Nodes) → best.begun ≡ begun_in f (entries_of c.best_of) → leads_down f false (entries_of c.best_of) ≡ is_some ns → best.lower ≡ link_to ns → (IsNode ns → link_to ns ≢ 0) → (is_some ns ≡ true → LedBy f (entries_of c.best_of) ns) → route_here f c.best_of ≡ (way_from f best ns, end_from f best ns)
+  out no_node k d e n w = rw (d, e) (ap (λ (x : ℕ). ([], x)) (sym c.best_sees.place_is))
+  out (node place room fs more) k d e n w = let t = ne_eqb best.lower 0 (λ z. n tt (sym e ∙ z)) in let r = w refl in rw (d, t) (grind (arith, r.way_is, r.spot_is, r.entry_is, c.best_sees.place_is, k))
 
   pub spot_found : IsTree b levels nodes → (here.begun < here.used) ⊎ (here.next ≡ 0) → SpotIs b f levels nodes best
   spot_found t o =
-      let none = over o in
-      let here_route : route f nodes ≡ route_here f c.best_of = c.route_is ∙ rw none refl in
-      let place = c.best_sees.place_is in
-      let lower = c.best_sees.lower_is ∙ led_best.link in
-      let tree : best.lower ≢ 0 → IsTree b best_top.levels_below low = λ x. led_best.tree (node_there low (λ z. x (lower ∙ z))) in
+      let es = entries_of c.best_of in
+      let low = lead f no_node es in
+      let p = top b levels c.best_of c.best_tree in
+      let count = counted_begun b (link_to c.best_of) f best.begun es c.best_sees.begun p.used_is p.stand.left.say in
+      let all_begun : 0 + begun_in f es ≡ best.begun = omega (arith, count) in
+      let led_by = rw all_begun at (below b f p.levels_below (link_to c.best_of) 0 p.low p.high no_node es p.stand (record { link = refl; tree = λ x. absurd x })) in
+      let lower = c.best_sees.lower_is ∙ led_by.link in
       let begun : is_some low ≡ true → 0 < begun_in f es = λ t. grind (arith, nat_tests, lead_none f no_node es, t) in
-      let all = here_route ∙ out low (leads b (tiles b) best_top.levels_below f no_node es best_top.stand.left.names) lower (λ is. link_there best_top.levels_below low (led_best.tree is)) (λ t. led f best_top.low best_top.high no_node es best_top.stand.order (begun t) t) in
+      let all = c.route_is ∙ rw (over o) (out low count (leads b (tiles b) p.levels_below f no_node es p.stand.left.names) lower (λ is. link_there p.levels_below low (led_by.tree is)) (λ t. led f p.low p.high no_node es p.stand.order (begun t) t)) in
       record {
-        sees = subst (λ (x : ℕ). SeesNode b x f best) (sym place) c.best_sees;
-        among = among t here_route;
-        down = best_top.levels_below;
+        sees = subst (λ (x : ℕ). SeesNode b x f best) (sym c.best_sees.place_is) c.best_sees;
+        down = p.levels_below;
         low = low;
         lower_is = lower;
-        fewer = λ x. best_top.fewer;
-        below = tree;
-        leads = λ x. rw begun_best (begun (some_node low (node_there low (λ z. x (lower ∙ z)))));
+        fewer = λ x. p.fewer;
+        below = λ x. led_by.tree (node_there low (λ z. x (lower ∙ z)));
+        leads = λ x. rw count (begun (some_node low (node_there low (λ z. x (lower ∙ z)))));
         way_is = ap (λ (r : Route). r.0) all;
         end_is = ap (λ (r : Route). r.1) all;
       }
@@ -186,7 +162,4 @@ module _ {b : List ℕ} {f turn levels : ℕ} {nodes : Nodes} {best here : Spot}
   best_node = record { levels = levels; nodes = c.best_of; tiled = tiled; stands = c.best_tree.stands; is_node = c.best_tree.is_node; link = c.best_sees.place_is }
 
   pub spot_never : IsTree b levels nodes → length b ≤ turn → ⊥
-  spot_never t le =
-      let few = length-le_from_distinct (nodes_of nodes) (tiles b) t.once (λ m j. linkable-in b (tiles b) vxr_type m (nodes_stand b (tiles b) levels nodes t.stands.has m j)) in
-      let left = here_top.nodes_left in
-      absurd (omega (arith, few, length_tiles b 8 (length b) (tiles b) tiled, c.fewer))
+  spot_never t le = absurd (omega (arith, few b levels nodes tiled t.once t.stands.has, here_top.nodes_left, c.fewer))

@@ -1,7 +1,8 @@
 -- The index of a variable of a good image is one that can be searched.
-use Rattle.cdf_index.proofs.Common.{AreInOrder, AreTiles, Each, Each-split, Entries, HasIndex, HasVariable, Hold, Hold-split, InOrder, IsBlock, IsGoodImage, IsIndex, IsSound, LeafFits, List, Nodes, Row, Shape, VariableFits, VariableShape, [], ap, arith, before_is, before_number, between, block, end_of, flat_map, index_at, index_complete, index_of, is_block, leaf_rows, leaves_of, length, lower, met_rows, negsuc, no_entry, no_node, node, nodes_of, nodes_rows, number, number_before, past_entries, phase8, pos, record_number_limit, refl, subst, suc, sym, tiles, tiles_are, used_rows, variables, with_sign, zero, ℕ, ℤ, ◌++◌, ◌∙◌, ◌∷◌, ◌≡◌}
+use Rattle.cdf_index.proofs.Common.{AreInOrder, AreTiles, Each, Each-split, Entries, HasIndex, HasVariable, Hold, Hold-split, InOrder, IsBlock, IsGoodImage, IsIndex, IsSound, LeafFits, List, Nodes, Row, Shape, VariableFits, VariableShape, [], ap, before_is, before_number, between, block, end_of, flat_map, index_at, index_complete, index_of, is_block, leaf_rows, leaves_of, length, lower, met_rows, negsuc, no_entry, no_node, node, nodes_rows, number, number_before, past_entries, phase8, pos, record_number_limit, refl, sound, subst, suc, sym, tiles, tiles_are, used_rows, variables, with_sign, ℕ, ℤ, ◌++◌, ◌∙◌, ◌∷◌, ◌≡◌}
 use Rattle.cdf_format.specs.IndexRules.{index_rows}
-use Rattle.cdf_format.specs.IndexWalk.{Met, met, nodes_met, nodes_on, levels_on}
+use Rattle.cdf_format.proofs.IndexLemmas.{levels_complete}
+use Rattle.cdf_format.specs.IndexWalk.{Met, nodes_met}
 use Rattle.cdf_format.specs.Records.{vdr_vxr_head}
 use Rattle.cdf_format.specs.Shape.{vdrs}
 use Rattle.cdf_edits.proofs.Edits.VariableFrame.{Each-map}
@@ -34,18 +35,6 @@ rows_of : (f : ℕ → List Row) (before : List VariableShape) (v : VariableShap
 rows_of f [] v after h = (Hold-split (f v.vdr) (flat_map f (vdrs after)) h).0
 rows_of f (w ∷ before) v after h = rows_of f before v after (Hold-split (f w.vdr) (flat_map f (vdrs (before ++ v ∷ after))) h).1
 
--- ---- the walk from a link alone
-
--- the record that holds the link matters only where the walk leads wrong
-any_holder : (below : List ℕ → ℕ → ℕ → Met Nodes) (most : ℕ) (b ts seen : List ℕ) (holder other link : ℕ) (all : List ℕ) (nodes : Nodes) → nodes_on below most b ts seen holder link ≡ met all nodes → nodes_on below most b ts seen other link ≡ met all nodes
-unfolding nodes_on
-any_holder below zero b ts seen holder other link all nodes e = grind arith
-any_holder below (suc most) b ts seen holder other link all nodes e = grind arith
-
-index_at_is : (b : List ℕ) (upto vdr : ℕ) (nodes : Nodes) → AreTiles b 8 upto (tiles b) → IsIndex b (tiles b) (number b vdr vdr_vxr_head) nodes → index_at b (number b vdr vdr_vxr_head) ≡ nodes
-unfolding levels_on
-index_at_is b upto vdr nodes t x = ap nodes_met (any_holder (levels_on 7 b (tiles b)) (length (tiles b)) b (tiles b) [] vdr 0 (number b vdr vdr_vxr_head) (nodes_of nodes) nodes (index_complete b (tiles b) upto vdr vdr_vxr_head nodes t x))
-
 -- the rules of its index hold
 pub index_ruled : (b : List ℕ) (s : Shape) (before : List VariableShape) (v : VariableShape) (after : List VariableShape) → IsGoodImage b s → variables s ≡ before ++ v ∷ after → Hold (index_rows b s.records v.vdr v.index)
 index_ruled b s before v after good all =
@@ -61,7 +50,7 @@ good_index b s before v after good sound all =
     let has = (Each-split (HasVariable b s.records) before (v ∷ after) (subst (Each (HasVariable b s.records)) all h.have_variables)).1.0 in
     let fits = (Each-split (VariableFits b s.records) before (v ∷ after) (subst (Each (VariableFits b s.records)) all sound.variables_fit)).1.0 in
     let index : IsIndex b (tiles b) (number b v.vdr vdr_vxr_head) v.index = subst (λ (x : List ℕ). IsIndex b x (number b v.vdr vdr_vxr_head) v.index) (sym t) has.indexed in
-    let same = index_at_is b (length b) v.vdr v.index tiled index in
+    let same : index_at b (number b v.vdr vdr_vxr_head) ≡ v.index = ap nodes_met (levels_complete b (tiles b) (length b) tiled 8 [] 0 (number b v.vdr vdr_vxr_head) v.index index.link_is index.has_nodes index.once) in
     let order = order_from b s.records 0 record_number_limit v.index (Hold-split (nodes_rows b s.records (negsuc 0) (pos record_number_limit) v.index) (flat_map (leaf_rows b s.records v.vdr) (leaves_of v.index)) (index_ruled b s before v after good all)).0 in (
       record {
         tiled = tiled;

@@ -3,7 +3,9 @@ use Rattle.cdf_index.proofs.Common.{AreInOrder, Bool, Each, Each-split, Entries,
 use Rattle.std.proofs.Common.{min}
 use Rattle.std.proofs.lemmas.Bool.{cases_lt}
 use Rattle.cdf_format.specs.IndexRules.{has_room, index_rows}
-use Rattle.cdf_edits.proofs.Space.ActsLeave.{each as each_of}
+use Rattle.cdf_edits.proofs.Space.ActsLeave.{each as each_place}
+use Rattle.cdf_edits.proofs.Edits.LeafPieces.{each_of}
+use Rattle.cdf_edits.proofs.Edits.VariableFrame.{hold_all}
 use Rattle.cdf_index.proofs.GoodIndex.{order_from}
 use Rattle.cdf_index.proofs.Coming.{Comes, comes, comes_along, comes_below, comes_first, comes_here, chain_reaches_from}
 use Rattle.cdf_index.proofs.LeafMore.{leaves_both, none_reached, parts_in_order}
@@ -180,10 +182,6 @@ lt_between (suc low) first l = lt-ltb low first l
 between_by : (low high first last : ℕ) → high ≤ record_number_limit → low ≤ first → first ≤ last → last ≤ high → is_between (before_number low) (pos high) first last ≡ true
 between_by low high first last m l k h = rw (signed first (omega arith), signed last (omega arith), lt_between low first l, le-leb first last k, le-leb last high h) refl
 
-each_leaf : (P : Leaf → Type 0) (leaves : List Leaf) → ((l : Leaf) → IsOneOf leaves l → P l) → Each P leaves
-each_leaf P [] f = tt
-each_leaf P (x ∷ xs) f = (f x (inl refl), each_leaf P xs (λ l i. f l (inr i)))
-
 module _ (b records : List ℕ) where
   abbrev HasRoom : ℕ → Type 0
   HasRoom m = has_room b m ≡ true
@@ -218,16 +216,12 @@ module _ (b records : List ℕ) where
         let r = entries_rules_from vxr (suc last) high entries m o.4 rooms.1 blocks.1 in
         ((between_by low high first last m o.0 o.1 o.2, Hold-append (nodes_rows b records (number_before first) (with_sign last) nodes) (used_rows b records vxr (with_sign last) (pos high) entries) (rw (f, s) below) (rw s r.0)), ap (λ (z : ℤ). end_of z entries) s ∙ r.1)
 
-  leaves_rules : (vdr : ℕ) (leaves : List Leaf) → ((l : Leaf) → IsOneOf leaves l → Hold (leaf_rows b records vdr l)) → Hold (flat_map (leaf_rows b records vdr) leaves)
-  leaves_rules vdr [] each = tt
-  leaves_rules vdr (x ∷ xs) each = Hold-append (leaf_rows b records vdr x) (flat_map (leaf_rows b records vdr) xs) (each x (inl refl)) (leaves_rules vdr xs (λ l i. each l (inr i)))
-
   -- an index in order, of which each node and each block is one
   pub index_rules : (vdr : ℕ) (index : Nodes) → InOrder 0 record_number_limit index → ((m : ℕ) → In m (nodes_of index) → has_room b m ≡ true) → ((l : Leaf) → IsOneOf (leaves_of index) l → (is_block b records l.place ≡ true) × Hold (leaf_rows b records vdr l))
       → Hold (index_rows b records vdr index)
   index_rules vdr index o room each =
-      Hold-append (nodes_rows b records (negsuc 0) (pos record_number_limit) index) (flat_map (leaf_rows b records vdr) (leaves_of index)) (rules_from 0 record_number_limit index (omega arith) o (each_of HasRoom (nodes_of index) room) (each_leaf HasBlock (leaves_of index) (λ l i. (each l i).0)))
-      (leaves_rules vdr (leaves_of index) (λ l i. (each l i).1))
+      Hold-append (nodes_rows b records (negsuc 0) (pos record_number_limit) index) (flat_map (leaf_rows b records vdr) (leaves_of index)) (rules_from 0 record_number_limit index (omega arith) o (each_place HasRoom (nodes_of index) room) (each_of HasBlock (leaves_of index) (λ l i. (each l i).0)))
+      (hold_all (leaf_rows b records vdr) (leaves_of index) (each_of (λ (l : Leaf). Hold (leaf_rows b records vdr l)) (leaves_of index) (λ l i. (each l i).1)))
 
   pub index_order : (vdr : ℕ) (index : Nodes) → Hold (index_rows b records vdr index) → InOrder 0 record_number_limit index
   index_order vdr index h = order_from b records 0 record_number_limit index (Hold-split (nodes_rows b records (negsuc 0) (pos record_number_limit) index) (flat_map (leaf_rows b records vdr) (leaves_of index)) h).0

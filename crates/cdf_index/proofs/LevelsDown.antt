@@ -1,13 +1,10 @@
 -- The way down to the place of a new entry, from level to level.
-use Rattle.cdf_index.proofs.Common.{AreTiles, Each, Each-append, HasIndex, HasNodes, In, InOrder, IsAmong, IsTree, List, Nodes, SomeNode, SomeTree, Spot, SpotIs, Step, StepSays, [], ap, append-nil, append_assoc, arith, index_at, inl, inr, length, link_to, map, map-append, no_node, node, nodes_of, record_number_limit, refl, room_at, spot, step_pair, subst, sym, tiles, way, ℕ, ◌++◌, ◌+◌, ◌-◌, ◌∙◌, ◌∷◌, ◌≡◌, ◌≢◌, ◌≤◌}
+use Rattle.cdf_index.proofs.Common.{AreTiles, Each, Each-append, HasIndex, In, InOrder, IsAmong, IsTree, List, Nodes, SomeNode, SomeTree, Spot, SpotIs, Step, StepSays, [], ap, append-nil, append_assoc, arith, false, index_at, leaf, length, link_to, map, map-append, nodes_of, record_number_limit, refl, room_at, spot, step_pair, subst, sym, tiles, way, ℕ, ◌++◌, ◌+◌, ◌-◌, ◌∙◌, ◌∷◌, ◌≡◌, ◌≢◌, ◌≤◌}
 use Rattle.cdf_index.proofs.Ascending.{index_stands}
-use Rattle.cdf_index.proofs.WayDown.{AllIn, node_there_by, no_zero, way_in}
+use Rattle.cdf_index.proofs.Coming.{comes}
+use Rattle.cdf_index.proofs.GoingDown.{top}
+use Rattle.cdf_index.proofs.WayDown.{AllIn, node_there_by, spot_there, way_in}
 use Rattle.std.proofs.lemmas.Bool.{eq-eqb, ne_eqb}
-
-no_nodes : (b : List ℕ) (nodes : Nodes) → IsTree b 0 nodes → ⊥
-unfolding HasNodes
-no_nodes b no_node t = t.is_node
-no_nodes b (node place room es more) t = t.stands.has
 
 pub record Descending (b : List ℕ) (f turn : ℕ) (total : Nodes) (passed : List Step) (end : Spot) : Type 0 where
   pub levels : ℕ
@@ -49,12 +46,6 @@ module _ {b : List ℕ} {f turn : ℕ} {total : Nodes} {passed : List Step} {end
   pub end_done : end.lower ≡ 0 → end.place ≡ spot f total
   end_done e = let t = eq-eqb end.lower 0 e in let here : spot f d.nodes ≡ end.place = d.ends.end_is ∙ rw t refl in sym (d.end_is ∙ here)
 
-  pub last_among : InOrder 0 record_number_limit total → AreTiles b 8 (length b) (tiles b) → end.lower ≡ 0 → In end.place (nodes_of total)
-  last_among o tiled e = elim (way_in f 0 record_number_limit total o).1 [
-    | inl z ↦ absurd (no_zero b (tiles b) d.levels d.nodes tiled d.tree.stands.has (subst (λ (x : ℕ). In x (nodes_of d.nodes)) (end_done e ∙ z) d.ends.among))
-    | inr i ↦ subst (λ (x : ℕ). In x (nodes_of total)) (sym (end_done e)) i
-  ]
-
   pub all_among : InOrder 0 record_number_limit total → end.lower ≡ 0 → Each (IsAmong total) passed
   all_among o e = pairs_among passed (subst (λ (w : List (ℕ × ℕ)). AllIn w (nodes_of total)) (sym (way_done e)) (way_in f 0 record_number_limit total o).0)
     where
@@ -82,7 +73,12 @@ module _ {b : List ℕ} {f turn : ℕ} {total : Nodes} {passed : List Step} {end
       }
 
   pub descend_never : 8 ≤ turn → ⊥
-  descend_never le = let none : d.levels ≡ 0 = omega (arith, d.deep) in no_nodes b d.nodes (subst (λ (x : ℕ). IsTree b x d.nodes) none d.tree)
+  descend_never le = let t = top b d.levels d.nodes d.tree in absurd (omega (arith, d.deep, t.fewer))
 
 pub some_node : (b : List ℕ) (at : ℕ) → SomeTree b at → SomeNode b at
 some_node b at t = record { levels = t.levels; nodes = t.nodes; tiled = t.tiled; stands = t.tree.stands; is_node = t.tree.is_node; link = t.link }
+
+pub last_among : {b : List ℕ} {head f turn : ℕ} {passed : List Step} {end : Spot} → HasIndex b head → head ≢ 0 → Descending b f turn (index_at b head) passed end → end.lower ≡ 0 → In end.place (nodes_of (index_at b head))
+last_among {b = b} {head = head} {f = f} has some d e =
+    let come = comes (leaf f 0 0 false) 0 0 record_number_limit (index_at b head) has.order in
+    rw (end_done d e) (spot_there come b (tiles b) 8 has.index.has_nodes (index_tree b head has some).is_node)

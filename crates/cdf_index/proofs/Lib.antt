@@ -16,7 +16,6 @@ pub mod EntryWritten
 pub mod Inserting
 pub mod Measured
 pub mod NodeMade
-pub mod IndexReplaced
 pub mod LeafMore
 pub mod Coming
 pub mod NodeGrown

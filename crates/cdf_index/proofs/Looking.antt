@@ -71,12 +71,12 @@ module _ {b : List ℕ} {rec turn at : ℕ} {nodes : Nodes} (a : At b rec turn n
   left_over (suc j) before most =
       let h = left_over j (λ k lt. before k (omega arith)) (omega arith) in
       let f = entry_here here h.entry (omega arith) in
-      let w = f.skips rec (lt-ltb (last_at b at j) rec (before j (omega arith))) in
+      let t = lt-ltb (last_at b at j) rec (before j (omega arith)) in
       record {
         low = f.low;
         entry = pass here h.entry (suc j) (omega arith) f;
-        same = sym (w.0 (find_in rec here.more)) ∙ h.same;
-        steps = omega (arith, h.steps, w.1 (nodes_passed rec here.more));
+        same = sym (rw t at (f.find rec (find_in rec here.more))) ∙ h.same;
+        steps = omega (arith, h.steps, rw t at (f.passed rec (nodes_passed rec here.more)));
         zero = λ z. (let y = h.zero z in ((f.zero y.0).1, y.1, y.2));
       }
 
@@ -109,19 +109,19 @@ module _ {b : List ℕ} {rec turn at : ℕ} {nodes : Nodes} (a : At b rec turn n
         let t = le-ltb (last_at b at i) rec (s.stop (omega (arith, s.most))) in
         let same = sym over.same in
         rw (sym q.first_is, sym q.last_is, sym q.offset_is) (record {
-          nothing = λ h. same ∙ f.gap rec t (lt-ltb rec _ h) (find_in rec here.more);
+          nothing = λ h. same ∙ rw (t, lt-ltb rec _ h) at (f.find rec (find_in rec here.more));
           below = λ h six.
-              (let d = f.has rec t (le-ltb _ _ h) in
+              (let u = le-ltb _ _ h in
               let m = f.of_lower six in
               let e = pass here over.entry (i + 1) refl f in
               record {
                 left = record { levels = here.down; nodes = f.low; stands = f.stands; link_is = m.0 };
-                same = sym (same ∙ d.0 (find_in rec here.more) ∙ m.2 rec);
-                passed = omega (arith, over.steps, d.1 (nodes_passed rec here.more));
+                same = sym (same ∙ rw (t, u) at (f.find rec (find_in rec here.more)) ∙ m.2 rec);
+                passed = omega (arith, over.steps, rw (t, u) at (f.passed rec (nodes_passed rec here.more)));
                 fewer = omega (arith, e.fewer);
                 zero = λ z. (let y = over.zero z in ((f.zero y.0).0, omega (arith, y.1, here.deep), λ is. omega (arith, y.1, here.deep)));
               });
-          found = λ h no. same ∙ (f.has rec t (le-ltb _ _ h)).0 (find_in rec here.more) ∙ (f.of_block no).1 rec;
+          found = λ h no. same ∙ rw (t, le-ltb _ _ h) at (f.find rec (find_in rec here.more)) ∙ (f.of_block no).1 rec;
         })
 
 -- ---- how many nodes are passed

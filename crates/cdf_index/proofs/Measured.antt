@@ -1,5 +1,5 @@
 -- The size of an index that a walk over it counts.
-use Rattle.cdf_index.proofs.Common.{AreTiles, Counts, Entries, HasIndex, HasNodes, IndexSize, List, Met, Nodes, Stands, [], ap, arith, block, entry_count, entry_leaves, entry_met, flat_map, image_limit, index_at, leaf_words, leaves_of, length, length-append, length-map, linkable-in, lower, lower_nodes, max, met_below, met_block, met_in, met_node, no_entry, no_node, node, nodes_of, size_of, suc, tile_lies, tiles, used_met, widest_met, zero, ℕ, ◌*◌, ◌++◌, ◌+◌, ◌∷◌, ◌≡◌, ◌≤◌}
+use Rattle.cdf_index.proofs.Common.{AreTiles, Counts, Entries, HasIndex, HasNodes, IndexSize, List, Met, Nodes, Stands, [], ap, arith, block, entry_count, entry_leaves, entry_met, flat_map, has, image_limit, index_at, leaf_words, leaves_of, length, length-append, length-map, linkable-in, lower, lower_nodes, max, met_below, met_block, met_in, met_node, no_entry, no_node, node, nodes_of, size_of, suc, tile_lies, tiles, used_met, widest_met, zero, ℕ, ◌*◌, ◌++◌, ◌+◌, ◌∷◌, ◌≡◌, ◌≤◌}
 use Rattle.cdf_edits.specs.Commands.Room.{entries_in, entries_below, widest, widest_below}
 use Rattle.cdf_index.proofs.Ascending.{index_stands}
 use Rattle.cdf_index.proofs.Collected.{collected}
@@ -58,7 +58,7 @@ pub measured_is : (b : List ℕ) (head : ℕ) → HasIndex b head → length b �
 measured_is b head has short size c =
     let nodes = index_at b head in
     let few = few_in b has.tiled short 8 nodes (index_stands b head has) in
-    let over = few_nodes has in
+    let short_list = few_nodes has in
     let m = measured nodes in
     let leaves : size.leaves ≡ length (leaves_of nodes) = omega (arith, c.leaves, ap length (collected nodes).0, length-map (leaves_of nodes) leaf_words, m.2) in
     let entries : size.entries ≡ entries_in nodes = omega (arith, c.entries, m.0) in

@@ -112,20 +112,9 @@ module _ {b now : List ℕ} {kind : Kind} {before : List VariableShape} {own : V
   -- ---- the edit of one variable
 
   pub index_edit : IndexEdit b now kind own index new list (space ++ entries) reborn
-  index_edit = record {
-    edit = x.edit;
-    file_clear = x.tests.file_clear;
-    attributes_clear = x.tests.attributes_clear;
-    other_clear = x.tests.other_clear;
-    cpr_clear = x.tests.cpr_clear;
-    head_clear = x.tests.head_clear;
-    count_clear = x.tests.count_clear;
-    beside = beside;
-    avoids = λ m lo hi side. avoids m lo hi (elim side [ inl l ↦ inl (omega arith) | inr l ↦ inr l ]);
-    typed = x.typed_now;
-    unused_chain = x.unused_chain;
-    index_now = x.index_now;
-  }
+  index_edit =
+      let avoid : (m lo hi : ℕ) → (hi ≤ 24) ⊎ (44 ≤ lo) → Avoids (space ++ entries) type m lo hi = λ m lo hi side. avoids m lo hi (elim side [ inl l ↦ inl (omega arith) | inr l ↦ inr l ]) in
+      search (x, x.tests, beside)
 
   pub own_edit : OwnEdit b now kind own index new list (space ++ entries) reborn
   own_edit = of_index.own_edit good at index_edit

@@ -1,5 +1,5 @@
 -- The leaf that has a record, found on the way down.
-use Rattle.cdf_index.proofs.Common.{AreInOrder, Each, Each-append, Entries, InOrder, Leaf, List, Nodes, None, Option, [], append_assoc, arith, block, entry_leaves, false, find_entry, find_in, leaf_of, leaves_of, lower, ltb, nat_tests, no_entry, no_node, node, past_entries, refl, suc, true, ℕ, ◌++◌, ◌<◌, ◌∷◌, ◌≡◌, ◌≤◌}
+use Rattle.cdf_index.proofs.Common.{AreInOrder, Each, Each-append, Entries, InOrder, Leaf, List, Nodes, None, Option, [], append_assoc, arith, block, entry_leaves, find_entry, find_in, leaf_of, leaves_of, lower, nat_tests, no_entry, no_node, node, past_entries, refl, suc, ℕ, ◌++◌, ◌<◌, ◌∷◌, ◌≡◌, ◌≤◌}
 use Rattle.cdf_edits.proofs.Edits.VariableFrame.{Each-map}
 
 -- each of the leaves has records from low to high alone
@@ -46,12 +46,6 @@ no_leaf rec low high (x ∷ xs) w h = let r = no_leaf rec low high xs w.1 h in l
 pub leaf_before : (rec low high : ℕ) (xs ys : List Leaf) → Within low high ys → rec < low → leaf_of rec (xs ++ ys) ≡ leaf_of rec xs
 leaf_before rec low high [] ys w h = no_leaf rec low high ys w h
 leaf_before rec low high (x ∷ xs) ys w h = let r = leaf_before rec low high xs ys w h in grind (arith, nat_tests)
-
-pub lt_of : (m n : ℕ) → ltb m n ≡ true → m < n
-lt_of m n t = grind (arith, nat_tests)
-
-pub ge_of : (m n : ℕ) → ltb m n ≡ false → n ≤ m
-ge_of m n t = grind (arith, nat_tests)
 
 -- what comes behind entries, with them
 behind : (low high : ℕ) (entries : Entries) (zs : List Leaf) → AreInOrder low high entries → Within (past_entries low entries) high zs → Within low high (entry_leaves entries ++ zs)

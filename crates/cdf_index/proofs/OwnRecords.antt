@@ -1,5 +1,6 @@
 -- The records of one variable: how often each stands in it, of which types they are, and what a command on the variable may do to them.
-use Rattle.cdf_index.proofs.Common.{Allowance, Anything, Each, Each-in, Field, Found, Good, In, IsOneOf, Kind, Leaf, LeafFits, List, None, Only, Option, R, Range, Some, StandsAmong, VariableShape, Z, [], ap, cpr_type, cvvr_type, false, find, find_place, fits, got-middle, has, if◌then◌else◌, index_records, inl, inr, is_a, is_a-type, is_in, kind_type, leaves_apart, leaves_of, length, linkable-type, nodes_of, nodes_stand, or_cases, places_of, range, range_at, refl, shape, shapes_of, slice_get, sym, times, times-append, true, true≢false, type_at, typed, variable_records, vdr_type, vvr_type, vxr_type, ℕ, ◌++◌, ◌+◌, ◌==◌, ◌∙◌, ◌∷◌, ◌≡◌, ◌⊎◌}
+use Rattle.cdf_index.proofs.Common.{Allowance, Anything, Each, Field, Found, Good, In, IsOneOf, Kind, Leaf, LeafFits, List, None, Only, Option, R, Range, Some, StandsAmong, VariableShape, Z, [], ap, cvvr_type, false, find, find_place, fits, got-middle, has, if◌then◌else◌, index_records, inl, inr, is_a, is_a-type, is_in, kind_type, leaves_apart, leaves_of, length, linkable-type, nodes_of, nodes_stand, or_cases, places_of, range, range_at, refl, shape, shapes_of, slice_get, sym, times, times-append, true≢false, type_at, typed, variable_records, vdr_type, vvr_type, vxr_type, ℕ, ◌++◌, ◌+◌, ◌==◌, ◌∙◌, ◌∷◌, ◌≡◌, ◌⊎◌}
+use Rattle.cdf_edits.proofs.Edits.LeafPieces.{leaf_at, of_each}
 use Rattle.cdf_edits.proofs.Edits.VariableKept.{find_none}
 
 pub parts_times : (v : VariableShape) (m : ℕ) → times m (variable_records v) ≡ times m (v.vdr ∷ []) + (times m (nodes_of v.index) + times m (places_of (leaves_of v.index)) + times m v.cpr)
@@ -10,12 +11,9 @@ parts_times v m =
 -- ---- by their types
 
 pub block_type : (b records : List ℕ) (vdr : ℕ) (leaves : List Leaf) → Each (LeafFits b records vdr) leaves → (m : ℕ) → In m (places_of leaves) → (type_at b m ≡ vvr_type) ⊎ (type_at b m ≡ cvvr_type)
-block_type b records vdr [] each m i = absurd i
-block_type b records vdr (l ∷ more) each m (inl q) = elim (or_cases (is_a b records vvr_type l.place) (is_a b records cvvr_type l.place) each.0.0) [
-  | inl p ↦ inl (ap (type_at b) q ∙ is_a-type b records vvr_type l.place p)
-  | inr p ↦ inr (ap (type_at b) q ∙ is_a-type b records cvvr_type l.place p)
-]
-block_type b records vdr (l ∷ more) each m (inr i) = block_type b records vdr more each.1 m i
+block_type b records vdr leaves each m i =
+    let l = leaf_at leaves m i in
+    rw l.1.1 (elim (or_cases (is_a b records vvr_type l.0.place) (is_a b records cvvr_type l.0.place) (of_each (LeafFits b records vdr) leaves l.0 each l.1.0).0) [ inl p ↦ inl (is_a-type b records vvr_type l.0.place p) | inr p ↦ inr (is_a-type b records cvvr_type l.0.place p) ])
 
 abbrev block_types : List ℕ
 block_types = vvr_type ∷ cvvr_type ∷ []
@@ -37,9 +35,9 @@ abbrev pub by_range : List ℕ → Kind → List Field → (Range → Allowance)
 by_range b kind fields block m None = by_type kind fields (type_at b m)
 by_range b kind fields block m (Some r) = block r
 
-by_types : (kind : Kind) (fields : List Field) → (by_type kind fields vxr_type ≡ Anything) × (by_type kind fields cpr_type ≡ Only []) × (by_type kind fields (vdr_type kind) ≡ Only fields) × (is_in (vdr_type kind) block_types ≡ false)
-by_types R fields = (refl, refl, refl, refl)
-by_types Z fields = (refl, refl, refl, refl)
+by_types : (kind : Kind) (fields : List Field) → (by_type kind fields vxr_type ≡ Anything) × (by_type kind fields (vdr_type kind) ≡ Only fields) × (is_in (vdr_type kind) block_types ≡ false)
+by_types R fields = (refl, refl, refl)
+by_types Z fields = (refl, refl, refl)
 
 module _ {b : List ℕ} (found : Found) {before : List VariableShape} {own : VariableShape} {after : List VariableShape} (good : Good b) (among : StandsAmong b found.kind before own after) (number_is : found.number ≡ length before) (fields : List Field) (block : Range → Allowance) (may : ℕ → Allowance)
     (allowed : (m : ℕ) (o : Option Range) → range_at (shape b) found m ≡ o → may m ≡ by_range b found.kind fields block m o) where
@@ -57,13 +55,10 @@ module _ {b : List ℕ} (found : Found) {before : List VariableShape} {own : Var
   typed_allowed m type t none = allowed m None (ranged m None (find_none (leaves_of own.index) m (no_block_of m type t none))) ∙ ap (by_type found.kind fields) t
 
   pub descriptor_allowed : may own.vdr ≡ Only fields
-  descriptor_allowed = typed_allowed own.vdr (vdr_type found.kind) (typed good among ∙ kind_type found.kind) (by_types found.kind fields).3 ∙ (by_types found.kind fields).2
+  descriptor_allowed = typed_allowed own.vdr (vdr_type found.kind) (typed good among ∙ kind_type found.kind) (by_types found.kind fields).2 ∙ (by_types found.kind fields).1
 
   pub node_allowed : (m : ℕ) → In m (nodes_of own.index) → may m ≡ Anything
   node_allowed m i = typed_allowed m vxr_type (linkable-type b (shape b).records vxr_type m (nodes_stand b (shape b).records 8 own.index (has good among).indexed.has_nodes m i)) refl ∙ (by_types found.kind fields).0
-
-  pub parameters_allowed : (m : ℕ) → In m own.cpr → may m ≡ Only []
-  parameters_allowed m i = typed_allowed m cpr_type (is_a-type b (shape b).records cpr_type m (Each-in (λ x. is_a b (shape b).records cpr_type x ≡ true) own.cpr (fits good among).3 m i)) refl ∙ (by_types found.kind fields).1
 
   pub block_allowed : (l : Leaf) → IsOneOf (leaves_of own.index) l → may l.place ≡ block (range l.first l.last)
   block_allowed l i = allowed l.place (Some (range l.first l.last)) (ranged l.place (Some l) (find_place (leaves_of own.index) (leaves_apart good among) l i))

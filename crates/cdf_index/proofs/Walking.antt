@@ -110,7 +110,7 @@ module _ {b : List ℕ} {head rec : ℕ} (has : HasIndex b head) where
 
   module _ {turn : ℕ} {walk : Walk} (w : IsWalk b rec (index_at b head) turn walk) where
     pub walk_over : length b ≤ turn → ⊥
-    walk_over le = few_nodes has (omega (arith, w.fewer))
+    walk_over le = absurd (omega (arith, few_nodes has, w.fewer))
 
     pub walk_end : walk.at ≡ 0 → walk.best ≡ least_first_past rec (index_at b head)
     unfolding firsts_of

@@ -65,7 +65,6 @@ end_from first seen low = if seen.lower == 0 then seen.place else spot first low
 -- the way through a chain leads through this node
 pub record SpotIs (b : List ℕ) (first levels : ℕ) (nodes : Nodes) (seen : Spot) : Type 0 where
   pub sees : SeesNode b seen.place first seen
-  pub among : In seen.place (nodes_of nodes)
   pub down : ℕ
   pub low : Nodes
   pub lower_is : seen.lower ≡ link_to low

@@ -17,12 +17,11 @@ use cdf_format::fields::{CVVR_TYPE, RECORD_TYPE, VXR_TYPE};
 use cdf_records::{Steps, read_unsigned4};
 use std::sync::ledger::Ledger;
 
-/// What a search meets at a node: a link on, a leaf, or a gap.
+/// What a search meets at a node: a link on, or its end, with a leaf or without one.
 #[derive(Clone, Copy)]
 enum Sight {
     On { link: u64 },
-    Found { leaf: Leaf },
-    Nothing,
+    End { found: Option<Leaf> },
 }
 
 /// What a node tells of a record.
@@ -41,7 +40,7 @@ fn look<A: Area>(area: &mut A, at: u64, head: &Head, rec: u32) -> Result<Sight, 
     }
     let entry = read_entry(area, at, head.room, i)?;
     if rec < entry.first {
-        return Ok(Sight::Nothing);
+        return Ok(Sight::End { found: None });
     }
     let kind = read_unsigned4(area, entry.place + RECORD_TYPE)?;
     if kind == VXR_TYPE {
@@ -53,7 +52,7 @@ fn look<A: Area>(area: &mut A, at: u64, head: &Head, rec: u32) -> Result<Sight, 
         at: entry.place,
         packed: kind == CVVR_TYPE,
     };
-    Ok(Sight::Found { leaf })
+    Ok(Sight::End { found: Some(leaf) })
 }
 
 /// The leaf that has a record, in the index that a link leads to. Each node that is passed takes a step.
@@ -80,11 +79,8 @@ pub fn find<A: Area, L: Ledger>(
             Sight::On { link } => {
                 at = link;
             }
-            Sight::Found { leaf } => {
-                return Ok(Some(leaf));
-            }
-            Sight::Nothing => {
-                return Ok(None);
+            Sight::End { found } => {
+                return Ok(found);
             }
         }
     }

@@ -7,13 +7,11 @@ ghost use Rattle.cdf_format.specs.GoodImage.{IsGoodImage};
 ghost use Rattle.cdf_format.specs.Index.{Leaf as TreeLeaf, Nodes, leaves_of, nodes_of, room_at, used_count};
 ghost use Rattle.cdf_edits.specs.Index.Blocks.{range, ranges_of, with_range};
 ghost use Rattle.cdf_edits.specs.Index.Grown.{with_leaf};
-ghost use Rattle.cdf_edits.specs.Frame.Leaves.{ChangedWithin};
 ghost use Rattle.cdf_edits.proofs.Frame.LinksStay.{SameHeads};
 ghost use Rattle.cdf_edits.proofs.Frame.Meaning.{Kept};
 ghost use Rattle.cdf_edits.proofs.Index.NodeEdited.{redo};
 ghost use Rattle.cdf_format.specs.Chains.{is_linkable};
 ghost use Rattle.cdf_format.specs.IndexOf.{HasNodes};
-ghost use Rattle.cdf_format.specs.Owners.{variable_records};
 ghost use Rattle.cdf_format.specs.Records.{vdr_vxr_head};
 ghost use Rattle.cdf_format.specs.RecordTypes.{vxr_type};
 ghost use Rattle.cdf_format.specs.Shape.{VariableShape, Shape, variables};
@@ -25,7 +23,6 @@ ghost use Rattle.cdf_index.specs.Finding.{index_at, HasIndex};
 ghost use Rattle.cdf_index.specs.Growing.{with_new, Begins, MayName};
 ghost use Rattle.cdf_index.specs.Order.{leaf_of};
 ghost use Rattle.cdf_index.specs.Reading.{HoldsRecords, stored_in};
-ghost use Rattle.cdf_index.specs.Replacing.{with_variables, HasReplaced, IsReplaced, NewIndex};
 ghost use Rattle.cdf_index.specs.Sight.{seen};
 ghost use Rattle.cdf_index.specs.Way.{way, spot, placed, widen_all};
 ghost use Rattle.cdf_index.specs.Writing.{Inserted, Split, Chained};
@@ -67,9 +64,4 @@ pub fn node_grown()
 /// An index with one leaf more is what the edit of the node at the end of the way makes of it, and then one in each node on the way, from the bottom up.
 pub fn leaf_on_its_way()
     ensures { (b : List ℕ) (head at : ℕ) (l : TreeLeaf) → HasIndex b head → head ≢ 0 → widen_all l.last (way l.first (index_at b head)) (redo (spot l.first (index_at b head)) (placed l at (spot l.first (index_at b head))) (index_at b head)) ≡ with_leaf l at (index_at b head) }
-{}
-
-/// A change within the records of one variable that gives it another index leaves a sound image sound, and every other owner as it was.
-pub fn index_replaced()
-    ensures { (b now : List ℕ) (s : Shape) (before : List VariableShape) (v : VariableShape) (after : List VariableShape) (index : Nodes) (rs zs : List VariableShape) → IsSound b s → HasReplaced s before v after index rs zs → length now ≡ length b → ChangedWithin b now (variable_records v) → NewIndex b now s v index → IsReplaced b now s (with_variables s rs zs) (before ++ after) }
 {}

@@ -5,16 +5,16 @@ ghost use Rattle.cdf_area.specs.Calls.{Reads};
 ghost use Rattle.cdf_format.specs.Index.{Nodes, nodes_of, used_count};
 ghost use Rattle.cdf_model.specs.Limits.{image_limit, level_limit};
 ghost use Rattle.cdf_index.specs.Finding.{index_at, HasIndex, NodeInside, SomeNode};
-ghost use Rattle.cdf_index.specs.Ahead.{NamesIn, chain_before, IsWalk};
+ghost use Rattle.cdf_index.specs.Ahead.{chain_before, IsWalk};
 ghost use Rattle.cdf_index.specs.Next.{least_first_past};
 ghost use Rattle.cdf_index.specs.Order.{NextsAreZero};
 ghost use Rattle.cdf_index.specs.Sight.{IsHead};
 
 use crate::nodes::{Head, read_node};
-use crate::scanning::entries_begun;
+use crate::scanning::{entries_begun, read_named};
 use cdf_area::{Area, AreaError};
-use cdf_format::fields::{RECORD_TYPE, VXR_FIRST, VXR_TYPE};
-use cdf_records::{Steps, read_unsigned4, read_unsigned8};
+use cdf_format::fields::{VXR_FIRST, VXR_TYPE};
+use cdf_records::{Steps, read_unsigned4};
 use std::sync::ledger::Ledger;
 
 /// A search on its way: the least First met so far, the link to go on from, and the chain below the last entry passed.
@@ -34,8 +34,7 @@ pub fn lower_before<A: Area>(
     lower: u64,
 ) -> Result<u64, AreaError>
     requires head { IsHead (A.image area.old) at head.now }
-    requires inside { NodeInside (A.image area.old) at }
-    requires names { NamesIn (A.image area.old) at }
+    requires node { SomeNode (A.image area.old) at }
     requires short { length (A.image area.old) ≤ image_limit }
     requires used { i ≤ used_count (A.image area.old) at }
     ensures chain { IfOk result (λ link. link ≡ chain_before (A.image area.old) at lower i) }
@@ -44,13 +43,15 @@ pub fn lower_before<A: Area>(
     if i == 0 {
         return Ok(lower);
     }
-    let place = read_unsigned8(area, at + (VXR_FIRST + 8 * head.room + 8 * (i - 1)))?;
-    let kind = read_unsigned4(area, place + RECORD_TYPE)?;
-    if kind == VXR_TYPE { Ok(place) } else { Ok(0) }
+    let named = read_named(area, at, head, i - 1)?;
+    if named.kind == VXR_TYPE {
+        Ok(named.place)
+    } else {
+        Ok(0)
+    }
 }
 
 /// The search behind a node.
-#[tactic(auto, using(crate::proofs::Looking::names_in))]
 fn advance<A: Area>(area: &mut A, walk: &Walk, head: &Head, rec: u32) -> Result<Walk, AreaError>
     requires head { IsHead (A.image area.old) walk.now.at head.now }
     requires inside { NodeInside (A.image area.old) walk.now.at }

@@ -27,13 +27,10 @@ loop-turn-preserved g c =
       area = read_more i.area c.in_ok-next.ensures.area;
     }
 
-pub returns-clause-spot : goal.returns-clause-spot
-returns-clause-spot g c = λ levels nodes tree e.
-    (let same = ap (λ (x : List ℕ). length x) c.in_ok-here.ensures.area.image in
-    absurd (spot_never c.requires.tree.tiled (c.loop-turn.invariant.chain levels nodes tree e) tree (omega (arith, c.loop-turn-test.false, c.size-turn-end.ensures))))
-
-pub returns-clause-node : goal.returns-clause-node
-returns-clause-node g c = let t = c.requires.tree in best_node t.tiled (c.loop-turn.invariant.chain t.levels t.nodes t.tree t.link)
+pub returns : goal.returns
+returns g c =
+    let t = c.requires.tree in
+    absurd (spot_never t.tiled (c.loop-turn.invariant.chain t.levels t.nodes t.tree t.link) t.tree (omega (arith, ap length c.in_ok-here.ensures.area.image, c.loop-turn-test.false, c.size-turn-end.ensures)))
 
 pub returns-then-ends_search-clause-spot : goal.returns-then-ends_search-clause-spot
 returns-then-ends_search-clause-spot g c = λ levels nodes tree e. spot_found c.requires.tree.tiled (c.loop-turn.invariant.chain levels nodes tree e) tree (c.ends_search.ensures.ends c.if-ends_search.true)

@@ -1,21 +1,15 @@
-use Rattle.cdf_index.proofs.Common.{None, Some, arith, read_more, rules, seen}
+use Rattle.cdf_index.proofs.Common.{arith, read_more, rules}
 use Rattle.cdf_index.proofs.Searching.{at_start, turns, answer, none_left, over}
 use Rattle.cdf_index.proofs.finding.find.Goals as goal
 
 pub returns-then-at-eq0-clause-value : goal.returns-then-at-eq0-clause-value
 returns-then-at-eq0-clause-value g c = none_left c.requires.index c.loop-turn.invariant.at c.if-at-eq0.true
 
-pub returns-in-Found-clause-value : goal.returns-in-Found-clause-value
-returns-in-Found-clause-value g c =
+pub returns-in-End-clause-value : goal.returns-in-End-clause-value
+returns-in-End-clause-value g c =
     let i = c.loop-turn.invariant in
-    let told = rw (c.in-Found.is, c.read_node.ensures.area.image, i.area.image) at c.in_ok-link.ensures.told in
-    answer c.requires.index c.args.rec (Some (seen c.in-Found.leaf)) (told _ c.loop-turn.turn i.at)
-
-pub returns-in-Nothing-clause-value : goal.returns-in-Nothing-clause-value
-returns-in-Nothing-clause-value g c =
-    let i = c.loop-turn.invariant in
-    let told = rw (c.in-Nothing.is, c.read_node.ensures.area.image, i.area.image) at c.in_ok-link.ensures.told in
-    answer c.requires.index c.args.rec None (told _ c.loop-turn.turn i.at)
+    let told = rw (c.in-End.is, c.read_node.ensures.area.image, i.area.image) at c.in_ok-link.ensures.told in
+    answer c.requires.index c.args.rec _ (told _ c.loop-turn.turn i.at)
 
 pub loop-turn-init : goal.loop-turn-init
 loop-turn-init g c = record { at = at_start c.requires.index; turns = turns c.requires.index (at_start c.requires.index); area = search rules; steps = omega arith }
