@@ -1,5 +1,5 @@
 -- What a search has that starts along the top chain of an index, and what of the index it has with the search from the first node.
-use Rattle.cdf_index.proofs.Common.{AreInOrder, AreTiles, Distinct, Distinct-back, Entries, HasIndex, HasNodes, In, In-append_right, InOrder, IsNode, IsOrderly, IsTree, Leaf, List, NodeFits, Nodes, Option, Stands, [], ap, append_assoc, arith, block, cases_eq, chain_reaches, either, entry_firsts, filter, find_entry, find_in, firsts_of, fold, has, index_at, inl, inr, leaf_of, least_first_past, leaves_of, length, link_to, lower, lower_nodes, ltb, min, nat_tests, no_entry, no_node, node, nodes_of, number_within, past_entries, record_number_limit, refl, spot, subst, suc, sym, tiles, way, with_leaf, zero, ℕ, ◌++◌, ◌+◌, ◌<◌, ◌∙◌, ◌≡◌, ◌≢◌, ◌≤◌}
+use Rattle.cdf_index.proofs.Common.{AreInOrder, AreTiles, Distinct, Distinct-back, Entries, HasIndex, HasNodes, In, In-append_right, InOrder, IsNode, IsOrderly, IsTree, Leaf, List, NodeFits, Nodes, Option, Stands, [], ap, append_assoc, arith, block, cases_eq, chain_reaches, either, entry_firsts, filter, find_entry, find_in, firsts_of, fold, has, index_at, inl, inr, leaf_of, least_first_past, leaves_of, length, link_to, lower, lower_nodes, ltb, min, nat_tests, no_entry, no_node, node, nodes_of, number_within, past_entries, record_number_limit, refl, spot, subst, suc, sym, tiles, true, way, with_leaf, zero, ℕ, ◌++◌, ◌+◌, ◌<◌, ◌∙◌, ◌≡◌, ◌≢◌, ◌≤◌}
 use Rattle.cdf_edits.specs.Index.Written.{last_node, top_chain}
 use Rattle.cdf_format.proofs.IndexLemmas.{levels_complete}
 use Rattle.cdf_format.specs.IndexWalk.{nodes_met}
@@ -53,23 +53,22 @@ order_from low low' high (node place room no_entry more) le o = (tt, order_from 
 order_from low low' high (node place room (block first last at packed es) more) le o = ((omega (arith, o.0.0), o.0.1, o.0.2, o.0.3), o.1)
 order_from low low' high (node place room (lower first last nodes es) more) le o = ((omega (arith, o.0.0), o.0.1, o.0.2, o.0.3, o.0.4), o.1)
 
-record Standing (b : List ℕ) (levels : ℕ) (ns : Nodes) : Type 0 where
-  pub stands : Stands b levels ns
+record Standing (b : List ℕ) (ns : Nodes) : Type 0 where
+  pub stands : Stands b 8 ns
   pub once : Distinct (nodes_of ns)
   pub order : InOrder 0 record_number_limit ns
 
-rest_stands : {b : List ℕ} {levels : ℕ} {s ns : Nodes} → Rest s ns → Standing b levels ns → Standing b levels s
-unfolding HasNodes nodes_of InOrder
+rest_stands : {b : List ℕ} {s ns : Nodes} → Rest s ns → Standing b ns → Standing b s
+unfolding nodes_of InOrder
 rest_stands whole p = p
-rest_stands {levels = zero} (behind r) p = absurd p.stands.has
-rest_stands {levels = suc levels} (behind {es = es} {more = more} r) p =
+rest_stands (behind {es = es} {more = more} r) p =
     rest_stands r (record { stands = (node_parts p.stands).more_stands; once = Distinct-back (lower_nodes es) (nodes_of more) p.once.1; order = order_from (past_entries 0 es) 0 record_number_limit more (omega arith) p.order.1 })
 
-index_standing : {b : List ℕ} {head : ℕ} → HasIndex b head → Standing b 8 (index_at b head)
+index_standing : {b : List ℕ} {head : ℕ} → HasIndex b head → Standing b (index_at b head)
 index_standing {b = b} {head = head} has = record { stands = index_stands b head has; once = has.index.once; order = has.order }
 
 -- so it is an index
-rest_index : {b : List ℕ} {at : ℕ} {s : Nodes} → AreTiles b 8 (length b) (tiles b) → Standing b 8 s → at ≡ link_to s → HasIndex b at × (index_at b at ≡ s)
+rest_index : {b : List ℕ} {at : ℕ} {s : Nodes} → AreTiles b 8 (length b) (tiles b) → Standing b s → at ≡ link_to s → HasIndex b at × (index_at b at ≡ s)
 rest_index {b = b} {at = at} {s = s} tiled p e =
     let same : index_at b at ≡ s = ap nodes_met (levels_complete b (tiles b) (length b) tiled 8 [] 0 at s e p.stands.has p.once) in (
       record {
@@ -112,38 +111,36 @@ entries_passed f low high (lower first last nodes es) other o le = grind (arith,
 
 -- ---- a search from there on meets the same
 
-record SameFrom (f : ℕ) (s ns : Nodes) : Type 0 where
-  pub rest : Rest s ns
-  pub way_is : way f s ≡ way f ns
-  pub spot_is : spot f s ≡ spot f ns
-  pub find_is : find_in f s ≡ find_in f ns
-  pub firsts_are : filter (ltb f) (firsts_of s) ≡ filter (ltb f) (firsts_of ns)
-  pub top : IsNode ns → IsNode s × In (link_to s) (top_chain ns)
-
-same_from : (f low high : ℕ) (ns : Nodes) → InOrder low high ns → SameFrom f (from_reached f ns) ns
-unfolding InOrder way spot find_in firsts_of
-same_from f low high no_node o = record { rest = whole; way_is = refl; spot_is = refl; find_is = refl; firsts_are = refl; top = λ is. absurd is }
-same_from f low high (node place room es more) o = elim (either (chain_reaches f more)) [
-  | inl t ↦
-      let r = same_from f (past_entries low es) high more o.1 in
-      let le = chain_reaches_from f (past_entries low es) high more o.1 t in
-      let on = r.top (chain_there f more t) in
-      rw t (record {
-        rest = behind r.rest;
-        way_is = rw t r.way_is;
-        spot_is = rw t r.spot_is;
-        find_is = r.find_is ∙ sym (entries_passed f low high es (find_in f more) o.0 le);
-        firsts_are = r.firsts_are ∙ sym (firsts_passed f low high es (firsts_of more) o.0 le);
-        top = λ is. (on.0, inr on.1);
-      })
-  | inr t ↦ rw t (record { rest = whole; way_is = refl; spot_is = refl; find_is = refl; firsts_are = refl; top = λ is. (tt, inl refl) })
-]
+from_by : (f : ℕ) (P : Nodes → Nodes → Type 0) → ((ns : Nodes) → P ns ns) → ((place room : ℕ) (es : Entries) (s more : Nodes) → chain_reaches f more ≡ true → P s more → P s (node place room es more)) → (ns : Nodes) → P (from_reached f ns) ns
+from_by f P here on no_node = here no_node
+from_by f P here on (node place room es more) = elim (either (chain_reaches f more)) [ inl t ↦ rw t (on place room es (from_reached f more) more t (from_by f P here on more)) | inr t ↦ rw t (here (node place room es more)) ]
 
 -- a leaf that is added there is added to the index
 pub leaf_rest : (l : Leaf) (at : ℕ) (ns : Nodes) → Rest (with_leaf l at (from_reached l.first ns)) (with_leaf l at ns)
 unfolding with_leaf
-leaf_rest l at no_node = whole
-leaf_rest l at (node place room es more) = elim (either (chain_reaches l.first more)) [ inl t ↦ rw t (behind (leaf_rest l at more)) | inr t ↦ rw t (rw t whole) ]
+leaf_rest l at ns = from_by l.first (λ s ns. Rest (with_leaf l at s) (with_leaf l at ns)) (λ ns. whole) (λ place room es s more t r. rw t (behind r)) ns
+
+from_rest : (f : ℕ) (ns : Nodes) → Rest (from_reached f ns) ns
+from_rest f ns = from_by f Rest (λ ns. whole) (λ place room es s more t r. behind r) ns
+
+-- where there is a node, it is at one of the top chain
+from_top : (f : ℕ) (ns : Nodes) → IsNode ns → IsNode (from_reached f ns) × In (link_to (from_reached f ns)) (top_chain ns)
+from_top f ns = from_by f (λ s ns. IsNode ns → IsNode s × In (link_to s) (top_chain ns)) first (λ place room es s more t r is. (let on = r (chain_there f more t) in (on.0, inr on.1))) ns
+  where
+    first : (ns : Nodes) → IsNode ns → IsNode ns × In (link_to ns) (top_chain ns)
+    first no_node is = absurd is
+    first (node place room es more) is = (tt, inl refl)
+
+abbrev Same : ℕ → Nodes → Nodes → Type 0
+Same f s ns = (low high : ℕ) → InOrder low high ns → (way f s ≡ way f ns) × (spot f s ≡ spot f ns) × (find_in f s ≡ find_in f ns) × (filter (ltb f) (firsts_of s) ≡ filter (ltb f) (firsts_of ns))
+
+same_from : (f : ℕ) (ns : Nodes) → Same f (from_reached f ns) ns
+unfolding way spot InOrder find_in firsts_of
+same_from f ns =
+    from_by f (Same f) (λ ns low high o. (refl, refl, refl, refl)) (λ place room es s more t r low high o.
+    (let e = r (past_entries low es) high o.1 in
+    let le = chain_reaches_from f (past_entries low es) high more o.1 t in
+    (rw t e.0, rw t e.1, e.2 ∙ sym (entries_passed f low high es (find_in f more) o.0 le), e.3 ∙ sym (firsts_passed f low high es (firsts_of more) o.0 le)))) ns
 
 -- what a start has, and what of the index
 pub record StartsAt (b : List ℕ) (head rec start : ℕ) : Type 0 where
@@ -165,20 +162,21 @@ none_starts {b = b} {head = head} has rec z = ap (λ (x : Nodes). link_to (from_
 pub starts_at : {b : List ℕ} {head rec start : ℕ} → HasIndex b head → IsStart b head rec start → StartsAt b head rec start
 starts_at {b = b} {head = head} {rec = rec} {start = start} has e =
     let ns = index_at b head in
-    let same = same_from rec 0 record_number_limit ns has.order in
-    let x = rest_index has.tiled (rest_stands same.rest (index_standing has)) e in
-    let there = λ (n : head ≢ 0). same.top (node_there_by head ns has.index.link_is n) in
+    let rest = from_rest rec ns in
+    let same = same_from rec ns 0 record_number_limit has.order in
+    let x = rest_index has.tiled (rest_stands rest (index_standing has)) e in
+    let there = λ (n : head ≢ 0). from_top rec ns (node_there_by head ns has.index.link_is n) in
     let some : start ≢ 0 → head ≢ 0 = λ n z. n (e ∙ none_starts has rec z) in
     record {
       has = x.0;
       index_is = x.1;
-      rest = rw x.1 same.rest;
-      leaf_is = sym (find_is rec 0 record_number_limit (index_at b start) x.0.order) ∙ ap (find_in rec) x.1 ∙ same.find_is ∙ find_is rec 0 record_number_limit ns has.order;
-      next_is = rw x.1 (ap (λ (xs : List ℕ). number_within (fold min (record_number_limit + 1) xs)) same.firsts_are);
-      way_is = rw x.1 same.way_is;
-      spot_is = rw x.1 same.spot_is;
-      among = rw x.1 (rest_among same.rest);
-      empty = λ z. elim (cases_eq head 0) [ inl none ↦ none | inr n ↦ absurd (subst IsNode (none_there b 8 (from_reached rec ns) has.tiled (rest_has b (tiles b) 8 same.rest has.index.has_nodes) (sym e ∙ z)) (there n).0) ];
+      rest = rw x.1 rest;
+      leaf_is = sym (find_is rec 0 record_number_limit (index_at b start) x.0.order) ∙ ap (find_in rec) x.1 ∙ same.2 ∙ find_is rec 0 record_number_limit ns has.order;
+      next_is = rw x.1 (ap (λ (xs : List ℕ). number_within (fold min (record_number_limit + 1) xs)) same.3);
+      way_is = rw x.1 same.0;
+      spot_is = rw x.1 same.1;
+      among = rw x.1 (rest_among rest);
+      empty = λ z. elim (cases_eq head 0) [ inl none ↦ none | inr n ↦ absurd (subst IsNode (none_there b 8 (from_reached rec ns) has.tiled (rest_has b (tiles b) 8 rest has.index.has_nodes) (sym e ∙ z)) (there n).0) ];
       some = some;
       top = λ n. rw e (there (some n)).1;
     }
