@@ -1,9 +1,6 @@
 use Rattle.cdf_index.proofs.Common.{IsTree, List, Nodes, SomeTree, SpotIs, Step, arith, index_at, link_to, read_more, read_once, refl, subst, sym, ℕ, ◌+◌, ◌-◌, ◌≡◌}
-use Rattle.cdf_index.proofs.LevelsDown.{Descending, some_tree, descend_start, next_level, last_among, all_among, descend_more, descend_never}
+use Rattle.cdf_index.proofs.LevelsDown.{Descending, descend_start, next_level, last_among, all_among, descend_more, descend_never}
 use Rattle.cdf_index.proofs.descending.way_down.Goals as goal
-
-pub spot_of_chain-requires-clause-tree : goal.spot_of_chain-requires-clause-tree
-spot_of_chain-requires-clause-tree g c = some_tree (g.A.Area.image c.args.area.now) c.args.head c.requires.index c.requires.some
 
 pub loop-turn-init : goal.loop-turn-init
 loop-turn-init g c =
