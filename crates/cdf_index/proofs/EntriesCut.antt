@@ -1,5 +1,5 @@
 -- Where the entries of a node are cut in two: those before a record, and the others.
-use Rattle.cdf_index.proofs.Common.{Ascends, Begun, Bool, IsCut, List, ap, arith, false, in_column, inl, inr, refl, subst, suc, true, used_count, zero, ℕ, ◌+◌, ◌<◌, ◌≡◌, ◌≤◌}
+use Rattle.cdf_index.proofs.Common.{Ascends, Bool, List, ap, arith, false, in_column, inl, inr, refl, subst, suc, true, zero, ℕ, ◌+◌, ◌<◌, ◌≡◌, ◌≤◌}
 use Rattle.std.proofs.Common.{if◌then◌else◌}
 use Rattle.std.proofs.lemmas.Bool.{cases_lt}
 
@@ -37,6 +37,3 @@ parted_all P Q n count before stop most = record { before = λ j lt. subst P (sa
 pub one_more : (P Q : ℕ → Type 0) (k i count : ℕ) (t : Bool) (rest : ℕ) → (P k → t ≡ true) → (Q k → t ≡ false) → Parted P Q k i (suc count) → ((m : ℕ) → Parted P Q (suc k) m count → m ≡ rest) → i ≡ (if t then suc rest else 0)
 one_more P Q k zero count t rest passes fails p r = let z : k + 0 ≡ k = omega arith in rw (fails (subst Q z (p.stop (omega arith)))) refl
 one_more P Q k (suc i) count t rest passes fails p r = let z : k + 0 ≡ k = omega arith in rw (passes (subst P z (p.before 0 (omega arith)))) (ap suc (r i (parted_rest P Q k i count p)))
-
-pub begun_by : (b : List ℕ) (at rec used bound i : ℕ) → used ≡ used_count b at → bound ≡ rec → IsCut b at 28 used (bound + 1) i → Begun b at rec i
-begun_by b at rec used bound i u q c = record { before = λ j lt. (let h = c.before j lt in omega arith); most = let m = c.most in omega arith; stop = λ lt. (let h = c.stop (omega arith) in omega arith) }

@@ -1,5 +1,5 @@
 -- The way down to the place of a new entry, from level to level.
-use Rattle.cdf_index.proofs.Common.{AreTiles, Each, Each-append, HasIndex, In, InOrder, IsAmong, IsTree, List, Nodes, SomeNode, SomeTree, Spot, SpotIs, Step, StepSays, [], ap, append-nil, append_assoc, arith, false, index_at, leaf, length, link_to, map, map-append, nodes_of, record_number_limit, refl, room_at, spot, step_pair, subst, sym, tiles, way, ℕ, ◌++◌, ◌+◌, ◌-◌, ◌∙◌, ◌∷◌, ◌≡◌, ◌≢◌, ◌≤◌}
+use Rattle.cdf_index.proofs.Common.{AreTiles, Each, Each-append, HasIndex, In, InOrder, IsAmong, IsTree, List, Nodes, SomeTree, Spot, SpotIs, Step, StepSays, [], ap, append-nil, append_assoc, arith, false, index_at, leaf, length, link_to, map, map-append, nodes_of, record_number_limit, refl, room_at, spot, step_pair, subst, sym, tiles, way, ℕ, ◌++◌, ◌+◌, ◌-◌, ◌∙◌, ◌∷◌, ◌≡◌, ◌≢◌, ◌≤◌}
 use Rattle.cdf_index.proofs.Ascending.{index_stands}
 use Rattle.cdf_index.proofs.Coming.{comes}
 use Rattle.cdf_index.proofs.GoingDown.{top}
@@ -74,9 +74,6 @@ module _ {b : List ℕ} {f turn : ℕ} {total : Nodes} {passed : List Step} {end
 
   pub descend_never : 8 ≤ turn → ⊥
   descend_never le = let t = top b d.levels d.nodes d.tree in absurd (omega (arith, d.deep, t.fewer))
-
-pub some_node : (b : List ℕ) (at : ℕ) → SomeTree b at → SomeNode b at
-some_node b at t = record { levels = t.levels; nodes = t.nodes; tiled = t.tiled; stands = t.tree.stands; is_node = t.tree.is_node; link = t.link }
 
 pub last_among : {b : List ℕ} {head f turn : ℕ} {passed : List Step} {end : Spot} → HasIndex b head → head ≢ 0 → Descending b f turn (index_at b head) passed end → end.lower ≡ 0 → In end.place (nodes_of (index_at b head))
 last_among {b = b} {head = head} {f = f} has some d e =

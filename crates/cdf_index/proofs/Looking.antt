@@ -1,5 +1,5 @@
 -- What is read at one node leads the search on.
-use Rattle.cdf_index.proofs.Common.{AreTiles, At, ChainFrom, Entries, HasNodes, In, IsNode, IsOrderly, List, LowerAreZero, NamesIn, NextsAreZero, NodeInside, Nodes, None, SaysEntry, Scanned, Some, SomeNode, arith, entry_count, eqb, find_entry, find_in, last_at, le-ltb, leaf, length, link_to, linkable-in, lt-ltb, next_of, no_node, node, nodes_of, nodes_passed, offset_at, passed_from, refl, subst, suc, sym, tile_lies, tiles, type_at, used_count, vxr_type, zero, ℕ, ◌+◌, ◌<◌, ◌∙◌, ◌≡◌, ◌≢◌, ◌≤◌}
+use Rattle.cdf_index.proofs.Common.{AreTiles, Ascends, At, ChainFrom, Entries, HasNodes, In, IsNode, List, LowerAreZero, NamesIn, NextsAreZero, NodeInside, Nodes, None, SaysEntry, Scanned, Some, SomeNode, arith, entry_count, eqb, find_entry, find_in, last_at, le-ltb, leaf, length, link_to, linkable-in, lt-ltb, next_of, no_node, node, nodes_of, nodes_passed, offset_at, passed_from, refl, room_at, subst, suc, sym, tile_lies, tiles, type_at, used_count, vxr_type, zero, ℕ, ◌*◌, ◌+◌, ◌<◌, ◌∙◌, ◌≡◌, ◌≢◌, ◌≤◌}
 use Rattle.cdf_format.proofs.ChainsLemmas.{some_place}
 use Rattle.cdf_index.proofs.EntriesLeft.{EntriesLeft}
 pub use Rattle.cdf_index.proofs.FirstEntry.{node_there}
@@ -32,8 +32,12 @@ names_in b at n = λ j lt.
     let lies = tile_lies b 8 (length b) (tiles b) (offset_at b at j) n.tiled (named_at 0 j j (omega arith) o.entries o.parts.left (omega (arith, o.parts.says.used_is))) in
     omega (arith, lies.high, lies.long))
 
-pub node_orderly : (b : List ℕ) (at : ℕ) → SomeNode b at → IsOrderly b at
-node_orderly b at n = (node_opened n).here
+-- its Firsts ascend, and its Lasts
+pub node_firsts : (b : List ℕ) (at used : ℕ) → SomeNode b at → used ≡ used_count b at → Ascends b at 28 used
+node_firsts b at used n u = rw u (node_opened n).here.firsts
+
+pub node_lasts : (b : List ℕ) (at room used : ℕ) → SomeNode b at → room ≡ room_at b at → used ≡ used_count b at → Ascends b at (28 + 4 * room) used
+node_lasts b at room used n r u = rw (r, u) (node_opened n).here.lasts
 
 pub node_inside : (b : List ℕ) (at : ℕ) → SomeNode b at → NodeInside b at
 node_inside b at n =

@@ -49,6 +49,7 @@ impl Gather for IndexParts {
 }
 
 /// The parts of the index that a link leads to.
+#[tactic(auto, using(crate::proofs::ChainWalk::whole_chain))]
 pub fn index_parts<A: Area>(alloc: Global, area: &mut A, head: u64) -> Result<IndexParts, AreaError>
     requires index { HasIndex (A.image area.old) head }
     requires short { length (A.image area.old) ≤ image_limit }

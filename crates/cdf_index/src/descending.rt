@@ -141,6 +141,7 @@ fn spot_of_chain<A: Area, L: Ledger>(
 }
 
 /// The way that an index leads down to the node that gets a new entry.
+#[tactic(auto, using(crate::proofs::LevelsDown::some_tree))]
 pub fn way_down<A: Area, L: Ledger>(
     alloc: Global,
     area: &mut A,

@@ -39,16 +39,19 @@ pub fn good_block()
 {}
 
 /// The record of a number that a variable of a good image has is one of the records of the leaf that has it. Past MaxRec, and where no leaf has it, there is none.
+#[tactic(auto, using(crate::proofs::StoredRecords::stored_record))]
 pub fn stored_record()
     ensures { (b : List ℕ) (s : Shape) (before : List VariableShape) (v : VariableShape) (after : List VariableShape) → IsGoodImage b s → IsSound b s → variables s ≡ before ++ v ∷ after → (rec : ℕ) → item_at rec (variable_of b v).recs ≡ stored_in b v.vdr rec (leaf_of rec (leaves_of v.index)) }
 {}
 
 /// The block that has a record of a variable of a good image is not packed.
+#[tactic(auto, using(crate::proofs::PlainBlocks::plain_block))]
 pub fn plain_block()
     ensures { (b : List ℕ) (s : Shape) (before : List VariableShape) (v : VariableShape) (after : List VariableShape) → IsGoodImage b s → IsSound b s → variables s ≡ before ++ v ∷ after → (rec : ℕ) (leaf : TreeLeaf) → leaf_of rec (leaves_of v.index) ≡ Some leaf → leaf.packed ≡ false }
 {}
 
 /// An index with one leaf more has the leaves that it had, and this one before the first that begins past it.
+#[tactic(auto, using(crate::proofs::LeafMore::leaves_more, crate::proofs::LeafMore::ranges_new))]
 pub fn leaf_more()
     ensures leaves { (b : List ℕ) (head at : ℕ) (l : TreeLeaf) → HasIndex b head → leaves_of (with_leaf l at (index_at b head)) ≡ with_new l (leaves_of (index_at b head)) }
     ensures ranges { (b : List ℕ) (head at : ℕ) (l : TreeLeaf) → HasIndex b head → ranges_of (with_leaf l at (index_at b head)) ≡ with_range (range l.first l.last) (ranges_of (index_at b head)) }

@@ -55,6 +55,7 @@ impl Gather for IndexSize {
 }
 
 /// The size of the index that a link leads to.
+#[tactic(auto, using(crate::proofs::ChainWalk::whole_chain))]
 pub fn index_size<A: Area>(area: &mut A, head: u64) -> Result<IndexSize, AreaError>
     requires index { HasIndex (A.image area.old) head }
     requires short { length (A.image area.old) ≤ image_limit }

@@ -44,7 +44,7 @@ fn count_below<A: Area>(
 }
 
 /// The number of the first entry of a node that ends at a record or later.
-#[tactic(auto, using(crate::proofs::Looking::node_inside))]
+#[tactic(auto, using(crate::proofs::Looking::node_inside, crate::proofs::Looking::node_lasts))]
 pub fn entries_before<A: Area>(
     area: &mut A,
     at: u64,
@@ -68,7 +68,7 @@ pub fn entries_before<A: Area>(
 }
 
 /// How many of the first entries of a node begin at a record or before it.
-#[tactic(auto, using(crate::proofs::Looking::node_inside))]
+#[tactic(auto, using(crate::proofs::Looking::node_inside, crate::proofs::Looking::node_firsts))]
 pub fn entries_begun<A: Area>(
     area: &mut A,
     at: u64,

@@ -1,10 +1,7 @@
 use Rattle.cdf_index.proofs.Common.{index_at, ◌∙◌}
-use Rattle.cdf_index.proofs.ChainWalk.{whole_chain, whole_met}
+use Rattle.cdf_index.proofs.ChainWalk.{whole_met}
 use Rattle.cdf_index.proofs.Collected.{collected}
 use Rattle.cdf_index.proofs.collecting.index_parts.Goals as goal
-
-pub gather_chain-requires-clause-chain : goal.gather_chain-requires-clause-chain
-gather_chain-requires-clause-chain g c = whole_chain _ c.args.head c.requires.index
 
 pub returns-clause-leaves : goal.returns-clause-leaves
 returns-clause-leaves g c =

@@ -1,9 +1,5 @@
 use Rattle.cdf_index.proofs.Common.{IsHead, List, SpotIs, ap, chain_before, refl, spot_at, subst, sym, used_count, ℕ, ◌∙◌, ◌≡◌, ◌≤◌}
-use Rattle.cdf_index.proofs.Searching.{node_now}
 use Rattle.cdf_index.proofs.descending.spot_of_chain.Goals as goal
-
-pub lower_before-requires-clause-node : goal.lower_before-requires-clause-node
-lower_before-requires-clause-node g c = node_now (g.A.Area.image c.args.area.now) _ c.in_ok-stop.stop.place c.in_ok-stop.ensures.area.image c.in_ok-stop.ensures.node
 
 pub lower_before-requires-clause-head : goal.lower_before-requires-clause-head
 lower_before-requires-clause-head g c =

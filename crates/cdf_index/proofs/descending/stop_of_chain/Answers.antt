@@ -1,10 +1,6 @@
 use Rattle.cdf_index.proofs.Common.{List, SeesNode, SomeNode, ap, arith, length, read_more, read_once, spot_at, subst, sym, ℕ}
 use Rattle.cdf_index.proofs.GoingDown.{chain_start, spot_found, best_node, next_tree, better_chain, spot_never}
-use Rattle.cdf_index.proofs.LevelsDown.{some_node}
 use Rattle.cdf_index.proofs.descending.stop_of_chain.Goals as goal
-
-pub see_node-requires-clause-node : goal.see_node-requires-clause-node
-see_node-requires-clause-node g c = some_node (g.A.Area.image c.args.area.now) c.args.at c.requires.tree
 
 pub loop-turn-init : goal.loop-turn-init
 loop-turn-init g c =

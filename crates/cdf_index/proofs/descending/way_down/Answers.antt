@@ -1,10 +1,6 @@
 use Rattle.cdf_index.proofs.Common.{IsTree, List, Nodes, SomeTree, SpotIs, Step, arith, index_at, link_to, read_more, read_once, refl, subst, sym, ℕ, ◌+◌, ◌-◌, ◌≡◌}
-use Rattle.cdf_area.proofs.Calls.{read_done}
-use Rattle.cdf_index.proofs.LevelsDown.{Descending, some_tree, descend_start, next_level, way_done, end_done, last_among, all_among, descend_more, descend_never}
+use Rattle.cdf_index.proofs.LevelsDown.{Descending, descend_start, next_level, last_among, all_among, descend_more, descend_never}
 use Rattle.cdf_index.proofs.descending.way_down.Goals as goal
-
-pub spot_of_chain-requires-clause-tree : goal.spot_of_chain-requires-clause-tree
-spot_of_chain-requires-clause-tree g c = some_tree (g.A.Area.image c.args.area.now) c.args.head c.requires.index c.requires.some
 
 pub loop-turn-init : goal.loop-turn-init
 loop-turn-init g c =
@@ -31,11 +27,11 @@ loop-turn-preserved g c =
       area = read_more i.area c.in_ok-below.ensures.area;
     }
 
-pub returns-then-end-eq0 : goal.returns-then-end-eq0
-returns-then-end-eq0 g c =
-    let d = c.loop-turn.invariant.descending in
-    let e = c.if-end-eq0.true in
-    record { steps = way_done d e; end = end_done d e; sees = d.ends.sees; last = last_among c.requires.index c.requires.some d e; among = all_among d c.requires.index.order e; say = d.say; area = read_done c.loop-turn.invariant.area }
+pub returns-then-end-eq0-clause-last : goal.returns-then-end-eq0-clause-last
+returns-then-end-eq0-clause-last g c = last_among c.requires.index c.requires.some c.loop-turn.invariant.descending c.if-end-eq0.true
+
+pub returns-then-end-eq0-clause-among : goal.returns-then-end-eq0-clause-among
+returns-then-end-eq0-clause-among g c = all_among c.loop-turn.invariant.descending c.requires.index.order c.if-end-eq0.true
 
 pub returns : goal.returns
 returns g c = absurd (descend_never c.loop-turn.invariant.descending (omega (arith, c.loop-turn-test.false)))

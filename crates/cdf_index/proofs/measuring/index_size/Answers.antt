@@ -1,10 +1,7 @@
 use Rattle.cdf_index.proofs.Common.{refl}
-use Rattle.cdf_index.proofs.ChainWalk.{whole_chain, whole_met}
+use Rattle.cdf_index.proofs.ChainWalk.{whole_met}
 use Rattle.cdf_index.proofs.Measured.{measured_is}
 use Rattle.cdf_index.proofs.measuring.index_size.Goals as goal
-
-pub gather_chain-requires-clause-chain : goal.gather_chain-requires-clause-chain
-gather_chain-requires-clause-chain g c = whole_chain _ c.args.head c.requires.index
 
 pub returns-clause-value : goal.returns-clause-value
 returns-clause-value g c =
