@@ -1,5 +1,5 @@
 -- What the calls ask for that add a leaf, and what they leave.
-use Rattle.cdf_leaves.proofs.Common.{AddsLeaf, AreTiles, Bool, ChainInside, ChainMade, Changed, Comes, Distinct, Each, Each-append, Each-map, Entry, EntryPut, Field, FieldSet, Good, Grew, HasIndex, HasNodes, In, IndexStarted, IndexTouch, Inserted, IsAmong, IsWay, Kept, Kind, Leaf, List, MayName, MayPut, NodeFits, NodeMade, Nodes, Owed, Placed, SameHeads, SplitMade, Spot, StandsAmong, Step, StepSays, StepStands, VariableShape, WayStands, WidenedAlong, [], ap, apart, arith, begins_by, bytes_eq, cases_eq, cases_lt, chain_end, changed_then, changed_wider, comes, either, entries_beside, entry, eof, false, field_set, front_stays, gdr_offset, gdr_type, grew, has, heads_stay, image_limit, index_at, inl, inr, is_linkable, kept_then, last_node, leaf, leaves_of, length, link_to, linkable-from, long, lt-leb, made, map, max, new_room, no_zero, nodes_of, nothing_changed, number, number_kept, others_stay, placed, record_number_limit, redo, redone, refl, room_at, same_node, shape, size_at, sound, spot, step_pair, subst, sym, tile, tile_lies, tiles_same, top_chain, touch, true, type_of_body, uir_type, used_count, variables, vdr_vxr_head, vdr_vxr_tail, vdrs, vvr_type, vxr_bytes, vxr_type, vxr_vxr_next, way, widen_all, widest, with_field, with_leaf, ℕ, ◌*◌, ◌++◌, ◌+◌, ◌-◌, ◌<◌, ◌∙◌, ◌∷◌, ◌≡◌, ◌≢◌, ◌≤◌, ◌⊎◌}
+use Rattle.cdf_leaves.proofs.Common.{AddsLeaf, AreTiles, Bool, ChainInside, ChainMade, Changed, Comes, Distinct, Each, Each-append, Each-map, Entry, EntryPut, Field, FieldSet, Good, Grew, HasIndex, HasNodes, In, IndexStarted, IndexTouch, Inserted, IsAmong, IsWay, Kept, Kind, Leaf, List, MayName, MayPut, NodeFits, NodeMade, Nodes, Owed, Placed, SameHeads, SplitMade, Spot, StandsAmong, Step, StepSays, StepStands, VariableShape, WayStands, WidenedAlong, [], ap, apart, arith, begins_by, block, bytes_eq, cases_eq, cases_lt, chain_end, changed_then, changed_wider, comes, each, either, entries_beside, entry, eof, false, field_set, front_stays, gdr_offset, gdr_type, grew, has, heads_stay, image_limit, index_at, inl, inr, is_linkable, kept_then, last_node, leaf, leaves_of, length, link_to, linkable-from, long, lt-leb, made, map, max, new_room, no_zero, node, nodes_of, nothing_changed, number, number_kept, others_stay, placed, record_number_limit, redo, redone, refl, room_at, room_stays, rules, same_node, shape, size_at, sound, spot, step_pair, subst, sym, tile, tile_lies, tiles_same, top_chain, touch, true, type_of_body, typed, uir_type, used_count, variables, vdr_vxr_head, vdr_vxr_tail, vdrs, vvr_type, vxr_bytes, vxr_type, vxr_vxr_next, way, widen_all, widened, widest, with_field, with_leaf, ℕ, ◌*◌, ◌++◌, ◌+◌, ◌-◌, ◌<◌, ◌∙◌, ◌∷◌, ◌≡◌, ◌≢◌, ◌≤◌, ◌⊎◌}
 use Rattle.cdf_edits.proofs.Edits.RecordGrown as of_grown
 use Rattle.cdf_format.proofs.NameRules.{bytes_eq-same}
 use Rattle.cdf_format.proofs.Tests.{same_of_bytes_eq}
@@ -8,6 +8,7 @@ use Rattle.cdf_index.proofs.NodeGrown.{grown_owed, split_owed, chained_owed}
 use Rattle.cdf_index.proofs.NodeSplit.{split}
 use Rattle.cdf_index.proofs.OneVariable.{one_of}
 use Rattle.cdf_index.specs.declared.descending.Way.{Way}
+use Rattle.std.proofs.lemmas.List.{length-map, nil_from_length}
 use Rattle.cdf_leaves.proofs.Along.{along, InNode, OnWay, Ready}
 use Rattle.cdf_leaves.proofs.Grown.{NodeNow, fed_node, names_leaf, node_then, room_full, room_with, was}
 use Rattle.cdf_leaves.proofs.LeafGrown.{Roomy, State, all_taken, block_is, block_there, blocks, first_added, leaf_added, made_roomy, no_roomy, old, once_every, spare_old, stand, start}
@@ -94,19 +95,12 @@ module _ {b : List ℕ} {kind : Kind} {before : List VariableShape} {own : Varia
 
       pub may_put : MayPut filled found.end
       may_put =
-          let n = own_node good at_own found.end.place last_there in
+          let there = late.sub found.end.place (own_node good at_own found.end.place last_there).0 in
+          let typed = node_type good at_own late found.end.place last_there in
+          let fits = fits_still b filled found.end.place (node_spares good at_own late found.end.place last_there) (node_fits good at_own found.end.place last_there) in
           let s = still_sees good at_own late w.sees last_there in
-          record {
-            sound = late.sound;
-            ends = late_ends;
-            there = late.sub found.end.place n.0;
-            typed = node_type good at_own late found.end.place last_there;
-            fits = fits_still b filled found.end.place (node_spares good at_own late found.end.place last_there) (node_fits good at_own found.end.place last_there);
-            room_is = s.room_is;
-            used_is = s.used_is;
-            next_is = s.next_is;
-            most = omega (arith, w.sees.used_is, w.sees.begun.most);
-          }
+          let most : found.end.begun ≤ found.end.used = omega (arith, w.sees.used_is, w.sees.begun.most) in
+          search (rules, late.sound, late_ends, there, typed, fits, s, most)
 
       pub wide_enough : max 7 found.end.room ≤ widest (index_at b head)
       wide_enough = rw index (omega (arith, w.sees.room_is, seven_at_least own.index, room_in b (shape b).records 8 found.end.place own.index (has good at_own).indexed.has_nodes last_there))
@@ -354,13 +348,9 @@ module _ {b : List ℕ} {kind : Kind} {before : List VariableShape} {own : Varia
           grown_stays why =
               let r = stands_now.taken in
               let none : at ≡ 0 → new ≡ 0 = λ z. elim (cases_lt 0 new) [ inl s ↦ absurd (omega (arith, (tile_lies stands_now.roomy 8 (length stands_now.roomy) now_records at (g r).sound.has_shape.tiled (r.fresh s).stands).low)) | inr le ↦ omega arith ] in
-              let same = top.stays (elim why [ inl z ↦ inl (none z) | inr ne ↦ inr (λ z. ne (no_steps found.steps.items (way_is ∙ z))) ]) in
+              let same = top.stays (elim why [ inl z ↦ inl (none z) | inr ne ↦ inr (λ z. ne (nil_from_length found.steps.items (simp length-map at (ap length (way_is ∙ z))))) ]) in
               let test : bytes_eq (top_chain own.index) (top_chain after_leaf) ≡ true = ap (bytes_eq (top_chain own.index)) same ∙ bytes_eq-same (top_chain own.index) in
               record { place = place; at = at; added = leaf_added good at_own block type_is first last at r state nothing_changed refl (vdr_field vdr_vxr_head (omega arith) ∙ link_is) (rw test (vdr_field vdr_vxr_tail (omega arith))) }
-            where
-              no_steps : (steps : List Step) → map step_pair steps ≡ [] → steps ≡ []
-              no_steps [] e = refl
-              no_steps (step ∷ more) e = absurd (cc)
 
           pub grown_tail : {now : List ℕ} → at ≢ 0 → found.steps.items ≡ [] → now ≡ with_field wide own.vdr vdr_vxr_tail (chain_end (length wide) wide head) → AddsLeaf b now own first last body
           grown_tail {now = now} ne none is =

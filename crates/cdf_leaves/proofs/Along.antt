@@ -1,5 +1,5 @@
 -- The nodes on a way are widened one by one, the last one first.
-use Rattle.cdf_leaves.proofs.Common.{AreTiles, Changed, Distinct, Each, Each-append, Each-map, HasNodes, In, Kept, List, NodeFits, NodeInside, Nodes, Step, StepStands, Touch, WayStands, Widened, WidenedAlong, [], arith, cases_eq, changed_then, drop, edited, heads_stay, inl, inr, kept_then, leaves_of, length, map, nodes_of, nothing_changed, others_stay, refl, room_at, slice_index_or, step_pair, subst, suc, sym, tiles_same, touch, widen_all, wider, zero, ℕ, ◌*◌, ◌++◌, ◌+◌, ◌<◌, ◌∙◌, ◌∷◌, ◌≡◌, ◌≤◌}
+use Rattle.cdf_leaves.proofs.Common.{AreTiles, Changed, Distinct, Each, Each-append, Each-map, HasNodes, In, Kept, List, NodeFits, NodeInside, Nodes, Step, StepStands, Touch, WayStands, Widened, WidenedAlong, [], arith, cases_eq, changed_then, drop, edited, fits, has, heads_stay, inl, inr, kept_then, leaves_of, length, map, nodes_of, nothing_changed, others_stay, refl, room_at, slice_index_or, step_pair, subst, suc, sym, tiles_same, touch, widen_all, wider, zero, ℕ, ◌*◌, ◌++◌, ◌+◌, ◌<◌, ◌∙◌, ◌∷◌, ◌≡◌, ◌≤◌}
 use Rattle.cdf_index.proofs.NodeWider.{wider_owed}
 use Rattle.cdf_leaves.proofs.NodesMore.{places, all_wider}
 use Rattle.cdf_leaves.proofs.Spares.{Spares, fits_still, front_lies, kept_self, node_inside, spares_kept, spares_then, spares_widened}

@@ -1,10 +1,11 @@
 -- A leaf more in an index, from the image in which its block was placed: what was done step by step is what a leaf more makes of the image.
-use Rattle.cdf_leaves.proofs.Common.{AreTiles, Bool, Changed, Counts, Distinct, Each, Each-append, Entry, FieldSet, Good, Grew, HasNodes, In, IndexTouch, Kept, Kind, Leaf, LeafAdded, List, MayName, Names, NodeFits, NodeMade, NodeTaken, Nodes, Placed, SaysNode, StandsAmong, TailGoesOn, Touch, UnusedEntries, VariableShape, [], ap, apart, arith, changed_again, changed_then, changed_wider, each, entry, false, field_set, gdr_type, grew, grew_none, grew_then, has, heads_stay, image_limit, in_nodes_with_leaf, inl, inr, leaf, leaf_acts, leaves_of, leb, length, link_to, linkable-from, linkable-in, long, made, new_room, no_entry, no_node, node, nodes_kept, nodes_of, nothing_changed, number, others_stay, record_number_limit, refl, shape, size_at, size_kept, some_place, sound, stands, subst, suc, sym, tile_lies, touch, type_at, type_kept, type_of_body, uir_type, unlike, used_count, vdr_vxr_head, vdr_vxr_tail, vvr_type, vxr_type, with_block, with_field, with_leaf, zero, ℕ, ◌++◌, ◌+◌, ◌<◌, ◌^◌, ◌∙◌, ◌∷◌, ◌≡◌, ◌≢◌, ◌≤◌}
+use Rattle.cdf_leaves.proofs.Common.{AreTiles, Bool, Changed, Counts, Distinct, Each, Each-append, Entry, FieldSet, Good, Grew, HasNodes, In, IndexTouch, Kept, Kind, Leaf, LeafAdded, List, Names, NodeFits, NodeMade, NodeTaken, Nodes, Placed, SaysNode, StandsAmong, TailGoesOn, Touch, UnusedEntries, VariableShape, [], ap, apart, arith, block, changed_again, changed_then, changed_wider, counts, each, entry, false, field_set, fills, fits, gdr_type, grew, grew_none, grew_then, has, heads_stay, image_limit, in_nodes_with_leaf, index_at, inl, inr, leaf, leaf_acts, leaves_of, leb, length, link_to, linkable-from, long, made, new_room, no_entry, no_node, node, nodes_kept, nodes_of, nothing_changed, number, others_stay, record_number_limit, refl, shape, size_at, size_kept, sound, stands, subst, suc, sym, tile_lies, touch, type_at, type_kept, type_of_body, uir_type, unlike, used_count, vdr_vxr_head, vdr_vxr_tail, vvr_type, vxr_type, with_block, with_field, with_leaf, zero, ℕ, ◌++◌, ◌+◌, ◌<◌, ◌^◌, ◌∙◌, ◌∷◌, ◌≡◌, ◌≢◌, ◌≤◌}
 use Rattle.cdf_index.proofs.LeafMore.{leaves_more}
+use Rattle.cdf_index.proofs.Looking.{none_there}
 use Rattle.cdf_leaves.proofs.Grown.{NodeNow, names_leaf, new_node, node_then, old_node, was, was_new, was_old}
 use Rattle.cdf_leaves.proofs.NodesMore.{places}
 use Rattle.cdf_leaves.proofs.NodesOf.{in_new, all_once}
-use Rattle.cdf_leaves.proofs.Own.{node_fits, node_spares, node_type, now_blocks, own_node, own_order, vdr_apart, vdr_in, vdr_kept, vdr_used}
+use Rattle.cdf_leaves.proofs.Own.{node_fits, node_spares, node_type, now_blocks, own_node, own_order, searchable, vdr_apart, vdr_in, vdr_kept, vdr_used}
 use Rattle.cdf_leaves.proofs.Spares.{spares_kept}
 
 -- a record that was taken became a node
@@ -30,21 +31,6 @@ pub record State (b roomy now : List ℕ) (own : VariableShape) (new at : ℕ) (
   pub vdr : Kept b now own.vdr
   pub has : HasNodes now (shape roomy).records 8 tree
   pub each : (m : ℕ) → In m every → NodeNow b now (nodes_of own.index) (was m) m
-
--- ---- an index that had no node
-
-no_nodes : (b ts : List ℕ) (nodes : Nodes) → AreTiles b 8 (length b) ts → HasNodes b ts 8 nodes → 0 ≡ link_to nodes → nodes ≡ no_node
-unfolding HasNodes
-no_nodes b ts no_node tiled h e = refl
-no_nodes b ts (node place room es more) tiled h e = absurd (some_place b ts (length b) place tiled (linkable-in b ts vxr_type place h.0.linkable) (sym e))
-
-first_leaf : (l : Leaf) (at : ℕ) → (with_leaf l at no_node ≡ node at 7 (with_block l no_entry) no_node) × (new_room l.first no_node ≡ 7)
-unfolding with_leaf new_room
-first_leaf l at = (refl, refl)
-
-has_one : (b ts : List ℕ) (l : Leaf) (at : ℕ) → SaysNode b ts at 7 (with_block l no_entry) no_node → MayName b ts l → HasNodes b ts 8 (node at 7 (with_block l no_entry) no_node)
-unfolding HasNodes Names
-has_one b ts l at s m = (s, (m.no_node, m.packed_is, tt), tt)
 
 module _ {b : List ℕ} {kind : Kind} {before : List VariableShape} {own : VariableShape} {after : List VariableShape} (good : Good b) (stood : StandsAmong b kind before own after) {filled body : List ℕ} {place : ℕ} (block : Placed b filled body place) (type_is : type_of_body body ≡ vvr_type) (first last at : ℕ) where
   abbrev pub l : Leaf
@@ -151,12 +137,14 @@ module _ {b : List ℕ} {kind : Kind} {before : List VariableShape} {own : Varia
 
   -- the index had no node: its first one is taken, and the descriptor leads to it
   pub first_added : {roomy now : List ℕ} → number b own.vdr vdr_vxr_head ≡ 0 → length now ≤ image_limit → NodeMade filled roomy 7 0 (entry first last place ∷ []) at → now ≡ with_field (with_field roomy own.vdr vdr_vxr_head at) own.vdr vdr_vxr_tail at → LeafAdded b now own l body at
+  unfolding with_leaf new_room HasNodes Names
   first_added {roomy = roomy} {now = now} none short made linked =
       let v = own.vdr in
       let w = made.written in
-      let empty = no_nodes b (shape b).records index (sound good stood).has_shape.tiled (has good stood).indexed.has_nodes (sym none ∙ (has good stood).indexed.link_is) in
-      let one = ap (with_leaf l at) empty ∙ (first_leaf l at).0 in
-      let r = made_roomy made (ap (new_room first) empty ∙ (first_leaf l at).1) (omega arith) in
+      let s = searchable good stood in
+      let empty : index ≡ no_node = sym s.1 ∙ none_there b 8 (index_at b (number b own.vdr vdr_vxr_head)) s.0.tiled s.0.index.has_nodes (sym s.0.index.link_is ∙ none) in
+      let one : after_leaf ≡ node at 7 (with_block l no_entry) no_node = ap (with_leaf l at) empty in
+      let r = made_roomy made (ap (new_room first) empty) (omega arith) in
       let g = all_taken r in
       let v_kept = vdr_kept good stood g in
       let v_lies = tile_lies roomy 8 (length roomy) (records r) v g.sound.has_shape.tiled (vdr_in good stood g) in
@@ -166,6 +154,6 @@ module _ {b : List ℕ} {kind : Kind} {before : List VariableShape} {own : Varia
       let small : at < 256 ^ 8 = omega (arith, w.inside.inside, tail.as_long, head.as_long) in
       let there = stands late.sound made.fills in
       let says : SaysNode roomy (records r) at 7 (with_block l no_entry) no_node = record { linkable = linkable-from roomy (records r) vxr_type at there made.fills.typed (omega (arith, w.inside.entries)); next_is = w.next_is; room_is = w.room_is; used_is = w.used_is; say_entries = (w.says 0 (omega arith), tt) } in
-      leaf_added r (record { as_long = refl; tiled = g.sound.has_shape.tiled; touches = []; changed = nothing_changed; within = tt; vdr = v_kept; has = rw one (has_one roomy (records r) l at says (names_leaf roomy (records r) l (block_is r) refl)); each = start r })
+      leaf_added r (record { as_long = refl; tiled = g.sound.has_shape.tiled; touches = []; changed = nothing_changed; within = tt; vdr = v_kept; has = rw one (let m = names_leaf roomy (records r) l (block_is r) refl in (says, (m.no_node, m.packed_is, tt), tt)); each = start r })
       (changed_again (changed_wider 28 16 head.changed (omega arith) (omega arith)) head.as_long (changed_wider 28 16 tail.changed (omega arith) (omega arith))) (tail.as_long ∙ head.as_long)
       (tail.past (v + 28) 8 (inl (omega arith)) ∙ head.reads small ∙ sym (ap link_to one)) (rw (one, empty) (tail.reads small))

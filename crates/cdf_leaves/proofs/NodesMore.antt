@@ -1,5 +1,5 @@
 -- The nodes of an index some of whose entries end later.
-use Rattle.cdf_leaves.proofs.Common.{Entries, Leaf, List, Nodes, [], ap, ap₂, block, either, entry_leaves, eqb, eqb-true, inl, inr, leaves_of, lower, lower_nodes, map, map-append, no_entry, no_node, node, nodes_of, redo, redo_below, refl, suc, sym, widen_all, widened, wider, zero, ℕ, ◌++◌, ◌∙◌, ◌∷◌, ◌≡◌}
+use Rattle.cdf_leaves.proofs.Common.{Entries, Leaf, List, Nodes, [], ap, ap₂, block, either, entry_leaves, eqb, eqb-true, inl, inr, leaf, leaves_of, lower, lower_nodes, map, map-append, no_entry, no_node, node, nodes_of, redo, redo_below, refl, suc, sym, widen_all, widened, wider, zero, ℕ, ◌++◌, ◌∙◌, ◌∷◌, ◌≡◌}
 
 -- ---- an entry that ends later
 

@@ -1,5 +1,5 @@
 -- The top chain of an index that gets a leaf, and its end in the bytes.
-use Rattle.cdf_leaves.proofs.Common.{AreTiles, ChainInside, Comes, Distinct, Distinct-back, Entries, HasNodes, In, In-append_right, IsNode, Leaf, List, Nodes, Some, [], ap, arith, chain_end, comes_along, comes_below, comes_first, comes_here, eq-eqb, inl, inr, last_node, length, link_to, linkable-in, linkable-long, lower_nodes, ne_eqb, next_of, no_node, node, nodes_of, refl, room_of_new, some_place, subst, suc, sym, tile_lies, top_chain, unwrap_or, vxr_type, with_entry, zero, ℕ, ◌<◌, ◌∙◌, ◌∷◌, ◌≡◌, ◌≢◌, ◌⊎◌}
+use Rattle.cdf_leaves.proofs.Common.{AreTiles, ChainInside, Comes, Distinct, Distinct-back, Entries, HasNodes, In, In-append_right, IsNode, Leaf, List, Nodes, Some, [], ap, arith, chain_end, comes_along, comes_below, comes_first, comes_here, eq-eqb, inl, inr, last_node, length, link_to, linkable-in, linkable-long, long, lower_nodes, ne_eqb, next_of, no_node, node, nodes_of, refl, room_of_new, some_place, subst, suc, sym, tile_lies, top_chain, unwrap_or, vxr_type, with_entry, zero, ℕ, ◌<◌, ◌∙◌, ◌∷◌, ◌≡◌, ◌≢◌, ◌⊎◌}
 use Rattle.std.specs.List.{last_or}
 use Rattle.cdf_format.proofs.Members.{length-le_from_distinct}
 use Rattle.cdf_format.proofs.TilesLemmas.{length_tiles}

@@ -1,5 +1,5 @@
 use Rattle.cdf_leaves.proofs.Common.{has_room}
-use Rattle.cdf_leaves.proofs.NodeTaking.{node_made}
+use Rattle.cdf_leaves.proofs.PutSteps.{node_made}
 use Rattle.cdf_leaves.proofs.making.make_node.Goals as goal
 
 pub write_node-requires-clause-place : goal.write_node-requires-clause-place
