@@ -36,26 +36,23 @@ module _ {b : List ℕ} {kind : Kind} {before : List VariableShape} {own : Varia
   abbrev pub l : Leaf
   l = leaf first last place false
 
-  abbrev pub index : Nodes
-  index = own.index
-
   abbrev pub new : ℕ
-  new = new_room first index
+  new = new_room first own.index
 
   abbrev pub after_leaf : Nodes
-  after_leaf = with_leaf l at index
+  after_leaf = with_leaf l at own.index
 
   abbrev pub every : List ℕ
   every = nodes_of after_leaf
 
   abbrev pub spare : ℕ → ℕ → Bool
-  spare = was b (nodes_of index) place (8 + length body) new at
+  spare = was b (nodes_of own.index) place (8 + length body) new at
 
   late : Grew b filled
   late = grew (sound good stood) block.fills
 
-  pub spare_old : (m i : ℕ) → In m (nodes_of index) → (0 < new → m ≢ at) → spare m i ≡ leb (used_count b m) i
-  spare_old m i j apart_new = let n = own_node good stood m j in was_old b (nodes_of index) place (8 + length body) new at m i j (unlike (sound good stood) block.fills m n.0 (λ u. apart vxr_type uir_type refl (sym n.1 ∙ u))) apart_new
+  pub spare_old : (m i : ℕ) → In m (nodes_of own.index) → (0 < new → m ≢ at) → spare m i ≡ leb (used_count b m) i
+  spare_old m i j apart_new = let n = own_node good stood m j in was_old b (nodes_of own.index) place (8 + length body) new at m i j (unlike (sound good stood) block.fills m n.0 (λ u. apart vxr_type uir_type refl (sym n.1 ∙ u))) apart_new
 
   -- ---- a node was made of a record, or none was needed
 
@@ -67,7 +64,7 @@ module _ {b : List ℕ} {kind : Kind} {before : List VariableShape} {own : Varia
       stands = stands late.sound w.fills;
       outside = λ i. unlike late.sound w.fills at (late.sub at (own_node good stood at i).0) (λ u. apart vxr_type uir_type refl (sym (node_type good stood late at i) ∙ u)) refl;
       apart = λ q. unlike late.sound w.fills own.vdr (vdr_in good stood late) (vdr_used good stood late) (sym q);
-      now = new_node w.written (λ i. was_new b (nodes_of index) place (8 + length body) new at i s);
+      now = new_node w.written (λ i. was_new b (nodes_of own.index) place (8 + length body) new at i s);
     };
   }
     where
@@ -86,16 +83,16 @@ module _ {b : List ℕ} {kind : Kind} {before : List VariableShape} {own : Varia
     all_taken = grew_then late r.on
 
     pub stand : (m : ℕ) → In m every → In m records × (m ≢ own.vdr)
-    stand m i = elim (in_nodes_with_leaf l at index m i) [ inl j ↦ (let n = own_node good stood m j in (all_taken.sub m n.0, vdr_apart good stood m n.1)) | inr p ↦ (let f = r.fresh p.1 in rw p.0 (f.stands, f.apart)) ]
+    stand m i = elim (in_nodes_with_leaf l at own.index m i) [ inl j ↦ (let n = own_node good stood m j in (all_taken.sub m n.0, vdr_apart good stood m n.1)) | inr p ↦ (let f = r.fresh p.1 in rw p.0 (f.stands, f.apart)) ]
 
-    pub old : (m : ℕ) → In m (nodes_of index) → NodeNow b roomy (nodes_of index) (spare m) m
+    pub old : (m : ℕ) → In m (nodes_of own.index) → NodeNow b roomy (nodes_of own.index) (spare m) m
     old m j = node_then (old_node j (node_fits good stood m j) (λ i. spare_old m i j (λ s e. (r.fresh s).outside (rw e at j)))) (node_spares good stood all_taken m j)
 
-    pub start : (m : ℕ) → In m every → NodeNow b roomy (nodes_of index) (spare m) m
-    start m i = elim (in_nodes_with_leaf l at index m i) [ inl j ↦ old m j | inr p ↦ rw p.0 (r.fresh p.1).now ]
+    pub start : (m : ℕ) → In m every → NodeNow b roomy (nodes_of own.index) (spare m) m
+    start m i = elim (in_nodes_with_leaf l at own.index m i) [ inl j ↦ old m j | inr p ↦ rw p.0 (r.fresh p.1).now ]
 
     pub once_every : Distinct every
-    once_every = all_once index l at (has good stood).indexed.once (λ s. (r.fresh s).outside)
+    once_every = all_once own.index l at (has good stood).indexed.once (λ s. (r.fresh s).outside)
 
     block_typed : type_at filled place ≡ vvr_type
     block_typed = block.fills.typed ∙ type_is
@@ -109,16 +106,16 @@ module _ {b : List ℕ} {kind : Kind} {before : List VariableShape} {own : Varia
         type_kept filled roomy place k.same k.long ∙ block_typed
 
     pub blocks : (m : ℕ) → In m (places (leaves_of after_leaf)) → In m records
-    blocks m i = elim (in_new l m (leaves_of index) (subst (In m) (ap places (leaves_more l at 0 record_number_limit index (own_order good stood))) i)) [ inl e ↦ rw e block_there | inr j ↦ now_blocks good stood all_taken m j ]
+    blocks m i = elim (in_new l m (leaves_of own.index) (subst (In m) (ap places (leaves_more l at 0 record_number_limit own.index (own_order good stood))) i)) [ inl e ↦ rw e block_there | inr j ↦ now_blocks good stood all_taken m j ]
 
     -- ---- then the descriptor was written, or not
 
-    pub leaf_added : {wide now : List ℕ} → State b roomy wide own new at spare every after_leaf → Changed wide now (touch own.vdr 28 16 ∷ []) → length now ≡ length wide → number now own.vdr vdr_vxr_head ≡ link_to after_leaf → TailGoesOn b now own.vdr index after_leaf → LeafAdded b now own l body at
+    pub leaf_added : {wide now : List ℕ} → State b roomy wide own new at spare every after_leaf → Changed wide now (touch own.vdr 28 16 ∷ []) → length now ≡ length wide → number now own.vdr vdr_vxr_head ≡ link_to after_leaf → TailGoesOn b now own.vdr own.index after_leaf → LeafAdded b now own l body at
     leaf_added {wide = wide} {now = now} st changed as_long head tail =
         let fit : 28 + 16 ≤ size_at wide own.vdr = omega (arith, long good stood, size_kept b wide own.vdr st.vdr.same (omega (arith, long good stood))) in
         let heads = heads_stay wide now records st.tiled own.vdr 28 16 (vdr_in good stood all_taken) (omega arith) fit changed in
         let stay : (m : ℕ) → In m every → Kept wide now m = λ m i. others_stay wide now records st.tiled own.vdr 28 16 (vdr_in good stood all_taken) (omega arith) fit changed m (stand m i).0 (stand m i).1 in
-        let node_now : (m : ℕ) → In m every → NodeNow b now (nodes_of index) (spare m) m = λ m i. node_then (st.each m i) (spares_kept wide now m (stay m i) (st.each m i).fits) in
+        let node_now : (m : ℕ) → In m every → NodeNow b now (nodes_of own.index) (spare m) m = λ m i. node_then (st.each m i) (spares_kept wide now m (stay m i) (st.each m i).fits) in
         record {
           filled = filled;
           block = block;
@@ -132,7 +129,7 @@ module _ {b : List ℕ} {kind : Kind} {before : List VariableShape} {own : Varia
           fits = each (NodeFits now) every (λ m i. (node_now m i).fits);
           counts = λ c. each (Counts now) every (λ m i. (node_now m i).count c);
           tail = tail;
-          unused = each (UnusedEntries b now (index ∷ []) (nodes_of index) (leaf_acts place (8 + length body) new at)) every (λ m i j le lt. inl ((node_now m i).spare j le lt));
+          unused = each (UnusedEntries b now (own.index ∷ []) (nodes_of own.index) (leaf_acts place (8 + length body) new at)) every (λ m i j le lt. inl ((node_now m i).spare j le lt));
         }
 
   -- the index had no node: its first one is taken, and the descriptor leads to it
@@ -142,7 +139,7 @@ module _ {b : List ℕ} {kind : Kind} {before : List VariableShape} {own : Varia
       let v = own.vdr in
       let w = made.written in
       let s = searchable good stood in
-      let empty : index ≡ no_node = sym s.1 ∙ none_there b 8 (index_at b (number b own.vdr vdr_vxr_head)) s.0.tiled s.0.index.has_nodes (sym s.0.index.link_is ∙ none) in
+      let empty : own.index ≡ no_node = sym s.1 ∙ none_there b 8 (index_at b (number b own.vdr vdr_vxr_head)) s.0.tiled s.0.index.has_nodes (sym s.0.index.link_is ∙ none) in
       let one : after_leaf ≡ node at 7 (with_block l no_entry) no_node = ap (with_leaf l at) empty in
       let r = made_roomy made (ap (new_room first) empty) (omega arith) in
       let g = all_taken r in
