@@ -1,5 +1,5 @@
 -- What the calls ask for that add a leaf, and what they leave.
-use Rattle.cdf_leaves.proofs.Common.{AddsLeaf, AreTiles, Bool, ChainInside, ChainMade, Changed, Comes, Distinct, Each, Each-append, Each-map, Entry, EntryPut, Field, FieldSet, Good, Grew, HasNodes, In, IndexStarted, IndexTouch, Inserted, IsAmong, IsWay, Kept, Kind, Leaf, List, MayName, MayPut, NodeFits, NodeMade, Nodes, Owed, Placed, SameHeads, SplitMade, Spot, StandsAmong, Step, StepSays, StepStands, VariableShape, WayStands, WidenedAlong, [], ap, apart, arith, begins_by, bytes_eq, cases_eq, cases_lt, chain_end, changed_then, changed_wider, comes, either, entries_beside, entry, eof, false, field_set, front_stays, gdr_offset, gdr_type, grew, has, heads_stay, image_limit, index_at, inl, inr, is_linkable, kept_then, last_node, leaf, leaves_of, length, link_to, linkable-from, long, lt-leb, made, map, max, new_room, no_zero, nodes_of, nothing_changed, number, number_kept, others_stay, placed, record_number_limit, redo, redone, refl, room_at, same_node, shape, size_at, sound, spot, step_pair, subst, sym, tile, tile_lies, tiles_same, top_chain, touch, true, type_of_body, uir_type, used_count, variables, vdr_vxr_head, vdr_vxr_tail, vdrs, vvr_type, vxr_bytes, vxr_type, vxr_vxr_next, way, widen_all, widest, with_field, with_leaf, ℕ, ◌*◌, ◌++◌, ◌+◌, ◌-◌, ◌<◌, ◌∙◌, ◌∷◌, ◌≡◌, ◌≢◌, ◌≤◌, ◌⊎◌}
+use Rattle.cdf_leaves.proofs.Common.{AddsLeaf, AreTiles, Bool, ChainInside, ChainMade, Changed, Comes, Distinct, Each, Each-append, Each-map, Entry, EntryPut, Field, FieldSet, Good, Grew, HasNodes, In, IndexStarted, IndexTouch, Inserted, IsAmong, IsWay, Kept, Kind, Leaf, List, MayName, MayPut, NodeFits, NodeMade, Nodes, Owed, Placed, SameHeads, SplitMade, StandsAmong, Step, StepSays, StepStands, VariableShape, WayStands, WidenedAlong, [], ap, apart, arith, begins_by, bytes_eq, cases_eq, cases_lt, chain_end, changed_then, changed_wider, comes, either, entries_beside, entry, eof, false, field_set, front_stays, gdr_offset, gdr_type, grew, has, heads_stay, image_limit, index_at, inl, inr, is_linkable, kept_then, last_node, leaf, leaves_of, length, link_to, linkable-from, long, lt-leb, made, map, max, new_room, no_zero, nodes_of, nothing_changed, number, number_kept, others_stay, placed, record_number_limit, redo, redone, refl, room_at, rules, same_node, shape, size_at, sound, spot, step_pair, subst, sym, tile, tile_lies, tiles_same, top_chain, touch, true, type_of_body, uir_type, used_count, variables, vdr_vxr_head, vdr_vxr_tail, vdrs, vvr_type, vxr_bytes, vxr_type, vxr_vxr_next, way, widen_all, widest, with_field, with_leaf, ℕ, ◌*◌, ◌++◌, ◌+◌, ◌-◌, ◌<◌, ◌∙◌, ◌∷◌, ◌≡◌, ◌≢◌, ◌≤◌, ◌⊎◌}
 use Rattle.cdf_edits.proofs.Edits.RecordGrown as of_grown
 use Rattle.cdf_format.proofs.NameRules.{bytes_eq-same}
 use Rattle.cdf_format.proofs.Tests.{same_of_bytes_eq}
@@ -10,11 +10,13 @@ use Rattle.cdf_index.proofs.OneVariable.{one_of}
 use Rattle.cdf_index.proofs.FromReached.{Rest, StartsAt, leaf_rest, rest_among, rest_has, rest_last, rest_once, starts_at}
 use Rattle.cdf_index.specs.Starting.{IsStart}
 use Rattle.cdf_index.specs.declared.descending.Way.{Way}
+use Rattle.std.proofs.lemmas.List.{length-map, nil_from_length}
 use Rattle.cdf_leaves.proofs.Along.{along, InNode, OnWay, Ready}
 use Rattle.cdf_leaves.proofs.Grown.{NodeNow, fed_node, names_leaf, node_then, room_full, room_with, was}
 use Rattle.cdf_leaves.proofs.LeafGrown.{Roomy, State, all_taken, block_is, block_there, blocks, first_added, leaf_added, made_roomy, no_roomy, old, once_every, spare_old, stand, start}
 use Rattle.cdf_leaves.proofs.NodesMore.{places, all_wider}
 use Rattle.cdf_leaves.proofs.Own.{searchable, own_order, own_node, node_fits, node_spares, node_type, now_has, now_blocks, still_sees, vdr_apart, vdr_in, vdr_kept}
+use Rattle.cdf_leaves.proofs.PutSteps.{next_lies}
 use Rattle.cdf_leaves.proofs.Spares.{Spares, fits_still, front_lies, node_inside, spares_kept, spares_linked, spares_then}
 use Rattle.cdf_leaves.proofs.SpotNode.{SpotNode, room_in, spot_node, way_apart}
 use Rattle.cdf_leaves.proofs.TopChain.{TopGrown, top_grown, chain_inside, end_is_last, last_in}
@@ -29,16 +31,6 @@ pub record EntryStands (b filled grown : List ℕ) (own : VariableShape) (l : Le
   pub old : (m : ℕ) → In m (nodes_of own.index) → m ≢ x → Spares b grown m
 
 -- ---- how long an image gets
-
-pub put_long : {filled grown : List ℕ} {seen : Spot} {e : Entry} {at : ℕ} → seen.used ≤ seen.room → seen.place + 28 ≤ length filled → EntryPut filled grown seen e at → length grown ≤ length filled + vxr_bytes (max 7 seen.room)
-put_long fits lies (inl p) = omega (arith, p.2.as_long)
-put_long {seen = seen} fits lies (inr q) = elim q.1 [
-  | inl s ↦ omega (arith, s.1.made.longest, s.1.shortened.as_long)
-  | inr c ↦
-      let made = c.1.made in
-      let set = field_set {b = c.1.roomy} {at = seen.place} {f = vxr_vxr_next} (omega (arith, made.fills.takes.changed.longer, made.fills.long)) c.1.linked in
-      omega (arith, made.longest, set.as_long)
-]
 
 -- an index that has its first node
 pub started_long : {filled now : List ℕ} {vdr : ℕ} {e : Entry} → vdr + 44 ≤ length filled → IndexStarted filled now vdr e → length now ≤ length filled + vxr_bytes 7
@@ -109,19 +101,12 @@ module _ {b : List ℕ} {kind : Kind} {before : List VariableShape} {own : Varia
 
       pub may_put : MayPut filled found.end
       may_put =
-          let n = own_node good at_own found.end.place last_there in
+          let there = late.sub found.end.place (own_node good at_own found.end.place last_there).0 in
+          let typed = node_type good at_own late found.end.place last_there in
+          let fits = fits_still b filled found.end.place (node_spares good at_own late found.end.place last_there) (node_fits good at_own found.end.place last_there) in
           let s = still_sees good at_own late w.sees last_there in
-          record {
-            sound = late.sound;
-            ends = late_ends;
-            there = late.sub found.end.place n.0;
-            typed = node_type good at_own late found.end.place last_there;
-            fits = fits_still b filled found.end.place (node_spares good at_own late found.end.place last_there) (node_fits good at_own found.end.place last_there);
-            room_is = s.room_is;
-            used_is = s.used_is;
-            next_is = s.next_is;
-            most = omega (arith, w.sees.used_is, w.sees.begun.most);
-          }
+          let most : found.end.begun ≤ found.end.used = omega (arith, w.sees.used_is, w.sees.begun.most) in
+          search (rules, late.sound, late_ends, there, typed, fits, s, most)
 
       pub wide_enough : max 7 found.end.room ≤ widest (index_at b head)
       wide_enough = rw index (omega (arith, w.sees.room_is, seven_at_least own.index, room_in b (shape b).records 8 found.end.place own.index (has good at_own).indexed.has_nodes last_there))
@@ -137,13 +122,13 @@ module _ {b : List ℕ} {kind : Kind} {before : List VariableShape} {own : Varia
 
       module _ {grown : List ℕ} {last at : ℕ} (type_is : type_of_body body ≡ vvr_type) (lim : ℕ) (room : length b + (8 + length body) + vxr_bytes (widest (index_at b head)) ≤ lim) (limit : lim ≤ image_limit) (put : EntryPut filled grown found.end (entry first last place) at) where
         grown_short : length grown ≤ image_limit
-        grown_short =
-            let m = may_put in
-            let long = put_long (omega (arith, m.room_is, m.used_is, m.fits.1)) (front_lies filled found.end.place (node_inside filled (shape filled).records found.end.place m.sound.has_shape.tiled m.there m.fits)) put in
-            omega (arith, long, block.longest, wide_enough)
-
-        abbrev seen : Spot
-        seen = found.end
+        grown_short = elim put [
+          | inl p ↦ omega (arith, p.2.as_long, block.longest, wide_enough)
+          | inr q ↦ elim q.1 [
+            | inl s ↦ (let m = may_put in omega (arith, s.1.made.longest, s.1.shortened.as_long, m.room_is, m.used_is, m.fits.1, block.longest, wide_enough))
+            | inr c ↦ (let set = field_set {b = c.1.roomy} {at = found.end.place} {f = vxr_vxr_next} (let l = next_lies may_put c.1.made in omega arith) c.1.linked in omega (arith, c.1.made.longest, set.as_long, block.longest, wide_enough))
+          ]
+        ]
 
         abbrev x : ℕ
         x = found.end.place
@@ -163,17 +148,11 @@ module _ {b : List ℕ} {kind : Kind} {before : List VariableShape} {own : Varia
         abbrev spare : ℕ → ℕ → Bool
         spare = was b nodes place (8 + length body) new at
 
-        once : Distinct nodes
-        once = (has good at_own).indexed.once
-
         coming : Comes l at (way first own.index) x new own.index after_leaf
         coming = rw end_is (comes l at 0 record_number_limit own.index (own_order good at_own))
 
         spot_here : SpotNode b (shape b).records first x new
         spot_here = spot_node coming b (shape b).records 8 (has good at_own).indexed.has_nodes some_end
-
-        abbrev Stands : Type 0
-        Stands = EntryStands b filled grown own l at x spare
 
         -- ---- from an image in which all records were taken
 
@@ -197,7 +176,7 @@ module _ {b : List ℕ} {kind : Kind} {before : List VariableShape} {own : Varia
           x_before = old good at_own block type_is first last at r x last_there
 
           put_done : (from n : ℕ) → 12 ≤ from → from + n ≤ 28 + 16 * room_at roomy x → Changed roomy grown (touch x from n ∷ []) → length grown ≡ length roomy
-              → (SameHeads roomy grown recs recs → ((m : ℕ) → In m recs → m ≢ x → Kept roomy grown m) → MayName grown recs l → Owed roomy grown recs recs x (placed l at x)) → NodeNow b grown nodes (spare x) x → Stands
+              → (SameHeads roomy grown recs recs → ((m : ℕ) → In m recs → m ≢ x → Kept roomy grown m) → MayName grown recs l → Owed roomy grown recs recs x (placed l at x)) → NodeNow b grown nodes (spare x) x → EntryStands b filled grown own l at x spare
           put_done from n behind fit changed as_long owed here =
               let tiled = g.sound.has_shape.tiled in
               let whole : from + n ≤ size_at roomy x = omega (arith, (fits x last_there).0) in
@@ -214,7 +193,7 @@ module _ {b : List ℕ} {kind : Kind} {before : List VariableShape} {own : Varia
                   changed = changed;
                   within = (inr (behind, inl (last_there, fit)), tt);
                   vdr = kept_then b roomy grown own.vdr (vdr_kept good at_own g) (others own.vdr (vdr_in good at_own g) (λ q. vdr_apart good at_own x (own_node good at_own x last_there).1 (sym q)));
-                  has = redone roomy grown recs recs heads x (placed l at x) (owed heads others names) 8 own.index (now_has good at_own g).indexed.has_nodes once (λ m i ne. (others m (there m i) ne, fits m i)) (now_blocks good at_own g);
+                  has = redone roomy grown recs recs heads x (placed l at x) (owed heads others names) 8 own.index (now_has good at_own g).indexed.has_nodes (has good at_own).indexed.once (λ m i ne. (others m (there m i) ne, fits m i)) (now_blocks good at_own g);
                   each = λ m i. elim (cases_eq m x) [
                     | inl e ↦ rw e here
                     | inr ne ↦ (let s = start good at_own block type_is first last at r m i in node_then s (spares_kept roomy grown m (others m (stand good at_own block type_is first last at r m i).0 ne) s.fits))
@@ -225,13 +204,13 @@ module _ {b : List ℕ} {kind : Kind} {before : List VariableShape} {own : Varia
 
         -- ---- the node has room
 
-        with_room : seen.used < seen.room → at ≡ 0 → Inserted filled grown x seen.used seen.begun first last place → Stands
+        with_room : found.end.used < found.end.room → at ≡ 0 → Inserted filled grown x found.end.used found.end.begun first last place → EntryStands b filled grown own l at x spare
         with_room lt z ins =
-            let r = no_roomy good at_own block type_is first last at (room_with b (shape b).records first x new seen.used seen.room spot_here w.sees.used_is w.sees.room_is lt) z in
+            let r = no_roomy good at_own block type_is first last at (room_with b (shape b).records first x new found.end.used found.end.room spot_here w.sees.used_is w.sees.room_is lt) z in
             let s = still_sees good at_own late w.sees last_there in
-            let less : seen.used < room_at filled x = omega (arith, s.room_is) in
+            let less : found.end.used < room_at filled x = omega (arith, s.room_is) in
             put_done r 24 (4 + 16 * room_at filled x) (omega arith) (omega arith) ins.changed ins.as_long
-            (λ heads others names. grown_owed filled grown (recs r) (recs r) heads x at seen.used seen.begun l s.used_is (begins_by filled x first seen.begun s.begun) names less ins (x_lies r))
+            (λ heads others names. grown_owed filled grown (recs r) (recs r) heads x at found.end.used found.end.begun l s.used_is (begins_by filled x first found.end.begun s.begun) names less ins (x_lies r))
             (fed_node (x_before r) (front_stays filled grown x 24 (4 + 16 * room_at filled x) ins.changed (let l = x_lies r in omega arith) 0 8 (omega arith)) ins.room_stays ins.used_is ins.count_is (omega arith) (λ i le lt. inr (omega (arith, s.used_is), ins.unused i (omega arith) lt)))
 
         -- ---- it is full, and a new node was made
@@ -241,17 +220,17 @@ module _ {b : List ℕ} {kind : Kind} {before : List VariableShape} {own : Varia
           made_room = made_roomy good at_own block type_is first last at made_it is (omega arith)
 
           made_done : (from n : ℕ) → 12 ≤ from → from + n ≤ 28 + 16 * room_at roomy x → Changed roomy grown (touch x from n ∷ []) → length grown ≡ length roomy
-              → (SameHeads roomy grown (shape roomy).records (shape roomy).records → MayName grown (shape roomy).records l → Kept roomy grown at → is_linkable grown (shape roomy).records vxr_type at ≡ true → Owed roomy grown (shape roomy).records (shape roomy).records x (placed l at x)) → NodeNow b grown nodes (spare x) x → Stands
+              → (SameHeads roomy grown (shape roomy).records (shape roomy).records → MayName grown (shape roomy).records l → Kept roomy grown at → is_linkable grown (shape roomy).records vxr_type at ≡ true → Owed roomy grown (shape roomy).records (shape roomy).records x (placed l at x)) → NodeNow b grown nodes (spare x) x → EntryStands b filled grown own l at x spare
           made_done from n behind fit changed as_long owed here =
               let f = made_room.fresh (omega arith) in
               put_done made_room from n behind fit changed as_long
               (λ heads others names. owed heads names (others at f.stands (λ e. f.outside (rw e last_there))) (linkable-from grown (shape roomy).records vxr_type at f.stands (heads.types at f.stands ∙ made_it.fills.typed) (omega (arith, heads.sizes at f.stands, made_it.written.inside.entries)))) here
 
-        full : seen.room ≤ seen.used → new ≡ max 7 (seen.used - seen.begun)
-        full le = room_full b (shape b).records first x new seen.used seen.room seen.begun spot_here w.sees.used_is w.sees.room_is le w.sees.begun
+        full : found.end.room ≤ found.end.used → new ≡ max 7 (found.end.used - found.end.begun)
+        full le = room_full b (shape b).records first x new found.end.used found.end.room found.end.begun spot_here w.sees.used_is w.sees.room_is le w.sees.begun
 
         -- some of its entries went to the new node
-        with_split : seen.room ≤ seen.used → seen.begun < seen.used → SplitMade filled grown seen (entry first last place) at → Stands
+        with_split : found.end.room ≤ found.end.used → found.end.begun < found.end.used → SplitMade filled grown found.end (entry first last place) at → EntryStands b filled grown own l at x spare
         with_split le lt sp =
             let roomy = sp.roomy in
             let sh = sp.shortened in
@@ -260,15 +239,15 @@ module _ {b : List ℕ} {kind : Kind} {before : List VariableShape} {own : Varia
             let s = still_sees good at_own (g r) w.sees last_there in
             let kept = r.on.kept x m.there (λ u. apart vxr_type uir_type refl (sym m.typed ∙ u)) (λ u. apart vxr_type gdr_type refl (sym m.typed ∙ u)) in
             made_done sp.made (full le) (omega arith) 12 (16 + 16 * room_at roomy x) (omega arith) (omega arith) sh.changed sh.as_long
-            (λ heads names stays link. split_owed roomy grown (recs r) (recs r) heads x at seen.used seen.begun l s.used_is (begins_by roomy x first seen.begun s.begun) names (omega (arith, s.room_is)) link
-            (split sp.made.taken filled roomy grown x at (max 7 (seen.used - seen.begun)) seen.next seen.used seen.begun first last place sp.behind kept stays m.fits (omega (arith, m.used_is, m.fits.1)) (omega arith) sp.made.written sp.read m.next_is refl sh) lt)
-            (fed_node (x_before r) (front_stays roomy grown x 12 (16 + 16 * room_at roomy x) sh.changed (let l = x_lies r in omega arith) 0 8 (omega arith)) sh.room_stays sh.used_is sh.count_is (omega (arith, s.used_is, (fits r x last_there).1)) (λ i above below. elim (cases_lt i seen.used) [
+            (λ heads names stays link. split_owed roomy grown (recs r) (recs r) heads x at found.end.used found.end.begun l s.used_is (begins_by roomy x first found.end.begun s.begun) names (omega (arith, s.room_is)) link
+            (split sp.made.taken filled roomy grown x at (max 7 (found.end.used - found.end.begun)) found.end.next found.end.used found.end.begun first last place sp.behind kept stays m.fits (omega (arith, m.used_is, m.fits.1)) (omega arith) sp.made.written sp.read m.next_is refl sh) lt)
+            (fed_node (x_before r) (front_stays roomy grown x 12 (16 + 16 * room_at roomy x) sh.changed (let l = x_lies r in omega arith) 0 8 (omega arith)) sh.room_stays sh.used_is sh.count_is (omega (arith, s.used_is, (fits r x last_there).1)) (λ i above below. elim (cases_lt i found.end.used) [
               | inl less ↦ inl (sh.gone i above less, spare_old good at_own block type_is first last at x i last_there (λ n e. (r.fresh n).outside (rw (← e) last_there)) ∙ lt-leb (used_count b x) i (omega (arith, w.sees.used_is)))
               | inr more ↦ inr (omega (arith, s.used_is), sh.unused i more below)
             ]))
 
         -- the new node has the entry alone
-        with_chain : seen.room ≤ seen.used → seen.used ≤ seen.begun → ChainMade filled grown seen (entry first last place) at → Stands
+        with_chain : found.end.room ≤ found.end.used → found.end.used ≤ found.end.begun → ChainMade filled grown found.end (entry first last place) at → EntryStands b filled grown own l at x spare
         with_chain le ge ch =
             let roomy = ch.roomy in
             let node = ch.made.written in
@@ -280,7 +259,7 @@ module _ {b : List ℕ} {kind : Kind} {before : List VariableShape} {own : Varia
             let stays = spares_linked set in
             made_done ch.made seven (omega arith) 12 8 (omega arith) (omega arith) set.changed set.as_long
             (λ heads names kept link. (let n = same_node roomy grown at kept (node.inside.entries, node.inside.fits) in
-            chained_owed roomy grown (recs r) (recs r) heads x at seen.used seen.begun l s.used_is (begins_by roomy x first seen.begun s.begun) names (omega (arith, s.room_is)) link (record {
+            chained_owed roomy grown (recs r) (recs r) heads x at found.end.used found.end.begun l s.used_is (begins_by roomy x first found.end.begun s.begun) names (omega (arith, s.room_is)) link (record {
               stay = λ j less. entries_beside set (omega arith) (omega arith) (inl (omega arith)) j;
               room_stays = stays.room_is;
               used_is = stays.used_is ∙ sym s.used_is;
@@ -291,7 +270,7 @@ module _ {b : List ℕ} {kind : Kind} {before : List VariableShape} {own : Varia
               new_next = n.next_is ∙ node.next_is ∙ s.next_is;
             }) (omega (arith, w.sees.used_is)))) (node_then (x_before r) stays)
 
-        stands_now : Stands
+        stands_now : EntryStands b filled grown own l at x spare
         stands_now = elim put [ inl p ↦ with_room p.0 p.1 p.2 | inr q ↦ elim q.1 [ inl s ↦ with_split q.0 s.0 s.1 | inr c ↦ with_chain q.0 c.0 c.1 ] ]
 
         -- ---- the nodes on the way
@@ -309,7 +288,7 @@ module _ {b : List ℕ} {kind : Kind} {before : List VariableShape} {own : Varia
             ((record { there = there stands_now.taken step.place a.0; fits = fits_still b grown step.place o (node_fits good at_own step.place a.0); room_is = s.0.room_is ∙ sym o.room_is; within = omega (arith, o.used_is, s.0.within) }, (a.0, n.0)), all_steps more a.1 s.1 n.1)
 
         on_way : Each (OnWay grown now_records Other) found.steps.items
-        on_way = all_steps found.steps.items among_own w.say (rw (← way_is) at (way_apart coming some_end once))
+        on_way = all_steps found.steps.items among_own w.say (rw (← way_is) at (way_apart coming some_end (has good at_own).indexed.once))
 
         pub way_ready : WayStands grown found.steps.items × (length grown ≤ image_limit)
         way_ready = (record { records = now_records; tiled = stands_now.state.tiled; stand = Each-map (OnWay grown now_records Other) (StepStands grown now_records) (λ step p. p.0) found.steps.items on_way }, grown_short)
@@ -321,7 +300,7 @@ module _ {b : List ℕ} {kind : Kind} {before : List VariableShape} {own : Varia
           put_tree = redo x (placed l at x) own.index
 
           law : widen_all last (map step_pair found.steps.items) put_tree ≡ after_leaf
-          law = rw way_is (made coming some_end once)
+          law = rw way_is (made coming some_end (has good at_own).indexed.once)
 
           state : State b stands_now.roomy wide own new at spare (nodes_of after_leaf) after_leaf
           state =
@@ -382,13 +361,9 @@ module _ {b : List ℕ} {kind : Kind} {before : List VariableShape} {own : Varia
           grown_stays why =
               let r = stands_now.taken in
               let none : at ≡ 0 → new ≡ 0 = λ z. elim (cases_lt 0 new) [ inl s ↦ absurd (omega (arith, (tile_lies stands_now.roomy 8 (length stands_now.roomy) now_records at (g r).sound.has_shape.tiled (r.fresh s).stands).low)) | inr le ↦ omega arith ] in
-              let same = top.stays (elim why [ inl z ↦ inl (none z) | inr ne ↦ inr (λ z. ne (no_steps found.steps.items (way_is ∙ z))) ]) in
+              let same = top.stays (elim why [ inl z ↦ inl (none z) | inr ne ↦ inr (λ z. ne (nil_from_length found.steps.items (simp length-map at (ap length (way_is ∙ z))))) ]) in
               let test : bytes_eq (top_chain own.index) (top_chain after_leaf) ≡ true = ap (bytes_eq (top_chain own.index)) same ∙ bytes_eq-same (top_chain own.index) in
               record { place = place; at = at; added = leaf_added good at_own block type_is first last at r state nothing_changed refl (vdr_field vdr_vxr_head (omega arith) ∙ link_is) (rw test (vdr_field vdr_vxr_tail (omega arith))) }
-            where
-              no_steps : (steps : List Step) → map step_pair steps ≡ [] → steps ≡ []
-              no_steps [] e = refl
-              no_steps (step ∷ more) e = absurd (cc)
 
           pub grown_tail : {now : List ℕ} → at ≢ 0 → found.steps.items ≡ [] → now ≡ with_field wide own.vdr vdr_vxr_tail (chain_end (length wide) wide origin) → AddsLeaf b now own first last body
           grown_tail {now = now} ne none is =

@@ -1,30 +1,20 @@
 -- A node of an index that gets a leaf, from the image in which nothing was done: what holds of it by now.
-use Rattle.cdf_leaves.proofs.Common.{Begun, Bool, Counts, Each, Entry, EntryIs, In, Leaf, List, MayName, NodeFits, NodeWritten, SaysEntry, SaysUnused, StillSays, arith, begins_by, each_in, entry_past, false, fits, inl, inr, is_in-true, is_taken_at, le-leb, leaf_acts, leb, max, nat_tests, not, number, refl, room_at, size_at, subst, suc, true, type_at, used_count, vvr_type, vxr_n_used_entries, was_unused, zero, ℕ, ◌&&◌, ◌-◌, ◌<◌, ◌∙◌, ◌≡◌, ◌≢◌, ◌≤◌, ◌⊎◌}
+use Rattle.cdf_leaves.proofs.Common.{Begun, Bool, Counts, Each, Entry, EntryIs, In, Leaf, List, MayName, NodeFits, NodeWritten, SaysEntry, SaysUnused, StillSays, arith, begins_by, each_in, entry_past, false, fits, inl, inr, is_in-true, le-leb, leaf_acts, leb, max, nat_tests, number, refl, room_at, size_at, subst, suc, true, type_at, used_count, vvr_type, vxr_n_used_entries, was_unused, zero, ℕ, ◌-◌, ◌<◌, ◌∙◌, ◌≡◌, ◌≢◌, ◌≤◌, ◌⊎◌}
 use Rattle.cdf_leaves.proofs.Spares.{Spares, fits_still}
 use Rattle.cdf_leaves.proofs.SpotNode.{SpotNode}
 
 -- ---- what counts as unused before
 
-not_taken : (place need room at m : ℕ) → m ≢ place → (0 < room → m ≢ at) → is_taken_at (leaf_acts place need room at) m ≡ false
-not_taken place need zero at m p q = grind (arith, nat_tests)
-not_taken place need (suc room) at m p q = let out = q (omega arith) in grind (arith, nat_tests, out)
+abbrev pub was : List ℕ → List ℕ → ℕ → ℕ → ℕ → ℕ → ℕ → ℕ → Bool
+was b before place need room at m i = was_unused b before (leaf_acts place need room at) m i
 
-module _ (b before : List ℕ) (place need room at : ℕ) where
-  abbrev pub was : ℕ → ℕ → Bool
-  was m i = was_unused b before (leaf_acts place need room at) m i
+pub was_old : (b before : List ℕ) (place need room at m i : ℕ) → In m before → m ≢ place → (0 < room → m ≢ at) → was b before place need room at m i ≡ leb (used_count b m) i
+was_old b before place need zero at m i j p q = grind (arith, nat_tests, is_in-true m before j)
+was_old b before place need (suc room) at m i j p q = let out = q (omega arith) in grind (arith, nat_tests, is_in-true m before j, out)
 
-  pub was_old : (m i : ℕ) → In m before → m ≢ place → (0 < room → m ≢ at) → was m i ≡ leb (used_count b m) i
-  was_old m i j p q =
-      let there = is_in-true m before j in
-      let out = not_taken place need room at m p q in
-      λ k. there k && (not (out k) && leb (used_count b m) i)
-
-  pub was_new : (i : ℕ) → 0 < room → was at i ≡ false
-  was_new i some = go room some
-    where
-      go : (room : ℕ) → 0 < room → was_unused b before (leaf_acts place need room at) at i ≡ false
-      go zero some = absurd (omega arith)
-      go (suc room) some = grind (arith, nat_tests)
+pub was_new : (b before : List ℕ) (place need room at i : ℕ) → 0 < room → was b before place need room at at i ≡ false
+was_new b before place need zero at i some = absurd (omega arith)
+was_new b before place need (suc room) at i some = grind (arith, nat_tests)
 
 -- ---- one node
 

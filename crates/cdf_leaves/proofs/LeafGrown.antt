@@ -1,10 +1,11 @@
 -- A leaf more in an index, from the image in which its block was placed: what was done step by step is what a leaf more makes of the image.
-use Rattle.cdf_leaves.proofs.Common.{AreTiles, Bool, Changed, Counts, Distinct, Each, Each-append, Entry, FieldSet, Good, Grew, HasNodes, In, IndexTouch, Kept, Kind, Leaf, LeafAdded, List, MayName, Names, NodeFits, NodeMade, NodeTaken, Nodes, Placed, SaysNode, StandsAmong, TailGoesOn, Touch, UnusedEntries, VariableShape, [], ap, apart, arith, changed_again, changed_then, changed_wider, each, entry, false, field_set, gdr_type, grew, grew_none, grew_then, has, heads_stay, image_limit, in_nodes_with_leaf, inl, inr, leaf, leaf_acts, leaves_of, leb, length, link_to, linkable-from, linkable-in, long, made, new_room, no_entry, no_node, node, nodes_kept, nodes_of, nothing_changed, number, others_stay, record_number_limit, refl, shape, size_at, size_kept, some_place, sound, stands, subst, suc, sym, tile_lies, touch, type_at, type_kept, type_of_body, uir_type, unlike, used_count, vdr_vxr_head, vdr_vxr_tail, vvr_type, vxr_type, with_block, with_field, with_leaf, zero, ℕ, ◌++◌, ◌+◌, ◌<◌, ◌^◌, ◌∙◌, ◌∷◌, ◌≡◌, ◌≢◌, ◌≤◌}
+use Rattle.cdf_leaves.proofs.Common.{AreTiles, Bool, Changed, Counts, Distinct, Each, Each-append, Entry, FieldSet, Good, Grew, HasNodes, In, IndexTouch, Kept, Kind, Leaf, LeafAdded, List, Names, NodeFits, NodeMade, NodeTaken, Nodes, Placed, SaysNode, StandsAmong, TailGoesOn, Touch, UnusedEntries, VariableShape, [], ap, apart, arith, changed_again, changed_then, changed_wider, each, entry, false, field_set, gdr_type, grew, grew_none, grew_then, has, heads_stay, image_limit, in_nodes_with_leaf, index_at, inl, inr, leaf, leaf_acts, leaves_of, leb, length, link_to, linkable-from, long, made, new_room, no_entry, no_node, node, nodes_kept, nodes_of, nothing_changed, number, others_stay, record_number_limit, refl, shape, size_at, size_kept, sound, stands, subst, suc, sym, tile_lies, touch, type_at, type_kept, type_of_body, uir_type, unlike, used_count, vdr_vxr_head, vdr_vxr_tail, vvr_type, vxr_type, with_block, with_field, with_leaf, zero, ℕ, ◌++◌, ◌+◌, ◌<◌, ◌^◌, ◌∙◌, ◌∷◌, ◌≡◌, ◌≢◌, ◌≤◌}
 use Rattle.cdf_index.proofs.LeafMore.{leaves_more}
+use Rattle.cdf_index.proofs.Looking.{none_there}
 use Rattle.cdf_leaves.proofs.Grown.{NodeNow, names_leaf, new_node, node_then, old_node, was, was_new, was_old}
 use Rattle.cdf_leaves.proofs.NodesMore.{places}
 use Rattle.cdf_leaves.proofs.NodesOf.{in_new, all_once}
-use Rattle.cdf_leaves.proofs.Own.{node_fits, node_spares, node_type, now_blocks, own_node, own_order, vdr_apart, vdr_in, vdr_kept, vdr_used}
+use Rattle.cdf_leaves.proofs.Own.{node_fits, node_spares, node_type, now_blocks, own_node, own_order, searchable, vdr_apart, vdr_in, vdr_kept, vdr_used}
 use Rattle.cdf_leaves.proofs.Spares.{spares_kept}
 
 -- a record that was taken became a node
@@ -31,45 +32,27 @@ pub record State (b roomy now : List ℕ) (own : VariableShape) (new at : ℕ) (
   pub has : HasNodes now (shape roomy).records 8 tree
   pub each : (m : ℕ) → In m every → NodeNow b now (nodes_of own.index) (was m) m
 
--- ---- an index that had no node
-
-no_nodes : (b ts : List ℕ) (nodes : Nodes) → AreTiles b 8 (length b) ts → HasNodes b ts 8 nodes → 0 ≡ link_to nodes → nodes ≡ no_node
-unfolding HasNodes
-no_nodes b ts no_node tiled h e = refl
-no_nodes b ts (node place room es more) tiled h e = absurd (some_place b ts (length b) place tiled (linkable-in b ts vxr_type place h.0.linkable) (sym e))
-
-first_leaf : (l : Leaf) (at : ℕ) → (with_leaf l at no_node ≡ node at 7 (with_block l no_entry) no_node) × (new_room l.first no_node ≡ 7)
-unfolding with_leaf new_room
-first_leaf l at = (refl, refl)
-
-has_one : (b ts : List ℕ) (l : Leaf) (at : ℕ) → SaysNode b ts at 7 (with_block l no_entry) no_node → MayName b ts l → HasNodes b ts 8 (node at 7 (with_block l no_entry) no_node)
-unfolding HasNodes Names
-has_one b ts l at s m = (s, (m.no_node, m.packed_is, tt), tt)
-
 module _ {b : List ℕ} {kind : Kind} {before : List VariableShape} {own : VariableShape} {after : List VariableShape} (good : Good b) (stood : StandsAmong b kind before own after) {filled body : List ℕ} {place : ℕ} (block : Placed b filled body place) (type_is : type_of_body body ≡ vvr_type) (first last at : ℕ) where
   abbrev pub l : Leaf
   l = leaf first last place false
 
-  abbrev pub index : Nodes
-  index = own.index
-
   abbrev pub new : ℕ
-  new = new_room first index
+  new = new_room first own.index
 
   abbrev pub after_leaf : Nodes
-  after_leaf = with_leaf l at index
+  after_leaf = with_leaf l at own.index
 
   abbrev pub every : List ℕ
   every = nodes_of after_leaf
 
   abbrev pub spare : ℕ → ℕ → Bool
-  spare = was b (nodes_of index) place (8 + length body) new at
+  spare = was b (nodes_of own.index) place (8 + length body) new at
 
   late : Grew b filled
   late = grew (sound good stood) block.fills
 
-  pub spare_old : (m i : ℕ) → In m (nodes_of index) → (0 < new → m ≢ at) → spare m i ≡ leb (used_count b m) i
-  spare_old m i j apart_new = let n = own_node good stood m j in was_old b (nodes_of index) place (8 + length body) new at m i j (unlike (sound good stood) block.fills m n.0 (λ u. apart vxr_type uir_type refl (sym n.1 ∙ u))) apart_new
+  pub spare_old : (m i : ℕ) → In m (nodes_of own.index) → (0 < new → m ≢ at) → spare m i ≡ leb (used_count b m) i
+  spare_old m i j apart_new = let n = own_node good stood m j in was_old b (nodes_of own.index) place (8 + length body) new at m i j (unlike (sound good stood) block.fills m n.0 (λ u. apart vxr_type uir_type refl (sym n.1 ∙ u))) apart_new
 
   -- ---- a node was made of a record, or none was needed
 
@@ -81,7 +64,7 @@ module _ {b : List ℕ} {kind : Kind} {before : List VariableShape} {own : Varia
       stands = stands late.sound w.fills;
       outside = λ i. unlike late.sound w.fills at (late.sub at (own_node good stood at i).0) (λ u. apart vxr_type uir_type refl (sym (node_type good stood late at i) ∙ u)) refl;
       apart = λ q. unlike late.sound w.fills own.vdr (vdr_in good stood late) (vdr_used good stood late) (sym q);
-      now = new_node w.written (λ i. was_new b (nodes_of index) place (8 + length body) new at i s);
+      now = new_node w.written (λ i. was_new b (nodes_of own.index) place (8 + length body) new at i s);
     };
   }
     where
@@ -100,16 +83,16 @@ module _ {b : List ℕ} {kind : Kind} {before : List VariableShape} {own : Varia
     all_taken = grew_then late r.on
 
     pub stand : (m : ℕ) → In m every → In m records × (m ≢ own.vdr)
-    stand m i = elim (in_nodes_with_leaf l at index m i) [ inl j ↦ (let n = own_node good stood m j in (all_taken.sub m n.0, vdr_apart good stood m n.1)) | inr p ↦ (let f = r.fresh p.1 in rw p.0 (f.stands, f.apart)) ]
+    stand m i = elim (in_nodes_with_leaf l at own.index m i) [ inl j ↦ (let n = own_node good stood m j in (all_taken.sub m n.0, vdr_apart good stood m n.1)) | inr p ↦ (let f = r.fresh p.1 in rw p.0 (f.stands, f.apart)) ]
 
-    pub old : (m : ℕ) → In m (nodes_of index) → NodeNow b roomy (nodes_of index) (spare m) m
+    pub old : (m : ℕ) → In m (nodes_of own.index) → NodeNow b roomy (nodes_of own.index) (spare m) m
     old m j = node_then (old_node j (node_fits good stood m j) (λ i. spare_old m i j (λ s e. (r.fresh s).outside (rw e at j)))) (node_spares good stood all_taken m j)
 
-    pub start : (m : ℕ) → In m every → NodeNow b roomy (nodes_of index) (spare m) m
-    start m i = elim (in_nodes_with_leaf l at index m i) [ inl j ↦ old m j | inr p ↦ rw p.0 (r.fresh p.1).now ]
+    pub start : (m : ℕ) → In m every → NodeNow b roomy (nodes_of own.index) (spare m) m
+    start m i = elim (in_nodes_with_leaf l at own.index m i) [ inl j ↦ old m j | inr p ↦ rw p.0 (r.fresh p.1).now ]
 
     pub once_every : Distinct every
-    once_every = all_once index l at (has good stood).indexed.once (λ s. (r.fresh s).outside)
+    once_every = all_once own.index l at (has good stood).indexed.once (λ s. (r.fresh s).outside)
 
     block_typed : type_at filled place ≡ vvr_type
     block_typed = block.fills.typed ∙ type_is
@@ -123,16 +106,16 @@ module _ {b : List ℕ} {kind : Kind} {before : List VariableShape} {own : Varia
         type_kept filled roomy place k.same k.long ∙ block_typed
 
     pub blocks : (m : ℕ) → In m (places (leaves_of after_leaf)) → In m records
-    blocks m i = elim (in_new l m (leaves_of index) (subst (In m) (ap places (leaves_more l at 0 record_number_limit index (own_order good stood))) i)) [ inl e ↦ rw e block_there | inr j ↦ now_blocks good stood all_taken m j ]
+    blocks m i = elim (in_new l m (leaves_of own.index) (subst (In m) (ap places (leaves_more l at 0 record_number_limit own.index (own_order good stood))) i)) [ inl e ↦ rw e block_there | inr j ↦ now_blocks good stood all_taken m j ]
 
     -- ---- then the descriptor was written, or not
 
-    pub leaf_added : {wide now : List ℕ} → State b roomy wide own new at spare every after_leaf → Changed wide now (touch own.vdr 28 16 ∷ []) → length now ≡ length wide → number now own.vdr vdr_vxr_head ≡ link_to after_leaf → TailGoesOn b now own.vdr index after_leaf → LeafAdded b now own l body at
+    pub leaf_added : {wide now : List ℕ} → State b roomy wide own new at spare every after_leaf → Changed wide now (touch own.vdr 28 16 ∷ []) → length now ≡ length wide → number now own.vdr vdr_vxr_head ≡ link_to after_leaf → TailGoesOn b now own.vdr own.index after_leaf → LeafAdded b now own l body at
     leaf_added {wide = wide} {now = now} st changed as_long head tail =
         let fit : 28 + 16 ≤ size_at wide own.vdr = omega (arith, long good stood, size_kept b wide own.vdr st.vdr.same (omega (arith, long good stood))) in
         let heads = heads_stay wide now records st.tiled own.vdr 28 16 (vdr_in good stood all_taken) (omega arith) fit changed in
         let stay : (m : ℕ) → In m every → Kept wide now m = λ m i. others_stay wide now records st.tiled own.vdr 28 16 (vdr_in good stood all_taken) (omega arith) fit changed m (stand m i).0 (stand m i).1 in
-        let node_now : (m : ℕ) → In m every → NodeNow b now (nodes_of index) (spare m) m = λ m i. node_then (st.each m i) (spares_kept wide now m (stay m i) (st.each m i).fits) in
+        let node_now : (m : ℕ) → In m every → NodeNow b now (nodes_of own.index) (spare m) m = λ m i. node_then (st.each m i) (spares_kept wide now m (stay m i) (st.each m i).fits) in
         record {
           filled = filled;
           block = block;
@@ -146,17 +129,19 @@ module _ {b : List ℕ} {kind : Kind} {before : List VariableShape} {own : Varia
           fits = each (NodeFits now) every (λ m i. (node_now m i).fits);
           counts = λ c. each (Counts now) every (λ m i. (node_now m i).count c);
           tail = tail;
-          unused = each (UnusedEntries b now (index ∷ []) (nodes_of index) (leaf_acts place (8 + length body) new at)) every (λ m i j le lt. inl ((node_now m i).spare j le lt));
+          unused = each (UnusedEntries b now (own.index ∷ []) (nodes_of own.index) (leaf_acts place (8 + length body) new at)) every (λ m i j le lt. inl ((node_now m i).spare j le lt));
         }
 
   -- the index had no node: its first one is taken, and the descriptor leads to it
   pub first_added : {roomy now : List ℕ} → number b own.vdr vdr_vxr_head ≡ 0 → length now ≤ image_limit → NodeMade filled roomy 7 0 (entry first last place ∷ []) at → now ≡ with_field (with_field roomy own.vdr vdr_vxr_head at) own.vdr vdr_vxr_tail at → LeafAdded b now own l body at
+  unfolding with_leaf new_room HasNodes Names
   first_added {roomy = roomy} {now = now} none short made linked =
       let v = own.vdr in
       let w = made.written in
-      let empty = no_nodes b (shape b).records index (sound good stood).has_shape.tiled (has good stood).indexed.has_nodes (sym none ∙ (has good stood).indexed.link_is) in
-      let one = ap (with_leaf l at) empty ∙ (first_leaf l at).0 in
-      let r = made_roomy made (ap (new_room first) empty ∙ (first_leaf l at).1) (omega arith) in
+      let s = searchable good stood in
+      let empty : own.index ≡ no_node = sym s.1 ∙ none_there b 8 (index_at b (number b own.vdr vdr_vxr_head)) s.0.tiled s.0.index.has_nodes (sym s.0.index.link_is ∙ none) in
+      let one : after_leaf ≡ node at 7 (with_block l no_entry) no_node = ap (with_leaf l at) empty in
+      let r = made_roomy made (ap (new_room first) empty) (omega arith) in
       let g = all_taken r in
       let v_kept = vdr_kept good stood g in
       let v_lies = tile_lies roomy 8 (length roomy) (records r) v g.sound.has_shape.tiled (vdr_in good stood g) in
@@ -166,6 +151,6 @@ module _ {b : List ℕ} {kind : Kind} {before : List VariableShape} {own : Varia
       let small : at < 256 ^ 8 = omega (arith, w.inside.inside, tail.as_long, head.as_long) in
       let there = stands late.sound made.fills in
       let says : SaysNode roomy (records r) at 7 (with_block l no_entry) no_node = record { linkable = linkable-from roomy (records r) vxr_type at there made.fills.typed (omega (arith, w.inside.entries)); next_is = w.next_is; room_is = w.room_is; used_is = w.used_is; say_entries = (w.says 0 (omega arith), tt) } in
-      leaf_added r (record { as_long = refl; tiled = g.sound.has_shape.tiled; touches = []; changed = nothing_changed; within = tt; vdr = v_kept; has = rw one (has_one roomy (records r) l at says (names_leaf roomy (records r) l (block_is r) refl)); each = start r })
+      leaf_added r (record { as_long = refl; tiled = g.sound.has_shape.tiled; touches = []; changed = nothing_changed; within = tt; vdr = v_kept; has = rw one (let m = names_leaf roomy (records r) l (block_is r) refl in (says, (m.no_node, m.packed_is, tt), tt)); each = start r })
       (changed_again (changed_wider 28 16 head.changed (omega arith) (omega arith)) head.as_long (changed_wider 28 16 tail.changed (omega arith) (omega arith))) (tail.as_long ∙ head.as_long)
       (tail.past (v + 28) 8 (inl (omega arith)) ∙ head.reads small ∙ sym (ap link_to one)) (rw (one, empty) (tail.reads small))

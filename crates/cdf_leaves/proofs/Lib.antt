@@ -1,5 +1,4 @@
 pub mod Common
-pub mod NodeTaking
 pub mod Spares
 pub mod PutSteps
 pub mod Along

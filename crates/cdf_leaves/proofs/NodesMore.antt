@@ -1,5 +1,5 @@
 -- The nodes of an index some of whose entries end later.
-use Rattle.cdf_leaves.proofs.Common.{Entries, Leaf, List, Nodes, [], ap, ap₂, block, either, entry_leaves, eqb, eqb-true, inl, inr, leaves_of, lower, lower_nodes, map, map-append, no_entry, no_node, node, nodes_of, redo, redo_below, refl, suc, sym, widen_all, widened, wider, zero, ℕ, ◌++◌, ◌∙◌, ◌∷◌, ◌≡◌}
+use Rattle.cdf_leaves.proofs.Common.{Entries, Leaf, List, Nodes, [], ap, ap₂, arith, block, entry_leaves, leaves_of, lower, lower_nodes, map, map-append, nat_tests, no_entry, no_node, node, nodes_of, redo, redo_below, refl, suc, sym, widen_all, widened, wider, zero, ℕ, ◌++◌, ◌∙◌, ◌∷◌, ◌≡◌}
 
 -- ---- an entry that ends later
 
@@ -23,15 +23,11 @@ module _ (x last i : ℕ) where
 
     pub nodes_wider : (nodes : Nodes) → (nodes_of (redo x (wider last x i) nodes) ≡ nodes_of nodes) × (places (leaves_of (redo x (wider last x i) nodes)) ≡ places (leaves_of nodes))
     nodes_wider no_node = (refl, refl)
-    nodes_wider (node place room es more) = elim (either (eqb place x)) [
-      | inl t ↦
-          let e : x ≡ place = sym (eqb-true place x t) in
-          rw t (ap₂ (λ (p : ℕ) (xs : List ℕ). p ∷ xs ++ nodes_of more) e (widened_keeps last i es).0, parted (entry_leaves (widened last i es)) (entry_leaves es) (leaves_of more) (leaves_of more) (widened_keeps last i es).1 refl)
-      | inr t ↦
-          let r = nodes_wider more in
-          let s = lower_wider es in
-          rw t (ap₂ (λ (xs ys : List ℕ). place ∷ xs ++ ys) s.0 r.0, parted (entry_leaves (redo_below x (wider last x i) es)) (entry_leaves es) (leaves_of (redo x (wider last x i) more)) (leaves_of more) s.1 r.1)
-    ]
+    nodes_wider (node place room es more) =
+        let r = nodes_wider more in
+        let s = lower_wider es in
+        let k = widened_keeps last i es in
+        (grind (arith, nat_tests, r.0, s.0, k.0), grind (arith, nat_tests, parted (entry_leaves (widened last i es)) (entry_leaves es) (leaves_of more) (leaves_of more) k.1 refl, parted (entry_leaves (redo_below x (wider last x i) es)) (entry_leaves es) (leaves_of (redo x (wider last x i) more)) (leaves_of more) s.1 r.1))
 
     lower_wider : (es : Entries) → (lower_nodes (redo_below x (wider last x i) es) ≡ lower_nodes es) × (places (entry_leaves (redo_below x (wider last x i) es)) ≡ places (entry_leaves es))
     lower_wider no_entry = (refl, refl)

@@ -1,5 +1,5 @@
 -- The nodes and the blocks of an index with a leaf more.
-use Rattle.cdf_leaves.proofs.Common.{Distinct, In, Leaf, List, Nodes, [], arith, cases_eq, cases_lt, distinct_if, either, in-times, inl, inr, ltb, nat_tests, new_room, nodes_of, nodes_with_leaf, times, times-once, with_leaf, with_new, ℕ, ◌<◌, ◌∷◌, ◌≡◌, ◌≤◌, ◌⊎◌}
+use Rattle.cdf_leaves.proofs.Common.{Distinct, In, Leaf, List, Nodes, [], arith, cases_lt, distinct_if, either, in-times, inl, inr, ltb, nat_tests, new_room, nodes_of, nodes_with_leaf, times, times-once, with_leaf, with_new, ℕ, ◌<◌, ◌∷◌, ◌≡◌, ◌≢◌, ◌⊎◌}
 use Rattle.cdf_leaves.proofs.NodesMore.{places}
 
 pub in_new : (l : Leaf) (m : ℕ) (ls : List Leaf) → In m (places (with_new l ls)) → (m ≡ l.place) ⊎ In m (places ls)
@@ -11,15 +11,10 @@ in_new l m (x ∷ xs) i = elim (either (ltb l.first x.first)) [
 
 -- none stands in it twice, where the new one stood nowhere
 pub all_once : (index : Nodes) (l : Leaf) (at : ℕ) → Distinct (nodes_of index) → (0 < new_room l.first index → In at (nodes_of index) → ⊥) → Distinct (nodes_of (with_leaf l at index))
-all_once index l at once out = distinct_if (nodes_of (with_leaf l at index)) each
-  where
-    each : (m : ℕ) → times m (nodes_of (with_leaf l at index)) ≤ 1
-    each m =
-        let more = nodes_with_leaf l at m index in
-        elim (cases_lt 0 (times m (nodes_of index))) [
-          | inl p ↦
-              let i = in-times m (nodes_of index) p in
-              let one = times-once m (nodes_of index) once i in
-              elim (cases_eq m at) [ inl e ↦ elim (cases_lt 0 (new_room l.first index)) [ inl s ↦ absurd (out s (rw e at i)) | inr z ↦ grind (arith, nat_tests, more, one) ] | inr ne ↦ grind (arith, nat_tests, more, one) ]
-          | inr z ↦ grind (arith, nat_tests, more)
-        ]
+all_once index l at once out = distinct_if (nodes_of (with_leaf l at index)) (λ m. elim (cases_lt 0 (times m (nodes_of index))) [
+  | inl p ↦
+      let i = in-times m (nodes_of index) p in
+      let apart : 0 < new_room l.first index → m ≢ at = λ s e. out s (rw (← e) i) in
+      grind (arith, nat_tests, nodes_with_leaf l at m index, times-once m (nodes_of index) once i, apart)
+  | inr z ↦ grind (arith, nat_tests, nodes_with_leaf l at m index)
+])

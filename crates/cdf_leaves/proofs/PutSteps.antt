@@ -1,5 +1,5 @@
 -- A node that gets an entry, once another record was taken.
-use Rattle.cdf_leaves.proofs.Common.{Entry, Grew, List, MayPut, NodeInside, NodeMade, Spot, apart, gdr_type, grew, length, made, refl, room_at, shape, sym, uir_type, used_count, vxr_type, ℕ, ◌+◌, ◌∙◌, ◌≡◌, ◌≤◌}
+use Rattle.cdf_leaves.proofs.Common.{Entry, Grew, IsSound, List, MayPut, NodeInside, NodeMade, NodeWritten, Spot, Takes, apart, content, fills, gdr_type, grew, length, made, node_short, refl, room_at, shape, sound, sym, uir_type, used_count, vxr_bytes, vxr_type, ℕ, ◌+◌, ◌∙◌, ◌≡◌, ◌≤◌}
 use Rattle.cdf_leaves.proofs.Spares.{Spares, spares_kept, fits_still, front_lies, node_inside}
 
 pub record StaysThere (now : List ℕ) (seen : Spot) : Type 0 where
@@ -24,3 +24,8 @@ stays_there {b = b} {now = now} {seen = seen} e may made =
 -- where its VXRnext lies
 pub next_lies : {b now : List ℕ} {seen : Spot} {room next at : ℕ} {entries : List Entry} → MayPut b seen → NodeMade b now room next entries at → seen.place + 28 ≤ length now
 next_lies {now = now} {seen = seen} may made = front_lies now seen.place (stays_there refl may made).inside
+
+-- ---- a record that was taken becomes a node
+
+pub node_made : (b taken : List ℕ) (room place : ℕ) (sound : IsSound b (shape b)) (takes : Takes b taken (shape b) (shape taken) (vxr_bytes room) place) (sound_taken : IsSound taken (shape taken)) (stays : content taken ≡ content b) (now : List ℕ) (next : ℕ) (entries : List Entry) → NodeWritten taken now place room next entries → NodeMade b now room next entries place
+node_made b taken room place sound takes sound_taken stays now next entries w = record { taken = taken; fills = fills b taken room place sound takes sound_taken stays now next entries w; longest = node_short b taken room place sound takes sound_taken stays now next entries w; written = w }

@@ -16,6 +16,7 @@ use cdf_space::alloc_record;
 
 /// Takes a record and makes a node of it, with room for so many entries, with these, and with a link to the next one. Gives its place.
 /// After an error a part of this may have been done.
+#[tactic(auto, using(crate::proofs::PutSteps::node_made, cdf_index::proofs::NodeFilled::has_room))]
 pub fn make_node<A: Area>(
     area: &mut A,
     room: u64,

@@ -19,6 +19,7 @@ use std::alloc::Global;
 
 /// Puts an entry into a full node before others, which go to a new node behind it. Gives the new node.
 /// After an error a part of this may have been done.
+#[tactic(auto, using(crate::proofs::PutSteps::inside_before, crate::proofs::PutSteps::stays_there))]
 fn split_node<A: Area>(
     alloc: Global,
     area: &mut A,
@@ -41,6 +42,7 @@ fn split_node<A: Area>(
 
 /// Puts an entry into a new node behind a full one. Gives the new node.
 /// After an error a part of this may have been done.
+#[tactic(auto, using(crate::proofs::PutSteps::next_lies))]
 fn chain_node<A: Area>(area: &mut A, end: Spot, entry: Entry) -> Result<u64, AreaError>
     requires end { MayPut (A.image area.old) end }
     requires room { length (A.image area.old) + vxr_bytes new_entries ≤ (A.frame area.old).limit }
@@ -55,6 +57,7 @@ fn chain_node<A: Area>(area: &mut A, end: Spot, entry: Entry) -> Result<u64, Are
 
 /// Puts an entry where it belongs into the node at the end of the way. Gives the new node that this takes, 0 for none.
 /// After an error a part of this may have been done.
+#[tactic(auto, using(crate::proofs::PutSteps::inside_before))]
 pub fn put_entry<A: Area>(
     alloc: Global,
     area: &mut A,

@@ -1,9 +1,6 @@
 use Rattle.cdf_leaves.proofs.Common.{arith, read_more}
-use Rattle.cdf_leaves.proofs.Chain.{follow_end, follow_more}
+use Rattle.cdf_leaves.proofs.Chain.{follow_more}
 use Rattle.cdf_leaves.proofs.tail.last_of_chain.Goals as goal
-
-pub returns-then-next-eq0-clause-last : goal.returns-then-next-eq0-clause-last
-returns-then-next-eq0-clause-last g c = follow_end c.loop-turn.invariant.following (omega (arith, c.loop-turn-test.true, c.size-turn-end.ensures)) c.loop-turn.invariant.area.image c.in_ok-next.ensures.value c.if-next-eq0.true
 
 pub loop-turn-preserved : goal.loop-turn-preserved
 loop-turn-preserved g c = record {
