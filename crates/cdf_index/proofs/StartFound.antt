@@ -1,5 +1,5 @@
 -- The walk to the start of a search, from a node that is known or from the first one.
-use Rattle.cdf_index.proofs.Common.{HasIndex, In, IsNode, IsTree, List, Nodes, SeesNode, SomeTree, Spot, SpotIs, [], ap₂, arith, chain_reaches, index_at, inl, inr, link_to, nat_tests, no_node, node, refl, seen, spot, subst, true, way, ℕ, ◌<◌, ◌∷◌, ◌≡◌, ◌≢◌}
+use Rattle.cdf_index.proofs.Common.{HasIndex, In, IsNode, IsTree, List, Nodes, SeesNode, SomeNode, Spot, SpotIs, [], ap₂, arith, chain_reaches, index_at, inl, inr, link_to, nat_tests, no_node, node, refl, seen, spot, subst, true, way, ℕ, ◌<◌, ◌∷◌, ◌≡◌, ◌≢◌}
 use Rattle.cdf_edits.specs.Index.Written.{top_chain}
 use Rattle.cdf_index.proofs.FromReached.{Rest, behind, rest_tree, whole}
 use Rattle.cdf_index.proofs.GoingDown.{top}
@@ -39,8 +39,8 @@ reached {b = b} {f = f} {levels = levels} {seen = seen} (node place room es more
     grind (arith, nat_tests, counted_begun b place f seen.begun es s.begun p.used_is p.stand.left.say, reached_is f p.low p.high es p.stand.order, lt)
 
 module _ (b : List ℕ) (head : ℕ) (has : HasIndex b head) where
-  pub known_tree : (m : ℕ) → In m (top_chain (index_at b head)) → SomeTree b m
-  known_tree m i = let r = known_rest m (index_at b head) i in record { levels = 8; nodes = r.0; tiled = has.tiled; tree = rest_tree r.1.0 r.1.1 has; link = r.1.2 }
+  pub known_node : (m : ℕ) → In m (top_chain (index_at b head)) → SomeNode b m
+  known_node m i = let r = known_rest m (index_at b head) i in record { levels = 8; nodes = r.0; tiled = has.tiled; stands = (rest_tree r.1.0 r.1.1 has).stands; is_node = r.1.1; link = r.1.2 }
 
   pub known_leads : (rec m : ℕ) (seen : Spot) → In m (top_chain (index_at b head)) → SeesNode b m rec seen → 0 < seen.begun → LeadsToStart b head rec m
   known_leads rec m seen i s lt =
