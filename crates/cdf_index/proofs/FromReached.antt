@@ -1,12 +1,11 @@
 -- What a search has that starts along the top chain of an index, and what of the index it has with the search from the first node.
-use Rattle.cdf_index.proofs.Common.{AreInOrder, AreTiles, Distinct, Distinct-back, Entries, HasIndex, HasNodes, In, In-append_right, InOrder, IsNode, IsOrderly, IsTree, Leaf, List, NodeFits, Nodes, Option, Stands, [], ap, append_assoc, arith, block, cases_eq, chain_reaches, either, entry_firsts, filter, find_entry, find_in, firsts_of, fold, has, index_at, inl, inr, leaf_of, least_first_past, leaves_of, length, link_to, lower, lower_nodes, ltb, min, nat_tests, no_entry, no_node, node, nodes_of, number_within, past_entries, record_number_limit, refl, spot, subst, suc, sym, tiles, true, way, with_leaf, zero, ℕ, ◌++◌, ◌+◌, ◌<◌, ◌∙◌, ◌≡◌, ◌≢◌, ◌≤◌}
+use Rattle.cdf_index.proofs.Common.{AreInOrder, AreTiles, Distinct, Distinct-back, Entries, HasIndex, HasNodes, In, In-append_right, InOrder, IsNode, IsOrderly, IsTree, Leaf, List, NodeFits, Nodes, Option, Stands, ap, append_assoc, arith, block, cases_eq, chain_reaches, either, entry_firsts, filter, find_entry, find_in, firsts_of, fold, has, index_at, inl, inr, leaf_of, least_first_past, leaves_of, length, link_to, lower, lower_nodes, ltb, min, nat_tests, no_entry, no_node, node, nodes_of, number_within, past_entries, record_number_limit, refl, spot, subst, suc, sym, tiles, true, way, with_leaf, zero, ℕ, ◌++◌, ◌+◌, ◌<◌, ◌∙◌, ◌≡◌, ◌≢◌, ◌≤◌}
 use Rattle.cdf_edits.specs.Index.Written.{last_node, top_chain}
-use Rattle.cdf_format.proofs.IndexLemmas.{levels_complete}
-use Rattle.cdf_format.specs.IndexWalk.{nodes_met}
 use Rattle.cdf_edits.proofs.Edits.VariableFrame.{Each-map}
 use Rattle.cdf_index.proofs.Ascending.{index_stands}
 use Rattle.cdf_index.proofs.Coming.{chain_reaches_from}
 use Rattle.cdf_index.proofs.EntriesLeft.{node_parts}
+use Rattle.cdf_index.proofs.GoodIndex.{found_index}
 use Rattle.cdf_index.proofs.LeavesAscend.{end_before}
 use Rattle.cdf_index.proofs.Looking.{none_there}
 use Rattle.cdf_index.proofs.OrderLemmas.{end_after, find_is}
@@ -69,17 +68,7 @@ index_standing {b = b} {head = head} has = record { stands = index_stands b head
 
 -- so it is an index
 rest_index : {b : List ℕ} {at : ℕ} {s : Nodes} → AreTiles b 8 (length b) (tiles b) → Standing b s → at ≡ link_to s → HasIndex b at × (index_at b at ≡ s)
-rest_index {b = b} {at = at} {s = s} tiled p e =
-    let same : index_at b at ≡ s = ap nodes_met (levels_complete b (tiles b) (length b) tiled 8 [] 0 at s e p.stands.has p.once) in (
-      record {
-        tiled = tiled;
-        index = rw same (record { link_is = e; has_nodes = p.stands.has; once = p.once });
-        fits = rw same (Each-map (IsOrderly b) (NodeFits b) (λ m o. o.fits) (nodes_of s) p.stands.orderly);
-        blocks = rw same p.stands.blocks;
-        order = rw same p.order;
-      },
-      same,
-    )
+rest_index {b = b} {s = s} tiled p e = found_index tiled (record { link_is = e; has_nodes = p.stands.has; once = p.once }) (Each-map (IsOrderly b) (NodeFits b) (λ m o. o.fits) (nodes_of s) p.stands.orderly) p.stands.blocks p.order
 
 pub rest_tree : {b : List ℕ} {head : ℕ} {s : Nodes} → Rest s (index_at b head) → IsNode s → HasIndex b head → IsTree b 8 s
 rest_tree r is has = let p = rest_stands r (index_standing has) in record { stands = p.stands; is_node = is; once = p.once; from = 0; upto = record_number_limit; order = p.order }

@@ -1,5 +1,5 @@
 -- The index of a variable of a good image is one that can be searched.
-use Rattle.cdf_index.proofs.Common.{AreInOrder, AreTiles, Each, Each-split, Entries, HasIndex, HasVariable, Hold, Hold-split, InOrder, IsBlock, IsGoodImage, IsIndex, IsSound, LeafFits, List, Nodes, Row, Shape, VariableFits, VariableShape, [], ap, before_is, before_number, between, block, end_of, flat_map, index_at, index_complete, index_of, is_block, leaf_rows, leaves_of, length, lower, met_rows, negsuc, no_entry, no_node, node, nodes_rows, number, number_before, past_entries, phase8, pos, record_number_limit, refl, sound, subst, suc, sym, tiles, tiles_are, used_rows, variables, with_sign, ℕ, ℤ, ◌++◌, ◌∙◌, ◌∷◌, ◌≡◌}
+use Rattle.cdf_index.proofs.Common.{AreInOrder, AreTiles, Each, Each-split, Entries, HasIndex, HasVariable, Hold, Hold-split, InOrder, IsBlock, IsGoodImage, IsIndex, IsSound, LeafFits, List, NodeFits, Nodes, Row, Shape, VariableFits, VariableShape, [], ap, before_is, before_number, between, block, end_of, flat_map, index_at, index_complete, index_of, is_block, leaf_rows, leaves_of, length, lower, met_rows, negsuc, no_entry, no_node, node, nodes_of, nodes_rows, number, number_before, past_entries, phase8, pos, record_number_limit, refl, sound, subst, suc, sym, tiles, tiles_are, used_rows, variables, with_sign, ℕ, ℤ, ◌++◌, ◌∙◌, ◌∷◌, ◌≡◌}
 use Rattle.cdf_format.specs.IndexRules.{index_rows}
 use Rattle.cdf_format.proofs.IndexLemmas.{levels_complete}
 use Rattle.cdf_format.specs.IndexWalk.{Met, nodes_met}
@@ -42,6 +42,12 @@ index_ruled b s before v after good all =
     let found = index_complete b s.records (length b) v.vdr vdr_vxr_head v.index good.has_shape.tiled has.indexed in
     subst (λ (m : Met Nodes). Hold (met_rows b s.records v.vdr m)) found (rows_of (λ vdr. met_rows b s.records vdr (index_of b s.records vdr)) before v after (subst (λ (x : List VariableShape). Hold (phase8 b s.records (vdrs x))) all good.phases.1.1.1.0))
 
+-- nodes that are an index, in order, are the one that a link leads to
+pub found_index : {b : List ℕ} {at : ℕ} {ns : Nodes} → AreTiles b 8 (length b) (tiles b) → IsIndex b (tiles b) at ns → Each (NodeFits b) (nodes_of ns) → Each (IsBlock b) (leaves_of ns) → InOrder 0 record_number_limit ns → HasIndex b at × (index_at b at ≡ ns)
+found_index {b = b} {at = at} {ns = ns} tiled x fits blocks order =
+    let same : index_at b at ≡ ns = ap nodes_met (levels_complete b (tiles b) (length b) tiled 8 [] 0 at ns x.link_is x.has_nodes x.once) in
+    (record { tiled = tiled; index = rw same x; fits = rw same fits; blocks = rw same blocks; order = rw same order }, same)
+
 pub good_index : (b : List ℕ) (s : Shape) (before : List VariableShape) (v : VariableShape) (after : List VariableShape) → IsGoodImage b s → IsSound b s → variables s ≡ before ++ v ∷ after → HasIndex b (number b v.vdr vdr_vxr_head) × (index_at b (number b v.vdr vdr_vxr_head) ≡ v.index)
 good_index b s before v after good sound all =
     let h = good.has_shape in
@@ -50,14 +56,5 @@ good_index b s before v after good sound all =
     let has = (Each-split (HasVariable b s.records) before (v ∷ after) (subst (Each (HasVariable b s.records)) all h.have_variables)).1.0 in
     let fits = (Each-split (VariableFits b s.records) before (v ∷ after) (subst (Each (VariableFits b s.records)) all sound.variables_fit)).1.0 in
     let index : IsIndex b (tiles b) (number b v.vdr vdr_vxr_head) v.index = subst (λ (x : List ℕ). IsIndex b x (number b v.vdr vdr_vxr_head) v.index) (sym t) has.indexed in
-    let same : index_at b (number b v.vdr vdr_vxr_head) ≡ v.index = ap nodes_met (levels_complete b (tiles b) (length b) tiled 8 [] 0 (number b v.vdr vdr_vxr_head) v.index index.link_is index.has_nodes index.once) in
-    let order = order_from b s.records 0 record_number_limit v.index (Hold-split (nodes_rows b s.records (negsuc 0) (pos record_number_limit) v.index) (flat_map (leaf_rows b s.records v.vdr) (leaves_of v.index)) (index_ruled b s before v after good all)).0 in (
-      record {
-        tiled = tiled;
-        index = rw same index;
-        fits = rw same fits.1;
-        blocks = rw same (Each-map (LeafFits b s.records v.vdr) (IsBlock b) (λ leaf h. ap (λ (x : List ℕ). is_block b x leaf.place) t ∙ h.0) (leaves_of v.index) fits.2);
-        order = rw same order;
-      },
-      same,
-    )
+    let order = order_from b s.records 0 record_number_limit v.index (Hold-split (nodes_rows b s.records (negsuc 0) (pos record_number_limit) v.index) (flat_map (leaf_rows b s.records v.vdr) (leaves_of v.index)) (index_ruled b s before v after good all)).0 in
+    found_index tiled index fits.1 (Each-map (LeafFits b s.records v.vdr) (IsBlock b) (λ leaf h. ap (λ (x : List ℕ). is_block b x leaf.place) t ∙ h.0) (leaves_of v.index) fits.2) order
