@@ -9,14 +9,14 @@ use Rattle.cdf_index.proofs.NodeSplit.{split}
 use Rattle.cdf_index.proofs.OneVariable.{one_of}
 use Rattle.cdf_index.specs.declared.descending.Way.{Way}
 use Rattle.std.proofs.lemmas.List.{length-map, nil_from_length}
-use Rattle.cdf_leaves.proofs.Along.{along, InNode, OnWay, Ready}
-use Rattle.cdf_leaves.proofs.Grown.{NodeNow, fed_node, names_leaf, node_then, room_full, room_with, was}
+use Rattle.cdf_leaves.proofs.Along.{all_of, along, InNode, OnWay, Ready}
+use Rattle.cdf_leaves.proofs.Grown.{NodeNow, fed_node, names_leaf, node_then, was}
 use Rattle.cdf_leaves.proofs.LeafGrown.{Roomy, State, all_taken, block_is, block_there, blocks, first_added, leaf_added, made_roomy, no_roomy, old, once_every, spare_old, stand, start}
 use Rattle.cdf_leaves.proofs.NodesMore.{places, all_wider}
 use Rattle.cdf_leaves.proofs.Own.{searchable, own_order, own_node, node_fits, node_spares, node_type, now_has, now_blocks, still_sees, vdr_apart, vdr_in, vdr_kept}
 use Rattle.cdf_leaves.proofs.PutSteps.{next_lies}
 use Rattle.cdf_leaves.proofs.Spares.{Spares, fits_still, front_lies, node_inside, spares_kept, spares_linked, spares_then}
-use Rattle.cdf_leaves.proofs.SpotNode.{SpotNode, room_in, spot_node, way_apart}
+use Rattle.cdf_leaves.proofs.SpotNode.{SpotRoom, room_in, spot_room, way_apart}
 use Rattle.cdf_leaves.proofs.TopChain.{TopGrown, top_grown, chain_inside, end_is_last, last_in}
 
 -- ---- an entry was put
@@ -136,8 +136,8 @@ module _ {b : List ℕ} {kind : Kind} {before : List VariableShape} {own : Varia
         coming : Comes l at (way first own.index) x new own.index after_leaf
         coming = rw end_is (comes l at 0 record_number_limit own.index (own_order good at_own))
 
-        spot_here : SpotNode b (shape b).records first x new
-        spot_here = spot_node coming b (shape b).records 8 (has good at_own).indexed.has_nodes some_end
+        spot_here : SpotRoom b first x new
+        spot_here = spot_room coming b (shape b).records 8 (has good at_own).indexed.has_nodes some_end
 
         -- ---- from an image in which all records were taken
 
@@ -191,7 +191,7 @@ module _ {b : List ℕ} {kind : Kind} {before : List VariableShape} {own : Varia
 
         with_room : found.end.used < found.end.room → at ≡ 0 → Inserted filled grown x found.end.used found.end.begun first last place → EntryStands b filled grown own l at x spare
         with_room lt z ins =
-            let r = no_roomy good at_own block type_is first last at (room_with b (shape b).records first x new found.end.used found.end.room spot_here w.sees.used_is w.sees.room_is lt) z in
+            let r = no_roomy good at_own block type_is first last at (spot_here.has_room (omega (arith, w.sees.used_is, w.sees.room_is))) z in
             let s = still_sees good at_own late w.sees last_there in
             let less : found.end.used < room_at filled x = omega (arith, s.room_is) in
             put_done r 24 (4 + 16 * room_at filled x) (omega arith) (omega arith) ins.changed ins.as_long
@@ -212,7 +212,7 @@ module _ {b : List ℕ} {kind : Kind} {before : List VariableShape} {own : Varia
               (λ heads others names. owed heads names (others at f.stands (λ e. f.outside (rw e last_there))) (linkable-from grown (shape roomy).records vxr_type at f.stands (heads.types at f.stands ∙ made_it.fills.typed) (omega (arith, heads.sizes at f.stands, made_it.written.inside.entries)))) here
 
         full : found.end.room ≤ found.end.used → new ≡ max 7 (found.end.used - found.end.begun)
-        full le = room_full b (shape b).records first x new found.end.used found.end.room found.end.begun spot_here w.sees.used_is w.sees.room_is le w.sees.begun
+        full le = rw w.sees.used_is (spot_here.is_full (omega (arith, w.sees.used_is, w.sees.room_is)) found.end.begun w.sees.begun)
 
         -- some of its entries went to the new node
         with_split : found.end.room ≤ found.end.used → found.end.begun < found.end.used → SplitMade filled grown found.end (entry first last place) at → EntryStands b filled grown own l at x spare
@@ -291,7 +291,7 @@ module _ {b : List ℕ} {kind : Kind} {before : List VariableShape} {own : Varia
           state =
               let p = stands_now.state in
               let r = stands_now.taken in
-              let a = along grown wide now_records Other last found.steps.items p.tiled on_way widened in
+              let a = along grown wide now_records Other last found.steps.items p.tiled (all_of (OnWay grown now_records Other) found.steps.items on_way) widened in
               let same = all_wider last (map step_pair found.steps.items) put_tree in
               let nodes_are = sym same.0 ∙ ap nodes_of law in
               let leaves_are = sym same.1 ∙ ap (λ (n : Nodes). places (leaves_of n)) law in

@@ -37,4 +37,5 @@ pub use Rattle.cdf_leaves.specs.Tail.{ChainInside, chain_end}
 pub use Rattle.cdf_leaves.specs.Widening.{StepStands, WayStands, WidenedAlong}
 pub use Rattle.std.proofs.Common.{not, slice_index_or, ◌&&◌}
 pub use Rattle.std.proofs.lemmas.Bool.{eq-eqb, ne_eqb}
+pub use Rattle.std.specs.List.{All}
 pub use Rattle.std.specs.Result.{OnOk}

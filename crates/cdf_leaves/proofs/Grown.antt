@@ -1,7 +1,6 @@
 -- A node of an index that gets a leaf, from the image in which nothing was done: what holds of it by now.
-use Rattle.cdf_leaves.proofs.Common.{Begun, Bool, Counts, Each, Entry, EntryIs, In, Leaf, List, MayName, NodeFits, NodeWritten, SaysEntry, SaysUnused, StillSays, arith, begins_by, each_in, entry_past, false, fits, inl, inr, is_in-true, le-leb, leaf_acts, leb, max, nat_tests, no_node, number, refl, room_at, size_at, subst, suc, true, type_at, used_count, vvr_type, vxr_n_used_entries, was_unused, zero, ℕ, ◌-◌, ◌<◌, ◌∙◌, ◌≡◌, ◌≢◌, ◌≤◌, ◌⊎◌}
+use Rattle.cdf_leaves.proofs.Common.{Bool, Counts, Each, Entry, EntryIs, In, Leaf, List, MayName, NodeFits, NodeWritten, SaysEntry, SaysUnused, StillSays, arith, each_in, entry_past, false, fits, inl, inr, is_in-true, le-leb, leaf_acts, leb, nat_tests, no_node, number, refl, room_at, size_at, subst, suc, true, type_at, used_count, vvr_type, vxr_n_used_entries, was_unused, zero, ℕ, ◌<◌, ◌∙◌, ◌≡◌, ◌≢◌, ◌≤◌, ◌⊎◌}
 use Rattle.cdf_leaves.proofs.Spares.{Spares, fits_still}
-use Rattle.cdf_leaves.proofs.SpotNode.{SpotNode}
 
 -- ---- what counts as unused before
 
@@ -64,11 +63,3 @@ fed_node {b = b} {roomy = roomy} {now = now} {was = was} {m = m} n size room use
 
 pub names_leaf : (now records : List ℕ) (l : Leaf) → type_at now l.place ≡ vvr_type → l.packed ≡ false → MayName now records l
 names_leaf now records l t p = record { no_node = grind (arith, nat_tests, t); packed_is = grind (arith, nat_tests, t, p) }
-
--- ---- the room of a new node
-
-pub room_with : (b ts : List ℕ) (f x new used room : ℕ) → SpotNode b ts f x new → used ≡ used_count b x → room ≡ room_at b x → used < room → new ≡ 0
-room_with b ts f x new used room s u r lt = grind (arith, nat_tests, s.new_is, s.says.used_is, s.says.room_is)
-
-pub room_full : (b ts : List ℕ) (f x new used room p : ℕ) → SpotNode b ts f x new → used ≡ used_count b x → room ≡ room_at b x → room ≤ used → Begun b x f p → new ≡ max 7 (used - p)
-room_full b ts f x new used room p s u r le begun = grind (arith, nat_tests, s.new_is, s.says.used_is, s.says.room_is, begins_by b x f p begun s.entries s.says.used_is s.says.say_entries)

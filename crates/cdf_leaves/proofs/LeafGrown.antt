@@ -3,8 +3,7 @@ use Rattle.cdf_leaves.proofs.Common.{AreTiles, Bool, Changed, Counts, Distinct, 
 use Rattle.cdf_index.proofs.LeafMore.{leaves_more}
 use Rattle.cdf_index.proofs.Looking.{none_there}
 use Rattle.cdf_leaves.proofs.Grown.{NodeNow, names_leaf, new_node, node_then, old_node, was, was_new, was_old}
-use Rattle.cdf_leaves.proofs.NodesMore.{places}
-use Rattle.cdf_leaves.proofs.NodesOf.{in_new, all_once}
+use Rattle.cdf_leaves.proofs.NodesMore.{in_new, all_once, places}
 use Rattle.cdf_leaves.proofs.Own.{node_fits, node_spares, node_type, now_blocks, own_node, own_order, searchable, vdr_apart, vdr_in, vdr_kept, vdr_used}
 use Rattle.cdf_leaves.proofs.Spares.{spares_kept}
 

@@ -8,7 +8,6 @@ pub mod SpotNode
 pub mod TopChain
 pub mod Own
 pub mod Grown
-pub mod NodesOf
 pub mod LeafGrown
 pub mod AddCalls
 pub mod LastCall

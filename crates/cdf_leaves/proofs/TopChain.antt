@@ -1,5 +1,5 @@
 -- The top chain of an index that gets a leaf, and its end in the bytes.
-use Rattle.cdf_leaves.proofs.Common.{AreTiles, ChainInside, Comes, Distinct, Distinct-back, Entries, HasNodes, In, In-append_right, IsNode, Leaf, List, Nodes, Some, [], ap, arith, chain_end, comes_along, comes_below, comes_first, comes_here, eq-eqb, inl, inr, last_node, length, link_to, linkable-in, linkable-long, long, lower_nodes, ne_eqb, next_of, no_node, node, nodes_of, refl, room_of_new, some_place, subst, suc, sym, tile_lies, top_chain, unwrap_or, vxr_type, with_entry, zero, ℕ, ◌<◌, ◌∙◌, ◌∷◌, ◌≡◌, ◌≢◌, ◌⊎◌}
+use Rattle.cdf_leaves.proofs.Common.{AreTiles, ChainInside, Comes, Distinct, Distinct-back, HasNodes, In, In-append_right, IsNode, Leaf, List, Nodes, Some, [], ap, arith, chain_end, comes_along, comes_below, comes_first, comes_here, eq-eqb, inl, inr, last_node, length, link_to, linkable-in, linkable-long, long, lower_nodes, ne_eqb, next_of, no_node, node, nodes_of, refl, some_place, subst, suc, sym, tile_lies, top_chain, unwrap_or, vxr_type, zero, ℕ, ◌<◌, ◌∙◌, ◌∷◌, ◌≡◌, ◌≢◌, ◌⊎◌}
 use Rattle.std.specs.List.{last_or}
 use Rattle.cdf_format.proofs.Members.{length-le_from_distinct}
 use Rattle.cdf_format.proofs.TilesLemmas.{length_tiles}
@@ -7,9 +7,6 @@ use Rattle.cdf_index.proofs.Looking.{node_there}
 use Rattle.cdf_index.proofs.NodeGrown.{placed_link, placed_node}
 
 -- ---- in the tree
-
-entry_top : (l : Leaf) (at place room : ℕ) (es : Entries) (more : Nodes) → (room_of_new l.first room es ≡ 0 → top_chain (with_entry l at place room es more) ≡ place ∷ top_chain more) × (room_of_new l.first room es ≢ 0 → length (top_chain (with_entry l at place room es more)) ≡ suc (suc (length (top_chain more))))
-entry_top l at place room es more = ((λ e. grind arith), (λ ne. grind arith))
 
 -- what a leaf more leaves of the first node, and of the chain behind it
 pub record TopGrown (w : List (ℕ × ℕ)) (n : ℕ) (before after : Nodes) : Type 0 where
@@ -23,8 +20,7 @@ top_grown comes_first some = absurd (some refl)
 top_grown (comes_along {place = place} t c) some = let r = top_grown c some in record { link_is = refl; is_node = tt; stays = λ h. ap (λ (xs : List ℕ). place ∷ xs) (r.stays h); grows = λ e n. ap suc (r.grows e n) }
 top_grown (comes_below fs first last nodes nodes' es t le r c) some = record { link_is = refl; is_node = tt; stays = λ h. refl; grows = λ e. absurd (cc) }
 top_grown {l = l} {at = at} (comes_here {place = place} {room = room} {es = es} {more = more} t d) some =
-    let top = entry_top l at place room es more in
-    record { link_is = placed_link l at place room es more; is_node = placed_node l at place room es more; stays = λ h. elim h [ inl z ↦ top.0 z | inr ne ↦ absurd (ne refl) ]; grows = λ e n. top.1 n }
+    record { link_is = placed_link l at place room es more; is_node = placed_node l at place room es more; stays = λ h. elim h [ inl z ↦ grind arith | inr ne ↦ absurd (ne refl) ]; grows = λ e n. grind arith }
 
 -- ---- in the bytes
 
