@@ -9,7 +9,7 @@ use Rattle.cdf_index.proofs.NodeSplit.{split}
 use Rattle.cdf_index.proofs.OneVariable.{one_of}
 use Rattle.cdf_index.specs.declared.descending.Way.{Way}
 use Rattle.std.proofs.lemmas.List.{length-map, nil_from_length}
-use Rattle.cdf_leaves.proofs.Along.{all_of, along, InNode, OnWay, Ready}
+use Rattle.cdf_leaves.proofs.Along.{all_of, along, InNode, OnWay}
 use Rattle.cdf_leaves.proofs.Grown.{NodeNow, fed_node, names_leaf, node_then, was}
 use Rattle.cdf_leaves.proofs.LeafGrown.{Roomy, State, all_taken, block_is, block_there, blocks, first_added, leaf_added, made_roomy, no_roomy, old, once_every, spare_old, stand, start}
 use Rattle.cdf_leaves.proofs.NodesMore.{places, all_wider}
@@ -296,12 +296,7 @@ module _ {b : List ℕ} {kind : Kind} {before : List VariableShape} {own : Varia
               let nodes_are = sym same.0 ∙ ap nodes_of law in
               let leaves_are = sym same.1 ∙ ap (λ (n : Nodes). places (leaves_of n)) law in
               let in_records = stand good at_own block type_is first last at r in
-              let ready : Ready grown now_records put_tree = record {
-                has = p.has;
-                once = subst Distinct (sym nodes_are) (once_every good at_own block type_is first last at r);
-                stand = λ m i. let j = subst (In m) nodes_are i in ((in_records m j).0, (p.each m j).fits);
-                blocks = λ m i. blocks good at_own block type_is first last at r m (subst (In m) leaves_are i);
-              } in
+              let has = a.has put_tree p.has (subst Distinct (sym nodes_are) (once_every good at_own block type_is first last at r)) (λ m i. let j = subst (In m) nodes_are i in ((in_records m j).0, (p.each m j).fits)) (λ m i. blocks good at_own block type_is first last at r m (subst (In m) leaves_are i)) in
               record {
                 as_long = a.as_long ∙ p.as_long;
                 tiled = a.tiled;
@@ -309,7 +304,7 @@ module _ {b : List ℕ} {kind : Kind} {before : List VariableShape} {own : Varia
                 changed = changed_then stands_now.roomy grown wide p.touches a.touches p.changed a.changed;
                 within = Each-append (IndexTouch stands_now.roomy own new at) p.touches a.touches p.within (Each-map (InNode grown Other) (IndexTouch stands_now.roomy own new at) (λ t q. inr (q.1, inl (q.0.0, omega (arith, q.2, (stands_now.old t.tile q.0.0 q.0.1).room_is, (node_spares good at_own (g r) t.tile q.0.0).room_is)))) a.touches a.within);
                 vdr = kept_then b grown wide own.vdr p.vdr (a.others own.vdr (vdr_in good at_own (g r)) (λ q. vdr_apart good at_own own.vdr (own_node good at_own own.vdr q.0).1 refl));
-                has = subst (HasNodes wide now_records 8) law (a.has put_tree ready);
+                has = subst (HasNodes wide now_records 8) law has;
                 each = λ m i. node_then (p.each m i) (a.still m (in_records m i).0 (p.each m i).fits);
               }
 

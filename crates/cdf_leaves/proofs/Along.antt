@@ -5,13 +5,6 @@ use Rattle.cdf_index.proofs.NodeWider.{wider_owed}
 use Rattle.cdf_leaves.proofs.NodesMore.{places, all_wider}
 use Rattle.cdf_leaves.proofs.Spares.{Spares, fits_still, front_lies, kept_self, node_inside, spares_kept, spares_then, spares_widened}
 
--- an index whose nodes and blocks are among the records of an image
-pub record Ready (b records : List ℕ) (tree : Nodes) : Type 0 where
-  pub has : HasNodes b records 8 tree
-  pub once : Distinct (nodes_of tree)
-  pub stand : (m : ℕ) → In m (nodes_of tree) → In m records × NodeFits b m
-  pub blocks : (m : ℕ) → In m (places (leaves_of tree)) → In m records
-
 -- behind the type of a node of which this holds, up to its entries' end
 abbrev pub InNode : List ℕ → (ℕ → Type 0) → Touch → Type 0
 InNode b Y t = Y t.tile × (12 ≤ t.place) × (t.place + t.width ≤ 28 + 16 * room_at b t.tile)
@@ -25,13 +18,13 @@ pub record Along (b now records : List ℕ) (Y : ℕ → Type 0) (last : ℕ) (s
   pub within : Each (InNode b Y) touches
   pub still : (m : ℕ) → In m records → NodeFits b m → Spares b now m
   pub others : (m : ℕ) → In m records → (Y m → ⊥) → Kept b now m
-  pub has : (tree : Nodes) → Ready b records tree → HasNodes now records 8 (widen_all last steps tree)
+  pub has : (tree : Nodes) → HasNodes b records 8 tree → Distinct (nodes_of tree) → ((m : ℕ) → In m (nodes_of tree) → In m records × NodeFits b m) → ((m : ℕ) → In m (places (leaves_of tree)) → In m records) → HasNodes now records 8 (widen_all last steps tree)
 
 abbrev pub OnWay : List ℕ → List ℕ → (ℕ → Type 0) → Step → Type 0
 OnWay b records Y step = StepStands b records step × Y step.place
 
 pub along : (b now records : List ℕ) (Y : ℕ → Type 0) (last : ℕ) (steps : List Step) → AreTiles b 8 (length b) records → All (OnWay b records Y) steps → WidenedAlong b now last (map step_pair steps) → Along b now records Y last (map step_pair steps)
-along b now records Y last [] tiled e w = rw w (record { as_long = refl; tiled = tiled; touches = []; changed = nothing_changed; within = tt; still = λ m i. spares_kept b b m (kept_self b records m tiled i); others = λ m i out. kept_self b records m tiled i; has = λ tree r. r.has })
+along b now records Y last [] tiled e w = rw w (record { as_long = refl; tiled = tiled; touches = []; changed = nothing_changed; within = tt; still = λ m i. spares_kept b b m (kept_self b records m tiled i); others = λ m i out. kept_self b records m tiled i; has = λ tree h once stand blocks. h })
 along b now records Y last (step ∷ more) tiled e w =
     let mid = w.0 in
     let x = step.place in
@@ -56,9 +49,9 @@ along b now records Y last (step ∷ more) tiled e w =
         | inr ne ↦ spares_kept mid now m (kept m i ne) (fits_still b mid m s f)
       ]));
       others = λ m i out. kept_then b mid now m (a.others m i out) (kept m i (λ q. out (rw q stands.1)));
-      has = λ tree r. (let same = all_wider last (map step_pair more) tree in
+      has = λ tree h once stand blocks. (let same = all_wider last (map step_pair more) tree in
           edited mid now records x 28 n 8 (wider last x step.entry) (widen_all last (map step_pair more) tree) a.tiled there (omega arith) fits.0 write.changed (wider_owed mid now records records heads x step.entry last write fits.1 lies)
-          (a.has tree r) (subst Distinct (sym same.0) r.once) (λ m j. let k = r.stand m (subst (In m) same.0 j) in (k.0, fits_still b mid m (a.still m k.0 k.1) k.1)) (λ m j. r.blocks m (subst (In m) same.1 j)));
+          (a.has tree h once stand blocks) (subst Distinct (sym same.0) once) (λ m j. let k = stand m (subst (In m) same.0 j) in (k.0, fits_still b mid m (a.still m k.0 k.1) k.1)) (λ m j. blocks m (subst (In m) same.1 j)));
     }
 
 pub all_of : {A : Type 0} (P : A → Type 0) (xs : List A) → Each P xs → All P xs

@@ -1,5 +1,5 @@
 -- The node at the end of the way.
-use Rattle.cdf_leaves.proofs.Common.{Begun, Comes, Distinct, Distinct-back, Each, Entries, HasNodes, In, In-append, Leaf, List, Names, Nodes, apart_by, arith, begins_by, below_once, below_times, block, comes_along, comes_below, comes_first, comes_here, has_room, inl, inr, lower, lower_nodes, max, nat_tests, no_entry, no_node, node, nodes_of, refl, room_at, suc, sym, used_count, way_lies, widest, widest_below, with_both, zero, ℕ, ◌++◌, ◌-◌, ◌<◌, ◌∷◌, ◌≡◌, ◌≢◌, ◌≤◌}
+use Rattle.cdf_leaves.proofs.Common.{Begun, Comes, Distinct, Distinct-back, Each, Entries, HasNodes, In, In-append, Leaf, List, Names, Nodes, apart_by, arith, begins_by, below_once, below_times, block, comes_along, comes_below, comes_first, comes_here, inl, inr, lower, lower_nodes, max, nat_tests, no_entry, no_node, node, nodes_of, refl, room_at, suc, sym, used_count, way_lies, widest, widest_below, with_both, zero, ℕ, ◌++◌, ◌-◌, ◌<◌, ◌∷◌, ◌≡◌, ◌≢◌, ◌≤◌}
 use Rattle.cdf_index.proofs.Saying.{names_parts}
 
 -- the room of a new node behind it: none is made where it has room, else there is room for the entries past the new one, and for 7
