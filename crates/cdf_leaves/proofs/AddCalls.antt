@@ -1,6 +1,7 @@
 -- What the calls ask for that add a leaf, and what they leave.
-use Rattle.cdf_leaves.proofs.Common.{AddsLeaf, AreTiles, Bool, ChainInside, ChainMade, Changed, Comes, Distinct, Each, Each-append, Each-map, Entry, EntryPut, Field, FieldSet, Good, Grew, HasIndex, HasNodes, In, IndexStarted, IndexTouch, Inserted, IsAmong, IsWay, Kept, Kind, Leaf, List, MayName, MayPut, NodeFits, NodeMade, Nodes, Owed, Placed, SameHeads, SplitMade, StandsAmong, Step, StepSays, StepStands, VariableShape, WayStands, WidenedAlong, [], ap, apart, arith, begins_by, block, bytes_eq, cases_eq, cases_lt, chain_end, changed_then, changed_wider, comes, each, either, entries_beside, entry, eof, false, field_set, front_stays, gdr_offset, gdr_type, grew, has, heads_stay, image_limit, index_at, inl, inr, is_linkable, kept_then, last_node, leaf, leaves_of, length, link_to, linkable-from, long, lt-leb, made, map, max, new_room, no_zero, node, nodes_of, nothing_changed, number, number_kept, others_stay, placed, record_number_limit, redo, redone, refl, room_at, room_stays, rules, same_node, shape, size_at, sound, spot, step_pair, subst, sym, tile, tile_lies, tiles_same, top_chain, touch, true, type_of_body, typed, uir_type, used_count, variables, vdr_vxr_head, vdr_vxr_tail, vdrs, vvr_type, vxr_bytes, vxr_type, vxr_vxr_next, way, widen_all, widened, widest, with_field, with_leaf, ℕ, ◌*◌, ◌++◌, ◌+◌, ◌-◌, ◌<◌, ◌∙◌, ◌∷◌, ◌≡◌, ◌≢◌, ◌≤◌, ◌⊎◌}
+use Rattle.cdf_leaves.proofs.Common.{AddsLeaf, AreTiles, Bool, ChainInside, ChainMade, Changed, Comes, Distinct, Each, Each-append, Each-map, Entry, EntryPut, Field, FieldSet, Good, Grew, HasIndex, HasNodes, In, IndexStarted, IndexTouch, Inserted, IsAmong, IsWay, Kept, Kind, Leaf, List, MayName, MayPut, NodeFits, NodeMade, Nodes, Owed, Placed, SameHeads, SplitMade, StandsAmong, Step, StepSays, StepStands, VariableShape, WayStands, WidenedAlong, [], ap, apart, arith, begins_by, block, bytes_eq, cases_eq, cases_lt, chain_end, changed_then, changed_wider, comes, each, either, entries_beside, entry, eof, false, field_set, front_stays, gdr_offset, gdr_type, grew, has, heads_stay, image_limit, index_at, inl, inr, is_linkable, kept_then, last_node, leaf, leaves_of, length, link_to, linkable-from, long, lt-leb, made, map, max, new_room, no_zero, node, node_head, nodes_of, nothing_changed, number, number_kept, others_stay, placed, record_number_limit, redo, redone, refl, room_at, room_stays, rules, same_node, shape, size_at, sound, spot, step_pair, subst, sym, tile_lies, tiles_same, top_chain, touch, true, type_of_body, typed, uir_type, used_count, variables, vdr_vxr_head, vdr_vxr_tail, vdrs, vvr_type, vxr_bytes, vxr_type, vxr_vxr_next, way, widen_all, widened, widest, with_field, with_leaf, ℕ, ◌*◌, ◌++◌, ◌+◌, ◌-◌, ◌<◌, ◌∙◌, ◌∷◌, ◌≡◌, ◌≢◌, ◌≤◌, ◌⊎◌}
 use Rattle.cdf_edits.proofs.Edits.RecordGrown as of_grown
+use Rattle.cdf_edits.proofs.Edits.StandsAmong.{name_room}
 use Rattle.cdf_format.proofs.NameRules.{bytes_eq-same}
 use Rattle.cdf_format.proofs.Tests.{same_of_bytes_eq}
 use Rattle.cdf_index.proofs.Measured.{seven_at_least}
@@ -11,11 +12,11 @@ use Rattle.cdf_index.specs.declared.descending.Way.{Way}
 use Rattle.std.proofs.lemmas.List.{length-map, nil_from_length}
 use Rattle.cdf_leaves.proofs.Along.{all_of, along, InNode, OnWay}
 use Rattle.cdf_leaves.proofs.Grown.{NodeNow, fed_node, names_leaf, node_then, was}
-use Rattle.cdf_leaves.proofs.LeafGrown.{Roomy, State, all_taken, block_is, block_there, blocks, first_added, leaf_added, made_roomy, no_roomy, old, once_every, spare_old, stand, start}
+use Rattle.cdf_leaves.proofs.LeafGrown.{Roomy, State, all_taken, block_is, block_there, blocks, first_added, leaf_added, made_roomy, no_roomy, old, once_every, spare_old, start}
 use Rattle.cdf_leaves.proofs.NodesMore.{places, all_wider}
 use Rattle.cdf_leaves.proofs.Own.{searchable, own_order, own_node, node_fits, node_spares, node_type, now_has, now_blocks, still_sees, vdr_apart, vdr_in, vdr_kept}
 use Rattle.cdf_leaves.proofs.PutSteps.{next_lies}
-use Rattle.cdf_leaves.proofs.Spares.{Spares, fits_still, front_lies, node_inside, spares_kept, spares_linked, spares_then}
+use Rattle.cdf_leaves.proofs.Spares.{Spares, fits_still, node_inside, spares_kept, spares_linked, spares_then}
 use Rattle.cdf_leaves.proofs.SpotNode.{SpotRoom, room_in, spot_room, way_apart}
 use Rattle.cdf_leaves.proofs.TopChain.{TopGrown, top_grown, chain_inside, end_is_last, last_in}
 
@@ -47,7 +48,7 @@ module _ {b : List ℕ} {kind : Kind} {before : List VariableShape} {own : Varia
   index_there e = subst (HasIndex b) (sym e) (searchable good at_own).0
 
   pub vdr_there : own.vdr + 340 ≤ length b
-  vdr_there = omega (arith, (tile_lies b 8 (length b) (shape b).records own.vdr (sound good at_own).has_shape.tiled (tile good at_own)).high, long good at_own)
+  vdr_there = name_room good at_own
 
   -- ---- a block was placed
 
@@ -78,9 +79,6 @@ module _ {b : List ℕ} {kind : Kind} {before : List VariableShape} {own : Varia
       last_there : In found.end.place (nodes_of own.index)
       last_there = rw index at w.last
 
-      end_is : found.end.place ≡ spot first own.index
-      end_is = w.end_is ∙ ap (spot first) index
-
       way_is : map step_pair found.steps.items ≡ way first own.index
       way_is = w.steps_are ∙ ap (way first) index
 
@@ -95,9 +93,6 @@ module _ {b : List ℕ} {kind : Kind} {before : List VariableShape} {own : Varia
 
       pub wide_enough : max 7 found.end.room ≤ widest (index_at b head)
       wide_enough = rw index (omega (arith, w.sees.room_is, seven_at_least own.index, room_in b (shape b).records 8 found.end.place own.index (has good at_own).indexed.has_nodes last_there))
-
-      among_own : Each (IsAmong own.index) found.steps.items
-      among_own = rw index at w.among
 
       -- the end of the way is a node
       some_end : found.end.place ≢ 0
@@ -134,7 +129,7 @@ module _ {b : List ℕ} {kind : Kind} {before : List VariableShape} {own : Varia
         spare = was b nodes place (8 + length body) new at
 
         coming : Comes l at (way first own.index) x new own.index after_leaf
-        coming = rw end_is (comes l at 0 record_number_limit own.index (own_order good at_own))
+        coming = rw (w.end_is ∙ ap (spot first) index) (comes l at 0 record_number_limit own.index (own_order good at_own))
 
         spot_here : SpotRoom b first x new
         spot_here = spot_room coming b (shape b).records 8 (has good at_own).indexed.has_nodes some_end
@@ -155,7 +150,7 @@ module _ {b : List ℕ} {kind : Kind} {before : List VariableShape} {own : Varia
           fits m i = fits_still b roomy m (node_spares good at_own g m i) (node_fits good at_own m i)
 
           x_lies : x + 28 ≤ length roomy
-          x_lies = front_lies roomy x (node_inside roomy recs x g.sound.has_shape.tiled (there x last_there) (fits x last_there))
+          x_lies = node_head (node_inside roomy recs x g.sound.has_shape.tiled (there x last_there) (fits x last_there))
 
           x_before : NodeNow b roomy nodes (spare x) x
           x_before = old good at_own block type_is first last at r x last_there
@@ -181,7 +176,7 @@ module _ {b : List ℕ} {kind : Kind} {before : List VariableShape} {own : Varia
                   has = redone roomy grown recs recs heads x (placed l at x) (owed heads others names) 8 own.index (now_has good at_own g).indexed.has_nodes (has good at_own).indexed.once (λ m i ne. (others m (there m i) ne, fits m i)) (now_blocks good at_own g);
                   each = λ m i. elim (cases_eq m x) [
                     | inl e ↦ rw e here
-                    | inr ne ↦ (let s = start good at_own block type_is first last at r m i in node_then s (spares_kept roomy grown m (others m (stand good at_own block type_is first last at r m i).0 ne) s.fits))
+                    | inr ne ↦ (let s = start good at_own block type_is first last at r m i in node_then s.2 (spares_kept roomy grown m (others m s.0 ne) s.2.fits))
                   ];
                 };
                 old = λ m i ne. spares_then b roomy grown m (node_spares good at_own g m i) (spares_kept roomy grown m (others m (there m i) ne) (fits m i));
@@ -273,7 +268,7 @@ module _ {b : List ℕ} {kind : Kind} {before : List VariableShape} {own : Varia
             ((record { there = there stands_now.taken step.place a.0; fits = fits_still b grown step.place o (node_fits good at_own step.place a.0); room_is = s.0.room_is ∙ sym o.room_is; within = omega (arith, o.used_is, s.0.within) }, (a.0, n.0)), all_steps more a.1 s.1 n.1)
 
         on_way : Each (OnWay grown now_records Other) found.steps.items
-        on_way = all_steps found.steps.items among_own w.say (rw (← way_is) at (way_apart coming some_end (has good at_own).indexed.once))
+        on_way = all_steps found.steps.items (rw index at w.among) w.say (rw (← way_is) at (way_apart coming some_end (has good at_own).indexed.once))
 
         pub way_ready : WayStands grown found.steps.items × (length grown ≤ image_limit)
         way_ready = (record { records = now_records; tiled = stands_now.state.tiled; stand = Each-map (OnWay grown now_records Other) (StepStands grown now_records) (λ step p. p.0) found.steps.items on_way }, grown_short)
@@ -281,22 +276,18 @@ module _ {b : List ℕ} {kind : Kind} {before : List VariableShape} {own : Varia
         -- ---- the nodes on the way were widened
 
         module _ (wide : List ℕ) (widened : WidenedAlong grown wide last (map step_pair found.steps.items)) where
-          abbrev put_tree : Nodes
-          put_tree = redo x (placed l at x) own.index
-
-          law : widen_all last (map step_pair found.steps.items) put_tree ≡ after_leaf
-          law = rw way_is (made coming some_end (has good at_own).indexed.once)
-
           state : State b stands_now.roomy wide own new at spare (nodes_of after_leaf) after_leaf
           state =
+              let put_tree = redo x (placed l at x) own.index in
+              let law : widen_all last (map step_pair found.steps.items) put_tree ≡ after_leaf = rw way_is (made coming some_end (has good at_own).indexed.once) in
               let p = stands_now.state in
               let r = stands_now.taken in
               let a = along grown wide now_records Other last found.steps.items p.tiled (all_of (OnWay grown now_records Other) found.steps.items on_way) widened in
               let same = all_wider last (map step_pair found.steps.items) put_tree in
               let nodes_are = sym same.0 ∙ ap nodes_of law in
               let leaves_are = sym same.1 ∙ ap (λ (n : Nodes). places (leaves_of n)) law in
-              let in_records = stand good at_own block type_is first last at r in
-              let has = a.has put_tree p.has (subst Distinct (sym nodes_are) (once_every good at_own block type_is first last at r)) (λ m i. let j = subst (In m) nodes_are i in ((in_records m j).0, (p.each m j).fits)) (λ m i. blocks good at_own block type_is first last at r m (subst (In m) leaves_are i)) in
+              let in_records = start good at_own block type_is first last at r in
+              let has_now = a.has put_tree p.has (subst Distinct (sym nodes_are) (once_every good at_own block type_is first last at r)) (λ m i. let j = subst (In m) nodes_are i in ((in_records m j).0, (p.each m j).fits)) (λ m i. blocks good at_own block type_is first last at r m (subst (In m) leaves_are i)) in
               record {
                 as_long = a.as_long ∙ p.as_long;
                 tiled = a.tiled;
@@ -304,7 +295,7 @@ module _ {b : List ℕ} {kind : Kind} {before : List VariableShape} {own : Varia
                 changed = changed_then stands_now.roomy grown wide p.touches a.touches p.changed a.changed;
                 within = Each-append (IndexTouch stands_now.roomy own new at) p.touches a.touches p.within (Each-map (InNode grown Other) (IndexTouch stands_now.roomy own new at) (λ t q. inr (q.1, inl (q.0.0, omega (arith, q.2, (stands_now.old t.tile q.0.0 q.0.1).room_is, (node_spares good at_own (g r) t.tile q.0.0).room_is)))) a.touches a.within);
                 vdr = kept_then b grown wide own.vdr p.vdr (a.others own.vdr (vdr_in good at_own (g r)) (λ q. vdr_apart good at_own own.vdr (own_node good at_own own.vdr q.0).1 refl));
-                has = subst (HasNodes wide now_records 8) law has;
+                has = subst (HasNodes wide now_records 8) law has_now;
                 each = λ m i. node_then (p.each m i) (a.still m (in_records m i).0 (p.each m i).fits);
               }
 
@@ -342,7 +333,7 @@ module _ {b : List ℕ} {kind : Kind} {before : List VariableShape} {own : Varia
                 | inl t ↦ absurd (omega (arith, grows, ap (λ (xs : List ℕ). length xs) (same_of_bytes_eq (top_chain own.index) (top_chain after_leaf) t)))
                 | inr t ↦ t
               ] in
-              let in_records = λ (m : ℕ) (i : In m (nodes_of after_leaf)). (stand good at_own block type_is first last at r m i).0 in
+              let in_records = λ (m : ℕ) (i : In m (nodes_of after_leaf)). (start good at_own block type_is first last at r m i).0 in
               let end = ap (chain_end (length wide) wide) (head_is ∙ link_is) ∙ end_is_last wide now_records state.tiled 8 after_leaf state.has top.is_node (once_every good at_own block type_is first last at r) in_records in
               let small = (tile_lies wide 8 (length wide) now_records (last_node after_leaf) state.tiled (in_records (last_node after_leaf) (last_in after_leaf top.is_node))).high in
               record {

@@ -1,9 +1,9 @@
 -- The nodes on a way are widened one by one, the last one first.
-use Rattle.cdf_leaves.proofs.Common.{All, AreTiles, Changed, Distinct, Each, Each-append, HasNodes, In, Kept, List, NodeFits, NodeInside, Nodes, Step, StepStands, Touch, WayStands, Widened, WidenedAlong, [], arith, cases_eq, changed_then, drop, edited, fits, has, heads_stay, inl, inr, kept_then, leaves_of, length, map, nodes_of, nothing_changed, others_stay, refl, room_at, slice_index_or, stands, step_pair, subst, suc, sym, tiles_same, touch, widen_all, wider, ℕ, ◌*◌, ◌++◌, ◌+◌, ◌<◌, ◌∙◌, ◌∷◌, ◌≡◌, ◌≤◌}
+use Rattle.cdf_leaves.proofs.Common.{All, AreTiles, Changed, Distinct, Each, Each-append, HasNodes, In, Kept, List, NodeFits, NodeInside, Nodes, Step, StepStands, Touch, WayStands, Widened, WidenedAlong, [], arith, cases_eq, changed_then, drop, edited, fits, has, heads_stay, inl, inr, kept_then, leaves_of, length, map, node_head, nodes_of, nothing_changed, others_stay, refl, room_at, slice_index_or, stands, step_pair, subst, suc, sym, tiles_same, touch, widen_all, wider, ℕ, ◌*◌, ◌++◌, ◌+◌, ◌<◌, ◌∙◌, ◌∷◌, ◌≡◌, ◌≤◌}
 use Rattle.std.proofs.lemmas.List.Elements.{All-cons, All-drop, All-nil}
 use Rattle.cdf_index.proofs.NodeWider.{wider_owed}
 use Rattle.cdf_leaves.proofs.NodesMore.{places, all_wider}
-use Rattle.cdf_leaves.proofs.Spares.{Spares, fits_still, front_lies, kept_self, node_inside, spares_kept, spares_then, spares_widened}
+use Rattle.cdf_leaves.proofs.Spares.{Spares, fits_still, kept_self, node_inside, spares_kept, spares_then, spares_widened}
 
 -- behind the type of a node of which this holds, up to its entries' end
 abbrev pub InNode : List ℕ → (ℕ → Type 0) → Touch → Type 0
@@ -35,7 +35,7 @@ along b now records Y last (step ∷ more) tiled e w =
     let a = along b mid records Y last more tiled (λ k none lt. e (suc k) none (omega arith)) w.1.0 in
     let here = a.still x there stands.0.fits in
     let fits = fits_still b mid x here stands.0.fits in
-    let lies = front_lies mid x (node_inside mid records x a.tiled there fits) in
+    let lies = node_head (node_inside mid records x a.tiled there fits) in
     let heads = heads_stay mid now records a.tiled x 28 n there (omega arith) fits.0 write.changed in
     let kept = others_stay mid now records a.tiled x 28 n there (omega arith) fits.0 write.changed in
     record {
