@@ -1,5 +1,5 @@
 -- What the calls ask for that add a leaf, and what they leave.
-use Rattle.cdf_leaves.proofs.Common.{AddsLeaf, AreTiles, Bool, ChainInside, ChainMade, Changed, Comes, Distinct, Each, Each-append, Each-map, Entry, EntryPut, Field, FieldSet, Good, Grew, HasIndex, HasNodes, In, IndexStarted, IndexTouch, Inserted, IsAmong, IsWay, Kept, Kind, Leaf, List, MayName, MayPut, NodeFits, NodeMade, Nodes, Owed, Placed, SameHeads, SplitMade, StandsAmong, Step, StepSays, StepStands, VariableShape, WayStands, WidenedAlong, [], ap, apart, arith, begins_by, block, bytes_eq, cases_eq, cases_lt, chain_end, changed_then, changed_wider, comes, each, either, entries_beside, entry, eof, false, field_set, front_stays, gdr_offset, gdr_type, grew, has, heads_stay, image_limit, index_at, inl, inr, is_linkable, kept_then, last_node, leaf, leaves_of, length, link_to, linkable-from, long, lt-leb, made, map, max, new_room, no_zero, node, node_head, nodes_of, nothing_changed, number, number_kept, others_stay, placed, record_number_limit, redo, redone, refl, room_at, room_stays, rules, same_node, shape, size_at, sound, spot, step_pair, subst, sym, tile_lies, tiles_same, top_chain, touch, true, type_of_body, typed, uir_type, used_count, variables, vdr_vxr_head, vdr_vxr_tail, vdrs, vvr_type, vxr_bytes, vxr_type, vxr_vxr_next, way, widen_all, widened, widest, with_field, with_leaf, ℕ, ◌*◌, ◌++◌, ◌+◌, ◌-◌, ◌<◌, ◌∙◌, ◌∷◌, ◌≡◌, ◌≢◌, ◌≤◌, ◌⊎◌}
+use Rattle.cdf_leaves.proofs.Common.{AddsLeaf, AreTiles, Begins, Bool, ChainInside, ChainMade, Changed, Comes, Distinct, Each, Each-append, Each-map, Entry, EntryPut, Field, FieldSet, Good, Grew, HasIndex, HasNodes, In, IndexStarted, IndexTouch, Inserted, IsAmong, IsWay, Kept, Kind, Leaf, List, MayName, MayPut, NodeFits, NodeMade, Nodes, Owed, Placed, SameHeads, SameNode, SplitMade, StandsAmong, Step, StepSays, StepStands, VariableShape, WayStands, WidenedAlong, [], ap, apart, arith, begins_by, block, bytes_eq, cases_eq, cases_lt, chain_end, changed_then, changed_wider, comes, each, entries_beside, entry, eof, false, field_set, front_stays, gdr_offset, gdr_type, grew, has, heads_stay, image_limit, index_at, inl, inr, is_linkable, kept_then, last_node, leaf, leaves_of, length, link_to, linkable-from, long, lt-leb, made, map, max, new_room, no_zero, node, node_head, nodes_of, nothing_changed, number, number_kept, others_stay, placed, record_number_limit, redo, redone, refl, room_at, room_stays, rules, same_node, shape, size_at, sound, spot, step_pair, subst, sym, tile_lies, tiles_same, top_chain, touch, true, type_of_body, typed, uir_type, used_count, variables, vdr_vxr_head, vdr_vxr_tail, vdrs, vvr_type, vxr_bytes, vxr_type, vxr_vxr_next, way, widen_all, widened, widest, with_field, with_leaf, ℕ, ◌*◌, ◌++◌, ◌+◌, ◌-◌, ◌<◌, ◌∙◌, ◌∷◌, ◌≡◌, ◌≢◌, ◌≤◌, ◌⊎◌}
 use Rattle.cdf_edits.proofs.Edits.RecordGrown as of_grown
 use Rattle.cdf_edits.proofs.Edits.StandsAmong.{name_room}
 use Rattle.cdf_format.proofs.NameRules.{bytes_eq-same}
@@ -9,12 +9,13 @@ use Rattle.cdf_index.proofs.NodeGrown.{grown_owed, split_owed, chained_owed}
 use Rattle.cdf_index.proofs.NodeSplit.{split}
 use Rattle.cdf_index.proofs.OneVariable.{one_of}
 use Rattle.cdf_index.specs.declared.descending.Way.{Way}
+use Rattle.std.proofs.lemmas.Bool.{false_from_ne_true}
 use Rattle.std.proofs.lemmas.List.{length-map, nil_from_length}
 use Rattle.cdf_leaves.proofs.Along.{all_of, along, InNode, OnWay}
 use Rattle.cdf_leaves.proofs.Grown.{NodeNow, fed_node, names_leaf, node_then, was}
 use Rattle.cdf_leaves.proofs.LeafGrown.{Roomy, State, all_taken, block_is, block_there, blocks, first_added, leaf_added, made_roomy, no_roomy, old, once_every, spare_old, start}
 use Rattle.cdf_leaves.proofs.NodesMore.{places, all_wider}
-use Rattle.cdf_leaves.proofs.Own.{searchable, own_order, own_node, node_fits, node_spares, node_type, now_has, now_blocks, still_sees, vdr_apart, vdr_in, vdr_kept}
+use Rattle.cdf_leaves.proofs.Own.{searchable, own_order, own_node, node_fits, node_spares, node_type, now_has, now_blocks, node_same, still_begun, vdr_apart, vdr_in, vdr_kept}
 use Rattle.cdf_leaves.proofs.PutSteps.{next_lies}
 use Rattle.cdf_leaves.proofs.Spares.{Spares, fits_still, node_inside, spares_kept, spares_linked, spares_then}
 use Rattle.cdf_leaves.proofs.SpotNode.{SpotRoom, room_in, spot_room, way_apart}
@@ -87,9 +88,12 @@ module _ {b : List ℕ} {kind : Kind} {before : List VariableShape} {own : Varia
           let there = late.sub found.end.place (own_node good at_own found.end.place last_there).0 in
           let typed = node_type good at_own late found.end.place last_there in
           let fits = fits_still b filled found.end.place (node_spares good at_own late found.end.place last_there) (node_fits good at_own found.end.place last_there) in
-          let s = still_sees good at_own late w.sees last_there in
+          let n = node_same good at_own late found.end.place last_there in
+          let room_is = w.sees.room_is ∙ sym n.room_is in
+          let used_is = w.sees.used_is ∙ sym n.used_is in
+          let next_is = w.sees.next_is ∙ sym n.next_is in
           let most : found.end.begun ≤ found.end.used = omega (arith, w.sees.used_is, w.sees.begun.most) in
-          search (rules, late.sound, late_ends, there, typed, fits, s, most)
+          search (rules, late.sound, late_ends, there, typed, fits, room_is, used_is, next_is, most)
 
       pub wide_enough : max 7 found.end.room ≤ widest (index_at b head)
       wide_enough = rw index (omega (arith, w.sees.room_is, seven_at_least own.index, room_in b (shape b).records 8 found.end.place own.index (has good at_own).indexed.has_nodes last_there))
@@ -155,6 +159,15 @@ module _ {b : List ℕ} {kind : Kind} {before : List VariableShape} {own : Varia
           x_before : NodeNow b roomy nodes (spare x) x
           x_before = old good at_own block type_is first last at r x last_there
 
+          seen_same : SameNode b roomy x
+          seen_same = node_same good at_own g x last_there
+
+          seen_used : found.end.used ≡ used_count roomy x
+          seen_used = w.sees.used_is ∙ sym seen_same.used_is
+
+          begins : Begins roomy x first found.end.begun
+          begins = begins_by roomy x first found.end.begun (still_begun good at_own g w.sees.begun last_there)
+
           put_done : (from n : ℕ) → 12 ≤ from → from + n ≤ 28 + 16 * room_at roomy x → Changed roomy grown (touch x from n ∷ []) → length grown ≡ length roomy
               → (SameHeads roomy grown recs recs → ((m : ℕ) → In m recs → m ≢ x → Kept roomy grown m) → MayName grown recs l → Owed roomy grown recs recs x (placed l at x)) → NodeNow b grown nodes (spare x) x → EntryStands b filled grown own l at x spare
           put_done from n behind fit changed as_long owed here =
@@ -187,11 +200,10 @@ module _ {b : List ℕ} {kind : Kind} {before : List VariableShape} {own : Varia
         with_room : found.end.used < found.end.room → at ≡ 0 → Inserted filled grown x found.end.used found.end.begun first last place → EntryStands b filled grown own l at x spare
         with_room lt z ins =
             let r = no_roomy good at_own block type_is first last at (spot_here.has_room (omega (arith, w.sees.used_is, w.sees.room_is))) z in
-            let s = still_sees good at_own late w.sees last_there in
-            let less : found.end.used < room_at filled x = omega (arith, s.room_is) in
+            let less : found.end.used < room_at filled x = omega (arith, w.sees.room_is, (seen_same r).room_is) in
             put_done r 24 (4 + 16 * room_at filled x) (omega arith) (omega arith) ins.changed ins.as_long
-            (λ heads others names. grown_owed filled grown (recs r) (recs r) heads x at found.end.used found.end.begun l s.used_is (begins_by filled x first found.end.begun s.begun) names less ins (x_lies r))
-            (fed_node (x_before r) (front_stays filled grown x 24 (4 + 16 * room_at filled x) ins.changed (let l = x_lies r in omega arith) 0 8 (omega arith)) ins.room_stays ins.used_is ins.count_is (omega arith) (λ i le lt. inr (omega (arith, s.used_is), ins.unused i (omega arith) lt)))
+            (λ heads others names. grown_owed filled grown (recs r) (recs r) heads x at found.end.used found.end.begun l (seen_used r) (begins r) names less ins (x_lies r))
+            (fed_node (x_before r) (front_stays filled grown x 24 (4 + 16 * room_at filled x) ins.changed (let l = x_lies r in omega arith) 0 8 (omega arith)) ins.room_stays ins.used_is ins.count_is (omega arith) (λ i le lt. inr (omega (arith, seen_used r), ins.unused i (omega arith) lt)))
 
         -- ---- it is full, and a new node was made
 
@@ -216,14 +228,13 @@ module _ {b : List ℕ} {kind : Kind} {before : List VariableShape} {own : Varia
             let sh = sp.shortened in
             let m = may_put in
             let r = made_room sp.made (full le) (omega arith) in
-            let s = still_sees good at_own (g r) w.sees last_there in
             let kept = r.on.kept x m.there (λ u. apart vxr_type uir_type refl (sym m.typed ∙ u)) (λ u. apart vxr_type gdr_type refl (sym m.typed ∙ u)) in
             made_done sp.made (full le) (omega arith) 12 (16 + 16 * room_at roomy x) (omega arith) (omega arith) sh.changed sh.as_long
-            (λ heads names stays link. split_owed roomy grown (recs r) (recs r) heads x at found.end.used found.end.begun l s.used_is (begins_by roomy x first found.end.begun s.begun) names (omega (arith, s.room_is)) link
+            (λ heads names stays link. split_owed roomy grown (recs r) (recs r) heads x at found.end.used found.end.begun l (seen_used r) (begins r) names (omega (arith, w.sees.room_is, (seen_same r).room_is)) link
             (split sp.made.taken filled roomy grown x at (max 7 (found.end.used - found.end.begun)) found.end.next found.end.used found.end.begun first last place sp.behind kept stays m.fits (omega (arith, m.used_is, m.fits.1)) (omega arith) sp.made.written sp.read m.next_is refl sh) lt)
-            (fed_node (x_before r) (front_stays roomy grown x 12 (16 + 16 * room_at roomy x) sh.changed (let l = x_lies r in omega arith) 0 8 (omega arith)) sh.room_stays sh.used_is sh.count_is (omega (arith, s.used_is, (fits r x last_there).1)) (λ i above below. elim (cases_lt i found.end.used) [
+            (fed_node (x_before r) (front_stays roomy grown x 12 (16 + 16 * room_at roomy x) sh.changed (let l = x_lies r in omega arith) 0 8 (omega arith)) sh.room_stays sh.used_is sh.count_is (omega (arith, seen_used r, (fits r x last_there).1)) (λ i above below. elim (cases_lt i found.end.used) [
               | inl less ↦ inl (sh.gone i above less, spare_old good at_own block type_is first last at x i last_there (λ n e. (r.fresh n).outside (rw (← e) last_there)) ∙ lt-leb (used_count b x) i (omega (arith, w.sees.used_is)))
-              | inr more ↦ inr (omega (arith, s.used_is), sh.unused i more below)
+              | inr more ↦ inr (omega (arith, seen_used r), sh.unused i more below)
             ]))
 
         -- the new node has the entry alone
@@ -234,20 +245,19 @@ module _ {b : List ℕ} {kind : Kind} {before : List VariableShape} {own : Varia
             let most = w.sees.begun.most in
             let seven : new ≡ 7 = omega (arith, full le) in
             let r = made_room ch.made seven (omega arith) in
-            let s = still_sees good at_own (g r) w.sees last_there in
             let set : FieldSet roomy grown x vxr_vxr_next at = field_set (let l = x_lies r in omega arith) ch.linked in
             let stays = spares_linked set in
             made_done ch.made seven (omega arith) 12 8 (omega arith) (omega arith) set.changed set.as_long
             (λ heads names kept link. (let n = same_node roomy grown at kept (node.inside.entries, node.inside.fits) in
-            chained_owed roomy grown (recs r) (recs r) heads x at found.end.used found.end.begun l s.used_is (begins_by roomy x first found.end.begun s.begun) names (omega (arith, s.room_is)) link (record {
+            chained_owed roomy grown (recs r) (recs r) heads x at found.end.used found.end.begun l (seen_used r) (begins r) names (omega (arith, w.sees.room_is, (seen_same r).room_is)) link (record {
               stay = λ j less. entries_beside set (omega arith) (omega arith) (inl (omega arith)) j;
               room_stays = stays.room_is;
-              used_is = stays.used_is ∙ sym s.used_is;
+              used_is = stays.used_is ∙ sym (seen_used r);
               next_is = set.reads (omega (arith, set.as_long, node.inside.inside, grown_short));
               here = n.entries 0 (omega (arith, node.room_is)) first last place (node.says 0 (omega arith));
               new_room = n.room_is ∙ node.room_is;
               new_used = n.used_is ∙ node.used_is;
-              new_next = n.next_is ∙ node.next_is ∙ s.next_is;
+              new_next = n.next_is ∙ node.next_is ∙ w.sees.next_is ∙ sym (seen_same r).next_is;
             }) (omega (arith, w.sees.used_is)))) (node_then (x_before r) stays)
 
         stands_now : EntryStands b filled grown own l at x spare
@@ -329,10 +339,7 @@ module _ {b : List ℕ} {kind : Kind} {before : List VariableShape} {own : Varia
               let set = field_set {b = wide} {at = own.vdr} {f = vdr_vxr_tail} (omega (arith, vdr_lies)) is in
               let some_new : new ≢ 0 = λ z. ne (rw z at r.node).1 in
               let grows = top.grows (sym way_is ∙ ap (map step_pair) none) some_new in
-              let longer : bytes_eq (top_chain own.index) (top_chain after_leaf) ≡ false = elim (either (bytes_eq (top_chain own.index) (top_chain after_leaf))) [
-                | inl t ↦ absurd (omega (arith, grows, ap (λ (xs : List ℕ). length xs) (same_of_bytes_eq (top_chain own.index) (top_chain after_leaf) t)))
-                | inr t ↦ t
-              ] in
+              let longer = false_from_ne_true (bytes_eq (top_chain own.index) (top_chain after_leaf)) (λ t. absurd (omega (arith, grows, ap (λ (xs : List ℕ). length xs) (same_of_bytes_eq (top_chain own.index) (top_chain after_leaf) t)))) in
               let in_records = λ (m : ℕ) (i : In m (nodes_of after_leaf)). (start good at_own block type_is first last at r m i).0 in
               let end = ap (chain_end (length wide) wide) (head_is ∙ link_is) ∙ end_is_last wide now_records state.tiled 8 after_leaf state.has top.is_node (once_every good at_own block type_is first last at r) in_records in
               let small = (tile_lies wide 8 (length wide) now_records (last_node after_leaf) state.tiled (in_records (last_node after_leaf) (last_in after_leaf top.is_node))).high in
