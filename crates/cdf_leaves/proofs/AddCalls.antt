@@ -1,5 +1,5 @@
 -- What the calls ask for that add a leaf, and what they leave.
-use Rattle.cdf_leaves.proofs.Common.{AddsLeaf, AreTiles, Begins, Bool, ChainInside, ChainMade, Changed, Comes, Distinct, Each, Each-append, Each-map, Entry, EntryPut, Field, FieldSet, Good, Grew, HasIndex, HasNodes, In, IndexStarted, IndexTouch, Inserted, IsAmong, IsWay, Kept, Kind, Leaf, List, MayName, MayPut, NodeFits, NodeMade, Nodes, Owed, Placed, SameHeads, SameNode, SplitMade, StandsAmong, Step, StepSays, StepStands, VariableShape, WayStands, WidenedAlong, [], ap, apart, arith, begins_by, block, bytes_eq, cases_eq, cases_lt, chain_end, changed_then, changed_wider, comes, each, entries_beside, entry, eof, false, field_set, front_stays, gdr_offset, gdr_type, grew, has, heads_stay, image_limit, index_at, inl, inr, is_linkable, kept_then, last_node, leaf, leaves_of, length, link_to, linkable-from, long, lt-leb, made, map, max, new_room, no_zero, node, node_head, nodes_of, nothing_changed, number, number_kept, others_stay, placed, record_number_limit, redo, redone, refl, room_at, room_stays, rules, same_node, shape, size_at, sound, spot, step_pair, subst, sym, tile_lies, tiles_same, top_chain, touch, true, type_of_body, typed, uir_type, used_count, variables, vdr_vxr_head, vdr_vxr_tail, vdrs, vvr_type, vxr_bytes, vxr_type, vxr_vxr_next, way, widen_all, widened, widest, with_field, with_leaf, ℕ, ◌*◌, ◌++◌, ◌+◌, ◌-◌, ◌<◌, ◌∙◌, ◌∷◌, ◌≡◌, ◌≢◌, ◌≤◌, ◌⊎◌}
+use Rattle.cdf_leaves.proofs.Common.{AddsLeaf, AreTiles, Begins, Bool, ChainInside, ChainMade, Changed, Comes, Distinct, Each, Each-append, Each-map, Entry, EntryPut, Field, FieldSet, Good, Grew, HasIndex, HasNodes, In, IndexStarted, IndexTouch, Inserted, IsAmong, IsWay, Kept, Kind, Leaf, List, MayName, MayPut, NodeFits, NodeMade, Nodes, Owed, Placed, SameHeads, SameNode, SplitMade, StandsAmong, Step, StepSays, StepStands, VariableShape, WayStands, WidenedAlong, [], ap, apart, arith, begins_by, bytes_eq, cases_eq, cases_lt, chain_end, changed_then, changed_wider, comes, entries_beside, entry, eof, false, field_set, front_stays, gdr_offset, gdr_type, grew, has, heads_stay, image_limit, index_at, inl, inr, is_linkable, kept_then, last_node, leaf, leaves_of, length, link_to, linkable-from, long, lt-leb, made, map, max, new_room, no_zero, node_head, nodes_of, nothing_changed, number, number_kept, others_stay, placed, record_number_limit, redo, redone, refl, room_at, rules, same_node, shape, size_at, sound, spot, step_pair, subst, sym, tile_lies, tiles_same, top_chain, touch, true, type_of_body, uir_type, used_count, variables, vdr_vxr_head, vdr_vxr_tail, vdrs, vvr_type, vxr_bytes, vxr_type, vxr_vxr_next, way, widen_all, widest, with_field, with_leaf, ℕ, ◌*◌, ◌++◌, ◌+◌, ◌-◌, ◌<◌, ◌∙◌, ◌∷◌, ◌≡◌, ◌≢◌, ◌≤◌, ◌⊎◌}
 use Rattle.cdf_edits.proofs.Edits.RecordGrown as of_grown
 use Rattle.cdf_edits.proofs.Edits.StandsAmong.{name_room}
 use Rattle.cdf_format.proofs.NameRules.{bytes_eq-same}
@@ -12,14 +12,13 @@ use Rattle.cdf_index.specs.declared.descending.Way.{Way}
 use Rattle.std.proofs.lemmas.Bool.{false_from_ne_true}
 use Rattle.std.proofs.lemmas.List.{length-map, nil_from_length}
 use Rattle.cdf_leaves.proofs.Along.{all_of, along, InNode, OnWay}
-use Rattle.cdf_leaves.proofs.Grown.{NodeNow, fed_node, names_leaf, node_then, was}
-use Rattle.cdf_leaves.proofs.LeafGrown.{Roomy, State, all_taken, block_is, block_there, blocks, first_added, leaf_added, made_roomy, no_roomy, old, once_every, spare_old, start}
+use Rattle.cdf_leaves.proofs.LeafGrown.{NodeNow, fed_node, names_leaf, node_then, was, Roomy, State, all_taken, block_is, block_there, blocks, first_added, leaf_added, made_roomy, no_roomy, old, once_every, spare_old, start}
 use Rattle.cdf_leaves.proofs.NodesMore.{places, all_wider}
 use Rattle.cdf_leaves.proofs.Own.{searchable, own_order, own_node, node_fits, node_spares, node_type, now_has, now_blocks, node_same, still_begun, vdr_apart, vdr_in, vdr_kept}
 use Rattle.cdf_leaves.proofs.PutSteps.{next_lies}
 use Rattle.cdf_leaves.proofs.Spares.{Spares, fits_still, node_inside, spares_kept, spares_linked, spares_then}
 use Rattle.cdf_leaves.proofs.SpotNode.{SpotRoom, room_in, spot_room, way_apart}
-use Rattle.cdf_leaves.proofs.TopChain.{TopGrown, top_grown, chain_inside, end_is_last, last_in}
+use Rattle.cdf_leaves.proofs.TopChain.{TopGrown, top_grown, chain_walked, end_is_last, last_in}
 
 -- ---- an entry was put
 
@@ -323,7 +322,7 @@ module _ {b : List ℕ} {kind : Kind} {before : List VariableShape} {own : Varia
           vdr_lies = omega (arith, vdr_there, (g stands_now.taken).longer, stands_now.state.as_long, state.as_long)
 
           pub tail_ready : ChainInside (length wide) wide head × (own.vdr + 44 ≤ length wide) × (length wide ≤ image_limit)
-          tail_ready = (rw (head_is, link_is) (chain_inside wide now_records state.tiled (length wide) 8 after_leaf state.has top.is_node), omega (arith, vdr_lies), omega (arith, state.as_long, stands_now.state.as_long, grown_short))
+          tail_ready = (rw (head_is, link_is) (chain_walked wide now_records state.tiled (length wide) 8 after_leaf state.has top.is_node).0, omega (arith, vdr_lies), omega (arith, state.as_long, stands_now.state.as_long, grown_short))
 
           pub grown_stays : (at ≡ 0) ⊎ (found.steps.items ≢ []) → AddsLeaf b wide own first last body
           grown_stays why =

@@ -1,12 +1,75 @@
 -- A leaf more in an index, from the image in which its block was placed: what was done step by step is what a leaf more makes of the image.
-use Rattle.cdf_leaves.proofs.Common.{AreTiles, Bool, Changed, Counts, Distinct, Each, Each-append, Entry, FieldSet, Good, Grew, HasNodes, In, IndexTouch, Kept, Kind, Leaf, LeafAdded, List, Names, NodeFits, NodeMade, NodeTaken, Nodes, Placed, SaysNode, StandsAmong, TailGoesOn, Touch, UnusedEntries, VariableShape, [], ap, apart, arith, block, changed_again, changed_then, changed_wider, counts, each, entry, false, field_set, fills, fits, gdr_type, grew, grew_none, grew_then, has, heads_stay, image_limit, in_nodes_with_leaf, index_at, inl, inr, leaf, leaf_acts, leaves_of, leb, length, link_to, linkable-from, long, made, new_room, no_entry, no_node, node, nodes_kept, nodes_of, nothing_changed, number, others_stay, record_number_limit, refl, shape, size_at, size_kept, sound, stands, subst, suc, sym, touch, type_at, type_kept, type_of_body, typed, uir_type, unlike, used_count, vdr_vxr_head, vdr_vxr_tail, vvr_type, vxr_type, with_block, with_field, with_leaf, zero, ℕ, ◌++◌, ◌+◌, ◌<◌, ◌^◌, ◌∙◌, ◌∷◌, ◌≡◌, ◌≢◌, ◌≤◌}
+use Rattle.cdf_leaves.proofs.Common.{AreTiles, Bool, Changed, Counts, Distinct, Each, Each-append, Entry, EntryIs, FieldSet, Good, Grew, HasNodes, In, IndexTouch, Kept, Kind, Leaf, LeafAdded, List, MayName, Names, NodeFits, NodeMade, NodeTaken, NodeWritten, Nodes, Placed, SaysEntry, SaysNode, SaysUnused, StandsAmong, StillSays, TailGoesOn, Touch, UnusedEntries, VariableShape, [], ap, apart, arith, changed_again, changed_then, changed_wider, each, each_in, entry, entry_past, false, field_set, fits, gdr_type, grew, grew_none, grew_then, has, heads_stay, image_limit, in_nodes_with_leaf, index_at, inl, inr, is_in-true, le-leb, leaf, leaf_acts, leaves_of, leb, length, link_to, linkable-from, long, made, nat_tests, new_room, no_entry, no_node, node, nodes_kept, nodes_of, nothing_changed, number, others_stay, record_number_limit, refl, room_at, shape, size_at, size_kept, sound, stands, subst, suc, sym, touch, true, type_at, type_kept, type_of_body, uir_type, unlike, used_count, vdr_vxr_head, vdr_vxr_tail, vvr_type, vxr_n_used_entries, vxr_type, was_unused, with_block, with_field, with_leaf, zero, ℕ, ◌++◌, ◌+◌, ◌<◌, ◌^◌, ◌∙◌, ◌∷◌, ◌≡◌, ◌≢◌, ◌≤◌, ◌⊎◌}
 use Rattle.cdf_edits.proofs.Edits.StandsAmong.{name_room}
 use Rattle.cdf_index.proofs.LeafMore.{leaves_more}
 use Rattle.cdf_index.proofs.Looking.{none_there}
-use Rattle.cdf_leaves.proofs.Grown.{NodeNow, names_leaf, new_node, node_then, old_node, was, was_new, was_old}
 use Rattle.cdf_leaves.proofs.NodesMore.{in_new, all_once, places}
 use Rattle.cdf_leaves.proofs.Own.{node_fits, node_spares, node_type, now_blocks, own_node, own_order, searchable, vdr_apart, vdr_in, vdr_kept, vdr_used}
-use Rattle.cdf_leaves.proofs.Spares.{spares_kept}
+use Rattle.cdf_leaves.proofs.Spares.{Spares, fits_still, spares_kept}
+
+-- ---- what counts as unused before
+
+abbrev pub was : List ℕ → List ℕ → ℕ → ℕ → ℕ → ℕ → ℕ → ℕ → Bool
+was b before place need room at m i = was_unused b before (leaf_acts place need room at) m i
+
+pub was_old : (b before : List ℕ) (place need room at m i : ℕ) → In m before → m ≢ place → (0 < room → m ≢ at) → was b before place need room at m i ≡ leb (used_count b m) i
+was_old b before place need zero at m i j p q = grind (arith, nat_tests, is_in-true m before j)
+was_old b before place need (suc room) at m i j p q = let out = q (omega arith) in grind (arith, nat_tests, is_in-true m before j, out)
+
+pub was_new : (b before : List ℕ) (place need room at i : ℕ) → 0 < room → was b before place need room at at i ≡ false
+was_new b before place need zero at i some = absurd (omega arith)
+was_new b before place need (suc room) at i some = grind (arith, nat_tests)
+
+-- ---- one node
+
+-- it has room for its entries, counts no more than that where all nodes did, and its unused entries are as they have to be
+pub record NodeNow (b now nodes : List ℕ) (was : ℕ → Bool) (m : ℕ) : Type 0 where
+  pub fits : NodeFits now m
+  pub count : Each (Counts b) nodes → Counts now m
+  pub spare : (i : ℕ) → used_count now m ≤ i → i < room_at now m → EntryIs b now m i (was i)
+
+entry_still : (b mid now : List ℕ) (m i : ℕ) (w : Bool) → EntryIs b mid m i w → StillSays mid now m i i → EntryIs b now m i w
+entry_still b mid now m i true e s = s _ _ _ e
+entry_still b mid now m i false e s = s _ _ _ e
+
+pub node_then : {b mid now nodes : List ℕ} {was : ℕ → Bool} {m : ℕ} → NodeNow b mid nodes was m → Spares mid now m → NodeNow b now nodes was m
+node_then {b = b} {mid = mid} {now = now} {was = was} {m = m} n s = record {
+  fits = fits_still mid now m s n.fits;
+  count = λ c. omega (arith, s.count_is, s.room_is, n.count c);
+  spare = λ i le lt. entry_still b mid now m i (was i) (n.spare i (omega (arith, s.used_is)) (omega (arith, s.room_is))) (s.spare i (omega (arith, s.used_is)) (omega (arith, s.room_is)));
+}
+
+-- one that was there
+pub old_node : {b nodes : List ℕ} {was : ℕ → Bool} {m : ℕ} → In m nodes → NodeFits b m → ((i : ℕ) → was i ≡ leb (used_count b m) i) → NodeNow b b nodes was m
+old_node {b = b} {nodes = nodes} {m = m} j fits is = record {
+  fits = fits;
+  count = λ c. each_in (Counts b) nodes m c j;
+  spare = λ i le lt. rw (is i ∙ le-leb (used_count b m) i le) (record { first_is = refl; last_is = refl; offset_is = refl });
+}
+
+-- a new one
+pub new_node : {b mid roomy nodes : List ℕ} {was : ℕ → Bool} {at room next : ℕ} {entries : List Entry} → NodeWritten mid roomy at room next entries → ((i : ℕ) → was i ≡ false) → NodeNow b roomy nodes was at
+new_node {roomy = roomy} {at = at} {entries = entries} w is = record {
+  fits = (w.inside.entries, w.inside.fits);
+  count = λ c. omega (arith, w.count_is, w.used_is, w.inside.fits);
+  spare = λ i le lt. rw (is i) (subst (λ (e : Entry). SaysEntry roomy at i e.first e.last e.place) (entry_past entries i (omega (arith, w.used_is))) (w.says i (omega (arith, w.room_is))));
+}
+
+-- one that gets an entry, and may give up others
+pub fed_node : {b roomy now nodes : List ℕ} {was : ℕ → Bool} {m k : ℕ} → NodeNow b roomy nodes was m → size_at now m ≡ size_at roomy m → room_at now m ≡ room_at roomy m → used_count now m ≡ suc k → number now m vxr_n_used_entries ≡ suc k → suc k ≤ room_at roomy m
+    → ((i : ℕ) → suc k ≤ i → i < room_at roomy m → (SaysUnused now m i × (was i ≡ false)) ⊎ ((used_count roomy m ≤ i) × StillSays roomy now m i i)) → NodeNow b now nodes was m
+fed_node {b = b} {roomy = roomy} {now = now} {was = was} {m = m} n size room used count most h = record {
+  fits = (omega (arith, n.fits.0), omega arith);
+  count = λ c. omega arith;
+  spare = λ i le lt. elim (h i (omega arith) (omega arith)) [ inl p ↦ rw p.1 p.0 | inr p ↦ entry_still b roomy now m i (was i) (n.spare i p.0 (omega arith)) p.1 ];
+}
+
+-- ---- the leaf may be named
+
+pub names_leaf : (now records : List ℕ) (l : Leaf) → type_at now l.place ≡ vvr_type → l.packed ≡ false → MayName now records l
+names_leaf now records l t p = record { no_node = grind (arith, nat_tests, t); packed_is = grind (arith, nat_tests, t, p) }
+
+-- ---- the image
 
 -- a record that was taken became a node
 pub record IsNew (b roomy : List ℕ) (own : VariableShape) (was : ℕ → Bool) (at : ℕ) : Type 0 where
