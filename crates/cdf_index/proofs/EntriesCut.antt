@@ -22,16 +22,10 @@ pub record Parted (P Q : ℕ → Type 0) (k n count : ℕ) : Type 0 where
   pub most : n ≤ count
 
 pub parted_rest : (P Q : ℕ → Type 0) (k n count : ℕ) → Parted P Q k (suc n) (suc count) → Parted P Q (suc k) n count
-parted_rest P Q k n count p = record { before = λ j lt. subst P (shift j) (p.before (suc j) (omega arith)); stop = λ lt. subst Q (shift n) (p.stop (omega arith)); most = let m = p.most in omega arith }
-  where
-    shift : (j : ℕ) → k + suc j ≡ suc k + j
-    shift j = omega arith
+parted_rest P Q k n count p = record { before = λ j lt. (let e : suc k + j ≡ k + suc j = omega arith in rw e (p.before (suc j) (omega arith))); stop = λ lt. (let e : suc k + n ≡ k + suc n = omega arith in rw e (p.stop (omega arith))); most = let m = p.most in omega arith }
 
 pub parted_all : (P Q : ℕ → Type 0) (n count : ℕ) → ((j : ℕ) → j < n → P j) → (n < count → Q n) → n ≤ count → Parted P Q 0 n count
-parted_all P Q n count before stop most = record { before = λ j lt. subst P (same j) (before j lt); stop = λ lt. subst Q (same n) (stop lt); most = most }
-  where
-    same : (j : ℕ) → j ≡ 0 + j
-    same j = omega arith
+parted_all P Q n count before stop most = record { before = λ j lt. (let e : 0 + j ≡ j = omega arith in rw e (before j lt)); stop = λ lt. (let e : 0 + n ≡ n = omega arith in rw e (stop lt)); most = most }
 
 -- so many pass a test
 pub one_more : (P Q : ℕ → Type 0) (k i count : ℕ) (t : Bool) (rest : ℕ) → (P k → t ≡ true) → (Q k → t ≡ false) → Parted P Q k i (suc count) → ((m : ℕ) → Parted P Q (suc k) m count → m ≡ rest) → i ≡ (if t then suc rest else 0)

@@ -20,13 +20,10 @@ module _ (b b1 b2 now : List ℕ) (at n i first last offset : ℕ) (room_is : n 
 
   others : (j : ℕ) → j < n → j ≢ i → StillSays b now at j j
   others j lt ne f l o s =
-      let pf = at + (28 + 4 * j) in
-      let pl = at + (28 + 4 * n + 4 * j) in
-      let po = at + (28 + 8 * n + 8 * j) in
       says_by j f l o
-      (named.past pf 4 (inl (omega arith)) ∙ ended.past pf 4 (inl (omega arith)) ∙ begun.past pf 4 (grind arith) ∙ s.first_is)
-      (named.past pl 4 (inl (omega arith)) ∙ ended.past pl 4 (grind arith) ∙ begun.past pl 4 (inr (omega arith)) ∙ ap (λ (x : ℕ). word b (at + (28 + 4 * x + 4 * j)) 4) room_is ∙ s.last_is)
-      (named.past po 8 (grind arith) ∙ ended.past po 8 (inr (omega arith)) ∙ begun.past po 8 (inr (omega arith)) ∙ ap (λ (x : ℕ). word b (at + (28 + 8 * x + 8 * j)) 8) room_is ∙ s.offset_is)
+      (named.past (at + (28 + 4 * j)) 4 (inl (omega arith)) ∙ ended.past (at + (28 + 4 * j)) 4 (inl (omega arith)) ∙ begun.past (at + (28 + 4 * j)) 4 (grind arith) ∙ s.first_is)
+      (named.past (at + (28 + 4 * n + 4 * j)) 4 (inl (omega arith)) ∙ ended.past (at + (28 + 4 * n + 4 * j)) 4 (grind arith) ∙ begun.past (at + (28 + 4 * n + 4 * j)) 4 (inr (omega arith)) ∙ ap (λ (x : ℕ). word b (at + (28 + 4 * x + 4 * j)) 4) room_is ∙ s.last_is)
+      (named.past (at + (28 + 8 * n + 8 * j)) 8 (grind arith) ∙ ended.past (at + (28 + 8 * n + 8 * j)) 8 (inr (omega arith)) ∙ begun.past (at + (28 + 8 * n + 8 * j)) 8 (inr (omega arith)) ∙ ap (λ (x : ℕ). word b (at + (28 + 8 * x + 8 * j)) 8) room_is ∙ s.offset_is)
 
   pub entry_set : EntrySet b now at i first last offset
   entry_set =

@@ -40,13 +40,14 @@ ranges_new l (x ∷ xs) = grind (arith, ranges_new l xs)
 
 -- ---- entries that reach a record
 
+order_past : (f low high : ℕ) (es : Entries) → AreInOrder low high es → reaches f es ≡ false → AreInOrder (suc f) high es
+unfolding AreInOrder
+order_past f low high no_entry o t = tt
+order_past f low high (block first last place packed es) o t = (leb-false first f (or_parts (leb first f) (reaches f es) t).0, o.1, o.2, o.3)
+order_past f low high (lower first last nodes es) o t = (leb-false first f (or_parts (leb first f) (reaches f es) t).0, o.1, o.2, o.3, o.4)
+
 entries_past : (f low high : ℕ) (es : Entries) → AreInOrder low high es → reaches f es ≡ false → BeginPast f (entry_leaves es)
-unfolding AreInOrder leaves_of entry_leaves
-entries_past f low high no_entry o t = tt
-entries_past f low high (block first last place packed es) o t = let u = or_parts (leb first f) (reaches f es) t in (leb-false first f u.0, entries_past f (suc last) high es o.3 u.1)
-entries_past f low high (lower first last nodes es) o t =
-    let u = or_parts (leb first f) (reaches f es) t in
-    Each-append (λ (x : Leaf). f < x.first) (leaves_of nodes) (entry_leaves es) (within_past f first last (leaves_of nodes) (leaves_within first last nodes o.3) (leb-false first f u.0)) (entries_past f (suc last) high es o.4 u.1)
+entries_past f low high es o t = within_past f (suc f) high (entry_leaves es) (entries_within (suc f) high es (order_past f low high es o t)) (omega arith)
 
 nodes_past : (f low high : ℕ) (ns : Nodes) → InOrder low high ns → chain_reaches f ns ≡ false → BeginPast f (leaves_of ns)
 unfolding InOrder leaves_of
@@ -105,13 +106,14 @@ here_new l low high given (lower first last nodes es) o t = elim (either (leb fi
     reached d = elim (either (reaches l.first es)) [ inl r ↦ r | inr r ↦ absurd (true≢false (sym (leads_none l.first true es r) ∙ d)) ]
 
 -- entries before a chain that reaches a record
+order_by : (f low high : ℕ) (es : Entries) → AreInOrder low high es → past_entries low es ≤ f → AreInOrder low f es
+unfolding AreInOrder
+order_by f low high no_entry o h = tt
+order_by f low high (block first last place packed es) o h = let e = end_after (suc last) high es o.3 in (o.0, o.1, omega arith, order_by f (suc last) high es o.3 h)
+order_by f low high (lower first last nodes es) o h = let e = end_after (suc last) high es o.4 in (o.0, o.1, omega arith, o.3, order_by f (suc last) high es o.4 h)
+
 chain_by : (f low high : ℕ) (es : Entries) → AreInOrder low high es → past_entries low es ≤ f → BeginBy f (entry_leaves es)
-unfolding AreInOrder leaves_of entry_leaves
-chain_by f low high no_entry o h = tt
-chain_by f low high (block first last place packed es) o h = let e = end_after (suc last) high es o.3 in let o1 = o.1 in (omega arith, chain_by f (suc last) high es o.3 h)
-chain_by f low high (lower first last nodes es) o h =
-    let e = end_after (suc last) high es o.4 in
-    Each-append (λ (x : Leaf). x.first ≤ f) (leaves_of nodes) (entry_leaves es) (within_by f first last (leaves_of nodes) (leaves_within first last nodes o.3) (omega arith)) (chain_by f (suc last) high es o.4 h)
+chain_by f low high es o h = within_by f low f (entry_leaves es) (entries_within low f es (order_by f low high es o h)) (omega arith)
 
 -- ---- the index
 

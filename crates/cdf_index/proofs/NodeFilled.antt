@@ -1,5 +1,5 @@
 -- A record that was taken becomes a node: the image is sound with it, and has its content.
-use Rattle.cdf_index.proofs.Common.{Changed, Entry, Fills, HasRoomFor, IsSound, List, NodeWritten, Shape, Takes, [], apart, arith, content, fixed_size, is_a-in, is_record_type, length, refl, shape, shape_is, size_at, subst, sym, tile_lies, touch, true, uir_type, vxr_bytes, vxr_type, with_space, ℕ, ◌*◌, ◌+◌, ◌-◌, ◌∷◌, ◌≡◌, ◌≤◌}
+use Rattle.cdf_index.proofs.Common.{Changed, Entry, Fills, HasRoomFor, IsSound, List, NodeWritten, Shape, Takes, [], apart, arith, content, fixed_size, is_a-in, is_record_type, length, refl, rules, shape, shape_is, size_at, subst, sym, tile_lies, touch, true, uir_type, vxr_bytes, vxr_type, with_space, ℕ, ◌*◌, ◌+◌, ◌-◌, ◌∙◌, ◌∷◌, ◌≡◌, ◌≤◌}
 use Rattle.cdf_edits.proofs.Space.RecordFilled.{filled_stays_sound}
 use Rattle.cdf_edits.proofs.Space.TakenLeaves.{takes_longest}
 
@@ -27,18 +27,10 @@ module _ (b taken : List ℕ) (room place : ℕ) (sound : IsSound b (shape b)) (
     pub fills : Fills b taken now (shape b) (shape now).records (shape now).unused (vxr_bytes room) place vxr_type
     fills =
         let own : shape taken ≡ with_space (shape b) (shape taken).records (shape taken).unused = takes.space.rest_stays in
-        let here : Fills b taken now (shape b) (shape taken).records (shape taken).unused (vxr_bytes room) place vxr_type = record {
-          takes = subst (λ (x : Shape). Takes b taken (shape b) x (vxr_bytes room) place) own takes;
-          sound = subst (IsSound taken) own sound_taken;
-          content_stays = stays;
-          fill = changed;
-          long = w.as_long;
-          typed = w.type_is;
-          real = refl;
-          in_use = apart vxr_type uir_type refl;
-          fixed = omega arith;
-          enough = omega arith;
-        } in
+        let takes_it = subst (λ (x : Shape). Takes b taken (shape b) x (vxr_bytes room) place) own takes in
+        let sound_it = subst (IsSound taken) own sound_taken in
+        let sizes : (fixed_size vxr_type ≤ vxr_bytes room) × (28 ≤ vxr_bytes room) = (omega arith, omega arith) in
+        let here : Fills b taken now (shape b) (shape taken).records (shape taken).unused (vxr_bytes room) place vxr_type = search (rules, takes_it, sound_it, stays, changed, w.as_long, w.type_is, apart vxr_type uir_type refl, sizes) in
         subst (λ (x : Shape). Fills b taken now (shape b) x.records x.unused (vxr_bytes room) place vxr_type) (sym shape_now) here
 
     pub node_sound : IsSound now (shape now)

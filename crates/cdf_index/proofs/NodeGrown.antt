@@ -46,9 +46,6 @@ module _ (b now records records' : List ℕ) (heads : SameHeads b now records re
       let all = sym (used_is ∙ h.used_is) in
       record { front_count = omega arith; count = e ∙ all; all = all; say_front = q.0; say_past = rw z at q.1; names_front = k.0; names_none = (names_parts now records' levels no_entry es n).0; names_past = k.1 }
 
-  linked : (r : ℕ) (es : Entries) (more : Nodes) → SaysNode b records at r es more → is_linkable now records' vxr_type at ≡ true
-  linked r es more h = linkable_kept b now records records' heads vxr_type at h.linkable
-
   -- the node with the first of its entries, which stay, then the leaf, and others behind it
   fed_has : (levels r : ℕ) (es : Entries) (more : Nodes) → SaysNode b records at r es more → Parts b now records' levels at l.first used p es → (rest : Entries) (behind : Nodes) → next_of now at ≡ link_to behind → room_at now at ≡ room_at b at → used_count now at ≡ suc p + entry_count rest
       → ((j : ℕ) → j < p → StillSays b now at j j) → SaysEntry now at p l.first l.last l.place → SayEntries now at (suc p) rest → Names now records' levels rest → HasNodes now records' (suc levels) behind → HasNodes now records' (suc levels) (node at r (with_both (front l.first es) (with_block l rest)) behind)
@@ -57,7 +54,7 @@ module _ (b now records records' : List ℕ) (heads : SameHeads b now records re
       let z : p ≡ 0 + entry_count fr = omega (arith, q.front_count) in
       let first = say_moved b now at at 0 0 fr q.say_front (λ j f o w lt says. earlier (0 + j) (omega (arith, q.front_count)) f o w says) in
       node_has now records' levels at r (with_both fr (with_block l rest)) behind (record {
-        linkable = linked r es more h;
+        linkable = linkable_kept b now records records' heads vxr_type at h.linkable;
         next_is = next;
         room_is = room ∙ h.room_is;
         used_is = used ∙ omega (arith, q.front_count, count_both fr (with_block l rest));
@@ -83,6 +80,10 @@ module _ (b now records records' : List ℕ) (heads : SameHeads b now records re
   -- ---- a full node
 
   module _ (full : room_at b at ≤ used) (fresh : is_linkable now records' vxr_type new ≡ true) where
+    -- the new node
+    new_has : (levels r : ℕ) (es : Entries) (more : Nodes) → next_of now new ≡ link_to more → room_at now new ≡ r → used_count now new ≡ entry_count es → SayEntries now new 0 es → Names now records' levels es → HasNodes now records' (suc levels) more → HasNodes now records' (suc levels) (node new r es more)
+    new_has levels r es more next room used say n m = node_has now records' levels new r es more (record { linkable = fresh; next_is = next; room_is = room; used_is = used; say_entries = say }) n m
+
     module _ (sp : Split b now at new used p l.first l.last l.place) (behind : p < used) where
       -- the new image has the two nodes, and all else of the tree
       pub split_owed : Owed b now records records' at (placed l new at)
@@ -96,13 +97,7 @@ module _ (b now records records' : List ℕ) (heads : SameHeads b now records re
             let some = ne_eqb (entry_count bk) 0 (λ e. absurd (omega (arith, q.count))) in
             let last = say_moved b now at new p 0 bk q.say_past (λ j f o w lt says. (let x : (p + j) - p ≡ 0 + j = omega arith in rw x at (sp.moved (p + j) f o w (omega arith) (omega (arith, q.count)) says))) in
             rw (test, some, upto_is l es) (fed_has levels r es more h q no_entry (node new (max 7 (entry_count bk)) bk more) sp.next_is sp.room_stays (sp.used_is ∙ omega arith) sp.earlier sp.here tt q.names_none
-            (node_has now records' levels new (max 7 (entry_count bk)) bk more (record {
-              linkable = fresh;
-              next_is = sp.new_next ∙ h.next_is;
-              room_is = sp.new_room ∙ ap (max 7) (omega (arith, q.count));
-              used_is = sp.new_used ∙ omega (arith, q.count);
-              say_entries = last;
-            }) q.names_past m)));
+            (new_has levels (max 7 (entry_count bk)) bk more (sp.new_next ∙ h.next_is) (sp.new_room ∙ ap (max 7) (omega (arith, q.count))) (sp.new_used ∙ omega (arith, q.count)) last q.names_past m)));
       }
 
     module _ (ch : Chained b now at new used l.first l.last l.place) (last : p ≡ used) where
@@ -116,17 +111,11 @@ module _ (b now records records' : List ℕ) (heads : SameHeads b now records re
             let test = le-ltb (entry_count es) r (omega (arith, q.all, h.room_is)) in
             let empty : entry_count bk ≡ 0 = omega (arith, q.count) in
             rw (test, eq-eqb (entry_count bk) 0 empty) (node_has now records' levels at r es (node new (max 7 (entry_count bk)) (with_block l no_entry) more) (record {
-              linkable = linked r es more h;
+              linkable = linkable_kept b now records records' heads vxr_type at h.linkable;
               next_is = ch.next_is;
               room_is = ch.room_stays ∙ h.room_is;
               used_is = ch.used_is ∙ used_is ∙ h.used_is;
               say_entries = say_moved b now at at 0 0 es h.say_entries (λ j f o w lt says. ch.stay (0 + j) (omega (arith, q.all)) f o w says);
             }) n
-            (node_has now records' levels new (max 7 (entry_count bk)) (with_block l no_entry) more (record {
-              linkable = fresh;
-              next_is = ch.new_next ∙ h.next_is;
-              room_is = ch.new_room ∙ ap (max 7) (sym empty);
-              used_is = ch.new_used;
-              say_entries = (ch.here, tt);
-            }) (leaf_names now records' levels l no_entry names q.names_none) m)));
+            (new_has levels (max 7 (entry_count bk)) (with_block l no_entry) more (ch.new_next ∙ h.next_is) (ch.new_room ∙ ap (max 7) (sym empty)) ch.new_used (ch.here, tt) (leaf_names now records' levels l no_entry names q.names_none) m)));
       }

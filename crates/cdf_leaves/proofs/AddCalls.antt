@@ -1,6 +1,7 @@
 -- What the calls ask for that add a leaf, and what they leave.
-use Rattle.cdf_leaves.proofs.Common.{AddsLeaf, AreTiles, Bool, ChainInside, ChainMade, Changed, Comes, Distinct, Each, Each-append, Each-map, Entry, EntryPut, Field, FieldSet, Good, Grew, HasNodes, In, IndexStarted, IndexTouch, Inserted, IsAmong, IsWay, Kept, Kind, Leaf, List, MayName, MayPut, NodeFits, NodeMade, Nodes, Owed, Placed, SameHeads, SplitMade, StandsAmong, Step, StepSays, StepStands, VariableShape, WayStands, WidenedAlong, [], ap, apart, arith, begins_by, bytes_eq, cases_eq, cases_lt, chain_end, changed_then, changed_wider, comes, either, entries_beside, entry, eof, false, field_set, front_stays, gdr_offset, gdr_type, grew, has, heads_stay, image_limit, index_at, inl, inr, is_linkable, kept_then, last_node, leaf, leaves_of, length, link_to, linkable-from, long, lt-leb, made, map, max, new_room, no_zero, nodes_of, nothing_changed, number, number_kept, others_stay, placed, record_number_limit, redo, redone, refl, room_at, rules, same_node, shape, size_at, sound, spot, step_pair, subst, sym, tile, tile_lies, tiles_same, top_chain, touch, true, type_of_body, uir_type, used_count, variables, vdr_vxr_head, vdr_vxr_tail, vdrs, vvr_type, vxr_bytes, vxr_type, vxr_vxr_next, way, widen_all, widest, with_field, with_leaf, ℕ, ◌*◌, ◌++◌, ◌+◌, ◌-◌, ◌<◌, ◌∙◌, ◌∷◌, ◌≡◌, ◌≢◌, ◌≤◌, ◌⊎◌}
+use Rattle.cdf_leaves.proofs.Common.{AddsLeaf, AreTiles, Begins, Bool, ChainInside, ChainMade, Changed, Comes, Distinct, Each, Each-append, Each-map, Entry, EntryPut, Field, FieldSet, Good, Grew, HasNodes, In, IndexStarted, IndexTouch, Inserted, IsAmong, IsWay, Kept, Kind, Leaf, List, MayName, MayPut, NodeFits, NodeMade, Nodes, Owed, Placed, SameHeads, SameNode, SplitMade, StandsAmong, Step, StepSays, StepStands, VariableShape, WayStands, WidenedAlong, [], ap, apart, arith, begins_by, bytes_eq, cases_eq, cases_lt, chain_end, changed_then, changed_wider, comes, entries_beside, entry, eof, false, field_set, front_stays, gdr_offset, gdr_type, grew, has, heads_stay, image_limit, index_at, inl, inr, is_linkable, kept_then, last_node, leaf, leaves_of, length, link_to, linkable-from, long, lt-leb, made, map, max, new_room, no_zero, node_head, nodes_of, nothing_changed, number, number_kept, others_stay, placed, record_number_limit, redo, redone, refl, room_at, rules, same_node, shape, size_at, sound, spot, step_pair, subst, sym, tile_lies, tiles_same, top_chain, touch, true, type_of_body, uir_type, used_count, variables, vdr_vxr_head, vdr_vxr_tail, vdrs, vvr_type, vxr_bytes, vxr_type, vxr_vxr_next, way, widen_all, widest, with_field, with_leaf, ℕ, ◌*◌, ◌++◌, ◌+◌, ◌-◌, ◌<◌, ◌∙◌, ◌∷◌, ◌≡◌, ◌≢◌, ◌≤◌, ◌⊎◌}
 use Rattle.cdf_edits.proofs.Edits.RecordGrown as of_grown
+use Rattle.cdf_edits.proofs.Edits.StandsAmong.{name_room}
 use Rattle.cdf_format.proofs.NameRules.{bytes_eq-same}
 use Rattle.cdf_format.proofs.Tests.{same_of_bytes_eq}
 use Rattle.cdf_index.proofs.Measured.{seven_at_least}
@@ -10,16 +11,16 @@ use Rattle.cdf_index.proofs.OneVariable.{one_of}
 use Rattle.cdf_index.proofs.FromReached.{Rest, StartsAt, leaf_rest, rest_among, rest_has, rest_last, rest_once, starts_at}
 use Rattle.cdf_index.specs.Starting.{IsStart}
 use Rattle.cdf_index.specs.declared.descending.Way.{Way}
+use Rattle.std.proofs.lemmas.Bool.{false_from_ne_true}
 use Rattle.std.proofs.lemmas.List.{length-map, nil_from_length}
-use Rattle.cdf_leaves.proofs.Along.{along, InNode, OnWay, Ready}
-use Rattle.cdf_leaves.proofs.Grown.{NodeNow, fed_node, names_leaf, node_then, room_full, room_with, was}
-use Rattle.cdf_leaves.proofs.LeafGrown.{Roomy, State, all_taken, block_is, block_there, blocks, first_added, leaf_added, made_roomy, no_roomy, old, once_every, spare_old, stand, start}
+use Rattle.cdf_leaves.proofs.Along.{all_of, along, InNode, OnWay}
+use Rattle.cdf_leaves.proofs.LeafGrown.{NodeNow, fed_node, names_leaf, node_then, was, Roomy, State, all_taken, block_is, block_there, blocks, first_added, leaf_added, made_roomy, no_roomy, old, once_every, spare_old, start}
 use Rattle.cdf_leaves.proofs.NodesMore.{places, all_wider}
-use Rattle.cdf_leaves.proofs.Own.{searchable, own_order, own_node, node_fits, node_spares, node_type, now_has, now_blocks, still_sees, vdr_apart, vdr_in, vdr_kept}
+use Rattle.cdf_leaves.proofs.Own.{searchable, own_order, own_node, node_fits, node_spares, node_type, now_has, now_blocks, node_same, still_begun, vdr_apart, vdr_in, vdr_kept}
 use Rattle.cdf_leaves.proofs.PutSteps.{next_lies}
-use Rattle.cdf_leaves.proofs.Spares.{Spares, fits_still, front_lies, node_inside, spares_kept, spares_linked, spares_then}
-use Rattle.cdf_leaves.proofs.SpotNode.{SpotNode, room_in, spot_node, way_apart}
-use Rattle.cdf_leaves.proofs.TopChain.{TopGrown, top_grown, chain_inside, end_is_last, last_in}
+use Rattle.cdf_leaves.proofs.Spares.{Spares, fits_still, node_inside, spares_kept, spares_linked, spares_then}
+use Rattle.cdf_leaves.proofs.SpotNode.{SpotRoom, room_in, spot_room, way_apart}
+use Rattle.cdf_leaves.proofs.TopChain.{TopGrown, top_grown, chain_walked, end_is_last, last_in}
 
 -- ---- an entry was put
 
@@ -49,7 +50,7 @@ module _ {b : List ℕ} {kind : Kind} {before : List VariableShape} {own : Varia
   start_there e s = starts_at (rw e (searchable good at_own).0) s
 
   pub vdr_there : own.vdr + 340 ≤ length b
-  vdr_there = omega (arith, (tile_lies b 8 (length b) (shape b).records own.vdr (sound good at_own).has_shape.tiled (tile good at_own)).high, long good at_own)
+  vdr_there = name_room good at_own
 
   -- ---- a block was placed
 
@@ -93,9 +94,6 @@ module _ {b : List ℕ} {kind : Kind} {before : List VariableShape} {own : Varia
       last_there : In found.end.place (nodes_of own.index)
       last_there = rw index at w.last
 
-      end_is : found.end.place ≡ spot first own.index
-      end_is = w.end_is ∙ ap (spot first) index
-
       way_is : map step_pair found.steps.items ≡ way first own.index
       way_is = w.steps_are ∙ ap (way first) index
 
@@ -104,15 +102,15 @@ module _ {b : List ℕ} {kind : Kind} {before : List VariableShape} {own : Varia
           let there = late.sub found.end.place (own_node good at_own found.end.place last_there).0 in
           let typed = node_type good at_own late found.end.place last_there in
           let fits = fits_still b filled found.end.place (node_spares good at_own late found.end.place last_there) (node_fits good at_own found.end.place last_there) in
-          let s = still_sees good at_own late w.sees last_there in
+          let n = node_same good at_own late found.end.place last_there in
+          let room_is = w.sees.room_is ∙ sym n.room_is in
+          let used_is = w.sees.used_is ∙ sym n.used_is in
+          let next_is = w.sees.next_is ∙ sym n.next_is in
           let most : found.end.begun ≤ found.end.used = omega (arith, w.sees.used_is, w.sees.begun.most) in
-          search (rules, late.sound, late_ends, there, typed, fits, s, most)
+          search (rules, late.sound, late_ends, there, typed, fits, room_is, used_is, next_is, most)
 
       pub wide_enough : max 7 found.end.room ≤ widest (index_at b head)
       wide_enough = rw index (omega (arith, w.sees.room_is, seven_at_least own.index, room_in b (shape b).records 8 found.end.place own.index (has good at_own).indexed.has_nodes last_there))
-
-      among_own : Each (IsAmong own.index) found.steps.items
-      among_own = rw index at w.among
 
       -- the end of the way is a node
       some_end : found.end.place ≢ 0
@@ -149,10 +147,10 @@ module _ {b : List ℕ} {kind : Kind} {before : List VariableShape} {own : Varia
         spare = was b nodes place (8 + length body) new at
 
         coming : Comes l at (way first own.index) x new own.index after_leaf
-        coming = rw end_is (comes l at 0 record_number_limit own.index (own_order good at_own))
+        coming = rw (w.end_is ∙ ap (spot first) index) (comes l at 0 record_number_limit own.index (own_order good at_own))
 
-        spot_here : SpotNode b (shape b).records first x new
-        spot_here = spot_node coming b (shape b).records 8 (has good at_own).indexed.has_nodes some_end
+        spot_here : SpotRoom b first x new
+        spot_here = spot_room coming b (shape b).records 8 (has good at_own).indexed.has_nodes some_end
 
         -- ---- from an image in which all records were taken
 
@@ -170,10 +168,19 @@ module _ {b : List ℕ} {kind : Kind} {before : List VariableShape} {own : Varia
           fits m i = fits_still b roomy m (node_spares good at_own g m i) (node_fits good at_own m i)
 
           x_lies : x + 28 ≤ length roomy
-          x_lies = front_lies roomy x (node_inside roomy recs x g.sound.has_shape.tiled (there x last_there) (fits x last_there))
+          x_lies = node_head (node_inside roomy recs x g.sound.has_shape.tiled (there x last_there) (fits x last_there))
 
           x_before : NodeNow b roomy nodes (spare x) x
           x_before = old good at_own block type_is first last at r x last_there
+
+          seen_same : SameNode b roomy x
+          seen_same = node_same good at_own g x last_there
+
+          seen_used : found.end.used ≡ used_count roomy x
+          seen_used = w.sees.used_is ∙ sym seen_same.used_is
+
+          begins : Begins roomy x first found.end.begun
+          begins = begins_by roomy x first found.end.begun (still_begun good at_own g w.sees.begun last_there)
 
           put_done : (from n : ℕ) → 12 ≤ from → from + n ≤ 28 + 16 * room_at roomy x → Changed roomy grown (touch x from n ∷ []) → length grown ≡ length roomy
               → (SameHeads roomy grown recs recs → ((m : ℕ) → In m recs → m ≢ x → Kept roomy grown m) → MayName grown recs l → Owed roomy grown recs recs x (placed l at x)) → NodeNow b grown nodes (spare x) x → EntryStands b filled grown own l at x spare
@@ -196,7 +203,7 @@ module _ {b : List ℕ} {kind : Kind} {before : List VariableShape} {own : Varia
                   has = redone roomy grown recs recs heads x (placed l at x) (owed heads others names) 8 own.index (now_has good at_own g).indexed.has_nodes (has good at_own).indexed.once (λ m i ne. (others m (there m i) ne, fits m i)) (now_blocks good at_own g);
                   each = λ m i. elim (cases_eq m x) [
                     | inl e ↦ rw e here
-                    | inr ne ↦ (let s = start good at_own block type_is first last at r m i in node_then s (spares_kept roomy grown m (others m (stand good at_own block type_is first last at r m i).0 ne) s.fits))
+                    | inr ne ↦ (let s = start good at_own block type_is first last at r m i in node_then s.2 (spares_kept roomy grown m (others m s.0 ne) s.2.fits))
                   ];
                 };
                 old = λ m i ne. spares_then b roomy grown m (node_spares good at_own g m i) (spares_kept roomy grown m (others m (there m i) ne) (fits m i));
@@ -206,12 +213,11 @@ module _ {b : List ℕ} {kind : Kind} {before : List VariableShape} {own : Varia
 
         with_room : found.end.used < found.end.room → at ≡ 0 → Inserted filled grown x found.end.used found.end.begun first last place → EntryStands b filled grown own l at x spare
         with_room lt z ins =
-            let r = no_roomy good at_own block type_is first last at (room_with b (shape b).records first x new found.end.used found.end.room spot_here w.sees.used_is w.sees.room_is lt) z in
-            let s = still_sees good at_own late w.sees last_there in
-            let less : found.end.used < room_at filled x = omega (arith, s.room_is) in
+            let r = no_roomy good at_own block type_is first last at (spot_here.has_room (omega (arith, w.sees.used_is, w.sees.room_is))) z in
+            let less : found.end.used < room_at filled x = omega (arith, w.sees.room_is, (seen_same r).room_is) in
             put_done r 24 (4 + 16 * room_at filled x) (omega arith) (omega arith) ins.changed ins.as_long
-            (λ heads others names. grown_owed filled grown (recs r) (recs r) heads x at found.end.used found.end.begun l s.used_is (begins_by filled x first found.end.begun s.begun) names less ins (x_lies r))
-            (fed_node (x_before r) (front_stays filled grown x 24 (4 + 16 * room_at filled x) ins.changed (let l = x_lies r in omega arith) 0 8 (omega arith)) ins.room_stays ins.used_is ins.count_is (omega arith) (λ i le lt. inr (omega (arith, s.used_is), ins.unused i (omega arith) lt)))
+            (λ heads others names. grown_owed filled grown (recs r) (recs r) heads x at found.end.used found.end.begun l (seen_used r) (begins r) names less ins (x_lies r))
+            (fed_node (x_before r) (front_stays filled grown x 24 (4 + 16 * room_at filled x) ins.changed (let l = x_lies r in omega arith) 0 8 (omega arith)) ins.room_stays ins.used_is ins.count_is (omega arith) (λ i le lt. inr (omega (arith, seen_used r), ins.unused i (omega arith) lt)))
 
         -- ---- it is full, and a new node was made
 
@@ -227,7 +233,7 @@ module _ {b : List ℕ} {kind : Kind} {before : List VariableShape} {own : Varia
               (λ heads others names. owed heads names (others at f.stands (λ e. f.outside (rw e last_there))) (linkable-from grown (shape roomy).records vxr_type at f.stands (heads.types at f.stands ∙ made_it.fills.typed) (omega (arith, heads.sizes at f.stands, made_it.written.inside.entries)))) here
 
         full : found.end.room ≤ found.end.used → new ≡ max 7 (found.end.used - found.end.begun)
-        full le = room_full b (shape b).records first x new found.end.used found.end.room found.end.begun spot_here w.sees.used_is w.sees.room_is le w.sees.begun
+        full le = rw w.sees.used_is (spot_here.is_full (omega (arith, w.sees.used_is, w.sees.room_is)) found.end.begun w.sees.begun)
 
         -- some of its entries went to the new node
         with_split : found.end.room ≤ found.end.used → found.end.begun < found.end.used → SplitMade filled grown found.end (entry first last place) at → EntryStands b filled grown own l at x spare
@@ -236,14 +242,13 @@ module _ {b : List ℕ} {kind : Kind} {before : List VariableShape} {own : Varia
             let sh = sp.shortened in
             let m = may_put in
             let r = made_room sp.made (full le) (omega arith) in
-            let s = still_sees good at_own (g r) w.sees last_there in
             let kept = r.on.kept x m.there (λ u. apart vxr_type uir_type refl (sym m.typed ∙ u)) (λ u. apart vxr_type gdr_type refl (sym m.typed ∙ u)) in
             made_done sp.made (full le) (omega arith) 12 (16 + 16 * room_at roomy x) (omega arith) (omega arith) sh.changed sh.as_long
-            (λ heads names stays link. split_owed roomy grown (recs r) (recs r) heads x at found.end.used found.end.begun l s.used_is (begins_by roomy x first found.end.begun s.begun) names (omega (arith, s.room_is)) link
+            (λ heads names stays link. split_owed roomy grown (recs r) (recs r) heads x at found.end.used found.end.begun l (seen_used r) (begins r) names (omega (arith, w.sees.room_is, (seen_same r).room_is)) link
             (split sp.made.taken filled roomy grown x at (max 7 (found.end.used - found.end.begun)) found.end.next found.end.used found.end.begun first last place sp.behind kept stays m.fits (omega (arith, m.used_is, m.fits.1)) (omega arith) sp.made.written sp.read m.next_is refl sh) lt)
-            (fed_node (x_before r) (front_stays roomy grown x 12 (16 + 16 * room_at roomy x) sh.changed (let l = x_lies r in omega arith) 0 8 (omega arith)) sh.room_stays sh.used_is sh.count_is (omega (arith, s.used_is, (fits r x last_there).1)) (λ i above below. elim (cases_lt i found.end.used) [
+            (fed_node (x_before r) (front_stays roomy grown x 12 (16 + 16 * room_at roomy x) sh.changed (let l = x_lies r in omega arith) 0 8 (omega arith)) sh.room_stays sh.used_is sh.count_is (omega (arith, seen_used r, (fits r x last_there).1)) (λ i above below. elim (cases_lt i found.end.used) [
               | inl less ↦ inl (sh.gone i above less, spare_old good at_own block type_is first last at x i last_there (λ n e. (r.fresh n).outside (rw (← e) last_there)) ∙ lt-leb (used_count b x) i (omega (arith, w.sees.used_is)))
-              | inr more ↦ inr (omega (arith, s.used_is), sh.unused i more below)
+              | inr more ↦ inr (omega (arith, seen_used r), sh.unused i more below)
             ]))
 
         -- the new node has the entry alone
@@ -254,20 +259,19 @@ module _ {b : List ℕ} {kind : Kind} {before : List VariableShape} {own : Varia
             let most = w.sees.begun.most in
             let seven : new ≡ 7 = omega (arith, full le) in
             let r = made_room ch.made seven (omega arith) in
-            let s = still_sees good at_own (g r) w.sees last_there in
             let set : FieldSet roomy grown x vxr_vxr_next at = field_set (let l = x_lies r in omega arith) ch.linked in
             let stays = spares_linked set in
             made_done ch.made seven (omega arith) 12 8 (omega arith) (omega arith) set.changed set.as_long
             (λ heads names kept link. (let n = same_node roomy grown at kept (node.inside.entries, node.inside.fits) in
-            chained_owed roomy grown (recs r) (recs r) heads x at found.end.used found.end.begun l s.used_is (begins_by roomy x first found.end.begun s.begun) names (omega (arith, s.room_is)) link (record {
+            chained_owed roomy grown (recs r) (recs r) heads x at found.end.used found.end.begun l (seen_used r) (begins r) names (omega (arith, w.sees.room_is, (seen_same r).room_is)) link (record {
               stay = λ j less. entries_beside set (omega arith) (omega arith) (inl (omega arith)) j;
               room_stays = stays.room_is;
-              used_is = stays.used_is ∙ sym s.used_is;
+              used_is = stays.used_is ∙ sym (seen_used r);
               next_is = set.reads (omega (arith, set.as_long, node.inside.inside, grown_short));
               here = n.entries 0 (omega (arith, node.room_is)) first last place (node.says 0 (omega arith));
               new_room = n.room_is ∙ node.room_is;
               new_used = n.used_is ∙ node.used_is;
-              new_next = n.next_is ∙ node.next_is ∙ s.next_is;
+              new_next = n.next_is ∙ node.next_is ∙ w.sees.next_is ∙ sym (seen_same r).next_is;
             }) (omega (arith, w.sees.used_is)))) (node_then (x_before r) stays)
 
         stands_now : EntryStands b filled grown own l at x spare
@@ -288,7 +292,7 @@ module _ {b : List ℕ} {kind : Kind} {before : List VariableShape} {own : Varia
             ((record { there = there stands_now.taken step.place a.0; fits = fits_still b grown step.place o (node_fits good at_own step.place a.0); room_is = s.0.room_is ∙ sym o.room_is; within = omega (arith, o.used_is, s.0.within) }, (a.0, n.0)), all_steps more a.1 s.1 n.1)
 
         on_way : Each (OnWay grown now_records Other) found.steps.items
-        on_way = all_steps found.steps.items among_own w.say (rw (← way_is) at (way_apart coming some_end (has good at_own).indexed.once))
+        on_way = all_steps found.steps.items (rw index at w.among) w.say (rw (← way_is) at (way_apart coming some_end (has good at_own).indexed.once))
 
         pub way_ready : WayStands grown found.steps.items × (length grown ≤ image_limit)
         way_ready = (record { records = now_records; tiled = stands_now.state.tiled; stand = Each-map (OnWay grown now_records Other) (StepStands grown now_records) (λ step p. p.0) found.steps.items on_way }, grown_short)
@@ -296,27 +300,18 @@ module _ {b : List ℕ} {kind : Kind} {before : List VariableShape} {own : Varia
         -- ---- the nodes on the way were widened
 
         module _ (wide : List ℕ) (widened : WidenedAlong grown wide last (map step_pair found.steps.items)) where
-          abbrev put_tree : Nodes
-          put_tree = redo x (placed l at x) own.index
-
-          law : widen_all last (map step_pair found.steps.items) put_tree ≡ after_leaf
-          law = rw way_is (made coming some_end (has good at_own).indexed.once)
-
           state : State b stands_now.roomy wide own new at spare (nodes_of after_leaf) after_leaf
           state =
+              let put_tree = redo x (placed l at x) own.index in
+              let law : widen_all last (map step_pair found.steps.items) put_tree ≡ after_leaf = rw way_is (made coming some_end (has good at_own).indexed.once) in
               let p = stands_now.state in
               let r = stands_now.taken in
-              let a = along grown wide now_records Other last found.steps.items p.tiled on_way widened in
+              let a = along grown wide now_records Other last found.steps.items p.tiled (all_of (OnWay grown now_records Other) found.steps.items on_way) widened in
               let same = all_wider last (map step_pair found.steps.items) put_tree in
               let nodes_are = sym same.0 ∙ ap nodes_of law in
               let leaves_are = sym same.1 ∙ ap (λ (n : Nodes). places (leaves_of n)) law in
-              let in_records = stand good at_own block type_is first last at r in
-              let ready : Ready grown now_records put_tree = record {
-                has = p.has;
-                once = subst Distinct (sym nodes_are) (once_every good at_own block type_is first last at r);
-                stand = λ m i. let j = subst (In m) nodes_are i in ((in_records m j).0, (p.each m j).fits);
-                blocks = λ m i. blocks good at_own block type_is first last at r m (subst (In m) leaves_are i);
-              } in
+              let in_records = start good at_own block type_is first last at r in
+              let has_now = a.has put_tree p.has (subst Distinct (sym nodes_are) (once_every good at_own block type_is first last at r)) (λ m i. let j = subst (In m) nodes_are i in ((in_records m j).0, (p.each m j).fits)) (λ m i. blocks good at_own block type_is first last at r m (subst (In m) leaves_are i)) in
               record {
                 as_long = a.as_long ∙ p.as_long;
                 tiled = a.tiled;
@@ -324,7 +319,7 @@ module _ {b : List ℕ} {kind : Kind} {before : List VariableShape} {own : Varia
                 changed = changed_then stands_now.roomy grown wide p.touches a.touches p.changed a.changed;
                 within = Each-append (IndexTouch stands_now.roomy own new at) p.touches a.touches p.within (Each-map (InNode grown Other) (IndexTouch stands_now.roomy own new at) (λ t q. inr (q.1, inl (q.0.0, omega (arith, q.2, (stands_now.old t.tile q.0.0 q.0.1).room_is, (node_spares good at_own (g r) t.tile q.0.0).room_is)))) a.touches a.within);
                 vdr = kept_then b grown wide own.vdr p.vdr (a.others own.vdr (vdr_in good at_own (g r)) (λ q. vdr_apart good at_own own.vdr (own_node good at_own own.vdr q.0).1 refl));
-                has = subst (HasNodes wide now_records 8) law (a.has put_tree ready);
+                has = subst (HasNodes wide now_records 8) law has_now;
                 each = λ m i. node_then (p.each m i) (a.still m (in_records m i).0 (p.each m i).fits);
               }
 
@@ -355,7 +350,7 @@ module _ {b : List ℕ} {kind : Kind} {before : List VariableShape} {own : Varia
           start_is = starts.has.index.link_is ∙ sym top_from.link_is
 
           pub tail_ready : ChainInside (length wide) wide origin × (own.vdr + 44 ≤ length wide) × (length wide ≤ image_limit)
-          tail_ready = (rw start_is (chain_inside wide now_records state.tiled (length wide) 8 from_start (rest_has wide now_records 8 rest state.has) top_from.is_node), omega (arith, vdr_lies), omega (arith, state.as_long, stands_now.state.as_long, grown_short))
+          tail_ready = (rw start_is (chain_walked wide now_records state.tiled (length wide) 8 from_start (rest_has wide now_records 8 rest state.has) top_from.is_node).0, omega (arith, vdr_lies), omega (arith, state.as_long, stands_now.state.as_long, grown_short))
 
           pub grown_stays : (at ≡ 0) ⊎ (found.steps.items ≢ []) → AddsLeaf b wide own first last body
           grown_stays why =
@@ -371,11 +366,8 @@ module _ {b : List ℕ} {kind : Kind} {before : List VariableShape} {own : Varia
               let set = field_set {b = wide} {at = own.vdr} {f = vdr_vxr_tail} (omega (arith, vdr_lies)) is in
               let some_new : new ≢ 0 = λ z. ne (rw z at r.node).1 in
               let grows = top.grows (sym way_is ∙ ap (map step_pair) none) some_new in
-              let longer : bytes_eq (top_chain own.index) (top_chain after_leaf) ≡ false = elim (either (bytes_eq (top_chain own.index) (top_chain after_leaf))) [
-                | inl t ↦ absurd (omega (arith, grows, ap (λ (xs : List ℕ). length xs) (same_of_bytes_eq (top_chain own.index) (top_chain after_leaf) t)))
-                | inr t ↦ t
-              ] in
-              let in_records = λ (m : ℕ) (i : In m (nodes_of after_leaf)). (stand good at_own block type_is first last at r m i).0 in
+              let longer = false_from_ne_true (bytes_eq (top_chain own.index) (top_chain after_leaf)) (λ t. absurd (omega (arith, grows, ap (λ (xs : List ℕ). length xs) (same_of_bytes_eq (top_chain own.index) (top_chain after_leaf) t)))) in
+              let in_records = λ (m : ℕ) (i : In m (nodes_of after_leaf)). (start good at_own block type_is first last at r m i).0 in
               let end = ap (chain_end (length wide) wide) start_is ∙ end_is_last wide now_records state.tiled 8 from_start (rest_has wide now_records 8 rest state.has) top_from.is_node (rest_once rest (once_every good at_own block type_is first last at r)) (λ m i. in_records m (rest_among rest m i)) ∙ rest_last rest top_from.is_node in
               let small = (tile_lies wide 8 (length wide) now_records (last_node after_leaf) state.tiled (in_records (last_node after_leaf) (last_in after_leaf top.is_node))).high in
               record {

@@ -2,13 +2,10 @@ pub mod Common
 pub mod Spares
 pub mod PutSteps
 pub mod Along
-pub mod Chain
 pub mod NodesMore
 pub mod SpotNode
 pub mod TopChain
 pub mod Own
-pub mod Grown
-pub mod NodesOf
 pub mod LeafGrown
 pub mod AddCalls
 pub mod LastCall

@@ -1,5 +1,5 @@
 -- The nodes of an index some of whose entries end later.
-use Rattle.cdf_leaves.proofs.Common.{Entries, Leaf, List, Nodes, [], ap, ap₂, arith, block, entry_leaves, leaves_of, lower, lower_nodes, map, map-append, nat_tests, no_entry, no_node, node, nodes_of, redo, redo_below, refl, suc, sym, widen_all, widened, wider, zero, ℕ, ◌++◌, ◌∙◌, ◌∷◌, ◌≡◌}
+use Rattle.cdf_leaves.proofs.Common.{Distinct, Entries, In, Leaf, List, Nodes, [], ap, ap₂, arith, block, cases_lt, distinct_if, either, entry_leaves, in-times, inl, inr, leaves_of, lower, lower_nodes, ltb, map, map-append, nat_tests, new_room, no_entry, no_node, node, nodes_of, nodes_with_leaf, redo, redo_below, refl, suc, sym, times, times-once, widen_all, widened, wider, with_leaf, with_new, zero, ℕ, ◌++◌, ◌<◌, ◌∙◌, ◌∷◌, ◌≡◌, ◌≢◌, ◌⊎◌}
 
 -- ---- an entry that ends later
 
@@ -43,3 +43,22 @@ all_wider last (step ∷ more) nodes =
     let r = all_wider last more nodes in
     let s = nodes_wider step.0 last step.1 (widen_all last more nodes) in
     (s.0 ∙ r.0, s.1 ∙ r.1)
+
+-- ---- a leaf more
+
+pub in_new : (l : Leaf) (m : ℕ) (ls : List Leaf) → In m (places (with_new l ls)) → (m ≡ l.place) ⊎ In m (places ls)
+in_new l m [] i = i
+in_new l m (x ∷ xs) i = elim (either (ltb l.first x.first)) [
+  | inl t ↦ rw t at i
+  | inr t ↦ let j : In m (x.place ∷ places (with_new l xs)) = rw t at i in elim j [ inl q ↦ inr (inl q) | inr k ↦ elim (in_new l m xs k) [ inl q ↦ inl q | inr r ↦ inr (inr r) ] ]
+]
+
+-- none stands in it twice, where the new one stood nowhere
+pub all_once : (index : Nodes) (l : Leaf) (at : ℕ) → Distinct (nodes_of index) → (0 < new_room l.first index → In at (nodes_of index) → ⊥) → Distinct (nodes_of (with_leaf l at index))
+all_once index l at once out = distinct_if (nodes_of (with_leaf l at index)) (λ m. elim (cases_lt 0 (times m (nodes_of index))) [
+  | inl p ↦
+      let i = in-times m (nodes_of index) p in
+      let apart : 0 < new_room l.first index → m ≢ at = λ s e. out s (rw (← e) i) in
+      grind (arith, nat_tests, nodes_with_leaf l at m index, times-once m (nodes_of index) once i, apart)
+  | inr z ↦ grind (arith, nat_tests, nodes_with_leaf l at m index)
+])

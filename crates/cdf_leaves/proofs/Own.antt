@@ -1,5 +1,5 @@
 -- The variable whose index gets a leaf, in the images in which records were taken.
-use Rattle.cdf_leaves.proofs.Common.{Begun, Each, Each-split, Good, Grew, HasIndex, HasVariable, In, Kept, Kind, List, NodeFits, R, SameNode, SeesNode, Spot, StandsAmong, VariableShape, Z, ap, apart, arith, each_in, eqb, false, first_at, fits, gdr_type, good_by_its_shape, good_is_sound, has, index_at, leaves_of, linkable-in, linkable-type, next_of, nodes_of, nodes_stand, number, record_number_limit, refl, room_at, same_node, shape, subst, sym, tile, type_at, type_in, type_kept, typed, uir_type, used_count, variables, variables_chain, vdr_vxr_head, vxr_type, ℕ, ◌++◌, ◌<◌, ◌∙◌, ◌∷◌, ◌≡◌, ◌≢◌}
+use Rattle.cdf_leaves.proofs.Common.{Begun, Each, Each-split, Good, Grew, HasIndex, HasVariable, In, Kept, Kind, List, NodeFits, R, SameNode, StandsAmong, VariableShape, Z, ap, apart, arith, each_in, eqb, false, first_at, fits, gdr_type, good_by_its_shape, good_is_sound, has, index_at, leaves_of, linkable-in, linkable-type, nodes_of, nodes_stand, number, record_number_limit, refl, same_node, shape, subst, sym, tile, type_at, type_in, type_kept, typed, uir_type, used_count, variables, variables_chain, vdr_vxr_head, vxr_type, ℕ, ◌++◌, ◌<◌, ◌∙◌, ◌∷◌, ◌≡◌, ◌≢◌}
 use Rattle.cdf_format.proofs.GoodImageLemmas.{good_image}
 use Rattle.cdf_edits.proofs.Edits.StandsAmong.{behind_in}
 use Rattle.cdf_edits.proofs.Edits.VariableCopied.{block_behind}
@@ -8,12 +8,6 @@ use Rattle.cdf_leaves.proofs.NodesMore.{places}
 use Rattle.cdf_leaves.proofs.Spares.{Spares, spares_kept}
 pub use Rattle.cdf_index.proofs.OneVariable.{AmongAll, among_all}
 use Rattle.cdf_index.specs.Order.{InOrder}
-
-pub record StillSees (now : List ℕ) (seen : Spot) (f : ℕ) : Type 0 where
-  pub room_is : seen.room ≡ room_at now seen.place
-  pub used_is : seen.used ≡ used_count now seen.place
-  pub next_is : seen.next ≡ next_of now seen.place
-  pub begun : Begun now seen.place f seen.begun
 
 the_own : {A : Type 0} (P : A → Type 0) (vs front : List A) (own : A) (rest : List A) → vs ≡ front ++ own ∷ rest → Each P vs → P own
 the_own P vs front own rest all e = (Each-split P front (own ∷ rest) (subst (Each P) all e)).1.0
@@ -61,20 +55,15 @@ module _ {b : List ℕ} {kind : Kind} {before : List VariableShape} {own : Varia
     pub node_spares : (m : ℕ) → In m (nodes_of own.index) → Spares b now m
     node_spares m i = spares_kept b now m (node_kept m i) (node_fits m i)
 
-    -- what was seen of a node of the index is still to be seen
-    pub still_sees : {f : ℕ} {seen : Spot} → SeesNode b seen.place f seen → In seen.place (nodes_of own.index) → StillSees now seen f
-    still_sees {seen = seen} s i =
-        let n = node_same seen.place i in
-        let fits = (node_fits seen.place i).1 in
-        let first : (j : ℕ) → j < used_count b seen.place → first_at now seen.place j ≡ first_at b seen.place j = λ j lt. (n.entries j (omega arith) _ _ _ (record { first_is = refl; last_is = refl; offset_is = refl })).first_is in
-        let most = s.begun.most in
+    -- as many entries of a node of the index still begin at a record or before it
+    pub still_begun : {f m p : ℕ} → Begun b m f p → In m (nodes_of own.index) → Begun now m f p
+    still_begun {m = m} {p = p} s i =
+        let n = node_same m i in
+        let fits = (node_fits m i).1 in
+        let first : (j : ℕ) → j < used_count b m → first_at now m j ≡ first_at b m j = λ j lt. (n.entries j (omega arith) _ _ _ (record { first_is = refl; last_is = refl; offset_is = refl })).first_is in
+        let most = s.most in
         let used = n.used_is in
-        record {
-          room_is = s.room_is ∙ sym n.room_is;
-          used_is = s.used_is ∙ sym used;
-          next_is = s.next_is ∙ sym n.next_is;
-          begun = record { before = λ j lt. rw (first j (omega arith)) (s.begun.before j lt); most = omega arith; stop = λ lt. rw (first seen.begun (omega arith)) (s.begun.stop (omega arith)) };
-        }
+        record { before = λ j lt. rw (first j (omega arith)) (s.before j lt); most = omega arith; stop = λ lt. rw (first p (omega arith)) (s.stop (omega arith)) }
 
     pub vdr_kept : Kept b now own.vdr
     vdr_kept = g.kept own.vdr (tile good at) (λ u. no_type kind uir_type refl refl (sym (typed good at) ∙ u)) (λ u. no_type kind gdr_type refl refl (sym (typed good at) ∙ u))

@@ -1,6 +1,6 @@
 -- A node that gets an entry, once another record was taken.
-use Rattle.cdf_leaves.proofs.Common.{Entry, Grew, IsSound, List, MayPut, NodeInside, NodeMade, NodeWritten, Spot, Takes, apart, content, fills, gdr_type, grew, length, made, node_short, refl, room_at, shape, sound, sym, uir_type, used_count, vxr_bytes, vxr_type, ℕ, ◌+◌, ◌∙◌, ◌≡◌, ◌≤◌}
-use Rattle.cdf_leaves.proofs.Spares.{Spares, spares_kept, fits_still, front_lies, node_inside}
+use Rattle.cdf_leaves.proofs.Common.{Entry, Grew, IsSound, List, MayPut, NodeInside, NodeMade, NodeWritten, Spot, Takes, apart, content, fills, gdr_type, grew, length, made, node_head, node_short, refl, room_at, shape, sound, sym, uir_type, used_count, vxr_bytes, vxr_type, ℕ, ◌+◌, ◌∙◌, ◌≡◌, ◌≤◌}
+use Rattle.cdf_leaves.proofs.Spares.{Spares, spares_kept, fits_still, node_inside}
 
 pub record StaysThere (now : List ℕ) (seen : Spot) : Type 0 where
   pub inside : NodeInside now seen.place
@@ -23,7 +23,7 @@ stays_there {b = b} {now = now} {seen = seen} e may made =
 
 -- where its VXRnext lies
 pub next_lies : {b now : List ℕ} {seen : Spot} {room next at : ℕ} {entries : List Entry} → MayPut b seen → NodeMade b now room next entries at → seen.place + 28 ≤ length now
-next_lies {now = now} {seen = seen} may made = front_lies now seen.place (stays_there refl may made).inside
+next_lies {now = now} {seen = seen} may made = node_head (stays_there refl may made).inside
 
 -- ---- a record that was taken becomes a node
 

@@ -51,6 +51,3 @@ pub node_inside : (b records : List ℕ) (m : ℕ) → AreTiles b 8 (length b) r
 node_inside b records m tiled i fits =
     let l = tile_lies b 8 (length b) records m tiled i in
     record { low = l.low; inside = l.high; room = omega (arith, l.high, fits.0); entries = fits.0; fits = fits.1 }
-
-pub front_lies : (b : List ℕ) (m : ℕ) → NodeInside b m → m + 28 ≤ length b
-front_lies b m i = omega (arith, i.room)

@@ -1,24 +1,24 @@
 -- The node at the end of the way.
-use Rattle.cdf_leaves.proofs.Common.{Comes, Distinct, Distinct-back, Each, Entries, HasNodes, In, In-append, Leaf, List, Names, Nodes, SaysNode, apart_by, arith, below_once, below_times, block, comes_along, comes_below, comes_first, comes_here, inl, inr, lower, lower_nodes, no_entry, no_node, node, nodes_of, refl, room_at, room_of_new, suc, sym, way_lies, widest, widest_below, with_both, zero, ℕ, ◌++◌, ◌∷◌, ◌≡◌, ◌≢◌, ◌≤◌}
+use Rattle.cdf_leaves.proofs.Common.{Begun, Comes, Distinct, Distinct-back, Each, Entries, HasNodes, In, In-append, Leaf, List, Names, Nodes, apart_by, arith, begins_by, below_once, below_times, block, comes_along, comes_below, comes_first, comes_here, inl, inr, lower, lower_nodes, max, nat_tests, no_entry, no_node, node, nodes_of, refl, room_at, suc, sym, used_count, way_lies, widest, widest_below, with_both, zero, ℕ, ◌++◌, ◌-◌, ◌<◌, ◌∷◌, ◌≡◌, ◌≢◌, ◌≤◌}
 use Rattle.cdf_index.proofs.Saying.{names_parts}
 
--- a node is at the end of the way, and the new one has so much room
-pub record SpotNode (b ts : List ℕ) (f at new : ℕ) : Type 0 where
-  pub room : ℕ
-  pub entries : Entries
-  pub more : Nodes
-  pub says : SaysNode b ts at room entries more
-  pub new_is : new ≡ room_of_new f room entries
+-- the room of a new node behind it: none is made where it has room, else there is room for the entries past the new one, and for 7
+pub record SpotRoom (b : List ℕ) (f x new : ℕ) : Type 0 where
+  pub has_room : used_count b x < room_at b x → new ≡ 0
+  pub is_full : room_at b x ≤ used_count b x → (p : ℕ) → Begun b x f p → new ≡ max 7 (used_count b x - p)
 
-pub spot_node : {l : Leaf} {at : ℕ} {w : List (ℕ × ℕ)} {x n : ℕ} {ns ns' : Nodes} → Comes l at w x n ns ns' → (b ts : List ℕ) (levels : ℕ) → HasNodes b ts levels ns → x ≢ 0 → SpotNode b ts l.first x n
+pub spot_room : {l : Leaf} {at : ℕ} {w : List (ℕ × ℕ)} {x n : ℕ} {ns ns' : Nodes} → Comes l at w x n ns ns' → (b ts : List ℕ) (levels : ℕ) → HasNodes b ts levels ns → x ≢ 0 → SpotRoom b l.first x n
 unfolding HasNodes Names
-spot_node comes_first b ts levels h some = absurd (some refl)
-spot_node (comes_along t c) b ts zero h some = absurd h
-spot_node (comes_along t c) b ts (suc levels) h some = spot_node c b ts (suc levels) h.2 some
-spot_node (comes_below fs first last nodes nodes' es t le r c) b ts zero h some = absurd h
-spot_node (comes_below fs first last nodes nodes' es t le r c) b ts (suc levels) h some = spot_node c b ts levels (names_parts b ts levels fs (lower first last nodes es) h.1).1.1 some
-spot_node (comes_here t d) b ts zero h some = absurd h
-spot_node (comes_here {room = room} {es = es} {more = more} t d) b ts (suc levels) h some = record { room = room; entries = es; more = more; says = h.0; new_is = refl }
+spot_room comes_first b ts levels h some = absurd (some refl)
+spot_room (comes_along t c) b ts zero h some = absurd h
+spot_room (comes_along t c) b ts (suc levels) h some = spot_room c b ts (suc levels) h.2 some
+spot_room (comes_below fs first last nodes nodes' es t le r c) b ts zero h some = absurd h
+spot_room (comes_below fs first last nodes nodes' es t le r c) b ts (suc levels) h some = spot_room c b ts levels (names_parts b ts levels fs (lower first last nodes es) h.1).1.1 some
+spot_room (comes_here t d) b ts zero h some = absurd h
+spot_room {l = l} {x = x} (comes_here {room = room} {es = es} t d) b ts (suc levels) h some = record {
+  has_room = λ lt. grind (arith, nat_tests, h.0.used_is, h.0.room_is);
+  is_full = λ le p begun. grind (arith, nat_tests, h.0.used_is, h.0.room_is, begins_by b x l.first p begun es h.0.used_is h.0.say_entries);
+}
 
 -- ---- the way does not lead through it
 

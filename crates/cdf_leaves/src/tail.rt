@@ -12,7 +12,7 @@ use cdf_format::fields::{VDR_VXR_TAIL, VXR_VXR_NEXT};
 use cdf_records::{read_unsigned8, set_unsigned8};
 
 /// The last node of a chain of nodes.
-#[tactic(auto, using(crate::proofs::Chain::follow_end))]
+#[tactic(auto, using(crate::proofs::TopChain::follow_end))]
 fn last_of_chain<A: Area>(area: &mut A, at: u64) -> Result<u64, AreaError>
     requires chain { ChainInside (length (A.image area.old)) (A.image area.old) at }
     requires short { length (A.image area.old) ≤ image_limit }

@@ -1,5 +1,5 @@
 use Rattle.cdf_leaves.proofs.Common.{arith, read_more}
-use Rattle.cdf_leaves.proofs.Chain.{follow_more}
+use Rattle.cdf_leaves.proofs.TopChain.{follow_more}
 use Rattle.cdf_leaves.proofs.tail.last_of_chain.Goals as goal
 
 pub loop-turn-preserved : goal.loop-turn-preserved

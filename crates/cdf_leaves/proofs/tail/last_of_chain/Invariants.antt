@@ -1,5 +1,5 @@
 use Rattle.cdf_leaves.proofs.Common.{Stays}
-use Rattle.cdf_leaves.proofs.Chain.{Following}
+use Rattle.cdf_leaves.proofs.TopChain.{Following}
 use Rattle.cdf_leaves.proofs.tail.last_of_chain.Given as goal
 
 abbrev pub invariant-loop-turn : goal.invariant-loop-turn
