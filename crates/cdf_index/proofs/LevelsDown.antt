@@ -1,5 +1,5 @@
 -- The way down to the place of a new entry, from level to level.
-use Rattle.cdf_index.proofs.Common.{AreTiles, Each, Each-append, HasIndex, In, InOrder, IsAmong, IsTree, List, Nodes, SomeTree, Spot, SpotIs, Step, StepSays, [], ap, append-nil, append_assoc, arith, false, index_at, leaf, length, link_to, map, map-append, nodes_of, record_number_limit, refl, room_at, spot, step_pair, subst, sym, tiles, way, ℕ, ◌++◌, ◌+◌, ◌-◌, ◌∙◌, ◌∷◌, ◌≡◌, ◌≢◌, ◌≤◌}
+use Rattle.cdf_index.proofs.Common.{AreTiles, Each, Each-append, HasIndex, In, InOrder, IsAmong, IsTree, List, Nodes, SomeTree, Spot, SpotIs, Step, StepSays, [], append-nil, append_assoc, arith, false, index_at, leaf, length, link_to, lower, map, map-append, nodes_of, record_number_limit, refl, spot, step_pair, subst, sym, tiles, upto, way, within, ℕ, ◌++◌, ◌+◌, ◌-◌, ◌∙◌, ◌∷◌, ◌≡◌, ◌≢◌, ◌≤◌}
 use Rattle.cdf_index.proofs.Ascending.{index_stands}
 use Rattle.cdf_index.proofs.Coming.{comes}
 use Rattle.cdf_index.proofs.GoingDown.{top}
@@ -53,23 +53,22 @@ module _ {b : List ℕ} {f turn : ℕ} {total : Nodes} {passed : List Step} {end
       pairs_among [] a = tt
       pairs_among (step ∷ more) a = (a.0, pairs_among more a.1)
 
-  pub descend_more : (step : Step) (next : Spot) → end.lower ≢ 0 → step.place ≡ end.place → step.entry ≡ end.begun - 1 → step.room ≡ end.room → ((levels : ℕ) (nodes : Nodes) → IsTree b levels nodes → end.lower ≡ link_to nodes → SpotIs b f levels nodes next) → Descending b f (turn + 1) total (passed ++ step ∷ []) next
-  descend_more step next n p i r s =
+  pub descend_more : (next : Spot) → end.lower ≢ 0 → ((levels : ℕ) (nodes : Nodes) → IsTree b levels nodes → end.lower ≡ link_to nodes → SpotIs b f levels nodes next)
+      → Descending b f (turn + 1) total (passed ++ record { place = end.place; room = end.room; entry = end.begun - 1 } ∷ []) next
+  descend_more next n s =
       let t = ne_eqb end.lower 0 n in
       let here : way f d.nodes ≡ (end.place, end.begun - 1) ∷ way f d.ends.low = d.ends.way_is ∙ rw t refl in
-      let there : spot f d.nodes ≡ spot f d.ends.low = d.ends.end_is ∙ rw t refl in
       let some = d.ends.leads n in
       let most = d.ends.sees.begun.most in
-      let says : StepSays b step = record { room_is = r ∙ d.ends.sees.room_is ∙ ap (room_at b) (sym p); within = rw p (omega arith) } in
       record {
         levels = d.ends.down;
         nodes = d.ends.low;
         tree = d.ends.below n;
         deep = omega (arith, d.deep, d.ends.fewer n);
         ends = s d.ends.down d.ends.low (d.ends.below n) d.ends.lower_is;
-        way_is = d.way_is ∙ rw here (simp (map-append, append_assoc, p, i));
-        end_is = d.end_is ∙ there;
-        say = Each-append (StepSays b) passed (step ∷ []) d.say (says, tt);
+        way_is = d.way_is ∙ rw here (simp (map-append, append_assoc));
+        end_is = d.end_is ∙ d.ends.end_is ∙ rw t refl;
+        say = Each-append (StepSays b) passed _ d.say (record { room_is = d.ends.sees.room_is; within = omega arith }, tt);
       }
 
   pub descend_never : 8 ≤ turn → ⊥
