@@ -1,5 +1,5 @@
 -- The way down to the place of a new entry, from level to level.
-use Rattle.cdf_index.proofs.Common.{AreTiles, Each, Each-append, HasIndex, In, InOrder, IsAmong, IsTree, List, Nodes, SomeTree, Spot, SpotIs, Step, StepSays, [], append-nil, append_assoc, arith, false, index_at, leaf, length, link_to, lower, map, map-append, nodes_of, record_number_limit, refl, spot, step_pair, subst, sym, tiles, upto, way, within, ℕ, ◌++◌, ◌+◌, ◌-◌, ◌∙◌, ◌∷◌, ◌≡◌, ◌≢◌, ◌≤◌}
+use Rattle.cdf_index.proofs.Common.{AreTiles, Each, Each-append, HasIndex, In, InOrder, IsAmong, IsTree, List, Nodes, SomeTree, Spot, SpotIs, Step, StepSays, [], append-nil, append_assoc, arith, false, index_at, leaf, length, link_to, lower, map, map-append, nodes_of, record_number_limit, refl, spot, step_pair, subst, sym, tiles, upto, way, within, ℕ, ◌++◌, ◌+◌, ◌-◌, ◌∷◌, ◌≡◌, ◌≢◌, ◌≤◌}
 use Rattle.cdf_index.proofs.Ascending.{index_stands}
 use Rattle.cdf_index.proofs.Coming.{comes}
 use Rattle.cdf_index.proofs.GoingDown.{top}
@@ -38,13 +38,10 @@ module _ {b : List ℕ} {f turn : ℕ} {total : Nodes} {passed : List Step} {end
   next_level tiled n = record { levels = d.ends.down; nodes = d.ends.low; tiled = tiled; tree = d.ends.below n; link = d.ends.lower_is }
 
   pub way_done : end.lower ≡ 0 → map step_pair passed ≡ way f total
-  way_done e =
-      let t = eq-eqb end.lower 0 e in
-      let none : way f d.nodes ≡ [] = d.ends.way_is ∙ rw t refl in
-      rw (d.way_is, none, append-nil) refl
+  way_done e = let t = eq-eqb end.lower 0 e in rw (d.way_is, d.ends.way_is, t, append-nil) refl
 
   pub end_done : end.lower ≡ 0 → end.place ≡ spot f total
-  end_done e = let t = eq-eqb end.lower 0 e in let here : spot f d.nodes ≡ end.place = d.ends.end_is ∙ rw t refl in sym (d.end_is ∙ here)
+  end_done e = let t = eq-eqb end.lower 0 e in rw (d.end_is, d.ends.end_is, t) refl
 
   pub all_among : InOrder 0 record_number_limit total → end.lower ≡ 0 → Each (IsAmong total) passed
   all_among o e = pairs_among passed (subst (λ (w : List (ℕ × ℕ)). AllIn w (nodes_of total)) (sym (way_done e)) (way_in f 0 record_number_limit total o).0)
@@ -57,18 +54,15 @@ module _ {b : List ℕ} {f turn : ℕ} {total : Nodes} {passed : List Step} {end
       → Descending b f (turn + 1) total (passed ++ record { place = end.place; room = end.room; entry = end.begun - 1 } ∷ []) next
   descend_more next n s =
       let t = ne_eqb end.lower 0 n in
-      let here : way f d.nodes ≡ (end.place, end.begun - 1) ∷ way f d.ends.low = d.ends.way_is ∙ rw t refl in
-      let some = d.ends.leads n in
-      let most = d.ends.sees.begun.most in
       record {
         levels = d.ends.down;
         nodes = d.ends.low;
         tree = d.ends.below n;
         deep = omega (arith, d.deep, d.ends.fewer n);
         ends = s d.ends.down d.ends.low (d.ends.below n) d.ends.lower_is;
-        way_is = d.way_is ∙ rw here (simp (map-append, append_assoc));
-        end_is = d.end_is ∙ d.ends.end_is ∙ rw t refl;
-        say = Each-append (StepSays b) passed _ d.say (record { room_is = d.ends.sees.room_is; within = omega arith }, tt);
+        way_is = rw (d.way_is, d.ends.way_is, t, map-append, append_assoc) refl;
+        end_is = rw (d.end_is, d.ends.end_is, t) refl;
+        say = Each-append (StepSays b) passed _ d.say (record { room_is = d.ends.sees.room_is; within = omega (arith, d.ends.leads n) }, tt);
       }
 
   pub descend_never : 8 ≤ turn → ⊥
