@@ -161,9 +161,8 @@ order_come {new = new} (comes_below {more = more} fs first last nodes nodes' es 
     let past_now = past_both low fs (lower first wide nodes' es) in
     (both_in_order low high fs (lower first wide nodes' es) p.0 (p.1.0, omega (arith, p.1.1), omega (arith, p.1.2), inner, rest), raised new.first new.last (past_entries low whole) (past_entries low (with_both fs (lower first wide nodes' es))) high more o.1 t ns.1 (omega (arith, past_all, past_now, past_most (suc last) (suc wide) es, end_after (suc last) high es p.1.4)))
 order_come {new = new} {at = at} (comes_here {place = place} {room = room} {es = es} {more = more} t d) low high o l k h u n =
-    let us = Each-split (Misses new.first) (entry_leaves es) (leaves_of more) u in
     let ns = Each-split (BeginsBehind new.first new.last) (entry_firsts es) (firsts_of more) n in
-    order_with_entry new at place room low high es more o d t l k h us.0 ns.0 ns.1
+    order_with_entry new at place room low high es more o d t l k h (Each-split (Misses new.first) (entry_leaves es) (leaves_of more) u).0 ns.0 ns.1
 
 pub order_with_leaf : (new : Leaf) (at : ℕ) (index : Nodes) → InOrder 0 record_number_limit index → new.first ≤ new.last → find (λ (leaf : Leaf). covers new.first (range leaf.first leaf.last)) (leaves_of index) ≡ None → new.last < next_first new.first (firsts_of index)
     → InOrder 0 record_number_limit (with_leaf new at index)

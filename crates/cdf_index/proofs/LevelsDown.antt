@@ -70,5 +70,4 @@ module _ {b : List ℕ} {f turn : ℕ} {total : Nodes} {passed : List Step} {end
 
 pub last_among : {b : List ℕ} {head f turn : ℕ} {passed : List Step} {end : Spot} → HasIndex b head → head ≢ 0 → Descending b f turn (index_at b head) passed end → end.lower ≡ 0 → In end.place (nodes_of (index_at b head))
 last_among {b = b} {head = head} {f = f} has some d e =
-    let come = comes (leaf f 0 0 false) 0 0 record_number_limit (index_at b head) has.order in
-    rw (end_done d e) (spot_there come b (tiles b) 8 has.index.has_nodes (index_tree b head has some).is_node)
+    rw (end_done d e) (spot_there (comes (leaf f 0 0 false) 0 0 record_number_limit (index_at b head) has.order) b (tiles b) 8 has.index.has_nodes (index_tree b head has some).is_node)
