@@ -1,5 +1,5 @@
 -- The way down to the place of a new entry, along a chain.
-use Rattle.cdf_index.proofs.Common.{AreTiles, Distinct, Distinct-back, Distinct-front, Entries, HasNodes, InOrder, IsNode, IsTree, List, Nodes, SeesNode, SomeNode, Spot, SpotIs, Stands, [], ap, arith, chain_reaches, down_at, either, end_from, entry_count, false, if◌then◌else◌, inl, inr, kept, leads_down, leaves_of, length, length-append, link_to, lower_nodes, nat_tests, ne_eqb, next_of, no_entry, no_node, node, nodes_of, past_entries, reaches, refl, spot, spot_below, subst, suc, sym, tiles, true, used_count, way, way_below, way_from, zero, ℕ, ◌+◌, ◌<◌, ◌∙◌, ◌∷◌, ◌≡◌, ◌≢◌, ◌≤◌, ◌⊎◌}
+use Rattle.cdf_index.proofs.Common.{AreTiles, Distinct, Distinct-back, Distinct-front, Entries, HasNodes, InOrder, IsNode, IsTree, List, Nodes, SeesNode, SomeNode, Spot, SpotIs, Stands, [], ap, arith, cases_lt, chain_reaches, down_at, end_from, entry_count, false, has, if◌then◌else◌, inl, inr, kept, le-ltb, leads_down, leaves_of, length, length-append, link_to, lower_nodes, lt-ltb, nat_tests, ne_eqb, next_of, no_entry, no_node, node, nodes_of, past_entries, reaches, refl, spot, spot_below, subst, suc, sym, tiles, true, upto, used_count, way, way_below, way_from, zero, ℕ, ◌+◌, ◌<◌, ◌∙◌, ◌∷◌, ◌≡◌, ◌≢◌, ◌≤◌, ◌⊎◌}
 use Rattle.cdf_index.proofs.EntriesLeft.{node_parts}
 use Rattle.cdf_index.proofs.Leading.{Stand, begun_in, below, counted_begun, ends_past, LedBy, is_some, lead, lead_none, leads, led, reached_is, some_node}
 use Rattle.cdf_index.proofs.Coming.{chain_not_reached}
@@ -110,13 +110,12 @@ module _ {b : List ℕ} {f turn levels : ℕ} {nodes : Nodes} {best here : Spot}
       let t = more_left n in
       let p = top b levels there t in
       let sees = subst (λ (x : ℕ). SeesNode b x f next) next_link s in
-      let begun = counted_begun b (link_to there) f next.begun (entries_of there) sees.begun p.used_is p.stand.left.say in
-      let reached = reached_is f p.low p.high (entries_of there) p.stand.order in
-      let on = c.route_is ∙ route_on f c.best_of there t.is_node in
+      let reached = rw (← counted_begun b (link_to there) f next.begun (entries_of there) sees.begun p.used_is p.stand.left.say) at (reached_is f p.low p.high (entries_of there) p.stand.order) in
+      let on = rw reached at (c.route_is ∙ route_on f c.best_of there t.is_node) in
       let fewer : length (nodes_of there) + (turn + 1) ≤ length (nodes_of nodes) = omega (arith, c.fewer, here_top.nodes_left) in
-      elim (either (reaches f (entries_of there))) [
-        | inl r ↦ let e = taken (grind (arith, nat_tests, begun, reached, r)) in record { left = there; tree = t; sees = sees; best_of = there; best_tree = t; best_sees = subst (SeesNode b (link_to there) f) (sym e) sees; route_is = rw r at on; fewer = fewer }
-        | inr r ↦ let e = kept (grind (arith, nat_tests, begun, reached, r)) in record { left = there; tree = t; sees = sees; best_of = c.best_of; best_tree = c.best_tree; best_sees = subst (SeesNode b (link_to c.best_of) f) (sym e) c.best_sees; route_is = rw r at on; fewer = fewer }
+      elim (cases_lt 0 next.begun) [
+        | inl lt ↦ record { left = there; tree = t; sees = sees; best_of = there; best_tree = t; best_sees = subst (SeesNode b (link_to there) f) (sym (taken lt)) sees; route_is = rw (lt-ltb 0 next.begun lt) at on; fewer = fewer }
+        | inr le ↦ record { left = there; tree = t; sees = sees; best_of = c.best_of; best_tree = c.best_tree; best_sees = subst (SeesNode b (link_to c.best_of) f) (sym (kept (omega arith))) c.best_sees; route_is = rw (le-ltb 0 next.begun le) at on; fewer = fewer }
       ]
 
   -- ---- the chain is over, or its other entries are past the record
@@ -141,8 +140,7 @@ module _ {b : List ℕ} {f turn levels : ℕ} {nodes : Nodes} {best here : Spot}
       let low = lead f no_node es in
       let p = top b levels c.best_of c.best_tree in
       let count = counted_begun b (link_to c.best_of) f best.begun es c.best_sees.begun p.used_is p.stand.left.say in
-      let all_begun : 0 + begun_in f es ≡ best.begun = omega (arith, count) in
-      let led_by = rw all_begun at (below b f p.levels_below (link_to c.best_of) 0 p.low p.high no_node es p.stand (record { link = refl; tree = λ x. absurd x })) in
+      let led_by = below b f p.levels_below (link_to c.best_of) 0 best.begun p.low p.high no_node es p.stand (record { link = refl; tree = λ x. absurd x }) (omega (arith, count)) in
       let lower = c.best_sees.lower_is ∙ led_by.link in
       let begun : is_some low ≡ true → 0 < begun_in f es = λ t. grind (arith, nat_tests, lead_none f no_node es, t) in
       let all = c.route_is ∙ rw (over o) (out low count (leads b (tiles b) p.levels_below f no_node es p.stand.left.names) lower (λ is. link_there p.levels_below low (led_by.tree is)) (λ t. led f p.low p.high no_node es p.stand.order (begun t) t)) in

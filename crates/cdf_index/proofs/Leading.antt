@@ -1,5 +1,5 @@
 -- The entries of a node that begin at a record or before it: how many they are, and where the last of them leads to.
-use Rattle.cdf_index.proofs.Common.{AreInOrder, Begins, Begun, Bool, Distinct, Distinct-back, Distinct-front, Entries, IsNode, IsTree, List, Names, Nodes, SayEntries, ap, arith, block, chain_before, down_at, either, entry_count, entry_leaves, false, first_at, if◌then◌else◌, inl, inr, leads_down, leaf, leaves_of, leb, link_to, linkable-type, lower, lower_nodes, ltb, nat_tests, no_entry, no_node, node, nodes_of, past, past_entries, reaches, refl, spot, spot_below, suc, sym, tiles, true, type_at, used_count, vxr_type, way, way_below, ℕ, ◌+◌, ◌<◌, ◌∙◌, ◌≡◌, ◌≤◌}
+use Rattle.cdf_index.proofs.Common.{AreInOrder, Begins, Begun, Bool, Distinct, Distinct-back, Distinct-front, Entries, IsNode, IsTree, List, Names, Nodes, SayEntries, ap, arith, block, chain_before, down_at, either, entry_count, entry_leaves, false, first_at, if◌then◌else◌, inl, inr, leads_down, leaf, leaves_of, leb, link_to, linkable-type, lower, lower_nodes, ltb, nat_tests, no_entry, no_node, node, nodes_of, past, past_entries, reaches, refl, spot, spot_below, suc, sym, tiles, true, type_at, upto, used_count, vxr_type, way, way_below, ℕ, ◌+◌, ◌<◌, ◌∙◌, ◌≡◌, ◌≤◌}
 use Rattle.cdf_index.proofs.EntriesCut.{Parted, one_more, parted_all}
 use Rattle.cdf_index.proofs.EntriesLeft.{EntriesLeft, past_first, past_lower_one}
 use Rattle.cdf_index.proofs.Coming.{not_reached}
@@ -86,24 +86,20 @@ pub record Below (b : List ℕ) (levels at k : ℕ) (low : Nodes) : Type 0 where
   pub link : chain_before b at 0 k ≡ link_to low
   pub tree : IsNode low → IsTree b levels low
 
-pub below : (b : List ℕ) (f levels at k low high : ℕ) (before : Nodes) (es : Entries) → Stand b levels at k low high es → Below b levels at k before → Below b levels at (k + begun_in f es) (lead f before es)
+pub below : (b : List ℕ) (f levels at k m low high : ℕ) (before : Nodes) (es : Entries) → Stand b levels at k low high es → Below b levels at k before → m ≡ k + begun_in f es → Below b levels at m (lead f before es)
 unfolding Names lower_nodes nodes_of leaves_of entry_leaves AreInOrder
-below b f levels at k low high before no_entry s w = let z : k + 0 ≡ k = omega arith in rw z w
-below b f levels at k low high before (block first last place packed es) s w =
+below b f levels at k m low high before no_entry s w e = let z : m ≡ k = omega arith in rw z w
+below b f levels at k m low high before (block first last place packed es) s w e =
     let none = no_chain b at k (λ z. no_node_type (type_at b place) (block_type b (leaf first last place packed) s.left.blocks.0) (ap (type_at b) (sym s.left.say.0.offset_is) ∙ z)) in
-    let r = below b f levels at (suc k) (suc last) high no_node es (record { left = past_first s.left; once = s.once; order = s.order.3 }) (record { link = none; tree = λ x. absurd x }) in
-    let z : k + 0 ≡ k = omega arith in
-    let y : k + suc (begun_in f es) ≡ suc k + begun_in f es = omega arith in
-    elim (either (leb first f)) [ inl t ↦ rw (t, y) r | inr t ↦ rw (t, z) w ]
-below b f levels at k low high before (lower first last nodes es) s w =
+    let r = below b f levels at (suc k) m (suc last) high no_node es (record { left = past_first s.left; once = s.once; order = s.order.3 }) (record { link = none; tree = λ x. absurd x }) in
+    elim (either (leb first f)) [ inl t ↦ rw t (r (omega (arith, rw t at e))) | inr t ↦ let z : m ≡ k = omega (arith, rw t at e) in rw (t, z) w ]
+below b f levels at k m low high before (lower first last nodes es) s w e =
     let type = linkable-type b (tiles b) vxr_type (link_to nodes) (node_linkable b levels nodes s.left.names.0 s.left.names.1) in
     let p = past_lower_one s.left in
     let tree : IsTree b levels nodes = record { stands = p.0; is_node = s.left.names.0; once = Distinct-front (nodes_of nodes) (lower_nodes es) s.once; from = first; upto = last; order = s.order.3 } in
-    let r = below b f levels at (suc k) (suc last) high nodes es (record { left = p.1; once = Distinct-back (nodes_of nodes) (lower_nodes es) s.once; order = s.order.4 })
+    let r = below b f levels at (suc k) m (suc last) high nodes es (record { left = p.1; once = Distinct-back (nodes_of nodes) (lower_nodes es) s.once; order = s.order.4 })
     (record { link = chain_is b at k (ap (type_at b) s.left.say.0.offset_is ∙ type) ∙ s.left.say.0.offset_is; tree = λ x. tree }) in
-    let z : k + 0 ≡ k = omega arith in
-    let y : k + suc (begun_in f es) ≡ suc k + begun_in f es = omega arith in
-    elim (either (leb first f)) [ inl t ↦ rw (t, y) r | inr t ↦ rw (t, z) w ]
+    elim (either (leb first f)) [ inl t ↦ rw t (r (omega (arith, rw t at e))) | inr t ↦ let z : m ≡ k = omega (arith, rw t at e) in rw (t, z) w ]
 
 begun_is : (b : List ℕ) (at f k n : ℕ) (es : Entries) → SayEntries b at k es → Parted (λ j. first_at b at j ≤ f) (λ j. f < first_at b at j) k n (entry_count es) → n ≡ begun_in f es
 begun_is b at f k n no_entry s p = let m = p.most in omega arith

@@ -155,18 +155,14 @@ order_come {new = new} (comes_below {more = more} fs first last nodes nodes' es 
     let ul = Each-split (Misses new.first) (leaves_of nodes) (entry_leaves es) (Each-split (Misses new.first) (entry_leaves fs) (entry_leaves (lower first last nodes es)) (subst (Uncovered new.first) (leaves_both fs (lower first last nodes es)) us.0)).1 in
     let nl = Each-split (BeginsBehind new.first new.last) (firsts_of nodes) (entry_firsts es) (firsts_both new.first new.last fs (lower first last nodes es) ns.0).1 in
     let wide = max last new.last in
-    let o1 = p.1.1 in
-    let o2 = p.1.2 in
     let inner = order_come c first wide (widened first last wide nodes (omega arith) p.1.3) le k (omega arith) ul.0 nl.0 in
     let rest = raised_entries new.first new.last (suc last) (suc wide) high es p.1.4 r nl.1 (omega arith) in
-    let end = end_after (suc last) high es p.1.4 in
-    let past_all : past_entries low whole ≡ past_entries (suc last) es = past_both low fs (lower first last nodes es) in
-    let past_now : past_entries low (with_both fs (lower first wide nodes' es)) ≡ past_entries (suc wide) es = past_both low fs (lower first wide nodes' es) in
-    (both_in_order low high fs (lower first wide nodes' es) p.0 (p.1.0, omega arith, omega arith, inner, rest), raised new.first new.last (past_entries low whole) (past_entries low (with_both fs (lower first wide nodes' es))) high more o.1 t ns.1 (omega (arith, past_most (suc last) (suc wide) es)))
+    let past_all = past_both low fs (lower first last nodes es) in
+    let past_now = past_both low fs (lower first wide nodes' es) in
+    (both_in_order low high fs (lower first wide nodes' es) p.0 (p.1.0, omega (arith, p.1.1), omega (arith, p.1.2), inner, rest), raised new.first new.last (past_entries low whole) (past_entries low (with_both fs (lower first wide nodes' es))) high more o.1 t ns.1 (omega (arith, past_all, past_now, past_most (suc last) (suc wide) es, end_after (suc last) high es p.1.4)))
 order_come {new = new} {at = at} (comes_here {place = place} {room = room} {es = es} {more = more} t d) low high o l k h u n =
-    let us = Each-split (Misses new.first) (entry_leaves es) (leaves_of more) u in
     let ns = Each-split (BeginsBehind new.first new.last) (entry_firsts es) (firsts_of more) n in
-    order_with_entry new at place room low high es more o d t l k h us.0 ns.0 ns.1
+    order_with_entry new at place room low high es more o d t l k h (Each-split (Misses new.first) (entry_leaves es) (leaves_of more) u).0 ns.0 ns.1
 
 pub order_with_leaf : (new : Leaf) (at : ℕ) (index : Nodes) → InOrder 0 record_number_limit index → new.first ≤ new.last → find (λ (leaf : Leaf). covers new.first (range leaf.first leaf.last)) (leaves_of index) ≡ None → new.last < next_first new.first (firsts_of index)
     → InOrder 0 record_number_limit (with_leaf new at index)

@@ -1,5 +1,5 @@
 -- The way down to the place of a new entry, from level to level.
-use Rattle.cdf_index.proofs.Common.{AreTiles, Each, Each-append, HasIndex, In, InOrder, IsAmong, IsTree, List, Nodes, SomeTree, Spot, SpotIs, Step, StepSays, [], ap, append-nil, append_assoc, arith, false, index_at, leaf, length, link_to, map, map-append, nodes_of, record_number_limit, refl, room_at, spot, step_pair, subst, sym, tiles, way, ℕ, ◌++◌, ◌+◌, ◌-◌, ◌∙◌, ◌∷◌, ◌≡◌, ◌≢◌, ◌≤◌}
+use Rattle.cdf_index.proofs.Common.{AreTiles, Each, Each-append, HasIndex, In, InOrder, IsAmong, IsTree, List, Nodes, SomeTree, Spot, SpotIs, Step, StepSays, [], append-nil, append_assoc, arith, false, index_at, leaf, length, link_to, lower, map, map-append, nodes_of, record_number_limit, refl, spot, step_pair, subst, sym, tiles, upto, way, within, ℕ, ◌++◌, ◌+◌, ◌-◌, ◌∷◌, ◌≡◌, ◌≢◌, ◌≤◌}
 use Rattle.cdf_index.proofs.Ascending.{index_stands}
 use Rattle.cdf_index.proofs.Coming.{comes}
 use Rattle.cdf_index.proofs.GoingDown.{top}
@@ -38,13 +38,10 @@ module _ {b : List ℕ} {f turn : ℕ} {total : Nodes} {passed : List Step} {end
   next_level tiled n = record { levels = d.ends.down; nodes = d.ends.low; tiled = tiled; tree = d.ends.below n; link = d.ends.lower_is }
 
   pub way_done : end.lower ≡ 0 → map step_pair passed ≡ way f total
-  way_done e =
-      let t = eq-eqb end.lower 0 e in
-      let none : way f d.nodes ≡ [] = d.ends.way_is ∙ rw t refl in
-      rw (d.way_is, none, append-nil) refl
+  way_done e = let t = eq-eqb end.lower 0 e in rw (d.way_is, d.ends.way_is, t, append-nil) refl
 
   pub end_done : end.lower ≡ 0 → end.place ≡ spot f total
-  end_done e = let t = eq-eqb end.lower 0 e in let here : spot f d.nodes ≡ end.place = d.ends.end_is ∙ rw t refl in sym (d.end_is ∙ here)
+  end_done e = let t = eq-eqb end.lower 0 e in rw (d.end_is, d.ends.end_is, t) refl
 
   pub all_among : InOrder 0 record_number_limit total → end.lower ≡ 0 → Each (IsAmong total) passed
   all_among o e = pairs_among passed (subst (λ (w : List (ℕ × ℕ)). AllIn w (nodes_of total)) (sym (way_done e)) (way_in f 0 record_number_limit total o).0)
@@ -53,23 +50,19 @@ module _ {b : List ℕ} {f turn : ℕ} {total : Nodes} {passed : List Step} {end
       pairs_among [] a = tt
       pairs_among (step ∷ more) a = (a.0, pairs_among more a.1)
 
-  pub descend_more : (step : Step) (next : Spot) → end.lower ≢ 0 → step.place ≡ end.place → step.entry ≡ end.begun - 1 → step.room ≡ end.room → ((levels : ℕ) (nodes : Nodes) → IsTree b levels nodes → end.lower ≡ link_to nodes → SpotIs b f levels nodes next) → Descending b f (turn + 1) total (passed ++ step ∷ []) next
-  descend_more step next n p i r s =
+  pub descend_more : (next : Spot) → end.lower ≢ 0 → ((levels : ℕ) (nodes : Nodes) → IsTree b levels nodes → end.lower ≡ link_to nodes → SpotIs b f levels nodes next)
+      → Descending b f (turn + 1) total (passed ++ record { place = end.place; room = end.room; entry = end.begun - 1 } ∷ []) next
+  descend_more next n s =
       let t = ne_eqb end.lower 0 n in
-      let here : way f d.nodes ≡ (end.place, end.begun - 1) ∷ way f d.ends.low = d.ends.way_is ∙ rw t refl in
-      let there : spot f d.nodes ≡ spot f d.ends.low = d.ends.end_is ∙ rw t refl in
-      let some = d.ends.leads n in
-      let most = d.ends.sees.begun.most in
-      let says : StepSays b step = record { room_is = r ∙ d.ends.sees.room_is ∙ ap (room_at b) (sym p); within = rw p (omega arith) } in
       record {
         levels = d.ends.down;
         nodes = d.ends.low;
         tree = d.ends.below n;
         deep = omega (arith, d.deep, d.ends.fewer n);
         ends = s d.ends.down d.ends.low (d.ends.below n) d.ends.lower_is;
-        way_is = d.way_is ∙ rw here (simp (map-append, append_assoc, p, i));
-        end_is = d.end_is ∙ there;
-        say = Each-append (StepSays b) passed (step ∷ []) d.say (says, tt);
+        way_is = rw (d.way_is, d.ends.way_is, t, map-append, append_assoc) refl;
+        end_is = rw (d.end_is, d.ends.end_is, t) refl;
+        say = Each-append (StepSays b) passed _ d.say (record { room_is = d.ends.sees.room_is; within = omega (arith, d.ends.leads n) }, tt);
       }
 
   pub descend_never : 8 ≤ turn → ⊥
@@ -77,5 +70,4 @@ module _ {b : List ℕ} {f turn : ℕ} {total : Nodes} {passed : List Step} {end
 
 pub last_among : {b : List ℕ} {head f turn : ℕ} {passed : List Step} {end : Spot} → HasIndex b head → head ≢ 0 → Descending b f turn (index_at b head) passed end → end.lower ≡ 0 → In end.place (nodes_of (index_at b head))
 last_among {b = b} {head = head} {f = f} has some d e =
-    let come = comes (leaf f 0 0 false) 0 0 record_number_limit (index_at b head) has.order in
-    rw (end_done d e) (spot_there come b (tiles b) 8 has.index.has_nodes (index_tree b head has some).is_node)
+    rw (end_done d e) (spot_there (comes (leaf f 0 0 false) 0 0 record_number_limit (index_at b head) has.order) b (tiles b) 8 has.index.has_nodes (index_tree b head has some).is_node)

@@ -44,8 +44,7 @@ node_inside b at n =
     let o = node_opened n in
     let lies = tile_lies b 8 (length b) (tiles b) at n.tiled (linkable-in b (tiles b) vxr_type at o.parts.says.linkable) in
     let fits = o.here.fits in
-    let f0 = fits.0 in
-    record { low = lies.low; inside = lies.high; room = omega (arith, lies.high); entries = f0; fits = fits.1 }
+    record { low = lies.low; inside = lies.high; room = omega (arith, lies.high); entries = fits.0; fits = fits.1 }
 
 -- ---- from the node at which a search is
 
@@ -117,12 +116,11 @@ module _ {b : List ℕ} {rec turn at : ℕ} {nodes : Nodes} (a : At b rec turn n
           below = λ h six.
               (let u = le-ltb _ _ h in
               let m = f.of_lower six in
-              let e = pass here over.entry (i + 1) refl f in
               record {
                 left = record { levels = here.down; nodes = f.low; stands = f.stands; link_is = m.0 };
                 same = sym (same ∙ rw (t, u) at (f.find rec (find_in rec here.more)) ∙ m.2 rec);
                 passed = omega (arith, over.steps, rw (t, u) at (f.passed rec (nodes_passed rec here.more)));
-                fewer = omega (arith, e.fewer);
+                fewer = omega (arith, (pass here over.entry (i + 1) refl f).fewer);
                 zero = λ z. (let y = over.zero z in ((f.zero y.0).0, omega (arith, y.1, here.deep), λ is. omega (arith, y.1, here.deep)));
               });
           found = λ h no. same ∙ rw (t, le-ltb _ _ h) at (f.find rec (find_in rec here.more)) ∙ (f.of_block no).1 rec;

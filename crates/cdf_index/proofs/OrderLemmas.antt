@@ -63,8 +63,7 @@ mutual
       → find_entry rec entries other ≡ leaf_of rec (entry_leaves entries ++ zs)
   find_entry_is rec low high no_entry zs other o w e = e
   find_entry_is rec low high (block first last place packed entries) zs other o w e =
-      let tail = behind (suc last) high entries zs o.3 w in
-      grind (arith, nat_tests, find_entry_is rec (suc last) high entries zs other o.3 w e, no_leaf rec (suc last) high (entry_leaves entries ++ zs) tail, o.1)
+      grind (arith, nat_tests, find_entry_is rec (suc last) high entries zs other o.3 w e, no_leaf rec (suc last) high (entry_leaves entries ++ zs) (behind (suc last) high entries zs o.3 w), o.1)
   find_entry_is rec low high (lower first last nodes entries) zs other o w e =
       let tail = behind (suc last) high entries zs o.4 w in
       let inner = leaves_within first last nodes o.3 in

@@ -28,8 +28,7 @@ pub plain_block : (b : List ℕ) (s : Shape) (before : List VariableShape) (v : 
     → (rec : ℕ) (leaf : Leaf) → leaf_of rec (leaves_of v.index) ≡ Some leaf → leaf.packed ≡ false
 plain_block b s before v after good sound all rec leaf found =
     let has = (Each-split (HasVariable b s.records) before (v ∷ after) (subst (Each (HasVariable b s.records)) all good.has_shape.have_variables)).1.0 in
-    let fits = (Each-split (VariableFits b s.records) before (v ∷ after) (subst (Each (VariableFits b s.records)) all sound.variables_fit)).1.0 in
     let one = (found_in (λ (l : Leaf). covers rec (range l.first l.last)) (leaves_of v.index) leaf found).0 in
     let named = of_each (Named b s.records) (leaves_of v.index) leaf (leaves_named b s.records 8 v.index has.indexed.has_nodes) one in
-    let stands = of_each (LeafFits b s.records v.vdr) (leaves_of v.index) leaf fits.2 one in
+    let stands = of_each (LeafFits b s.records v.vdr) (leaves_of v.index) leaf ((Each-split (VariableFits b s.records) before (v ∷ after) (subst (Each (VariableFits b s.records)) all sound.variables_fit)).1.0).2 one in
     sym named.1 ∙ no_packed b s.records leaf.place (block_in b s.records leaf.place stands.0) good.read_types

@@ -69,8 +69,7 @@ module _ {b : List ℕ} {rec turn : ℕ} {nodes : Nodes} {walk : Walk} (w : IsWa
     pub walk_decided : i < used_count b walk.at → (first : ℕ) → first ≡ first_at b walk.at i → IsWalk b rec nodes (turn + 1) (record { best = Some first; at = lower; lower = 0 })
     walk_decided lt first e =
         let h = behind i g.before g.most in
-        let f = entry_here here h.entry lt in
-        walk_down (Some first) h (rw e (sym (first_decides rec (firsts_of h.low.nodes) _ (first_at b walk.at i) walk.best (g.stop lt)) ∙ rw f.firsts at h.same))
+        walk_down (Some first) h (rw e (sym (first_decides rec (firsts_of h.low.nodes) _ (first_at b walk.at i) walk.best (g.stop lt)) ∙ rw (entry_here here h.entry lt).firsts at h.same))
 
     module _ (all : i ≡ used_count b walk.at) where
       none_left : (h : Behind walk here rec turn i nodes) → entry_firsts h.entry.rest ≡ []
@@ -82,8 +81,7 @@ module _ {b : List ℕ} {rec turn : ℕ} {nodes : Nodes} {walk : Walk} (w : IsWa
       unfolding firsts_of
       walk_below tiled next =
           let h = behind i g.before g.most in
-          let none = none_there b w.left.levels here.more tiled here.more_stands.has (sym here.parts.says.next_is ∙ next) in
-          walk_down walk.best h (rw (none_left h, ap firsts_of none, append-nil) at h.same)
+          walk_down walk.best h (rw (none_left h, ap firsts_of (none_there b w.left.levels here.more tiled here.more_stands.has (sym here.parts.says.next_is ∙ next)), append-nil) at h.same)
 
       -- it goes on
       pub walk_along : (next : ℕ) → next ≡ next_of b walk.at → next ≢ 0 → IsWalk b rec nodes (turn + 1) (record { best = walk.best; at = next; lower = lower })
@@ -115,9 +113,7 @@ module _ {b : List ℕ} {head rec : ℕ} (has : HasIndex b head) where
     pub walk_end : walk.at ≡ 0 → walk.best ≡ least_first_past rec (index_at b head)
     unfolding firsts_of
     walk_end e =
-        let none = none_there b w.left.levels w.left.nodes has.tiled w.left.stands.has (sym w.left.link_is ∙ e) in
-        let none_low = none_there b w.low.levels w.low.nodes has.tiled w.low.stands.has (sym w.low.link_is ∙ w.ended e) in
-        rw (none, none_low) at w.same
+        rw ((none_there b w.left.levels w.left.nodes has.tiled w.left.stands.has (sym w.left.link_is ∙ e)), (none_there b w.low.levels w.low.nodes has.tiled w.low.stands.has (sym w.low.link_is ∙ w.ended e))) at w.same
 
     pub walk_turns : Turns b turn walk.at (index_at b head) (length (nodes_of (index_at b head)))
     walk_turns =

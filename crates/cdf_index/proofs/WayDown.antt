@@ -72,10 +72,9 @@ module _ (x : ℕ) (edit : Edit) where
       → redo x edit (node place room (with_both fs (lower first last nodes es)) more) ≡ node place room (with_both fs (lower first last (redo x edit nodes) es)) more
   unfolding redo redo_below
   redo_under place room first last fs es nodes more out =
-      let test = ne_eqb place x (λ e. out (inl (sym e))) in
       let in_es = In-append_left x (lower_nodes es) (nodes_of more) in
       rw (
-        test,
+        (ne_eqb place x (λ e. out (inl (sym e)))),
         redo_both fs (lower first last nodes es),
         redo_below_none x edit fs (λ i. out (inr (In-append_left x (lower_nodes fs) (lower_nodes es ++ nodes_of more) i))),
         redo_below_none x edit es (λ i. out (inr (In-append_right x (lower_nodes fs) (lower_nodes es ++ nodes_of more) (in_es i)))),
@@ -90,8 +89,7 @@ module _ (last : ℕ) (whole : Nodes → Nodes) (out : List ℕ) (past : (x : �
 
   made_in : (w : List (ℕ × ℕ)) (x : ℕ) (xs : List ℕ) (edit : Edit) (m : Nodes) → LiesIn w x xs → x ≢ 0 → ((y : ℕ) → In y xs → In y out → ⊥) → widen_all last w (redo x edit (whole m)) ≡ whole (widen_all last w (redo x edit m))
   made_in w x xs edit m l some apart =
-      let here = past x edit m (elim l.1 [ inl z ↦ absurd (some z) | inr i ↦ apart x i ]) in
-      ap (widen_all last w) here ∙ widen_in w xs (redo x edit m) l.0 apart
+      ap (widen_all last w) (past x edit m (elim l.1 [ inl z ↦ absurd (some z) | inr i ↦ apart x i ])) ∙ widen_in w xs (redo x edit m) l.0 apart
 
 widened_both : (last : ℕ) (fs : Entries) (first end : ℕ) (nodes : Nodes) (es : Entries) → widened last (entry_count fs) (with_both fs (lower first end nodes es)) ≡ with_both fs (lower first (max end last) nodes es)
 widened_both last no_entry first end nodes es = refl

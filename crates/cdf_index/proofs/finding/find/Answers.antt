@@ -8,8 +8,7 @@ returns-then-at-eq0-clause-value g c = none_left c.requires.index c.loop-turn.in
 pub returns-in-End-clause-value : goal.returns-in-End-clause-value
 returns-in-End-clause-value g c =
     let i = c.loop-turn.invariant in
-    let told = rw (c.in-End.is, c.read_node.ensures.area.image, i.area.image) at c.in_ok-link.ensures.told in
-    answer c.requires.index c.args.rec _ (told _ c.loop-turn.turn i.at)
+    answer c.requires.index c.args.rec _ ((rw (c.in-End.is, c.read_node.ensures.area.image, i.area.image) at c.in_ok-link.ensures.told) _ c.loop-turn.turn i.at)
 
 pub loop-turn-init : goal.loop-turn-init
 loop-turn-init g c = record { at = at_start c.requires.index; turns = turns c.requires.index (at_start c.requires.index); area = search rules; steps = omega arith }
@@ -17,8 +16,7 @@ loop-turn-init g c = record { at = at_start c.requires.index; turns = turns c.re
 pub loop-turn-preserved : goal.loop-turn-preserved
 loop-turn-preserved g c =
     let i = c.loop-turn.invariant in
-    let told = rw (c.in-On.is, c.read_node.ensures.area.image, i.area.image) at c.in_ok-link.ensures.told in
-    let next = told _ c.loop-turn.turn i.at in
+    let next = (rw (c.in-On.is, c.read_node.ensures.area.image, i.area.image) at c.in_ok-link.ensures.told) _ c.loop-turn.turn i.at in
     record {
       at = next;
       turns = turns c.requires.index next;

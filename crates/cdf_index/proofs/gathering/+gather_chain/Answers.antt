@@ -27,8 +27,7 @@ pub loop-i-preserved : goal.loop-i-preserved
 loop-i-preserved g t c =
     let l = c.loop-i in
     let b = g.A.Area.image c.args.area.now in
-    let h = rw c.loop-turn.invariant.area.image at c.in_ok-head.ensures.head in
-    let lt : l.i < used_count b c.loop-turn.at = omega (arith, h.used_is) in
+    let lt : l.i < used_count b c.loop-turn.at = omega (arith, (rw c.loop-turn.invariant.area.image at c.in_ok-head.ensures.head).used_is) in
     let place = rw l.invariant.area.image at c.in_ok-named.ensures.place in
     let kind = rw l.invariant.area.image at c.in_ok-named.ensures.kind in
     let same = c.in_ok-named.ensures.area.image ∙ l.invariant.area.image in

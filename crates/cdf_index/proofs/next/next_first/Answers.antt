@@ -11,8 +11,7 @@ loop-turn-init g c = record { walk = walk_start c.requires.index; turns = walk_t
 pub loop-turn-preserved : goal.loop-turn-preserved
 loop-turn-preserved g c =
     let i = c.loop-turn.invariant in
-    let told = rw (c.read_node.ensures.area.image, i.area.image) at c.in_ok-walk.ensures.told in
-    let next = told _ c.loop-turn.turn i.walk in
+    let next = (rw (c.read_node.ensures.area.image, i.area.image) at c.in_ok-walk.ensures.told) _ c.loop-turn.turn i.walk in
     record {
       walk = next;
       turns = walk_turns c.requires.index next;
