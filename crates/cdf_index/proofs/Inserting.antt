@@ -11,11 +11,7 @@ pub room_stays : (b now : List ℕ) (at n : ℕ) → Changed b now (touch at 28 
 room_stays b now at n c room = front_stays b now at 28 n c room 20 4 (omega arith)
 
 pub used_stays : (b now : List ℕ) (at n : ℕ) → Changed b now (touch at 28 n ∷ []) → at + 28 ≤ length b → used_count now at ≡ used_count b at
-used_stays b now at n c room =
-    let u = front_stays b now at 28 n c room 24 4 (omega arith) in
-    let r = room_stays b now at n c room in
-    let s = front_stays b now at 28 n c room 0 8 (omega arith) in
-    λ i. counts (u i) (r i) (s i)
+used_stays b now at n c room = λ i. counts (front_stays b now at 28 n c room 24 4 (omega arith) i) (room_stays b now at n c room i) (front_stays b now at 28 n c room 0 8 (omega arith) i)
 
 pub inside_stays : (b now : List ℕ) (at n : ℕ) → Changed b now (touch at 28 n ∷ []) → length now ≡ length b → NodeInside b at → NodeInside now at
 inside_stays b now at n c long i =

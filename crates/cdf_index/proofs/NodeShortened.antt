@@ -62,8 +62,7 @@ shortened b mid mid2 mid3 now at used p first last offset next inside short fits
     let m = set_more inside cl.as_long cl.changed set in
     let c = count_set inside short m.as_long m.changed (omega arith) write in
     let linked : FieldSet mid3 now at vxr_vxr_next next = field_set (let h = node_head inside in let l = c.as_long in omega arith) link in
-    let says : (j : ℕ) → StillSays mid2 now at j j = λ j f l o s. entries_beside linked (omega arith) (omega arith) (inl (omega arith)) j f l o (c.entries j f l o s) in
-    let kept : (j : ℕ) → j < room_at b at → j ≢ p → StillSays mid now at j j = λ j lt ne f l o s. says j f l o (m.others j lt ne f l o s) in
+    let kept : (j : ℕ) → j < room_at b at → j ≢ p → StillSays mid now at j j = λ j lt ne f l o s. entries_beside linked (omega arith) (omega arith) (inl (omega arith)) j f l o (c.entries j f l o (m.others j lt ne f l o s)) in
     let size = size_beside linked (omega arith) (omega arith) (inl (omega arith)) ∙ c.size_is in
     let room = room_beside linked (omega arith) (omega arith) (inl (omega arith)) ∙ c.room_is in
     let count : number now at vxr_n_used_entries ≡ suc p = linked.past (at + 24) 4 (inr (omega arith)) ∙ c.count_is ∙ omega arith in
@@ -71,7 +70,7 @@ shortened b mid mid2 mid3 now at used p first last offset next inside short fits
       as_long = linked.as_long ∙ c.as_long;
       changed = changed_again (changed_wider 12 (16 + 16 * room_at b at) c.changed (omega arith) (omega arith)) c.as_long (changed_wider 12 (16 + 16 * room_at b at) linked.changed (omega arith) (omega arith));
       earlier = λ j lt f l o s. kept j (omega arith) (λ e. absurd (omega arith)) f l o (cl.others j (omega arith) (inl (omega arith)) f l o s);
-      here = says p first last offset set.here;
+      here = entries_beside linked (omega arith) (omega arith) (inl (omega arith)) p first last offset (c.entries p first last offset set.here);
       gone = λ j lo hi. kept j (omega arith) (λ e. absurd (omega arith)) _ _ _ (cl.gone j (omega arith) hi);
       unused = λ j le lt f l o s. kept j lt (λ e. absurd (omega arith)) f l o (cl.others j lt (inr le) f l o s);
       room_stays = room;

@@ -7,14 +7,9 @@ module _ (b now records : List ℕ) (tiled : AreTiles b 8 (length b) records) (a
   lies_there = (inl (there, fits), tt)
 
   pub heads_stay : SameHeads b now records records
-  heads_stay = record {
-    sizes = λ m i. word_kept b now (m + 0) (m + 12) (front m i) (m + 0) 8 (omega arith) (omega arith);
-    types = λ m i. word_kept b now (m + 0) (m + 12) (front m i) (m + 8) 4 (omega arith) (omega arith);
-    sub = λ m i. i;
-  }
-    where
-      front : (m : ℕ) → In m records → Same b now (m + 0) (m + 12)
-      front m i = changed_part b now records (length b) tiled (omega arith) (touch at from n ∷ []) change lies_there m 0 12 i (tile_lies b 8 (length b) records m tiled i).long ((λ e. inl later), tt)
+  heads_stay =
+      let front = λ (m : ℕ) (i : In m records). changed_part b now records (length b) tiled (omega arith) (touch at from n ∷ []) change lies_there m 0 12 i (tile_lies b 8 (length b) records m tiled i).long ((λ e. inl later), tt) in
+      record { sizes = λ m i. word_kept b now (m + 0) (m + 12) (front m i) (m + 0) 8 (omega arith) (omega arith); types = λ m i. word_kept b now (m + 0) (m + 12) (front m i) (m + 8) 4 (omega arith) (omega arith); sub = λ m i. i }
 
   pub others_stay : (m : ℕ) → In m records → m ≢ at → Kept b now m
   others_stay m i ne =
