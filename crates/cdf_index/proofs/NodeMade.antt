@@ -1,5 +1,5 @@
 -- A record becomes a node.
-use Rattle.cdf_index.proofs.Common.{Changed, Entry, EntrySet, HasRoomFor, HeadWritten, List, NodeInside, NodeWritten, SaysEntry, SaysFirst, [], arith, cases_eq, entry_in, field, image_limit, inl, inr, length, number, refl, room_at, size_at, subst, touch, used_count, with_field, ℕ, ◌*◌, ◌+◌, ◌<◌, ◌^◌, ◌∙◌, ◌∷◌, ◌≡◌, ◌≤◌}
+use Rattle.cdf_index.proofs.Common.{rules, Changed, Entry, EntrySet, HasRoomFor, HeadWritten, List, NodeInside, NodeWritten, SaysEntry, SaysFirst, [], arith, cases_eq, entry_in, field, image_limit, inl, inr, length, number, refl, room_at, size_at, subst, touch, used_count, with_field, ℕ, ◌*◌, ◌+◌, ◌<◌, ◌^◌, ◌∙◌, ◌∷◌, ◌≡◌, ◌≤◌}
 use Rattle.cdf_index.proofs.FieldSet.{FieldSet, field_set, changed_again, changed_wider, counts, count_is, node_head}
 use Rattle.cdf_index.proofs.Inserting.{front_stays, used_stays, room_stays, inside_stays, nothing_changed, set_more}
 
@@ -15,16 +15,12 @@ head_written b b1 b2 b3 now at room used next h few short next_fits one two thre
     let count : number now at (field 24 4) ≡ used = counted_now.reads (omega arith) in
     let used_is : used_count now at ≡ used = (λ i. counts (count i) (room_is i) (size i)) ∙ count_is used room (28 + 16 * room) few (omega arith) (omega arith) in
     let front = changed_again (changed_wider 8 20 typed.changed (omega arith) (omega arith)) typed.as_long (changed_wider 8 20 linked.changed (omega arith) (omega arith)) in
-    record {
-      as_long = omega arith;
-      changed = changed_again (changed_again front (omega arith) (changed_wider 8 20 roomed.changed (omega arith) (omega arith))) (omega arith) (changed_wider 8 20 counted_now.changed (omega arith) (omega arith));
-      type_is = counted_now.past (at + 8) 4 (inl (omega arith)) ∙ roomed.past (at + 8) 4 (inl (omega arith)) ∙ linked.past (at + 8) 4 (inl (omega arith)) ∙ typed.reads (omega arith);
-      next_is = counted_now.past (at + 12) 8 (inl (omega arith)) ∙ roomed.past (at + 12) 8 (inl (omega arith)) ∙ linked.reads (omega arith);
-      room_is = room_is;
-      inside = record { low = h.low; inside = omega arith; room = omega arith; entries = omega (arith, size, room_is); fits = omega (arith, used_is, room_is) };
-      used_is = used_is;
-      count_is = count;
-    }
+    let as_long : length now ≡ length b = omega arith in
+    let changed = changed_again (changed_again front (omega arith) (changed_wider 8 20 roomed.changed (omega arith) (omega arith))) (omega arith) (changed_wider 8 20 counted_now.changed (omega arith) (omega arith)) in
+    let type_is = counted_now.past (at + 8) 4 (inl (omega arith)) ∙ roomed.past (at + 8) 4 (inl (omega arith)) ∙ linked.past (at + 8) 4 (inl (omega arith)) ∙ typed.reads (omega arith) in
+    let next_is = counted_now.past (at + 12) 8 (inl (omega arith)) ∙ roomed.past (at + 12) 8 (inl (omega arith)) ∙ linked.reads (omega arith) in
+    let inside : NodeInside now at = record { low = h.low; inside = omega arith; room = omega arith; entries = omega (arith, size, room_is); fits = omega (arith, used_is, room_is) } in
+    search (rules, as_long, changed, type_is, next_is, room_is, inside, used_is, count)
 
 -- ---- the entries, one by one
 
