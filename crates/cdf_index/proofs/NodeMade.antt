@@ -46,14 +46,8 @@ pub node_written : {b head now : List ℕ} {at room next : ℕ} {entries : List 
 node_written {head = head} {now = now} {at = at} {room = room} w m =
     let start = node_head w.inside in
     let c : Changed head now (touch at 28 (16 * room) ∷ []) = subst (λ (x : ℕ). Changed head now (touch at 28 (16 * x) ∷ [])) w.room_is m.changed in
-    record {
-      as_long = m.as_long ∙ w.as_long;
-      changed = changed_again (changed_wider 8 (20 + 16 * room) w.changed (omega arith) (omega arith)) w.as_long (changed_wider 8 (20 + 16 * room) c (omega arith) (omega arith));
-      type_is = front_stays head now at 28 (16 * room) c start 8 4 (omega arith) ∙ w.type_is;
-      next_is = front_stays head now at 28 (16 * room) c start 12 8 (omega arith) ∙ w.next_is;
-      room_is = room_stays head now at (16 * room) c start ∙ w.room_is;
-      used_is = used_stays head now at (16 * room) c start ∙ w.used_is;
-      count_is = front_stays head now at 28 (16 * room) c start 24 4 (omega arith) ∙ w.count_is;
-      inside = inside_stays head now at (16 * room) c m.as_long w.inside;
-      says = m.says;
-    }
+    let changed = changed_again (changed_wider 8 (20 + 16 * room) w.changed (omega arith) (omega arith)) w.as_long (changed_wider 8 (20 + 16 * room) c (omega arith) (omega arith)) in
+    let type_is = front_stays head now at 28 (16 * room) c start 8 4 (omega arith) ∙ w.type_is in
+    let next_is = front_stays head now at 28 (16 * room) c start 12 8 (omega arith) ∙ w.next_is in
+    let count_is = front_stays head now at 28 (16 * room) c start 24 4 (omega arith) ∙ w.count_is in
+    search (rules, m.as_long ∙ w.as_long, changed, type_is, next_is, room_stays head now at (16 * room) c start ∙ w.room_is, used_stays head now at (16 * room) c start ∙ w.used_is, count_is, inside_stays head now at (16 * room) c m.as_long w.inside, m.says)

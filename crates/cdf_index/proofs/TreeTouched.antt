@@ -14,11 +14,7 @@ module _ (b now records : List ℕ) (tiled : AreTiles b 8 (length b) records) (a
   pub others_stay : (m : ℕ) → In m records → m ≢ at → Kept b now m
   others_stay m i ne =
       let l = tile_lies b 8 (length b) records m tiled i in
-      record {
-        same = changed_whole b now records (length b) tiled (omega arith) (touch at from n ∷ []) change lies_there (m ∷ []) m i (inl refl) ((λ j. elim j [ inl e ↦ ne (sym e) | inr none ↦ none ]), tt);
-        inside = l.high;
-        long = l.long;
-      }
+      record { same = changed_whole b now records (length b) tiled (omega arith) (touch at from n ∷ []) change lies_there (m ∷ []) m i (inl refl) ((λ j. elim j [ inl e ↦ ne (sym e) | inr none ↦ none ]), tt); inside = l.high; long = l.long }
 
 -- the edited tree, where one node was touched
 pub edited : (b now records : List ℕ) (at from n levels : ℕ) (edit : Edit) (nodes : Nodes) → AreTiles b 8 (length b) records → In at records → 12 ≤ from → from + n ≤ size_at b at → Changed b now (touch at from n ∷ []) → Owed b now records records at edit
