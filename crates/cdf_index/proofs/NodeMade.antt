@@ -1,7 +1,7 @@
 -- A record becomes a node.
-use Rattle.cdf_index.proofs.Common.{rules, Changed, Entry, EntrySet, HasRoomFor, HeadWritten, List, NodeInside, NodeWritten, SaysEntry, SaysFirst, [], arith, cases_eq, entry_in, field, image_limit, inl, inr, length, number, refl, room_at, size_at, subst, touch, used_count, with_field, ℕ, ◌*◌, ◌+◌, ◌<◌, ◌^◌, ◌∙◌, ◌∷◌, ◌≡◌, ◌≤◌}
+use Rattle.cdf_index.proofs.Common.{rules, Changed, Entry, EntrySet, HasRoomFor, HeadWritten, List, NodeInside, NodeWritten, SaysEntry, SaysFirst, [], arith, cases_eq, entry_in, field, image_limit, inl, inr, length, number, room_at, size_at, subst, touch, used_count, with_field, ℕ, ◌*◌, ◌+◌, ◌<◌, ◌^◌, ◌∙◌, ◌∷◌, ◌≡◌, ◌≤◌}
 use Rattle.cdf_index.proofs.FieldSet.{FieldSet, field_set, changed_again, changed_wider, counts, count_is, node_head}
-use Rattle.cdf_index.proofs.Inserting.{front_stays, used_stays, room_stays, inside_stays, nothing_changed, set_more}
+use Rattle.cdf_index.proofs.Inserting.{front_stays, used_stays, room_stays, inside_stays, set_more}
 
 pub head_written : (b b1 b2 b3 now : List ℕ) (at room used next : ℕ) → HasRoomFor b at room → used ≤ room → length b ≤ image_limit → next < 2 ^ 64 → b1 ≡ with_field b at (field 8 4) 6 → b2 ≡ with_field b1 at (field 12 8) next → b3 ≡ with_field b2 at (field 20 4) room → now ≡ with_field b3 at (field 24 4) used → HeadWritten b now at room used next
 head_written b b1 b2 b3 now at room used next h few short next_fits one two three four =

@@ -2,7 +2,7 @@
 use Rattle.cdf_index.proofs.Common.{rules, Cleared, EntriesRead, Entry, EntrySet, List, NodeInside, SaysEntry, Shortened, StillSays, Widened, [], ap, arith, cases_eq, entry_in, image_limit, inl, inr, length, length-append, max, number, refl, room_at, suc, sym, vxr_n_used_entries, vxr_vxr_next, with_field, zero, ℕ, ◌*◌, ◌++◌, ◌+◌, ◌<◌, ◌^◌, ◌∙◌, ◌∷◌, ◌≡◌, ◌≢◌, ◌≤◌}
 use Rattle.cdf_index.specs.Writing.{SaysUnused}
 use Rattle.cdf_index.proofs.FieldSet.{FieldSet, field_set, changed_again, changed_wider, node_head, used_by_count, size_beside, room_beside, entries_beside}
-use Rattle.cdf_index.proofs.Inserting.{count_set, nothing_changed, set_more}
+use Rattle.cdf_index.proofs.Inserting.{count_set, set_more}
 
 -- ---- an entry that ends later
 

@@ -1,5 +1,5 @@
 -- One node of an index was touched behind its first 12 bytes: what stays, and what the tree becomes.
-use Rattle.cdf_index.proofs.Common.{AreTiles, Changed, Distinct, Edit, HasNodes, In, Kept, Leaf, List, NodeFits, Nodes, Owed, Placed, Same, SameHeads, [], arith, inl, inr, leaves_of, length, map, nodes_of, redo, redone, refl, size_at, sym, tile_lies, touch, word_kept, ℕ, ◌+◌, ◌∷◌, ◌≢◌, ◌≤◌}
+use Rattle.cdf_index.proofs.Common.{AreTiles, Changed, Distinct, Edit, HasNodes, In, Kept, Leaf, List, NodeFits, Nodes, Owed, Placed, SameHeads, [], arith, inl, inr, leaves_of, length, map, nodes_of, redo, redone, refl, size_at, sym, tile_lies, touch, word_kept, ℕ, ◌+◌, ◌∷◌, ◌≢◌, ◌≤◌}
 use Rattle.cdf_edits.proofs.Frame.ChangedBytes.{changed_part, changed_whole}
 
 module _ (b now records : List ℕ) (tiled : AreTiles b 8 (length b) records) (at from n : ℕ) (there : In at records) (later : 12 ≤ from) (fits : from + n ≤ size_at b at) (change : Changed b now (touch at from n ∷ [])) where
