@@ -1,5 +1,5 @@
 -- An entry more in a node: those behind it stand one further.
-use Rattle.cdf_index.proofs.Common.{Changed, EntrySet, Inserted, List, NodeInside, SaysEntry, StillSays, Touch, [], arith, cases_eq, image_limit, inl, inr, length, number, refl, room_at, size_at, subst, suc, sym, touch, used_count, vxr_n_used_entries, with_field, word, word-same, ℕ, ◌*◌, ◌+◌, ◌-◌, ◌<◌, ◌∙◌, ◌∷◌, ◌≡◌, ◌≢◌, ◌≤◌}
+use Rattle.cdf_index.proofs.Common.{rules, Changed, EntrySet, Inserted, List, NodeInside, SaysEntry, StillSays, Touch, [], arith, cases_eq, image_limit, inl, inr, length, number, refl, room_at, size_at, subst, suc, sym, touch, used_count, vxr_n_used_entries, with_field, word, word-same, ℕ, ◌*◌, ◌+◌, ◌-◌, ◌<◌, ◌∙◌, ◌∷◌, ◌≡◌, ◌≢◌, ◌≤◌}
 use Rattle.cdf_index.proofs.FieldSet.{FieldSet, field_set, changed_again, changed_wider, counts, node_head, node_small, used_by_count, size_beside, room_beside, entries_beside}
 
 -- ---- what stands before a place in a node stays
@@ -11,11 +11,7 @@ pub room_stays : (b now : List ℕ) (at n : ℕ) → Changed b now (touch at 28 
 room_stays b now at n c room = front_stays b now at 28 n c room 20 4 (omega arith)
 
 pub used_stays : (b now : List ℕ) (at n : ℕ) → Changed b now (touch at 28 n ∷ []) → at + 28 ≤ length b → used_count now at ≡ used_count b at
-used_stays b now at n c room =
-    let u = front_stays b now at 28 n c room 24 4 (omega arith) in
-    let r = room_stays b now at n c room in
-    let s = front_stays b now at 28 n c room 0 8 (omega arith) in
-    λ i. counts (u i) (r i) (s i)
+used_stays b now at n c room = λ i. counts (front_stays b now at 28 n c room 24 4 (omega arith) i) (room_stays b now at n c room i) (front_stays b now at 28 n c room 0 8 (omega arith) i)
 
 pub inside_stays : (b now : List ℕ) (at n : ℕ) → Changed b now (touch at 28 n ∷ []) → length now ≡ length b → NodeInside b at → NodeInside now at
 inside_stays b now at n c long i =
@@ -54,15 +50,8 @@ count_set {b = b} {mid = mid} {now = now} {at = at} {n = n} inside short long c 
     let size = size_beside set (omega arith) (omega arith) (inr (omega arith)) ∙ front_stays b mid at 28 (16 * room_at b at) c head 0 8 (omega arith) in
     let room = room_beside set (omega arith) (omega arith) (inr (omega arith)) ∙ room_stays b mid at (16 * room_at b at) c head in
     let count = set.reads (omega arith) in
-    record {
-      as_long = set.as_long ∙ long;
-      changed = changed_again (changed_wider 24 (4 + 16 * room_at b at) c (omega arith) (omega arith)) long (changed_wider 24 (4 + 16 * room_at b at) set.changed (omega arith) (omega arith));
-      size_is = size;
-      room_is = room;
-      count_is = count;
-      used_is = used_by_count now inside short count room size few;
-      entries = entries_beside set (omega arith) (omega arith) (inr (omega arith));
-    }
+    let changed = changed_again (changed_wider 24 (4 + 16 * room_at b at) c (omega arith) (omega arith)) long (changed_wider 24 (4 + 16 * room_at b at) set.changed (omega arith) (omega arith)) in
+    search (rules, set.as_long ∙ long, changed, size, room, count, used_by_count now inside short count room size few, entries_beside set (omega arith) (omega arith) (inr (omega arith)))
 
 -- ---- entries move on, the last one first
 
@@ -98,17 +87,10 @@ shift_more {used = used} {k = k} sh inside room more read set =
 -- ---- the new entry, and the count
 
 pub inserted : {b mid mid2 now : List ℕ} {at used p first last offset : ℕ} → Shifted b mid at used (used - p) → NodeInside b at → length b ≤ image_limit → used < room_at b at → p ≤ used → EntrySet mid mid2 at p first last offset → now ≡ with_field mid2 at vxr_n_used_entries (suc used) → Inserted b now at used p first last offset
-inserted {p = p} {first = first} {last = last} {offset = offset} sh inside short room place set write =
+inserted {b = b} {now = now} {at = at} {used = used} {p = p} {first = first} {last = last} {offset = offset} sh inside short room place set write =
     let m = set_more inside sh.as_long sh.changed set in
     let c = count_set inside short m.as_long m.changed room write in
-    record {
-      as_long = c.as_long;
-      changed = c.changed;
-      earlier = λ j lt f l o s. c.entries j f l o (m.others j (omega arith) (λ e. absurd (omega arith)) f l o (sh.stay j (omega arith) f l o s));
-      here = c.entries p first last offset set.here;
-      later = λ j le lt f l o s. c.entries (suc j) f l o (m.others (suc j) (omega arith) (λ e. absurd (omega arith)) f l o (sh.moved_on j (omega arith) lt f l o s));
-      unused = λ j lt in_room f l o s. c.entries j f l o (m.others j in_room (λ e. absurd (omega arith)) f l o (sh.unused j lt in_room f l o s));
-      room_stays = c.room_is;
-      used_is = c.used_is;
-      count_is = c.count_is;
-    }
+    let earlier : (j : ℕ) → j < p → StillSays b now at j j = λ j lt f l o s. c.entries j f l o (m.others j (omega arith) (λ e. absurd (omega arith)) f l o (sh.stay j (omega arith) f l o s)) in
+    let later : (j : ℕ) → p ≤ j → j < used → StillSays b now at j (suc j) = λ j le lt f l o s. c.entries (suc j) f l o (m.others (suc j) (omega arith) (λ e. absurd (omega arith)) f l o (sh.moved_on j (omega arith) lt f l o s)) in
+    let unused : (j : ℕ) → used < j → j < room_at b at → StillSays b now at j j = λ j lt in_room f l o s. c.entries j f l o (m.others j in_room (λ e. absurd (omega arith)) f l o (sh.unused j lt in_room f l o s)) in
+    search (rules, c, earlier, c.entries p first last offset set.here, later, unused)

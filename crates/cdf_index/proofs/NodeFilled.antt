@@ -1,5 +1,5 @@
 -- A record that was taken becomes a node: the image is sound with it, and has its content.
-use Rattle.cdf_index.proofs.Common.{Changed, Entry, Fills, HasRoomFor, IsSound, List, NodeWritten, Shape, Takes, [], apart, arith, content, fixed_size, is_a-in, is_record_type, length, refl, rules, shape, shape_is, size_at, subst, sym, tile_lies, touch, true, uir_type, vxr_bytes, vxr_type, with_space, ℕ, ◌*◌, ◌+◌, ◌-◌, ◌∙◌, ◌∷◌, ◌≡◌, ◌≤◌}
+use Rattle.cdf_index.proofs.Common.{Changed, Entry, Fills, HasRoomFor, IsSound, List, NodeWritten, Shape, Takes, [], apart, arith, content, fixed_size, is_a-in, is_record_type, length, refl, rules, shape, shape_is, size_at, subst, sym, tile_lies, touch, true, uir_type, vxr_bytes, vxr_type, with_space, ℕ, ◌*◌, ◌+◌, ◌-◌, ◌∷◌, ◌≡◌, ◌≤◌}
 use Rattle.cdf_edits.proofs.Space.RecordFilled.{filled_stays_sound}
 use Rattle.cdf_edits.proofs.Space.TakenLeaves.{takes_longest}
 

@@ -1,5 +1,5 @@
 -- A node with one entry more, or it and a new node behind it, in the tree.
-use Rattle.cdf_index.proofs.Common.{Begins, Chained, Entries, HasNodes, Inserted, IsNode, Leaf, List, MayName, Names, Nodes, Owed, SameHeads, SayEntries, SaysEntry, SaysNode, Split, StillSays, ap, arith, either, entry_count, eqb, inl, inr, is_linkable, le-ltb, length, link_to, linkable_kept, lt-ltb, ltb, max, next_of, no_entry, node, past, placed, room_at, suc, sym, true, used_count, vxr_type, with_block, with_both, ℕ, ◌*◌, ◌+◌, ◌-◌, ◌<◌, ◌∙◌, ◌≡◌, ◌≤◌}
+use Rattle.cdf_index.proofs.Common.{rules, Begins, Chained, Entries, HasNodes, Inserted, IsNode, Leaf, List, MayName, Names, Nodes, Owed, SameHeads, SayEntries, SaysEntry, SaysNode, Split, StillSays, ap, arith, either, entry_count, eqb, inl, inr, is_linkable, le-ltb, length, link_to, linkable_kept, lt-ltb, ltb, max, next_of, no_entry, node, past, placed, room_at, suc, sym, true, used_count, vxr_type, with_block, with_both, ℕ, ◌*◌, ◌+◌, ◌-◌, ◌<◌, ◌∙◌, ◌≡◌, ◌≤◌}
 use Rattle.cdf_index.proofs.Inserting.{front_stays}
 use Rattle.cdf_index.proofs.Saying.{front, front_past, upto_both, upto_is, count_both, say_both, say_parts, names_both, names_parts, say_moved}
 use Rattle.std.proofs.lemmas.Bool.{ne_eqb, eq-eqb}
@@ -53,13 +53,9 @@ module _ (b now records records' : List ℕ) (heads : SameHeads b now records re
       let fr = front l.first es in
       let z : p ≡ 0 + entry_count fr = omega (arith, q.front_count) in
       let first = say_moved b now at at 0 0 fr q.say_front (λ j f o w lt says. earlier (0 + j) (omega (arith, q.front_count)) f o w says) in
-      node_has now records' levels at r (with_both fr (with_block l rest)) behind (record {
-        linkable = linkable_kept b now records records' heads vxr_type at h.linkable;
-        next_is = next;
-        room_is = room ∙ h.room_is;
-        used_is = used ∙ omega (arith, q.front_count, count_both fr (with_block l rest));
-        say_entries = say_both now at 0 fr (with_block l rest) first (rw (← z) (here, say));
-      }) (names_both now records' levels fr (with_block l rest) q.names_front (leaf_names now records' levels l rest names n)) m
+      let says = say_both now at 0 fr (with_block l rest) first (rw (← z) (here, say)) in
+      let all : used_count now at ≡ entry_count (with_both fr (with_block l rest)) = used ∙ omega (arith, q.front_count, count_both fr (with_block l rest)) in
+      node_has now records' levels at r (with_both fr (with_block l rest)) behind (search (rules, linkable_kept b now records records' heads vxr_type at h.linkable, next, room ∙ h.room_is, all, says)) (names_both now records' levels fr (with_block l rest) q.names_front (leaf_names now records' levels l rest names n)) m
 
   -- ---- a node with room
 
@@ -110,12 +106,7 @@ module _ (b now records records' : List ℕ) (heads : SameHeads b now records re
             let bk = past l.first es in
             let test = le-ltb (entry_count es) r (omega (arith, q.all, h.room_is)) in
             let empty : entry_count bk ≡ 0 = omega (arith, q.count) in
-            rw (test, eq-eqb (entry_count bk) 0 empty) (node_has now records' levels at r es (node new (max 7 (entry_count bk)) (with_block l no_entry) more) (record {
-              linkable = linkable_kept b now records records' heads vxr_type at h.linkable;
-              next_is = ch.next_is;
-              room_is = ch.room_stays ∙ h.room_is;
-              used_is = ch.used_is ∙ used_is ∙ h.used_is;
-              say_entries = say_moved b now at at 0 0 es h.say_entries (λ j f o w lt says. ch.stay (0 + j) (omega (arith, q.all)) f o w says);
-            }) n
+            let says = say_moved b now at at 0 0 es h.say_entries (λ j f o w lt says. ch.stay (0 + j) (omega (arith, q.all)) f o w says) in
+            rw (test, eq-eqb (entry_count bk) 0 empty) (node_has now records' levels at r es (node new (max 7 (entry_count bk)) (with_block l no_entry) more) (search (rules, linkable_kept b now records records' heads vxr_type at h.linkable, ch.next_is, ch.room_stays ∙ h.room_is, ch.used_is ∙ used_is ∙ h.used_is, says)) n
             (new_has levels (max 7 (entry_count bk)) (with_block l no_entry) more (ch.new_next ∙ h.next_is) (ch.new_room ∙ ap (max 7) (sym empty)) ch.new_used (ch.here, tt) (leaf_names now records' levels l no_entry names q.names_none) m)));
       }

@@ -1,5 +1,6 @@
 -- A full node that gives up entries.
-use Rattle.cdf_index.proofs.Common.{Cleared, EntriesRead, Entry, EntrySet, List, NodeInside, SaysEntry, Shortened, StillSays, Widened, [], ap, arith, cases_eq, entry_in, image_limit, inl, inr, length, length-append, max, number, refl, room_at, suc, sym, vxr_n_used_entries, vxr_vxr_next, with_field, zero, ℕ, ◌*◌, ◌++◌, ◌+◌, ◌<◌, ◌^◌, ◌∙◌, ◌∷◌, ◌≡◌, ◌≢◌, ◌≤◌}
+use Rattle.cdf_index.proofs.Common.{rules, Cleared, EntriesRead, Entry, EntrySet, List, NodeInside, SaysEntry, Shortened, StillSays, Widened, [], ap, arith, cases_eq, entry_in, image_limit, inl, inr, length, length-append, max, number, refl, room_at, suc, sym, vxr_n_used_entries, vxr_vxr_next, with_field, zero, ℕ, ◌*◌, ◌++◌, ◌+◌, ◌<◌, ◌^◌, ◌∙◌, ◌∷◌, ◌≡◌, ◌≢◌, ◌≤◌}
+use Rattle.cdf_index.specs.Writing.{SaysUnused}
 use Rattle.cdf_index.proofs.FieldSet.{FieldSet, field_set, changed_again, changed_wider, node_head, used_by_count, size_beside, room_beside, entries_beside}
 use Rattle.cdf_index.proofs.Inserting.{count_set, set_more}
 
@@ -23,9 +24,6 @@ in_front (x ∷ xs) ys (suc i) lt = in_front xs ys i (omega arith)
 at_end : (xs : List Entry) (e : Entry) → entry_in (xs ++ e ∷ []) (length xs) ≡ e
 at_end [] e = refl
 at_end (x ∷ xs) e = at_end xs e
-
-pub read_none : (b : List ℕ) (at from : ℕ) → EntriesRead b at from from []
-read_none b at from = record { many = omega arith; say = λ i lt. absurd (omega arith) }
 
 abbrev SaysIt : List ℕ → ℕ → ℕ → Entry → Type 0
 SaysIt b at i e = SaysEntry b at i e.first e.last e.place
@@ -62,20 +60,14 @@ shortened b mid mid2 mid3 now at used p first last offset next inside short fits
     let m = set_more inside cl.as_long cl.changed set in
     let c = count_set inside short m.as_long m.changed (omega arith) write in
     let linked : FieldSet mid3 now at vxr_vxr_next next = field_set (let h = node_head inside in let l = c.as_long in omega arith) link in
-    let says : (j : ℕ) → StillSays mid2 now at j j = λ j f l o s. entries_beside linked (omega arith) (omega arith) (inl (omega arith)) j f l o (c.entries j f l o s) in
-    let kept : (j : ℕ) → j < room_at b at → j ≢ p → StillSays mid now at j j = λ j lt ne f l o s. says j f l o (m.others j lt ne f l o s) in
+    let kept : (j : ℕ) → j < room_at b at → j ≢ p → StillSays mid now at j j = λ j lt ne f l o s. entries_beside linked (omega arith) (omega arith) (inl (omega arith)) j f l o (c.entries j f l o (m.others j lt ne f l o s)) in
     let size = size_beside linked (omega arith) (omega arith) (inl (omega arith)) ∙ c.size_is in
     let room = room_beside linked (omega arith) (omega arith) (inl (omega arith)) ∙ c.room_is in
     let count : number now at vxr_n_used_entries ≡ suc p = linked.past (at + 24) 4 (inr (omega arith)) ∙ c.count_is ∙ omega arith in
-    record {
-      as_long = linked.as_long ∙ c.as_long;
-      changed = changed_again (changed_wider 12 (16 + 16 * room_at b at) c.changed (omega arith) (omega arith)) c.as_long (changed_wider 12 (16 + 16 * room_at b at) linked.changed (omega arith) (omega arith));
-      earlier = λ j lt f l o s. kept j (omega arith) (λ e. absurd (omega arith)) f l o (cl.others j (omega arith) (inl (omega arith)) f l o s);
-      here = says p first last offset set.here;
-      gone = λ j lo hi. kept j (omega arith) (λ e. absurd (omega arith)) _ _ _ (cl.gone j (omega arith) hi);
-      unused = λ j le lt f l o s. kept j lt (λ e. absurd (omega arith)) f l o (cl.others j lt (inr le) f l o s);
-      room_stays = room;
-      used_is = used_by_count now inside short count room size (omega arith);
-      count_is = count;
-      next_is = linked.reads next_fits;
-    }
+    let as_long = linked.as_long ∙ c.as_long in
+    let changed = changed_again (changed_wider 12 (16 + 16 * room_at b at) c.changed (omega arith) (omega arith)) c.as_long (changed_wider 12 (16 + 16 * room_at b at) linked.changed (omega arith) (omega arith)) in
+    let earlier : (j : ℕ) → j < p → StillSays b now at j j = λ j lt f l o s. kept j (omega arith) (λ e. absurd (omega arith)) f l o (cl.others j (omega arith) (inl (omega arith)) f l o s) in
+    let here = entries_beside linked (omega arith) (omega arith) (inl (omega arith)) p first last offset (c.entries p first last offset set.here) in
+    let gone : (j : ℕ) → p < j → j < used → SaysUnused now at j = λ j lo hi. kept j (omega arith) (λ e. absurd (omega arith)) _ _ _ (cl.gone j (omega arith) hi) in
+    let unused : (j : ℕ) → used ≤ j → j < room_at b at → StillSays b now at j j = λ j le lt f l o s. kept j lt (λ e. absurd (omega arith)) f l o (cl.others j lt (inr le) f l o s) in
+    search (rules, as_long, changed, earlier, here, gone, unused, room, used_by_count now inside short count room size (omega arith), count, linked.reads next_fits)

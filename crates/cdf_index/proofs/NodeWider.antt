@@ -1,5 +1,5 @@
 -- A node on the way whose entry ends later, in the tree.
-use Rattle.cdf_index.proofs.Common.{Entries, List, Names, Owed, SameHeads, SayEntries, SaysEntry, StillSays, Widened, ap, arith, block, entry_count, length, link_to, linkable_kept, lower, max, no_entry, refl, room_at, suc, sym, used_count, vxr_type, widened, wider, zero, ℕ, ◌*◌, ◌+◌, ◌<◌, ◌∙◌, ◌≡◌, ◌≢◌, ◌≤◌}
+use Rattle.cdf_index.proofs.Common.{rules, Entries, List, Names, Owed, SameHeads, SayEntries, SaysEntry, StillSays, Widened, ap, arith, block, entry_count, length, link_to, linkable_kept, lower, max, no_entry, refl, room_at, suc, sym, used_count, vxr_type, widened, wider, zero, ℕ, ◌*◌, ◌+◌, ◌<◌, ◌∙◌, ◌≡◌, ◌≢◌, ◌≤◌}
 use Rattle.cdf_index.proofs.Inserting.{front_stays, room_stays, used_stays}
 use Rattle.cdf_index.proofs.NodeGrown.{node_has}
 use Rattle.cdf_index.proofs.Saying.{say_moved}
@@ -33,11 +33,9 @@ module _ (b now records records' : List ℕ) (heads : SameHeads b now records re
     stands = λ levels r es more h n m.
         (let u = h.used_is in
         let wide = names_widened now records' levels last i es n in
-        node_has now records' levels at r (widened last i es) more (record {
-          linkable = linkable_kept b now records records' heads vxr_type at h.linkable;
-          next_is = front_stays b now at 28 (16 * room_at b at) w.changed inside 12 8 (omega arith) ∙ h.next_is;
-          room_is = room_stays b now at (16 * room_at b at) w.changed inside ∙ h.room_is;
-          used_is = used_stays b now at (16 * room_at b at) w.changed inside ∙ h.used_is ∙ sym wide.1;
-          say_entries = say_widened b now at last i 0 i es (omega arith) w.here (λ j lt ne. w.others j (omega arith) ne) h.say_entries;
-        }) wide.0 m);
+        let next = front_stays b now at 28 (16 * room_at b at) w.changed inside 12 8 (omega arith) ∙ h.next_is in
+        let room = room_stays b now at (16 * room_at b at) w.changed inside ∙ h.room_is in
+        let used = used_stays b now at (16 * room_at b at) w.changed inside ∙ h.used_is ∙ sym wide.1 in
+        let says = say_widened b now at last i 0 i es (omega arith) w.here (λ j lt ne. w.others j (omega arith) ne) h.say_entries in
+        node_has now records' levels at r (widened last i es) more (search (rules, linkable_kept b now records records' heads vxr_type at h.linkable, next, room, used, says)) wide.0 m);
   }

@@ -1,5 +1,5 @@
 -- One node whose record stays, and the entries behind those that it has.
-use Rattle.cdf_index.proofs.Common.{Entry, Kept, List, NodeFits, SameHeads, StillSays, [], arith, entry_in, entry_same, inl, inr, length, next_kept, next_of, number, number_kept, refl, room_at, room_same, size_at, size_kept, subst, suc, sym, type_at, type_kept, unused_entry, used_count, used_same, vxr_n_used_entries, zero, ℕ, ◌<◌, ◌∷◌, ◌≡◌, ◌≤◌}
+use Rattle.cdf_index.proofs.Common.{rules, Entry, Kept, List, NodeFits, SameHeads, StillSays, [], arith, entry_in, entry_same, inl, inr, length, next_kept, next_of, number, number_kept, refl, room_at, room_same, size_at, size_kept, subst, suc, sym, type_at, type_kept, unused_entry, used_count, used_same, vxr_n_used_entries, zero, ℕ, ◌<◌, ◌∷◌, ◌≡◌, ◌≤◌}
 
 pub one_head : (mid now : List ℕ) (m : ℕ) → Kept mid now m → SameHeads mid now (m ∷ []) (m ∷ [])
 one_head mid now m k = record {
@@ -19,14 +19,10 @@ pub record SameNode (b now : List ℕ) (m : ℕ) : Type 0 where
 pub same_node : (b now : List ℕ) (m : ℕ) → Kept b now m → NodeFits b m → SameNode b now m
 same_node b now m k fits =
     let h = one_head b now m k in
-    record {
-      size_is = h.sizes m (inl refl);
-      room_is = room_same b now (m ∷ []) (m ∷ []) h m k fits;
-      used_is = used_same b now (m ∷ []) (m ∷ []) h m k fits;
-      count_is = number_kept b now m k.same vxr_n_used_entries (omega (arith, fits.0));
-      next_is = next_kept b now m k.same (omega (arith, fits.0));
-      entries = λ j lt f l o e. entry_same b now (m ∷ []) (m ∷ []) h m k fits j f l o lt e;
-    }
+    let entries : (j : ℕ) → j < room_at b m → StillSays b now m j j = λ j lt f l o e. entry_same b now (m ∷ []) (m ∷ []) h m k fits j f l o lt e in
+    let count = number_kept b now m k.same vxr_n_used_entries (omega (arith, fits.0)) in
+    let next = next_kept b now m k.same (omega (arith, fits.0)) in
+    search (rules, h.sizes m (inl refl), room_same b now (m ∷ []) (m ∷ []) h m k fits, used_same b now (m ∷ []) (m ∷ []) h m k fits, count, next, entries)
 
 pub entry_past : (entries : List Entry) (i : ℕ) → length entries ≤ i → entry_in entries i ≡ unused_entry
 entry_past [] i le = refl

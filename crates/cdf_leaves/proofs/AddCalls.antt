@@ -1,5 +1,5 @@
 -- What the calls ask for that add a leaf, and what they leave.
-use Rattle.cdf_leaves.proofs.Common.{AddsLeaf, AreTiles, Begins, Bool, ChainInside, ChainMade, Changed, Comes, Distinct, Each, Each-append, Each-map, Entry, EntryPut, Field, FieldSet, Good, Grew, HasNodes, In, IndexStarted, IndexTouch, Inserted, IsAmong, IsWay, Kept, Kind, Leaf, List, MayName, MayPut, NodeFits, NodeMade, Nodes, Owed, Placed, SameHeads, SameNode, SplitMade, StandsAmong, Step, StepSays, StepStands, VariableShape, WayStands, WidenedAlong, [], ap, apart, arith, begins_by, bytes_eq, cases_eq, cases_lt, chain_end, changed_then, changed_wider, comes, entries_beside, entry, eof, false, field_set, front_stays, gdr_offset, gdr_type, grew, has, heads_stay, image_limit, index_at, inl, inr, is_linkable, kept_then, last_node, leaf, leaves_of, length, link_to, linkable-from, long, lt-leb, made, map, max, new_room, no_zero, node_head, nodes_of, nothing_changed, number, number_kept, others_stay, placed, record_number_limit, redo, redone, refl, room_at, rules, same_node, shape, size_at, sound, spot, step_pair, subst, sym, tile_lies, tiles_same, top_chain, touch, true, type_of_body, uir_type, used_count, variables, vdr_vxr_head, vdr_vxr_tail, vdrs, vvr_type, vxr_bytes, vxr_type, vxr_vxr_next, way, widen_all, widest, with_field, with_leaf, ℕ, ◌*◌, ◌++◌, ◌+◌, ◌-◌, ◌<◌, ◌∙◌, ◌∷◌, ◌≡◌, ◌≢◌, ◌≤◌, ◌⊎◌}
+use Rattle.cdf_leaves.proofs.Common.{AddsLeaf, AreTiles, Begins, Bool, ChainInside, ChainMade, Chained, Changed, Comes, Distinct, Each, Each-append, Each-map, Entry, EntryPut, Field, FieldSet, Good, Grew, HasIndex, HasNodes, In, IndexStarted, IndexTouch, Inserted, IsAmong, IsWay, Kept, Kind, Leaf, List, MayName, MayPut, NodeFits, NodeMade, Nodes, Owed, Placed, SameHeads, SameNode, SplitMade, StandsAmong, Step, StepSays, StepStands, StillSays, VariableShape, WayStands, WidenedAlong, [], ap, apart, arith, begins_by, bytes_eq, cases_eq, cases_lt, chain_end, changed_then, changed_wider, comes, entries_beside, entry, eof, false, field_set, front_stays, gdr_offset, gdr_type, grew, has, heads_stay, image_limit, index_at, inl, inr, is_linkable, kept_then, last_node, leaf, leaves_of, length, link_to, linkable-from, long, lt-leb, made, map, max, new_room, no_zero, node_head, nodes_of, nothing_changed, number, number_kept, others_stay, placed, record_number_limit, redo, redone, refl, room_at, rules, same_node, shape, size_at, sound, spot, step_pair, subst, sym, tile_lies, tiles_same, top_chain, touch, true, type_of_body, uir_type, used_count, variables, vdr_vxr_head, vdr_vxr_tail, vdrs, vvr_type, vxr_bytes, vxr_type, vxr_vxr_next, way, widen_all, widest, with_field, with_leaf, ℕ, ◌*◌, ◌++◌, ◌+◌, ◌-◌, ◌<◌, ◌∙◌, ◌∷◌, ◌≡◌, ◌≢◌, ◌≤◌, ◌⊎◌}
 use Rattle.cdf_edits.proofs.Edits.RecordGrown as of_grown
 use Rattle.cdf_edits.proofs.Edits.StandsAmong.{name_room}
 use Rattle.cdf_format.proofs.NameRules.{bytes_eq-same}
@@ -226,7 +226,8 @@ module _ {b : List ℕ} {kind : Kind} {before : List VariableShape} {own : Varia
           made_room = made_roomy good at_own block type_is first last at made_it is (omega arith)
 
           made_done : (from n : ℕ) → 12 ≤ from → from + n ≤ 28 + 16 * room_at roomy x → Changed roomy grown (touch x from n ∷ []) → length grown ≡ length roomy
-              → (SameHeads roomy grown (shape roomy).records (shape roomy).records → MayName grown (shape roomy).records l → Kept roomy grown at → is_linkable grown (shape roomy).records vxr_type at ≡ true → Owed roomy grown (shape roomy).records (shape roomy).records x (placed l at x)) → NodeNow b grown nodes (spare x) x → EntryStands b filled grown own l at x spare
+              → (SameHeads roomy grown (shape roomy).records (shape roomy).records → MayName grown (shape roomy).records l → Kept roomy grown at → is_linkable grown (shape roomy).records vxr_type at ≡ true → Owed roomy grown (shape roomy).records (shape roomy).records x (placed l at x))
+              → NodeNow b grown nodes (spare x) x → EntryStands b filled grown own l at x spare
           made_done from n behind fit changed as_long owed here =
               let f = made_room.fresh (omega arith) in
               put_done made_room from n behind fit changed as_long
@@ -263,16 +264,12 @@ module _ {b : List ℕ} {kind : Kind} {before : List VariableShape} {own : Varia
             let stays = spares_linked set in
             made_done ch.made seven (omega arith) 12 8 (omega arith) (omega arith) set.changed set.as_long
             (λ heads names kept link. (let n = same_node roomy grown at kept (node.inside.entries, node.inside.fits) in
-            chained_owed roomy grown (recs r) (recs r) heads x at found.end.used found.end.begun l (seen_used r) (begins r) names (omega (arith, w.sees.room_is, (seen_same r).room_is)) link (record {
-              stay = λ j less. entries_beside set (omega arith) (omega arith) (inl (omega arith)) j;
-              room_stays = stays.room_is;
-              used_is = stays.used_is ∙ sym (seen_used r);
-              next_is = set.reads (omega (arith, set.as_long, node.inside.inside, grown_short));
-              here = n.entries 0 (omega (arith, node.room_is)) first last place (node.says 0 (omega arith));
-              new_room = n.room_is ∙ node.room_is;
-              new_used = n.used_is ∙ node.used_is;
-              new_next = n.next_is ∙ node.next_is ∙ w.sees.next_is ∙ sym (seen_same r).next_is;
-            }) (omega (arith, w.sees.used_is)))) (node_then (x_before r) stays)
+            let stay : (j : ℕ) → j < found.end.used → StillSays roomy grown x j j = λ j less. entries_beside set (omega arith) (omega arith) (inl (omega arith)) j in
+            let next_is = set.reads (omega (arith, set.as_long, node.inside.inside, grown_short)) in
+            let here = n.entries 0 (omega (arith, node.room_is)) first last place (node.says 0 (omega arith)) in
+            let new_next = n.next_is ∙ node.next_is ∙ w.sees.next_is ∙ sym (seen_same r).next_is in
+            let chained : Chained roomy grown x at found.end.used first last place = search (rules, stay, stays.room_is, stays.used_is ∙ sym (seen_used r), next_is, here, n.room_is ∙ node.room_is, n.used_is ∙ node.used_is, new_next) in
+            chained_owed roomy grown (recs r) (recs r) heads x at found.end.used found.end.begun l (seen_used r) (begins r) names (omega (arith, w.sees.room_is, (seen_same r).room_is)) link chained (omega (arith, w.sees.used_is)))) (node_then (x_before r) stays)
 
         stands_now : EntryStands b filled grown own l at x spare
         stands_now = elim put [ inl p ↦ with_room p.0 p.1 p.2 | inr q ↦ elim q.1 [ inl s ↦ with_split q.0 s.0 s.1 | inr c ↦ with_chain q.0 c.0 c.1 ] ]
@@ -317,7 +314,8 @@ module _ {b : List ℕ} {kind : Kind} {before : List VariableShape} {own : Varia
                 tiled = a.tiled;
                 touches = p.touches ++ a.touches;
                 changed = changed_then stands_now.roomy grown wide p.touches a.touches p.changed a.changed;
-                within = Each-append (IndexTouch stands_now.roomy own new at) p.touches a.touches p.within (Each-map (InNode grown Other) (IndexTouch stands_now.roomy own new at) (λ t q. inr (q.1, inl (q.0.0, omega (arith, q.2, (stands_now.old t.tile q.0.0 q.0.1).room_is, (node_spares good at_own (g r) t.tile q.0.0).room_is)))) a.touches a.within);
+                within = Each-append (IndexTouch stands_now.roomy own new at) p.touches a.touches p.within
+                    (Each-map (InNode grown Other) (IndexTouch stands_now.roomy own new at) (λ t q. inr (q.1, inl (q.0.0, omega (arith, q.2, (stands_now.old t.tile q.0.0 q.0.1).room_is, (node_spares good at_own (g r) t.tile q.0.0).room_is)))) a.touches a.within);
                 vdr = kept_then b grown wide own.vdr p.vdr (a.others own.vdr (vdr_in good at_own (g r)) (λ q. vdr_apart good at_own own.vdr (own_node good at_own own.vdr q.0).1 refl));
                 has = subst (HasNodes wide now_records 8) law has_now;
                 each = λ m i. node_then (p.each m i) (a.still m (in_records m i).0 (p.each m i).fits);

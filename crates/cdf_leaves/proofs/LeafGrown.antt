@@ -1,5 +1,5 @@
 -- A leaf more in an index, from the image in which its block was placed: what was done step by step is what a leaf more makes of the image.
-use Rattle.cdf_leaves.proofs.Common.{AreTiles, Bool, Changed, Counts, Distinct, Each, Each-append, Entry, EntryIs, FieldSet, Good, Grew, HasNodes, In, IndexTouch, Kept, Kind, Leaf, LeafAdded, List, MayName, Names, NodeFits, NodeMade, NodeTaken, NodeWritten, Nodes, Placed, SaysEntry, SaysNode, SaysUnused, StandsAmong, StillSays, TailGoesOn, Touch, UnusedEntries, VariableShape, [], ap, apart, arith, changed_again, changed_then, changed_wider, each, each_in, entry, entry_past, false, field_set, fits, gdr_type, grew, grew_none, grew_then, has, heads_stay, image_limit, in_nodes_with_leaf, index_at, inl, inr, is_in-true, le-leb, leaf, leaf_acts, leaves_of, leb, length, link_to, linkable-from, long, made, nat_tests, new_room, no_entry, no_node, node, nodes_kept, nodes_of, nothing_changed, number, others_stay, record_number_limit, refl, room_at, shape, size_at, size_kept, sound, stands, subst, suc, sym, touch, true, type_at, type_kept, type_of_body, uir_type, unlike, used_count, vdr_vxr_head, vdr_vxr_tail, vvr_type, vxr_n_used_entries, vxr_type, was_unused, with_block, with_field, with_leaf, zero, ℕ, ◌++◌, ◌+◌, ◌<◌, ◌^◌, ◌∙◌, ◌∷◌, ◌≡◌, ◌≢◌, ◌≤◌, ◌⊎◌}
+use Rattle.cdf_leaves.proofs.Common.{AreTiles, Bool, Changed, Counts, Distinct, Each, Each-append, Entry, EntryIs, FieldSet, Good, Grew, HasNodes, In, IndexTouch, Kept, Kind, Leaf, LeafAdded, List, MayName, Names, NodeFits, NodeMade, NodeTaken, NodeWritten, Nodes, Placed, SaysEntry, SaysNode, SaysUnused, StandsAmong, StillSays, TailGoesOn, Touch, UnusedEntries, VariableShape, [], ap, apart, arith, changed_again, changed_then, changed_wider, each, each_in, entry, entry_past, false, field_set, fits, gdr_type, grew, grew_none, grew_then, has, heads_stay, image_limit, in_nodes_with_leaf, index_at, inl, inr, is_in-true, le-leb, leaf, leaf_acts, leaves_of, leb, length, link_to, linkable-from, long, made, nat_tests, new_room, no_entry, no_node, node, nodes_kept, nodes_of, nothing_changed, number, others_stay, record_number_limit, refl, room_at, rules, shape, size_at, size_kept, sound, stands, subst, suc, sym, touch, true, type_at, type_kept, type_of_body, uir_type, unlike, used_count, vdr_vxr_head, vdr_vxr_tail, vvr_type, vxr_n_used_entries, vxr_type, was_unused, with_block, with_field, with_leaf, zero, ℕ, ◌++◌, ◌+◌, ◌<◌, ◌^◌, ◌∙◌, ◌∷◌, ◌≡◌, ◌≢◌, ◌≤◌, ◌⊎◌}
 use Rattle.cdf_edits.proofs.Edits.StandsAmong.{name_room}
 use Rattle.cdf_index.proofs.LeafMore.{leaves_more}
 use Rattle.cdf_index.proofs.Looking.{none_there}
@@ -120,12 +120,10 @@ module _ {b : List ℕ} {kind : Kind} {before : List VariableShape} {own : Varia
   made_roomy {roomy = roomy} {room = room} w is some = record {
     on = grew late.sound w.fills;
     node = taken new is;
-    fresh = λ s. record {
-      stands = stands late.sound w.fills;
-      outside = λ i. unlike late.sound w.fills at (late.sub at (own_node good stood at i).0) (λ u. apart vxr_type uir_type refl (sym (node_type good stood late at i) ∙ u)) refl;
-      apart = λ q. unlike late.sound w.fills own.vdr (vdr_in good stood late) (vdr_used good stood late) (sym q);
-      now = new_node w.written (λ i. was_new b (nodes_of own.index) place (8 + length body) new at i s);
-    };
+    fresh = λ s. (let outside : In at (nodes_of own.index) → ⊥ = λ i. unlike late.sound w.fills at (late.sub at (own_node good stood at i).0) (λ u. apart vxr_type uir_type refl (sym (node_type good stood late at i) ∙ u)) refl in
+        let apart_vdr : at ≢ own.vdr = λ q. unlike late.sound w.fills own.vdr (vdr_in good stood late) (vdr_used good stood late) (sym q) in
+        let now : NodeNow b _ (nodes_of own.index) (spare at) at = new_node w.written (λ i. was_new b (nodes_of own.index) place (8 + length body) new at i s) in
+        search (rules, stands late.sound w.fills, outside, apart_vdr, now));
   }
     where
       taken : (n : ℕ) → n ≡ room → NodeTaken filled roomy n at
@@ -165,7 +163,8 @@ module _ {b : List ℕ} {kind : Kind} {before : List VariableShape} {own : Varia
 
     -- ---- then the descriptor was written, or not
 
-    pub leaf_added : {wide now : List ℕ} → State b roomy wide own new at spare (nodes_of after_leaf) after_leaf → Changed wide now (touch own.vdr 28 16 ∷ []) → length now ≡ length wide → number now own.vdr vdr_vxr_head ≡ link_to after_leaf → TailGoesOn b now own.vdr own.index after_leaf → LeafAdded b now own l body at
+    pub leaf_added : {wide now : List ℕ} → State b roomy wide own new at spare (nodes_of after_leaf) after_leaf → Changed wide now (touch own.vdr 28 16 ∷ []) → length now ≡ length wide → number now own.vdr vdr_vxr_head ≡ link_to after_leaf → TailGoesOn b now own.vdr own.index after_leaf
+        → LeafAdded b now own l body at
     leaf_added {wide = wide} {now = now} st changed as_long head tail =
         let fit : 28 + 16 ≤ size_at wide own.vdr = omega (arith, long good stood, size_kept b wide own.vdr st.vdr.same (omega (arith, long good stood))) in
         let heads = heads_stay wide now records st.tiled own.vdr 28 16 (vdr_in good stood all_taken) (omega arith) fit changed in

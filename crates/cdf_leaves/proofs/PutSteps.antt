@@ -1,5 +1,5 @@
 -- A node that gets an entry, once another record was taken.
-use Rattle.cdf_leaves.proofs.Common.{Entry, Grew, IsSound, List, MayPut, NodeInside, NodeMade, NodeWritten, Spot, Takes, apart, content, fills, gdr_type, grew, length, made, node_head, node_short, refl, room_at, shape, sound, sym, uir_type, used_count, vxr_bytes, vxr_type, ℕ, ◌+◌, ◌∙◌, ◌≡◌, ◌≤◌}
+use Rattle.cdf_leaves.proofs.Common.{Entry, Grew, IsSound, List, MayPut, NodeInside, NodeMade, NodeWritten, Spot, Takes, apart, content, fills, gdr_type, grew, length, made, node_head, node_short, refl, room_at, rules, shape, sound, sym, uir_type, used_count, vxr_bytes, vxr_type, ℕ, ◌+◌, ◌∙◌, ◌≡◌, ◌≤◌}
 use Rattle.cdf_leaves.proofs.Spares.{Spares, spares_kept, fits_still, node_inside}
 
 pub record StaysThere (now : List ℕ) (seen : Spot) : Type 0 where
@@ -15,11 +15,8 @@ stays_there {b = b} {now = now} {seen = seen} e may made =
     let g : Grew b now = grew may.sound (rw e at made).fills in
     let k = g.kept seen.place may.there (λ u. apart vxr_type uir_type refl (sym may.typed ∙ u)) (λ u. apart vxr_type gdr_type refl (sym may.typed ∙ u)) in
     let s : Spares b now seen.place = spares_kept b now seen.place k may.fits in
-    record {
-      inside = node_inside now (shape now).records seen.place g.sound.has_shape.tiled (g.sub seen.place may.there) (fits_still b now seen.place s may.fits);
-      room_is = may.room_is ∙ sym s.room_is;
-      used_is = may.used_is ∙ sym s.used_is;
-    }
+    let inside = node_inside now (shape now).records seen.place g.sound.has_shape.tiled (g.sub seen.place may.there) (fits_still b now seen.place s may.fits) in
+    search (rules, inside, may.room_is ∙ sym s.room_is, may.used_is ∙ sym s.used_is)
 
 -- where its VXRnext lies
 pub next_lies : {b now : List ℕ} {seen : Spot} {room next at : ℕ} {entries : List Entry} → MayPut b seen → NodeMade b now room next entries at → seen.place + 28 ≤ length now
