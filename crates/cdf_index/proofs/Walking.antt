@@ -51,17 +51,10 @@ module _ (rec : ℕ) where
   first_decides [] ys n other lt = grind (arith, nat_tests)
   first_decides (x ∷ xs) ys n other lt = grind (arith, nat_tests, first_decides xs ys n other lt)
 
-  climbs_to : (from upto n : ℕ) (xs ys : List ℕ) → Climbs from upto (xs ++ n ∷ ys) → from ≤ n
-  climbs_to from upto n [] ys c = c.0
-  climbs_to from upto n (x ∷ xs) ys c = omega (arith, c.0, climbs_to x upto n xs ys c.2)
-
   -- one that is not is passed, and with it those before it
-  first_passed : (from upto n : ℕ) (xs ys : List ℕ) (other : Option ℕ) → Climbs from upto (xs ++ n ∷ ys) → n ≤ rec → (first_past rec (xs ++ n ∷ ys) other ≡ first_past rec ys other) × Climbs 0 upto ys
-  first_passed from upto n [] ys other c le = (grind (arith, nat_tests), climbs_from 0 n upto ys (omega arith) c.2)
-  first_passed from upto n (x ∷ xs) ys other c le =
-      let r = first_passed x upto n xs ys other c.2 le in
-      let l = climbs_to x upto n xs ys c.2 in
-      (grind (arith, nat_tests, r.0), r.1)
+  first_passed : (from upto n : ℕ) (xs ys : List ℕ) (other : Option ℕ) → Climbs from upto (xs ++ n ∷ ys) → n ≤ rec → (first_past rec (xs ++ n ∷ ys) other ≡ first_past rec ys other) × Climbs 0 upto ys × (from ≤ n)
+  first_passed from upto n [] ys other c le = (grind (arith, nat_tests), climbs_from 0 n upto ys (omega arith) c.2, c.0)
+  first_passed from upto n (x ∷ xs) ys other c le = let r = first_passed x upto n xs ys other c.2 le in (grind (arith, nat_tests, r.0, r.2), r.1, omega (arith, c.0, r.2))
 
 -- ---- a walk
 
