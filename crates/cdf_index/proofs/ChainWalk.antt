@@ -1,14 +1,9 @@
 -- The walk over a whole chain, with what is below it.
-use Rattle.cdf_index.proofs.Common.{AreTiles, Grew, HasIndex, List, Met, Nodes, SomeChain, SomeNode, Stands, [], ap, append-nil, append_assoc, arith, first_at, index_at, last_at, length, link_to, met_below, met_block, met_in, met_node, next_of, no_node, node, nodes_of, offset_at, refl, room_at, subst, sym, tiles, type_at, used_count, ℕ, ◌++◌, ◌+◌, ◌-◌, ◌<◌, ◌∙◌, ◌∷◌, ◌≡◌, ◌≢◌, ◌≤◌}
+use Rattle.cdf_index.proofs.Common.{AreTiles, Grew, HasIndex, List, Met, Nodes, SomeChain, SomeNode, Stands, [], ap, append-nil, append_assoc, arith, cases_eq, first_at, index_at, inl, inr, last_at, length, link_to, met_below, met_block, met_in, met_node, next_of, no_node, nodes_of, offset_at, refl, room_at, subst, sym, tiles, type_at, used_count, ℕ, ◌++◌, ◌+◌, ◌-◌, ◌<◌, ◌∙◌, ◌∷◌, ◌≡◌, ◌≢◌, ◌≤◌}
 use Rattle.cdf_index.proofs.Ascending.{index_stands}
-use Rattle.cdf_index.proofs.FirstEntry.{AtEntry, FirstEntry, enter, entry_here, few_below, none_here, opened, pass, node_there, Opened}
+use Rattle.cdf_index.proofs.FirstEntry.{AtEntry, FirstEntry, enter, entry_here, few_below, none_here, opened, opened_nodes, pass, node_there, Opened}
 use Rattle.cdf_index.proofs.Looking.{node_of, none_there}
 use Rattle.cdf_index.proofs.Searching.{few_nodes}
-
-no_link : (ns : Nodes) → length (nodes_of ns) ≤ 0 → link_to ns ≡ 0
-unfolding nodes_of
-no_link no_node e = refl
-no_link (node place room entries more) e = absurd (omega arith)
 
 -- ---- what is left of a chain at a link, or at the entry with number i of a node
 
@@ -47,7 +42,10 @@ module _ {G : Type 0} {has : G → List Met → Type 0} where
     walk_end tiled z = l.all now (rw (none_there b levels l.left tiled l.stands.has (sym l.link_is ∙ z)) (grew_none now))
 
     pub walk_over : length (nodes_of ns) ≤ turn → at ≡ 0
-    walk_over le = l.link_is ∙ no_link l.left (omega (arith, l.fewer))
+    walk_over le = elim (cases_eq at 0) [
+      | inl e ↦ e
+      | inr ne ↦ absurd (omega (arith, opened_nodes (opened b levels at l.left l.stands (node_there l.left (λ z. ne (l.link_is ∙ z))) l.link_is), l.fewer))
+    ]
 
     pub walk_in : {next : G} → at ≢ 0 → Grew has now next (met_node at (room_at b at) (used_count b at) ∷ []) → NodeLeft has b levels at 0 turn was next ns
     unfolding met_in nodes_of

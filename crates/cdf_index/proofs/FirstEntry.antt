@@ -1,5 +1,5 @@
 -- A chain that stands, taken apart at its first node, and the entries of a node at the first of them.
-use Rattle.cdf_index.proofs.Common.{ChainFrom, Entries, HasNodes, In, IsBlock, IsNode, IsOrderly, Leaf, List, LowerAreZero, Met, Names, NextsAreZero, NodeInside, Nodes, None, Option, Some, Stands, [], ap, arith, block, block_in, chain_at, cvvr_type, entry_count, entry_firsts, entry_leaves, eqb, find_entry, find_in, first_at, firsts_of, if◌then◌else◌, inl, inr, is_a, is_linkable, last_at, leaf, length, length-append, link_to, linkable-in, linkable-type, lower, lower_nodes, ltb, met_below, met_block, met_in, nat_tests, no_entry, no_node, node, nodes_of, nodes_passed, offset_at, or_cases, passed_from, refl, subst, suc, sym, tiles, true, type_at, used_count, vxr_type, zero, ℕ, ◌++◌, ◌+◌, ◌<◌, ◌∙◌, ◌∷◌, ◌≡◌, ◌≢◌, ◌≤◌, ◌⊎◌}
+use Rattle.cdf_index.proofs.Common.{ChainFrom, Entries, HasNodes, In, IsNode, IsOrderly, Leaf, List, LowerAreZero, Met, Names, NextsAreZero, NodeInside, Nodes, None, Option, Some, Stands, [], ap, arith, block, block_in, chain_at, cvvr_type, entry_count, entry_firsts, entry_leaves, eqb, find_entry, find_in, first_at, firsts_of, if◌then◌else◌, inl, inr, is_a, is_block, is_linkable, last_at, leaf, length, length-append, link_to, linkable-in, linkable-type, lower, lower_nodes, ltb, met_below, met_block, met_in, nat_tests, no_entry, no_node, node, nodes_of, nodes_passed, offset_at, or_cases, passed_from, refl, subst, suc, sym, tiles, true, type_at, used_count, vxr_type, zero, ℕ, ◌++◌, ◌+◌, ◌<◌, ◌∙◌, ◌∷◌, ◌≡◌, ◌≢◌, ◌≤◌}
 use Rattle.cdf_format.specs.RecordTypes.{vvr_type}
 use Rattle.cdf_format.proofs.ChainsLemmas.{is_a-type}
 use Rattle.cdf_index.proofs.Saying.{no_entries}
@@ -48,13 +48,9 @@ opened_zero {at = at} o z = zero_node at o.room o.entries o.more (rw o.is at z)
 
 -- ---- what an entry names
 
--- a block is a VVR or a CVVR
-pub block_type : (b : List ℕ) (l : Leaf) → IsBlock b l → (type_at b l.place ≡ vvr_type) ⊎ (type_at b l.place ≡ cvvr_type)
-block_type b l e = elim (or_cases (is_a b (tiles b) vvr_type l.place) (is_a b (tiles b) cvvr_type l.place) e) [ inl p ↦ inl (is_a-type b (tiles b) vvr_type l.place p) | inr p ↦ inr (is_a-type b (tiles b) cvvr_type l.place p) ]
-
-pub no_node_type : (t : ℕ) → (t ≡ vvr_type) ⊎ (t ≡ cvvr_type) → t ≡ 6 → ⊥
-no_node_type t (inl e) z = omega arith
-no_node_type t (inr e) z = omega arith
+-- a block is a VVR or a CVVR, and no node
+pub block_no_node : (b : List ℕ) (m : ℕ) → is_block b (tiles b) m ≡ true → type_at b m ≢ 6
+block_no_node b m e t = elim (or_cases (is_a b (tiles b) vvr_type m) (is_a b (tiles b) cvvr_type m) e) [ inl p ↦ absurd (omega (arith, is_a-type b (tiles b) vvr_type m p)) | inr p ↦ absurd (omega (arith, is_a-type b (tiles b) cvvr_type m p)) ]
 
 pub node_linkable : (b : List ℕ) (levels : ℕ) (nodes : Nodes) → IsNode nodes → HasNodes b (tiles b) levels nodes → is_linkable b (tiles b) vxr_type (link_to nodes) ≡ true
 unfolding HasNodes
@@ -94,7 +90,7 @@ first_entry no_entry l some = absurd (omega arith)
 first_entry {b = b} {at = at} {i = i} (block first last place packed entries) l some =
     let z : suc i ≡ i + 1 = omega arith in
     let e = l.say.0 in
-    let no = no_node_type (type_at b place) (block_type b (leaf first last place packed) l.blocks.0) in
+    let no = block_no_node b place l.blocks.0 in
     record {
       rest = entries;
       low = no_node;

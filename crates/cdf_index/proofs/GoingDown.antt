@@ -1,5 +1,5 @@
 -- The way down to the place of a new entry, along a chain.
-use Rattle.cdf_index.proofs.Common.{AreTiles, Distinct, Distinct-back, Distinct-front, Entries, HasNodes, InOrder, IsNode, IsTree, List, Nodes, SeesNode, SomeNode, Spot, SpotIs, Stands, [], ap, arith, cases_lt, chain_reaches, down_at, end_from, entry_count, false, has, if◌then◌else◌, inl, inr, kept, le-ltb, leads_down, leaves_of, length, length-append, link_to, lower_nodes, lt-ltb, nat_tests, ne_eqb, next_of, no_entry, no_node, node, nodes_of, past_entries, reaches, refl, spot, spot_below, subst, suc, sym, tiles, true, upto, used_count, way, way_below, way_from, zero, ℕ, ◌+◌, ◌<◌, ◌∙◌, ◌∷◌, ◌≡◌, ◌≢◌, ◌≤◌, ◌⊎◌}
+use Rattle.cdf_index.proofs.Common.{AreTiles, Distinct, Distinct-back, Distinct-front, Entries, HasNodes, InOrder, IsNode, IsTree, List, Nodes, SeesNode, SomeNode, Spot, SpotIs, Stands, [], ap, arith, cases_lt, chain_reaches, down_at, end_from, entry_count, false, if◌then◌else◌, inl, inr, kept, le-ltb, leads_down, leaves_of, length, length-append, link_to, lower_nodes, lt-ltb, nat_tests, ne_eqb, next_of, no_entry, no_node, node, nodes_of, past_entries, reaches, refl, spot, spot_below, subst, suc, sym, tiles, true, used_count, way, way_below, way_from, zero, ℕ, ◌+◌, ◌<◌, ◌∙◌, ◌∷◌, ◌≡◌, ◌≢◌, ◌≤◌, ◌⊎◌}
 use Rattle.cdf_index.proofs.EntriesLeft.{node_parts}
 use Rattle.cdf_index.proofs.Leading.{Stand, begun_in, below, counted_begun, ends_past, LedBy, is_some, lead, lead_none, leads, led, reached_is, some_node}
 use Rattle.cdf_index.proofs.Coming.{chain_not_reached}

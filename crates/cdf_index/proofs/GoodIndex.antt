@@ -2,10 +2,11 @@
 use Rattle.cdf_index.proofs.Common.{AreInOrder, AreTiles, Each, Each-split, Entries, HasIndex, HasVariable, Hold, Hold-split, InOrder, IsBlock, IsGoodImage, IsIndex, IsSound, LeafFits, List, NodeFits, Nodes, Row, Shape, VariableFits, VariableShape, [], ap, before_is, before_number, between, block, end_of, flat_map, index_at, index_complete, index_of, is_block, leaf_rows, leaves_of, length, lower, met_rows, negsuc, no_entry, no_node, node, nodes_of, nodes_rows, number, number_before, past_entries, phase8, pos, record_number_limit, refl, sound, subst, suc, sym, tiles, tiles_are, used_rows, variables, with_sign, ℕ, ℤ, ◌++◌, ◌∙◌, ◌∷◌, ◌≡◌}
 use Rattle.cdf_format.specs.IndexRules.{index_rows}
 use Rattle.cdf_format.proofs.IndexLemmas.{levels_complete}
-use Rattle.cdf_format.specs.IndexWalk.{Met, nodes_met}
+use Rattle.cdf_format.specs.IndexWalk.{nodes_met}
 use Rattle.cdf_format.specs.Records.{vdr_vxr_head}
 use Rattle.cdf_format.specs.Shape.{vdrs}
-use Rattle.cdf_edits.proofs.Edits.VariableFrame.{Each-map}
+use Rattle.cdf_edits.proofs.Edits.VariableFrame.{Each-map, IsRuled, all_ruled}
+use Rattle.cdf_format.proofs.GoodImageLemmas.{by_shape}
 
 module _ (b records : List ℕ) where
   mutual
@@ -31,16 +32,11 @@ module _ (b records : List ℕ) where
         let rest = entries_order_from vxr (suc last) high entries (subst (λ (z : ℤ). Hold (used_rows b records vxr z (pos high) entries)) o.last_is p.1) in
         ((o.low_first, o.first_last, o.last_high, order_from first last nodes (subst (λ (z : ℤ). Hold (nodes_rows b records (before_number first) z nodes)) o.last_is below), rest.0), ap (λ (z : ℤ). end_of z entries) o.last_is ∙ rest.1)
 
-rows_of : (f : ℕ → List Row) (before : List VariableShape) (v : VariableShape) (after : List VariableShape) → Hold (flat_map f (vdrs (before ++ v ∷ after))) → Hold (f v.vdr)
-rows_of f [] v after h = (Hold-split (f v.vdr) (flat_map f (vdrs after)) h).0
-rows_of f (w ∷ before) v after h = rows_of f before v after (Hold-split (f w.vdr) (flat_map f (vdrs (before ++ v ∷ after))) h).1
-
 -- the rules of its index hold
 pub index_ruled : (b : List ℕ) (s : Shape) (before : List VariableShape) (v : VariableShape) (after : List VariableShape) → IsGoodImage b s → variables s ≡ before ++ v ∷ after → Hold (index_rows b s.records v.vdr v.index)
 index_ruled b s before v after good all =
-    let has = (Each-split (HasVariable b s.records) before (v ∷ after) (subst (Each (HasVariable b s.records)) all good.has_shape.have_variables)).1.0 in
-    let found = index_complete b s.records (length b) v.vdr vdr_vxr_head v.index good.has_shape.tiled has.indexed in
-    subst (λ (m : Met Nodes). Hold (met_rows b s.records v.vdr m)) found (rows_of (λ vdr. met_rows b s.records vdr (index_of b s.records vdr)) before v after (subst (λ (x : List VariableShape). Hold (phase8 b s.records (vdrs x))) all good.phases.1.1.1.0))
+    let g = by_shape b s good in
+    (Each-split (IsRuled b s.records) before (v ∷ after) (subst (Each (IsRuled b s.records)) all (all_ruled b s.records (vdrs (variables s)) (variables s) g.of_variables g.indexes))).1.0.1
 
 -- nodes that are an index, in order, are the one that a link leads to
 pub found_index : {b : List ℕ} {at : ℕ} {ns : Nodes} → AreTiles b 8 (length b) (tiles b) → IsIndex b (tiles b) at ns → Each (NodeFits b) (nodes_of ns) → Each (IsBlock b) (leaves_of ns) → InOrder 0 record_number_limit ns → HasIndex b at × (index_at b at ≡ ns)

@@ -1,10 +1,10 @@
 -- The entries of a node that begin at a record or before it: how many they are, and where the last of them leads to.
-use Rattle.cdf_index.proofs.Common.{AreInOrder, Begins, Begun, Bool, Distinct, Distinct-back, Distinct-front, Entries, IsNode, IsTree, List, Names, Nodes, SayEntries, ap, arith, block, chain_before, down_at, either, entry_count, entry_leaves, false, first_at, if◌then◌else◌, inl, inr, leads_down, leaf, leaves_of, leb, link_to, linkable-type, lower, lower_nodes, ltb, nat_tests, no_entry, no_node, node, nodes_of, past, past_entries, reaches, refl, spot, spot_below, suc, sym, tiles, true, type_at, upto, used_count, vxr_type, way, way_below, ℕ, ◌+◌, ◌<◌, ◌∙◌, ◌≡◌, ◌≤◌}
+use Rattle.cdf_index.proofs.Common.{AreInOrder, Begins, Begun, Bool, Distinct, Distinct-back, Distinct-front, Entries, IsNode, IsTree, List, Names, Nodes, SayEntries, ap, arith, block, chain_before, down_at, either, entry_count, entry_leaves, false, first_at, if◌then◌else◌, inl, inr, leads_down, leaves_of, leb, link_to, linkable-type, lower, lower_nodes, ltb, nat_tests, no_entry, no_node, node, nodes_of, past, past_entries, reaches, refl, spot, spot_below, suc, sym, tiles, true, type_at, used_count, vxr_type, way, way_below, ℕ, ◌+◌, ◌<◌, ◌∙◌, ◌≡◌, ◌≤◌}
 use Rattle.cdf_index.proofs.EntriesCut.{Parted, one_more, parted_all}
 use Rattle.cdf_index.proofs.EntriesLeft.{EntriesLeft, past_first, past_lower_one}
 use Rattle.cdf_index.proofs.Coming.{not_reached}
 use Rattle.cdf_index.proofs.OrderLemmas.{end_after}
-use Rattle.cdf_index.proofs.FirstEntry.{block_type, chain_is, no_chain, no_node_type, node_linkable}
+use Rattle.cdf_index.proofs.FirstEntry.{block_no_node, chain_is, no_chain, node_linkable}
 use Rattle.std.proofs.lemmas.Bool.{cases_lt}
 
 -- the lower chain that the last of them names, none where it names a block; this one where there are none
@@ -90,7 +90,7 @@ pub below : (b : List ℕ) (f levels at k m low high : ℕ) (before : Nodes) (es
 unfolding Names lower_nodes nodes_of leaves_of entry_leaves AreInOrder
 below b f levels at k m low high before no_entry s w e = let z : m ≡ k = omega arith in rw z w
 below b f levels at k m low high before (block first last place packed es) s w e =
-    let none = no_chain b at k (λ z. no_node_type (type_at b place) (block_type b (leaf first last place packed) s.left.blocks.0) (ap (type_at b) (sym s.left.say.0.offset_is) ∙ z)) in
+    let none = no_chain b at k (λ z. block_no_node b place s.left.blocks.0 (ap (type_at b) (sym s.left.say.0.offset_is) ∙ z)) in
     let r = below b f levels at (suc k) m (suc last) high no_node es (record { left = past_first s.left; once = s.once; order = s.order.3 }) (record { link = none; tree = λ x. absurd x }) in
     elim (either (leb first f)) [ inl t ↦ rw t (r (omega (arith, rw t at e))) | inr t ↦ let z : m ≡ k = omega (arith, rw t at e) in rw (t, z) w ]
 below b f levels at k m low high before (lower first last nodes es) s w e =

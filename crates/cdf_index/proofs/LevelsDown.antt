@@ -1,5 +1,5 @@
 -- The way down to the place of a new entry, from level to level.
-use Rattle.cdf_index.proofs.Common.{AreTiles, Each, Each-append, HasIndex, In, InOrder, IsAmong, IsTree, List, Nodes, SomeTree, Spot, SpotIs, Step, StepSays, [], append-nil, append_assoc, arith, false, index_at, leaf, length, link_to, lower, map, map-append, nodes_of, record_number_limit, refl, spot, step_pair, subst, sym, tiles, upto, way, within, ℕ, ◌++◌, ◌+◌, ◌-◌, ◌∷◌, ◌≡◌, ◌≢◌, ◌≤◌}
+use Rattle.cdf_index.proofs.Common.{AreTiles, Each, Each-append, HasIndex, In, InOrder, IsAmong, IsTree, List, Nodes, SomeTree, Spot, SpotIs, Step, StepSays, [], append-nil, append_assoc, arith, false, index_at, leaf, length, link_to, map, map-append, nodes_of, record_number_limit, refl, spot, step_pair, subst, sym, tiles, way, ℕ, ◌++◌, ◌+◌, ◌-◌, ◌∷◌, ◌≡◌, ◌≢◌, ◌≤◌}
 use Rattle.cdf_index.proofs.Ascending.{index_stands}
 use Rattle.cdf_index.proofs.Coming.{comes}
 use Rattle.cdf_index.proofs.GoingDown.{top}

@@ -7,11 +7,9 @@ pub mod EntriesCut
 pub mod Searching
 pub mod GoodIndex
 pub mod RecordRead
-pub mod NextLemmas
 pub mod Walking
 pub mod GoodBlock
 pub mod ChainWalk
-pub mod Collected
 pub mod EntryWritten
 pub mod Inserting
 pub mod Measured

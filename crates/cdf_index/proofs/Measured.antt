@@ -1,10 +1,30 @@
--- The size of an index that a walk over it counts.
-use Rattle.cdf_index.proofs.Common.{AreTiles, Counts, Entries, HasIndex, HasNodes, IndexSize, List, Met, Nodes, Stands, [], ap, arith, block, entry_count, entry_leaves, entry_met, flat_map, has, image_limit, index_at, leaf_words, leaves_of, length, length-append, length-map, linkable-in, lower, lower_nodes, max, met_below, met_block, met_in, met_node, no_entry, no_node, node, nodes_of, size_of, suc, tile_lies, tiles, used_met, widest_met, zero, ℕ, ◌*◌, ◌++◌, ◌+◌, ◌∷◌, ◌≡◌, ◌≤◌}
+-- What a walk over an index collects and counts: the entries of blocks, the places of nodes, and the size.
+use Rattle.cdf_index.proofs.Common.{AreTiles, Counts, Entries, HasIndex, HasNodes, IndexSize, List, Met, Nodes, Stands, [], ap, arith, block, entry_count, entry_leaves, entry_met, flat_map, has, image_limit, index_at, leaf_words, leaves_of, length, length-append, length-map, linkable-in, lower, lower_nodes, map, map-append, max, met_below, met_block, met_in, met_node, no_entry, no_node, node, nodes_of, place_met, refl, size_of, suc, tile_lies, tiles, used_met, widest_met, zero, ℕ, ◌*◌, ◌++◌, ◌+◌, ◌∷◌, ◌≡◌, ◌≤◌}
 use Rattle.cdf_edits.specs.Commands.Room.{entries_in, entries_below, widest, widest_below}
 use Rattle.cdf_index.proofs.Ascending.{index_stands}
-use Rattle.cdf_index.proofs.Collected.{collected}
+use Rattle.std.proofs.lemmas.Grind.{flat_map-append}
 use Rattle.cdf_index.proofs.EntriesLeft.{EntriesLeft, past_first, past_lower_one, node_parts}
 use Rattle.cdf_index.proofs.Searching.{few_nodes}
+
+mutual
+  unfolding met_in met_below nodes_of lower_nodes leaves_of entry_leaves
+
+  pub collected : (nodes : Nodes) → (flat_map entry_met (met_in nodes) ≡ map leaf_words (leaves_of nodes)) × (flat_map place_met (met_in nodes) ≡ nodes_of nodes)
+  collected no_node = (refl, refl)
+  collected (node place room entries more) =
+      let e = collected_below entries in
+      let m = collected more in
+      (simp (flat_map-append, map-append, e.0, m.0), simp (flat_map-append, e.1, m.1))
+
+  collected_below : (entries : Entries) → (flat_map entry_met (met_below entries) ≡ map leaf_words (entry_leaves entries)) × (flat_map place_met (met_below entries) ≡ lower_nodes entries)
+  collected_below no_entry = (refl, refl)
+  collected_below (block first last place packed entries) = let e = collected_below entries in (simp e.0, simp e.1)
+  collected_below (lower first last nodes entries) =
+      let n = collected nodes in
+      let e = collected_below entries in
+      (simp (flat_map-append, map-append, e.0, n.0), simp (flat_map-append, e.1, n.1))
+
+-- ---- the size
 
 pub sizes_both : (xs ys : List Met) → (length (flat_map entry_met (xs ++ ys)) ≡ length (flat_map entry_met xs) + length (flat_map entry_met ys)) × (used_met (xs ++ ys) ≡ used_met xs + used_met ys) × (widest_met (xs ++ ys) ≡ max (widest_met xs) (widest_met ys))
 sizes_both [] ys = omega arith

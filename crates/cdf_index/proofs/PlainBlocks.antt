@@ -1,6 +1,7 @@
 -- The blocks that the index of a variable of a good image names are not packed, since no packed one is read so far.
-use Rattle.cdf_index.proofs.Common.{Each, Each-append, Each-split, Entries, HasNodes, HasVariable, Hold, Hold-member, In, IsGoodImage, IsSound, Leaf, LeafFits, List, Names, Nodes, Shape, Some, VariableFits, VariableShape, arith, block, block_in, covers, cvvr_type, entry_leaves, false, flat_map, found_in, is_linkable, leaf_of, leaves_of, lower, nat_tests, no_entry, no_node, node, of_each, range, subst, suc, sym, type_at, variables, vxr_type, zero, ℕ, ◌++◌, ◌==◌, ◌∙◌, ◌∷◌, ◌≡◌}
-use Rattle.cdf_format.specs.NotRead.{unread_type}
+use Rattle.cdf_index.proofs.Common.{Each, Each-append, Each-split, Entries, HasNodes, HasVariable, IsGoodImage, IsSound, Leaf, List, Names, Nodes, Shape, Some, VariableFits, VariableShape, block, covers, cvvr_type, entry_leaves, false, found_in, is_linkable, leaf_of, leaves_of, lower, no_entry, no_node, node, of_each, range, sound, subst, suc, type_at, variables, vxr_type, zero, ℕ, ◌++◌, ◌==◌, ◌∷◌, ◌≡◌}
+use Rattle.cdf_edits.proofs.Edits.PlainVariables.{IsPlainBlock, is_uncompressed}
+use Rattle.cdf_format.proofs.GoodImageLemmas.{by_shape}
 
 -- a leaf names a block
 abbrev pub Named : List ℕ → List ℕ → Leaf → Type 0
@@ -20,15 +21,10 @@ module _ (now records : List ℕ) where
     entries_named levels (block first last place packed entries) h = ((h.0, h.1), entries_named levels entries h.2)
     entries_named levels (lower first last nodes entries) h = Each-append (Named now records) (leaves_of nodes) (entry_leaves entries) (leaves_named levels nodes h.1) (entries_named levels entries h.2)
 
-module _ (b records : List ℕ) where
-  no_packed : (m : ℕ) → In m records → Hold (flat_map (unread_type b) records) → (type_at b m == cvvr_type) ≡ false
-  no_packed m i h = grind (arith, nat_tests, (Hold-member (unread_type b) records m h i).0)
-
 pub plain_block : (b : List ℕ) (s : Shape) (before : List VariableShape) (v : VariableShape) (after : List VariableShape) → IsGoodImage b s → IsSound b s → variables s ≡ before ++ v ∷ after
     → (rec : ℕ) (leaf : Leaf) → leaf_of rec (leaves_of v.index) ≡ Some leaf → leaf.packed ≡ false
 plain_block b s before v after good sound all rec leaf found =
     let has = (Each-split (HasVariable b s.records) before (v ∷ after) (subst (Each (HasVariable b s.records)) all good.has_shape.have_variables)).1.0 in
+    let fits = (Each-split (VariableFits b s.records) before (v ∷ after) (subst (Each (VariableFits b s.records)) all sound.variables_fit)).1.0 in
     let one = (found_in (λ (l : Leaf). covers rec (range l.first l.last)) (leaves_of v.index) leaf found).0 in
-    let named = of_each (Named b s.records) (leaves_of v.index) leaf (leaves_named b s.records 8 v.index has.indexed.has_nodes) one in
-    let stands = of_each (LeafFits b s.records v.vdr) (leaves_of v.index) leaf ((Each-split (VariableFits b s.records) before (v ∷ after) (subst (Each (VariableFits b s.records)) all sound.variables_fit)).1.0).2 one in
-    sym named.1 ∙ no_packed b s.records leaf.place (block_in b s.records leaf.place stands.0) good.read_types
+    (of_each (IsPlainBlock b s.records) (leaves_of v.index) leaf (is_uncompressed (by_shape b s good) v has fits).plain_blocks one).1

@@ -1,5 +1,5 @@
 -- An index with one leaf more, made by one edit at the end of the way and one in each node on it, from the bottom up.
-use Rattle.cdf_index.proofs.Common.{AreTiles, Distinct, Distinct-back, Distinct-front, Each, Each-map, Edit, Entries, HasNodes, In, In-append_left, In-append_right, InOrder, IsNode, Leaf, List, Names, Nodes, [], ap, ap₂, arith, block, chain_reaches, entry_count, eq-eqb, eqb, false, in-times, inl, inr, leaf, length, link_to, linkable-in, lower, lower_nodes, max, ne_eqb, no_entry, no_node, node, nodes_of, nodes_stand, placed, redo, redo_below, refl, some_place, spot, subst, suc, sym, times, times-append, times-in, times-once, true, vxr_type, way, widen_all, widened, wider, with_both, zero, ℕ, ◌++◌, ◌+◌, ◌∙◌, ◌∷◌, ◌≡◌, ◌≢◌, ◌⊎◌}
+use Rattle.cdf_index.proofs.Common.{AreTiles, Distinct, Distinct-back, Distinct-front, Each, Each-map, Edit, Entries, HasIndex, HasNodes, In, In-append_left, In-append_right, InOrder, IsNode, Leaf, List, Names, Nodes, [], ap, apart, ap₂, arith, block, chain_reaches, entry_count, eq-eqb, eqb, false, has, in-times, index_at, inl, inr, leaf, length, link_to, linkable-in, lower, lower_nodes, max, ne_eqb, no_entry, no_node, node, nodes_of, nodes_stand, placed, record_number_limit, redo, redo_below, refl, some_place, spot, subst, suc, sym, tiles, times, times-append, times-in, times-once, true, vxr_type, way, widen_all, widened, wider, with_both, with_leaf, zero, ℕ, ◌++◌, ◌+◌, ◌∙◌, ◌∷◌, ◌≡◌, ◌≢◌, ◌⊎◌}
 use Rattle.cdf_index.proofs.Coming.{Comes, comes, comes_along, comes_below, comes_first, comes_here}
 use Rattle.cdf_index.proofs.Saying.{lower_both, names_parts}
 use Rattle.cdf_index.proofs.Looking.{node_there}
@@ -147,3 +147,10 @@ spot_there {x = x} (comes_below {place = place} {room = room} {more = more} fs f
     let n = (names_parts b ts levels fs (lower first last nodes es) h.1).1 in
     in-times x (nodes_of (node place room (with_both fs (lower first last nodes es)) more)) (omega (arith, times-in x (nodes_of nodes) (spot_there c b ts levels n.1 n.0), below_times x place room first last fs es nodes more))
 spot_there (comes_here t d) b ts levels h is = inl refl
+
+pub on_its_way : (b : List ℕ) (head at : ℕ) (l : Leaf) → HasIndex b head → head ≢ 0
+    → widen_all l.last (way l.first (index_at b head)) (redo (spot l.first (index_at b head)) (placed l at (spot l.first (index_at b head))) (index_at b head)) ≡ with_leaf l at (index_at b head)
+on_its_way b head at l has some =
+    let come = comes l at 0 record_number_limit (index_at b head) has.order in
+    let last = spot_there come b (tiles b) 8 has.index.has_nodes (node_there_by head (index_at b head) has.index.link_is some) in
+    made come (λ z. no_zero b (tiles b) 8 (index_at b head) has.tiled has.index.has_nodes (subst (λ (x : ℕ). In x (nodes_of (index_at b head))) z last)) has.index.once

@@ -65,6 +65,7 @@ pub fn node_grown()
 {}
 
 /// An index with one leaf more is what the edit of the node at the end of the way makes of it, and then one in each node on the way, from the bottom up.
+#[tactic(auto, using(crate::proofs::WayDown::on_its_way))]
 pub fn leaf_on_its_way()
     ensures { (b : List ℕ) (head at : ℕ) (l : TreeLeaf) → HasIndex b head → head ≢ 0 → widen_all l.last (way l.first (index_at b head)) (redo (spot l.first (index_at b head)) (placed l at (spot l.first (index_at b head))) (index_at b head)) ≡ with_leaf l at (index_at b head) }
 {}

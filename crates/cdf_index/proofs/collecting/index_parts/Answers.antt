@@ -1,6 +1,6 @@
 use Rattle.cdf_index.proofs.Common.{index_at, ◌∙◌}
 use Rattle.cdf_index.proofs.ChainWalk.{whole_met}
-use Rattle.cdf_index.proofs.Collected.{collected}
+use Rattle.cdf_index.proofs.Measured.{collected}
 use Rattle.cdf_index.proofs.collecting.index_parts.Goals as goal
 
 pub returns-clause-leaves : goal.returns-clause-leaves

@@ -1,4 +1,4 @@
-use Rattle.cdf_index.proofs.Common.{ap, arith, false, kept, length, read_more, read_once, spot_at, true}
+use Rattle.cdf_index.proofs.Common.{ap, arith, length, read_more, read_once, spot_at}
 use Rattle.cdf_index.proofs.GoingDown.{chain_start, spot_found, best_node, next_tree, better_chain, spot_never}
 use Rattle.cdf_index.proofs.descending.stop_of_chain.Goals as goal
 

@@ -1,5 +1,5 @@
-use Rattle.cdf_index.proofs.Common.{arith, false, read_more, read_once, true}
-use Rattle.cdf_index.proofs.LevelsDown.{Descending, descend_start, next_level, last_among, all_among, descend_more, descend_never}
+use Rattle.cdf_index.proofs.Common.{arith, read_more, read_once}
+use Rattle.cdf_index.proofs.LevelsDown.{descend_start, next_level, last_among, all_among, descend_more, descend_never}
 use Rattle.cdf_index.proofs.descending.way_down.Goals as goal
 
 pub loop-turn-init : goal.loop-turn-init

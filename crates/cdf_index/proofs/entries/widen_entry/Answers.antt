@@ -1,4 +1,4 @@
-use Rattle.cdf_index.proofs.Common.{max, on_ok_weaker}
+use Rattle.cdf_index.proofs.Common.{on_ok_weaker}
 use Rattle.cdf_index.proofs.NodeShortened.{widened_by}
 use Rattle.cdf_index.proofs.entries.widen_entry.Goals as goal
 

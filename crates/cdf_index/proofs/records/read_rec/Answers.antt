@@ -1,4 +1,4 @@
-use Rattle.cdf_index.proofs.Common.{IfOk-weaker, block, leaf, upto, ◌∙◌}
+use Rattle.cdf_index.proofs.Common.{IfOk-weaker, ◌∙◌}
 use Rattle.cdf_index.proofs.RecordRead.{record_is}
 use Rattle.cdf_index.proofs.records.read_rec.Goals as goal
 
