@@ -1,7 +1,8 @@
 -- The steps by which code makes the levels of an index, one by one.
-use Rattle.cdf_reindex.proofs.Common.{AllMade, AreLevels, Entries, Entry, Filled, Leaf, LevelMade, LevelsMade, List, NewNode, NodeMade, PyramidMade, [], ap, append-nil, append_assoc, arith, entries_for, entries_of, entry_count, false, first_of, from_below, get_or, last_of, leaf_words, length, length-append, length-map, map, min, naming, nodes_above, quotient_up, refl, subst, suc, sym, uppers, with_both, words, words_of, ℕ, ◌*◌, ◌++◌, ◌+◌, ◌∙◌, ◌∷◌, ◌≡◌, ◌≤◌}
-use Rattle.cdf_reindex.proofs.Levels.{above_is, few_levels, left_more, level_length, raised, top_filled, total_is}
-use Rattle.cdf_reindex.proofs.WordsOfLevels.{leaves_saying, length_words, named, none_said, parted, they_say, words_for}
+use Rattle.cdf_reindex.proofs.Common.{AllMade, AreLevels, Entries, Entry, Filled, Leaf, LevelMade, LevelsMade, List, NewNode, NodeMade, PyramidMade, [], ap, append-nil, append_assoc, arith, entries_for, entries_of, entry_count, first_of, from_below, get_or, last_of, length, length-append, min, naming, nodes_above, nodes_left, quotient_up, refl, subst, suc, sym, uppers, with_both, words, words_of, zero, ℕ, ◌*◌, ◌++◌, ◌+◌, ◌∙◌, ◌∷◌, ◌≡◌, ◌≤◌}
+use Rattle.cdf_reindex.proofs.Levels.{above_is, leaves_under, left_more, raised, top_filled}
+use Rattle.cdf_index.proofs.Saying.{no_entries}
+use Rattle.cdf_reindex.proofs.WordsOfLevels.{length_words, named, parted}
 
 -- ---- a chunk of entries
 
@@ -46,15 +47,7 @@ goes_more b mid new all rest chunk left said place goes parts size some made =
     }
 
 pub goes_last : (b mid : List ℕ) (all : Entries) (rest said : List Entry) → Goes b mid all rest said → rest ≡ [] → LevelMade b mid all said
-goes_last b mid all rest said goes none = subst (LevelMade b mid all) (append-nil said) (goes.on mid [] (none_said goes.back (goes.rest_is ∙ none)) tt refl)
-
--- ---- room for the nodes of a level
-
-pub room_one : (n rest limit : ℕ) → n + 1052 * quotient_up rest 64 ≤ limit → 1 ≤ rest → n + 1052 ≤ limit
-room_one n rest limit fits some = omega arith
-
-pub room_more : (before now c left rest limit : ℕ) → before + 1052 * quotient_up rest 64 ≤ limit → c ≡ min 64 rest → rest ≡ c + left → 1 ≤ rest → now ≤ before + 1052 → now + 1052 * quotient_up left 64 ≤ limit
-room_more before now c left rest limit fits e p some long = omega arith
+goes_last b mid all rest said goes none = subst (LevelMade b mid all) (append-nil said) (goes.on mid [] (sym (no_entries goes.back (sym (length_words goes.back) ∙ ap length (goes.rest_is ∙ none)))) tt refl)
 
 -- ---- a level over another
 
@@ -66,23 +59,12 @@ pub all_longest : (b now : List ℕ) (nodes : List NewNode) → AllMade b now no
 all_longest b now [] m = omega (arith, ap length m)
 all_longest b now (new ∷ nodes) m = omega (arith, m.1.0.longest, all_longest m.0 now nodes m.1.1)
 
-many : (level : List NewNode) (said : List Entry) → Filled level → words_of (uppers level) ≡ said → length said ≡ length level
-many level said f e = ap length (sym e) ∙ length_words (uppers level) ∙ (raised level f).count
-
--- a level is as short as can be
-pub made_count : {b now : List ℕ} {entries said : List Entry} → ((all : Entries) → words_of all ≡ entries → LevelMade b now all said) → length said ≡ quotient_up (length entries) 64
-made_count {entries = entries} {said = said} made =
-    let all = entries_for (leaves_saying entries) in
-    let e : words_of all ≡ entries = words_for (leaves_saying entries) ∙ sym (they_say entries) in
-    let m = made all e in
-    many m.nodes said m.filled m.said_is ∙ level_length m.nodes m.filled m.entries_are ∙ ap (λ (n : ℕ). quotient_up n 64) (sym (length_words all) ∙ ap length e)
-
 pub levels_first : {b now : List ℕ} {leaves : List Leaf} {said : List Entry} → LevelMade b now (entries_for leaves) said → LevelsMade b now leaves said
 levels_first m = record { level = m.nodes; more = []; are = (m.entries_are, m.filled); said_is = m.said_is; made = m.made }
 
 module _ {b mid : List ℕ} {leaves : List Leaf} {said : List Entry} (l : LevelsMade b mid leaves said) where
   count : length said ≡ length l.level
-  count = many l.level said (top_filled leaves l.level l.more l.are) l.said_is
+  count = ap length (sym l.said_is) ∙ length_words (uppers l.level) ∙ (raised l.level (top_filled leaves l.level l.more l.are)).count
 
   pub levels_more : {now : List ℕ} {tops : List Entry} → 2 ≤ length said → LevelMade mid now (uppers l.level) tops → LevelsMade b now leaves tops
   levels_more {now = now} two m = record {
@@ -101,25 +83,20 @@ module _ {b mid : List ℕ} {leaves : List Leaf} {said : List Entry} (l : Levels
       go (root ∷ []) s e m n = record { root = root; more = l.more; are = s; place_is = is ∙ ap (λ (xs : List Entry). (get_or xs 0 other).place) (sym e); made = m }
       go (root ∷ next ∷ others) s e m n = absurd (omega arith)
 
--- there is room for the next level
-pub room_next : {b mid : List ℕ} {entries said : List Entry} → ((leaves : List Leaf) → entries ≡ map leaf_words leaves → LevelsMade b mid leaves said) → (limit : ℕ) → 2 ≤ length said → 1 ≤ length entries → length entries ≤ 2147483648
-    → length b + 1052 * nodes_above 8 (length entries) ≤ limit → length mid + 1052 * quotient_up (length said) 64 ≤ limit
-room_next {b = b} {mid = mid} {entries = entries} {said = said} made limit two some few fits =
-    let leaves = leaves_saying entries in
-    let same : length leaves ≡ length entries = length-map entries (λ (e : Entry). record { first = e.first; last = e.last; place = e.place; packed = false }) in
-    let l = made leaves (they_say entries) in
-    let d = few_levels leaves l.level l.more l.are (omega (arith, same, few)) in
-    let n = length l.level in
-    let here = count l in
-    omega (
-      arith,
-      all_longest b mid (from_below (l.level ∷ l.more)) l.made,
-      ap (nodes_above 8) same,
-      total_is leaves l.level l.more 8 (suc (suc d.0)) (omega (arith, d.1.0)) (omega (arith, same, some)) l.are,
-      left_more (suc (suc d.0)) n (omega (arith, here, two)),
-      above_is (suc d.0) n (omega (arith, here, two)),
-      here,
-    )
+-- ---- room for the levels above so many nodes
 
-pub room_level : (start all limit : ℕ) → 1 ≤ all → start + 1052 * nodes_above 8 all ≤ limit → start + 1052 * quotient_up all 64 ≤ limit
-room_level start all limit some fits = omega (arith, above_is 7 all some)
+abbrev pub HasLevels : ℕ → ℕ → ℕ → Type 0
+HasLevels start n limit = (levels : ℕ) × ((n ≤ leaves_under levels) × (start + 1052 * nodes_left (suc levels) n ≤ limit))
+
+pub room_first : (start n limit : ℕ) → 1 ≤ n → start + 1052 * nodes_above 8 n ≤ limit → start + 1052 * quotient_up n 64 ≤ limit
+room_first start n limit some enough = omega (arith, above_is 7 n some)
+
+pub room_next : (start n limit : ℕ) → HasLevels start n limit → 2 ≤ n → start + 1052 * quotient_up n 64 ≤ limit
+room_next start n limit (levels, (small, enough)) two = omega (arith, left_more (suc levels) n two, above_is levels n (omega arith))
+
+pub levels_left : (start now n limit many : ℕ) → many ≡ quotient_up n 64 → now ≤ start + 1052 * many → 1 ≤ n → n ≤ 2147483648 → start + 1052 * nodes_above 8 n ≤ limit → HasLevels now many limit
+levels_left start now n limit many e l some few enough = (6, (omega arith, omega (arith, above_is 7 n some, ap (λ (k : ℕ). k + nodes_left 7 k) e)))
+
+pub levels_next : (start now n limit many : ℕ) → many ≡ quotient_up n 64 → now ≤ start + 1052 * many → 2 ≤ n → HasLevels start n limit → HasLevels now many limit
+levels_next start now n limit many e l two (zero, (small, enough)) = absurd (omega arith)
+levels_next start now n limit many e l two (suc levels, (small, enough)) = (levels, (omega arith, omega (arith, left_more (suc (suc levels)) n two, above_is (suc levels) n (omega arith), ap (λ (k : ℕ). k + nodes_left (suc levels) k) e)))

@@ -1,35 +1,86 @@
--- The rules of blocks that stay, of a VDR that stays but for MaxRec, VXRhead and VXRtail.
-use Rattle.cdf_reindex.proofs.Common.{Each, FileSame, Hold, Hold-split, In, IsOneOf, Kept, Leaf, LeafFits, List, VdrStays, [], block_fits_alike, cvvr_type, fixed_size, flat_map, inl, inr, is_a, is_block, is_in, is_in-true, leaf_rows, packed_stays, plain_alike, refl, size_at, stays_alike, subst, sym, true, type_at, type_kept, vvr_type, ℕ, ◌&&◌, ◌==◌, ◌||◌, ◌∙◌, ◌∷◌, ◌≡◌, ◌≤◌}
-use Rattle.cdf_edits.proofs.Edits.InRecords.{places_of}
+-- An image in which a variable has another index by now, of the same leaves, in new nodes: what follows of it, its rules and its content.
+use Rattle.cdf_reindex.proofs.Common.{DataSet, Each, Each-in, Each-map, Field, Good, Hold, Hold-split, In, InOrder, IndexEdit, IsBare, IsOneOf, Kept, Kind, Leaf, LeafFits, List, Mark, NewIndex, NodeFits, Nodes, OwnEdit, R, Shape, StandsAmong, Variable, VariableFits, VariableShape, Z, ap, behind_in, block_behind, block_fits_alike, block_kept, cast_signed, content, content_is, content_now, cpr_behind, cpr_type, cvvr_type, each, end_stays, file, fits, flat_map, image_limit, index_edit, index_marks, index_rows, is_a, is_a-type, is_block, is_in, is_in-true, kept, leaf_rows, leaves_of, length, map, map-append, max_rec_kept, negsuc, node_room, nodes_of, number, own_edit, packed_stays, plain_alike, pos, record_number_limit, records_alike, records_in, refl, shape, splices, stays, stays_alike, subst, sym, true, type_kept, variable_of, variable_stays, variables_of, variables_of_are, vdr_alike, vdr_size, vvr_type, vxr_n_used_entries, w32, with_index, with_variables, ℕ, ◌&&◌, ◌++◌, ◌==◌, ◌||◌, ◌∙◌, ◌∷◌, ◌≡◌, ◌≤◌}
+use Rattle.cdf_edits.proofs.Edits.LeafPieces.{each_of, of_each, place_in as leaf_in}
+use Rattle.cdf_edits.proofs.Edits.PlainLeaves.{own_rules}
+use Rattle.cdf_edits.proofs.Edits.StandsAmong.{sound}
+use Rattle.cdf_edits.proofs.Edits.VariableFrame.{each_holds}
 use Rattle.cdf_edits.proofs.Rules.OfIndexes.{leaf_same}
+use Rattle.cdf_format.specs.IndexRules.{nodes_rows}
+use Rattle.cdf_index.proofs.LeafRules.{index_order, index_rules}
+use Rattle.cdf_index.specs.Adding.{Counts}
 
-module _ {b now : List ℕ} (file : FileSame b now) {v : ℕ} (k : VdrStays b now v) where
-  module _ (records records' : List ℕ) (fixed : (m : ℕ) → In m records → fixed_size (type_at b m) ≤ size_at b m) where
-    -- a block stands in both images
-    pub record StandsOn (m : ℕ) : Type 0 where
-      pub was : In m records
-      pub is : In m records'
-      pub kept : Kept b now m
+module _ {b now : List ℕ} {kind : Kind} {before : List VariableShape} {own : VariableShape} {after : List VariableShape} {index : Nodes} {new list : List ℕ} {fields : List Field} {space : List Mark} {nodes : List ℕ} {f : Field} {reborn : List ℕ} (good : Good b) (at : StandsAmong b kind before own after)
+    (y : NewIndex b now kind own index new list fields space nodes f reborn) (same : leaves_of index ≡ leaves_of own.index) (bare : Each (IsBare now) (nodes_of index)) where
+  abbrev pub x : IndexEdit b now kind own index new list (space ++ index_marks kind own.vdr nodes f) reborn
+  x = index_edit good at y
 
-    is_a_on : (type m : ℕ) → StandsOn m → is_a now records' type m ≡ is_a b records type m
-    is_a_on type m s =
-        let there : is_in m records' ≡ is_in m records = is_in-true m records' s.is ∙ sym (is_in-true m records s.was) in
-        let t = type_kept b now m s.kept.same s.kept.long in
-        λ i. there i && (t i == type)
+  abbrev pub o : OwnEdit b now kind own index new list (space ++ index_marks kind own.vdr nodes f) reborn
+  o = own_edit good at y
 
-    pub is_block_on : (m : ℕ) → StandsOn m → is_block now records' m ≡ is_block b records m
-    is_block_on m s = let p = is_a_on vvr_type m s in let q = is_a_on cvvr_type m s in λ i. p i || q i
+  abbrev s : Shape
+  s = shape b
 
-    pub fits_on : (leaves : List Leaf) → ((m : ℕ) → In m (places_of leaves) → StandsOn m) → Each (LeafFits b records v) leaves → Each (LeafFits now records' v) leaves
-    fits_on [] stand fits = tt
-    fits_on (leaf ∷ more) stand fits =
-        let at = stand leaf.place (inl refl) in
-        ((is_block_on leaf.place at ∙ fits.0.0, block_fits_alike file (stays_alike file k) leaf leaf.packed at.kept fits.0.1), fits_on more (λ m j. stand m (inr j)) fits.1)
+  abbrev v : ℕ
+  v = own.vdr
 
-    pub leaves_on : (leaves : List Leaf) → ((m : ℕ) → In m (places_of leaves) → StandsOn m) → Hold (flat_map (leaf_rows b records v) leaves) → Each (LeafFits b records v) leaves → (l : Leaf) → IsOneOf leaves l → (is_block now records' l.place ≡ true) × Hold (leaf_rows now records' v l)
-    leaves_on [] stand rules fits l i = absurd i
-    leaves_on (leaf ∷ more) stand rules fits l (inl q) =
-        let parts = Hold-split (leaf_rows b records v leaf) (flat_map (leaf_rows b records v) more) rules in
-        let s = stand leaf.place (inl refl) in
-        subst (λ (x : Leaf). (is_block now records' x.place ≡ true) × Hold (leaf_rows now records' v x)) q (is_block_on leaf.place s ∙ fits.0.0, subst Hold (sym (leaf_same b now file v v (packed_stays file k) (plain_alike file (stays_alike file k)) records records' fixed leaf (λ type. is_a_on type leaf.place s) s.kept parts.0)) parts.0)
-    leaves_on (leaf ∷ more) stand rules fits l (inr i) = leaves_on more (λ m j. stand m (inr j)) (Hold-split (leaf_rows b records v leaf) (flat_map (leaf_rows b records v) more) rules).1 fits.1 l i
+  abbrev ls : List Leaf
+  ls = leaves_of own.index
+
+  -- a record that is kept has the type that it had
+  is_a_now : (type m : ℕ) → In m s.records → Kept b now m → is_a now new type m ≡ is_a b s.records type m
+  is_a_now type m i k =
+      let there : is_in m new ≡ is_in m s.records = is_in-true m new (y.edit.sub m i) ∙ sym (is_in-true m s.records i) in
+      let t = type_kept b now m k.same k.long in
+      λ j. there j && (t j == type)
+
+  -- the leaves keep their rules
+  leaf_now : (l : Leaf) → IsOneOf ls l → LeafFits now new v l × Hold (leaf_rows now new v l)
+  leaf_now l i =
+      let m = l.place in
+      let place = leaf_in ls l i in
+      let was = behind_in good at m (block_behind own m place) in
+      let k = block_kept good at y m place in
+      let alike = stays_alike (file good at x) (stays good at x) in
+      let fit = of_each (LeafFits b s.records v) ls l (fits good at).2 i in
+      let rule = of_each (λ (a : Leaf). Hold (leaf_rows b s.records v a)) ls l (each_holds (leaf_rows b s.records v) ls (Hold-split (nodes_rows b s.records (negsuc 0) (pos record_number_limit) own.index) (flat_map (leaf_rows b s.records v) ls) (own_rules good at).1).1) i in
+      let p = is_a_now vvr_type m was k in
+      let q = is_a_now cvvr_type m was k in
+      let block : is_block now new m ≡ is_block b s.records m = λ j. p j || q j in (
+        (block ∙ fit.0, block_fits_alike (file good at x) alike l l.packed k fit.1),
+        subst Hold (sym (leaf_same b now (file good at x) v v (packed_stays (file good at x) (stays good at x)) (plain_alike (file good at x) alike) s.records new (sound good at).has_shape.fixed l (λ type. is_a_now type m was k) k rule)) rule,
+      )
+
+  cpr_now : (m : ℕ) → In m own.cpr → is_a now new cpr_type m ≡ true
+  cpr_now m i =
+      let was = behind_in good at m (cpr_behind own m i) in
+      let is = Each-in (λ c. is_a b s.records cpr_type c ≡ true) own.cpr (fits good at).3 m i in
+      is_a_now cpr_type m was (kept y.edit m cpr_type was (is_a-type b s.records cpr_type m is) y.tests.cpr_clear) ∙ is
+
+  fit : Each (NodeFits now) (nodes_of index)
+  fit = Each-map (IsBare now) (NodeFits now) (λ m r. r.fits) (nodes_of index) bare
+
+  pub fits_now : VariableFits now new (with_index own index)
+  fits_now = (rw (vdr_size good at x, end_stays (file good at x) (stays good at x)) (fits good at).0, fit, subst (Each (LeafFits now new v)) (sym same) (each_of (LeafFits now new v) ls (λ l i. (leaf_now l i).0)), each (λ m. is_a now new cpr_type m ≡ true) own.cpr cpr_now)
+
+  pub index_ruled : (InOrder 0 record_number_limit own.index → InOrder 0 record_number_limit index) → length now ≤ image_limit → Hold (index_rows now new v index)
+  index_ruled order short =
+      let count = Each-map (IsBare now) (Counts now) (λ m r. subst (λ (n : ℕ). number now m vxr_n_used_entries ≤ n) (sym r.room_is) r.few) (nodes_of index) bare in
+      index_rules now new v index (order (index_order b s.records v own.index (own_rules good at).1)) (node_room good at y fit count short) (λ l i. let r = leaf_now l (subst (λ (ms : List Leaf). IsOneOf ms l) same i) in (r.0.0, r.1))
+
+  -- ---- what the variable means, and all
+
+  means : variable_of now (with_index own index) ≡ variable_of b own
+  means =
+      let max = max_rec_kept good at y in
+      let all = ap (records_in now v) same ∙ records_alike (file good at x) (vdr_alike good at x) max ls s.records (block_kept good at y) (fits good at).2 in
+      variable_stays (file good at x) own (with_index own index) (stays good at x) refl ∙ (λ i. record (variable_of b own) { max_rec = cast_signed w32 (max i); recs = all i })
+
+  pub content_same : content now ≡ content b
+  content_same =
+      let all : variables_of (content b) kind ≡ map (variable_of b) before ++ variable_of b own ∷ map (variable_of b) after =
+      ap (λ (d : DataSet). variables_of d kind) (content_is b s (sound good at).has_shape) ∙ variables_of_are b s kind ∙ ap (map (variable_of b)) at.was ∙ map-append (variable_of b) before (own ∷ after) in
+      content_now (sound good at) (splices good at o) ∙ ap (λ (w : Variable). with_variables (content b) kind (map (variable_of b) before ++ w ∷ map (variable_of b) after)) means ∙ ap (with_variables (content b) kind) (sym all) ∙ itself kind (content b)
+    where
+      itself : (k : Kind) (d : DataSet) → with_variables d k (variables_of d k) ≡ d
+      itself R d = refl
+      itself Z d = refl

@@ -1,13 +1,12 @@
 -- The levels that code made, as a tree that stands in the image.
-use Rattle.cdf_reindex.proofs.Common.{AllTaken, AreInOrder, AreLevels, AreTight, Each, Each-append, EntriesTight, Filled, Good, HasNodes, HasVariable, InOrder, IndexMade, IsBare, IsBuilt, IsPyramid, IsSound, Kind, Leaf, List, NewNode, NextsAreZero, Nodes, PyramidMade, StandsAmong, VariableShape, [], alone, ap, arith, each, entries_for, from_below, good_is_sound, inl, leaf_words, leaves_named, length, length-map, link_to, map, no_node, nodes_above, nodes_at, places_of, record_number_limit, refl, shape, subst, suc, sym, times, ℕ, ◌+◌, ◌<◌, ◌^◌, ◌∙◌, ◌∷◌, ◌≡◌, ◌≤◌}
+use Rattle.cdf_reindex.proofs.Common.{AllTaken, AreInOrder, AreTight, Each-map, EntriesTight, Good, HasNodes, HasVariable, InOrder, IndexMade, IsBare, IsBuilt, IsPyramid, IsSound, Kind, Leaf, List, NewNode, NextsAreZero, Nodes, PyramidMade, StandsAmong, VariableShape, [], alone, ap, arith, each, entries_for, from_below, good_is_sound, inl, leaf_words, leaves_named, length, length-map, link_to, map, no_node, nodes_above, nodes_at, places_of, record_number_limit, refl, shape, subst, suc, sym, times, ℕ, ◌+◌, ◌<◌, ◌^◌, ◌∙◌, ◌∷◌, ◌≡◌, ◌≤◌}
 use Rattle.cdf_edits.proofs.Edits.LeafRecords.{Ascending}
 use Rattle.cdf_format.specs.Index.{leaves_of, nodes_of}
 use Rattle.cdf_index.proofs.LeavesAscend.{leaves_ascend}
 use Rattle.cdf_reindex.proofs.LevelSteps.{all_longest}
-use Rattle.cdf_reindex.proofs.Levels.{in_by_times, lengths_add, makes_pyramid, nodes_are, times_add}
+use Rattle.cdf_reindex.proofs.Levels.{Says, has_pyramid, in_by_times, lengths_add, makes_pyramid, nodes_are, times_add}
 use Rattle.cdf_reindex.proofs.MadeTaken.{all_taken, among_space, end_before, own_of}
-use Rattle.cdf_reindex.proofs.NodesMade.{IsSmall, all_stand, bare_at, nodes_taken}
-use Rattle.cdf_reindex.proofs.PyramidStands.{has_pyramid}
+use Rattle.cdf_reindex.proofs.NodesMade.{Stands, all_stand, bare_at, nodes_taken}
 
 -- ---- leaves in order are few
 
@@ -26,16 +25,6 @@ leaves_order high nodes o = ascend_order 0 high (leaves_of nodes) (leaves_ascend
 
 pub few_leaves : (nodes : Nodes) → InOrder 0 record_number_limit nodes → length (leaves_of nodes) ≤ 2147483648
 few_leaves nodes o = let m = ascend_most 0 2147483647 (leaves_of nodes) (omega arith) (leaves_ascend 0 record_number_limit nodes o (omega arith)) in omega arith
-
--- ---- new nodes are small
-
-smalls : (level : List NewNode) → Filled level → Each IsSmall level
-smalls [] f = tt
-smalls (new ∷ more) f = (f.1, smalls more f.3)
-
-all_small : (leaves : List Leaf) (level : List NewNode) (more : List (List NewNode)) → AreLevels leaves (level ∷ more) → Each IsSmall (from_below (level ∷ more))
-all_small leaves level [] l = smalls level l.1
-all_small leaves level (below ∷ more) l = Each-append IsSmall (from_below (below ∷ more)) level (all_small leaves below more l.3) (smalls level l.1)
 
 -- ---- an index of new nodes, over the leaves of a variable
 
@@ -77,7 +66,7 @@ module _ {b : List ℕ} {kind : Kind} {before : List VariableShape} {own : Varia
       let places = pyramid.places few in
       let taken = nodes_taken b made all p.made in
       let grows = (all_taken b made (places_of all) (good_is_sound b good) (end_before b good) taken).all.grows in
-      let stand = all_stand b made all (good_is_sound b good) (end_before b good) (all_small ls (p.root ∷ []) p.more p.are) p.made in
+      let stand = all_stand b made all (good_is_sound b good) (end_before b good) p.made in
       let has = own_of (HasVariable made (shape made).records) (among_space grows.same_shape among) grows.sound.has_shape.have_variables in
       let times_are = λ (m : ℕ). nodes_are ls p.root p.more p.are (times_add m) in
       let long = nodes_are ls p.root p.more p.are lengths_add in
@@ -93,9 +82,9 @@ module _ {b : List ℕ} {kind : Kind} {before : List VariableShape} {own : Varia
           taken = subst (AllTaken b made) (sym places) taken;
           each_taken = λ m. ap (times m) places ∙ sym (times_are m);
           as_many = ap length places ∙ sym long;
-          stands = has_pyramid made 8 ls p.root p.more (leaves_named made (shape made).records 8 own.index has.indexed.has_nodes) stand p.are (let l = pyramid.few few in omega arith);
-          small = subst (λ (n : ℕ). n < 2 ^ 64) p.place_is small;
-          bare = each (IsBare made) (nodes_of (alone p.root)) (λ m i. bare_at made (shape made).records all stand m (in_by_times (nodes_of (alone p.root)) (places_of all) times_are m i));
+          stands = has_pyramid ls p.root p.more p.are made (shape made).records 8 (omega (arith, pyramid.few few)) (leaves_named made (shape made).records 8 own.index has.indexed.has_nodes) (Each-map (Stands made) (Says made (shape made).records) (λ new r. r.says) all stand);
+          small = rw p.place_is at small;
+          bare = each (IsBare made) (nodes_of (alone p.root)) (λ m i. bare_at made all stand m (in_by_times (nodes_of (alone p.root)) (places_of all) times_are m i));
           longest = omega (arith, all_longest b made all p.made, long, length-map all (λ (new : NewNode). new.place), pyramid.fewest some few);
         };
       }

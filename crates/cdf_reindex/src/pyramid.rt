@@ -65,6 +65,8 @@ fn write_level<A: Area>(
     requires room { length (A.image area.old) + node_size * quotient_up (length entries.now) node_entries ≤ (A.frame area.old).limit }
     requires limit { (A.frame area.old).limit ≤ image_limit }
     ensures made { IfOk result (λ uppers. (below : Entries) → words_of below ≡ entries.now → LevelMade (A.image area.old) (A.image area.new) below uppers.items) }
+    ensures count { IfOk result (λ uppers. length uppers.items ≡ quotient_up (length entries.now) node_entries) }
+    ensures longest { IfOk result (λ uppers. length (A.image area.new) ≤ length (A.image area.old) + node_size * length uppers.items) }
     ensures sound { OnOk result (IsSound (A.image area.new) (shape (A.image area.new))) }
     ensures eof { OnOk result (eof (A.image area.new) (gdr_offset (A.image area.new)) ≡ length (A.image area.new)) }
     ensures area { Edits A.frame A.faults area.old area.new result }

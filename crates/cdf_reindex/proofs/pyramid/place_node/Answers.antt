@@ -9,7 +9,7 @@ pub write_node-requires-clause-short : goal.write_node-requires-clause-short
 write_node-requires-clause-short g c = let at = c.in_ok-place.ensures in omega (arith, taken_short _ _ 64 _ c.requires.sound at.takes at.sound at.content, c.requires.room, c.requires.limit)
 
 pub returns-clause-made : goal.returns-clause-made
-returns-clause-made g c = let at = c.in_ok-place.ensures in node_made _ _ _ c.requires.sound at.takes at.sound at.content _ _ c.in_ok-write_node.ensures.written
+returns-clause-made g c = let at = c.in_ok-place.ensures in node_made _ _ _ c.requires.sound at.takes at.sound at.content _ _ c.in_ok-write_node.ensures.written c.requires.few
 
 pub returns-clause-sound : goal.returns-clause-sound
 returns-clause-sound g c = let at = c.in_ok-place.ensures in node_sound _ _ 64 _ c.requires.sound at.takes at.sound at.content _ 0 _ c.in_ok-write_node.ensures.written

@@ -1,5 +1,5 @@
-use Rattle.cdf_reindex.proofs.Common.{Entry, [], ap, chunks_rest, edit_more, length, length-append, min, nil_from_length, refl, rules, subst, sym, ℕ, ◌++◌, ◌+◌, ◌∙◌, ◌∷◌, ◌≡◌, ◌≤◌}
-use Rattle.cdf_reindex.proofs.LevelSteps.{Goes, chunk_few, chunk_some, goes_last, goes_more, goes_start, room_more, room_one}
+use Rattle.cdf_reindex.proofs.Common.{Entry, [], ap, arith, chunks_rest, edit_more, length, length-append, min, nil_from_length, refl, rules, subst, sym, ℕ, ◌++◌, ◌∙◌, ◌∷◌, ◌≡◌}
+use Rattle.cdf_reindex.proofs.LevelSteps.{Goes, chunk_few, chunk_some, goes_last, goes_more, goes_start}
 use Rattle.cdf_reindex.proofs.pyramid.write_level.Goals as goal
 
 pub loop-node-init : goal.loop-node-init
@@ -9,7 +9,8 @@ loop-node-init g c = record {
   size = search rules;
   sound = c.requires.sound;
   eof_is = c.requires.eof;
-  room = search rules;
+  count = search rules;
+  longest = omega arith;
   goes = λ all said. goes_start (g.A.Area.image c.args.area.now) all c.args.entries.now _ _ said (search rules) (search rules);
   area = record { frame = refl; faults = refl };
 }
@@ -22,8 +23,8 @@ place_node-requires-clause-few g c =
 
 pub place_node-requires-clause-room : goal.place_node-requires-clause-room
 place_node-requires-clause-room g c =
-    let l = c.loop-node in
-    subst (λ f. length (g.A.Area.image l.area) + 1052 ≤ f.limit) (sym l.invariant.area.frame) (room_one (length (g.A.Area.image l.area)) (length (chunks_rest l.node-iterator)) _ l.invariant.room c.in-Some.ensures.steps.1.2)
+    let i = c.loop-node.invariant in
+    rw i.area.frame (omega (arith, i.longest, i.count, c.in-Some.ensures.steps.1.2, c.requires.room))
 
 pub naming-requires : goal.naming-requires
 naming-requires g c =
@@ -47,7 +48,8 @@ loop-node-preserved g c =
       size = steps.0 ∙ i.size;
       sound = call.sound;
       eof_is = call.eof;
-      room = room_more (length (g.A.Area.image l.area)) (length (g.A.Area.image c.place_node.new.area)) (length chunk) (length left) (length rest) _ i.room size (ap length steps.1.0 ∙ length-append chunk left) steps.1.2 call.made.longest;
+      count = omega (arith, ap length c.in_ok-push.ensures.items ∙ length-append l.uppers.items _, i.count, size, ap length steps.1.0 ∙ length-append chunk left, steps.1.2);
+      longest = omega (arith, ap length c.in_ok-push.ensures.items ∙ length-append l.uppers.items _, i.longest, call.made.longest);
       goes = λ all said. subst (Goes _ _ all left) (sym (c.in_ok-push.ensures.items ∙ ap (λ (e : Entry). l.uppers.items ++ e ∷ []) c.naming.ensures)) (goes_more _ _ _ all rest chunk left l.uppers.items c.in_ok-place.place (i.goes all said) steps.1.0 size steps.1.2 call.made);
       area = edit_more i.area call.area;
     }
@@ -56,3 +58,9 @@ pub returns-clause-made : goal.returns-clause-made
 returns-clause-made g c =
     let l = c.loop-node in
     λ all said. goes_last _ _ all (chunks_rest l.node-iterator) l.uppers.items (l.invariant.goes all said) (nil_from_length _ c.in-None.ensures.steps.1.0)
+
+pub returns-clause-count : goal.returns-clause-count
+returns-clause-count g c = omega (arith, c.loop-node.invariant.count, ap length (nil_from_length _ c.in-None.ensures.steps.1.0))
+
+pub returns-clause-longest : goal.returns-clause-longest
+returns-clause-longest g c = c.loop-node.invariant.longest
