@@ -1,7 +1,6 @@
 -- The steps by which code makes the levels of an index, one by one.
-use Rattle.cdf_reindex.proofs.Common.{AllMade, AreLevels, Entries, Entry, Filled, Leaf, LevelMade, LevelsMade, List, NewNode, NodeMade, PyramidMade, [], ap, append-nil, append_assoc, arith, entries_for, entries_of, entry_count, first_of, from_below, get_or, last_of, length, length-append, min, naming, nodes_above, nodes_left, quotient_up, refl, subst, suc, sym, uppers, with_both, words, words_of, zero, ℕ, ◌*◌, ◌++◌, ◌+◌, ◌∙◌, ◌∷◌, ◌≡◌, ◌≤◌}
+use Rattle.cdf_reindex.proofs.Common.{AllMade, AreLevels, Entries, Entry, Filled, Leaf, LevelMade, LevelsMade, List, NewNode, NodeMade, PyramidMade, [], ap, append-nil, append_assoc, arith, entries_for, entries_of, entry_count, first_of, from_below, get_or, last_of, length, length-append, min, naming, no_entries, nodes_above, nodes_left, quotient_up, refl, subst, suc, sym, uppers, with_both, words, words_of, zero, ℕ, ◌*◌, ◌++◌, ◌+◌, ◌∙◌, ◌∷◌, ◌≡◌, ◌≤◌}
 use Rattle.cdf_reindex.proofs.Levels.{above_is, leaves_under, left_more, raised, top_filled}
-use Rattle.cdf_index.proofs.Saying.{no_entries}
 use Rattle.cdf_reindex.proofs.WordsOfLevels.{length_words, named, parted}
 
 -- ---- a chunk of entries

@@ -1,13 +1,6 @@
 -- An image in which a variable has another index by now, of the same leaves, in new nodes: what follows of it, its rules and its content.
-use Rattle.cdf_reindex.proofs.Common.{DataSet, Each, Each-in, Each-map, Field, Good, Hold, Hold-split, In, InOrder, IndexEdit, IsBare, IsOneOf, Kept, Kind, Leaf, LeafFits, List, Mark, NewIndex, NodeFits, Nodes, OwnEdit, R, Shape, StandsAmong, Variable, VariableFits, VariableShape, Z, ap, behind_in, block_behind, block_fits_alike, block_kept, cast_signed, content, content_is, content_now, cpr_behind, cpr_type, cvvr_type, each, end_stays, file, fits, flat_map, image_limit, index_edit, index_marks, index_rows, is_a, is_a-type, is_block, is_in, is_in-true, kept, leaf_rows, leaves_of, length, map, map-append, max_rec_kept, negsuc, node_room, nodes_of, number, own_edit, packed_stays, plain_alike, pos, record_number_limit, records_alike, records_in, refl, shape, splices, stays, stays_alike, subst, sym, true, type_kept, variable_of, variable_stays, variables_of, variables_of_are, vdr_alike, vdr_size, vvr_type, vxr_n_used_entries, w32, with_index, with_variables, ℕ, ◌&&◌, ◌++◌, ◌==◌, ◌||◌, ◌∙◌, ◌∷◌, ◌≡◌, ◌≤◌}
-use Rattle.cdf_edits.proofs.Edits.LeafPieces.{each_of, of_each, place_in as leaf_in}
-use Rattle.cdf_edits.proofs.Edits.PlainLeaves.{own_rules}
-use Rattle.cdf_edits.proofs.Edits.StandsAmong.{sound}
-use Rattle.cdf_edits.proofs.Edits.VariableFrame.{each_holds}
-use Rattle.cdf_edits.proofs.Rules.OfIndexes.{leaf_same}
-use Rattle.cdf_format.specs.IndexRules.{nodes_rows}
-use Rattle.cdf_index.proofs.LeafRules.{index_order, index_rules}
-use Rattle.cdf_index.specs.Adding.{Counts}
+use Rattle.cdf_reindex.proofs.Common.{Counts, DataSet, Each, Each-in, Each-map, Field, Good, Hold, Hold-split, In, InOrder, IndexEdit, IsBare, IsOneOf, Kept, Kind, Leaf, LeafFits, List, Mark, NewIndex, NodeFits, Nodes, OwnEdit, R, Shape, StandsAmong, Variable, VariableFits, VariableShape, Z, ap, behind_in, block_behind, block_fits_alike, block_kept, cast_signed, content, content_is, content_now, cpr_behind, cpr_type, cvvr_type, each, each_holds, each_of, end_stays, file, fits, flat_map, image_limit, index_edit, index_marks, index_order, index_rows, index_rules, is_a, is_a-type, is_block, is_in, is_in-true, kept, leaf_rows, leaf_same, leaves_of, length, map, map-append, max_rec_kept, negsuc, node_room, nodes_of, nodes_rows, number, of_each, own_edit, own_rules, packed_stays, plain_alike, pos, record_number_limit, records_alike, records_in, refl, shape, sound, splices, stays, stays_alike, subst, sym, true, type_kept, variable_of, variable_stays, variables_of, variables_of_are, vdr_alike, vdr_size, vvr_type, vxr_n_used_entries, w32, with_index, with_variables, ℕ, ◌&&◌, ◌++◌, ◌==◌, ◌||◌, ◌∙◌, ◌∷◌, ◌≡◌, ◌≤◌}
+use Rattle.cdf_edits.proofs.Edits.LeafPieces.{place_in as leaf_in}
 
 module _ {b now : List ℕ} {kind : Kind} {before : List VariableShape} {own : VariableShape} {after : List VariableShape} {index : Nodes} {new list : List ℕ} {fields : List Field} {space : List Mark} {nodes : List ℕ} {f : Field} {reborn : List ℕ} (good : Good b) (at : StandsAmong b kind before own after)
     (y : NewIndex b now kind own index new list fields space nodes f reborn) (same : leaves_of index ≡ leaves_of own.index) (bare : Each (IsBare now) (nodes_of index)) where

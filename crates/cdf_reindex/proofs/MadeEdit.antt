@@ -1,16 +1,10 @@
 -- The new nodes are taken and written, VXRhead and VXRtail lead to them, and the old nodes are freed: one edit, by which a good image stays good.
-use Rattle.cdf_reindex.proofs.Common.{Act, ActsFollow, AllGiven, AreFree, AreTiles, Each, Each-in, Edit, Exchanged, Field, Good, HasVariable, In, In-append, In-append_left, In-append_right, IndexTests, IsBare, IsBuilt, IsChain, IsIndex, IsLeft, IsRebuilt, IsSound, Kept, Kind, Leaf, LiesIn, List, Mark, MayWrite, NewIndex, NextsAreZero, Nodes, OwnEdit, R, SameHeads, Shape, StandsAmong, TakenAll, VariableShape, Z, [], acts_still_by, all_gave, all_left, all_unused, ap, apart, append-nil, arith, avoided, behind_in, block_behind, distinct_if, each, edit_then, edit_under, eof, field, field_reads, fixed_size, freeing_marks, gave-same, gdr_eof, gdr_field, gdr_place, gdr_type, gdr_uir_head, has, heads_written, image_limit, index_edit, index_marks, inl, inr, is_in, is_record_type, keeps_file, kept, kept_away, last_node, length, length-with_field, levels_up, link_to, linkable-type, links_mark, long, made_acts, no_node, node, node_behind, nodes_kept, nodes_of, nodes_stand, none_in_use, not_twice_kept, number, number_kept, other_words, own_edit, owned-times, owned_records, parts_times, r_vdr_type, read_types, refl, reindex_room, room, rules, same_shape, shape, shapes_of, size_at, size_kept, sizes_by_tiles, some_bytes, sound_if, space_fields, spliced_times, splices, subst, sym, taking_all, through, tile, times, times-append, times-in, times-none, times-once, true, type_at, type_in, type_kept, typed, uir_type, unmarked, unmarked-away, used_times, variable_records, variables_chain, vdr_size, vdr_vxr_head, vdr_vxr_tail, vdrs, vxr_bytes, vxr_type, with_field, with_index, with_shapes, with_writes, write, write_lies, writes_edit, writes_long, z_vdr_type, ℕ, ◌++◌, ◌+◌, ◌∙◌, ◌∷◌, ◌≡◌, ◌≢◌, ◌≤◌}
+use Rattle.cdf_reindex.proofs.Common.{Act, ActsFollow, AllGiven, AreFree, AreTiles, Each, Each-in, Edit, Exchanged, Field, Good, HasVariable, In, In-append, In-append_left, In-append_right, IndexTests, IsBare, IsBuilt, IsChain, IsIndex, IsLeft, IsRebuilt, IsSound, Kept, Kind, Leaf, LiesIn, List, Mark, MayFree, MayWrite, NewIndex, NextsAreZero, Nodes, OwnEdit, R, SameHeads, Shape, StandsAmong, TakenAll, VariableShape, Z, [], acts_still_by, all_gave, all_given_edit, all_left, all_unused, ap, apart, append-nil, arith, avoided, away-avoids, behind_in, block_behind, chain_stays, distinct_if, each, edit_then, edit_under, eof, field, field_reads, fixed_size, freeing_marks, fresh_unowned, gave-same, gdr_eof, gdr_field, gdr_place, gdr_type, gdr_uir_head, has, heads_written, image_limit, index_edit, index_marks, inl, inr, is_in, is_record_type, keeps_file, kept, kept_away, last_node, length, length-with_field, levels_up, link_to, linkable-type, links_mark, long, made_acts, no_node, node, node_behind, nodes_kept, nodes_of, nodes_stand, none_in_use, not_twice_kept, number, number_kept, other_words, own_edit, owned-times, owned_records, parts_times, r_vdr_type, read_types, refl, reindex_room, room, rules, same_shape, shape, shapes_of, size_at, size_kept, sizes_by_tiles, some_bytes, sound, sound_if, space_fields, spliced_times, splices, subst, sym, taking_all, through, tile, times, times-append, times-in, times-none, times-once, true, type_at, type_in, type_kept, typed, uir_type, unmarked, unmarked-away, used_times, variable_records, variables_chain, vdr_no_node, vdr_size, vdr_type, vdr_vxr_head, vdr_vxr_tail, vdrs, vxr_bytes, vxr_type, with_field, with_index, with_shapes, with_writes, write, write_lies, writes_edit, writes_long, z_vdr_type, ℕ, ◌++◌, ◌+◌, ◌∙◌, ◌∷◌, ◌≡◌, ◌≢◌, ◌≤◌, is_linkable, linkable-in, linkable-long}
 use Rattle.cdf_edits.proofs.Edits.InRecords.{places_of}
-use Rattle.cdf_edits.proofs.Edits.FreedRecords.{MayFree, all_given_edit}
-use Rattle.cdf_edits.proofs.Edits.IndexEdited.{vdr_type}
-use Rattle.cdf_edits.proofs.Edits.MarkLemmas.{away-avoids}
-use Rattle.cdf_edits.proofs.Edits.OwnedOnce.{fresh_unowned}
-use Rattle.cdf_edits.proofs.Edits.RecordFrame.{chain_stays}
-use Rattle.cdf_edits.proofs.Edits.StandsAmong.{sound}
-use Rattle.cdf_index.proofs.NewIndex.{good_now as changed_good, vdr_no_node}
+use Rattle.cdf_index.proofs.NewIndex.{good_now as changed_good}
 use Rattle.cdf_reindex.proofs.Levels.{in_by_times, times_most}
 use Rattle.cdf_reindex.proofs.MadeBlocks.{content_same, fits_now, index_ruled}
-use Rattle.cdf_reindex.proofs.MadeTaken.{NodesTaken, all_taken, among_space, end_before, node_takes, own_of}
+use Rattle.cdf_reindex.proofs.MadeTaken.{all_taken, among_space, end_before, node_takes, own_of}
 use Rattle.cdf_reindex.proofs.NodesMade.{bare_by}
 use Rattle.cdf_edits.proofs.Edits.OwnEdited as of_own_edit
 
@@ -72,11 +66,8 @@ module _ {b made : List ℕ} {kind : Kind} {before : List VariableShape} {own : 
   tests : (nodes : List ℕ) (limit : ℕ) → HeadTests kind v s.unused ps nodes limit
   tests nodes limit = made_tests kind v s.unused ps nodes limit
 
-  taken : NodesTaken b made ps
-  taken = all_taken b made ps (sound good among) (end_before b good) x.taken
-
   pub t : TakenAll b made (node_takes ps) ps (vxr_bytes 64)
-  t = taken.all
+  t = all_taken b made ps (sound good among) (end_before b good) x.taken
 
   vdr_made : (type_at made v ≡ type) × (340 ≤ size_at made v)
   vdr_made =
@@ -118,6 +109,15 @@ module _ {b made : List ℕ} {kind : Kind} {before : List VariableShape} {own : 
   in_places : (m : ℕ) → In m (nodes_of index) → In m ps
   in_places m i = in_by_times (nodes_of index) ps (λ k. sym (x.each_taken k)) m i
 
+  stood : (m : ℕ) → In m ps → is_linkable made rs vxr_type m ≡ true
+  stood m i = nodes_stand made rs 8 index x.stands m (in_by_times ps (nodes_of index) x.each_taken m i)
+
+  new_in : (m : ℕ) → In m ps → In m rs
+  new_in m i = linkable-in made rs vxr_type m (stood m i)
+
+  new_made : (m : ℕ) → In m ps → type_at made m ≡ vxr_type
+  new_made m i = linkable-type made rs vxr_type m (stood m i)
+
   new_apart : (m : ℕ) → In m ps → In m os → ⊥
   new_apart m i j = apart vxr_type uir_type refl (sym (node_typed m j) ∙ t.fresh_all m i (node_before m j))
 
@@ -147,10 +147,10 @@ module _ {b made : List ℕ} {kind : Kind} {before : List VariableShape} {own : 
     old_linked m i = let k = node_linked m i in type_kept b linked m k.same k.long ∙ node_typed m i
 
     new_kept : (m : ℕ) → In m ps → Kept made linked m
-    new_kept m i = kept heads_edit m vxr_type (taken.stand m i).inside (taken.stand m i).typed (tests [] 0).nodes_clear
+    new_kept m i = kept heads_edit m vxr_type (new_in m i) (new_made m i) (tests [] 0).nodes_clear
 
     new_linked : (m : ℕ) → In m ps → type_at linked m ≡ vxr_type
-    new_linked m i = let k = new_kept m i in type_kept made linked m k.same k.long ∙ (taken.stand m i).typed
+    new_linked m i = let k = new_kept m i in type_kept made linked m k.same k.long ∙ new_made m i
 
     same_heads : SameHeads made linked rs rs
     same_heads = record {
@@ -169,8 +169,8 @@ module _ {b made : List ℕ} {kind : Kind} {before : List VariableShape} {own : 
       unspaced = refl;
       own_nodes = λ m i j. absurd j;
       typed_now = λ m i.
-          let size = same_heads.sizes m (taken.stand m i).inside ∙ (taken.stand m i).size_is in
-          (ap is_record_type (new_linked m i), subst (λ (k : ℕ). fixed_size k ≤ size_at linked m) (sym (new_linked m i)) (omega arith));
+          let long : 28 ≤ size_at linked m = omega (arith, same_heads.sizes m (new_in m i), linkable-long made rs vxr_type m (stood m i)) in
+          (ap is_record_type (new_linked m i), subst (λ (k : ℕ). fixed_size k ≤ size_at linked m) (sym (new_linked m i)) long);
       unused_chain =
           let head = gdr_field t.grows.sound heads_edit (tests [] 0).file_clear gdr_uir_head (tests [] 0).list_clear (omega arith) in
           subst (λ (g : ℕ). IsChain linked rs uir_type (number linked g gdr_uir_head) (shape made).unused) (ap (λ (y : Shape). y.gdr) t.grows.same_shape)
@@ -238,7 +238,7 @@ module _ {b made : List ℕ} {kind : Kind} {before : List VariableShape} {own : 
       stands_now = (own_of (HasVariable now (shape now).records) (among_space left.shape_is (of_own_edit.among_now good among linked_edit)) left.sound.has_shape.have_variables).indexed
 
       new_now : (m : ℕ) → In m ps → Kept made now m
-      new_now m i = kept_away onward m vxr_type (taken.stand m i).inside (taken.stand m i).typed ((λ e l. vdr_no_node kind (sym e)), ((λ e l. apart vxr_type gdr_type refl e), ((λ e l. apart vxr_type uir_type refl e), ((λ e l. new_apart m i l), tt))))
+      new_now m i = kept_away onward m vxr_type (new_in m i) (new_made m i) ((λ e l. vdr_no_node kind (sym e)), ((λ e l. apart vxr_type gdr_type refl e), ((λ e l. apart vxr_type uir_type refl e), ((λ e l. new_apart m i l), tt))))
 
       pub bare_now : Each (IsBare now) (nodes_of index)
       bare_now = each (IsBare now) (nodes_of index) (λ m i. bare_by made now m (new_now m (in_places m i)) (Each-in (IsBare made) (nodes_of index) x.bare m i))
@@ -263,7 +263,7 @@ module _ {b made : List ℕ} {kind : Kind} {before : List VariableShape} {own : 
         unspaced = refl;
         own_nodes = λ m i j. inl j;
         typed_now = λ m i.
-            let there : In m (shape now).records = elim (In-append m ps os i) [ inl j ↦ onward.sub m (taken.stand m j).inside | inr j ↦ onward.sub m (t.grows.edit.sub m (node_before m j)) ] in
+            let there : In m (shape now).records = elim (In-append m ps os i) [ inl j ↦ onward.sub m (new_in m j) | inr j ↦ onward.sub m (t.grows.edit.sub m (node_before m j)) ] in
             (left.sound.has_shape.typed m there, left.sound.has_shape.fixed m there);
         unused_chain =
             let gdr = sym left.sound.has_shape.gdr_is ∙ gdr_place (sound good among) edit (tests os (length linked)).tests.file_clear in
@@ -291,7 +291,7 @@ module _ {b made : List ℕ} {kind : Kind} {before : List VariableShape} {own : 
       -- ---- a good image stays good
 
       new_type : (m : ℕ) → In m ps → type_at now m ≡ vxr_type
-      new_type m i = let k = new_now m i in type_kept made now m k.same k.long ∙ (taken.stand m i).typed
+      new_type m i = let k = new_now m i in type_kept made now m k.same k.long ∙ new_made m i
 
       old_type : (m : ℕ) → In m os → type_at now m ≡ uir_type
       old_type = all_unused linked now os sound_linked may_free.stand given

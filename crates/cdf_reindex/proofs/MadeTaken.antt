@@ -1,31 +1,12 @@
 -- The nodes of a new index are taken one after the other: one edit, and acts that follow.
-use Rattle.cdf_reindex.proofs.Common.{Act, AllTaken, Each, Each-split, Good, In, IsSound, Kind, List, NodeStands, R, StandsAmong, TakenAll, Took, VariableShape, Z, [], ap, arith, eof, eof_by_rules, filled_size, good_by_its_shape, good_is_sound, good_long, inl, inr, kept, length, map, none_taken, of_kind, place_in, placed_grows, refl, rules_of_good, sealed_kept, shape, shapes_of, size_kept, subst, sym, taken_then, type_kept, variables, vxr_bytes, vxr_type, with_space, ℕ, ◌∙◌, ◌∷◌, ◌≡◌}
+use Rattle.cdf_reindex.proofs.Common.{Act, AllTaken, Each, Each-split, Good, IsSound, Kind, List, R, StandsAmong, TakenAll, Took, VariableShape, Z, [], ap, arith, eof, eof_by_rules, good_by_its_shape, good_is_sound, good_long, length, map, none_taken, of_kind, placed_grows, refl, rules_of_good, sealed_kept, shape, shapes_of, subst, sym, taken_then, variables, vxr_bytes, with_space, ℕ, ◌∙◌, ◌∷◌, ◌≡◌}
 
 abbrev pub node_takes : List ℕ → List Act
 node_takes places = map (λ vxr. Took vxr (vxr_bytes 64)) places
 
-pub record NodesTaken (b now places : List ℕ) : Type 0 where
-  pub all : TakenAll b now (node_takes places) places (vxr_bytes 64)
-  pub stand : (m : ℕ) → In m places → NodeStands now 64 m
-
-pub all_taken : (b now places : List ℕ) → IsSound b (shape b) → eof b (shape b).gdr ≡ length b → AllTaken b now places → NodesTaken b now places
-all_taken b now [] sound end same = subst (λ (x : List ℕ). NodesTaken b x []) (sym same) (record { all = none_taken sound end; stand = λ m i. absurd i })
-all_taken b now (place ∷ more) sound end all =
-    let fills = all.1.0.fills in
-    let first = placed_grows sound fills in
-    let rest = all_taken all.0 now more first.sound first.end_is all.1.1 in
-    let k = kept rest.all.grows.edit place vxr_type (place_in sound fills) fills.typed refl in
-    record {
-      all = taken_then sound fills (omega arith) rest.all;
-      stand = λ m i. elim i [
-        | inl q ↦ subst (NodeStands now 64) (sym q) (record {
-          inside = rest.all.grows.edit.sub place (place_in sound fills);
-          typed = type_kept all.0 now place k.same k.long ∙ fills.typed;
-          size_is = size_kept all.0 now place k.same (let l = k.long in omega arith) ∙ filled_size sound fills;
-        })
-        | inr j ↦ rest.stand m j
-      ];
-    }
+pub all_taken : (b now places : List ℕ) → IsSound b (shape b) → eof b (shape b).gdr ≡ length b → AllTaken b now places → TakenAll b now (node_takes places) places (vxr_bytes 64)
+all_taken b now [] sound end same = subst (λ (x : List ℕ). TakenAll b x [] [] (vxr_bytes 64)) (sym same) (none_taken sound end)
+all_taken b now (place ∷ more) sound end all = let first = placed_grows sound all.1.0.fills in taken_then sound all.1.0.fills (omega arith) (all_taken all.0 now more first.sound first.end_is all.1.1)
 
 -- a good image ends where it says
 pub end_before : (b : List ℕ) → Good b → eof b (shape b).gdr ≡ length b

@@ -1,7 +1,5 @@
 -- A record that was taken becomes a node.
-use Rattle.cdf_reindex.proofs.Common.{Entry, IsSound, List, NodeMade, NodeWritten, SaysEntry, Takes, arith, content, ends, eof, filled_size, fills, gdr_offset, length, node_short, shape, subst, vxr_type, ℕ, ◌≡◌, ◌≤◌}
-use Rattle.cdf_edits.specs.Space.Placing.{Fills}
-use Rattle.cdf_index.proofs.OneNode.{entry_past}
+use Rattle.cdf_reindex.proofs.Common.{Entry, Fills, IsSound, List, NodeMade, NodeWritten, SaysEntry, Takes, arith, content, ends, entry_past, eof, filled_size, fills, gdr_offset, length, node_short, shape, subst, vxr_type, ℕ, ◌≡◌, ◌≤◌}
 
 module _ (b taken : List ℕ) (place : ℕ) (sound : IsSound b (shape b)) (takes : Takes b taken (shape b) (shape taken) 1052 place) (sound_taken : IsSound taken (shape taken)) (stays : content taken ≡ content b) (now : List ℕ) (entries : List Entry) (w : NodeWritten taken now place 64 0 entries) where
   filled : Fills b taken now (shape b) (shape now).records (shape now).unused 1052 place vxr_type

@@ -1,6 +1,6 @@
 -- New nodes stay as they were made while others are made.
-use Rattle.cdf_reindex.proofs.Common.{AllMade, AllTaken, Each, In, IsBare, IsSound, Kept, List, NewNode, [], arith, eof, filled_size, inl, inr, kept, length, linkable-from, place_in, placed_grows, places_of, refl, shape, subst, sym, type_kept, vxr_type, ℕ, ◌+◌, ◌∙◌, ◌∷◌, ◌≡◌}
-use Rattle.cdf_index.proofs.OneNode.{same_node}
+use Rattle.cdf_reindex.proofs.Common.{AllMade, AllTaken, Each, In, IsBare, IsSound, Kept, List, NewNode, [], arith, eof, filled_size, inl, inr, kept, length, linkable-from, place_in, placed_grows, refl, same_node, shape, subst, sym, type_kept, vxr_type, ℕ, ◌+◌, ◌∙◌, ◌∷◌, ◌≡◌}
+use Rattle.cdf_reindex.proofs.Common.{places_of}
 use Rattle.cdf_reindex.proofs.Levels.{Says}
 use Rattle.cdf_reindex.proofs.MadeTaken.{all_taken}
 use Rattle.cdf_reindex.proofs.WordsOfLevels.{length_words, say_entries}
@@ -29,7 +29,7 @@ all_stand b now [] sound end m = tt
 all_stand b now (new ∷ more) sound end m =
     let made = m.1.0 in
     let one = placed_grows sound made.fills in
-    let edit = (all_taken m.0 now (places_of more) one.sound one.end_is (nodes_taken m.0 now more m.1.1)).all.grows.edit in
+    let edit = (all_taken m.0 now (places_of more) one.sound one.end_is (nodes_taken m.0 now more m.1.1)).grows.edit in
     let inside = place_in sound made.fills in
     let k = kept edit new.place vxr_type inside made.fills.typed refl in
     let n = same_node m.0 now new.place k made.bare.fits in

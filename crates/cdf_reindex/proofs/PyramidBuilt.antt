@@ -1,8 +1,6 @@
 -- The levels that code made, as a tree that stands in the image.
-use Rattle.cdf_reindex.proofs.Common.{AllTaken, AreInOrder, AreTight, Each-map, EntriesTight, Good, HasNodes, HasVariable, InOrder, IndexMade, IsBare, IsBuilt, IsPyramid, IsSound, Kind, Leaf, List, NewNode, NextsAreZero, Nodes, PyramidMade, StandsAmong, VariableShape, [], alone, ap, arith, each, entries_for, from_below, good_is_sound, inl, leaf_words, leaves_named, length, length-map, link_to, map, no_node, nodes_above, nodes_at, places_of, record_number_limit, refl, shape, subst, suc, sym, times, ℕ, ◌+◌, ◌<◌, ◌^◌, ◌∙◌, ◌∷◌, ◌≡◌, ◌≤◌}
-use Rattle.cdf_edits.proofs.Edits.LeafRecords.{Ascending}
-use Rattle.cdf_format.specs.Index.{leaves_of, nodes_of}
-use Rattle.cdf_index.proofs.LeavesAscend.{leaves_ascend}
+use Rattle.cdf_reindex.proofs.Common.{AllTaken, AreInOrder, AreTight, Ascending, Each-map, EntriesTight, Good, HasNodes, HasVariable, InOrder, IndexMade, IsBare, IsBuilt, IsPyramid, IsSound, Kind, Leaf, List, NewNode, NextsAreZero, Nodes, PyramidMade, StandsAmong, VariableShape, [], alone, ap, arith, each, entries_for, from_below, good_is_sound, inl, leaf_words, leaves_ascend, leaves_named, leaves_of, length, length-map, link_to, map, no_node, nodes_above, nodes_at, nodes_of, record_number_limit, refl, shape, subst, suc, sym, times, ℕ, ◌+◌, ◌<◌, ◌^◌, ◌∙◌, ◌∷◌, ◌≡◌, ◌≤◌}
+use Rattle.cdf_reindex.proofs.Common.{places_of}
 use Rattle.cdf_reindex.proofs.LevelSteps.{all_longest}
 use Rattle.cdf_reindex.proofs.Levels.{Says, has_pyramid, in_by_times, lengths_add, makes_pyramid, nodes_are, times_add}
 use Rattle.cdf_reindex.proofs.MadeTaken.{all_taken, among_space, end_before, own_of}
@@ -65,7 +63,7 @@ module _ {b : List ℕ} {kind : Kind} {before : List VariableShape} {own : Varia
       let pyramid = makes_pyramid ls p.root p.more p.are in
       let places = pyramid.places few in
       let taken = nodes_taken b made all p.made in
-      let grows = (all_taken b made (places_of all) (good_is_sound b good) (end_before b good) taken).all.grows in
+      let grows = (all_taken b made (places_of all) (good_is_sound b good) (end_before b good) taken).grows in
       let stand = all_stand b made all (good_is_sound b good) (end_before b good) p.made in
       let has = own_of (HasVariable made (shape made).records) (among_space grows.same_shape among) grows.sound.has_shape.have_variables in
       let times_are = λ (m : ℕ). nodes_are ls p.root p.more p.are (times_add m) in

@@ -1,10 +1,5 @@
 -- What a good image gives for the calls by which the index of one of its variables is made anew, and what they come to.
-use Rattle.cdf_reindex.proofs.Common.{AllGiven, AreFree, Entry, Good, In, IndexMade, IsNode, IsRebuilt, IsSound, Kind, LiesIn, List, Nodes, Reindexed, StandsAmong, VariableShape, [], ap, arith, fits, good_by_its_shape, good_is_sound, heads_written, image_limit, index_of, inl, inr, leaf_words, leaves_of, length, length-map, map, name_room, nil_from_length, no_node, node, nodes_above, number, refl, reindex_room, shape, subst, sym, variables, vdr_vxr_head, vdr_vxr_tail, vdrs, with_field, with_writes, ℕ, ◌*◌, ◌+◌, ◌<◌, ◌^◌, ◌∙◌, ◌≡◌, ◌≤◌}
-use Rattle.cdf_format.proofs.GoodImageLemmas.{good_image}
-use Rattle.cdf_format.specs.Index.{nodes_of}
-use Rattle.cdf_index.proofs.GoodIndex.{good_index}
-use Rattle.cdf_index.proofs.OneVariable.{OneOf, among_all, one_of}
-use Rattle.cdf_index.specs.Finding.{HasIndex, index_at}
+use Rattle.cdf_reindex.proofs.Common.{AllGiven, AreFree, Entry, Good, HasIndex, In, IndexMade, IsNode, IsRebuilt, IsSound, Kind, LiesIn, List, Nodes, OneOf, Reindexed, StandsAmong, VariableShape, [], among_all, ap, arith, fits, good_by_its_shape, good_image, good_index, good_is_sound, heads_written, image_limit, index_at, index_of, inl, inr, leaf_words, leaves_of, length, length-map, map, name_room, nil_from_length, no_node, node, nodes_above, nodes_of, number, one_of, refl, reindex_room, shape, subst, sym, variables, vdr_vxr_head, vdr_vxr_tail, vdrs, with_field, with_writes, ℕ, ◌*◌, ◌+◌, ◌<◌, ◌^◌, ◌∙◌, ◌≡◌, ◌≤◌}
 use Rattle.cdf_reindex.proofs.MadeEdit.{good_now, head_lies, old_free, rebuilt, sound_linked, tail_lies}
 use Rattle.cdf_reindex.proofs.PyramidBuilt.{few_leaves, tree_made}
 

@@ -1,36 +1,6 @@
-use Rattle.cdf_reindex.proofs.Common.{Entry, [], ap, arith, chunks_rest, edit_more, length, length-append, min, nil_from_length, refl, rules, subst, sym, ℕ, ◌++◌, ◌∙◌, ◌∷◌, ◌≡◌}
-use Rattle.cdf_reindex.proofs.LevelSteps.{Goes, chunk_few, chunk_some, goes_last, goes_more, goes_start}
+use Rattle.cdf_reindex.proofs.Common.{Entry, [], ap, arith, chunks_rest, edit_more, length, length-append, min, nil_from_length, rules, subst, sym, ℕ, ◌++◌, ◌∙◌, ◌∷◌, ◌≡◌}
+use Rattle.cdf_reindex.proofs.LevelSteps.{Goes, goes_last, goes_more}
 use Rattle.cdf_reindex.proofs.pyramid.write_level.Goals as goal
-
-pub loop-node-init : goal.loop-node-init
-loop-node-init g c = record {
-  next = search rules;
-  finite = tt;
-  size = search rules;
-  sound = c.requires.sound;
-  eof_is = c.requires.eof;
-  count = search rules;
-  longest = omega arith;
-  goes = λ all said. goes_start (g.A.Area.image c.args.area.now) all c.args.entries.now _ _ said (search rules) (search rules);
-  area = record { frame = refl; faults = refl };
-}
-
-pub place_node-requires-clause-few : goal.place_node-requires-clause-few
-place_node-requires-clause-few g c =
-    let l = c.loop-node in
-    let steps = c.in-Some.ensures.steps in
-    chunk_few (length c.in-Some.node.now) (length (chunks_rest l.node-iterator)) (steps.1.1 ∙ ap (λ (n : ℕ). min n (length (chunks_rest l.node-iterator))) l.invariant.size)
-
-pub place_node-requires-clause-room : goal.place_node-requires-clause-room
-place_node-requires-clause-room g c =
-    let i = c.loop-node.invariant in
-    rw i.area.frame (omega (arith, i.longest, i.count, c.in-Some.ensures.steps.1.2, c.requires.room))
-
-pub naming-requires : goal.naming-requires
-naming-requires g c =
-    let l = c.loop-node in
-    let steps = c.in-Some.ensures.steps in
-    record { some = chunk_some (length c.in-Some.node.now) (length (chunks_rest l.node-iterator)) (steps.1.1 ∙ ap (λ (n : ℕ). min n (length (chunks_rest l.node-iterator))) l.invariant.size) steps.1.2 }
 
 pub loop-node-preserved : goal.loop-node-preserved
 loop-node-preserved g c =
@@ -58,9 +28,3 @@ pub returns-clause-made : goal.returns-clause-made
 returns-clause-made g c =
     let l = c.loop-node in
     λ all said. goes_last _ _ all (chunks_rest l.node-iterator) l.uppers.items (l.invariant.goes all said) (nil_from_length _ c.in-None.ensures.steps.1.0)
-
-pub returns-clause-count : goal.returns-clause-count
-returns-clause-count g c = omega (arith, c.loop-node.invariant.count, ap length (nil_from_length _ c.in-None.ensures.steps.1.0))
-
-pub returns-clause-longest : goal.returns-clause-longest
-returns-clause-longest g c = c.loop-node.invariant.longest

@@ -23,9 +23,6 @@ write_level-requires-in-loop-alloc-clause-room g c =
     let l = c.loop-alloc in
     rw (c.deref.ensures.value, l.invariant.area.frame) (room_next _ _ _ l.invariant.room (omega (arith, c.len.ensures, c.loop-alloc-test.true)))
 
-pub loop-alloc-smaller : goal.loop-alloc-smaller
-loop-alloc-smaller g c = omega (arith, c.in_ok-level-2.ensures.count, ap length c.deref.ensures.value, c.len.ensures, c.loop-alloc-test.true)
-
 pub loop-alloc-preserved : goal.loop-alloc-preserved
 loop-alloc-preserved g c =
     let l = c.loop-alloc in
