@@ -1,6 +1,5 @@
 -- Levels make an index of their leaves: what the entries that name the nodes of a level have of those in them, and what holds of all levels.
-use Rattle.cdf_reindex.proofs.Common.{AreInOrder, AreLevels, AreTight, Distinct, Each, Each-split, Entries, EntriesTight, Filled, FullFromLeft, HasNodes, In, InOrder, Leaf, List, LowerAreZero, MakesPyramid, Named, Names, NewNode, NextsAreZero, None, Option, SaysNode, Some, Spans, [], alone, ap, append-nil, append_assoc, ap₂, arith, block, cases_lt, count_both, either, entries_for, entries_of, entry_count, entry_leaves, false-is_in, first_of, from_below, inl, inr, is_in, last_of, last_or, leaves_both, leaves_of, length, length-append, length-map, levels_up, lower, lower_both, lower_nodes, map, map-append, names_parts, nat_tests, no_entry, no_node, nodes_above, nodes_at, nodes_below, nodes_left, nodes_of, option_map, parts_in_order, past_entries, quotient_up, refl, slice_get, subst, suc, sum, sum_by-cons, sym, times, times-append, times-in, times-none, times-once, true-is_in, uppers, with_both, zero, ℕ, ◌*◌, ◌++◌, ◌+◌, ◌∙◌, ◌∷◌, ◌≡◌, ◌≤◌, ◌⊎◌}
-use Rattle.cdf_reindex.proofs.Common.{places_of}
+use Rattle.cdf_reindex.proofs.Common.{AreInOrder, AreLevels, AreTight, Distinct, Each, Each-split, Entries, EntriesTight, Filled, FullFromLeft, HasNodes, In, InOrder, Leaf, List, LowerAreZero, MakesPyramid, Named, Names, NewNode, NextsAreZero, None, Option, SaysNode, Some, Spans, [], alone, ap, append-nil, append_assoc, ap₂, arith, block, cases_lt, count_both, either, entries_for, entries_of, entry_count, entry_leaves, false-is_in, first_of, from_below, inl, inr, is_in, last_of, last_or, leaves_both, leaves_of, length, length-append, length-map, levels_up, lower, lower_both, lower_nodes, map, map-append, names_parts, nat_tests, no_entry, no_node, nodes_above, nodes_at, nodes_below, nodes_left, nodes_of, option_map, parts_in_order, past_entries, places_of, quotient_up, refl, subst, suc, sum, sum_by-cons, sym, times, times-append, times-in, times-none, times-once, true-is_in, uppers, with_both, zero, ℕ, ◌*◌, ◌++◌, ◌+◌, ◌∙◌, ◌∷◌, ◌≡◌, ◌≤◌, ◌⊎◌, rules}
 
 -- what counts a list by its parts
 pub record Adds (f : List ℕ → ℕ) : Type 0 where
@@ -15,17 +14,11 @@ lengths_add = record { none = refl; both = length-append }
 
 -- ---- two lists of entries
 
-zero_parts : (entries others : Entries) → LowerAreZero (with_both entries others) → LowerAreZero entries × LowerAreZero others
-unfolding NextsAreZero LowerAreZero
-zero_parts no_entry others z = (tt, z)
-zero_parts (block first last place packed entries) others z = zero_parts entries others z
-zero_parts (lower first last nodes entries) others z = let r = zero_parts entries others z.1 in ((z.0, r.0), r.1)
-
-tight_parts : (entries others : Entries) → EntriesTight (with_both entries others) → EntriesTight entries × EntriesTight others
-unfolding AreTight EntriesTight
-tight_parts no_entry others t = (tt, t)
-tight_parts (block first last place packed entries) others t = tight_parts entries others t
-tight_parts (lower first last nodes entries) others t = let r = tight_parts entries others t.2 in ((t.0, t.1, r.0), r.1)
+parts : (entries others : Entries) → (LowerAreZero (with_both entries others) → LowerAreZero entries × LowerAreZero others) × (EntriesTight (with_both entries others) → EntriesTight entries × EntriesTight others)
+unfolding NextsAreZero LowerAreZero AreTight EntriesTight
+parts no_entry others = (λ z. (tt, z), λ t. (tt, t))
+parts (block first last place packed entries) others = parts entries others
+parts (lower first last nodes entries) others = let r = parts entries others in (λ z. let p = r.0 z.1 in ((z.0, p.0), p.1), λ t. let p = r.1 t.2 in ((t.0, t.1, p.0), p.1))
 
 below_both : (levels : ℕ) (entries others : Entries) → nodes_below levels (with_both entries others) ≡ nodes_below levels entries ++ nodes_below levels others
 unfolding nodes_at nodes_below
@@ -49,35 +42,27 @@ narrow low high no_entry some o = absurd (omega arith)
 narrow low high (block f l place packed entries) some o = let r = behind l high entries o.2 o.3 in (o.0, omega (arith, o.1, r.0), r.1, (omega arith, o.1, r.0, r.2), r.3)
 narrow low high (lower f l nodes entries) some o = let r = behind l high entries o.2 o.4 in (o.0, omega (arith, o.1, r.0), r.1, (omega arith, o.1, r.0, o.3, r.2), r.3)
 
-last_append : (o : Option Leaf) (xs ys : List Leaf) → last_or o (xs ++ ys) ≡ last_or (last_or o xs) ys
-last_append o [] ys = refl
-last_append o (x ∷ xs) ys = last_append (Some x) xs ys
+last_behind : (o : Option Leaf) (xs ys : List Leaf) (n : ℕ) → option_map (λ (l : Leaf). l.last) (last_or None ys) ≡ Some n → option_map (λ (l : Leaf). l.last) (last_or o (xs ++ ys)) ≡ Some n
+last_behind o [] [] n e = absurd cc
+last_behind o [] (y ∷ ys) n e = e
+last_behind o (x ∷ xs) ys n e = last_behind (Some x) xs ys n e
 
--- Last of the last leaf is the last of the last entry
-last_spans : (o : Option Leaf) (n : ℕ) (entries : Entries) → option_map (λ (l : Leaf). l.last) o ≡ Some n → EntriesTight entries → option_map (λ (l : Leaf). l.last) (last_or o (entry_leaves entries)) ≡ Some (last_of n entries)
+spans_both : {first last first' last' : ℕ} (xs ys : List Leaf) → Spans first last xs → Spans first' last' ys → Spans first last' (xs ++ ys)
+spans_both [] ys s t = absurd (cc s.0)
+spans_both {last' = last'} (x ∷ xs) ys s t = (s.0, last_behind (Some x) xs ys last' t.1)
+
+-- leaves, and then those below entries
+spanned : (first last : ℕ) (ls : List Leaf) (entries : Entries) → Spans first last ls → EntriesTight entries → Spans first (last_of last entries) (ls ++ entry_leaves entries)
 unfolding AreTight EntriesTight leaves_of entry_leaves
-last_spans o n no_entry e t = e
-last_spans o n (block first last place packed entries) e t = last_spans (Some (record { first = first; last = last; place = place; packed = packed })) last entries refl t
-last_spans o n (lower first last nodes entries) e t =
-    ap (option_map (λ (l : Leaf). l.last)) (last_append o (leaves_of nodes) (entry_leaves entries))
-    ∙ last_spans (last_or o (leaves_of nodes)) last entries (other (leaves_of nodes) t.0.1) t.2
-  where
-    other : (ls : List Leaf) → option_map (λ (l : Leaf). l.last) (last_or None ls) ≡ Some last → option_map (λ (l : Leaf). l.last) (last_or o ls) ≡ Some last
-    other [] e = absurd cc
-    other (x ∷ xs) e = e
+spanned first last ls no_entry s t = rw (append-nil ls) s
+spanned first last ls (block f l place packed es) s t = rw (append_assoc ls (record { first = f; last = l; place = place; packed = packed } ∷ []) (entry_leaves es)) at (spanned first l (ls ++ record { first = f; last = l; place = place; packed = packed } ∷ []) es (spans_both ls _ s (refl, refl)) t)
+spanned first last ls (lower f l nodes es) s t = rw (append_assoc ls (leaves_of nodes) (entry_leaves es)) at (spanned first l (ls ++ leaves_of nodes) es (spans_both ls (leaves_of nodes) s t.0) t.2)
 
 spans : (entries : Entries) → 1 ≤ entry_count entries → EntriesTight entries → Spans (first_of entries) (last_of 0 entries) (entry_leaves entries)
 unfolding AreTight EntriesTight leaves_of entry_leaves
 spans no_entry some t = absurd (omega arith)
-spans (block first last place packed entries) some t = (refl, last_spans (Some (record { first = first; last = last; place = place; packed = packed })) last entries refl t)
-spans (lower first last nodes entries) some t = (
-  first_append (leaves_of nodes) t.0.0,
-  ap (option_map (λ (l : Leaf). l.last)) (last_append None (leaves_of nodes) (entry_leaves entries)) ∙ last_spans (last_or None (leaves_of nodes)) last entries t.0.1 t.2,
-)
-  where
-    first_append : (xs : List Leaf) → option_map (λ (l : Leaf). l.first) (slice_get xs 0) ≡ Some first → option_map (λ (l : Leaf). l.first) (slice_get (xs ++ entry_leaves entries) 0) ≡ Some first
-    first_append [] e = absurd cc
-    first_append (x ∷ xs) e = e
+spans (block first last place packed es) some t = spanned first last (record { first = first; last = last; place = place; packed = packed } ∷ []) es (refl, refl) t
+spans (lower first last nodes es) some t = spanned first last (leaves_of nodes) es t.0 t.2
 
 -- ---- a level
 
@@ -91,8 +76,7 @@ counted level = map (λ new. (new.place, entry_count new.entries)) level
 
 pub record Raised (level : List NewNode) : Type 0 where
   pub count : entry_count (uppers level) ≡ length level
-  pub least : length level * 64 ≤ entry_count (entries_of level) + 63
-  pub most : entry_count (entries_of level) ≤ 64 * length level
+  pub shortest : length level ≡ quotient_up (entry_count (entries_of level)) 64
   pub sum_is : sum (map (λ pair. pair.1) (counted level)) ≡ entry_count (entries_of level)
   pub leaves_are : entry_leaves (uppers level) ≡ entry_leaves (entries_of level)
   pub order : (low high : ℕ) → AreInOrder low high (entries_of level) → AreInOrder low high (uppers level)
@@ -100,53 +84,35 @@ pub record Raised (level : List NewNode) : Type 0 where
   pub tight : EntriesTight (entries_of level) → EntriesTight (uppers level)
   pub here : nodes_below 0 (uppers level) ≡ counted level
   pub below : (levels : ℕ) → nodes_below (suc levels) (uppers level) ≡ nodes_below levels (entries_of level)
-  pub nodes : {f : List ℕ → ℕ} → Adds f → f (lower_nodes (uppers level)) ≡ f (places_of level) + f (lower_nodes (entries_of level))
+  pub nodes : {f : List ℕ → ℕ} → Adds f → f (lower_nodes (uppers level)) ≡ f (places_of level ++ lower_nodes (entries_of level))
   pub names : (now rs : List ℕ) (levels : ℕ) → Each (Says now rs) level → Names now rs levels (entries_of level) → Names now rs (suc levels) (uppers level)
 
 pub raised : (level : List NewNode) → Filled level → Raised level
 unfolding leaves_of entry_leaves InOrder AreInOrder NextsAreZero LowerAreZero AreTight EntriesTight nodes_of lower_nodes nodes_at nodes_below HasNodes Names
-raised [] f = record {
-  count = refl;
-  least = omega arith;
-  most = omega arith;
-  sum_is = refl;
-  leaves_are = refl;
-  order = λ low high o. tt;
-  zeros = λ z. tt;
-  tight = λ t. tt;
-  here = refl;
-  below = λ levels. refl;
-  nodes = λ {f} adds. omega (arith, adds.none);
-  names = λ now rs levels s h. tt;
-}
+raised [] f = search rules
 raised (new ∷ more) f =
     let r = raised more f.3 in
     let es = new.entries in
     let both = count_both es (entries_of more) in
     record {
       count = ap suc r.count;
-      least = elim (cases_lt (length more) 1) [ inl lt ↦ omega (arith, both, f.0, lt) | inr le ↦ omega (arith, both, f.2 le, r.least) ];
-      most = omega (arith, both, f.1, r.most);
+      shortest = elim (cases_lt (length more) 1) [ inl lt ↦ omega (arith, both, f.0, f.1, r.shortest, lt) | inr le ↦ omega (arith, both, f.2 le, r.shortest) ];
       sum_is = sum_by-cons (λ x. x) (entry_count es) (map (λ pair. pair.1) (counted more)) ∙ omega (arith, both, r.sum_is);
       leaves_are = rw (leaves_both es (entries_of more), append-nil (entry_leaves es), r.leaves_are) refl;
       order = λ low high o.
-          let parts = parts_in_order low high es (entries_of more) o in
-          let w = narrow low high es f.0 parts.0 in
-          (w.0, w.1, w.2, (w.3, tt), r.order (suc (last_of 0 es)) high (subst (λ (n : ℕ). AreInOrder n high (entries_of more)) w.4 parts.1));
-      zeros = λ z. let parts = zero_parts es (entries_of more) z in (parts.0, r.zeros parts.1);
-      tight = λ t. let parts = tight_parts es (entries_of more) t in (subst (Spans (first_of es) (last_of 0 es)) (sym (append-nil (entry_leaves es))) (spans es f.0 parts.0), (parts.0, tt), r.tight parts.1);
+          let p = parts_in_order low high es (entries_of more) o in
+          let w = narrow low high es f.0 p.0 in
+          (w.0, w.1, w.2, (w.3, tt), r.order (suc (last_of 0 es)) high (rw w.4 at p.1));
+      zeros = λ z. let p = (parts es (entries_of more)).0 z in (p.0, r.zeros p.1);
+      tight = λ t. let p = (parts es (entries_of more)).1 t in (rw (append-nil (entry_leaves es)) (spans es f.0 p.0), (p.0, tt), r.tight p.1);
       here = ap (λ (ps : List (ℕ × ℕ)). (new.place, entry_count es) ∷ ps) r.here;
       below = λ levels. rw (below_both levels es (entries_of more), append-nil (nodes_below levels es), r.below levels) refl;
       nodes = λ {f} adds.
           rw (append-nil (lower_nodes es))
           (adds.both (new.place ∷ lower_nodes es) (lower_nodes (uppers more))
-          ∙ omega (arith, adds.both (new.place ∷ []) (lower_nodes es), r.nodes adds, adds.both (new.place ∷ []) (places_of more), ap f (lower_both es (entries_of more)) ∙ adds.both (lower_nodes es) (lower_nodes (entries_of more))));
-      names = λ now rs levels s h. let parts = names_parts now rs levels es (entries_of more) h in (tt, (s.0, parts.0, tt), r.names now rs levels s.1 parts.1);
+          ∙ omega (arith, adds.both (new.place ∷ []) (lower_nodes es), r.nodes adds ∙ adds.both (places_of more) (lower_nodes (entries_of more)), adds.both (new.place ∷ []) (places_of more), adds.both (new.place ∷ places_of more) (lower_nodes (with_both es (entries_of more))), ap f (lower_both es (entries_of more)) ∙ adds.both (lower_nodes es) (lower_nodes (entries_of more))));
+      names = λ now rs levels s h. let p = names_parts now rs levels es (entries_of more) h in (tt, (s.0, p.0, tt), r.names now rs levels s.1 p.1);
     }
-
--- a level is as short as can be
-pub level_length : (level : List NewNode) {entries : Entries} → Filled level → entries_of level ≡ entries → length level ≡ quotient_up (entry_count entries) 64
-level_length level f e = let r = raised level f in omega (arith, r.least, r.most, ap entry_count e)
 
 -- ---- all levels
 
@@ -199,7 +165,7 @@ pile_more {leaves = leaves} level {more = more} f p =
       order = λ high o. r.order 0 high (p.order high o);
       zeros = r.zeros p.zeros;
       tight = r.tight p.tight;
-      nodes = λ {f} adds. omega (arith, r.nodes adds, p.nodes adds, ap f (map-append (λ (new : NewNode). new.place) (from_below more) level) ∙ adds.both (places_of (from_below more)) (places_of level));
+      nodes = λ {f} adds. omega (arith, r.nodes adds ∙ adds.both (places_of level) (lower_nodes (entries_of level)), p.nodes adds, ap f (map-append (λ (new : NewNode). new.place) (from_below more) level) ∙ adds.both (places_of (from_below more)) (places_of level));
       rows = λ k. rows r k;
       names = λ now rs deep few named s. names r now rs deep few named (Each-split (Says now rs) (from_below more) level s);
     }
@@ -263,14 +229,14 @@ count_for (leaf ∷ more) = ap suc (count_for more)
 -- 2^31 leaves need no more than 6 levels
 pub tall : (leaves : List Leaf) (level : List NewNode) (more : List (List NewNode)) → AreLevels leaves (level ∷ more) → length leaves ≤ 2147483648 → Tall leaves level more
 tall leaves level [] l few =
-    let n = level_length level l.1 l.0 ∙ ap (λ (k : ℕ). quotient_up k 64) (count_for leaves) in
+    let n = (raised level l.1).shortest ∙ ap (λ (k : ℕ). quotient_up k 64) (ap entry_count l.0 ∙ count_for leaves) in
     record { left = 5; count = omega arith; small = omega (arith, n); total = λ some. above_is 7 (length leaves) some ∙ ap (λ (k : ℕ). k + nodes_left 7 k) (sym n) }
 tall leaves level (below ∷ more) l few = let r = tall leaves below more l.3 few in go r.left r.count r.small r.total
   where
     go : (d : ℕ) → length (below ∷ more) + d ≡ 6 → length below ≤ leaves_under d → (1 ≤ length leaves → nodes_above 8 (length leaves) ≡ length (from_below (below ∷ more)) + nodes_left (suc (suc d)) (length below)) → Tall leaves level (below ∷ more)
     go zero e small total = absurd (omega (arith, l.2))
     go (suc d) e small total =
-        let n = level_length level l.1 l.0 ∙ ap (λ (k : ℕ). quotient_up k 64) (raised below (top_filled leaves below more l.3)).count in
+        let n = (raised level l.1).shortest ∙ ap (λ (k : ℕ). quotient_up k 64) (ap entry_count l.0 ∙ (raised below (top_filled leaves below more l.3)).count) in
         record {
           left = d;
           count = omega arith;

@@ -1,12 +1,8 @@
 pub mod Common
 pub mod LevelSteps
 pub mod Levels
-pub mod NodePlacing
-pub mod NodesMade
 pub mod PyramidBuilt
 pub mod ReindexCalls
-pub mod WordsOfLevels
 pub mod MadeBlocks
 pub mod MadeEdit
 pub mod MadeFollows
-pub mod MadeTaken

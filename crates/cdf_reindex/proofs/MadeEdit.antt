@@ -4,8 +4,7 @@ use Rattle.cdf_edits.proofs.Edits.InRecords.{places_of}
 use Rattle.cdf_index.proofs.NewIndex.{good_now as changed_good}
 use Rattle.cdf_reindex.proofs.Levels.{in_by_times, times_most}
 use Rattle.cdf_reindex.proofs.MadeBlocks.{content_same, fits_now, index_ruled}
-use Rattle.cdf_reindex.proofs.MadeTaken.{all_taken, among_space, end_before, node_takes, own_of}
-use Rattle.cdf_reindex.proofs.NodesMade.{bare_by}
+use Rattle.cdf_reindex.proofs.PyramidBuilt.{all_taken, among_space, bare_by, end_before, node_takes, own_of}
 use Rattle.cdf_edits.proofs.Edits.OwnEdited as of_own_edit
 
 -- ---- marks

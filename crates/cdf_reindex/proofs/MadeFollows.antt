@@ -2,8 +2,7 @@
 use Rattle.cdf_reindex.proofs.Common.{Act, AllKeep, Allowance, Allowances, AreTiles, Bool, ByStep, DataSet, Each-map, Field, Follows, Found, FreedStay, GivenStay, Go, Good, In, IsBare, IsNode, IsRebuilt, Kind, List, MakesIndex, NodeSpareStays, Nodes, None, OfVariable, Only, Option, Range, Reindexed, Same, Some, StandsAmong, UnusedEntries, VariableShape, [], ap, apart, arith, by_range, content, descriptor_allowed, each, eq-eqb, false, freed_stay, gave, gdr_type, gdr_typed, got-middle, if◌then◌else◌, image_limit, index_keeps, inl, inr, is_in-true, is_taken_at, last_node, leaves_of, length, levels_up, links_end, listed_free, made_acts, map, nat_le, nat_lt, next_of, no_fields, no_node, node, node_allowed, nodes_above, nodes_at, nodes_of, none_of_both, number, owned, range_at, refl, reindex_changes, reindex_room, reindex_step, room, room_at, same_as_itself, shape, shapes_of, size_at, sizes_by_tiles, slice_get, staying_follows, stays_all, subst, sum, sum_by-cons, sym, taken, taken-gave, top_stays, true, true≢false, type_at, unlisted_away, variable_named, vdr_vxr_head, vdr_vxr_tail, vdrs, vxr_bytes, vxr_type, with_index, ℕ, ◌&&◌, ◌*◌, ◌++◌, ◌+◌, ◌<◌, ◌∙◌, ◌∷◌, ◌≡◌, ◌≢◌, ◌≤◌}
 use Rattle.cdf_reindex.proofs.Levels.{in_by_times}
 use Rattle.cdf_reindex.proofs.MadeEdit.{among_now, edit, good_now, left, made_follow, may_free, new_index, node_linked, old_linked, same_size, t, vdrs_stay}
-use Rattle.cdf_reindex.proofs.MadeTaken.{node_takes}
-use Rattle.cdf_reindex.proofs.PyramidBuilt.{no_pyramid}
+use Rattle.cdf_reindex.proofs.PyramidBuilt.{no_pyramid, node_takes}
 use Rattle.cdf_model.specs.declared.answer.Reply.TheVariants as replies
 use Rattle.cdf_model.specs.declared.command.Command.TheVariants as commands
 

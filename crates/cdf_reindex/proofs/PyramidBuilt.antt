@@ -1,10 +1,111 @@
--- The levels that code made, as a tree that stands in the image.
-use Rattle.cdf_reindex.proofs.Common.{AllTaken, AreInOrder, AreTight, Ascending, Each-map, EntriesTight, Good, HasNodes, HasVariable, InOrder, IndexMade, IsBare, IsBuilt, IsPyramid, IsSound, Kind, Leaf, List, NewNode, NextsAreZero, Nodes, PyramidMade, StandsAmong, VariableShape, [], alone, ap, arith, each, entries_for, from_below, good_is_sound, inl, leaf_words, leaves_ascend, leaves_named, leaves_of, length, length-map, link_to, map, no_node, nodes_above, nodes_at, nodes_of, record_number_limit, refl, shape, subst, suc, sym, times, ℕ, ◌+◌, ◌<◌, ◌^◌, ◌∙◌, ◌∷◌, ◌≡◌, ◌≤◌}
-use Rattle.cdf_reindex.proofs.Common.{places_of}
-use Rattle.cdf_reindex.proofs.LevelSteps.{all_longest}
+-- The nodes that code made, and their levels, as a tree that stands in the image.
+use Rattle.cdf_reindex.proofs.Common.{Act, AllMade, AllTaken, AreInOrder, AreTight, Ascending, Each, Each-map, Each-split, EntriesTight, Entry, Fills, Good, HasNodes, HasVariable, In, InOrder, IndexMade, IsBare, IsBuilt, IsPyramid, IsSound, Kept, Kind, Leaf, List, NewNode, NextsAreZero, NodeMade, NodeWritten, Nodes, PyramidMade, R, SaysEntry, StandsAmong, TakenAll, Takes, Took, VariableShape, Z, [], alone, ap, arith, content, each, ends, entries_for, entry_past, eof, eof_by_rules, filled_size, fills, from_below, gdr_offset, good_by_its_shape, good_is_sound, good_long, inl, inr, kept, leaf_words, leaves_ascend, leaves_named, leaves_of, length, length-map, link_to, linkable-from, map, no_node, node_short, nodes_above, nodes_at, nodes_of, none_taken, of_kind, place_in, placed_grows, places_of, record_number_limit, refl, rules_of_good, same_node, sealed_kept, shape, shapes_of, subst, suc, sym, taken_then, times, type_kept, variables, vxr_bytes, vxr_type, with_space, ℕ, ◌+◌, ◌<◌, ◌^◌, ◌∙◌, ◌∷◌, ◌≡◌, ◌≤◌, rules, reindex_room}
+use Rattle.cdf_reindex.proofs.LevelSteps.{all_longest, length_words, say_entries}
 use Rattle.cdf_reindex.proofs.Levels.{Says, has_pyramid, in_by_times, lengths_add, makes_pyramid, nodes_are, times_add}
-use Rattle.cdf_reindex.proofs.MadeTaken.{all_taken, among_space, end_before, own_of}
-use Rattle.cdf_reindex.proofs.NodesMade.{Stands, all_stand, bare_at, nodes_taken}
+
+-- ---- a record that was taken becomes a node
+
+module _ (b taken : List ℕ) (place : ℕ) (sound : IsSound b (shape b)) (takes : Takes b taken (shape b) (shape taken) 1052 place) (sound_taken : IsSound taken (shape taken)) (stays : content taken ≡ content b) (now : List ℕ) (entries : List Entry) (w : NodeWritten taken now place 64 0 entries) where
+  filled : Fills b taken now (shape b) (shape now).records (shape now).unused 1052 place vxr_type
+  filled = fills b taken 64 place sound takes sound_taken stays now 0 entries w
+
+  pub node_made : length entries ≤ 64 → NodeMade b now entries place
+  node_made few = record {
+    taken = taken;
+    fills = filled;
+    bare = record {
+      fits = (omega (arith, filled_size sound filled, w.room_is), omega (arith, w.room_is, w.used_is));
+      room_is = w.room_is;
+      few = omega (arith, w.count_is);
+      next_is = w.next_is;
+      unused = λ i le lt. subst (λ (e : Entry). SaysEntry now place i e.first e.last e.place) (entry_past entries i (omega (arith, w.used_is, le))) (w.says i lt);
+    };
+    counts_is = w.count_is;
+    used_is = w.used_is;
+    says = w.says;
+    longest = node_short b taken 64 place sound takes sound_taken stays now 0 entries w;
+  }
+
+  pub node_eof : eof now (gdr_offset now) ≡ length now
+  node_eof = ends sound filled
+
+-- ---- the nodes of a new index are taken one after the other: one edit, and acts that follow
+
+abbrev pub node_takes : List ℕ → List Act
+node_takes places = map (λ vxr. Took vxr (vxr_bytes 64)) places
+
+pub all_taken : (b now places : List ℕ) → IsSound b (shape b) → eof b (shape b).gdr ≡ length b → AllTaken b now places → TakenAll b now (node_takes places) places (vxr_bytes 64)
+all_taken b now [] sound end same = subst (λ (x : List ℕ). TakenAll b x [] [] (vxr_bytes 64)) (sym same) (none_taken sound end)
+all_taken b now (place ∷ more) sound end all = let first = placed_grows sound all.1.0.fills in taken_then sound all.1.0.fills (omega arith) (all_taken all.0 now more first.sound first.end_is all.1.1)
+
+-- a good image ends where it says
+pub end_before : (b : List ℕ) → Good b → eof b (shape b).gdr ≡ length b
+end_before b good = eof_by_rules b (shape b) (good_is_sound b good) (sealed_kept b (good_long b (shape b) (good_by_its_shape b good)) (rules_of_good b good)).0
+
+-- ---- a variable of an image whose records and unused list alone are others
+
+module _ {b now records list : List ℕ} {kind : Kind} {before : List VariableShape} {own : VariableShape} {after : List VariableShape} where
+  pub among_space : shape now ≡ with_space (shape b) records list → StandsAmong b kind before own after → StandsAmong now kind before own after
+  among_space same among = record { was = ap (λ s. shapes_of s kind) same ∙ by kind ∙ among.was }
+    where
+      by : (k : Kind) → shapes_of (with_space (shape b) records list) k ≡ shapes_of (shape b) k
+      by R = refl
+      by Z = refl
+
+pub own_of : (P : VariableShape → Type 0) {now : List ℕ} {kind : Kind} {before : List VariableShape} {own : VariableShape} {after : List VariableShape} → StandsAmong now kind before own after → Each P (variables (shape now)) → P own
+own_of P {now = now} {kind = kind} {before = before} {own = own} {after = after} among all = (Each-split P before (own ∷ after) (subst (Each P) among.was (of_kind P kind (shape now) all))).1.0
+
+-- ---- new nodes stay as they were made while others are made
+
+pub bare_by : (b now : List ℕ) (place : ℕ) → Kept b now place → IsBare b place → IsBare now place
+bare_by b now place k bare =
+    let n = same_node b now place k bare.fits in
+    record {
+      fits = (omega (arith, n.size_is, n.room_is, bare.fits.0), omega (arith, n.used_is, n.room_is, bare.fits.1));
+      room_is = n.room_is ∙ bare.room_is;
+      few = omega (arith, n.count_is, bare.few);
+      next_is = n.next_is ∙ bare.next_is;
+      unused = λ i le lt. n.entries i (omega (arith, bare.room_is, lt)) 0xffffffff 0xffffffff 0xffffffffffffffff (bare.unused i (omega (arith, n.used_is, le)) lt);
+    }
+
+pub record Stands (now : List ℕ) (new : NewNode) : Type 0 where
+  pub bare : IsBare now new.place
+  pub says : Says now (shape now).records new
+
+pub nodes_taken : (b now : List ℕ) (nodes : List NewNode) → AllMade b now nodes → AllTaken b now (places_of nodes)
+nodes_taken b now [] m = m
+nodes_taken b now (new ∷ more) m = (m.0, (record { taken = m.1.0.taken; fills = m.1.0.fills }, nodes_taken m.0 now more m.1.1))
+
+pub all_stand : (b now : List ℕ) (nodes : List NewNode) → IsSound b (shape b) → eof b (shape b).gdr ≡ length b → AllMade b now nodes → Each (Stands now) nodes
+all_stand b now [] sound end m = tt
+all_stand b now (new ∷ more) sound end m =
+    let made = m.1.0 in
+    let one = placed_grows sound made.fills in
+    let edit = (all_taken m.0 now (places_of more) one.sound one.end_is (nodes_taken m.0 now more m.1.1)).grows.edit in
+    let inside = place_in sound made.fills in
+    let k = kept edit new.place vxr_type inside made.fills.typed refl in
+    let n = same_node m.0 now new.place k made.bare.fits in
+    let many = length_words new.entries in (
+      record {
+        bare = bare_by m.0 now new.place k made.bare;
+        says = record {
+          linkable = linkable-from now (shape now).records vxr_type new.place (edit.sub new.place inside) (type_kept m.0 now new.place k.same k.long ∙ made.fills.typed) (omega (arith, n.size_is, filled_size sound made.fills));
+          next_is = n.next_is ∙ made.bare.next_is;
+          room_is = n.room_is ∙ made.bare.room_is;
+          used_is = n.used_is ∙ made.used_is ∙ many;
+          say_entries = say_entries now new.place 0 new.entries (λ j lt. let z : j ≡ 0 + j = omega arith in rw (← z) (n.entries j (omega (arith, made.bare.room_is, made.bare.fits.1, made.used_is, many, lt)) _ _ _ (made.says j (omega (arith, made.bare.room_is, made.bare.fits.1, made.used_is, many, lt)))));
+        };
+      },
+      all_stand m.0 now more one.sound one.end_is m.1.1,
+    )
+
+-- each of them by its place
+pub bare_at : (now : List ℕ) (nodes : List NewNode) → Each (Stands now) nodes → (m : ℕ) → In m (places_of nodes) → IsBare now m
+bare_at now [] s m i = absurd i
+bare_at now (new ∷ more) s m (inl e) = subst (IsBare now) (sym e) s.0.bare
+bare_at now (new ∷ more) s m (inr i) = bare_at now more s.1 m i
+
+-- ---- the levels that code made, as a tree that stands in the image
 
 -- ---- leaves in order are few
 
@@ -38,20 +139,10 @@ no_pyramid = record { full = λ levels. tt; even = λ levels. inl refl; tight = 
 
 no_tree : (b : List ℕ) → IsSound b (shape b) → (own : VariableShape) → leaves_of own.index ≡ [] → IsBuilt b b own no_node
 unfolding HasNodes nodes_of leaves_of nodes_at nodes_above NextsAreZero InOrder
-no_tree b sound own none = record {
-  leaves_stay = sym none;
-  filled = no_pyramid;
-  fewest = sym (ap (λ (ls : List Leaf). nodes_above 8 (length ls)) none);
-  nexts = tt;
-  order = λ o. tt;
-  taken = refl;
-  each_taken = λ m. refl;
-  as_many = refl;
-  stands = tt;
-  small = omega arith;
-  bare = tt;
-  longest = omega arith;
-}
+no_tree b sound own none =
+    let fewest = sym (ap (λ (ls : List Leaf). nodes_above 8 (length ls)) none) in
+    let longest : length b ≤ length b + reindex_room own.index = omega arith in
+    search (rules, no_pyramid, sym none, fewest, longest)
 
 module _ {b : List ℕ} {kind : Kind} {before : List VariableShape} {own : VariableShape} {after : List VariableShape} (good : Good b) (among : StandsAmong b kind before own after) (few : length (leaves_of own.index) ≤ 2147483648) (made : List ℕ) (top : ℕ) (small : top < 2 ^ 64) where
   abbrev ls : List Leaf

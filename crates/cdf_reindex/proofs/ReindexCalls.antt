@@ -1,5 +1,5 @@
 -- What a good image gives for the calls by which the index of one of its variables is made anew, and what they come to.
-use Rattle.cdf_reindex.proofs.Common.{AllGiven, AreFree, Entry, Good, HasIndex, In, IndexMade, IsNode, IsRebuilt, IsSound, Kind, LiesIn, List, Nodes, OneOf, Reindexed, StandsAmong, VariableShape, [], among_all, ap, arith, fits, good_by_its_shape, good_image, good_index, good_is_sound, heads_written, image_limit, index_at, index_of, inl, inr, leaf_words, leaves_of, length, length-map, map, name_room, nil_from_length, no_node, node, nodes_above, nodes_of, number, one_of, refl, reindex_room, shape, subst, sym, variables, vdr_vxr_head, vdr_vxr_tail, vdrs, with_field, with_writes, ℕ, ◌*◌, ◌+◌, ◌<◌, ◌^◌, ◌∙◌, ◌≡◌, ◌≤◌}
+use Rattle.cdf_reindex.proofs.Common.{AllGiven, AreFree, Entry, Good, HasIndex, In, IndexMade, IsNode, IsRebuilt, IsSound, Kind, LiesIn, List, Nodes, OneOf, Reindexed, StandsAmong, VariableShape, [], among_all, ap, arith, fits, good_by_its_shape, good_image, good_index, good_is_sound, heads_written, image_limit, index_at, index_of, inl, inr, leaf_words, leaves_of, length, length-map, map, name_room, nil_from_length, no_node, node, nodes_of, number, one_of, refl, reindex_room, shape, subst, sym, variables, vdr_vxr_head, vdr_vxr_tail, vdrs, with_field, with_writes, ℕ, ◌+◌, ◌<◌, ◌^◌, ◌∙◌, ◌≡◌, ◌≤◌}
 use Rattle.cdf_reindex.proofs.MadeEdit.{good_now, head_lies, old_free, rebuilt, sound_linked, tail_lies}
 use Rattle.cdf_reindex.proofs.PyramidBuilt.{few_leaves, tree_made}
 
@@ -34,14 +34,8 @@ module _ (b : List ℕ) (good : Good b) where
         by (inr r) = good_now good one.among r.1.built r.1.heads now r.1.given (omega (arith, r.1.longest, ap reindex_room (index_is one.among one.vdr_is).1))
 
     module _ (leaves : List Entry) (leaves_are : leaves ≡ map leaf_words (leaves_of (index_of b vdr))) where
-      count : length leaves ≡ length (leaves_of (index_of b vdr))
-      count = ap length leaves_are ∙ length-map (leaves_of (index_of b vdr)) leaf_words
-
       pub few : length leaves ≤ 2147483648
-      few = subst (λ (n : ℕ). n ≤ 2147483648) (sym count) (few_leaves (index_of b vdr) has_index.order)
-
-      pub room : (limit : ℕ) → length b + reindex_room (index_of b vdr) ≤ limit → length b + 1052 * nodes_above 8 (length leaves) ≤ limit
-      room limit fits = subst (λ (n : ℕ). length b + 1052 * nodes_above 8 n ≤ limit) (sym count) fits
+      few = omega (arith, ap length leaves_are ∙ length-map (leaves_of (index_of b vdr)) leaf_words, few_leaves (index_of b vdr) has_index.order)
 
   -- what was read of the index, and there were no nodes, or it was built anew
   module _ (vdr : ℕ) {y : List ℕ} {head : ℕ} (here : y ≡ b) (head_is : head ≡ number b vdr vdr_vxr_head) {x : List ℕ} (same : x ≡ y) {nodes : List ℕ} (nodes_are : nodes ≡ nodes_of (index_at y head)) where

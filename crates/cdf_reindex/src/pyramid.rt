@@ -25,6 +25,7 @@ pub const NODE_SIZE: u64 = VXR_FIRST + VXR_ENTRY_SIZE * NODE_ENTRIES;
 
 /// Takes a record and makes a node of it, with these entries and none behind it. Gives its place.
 /// After an error a part of this may have been done.
+#[tactic(auto, using(crate::proofs::PyramidBuilt::node_made, crate::proofs::PyramidBuilt::node_eof))]
 fn place_node<A: Area>(area: &mut A, entries: &[Entry]) -> Result<u64, AreaError>
     requires sound { IsSound (A.image area.old) (shape (A.image area.old)) }
     requires eof { eof (A.image area.old) (gdr_offset (A.image area.old)) ≡ length (A.image area.old) }

@@ -1,6 +1,5 @@
 use Rattle.cdf_reindex.proofs.Common.{Entry, ap, arith, edit_more, edit_once, entries_for, length, sym, uppers, ◌∙◌, ◌≤◌}
-use Rattle.cdf_reindex.proofs.LevelSteps.{levels_first, levels_left, levels_more, levels_next, pyramid_last, room_first, room_next}
-use Rattle.cdf_reindex.proofs.WordsOfLevels.{words_for}
+use Rattle.cdf_reindex.proofs.LevelSteps.{levels_first, levels_left, levels_more, levels_next, pyramid_last, room_first, room_next, words_for}
 use Rattle.cdf_reindex.proofs.pyramid.write_levels.Goals as goal
 
 pub write_level-requires-clause-room : goal.write_level-requires-clause-room

@@ -1,15 +1,9 @@
-use Rattle.cdf_reindex.proofs.Common.{arith, good_eof, good_is_sound, on_ok_weaker}
-use Rattle.cdf_reindex.proofs.ReindexCalls.{few, links, links_one}
+use Rattle.cdf_reindex.proofs.Common.{arith, good_is_sound, on_ok_weaker}
+use Rattle.cdf_reindex.proofs.ReindexCalls.{links, links_one}
 use Rattle.cdf_reindex.proofs.reindexing.rebuild.Goals as goal
 
 pub write_index-requires-clause-sound : goal.write_index-requires-clause-sound
 write_index-requires-clause-sound g c = good_is_sound _ c.requires.good
-
-pub write_index-requires-clause-eof : goal.write_index-requires-clause-eof
-write_index-requires-clause-eof g c = good_eof _ c.requires.good
-
-pub write_index-requires-clause-few : goal.write_index-requires-clause-few
-write_index-requires-clause-few g c = few _ c.requires.good _ c.requires.vdr _ c.requires.leaves
 
 pub set_vdr_vxr_head-requires : goal.set_vdr_vxr_head-requires
 set_vdr_vxr_head-requires g c = (links_one _ c.requires.good _ c.requires.vdr c.requires.leaves c.in_ok-top.ensures.made (omega arith)).head
