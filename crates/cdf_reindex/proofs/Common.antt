@@ -19,7 +19,7 @@ pub use Rattle.cdf_edits.proofs.Edits.RecordPlaced.{links_mark, placed_grows}
 pub use Rattle.cdf_edits.proofs.Edits.TakenAll.{TakenAll, listed_free, none_taken, taken_then, taking_all, unlisted_away}
 pub use Rattle.cdf_edits.proofs.Edits.VariableCopied.{block_behind, cpr_behind, node_behind}
 pub use Rattle.cdf_edits.proofs.Edits.VariableFrame.{each_holds}
-pub use Rattle.cdf_edits.proofs.Edits.VariableKinds.{variables_of_are}
+pub use Rattle.cdf_edits.proofs.Edits.VariableKinds.{by_kind, shapes_with, variables_of_are}
 pub use Rattle.cdf_edits.proofs.Frame.LinksStay.{nodes_kept}
 pub use Rattle.cdf_edits.proofs.Frame.VdrAlike.{block_fits_alike, plain_alike, records_alike}
 pub use Rattle.cdf_edits.proofs.Frame.VdrStays.{end_stays, packed_stays, stays_alike, variable_stays}
@@ -31,7 +31,6 @@ unfoldable pub use Rattle.cdf_edits.specs.Commands.Room.{nodes_above}
 pub use Rattle.cdf_edits.specs.Commands.Room.{quotient_up, reindex_room}
 pub use Rattle.cdf_edits.specs.Index.Written.{NodeSpareStays, UnusedEntries, is_taken_at, last_node, top_stays}
 pub use Rattle.cdf_format.proofs.GoodImageLemmas.{good_image}
-pub use Rattle.cdf_format.proofs.GoodSound.{good_eof}
 unfoldable pub use Rattle.cdf_index.proofs.Common.{AreInOrder, InOrder, LowerAreZero, NextsAreZero}
 pub use Rattle.cdf_index.proofs.Common.{Ascending, Each-in, HasIndex, IsOneOf, Keeps, NodeWritten, SameHeads, away-avoids, edit_more, entry_in, index_at, leaf_words, of_each, on_ok_weaker, own_rules, past_entries, rules, with_both}
 pub use Rattle.cdf_index.proofs.GoodIndex.{good_index}

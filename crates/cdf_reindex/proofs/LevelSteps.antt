@@ -48,13 +48,10 @@ parted (x ∷ xs) ys (lower first last nodes entries) e =
 
 -- ---- the entry that names a node
 
-less : (n : ℕ) → suc (suc n) - 1 ≡ suc (suc n - 1)
-less n = omega arith
-
 last_at : (w : Entry) (entries : Entries) → last_of w.last entries ≡ (get_or (w ∷ words_of entries) (length (w ∷ words_of entries) - 1) (words 0 0 0)).last
 last_at w no_entry = refl
-last_at w (block f l p packed es) = rw (less (length (words_of es))) (last_at (words f l p) es)
-last_at w (lower f l nodes es) = rw (less (length (words_of es))) (last_at (words f l (link_to nodes)) es)
+last_at w (block f l p packed es) = let z : suc (suc (length (words_of es))) - 1 ≡ suc (suc (length (words_of es)) - 1) = omega arith in rw z (last_at (words f l p) es)
+last_at w (lower f l nodes es) = let z : suc (suc (length (words_of es))) - 1 ≡ suc (suc (length (words_of es)) - 1) = omega arith in rw z (last_at (words f l (link_to nodes)) es)
 
 pub named : (place : ℕ) (entries : Entries) → 1 ≤ entry_count entries → words (first_of entries) (last_of 0 entries) place ≡ naming place (words_of entries)
 named place no_entry some = absurd (omega arith)
@@ -62,14 +59,6 @@ named place (block f l p packed es) some = ap (λ (n : ℕ). words f n place) (l
 named place (lower f l nodes es) some = ap (λ (n : ℕ). words f n place) (last_at (words f l (link_to nodes)) es)
 
 -- ---- the steps by which code makes the levels of an index, one by one
-
--- ---- a chunk of entries
-
-pub chunk_few : (c n : ℕ) → c ≡ min 64 n → c ≤ 64
-chunk_few c n e = grind arith
-
-pub chunk_some : (c n : ℕ) → c ≡ min 64 n → 1 ≤ n → 1 ≤ c
-chunk_some c n e some = grind arith
 
 -- ---- nodes of a level
 
@@ -79,15 +68,12 @@ pub record Goes (b mid : List ℕ) (all : Entries) (rest said : List Entry) : Ty
   pub rest_is : words_of back ≡ rest
   pub on : (now : List ℕ) (nodes : List NewNode) → entries_of nodes ≡ back → Filled nodes → AllMade mid now nodes → LevelMade b now all (said ++ words_of (uppers nodes))
 
-filled_more : (c n : ℕ) (new : NewNode) (nodes : List NewNode) → entry_count new.entries ≡ c → c ≡ min 64 n → n ≡ c + entry_count (entries_of nodes) → 1 ≤ n → Filled nodes → Filled (new ∷ nodes)
-filled_more c n new nodes count e p some f = (omega (arith, chunk_some c n e some), omega (arith, chunk_few c n e), (λ more. omega (arith, (raised nodes f).shortest)), f)
-
 pub goes_more : (b mid new : List ℕ) (all : Entries) (rest chunk left said : List Entry) (place : ℕ) → Goes b mid all rest said → rest ≡ chunk ++ left → length chunk ≡ min 64 (length rest) → 1 ≤ length rest → NodeMade mid new chunk place → Goes b new all left (said ++ naming place chunk ∷ [])
 goes_more b mid new all rest chunk left said place goes parts size some made =
     let p = parted chunk left goes.back (goes.rest_is ∙ parts) in
-    let node : NewNode = record { place = place; entries = p.front } in
     let count = sym (length_words p.front) ∙ ap length p.front_is in
-    let name : words (first_of p.front) (last_of 0 p.front) place ≡ naming place chunk = named place p.front (omega (arith, chunk_some (length chunk) (length rest) size some, count)) ∙ ap (naming place) p.front_is in
+    let one : 1 ≤ entry_count p.front = omega (arith, count, size) in
+    let name = named place p.front one ∙ ap (naming place) p.front_is in
     record {
       back = p.back;
       rest_is = p.back_is;
@@ -95,7 +81,7 @@ goes_more b mid new all rest chunk left said place goes parts size some made =
           let all_of = ap length parts ∙ length-append chunk left in
           let left_of = ap length (sym p.back_is) ∙ length_words p.back ∙ ap entry_count (sym e) in
           subst (LevelMade b now all) (ap (λ (w : Entry). said ++ w ∷ words_of (uppers nodes)) name ∙ sym (append_assoc said (naming place chunk ∷ []) (words_of (uppers nodes))))
-          (goes.on now (node ∷ nodes) (ap (with_both p.front) e ∙ p.whole) (filled_more (length chunk) (length rest) node nodes count size (omega (arith, all_of, left_of)) some f) (new, (subst (λ (ws : List Entry). NodeMade mid new ws place) (sym p.front_is) made, m)));
+          (goes.on now (record { place = place; entries = p.front } ∷ nodes) (ap (with_both p.front) e ∙ p.whole) (one, omega (arith, count, size), (λ more. omega (arith, count, size, all_of, left_of, (raised nodes f).shortest)), f) (new, (subst (λ (ws : List Entry). NodeMade mid new ws place) (sym p.front_is) made, m)));
     }
 
 pub goes_last : (b mid : List ℕ) (all : Entries) (rest said : List Entry) → Goes b mid all rest said → rest ≡ [] → LevelMade b mid all said
@@ -111,29 +97,29 @@ pub all_longest : (b now : List ℕ) (nodes : List NewNode) → AllMade b now no
 all_longest b now [] m = omega (arith, ap length m)
 all_longest b now (new ∷ nodes) m = omega (arith, m.1.0.longest, all_longest m.0 now nodes m.1.1)
 
-pub levels_first : {b now : List ℕ} {leaves : List Leaf} {said : List Entry} → LevelMade b now (entries_for leaves) said → LevelsMade b now leaves said
-levels_first m = record { level = m.nodes; more = []; are = (m.entries_are, m.filled); said_is = m.said_is; made = m.made }
+-- levels over entries were made, whichever leaves these say
+abbrev pub OverAll : List ℕ → List ℕ → List Entry → List Entry → Type 0
+OverAll b now entries said = (leaves : List Leaf) → entries ≡ map leaf_words leaves → LevelsMade b now leaves said
 
-module _ {b mid : List ℕ} {leaves : List Leaf} {said : List Entry} (l : LevelsMade b mid leaves said) where
-  count : length said ≡ length l.level
-  count = ap length (sym l.said_is) ∙ length_words (uppers l.level) ∙ (raised l.level (top_filled leaves l.level l.more l.are)).count
+pub levels_first : {b now : List ℕ} {entries said : List Entry} → ((below : Entries) → words_of below ≡ entries → LevelMade b now below said) → OverAll b now entries said
+levels_first made leaves are = let m = made (entries_for leaves) (words_for leaves ∙ sym are) in record { level = m.nodes; more = []; are = (m.entries_are, m.filled); said_is = m.said_is; made = m.made }
 
-  pub levels_more : {now : List ℕ} {tops : List Entry} → 2 ≤ length said → LevelMade mid now (uppers l.level) tops → LevelsMade b now leaves tops
-  levels_more {now = now} two m = record {
-    level = m.nodes;
-    more = l.level ∷ l.more;
-    are = (m.entries_are, m.filled, subst (λ (n : ℕ). 2 ≤ n) count two, l.are);
-    said_is = m.said_is;
-    made = all_then b mid now (from_below (l.level ∷ l.more)) m.nodes l.made m.made;
-  }
+count : {b mid : List ℕ} {leaves : List Leaf} {said : List Entry} (l : LevelsMade b mid leaves said) → length said ≡ length l.level
+count {leaves = leaves} l = ap length (sym l.said_is) ∙ length_words (uppers l.level) ∙ (raised l.level (top_filled leaves l.level l.more l.are)).count
 
-  pub pyramid_last : (other : Entry) (top : ℕ) → length said ≡ 1 → top ≡ (get_or said 0 other).place → PyramidMade b mid leaves top
-  pyramid_last other top one is = go l.level l.are l.said_is l.made (sym count ∙ one)
-    where
-      go : (level : List NewNode) → AreLevels leaves (level ∷ l.more) → words_of (uppers level) ≡ said → AllMade b mid (from_below (level ∷ l.more)) → length level ≡ 1 → PyramidMade b mid leaves top
-      go [] s e m n = absurd (omega arith)
-      go (root ∷ []) s e m n = record { root = root; more = l.more; are = s; place_is = is ∙ ap (λ (xs : List Entry). (get_or xs 0 other).place) (sym e); made = m }
-      go (root ∷ next ∷ others) s e m n = absurd (omega arith)
+pub levels_more : {b mid now : List ℕ} {entries said tops : List Entry} → OverAll b mid entries said → 2 ≤ length said → ((below : Entries) → words_of below ≡ said → LevelMade mid now below tops) → OverAll b now entries tops
+levels_more {b = b} {mid = mid} {now = now} old two made leaves are =
+    let l = old leaves are in
+    let m = made (uppers l.level) l.said_is in
+    record { level = m.nodes; more = l.level ∷ l.more; are = (m.entries_are, m.filled, omega (arith, count l, two), l.are); said_is = m.said_is; made = all_then b mid now (from_below (l.level ∷ l.more)) m.nodes l.made m.made }
+
+pub pyramid_last : {b mid : List ℕ} {entries said : List Entry} (other : Entry) (top : ℕ) → OverAll b mid entries said → length said ≡ 1 → top ≡ (get_or said 0 other).place → (leaves : List Leaf) → entries ≡ map leaf_words leaves → PyramidMade b mid leaves top
+pyramid_last {b = b} {mid = mid} {said = said} other top old one is leaves are = let l = old leaves are in go l.more l.level l.are l.said_is l.made (sym (count l) ∙ one)
+  where
+    go : (more : List (List NewNode)) (level : List NewNode) → AreLevels leaves (level ∷ more) → words_of (uppers level) ≡ said → AllMade b mid (from_below (level ∷ more)) → length level ≡ 1 → PyramidMade b mid leaves top
+    go more [] s e m n = absurd (omega arith)
+    go more (root ∷ []) s e m n = record { root = root; more = more; are = s; place_is = is ∙ ap (λ (xs : List Entry). (get_or xs 0 other).place) (sym e); made = m }
+    go more (root ∷ next ∷ others) s e m n = absurd (omega arith)
 
 -- ---- room for the levels above so many nodes
 

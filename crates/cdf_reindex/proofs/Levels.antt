@@ -127,16 +127,13 @@ abbrev ups : ℕ → List (List NewNode) → List ℕ
 ups zero levels = []
 ups (suc n) levels = places_of (row levels n) ++ ups n levels
 
-ups_none : (n : ℕ) → ups n [] ≡ []
-ups_none zero = refl
-ups_none (suc n) = ups_none n
-
 ups_more : (n : ℕ) (level : List NewNode) (more : List (List NewNode)) → ups (suc n) (level ∷ more) ≡ ups n more ++ places_of level
 ups_more zero level more = append-nil (places_of level)
 ups_more (suc n) level more = ap (λ (ps : List ℕ). places_of (row more n) ++ ps) (ups_more n level more) ∙ sym (append_assoc (places_of (row more n)) (ups n more) (places_of level))
 
 ups_all : (n : ℕ) (levels : List (List NewNode)) → length levels ≤ n → ups n levels ≡ places_of (from_below levels)
-ups_all n [] few = ups_none n
+ups_all zero [] few = refl
+ups_all (suc n) [] few = ups_all n [] (omega arith)
 ups_all zero (level ∷ more) few = absurd (omega arith)
 ups_all (suc n) (level ∷ more) few = ups_more n level more ∙ ap (λ (ps : List ℕ). ps ++ places_of level) (ups_all n more (omega arith)) ∙ sym (map-append (λ (new : NewNode). new.place) (from_below more) level)
 

@@ -3,6 +3,5 @@ pub mod LevelSteps
 pub mod Levels
 pub mod PyramidBuilt
 pub mod ReindexCalls
-pub mod MadeBlocks
 pub mod MadeEdit
 pub mod MadeFollows

@@ -1,9 +1,9 @@
 -- The new nodes are taken and written, VXRhead and VXRtail lead to them, and the old nodes are freed: one edit, by which a good image stays good.
-use Rattle.cdf_reindex.proofs.Common.{Act, ActsFollow, AllGiven, AreFree, AreTiles, Each, Each-in, Edit, Exchanged, Field, Good, HasVariable, In, In-append, In-append_left, In-append_right, IndexTests, IsBare, IsBuilt, IsChain, IsIndex, IsLeft, IsRebuilt, IsSound, Kept, Kind, Leaf, LiesIn, List, Mark, MayFree, MayWrite, NewIndex, NextsAreZero, Nodes, OwnEdit, R, SameHeads, Shape, StandsAmong, TakenAll, VariableShape, Z, [], acts_still_by, all_gave, all_given_edit, all_left, all_unused, ap, apart, append-nil, arith, avoided, away-avoids, behind_in, block_behind, chain_stays, distinct_if, each, edit_then, edit_under, eof, field, field_reads, fixed_size, freeing_marks, fresh_unowned, gave-same, gdr_eof, gdr_field, gdr_place, gdr_type, gdr_uir_head, has, heads_written, image_limit, index_edit, index_marks, inl, inr, is_in, is_record_type, keeps_file, kept, kept_away, last_node, length, length-with_field, levels_up, link_to, linkable-type, links_mark, long, made_acts, no_node, node, node_behind, nodes_kept, nodes_of, nodes_stand, none_in_use, not_twice_kept, number, number_kept, other_words, own_edit, owned-times, owned_records, parts_times, r_vdr_type, read_types, refl, reindex_room, room, rules, same_shape, shape, shapes_of, size_at, size_kept, sizes_by_tiles, some_bytes, sound, sound_if, space_fields, spliced_times, splices, subst, sym, taking_all, through, tile, times, times-append, times-in, times-none, times-once, true, type_at, type_in, type_kept, typed, uir_type, unmarked, unmarked-away, used_times, variable_records, variables_chain, vdr_no_node, vdr_size, vdr_type, vdr_vxr_head, vdr_vxr_tail, vdrs, vxr_bytes, vxr_type, with_field, with_index, with_shapes, with_writes, write, write_lies, writes_edit, writes_long, z_vdr_type, ℕ, ◌++◌, ◌+◌, ◌∙◌, ◌∷◌, ◌≡◌, ◌≢◌, ◌≤◌, is_linkable, linkable-in, linkable-long}
+use Rattle.cdf_reindex.proofs.Common.{Act, ActsFollow, AllGiven, AreFree, AreTiles, Counts, DataSet, Each, Each-in, Each-map, Edit, Exchanged, Field, Good, HasVariable, Hold, Hold-split, In, In-append, In-append_left, In-append_right, InOrder, IndexEdit, IndexTests, IsBare, IsBuilt, IsChain, IsIndex, IsLeft, IsOneOf, IsRebuilt, IsSound, Kept, Kind, Leaf, LeafFits, LiesIn, List, Mark, MayFree, MayWrite, NewIndex, NextsAreZero, NodeFits, Nodes, OwnEdit, R, SameHeads, Shape, StandsAmong, TakenAll, Variable, VariableFits, VariableShape, Z, [], acts_still_by, all_gave, all_given_edit, all_left, all_unused, ap, apart, append-nil, arith, avoided, away-avoids, behind_in, block_behind, block_fits_alike, block_kept, by_kind, cast_signed, chain_stays, content, content_is, content_now, cpr_behind, cpr_type, cvvr_type, distinct_if, each, each_holds, each_of, edit_then, edit_under, end_stays, eof, field, field_reads, file, fits, fixed_size, flat_map, freeing_marks, fresh_unowned, gave-same, gdr_eof, gdr_field, gdr_place, gdr_type, gdr_uir_head, has, heads_written, image_limit, index_edit, index_marks, index_order, index_rows, index_rules, inl, inr, is_a, is_a-type, is_block, is_in, is_in-true, is_linkable, is_record_type, keeps_file, kept, kept_away, last_node, leaf_rows, leaf_same, leaves_of, length, length-with_field, levels_up, link_to, linkable-in, linkable-long, linkable-type, links_mark, long, made_acts, map, map-append, max_rec_kept, negsuc, no_node, node, node_behind, node_room, nodes_kept, nodes_of, nodes_rows, nodes_stand, none_in_use, not_twice_kept, number, number_kept, of_each, other_words, own_edit, own_rules, owned-times, owned_records, packed_stays, parts_times, plain_alike, pos, r_vdr_type, read_types, record_number_limit, records_alike, records_in, refl, reindex_room, room, rules, same_shape, shape, shapes_of, shapes_with, size_at, size_kept, sizes_by_tiles, some_bytes, sound, sound_if, space_fields, spliced_times, splices, stays, stays_alike, subst, sym, taking_all, through, tile, times, times-append, times-in, times-none, times-once, true, type_at, type_in, type_kept, typed, uir_type, unmarked, unmarked-away, used_times, variable_of, variable_records, variable_stays, variables_chain, variables_of, variables_of_are, vdr_alike, vdr_no_node, vdr_size, vdr_type, vdr_vxr_head, vdr_vxr_tail, vdrs, vvr_type, vxr_bytes, vxr_n_used_entries, vxr_type, w32, with_field, with_index, with_shapes, with_variables, with_writes, write, write_lies, writes_edit, writes_long, z_vdr_type, ℕ, ◌&&◌, ◌++◌, ◌+◌, ◌==◌, ◌||◌, ◌∙◌, ◌∷◌, ◌≡◌, ◌≢◌, ◌≤◌}
+use Rattle.cdf_edits.proofs.Edits.LeafPieces.{place_in as leaf_in}
 use Rattle.cdf_edits.proofs.Edits.InRecords.{places_of}
 use Rattle.cdf_index.proofs.NewIndex.{good_now as changed_good}
 use Rattle.cdf_reindex.proofs.Levels.{in_by_times, times_most}
-use Rattle.cdf_reindex.proofs.MadeBlocks.{content_same, fits_now, index_ruled}
 use Rattle.cdf_reindex.proofs.PyramidBuilt.{all_taken, among_space, bare_by, end_before, node_takes, own_of}
 use Rattle.cdf_edits.proofs.Edits.OwnEdited as of_own_edit
 
@@ -41,6 +41,78 @@ last_is no_node z = refl
 last_is (node place room entries no_node) z = refl
 last_is (node place room entries (node other wide others more)) z = absurd z
 
+-- ---- an image in which a variable has another index by now, of the same leaves, in new nodes: its rules and its content
+
+module _ {b now : List ℕ} {kind : Kind} {before : List VariableShape} {own : VariableShape} {after : List VariableShape} {index : Nodes} {new list : List ℕ} {fields : List Field} {space : List Mark} {nodes : List ℕ} {f : Field} {reborn : List ℕ} (good : Good b) (at : StandsAmong b kind before own after)
+    (y : NewIndex b now kind own index new list fields space nodes f reborn) (same : leaves_of index ≡ leaves_of own.index) (bare : Each (IsBare now) (nodes_of index)) where
+  abbrev ie : IndexEdit b now kind own index new list (space ++ index_marks kind own.vdr nodes f) reborn
+  ie = index_edit good at y
+
+  abbrev oe : OwnEdit b now kind own index new list (space ++ index_marks kind own.vdr nodes f) reborn
+  oe = own_edit good at y
+
+  abbrev ls : List Leaf
+  ls = leaves_of own.index
+
+  -- a record that is kept has the type that it had
+  is_a_now : (type m : ℕ) → In m (shape b).records → Kept b now m → is_a now new type m ≡ is_a b (shape b).records type m
+  is_a_now type m i k =
+      let there : is_in m new ≡ is_in m (shape b).records = is_in-true m new (y.edit.sub m i) ∙ sym (is_in-true m (shape b).records i) in
+      let t = type_kept b now m k.same k.long in
+      λ j. there j && (t j == type)
+
+  -- the leaves keep their rules
+  leaf_now : (l : Leaf) → IsOneOf ls l → LeafFits now new own.vdr l × Hold (leaf_rows now new own.vdr l)
+  leaf_now l i =
+      let m = l.place in
+      let place = leaf_in ls l i in
+      let was = behind_in good at m (block_behind own m place) in
+      let k = block_kept good at y m place in
+      let alike = stays_alike (file good at ie) (stays good at ie) in
+      let fit = of_each (LeafFits b (shape b).records own.vdr) ls l (fits good at).2 i in
+      let rule = of_each (λ (a : Leaf). Hold (leaf_rows b (shape b).records own.vdr a)) ls l (each_holds (leaf_rows b (shape b).records own.vdr) ls (Hold-split (nodes_rows b (shape b).records (negsuc 0) (pos record_number_limit) own.index) (flat_map (leaf_rows b (shape b).records own.vdr) ls) (own_rules good at).1).1) i in
+      let p = is_a_now vvr_type m was k in
+      let q = is_a_now cvvr_type m was k in
+      let block : is_block now new m ≡ is_block b (shape b).records m = λ j. p j || q j in (
+        (block ∙ fit.0, block_fits_alike (file good at ie) alike l l.packed k fit.1),
+        subst Hold (sym (leaf_same b now (file good at ie) own.vdr own.vdr (packed_stays (file good at ie) (stays good at ie)) (plain_alike (file good at ie) alike) (shape b).records new (sound good at).has_shape.fixed l (λ type. is_a_now type m was k) k rule)) rule,
+      )
+
+  cpr_now : (m : ℕ) → In m own.cpr → is_a now new cpr_type m ≡ true
+  cpr_now m i =
+      let was = behind_in good at m (cpr_behind own m i) in
+      let is = Each-in (λ c. is_a b (shape b).records cpr_type c ≡ true) own.cpr (fits good at).3 m i in
+      is_a_now cpr_type m was (kept y.edit m cpr_type was (is_a-type b (shape b).records cpr_type m is) y.tests.cpr_clear) ∙ is
+
+  fit : Each (NodeFits now) (nodes_of index)
+  fit = Each-map (IsBare now) (NodeFits now) (λ m r. r.fits) (nodes_of index) bare
+
+  pub fits_now : VariableFits now new (with_index own index)
+  fits_now = (rw (vdr_size good at ie, end_stays (file good at ie) (stays good at ie)) (fits good at).0, fit, subst (Each (LeafFits now new own.vdr)) (sym same) (each_of (LeafFits now new own.vdr) ls (λ l i. (leaf_now l i).0)), each (λ m. is_a now new cpr_type m ≡ true) own.cpr cpr_now)
+
+  pub index_ruled : (InOrder 0 record_number_limit own.index → InOrder 0 record_number_limit index) → length now ≤ image_limit → Hold (index_rows now new own.vdr index)
+  index_ruled order short =
+      let count = Each-map (IsBare now) (Counts now) (λ m r. subst (λ (n : ℕ). number now m vxr_n_used_entries ≤ n) (sym r.room_is) r.few) (nodes_of index) bare in
+      index_rules now new own.vdr index (order (index_order b (shape b).records own.vdr own.index (own_rules good at).1)) (node_room good at y fit count short) (λ l i. let r = leaf_now l (subst (λ (ms : List Leaf). IsOneOf ms l) same i) in (r.0.0, r.1))
+
+  -- ---- what the variable means, and all
+
+  means : variable_of now (with_index own index) ≡ variable_of b own
+  means =
+      let max = max_rec_kept good at y in
+      let all = ap (records_in now own.vdr) same ∙ records_alike (file good at ie) (vdr_alike good at ie) max ls (shape b).records (block_kept good at y) (fits good at).2 in
+      variable_stays (file good at ie) own (with_index own index) (stays good at ie) refl ∙ (λ i. record (variable_of b own) { max_rec = cast_signed w32 (max i); recs = all i })
+
+  pub content_same : content now ≡ content b
+  content_same =
+      let all : variables_of (content b) kind ≡ map (variable_of b) before ++ variable_of b own ∷ map (variable_of b) after =
+      ap (λ (d : DataSet). variables_of d kind) (content_is b (shape b) (sound good at).has_shape) ∙ variables_of_are b (shape b) kind ∙ ap (map (variable_of b)) at.was ∙ map-append (variable_of b) before (own ∷ after) in
+      content_now (sound good at) (splices good at oe) ∙ ap (λ (w : Variable). with_variables (content b) kind (map (variable_of b) before ++ w ∷ map (variable_of b) after)) means ∙ ap (with_variables (content b) kind) (sym all) ∙ itself kind (content b)
+    where
+      itself : (k : Kind) (d : DataSet) → with_variables d k (variables_of d k) ≡ d
+      itself R d = refl
+      itself Z d = refl
+
 -- ---- the nodes are taken
 
 module _ {b made : List ℕ} {kind : Kind} {before : List VariableShape} {own : VariableShape} {after : List VariableShape} {index : Nodes} (good : Good b) (among : StandsAmong b kind before own after) (x : IsBuilt b made own index) where
@@ -59,18 +131,15 @@ module _ {b made : List ℕ} {kind : Kind} {before : List VariableShape} {own : 
   abbrev rs : List ℕ
   rs = (shape made).records
 
-  abbrev type : ℕ
-  type = type_in (variables_chain kind)
-
   tests : (nodes : List ℕ) (limit : ℕ) → HeadTests kind v s.unused ps nodes limit
   tests nodes limit = made_tests kind v s.unused ps nodes limit
 
   pub t : TakenAll b made (node_takes ps) ps (vxr_bytes 64)
   t = all_taken b made ps (sound good among) (end_before b good) x.taken
 
-  vdr_made : (type_at made v ≡ type) × (340 ≤ size_at made v)
+  vdr_made : (type_at made v ≡ type_in (variables_chain kind)) × (340 ≤ size_at made v)
   vdr_made =
-      let k = kept t.grows.edit v type (tile good among) (typed good among) (tests [] 0).untaken in
+      let k = kept t.grows.edit v _ (tile good among) (typed good among) (tests [] 0).untaken in
       (type_kept b made v k.same k.long ∙ typed good among, subst (λ (n : ℕ). 340 ≤ n) (sym (size_kept b made v k.same (let l = k.long in omega arith))) (long good among))
 
   some : 8 ≤ length made
@@ -129,11 +198,8 @@ module _ {b made : List ℕ} {kind : Kind} {before : List VariableShape} {own : 
     pub linked_long : length linked ≡ length made
     linked_long = ap length heads ∙ writes_long made rs (heads_marks kind v) (heads_written v index) t.grows.sound.has_shape.tiled some may_all
 
-    abbrev first : List ℕ
-    first = with_field made v vdr_vxr_head (link_to index)
-
     tail_is : number linked v vdr_vxr_tail ≡ link_to index
-    tail_is = ap (λ (y : List ℕ). number y v vdr_vxr_tail) heads ∙ field_reads first v vdr_vxr_tail (link_to index) (tail_lies first refl) x.small
+    tail_is = ap (λ (y : List ℕ). number y v vdr_vxr_tail) heads ∙ field_reads _ v vdr_vxr_tail (link_to index) (tail_lies _ refl) x.small
 
     -- both edits at once
     grown : Edit b linked s.records rs (taking_all s.unused ps (vxr_bytes 64) ++ heads_marks kind v) ps
@@ -175,7 +241,7 @@ module _ {b made : List ℕ} {kind : Kind} {before : List VariableShape} {own : 
           subst (λ (g : ℕ). IsChain linked rs uir_type (number linked g gdr_uir_head) (shape made).unused) (ap (λ (y : Shape). y.gdr) t.grows.same_shape)
           (chain_stays heads_edit uir_type _ _ (shape made).unused t.grows.sound.has_shape.unused_chain head (λ m i. away-avoids (heads_marks kind v) uir_type m 0 20 (unmarked-away (heads_marks kind v) uir_type m (tests [] 0).unused_clear)));
       index_now = record {
-        link_is = ap (λ (y : List ℕ). number y v vdr_vxr_head) heads ∙ other_words first v vdr_vxr_tail (link_to index) (v + 28) 8 (tail_lies first refl) (inl (omega arith)) ∙ field_reads made v vdr_vxr_head (link_to index) head_lies x.small;
+        link_is = ap (λ (y : List ℕ). number y v vdr_vxr_head) heads ∙ other_words _ v vdr_vxr_tail (link_to index) (v + 28) 8 (tail_lies _ refl) (inl (omega arith)) ∙ field_reads made v vdr_vxr_head (link_to index) head_lies x.small;
         has_nodes = nodes_kept made linked rs rs same_heads 8 index x.stands (λ m i. new_kept m (in_places m i)) (λ m i. (Each-in (IsBare made) (nodes_of index) x.bare m i).fits)
             (λ m i. t.grows.edit.sub m (behind_in good among m (block_behind own m (subst (λ (ls : List Leaf). In m (places_of ls)) x.leaves_stay i))));
         once = distinct_if (nodes_of index) (λ m. subst (λ (n : ℕ). n ≤ 1) (x.each_taken m) (times_most m ps t.once));
@@ -246,7 +312,7 @@ module _ {b made : List ℕ} {kind : Kind} {before : List VariableShape} {own : 
       tail_now =
           let at = index_edit good among linked_index in
           let there = t.grows.edit.sub v (tile good among) in
-          let k = kept_away gives_edit v type there (vdr_type good among at ∙ typed good among) ((λ e l. (tests [] 0).no_gdr e), ((λ e l. (tests [] 0).used e), ((λ e l. vdr_no_node kind e), tt))) in
+          let k = kept_away gives_edit v _ there (vdr_type good among at ∙ typed good among) ((λ e l. (tests [] 0).no_gdr e), ((λ e l. (tests [] 0).used e), ((λ e l. vdr_no_node kind e), tt))) in
           number_kept linked now v k.same vdr_vxr_tail (omega (arith, vdr_size good among at, long good among)) ∙ tail_is
 
       -- ---- the whole
@@ -319,13 +385,11 @@ module _ {b made : List ℕ} {kind : Kind} {before : List VariableShape} {own : 
 
       -- the descriptors of both kinds stay where they are
       pub vdrs_stay : (k : Kind) → vdrs (shapes_of (shape now) k) ≡ vdrs (shapes_of s k)
-      vdrs_stay k = ap (λ (y : Shape). vdrs (shapes_of y k)) (of_own_edit.same_shape good among made_edit) ∙ both kind k (of_own_edit.same_vdrs good among made_edit)
+      vdrs_stay k = ap (λ (y : Shape). vdrs (shapes_of y k)) (of_own_edit.same_shape good among made_edit) ∙ ap vdrs (as_with k) ∙ by_kind (λ (j : Kind) (vs : List VariableShape). vdrs vs ≡ vdrs (shapes_of s j)) kind s _ (of_own_edit.same_vdrs good among made_edit) refl k
         where
-          both : (j k : Kind) → vdrs (before ++ with_index own index ∷ after) ≡ vdrs (shapes_of s j) → vdrs (shapes_of (with_shapes s j (shape now).records (shape now).unused (before ++ with_index own index ∷ after)) k) ≡ vdrs (shapes_of s k)
-          both R R e = e
-          both R Z e = refl
-          both Z R e = refl
-          both Z Z e = e
+          as_with : (k : Kind) → shapes_of (with_shapes s kind (shape now).records (shape now).unused (before ++ with_index own index ∷ after)) k ≡ shapes_with s kind (before ++ with_index own index ∷ after) k
+          as_with R = refl
+          as_with Z = refl
 
       pub good_now : length now ≤ image_limit → Good now
       good_now short = changed_good good among new_index ps os exchanged (index_ruled good among new_index x.leaves_stay bare_now x.order short)

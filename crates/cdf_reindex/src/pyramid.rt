@@ -82,6 +82,7 @@ fn write_level<A: Area>(
 
 /// Makes the nodes over entries, a level over the other, until one node is left. Gives its place.
 /// After an error a part of this may have been done.
+#[tactic(auto, using(crate::proofs::LevelSteps::room_first))]
 pub fn write_levels<A: Area>(
     alloc: Global,
     area: &mut A,
