@@ -32,7 +32,7 @@ pub use Rattle.cdf_edits.specs.Commands.Room.{quotient_up, reindex_room}
 pub use Rattle.cdf_edits.specs.Index.Written.{NodeSpareStays, UnusedEntries, is_taken_at, last_node, top_stays}
 pub use Rattle.cdf_format.proofs.GoodImageLemmas.{good_image}
 unfoldable pub use Rattle.cdf_index.proofs.Common.{AreInOrder, InOrder, LowerAreZero, NextsAreZero}
-pub use Rattle.cdf_index.proofs.Common.{Ascending, Each-in, HasIndex, IsOneOf, Keeps, NodeWritten, SameHeads, away-avoids, edit_more, entry_in, index_at, leaf_words, of_each, on_ok_weaker, own_rules, past_entries, rules, with_both}
+pub use Rattle.cdf_index.proofs.Common.{Ascending, Each-in, HasIndex, IsOneOf, Keeps, NodeWritten, SameHeads, away-avoids, edit_more, entry_in, index_at, leaf_words, of_each, on_ok_weaker, own_rules, past_entries, rules, with_both, used_count}
 pub use Rattle.cdf_index.proofs.GoodIndex.{good_index}
 pub use Rattle.cdf_index.proofs.LeafMore.{leaves_both, parts_in_order}
 pub use Rattle.cdf_index.proofs.LeafRules.{index_order, index_rules}
@@ -47,6 +47,7 @@ pub use Rattle.cdf_index.proofs.Saying.{count_both, lower_both, names_parts, no_
 pub use Rattle.cdf_index.specs.Adding.{Counts}
 pub use Rattle.cdf_index.specs.declared.entries.Entry.{Entry}
 pub use Rattle.cdf_index.specs.Replacing.{with_index}
+pub use Rattle.cdf_index.specs.Writing.{SaysUnused}
 pub use Rattle.cdf_model.specs.VariableSteps.{reindex_step}
 pub use Rattle.cdf_reindex.specs.Pyramid.{AreLevels, Filled, MakesPyramid, NewNode, alone, entries_for, entries_of, first_of, from_below, last_of, nodes_left, uppers, places_of}
 pub use Rattle.cdf_reindex.specs.Rebuilding.{AllMade, LevelMade, LevelsMade, NodeMade, PyramidMade, naming, words, words_of}

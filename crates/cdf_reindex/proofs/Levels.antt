@@ -84,7 +84,7 @@ pub record Raised (level : List NewNode) : Type 0 where
   pub tight : EntriesTight (entries_of level) → EntriesTight (uppers level)
   pub here : nodes_below 0 (uppers level) ≡ counted level
   pub below : (levels : ℕ) → nodes_below (suc levels) (uppers level) ≡ nodes_below levels (entries_of level)
-  pub nodes : {f : List ℕ → ℕ} → Adds f → f (lower_nodes (uppers level)) ≡ f (places_of level ++ lower_nodes (entries_of level))
+  pub nodes : (f : List ℕ → ℕ) → Adds f → f (lower_nodes (uppers level)) ≡ f (places_of level ++ lower_nodes (entries_of level))
   pub names : (now rs : List ℕ) (levels : ℕ) → Each (Says now rs) level → Names now rs levels (entries_of level) → Names now rs (suc levels) (uppers level)
 
 pub raised : (level : List NewNode) → Filled level → Raised level
@@ -107,10 +107,10 @@ raised (new ∷ more) f =
       tight = λ t. let p = (parts es (entries_of more)).1 t in (rw (append-nil (entry_leaves es)) (spans es f.0 p.0), (p.0, tt), r.tight p.1);
       here = ap (λ (ps : List (ℕ × ℕ)). (new.place, entry_count es) ∷ ps) r.here;
       below = λ levels. rw (below_both levels es (entries_of more), append-nil (nodes_below levels es), r.below levels) refl;
-      nodes = λ {f} adds.
+      nodes = λ f adds.
           rw (append-nil (lower_nodes es))
           (adds.both (new.place ∷ lower_nodes es) (lower_nodes (uppers more))
-          ∙ omega (arith, adds.both (new.place ∷ []) (lower_nodes es), r.nodes adds ∙ adds.both (places_of more) (lower_nodes (entries_of more)), adds.both (new.place ∷ []) (places_of more), adds.both (new.place ∷ places_of more) (lower_nodes (with_both es (entries_of more))), ap f (lower_both es (entries_of more)) ∙ adds.both (lower_nodes es) (lower_nodes (entries_of more))));
+          ∙ omega (arith, adds.both (new.place ∷ []) (lower_nodes es), r.nodes f adds ∙ adds.both (places_of more) (lower_nodes (entries_of more)), adds.both (new.place ∷ []) (places_of more), adds.both (new.place ∷ places_of more) (lower_nodes (with_both es (entries_of more))), ap f (lower_both es (entries_of more)) ∙ adds.both (lower_nodes es) (lower_nodes (entries_of more))));
       names = λ now rs levels s h. let p = names_parts now rs levels es (entries_of more) h in (tt, (s.0, p.0, tt), r.names now rs levels s.1 p.1);
     }
 
@@ -143,13 +143,13 @@ pub record Piled (leaves : List Leaf) (entries : Entries) (levels : List (List N
   pub order : (high : ℕ) → AreInOrder 0 high (entries_for leaves) → AreInOrder 0 high entries
   pub zeros : LowerAreZero entries
   pub tight : EntriesTight entries
-  pub nodes : {f : List ℕ → ℕ} → Adds f → f (lower_nodes entries) ≡ f (places_of (from_below levels))
+  pub nodes : (f : List ℕ → ℕ) → Adds f → f (lower_nodes entries) ≡ f (places_of (from_below levels))
   pub rows : (k : ℕ) → nodes_below k entries ≡ counted (row levels k)
   pub names : (now rs : List ℕ) (deep : ℕ) → length levels ≤ deep → Each (Named now rs) leaves → Each (Says now rs) (from_below levels) → Names now rs deep entries
 
 pile_none : (leaves : List Leaf) → Piled leaves (entries_for leaves) []
 unfolding leaves_of entry_leaves NextsAreZero LowerAreZero AreTight EntriesTight nodes_of lower_nodes nodes_at nodes_below HasNodes Names
-pile_none [] = record { leaves_are = refl; order = λ high o. o; zeros = tt; tight = tt; nodes = λ {f} adds. refl; rows = λ k. refl; names = λ now rs deep few named s. tt }
+pile_none [] = record { leaves_are = refl; order = λ high o. o; zeros = tt; tight = tt; nodes = λ f adds. refl; rows = λ k. refl; names = λ now rs deep few named s. tt }
 pile_none (leaf ∷ more) =
     let r = pile_none more in
     record { leaves_are = ap (λ (ls : List Leaf). leaf ∷ ls) r.leaves_are; order = λ high o. o; zeros = r.zeros; tight = r.tight; nodes = r.nodes; rows = r.rows; names = λ now rs deep few named s. (named.0.0, named.0.1, r.names now rs deep few named.1 s) }
@@ -157,15 +157,9 @@ pile_none (leaf ∷ more) =
 pile_more : {leaves : List Leaf} (level : List NewNode) {more : List (List NewNode)} → Filled level → Piled leaves (entries_of level) more → Piled leaves (uppers level) (level ∷ more)
 pile_more {leaves = leaves} level {more = more} f p =
     let r = raised level f in
-    record {
-      leaves_are = r.leaves_are ∙ p.leaves_are;
-      order = λ high o. r.order 0 high (p.order high o);
-      zeros = r.zeros p.zeros;
-      tight = r.tight p.tight;
-      nodes = λ {f} adds. omega (arith, r.nodes adds ∙ adds.both (places_of level) (lower_nodes (entries_of level)), p.nodes adds, ap f (map-append (λ (new : NewNode). new.place) (from_below more) level) ∙ adds.both (places_of (from_below more)) (places_of level));
-      rows = λ k. rows r k;
-      names = λ now rs deep few named s. names r now rs deep few named (Each-split (Says now rs) (from_below more) level s);
-    }
+    let nodes : (f : List ℕ → ℕ) → Adds f → f (lower_nodes (uppers level)) ≡ f (places_of (from_below (level ∷ more))) = λ f adds. omega (arith, r.nodes f adds ∙ adds.both (places_of level) (lower_nodes (entries_of level)), p.nodes f adds, ap f (map-append (λ (new : NewNode). new.place) (from_below more) level) ∙ adds.both (places_of (from_below more)) (places_of level)) in
+    let named = λ (now rs : List ℕ) (deep : ℕ) (few : length (level ∷ more) ≤ deep) (named : Each (Named now rs) leaves) (s : Each (Says now rs) (from_below more ++ level)). names r now rs deep few named (Each-split (Says now rs) (from_below more) level s) in
+    search (rules, r.leaves_are ∙ p.leaves_are, r.order, p.order, r.zeros p.zeros, r.tight p.tight, nodes, rows r, named)
   where
     rows : Raised level → (k : ℕ) → nodes_below k (uppers level) ≡ counted (row (level ∷ more) k)
     rows r zero = r.here
@@ -264,7 +258,7 @@ module _ (leaves : List Leaf) (top : NewNode) (more : List (List NewNode)) (l : 
 
   pub nodes_are : {f : List ℕ → ℕ} → Adds f → f (nodes_of (alone top)) ≡ f (places_of (from_below ((top ∷ []) ∷ more)))
   unfolding nodes_of lower_nodes
-  nodes_are {f = f} adds = ap f (sym (append-nil (nodes_of (alone top)))) ∙ p.nodes adds
+  nodes_are {f = f} adds = ap f (sym (append-nil (nodes_of (alone top)))) ∙ p.nodes f adds
 
   pub has_pyramid : (now rs : List ℕ) (deep : ℕ) → length ((top ∷ []) ∷ more) ≤ deep → Each (Named now rs) leaves → Each (Says now rs) (from_below ((top ∷ []) ∷ more)) → HasNodes now rs deep (alone top)
   unfolding HasNodes Names
@@ -272,19 +266,15 @@ module _ (leaves : List Leaf) (top : NewNode) (more : List (List NewNode)) (l : 
 
   pub makes_pyramid : MakesPyramid leaves top more
   unfolding leaves_of entry_leaves InOrder AreInOrder NextsAreZero LowerAreZero AreTight EntriesTight
-  makes_pyramid = record {
-    leaves_are = sym (append-nil (leaves_of (alone top))) ∙ p.leaves_are;
-    filled = record {
-      full = λ k. subst FullFromLeft (sym (at k)) (full_row leaves (top ∷ []) more l k);
-      even = λ k. rw (at k, at (suc k)) (even_row leaves (top ∷ []) more l k);
-      tight = p.tight.1;
-    };
-    order = λ high o. ((parts_in_order 0 high top.entries no_entry (inner.order high o)).0, tt);
-    nexts = p.zeros.0;
-    few = λ few. omega (arith, (tall leaves (top ∷ []) more l few).count);
-    fewest = λ some few. nodes_are lengths_add ∙ length-map (from_below ((top ∷ []) ∷ more)) (λ (new : NewNode). new.place) ∙ omega (arith, (tall leaves (top ∷ []) more l few).total some);
-    places = λ few. up 7 ∙ ups_all 8 ((top ∷ []) ∷ more) (omega (arith, (tall leaves (top ∷ []) more l few).count));
-  }
+  makes_pyramid =
+      let full = λ (k : ℕ). subst FullFromLeft (sym (at k)) (full_row leaves (top ∷ []) more l k) in
+      let even : (k : ℕ) → (nodes_at (suc k) (alone top) ≡ []) ⊎ (length (nodes_at (suc k) (alone top)) ≡ sum (map (λ pair. pair.1) (nodes_at k (alone top)))) = λ k. rw (at k, at (suc k)) (even_row leaves (top ∷ []) more l k) in
+      let order : (high : ℕ) → AreInOrder 0 high (entries_for leaves) → InOrder 0 high (alone top) = λ high o. ((parts_in_order 0 high top.entries no_entry (inner.order high o)).0, tt) in
+      let high = tall leaves (top ∷ []) more l in
+      let few : length leaves ≤ 2147483648 → length ((top ∷ []) ∷ more) ≤ 6 = λ few. omega (arith, (high few).count) in
+      let fewest : 1 ≤ length leaves → length leaves ≤ 2147483648 → length (nodes_of (alone top)) ≡ nodes_above 8 (length leaves) = λ some few. omega (arith, nodes_are lengths_add, length-map (from_below ((top ∷ []) ∷ more)) (λ (new : NewNode). new.place), (high few).total some) in
+      let places = λ (f : length leaves ≤ 2147483648). up 7 ∙ ups_all 8 ((top ∷ []) ∷ more) (omega (arith, (high f).count)) in
+      search (rules, sym (append-nil (leaves_of (alone top))) ∙ p.leaves_are, full, even, p.tight.1, order, p.zeros.0, few, fewest, places)
 
 -- ---- lists with the same members
 

@@ -1,5 +1,5 @@
 -- The new nodes are taken and written, VXRhead and VXRtail lead to them, and the old nodes are freed: one edit, by which a good image stays good.
-use Rattle.cdf_reindex.proofs.Common.{Act, ActsFollow, AllGiven, AreFree, AreTiles, Counts, DataSet, Each, Each-in, Each-map, Edit, Exchanged, Field, Good, HasVariable, Hold, Hold-split, In, In-append, In-append_left, In-append_right, InOrder, IndexEdit, IndexTests, IsBare, IsBuilt, IsChain, IsIndex, IsLeft, IsOneOf, IsRebuilt, IsSound, Kept, Kind, Leaf, LeafFits, LiesIn, List, Mark, MayFree, MayWrite, NewIndex, NextsAreZero, NodeFits, Nodes, OwnEdit, R, SameHeads, Shape, StandsAmong, TakenAll, Variable, VariableFits, VariableShape, Z, [], acts_still_by, all_gave, all_given_edit, all_left, all_unused, ap, apart, append-nil, arith, avoided, away-avoids, behind_in, block_behind, block_fits_alike, block_kept, by_kind, cast_signed, chain_stays, content, content_is, content_now, cpr_behind, cpr_type, cvvr_type, distinct_if, each, each_holds, each_of, edit_then, edit_under, end_stays, eof, field, field_reads, file, fits, fixed_size, flat_map, freeing_marks, fresh_unowned, gave-same, gdr_eof, gdr_field, gdr_place, gdr_type, gdr_uir_head, has, heads_written, image_limit, index_edit, index_marks, index_order, index_rows, index_rules, inl, inr, is_a, is_a-type, is_block, is_in, is_in-true, is_linkable, is_record_type, keeps_file, kept, kept_away, last_node, leaf_rows, leaf_same, leaves_of, length, length-with_field, levels_up, link_to, linkable-in, linkable-long, linkable-type, links_mark, long, made_acts, map, map-append, max_rec_kept, negsuc, no_node, node, node_behind, node_room, nodes_kept, nodes_of, nodes_rows, nodes_stand, none_in_use, not_twice_kept, number, number_kept, of_each, other_words, own_edit, own_rules, owned-times, owned_records, packed_stays, parts_times, plain_alike, pos, r_vdr_type, read_types, record_number_limit, records_alike, records_in, refl, reindex_room, room, rules, same_shape, shape, shapes_of, shapes_with, size_at, size_kept, sizes_by_tiles, some_bytes, sound, sound_if, space_fields, spliced_times, splices, stays, stays_alike, subst, sym, taking_all, through, tile, times, times-append, times-in, times-none, times-once, true, type_at, type_in, type_kept, typed, uir_type, unmarked, unmarked-away, used_times, variable_of, variable_records, variable_stays, variables_chain, variables_of, variables_of_are, vdr_alike, vdr_no_node, vdr_size, vdr_type, vdr_vxr_head, vdr_vxr_tail, vdrs, vvr_type, vxr_bytes, vxr_n_used_entries, vxr_type, w32, with_field, with_index, with_shapes, with_variables, with_writes, write, write_lies, writes_edit, writes_long, z_vdr_type, ℕ, ◌&&◌, ◌++◌, ◌+◌, ◌==◌, ◌||◌, ◌∙◌, ◌∷◌, ◌≡◌, ◌≢◌, ◌≤◌}
+use Rattle.cdf_reindex.proofs.Common.{Act, ActsFollow, AllGiven, AreFree, AreTiles, Counts, DataSet, Each, Each-in, Each-map, Edit, Exchanged, Field, Good, HasVariable, Hold, Hold-split, In, In-append, In-append_left, In-append_right, InOrder, IndexEdit, IndexTests, IsBare, IsBuilt, IsChain, IsIndex, IsLeft, IsOneOf, IsRebuilt, IsSound, Kept, Kind, Leaf, LeafFits, LiesIn, List, Mark, MayFree, MayWrite, NewIndex, NextsAreZero, NodeFits, Nodes, OwnEdit, R, SameHeads, Shape, StandsAmong, TakenAll, Variable, VariableFits, VariableShape, Z, [], acts_still_by, all_gave, all_given_edit, all_left, all_unused, ap, apart, append-nil, arith, avoided, away-avoids, behind_in, block_behind, block_fits_alike, block_kept, by_kind, cast_signed, chain_stays, content, content_is, content_now, cpr_behind, cpr_type, cvvr_type, distinct_if, each, each_holds, each_of, edit_then, edit_under, end_stays, eof, field, field_reads, file, fits, fixed_size, flat_map, freeing_marks, fresh_unowned, gave-same, gdr_eof, gdr_field, gdr_place, gdr_type, gdr_uir_head, has, heads_written, image_limit, index_edit, index_marks, index_order, index_rows, index_rules, inl, inr, is_a, is_a-type, is_block, is_in, is_in-true, is_linkable, is_record_type, keeps_file, kept, kept_away, last_node, leaf_rows, leaf_same, leaves_of, length, length-with_field, levels_up, link_to, linkable-in, linkable-long, linkable-type, links_mark, long, made_acts, map, map-append, max_rec_kept, negsuc, no_node, node, node_behind, node_room, nodes_kept, nodes_of, nodes_rows, nodes_stand, none_in_use, not_twice_kept, number, number_kept, of_each, other_words, own_edit, own_rules, owned-times, owned_records, packed_stays, parts_times, plain_alike, pos, r_vdr_type, read_types, record_number_limit, records_alike, records_in, refl, reindex_room, room, rules, same_shape, shape, shapes_of, shapes_with, size_at, size_kept, sizes_by_tiles, some_bytes, sound, sound_if, space_fields, spliced_times, splices, stays, stays_alike, subst, sym, taking_all, through, tile, times, times-append, times-in, times-none, times-once, true, type_at, type_in, type_kept, typed, uir_type, unmarked, unmarked-away, used_times, variable_of, variable_records, variable_stays, variables_chain, variables_of, variables_of_are, vdr_alike, vdr_no_node, vdr_size, vdr_type, vdr_vxr_head, vdr_vxr_tail, vdrs, vvr_type, vxr_bytes, vxr_n_used_entries, vxr_type, w32, with_field, with_index, with_shapes, with_variables, with_writes, write, write_lies, writes_edit, writes_long, z_vdr_type, ℕ, ◌&&◌, ◌++◌, ◌+◌, ◌==◌, ◌||◌, ◌∙◌, ◌∷◌, ◌≡◌, ◌≢◌, ◌≤◌, ◌⊎◌}
 use Rattle.cdf_edits.proofs.Edits.LeafPieces.{place_in as leaf_in}
 use Rattle.cdf_edits.proofs.Edits.InRecords.{places_of}
 use Rattle.cdf_index.proofs.NewIndex.{good_now as changed_good}
@@ -228,25 +228,18 @@ module _ {b made : List ℕ} {kind : Kind} {before : List VariableShape} {own : 
     bare_linked = each (IsBare linked) (nodes_of index) (λ m i. bare_by made linked m (new_kept m (in_places m i)) (Each-in (IsBare made) (nodes_of index) x.bare m i))
 
     linked_index : NewIndex b linked kind own index rs (shape made).unused space_fields (taking_all s.unused ps (vxr_bytes 64)) [] (field 0 0) ps
-    linked_index = record {
-      edit = edit_under grown (index_made_marks kind v s.unused ps [] 0) (λ m type lo hi i is a. (a.0, (a.1.0, (a.1.1.0, (a.1.1.1.0, (a.1.1.1.1.0, (a.1.1.1.1.1.0, tt)))))));
-      tests = (tests [] 0).tests;
-      unspaced = refl;
-      own_nodes = λ m i j. absurd j;
-      typed_now = λ m i.
-          let long : 28 ≤ size_at linked m = omega (arith, same_heads.sizes m (new_in m i), linkable-long made rs vxr_type m (stood m i)) in
-          (ap is_record_type (new_linked m i), subst (λ (k : ℕ). fixed_size k ≤ size_at linked m) (sym (new_linked m i)) long);
-      unused_chain =
-          let head = gdr_field t.grows.sound heads_edit (tests [] 0).file_clear gdr_uir_head (tests [] 0).list_clear (omega arith) in
-          subst (λ (g : ℕ). IsChain linked rs uir_type (number linked g gdr_uir_head) (shape made).unused) (ap (λ (y : Shape). y.gdr) t.grows.same_shape)
-          (chain_stays heads_edit uir_type _ _ (shape made).unused t.grows.sound.has_shape.unused_chain head (λ m i. away-avoids (heads_marks kind v) uir_type m 0 20 (unmarked-away (heads_marks kind v) uir_type m (tests [] 0).unused_clear)));
-      index_now = record {
-        link_is = ap (λ (y : List ℕ). number y v vdr_vxr_head) heads ∙ other_words _ v vdr_vxr_tail (link_to index) (v + 28) 8 (tail_lies _ refl) (inl (omega arith)) ∙ field_reads made v vdr_vxr_head (link_to index) head_lies x.small;
-        has_nodes = nodes_kept made linked rs rs same_heads 8 index x.stands (λ m i. new_kept m (in_places m i)) (λ m i. (Each-in (IsBare made) (nodes_of index) x.bare m i).fits)
-            (λ m i. t.grows.edit.sub m (behind_in good among m (block_behind own m (subst (λ (ls : List Leaf). In m (places_of ls)) x.leaves_stay i))));
-        once = distinct_if (nodes_of index) (λ m. subst (λ (n : ℕ). n ≤ 1) (x.each_taken m) (times_most m ps t.once));
-      };
-    }
+    linked_index =
+        let edit = edit_under grown (index_made_marks kind v s.unused ps [] 0) (λ m type lo hi i is a. (a.0, (a.1.0, (a.1.1.0, (a.1.1.1.0, (a.1.1.1.1.0, (a.1.1.1.1.1.0, tt))))))) in
+        let long : (m : ℕ) → In m ps → fixed_size vxr_type ≤ size_at linked m = λ m i. omega (arith, same_heads.sizes m (new_in m i), linkable-long made rs vxr_type m (stood m i)) in
+        let typed : (m : ℕ) → In m ps → (is_record_type (type_at linked m) ≡ true) × (fixed_size (type_at linked m) ≤ size_at linked m) = λ m i. rw (new_linked m i) (refl, long m i) in
+        let head = gdr_field t.grows.sound heads_edit (tests [] 0).file_clear gdr_uir_head (tests [] 0).list_clear (omega arith) in
+        let unused = subst (λ (g : ℕ). IsChain linked rs uir_type (number linked g gdr_uir_head) (shape made).unused) (ap (λ (y : Shape). y.gdr) t.grows.same_shape)
+        (chain_stays heads_edit uir_type _ _ (shape made).unused t.grows.sound.has_shape.unused_chain head (λ m i. away-avoids (heads_marks kind v) uir_type m 0 20 (unmarked-away (heads_marks kind v) uir_type m (tests [] 0).unused_clear))) in
+        let link = ap (λ (y : List ℕ). number y v vdr_vxr_head) heads ∙ other_words _ v vdr_vxr_tail (link_to index) (v + 28) 8 (tail_lies _ refl) (inl (omega arith)) ∙ field_reads made v vdr_vxr_head (link_to index) head_lies x.small in
+        let nodes = nodes_kept made linked rs rs same_heads 8 index x.stands (λ m i. new_kept m (in_places m i)) (λ m i. (Each-in (IsBare made) (nodes_of index) x.bare m i).fits)
+        (λ m i. t.grows.edit.sub m (behind_in good among m (block_behind own m (subst (λ (ls : List Leaf). In m (places_of ls)) x.leaves_stay i)))) in
+        let once = distinct_if (nodes_of index) (λ m. subst (λ (n : ℕ). n ≤ 1) (x.each_taken m) (times_most m ps t.once)) in
+        search (rules, edit, (tests [] 0).tests, typed, unused, link, nodes, once)
 
     abbrev linked_edit : OwnEdit b linked kind own index rs (shape made).unused (index_made_marks kind v s.unused ps [] 0) ps
     linked_edit = own_edit good among linked_index
@@ -322,36 +315,17 @@ module _ {b made : List ℕ} {kind : Kind} {before : List VariableShape} {own : 
           (a.0, (a.1.0, (a.1.1.0, (a.1.1.1.0, (a.1.1.1.1.0, (a.1.1.1.1.1.0, (a.1.0, ((λ same lies. a.1.1.1.0 same (t.before m i lies)), (a.1.1.1.1.1.1.0, tt))))))))))
 
       pub new_index : NewIndex b now kind own index (shape now).records (shape now).unused space_fields (taking_all s.unused ps (vxr_bytes 64)) os (field 0 (length linked)) (ps ++ os)
-      new_index = record {
-        edit = edit;
-        tests = (tests os (length linked)).tests;
-        unspaced = refl;
-        own_nodes = λ m i j. inl j;
-        typed_now = λ m i.
-            let there : In m (shape now).records = elim (In-append m ps os i) [ inl j ↦ onward.sub m (new_in m j) | inr j ↦ onward.sub m (t.grows.edit.sub m (node_before m j)) ] in
-            (left.sound.has_shape.typed m there, left.sound.has_shape.fixed m there);
-        unused_chain =
-            let gdr = sym left.sound.has_shape.gdr_is ∙ gdr_place (sound good among) edit (tests os (length linked)).tests.file_clear in
-            subst (λ (g : ℕ). IsChain now (shape now).records uir_type (number now g gdr_uir_head) (shape now).unused) gdr left.sound.has_shape.unused_chain;
-        index_now = stands_now;
-      }
+      new_index =
+          let there : (m : ℕ) → In m (ps ++ os) → In m (shape now).records = λ m i. elim (In-append m ps os i) [ inl j ↦ onward.sub m (new_in m j) | inr j ↦ onward.sub m (t.grows.edit.sub m (node_before m j)) ] in
+          let typed : (m : ℕ) → In m (ps ++ os) → (is_record_type (type_at now m) ≡ true) × (fixed_size (type_at now m) ≤ size_at now m) = λ m i. (left.sound.has_shape.typed m (there m i), left.sound.has_shape.fixed m (there m i)) in
+          let gdr = sym left.sound.has_shape.gdr_is ∙ gdr_place (sound good among) edit (tests os (length linked)).tests.file_clear in
+          search (rules, edit, (tests os (length linked)).tests, typed, rw gdr at left.sound.has_shape.unused_chain, stands_now)
 
       pub rebuilt : IsRebuilt b now own
-      rebuilt = record {
-        index = index;
-        made = made;
-        built = x;
-        linked = linked;
-        heads = heads;
-        linked_sound = sound_linked;
-        given = given;
-        stands = stands_now;
-        tail = tail_now ∙ sym (last_is index x.nexts);
-        bare = bare_now;
-        sound = left.sound;
-        content_stays = content_same good among new_index x.leaves_stay bare_now;
-        longest = subst (λ (n : ℕ). n ≤ length b + reindex_room own.index) (sym long_now) x.longest;
-      }
+      rebuilt =
+          let tail : number now v vdr_vxr_tail ≡ last_node index = tail_now ∙ sym (last_is index x.nexts) in
+          let longest : length now ≤ length b + reindex_room own.index = omega (arith, long_now, x.longest) in
+          search (rules, x, heads, sound_linked, given, stands_now, bare_now, left.sound, content_same good among new_index x.leaves_stay bare_now)
 
       -- ---- a good image stays good
 
@@ -362,17 +336,11 @@ module _ {b made : List ℕ} {kind : Kind} {before : List VariableShape} {own : 
       old_type = all_unused linked now os sound_linked may_free.stand given
 
       exchanged : Exchanged b now own index (ps ++ os) ps os
-      exchanged = record {
-        are_reborn = λ m i. In-append m ps os i;
-        reborn_are = λ m i. elim i [ inl j ↦ In-append_left m ps os j | inr j ↦ In-append_right m ps os j ];
-        times_are = λ m. omega (arith, ap (λ (ls : List Leaf). times m (places_of ls)) x.leaves_stay, x.each_taken m);
-        fresh = t.fresh_all;
-        taken_once = t.once;
-        in_use = λ m i u. apart vxr_type uir_type refl (sym (new_type m i) ∙ u);
-        were_nodes = λ m i. i;
-        freed_once = (has good among).indexed.once;
-        out_of_use = old_type;
-      }
+      exchanged =
+          let back : (m : ℕ) → In m ps ⊎ In m os → In m (ps ++ os) = λ m i. elim i [ inl j ↦ In-append_left m ps os j | inr j ↦ In-append_right m ps os j ] in
+          let times_are : (m : ℕ) → times m (nodes_of index) + times m (places_of (leaves_of index)) + times m os ≡ times m os + times m (places_of (leaves_of own.index)) + times m ps = λ m. omega (arith, ap (λ (ls : List Leaf). times m (places_of ls)) x.leaves_stay, x.each_taken m) in
+          let in_use = λ (m : ℕ) (i : In m ps) (u : type_at now m ≡ uir_type). apart vxr_type uir_type refl (sym (new_type m i) ∙ u) in
+          search (rules, In-append, back, times_are, t.fresh_all, t.once, in_use, (has good among).indexed.once, old_type)
 
       end_now : eof now s.gdr ≡ length now
       end_now = subst (λ (g : ℕ). eof now g ≡ length now) (ap (λ (y : Shape). y.gdr) t.grows.same_shape) (gdr_field t.grows.sound onward (tests [] 0).file_freed gdr_eof (tests [] 0).end_clear (omega arith) ∙ t.grows.end_is ∙ sym long_now)

@@ -1,5 +1,5 @@
 -- An index made anew follows `reindex`.
-use Rattle.cdf_reindex.proofs.Common.{Act, AllKeep, Allowance, Allowances, AreTiles, Bool, ByStep, DataSet, Each-map, Field, Follows, Found, FreedStay, GivenStay, Go, Good, In, IsBare, IsNode, IsRebuilt, Kind, List, MakesIndex, NodeSpareStays, Nodes, None, OfVariable, Only, Option, Range, Reindexed, Same, Some, StandsAmong, UnusedEntries, VariableShape, [], ap, apart, arith, by_range, content, descriptor_allowed, each, eq-eqb, false, freed_stay, gave, gdr_type, gdr_typed, got-middle, if◌then◌else◌, image_limit, index_keeps, inl, inr, is_in-true, is_taken_at, last_node, leaves_of, length, levels_up, links_end, listed_free, made_acts, map, nat_le, nat_lt, next_of, no_fields, no_node, node, node_allowed, nodes_above, nodes_at, nodes_of, none_of_both, number, owned, range_at, refl, reindex_changes, reindex_room, reindex_step, room, room_at, same_as_itself, shape, shapes_of, size_at, sizes_by_tiles, slice_get, staying_follows, stays_all, subst, sum, sum_by-cons, sym, taken, taken-gave, top_stays, true, true≢false, type_at, unlisted_away, variable_named, vdr_vxr_head, vdr_vxr_tail, vdrs, vxr_bytes, vxr_type, with_index, ℕ, ◌&&◌, ◌*◌, ◌++◌, ◌+◌, ◌<◌, ◌∙◌, ◌∷◌, ◌≡◌, ◌≢◌, ◌≤◌}
+use Rattle.cdf_reindex.proofs.Common.{Act, AllKeep, Allowance, Allowances, AreTiles, Bool, ByStep, DataSet, Each-map, Field, Follows, Found, FreedStay, GivenStay, Go, Good, In, IsBare, IsNode, IsRebuilt, Kind, List, MakesIndex, NodeSpareStays, Nodes, None, OfVariable, Only, Option, Range, Reindexed, Same, Some, StandsAmong, UnusedEntries, VariableShape, [], ap, apart, arith, by_range, content, descriptor_allowed, each, eq-eqb, false, freed_stay, gave, gdr_type, gdr_typed, got-middle, if◌then◌else◌, image_limit, index_keeps, inl, inr, is_in-true, is_taken_at, last_node, leaves_of, length, levels_up, links_end, listed_free, made_acts, map, nat_le, nat_lt, next_of, no_fields, no_node, node, node_allowed, nodes_above, nodes_at, nodes_of, none_of_both, number, owned, range_at, refl, reindex_changes, reindex_room, reindex_step, room, room_at, rules, same_as_itself, shape, shapes_of, size_at, sizes_by_tiles, slice_get, staying_follows, stays_all, subst, sum, sum_by-cons, sym, taken, taken-gave, top_stays, true, true≢false, type_at, unlisted_away, variable_named, vdr_vxr_head, vdr_vxr_tail, vdrs, vxr_bytes, vxr_type, with_index, ℕ, ◌&&◌, ◌*◌, ◌++◌, ◌+◌, ◌<◌, ◌∙◌, ◌∷◌, ◌≡◌, ◌≢◌, ◌≤◌}
 use Rattle.cdf_reindex.proofs.Levels.{in_by_times}
 use Rattle.cdf_reindex.proofs.MadeEdit.{among_now, edit, good_now, left, made_follow, may_free, new_index, node_linked, old_linked, same_size, t, vdrs_stay}
 use Rattle.cdf_reindex.proofs.PyramidBuilt.{no_pyramid, node_takes}
@@ -88,20 +88,14 @@ module _ {b now : List ℕ} (found : Found) {before : List VariableShape} {own :
   -- ---- what is done
 
   makes : MakesIndex b now own of_own done
-  makes = record {
-    acts_are = refl;
-    leaves_stay = r.built.leaves_stay;
-    fewest = r.built.fewest ∙ ap (λ leaves. nodes_above 8 (length leaves)) (sym r.built.leaves_stay);
-    filled = r.built.filled;
-    wide = Each-map (IsBare now) (λ vxr. room_at now vxr ≡ 64) (λ m bare. bare.room_is) (nodes_of r.index) r.bare;
-    alone = Each-map (IsBare now) (λ vxr. next_of now vxr ≡ 0) (λ m bare. bare.next_is) (nodes_of r.index) r.bare;
-    nodes = record {
-      unused = Each-map (IsBare now) (UnusedEntries b now [] [] done) (λ m bare i low high. inl (bare.unused i low (subst (λ (n : ℕ). i < n) bare.room_is high))) (nodes_of r.index) r.bare;
-      spare = each (NodeSpareStays b now done) (nodes_of r.index) (λ m i free. absurd (true≢false (sym (taken_all m i) ∙ free)));
-    };
-    tail = r.tail ∙ sym (ap (λ (p : Bool). if p then number b own.vdr vdr_vxr_tail else last_node r.index) (top_moves done own.index r.index some taken_all));
-    freed = freed;
-  }
+  makes =
+      let fewest = r.built.fewest ∙ ap (λ leaves. nodes_above 8 (length leaves)) (sym r.built.leaves_stay) in
+      let wide = Each-map (IsBare now) (λ vxr. room_at now vxr ≡ 64) (λ m bare. bare.room_is) (nodes_of r.index) r.bare in
+      let alone = Each-map (IsBare now) (λ vxr. next_of now vxr ≡ 0) (λ m bare. bare.next_is) (nodes_of r.index) r.bare in
+      let unused = Each-map (IsBare now) (UnusedEntries b now [] [] done) (λ m bare i low high. inl (bare.unused i low (subst (λ (n : ℕ). i < n) bare.room_is high))) (nodes_of r.index) r.bare in
+      let spare = each (NodeSpareStays b now done) (nodes_of r.index) (λ m i free. absurd (true≢false (sym (taken_all m i) ∙ free))) in
+      let tail = r.tail ∙ sym (ap (λ (p : Bool). if p then number b own.vdr vdr_vxr_tail else last_node r.index) (top_moves done own.index r.index some taken_all)) in
+      search (rules, r.built.leaves_stay, fewest, r.built.filled, wide, alone, unused, spare, tail, freed)
 
   -- ---- what each record keeps
 
@@ -124,19 +118,13 @@ module _ {b now : List ℕ} (found : Found) {before : List VariableShape} {own :
     there = got_at before own after at among.was
 
     pub rebuilt_follows : Follows b (commands.Reindex name) now
-    rebuilt_follows = record {
-      reply = replies.Plain;
-      goes = ap ByStep (goes_by (content b) name found named) ∙ ap (λ (d : DataSet). ByStep (Go d replies.Plain)) (sym r.content_stays);
-      good = good_now good among r.built r.heads now r.given short;
-      longer = (edit good among r.built r.heads now r.given).longer;
-      within = omega (arith, room_is b name found named there, r.longest);
-      reads = λ e. absurd cc;
-      acts = done;
-      takes_within = omega (arith, room_is b name found named there, taken_sum b ps os, r.built.as_many, r.built.fewest);
-      acts_follow = made_follow good among r.built r.heads now r.given;
-      keeps = subst (λ (o : Option Found). AllKeep b now (elim o as (λ x. Allowances) [ None ↦ stays_all | Some f ↦ reindex_changes b (shape b) f ]) done (owned b (shape b))) (sym named) keeps;
-      does = does_by b name found named there (got_at before of_own after at (among_now good among r.built r.heads now r.given).was) makes;
-    }
+    rebuilt_follows =
+        let goes = ap ByStep (goes_by (content b) name found named) ∙ ap (λ (d : DataSet). ByStep (Go d replies.Plain)) (sym r.content_stays) in
+        let within : length now ≤ length b + room b (commands.Reindex name) = omega (arith, room_is b name found named there, r.longest) in
+        let takes_within : sum (map (λ take. take.1) (taken done)) ≤ room b (commands.Reindex name) = omega (arith, room_is b name found named there, taken_sum b ps os, r.built.as_many, r.built.fewest) in
+        let kept = subst (λ (o : Option Found). AllKeep b now (elim o as (λ x. Allowances) [ None ↦ stays_all | Some f ↦ reindex_changes b (shape b) f ]) done (owned b (shape b))) (sym named) keeps in
+        let does = does_by b name found named there (got_at before of_own after at (among_now good among r.built r.heads now r.given).was) makes in
+        search (rules, goes, good_now good among r.built r.heads now r.given short, (edit good among r.built r.heads now r.given).longer, within, takes_within, made_follow good among r.built r.heads now r.given, kept, does)
 
 -- ---- an index without nodes stays, and so does every byte
 

@@ -1,5 +1,5 @@
 -- The nodes that code made, and their levels, as a tree that stands in the image.
-use Rattle.cdf_reindex.proofs.Common.{Act, AllMade, AllTaken, AreInOrder, AreTight, Ascending, Each, Each-map, Each-split, EntriesTight, Entry, Fills, Good, HasNodes, HasVariable, In, InOrder, IndexMade, IsBare, IsBuilt, IsPyramid, IsSound, Kept, Kind, Leaf, List, NewNode, NextsAreZero, NodeMade, NodeWritten, Nodes, PyramidMade, R, SaysEntry, StandsAmong, TakenAll, Takes, Took, VariableShape, Z, [], alone, ap, arith, content, each, ends, entries_for, entry_past, eof, eof_by_rules, filled_size, fills, from_below, gdr_offset, good_by_its_shape, good_is_sound, good_long, inl, inr, kept, leaf_words, leaves_ascend, leaves_named, leaves_of, length, length-map, link_to, linkable-from, map, no_node, node_short, nodes_above, nodes_at, nodes_of, none_taken, of_kind, place_in, placed_grows, places_of, record_number_limit, refl, rules_of_good, same_node, sealed_kept, shape, shapes_of, subst, suc, sym, taken_then, times, type_kept, variables, vxr_bytes, vxr_type, with_space, ℕ, ◌+◌, ◌<◌, ◌^◌, ◌∙◌, ◌∷◌, ◌≡◌, ◌≤◌, rules, reindex_room}
+use Rattle.cdf_reindex.proofs.Common.{Act, AllMade, AllTaken, AreInOrder, AreTight, Ascending, Each, Each-map, Each-split, EntriesTight, Entry, Fills, Good, HasNodes, HasVariable, In, InOrder, IndexMade, IsBare, IsBuilt, IsPyramid, IsSound, Kept, Kind, Leaf, List, NewNode, NextsAreZero, NodeFits, NodeMade, NodeWritten, Nodes, PyramidMade, R, SaysEntry, SaysUnused, StandsAmong, TakenAll, Takes, Took, VariableShape, Z, [], alone, ap, arith, content, each, ends, entries_for, entry_count, entry_past, eof, eof_by_rules, filled_size, fills, from_below, gdr_offset, good_by_its_shape, good_is_sound, good_long, inl, inr, kept, leaf_words, leaves_ascend, leaves_named, leaves_of, length, length-map, link_to, linkable-from, map, no_node, node_short, nodes_above, nodes_at, nodes_of, none_taken, number, of_kind, place_in, placed_grows, places_of, record_number_limit, refl, reindex_room, rules, rules_of_good, same_node, sealed_kept, shape, shapes_of, size_at, subst, suc, sym, taken_then, times, type_kept, used_count, variables, vxr_bytes, vxr_n_used_entries, vxr_type, with_space, ℕ, ◌+◌, ◌<◌, ◌^◌, ◌∙◌, ◌∷◌, ◌≡◌, ◌≤◌}
 use Rattle.cdf_reindex.proofs.LevelSteps.{all_longest, length_words, say_entries}
 use Rattle.cdf_reindex.proofs.Levels.{Says, has_pyramid, in_by_times, lengths_add, makes_pyramid, nodes_are, times_add}
 
@@ -10,21 +10,11 @@ module _ (b taken : List ℕ) (place : ℕ) (sound : IsSound b (shape b)) (takes
   filled = fills b taken 64 place sound takes sound_taken stays now 0 entries w
 
   pub node_made : length entries ≤ 64 → NodeMade b now entries place
-  node_made few = record {
-    taken = taken;
-    fills = filled;
-    bare = record {
-      fits = (omega (arith, filled_size sound filled, w.room_is), omega (arith, w.room_is, w.used_is));
-      room_is = w.room_is;
-      few = omega (arith, w.count_is);
-      next_is = w.next_is;
-      unused = λ i le lt. subst (λ (e : Entry). SaysEntry now place i e.first e.last e.place) (entry_past entries i (omega (arith, w.used_is, le))) (w.says i lt);
-    };
-    counts_is = w.count_is;
-    used_is = w.used_is;
-    says = w.says;
-    longest = node_short b taken 64 place sound takes sound_taken stays now 0 entries w;
-  }
+  node_made few =
+      let fits : NodeFits now place = (omega (arith, filled_size sound filled, w.room_is), omega (arith, w.room_is, w.used_is)) in
+      let low : number now place vxr_n_used_entries ≤ 64 = omega (arith, w.count_is) in
+      let unused : (i : ℕ) → used_count now place ≤ i → i < 64 → SaysUnused now place i = λ i le lt. subst (λ (e : Entry). SaysEntry now place i e.first e.last e.place) (entry_past entries i (omega (arith, w.used_is, le))) (w.says i lt) in
+      search (rules, filled, fits, w.room_is, low, w.next_is, unused, w.count_is, w.used_is, w.says, node_short b taken 64 place sound takes sound_taken stays now 0 entries w)
 
   pub node_eof : eof now (gdr_offset now) ≡ length now
   node_eof = ends sound filled
@@ -60,13 +50,10 @@ own_of P {now = now} {kind = kind} {before = before} {own = own} {after = after}
 pub bare_by : (b now : List ℕ) (place : ℕ) → Kept b now place → IsBare b place → IsBare now place
 bare_by b now place k bare =
     let n = same_node b now place k bare.fits in
-    record {
-      fits = (omega (arith, n.size_is, n.room_is, bare.fits.0), omega (arith, n.used_is, n.room_is, bare.fits.1));
-      room_is = n.room_is ∙ bare.room_is;
-      few = omega (arith, n.count_is, bare.few);
-      next_is = n.next_is ∙ bare.next_is;
-      unused = λ i le lt. n.entries i (omega (arith, bare.room_is, lt)) 0xffffffff 0xffffffff 0xffffffffffffffff (bare.unused i (omega (arith, n.used_is, le)) lt);
-    }
+    let fits : NodeFits now place = (omega (arith, n.size_is, n.room_is, bare.fits.0), omega (arith, n.used_is, n.room_is, bare.fits.1)) in
+    let few : number now place vxr_n_used_entries ≤ 64 = omega (arith, n.count_is, bare.few) in
+    let unused : (i : ℕ) → used_count now place ≤ i → i < 64 → SaysUnused now place i = λ i le lt. n.entries i (omega (arith, bare.room_is, lt)) _ _ _ (bare.unused i (omega (arith, n.used_is, le)) lt) in
+    search (rules, fits, n.room_is ∙ bare.room_is, few, n.next_is ∙ bare.next_is, unused)
 
 pub record Stands (now : List ℕ) (new : NewNode) : Type 0 where
   pub bare : IsBare now new.place
@@ -85,19 +72,12 @@ all_stand b now (new ∷ more) sound end m =
     let inside = place_in sound made.fills in
     let k = kept edit new.place vxr_type inside made.fills.typed refl in
     let n = same_node m.0 now new.place k made.bare.fits in
-    let many = length_words new.entries in (
-      record {
-        bare = bare_by m.0 now new.place k made.bare;
-        says = record {
-          linkable = linkable-from now (shape now).records vxr_type new.place (edit.sub new.place inside) (type_kept m.0 now new.place k.same k.long ∙ made.fills.typed) (omega (arith, n.size_is, filled_size sound made.fills));
-          next_is = n.next_is ∙ made.bare.next_is;
-          room_is = n.room_is ∙ made.bare.room_is;
-          used_is = n.used_is ∙ made.used_is ∙ many;
-          say_entries = say_entries now new.place 0 new.entries (λ j lt. let z : j ≡ 0 + j = omega arith in rw (← z) (n.entries j (omega (arith, made.bare.room_is, made.bare.fits.1, made.used_is, many, lt)) _ _ _ (made.says j (omega (arith, made.bare.room_is, made.bare.fits.1, made.used_is, many, lt)))));
-        };
-      },
-      all_stand m.0 now more one.sound one.end_is m.1.1,
-    )
+    let many = length_words new.entries in
+    let long : 28 ≤ size_at now new.place = omega (arith, n.size_is, filled_size sound made.fills) in
+    let link = linkable-from now (shape now).records vxr_type new.place (edit.sub new.place inside) (type_kept m.0 now new.place k.same k.long ∙ made.fills.typed) long in
+    let in_room : (j : ℕ) → j < entry_count new.entries → j < 64 = λ j lt. omega (arith, made.bare.room_is, made.bare.fits.1, made.used_is, many, lt) in
+    let say = say_entries now new.place 0 new.entries (λ j lt. let z : j ≡ 0 + j = omega arith in rw (← z) (n.entries j (omega (arith, made.bare.room_is, in_room j lt)) _ _ _ (made.says j (in_room j lt)))) in
+    (search (rules, bare_by m.0 now new.place k made.bare, link, n.next_is ∙ made.bare.next_is, n.room_is ∙ made.bare.room_is, n.used_is ∙ made.used_is ∙ many, say), all_stand m.0 now more one.sound one.end_is m.1.1)
 
 -- each of them by its place
 pub bare_at : (now : List ℕ) (nodes : List NewNode) → Each (Stands now) nodes → (m : ℕ) → In m (places_of nodes) → IsBare now m
@@ -159,24 +139,13 @@ module _ {b : List ℕ} {kind : Kind} {before : List VariableShape} {own : Varia
       let has = own_of (HasVariable made (shape made).records) (among_space grows.same_shape among) grows.sound.has_shape.have_variables in
       let times_are = λ (m : ℕ). nodes_are ls p.root p.more p.are (times_add m) in
       let long = nodes_are ls p.root p.more p.are lengths_add in
-      record {
-        index = alone p.root;
-        link_is = p.place_is;
-        built = record {
-          leaves_stay = pyramid.leaves_are;
-          filled = pyramid.filled;
-          fewest = pyramid.fewest some few;
-          nexts = pyramid.nexts;
-          order = λ o. pyramid.order record_number_limit (leaves_order record_number_limit own.index o);
-          taken = subst (AllTaken b made) (sym places) taken;
-          each_taken = λ m. ap (times m) places ∙ sym (times_are m);
-          as_many = ap length places ∙ sym long;
-          stands = has_pyramid ls p.root p.more p.are made (shape made).records 8 (omega (arith, pyramid.few few)) (leaves_named made (shape made).records 8 own.index has.indexed.has_nodes) (Each-map (Stands made) (Says made (shape made).records) (λ new r. r.says) all stand);
-          small = rw p.place_is at small;
-          bare = each (IsBare made) (nodes_of (alone p.root)) (λ m i. bare_at made all stand m (in_by_times (nodes_of (alone p.root)) (places_of all) times_are m i));
-          longest = omega (arith, all_longest b made all p.made, long, length-map all (λ (new : NewNode). new.place), pyramid.fewest some few);
-        };
-      }
+      let bare = each (IsBare made) (nodes_of (alone p.root)) (λ m i. bare_at made all stand m (in_by_times (nodes_of (alone p.root)) (places_of all) times_are m i)) in
+      let stands = has_pyramid ls p.root p.more p.are made (shape made).records 8 (omega (arith, pyramid.few few)) (leaves_named made (shape made).records 8 own.index has.indexed.has_nodes) (Each-map (Stands made) (Says made (shape made).records) (λ new r. r.says) all stand) in
+      let longest : length made ≤ length b + reindex_room own.index = omega (arith, all_longest b made all p.made, long, length-map all (λ (new : NewNode). new.place), pyramid.fewest some few) in
+      let order = λ (o : InOrder 0 record_number_limit own.index). pyramid.order record_number_limit (leaves_order record_number_limit own.index o) in
+      let each_taken = λ (m : ℕ). ap (times m) places ∙ sym (times_are m) in
+      let built : IsBuilt b made own (alone p.root) = search (rules, pyramid.leaves_are, pyramid.filled, pyramid.fewest some few, pyramid.nexts, order, subst (AllTaken b made) (sym places) taken, each_taken, ap length places ∙ sym long, stands, rw p.place_is at small, bare, longest) in
+      record { index = alone p.root; link_is = p.place_is; built = built }
 
   pub tree_made : IndexMade b made (map leaf_words ls) top → TreeMade b made own top
   tree_made = go ls refl
