@@ -108,9 +108,10 @@ raised (new ∷ more) f =
       here = ap (λ (ps : List (ℕ × ℕ)). (new.place, entry_count es) ∷ ps) r.here;
       below = λ levels. rw (below_both levels es (entries_of more), append-nil (nodes_below levels es), r.below levels) refl;
       nodes = λ f adds.
+          let back = ap f (lower_both es (entries_of more)) ∙ adds.both (lower_nodes es) (lower_nodes (entries_of more)) in
           rw (append-nil (lower_nodes es))
           (adds.both (new.place ∷ lower_nodes es) (lower_nodes (uppers more))
-          ∙ omega (arith, adds.both (new.place ∷ []) (lower_nodes es), r.nodes f adds ∙ adds.both (places_of more) (lower_nodes (entries_of more)), adds.both (new.place ∷ []) (places_of more), adds.both (new.place ∷ places_of more) (lower_nodes (with_both es (entries_of more))), ap f (lower_both es (entries_of more)) ∙ adds.both (lower_nodes es) (lower_nodes (entries_of more))));
+          ∙ omega (arith, adds.both (new.place ∷ []) (lower_nodes es), r.nodes f adds ∙ adds.both (places_of more) (lower_nodes (entries_of more)), adds.both (new.place ∷ []) (places_of more), adds.both (new.place ∷ places_of more) (lower_nodes (with_both es (entries_of more))), back));
       names = λ now rs levels s h. let p = names_parts now rs levels es (entries_of more) h in (tt, (s.0, p.0, tt), r.names now rs levels s.1 p.1);
     }
 
@@ -157,7 +158,8 @@ pile_none (leaf ∷ more) =
 pile_more : {leaves : List Leaf} (level : List NewNode) {more : List (List NewNode)} → Filled level → Piled leaves (entries_of level) more → Piled leaves (uppers level) (level ∷ more)
 pile_more {leaves = leaves} level {more = more} f p =
     let r = raised level f in
-    let nodes : (f : List ℕ → ℕ) → Adds f → f (lower_nodes (uppers level)) ≡ f (places_of (from_below (level ∷ more))) = λ f adds. omega (arith, r.nodes f adds ∙ adds.both (places_of level) (lower_nodes (entries_of level)), p.nodes f adds, ap f (map-append (λ (new : NewNode). new.place) (from_below more) level) ∙ adds.both (places_of (from_below more)) (places_of level)) in
+    let nodes : (f : List ℕ → ℕ) → Adds f → f (lower_nodes (uppers level)) ≡ f (places_of (from_below (level ∷ more))) =
+    λ f adds. omega (arith, r.nodes f adds ∙ adds.both (places_of level) (lower_nodes (entries_of level)), p.nodes f adds, ap f (map-append (λ (new : NewNode). new.place) (from_below more) level) ∙ adds.both (places_of (from_below more)) (places_of level)) in
     let named = λ (now rs : List ℕ) (deep : ℕ) (few : length (level ∷ more) ≤ deep) (named : Each (Named now rs) leaves) (s : Each (Says now rs) (from_below more ++ level)). names r now rs deep few named (Each-split (Says now rs) (from_below more) level s) in
     search (rules, r.leaves_are ∙ p.leaves_are, r.order, p.order, r.zeros p.zeros, r.tight p.tight, nodes, rows r, named)
   where

@@ -156,13 +156,11 @@ module _ {b made : List ℕ} {kind : Kind} {before : List VariableShape} {own : 
   tail_lies first one = omega (arith, ap length one ∙ length-with_field made v vdr_vxr_head (link_to index) head_lies, lies vdr_vxr_tail (omega arith))
 
   may_write : (f : Field) → 28 ≤ f.place → f.place + f.width ≤ 44 → MayWrite made rs (heads_marks kind v) (write v f (link_to index))
-  may_write f low high = record {
-    inside = t.grows.edit.sub v (tile good among);
-    used = λ u. (tests [] 0).used (sym vdr_made.0 ∙ u);
-    fits = through (f.place + f.width) 340 (size_at made v) (omega arith) vdr_made.1;
-    later = omega arith;
-    covered = inl (record { typed = vdr_made.0; lies = inl refl; low = low; high = omega arith });
-  }
+  may_write f low high =
+      let used : type_at made v ≢ uir_type = λ u. (tests [] 0).used (sym vdr_made.0 ∙ u) in
+      let later : 12 ≤ f.place = omega arith in
+      let inside : f.place + f.width ≤ 28 + 16 = omega arith in
+      search (rules, t.grows.edit.sub v (tile good among), used, later, through (f.place + f.width) 340 (size_at made v) (omega arith) vdr_made.1, vdr_made.0, low, inside)
 
   may_all : Each (MayWrite made rs (heads_marks kind v)) (heads_written v index)
   may_all = (may_write vdr_vxr_head (omega arith) (omega arith), (may_write vdr_vxr_tail (omega arith) (omega arith), tt))
@@ -218,11 +216,10 @@ module _ {b made : List ℕ} {kind : Kind} {before : List VariableShape} {own : 
     new_linked m i = let k = new_kept m i in type_kept made linked m k.same k.long ∙ new_made m i
 
     same_heads : SameHeads made linked rs rs
-    same_heads = record {
-      sizes = sizes_by_tiles made linked 8 8 (length made) rs refl t.grows.sound.has_shape.tiled (subst (λ (n : ℕ). AreTiles linked 8 n rs) linked_long heads_edit.tiled_now);
-      types = λ m i. elim (heads_edit.kind m i) [ inl k ↦ k.1 | inr k ↦ elim k [ inl u ↦ absurd (u.0 i) | inr none ↦ absurd none ] ];
-      sub = λ m i. i;
-    }
+    same_heads =
+        let sizes = sizes_by_tiles made linked 8 8 (length made) rs refl t.grows.sound.has_shape.tiled (subst (λ (n : ℕ). AreTiles linked 8 n rs) linked_long heads_edit.tiled_now) in
+        let types : (m : ℕ) → In m rs → type_at linked m ≡ type_at made m = λ m i. elim (heads_edit.kind m i) [ inl k ↦ k.1 | inr k ↦ elim k [ inl u ↦ absurd (u.0 i) | inr none ↦ absurd none ] ] in
+        search (rules, sizes, types)
 
     bare_linked : Each (IsBare linked) (nodes_of index)
     bare_linked = each (IsBare linked) (nodes_of index) (λ m i. bare_by made linked m (new_kept m (in_places m i)) (Each-in (IsBare made) (nodes_of index) x.bare m i))
