@@ -27,15 +27,13 @@ module _ (b : List ℕ) (good : Good b) where
     has_index = (index_is one.among one.vdr_is).0
 
     pub good_again : {limit : ℕ} {now : List ℕ} → length b + reindex_room (index_of b vdr) ≤ limit → limit ≤ image_limit → ((kind : Kind) (before : List VariableShape) (own : VariableShape) (after : List VariableShape) → StandsAmong b kind before own after → own.vdr ≡ vdr → Reindexed b now own) → Good now
-    good_again {now = now} fits most made = by (made one.kind one.before one.own one.after one.among one.vdr_is)
-      where
-        by : Reindexed b now one.own → Good now
-        by (inl same) = subst Good (sym same.1) good
-        by (inr r) = good_now good one.among r.1.built r.1.heads now r.1.given (omega (arith, r.1.longest, ap reindex_room (index_is one.among one.vdr_is).1))
+    good_again {now = now} fits most made = elim (made one.kind one.before one.own one.after one.among one.vdr_is) [
+      | inl same ↦ subst Good (sym same.1) good
+      | inr r ↦ good_now good one.among r.1.built r.1.heads now r.1.given (omega (arith, r.1.longest, ap reindex_room (index_is one.among one.vdr_is).1))
+    ]
 
-    module _ (leaves : List Entry) (leaves_are : leaves ≡ map leaf_words (leaves_of (index_of b vdr))) where
-      pub few : length leaves ≤ 2147483648
-      few = omega (arith, ap length leaves_are ∙ length-map (leaves_of (index_of b vdr)) leaf_words, few_leaves (index_of b vdr) has_index.order)
+    pub few : (leaves : List Entry) → leaves ≡ map leaf_words (leaves_of (index_of b vdr)) → length leaves ≤ 2147483648
+    few leaves leaves_are = omega (arith, ap length leaves_are ∙ length-map (leaves_of (index_of b vdr)) leaf_words, few_leaves (index_of b vdr) has_index.order)
 
   -- what was read of the index, and there were no nodes, or it was built anew
   module _ (vdr : ℕ) {y : List ℕ} {head : ℕ} (here : y ≡ b) (head_is : head ≡ number b vdr vdr_vxr_head) {x : List ℕ} (same : x ≡ y) {nodes : List ℕ} (nodes_are : nodes ≡ nodes_of (index_at y head)) where
