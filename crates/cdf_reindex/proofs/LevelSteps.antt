@@ -1,15 +1,64 @@
--- The steps by which code makes the levels of an index, one by one.
-use Rattle.cdf_reindex.proofs.Common.{AllMade, AreLevels, Entries, Entry, Filled, Leaf, LevelMade, LevelsMade, List, NewNode, NodeMade, PyramidMade, [], ap, append-nil, append_assoc, arith, entries_for, entries_of, entry_count, false, first_of, from_below, get_or, last_of, leaf_words, length, length-append, length-map, map, min, naming, nodes_above, quotient_up, refl, subst, suc, sym, uppers, with_both, words, words_of, ℕ, ◌*◌, ◌++◌, ◌+◌, ◌∙◌, ◌∷◌, ◌≡◌, ◌≤◌}
-use Rattle.cdf_reindex.proofs.Levels.{above_is, few_levels, left_more, level_length, raised, top_filled, total_is}
-use Rattle.cdf_reindex.proofs.WordsOfLevels.{leaves_saying, length_words, named, none_said, parted, they_say, words_for}
+-- The steps by which code makes the levels of an index, one by one, whose entries are known by what they say.
+use Rattle.cdf_reindex.proofs.Common.{AllMade, AreLevels, Entries, Entry, Filled, Leaf, LevelMade, LevelsMade, List, NewNode, NodeMade, PyramidMade, SayEntries, SaysEntry, [], ap, append-nil, append_assoc, arith, block, entries_for, entries_of, entry_count, entry_in, first_of, from_below, get_or, last_of, leaf_words, length, length-append, link_to, lower, map, min, naming, no_entries, no_entry, nodes_above, nodes_left, quotient_up, refl, subst, suc, sym, uppers, with_both, words, words_of, zero, ℕ, ◌*◌, ◌++◌, ◌+◌, ◌-◌, ◌<◌, ◌∙◌, ◌∷◌, ◌≡◌, ◌≤◌}
+use Rattle.cdf_reindex.proofs.Levels.{above_is, leaves_under, left_more, raised, top_filled}
 
--- ---- a chunk of entries
+-- ---- entries that are known by what they say
 
-pub chunk_few : (c n : ℕ) → c ≡ min 64 n → c ≤ 64
-chunk_few c n e = grind arith
+pub length_words : (entries : Entries) → length (words_of entries) ≡ entry_count entries
+length_words no_entry = refl
+length_words (block first last place packed entries) = ap suc (length_words entries)
+length_words (lower first last nodes entries) = ap suc (length_words entries)
 
-pub chunk_some : (c n : ℕ) → c ≡ min 64 n → 1 ≤ n → 1 ≤ c
-chunk_some c n e some = grind arith
+pub words_for : (leaves : List Leaf) → words_of (entries_for leaves) ≡ map leaf_words leaves
+words_for [] = refl
+words_for (leaf ∷ more) = ap (λ (ws : List Entry). leaf_words leaf ∷ ws) (words_for more)
+
+here : (i : ℕ) → i + 0 ≡ i
+here i = omega arith
+
+on : (i j : ℕ) → i + suc j ≡ suc i + j
+on i j = omega arith
+
+-- words that a node says one by one
+pub say_entries : (b : List ℕ) (place i : ℕ) (entries : Entries) → ((j : ℕ) → j < entry_count entries → SaysEntry b place (i + j) (entry_in (words_of entries) j).first (entry_in (words_of entries) j).last (entry_in (words_of entries) j).place) → SayEntries b place i entries
+say_entries b place i no_entry s = tt
+say_entries b place i (block first last at packed entries) s = (rw (here i) at (s 0 (omega arith)), say_entries b place (suc i) entries (λ j lt. rw (on i j) at (s (suc j) (omega arith))))
+say_entries b place i (lower first last nodes entries) s = (rw (here i) at (s 0 (omega arith)), say_entries b place (suc i) entries (λ j lt. rw (on i j) at (s (suc j) (omega arith))))
+
+-- ---- parted as their words are
+
+pub record Parted (entries : Entries) (xs ys : List Entry) : Type 0 where
+  pub front : Entries
+  pub back : Entries
+  pub whole : with_both front back ≡ entries
+  pub front_is : words_of front ≡ xs
+  pub back_is : words_of back ≡ ys
+
+pub parted : (xs ys : List Entry) (entries : Entries) → words_of entries ≡ xs ++ ys → Parted entries xs ys
+parted [] ys entries e = record { front = no_entry; back = entries; whole = refl; front_is = refl; back_is = e }
+parted (x ∷ xs) ys no_entry e = absurd cc
+parted (x ∷ xs) ys (block first last place packed entries) e =
+    let r = parted xs ys entries cc in
+    let q = r.front_is in
+    record { front = block first last place packed r.front; back = r.back; whole = ap (block first last place packed) r.whole; front_is = cc; back_is = r.back_is }
+parted (x ∷ xs) ys (lower first last nodes entries) e =
+    let r = parted xs ys entries cc in
+    let q = r.front_is in
+    record { front = lower first last nodes r.front; back = r.back; whole = ap (lower first last nodes) r.whole; front_is = cc; back_is = r.back_is }
+
+-- ---- the entry that names a node
+
+last_at : (w : Entry) (entries : Entries) → last_of w.last entries ≡ (get_or (w ∷ words_of entries) (length (w ∷ words_of entries) - 1) (words 0 0 0)).last
+last_at w no_entry = refl
+last_at w (block f l p packed es) = let z : suc (suc (length (words_of es))) - 1 ≡ suc (suc (length (words_of es)) - 1) = omega arith in rw z (last_at (words f l p) es)
+last_at w (lower f l nodes es) = let z : suc (suc (length (words_of es))) - 1 ≡ suc (suc (length (words_of es)) - 1) = omega arith in rw z (last_at (words f l (link_to nodes)) es)
+
+pub named : (place : ℕ) (entries : Entries) → 1 ≤ entry_count entries → words (first_of entries) (last_of 0 entries) place ≡ naming place (words_of entries)
+named place no_entry some = absurd (omega arith)
+named place (block f l p packed es) some = ap (λ (n : ℕ). words f n place) (last_at (words f l p) es)
+named place (lower f l nodes es) some = ap (λ (n : ℕ). words f n place) (last_at (words f l (link_to nodes)) es)
+
+-- ---- the steps by which code makes the levels of an index, one by one
 
 -- ---- nodes of a level
 
@@ -19,22 +68,12 @@ pub record Goes (b mid : List ℕ) (all : Entries) (rest said : List Entry) : Ty
   pub rest_is : words_of back ≡ rest
   pub on : (now : List ℕ) (nodes : List NewNode) → entries_of nodes ≡ back → Filled nodes → AllMade mid now nodes → LevelMade b now all (said ++ words_of (uppers nodes))
 
-pub goes_start : (b : List ℕ) (all : Entries) (entries rest said : List Entry) → words_of all ≡ entries → rest ≡ entries → said ≡ [] → Goes b b all rest said
-goes_start b all entries rest said e same none = record {
-  back = all;
-  rest_is = e ∙ sym same;
-  on = λ now nodes are f m. record { nodes = nodes; entries_are = are; filled = f; said_is = ap (λ (us : List Entry). us ++ words_of (uppers nodes)) (sym none); made = m };
-}
-
-filled_more : (c n : ℕ) (new : NewNode) (nodes : List NewNode) → entry_count new.entries ≡ c → c ≡ min 64 n → n ≡ c + entry_count (entries_of nodes) → 1 ≤ n → Filled nodes → Filled (new ∷ nodes)
-filled_more c n new nodes count e p some f = (omega (arith, chunk_some c n e some), omega (arith, chunk_few c n e), (λ more. omega (arith, (raised nodes f).least)), f)
-
 pub goes_more : (b mid new : List ℕ) (all : Entries) (rest chunk left said : List Entry) (place : ℕ) → Goes b mid all rest said → rest ≡ chunk ++ left → length chunk ≡ min 64 (length rest) → 1 ≤ length rest → NodeMade mid new chunk place → Goes b new all left (said ++ naming place chunk ∷ [])
 goes_more b mid new all rest chunk left said place goes parts size some made =
     let p = parted chunk left goes.back (goes.rest_is ∙ parts) in
-    let node : NewNode = record { place = place; entries = p.front } in
     let count = sym (length_words p.front) ∙ ap length p.front_is in
-    let name : words (first_of p.front) (last_of 0 p.front) place ≡ naming place chunk = named place p.front (omega (arith, chunk_some (length chunk) (length rest) size some, count)) ∙ ap (naming place) p.front_is in
+    let one : 1 ≤ entry_count p.front = omega (arith, count, size) in
+    let name = named place p.front one ∙ ap (naming place) p.front_is in
     record {
       back = p.back;
       rest_is = p.back_is;
@@ -42,19 +81,11 @@ goes_more b mid new all rest chunk left said place goes parts size some made =
           let all_of = ap length parts ∙ length-append chunk left in
           let left_of = ap length (sym p.back_is) ∙ length_words p.back ∙ ap entry_count (sym e) in
           subst (LevelMade b now all) (ap (λ (w : Entry). said ++ w ∷ words_of (uppers nodes)) name ∙ sym (append_assoc said (naming place chunk ∷ []) (words_of (uppers nodes))))
-          (goes.on now (node ∷ nodes) (ap (with_both p.front) e ∙ p.whole) (filled_more (length chunk) (length rest) node nodes count size (omega (arith, all_of, left_of)) some f) (new, (subst (λ (ws : List Entry). NodeMade mid new ws place) (sym p.front_is) made, m)));
+          (goes.on now (record { place = place; entries = p.front } ∷ nodes) (ap (with_both p.front) e ∙ p.whole) (one, omega (arith, count, size), (λ more. omega (arith, count, size, all_of, left_of, (raised nodes f).shortest)), f) (new, (subst (λ (ws : List Entry). NodeMade mid new ws place) (sym p.front_is) made, m)));
     }
 
 pub goes_last : (b mid : List ℕ) (all : Entries) (rest said : List Entry) → Goes b mid all rest said → rest ≡ [] → LevelMade b mid all said
-goes_last b mid all rest said goes none = subst (LevelMade b mid all) (append-nil said) (goes.on mid [] (none_said goes.back (goes.rest_is ∙ none)) tt refl)
-
--- ---- room for the nodes of a level
-
-pub room_one : (n rest limit : ℕ) → n + 1052 * quotient_up rest 64 ≤ limit → 1 ≤ rest → n + 1052 ≤ limit
-room_one n rest limit fits some = omega arith
-
-pub room_more : (before now c left rest limit : ℕ) → before + 1052 * quotient_up rest 64 ≤ limit → c ≡ min 64 rest → rest ≡ c + left → 1 ≤ rest → now ≤ before + 1052 → now + 1052 * quotient_up left 64 ≤ limit
-room_more before now c left rest limit fits e p some long = omega arith
+goes_last b mid all rest said goes none = subst (LevelMade b mid all) (append-nil said) (goes.on mid [] (sym (no_entries goes.back (sym (length_words goes.back) ∙ ap length (goes.rest_is ∙ none)))) tt refl)
 
 -- ---- a level over another
 
@@ -66,60 +97,44 @@ pub all_longest : (b now : List ℕ) (nodes : List NewNode) → AllMade b now no
 all_longest b now [] m = omega (arith, ap length m)
 all_longest b now (new ∷ nodes) m = omega (arith, m.1.0.longest, all_longest m.0 now nodes m.1.1)
 
-many : (level : List NewNode) (said : List Entry) → Filled level → words_of (uppers level) ≡ said → length said ≡ length level
-many level said f e = ap length (sym e) ∙ length_words (uppers level) ∙ (raised level f).count
+-- levels over entries were made, whichever leaves these say
+abbrev pub OverAll : List ℕ → List ℕ → List Entry → List Entry → Type 0
+OverAll b now entries said = (leaves : List Leaf) → entries ≡ map leaf_words leaves → LevelsMade b now leaves said
 
--- a level is as short as can be
-pub made_count : {b now : List ℕ} {entries said : List Entry} → ((all : Entries) → words_of all ≡ entries → LevelMade b now all said) → length said ≡ quotient_up (length entries) 64
-made_count {entries = entries} {said = said} made =
-    let all = entries_for (leaves_saying entries) in
-    let e : words_of all ≡ entries = words_for (leaves_saying entries) ∙ sym (they_say entries) in
-    let m = made all e in
-    many m.nodes said m.filled m.said_is ∙ level_length m.nodes m.filled m.entries_are ∙ ap (λ (n : ℕ). quotient_up n 64) (sym (length_words all) ∙ ap length e)
+pub levels_first : {b now : List ℕ} {entries said : List Entry} → ((below : Entries) → words_of below ≡ entries → LevelMade b now below said) → OverAll b now entries said
+levels_first made leaves are = let m = made (entries_for leaves) (words_for leaves ∙ sym are) in record { level = m.nodes; more = []; are = (m.entries_are, m.filled); said_is = m.said_is; made = m.made }
 
-pub levels_first : {b now : List ℕ} {leaves : List Leaf} {said : List Entry} → LevelMade b now (entries_for leaves) said → LevelsMade b now leaves said
-levels_first m = record { level = m.nodes; more = []; are = (m.entries_are, m.filled); said_is = m.said_is; made = m.made }
+count : {b mid : List ℕ} {leaves : List Leaf} {said : List Entry} (l : LevelsMade b mid leaves said) → length said ≡ length l.level
+count {leaves = leaves} l = ap length (sym l.said_is) ∙ length_words (uppers l.level) ∙ (raised l.level (top_filled leaves l.level l.more l.are)).count
 
-module _ {b mid : List ℕ} {leaves : List Leaf} {said : List Entry} (l : LevelsMade b mid leaves said) where
-  count : length said ≡ length l.level
-  count = many l.level said (top_filled leaves l.level l.more l.are) l.said_is
+pub levels_more : {b mid now : List ℕ} {entries said tops : List Entry} → OverAll b mid entries said → 2 ≤ length said → ((below : Entries) → words_of below ≡ said → LevelMade mid now below tops) → OverAll b now entries tops
+levels_more {b = b} {mid = mid} {now = now} old two made leaves are =
+    let l = old leaves are in
+    let m = made (uppers l.level) l.said_is in
+    record { level = m.nodes; more = l.level ∷ l.more; are = (m.entries_are, m.filled, omega (arith, count l, two), l.are); said_is = m.said_is; made = all_then b mid now (from_below (l.level ∷ l.more)) m.nodes l.made m.made }
 
-  pub levels_more : {now : List ℕ} {tops : List Entry} → 2 ≤ length said → LevelMade mid now (uppers l.level) tops → LevelsMade b now leaves tops
-  levels_more {now = now} two m = record {
-    level = m.nodes;
-    more = l.level ∷ l.more;
-    are = (m.entries_are, m.filled, subst (λ (n : ℕ). 2 ≤ n) count two, l.are);
-    said_is = m.said_is;
-    made = all_then b mid now (from_below (l.level ∷ l.more)) m.nodes l.made m.made;
-  }
+pub pyramid_last : {b mid : List ℕ} {entries said : List Entry} (other : Entry) (top : ℕ) → OverAll b mid entries said → length said ≡ 1 → top ≡ (get_or said 0 other).place → (leaves : List Leaf) → entries ≡ map leaf_words leaves → PyramidMade b mid leaves top
+pyramid_last {b = b} {mid = mid} {said = said} other top old one is leaves are = let l = old leaves are in go l.more l.level l.are l.said_is l.made (sym (count l) ∙ one)
+  where
+    go : (more : List (List NewNode)) (level : List NewNode) → AreLevels leaves (level ∷ more) → words_of (uppers level) ≡ said → AllMade b mid (from_below (level ∷ more)) → length level ≡ 1 → PyramidMade b mid leaves top
+    go more [] s e m n = absurd (omega arith)
+    go more (root ∷ []) s e m n = record { root = root; more = more; are = s; place_is = is ∙ ap (λ (xs : List Entry). (get_or xs 0 other).place) (sym e); made = m }
+    go more (root ∷ next ∷ others) s e m n = absurd (omega arith)
 
-  pub pyramid_last : (other : Entry) (top : ℕ) → length said ≡ 1 → top ≡ (get_or said 0 other).place → PyramidMade b mid leaves top
-  pyramid_last other top one is = go l.level l.are l.said_is l.made (sym count ∙ one)
-    where
-      go : (level : List NewNode) → AreLevels leaves (level ∷ l.more) → words_of (uppers level) ≡ said → AllMade b mid (from_below (level ∷ l.more)) → length level ≡ 1 → PyramidMade b mid leaves top
-      go [] s e m n = absurd (omega arith)
-      go (root ∷ []) s e m n = record { root = root; more = l.more; are = s; place_is = is ∙ ap (λ (xs : List Entry). (get_or xs 0 other).place) (sym e); made = m }
-      go (root ∷ next ∷ others) s e m n = absurd (omega arith)
+-- ---- room for the levels above so many nodes
 
--- there is room for the next level
-pub room_next : {b mid : List ℕ} {entries said : List Entry} → ((leaves : List Leaf) → entries ≡ map leaf_words leaves → LevelsMade b mid leaves said) → (limit : ℕ) → 2 ≤ length said → 1 ≤ length entries → length entries ≤ 2147483648
-    → length b + 1052 * nodes_above 8 (length entries) ≤ limit → length mid + 1052 * quotient_up (length said) 64 ≤ limit
-room_next {b = b} {mid = mid} {entries = entries} {said = said} made limit two some few fits =
-    let leaves = leaves_saying entries in
-    let same : length leaves ≡ length entries = length-map entries (λ (e : Entry). record { first = e.first; last = e.last; place = e.place; packed = false }) in
-    let l = made leaves (they_say entries) in
-    let d = few_levels leaves l.level l.more l.are (omega (arith, same, few)) in
-    let n = length l.level in
-    let here = count l in
-    omega (
-      arith,
-      all_longest b mid (from_below (l.level ∷ l.more)) l.made,
-      ap (nodes_above 8) same,
-      total_is leaves l.level l.more 8 (suc (suc d.0)) (omega (arith, d.1.0)) (omega (arith, same, some)) l.are,
-      left_more (suc (suc d.0)) n (omega (arith, here, two)),
-      above_is (suc d.0) n (omega (arith, here, two)),
-      here,
-    )
+abbrev pub HasLevels : ℕ → ℕ → ℕ → Type 0
+HasLevels start n limit = (levels : ℕ) × ((n ≤ leaves_under levels) × (start + 1052 * nodes_left (suc levels) n ≤ limit))
 
-pub room_level : (start all limit : ℕ) → 1 ≤ all → start + 1052 * nodes_above 8 all ≤ limit → start + 1052 * quotient_up all 64 ≤ limit
-room_level start all limit some fits = omega (arith, above_is 7 all some)
+pub room_first : (start n limit : ℕ) → 1 ≤ n → start + 1052 * nodes_above 8 n ≤ limit → start + 1052 * quotient_up n 64 ≤ limit
+room_first start n limit some enough = omega (arith, above_is 7 n some)
+
+pub room_next : (start n limit : ℕ) → HasLevels start n limit → 2 ≤ n → start + 1052 * quotient_up n 64 ≤ limit
+room_next start n limit (levels, (small, enough)) two = omega (arith, left_more (suc levels) n two, above_is levels n (omega arith))
+
+pub levels_left : (start now n limit many : ℕ) → many ≡ quotient_up n 64 → now ≤ start + 1052 * many → 1 ≤ n → n ≤ 2147483648 → start + 1052 * nodes_above 8 n ≤ limit → HasLevels now many limit
+levels_left start now n limit many e l some few enough = (6, (omega arith, omega (arith, above_is 7 n some, ap (λ (k : ℕ). k + nodes_left 7 k) e)))
+
+pub levels_next : (start now n limit many : ℕ) → many ≡ quotient_up n 64 → now ≤ start + 1052 * many → 2 ≤ n → HasLevels start n limit → HasLevels now many limit
+levels_next start now n limit many e l two (zero, (small, enough)) = absurd (omega arith)
+levels_next start now n limit many e l two (suc levels, (small, enough)) = (levels, (omega arith, omega (arith, left_more (suc (suc levels)) n two, above_is (suc levels) n (omega arith), ap (λ (k : ℕ). k + nodes_left (suc levels) k) e)))

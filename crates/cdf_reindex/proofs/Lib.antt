@@ -1,17 +1,7 @@
 pub mod Common
 pub mod LevelSteps
 pub mod Levels
-pub mod NodePlacing
-pub mod NodesMade
 pub mod PyramidBuilt
-pub mod PyramidStands
 pub mod ReindexCalls
-pub mod WordsOfLevels
-pub mod MadeActs
-pub mod MadeBlocks
 pub mod MadeEdit
 pub mod MadeFollows
-pub mod MadeFreed
-pub mod MadeGood
-pub mod MadeKeeps
-pub mod MadeTaken

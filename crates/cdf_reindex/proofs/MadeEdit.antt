@@ -1,14 +1,11 @@
--- The new nodes are taken and written, and VXRhead and VXRtail lead to them: one edit, by which the image stays sound, and the old nodes can be freed.
-use Rattle.cdf_reindex.proofs.Common.{AreFree, AreTiles, DataSet, Each, Each-in, Each-map, Edit, Field, Good, In, IndexEdit, IndexTests, IsBare, IsBuilt, IsChain, IsSound, Kept, Kind, Leaf, LeafFits, LiesIn, List, Mark, MayWrite, NewIndex, NodeFits, Nodes, OwnEdit, R, SameHeads, Shape, StandsAmong, TakenAll, Variable, VariableFits, VariableShape, Z, [], among_now, ap, apart, append-nil, arith, avoided, behind_in, block_behind, block_kept, cast_signed, content, content_is, content_now, cpr_behind, cpr_type, distinct_if, each, edit_then, edit_under, end_stays, field, field_reads, file, fits, fixed_size, freeing_marks, gdr_field, gdr_type, gdr_uir_head, good_is_sound, has, heads_written, index_edit, index_marks, inl, inr, is_a, is_a-from, is_a-type, is_record_type, keeps_file, kept, kept_then, leaves_of, length, length-with_field, levels_up, link_to, linkable-type, links_mark, long, map, map-append, max_rec_kept, node_behind, nodes_kept, nodes_of, nodes_stand, none_in_use, not_twice_kept, number, other_words, own_edit, owned-times, owned_records, parts_times, r_vdr_type, records_alike, records_in, refl, rules, same_shape, shape, size_at, size_kept, sizes_by_tiles, some_bytes, sound_if, space_fields, spliced_times, splices, stays, subst, sym, taking_all, through, tile, times, times-append, times-in, times-none, times-once, true, type_at, type_in, type_kept, typed, uir_type, unmarked, unmarked-away, used_times, variable_of, variable_records, variable_stays, variables_chain, variables_of, variables_of_are, vdr_alike, vdr_size, vdr_vxr_head, vdr_vxr_tail, vxr_bytes, vxr_type, w32, with_field, with_index, with_shapes, with_variables, with_writes, write, write_lies, writes_edit, writes_long, z_vdr_type, ℕ, ◌++◌, ◌+◌, ◌∙◌, ◌∷◌, ◌≡◌, ◌≢◌, ◌≤◌}
+-- The new nodes are taken and written, VXRhead and VXRtail lead to them, and the old nodes are freed: one edit, by which a good image stays good.
+use Rattle.cdf_reindex.proofs.Common.{Act, ActsFollow, AllGiven, AreFree, AreTiles, Counts, DataSet, Each, Each-in, Each-map, Edit, Exchanged, Field, Good, HasVariable, Hold, Hold-split, In, In-append, In-append_left, In-append_right, InOrder, IndexEdit, IndexTests, IsBare, IsBuilt, IsChain, IsIndex, IsLeft, IsOneOf, IsRebuilt, IsSound, Kept, Kind, Leaf, LeafFits, LiesIn, List, Mark, MayFree, MayWrite, NewIndex, NextsAreZero, NodeFits, Nodes, OwnEdit, R, SameHeads, Shape, StandsAmong, TakenAll, Variable, VariableFits, VariableShape, Z, [], acts_still_by, all_gave, all_given_edit, all_left, all_unused, ap, apart, append-nil, arith, avoided, away-avoids, behind_in, block_behind, block_fits_alike, block_kept, by_kind, cast_signed, chain_stays, content, content_is, content_now, cpr_behind, cpr_type, cvvr_type, distinct_if, each, each_holds, each_of, edit_then, edit_under, end_stays, eof, field, field_reads, file, fits, fixed_size, flat_map, freeing_marks, fresh_unowned, gave-same, gdr_eof, gdr_field, gdr_place, gdr_type, gdr_uir_head, has, heads_written, image_limit, index_edit, index_marks, index_order, index_rows, index_rules, inl, inr, is_a, is_a-type, is_block, is_in, is_in-true, is_linkable, is_record_type, keeps_file, kept, kept_away, last_node, leaf_rows, leaf_same, leaves_of, length, length-with_field, levels_up, link_to, linkable-in, linkable-long, linkable-type, links_mark, long, made_acts, map, map-append, max_rec_kept, negsuc, no_node, node, node_behind, node_room, nodes_kept, nodes_of, nodes_rows, nodes_stand, none_in_use, not_twice_kept, number, number_kept, of_each, other_words, own_edit, own_rules, owned-times, owned_records, packed_stays, parts_times, plain_alike, pos, r_vdr_type, read_types, record_number_limit, records_alike, records_in, refl, reindex_room, room, rules, same_shape, shape, shapes_of, shapes_with, size_at, size_kept, sizes_by_tiles, some_bytes, sound, sound_if, space_fields, spliced_times, splices, stays, stays_alike, subst, sym, taking_all, through, tile, times, times-append, times-in, times-none, times-once, true, type_at, type_in, type_kept, typed, uir_type, unmarked, unmarked-away, used_times, variable_of, variable_records, variable_stays, variables_chain, variables_of, variables_of_are, vdr_alike, vdr_no_node, vdr_size, vdr_type, vdr_vxr_head, vdr_vxr_tail, vdrs, vvr_type, vxr_bytes, vxr_n_used_entries, vxr_type, w32, with_field, with_index, with_shapes, with_variables, with_writes, write, write_lies, writes_edit, writes_long, z_vdr_type, ℕ, ◌&&◌, ◌++◌, ◌+◌, ◌==◌, ◌||◌, ◌∙◌, ◌∷◌, ◌≡◌, ◌≢◌, ◌≤◌, ◌⊎◌}
+use Rattle.cdf_edits.proofs.Edits.LeafPieces.{place_in as leaf_in}
 use Rattle.cdf_edits.proofs.Edits.InRecords.{places_of}
-use Rattle.cdf_edits.proofs.Edits.IndexEdited.{vdr_type}
-use Rattle.cdf_edits.proofs.Edits.MarkLemmas.{away-avoids}
-use Rattle.cdf_edits.proofs.Edits.OwnedOnce.{fresh_unowned}
-use Rattle.cdf_edits.proofs.Edits.RecordFrame.{chain_stays}
+use Rattle.cdf_index.proofs.NewIndex.{good_now as changed_good}
 use Rattle.cdf_reindex.proofs.Levels.{in_by_times, times_most}
-use Rattle.cdf_reindex.proofs.MadeBlocks.{StandsOn, fits_on}
-use Rattle.cdf_reindex.proofs.MadeTaken.{NodesTaken, all_taken, end_before, node_takes}
-use Rattle.cdf_reindex.proofs.NodesMade.{bare_by}
+use Rattle.cdf_reindex.proofs.PyramidBuilt.{all_taken, among_space, bare_by, end_before, node_takes, own_of}
+use Rattle.cdf_edits.proofs.Edits.OwnEdited as of_own_edit
 
 -- ---- marks
 
@@ -19,249 +16,355 @@ heads_marks kind v = links_mark kind v ∷ []
 abbrev pub index_made_marks : Kind → ℕ → List ℕ → List ℕ → List ℕ → ℕ → List Mark
 index_made_marks kind v unused new nodes limit = taking_all unused new (vxr_bytes 64) ++ index_marks kind v nodes (field 0 limit)
 
--- which types of records the two edits leave
+-- which types of records the edits leave
 pub record HeadTests (kind : Kind) (v : ℕ) (unused new nodes : List ℕ) (limit : ℕ) : Type 0 where
   pub tests : IndexTests kind space_fields (index_made_marks kind v unused new nodes limit)
   pub untaken : unmarked (taking_all unused new (vxr_bytes 64)) (type_in (variables_chain kind)) ≡ true
   pub used : type_in (variables_chain kind) ≢ uir_type
   pub no_gdr : type_in (variables_chain kind) ≢ gdr_type
-  pub no_node : type_in (variables_chain kind) ≢ vxr_type
   pub nodes_clear : unmarked (heads_marks kind v) vxr_type ≡ true
+  pub grown_clear : unmarked (taking_all unused new (vxr_bytes 64) ++ heads_marks kind v) vxr_type ≡ true
   pub unused_clear : unmarked (heads_marks kind v) uir_type ≡ true
   pub file_clear : keeps_file (heads_marks kind v) ≡ true
   pub list_clear : avoided (heads_marks kind v) gdr_type 64 72 ≡ true
   pub file_freed : keeps_file (heads_marks kind v ++ freeing_marks (vxr_type ∷ []) unused nodes limit) ≡ true
   pub end_clear : avoided (heads_marks kind v ++ freeing_marks (vxr_type ∷ []) unused nodes limit) gdr_type 36 44 ≡ true
 
-pub made_tests : (kind : Kind) (v : ℕ) (unused new nodes : List ℕ) (limit : ℕ) → HeadTests kind v unused new nodes limit
-made_tests R v unused new nodes limit = search (rules, apart r_vdr_type uir_type refl, apart r_vdr_type gdr_type refl, apart r_vdr_type vxr_type refl)
-made_tests Z v unused new nodes limit = search (rules, apart z_vdr_type uir_type refl, apart z_vdr_type gdr_type refl, apart z_vdr_type vxr_type refl)
+made_tests : (kind : Kind) (v : ℕ) (unused new nodes : List ℕ) (limit : ℕ) → HeadTests kind v unused new nodes limit
+made_tests R v unused new nodes limit = search (rules, apart r_vdr_type uir_type refl, apart r_vdr_type gdr_type refl)
+made_tests Z v unused new nodes limit = search (rules, apart z_vdr_type uir_type refl, apart z_vdr_type gdr_type refl)
 
--- ---- the steps
+-- where none has one behind it, the first is the last
+last_is : (nodes : Nodes) → NextsAreZero nodes → last_node nodes ≡ link_to nodes
+unfolding NextsAreZero
+last_is no_node z = refl
+last_is (node place room entries no_node) z = refl
+last_is (node place room entries (node other wide others more)) z = absurd z
+
+-- ---- an image in which a variable has another index by now, of the same leaves, in new nodes: its rules and its content
+
+module _ {b now : List ℕ} {kind : Kind} {before : List VariableShape} {own : VariableShape} {after : List VariableShape} {index : Nodes} {new list : List ℕ} {fields : List Field} {space : List Mark} {nodes : List ℕ} {f : Field} {reborn : List ℕ} (good : Good b) (at : StandsAmong b kind before own after)
+    (y : NewIndex b now kind own index new list fields space nodes f reborn) (same : leaves_of index ≡ leaves_of own.index) (bare : Each (IsBare now) (nodes_of index)) where
+  abbrev ie : IndexEdit b now kind own index new list (space ++ index_marks kind own.vdr nodes f) reborn
+  ie = index_edit good at y
+
+  abbrev oe : OwnEdit b now kind own index new list (space ++ index_marks kind own.vdr nodes f) reborn
+  oe = own_edit good at y
+
+  abbrev ls : List Leaf
+  ls = leaves_of own.index
+
+  -- a record that is kept has the type that it had
+  is_a_now : (type m : ℕ) → In m (shape b).records → Kept b now m → is_a now new type m ≡ is_a b (shape b).records type m
+  is_a_now type m i k =
+      let there : is_in m new ≡ is_in m (shape b).records = is_in-true m new (y.edit.sub m i) ∙ sym (is_in-true m (shape b).records i) in
+      let t = type_kept b now m k.same k.long in
+      λ j. there j && (t j == type)
+
+  -- the leaves keep their rules
+  leaf_now : (l : Leaf) → IsOneOf ls l → LeafFits now new own.vdr l × Hold (leaf_rows now new own.vdr l)
+  leaf_now l i =
+      let m = l.place in
+      let place = leaf_in ls l i in
+      let was = behind_in good at m (block_behind own m place) in
+      let k = block_kept good at y m place in
+      let alike = stays_alike (file good at ie) (stays good at ie) in
+      let fit = of_each (LeafFits b (shape b).records own.vdr) ls l (fits good at).2 i in
+      let rule = of_each (λ (a : Leaf). Hold (leaf_rows b (shape b).records own.vdr a)) ls l (each_holds (leaf_rows b (shape b).records own.vdr) ls (Hold-split (nodes_rows b (shape b).records (negsuc 0) (pos record_number_limit) own.index) (flat_map (leaf_rows b (shape b).records own.vdr) ls) (own_rules good at).1).1) i in
+      let p = is_a_now vvr_type m was k in
+      let q = is_a_now cvvr_type m was k in
+      let block : is_block now new m ≡ is_block b (shape b).records m = λ j. p j || q j in (
+        (block ∙ fit.0, block_fits_alike (file good at ie) alike l l.packed k fit.1),
+        subst Hold (sym (leaf_same b now (file good at ie) own.vdr own.vdr (packed_stays (file good at ie) (stays good at ie)) (plain_alike (file good at ie) alike) (shape b).records new (sound good at).has_shape.fixed l (λ type. is_a_now type m was k) k rule)) rule,
+      )
+
+  cpr_now : (m : ℕ) → In m own.cpr → is_a now new cpr_type m ≡ true
+  cpr_now m i =
+      let was = behind_in good at m (cpr_behind own m i) in
+      let is = Each-in (λ c. is_a b (shape b).records cpr_type c ≡ true) own.cpr (fits good at).3 m i in
+      is_a_now cpr_type m was (kept y.edit m cpr_type was (is_a-type b (shape b).records cpr_type m is) y.tests.cpr_clear) ∙ is
+
+  fit : Each (NodeFits now) (nodes_of index)
+  fit = Each-map (IsBare now) (NodeFits now) (λ m r. r.fits) (nodes_of index) bare
+
+  pub fits_now : VariableFits now new (with_index own index)
+  fits_now = (rw (vdr_size good at ie, end_stays (file good at ie) (stays good at ie)) (fits good at).0, fit, subst (Each (LeafFits now new own.vdr)) (sym same) (each_of (LeafFits now new own.vdr) ls (λ l i. (leaf_now l i).0)), each (λ m. is_a now new cpr_type m ≡ true) own.cpr cpr_now)
+
+  pub index_ruled : (InOrder 0 record_number_limit own.index → InOrder 0 record_number_limit index) → length now ≤ image_limit → Hold (index_rows now new own.vdr index)
+  index_ruled order short =
+      let count = Each-map (IsBare now) (Counts now) (λ m r. subst (λ (n : ℕ). number now m vxr_n_used_entries ≤ n) (sym r.room_is) r.few) (nodes_of index) bare in
+      index_rules now new own.vdr index (order (index_order b (shape b).records own.vdr own.index (own_rules good at).1)) (node_room good at y fit count short) (λ l i. let r = leaf_now l (subst (λ (ms : List Leaf). IsOneOf ms l) same i) in (r.0.0, r.1))
+
+  -- ---- what the variable means, and all
+
+  means : variable_of now (with_index own index) ≡ variable_of b own
+  means =
+      let max = max_rec_kept good at y in
+      let all = ap (records_in now own.vdr) same ∙ records_alike (file good at ie) (vdr_alike good at ie) max ls (shape b).records (block_kept good at y) (fits good at).2 in
+      variable_stays (file good at ie) own (with_index own index) (stays good at ie) refl ∙ (λ i. record (variable_of b own) { max_rec = cast_signed w32 (max i); recs = all i })
+
+  pub content_same : content now ≡ content b
+  content_same =
+      let all : variables_of (content b) kind ≡ map (variable_of b) before ++ variable_of b own ∷ map (variable_of b) after =
+      ap (λ (d : DataSet). variables_of d kind) (content_is b (shape b) (sound good at).has_shape) ∙ variables_of_are b (shape b) kind ∙ ap (map (variable_of b)) at.was ∙ map-append (variable_of b) before (own ∷ after) in
+      content_now (sound good at) (splices good at oe) ∙ ap (λ (w : Variable). with_variables (content b) kind (map (variable_of b) before ++ w ∷ map (variable_of b) after)) means ∙ ap (with_variables (content b) kind) (sym all) ∙ itself kind (content b)
+    where
+      itself : (k : Kind) (d : DataSet) → with_variables d k (variables_of d k) ≡ d
+      itself R d = refl
+      itself Z d = refl
+
+-- ---- the nodes are taken
 
 module _ {b made : List ℕ} {kind : Kind} {before : List VariableShape} {own : VariableShape} {after : List VariableShape} {index : Nodes} (good : Good b) (among : StandsAmong b kind before own after) (x : IsBuilt b made own index) where
-  abbrev pub v : ℕ
+  abbrev s : Shape
+  s = shape b
+
+  abbrev v : ℕ
   v = own.vdr
 
-  abbrev pub places : List ℕ
-  places = levels_up 7 index
+  abbrev ps : List ℕ
+  ps = levels_up 7 index
 
-  abbrev pub olds : List ℕ
-  olds = nodes_of own.index
+  abbrev os : List ℕ
+  os = nodes_of own.index
 
   abbrev rs : List ℕ
   rs = (shape made).records
 
-  abbrev pub tests : (nodes : List ℕ) (limit : ℕ) → HeadTests kind v (shape b).unused places nodes limit
-  tests nodes limit = made_tests kind v (shape b).unused places nodes limit
+  tests : (nodes : List ℕ) (limit : ℕ) → HeadTests kind v s.unused ps nodes limit
+  tests nodes limit = made_tests kind v s.unused ps nodes limit
 
-  sound : IsSound b (shape b)
-  sound = good_is_sound b good
+  pub t : TakenAll b made (node_takes ps) ps (vxr_bytes 64)
+  t = all_taken b made ps (sound good among) (end_before b good) x.taken
 
-  -- the nodes are taken
-  pub taken : NodesTaken b made places
-  taken = all_taken b made places sound (end_before b good) x.taken
+  vdr_made : (type_at made v ≡ type_in (variables_chain kind)) × (340 ≤ size_at made v)
+  vdr_made =
+      let k = kept t.grows.edit v _ (tile good among) (typed good among) (tests [] 0).untaken in
+      (type_kept b made v k.same k.long ∙ typed good among, subst (λ (n : ℕ). 340 ≤ n) (sym (size_kept b made v k.same (let l = k.long in omega arith))) (long good among))
 
-  pub t : TakenAll b made (node_takes places) places (vxr_bytes 64)
-  t = taken.all
-
-  pub sound_made : IsSound made (shape made)
-  sound_made = t.grows.sound
-
-  vdr_kept : Kept b made v
-  vdr_kept = kept t.grows.edit v (type_in (variables_chain kind)) (tile good among) (typed good among) (tests [] 0).untaken
-
-  pub vdr_there : In v rs
-  vdr_there = t.grows.edit.sub v (tile good among)
-
-  vdr_typed : type_at made v ≡ type_in (variables_chain kind)
-  vdr_typed = let k = vdr_kept in type_kept b made v k.same k.long ∙ typed good among
-
-  vdr_long : 340 ≤ size_at made v
-  vdr_long = let k = vdr_kept in subst (λ (n : ℕ). 340 ≤ n) (sym (size_kept b made v k.same (let l = k.long in omega arith))) (long good among)
+  some : 8 ≤ length made
+  some = some_bytes made (shape made) t.grows.sound.has_shape
 
   -- VXRhead and VXRtail are written
+  lies : (f : Field) → f.place + f.width ≤ 44 → LiesIn made v f
+  lies f high = write_lies made rs t.grows.sound.has_shape.tiled some v f (t.grows.edit.sub v (tile good among)) (omega (arith, vdr_made.1))
+
   pub head_lies : LiesIn made v vdr_vxr_head
-  head_lies = write_lies made rs sound_made.has_shape.tiled (some_bytes made (shape made) sound_made.has_shape) v vdr_vxr_head vdr_there (omega (arith, vdr_long))
+  head_lies = lies vdr_vxr_head (omega arith)
 
   pub tail_lies : (first : List ℕ) → first ≡ with_field made v vdr_vxr_head (link_to index) → LiesIn first v vdr_vxr_tail
-  tail_lies first one = let l = ap length one ∙ length-with_field made v vdr_vxr_head (link_to index) head_lies in
-      let r = write_lies made rs sound_made.has_shape.tiled (some_bytes made (shape made) sound_made.has_shape) v vdr_vxr_tail vdr_there (omega (arith, vdr_long)) in omega arith
+  tail_lies first one = omega (arith, ap length one ∙ length-with_field made v vdr_vxr_head (link_to index) head_lies, lies vdr_vxr_tail (omega arith))
 
   may_write : (f : Field) → 28 ≤ f.place → f.place + f.width ≤ 44 → MayWrite made rs (heads_marks kind v) (write v f (link_to index))
-  may_write f low high = record {
-    inside = vdr_there;
-    used = λ u. (tests [] 0).used (sym vdr_typed ∙ u);
-    fits = through (f.place + f.width) 340 (size_at made v) (omega arith) vdr_long;
-    later = omega arith;
-    covered = inl (record { typed = vdr_typed; lies = inl refl; low = low; high = omega arith });
-  }
+  may_write f low high =
+      let used : type_at made v ≢ uir_type = λ u. (tests [] 0).used (sym vdr_made.0 ∙ u) in
+      let later : 12 ≤ f.place = omega arith in
+      let inside : f.place + f.width ≤ 28 + 16 = omega arith in
+      search (rules, t.grows.edit.sub v (tile good among), used, later, through (f.place + f.width) 340 (size_at made v) (omega arith) vdr_made.1, vdr_made.0, low, inside)
 
   may_all : Each (MayWrite made rs (heads_marks kind v)) (heads_written v index)
   may_all = (may_write vdr_vxr_head (omega arith) (omega arith), (may_write vdr_vxr_tail (omega arith) (omega arith), tt))
 
-  -- ---- the old nodes
-
-  pub node_before : (m : ℕ) → In m olds → In m (shape b).records
+  -- the old nodes, and the new ones, which are none of them
+  node_before : (m : ℕ) → In m os → In m s.records
   node_before m i = behind_in good among m (node_behind own m i)
 
-  pub node_typed : (m : ℕ) → In m olds → type_at b m ≡ vxr_type
-  node_typed m i = linkable-type b (shape b).records vxr_type m (nodes_stand b (shape b).records 8 own.index (has good among).indexed.has_nodes m i)
+  node_typed : (m : ℕ) → In m os → type_at b m ≡ vxr_type
+  node_typed m i = linkable-type b s.records vxr_type m (nodes_stand b s.records 8 own.index (has good among).indexed.has_nodes m i)
 
-  -- a new one was taken, and is none of them
-  pub in_places : (m : ℕ) → In m (nodes_of index) → In m places
-  in_places m i = in_by_times (nodes_of index) places (λ k. sym (x.each_taken k)) m i
+  in_places : (m : ℕ) → In m (nodes_of index) → In m ps
+  in_places m i = in_by_times (nodes_of index) ps (λ k. sym (x.each_taken k)) m i
 
-  pub new_apart : (m : ℕ) → In m places → In m olds → ⊥
+  stood : (m : ℕ) → In m ps → is_linkable made rs vxr_type m ≡ true
+  stood m i = nodes_stand made rs 8 index x.stands m (in_by_times ps (nodes_of index) x.each_taken m i)
+
+  new_in : (m : ℕ) → In m ps → In m rs
+  new_in m i = linkable-in made rs vxr_type m (stood m i)
+
+  new_made : (m : ℕ) → In m ps → type_at made m ≡ vxr_type
+  new_made m i = linkable-type made rs vxr_type m (stood m i)
+
+  new_apart : (m : ℕ) → In m ps → In m os → ⊥
   new_apart m i j = apart vxr_type uir_type refl (sym (node_typed m j) ∙ t.fresh_all m i (node_before m j))
 
-  -- ---- the image that leads to the new nodes
+  -- ---- VXRhead and VXRtail lead to the new nodes
 
   module _ {linked : List ℕ} (heads : linked ≡ with_writes made (heads_written v index)) where
     pub heads_edit : Edit made linked rs rs (heads_marks kind v) []
-    heads_edit = subst (λ (y : List ℕ). Edit made y rs rs (heads_marks kind v) []) (sym heads) (writes_edit made rs (heads_marks kind v) (heads_written v index) sound_made.has_shape.tiled (some_bytes made (shape made) sound_made.has_shape) may_all)
+    heads_edit = subst (λ (y : List ℕ). Edit made y rs rs (heads_marks kind v) []) (sym heads) (writes_edit made rs (heads_marks kind v) (heads_written v index) t.grows.sound.has_shape.tiled some may_all)
 
     pub linked_long : length linked ≡ length made
-    linked_long = ap length heads ∙ writes_long made rs (heads_marks kind v) (heads_written v index) sound_made.has_shape.tiled (some_bytes made (shape made) sound_made.has_shape) may_all
+    linked_long = ap length heads ∙ writes_long made rs (heads_marks kind v) (heads_written v index) t.grows.sound.has_shape.tiled some may_all
 
-    abbrev first : List ℕ
-    first = with_field made v vdr_vxr_head (link_to index)
-
-    pub head_is : number linked v vdr_vxr_head ≡ link_to index
-    head_is = ap (λ (y : List ℕ). number y v vdr_vxr_head) heads ∙ other_words first v vdr_vxr_tail (link_to index) (v + 28) 8 (tail_lies first refl) (inl (omega arith)) ∙ field_reads made v vdr_vxr_head (link_to index) head_lies x.small
-
-    pub tail_is : number linked v vdr_vxr_tail ≡ link_to index
-    tail_is = ap (λ (y : List ℕ). number y v vdr_vxr_tail) heads ∙ field_reads first v vdr_vxr_tail (link_to index) (tail_lies first refl) x.small
+    tail_is : number linked v vdr_vxr_tail ≡ link_to index
+    tail_is = ap (λ (y : List ℕ). number y v vdr_vxr_tail) heads ∙ field_reads _ v vdr_vxr_tail (link_to index) (tail_lies _ refl) x.small
 
     -- both edits at once
-    pub both : (nodes : List ℕ) (limit : ℕ) → Edit b linked (shape b).records rs (index_made_marks kind v (shape b).unused places nodes limit) places
-    both nodes limit =
-        let e = edit_then t.grows.edit heads_edit in
-        subst (Edit b linked (shape b).records rs (index_made_marks kind v (shape b).unused places nodes limit)) (append-nil places)
-        (edit_under e (index_made_marks kind v (shape b).unused places nodes limit) (λ m type lo hi i is a. (a.0, (a.1.0, (a.1.1.0, (a.1.1.1.0, (a.1.1.1.1.0, (a.1.1.1.1.1.0, tt))))))))
+    grown : Edit b linked s.records rs (taking_all s.unused ps (vxr_bytes 64) ++ heads_marks kind v) ps
+    grown = subst (Edit b linked s.records rs (taking_all s.unused ps (vxr_bytes 64) ++ heads_marks kind v)) (append-nil ps) (edit_then t.grows.edit heads_edit)
 
-    pub node_linked : (m : ℕ) → In m olds → Kept b linked m
-    node_linked m i =
-        let k = kept t.grows.edit m vxr_type (node_before m i) (node_typed m i) refl in
-        kept_then b made linked m k (kept heads_edit m vxr_type (t.grows.edit.sub m (node_before m i)) (type_kept b made m k.same k.long ∙ node_typed m i) (tests [] 0).nodes_clear)
+    pub node_linked : (m : ℕ) → In m os → Kept b linked m
+    node_linked m i = kept grown m vxr_type (node_before m i) (node_typed m i) (tests [] 0).grown_clear
 
-    pub old_linked : (m : ℕ) → In m olds → type_at linked m ≡ vxr_type
+    pub old_linked : (m : ℕ) → In m os → type_at linked m ≡ vxr_type
     old_linked m i = let k = node_linked m i in type_kept b linked m k.same k.long ∙ node_typed m i
 
-    -- the new nodes
-    pub new_kept : (m : ℕ) → In m places → Kept made linked m
-    new_kept m i = let at = taken.stand m i in kept heads_edit m vxr_type at.inside at.typed (tests [] 0).nodes_clear
+    new_kept : (m : ℕ) → In m ps → Kept made linked m
+    new_kept m i = kept heads_edit m vxr_type (new_in m i) (new_made m i) (tests [] 0).nodes_clear
 
-    pub new_linked : (m : ℕ) → In m places → type_at linked m ≡ vxr_type
-    new_linked m i = let k = new_kept m i in type_kept made linked m k.same k.long ∙ (taken.stand m i).typed
+    new_linked : (m : ℕ) → In m ps → type_at linked m ≡ vxr_type
+    new_linked m i = let k = new_kept m i in type_kept made linked m k.same k.long ∙ new_made m i
 
     same_heads : SameHeads made linked rs rs
-    same_heads = record {
-      sizes = sizes_by_tiles made linked 8 8 (length made) rs refl sound_made.has_shape.tiled (subst (λ (n : ℕ). AreTiles linked 8 n rs) linked_long heads_edit.tiled_now);
-      types = λ m i. elim (heads_edit.kind m i) [ inl k ↦ k.1 | inr k ↦ elim k [ inl u ↦ absurd (u.0 i) | inr none ↦ absurd none ] ];
-      sub = λ m i. i;
-    }
+    same_heads =
+        let sizes = sizes_by_tiles made linked 8 8 (length made) rs refl t.grows.sound.has_shape.tiled (subst (λ (n : ℕ). AreTiles linked 8 n rs) linked_long heads_edit.tiled_now) in
+        let types : (m : ℕ) → In m rs → type_at linked m ≡ type_at made m = λ m i. elim (heads_edit.kind m i) [ inl k ↦ k.1 | inr k ↦ elim k [ inl u ↦ absurd (u.0 i) | inr none ↦ absurd none ] ] in
+        search (rules, sizes, types)
 
-    pub bare_linked : Each (IsBare linked) (nodes_of index)
+    bare_linked : Each (IsBare linked) (nodes_of index)
     bare_linked = each (IsBare linked) (nodes_of index) (λ m i. bare_by made linked m (new_kept m (in_places m i)) (Each-in (IsBare made) (nodes_of index) x.bare m i))
 
-    new_index : NewIndex b linked kind own index rs (shape made).unused space_fields (taking_all (shape b).unused places (vxr_bytes 64)) [] (field 0 0) places
-    new_index = record {
-      edit = both [] 0;
-      tests = (tests [] 0).tests;
-      unspaced = refl;
-      own_nodes = λ m i j. absurd j;
-      typed_now = λ m i.
-          let size = same_heads.sizes m (taken.stand m i).inside ∙ (taken.stand m i).size_is in
-          (ap is_record_type (new_linked m i), subst (λ (k : ℕ). fixed_size k ≤ size_at linked m) (sym (new_linked m i)) (omega arith));
-      unused_chain =
-          let head = gdr_field sound_made heads_edit (tests [] 0).file_clear gdr_uir_head (tests [] 0).list_clear (omega arith) in
-          let away = λ (m : ℕ). unmarked-away (heads_marks kind v) uir_type m (tests [] 0).unused_clear in
-          subst (λ (g : ℕ). IsChain linked rs uir_type (number linked g gdr_uir_head) (shape made).unused) (ap (λ (y : Shape). y.gdr) t.grows.same_shape)
-          (chain_stays heads_edit uir_type _ _ (shape made).unused sound_made.has_shape.unused_chain head (λ m i. away-avoids (heads_marks kind v) uir_type m 0 20 (away m)));
-      index_now = record {
-        link_is = head_is;
-        has_nodes = nodes_kept made linked rs rs same_heads 8 index x.stands (λ m i. new_kept m (in_places m i)) (λ m i. (Each-in (IsBare made) (nodes_of index) x.bare m i).fits)
-            (λ m i. t.grows.edit.sub m (behind_in good among m (block_behind own m (subst (λ (ls : List Leaf). In m (places_of ls)) x.leaves_stay i))));
-        once = distinct_if (nodes_of index) (λ m. subst (λ (n : ℕ). n ≤ 1) (x.each_taken m) (times_most m places t.once));
-      };
-    }
+    linked_index : NewIndex b linked kind own index rs (shape made).unused space_fields (taking_all s.unused ps (vxr_bytes 64)) [] (field 0 0) ps
+    linked_index =
+        let edit = edit_under grown (index_made_marks kind v s.unused ps [] 0) (λ m type lo hi i is a. (a.0, (a.1.0, (a.1.1.0, (a.1.1.1.0, (a.1.1.1.1.0, (a.1.1.1.1.1.0, tt))))))) in
+        let long : (m : ℕ) → In m ps → fixed_size vxr_type ≤ size_at linked m = λ m i. omega (arith, same_heads.sizes m (new_in m i), linkable-long made rs vxr_type m (stood m i)) in
+        let typed : (m : ℕ) → In m ps → (is_record_type (type_at linked m) ≡ true) × (fixed_size (type_at linked m) ≤ size_at linked m) = λ m i. rw (new_linked m i) (refl, long m i) in
+        let head = gdr_field t.grows.sound heads_edit (tests [] 0).file_clear gdr_uir_head (tests [] 0).list_clear (omega arith) in
+        let unused = subst (λ (g : ℕ). IsChain linked rs uir_type (number linked g gdr_uir_head) (shape made).unused) (ap (λ (y : Shape). y.gdr) t.grows.same_shape)
+        (chain_stays heads_edit uir_type _ _ (shape made).unused t.grows.sound.has_shape.unused_chain head (λ m i. away-avoids (heads_marks kind v) uir_type m 0 20 (unmarked-away (heads_marks kind v) uir_type m (tests [] 0).unused_clear))) in
+        let link = ap (λ (y : List ℕ). number y v vdr_vxr_head) heads ∙ other_words _ v vdr_vxr_tail (link_to index) (v + 28) 8 (tail_lies _ refl) (inl (omega arith)) ∙ field_reads made v vdr_vxr_head (link_to index) head_lies x.small in
+        let nodes = nodes_kept made linked rs rs same_heads 8 index x.stands (λ m i. new_kept m (in_places m i)) (λ m i. (Each-in (IsBare made) (nodes_of index) x.bare m i).fits)
+        (λ m i. t.grows.edit.sub m (behind_in good among m (block_behind own m (subst (λ (ls : List Leaf). In m (places_of ls)) x.leaves_stay i)))) in
+        let once = distinct_if (nodes_of index) (λ m. subst (λ (n : ℕ). n ≤ 1) (x.each_taken m) (times_most m ps t.once)) in
+        search (rules, edit, (tests [] 0).tests, typed, unused, link, nodes, once)
 
-    edited : IndexEdit b linked kind own index rs (shape made).unused (index_made_marks kind v (shape b).unused places [] 0) places
-    edited = index_edit good among new_index
-
-    own_edited : OwnEdit b linked kind own index rs (shape made).unused (index_made_marks kind v (shape b).unused places [] 0) places
-    own_edited = own_edit good among new_index
-
-    abbrev mine : VariableShape
-    mine = with_index own index
+    abbrev linked_edit : OwnEdit b linked kind own index rs (shape made).unused (index_made_marks kind v s.unused ps [] 0) ps
+    linked_edit = own_edit good among linked_index
 
     abbrev s' : Shape
-    s' = with_shapes (shape b) kind rs (shape made).unused (before ++ mine ∷ after)
+    s' = with_shapes s kind rs (shape made).unused (before ++ with_index own index ∷ after)
 
     pub linked_shape : shape linked ≡ s'
-    linked_shape = same_shape good among own_edited
-
-    block_stands : (m : ℕ) → In m (places_of (leaves_of own.index)) → StandsOn (file good among edited) (stays good among edited) (shape b).records rs sound.has_shape.fixed m
-    block_stands m i = let was = behind_in good among m (block_behind own m i) in record { was = was; is = t.grows.edit.sub m was; kept = block_kept good among new_index m i }
-
-    cpr_stands : (m : ℕ) → In m own.cpr → is_a linked rs cpr_type m ≡ true
-    cpr_stands m i =
-        let there = behind_in good among m (cpr_behind own m i) in
-        let is = is_a-type b (shape b).records cpr_type m (Each-in (λ y. is_a b (shape b).records cpr_type y ≡ true) own.cpr (fits good among).3 m i) in
-        let k = kept (both [] 0) m cpr_type there is (tests [] 0).tests.cpr_clear in
-        is_a-from linked rs cpr_type m (t.grows.edit.sub m there) (type_kept b linked m k.same k.long ∙ is)
-
-    fits_now : VariableFits linked rs mine
-    fits_now = (
-      rw (vdr_size good among edited, end_stays (file good among edited) (stays good among edited)) (fits good among).0,
-      Each-map (IsBare linked) (NodeFits linked) (λ m bare. bare.fits) (nodes_of index) bare_linked,
-      subst (Each (LeafFits linked rs v)) (sym x.leaves_stay) (fits_on (file good among edited) (stays good among edited) (shape b).records rs sound.has_shape.fixed (leaves_of own.index) block_stands (fits good among).2),
-      each (λ m. is_a linked rs cpr_type m ≡ true) own.cpr cpr_stands,
-    )
+    linked_shape = same_shape good among linked_edit
 
     -- how often the owners have a record
-    used_now : (m : ℕ) → used_times s' m + times m olds ≡ used_times (shape b) m + times m places
-    used_now m = spliced_times (shape b) kind rs (shape made).unused before (own ∷ []) (mine ∷ []) after among.was m (times m places) (times m olds)
-        (omega (arith, times-append m (variable_records mine) [], times-append m (variable_records own) [], parts_times own m, parts_times mine m, ap (λ (ls : List Leaf). times m (places_of ls)) x.leaves_stay, x.each_taken m))
-
-    once : (m : ℕ) → times m (owned_records linked s') ≤ 1
-    once = not_twice_kept b linked (shape b) s' _ places sound (both [] 0) (λ m out. omega (arith, used_now m, times-none m places out))
-        (λ m i. inl ((λ u. apart vxr_type uir_type refl (sym (new_linked m i) ∙ u)), omega (arith, used_now m, fresh_unowned sound m (t.fresh_all m i), times-once m places t.once i)))
+    used_now : (m : ℕ) → used_times s' m + times m os ≡ used_times s m + times m ps
+    used_now m = spliced_times s kind rs (shape made).unused before (own ∷ []) (with_index own index ∷ []) after among.was m (times m ps) (times m os)
+        (omega (arith, times-append m (variable_records (with_index own index)) [], times-append m (variable_records own) [], parts_times own m, parts_times (with_index own index) m, ap (λ (ls : List Leaf). times m (places_of ls)) x.leaves_stay, x.each_taken m))
 
     pub sound_linked : IsSound linked (shape linked)
-    sound_linked = subst (IsSound linked) (sym linked_shape) (sound_if sound (splices good among own_edited) (fits_now, tt) once)
+    sound_linked = subst (IsSound linked) (sym linked_shape) (sound_if (sound good among) (splices good among linked_edit) (fits_now good among linked_index x.leaves_stay bare_linked, tt)
+        (not_twice_kept b linked s s' _ ps (sound good among) linked_index.edit (λ m out. omega (arith, used_now m, times-none m ps out))
+        (λ m i. inl ((λ u. apart vxr_type uir_type refl (sym (new_linked m i) ∙ u)), omega (arith, used_now m, fresh_unowned (sound good among) m (t.fresh_all m i), times-once m ps t.once i)))))
 
-    pub old_stands : (m : ℕ) → In m olds → In m (shape linked).records
-    old_stands m i = subst (λ (y : Shape). In m y.records) (sym linked_shape) (t.grows.edit.sub m (node_before m i))
-
-    pub old_free : AreFree linked olds
-    old_free = record {
-      stand = old_stands;
-      unowned = λ m i. subst (λ (y : Shape). times m (owned_records linked y) ≡ 0) (sym linked_shape)
-          (none_in_use linked s' heads_edit.tiled_now m (λ u. apart vxr_type uir_type refl (sym (old_linked m i) ∙ u)) (omega (arith, used_now m, sound.not_twice m, owned-times b (shape b) m, times-in m olds i, times-none m places (λ j. new_apart m j i))));
+    pub may_free : MayFree linked (vxr_type ∷ []) os
+    may_free = record {
+      stand = λ m i. subst (λ (y : Shape). In m y.records) (sym linked_shape) (t.grows.edit.sub m (node_before m i));
+      typed = λ m i. ap (λ (k : ℕ). is_in k (vxr_type ∷ [])) (old_linked m i);
+      used = λ m i u. apart vxr_type uir_type refl (sym (old_linked m i) ∙ u);
       once = (has good among).indexed.once;
     }
 
-    pub among_linked : StandsAmong linked kind before mine after
-    among_linked = among_now good among own_edited
+    pub old_free : AreFree linked os
+    old_free = record {
+      stand = may_free.stand;
+      unowned = λ m i. subst (λ (y : Shape). times m (owned_records linked y) ≡ 0) (sym linked_shape)
+          (none_in_use linked s' heads_edit.tiled_now m (may_free.used m i) (omega (arith, used_now m, (sound good among).not_twice m, owned-times b s m, times-in m os i, times-none m ps (λ j. new_apart m j i))));
+      once = may_free.once;
+    }
 
-    pub vdr_linked : (type_at linked v ≡ type_in (variables_chain kind)) × (340 ≤ size_at linked v)
-    vdr_linked = (vdr_type good among edited ∙ typed good among, subst (λ (n : ℕ). 340 ≤ n) (sym (vdr_size good among edited)) (long good among))
+    -- ---- the old nodes are freed
 
-    -- what the variable means
-    variable_means : variable_of linked mine ≡ variable_of b own
-    variable_means =
-        let max = max_rec_kept good among new_index in
-        let all = ap (records_in linked v) x.leaves_stay ∙ records_alike (file good among edited) (vdr_alike good among edited) max (leaves_of own.index) (shape b).records (block_kept good among new_index) (fits good among).2 in
-        variable_stays (file good among edited) own mine (stays good among edited) refl ∙ (λ i. record (variable_of b own) { max_rec = cast_signed w32 (max i); recs = all i })
+    module _ (now : List ℕ) (given : AllGiven linked now os) where
+      pub left : IsLeft linked now
+      left = all_left linked now os sound_linked may_free.stand given
 
-    pub content_linked : content linked ≡ content b
-    content_linked =
-        let all : variables_of (content b) kind ≡ map (variable_of b) before ++ variable_of b own ∷ map (variable_of b) after =
-        ap (λ (d : DataSet). variables_of d kind) (content_is b (shape b) sound.has_shape) ∙ variables_of_are b (shape b) kind ∙ ap (map (variable_of b)) among.was ∙ map-append (variable_of b) before (own ∷ after) in
-        content_now sound (splices good among own_edited) ∙ ap (λ (w : Variable). with_variables (content b) kind (map (variable_of b) before ++ w ∷ map (variable_of b) after)) variable_means ∙ ap (with_variables (content b) kind) (sym all) ∙ itself kind (content b)
-      where
-        itself : (k : Kind) (d : DataSet) → with_variables d k (variables_of d k) ≡ d
-        itself R d = refl
-        itself Z d = refl
+      gives_edit : Edit linked now rs (shape now).records (freeing_marks (vxr_type ∷ []) (shape made).unused os (length linked)) os
+      gives_edit = subst (λ (y : Shape). Edit linked now y.records (shape now).records (freeing_marks (vxr_type ∷ []) y.unused os (length linked)) os) linked_shape
+          (subst (λ (ns : List ℕ). Edit linked now (shape linked).records ns (freeing_marks (vxr_type ∷ []) (shape linked).unused os (length linked)) os) (sym (ap (λ (y : Shape). y.records) left.shape_is)) (all_given_edit linked now (vxr_type ∷ []) os sound_linked may_free given))
+
+      onward : Edit made now rs (shape now).records (heads_marks kind v ++ freeing_marks (vxr_type ∷ []) (shape made).unused os (length linked)) os
+      onward = edit_then heads_edit gives_edit
+
+      pub long_now : length now ≡ length made
+      long_now = left.long ∙ linked_long
+
+      stands_now : IsIndex now (shape now).records (number now v vdr_vxr_head) index
+      stands_now = (own_of (HasVariable now (shape now).records) (among_space left.shape_is (of_own_edit.among_now good among linked_edit)) left.sound.has_shape.have_variables).indexed
+
+      new_now : (m : ℕ) → In m ps → Kept made now m
+      new_now m i = kept_away onward m vxr_type (new_in m i) (new_made m i) ((λ e l. vdr_no_node kind (sym e)), ((λ e l. apart vxr_type gdr_type refl e), ((λ e l. apart vxr_type uir_type refl e), ((λ e l. new_apart m i l), tt))))
+
+      pub bare_now : Each (IsBare now) (nodes_of index)
+      bare_now = each (IsBare now) (nodes_of index) (λ m i. bare_by made now m (new_now m (in_places m i)) (Each-in (IsBare made) (nodes_of index) x.bare m i))
+
+      tail_now : number now v vdr_vxr_tail ≡ link_to index
+      tail_now =
+          let at = index_edit good among linked_index in
+          let there = t.grows.edit.sub v (tile good among) in
+          let k = kept_away gives_edit v _ there (vdr_type good among at ∙ typed good among) ((λ e l. (tests [] 0).no_gdr e), ((λ e l. (tests [] 0).used e), ((λ e l. vdr_no_node kind e), tt))) in
+          number_kept linked now v k.same vdr_vxr_tail (omega (arith, vdr_size good among at, long good among)) ∙ tail_is
+
+      -- ---- the whole
+
+      pub edit : Edit b now s.records (shape now).records (index_made_marks kind v s.unused ps os (length linked)) (ps ++ os)
+      edit = edit_under (edit_then t.grows.edit onward) (index_made_marks kind v s.unused ps os (length linked)) (λ m type lo hi i is a.
+          (a.0, (a.1.0, (a.1.1.0, (a.1.1.1.0, (a.1.1.1.1.0, (a.1.1.1.1.1.0, (a.1.0, ((λ same lies. a.1.1.1.0 same (t.before m i lies)), (a.1.1.1.1.1.1.0, tt))))))))))
+
+      pub new_index : NewIndex b now kind own index (shape now).records (shape now).unused space_fields (taking_all s.unused ps (vxr_bytes 64)) os (field 0 (length linked)) (ps ++ os)
+      new_index =
+          let there : (m : ℕ) → In m (ps ++ os) → In m (shape now).records = λ m i. elim (In-append m ps os i) [ inl j ↦ onward.sub m (new_in m j) | inr j ↦ onward.sub m (t.grows.edit.sub m (node_before m j)) ] in
+          let typed : (m : ℕ) → In m (ps ++ os) → (is_record_type (type_at now m) ≡ true) × (fixed_size (type_at now m) ≤ size_at now m) = λ m i. (left.sound.has_shape.typed m (there m i), left.sound.has_shape.fixed m (there m i)) in
+          let gdr = sym left.sound.has_shape.gdr_is ∙ gdr_place (sound good among) edit (tests os (length linked)).tests.file_clear in
+          search (rules, edit, (tests os (length linked)).tests, typed, rw gdr at left.sound.has_shape.unused_chain, stands_now)
+
+      pub rebuilt : IsRebuilt b now own
+      rebuilt =
+          let tail : number now v vdr_vxr_tail ≡ last_node index = tail_now ∙ sym (last_is index x.nexts) in
+          let longest : length now ≤ length b + reindex_room own.index = omega (arith, long_now, x.longest) in
+          search (rules, x, heads, sound_linked, given, stands_now, bare_now, left.sound, content_same good among new_index x.leaves_stay bare_now)
+
+      -- ---- a good image stays good
+
+      new_type : (m : ℕ) → In m ps → type_at now m ≡ vxr_type
+      new_type m i = let k = new_now m i in type_kept made now m k.same k.long ∙ new_made m i
+
+      old_type : (m : ℕ) → In m os → type_at now m ≡ uir_type
+      old_type = all_unused linked now os sound_linked may_free.stand given
+
+      exchanged : Exchanged b now own index (ps ++ os) ps os
+      exchanged =
+          let back : (m : ℕ) → In m ps ⊎ In m os → In m (ps ++ os) = λ m i. elim i [ inl j ↦ In-append_left m ps os j | inr j ↦ In-append_right m ps os j ] in
+          let times_are : (m : ℕ) → times m (nodes_of index) + times m (places_of (leaves_of index)) + times m os ≡ times m os + times m (places_of (leaves_of own.index)) + times m ps = λ m. omega (arith, ap (λ (ls : List Leaf). times m (places_of ls)) x.leaves_stay, x.each_taken m) in
+          let in_use = λ (m : ℕ) (i : In m ps) (u : type_at now m ≡ uir_type). apart vxr_type uir_type refl (sym (new_type m i) ∙ u) in
+          search (rules, In-append, back, times_are, t.fresh_all, t.once, in_use, (has good among).indexed.once, old_type)
+
+      end_now : eof now s.gdr ≡ length now
+      end_now = subst (λ (g : ℕ). eof now g ≡ length now) (ap (λ (y : Shape). y.gdr) t.grows.same_shape) (gdr_field t.grows.sound onward (tests [] 0).file_freed gdr_eof (tests [] 0).end_clear (omega arith) ∙ t.grows.end_is ∙ sym long_now)
+
+      abbrev made_edit : OwnEdit b now kind own index (shape now).records (shape now).unused (index_made_marks kind v s.unused ps os (length linked)) (ps ++ os)
+      made_edit = own_edit good among new_index
+
+      pub among_now : StandsAmong now kind before (with_index own index) after
+      among_now = of_own_edit.among_now good among made_edit
+
+      -- the descriptors of both kinds stay where they are
+      pub vdrs_stay : (k : Kind) → vdrs (shapes_of (shape now) k) ≡ vdrs (shapes_of s k)
+      vdrs_stay k = ap (λ (y : Shape). vdrs (shapes_of y k)) (of_own_edit.same_shape good among made_edit) ∙ ap vdrs (as_with k) ∙ by_kind (λ (j : Kind) (vs : List VariableShape). vdrs vs ≡ vdrs (shapes_of s j)) kind s _ (of_own_edit.same_vdrs good among made_edit) refl k
+        where
+          as_with : (k : Kind) → shapes_of (with_shapes s kind (shape now).records (shape now).unused (before ++ with_index own index ∷ after)) k ≡ shapes_with s kind (before ++ with_index own index ∷ after) k
+          as_with R = refl
+          as_with Z = refl
+
+      pub good_now : length now ≤ image_limit → Good now
+      good_now short = changed_good good among new_index ps os exchanged (index_ruled good among new_index x.leaves_stay bare_now x.order short)
+          (λ m i. elim (In-append m ps os i) [ inl j ↦ ap (λ (k : ℕ). is_in k read_types) (new_type m j) | inr j ↦ ap (λ (k : ℕ). is_in k read_types) (old_type m j) ]) end_now short
+
+      -- ---- the acts
+
+      pub same_size : (m : ℕ) → In m os → size_at linked m ≡ size_at b m
+      same_size m i = let k = node_linked m i in size_kept b linked m k.same (let l = k.long in omega arith)
+
+      pub made_follow : ActsFollow b now (made_acts b own.index index)
+      made_follow = subst (λ (xs : List Act). ActsFollow b now (node_takes ps ++ xs)) (gave-same b linked os same_size)
+          (all_gave b linked now (node_takes ps) (vxr_type ∷ []) os (sound good among).has_shape (acts_still_by t.grows.sound t.follow heads_edit (tests [] 0).unused_clear (ap (λ (y : Shape). y.records) linked_shape) (ap (λ (y : Shape). y.unused) linked_shape) linked_long) sound_linked may_free given)

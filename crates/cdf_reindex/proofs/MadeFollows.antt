@@ -1,17 +1,8 @@
 -- An index made anew follows `reindex`.
-use Rattle.cdf_reindex.proofs.Common.{Act, AllKeep, Allowances, AreTiles, Bool, ByStep, DataSet, Each-map, Follows, Found, FreedStay, GivenStay, Go, Good, In, IsBare, IsNode, IsRebuilt, Kind, List, MakesIndex, NodeSpareStays, Nodes, NodesFollow, None, Option, Reindexed, Same, Some, StandsAmong, TailFollows, UnusedEntries, VariableShape, [], allowances, ap, apart, arith, content, each, false, freed_stay, gave, gdr_type, gdr_typed, got-middle, if◌then◌else◌, image_limit, inl, inr, is_in-true, is_taken_at, last_node, length, levels_up, links_end, made_acts, map, next_of, no_fields, no_node, node, nodes_above, nodes_at, number, owned, refl, reindex_changes, reindex_room, room, room_at, same_Some, shape, shapes_of, size_at, sizes_by_tiles, slice_get, stays_all, subst, sum, sym, taken, top_stays, true, true≢false, type_at, variable_named, vdr_vxr_tail, vdrs, vxr_type, with_index, ℕ, ◌++◌, ◌+◌, ◌<◌, ◌∙◌, ◌∷◌, ◌≡◌, ◌≢◌, ◌≤◌}
-use Rattle.cdf_edits.proofs.Commands.ReadingFollows.{staying_follows}
-use Rattle.cdf_edits.specs.Commands.Named.{OfVariable}
-use Rattle.cdf_format.specs.Index.{leaves_of, nodes_of}
-use Rattle.cdf_model.specs.VariableSteps.{reindex_step}
+use Rattle.cdf_reindex.proofs.Common.{Act, AllKeep, Allowance, Allowances, AreTiles, Bool, ByStep, DataSet, Each-map, Field, Follows, Found, FreedStay, GivenStay, Go, Good, In, IsBare, IsNode, IsRebuilt, Kind, List, MakesIndex, NodeSpareStays, Nodes, None, OfVariable, Only, Option, Range, Reindexed, Same, Some, StandsAmong, UnusedEntries, VariableShape, [], ap, apart, arith, by_range, content, descriptor_allowed, each, eq-eqb, false, freed_stay, gave, gdr_type, gdr_typed, got-middle, if◌then◌else◌, image_limit, index_keeps, inl, inr, is_in-true, is_taken_at, last_node, leaves_of, length, levels_up, links_end, listed_free, made_acts, map, nat_le, nat_lt, next_of, no_fields, no_node, node, node_allowed, nodes_above, nodes_at, nodes_of, none_of_both, number, owned, range_at, refl, reindex_changes, reindex_room, reindex_step, room, room_at, rules, same_as_itself, shape, shapes_of, size_at, sizes_by_tiles, slice_get, staying_follows, stays_all, subst, sum, sum_by-cons, sym, taken, taken-gave, top_stays, true, true≢false, type_at, unlisted_away, variable_named, vdr_vxr_head, vdr_vxr_tail, vdrs, vxr_bytes, vxr_type, with_index, ℕ, ◌&&◌, ◌*◌, ◌++◌, ◌+◌, ◌<◌, ◌∙◌, ◌∷◌, ◌≡◌, ◌≢◌, ◌≤◌}
 use Rattle.cdf_reindex.proofs.Levels.{in_by_times}
-use Rattle.cdf_reindex.proofs.MadeActs.{made_follow, same_size, taken_places, taken_within}
-use Rattle.cdf_reindex.proofs.MadeEdit.{heads_edit, node_linked, old_linked}
-use Rattle.cdf_reindex.proofs.MadeFreed.{edit, gives_edit, left, may_free, records_now}
-use Rattle.cdf_reindex.proofs.MadeGood.{among_now, good_now, vdrs_stay}
-use Rattle.cdf_reindex.proofs.MadeKeeps.{made_keeps}
-use Rattle.cdf_reindex.proofs.MadeTaken.{node_takes}
-use Rattle.cdf_reindex.proofs.PyramidBuilt.{no_pyramid}
+use Rattle.cdf_reindex.proofs.MadeEdit.{among_now, edit, good_now, left, made_follow, may_free, new_index, node_linked, old_linked, same_size, t, vdrs_stay}
+use Rattle.cdf_reindex.proofs.PyramidBuilt.{no_pyramid, node_takes}
 use Rattle.cdf_model.specs.declared.answer.Reply.TheVariants as replies
 use Rattle.cdf_model.specs.declared.command.Command.TheVariants as commands
 
@@ -23,12 +14,16 @@ goes_by d name found e = rw e refl
 got_at : {n : ℕ} {vs : List VariableShape} (before : List VariableShape) (own : VariableShape) (after : List VariableShape) → n ≡ length before → vs ≡ before ++ own ∷ after → slice_get vs n ≡ Some own
 got_at before own after at was = (λ i. slice_get (was i) (at i)) ∙ got-middle before own after
 
--- ---- the nodes that were taken
+-- ---- the nodes that are taken, before others are freed
 
-taken_there : (b new old : List ℕ) (m : ℕ) → In m new → is_taken_at (node_takes new ++ gave b old) m ≡ true
-taken_there b new old m i = is_in-true m _ (subst (In m) (sym (taken_places b new old)) i)
+taken_places : (b new old : List ℕ) → map (λ (take : ℕ × ℕ). take.0) (taken (node_takes new ++ gave b old)) ≡ new
+taken_places b [] old = ap (map (λ (take : ℕ × ℕ). take.0)) (taken-gave b old)
+taken_places b (place ∷ new) old = ap (λ (xs : List ℕ). place ∷ xs) (taken_places b new old)
 
--- ---- what is freed, behind what is taken
+-- each of them has as many bytes
+taken_sum : (b new old : List ℕ) → sum (map (λ (take : ℕ × ℕ). take.1) (taken (node_takes new ++ gave b old))) ≡ vxr_bytes 64 * length new
+taken_sum b [] old = ap (λ (xs : List (ℕ × ℕ)). sum (map (λ (take : ℕ × ℕ). take.1) xs)) (taken-gave b old)
+taken_sum b (place ∷ new) old = sum_by-cons (λ x. x) (vxr_bytes 64) (map (λ (take : ℕ × ℕ). take.1) (taken (node_takes new ++ gave b old))) ∙ omega (arith, taken_sum b new old)
 
 given_after : (b now : List ℕ) (acts : List Act) (new : List ℕ) (given : List Act) → GivenStay b now no_fields acts given → GivenStay b now no_fields acts (node_takes new ++ given)
 given_after b now acts [] given g = g
@@ -42,33 +37,29 @@ top_moves acts no_node new is all = absurd is
 top_moves acts (node place room entries more) no_node is all = grind arith
 top_moves acts (node place room entries more) (node other wide others next) is all = grind (arith, all other (inl refl))
 
--- ---- the room that the command has
+-- ---- a variable by its name
 
 module _ (b name : List ℕ) (found : Found) {own : VariableShape} (named : variable_named (content b) name ≡ Some found) (there : slice_get (shapes_of (shape b) found.kind) found.number ≡ Some own) where
   pub room_is : room b (commands.Reindex name) ≡ reindex_room own.index
-  room_is = ap by_name named ∙ ap by_shape there
-    where
-      by_shape : Option VariableShape → ℕ
-      by_shape None = 0
-      by_shape (Some x) = reindex_room x.index
-
-      by_name : Option Found → ℕ
-      by_name None = 0
-      by_name (Some f) = by_shape (slice_get (shapes_of (shape b) f.kind) f.number)
-
-  keeps_by : (now : List ℕ) (acts : List Act) → AllKeep b now (reindex_changes b (shape b) found) acts (owned b (shape b)) → AllKeep b now (allowances b (content b) (shape b) (commands.Reindex name)) acts (owned b (shape b))
-  keeps_by now acts keep = subst (λ (o : Option Found). AllKeep b now (elim o as (λ x. Allowances) [ None ↦ stays_all | Some f ↦ reindex_changes b (shape b) f ]) acts (owned b (shape b))) (sym named) keep
+  room_is = ap (λ (o : Option Found). elim o as (λ x. ℕ) [ None ↦ 0 | Some f ↦ elim (slice_get (shapes_of (shape b) f.kind) f.number) as (λ x. ℕ) [ None ↦ 0 | Some v ↦ reindex_room v.index ] ]) named
+      ∙ ap (λ (o : Option VariableShape). elim o as (λ x. ℕ) [ None ↦ 0 | Some v ↦ reindex_room v.index ]) there
 
   does_by : {now : List ℕ} {own' : VariableShape} {acts : List Act} → slice_get (shapes_of (shape now) found.kind) found.number ≡ Some own' → MakesIndex b now own own' acts → OfVariable b now name (λ other v v'. MakesIndex b now v v' acts)
   does_by {now = now} {own' = own'} {acts = acts} there' makes other v v' is =
-      let same : found ≡ other = same_Some found other (sym named ∙ is.named) in
-      let was : own ≡ v = same_Some own v (sym there ∙ ap (λ (f : Found). slice_get (shapes_of (shape b) f.kind) f.number) same ∙ is.before) in
-      let by_now : own' ≡ v' = same_Some own' v' (sym there' ∙ ap (λ (f : Found). slice_get (shapes_of (shape now) f.kind) f.number) same ∙ is.after) in
-      subst (λ (x : VariableShape). MakesIndex b now x v' acts) was (subst (λ (x : VariableShape). MakesIndex b now own x acts) by_now makes)
+      let same : found ≡ other = cc in
+      let was : own ≡ v = cc in
+      let by_now : own' ≡ v' = cc in
+      rw (← was, ← by_now) makes
 
 -- ---- an index that was made anew
 
 module _ {b now : List ℕ} (found : Found) {before : List VariableShape} {own : VariableShape} {after : List VariableShape} (good : Good b) (among : StandsAmong b found.kind before own after) (at : found.number ≡ length before) (r : IsRebuilt b now own) (some : IsNode own.index) where
+  abbrev ps : List ℕ
+  ps = levels_up 7 r.index
+
+  abbrev os : List ℕ
+  os = nodes_of own.index
+
   abbrev done : List Act
   done = made_acts b own.index r.index
 
@@ -76,62 +67,49 @@ module _ {b now : List ℕ} (found : Found) {before : List VariableShape} {own :
   of_own = with_index own r.index
 
   taken_all : (m : ℕ) → In m (nodes_of r.index) → is_taken_at done m ≡ true
-  taken_all m i = taken_there b (levels_up 7 r.index) (nodes_of own.index) m (in_by_times (nodes_of r.index) (levels_up 7 r.index) (λ k. sym (r.built.each_taken k)) m i)
-
-  -- ---- its nodes
-
-  unused_entries : (m : ℕ) → IsBare now m → UnusedEntries b now [] [] done m
-  unused_entries m bare i low high = inl (bare.unused i low (subst (λ (n : ℕ). i < n) bare.room_is high))
-
-  nodes_follow : NodesFollow b now [] [] (nodes_of r.index) done
-  nodes_follow = record {
-    unused = Each-map (IsBare now) (UnusedEntries b now [] [] done) unused_entries (nodes_of r.index) r.bare;
-    spare = each (NodeSpareStays b now done) (nodes_of r.index) (λ m i free. absurd (true≢false (sym (taken_all m i) ∙ free)));
-  }
-
-  tail_follows : TailFollows b now done own.index own of_own
-  tail_follows = r.tail ∙ sym (ap (λ (p : Bool). if p then number b own.vdr vdr_vxr_tail else last_node r.index) (top_moves done own.index r.index some taken_all))
+  taken_all m i = is_in-true m _ (subst (In m) (sym (taken_places b ps os)) (in_by_times (nodes_of r.index) ps (λ k. sym (r.built.each_taken k)) m i))
 
   -- ---- the nodes that were freed
 
-  size_left : (m : ℕ) → In m (nodes_of own.index) → size_at now m ≡ size_at r.linked m
-  size_left m i =
-      let records = records_now good among r.built r.heads now r.given in
-      let tiled = subst (λ (ts : List ℕ). AreTiles now 8 (length now) ts) records (gives_edit good among r.built r.heads now r.given).tiled_now in
-      sizes_by_tiles r.linked now 8 8 (length r.linked) _ refl (heads_edit good among r.built r.heads).tiled_now (subst (λ (n : ℕ). AreTiles now 8 n (shape r.made).records) (left good among r.built r.heads now r.given).long tiled) m (there m i)
-    where
-      there : (m : ℕ) → In m (nodes_of own.index) → In m (shape r.made).records
-      there m i = subst (In m) (records_now good among r.built r.heads now r.given) (subst (In m) (sym (ap (λ x. x.records) (left good among r.built r.heads now r.given).shape_is)) ((may_free good among r.built r.heads).stand m i))
-
-  size_now : (m : ℕ) → In m (nodes_of own.index) → size_at now m ≡ size_at b m
-  size_now m i = size_left m i ∙ same_size good among r m i
-
-  no_gdr : (m : ℕ) → In m (nodes_of own.index) → m ≢ (shape r.linked).gdr
-  no_gdr m i q = apart vxr_type gdr_type refl (sym (old_linked good among r.built r.heads m i) ∙ ap (type_at r.linked) q ∙ gdr_typed r.linked (shape r.linked) r.linked_sound.has_shape)
-
-  behind : (m : ℕ) → In m (nodes_of own.index) → Same b now (m + links_end (size_at b m)) (m + size_at b m)
+  behind : (m : ℕ) → In m os → (size_at now m ≡ size_at b m) × Same b now (m + links_end (size_at b m)) (m + size_at b m)
   behind m i =
-      let first = node_linked good among r.built r.heads m i in
-      let last = (left good among r.built r.heads now r.given).behind m ((may_free good among r.built r.heads).stand m i) (no_gdr m i) in
-      let last' : Same r.linked now (m + links_end (size_at b m)) (m + size_at b m) = subst (λ (n : ℕ). Same r.linked now (m + links_end n) (m + n)) (same_size good among r m i) last in
-      record { each = λ k l u. last'.each k l u ∙ first.same.each k (omega arith) u }
+      let l = left good among r.built r.heads now r.given in
+      let stand = (may_free good among r.built r.heads).stand m i in
+      let size = same_size good among r.built r.heads now r.given m i in
+      let tiled = subst (λ (n : ℕ). AreTiles now 8 n (shape r.linked).records) l.long (subst (AreTiles now 8 (length now)) (ap (λ x. x.records) l.shape_is) l.sound.has_shape.tiled) in
+      let no_gdr : m ≢ (shape r.linked).gdr = λ q. apart vxr_type gdr_type refl (sym (old_linked good among r.built r.heads m i) ∙ ap (type_at r.linked) q ∙ gdr_typed r.linked (shape r.linked) r.linked_sound.has_shape) in
+      let last : Same r.linked now (m + links_end (size_at b m)) (m + size_at b m) = subst (λ (n : ℕ). Same r.linked now (m + links_end n) (m + n)) size (l.behind m stand no_gdr) in
+      (sizes_by_tiles r.linked now 8 8 (length r.linked) (shape r.linked).records refl r.linked_sound.has_shape.tiled tiled m stand ∙ size, record { each = λ k low up. last.each k low up ∙ (node_linked good among r.built r.heads m i).same.each k (omega arith) up })
 
   freed : FreedStay b now no_fields done
-  freed = given_after b now done (levels_up 7 r.index) (gave b (nodes_of own.index))
-      (freed_stay b now done (nodes_of own.index) no_fields r.sound.has_shape.tiled (λ m i. subst (In m) (sym (ap (λ x. x.records) (left good among r.built r.heads now r.given).shape_is)) ((may_free good among r.built r.heads).stand m i)) size_now behind)
+  freed = given_after b now done ps (gave b os)
+      (freed_stay b now done os no_fields r.sound.has_shape.tiled (λ m i. subst (In m) (sym (ap (λ x. x.records) (left good among r.built r.heads now r.given).shape_is)) ((may_free good among r.built r.heads).stand m i)) (λ m i. (behind m i).0) (λ m i. (behind m i).1))
+
+  -- ---- what is done
 
   makes : MakesIndex b now own of_own done
-  makes = record {
-    acts_are = refl;
-    leaves_stay = r.built.leaves_stay;
-    fewest = r.built.fewest ∙ ap (λ leaves. nodes_above 8 (length leaves)) (sym r.built.leaves_stay);
-    filled = r.built.filled;
-    wide = Each-map (IsBare now) (λ vxr. room_at now vxr ≡ 64) (λ m bare. bare.room_is) (nodes_of r.index) r.bare;
-    alone = Each-map (IsBare now) (λ vxr. next_of now vxr ≡ 0) (λ m bare. bare.next_is) (nodes_of r.index) r.bare;
-    nodes = nodes_follow;
-    tail = tail_follows;
-    freed = freed;
-  }
+  makes =
+      let fewest = r.built.fewest ∙ ap (λ leaves. nodes_above 8 (length leaves)) (sym r.built.leaves_stay) in
+      let wide = Each-map (IsBare now) (λ vxr. room_at now vxr ≡ 64) (λ m bare. bare.room_is) (nodes_of r.index) r.bare in
+      let alone = Each-map (IsBare now) (λ vxr. next_of now vxr ≡ 0) (λ m bare. bare.next_is) (nodes_of r.index) r.bare in
+      let unused = Each-map (IsBare now) (UnusedEntries b now [] [] done) (λ m bare i low high. inl (bare.unused i low (subst (λ (n : ℕ). i < n) bare.room_is high))) (nodes_of r.index) r.bare in
+      let spare = each (NodeSpareStays b now done) (nodes_of r.index) (λ m i free. absurd (true≢false (sym (taken_all m i) ∙ free))) in
+      let tail = r.tail ∙ sym (ap (λ (p : Bool). if p then number b own.vdr vdr_vxr_tail else last_node r.index) (top_moves done own.index r.index some taken_all)) in
+      search (rules, r.built.leaves_stay, fewest, r.built.filled, wide, alone, unused, spare, tail, freed)
+
+  -- ---- what each record keeps
+
+  abbrev own_may : ℕ → Allowance
+  own_may m = (reindex_changes b (shape b) found).variables found.kind (length before) m
+
+  allowed : (m : ℕ) (o : Option Range) → range_at (shape b) found m ≡ o → own_may m ≡ by_range b found.kind (vdr_vxr_head ∷ vdr_vxr_tail ∷ []) (λ rg. Only []) m o
+  allowed m o x = rw (same_as_itself found.kind, eq-eqb found.number (length before) at) (ap (by_range b found.kind (vdr_vxr_head ∷ vdr_vxr_tail ∷ []) (λ rg. Only []) m) x)
+
+  keeps : AllKeep b now (reindex_changes b (shape b) found) done (owned b (shape b))
+  keeps =
+      let heads : List Field = vdr_vxr_head ∷ vdr_vxr_tail ∷ [] in
+      index_keeps good among (new_index good among r.built r.heads now r.given) (reindex_changes b (shape b) found) done [] refl (descriptor_allowed found good among at heads (λ rg. Only []) own_may allowed) (node_allowed found good among at heads (λ rg. Only []) own_may allowed)
+      (λ m i long free. listed_free (t good among r.built) m i long (none_of_both (λ (take : ℕ × ℕ). nat_le m take.0 && nat_lt take.0 (m + size_at b m)) (node_takes ps) (gave b os) free).0) (unlisted_away (t good among r.built))
 
   -- ---- the command
 
@@ -139,23 +117,14 @@ module _ {b now : List ℕ} (found : Found) {before : List VariableShape} {own :
     there : slice_get (shapes_of (shape b) found.kind) found.number ≡ Some own
     there = got_at before own after at among.was
 
-    there_now : slice_get (shapes_of (shape now) found.kind) found.number ≡ Some of_own
-    there_now = got_at before of_own after at (among_now good among r short).was
-
     pub rebuilt_follows : Follows b (commands.Reindex name) now
-    rebuilt_follows = record {
-      reply = replies.Plain;
-      goes = ap ByStep (goes_by (content b) name found named) ∙ ap (λ (d : DataSet). ByStep (Go d replies.Plain)) (sym r.content_stays);
-      good = good_now good among r short;
-      longer = (edit good among r.built r.heads now r.given).longer;
-      within = subst (λ (n : ℕ). length now ≤ length b + n) (sym (room_is b name found named there)) r.longest;
-      reads = λ e. absurd cc;
-      acts = done;
-      takes_within = subst (λ (n : ℕ). sum (map (λ take. take.1) (taken done)) ≤ n) (sym (room_is b name found named there)) (taken_within good among r);
-      acts_follow = made_follow good among r;
-      keeps = keeps_by b name found named there now done (made_keeps found good among at r);
-      does = does_by b name found named there there_now makes;
-    }
+    rebuilt_follows =
+        let goes = ap ByStep (goes_by (content b) name found named) ∙ ap (λ (d : DataSet). ByStep (Go d replies.Plain)) (sym r.content_stays) in
+        let within : length now ≤ length b + room b (commands.Reindex name) = omega (arith, room_is b name found named there, r.longest) in
+        let takes_within : sum (map (λ take. take.1) (taken done)) ≤ room b (commands.Reindex name) = omega (arith, room_is b name found named there, taken_sum b ps os, r.built.as_many, r.built.fewest) in
+        let kept = subst (λ (o : Option Found). AllKeep b now (elim o as (λ x. Allowances) [ None ↦ stays_all | Some f ↦ reindex_changes b (shape b) f ]) done (owned b (shape b))) (sym named) keeps in
+        let does = does_by b name found named there (got_at before of_own after at (among_now good among r.built r.heads now r.given).was) makes in
+        search (rules, goes, good_now good among r.built r.heads now r.given short, (edit good among r.built r.heads now r.given).longer, within, takes_within, made_follow good among r.built r.heads now r.given, kept, does)
 
 -- ---- an index without nodes stays, and so does every byte
 
@@ -181,4 +150,4 @@ module _ {b now : List ℕ} (found : Found) {before : List VariableShape} {own :
 
   pub reindexed_places : Reindexed b now own → (k : Kind) → vdrs (shapes_of (shape now) k) ≡ vdrs (shapes_of (shape b) k)
   reindexed_places (inl x) k = ap (λ (y : List ℕ). vdrs (shapes_of (shape y) k)) x.1
-  reindexed_places (inr x) k = vdrs_stay good among x.1 short k
+  reindexed_places (inr x) k = vdrs_stay good among x.1.built x.1.heads now x.1.given k

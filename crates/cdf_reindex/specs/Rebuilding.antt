@@ -2,14 +2,14 @@
 use Rattle.std.specs.Prelude.{◌≡◌, ◌≤◌, ℕ, ◌+◌, ◌-◌, List, [], ◌∷◌, length, get_or}
 use Rattle.cdf_edits.specs.Commands.Room.{node_entries, node_size}
 use Rattle.cdf_edits.specs.Space.Placing.{Fills}
-use Rattle.cdf_format.specs.Chains.{next_of}
 use Rattle.cdf_format.specs.Fields.{number}
-use Rattle.cdf_format.specs.Index.{Entries, no_entry, block, lower, Leaf, link_to, room_at, used_count}
+use Rattle.cdf_format.specs.Index.{Entries, no_entry, block, lower, Leaf, link_to, used_count}
 use Rattle.cdf_format.specs.Records.{vxr_n_used_entries}
 use Rattle.cdf_format.specs.RecordTypes.{vxr_type}
 use Rattle.cdf_format.specs.Shape.{shape}
 use Rattle.cdf_index.specs.Writing.{SaysFirst}
 use Rattle.cdf_index.specs.declared.entries.Entry.{Entry}
+use Rattle.cdf_reindex.specs.Reindexed.{IsBare}
 use Rattle.cdf_reindex.specs.Pyramid.{AreLevels, Filled, NewNode, entries_of, from_below, uppers}
 
 -- what entries say
@@ -29,8 +29,7 @@ naming place entries = words (get_or entries 0 (words 0 0 0)).first (get_or entr
 pub record NodeMade (b now : List ℕ) (entries : List Entry) (place : ℕ) : Type 0 where
   pub taken : List ℕ
   pub fills : Fills b taken now (shape b) (shape now).records (shape now).unused node_size place vxr_type
-  pub next_is : next_of now place ≡ 0
-  pub room_is : room_at now place ≡ node_entries
+  pub bare : IsBare now place
   pub counts_is : number now place vxr_n_used_entries ≡ length entries
   pub used_is : used_count now place ≡ length entries
   pub says : SaysFirst now place entries node_entries

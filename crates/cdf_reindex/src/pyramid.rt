@@ -25,6 +25,7 @@ pub const NODE_SIZE: u64 = VXR_FIRST + VXR_ENTRY_SIZE * NODE_ENTRIES;
 
 /// Takes a record and makes a node of it, with these entries and none behind it. Gives its place.
 /// After an error a part of this may have been done.
+#[tactic(auto, using(crate::proofs::PyramidBuilt::node_made, crate::proofs::PyramidBuilt::node_eof))]
 fn place_node<A: Area>(area: &mut A, entries: &[Entry]) -> Result<u64, AreaError>
     requires sound { IsSound (A.image area.old) (shape (A.image area.old)) }
     requires eof { eof (A.image area.old) (gdr_offset (A.image area.old)) ≡ length (A.image area.old) }
@@ -65,6 +66,8 @@ fn write_level<A: Area>(
     requires room { length (A.image area.old) + node_size * quotient_up (length entries.now) node_entries ≤ (A.frame area.old).limit }
     requires limit { (A.frame area.old).limit ≤ image_limit }
     ensures made { IfOk result (λ uppers. (below : Entries) → words_of below ≡ entries.now → LevelMade (A.image area.old) (A.image area.new) below uppers.items) }
+    ensures count { IfOk result (λ uppers. length uppers.items ≡ quotient_up (length entries.now) node_entries) }
+    ensures longest { IfOk result (λ uppers. length (A.image area.new) ≤ length (A.image area.old) + node_size * length uppers.items) }
     ensures sound { OnOk result (IsSound (A.image area.new) (shape (A.image area.new))) }
     ensures eof { OnOk result (eof (A.image area.new) (gdr_offset (A.image area.new)) ≡ length (A.image area.new)) }
     ensures area { Edits A.frame A.faults area.old area.new result }
@@ -79,6 +82,7 @@ fn write_level<A: Area>(
 
 /// Makes the nodes over entries, a level over the other, until one node is left. Gives its place.
 /// After an error a part of this may have been done.
+#[tactic(auto, using(crate::proofs::LevelSteps::room_first))]
 pub fn write_levels<A: Area>(
     alloc: Global,
     area: &mut A,

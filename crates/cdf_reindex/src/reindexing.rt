@@ -45,6 +45,7 @@ fn write_index<A: Area>(alloc: Global, area: &mut A, entries: &[Entry]) -> Resul
 
 /// Builds the index of the variable anew whose VDR stands at a place, with these leaves and nodes: full nodes name the leaves, level by level, and the old nodes are freed.
 /// After an error a part of this may have been done.
+#[tactic(auto, using(cdf_format::proofs::GoodSound::good_eof, crate::proofs::ReindexCalls::few))]
 fn rebuild<A: Area>(
     alloc: Global,
     area: &mut A,

@@ -1,18 +1,8 @@
-use Rattle.cdf_reindex.proofs.Common.{arith, has_room, node_sound, taken_short}
-use Rattle.cdf_reindex.proofs.NodePlacing.{node_eof, node_made}
+use Rattle.cdf_reindex.proofs.Common.{has_room, node_sound}
 use Rattle.cdf_reindex.proofs.pyramid.place_node.Goals as goal
 
 pub write_node-requires-clause-place : goal.write_node-requires-clause-place
 write_node-requires-clause-place g c = let at = c.in_ok-place.ensures in has_room _ _ 64 _ c.requires.sound at.takes at.sound at.content
 
-pub write_node-requires-clause-short : goal.write_node-requires-clause-short
-write_node-requires-clause-short g c = let at = c.in_ok-place.ensures in omega (arith, taken_short _ _ 64 _ c.requires.sound at.takes at.sound at.content, c.requires.room, c.requires.limit)
-
-pub returns-clause-made : goal.returns-clause-made
-returns-clause-made g c = let at = c.in_ok-place.ensures in node_made _ _ _ c.requires.sound at.takes at.sound at.content _ _ c.in_ok-write_node.ensures.written
-
 pub returns-clause-sound : goal.returns-clause-sound
 returns-clause-sound g c = let at = c.in_ok-place.ensures in node_sound _ _ 64 _ c.requires.sound at.takes at.sound at.content _ 0 _ c.in_ok-write_node.ensures.written
-
-pub returns-clause-eof : goal.returns-clause-eof
-returns-clause-eof g c = let at = c.in_ok-place.ensures in node_eof _ _ _ c.requires.sound at.takes at.sound at.content _ _ c.in_ok-write_node.ensures.written

@@ -1,35 +1,6 @@
-use Rattle.cdf_reindex.proofs.Common.{Entry, [], ap, chunks_rest, edit_more, length, length-append, min, nil_from_length, refl, rules, subst, sym, ℕ, ◌++◌, ◌+◌, ◌∙◌, ◌∷◌, ◌≡◌, ◌≤◌}
-use Rattle.cdf_reindex.proofs.LevelSteps.{Goes, chunk_few, chunk_some, goes_last, goes_more, goes_start, room_more, room_one}
+use Rattle.cdf_reindex.proofs.Common.{Entry, [], ap, arith, chunks_rest, edit_more, length, length-append, min, nil_from_length, rules, subst, sym, ℕ, ◌++◌, ◌∙◌, ◌∷◌, ◌≡◌}
+use Rattle.cdf_reindex.proofs.LevelSteps.{Goes, goes_last, goes_more}
 use Rattle.cdf_reindex.proofs.pyramid.write_level.Goals as goal
-
-pub loop-node-init : goal.loop-node-init
-loop-node-init g c = record {
-  next = search rules;
-  finite = tt;
-  size = search rules;
-  sound = c.requires.sound;
-  eof_is = c.requires.eof;
-  room = search rules;
-  goes = λ all said. goes_start (g.A.Area.image c.args.area.now) all c.args.entries.now _ _ said (search rules) (search rules);
-  area = record { frame = refl; faults = refl };
-}
-
-pub place_node-requires-clause-few : goal.place_node-requires-clause-few
-place_node-requires-clause-few g c =
-    let l = c.loop-node in
-    let steps = c.in-Some.ensures.steps in
-    chunk_few (length c.in-Some.node.now) (length (chunks_rest l.node-iterator)) (steps.1.1 ∙ ap (λ (n : ℕ). min n (length (chunks_rest l.node-iterator))) l.invariant.size)
-
-pub place_node-requires-clause-room : goal.place_node-requires-clause-room
-place_node-requires-clause-room g c =
-    let l = c.loop-node in
-    subst (λ f. length (g.A.Area.image l.area) + 1052 ≤ f.limit) (sym l.invariant.area.frame) (room_one (length (g.A.Area.image l.area)) (length (chunks_rest l.node-iterator)) _ l.invariant.room c.in-Some.ensures.steps.1.2)
-
-pub naming-requires : goal.naming-requires
-naming-requires g c =
-    let l = c.loop-node in
-    let steps = c.in-Some.ensures.steps in
-    record { some = chunk_some (length c.in-Some.node.now) (length (chunks_rest l.node-iterator)) (steps.1.1 ∙ ap (λ (n : ℕ). min n (length (chunks_rest l.node-iterator))) l.invariant.size) steps.1.2 }
 
 pub loop-node-preserved : goal.loop-node-preserved
 loop-node-preserved g c =
@@ -47,7 +18,8 @@ loop-node-preserved g c =
       size = steps.0 ∙ i.size;
       sound = call.sound;
       eof_is = call.eof;
-      room = room_more (length (g.A.Area.image l.area)) (length (g.A.Area.image c.place_node.new.area)) (length chunk) (length left) (length rest) _ i.room size (ap length steps.1.0 ∙ length-append chunk left) steps.1.2 call.made.longest;
+      count = omega (arith, ap length c.in_ok-push.ensures.items ∙ length-append l.uppers.items _, i.count, size, ap length steps.1.0 ∙ length-append chunk left, steps.1.2);
+      longest = omega (arith, ap length c.in_ok-push.ensures.items ∙ length-append l.uppers.items _, i.longest, call.made.longest);
       goes = λ all said. subst (Goes _ _ all left) (sym (c.in_ok-push.ensures.items ∙ ap (λ (e : Entry). l.uppers.items ++ e ∷ []) c.naming.ensures)) (goes_more _ _ _ all rest chunk left l.uppers.items c.in_ok-place.place (i.goes all said) steps.1.0 size steps.1.2 call.made);
       area = edit_more i.area call.area;
     }

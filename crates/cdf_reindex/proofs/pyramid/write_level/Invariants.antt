@@ -9,7 +9,8 @@ invariant-loop-node g l = record {
   size : chunks_size l.node-iterator ≡ 64;
   sound : IsSound (g.A.Area.image l.area) (shape (g.A.Area.image l.area));
   eof_is : eof (g.A.Area.image l.area) (gdr_offset (g.A.Area.image l.area)) ≡ length (g.A.Area.image l.area);
-  room : length (g.A.Area.image l.area) + 1052 * quotient_up (length (chunks_rest l.node-iterator)) 64 ≤ (g.A.Area.frame l.fn.area).limit;
+  count : length l.uppers.items + quotient_up (length (chunks_rest l.node-iterator)) 64 ≡ quotient_up (length l.fn.entries) 64;
+  longest : length (g.A.Area.image l.area) ≤ length (g.A.Area.image l.fn.area) + 1052 * length l.uppers.items;
   goes : (all : Entries) → words_of all ≡ l.fn.entries → Goes (g.A.Area.image l.fn.area) (g.A.Area.image l.area) all (chunks_rest l.node-iterator) l.uppers.items;
   area : Keeps g.A.Area.frame g.A.Area.faults l.fn.area l.area;
 }
