@@ -4,9 +4,10 @@ use Rattle.cdf_puts.proofs.CoveringRanges.{one_alone, of_leaves}
 use Rattle.cdf_puts.proofs.LeafCounts.{leaf_is_there, leaf_was_there}
 use Rattle.cdf_puts.proofs.LeafEdit.{block_taken, file, new_index, used_apart, node_in, node_taken, nodes_step}
 use Rattle.cdf_index.proofs.NewIndex.{index_edit}
-use Rattle.cdf_puts.proofs.LeafEdit.{blocks_go_on, plain_body}
+use Rattle.cdf_puts.proofs.LeafEdit.{blocks_go_on}
 use Rattle.cdf_puts.proofs.PutBytes.{size_now, now_plain, old_goes_on, new_goes_on, beside_one}
-use Rattle.cdf_puts.proofs.PutNodes.{taken_first, taken_then, taken_neither, NodesStep, nodes_then, taken_both, or_false, place_outside, same_with_leaf, same_uses, with_one_more, last_of_through, through_stays, top_grows, bytes_longer}
+use Rattle.std.proofs.Math.Bool.{or-false}
+use Rattle.cdf_puts.proofs.PutNodes.{taken_either, taken_neither, NodesStep, nodes_then, taken_both, place_outside, same_with_leaf, same_uses, with_one_more, last_of_through, through_stays, top_grows, bytes_longer}
 use Rattle.cdf_puts.proofs.SoFarStarts.{one_more, put_new, none_begins, puts_new, covers_own}
 
 -- ---- the ranges that are new
@@ -87,7 +88,7 @@ module _ {b now now' : List ℕ} {kind : Kind} {before : List VariableShape} {ow
   -- ---- their bytes
 
   size_after : record_bytes now' own'.vdr ≡ record_bytes b own.vdr
-  size_after = record_alike (file so.goes.good so.goes.among w) (vdr_alike so.goes.good so.goes.among (index_edit so.goes.good so.goes.among (new_index so.goes.good so.goes.among w (plain_body body records holds)))) ∙ size_now so
+  size_after = record_alike (file so.goes.good so.goes.among w) (vdr_alike so.goes.good so.goes.among (index_edit so.goes.good so.goes.among (new_index so.goes.good so.goes.among w))) ∙ size_now so
 
   longer : length now ≤ length now'
   longer = (file so.goes.good so.goes.among w).longer
@@ -114,7 +115,7 @@ module _ {b now now' : List ℕ} {kind : Kind} {before : List VariableShape} {ow
     ends = λ lt. omega arith;
     alone = λ lt. subst (λ (n : ℕ). n ≤ r) (sym (is ∙ one_alone (variable_of b own) (firsts_of own'.index) k (lt-ltb k (extent (max_rec_at b own.vdr)) (omega arith)))) more;
     plain = refl;
-    was_taken = taken_then acts step place (block_taken place (8 + length body) (new_room k own'.index) at);
+    was_taken = taken_either acts step place (inr (block_taken place (8 + length body) (new_room k own'.index) at));
     written = λ j f t. sym (plain_piece now' own'.vdr (record_bytes b own.vdr) j new refl small size_after f t) ∙ ap (λ (xs : List ℕ). take (record_bytes b own.vdr) (drop ((j - k) * (record_bytes b own.vdr)) xs)) plain_is ∙ says.written j f t;
     spare = λ i low high. (blocks_go_on so.goes.good so.goes.among w holds).spare i (subst (λ (n : ℕ). 12 + n ≤ i) (sym says.as_long) low) high;
   }
@@ -131,7 +132,7 @@ module _ {b now now' : List ℕ} {kind : Kind} {before : List VariableShape} {ow
     old = old_block;
     new = λ l i. elim (leaf_was_there new at 0 record_number_limit own'.index order l i) [
       | inl q ↦ inr (subst (NewBlock now' raw pad r first (extent (max_rec_at b own.vdr)) upto (record_bytes b own.vdr) (acts ++ step)) (sym q) new_block)
-      | inr j ↦ elim (so.blocks.new l j) [ inl o ↦ inl o | inr n ↦ inr (new_goes_on so longer l (same l j) j (let m = more_upto in omega arith) (taken_first acts step l.place n.was_taken) n) ]
+      | inr j ↦ elim (so.blocks.new l j) [ inl o ↦ inl o | inr n ↦ inr (new_goes_on so longer l (same l j) j (let m = more_upto in omega arith) (taken_either acts step l.place (inl n.was_taken)) n) ]
     ];
     has = λ j from low. elim (cases_lt j k) [ inl lt ↦ let x = so.blocks.has j from lt in (x.0, (in_new x.0 x.1.0, x.1.1)) | inr le ↦ (new, (new_in, (le, omega arith))) ];
     quiet = λ e. (let none = ap length e in let both = length-append acts step in absurd (omega arith));
@@ -185,12 +186,12 @@ module _ {b now now' : List ℕ} {kind : Kind} {before : List VariableShape} {ow
   s = nodes_step so.goes.good so.goes.among w
 
   agree : (m : ℕ) → In m (nodes_of own'.index) → is_taken_at (acts ++ step) m ≡ is_taken_at acts m
-  agree m i = taken_both acts step m ∙ ap (λ (p : Bool). is_taken_at acts m || p) (s.apart m i) ∙ or_false (is_taken_at acts m)
+  agree m i = taken_both acts step m ∙ ap (λ (p : Bool). is_taken_at acts m || p) (s.apart m i) ∙ or-false (is_taken_at acts m)
 
   -- a node that is taken stands at a new place, and else none does
   outside : place_outside (taken_places (acts ++ step)) at ≡ 0
   outside = elim (cases_lt 0 (new_room k own'.index)) [
-    | inl some ↦ let t = taken_then acts step at (node_taken place (8 + length body) (new_room k own'.index) at some) in rw t refl
+    | inl some ↦ let t : is_taken_at (acts ++ step) at ≡ true = taken_either acts step at (inr (node_taken place (8 + length body) (new_room k own'.index) at some)) in rw t refl
     | inr none ↦ subst (λ (x : ℕ). place_outside (taken_places (acts ++ step)) x ≡ 0) (sym (no_node_zero w.filled w.roomy (new_room k own'.index) at w.node (omega arith))) (elim (either (is_taken_at (acts ++ step) 0)) [ inl t ↦ rw t refl | inr t ↦ rw t refl ])
   ]
 
@@ -212,7 +213,7 @@ module _ {b now now' : List ℕ} {kind : Kind} {before : List VariableShape} {ow
   nodes_added = record {
     stay = λ m i. s.stay m (n.stay m i);
     apart = λ m i. taken_neither acts step m (n.apart m i) (s.apart m (n.stay m i));
-    come = λ m i. elim (s.come m i) [ inl j ↦ elim (n.come m j) [ inl k ↦ inl k | inr t ↦ inr (taken_first acts step m t) ] | inr t ↦ inr (taken_then acts step m t) ];
+    come = λ m i. elim (s.come m i) [ inl j ↦ elim (n.come m j) [ inl k ↦ inl k | inr t ↦ inr (taken_either acts step m (inl t)) ] | inr t ↦ inr (taken_either acts step m (inr t)) ];
     sizes = λ m i. s.sizes m (n.stay m i) ∙ n.sizes m i;
     outlined = outlined ∙ sym (ap (λ (xs : List Range). outline [] (with_ranges own.index xs)) one_new);
     follow = subst (λ (xs : List Range). NodesFollow b now' (indexes_with own.index xs) (nodes_of own.index) (nodes_of own''.index) (acts ++ step)) (sym one_new) follow;

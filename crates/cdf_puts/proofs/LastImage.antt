@@ -1,15 +1,10 @@
 -- The last step of a put: MaxRec is raised, or nothing is done; and what the variable means by then: it has the record, in blocks that may be others, and pads before it where there were none.
-use Rattle.cdf_puts.proofs.Common.{Act, Changed, Each, Gave, GoesOn, Good, In, IsTaking, Kept, Kind, List, MaxRecDone, MaxRecRaised, OnlyTakes, RMaxRecFollows, SoFar, Some, StandsAmong, Took, VariableShape, [], ap, append-nil, arith, behind_in, content, extent, filled, found_in, greater, index_records, inl, inr, is_little, last_number, leaves_ascend, leaves_of, length, max_rec_at, max_rec_touches, negsuc, number, option_map, pad_record, pos, r_max_rec_of_z, record_bytes, records_in, refl, shape, sound, stays_alike, stored_bytes, subst, suc, sym, tile_lies, turned, type_alike, type_of_variable, variable_of, vdr_vxr_tail, with_record, with_sign, with_variable, ℕ, ℤ, ◌+◌, ◌<◌, ◌∙◌, ◌∷◌, ◌≡◌, ◌≢◌, ◌≤◌}
+use Rattle.cdf_puts.proofs.Common.{Act, Changed, Each, Gave, GoesOn, Good, In, Kept, Kind, List, MaxRecDone, MaxRecRaised, OnlyTakes, RMaxRecFollows, SoFar, Some, StandsAmong, Took, VariableShape, [], ap, append-nil, arith, behind_in, content, extent, filled, found_in, greater, index_records, inl, inr, is_little, last_number, leaves_ascend, leaves_of, length, max_rec_at, max_rec_touches, negsuc, number, option_map, pad_record, pos, r_max_rec_of_z, record_bytes, records_in, refl, shape, sound, stays_alike, stored_bytes, subst, suc, sym, tile_lies, turned, type_alike, type_of_variable, variable_of, vdr_vxr_tail, with_record, with_sign, with_variable, ℕ, ℤ, ◌+◌, ◌<◌, ◌∙◌, ◌∷◌, ◌≡◌, ◌≢◌, ◌≤◌}
 use Rattle.cdf_puts.proofs.RaisedGoes.{greatest_stays, greatest_raised, raise_writes, max_rec_raised, raised_behind, raised_tail}
 use Rattle.cdf_puts.proofs.GoesThen.{stays, later_size, later_variable, goes_then, goes_written}
 use Rattle.cdf_puts.proofs.PutRules.{uncut}
 use Rattle.cdf_edits.proofs.Edits.RecordsPut.{StoresPut, records_put, extent_last, filled_uncut, greater_is_first, greater_is_last}
 use Rattle.cdf_model.specs.Numbered.{with_item}
-
-pub only_takes : (acts : List Act) → Each IsTaking acts → OnlyTakes acts
-only_takes [] t = tt
-only_takes (Took place need ∷ more) t = only_takes more t.1
-only_takes (Gave place size ∷ more) t = absurd t.0
 
 -- ---- MaxRec
 
@@ -49,7 +44,7 @@ module _ {b now : List ℕ} {kind : Kind} {before : List VariableShape} {own own
       let small = so.start.small in
       let writes = raise_writes good at w small in
       let is = max_rec_raised good at w small in
-      let goes : GoesOn b last kind before own own' after acts = subst (GoesOn b last kind before own own' after) (append-nil acts) (goes_then so.start.good so.start.among so.goes (goes_written good at writes so.short) (only_takes acts so.takes) tt) in
+      let goes : GoesOn b last kind before own own' after acts = subst (GoesOn b last kind before own own' after) (append-nil acts) (goes_then so.start.good so.start.among so.goes (goes_written good at writes so.short) so.takes tt) in
       record {
         goes = goes;
         r_max_rec = greatest_raised so.start.good so.start.among last (variable_of last own') goes.content_is (subst (λ (z : ℤ). (extent (max_rec_at b own.vdr)) < extent z) (sym is) (omega arith)) w.greatest (λ z. r_max_rec_of_z good at writes z ∙ so.r_max_rec_is);
