@@ -1,5 +1,5 @@
 -- What a leaf more makes of the nodes, the Firsts and the leaves of an index, and of how wide its nodes are and which room they have.
-use Rattle.cdf_puts.proofs.Common.{past, Bool, Each, Each-split, Entries, Grows, HasNodes, In, InOrder, IsOneOf, Leaf, List, Names, NodeFits, Nodes, [], ap, append_assoc, arith, block, by_leaf, either, entry_count, entry_firsts, eq-eqb, eqb-true, false, filter, firsts_of, fold, if◌then◌else◌, inl, inr, le-ltb, leaf, leaves_more, leaves_of, lower, lower_nodes, max, min, nat_lt, next_first, no_entry, no_node, node, nodes_of, places_of, record_number_limit, refl, room_at, subst, suc, sym, times, times-append, weigh, weigh_below, weight_grows, widest, widest_below, with_block, with_both, with_leaf, with_new, zero, ℕ, ◌++◌, ◌+◌, ◌==◌, ◌∙◌, ◌∷◌, ◌≡◌, ◌≤◌, ◌⊎◌, ◌&&◌, nat_tests, In-append}
+use Rattle.cdf_puts.proofs.Common.{past, Bool, Each, Each-split, Entries, Grows, HasNodes, In, InOrder, IsOneOf, Leaf, List, Names, NodeFits, Nodes, [], ap, append_assoc, arith, block, by_leaf, either, entry_count, entry_firsts, eq-eqb, eqb-true, false, filter, firsts_of, fold, if◌then◌else◌, inl, inr, le-ltb, leaf, leaves_more, leaves_of, lower, lower_nodes, max, min, nat_lt, next_first, no_entry, no_node, node, nodes_of, places_of, record_number_limit, refl, room_at, subst, suc, sym, times, times-append, weigh, weigh_below, weight_grows, widest, widest_below, with_block, with_both, with_leaf, with_new, zero, ℕ, ◌++◌, ◌+◌, ◌==◌, ◌∙◌, ◌∷◌, ◌≡◌, ◌≤◌, ◌⊎◌, ◌&&◌, nat_tests, In-append, append-nil}
 use Rattle.std.proofs.lemmas.List.Elements.{filter-append}
 use Rattle.cdf_index.proofs.Measured.{seven_at_least}
 unfoldable use Rattle.cdf_edits.specs.Index.Grown.{new_room, new_room_below}
@@ -48,21 +48,7 @@ firsts_both (lower first last nodes es) fs = ap (λ (xs : List ℕ). first ∷ x
 -- those that pass a test stay, where the new one does not pass it
 firsts_grow : (new : Leaf) (at : ℕ) (p : ℕ → Bool) → p new.first ≡ false → Grows new at (λ n a a'. filter p (firsts_of a') ≡ filter p (firsts_of a)) (λ n es es'. filter p (entry_firsts es') ≡ filter p (entry_firsts es))
 unfolding firsts_of entry_firsts
-firsts_grow new at p out = record {
-  along = λ n place room es more more' h. simp (filter-append, h);
-  down = λ n place room es es' more h. simp (filter-append, h);
-  none = refl;
-  past_block = λ n first last place packed es es' h. over_first first (entry_firsts es) (entry_firsts es') h;
-  past_lower = λ n first last nodes es es' h. over_first first (firsts_of nodes ++ entry_firsts es) (firsts_of nodes ++ entry_firsts es') (simp (filter-append, h));
-  below = λ n first last nodes nodes' es h. over_first first (firsts_of nodes ++ entry_firsts es) (firsts_of nodes' ++ entry_firsts es) (simp (filter-append, h));
-  alone = rw out refl;
-  fits = λ place room es fs more. simp (firsts_both, filter-append, out);
-  behind = λ place room es more. simp (filter-append, out);
-  split = λ n place room es fs more wide. simp (firsts_both, filter-append, out, append_assoc);
-}
-  where
-    over_first : (first : ℕ) (xs ys : List ℕ) → filter p ys ≡ filter p xs → filter p (first ∷ ys) ≡ filter p (first ∷ xs)
-    over_first first xs ys h = elim (either (p first)) [ inl t ↦ rw t (ap (λ (zs : List ℕ). first ∷ zs) h) | inr t ↦ rw t h ]
+firsts_grow new at p out = grind (arith, filter-append, firsts_both, append_assoc, append-nil, out)
 
 pub next_firsts_with_leaf : (new : Leaf) (at : ℕ) (index : Nodes) (n : ℕ) → new.first ≤ n → next_first n (firsts_of (with_leaf new at index)) ≡ next_first n (firsts_of index)
 next_firsts_with_leaf new at index n le = ap (fold min (record_number_limit + 1)) (by_leaf (firsts_grow new at (nat_lt n) (le-ltb n new.first le)) index)
@@ -113,27 +99,22 @@ mutual
       let p = Each-split (NodeFits b) (nodes_of nodes) (lower_nodes es) fit in
       grind (arith, new_room_widest b records levels f nodes h.1 p.0, new_below_widest b records levels f es h.2 p.1)
 
-widest_both : (es fs : Entries) → max 7 (widest_below (with_both es fs)) ≡ max (widest_below es) (max 7 (widest_below fs))
+seven_below : (es : Entries) → 7 ≤ widest_below es
 unfolding widest_below
-widest_both no_entry fs = omega arith
+seven_below no_entry = omega arith
+seven_below (block first last place packed es) = seven_below es
+seven_below (lower first last nodes es) = omega (arith, seven_below es)
+
+widest_both : (es fs : Entries) → widest_below (with_both es fs) ≡ max (widest_below es) (widest_below fs)
+unfolding widest_below
+widest_both no_entry fs = omega (arith, seven_below fs)
 widest_both (block first last place packed es) fs = widest_both es fs
 widest_both (lower first last nodes es) fs = omega (arith, widest_both es fs)
 
 -- and by then none is wider than that, or than they were
 wide_grows : (new : Leaf) (at : ℕ) → Grows new at (λ n a a'. widest a' ≤ max (widest a) n) (λ n es es'. widest_below es' ≤ max (widest_below es) n)
 unfolding widest widest_below
-wide_grows new at = record {
-  along = λ n place room es more more' h. omega arith;
-  down = λ n place room es es' more h. omega arith;
-  none = omega arith;
-  past_block = λ n first last place packed es es' h. h;
-  past_lower = λ n first last nodes es es' h. omega arith;
-  below = λ n first last nodes nodes' es h. omega arith;
-  alone = omega arith;
-  fits = λ place room es fs more. omega (arith, widest_both es fs, widest_both es (with_block new fs), seven_at_least more);
-  behind = λ place room es more. omega arith;
-  split = λ n place room es fs more wide. omega (arith, widest_both es fs, widest_both es (with_block new no_entry), seven_at_least more);
-}
+wide_grows new at = grind (arith, widest_both, seven_at_least)
 
 pub widest_with_leaf : (new : Leaf) (at : ℕ) (index : Nodes) → new_room new.first index ≤ widest index → widest (with_leaf new at index) ≤ widest index
 widest_with_leaf new at index narrow = omega (arith, by_leaf (wide_grows new at) index)
