@@ -31,14 +31,8 @@ module _ (news : List ℕ) where
   alike : (new : Leaf) (es : Entries) → Alike new es
   unfolding outline
   alike new no_entry = record { count = refl; reach = refl; lead = λ given. refl; behind = refl; before = refl }
-  alike new (block first last place packed es) = let a = alike new es in elim (either (leb first new.first)) [
-    | inl t ↦ record { count = ap suc a.count; reach = rw t refl; lead = λ given. rw t (a.lead false); behind = rw t a.behind; before = rw t (ap (block first last 0 false) a.before) }
-    | inr t ↦ record { count = ap suc a.count; reach = rw t a.reach; lead = λ given. rw t refl; behind = rw t refl; before = rw t refl }
-  ]
-  alike new (lower first last nodes es) = let a = alike new es in elim (either (leb first new.first)) [
-    | inl t ↦ record { count = ap suc a.count; reach = rw t refl; lead = λ given. rw t (a.lead true); behind = rw t a.behind; before = rw t (ap (lower first last (outline news nodes)) a.before) }
-    | inr t ↦ record { count = ap suc a.count; reach = rw t a.reach; lead = λ given. rw t refl; behind = rw t refl; before = rw t refl }
-  ]
+  alike new (block first last place packed es) = let a = alike new es in grind (arith, a.count, a.reach, a.lead false, a.behind, a.before)
+  alike new (lower first last nodes es) = let a = alike new es in grind (arith, a.count, a.reach, a.lead true, a.behind, a.before)
 
   chain_outline : (new : Leaf) (ns : Nodes) → chain_reaches new.first (outline news ns) ≡ chain_reaches new.first ns
   unfolding outline
@@ -195,8 +189,7 @@ unless_true s e = grind (arith, s, e)
 
 -- an entry of a node, where it stays
 says_then : (b mid now : List ℕ) (m i : ℕ) (w : Bool) → SaysEntry now m i (first_at mid m i) (last_at mid m i) (offset_at mid m i) → EntryIs b mid m i w → EntryIs b now m i w
-says_then b mid now m i true s e = record { first_is = s.first_is ∙ e.first_is; last_is = s.last_is ∙ e.last_is; offset_is = s.offset_is ∙ e.offset_is }
-says_then b mid now m i false s e = record { first_is = s.first_is ∙ e.first_is; last_is = s.last_is ∙ e.last_is; offset_is = s.offset_is ∙ e.offset_is }
+says_then b mid now m i w s e = grind (arith, s.first_is, s.last_is, s.offset_is, e)
 
 -- and what follows its entries
 spare_then : (b mid now : List ℕ) (acts : List Act) (m : ℕ) → room_at now m ≡ room_at mid m → size_at mid m ≡ size_at b m → Same mid now (m + (28 + 16 * room_at mid m)) (m + size_at mid m) → NodeSpareStays b mid acts m → NodeSpareStays b now acts m
