@@ -1,5 +1,5 @@
 -- The last step of a put: MaxRec is raised, or nothing is done; and what the variable means by then: it has the record, in blocks that may be others, and pads before it where there were none.
-use Rattle.cdf_puts.proofs.Common.{Act, Changed, Each, Gave, GoesOn, Good, In, Kept, Kind, List, MaxRecDone, MaxRecRaised, OnlyTakes, RMaxRecFollows, SoFar, Some, StandsAmong, Took, VariableShape, [], ap, append-nil, arith, behind_in, content, extent, filled, found_in, greater, index_records, inl, inr, is_little, last_number, leaves_ascend, leaves_of, length, max_rec_at, max_rec_touches, negsuc, number, option_map, pad_record, pos, r_max_rec_of_z, record_bytes, records_in, refl, shape, sound, stays_alike, stored_bytes, subst, suc, sym, tile_lies, turned, type_alike, type_of_variable, variable_of, vdr_vxr_tail, with_record, with_sign, with_variable, ℕ, ℤ, ◌+◌, ◌<◌, ◌∙◌, ◌∷◌, ◌≡◌, ◌≢◌, ◌≤◌}
+use Rattle.cdf_puts.proofs.Common.{Act, Changed, GoesOn, Good, In, Kept, Kind, List, MaxRecDone, MaxRecRaised, RMaxRecFollows, SoFar, Some, StandsAmong, VariableShape, ap, append-nil, arith, behind_in, content, extent, filled, found_in, greater, index_records, inl, inr, is_little, last_number, leaves_ascend, leaves_of, length, max_rec_at, max_rec_touches, negsuc, number, option_map, pad_record, pos, r_max_rec_of_z, record_bytes, records_in, refl, shape, sound, stays_alike, stored_bytes, subst, suc, sym, tile_lies, turned, type_alike, type_of_variable, variable_of, vdr_vxr_tail, with_record, with_sign, with_variable, ℕ, ℤ, ◌+◌, ◌<◌, ◌∙◌, ◌≡◌, ◌≢◌, ◌≤◌}
 use Rattle.cdf_puts.proofs.RaisedGoes.{greatest_stays, greatest_raised, raise_writes, max_rec_raised, raised_behind, raised_tail}
 use Rattle.cdf_puts.proofs.GoesThen.{stays, later_size, later_variable, goes_then, goes_written}
 use Rattle.cdf_puts.proofs.PutRules.{uncut}

@@ -1,6 +1,5 @@
 -- The nodes of an index that grows leaf by leaf: the index but for where its blocks and its new nodes stand, its top chain, and the unused entries and spare bytes of its nodes.
-use Rattle.cdf_puts.proofs.Common.{Act, Bool, Each, Each-in, Entries, EntryIs, Gave, Grows, HasNodes, In, In-append, In-append_left, In-append_right, Kept, Leaf, List, Names, NodeFits, NodeSpareStays, Nodes, NodesFollow, Range, Same, Same-part, SaysEntry, Took, TopGrows, UnusedEntries, [], and_from, ap, arith, block, both, both_ways, by_leaf, cases_lt, chain_reaches, each, either, entries_outline, entry_count, eq-eqb, eqb, false, first_at, if◌then◌else◌, indexes_with, inl, inr, is_in, is_in-true, is_taken_at, last_at, le-leb, le_of, leads_down, leaf, leb, length, list_any, lower, lower_nodes, lt-leb, lt-ltb, ltb, nat_le, ne_eqb, no_entry, no_node, node, nodes_of, not, offset_at, or_left, or_right, outline, past, reaches, refl, room_at, same-then, same_of_bytes_eq, size_at, subst, suc, sym, true, true-is_in, upto, used_count, uses_entry, uses_entry_below, was_unused, with_both, with_entry, with_leaf, with_lower, with_ranges, zero, ℕ, ◌&&◌, ◌*◌, ◌++◌, ◌+◌, ◌<◌, ◌||◌, ◌∙◌, ◌∷◌, ◌≡◌, ◌≤◌, ◌⊎◌, Each-split, nat_tests}
-use Rattle.std.proofs.lemmas.List.Folds.{list_any-append}
+use Rattle.cdf_puts.proofs.Common.{Act, Bool, Each, Each-in, Entries, EntryIs, Gave, Grows, HasNodes, In, In-append, Kept, Leaf, List, Names, NodeFits, NodeSpareStays, Nodes, NodesFollow, Range, Same, Same-part, SaysEntry, Took, TopGrows, UnusedEntries, [], ap, arith, block, both_ways, by_leaf, cases_lt, chain_reaches, each, either, entries_outline, entry_count, eqb, false, first_at, if◌then◌else◌, indexes_with, inl, inr, is_in, is_in-true, is_taken_at, last_at, leads_down, leaf, length, list_any, lower, lower_nodes, ne_eqb, no_entry, no_node, node, nodes_of, offset_at, or_left, or_right, outline, past, reaches, refl, room_at, same-then, same_of_bytes_eq, size_at, subst, suc, sym, true, true-is_in, upto, used_count, uses_entry, uses_entry_below, was_unused, with_both, with_entry, with_leaf, with_lower, with_ranges, zero, ℕ, ◌*◌, ◌++◌, ◌+◌, ◌<◌, ◌||◌, ◌∙◌, ◌∷◌, ◌≡◌, ◌≤◌, ◌⊎◌, Each-split, nat_tests}
 use Rattle.std.specs.Prelude.{bytes_eq}
 use Rattle.cdf_edits.proofs.Frame.LinksStay.{SameHeads, room_same, used_same, entry_same}
 

@@ -20,7 +20,7 @@ use Rattle.cdf_format.specs.Content.{variable_of}
 use Rattle.cdf_format.specs.Fields.{number, size_at}
 use Rattle.cdf_format.specs.Index.{Nodes, Leaf, leaves_of, nodes_of}
 use Rattle.cdf_format.specs.Records.{vdr_max_rec, vvr_place, vvr_bytes}
-use Rattle.cdf_format.specs.Shape.{VariableShape, Each, is_compressed}
+use Rattle.cdf_format.specs.Shape.{VariableShape, is_compressed}
 use Rattle.cdf_format.specs.Tiles.{In}
 use Rattle.cdf_format.specs.VariableFields.{record_bytes, sparse_at, max_rec_at}
 use Rattle.cdf_format.specs.WellFormed.{Good}
