@@ -75,35 +75,25 @@ module _ (v : Variable) (firsts : List ℕ) (n : ℕ) where
   end_step (suc m) k rs lt = rw (lt-ltb n k lt) refl
 
 module _ {v : Variable} {firsts : List ℕ} {n k : ℕ} {rs after : List Range} (a : Ahead v firsts n k rs after) where
-  pub ahead_has : (r : Range) → k ≤ n → k ≤ r.last → find (covers k) rs ≡ Some r → ((j : ℕ) → k < j → j ≤ r.last → find (covers j) rs ≡ None → ⊥) → Ahead v firsts n (k + 1) rs after
-  ahead_has r le upto found again =
+  -- record k is the next one, and the range of its block ends with a last one
+  ahead_step : {rs' : List Range} (k' last : ℕ) → k ≤ n → k ≤ last → k' ≤ last + 1 → ((m : ℕ) → 1 ≤ m → cover m v firsts k n rs ≡ cover (m - 1) v firsts (last + 1) n rs') → ((j : ℕ) → k' ≤ j → j ≤ last → j ≤ n → find (covers j) rs' ≡ None → ⊥) → a.next ≡ k → Ahead v firsts n k' rs' after
+  ahead_step k' last le upto low step again e =
       let enough = a.enough in
-      elim (cases_eq a.next k) [
-        | inl e ↦ record {
-          next = r.last + 1;
-          steps = a.steps - 1;
-          upto = omega arith;
-          enough = omega arith;
-          between = λ j low high le. again j (omega arith) (omega arith);
-          leads = sym (found_step v firsts n a.steps k rs r le (omega arith) found) ∙ subst (λ (x : ℕ). cover a.steps v firsts x n rs ≡ after) e a.leads;
-        }
-        | inr ne ↦ record { next = a.next; steps = a.steps; upto = let u = a.upto in omega arith; enough = enough; between = λ j low high le. a.between j (omega arith) high le; leads = a.leads }
-      ]
+      let leads = sym (step a.steps (omega arith)) ∙ subst (λ (x : ℕ). cover a.steps v firsts x n rs ≡ after) e a.leads in
+      record { next = last + 1; steps = a.steps - 1; upto = low; enough = omega arith; between = λ j from high. again j from (omega arith); leads = leads }
+
+  ahead_has : (r : Range) → k ≤ n → k ≤ r.last → find (covers k) rs ≡ Some r → ((j : ℕ) → k < j → j ≤ r.last → find (covers j) rs ≡ None → ⊥) → Ahead v firsts n (k + 1) rs after
+  ahead_has r le upto found again = elim (cases_eq a.next k) [
+    | inl e ↦ ahead_step (k + 1) r.last le upto (omega arith) (λ m some. found_step v firsts n m k rs r le some found) (λ j low high small. again j (omega arith) high) e
+    | inr ne ↦ record { next = a.next; steps = a.steps; upto = omega (arith, a.upto); enough = a.enough; between = λ j low. a.between j (omega arith); leads = a.leads }
+  ]
 
   -- the next one is the first behind the new block, or that behind the last
-  pub ahead_new : k ≤ n → k ≤ (new_range v firsts k).last → find (covers k) rs ≡ None → Ahead v firsts n (min ((new_range v firsts k).last + 1) (n + 1)) (with_range (new_range v firsts k) rs) after
-  ahead_new le upto none =
-      elim (cases_eq a.next k) [
-        | inl e ↦ record {
-          next = (new_range v firsts k).last + 1;
-          steps = a.steps - 1;
-          upto = omega arith;
-          enough = omega arith;
-          between = λ j low high le. absurd (omega arith);
-          leads = sym (vacant_step v firsts n a.steps k rs le (omega arith) none) ∙ subst (λ (x : ℕ). cover a.steps v firsts x n rs ≡ after) e a.leads;
-        }
-        | inr ne ↦ let u = a.upto in absurd (a.between k (omega arith) (omega arith) le none)
-      ]
+  ahead_new : k ≤ n → k ≤ (new_range v firsts k).last → find (covers k) rs ≡ None → Ahead v firsts n (min ((new_range v firsts k).last + 1) (n + 1)) (with_range (new_range v firsts k) rs) after
+  ahead_new le upto none = elim (cases_eq a.next k) [
+    | inl e ↦ ahead_step (min ((new_range v firsts k).last + 1) (n + 1)) (new_range v firsts k).last le upto (omega arith) (λ m some. vacant_step v firsts n m k rs le some none) (λ j low high small. absurd (omega arith)) e
+    | inr ne ↦ absurd (a.between k (omega arith) (omega (arith, a.upto)) le none)
+  ]
 
 -- ---- how many records are covered
 

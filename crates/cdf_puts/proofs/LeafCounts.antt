@@ -62,19 +62,15 @@ places_new m l (x ∷ xs) = grind (arith, times-append m (l.place ∷ []) (place
 pub places_with_leaf : (new : Leaf) (at low high : ℕ) (index : Nodes) → InOrder low high index → (m : ℕ) → times m (places_of (leaves_of (with_leaf new at index))) ≡ times m (places_of (leaves_of index)) + times m (new.place ∷ [])
 places_with_leaf new at low high index o m = ap (λ (xs : List Leaf). times m (places_of xs)) (leaves_more new at low high index o) ∙ places_new m new (leaves_of index)
 
-with_new_has : (l x : Leaf) (xs : List Leaf) → (x ≡ l) ⊎ IsOneOf xs x → IsOneOf (with_new l xs) x
-with_new_has l x [] i = grind (arith, i)
-with_new_has l x (y ∷ ys) i = grind (arith, i, with_new_has l x ys)
-
-one_new : (l x : Leaf) (xs : List Leaf) → IsOneOf (with_new l xs) x → (x ≡ l) ⊎ IsOneOf xs x
-one_new l x [] i = elim i [ inl e ↦ inl (sym e) | inr j ↦ absurd j ]
-one_new l x (y ∷ ys) i = grind (arith, one_new l x ys)
+pub one_new : (l x : Leaf) (xs : List Leaf) → (IsOneOf (with_new l xs) x → (x ≡ l) ⊎ IsOneOf xs x) × ((x ≡ l) ⊎ IsOneOf xs x → IsOneOf (with_new l xs) x)
+one_new l x [] = (λ i. elim i [ inl e ↦ inl (sym e) | inr j ↦ absurd j ], λ i. grind (arith, i))
+one_new l x (y ∷ ys) = (λ i. grind (arith, i, (one_new l x ys).0), λ i. grind (arith, i, (one_new l x ys).1))
 
 pub leaf_is_there : (new : Leaf) (at low high : ℕ) (index : Nodes) → InOrder low high index → (l : Leaf) → (l ≡ new) ⊎ IsOneOf (leaves_of index) l → IsOneOf (leaves_of (with_leaf new at index)) l
-leaf_is_there new at low high index o l i = rw (leaves_more new at low high index o) (with_new_has new l (leaves_of index) i)
+leaf_is_there new at low high index o l i = rw (leaves_more new at low high index o) ((one_new new l (leaves_of index)).1 i)
 
 pub leaf_was_there : (new : Leaf) (at low high : ℕ) (index : Nodes) → InOrder low high index → (l : Leaf) → IsOneOf (leaves_of (with_leaf new at index)) l → (l ≡ new) ⊎ IsOneOf (leaves_of index) l
-leaf_was_there new at low high index o l i = one_new new l (leaves_of index) (rw (leaves_more new at low high index o) at i)
+leaf_was_there new at low high index o l i = (one_new new l (leaves_of index)).0 (rw (leaves_more new at low high index o) at i)
 
 -- ---- how wide the nodes are
 

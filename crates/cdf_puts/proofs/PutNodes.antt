@@ -60,10 +60,7 @@ module _ (news : List ℕ) where
 
   module _ (vxr i : ℕ) (old : is_in vxr news ≡ false) (stands : vxr ≡ 0 → ⊥) where
     same_place : (place : ℕ) → eqb (place_outside news place) vxr ≡ eqb place vxr
-    same_place place = elim (either (is_in place news)) [
-      | inl t ↦ rw (t, ne_eqb place vxr (λ e. both_ways (is_in vxr news) old (subst (λ (m : ℕ). is_in m news ≡ true) e t))) (ne_eqb 0 vxr (λ e. stands (sym e)))
-      | inr t ↦ rw t refl
-    ]
+    same_place place = grind (arith, nat_tests, old, stands)
 
     mutual
       unfolding outline uses_entry uses_entry_below
@@ -230,11 +227,7 @@ was_says b before acts m i e = grind (arith, nat_tests, e, true-is_in m before)
 
 -- an entry in two steps: whether it was unused before both (w), and before the second (v)
 entry_then : {X Y Z : Type 0} (b mid now : List ℕ) (m i : ℕ) (w v : Bool) → EntryIs mid now m i v ⊎ (X × EntryIs mid now m i false) → (v ≡ true → EntryIs b mid m i w ⊎ (Y × EntryIs b mid m i false)) → (w ≡ true → X ⊎ (v ≡ false) → Z) → (Y → Z) → EntryIs b now m i w ⊎ (Z × EntryIs b now m i false)
-entry_then b mid now m i w true (inl x) was used more = elim (was refl) [ inl y ↦ inl (says_then b mid now m i w x y) | inr y ↦ inr (more y.0, says_then b mid now m i false x y.1) ]
-entry_then b mid now m i true false (inl x) was used more = inr (used refl (inr refl), x)
-entry_then b mid now m i false false (inl x) was used more = inl x
-entry_then b mid now m i true v (inr x) was used more = inr (used refl (inl x.0), x.1)
-entry_then b mid now m i false v (inr x) was used more = inl x.1
+entry_then b mid now m i w v s was used more = grind (arith, s, was, used, more, says_then b mid now m i)
 
 module _ (b mid now : List ℕ) (through through' : List Nodes) (before after : List ℕ) (index : Nodes) (acts acts' : List Act) (f : NodesFollow b mid through before (nodes_of index) acts) (step : NodesStep mid now index after acts') (before_in : (m : ℕ) → In m before → In m (nodes_of index)) (sizes : (m : ℕ) → In m before → size_at mid m ≡ size_at b m)
     (come : (m : ℕ) → In m (nodes_of index) → In m before ⊎ (is_taken_at acts m ≡ true)) (more : (m i : ℕ) → list_any (uses_entry m i) through ≡ true → list_any (uses_entry m i) through' ≡ true)

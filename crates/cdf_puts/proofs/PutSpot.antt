@@ -52,14 +52,7 @@ module _ (raw pad : List ℕ) (r size : ℕ) (raw_long : length raw ≡ size) (p
   block_records k last = record { as_long = records_long (last + 1 - k) k; written = λ j from upto. record_there (last + 1 - k) k j from (omega arith) }
 
 pub body_is : (body records : List ℕ) → IsBlockBody body records → IsBody body
-body_is body records says =
-    let typed = plain_body body records says in
-    record {
-      enough = omega arith;
-      real = ap is_record_type typed;
-      in_use = λ same. (let e : vvr_type ≡ uir_type = sym typed ∙ same in absurd (cc));
-      fixed = subst (λ (t : ℕ). fixed_size t ≤ 8 + length body) (sym typed) (omega arith);
-    }
+body_is body records says = let typed = plain_body body records says in grind (arith, typed, body_long body records says)
 
 -- ---- the steps
 
