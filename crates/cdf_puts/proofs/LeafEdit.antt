@@ -93,9 +93,6 @@ mutual
       let p = Hold-split (nodes_rows b records (number_before first) (with_sign last) nodes) (used_rows b records vxr (with_sign last) high entries) h.1 in
       Each-append (Counts b) (nodes_of nodes) (lower_nodes entries) (counts_hold b records (number_before first) (with_sign last) nodes p.0) (counts_below b records vxr (with_sign last) high entries p.1)
 
-asked_hold : (p : Bool) (rows : List Row) → (p ≡ true → Hold rows) → Hold (asked p rows)
-asked_hold p rows f = grind (arith, f)
-
 -- ---- the edit
 
 module _ {b now : List ℕ} {kind : Kind} {before : List VariableShape} {own : VariableShape} {after : List VariableShape} {new : Leaf} {body : List ℕ} {at : ℕ} (good : Good b) (among : StandsAmong b kind before own after) (w : LeafAdded b now own new body at) where
@@ -368,12 +365,10 @@ module _ {b now : List ℕ} {kind : Kind} {before : List VariableShape} {own : V
 
       block_rows : (l : Leaf) → In l.place records' → type_at now l.place ≡ vvr_type → l.first ≤ l.last → l.last ≤ record_number_limit → 12 + (l.last + 1 - l.first) * record_bytes b own.vdr ≤ size_at now l.place → (is_block now records' l.place ≡ true) × Hold (leaf_rows now records' own.vdr l)
       block_rows l stands typed ordered small fit =
-          let plain_bytes : plain_size now own.vdr l ≡ (l.last + 1 - l.first) * record_bytes b own.vdr = (let c = count_is l small ordered in let n = record_alike file (vdr_alike good among x) in λ i. c i * n i) in (
-            ap (λ (p : Bool). p || is_a now records' cvvr_type l.place) (is_a-from now records' vvr_type l.place stands typed),
-            Hold-append (asked (is_a now records' vvr_type l.place) (vvr_rows now own.vdr l)) (asked (is_a now records' cvvr_type l.place) (cvvr_rows now own.vdr l))
-                (asked_hold (is_a now records' vvr_type l.place) (vvr_rows now own.vdr l) (λ e. (of_le (12 + plain_size now own.vdr l) (size_at now l.place) (subst (λ (n : ℕ). 12 + n ≤ size_at now l.place) (sym plain_bytes) fit), tt)))
-                (asked_hold (is_a now records' cvvr_type l.place) (cvvr_rows now own.vdr l) (λ e. absurd (apart vvr_type cvvr_type refl (sym typed ∙ is_a-type now records' cvvr_type l.place e)))),
-          )
+          let there = is_in-true l.place records' stands in
+          let count = count_is l small ordered in
+          let size = record_alike file (vdr_alike good among x) in
+          rw (there, typed, count, size) (refl, (of_le (12 + (l.last + 1 - l.first) * record_bytes b own.vdr) (size_at now l.place) fit, tt))
 
       old_leaf : (l : Leaf) → IsOneOf (leaves_of own.index) l → (is_block now records' l.place ≡ true) × Hold (leaf_rows now records' own.vdr l)
       old_leaf l i =
@@ -381,7 +376,7 @@ module _ {b now : List ℕ} {kind : Kind} {before : List VariableShape} {own : V
           let j = place_in (leaves_of own.index) l i in
           let k = block_kept good among new_index l.place j in
           let stands = edit.sub l.place (behind_in good among l.place (block_behind own l.place j)) in
-          block_rows l stands (type_kept b now l.place k.same k.long ∙ x.typed) x.ordered x.small (subst (λ (n : ℕ). 12 + (l.last + 1 - l.first) * record_bytes b own.vdr ≤ n) (sym (size_kept b now l.place k.same (let t = k.long in omega arith))) x.room)
+          block_rows l stands (type_kept b now l.place k.same k.long ∙ x.typed) x.ordered x.small (rw (size_kept b now l.place k.same (omega (arith, k.long))) x.room)
 
       new_leaf : (is_block now records' new.place ≡ true) × Hold (leaf_rows now records' own.vdr new)
       new_leaf =

@@ -98,10 +98,7 @@ SameOutline news index index' = outline news index ≡ outline [] index'
 
 -- A leaf more keeps it, where a node that is needed stands at a new place, and one that is not at 0; no node that was there is new by that.
 pub same_with_leaf : (news news' : List ℕ) (new : Leaf) (at : ℕ) (index index' : Nodes) → SameOutline news index index' → ((m : ℕ) → In m (nodes_of index) → is_in m news' ≡ is_in m news) → place_outside news' at ≡ 0 → SameOutline news' (with_leaf new at index) (with_leaf (leaf new.first new.last 0 false) 0 index')
-same_with_leaf news news' new at index index' same agree outside =
-    sym (outline_with_leaf news' new at index) ∙ ap (λ (n : ℕ). with_leaf (bare new) n (outline news' index)) outside
-    ∙ ap (with_leaf (bare new) 0) (outline_agrees news news' index (each (λ m. is_in m news' ≡ is_in m news) (nodes_of index) agree) ∙ same)
-    ∙ outline_with_leaf [] (leaf new.first new.last 0 false) 0 index'
+same_with_leaf news news' new at index index' same agree outside = grind (arith, outline_with_leaf news' new at index, outside, outline_agrees news news' index (each (λ m. is_in m news' ≡ is_in m news) (nodes_of index) agree), same, outline_with_leaf [] (leaf new.first new.last 0 false) 0 index')
 
 pub same_uses : (news : List ℕ) (vxr i : ℕ) (index index' : Nodes) → SameOutline news index index' → is_in vxr news ≡ false → (vxr ≡ 0 → ⊥) → uses_entry vxr i index ≡ uses_entry vxr i index'
 same_uses news vxr i index index' same old stands = sym (uses_outline news vxr i old stands index) ∙ ap (uses_entry vxr i) same ∙ uses_outline [] vxr i refl stands index'
