@@ -237,9 +237,7 @@ module _ {v : Variable} {index index' : Nodes} {n k taken : ℕ} (c : Covering v
         omega arith
 
     in_room : (so_far.records + (last + 1 - k)) * record_length v + suc so_far.blocks * (28 + vxr_bytes (widest index)) ≤ put_room v index n
-    in_room =
-        let few : count_upto k fs ≤ entries_in index = omega (arith, count_most k fs, firsts_count index) in
-        omega (arith, room_enough v index so_far.records (last + 1 - k) so_far.blocks (count_upto k fs) (uncovered v index n) one_left covering_ends.2 so_far.blocks_are few)
+    in_room = omega (arith, room_enough v index so_far.records (last + 1 - k) so_far.blocks (count_upto k fs) (uncovered v index n) one_left covering_ends.2 so_far.blocks_are (omega (arith, count_most k fs, firsts_count index)))
 
     pub covering_room : taken + block_bytes v k last + vxr_bytes (widest index') ≤ put_room v index n
     covering_room =

@@ -288,23 +288,13 @@ module _ {b now : List ℕ} {kind : Kind} {before : List VariableShape} {own : V
   -- a touch of a node is one of its entries, or before them
   misses : (m lo hi : ℕ) → In m nodes → 28 + 16 * room_at w.roomy m ≤ lo → (ts : List Touch) → Each (IndexTouch w.roomy own room at) ts → Misses ts m lo hi
   misses m lo hi i behind [] each = tt
-  misses m lo hi i behind (t ∷ ts) each = ((λ e. here e each.0), misses m lo hi i behind ts each.1)
-    where
-      here : m ≡ t.tile → IndexTouch w.roomy own room at t → (hi ≤ t.place) ⊎ (t.place + t.width ≤ lo)
-      here e (inl x) = absurd (behind_no_vdr good among m (node_behind own m i) (e ∙ x.0))
-      here e (inr x) = elim x.1 [
-        | inl n ↦ let l : t.place + t.width ≤ 28 + 16 * room_at w.roomy m = subst (λ (y : ℕ). t.place + t.width ≤ 28 + 16 * room_at w.roomy y) (sym e) n.1 in inr (omega arith)
-        | inr n ↦ absurd (both_ways (is_taken_at step m) (node_apart m i) (subst (λ (y : ℕ). is_taken_at step y ≡ true) (sym (e ∙ n.1)) (node_taken new.place need room at n.0)))
-      ]
+  misses m lo hi i behind (t ∷ ts) each = (λ e. grind (arith, e, each.0, behind, behind_no_vdr good among m (node_behind own m i), node_apart m i, node_taken new.place need room at), misses m lo hi i behind ts each.1)
 
   spare_stays : (m : ℕ) → In m nodes → Same b now (m + (28 + 16 * room_at b m)) (m + size_at b m)
   spare_stays m i =
       let k = node_kept m i in
-      let same = as_before m i in
-      let r = same.0 in
-      let z = same.1 in
       same-then b w.roomy now (m + (28 + 16 * room_at b m)) (m + size_at b m) (Same-part b w.roomy m (m + size_at b m) (m + (28 + 16 * room_at b m)) (m + size_at b m) k.same (omega arith) (omega arith))
-      (changed_missed w.roomy now records' w.touches entries [] sound_roomy.has_shape.tiled w.as_long w.changed all_marked m (28 + 16 * room_at b m) (size_at b m) (taking.grows.edit.sub m (node_in m i)) (omega arith) (misses m (28 + 16 * room_at b m) (size_at b m) i (omega arith) w.touches w.within))
+      (changed_missed w.roomy now records' w.touches entries [] sound_roomy.has_shape.tiled w.as_long w.changed all_marked m (28 + 16 * room_at b m) (size_at b m) (taking.grows.edit.sub m (node_in m i)) (omega (arith, as_before m i)) (misses m (28 + 16 * room_at b m) (size_at b m) i (omega (arith, as_before m i)) w.touches w.within))
 
   pub nodes_step : NodesStep b now own.index (nodes_of (with_leaf new at own.index)) step
   nodes_step = record {
@@ -345,9 +335,8 @@ module _ {b now : List ℕ} {kind : Kind} {before : List VariableShape} {own : V
           let long = body_long body records says in
           let whole : length body ≡ 4 + (length body - 4) = omega arith in
           let behind : new.place + 12 ≡ new.place + 8 + 4 = omega arith in
-          let part = λ (xs : List ℕ). take (length records) (drop 4 xs) in
-          ap (λ (m : ℕ). take (length records) (drop m now)) behind ∙ sym (ap (λ (n : ℕ). part (take n (drop (new.place + 8) now))) whole ∙ ap (take (length records)) (drop-take 4 (length body - 4) (drop (new.place + 8) now)) ∙ take-take (length records) (length body - 4) (drop 4 (drop (new.place + 8) now)) (omega arith) ∙ ap (take (length records)) (drop-drop 4 (new.place + 8) now))
-          ∙ ap part body_now ∙ says.records_are;
+          let rest = take-take (length records) (length body - 4) (drop 4 (drop (new.place + 8) now)) (omega arith) in
+          grind (arith, whole, behind, rest, drop-take 4 (length body - 4) (drop (new.place + 8) now), drop-drop 4 (new.place + 8) now, body_now, says.records_are);
       spare = λ i l lt.
           let e = block_size in
           let behind : new.place + i ≡ new.place + 8 + (i - 8) = omega arith in
