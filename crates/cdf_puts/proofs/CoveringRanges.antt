@@ -240,9 +240,7 @@ module _ {v : Variable} {index index' : Nodes} {n k taken : ℕ} (c : Covering v
     in_room = omega (arith, room_enough v index so_far.records (last + 1 - k) so_far.blocks (count_upto k fs) (uncovered v index n) one_left covering_ends.2 so_far.blocks_are (omega (arith, count_most k fs, firsts_count index)))
 
     pub covering_room : taken + block_bytes v k last + vxr_bytes (widest index') ≤ put_room v index n
-    covering_room =
-        let bytes = more_bytes taken so_far.records so_far.blocks (last + 1 - k) (record_length v) (vxr_bytes (widest index)) (vxr_bytes (widest index')) so_far.bytes_are (omega arith) in
-        omega (arith, in_room)
+    covering_room = omega (arith, in_room, more_bytes taken so_far.records so_far.blocks (last + 1 - k) (record_length v) (vxr_bytes (widest index)) (vxr_bytes (widest index')) so_far.bytes_are (omega (arith, c.as_wide)))
 
     module _ (place at : ℕ) (narrow : new_room k index' ≤ widest index') where
       abbrev new : Leaf
@@ -259,8 +257,7 @@ module _ {v : Variable} {index index' : Nodes} {n k taken : ℕ} (c : Covering v
       same_new = same_range v fs (firsts_of index') k (c.nexts k (omega arith))
 
       bytes' : taken' ≤ (so_far.records + (last + 1 - k)) * record_length v + suc so_far.blocks * (28 + vxr_bytes (widest index))
-      bytes' =
-          more_bytes taken so_far.records so_far.blocks (last + 1 - k) (record_length v) (vxr_bytes (widest index)) (node_bytes k index') so_far.bytes_are (grind (arith, nat_tests, narrow, c.as_wide))
+      bytes' = more_bytes taken so_far.records so_far.blocks (last + 1 - k) (record_length v) (vxr_bytes (widest index)) (node_bytes k index') so_far.bytes_are (grind (arith, nat_tests, narrow, c.as_wide))
 
       counted' : last + 1 ≤ n → Counted v index (with_leaf new at index') n (last + 1) taken'
       counted' more =
@@ -284,10 +281,10 @@ module _ {v : Variable} {index index' : Nodes} {n k taken : ℕ} (c : Covering v
           let bytes = bytes' in
           let enough = in_room in
           record {
-            ordered = order_with_leaf new at index' c.ordered ending.0 vacant ending.1;
+            ordered = order_with_leaf new at index' c.ordered covering_ends.0 vacant covering_ends.1;
             from = omega arith;
             ahead = subst (λ (rs : List Range). Ahead v fs n (min (last + 1) (n + 1)) rs (ranges_after_put v index n)) (sym ranges_are)
-                (subst (λ (r : Range). Ahead v fs n (min (r.last + 1) (n + 1)) (with_range r (ranges_of index')) (ranges_after_put v index n)) (sym same_new) (ahead_new c.ahead le (subst (λ (r : Range). k ≤ r.last) same_new ending.0) none));
+                (subst (λ (r : Range). Ahead v fs n (min (r.last + 1) (n + 1)) (with_range r (ranges_of index')) (ranges_after_put v index n)) (sym same_new) (ahead_new c.ahead le (subst (λ (r : Range). k ≤ r.last) same_new covering_ends.0) none));
             nexts = λ m lm. next_firsts_with_leaf new at index' m (omega arith) ∙ c.nexts m (omega arith);
             as_wide = omega arith;
             fits = omega arith;

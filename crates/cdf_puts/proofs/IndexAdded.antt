@@ -7,7 +7,7 @@ use Rattle.cdf_index.proofs.NewIndex.{index_edit}
 use Rattle.cdf_puts.proofs.LeafEdit.{blocks_go_on}
 use Rattle.cdf_puts.proofs.PutBytes.{size_now, now_plain, old_goes_on, new_goes_on, beside_one}
 use Rattle.std.proofs.Math.Bool.{or-false}
-use Rattle.cdf_puts.proofs.PutNodes.{taken_either, taken_neither, NodesStep, nodes_then, taken_both, place_outside, same_with_leaf, same_uses, with_one_more, last_of_through, through_stays, top_grows, bytes_longer}
+use Rattle.cdf_puts.proofs.PutNodes.{taken_either, taken_neither, NodesStep, nodes_then, taken_both, place_outside, same_with_leaf, same_uses, with_one_more, through_goes, top_grows, bytes_longer}
 use Rattle.cdf_puts.proofs.SoFarStarts.{one_more, put_new, none_begins, puts_new, covers_own}
 
 -- ---- the ranges that are new
@@ -205,8 +205,8 @@ module _ {b now now' : List ℕ} {kind : Kind} {before : List VariableShape} {ow
 
   follow : NodesFollow b now' (indexes_with own.index (rs ++ range k last ∷ [])) (nodes_of own.index) (nodes_of own''.index) (acts ++ step)
   follow = nodes_then b now now' (indexes_with own.index rs) (indexes_with own.index (rs ++ range k last ∷ [])) (nodes_of own.index) (nodes_of own''.index) own'.index acts step n.follow s n.stay n.sizes n.come
-      (λ m i e. through_stays (uses_entry m i) own.index rs (range k last) e)
-      (λ m i j e. through_stays (uses_entry m i) own.index rs (range k last) (last_of_through (uses_entry m i) own.index rs (sym (same_uses (taken_places acts) m i own'.index (with_ranges own.index rs) n.outlined (n.apart m j) (not_zero m (n.stay m j))) ∙ e)))
+      (λ m i e. through_goes (uses_entry m i) own.index rs (range k last) (inr e))
+      (λ m i j e. through_goes (uses_entry m i) own.index rs (range k last) (inl (sym (same_uses (taken_places acts) m i own'.index (with_ranges own.index rs) n.outlined (n.apart m j) (not_zero m (n.stay m j))) ∙ e)))
       (shape now).records 8 (has so.goes.good so.goes.among).indexed.has_nodes
 
   nodes_added : NodesSoFar b now' own own'' (acts ++ step)

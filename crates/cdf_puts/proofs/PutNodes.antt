@@ -13,12 +13,6 @@ abbrev pub bare : Leaf → Leaf
 bare l = leaf l.first l.last 0 false
 
 module _ (news : List ℕ) where
-  both_outline : (es fs : Entries) → with_both (entries_outline news es) (entries_outline news fs) ≡ entries_outline news (with_both es fs)
-  unfolding outline
-  both_outline no_entry fs = refl
-  both_outline (block first last place packed es) fs = ap (block first last 0 false) (both_outline es fs)
-  both_outline (lower first last nodes es) fs = ap (lower first last (outline news nodes)) (both_outline es fs)
-
   -- what is asked of the entries of a node on the way to a leaf, and how they are split there
   record Alike (new : Leaf) (es : Entries) : Type 0 where
     count : entry_count (entries_outline news es) ≡ entry_count es
@@ -26,12 +20,13 @@ module _ (news : List ℕ) where
     lead : (given : Bool) → leads_down new.first given (entries_outline news es) ≡ leads_down new.first given es
     behind : past new.first (entries_outline news es) ≡ entries_outline news (past new.first es)
     before : upto (bare new) (entries_outline news es) ≡ entries_outline news (upto new es)
+    joined : (fs : Entries) → with_both (entries_outline news es) (entries_outline news fs) ≡ entries_outline news (with_both es fs)
 
   alike : (new : Leaf) (es : Entries) → Alike new es
   unfolding outline
-  alike new no_entry = record { count = refl; reach = refl; lead = λ given. refl; behind = refl; before = refl }
-  alike new (block first last place packed es) = let a = alike new es in grind (arith, a.count, a.reach, a.lead false, a.behind, a.before)
-  alike new (lower first last nodes es) = let a = alike new es in grind (arith, a.count, a.reach, a.lead true, a.behind, a.before)
+  alike new no_entry = record { count = refl; reach = refl; lead = λ given. refl; behind = refl; before = refl; joined = λ fs. refl }
+  alike new (block first last place packed es) = let a = alike new es in grind (arith, a.count, a.reach, a.lead false, a.behind, a.before, a.joined)
+  alike new (lower first last nodes es) = let a = alike new es in grind (arith, a.count, a.reach, a.lead true, a.behind, a.before, a.joined)
 
   chain_outline : (new : Leaf) (ns : Nodes) → chain_reaches new.first (outline news ns) ≡ chain_reaches new.first ns
   unfolding outline
@@ -42,7 +37,7 @@ module _ (news : List ℕ) where
 
   outline_with_entry : (new : Leaf) (at place room : ℕ) (es : Entries) (more : Nodes) → with_entry (bare new) (place_outside news at) (place_outside news place) room (entries_outline news es) (outline news more) ≡ outline news (with_entry new at place room es more)
   unfolding outline
-  outline_with_entry new at place room es more = let a = alike new es in grind (arith, a.count, a.before, a.behind, (alike new (past new.first es)).count, both_outline (upto new es) (past new.first es))
+  outline_with_entry new at place room es more = let a = alike new es in grind (arith, a.count, a.before, a.behind, (alike new (past new.first es)).count, (alike new (upto new es)).joined (past new.first es))
 
   mutual
     unfolding outline with_leaf with_lower
@@ -129,31 +124,15 @@ with_one_more index [] r = refl
 with_one_more index (x ∷ rs) r = with_one_more (with_range_at_zero index x) rs r
 
 -- what holds of the last of them, or of one, goes on to hold of one
-pub last_of_through : (P : Nodes → Bool) (index : Nodes) (rs : List Range) → P (with_ranges index rs) ≡ true → list_any P (indexes_with index rs) ≡ true
+pub through_goes : (P : Nodes → Bool) (index : Nodes) (rs : List Range) (r : Range) → (P (with_ranges index rs) ≡ true) ⊎ (list_any P (indexes_with index rs) ≡ true) → list_any P (indexes_with index (rs ++ r ∷ [])) ≡ true
 unfolding indexes_with
-last_of_through P index [] e = or_left (P index) false e
-last_of_through P index (x ∷ rs) e = or_right (P index) (list_any P (indexes_with (with_range_at_zero index x) rs)) (last_of_through P (with_range_at_zero index x) rs e)
-
-pub through_stays : (P : Nodes → Bool) (index : Nodes) (rs : List Range) (r : Range) → list_any P (indexes_with index rs) ≡ true → list_any P (indexes_with index (rs ++ r ∷ [])) ≡ true
-unfolding indexes_with
-through_stays P index [] r e = grind (arith, e)
-through_stays P index (x ∷ rs) r e = grind (arith, e, through_stays P (with_range_at_zero index x) rs r)
+through_goes P index [] r e = grind (arith, e)
+through_goes P index (x ∷ rs) r e = grind (arith, e, through_goes P (with_range_at_zero index x) rs r)
 
 -- ---- the top chain
 
 top_steps : (new : Leaf) (at : ℕ) → Grows new at (λ n a a'. TopGrows a a') (λ n es es'. Unit {0})
-top_steps new at = record {
-  along = λ n place room es more more' h. elim h [ inl e ↦ inl (ap (λ (xs : List ℕ). place ∷ xs) e) | inr lt ↦ inr (omega arith) ];
-  down = λ n place room es es' more h. inl refl;
-  none = tt;
-  past_block = λ n first last place packed es es' h. tt;
-  past_lower = λ n first last nodes es es' h. tt;
-  below = λ n first last nodes nodes' es h. tt;
-  alone = inr (omega arith);
-  fits = λ place room es fs more. inl refl;
-  behind = λ place room es more. inr (omega arith);
-  split = λ n place room es fs more wide. inr (omega arith);
-}
+top_steps new at = grind arith
 
 -- the top chain stays, or it grows
 pub top_grows : (new : Leaf) (at : ℕ) (index : Nodes) → TopGrows index (with_leaf new at index)

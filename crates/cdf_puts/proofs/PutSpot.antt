@@ -189,11 +189,8 @@ module _ {b now : List ℕ} {kind : Kind} {before : List VariableShape} {own : V
         module _ (bytes : List ℕ) (bytes_are : bytes ≡ record_put new.raw.items new.pad.items new.rec k) where
           pub held_within : (k - l.first) * n + length bytes ≤ (l.last + 1 - l.first) * n
           held_within =
-              let long = (ap length bytes_are ∙ record_long new.raw.items new.pad.items new.rec (record_bytes b own.vdr) p.start.raw_long p.pad_long k) ∙ sym (size_now so) ∙ sized in
-              let from = held.1 in
-              let upto = held.2 in
-              let room = times_le (suc (k - l.first)) (l.last + 1 - l.first) n (omega arith) in
-              omega arith
+              let long = ap length bytes_are ∙ record_long new.raw.items new.pad.items new.rec (record_bytes b own.vdr) p.start.raw_long p.pad_long k ∙ sym (size_now so) ∙ sized in
+              omega (arith, held.1, held.2, times_le (suc (k - l.first)) (l.last + 1 - l.first) n (omega (arith, held.1, held.2)))
 
           pub written_on : {now' : List ℕ} → now' ≡ put_at now (l.at + (12 + (k - l.first) * n)) bytes → IsPut b now' kind before own after new (k + 1)
           written_on w = record {
@@ -201,8 +198,8 @@ module _ {b now : List ℕ} {kind : Kind} {before : List VariableShape} {own : V
             acts = is.acts;
             so = so_far_written so more (record {
               found = here;
-              within = let s = sym sized in let e = bytes_are in transport (λ i. (k - l.first) * s i + length (e i) ≤ (l.last + 1 - l.first) * s i) held_within;
-              written = w ∙ (let s = sym sized in let e = bytes_are in λ i. put_at now (l.at + (12 + (k - l.first) * s i)) (e i));
+              within = rw (sized, ← bytes_are) held_within;
+              written = rw (sized, ← bytes_are) w;
             }) (record_long new.raw.items new.pad.items new.rec (record_bytes b own.vdr) p.start.raw_long p.pad_long k);
           }
 
