@@ -70,7 +70,7 @@ unfoldable pub use Rattle.cdf_format.specs.IndexOf.{HasNodes, Names}
 pub use Rattle.cdf_format.specs.NotRead.{read_types, unread_sparse}
 pub use Rattle.cdf_format.specs.Owners.{OneVariable, Unused, attribute_records, owned, times, unused_records, variable_records}
 pub use Rattle.cdf_format.specs.RecordTypes.{cdr_type, cvvr_type, fixed_size, gdr_type, is_record_type, uir_type, vvr_type, vxr_type}
-pub use Rattle.cdf_format.specs.Records.{Field, field, gdr_eof, gdr_r_max_rec, gdr_uir_head, uir_next_uir, uir_prev_uir, vdr_max_rec, vdr_vxr_head, vdr_vxr_tail, vxr_bytes, vxr_entries, vxr_n_entries, vxr_n_used_entries}
+pub use Rattle.cdf_format.specs.Records.{Field, field, gdr_eof, gdr_r_max_rec, gdr_uir_head, uir_next_uir, uir_prev_uir, vdr_max_rec, vdr_vxr_head, vdr_vxr_tail, vxr_bytes, vvr_place, vxr_entries, vxr_n_entries, vxr_n_used_entries}
 pub use Rattle.cdf_format.specs.Rules.{Hold, Row, asked}
 pub use Rattle.cdf_format.specs.Shape.{AttributeShape, Each, HasShape, Shape, VariableShape, is_compressed, shape, variables, vdrs}
 pub use Rattle.cdf_format.specs.Sound.{IsSound, NodeFits}
@@ -102,7 +102,7 @@ pub use Rattle.cdf_model.specs.declared.kinds.Sparse.TheVariants.{NoRule}
 pub use Rattle.cdf_puts.specs.Covering.{Ahead, Counted, Covering, block_bytes, count_upto, new_last, node_bytes}
 pub use Rattle.cdf_puts.specs.Going.{GoesOn, LooseStay, found_in, put_fields}
 pub use Rattle.cdf_puts.specs.Putting.{IsPut, PutsOn, PutsUpTo, Putting, SomePut, SomePutting, block_type, last_in_new, most_in_block, record_put, records_put}
-pub use Rattle.cdf_puts.specs.SoFar.{BlockRecords, BlocksSoFar, IndexSoFar, MaxRecDone, NewBlock, NodesSoFar, OldBlock, PutStart, PutsBefore, RecordIs, SoFar, TopGrows, put_count, put_from, put_touches, record_of, taken_bytes, taken_places, was_put}
+pub use Rattle.cdf_puts.specs.SoFar.{Beside, BlockRecords, BlocksSoFar, IndexSoFar, LeavesGoOn, MaxRecDone, NewBlock, NodesSoFar, OldBlock, PutStart, PutsBefore, RecordIs, SoFar, TopGrows, put_count, record_of, taken_bytes, taken_places, was_put}
 pub use Rattle.cdf_puts.specs.Steps.{BlocksGoOn, IsBlockBody, IsVacant, MaxRecRaised, RecordsWritten}
 pub use Rattle.std.proofs.Common.{Bool, List, None, Option, Some, [], ap, append-nil, append_assoc, ap₂, arith, bytes_eq, drop, eqb, false, inl, inr, leb, length, ltb, map, negsuc, not, pos, refl, subst, suc, sym, take, take-append-drop, true, true≢false, zero, ℕ, ℤ, ◌*◌, ◌++◌, ◌+◌, ◌-◌, ◌<◌, ◌∙◌, ◌∷◌, ◌≡◌, ◌≢◌, ◌≤◌, ◌⊎◌}
 pub use Rattle.std.proofs.Math.Nat.{div-le_self, mul-sub}

@@ -1,9 +1,6 @@
 -- One image goes on to another: what a put may change of the records of its variable, what the descriptor says by then, that an edit of one variable is such a step, and that two steps are one.
-use Rattle.cdf_puts.proofs.Common.{Act, ActsFollow, Allowance, Anything, AttributeShape, DataSet, Field, FileSame, GoesOn, Good, HasShape, In, IndexEdit, IsOneOf, IsSound, Kept, Kind, Leaf, List, ListedStay, LooseStay, Mark, Nodes, Only, OnlyTakes, Option, OutsideFields, OwnEdit, R, Range, Shape, StandsAmong, Stays, Stood, Touch, Variable, VariableShape, VdrStays, WritesRecords, Z, [], acts_joined, after_ours, all_variable_records, among_now, anything_if, ap, arith, attribute_records, cdr_kept, cdr_type, content, content_replaced, either, eq-eqb, false, false-is_in, fits, flat_map, found_in, gdr_keeps, good_is_sound, good_now, image_limit, index_edit, inl, inr, is_a-in, is_compressed, is_in, is_rewritten, is_taken, keeps_stood, kept_away, kind_ours, leaves_of, length, length-map, linkable-in, linkable-type, list_any, listed_before, long, map, marks, max_rec_at, nat_le, nat_lt, no_acts_follow, nodes_of, none_of_both, only, other_kind, others_are, ours, own_edit, own_rules, packed_stays, put_changes, put_fields, r_max_rec_field, range, range_at, record_alike, record_bytes, records_are, records_in, refl, same_as_itself, same_kind, set_at, shape, shapes_of, size_at, slice_set, space_fields, splices, stays_alike, stood, subst, sym, taken, tile, tile_lies, true, true-is_in, type_at, uir_next_uir, uir_prev_uir, uir_type, unused_stands, variable_of, variable_records, variable_stays, variables_in, variables_of, vdr_size, with_variables, ℕ, ◌&&◌, ◌++◌, ◌+◌, ◌<◌, ◌==◌, ◌∙◌, ◌∷◌, ◌≡◌, ◌≤◌, ◌⊎◌}
-use Rattle.cdf_puts.proofs.RaisedGoes.{set_is}
+use Rattle.cdf_puts.proofs.Common.{Act, ActsFollow, AttributeShape, DataSet, Field, FileSame, GoesOn, Good, HasShape, In, IndexEdit, IsSound, Kept, Kind, List, ListedStay, LooseStay, Mark, Nodes, Only, OnlyTakes, OutsideFields, OwnEdit, R, Shape, StandsAmong, Stays, Stood, Touch, Variable, VariableShape, VdrStays, WritesRecords, Z, [], acts_joined, after_ours, all_variable_records, among_now, ap, arith, attribute_records, cdr_kept, cdr_type, content, content_replaced, either, false, false-is_in, fits, flat_map, gdr_keeps, good_is_sound, good_now, image_limit, index_edit, inl, inr, is_a-in, is_compressed, is_in, is_taken, keeps_stood, kept_away, kind_ours, leaves_of, length, linkable-in, linkable-type, list_any, listed_before, long, marks, max_rec_at, nat_le, nat_lt, no_acts_follow, none_of_both, number, only, other_kind, others_are, ours, own_edit, own_rules, packed_stays, part, put_fields, r_max_rec_field, record_alike, record_bytes, records_are, records_in, refl, shape, shapes_of, size_at, slice_set, space_fields, splices, stays_alike, stood, subst, suc, sym, taken, tile, tile_lies, true-is_in, type_at, uir_next_uir, uir_prev_uir, uir_type, unused_stands, variable_of, variable_records, variable_stays, variables_in, variables_of, vdr_size, vdr_vxr_tail, with_variables, word_kept, zero, ℕ, ◌&&◌, ◌++◌, ◌+◌, ◌<◌, ◌∙◌, ◌∷◌, ◌≡◌, ◌≤◌}
 use Rattle.cdf_edits.proofs.Edits.IndexEdited as of_index
-use Rattle.cdf_index.proofs.OwnRecords.{by_range}
-use Rattle.cdf_index.proofs.OwnRecords as of_own
 use Rattle.cdf_edits.proofs.Edits.OwnEdited.{same_shape}
 use Rattle.cdf_edits.proofs.Edits.VariableKeeps.{stays_then, type_stays, stays_bytes}
 use Rattle.cdf_edits.proofs.Edits.RecordGrown.{kept_then}
@@ -13,46 +10,16 @@ use Rattle.cdf_edits.proofs.Edits.VariableSplice.{attributes_kept}
 abbrev pub links : List Field
 links = uir_next_uir ∷ uir_prev_uir ∷ []
 
--- ---- what a put may change of the records of its variable
-
-module _ {b : List ℕ} {kind : Kind} {before : List VariableShape} {own : VariableShape} {after : List VariableShape} (good : Good b) (at : StandsAmong b kind before own after) (r : ℕ) where
-  abbrev pub own_may : ℕ → Allowance
-  own_may m = (put_changes b (shape b) (found_in b kind before own) r).variables kind (length before) m
-
-  abbrev block : Range → Allowance
-  block rg = anything_if (is_rewritten (variable_of b own) r rg)
-
-  allowed : (m : ℕ) (o : Option Range) → range_at (shape b) (found_in b kind before own) m ≡ o → own_may m ≡ by_range b kind put_fields block m o
-  allowed m o e =
-      let same : same_kind kind kind ≡ true = same_as_itself kind in
-      let number : (length before == length before) ≡ true = eq-eqb (length before) (length before) refl in
-      rw (same, number, e)
-
-  pub descriptor_allowed : own_may own.vdr ≡ Only put_fields
-  descriptor_allowed = of_own.descriptor_allowed (found_in b kind before own) good at refl put_fields block own_may allowed
-
-  pub node_allowed : (m : ℕ) → In m (nodes_of own.index) → own_may m ≡ Anything
-  node_allowed = of_own.node_allowed (found_in b kind before own) good at refl put_fields block own_may allowed
-
-  pub block_allowed : (l : Leaf) → IsOneOf (leaves_of own.index) l → own_may l.place ≡ anything_if (is_rewritten (variable_of b own) r (range l.first l.last))
-  block_allowed = of_own.block_allowed (found_in b kind before own) good at refl put_fields block own_may allowed
-
 -- ---- the descriptor
-
-outside_put : (i : ℕ) → (i < 24) ⊎ (44 ≤ i) → OutsideFields put_fields i
-outside_put i side = grind (arith, side)
-
-beside_put : (i : ℕ) → OutsideFields put_fields i → (i + 1 ≤ 24) ⊎ (44 ≤ i)
-beside_put i out = grind (arith, out)
 
 module _ {b now : List ℕ} {kind : Kind} {before : List VariableShape} {own : VariableShape} {after : List VariableShape} (good : Good b) (at : StandsAmong b kind before own after) where
   pub stays : Stays b now own.vdr put_fields → VdrStays b now own.vdr
   stays d =
       let n = long good at in
       record {
-        typed = type_stays b now own.vdr put_fields d (omega arith) (λ i lt. outside_put i (inl (omega arith)));
-        type = stays_bytes d 20 24 (omega arith) (λ i low high. outside_put i (inl high));
-        behind = stays_bytes d 44 (size_at b own.vdr) (omega arith) (λ i low high. outside_put i (inr low));
+        typed = type_stays b now own.vdr put_fields d (omega arith) (λ i lt. grind arith);
+        type = stays_bytes d 20 24 (omega arith) (λ i low high. grind arith);
+        behind = stays_bytes d 44 (size_at b own.vdr) (omega arith) (λ i low high. grind arith);
         inside = (tile_lies b 8 (length b) (shape b).records own.vdr (good_is_sound b good).has_shape.tiled (tile good at)).high;
         end = (fits good at).0;
       }
@@ -99,7 +66,7 @@ module _ {b now : List ℕ} {kind : Kind} {before : List VariableShape} {own : V
     descriptor = record {
       stands = subst (In own.vdr) (sym (records_are good at y)) (x.edit.sub own.vdr (tile good at));
       size_is = vdr_size good at x;
-      same = λ n lt out. (of_index.part good at x n (n + 1) (beside_put n out) (omega arith)).each (own.vdr + n) (omega arith) (omega arith);
+      same = λ n lt out. (of_index.part good at x n (n + 1) (grind (arith, out)) (omega arith)).each (own.vdr + n) (omega arith) (omega arith);
     };
     stay = record {
       cdr = stand 8 (is_a-in b (shape b).records cdr_type 8 sound.has_shape.cdr_stands) (cdr_kept sound x.edit x.file_clear);
@@ -122,19 +89,31 @@ goes_written {b = b} {now = now} {kind = kind} {own = own} good at w short =
     keeps_stood b now m (unused_stands good at w m (linkable-in b (shape b).records uir_type m ok) (linkable-type b (shape b).records uir_type m ok)) (Only links))
     (λ m i typed out. keeps_stood b now m (unused_stands good at w m i typed) (Only []))
 
+-- VXRtail stays
+pub tail_written : {b now : List ℕ} {kind : Kind} {before : List VariableShape} {own : VariableShape} {after : List VariableShape} {ts : List Touch} (good : Good b) (at : StandsAmong b kind before own after) → WritesRecords b now kind own ts → number now own.vdr vdr_vxr_tail ≡ number b own.vdr vdr_vxr_tail
+tail_written {b = b} {now = now} {own = own} good at w = word_kept b now (own.vdr + 28) (own.vdr + 44) (part good at w 28 44 (inr (omega arith)) (let n = long good at in omega arith)) (own.vdr + 36) 8 (omega arith) (omega arith)
+
 -- where nothing is written
+pub writes_nothing : {b : List ℕ} {kind : Kind} {before : List VariableShape} {own : VariableShape} {after : List VariableShape} → Good b → StandsAmong b kind before own after → WritesRecords b b kind own []
+writes_nothing good at = record { changed = record { longer = omega arith; same = λ place l o. refl }; as_long = refl; in_blocks = tt; max_rec_ruled = (own_rules good at).0.1.1.1.1.1.1.1.0 }
+
 pub goes_nowhere : {b : List ℕ} {kind : Kind} {before : List VariableShape} {own : VariableShape} {after : List VariableShape} → Good b → StandsAmong b kind before own after → length b ≤ image_limit → GoesOn b b kind before own own after []
-goes_nowhere {b = b} {kind = kind} {own = own} good at short = goes_written good at nothing short
-  where
-    nothing : WritesRecords b b kind own []
-    nothing = record { changed = record { longer = omega arith; same = λ place l o. refl }; as_long = refl; in_blocks = tt; max_rec_ruled = (own_rules good at).0.1.1.1.1.1.1.1.0 }
+goes_nowhere good at short = goes_written good at (writes_nothing good at) short
 
 -- ---- two steps are one
 
--- in a data set the variables of a kind are others, and then others again
-with_twice : (d : DataSet) (kind : Kind) (vs : List Variable) → ((ws : List Variable) → with_variables (with_variables d kind vs) kind ws ≡ with_variables d kind ws) × (variables_of (with_variables d kind vs) kind ≡ vs)
-with_twice d R vs = ((λ ws. refl), refl)
-with_twice d Z vs = ((λ ws. refl), refl)
+set_twice : {A : Type 0} (xs : List A) (n : ℕ) (x y : A) → slice_set (slice_set xs n x) n y ≡ slice_set xs n y
+set_twice [] n x y = refl
+set_twice (z ∷ zs) zero x y = refl
+set_twice (z ∷ zs) (suc n) x y = ap (λ ws. z ∷ ws) (set_twice zs n x y)
+
+-- in a data set a variable is another, and then another again
+abbrev with_set : DataSet → Kind → ℕ → Variable → DataSet
+with_set d kind n v = with_variables d kind (slice_set (variables_of d kind) n v)
+
+with_twice : (d : DataSet) (kind : Kind) (n : ℕ) (v v' : Variable) → with_set (with_set d kind n v) kind n v' ≡ with_set d kind n v'
+with_twice d R n v v' = ap (with_variables d R) (set_twice d.r_variables n v v')
+with_twice d Z n v v' = ap (with_variables d Z) (set_twice d.z_variables n v v')
 
 stood_then : {b mid now : List ℕ} (m : ℕ) → Stood b mid m → Stood mid now m → Stood b now m
 stood_then {b = b} {mid = mid} {now = now} m x y = record { stands = y.stands; whole = kept_then b mid now m x.whole y.whole }
@@ -173,17 +152,7 @@ module _ {b mid now : List ℕ} {kind : Kind} {before : List VariableShape} {own
       ]
 
   content_then : content now ≡ with_variables (content b) kind (slice_set (variables_of (content b) kind) (length before) (variable_of now own''))
-  content_then =
-      let n = length before in
-      let v = variable_of mid own' in
-      let v' = variable_of now own'' in
-      let vs = slice_set (variables_of (content b) kind) n v in
-      let with_vs = with_twice (content b) kind vs in
-      second.content_is
-      ∙ ap (λ (e : DataSet). with_variables e kind (slice_set (variables_of e kind) n v')) first.content_is
-      ∙ with_vs.0 (slice_set (variables_of (with_variables (content b) kind vs) kind) n v')
-      ∙ ap (λ (ws : List Variable). with_variables (content b) kind (slice_set ws n v')) (with_vs.1 ∙ set_is good at v)
-      ∙ ap (with_variables (content b) kind) (set_at (map (variable_of b) before) v (map (variable_of b) after) v' n (length-map before (variable_of b)) ∙ sym (set_is good at v'))
+  content_then = second.content_is ∙ ap (λ (d : DataSet). with_set d kind (length before) (variable_of now own'')) first.content_is ∙ with_twice (content b) kind (length before) (variable_of mid own') (variable_of now own'')
 
   file_then : FileSame b now
   file_then =
