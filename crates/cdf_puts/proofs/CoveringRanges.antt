@@ -1,9 +1,9 @@
 -- Records that get a block one after the other: by their ranges, in the room of a put, which is enough for them, and in an index.
-use Rattle.cdf_puts.proofs.Common.{Ahead, Ascending, Counted, Covering, Entries, InOrder, Leaf, List, Nodes, None, Option, Range, Some, Variable, [], ap, ap₂, arith, block, block_bytes, block_count, blocks_room, cases_eq, cases_lt, count_upto, cover, covered, covers, covers_within, either, entries_below, entries_in, entry_count, entry_firsts, extent, false, filter, find, find_covering, first_written, firsts_of, fold, inl, inr, is_sparse, le-ltb, leaf, leaves_more, leaves_of, length, length-append, lower, lt-ltb, ltb, map, max, min, nat_tests, new_last, new_range, new_room, next_first, no_entry, no_node, node, node_bytes, option_map, order_with_leaf, put_room, quotient_up, range, ranges_after_put, ranges_new, ranges_of, record_length, record_number_limit, refl, shared, subst, suc, sum_by-cons, sym, times_le, true, uncovered, unwrap_or, vxr_bytes, widest, with_leaf, with_range, zero, ℕ, ◌*◌, ◌+◌, ◌-◌, ◌<◌, ◌∙◌, ◌∷◌, ◌≡◌, ◌≤◌, ◌⊎◌}
+use Rattle.cdf_puts.proofs.Common.{Ahead, Ascending, Counted, Covering, Entries, InOrder, Leaf, List, Nodes, None, Option, Range, Some, Variable, [], ap, ap₂, arith, block, block_bytes, block_count, blocks_room, cases_eq, cases_lt, count_upto, cover, covered, covers, covers_within, either, entries_below, entries_in, entry_count, entry_firsts, extent, false, filter, find, find_covering, first_written, firsts_of, fold, inl, inr, is_sparse, le-ltb, leaf, leaves_more, leaves_of, length, length-append, lower, lt-ltb, ltb, map, max, min, nat_tests, new_last, new_range, new_room, next_first, no_entry, no_node, node, node_bytes, option_map, order_with_leaf, put_room, quotient_up, range, ranges_after_put, ranges_new, ranges_of, record_length, record_number_limit, refl, shared, subst, suc, sum_by-cons, sym, times_le, true, uncovered, unwrap_or, vxr_bytes, widest, with_leaf, with_range, zero, ℕ, ◌*◌, ◌+◌, ◌-◌, ◌<◌, ◌∙◌, ◌∷◌, ◌≡◌, ◌≤◌, ◌⊎◌, by_leaf}
 use Rattle.cdf_index.proofs.LeafRules.{least_below}
 use Rattle.cdf_index.proofs.LeavesAscend.{leaves_ascend}
 use Rattle.cdf_edits.proofs.Edits.LeafPieces.{found_in}
-use Rattle.cdf_puts.proofs.LeafCounts.{next_firsts_with_leaf, widest_with_leaf}
+use Rattle.cdf_puts.proofs.LeafCounts.{next_firsts_with_leaf, wide_grows}
 use Rattle.cdf_index.specs.Next.{least_first_past, number_within}
 
 abbrev pub of_leaves : List Leaf → List Range
@@ -31,15 +31,9 @@ least_past k i (f ∷ fs) lt = grind (arith, nat_tests, least_past k (min i f) f
 pub next_past : (k : ℕ) (fs : List ℕ) → k ≤ record_number_limit → k < next_first k fs
 next_past k fs le = least_past k (record_number_limit + 1) fs (omega arith)
 
-pub next_upto : (k : ℕ) (fs : List ℕ) → next_first k fs ≤ record_number_limit + 1
-next_upto k fs = least_below (record_number_limit + 1) (filter (ltb k) fs)
-
 -- the answer of a search, and one past the greatest number where there is none
-bound_of : (n : ℕ) → n ≤ record_number_limit + 1 → unwrap_or (number_within n) (record_number_limit + 1) ≡ n
-bound_of n l = grind (arith, nat_tests, l)
-
 pub bound_is : (index : Nodes) (k : ℕ) (next : Option ℕ) → next ≡ least_first_past k index → unwrap_or next (record_number_limit + 1) ≡ next_first k (firsts_of index)
-bound_is index k next e = ap (λ (o : Option ℕ). unwrap_or o (record_number_limit + 1)) e ∙ bound_of (next_first k (firsts_of index)) (next_upto k (firsts_of index))
+bound_is index k next e = grind (arith, nat_tests, e, least_below (record_number_limit + 1) (filter (ltb k) (firsts_of index)))
 
 -- a new block ends at its record, or where it is full, or before the next First
 pub one_alone : (v : Variable) (fs : List ℕ) (k : ℕ) → ltb k (extent v.max_rec) ≡ true → (new_range v fs k).last ≡ k
@@ -277,7 +271,7 @@ module _ {v : Variable} {index index' : Nodes} {n k taken : ℕ} (c : Covering v
       pub covering_leaf : Covering v index (with_leaf (leaf k (new_last v index' k) place false) at index') n (min (new_last v index' k + 1) (n + 1)) (taken + block_bytes v k (new_last v index' k) + node_bytes k index')
       covering_leaf =
           let ending = covering_ends in
-          let wide = widest_with_leaf new at index' narrow in
+          let wide = by_leaf (wide_grows new at) index' in
           let bytes = bytes' in
           let enough = in_room in
           record {

@@ -1,9 +1,9 @@
 -- A leaf that is added, as one edit: its block is taken and written, then a node where one is needed, and then the entries are. It leads from one good image to another.
-use Rattle.cdf_puts.proofs.Common.{Act, ActsFollow, Avoids-append, Away-append, BlocksGoOn, Counts, Each, Each-append, Each-in, Each-map, Edit, Entries, Exchanged, FileSame, GoesOn, Good, Hold, Hold-split, In, In-append, In-append_left, In-append_right, InOrder, IndexTests, IndexTouch, IsBlockBody, IsChain, IsOneOf, IsSound, IsVacant, Kept, Kind, Leaf, LeafAdded, List, Mark, Marked, Misses, NewIndex, NodeFits, NodeStands, NodeTaken, Nodes, Only, R, Same, Same-part, Shape, StandsAmong, Touch, VariableShape, Within-append, Z, [], all_unmarked-away, ap, apart, append-nil, arith, avoided, away-avoids, away-within, before_limit, behind_in, block, block_behind, both, byte, chain_stays, changed_edit, count_is, drop, drop-drop, drop-take, each, each_of, edit_then, eof, false, field, file_same, firsts_of, fits, flat_map, gdr_eof, gdr_field, gdr_in, gdr_type, gdr_typed, gdr_uir_head, good_is_sound, has, head_size, head_type, if◌then◌else◌, image_limit, in_nodes_with_leaf, index_marks, index_order, index_rules_with_leaf, index_unmarked, inl, inr, is_compressed, is_in, is_in-false, is_taken_at, keeps_away, keeps_fields, keeps_file, keeps_within, kept, kept_away, le_of, leaf_acts, leaves_of, length, linkable-in, linkable-type, long, lower, lower_nodes, max, max_rec_kept, nat_le, negsuc, new_room, no_entry, no_node, node, node_acts, node_behind, node_room, node_stays, nodes_of, nodes_stand, nodes_with_leaf, number, number_before, number_kept, of_le, own_rules, piece_kept, place_in, placed_grows, plain_leaf, pos, r_max_rec, r_max_rec_field, read_types, record_alike, record_bytes, record_number_limit, refl, room_at, same-then, shape, signed_limit, size_at, size_kept, some_bytes, space_fields, subst, suc, sym, take, take-take, the_one, tile, tile_lies, times, times-append, true, type_at, type_in, type_kept, type_of_body, typed, uir_type, unmarked-away, variable_types, variables_chain, vdr_alike, vdr_max_rec, vdr_of_variable, vvr_type, vxr_bytes, vxr_n_entries, vxr_n_used_entries, vxr_type, with_leaf, with_sign, word, zero, ℕ, ℤ, ◌&&◌, ◌*◌, ◌++◌, ◌+◌, ◌-◌, ◌<◌, ◌==◌, ◌∙◌, ◌∷◌, ◌≡◌, ◌≢◌, ◌≤◌, taken_places, is_in-true, get_or-drop, get_or-take}
+use Rattle.cdf_puts.proofs.Common.{Act, ActsFollow, Avoids-append, Away-append, BlocksGoOn, Counts, Each, Each-append, Each-in, Each-map, Edit, Entries, Exchanged, FileSame, GoesOn, Good, Hold, Hold-split, In, In-append, In-append_left, In-append_right, InOrder, IndexTests, IndexTouch, IsBlockBody, IsChain, IsOneOf, IsSound, IsVacant, Kept, Kind, Leaf, LeafAdded, List, Mark, Marked, Misses, NewIndex, NodeFits, NodeStands, NodeTaken, Nodes, Only, R, Same, Same-part, Shape, StandsAmong, Touch, VariableShape, Within-append, Z, [], all_unmarked-away, ap, apart, append-nil, arith, avoided, away-avoids, away-within, before_limit, behind_in, block, block_behind, both, byte, chain_stays, changed_edit, count_is, drop, drop-drop, drop-take, each, each_of, edit_then, eof, false, field, file_same, firsts_of, fits, flat_map, gdr_eof, gdr_field, gdr_in, gdr_type, gdr_typed, gdr_uir_head, good_is_sound, has, head_size, head_type, if◌then◌else◌, image_limit, in_nodes_with_leaf, index_marks, index_order, index_rules_with_leaf, index_unmarked, inl, inr, is_compressed, is_in, is_in-false, is_taken_at, keeps_away, keeps_fields, keeps_file, keeps_within, kept, kept_away, le_of, leaf_acts, leaves_of, length, linkable-in, linkable-type, long, lower, lower_nodes, max, max_rec_kept, nat_le, negsuc, new_room, no_entry, no_node, node, node_acts, node_behind, node_room, node_stays, nodes_of, nodes_stand, nodes_with_leaf, number, number_before, number_kept, of_le, own_rules, piece_kept, place_in, placed_grows, plain_leaf, pos, r_max_rec, r_max_rec_field, read_types, record_alike, record_bytes, record_number_limit, refl, room_at, same-then, shape, signed_limit, size_at, size_kept, some_bytes, space_fields, subst, suc, sym, take, take-take, the_one, tile, tile_lies, times, times-append, true, type_at, type_in, type_kept, type_of_body, typed, uir_type, unmarked-away, variable_types, variables_chain, vdr_alike, vdr_max_rec, vdr_of_variable, vvr_type, vxr_bytes, vxr_n_entries, vxr_n_used_entries, vxr_type, with_leaf, with_sign, word, zero, ℕ, ℤ, ◌&&◌, ◌*◌, ◌++◌, ◌+◌, ◌-◌, ◌<◌, ◌==◌, ◌∙◌, ◌∷◌, ◌≡◌, ◌≢◌, ◌≤◌, taken_places, is_in-true, get_or-drop, get_or-take, places_of, leaves_more}
 use Rattle.cdf_edits.proofs.Edits.MadeRecord.{place_in as placed_in, filled_size}
 use Rattle.cdf_edits.proofs.Edits.TakenAll.{TakenAll, none_taken, taken_then, taking_all, listed_free, unlisted_away}
 use Rattle.cdf_index.specs.Replacing.{with_index}
-use Rattle.cdf_puts.proofs.LeafCounts.{room_stays, places_with_leaf, leaf_was_there}
+use Rattle.cdf_puts.proofs.LeafCounts.{room_stays, places_new, leaf_was_there}
 use Rattle.cdf_puts.proofs.RaisedGoes.{behind_no_vdr}
 use Rattle.cdf_edits.proofs.Edits.Composing.{part as changed_missed}
 use Rattle.cdf_format.proofs.Pieces.{word_of_piece_lem}
@@ -23,20 +23,12 @@ use Rattle.cdf_puts.proofs.PutBytes.{put_there}
 abbrev pub new_nodes : ℕ → ℕ → List ℕ
 new_nodes room at = taken_places (node_acts room at)
 
--- nodes are written from the link to the next one on
-abbrev pub entry_marks : Kind → ℕ → List ℕ → ℕ → List Mark
-entry_marks kind v nodes most = index_marks kind v nodes (field 12 most)
-
--- all of them
-abbrev pub leaf_marks : Kind → ℕ → List ℕ → List ℕ → List ℕ → ℕ → ℕ → List Mark
-leaf_marks kind v unused places nodes enough most = taking_all unused places enough ++ entry_marks kind v nodes most
-
--- which records they leave by their types alone
-leaf_tests : (kind : Kind) (v : ℕ) (unused places nodes : List ℕ) (enough most : ℕ) → IndexTests kind (r_max_rec_field kind ++ space_fields) (leaf_marks kind v unused places nodes enough most)
+-- nodes are written from the link to the next one on: which records the marks leave by their types alone
+leaf_tests : (kind : Kind) (v : ℕ) (unused places nodes : List ℕ) (enough most : ℕ) → IndexTests kind (r_max_rec_field kind ++ space_fields) (taking_all unused places enough ++ index_marks kind v nodes (field 12 most))
 leaf_tests R v unused places nodes enough most = search rules
 leaf_tests Z v unused places nodes enough most = search rules
 
-entries_clear : (kind : Kind) (v : ℕ) (nodes : List ℕ) (most : ℕ) → (keeps_file (entry_marks kind v nodes most) ≡ true) × (avoided (entry_marks kind v nodes most) gdr_type 36 44 ≡ true) × (avoided (entry_marks kind v nodes most) gdr_type 64 72 ≡ true)
+entries_clear : (kind : Kind) (v : ℕ) (nodes : List ℕ) (most : ℕ) → (keeps_file (index_marks kind v nodes (field 12 most)) ≡ true) × (avoided (index_marks kind v nodes (field 12 most)) gdr_type 36 44 ≡ true) × (avoided (index_marks kind v nodes (field 12 most)) gdr_type 64 72 ≡ true)
 entries_clear R v nodes most = (refl, refl, refl)
 entries_clear Z v nodes most = (refl, refl, refl)
 
@@ -52,9 +44,6 @@ node_stands {now = now} (suc room) at m sound taken i = subst (NodeStands now (s
 
 is_new_node : (room at : ℕ) → 0 < room → In at (new_nodes room at)
 is_new_node room at some = grind (arith, some)
-
-pub block_taken : (place need room at : ℕ) → is_taken_at (leaf_acts place need room at) place ≡ true
-block_taken place need room at = is_in-true place (place ∷ new_nodes room at) (inl refl)
 
 pub node_taken : (place need room at : ℕ) → 1 ≤ room → is_taken_at (leaf_acts place need room at) at ≡ true
 node_taken place need room at some = is_in-true at (place ∷ new_nodes room at) (inr (is_new_node room at some))
@@ -122,7 +111,7 @@ module _ {b now : List ℕ} {kind : Kind} {before : List VariableShape} {own : V
   space = taking_all s.unused reborn enough
 
   abbrev entries : List Mark
-  entries = entry_marks kind own.vdr all_nodes (length w.roomy)
+  entries = index_marks kind own.vdr all_nodes (field 12 (length w.roomy))
 
   abbrev step : List Act
   step = leaf_acts new.place (8 + length body) room at
@@ -266,9 +255,6 @@ module _ {b now : List ℕ} {kind : Kind} {before : List VariableShape} {own : V
   records_are : (shape now).records ≡ records'
   records_are = of_own.records_are good among (own_edit good among new_index)
 
-  leaf_follows : ActsFollow b now step
-  leaf_follows = acts_still_by taking.grows.sound taking.follow entries_written (index_unmarked kind own.vdr all_nodes (field 12 (length w.roomy))) records_are (of_own.unused_are good among (own_edit good among new_index)) w.as_long
-
   pub leaf_max_rec : number now own.vdr vdr_max_rec ≡ number b own.vdr vdr_max_rec
   leaf_max_rec = max_rec_kept good among new_index
 
@@ -372,7 +358,7 @@ module _ {b now : List ℕ} {kind : Kind} {before : List VariableShape} {own : V
       exchanged = record {
         are_reborn = λ m i. inl i;
         reborn_are = λ m i. elim i [ inl j ↦ j | inr none ↦ absurd none ];
-        times_are = λ m. omega (arith, nodes_with_leaf new at m own.index, new_times room at m, places_with_leaf new at 0 record_number_limit own.index order m, times-append m (new.place ∷ []) (new_nodes room at));
+        times_are = λ m. omega (arith, nodes_with_leaf new at m own.index, new_times room at m, ap (λ (xs : List Leaf). times m (places_of xs)) (leaves_more new at 0 record_number_limit own.index order) ∙ places_new m new (leaves_of own.index), times-append m (new.place ∷ []) (new_nodes room at));
         fresh = taking.fresh_all;
         taken_once = taking.once;
         in_use = λ m i u. let x = taken_used m i in x.1 (sym (head_kept m x.0 x.1).0 ∙ u);
@@ -394,7 +380,7 @@ module _ {b now : List ℕ} {kind : Kind} {before : List VariableShape} {own : V
 
       pub leaf_goes_on : GoesOn b now kind before own (with_index own (with_leaf new at own.index)) after step
       leaf_goes_on =
-          goes_by good among (index_edit good among new_index) good_now leaf_follows (keeps_fields sound edit records_are s.gdr gdr_type (r_max_rec_field kind ++ space_fields) (gdr_in b s sound.has_shape) (gdr_typed b s sound.has_shape) tests.heads_clear tests.inside)
+          goes_by good among (index_edit good among new_index) good_now (acts_still_by taking.grows.sound taking.follow entries_written (index_unmarked kind own.vdr all_nodes (field 12 (length w.roomy))) records_are (of_own.unused_are good among (own_edit good among new_index)) w.as_long) (keeps_fields sound edit records_are s.gdr gdr_type (r_max_rec_field kind ++ space_fields) (gdr_in b s sound.has_shape) (gdr_typed b s sound.has_shape) tests.heads_clear tests.inside)
           (λ m i free.
           let ok = sound.has_shape.unused_chain.linkable m i in
           let inside = linkable-in b s.records uir_type m ok in
