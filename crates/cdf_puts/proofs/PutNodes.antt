@@ -1,7 +1,7 @@
 -- The nodes of an index that grows leaf by leaf: the index but for where its blocks and its new nodes stand, its top chain, and the unused entries and spare bytes of its nodes.
 use Rattle.cdf_puts.proofs.Common.{Act, Bool, Each, Each-in, Entries, EntryIs, Gave, Grows, HasNodes, In, In-append, Kept, Leaf, List, Names, NodeFits, NodeSpareStays, Nodes, NodesFollow, Range, Same, Same-part, SaysEntry, Took, TopGrows, UnusedEntries, [], ap, arith, block, by_leaf, cases_lt, chain_reaches, each, either, entries_outline, entry_count, eqb, false, first_at, if◌then◌else◌, indexes_with, inl, inr, is_in, is_in-true, is_taken_at, last_at, leads_down, leaf, length, list_any, lower, lower_nodes, no_entry, no_node, node, nodes_of, offset_at, outline, past, reaches, refl, room_at, same-then, same_of_bytes_eq, size_at, suc, sym, true, true-is_in, upto, used_count, uses_entry, uses_entry_below, was_unused, with_both, with_entry, with_leaf, with_lower, with_ranges, zero, ℕ, ◌*◌, ◌++◌, ◌+◌, ◌<◌, ◌||◌, ◌∙◌, ◌∷◌, ◌≡◌, ◌≤◌, ◌⊎◌, Each-split, nat_tests}
 use Rattle.std.specs.Prelude.{bytes_eq}
-use Rattle.cdf_edits.proofs.Frame.LinksStay.{SameHeads, room_same, used_same, entry_same}
+use Rattle.cdf_index.proofs.OneNode.{same_node}
 
 -- ---- an outline says the same of an index as the index does
 
@@ -167,27 +167,19 @@ says_then : (b mid now : List ℕ) (m i : ℕ) (w : Bool) → SaysEntry now m i 
 says_then b mid now m i w s e = grind (arith, s.first_is, s.last_is, s.offset_is, e)
 
 -- and what follows its entries
-spare_then : (b mid now : List ℕ) (acts : List Act) (m : ℕ) → room_at now m ≡ room_at mid m → size_at mid m ≡ size_at b m → Same mid now (m + (28 + 16 * room_at mid m)) (m + size_at mid m) → NodeSpareStays b mid acts m → NodeSpareStays b now acts m
-spare_then b mid now acts m room size same was e = rw room (same-then b mid now (m + (28 + 16 * room_at mid m)) (m + size_at b m) (was e) (rw size at same))
+spare_then : (b mid now : List ℕ) (acts : List Act) (m : ℕ) → room_at now m ≡ room_at mid m → (is_taken_at acts m ≡ false → size_at mid m ≡ size_at b m) → Same mid now (m + (28 + 16 * room_at mid m)) (m + size_at mid m) → NodeSpareStays b mid acts m → NodeSpareStays b now acts m
+spare_then b mid now acts m room size same was e = rw room (same-then b mid now (m + (28 + 16 * room_at mid m)) (m + size_at b m) (was e) (rw (size e) at same))
 
 -- none of them changes
 pub nodes_same : (b mid now : List ℕ) (through : List Nodes) (before after : List ℕ) (acts : List Act) → ((m : ℕ) → In m after → NodeFits mid m) → ((m : ℕ) → In m after → Kept mid now m) → ((m : ℕ) → In m after → is_taken_at acts m ≡ false → size_at mid m ≡ size_at b m)
     → NodesFollow b mid through before after acts → NodesFollow b now through before after acts
-nodes_same b mid now through before after acts fit kept sizes f =
-    let heads : SameHeads mid now [] [] = record { sizes = λ m i. absurd i; types = λ m i. absurd i; sub = λ m i. i } in
-    let rooms = λ (m : ℕ) (j : In m after). room_same mid now [] [] heads m (kept m j) (fit m j) in
-    record {
-      unused = each (UnusedEntries b now through before acts) after (λ m j i from upto.
-          let used = used_same mid now [] [] heads m (kept m j) (fit m j) in
-          let room = rooms m j in
-          let lt : i < room_at mid m = omega arith in
-          let says = entry_same mid now [] [] heads m (kept m j) (fit m j) i _ _ _ lt (record { first_is = refl; last_is = refl; offset_is = refl }) in
-          elim (Each-in (UnusedEntries b mid through before acts) after f.unused m j i (omega arith) lt) [ inl e ↦ inl (says_then b mid now m i (was_unused b before acts m i) says e) | inr e ↦ inr (e.0, says_then b mid now m i false says e.1) ]);
-      spare = each (NodeSpareStays b now acts) after (λ m j e.
-          let k = (kept m j).same in
-          let fits = (fit m j).0 in
-          spare_then b mid now acts m (rooms m j) (sizes m j e) (Same-part mid now m (m + size_at mid m) _ _ k (omega arith) (omega arith)) (Each-in (NodeSpareStays b mid acts) after f.spare m j) e);
-    }
+nodes_same b mid now through before after acts fit kept sizes f = record {
+  unused = each (UnusedEntries b now through before acts) after (λ m j i from upto.
+      let n = same_node mid now m (kept m j) (fit m j) in
+      let says = n.entries i (omega arith) _ _ _ (record { first_is = refl; last_is = refl; offset_is = refl }) in
+      elim (Each-in (UnusedEntries b mid through before acts) after f.unused m j i (omega arith) (omega arith)) [ inl e ↦ inl (says_then b mid now m i (was_unused b before acts m i) says e) | inr e ↦ inr (e.0, says_then b mid now m i false says e.1) ]);
+  spare = each (NodeSpareStays b now acts) after (λ m j. spare_then b mid now acts m (same_node mid now m (kept m j) (fit m j)).room_is (sizes m j) (Same-part mid now m (m + size_at mid m) _ _ (kept m j).same (omega arith) (omega arith)) (Each-in (NodeSpareStays b mid acts) after f.spare m j));
+}
 
 -- ---- a leaf is added
 
@@ -231,5 +223,5 @@ module _ (b mid now : List ℕ) (through through' : List Nodes) (before after : 
     spare = each (NodeSpareStays b now (acts ++ acts')) after (λ m k e.
         let out = neither_taken acts acts' m e in
         let j = unless_true (step.come m k) out.1 in
-        spare_then b mid now acts m (step.rooms m j) (sizes m (unless_true (come m j) out.0)) (step.spare m j) (Each-in (NodeSpareStays b mid acts) (nodes_of index) f.spare m j) out.0);
+        spare_then b mid now acts m (step.rooms m j) (λ e. sizes m (unless_true (come m j) e)) (step.spare m j) (Each-in (NodeSpareStays b mid acts) (nodes_of index) f.spare m j) out.0);
   }
