@@ -35,16 +35,12 @@ module _ (news : List ℕ) where
 
   -- ---- a leaf more
 
-  outline_with_entry : (new : Leaf) (at place room : ℕ) (es : Entries) (more : Nodes) → with_entry (bare new) (place_outside news at) (place_outside news place) room (entries_outline news es) (outline news more) ≡ outline news (with_entry new at place room es more)
-  unfolding outline
-  outline_with_entry new at place room es more = let a = alike new es in grind (arith, a.count, a.before, a.behind, (alike new (past new.first es)).count, (alike new (upto new es)).joined (past new.first es))
-
   mutual
     unfolding outline with_leaf with_lower
 
     outline_with_leaf : (new : Leaf) (at : ℕ) (index : Nodes) → with_leaf (bare new) (place_outside news at) (outline news index) ≡ outline news (with_leaf new at index)
     outline_with_leaf new at no_node = refl
-    outline_with_leaf new at (node place room es more) = grind (arith, chain_outline new more, (alike new es).lead false, outline_with_leaf new at more, outline_with_lower new at es, outline_with_entry new at place room es more)
+    outline_with_leaf new at (node place room es more) = grind (arith, chain_outline new more, (alike new es).lead false, outline_with_leaf new at more, outline_with_lower new at es, (alike new es).count, (alike new es).before, (alike new es).behind, (alike new (past new.first es)).count, (alike new (upto new es)).joined (past new.first es))
 
     outline_with_lower : (new : Leaf) (at : ℕ) (es : Entries) → with_lower (bare new) (place_outside news at) (entries_outline news es) ≡ entries_outline news (with_lower new at es)
     outline_with_lower new at no_entry = refl
