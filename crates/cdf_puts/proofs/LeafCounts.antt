@@ -71,9 +71,6 @@ leaf_was_there new at low high index o l i = (one_new new l (leaves_of index)).0
 
 -- ---- how wide the nodes are
 
-past_few : (f : ℕ) (es : Entries) → entry_count (past f es) ≤ entry_count es
-past_few f es = omega (arith, count_both (front f es) (past f es), ap entry_count (front_past f es))
-
 -- a new node has no more entries than the widest, in each image that is sound
 mutual
   unfolding new_room new_room_below widest widest_below HasNodes Names nodes_of lower_nodes
@@ -83,7 +80,7 @@ mutual
   new_room_widest b records zero f (node place room es more) h fit = absurd h
   new_room_widest b records (suc levels) f (node place room es more) h fit =
       let p = Each-split (NodeFits b) (lower_nodes es) (nodes_of more) fit.1 in
-      grind (arith, nat_tests, fit.0.1, h.0.used_is, h.0.room_is, past_few f es, new_below_widest b records levels f es h.1 p.0, new_room_widest b records (suc levels) f more h.2 p.1, seven_at_least more)
+      grind (arith, nat_tests, fit.0.1, h.0.used_is, h.0.room_is, count_both (front f es) (past f es), ap entry_count (front_past f es), new_below_widest b records levels f es h.1 p.0, new_room_widest b records (suc levels) f more h.2 p.1, seven_at_least more)
 
   new_below_widest : (b records : List ℕ) (levels f : ℕ) (es : Entries) → Names b records levels es → Each (NodeFits b) (lower_nodes es) → new_room_below f es ≤ widest_below es
   new_below_widest b records levels f no_entry h fit = omega arith

@@ -167,8 +167,8 @@ module _ {b now : List ℕ} {kind : Kind} {before : List VariableShape} {own : V
   touch_marked t (inl x) =
       let k = kept_away taking.grows.edit own.vdr (type_in (variables_chain kind)) (tile good among) (typed good among) (all_unmarked-away space variable_types (type_in (variables_chain kind)) own.vdr refl (vdr_of_variable kind)) in
       let size = size_kept b w.roomy own.vdr k.same (omega (arith, k.long)) in
-      let covered = inl (record { typed = type_kept b w.roomy own.vdr k.same k.long ∙ typed good among; lies = inl refl; low = x.1; high = x.2 }) in
-      subst (λ (m : ℕ). Marked w.roomy records' entries [] (record t { tile = m })) (sym x.0) (marked (record t { tile = own.vdr }) (taking.grows.edit.sub own.vdr (tile good among)) (omega (arith, size, long good among)) (omega arith) covered)
+      subst (λ (m : ℕ). Marked w.roomy records' entries [] (record t { tile = m })) (sym x.0)
+      (marked (record t { tile = own.vdr }) (taking.grows.edit.sub own.vdr (tile good among)) (omega (arith, size, long good among)) (omega arith) (inl (record { typed = type_kept b w.roomy own.vdr k.same k.long ∙ typed good among; lies = inl refl; low = x.1; high = x.2 })))
   touch_marked t (inr x) =
       let n = node_touched t x.1 in
       let m = node_there t.tile n.0 in
