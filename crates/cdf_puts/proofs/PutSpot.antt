@@ -9,15 +9,12 @@ use Rattle.cdf_puts.proofs.IndexWritten.{blocks_written, index_written, max_rec_
 use Rattle.cdf_puts.proofs.PutRoom.{taken_sum, takes_both, leaf_bytes, longer_by}
 use Rattle.cdf_puts.proofs.SoFarStarts.{starts_upto, index_start, blocks_start}
 use Rattle.cdf_leaves.proofs.Own.{among_all, searchable}
-use Rattle.cdf_puts.proofs.PutBytes.{size_now}
+use Rattle.cdf_puts.proofs.PutBytes.{found_covering, size_now, whole}
 use Rattle.cdf_base.specs.Bytes.{put as put_at}
 use Rattle.cdf_format.specs.Index.{Leaf as TreeLeaf}
-use Rattle.cdf_format.proofs.GoodImageLemmas.{good_image}
 use Rattle.cdf_index.specs.Reading.{HoldsRecords}
 use Rattle.cdf_index.specs.Sight.{seen}
 use Rattle.cdf_index.specs.declared.nodes.Leaf.{Leaf}
-use Rattle.cdf_index.proofs.GoodBlock.{good_block}
-use Rattle.cdf_index.proofs.PlainBlocks.{plain_block}
 use Rattle.cdf_puts.specs.declared.putting.NewRecord.{NewRecord}
 
 pub one_more : (raw pad : List ℕ) (r count k : ℕ) → records_put raw pad r (count + 1) k ≡ records_put raw pad r count k ++ record_put raw pad r (k + count)
@@ -171,10 +168,9 @@ module _ {b now : List ℕ} {kind : Kind} {before : List VariableShape} {own : V
 
       pub held : HoldsRecords now l (record_bytes now own'.vdr) × (l.first ≤ k) × (k ≤ l.last)
       held =
-          let g = among_all now kind before own' after so.goes.among.was in
-          let image = good_image now (shape now) (good_by_its_shape now so.goes.good) in
-          let sound = good_is_sound now so.goes.good in
-          good_block now (shape now) g.front own' g.rest image sound g.all k l here (plain_block now (shape now) g.front own' g.rest image sound g.all k (seen l) here)
+          let one = found_covering k (leaves_of own'.index) (seen l) here in
+          let x = whole so.goes.good so.goes.among (seen l) one.0 in
+          (record { plain = x.leaf.plain; ordered = x.leaf.ordered; small = x.leaf.small; inside = omega (arith, x.leaf.room, x.inside) }, one.1.0, one.1.1)
 
       module _ (n : ℕ) (n_is : n ≡ length new.raw.items) where
         sized : record_bytes now own'.vdr ≡ n
