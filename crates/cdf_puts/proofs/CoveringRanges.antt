@@ -187,7 +187,6 @@ module _ {v : Variable} {index index' : Nodes} {n k taken : ℕ} (c : Covering v
   covering_has l e =
       let is = found_in (λ (leaf : Leaf). covers k (range leaf.first leaf.last)) (leaves_of index') l e in
       let has = covers_within k l is.1 in
-      let blocks = so_far.blocks_are in
       let passed = times_le (count_upto k fs) (count_upto (k + 1) fs) (block_count v) (count_more k (k + 1) fs (omega arith)) in
       let rng = λ (leaf : Leaf). range leaf.first leaf.last in
       record {
@@ -198,7 +197,7 @@ module _ {v : Variable} {index index' : Nodes} {n k taken : ℕ} (c : Covering v
         nexts = λ m lm. c.nexts m (omega arith);
         as_wide = c.as_wide;
         fits = c.fits;
-        counted = λ more. record { records = so_far.records; blocks = so_far.blocks; records_are = so_far.records_are; blocks_are = omega arith; bytes_are = so_far.bytes_are };
+        counted = λ more. record { records = so_far.records; blocks = so_far.blocks; records_are = so_far.records_are; blocks_are = omega (arith, so_far.blocks_are); bytes_are = so_far.bytes_are };
       }
 
   -- one that has none gets a block that ends here
@@ -214,11 +213,7 @@ module _ {v : Variable} {index index' : Nodes} {n k taken : ℕ} (c : Covering v
 
     -- of those that had no block, one at least has none yet
     one_left : so_far.records + 1 ≤ uncovered v index n
-    one_left =
-        let fewer = covered_less (first_written v n) n k 0 (suc record_number_limit) (leaves_of index') ascends c.from (omega arith) le none in
-        let are = so_far.records_are in
-        let all : uncovered v index n ≡ (n + 1 - first_written v n) - covered (first_written v n) n (ranges_of index) = rw rule refl in
-        omega arith
+    one_left = grind (arith, nat_tests, rule, covered_less (first_written v n) n k 0 (suc record_number_limit) (leaves_of index') ascends c.from (omega arith) le none, so_far.records_are)
 
     in_room : (so_far.records + (last + 1 - k)) * record_length v + suc so_far.blocks * (28 + vxr_bytes (widest index)) ≤ put_room v index n
     in_room = omega (arith, room_enough v index so_far.records (last + 1 - k) so_far.blocks (count_upto k fs) (uncovered v index n) one_left covering_ends.2 so_far.blocks_are (omega (arith, count_most k fs, firsts_count index)))

@@ -295,7 +295,7 @@ module _ {b now : List ℕ} {kind : Kind} {before : List VariableShape} {own : V
       spare = λ i l lt.
           let e = block_size in
           let behind : new.place + i ≡ new.place + 8 + (i - 8) = omega arith in
-          ap (byte now) behind ∙ sym (get_or-drop (new.place + 8) now (i - 8) 0) ∙ sym (get_or-take (length body) (drop (new.place + 8) now) (i - 8) 0 (omega arith)) ∙ ap (λ (xs : List ℕ). byte xs (i - 8)) body_now ∙ says.spare (i - 8) (omega arith) (omega arith);
+          grind (arith, behind, get_or-drop (new.place + 8) now (i - 8) 0, get_or-take (length body) (drop (new.place + 8) now) (i - 8) 0 (omega arith), body_now, says.spare (i - 8) (omega arith) (omega arith));
     }
 
     module _ (loose : is_compressed b own.vdr ≡ false) (vacant : IsVacant own new.first new.last) (as_long : length records ≡ (new.last + 1 - new.first) * record_bytes b own.vdr) (short : length now ≤ image_limit) where
