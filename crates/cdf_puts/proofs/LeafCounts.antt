@@ -16,20 +16,14 @@ mutual
   unfolding weigh weigh_below HasNodes Names nodes_of lower_nodes
 
   rooms_in : (b records : List ℕ) (m r levels : ℕ) (nodes : Nodes) → HasNodes b records levels nodes → (In m (nodes_of nodes) → 1 ≤ weigh (with_room m (room_at b m)) nodes) × (1 ≤ weigh (with_room m r) nodes → room_at b m ≡ r)
-  rooms_in b records m r levels no_node h = (λ i. absurd i, λ l. absurd (omega arith))
+  rooms_in b records m r levels no_node h = grind arith
   rooms_in b records m r zero (node place room es more) h = absurd h
-  rooms_in b records m r (suc levels) (node place room es more) h =
-      let x = rooms_below b records m r levels es h.1 in
-      let y = rooms_in b records m r (suc levels) more h.2 in
-      (λ i. grind (arith, nat_tests, i, In-append m (lower_nodes es) (nodes_of more), h.0.room_is, x.0, y.0), λ l. grind (arith, nat_tests, l, h.0.room_is, x.1, y.1))
+  rooms_in b records m r (suc levels) (node place room es more) h = grind (arith, nat_tests, In-append m (lower_nodes es) (nodes_of more), h.0.room_is, rooms_below b records m r levels es h.1, rooms_in b records m r (suc levels) more h.2)
 
   rooms_below : (b records : List ℕ) (m r levels : ℕ) (es : Entries) → Names b records levels es → (In m (lower_nodes es) → 1 ≤ weigh_below (with_room m (room_at b m)) es) × (1 ≤ weigh_below (with_room m r) es → room_at b m ≡ r)
-  rooms_below b records m r levels no_entry h = (λ i. absurd i, λ l. absurd (omega arith))
+  rooms_below b records m r levels no_entry h = grind arith
   rooms_below b records m r levels (block first last place packed es) h = rooms_below b records m r levels es h.2
-  rooms_below b records m r levels (lower first last nodes es) h =
-      let x = rooms_in b records m r levels nodes h.1 in
-      let y = rooms_below b records m r levels es h.2 in
-      (λ i. grind (arith, i, In-append m (nodes_of nodes) (lower_nodes es), x.0, y.0), λ l. grind (arith, l, x.1, y.1))
+  rooms_below b records m r levels (lower first last nodes es) h = grind (arith, In-append m (nodes_of nodes) (lower_nodes es), rooms_in b records m r levels nodes h.1, rooms_below b records m r levels es h.2)
 
 -- the room that it says in each of two images
 pub room_stays : (b now records records' : List ℕ) (levels levels' : ℕ) (new : Leaf) (at m : ℕ) (index : Nodes) → HasNodes b records levels index → HasNodes now records' levels' (with_leaf new at index) → In m (nodes_of index) → room_at now m ≡ room_at b m
