@@ -1,9 +1,9 @@
 -- Records that get a block one after the other: by their ranges, in the room of a put, which is enough for them, and in an index.
-use Rattle.cdf_puts.proofs.Common.{least_below, Ahead, Ascending, Counted, Covering, Entries, InOrder, Leaf, List, Nodes, None, Option, Range, Some, Variable, [], ap, ap₂, arith, block, block_bytes, block_count, blocks_room, cases_eq, cases_lt, count_upto, cover, covered, covers, covers_within, either, entries_below, entries_in, entry_count, entry_firsts, extent, false, filter, find, find_covering, first_written, firsts_of, fold, inl, inr, is_sparse, le-ltb, leaf, leaves_more, leaves_of, length, length-append, lower, lt-ltb, ltb, map, max, min, nat_tests, new_last, new_range, new_room, next_first, no_entry, no_node, node, node_bytes, option_map, order_with_leaf, put_room, quotient_up, range, ranges_after_put, ranges_new, ranges_of, record_length, record_number_limit, refl, shared, subst, suc, sum_by-cons, sym, times_le, true, uncovered, unwrap_or, vxr_bytes, widest, with_leaf, with_range, zero, ℕ, ◌*◌, ◌+◌, ◌-◌, ◌<◌, ◌∙◌, ◌∷◌, ◌≡◌, ◌≤◌, ◌⊎◌, by_leaf, transport}
+use Rattle.cdf_puts.proofs.Common.{least_below, Ahead, Ascending, Counted, Covering, Entries, InOrder, Leaf, List, Nodes, None, Option, Range, Some, Variable, [], ap, ap₂, arith, block, block_bytes, block_count, blocks_room, cases_eq, cases_lt, count_upto, cover, covered, covers, either, entries_below, entries_in, entry_count, entry_firsts, extent, false, filter, find, find_covering, first_written, firsts_of, fold, inl, inr, is_sparse, le-ltb, leaf, leaves_more, leaves_of, length, length-append, lower, lt-ltb, ltb, map, max, min, nat_tests, new_last, new_range, new_room, next_first, no_entry, no_node, node, node_bytes, option_map, order_with_leaf, put_room, quotient_up, range, ranges_after_put, ranges_new, ranges_of, record_length, record_number_limit, refl, shared, subst, suc, sum_by-cons, sym, times_le, true, uncovered, unwrap_or, vxr_bytes, widest, with_leaf, with_range, zero, ℕ, ◌*◌, ◌+◌, ◌-◌, ◌<◌, ◌∙◌, ◌∷◌, ◌≡◌, ◌≤◌, ◌⊎◌, by_leaf, transport}
 use Rattle.cdf_index.proofs.LeavesAscend.{leaves_ascend}
-use Rattle.cdf_edits.proofs.Edits.LeafPieces.{found_in}
+use Rattle.cdf_puts.proofs.PutBytes.{found_covering}
 use Rattle.cdf_puts.proofs.LeafCounts.{next_firsts_with_leaf, wide_grows}
-use Rattle.cdf_index.specs.Next.{least_first_past, number_within}
+use Rattle.cdf_index.specs.Next.{least_first_past}
 
 abbrev pub of_leaves : List Leaf → List Range
 of_leaves leaves = map (λ (leaf : Leaf). range leaf.first leaf.last) leaves
@@ -185,15 +185,14 @@ module _ {v : Variable} {index index' : Nodes} {n k taken : ℕ} (c : Covering v
   -- a record that has a block
   pub covering_has : (l : Leaf) → find (λ (leaf : Leaf). covers k (range leaf.first leaf.last)) (leaves_of index') ≡ Some l → Covering v index index' n (k + 1) taken
   covering_has l e =
-      let is = found_in (λ (leaf : Leaf). covers k (range leaf.first leaf.last)) (leaves_of index') l e in
-      let has = covers_within k l is.1 in
+      let is = found_covering k (leaves_of index') l e in
       let passed = times_le (count_upto k fs) (count_upto (k + 1) fs) (block_count v) (count_more k (k + 1) fs (omega arith)) in
       let rng = λ (leaf : Leaf). range leaf.first leaf.last in
       record {
         ordered = c.ordered;
         from = omega arith;
-        ahead = ahead_has c.ahead (rng l) le has.1 (find_range k (leaves_of index') ∙ ap (option_map rng) e) (λ j low high none.
-            let there : find (covers j) (ranges_of index') ≡ Some (rng l) = find_range j (leaves_of index') ∙ ap (option_map rng) (find_covering j 0 (suc record_number_limit) (leaves_of index') ascends l is.0 (omega arith) high) in cc);
+        ahead = ahead_has c.ahead (rng l) le is.1.1 (find_range k (leaves_of index') ∙ ap (option_map rng) e) (λ j low high none.
+            let there : find (covers j) (ranges_of index') ≡ Some (rng l) = find_range j (leaves_of index') ∙ ap (option_map rng) (find_covering j 0 (suc record_number_limit) (leaves_of index') ascends l is.0 (omega (arith, is.1.0)) high) in cc);
         nexts = λ m lm. c.nexts m (omega arith);
         as_wide = c.as_wide;
         fits = c.fits;

@@ -1,7 +1,6 @@
 -- How much longer an image becomes by acts that only take, and that nothing is taken where no bytes are.
 use Rattle.cdf_puts.proofs.Common.{Act, ActsFollow, AreActs, Gave, OnlyTakes, leaf_acts, vxr_bytes, zero, suc, if◌then◌else◌, ◌==◌, List, SpaceLeft, Took, [], after_act, arith, fold, length, map, refl, space_before, sum_by-cons, taken, taken_bytes, ℕ, ◌++◌, ◌+◌, ◌∷◌, ◌≡◌, ◌≤◌}
 use Rattle.cdf_edits.specs.Index.Cut.{BlocksFreedStay, NodesFreedStay, none_written}
-use Rattle.cdf_edits.specs.Space.Placement.{eof_after}
 
 one_taken : (place need : ℕ) (more : List Act) → taken_bytes (Took place need ∷ more) ≡ need + taken_bytes more
 one_taken place need more = sum_by-cons (λ x. x) need (map (λ (take : ℕ × ℕ). take.1) (taken more))
