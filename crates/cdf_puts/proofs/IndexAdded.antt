@@ -4,9 +4,10 @@ use Rattle.cdf_puts.proofs.CoveringRanges.{one_alone, of_leaves}
 use Rattle.cdf_puts.proofs.LeafCounts.{leaf_is_there, leaf_was_there}
 use Rattle.cdf_puts.proofs.LeafEdit.{block_taken, file, new_index, used_apart, node_in, node_taken, nodes_step}
 use Rattle.cdf_index.proofs.NewIndex.{index_edit}
-use Rattle.cdf_puts.proofs.LeafEdit.{blocks_go_on, plain_body}
+use Rattle.cdf_puts.proofs.LeafEdit.{blocks_go_on}
 use Rattle.cdf_puts.proofs.PutBytes.{beside_one, blocks_then, now_whole, size_now}
-use Rattle.cdf_puts.proofs.PutNodes.{taken_first, taken_then, taken_neither, NodesStep, nodes_then, taken_both, or_false, place_outside, same_with_leaf, same_uses, with_one_more, last_of_through, through_stays, top_grows, bytes_longer}
+use Rattle.std.proofs.Math.Bool.{or-false}
+use Rattle.cdf_puts.proofs.PutNodes.{taken_either, taken_neither, NodesStep, nodes_then, taken_both, place_outside, same_with_leaf, same_uses, with_one_more, last_of_through, through_stays, top_grows, bytes_longer}
 use Rattle.cdf_puts.proofs.SoFarStarts.{put_new, ranges_more, none_begins, puts_new, covers_own}
 
 -- ---- the ranges that are new
@@ -85,7 +86,7 @@ module _ {b now now' : List ℕ} {kind : Kind} {before : List VariableShape} {ow
   -- ---- their bytes
 
   size_after : record_bytes now' own'.vdr ≡ record_bytes b own.vdr
-  size_after = record_alike (file so.goes.good so.goes.among w) (vdr_alike so.goes.good so.goes.among (index_edit so.goes.good so.goes.among (new_index so.goes.good so.goes.among w (plain_body body records holds)))) ∙ size_now so
+  size_after = record_alike (file so.goes.good so.goes.among w) (vdr_alike so.goes.good so.goes.among (index_edit so.goes.good so.goes.among (new_index so.goes.good so.goes.among w))) ∙ size_now so
 
   longer : length now ≤ length now'
   longer = (file so.goes.good so.goes.among w).longer
@@ -173,11 +174,11 @@ module _ {b now now' : List ℕ} {kind : Kind} {before : List VariableShape} {ow
 
   -- a node that is taken stands at a new place, and else none does
   outside : place_outside (taken_places (acts ++ step)) at ≡ 0
-  outside = outside_zero (taken_places (acts ++ step)) at (elim (cases_lt 0 (new_room k own'.index)) [ inl some ↦ inl (taken_then acts step at (node_taken place (8 + length body) (new_room k own'.index) at some)) | inr none ↦ inr (no_node_zero w.filled w.roomy (new_room k own'.index) at w.node (omega arith)) ])
+  outside = outside_zero (taken_places (acts ++ step)) at (elim (cases_lt 0 (new_room k own'.index)) [ inl some ↦ inl (taken_either acts step at (inr (node_taken place (8 + length body) (new_room k own'.index) at some))) | inr none ↦ inr (no_node_zero w.filled w.roomy (new_room k own'.index) at w.node (omega arith)) ])
 
   outlined : outline (taken_places (acts ++ step)) own''.index ≡ outline [] (with_ranges own.index (rs ++ range k last ∷ []))
   outlined =
-      same_with_leaf (taken_places acts) (taken_places (acts ++ step)) new at own'.index (with_ranges own.index rs) n.outlined (λ m i. taken_both acts step m ∙ ap (λ (p : Bool). is_taken_at acts m || p) (s.apart m i) ∙ or_false (is_taken_at acts m)) outside
+      same_with_leaf (taken_places acts) (taken_places (acts ++ step)) new at own'.index (with_ranges own.index rs) n.outlined (λ m i. taken_both acts step m ∙ ap (λ (p : Bool). is_taken_at acts m || p) (s.apart m i) ∙ or-false (is_taken_at acts m)) outside
       ∙ ap (outline []) (sym (with_one_more own.index rs (range k last)))
 
   not_zero : (m : ℕ) → In m (nodes_of own'.index) → m ≡ 0 → ⊥
@@ -193,7 +194,7 @@ module _ {b now now' : List ℕ} {kind : Kind} {before : List VariableShape} {ow
   nodes_added = record {
     stay = λ m i. s.stay m (n.stay m i);
     apart = λ m i. taken_neither acts step m (n.apart m i) (s.apart m (n.stay m i));
-    come = λ m i. elim (s.come m i) [ inl j ↦ elim (n.come m j) [ inl k ↦ inl k | inr t ↦ inr (taken_first acts step m t) ] | inr t ↦ inr (taken_then acts step m t) ];
+    come = λ m i. elim (s.come m i) [ inl j ↦ elim (n.come m j) [ inl k ↦ inl k | inr t ↦ inr (taken_either acts step m (inl t)) ] | inr t ↦ inr (taken_either acts step m (inr t)) ];
     sizes = λ m i. s.sizes m (n.stay m i) ∙ n.sizes m i;
     outlined = outlined ∙ sym (ap (λ (xs : List Range). outline [] (with_ranges own.index xs)) one_new);
     follow = subst (λ (xs : List Range). NodesFollow b now' (indexes_with own.index xs) (nodes_of own.index) (nodes_of own''.index) (acts ++ step)) (sym one_new) follow;

@@ -1,13 +1,8 @@
 -- The last step of a put: MaxRec is raised, or nothing is done.
-use Rattle.cdf_puts.proofs.Common.{Act, Each, Gave, GoesOn, IsTaking, Kind, List, MaxRecDone, OnlyTakes, RMaxRecFollows, SoFar, Took, VariableShape, WritesRecords, [], ap, append-nil, arith, content_is, extent, greater, inl, inr, last_number, max_rec_at, negsuc, past, pos, r_max_rec, r_max_rec_of_z, subst, suc, sym, variable_of, with_sign, ℕ, ℤ, ◌+◌, ◌<◌, ◌∙◌, ◌∷◌, ◌≡◌}
+use Rattle.cdf_puts.proofs.Common.{Act, GoesOn, Kind, List, MaxRecDone, RMaxRecFollows, SoFar, VariableShape, WritesRecords, [], ap, append-nil, arith, content_is, extent, greater, inl, inr, last_number, max_rec_at, negsuc, past, pos, r_max_rec, r_max_rec_of_z, subst, suc, sym, variable_of, with_sign, ℕ, ℤ, ◌+◌, ◌<◌, ◌∙◌, ◌≡◌}
 use Rattle.cdf_puts.proofs.RaisedGoes.{greatest_raised, greatest_stays, max_rec_raised, raise_writes}
 use Rattle.cdf_puts.proofs.GoesThen.{goes_then, goes_written, writes_nothing}
 use Rattle.cdf_edits.proofs.Edits.RecordsPut.{extent_last, greater_is_first, greater_is_last}
-
-pub only_takes : (acts : List Act) → Each IsTaking acts → OnlyTakes acts
-only_takes [] t = tt
-only_takes (Took place need ∷ more) t = only_takes more t.1
-only_takes (Gave place size ∷ more) t = absurd t.0
 
 -- ---- MaxRec
 
@@ -24,7 +19,7 @@ module _ {b now last : List ℕ} {kind : Kind} {before : List VariableShape} {ow
   last_writes = elim done [ inl x ↦ raise_writes so.goes.good so.goes.among x.1 so.start.small | inr x ↦ subst (λ (y : List ℕ). WritesRecords now y kind own' []) (sym x.1) (writes_nothing so.goes.good so.goes.among) ]
 
   pub last_goes : GoesOn b last kind before own own' after acts
-  last_goes = subst (GoesOn b last kind before own own' after) (append-nil acts) (goes_then so.start.good so.start.among so.goes (goes_written so.goes.good so.goes.among last_writes so.short) (only_takes acts so.takes) tt)
+  last_goes = subst (GoesOn b last kind before own own' after) (append-nil acts) (goes_then so.start.good so.start.among so.goes (goes_written so.goes.good so.goes.among last_writes so.short) so.takes tt)
 
   pub last_max_rec : max_rec_at last own.vdr ≡ last_number (greater most (r + 1))
   last_max_rec = elim done [

@@ -1,8 +1,8 @@
 -- The bytes of the blocks while records are put: two steps are one, and in the last one none is put.
-use Rattle.cdf_puts.proofs.Common.{Act, Ascending, Beside, Changed, Good, IsOneOf, Kind, Leaf, LeavesGoOn, List, NewBlock, OldBlock, PlainLeaf, RecordIs, Same, SoFar, Some, StandsAmong, Touch, VariableShape, [], ap, apart, arith, behind_in, block_behind, cases_lt, covers, covers_within, drop, drop_at, each, extent, find, find_covering, first_written, has, inl, inr, kept, leaves_of, length, length-take, long, max_rec_at, min, piece_kept, place_in, plain_leaf, put, range, record_bytes, record_of, record_place, refl, room, shape, size_at, sound, subst, suc, take, take_at, tile_lies, times_le, upto, variable_of, word_kept, ℕ, ◌*◌, ◌++◌, ◌+◌, ◌-◌, ◌<◌, ◌∙◌, ◌≡◌, ◌≤◌, ◌⊎◌}
+use Rattle.cdf_puts.proofs.Common.{Act, Ascending, Beside, Changed, Good, IsOneOf, Kind, Leaf, LeavesGoOn, List, NewBlock, OldBlock, PlainLeaf, RecordIs, Same, SoFar, Some, StandsAmong, Touch, VariableShape, [], ap, apart, arith, behind_in, block_behind, cases_lt, covers, covers_within, drop, drop_at, each, extent, false, find, find_covering, first_written, has, inl, inr, is_taken_at, kept, leaves_of, length, length-take, long, max_rec_at, min, piece_kept, place_in, plain_leaf, put, range, record_bytes, record_of, record_place, refl, room, shape, size_at, sound, subst, suc, take, take_at, tile_lies, times_le, upto, variable_of, word_kept, ℕ, ◌*◌, ◌++◌, ◌+◌, ◌-◌, ◌<◌, ◌∙◌, ◌≡◌, ◌≤◌, ◌⊎◌}
 use Rattle.cdf_edits.proofs.Edits.LeafPieces.{found_in}
 use Rattle.cdf_puts.proofs.GoesThen.{later_size}
-use Rattle.cdf_puts.proofs.PutNodes.{neither_taken, taken_first, taken_neither, taken_then}
+use Rattle.cdf_puts.proofs.PutNodes.{taken_both, taken_either, taken_neither}
 use Rattle.cdf_puts.proofs.PutRules.{loose}
 
 -- a leaf that is not the one of a record ends before it, or begins behind it
@@ -58,6 +58,9 @@ piece_stays {b = b} {now = now} {first = first} {k = k} {size = size} {l = l} o 
 
 -- ---- two steps are one
 
+neither_taken : (acts acts' : List Act) (m : ℕ) → is_taken_at (acts ++ acts') m ≡ false → (is_taken_at acts m ≡ false) × (is_taken_at acts' m ≡ false)
+neither_taken acts acts' m e = grind (arith, e, taken_both acts acts' m)
+
 module _ {b mid now : List ℕ} {olds leaves leaves' : List Leaf} {raw pad : List ℕ} {r first most k k' size : ℕ} {acts acts' : List Act} {fields : List Touch} (was : (l : Leaf) → IsOneOf olds l → Whole b size l) (is : (l : Leaf) → IsOneOf leaves l → Whole mid size l) (from : first ≤ k) (upto : k ≤ k') (end : k' ≤ r + 1)
     (x : LeavesGoOn b mid olds leaves raw pad r first most k size acts []) (y : LeavesGoOn mid now leaves leaves' raw pad r k most k' size acts' fields) where
   -- a record that is not put again
@@ -71,7 +74,7 @@ module _ {b mid now : List ℕ} {olds leaves leaves' : List Leaf} {raw pad : Lis
         from = n.from;
         ends = omega (arith, n.ends);
         alone = n.alone;
-        was_taken = taken_first acts acts' l.place n.was_taken;
+        was_taken = taken_either acts acts' l.place (inl n.was_taken);
         written = λ j f t. record_stays l i j f t (omega (arith, n.ends)) (n.written j f t);
         spare = λ i' low high. let s = old_size (y.old l i) (omega (arith, w.leaf.room)) in (y.old l i).kept (l.place + i') (omega arith) (omega arith) (behind_all k k' size l (l.place + i') (omega arith)) ∙ n.spare i' low (omega arith);
       }
@@ -87,7 +90,7 @@ module _ {b mid now : List ℕ} {olds leaves leaves' : List Leaf} {raw pad : Lis
     };
     new = λ l i. elim (y.new l i) [
       | inl j ↦ elim (x.new l j) [ inl o ↦ inl o | inr n ↦ inr (new_stays l j n) ]
-      | inr n ↦ inr (record { from = omega (arith, n.from); ends = n.ends; alone = n.alone; was_taken = taken_then acts acts' l.place n.was_taken; written = n.written; spare = n.spare })
+      | inr n ↦ inr (record { from = omega (arith, n.from); ends = n.ends; alone = n.alone; was_taken = taken_either acts acts' l.place (inr n.was_taken); written = n.written; spare = n.spare })
     ];
     has = λ j from' low. elim (cases_lt j k) [ inl lt ↦ let h = x.has j from' lt in (h.0, (y.stay h.0 h.1.0, h.1.1)) | inr le ↦ y.has j le low ];
     quiet = λ none p lt out beside. y.quiet (λ m. (neither_taken acts acts' m (none m)).1) p (omega (arith, x.longer)) out (λ l i n a. beside l i n (omega arith)) ∙ x.quiet (λ m. (neither_taken acts acts' m (none m)).0) p lt tt (λ l i n a c. beside l (y.stay l i) n a (omega arith));

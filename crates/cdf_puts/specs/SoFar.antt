@@ -11,8 +11,9 @@ use Rattle.cdf_edits.specs.Frame.Changed.{Touch, Outside}
 use Rattle.cdf_edits.specs.Index.Blocks.{ranges_of, first_written}
 use Rattle.cdf_edits.specs.Index.Grown.{with_ranges, indexes_with, outline}
 use Rattle.cdf_edits.specs.Index.Written.{is_taken_at, NodesFollow, top_chain}
-use Rattle.cdf_edits.specs.Space.Acts.{Act, Took, Gave, taken}
+use Rattle.cdf_edits.specs.Space.Acts.{Act, taken}
 use Rattle.cdf_edits.proofs.Edits.LeafPieces.{IsOneOf, record_place}
+use Rattle.cdf_edits.proofs.Edits.OnlyTaken.{OnlyTakes}
 use Rattle.cdf_edits.proofs.Edits.StandsAmong.{StandsAmong}
 use Rattle.cdf_format.specs.Bytes.{byte}
 use Rattle.cdf_format.specs.Content.{variable_of}
@@ -61,10 +62,6 @@ pub record BlockRecords (raw pad : List ℕ) (r first last size : ℕ) (records 
   pub written : (j : ℕ) → first ≤ j → j ≤ last → take size (drop ((j - first) * size) records) ≡ record_of raw pad r j
 
 -- ---- what was taken
-
-abbrev pub IsTaking : Act → Type 0
-IsTaking (Took place need) = Unit {0}
-IsTaking (Gave place size) = ⊥
 
 abbrev pub taken_places : List Act → List ℕ
 taken_places acts = map (λ take. take.0) (taken acts)
@@ -138,7 +135,7 @@ pub record SoFar (b now : List ℕ) (kind : Kind) (before : List VariableShape) 
   pub upto : k ≤ r + 1
   pub goes : GoesOn b now kind before own own' after acts
   pub covers : Covering (variable_of b own) own.index own'.index r k (taken_bytes acts)
-  pub takes : Each IsTaking acts
+  pub takes : OnlyTakes acts
   pub short : length now ≤ image_limit
   pub max_rec_is : number now own.vdr vdr_max_rec ≡ number b own.vdr vdr_max_rec
   pub r_max_rec_is : r_max_rec now ≡ r_max_rec b

@@ -1,6 +1,6 @@
 use Rattle.cdf_puts.proofs.Common.{Frame, HasIndex, ap, arith, edit_done, edit_failed, edit_more, edits_by_read, keeps_by_read, read_more, read_once, refl, sym, transport}
 use Rattle.cdf_leaves.proofs.LastCall.{edit_last}
-use Rattle.cdf_puts.proofs.PutSpot.{has_index, lies, on_after}
+use Rattle.cdf_puts.proofs.PutSpot.{lies, on_after, searched}
 use Rattle.cdf_puts.proofs.putting.put_next.Goals as goal
 
 pub overflow_add-put : goal.overflow_add-put
@@ -24,7 +24,7 @@ find_leaf-requires-clause-index g c =
     let s = c.requires.some in
     let same = c.read_unsigned8.ensures.area.image in
     let head = c.in_ok-head.ensures.value in
-    transport (λ i. HasIndex (sym same i) (sym head i)) (has_index s.putting s.is)
+    transport (λ i. HasIndex (sym same i) (sym head i)) (searched s.putting s.is).0
 
 pub returns-in_err-found-clause-area : goal.returns-in_err-found-clause-area
 returns-in_err-found-clause-area g c = edit_failed (keeps_by_read (read_once c.in_ok-head.ensures.area)) (edits_by_read c.in_err-found.ensures.area) c.from_residual-in_err-found.ensures.1
