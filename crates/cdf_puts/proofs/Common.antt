@@ -37,7 +37,7 @@ pub use Rattle.cdf_edits.specs.Commands.Puts.{CutsFirst, HoldsPads, PutsBytes, P
 pub use Rattle.cdf_edits.specs.Commands.Room.{blocks_room, is_rewritten, packed_room, put_room, quotient_up, room, room_of_variable, uncovered}
 unfoldable pub use Rattle.cdf_edits.specs.Commands.Room.{entries_below, entries_in, widest, widest_below}
 pub use Rattle.cdf_edits.specs.Edits.Edit.{Edit}
-pub use Rattle.cdf_edits.specs.Edits.Marks.{Avoids, Covered, Mark, Marked, avoided, index_types, keeps_file, unmarked, variable_types}
+pub use Rattle.cdf_edits.specs.Edits.Marks.{Avoids, Away, Covered, Mark, Marked, avoided, index_types, keeps_file, unmarked, variable_types}
 pub use Rattle.cdf_edits.specs.Frame.Changed.{Changed, Misses, Outside, Touch, touch, touched_field}
 pub use Rattle.cdf_edits.specs.Index.Blocks.{Range, block_count, covered, covers, cut_open, cuts_before_put, first_written, is_sparse, new_range, next_first, range, ranges_after_put, ranges_before_put, ranges_of, record_length, shared, with_range}
 unfoldable pub use Rattle.cdf_edits.specs.Index.Blocks.{cover, entry_firsts, firsts_of}
@@ -82,9 +82,9 @@ pub use Rattle.cdf_format.specs.WellFormed.{Good}
 pub use Rattle.cdf_index.proofs.ByLeaf.{Grows, by_leaf, in_nodes_with_leaf, node_stays, nodes_with_leaf, weight_grows}
 unfoldable pub use Rattle.cdf_index.proofs.ByLeaf.{weigh, weigh_below}
 pub use Rattle.cdf_index.proofs.LeafMore.{leaves_more, ranges_new}
-pub use Rattle.cdf_index.proofs.LeafRules.{before_limit, index_order, index_rules_with_leaf, order_with_leaf}
+pub use Rattle.cdf_index.proofs.LeafRules.{before_limit, least_below, index_order, index_rules_with_leaf, order_with_leaf}
 pub use Rattle.cdf_index.proofs.NewIndex.{Exchanged, IndexTests, NewIndex, index_marks, index_unmarked, max_rec_kept, node_room, vdr_no_node, vdr_of_variable}
-pub use Rattle.cdf_index.specs.Adding.{AddsLeaf, Counts, IndexTouch, LeafAdded, NodeTaken, leaf_acts, node_acts}
+pub use Rattle.cdf_index.specs.Adding.{AddsLeaf, Counts, IndexTouch, LeafAdded, NodeTaken, NodeTouch, leaf_acts, node_acts}
 pub use Rattle.cdf_index.specs.Finding.{HasIndex, index_at}
 pub use Rattle.cdf_index.specs.Growing.{with_new}
 pub use Rattle.cdf_index.specs.Order.{InOrder, leaf_of}
@@ -104,7 +104,7 @@ pub use Rattle.cdf_puts.specs.Going.{GoesOn, LooseStay, found_in, put_fields}
 pub use Rattle.cdf_puts.specs.Putting.{IsPut, PutsOn, PutsUpTo, Putting, SomePut, SomePutting, block_type, last_in_new, most_in_block, record_put, records_put}
 pub use Rattle.cdf_puts.specs.SoFar.{Beside, BlockRecords, BlocksSoFar, IndexSoFar, LeavesGoOn, MaxRecDone, NewBlock, NodesSoFar, OldBlock, PutStart, PutsBefore, RecordIs, SoFar, TopGrows, put_count, record_of, taken_bytes, taken_places, was_put}
 pub use Rattle.cdf_puts.specs.Steps.{BlocksGoOn, IsBlockBody, IsVacant, MaxRecRaised, RecordsWritten}
-pub use Rattle.std.proofs.Common.{Bool, List, None, Option, Some, [], ap, append-nil, append_assoc, ap₂, arith, bytes_eq, drop, eqb, false, inl, inr, leb, length, ltb, map, negsuc, not, pos, refl, subst, suc, sym, take, take-append-drop, true, true≢false, zero, ℕ, ℤ, ◌*◌, ◌++◌, ◌+◌, ◌-◌, ◌<◌, ◌∙◌, ◌∷◌, ◌≡◌, ◌≢◌, ◌≤◌, ◌⊎◌}
+pub use Rattle.std.proofs.Common.{Bool, List, None, Option, Some, [], ap, append-nil, append_assoc, ap₂, arith, bytes_eq, drop, eqb, false, inl, inr, leb, length, ltb, map, negsuc, not, pos, refl, rules, subst, suc, sym, take, take-append-drop, true, true≢false, zero, ℕ, ℤ, ◌*◌, ◌++◌, ◌+◌, ◌-◌, ◌<◌, ◌∙◌, ◌∷◌, ◌≡◌, ◌≢◌, ◌≤◌, ◌⊎◌}
 pub use Rattle.std.proofs.Math.Nat.{div-le_self, mul-sub}
 pub use Rattle.std.proofs.Math.Path.{transport}
 pub use Rattle.std.proofs.lemmas.Bool.{and_from, and_right, both_ways, cases_eq, cases_lt, eq-eqb, eqb-true, le-leb, le-ltb, leb-false, lt-leb, lt-ltb, ne_eqb, or_from, or_left, or_parts, or_right}

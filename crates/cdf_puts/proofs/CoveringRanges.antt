@@ -1,9 +1,8 @@
 -- Records that get a block one after the other: by their ranges, in the room of a put, which is enough for them, and in an index.
-use Rattle.cdf_puts.proofs.Common.{Ahead, Ascending, Counted, Covering, Entries, InOrder, Leaf, List, Nodes, None, Option, Range, Some, Variable, [], ap, ap₂, arith, block, block_bytes, block_count, blocks_room, cases_eq, cases_lt, count_upto, cover, covered, covers, covers_within, either, entries_below, entries_in, entry_count, entry_firsts, extent, false, filter, find, find_covering, first_written, firsts_of, fold, inl, inr, is_sparse, le-ltb, leaf, leaves_more, leaves_of, length, length-append, lower, lt-ltb, ltb, map, max, min, nat_tests, new_last, new_range, new_room, next_first, no_entry, no_node, node, node_bytes, option_map, order_with_leaf, put_room, quotient_up, range, ranges_after_put, ranges_new, ranges_of, record_length, record_number_limit, refl, shared, subst, suc, sum_by-cons, sym, times_le, true, uncovered, unwrap_or, vxr_bytes, widest, with_leaf, with_range, zero, ℕ, ◌*◌, ◌+◌, ◌-◌, ◌<◌, ◌∙◌, ◌∷◌, ◌≡◌, ◌≤◌, ◌⊎◌}
-use Rattle.cdf_index.proofs.LeafRules.{least_below}
+use Rattle.cdf_puts.proofs.Common.{least_below, Ahead, Ascending, Counted, Covering, Entries, InOrder, Leaf, List, Nodes, None, Option, Range, Some, Variable, [], ap, ap₂, arith, block, block_bytes, block_count, blocks_room, cases_eq, cases_lt, count_upto, cover, covered, covers, covers_within, either, entries_below, entries_in, entry_count, entry_firsts, extent, false, filter, find, find_covering, first_written, firsts_of, fold, inl, inr, is_sparse, le-ltb, leaf, leaves_more, leaves_of, length, length-append, lower, lt-ltb, ltb, map, max, min, nat_tests, new_last, new_range, new_room, next_first, no_entry, no_node, node, node_bytes, option_map, order_with_leaf, put_room, quotient_up, range, ranges_after_put, ranges_new, ranges_of, record_length, record_number_limit, refl, shared, subst, suc, sum_by-cons, sym, times_le, true, uncovered, unwrap_or, vxr_bytes, widest, with_leaf, with_range, zero, ℕ, ◌*◌, ◌+◌, ◌-◌, ◌<◌, ◌∙◌, ◌∷◌, ◌≡◌, ◌≤◌, ◌⊎◌, by_leaf}
 use Rattle.cdf_index.proofs.LeavesAscend.{leaves_ascend}
 use Rattle.cdf_edits.proofs.Edits.LeafPieces.{found_in}
-use Rattle.cdf_puts.proofs.LeafCounts.{next_firsts_with_leaf, widest_with_leaf}
+use Rattle.cdf_puts.proofs.LeafCounts.{next_firsts_with_leaf, wide_grows}
 use Rattle.cdf_index.specs.Next.{least_first_past, number_within}
 
 abbrev pub of_leaves : List Leaf → List Range
@@ -31,15 +30,9 @@ least_past k i (f ∷ fs) lt = grind (arith, nat_tests, least_past k (min i f) f
 pub next_past : (k : ℕ) (fs : List ℕ) → k ≤ record_number_limit → k < next_first k fs
 next_past k fs le = least_past k (record_number_limit + 1) fs (omega arith)
 
-pub next_upto : (k : ℕ) (fs : List ℕ) → next_first k fs ≤ record_number_limit + 1
-next_upto k fs = least_below (record_number_limit + 1) (filter (ltb k) fs)
-
 -- the answer of a search, and one past the greatest number where there is none
-bound_of : (n : ℕ) → n ≤ record_number_limit + 1 → unwrap_or (number_within n) (record_number_limit + 1) ≡ n
-bound_of n l = grind (arith, nat_tests, l)
-
 pub bound_is : (index : Nodes) (k : ℕ) (next : Option ℕ) → next ≡ least_first_past k index → unwrap_or next (record_number_limit + 1) ≡ next_first k (firsts_of index)
-bound_is index k next e = ap (λ (o : Option ℕ). unwrap_or o (record_number_limit + 1)) e ∙ bound_of (next_first k (firsts_of index)) (next_upto k (firsts_of index))
+bound_is index k next e = grind (arith, nat_tests, e, least_below (record_number_limit + 1) (filter (ltb k) (firsts_of index)))
 
 -- a new block ends at its record, or where it is full, or before the next First
 pub one_alone : (v : Variable) (fs : List ℕ) (k : ℕ) → ltb k (extent v.max_rec) ≡ true → (new_range v fs k).last ≡ k
@@ -240,9 +233,7 @@ module _ {v : Variable} {index index' : Nodes} {n k taken : ℕ} (c : Covering v
     in_room = omega (arith, room_enough v index so_far.records (last + 1 - k) so_far.blocks (count_upto k fs) (uncovered v index n) one_left covering_ends.2 so_far.blocks_are (omega (arith, count_most k fs, firsts_count index)))
 
     pub covering_room : taken + block_bytes v k last + vxr_bytes (widest index') ≤ put_room v index n
-    covering_room =
-        let bytes = more_bytes taken so_far.records so_far.blocks (last + 1 - k) (record_length v) (vxr_bytes (widest index)) (vxr_bytes (widest index')) so_far.bytes_are (omega arith) in
-        omega (arith, in_room)
+    covering_room = omega (arith, in_room, more_bytes taken so_far.records so_far.blocks (last + 1 - k) (record_length v) (vxr_bytes (widest index)) (vxr_bytes (widest index')) so_far.bytes_are (omega (arith, c.as_wide)))
 
     module _ (place at : ℕ) (narrow : new_room k index' ≤ widest index') where
       abbrev new : Leaf
@@ -259,8 +250,7 @@ module _ {v : Variable} {index index' : Nodes} {n k taken : ℕ} (c : Covering v
       same_new = same_range v fs (firsts_of index') k (c.nexts k (omega arith))
 
       bytes' : taken' ≤ (so_far.records + (last + 1 - k)) * record_length v + suc so_far.blocks * (28 + vxr_bytes (widest index))
-      bytes' =
-          more_bytes taken so_far.records so_far.blocks (last + 1 - k) (record_length v) (vxr_bytes (widest index)) (node_bytes k index') so_far.bytes_are (grind (arith, nat_tests, narrow, c.as_wide))
+      bytes' = more_bytes taken so_far.records so_far.blocks (last + 1 - k) (record_length v) (vxr_bytes (widest index)) (node_bytes k index') so_far.bytes_are (grind (arith, nat_tests, narrow, c.as_wide))
 
       counted' : last + 1 ≤ n → Counted v index (with_leaf new at index') n (last + 1) taken'
       counted' more =
@@ -280,14 +270,14 @@ module _ {v : Variable} {index index' : Nodes} {n k taken : ℕ} (c : Covering v
       pub covering_leaf : Covering v index (with_leaf (leaf k (new_last v index' k) place false) at index') n (min (new_last v index' k + 1) (n + 1)) (taken + block_bytes v k (new_last v index' k) + node_bytes k index')
       covering_leaf =
           let ending = covering_ends in
-          let wide = widest_with_leaf new at index' narrow in
+          let wide = by_leaf (wide_grows new at) index' in
           let bytes = bytes' in
           let enough = in_room in
           record {
-            ordered = order_with_leaf new at index' c.ordered ending.0 vacant ending.1;
+            ordered = order_with_leaf new at index' c.ordered covering_ends.0 vacant covering_ends.1;
             from = omega arith;
             ahead = subst (λ (rs : List Range). Ahead v fs n (min (last + 1) (n + 1)) rs (ranges_after_put v index n)) (sym ranges_are)
-                (subst (λ (r : Range). Ahead v fs n (min (r.last + 1) (n + 1)) (with_range r (ranges_of index')) (ranges_after_put v index n)) (sym same_new) (ahead_new c.ahead le (subst (λ (r : Range). k ≤ r.last) same_new ending.0) none));
+                (subst (λ (r : Range). Ahead v fs n (min (r.last + 1) (n + 1)) (with_range r (ranges_of index')) (ranges_after_put v index n)) (sym same_new) (ahead_new c.ahead le (subst (λ (r : Range). k ≤ r.last) same_new covering_ends.0) none));
             nexts = λ m lm. next_firsts_with_leaf new at index' m (omega arith) ∙ c.nexts m (omega arith);
             as_wide = omega arith;
             fits = omega arith;

@@ -55,12 +55,9 @@ next_firsts_with_leaf new at index n le = ap (fold min (record_number_limit + 1)
 
 -- ---- the leaves; the index is in order
 
-places_new : (m : ℕ) (l : Leaf) (xs : List Leaf) → times m (places_of (with_new l xs)) ≡ times m (places_of xs) + times m (l.place ∷ [])
+pub places_new : (m : ℕ) (l : Leaf) (xs : List Leaf) → times m (places_of (with_new l xs)) ≡ times m (places_of xs) + times m (l.place ∷ [])
 places_new m l [] = omega arith
 places_new m l (x ∷ xs) = grind (arith, times-append m (l.place ∷ []) (places_of (x ∷ xs)), times-append m (x.place ∷ []) (places_of xs), times-append m (x.place ∷ []) (places_of (with_new l xs)), places_new m l xs)
-
-pub places_with_leaf : (new : Leaf) (at low high : ℕ) (index : Nodes) → InOrder low high index → (m : ℕ) → times m (places_of (leaves_of (with_leaf new at index))) ≡ times m (places_of (leaves_of index)) + times m (new.place ∷ [])
-places_with_leaf new at low high index o m = ap (λ (xs : List Leaf). times m (places_of xs)) (leaves_more new at low high index o) ∙ places_new m new (leaves_of index)
 
 pub one_new : (l x : Leaf) (xs : List Leaf) → (IsOneOf (with_new l xs) x → (x ≡ l) ⊎ IsOneOf xs x) × ((x ≡ l) ⊎ IsOneOf xs x → IsOneOf (with_new l xs) x)
 one_new l x [] = (λ i. elim i [ inl e ↦ inl (sym e) | inr j ↦ absurd j ], λ i. grind (arith, i))
@@ -108,9 +105,6 @@ widest_both (block first last place packed es) fs = widest_both es fs
 widest_both (lower first last nodes es) fs = omega (arith, widest_both es fs)
 
 -- and by then none is wider than that, or than they were
-wide_grows : (new : Leaf) (at : ℕ) → Grows new at (λ n a a'. widest a' ≤ max (widest a) n) (λ n es es'. widest_below es' ≤ max (widest_below es) n)
+pub wide_grows : (new : Leaf) (at : ℕ) → Grows new at (λ n a a'. widest a' ≤ max (widest a) n) (λ n es es'. widest_below es' ≤ max (widest_below es) n)
 unfolding widest widest_below
 wide_grows new at = grind (arith, widest_both, seven_at_least)
-
-pub widest_with_leaf : (new : Leaf) (at : ℕ) (index : Nodes) → new_room new.first index ≤ widest index → widest (with_leaf new at index) ≤ widest index
-widest_with_leaf new at index narrow = omega (arith, by_leaf (wide_grows new at) index)

@@ -1,20 +1,18 @@
 -- A leaf that is added, as one edit: its block is taken and written, then a node where one is needed, and then the entries are. It leads from one good image to another.
-use Rattle.cdf_puts.proofs.Common.{Act, ActsFollow, Avoids-append, Away-append, BlocksGoOn, Bool, Counts, Each, Each-append, Each-in, Each-map, Edit, Entries, Exchanged, FileSame, GoesOn, Good, Hold, Hold-append, Hold-split, In, In-append, In-append_left, In-append_right, InOrder, IndexEdit, IndexTests, IndexTouch, IsBlockBody, IsChain, IsOneOf, IsSound, IsVacant, Kept, Kind, Leaf, LeafAdded, List, Mark, Marked, Misses, NewIndex, NodeFits, NodeStands, NodeTaken, Nodes, Only, OwnEdit, R, Row, Same, Same-part, Shape, StandsAmong, Touch, VariableShape, Within-append, Z, [], all_unmarked-away, ap, apart, append-nil, arith, asked, avoided, away-avoids, away-within, before_limit, behind_in, block, block_behind, both, both_ways, byte, chain_stays, changed_edit, count_is, cvvr_type, drop, drop-drop, drop-take, each, each_of, edit_then, eof, false, field, file_same, firsts_of, fits, flat_map, gdr_eof, gdr_field, gdr_in, gdr_type, gdr_typed, gdr_uir_head, good_is_sound, has, head_size, head_type, if◌then◌else◌, image_limit, in_nodes_with_leaf, index_marks, index_order, index_rules_with_leaf, index_unmarked, inl, inr, is_a, is_a-from, is_a-type, is_compressed, is_in, is_in-false, is_taken_at, keeps_away, keeps_fields, keeps_file, keeps_within, kept, kept_away, le_of, leaf_acts, leaves_of, length, linkable-in, linkable-type, long, lower, lower_nodes, max, max_rec_kept, nat_le, negsuc, new_room, no_entry, no_node, node, node_acts, node_behind, node_room, node_stays, nodes_of, nodes_stand, nodes_with_leaf, number, number_before, number_kept, of_le, own_rules, piece_kept, place_in, placed_grows, plain_leaf, plain_size, pos, r_max_rec, r_max_rec_field, read_types, record_alike, record_bytes, record_number_limit, refl, room_at, same-then, shape, signed_limit, size_at, size_kept, some_bytes, space_fields, subst, suc, sym, take, take-take, the_one, tile, tile_lies, times, times-append, true, type_at, type_in, type_kept, type_of_body, typed, uir_type, unmarked-away, variable_types, variables_chain, vdr_alike, vdr_max_rec, vdr_of_variable, vvr_type, vxr_bytes, vxr_n_entries, vxr_n_used_entries, vxr_type, with_leaf, with_sign, word, zero, ℕ, ℤ, ◌&&◌, ◌*◌, ◌++◌, ◌+◌, ◌-◌, ◌<◌, ◌==◌, ◌||◌, ◌∙◌, ◌∷◌, ◌≡◌, ◌≢◌, ◌≤◌, ◌⊎◌, taken_places, is_in-true, get_or-drop, get_or-take}
+use Rattle.cdf_puts.proofs.Common.{NodeTouch, Away, rules, Act, ActsFollow, Avoids-append, Away-append, BlocksGoOn, Counts, Each, Each-append, Each-in, Each-map, Edit, Entries, Exchanged, FileSame, GoesOn, Good, Hold, Hold-split, In, In-append, In-append_left, In-append_right, InOrder, IndexTests, IndexTouch, IsBlockBody, IsChain, IsOneOf, IsSound, IsVacant, Kept, Kind, Leaf, LeafAdded, List, Mark, Marked, Misses, NewIndex, NodeFits, NodeStands, NodeTaken, Nodes, Only, R, Same, Same-part, Shape, StandsAmong, Touch, VariableShape, Within-append, Z, [], all_unmarked-away, ap, apart, append-nil, arith, avoided, away-avoids, away-within, before_limit, behind_in, block, block_behind, both, byte, chain_stays, changed_edit, count_is, drop, drop-drop, drop-take, each, each_of, edit_then, eof, false, field, file_same, firsts_of, fits, flat_map, gdr_eof, gdr_field, gdr_in, gdr_type, gdr_typed, gdr_uir_head, good_is_sound, has, head_size, head_type, if◌then◌else◌, image_limit, in_nodes_with_leaf, index_marks, index_order, index_rules_with_leaf, index_unmarked, inl, inr, is_compressed, is_in, is_in-false, is_taken_at, keeps_away, keeps_fields, keeps_file, keeps_within, kept, kept_away, le_of, leaf_acts, leaves_of, length, linkable-in, linkable-type, long, lower, lower_nodes, max, max_rec_kept, nat_le, negsuc, new_room, no_entry, no_node, node, node_acts, node_behind, node_room, node_stays, nodes_of, nodes_stand, nodes_with_leaf, number, number_before, number_kept, of_le, own_rules, piece_kept, place_in, placed_grows, plain_leaf, pos, r_max_rec, r_max_rec_field, read_types, record_alike, record_bytes, record_number_limit, refl, room_at, same-then, shape, signed_limit, size_at, size_kept, some_bytes, space_fields, subst, suc, sym, take, take-take, the_one, tile, tile_lies, times, times-append, true, type_at, type_in, type_kept, type_of_body, typed, uir_type, unmarked-away, variable_types, variables_chain, vdr_alike, vdr_max_rec, vdr_of_variable, vvr_type, vxr_bytes, vxr_n_entries, vxr_n_used_entries, vxr_type, with_leaf, with_sign, word, zero, ℕ, ℤ, ◌&&◌, ◌*◌, ◌++◌, ◌+◌, ◌-◌, ◌<◌, ◌==◌, ◌∙◌, ◌∷◌, ◌≡◌, ◌≢◌, ◌≤◌, taken_places, is_in-true, get_or-drop, get_or-take, places_of, leaves_more}
 use Rattle.cdf_edits.proofs.Edits.MadeRecord.{place_in as placed_in, filled_size}
 use Rattle.cdf_edits.proofs.Edits.TakenAll.{TakenAll, none_taken, taken_then, taking_all, listed_free, unlisted_away}
 use Rattle.cdf_index.specs.Replacing.{with_index}
-use Rattle.cdf_puts.proofs.LeafCounts.{room_stays, places_with_leaf, leaf_was_there}
+use Rattle.cdf_index.proofs.OneNode.{same_node}
+use Rattle.cdf_puts.proofs.LeafCounts.{room_stays, places_new, leaf_was_there}
 use Rattle.cdf_puts.proofs.RaisedGoes.{behind_no_vdr}
 use Rattle.cdf_edits.proofs.Edits.Composing.{part as changed_missed}
 use Rattle.cdf_format.proofs.Pieces.{word_of_piece_lem}
-use Rattle.cdf_index.specs.Adding.{NodeTouch}
-use Rattle.cdf_edits.specs.Edits.Marks.{Away}
-use Rattle.std.proofs.Common.{rules}
 use Rattle.cdf_puts.proofs.PutNodes.{NodesStep}
 use Rattle.cdf_index.proofs.NewIndex.{good_now as changed_good, block_kept, index_edit, own_edit}
 use Rattle.cdf_edits.proofs.Edits.ActsStill.{acts_still_by}
 use Rattle.cdf_puts.proofs.GoesThen.{goes_by, links}
-use Rattle.cdf_format.specs.IndexRules.{has_room, is_block, nodes_rows, used_rows, vvr_rows, cvvr_rows, leaf_rows, index_rows, end_of}
+use Rattle.cdf_format.specs.IndexRules.{has_room, is_block, nodes_rows, used_rows, leaf_rows, index_rows, end_of}
 use Rattle.cdf_edits.proofs.Edits.OwnEdited as of_own
 use Rattle.cdf_puts.proofs.PutBytes.{put_there}
 
@@ -23,20 +21,12 @@ use Rattle.cdf_puts.proofs.PutBytes.{put_there}
 abbrev pub new_nodes : ℕ → ℕ → List ℕ
 new_nodes room at = taken_places (node_acts room at)
 
--- nodes are written from the link to the next one on
-abbrev pub entry_marks : Kind → ℕ → List ℕ → ℕ → List Mark
-entry_marks kind v nodes most = index_marks kind v nodes (field 12 most)
-
--- all of them
-abbrev pub leaf_marks : Kind → ℕ → List ℕ → List ℕ → List ℕ → ℕ → ℕ → List Mark
-leaf_marks kind v unused places nodes enough most = taking_all unused places enough ++ entry_marks kind v nodes most
-
--- which records they leave by their types alone
-leaf_tests : (kind : Kind) (v : ℕ) (unused places nodes : List ℕ) (enough most : ℕ) → IndexTests kind (r_max_rec_field kind ++ space_fields) (leaf_marks kind v unused places nodes enough most)
+-- nodes are written from the link to the next one on: which records the marks leave by their types alone
+leaf_tests : (kind : Kind) (v : ℕ) (unused places nodes : List ℕ) (enough most : ℕ) → IndexTests kind (r_max_rec_field kind ++ space_fields) (taking_all unused places enough ++ index_marks kind v nodes (field 12 most))
 leaf_tests R v unused places nodes enough most = search rules
 leaf_tests Z v unused places nodes enough most = search rules
 
-entries_clear : (kind : Kind) (v : ℕ) (nodes : List ℕ) (most : ℕ) → (keeps_file (entry_marks kind v nodes most) ≡ true) × (avoided (entry_marks kind v nodes most) gdr_type 36 44 ≡ true) × (avoided (entry_marks kind v nodes most) gdr_type 64 72 ≡ true)
+entries_clear : (kind : Kind) (v : ℕ) (nodes : List ℕ) (most : ℕ) → (keeps_file (index_marks kind v nodes (field 12 most)) ≡ true) × (avoided (index_marks kind v nodes (field 12 most)) gdr_type 36 44 ≡ true) × (avoided (index_marks kind v nodes (field 12 most)) gdr_type 64 72 ≡ true)
 entries_clear R v nodes most = (refl, refl, refl)
 entries_clear Z v nodes most = (refl, refl, refl)
 
@@ -52,9 +42,6 @@ node_stands {now = now} (suc room) at m sound taken i = subst (NodeStands now (s
 
 is_new_node : (room at : ℕ) → 0 < room → In at (new_nodes room at)
 is_new_node room at some = grind (arith, some)
-
-pub block_taken : (place need room at : ℕ) → is_taken_at (leaf_acts place need room at) place ≡ true
-block_taken place need room at = is_in-true place (place ∷ new_nodes room at) (inl refl)
 
 pub node_taken : (place need room at : ℕ) → 1 ≤ room → is_taken_at (leaf_acts place need room at) at ≡ true
 node_taken place need room at some = is_in-true at (place ∷ new_nodes room at) (inr (is_new_node room at some))
@@ -99,9 +86,6 @@ module _ {b now : List ℕ} {kind : Kind} {before : List VariableShape} {own : V
   abbrev s : Shape
   s = shape b
 
-  abbrev pub need : ℕ
-  need = 8 + length body
-
   abbrev pub room : ℕ
   room = new_room new.first own.index
 
@@ -116,7 +100,7 @@ module _ {b now : List ℕ} {kind : Kind} {before : List VariableShape} {own : V
 
   -- no record that is taken has more bytes
   abbrev pub enough : ℕ
-  enough = need + vxr_bytes room
+  enough = 8 + length body + vxr_bytes room
 
   abbrev records' : List ℕ
   records' = (shape w.roomy).records
@@ -125,10 +109,10 @@ module _ {b now : List ℕ} {kind : Kind} {before : List VariableShape} {own : V
   space = taking_all s.unused reborn enough
 
   abbrev entries : List Mark
-  entries = entry_marks kind own.vdr all_nodes (length w.roomy)
+  entries = index_marks kind own.vdr all_nodes (field 12 (length w.roomy))
 
   abbrev step : List Act
-  step = leaf_acts new.place need room at
+  step = leaf_acts new.place (8 + length body) room at
 
   sound : IsSound b s
   sound = good_is_sound b good
@@ -160,14 +144,8 @@ module _ {b now : List ℕ} {kind : Kind} {before : List VariableShape} {own : V
   node_kept : (m : ℕ) → In m nodes → Kept b w.roomy m
   node_kept m i = kept taking.grows.edit m vxr_type (node_in m i) (node_typed m i) refl
 
-  fit : (m : ℕ) → In m nodes → NodeFits b m
-  fit m i = Each-in (NodeFits b) nodes (fits good among).1 m i
-
   as_before : (m : ℕ) → In m nodes → (room_at w.roomy m ≡ room_at b m) × (size_at w.roomy m ≡ size_at b m)
-  as_before m i =
-      let k = node_kept m i in
-      let l = (fit m i).0 in
-      (number_kept b w.roomy m k.same vxr_n_entries (omega arith), size_kept b w.roomy m k.same (omega arith))
+  as_before m i = let n = same_node b w.roomy m (node_kept m i) (Each-in (NodeFits b) nodes (fits good among).1 m i) in (n.room_is, n.size_is)
 
   -- a record that is in use is not taken
   pub used_apart : (m : ℕ) → In m s.records → type_at b m ≢ uir_type → is_taken_at step m ≡ false
@@ -181,15 +159,18 @@ module _ {b now : List ℕ} {kind : Kind} {before : List VariableShape} {own : V
   sound_roomy : IsSound w.roomy (shape w.roomy)
   sound_roomy = taking.grows.sound
 
-  -- a node that is written
-  node_touched : (t : Touch) → NodeTouch w.roomy own room at t → In t.tile records' × (type_at w.roomy t.tile ≡ vxr_type) × (t.place + t.width ≤ size_at w.roomy t.tile) × In t.tile all_nodes
-  node_touched t (inl n) =
-      let k = node_kept t.tile n.0 in
-      (taking.grows.edit.sub t.tile (node_in t.tile n.0), type_kept b w.roomy t.tile k.same k.long ∙ node_typed t.tile n.0, omega (arith, n.1, as_before t.tile n.0, (fit t.tile n.0).0), In-append_right t.tile (new_nodes room at) nodes n.0)
+  -- a node, and where one is written
+  node_there : (m : ℕ) → In m all_nodes → In m records' × (type_at w.roomy m ≡ vxr_type)
+  node_there m i = elim (In-append m (new_nodes room at) nodes i) [
+    | inl j ↦ ((new_node m j).inside, (new_node m j).typed)
+    | inr j ↦ let k = node_kept m j in (taking.grows.edit.sub m (node_in m j), type_kept b w.roomy m k.same k.long ∙ node_typed m j)
+  ]
+
+  node_touched : (t : Touch) → NodeTouch w.roomy own room at t → In t.tile all_nodes × (t.place + t.width ≤ size_at w.roomy t.tile)
+  node_touched t (inl n) = (In-append_right t.tile (new_nodes room at) nodes n.0, omega (arith, n.1, as_before t.tile n.0, (Each-in (NodeFits b) nodes (fits good among).1 t.tile n.0).0))
   node_touched t (inr n) =
       let i = subst (λ (m : ℕ). In m (new_nodes room at)) (sym n.1) (is_new_node room at n.0) in
-      let there = new_node t.tile i in
-      (there.inside, there.typed, omega (arith, n.2), In-append_left t.tile (new_nodes room at) nodes i)
+      (In-append_left t.tile (new_nodes room at) nodes i, omega (arith, n.2, (new_node t.tile i).size_is))
 
   -- a touch is marked by the record in which it is
   touch_marked : (t : Touch) → IndexTouch w.roomy own room at t → Marked w.roomy records' entries [] t
@@ -205,8 +186,9 @@ module _ {b now : List ℕ} {kind : Kind} {before : List VariableShape} {own : V
       })
   touch_marked t (inr x) =
       let n = node_touched t x.1 in
-      let far = tile_lies w.roomy 8 (length w.roomy) records' t.tile sound_roomy.has_shape.tiled n.0 in
-      record { inside = n.0; fits = n.2; behind_size = omega arith; behind_type = inl x.0; covered = inr (inl (record { typed = n.1; lies = n.3; low = x.0; high = omega (arith, n.2) })) }
+      let m = node_there t.tile n.0 in
+      let far = tile_lies w.roomy 8 (length w.roomy) records' t.tile sound_roomy.has_shape.tiled m.0 in
+      record { inside = m.0; fits = n.1; behind_size = omega arith; behind_type = inl x.0; covered = inr (inl (record { typed = m.1; lies = n.0; low = x.0; high = omega (arith, n.1) })) }
 
   all_marked : Each (Marked w.roomy records' entries []) w.touches
   all_marked = Each-map (IndexTouch w.roomy own room at) (Marked w.roomy records' entries []) touch_marked w.touches w.within
@@ -246,12 +228,6 @@ module _ {b now : List ℕ} {kind : Kind} {before : List VariableShape} {own : V
   unused_away : (m : ℕ) → Away entries uir_type m
   unused_away m = unmarked-away entries uir_type m (index_unmarked kind own.vdr all_nodes (field 12 (length w.roomy)))
 
-  unused_now : IsChain now records' uir_type (number now s.gdr gdr_uir_head) (shape w.roomy).unused
-  unused_now =
-      let c = entries_clear kind own.vdr all_nodes (length w.roomy) in
-      subst (λ (g : ℕ). IsChain now records' uir_type (number now g gdr_uir_head) (shape w.roomy).unused) gdr_is
-      (chain_stays entries_written uir_type _ _ (shape w.roomy).unused sound_roomy.has_shape.unused_chain (gdr_field sound_roomy entries_written c.0 gdr_uir_head c.2 (omega arith)) (λ m i. away-avoids entries uir_type m 0 20 (unused_away m)))
-
   -- ---- the edit of one variable
 
   pub new_index : NewIndex b now kind own (with_leaf new at own.index) records' (shape w.roomy).unused (r_max_rec_field kind ++ space_fields) space all_nodes (field 12 (length w.roomy)) reborn
@@ -264,31 +240,28 @@ module _ {b now : List ℕ} {kind : Kind} {before : List VariableShape} {own : V
         let x = taken_used m i in
         let k = head_kept m x.0 x.1 in
         rw (k.0, k.1) (sound_roomy.has_shape.typed m x.0, sound_roomy.has_shape.fixed m x.0);
-    unused_chain = unused_now;
+    unused_chain =
+        let c = entries_clear kind own.vdr all_nodes (length w.roomy) in
+        subst (λ (g : ℕ). IsChain now records' uir_type (number now g gdr_uir_head) (shape w.roomy).unused) gdr_is
+        (chain_stays entries_written uir_type _ _ (shape w.roomy).unused sound_roomy.has_shape.unused_chain (gdr_field sound_roomy entries_written c.0 gdr_uir_head c.2 (omega arith)) (λ m i. away-avoids entries uir_type m 0 20 (unused_away m)));
     index_now = w.index;
   }
 
-  abbrev y : OwnEdit b now kind own (with_leaf new at own.index) records' (shape w.roomy).unused (space ++ entries) reborn
-  y = own_edit good among new_index
-
   records_are : (shape now).records ≡ records'
-  records_are = of_own.records_are good among y
-
-  leaf_follows : ActsFollow b now step
-  leaf_follows = acts_still_by taking.grows.sound taking.follow entries_written (index_unmarked kind own.vdr all_nodes (field 12 (length w.roomy))) records_are (of_own.unused_are good among y) w.as_long
+  records_are = of_own.records_are good among (own_edit good among new_index)
 
   pub leaf_max_rec : number now own.vdr vdr_max_rec ≡ number b own.vdr vdr_max_rec
   leaf_max_rec = max_rec_kept good among new_index
 
   pub r_max_rec_stays : r_max_rec now ≡ r_max_rec b
-  r_max_rec_stays = of_own.r_max_rec_kept good among y tests.max_clear
+  r_max_rec_stays = of_own.r_max_rec_kept good among (own_edit good among new_index) tests.max_clear
 
   -- ---- the nodes
 
   -- a touch of a node is one of its entries, or before them
   misses : (m lo hi : ℕ) → In m nodes → 28 + 16 * room_at w.roomy m ≤ lo → (ts : List Touch) → Each (IndexTouch w.roomy own room at) ts → Misses ts m lo hi
   misses m lo hi i behind [] each = tt
-  misses m lo hi i behind (t ∷ ts) each = (λ e. grind (arith, e, each.0, behind, behind_no_vdr good among m (node_behind own m i), node_apart m i, node_taken new.place need room at), misses m lo hi i behind ts each.1)
+  misses m lo hi i behind (t ∷ ts) each = (λ e. grind (arith, e, each.0, behind, behind_no_vdr good among m (node_behind own m i), node_apart m i, node_taken new.place (8 + length body) room at), misses m lo hi i behind ts each.1)
 
   spare_stays : (m : ℕ) → In m nodes → Same b now (m + (28 + 16 * room_at b m)) (m + size_at b m)
   spare_stays m i =
@@ -300,8 +273,8 @@ module _ {b now : List ℕ} {kind : Kind} {before : List VariableShape} {own : V
   nodes_step = record {
     stay = λ m i. node_stays new at own.index m i;
     apart = node_apart;
-    come = λ m i. elim (in_nodes_with_leaf new at own.index m i) [ inl j ↦ inl j | inr x ↦ inr (subst (λ (y : ℕ). is_taken_at step y ≡ true) (sym x.0) (node_taken new.place need room at x.1)) ];
-    sizes = λ m i. let k = node_kept m i in (head_kept m (taking.grows.edit.sub m (node_in m i)) (λ u. apart vxr_type uir_type refl (sym (type_kept b w.roomy m k.same k.long ∙ node_typed m i) ∙ u))).1 ∙ (as_before m i).1;
+    come = λ m i. elim (in_nodes_with_leaf new at own.index m i) [ inl j ↦ inl j | inr x ↦ inr (subst (λ (y : ℕ). is_taken_at step y ≡ true) (sym x.0) (node_taken new.place (8 + length body) room at x.1)) ];
+    sizes = λ m i. let there = node_there m (In-append_right m (new_nodes room at) nodes i) in (head_kept m there.0 (λ u. apart vxr_type uir_type refl (sym there.1 ∙ u))).1 ∙ (as_before m i).1;
     rooms = λ m i. room_stays b now s.records records' 8 8 new at m own.index (has good among).indexed.has_nodes w.index.has_nodes i;
     spare = spare_stays;
     unused = w.unused;
@@ -349,33 +322,23 @@ module _ {b now : List ℕ} {kind : Kind} {before : List VariableShape} {own : V
 
       -- ---- the blocks
 
-      abbrev x : IndexEdit b now kind own (with_leaf new at own.index) records' (shape w.roomy).unused (space ++ entries) reborn
-      x = index_edit good among new_index
-
       block_rows : (l : Leaf) → In l.place records' → type_at now l.place ≡ vvr_type → l.first ≤ l.last → l.last ≤ record_number_limit → 12 + (l.last + 1 - l.first) * record_bytes b own.vdr ≤ size_at now l.place → (is_block now records' l.place ≡ true) × Hold (leaf_rows now records' own.vdr l)
       block_rows l stands typed ordered small fit =
           let there = is_in-true l.place records' stands in
           let count = count_is l small ordered in
-          let size = record_alike file (vdr_alike good among x) in
+          let size = record_alike file (vdr_alike good among (index_edit good among new_index)) in
           rw (there, typed, count, size) (refl, (of_le (12 + (l.last + 1 - l.first) * record_bytes b own.vdr) (size_at now l.place) fit, tt))
-
-      old_leaf : (l : Leaf) → IsOneOf (leaves_of own.index) l → (is_block now records' l.place ≡ true) × Hold (leaf_rows now records' own.vdr l)
-      old_leaf l i =
-          let x = plain_leaf good among loose l i in
-          let j = place_in (leaves_of own.index) l i in
-          let k = block_kept good among new_index l.place j in
-          let stands = edit.sub l.place (behind_in good among l.place (block_behind own l.place j)) in
-          block_rows l stands (type_kept b now l.place k.same k.long ∙ x.typed) x.ordered x.small (rw (size_kept b now l.place k.same (omega (arith, k.long))) x.room)
-
-      new_leaf : (is_block now records' new.place ≡ true) × Hold (leaf_rows now records' own.vdr new)
-      new_leaf =
-          block_rows new (taken_used new.place (inl refl)).0 block_typed vacant.ordered (before_limit new.first new.last (firsts_of own.index) vacant.before_next)
-          (subst (λ (n : ℕ). 12 + n ≤ size_at now new.place) as_long (let size = block_size ∙ body_long body records says in omega arith))
 
       each_leaf : (l : Leaf) → IsOneOf (leaves_of (with_leaf new at own.index)) l → (is_block now records' l.place ≡ true) × Hold (leaf_rows now records' own.vdr l)
       each_leaf l i = elim (leaf_was_there new at 0 record_number_limit own.index order l i) [
-        | inl q ↦ subst (λ (x : Leaf). (is_block now records' x.place ≡ true) × Hold (leaf_rows now records' own.vdr x)) (sym q) new_leaf
-        | inr j ↦ old_leaf l j
+        | inl q ↦
+            let long : 12 + (new.last + 1 - new.first) * record_bytes b own.vdr ≤ size_at now new.place = rw (block_size, body_long body records says, as_long) (omega arith) in
+            subst (λ (x : Leaf). (is_block now records' x.place ≡ true) × Hold (leaf_rows now records' own.vdr x)) (sym q) (block_rows new (taken_used new.place (inl refl)).0 block_typed vacant.ordered (before_limit new.first new.last (firsts_of own.index) vacant.before_next) long)
+        | inr j ↦
+            let x = plain_leaf good among loose l j in
+            let k = block_kept good among new_index l.place (place_in (leaves_of own.index) l j) in
+            let stands = edit.sub l.place (behind_in good among l.place (block_behind own l.place (place_in (leaves_of own.index) l j))) in
+            block_rows l stands (type_kept b now l.place k.same k.long ∙ x.typed) x.ordered x.small (rw (size_kept b now l.place k.same (omega (arith, k.long))) x.room)
       ]
 
       index_ruled : Hold (index_rows now records' own.vdr (with_leaf new at own.index))
@@ -390,7 +353,7 @@ module _ {b now : List ℕ} {kind : Kind} {before : List VariableShape} {own : V
       exchanged = record {
         are_reborn = λ m i. inl i;
         reborn_are = λ m i. elim i [ inl j ↦ j | inr none ↦ absurd none ];
-        times_are = λ m. omega (arith, nodes_with_leaf new at m own.index, new_times room at m, places_with_leaf new at 0 record_number_limit own.index order m, times-append m (new.place ∷ []) (new_nodes room at));
+        times_are = λ m. omega (arith, nodes_with_leaf new at m own.index, new_times room at m, ap (λ (xs : List Leaf). times m (places_of xs)) (leaves_more new at 0 record_number_limit own.index order) ∙ places_new m new (leaves_of own.index), times-append m (new.place ∷ []) (new_nodes room at));
         fresh = taking.fresh_all;
         taken_once = taking.once;
         in_use = λ m i u. let x = taken_used m i in x.1 (sym (head_kept m x.0 x.1).0 ∙ u);
@@ -412,7 +375,7 @@ module _ {b now : List ℕ} {kind : Kind} {before : List VariableShape} {own : V
 
       pub leaf_goes_on : GoesOn b now kind before own (with_index own (with_leaf new at own.index)) after step
       leaf_goes_on =
-          goes_by good among x good_now leaf_follows (keeps_fields sound edit records_are s.gdr gdr_type (r_max_rec_field kind ++ space_fields) (gdr_in b s sound.has_shape) (gdr_typed b s sound.has_shape) tests.heads_clear tests.inside)
+          goes_by good among (index_edit good among new_index) good_now (acts_still_by taking.grows.sound taking.follow entries_written (index_unmarked kind own.vdr all_nodes (field 12 (length w.roomy))) records_are (of_own.unused_are good among (own_edit good among new_index)) w.as_long) (keeps_fields sound edit records_are s.gdr gdr_type (r_max_rec_field kind ++ space_fields) (gdr_in b s sound.has_shape) (gdr_typed b s sound.has_shape) tests.heads_clear tests.inside)
           (λ m i free.
           let ok = sound.has_shape.unused_chain.linkable m i in
           let inside = linkable-in b s.records uir_type m ok in

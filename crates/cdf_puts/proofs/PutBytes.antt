@@ -1,8 +1,8 @@
 -- The bytes of the blocks while records are put: two steps are one, and in the last one none is put.
-use Rattle.cdf_puts.proofs.Common.{Act, Ascending, Beside, Changed, Good, IsOneOf, Kind, Leaf, LeavesGoOn, List, NewBlock, OldBlock, PlainLeaf, RecordIs, Same, SoFar, Some, StandsAmong, Touch, VariableShape, [], ap, apart, arith, behind_in, block_behind, cases_lt, covers, covers_within, drop, drop_at, each, extent, false, find, find_covering, first_written, has, inl, inr, is_taken_at, kept, leaves_of, length, length-take, long, max_rec_at, min, piece_kept, place_in, plain_leaf, put, range, record_bytes, record_of, record_place, refl, room, shape, size_at, sound, subst, suc, take, take_at, tile_lies, times_le, upto, variable_of, word_kept, ℕ, ◌*◌, ◌++◌, ◌+◌, ◌-◌, ◌<◌, ◌∙◌, ◌≡◌, ◌≤◌, ◌⊎◌}
+use Rattle.cdf_puts.proofs.Common.{Act, Ascending, Beside, Changed, Good, IsOneOf, Kind, Leaf, LeavesGoOn, List, NewBlock, OldBlock, PlainLeaf, RecordIs, Same, SoFar, Some, StandsAmong, Touch, VariableShape, [], ap, apart, arith, behind_in, block_behind, cases_lt, covers, covers_within, drop, drop_at, each, extent, find, find_covering, first_written, has, inl, inr, kept, leaves_of, length, length-take, long, max_rec_at, min, piece_kept, place_in, plain_leaf, put, range, record_bytes, record_of, record_place, refl, room, shape, size_at, sound, subst, suc, take, take_at, tile_lies, times_le, upto, variable_of, word_kept, ℕ, ◌*◌, ◌++◌, ◌+◌, ◌-◌, ◌<◌, ◌∙◌, ◌≡◌, ◌≤◌, ◌⊎◌}
 use Rattle.cdf_edits.proofs.Edits.LeafPieces.{found_in}
 use Rattle.cdf_puts.proofs.GoesThen.{later_size}
-use Rattle.cdf_puts.proofs.PutNodes.{taken_both, taken_either, taken_neither}
+use Rattle.cdf_puts.proofs.PutNodes.{neither_taken, taken_either, taken_neither}
 use Rattle.cdf_puts.proofs.PutRules.{loose}
 
 -- a leaf that is not the one of a record ends before it, or begins behind it
@@ -57,9 +57,6 @@ piece_stays {b = b} {now = now} {first = first} {k = k} {size = size} {l = l} o 
     beside p low high (inr le) n from upto f' t' = inr (omega (arith, records_apart n j l.first size f' (omega arith)))
 
 -- ---- two steps are one
-
-neither_taken : (acts acts' : List Act) (m : ℕ) → is_taken_at (acts ++ acts') m ≡ false → (is_taken_at acts m ≡ false) × (is_taken_at acts' m ≡ false)
-neither_taken acts acts' m e = grind (arith, e, taken_both acts acts' m)
 
 module _ {b mid now : List ℕ} {olds leaves leaves' : List Leaf} {raw pad : List ℕ} {r first most k k' size : ℕ} {acts acts' : List Act} {fields : List Touch} (was : (l : Leaf) → IsOneOf olds l → Whole b size l) (is : (l : Leaf) → IsOneOf leaves l → Whole mid size l) (from : first ≤ k) (upto : k ≤ k') (end : k' ≤ r + 1)
     (x : LeavesGoOn b mid olds leaves raw pad r first most k size acts []) (y : LeavesGoOn mid now leaves leaves' raw pad r k most k' size acts' fields) where

@@ -1,7 +1,7 @@
 -- The nodes of an index that grows leaf by leaf: the index but for where its blocks and its new nodes stand, its top chain, and the unused entries and spare bytes of its nodes.
-use Rattle.cdf_puts.proofs.Common.{Act, Bool, Each, Each-in, Entries, EntryIs, Gave, Grows, HasNodes, In, In-append, Kept, Leaf, List, Names, NodeFits, NodeSpareStays, Nodes, NodesFollow, Range, Same, Same-part, SaysEntry, Took, TopGrows, UnusedEntries, [], ap, arith, block, both_ways, by_leaf, cases_lt, chain_reaches, each, either, entries_outline, entry_count, eqb, false, first_at, if◌then◌else◌, indexes_with, inl, inr, is_in, is_in-true, is_taken_at, last_at, leads_down, leaf, length, list_any, lower, lower_nodes, ne_eqb, no_entry, no_node, node, nodes_of, offset_at, or_left, or_right, outline, past, reaches, refl, room_at, same-then, same_of_bytes_eq, size_at, subst, suc, sym, true, true-is_in, upto, used_count, uses_entry, uses_entry_below, was_unused, with_both, with_entry, with_leaf, with_lower, with_ranges, zero, ℕ, ◌*◌, ◌++◌, ◌+◌, ◌<◌, ◌||◌, ◌∙◌, ◌∷◌, ◌≡◌, ◌≤◌, ◌⊎◌, Each-split, nat_tests}
+use Rattle.cdf_puts.proofs.Common.{Act, Bool, Each, Each-in, Entries, EntryIs, Gave, Grows, HasNodes, In, In-append, Kept, Leaf, List, Names, NodeFits, NodeSpareStays, Nodes, NodesFollow, Range, Same, Same-part, SaysEntry, Took, TopGrows, UnusedEntries, [], ap, arith, block, by_leaf, cases_lt, chain_reaches, each, either, entries_outline, entry_count, eqb, false, first_at, if◌then◌else◌, indexes_with, inl, inr, is_in, is_in-true, is_taken_at, last_at, leads_down, leaf, length, list_any, lower, lower_nodes, no_entry, no_node, node, nodes_of, offset_at, outline, past, reaches, refl, room_at, same-then, same_of_bytes_eq, size_at, suc, sym, true, true-is_in, upto, used_count, uses_entry, uses_entry_below, was_unused, with_both, with_entry, with_leaf, with_lower, with_ranges, zero, ℕ, ◌*◌, ◌++◌, ◌+◌, ◌<◌, ◌||◌, ◌∙◌, ◌∷◌, ◌≡◌, ◌≤◌, ◌⊎◌, Each-split, nat_tests}
 use Rattle.std.specs.Prelude.{bytes_eq}
-use Rattle.cdf_edits.proofs.Frame.LinksStay.{SameHeads, room_same, used_same, entry_same}
+use Rattle.cdf_index.proofs.OneNode.{same_node}
 
 -- ---- an outline says the same of an index as the index does
 
@@ -13,12 +13,6 @@ abbrev pub bare : Leaf → Leaf
 bare l = leaf l.first l.last 0 false
 
 module _ (news : List ℕ) where
-  both_outline : (es fs : Entries) → with_both (entries_outline news es) (entries_outline news fs) ≡ entries_outline news (with_both es fs)
-  unfolding outline
-  both_outline no_entry fs = refl
-  both_outline (block first last place packed es) fs = ap (block first last 0 false) (both_outline es fs)
-  both_outline (lower first last nodes es) fs = ap (lower first last (outline news nodes)) (both_outline es fs)
-
   -- what is asked of the entries of a node on the way to a leaf, and how they are split there
   record Alike (new : Leaf) (es : Entries) : Type 0 where
     count : entry_count (entries_outline news es) ≡ entry_count es
@@ -26,12 +20,13 @@ module _ (news : List ℕ) where
     lead : (given : Bool) → leads_down new.first given (entries_outline news es) ≡ leads_down new.first given es
     behind : past new.first (entries_outline news es) ≡ entries_outline news (past new.first es)
     before : upto (bare new) (entries_outline news es) ≡ entries_outline news (upto new es)
+    joined : (fs : Entries) → with_both (entries_outline news es) (entries_outline news fs) ≡ entries_outline news (with_both es fs)
 
   alike : (new : Leaf) (es : Entries) → Alike new es
   unfolding outline
-  alike new no_entry = record { count = refl; reach = refl; lead = λ given. refl; behind = refl; before = refl }
-  alike new (block first last place packed es) = let a = alike new es in grind (arith, a.count, a.reach, a.lead false, a.behind, a.before)
-  alike new (lower first last nodes es) = let a = alike new es in grind (arith, a.count, a.reach, a.lead true, a.behind, a.before)
+  alike new no_entry = record { count = refl; reach = refl; lead = λ given. refl; behind = refl; before = refl; joined = λ fs. refl }
+  alike new (block first last place packed es) = let a = alike new es in grind (arith, a.count, a.reach, a.lead false, a.behind, a.before, a.joined)
+  alike new (lower first last nodes es) = let a = alike new es in grind (arith, a.count, a.reach, a.lead true, a.behind, a.before, a.joined)
 
   chain_outline : (new : Leaf) (ns : Nodes) → chain_reaches new.first (outline news ns) ≡ chain_reaches new.first ns
   unfolding outline
@@ -40,16 +35,12 @@ module _ (news : List ℕ) where
 
   -- ---- a leaf more
 
-  outline_with_entry : (new : Leaf) (at place room : ℕ) (es : Entries) (more : Nodes) → with_entry (bare new) (place_outside news at) (place_outside news place) room (entries_outline news es) (outline news more) ≡ outline news (with_entry new at place room es more)
-  unfolding outline
-  outline_with_entry new at place room es more = let a = alike new es in grind (arith, a.count, a.before, a.behind, (alike new (past new.first es)).count, both_outline (upto new es) (past new.first es))
-
   mutual
     unfolding outline with_leaf with_lower
 
     outline_with_leaf : (new : Leaf) (at : ℕ) (index : Nodes) → with_leaf (bare new) (place_outside news at) (outline news index) ≡ outline news (with_leaf new at index)
     outline_with_leaf new at no_node = refl
-    outline_with_leaf new at (node place room es more) = grind (arith, chain_outline new more, (alike new es).lead false, outline_with_leaf new at more, outline_with_lower new at es, outline_with_entry new at place room es more)
+    outline_with_leaf new at (node place room es more) = grind (arith, chain_outline new more, (alike new es).lead false, outline_with_leaf new at more, outline_with_lower new at es, (alike new es).count, (alike new es).before, (alike new es).behind, (alike new (past new.first es)).count, (alike new (upto new es)).joined (past new.first es))
 
     outline_with_lower : (new : Leaf) (at : ℕ) (es : Entries) → with_lower (bare new) (place_outside news at) (entries_outline news es) ≡ entries_outline news (with_lower new at es)
     outline_with_lower new at no_entry = refl
@@ -129,31 +120,15 @@ with_one_more index [] r = refl
 with_one_more index (x ∷ rs) r = with_one_more (with_range_at_zero index x) rs r
 
 -- what holds of the last of them, or of one, goes on to hold of one
-pub last_of_through : (P : Nodes → Bool) (index : Nodes) (rs : List Range) → P (with_ranges index rs) ≡ true → list_any P (indexes_with index rs) ≡ true
+pub through_goes : (P : Nodes → Bool) (index : Nodes) (rs : List Range) (r : Range) → (P (with_ranges index rs) ≡ true) ⊎ (list_any P (indexes_with index rs) ≡ true) → list_any P (indexes_with index (rs ++ r ∷ [])) ≡ true
 unfolding indexes_with
-last_of_through P index [] e = or_left (P index) false e
-last_of_through P index (x ∷ rs) e = or_right (P index) (list_any P (indexes_with (with_range_at_zero index x) rs)) (last_of_through P (with_range_at_zero index x) rs e)
-
-pub through_stays : (P : Nodes → Bool) (index : Nodes) (rs : List Range) (r : Range) → list_any P (indexes_with index rs) ≡ true → list_any P (indexes_with index (rs ++ r ∷ [])) ≡ true
-unfolding indexes_with
-through_stays P index [] r e = grind (arith, e)
-through_stays P index (x ∷ rs) r e = grind (arith, e, through_stays P (with_range_at_zero index x) rs r)
+through_goes P index [] r e = grind (arith, e)
+through_goes P index (x ∷ rs) r e = grind (arith, e, through_goes P (with_range_at_zero index x) rs r)
 
 -- ---- the top chain
 
 top_steps : (new : Leaf) (at : ℕ) → Grows new at (λ n a a'. TopGrows a a') (λ n es es'. Unit {0})
-top_steps new at = record {
-  along = λ n place room es more more' h. elim h [ inl e ↦ inl (ap (λ (xs : List ℕ). place ∷ xs) e) | inr lt ↦ inr (omega arith) ];
-  down = λ n place room es es' more h. inl refl;
-  none = tt;
-  past_block = λ n first last place packed es es' h. tt;
-  past_lower = λ n first last nodes es es' h. tt;
-  below = λ n first last nodes nodes' es h. tt;
-  alone = inr (omega arith);
-  fits = λ place room es fs more. inl refl;
-  behind = λ place room es more. inr (omega arith);
-  split = λ n place room es fs more wide. inr (omega arith);
-}
+top_steps new at = grind arith
 
 -- the top chain stays, or it grows
 pub top_grows : (new : Leaf) (at : ℕ) (index : Nodes) → TopGrows index (with_leaf new at index)
@@ -175,6 +150,9 @@ taken_either acts acts' m e = grind (arith, e, taken_both acts acts' m)
 pub taken_neither : (acts acts' : List Act) (m : ℕ) → is_taken_at acts m ≡ false → is_taken_at acts' m ≡ false → is_taken_at (acts ++ acts') m ≡ false
 taken_neither acts acts' m e f = grind (arith, taken_both acts acts' m)
 
+pub neither_taken : (acts acts' : List Act) (m : ℕ) → is_taken_at (acts ++ acts') m ≡ false → (is_taken_at acts m ≡ false) × (is_taken_at acts' m ≡ false)
+neither_taken acts acts' m e = grind (arith, taken_both acts acts' m)
+
 pub unless_true : {A : Type 0} {p : Bool} → A ⊎ (p ≡ true) → p ≡ false → A
 unless_true s e = grind (arith, s, e)
 
@@ -185,27 +163,19 @@ says_then : (b mid now : List ℕ) (m i : ℕ) (w : Bool) → SaysEntry now m i 
 says_then b mid now m i w s e = grind (arith, s.first_is, s.last_is, s.offset_is, e)
 
 -- and what follows its entries
-spare_then : (b mid now : List ℕ) (acts : List Act) (m : ℕ) → room_at now m ≡ room_at mid m → size_at mid m ≡ size_at b m → Same mid now (m + (28 + 16 * room_at mid m)) (m + size_at mid m) → NodeSpareStays b mid acts m → NodeSpareStays b now acts m
-spare_then b mid now acts m room size same was e = rw room (same-then b mid now (m + (28 + 16 * room_at mid m)) (m + size_at b m) (was e) (rw size at same))
+spare_then : (b mid now : List ℕ) (acts : List Act) (m : ℕ) → room_at now m ≡ room_at mid m → (is_taken_at acts m ≡ false → size_at mid m ≡ size_at b m) → Same mid now (m + (28 + 16 * room_at mid m)) (m + size_at mid m) → NodeSpareStays b mid acts m → NodeSpareStays b now acts m
+spare_then b mid now acts m room size same was e = rw room (same-then b mid now (m + (28 + 16 * room_at mid m)) (m + size_at b m) (was e) (rw (size e) at same))
 
 -- none of them changes
 pub nodes_same : (b mid now : List ℕ) (through : List Nodes) (before after : List ℕ) (acts : List Act) → ((m : ℕ) → In m after → NodeFits mid m) → ((m : ℕ) → In m after → Kept mid now m) → ((m : ℕ) → In m after → is_taken_at acts m ≡ false → size_at mid m ≡ size_at b m)
     → NodesFollow b mid through before after acts → NodesFollow b now through before after acts
-nodes_same b mid now through before after acts fit kept sizes f =
-    let heads : SameHeads mid now [] [] = record { sizes = λ m i. absurd i; types = λ m i. absurd i; sub = λ m i. i } in
-    let rooms = λ (m : ℕ) (j : In m after). room_same mid now [] [] heads m (kept m j) (fit m j) in
-    record {
-      unused = each (UnusedEntries b now through before acts) after (λ m j i from upto.
-          let used = used_same mid now [] [] heads m (kept m j) (fit m j) in
-          let room = rooms m j in
-          let lt : i < room_at mid m = omega arith in
-          let says = entry_same mid now [] [] heads m (kept m j) (fit m j) i _ _ _ lt (record { first_is = refl; last_is = refl; offset_is = refl }) in
-          elim (Each-in (UnusedEntries b mid through before acts) after f.unused m j i (omega arith) lt) [ inl e ↦ inl (says_then b mid now m i (was_unused b before acts m i) says e) | inr e ↦ inr (e.0, says_then b mid now m i false says e.1) ]);
-      spare = each (NodeSpareStays b now acts) after (λ m j e.
-          let k = (kept m j).same in
-          let fits = (fit m j).0 in
-          spare_then b mid now acts m (rooms m j) (sizes m j e) (Same-part mid now m (m + size_at mid m) _ _ k (omega arith) (omega arith)) (Each-in (NodeSpareStays b mid acts) after f.spare m j) e);
-    }
+nodes_same b mid now through before after acts fit kept sizes f = record {
+  unused = each (UnusedEntries b now through before acts) after (λ m j i from upto.
+      let n = same_node mid now m (kept m j) (fit m j) in
+      let says = n.entries i (omega arith) _ _ _ (record { first_is = refl; last_is = refl; offset_is = refl }) in
+      elim (Each-in (UnusedEntries b mid through before acts) after f.unused m j i (omega arith) (omega arith)) [ inl e ↦ inl (says_then b mid now m i (was_unused b before acts m i) says e) | inr e ↦ inr (e.0, says_then b mid now m i false says e.1) ]);
+  spare = each (NodeSpareStays b now acts) after (λ m j. spare_then b mid now acts m (same_node mid now m (kept m j) (fit m j)).room_is (sizes m j) (Same-part mid now m (m + size_at mid m) _ _ (kept m j).same (omega arith) (omega arith)) (Each-in (NodeSpareStays b mid acts) after f.spare m j));
+}
 
 -- ---- a leaf is added
 
@@ -247,7 +217,7 @@ module _ (b mid now : List ℕ) (through through' : List Nodes) (before after : 
     unused = each (UnusedEntries b now through' before (acts ++ acts')) after (λ m k i low high.
         entry_then b mid now m i (was_unused b before (acts ++ acts') m i) (was_unused mid (nodes_of index) acts' m i) (Each-in (UnusedEntries mid now (index ∷ []) (nodes_of index) acts') after step.unused m k i low high) (was_entry m i high) (was_used m i) (more m i));
     spare = each (NodeSpareStays b now (acts ++ acts')) after (λ m k e.
-        let j = unless_true (step.come m k) (grind (arith, e, taken_both acts acts' m)) in
-        let first : is_taken_at acts m ≡ false = grind (arith, e, taken_both acts acts' m) in
-        spare_then b mid now acts m (step.rooms m j) (sizes m (unless_true (come m j) first)) (step.spare m j) (Each-in (NodeSpareStays b mid acts) (nodes_of index) f.spare m j) first);
+        let out = neither_taken acts acts' m e in
+        let j = unless_true (step.come m k) out.1 in
+        spare_then b mid now acts m (step.rooms m j) (λ e. sizes m (unless_true (come m j) e)) (step.spare m j) (Each-in (NodeSpareStays b mid acts) (nodes_of index) f.spare m j) out.0);
   }

@@ -21,12 +21,9 @@ takes_both [] acts' t u = u
 takes_both (Took place need ∷ more) acts' t u = takes_both more acts' t u
 takes_both (Gave place size ∷ more) acts' t u = absurd t
 
-end_by : (list : List (ℕ × ℕ)) (end need : ℕ) → eof_after list end need ≤ end + need
-end_by list end need = grind arith
-
 end_after_acts : (l : SpaceLeft) (acts : List Act) → OnlyTakes acts → (fold after_act l acts).end ≤ l.end + taken_bytes acts
 end_after_acts l [] t = omega arith
-end_after_acts l (Took place need ∷ more) t = omega (arith, end_after_acts (after_act l (Took place need)) more t, end_by l.listed l.end need, one_taken place need more)
+end_after_acts l (Took place need ∷ more) t = grind (arith, end_after_acts (after_act l (Took place need)) more t, one_taken place need more)
 end_after_acts l (Gave place size ∷ more) t = absurd t
 
 -- an image is longer by no more than was taken

@@ -1,9 +1,10 @@
 -- Where the next record is put: the records of a new block, each step by which records are put, and what an image says of a variable of which some records are put.
-use Rattle.cdf_puts.proofs.Common.{Act, AddsLeaf, BlockRecords, Covering, GoesOn, HasIndex, In, IsBlockBody, IsBody, IsPut, IsVacant, Kind, LeafAdded, List, NodeTaken, Nodes, None, PutStart, PutsOn, PutsUpTo, Putting, RecordsWritten, SoFar, Some, SomePut, SomePutting, StandsAmong, Variable, VariableShape, [], ap, append-nil, arith, block_bytes, block_count, cases_lt, covers, div-le_self, drop, drop-append-le, drop_at, either, extent, false, find, first_written, firsts_of, fits, fixed_size, good_by_its_shape, good_is_sound, has, if◌then◌else◌, image_limit, in_middle, index_at, index_order, inl, inr, is_record_type, is_sparse, last_in_new, leaf, leaf_acts, leaf_of, leaves_of, length, length-append, length-drop, long, max, max_rec_at, min, most_in_block, nat_tests, new_last, new_range, new_room, next_first, node_bytes, number, own_rules, range, record_bytes, record_length, record_of, record_put, records_put, refl, shape, sparse_at, subst, suc, sym, take, take-append-le, take_all, taken_bytes, tile, tile_lies, times_le, transport, uir_type, variable_of, variables, vdr_max_rec, vdr_vxr_head, vdrs, vvr_type, vxr_bytes, widest, with_leaf, zero, ℕ, ◌*◌, ◌++◌, ◌+◌, ◌-◌, ◌<◌, ◌==◌, ◌∙◌, ◌∷◌, ◌≡◌, ◌≤◌}
+use Rattle.cdf_puts.proofs.Common.{Act, AddsLeaf, BlockRecords, Covering, GoesOn, HasIndex, In, IsBlockBody, IsBody, IsPut, IsVacant, Kind, LeafAdded, List, NodeTaken, Nodes, None, PutStart, PutsOn, PutsUpTo, Putting, RecordsWritten, SoFar, Some, SomePut, SomePutting, StandsAmong, Variable, VariableShape, [], ap, append-nil, arith, block_bytes, block_count, cases_lt, covers, div-le_self, drop, drop-append-le, drop_at, either, extent, false, find, first_written, firsts_of, fits, good_by_its_shape, good_is_sound, has, if◌then◌else◌, image_limit, in_middle, index_at, index_order, inl, inr, is_sparse, last_in_new, leaf, leaf_acts, leaf_of, leaves_of, length, length-append, length-drop, long, max, max_rec_at, min, most_in_block, nat_tests, new_last, new_range, new_room, next_first, node_bytes, number, own_rules, range, record_bytes, record_length, record_of, record_put, records_put, refl, shape, sparse_at, subst, suc, sym, take, take-append-le, take_all, taken_bytes, tile, tile_lies, times_le, variable_of, variables, vdr_max_rec, vdr_vxr_head, vdrs, vxr_bytes, widest, with_leaf, zero, ℕ, ◌*◌, ◌++◌, ◌+◌, ◌-◌, ◌<◌, ◌==◌, ◌∙◌, ◌∷◌, ◌≡◌, ◌≤◌}
 use Rattle.cdf_index.specs.Replacing.{with_index}
 use Rattle.cdf_puts.proofs.LeafEdit.{r_max_rec_stays as leaf_r_max_rec, body_long, plain_body, leaf_goes_on, leaf_max_rec, taking}
 use Rattle.cdf_puts.proofs.CoveringRanges.{covering_starts, covering_has, covering_leaf, covering_room, covering_ends, Ends, one_at_least}
-use Rattle.cdf_puts.proofs.GoesThen.{later_size, later_packed, goes_nowhere, goes_then, goes_written}
+use Rattle.cdf_puts.proofs.PutRules.{loose}
+use Rattle.cdf_puts.proofs.GoesThen.{later_size, goes_nowhere, goes_then, goes_written}
 use Rattle.cdf_puts.proofs.IndexAdded.{blocks_added, index_added}
 use Rattle.cdf_puts.proofs.LeafCounts.{new_room_widest}
 use Rattle.cdf_puts.proofs.IndexWritten.{blocks_written, index_written, max_rec_kept, r_max_rec_stays, writes}
@@ -99,9 +100,7 @@ module _ {b : List ℕ} {kind : Kind} {before : List VariableShape} {own : Varia
         let v = variable_of b own in
         let new = leaf k last place false in
         let step = leaf_acts place (8 + length body) (new_room k own'.index) at in
-        let loose = later_packed so.start.good so.start.among so.goes ∙ so.start.loose in
-        let as_long : length records ≡ (last + 1 - k) * record_bytes now own'.vdr = says.as_long ∙ ap (λ (n : ℕ). (last + 1 - k) * n) (sym (later_size so.start.good so.start.among so.goes)) in
-        let goes : GoesOn now now' kind before own' (with_index own' (with_leaf new at own'.index)) after step = leaf_goes_on good among w holds loose vacant as_long short in
+        let goes : GoesOn now now' kind before own' (with_index own' (with_leaf new at own'.index)) after step = leaf_goes_on good among w holds (loose good among) vacant (says.as_long ∙ ap (λ (n : ℕ). (last + 1 - k) * n) (sym (later_size so.start.good so.start.among so.goes))) short in
         let need : 8 + length body ≡ block_bytes v k last = body_long body records holds ∙ ap (λ (n : ℕ). max 28 (12 + n)) says.as_long in
         let bytes : taken_bytes (acts ++ step) ≡ taken_bytes acts + block_bytes v k last + node_bytes k own'.index = omega (arith, taken_sum acts step, leaf_bytes place (8 + length body) (new_room k own'.index) at) in
         let covers : Covering v own.index (with_leaf new at own'.index) r (min (last + 1) (r + 1)) (taken_bytes acts + block_bytes v k last + node_bytes k own'.index) =
@@ -170,7 +169,7 @@ module _ {b now : List ℕ} {kind : Kind} {before : List VariableShape} {own : V
 
     module _ (l : Leaf) (found : Some (seen l) ≡ leaf_of k (leaves_of (index_at now (number now new.vdr vdr_vxr_head)))) where
       here : leaf_of k (leaves_of own'.index) ≡ Some (seen l)
-      here = sym (found ∙ ap (λ (x : Nodes). leaf_of k (leaves_of x)) searched.1)
+      here = sym (rw searched.1 at found)
 
       pub held : HoldsRecords now l (record_bytes now own'.vdr) × (l.first ≤ k) × (k ≤ l.last)
       held =
@@ -189,11 +188,8 @@ module _ {b now : List ℕ} {kind : Kind} {before : List VariableShape} {own : V
         module _ (bytes : List ℕ) (bytes_are : bytes ≡ record_put new.raw.items new.pad.items new.rec k) where
           pub held_within : (k - l.first) * n + length bytes ≤ (l.last + 1 - l.first) * n
           held_within =
-              let long = (ap length bytes_are ∙ record_long new.raw.items new.pad.items new.rec (record_bytes b own.vdr) p.start.raw_long p.pad_long k) ∙ sym (size_now so) ∙ sized in
-              let from = held.1 in
-              let upto = held.2 in
-              let room = times_le (suc (k - l.first)) (l.last + 1 - l.first) n (omega arith) in
-              omega arith
+              let long = ap length bytes_are ∙ record_long new.raw.items new.pad.items new.rec (record_bytes b own.vdr) p.start.raw_long p.pad_long k ∙ sym (size_now so) ∙ sized in
+              omega (arith, held.1, held.2, times_le (suc (k - l.first)) (l.last + 1 - l.first) n (omega (arith, held.1, held.2)))
 
           pub written_on : {now' : List ℕ} → now' ≡ put_at now (l.at + (12 + (k - l.first) * n)) bytes → IsPut b now' kind before own after new (k + 1)
           written_on w = record {
@@ -201,43 +197,34 @@ module _ {b now : List ℕ} {kind : Kind} {before : List VariableShape} {own : V
             acts = is.acts;
             so = so_far_written so more (record {
               found = here;
-              within = let s = sym sized in let e = bytes_are in transport (λ i. (k - l.first) * s i + length (e i) ≤ (l.last + 1 - l.first) * s i) held_within;
-              written = w ∙ (let s = sym sized in let e = bytes_are in λ i. put_at now (l.at + (12 + (k - l.first) * s i)) (e i));
+              within = rw (sized, ← bytes_are) held_within;
+              written = rw (sized, ← bytes_are) w;
             }) (record_long new.raw.items new.pad.items new.rec (record_bytes b own.vdr) p.start.raw_long p.pad_long k);
           }
 
     -- ---- no block has it
 
-    rule : is_sparse (variable_of b own).sparse ≡ false
-    rule = ap is_sparse so.start.no_rule
-
-    abbrev last : ℕ
-    last = new_last (variable_of b own) own'.index k
-
-    ending : Ends k (next_first k (firsts_of own'.index)) (block_count (variable_of b own)) last
+    ending : Ends k (next_first k (firsts_of own'.index)) (block_count (variable_of b own)) (new_last (variable_of b own) own'.index k)
     ending = covering_ends so.covers so.start.small more
 
-    last_is : last_in_new new.most own'.index k ≡ last
-    last_is = last_as (variable_of b own) own'.index k new.rec new.most rule p.most_is so.covers.from more (omega (arith, ending.0, ending.1))
+    last_is : last_in_new new.most own'.index k ≡ new_last (variable_of b own) own'.index k
+    last_is = last_as (variable_of b own) own'.index k new.rec new.most (ap is_sparse so.start.no_rule) p.most_is so.covers.from more (omega (arith, ending.0, ending.1))
 
     module _ {at : ℕ} (at_is : at ≡ number now new.vdr vdr_vxr_head) (vacant : leaf_of k (leaves_of (index_at now at)) ≡ None) where
-      tree_is : index_at now at ≡ own'.index
-      tree_is = ap (index_at now) at_is ∙ searched.1
-
       none : find (λ (leaf : TreeLeaf). covers k (range leaf.first leaf.last)) (leaves_of own'.index) ≡ None
-      none = sym (ap (λ (x : Nodes). leaf_of k (leaves_of x)) tree_is) ∙ vacant
+      none = rw (at_is, searched.1) at vacant
 
       module _ (end : ℕ) (end_is : end ≡ last_in_new new.most (index_at now at) k) (body : List ℕ) (says : IsBlockBody body (records_put new.raw.items new.pad.items new.rec (end + 1 - k) k)) where
-        ends_at : end ≡ last
-        ends_at = end_is ∙ ap (λ (x : Nodes). last_in_new new.most x k) tree_is ∙ last_is
+        ends_at : end ≡ new_last (variable_of b own) own'.index k
+        ends_at = rw (at_is, searched.1) at end_is ∙ last_is
 
-        need : 8 + length body ≡ block_bytes (variable_of b own) k last
+        need : 8 + length body ≡ block_bytes (variable_of b own) k (new_last (variable_of b own) own'.index k)
         need =
             body_long body (records_put new.raw.items new.pad.items new.rec (end + 1 - k) k) says
             ∙ ap (λ (n : ℕ). max 28 (12 + n)) (records_long new.raw.items new.pad.items new.rec (record_bytes b own.vdr) p.start.raw_long p.pad_long (end + 1 - k) k ∙ ap (λ (n : ℕ). (n + 1 - k) * (record_bytes b own.vdr)) ends_at)
 
         room_here : length now + (8 + length body) + vxr_bytes (widest own'.index) ≤ limit
-        room_here = omega (arith, longer_by b now is.acts so.goes.follow so.takes, need, covering_room so.covers so.start.small more rule so.start.loose none)
+        room_here = omega (arith, longer_by b now is.acts so.goes.follow so.takes, need, covering_room so.covers so.start.small more (ap is_sparse so.start.no_rule) so.start.loose none)
 
         -- an image that is read in between
         pub room_after : {mid : List ℕ} {bound : ℕ} → mid ≡ now → bound ≡ limit → length mid + (8 + length body) + vxr_bytes (widest (index_at mid (number mid new.vdr vdr_vxr_head))) ≤ bound
@@ -258,17 +245,13 @@ module _ {b now : List ℕ} {kind : Kind} {before : List VariableShape} {own : V
 
 -- ---- from the first image on
 
--- the first record that is written is the same for each such variable
-starts_at : (b : List ℕ) (own other : VariableShape) (r : ℕ) → other.vdr ≡ own.vdr → first_written (variable_of b other) r ≡ first_written (variable_of b own) r
-starts_at b own other r e = ap (λ (v : ℕ). if is_sparse (sparse_at b v) then r else min r (extent (max_rec_at b v))) e
-
 -- where what is read in between leaves the image and the limit
 pub on_after : {early mid now : List ℕ} {new : NewRecord} {k next limit bound : ℕ} → mid ≡ early → bound ≡ limit → PutsOn mid now bound new k next → PutsOn early now limit new k next
 on_after {early = early} {now = now} {new = new} {k = k} {next = next} {bound = bound} same bounded on = subst (λ (n : ℕ). PutsOn early now n new k next) bounded (subst (λ (x : List ℕ). PutsOn x now bound new k next) same on)
 
 pub all_start : {b : List ℕ} {new : NewRecord} {from limit : ℕ} → SomePutting b new from limit → PutsUpTo b b limit new from
 all_start {b = b} {new = new} some kind before own after p =
-    let from = starts_at b some.own own new.rec (p.vdr_is ∙ sym some.putting.vdr_is) ∙ sym some.from_is in
+    let from = ap (λ (v : ℕ). if is_sparse (sparse_at b v) then new.rec else min new.rec (extent (max_rec_at b v))) (p.vdr_is ∙ sym some.putting.vdr_is) ∙ sym some.from_is in
     record { own' = own; acts = []; so = subst (λ (n : ℕ). SoFar b b kind before own own after new.raw.items new.pad.items new.rec n []) from (so_far_starts p.start) }
 
 pub some_put : {b now : List ℕ} {new : NewRecord} {from k limit : ℕ} → SomePutting b new from limit → PutsUpTo b now limit new k → SomePut now new k limit
@@ -279,6 +262,4 @@ all_on {b = b} all on kind before own after p = on b kind before own after p (al
 
 -- once a record past the last one would be next, all are put
 pub all_done : {b now : List ℕ} {new : NewRecord} {k limit : ℕ} → PutsUpTo b now limit new k → new.rec < k → PutsUpTo b now limit new (new.rec + 1)
-all_done {b = b} {now = now} {new = new} {k = k} all past kind before own after p =
-    let is = all kind before own after p in
-    subst (IsPut b now kind before own after new) (omega arith) is
+all_done {b = b} {now = now} {new = new} all past kind before own after p = subst (IsPut b now kind before own after new) (omega (arith, (all kind before own after p).so.upto)) (all kind before own after p)
