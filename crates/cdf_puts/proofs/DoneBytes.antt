@@ -1,9 +1,9 @@
 -- All records are put: the index, what was taken for it and the bytes of the blocks are as the command says, and what is stored as each record. The image follows the command.
-use Rattle.cdf_puts.proofs.Common.{Act, AllKeep, Allowance, Allowances, Ascending, Beside, BlockFollows, BlocksSoFar, Bool, Changed, CutsFirst, DataSet, Each-in, Found, GoesOn, HoldsPads, In, In-append, IsOneOf, Keeps, Kept, Kind, Leaf, List, MaxRecDone, NewBlock, NodeFits, None, OneVariable, Only, Option, Outside, Outside-append, PlainLeaf, PutsBytes, PutsIndex, PutsLeaves, PutsRecord, Range, SoFar, Some, SpareIs, Sparse, StaysUnwritten, TailFollows, Unused, UnwrittenStay, Variable, VariableShape, [], anything_if, ap, append-nil, arith, behind_in, behind_kept, block_behind, block_end, both, bytes_eq, bytes_eq-same, cases_lt, content, count_is, covers, cut_open, cuts_before_put, drop, drop-drop, drop_all, each_of, either, eq-eqb, eq_of, eqb-true, extent, false, false-is_in, filled, filter, filter-says, find, find_covering, first_written, fits, greater, if◌then◌else◌, index_records, inl, inr, is_changed, is_in, is_little, is_rewritten, is_sparse, is_taken, is_taken_at, is_written, keep_all, keep_attributes, keep_file, keep_kinds, keep_places, keep_variable_parts, keep_variables, keeps_stood, last_node, leaf_at, leaves_ascend, leaves_of, length, length-take, list_any, map, max, max_rec_at, max_rec_touches, min, nat_lt, nat_tests, ne_eqb, node_behind, nodes_of, number, option_map, or_parts, other_kind, owned, pad_record, past, place_in, places_of, plain_bytes, plain_piece, put_changes, put_count, put_fields, put_room, r_max_rec_field, range, range_at, ranges_before_put, ranges_of, record_bytes, record_number_limit, record_of, record_place, records_in, records_of_leaf, refl, repeat, room, room_of_variable, same_Some, same_as_itself, same_of_bytes_eq, shape, shapes_of, shared, slice_get, sound, space_before, stays_alike, stays_all, stays_in_place, stored_bytes, stored_in, subst, suc, sym, take, take-append-drop, taken_bytes, times_le, top_chain, top_stays, touch, touched_field, transport, true, true-is_in, true≢false, turned, type_alike, type_at, type_of_variable, uir_type, uncovered, unused_allowance, unused_in, unused_records, variable_named, variable_of, variable_records, vdr_max_rec, vdr_vxr_tail, vvr_place, was_leaf, with_record, with_variable, written_in, zero, ℕ, ◌*◌, ◌++◌, ◌+◌, ◌-◌, ◌<◌, ◌==◌, ◌∙◌, ◌∷◌, ◌≡◌, ◌≢◌, ◌≤◌, ◌⊎◌}
+use Rattle.cdf_puts.proofs.Common.{Act, AllKeep, Allowance, Allowances, Ascending, Beside, BlockFollows, BlocksSoFar, Bool, Changed, CutsFirst, DataSet, Each-in, Found, GoesOn, HoldsPads, In, In-append, IsOneOf, Keeps, Kept, Kind, Leaf, List, MaxRecDone, NewBlock, NodeFits, None, OneVariable, Only, Option, Outside, Outside-append, PlainLeaf, PutsBytes, PutsIndex, PutsLeaves, PutsRecord, Range, SoFar, Some, SpareIs, Sparse, StaysUnwritten, TailFollows, Unused, UnwrittenStay, Variable, VariableShape, [], anything_if, ap, append-nil, arith, behind_in, behind_kept, block_behind, block_end, both, bytes_eq, bytes_eq-same, cases_lt, content, count_is, covers, cut_open, drop, drop-drop, drop_all, each_of, either, eq-eqb, eq_of, eqb-true, extent, false, false-is_in, filled, filter, filter-says, find, find_covering, first_written, fits, greater, if◌then◌else◌, index_records, inl, inr, is_changed, is_in, is_little, is_rewritten, is_sparse, is_taken, is_taken_at, is_written, keep_all, keep_attributes, keep_file, keep_kinds, keep_places, keep_variable_parts, keep_variables, keeps_stood, last_node, leaf_at, leaves_ascend, leaves_of, length, length-take, list_any, map, max, max_rec_at, max_rec_touches, min, nat_lt, nat_tests, ne_eqb, node_behind, nodes_of, number, option_map, or_parts, other_kind, owned, pad_record, past, place_in, places_of, plain_bytes, plain_piece, put_changes, put_count, put_fields, put_room, r_max_rec_field, range, range_at, ranges_before_put, ranges_of, record_bytes, record_number_limit, record_of, record_place, records_in, records_of_leaf, refl, repeat, room, room_of_variable, same_Some, same_as_itself, same_of_bytes_eq, shape, shapes_of, shared, slice_get, sound, space_before, stays_alike, stays_all, stays_in_place, stored_bytes, stored_in, subst, suc, sym, take, take-append-drop, taken_bytes, times_le, top_chain, top_stays, touch, touched_field, transport, true, true-is_in, true≢false, turned, type_alike, type_at, type_of_variable, uir_type, uncovered, unused_allowance, unused_in, unused_records, variable_named, variable_of, variable_records, vdr_max_rec, vdr_vxr_tail, vvr_place, was_leaf, with_record, with_variable, written_in, zero, ℕ, ◌*◌, ◌++◌, ◌+◌, ◌-◌, ◌<◌, ◌==◌, ◌∙◌, ◌∷◌, ◌≡◌, ◌≢◌, ◌≤◌, ◌⊎◌}
 use Rattle.cdf_edits.proofs.Edits.RecordsPut.{StoresPut, extent_last, filled_uncut, records_put}
 use Rattle.cdf_model.specs.Numbered.{with_item}
 use Rattle.cdf_puts.specs.Going.{found_in as own_found}
-use Rattle.cdf_puts.proofs.PutRules.{no_cpr, uncut as no_cut}
+use Rattle.cdf_puts.proofs.PutRules.{no_cpr, uncut}
 use Rattle.cdf_puts.proofs.LastImage.{last_goes, last_max_rec, last_r_max_rec, last_writes}
 use Rattle.cdf_puts.proofs.PutBytes.{behind_all, blocks_then, found_covering, none_is_put, old_size, old_whole, piece_stays, whole}
 use Rattle.cdf_puts.proofs.IndexWritten.{nodes_still}
@@ -81,20 +81,11 @@ module _ {b now last : List ℕ} {kind : Kind} {before : List VariableShape} {ow
 
   -- ---- the index
 
-  uncut : cuts_before_put v r ≡ false
-  uncut = no_cut so.start.good so.start.among r
-
   size_last : record_bytes last own'.vdr ≡ size
   size_last = later_size so.start.good so.start.among put
 
   last_size : record_bytes last own.vdr ≡ size
   last_size = ap (record_bytes last) (sym put.vdr_is) ∙ size_last
-
-  puts : PutsLeaves b last v.rle own'.vdr (filter (is_written v r) (leaves_of own'.index)) own.index acts own'.index
-  puts =
-      let end = append-nil (filter (is_written v r) leaves) in
-      let acts_end = append-nil acts in
-      transport (λ i. PutsLeaves b last ((sym so.start.loose) i) ((sym so.goes.vdr_is) i) (end i) own.index (acts_end i) own'.index) (so.index.puts last last_size [] [] own'.index (refl, refl))
 
   -- ---- VXRtail
 
@@ -121,8 +112,13 @@ module _ {b now last : List ℕ} {kind : Kind} {before : List VariableShape} {ow
     cut = [];
     put = acts;
     acts_are = refl;
-    cuts = subst (CutsFirst b last v own own' own.index []) (sym uncut) (refl, refl);
-    puts = puts;
+    cuts = subst (CutsFirst b last v own own' own.index []) (sym (uncut so.start.good so.start.among r)) (refl, refl);
+    puts =
+        let loose = sym so.start.loose in
+        let vdr = sym so.goes.vdr_is in
+        let end = append-nil (filter (is_written v r) leaves) in
+        let acts_end = append-nil acts in
+        transport (λ i. PutsLeaves b last (loose i) (vdr i) (end i) own.index (acts_end i) own'.index) (so.index.puts last last_size [] [] own'.index (refl, refl));
     tail = tail;
     nodes = (nodes_still so.index.nodes (λ m i. Each-in (NodeFits now) (nodes_of own'.index) (fits so.goes.good so.goes.among).1 m i) (λ m i. behind m (node_behind own' m i))).follow;
     freed = none_given b last acts acts so.takes;
@@ -155,7 +151,8 @@ module _ {b now last : List ℕ} {kind : Kind} {before : List VariableShape} {ow
   stored_same j few side = elim (some_or_none (find (λ (leaf : Leaf). covers j (range leaf.first leaf.last)) olds)) [
     | inl x ↦
         let o = found_covering j olds x.0 x.1 in
-        stored_at j x.0 (all.stay x.0 o.0) o.1.0 o.1.1 ∙ ap Some (piece_stays (all.old x.0 o.0) (old_whole so x.0 o.0) all.longer j o.1.0 o.1.1 (elim side [ inl lt ↦ inl lt | inr lt ↦ inr (omega arith) ])) ∙ sym (stored_in_leaf b own.vdr size j olds (leaves_ascend so.start.good so.start.among) refl x.0 o.0 (old_whole so x.0 o.0).leaf o.1.0 o.1.1)
+        let same = piece_stays (all.old x.0 o.0) (old_whole so x.0 o.0) all.longer j o.1.0 o.1.1 (elim side [ inl lt ↦ inl lt | inr lt ↦ inr (omega arith) ]) in
+        stored_at j x.0 (all.stay x.0 o.0) o.1.0 o.1.1 ∙ ap Some same ∙ sym (stored_in_leaf b own.vdr size j olds (leaves_ascend so.start.good so.start.among) refl x.0 o.0 (old_whole so x.0 o.0).leaf o.1.0 o.1.1)
     | inr none ↦ elim (some_or_none (find (λ (leaf : Leaf). covers j (range leaf.first leaf.last)) leaves)) [
       | inr e ↦ ap (option_map _) e ∙ sym (ap (option_map _) none)
       | inl x ↦
@@ -188,11 +185,11 @@ module _ {b now last : List ℕ} {kind : Kind} {before : List VariableShape} {ow
         kept = λ k lt ne. stored_same k (λ e. lt) (elim (cases_lt r k) [ inl past ↦ inr past | inr le ↦ inl (omega arith) ]);
       } in
       let max_rec = last_max_rec so done in
-      let recs : records_in last own.vdr leaves ≡ with_item r bytes (filled v.sparse v r) = records_put stores ∙ ap (with_item r bytes) (sym (filled_uncut v r uncut)) in
+      let recs : records_in last own.vdr leaves ≡ with_item r bytes (filled v.sparse v r) = records_put stores ∙ ap (with_item r bytes) (sym (filled_uncut v r (uncut so.start.good so.start.among r))) in
       put.content_is ∙ ap (with_variable (content b) (own_found b kind before own)) (later_variable so.start.good so.start.among put ∙ (λ i. record v { max_rec = max_rec i; recs = recs i }))
 
   before_is : ranges_before_put v own.index r ≡ ranges_of own.index
-  before_is = ap (λ (c : Bool). if c then cut_open (extent v.max_rec) record_number_limit (ranges_of own.index) else ranges_of own.index) uncut
+  before_is = ap (λ (c : Bool). if c then cut_open (extent v.max_rec) record_number_limit (ranges_of own.index) else ranges_of own.index) (uncut so.start.good so.start.among r)
 
   -- ---- what each record keeps
 
@@ -248,17 +245,18 @@ module _ {b now last : List ℕ} {kind : Kind} {before : List VariableShape} {ow
 
   -- ---- in place
 
-  nothing_taken : uncovered v own.index r ≡ 0 → acts ≡ []
-  nothing_taken e = none_without_bytes (space_before b) acts so.goes.follow.are so.takes (let room : put_room v own.index r ≡ 0 = rw (e, so.start.loose) refl in omega (arith, so.covers.fits))
-
   in_place : stays_in_place v own r ≡ true → Changed b last (max_rec_touches b kind own.vdr ++ written_in v first r olds)
   in_place e = record {
     longer = all.longer;
     same = λ place lt out.
-        let none = nothing_taken (eq_of (uncovered v own.index r) 0 (both (uncovered v own.index r == 0) _ e).0) in
+        let covered = eq_of (uncovered v own.index r) 0 (both (uncovered v own.index r == 0) _ e).0 in
+        let room : put_room v own.index r ≡ 0 = rw (covered, so.start.loose) refl in
+        let none = none_without_bytes (space_before b) acts so.goes.follow.are so.takes (omega (arith, so.covers.fits)) in
         let quiet = λ (m : ℕ). ap (λ (xs : List Act). is_taken_at xs m) none in
         let p = Outside-append (max_rec_touches b kind own.vdr) (written_in v first r olds) place out in
-        all.quiet quiet place lt (let gdr = sym so.goes.gdr_is in let vdr = sym so.goes.vdr_is in transport (λ i. Outside (map (touched_field (gdr i)) (r_max_rec_field kind) ++ touched_field (vdr i) vdr_max_rec ∷ []) place) p.0) (λ l i. elim (all.new l i) [ inl o ↦ beside_written first r size olds place p.1 l o | inr n ↦ absurd (true≢false (sym n.was_taken ∙ quiet l.place)) ]);
+        let gdr = sym so.goes.gdr_is in
+        let vdr = sym so.goes.vdr_is in
+        all.quiet quiet place lt (transport (λ i. Outside (map (touched_field (gdr i)) (r_max_rec_field kind) ++ touched_field (vdr i) vdr_max_rec ∷ []) place) p.0) (λ l i. elim (all.new l i) [ inl o ↦ beside_written first r size olds place p.1 l o | inr n ↦ absurd (true≢false (sym n.was_taken ∙ quiet l.place)) ]);
   }
 
   -- ---- what was there
@@ -275,9 +273,6 @@ module _ {b now last : List ℕ} {kind : Kind} {before : List VariableShape} {ow
   -- ---- pads
 
   module _ (pad_stored : extent (max_rec_at b own.vdr) ≤ r → pad ≡ turned (type_of_variable b own.vdr) (is_little b) (pad_record v)) where
-    pad_now : most ≤ r → pad ≡ (turned v.type (is_little last) (pad_record v))
-    pad_now le = pad_stored le ∙ ap (λ (c : Bool). turned v.type c (pad_record v)) (sym put.file.little)
-
     new_pads : (l : Leaf) → IsOneOf leaves l → NewBlock last raw pad r first most (r + 1) size acts l → drop (stored_in v r l * size) (plain_bytes last own'.vdr l) ≡ repeat (records_of_leaf l - stored_in v r l) (turned v.type (is_little last) (pad_record v))
     new_pads l i n =
         let x = last_plain l i in
@@ -293,7 +288,7 @@ module _ {b now last : List ℕ} {kind : Kind} {before : List VariableShape} {ow
         let upto : l.first + j ≤ l.last = omega arith in
         let le : most ≤ r = omega (arith, n.alone) in
         ap (λ (m : ℕ). take size (drop (m * size) bytes)) (sym same) ∙ plain_piece last own'.vdr size (l.first + j) l x.plain x.small size_last (omega arith) upto
-        ∙ n.written (l.first + j) (omega arith) upto ∙ pad_is (l.first + j) (λ e. absurd (omega arith)) ∙ pad_now le)
+        ∙ n.written (l.first + j) (omega arith) upto ∙ pad_is (l.first + j) (λ e. absurd (omega arith)) ∙ pad_stored le ∙ ap (λ (c : Bool). turned v.type c (pad_record v)) (sym put.file.little))
 
     padded : (l : Leaf) → IsOneOf leaves l → HoldsPads last v own'.vdr r (ranges_before_put v own.index r) l
     padded l i none = elim (all.new l i) [
@@ -331,9 +326,6 @@ module _ {b now last : List ℕ} {kind : Kind} {before : List VariableShape} {ow
     abbrev found : Found
     found = own_found b kind before own
 
-    pub so_far_done : PutsRecord b last kind v r own own' acts
-    so_far_done = record { index = index_done; bytes = bytes_done; r_max_rec = last_r_max_rec so done }
-
     -- ---- of the variable that has a name
 
     was_there : slice_get (shapes_of (shape b) kind) (length before) ≡ Some own
@@ -345,7 +337,7 @@ module _ {b now last : List ℕ} {kind : Kind} {before : List VariableShape} {ow
           let q : found ≡ found' = same_Some found found' (sym named ∙ is.named) in
           let was : own ≡ x = same_Some own x (sym was_there ∙ ap (λ (f : Found). slice_get (shapes_of (shape b) f.kind) f.number) q ∙ is.before) in
           let now_is : own' ≡ x' = same_Some own' x' (sym (ap (λ (vs : List VariableShape). slice_get vs (length before)) put.among.was ∙ got-middle before own' after) ∙ ap (λ (f : Found). slice_get (shapes_of (shape last) f.kind) f.number) q ∙ is.after) in
-          subst (λ (f : Found). PutsRecord b last f.kind f.variable r x x' acts) q (subst (λ (y : VariableShape). PutsRecord b last kind v r y x' acts) was (subst (λ (y : VariableShape). PutsRecord b last kind v r own y acts) now_is so_far_done))
+          transport (λ i. PutsRecord b last (q i).kind (q i).variable r (was i) (now_is i) acts) (record { index = index_done; bytes = bytes_done; r_max_rec = last_r_max_rec so done })
 
       module _ (bytes : List ℕ) (raw_is : turned (type_of_variable b own.vdr) (is_little b) raw ≡ bytes) (pad_is : extent (max_rec_at b own.vdr) < r → turned (type_of_variable b own.vdr) (is_little b) pad ≡ pad_record v) where
         follows_by : (c : Command) → only_reads c ≡ false → step (content b) c ≡ ByStep (Go (with_variable (content b) found (with_record v r bytes)) replies.Plain) → room b c ≡ put_room v own.index r → allowances b (content b) (shape b) c ≡ put_changes b (shape b) found r → Does b c last acts → Follows b c last

@@ -1,5 +1,5 @@
 -- One image goes on to another: what a put may change of the records of its variable, what the descriptor says by then, that an edit of one variable is such a step, and that two steps are one.
-use Rattle.cdf_puts.proofs.Common.{Act, ActsFollow, AttributeShape, DataSet, Field, FileSame, GoesOn, Good, HasShape, In, IndexEdit, IsSound, Kept, Kind, List, ListedStay, LooseStay, Mark, Nodes, Only, OnlyTakes, OutsideFields, OwnEdit, R, Shape, StandsAmong, Stays, Stood, Touch, Variable, VariableShape, VdrStays, WritesRecords, Z, [], acts_joined, after_ours, all_variable_records, among_now, ap, arith, attribute_records, cdr_kept, cdr_type, content, content_replaced, either, false, false-is_in, fits, flat_map, gdr_keeps, good_is_sound, good_now, image_limit, index_edit, inl, inr, is_a-in, is_compressed, is_in, is_taken, keeps_stood, kept_away, kind_ours, leaves_of, length, linkable-in, linkable-type, list_any, listed_before, long, marks, max_rec_at, nat_le, nat_lt, no_acts_follow, none_of_both, number, only, other_kind, others_are, ours, own_edit, own_rules, packed_stays, part, put_fields, r_max_rec_field, record_alike, record_bytes, records_are, records_in, refl, shape, shapes_of, size_at, slice_set, space_fields, splices, stays_alike, stood, subst, suc, sym, taken, tile, tile_lies, true-is_in, type_at, uir_next_uir, uir_prev_uir, uir_type, unused_stands, variable_of, variable_records, variable_stays, variables_in, variables_of, vdr_size, vdr_vxr_tail, with_variables, word_kept, zero, ℕ, ◌&&◌, ◌++◌, ◌+◌, ◌<◌, ◌∙◌, ◌∷◌, ◌≡◌, ◌≤◌}
+use Rattle.cdf_puts.proofs.Common.{Act, ActsFollow, AttributeShape, DataSet, Field, GoesOn, Good, HasShape, In, IndexEdit, IsSound, Kept, Kind, List, ListedStay, LooseStay, Mark, Nodes, Only, OnlyTakes, OutsideFields, OwnEdit, R, Shape, StandsAmong, Stays, Stood, Touch, Variable, VariableShape, VdrStays, WritesRecords, Z, [], acts_joined, after_ours, all_variable_records, among_now, ap, arith, attribute_records, cdr_kept, cdr_type, content, content_replaced, either, false, false-is_in, fits, flat_map, gdr_keeps, good_is_sound, good_now, image_limit, index_edit, inl, inr, is_a-in, is_in, is_taken, keeps_stood, kept_away, kind_ours, leaves_of, length, linkable-in, linkable-type, list_any, listed_before, long, marks, max_rec_at, nat_le, nat_lt, no_acts_follow, none_of_both, number, only, other_kind, others_are, ours, own_edit, own_rules, part, put_fields, r_max_rec_field, record_alike, record_bytes, records_are, records_in, refl, shape, shapes_of, size_at, slice_set, space_fields, splices, stays_alike, stood, subst, suc, sym, taken, tile, tile_lies, true-is_in, type_at, uir_next_uir, uir_prev_uir, uir_type, unused_stands, variable_of, variable_records, variable_stays, variables_in, variables_of, vdr_size, vdr_vxr_tail, with_variables, word_kept, zero, ℕ, ◌&&◌, ◌++◌, ◌+◌, ◌<◌, ◌∙◌, ◌∷◌, ◌≡◌, ◌≤◌}
 use Rattle.cdf_edits.proofs.Edits.IndexEdited as of_index
 use Rattle.cdf_edits.proofs.Edits.OwnEdited.{same_shape}
 use Rattle.cdf_edits.proofs.Edits.VariableKeeps.{stays_then, type_stays, stays_bytes}
@@ -28,9 +28,6 @@ module _ {b now : List ℕ} {kind : Kind} {before : List VariableShape} {own : V
     -- the same, of the variable with its later index
     pub later_size : record_bytes now own'.vdr ≡ record_bytes b own.vdr
     later_size = ap (record_bytes now) goes.vdr_is ∙ record_alike goes.file (stays_alike goes.file (stays goes.descriptor))
-
-    pub later_packed : is_compressed now own'.vdr ≡ is_compressed b own.vdr
-    later_packed = ap (is_compressed now) goes.vdr_is ∙ packed_stays goes.file (stays goes.descriptor)
 
     -- but for MaxRec and its records
     pub later_variable : variable_of now own' ≡ record (variable_of b own) { max_rec = max_rec_at now own.vdr; recs = records_in now own.vdr (leaves_of own'.index) }
@@ -151,15 +148,6 @@ module _ {b mid now : List ℕ} {kind : Kind} {before : List VariableShape} {own
             stays_then b mid now m links [] links x (second.loose m x.stands typed (false-is_in m (shape mid).unused e)) (λ n o. (o, tt))
       ]
 
-  content_then : content now ≡ with_variables (content b) kind (slice_set (variables_of (content b) kind) (length before) (variable_of now own''))
-  content_then = second.content_is ∙ ap (λ (d : DataSet). with_set d kind (length before) (variable_of now own'')) first.content_is ∙ with_twice (content b) kind (length before) (variable_of mid own') (variable_of now own'')
-
-  file_then : FileSame b now
-  file_then =
-      let x = first.file in
-      let y = second.file in
-      record { longer = omega arith; gdr_is = y.gdr_is ∙ x.gdr_is; little = y.little ∙ x.little; dimensions = y.dimensions ∙ x.dimensions; sizes = y.sizes ∙ x.sizes }
-
   pub goes_then : GoesOn b now kind before own own'' after (acts ++ acts')
   goes_then =
       let x = first.stay in
@@ -171,8 +159,8 @@ module _ {b mid now : List ℕ} {kind : Kind} {before : List VariableShape} {own
         gdr_is = second.gdr_is ∙ first.gdr_is;
         attributes_are = second.attributes_are ∙ first.attributes_are;
         others_are = second.others_are ∙ first.others_are;
-        file = file_then;
-        content_is = content_then;
+        file = let f = first.file in let g = second.file in record { longer = omega arith; gdr_is = g.gdr_is ∙ f.gdr_is; little = g.little ∙ f.little; dimensions = g.dimensions ∙ f.dimensions; sizes = g.sizes ∙ f.sizes };
+        content_is = second.content_is ∙ ap (λ (d : DataSet). with_set d kind (length before) (variable_of now own'')) first.content_is ∙ with_twice (content b) kind (length before) (variable_of mid own') (variable_of now own'');
         follow = acts_joined h h' first.follow second.follow takes takes' first.listed second.listed;
         gdr = twice (shape b).gdr (r_max_rec_field kind ++ space_fields) first.gdr (subst (λ (m : ℕ). Stays mid now m (r_max_rec_field kind ++ space_fields)) first.gdr_is second.gdr);
         descriptor = twice own.vdr put_fields first.descriptor (subst (λ (m : ℕ). Stays mid now m put_fields) first.vdr_is second.descriptor);

@@ -1,5 +1,5 @@
 -- A leaf is added while records are put: the blocks of the variable, which leaves were put by then, which ranges are new, the top chain and the nodes.
-use Rattle.cdf_puts.proofs.Common.{Act, Ascending, BlockRecords, BlocksSoFar, Bool, Good, In, InOrder, IndexSoFar, IsBlockBody, IsOneOf, IsVacant, Kind, Leaf, LeafAdded, List, NewBlock, NodeTaken, NodesFollow, NodesSoFar, None, PutsBefore, Range, Same, SoFar, Some, StandsAmong, TopGrows, VariableShape, [], ap, apart, arith, before_limit, behind_in, block_behind, block_need, bytes_eq, bytes_eq-same, cases_lt, count_is, covers, drop, extent, false, filled, filter, find, find_covering, first_written, firsts_of, has, if◌then◌else◌, in_order, index_order, indexes_with, inl, inr, is_in, is_taken_at, last_node, last_or, leaf, leaf_acts, leaves_ascend, leaves_more, leaves_of, length, list_any, lt-ltb, max_rec_at, min, nat_tests, new_range, new_ranges, new_room, nodes_of, number, of_each, outline, own_rules, place_in, plain_bytes, plain_piece, range, ranges_of, record_alike, record_bytes, record_number_limit, records_of_leaf, refl, room, same_Some, shape, size_at, sound, subst, suc, sym, take, taken_places, tile_lies, top_chain, true, true≢false, uir_type, unwrap_or, uses_entry, variable_of, vdr_alike, vdr_vxr_tail, vvr_type, was_put, with_leaf, with_new, with_ranges, zero, ℕ, ◌*◌, ◌++◌, ◌+◌, ◌-◌, ◌<◌, ◌||◌, ◌∙◌, ◌∷◌, ◌≡◌, ◌≤◌, ◌⊎◌, is_in-true}
+use Rattle.cdf_puts.proofs.Common.{Act, Ascending, BlockRecords, BlocksSoFar, Bool, Good, In, InOrder, IndexSoFar, IsBlockBody, IsOneOf, IsVacant, Kind, Leaf, LeafAdded, List, NewBlock, NodeTaken, NodesSoFar, None, PutsBefore, Range, Same, SoFar, Some, StandsAmong, TopGrows, VariableShape, [], ap, apart, arith, before_limit, behind_in, block_behind, block_need, bytes_eq, bytes_eq-same, cases_lt, count_is, covers, drop, extent, false, filled, filter, find, find_covering, first_written, firsts_of, has, if◌then◌else◌, in_order, index_order, indexes_with, inl, inr, is_in, is_in-true, is_taken_at, last_node, last_or, leaf, leaf_acts, leaves_ascend, leaves_more, leaves_of, length, list_any, lt-ltb, max_rec_at, min, nat_tests, new_range, new_ranges, new_room, nodes_of, number, of_each, outline, own_rules, place_in, plain_bytes, plain_piece, range, ranges_of, record_alike, record_bytes, record_number_limit, records_of_leaf, refl, room, same_Some, shape, size_at, sound, subst, suc, sym, take, taken_places, tile_lies, top_chain, true, true≢false, uir_type, unwrap_or, uses_entry, variable_of, vdr_alike, vdr_vxr_tail, vvr_type, was_put, with_leaf, with_new, with_ranges, zero, ℕ, ◌*◌, ◌++◌, ◌+◌, ◌-◌, ◌<◌, ◌||◌, ◌∙◌, ◌∷◌, ◌≡◌, ◌≤◌, ◌⊎◌}
 use Rattle.cdf_puts.proofs.CoveringRanges.{one_alone, of_leaves}
 use Rattle.cdf_puts.proofs.LeafCounts.{leaf_is_there, leaf_was_there}
 use Rattle.cdf_puts.proofs.LeafEdit.{file, new_index, used_apart, node_in, node_taken, nodes_step}
@@ -88,12 +88,6 @@ module _ {b now now' : List ℕ} {kind : Kind} {before : List VariableShape} {ow
   size_after : record_bytes now' own'.vdr ≡ record_bytes b own.vdr
   size_after = record_alike (file so.goes.good so.goes.among w) (vdr_alike so.goes.good so.goes.among (index_edit so.goes.good so.goes.among (new_index so.goes.good so.goes.among w))) ∙ size_now so
 
-  longer : length now ≤ length now'
-  longer = (file so.goes.good so.goes.among w).longer
-
-  same : (l : Leaf) → IsOneOf leaves l → Same now now' l.place (l.place + size_at now l.place)
-  same l i = of_each (λ (l : Leaf). Same now now' l.place (l.place + size_at now l.place)) leaves l (blocks_go_on so.goes.good so.goes.among w holds).old i
-
   leaf_apart : (l : Leaf) → IsOneOf leaves l → is_taken_at step l.place ≡ false
   leaf_apart l i = used_apart so.goes.good so.goes.among w l.place (behind_in so.goes.good so.goes.among l.place (block_behind own' l.place (place_in leaves l i))) (λ e. absurd (apart vvr_type uir_type refl (sym (now_whole so l i).leaf.typed ∙ e)))
 
@@ -120,10 +114,13 @@ module _ {b now now' : List ℕ} {kind : Kind} {before : List VariableShape} {ow
 
   pub blocks_added : BlocksSoFar b now' own own'' raw pad r first upto (acts ++ step) []
   blocks_added = blocks_then so (omega (arith, more_upto)) (omega arith) refl (record {
-    longer = longer;
+    longer = (file so.goes.good so.goes.among w).longer;
     stay = in_new;
     apart = leaf_apart;
-    old = λ l i. let side = beside_new l i in record { written = λ j from low f t. absurd (omega arith); kept = λ p low high out. (same l i).each p low high };
+    old = λ l i.
+        let side = beside_new l i in
+        let same = of_each (λ (l : Leaf). Same now now' l.place (l.place + size_at now l.place)) leaves l (blocks_go_on so.goes.good so.goes.among w holds).old i in
+        record { written = λ j from low f t. absurd (omega arith); kept = λ p low high out. same.each p low high };
     new = λ l i. elim (leaf_was_there new at 0 record_number_limit own'.index order l i) [
       | inl q ↦ inr (subst (NewBlock now' raw pad r k (extent (max_rec_at b own.vdr)) upto (record_bytes b own.vdr) step) (sym q) new_block)
       | inr j ↦ inl j
@@ -134,7 +131,7 @@ module _ {b now now' : List ℕ} {kind : Kind} {before : List VariableShape} {ow
 
   -- ---- the index
 
-  abbrev n : NodesSoFar b now own own' acts
+  abbrev n : NodesSoFar b now own own' (new_ranges (ranges_of own.index) (ranges_of own'.index)) acts
   n = so.index.nodes
 
   leaves_are : leaves_of own''.index ≡ with_new new leaves
@@ -176,28 +173,22 @@ module _ {b now now' : List ℕ} {kind : Kind} {before : List VariableShape} {ow
   outside : place_outside (taken_places (acts ++ step)) at ≡ 0
   outside = outside_zero (taken_places (acts ++ step)) at (elim (cases_lt 0 (new_room k own'.index)) [ inl some ↦ inl (taken_either acts step at (inr (node_taken place (8 + length body) (new_room k own'.index) at some))) | inr none ↦ inr (no_node_zero w.filled w.roomy (new_room k own'.index) at w.node (omega arith)) ])
 
-  outlined : outline (taken_places (acts ++ step)) own''.index ≡ outline [] (with_ranges own.index (rs ++ range k last ∷ []))
-  outlined =
-      same_with_leaf (taken_places acts) (taken_places (acts ++ step)) new at own'.index (with_ranges own.index rs) n.outlined (λ m i. taken_both acts step m ∙ ap (λ (p : Bool). is_taken_at acts m || p) (s.apart m i) ∙ or-false (is_taken_at acts m)) outside
-      ∙ ap (outline []) (sym (with_one_more own.index rs (range k last)))
+  lies : (m : ℕ) → In m (nodes_of own'.index) → 8 ≤ m
+  lies m i = (tile_lies now 8 (length now) (shape now).records m (sound so.goes.good so.goes.among).has_shape.tiled (node_in so.goes.good so.goes.among w m i)).low
 
-  not_zero : (m : ℕ) → In m (nodes_of own'.index) → m ≡ 0 → ⊥
-  not_zero m i e = let low = (tile_lies now 8 (length now) (shape now).records m (sound so.goes.good so.goes.among).has_shape.tiled (node_in so.goes.good so.goes.among w m i)).low in omega arith
-
-  follow : NodesFollow b now' (indexes_with own.index (rs ++ range k last ∷ [])) (nodes_of own.index) (nodes_of own''.index) (acts ++ step)
-  follow = nodes_then b now now' (indexes_with own.index rs) (indexes_with own.index (rs ++ range k last ∷ [])) (nodes_of own.index) (nodes_of own''.index) own'.index acts step n.follow s n.stay n.sizes n.come
-      (λ m i e. through_goes (uses_entry m i) own.index rs (range k last) (inr e))
-      (λ m i j e. through_goes (uses_entry m i) own.index rs (range k last) (inl (sym (same_uses (taken_places acts) m i own'.index (with_ranges own.index rs) n.outlined (n.apart m j) (not_zero m (n.stay m j))) ∙ e)))
-      (shape now).records 8 (has so.goes.good so.goes.among).indexed.has_nodes
-
-  nodes_added : NodesSoFar b now' own own'' (acts ++ step)
+  nodes_added : NodesSoFar b now' own own'' (rs ++ range k last ∷ []) (acts ++ step)
   nodes_added = record {
     stay = λ m i. s.stay m (n.stay m i);
     apart = λ m i. taken_neither acts step m (n.apart m i) (s.apart m (n.stay m i));
     come = λ m i. elim (s.come m i) [ inl j ↦ elim (n.come m j) [ inl k ↦ inl k | inr t ↦ inr (taken_either acts step m (inl t)) ] | inr t ↦ inr (taken_either acts step m (inr t)) ];
     sizes = λ m i. s.sizes m (n.stay m i) ∙ n.sizes m i;
-    outlined = outlined ∙ sym (ap (λ (xs : List Range). outline [] (with_ranges own.index xs)) one_new);
-    follow = subst (λ (xs : List Range). NodesFollow b now' (indexes_with own.index xs) (nodes_of own.index) (nodes_of own''.index) (acts ++ step)) (sym one_new) follow;
+    outlined =
+        same_with_leaf (taken_places acts) (taken_places (acts ++ step)) new at own'.index (with_ranges own.index rs) n.outlined (λ m i. taken_both acts step m ∙ ap (λ (p : Bool). is_taken_at acts m || p) (s.apart m i) ∙ or-false (is_taken_at acts m)) outside
+        ∙ ap (outline []) (sym (with_one_more own.index rs (range k last)));
+    follow = nodes_then b now now' (indexes_with own.index rs) (indexes_with own.index (rs ++ range k last ∷ [])) (nodes_of own.index) (nodes_of own''.index) own'.index acts step n.follow s n.stay n.sizes n.come
+        (λ m i e. through_goes (uses_entry m i) own.index rs (range k last) (inr e))
+        (λ m i j e. through_goes (uses_entry m i) own.index rs (range k last) (inl (sym (same_uses (taken_places acts) m i own'.index (with_ranges own.index rs) n.outlined (n.apart m j) (λ zero. absurd (omega (arith, lies m (n.stay m j))))) ∙ e)))
+        (shape now).records 8 (has so.goes.good so.goes.among).indexed.has_nodes;
   }
 
   grows : TopGrows own'.index own''.index
@@ -209,5 +200,5 @@ module _ {b now now' : List ℕ} {kind : Kind} {before : List VariableShape} {ow
     tail = tail_then (top_chain own.index) (top_chain own'.index) (top_chain own''.index) (number b own.vdr vdr_vxr_tail) (number now own.vdr vdr_vxr_tail) (number now' own.vdr vdr_vxr_tail) so.index.top grows so.index.tail
         (subst (λ (v : ℕ). number now' v vdr_vxr_tail ≡ (if bytes_eq (top_chain own'.index) (top_chain own''.index) then number now v vdr_vxr_tail else last_node own''.index)) so.goes.vdr_is w.tail);
     top = top_then (top_chain own.index) (top_chain own'.index) (top_chain own''.index) so.index.top grows;
-    nodes = nodes_added;
+    nodes = subst (λ (xs : List Range). NodesSoFar b now' own own'' xs (acts ++ step)) (sym one_new) nodes_added;
   }

@@ -1,5 +1,5 @@
 -- A record is written in a block: the record holds its bytes, no other byte changes, and the index stays; of the leaves that were put the one of the record is the last by then.
-use Rattle.cdf_puts.proofs.Common.{Act, BlocksSoFar, Changed, Each-in, Good, HasShape, In, IndexSoFar, IsOneOf, Kept, Kind, Leaf, LeavesGoOn, List, NodeFits, NodesSoFar, OldBlock, Outside-append, PutsBefore, RecordIs, RecordsWritten, Same, Shape, SoFar, StandsAmong, Touch, VariableShape, WritesRecords, [], ap, apart, append-nil, arith, behind_in, block_behind, block_kept, byte, cases_eq, cast_signed, changed_part, drop, either, extent, file, filter, find_covering, find_first, first_written, fits, gdr_in, gdr_long, gdr_r_max_rec, gdr_type, gdr_typed, good_now, image_limit, inl, inr, integer4, is_max_rec, kept, leaves_apart, leaves_ascend, leaves_of, length, length-put, long, max_rec_at, max_rec_touches, no_block, node_kept, nodes_of, number, one_place, own_rules, place_in, places_of, r_max_rec, record_bytes, record_number_limit, record_of, record_place, refl, same_Some, shape, size_at, size_kept, sound, subst, suc, sym, take, tile, touch, type_at, variable_of, vdr_max_rec, vdr_vxr_tail, vvr_type, w32, was_put, word_kept, ℕ, ◌*◌, ◌+◌, ◌-◌, ◌<◌, ◌∙◌, ◌∷◌, ◌≡◌, ◌≢◌, ◌≤◌, ◌⊎◌}
+use Rattle.cdf_puts.proofs.Common.{Act, BlocksSoFar, Changed, Each-in, Good, HasShape, In, IndexSoFar, IsOneOf, Kept, Kind, Leaf, LeavesGoOn, List, NodeFits, NodesSoFar, OldBlock, Outside-append, PutsBefore, Range, RecordIs, RecordsWritten, Same, Shape, SoFar, StandsAmong, Touch, VariableShape, WritesRecords, [], ap, apart, append-nil, arith, behind_in, block_behind, block_kept, byte, cases_eq, cast_signed, changed_part, drop, either, extent, file, filter, find_covering, find_first, first_written, fits, gdr_in, gdr_long, gdr_r_max_rec, gdr_type, gdr_typed, inl, inr, integer4, is_max_rec, kept, leaves_apart, leaves_ascend, leaves_of, length, length-put, long, max_rec_at, max_rec_touches, no_block, node_kept, nodes_of, number, one_place, own_rules, place_in, places_of, r_max_rec, record_bytes, record_number_limit, record_of, record_place, refl, same_Some, shape, size_at, size_kept, sound, subst, suc, sym, take, tile, touch, type_at, variable_of, vdr_max_rec, vdr_vxr_tail, vvr_type, w32, was_put, word_kept, ℕ, ◌*◌, ◌+◌, ◌-◌, ◌<◌, ◌∙◌, ◌∷◌, ◌≡◌, ◌≢◌, ◌≤◌, ◌⊎◌}
 use Rattle.cdf_edits.proofs.Frame.ChangedBytes.{changed_put}
 use Rattle.cdf_puts.proofs.PutBytes.{Whole, blocks_then, found_covering, put_there, size_now, whole}
 use Rattle.cdf_puts.proofs.SoFarStarts.{put_next, puts_old}
@@ -53,9 +53,6 @@ module _ {b now : List ℕ} {kind : Kind} {before : List VariableShape} {own : V
     max_rec_ruled = ap is_max_rec max_rec_kept ∙ (own_rules good at).0.1.1.1.1.1.1.1.0;
   }
 
-  pub good_written : length b ≤ image_limit → Good now
-  good_written = good_now good at writes
-
   pub r_max_rec_stays : r_max_rec now ≡ r_max_rec b
   r_max_rec_stays =
       let no_gdr : s.gdr ≡ l.place → ⊥ = λ e. apart gdr_type vvr_type refl (sym (gdr_typed b s h) ∙ ap (type_at b) e ∙ here.leaf.typed) in
@@ -98,7 +95,7 @@ module _ {b now : List ℕ} {kind : Kind} {before : List VariableShape} {own : V
 -- ---- while records are put
 
 -- no node changes
-pub nodes_still : {b now now' : List ℕ} {own own' : VariableShape} {acts : List Act} → NodesSoFar b now own own' acts → ((m : ℕ) → In m (nodes_of own'.index) → NodeFits now m) → ((m : ℕ) → In m (nodes_of own'.index) → Kept now now' m) → NodesSoFar b now' own own' acts
+pub nodes_still : {b now now' : List ℕ} {own own' : VariableShape} {ranges : List Range} {acts : List Act} → NodesSoFar b now own own' ranges acts → ((m : ℕ) → In m (nodes_of own'.index) → NodeFits now m) → ((m : ℕ) → In m (nodes_of own'.index) → Kept now now' m) → NodesSoFar b now' own own' ranges acts
 nodes_still {b = b} {now = now} {now' = now'} {own = own} {own' = own'} {acts = acts} n fit kept = record {
   stay = n.stay;
   apart = n.apart;

@@ -1,5 +1,5 @@
 -- The nodes of an index that grows leaf by leaf: the index but for where its blocks and its new nodes stand, its top chain, and the unused entries and spare bytes of its nodes.
-use Rattle.cdf_puts.proofs.Common.{same_node, bytes_eq, Act, Bool, Each, Each-in, Entries, EntryIs, Gave, Grows, HasNodes, In, In-append, Kept, Leaf, List, Names, NodeFits, NodeSpareStays, Nodes, NodesFollow, Range, Same, Same-part, SaysEntry, Took, TopGrows, UnusedEntries, [], ap, arith, block, by_leaf, cases_lt, chain_reaches, each, either, entries_outline, entry_count, eqb, false, first_at, if◌then◌else◌, indexes_with, inl, inr, is_in, is_in-true, is_taken_at, last_at, leads_down, leaf, length, list_any, lower, lower_nodes, no_entry, no_node, node, nodes_of, offset_at, outline, past, reaches, refl, room_at, same-then, same_of_bytes_eq, size_at, suc, sym, true, true-is_in, upto, used_count, uses_entry, uses_entry_below, was_unused, with_both, with_leaf, with_lower, with_ranges, zero, ℕ, ◌*◌, ◌++◌, ◌+◌, ◌<◌, ◌||◌, ◌∙◌, ◌∷◌, ◌≡◌, ◌≤◌, ◌⊎◌, Each-split, nat_tests}
+use Rattle.cdf_puts.proofs.Common.{same_node, bytes_eq, Act, Bool, Each, Each-in, Entries, EntryIs, Gave, Grows, HasNodes, In, In-append, Kept, Leaf, List, Names, NodeFits, NodeSpareStays, Nodes, NodesFollow, Range, Same, Same-part, SaysEntry, Took, TopGrows, UnusedEntries, [], ap, arith, block, by_leaf, cases_lt, chain_reaches, each, either, entries_outline, entry_count, false, first_at, if◌then◌else◌, indexes_with, inl, inr, is_in, is_in-true, is_taken_at, last_at, leads_down, leaf, length, list_any, lower, lower_nodes, no_entry, no_node, node, nodes_of, offset_at, outline, past, reaches, refl, room_at, same-then, same_of_bytes_eq, size_at, suc, sym, true, true-is_in, upto, used_count, uses_entry, uses_entry_below, was_unused, with_both, with_leaf, with_lower, with_ranges, zero, ℕ, ◌*◌, ◌++◌, ◌+◌, ◌<◌, ◌||◌, ◌∙◌, ◌∷◌, ◌≡◌, ◌≤◌, ◌⊎◌, Each-split, nat_tests}
 
 -- ---- an outline says the same of an index as the index does
 
@@ -48,15 +48,12 @@ module _ (news : List ℕ) where
   -- ---- which entries are used
 
   module _ (vxr i : ℕ) (old : is_in vxr news ≡ false) (stands : vxr ≡ 0 → ⊥) where
-    same_place : (place : ℕ) → eqb (place_outside news place) vxr ≡ eqb place vxr
-    same_place place = grind (arith, nat_tests, old, stands)
-
     mutual
       unfolding outline uses_entry uses_entry_below
 
       pub uses_outline : (index : Nodes) → uses_entry vxr i (outline news index) ≡ uses_entry vxr i index
       uses_outline no_node = refl
-      uses_outline (node place room es more) = rw (same_place place, (alike (leaf 0 0 0 false) es).count, uses_below_outline es, uses_outline more) refl
+      uses_outline (node place room es more) = grind (arith, nat_tests, old, stands, (alike (leaf 0 0 0 false) es).count, uses_below_outline es, uses_outline more)
 
       pub uses_below_outline : (es : Entries) → uses_entry_below vxr i (entries_outline news es) ≡ uses_entry_below vxr i es
       uses_below_outline no_entry = refl
@@ -82,14 +79,11 @@ mutual
 
 -- ---- two indexes with the same outline, where new nodes stand at 0 in the second
 
-abbrev pub SameOutline : List ℕ → Nodes → Nodes → Type 0
-SameOutline news index index' = outline news index ≡ outline [] index'
-
 -- A leaf more keeps it, where a node that is needed stands at a new place, and one that is not at 0; no node that was there is new by that.
-pub same_with_leaf : (news news' : List ℕ) (new : Leaf) (at : ℕ) (index index' : Nodes) → SameOutline news index index' → ((m : ℕ) → In m (nodes_of index) → is_in m news' ≡ is_in m news) → place_outside news' at ≡ 0 → SameOutline news' (with_leaf new at index) (with_leaf (leaf new.first new.last 0 false) 0 index')
+pub same_with_leaf : (news news' : List ℕ) (new : Leaf) (at : ℕ) (index index' : Nodes) → outline news index ≡ outline [] index' → ((m : ℕ) → In m (nodes_of index) → is_in m news' ≡ is_in m news) → place_outside news' at ≡ 0 → outline news' (with_leaf new at index) ≡ outline [] (with_leaf (leaf new.first new.last 0 false) 0 index')
 same_with_leaf news news' new at index index' same agree outside = grind (arith, outline_with_leaf news' new at index, outside, outline_agrees news news' index (each (λ m. is_in m news' ≡ is_in m news) (nodes_of index) agree), same, outline_with_leaf [] (leaf new.first new.last 0 false) 0 index')
 
-pub same_uses : (news : List ℕ) (vxr i : ℕ) (index index' : Nodes) → SameOutline news index index' → is_in vxr news ≡ false → (vxr ≡ 0 → ⊥) → uses_entry vxr i index ≡ uses_entry vxr i index'
+pub same_uses : (news : List ℕ) (vxr i : ℕ) (index index' : Nodes) → outline news index ≡ outline [] index' → is_in vxr news ≡ false → (vxr ≡ 0 → ⊥) → uses_entry vxr i index ≡ uses_entry vxr i index'
 same_uses news vxr i index index' same old stands = sym (uses_outline news vxr i old stands index) ∙ ap (uses_entry vxr i) same ∙ uses_outline [] vxr i refl stands index'
 
 -- ---- an entry that a node uses is used in the index

@@ -1,5 +1,5 @@
 -- The leaves that were put so far: which one more there is once a record is written or a leaf is added, that a put goes through them one after the other, and how that starts.
-use Rattle.cdf_puts.proofs.Common.{Act, Ascending, BlocksSoFar, Bool, IndexSoFar, IsOneOf, Kind, Leaf, List, NodeSpareStays, Nodes, NodesFollow, NodesSoFar, None, PutStart, PutsBefore, PutsLeaves, Range, Some, TakesNode, UnusedEntries, VariableShape, [], ap, append_assoc, arith, block_need, bytes_eq-same, covers, each, false, filter, find, first_written, has, if◌then◌else◌, in_order, indexes_with, inl, inr, is_in, is_in-true, leaf_acts, leaves_ascend, leaves_of, list_any, nat_le, nat_tests, ne_eqb, new_ranges, new_room, node_acts, nodes_of, of_le, outline, range, ranges_of, record_bytes, record_number_limit, refl, room, subst, suc, sym, through, top_chain, true, upto, used_count, variable_of, was_put, with_leaf, with_new, with_ranges, zero, ℕ, ◌++◌, ◌+◌, ◌<◌, ◌==◌, ◌∙◌, ◌∷◌, ◌≡◌, ◌≤◌}
+use Rattle.cdf_puts.proofs.Common.{Act, Ascending, BlocksSoFar, Bool, IndexSoFar, IsOneOf, Kind, Leaf, List, NodeSpareStays, Nodes, NodesFollow, NodesSoFar, None, PutStart, PutsBefore, PutsLeaves, Range, Some, TakesNode, UnusedEntries, VariableShape, [], ap, append_assoc, arith, block_need, bytes_eq-same, covers, each, false, filter, find, first_written, has, if◌then◌else◌, in_order, indexes_with, inl, inr, is_in, is_in-true, leaf_acts, leaves_ascend, leaves_of, list_any, nat_le, nat_tests, ne_eqb, new_ranges, new_room, node_acts, nodes_of, of_le, range, ranges_of, record_bytes, record_number_limit, refl, room, subst, suc, sym, through, top_chain, true, upto, used_count, variable_of, was_put, with_leaf, with_new, zero, ℕ, ◌++◌, ◌+◌, ◌<◌, ◌==◌, ◌∙◌, ◌∷◌, ◌≡◌, ◌≤◌}
 use Rattle.cdf_puts.proofs.CoveringRanges.{of_leaves}
 use Rattle.cdf_puts.proofs.PutBytes.{none_is_put}
 
@@ -42,9 +42,7 @@ takes_node (suc room) at Then rest none t = rw (ne_eqb (suc room) 0 (λ e. absur
 
 -- another leaf that was there
 pub puts_old : (b : List ℕ) (own own' : VariableShape) (leaves : List Leaf) (acts : List Act) (l : Leaf) → PutsBefore b own own' leaves acts → find (λ (old : Leaf). old.first == l.first) (leaves_of own'.index) ≡ Some l → PutsBefore b own own' (leaves ++ l ∷ []) acts
-puts_old b own own' leaves acts l so found last size more acts' end p =
-    subst (λ (ls : List Leaf). PutsLeaves b last false own.vdr ls own.index (acts ++ acts') end) (sym (append_assoc leaves (l ∷ []) more))
-    (so last size (l ∷ more) acts' end (rw (found, PutsLeaves) (refl, p)))
+puts_old b own own' leaves acts l so found last size more acts' end p = rw (append_assoc leaves (l ∷ []) more) (so last size (l ∷ more) acts' end (rw (found, PutsLeaves) (refl, p)))
 
 -- a leaf that is added
 pub puts_new : (b : List ℕ) (own own' : VariableShape) (leaves : List Leaf) (acts : List Act) (new : Leaf) (need at : ℕ) → PutsBefore b own own' leaves acts → find (λ (old : Leaf). old.first == new.first) (leaves_of own'.index) ≡ None
@@ -95,25 +93,13 @@ module _ {b : List ℕ} {kind : Kind} {before : List VariableShape} {own : Varia
   pub starts_upto : first ≤ r
   starts_upto = rw start.no_rule (omega arith)
 
-  no_new : new_ranges (ranges_of own.index) (ranges_of own.index) ≡ []
-  no_new = none_new (ranges_of own.index) (leaves_of own.index) (λ l i. covers_own (leaves_of own.index) l i (in_order 0 (suc record_number_limit) (leaves_of own.index) (leaves_ascend start.good start.among) l i).ordered)
-
-  nodes_start : NodesSoFar b b own own []
-  nodes_start = record {
-    stay = λ m i. i;
-    apart = λ m i. refl;
-    come = λ m i. inl i;
-    sizes = λ m i. refl;
-    outlined = sym (ap (λ (rs : List Range). outline [] (with_ranges own.index rs)) no_new);
-    follow = nodes_first b (indexes_with own.index (new_ranges (ranges_of own.index) (ranges_of own.index))) (nodes_of own.index);
-  }
-
   pub index_start : IndexSoFar b b own own first first []
   index_start = record {
     puts = subst (λ (ls : List Leaf). PutsBefore b own own ls []) (sym (none_pass (was_put first first) (leaves_of own.index) (λ l i. grind (arith, nat_tests)))) (λ last size more acts' end p. p);
     tail = let same = bytes_eq-same (top_chain own.index) in rw same refl;
     top = inl refl;
-    nodes = nodes_start;
+    nodes = subst (λ (rs : List Range). NodesSoFar b b own own rs []) (sym (none_new (ranges_of own.index) (leaves_of own.index) (λ l i. covers_own (leaves_of own.index) l i (in_order 0 (suc record_number_limit) (leaves_of own.index) (leaves_ascend start.good start.among) l i).ordered)))
+        (record { stay = λ m i. i; apart = λ m i. refl; come = λ m i. inl i; sizes = λ m i. refl; outlined = refl; follow = nodes_first b (indexes_with own.index []) (nodes_of own.index) });
   }
 
   pub blocks_start : BlocksSoFar b b own own raw pad r first first [] []

@@ -8,7 +8,7 @@ use Rattle.cdf_model.specs.Limits.{image_limit, record_number_limit}
 use Rattle.cdf_edits.specs.Commands.GreatestRecord.{r_max_rec}
 use Rattle.cdf_edits.specs.Commands.Puts.{PutsLeaves, new_ranges}
 use Rattle.cdf_edits.specs.Frame.Changed.{Touch, Outside}
-use Rattle.cdf_edits.specs.Index.Blocks.{ranges_of, first_written}
+use Rattle.cdf_edits.specs.Index.Blocks.{Range, ranges_of, first_written}
 use Rattle.cdf_edits.specs.Index.Grown.{with_ranges, indexes_with, outline}
 use Rattle.cdf_edits.specs.Index.Written.{is_taken_at, NodesFollow, top_chain}
 use Rattle.cdf_edits.specs.Space.Acts.{Act, taken}
@@ -80,20 +80,20 @@ PutsBefore b own own' leaves acts = (last : List ℕ) → record_bytes last own.
 abbrev pub TopGrows : Nodes → Nodes → Type 0
 TopGrows before after = (top_chain after ≡ top_chain before) ⊎ (length (top_chain before) < length (top_chain after))
 
--- The nodes: those that were there stay and keep their size, each other was taken.
-pub record NodesSoFar (b now : List ℕ) (own own' : VariableShape) (acts : List Act) : Type 0 where
+-- The nodes, where the records of these ranges got a block: those that were there stay and keep their size, each other was taken.
+pub record NodesSoFar (b now : List ℕ) (own own' : VariableShape) (ranges : List Range) (acts : List Act) : Type 0 where
   pub stay : (m : ℕ) → In m (nodes_of own.index) → In m (nodes_of own'.index)
   pub apart : (m : ℕ) → In m (nodes_of own.index) → is_taken_at acts m ≡ false
   pub come : (m : ℕ) → In m (nodes_of own'.index) → In m (nodes_of own.index) ⊎ (is_taken_at acts m ≡ true)
   pub sizes : (m : ℕ) → In m (nodes_of own.index) → size_at now m ≡ size_at b m
-  pub outlined : outline (taken_places acts) own'.index ≡ outline [] (with_ranges own.index (new_ranges (ranges_of own.index) (ranges_of own'.index)))
-  pub follow : NodesFollow b now (indexes_with own.index (new_ranges (ranges_of own.index) (ranges_of own'.index))) (nodes_of own.index) (nodes_of own'.index) acts
+  pub outlined : outline (taken_places acts) own'.index ≡ outline [] (with_ranges own.index ranges)
+  pub follow : NodesFollow b now (indexes_with own.index ranges) (nodes_of own.index) (nodes_of own'.index) acts
 
 pub record IndexSoFar (b now : List ℕ) (own own' : VariableShape) (first k : ℕ) (acts : List Act) : Type 0 where
   pub puts : PutsBefore b own own' (filter (was_put first k) (leaves_of own'.index)) acts
   pub tail : TailGoesOn b now own.vdr own.index own'.index
   pub top : TopGrows own.index own'.index
-  pub nodes : NodesSoFar b now own own' acts
+  pub nodes : NodesSoFar b now own own' (new_ranges (ranges_of own.index) (ranges_of own'.index)) acts
 
 -- ---- the blocks
 

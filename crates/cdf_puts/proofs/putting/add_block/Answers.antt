@@ -3,9 +3,7 @@ use Rattle.cdf_puts.proofs.PutSpot.{body_is, AddsOn, added_on, room_after, searc
 use Rattle.cdf_puts.proofs.putting.add_block.Goals as goal
 
 pub last_of_new-requires-clause-index : goal.last_of_new-requires-clause-index
-last_of_new-requires-clause-index g c =
-    let s = c.requires.some in
-    subst (HasIndex (g.A.Area.image c.args.area.now)) (sym c.requires.head) (searched s.putting s.is).0
+last_of_new-requires-clause-index g c = subst (HasIndex (g.A.Area.image c.args.area.now)) (sym c.requires.head) (searched c.requires.some.putting c.requires.some.is).0
 
 pub last_of_new-requires-clause-some : goal.last_of_new-requires-clause-some
 last_of_new-requires-clause-some g c = let s = c.requires.some in (some_few s.putting s.is c.requires.more).0
