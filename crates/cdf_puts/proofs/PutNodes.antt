@@ -119,12 +119,9 @@ through_goes P index (x ∷ rs) r e = grind (arith, e, through_goes P (with_rang
 
 -- ---- the top chain
 
-top_steps : (new : Leaf) (at : ℕ) → Grows new at (λ n a a'. TopGrows a a') (λ n es es'. Unit {0})
-top_steps new at = grind arith
-
 -- the top chain stays, or it grows
 pub top_grows : (new : Leaf) (at : ℕ) (index : Nodes) → TopGrows index (with_leaf new at index)
-top_grows new at index = by_leaf (top_steps new at) index
+top_grows new at index = let steps : Grows new at (λ n a a'. TopGrows a a') (λ n es es'. Unit {0}) = grind arith in by_leaf steps index
 
 pub bytes_longer : (xs ys : List ℕ) → length xs < length ys → bytes_eq xs ys ≡ false
 bytes_longer xs ys l = elim (either (bytes_eq xs ys)) [ inl t ↦ absurd (omega (arith, ap length (same_of_bytes_eq xs ys t))) | inr t ↦ t ]
