@@ -3,7 +3,7 @@ pub use Rattle.cdf_area.proofs.Calls.{edit_done, edit_failed, edit_more, edit_wi
 pub use Rattle.cdf_area.specs.Frame.{Frame}
 unfoldable pub use Rattle.cdf_base.specs.Bytes.{put}
 pub use Rattle.cdf_edits.proofs.Commands.KeptRecords.{Stood, keep_attributes, keep_variables, keeps_stood}
-pub use Rattle.cdf_edits.proofs.Common.{end_of, has_room, index_rows, is_block, leaf_rows, Act, ActsFollow, AreActs, AttributeShape, Avoids, Away, Changed, Covered, DataSet, Each, Each-append, Each-split, Edit, Found, Gave, Good, HasShape, Hold, Hold-append, Hold-split, In, In-append, In-append_left, In-append_right, IsBody, IsChain, IsSound, Kind, Mark, Marked, Misses, NoRule, NodeFits, OneVariable, Outside, R, Row, Same, SaysEntry, Shape, SpaceLeft, Took, Touch, Unused, Variable, VariableShape, Z, after_act, asked, attribute_records, avoided, byte, cast_signed, cdr_type, content, content_is, cpr_link, cpr_rows, cvvr_type, either, extent, false-is_in, filled, fixed_size, gdr_type, good_by_its_shape, good_is_sound, greater, image_limit, index_types, is_a, is_a-from, is_a-in, is_a-type, is_compressed, is_in, is_in-false, is_in-true, is_little, is_max_rec, is_record_type, keeps_file, last_number, linkable-in, linkable-type, max_rec_at, nat_tests, nodes_stand, number_before, option_map, owned, pad_record, plain_bytes, plain_size, read_types, record_bytes, record_number_limit, records_in, records_of_leaf, same_Some, shape, signed_limit, space_before, sparse_at, taken, tile_lies, times, touch, touched_field, true-is_in, turned, type_in, type_of_body, type_of_variable, uir_type, unmarked, unread_sparse, unused_records, unwrap_or, variable_named, variable_of, variable_records, variable_types, variables, variables_chain, variables_of, vdrs, vvr_type, vxr_type, w32, with_record, with_variable, with_variables}
+pub use Rattle.cdf_edits.proofs.Common.{fold-append, end_of, has_room, index_rows, is_block, leaf_rows, Act, ActsFollow, AreActs, AttributeShape, Avoids, Away, Changed, Covered, DataSet, Each, Each-append, Each-split, Edit, Found, Gave, Good, HasShape, Hold, Hold-append, Hold-split, In, In-append, In-append_left, In-append_right, IsBody, IsChain, IsSound, Kind, Mark, Marked, Misses, NoRule, NodeFits, OneVariable, Outside, R, Row, Same, SaysEntry, Shape, SpaceLeft, Took, Touch, Unused, Variable, VariableShape, Z, after_act, asked, attribute_records, avoided, byte, cast_signed, cdr_type, content, content_is, cpr_link, cpr_rows, cvvr_type, either, extent, false-is_in, filled, fixed_size, gdr_type, good_by_its_shape, good_is_sound, greater, image_limit, index_types, is_a, is_a-from, is_a-in, is_a-type, is_compressed, is_in, is_in-false, is_in-true, is_little, is_max_rec, is_record_type, keeps_file, last_number, linkable-in, linkable-type, max_rec_at, nat_tests, nodes_stand, number_before, option_map, owned, pad_record, plain_bytes, plain_size, read_types, record_bytes, record_number_limit, records_in, records_of_leaf, same_Some, shape, signed_limit, space_before, sparse_at, taken, tile_lies, times, touch, touched_field, true-is_in, turned, type_in, type_of_body, type_of_variable, uir_type, unmarked, unread_sparse, unused_records, unwrap_or, variable_named, variable_of, variable_records, variable_types, variables, variables_chain, variables_of, vdrs, vvr_type, vxr_type, w32, with_record, with_variable, with_variables}
 unfoldable pub use Rattle.cdf_edits.proofs.Common.{nodes_rows, used_rows, HasNodes, Names, lower_nodes, nodes_of}
 pub use Rattle.cdf_edits.proofs.Edits.ActsJoined.{ListedStay, acts_joined, listed_before}
 pub use Rattle.cdf_edits.proofs.Edits.Common.{acts_still_by, Each-map, FileSame, Kept, apart, changed_edit, each, edit_then, filter-says, gdr_in, gdr_long, gdr_typed, head_size, head_type, index_typed, keep_all, keep_file, keep_kinds, keep_places, keep_variable_parts, keeps_away, keeps_fields, keeps_within, only_variable, same-then, same_as_itself, some_bytes, stood, variables_in}

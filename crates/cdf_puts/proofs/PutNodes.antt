@@ -104,12 +104,8 @@ module _ (b records : List ℕ) (vxr i : ℕ) (used : i < used_count b vxr) wher
 
 -- ---- the indexes that a command goes through
 
-abbrev pub with_range_at_zero : Nodes → Range → Nodes
+abbrev with_range_at_zero : Nodes → Range → Nodes
 with_range_at_zero nodes r = with_leaf (leaf r.first r.last 0 false) 0 nodes
-
-pub with_one_more : (index : Nodes) (rs : List Range) (r : Range) → with_ranges index (rs ++ r ∷ []) ≡ with_range_at_zero (with_ranges index rs) r
-with_one_more index [] r = refl
-with_one_more index (x ∷ rs) r = with_one_more (with_range_at_zero index x) rs r
 
 -- what holds of the last of them, or of one, goes on to hold of one
 pub through_goes : (P : Nodes → Bool) (index : Nodes) (rs : List Range) (r : Range) → (P (with_ranges index rs) ≡ true) ⊎ (list_any P (indexes_with index rs) ≡ true) → list_any P (indexes_with index (rs ++ r ∷ [])) ≡ true
