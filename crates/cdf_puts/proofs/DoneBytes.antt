@@ -9,7 +9,7 @@ use Rattle.cdf_puts.proofs.PutBytes.{behind_all, blocks_then, found_covering, no
 use Rattle.cdf_puts.proofs.IndexWritten.{nodes_still}
 use Rattle.cdf_puts.proofs.CoveringRanges.{some_or_none, covering_done}
 use Rattle.cdf_puts.proofs.GoesThen.{later_size, later_variable, stays, tail_written}
-use Rattle.cdf_puts.proofs.PutRoom.{none_given, no_node_given, none_without_bytes, longer_by}
+use Rattle.cdf_puts.proofs.PutRoom.{none_given, none_without_bytes, longer_by}
 use Rattle.cdf_index.proofs.OwnRecords.{by_range}
 use Rattle.cdf_index.proofs.OwnRecords as of_own
 use Rattle.cdf_leaves.proofs.TopChain.{chain_in}
@@ -121,8 +121,8 @@ module _ {b now last : List ℕ} {kind : Kind} {before : List VariableShape} {ow
         transport (λ i. PutsLeaves b last (loose i) (vdr i) (end i) own.index (acts_end i) own'.index) (so.index.puts last last_size [] [] own'.index (refl, refl));
     tail = tail;
     nodes = (nodes_still so.index.nodes (λ m i. Each-in (NodeFits now) (nodes_of own'.index) (fits so.goes.good so.goes.among).1 m i) (λ m i. behind m (node_behind own' m i))).follow;
-    freed = none_given b last acts acts so.takes;
-    nodes_freed = no_node_given b last acts acts so.takes;
+    freed = (none_given b last acts acts so.takes).0;
+    nodes_freed = (none_given b last acts acts so.takes).1;
   }
 
   -- ---- the bytes

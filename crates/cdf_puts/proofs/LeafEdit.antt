@@ -246,7 +246,8 @@ module _ {b now : List ℕ} {kind : Kind} {before : List VariableShape} {own : V
   spare_stays m i =
       let k = node_kept m i in
       same-then b w.roomy now (m + (28 + 16 * room_at b m)) (m + size_at b m) (Same-part b w.roomy m (m + size_at b m) (m + (28 + 16 * room_at b m)) (m + size_at b m) k.same (omega arith) (omega arith))
-      (changed_missed w.roomy now records' w.touches entries [] taking.grows.sound.has_shape.tiled w.as_long w.changed all_marked m (28 + 16 * room_at b m) (size_at b m) (taking.grows.edit.sub m (node_in m i)) (omega (arith, as_before m i)) (misses m (28 + 16 * room_at b m) (size_at b m) i (omega (arith, as_before m i)) w.touches w.within))
+      (changed_missed w.roomy now records' w.touches entries [] taking.grows.sound.has_shape.tiled w.as_long w.changed all_marked m (28 + 16 * room_at b m) (size_at b m) (taking.grows.edit.sub m (node_in m i))
+      (omega (arith, as_before m i)) (misses m (28 + 16 * room_at b m) (size_at b m) i (omega (arith, as_before m i)) w.touches w.within))
 
   pub nodes_step : NodesStep b now own.index (nodes_of (with_leaf new at own.index)) step
   nodes_step = record {
@@ -354,10 +355,12 @@ module _ {b now : List ℕ} {kind : Kind} {before : List VariableShape} {own : V
 
       pub leaf_goes_on : GoesOn b now kind before own (record own { index = with_leaf new at own.index }) after step
       leaf_goes_on =
-          goes_by good among (index_edit good among new_index) good_now (acts_still_by taking.grows.sound taking.follow entries_written (index_unmarked kind own.vdr all_nodes (field 12 (length w.roomy))) records_are (of_own.unused_are good among (own_edit good among new_index)) w.as_long) (keeps_fields sound edit records_are (shape b).gdr gdr_type (r_max_rec_field kind ++ space_fields) (gdr_in b (shape b) sound.has_shape) (gdr_typed b (shape b) sound.has_shape) tests.heads_clear tests.inside)
+          let follows = acts_still_by taking.grows.sound taking.follow entries_written (index_unmarked kind own.vdr all_nodes (field 12 (length w.roomy))) records_are (of_own.unused_are good among (own_edit good among new_index)) w.as_long in
+          goes_by good among (index_edit good among new_index) good_now follows (keeps_fields sound edit records_are (shape b).gdr gdr_type (r_max_rec_field kind ++ space_fields) (gdr_in b (shape b) sound.has_shape) (gdr_typed b (shape b) sound.has_shape) tests.heads_clear tests.inside)
           (λ m i free.
           let ok = sound.has_shape.unused_chain.linkable m i in
           let inside = linkable-in b (shape b).records uir_type m ok in
           let marked = listed_free taking m i (tile_lies b 8 (length b) (shape b).records m sound.has_shape.tiled inside).long free in
-          keeps_within sound edit records_are m uir_type links inside (linkable-type b (shape b).records uir_type m ok) (Avoids-append space entries uir_type m 0 12 marked.0 (away-avoids entries uir_type m 0 12 (unused_away m))) (Within-append space entries uir_type m links marked.1 (away-within entries uir_type m links (unused_away m))))
+          keeps_within sound edit records_are m uir_type links inside (linkable-type b (shape b).records uir_type m ok) (Avoids-append space entries uir_type m 0 12 marked.0 (away-avoids entries uir_type m 0 12 (unused_away m)))
+          (Within-append space entries uir_type m links marked.1 (away-within entries uir_type m links (unused_away m))))
           (λ m i typed out. keeps_away sound edit records_are m uir_type (Only []) i typed (Away-append space entries uir_type m (unlisted_away taking m i out) (unused_away m)))

@@ -38,7 +38,7 @@ module _ (news : List ℕ) where
 
     outline_with_leaf : (new : Leaf) (at : ℕ) (index : Nodes) → with_leaf (bare new) (place_outside news at) (outline news index) ≡ outline news (with_leaf new at index)
     outline_with_leaf new at no_node = refl
-    outline_with_leaf new at (node place room es more) = grind (arith, chain_outline new more, (alike new es).lead false, outline_with_leaf new at more, outline_with_lower new at es, (alike new es).count, (alike new es).before, (alike new es).behind, (alike new (past new.first es)).count, (alike new (upto new es)).joined (past new.first es))
+    outline_with_leaf new at (node place room es more) = let a = alike new es in grind (arith, chain_outline new more, a.lead false, outline_with_leaf new at more, outline_with_lower new at es, a.count, a.before, a.behind, (alike new (past new.first es)).count, (alike new (upto new es)).joined (past new.first es))
 
     outline_with_lower : (new : Leaf) (at : ℕ) (es : Entries) → with_lower (bare new) (place_outside news at) (entries_outline news es) ≡ entries_outline news (with_lower new at es)
     outline_with_lower new at no_entry = refl
@@ -80,8 +80,8 @@ mutual
 -- ---- two indexes with the same outline, where new nodes stand at 0 in the second
 
 -- A leaf more keeps it, where a node that is needed stands at a new place, and one that is not at 0; no node that was there is new by that.
-pub same_with_leaf : (news news' : List ℕ) (new : Leaf) (at : ℕ) (index index' : Nodes) → outline news index ≡ outline [] index' → ((m : ℕ) → In m (nodes_of index) → is_in m news' ≡ is_in m news) → place_outside news' at ≡ 0 → outline news' (with_leaf new at index) ≡ outline [] (with_leaf (leaf new.first new.last 0 false) 0 index')
-same_with_leaf news news' new at index index' same agree outside = grind (arith, outline_with_leaf news' new at index, outside, outline_agrees news news' index (each (λ m. is_in m news' ≡ is_in m news) (nodes_of index) agree), same, outline_with_leaf [] (leaf new.first new.last 0 false) 0 index')
+pub same_with_leaf : (news news' : List ℕ) (new : Leaf) (at : ℕ) (index index' : Nodes) → outline news index ≡ outline [] index' → ((m : ℕ) → In m (nodes_of index) → is_in m news' ≡ is_in m news) → place_outside news' at ≡ 0 → outline news' (with_leaf new at index) ≡ outline [] (with_leaf (bare new) 0 index')
+same_with_leaf news news' new at index index' same agree outside = grind (arith, outline_with_leaf news' new at index, outside, outline_agrees news news' index (each (λ m. is_in m news' ≡ is_in m news) (nodes_of index) agree), same, outline_with_leaf [] (bare new) 0 index')
 
 pub same_uses : (news : List ℕ) (vxr i : ℕ) (index index' : Nodes) → outline news index ≡ outline [] index' → is_in vxr news ≡ false → (vxr ≡ 0 → ⊥) → uses_entry vxr i index ≡ uses_entry vxr i index'
 same_uses news vxr i index index' same old stands = sym (uses_outline news vxr i old stands index) ∙ ap (uses_entry vxr i) same ∙ uses_outline [] vxr i refl stands index'
@@ -181,7 +181,8 @@ was_says b before acts m i e = grind (arith, nat_tests, e, true-is_in m before)
 entry_then : {X Y Z : Type 0} (b mid now : List ℕ) (m i : ℕ) (w v : Bool) → EntryIs mid now m i v ⊎ (X × EntryIs mid now m i false) → (v ≡ true → EntryIs b mid m i w ⊎ (Y × EntryIs b mid m i false)) → (w ≡ true → X ⊎ (v ≡ false) → Z) → (Y → Z) → EntryIs b now m i w ⊎ (Z × EntryIs b now m i false)
 entry_then b mid now m i w v s was used more = grind (arith, s, was, used, more, says_then b mid now m i)
 
-module _ (b mid now : List ℕ) (through through' : List Nodes) (before after : List ℕ) (index : Nodes) (acts acts' : List Act) (f : NodesFollow b mid through before (nodes_of index) acts) (step : NodesStep mid now index after acts') (before_in : (m : ℕ) → In m before → In m (nodes_of index)) (sizes : (m : ℕ) → In m before → size_at mid m ≡ size_at b m)
+module _ (b mid now : List ℕ) (through through' : List Nodes) (before after : List ℕ) (index : Nodes) (acts acts' : List Act) (f : NodesFollow b mid through before (nodes_of index) acts)
+    (step : NodesStep mid now index after acts') (before_in : (m : ℕ) → In m before → In m (nodes_of index)) (sizes : (m : ℕ) → In m before → size_at mid m ≡ size_at b m)
     (come : (m : ℕ) → In m (nodes_of index) → In m before ⊎ (is_taken_at acts m ≡ true)) (more : (m i : ℕ) → list_any (uses_entry m i) through ≡ true → list_any (uses_entry m i) through' ≡ true)
     (uses : (m i : ℕ) → In m before → uses_entry m i index ≡ true → list_any (uses_entry m i) through' ≡ true) (records : List ℕ) (levels : ℕ) (has : HasNodes mid records levels index) where
   was_entry : (m i : ℕ) → i < room_at now m → was_unused mid (nodes_of index) acts' m i ≡ true → EntryIs b mid m i (was_unused b before (acts ++ acts') m i) ⊎ ((list_any (uses_entry m i) through ≡ true) × EntryIs b mid m i false)

@@ -36,12 +36,7 @@ none_without_bytes l (Gave place size ∷ more) are t le = absurd t
 
 -- ---- nothing is freed
 
-pub none_given : (b now : List ℕ) (acts gives : List Act) → OnlyTakes gives → BlocksFreedStay b now none_written acts gives
-none_given b now acts [] t = tt
+pub none_given : (b now : List ℕ) (acts gives : List Act) → OnlyTakes gives → BlocksFreedStay b now none_written acts gives × NodesFreedStay b now acts gives
+none_given b now acts [] t = (tt, tt)
 none_given b now acts (Took place need ∷ more) t = none_given b now acts more t
 none_given b now acts (Gave place size ∷ more) t = absurd t
-
-pub no_node_given : (b now : List ℕ) (acts gives : List Act) → OnlyTakes gives → NodesFreedStay b now acts gives
-no_node_given b now acts [] t = tt
-no_node_given b now acts (Took place need ∷ more) t = no_node_given b now acts more t
-no_node_given b now acts (Gave place size ∷ more) t = absurd t
