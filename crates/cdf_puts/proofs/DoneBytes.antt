@@ -1,11 +1,11 @@
 -- All records are put: the index, what was taken for it and the bytes of the blocks are as the command says, and what is stored as each record. The image follows the command.
-use Rattle.cdf_puts.proofs.Common.{Act, AllKeep, Allowance, Allowances, Ascending, Beside, BlockFollows, BlocksSoFar, Bool, Changed, CutsFirst, DataSet, Each-in, Found, GoesOn, HoldsPads, In, In-append, IsOneOf, Keeps, Kept, Kind, Leaf, List, MaxRecDone, NewBlock, NodeFits, None, OneVariable, Only, Option, Outside, Outside-append, PlainLeaf, PutsBytes, PutsIndex, PutsLeaves, PutsRecord, Range, SoFar, Some, SpareIs, Sparse, StaysUnwritten, TailFollows, Unused, UnwrittenStay, Variable, VariableShape, [], anything_if, ap, apart, append-nil, arith, behind_in, behind_kept, block_behind, block_end, both, bytes_eq, bytes_eq-same, cases_lt, content, content_is, count_is, covered, covers, cut_open, drop, drop-drop, drop_all, each, each_of, either, eq-eqb, eq_of, eqb-true, extent, false, false-is_in, file, filled, filter, filter-says, find, find_covering, first_written, fits, greater, has, if◌then◌else◌, index_records, inl, inr, is_changed, is_in, is_little, is_rewritten, is_sparse, is_taken, is_taken_at, is_written, keep_all, keep_attributes, keep_file, keep_kinds, keep_places, keep_variable_parts, keep_variables, keeps_stood, kept, last_node, leaf, leaf_at, leaves_ascend, leaves_of, length, length-take, list_any, long, map, max, max_rec_at, max_rec_touches, min, nat_lt, nat_tests, ne_eqb, node_behind, nodes_of, number, option_map, or_parts, other_kind, owned, pad_record, past, place_in, places_of, plain_bytes, plain_piece, put_changes, put_count, put_fields, put_room, r_max_rec, r_max_rec_field, range, range_at, ranges_before_put, ranges_of, record_bytes, record_number_limit, record_of, record_place, records_in, records_of_leaf, refl, repeat, room, room_of_variable, same_Some, same_as_itself, same_of_bytes_eq, shape, shapes_of, shared, slice_get, sound, space_before, stays_alike, stays_all, stays_in_place, stored_bytes, stored_in, subst, suc, sym, take, take-append-drop, taken_bytes, times_le, top_chain, top_stays, touch, touched_field, transport, true, true-is_in, true≢false, turned, type_alike, type_at, type_of_variable, typed, uir_type, uncovered, unused_allowance, unused_in, unused_records, upto, variable_named, variable_of, variable_records, variables, vdr_max_rec, vdr_vxr_tail, vvr_place, was_leaf, with_record, with_variable, written_in, zero, ℕ, ◌*◌, ◌++◌, ◌+◌, ◌-◌, ◌<◌, ◌==◌, ◌∙◌, ◌∷◌, ◌≡◌, ◌≢◌, ◌≤◌, ◌⊎◌}
+use Rattle.cdf_puts.proofs.Common.{Act, AllKeep, Allowance, Allowances, Ascending, Beside, BlockFollows, BlocksSoFar, Bool, Changed, CutsFirst, DataSet, Each-in, Found, GoesOn, HoldsPads, In, In-append, IsOneOf, Keeps, Kept, Kind, Leaf, List, MaxRecDone, NewBlock, NodeFits, None, OneVariable, Only, Option, Outside, Outside-append, PlainLeaf, PutsBytes, PutsIndex, PutsLeaves, PutsRecord, Range, SoFar, Some, SpareIs, Sparse, StaysUnwritten, TailFollows, Unused, UnwrittenStay, Variable, VariableShape, [], anything_if, ap, apart, append-nil, arith, behind_in, behind_kept, block_behind, block_end, both, bytes_eq, bytes_eq-same, cases_lt, content, content_is, count_is, covered, covers, cut_open, drop, drop-drop, drop_all, each, each_of, either, eq-eqb, eq_of, eqb-true, extent, false, false-is_in, file, filled, filter, filter-says, find, find_covering, first_written, fits, greater, has, if◌then◌else◌, index_records, inl, inr, is_changed, is_in, is_little, is_rewritten, is_sparse, is_taken, is_taken_at, is_written, keep_all, keep_attributes, keep_file, keep_kinds, keep_places, keep_variable_parts, keep_variables, keeps_stood, kept, last_node, leaf, leaf_at, leaves_ascend, leaves_of, length, length-take, list_any, long, map, max, max_rec_at, max_rec_touches, min, nat_lt, nat_tests, ne_eqb, node_behind, nodes_of, not, number, option_map, or_parts, other_kind, owned, pad_record, past, place_in, places_of, plain_bytes, plain_piece, put_changes, put_count, put_fields, put_room, r_max_rec, r_max_rec_field, range, range_at, ranges_before_put, ranges_of, record_bytes, record_number_limit, record_of, record_place, records_in, records_of_leaf, refl, repeat, room, room_of_variable, same_Some, same_as_itself, same_of_bytes_eq, shape, shapes_of, shared, slice_get, sound, space_before, stays_alike, stays_all, stays_in_place, stored_bytes, stored_in, subst, suc, sym, take, take-append-drop, taken_bytes, times_le, top_chain, top_stays, touch, touched_field, transport, true, true-is_in, true≢false, turned, type_alike, type_at, type_of_variable, typed, uir_type, uncovered, unused_allowance, unused_in, unused_records, upto, variable_named, variable_of, variable_records, variables, vdr_max_rec, vdr_vxr_tail, vvr_place, was_leaf, with_record, with_variable, written_in, zero, ℕ, ◌&&◌, ◌*◌, ◌++◌, ◌+◌, ◌-◌, ◌<◌, ◌==◌, ◌∙◌, ◌∷◌, ◌≡◌, ◌≢◌, ◌≤◌, ◌⊎◌}
 use Rattle.cdf_edits.proofs.Edits.RecordsPut.{StoresPut, extent_last, filled_uncut, records_put}
 use Rattle.cdf_model.specs.Numbered.{with_item}
 use Rattle.cdf_puts.specs.Going.{found_in as own_found}
 use Rattle.cdf_puts.proofs.PutRules.{no_cpr, uncut}
 use Rattle.cdf_puts.proofs.LastImage.{last_goes, last_max_rec, last_r_max_rec, last_writes}
-use Rattle.cdf_puts.proofs.PutBytes.{behind_all, blocks_then, found_covering, none_is_put, old_size, old_whole, piece_stays, whole}
+use Rattle.cdf_puts.proofs.PutBytes.{behind_all, blocks_then, found_covering, none_is_put, old_size, piece_stays, whole}
 use Rattle.cdf_puts.proofs.IndexWritten.{nodes_still}
 use Rattle.cdf_puts.proofs.CoveringRanges.{some_or_none, covering_done}
 use Rattle.cdf_puts.proofs.GoesThen.{later_size, later_variable, stays, tail_written}
@@ -28,6 +28,9 @@ use Rattle.cdf_edits.specs.Follows.{Follows, only_reads}
 none_taken_in : (acts : List Act) (xs : List ℕ) → ((m : ℕ) → In m xs → is_taken_at acts m ≡ false) → list_any (is_taken_at acts) xs ≡ false
 none_taken_in acts [] f = refl
 none_taken_in acts (x ∷ xs) f = grind (arith, f x (inl refl), none_taken_in acts xs (λ m i. f m (inr i)))
+
+first_of_three : (p q c : Bool) → p ≡ true → (q ≡ true → c ≡ false) → (p && (q && not c)) ≡ q
+first_of_three p q c e none = grind (arith, e, none)
 
 none_there : (n : ℕ) → nat_lt 0 n ≡ false → n ≤ 0
 none_there n e = grind (arith, nat_tests, e)
@@ -93,12 +96,8 @@ module _ {b now last : List ℕ} {kind : Kind} {before : List VariableShape} {ow
   tops = bytes_eq (top_chain own.index) (top_chain own'.index)
 
   top_test : top_stays acts own.index own.index own'.index ≡ tops
-  top_test = let here = bytes_eq-same (top_chain own.index) in rw here (elim (either tops) [
-    | inl e ↦
-        let none : list_any (is_taken_at acts) (top_chain own'.index) ≡ false = none_taken_in acts (top_chain own'.index) (λ m i. so.index.nodes.apart m (chain_in own.index m (subst (In m) (sym (same_of_bytes_eq (top_chain own.index) (top_chain own'.index) e)) i))) in
-        rw (none, e) refl
-    | inr e ↦ rw e refl
-  ])
+  top_test = first_of_three (bytes_eq (top_chain own.index) (top_chain own.index)) tops (list_any (is_taken_at acts) (top_chain own'.index)) (bytes_eq-same (top_chain own.index)) (λ e.
+      none_taken_in acts (top_chain own'.index) (λ m i. so.index.nodes.apart m (chain_in own.index m (subst (In m) (sym (same_of_bytes_eq (top_chain own.index) (top_chain own'.index) e)) i))))
 
   tail : TailFollows b last acts own.index own own'
   tail = rw top_test (tail_written so.goes.good so.goes.among (last_writes so done) ∙ subst (λ (x : ℕ). number now x vdr_vxr_tail ≡ (if tops then number b own.vdr vdr_vxr_tail else last_node own'.index)) (sym so.goes.vdr_is) so.index.tail)
@@ -151,8 +150,8 @@ module _ {b now last : List ℕ} {kind : Kind} {before : List VariableShape} {ow
   stored_same j few side = elim (some_or_none (find (λ (leaf : Leaf). covers j (range leaf.first leaf.last)) olds)) [
     | inl x ↦
         let o = found_covering j olds x.0 x.1 in
-        let same = piece_stays (all.old x.0 o.0) (old_whole so x.0 o.0) all.longer j o.1.0 o.1.1 (elim side [ inl lt ↦ inl lt | inr lt ↦ inr (omega arith) ]) in
-        stored_at j x.0 (all.stay x.0 o.0) o.1.0 o.1.1 ∙ ap Some same ∙ sym (stored_in_leaf b own.vdr size j olds (leaves_ascend so.start.good so.start.among) refl x.0 o.0 (old_whole so x.0 o.0).leaf o.1.0 o.1.1)
+        let same = piece_stays (all.old x.0 o.0) (whole so.start.good so.start.among x.0 o.0) all.longer j o.1.0 o.1.1 (elim side [ inl lt ↦ inl lt | inr lt ↦ inr (omega arith) ]) in
+        stored_at j x.0 (all.stay x.0 o.0) o.1.0 o.1.1 ∙ ap Some same ∙ sym (stored_in_leaf b own.vdr size j olds (leaves_ascend so.start.good so.start.among) refl x.0 o.0 (whole so.start.good so.start.among x.0 o.0).leaf o.1.0 o.1.1)
     | inr none ↦ elim (some_or_none (find (λ (leaf : Leaf). covers j (range leaf.first leaf.last)) leaves)) [
       | inr e ↦ ap (option_map _) e ∙ sym (ap (option_map _) none)
       | inl x ↦
@@ -211,7 +210,7 @@ module _ {b now last : List ℕ} {kind : Kind} {before : List VariableShape} {ow
     | inr t ↦
         let none : put_count first (r + 1) l ≤ 0 = none_there (put_count first (r + 1) l) (or_parts (nat_lt 0 (put_count first (r + 1) l)) _ t).0 in
         let o = all.old l i in
-        rw t (record { stands = behind_in put.good put.among l.place (block_behind own' l.place (place_in leaves l (all.stay l i))); size_is = old_size o (omega (arith, (old_whole so l i).leaf.room)); same = λ n lt out. o.kept (l.place + n) (omega arith) (omega arith) (λ j from upto f t'. absurd (omega arith)) })
+        rw t (record { stands = behind_in put.good put.among l.place (block_behind own' l.place (place_in leaves l (all.stay l i))); size_is = old_size o (omega (arith, (whole so.start.good so.start.among l i).leaf.room)); same = λ n lt out. o.kept (l.place + n) (omega arith) (omega arith) (λ j from upto f t'. absurd (omega arith)) })
   ]
 
   own_keeps : (m : ℕ) → In m (variable_records own) → Keeps b last m (own_may m)
@@ -292,7 +291,7 @@ module _ {b now last : List ℕ} {kind : Kind} {before : List VariableShape} {ow
 
     padded : (l : Leaf) → IsOneOf leaves l → HoldsPads last v own'.vdr r (ranges_before_put v own.index r) l
     padded l i none = elim (all.new l i) [
-      | inl o ↦ absurd (true≢false (sym (covers_own olds l o (old_whole so l o).leaf.ordered) ∙ sym (ap (list_any (covers l.first)) before_is) ∙ none))
+      | inl o ↦ absurd (true≢false (sym (covers_own olds l o (whole so.start.good so.start.among l o).leaf.ordered) ∙ sym (ap (list_any (covers l.first)) before_is) ∙ none))
       | inr n ↦ new_pads l i n
     ]
 

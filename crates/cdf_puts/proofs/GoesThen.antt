@@ -94,9 +94,6 @@ tail_written {b = b} {now = now} {own = own} good at w = word_kept b now (own.vd
 pub writes_nothing : {b : List ℕ} {kind : Kind} {before : List VariableShape} {own : VariableShape} {after : List VariableShape} → Good b → StandsAmong b kind before own after → WritesRecords b b kind own []
 writes_nothing good at = record { changed = record { longer = omega arith; same = λ place l o. refl }; as_long = refl; in_blocks = tt; max_rec_ruled = (own_rules good at).0.1.1.1.1.1.1.1.0 }
 
-pub goes_nowhere : {b : List ℕ} {kind : Kind} {before : List VariableShape} {own : VariableShape} {after : List VariableShape} → Good b → StandsAmong b kind before own after → length b ≤ image_limit → GoesOn b b kind before own own after []
-goes_nowhere good at short = goes_written good at (writes_nothing good at) short
-
 -- ---- two steps are one
 
 set_twice : {A : Type 0} (xs : List A) (n : ℕ) (x y : A) → slice_set (slice_set xs n x) n y ≡ slice_set xs n y

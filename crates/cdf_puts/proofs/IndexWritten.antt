@@ -1,5 +1,5 @@
 -- A record is written in a block: the record holds its bytes, no other byte changes, and the index stays; of the leaves that were put the one of the record is the last by then.
-use Rattle.cdf_puts.proofs.Common.{Act, BlocksSoFar, Changed, Each-in, Good, HasShape, In, IndexSoFar, IsOneOf, Kept, Kind, Leaf, LeavesGoOn, List, NodeFits, NodesSoFar, OldBlock, Outside-append, PutsBefore, Range, RecordIs, RecordsWritten, Same, Shape, SoFar, StandsAmong, Touch, VariableShape, WritesRecords, [], ap, apart, append-nil, arith, behind_in, block_behind, block_kept, byte, cases_eq, cast_signed, changed_part, covers, drop, each, either, extent, field, file, filter, find_covering, find_first, first_written, fits, gdr_in, gdr_long, gdr_r_max_rec, gdr_type, gdr_typed, has, inl, inr, integer4, is_max_rec, kept, leaf, leaves_apart, leaves_ascend, leaves_of, length, length-put, long, max_rec_at, max_rec_touches, no_block, node_kept, nodes_of, number, one_place, own_rules, place_in, places_of, r_max_rec, record_bytes, record_number_limit, record_of, record_place, refl, room, same_Some, shape, size_at, size_kept, sound, subst, suc, sym, take, tile, touch, type_at, typed, upto, variable_of, vdr_max_rec, vdr_vxr_tail, vvr_type, w32, was_put, word_kept, ℕ, ◌*◌, ◌+◌, ◌-◌, ◌<◌, ◌∙◌, ◌∷◌, ◌≡◌, ◌≢◌, ◌≤◌, ◌⊎◌}
+use Rattle.cdf_puts.proofs.Common.{Act, BlocksSoFar, Changed, Each-in, Good, HasShape, In, IndexSoFar, IsOneOf, Kept, Kind, Leaf, LeavesGoOn, List, NodeFits, NodesSoFar, OldBlock, Outside-append, PutsBefore, Range, RecordIs, RecordsWritten, Same, SoFar, StandsAmong, Touch, VariableShape, WritesRecords, [], ap, apart, append-nil, arith, behind_in, block_behind, block_kept, byte, cases_eq, cast_signed, changed_part, covers, drop, each, either, extent, field, file, filter, find_covering, find_first, first_written, fits, gdr_in, gdr_long, gdr_r_max_rec, gdr_type, gdr_typed, has, inl, inr, integer4, is_max_rec, kept, leaf, leaves_apart, leaves_ascend, leaves_of, length, length-put, long, max_rec_at, max_rec_touches, no_block, node_kept, nodes_of, number, one_place, own_rules, place_in, places_of, r_max_rec, record_bytes, record_number_limit, record_of, record_place, refl, room, same_Some, shape, size_at, size_kept, sound, subst, suc, sym, take, tile, touch, type_at, typed, upto, variable_of, vdr_max_rec, vdr_vxr_tail, vvr_type, w32, was_put, word_kept, ℕ, ◌*◌, ◌+◌, ◌-◌, ◌<◌, ◌∙◌, ◌∷◌, ◌≡◌, ◌≢◌, ◌≤◌, ◌⊎◌}
 use Rattle.cdf_edits.proofs.Frame.ChangedBytes.{changed_put}
 use Rattle.cdf_puts.proofs.PutBytes.{Whole, blocks_then, found_covering, put_there, size_now, whole}
 use Rattle.cdf_puts.proofs.SoFarStarts.{put_next, puts_old}
@@ -11,9 +11,6 @@ found_leaf : {b now : List ℕ} {own : VariableShape} {l : Leaf} {k : ℕ} {raw 
 found_leaf {own = own} {l = l} {k = k} w = found_covering k (leaves_of own.index) l w.found
 
 module _ {b now : List ℕ} {kind : Kind} {before : List VariableShape} {own : VariableShape} {after : List VariableShape} {l : Leaf} {k : ℕ} {bytes : List ℕ} (good : Good b) (at : StandsAmong b kind before own after) (w : RecordsWritten b now own l k bytes) where
-  abbrev s : Shape
-  s = shape b
-
   abbrev leaves : List Leaf
   leaves = leaves_of own.index
 
@@ -23,7 +20,7 @@ module _ {b now : List ℕ} {kind : Kind} {before : List VariableShape} {own : V
   abbrev ts : List Touch
   ts = touch l.place (12 + (k - l.first) * size) (length bytes) ∷ []
 
-  h : HasShape b s
+  h : HasShape b (shape b)
   h = (sound good at).has_shape
 
   here : Whole b size l
@@ -39,8 +36,8 @@ module _ {b now : List ℕ} {kind : Kind} {before : List VariableShape} {own : V
   changed_here = rw w.written (changed_put b l.place (12 + (k - l.first) * size) (length bytes) bytes refl (omega (arith, fits_in, here.inside)))
 
   -- another record stays
-  stays : (m lo hi : ℕ) → In m s.records → m ≢ l.place → hi ≤ size_at b m → Same b now (m + lo) (m + hi)
-  stays m lo hi i other fit = changed_part b now s.records (length b) h.tiled (omega arith) ts changed_here (inl (behind_in good at l.place (block_behind own l.place block), fits_in), tt) m lo hi i fit ((λ e. absurd (other e)), tt)
+  stays : (m lo hi : ℕ) → In m (shape b).records → m ≢ l.place → hi ≤ size_at b m → Same b now (m + lo) (m + hi)
+  stays m lo hi i other fit = changed_part b now (shape b).records (length b) h.tiled (omega arith) ts changed_here (inl (behind_in good at l.place (block_behind own l.place block), fits_in), tt) m lo hi i fit ((λ e. absurd (other e)), tt)
 
   pub max_rec_kept : number now own.vdr vdr_max_rec ≡ number b own.vdr vdr_max_rec
   max_rec_kept = word_kept b now (own.vdr + 24) (own.vdr + 28) (stays own.vdr 24 28 (tile good at) (λ e. no_block good at (subst (λ (x : ℕ). In x (places_of leaves)) (sym e) block)) (let n = long good at in omega arith)) (own.vdr + 24) 4 (omega arith) (omega arith)
@@ -55,9 +52,9 @@ module _ {b now : List ℕ} {kind : Kind} {before : List VariableShape} {own : V
 
   pub r_max_rec_stays : r_max_rec now ≡ r_max_rec b
   r_max_rec_stays =
-      let no_gdr : s.gdr ≡ l.place → ⊥ = λ e. apart gdr_type vvr_type refl (sym (gdr_typed b s h) ∙ ap (type_at b) e ∙ here.leaf.typed) in
-      let same = stays s.gdr 52 56 (gdr_in b s h) no_gdr (let n = gdr_long b s h in omega arith) in
-      let field : integer4 now s.gdr gdr_r_max_rec ≡ integer4 b s.gdr gdr_r_max_rec = ap (cast_signed w32) (word_kept b now (s.gdr + 52) (s.gdr + 56) same (s.gdr + 52) 4 (omega arith) (omega arith)) in
+      let no_gdr : (shape b).gdr ≡ l.place → ⊥ = λ e. apart gdr_type vvr_type refl (sym (gdr_typed b (shape b) h) ∙ ap (type_at b) e ∙ here.leaf.typed) in
+      let same = stays (shape b).gdr 52 56 (gdr_in b (shape b) h) no_gdr (let n = gdr_long b (shape b) h in omega arith) in
+      let field : integer4 now (shape b).gdr gdr_r_max_rec ≡ integer4 b (shape b).gdr gdr_r_max_rec = ap (cast_signed w32) (word_kept b now ((shape b).gdr + 52) ((shape b).gdr + 56) same ((shape b).gdr + 52) 4 (omega arith) (omega arith)) in
       ap (λ (x : ℕ). integer4 now x gdr_r_max_rec) (file good at writes).gdr_is ∙ subst (λ (x : ℕ). integer4 now x gdr_r_max_rec ≡ integer4 b x gdr_r_max_rec) (sym h.gdr_is) field
 
   -- ---- the record is put

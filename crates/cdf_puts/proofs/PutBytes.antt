@@ -1,6 +1,7 @@
 -- The bytes of the blocks while records are put: two steps are one, and in the last one none is put.
-use Rattle.cdf_puts.proofs.Common.{Act, Ascending, Beside, Changed, Good, IsOneOf, Kind, Leaf, LeavesGoOn, List, NewBlock, OldBlock, PlainLeaf, RecordIs, Same, SoFar, Some, StandsAmong, Touch, VariableShape, [], ap, apart, arith, behind_in, block_behind, cases_lt, covers, covers_within, drop, drop_at, each, extent, find, find_covering, first_written, has, inl, inr, kept, leaves_of, length, length-take, long, max_rec_at, min, piece_kept, place_in, plain_leaf, put, range, record_bytes, record_of, record_place, refl, room, shape, size_at, sound, subst, suc, take, take_at, tile_lies, times_le, upto, variable_of, word_kept, ℕ, ◌*◌, ◌++◌, ◌+◌, ◌-◌, ◌<◌, ◌∙◌, ◌≡◌, ◌≤◌, ◌⊎◌}
+use Rattle.cdf_puts.proofs.Common.{Act, Ascending, Beside, Changed, Good, IsOneOf, Kind, Leaf, LeavesGoOn, List, NewBlock, OldBlock, PlainLeaf, RecordIs, Same, SoFar, Some, StandsAmong, Touch, VariableShape, [], ap, apart, arith, behind_in, block_behind, cases_lt, covers, covers_within, drop, each, extent, find, find_covering, first_written, has, inl, inr, kept, leaves_of, length, long, max_rec_at, min, piece_kept, place_in, plain_leaf, put, range, record_bytes, record_of, record_place, refl, room, shape, size_at, sound, subst, suc, take, take_at, tile_lies, times_le, upto, variable_of, word_kept, ℕ, ◌*◌, ◌++◌, ◌+◌, ◌-◌, ◌<◌, ◌∙◌, ◌≡◌, ◌≤◌, ◌⊎◌}
 use Rattle.cdf_edits.proofs.Edits.LeafPieces.{found_in}
+use Rattle.cdf_fields.proofs.Writes.{drop-put_there}
 use Rattle.cdf_puts.proofs.GoesThen.{later_size}
 use Rattle.cdf_puts.proofs.PutNodes.{neither_taken, taken_either, taken_neither}
 use Rattle.cdf_puts.proofs.PutRules.{loose}
@@ -15,10 +16,7 @@ found_covering k leaves l e = let is = found_in (λ (leaf : Leaf). covers k (ran
 
 -- bytes are read where they were put
 pub put_there : (b : List ℕ) (place : ℕ) (xs : List ℕ) → place ≤ length b → take (length xs) (drop place (put b place xs)) ≡ xs
-unfolding put
-put_there b place xs le =
-    let front : length (take place b) ≡ place = omega (arith, length-take place b) in
-    ap (take (length xs)) (drop_at (take place b) (xs ++ drop (place + length xs) b) place front) ∙ take_at xs (drop (place + length xs) b) (length xs) refl
+put_there b place xs le = ap (take (length xs)) (drop-put_there b xs place le) ∙ take_at xs (drop (place + length xs) b) (length xs) refl
 
 -- ---- where a record stands in its block
 
@@ -114,10 +112,7 @@ module _ {b now : List ℕ} {kind : Kind} {before : List VariableShape} {own own
   pub now_whole : (l : Leaf) → IsOneOf (leaves_of own'.index) l → Whole now (record_bytes b own.vdr) l
   now_whole l i = subst (λ (n : ℕ). Whole now n l) size_now (whole so.goes.good so.goes.among l i)
 
-  pub old_whole : (l : Leaf) → IsOneOf (leaves_of own.index) l → Whole b (record_bytes b own.vdr) l
-  old_whole = whole so.start.good so.start.among
-
   pub blocks_then : {now' : List ℕ} {leaves' : List Leaf} {k' : ℕ} {step acts' : List Act} {fields : List Touch} → k ≤ k' → k' ≤ r + 1 → acts ++ step ≡ acts' → LeavesGoOn now now' (leaves_of own'.index) leaves' raw pad r k (extent (max_rec_at b own.vdr)) k' (record_bytes b own.vdr) step fields
       → LeavesGoOn b now' (leaves_of own.index) leaves' raw pad r (first_written (variable_of b own) r) (extent (max_rec_at b own.vdr)) k' (record_bytes b own.vdr) acts' fields
   blocks_then {now' = now'} {leaves' = leaves'} {k' = k'} {fields = fields} more end same y =
-      subst (λ (xs : List Act). LeavesGoOn b now' (leaves_of own.index) leaves' raw pad r (first_written (variable_of b own) r) (extent (max_rec_at b own.vdr)) k' (record_bytes b own.vdr) xs fields) same (leaves_then old_whole now_whole so.covers.from more end so.blocks y)
+      subst (λ (xs : List Act). LeavesGoOn b now' (leaves_of own.index) leaves' raw pad r (first_written (variable_of b own) r) (extent (max_rec_at b own.vdr)) k' (record_bytes b own.vdr) xs fields) same (leaves_then (whole so.start.good so.start.among) now_whole so.covers.from more end so.blocks y)

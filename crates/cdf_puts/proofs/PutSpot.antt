@@ -4,7 +4,7 @@ use Rattle.cdf_index.specs.Replacing.{with_index}
 use Rattle.cdf_puts.proofs.LeafEdit.{r_max_rec_stays as leaf_r_max_rec, body_long, plain_body, leaf_goes_on, leaf_max_rec, taking}
 use Rattle.cdf_puts.proofs.CoveringRanges.{covering_starts, covering_has, covering_leaf, covering_room, covering_ends, Ends, one_at_least}
 use Rattle.cdf_puts.proofs.PutRules.{loose}
-use Rattle.cdf_puts.proofs.GoesThen.{later_size, goes_nowhere, goes_then, goes_written}
+use Rattle.cdf_puts.proofs.GoesThen.{later_size, goes_then, goes_written, writes_nothing}
 use Rattle.cdf_puts.proofs.IndexAdded.{blocks_added, index_added}
 use Rattle.cdf_puts.proofs.LeafCounts.{new_room_widest}
 use Rattle.cdf_puts.proofs.IndexWritten.{blocks_written, index_written, max_rec_kept, r_max_rec_stays, writes}
@@ -62,7 +62,7 @@ module _ {b : List ℕ} {kind : Kind} {before : List VariableShape} {own : Varia
   so_far_starts start = record {
     start = start;
     upto = let l = starts_upto start in omega arith;
-    goes = goes_nowhere start.good start.among start.short;
+    goes = goes_written start.good start.among (writes_nothing start.good start.among) start.short;
     covers = covering_starts (variable_of b own) own.index r (ap is_sparse start.no_rule) (index_order b (shape b).records own.vdr own.index (own_rules start.good start.among).1);
     takes = tt;
     short = start.short;
