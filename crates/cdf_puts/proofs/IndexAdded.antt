@@ -91,16 +91,11 @@ module _ {b now now' : List ℕ} {kind : Kind} {before : List VariableShape} {ow
   leaf_apart : (l : Leaf) → IsOneOf leaves l → is_taken_at step l.place ≡ false
   leaf_apart l i = used_apart so.goes.good so.goes.among w l.place (behind_in so.goes.good so.goes.among l.place (block_behind own' l.place (place_in leaves l i))) (λ e. absurd (apart vvr_type uir_type refl (sym (now_whole so l i).leaf.typed ∙ e)))
 
-  more_upto : k < upto
-  more_upto = let o = vacant.ordered in omega arith
-
   new_taken : is_taken_at step place ≡ true
   new_taken = is_in-true place (taken_places step) (inl refl)
 
   plain_is : plain_bytes now' own'.vdr new ≡ records
-  plain_is =
-      let count = count_is new small vacant.ordered in
-      ap (λ (n : ℕ). take n (drop (place + 12) now')) ((λ i. count i * size_after i) ∙ sym says.as_long) ∙ (blocks_go_on so.goes.good so.goes.among w holds).records_are
+  plain_is = ap (λ (n : ℕ). take n (drop (place + 12) now')) ((λ i. (count_is new small vacant.ordered) i * size_after i) ∙ sym says.as_long) ∙ (blocks_go_on so.goes.good so.goes.among w holds).records_are
 
   new_block : NewBlock now' raw pad r k (extent (max_rec_at b own.vdr)) upto (record_bytes b own.vdr) step new
   new_block = record {
@@ -113,7 +108,7 @@ module _ {b now now' : List ℕ} {kind : Kind} {before : List VariableShape} {ow
   }
 
   pub blocks_added : BlocksSoFar b now' own own'' raw pad r first upto (acts ++ step) []
-  blocks_added = blocks_then so (omega (arith, more_upto)) (omega arith) refl (record {
+  blocks_added = blocks_then so (omega (arith, vacant.ordered)) (omega arith) refl (record {
     longer = (file so.goes.good so.goes.among w).longer;
     stay = in_new;
     apart = leaf_apart;
@@ -146,7 +141,7 @@ module _ {b now now' : List ℕ} {kind : Kind} {before : List VariableShape} {ow
 
   puts_added : PutsBefore b own own'' (filter (was_put first upto) (leaves_of own''.index)) (acts ++ step)
   puts_added =
-      let one = put_new first k upto 0 (suc record_number_limit) leaves new (subst (Ascending 0 (suc record_number_limit)) leaves_are (leaves_ascend good' among')) (subst (λ (ls : List Leaf). IsOneOf ls new) leaves_are new_in) refl so.covers.from more_upto (omega arith) in
+      let one = put_new first k upto 0 (suc record_number_limit) leaves new (subst (Ascending 0 (suc record_number_limit)) leaves_are (leaves_ascend good' among')) (subst (λ (ls : List Leaf). IsOneOf ls new) leaves_are new_in) refl so.covers.from (omega (arith, vacant.ordered)) (omega arith) in
       subst (λ (ls : List Leaf). PutsBefore b own own'' ls (acts ++ step)) (sym (ap (filter (was_put first upto)) leaves_are ∙ one))
       (puts_new b own own' (filter (was_put first k) leaves) acts new (8 + length body) at so.index.puts (none_begins k 0 (suc record_number_limit) leaves ascend vacant.uncovered) needs (no_node_zero w.filled w.roomy (new_room k own'.index) at w.node))
 

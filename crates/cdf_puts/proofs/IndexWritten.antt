@@ -1,10 +1,9 @@
 -- A record is written in a block: the record holds its bytes, no other byte changes, and the index stays; of the leaves that were put the one of the record is the last by then.
-use Rattle.cdf_puts.proofs.Common.{Act, BlocksSoFar, Changed, Each-in, Good, HasShape, In, IndexSoFar, IsOneOf, Kept, Kind, Leaf, LeavesGoOn, List, NodeFits, NodesSoFar, OldBlock, Outside-append, PutsBefore, Range, RecordIs, RecordsWritten, Same, SoFar, StandsAmong, Touch, VariableShape, WritesRecords, [], ap, apart, append-nil, arith, behind_in, block_behind, block_kept, byte, cases_eq, cast_signed, changed_part, covers, drop, each, either, extent, field, file, filter, find_covering, find_first, first_written, fits, gdr_in, gdr_long, gdr_r_max_rec, gdr_type, gdr_typed, has, inl, inr, integer4, is_max_rec, kept, leaf, leaves_apart, leaves_ascend, leaves_of, length, length-put, long, max_rec_at, max_rec_touches, no_block, node_kept, nodes_of, number, one_place, own_rules, place_in, places_of, r_max_rec, record_bytes, record_number_limit, record_of, record_place, refl, room, same_Some, shape, size_at, size_kept, sound, subst, suc, sym, take, tile, touch, type_at, typed, upto, variable_of, vdr_max_rec, vdr_vxr_tail, vvr_type, w32, was_put, word_kept, ℕ, ◌*◌, ◌+◌, ◌-◌, ◌<◌, ◌∙◌, ◌∷◌, ◌≡◌, ◌≢◌, ◌≤◌, ◌⊎◌}
+use Rattle.cdf_puts.proofs.Common.{Act, BlocksSoFar, Changed, Each-in, Good, HasShape, In, IndexSoFar, IsOneOf, Kind, Leaf, LeavesGoOn, List, NodeFits, NodesSoFar, OldBlock, Outside-append, PutsBefore, RecordIs, RecordsWritten, Same, SoFar, StandsAmong, Touch, VariableShape, WritesRecords, [], ap, apart, append-nil, arith, behind_in, block_behind, block_kept, byte, cases_eq, cast_signed, changed_part, covers, drop, each, either, extent, field, file, filter, find_covering, find_first, first_written, fits, gdr_in, gdr_long, gdr_r_max_rec, gdr_type, gdr_typed, has, inl, inr, integer4, is_max_rec, kept, leaf, leaves_apart, leaves_ascend, leaves_of, length, length-put, long, max_rec_at, max_rec_touches, new_ranges, no_block, node_kept, nodes_of, number, one_place, own_rules, part, place_in, places_of, r_max_rec, ranges_of, record_bytes, record_number_limit, record_of, record_place, refl, room, same_Some, shape, size_at, size_kept, sound, subst, suc, sym, take, tile, touch, type_at, typed, upto, variable_of, vdr_max_rec, vdr_vxr_tail, vvr_type, w32, was_put, word_kept, ℕ, ◌*◌, ◌+◌, ◌-◌, ◌<◌, ◌∙◌, ◌∷◌, ◌≡◌, ◌≢◌, ◌≤◌, ◌⊎◌}
 use Rattle.cdf_edits.proofs.Frame.ChangedBytes.{changed_put}
 use Rattle.cdf_puts.proofs.PutBytes.{Whole, blocks_then, found_covering, put_there, size_now, whole}
 use Rattle.cdf_puts.proofs.SoFarStarts.{put_next, puts_old}
 use Rattle.cdf_puts.proofs.PutNodes.{nodes_same, unless_true}
-use Rattle.cdf_puts.proofs.GoesThen.{tail_written}
 
 -- the leaf has the record
 found_leaf : {b now : List ℕ} {own : VariableShape} {l : Leaf} {k : ℕ} {raw : List ℕ} → RecordsWritten b now own l k raw → IsOneOf (leaves_of own.index) l × ((l.first ≤ k) × (k ≤ l.last))
@@ -91,16 +90,23 @@ module _ {b now : List ℕ} {kind : Kind} {before : List VariableShape} {own : V
 
 -- ---- while records are put
 
--- no node changes
-pub nodes_still : {b now now' : List ℕ} {own own' : VariableShape} {ranges : List Range} {acts : List Act} → NodesSoFar b now own own' ranges acts → ((m : ℕ) → In m (nodes_of own'.index) → NodeFits now m) → ((m : ℕ) → In m (nodes_of own'.index) → Kept now now' m) → NodesSoFar b now' own own' ranges acts
-nodes_still {b = b} {now = now} {now' = now'} {own = own} {own' = own'} {acts = acts} n fit kept = record {
-  stay = n.stay;
-  apart = n.apart;
-  come = n.come;
-  sizes = λ m i. let k = kept m (n.stay m i) in size_kept now now' m k.same (let l = k.long in omega arith) ∙ n.sizes m i;
-  outlined = n.outlined;
-  follow = nodes_same b now now' _ (nodes_of own.index) (nodes_of own'.index) acts fit kept (λ m j e. n.sizes m (unless_true (n.come m j) e)) n.follow;
-}
+-- where the records of the variable are written, or MaxRec, no node changes, and VXRtail stays
+module _ {b now now' : List ℕ} {kind : Kind} {before : List VariableShape} {own own' : VariableShape} {after : List VariableShape} {raw pad : List ℕ} {r k : ℕ} {acts : List Act} {ts : List Touch} (so : SoFar b now kind before own own' after raw pad r k acts) (w : WritesRecords now now' kind own' ts) where
+  pub tail_still : number now' own'.vdr vdr_vxr_tail ≡ number now own'.vdr vdr_vxr_tail
+  tail_still = word_kept now now' (own'.vdr + 28) (own'.vdr + 44) (part so.goes.good so.goes.among w 28 44 (inr (omega arith)) (let n = long so.goes.good so.goes.among in omega arith)) (own'.vdr + 36) 8 (omega arith) (omega arith)
+
+  pub nodes_still : NodesSoFar b now' own own' (new_ranges (ranges_of own.index) (ranges_of own'.index)) acts
+  nodes_still =
+      let n = so.index.nodes in
+      let kept = node_kept so.goes.good so.goes.among w in
+      record {
+        stay = n.stay;
+        apart = n.apart;
+        come = n.come;
+        sizes = λ m i. let k = kept m (n.stay m i) in size_kept now now' m k.same (let l = k.long in omega arith) ∙ n.sizes m i;
+        outlined = n.outlined;
+        follow = nodes_same b now now' _ (nodes_of own.index) (nodes_of own'.index) acts (λ m i. Each-in (NodeFits now) (nodes_of own'.index) (fits so.goes.good so.goes.among).1 m i) kept (λ m j e. n.sizes m (unless_true (n.come m j) e)) n.follow;
+      }
 
 module _ {b now now' : List ℕ} {kind : Kind} {before : List VariableShape} {own own' : VariableShape} {after : List VariableShape} {raw pad : List ℕ} {r k : ℕ} {acts : List Act} {l : Leaf} (so : SoFar b now kind before own own' after raw pad r k acts) (more : k ≤ r) (w : RecordsWritten now now' own' l k (record_of raw pad r k)) (as_long : length (record_of raw pad r k) ≡ record_bytes b own.vdr) where
   abbrev first : ℕ
@@ -123,7 +129,7 @@ module _ {b now now' : List ℕ} {kind : Kind} {before : List VariableShape} {ow
   pub index_written : IndexSoFar b now' own own' first (k + 1) acts
   index_written = record {
     puts = puts_written;
-    tail = subst (λ (v : ℕ). number now' v vdr_vxr_tail ≡ number now v vdr_vxr_tail) so.goes.vdr_is (tail_written so.goes.good so.goes.among (writes so.goes.good so.goes.among w)) ∙ so.index.tail;
+    tail = subst (λ (v : ℕ). number now' v vdr_vxr_tail ≡ number now v vdr_vxr_tail) so.goes.vdr_is (tail_still so (writes so.goes.good so.goes.among w)) ∙ so.index.tail;
     top = so.index.top;
-    nodes = nodes_still so.index.nodes (λ m i. Each-in (NodeFits now) (nodes_of own'.index) (fits so.goes.good so.goes.among).1 m i) (node_kept so.goes.good so.goes.among (writes so.goes.good so.goes.among w));
+    nodes = nodes_still so (writes so.goes.good so.goes.among w);
   }
