@@ -1,5 +1,5 @@
 -- All records are put: the index, what was taken for it and the bytes of the blocks are as the command says, and what is stored as each record. The image follows the command.
-use Rattle.cdf_puts.proofs.Common.{Act, AllKeep, Allowance, Allowances, Ascending, Beside, BlockFollows, BlocksSoFar, Bool, Changed, CutsFirst, DataSet, Found, GoesOn, HoldsPads, In, In-append, IsOneOf, Keeps, Kind, Leaf, List, MaxRecDone, NewBlock, None, OneVariable, Only, Option, Outside, Outside-append, PlainLeaf, PutsBytes, PutsIndex, PutsLeaves, PutsRecord, Range, SoFar, Some, SpareIs, Sparse, StaysUnwritten, Unused, Variable, VariableShape, [], anything_if, ap, apart, append-nil, arith, behind_in, behind_kept, block_behind, block_end, both, bytes_eq, bytes_eq-same, cases_lt, content, content_is, count_is, covered, covers, cut_open, drop, drop-drop, drop_all, each, each_of, either, eq-eqb, eq_of, eqb-true, extent, false, false-is_in, file, filled, filter, filter-says, find, find_covering, first_written, fits, greater, has, if◌then◌else◌, inl, inr, is_changed, is_in, is_little, is_rewritten, is_sparse, is_taken, is_taken_at, is_written, keep_all, keep_attributes, keep_file, keep_kinds, keep_places, keep_variable_parts, keep_variables, keeps_stood, kept, last_node, leaf, leaf_at, leaves_ascend, leaves_of, length, length-take, list_any, long, map, max, max_rec_at, max_rec_touches, min, nat_lt, nat_tests, ne_eqb, nodes_of, not, number, option_map, or_parts, other_kind, owned, pad_record, past, place_in, places_of, plain_bytes, plain_piece, put_changes, put_count, put_fields, put_room, r_max_rec, r_max_rec_field, range, range_at, ranges_before_put, ranges_of, record_bytes, record_number_limit, record_of, record_place, records_in, records_of_leaf, refl, repeat, room, room_of_variable, same_Some, same_as_itself, same_of_bytes_eq, shape, shapes_of, shared, slice_get, sound, space_before, stays_alike, stays_all, stored_bytes, stored_in, subst, suc, sym, take, take-append-drop, taken_bytes, times_le, top_chain, top_stays, touch, touched_field, transport, true, true-is_in, true≢false, turned, type_alike, type_at, type_of_variable, typed, uir_type, uncovered, unused_allowance, unused_in, unused_records, upto, variable_named, variable_of, variable_records, variables, vdr_max_rec, vdr_vxr_tail, vvr_place, was_leaf, with_record, with_variable, written_in, zero, ℕ, ◌&&◌, ◌*◌, ◌++◌, ◌+◌, ◌-◌, ◌<◌, ◌==◌, ◌∙◌, ◌∷◌, ◌≡◌, ◌≢◌, ◌≤◌, ◌⊎◌}
+use Rattle.cdf_puts.proofs.Common.{Act, AllKeep, Allowance, Allowances, Ascending, Beside, BlockFollows, BlocksSoFar, Bool, Changed, CutsFirst, DataSet, Found, GoesOn, HoldsPads, In, In-append, IsOneOf, Keeps, Kind, Leaf, List, MaxRecDone, NewBlock, None, OneVariable, Only, Option, Outside, Outside-append, PlainLeaf, PutsBytes, PutsIndex, PutsLeaves, PutsRecord, Range, SoFar, Some, SpareIs, Sparse, StaysUnwritten, Unused, Variable, VariableShape, [], anything_if, ap, apart, append-nil, arith, behind_in, behind_kept, block_behind, block_end, both, bytes_eq, bytes_eq-same, cases_lt, content, content_is, count_is, covered, covers, cut_open, drop, drop-drop, drop_all, each, each_of, either, eq-eqb, eq_of, eqb-true, extent, false, false-is_in, file, filled, filter, filter-says, find, find_covering, first_written, fits, greater, has, if◌then◌else◌, inl, inr, is_changed, is_in, is_little, is_rewritten, is_sparse, is_taken, is_taken_at, is_written, keep_all, keep_attributes, keep_file, keep_kinds, keep_places, keep_variable_parts, keep_variables, keeps_stood, kept, last_node, leaf, leaf_at, leaves_ascend, leaves_of, length, length-take, list_any, long, map, max, max_rec_at, max_rec_touches, min, nat_lt, nat_tests, ne_eqb, nodes_of, not, number, option_map, or_parts, other_kind, owned, pad_record, past, place_in, places_of, plain_bytes, plain_piece, put_changes, put_count, put_fields, put_room, r_max_rec, r_max_rec_field, range, range_at, ranges_before_put, ranges_of, record_bytes, record_number_limit, record_of, record_place, records_in, records_of_leaf, refl, repeat, room, room_of_variable, same_Some, same_as_itself, same_of_bytes_eq, shape, shapes_of, shared, slice_get, sound, space_before, stays_alike, stays_all, stored_bytes, stored_in, subst, suc, sym, take, take-append-drop, taken_bytes, times_le, top_chain, top_stays, touch, touched_field, transport, true, true-is_in, true≢false, turned, type_alike, type_at, type_of_variable, typed, uir_type, uncovered, unused_allowance, unused_in, unused_records, upto, variable_named, variable_of, variable_records, variables, vdr_max_rec, vdr_vxr_tail, vvr_place, was_leaf, with_record, with_variable, written_in, zero, ℕ, ◌&&◌, ◌*◌, ◌++◌, ◌+◌, ◌-◌, ◌<◌, ◌==◌, ◌∙◌, ◌∷◌, ◌≡◌, ◌≤◌, ◌⊎◌}
 use Rattle.cdf_edits.proofs.Edits.RecordsPut.{StoresPut, extent_last, filled_uncut, records_put}
 use Rattle.cdf_model.specs.Numbered.{with_item}
 use Rattle.cdf_puts.specs.Going.{found_in as own_found}
@@ -157,9 +157,6 @@ module _ {b now last : List ℕ} {kind : Kind} {before : List VariableShape} {ow
 
   -- ---- as the content has it
 
-  pad_is : (j : ℕ) → j ≢ r → record_of raw pad r j ≡ pad
-  pad_is j ne = let e = ne_eqb j r ne in rw e refl
-
   pub put_content : (bytes : List ℕ) → turned (type_of_variable b own.vdr) (is_little b) raw ≡ bytes → (most < r → turned (type_of_variable b own.vdr) (is_little b) pad ≡ pad_record v) → content last ≡ with_variable (content b) (own_found b kind before own) (with_record v r bytes)
   put_content bytes raw_is pad_stored =
       let first_is : first ≡ min r most = ap (λ (s : Sparse). if is_sparse s then r else min r most) so.start.no_rule in
@@ -172,7 +169,7 @@ module _ {b now last : List ℕ} {kind : Kind} {before : List VariableShape} {ow
         ascend_now = leaves_ascend put.good put.among;
         upto = ap extent (last_max_rec so done) ∙ extent_last (greater most (r + 1));
         stored = ap (option_map turn) (stored_put r (omega arith) (omega arith)) ∙ ap Some (rw (eq-eqb r r refl) raw_is);
-        padded = λ k le lt. ap (option_map turn) (stored_put k (omega arith) (omega arith)) ∙ ap Some (ap turn (pad_is k (λ e. absurd (omega arith))) ∙ pad_stored (omega arith));
+        padded = λ k le lt. ap (option_map turn) (stored_put k (omega arith) (omega arith)) ∙ ap Some (rw (ne_eqb k r (λ e. absurd (omega arith))) (pad_stored (omega arith)));
         kept = λ k lt ne. stored_same k (λ e. lt) (elim (cases_lt r k) [ inl past ↦ inr past | inr le ↦ inl (omega arith) ]);
       } in
       let max_rec = last_max_rec so done in
@@ -227,11 +224,10 @@ module _ {b now last : List ℕ} {kind : Kind} {before : List VariableShape} {ow
 
   pub keeps : AllKeep b last (put_changes b (shape b) (own_found b kind before own) r) acts (owned b (shape b))
   keeps =
-      let stay = put.stay in
       let mine = keep_places b last may acts (OneVariable kind (length before)) (variable_records own) own_keeps in
-      let parts = keep_variable_parts b last may acts kind before own after so.start.among.was (keep_variables b last may acts kind 0 before stay.front) mine (keep_variables b last may acts kind (suc (length before)) after stay.back) in
-      let both = keep_kinds b last may acts kind parts (keep_variables b last may acts (other_kind kind) 0 (shapes_of (shape b) (other_kind kind)) stay.others) in
-      keep_all b last may acts (keep_file b last may acts (sound so.start.good so.start.among) (keeps_stood b last 8 stay.cdr (Only [])) put.gdr) (keep_attributes b last may acts 0 (shape b).attributes stay.attributes) both.0 both.1
+      let parts = keep_variable_parts b last may acts kind before own after so.start.among.was (keep_variables b last may acts kind 0 before (λ m i. put.stay m (inr (inr (inl i))))) mine (keep_variables b last may acts kind (suc (length before)) after (λ m i. put.stay m (inr (inr (inr (inl i)))))) in
+      let both = keep_kinds b last may acts kind parts (keep_variables b last may acts (other_kind kind) 0 (shapes_of (shape b) (other_kind kind)) (λ m i. put.stay m (inr (inr (inr (inr i)))))) in
+      keep_all b last may acts (keep_file b last may acts (sound so.start.good so.start.among) (keeps_stood b last 8 (put.stay 8 (inl refl)) (Only [])) put.gdr) (keep_attributes b last may acts 0 (shape b).attributes (λ m i. put.stay m (inr (inl i)))) both.0 both.1
       (keep_places b last may acts Unused (unused_records b (shape b)) unused_keeps)
 
   -- ---- in place
@@ -260,7 +256,7 @@ module _ {b now last : List ℕ} {kind : Kind} {before : List VariableShape} {ow
         let upto : l.first + j ≤ l.last = omega arith in
         let le : most ≤ r = omega (arith, n.alone) in
         ap (λ (m : ℕ). take size (drop (m * size) bytes)) (sym same) ∙ plain_piece last own'.vdr size (l.first + j) l x.plain x.small size_last (omega arith) upto
-        ∙ n.written (l.first + j) (omega arith) upto ∙ pad_is (l.first + j) (λ e. absurd (omega arith)) ∙ pad_stored le ∙ ap (λ (c : Bool). turned v.type c (pad_record v)) (sym put.file.little))
+        ∙ n.written (l.first + j) (omega arith) upto ∙ rw (ne_eqb (l.first + j) r (λ e. absurd (omega arith))) (pad_stored le ∙ ap (λ (c : Bool). turned v.type c (pad_record v)) (sym put.file.little)))
 
     -- ---- the blocks
 
