@@ -55,7 +55,7 @@ pub use Rattle.cdf_index.specs.Growing.{with_new}
 pub use Rattle.cdf_index.specs.Order.{InOrder, leaf_of}
 pub use Rattle.cdf_model.specs.declared.kinds.Sparse.{Sparse}
 pub use Rattle.cdf_puts.specs.Covering.{Ahead, Counted, Covering, block_bytes, count_upto, new_last, node_bytes}
-pub use Rattle.cdf_puts.specs.Going.{GoesOn, LooseStay, found_in, put_fields}
+pub use Rattle.cdf_puts.specs.Going.{GoesOn, IsOther, LooseStay, found_in, put_fields}
 pub use Rattle.cdf_puts.specs.Putting.{IsPut, PutsOn, PutsUpTo, Putting, SomePut, SomePutting, block_type, last_in_new, most_in_block, record_put, records_put}
 pub use Rattle.cdf_puts.specs.SoFar.{Beside, BlockRecords, BlocksSoFar, IndexSoFar, LeavesGoOn, MaxRecDone, NewBlock, NodesSoFar, OldBlock, PutStart, PutsBefore, RecordIs, SoFar, TopGrows, put_count, record_of, taken_bytes, taken_places, was_put}
 pub use Rattle.cdf_puts.specs.Steps.{BlocksGoOn, IsBlockBody, IsVacant, MaxRecRaised, RecordsWritten}

@@ -1,14 +1,14 @@
 -- All records are put: the index, what was taken for it and the bytes of the blocks are as the command says, and what is stored as each record. The image follows the command.
-use Rattle.cdf_puts.proofs.Common.{Act, AllKeep, Allowance, Allowances, Ascending, Beside, BlockFollows, BlocksSoFar, Bool, Changed, CutsFirst, DataSet, Each-in, Found, GoesOn, HoldsPads, In, In-append, IsOneOf, Keeps, Kept, Kind, Leaf, List, MaxRecDone, NewBlock, NodeFits, None, OneVariable, Only, Option, Outside, Outside-append, PlainLeaf, PutsBytes, PutsIndex, PutsLeaves, PutsRecord, Range, SoFar, Some, SpareIs, Sparse, StaysUnwritten, TailFollows, Unused, UnwrittenStay, Variable, VariableShape, [], anything_if, ap, append-nil, arith, behind_in, behind_kept, block_behind, block_end, both, bytes_eq, bytes_eq-same, cases_lt, content, count_is, covers, cut_open, drop, drop-drop, drop_all, each_of, either, eq-eqb, eq_of, eqb-true, extent, false, false-is_in, filled, filter, filter-says, find, find_covering, first_written, fits, greater, if◌then◌else◌, index_records, inl, inr, is_changed, is_in, is_little, is_rewritten, is_sparse, is_taken, is_taken_at, is_written, keep_all, keep_attributes, keep_file, keep_kinds, keep_places, keep_variable_parts, keep_variables, keeps_stood, last_node, leaf_at, leaves_ascend, leaves_of, length, length-take, list_any, map, max, max_rec_at, max_rec_touches, min, nat_lt, nat_tests, ne_eqb, node_behind, nodes_of, number, option_map, or_parts, other_kind, owned, pad_record, past, place_in, places_of, plain_bytes, plain_piece, put_changes, put_count, put_fields, put_room, r_max_rec_field, range, range_at, ranges_before_put, ranges_of, record_bytes, record_number_limit, record_of, record_place, records_in, records_of_leaf, refl, repeat, room, room_of_variable, same_Some, same_as_itself, same_of_bytes_eq, shape, shapes_of, shared, slice_get, sound, space_before, stays_alike, stays_all, stays_in_place, stored_bytes, stored_in, subst, suc, sym, take, take-append-drop, taken_bytes, times_le, top_chain, top_stays, touch, touched_field, transport, true, true-is_in, true≢false, turned, type_alike, type_at, type_of_variable, uir_type, uncovered, unused_allowance, unused_in, unused_records, variable_named, variable_of, variable_records, vdr_max_rec, vdr_vxr_tail, vvr_place, was_leaf, with_record, with_variable, written_in, zero, ℕ, ◌*◌, ◌++◌, ◌+◌, ◌-◌, ◌<◌, ◌==◌, ◌∙◌, ◌∷◌, ◌≡◌, ◌≢◌, ◌≤◌, ◌⊎◌}
+use Rattle.cdf_puts.proofs.Common.{Act, AllKeep, Allowance, Allowances, Ascending, Beside, BlockFollows, BlocksSoFar, Bool, Changed, CutsFirst, DataSet, Found, GoesOn, HoldsPads, In, In-append, IsOneOf, Keeps, Kind, Leaf, List, MaxRecDone, NewBlock, None, OneVariable, Only, Option, Outside, Outside-append, PlainLeaf, PutsBytes, PutsIndex, PutsLeaves, PutsRecord, Range, SoFar, Some, SpareIs, Sparse, StaysUnwritten, Unused, Variable, VariableShape, [], anything_if, ap, apart, append-nil, arith, behind_in, behind_kept, block_behind, block_end, both, bytes_eq, bytes_eq-same, cases_lt, content, content_is, count_is, covered, covers, cut_open, drop, drop-drop, drop_all, each, each_of, either, eq-eqb, eq_of, eqb-true, extent, false, false-is_in, file, filled, filter, filter-says, find, find_covering, first_written, fits, greater, has, if◌then◌else◌, inl, inr, is_changed, is_in, is_little, is_rewritten, is_sparse, is_taken, is_taken_at, is_written, keep_all, keep_attributes, keep_file, keep_kinds, keep_places, keep_variable_parts, keep_variables, keeps_stood, kept, last_node, leaf, leaf_at, leaves_ascend, leaves_of, length, length-take, list_any, long, map, max, max_rec_at, max_rec_touches, min, nat_lt, nat_tests, ne_eqb, nodes_of, not, number, option_map, or_parts, other_kind, owned, pad_record, past, place_in, places_of, plain_bytes, plain_piece, put_changes, put_count, put_fields, put_room, r_max_rec, r_max_rec_field, range, range_at, ranges_before_put, ranges_of, record_bytes, record_number_limit, record_of, record_place, records_in, records_of_leaf, refl, repeat, room, room_of_variable, same_Some, same_as_itself, same_of_bytes_eq, shape, shapes_of, shared, slice_get, sound, space_before, stays_alike, stays_all, stored_bytes, stored_in, subst, suc, sym, take, take-append-drop, taken_bytes, times_le, top_chain, top_stays, touch, touched_field, transport, true, true-is_in, true≢false, turned, type_alike, type_at, type_of_variable, typed, uir_type, uncovered, unused_allowance, unused_in, unused_records, upto, variable_named, variable_of, variable_records, variables, vdr_max_rec, vdr_vxr_tail, vvr_place, was_leaf, with_record, with_variable, written_in, zero, ℕ, ◌&&◌, ◌*◌, ◌++◌, ◌+◌, ◌-◌, ◌<◌, ◌==◌, ◌∙◌, ◌∷◌, ◌≡◌, ◌≤◌, ◌⊎◌}
 use Rattle.cdf_edits.proofs.Edits.RecordsPut.{StoresPut, extent_last, filled_uncut, records_put}
 use Rattle.cdf_model.specs.Numbered.{with_item}
 use Rattle.cdf_puts.specs.Going.{found_in as own_found}
 use Rattle.cdf_puts.proofs.PutRules.{no_cpr, uncut}
 use Rattle.cdf_puts.proofs.LastImage.{last_goes, last_max_rec, last_r_max_rec, last_writes}
-use Rattle.cdf_puts.proofs.PutBytes.{behind_all, blocks_then, found_covering, none_is_put, old_size, old_whole, piece_stays, whole}
-use Rattle.cdf_puts.proofs.IndexWritten.{nodes_still}
+use Rattle.cdf_puts.proofs.PutBytes.{behind_all, blocks_then, found_covering, none_is_put, old_size, piece_stays, whole}
+use Rattle.cdf_puts.proofs.IndexWritten.{nodes_still, tail_still}
 use Rattle.cdf_puts.proofs.CoveringRanges.{some_or_none, covering_done}
-use Rattle.cdf_puts.proofs.GoesThen.{later_size, later_variable, stays, tail_written}
+use Rattle.cdf_puts.proofs.GoesThen.{later_size, later_variable, stays}
 use Rattle.cdf_puts.proofs.PutRoom.{none_given, none_without_bytes, longer_by}
 use Rattle.cdf_index.proofs.OwnRecords.{by_range}
 use Rattle.cdf_index.proofs.OwnRecords as of_own
@@ -28,6 +28,9 @@ use Rattle.cdf_edits.specs.Follows.{Follows, only_reads}
 none_taken_in : (acts : List Act) (xs : List ℕ) → ((m : ℕ) → In m xs → is_taken_at acts m ≡ false) → list_any (is_taken_at acts) xs ≡ false
 none_taken_in acts [] f = refl
 none_taken_in acts (x ∷ xs) f = grind (arith, f x (inl refl), none_taken_in acts xs (λ m i. f m (inr i)))
+
+first_of_three : (p q c : Bool) → p ≡ true → (q ≡ true → c ≡ false) → (p && (q && not c)) ≡ q
+first_of_three p q c e none = grind (arith, e, none)
 
 none_there : (n : ℕ) → nat_lt 0 n ≡ false → n ≤ 0
 none_there n e = grind (arith, nat_tests, e)
@@ -76,9 +79,6 @@ module _ {b now last : List ℕ} {kind : Kind} {before : List VariableShape} {ow
   put : GoesOn b last kind before own own' after acts
   put = last_goes so done
 
-  behind : (m : ℕ) → In m (index_records own') → Kept now last m
-  behind m i = behind_kept so.goes.good so.goes.among (last_writes so done) m i (λ none. none)
-
   -- ---- the index
 
   size_last : record_bytes last own'.vdr ≡ size
@@ -93,15 +93,8 @@ module _ {b now last : List ℕ} {kind : Kind} {before : List VariableShape} {ow
   tops = bytes_eq (top_chain own.index) (top_chain own'.index)
 
   top_test : top_stays acts own.index own.index own'.index ≡ tops
-  top_test = let here = bytes_eq-same (top_chain own.index) in rw here (elim (either tops) [
-    | inl e ↦
-        let none : list_any (is_taken_at acts) (top_chain own'.index) ≡ false = none_taken_in acts (top_chain own'.index) (λ m i. so.index.nodes.apart m (chain_in own.index m (subst (In m) (sym (same_of_bytes_eq (top_chain own.index) (top_chain own'.index) e)) i))) in
-        rw (none, e) refl
-    | inr e ↦ rw e refl
-  ])
-
-  tail : TailFollows b last acts own.index own own'
-  tail = rw top_test (tail_written so.goes.good so.goes.among (last_writes so done) ∙ subst (λ (x : ℕ). number now x vdr_vxr_tail ≡ (if tops then number b own.vdr vdr_vxr_tail else last_node own'.index)) (sym so.goes.vdr_is) so.index.tail)
+  top_test = first_of_three (bytes_eq (top_chain own.index) (top_chain own.index)) tops (list_any (is_taken_at acts) (top_chain own'.index)) (bytes_eq-same (top_chain own.index)) (λ e.
+      none_taken_in acts (top_chain own'.index) (λ m i. so.index.nodes.apart m (chain_in own.index m (subst (In m) (sym (same_of_bytes_eq (top_chain own.index) (top_chain own'.index) e)) i))))
 
   -- ---- the whole
 
@@ -119,8 +112,8 @@ module _ {b now last : List ℕ} {kind : Kind} {before : List VariableShape} {ow
         let end = append-nil (filter (is_written v r) leaves) in
         let acts_end = append-nil acts in
         transport (λ i. PutsLeaves b last (loose i) (vdr i) (end i) own.index (acts_end i) own'.index) (so.index.puts last last_size [] [] own'.index (refl, refl));
-    tail = tail;
-    nodes = (nodes_still so.index.nodes (λ m i. Each-in (NodeFits now) (nodes_of own'.index) (fits so.goes.good so.goes.among).1 m i) (λ m i. behind m (node_behind own' m i))).follow;
+    tail = rw top_test (tail_still so (last_writes so done) ∙ subst (λ (x : ℕ). number now x vdr_vxr_tail ≡ (if tops then number b own.vdr vdr_vxr_tail else last_node own'.index)) (sym so.goes.vdr_is) so.index.tail);
+    nodes = (nodes_still so (last_writes so done)).follow;
     freed = (none_given b last acts acts so.takes).0;
     nodes_freed = (none_given b last acts acts so.takes).1;
   }
@@ -128,7 +121,7 @@ module _ {b now last : List ℕ} {kind : Kind} {before : List VariableShape} {ow
   -- ---- the bytes
 
   all : BlocksSoFar b last own own' raw pad r first (r + 1) acts (max_rec_touches now kind own'.vdr)
-  all = blocks_then so (omega arith) (omega arith) (append-nil acts) (none_is_put (subst (Changed now last) (append-nil (max_rec_touches now kind own'.vdr)) (last_writes so done).changed) (λ l i. (behind l.place (block_behind own' l.place (place_in leaves l i))).same))
+  all = blocks_then so (omega arith) (omega arith) (append-nil acts) (none_is_put (subst (Changed now last) (append-nil (max_rec_touches now kind own'.vdr)) (last_writes so done).changed) (λ l i. (behind_kept so.goes.good so.goes.among (last_writes so done) l.place (block_behind own' l.place (place_in leaves l i)) (λ none. none)).same))
 
   last_plain : (l : Leaf) → IsOneOf leaves l → PlainLeaf last size l
   last_plain l i = subst (λ (n : ℕ). PlainLeaf last n l) size_last (whole put.good put.among l i).leaf
@@ -142,17 +135,15 @@ module _ {b now last : List ℕ} {kind : Kind} {before : List VariableShape} {ow
   stored_put : (j : ℕ) → first ≤ j → j < r + 1 → stored_bytes last own.vdr size leaves j ≡ Some (record_of raw pad r j)
   stored_put j from low =
       let x = all.has j from low in
-      let f = x.1.1.0 in
-      let t = x.1.1.1 in
-      stored_at j x.0 x.1.0 f t ∙ ap Some (elim (all.new x.0 x.1.0) [ inl o ↦ (all.old x.0 o).written j from low f t | inr n ↦ n.written j f t ])
+      stored_at j x.0 x.1.0 x.1.1.0 x.1.1.1 ∙ ap Some (elim (all.new x.0 x.1.0) [ inl o ↦ (all.old x.0 o).written j from low x.1.1.0 x.1.1.1 | inr n ↦ n.written j x.1.1.0 x.1.1.1 ])
 
   -- one that a block had, and that was not put; so also where none had it, up to MaxRec
   stored_same : (j : ℕ) → (find (λ (leaf : Leaf). covers j (range leaf.first leaf.last)) olds ≡ None → j < most) → (j < first) ⊎ (r < j) → stored_bytes last own.vdr size leaves j ≡ stored_bytes b own.vdr size olds j
   stored_same j few side = elim (some_or_none (find (λ (leaf : Leaf). covers j (range leaf.first leaf.last)) olds)) [
     | inl x ↦
         let o = found_covering j olds x.0 x.1 in
-        let same = piece_stays (all.old x.0 o.0) (old_whole so x.0 o.0) all.longer j o.1.0 o.1.1 (elim side [ inl lt ↦ inl lt | inr lt ↦ inr (omega arith) ]) in
-        stored_at j x.0 (all.stay x.0 o.0) o.1.0 o.1.1 ∙ ap Some same ∙ sym (stored_in_leaf b own.vdr size j olds (leaves_ascend so.start.good so.start.among) refl x.0 o.0 (old_whole so x.0 o.0).leaf o.1.0 o.1.1)
+        let same = piece_stays (all.old x.0 o.0) (whole so.start.good so.start.among x.0 o.0) all.longer j o.1.0 o.1.1 (elim side [ inl lt ↦ inl lt | inr lt ↦ inr (omega arith) ]) in
+        stored_at j x.0 (all.stay x.0 o.0) o.1.0 o.1.1 ∙ ap Some same ∙ sym (stored_in_leaf b own.vdr size j olds (leaves_ascend so.start.good so.start.among) refl x.0 o.0 (whole so.start.good so.start.among x.0 o.0).leaf o.1.0 o.1.1)
     | inr none ↦ elim (some_or_none (find (λ (leaf : Leaf). covers j (range leaf.first leaf.last)) leaves)) [
       | inr e ↦ ap (option_map _) e ∙ sym (ap (option_map _) none)
       | inl x ↦
@@ -166,9 +157,6 @@ module _ {b now last : List ℕ} {kind : Kind} {before : List VariableShape} {ow
 
   -- ---- as the content has it
 
-  pad_is : (j : ℕ) → j ≢ r → record_of raw pad r j ≡ pad
-  pad_is j ne = let e = ne_eqb j r ne in rw e refl
-
   pub put_content : (bytes : List ℕ) → turned (type_of_variable b own.vdr) (is_little b) raw ≡ bytes → (most < r → turned (type_of_variable b own.vdr) (is_little b) pad ≡ pad_record v) → content last ≡ with_variable (content b) (own_found b kind before own) (with_record v r bytes)
   put_content bytes raw_is pad_stored =
       let first_is : first ≡ min r most = ap (λ (s : Sparse). if is_sparse s then r else min r most) so.start.no_rule in
@@ -181,7 +169,7 @@ module _ {b now last : List ℕ} {kind : Kind} {before : List VariableShape} {ow
         ascend_now = leaves_ascend put.good put.among;
         upto = ap extent (last_max_rec so done) ∙ extent_last (greater most (r + 1));
         stored = ap (option_map turn) (stored_put r (omega arith) (omega arith)) ∙ ap Some (rw (eq-eqb r r refl) raw_is);
-        padded = λ k le lt. ap (option_map turn) (stored_put k (omega arith) (omega arith)) ∙ ap Some (ap turn (pad_is k (λ e. absurd (omega arith))) ∙ pad_stored (omega arith));
+        padded = λ k le lt. ap (option_map turn) (stored_put k (omega arith) (omega arith)) ∙ ap Some (rw (ne_eqb k r (λ e. absurd (omega arith))) (pad_stored (omega arith)));
         kept = λ k lt ne. stored_same k (λ e. lt) (elim (cases_lt r k) [ inl past ↦ inr past | inr le ↦ inl (omega arith) ]);
       } in
       let max_rec = last_max_rec so done in
@@ -211,7 +199,7 @@ module _ {b now last : List ℕ} {kind : Kind} {before : List VariableShape} {ow
     | inr t ↦
         let none : put_count first (r + 1) l ≤ 0 = none_there (put_count first (r + 1) l) (or_parts (nat_lt 0 (put_count first (r + 1) l)) _ t).0 in
         let o = all.old l i in
-        rw t (record { stands = behind_in put.good put.among l.place (block_behind own' l.place (place_in leaves l (all.stay l i))); size_is = old_size o (omega (arith, (old_whole so l i).leaf.room)); same = λ n lt out. o.kept (l.place + n) (omega arith) (omega arith) (λ j from upto f t'. absurd (omega arith)) })
+        rw t (record { stands = behind_in put.good put.among l.place (block_behind own' l.place (place_in leaves l (all.stay l i))); size_is = old_size o (omega (arith, (whole so.start.good so.start.among l i).leaf.room)); same = λ n lt out. o.kept (l.place + n) (omega arith) (omega arith) (λ j from upto f t'. absurd (omega arith)) })
   ]
 
   own_keeps : (m : ℕ) → In m (variable_records own) → Keeps b last m (own_may m)
@@ -236,39 +224,19 @@ module _ {b now last : List ℕ} {kind : Kind} {before : List VariableShape} {ow
 
   pub keeps : AllKeep b last (put_changes b (shape b) (own_found b kind before own) r) acts (owned b (shape b))
   keeps =
-      let stay = put.stay in
       let mine = keep_places b last may acts (OneVariable kind (length before)) (variable_records own) own_keeps in
-      let parts = keep_variable_parts b last may acts kind before own after so.start.among.was (keep_variables b last may acts kind 0 before stay.front) mine (keep_variables b last may acts kind (suc (length before)) after stay.back) in
-      let both = keep_kinds b last may acts kind parts (keep_variables b last may acts (other_kind kind) 0 (shapes_of (shape b) (other_kind kind)) stay.others) in
-      keep_all b last may acts (keep_file b last may acts (sound so.start.good so.start.among) (keeps_stood b last 8 stay.cdr (Only [])) put.gdr) (keep_attributes b last may acts 0 (shape b).attributes stay.attributes) both.0 both.1
+      let parts = keep_variable_parts b last may acts kind before own after so.start.among.was (keep_variables b last may acts kind 0 before (λ m i. put.stay m (inr (inr (inl i))))) mine (keep_variables b last may acts kind (suc (length before)) after (λ m i. put.stay m (inr (inr (inr (inl i)))))) in
+      let both = keep_kinds b last may acts kind parts (keep_variables b last may acts (other_kind kind) 0 (shapes_of (shape b) (other_kind kind)) (λ m i. put.stay m (inr (inr (inr (inr i)))))) in
+      keep_all b last may acts (keep_file b last may acts (sound so.start.good so.start.among) (keeps_stood b last 8 (put.stay 8 (inl refl)) (Only [])) put.gdr) (keep_attributes b last may acts 0 (shape b).attributes (λ m i. put.stay m (inr (inl i)))) both.0 both.1
       (keep_places b last may acts Unused (unused_records b (shape b)) unused_keeps)
 
   -- ---- in place
-
-  in_place : stays_in_place v own r ≡ true → Changed b last (max_rec_touches b kind own.vdr ++ written_in v first r olds)
-  in_place e = record {
-    longer = all.longer;
-    same = λ place lt out.
-        let covered = eq_of (uncovered v own.index r) 0 (both (uncovered v own.index r == 0) _ e).0 in
-        let room : put_room v own.index r ≡ 0 = rw (covered, so.start.loose) refl in
-        let none = none_without_bytes (space_before b) acts so.goes.follow.are so.takes (omega (arith, so.covers.fits)) in
-        let quiet = λ (m : ℕ). ap (λ (xs : List Act). is_taken_at xs m) none in
-        let p = Outside-append (max_rec_touches b kind own.vdr) (written_in v first r olds) place out in
-        let gdr = sym so.goes.gdr_is in
-        let vdr = sym so.goes.vdr_is in
-        all.quiet quiet place lt (transport (λ i. Outside (map (touched_field (gdr i)) (r_max_rec_field kind) ++ touched_field (vdr i) vdr_max_rec ∷ []) place) p.0) (λ l i. elim (all.new l i) [ inl o ↦ beside_written first r size olds place p.1 l o | inr n ↦ absurd (true≢false (sym n.was_taken ∙ quiet l.place)) ]);
-  }
 
   -- ---- what was there
 
   some_covers : (k : ℕ) (ls : List Leaf) → list_any (covers k) (map (λ (x : Leaf). range x.first x.last) ls) ≡ true → (l : Leaf) × (find (λ (leaf : Leaf). covers k (range leaf.first leaf.last)) ls ≡ Some l)
   some_covers k [] e = absurd (true≢false (sym e))
   some_covers k (x ∷ more) e = elim (either (covers k (range x.first x.last))) [ inl t ↦ (x, rw t refl) | inr t ↦ (let p = some_covers k more (rw t at e) in (p.0, rw t p.1)) ]
-
-  unwritten_stay : UnwrittenStay b last v r own own'
-  unwritten_stay k c side =
-      let has = some_covers k olds (sym (ap (list_any (covers k)) before_is) ∙ c) in
-      ap (λ (x : ℕ). stored_bytes last x size leaves k) put.vdr_is ∙ stored_same k (λ e. (let clash : Some has.0 ≡ None = sym has.1 ∙ e in absurd cc)) side
 
   -- ---- pads
 
@@ -288,13 +256,7 @@ module _ {b now last : List ℕ} {kind : Kind} {before : List VariableShape} {ow
         let upto : l.first + j ≤ l.last = omega arith in
         let le : most ≤ r = omega (arith, n.alone) in
         ap (λ (m : ℕ). take size (drop (m * size) bytes)) (sym same) ∙ plain_piece last own'.vdr size (l.first + j) l x.plain x.small size_last (omega arith) upto
-        ∙ n.written (l.first + j) (omega arith) upto ∙ pad_is (l.first + j) (λ e. absurd (omega arith)) ∙ pad_stored le ∙ ap (λ (c : Bool). turned v.type c (pad_record v)) (sym put.file.little))
-
-    padded : (l : Leaf) → IsOneOf leaves l → HoldsPads last v own'.vdr r (ranges_before_put v own.index r) l
-    padded l i none = elim (all.new l i) [
-      | inl o ↦ absurd (true≢false (sym (covers_own olds l o (old_whole so l o).leaf.ordered) ∙ sym (ap (list_any (covers l.first)) before_is) ∙ none))
-      | inr n ↦ new_pads l i n
-    ]
+        ∙ n.written (l.first + j) (omega arith) upto ∙ rw (ne_eqb (l.first + j) r (λ e. absurd (omega arith))) (pad_stored le ∙ ap (λ (c : Bool). turned v.type c (pad_record v)) (sym put.file.little)))
 
     -- ---- the blocks
 
@@ -314,10 +276,26 @@ module _ {b now last : List ℕ} {kind : Kind} {before : List VariableShape} {ow
 
     pub bytes_done : PutsBytes b last kind v r own own' acts
     bytes_done = record {
-      in_place = in_place;
+      in_place = λ e. record {
+        longer = all.longer;
+        same = λ place lt out.
+            let covered = eq_of (uncovered v own.index r) 0 (both (uncovered v own.index r == 0) _ e).0 in
+            let room : put_room v own.index r ≡ 0 = rw (covered, so.start.loose) refl in
+            let none = none_without_bytes (space_before b) acts so.goes.follow.are so.takes (omega (arith, so.covers.fits)) in
+            let quiet = λ (m : ℕ). ap (λ (xs : List Act). is_taken_at xs m) none in
+            let p = Outside-append (max_rec_touches b kind own.vdr) (written_in v first r olds) place out in
+            let gdr = sym so.goes.gdr_is in
+            let vdr = sym so.goes.vdr_is in
+            all.quiet quiet place lt (transport (λ i. Outside (map (touched_field (gdr i)) (r_max_rec_field kind) ++ touched_field (vdr i) vdr_max_rec ∷ []) place) p.0) (λ l i. elim (all.new l i) [ inl o ↦ beside_written first r size olds place p.1 l o | inr n ↦ absurd (true≢false (sym n.was_taken ∙ quiet l.place)) ]);
+      };
       others_stay = each_of (StaysUnwritten v r leaves) olds (λ l i e. all.stay l i);
-      unwritten_stay = unwritten_stay;
-      padded = each_of (HoldsPads last v own'.vdr r (ranges_before_put v own.index r)) leaves padded;
+      unwritten_stay = λ k c side.
+          let has = some_covers k olds (sym (ap (list_any (covers k)) before_is) ∙ c) in
+          ap (λ (x : ℕ). stored_bytes last x size leaves k) put.vdr_is ∙ stored_same k (λ e. (let clash : Some has.0 ≡ None = sym has.1 ∙ e in absurd cc)) side;
+      padded = each_of (HoldsPads last v own'.vdr r (ranges_before_put v own.index r)) leaves (λ l i none. elim (all.new l i) [
+        | inl o ↦ absurd (true≢false (sym (covers_own olds l o (whole so.start.good so.start.among l o).leaf.ordered) ∙ sym (ap (list_any (covers l.first)) before_is) ∙ none))
+        | inr n ↦ new_pads l i n
+      ]);
       blocks = each_of (λ (l : Leaf). is_changed v r (ranges_of own.index) l ≡ true → BlockFollows b last v.rle own'.vdr (was_leaf olds l) acts l) leaves blocks;
     }
 

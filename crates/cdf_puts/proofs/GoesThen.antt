@@ -1,5 +1,5 @@
 -- One image goes on to another: what a put may change of the records of its variable, what the descriptor says by then, that an edit of one variable is such a step, and that two steps are one.
-use Rattle.cdf_puts.proofs.Common.{Act, ActsFollow, AttributeShape, DataSet, Field, GoesOn, Good, HasShape, In, IndexEdit, IsSound, Kept, Kind, List, ListedStay, LooseStay, Mark, Nodes, Only, OnlyTakes, OutsideFields, OwnEdit, R, Shape, StandsAmong, Stays, Stood, Touch, Variable, VariableShape, VdrStays, WritesRecords, Z, [], acts_joined, after_ours, all_variable_records, among_now, ap, arith, attribute_records, cdr_kept, cdr_type, content, content_replaced, either, false, false-is_in, fits, flat_map, gdr_keeps, good_is_sound, good_now, image_limit, index_edit, inl, inr, is_a-in, is_in, is_taken, keeps_stood, kept_away, kind_ours, leaves_of, length, linkable-in, linkable-type, list_any, listed_before, long, marks, max_rec_at, nat_le, nat_lt, no_acts_follow, none_of_both, number, only, other_kind, others_are, ours, own_edit, own_rules, part, put_fields, r_max_rec_field, record_alike, record_bytes, records_are, records_in, refl, shape, shapes_of, size_at, slice_set, space_fields, splices, stays_alike, stood, subst, suc, sym, taken, tile, tile_lies, true-is_in, type_at, uir_next_uir, uir_prev_uir, uir_type, unused_stands, variable_of, variable_records, variable_stays, variables_in, variables_of, vdr_size, vdr_vxr_tail, with_variables, word_kept, zero, ℕ, ◌&&◌, ◌++◌, ◌+◌, ◌<◌, ◌∙◌, ◌∷◌, ◌≡◌, ◌≤◌}
+use Rattle.cdf_puts.proofs.Common.{Act, ActsFollow, DataSet, Field, GoesOn, Good, HasShape, In, IndexEdit, IsOther, IsSound, Kept, Kind, List, ListedStay, LooseStay, Mark, Nodes, Only, OnlyTakes, OutsideFields, OwnEdit, R, Shape, StandsAmong, Stays, Stood, Touch, Variable, VariableShape, VdrStays, WritesRecords, Z, [], acts_joined, after_ours, all_variable_records, among_now, ap, arith, cdr_kept, cdr_type, content, content_is, content_replaced, each, either, false, false-is_in, file, fits, flat_map, gdr_keeps, good_is_sound, good_now, image_limit, index_edit, inl, inr, is_a-in, is_in, is_taken, keeps_stood, kept_away, kind_ours, leaves_of, length, linkable-in, linkable-type, list_any, listed_before, long, marks, max_rec_at, nat_le, nat_lt, no_acts_follow, none_of_both, only, other_kind, others_are, ours, own_edit, own_rules, part, put_fields, r_max_rec_field, record_alike, record_bytes, records_are, records_in, refl, shape, shapes_of, size_at, slice_set, space_fields, splices, stays_alike, stood, subst, suc, sym, take, taken, tile, tile_lies, transport, true-is_in, type_at, typed, uir_next_uir, uir_prev_uir, uir_type, unused_stands, variable_of, variable_records, variable_stays, variables_in, variables_of, vdr_size, with_variables, zero, ℕ, ◌&&◌, ◌++◌, ◌+◌, ◌<◌, ◌∙◌, ◌∷◌, ◌≡◌, ◌≤◌}
 use Rattle.cdf_edits.proofs.Edits.IndexEdited as of_index
 use Rattle.cdf_edits.proofs.Edits.OwnEdited.{same_shape}
 use Rattle.cdf_edits.proofs.Edits.VariableKeeps.{stays_then, type_stays, stays_bytes}
@@ -48,6 +48,13 @@ module _ {b now : List ℕ} {kind : Kind} {before : List VariableShape} {own : V
   beside : (vs : List VariableShape) → ((m : ℕ) → In m (flat_map variable_records vs) → In m (all_variable_records (shape b))) → ((m : ℕ) → In m (variable_records own) → In m (flat_map variable_records vs) → ⊥) → (m : ℕ) → In m (flat_map variable_records vs) → Stood b now m
   beside vs sub out m i = let inside = variables_in b (shape b) sound m (sub m i) in stand m inside (kept_away x.edit m (type_at b m) inside refl (x.beside m (sub m i) (λ j. out m j i)))
 
+  other : (m : ℕ) → IsOther (shape b).attributes before after (shapes_of (shape b) (other_kind kind)) m → Stood b now m
+  other m (inl e) = subst (Stood b now) (sym e) (stand 8 (is_a-in b (shape b).records cdr_type 8 sound.has_shape.cdr_stands) (cdr_kept sound x.edit x.file_clear))
+  other m (inr (inl i)) = stand m (all_attributes_in sound m i) (attributes_kept sound (splices good at y) m i)
+  other m (inr (inr (inl i))) = beside before (ours good at).0.sub (λ m i. (only good at y m i).in_before) m i
+  other m (inr (inr (inr (inl i)))) = beside after (after_ours good at).sub (λ m i. (only good at y m i).in_after) m i
+  other m (inr (inr (inr (inr i)))) = beside (shapes_of (shape b) (other_kind kind)) (kind_ours b (shape b) sound (other_kind kind)).sub (λ m i. (only good at y m i).in_others) m i
+
   pub goes_by : {acts : List Act} → Good now → ActsFollow b now acts → Stays b now (shape b).gdr (r_max_rec_field kind ++ space_fields) → ListedStay b now acts → LooseStay b now → GoesOn b now kind before own (record own { index = index }) after acts
   goes_by still follow gdr listed loose = record {
     good = still;
@@ -65,13 +72,7 @@ module _ {b now : List ℕ} {kind : Kind} {before : List VariableShape} {own : V
       size_is = vdr_size good at x;
       same = λ n lt out. (of_index.part good at x n (n + 1) (grind (arith, out)) (omega arith)).each (own.vdr + n) (omega arith) (omega arith);
     };
-    stay = record {
-      cdr = stand 8 (is_a-in b (shape b).records cdr_type 8 sound.has_shape.cdr_stands) (cdr_kept sound x.edit x.file_clear);
-      attributes = λ m i. stand m (all_attributes_in sound m i) (attributes_kept sound (splices good at y) m i);
-      front = beside before (ours good at).0.sub (λ m i. (only good at y m i).in_before);
-      back = beside after (after_ours good at).sub (λ m i. (only good at y m i).in_after);
-      others = beside (shapes_of (shape b) (other_kind kind)) (kind_ours b (shape b) sound (other_kind kind)).sub (λ m i. (only good at y m i).in_others);
-    };
+    stay = other;
     listed = listed;
     loose = loose;
   }
@@ -86,16 +87,9 @@ goes_written {b = b} {now = now} {kind = kind} {own = own} good at w short =
     keeps_stood b now m (unused_stands good at w m (linkable-in b (shape b).records uir_type m ok) (linkable-type b (shape b).records uir_type m ok)) (Only links))
     (λ m i typed out. keeps_stood b now m (unused_stands good at w m i typed) (Only []))
 
--- VXRtail stays
-pub tail_written : {b now : List ℕ} {kind : Kind} {before : List VariableShape} {own : VariableShape} {after : List VariableShape} {ts : List Touch} (good : Good b) (at : StandsAmong b kind before own after) → WritesRecords b now kind own ts → number now own.vdr vdr_vxr_tail ≡ number b own.vdr vdr_vxr_tail
-tail_written {b = b} {now = now} {own = own} good at w = word_kept b now (own.vdr + 28) (own.vdr + 44) (part good at w 28 44 (inr (omega arith)) (let n = long good at in omega arith)) (own.vdr + 36) 8 (omega arith) (omega arith)
-
 -- where nothing is written
 pub writes_nothing : {b : List ℕ} {kind : Kind} {before : List VariableShape} {own : VariableShape} {after : List VariableShape} → Good b → StandsAmong b kind before own after → WritesRecords b b kind own []
 writes_nothing good at = record { changed = record { longer = omega arith; same = λ place l o. refl }; as_long = refl; in_blocks = tt; max_rec_ruled = (own_rules good at).0.1.1.1.1.1.1.1.0 }
-
-pub goes_nowhere : {b : List ℕ} {kind : Kind} {before : List VariableShape} {own : VariableShape} {after : List VariableShape} → Good b → StandsAmong b kind before own after → length b ≤ image_limit → GoesOn b b kind before own own after []
-goes_nowhere good at short = goes_written good at (writes_nothing good at) short
 
 -- ---- two steps are one
 
@@ -111,9 +105,6 @@ with_set d kind n v = with_variables d kind (slice_set (variables_of d kind) n v
 with_twice : (d : DataSet) (kind : Kind) (n : ℕ) (v v' : Variable) → with_set (with_set d kind n v) kind n v' ≡ with_set d kind n v'
 with_twice d R n v v' = ap (with_variables d R) (set_twice d.r_variables n v v')
 with_twice d Z n v v' = ap (with_variables d Z) (set_twice d.z_variables n v v')
-
-stood_then : {b mid now : List ℕ} (m : ℕ) → Stood b mid m → Stood mid now m → Stood b now m
-stood_then {b = b} {mid = mid} {now = now} m x y = record { stands = y.stands; whole = kept_then b mid now m x.whole y.whole }
 
 module _ {b mid now : List ℕ} {kind : Kind} {before : List VariableShape} {own own' own'' : VariableShape} {after : List VariableShape} {acts acts' : List Act} (good : Good b) (at : StandsAmong b kind before own after) (first : GoesOn b mid kind before own own' after acts) (second : GoesOn mid now kind before own' own'' after acts') (takes : OnlyTakes acts) (takes' : OnlyTakes acts') where
   h : HasShape b (shape b)
@@ -150,8 +141,8 @@ module _ {b mid now : List ℕ} {kind : Kind} {before : List VariableShape} {own
 
   pub goes_then : GoesOn b now kind before own own'' after (acts ++ acts')
   goes_then =
-      let x = first.stay in
-      let y = second.stay in
+      let attributes = sym first.attributes_are in
+      let others = sym first.others_are in
       record {
         good = second.good;
         among = second.among;
@@ -164,13 +155,10 @@ module _ {b mid now : List ℕ} {kind : Kind} {before : List VariableShape} {own
         follow = acts_joined h h' first.follow second.follow takes takes' first.listed second.listed;
         gdr = twice (shape b).gdr (r_max_rec_field kind ++ space_fields) first.gdr (subst (λ (m : ℕ). Stays mid now m (r_max_rec_field kind ++ space_fields)) first.gdr_is second.gdr);
         descriptor = twice own.vdr put_fields first.descriptor (subst (λ (m : ℕ). Stays mid now m put_fields) first.vdr_is second.descriptor);
-        stay = record {
-          cdr = stood_then 8 x.cdr y.cdr;
-          attributes = λ m i. stood_then m (x.attributes m i) (y.attributes m (subst (λ (as_ : List AttributeShape). In m (flat_map attribute_records as_)) (sym first.attributes_are) i));
-          front = λ m i. stood_then m (x.front m i) (y.front m i);
-          back = λ m i. stood_then m (x.back m i) (y.back m i);
-          others = λ m i. stood_then m (x.others m i) (y.others m (subst (λ (vs : List VariableShape). In m (flat_map variable_records vs)) (sym first.others_are) i));
-        };
+        stay = λ m i.
+            let x = first.stay m i in
+            let y = second.stay m (transport (λ k. IsOther (attributes k) before after (others k) m) i) in
+            record { stands = y.stands; whole = kept_then b mid now m x.whole y.whole };
         listed = listed_then;
         loose = loose_then;
       }

@@ -1,5 +1,5 @@
 -- A leaf is added while records are put: the blocks of the variable, which leaves were put by then, which ranges are new, the top chain and the nodes.
-use Rattle.cdf_puts.proofs.Common.{Nodes, fold-append, Act, Ascending, BlockRecords, BlocksSoFar, Bool, Good, In, InOrder, IndexSoFar, IsBlockBody, IsOneOf, IsVacant, Kind, Leaf, LeafAdded, List, NewBlock, NodeTaken, NodesSoFar, None, PutsBefore, Range, Same, SoFar, Some, StandsAmong, TopGrows, VariableShape, [], ap, apart, arith, before_limit, behind_in, block_behind, block_need, bytes_eq, bytes_eq-same, cases_lt, count_is, covers, drop, extent, false, filled, filter, find, find_covering, first_written, firsts_of, has, if◌then◌else◌, in_order, index_order, indexes_with, inl, inr, is_in, is_in-true, is_taken_at, last_node, last_or, leaf, leaf_acts, leaves_ascend, leaves_more, leaves_of, length, list_any, lt-ltb, max_rec_at, min, nat_tests, new_range, new_ranges, new_room, nodes_of, number, of_each, outline, own_rules, place_in, plain_bytes, plain_piece, range, ranges_of, record_alike, record_bytes, record_number_limit, records_of_leaf, refl, room, same_Some, shape, size_at, sound, subst, suc, sym, take, taken_places, tile_lies, top_chain, true, true≢false, uir_type, unwrap_or, uses_entry, variable_of, vdr_alike, vdr_vxr_tail, vvr_type, was_put, with_leaf, with_new, with_ranges, zero, ℕ, ◌*◌, ◌++◌, ◌+◌, ◌-◌, ◌<◌, ◌||◌, ◌∙◌, ◌∷◌, ◌≡◌, ◌≤◌, ◌⊎◌}
+use Rattle.cdf_puts.proofs.Common.{Nodes, fold-append, Act, Ascending, BlockRecords, BlocksSoFar, Bool, Good, In, InOrder, IndexSoFar, IsBlockBody, IsOneOf, IsVacant, Kind, Leaf, LeafAdded, List, NewBlock, NodeTaken, NodesSoFar, None, PutsBefore, Range, Same, SoFar, Some, StandsAmong, TopGrows, VariableShape, [], ap, apart, arith, before_limit, behind_in, block_behind, block_need, bytes_eq, bytes_eq-same, cases_lt, count_is, covers, drop, extent, false, filled, filter, find, find_covering, first_written, firsts_of, has, if◌then◌else◌, in_order, index_order, indexes_with, inl, inr, is_in, is_in-true, is_taken_at, last_node, last_or, leaf, leaf_acts, leaves_ascend, leaves_more, leaves_of, length, list_any, lt-ltb, max_rec_at, min, nat_tests, new_range, new_ranges, new_room, nodes_of, number, of_each, outline, own_rules, place_in, plain_bytes, plain_piece, range, ranges_of, record_alike, record_bytes, record_number_limit, records_of_leaf, refl, room, same_Some, shape, size_at, sound, subst, suc, sym, take, taken_places, tile_lies, top_chain, true, true≢false, uir_type, unwrap_or, uses_entry, variable_of, vdr_alike, vdr_vxr_tail, vvr_type, was_put, with_leaf, with_new, with_ranges, zero, ℕ, ◌*◌, ◌++◌, ◌+◌, ◌-◌, ◌<◌, ◌||◌, ◌∙◌, ◌∷◌, ◌≡◌, ◌≤◌, ◌⊎◌, or_right, or_from, or_left}
 use Rattle.cdf_puts.proofs.CoveringRanges.{one_alone, of_leaves}
 use Rattle.cdf_puts.proofs.LeafCounts.{leaf_is_there, leaf_was_there}
 use Rattle.cdf_puts.proofs.LeafEdit.{file, new_index, used_apart, node_in, node_taken, nodes_step}
@@ -7,7 +7,7 @@ use Rattle.cdf_index.proofs.NewIndex.{index_edit}
 use Rattle.cdf_puts.proofs.LeafEdit.{blocks_go_on}
 use Rattle.cdf_puts.proofs.PutBytes.{beside_one, blocks_then, now_whole, size_now}
 use Rattle.std.proofs.Math.Bool.{or-false}
-use Rattle.cdf_puts.proofs.PutNodes.{taken_either, taken_neither, NodesStep, nodes_then, taken_both, place_outside, same_with_leaf, same_uses, through_goes, top_grows, bytes_longer}
+use Rattle.cdf_puts.proofs.PutNodes.{NodesStep, nodes_then, taken_both, place_outside, same_with_leaf, same_uses, through_goes, top_grows, bytes_longer}
 use Rattle.cdf_puts.proofs.SoFarStarts.{put_new, ranges_more, none_begins, puts_new, covers_own}
 
 -- ---- the ranges that are new
@@ -91,16 +91,11 @@ module _ {b now now' : List ℕ} {kind : Kind} {before : List VariableShape} {ow
   leaf_apart : (l : Leaf) → IsOneOf leaves l → is_taken_at step l.place ≡ false
   leaf_apart l i = used_apart so.goes.good so.goes.among w l.place (behind_in so.goes.good so.goes.among l.place (block_behind own' l.place (place_in leaves l i))) (λ e. absurd (apart vvr_type uir_type refl (sym (now_whole so l i).leaf.typed ∙ e)))
 
-  more_upto : k < upto
-  more_upto = let o = vacant.ordered in omega arith
-
   new_taken : is_taken_at step place ≡ true
   new_taken = is_in-true place (taken_places step) (inl refl)
 
   plain_is : plain_bytes now' own'.vdr new ≡ records
-  plain_is =
-      let count = count_is new small vacant.ordered in
-      ap (λ (n : ℕ). take n (drop (place + 12) now')) ((λ i. count i * size_after i) ∙ sym says.as_long) ∙ (blocks_go_on so.goes.good so.goes.among w holds).records_are
+  plain_is = ap (λ (n : ℕ). take n (drop (place + 12) now')) ((λ i. (count_is new small vacant.ordered) i * size_after i) ∙ sym says.as_long) ∙ (blocks_go_on so.goes.good so.goes.among w holds).records_are
 
   new_block : NewBlock now' raw pad r k (extent (max_rec_at b own.vdr)) upto (record_bytes b own.vdr) step new
   new_block = record {
@@ -113,7 +108,7 @@ module _ {b now now' : List ℕ} {kind : Kind} {before : List VariableShape} {ow
   }
 
   pub blocks_added : BlocksSoFar b now' own own'' raw pad r first upto (acts ++ step) []
-  blocks_added = blocks_then so (omega (arith, more_upto)) (omega arith) refl (record {
+  blocks_added = blocks_then so (omega (arith, vacant.ordered)) (omega arith) refl (record {
     longer = (file so.goes.good so.goes.among w).longer;
     stay = in_new;
     apart = leaf_apart;
@@ -146,7 +141,7 @@ module _ {b now now' : List ℕ} {kind : Kind} {before : List VariableShape} {ow
 
   puts_added : PutsBefore b own own'' (filter (was_put first upto) (leaves_of own''.index)) (acts ++ step)
   puts_added =
-      let one = put_new first k upto 0 (suc record_number_limit) leaves new (subst (Ascending 0 (suc record_number_limit)) leaves_are (leaves_ascend good' among')) (subst (λ (ls : List Leaf). IsOneOf ls new) leaves_are new_in) refl so.covers.from more_upto (omega arith) in
+      let one = put_new first k upto 0 (suc record_number_limit) leaves new (subst (Ascending 0 (suc record_number_limit)) leaves_are (leaves_ascend good' among')) (subst (λ (ls : List Leaf). IsOneOf ls new) leaves_are new_in) refl so.covers.from (omega (arith, vacant.ordered)) (omega arith) in
       subst (λ (ls : List Leaf). PutsBefore b own own'' ls (acts ++ step)) (sym (ap (filter (was_put first upto)) leaves_are ∙ one))
       (puts_new b own own' (filter (was_put first k) leaves) acts new (8 + length body) at so.index.puts (none_begins k 0 (suc record_number_limit) leaves ascend vacant.uncovered) needs (no_node_zero w.filled w.roomy (new_room k own'.index) at w.node))
 
@@ -171,7 +166,7 @@ module _ {b now now' : List ℕ} {kind : Kind} {before : List VariableShape} {ow
 
   -- a node that is taken stands at a new place, and else none does
   outside : place_outside (taken_places (acts ++ step)) at ≡ 0
-  outside = outside_zero (taken_places (acts ++ step)) at (elim (cases_lt 0 (new_room k own'.index)) [ inl some ↦ inl (taken_either acts step at (inr (node_taken place (8 + length body) (new_room k own'.index) at some))) | inr none ↦ inr (no_node_zero w.filled w.roomy (new_room k own'.index) at w.node (omega arith)) ])
+  outside = outside_zero (taken_places (acts ++ step)) at (elim (cases_lt 0 (new_room k own'.index)) [ inl some ↦ inl (taken_both acts step at ∙ or_right _ _ (node_taken place (8 + length body) (new_room k own'.index) at some)) | inr none ↦ inr (no_node_zero w.filled w.roomy (new_room k own'.index) at w.node (omega arith)) ])
 
   lies : (m : ℕ) → In m (nodes_of own'.index) → 8 ≤ m
   lies m i = (tile_lies now 8 (length now) (shape now).records m (sound so.goes.good so.goes.among).has_shape.tiled (node_in so.goes.good so.goes.among w m i)).low
@@ -179,8 +174,8 @@ module _ {b now now' : List ℕ} {kind : Kind} {before : List VariableShape} {ow
   nodes_added : NodesSoFar b now' own own'' (rs ++ range k last ∷ []) (acts ++ step)
   nodes_added = record {
     stay = λ m i. s.stay m (n.stay m i);
-    apart = λ m i. taken_neither acts step m (n.apart m i) (s.apart m (n.stay m i));
-    come = λ m i. elim (s.come m i) [ inl j ↦ elim (n.come m j) [ inl k ↦ inl k | inr t ↦ inr (taken_either acts step m (inl t)) ] | inr t ↦ inr (taken_either acts step m (inr t)) ];
+    apart = λ m i. taken_both acts step m ∙ or_from _ _ (n.apart m i) (s.apart m (n.stay m i));
+    come = λ m i. elim (s.come m i) [ inl j ↦ elim (n.come m j) [ inl k ↦ inl k | inr t ↦ inr (taken_both acts step m ∙ or_left _ _ t) ] | inr t ↦ inr (taken_both acts step m ∙ or_right _ _ t) ];
     sizes = λ m i. s.sizes m (n.stay m i) ∙ n.sizes m i;
     outlined =
         same_with_leaf (taken_places acts) (taken_places (acts ++ step)) new at own'.index (with_ranges own.index rs) n.outlined (λ m i. taken_both acts step m ∙ ap (λ (p : Bool). is_taken_at acts m || p) (s.apart m i) ∙ or-false (is_taken_at acts m)) outside

@@ -1,19 +1,15 @@
 -- A record is written in a block: the record holds its bytes, no other byte changes, and the index stays; of the leaves that were put the one of the record is the last by then.
-use Rattle.cdf_puts.proofs.Common.{Act, BlocksSoFar, Changed, Each-in, Good, HasShape, In, IndexSoFar, IsOneOf, Kept, Kind, Leaf, LeavesGoOn, List, NodeFits, NodesSoFar, OldBlock, Outside-append, PutsBefore, Range, RecordIs, RecordsWritten, Same, Shape, SoFar, StandsAmong, Touch, VariableShape, WritesRecords, [], ap, apart, append-nil, arith, behind_in, block_behind, block_kept, byte, cases_eq, cast_signed, changed_part, drop, either, extent, file, filter, find_covering, find_first, first_written, fits, gdr_in, gdr_long, gdr_r_max_rec, gdr_type, gdr_typed, inl, inr, integer4, is_max_rec, kept, leaves_apart, leaves_ascend, leaves_of, length, length-put, long, max_rec_at, max_rec_touches, no_block, node_kept, nodes_of, number, one_place, own_rules, place_in, places_of, r_max_rec, record_bytes, record_number_limit, record_of, record_place, refl, same_Some, shape, size_at, size_kept, sound, subst, suc, sym, take, tile, touch, type_at, variable_of, vdr_max_rec, vdr_vxr_tail, vvr_type, w32, was_put, word_kept, ℕ, ◌*◌, ◌+◌, ◌-◌, ◌<◌, ◌∙◌, ◌∷◌, ◌≡◌, ◌≢◌, ◌≤◌, ◌⊎◌}
+use Rattle.cdf_puts.proofs.Common.{Act, BlocksSoFar, Changed, Each-in, Good, HasShape, In, IndexSoFar, IsOneOf, Kind, Leaf, LeavesGoOn, List, NodeFits, NodesSoFar, OldBlock, Outside-append, PutsBefore, RecordIs, RecordsWritten, Same, SoFar, StandsAmong, Touch, VariableShape, WritesRecords, [], ap, apart, append-nil, arith, behind_in, block_behind, block_kept, byte, cases_eq, cast_signed, changed_part, covers, drop, each, either, extent, field, file, filter, find_covering, find_first, first_written, fits, gdr_in, gdr_long, gdr_r_max_rec, gdr_type, gdr_typed, has, inl, inr, integer4, is_max_rec, kept, leaf, leaves_apart, leaves_ascend, leaves_of, length, length-put, long, max_rec_at, max_rec_touches, new_ranges, no_block, node_kept, nodes_of, number, one_place, own_rules, part, place_in, places_of, r_max_rec, ranges_of, record_bytes, record_number_limit, record_of, record_place, refl, room, same_Some, shape, size_at, size_kept, sound, subst, suc, sym, take, tile, touch, type_at, typed, upto, variable_of, vdr_max_rec, vdr_vxr_tail, vvr_type, w32, was_put, word_kept, ℕ, ◌*◌, ◌+◌, ◌-◌, ◌<◌, ◌∙◌, ◌∷◌, ◌≡◌, ◌≢◌, ◌≤◌, ◌⊎◌}
 use Rattle.cdf_edits.proofs.Frame.ChangedBytes.{changed_put}
 use Rattle.cdf_puts.proofs.PutBytes.{Whole, blocks_then, found_covering, put_there, size_now, whole}
 use Rattle.cdf_puts.proofs.SoFarStarts.{put_next, puts_old}
 use Rattle.cdf_puts.proofs.PutNodes.{nodes_same, unless_true}
-use Rattle.cdf_puts.proofs.GoesThen.{tail_written}
 
 -- the leaf has the record
 found_leaf : {b now : List ℕ} {own : VariableShape} {l : Leaf} {k : ℕ} {raw : List ℕ} → RecordsWritten b now own l k raw → IsOneOf (leaves_of own.index) l × ((l.first ≤ k) × (k ≤ l.last))
 found_leaf {own = own} {l = l} {k = k} w = found_covering k (leaves_of own.index) l w.found
 
 module _ {b now : List ℕ} {kind : Kind} {before : List VariableShape} {own : VariableShape} {after : List VariableShape} {l : Leaf} {k : ℕ} {bytes : List ℕ} (good : Good b) (at : StandsAmong b kind before own after) (w : RecordsWritten b now own l k bytes) where
-  abbrev s : Shape
-  s = shape b
-
   abbrev leaves : List Leaf
   leaves = leaves_of own.index
 
@@ -23,7 +19,7 @@ module _ {b now : List ℕ} {kind : Kind} {before : List VariableShape} {own : V
   abbrev ts : List Touch
   ts = touch l.place (12 + (k - l.first) * size) (length bytes) ∷ []
 
-  h : HasShape b s
+  h : HasShape b (shape b)
   h = (sound good at).has_shape
 
   here : Whole b size l
@@ -39,8 +35,8 @@ module _ {b now : List ℕ} {kind : Kind} {before : List VariableShape} {own : V
   changed_here = rw w.written (changed_put b l.place (12 + (k - l.first) * size) (length bytes) bytes refl (omega (arith, fits_in, here.inside)))
 
   -- another record stays
-  stays : (m lo hi : ℕ) → In m s.records → m ≢ l.place → hi ≤ size_at b m → Same b now (m + lo) (m + hi)
-  stays m lo hi i other fit = changed_part b now s.records (length b) h.tiled (omega arith) ts changed_here (inl (behind_in good at l.place (block_behind own l.place block), fits_in), tt) m lo hi i fit ((λ e. absurd (other e)), tt)
+  stays : (m lo hi : ℕ) → In m (shape b).records → m ≢ l.place → hi ≤ size_at b m → Same b now (m + lo) (m + hi)
+  stays m lo hi i other fit = changed_part b now (shape b).records (length b) h.tiled (omega arith) ts changed_here (inl (behind_in good at l.place (block_behind own l.place block), fits_in), tt) m lo hi i fit ((λ e. absurd (other e)), tt)
 
   pub max_rec_kept : number now own.vdr vdr_max_rec ≡ number b own.vdr vdr_max_rec
   max_rec_kept = word_kept b now (own.vdr + 24) (own.vdr + 28) (stays own.vdr 24 28 (tile good at) (λ e. no_block good at (subst (λ (x : ℕ). In x (places_of leaves)) (sym e) block)) (let n = long good at in omega arith)) (own.vdr + 24) 4 (omega arith) (omega arith)
@@ -55,9 +51,9 @@ module _ {b now : List ℕ} {kind : Kind} {before : List VariableShape} {own : V
 
   pub r_max_rec_stays : r_max_rec now ≡ r_max_rec b
   r_max_rec_stays =
-      let no_gdr : s.gdr ≡ l.place → ⊥ = λ e. apart gdr_type vvr_type refl (sym (gdr_typed b s h) ∙ ap (type_at b) e ∙ here.leaf.typed) in
-      let same = stays s.gdr 52 56 (gdr_in b s h) no_gdr (let n = gdr_long b s h in omega arith) in
-      let field : integer4 now s.gdr gdr_r_max_rec ≡ integer4 b s.gdr gdr_r_max_rec = ap (cast_signed w32) (word_kept b now (s.gdr + 52) (s.gdr + 56) same (s.gdr + 52) 4 (omega arith) (omega arith)) in
+      let no_gdr : (shape b).gdr ≡ l.place → ⊥ = λ e. apart gdr_type vvr_type refl (sym (gdr_typed b (shape b) h) ∙ ap (type_at b) e ∙ here.leaf.typed) in
+      let same = stays (shape b).gdr 52 56 (gdr_in b (shape b) h) no_gdr (let n = gdr_long b (shape b) h in omega arith) in
+      let field : integer4 now (shape b).gdr gdr_r_max_rec ≡ integer4 b (shape b).gdr gdr_r_max_rec = ap (cast_signed w32) (word_kept b now ((shape b).gdr + 52) ((shape b).gdr + 56) same ((shape b).gdr + 52) 4 (omega arith) (omega arith)) in
       ap (λ (x : ℕ). integer4 now x gdr_r_max_rec) (file good at writes).gdr_is ∙ subst (λ (x : ℕ). integer4 now x gdr_r_max_rec ≡ integer4 b x gdr_r_max_rec) (sym h.gdr_is) field
 
   -- ---- the record is put
@@ -94,16 +90,23 @@ module _ {b now : List ℕ} {kind : Kind} {before : List VariableShape} {own : V
 
 -- ---- while records are put
 
--- no node changes
-pub nodes_still : {b now now' : List ℕ} {own own' : VariableShape} {ranges : List Range} {acts : List Act} → NodesSoFar b now own own' ranges acts → ((m : ℕ) → In m (nodes_of own'.index) → NodeFits now m) → ((m : ℕ) → In m (nodes_of own'.index) → Kept now now' m) → NodesSoFar b now' own own' ranges acts
-nodes_still {b = b} {now = now} {now' = now'} {own = own} {own' = own'} {acts = acts} n fit kept = record {
-  stay = n.stay;
-  apart = n.apart;
-  come = n.come;
-  sizes = λ m i. let k = kept m (n.stay m i) in size_kept now now' m k.same (let l = k.long in omega arith) ∙ n.sizes m i;
-  outlined = n.outlined;
-  follow = nodes_same b now now' _ (nodes_of own.index) (nodes_of own'.index) acts fit kept (λ m j e. n.sizes m (unless_true (n.come m j) e)) n.follow;
-}
+-- where the records of the variable are written, or MaxRec, no node changes, and VXRtail stays
+module _ {b now now' : List ℕ} {kind : Kind} {before : List VariableShape} {own own' : VariableShape} {after : List VariableShape} {raw pad : List ℕ} {r k : ℕ} {acts : List Act} {ts : List Touch} (so : SoFar b now kind before own own' after raw pad r k acts) (w : WritesRecords now now' kind own' ts) where
+  pub tail_still : number now' own'.vdr vdr_vxr_tail ≡ number now own'.vdr vdr_vxr_tail
+  tail_still = word_kept now now' (own'.vdr + 28) (own'.vdr + 44) (part so.goes.good so.goes.among w 28 44 (inr (omega arith)) (let n = long so.goes.good so.goes.among in omega arith)) (own'.vdr + 36) 8 (omega arith) (omega arith)
+
+  pub nodes_still : NodesSoFar b now' own own' (new_ranges (ranges_of own.index) (ranges_of own'.index)) acts
+  nodes_still =
+      let n = so.index.nodes in
+      let kept = node_kept so.goes.good so.goes.among w in
+      record {
+        stay = n.stay;
+        apart = n.apart;
+        come = n.come;
+        sizes = λ m i. let k = kept m (n.stay m i) in size_kept now now' m k.same (let l = k.long in omega arith) ∙ n.sizes m i;
+        outlined = n.outlined;
+        follow = nodes_same b now now' _ (nodes_of own.index) (nodes_of own'.index) acts (λ m i. Each-in (NodeFits now) (nodes_of own'.index) (fits so.goes.good so.goes.among).1 m i) kept (λ m j e. n.sizes m (unless_true (n.come m j) e)) n.follow;
+      }
 
 module _ {b now now' : List ℕ} {kind : Kind} {before : List VariableShape} {own own' : VariableShape} {after : List VariableShape} {raw pad : List ℕ} {r k : ℕ} {acts : List Act} {l : Leaf} (so : SoFar b now kind before own own' after raw pad r k acts) (more : k ≤ r) (w : RecordsWritten now now' own' l k (record_of raw pad r k)) (as_long : length (record_of raw pad r k) ≡ record_bytes b own.vdr) where
   abbrev first : ℕ
@@ -126,7 +129,7 @@ module _ {b now now' : List ℕ} {kind : Kind} {before : List VariableShape} {ow
   pub index_written : IndexSoFar b now' own own' first (k + 1) acts
   index_written = record {
     puts = puts_written;
-    tail = subst (λ (v : ℕ). number now' v vdr_vxr_tail ≡ number now v vdr_vxr_tail) so.goes.vdr_is (tail_written so.goes.good so.goes.among (writes so.goes.good so.goes.among w)) ∙ so.index.tail;
+    tail = subst (λ (v : ℕ). number now' v vdr_vxr_tail ≡ number now v vdr_vxr_tail) so.goes.vdr_is (tail_still so (writes so.goes.good so.goes.among w)) ∙ so.index.tail;
     top = so.index.top;
-    nodes = nodes_still so.index.nodes (λ m i. Each-in (NodeFits now) (nodes_of own'.index) (fits so.goes.good so.goes.among).1 m i) (node_kept so.goes.good so.goes.among (writes so.goes.good so.goes.among w));
+    nodes = nodes_still so (writes so.goes.good so.goes.among w);
   }

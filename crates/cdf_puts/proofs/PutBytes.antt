@@ -1,8 +1,9 @@
 -- The bytes of the blocks while records are put: two steps are one, and in the last one none is put.
-use Rattle.cdf_puts.proofs.Common.{Act, Ascending, Beside, Changed, Good, IsOneOf, Kind, Leaf, LeavesGoOn, List, NewBlock, OldBlock, PlainLeaf, RecordIs, Same, SoFar, Some, StandsAmong, Touch, VariableShape, [], ap, arith, behind_in, block_behind, cases_lt, covers, covers_within, drop, drop_at, extent, find, find_covering, first_written, inl, inr, leaves_of, length, length-take, long, max_rec_at, min, piece_kept, place_in, plain_leaf, put, range, record_bytes, record_of, record_place, refl, shape, size_at, sound, subst, suc, take, take_at, tile_lies, times_le, upto, variable_of, word_kept, ℕ, ◌*◌, ◌++◌, ◌+◌, ◌-◌, ◌<◌, ◌∙◌, ◌≡◌, ◌≤◌, ◌⊎◌}
+use Rattle.cdf_puts.proofs.Common.{Act, Ascending, Beside, Changed, Good, IsOneOf, Kind, Leaf, LeavesGoOn, List, NewBlock, OldBlock, PlainLeaf, RecordIs, Same, SoFar, Some, StandsAmong, Touch, VariableShape, [], ap, apart, arith, behind_in, block_behind, cases_lt, covers, covers_within, drop, each, extent, find, find_covering, first_written, has, inl, inr, kept, leaves_of, length, long, max_rec_at, min, piece_kept, place_in, plain_leaf, put, range, record_bytes, record_of, record_place, refl, room, shape, size_at, sound, subst, suc, take, take_at, tile_lies, times_le, upto, variable_of, word_kept, ℕ, ◌*◌, ◌++◌, ◌+◌, ◌-◌, ◌<◌, ◌∙◌, ◌≡◌, ◌≤◌, ◌⊎◌, or_left, or_from, or_right, or_parts, sym}
 use Rattle.cdf_edits.proofs.Edits.LeafPieces.{found_in}
+use Rattle.cdf_fields.proofs.Writes.{drop-put_there}
 use Rattle.cdf_puts.proofs.GoesThen.{later_size}
-use Rattle.cdf_puts.proofs.PutNodes.{neither_taken, taken_either, taken_neither}
+use Rattle.cdf_puts.proofs.PutNodes.{taken_both}
 use Rattle.cdf_puts.proofs.PutRules.{loose}
 
 -- a leaf that is not the one of a record ends before it, or begins behind it
@@ -15,10 +16,7 @@ found_covering k leaves l e = let is = found_in (λ (leaf : Leaf). covers k (ran
 
 -- bytes are read where they were put
 pub put_there : (b : List ℕ) (place : ℕ) (xs : List ℕ) → place ≤ length b → take (length xs) (drop place (put b place xs)) ≡ xs
-unfolding put
-put_there b place xs le =
-    let front : length (take place b) ≡ place = omega (arith, length-take place b) in
-    ap (take (length xs)) (drop_at (take place b) (xs ++ drop (place + length xs) b) place front) ∙ take_at xs (drop (place + length xs) b) (length xs) refl
+put_there b place xs le = ap (take (length xs)) (drop-put_there b xs place le) ∙ take_at xs (drop (place + length xs) b) (length xs) refl
 
 -- ---- where a record stands in its block
 
@@ -71,7 +69,7 @@ module _ {b mid now : List ℕ} {olds leaves leaves' : List Leaf} {raw pad : Lis
         from = n.from;
         ends = omega (arith, n.ends);
         alone = n.alone;
-        was_taken = taken_either acts acts' l.place (inl n.was_taken);
+        was_taken = taken_both acts acts' l.place ∙ or_left _ _ n.was_taken;
         written = λ j f t. record_stays l i j f t (omega (arith, n.ends)) (n.written j f t);
         spare = λ i' low high. let s = old_size (y.old l i) (omega (arith, w.leaf.room)) in (y.old l i).kept (l.place + i') (omega arith) (omega arith) (behind_all k k' size l (l.place + i') (omega arith)) ∙ n.spare i' low (omega arith);
       }
@@ -80,17 +78,17 @@ module _ {b mid now : List ℕ} {olds leaves leaves' : List Leaf} {raw pad : Lis
   leaves_then = record {
     longer = omega (arith, x.longer, y.longer);
     stay = λ l i. y.stay l (x.stay l i);
-    apart = λ l i. taken_neither acts acts' l.place (x.apart l i) (y.apart l (x.stay l i));
+    apart = λ l i. taken_both acts acts' l.place ∙ or_from _ _ (x.apart l i) (y.apart l (x.stay l i));
     old = λ l i. let j = x.stay l i in record {
       written = λ n from' low f t. elim (cases_lt n k) [ inl lt ↦ record_stays l j n f t (omega arith) ((x.old l i).written n from' lt f t) | inr le ↦ (y.old l j).written n le low f t ];
       kept = λ p low high out. let s = old_size (x.old l i) (omega (arith, (was l i).leaf.room)) in (y.old l j).kept p low (omega arith) (λ n a. out n (omega arith)) ∙ (x.old l i).kept p low high (λ n a c. out n a (omega arith));
     };
     new = λ l i. elim (y.new l i) [
       | inl j ↦ elim (x.new l j) [ inl o ↦ inl o | inr n ↦ inr (new_stays l j n) ]
-      | inr n ↦ inr (record { from = omega (arith, n.from); ends = n.ends; alone = n.alone; was_taken = taken_either acts acts' l.place (inr n.was_taken); written = n.written; spare = n.spare })
+      | inr n ↦ inr (record { from = omega (arith, n.from); ends = n.ends; alone = n.alone; was_taken = taken_both acts acts' l.place ∙ or_right _ _ n.was_taken; written = n.written; spare = n.spare })
     ];
     has = λ j from' low. elim (cases_lt j k) [ inl lt ↦ let h = x.has j from' lt in (h.0, (y.stay h.0 h.1.0, h.1.1)) | inr le ↦ y.has j le low ];
-    quiet = λ none p lt out beside. y.quiet (λ m. (neither_taken acts acts' m (none m)).1) p (omega (arith, x.longer)) out (λ l i n a. beside l i n (omega arith)) ∙ x.quiet (λ m. (neither_taken acts acts' m (none m)).0) p lt tt (λ l i n a c. beside l (y.stay l i) n a (omega arith));
+    quiet = λ none p lt out beside. y.quiet (λ m. (or_parts _ _ (sym (taken_both acts acts' m) ∙ none m)).1) p (omega (arith, x.longer)) out (λ l i n a. beside l i n (omega arith)) ∙ x.quiet (λ m. (or_parts _ _ (sym (taken_both acts acts' m) ∙ none m)).0) p lt tt (λ l i n a c. beside l (y.stay l i) n a (omega arith));
   }
 
 -- no record is put, and no byte of the blocks changes
@@ -114,10 +112,7 @@ module _ {b now : List ℕ} {kind : Kind} {before : List VariableShape} {own own
   pub now_whole : (l : Leaf) → IsOneOf (leaves_of own'.index) l → Whole now (record_bytes b own.vdr) l
   now_whole l i = subst (λ (n : ℕ). Whole now n l) size_now (whole so.goes.good so.goes.among l i)
 
-  pub old_whole : (l : Leaf) → IsOneOf (leaves_of own.index) l → Whole b (record_bytes b own.vdr) l
-  old_whole = whole so.start.good so.start.among
-
   pub blocks_then : {now' : List ℕ} {leaves' : List Leaf} {k' : ℕ} {step acts' : List Act} {fields : List Touch} → k ≤ k' → k' ≤ r + 1 → acts ++ step ≡ acts' → LeavesGoOn now now' (leaves_of own'.index) leaves' raw pad r k (extent (max_rec_at b own.vdr)) k' (record_bytes b own.vdr) step fields
       → LeavesGoOn b now' (leaves_of own.index) leaves' raw pad r (first_written (variable_of b own) r) (extent (max_rec_at b own.vdr)) k' (record_bytes b own.vdr) acts' fields
   blocks_then {now' = now'} {leaves' = leaves'} {k' = k'} {fields = fields} more end same y =
-      subst (λ (xs : List Act). LeavesGoOn b now' (leaves_of own.index) leaves' raw pad r (first_written (variable_of b own) r) (extent (max_rec_at b own.vdr)) k' (record_bytes b own.vdr) xs fields) same (leaves_then old_whole now_whole so.covers.from more end so.blocks y)
+      subst (λ (xs : List Act). LeavesGoOn b now' (leaves_of own.index) leaves' raw pad r (first_written (variable_of b own) r) (extent (max_rec_at b own.vdr)) k' (record_bytes b own.vdr) xs fields) same (leaves_then (whole so.start.good so.start.among) now_whole so.covers.from more end so.blocks y)

@@ -48,13 +48,11 @@ puts_old b own own' leaves acts l so found last size more acts' end p = rw (appe
 pub puts_new : (b : List ℕ) (own own' : VariableShape) (leaves : List Leaf) (acts : List Act) (new : Leaf) (need at : ℕ) → PutsBefore b own own' leaves acts → find (λ (old : Leaf). old.first == new.first) (leaves_of own'.index) ≡ None
     → ((last : List ℕ) → record_bytes last own.vdr ≡ record_bytes b own.vdr → need ≡ block_need last own.vdr new) → (new_room new.first own'.index ≡ 0 → at ≡ 0)
     → PutsBefore b own (record own' { index = with_leaf new at own'.index }) (leaves ++ new ∷ []) (acts ++ leaf_acts new.place need (new_room new.first own'.index) at)
-puts_new b own own' leaves acts new need at so none needs no_node last size more acts' end p =
+puts_new b own own' leaves acts new need at so none needs none_at last size more acts' end p =
     let room = new_room new.first own'.index in
-    let after : List Act = leaf_acts new.place need room at ++ acts' in
-    let step : PutsLeaves b last false own.vdr (new ∷ more) own'.index after end =
-    rw (none, PutsLeaves) (needs last size, (refl, takes_node room at (λ at left. PutsLeaves b last false own.vdr more (with_leaf new at own'.index) left end) acts' no_node p)) in
-    subst (λ (xs : List Act). PutsLeaves b last false own.vdr ((leaves ++ new ∷ []) ++ more) own.index xs end) (sym (append_assoc acts (leaf_acts new.place need room at) acts'))
-    (subst (λ (ls : List Leaf). PutsLeaves b last false own.vdr ls own.index (acts ++ after) end) (sym (append_assoc leaves (new ∷ []) more)) (so last size (new ∷ more) after end step))
+    let step : PutsLeaves b last false own.vdr (new ∷ more) own'.index (leaf_acts new.place need room at ++ acts') end =
+    rw (none, PutsLeaves) (needs last size, (refl, takes_node room at (λ at left. PutsLeaves b last false own.vdr more (with_leaf new at own'.index) left end) acts' none_at p)) in
+    rw (append_assoc leaves (new ∷ []) more, append_assoc acts (leaf_acts new.place need room at) acts') (so last size (new ∷ more) (leaf_acts new.place need room at ++ acts') end step)
 
 -- ---- nothing is put, and no range is new
 
