@@ -1,19 +1,16 @@
 -- A leaf is added while records are put: the blocks of the variable, which leaves were put by then, which ranges are new, the top chain and the nodes.
-use Rattle.cdf_puts.proofs.Common.{Act, Ascending, BlockRecords, BlocksSoFar, Bool, Good, In, InOrder, IndexSoFar, IsBlockBody, IsOneOf, IsVacant, Kind, Leaf, LeafAdded, List, NewBlock, NodeTaken, NodesFollow, NodesSoFar, None, OldBlock, PutsBefore, Range, Same, SoFar, Some, StandsAmong, TopGrows, VariableShape, [], ap, apart, arith, before_limit, behind_in, block_behind, block_need, bytes_eq, bytes_eq-same, cases_lt, count_is, covers, drop, either, extent, false, filter, find, find_covering, first_written, firsts_of, has, if◌then◌else◌, in_order, index_order, indexes_with, inl, inr, is_taken_at, last_node, last_or, leaf, leaf_acts, leaves_ascend, leaves_more, leaves_of, length, length-append, list_any, lt-ltb, map, map-append, max_rec_at, min, nat_tests, new_range, new_ranges, new_room, nodes_of, not, number, of_each, outline, own_rules, place_in, plain_bytes, plain_piece, range, ranges_of, record_alike, record_bytes, record_number_limit, records_of_leaf, refl, same_Some, shape, size_at, sound, subst, suc, sym, take, taken_places, tile_lies, top_chain, true, uir_type, unwrap_or, uses_entry, variable_of, vdr_alike, vdr_vxr_tail, vvr_type, was_put, with_leaf, with_new, with_ranges, zero, ℕ, ◌*◌, ◌++◌, ◌+◌, ◌-◌, ◌<◌, ◌||◌, ◌∙◌, ◌∷◌, ◌≡◌, ◌≤◌, ◌⊎◌}
+use Rattle.cdf_puts.proofs.Common.{Nodes, fold-append, Act, Ascending, BlockRecords, BlocksSoFar, Bool, Good, In, InOrder, IndexSoFar, IsBlockBody, IsOneOf, IsVacant, Kind, Leaf, LeafAdded, List, NewBlock, NodeTaken, NodesSoFar, None, PutsBefore, Range, Same, SoFar, Some, StandsAmong, TopGrows, VariableShape, [], ap, apart, arith, before_limit, behind_in, block_behind, block_need, bytes_eq, bytes_eq-same, cases_lt, count_is, covers, drop, extent, false, filled, filter, find, find_covering, first_written, firsts_of, has, if◌then◌else◌, in_order, index_order, indexes_with, inl, inr, is_in, is_in-true, is_taken_at, last_node, last_or, leaf, leaf_acts, leaves_ascend, leaves_more, leaves_of, length, list_any, lt-ltb, max_rec_at, min, nat_tests, new_range, new_ranges, new_room, nodes_of, number, of_each, outline, own_rules, place_in, plain_bytes, plain_piece, range, ranges_of, record_alike, record_bytes, record_number_limit, records_of_leaf, refl, room, same_Some, shape, size_at, sound, subst, suc, sym, take, taken_places, tile_lies, top_chain, true, true≢false, uir_type, unwrap_or, uses_entry, variable_of, vdr_alike, vdr_vxr_tail, vvr_type, was_put, with_leaf, with_new, with_ranges, zero, ℕ, ◌*◌, ◌++◌, ◌+◌, ◌-◌, ◌<◌, ◌||◌, ◌∙◌, ◌∷◌, ◌≡◌, ◌≤◌, ◌⊎◌, or_right, or_from, or_left}
 use Rattle.cdf_puts.proofs.CoveringRanges.{one_alone, of_leaves}
 use Rattle.cdf_puts.proofs.LeafCounts.{leaf_is_there, leaf_was_there}
-use Rattle.cdf_puts.proofs.LeafEdit.{block_taken, file, new_index, used_apart, node_in, node_taken, nodes_step}
+use Rattle.cdf_puts.proofs.LeafEdit.{file, new_index, used_apart, node_in, node_taken, nodes_step}
 use Rattle.cdf_index.proofs.NewIndex.{index_edit}
-use Rattle.cdf_puts.proofs.LeafEdit.{blocks_go_on, plain_body}
-use Rattle.cdf_puts.proofs.PutBytes.{size_now, now_plain, old_goes_on, new_goes_on, beside_one}
-use Rattle.cdf_puts.proofs.PutNodes.{taken_first, taken_then, taken_neither, NodesStep, nodes_then, taken_both, or_false, place_outside, same_with_leaf, same_uses, with_one_more, last_of_through, through_stays, top_grows, bytes_longer}
-use Rattle.cdf_puts.proofs.SoFarStarts.{one_more, put_new, none_begins, puts_new, covers_own}
+use Rattle.cdf_puts.proofs.LeafEdit.{blocks_go_on}
+use Rattle.cdf_puts.proofs.PutBytes.{beside_one, blocks_then, now_whole, size_now}
+use Rattle.std.proofs.Math.Bool.{or-false}
+use Rattle.cdf_puts.proofs.PutNodes.{NodesStep, nodes_then, taken_both, place_outside, same_with_leaf, same_uses, through_goes, top_grows, bytes_longer}
+use Rattle.cdf_puts.proofs.SoFarStarts.{put_new, ranges_more, none_begins, puts_new, covers_own}
 
 -- ---- the ranges that are new
-
-filter_mapped : {X Y : Type 0} (f : X → Y) (test : Y → Bool) (xs : List X) → filter test (map f xs) ≡ map f (filter (λ x. test (f x)) xs)
-filter_mapped f test [] = refl
-filter_mapped f test (x ∷ xs) = grind (arith, filter_mapped f test xs)
 
 none_covers : (k : ℕ) (leaves : List Leaf) → ((l : Leaf) → IsOneOf leaves l → (l.last < k) ⊎ (k < l.first)) → list_any (covers k) (of_leaves leaves) ≡ false
 none_covers k [] f = refl
@@ -33,6 +30,9 @@ top_then x y z f g = grind (arith, f, g)
 no_node_zero : (filled roomy : List ℕ) (room at : ℕ) → NodeTaken filled roomy room at → room ≡ 0 → at ≡ 0
 no_node_zero filled roomy zero at t e = t.1
 no_node_zero filled roomy (suc room) at t e = absurd (omega arith)
+
+outside_zero : (news : List ℕ) (x : ℕ) → (is_in x news ≡ true) ⊎ (x ≡ 0) → place_outside news x ≡ 0
+outside_zero news x side = grind (arith, side)
 
 module _ {b now now' : List ℕ} {kind : Kind} {before : List VariableShape} {own own' : VariableShape} {after : List VariableShape} {raw pad : List ℕ} {r k last place at : ℕ} {acts : List Act} {body records : List ℕ} (so : SoFar b now kind before own own' after raw pad r k acts) (more : k ≤ r) (is : last ≡ (new_range (variable_of b own) (firsts_of own'.index) k).last) (vacant : IsVacant own' k last)
     (holds : IsBlockBody body records) (says : BlockRecords raw pad r k last (record_bytes b own.vdr) records) (w : LeafAdded now now' own' (leaf k last place false) body at)
@@ -80,66 +80,53 @@ module _ {b now now' : List ℕ} {kind : Kind} {before : List VariableShape} {ow
   beside_new : (l : Leaf) → IsOneOf leaves l → (l.last < k) ⊎ (last < l.first)
   beside_new l i = elim (beside_one k 0 (suc record_number_limit) leaves ascend l i (λ e. let clash : Some l ≡ None = sym e ∙ vacant.uncovered in cc)) [
     | inl lt ↦ inl lt
-    | inr lt ↦ elim (beside_one l.first 0 (suc record_number_limit) (leaves_of own''.index) (leaves_ascend good' among') new new_in (λ e.
-        let same = ap (λ (y : Leaf). y.first) (same_Some l new (sym (found_at l.first l (in_new l i) (omega arith) (ordered l i)) ∙ e)) in absurd (omega arith))) [ inl u ↦ inr u | inr u ↦ absurd (omega arith) ]
+    | inr lt ↦ elim (cases_lt last l.first) [ inl u ↦ inr u | inr u ↦ absurd (omega (arith, ap (λ (y : Leaf). y.first) (same_Some l new (sym (found_at l.first l (in_new l i) (omega arith) (ordered l i)) ∙ found_at l.first new new_in (omega arith) u)))) ]
   ]
 
   -- ---- their bytes
 
   size_after : record_bytes now' own'.vdr ≡ record_bytes b own.vdr
-  size_after = record_alike (file so.goes.good so.goes.among w) (vdr_alike so.goes.good so.goes.among (index_edit so.goes.good so.goes.among (new_index so.goes.good so.goes.among w (plain_body body records holds)))) ∙ size_now so
-
-  longer : length now ≤ length now'
-  longer = (file so.goes.good so.goes.among w).longer
-
-  same : (l : Leaf) → IsOneOf leaves l → Same now now' l.place (l.place + size_at now l.place)
-  same l i = of_each (λ (l : Leaf). Same now now' l.place (l.place + size_at now l.place)) leaves l (blocks_go_on so.goes.good so.goes.among w holds).old i
+  size_after = record_alike (file so.goes.good so.goes.among w) (vdr_alike so.goes.good so.goes.among (index_edit so.goes.good so.goes.among (new_index so.goes.good so.goes.among w))) ∙ size_now so
 
   leaf_apart : (l : Leaf) → IsOneOf leaves l → is_taken_at step l.place ≡ false
-  leaf_apart l i = used_apart so.goes.good so.goes.among w l.place (behind_in so.goes.good so.goes.among l.place (block_behind own' l.place (place_in leaves l i))) (λ e. absurd (apart vvr_type uir_type refl (sym (now_plain so l i).typed ∙ e)))
+  leaf_apart l i = used_apart so.goes.good so.goes.among w l.place (behind_in so.goes.good so.goes.among l.place (block_behind own' l.place (place_in leaves l i))) (λ e. absurd (apart vvr_type uir_type refl (sym (now_whole so l i).leaf.typed ∙ e)))
 
-  more_upto : k < upto
-  more_upto = let o = vacant.ordered in omega arith
+  new_taken : is_taken_at step place ≡ true
+  new_taken = is_in-true place (taken_places step) (inl refl)
 
-  old_block : (l : Leaf) → IsOneOf (leaves_of own.index) l → OldBlock b now' raw pad r first upto (record_bytes b own.vdr) l
-  old_block l i =
-      let j = so.blocks.stay l i in
-      let side = beside_new l j in
-      old_goes_on so longer l (same l j) i (omega (arith, more_upto)) (λ j' from low f t. omega arith)
+  plain_is : plain_bytes now' own'.vdr new ≡ records
+  plain_is = ap (λ (n : ℕ). take n (drop (place + 12) now')) ((λ i. (count_is new small vacant.ordered) i * size_after i) ∙ sym says.as_long) ∙ (blocks_go_on so.goes.good so.goes.among w holds).records_are
 
-  new_block : NewBlock now' raw pad r first (extent (max_rec_at b own.vdr)) upto (record_bytes b own.vdr) (acts ++ step) new
+  new_block : NewBlock now' raw pad r k (extent (max_rec_at b own.vdr)) upto (record_bytes b own.vdr) step new
   new_block = record {
-    from = so.covers.from;
-    upto = more_upto;
-    ends = λ lt. omega arith;
-    alone = λ lt. subst (λ (n : ℕ). n ≤ r) (sym (is ∙ one_alone (variable_of b own) (firsts_of own'.index) k (lt-ltb k (extent (max_rec_at b own.vdr)) (omega arith)))) more;
-    plain = refl;
-    was_taken = taken_then acts step place (block_taken place (8 + length body) (new_room k own'.index) at);
+    from = omega arith;
+    ends = omega arith;
+    alone = elim (cases_lt r (extent (max_rec_at b own.vdr))) [ inl lt ↦ let e = is ∙ one_alone (variable_of b own) (firsts_of own'.index) k (lt-ltb k (extent (max_rec_at b own.vdr)) (omega arith)) in omega arith | inr le ↦ omega arith ];
+    was_taken = new_taken;
     written = λ j f t. sym (plain_piece now' own'.vdr (record_bytes b own.vdr) j new refl small size_after f t) ∙ ap (λ (xs : List ℕ). take (record_bytes b own.vdr) (drop ((j - k) * (record_bytes b own.vdr)) xs)) plain_is ∙ says.written j f t;
     spare = λ i low high. (blocks_go_on so.goes.good so.goes.among w holds).spare i (subst (λ (n : ℕ). 12 + n ≤ i) (sym says.as_long) low) high;
   }
-    where
-      plain_is : plain_bytes now' own'.vdr new ≡ records
-      plain_is =
-          let count = count_is new small vacant.ordered in
-          ap (λ (n : ℕ). take n (drop (place + 12) now')) ((λ i. count i * size_after i) ∙ sym says.as_long) ∙ (blocks_go_on so.goes.good so.goes.among w holds).records_are
 
-  pub blocks_added : BlocksSoFar b now' own own'' raw pad r first upto (acts ++ step)
-  blocks_added = record {
-    stay = λ l i. in_new l (so.blocks.stay l i);
-    apart = λ l i. taken_neither acts step l.place (so.blocks.apart l i) (leaf_apart l (so.blocks.stay l i));
-    old = old_block;
+  pub blocks_added : BlocksSoFar b now' own own'' raw pad r first upto (acts ++ step) []
+  blocks_added = blocks_then so (omega (arith, vacant.ordered)) (omega arith) refl (record {
+    longer = (file so.goes.good so.goes.among w).longer;
+    stay = in_new;
+    apart = leaf_apart;
+    old = λ l i.
+        let side = beside_new l i in
+        let same = of_each (λ (l : Leaf). Same now now' l.place (l.place + size_at now l.place)) leaves l (blocks_go_on so.goes.good so.goes.among w holds).old i in
+        record { written = λ j from low f t. absurd (omega arith); kept = λ p low high out. same.each p low high };
     new = λ l i. elim (leaf_was_there new at 0 record_number_limit own'.index order l i) [
-      | inl q ↦ inr (subst (NewBlock now' raw pad r first (extent (max_rec_at b own.vdr)) upto (record_bytes b own.vdr) (acts ++ step)) (sym q) new_block)
-      | inr j ↦ elim (so.blocks.new l j) [ inl o ↦ inl o | inr n ↦ inr (new_goes_on so longer l (same l j) j (let m = more_upto in omega arith) (taken_first acts step l.place n.was_taken) n) ]
+      | inl q ↦ inr (subst (NewBlock now' raw pad r k (extent (max_rec_at b own.vdr)) upto (record_bytes b own.vdr) step) (sym q) new_block)
+      | inr j ↦ inl j
     ];
-    has = λ j from low. elim (cases_lt j k) [ inl lt ↦ let x = so.blocks.has j from lt in (x.0, (in_new x.0 x.1.0, x.1.1)) | inr le ↦ (new, (new_in, (le, omega arith))) ];
-    quiet = λ e. (let none = ap length e in let both = length-append acts step in absurd (omega arith));
-  }
+    has = λ j from low. (new, (new_in, (from, omega arith)));
+    quiet = λ none. absurd (true≢false (sym new_taken ∙ none place));
+  })
 
   -- ---- the index
 
-  abbrev n : NodesSoFar b now own own' acts
+  abbrev n : NodesSoFar b now own own' (new_ranges (ranges_of own.index) (ranges_of own'.index)) acts
   n = so.index.nodes
 
   leaves_are : leaves_of own''.index ≡ with_new new leaves
@@ -154,7 +141,7 @@ module _ {b now now' : List ℕ} {kind : Kind} {before : List VariableShape} {ow
 
   puts_added : PutsBefore b own own'' (filter (was_put first upto) (leaves_of own''.index)) (acts ++ step)
   puts_added =
-      let one = put_new first k upto 0 (suc record_number_limit) leaves new ascend (λ l i. beside_new l i) refl so.covers.from (let o = vacant.ordered in omega arith) (omega arith) in
+      let one = put_new first k upto 0 (suc record_number_limit) leaves new (subst (Ascending 0 (suc record_number_limit)) leaves_are (leaves_ascend good' among')) (subst (λ (ls : List Leaf). IsOneOf ls new) leaves_are new_in) refl so.covers.from (omega (arith, vacant.ordered)) (omega arith) in
       subst (λ (ls : List Leaf). PutsBefore b own own'' ls (acts ++ step)) (sym (ap (filter (was_put first upto)) leaves_are ∙ one))
       (puts_new b own own' (filter (was_put first k) leaves) acts new (8 + length body) at so.index.puts (none_begins k 0 (suc record_number_limit) leaves ascend vacant.uncovered) needs (no_node_zero w.filled w.roomy (new_room k own'.index) at w.node))
 
@@ -163,59 +150,40 @@ module _ {b now now' : List ℕ} {kind : Kind} {before : List VariableShape} {ow
   abbrev rs : List Range
   rs = new_ranges (ranges_of own.index) (ranges_of own'.index)
 
-  abbrev test : Range → Bool
-  test x = not (list_any (covers x.first) (ranges_of own.index))
-
   one_new : new_ranges (ranges_of own.index) (ranges_of own''.index) ≡ rs ++ range k last ∷ []
-  one_new =
-      let rng = λ (l : Leaf). range l.first l.last in
-      let one = one_more (λ l. test (rng l)) (λ l. test (rng l)) 0 (suc record_number_limit) leaves new ascend (ap not (none_covers k (leaves_of own.index) (λ l i. out l (so.blocks.stay l i)))) (λ l i le. refl) (λ l i lt. let e = ap not (was_there l i lt (so.blocks.new l i)) in (e, e)) in
-      ap (λ (ls : List Leaf). filter test (map rng ls)) leaves_are ∙ filter_mapped rng test (with_new new leaves) ∙ ap (map rng) one ∙ map-append rng (filter (λ l. test (rng l)) leaves) (new ∷ []) ∙ ap (λ (xs : List Range). xs ++ range k last ∷ []) (sym (filter_mapped rng test leaves))
+  one_new = ap (λ (ls : List Leaf). new_ranges (ranges_of own.index) (of_leaves ls)) leaves_are ∙ ranges_more (ranges_of own.index) 0 (suc record_number_limit) leaves new ascend (none_covers k (leaves_of own.index) (λ l i. out l (so.blocks.stay l i))) was_there
     where
       out : (l : Leaf) → IsOneOf leaves l → (l.last < k) ⊎ (k < l.first)
       out l i = elim (beside_new l i) [ inl lt ↦ inl lt | inr lt ↦ inr (let o = vacant.ordered in omega arith) ]
 
-      was_there : (l : Leaf) → IsOneOf leaves l → k < l.first → IsOneOf (leaves_of own.index) l ⊎ NewBlock now raw pad r first (extent (max_rec_at b own.vdr)) k (record_bytes b own.vdr) acts l → list_any (covers l.first) (ranges_of own.index) ≡ true
-      was_there l i lt (inl o) = covers_own (leaves_of own.index) l o (ordered l i)
-      was_there l i lt (inr x) = let u = x.upto in absurd (omega arith)
+      was_there : (l : Leaf) → IsOneOf leaves l → k < l.first → list_any (covers l.first) (ranges_of own.index) ≡ true
+      was_there l i lt = elim (so.blocks.new l i) [ inl o ↦ covers_own (leaves_of own.index) l o (ordered l i) | inr x ↦ absurd (omega (arith, x.ends, ordered l i)) ]
 
   -- ---- the nodes
 
   s : NodesStep now now' own'.index (nodes_of own''.index) step
   s = nodes_step so.goes.good so.goes.among w
 
-  agree : (m : ℕ) → In m (nodes_of own'.index) → is_taken_at (acts ++ step) m ≡ is_taken_at acts m
-  agree m i = taken_both acts step m ∙ ap (λ (p : Bool). is_taken_at acts m || p) (s.apart m i) ∙ or_false (is_taken_at acts m)
-
   -- a node that is taken stands at a new place, and else none does
   outside : place_outside (taken_places (acts ++ step)) at ≡ 0
-  outside = elim (cases_lt 0 (new_room k own'.index)) [
-    | inl some ↦ let t = taken_then acts step at (node_taken place (8 + length body) (new_room k own'.index) at some) in rw t refl
-    | inr none ↦ subst (λ (x : ℕ). place_outside (taken_places (acts ++ step)) x ≡ 0) (sym (no_node_zero w.filled w.roomy (new_room k own'.index) at w.node (omega arith))) (elim (either (is_taken_at (acts ++ step) 0)) [ inl t ↦ rw t refl | inr t ↦ rw t refl ])
-  ]
+  outside = outside_zero (taken_places (acts ++ step)) at (elim (cases_lt 0 (new_room k own'.index)) [ inl some ↦ inl (taken_both acts step at ∙ or_right _ _ (node_taken place (8 + length body) (new_room k own'.index) at some)) | inr none ↦ inr (no_node_zero w.filled w.roomy (new_room k own'.index) at w.node (omega arith)) ])
 
-  outlined : outline (taken_places (acts ++ step)) own''.index ≡ outline [] (with_ranges own.index (rs ++ range k last ∷ []))
-  outlined =
-      same_with_leaf (taken_places acts) (taken_places (acts ++ step)) new at own'.index (with_ranges own.index rs) n.outlined agree outside
-      ∙ ap (outline []) (sym (with_one_more own.index rs (range k last)))
+  lies : (m : ℕ) → In m (nodes_of own'.index) → 8 ≤ m
+  lies m i = (tile_lies now 8 (length now) (shape now).records m (sound so.goes.good so.goes.among).has_shape.tiled (node_in so.goes.good so.goes.among w m i)).low
 
-  not_zero : (m : ℕ) → In m (nodes_of own'.index) → m ≡ 0 → ⊥
-  not_zero m i e = let low = (tile_lies now 8 (length now) (shape now).records m (sound so.goes.good so.goes.among).has_shape.tiled (node_in so.goes.good so.goes.among w m i)).low in omega arith
-
-  follow : NodesFollow b now' (indexes_with own.index (rs ++ range k last ∷ [])) (nodes_of own.index) (nodes_of own''.index) (acts ++ step)
-  follow = nodes_then b now now' (indexes_with own.index rs) (indexes_with own.index (rs ++ range k last ∷ [])) (nodes_of own.index) (nodes_of own''.index) own'.index acts step n.follow s n.stay n.sizes n.come
-      (λ m i e. through_stays (uses_entry m i) own.index rs (range k last) e)
-      (λ m i j e. through_stays (uses_entry m i) own.index rs (range k last) (last_of_through (uses_entry m i) own.index rs (sym (same_uses (taken_places acts) m i own'.index (with_ranges own.index rs) n.outlined (n.apart m j) (not_zero m (n.stay m j))) ∙ e)))
-      (shape now).records 8 (has so.goes.good so.goes.among).indexed.has_nodes
-
-  nodes_added : NodesSoFar b now' own own'' (acts ++ step)
+  nodes_added : NodesSoFar b now' own own'' (rs ++ range k last ∷ []) (acts ++ step)
   nodes_added = record {
     stay = λ m i. s.stay m (n.stay m i);
-    apart = λ m i. taken_neither acts step m (n.apart m i) (s.apart m (n.stay m i));
-    come = λ m i. elim (s.come m i) [ inl j ↦ elim (n.come m j) [ inl k ↦ inl k | inr t ↦ inr (taken_first acts step m t) ] | inr t ↦ inr (taken_then acts step m t) ];
+    apart = λ m i. taken_both acts step m ∙ or_from _ _ (n.apart m i) (s.apart m (n.stay m i));
+    come = λ m i. elim (s.come m i) [ inl j ↦ elim (n.come m j) [ inl k ↦ inl k | inr t ↦ inr (taken_both acts step m ∙ or_left _ _ t) ] | inr t ↦ inr (taken_both acts step m ∙ or_right _ _ t) ];
     sizes = λ m i. s.sizes m (n.stay m i) ∙ n.sizes m i;
-    outlined = outlined ∙ sym (ap (λ (xs : List Range). outline [] (with_ranges own.index xs)) one_new);
-    follow = subst (λ (xs : List Range). NodesFollow b now' (indexes_with own.index xs) (nodes_of own.index) (nodes_of own''.index) (acts ++ step)) (sym one_new) follow;
+    outlined =
+        same_with_leaf (taken_places acts) (taken_places (acts ++ step)) new at own'.index (with_ranges own.index rs) n.outlined (λ m i. taken_both acts step m ∙ ap (λ (p : Bool). is_taken_at acts m || p) (s.apart m i) ∙ or-false (is_taken_at acts m)) outside
+        ∙ ap (outline []) (sym (fold-append (λ (nodes : Nodes) (r : Range). with_leaf (leaf r.first r.last 0 false) 0 nodes) own.index rs (range k last ∷ [])));
+    follow = nodes_then b now now' (indexes_with own.index rs) (indexes_with own.index (rs ++ range k last ∷ [])) (nodes_of own.index) (nodes_of own''.index) own'.index acts step n.follow s n.stay n.sizes n.come
+        (λ m i e. through_goes (uses_entry m i) own.index rs (range k last) (inr e))
+        (λ m i j e. through_goes (uses_entry m i) own.index rs (range k last) (inl (sym (same_uses (taken_places acts) m i own'.index (with_ranges own.index rs) n.outlined (n.apart m j) (λ zero. absurd (omega (arith, lies m (n.stay m j))))) ∙ e)))
+        (shape now).records 8 (has so.goes.good so.goes.among).indexed.has_nodes;
   }
 
   grows : TopGrows own'.index own''.index
@@ -227,5 +195,5 @@ module _ {b now now' : List ℕ} {kind : Kind} {before : List VariableShape} {ow
     tail = tail_then (top_chain own.index) (top_chain own'.index) (top_chain own''.index) (number b own.vdr vdr_vxr_tail) (number now own.vdr vdr_vxr_tail) (number now' own.vdr vdr_vxr_tail) so.index.top grows so.index.tail
         (subst (λ (v : ℕ). number now' v vdr_vxr_tail ≡ (if bytes_eq (top_chain own'.index) (top_chain own''.index) then number now v vdr_vxr_tail else last_node own''.index)) so.goes.vdr_is w.tail);
     top = top_then (top_chain own.index) (top_chain own'.index) (top_chain own''.index) so.index.top grows;
-    nodes = nodes_added;
+    nodes = subst (λ (xs : List Range). NodesSoFar b now' own own'' xs (acts ++ step)) (sym one_new) nodes_added;
   }

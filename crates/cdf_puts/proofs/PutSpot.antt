@@ -1,25 +1,20 @@
 -- Where the next record is put: the records of a new block, each step by which records are put, and what an image says of a variable of which some records are put.
-use Rattle.cdf_puts.proofs.Common.{Act, AddsLeaf, BlockRecords, Covering, Each, GoesOn, HasIndex, In, IsBlockBody, IsBody, IsPut, IsSound, IsTaking, IsVacant, Kind, LeafAdded, List, NodeTaken, Nodes, None, PutStart, PutsOn, PutsUpTo, Putting, RecordsWritten, SoFar, Some, SomePut, SomePutting, StandsAmong, Variable, VariableShape, [], ap, append-nil, arith, block_bytes, block_count, cases_lt, covers, div-le_self, drop, drop-append-le, drop_at, either, extent, false, find, first_written, firsts_of, fits, fixed_size, good_by_its_shape, good_is_sound, has, if◌then◌else◌, image_limit, in_middle, index_at, index_order, inl, inr, is_record_type, is_sparse, last_in_new, leaf, leaf_acts, leaf_of, leaves_of, length, length-append, length-drop, long, ltb, max, max_rec_at, min, most_in_block, nat_tests, new_last, new_range, new_room, next_first, node_bytes, number, own_rules, range, record_bytes, record_length, record_of, record_put, records_put, refl, shape, sparse_at, subst, suc, sym, take, take-append-le, take_all, taken_bytes, tile, tile_lies, times_le, transport, uir_type, variable_of, variables, vdr_max_rec, vdr_vxr_head, vdrs, vvr_type, vxr_bytes, widest, with_leaf, zero, ℕ, ◌*◌, ◌++◌, ◌+◌, ◌-◌, ◌<◌, ◌==◌, ◌∙◌, ◌∷◌, ◌≡◌, ◌≤◌}
-use Rattle.cdf_puts.proofs.LeafEdit.{r_max_rec_stays as leaf_r_max_rec, plain_body, leaf_goes_on, leaf_max_rec, size_needed}
+use Rattle.cdf_puts.proofs.Common.{Act, AddsLeaf, BlockRecords, Covering, GoesOn, HasIndex, In, IsBlockBody, IsBody, IsPut, IsVacant, Kind, LeafAdded, List, NodeTaken, Nodes, None, PutStart, PutsOn, PutsUpTo, Putting, RecordsWritten, SoFar, Some, SomePut, SomePutting, StandsAmong, Variable, VariableShape, [], ap, append-nil, arith, block_bytes, block_count, cases_lt, covers, div-le_self, drop, drop-append-le, drop_at, either, extent, false, find, first_written, firsts_of, fits, good_is_sound, has, if◌then◌else◌, image_limit, in_middle, index_at, index_order, inl, inr, is_sparse, last_in_new, leaf, leaf_acts, leaf_of, leaves_of, length, length-append, length-drop, long, max, max_rec_at, min, most_in_block, nat_tests, new_last, new_range, new_room, next_first, node_bytes, number, own_rules, range, record_bytes, record_length, record_of, record_put, records_put, refl, shape, sparse_at, subst, suc, sym, take, take-append-le, take_all, taken_bytes, tile, tile_lies, times_le, variable_of, variables, vdr_max_rec, vdr_vxr_head, vdrs, vxr_bytes, widest, with_leaf, zero, ℕ, ◌*◌, ◌++◌, ◌+◌, ◌-◌, ◌<◌, ◌==◌, ◌∙◌, ◌∷◌, ◌≡◌, ◌≤◌}
+use Rattle.cdf_puts.proofs.LeafEdit.{r_max_rec_stays as leaf_r_max_rec, body_long, plain_body, leaf_goes_on, leaf_max_rec, taking}
 use Rattle.cdf_puts.proofs.CoveringRanges.{covering_starts, covering_has, covering_leaf, covering_room, covering_ends, Ends, one_at_least}
-use Rattle.cdf_puts.proofs.GoesThen.{later_size, later_packed, goes_nowhere, goes_then, goes_written}
-use Rattle.cdf_puts.proofs.LastImage.{only_takes}
+use Rattle.cdf_puts.proofs.GoesThen.{later_size, goes_then, goes_written, writes_nothing}
 use Rattle.cdf_puts.proofs.IndexAdded.{blocks_added, index_added}
-use Rattle.cdf_puts.proofs.LeafCounts.{roomy, new_room_widest}
+use Rattle.cdf_puts.proofs.LeafCounts.{new_room_widest}
 use Rattle.cdf_puts.proofs.IndexWritten.{blocks_written, index_written, max_rec_kept, r_max_rec_stays, writes}
-use Rattle.cdf_puts.proofs.PutRoom.{taken_sum, longer_by}
+use Rattle.cdf_puts.proofs.PutRoom.{taken_sum, takes_both, leaf_bytes, longer_by}
 use Rattle.cdf_puts.proofs.SoFarStarts.{starts_upto, index_start, blocks_start}
-use Rattle.cdf_index.proofs.OneVariable.{AmongAll, among_all}
+use Rattle.cdf_leaves.proofs.Own.{among_all, searchable}
+use Rattle.cdf_puts.proofs.PutBytes.{found_covering, size_now, whole}
 use Rattle.cdf_base.specs.Bytes.{put as put_at}
-use Rattle.cdf_format.specs.GoodImage.{IsGoodImage}
 use Rattle.cdf_format.specs.Index.{Leaf as TreeLeaf}
-use Rattle.cdf_format.proofs.GoodImageLemmas.{good_image}
 use Rattle.cdf_index.specs.Reading.{HoldsRecords}
 use Rattle.cdf_index.specs.Sight.{seen}
 use Rattle.cdf_index.specs.declared.nodes.Leaf.{Leaf}
-use Rattle.cdf_index.proofs.GoodBlock.{good_block}
-use Rattle.cdf_index.proofs.GoodIndex.{good_index}
-use Rattle.cdf_index.proofs.PlainBlocks.{plain_block}
 use Rattle.cdf_puts.specs.declared.putting.NewRecord.{NewRecord}
 
 pub one_more : (raw pad : List ℕ) (r count k : ℕ) → records_put raw pad r (count + 1) k ≡ records_put raw pad r count k ++ record_put raw pad r (k + count)
@@ -53,38 +48,7 @@ module _ (raw pad : List ℕ) (r size : ℕ) (raw_long : length raw ≡ size) (p
   block_records k last = record { as_long = records_long (last + 1 - k) k; written = λ j from upto. record_there (last + 1 - k) k j from (omega arith) }
 
 pub body_is : (body records : List ℕ) → IsBlockBody body records → IsBody body
-body_is body records says =
-    let typed = plain_body body records says in
-    record {
-      enough = omega arith;
-      real = ap is_record_type typed;
-      in_use = λ same. (let e : vvr_type ≡ uir_type = sym typed ∙ same in absurd (cc));
-      fixed = subst (λ (t : ℕ). fixed_size t ≤ 8 + length body) (sym typed) (omega arith);
-    }
-
-pub body_long : (body records : List ℕ) → IsBlockBody body records → 8 + length body ≡ max 28 (12 + length records)
-body_long body records says = let e = says.as_long in omega arith
-
--- the index of a variable with one leaf more
-abbrev pub with_new_leaf : VariableShape → TreeLeaf → ℕ → VariableShape
-with_new_leaf own new at = record own { index = with_leaf new at own.index }
-
--- ---- how many bytes were taken
-
-leaf_bytes : (place need k at : ℕ) (index : Nodes) → taken_bytes (leaf_acts place need (new_room k index) at) ≡ need + node_bytes k index
-leaf_bytes place need k at index = by (new_room k index)
-  where
-    by : (room : ℕ) → taken_bytes (leaf_acts place need room at) ≡ need + (if room == 0 then 0 else vxr_bytes room)
-    by zero = omega arith
-    by (suc room) = grind arith
-
-takes_both : (acts acts' : List Act) → Each IsTaking acts → Each IsTaking acts' → Each IsTaking (acts ++ acts')
-takes_both [] acts' t u = u
-takes_both (act ∷ more) acts' t u = (t.0, takes_both more acts' t.1 u)
-
-leaf_takes : (place need room at : ℕ) → Each IsTaking (leaf_acts place need room at)
-leaf_takes place need zero at = (tt, tt)
-leaf_takes place need (suc room) at = (tt, (tt, tt))
+body_is body records says = let typed = plain_body body records says in grind (arith, typed, body_long body records says)
 
 -- ---- the steps
 
@@ -93,7 +57,7 @@ module _ {b : List ℕ} {kind : Kind} {before : List VariableShape} {own : Varia
   so_far_starts start = record {
     start = start;
     upto = let l = starts_upto start in omega arith;
-    goes = goes_nowhere start.good start.among start.short;
+    goes = goes_written start.good start.among (writes_nothing start.good start.among) start.short;
     covers = covering_starts (variable_of b own) own.index r (ap is_sparse start.no_rule) (index_order b (shape b).records own.vdr own.index (own_rules start.good start.among).1);
     takes = tt;
     short = start.short;
@@ -112,7 +76,7 @@ module _ {b : List ℕ} {kind : Kind} {before : List VariableShape} {own : Varia
         record {
           start = so.start;
           upto = omega arith;
-          goes = subst (GoesOn b now' kind before own own' after) (append-nil acts) (goes_then so.start.good so.start.among so.goes step (only_takes acts so.takes) tt);
+          goes = subst (GoesOn b now' kind before own own' after) (append-nil acts) (goes_then so.start.good so.start.among so.goes step so.takes tt);
           covers = covering_has so.covers so.start.small more l w.found;
           takes = so.takes;
           short = omega arith;
@@ -124,45 +88,39 @@ module _ {b : List ℕ} {kind : Kind} {before : List VariableShape} {own : Varia
 
     pub so_far_added : {now' : List ℕ} {last place at : ℕ} {body records : List ℕ} → last ≡ (new_range (variable_of b own) (firsts_of own'.index) k).last → IsVacant own' k last → IsBlockBody body records → BlockRecords raw pad r k last (record_bytes b own.vdr) records
         → LeafAdded now now' own' (leaf k last place false) body at → length now' ≤ image_limit
-        → SoFar b now' kind before own (with_new_leaf own' (leaf k last place false) at) after raw pad r (min (last + 1) (r + 1)) (acts ++ leaf_acts place (8 + length body) (new_room k own'.index) at)
+        → SoFar b now' kind before own (record own' { index = with_leaf (leaf k last place false) at own'.index }) after raw pad r (min (last + 1) (r + 1)) (acts ++ leaf_acts place (8 + length body) (new_room k own'.index) at)
     so_far_added {now' = now'} {last = last} {place = place} {at = at} {body = body} {records = records} is vacant holds says w short =
         let good = so.goes.good in
         let among = so.goes.among in
         let v = variable_of b own in
         let new = leaf k last place false in
         let step = leaf_acts place (8 + length body) (new_room k own'.index) at in
-        let loose = later_packed so.start.good so.start.among so.goes ∙ so.start.loose in
-        let as_long : length records ≡ (last + 1 - k) * record_bytes now own'.vdr = says.as_long ∙ ap (λ (n : ℕ). (last + 1 - k) * n) (sym (later_size so.start.good so.start.among so.goes)) in
-        let goes : GoesOn now now' kind before own' (with_new_leaf own' new at) after step = leaf_goes_on good among w holds loose vacant as_long short in
-        let need : 8 + length body ≡ block_bytes v k last = size_needed good among w holds ∙ ap (λ (n : ℕ). max 28 (12 + n)) says.as_long in
-        let bytes : taken_bytes (acts ++ step) ≡ taken_bytes acts + block_bytes v k last + node_bytes k own'.index =
-        taken_sum acts step ∙ ap (λ (n : ℕ). taken_bytes acts + n) (leaf_bytes place (8 + length body) k at own'.index) ∙ ap (λ (n : ℕ). taken_bytes acts + (n + node_bytes k own'.index)) need ∙ omega arith in
+        let goes : GoesOn now now' kind before own' (record own' { index = with_leaf new at own'.index }) after step = leaf_goes_on good among w holds vacant (says.as_long ∙ ap (λ (n : ℕ). (last + 1 - k) * n) (sym (later_size so.start.good so.start.among so.goes))) short in
+        let need : 8 + length body ≡ block_bytes v k last = body_long body records holds ∙ ap (λ (n : ℕ). max 28 (12 + n)) says.as_long in
+        let bytes : taken_bytes (acts ++ step) ≡ taken_bytes acts + block_bytes v k last + node_bytes k own'.index = omega (arith, taken_sum acts step, leaf_bytes place (8 + length body) (new_room k own'.index) at) in
         let covers : Covering v own.index (with_leaf new at own'.index) r (min (last + 1) (r + 1)) (taken_bytes acts + block_bytes v k last + node_bytes k own'.index) =
         subst (λ (x : ℕ). Covering v own.index (with_leaf (leaf k x place false) at own'.index) r (min (x + 1) (r + 1)) (taken_bytes acts + block_bytes v k x + node_bytes k own'.index)) (sym is)
-        (covering_leaf so.covers so.start.small more (ap is_sparse so.start.no_rule) so.start.loose vacant.uncovered place at (roomy now (shape now).records 8 own'.index (has good among).indexed.has_nodes (fits good among).1)) in
+        (covering_leaf so.covers so.start.small more (ap is_sparse so.start.no_rule) so.start.loose vacant.uncovered place at (new_room_widest now (shape now).records 8 k own'.index (has good among).indexed.has_nodes (fits good among).1)) in
         record {
           start = so.start;
           upto = omega arith;
-          goes = goes_then so.start.good so.start.among so.goes goes (only_takes acts so.takes) (only_takes step (leaf_takes place (8 + length body) (new_room k own'.index) at));
+          goes = goes_then so.start.good so.start.among so.goes goes so.takes (taking good among w).takes;
           covers = subst (Covering v own.index (with_leaf new at own'.index) r (min (last + 1) (r + 1))) (sym bytes) covers;
-          takes = takes_both acts step so.takes (leaf_takes place (8 + length body) (new_room k own'.index) at);
+          takes = takes_both acts step so.takes (taking good among w).takes;
           short = short;
-          max_rec_is = subst (λ (v : ℕ). number now' v vdr_max_rec ≡ number now v vdr_max_rec) so.goes.vdr_is (leaf_max_rec good among w (plain_body body records holds)) ∙ so.max_rec_is;
-          r_max_rec_is = leaf_r_max_rec good among w holds loose vacant as_long short ∙ so.r_max_rec_is;
+          max_rec_is = subst (λ (v : ℕ). number now' v vdr_max_rec ≡ number now v vdr_max_rec) so.goes.vdr_is (leaf_max_rec good among w) ∙ so.max_rec_is;
+          r_max_rec_is = leaf_r_max_rec good among w ∙ so.r_max_rec_is;
           index = index_added so more is vacant holds says w goes.good goes.among;
           blocks = blocks_added so more is vacant holds says w goes.good goes.among;
         }
 
 -- ---- how many records a new block has
 
-most_some : (v : Variable) (r : ℕ) → 1 ≤ most_in_block v r
-most_some v r = elim (either (ltb r (extent v.max_rec))) [ inl t ↦ rw t (omega arith) | inr t ↦ rw t (one_at_least v) ]
-
 count_few : (v : Variable) → block_count v ≤ 1048576
 count_few v = elim (either v.vary) [ inl t ↦ rw t (let q = div-le_self 1048576 (record_length v) in omega arith) | inr t ↦ rw t (omega arith) ]
 
-most_few : (v : Variable) (r : ℕ) → most_in_block v r ≤ 1048576
-most_few v r = grind (arith, nat_tests, count_few v)
+most_within : (v : Variable) (r : ℕ) → (1 ≤ most_in_block v r) × (most_in_block v r ≤ 1048576)
+most_within v r = (grind (arith, nat_tests, one_at_least v), grind (arith, nat_tests, count_few v))
 
 -- up to MaxRec it is one record, which is the one that is put
 last_as : (v : Variable) (index : Nodes) (k r most : ℕ) → is_sparse v.sparse ≡ false → most ≡ most_in_block v r → first_written v r ≤ k → k ≤ r → k < next_first k (firsts_of index) → last_in_new most index k ≡ new_last v index k
@@ -186,58 +144,37 @@ module _ {b now : List ℕ} {kind : Kind} {before : List VariableShape} {own : V
   abbrev so : SoFar b now kind before own own' after new.raw.items new.pad.items new.rec k is.acts
   so = is.so
 
-  image : IsGoodImage now (shape now)
-  image = good_image now (shape now) (good_by_its_shape now so.goes.good)
-
-  sound : IsSound now (shape now)
-  sound = good_is_sound now so.goes.good
-
-  among : AmongAll (variables (shape now)) own'
-  among = among_all now kind before own' after so.goes.among.was
-
   vdr_is : own'.vdr ≡ new.vdr
   vdr_is = so.goes.vdr_is ∙ p.vdr_is
 
-  size_now : record_bytes now own'.vdr ≡ record_bytes b own.vdr
-  size_now = later_size so.start.good so.start.among so.goes
-
   pub lies : new.vdr + 340 ≤ length now
-  lies = omega (arith, long so.goes.good so.goes.among, tile_lies now 8 (length now) (shape now).records own'.vdr image.has_shape.tiled (tile so.goes.good so.goes.among))
+  lies = omega (arith, long so.goes.good so.goes.among, tile_lies now 8 (length now) (shape now).records own'.vdr (good_is_sound now so.goes.good).has_shape.tiled (tile so.goes.good so.goes.among))
 
   pub vdr_in : In new.vdr (vdrs (variables (shape now)))
-  vdr_in = subst (λ (vs : List VariableShape). In new.vdr (vdrs vs)) (sym among.all) (subst (λ (v : ℕ). In v (vdrs (among.front ++ own' ∷ among.rest))) vdr_is (in_middle among.front own' among.rest))
+  vdr_in = let g = among_all now kind before own' after so.goes.among.was in subst (λ (vs : List VariableShape). In new.vdr (vdrs vs)) (sym g.all) (subst (λ (v : ℕ). In v (vdrs (g.front ++ own' ∷ g.rest))) vdr_is (in_middle g.front own' g.rest))
 
-  index : HasIndex now (number now own'.vdr vdr_vxr_head) × (index_at now (number now own'.vdr vdr_vxr_head) ≡ own'.index)
-  index = good_index now (shape now) among.front own' among.rest image sound among.all
-
-  pub has_index : HasIndex now (number now new.vdr vdr_vxr_head)
-  has_index = subst (λ (v : ℕ). HasIndex now (number now v vdr_vxr_head)) vdr_is index.0
-
-  index_is : index_at now (number now new.vdr vdr_vxr_head) ≡ own'.index
-  index_is = subst (λ (v : ℕ). index_at now (number now v vdr_vxr_head) ≡ own'.index) vdr_is index.1
+  pub searched : HasIndex now (number now new.vdr vdr_vxr_head) × (index_at now (number now new.vdr vdr_vxr_head) ≡ own'.index)
+  searched = subst (λ (v : ℕ). HasIndex now (number now v vdr_vxr_head) × (index_at now (number now v vdr_vxr_head) ≡ own'.index)) vdr_is (searchable so.goes.good so.goes.among)
 
   module _ (more : k ≤ new.rec) where
-    pub some_most : 1 ≤ new.most
-    some_most = subst (λ (n : ℕ). 1 ≤ n) (sym p.most_is) (most_some (variable_of b own) new.rec)
-
-    pub few_most : new.most ≤ 1048576
-    few_most = subst (λ (n : ℕ). n ≤ 1048576) (sym p.most_is) (most_few (variable_of b own) new.rec)
+    pub some_few : (1 ≤ new.most) × (new.most ≤ 1048576)
+    some_few = rw p.most_is (most_within (variable_of b own) new.rec)
 
     -- ---- a block has the next one
 
     module _ (l : Leaf) (found : Some (seen l) ≡ leaf_of k (leaves_of (index_at now (number now new.vdr vdr_vxr_head)))) where
       here : leaf_of k (leaves_of own'.index) ≡ Some (seen l)
-      here = sym (found ∙ ap (λ (x : Nodes). leaf_of k (leaves_of x)) index_is)
+      here = sym (rw searched.1 at found)
 
-      held : HoldsRecords now l (record_bytes now own'.vdr) × (l.first ≤ k) × (k ≤ l.last)
-      held = good_block now (shape now) among.front own' among.rest image sound among.all k l here (plain_block now (shape now) among.front own' among.rest image sound among.all k (seen l) here)
-
-      pub held_from : l.first ≤ k
-      held_from = held.1
+      pub held : HoldsRecords now l (record_bytes now own'.vdr) × (l.first ≤ k) × (k ≤ l.last)
+      held =
+          let one = found_covering k (leaves_of own'.index) (seen l) here in
+          let x = whole so.goes.good so.goes.among (seen l) one.0 in
+          (record { plain = x.leaf.plain; ordered = x.leaf.ordered; small = x.leaf.small; inside = omega (arith, x.leaf.room, x.inside) }, one.1.0, one.1.1)
 
       module _ (n : ℕ) (n_is : n ≡ length new.raw.items) where
         sized : record_bytes now own'.vdr ≡ n
-        sized = size_now ∙ sym p.start.raw_long ∙ sym n_is
+        sized = size_now so ∙ sym p.start.raw_long ∙ sym n_is
 
         pub holds : HoldsRecords now l n
         holds = subst (HoldsRecords now l) sized held.0
@@ -245,11 +182,8 @@ module _ {b now : List ℕ} {kind : Kind} {before : List VariableShape} {own : V
         module _ (bytes : List ℕ) (bytes_are : bytes ≡ record_put new.raw.items new.pad.items new.rec k) where
           pub held_within : (k - l.first) * n + length bytes ≤ (l.last + 1 - l.first) * n
           held_within =
-              let long = (ap length bytes_are ∙ record_long new.raw.items new.pad.items new.rec (record_bytes b own.vdr) p.start.raw_long p.pad_long k) ∙ sym size_now ∙ sized in
-              let from = held.1 in
-              let upto = held.2 in
-              let room = times_le (suc (k - l.first)) (l.last + 1 - l.first) n (omega arith) in
-              omega arith
+              let long = ap length bytes_are ∙ record_long new.raw.items new.pad.items new.rec (record_bytes b own.vdr) p.start.raw_long p.pad_long k ∙ sym (size_now so) ∙ sized in
+              omega (arith, held.1, held.2, times_le (suc (k - l.first)) (l.last + 1 - l.first) n (omega (arith, held.1, held.2)))
 
           pub written_on : {now' : List ℕ} → now' ≡ put_at now (l.at + (12 + (k - l.first) * n)) bytes → IsPut b now' kind before own after new (k + 1)
           written_on w = record {
@@ -257,90 +191,62 @@ module _ {b now : List ℕ} {kind : Kind} {before : List VariableShape} {own : V
             acts = is.acts;
             so = so_far_written so more (record {
               found = here;
-              within = let s = sym sized in let e = bytes_are in transport (λ i. (k - l.first) * s i + length (e i) ≤ (l.last + 1 - l.first) * s i) held_within;
-              written = w ∙ (let s = sym sized in let e = bytes_are in λ i. put_at now (l.at + (12 + (k - l.first) * s i)) (e i));
+              within = rw (sized, ← bytes_are) held_within;
+              written = rw (sized, ← bytes_are) w;
             }) (record_long new.raw.items new.pad.items new.rec (record_bytes b own.vdr) p.start.raw_long p.pad_long k);
           }
 
     -- ---- no block has it
 
-    rule : is_sparse (variable_of b own).sparse ≡ false
-    rule = ap is_sparse so.start.no_rule
-
-    abbrev last : ℕ
-    last = new_last (variable_of b own) own'.index k
-
-    ending : Ends k (next_first k (firsts_of own'.index)) (block_count (variable_of b own)) last
+    ending : Ends k (next_first k (firsts_of own'.index)) (block_count (variable_of b own)) (new_last (variable_of b own) own'.index k)
     ending = covering_ends so.covers so.start.small more
 
-    last_is : last_in_new new.most own'.index k ≡ last
-    last_is = last_as (variable_of b own) own'.index k new.rec new.most rule p.most_is so.covers.from more (let o = ending.ordered in let past = ending.before_next in omega arith)
+    last_is : last_in_new new.most own'.index k ≡ new_last (variable_of b own) own'.index k
+    last_is = last_as (variable_of b own) own'.index k new.rec new.most (ap is_sparse so.start.no_rule) p.most_is so.covers.from more (omega (arith, ending.0, ending.1))
 
     module _ {at : ℕ} (at_is : at ≡ number now new.vdr vdr_vxr_head) (vacant : leaf_of k (leaves_of (index_at now at)) ≡ None) where
-      tree_is : index_at now at ≡ own'.index
-      tree_is = ap (index_at now) at_is ∙ index_is
-
       none : find (λ (leaf : TreeLeaf). covers k (range leaf.first leaf.last)) (leaves_of own'.index) ≡ None
-      none = sym (ap (λ (x : Nodes). leaf_of k (leaves_of x)) tree_is) ∙ vacant
+      none = rw (at_is, searched.1) at vacant
 
       module _ (end : ℕ) (end_is : end ≡ last_in_new new.most (index_at now at) k) (body : List ℕ) (says : IsBlockBody body (records_put new.raw.items new.pad.items new.rec (end + 1 - k) k)) where
-        ends_at : end ≡ last
-        ends_at = end_is ∙ ap (λ (x : Nodes). last_in_new new.most x k) tree_is ∙ last_is
+        ends_at : end ≡ new_last (variable_of b own) own'.index k
+        ends_at = rw (at_is, searched.1) at end_is ∙ last_is
 
-        need : 8 + length body ≡ block_bytes (variable_of b own) k last
+        need : 8 + length body ≡ block_bytes (variable_of b own) k (new_last (variable_of b own) own'.index k)
         need =
             body_long body (records_put new.raw.items new.pad.items new.rec (end + 1 - k) k) says
             ∙ ap (λ (n : ℕ). max 28 (12 + n)) (records_long new.raw.items new.pad.items new.rec (record_bytes b own.vdr) p.start.raw_long p.pad_long (end + 1 - k) k ∙ ap (λ (n : ℕ). (n + 1 - k) * (record_bytes b own.vdr)) ends_at)
 
         room_here : length now + (8 + length body) + vxr_bytes (widest own'.index) ≤ limit
-        room_here = omega (arith, longer_by b now is.acts so.goes.follow so.takes, need, covering_room so.covers so.start.small more rule so.start.loose none)
+        room_here = omega (arith, longer_by b now is.acts so.goes.follow so.takes, need, covering_room so.covers so.start.small more (ap is_sparse so.start.no_rule) so.start.loose none)
 
         -- an image that is read in between
         pub room_after : {mid : List ℕ} {bound : ℕ} → mid ≡ now → bound ≡ limit → length mid + (8 + length body) + vxr_bytes (widest (index_at mid (number mid new.vdr vdr_vxr_head))) ≤ bound
-        room_after {mid = mid} same bounded =
-            subst (λ (n : ℕ). length mid + (8 + length body) + vxr_bytes (widest (index_at mid (number mid new.vdr vdr_vxr_head))) ≤ n) (sym bounded)
-            (subst (λ (x : List ℕ). length x + (8 + length body) + vxr_bytes (widest (index_at x (number x new.vdr vdr_vxr_head))) ≤ limit) (sym same) (subst (λ (x : Nodes). length now + (8 + length body) + vxr_bytes (widest x) ≤ limit) (sym index_is) room_here))
+        room_after same bounded = rw (same, bounded, searched.1) room_here
 
         pub added_on : {now' : List ℕ} → AddsOn now now' new.vdr k end body → limit ≤ image_limit → IsPut b now' kind before own after new (min end new.rec + 1)
         added_on {now' = now'} adds upto =
             let a = adds kind before own' after so.goes.among vdr_is in
+            let vacancy : IsVacant own' k end = record { ordered = omega (arith, ends_at, ending.0); uncovered = none; before_next = omega (arith, ends_at, ending.1) } in
+            let wide = new_room_widest now (shape now).records 8 k own'.index (has so.goes.good so.goes.among).indexed.has_nodes (fits so.goes.good so.goes.among).1 in
+            let short : length now' ≤ image_limit = omega (arith, a.added.as_long, a.added.block.longest, node_long a.added.filled a.added.roomy (new_room k own'.index) a.at (widest own'.index) a.added.node wide, room_here) in
             record {
-              own' = with_new_leaf own' (leaf k end a.place false) a.at;
+              own' = record own' { index = with_leaf (leaf k end a.place false) a.at own'.index };
               acts = is.acts ++ leaf_acts a.place (8 + length body) (new_room k own'.index) a.at;
-              so = subst (λ (n : ℕ). SoFar b now' kind before own (with_new_leaf own' (leaf k end a.place false) a.at) after new.raw.items new.pad.items new.rec n (is.acts ++ leaf_acts a.place (8 + length body) (new_room k own'.index) a.at)) (omega arith)
-                  (so_far_added so more ends_at vacancy says (block_records new.raw.items new.pad.items new.rec (record_bytes b own.vdr) p.start.raw_long p.pad_long k end) a.added (not_long a.added));
+              so = subst (λ (n : ℕ). SoFar b now' kind before own (record own' { index = with_leaf (leaf k end a.place false) a.at own'.index }) after new.raw.items new.pad.items new.rec n (is.acts ++ leaf_acts a.place (8 + length body) (new_room k own'.index) a.at)) (omega arith)
+                  (so_far_added so more ends_at vacancy says (block_records new.raw.items new.pad.items new.rec (record_bytes b own.vdr) p.start.raw_long p.pad_long k end) a.added short);
             }
-          where
-            vacancy : IsVacant own' k end
-            vacancy = record {
-              ordered = subst (λ (n : ℕ). k ≤ n) (sym ends_at) ending.ordered;
-              uncovered = none;
-              before_next = subst (λ (n : ℕ). n < next_first k (firsts_of own'.index)) (sym ends_at) ending.before_next;
-            }
-
-            not_long : {place at : ℕ} → LeafAdded now now' own' (leaf k end place false) body at → length now' ≤ image_limit
-            not_long {at = at} w =
-                let wide = new_room_widest k own'.index (roomy now (shape now).records 8 own'.index (has so.goes.good so.goes.among).indexed.has_nodes (fits so.goes.good so.goes.among).1) in
-                let node = node_long w.filled w.roomy (new_room k own'.index) at (widest own'.index) w.node wide in
-                let room = room_here in
-                omega arith
 
 -- ---- from the first image on
-
--- the first record that is written is the same for each such variable
-starts_at : (b : List ℕ) (own other : VariableShape) (r : ℕ) → other.vdr ≡ own.vdr → first_written (variable_of b other) r ≡ first_written (variable_of b own) r
-starts_at b own other r e = ap (λ (v : ℕ). if is_sparse (sparse_at b v) then r else min r (extent (max_rec_at b v))) e
 
 -- where what is read in between leaves the image and the limit
 pub on_after : {early mid now : List ℕ} {new : NewRecord} {k next limit bound : ℕ} → mid ≡ early → bound ≡ limit → PutsOn mid now bound new k next → PutsOn early now limit new k next
 on_after {early = early} {now = now} {new = new} {k = k} {next = next} {bound = bound} same bounded on = subst (λ (n : ℕ). PutsOn early now n new k next) bounded (subst (λ (x : List ℕ). PutsOn x now bound new k next) same on)
 
 pub all_start : {b : List ℕ} {new : NewRecord} {from limit : ℕ} → SomePutting b new from limit → PutsUpTo b b limit new from
-all_start {b = b} {new = new} some kind before own after p = record {
-  own' = own;
-  acts = [];
-  so = subst (λ (n : ℕ). SoFar b b kind before own own after new.raw.items new.pad.items new.rec n []) (starts_at b some.own own new.rec (p.vdr_is ∙ sym some.putting.vdr_is) ∙ sym some.from_is) (so_far_starts p.start);
-}
+all_start {b = b} {new = new} some kind before own after p =
+    let from = ap (λ (v : ℕ). if is_sparse (sparse_at b v) then new.rec else min new.rec (extent (max_rec_at b v))) (p.vdr_is ∙ sym some.putting.vdr_is) ∙ sym some.from_is in
+    record { own' = own; acts = []; so = subst (λ (n : ℕ). SoFar b b kind before own own after new.raw.items new.pad.items new.rec n []) from (so_far_starts p.start) }
 
 pub some_put : {b now : List ℕ} {new : NewRecord} {from k limit : ℕ} → SomePutting b new from limit → PutsUpTo b now limit new k → SomePut now new k limit
 some_put {b = b} some all = record { b = b; kind = some.kind; before = some.before; own = some.own; after = some.after; putting = some.putting; is = all some.kind some.before some.own some.after some.putting }
@@ -350,6 +256,4 @@ all_on {b = b} all on kind before own after p = on b kind before own after p (al
 
 -- once a record past the last one would be next, all are put
 pub all_done : {b now : List ℕ} {new : NewRecord} {k limit : ℕ} → PutsUpTo b now limit new k → new.rec < k → PutsUpTo b now limit new (new.rec + 1)
-all_done {b = b} {now = now} {new = new} {k = k} all past kind before own after p =
-    let is = all kind before own after p in
-    subst (IsPut b now kind before own after new) (omega arith) is
+all_done {b = b} {now = now} {new = new} all past kind before own after p = subst (IsPut b now kind before own after new) (omega (arith, (all kind before own after p).so.upto)) (all kind before own after p)

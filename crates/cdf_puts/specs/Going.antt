@@ -1,5 +1,5 @@
 -- How one image goes on to another while records of a variable are put: what holds of each step, and so of several (own).
-use Rattle.std.specs.Prelude.{◌≡◌, ℕ, List, [], ◌∷◌, ◌++◌, length, slice_set}
+use Rattle.std.specs.Prelude.{◌≡◌, ◌⊎◌, ℕ, List, [], ◌∷◌, ◌++◌, length, slice_set}
 use Rattle.std.specs.List.{flat_map}
 use Rattle.cdf_edits.specs.Commands.Allowances.{Stays, r_max_rec_field, shapes_of, space_fields}
 use Rattle.cdf_edits.specs.Space.Acts.{Act, ActsFollow}
@@ -13,7 +13,7 @@ use Rattle.cdf_format.specs.Fields.{type_at}
 use Rattle.cdf_format.specs.Owners.{attribute_records, variable_records}
 use Rattle.cdf_format.specs.RecordTypes.{uir_type}
 use Rattle.cdf_format.specs.Records.{Field, vdr_max_rec, vdr_vxr_head, vdr_vxr_tail}
-use Rattle.cdf_format.specs.Shape.{VariableShape, shape}
+use Rattle.cdf_format.specs.Shape.{AttributeShape, VariableShape, shape}
 use Rattle.cdf_format.specs.Tiles.{In}
 use Rattle.cdf_format.specs.WellFormed.{Good}
 use Rattle.cdf_model.specs.Names.{Found, variables_of, with_variables}
@@ -27,13 +27,9 @@ found_in b kind before own = record { kind = kind; number = length before; varia
 abbrev pub put_fields : List Field
 put_fields = vdr_max_rec ∷ vdr_vxr_head ∷ vdr_vxr_tail ∷ []
 
--- the CDR stays, attributes and all other variables
-pub record OthersStay (b now : List ℕ) (kind : Kind) (before after : List VariableShape) : Type 0 where
-  pub cdr : Stood b now 8
-  pub attributes : (m : ℕ) → In m (flat_map attribute_records (shape b).attributes) → Stood b now m
-  pub front : (m : ℕ) → In m (flat_map variable_records before) → Stood b now m
-  pub back : (m : ℕ) → In m (flat_map variable_records after) → Stood b now m
-  pub others : (m : ℕ) → In m (flat_map variable_records (shapes_of (shape b) (other_kind kind))) → Stood b now m
+-- the CDR, and the records of these attributes and variables
+abbrev pub IsOther : List AttributeShape → List VariableShape → List VariableShape → List VariableShape → ℕ → Type 0
+IsOther attributes before after others m = (m ≡ 8) ⊎ (In m (flat_map attribute_records attributes) ⊎ (In m (flat_map variable_records before) ⊎ (In m (flat_map variable_records after) ⊎ In m (flat_map variable_records others))))
 
 -- an unused record that no list has stays
 abbrev pub LooseStay : List ℕ → List ℕ → Type 0
@@ -52,6 +48,6 @@ pub record GoesOn (b now : List ℕ) (kind : Kind) (before : List VariableShape)
   pub follow : ActsFollow b now acts
   pub gdr : Stays b now (shape b).gdr (r_max_rec_field kind ++ space_fields)
   pub descriptor : Stays b now own.vdr put_fields
-  pub stay : OthersStay b now kind before after
+  pub stay : (m : ℕ) → IsOther (shape b).attributes before after (shapes_of (shape b) (other_kind kind)) m → Stood b now m
   pub listed : ListedStay b now acts
   pub loose : LooseStay b now

@@ -7,19 +7,20 @@ use Rattle.cdf_model.specs.DataSet.{extent}
 use Rattle.cdf_model.specs.Limits.{image_limit, record_number_limit}
 use Rattle.cdf_edits.specs.Commands.GreatestRecord.{r_max_rec}
 use Rattle.cdf_edits.specs.Commands.Puts.{PutsLeaves, new_ranges}
-use Rattle.cdf_edits.specs.Frame.Changed.{Touch, touch, Changed}
-use Rattle.cdf_edits.specs.Index.Blocks.{ranges_of, first_written}
+use Rattle.cdf_edits.specs.Frame.Changed.{Touch, Outside}
+use Rattle.cdf_edits.specs.Index.Blocks.{Range, ranges_of, first_written}
 use Rattle.cdf_edits.specs.Index.Grown.{with_ranges, indexes_with, outline}
 use Rattle.cdf_edits.specs.Index.Written.{is_taken_at, NodesFollow, top_chain}
-use Rattle.cdf_edits.specs.Space.Acts.{Act, Took, Gave, taken}
+use Rattle.cdf_edits.specs.Space.Acts.{Act, taken}
 use Rattle.cdf_edits.proofs.Edits.LeafPieces.{IsOneOf, record_place}
+use Rattle.cdf_edits.proofs.Edits.OnlyTaken.{OnlyTakes}
 use Rattle.cdf_edits.proofs.Edits.StandsAmong.{StandsAmong}
 use Rattle.cdf_format.specs.Bytes.{byte}
 use Rattle.cdf_format.specs.Content.{variable_of}
 use Rattle.cdf_format.specs.Fields.{number, size_at}
 use Rattle.cdf_format.specs.Index.{Nodes, Leaf, leaves_of, nodes_of}
-use Rattle.cdf_format.specs.Records.{vdr_max_rec, vvr_place, vvr_bytes}
-use Rattle.cdf_format.specs.Shape.{VariableShape, Each, is_compressed}
+use Rattle.cdf_format.specs.Records.{vdr_max_rec, vvr_bytes}
+use Rattle.cdf_format.specs.Shape.{VariableShape, is_compressed}
 use Rattle.cdf_format.specs.Tiles.{In}
 use Rattle.cdf_format.specs.VariableFields.{record_bytes, sparse_at, max_rec_at}
 use Rattle.cdf_format.specs.WellFormed.{Good}
@@ -51,13 +52,6 @@ put_count first k leaf = min k (leaf.last + 1) - max first leaf.first
 abbrev pub was_put : ℕ → ℕ → Leaf → Bool
 was_put first k leaf = nat_lt 0 (put_count first k leaf)
 
--- their bytes in the blocks, of records of so many bytes
-abbrev pub put_from : ℕ → ℕ → Leaf → ℕ
-put_from first size leaf = vvr_place ((max first leaf.first - leaf.first) * size)
-
-abbrev pub put_touches : ℕ → ℕ → ℕ → List Leaf → List Touch
-put_touches first k size leaves = map (λ leaf. touch leaf.place (put_from first size leaf) (put_count first k leaf * size)) leaves
-
 -- record j in the block of a leaf
 abbrev pub RecordIs : List ℕ → ℕ → Leaf → ℕ → List ℕ → Type 0
 RecordIs now size l j bytes = take size (drop (record_place l size j) now) ≡ bytes
@@ -68,10 +62,6 @@ pub record BlockRecords (raw pad : List ℕ) (r first last size : ℕ) (records 
   pub written : (j : ℕ) → first ≤ j → j ≤ last → take size (drop ((j - first) * size) records) ≡ record_of raw pad r j
 
 -- ---- what was taken
-
-abbrev pub IsTaking : Act → Type 0
-IsTaking (Took place need) = Unit {0}
-IsTaking (Gave place size) = ⊥
 
 abbrev pub taken_places : List Act → List ℕ
 taken_places acts = map (λ take. take.0) (taken acts)
@@ -90,46 +80,53 @@ PutsBefore b own own' leaves acts = (last : List ℕ) → record_bytes last own.
 abbrev pub TopGrows : Nodes → Nodes → Type 0
 TopGrows before after = (top_chain after ≡ top_chain before) ⊎ (length (top_chain before) < length (top_chain after))
 
--- The nodes: those that were there stay and keep their size, each other was taken.
-pub record NodesSoFar (b now : List ℕ) (own own' : VariableShape) (acts : List Act) : Type 0 where
+-- The nodes, where the records of these ranges got a block: those that were there stay and keep their size, each other was taken.
+pub record NodesSoFar (b now : List ℕ) (own own' : VariableShape) (ranges : List Range) (acts : List Act) : Type 0 where
   pub stay : (m : ℕ) → In m (nodes_of own.index) → In m (nodes_of own'.index)
   pub apart : (m : ℕ) → In m (nodes_of own.index) → is_taken_at acts m ≡ false
   pub come : (m : ℕ) → In m (nodes_of own'.index) → In m (nodes_of own.index) ⊎ (is_taken_at acts m ≡ true)
   pub sizes : (m : ℕ) → In m (nodes_of own.index) → size_at now m ≡ size_at b m
-  pub outlined : outline (taken_places acts) own'.index ≡ outline [] (with_ranges own.index (new_ranges (ranges_of own.index) (ranges_of own'.index)))
-  pub follow : NodesFollow b now (indexes_with own.index (new_ranges (ranges_of own.index) (ranges_of own'.index))) (nodes_of own.index) (nodes_of own'.index) acts
+  pub outlined : outline (taken_places acts) own'.index ≡ outline [] (with_ranges own.index ranges)
+  pub follow : NodesFollow b now (indexes_with own.index ranges) (nodes_of own.index) (nodes_of own'.index) acts
 
 pub record IndexSoFar (b now : List ℕ) (own own' : VariableShape) (first k : ℕ) (acts : List Act) : Type 0 where
   pub puts : PutsBefore b own own' (filter (was_put first k) (leaves_of own'.index)) acts
   pub tail : TailGoesOn b now own.vdr own.index own'.index
   pub top : TopGrows own.index own'.index
-  pub nodes : NodesSoFar b now own own' acts
+  pub nodes : NodesSoFar b now own own' (new_ranges (ranges_of own.index) (ranges_of own'.index)) acts
 
 -- ---- the blocks
 
--- A block that was there: records that were put hold what they are to, and each other byte stays.
+-- a place is beside each record from a first on up to k in the block of a leaf
+abbrev pub Beside : ℕ → ℕ → ℕ → Leaf → ℕ → Type 0
+Beside first k size l place = (j : ℕ) → first ≤ j → j < k → l.first ≤ j → j ≤ l.last → (place < record_place l size j) ⊎ (record_place l size j + size ≤ place)
+
+-- A block that was there: records that were put hold what they are to, and each byte beside them stays.
 pub record OldBlock (b now : List ℕ) (raw pad : List ℕ) (r first k size : ℕ) (l : Leaf) : Type 0 where
   pub written : (j : ℕ) → first ≤ j → j < k → l.first ≤ j → j ≤ l.last → RecordIs now size l j (record_of raw pad r j)
-  pub kept : (i : ℕ) → i < size_at b l.place → (i < put_from first size l) ⊎ (put_from first size l + put_count first k l * size ≤ i) → byte now (l.place + i) ≡ byte b (l.place + i)
+  pub kept : (place : ℕ) → l.place ≤ place → place < l.place + size_at b l.place → Beside first k size l place → byte now place ≡ byte b place
 
--- A new block: all its records hold what they are to, and behind them there are bytes 0. Where r is before `most`, one past MaxRec, none of them is past r.
+-- A new block: all its records hold what they are to, and behind them there are bytes 0. None of them is past k, unless r is before k; and where r is before `most`, one past MaxRec, none is past r.
 pub record NewBlock (now : List ℕ) (raw pad : List ℕ) (r first most k size : ℕ) (acts : List Act) (l : Leaf) : Type 0 where
   pub from : first ≤ l.first
-  pub upto : l.first < k
-  pub ends : k < l.last + 1 → r < k
-  pub alone : r < most → l.last ≤ r
-  pub plain : l.packed ≡ false
+  pub ends : min (l.last + 1) (r + 1) ≤ k
+  pub alone : min l.last most ≤ r
   pub was_taken : is_taken_at acts l.place ≡ true
   pub written : (j : ℕ) → l.first ≤ j → j ≤ l.last → RecordIs now size l j (record_of raw pad r j)
   pub spare : (i : ℕ) → vvr_bytes ((l.last + 1 - l.first) * size) ≤ i → i < size_at now l.place → byte now (l.place + i) ≡ 0
 
-pub record BlocksSoFar (b now : List ℕ) (own own' : VariableShape) (raw pad : List ℕ) (r first k : ℕ) (acts : List Act) : Type 0 where
-  pub stay : (l : Leaf) → IsOneOf (leaves_of own.index) l → IsOneOf (leaves_of own'.index) l
-  pub apart : (l : Leaf) → IsOneOf (leaves_of own.index) l → is_taken_at acts l.place ≡ false
-  pub old : (l : Leaf) → IsOneOf (leaves_of own.index) l → OldBlock b now raw pad r first k (record_bytes b own.vdr) l
-  pub new : (l : Leaf) → IsOneOf (leaves_of own'.index) l → IsOneOf (leaves_of own.index) l ⊎ NewBlock now raw pad r first (extent (max_rec_at b own.vdr)) k (record_bytes b own.vdr) acts l
-  pub has : (j : ℕ) → first ≤ j → j < k → (l : Leaf) × (IsOneOf (leaves_of own'.index) l × ((l.first ≤ j) × (j ≤ l.last)))
-  pub quiet : acts ≡ [] → Changed b now (put_touches first k (record_bytes b own.vdr) (leaves_of own.index))
+-- From one image to another, by acts, the records from a first on up to k are put, which makes of these leaves those. Where nothing is taken, no byte beside them changes, but for those of some fields.
+pub record LeavesGoOn (b now : List ℕ) (leaves leaves' : List Leaf) (raw pad : List ℕ) (r first most k size : ℕ) (acts : List Act) (fields : List Touch) : Type 0 where
+  pub longer : length b ≤ length now
+  pub stay : (l : Leaf) → IsOneOf leaves l → IsOneOf leaves' l
+  pub apart : (l : Leaf) → IsOneOf leaves l → is_taken_at acts l.place ≡ false
+  pub old : (l : Leaf) → IsOneOf leaves l → OldBlock b now raw pad r first k size l
+  pub new : (l : Leaf) → IsOneOf leaves' l → IsOneOf leaves l ⊎ NewBlock now raw pad r first most k size acts l
+  pub has : (j : ℕ) → first ≤ j → j < k → (l : Leaf) × (IsOneOf leaves' l × ((l.first ≤ j) × (j ≤ l.last)))
+  pub quiet : ((m : ℕ) → is_taken_at acts m ≡ false) → (place : ℕ) → place < length b → Outside fields place → ((l : Leaf) → IsOneOf leaves' l → Beside first k size l place) → byte now place ≡ byte b place
+
+abbrev pub BlocksSoFar : List ℕ → List ℕ → VariableShape → VariableShape → List ℕ → List ℕ → ℕ → ℕ → ℕ → List Act → List Touch → Type 0
+BlocksSoFar b now own own' raw pad r first k acts fields = LeavesGoOn b now (leaves_of own.index) (leaves_of own'.index) raw pad r first (extent (max_rec_at b own.vdr)) k (record_bytes b own.vdr) acts fields
 
 -- ---- together
 
@@ -138,12 +135,12 @@ pub record SoFar (b now : List ℕ) (kind : Kind) (before : List VariableShape) 
   pub upto : k ≤ r + 1
   pub goes : GoesOn b now kind before own own' after acts
   pub covers : Covering (variable_of b own) own.index own'.index r k (taken_bytes acts)
-  pub takes : Each IsTaking acts
+  pub takes : OnlyTakes acts
   pub short : length now ≤ image_limit
   pub max_rec_is : number now own.vdr vdr_max_rec ≡ number b own.vdr vdr_max_rec
   pub r_max_rec_is : r_max_rec now ≡ r_max_rec b
   pub index : IndexSoFar b now own own' (first_written (variable_of b own) r) k acts
-  pub blocks : BlocksSoFar b now own own' raw pad r (first_written (variable_of b own) r) k acts
+  pub blocks : BlocksSoFar b now own own' raw pad r (first_written (variable_of b own) r) k acts []
 
 -- ---- at the end
 

@@ -5,8 +5,7 @@ use Rattle.cdf_model.specs.declared.command.Command.TheVariants as commands
 use Rattle.cdf_model.specs.declared.answer.Reply.TheVariants as replies
 use Rattle.cdf_puts.specs.Going.{found_in}
 use Rattle.cdf_puts.specs.SoFar.{MaxRecDone}
-use Rattle.cdf_puts.proofs.DoneBytes.{is_put, put_rec_done, put_val_done}
-use Rattle.cdf_puts.proofs.LastImage.{last_image, put_content}
+use Rattle.cdf_puts.proofs.DoneBytes.{put_content, put_rec_done, put_val_done}
 use Rattle.cdf_vars.proofs.VariableFound.{knows_now, same_name_set}
 use Rattle.cdf_vars.proofs.VariableNames.{variables_are}
 use Rattle.cdf_vars.proofs.PutParts.{pad_is_long, whole_record}
@@ -185,6 +184,6 @@ module _ {b : List ℕ} {t : Target} {bytes : List ℕ} {put : NewRecord} {limit
       known_now knows =
           let stands : slice_get (shapes_of (shape b) kind) (length is.before) ≡ Some is.own = ap (λ (vs : List VariableShape). slice_get vs (length is.before)) is.among.was ∙ got-middle is.before is.own is.after in
           let was = ap (λ (vs : List Variable). slice_get vs (length is.before)) (variables_are b (shape b) (good_is_sound b k.good).has_shape kind) ∙ got-map (variable_of b) (shapes_of (shape b) kind) (length is.before) is.own stands in
-          let made = put_content k.good is.among (last_image done.so max_rec_done).goes (is_put done.so max_rec_done) bytes raw_is pad_is in
+          let made = put_content done.so max_rec_done bytes raw_is pad_is in
           knows_now knows (λ (k : Kind). names_set (content b) kind (length is.before) (with_record v put.rec bytes) v was refl k ∙ ap (λ (d : DataSet). map (λ (w : Variable). w.name) (variables_of d k)) (sym made))
           (λ (k : Kind). now_places k ∙ ap (λ (s : Shape). vdrs (shapes_of s k)) (sym last_shape))

@@ -1,17 +1,15 @@
 use Rattle.cdf_puts.proofs.Common.{Frame, Good, HasIndex, In, IsBlockBody, IsBody, IsPut, List, ap, edit_done, edit_failed, edit_more, edit_without_memory, edits_by_read, keeps_by_read, read_once, records_put, refl, shape, subst, sym, variables, vdrs, ℕ, ◌+◌, ◌-◌}
-use Rattle.cdf_puts.proofs.PutSpot.{body_is, AddsOn, added_on, few_most, has_index, room_after, some_most, vdr_in}
+use Rattle.cdf_puts.proofs.PutSpot.{body_is, AddsOn, added_on, room_after, searched, some_few, vdr_in}
 use Rattle.cdf_puts.proofs.putting.add_block.Goals as goal
 
 pub last_of_new-requires-clause-index : goal.last_of_new-requires-clause-index
-last_of_new-requires-clause-index g c =
-    let s = c.requires.some in
-    subst (HasIndex (g.A.Area.image c.args.area.now)) (sym c.requires.head) (has_index s.putting s.is)
+last_of_new-requires-clause-index g c = subst (HasIndex (g.A.Area.image c.args.area.now)) (sym c.requires.head) (searched c.requires.some.putting c.requires.some.is).0
 
 pub last_of_new-requires-clause-some : goal.last_of_new-requires-clause-some
-last_of_new-requires-clause-some g c = let s = c.requires.some in some_most s.putting s.is c.requires.more
+last_of_new-requires-clause-some g c = let s = c.requires.some in (some_few s.putting s.is c.requires.more).0
 
 pub last_of_new-requires-clause-few : goal.last_of_new-requires-clause-few
-last_of_new-requires-clause-few g c = let s = c.requires.some in few_most s.putting s.is c.requires.more
+last_of_new-requires-clause-few g c = let s = c.requires.some in (some_few s.putting s.is c.requires.more).1
 
 pub returns-in_err-last-clause-area : goal.returns-in_err-last-clause-area
 returns-in_err-last-clause-area g c = edit_failed (record { frame = refl; faults = refl }) (edits_by_read c.in_err-last.ensures.area) c.from_residual.ensures.1

@@ -1,30 +1,22 @@
 use Rattle.cdf_puts.proofs.Common.{Frame, HasIndex, ap, arith, edit_done, edit_failed, edit_more, edits_by_read, keeps_by_read, read_more, read_once, refl, sym, transport}
 use Rattle.cdf_leaves.proofs.LastCall.{edit_last}
-use Rattle.cdf_puts.proofs.PutSpot.{has_index, lies, on_after}
+use Rattle.cdf_puts.proofs.PutSpot.{lies, on_after, searched}
 use Rattle.cdf_puts.proofs.putting.put_next.Goals as goal
 
 pub overflow_add-put : goal.overflow_add-put
-overflow_add-put g c =
-    let s = c.requires.some in
-    let l = lies s.putting s.is in
-    let u = s.is.so.short in
-    omega (arith, l, u)
+overflow_add-put g c = omega (arith, lies c.requires.some.putting c.requires.some.is, c.requires.some.is.so.short)
 
 pub read_unsigned8-requires : goal.read_unsigned8-requires
-read_unsigned8-requires g c =
-    let s = c.requires.some in
-    let l = lies s.putting s.is in
-    omega (arith, l)
+read_unsigned8-requires g c = omega (arith, lies c.requires.some.putting c.requires.some.is)
 
 pub returns-in_err-head-clause-area : goal.returns-in_err-head-clause-area
 returns-in_err-head-clause-area g c = edit_failed (record { frame = refl; faults = refl }) (edits_by_read c.in_err-head.ensures.area) c.from_residual.ensures.1
 
 pub find_leaf-requires-clause-index : goal.find_leaf-requires-clause-index
 find_leaf-requires-clause-index g c =
-    let s = c.requires.some in
-    let same = c.read_unsigned8.ensures.area.image in
-    let head = c.in_ok-head.ensures.value in
-    transport (λ i. HasIndex (sym same i) (sym head i)) (has_index s.putting s.is)
+    let same = sym c.read_unsigned8.ensures.area.image in
+    let head = sym c.in_ok-head.ensures.value in
+    transport (λ i. HasIndex (same i) (head i)) (searched c.requires.some.putting c.requires.some.is).0
 
 pub returns-in_err-found-clause-area : goal.returns-in_err-found-clause-area
 returns-in_err-found-clause-area g c = edit_failed (keeps_by_read (read_once c.in_ok-head.ensures.area)) (edits_by_read c.in_err-found.ensures.area) c.from_residual-in_err-found.ensures.1

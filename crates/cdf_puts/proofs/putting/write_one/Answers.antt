@@ -1,6 +1,6 @@
 use Rattle.cdf_puts.proofs.Common.{arith, length, ◌≡◌}
 use Rattle.std.proofs.lemmas.Result.{on_ok_weaker}
-use Rattle.cdf_puts.proofs.PutSpot.{held_from, held_within, holds, written_on}
+use Rattle.cdf_puts.proofs.PutSpot.{held, held_within, holds, written_on}
 use Rattle.cdf_puts.proofs.putting.write_one.Goals as goal
 
 pub write_recs-requires-clause-block : goal.write_recs-requires-clause-block
@@ -10,9 +10,7 @@ write_recs-requires-clause-block g c =
     holds s.putting s.is c.requires.more c.args.leaf.now c.requires.found c.len.result n_is
 
 pub write_recs-requires-clause-from : goal.write_recs-requires-clause-from
-write_recs-requires-clause-from g c =
-    let s = c.requires.some in
-    held_from s.putting s.is c.requires.more c.args.leaf.now c.requires.found
+write_recs-requires-clause-from g c = (held c.requires.some.putting c.requires.some.is c.requires.more c.args.leaf.now c.requires.found).1
 
 pub write_recs-requires-clause-within : goal.write_recs-requires-clause-within
 write_recs-requires-clause-within g c =
