@@ -234,8 +234,6 @@ module _ {b now last : List ℕ} {kind : Kind} {before : List VariableShape} {ow
       keep_all b last may acts (keep_file b last may acts (sound so.start.good so.start.among) (keeps_stood b last 8 (put.stay 8 (inl refl)) (Only [])) put.gdr) (keep_attributes b last may acts 0 (shape b).attributes (λ m i. put.stay m (inr (inl i)))) both.0 both.1
       (keep_places b last may acts Unused (unused_records b (shape b)) unused_keeps)
 
-  -- ---- in place
-
   -- ---- pads
 
   module _ (pad_stored : extent (max_rec_at b own.vdr) ≤ r → pad ≡ turned (type_of_variable b own.vdr) (is_little b) (pad_record v)) where
