@@ -1,9 +1,9 @@
 -- Records that get a block one after the other: by their ranges, in the room of a put, which is enough for them, and in an index.
-use Rattle.cdf_puts.proofs.Common.{least_below, Ahead, Ascending, Counted, Covering, Entries, InOrder, Leaf, List, Nodes, None, Option, Range, Some, Variable, [], ap, ap₂, arith, block, block_bytes, block_count, blocks_room, cases_eq, cases_lt, count_upto, cover, covered, covers, covers_within, either, entries_below, entries_in, entry_count, entry_firsts, extent, false, filter, find, find_covering, first_written, firsts_of, fold, inl, inr, is_sparse, le-ltb, leaf, leaves_more, leaves_of, length, length-append, lower, lt-ltb, ltb, map, max, min, nat_tests, new_last, new_range, new_room, next_first, no_entry, no_node, node, node_bytes, option_map, order_with_leaf, put_room, quotient_up, range, ranges_after_put, ranges_new, ranges_of, record_length, record_number_limit, refl, shared, subst, suc, sum_by-cons, sym, times_le, true, uncovered, unwrap_or, vxr_bytes, widest, with_leaf, with_range, zero, ℕ, ◌*◌, ◌+◌, ◌-◌, ◌<◌, ◌∙◌, ◌∷◌, ◌≡◌, ◌≤◌, ◌⊎◌, by_leaf}
+use Rattle.cdf_puts.proofs.Common.{least_below, Ahead, Ascending, Counted, Covering, Entries, InOrder, Leaf, List, Nodes, None, Option, Range, Some, Variable, [], ap, ap₂, arith, block, block_bytes, block_count, blocks_room, cases_eq, cases_lt, count_upto, cover, covered, covers, either, entries_below, entries_in, entry_count, entry_firsts, extent, false, filter, find, find_covering, first_written, firsts_of, fold, inl, inr, is_sparse, le-ltb, leaf, leaves_more, leaves_of, length, length-append, lower, lt-ltb, ltb, map, max, min, nat_tests, new_last, new_range, new_room, next_first, no_entry, no_node, node, node_bytes, option_map, order_with_leaf, put_room, quotient_up, range, ranges_after_put, ranges_new, ranges_of, record_length, record_number_limit, refl, shared, subst, suc, sum_by-cons, sym, times_le, true, uncovered, unwrap_or, vxr_bytes, widest, with_leaf, with_range, zero, ℕ, ◌*◌, ◌+◌, ◌-◌, ◌<◌, ◌∙◌, ◌∷◌, ◌≡◌, ◌≤◌, ◌⊎◌, by_leaf, transport}
 use Rattle.cdf_index.proofs.LeavesAscend.{leaves_ascend}
-use Rattle.cdf_edits.proofs.Edits.LeafPieces.{found_in}
+use Rattle.cdf_puts.proofs.PutBytes.{found_covering}
 use Rattle.cdf_puts.proofs.LeafCounts.{next_firsts_with_leaf, wide_grows}
-use Rattle.cdf_index.specs.Next.{least_first_past, number_within}
+use Rattle.cdf_index.specs.Next.{least_first_past}
 
 abbrev pub of_leaves : List Leaf → List Range
 of_leaves leaves = map (λ (leaf : Leaf). range leaf.first leaf.last) leaves
@@ -52,15 +52,9 @@ ends v fs k le = let past = next_past k fs le in let one = one_at_least v in gri
 
 module _ (v : Variable) (firsts : List ℕ) (n : ℕ) where
   -- a record that has a block, or gets one, and the end
-  found_step : (m k : ℕ) (rs : List Range) (r : Range) → k ≤ n → 1 ≤ m → find (covers k) rs ≡ Some r → cover m v firsts k n rs ≡ cover (m - 1) v firsts (r.last + 1) n rs
+  cover_step : (m k : ℕ) (rs : List Range) → k ≤ n → cover (suc m) v firsts k n rs ≡ elim (find (covers k) rs) [ Some r ↦ cover m v firsts (r.last + 1) n rs | None ↦ cover m v firsts ((new_range v firsts k).last + 1) n (with_range (new_range v firsts k) rs) ]
   unfolding cover
-  found_step zero k rs r le some e = absurd (omega arith)
-  found_step (suc m) k rs r le some e = let less : suc m - 1 ≡ m = omega arith in rw (le-ltb n k le, e, less) refl
-
-  vacant_step : (m k : ℕ) (rs : List Range) → k ≤ n → 1 ≤ m → find (covers k) rs ≡ None → cover m v firsts k n rs ≡ cover (m - 1) v firsts ((new_range v firsts k).last + 1) n (with_range (new_range v firsts k) rs)
-  unfolding cover
-  vacant_step zero k rs le some e = absurd (omega arith)
-  vacant_step (suc m) k rs le some e = let less : suc m - 1 ≡ m = omega arith in rw (le-ltb n k le, e, less) refl
+  cover_step m k rs le = rw (le-ltb n k le) refl
 
   end_step : (m k : ℕ) (rs : List Range) → n < k → cover m v firsts k n rs ≡ rs
   unfolding cover
@@ -69,22 +63,23 @@ module _ (v : Variable) (firsts : List ℕ) (n : ℕ) where
 
 module _ {v : Variable} {firsts : List ℕ} {n k : ℕ} {rs after : List Range} (a : Ahead v firsts n k rs after) where
   -- record k is the next one, and the range of its block ends with a last one
-  ahead_step : {rs' : List Range} (k' last : ℕ) → k ≤ n → k ≤ last → k' ≤ last + 1 → ((m : ℕ) → 1 ≤ m → cover m v firsts k n rs ≡ cover (m - 1) v firsts (last + 1) n rs') → ((j : ℕ) → k' ≤ j → j ≤ last → j ≤ n → find (covers j) rs' ≡ None → ⊥) → a.next ≡ k → Ahead v firsts n k' rs' after
+  ahead_step : {rs' : List Range} (k' last : ℕ) → k ≤ n → k ≤ last → k' ≤ last + 1 → ((m : ℕ) → cover (suc m) v firsts k n rs ≡ cover m v firsts (last + 1) n rs') → ((j : ℕ) → k' ≤ j → j ≤ last → j ≤ n → find (covers j) rs' ≡ None → ⊥) → a.next ≡ k → Ahead v firsts n k' rs' after
   ahead_step k' last le upto low step again e =
       let enough = a.enough in
-      let leads = sym (step a.steps (omega arith)) ∙ subst (λ (x : ℕ). cover a.steps v firsts x n rs ≡ after) e a.leads in
+      let some : a.steps ≡ suc (a.steps - 1) = omega arith in
+      let leads = sym (step (a.steps - 1)) ∙ transport (λ i. cover (some i) v firsts (e i) n rs ≡ after) a.leads in
       record { next = last + 1; steps = a.steps - 1; upto = low; enough = omega arith; between = λ j from high. again j from (omega arith); leads = leads }
 
   ahead_has : (r : Range) → k ≤ n → k ≤ r.last → find (covers k) rs ≡ Some r → ((j : ℕ) → k < j → j ≤ r.last → find (covers j) rs ≡ None → ⊥) → Ahead v firsts n (k + 1) rs after
   ahead_has r le upto found again = elim (cases_eq a.next k) [
-    | inl e ↦ ahead_step (k + 1) r.last le upto (omega arith) (λ m some. found_step v firsts n m k rs r le some found) (λ j low high small. again j (omega arith) high) e
+    | inl e ↦ ahead_step (k + 1) r.last le upto (omega arith) (λ m. rw found at (cover_step v firsts n m k rs le)) (λ j low high small. again j (omega arith) high) e
     | inr ne ↦ record { next = a.next; steps = a.steps; upto = omega (arith, a.upto); enough = a.enough; between = λ j low. a.between j (omega arith); leads = a.leads }
   ]
 
   -- the next one is the first behind the new block, or that behind the last
   ahead_new : k ≤ n → k ≤ (new_range v firsts k).last → find (covers k) rs ≡ None → Ahead v firsts n (min ((new_range v firsts k).last + 1) (n + 1)) (with_range (new_range v firsts k) rs) after
   ahead_new le upto none = elim (cases_eq a.next k) [
-    | inl e ↦ ahead_step (min ((new_range v firsts k).last + 1) (n + 1)) (new_range v firsts k).last le upto (omega arith) (λ m some. vacant_step v firsts n m k rs le some none) (λ j low high small. absurd (omega arith)) e
+    | inl e ↦ ahead_step (min ((new_range v firsts k).last + 1) (n + 1)) (new_range v firsts k).last le upto (omega arith) (λ m. rw none at (cover_step v firsts n m k rs le)) (λ j low high small. absurd (omega arith)) e
     | inr ne ↦ absurd (a.between k (omega arith) (omega (arith, a.upto)) le none)
   ]
 
@@ -122,9 +117,6 @@ one_passed : (k i : ℕ) (fs : List ℕ) → k < i → fold min i (filter (ltb k
 one_passed k i [] lt less = absurd (omega arith)
 one_passed k i (f ∷ fs) lt less = grind (arith, nat_tests, one_passed k (min i f) fs, one_passed k i fs lt, least_past k (min i f) fs, least_past k i fs lt, least_below (min i f) (filter (ltb k) fs), count_more k (fold min (min i f) (filter (ltb k) fs)) fs)
 
-pub next_passed : (k : ℕ) (fs : List ℕ) → k ≤ record_number_limit → next_first k fs ≤ record_number_limit → suc (count_upto k fs) ≤ count_upto (next_first k fs) fs
-next_passed k fs le small = one_passed k (record_number_limit + 1) fs (omega arith) (omega arith)
-
 -- ---- as many Firsts as entries
 
 mutual
@@ -143,8 +135,7 @@ mutual
 
 -- a block more: it is full, or one more First is passed
 pub more_blocks : (j c m q q' most : ℕ) → j * most ≤ c + q * most → (m ≡ most) ⊎ (suc q ≤ q') → q ≤ q' → suc j * most ≤ (c + m) + q' * most
-more_blocks j c m q q' most h (inl e) le = let r = times_le q q' most le in omega arith
-more_blocks j c m q q' most h (inr lt) le = let r = times_le (suc q) q' most lt in omega arith
+more_blocks j c m q q' most h e le = grind (arith, e, times_le q q' most le, times_le (suc q) q' most)
 
 -- c records are in j blocks, each of them full but for q; then one block more is no more than the room counts for u + 1 records
 many_blocks : (j c q e u most : ℕ) → 1 ≤ most → j * most ≤ c + q * most → c ≤ u → q ≤ e → suc j ≤ quotient_up (suc u) most + e + 1
@@ -194,20 +185,18 @@ module _ {v : Variable} {index index' : Nodes} {n k taken : ℕ} (c : Covering v
   -- a record that has a block
   pub covering_has : (l : Leaf) → find (λ (leaf : Leaf). covers k (range leaf.first leaf.last)) (leaves_of index') ≡ Some l → Covering v index index' n (k + 1) taken
   covering_has l e =
-      let is = found_in (λ (leaf : Leaf). covers k (range leaf.first leaf.last)) (leaves_of index') l e in
-      let has = covers_within k l is.1 in
-      let blocks = so_far.blocks_are in
+      let is = found_covering k (leaves_of index') l e in
       let passed = times_le (count_upto k fs) (count_upto (k + 1) fs) (block_count v) (count_more k (k + 1) fs (omega arith)) in
       let rng = λ (leaf : Leaf). range leaf.first leaf.last in
       record {
         ordered = c.ordered;
         from = omega arith;
-        ahead = ahead_has c.ahead (rng l) le has.1 (find_range k (leaves_of index') ∙ ap (option_map rng) e) (λ j low high none.
-            let there : find (covers j) (ranges_of index') ≡ Some (rng l) = find_range j (leaves_of index') ∙ ap (option_map rng) (find_covering j 0 (suc record_number_limit) (leaves_of index') ascends l is.0 (omega arith) high) in cc);
+        ahead = ahead_has c.ahead (rng l) le is.1.1 (find_range k (leaves_of index') ∙ ap (option_map rng) e) (λ j low high none.
+            let there : find (covers j) (ranges_of index') ≡ Some (rng l) = find_range j (leaves_of index') ∙ ap (option_map rng) (find_covering j 0 (suc record_number_limit) (leaves_of index') ascends l is.0 (omega (arith, is.1.0)) high) in cc);
         nexts = λ m lm. c.nexts m (omega arith);
         as_wide = c.as_wide;
         fits = c.fits;
-        counted = λ more. record { records = so_far.records; blocks = so_far.blocks; records_are = so_far.records_are; blocks_are = omega arith; bytes_are = so_far.bytes_are };
+        counted = λ more. record { records = so_far.records; blocks = so_far.blocks; records_are = so_far.records_are; blocks_are = omega (arith, so_far.blocks_are); bytes_are = so_far.bytes_are };
       }
 
   -- one that has none gets a block that ends here
@@ -223,11 +212,7 @@ module _ {v : Variable} {index index' : Nodes} {n k taken : ℕ} (c : Covering v
 
     -- of those that had no block, one at least has none yet
     one_left : so_far.records + 1 ≤ uncovered v index n
-    one_left =
-        let fewer = covered_less (first_written v n) n k 0 (suc record_number_limit) (leaves_of index') ascends c.from (omega arith) le none in
-        let are = so_far.records_are in
-        let all : uncovered v index n ≡ (n + 1 - first_written v n) - covered (first_written v n) n (ranges_of index) = rw rule refl in
-        omega arith
+    one_left = grind (arith, nat_tests, rule, covered_less (first_written v n) n k 0 (suc record_number_limit) (leaves_of index') ascends c.from (omega arith) le none, so_far.records_are)
 
     in_room : (so_far.records + (last + 1 - k)) * record_length v + suc so_far.blocks * (28 + vxr_bytes (widest index)) ≤ put_room v index n
     in_room = omega (arith, room_enough v index so_far.records (last + 1 - k) so_far.blocks (count_upto k fs) (uncovered v index n) one_left covering_ends.2 so_far.blocks_are (omega (arith, count_most k fs, firsts_count index)))
@@ -256,7 +241,7 @@ module _ {v : Variable} {index index' : Nodes} {n k taken : ℕ} (c : Covering v
       counted' more =
           let past = next_past k (firsts_of index') (omega arith) in
           -- the new block is full, or one more First is passed
-          let full : (last + 1 - k ≡ block_count v) ⊎ (suc (count_upto k fs) ≤ count_upto (last + 1) fs) = grind (arith, nat_tests, next_passed k fs, c.nexts k) in
+          let full : (last + 1 - k ≡ block_count v) ⊎ (suc (count_upto k fs) ≤ count_upto (last + 1) fs) = grind (arith, nat_tests, one_passed k (record_number_limit + 1) fs, c.nexts k) in
           record {
             records = so_far.records + (last + 1 - k);
             blocks = suc so_far.blocks;

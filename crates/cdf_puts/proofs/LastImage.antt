@@ -1,5 +1,5 @@
 -- The last step of a put: MaxRec is raised, or nothing is done.
-use Rattle.cdf_puts.proofs.Common.{Act, GoesOn, Kind, List, MaxRecDone, RMaxRecFollows, SoFar, VariableShape, WritesRecords, [], ap, append-nil, arith, content_is, extent, greater, inl, inr, last_number, max_rec_at, negsuc, past, pos, r_max_rec, r_max_rec_of_z, signed, subst, suc, sym, variable_of, with_sign, ℕ, ℤ, ◌+◌, ◌<◌, ◌∙◌, ◌≡◌}
+use Rattle.cdf_puts.proofs.Common.{Act, GoesOn, Kind, List, MaxRecDone, RMaxRecFollows, SoFar, VariableShape, WritesRecords, [], ap, append-nil, arith, extent, greater, inl, inr, last_number, max_rec_at, negsuc, pos, r_max_rec, r_max_rec_of_z, signed, subst, suc, sym, variable_of, with_sign, ℕ, ℤ, ◌+◌, ◌<◌, ◌∙◌, ◌≡◌}
 use Rattle.cdf_puts.proofs.RaisedGoes.{greatest_follows, raise_writes}
 use Rattle.cdf_puts.proofs.GoesThen.{goes_then, goes_written, writes_nothing}
 use Rattle.cdf_edits.proofs.Edits.RecordsPut.{extent_last, greater_is_first, greater_is_last}

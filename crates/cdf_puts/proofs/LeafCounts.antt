@@ -16,20 +16,14 @@ mutual
   unfolding weigh weigh_below HasNodes Names nodes_of lower_nodes
 
   rooms_in : (b records : List ℕ) (m r levels : ℕ) (nodes : Nodes) → HasNodes b records levels nodes → (In m (nodes_of nodes) → 1 ≤ weigh (with_room m (room_at b m)) nodes) × (1 ≤ weigh (with_room m r) nodes → room_at b m ≡ r)
-  rooms_in b records m r levels no_node h = (λ i. absurd i, λ l. absurd (omega arith))
+  rooms_in b records m r levels no_node h = grind arith
   rooms_in b records m r zero (node place room es more) h = absurd h
-  rooms_in b records m r (suc levels) (node place room es more) h =
-      let x = rooms_below b records m r levels es h.1 in
-      let y = rooms_in b records m r (suc levels) more h.2 in
-      (λ i. grind (arith, nat_tests, i, In-append m (lower_nodes es) (nodes_of more), h.0.room_is, x.0, y.0), λ l. grind (arith, nat_tests, l, h.0.room_is, x.1, y.1))
+  rooms_in b records m r (suc levels) (node place room es more) h = grind (arith, nat_tests, In-append m (lower_nodes es) (nodes_of more), h.0.room_is, rooms_below b records m r levels es h.1, rooms_in b records m r (suc levels) more h.2)
 
   rooms_below : (b records : List ℕ) (m r levels : ℕ) (es : Entries) → Names b records levels es → (In m (lower_nodes es) → 1 ≤ weigh_below (with_room m (room_at b m)) es) × (1 ≤ weigh_below (with_room m r) es → room_at b m ≡ r)
-  rooms_below b records m r levels no_entry h = (λ i. absurd i, λ l. absurd (omega arith))
+  rooms_below b records m r levels no_entry h = grind arith
   rooms_below b records m r levels (block first last place packed es) h = rooms_below b records m r levels es h.2
-  rooms_below b records m r levels (lower first last nodes es) h =
-      let x = rooms_in b records m r levels nodes h.1 in
-      let y = rooms_below b records m r levels es h.2 in
-      (λ i. grind (arith, i, In-append m (nodes_of nodes) (lower_nodes es), x.0, y.0), λ l. grind (arith, l, x.1, y.1))
+  rooms_below b records m r levels (lower first last nodes es) h = grind (arith, In-append m (nodes_of nodes) (lower_nodes es), rooms_in b records m r levels nodes h.1, rooms_below b records m r levels es h.2)
 
 -- the room that it says in each of two images
 pub room_stays : (b now records records' : List ℕ) (levels levels' : ℕ) (new : Leaf) (at m : ℕ) (index : Nodes) → HasNodes b records levels index → HasNodes now records' levels' (with_leaf new at index) → In m (nodes_of index) → room_at now m ≡ room_at b m
@@ -71,9 +65,6 @@ leaf_was_there new at low high index o l i = (one_new new l (leaves_of index)).0
 
 -- ---- how wide the nodes are
 
-past_few : (f : ℕ) (es : Entries) → entry_count (past f es) ≤ entry_count es
-past_few f es = omega (arith, count_both (front f es) (past f es), ap entry_count (front_past f es))
-
 -- a new node has no more entries than the widest, in each image that is sound
 mutual
   unfolding new_room new_room_below widest widest_below HasNodes Names nodes_of lower_nodes
@@ -83,7 +74,7 @@ mutual
   new_room_widest b records zero f (node place room es more) h fit = absurd h
   new_room_widest b records (suc levels) f (node place room es more) h fit =
       let p = Each-split (NodeFits b) (lower_nodes es) (nodes_of more) fit.1 in
-      grind (arith, nat_tests, fit.0.1, h.0.used_is, h.0.room_is, past_few f es, new_below_widest b records levels f es h.1 p.0, new_room_widest b records (suc levels) f more h.2 p.1, seven_at_least more)
+      grind (arith, nat_tests, fit.0.1, h.0.used_is, h.0.room_is, count_both (front f es) (past f es), ap entry_count (front_past f es), new_below_widest b records levels f es h.1 p.0, new_room_widest b records (suc levels) f more h.2 p.1, seven_at_least more)
 
   new_below_widest : (b records : List ℕ) (levels f : ℕ) (es : Entries) → Names b records levels es → Each (NodeFits b) (lower_nodes es) → new_room_below f es ≤ widest_below es
   new_below_widest b records levels f no_entry h fit = omega arith

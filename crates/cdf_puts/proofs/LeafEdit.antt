@@ -1,20 +1,16 @@
 -- A leaf that is added, as one edit: its block is taken and written, then a node where one is needed, and then the entries are. It leads from one good image to another.
-use Rattle.cdf_puts.proofs.Common.{NodeTouch, Away, rules, Act, ActsFollow, Avoids-append, Away-append, BlocksGoOn, Counts, Each, Each-append, Each-in, Each-map, Edit, Entries, Exchanged, FileSame, GoesOn, Good, Hold, Hold-split, In, In-append, In-append_left, In-append_right, InOrder, IndexTests, IndexTouch, IsBlockBody, IsChain, IsOneOf, IsSound, IsVacant, Kept, Kind, Leaf, LeafAdded, List, Mark, Marked, Misses, NewIndex, NodeFits, NodeStands, NodeTaken, Nodes, Only, R, Same, Same-part, Shape, StandsAmong, Touch, VariableShape, Within-append, Z, [], all_unmarked-away, ap, apart, append-nil, arith, avoided, away-avoids, away-within, before_limit, behind_in, block, block_behind, both, byte, chain_stays, changed_edit, count_is, drop, drop-drop, drop-take, each, each_of, edit_then, eof, false, field, file_same, firsts_of, fits, flat_map, gdr_eof, gdr_field, gdr_in, gdr_type, gdr_typed, gdr_uir_head, good_is_sound, has, head_size, head_type, if◌then◌else◌, image_limit, in_nodes_with_leaf, index_marks, index_order, index_rules_with_leaf, index_unmarked, inl, inr, is_compressed, is_in, is_in-false, is_taken_at, keeps_away, keeps_fields, keeps_file, keeps_within, kept, kept_away, le_of, leaf_acts, leaves_of, length, linkable-in, linkable-type, long, lower, lower_nodes, max, max_rec_kept, nat_le, negsuc, new_room, no_entry, no_node, node, node_acts, node_behind, node_room, node_stays, nodes_of, nodes_stand, nodes_with_leaf, number, number_before, number_kept, of_le, own_rules, piece_kept, place_in, placed_grows, plain_leaf, pos, r_max_rec, r_max_rec_field, read_types, record_alike, record_bytes, record_number_limit, refl, room_at, same-then, shape, signed_limit, size_at, size_kept, some_bytes, space_fields, subst, suc, sym, take, take-take, the_one, tile, tile_lies, times, times-append, true, type_at, type_in, type_kept, type_of_body, typed, uir_type, unmarked-away, variable_types, variables_chain, vdr_alike, vdr_max_rec, vdr_of_variable, vvr_type, vxr_bytes, vxr_n_entries, vxr_n_used_entries, vxr_type, with_leaf, with_sign, word, zero, ℕ, ℤ, ◌&&◌, ◌*◌, ◌++◌, ◌+◌, ◌-◌, ◌<◌, ◌==◌, ◌∙◌, ◌∷◌, ◌≡◌, ◌≢◌, ◌≤◌, taken_places, is_in-true, get_or-drop, get_or-take, places_of, leaves_more}
+use Rattle.cdf_puts.proofs.Common.{same_node, acts_still_by, is_block, nodes_rows, used_rows, leaf_rows, index_rows, end_of, NodeTouch, Away, rules, Act, Avoids-append, Away-append, BlocksGoOn, Counts, Each, Each-append, Each-in, Each-map, Edit, Entries, Exchanged, FileSame, GoesOn, Good, Hold, Hold-split, In, In-append, In-append_left, In-append_right, InOrder, IndexTests, IndexTouch, IsBlockBody, IsChain, IsOneOf, IsSound, IsVacant, Kept, Kind, Leaf, LeafAdded, List, Mark, Marked, Misses, NewIndex, NodeFits, NodeStands, NodeTaken, Nodes, Only, R, Same, Same-part, Shape, StandsAmong, Touch, VariableShape, Within-append, Z, [], all_unmarked-away, ap, apart, append-nil, arith, avoided, away-avoids, away-within, before_limit, behind_in, block, block_behind, chain_stays, changed_edit, count_is, drop, drop-drop, drop-take, each, each_of, edit_then, eof, false, field, file_same, firsts_of, fits, flat_map, gdr_eof, gdr_field, gdr_in, gdr_type, gdr_typed, gdr_uir_head, good_is_sound, has, head_size, head_type, if◌then◌else◌, image_limit, in_nodes_with_leaf, index_marks, index_order, index_rules_with_leaf, index_unmarked, inl, inr, is_in, is_in-false, is_taken_at, keeps_away, keeps_fields, keeps_file, keeps_within, kept, kept_away, leaf_acts, leaves_of, length, linkable-in, linkable-type, long, lower, lower_nodes, max, max_rec_kept, negsuc, new_room, no_entry, no_node, node, node_acts, node_behind, node_room, node_stays, nodes_of, nodes_stand, nodes_with_leaf, number, number_before, of_le, own_rules, piece_kept, place_in, placed_grows, pos, r_max_rec, r_max_rec_field, read_types, record_alike, record_bytes, record_number_limit, refl, room_at, same-then, shape, size_at, size_kept, some_bytes, space_fields, subst, suc, sym, take, take-take, the_one, tile, tile_lies, times, times-append, true, type_at, type_in, type_kept, type_of_body, typed, uir_type, unmarked-away, variable_types, variables_chain, vdr_alike, vdr_max_rec, vdr_of_variable, vvr_type, vxr_bytes, vxr_type, with_leaf, with_sign, word, zero, ℕ, ℤ, ◌*◌, ◌++◌, ◌+◌, ◌-◌, ◌<◌, ◌==◌, ◌∙◌, ◌∷◌, ◌≡◌, ◌≢◌, ◌≤◌, taken_places, is_in-true, get_or-drop, get_or-take, places_of, leaves_more, nat_tests, Covered}
 use Rattle.cdf_edits.proofs.Edits.MadeRecord.{place_in as placed_in, filled_size}
 use Rattle.cdf_edits.proofs.Edits.TakenAll.{TakenAll, none_taken, taken_then, taking_all, listed_free, unlisted_away}
-use Rattle.cdf_index.specs.Replacing.{with_index}
-use Rattle.cdf_index.proofs.OneNode.{same_node}
 use Rattle.cdf_puts.proofs.LeafCounts.{room_stays, places_new, leaf_was_there}
 use Rattle.cdf_puts.proofs.RaisedGoes.{behind_no_vdr}
 use Rattle.cdf_edits.proofs.Edits.Composing.{part as changed_missed}
 use Rattle.cdf_format.proofs.Pieces.{word_of_piece_lem}
 use Rattle.cdf_puts.proofs.PutNodes.{NodesStep}
 use Rattle.cdf_index.proofs.NewIndex.{good_now as changed_good, block_kept, index_edit, own_edit}
-use Rattle.cdf_edits.proofs.Edits.ActsStill.{acts_still_by}
 use Rattle.cdf_puts.proofs.GoesThen.{goes_by, links}
-use Rattle.cdf_format.specs.IndexRules.{has_room, is_block, nodes_rows, used_rows, leaf_rows, index_rows, end_of}
 use Rattle.cdf_edits.proofs.Edits.OwnEdited as of_own
-use Rattle.cdf_puts.proofs.PutBytes.{put_there}
+use Rattle.cdf_puts.proofs.PutBytes.{put_there, whole}
 
 -- ---- marks
 
@@ -61,9 +57,6 @@ body_long body records says = let e = says.as_long in omega arith
 
 -- ---- the used entries of nodes, by the rules
 
-count_holds : (b : List ℕ) (m : ℕ) → has_room b m ≡ true → Counts b m
-count_holds b m h = le_of (number b m vxr_n_used_entries) (room_at b m) (both (nat_le (number b m vxr_n_used_entries) (room_at b m)) _ (both (nat_le (number b m vxr_n_used_entries) (room_at b m) && nat_le (room_at b m) signed_limit) _ h).0).0
-
 mutual
   unfolding nodes_rows used_rows nodes_of lower_nodes
 
@@ -71,7 +64,7 @@ mutual
   counts_hold b records low high no_node h = tt
   counts_hold b records low high (node place room entries more) h =
       let p = Hold-split (used_rows b records place low high entries) (nodes_rows b records (end_of low entries) high more) h.1 in
-      (count_holds b place h.0, Each-append (Counts b) (lower_nodes entries) (nodes_of more) (counts_below b records place low high entries p.0) (counts_hold b records (end_of low entries) high more p.1))
+      (grind (arith, nat_tests, h.0), Each-append (Counts b) (lower_nodes entries) (nodes_of more) (counts_below b records place low high entries p.0) (counts_hold b records (end_of low entries) high more p.1))
 
   counts_below : (b records : List ℕ) (vxr : ℕ) (low high : ℤ) (entries : Entries) → Hold (used_rows b records vxr low high entries) → Each (Counts b) (lower_nodes entries)
   counts_below b records vxr low high no_entry h = tt
@@ -83,9 +76,6 @@ mutual
 -- ---- the edit
 
 module _ {b now : List ℕ} {kind : Kind} {before : List VariableShape} {own : VariableShape} {after : List VariableShape} {new : Leaf} {body : List ℕ} {at : ℕ} (good : Good b) (among : StandsAmong b kind before own after) (w : LeafAdded b now own new body at) where
-  abbrev s : Shape
-  s = shape b
-
   abbrev pub room : ℕ
   room = new_room new.first own.index
 
@@ -106,7 +96,7 @@ module _ {b now : List ℕ} {kind : Kind} {before : List VariableShape} {own : V
   records' = (shape w.roomy).records
 
   abbrev space : List Mark
-  space = taking_all s.unused reborn enough
+  space = taking_all (shape b).unused reborn enough
 
   abbrev entries : List Mark
   entries = index_marks kind own.vdr all_nodes (field 12 (length w.roomy))
@@ -114,7 +104,7 @@ module _ {b now : List ℕ} {kind : Kind} {before : List VariableShape} {own : V
   abbrev step : List Act
   step = leaf_acts new.place (8 + length body) room at
 
-  sound : IsSound b s
+  sound : IsSound b (shape b)
   sound = good_is_sound b good
 
   -- the block is in its place, and a node is taken
@@ -132,14 +122,11 @@ module _ {b now : List ℕ} {kind : Kind} {before : List VariableShape} {own : V
 
   -- ---- records that were there
 
-  vdr_kept : Kept b w.roomy own.vdr
-  vdr_kept = kept_away taking.grows.edit own.vdr (type_in (variables_chain kind)) (tile good among) (typed good among) (all_unmarked-away space variable_types (type_in (variables_chain kind)) own.vdr refl (vdr_of_variable kind))
-
-  pub node_in : (m : ℕ) → In m nodes → In m s.records
+  pub node_in : (m : ℕ) → In m nodes → In m (shape b).records
   node_in m i = behind_in good among m (node_behind own m i)
 
   node_typed : (m : ℕ) → In m nodes → type_at b m ≡ vxr_type
-  node_typed m i = linkable-type b s.records vxr_type m (nodes_stand b s.records 8 own.index (has good among).indexed.has_nodes m i)
+  node_typed m i = linkable-type b (shape b).records vxr_type m (nodes_stand b (shape b).records 8 own.index (has good among).indexed.has_nodes m i)
 
   node_kept : (m : ℕ) → In m nodes → Kept b w.roomy m
   node_kept m i = kept taking.grows.edit m vxr_type (node_in m i) (node_typed m i) refl
@@ -148,16 +135,13 @@ module _ {b now : List ℕ} {kind : Kind} {before : List VariableShape} {own : V
   as_before m i = let n = same_node b w.roomy m (node_kept m i) (Each-in (NodeFits b) nodes (fits good among).1 m i) in (n.room_is, n.size_is)
 
   -- a record that is in use is not taken
-  pub used_apart : (m : ℕ) → In m s.records → type_at b m ≢ uir_type → is_taken_at step m ≡ false
+  pub used_apart : (m : ℕ) → In m (shape b).records → type_at b m ≢ uir_type → is_taken_at step m ≡ false
   used_apart m i used = is_in-false m reborn (λ j. used (taking.fresh_all m j i))
 
   node_apart : (m : ℕ) → In m nodes → is_taken_at step m ≡ false
   node_apart m i = used_apart m (node_in m i) (λ e. apart vxr_type uir_type refl (sym (node_typed m i) ∙ e))
 
   -- ---- the entries are written
-
-  sound_roomy : IsSound w.roomy (shape w.roomy)
-  sound_roomy = taking.grows.sound
 
   -- a node, and where one is written
   node_there : (m : ℕ) → In m all_nodes → In m records' × (type_at w.roomy m ≡ vxr_type)
@@ -173,34 +157,32 @@ module _ {b now : List ℕ} {kind : Kind} {before : List VariableShape} {own : V
       (In-append_left t.tile (new_nodes room at) nodes i, omega (arith, n.2, (new_node t.tile i).size_is))
 
   -- a touch is marked by the record in which it is
+  marked : (t : Touch) → In t.tile records' → t.place + t.width ≤ size_at w.roomy t.tile → 12 ≤ t.place → Covered w.roomy entries t → Marked w.roomy records' entries [] t
+  marked t i fit later covered = record { inside = i; fits = fit; behind_size = omega arith; behind_type = inl later; covered = covered }
+
   touch_marked : (t : Touch) → IndexTouch w.roomy own room at t → Marked w.roomy records' entries [] t
   touch_marked t (inl x) =
-      let size = size_kept b w.roomy own.vdr vdr_kept.same (omega (arith, vdr_kept.long)) in
-      let wide = long good among in
-      subst (λ (m : ℕ). Marked w.roomy records' entries [] (record t { tile = m })) (sym x.0) (record {
-        inside = taking.grows.edit.sub own.vdr (tile good among);
-        fits = omega arith;
-        behind_size = omega arith;
-        behind_type = inl (omega arith);
-        covered = inl (record { typed = type_kept b w.roomy own.vdr vdr_kept.same vdr_kept.long ∙ typed good among; lies = inl refl; low = x.1; high = x.2 });
-      })
+      let k = kept_away taking.grows.edit own.vdr (type_in (variables_chain kind)) (tile good among) (typed good among) (all_unmarked-away space variable_types (type_in (variables_chain kind)) own.vdr refl (vdr_of_variable kind)) in
+      let size = size_kept b w.roomy own.vdr k.same (omega (arith, k.long)) in
+      subst (λ (m : ℕ). Marked w.roomy records' entries [] (record t { tile = m })) (sym x.0)
+      (marked (record t { tile = own.vdr }) (taking.grows.edit.sub own.vdr (tile good among)) (omega (arith, size, long good among)) (omega arith) (inl (record { typed = type_kept b w.roomy own.vdr k.same k.long ∙ typed good among; lies = inl refl; low = x.1; high = x.2 })))
   touch_marked t (inr x) =
       let n = node_touched t x.1 in
       let m = node_there t.tile n.0 in
-      let far = tile_lies w.roomy 8 (length w.roomy) records' t.tile sound_roomy.has_shape.tiled m.0 in
-      record { inside = m.0; fits = n.1; behind_size = omega arith; behind_type = inl x.0; covered = inr (inl (record { typed = m.1; lies = n.0; low = x.0; high = omega (arith, n.1) })) }
+      let far = tile_lies w.roomy 8 (length w.roomy) records' t.tile taking.grows.sound.has_shape.tiled m.0 in
+      marked t m.0 n.1 x.0 (inr (inl (record { typed = m.1; lies = n.0; low = x.0; high = omega (arith, n.1) })))
 
   all_marked : Each (Marked w.roomy records' entries []) w.touches
   all_marked = Each-map (IndexTouch w.roomy own room at) (Marked w.roomy records' entries []) touch_marked w.touches w.within
 
   entries_written : Edit w.roomy now records' records' entries []
-  entries_written = changed_edit w.roomy now records' w.touches entries [] sound_roomy.has_shape.tiled w.as_long w.changed all_marked (some_bytes w.roomy (shape w.roomy) sound_roomy.has_shape)
+  entries_written = changed_edit w.roomy now records' w.touches entries [] taking.grows.sound.has_shape.tiled w.as_long w.changed all_marked (some_bytes w.roomy (shape w.roomy) taking.grows.sound.has_shape)
 
-  edit : Edit b now s.records records' (space ++ entries) reborn
-  edit = subst (Edit b now s.records records' (space ++ entries)) (append-nil reborn) (edit_then taking.grows.edit entries_written)
+  edit : Edit b now (shape b).records records' (space ++ entries) reborn
+  edit = subst (Edit b now (shape b).records records' (space ++ entries)) (append-nil reborn) (edit_then taking.grows.edit entries_written)
 
   tests : IndexTests kind (r_max_rec_field kind ++ space_fields) (space ++ entries)
-  tests = leaf_tests kind own.vdr s.unused reborn all_nodes enough (length w.roomy)
+  tests = leaf_tests kind own.vdr (shape b).unused reborn all_nodes enough (length w.roomy)
 
   pub file : FileSame b now
   file = file_same sound edit tests.file_clear
@@ -219,11 +201,8 @@ module _ {b now : List ℕ} {kind : Kind} {before : List VariableShape} {own : V
 
   -- ---- chains
 
-  gdr_is : (shape w.roomy).gdr ≡ s.gdr
-  gdr_is = ap (λ (x : Shape). x.gdr) taking.grows.same_shape
-
-  end_now : eof now s.gdr ≡ length now
-  end_now = let c = entries_clear kind own.vdr all_nodes (length w.roomy) in subst (λ (g : ℕ). eof now g ≡ length now) gdr_is (gdr_field sound_roomy entries_written c.0 gdr_eof c.1 (omega arith) ∙ taking.grows.end_is ∙ sym w.as_long)
+  end_now : eof now (shape b).gdr ≡ length now
+  end_now = let c = entries_clear kind own.vdr all_nodes (length w.roomy) in subst (λ (g : ℕ). eof now g ≡ length now) (ap (λ (x : Shape). x.gdr) taking.grows.same_shape) (gdr_field taking.grows.sound entries_written c.0 gdr_eof c.1 (omega arith) ∙ taking.grows.end_is ∙ sym w.as_long)
 
   unused_away : (m : ℕ) → Away entries uir_type m
   unused_away m = unmarked-away entries uir_type m (index_unmarked kind own.vdr all_nodes (field 12 (length w.roomy)))
@@ -239,11 +218,11 @@ module _ {b now : List ℕ} {kind : Kind} {before : List VariableShape} {own : V
     typed_now = λ m i.
         let x = taken_used m i in
         let k = head_kept m x.0 x.1 in
-        rw (k.0, k.1) (sound_roomy.has_shape.typed m x.0, sound_roomy.has_shape.fixed m x.0);
+        rw (k.0, k.1) (taking.grows.sound.has_shape.typed m x.0, taking.grows.sound.has_shape.fixed m x.0);
     unused_chain =
         let c = entries_clear kind own.vdr all_nodes (length w.roomy) in
-        subst (λ (g : ℕ). IsChain now records' uir_type (number now g gdr_uir_head) (shape w.roomy).unused) gdr_is
-        (chain_stays entries_written uir_type _ _ (shape w.roomy).unused sound_roomy.has_shape.unused_chain (gdr_field sound_roomy entries_written c.0 gdr_uir_head c.2 (omega arith)) (λ m i. away-avoids entries uir_type m 0 20 (unused_away m)));
+        subst (λ (g : ℕ). IsChain now records' uir_type (number now g gdr_uir_head) (shape w.roomy).unused) (ap (λ (x : Shape). x.gdr) taking.grows.same_shape)
+        (chain_stays entries_written uir_type _ _ (shape w.roomy).unused taking.grows.sound.has_shape.unused_chain (gdr_field taking.grows.sound entries_written c.0 gdr_uir_head c.2 (omega arith)) (λ m i. away-avoids entries uir_type m 0 20 (unused_away m)));
     index_now = w.index;
   }
 
@@ -267,7 +246,8 @@ module _ {b now : List ℕ} {kind : Kind} {before : List VariableShape} {own : V
   spare_stays m i =
       let k = node_kept m i in
       same-then b w.roomy now (m + (28 + 16 * room_at b m)) (m + size_at b m) (Same-part b w.roomy m (m + size_at b m) (m + (28 + 16 * room_at b m)) (m + size_at b m) k.same (omega arith) (omega arith))
-      (changed_missed w.roomy now records' w.touches entries [] sound_roomy.has_shape.tiled w.as_long w.changed all_marked m (28 + 16 * room_at b m) (size_at b m) (taking.grows.edit.sub m (node_in m i)) (omega (arith, as_before m i)) (misses m (28 + 16 * room_at b m) (size_at b m) i (omega (arith, as_before m i)) w.touches w.within))
+      (changed_missed w.roomy now records' w.touches entries [] taking.grows.sound.has_shape.tiled w.as_long w.changed all_marked m (28 + 16 * room_at b m) (size_at b m) (taking.grows.edit.sub m (node_in m i))
+      (omega (arith, as_before m i)) (misses m (28 + 16 * room_at b m) (size_at b m) i (omega (arith, as_before m i)) w.touches w.within))
 
   pub nodes_step : NodesStep b now own.index (nodes_of (with_leaf new at own.index)) step
   nodes_step = record {
@@ -275,7 +255,7 @@ module _ {b now : List ℕ} {kind : Kind} {before : List VariableShape} {own : V
     apart = node_apart;
     come = λ m i. elim (in_nodes_with_leaf new at own.index m i) [ inl j ↦ inl j | inr x ↦ inr (subst (λ (y : ℕ). is_taken_at step y ≡ true) (sym x.0) (node_taken new.place (8 + length body) room at x.1)) ];
     sizes = λ m i. let there = node_there m (In-append_right m (new_nodes room at) nodes i) in (head_kept m there.0 (λ u. apart vxr_type uir_type refl (sym there.1 ∙ u))).1 ∙ (as_before m i).1;
-    rooms = λ m i. room_stays b now s.records records' 8 8 new at m own.index (has good among).indexed.has_nodes w.index.has_nodes i;
+    rooms = λ m i. room_stays b now (shape b).records records' 8 8 new at m own.index (has good among).indexed.has_nodes w.index.has_nodes i;
     spare = spare_stays;
     unused = w.unused;
   }
@@ -313,12 +293,12 @@ module _ {b now : List ℕ} {kind : Kind} {before : List VariableShape} {own : V
       spare = λ i l lt.
           let e = block_size in
           let behind : new.place + i ≡ new.place + 8 + (i - 8) = omega arith in
-          ap (byte now) behind ∙ sym (get_or-drop (new.place + 8) now (i - 8) 0) ∙ sym (get_or-take (length body) (drop (new.place + 8) now) (i - 8) 0 (omega arith)) ∙ ap (λ (xs : List ℕ). byte xs (i - 8)) body_now ∙ says.spare (i - 8) (omega arith) (omega arith);
+          grind (arith, behind, get_or-drop (new.place + 8) now (i - 8) 0, get_or-take (length body) (drop (new.place + 8) now) (i - 8) 0 (omega arith), body_now, says.spare (i - 8) (omega arith) (omega arith));
     }
 
-    module _ (loose : is_compressed b own.vdr ≡ false) (vacant : IsVacant own new.first new.last) (as_long : length records ≡ (new.last + 1 - new.first) * record_bytes b own.vdr) (short : length now ≤ image_limit) where
+    module _ (vacant : IsVacant own new.first new.last) (as_long : length records ≡ (new.last + 1 - new.first) * record_bytes b own.vdr) (short : length now ≤ image_limit) where
       order : InOrder 0 record_number_limit own.index
-      order = index_order b s.records own.vdr own.index (own_rules good among).1
+      order = index_order b (shape b).records own.vdr own.index (own_rules good among).1
 
       -- ---- the blocks
 
@@ -335,7 +315,7 @@ module _ {b now : List ℕ} {kind : Kind} {before : List VariableShape} {own : V
             let long : 12 + (new.last + 1 - new.first) * record_bytes b own.vdr ≤ size_at now new.place = rw (block_size, body_long body records says, as_long) (omega arith) in
             subst (λ (x : Leaf). (is_block now records' x.place ≡ true) × Hold (leaf_rows now records' own.vdr x)) (sym q) (block_rows new (taken_used new.place (inl refl)).0 block_typed vacant.ordered (before_limit new.first new.last (firsts_of own.index) vacant.before_next) long)
         | inr j ↦
-            let x = plain_leaf good among loose l j in
+            let x = (whole good among l j).leaf in
             let k = block_kept good among new_index l.place (place_in (leaves_of own.index) l j) in
             let stands = edit.sub l.place (behind_in good among l.place (block_behind own l.place (place_in (leaves_of own.index) l j))) in
             block_rows l stands (type_kept b now l.place k.same k.long ∙ x.typed) x.ordered x.small (rw (size_kept b now l.place k.same (omega (arith, k.long))) x.room)
@@ -344,8 +324,8 @@ module _ {b now : List ℕ} {kind : Kind} {before : List VariableShape} {own : V
       index_ruled : Hold (index_rows now records' own.vdr (with_leaf new at own.index))
       index_ruled =
           let rules = (own_rules good among).1 in
-          let counts = counts_hold b s.records (negsuc 0) (pos record_number_limit) own.index (Hold-split (nodes_rows b s.records (negsuc 0) (pos record_number_limit) own.index) (flat_map (leaf_rows b s.records own.vdr) (leaves_of own.index)) rules).0 in
-          index_rules_with_leaf b now s.records records' own.vdr new at own.index rules vacant.ordered vacant.uncovered vacant.before_next (node_room good among new_index w.fits (w.counts counts) short) each_leaf
+          let counts = counts_hold b (shape b).records (negsuc 0) (pos record_number_limit) own.index (Hold-split (nodes_rows b (shape b).records (negsuc 0) (pos record_number_limit) own.index) (flat_map (leaf_rows b (shape b).records own.vdr) (leaves_of own.index)) rules).0 in
+          index_rules_with_leaf b now (shape b).records records' own.vdr new at own.index rules vacant.ordered vacant.uncovered vacant.before_next (node_room good among new_index w.fits (w.counts counts) short) each_leaf
 
       -- ---- the owners
 
@@ -373,12 +353,14 @@ module _ {b now : List ℕ} {kind : Kind} {before : List VariableShape} {own : V
 
       -- ---- how it goes on
 
-      pub leaf_goes_on : GoesOn b now kind before own (with_index own (with_leaf new at own.index)) after step
+      pub leaf_goes_on : GoesOn b now kind before own (record own { index = with_leaf new at own.index }) after step
       leaf_goes_on =
-          goes_by good among (index_edit good among new_index) good_now (acts_still_by taking.grows.sound taking.follow entries_written (index_unmarked kind own.vdr all_nodes (field 12 (length w.roomy))) records_are (of_own.unused_are good among (own_edit good among new_index)) w.as_long) (keeps_fields sound edit records_are s.gdr gdr_type (r_max_rec_field kind ++ space_fields) (gdr_in b s sound.has_shape) (gdr_typed b s sound.has_shape) tests.heads_clear tests.inside)
+          let follows = acts_still_by taking.grows.sound taking.follow entries_written (index_unmarked kind own.vdr all_nodes (field 12 (length w.roomy))) records_are (of_own.unused_are good among (own_edit good among new_index)) w.as_long in
+          goes_by good among (index_edit good among new_index) good_now follows (keeps_fields sound edit records_are (shape b).gdr gdr_type (r_max_rec_field kind ++ space_fields) (gdr_in b (shape b) sound.has_shape) (gdr_typed b (shape b) sound.has_shape) tests.heads_clear tests.inside)
           (λ m i free.
           let ok = sound.has_shape.unused_chain.linkable m i in
-          let inside = linkable-in b s.records uir_type m ok in
-          let marked = listed_free taking m i (tile_lies b 8 (length b) s.records m sound.has_shape.tiled inside).long free in
-          keeps_within sound edit records_are m uir_type links inside (linkable-type b s.records uir_type m ok) (Avoids-append space entries uir_type m 0 12 marked.0 (away-avoids entries uir_type m 0 12 (unused_away m))) (Within-append space entries uir_type m links marked.1 (away-within entries uir_type m links (unused_away m))))
+          let inside = linkable-in b (shape b).records uir_type m ok in
+          let marked = listed_free taking m i (tile_lies b 8 (length b) (shape b).records m sound.has_shape.tiled inside).long free in
+          keeps_within sound edit records_are m uir_type links inside (linkable-type b (shape b).records uir_type m ok) (Avoids-append space entries uir_type m 0 12 marked.0 (away-avoids entries uir_type m 0 12 (unused_away m)))
+          (Within-append space entries uir_type m links marked.1 (away-within entries uir_type m links (unused_away m))))
           (λ m i typed out. keeps_away sound edit records_are m uir_type (Only []) i typed (Away-append space entries uir_type m (unlisted_away taking m i out) (unused_away m)))

@@ -1,7 +1,5 @@
 -- The nodes of an index that grows leaf by leaf: the index but for where its blocks and its new nodes stand, its top chain, and the unused entries and spare bytes of its nodes.
-use Rattle.cdf_puts.proofs.Common.{Act, Bool, Each, Each-in, Entries, EntryIs, Gave, Grows, HasNodes, In, In-append, Kept, Leaf, List, Names, NodeFits, NodeSpareStays, Nodes, NodesFollow, Range, Same, Same-part, SaysEntry, Took, TopGrows, UnusedEntries, [], ap, arith, block, by_leaf, cases_lt, chain_reaches, each, either, entries_outline, entry_count, eqb, false, first_at, if◌then◌else◌, indexes_with, inl, inr, is_in, is_in-true, is_taken_at, last_at, leads_down, leaf, length, list_any, lower, lower_nodes, no_entry, no_node, node, nodes_of, offset_at, outline, past, reaches, refl, room_at, same-then, same_of_bytes_eq, size_at, suc, sym, true, true-is_in, upto, used_count, uses_entry, uses_entry_below, was_unused, with_both, with_entry, with_leaf, with_lower, with_ranges, zero, ℕ, ◌*◌, ◌++◌, ◌+◌, ◌<◌, ◌||◌, ◌∙◌, ◌∷◌, ◌≡◌, ◌≤◌, ◌⊎◌, Each-split, nat_tests}
-use Rattle.std.specs.Prelude.{bytes_eq}
-use Rattle.cdf_index.proofs.OneNode.{same_node}
+use Rattle.cdf_puts.proofs.Common.{same_node, bytes_eq, Act, Bool, Each, Each-in, Entries, EntryIs, Gave, Grows, HasNodes, In, In-append, Kept, Leaf, List, Names, NodeFits, NodeSpareStays, Nodes, NodesFollow, Range, Same, Same-part, SaysEntry, Took, TopGrows, UnusedEntries, [], ap, arith, block, by_leaf, cases_lt, chain_reaches, each, either, entries_outline, entry_count, false, first_at, if◌then◌else◌, indexes_with, inl, inr, is_in, is_in-true, is_taken_at, last_at, leads_down, leaf, length, list_any, lower, lower_nodes, no_entry, no_node, node, nodes_of, offset_at, outline, past, reaches, refl, room_at, same-then, same_of_bytes_eq, size_at, suc, sym, true, true-is_in, upto, used_count, uses_entry, uses_entry_below, was_unused, with_both, with_leaf, with_lower, with_ranges, zero, ℕ, ◌*◌, ◌++◌, ◌+◌, ◌<◌, ◌||◌, ◌∙◌, ◌∷◌, ◌≡◌, ◌≤◌, ◌⊎◌, Each-split, nat_tests}
 
 -- ---- an outline says the same of an index as the index does
 
@@ -40,7 +38,7 @@ module _ (news : List ℕ) where
 
     outline_with_leaf : (new : Leaf) (at : ℕ) (index : Nodes) → with_leaf (bare new) (place_outside news at) (outline news index) ≡ outline news (with_leaf new at index)
     outline_with_leaf new at no_node = refl
-    outline_with_leaf new at (node place room es more) = grind (arith, chain_outline new more, (alike new es).lead false, outline_with_leaf new at more, outline_with_lower new at es, (alike new es).count, (alike new es).before, (alike new es).behind, (alike new (past new.first es)).count, (alike new (upto new es)).joined (past new.first es))
+    outline_with_leaf new at (node place room es more) = let a = alike new es in grind (arith, chain_outline new more, a.lead false, outline_with_leaf new at more, outline_with_lower new at es, a.count, a.before, a.behind, (alike new (past new.first es)).count, (alike new (upto new es)).joined (past new.first es))
 
     outline_with_lower : (new : Leaf) (at : ℕ) (es : Entries) → with_lower (bare new) (place_outside news at) (entries_outline news es) ≡ entries_outline news (with_lower new at es)
     outline_with_lower new at no_entry = refl
@@ -50,15 +48,12 @@ module _ (news : List ℕ) where
   -- ---- which entries are used
 
   module _ (vxr i : ℕ) (old : is_in vxr news ≡ false) (stands : vxr ≡ 0 → ⊥) where
-    same_place : (place : ℕ) → eqb (place_outside news place) vxr ≡ eqb place vxr
-    same_place place = grind (arith, nat_tests, old, stands)
-
     mutual
       unfolding outline uses_entry uses_entry_below
 
       pub uses_outline : (index : Nodes) → uses_entry vxr i (outline news index) ≡ uses_entry vxr i index
       uses_outline no_node = refl
-      uses_outline (node place room es more) = rw (same_place place, (alike (leaf 0 0 0 false) es).count, uses_below_outline es, uses_outline more) refl
+      uses_outline (node place room es more) = grind (arith, nat_tests, old, stands, (alike (leaf 0 0 0 false) es).count, uses_below_outline es, uses_outline more)
 
       pub uses_below_outline : (es : Entries) → uses_entry_below vxr i (entries_outline news es) ≡ uses_entry_below vxr i es
       uses_below_outline no_entry = refl
@@ -84,14 +79,11 @@ mutual
 
 -- ---- two indexes with the same outline, where new nodes stand at 0 in the second
 
-abbrev pub SameOutline : List ℕ → Nodes → Nodes → Type 0
-SameOutline news index index' = outline news index ≡ outline [] index'
-
 -- A leaf more keeps it, where a node that is needed stands at a new place, and one that is not at 0; no node that was there is new by that.
-pub same_with_leaf : (news news' : List ℕ) (new : Leaf) (at : ℕ) (index index' : Nodes) → SameOutline news index index' → ((m : ℕ) → In m (nodes_of index) → is_in m news' ≡ is_in m news) → place_outside news' at ≡ 0 → SameOutline news' (with_leaf new at index) (with_leaf (leaf new.first new.last 0 false) 0 index')
-same_with_leaf news news' new at index index' same agree outside = grind (arith, outline_with_leaf news' new at index, outside, outline_agrees news news' index (each (λ m. is_in m news' ≡ is_in m news) (nodes_of index) agree), same, outline_with_leaf [] (leaf new.first new.last 0 false) 0 index')
+pub same_with_leaf : (news news' : List ℕ) (new : Leaf) (at : ℕ) (index index' : Nodes) → outline news index ≡ outline [] index' → ((m : ℕ) → In m (nodes_of index) → is_in m news' ≡ is_in m news) → place_outside news' at ≡ 0 → outline news' (with_leaf new at index) ≡ outline [] (with_leaf (bare new) 0 index')
+same_with_leaf news news' new at index index' same agree outside = grind (arith, outline_with_leaf news' new at index, outside, outline_agrees news news' index (each (λ m. is_in m news' ≡ is_in m news) (nodes_of index) agree), same, outline_with_leaf [] (bare new) 0 index')
 
-pub same_uses : (news : List ℕ) (vxr i : ℕ) (index index' : Nodes) → SameOutline news index index' → is_in vxr news ≡ false → (vxr ≡ 0 → ⊥) → uses_entry vxr i index ≡ uses_entry vxr i index'
+pub same_uses : (news : List ℕ) (vxr i : ℕ) (index index' : Nodes) → outline news index ≡ outline [] index' → is_in vxr news ≡ false → (vxr ≡ 0 → ⊥) → uses_entry vxr i index ≡ uses_entry vxr i index'
 same_uses news vxr i index index' same old stands = sym (uses_outline news vxr i old stands index) ∙ ap (uses_entry vxr i) same ∙ uses_outline [] vxr i refl stands index'
 
 -- ---- an entry that a node uses is used in the index
@@ -112,12 +104,8 @@ module _ (b records : List ℕ) (vxr i : ℕ) (used : i < used_count b vxr) wher
 
 -- ---- the indexes that a command goes through
 
-abbrev pub with_range_at_zero : Nodes → Range → Nodes
+abbrev with_range_at_zero : Nodes → Range → Nodes
 with_range_at_zero nodes r = with_leaf (leaf r.first r.last 0 false) 0 nodes
-
-pub with_one_more : (index : Nodes) (rs : List Range) (r : Range) → with_ranges index (rs ++ r ∷ []) ≡ with_range_at_zero (with_ranges index rs) r
-with_one_more index [] r = refl
-with_one_more index (x ∷ rs) r = with_one_more (with_range_at_zero index x) rs r
 
 -- what holds of the last of them, or of one, goes on to hold of one
 pub through_goes : (P : Nodes → Bool) (index : Nodes) (rs : List Range) (r : Range) → (P (with_ranges index rs) ≡ true) ⊎ (list_any P (indexes_with index rs) ≡ true) → list_any P (indexes_with index (rs ++ r ∷ [])) ≡ true
@@ -127,12 +115,9 @@ through_goes P index (x ∷ rs) r e = grind (arith, e, through_goes P (with_rang
 
 -- ---- the top chain
 
-top_steps : (new : Leaf) (at : ℕ) → Grows new at (λ n a a'. TopGrows a a') (λ n es es'. Unit {0})
-top_steps new at = grind arith
-
 -- the top chain stays, or it grows
 pub top_grows : (new : Leaf) (at : ℕ) (index : Nodes) → TopGrows index (with_leaf new at index)
-top_grows new at index = by_leaf (top_steps new at) index
+top_grows new at index = let steps : Grows new at (λ n a a'. TopGrows a a') (λ n es es'. Unit {0}) = grind arith in by_leaf steps index
 
 pub bytes_longer : (xs ys : List ℕ) → length xs < length ys → bytes_eq xs ys ≡ false
 bytes_longer xs ys l = elim (either (bytes_eq xs ys)) [ inl t ↦ absurd (omega (arith, ap length (same_of_bytes_eq xs ys t))) | inr t ↦ t ]
@@ -196,7 +181,8 @@ was_says b before acts m i e = grind (arith, nat_tests, e, true-is_in m before)
 entry_then : {X Y Z : Type 0} (b mid now : List ℕ) (m i : ℕ) (w v : Bool) → EntryIs mid now m i v ⊎ (X × EntryIs mid now m i false) → (v ≡ true → EntryIs b mid m i w ⊎ (Y × EntryIs b mid m i false)) → (w ≡ true → X ⊎ (v ≡ false) → Z) → (Y → Z) → EntryIs b now m i w ⊎ (Z × EntryIs b now m i false)
 entry_then b mid now m i w v s was used more = grind (arith, s, was, used, more, says_then b mid now m i)
 
-module _ (b mid now : List ℕ) (through through' : List Nodes) (before after : List ℕ) (index : Nodes) (acts acts' : List Act) (f : NodesFollow b mid through before (nodes_of index) acts) (step : NodesStep mid now index after acts') (before_in : (m : ℕ) → In m before → In m (nodes_of index)) (sizes : (m : ℕ) → In m before → size_at mid m ≡ size_at b m)
+module _ (b mid now : List ℕ) (through through' : List Nodes) (before after : List ℕ) (index : Nodes) (acts acts' : List Act) (f : NodesFollow b mid through before (nodes_of index) acts)
+    (step : NodesStep mid now index after acts') (before_in : (m : ℕ) → In m before → In m (nodes_of index)) (sizes : (m : ℕ) → In m before → size_at mid m ≡ size_at b m)
     (come : (m : ℕ) → In m (nodes_of index) → In m before ⊎ (is_taken_at acts m ≡ true)) (more : (m i : ℕ) → list_any (uses_entry m i) through ≡ true → list_any (uses_entry m i) through' ≡ true)
     (uses : (m i : ℕ) → In m before → uses_entry m i index ≡ true → list_any (uses_entry m i) through' ≡ true) (records : List ℕ) (levels : ℕ) (has : HasNodes mid records levels index) where
   was_entry : (m i : ℕ) → i < room_at now m → was_unused mid (nodes_of index) acts' m i ≡ true → EntryIs b mid m i (was_unused b before (acts ++ acts') m i) ⊎ ((list_any (uses_entry m i) through ≡ true) × EntryIs b mid m i false)

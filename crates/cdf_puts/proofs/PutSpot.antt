@@ -1,9 +1,7 @@
 -- Where the next record is put: the records of a new block, each step by which records are put, and what an image says of a variable of which some records are put.
-use Rattle.cdf_puts.proofs.Common.{Act, AddsLeaf, BlockRecords, Covering, GoesOn, HasIndex, In, IsBlockBody, IsBody, IsPut, IsVacant, Kind, LeafAdded, List, NodeTaken, Nodes, None, PutStart, PutsOn, PutsUpTo, Putting, RecordsWritten, SoFar, Some, SomePut, SomePutting, StandsAmong, Variable, VariableShape, [], ap, append-nil, arith, block_bytes, block_count, cases_lt, covers, div-le_self, drop, drop-append-le, drop_at, either, extent, false, find, first_written, firsts_of, fits, good_by_its_shape, good_is_sound, has, if◌then◌else◌, image_limit, in_middle, index_at, index_order, inl, inr, is_sparse, last_in_new, leaf, leaf_acts, leaf_of, leaves_of, length, length-append, length-drop, long, max, max_rec_at, min, most_in_block, nat_tests, new_last, new_range, new_room, next_first, node_bytes, number, own_rules, range, record_bytes, record_length, record_of, record_put, records_put, refl, shape, sparse_at, subst, suc, sym, take, take-append-le, take_all, taken_bytes, tile, tile_lies, times_le, variable_of, variables, vdr_max_rec, vdr_vxr_head, vdrs, vxr_bytes, widest, with_leaf, zero, ℕ, ◌*◌, ◌++◌, ◌+◌, ◌-◌, ◌<◌, ◌==◌, ◌∙◌, ◌∷◌, ◌≡◌, ◌≤◌}
-use Rattle.cdf_index.specs.Replacing.{with_index}
+use Rattle.cdf_puts.proofs.Common.{Act, AddsLeaf, BlockRecords, Covering, GoesOn, HasIndex, In, IsBlockBody, IsBody, IsPut, IsVacant, Kind, LeafAdded, List, NodeTaken, Nodes, None, PutStart, PutsOn, PutsUpTo, Putting, RecordsWritten, SoFar, Some, SomePut, SomePutting, StandsAmong, Variable, VariableShape, [], ap, append-nil, arith, block_bytes, block_count, cases_lt, covers, div-le_self, drop, drop-append-le, drop_at, either, extent, false, find, first_written, firsts_of, fits, good_is_sound, has, if◌then◌else◌, image_limit, in_middle, index_at, index_order, inl, inr, is_sparse, last_in_new, leaf, leaf_acts, leaf_of, leaves_of, length, length-append, length-drop, long, max, max_rec_at, min, most_in_block, nat_tests, new_last, new_range, new_room, next_first, node_bytes, number, own_rules, range, record_bytes, record_length, record_of, record_put, records_put, refl, shape, sparse_at, subst, suc, sym, take, take-append-le, take_all, taken_bytes, tile, tile_lies, times_le, variable_of, variables, vdr_max_rec, vdr_vxr_head, vdrs, vxr_bytes, widest, with_leaf, zero, ℕ, ◌*◌, ◌++◌, ◌+◌, ◌-◌, ◌<◌, ◌==◌, ◌∙◌, ◌∷◌, ◌≡◌, ◌≤◌}
 use Rattle.cdf_puts.proofs.LeafEdit.{r_max_rec_stays as leaf_r_max_rec, body_long, plain_body, leaf_goes_on, leaf_max_rec, taking}
 use Rattle.cdf_puts.proofs.CoveringRanges.{covering_starts, covering_has, covering_leaf, covering_room, covering_ends, Ends, one_at_least}
-use Rattle.cdf_puts.proofs.PutRules.{loose}
 use Rattle.cdf_puts.proofs.GoesThen.{later_size, goes_then, goes_written, writes_nothing}
 use Rattle.cdf_puts.proofs.IndexAdded.{blocks_added, index_added}
 use Rattle.cdf_puts.proofs.LeafCounts.{new_room_widest}
@@ -11,15 +9,12 @@ use Rattle.cdf_puts.proofs.IndexWritten.{blocks_written, index_written, max_rec_
 use Rattle.cdf_puts.proofs.PutRoom.{taken_sum, takes_both, leaf_bytes, longer_by}
 use Rattle.cdf_puts.proofs.SoFarStarts.{starts_upto, index_start, blocks_start}
 use Rattle.cdf_leaves.proofs.Own.{among_all, searchable}
-use Rattle.cdf_puts.proofs.PutBytes.{size_now}
+use Rattle.cdf_puts.proofs.PutBytes.{found_covering, size_now, whole}
 use Rattle.cdf_base.specs.Bytes.{put as put_at}
 use Rattle.cdf_format.specs.Index.{Leaf as TreeLeaf}
-use Rattle.cdf_format.proofs.GoodImageLemmas.{good_image}
 use Rattle.cdf_index.specs.Reading.{HoldsRecords}
 use Rattle.cdf_index.specs.Sight.{seen}
 use Rattle.cdf_index.specs.declared.nodes.Leaf.{Leaf}
-use Rattle.cdf_index.proofs.GoodBlock.{good_block}
-use Rattle.cdf_index.proofs.PlainBlocks.{plain_block}
 use Rattle.cdf_puts.specs.declared.putting.NewRecord.{NewRecord}
 
 pub one_more : (raw pad : List ℕ) (r count k : ℕ) → records_put raw pad r (count + 1) k ≡ records_put raw pad r count k ++ record_put raw pad r (k + count)
@@ -93,14 +88,14 @@ module _ {b : List ℕ} {kind : Kind} {before : List VariableShape} {own : Varia
 
     pub so_far_added : {now' : List ℕ} {last place at : ℕ} {body records : List ℕ} → last ≡ (new_range (variable_of b own) (firsts_of own'.index) k).last → IsVacant own' k last → IsBlockBody body records → BlockRecords raw pad r k last (record_bytes b own.vdr) records
         → LeafAdded now now' own' (leaf k last place false) body at → length now' ≤ image_limit
-        → SoFar b now' kind before own (with_index own' (with_leaf (leaf k last place false) at own'.index)) after raw pad r (min (last + 1) (r + 1)) (acts ++ leaf_acts place (8 + length body) (new_room k own'.index) at)
+        → SoFar b now' kind before own (record own' { index = with_leaf (leaf k last place false) at own'.index }) after raw pad r (min (last + 1) (r + 1)) (acts ++ leaf_acts place (8 + length body) (new_room k own'.index) at)
     so_far_added {now' = now'} {last = last} {place = place} {at = at} {body = body} {records = records} is vacant holds says w short =
         let good = so.goes.good in
         let among = so.goes.among in
         let v = variable_of b own in
         let new = leaf k last place false in
         let step = leaf_acts place (8 + length body) (new_room k own'.index) at in
-        let goes : GoesOn now now' kind before own' (with_index own' (with_leaf new at own'.index)) after step = leaf_goes_on good among w holds (loose good among) vacant (says.as_long ∙ ap (λ (n : ℕ). (last + 1 - k) * n) (sym (later_size so.start.good so.start.among so.goes))) short in
+        let goes : GoesOn now now' kind before own' (record own' { index = with_leaf new at own'.index }) after step = leaf_goes_on good among w holds vacant (says.as_long ∙ ap (λ (n : ℕ). (last + 1 - k) * n) (sym (later_size so.start.good so.start.among so.goes))) short in
         let need : 8 + length body ≡ block_bytes v k last = body_long body records holds ∙ ap (λ (n : ℕ). max 28 (12 + n)) says.as_long in
         let bytes : taken_bytes (acts ++ step) ≡ taken_bytes acts + block_bytes v k last + node_bytes k own'.index = omega (arith, taken_sum acts step, leaf_bytes place (8 + length body) (new_room k own'.index) at) in
         let covers : Covering v own.index (with_leaf new at own'.index) r (min (last + 1) (r + 1)) (taken_bytes acts + block_bytes v k last + node_bytes k own'.index) =
@@ -173,10 +168,9 @@ module _ {b now : List ℕ} {kind : Kind} {before : List VariableShape} {own : V
 
       pub held : HoldsRecords now l (record_bytes now own'.vdr) × (l.first ≤ k) × (k ≤ l.last)
       held =
-          let g = among_all now kind before own' after so.goes.among.was in
-          let image = good_image now (shape now) (good_by_its_shape now so.goes.good) in
-          let sound = good_is_sound now so.goes.good in
-          good_block now (shape now) g.front own' g.rest image sound g.all k l here (plain_block now (shape now) g.front own' g.rest image sound g.all k (seen l) here)
+          let one = found_covering k (leaves_of own'.index) (seen l) here in
+          let x = whole so.goes.good so.goes.among (seen l) one.0 in
+          (record { plain = x.leaf.plain; ordered = x.leaf.ordered; small = x.leaf.small; inside = omega (arith, x.leaf.room, x.inside) }, one.1.0, one.1.1)
 
       module _ (n : ℕ) (n_is : n ≡ length new.raw.items) where
         sized : record_bytes now own'.vdr ≡ n
@@ -237,9 +231,9 @@ module _ {b now : List ℕ} {kind : Kind} {before : List VariableShape} {own : V
             let wide = new_room_widest now (shape now).records 8 k own'.index (has so.goes.good so.goes.among).indexed.has_nodes (fits so.goes.good so.goes.among).1 in
             let short : length now' ≤ image_limit = omega (arith, a.added.as_long, a.added.block.longest, node_long a.added.filled a.added.roomy (new_room k own'.index) a.at (widest own'.index) a.added.node wide, room_here) in
             record {
-              own' = with_index own' (with_leaf (leaf k end a.place false) a.at own'.index);
+              own' = record own' { index = with_leaf (leaf k end a.place false) a.at own'.index };
               acts = is.acts ++ leaf_acts a.place (8 + length body) (new_room k own'.index) a.at;
-              so = subst (λ (n : ℕ). SoFar b now' kind before own (with_index own' (with_leaf (leaf k end a.place false) a.at own'.index)) after new.raw.items new.pad.items new.rec n (is.acts ++ leaf_acts a.place (8 + length body) (new_room k own'.index) a.at)) (omega arith)
+              so = subst (λ (n : ℕ). SoFar b now' kind before own (record own' { index = with_leaf (leaf k end a.place false) a.at own'.index }) after new.raw.items new.pad.items new.rec n (is.acts ++ leaf_acts a.place (8 + length body) (new_room k own'.index) a.at)) (omega arith)
                   (so_far_added so more ends_at vacancy says (block_records new.raw.items new.pad.items new.rec (record_bytes b own.vdr) p.start.raw_long p.pad_long k end) a.added short);
             }
 
