@@ -29,6 +29,10 @@ none_taken_in : (acts : List Act) (xs : List ℕ) → ((m : ℕ) → In m xs →
 none_taken_in acts [] f = refl
 none_taken_in acts (x ∷ xs) f = grind (arith, f x (inl refl), none_taken_in acts xs (λ m i. f m (inr i)))
 
+none_covered : (k : ℕ) (leaves : List Leaf) → find (λ (leaf : Leaf). covers k (range leaf.first leaf.last)) leaves ≡ None → list_any (covers k) (map (λ (leaf : Leaf). range leaf.first leaf.last) leaves) ≡ false
+none_covered k [] e = refl
+none_covered k (x ∷ more) e = grind (arith, e, none_covered k more)
+
 first_of_three : (p q c : Bool) → p ≡ true → (q ≡ true → c ≡ false) → (p && (q && not c)) ≡ q
 first_of_three p q c e none = grind (arith, e, none)
 
@@ -230,14 +234,6 @@ module _ {b now last : List ℕ} {kind : Kind} {before : List VariableShape} {ow
       keep_all b last may acts (keep_file b last may acts (sound so.start.good so.start.among) (keeps_stood b last 8 (put.stay 8 (inl refl)) (Only [])) put.gdr) (keep_attributes b last may acts 0 (shape b).attributes (λ m i. put.stay m (inr (inl i)))) both.0 both.1
       (keep_places b last may acts Unused (unused_records b (shape b)) unused_keeps)
 
-  -- ---- in place
-
-  -- ---- what was there
-
-  some_covers : (k : ℕ) (ls : List Leaf) → list_any (covers k) (map (λ (x : Leaf). range x.first x.last) ls) ≡ true → (l : Leaf) × (find (λ (leaf : Leaf). covers k (range leaf.first leaf.last)) ls ≡ Some l)
-  some_covers k [] e = absurd (true≢false (sym e))
-  some_covers k (x ∷ more) e = elim (either (covers k (range x.first x.last))) [ inl t ↦ (x, rw t refl) | inr t ↦ (let p = some_covers k more (rw t at e) in (p.0, rw t p.1)) ]
-
   -- ---- pads
 
   module _ (pad_stored : extent (max_rec_at b own.vdr) ≤ r → pad ≡ turned (type_of_variable b own.vdr) (is_little b) (pad_record v)) where
@@ -260,19 +256,20 @@ module _ {b now last : List ℕ} {kind : Kind} {before : List VariableShape} {ow
 
     -- ---- the blocks
 
-    end_is : (l : Leaf) → IsOneOf leaves l → block_end last own'.vdr l ≡ 12 + (l.last + 1 - l.first) * size
-    end_is l i = let x = last_plain l i in let count = count_is l x.small x.ordered in rw (x.plain, count, size_last) refl
-
-    spare : (l : Leaf) → IsOneOf leaves l → SpareIs b last own'.vdr l (is_taken_at acts l.place)
-    spare l i = let end = end_is l i in elim (all.new l i) [
-      | inl o ↦ subst (SpareIs b last own'.vdr l) (sym (all.apart l o)) (record { each = λ p low high. (all.old l o).kept p (omega arith) high (behind_all first (r + 1) size l p (omega arith)) })
-      | inr n ↦ subst (SpareIs b last own'.vdr l) (sym n.was_taken) (λ p low high. n.spare p (omega arith) high)
-    ]
-
     blocks : (l : Leaf) → IsOneOf leaves l → is_changed v r (ranges_of own.index) l ≡ true → BlockFollows b last v.rle own'.vdr (was_leaf olds l) acts l
     blocks l i changed =
-        let none = λ (e : l.packed ≡ true). true≢false (sym e ∙ (last_plain l i).plain) in
-        record { packed = λ e. absurd (true≢false (sym e ∙ so.start.loose)); spare = spare l i; reserved = elim (either (is_taken_at acts l.place)) [ inl t ↦ rw t (λ e. absurd (none e)) | inr t ↦ rw t (λ e. absurd (none e)) ] }
+        let x = last_plain l i in
+        let count = count_is l x.small x.ordered in
+        let end : block_end last own'.vdr l ≡ 12 + (l.last + 1 - l.first) * size = rw (x.plain, count, size_last) refl in
+        let none = λ (e : l.packed ≡ true). true≢false (sym e ∙ x.plain) in
+        record {
+          packed = λ e. absurd (true≢false (sym e ∙ so.start.loose));
+          spare = elim (all.new l i) [
+            | inl o ↦ subst (SpareIs b last own'.vdr l) (sym (all.apart l o)) (record { each = λ p low high. (all.old l o).kept p (omega arith) high (behind_all first (r + 1) size l p (omega arith)) })
+            | inr n ↦ subst (SpareIs b last own'.vdr l) (sym n.was_taken) (λ p low high. n.spare p (omega arith) high)
+          ];
+          reserved = elim (either (is_taken_at acts l.place)) [ inl t ↦ rw t (λ e. absurd (none e)) | inr t ↦ rw t (λ e. absurd (none e)) ];
+        }
 
     pub bytes_done : PutsBytes b last kind v r own own' acts
     bytes_done = record {
@@ -289,9 +286,7 @@ module _ {b now last : List ℕ} {kind : Kind} {before : List VariableShape} {ow
             all.quiet quiet place lt (transport (λ i. Outside (map (touched_field (gdr i)) (r_max_rec_field kind) ++ touched_field (vdr i) vdr_max_rec ∷ []) place) p.0) (λ l i. elim (all.new l i) [ inl o ↦ beside_written first r size olds place p.1 l o | inr n ↦ absurd (true≢false (sym n.was_taken ∙ quiet l.place)) ]);
       };
       others_stay = each_of (StaysUnwritten v r leaves) olds (λ l i e. all.stay l i);
-      unwritten_stay = λ k c side.
-          let has = some_covers k olds (sym (ap (list_any (covers k)) before_is) ∙ c) in
-          ap (λ (x : ℕ). stored_bytes last x size leaves k) put.vdr_is ∙ stored_same k (λ e. (let clash : Some has.0 ≡ None = sym has.1 ∙ e in absurd cc)) side;
+      unwritten_stay = λ k c side. ap (λ (x : ℕ). stored_bytes last x size leaves k) put.vdr_is ∙ stored_same k (λ e. absurd (true≢false (sym c ∙ ap (list_any (covers k)) before_is ∙ none_covered k olds e))) side;
       padded = each_of (HoldsPads last v own'.vdr r (ranges_before_put v own.index r)) leaves (λ l i none. elim (all.new l i) [
         | inl o ↦ absurd (true≢false (sym (covers_own olds l o (whole so.start.good so.start.among l o).leaf.ordered) ∙ sym (ap (list_any (covers l.first)) before_is) ∙ none))
         | inr n ↦ new_pads l i n
