@@ -7,6 +7,7 @@ use Rattle.cdf_index.proofs.NewIndex.{index_edit}
 use Rattle.cdf_puts.proofs.LeafEdit.{blocks_go_on, plain_body}
 use Rattle.cdf_puts.proofs.PutBytes.{size_now, now_plain, old_goes_on, new_goes_on, beside_one}
 use Rattle.cdf_puts.proofs.PutNodes.{taken_first, taken_then, taken_neither, NodesStep, nodes_then, taken_both, or_false, place_outside, same_with_leaf, same_uses, with_one_more, last_of_through, through_stays, top_grows, bytes_longer}
+use Rattle.cdf_puts.proofs.KnownStarts.{top_kept}
 use Rattle.cdf_puts.proofs.SoFarStarts.{one_more, put_new, none_begins, puts_new, covers_own}
 
 -- ---- the ranges that are new
@@ -227,5 +228,6 @@ module _ {b now now' : List ℕ} {kind : Kind} {before : List VariableShape} {ow
     tail = tail_then (top_chain own.index) (top_chain own'.index) (top_chain own''.index) (number b own.vdr vdr_vxr_tail) (number now own.vdr vdr_vxr_tail) (number now' own.vdr vdr_vxr_tail) so.index.top grows so.index.tail
         (subst (λ (v : ℕ). number now' v vdr_vxr_tail ≡ (if bytes_eq (top_chain own'.index) (top_chain own''.index) then number now v vdr_vxr_tail else last_node own''.index)) so.goes.vdr_is w.tail);
     top = top_then (top_chain own.index) (top_chain own'.index) (top_chain own''.index) so.index.top grows;
+    tops = λ m i. top_kept new at own'.index m (so.index.tops m i);
     nodes = nodes_added;
   }

@@ -221,5 +221,6 @@ module _ {b now now' : List ℕ} {kind : Kind} {before : List VariableShape} {ow
     puts = puts_written;
     tail = tail_same ∙ so.index.tail;
     top = so.index.top;
+    tops = so.index.tops;
     nodes = nodes_still so.index.nodes (λ m i. Each-in (NodeFits now) (nodes_of own'.index) (fits so.goes.good so.goes.among).1 m i) (nodes_stay so.goes.good so.goes.among w);
   }

@@ -131,6 +131,7 @@ module _ {b : List ℕ} {kind : Kind} {before : List VariableShape} {own : Varia
     puts = subst (λ (ls : List Leaf). PutsBefore b own own ls []) (sym (none_put_yet first (leaves_of own.index))) (puts_none_yet b own);
     tail = let same = bytes_eq-same (top_chain own.index) in rw same refl;
     top = inl refl;
+    tops = λ m i. i;
     nodes = nodes_start;
   }
 

@@ -4,6 +4,8 @@ use Rattle.std.specs.Prelude.{not}
 use Rattle.cdf_model.specs.declared.command.Command.TheVariants as commands
 use Rattle.cdf_model.specs.declared.answer.Reply.TheVariants as replies
 use Rattle.cdf_puts.specs.Going.{found_in}
+use Rattle.cdf_puts.specs.Starts.{IsKnownStart, InTopChain, KnowsStarts}
+use Rattle.cdf_puts.proofs.KnownStarts.{start_known, starts_go_on}
 use Rattle.cdf_puts.specs.SoFar.{MaxRecDone}
 use Rattle.cdf_puts.proofs.DoneBytes.{is_put, put_rec_done, put_val_done}
 use Rattle.cdf_puts.proofs.LastImage.{last_image, put_content}
@@ -46,6 +48,10 @@ module _ {b : List ℕ} {t : Target} (good : Good b) (is : IsTarget b t) where
   from_is r count_is =
       let first : first_written (variable_of b is.own) r ≡ min r (extent (max_rec_at b is.own.vdr)) = rw (no_rule good is.among) refl in
       ap (min r) (count_is ∙ ap (λ (k : ℕ). extent (max_rec_at b k)) (sym is.vdr_is)) ∙ sym first
+
+module _ {b : List ℕ} {t : Target} (good : Good b) (is : IsTarget b t) where
+  pub start_of_target : {starts : ℕ → Option ℕ} → KnowsStarts b starts → IsKnownStart b t.form.place.vdr (starts t.form.place.vdr)
+  start_of_target {starts} knows = subst (λ (v : ℕ). IsKnownStart b v (starts v)) is.vdr_is (start_known good is.among knows)
 
 -- ---- what holds where the record was read
 
@@ -180,6 +186,9 @@ module _ {b : List ℕ} {t : Target} {bytes : List ℕ} {put : NewRecord} {limit
 
       last_shape : shape last ≡ shape now
       last_shape = elim max_rec_done [ inl x ↦ raised_shape done.so.goes.good done.so.goes.among x.1 small | inr x ↦ ap shape x.1 ]
+
+      pub starts_now : {starts : ℕ → Option ℕ} → KnowsStarts b starts → KnowsStarts last starts
+      starts_now {starts} knows = subst (λ (s : Shape). Each (λ (v : VariableShape). InTopChain v.index (starts v.vdr)) (variables s)) (sym last_shape) (starts_go_on kind is.among done.so.goes done.so.index.tops knows)
 
       pub known_now : {known : Known} → Knows b known → Knows last known
       known_now knows =

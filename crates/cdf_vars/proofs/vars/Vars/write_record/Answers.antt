@@ -46,3 +46,11 @@ pub returns-clause-known : goal.returns-clause-known
 returns-clause-known g c =
     let k = here g (goal.at.returns-clause-known g c).In_ok-put in
     on_ok_weaker c.raise_max_rec.result (λ raises. known_now k c.in_ok-put_records.ensures.put (rw (← c.in_ok-put.ensures.put.rec_is) at raises) (rw (c.read_new_record.ensures.area.image) c.requires.known)) c.raise_max_rec.ensures.raised
+
+pub put_records-requires-clause-known : goal.put_records-requires-clause-known
+put_records-requires-clause-known g c = rw (c.in_ok-put.ensures.put.vdr_is, c.read_new_record.ensures.area.image) c.requires.start
+
+pub returns-clause-starts : goal.returns-clause-starts
+returns-clause-starts g c =
+    let k = here g (goal.at.returns-clause-starts g c).In_ok-put in
+    on_ok_weaker c.raise_max_rec.result (λ raises starts knows. starts_now k c.in_ok-put_records.ensures.put (rw (← c.in_ok-put.ensures.put.rec_is) at raises) (rw (c.read_new_record.ensures.area.image) knows)) c.raise_max_rec.ensures.raised
