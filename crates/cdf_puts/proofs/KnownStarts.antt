@@ -1,8 +1,8 @@
 -- Nodes of top chains that are known of the variables of an image, and that they are known yet where records were put.
-use Rattle.cdf_puts.proofs.Common.{Act, PutsUpTo, SomePutting, Each, None, Some, ◌∙◌, Each-append, Each-split, GoesOn, Good, In, IsKnownStart, InTopChain, KeepsStart, Kind, KnowsStarts, Leaf, List, Nodes, Option, R, StandsAmong, TopStays, VariableShape, Z, [], ap, arith, good_by_its_shape, good_is_sound, index_at, inl, inr, no_node, node, number, refl, shape, subst, sym, top_chain, variables, vdr_vxr_head, with_leaf, ℕ, ◌++◌, ◌∷◌, ◌≡◌, ◌≢◌}
+use Rattle.cdf_puts.proofs.Common.{Act, HasIndex, vdrs, long, tile_lies, tile, sound, length, ◌≤◌, ◌+◌, PutsUpTo, SomePutting, Each, None, Some, ◌∙◌, Each-append, Each-split, GoesOn, Good, In, IsKnownStart, InTopChain, KeepsStart, Kind, KnowsStarts, Leaf, List, Nodes, Option, R, StandsAmong, TopStays, VariableShape, Z, [], ap, arith, good_by_its_shape, good_is_sound, index_at, inl, inr, no_node, node, number, refl, shape, subst, sym, top_chain, variables, vdr_vxr_head, with_leaf, ℕ, ◌++◌, ◌∷◌, ◌≡◌, ◌≢◌}
 use Rattle.cdf_format.proofs.GoodImageLemmas.{good_image}
 use Rattle.cdf_index.proofs.GoodIndex.{good_index}
-use Rattle.cdf_index.proofs.OneVariable.{among_all}
+use Rattle.cdf_index.proofs.OneVariable.{OneOf, among_all, one_of}
 use Rattle.cdf_puts.specs.declared.putting.NewRecord.{NewRecord}
 
 -- each node of the top chain of an index is one of it once the index gets a leaf
@@ -15,13 +15,24 @@ pub tops_in : {before after : Nodes} → TopStays before after → (known : Opti
 tops_in stay None known = tt
 tops_in stay (Some m) known = stay m known
 
-index_here : {b : List ℕ} {front : List VariableShape} {own : VariableShape} {rest : List VariableShape} → Good b → variables (shape b) ≡ front ++ own ∷ rest → index_at b (number b own.vdr vdr_vxr_head) ≡ own.index
-index_here {b} {front} {own} {rest} good all = (good_index b (shape b) front own rest (good_image b (shape b) (good_by_its_shape b good)) (good_is_sound b good) all).1
+module _ {b : List ℕ} (good : Good b) where
+  index_here : {front : List VariableShape} {own : VariableShape} {rest : List VariableShape} → variables (shape b) ≡ front ++ own ∷ rest → HasIndex b (number b own.vdr vdr_vxr_head) × (index_at b (number b own.vdr vdr_vxr_head) ≡ own.index)
+  index_here {front} {own} {rest} all = good_index b (shape b) front own rest (good_image b (shape b) (good_by_its_shape b good)) (good_is_sound b good) all
+
+  index_of : {kind : Kind} {before : List VariableShape} {own : VariableShape} {after : List VariableShape} {vdr : ℕ} → StandsAmong b kind before own after → own.vdr ≡ vdr → index_at b (number b vdr vdr_vxr_head) ≡ own.index
+  index_of {kind} {before} {own} {after} at e = subst (λ (v : ℕ). index_at b (number b v vdr_vxr_head) ≡ own.index) e (index_here (among_all b kind before own after at.was).all).1
+
+  module _ {vdr : ℕ} (i : In vdr (vdrs (variables (shape b)))) where
+    abbrev o : OneOf b vdr
+    o = one_of b vdr i
+
+    pub has_index : HasIndex b (number b vdr vdr_vxr_head)
+    has_index = subst (λ (v : ℕ). HasIndex b (number b v vdr_vxr_head)) o.vdr_is (index_here (among_all b o.kind o.before o.own o.after o.among.was).all).0
+
+    pub vdr_lies : vdr + 340 ≤ length b
+    vdr_lies = subst (λ (v : ℕ). v + 340 ≤ length b) o.vdr_is (omega (arith, long good o.among, tile_lies b 8 (length b) (shape b).records o.own.vdr (sound good o.among).has_shape.tiled (tile good o.among)))
 
 -- ---- the variable into which a record is put
-
-index_of : {b : List ℕ} {kind : Kind} {before : List VariableShape} {own : VariableShape} {after : List VariableShape} {vdr : ℕ} → Good b → StandsAmong b kind before own after → own.vdr ≡ vdr → index_at b (number b vdr vdr_vxr_head) ≡ own.index
-index_of {b} {kind} {before} {own} {after} good at e = subst (λ (v : ℕ). index_at b (number b v vdr_vxr_head) ≡ own.index) e (index_here good (among_all b kind before own after at.was).all)
 
 pub known_yet : {b now : List ℕ} {new : NewRecord} {from k limit : ℕ} {known : Option ℕ} → SomePutting b new from limit → PutsUpTo b now limit new k → IsKnownStart b new.vdr known → IsKnownStart now new.vdr known
 known_yet {known = known} some all is =
@@ -46,15 +57,17 @@ module _ {b : List ℕ} {starts : ℕ → Option ℕ} where
   abbrev IsKnown : VariableShape → Type 0
   IsKnown v = InTopChain v.index (starts v.vdr)
 
-  pub start_known : {kind : Kind} {before : List VariableShape} {own : VariableShape} {after : List VariableShape} → Good b → StandsAmong b kind before own after → KnowsStarts b starts → IsKnownStart b own.vdr (starts own.vdr)
-  start_known {kind} {before} {own} {after} good at knows =
-      subst (λ (nodes : Nodes). InTopChain nodes (starts own.vdr)) (sym (index_of good at refl)) (one_at IsKnown (among_all b kind before own after at.was).all knows)
+  pub start_known : {vdr : ℕ} → Good b → In vdr (vdrs (variables (shape b))) → KnowsStarts b starts → IsKnownStart b vdr (starts vdr)
+  start_known {vdr} good i knows =
+      let o = one_of b vdr i in
+      let one = one_at IsKnown (among_all b o.kind o.before o.own o.after o.among.was).all knows in
+      subst (λ (nodes : Nodes). InTopChain nodes (starts vdr)) (sym (index_of good o.among o.vdr_is)) (subst (λ (v : ℕ). InTopChain o.own.index (starts v)) o.vdr_is one)
 
   -- of one variable another node is known
   pub start_kept : {vdr node : ℕ} {after : ℕ → Option ℕ} → Good b → KnowsStarts b starts → (node ≢ 0 → IsKnownStart b vdr (Some node)) → KeepsStart starts vdr node after → KnowsStarts b after
   start_kept {vdr} {node} {after} good knows is keeps = each_at (λ v. InTopChain v.index (after v.vdr)) (variables (shape b)) (λ front own rest all. elim (keeps own.vdr) [
     | inl same ↦ subst (InTopChain own.index) (sym same) (one_at IsKnown all knows)
-    | inr new ↦ subst (InTopChain own.index) (sym new.1.1) (subst (λ (nodes : Nodes). InTopChain nodes (Some node)) (index_here good all) (subst (λ (v : ℕ). IsKnownStart b v (Some node)) (sym new.0) (is new.1.0)))
+    | inr new ↦ subst (InTopChain own.index) (sym new.1.1) (subst (λ (nodes : Nodes). InTopChain nodes (Some node)) (index_here good all).1 (subst (λ (v : ℕ). IsKnownStart b v (Some node)) (sym new.0) (is new.1.0)))
   ])
 
   -- records of one variable are put

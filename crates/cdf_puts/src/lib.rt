@@ -6,4 +6,4 @@ mod putting;
 mod starts;
 
 pub use putting::{NewRecord, find_leaf, find_next, put_records};
-pub use starts::{Starts, find_start};
+pub use starts::Starts;

@@ -1,15 +1,15 @@
 //! From which nodes searches in the indexes of variables go on.
 
-ghost use Rattle.std.specs.Prelude.{◌≡◌, ◌≢◌, ◌≤◌, ◌+◌, ℕ, length, IfOk, None, Some};
+ghost use Rattle.std.specs.Prelude.{◌≡◌, ◌≤◌, ℕ, List, length, IfOk, None};
 ghost use Rattle.std.specs.declared.option.Option.{Option};
 ghost use Rattle.std.specs.BTreeMap.{get};
 ghost use Rattle.std.specs.Ordering.{nat_cmp};
 ghost use Rattle.cdf_area.specs.Calls.{Reads};
-ghost use Rattle.cdf_format.specs.Fields.{number};
-ghost use Rattle.cdf_format.specs.Records.{vdr_vxr_head, past, vdr_name};
-ghost use Rattle.cdf_index.specs.Finding.{HasIndex};
+ghost use Rattle.cdf_format.specs.Shape.{shape, variables, vdrs};
+ghost use Rattle.cdf_format.specs.Tiles.{In};
+ghost use Rattle.cdf_format.specs.WellFormed.{Good};
 ghost use Rattle.cdf_model.specs.Limits.{image_limit};
-ghost use Rattle.cdf_puts.specs.Starts.{IsKnownStart, KeepsStart};
+ghost use Rattle.cdf_puts.specs.Starts.{IsKnownStart, KeepsStart, KnowsStarts};
 
 use cdf_area::{Area, AreaError};
 use cdf_format::fields::VDR_VXR_HEAD;
@@ -18,7 +18,7 @@ use std::alloc::Global;
 use std::collections::BTreeMap;
 use std::marker::Model;
 
-/// Of variables, by the places of their descriptors, a node of the top chain of the index that a search may start at.
+/// Of variables, by the places of their descriptors, the node of the top chain of the index from which the next search goes on.
 #[derive(Drop)]
 pub struct Starts {
     alloc: Global,
@@ -47,15 +47,22 @@ impl Starts {
         }
     }
 
+    /// Lets all nodes go.
+    pub fn forget(&mut self)
+        ensures { (vdr : ℕ) → self.new vdr ≡ None }
+    {
+        self.nodes = BTreeMap::new(self.alloc);
+    }
+
     /// The node that is known of the variable whose descriptor stands at a place.
-    pub fn node_of(&self, vdr: u64) -> Option<u64>
+    fn node_of(&self, vdr: u64) -> Option<u64>
         ensures { result ≡ self.now vdr }
     {
         self.nodes.get(&vdr).copied()
     }
 
     /// Keeps a node of the variable whose descriptor stands at a place, where there is memory for it; at 0 there is none.
-    pub fn keep(&mut self, vdr: u64, node: u64)
+    fn keep(&mut self, vdr: u64, node: u64)
         ensures { KeepsStart self.old vdr node self.new }
     {
         if node != 0 {
@@ -63,29 +70,26 @@ impl Starts {
         }
     }
 
-    /// Lets all nodes go.
-    pub fn forget(&mut self)
-        ensures { (vdr : ℕ) → self.new vdr ≡ None }
+    /// A node, if one is known, of the top chain of the index of the variable whose descriptor stands at a place. From the node that was
+    /// known, the way goes on to the one at which a search for a record may start, and this one is kept.
+    pub fn find_start<A: Area>(
+        &mut self,
+        area: &mut A,
+        vdr: u64,
+        _rec: u32,
+    ) -> Result<Option<u64>, AreaError>
+        requires good { Good (A.image area.old) }
+        requires short { length (A.image area.old) ≤ image_limit }
+        requires vdr { In vdr (vdrs (variables (shape (A.image area.old)))) }
+        requires known { KnowsStarts (A.image area.old) self.old }
+        ensures start { IfOk result (IsKnownStart (A.image area.old) vdr) }
+        ensures known { KnowsStarts (A.image area.old) self.new }
+        ensures area { Reads A.image A.frame A.faults A.edited area.old area.new result }
     {
-        self.nodes = BTreeMap::new(self.alloc);
+        // An image has fewer than 2^64 bytes, so no place in it overflows.
+        let _size = area.size();
+        let head = read_unsigned8(area, vdr + VDR_VXR_HEAD)?;
+        self.keep(vdr, head);
+        Ok(self.node_of(vdr))
     }
-}
-
-/// Where a search for a record may start in the index of a variable, of whose top chain a node may be known: at a node of that chain, or 0 where the index has no node.
-pub fn find_start<A: Area>(
-    area: &mut A,
-    vdr: u64,
-    known: Option<u64>,
-    _rec: u32,
-) -> Result<u64, AreaError>
-    requires lies { vdr + past vdr_name ≤ length (A.image area.old) }
-    requires index { HasIndex (A.image area.old) (number (A.image area.old) vdr vdr_vxr_head) }
-    requires known { IsKnownStart (A.image area.old) vdr known }
-    requires short { length (A.image area.old) ≤ image_limit }
-    ensures top { IfOk result (λ start. start ≢ 0 → IsKnownStart (A.image area.old) vdr (Some start)) }
-    ensures area { Reads A.image A.frame A.faults A.edited area.old area.new result }
-{
-    // An image has fewer than 2^64 bytes, so no place in it overflows.
-    let _size = area.size();
-    read_unsigned8(area, vdr + VDR_VXR_HEAD)
 }

@@ -160,19 +160,19 @@ ends_on_variables b start made now frame first marked end known after vars vars'
     (on_err done (subst (λ (x : List ℕ). Knows x (record known { entries = None })) (sym begins) (forgotten b known was.knows))) knows stay kept undone)
 
 -- the nodes that are kept, which stay where all was taken back
-ends_starting : {b start made now : List ℕ} {before after : ℕ → Option ℕ} (done : Result Outcome AreaError) → KnowsStarts b before → OnOk done (KnowsStarts made after) → OnErr done (after ≡ before) → OnOk done (now ≡ made) → OnErr done (now ≡ b) → KnowsStarts now after
-ends_starting {after = after} (Ok o) was knows stay kept back = subst (λ (x : List ℕ). KnowsStarts x after) (sym kept) knows
-ends_starting {before = before} (Err error) was knows stay kept back = subst (KnowsStarts _) (sym stay) (subst (λ (x : List ℕ). KnowsStarts x before) (sym back) was)
+ends_starting : {start made now : List ℕ} {after : ℕ → Option ℕ} (done : Result Outcome AreaError) → OnOk done (KnowsStarts made after) → OnErr done (KnowsStarts start after) → OnOk done (now ≡ made) → OnErr done (now ≡ start) → KnowsStarts now after
+ends_starting {after = after} (Ok o) knows stay kept back = subst (λ (x : List ℕ). KnowsStarts x after) (sym kept) knows
+ends_starting {after = after} (Err error) knows stay kept back = subst (λ (x : List ℕ). KnowsStarts x after) (sym back) stay
 
 -- of a command on variables that leaves their names and places as they are
-pub ends_on_records : {U : Type 0} (b start made now : List ℕ) (frame first marked end : Frame U) (known after : Known) (vars : KnownVariables) (starts starts' : ℕ → Option ℕ) (c : Command) → is_on_attributes c ≡ false → (done : Result Outcome AreaError)
-    → IsOpen b frame known vars → KnowsStarts b starts → start ≡ b → first ≡ with_base frame (Some b) → marked ≡ first → end ≡ with_base marked None → after ≡ record known { entries = None }
-    → IfOk done (λ o. Answers first.limit start c o made) → OnOk done (KnowsVariables made vars) → OnOk done (KnowsStarts made starts') → OnErr done (starts' ≡ starts)
-    → OnOk done (now ≡ made) → OnErr done (marked.base ≡ Some now) → IsOpen now end after vars × KnowsStarts now starts'
-ends_on_records b start made now frame first marked end known after vars starts starts' c other done was starting begins is stays ends forgot answers knows knows_starts starts_stay kept undone =
+pub ends_on_records : {U : Type 0} (b start made now : List ℕ) (frame first marked end : Frame U) (known after : Known) (vars : KnownVariables) (starts : ℕ → Option ℕ) (c : Command) → is_on_attributes c ≡ false → (done : Result Outcome AreaError)
+    → IsOpen b frame known vars → start ≡ b → first ≡ with_base frame (Some b) → marked ≡ first → end ≡ with_base marked None → after ≡ record known { entries = None }
+    → IfOk done (λ o. Answers first.limit start c o made) → OnOk done (KnowsVariables made vars) → OnOk done (KnowsStarts made starts) → OnErr done (KnowsStarts start starts)
+    → OnOk done (now ≡ made) → OnErr done (marked.base ≡ Some now) → IsOpen now end after vars × KnowsStarts now starts
+ends_on_records b start made now frame first marked end known after vars starts c other done was begins is stays ends forgot answers knows knows_starts starts_stay kept undone =
     (ends_on_variables b start made now frame first marked end known after vars vars c other done was begins is stays ends forgot answers knows
     (on_err done (subst (λ (x : List ℕ). KnowsVariables x vars) (sym begins) was.knows_variables)) kept undone,
-    ends_starting done starting knows_starts starts_stay kept (on_err_weaker done (λ base. some_same b now (sym (ap (λ (m : Frame _). m.base) (stays ∙ is)) ∙ base)) undone))
+    ends_starting done knows_starts starts_stay kept (on_err_weaker done (λ base. some_same b now (sym (ap (λ (m : Frame _). m.base) (stays ∙ is)) ∙ base) ∙ sym begins) undone))
 
 -- of a command on neither, after which they are forgotten too
 pub ends_on_neither : {U : Type 0} (b start made now : List ℕ) (frame first marked end : Frame U) (known after : Known) (vars : KnownVariables) (c : Command) → is_on_attributes c ≡ false → is_on_variables c ≡ false → (done : Result Outcome AreaError)

@@ -4,8 +4,12 @@ use Rattle.std.specs.Prelude.{not}
 use Rattle.cdf_model.specs.declared.command.Command.TheVariants as commands
 use Rattle.cdf_model.specs.declared.answer.Reply.TheVariants as replies
 use Rattle.cdf_puts.specs.Going.{found_in}
-use Rattle.cdf_puts.specs.Starts.{IsKnownStart, InTopChain, KnowsStarts}
-use Rattle.cdf_puts.proofs.KnownStarts.{start_known, starts_go_on}
+use Rattle.cdf_puts.specs.Starts.{InTopChain, KnowsStarts}
+use Rattle.cdf_puts.proofs.KnownStarts.{starts_go_on}
+use Rattle.cdf_edits.proofs.Edits.StandsAmong.{in_middle}
+use Rattle.cdf_format.specs.Tiles.{In}
+use Rattle.cdf_var_records.proofs.RecordForms.{among}
+use Rattle.cdf_var_records.proofs.VdrParts.{own}
 use Rattle.cdf_puts.specs.SoFar.{MaxRecDone}
 use Rattle.cdf_puts.proofs.DoneBytes.{is_put, put_rec_done, put_val_done}
 use Rattle.cdf_puts.proofs.LastImage.{last_image, put_content}
@@ -49,9 +53,10 @@ module _ {b : List ℕ} {t : Target} (good : Good b) (is : IsTarget b t) where
       let first : first_written (variable_of b is.own) r ≡ min r (extent (max_rec_at b is.own.vdr)) = rw (no_rule good is.among) refl in
       ap (min r) (count_is ∙ ap (λ (k : ℕ). extent (max_rec_at b k)) (sym is.vdr_is)) ∙ sym first
 
-module _ {b : List ℕ} {t : Target} (good : Good b) (is : IsTarget b t) where
-  pub start_of_target : {starts : ℕ → Option ℕ} → KnowsStarts b starts → IsKnownStart b t.form.place.vdr (starts t.form.place.vdr)
-  start_of_target {starts} knows = subst (λ (v : ℕ). IsKnownStart b v (starts v)) is.vdr_is (start_known good is.among knows)
+pub form_vdr : {b : List ℕ} {form : Form} → Good b → IsForm b form → In form.place.vdr (vdrs (variables (shape b)))
+form_vdr {b} {form} good f =
+    let all = among good f.is_vdr in
+    subst (λ (vs : List VariableShape). In form.place.vdr (vdrs vs)) (sym all.all) (in_middle all.front (own good f.is_vdr) all.rest)
 
 -- ---- what holds where the record was read
 

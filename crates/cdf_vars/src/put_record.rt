@@ -32,7 +32,7 @@ use crate::removing::{greatest_extent, last_number, set_greatest};
 use crate::vars::Vars;
 use cdf_area::{Area, AreaError};
 use cdf_model::{DataType, Encoding, Kind, Outcome, Reason, Reply};
-use cdf_puts::{NewRecord, Starts, find_start, put_records};
+use cdf_puts::{NewRecord, Starts, put_records};
 use cdf_records::set_vdr_max_rec;
 use cdf_values::from_network;
 use cdf_var_records::{Form, read_block_count, read_extent, read_pad_record, read_put_room};
@@ -178,22 +178,19 @@ impl Vars {
         ensures answers { IfOk result (λ o. (c : Command) (name : List ℕ) → PutsSo (A.image area.old) c name rec target.now bytes.items → Answers (A.frame area.old).limit (A.image area.old) c o (A.image area.new)) }
         ensures known { OnOk result (Knows (A.image area.new) self.now) }
         ensures starts { OnOk result (KnowsStarts (A.image area.new) starts.new) }
-        ensures starts_stay { OnErr result (starts.new ≡ starts.old) }
+        ensures starts_stay { OnErr result (KnowsStarts (A.image area.old) starts.new) }
         ensures area { Edits A.frame A.faults area.old area.new result }
     {
         let vdr = target.form.place.vdr;
+        let known = starts.find_start(area, vdr, rec)?;
         let count = read_extent(area, vdr)?;
-        let from = rec.min(count);
-        let known = starts.node_of(vdr);
-        let start = find_start(area, vdr, known, from)?;
-        let room = read_put_room(area, &target.form, known, rec, from)?;
+        let room = read_put_room(area, &target.form, known, rec, rec.min(count))?;
         if u128::from(area.limit() - area.size()) < room {
             return Ok(Outcome::Refused {
                 reason: Reason::TooLarge,
             });
         }
         self.write_record(area, target, known, rec, count, bytes)?;
-        starts.keep(vdr, start);
         Ok(Outcome::Done {
             reply: Reply::Plain,
         })

@@ -190,7 +190,7 @@ impl Vars {
         ensures answers { IfOk result (λ o. Answers (A.frame area.old).limit (A.image area.old) (PutRec name.now rec words.now) o (A.image area.new)) }
         ensures known { OnOk result (Knows (A.image area.new) self.now) }
         ensures starts { OnOk result (KnowsStarts (A.image area.new) starts.new) }
-        ensures starts_stay { OnErr result (starts.new ≡ starts.old) }
+        ensures starts_stay { OnErr result (KnowsStarts (A.image area.old) starts.new) }
         ensures area { Edits A.frame A.faults area.old area.new result }
     {
         match self.read_record_request(area, name, rec, words)? {
@@ -217,7 +217,7 @@ impl Vars {
         ensures answers { IfOk result (λ o. Answers (A.frame area.old).limit (A.image area.old) (PutVal name.now rec index.now words.now) o (A.image area.new)) }
         ensures known { OnOk result (Knows (A.image area.new) self.now) }
         ensures starts { OnOk result (KnowsStarts (A.image area.new) starts.new) }
-        ensures starts_stay { OnErr result (starts.new ≡ starts.old) }
+        ensures starts_stay { OnErr result (KnowsStarts (A.image area.old) starts.new) }
         ensures area { Edits A.frame A.faults area.old area.new result }
     {
         match self.read_value_request(area, name, rec, index, words)? {

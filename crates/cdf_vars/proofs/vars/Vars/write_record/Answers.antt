@@ -1,5 +1,5 @@
 use Rattle.cdf_vars.proofs.Common.{Frame, List, R, ap, extent, max_rec_at, min, on_ok_weaker, shape, shapes_of, sym, variable_at, vdrs, ℕ, ◌∙◌}
-use Rattle.cdf_vars.proofs.PutWhole.{Ready, follows, from_is, known_now, now_extent, now_good, now_places, now_short, now_vdr, ready, some_putting, within}
+use Rattle.cdf_vars.proofs.PutWhole.{Ready, follows, from_is, known_now, now_extent, now_good, now_places, now_short, now_vdr, ready, some_putting, starts_now, within}
 use Rattle.cdf_vars.proofs.vars.Vars.write_record.Given.{Over}
 use Rattle.cdf_vars.proofs.vars.Vars.write_record.Goals.{In_ok-put}
 use Rattle.cdf_vars.proofs.vars.Vars.write_record.Goals as goal
