@@ -1,22 +1,18 @@
 //! From which nodes searches in the indexes of variables go on.
 
-ghost use Rattle.std.specs.Prelude.{◌≡◌, ◌≤◌, ℕ, List, length, IfOk, None};
-ghost use Rattle.std.specs.declared.option.Option.{Option};
-ghost use Rattle.std.specs.BTreeMap.{get};
-ghost use Rattle.std.specs.Ordering.{nat_cmp};
+ghost use Rattle.std.specs.Prelude.{◌≡◌, ◌≤◌, ℕ, length, IfOk, None};
 ghost use Rattle.cdf_area.specs.Calls.{Reads};
 ghost use Rattle.cdf_format.specs.Shape.{shape, variables, vdrs};
 ghost use Rattle.cdf_format.specs.Tiles.{In};
 ghost use Rattle.cdf_format.specs.WellFormed.{Good};
 ghost use Rattle.cdf_model.specs.Limits.{image_limit};
-ghost use Rattle.cdf_puts.specs.Starts.{IsKnownStart, KeepsStart, KnowsStarts};
+ghost use Rattle.cdf_puts.specs.Starts.{IsKnownStart, KeepsStart, KnowsStarts, node_known};
 
 use cdf_area::{Area, AreaError};
 use cdf_format::fields::VDR_VXR_HEAD;
 use cdf_records::read_unsigned8;
 use std::alloc::Global;
 use std::collections::BTreeMap;
-use std::marker::Model;
 
 /// Of variables, by the places of their descriptors, the node of the top chain of the index from which the next search goes on.
 #[derive(Drop)]
@@ -25,21 +21,10 @@ pub struct Starts {
     nodes: BTreeMap<u64, u64>,
 }
 
-impl Model for Starts {
-    ghost use Rattle.std.specs.Prelude.{ℕ};
-    ghost use Rattle.std.specs.declared.option.Option.{Option};
-    ghost use Rattle.std.specs.BTreeMap.{get};
-    ghost use Rattle.std.specs.Ordering.{nat_cmp};
-
-    ghost Value = { ℕ → Option ℕ };
-
-    ghost view = { λ starts. get nat_cmp starts.nodes };
-}
-
 impl Starts {
     /// No node is known.
     pub fn new(alloc: Global) -> Starts
-        ensures { (vdr : ℕ) → result vdr ≡ None }
+        ensures { (vdr : ℕ) → node_known result vdr ≡ None }
     {
         Starts {
             alloc,
@@ -49,14 +34,14 @@ impl Starts {
 
     /// Lets all nodes go.
     pub fn forget(&mut self)
-        ensures { (vdr : ℕ) → self.new vdr ≡ None }
+        ensures { (vdr : ℕ) → node_known self.new vdr ≡ None }
     {
         self.nodes = BTreeMap::new(self.alloc);
     }
 
     /// The node that is known of the variable whose descriptor stands at a place.
     fn node_of(&self, vdr: u64) -> Option<u64>
-        ensures { result ≡ self.now vdr }
+        ensures { result ≡ node_known self.now vdr }
     {
         self.nodes.get(&vdr).copied()
     }

@@ -4,7 +4,8 @@ use Rattle.std.specs.Prelude.{not}
 use Rattle.cdf_model.specs.declared.command.Command.TheVariants as commands
 use Rattle.cdf_model.specs.declared.answer.Reply.TheVariants as replies
 use Rattle.cdf_puts.specs.Going.{found_in}
-use Rattle.cdf_puts.specs.Starts.{InTopChain, KnowsStarts}
+use Rattle.cdf_puts.specs.Starts.{IsKnownOf, KnowsStarts}
+use Rattle.cdf_puts.specs.declared.starts.Starts.{Starts}
 use Rattle.cdf_puts.proofs.KnownStarts.{starts_go_on}
 use Rattle.cdf_edits.proofs.Edits.StandsAmong.{in_middle}
 use Rattle.cdf_format.specs.Tiles.{In}
@@ -192,8 +193,8 @@ module _ {b : List ℕ} {t : Target} {bytes : List ℕ} {put : NewRecord} {limit
       last_shape : shape last ≡ shape now
       last_shape = elim max_rec_done [ inl x ↦ raised_shape done.so.goes.good done.so.goes.among x.1 small | inr x ↦ ap shape x.1 ]
 
-      pub starts_now : {starts : ℕ → Option ℕ} → KnowsStarts b starts → KnowsStarts last starts
-      starts_now {starts} knows = subst (λ (s : Shape). Each (λ (v : VariableShape). InTopChain v.index (starts v.vdr)) (variables s)) (sym last_shape) (starts_go_on kind is.among done.so.goes done.so.index.tops knows)
+      pub starts_now : {starts : Starts} → KnowsStarts b starts → KnowsStarts last starts
+      starts_now {starts} knows = record { each = subst (λ (s : Shape). Each (IsKnownOf starts) (variables s)) (sym last_shape) (starts_go_on knows kind is.among done.so.goes done.so.index.tops).each }
 
       pub known_now : {known : Known} → Knows b known → Knows last known
       known_now knows =

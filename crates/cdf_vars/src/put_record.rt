@@ -1,7 +1,7 @@
 //! A record that a command puts, once it is known what is put.
 
 ghost use Rattle.std.specs.Prelude.{◌≡◌, ◌+◌, ◌≤◌, ◌%◌, ℕ, ℤ, List, length, IfOk, OnOk, OnErr};
-ghost use Rattle.std.specs.declared.option.Option.{Option};
+ghost use Rattle.cdf_puts.specs.declared.starts.Starts.{Starts};
 ghost use Rattle.cdf_area.specs.Calls.{Edits, Reads};
 ghost use Rattle.cdf_edits.specs.Answers.{Answers};
 ghost use Rattle.cdf_edits.specs.Commands.Allowances.{shapes_of};
@@ -151,7 +151,7 @@ impl Vars {
         requires limit { (A.frame area.old).limit ≤ image_limit }
         ensures follows { OnOk result ((c : Command) (name : List ℕ) → PutsSo (A.image area.old) c name rec target.now bytes.items → Follows (A.image area.old) c (A.image area.new)) }
         ensures known { OnOk result (Knows (A.image area.new) self.now) }
-        ensures starts { OnOk result ((starts : ℕ → Option ℕ) → KnowsStarts (A.image area.old) starts → KnowsStarts (A.image area.new) starts) }
+        ensures starts { OnOk result ((starts : Starts) → KnowsStarts (A.image area.old) starts → KnowsStarts (A.image area.new) starts) }
         ensures area { Edits A.frame A.faults area.old area.new result }
     {
         let put = read_new_record(self.alloc, area, target, rec, count, bytes)?;

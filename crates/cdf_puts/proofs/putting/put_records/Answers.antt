@@ -26,4 +26,4 @@ pub returns-in_err-k-clause-area : goal.returns-in_err-k-clause-area
 returns-in_err-k-clause-area g c = edit_failed c.loop-k.invariant.area c.in_err-k.ensures.area c.from_residual.ensures.1
 
 pub put_next-requires-clause-known : goal.put_next-requires-clause-known
-put_next-requires-clause-known g c = known_yet c.requires.some c.loop-k.invariant.puts c.requires.known
+put_next-requires-clause-known g c = known_yet c.args.known c.requires.some c.loop-k.invariant.puts c.requires.known

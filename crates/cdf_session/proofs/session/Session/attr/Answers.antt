@@ -12,4 +12,4 @@ invariant_of-self g c =
     (g.A.Area.frame c.self.inside.area) (g.A.Area.frame c.mark.new.self) (g.A.Area.frame c.create-done.new.area) (g.A.Area.frame c.settle.new.area)
     c.self.inside.attrs c.create-done.new.self c.self.inside.vars (Attr c.args.name.now c.args.scope) refl c.create-done.result
     c.self.invariant.0 c.mark.ensures.image c.mark.ensures.frame c.create-done.ensures.area.frame c.settle.ensures.frame
-    c.create-done.ensures.answers c.create-done.ensures.known c.create-done.ensures.stays c.settle.ensures.kept c.settle.ensures.undone, none_known c.forget.ensures)
+    c.create-done.ensures.answers c.create-done.ensures.known c.create-done.ensures.stays c.settle.ensures.kept c.settle.ensures.undone, none_known _ _ c.forget.ensures)

@@ -12,4 +12,4 @@ invariant_of-self g c =
     (g.A.Area.frame c.self.inside.area) (g.A.Area.frame c.mark.new.self) (g.A.Area.frame c.remove-done.new.area) (g.A.Area.frame c.settle.new.area)
     c.self.inside.attrs c.remove-done.new.self c.self.inside.vars (DelAttr c.args.name.now) refl c.remove-done.result
     c.self.invariant.0 c.mark.ensures.image c.mark.ensures.frame c.remove-done.ensures.area.frame c.settle.ensures.frame
-    c.remove-done.ensures.answers c.remove-done.ensures.known c.remove-done.ensures.stays c.settle.ensures.kept c.settle.ensures.undone, none_known c.forget.ensures)
+    c.remove-done.ensures.answers c.remove-done.ensures.known c.remove-done.ensures.stays c.settle.ensures.kept c.settle.ensures.undone, none_known _ _ c.forget.ensures)

@@ -12,4 +12,4 @@ invariant_of-self g c =
     (g.A.Area.frame c.self.inside.area) (g.A.Area.frame c.mark.new.self) (g.A.Area.frame c.del_entry-done.new.area) (g.A.Area.frame c.settle.new.area)
     c.self.inside.attrs c.del_entry-done.new.self c.self.inside.vars (DelEntry c.args.attr.now c.args.kind c.args.num) refl c.del_entry-done.result
     c.self.invariant.0 c.mark.ensures.image c.mark.ensures.frame c.del_entry-done.ensures.area.frame c.settle.ensures.frame
-    c.del_entry-done.ensures.answers c.del_entry-done.ensures.known c.del_entry-done.ensures.stays c.settle.ensures.kept c.settle.ensures.undone, none_known c.forget.ensures)
+    c.del_entry-done.ensures.answers c.del_entry-done.ensures.known c.del_entry-done.ensures.stays c.settle.ensures.kept c.settle.ensures.undone, none_known _ _ c.forget.ensures)

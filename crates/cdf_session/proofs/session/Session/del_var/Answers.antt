@@ -13,4 +13,4 @@ invariant_of-self g c =
     c.self.inside.attrs c.delete_variable-done.new.attrs c.self.inside.vars c.delete_variable-done.new.vars (DelVar c.args.name.now) c.delete_variable-done.result
     c.self.invariant.0 c.mark.ensures.image c.mark.ensures.frame c.delete_variable-done.ensures.area.frame c.settle.ensures.frame c.delete_variable-done.ensures.answers
     c.delete_variable-done.ensures.attributes c.delete_variable-done.ensures.attributes_stay c.delete_variable-done.ensures.variables c.delete_variable-done.ensures.variables_stay
-    c.settle.ensures.kept c.settle.ensures.undone, none_known c.forget.ensures)
+    c.settle.ensures.kept c.settle.ensures.undone, none_known _ _ c.forget.ensures)

@@ -12,4 +12,4 @@ invariant_of-self g c =
     (g.A.Area.frame c.self.inside.area) (g.A.Area.frame c.mark.new.self) (g.A.Area.frame c.put_entry-done.new.area) (g.A.Area.frame c.settle.new.area)
     c.self.inside.attrs c.put_entry-done.new.self c.self.inside.vars (PutEntry c.args.attr.now c.args.kind c.args.num c.args.t c.args.words.now) refl c.put_entry-done.result
     c.self.invariant.0 c.mark.ensures.image c.mark.ensures.frame c.put_entry-done.ensures.area.frame c.settle.ensures.frame
-    c.put_entry-done.ensures.answers c.put_entry-done.ensures.known c.put_entry-done.ensures.stays c.settle.ensures.kept c.settle.ensures.undone, none_known c.forget.ensures)
+    c.put_entry-done.ensures.answers c.put_entry-done.ensures.known c.put_entry-done.ensures.stays c.settle.ensures.kept c.settle.ensures.undone, none_known _ _ c.forget.ensures)

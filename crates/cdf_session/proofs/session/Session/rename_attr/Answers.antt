@@ -12,4 +12,4 @@ invariant_of-self g c =
     (g.A.Area.frame c.self.inside.area) (g.A.Area.frame c.mark.new.self) (g.A.Area.frame c.rename-done.new.area) (g.A.Area.frame c.settle.new.area)
     c.self.inside.attrs c.rename-done.new.self c.self.inside.vars (RenameAttr c.args.from.now c.args.to.now) refl c.rename-done.result
     c.self.invariant.0 c.mark.ensures.image c.mark.ensures.frame c.rename-done.ensures.area.frame c.settle.ensures.frame
-    c.rename-done.ensures.answers c.rename-done.ensures.known c.rename-done.ensures.stays c.settle.ensures.kept c.settle.ensures.undone, none_known c.forget.ensures)
+    c.rename-done.ensures.answers c.rename-done.ensures.known c.rename-done.ensures.stays c.settle.ensures.kept c.settle.ensures.undone, none_known _ _ c.forget.ensures)
