@@ -16,7 +16,7 @@ abbrev pub rest_of : Nodes → Nodes
 rest_of no_node = no_node
 rest_of (node place room es more) = more
 
-record Top (b : List ℕ) (levels : ℕ) (nodes : Nodes) : Type 0 where
+pub record Top (b : List ℕ) (levels : ℕ) (nodes : Nodes) : Type 0 where
   pub levels_below : ℕ
   pub fewer : levels_below < levels
   pub used_is : used_count b (link_to nodes) ≡ entry_count (entries_of nodes)
@@ -28,7 +28,7 @@ record Top (b : List ℕ) (levels : ℕ) (nodes : Nodes) : Type 0 where
   pub rest : IsNode (rest_of nodes) → IsTree b levels (rest_of nodes)
   pub nodes_left : length (nodes_of (rest_of nodes)) < length (nodes_of nodes)
 
-top : (b : List ℕ) (levels : ℕ) (nodes : Nodes) → IsTree b levels nodes → Top b levels nodes
+pub top : (b : List ℕ) (levels : ℕ) (nodes : Nodes) → IsTree b levels nodes → Top b levels nodes
 unfolding HasNodes nodes_of leaves_of InOrder
 top b levels no_node t = absurd t.is_node
 top b zero (node place room es more) t = absurd t.stands.has

@@ -41,3 +41,5 @@ pub mod OwnRecords
 pub mod NewIndex
 pub mod LeavesAscend
 pub mod EntriesLeft
+pub mod FromReached
+pub mod StartFound

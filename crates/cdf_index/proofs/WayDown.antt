@@ -134,7 +134,7 @@ node_there_by head nodes e n = node_there nodes (λ z. n (e ∙ z))
 pub no_zero : (b ts : List ℕ) (levels : ℕ) (nodes : Nodes) → AreTiles b 8 (length b) ts → HasNodes b ts levels nodes → In 0 (nodes_of nodes) → ⊥
 no_zero b ts levels nodes t h i = some_place b ts (length b) 0 t (linkable-in b ts vxr_type 0 (nodes_stand b ts levels nodes h 0 i)) refl
 
-chain_there : (f : ℕ) (nodes : Nodes) → chain_reaches f nodes ≡ true → IsNode nodes
+pub chain_there : (f : ℕ) (nodes : Nodes) → chain_reaches f nodes ≡ true → IsNode nodes
 chain_there f no_node t = absurd (cc)
 chain_there f (node place room es more) t = tt
 

@@ -12,3 +12,4 @@ pub mod Way
 pub mod Replacing
 pub mod Adding
 pub mod Descent
+pub mod Starting

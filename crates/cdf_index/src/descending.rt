@@ -21,10 +21,10 @@ use std::sync::ledger::Ledger;
 
 /// A node as it is met along a chain, and how many of its entries begin at a record or before it.
 #[derive(Clone, Copy)]
-struct Stop {
-    place: u64,
-    head: Head,
-    begun: u64,
+pub struct Stop {
+    pub place: u64,
+    pub head: Head,
+    pub begun: u64,
 }
 
 /// A node on the way: how many entries it has room for and uses, the next node, how many of its entries begin at a record or before it, and the lower chain that the last of these names, 0 for none.
@@ -54,7 +54,7 @@ pub struct Way {
 }
 
 /// A node, as a record is looked for.
-fn see_node<A: Area, L: Ledger>(
+pub fn see_node<A: Area, L: Ledger>(
     area: &mut A,
     at: u64,
     first: u32,
@@ -91,7 +91,7 @@ fn better(best: Stop, here: Stop) -> Stop
 }
 
 /// The last node of a chain that has an entry which begins at a record or before it, or else the first node.
-fn stop_of_chain<A: Area, L: Ledger>(
+pub fn stop_of_chain<A: Area, L: Ledger>(
     area: &mut A,
     at: u64,
     first: u32,

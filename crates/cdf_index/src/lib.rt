@@ -14,6 +14,7 @@ mod nodes;
 mod records;
 mod scanning;
 mod splitting;
+mod starting;
 
 pub use collecting::{IndexParts, index_parts, index_records};
 pub use descending::{Spot, Step, Way, way_down};
@@ -25,3 +26,4 @@ pub use next::next_first;
 pub use nodes::Leaf;
 pub use records::{read_rec, write_recs};
 pub use splitting::{read_entries, shorten_node};
+pub use starting::start_of;

@@ -1,8 +1,11 @@
 -- What the calls ask for that add a leaf, and what they leave.
+use Rattle.cdf_leaves.proofs.Common.{AddsLeaf, ChainInside, Each, Entry, EntryPut, Good, Grew, In, IndexStarted, IsAmong, IsStep, IsWay, Kind, List, MayPut, Nodes, Placed, Spot, StandsAmong, Step, StepSays, StepStands, VariableShape, WayStands, WidenedAlong, [], ap, apart, arith, chain_end, entry, eof, false, field_set, fits, gdr_offset, grew, has, image_limit, index_at, inl, inr, leaf, length, link_to, long, map, max, new_room, node_stays, nodes_of, number, refl, shape, sound, spot, stands, step_pair, sym, tile, tile_lies, type_kept, type_of_body, uir_type, unlike, variables, vdr_vxr_head, vdr_vxr_tail, vdrs, vvr_type, vxr_bytes, vxr_type, vxr_vxr_next, way, widest, with_field, with_leaf, ℕ, ◌++◌, ◌+◌, ◌∙◌, ◌∷◌, ◌≡◌, ◌≢◌, ◌≤◌, ◌⊎◌}
 use Rattle.cdf_edits.proofs.Edits.RecordGrown as of_grown
-use Rattle.cdf_leaves.proofs.Common.{AddsLeaf, ChainInside, Each, Entry, EntryPut, Good, Grew, HasIndex, In, IndexStarted, IsAmong, IsStep, IsWay, Kind, List, MayPut, Placed, Spot, StandsAmong, Step, StepSays, StepStands, VariableShape, WayStands, WidenedAlong, [], ap, apart, arith, chain_end, entry, eof, false, field_set, gdr_offset, grew, has, image_limit, index_at, inl, inr, leaf, length, long, map, max, new_room, node_stays, nodes_of, number, refl, shape, sound, spot, stands, step_pair, subst, sym, tile, tile_lies, type_kept, type_of_body, uir_type, unlike, variables, vdr_vxr_head, vdr_vxr_tail, vdrs, vvr_type, vxr_bytes, vxr_type, vxr_vxr_next, way, widest, with_field, with_leaf, ℕ, ◌++◌, ◌+◌, ◌∙◌, ◌∷◌, ◌≡◌, ◌≢◌, ◌≤◌, ◌⊎◌}
+use Rattle.cdf_edits.proofs.Edits.VariableFrame.{Each-map}
+use Rattle.cdf_index.proofs.FromReached.{StartsAt, starts_at}
+use Rattle.cdf_index.specs.Starting.{IsStart, from_reached}
 use Rattle.cdf_index.specs.declared.descending.Way.{Way}
-use Rattle.cdf_leaves.proofs.LeafGrown.{EntryStands, Onto, not_on_way, entry_stands, wide_state, chain_ready, vdr_lies, tail_stays, tail_written}
+use Rattle.cdf_leaves.proofs.LeafGrown.{EntryStands, Onto, not_on_way, entry_stands, wide_state, chain_found, chain_ready, vdr_lies, tail_stays, tail_written}
 use Rattle.cdf_leaves.proofs.Grown.{was}
 use Rattle.cdf_leaves.proofs.LeafStarted.{first_added}
 use Rattle.cdf_leaves.proofs.Own.{searchable, own_node, node_fits, node_kept, node_spares, still_sees}
@@ -37,8 +40,8 @@ pub among_kind : (b : List ℕ) (vdr : ℕ) (i : In vdr (vdrs (variables (shape 
 among_kind b vdr i = let o = one_of b vdr i in record { was = o.among.was ∙ ap (λ (k : ℕ). o.before ++ record o.own { vdr = k } ∷ o.after) o.vdr_is }
 
 module _ {b : List ℕ} {kind : Kind} {before : List VariableShape} {own : VariableShape} {after : List VariableShape} (good : Good b) (at_own : StandsAmong b kind before own after) where
-  pub index_there : {head : ℕ} → head ≡ number b own.vdr vdr_vxr_head → HasIndex b head
-  index_there e = subst (HasIndex b) (sym e) (searchable good at_own).0
+  pub start_there : {head first start : ℕ} → head ≡ number b own.vdr vdr_vxr_head → IsStart b head first start → StartsAt b head first start
+  start_there e s = starts_at (rw e (searchable good at_own).0) s
 
   pub vdr_there : own.vdr + 340 ≤ length b
   vdr_there = omega (arith, (tile_lies b 8 (length b) (shape b).records own.vdr (sound good at_own).has_shape.tiled (tile good at_own)).high, long good at_own)
@@ -69,7 +72,20 @@ module _ {b : List ℕ} {kind : Kind} {before : List VariableShape} {own : Varia
 
     -- ---- the way was looked for
 
-    module _ {head first : ℕ} (head_is : head ≡ number b own.vdr vdr_vxr_head) {found : Way} (w : IsWay b head first found) where
+    module _ {head first start : ℕ} (head_is : head ≡ number b own.vdr vdr_vxr_head) (at_start : IsStart b head first start) {found : Way} (from_start : IsWay b start first found) where
+      starts : StartsAt b head first start
+      starts = start_there head_is at_start
+
+      w : IsWay b head first found
+      w = record {
+        steps_are = from_start.steps_are ∙ starts.way_is;
+        end_is = from_start.end_is ∙ starts.spot_is;
+        sees = from_start.sees;
+        last = starts.among found.end.place from_start.last;
+        among = Each-map (IsAmong (index_at b start)) (IsAmong (index_at b head)) (λ step. starts.among step.place) found.steps.items from_start.among;
+        say = from_start.say;
+      }
+
       index : index_at b head ≡ own.index
       index = ap (index_at b) head_is ∙ (searchable good at_own).1
 
@@ -114,7 +130,7 @@ module _ {b : List ℕ} {kind : Kind} {before : List VariableShape} {own : Varia
 
       -- ---- the entry was put
 
-      module _ {grown : List ℕ} {last at : ℕ} (some : head ≢ 0) (type_is : type_of_body body ≡ vvr_type) (lim : ℕ) (room : length b + (8 + length body) + vxr_bytes (widest (index_at b head)) ≤ lim) (limit : lim ≤ image_limit) (put : EntryPut filled grown found.end (entry first last place) at) where
+      module _ {grown : List ℕ} {last at : ℕ} (some : start ≢ 0) (type_is : type_of_body body ≡ vvr_type) (lim : ℕ) (room : length b + (8 + length body) + vxr_bytes (widest (index_at b head)) ≤ lim) (limit : lim ≤ image_limit) (put : EntryPut filled grown found.end (entry first last place) at) where
         grown_short : length grown ≤ image_limit
         grown_short =
             let m = may_put in
@@ -128,7 +144,7 @@ module _ {b : List ℕ} {kind : Kind} {before : List VariableShape} {own : Varia
           block_is = block.fills.typed ∙ type_is;
           plain = refl;
           block_fresh = λ m j. (let n = own_node good at_own m j in unlike (sound good at_own) block.fills m n.0 (λ u. apart vxr_type uir_type refl (sym n.1 ∙ u)));
-          some = λ z. some (head_is ∙ z);
+          some = λ z. starts.some some (head_is ∙ z);
           end_is = end_is;
           among = last_there;
           sees = w.sees;
@@ -156,8 +172,11 @@ module _ {b : List ℕ} {kind : Kind} {before : List VariableShape} {own : Varia
           state : State b stands_now.roomy wide (shape stands_now.roomy).records (nodes_of (with_leaf (leaf first last place false) at own.index)) (was b (nodes_of own.index) place (8 + length body) (new_room first own.index) at) found.end.place (with_leaf (leaf first last place false) at own.index)
           state = wide_state good at_own onto (8 + length body) stands_now is_steps (rw way_is at widened)
 
-          pub tail_ready : ChainInside (length wide) wide head × (own.vdr + 44 ≤ length wide) × (length wide ≤ image_limit)
-          tail_ready = (rw head_is (chain_ready good at_own onto (8 + length body) stands_now state), omega (arith, vdr_lies good at_own onto (8 + length body) stands_now state), omega (arith, state.as_long, stands_now.state.as_long, grown_short))
+          start_is : start ≡ link_to (from_reached first own.index)
+          start_is = at_start ∙ ap (λ (ns : Nodes). link_to (from_reached first ns)) index
+
+          pub tail_ready : ChainInside (length wide) wide start × (own.vdr + 44 ≤ length wide) × (length wide ≤ image_limit)
+          tail_ready = (chain_ready good at_own onto (8 + length body) stands_now state start_is some, omega (arith, vdr_lies good at_own onto (8 + length body) stands_now state), omega (arith, state.as_long, stands_now.state.as_long, grown_short))
 
           pub grown_stays : (at ≡ 0) ⊎ (found.steps.items ≢ []) → AddsLeaf b wide own first last body
           grown_stays why = record { place = place; at = at; added = tail_stays good at_own onto (8 + length body) stands_now state block refl (elim why [ inl z ↦ inl z | inr ne ↦ inr (λ z. ne (no_steps found.steps.items (way_is ∙ z))) ]) }
@@ -166,5 +185,5 @@ module _ {b : List ℕ} {kind : Kind} {before : List VariableShape} {own : Varia
               no_steps [] e = refl
               no_steps (step ∷ more) e = absurd (cc)
 
-          pub grown_tail : {now : List ℕ} → at ≢ 0 → found.steps.items ≡ [] → now ≡ with_field wide own.vdr vdr_vxr_tail (chain_end (length wide) wide head) → AddsLeaf b now own first last body
-          grown_tail ne none is = record { place = place; at = at; added = tail_written good at_own onto (8 + length body) stands_now state block refl grown_short ne (sym way_is ∙ ap (map step_pair) none) (is ∙ ap (λ (h : ℕ). with_field wide own.vdr vdr_vxr_tail (chain_end (length wide) wide h)) head_is) }
+          pub grown_tail : {now : List ℕ} → at ≢ 0 → found.steps.items ≡ [] → now ≡ with_field wide own.vdr vdr_vxr_tail (chain_end (length wide) wide start) → AddsLeaf b now own first last body
+          grown_tail ne none is = record { place = place; at = at; added = tail_written good at_own onto (8 + length body) stands_now state block refl grown_short ne (sym way_is ∙ ap (map step_pair) none) (chain_found good at_own onto (8 + length body) stands_now state start_is some) is }

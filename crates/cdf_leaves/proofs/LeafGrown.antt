@@ -5,7 +5,9 @@ use Rattle.cdf_format.proofs.NameRules.{bytes_eq-same}
 use Rattle.cdf_format.proofs.Tests.{same_of_bytes_eq}
 use Rattle.cdf_index.proofs.LeafMore.{leaves_more}
 use Rattle.cdf_index.proofs.NodeGrown.{grown_owed, split_owed, chained_owed, placed_link, placed_node as entry_placed}
+use Rattle.cdf_index.proofs.FromReached.{Rest, leaf_rest, rest_among, rest_has, rest_last, rest_once}
 use Rattle.cdf_index.proofs.NodeSplit.{split}
+use Rattle.cdf_index.specs.Starting.{from_reached}
 use Rattle.cdf_leaves.proofs.TopChain.{top_stays, top_grows, chain_inside, end_is_last, last_in}
 use Rattle.cdf_leaves.proofs.Grown.{was, was_old, was_new, old_node, new_node, inserted_node, shortened_node, names_leaf, room_with, room_full}
 use Rattle.cdf_leaves.proofs.Linked.{link_set, link_room, link_used, link_entries, link_spares}
@@ -316,15 +318,25 @@ module _ {b : List ℕ} {kind : Kind} {before : List VariableShape} {own : Varia
       link_is : number b own.vdr vdr_vxr_head ≡ link_to after_leaf
       link_is = (has good stood).indexed.link_is ∙ sym (link_leaf l at index (node_there_by (number b own.vdr vdr_vxr_head) index (has good stood).indexed.link_is o.some))
 
-      after_node : IsNode after_leaf
-      after_node = node_leaf l at index
+      -- what the search for the end of the top chain asks for, and what it finds, from the node on where the way was looked for
+      module _ {start : ℕ} (start_is : start ≡ link_to (from_reached l.first index)) (some : start ≢ 0) where
+        abbrev from_start : Nodes
+        from_start = with_leaf l at (from_reached l.first index)
 
-      -- what the search for the end of the top chain asks for, and what it finds
-      pub chain_ready : ChainInside (length wide) wide (number b own.vdr vdr_vxr_head)
-      chain_ready = rw link_is (chain_inside wide recs st.tiled (length wide) 8 after_leaf st.has after_node)
+        start_link : start ≡ link_to from_start
+        start_link = start_is ∙ sym (link_leaf l at (from_reached l.first index) (node_there_by start (from_reached l.first index) start_is some))
 
-      chain_found : chain_end (length wide) wide (number b own.vdr vdr_vxr_head) ≡ last_node after_leaf
-      chain_found = ap (chain_end (length wide) wide) link_is ∙ end_is_last wide recs st.tiled 8 after_leaf st.has after_node once_every stand_every
+        rest : Rest from_start after_leaf
+        rest = leaf_rest l at index
+
+        from_node : IsNode from_start
+        from_node = node_leaf l at (from_reached l.first index)
+
+        pub chain_ready : ChainInside (length wide) wide start
+        chain_ready = rw start_link (chain_inside wide recs st.tiled (length wide) 8 from_start (rest_has wide recs 8 rest st.has) from_node)
+
+        pub chain_found : chain_end (length wide) wide start ≡ last_node after_leaf
+        chain_found = ap (chain_end (length wide) wide) start_link ∙ end_is_last wide recs st.tiled 8 from_start (rest_has wide recs 8 rest st.has) from_node (rest_once rest once_every) (λ m i. stand_every m (rest_among rest m i)) ∙ rest_last rest from_node
 
       -- ---- what a write in the descriptor leaves
 
@@ -367,8 +379,8 @@ module _ {b : List ℕ} {kind : Kind} {before : List VariableShape} {own : Varia
             let test : bytes_eq (top_chain index) (top_chain after_leaf) ≡ true = ap (bytes_eq (top_chain index)) same ∙ bytes_eq-same (top_chain index) in
             leaf_added block need_is [] nothing_changed tt refl (λ m i. kept_self wide recs m st.tiled (stand_every m i)) (record { sizes = λ m i. refl; types = λ m i. refl; sub = λ m i. i }) refl (number_kept b wide own.vdr vdr_wide.same vdr_vxr_tail (omega (arith, long good stood)) ∙ rw test refl)
 
-        pub tail_written : {now : List ℕ} → length grown ≤ image_limit → at ≢ 0 → way l.first index ≡ [] → now ≡ with_field wide own.vdr vdr_vxr_tail (chain_end (length wide) wide (number b own.vdr vdr_vxr_head)) → LeafAdded b now own l body at
-        tail_written {now = now} short ne none is =
+        pub tail_written : {now : List ℕ} {end : ℕ} → length grown ≤ image_limit → at ≢ 0 → way l.first index ≡ [] → end ≡ last_node after_leaf → now ≡ with_field wide own.vdr vdr_vxr_tail end → LeafAdded b now own l body at
+        tail_written {now = now} short ne none chain_found is =
             let set = field_set {b = wide} {at = own.vdr} {f = vdr_vxr_tail} (omega (arith, vdr_lies)) is in
             let fit : 36 + 8 ≤ size_at wide own.vdr = omega (arith, long good stood, size_kept b wide own.vdr vdr_wide.same (omega (arith, long good stood))) in
             let grows = top_grows l at index none (elim e.none [ inl p ↦ absurd (ne p.0) | inr p ↦ λ z. absurd (omega arith) ]) in
@@ -379,4 +391,4 @@ module _ {b : List ℕ} {kind : Kind} {before : List VariableShape} {own : Varia
             leaf_added block need_is (touch own.vdr 36 8 ∷ []) set.changed (inl (refl, omega arith, omega arith), tt) set.as_long
             (λ m i. others_stay wide now recs st.tiled own.vdr 36 8 vdr_first (omega arith) fit set.changed m (stand_every m i) (node_apart m i))
             (heads_stay wide now recs st.tiled own.vdr 36 8 vdr_first (omega arith) fit set.changed) (set.past (own.vdr + 28) 8 (inl (omega arith)))
-            (set.reads (omega (arith, chain_found, (tile_lies wide 8 (length wide) recs (last_node after_leaf) st.tiled (stand_every (last_node after_leaf) (last_in after_leaf after_node))).high, st.as_long, e.state.as_long)) ∙ chain_found ∙ rw longer refl)
+            (set.reads (omega (arith, chain_found, (tile_lies wide 8 (length wide) recs (last_node after_leaf) st.tiled (stand_every (last_node after_leaf) (last_in after_leaf (node_leaf l at index)))).high, st.as_long, e.state.as_long)) ∙ chain_found ∙ rw longer refl)

@@ -15,15 +15,15 @@ ghost use Rattle.cdf_model.specs.Limits.{image_limit};
 ghost use Rattle.cdf_model.specs.declared.kinds.Kind.{Kind};
 ghost use Rattle.cdf_index.specs.Adding.{AddsLeaf};
 ghost use Rattle.cdf_index.specs.Finding.{HasIndex, index_at};
+ghost use Rattle.cdf_index.specs.Starting.{IsStart};
 ghost use Rattle.cdf_leaves.specs.Added.{IsWay};
 
 use crate::putting::{put_entry, start_index};
 use crate::tail::set_tail;
 use crate::widening::widen_way;
 use cdf_area::{Area, AreaError};
-use cdf_format::fields::VDR_VXR_HEAD;
 use cdf_index::{Entry, Way, way_down};
-use cdf_records::{Steps, read_unsigned8};
+use cdf_records::Steps;
 use cdf_space::place_record;
 use std::alloc::Global;
 use std::marker::Brand;
@@ -66,45 +66,15 @@ fn grow_index<A: Area>(
     alloc: Global,
     area: &mut A,
     vdr: u64,
-    head: u64,
+    start: u64,
     first: u32,
     last: u32,
     body: &[u8],
 ) -> Result<(), AreaError>
     requires good { Good (A.image area.old) }
     requires vdr { In vdr (vdrs (variables (shape (A.image area.old)))) }
-    requires head { head ≡ number (A.image area.old) vdr vdr_vxr_head }
-    requires there { head ≢ 0 }
-    requires body { IsBody body.now }
-    requires block { type_of_body body.now ≡ vvr_type }
-    requires room { length (A.image area.old) + (8 + length body.now) + vxr_bytes (widest (index_at (A.image area.old) head)) ≤ (A.frame area.old).limit }
-    requires limit { (A.frame area.old).limit ≤ image_limit }
-    ensures added { OnOk result ((kind : Kind) (before : List VariableShape) (own : VariableShape) (after : List VariableShape) → StandsAmong (A.image area.old) kind before own after → own.vdr ≡ vdr → AddsLeaf (A.image area.old) (A.image area.new) own first last body.now) }
-    ensures area { Edits A.frame A.faults area.old area.new result }
-{
-    let way = find_way(alloc, area, head, first)?;
-    let place = place_record(area, body)?;
-    let entry = Entry { first, last, place };
-    let at = put_entry(alloc, area, way.end, entry)?;
-    widen_way(area, &way.steps, last)?;
-    if at == 0 || !way.steps.is_empty() {
-        return Ok(());
-    }
-    set_tail(area, vdr, head)
-}
-
-/// Adds a leaf to the index of the variable whose descriptor stands at a place: its block, with these bytes behind its size, and its entry, with a node more where one is needed.
-/// After an error a part of this may have been done.
-pub fn add_leaf<A: Area>(
-    alloc: Global,
-    area: &mut A,
-    vdr: u64,
-    first: u32,
-    last: u32,
-    body: &[u8],
-) -> Result<(), AreaError>
-    requires good { Good (A.image area.old) }
-    requires vdr { In vdr (vdrs (variables (shape (A.image area.old)))) }
+    requires start { IsStart (A.image area.old) (number (A.image area.old) vdr vdr_vxr_head) first start }
+    requires there { start ≢ 0 }
     requires body { IsBody body.now }
     requires block { type_of_body body.now ≡ vvr_type }
     requires room { length (A.image area.old) + (8 + length body.now) + vxr_bytes (widest (index_at (A.image area.old) (number (A.image area.old) vdr vdr_vxr_head))) ≤ (A.frame area.old).limit }
@@ -112,9 +82,40 @@ pub fn add_leaf<A: Area>(
     ensures added { OnOk result ((kind : Kind) (before : List VariableShape) (own : VariableShape) (after : List VariableShape) → StandsAmong (A.image area.old) kind before own after → own.vdr ≡ vdr → AddsLeaf (A.image area.old) (A.image area.new) own first last body.now) }
     ensures area { Edits A.frame A.faults area.old area.new result }
 {
-    let head = read_unsigned8(area, vdr + VDR_VXR_HEAD)?;
-    if head != 0 {
-        return grow_index(alloc, area, vdr, head, first, last, body);
+    let way = find_way(alloc, area, start, first)?;
+    let place = place_record(area, body)?;
+    let entry = Entry { first, last, place };
+    let at = put_entry(alloc, area, way.end, entry)?;
+    widen_way(area, &way.steps, last)?;
+    if at == 0 || !way.steps.is_empty() {
+        return Ok(());
+    }
+    set_tail(area, vdr, start)
+}
+
+/// Adds a leaf to the index of the variable whose descriptor stands at a place: its block, with these bytes behind its size, and its entry, with a node more where one is needed.
+/// The search for the place of the entry begins where it may start, at 0 where the index has no node. After an error a part of this may have been done.
+pub fn add_leaf<A: Area>(
+    alloc: Global,
+    area: &mut A,
+    vdr: u64,
+    start: u64,
+    first: u32,
+    last: u32,
+    body: &[u8],
+) -> Result<(), AreaError>
+    requires good { Good (A.image area.old) }
+    requires vdr { In vdr (vdrs (variables (shape (A.image area.old)))) }
+    requires start { IsStart (A.image area.old) (number (A.image area.old) vdr vdr_vxr_head) first start }
+    requires body { IsBody body.now }
+    requires block { type_of_body body.now ≡ vvr_type }
+    requires room { length (A.image area.old) + (8 + length body.now) + vxr_bytes (widest (index_at (A.image area.old) (number (A.image area.old) vdr vdr_vxr_head))) ≤ (A.frame area.old).limit }
+    requires limit { (A.frame area.old).limit ≤ image_limit }
+    ensures added { OnOk result ((kind : Kind) (before : List VariableShape) (own : VariableShape) (after : List VariableShape) → StandsAmong (A.image area.old) kind before own after → own.vdr ≡ vdr → AddsLeaf (A.image area.old) (A.image area.new) own first last body.now) }
+    ensures area { Edits A.frame A.faults area.old area.new result }
+{
+    if start != 0 {
+        return grow_index(alloc, area, vdr, start, first, last, body);
     }
     let place = place_record(area, body)?;
     start_index(area, vdr, Entry { first, last, place })

@@ -1,7 +1,6 @@
 -- Nodes of top chains that are known of the variables of an image, and that they are known yet where records were put.
 use Rattle.cdf_puts.proofs.Common.{Act, Each, Each-append, Each-split, GoesOn, Good, HasIndex, In, InTopChain, IsKnownOf, IsKnownStart, KeepsStart, Kind, KnowsStarts, Leaf, List, Nodes, None, Option, PutsUpTo, R, Some, SomePutting, StandsAmong, TopStays, VariableShape, Z, [], ap, arith, good_by_its_shape, good_is_sound, index_at, inl, inr, length, long, no_node, node, node_known, number, other_kind, refl, shape, shapes_of, sound, subst, sym, tile, tile_lies, top_chain, variables, vdr_vxr_head, vdrs, with_leaf, ℕ, ◌++◌, ◌+◌, ◌∙◌, ◌∷◌, ◌≡◌, ◌≢◌, ◌≤◌}
 use Rattle.cdf_format.proofs.GoodImageLemmas.{good_image}
-use Rattle.cdf_format.specs.Index.{link_to}
 use Rattle.cdf_index.proofs.GoodIndex.{good_index}
 use Rattle.cdf_index.proofs.OneVariable.{AmongAll, OneOf, among_all, one_of}
 use Rattle.cdf_puts.specs.declared.putting.NewRecord.{NewRecord}
@@ -16,10 +15,6 @@ top_kept new at (node place room es more) m i = grind (arith, i, top_kept new at
 tops_in : (before after : Nodes) → TopStays before after → (known : Option ℕ) → InTopChain before known → InTopChain after known
 tops_in before after stay None known = tt
 tops_in before after stay (Some m) known = stay m known
-
-pub top_first : (nodes : Nodes) (at : ℕ) → at ≡ link_to nodes → at ≢ 0 → In at (top_chain nodes)
-top_first no_node at e ne = absurd (ne e)
-top_first (node place room es more) at e ne = inl e
 
 -- ---- the index of a variable
 

@@ -17,7 +17,7 @@ ghost use Rattle.cdf_puts.specs.Steps.{IsBlockBody};
 
 use cdf_area::{Area, AreaError};
 use cdf_format::fields::{VDR_VXR_HEAD, VVR_TYPE};
-use cdf_index::{Leaf, find, next_first, write_recs};
+use cdf_index::{Leaf, find, next_first, start_of, write_recs};
 use cdf_leaves::add_leaf;
 use cdf_model::limits::RECORD_NUMBER_LIMIT;
 use cdf_records::{Steps, read_unsigned8};
@@ -63,6 +63,7 @@ fn find_counted<A: Area, L: Ledger>(
 }
 
 /// The leaf that has a record, in the index that a link leads to, of whose top chain a node may be known.
+#[tactic(auto, using(cdf_area::proofs::Calls::read_done, cdf_area::proofs::Calls::read_failed, cdf_area::proofs::Calls::read_more, cdf_area::proofs::Calls::read_once))]
 pub fn find_leaf<A: Area>(
     area: &mut A,
     head: u64,
@@ -75,7 +76,8 @@ pub fn find_leaf<A: Area>(
     ensures value { IfOk result (λ found. option_map seen found ≡ leaf_of rec (leaves_of (index_at (A.image area.old) head))) }
     ensures area { Reads A.image A.frame A.faults A.edited area.old area.new result }
 {
-    find_counted::<A, Brand>(area, head, rec, Blank::new(1))
+    let start = start_of(area, head, known, rec)?;
+    find_counted::<A, Brand>(area, start, rec, Blank::new(1))
 }
 
 /// The least First past a record, as `next_first` counts it in steps.
@@ -98,6 +100,7 @@ fn next_counted<A: Area, L: Ledger>(
 }
 
 /// The least First past a record, in the index that a link leads to, of whose top chain a node may be known.
+#[tactic(auto, using(cdf_area::proofs::Calls::read_done, cdf_area::proofs::Calls::read_failed, cdf_area::proofs::Calls::read_more, cdf_area::proofs::Calls::read_once))]
 pub fn find_next<A: Area>(
     area: &mut A,
     head: u64,
@@ -110,7 +113,8 @@ pub fn find_next<A: Area>(
     ensures value { IfOk result (λ next. next ≡ least_first_past rec (index_at (A.image area.old) head)) }
     ensures area { Reads A.image A.frame A.faults A.edited area.old area.new result }
 {
-    next_counted::<A, Brand>(area, head, rec, Blank::new(1))
+    let start = start_of(area, head, known, rec)?;
+    next_counted::<A, Brand>(area, start, rec, Blank::new(1))
 }
 
 /// These bytes, and bytes 0 behind them up to the least size of a record.
@@ -213,7 +217,8 @@ fn add_block<A: Area>(
 {
     let last = last_of_new(area, head, known, k, put.most)?;
     let body = put.block_body(alloc, k, last)?;
-    add_leaf(alloc, area, put.vdr, k, last, &body)?;
+    let start = start_of(area, head, known, k)?;
+    add_leaf(alloc, area, put.vdr, start, k, last, &body)?;
     Ok(last.min(put.rec) + 1)
 }
 

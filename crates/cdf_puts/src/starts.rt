@@ -10,6 +10,7 @@ ghost use Rattle.cdf_puts.specs.Starts.{IsKnownStart, KeepsStart, KnowsStarts, n
 
 use cdf_area::{Area, AreaError};
 use cdf_format::fields::VDR_VXR_HEAD;
+use cdf_index::start_of;
 use cdf_records::read_unsigned8;
 use std::alloc::Global;
 use std::collections::BTreeMap;
@@ -57,11 +58,12 @@ impl Starts {
 
     /// A node, if one is known, of the top chain of the index of the variable whose descriptor stands at a place. From the node that was
     /// known, the way goes on to the one at which a search for a record may start, and this one is kept.
+    #[tactic(auto, using(cdf_area::proofs::Calls::read_done, cdf_area::proofs::Calls::read_failed, cdf_area::proofs::Calls::read_more, cdf_area::proofs::Calls::read_once))]
     pub fn find_start<A: Area>(
         &mut self,
         area: &mut A,
         vdr: u64,
-        _rec: u32,
+        rec: u32,
     ) -> Result<Option<u64>, AreaError>
         requires good { Good (A.image area.old) }
         requires short { length (A.image area.old) ≤ image_limit }
@@ -74,7 +76,8 @@ impl Starts {
         // An image has fewer than 2^64 bytes, so no place in it overflows.
         let _size = area.size();
         let head = read_unsigned8(area, vdr + VDR_VXR_HEAD)?;
-        self.keep(vdr, head);
+        let start = start_of(area, head, self.node_of(vdr), rec)?;
+        self.keep(vdr, start);
         Ok(self.node_of(vdr))
     }
 }

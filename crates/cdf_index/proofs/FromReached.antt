@@ -1,0 +1,184 @@
+-- What a search has that starts along the top chain of an index, and what of the index it has with the search from the first node.
+use Rattle.cdf_index.proofs.Common.{AreInOrder, AreTiles, Distinct, Distinct-back, Entries, HasIndex, HasNodes, In, In-append_right, InOrder, IsNode, IsOrderly, IsTree, Leaf, List, NodeFits, Nodes, Option, Stands, [], ap, append_assoc, arith, block, cases_eq, chain_reaches, either, entry_firsts, filter, find_entry, find_in, firsts_of, fold, has, index_at, inl, inr, leaf_of, least_first_past, leaves_of, length, link_to, lower, lower_nodes, ltb, min, nat_tests, no_entry, no_node, node, nodes_of, number_within, past_entries, record_number_limit, refl, spot, subst, suc, sym, tiles, way, with_leaf, zero, ℕ, ◌++◌, ◌+◌, ◌<◌, ◌∙◌, ◌≡◌, ◌≢◌, ◌≤◌}
+use Rattle.cdf_edits.specs.Index.Written.{last_node, top_chain}
+use Rattle.cdf_format.proofs.IndexLemmas.{levels_complete}
+use Rattle.cdf_format.specs.IndexWalk.{nodes_met}
+use Rattle.cdf_edits.proofs.Edits.VariableFrame.{Each-map}
+use Rattle.cdf_index.proofs.Ascending.{index_stands}
+use Rattle.cdf_index.proofs.Coming.{chain_reaches_from}
+use Rattle.cdf_index.proofs.EntriesLeft.{node_parts}
+use Rattle.cdf_index.proofs.LeavesAscend.{end_before}
+use Rattle.cdf_index.proofs.Looking.{none_there}
+use Rattle.cdf_index.proofs.OrderLemmas.{end_after, find_is}
+use Rattle.cdf_index.proofs.WayDown.{chain_there, node_there_by}
+use Rattle.cdf_index.specs.Starting.{IsStart, from_reached}
+
+-- ---- a chain from one of its nodes on
+
+pub data Rest : Nodes → Nodes → Type 0 where
+  whole : {ns : Nodes} → Rest ns ns
+  behind : {place room : ℕ} {es : Entries} {s more : Nodes} → Rest s more → Rest s (node place room es more)
+
+rest_node : {s ns : Nodes} → Rest s ns → IsNode s → IsNode ns
+rest_node whole is = is
+rest_node (behind r) is = tt
+
+pub rest_last : {s ns : Nodes} → Rest s ns → IsNode s → last_node s ≡ last_node ns
+rest_last whole is = refl
+rest_last (behind {more = no_node} r) is = absurd (rest_node r is)
+rest_last (behind {more = node place room es more} r) is = rest_last r is
+
+pub rest_among : {s ns : Nodes} → Rest s ns → (m : ℕ) → In m (nodes_of s) → In m (nodes_of ns)
+unfolding nodes_of
+rest_among whole m i = i
+rest_among (behind {es = es} {more = more} r) m i = inr (In-append_right m (lower_nodes es) (nodes_of more) (rest_among r m i))
+
+pub rest_has : (b ts : List ℕ) (levels : ℕ) {s ns : Nodes} → Rest s ns → HasNodes b ts levels ns → HasNodes b ts levels s
+unfolding HasNodes
+rest_has b ts levels whole h = h
+rest_has b ts zero (behind r) h = absurd h
+rest_has b ts (suc levels) (behind r) h = rest_has b ts (suc levels) r h.2
+
+pub rest_once : {s ns : Nodes} → Rest s ns → Distinct (nodes_of ns) → Distinct (nodes_of s)
+unfolding nodes_of
+rest_once whole d = d
+rest_once (behind {es = es} {more = more} r) d = rest_once r (Distinct-back (lower_nodes es) (nodes_of more) d.1)
+
+-- ---- it stands, in order
+
+order_from : (low low' high : ℕ) (ns : Nodes) → low' ≤ low → InOrder low high ns → InOrder low' high ns
+unfolding InOrder AreInOrder
+order_from low low' high no_node le o = tt
+order_from low low' high (node place room no_entry more) le o = (tt, order_from low low' high more le o.1)
+order_from low low' high (node place room (block first last at packed es) more) le o = ((omega (arith, o.0.0), o.0.1, o.0.2, o.0.3), o.1)
+order_from low low' high (node place room (lower first last nodes es) more) le o = ((omega (arith, o.0.0), o.0.1, o.0.2, o.0.3, o.0.4), o.1)
+
+record Standing (b : List ℕ) (levels : ℕ) (ns : Nodes) : Type 0 where
+  pub stands : Stands b levels ns
+  pub once : Distinct (nodes_of ns)
+  pub order : InOrder 0 record_number_limit ns
+
+rest_stands : {b : List ℕ} {levels : ℕ} {s ns : Nodes} → Rest s ns → Standing b levels ns → Standing b levels s
+unfolding HasNodes nodes_of InOrder
+rest_stands whole p = p
+rest_stands {levels = zero} (behind r) p = absurd p.stands.has
+rest_stands {levels = suc levels} (behind {es = es} {more = more} r) p =
+    rest_stands r (record { stands = (node_parts p.stands).more_stands; once = Distinct-back (lower_nodes es) (nodes_of more) p.once.1; order = order_from (past_entries 0 es) 0 record_number_limit more (omega arith) p.order.1 })
+
+index_standing : {b : List ℕ} {head : ℕ} → HasIndex b head → Standing b 8 (index_at b head)
+index_standing {b = b} {head = head} has = record { stands = index_stands b head has; once = has.index.once; order = has.order }
+
+-- so it is an index
+rest_index : {b : List ℕ} {at : ℕ} {s : Nodes} → AreTiles b 8 (length b) (tiles b) → Standing b 8 s → at ≡ link_to s → HasIndex b at × (index_at b at ≡ s)
+rest_index {b = b} {at = at} {s = s} tiled p e =
+    let same : index_at b at ≡ s = ap nodes_met (levels_complete b (tiles b) (length b) tiled 8 [] 0 at s e p.stands.has p.once) in (
+      record {
+        tiled = tiled;
+        index = rw same (record { link_is = e; has_nodes = p.stands.has; once = p.once });
+        fits = rw same (Each-map (IsOrderly b) (NodeFits b) (λ m o. o.fits) (nodes_of s) p.stands.orderly);
+        blocks = rw same p.stands.blocks;
+        order = rw same p.order;
+      },
+      same,
+    )
+
+pub rest_tree : {b : List ℕ} {head : ℕ} {s : Nodes} → Rest s (index_at b head) → IsNode s → HasIndex b head → IsTree b 8 s
+rest_tree r is has = let p = rest_stands r (index_standing has) in record { stands = p.stands; is_node = is; once = p.once; from = 0; upto = record_number_limit; order = p.order }
+
+-- ---- entries before a record are passed
+
+mutual
+  unfolding InOrder AreInOrder firsts_of entry_firsts
+
+  chain_passed : (f low high : ℕ) (ns : Nodes) (xs : List ℕ) → InOrder low high ns → low ≤ suc high → high < f → filter (ltb f) (firsts_of ns ++ xs) ≡ filter (ltb f) xs
+  chain_passed f low high no_node xs o le lt = refl
+  chain_passed f low high (node place room es more) xs o le lt =
+      let e = end_before low high es o.0 le in
+      rw append_assoc (firsts_passed f low high es (firsts_of more ++ xs) o.0 (omega arith) ∙ chain_passed f (past_entries low es) high more xs o.1 e lt)
+
+  firsts_passed : (f low high : ℕ) (es : Entries) (xs : List ℕ) → AreInOrder low high es → past_entries low es ≤ f → filter (ltb f) (entry_firsts es ++ xs) ≡ filter (ltb f) xs
+  firsts_passed f low high no_entry xs o le = refl
+  firsts_passed f low high (block first last place packed es) xs o le = grind (arith, nat_tests, end_after (suc last) high es o.3, firsts_passed f (suc last) high es xs o.3 le, o.1)
+  firsts_passed f low high (lower first last nodes es) xs o le =
+      let e = end_after (suc last) high es o.4 in
+      let fl = o.1 in
+      grind (arith, nat_tests, append_assoc (firsts_of nodes) (entry_firsts es) xs, chain_passed f first last nodes (entry_firsts es ++ xs) o.3 (omega arith) (omega arith), firsts_passed f (suc last) high es xs o.4 le)
+
+entries_passed : (f low high : ℕ) (es : Entries) (other : Option Leaf) → AreInOrder low high es → past_entries low es ≤ f → find_entry f es other ≡ other
+unfolding AreInOrder find_entry
+entries_passed f low high no_entry other o le = refl
+entries_passed f low high (block first last place packed es) other o le = grind (arith, nat_tests, end_after (suc last) high es o.3, entries_passed f (suc last) high es other o.3 le)
+entries_passed f low high (lower first last nodes es) other o le = grind (arith, nat_tests, end_after (suc last) high es o.4, entries_passed f (suc last) high es other o.4 le)
+
+-- ---- a search from there on meets the same
+
+record SameFrom (f : ℕ) (s ns : Nodes) : Type 0 where
+  pub rest : Rest s ns
+  pub way_is : way f s ≡ way f ns
+  pub spot_is : spot f s ≡ spot f ns
+  pub find_is : find_in f s ≡ find_in f ns
+  pub firsts_are : filter (ltb f) (firsts_of s) ≡ filter (ltb f) (firsts_of ns)
+  pub top : IsNode ns → IsNode s × In (link_to s) (top_chain ns)
+
+same_from : (f low high : ℕ) (ns : Nodes) → InOrder low high ns → SameFrom f (from_reached f ns) ns
+unfolding InOrder way spot find_in firsts_of
+same_from f low high no_node o = record { rest = whole; way_is = refl; spot_is = refl; find_is = refl; firsts_are = refl; top = λ is. absurd is }
+same_from f low high (node place room es more) o = elim (either (chain_reaches f more)) [
+  | inl t ↦
+      let r = same_from f (past_entries low es) high more o.1 in
+      let le = chain_reaches_from f (past_entries low es) high more o.1 t in
+      let on = r.top (chain_there f more t) in
+      rw t (record {
+        rest = behind r.rest;
+        way_is = rw t r.way_is;
+        spot_is = rw t r.spot_is;
+        find_is = r.find_is ∙ sym (entries_passed f low high es (find_in f more) o.0 le);
+        firsts_are = r.firsts_are ∙ sym (firsts_passed f low high es (firsts_of more) o.0 le);
+        top = λ is. (on.0, inr on.1);
+      })
+  | inr t ↦ rw t (record { rest = whole; way_is = refl; spot_is = refl; find_is = refl; firsts_are = refl; top = λ is. (tt, inl refl) })
+]
+
+-- a leaf that is added there is added to the index
+pub leaf_rest : (l : Leaf) (at : ℕ) (ns : Nodes) → Rest (with_leaf l at (from_reached l.first ns)) (with_leaf l at ns)
+unfolding with_leaf
+leaf_rest l at no_node = whole
+leaf_rest l at (node place room es more) = elim (either (chain_reaches l.first more)) [ inl t ↦ rw t (behind (leaf_rest l at more)) | inr t ↦ rw t (rw t whole) ]
+
+-- what a start has, and what of the index
+pub record StartsAt (b : List ℕ) (head rec start : ℕ) : Type 0 where
+  pub has : HasIndex b start
+  pub index_is : index_at b start ≡ from_reached rec (index_at b head)
+  pub rest : Rest (index_at b start) (index_at b head)
+  pub leaf_is : leaf_of rec (leaves_of (index_at b start)) ≡ leaf_of rec (leaves_of (index_at b head))
+  pub next_is : least_first_past rec (index_at b start) ≡ least_first_past rec (index_at b head)
+  pub way_is : way rec (index_at b start) ≡ way rec (index_at b head)
+  pub spot_is : spot rec (index_at b start) ≡ spot rec (index_at b head)
+  pub among : (m : ℕ) → In m (nodes_of (index_at b start)) → In m (nodes_of (index_at b head))
+  pub empty : start ≡ 0 → head ≡ 0
+  pub some : start ≢ 0 → head ≢ 0
+  pub top : start ≢ 0 → In start (top_chain (index_at b head))
+
+pub none_starts : {b : List ℕ} {head : ℕ} → HasIndex b head → (rec : ℕ) → head ≡ 0 → link_to (from_reached rec (index_at b head)) ≡ 0
+none_starts {b = b} {head = head} has rec z = ap (λ (x : Nodes). link_to (from_reached rec x)) (none_there b 8 (index_at b head) has.tiled has.index.has_nodes (sym has.index.link_is ∙ z))
+
+pub starts_at : {b : List ℕ} {head rec start : ℕ} → HasIndex b head → IsStart b head rec start → StartsAt b head rec start
+starts_at {b = b} {head = head} {rec = rec} {start = start} has e =
+    let ns = index_at b head in
+    let same = same_from rec 0 record_number_limit ns has.order in
+    let x = rest_index has.tiled (rest_stands same.rest (index_standing has)) e in
+    let there = λ (n : head ≢ 0). same.top (node_there_by head ns has.index.link_is n) in
+    let some : start ≢ 0 → head ≢ 0 = λ n z. n (e ∙ none_starts has rec z) in
+    record {
+      has = x.0;
+      index_is = x.1;
+      rest = rw x.1 same.rest;
+      leaf_is = sym (find_is rec 0 record_number_limit (index_at b start) x.0.order) ∙ ap (find_in rec) x.1 ∙ same.find_is ∙ find_is rec 0 record_number_limit ns has.order;
+      next_is = rw x.1 (ap (λ (xs : List ℕ). number_within (fold min (record_number_limit + 1) xs)) same.firsts_are);
+      way_is = rw x.1 same.way_is;
+      spot_is = rw x.1 same.spot_is;
+      among = rw x.1 (rest_among same.rest);
+      empty = λ z. elim (cases_eq head 0) [ inl none ↦ none | inr n ↦ absurd (subst IsNode (none_there b 8 (from_reached rec ns) has.tiled (rest_has b (tiles b) 8 same.rest has.index.has_nodes) (sym e ∙ z)) (there n).0) ];
+      some = some;
+      top = λ n. rw e (there (some n)).1;
+    }
