@@ -1,5 +1,5 @@
 -- The whole of a put: what is put under way, and that the last image follows the command.
-use Rattle.cdf_vars.proofs.Common.{Bool, ByStep, CanPut, Command, DataSet, DataType, Follows, Go, Good, HasRoom, IsNewRecord, IsPut, IsTarget, IsVdr, Kind, Known, Knows, List, MaxRecRaised, MaxRecRaises, NewRecord, PutsAs, PutsSo, PutsUpTo, Putting, R, Shape, Some, SomePutting, Target, Variable, VariableShape, Z, ap, arith, back, cannot_be_put, content, extent, false, first_written, good_is_sound, got-map, got-middle, image_limit, index_at, index_is, inl, inr, is_little, length, loose, map, max_rec_at, min, most_in_block, nat_lt, nat_tests, no_rule, number, other_kind, pad_record, put_room, raised_shape, record_bytes, record_number_limit, refl, shape, shapes_of, size_of, size_stays, slice_get, slice_set, step, subst, sym, target_found, true, true≢false, turned, type_of_variable, variable_at, variable_named, variable_of, variables_of, vdr_vxr_head, vdrs, vdrs_append, with_record, with_sign, with_variable, with_variables, ℕ, ◌%◌, ◌&&◌, ◌++◌, ◌+◌, ◌<◌, ◌==◌, ◌||◌, ◌∙◌, ◌∷◌, ◌≡◌, ◌≤◌, ◌⊎◌}
+use Rattle.cdf_vars.proofs.Common.{Bool, ByStep, CanPut, Command, DataSet, DataType, Each, Follows, Form, Go, Good, HasRoom, In, IsForm, IsNewRecord, IsPut, IsTarget, IsVdr, Kind, Known, Knows, List, MaxRecRaised, MaxRecRaises, NewRecord, PutsAs, PutsSo, PutsUpTo, Putting, R, Shape, Some, SomePutting, Target, Variable, VariableShape, Z, ap, arith, back, cannot_be_put, content, extent, false, first_written, good_is_sound, got-map, got-middle, image_limit, in_middle, index_at, index_is, inl, inr, is_little, length, loose, map, max_rec_at, min, most_in_block, nat_lt, nat_tests, no_rule, number, other_kind, pad_record, put_room, raised_shape, record_bytes, record_number_limit, refl, shape, shapes_of, size_of, size_stays, slice_get, slice_set, step, subst, sym, target_found, true, true≢false, turned, type_of_variable, variable_at, variable_named, variable_of, variables, variables_of, vdr_vxr_head, vdrs, vdrs_append, with_record, with_sign, with_variable, with_variables, ℕ, ◌%◌, ◌&&◌, ◌++◌, ◌+◌, ◌<◌, ◌==◌, ◌||◌, ◌∙◌, ◌∷◌, ◌≡◌, ◌≤◌, ◌⊎◌}
 use Rattle.std.specs.Prelude.{not}
 use Rattle.cdf_model.specs.declared.command.Command.TheVariants as commands
 use Rattle.cdf_model.specs.declared.answer.Reply.TheVariants as replies
@@ -7,8 +7,6 @@ use Rattle.cdf_puts.specs.Going.{found_in}
 use Rattle.cdf_puts.specs.Starts.{IsKnownOf, KnowsStarts}
 use Rattle.cdf_puts.specs.declared.starts.Starts.{Starts}
 use Rattle.cdf_puts.proofs.KnownStarts.{starts_go_on}
-use Rattle.cdf_edits.proofs.Edits.StandsAmong.{in_middle}
-use Rattle.cdf_format.specs.Tiles.{In}
 use Rattle.cdf_var_records.proofs.RecordForms.{among}
 use Rattle.cdf_var_records.proofs.VdrParts.{own}
 use Rattle.cdf_puts.specs.SoFar.{MaxRecDone}

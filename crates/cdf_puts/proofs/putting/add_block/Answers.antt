@@ -24,11 +24,14 @@ start_of-requires-clause-index g c =
     let s = c.requires.some in
     rw (c.last_of_new.ensures.area.image, c.requires.head) (has_index s.putting s.is)
 
+pub start_of-requires-clause-known : goal.start_of-requires-clause-known
+start_of-requires-clause-known g c = rw (c.last_of_new.ensures.area.image) c.requires.known
+
 pub returns-in_err-start-clause-area : goal.returns-in_err-start-clause-area
 returns-in_err-start-clause-area g c = edit_failed (keeps_by_read (read_once c.in_ok-last.ensures.area)) (edits_by_read c.in_err-start.ensures.area) c.from_residual-in_err-start.ensures.1
 
 pub add_leaf-requires-clause-start : goal.add_leaf-requires-clause-start
-add_leaf-requires-clause-start g c = rw (c.start_of.ensures.area.image) (rw (c.requires.head) at c.in_ok-start.ensures.start)
+add_leaf-requires-clause-start g c = rw (c.start_of.ensures.area.image, c.last_of_new.ensures.area.image) (rw (c.last_of_new.ensures.area.image, c.requires.head) at c.in_ok-start.ensures.start)
 
 pub add_leaf-requires-clause-good : goal.add_leaf-requires-clause-good
 add_leaf-requires-clause-good g c = let s = c.requires.some in subst Good (sym (c.start_of.ensures.area.image ∙ c.last_of_new.ensures.area.image)) s.is.so.goes.good

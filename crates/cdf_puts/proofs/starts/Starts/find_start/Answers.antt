@@ -12,11 +12,11 @@ overflow_add-vdr g c = let short = c.requires.short in omega (arith, vdr_lies _ 
 pub read_unsigned8-requires : goal.read_unsigned8-requires
 read_unsigned8-requires g c = omega (arith, vdr_lies _ c.requires.good c.args.vdr c.requires.vdr)
 
-pub start_of-start-requires-clause-index : goal.start_of-start-requires-clause-index
-start_of-start-requires-clause-index g c = rw (c.read_unsigned8.ensures.area.image, c.in_ok-head.ensures.value) (has_index _ c.requires.good c.args.vdr c.requires.vdr)
+pub start_of-requires-clause-index : goal.start_of-requires-clause-index
+start_of-requires-clause-index g c = rw (c.read_unsigned8.ensures.area.image, c.in_ok-head.ensures.value) (has_index _ c.requires.good c.args.vdr c.requires.vdr)
 
-pub start_of-start-requires-clause-known : goal.start_of-start-requires-clause-known
-start_of-start-requires-clause-known g c = rw (c.read_unsigned8.ensures.area.image, c.in_ok-head.ensures.value, c.node_of.ensures) (start_known c.requires.known c.args.vdr c.requires.good c.requires.vdr)
+pub start_of-requires-clause-known : goal.start_of-requires-clause-known
+start_of-requires-clause-known g c = rw (c.read_unsigned8.ensures.area.image, c.in_ok-head.ensures.value, c.node_of.ensures) (start_known c.requires.known c.args.vdr c.requires.good c.requires.vdr)
 
 known : (g : Over) (c : After-keep g) → KnowsStarts (g.A.Area.image c.args.area.now) c.keep.new.self
 known g c =

@@ -7,7 +7,7 @@ use Rattle.cdf_vars.proofs.vars.Vars.put_bytes.Goals.{After-from}
 use Rattle.cdf_vars.proofs.vars.Vars.put_bytes.Goals as goal
 
 pub read_extent-requires : goal.read_extent-requires
-read_extent-requires g c = let l = head_lies c.requires.good c.requires.can.is.is_form c.args.rec in omega arith
+read_extent-requires g c = let l = head_lies c.requires.good c.requires.can.is.is_form c.args.rec in rw (c.find_start.ensures.area.image) (omega arith)
 
 pub read_put_room-requires-clause-good : goal.read_put_room-requires-clause-good
 read_put_room-requires-clause-good g c = rw (c.read_extent.ensures.area.image, c.find_start.ensures.area.image) c.requires.good
@@ -18,7 +18,7 @@ read_put_room-requires-clause-within g c = within (variable_at (g.A.Area.image c
 pub read_put_room-requires-clause-from : goal.read_put_room-requires-clause-from
 read_put_room-requires-clause-from g c =
     let is = c.requires.can.is in
-    rw (c.read_extent.ensures.area.image, c.find_start.ensures.area.image) (c.min.ensures ∙ from_is c.requires.good is c.args.rec c.in_ok-count.ensures.extent ∙ ap (λ (v : Variable). first_written v c.args.rec) (sym is.variable_is))
+    rw (c.read_extent.ensures.area.image, c.find_start.ensures.area.image) (c.min.ensures ∙ from_is c.requires.good is c.args.rec (rw (c.find_start.ensures.area.image) at c.in_ok-count.ensures.extent) ∙ ap (λ (v : Variable). first_written v c.args.rec) (sym is.variable_is))
 
 -- the room that there is, and what is needed
 room_is : (g : Over) (c : After-from g) → (c.from.result + length (g.A.Area.image c.args.area.now) ≡ (g.A.Area.frame c.args.area.now).limit) × (c.in_ok-room.room ≡ wanted c.requires.good c.requires.can)
@@ -50,11 +50,11 @@ returns-in_err-write_record-clause-area g c =
     let stays = read_more (read_more (read_once c.in_ok-known.ensures.area) c.in_ok-count.ensures.area) c.in_ok-room.ensures.area in
     edit_failed (keeps_by_read stays) c.in_err-write_record.ensures.area c.from_residual-in_err-write_record.ensures.1
 
-pub find_start-known-requires-clause-short : goal.find_start-known-requires-clause-short
-find_start-known-requires-clause-short g c = omega (arith, c.requires.fits, c.requires.limit)
+pub find_start-requires-clause-short : goal.find_start-requires-clause-short
+find_start-requires-clause-short g c = omega (arith, c.requires.fits, c.requires.limit)
 
-pub find_start-known-requires-clause-vdr : goal.find_start-known-requires-clause-vdr
-find_start-known-requires-clause-vdr g c = form_vdr c.requires.good c.requires.can.is.is_form
+pub find_start-requires-clause-vdr : goal.find_start-requires-clause-vdr
+find_start-requires-clause-vdr g c = form_vdr c.requires.good c.requires.can.is.is_form
 
 pub read_put_room-requires-clause-known : goal.read_put_room-requires-clause-known
 read_put_room-requires-clause-known g c = rw (c.read_extent.ensures.area.image, c.find_start.ensures.area.image) c.in_ok-known.ensures.start
