@@ -4,11 +4,12 @@ use Rattle.cdf_puts.proofs.CoveringRanges.{one_alone, of_leaves}
 use Rattle.cdf_puts.proofs.LeafCounts.{leaf_is_there, leaf_was_there}
 use Rattle.cdf_puts.proofs.LeafEdit.{file, new_index, used_apart, node_in, node_taken, nodes_step}
 use Rattle.cdf_index.proofs.NewIndex.{index_edit}
-use Rattle.cdf_puts.proofs.LeafEdit.{blocks_go_on}
-use Rattle.cdf_puts.proofs.PutBytes.{beside_one, blocks_then, now_whole, size_now}
+use Rattle.cdf_puts.proofs.LeafEdit.{blocks_go_on, plain_body}
+use Rattle.cdf_puts.proofs.PutBytes.{beside_one, blocks_then, new_goes_on, now_plain, now_whole, old_goes_on, size_now}
 use Rattle.std.proofs.Math.Bool.{or-false}
-use Rattle.cdf_puts.proofs.PutNodes.{NodesStep, nodes_then, taken_both, place_outside, same_with_leaf, same_uses, through_goes, top_grows, bytes_longer}
-use Rattle.cdf_puts.proofs.SoFarStarts.{put_new, ranges_more, none_begins, puts_new, covers_own}
+use Rattle.cdf_puts.proofs.PutNodes.{NodesStep, bytes_longer, last_of_through, nodes_then, or_false, place_outside, same_uses, same_with_leaf, taken_both, taken_first, taken_neither, taken_then, through_goes, through_stays, top_grows, with_one_more}
+use Rattle.cdf_puts.proofs.SoFarStarts.{covers_own, none_begins, one_more, put_new, puts_new, ranges_more}
+use Rattle.cdf_puts.proofs.KnownStarts.{top_kept}
 
 -- ---- the ranges that are new
 
@@ -189,5 +190,6 @@ module _ {b now now' : List ℕ} {kind : Kind} {before : List VariableShape} {ow
     tail = tail_then (top_chain own.index) (top_chain own'.index) (top_chain own''.index) (number b own.vdr vdr_vxr_tail) (number now own.vdr vdr_vxr_tail) (number now' own.vdr vdr_vxr_tail) so.index.top grows so.index.tail
         (subst (λ (v : ℕ). number now' v vdr_vxr_tail ≡ (if bytes_eq (top_chain own'.index) (top_chain own''.index) then number now v vdr_vxr_tail else last_node own''.index)) so.goes.vdr_is w.tail);
     top = top_then (top_chain own.index) (top_chain own'.index) (top_chain own''.index) so.index.top grows;
+    tops = λ m i. top_kept new at own'.index m (so.index.tops m i);
     nodes = subst (λ (xs : List Range). NodesSoFar b now' own own'' xs (acts ++ step)) (sym one_new) nodes_added;
   }

@@ -131,5 +131,6 @@ module _ {b now now' : List ℕ} {kind : Kind} {before : List VariableShape} {ow
     puts = puts_written;
     tail = subst (λ (v : ℕ). number now' v vdr_vxr_tail ≡ number now v vdr_vxr_tail) so.goes.vdr_is (tail_still so (writes so.goes.good so.goes.among w)) ∙ so.index.tail;
     top = so.index.top;
+    tops = so.index.tops;
     nodes = nodes_still so (writes so.goes.good so.goes.among w);
   }

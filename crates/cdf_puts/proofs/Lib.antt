@@ -4,6 +4,7 @@ pub mod DoneBytes
 pub mod GoesThen
 pub mod IndexAdded
 pub mod IndexWritten
+pub mod KnownStarts
 pub mod LastImage
 pub mod LeafCounts
 pub mod LeafEdit

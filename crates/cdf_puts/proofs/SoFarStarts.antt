@@ -96,6 +96,7 @@ module _ {b : List ℕ} {kind : Kind} {before : List VariableShape} {own : Varia
     puts = subst (λ (ls : List Leaf). PutsBefore b own own ls []) (sym (none_pass (was_put first first) (leaves_of own.index) (λ l i. grind (arith, nat_tests)))) (λ last size more acts' end p. p);
     tail = let same = bytes_eq-same (top_chain own.index) in rw same refl;
     top = inl refl;
+    tops = λ m i. i;
     nodes = subst (λ (rs : List Range). NodesSoFar b b own own rs []) (sym (none_new (ranges_of own.index) (leaves_of own.index) (λ l i. covers_own (leaves_of own.index) l i (in_order 0 (suc record_number_limit) (leaves_of own.index) (leaves_ascend start.good start.among) l i).ordered)))
         (record { stay = λ m i. i; apart = λ m i. refl; come = λ m i. inl i; sizes = λ m i. refl; outlined = refl; follow = nodes_first b (indexes_with own.index []) (nodes_of own.index) });
   }

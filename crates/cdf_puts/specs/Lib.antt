@@ -3,3 +3,4 @@ pub mod Going
 pub mod Putting
 pub mod SoFar
 pub mod Steps
+pub mod Starts

@@ -80,6 +80,10 @@ PutsBefore b own own' leaves acts = (last : List ℕ) → record_bytes last own.
 abbrev pub TopGrows : Nodes → Nodes → Type 0
 TopGrows before after = (top_chain after ≡ top_chain before) ⊎ (length (top_chain before) < length (top_chain after))
 
+-- each node of the top chain is one of it afterwards
+abbrev pub TopStays : Nodes → Nodes → Type 0
+TopStays before after = (m : ℕ) → In m (top_chain before) → In m (top_chain after)
+
 -- The nodes, where the records of these ranges got a block: those that were there stay and keep their size, each other was taken.
 pub record NodesSoFar (b now : List ℕ) (own own' : VariableShape) (ranges : List Range) (acts : List Act) : Type 0 where
   pub stay : (m : ℕ) → In m (nodes_of own.index) → In m (nodes_of own'.index)
@@ -93,6 +97,7 @@ pub record IndexSoFar (b now : List ℕ) (own own' : VariableShape) (first k : �
   pub puts : PutsBefore b own own' (filter (was_put first k) (leaves_of own'.index)) acts
   pub tail : TailGoesOn b now own.vdr own.index own'.index
   pub top : TopGrows own.index own'.index
+  pub tops : TopStays own.index own'.index
   pub nodes : NodesSoFar b now own own' (new_ranges (ranges_of own.index) (ranges_of own'.index)) acts
 
 -- ---- the blocks

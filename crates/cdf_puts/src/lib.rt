@@ -3,5 +3,7 @@
 
 pub mod laws;
 mod putting;
+mod starts;
 
 pub use putting::{NewRecord, find_leaf, find_next, put_records};
+pub use starts::Starts;

@@ -12,11 +12,12 @@ ghost use Rattle.cdf_index.specs.Order.{leaf_of};
 ghost use Rattle.cdf_index.specs.Sight.{seen};
 ghost use Rattle.cdf_model.specs.Limits.{image_limit, record_number_limit};
 ghost use Rattle.cdf_puts.specs.Putting.{block_type, last_in_new, record_put, records_put, PutsOn, PutsUpTo, SomePut, SomePutting};
+ghost use Rattle.cdf_puts.specs.Starts.{InTopChain, IsKnownStart};
 ghost use Rattle.cdf_puts.specs.Steps.{IsBlockBody};
 
 use cdf_area::{Area, AreaError};
 use cdf_format::fields::{VDR_VXR_HEAD, VVR_TYPE};
-use cdf_index::{Leaf, find, next_first, write_recs};
+use cdf_index::{Leaf, find, next_first, start_of, write_recs};
 use cdf_leaves::add_leaf;
 use cdf_model::limits::RECORD_NUMBER_LIMIT;
 use cdf_records::{Steps, read_unsigned8};
@@ -61,14 +62,22 @@ fn find_counted<A: Area, L: Ledger>(
     find(area, head, rec, &mut steps)
 }
 
-/// The leaf that has a record, in the index that a link leads to.
-pub fn find_leaf<A: Area>(area: &mut A, head: u64, rec: u32) -> Result<Option<Leaf>, AreaError>
+/// The leaf that has a record, in the index that a link leads to, of whose top chain a node may be known.
+#[tactic(auto, using(cdf_area::proofs::Calls::read_done, cdf_area::proofs::Calls::read_failed, cdf_area::proofs::Calls::read_more, cdf_area::proofs::Calls::read_once))]
+pub fn find_leaf<A: Area>(
+    area: &mut A,
+    head: u64,
+    known: Option<u64>,
+    rec: u32,
+) -> Result<Option<Leaf>, AreaError>
     requires index { HasIndex (A.image area.old) head }
+    requires known { InTopChain (index_at (A.image area.old) head) known }
     requires short { length (A.image area.old) ≤ image_limit }
     ensures value { IfOk result (λ found. option_map seen found ≡ leaf_of rec (leaves_of (index_at (A.image area.old) head))) }
     ensures area { Reads A.image A.frame A.faults A.edited area.old area.new result }
 {
-    find_counted::<A, Brand>(area, head, rec, Blank::new(1))
+    let start = start_of(area, head, known, rec)?;
+    find_counted::<A, Brand>(area, start, rec, Blank::new(1))
 }
 
 /// The least First past a record, as `next_first` counts it in steps.
@@ -90,14 +99,22 @@ fn next_counted<A: Area, L: Ledger>(
     next_first(area, head, rec, &mut steps)
 }
 
-/// The least First past a record, in the index that a link leads to.
-pub fn find_next<A: Area>(area: &mut A, head: u64, rec: u32) -> Result<Option<u32>, AreaError>
+/// The least First past a record, in the index that a link leads to, of whose top chain a node may be known.
+#[tactic(auto, using(cdf_area::proofs::Calls::read_done, cdf_area::proofs::Calls::read_failed, cdf_area::proofs::Calls::read_more, cdf_area::proofs::Calls::read_once))]
+pub fn find_next<A: Area>(
+    area: &mut A,
+    head: u64,
+    known: Option<u64>,
+    rec: u32,
+) -> Result<Option<u32>, AreaError>
     requires index { HasIndex (A.image area.old) head }
+    requires known { InTopChain (index_at (A.image area.old) head) known }
     requires short { length (A.image area.old) ≤ image_limit }
     ensures value { IfOk result (λ next. next ≡ least_first_past rec (index_at (A.image area.old) head)) }
     ensures area { Reads A.image A.frame A.faults A.edited area.old area.new result }
 {
-    next_counted::<A, Brand>(area, head, rec, Blank::new(1))
+    let start = start_of(area, head, known, rec)?;
+    next_counted::<A, Brand>(area, start, rec, Blank::new(1))
 }
 
 /// These bytes, and bytes 0 behind them up to the least size of a record.
@@ -144,8 +161,15 @@ impl NewRecord {
 }
 
 /// The last record of a new block from one on, which ends before the next First.
-fn last_of_new<A: Area>(area: &mut A, head: u64, k: u32, most: u32) -> Result<u32, AreaError>
+fn last_of_new<A: Area>(
+    area: &mut A,
+    head: u64,
+    known: Option<u64>,
+    k: u32,
+    most: u32,
+) -> Result<u32, AreaError>
     requires index { HasIndex (A.image area.old) head }
+    requires known { InTopChain (index_at (A.image area.old) head) known }
     requires short { length (A.image area.old) ≤ image_limit }
     requires within { k ≤ record_number_limit }
     requires some { 1 ≤ most }
@@ -155,7 +179,7 @@ fn last_of_new<A: Area>(area: &mut A, head: u64, k: u32, most: u32) -> Result<u3
     ensures small { IfOk result (λ last. last ≤ record_number_limit) }
     ensures area { Reads A.image A.frame A.faults A.edited area.old area.new result }
 {
-    let next = find_next(area, head, k)?;
+    let next = find_next(area, head, known, k)?;
     let bound = next.unwrap_or(RECORD_NUMBER_LIMIT + 1);
     Ok(bound.min(k + most) - 1)
 }
@@ -178,59 +202,71 @@ fn add_block<A: Area>(
     area: &mut A,
     head: u64,
     put: &NewRecord,
+    known: Option<u64>,
     k: u32,
 ) -> Result<u32, AreaError>
     requires some { SomePut (A.image area.old) put.now k (A.frame area.old).limit }
     requires more { k ≤ put.now.rec }
     requires limit { (A.frame area.old).limit ≤ image_limit }
     requires head { head ≡ number (A.image area.old) put.now.vdr vdr_vxr_head }
+    requires known { InTopChain (index_at (A.image area.old) head) known }
     requires none { leaf_of k (leaves_of (index_at (A.image area.old) head)) ≡ None }
     ensures put { IfOk result (λ next. PutsOn (A.image area.old) (A.image area.new) (A.frame area.old).limit put.now k next) }
     ensures further { IfOk result (λ next. k < next) }
     ensures area { Edits A.frame A.faults area.old area.new result }
 {
-    let last = last_of_new(area, head, k, put.most)?;
+    let last = last_of_new(area, head, known, k, put.most)?;
     let body = put.block_body(alloc, k, last)?;
-    add_leaf(alloc, area, put.vdr, k, last, &body)?;
+    let start = start_of(area, head, known, k)?;
+    add_leaf(alloc, area, put.vdr, start, k, last, &body)?;
     Ok(last.min(put.rec) + 1)
 }
 
 /// Puts the next record that is not put yet, into the block that has it or into a new one, which has those behind it too. Gives the
 /// next one after that.
-fn put_next<A: Area>(alloc: Global, area: &mut A, put: &NewRecord, k: u32) -> Result<u32, AreaError>
+fn put_next<A: Area>(
+    alloc: Global,
+    area: &mut A,
+    put: &NewRecord,
+    known: Option<u64>,
+    k: u32,
+) -> Result<u32, AreaError>
     requires some { SomePut (A.image area.old) put.now k (A.frame area.old).limit }
     requires more { k ≤ put.now.rec }
+    requires known { IsKnownStart (A.image area.old) put.now.vdr known }
     requires limit { (A.frame area.old).limit ≤ image_limit }
     ensures put { IfOk result (λ next. PutsOn (A.image area.old) (A.image area.new) (A.frame area.old).limit put.now k next) }
     ensures further { IfOk result (λ next. k < next) }
     ensures area { Edits A.frame A.faults area.old area.new result }
 {
     let head = read_unsigned8(area, put.vdr + VDR_VXR_HEAD)?;
-    let found = find_leaf(area, head, k)?;
+    let found = find_leaf(area, head, known, k)?;
     match found {
         Some(leaf) => {
             write_one(area, &leaf, put, k)?;
             Ok(k + 1)
         }
-        None => add_block(alloc, area, head, put, k),
+        None => add_block(alloc, area, head, put, known, k),
     }
 }
 
-/// Puts a record into a variable, and from one on those before it that are not stored. After an error a part of this may have been done.
+/// Puts a record into a variable, and from one on those before it that are not stored. Of the top chain of its index a node may be known. After an error a part of this may have been done.
 pub fn put_records<A: Area>(
     alloc: Global,
     area: &mut A,
     put: &NewRecord,
+    known: Option<u64>,
     from: u32,
 ) -> Result<(), AreaError>
     requires some { SomePutting (A.image area.old) put.now from (A.frame area.old).limit }
+    requires known { IsKnownStart (A.image area.old) put.now.vdr known }
     requires limit { (A.frame area.old).limit ≤ image_limit }
     ensures put { OnOk result (PutsUpTo (A.image area.old) (A.image area.new) (A.frame area.old).limit put.now (put.now.rec + 1)) }
     ensures area { Edits A.frame A.faults area.old area.new result }
 {
     let mut k = from;
     while k <= put.rec {
-        k = put_next(alloc, area, put, k)?;
+        k = put_next(alloc, area, put, known, k)?;
     }
     Ok(())
 }

@@ -1,6 +1,9 @@
 -- A session stays open.
 use Rattle.cdf_session.proofs.Common.{Answers, AreaError, Bool, Done, Err, Follows, Frame, Good, IfOk, IsOpen, Known, Knows, List, MovesIf, None, Ok, OnErr, OnOk, Result, Some, ap, arith, content, false, head_of, inl, inr, is_full, length, nat_lt, refl, subst, sym, transport, true, with_base, ℕ, ◌&&◌, ◌++◌, ◌+◌, ◌∙◌, ◌≡◌, ◌≤◌}
 use Rattle.cdf_attrs.proofs.KnownAttributes.{none_known}
+use Rattle.cdf_puts.specs.Starts.{KnowsStarts}
+use Rattle.cdf_puts.specs.declared.starts.Starts.{Starts}
+use Rattle.std.proofs.lemmas.Result.{on_err_weaker}
 use Rattle.cdf_vars.specs.Known.{Known as KnownVariables, Knows as KnowsVariables}
 use Rattle.cdf_edits.specs.Commands.Others.{is_on_attributes, is_on_variables}
 use Rattle.cdf_edits.specs.Commands.Room.{room}
@@ -159,14 +162,20 @@ ends_on_variables b start made now frame first marked end known after vars vars'
     (attributes_after first.limit b start made c known other was.good was.knows begins done answers)
     (on_err done (subst (λ (x : List ℕ). Knows x (record known { entries = None })) (sym begins) (forgotten b known was.knows))) knows stay kept undone)
 
+-- the nodes that are kept, which stay where all was taken back
+ends_starting : {start made now : List ℕ} {after : Starts} (done : Result Outcome AreaError) → OnOk done (KnowsStarts made after) → OnErr done (KnowsStarts start after) → OnOk done (now ≡ made) → OnErr done (now ≡ start) → KnowsStarts now after
+ends_starting {after = after} (Ok o) knows stay kept back = subst (λ (x : List ℕ). KnowsStarts x after) (sym kept) knows
+ends_starting {after = after} (Err error) knows stay kept back = subst (λ (x : List ℕ). KnowsStarts x after) (sym back) stay
+
 -- of a command on variables that leaves their names and places as they are
-pub ends_on_records : {U : Type 0} (b start made now : List ℕ) (frame first marked end : Frame U) (known after : Known) (vars : KnownVariables) (c : Command) → is_on_attributes c ≡ false → (done : Result Outcome AreaError)
+pub ends_on_records : {U : Type 0} (b start made now : List ℕ) (frame first marked end : Frame U) (known after : Known) (vars : KnownVariables) (starts : Starts) (c : Command) → is_on_attributes c ≡ false → (done : Result Outcome AreaError)
     → IsOpen b frame known vars → start ≡ b → first ≡ with_base frame (Some b) → marked ≡ first → end ≡ with_base marked None → after ≡ record known { entries = None }
-    → IfOk done (λ o. Answers first.limit start c o made) → OnOk done (KnowsVariables made vars)
-    → OnOk done (now ≡ made) → OnErr done (marked.base ≡ Some now) → IsOpen now end after vars
-ends_on_records b start made now frame first marked end known after vars c other done was begins is stays ends forgot answers knows kept undone =
-    ends_on_variables b start made now frame first marked end known after vars vars c other done was begins is stays ends forgot answers knows
-    (on_err done (subst (λ (x : List ℕ). KnowsVariables x vars) (sym begins) was.knows_variables)) kept undone
+    → IfOk done (λ o. Answers first.limit start c o made) → OnOk done (KnowsVariables made vars) → OnOk done (KnowsStarts made starts) → OnErr done (KnowsStarts start starts)
+    → OnOk done (now ≡ made) → OnErr done (marked.base ≡ Some now) → IsOpen now end after vars × KnowsStarts now starts
+ends_on_records b start made now frame first marked end known after vars starts c other done was begins is stays ends forgot answers knows knows_starts starts_stay kept undone =
+    (ends_on_variables b start made now frame first marked end known after vars vars c other done was begins is stays ends forgot answers knows
+    (on_err done (subst (λ (x : List ℕ). KnowsVariables x vars) (sym begins) was.knows_variables)) kept undone,
+    ends_starting done knows_starts starts_stay kept (on_err_weaker done (λ base. some_same b now (sym (ap (λ (m : Frame _). m.base) (stays ∙ is)) ∙ base) ∙ sym begins) undone))
 
 -- of a command on neither, after which they are forgotten too
 pub ends_on_neither : {U : Type 0} (b start made now : List ℕ) (frame first marked end : Frame U) (known after : Known) (vars : KnownVariables) (c : Command) → is_on_attributes c ≡ false → is_on_variables c ≡ false → (done : Result Outcome AreaError)

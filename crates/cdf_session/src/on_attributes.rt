@@ -17,6 +17,7 @@ impl<A: Area> Session<A> {
         ensures stays { OnErr result (A.image self.new ≡ A.image self.old) }
         ensures area { Edits A.frame A.faults self.old self.new result }
     {
+        self.starts.forget();
         self.area.mark();
         let done = self.attrs.create(&mut self.area, name, scope);
         settle(&mut self.area, done)
@@ -28,6 +29,7 @@ impl<A: Area> Session<A> {
         ensures stays { OnErr result (A.image self.new ≡ A.image self.old) }
         ensures area { Edits A.frame A.faults self.old self.new result }
     {
+        self.starts.forget();
         self.area.mark();
         let done = self.attrs.rename(&mut self.area, from, to);
         settle(&mut self.area, done)
@@ -39,6 +41,7 @@ impl<A: Area> Session<A> {
         ensures stays { OnErr result (A.image self.new ≡ A.image self.old) }
         ensures area { Edits A.frame A.faults self.old self.new result }
     {
+        self.starts.forget();
         self.area.mark();
         let done = self.attrs.remove(&mut self.area, name);
         settle(&mut self.area, done)
@@ -68,6 +71,7 @@ impl<A: Area> Session<A> {
         ensures stays { OnErr result (A.image self.new ≡ A.image self.old) }
         ensures area { Edits A.frame A.faults self.old self.new result }
     {
+        self.starts.forget();
         self.area.mark();
         let done = self.attrs.del_entry(&mut self.area, attr, kind, num);
         settle(&mut self.area, done)
@@ -88,6 +92,7 @@ impl<A: Area> Session<A> {
         ensures stays { OnErr result (A.image self.new ≡ A.image self.old) }
         ensures area { Edits A.frame A.faults self.old self.new result }
     {
+        self.starts.forget();
         self.area.mark();
         let done = self
             .attrs

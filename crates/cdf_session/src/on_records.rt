@@ -15,6 +15,7 @@ impl<A: Area> Session<A> {
         ensures stays { OnErr result (A.image self.new ≡ A.image self.old) }
         ensures area { Edits A.frame A.faults self.old self.new result }
     {
+        self.starts.forget();
         self.area.mark();
         let done = self.vars.reindex(&mut self.area, var);
         self.attrs.forget_entries();
@@ -33,7 +34,7 @@ impl<A: Area> Session<A> {
         ensures area { Edits A.frame A.faults self.old self.new result }
     {
         self.area.mark();
-        let done = self.vars.put_rec(&mut self.area, var, rec, words);
+        let done = self.vars.put_rec(&mut self.area, &mut self.starts, var, rec, words);
         self.attrs.forget_entries();
         settle(&mut self.area, done)
     }
@@ -59,7 +60,7 @@ impl<A: Area> Session<A> {
         ensures area { Edits A.frame A.faults self.old self.new result }
     {
         self.area.mark();
-        let done = self.vars.put_val(&mut self.area, var, rec, index, words);
+        let done = self.vars.put_val(&mut self.area, &mut self.starts, var, rec, index, words);
         self.attrs.forget_entries();
         settle(&mut self.area, done)
     }

@@ -23,6 +23,7 @@ impl<A: Area> Session<A> {
         ensures stays { OnErr result (A.image self.new ≡ A.image self.old) }
         ensures area { Edits A.frame A.faults self.old self.new result }
     {
+        self.starts.forget();
         self.area.mark();
         let done = set_up(self.alloc, &mut self.area, encoding, majority, dims);
         self.attrs.forget_entries();
@@ -42,6 +43,7 @@ impl<A: Area> Session<A> {
         ensures stays { OnErr result (A.image self.new ≡ A.image self.old) }
         ensures area { Edits A.frame A.faults self.old self.new result }
     {
+        self.starts.forget();
         self.area.mark();
         let done = self
             .vars
@@ -64,6 +66,7 @@ impl<A: Area> Session<A> {
         ensures stays { OnErr result (A.image self.new ≡ A.image self.old) }
         ensures area { Edits A.frame A.faults self.old self.new result }
     {
+        self.starts.forget();
         self.area.mark();
         let done = self
             .vars
@@ -78,6 +81,7 @@ impl<A: Area> Session<A> {
         ensures stays { OnErr result (A.image self.new ≡ A.image self.old) }
         ensures area { Edits A.frame A.faults self.old self.new result }
     {
+        self.starts.forget();
         self.area.mark();
         let done = self.vars.rename(&mut self.area, from, to);
         self.attrs.forget_entries();
@@ -90,6 +94,7 @@ impl<A: Area> Session<A> {
         ensures stays { OnErr result (A.image self.new ≡ A.image self.old) }
         ensures area { Edits A.frame A.faults self.old self.new result }
     {
+        self.starts.forget();
         self.area.mark();
         let done = delete_variable(&mut self.area, &mut self.attrs, &mut self.vars, name);
         settle(&mut self.area, done)
@@ -103,6 +108,7 @@ impl<A: Area> Session<A> {
         ensures stays { OnErr result (A.image self.new ≡ A.image self.old) }
         ensures area { Edits A.frame A.faults self.old self.new result }
     {
+        self.starts.forget();
         self.area.mark();
         let done = self.vars.set_pad(&mut self.area, var, words);
         self.attrs.forget_entries();
@@ -115,6 +121,7 @@ impl<A: Area> Session<A> {
         ensures stays { OnErr result (A.image self.new ≡ A.image self.old) }
         ensures area { Edits A.frame A.faults self.old self.new result }
     {
+        self.starts.forget();
         self.area.mark();
         let done = self.vars.set_blocking(&mut self.area, var, n);
         self.attrs.forget_entries();

@@ -14,6 +14,7 @@ ghost use Rattle.cdf_model.specs.Sayable.{Sayable};
 ghost use Rattle.cdf_model.specs.declared.answer.LineError.TheVariants.{UnknownWord};
 ghost use Rattle.cdf_model.specs.declared.answer.Outcome.TheVariants.{Refused};
 ghost use Rattle.cdf_model.specs.declared.answer.Reason.TheVariants.{BadLine};
+ghost use Rattle.cdf_puts.specs.Starts.{KnowsStarts};
 ghost use Rattle.cdf_session.specs.Built.{built};
 ghost use Rattle.cdf_session.specs.Seals.{seal_of};
 ghost use Rattle.cdf_session.specs.Sessions.{Adopts, AnswersBuilt, Begins, IsOpen, IsNoVerdict, Rejects};
@@ -28,6 +29,7 @@ use cdf_attrs::Attrs;
 use cdf_check::check;
 use cdf_model::{Command, Items, LineError, Outcome, Reason, Reply, Space};
 use cdf_space::space_of;
+use cdf_puts::Starts;
 use cdf_vars::Vars;
 use std::alloc::Global;
 use std::marker::Model;
@@ -39,6 +41,7 @@ pub struct Session<A: Area> {
     pub(crate) area: A,
     pub(crate) attrs: Attrs,
     pub(crate) vars: Vars,
+    pub(crate) starts: Starts,
 }
 
 impl<A: Area> Model for Session<A> {
@@ -46,7 +49,7 @@ impl<A: Area> Model for Session<A> {
 
     ghost view = { λ session. session.area };
 
-    ghost invariant = { λ session. IsOpen (A.image session.area) (A.frame session.area) session.attrs session.vars };
+    ghost invariant = { λ session. IsOpen (A.image session.area) (A.frame session.area) session.attrs session.vars × KnowsStarts (A.image session.area) session.starts };
 }
 
 /// Ends what began at the mark: a command that was carried out is kept, and after an error all is taken back.
@@ -120,6 +123,7 @@ impl<A: Area> Session<A> {
                 area,
                 attrs: loaded.attrs,
                 vars: loaded.vars,
+                starts: Starts::new(alloc),
             }),
             Err(error) => Err(Refusal {
                 area,
@@ -148,6 +152,7 @@ impl<A: Area> Session<A> {
                     area,
                     attrs: loaded.attrs,
                     vars: loaded.vars,
+                    starts: Starts::new(alloc),
                 })
             }
             Err(error) => {
@@ -234,6 +239,7 @@ impl<A: Area> Session<A> {
         ensures stays { OnErr result (A.image self.new ≡ A.image self.old) }
         ensures area { Edits A.frame A.faults self.old self.new result }
     {
+        self.starts.forget();
         set_checksum(&mut self.area, md5)?;
         self.attrs.forget_entries();
         Ok(Outcome::Done {

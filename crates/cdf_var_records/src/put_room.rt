@@ -14,6 +14,7 @@ ghost use Rattle.cdf_index.specs.Sizes.{size_of};
 ghost use Rattle.cdf_model.specs.DataSet.{Variable};
 ghost use Rattle.cdf_model.specs.Limits.{image_limit, record_number_limit};
 ghost use Rattle.cdf_model.specs.Place.{record_limit};
+ghost use Rattle.cdf_puts.specs.Starts.{InTopChain, IsKnownStart};
 ghost use Rattle.cdf_var_records.specs.Room.{IsStretch, count_in_block};
 ghost use Rattle.cdf_var_records.specs.Records.{IsForm, variable_at};
 
@@ -96,8 +97,15 @@ pub fn read_block_count<A: Area>(area: &mut A, form: &Form) -> Result<u32, AreaE
 }
 
 /// Records from one on up to a last that all have a block, or all have none.
-fn read_stretch<A: Area>(area: &mut A, head: u64, k: u32, rec: u32) -> Result<Stretch, AreaError>
+fn read_stretch<A: Area>(
+    area: &mut A,
+    head: u64,
+    known: Option<u64>,
+    k: u32,
+    rec: u32,
+) -> Result<Stretch, AreaError>
     requires index { HasIndex (A.image area.old) head }
+    requires known { InTopChain (index_at (A.image area.old) head) known }
     requires order { Ascending 0 (suc record_number_limit) (leaves_of (index_at (A.image area.old) head)) }
     requires short { length (A.image area.old) ≤ image_limit }
     requires more { k ≤ rec }
@@ -105,14 +113,14 @@ fn read_stretch<A: Area>(area: &mut A, head: u64, k: u32, rec: u32) -> Result<St
     ensures stretch { IfOk result (IsStretch (ranges_of (index_at (A.image area.old) head)) k rec) }
     ensures area { Reads A.image A.frame A.faults A.edited area.old area.new result }
 {
-    let found = find_leaf(area, head, k)?;
+    let found = find_leaf(area, head, known, k)?;
     if let Some(leaf) = found {
         return Ok(Stretch {
             end: leaf.last.min(rec) + 1,
             missing: 0,
         });
     }
-    let next = find_next(area, head, k)?;
+    let next = find_next(area, head, known, k)?;
     let end = next.unwrap_or(RECORD_NUMBER_LIMIT + 1).min(rec + 1);
     Ok(Stretch {
         end,
@@ -121,8 +129,15 @@ fn read_stretch<A: Area>(area: &mut A, head: u64, k: u32, rec: u32) -> Result<St
 }
 
 /// How many records from one on up to a last have no block.
-fn count_missing<A: Area>(area: &mut A, head: u64, from: u32, rec: u32) -> Result<u32, AreaError>
+fn count_missing<A: Area>(
+    area: &mut A,
+    head: u64,
+    known: Option<u64>,
+    from: u32,
+    rec: u32,
+) -> Result<u32, AreaError>
     requires index { HasIndex (A.image area.old) head }
+    requires known { InTopChain (index_at (A.image area.old) head) known }
     requires order { Ascending 0 (suc record_number_limit) (leaves_of (index_at (A.image area.old) head)) }
     requires short { length (A.image area.old) ≤ image_limit }
     requires more { from ≤ rec }
@@ -137,7 +152,7 @@ fn count_missing<A: Area>(area: &mut A, head: u64, from: u32, rec: u32) -> Resul
         if rec < k {
             return Ok(missing);
         }
-        let stretch = read_stretch(area, head, k, rec)?;
+        let stretch = read_stretch(area, head, known, k, rec)?;
         missing += stretch.missing;
         k = stretch.end;
     }
@@ -160,17 +175,19 @@ fn room_of(count: u32, length: u64, missing: u32, size: IndexSize) -> u128
     records + blocks * (LINKED_SIZE as u128 + node)
 }
 
-/// How many bytes a put of a record takes at most, where one is written from a first on.
+/// How many bytes a put of a record takes at most, where one is written from a first on. Of the top chain of the index a node may be known.
 #[tactic(auto, using(cdf_area::proofs::Calls::read_done, cdf_area::proofs::Calls::read_failed, cdf_area::proofs::Calls::read_more, cdf_area::proofs::Calls::read_once))]
 pub fn read_put_room<A: Area>(
     area: &mut A,
     form: &Form,
+    known: Option<u64>,
     rec: u32,
     from: u32,
 ) -> Result<u128, AreaError>
     requires good { Good (A.image area.old) }
     requires short { length (A.image area.old) ≤ image_limit }
     requires form { IsForm (A.image area.old) form.now }
+    requires known { IsKnownStart (A.image area.old) form.now.place.vdr known }
     requires within { rec ≤ record_number_limit }
     requires from { from ≡ first_written (variable_at (A.image area.old) form.now.place.vdr) rec }
     ensures room { IfOk result (λ room. room ≡ put_room (variable_at (A.image area.old) form.now.place.vdr) (index_at (A.image area.old) (number (A.image area.old) form.now.place.vdr vdr_vxr_head)) rec) }
@@ -179,7 +196,7 @@ pub fn read_put_room<A: Area>(
     // An image has fewer than 2^64 bytes, so no place in it overflows.
     let _size = area.size();
     let head = read_unsigned8(area, form.place.vdr + VDR_VXR_HEAD)?;
-    let missing = count_missing(area, head, from, rec)?;
+    let missing = count_missing(area, head, known, from, rec)?;
     if missing == 0 {
         return Ok(0);
     }

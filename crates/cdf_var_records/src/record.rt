@@ -170,7 +170,7 @@ fn find_stored<A: Area>(area: &mut A, vdr: u64, rec: u32) -> Result<Option<Leaf>
         return Ok(None);
     }
     let head = read_unsigned8(area, vdr + VDR_VXR_HEAD)?;
-    find_leaf(area, head, rec)
+    find_leaf(area, head, None, rec)
 }
 
 /// A record that is stored, in network order; none past MaxRec, and where no block has it.

@@ -1,9 +1,14 @@
 -- The whole of a put: what is put under way, and that the last image follows the command.
-use Rattle.cdf_vars.proofs.Common.{Bool, ByStep, CanPut, Command, DataSet, DataType, Follows, Go, Good, HasRoom, IsNewRecord, IsPut, IsTarget, IsVdr, Kind, Known, Knows, List, MaxRecRaised, MaxRecRaises, NewRecord, PutsAs, PutsSo, PutsUpTo, Putting, R, Shape, Some, SomePutting, Target, Variable, VariableShape, Z, ap, arith, back, cannot_be_put, content, extent, false, first_written, good_is_sound, got-map, got-middle, image_limit, index_at, index_is, inl, inr, is_little, length, loose, map, max_rec_at, min, most_in_block, nat_lt, nat_tests, no_rule, number, other_kind, pad_record, put_room, raised_shape, record_bytes, record_number_limit, refl, shape, shapes_of, size_of, size_stays, slice_get, slice_set, step, subst, sym, target_found, true, true≢false, turned, type_of_variable, variable_at, variable_named, variable_of, variables_of, vdr_vxr_head, vdrs, vdrs_append, with_record, with_sign, with_variable, with_variables, ℕ, ◌%◌, ◌&&◌, ◌++◌, ◌+◌, ◌<◌, ◌==◌, ◌||◌, ◌∙◌, ◌∷◌, ◌≡◌, ◌≤◌, ◌⊎◌}
+use Rattle.cdf_vars.proofs.Common.{Bool, ByStep, CanPut, Command, DataSet, DataType, Each, Follows, Form, Go, Good, HasRoom, In, IsForm, IsNewRecord, IsPut, IsTarget, IsVdr, Kind, Known, Knows, List, MaxRecRaised, MaxRecRaises, NewRecord, PutsAs, PutsSo, PutsUpTo, Putting, R, Shape, Some, SomePutting, Target, Variable, VariableShape, Z, ap, arith, back, cannot_be_put, content, extent, false, first_written, good_is_sound, got-map, got-middle, image_limit, in_middle, index_at, index_is, inl, inr, is_little, length, loose, map, max_rec_at, min, most_in_block, nat_lt, nat_tests, no_rule, number, other_kind, pad_record, put_room, raised_shape, record_bytes, record_number_limit, refl, shape, shapes_of, size_of, size_stays, slice_get, slice_set, step, subst, sym, target_found, true, true≢false, turned, type_of_variable, variable_at, variable_named, variable_of, variables, variables_of, vdr_vxr_head, vdrs, vdrs_append, with_record, with_sign, with_variable, with_variables, ℕ, ◌%◌, ◌&&◌, ◌++◌, ◌+◌, ◌<◌, ◌==◌, ◌||◌, ◌∙◌, ◌∷◌, ◌≡◌, ◌≤◌, ◌⊎◌}
 use Rattle.std.specs.Prelude.{not}
 use Rattle.cdf_model.specs.declared.command.Command.TheVariants as commands
 use Rattle.cdf_model.specs.declared.answer.Reply.TheVariants as replies
 use Rattle.cdf_puts.specs.Going.{found_in}
+use Rattle.cdf_puts.specs.Starts.{IsKnownOf, KnowsStarts}
+use Rattle.cdf_puts.specs.declared.starts.Starts.{Starts}
+use Rattle.cdf_puts.proofs.KnownStarts.{starts_go_on}
+use Rattle.cdf_var_records.proofs.RecordForms.{among}
+use Rattle.cdf_var_records.proofs.VdrParts.{own}
 use Rattle.cdf_puts.specs.SoFar.{MaxRecDone}
 use Rattle.cdf_puts.proofs.DoneBytes.{put_content, put_rec_done, put_val_done}
 use Rattle.cdf_vars.proofs.VariableFound.{knows_now, same_name_set}
@@ -45,6 +50,11 @@ module _ {b : List ℕ} {t : Target} (good : Good b) (is : IsTarget b t) where
   from_is r count_is =
       let first : first_written (variable_of b is.own) r ≡ min r (extent (max_rec_at b is.own.vdr)) = rw (no_rule good is.among) refl in
       ap (min r) (count_is ∙ ap (λ (k : ℕ). extent (max_rec_at b k)) (sym is.vdr_is)) ∙ sym first
+
+pub form_vdr : {b : List ℕ} {form : Form} → Good b → IsForm b form → In form.place.vdr (vdrs (variables (shape b)))
+form_vdr {b} {form} good f =
+    let all = among good f.is_vdr in
+    subst (λ (vs : List VariableShape). In form.place.vdr (vdrs vs)) (sym all.all) (in_middle all.front (own good f.is_vdr) all.rest)
 
 -- ---- what holds where the record was read
 
@@ -179,6 +189,9 @@ module _ {b : List ℕ} {t : Target} {bytes : List ℕ} {put : NewRecord} {limit
 
       last_shape : shape last ≡ shape now
       last_shape = elim max_rec_done [ inl x ↦ raised_shape done.so.goes.good done.so.goes.among x.1 small | inr x ↦ ap shape x.1 ]
+
+      pub starts_now : {starts : Starts} → KnowsStarts b starts → KnowsStarts last starts
+      starts_now {starts} knows = record { each = subst (λ (s : Shape). Each (IsKnownOf starts) (variables s)) (sym last_shape) (starts_go_on knows kind is.among done.so.goes done.so.index.tops).each }
 
       pub known_now : {known : Known} → Knows b known → Knows last known
       known_now knows =

@@ -1,6 +1,7 @@
 //! A record that a command puts, once it is known what is put.
 
-ghost use Rattle.std.specs.Prelude.{◌≡◌, ◌+◌, ◌≤◌, ◌%◌, ℕ, ℤ, List, length, IfOk, OnOk};
+ghost use Rattle.std.specs.Prelude.{◌≡◌, ◌+◌, ◌≤◌, ◌%◌, ℕ, ℤ, List, length, IfOk, OnOk, OnErr};
+ghost use Rattle.cdf_puts.specs.declared.starts.Starts.{Starts};
 ghost use Rattle.cdf_area.specs.Calls.{Edits, Reads};
 ghost use Rattle.cdf_edits.specs.Answers.{Answers};
 ghost use Rattle.cdf_edits.specs.Commands.Allowances.{shapes_of};
@@ -22,6 +23,7 @@ ghost use Rattle.cdf_vars.specs.Known.{Knows};
 ghost use Rattle.cdf_var_records.specs.Descriptors.{IsVdr};
 ghost use Rattle.cdf_vars.specs.Puts.{CanPut, HasRoom, IsNewRecord, MaxRecRaises, PutsSo};
 ghost use Rattle.cdf_puts.specs.Putting.{most_in_block};
+ghost use Rattle.cdf_puts.specs.Starts.{IsKnownStart, KnowsStarts};
 ghost use Rattle.cdf_var_records.specs.Records.{IsForm, variable_at};
 ghost use Rattle.cdf_vars.specs.Removing.{VdrsLie};
 
@@ -30,7 +32,7 @@ use crate::removing::{greatest_extent, last_number, set_greatest};
 use crate::vars::Vars;
 use cdf_area::{Area, AreaError};
 use cdf_model::{DataType, Encoding, Kind, Outcome, Reason, Reply};
-use cdf_puts::{NewRecord, put_records};
+use cdf_puts::{NewRecord, Starts, put_records};
 use cdf_records::set_vdr_max_rec;
 use cdf_values::from_network;
 use cdf_var_records::{Form, read_block_count, read_extent, read_pad_record, read_put_room};
@@ -135,6 +137,7 @@ impl Vars {
         &self,
         area: &mut A,
         target: &Target,
+        known: Option<u64>,
         rec: u32,
         count: u32,
         bytes: Vec<u8>,
@@ -143,14 +146,16 @@ impl Vars {
         requires known { Knows (A.image area.old) self.now }
         requires can { CanPut (A.image area.old) rec target.now bytes.items }
         requires count { count ≡ extent (max_rec_at (A.image area.old) target.now.form.place.vdr) }
+        requires start { IsKnownStart (A.image area.old) target.now.form.place.vdr known }
         requires room { HasRoom (A.image area.old) target.now rec (A.frame area.old).limit }
         requires limit { (A.frame area.old).limit ≤ image_limit }
         ensures follows { OnOk result ((c : Command) (name : List ℕ) → PutsSo (A.image area.old) c name rec target.now bytes.items → Follows (A.image area.old) c (A.image area.new)) }
         ensures known { OnOk result (Knows (A.image area.new) self.now) }
+        ensures starts { OnOk result ((starts : Starts) → KnowsStarts (A.image area.old) starts → KnowsStarts (A.image area.new) starts) }
         ensures area { Edits A.frame A.faults area.old area.new result }
     {
         let put = read_new_record(self.alloc, area, target, rec, count, bytes)?;
-        put_records(self.alloc, area, &put, rec.min(count))?;
+        put_records(self.alloc, area, &put, known, rec.min(count))?;
         self.raise_max_rec(area, target, rec, count)
     }
 
@@ -159,6 +164,7 @@ impl Vars {
     pub(crate) fn put_bytes<A: Area>(
         &self,
         area: &mut A,
+        starts: &mut Starts,
         target: &Target,
         rec: u32,
         bytes: Vec<u8>,
@@ -166,20 +172,25 @@ impl Vars {
         requires good { Good (A.image area.old) }
         requires known { Knows (A.image area.old) self.now }
         requires can { CanPut (A.image area.old) rec target.now bytes.items }
+        requires starts { KnowsStarts (A.image area.old) starts.old }
         requires fits { length (A.image area.old) ≤ (A.frame area.old).limit }
         requires limit { (A.frame area.old).limit ≤ image_limit }
         ensures answers { IfOk result (λ o. (c : Command) (name : List ℕ) → PutsSo (A.image area.old) c name rec target.now bytes.items → Answers (A.frame area.old).limit (A.image area.old) c o (A.image area.new)) }
         ensures known { OnOk result (Knows (A.image area.new) self.now) }
+        ensures starts { OnOk result (KnowsStarts (A.image area.new) starts.new) }
+        ensures starts_stay { OnErr result (KnowsStarts (A.image area.old) starts.new) }
         ensures area { Edits A.frame A.faults area.old area.new result }
     {
-        let count = read_extent(area, target.form.place.vdr)?;
-        let room = read_put_room(area, &target.form, rec, rec.min(count))?;
+        let vdr = target.form.place.vdr;
+        let known = starts.find_start(area, vdr, rec)?;
+        let count = read_extent(area, vdr)?;
+        let room = read_put_room(area, &target.form, known, rec, rec.min(count))?;
         if u128::from(area.limit() - area.size()) < room {
             return Ok(Outcome::Refused {
                 reason: Reason::TooLarge,
             });
         }
-        self.write_record(area, target, rec, count, bytes)?;
+        self.write_record(area, target, known, rec, count, bytes)?;
         Ok(Outcome::Done {
             reply: Reply::Plain,
         })

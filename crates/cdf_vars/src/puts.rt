@@ -1,6 +1,6 @@
 //! The commands `put-rec` and `put-val`: a record of a variable, or one value of it, gets other values.
 
-ghost use Rattle.std.specs.Prelude.{◌≡◌, ◌≤◌, ◌+◌, ◌*◌, ◌++◌, ℕ, List, Ok, length, take, drop, IfOk, OnOk};
+ghost use Rattle.std.specs.Prelude.{◌≡◌, ◌≤◌, ◌+◌, ◌*◌, ◌++◌, ℕ, List, Ok, length, take, drop, IfOk, OnOk, OnErr};
 ghost use Rattle.cdf_area.specs.Calls.{Edits, Reads};
 ghost use Rattle.cdf_edits.specs.Answers.{Answers};
 ghost use Rattle.cdf_format.specs.WellFormed.{Good};
@@ -8,6 +8,7 @@ ghost use Rattle.cdf_model.specs.Limits.{image_limit};
 ghost use Rattle.cdf_model.specs.Types.{size_of};
 ghost use Rattle.cdf_model.specs.Values.{values_in};
 ghost use Rattle.cdf_model.specs.declared.command.Command.TheVariants.{PutRec, PutVal};
+ghost use Rattle.cdf_puts.specs.Starts.{KnowsStarts};
 ghost use Rattle.cdf_vars.specs.Known.{Knows};
 ghost use Rattle.cdf_vars.specs.Puts.{HasTarget, IsPutRequest, IsTarget, SeesTarget};
 
@@ -15,6 +16,7 @@ use crate::padding::reason_of;
 use crate::vars::{VarId, Vars};
 use cdf_area::{Area, AreaError};
 use cdf_model::{Nums, Outcome, Reason, Words};
+use cdf_puts::Starts;
 use cdf_shape::place_of;
 use cdf_values::read_values;
 use cdf_var_records::{
@@ -175,20 +177,24 @@ impl Vars {
     pub fn put_rec<A: Area>(
         &self,
         area: &mut A,
+        starts: &mut Starts,
         name: &[u8],
         rec: u32,
         words: &Words,
     ) -> Result<Outcome, AreaError>
         requires good { Good (A.image area.old) }
         requires known { Knows (A.image area.old) self.now }
+        requires starts { KnowsStarts (A.image area.old) starts.old }
         requires fits { length (A.image area.old) ≤ (A.frame area.old).limit }
         requires limit { (A.frame area.old).limit ≤ image_limit }
         ensures answers { IfOk result (λ o. Answers (A.frame area.old).limit (A.image area.old) (PutRec name.now rec words.now) o (A.image area.new)) }
         ensures known { OnOk result (Knows (A.image area.new) self.now) }
+        ensures starts { OnOk result (KnowsStarts (A.image area.new) starts.new) }
+        ensures starts_stay { OnErr result (KnowsStarts (A.image area.old) starts.new) }
         ensures area { Edits A.frame A.faults area.old area.new result }
     {
         match self.read_record_request(area, name, rec, words)? {
-            PutRequest::Put { target, bytes } => self.put_bytes(area, &target, rec, bytes),
+            PutRequest::Put { target, bytes } => self.put_bytes(area, starts, &target, rec, bytes),
             PutRequest::Refused { reason } => Ok(Outcome::Refused { reason }),
         }
     }
@@ -197,6 +203,7 @@ impl Vars {
     pub fn put_val<A: Area>(
         &self,
         area: &mut A,
+        starts: &mut Starts,
         name: &[u8],
         rec: u32,
         index: &Nums,
@@ -204,14 +211,17 @@ impl Vars {
     ) -> Result<Outcome, AreaError>
         requires good { Good (A.image area.old) }
         requires known { Knows (A.image area.old) self.now }
+        requires starts { KnowsStarts (A.image area.old) starts.old }
         requires fits { length (A.image area.old) ≤ (A.frame area.old).limit }
         requires limit { (A.frame area.old).limit ≤ image_limit }
         ensures answers { IfOk result (λ o. Answers (A.frame area.old).limit (A.image area.old) (PutVal name.now rec index.now words.now) o (A.image area.new)) }
         ensures known { OnOk result (Knows (A.image area.new) self.now) }
+        ensures starts { OnOk result (KnowsStarts (A.image area.new) starts.new) }
+        ensures starts_stay { OnErr result (KnowsStarts (A.image area.old) starts.new) }
         ensures area { Edits A.frame A.faults area.old area.new result }
     {
         match self.read_value_request(area, name, rec, index, words)? {
-            PutRequest::Put { target, bytes } => self.put_bytes(area, &target, rec, bytes),
+            PutRequest::Put { target, bytes } => self.put_bytes(area, starts, &target, rec, bytes),
             PutRequest::Refused { reason } => Ok(Outcome::Refused { reason }),
         }
     }

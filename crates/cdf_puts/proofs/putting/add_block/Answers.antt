@@ -1,5 +1,5 @@
-use Rattle.cdf_puts.proofs.Common.{Frame, Good, HasIndex, In, IsBlockBody, IsBody, IsPut, List, ap, edit_done, edit_failed, edit_more, edit_without_memory, edits_by_read, keeps_by_read, read_once, records_put, refl, shape, subst, sym, variables, vdrs, ℕ, ◌+◌, ◌-◌}
-use Rattle.cdf_puts.proofs.PutSpot.{body_is, AddsOn, added_on, room_after, searched, some_few, vdr_in}
+use Rattle.cdf_puts.proofs.Common.{Frame, Good, HasIndex, In, IsBlockBody, IsBody, IsPut, List, ap, edit_done, edit_failed, edit_more, edit_without_memory, edits_by_read, keeps_by_read, read_more, read_once, records_put, refl, shape, subst, sym, variables, vdrs, ℕ, ◌+◌, ◌-◌, ◌∙◌}
+use Rattle.cdf_puts.proofs.PutSpot.{AddsOn, added_on, body_is, few_most, has_index, room_after, searched, some_few, some_most, vdr_in}
 use Rattle.cdf_puts.proofs.putting.add_block.Goals as goal
 
 pub last_of_new-requires-clause-index : goal.last_of_new-requires-clause-index
@@ -17,11 +17,25 @@ returns-in_err-last-clause-area g c = edit_failed (record { frame = refl; faults
 pub returns-in_err-body-clause-area : goal.returns-in_err-body-clause-area
 returns-in_err-body-clause-area g c = edit_without_memory (keeps_by_read (read_once c.in_ok-last.ensures.area)) c.from_residual-in_err-body.ensures.1
 
+pub start_of-requires-clause-index : goal.start_of-requires-clause-index
+start_of-requires-clause-index g c =
+    let s = c.requires.some in
+    rw (c.last_of_new.ensures.area.image, c.requires.head) (has_index s.putting s.is)
+
+pub start_of-requires-clause-known : goal.start_of-requires-clause-known
+start_of-requires-clause-known g c = rw (c.last_of_new.ensures.area.image) c.requires.known
+
+pub returns-in_err-start-clause-area : goal.returns-in_err-start-clause-area
+returns-in_err-start-clause-area g c = edit_failed (keeps_by_read (read_once c.in_ok-last.ensures.area)) (edits_by_read c.in_err-start.ensures.area) c.from_residual-in_err-start.ensures.1
+
+pub add_leaf-requires-clause-start : goal.add_leaf-requires-clause-start
+add_leaf-requires-clause-start g c = rw (c.start_of.ensures.area.image, c.last_of_new.ensures.area.image) (rw (c.last_of_new.ensures.area.image, c.requires.head) at c.in_ok-start.ensures.start)
+
 pub add_leaf-requires-clause-good : goal.add_leaf-requires-clause-good
-add_leaf-requires-clause-good g c = let s = c.requires.some in subst Good (sym c.last_of_new.ensures.area.image) s.is.so.goes.good
+add_leaf-requires-clause-good g c = let s = c.requires.some in subst Good (sym (c.start_of.ensures.area.image ∙ c.last_of_new.ensures.area.image)) s.is.so.goes.good
 
 pub add_leaf-requires-clause-vdr : goal.add_leaf-requires-clause-vdr
-add_leaf-requires-clause-vdr g c = let s = c.requires.some in subst (λ (x : List ℕ). In c.args.put.now.vdr (vdrs (variables (shape x)))) (sym c.last_of_new.ensures.area.image) (vdr_in s.putting s.is)
+add_leaf-requires-clause-vdr g c = let s = c.requires.some in subst (λ (x : List ℕ). In c.args.put.now.vdr (vdrs (variables (shape x)))) (sym (c.start_of.ensures.area.image ∙ c.last_of_new.ensures.area.image)) (vdr_in s.putting s.is)
 
 pub add_leaf-requires-clause-body : goal.add_leaf-requires-clause-body
 add_leaf-requires-clause-body g c =
@@ -33,18 +47,18 @@ add_leaf-requires-clause-room g c =
     let s = c.requires.some in
     let put = c.args.put.now in
     let says = subst (λ (x : List ℕ). IsBlockBody x (records_put put.raw.items put.pad.items put.rec (c.in_ok-last.last + 1 - c.args.k) c.args.k)) (sym c.deref.ensures.value) c.in_ok-body.ensures.body in
-    room_after s.putting s.is c.requires.more c.requires.head c.requires.none c.in_ok-last.last c.in_ok-last.ensures.last c.deref.result.now says c.last_of_new.ensures.area.image (ap (λ (f : Frame g.A.Area.Under). f.limit) c.last_of_new.ensures.area.frame)
+    room_after s.putting s.is c.requires.more c.requires.head c.requires.none c.in_ok-last.last c.in_ok-last.ensures.last c.deref.result.now says (c.start_of.ensures.area.image ∙ c.last_of_new.ensures.area.image) (ap (λ (f : Frame g.A.Area.Under). f.limit) (c.start_of.ensures.area.frame ∙ c.last_of_new.ensures.area.frame))
 
 pub returns-in_err-add_leaf-clause-area : goal.returns-in_err-add_leaf-clause-area
-returns-in_err-add_leaf-clause-area g c = edit_failed (keeps_by_read (read_once c.in_ok-last.ensures.area)) c.in_err-add_leaf.ensures.area c.from_residual-in_err-add_leaf.ensures.1
+returns-in_err-add_leaf-clause-area g c = edit_failed (keeps_by_read (read_more (read_once c.in_ok-last.ensures.area) c.in_ok-start.ensures.area)) c.in_err-add_leaf.ensures.area c.from_residual-in_err-add_leaf.ensures.1
 
 pub returns-clause-put : goal.returns-clause-put
 returns-clause-put g c =
     let put = c.args.put.now in
     let says = subst (λ (x : List ℕ). IsBlockBody x (records_put put.raw.items put.pad.items put.rec (c.in_ok-last.last + 1 - c.args.k) c.args.k)) (sym c.deref.ensures.value) c.in_ok-body.ensures.body in
     let now = g.A.Area.image c.add_leaf.new.area in
-    let adds = subst (λ (x : List ℕ). AddsOn x now put.vdr c.args.k c.in_ok-last.last c.deref.result.now) c.last_of_new.ensures.area.image c.in_ok-add_leaf.ensures.added in
+    let adds = subst (λ (x : List ℕ). AddsOn x now put.vdr c.args.k c.in_ok-last.last c.deref.result.now) (c.start_of.ensures.area.image ∙ c.last_of_new.ensures.area.image) c.in_ok-add_leaf.ensures.added in
     λ b kind before own after putting is. subst (λ (n : ℕ). IsPut b now kind before own after put (n + 1)) (sym c.min.ensures) (added_on putting is c.requires.more c.requires.head c.requires.none c.in_ok-last.last c.in_ok-last.ensures.last c.deref.result.now says adds c.requires.limit)
 
 pub returns-clause-area : goal.returns-clause-area
-returns-clause-area g c = edit_done (edit_more (keeps_by_read (read_once c.in_ok-last.ensures.area)) c.in_ok-add_leaf.ensures.area)
+returns-clause-area g c = edit_done (edit_more (keeps_by_read (read_more (read_once c.in_ok-last.ensures.area) c.in_ok-start.ensures.area)) c.in_ok-add_leaf.ensures.area)

@@ -34,3 +34,6 @@ returns-in_ok-write_one-in-Some-clause-area g c = edit_done (edit_more (keeps_by
 
 pub returns-in-None-clause-area : goal.returns-in-None-clause-area
 returns-in-None-clause-area g c = edit_last (keeps_by_read (read_more (read_once c.in_ok-head.ensures.area) c.in_ok-found.ensures.area)) c.add_block.ensures.area
+
+pub find_leaf-requires-clause-known : goal.find_leaf-requires-clause-known
+find_leaf-requires-clause-known g c = rw (c.read_unsigned8.ensures.area.image, c.in_ok-head.ensures.value) c.requires.known

@@ -1,5 +1,6 @@
 use Rattle.cdf_puts.proofs.Common.{Frame, SomePut, ap, arith, edit_done, edit_failed, edit_more, refl, subst, sym, ℕ}
 use Rattle.cdf_puts.proofs.PutSpot.{all_done, all_on, all_start, on_after, some_put}
+use Rattle.cdf_puts.proofs.KnownStarts.{known_yet}
 use Rattle.cdf_puts.proofs.putting.put_records.Goals as goal
 
 pub loop-k-init : goal.loop-k-init
@@ -23,3 +24,6 @@ returns-clause-area g c = edit_done c.loop-k.invariant.area
 
 pub returns-in_err-k-clause-area : goal.returns-in_err-k-clause-area
 returns-in_err-k-clause-area g c = edit_failed c.loop-k.invariant.area c.in_err-k.ensures.area c.from_residual.ensures.1
+
+pub put_next-requires-clause-known : goal.put_next-requires-clause-known
+put_next-requires-clause-known g c = known_yet c.args.known c.requires.some c.loop-k.invariant.puts c.requires.known

@@ -16,6 +16,9 @@ read_unsigned8-requires g c = let l = head_lies c.requires.good c.requires.form 
 pub count_missing-requires-clause-index : goal.count_missing-requires-clause-index
 count_missing-requires-clause-index g c = index_there c.requires.good c.requires.form c.args.rec c.read_unsigned8.ensures.area.image c.in_ok-head.ensures.value
 
+pub count_missing-requires-clause-known : goal.count_missing-requires-clause-known
+count_missing-requires-clause-known g c = rw (c.read_unsigned8.ensures.area.image, c.in_ok-head.ensures.value) c.requires.known
+
 pub count_missing-requires-clause-order : goal.count_missing-requires-clause-order
 count_missing-requires-clause-order g c = leaves_rise c.requires.good c.requires.form c.args.rec c.read_unsigned8.ensures.area.image c.in_ok-head.ensures.value
 

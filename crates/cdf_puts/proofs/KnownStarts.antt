@@ -1,0 +1,94 @@
+-- Nodes of top chains that are known of the variables of an image, and that they are known yet where records were put.
+use Rattle.cdf_puts.proofs.Common.{Act, Each, Each-append, Each-split, GoesOn, Good, HasIndex, In, InTopChain, IsKnownOf, IsKnownStart, KeepsStart, Kind, KnowsStarts, Leaf, List, Nodes, None, Option, PutsUpTo, R, Some, SomePutting, StandsAmong, TopStays, VariableShape, Z, [], ap, arith, good_by_its_shape, good_is_sound, index_at, inl, inr, length, long, no_node, node, node_known, number, other_kind, refl, shape, shapes_of, sound, subst, sym, tile, tile_lies, top_chain, variables, vdr_vxr_head, vdrs, with_leaf, ℕ, ◌++◌, ◌+◌, ◌∙◌, ◌∷◌, ◌≡◌, ◌≢◌, ◌≤◌}
+use Rattle.cdf_format.proofs.GoodImageLemmas.{good_image}
+use Rattle.cdf_index.proofs.GoodIndex.{good_index}
+use Rattle.cdf_index.proofs.OneVariable.{AmongAll, OneOf, among_all, one_of}
+use Rattle.cdf_puts.specs.declared.putting.NewRecord.{NewRecord}
+use Rattle.cdf_puts.specs.declared.starts.Starts.{Starts}
+
+-- each node of the top chain of an index is one of it once the index gets a leaf
+pub top_kept : (new : Leaf) (at : ℕ) (index : Nodes) → TopStays index (with_leaf new at index)
+unfolding with_leaf
+top_kept new at no_node m i = absurd i
+top_kept new at (node place room es more) m i = grind (arith, i, top_kept new at more m)
+
+tops_in : (before after : Nodes) → TopStays before after → (known : Option ℕ) → InTopChain before known → InTopChain after known
+tops_in before after stay None known = tt
+tops_in before after stay (Some m) known = stay m known
+
+-- ---- the index of a variable
+
+module _ (b : List ℕ) (good : Good b) where
+  index_here : (front : List VariableShape) (own : VariableShape) (rest : List VariableShape) → variables (shape b) ≡ front ++ own ∷ rest → HasIndex b (number b own.vdr vdr_vxr_head) × (index_at b (number b own.vdr vdr_vxr_head) ≡ own.index)
+  index_here front own rest all = good_index b (shape b) front own rest (good_image b (shape b) (good_by_its_shape b good)) (good_is_sound b good) all
+
+  index_of : {kind : Kind} {before : List VariableShape} {own : VariableShape} {after : List VariableShape} {vdr : ℕ} → StandsAmong b kind before own after → own.vdr ≡ vdr → index_at b (number b vdr vdr_vxr_head) ≡ own.index
+  index_of {kind} {before} {own} {after} at e = let a = among_all b kind before own after at.was in subst (λ (v : ℕ). index_at b (number b v vdr_vxr_head) ≡ own.index) e (index_here a.front own a.rest a.all).1
+
+  module _ (vdr : ℕ) (i : In vdr (vdrs (variables (shape b)))) where
+    abbrev o : OneOf b vdr
+    o = one_of b vdr i
+
+    abbrev a : AmongAll (variables (shape b)) o.own
+    a = among_all b o.kind o.before o.own o.after o.among.was
+
+    pub has_index : HasIndex b (number b vdr vdr_vxr_head)
+    has_index = subst (λ (v : ℕ). HasIndex b (number b v vdr_vxr_head)) o.vdr_is (index_here a.front o.own a.rest a.all).0
+
+    pub vdr_lies : vdr + 340 ≤ length b
+    vdr_lies = subst (λ (v : ℕ). v + 340 ≤ length b) o.vdr_is (omega (arith, long good o.among, tile_lies b 8 (length b) (shape b).records o.own.vdr (sound good o.among).has_shape.tiled (tile good o.among)))
+
+-- ---- the variable into which a record is put
+
+pub known_yet : {b now : List ℕ} {new : NewRecord} {from k limit : ℕ} (known : Option ℕ) → SomePutting b new from limit → PutsUpTo b now limit new k → IsKnownStart b new.vdr known → IsKnownStart now new.vdr known
+known_yet {b} {now} known some all is =
+    let p = some.putting in
+    let done = all some.kind some.before some.own some.after p in
+    let was = subst (λ (nodes : Nodes). InTopChain nodes known) (index_of b p.start.good p.start.among p.vdr_is) is in
+    subst (λ (nodes : Nodes). InTopChain nodes known) (sym (index_of now done.so.goes.good done.so.goes.among (done.so.goes.vdr_is ∙ p.vdr_is))) (tops_in some.own.index done.own'.index done.so.index.tops known was)
+
+-- ---- each variable
+
+each_at : (P : VariableShape → Type 0) (vs : List VariableShape) → ((front : List VariableShape) (own : VariableShape) (rest : List VariableShape) → vs ≡ front ++ own ∷ rest → P own) → Each P vs
+each_at P [] f = tt
+each_at P (v ∷ vs) f = (f [] v vs refl, each_at P vs (λ front own rest e. f (v ∷ front) own rest (ap (λ (r : List VariableShape). v ∷ r) e)))
+
+one_at : (P : VariableShape → Type 0) (front : List VariableShape) (own : VariableShape) (rest : List VariableShape) {vs : List VariableShape} → vs ≡ front ++ own ∷ rest → Each P vs → P own
+one_at P front own rest e h = (Each-split P front (own ∷ rest) (subst (Each P) e h)).1.0
+
+own_set : (P : VariableShape → Type 0) (before : List VariableShape) (own own' : VariableShape) (after : List VariableShape) {vs ws : List VariableShape} → vs ≡ before ++ own ∷ after → ws ≡ before ++ own' ∷ after → (P own → P own') → Each P vs → Each P ws
+own_set P before own own' after e f step h = let s = Each-split P before (own ∷ after) (subst (Each P) e h) in subst (Each P) (sym f) (Each-append P before (own' ∷ after) s.0 (step s.1.0, s.1.1))
+
+pub none_known : (b : List ℕ) (starts : Starts) → ((v : ℕ) → node_known starts v ≡ None) → KnowsStarts b starts
+none_known b starts none = record { each = each_at (IsKnownOf starts) (variables (shape b)) (λ front own rest all. rw (none own.vdr) tt) }
+
+module _ {b : List ℕ} {starts : Starts} (knows : KnowsStarts b starts) where
+  pub start_known : (vdr : ℕ) → Good b → In vdr (vdrs (variables (shape b))) → IsKnownStart b vdr (node_known starts vdr)
+  start_known vdr good i =
+      let o = one_of b vdr i in
+      let a = among_all b o.kind o.before o.own o.after o.among.was in
+      let one = one_at (IsKnownOf starts) a.front o.own a.rest a.all knows.each in
+      subst (λ (nodes : Nodes). InTopChain nodes (node_known starts vdr)) (sym (index_of b good o.among o.vdr_is)) (subst (λ (v : ℕ). InTopChain o.own.index (node_known starts v)) o.vdr_is one)
+
+  -- of one variable another node is known
+  pub start_kept : (vdr place : ℕ) (after : Starts) → Good b → (place ≢ 0 → IsKnownStart b vdr (Some place)) → KeepsStart starts vdr place after → KnowsStarts b after
+  start_kept vdr place after good is keeps = record {
+    each = each_at (IsKnownOf after) (variables (shape b)) (λ front own rest all. elim (keeps own.vdr) [
+      | inl same ↦ subst (InTopChain own.index) (sym same) (one_at (IsKnownOf starts) front own rest all knows.each)
+      | inr new ↦ subst (InTopChain own.index) (sym new.2) (subst (λ (nodes : Nodes). InTopChain nodes (Some place)) (index_here b good front own rest all).1 (subst (λ (v : ℕ). IsKnownStart b v (Some place)) (sym new.0) (is new.1)))
+    ]);
+  }
+
+  -- records of one variable are put
+  pub starts_go_on : {now : List ℕ} (kind : Kind) {before : List VariableShape} {own own' : VariableShape} {after : List VariableShape} {acts : List Act} → StandsAmong b kind before own after → GoesOn b now kind before own own' after acts → TopStays own.index own'.index → KnowsStarts now starts
+  starts_go_on {now} kind {before} {own} {own'} {after} at goes tops = by kind at.was goes.among.was goes.others_are
+    where
+      later : IsKnownOf starts own → IsKnownOf starts own'
+      later known = subst (λ (v : ℕ). InTopChain own'.index (node_known starts v)) (sym goes.vdr_is) (tops_in own.index own'.index tops (node_known starts own.vdr) known)
+
+      s : Each (IsKnownOf starts) (shape b).r_variables × Each (IsKnownOf starts) (shape b).z_variables
+      s = Each-split (IsKnownOf starts) (shape b).r_variables (shape b).z_variables knows.each
+
+      by : (kind : Kind) → shapes_of (shape b) kind ≡ before ++ own ∷ after → shapes_of (shape now) kind ≡ before ++ own' ∷ after → shapes_of (shape now) (other_kind kind) ≡ shapes_of (shape b) (other_kind kind) → KnowsStarts now starts
+      by R was is others = record { each = Each-append (IsKnownOf starts) (shape now).r_variables (shape now).z_variables (own_set (IsKnownOf starts) before own own' after was is later s.0) (subst (Each (IsKnownOf starts)) (sym others) s.1) }
+      by Z was is others = record { each = Each-append (IsKnownOf starts) (shape now).r_variables (shape now).z_variables (subst (Each (IsKnownOf starts)) (sym others) s.0) (own_set (IsKnownOf starts) before own own' after was is later s.1) }
