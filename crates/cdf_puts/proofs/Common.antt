@@ -57,7 +57,7 @@ pub use Rattle.cdf_model.specs.declared.kinds.Sparse.{Sparse}
 pub use Rattle.cdf_puts.specs.Covering.{Ahead, Counted, Covering, block_bytes, count_upto, new_last, node_bytes}
 pub use Rattle.cdf_puts.specs.Going.{GoesOn, IsOther, LooseStay, found_in, put_fields}
 pub use Rattle.cdf_puts.specs.Putting.{IsPut, PutsOn, PutsUpTo, Putting, SomePut, SomePutting, block_type, last_in_new, most_in_block, record_put, records_put}
-pub use Rattle.cdf_puts.specs.SoFar.{Beside, BlockRecords, BlocksSoFar, IndexSoFar, IsTaking, LeavesGoOn, MaxRecDone, NewBlock, NodesSoFar, OldBlock, PutStart, PutsBefore, RecordIs, SoFar, TopGrows, TopStays, put_count, put_from, put_touches, record_of, taken_bytes, taken_places, was_put}
+pub use Rattle.cdf_puts.specs.SoFar.{Beside, BlockRecords, BlocksSoFar, IndexSoFar, LeavesGoOn, MaxRecDone, NewBlock, NodesSoFar, OldBlock, PutStart, PutsBefore, RecordIs, SoFar, TopGrows, TopStays, put_count, record_of, taken_bytes, taken_places, was_put}
 pub use Rattle.cdf_puts.specs.Starts.{InTopChain, IsKnownOf, IsKnownStart, KeepsStart, KnowsStarts, node_known}
 pub use Rattle.cdf_puts.specs.Steps.{BlocksGoOn, IsBlockBody, IsVacant, MaxRecRaised, RecordsWritten}
 pub use Rattle.std.proofs.Common.{Bool, List, None, Option, Some, [], ap, append-nil, append_assoc, ap₂, arith, bytes_eq, drop, eqb, false, inl, inr, leb, length, ltb, map, negsuc, not, pos, refl, rules, subst, suc, sym, take, take-append-drop, true, true≢false, zero, ℕ, ℤ, ◌*◌, ◌++◌, ◌+◌, ◌-◌, ◌<◌, ◌∙◌, ◌∷◌, ◌≡◌, ◌≢◌, ◌≤◌, ◌⊎◌}

@@ -5,10 +5,10 @@ use Rattle.cdf_puts.proofs.LeafCounts.{leaf_is_there, leaf_was_there}
 use Rattle.cdf_puts.proofs.LeafEdit.{file, new_index, used_apart, node_in, node_taken, nodes_step}
 use Rattle.cdf_index.proofs.NewIndex.{index_edit}
 use Rattle.cdf_puts.proofs.LeafEdit.{blocks_go_on, plain_body}
-use Rattle.cdf_puts.proofs.PutBytes.{beside_one, blocks_then, new_goes_on, now_plain, now_whole, old_goes_on, size_now}
+use Rattle.cdf_puts.proofs.PutBytes.{beside_one, blocks_then, now_whole, size_now}
 use Rattle.std.proofs.Math.Bool.{or-false}
-use Rattle.cdf_puts.proofs.PutNodes.{NodesStep, bytes_longer, last_of_through, nodes_then, or_false, place_outside, same_uses, same_with_leaf, taken_both, taken_first, taken_neither, taken_then, through_goes, through_stays, top_grows, with_one_more}
-use Rattle.cdf_puts.proofs.SoFarStarts.{covers_own, none_begins, one_more, put_new, puts_new, ranges_more}
+use Rattle.cdf_puts.proofs.PutNodes.{NodesStep, bytes_longer, nodes_then, place_outside, same_uses, same_with_leaf, taken_both, through_goes, top_grows}
+use Rattle.cdf_puts.proofs.SoFarStarts.{covers_own, none_begins, put_new, puts_new, ranges_more}
 use Rattle.cdf_puts.proofs.KnownStarts.{top_kept}
 
 -- ---- the ranges that are new

@@ -1,5 +1,5 @@
 use Rattle.cdf_puts.proofs.Common.{Frame, Good, HasIndex, In, IsBlockBody, IsBody, IsPut, List, ap, edit_done, edit_failed, edit_more, edit_without_memory, edits_by_read, keeps_by_read, read_more, read_once, records_put, refl, shape, subst, sym, variables, vdrs, ℕ, ◌+◌, ◌-◌, ◌∙◌}
-use Rattle.cdf_puts.proofs.PutSpot.{AddsOn, added_on, body_is, few_most, has_index, room_after, searched, some_few, some_most, vdr_in}
+use Rattle.cdf_puts.proofs.PutSpot.{AddsOn, added_on, body_is, room_after, searched, some_few, vdr_in}
 use Rattle.cdf_puts.proofs.putting.add_block.Goals as goal
 
 pub last_of_new-requires-clause-index : goal.last_of_new-requires-clause-index
@@ -20,7 +20,7 @@ returns-in_err-body-clause-area g c = edit_without_memory (keeps_by_read (read_o
 pub start_of-requires-clause-index : goal.start_of-requires-clause-index
 start_of-requires-clause-index g c =
     let s = c.requires.some in
-    rw (c.last_of_new.ensures.area.image, c.requires.head) (has_index s.putting s.is)
+    rw (c.last_of_new.ensures.area.image, c.requires.head) (searched s.putting s.is).0
 
 pub start_of-requires-clause-known : goal.start_of-requires-clause-known
 start_of-requires-clause-known g c = rw (c.last_of_new.ensures.area.image) c.requires.known
