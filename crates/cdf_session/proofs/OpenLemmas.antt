@@ -172,10 +172,11 @@ pub ends_on_records : {U : Type 0} (b start made now : List ℕ) (frame first ma
     → IsOpen b frame known vars → start ≡ b → first ≡ with_base frame (Some b) → marked ≡ first → end ≡ with_base marked None → after ≡ record known { entries = None }
     → IfOk done (λ o. Answers first.limit start c o made) → OnOk done (KnowsVariables made vars) → OnOk done (KnowsStarts made starts) → OnErr done (KnowsStarts start starts)
     → OnOk done (now ≡ made) → OnErr done (marked.base ≡ Some now) → IsOpen now end after vars × KnowsStarts now starts
-ends_on_records b start made now frame first marked end known after vars starts c other done was begins is stays ends forgot answers knows knows_starts starts_stay kept undone =
-    (ends_on_variables b start made now frame first marked end known after vars vars c other done was begins is stays ends forgot answers knows
-    (on_err done (subst (λ (x : List ℕ). KnowsVariables x vars) (sym begins) was.knows_variables)) kept undone,
-    ends_starting done knows_starts starts_stay kept (on_err_weaker done (λ base. some_same b now (sym (ap (λ (m : Frame _). m.base) (stays ∙ is)) ∙ base) ∙ sym begins) undone))
+ends_on_records b start made now frame first marked end known after vars starts c other done was begins is stays ends forgot answers knows knows_starts starts_stay kept undone = (
+  ends_on_variables b start made now frame first marked end known after vars vars c other done was begins is stays ends forgot answers knows
+      (on_err done (subst (λ (x : List ℕ). KnowsVariables x vars) (sym begins) was.knows_variables)) kept undone,
+  ends_starting done knows_starts starts_stay kept (on_err_weaker done (λ base. some_same b now (sym (ap (λ (m : Frame _). m.base) (stays ∙ is)) ∙ base) ∙ sym begins) undone),
+)
 
 -- of a command on neither, after which they are forgotten too
 pub ends_on_neither : {U : Type 0} (b start made now : List ℕ) (frame first marked end : Frame U) (known after : Known) (vars : KnownVariables) (c : Command) → is_on_attributes c ≡ false → is_on_variables c ≡ false → (done : Result Outcome AreaError)

@@ -34,7 +34,9 @@ impl<A: Area> Session<A> {
         ensures area { Edits A.frame A.faults self.old self.new result }
     {
         self.area.mark();
-        let done = self.vars.put_rec(&mut self.area, &mut self.starts, var, rec, words);
+        let done = self
+            .vars
+            .put_rec(&mut self.area, &mut self.starts, var, rec, words);
         self.attrs.forget_entries();
         settle(&mut self.area, done)
     }
@@ -44,7 +46,8 @@ impl<A: Area> Session<A> {
         ensures answers { IfOk result (λ o. Answers (A.frame self.old).limit (A.image self.old) (Command.GetRec var.now rec) o (A.image self.new)) }
         ensures area { Reads A.image A.frame A.faults A.edited self.old self.new result }
     {
-        self.vars.get_rec(&mut self.area, var, rec)
+        self.vars
+            .get_rec(&mut self.area, &mut self.starts, var, rec)
     }
 
     /// The command `put-val`.
@@ -60,7 +63,9 @@ impl<A: Area> Session<A> {
         ensures area { Edits A.frame A.faults self.old self.new result }
     {
         self.area.mark();
-        let done = self.vars.put_val(&mut self.area, &mut self.starts, var, rec, index, words);
+        let done = self
+            .vars
+            .put_val(&mut self.area, &mut self.starts, var, rec, index, words);
         self.attrs.forget_entries();
         settle(&mut self.area, done)
     }
@@ -75,6 +80,7 @@ impl<A: Area> Session<A> {
         ensures answers { IfOk result (λ o. Answers (A.frame self.old).limit (A.image self.old) (Command.GetVal var.now rec index.now) o (A.image self.new)) }
         ensures area { Reads A.image A.frame A.faults A.edited self.old self.new result }
     {
-        self.vars.get_val(&mut self.area, var, rec, index)
+        self.vars
+            .get_val(&mut self.area, &mut self.starts, var, rec, index)
     }
 }

@@ -17,6 +17,7 @@ ghost use Rattle.cdf_model.specs.Place.{record_size, value_count};
 ghost use Rattle.cdf_model.specs.Reading.{pad_record, pad_value, read};
 ghost use Rattle.cdf_model.specs.RecordSteps.{cannot_be_put};
 ghost use Rattle.cdf_model.specs.Types.{size_of};
+ghost use Rattle.cdf_puts.specs.Starts.{IsKnownStart};
 ghost use Rattle.cdf_var_records.specs.Records.{IsForm, IsRecordShape, leaf_in, variable_at};
 
 use crate::extent::read_extent;
@@ -155,10 +156,16 @@ pub fn read_pad_record<A: Area>(
     Ok(bytes)
 }
 
-/// The leaf that has a record of the variable whose descriptor stands at a place; none past MaxRec.
-fn find_stored<A: Area>(area: &mut A, vdr: u64, rec: u32) -> Result<Option<Leaf>, AreaError>
+/// The leaf that has a record of the variable whose descriptor stands at a place; none past MaxRec. Of the top chain of its index a node may be known.
+fn find_stored<A: Area>(
+    area: &mut A,
+    vdr: u64,
+    known: Option<u64>,
+    rec: u32,
+) -> Result<Option<Leaf>, AreaError>
     requires lies { vdr + past vdr_name ≤ length (A.image area.old) }
     requires index { HasIndex (A.image area.old) (number (A.image area.old) vdr vdr_vxr_head) }
+    requires known { IsKnownStart (A.image area.old) vdr known }
     requires short { length (A.image area.old) ≤ image_limit }
     ensures leaf { IfOk result (λ found. option_map seen found ≡ leaf_in (A.image area.old) vdr rec) }
     ensures area { Reads A.image A.frame A.faults A.edited area.old area.new result }
@@ -170,7 +177,7 @@ fn find_stored<A: Area>(area: &mut A, vdr: u64, rec: u32) -> Result<Option<Leaf>
         return Ok(None);
     }
     let head = read_unsigned8(area, vdr + VDR_VXR_HEAD)?;
-    find_leaf(area, head, None, rec)
+    find_leaf(area, head, known, rec)
 }
 
 /// A record that is stored, in network order; none past MaxRec, and where no block has it.
@@ -179,15 +186,17 @@ fn read_stored<A: Area>(
     alloc: Global,
     area: &mut A,
     form: &Form,
+    known: Option<u64>,
     rec: u32,
 ) -> Result<Option<Vec<u8>>, AreaError>
     requires good { Good (A.image area.old) }
     requires short { length (A.image area.old) ≤ image_limit }
     requires form { IsForm (A.image area.old) form.now }
+    requires known { IsKnownStart (A.image area.old) form.now.place.vdr known }
     ensures record { IfOk result (λ found. option_map (λ bytes. bytes.items) found ≡ item_at rec (variable_at (A.image area.old) form.now.place.vdr).recs) }
     ensures area { Reads A.image A.frame A.faults A.edited area.old area.new result }
 {
-    let found = find_stored(area, form.place.vdr, rec)?;
+    let found = find_stored(area, form.place.vdr, known, rec)?;
     let Some(leaf) = found else {
         return Ok(None);
     };
@@ -196,22 +205,24 @@ fn read_stored<A: Area>(
     Ok(Some(in_network_order(form.place.t, form.encoding, bytes)))
 }
 
-/// What a record reads as, in network order: the one that is stored, or else the pad value throughout.
+/// What a record reads as, in network order: the one that is stored, or else the pad value throughout. Of the top chain of the index a node may be known.
 #[tactic(auto, using(cdf_area::proofs::Calls::read_done, cdf_area::proofs::Calls::read_failed, cdf_area::proofs::Calls::read_more, cdf_area::proofs::Calls::read_once))]
 pub fn read_record<A: Area>(
     alloc: Global,
     area: &mut A,
     form: &Form,
+    known: Option<u64>,
     rec: u32,
 ) -> Result<Vec<u8>, AreaError>
     requires good { Good (A.image area.old) }
     requires short { length (A.image area.old) ≤ image_limit }
     requires form { IsForm (A.image area.old) form.now }
+    requires known { IsKnownStart (A.image area.old) form.now.place.vdr known }
     ensures record { IfOk result (λ bytes. bytes.items ≡ read (variable_at (A.image area.old) form.now.place.vdr) rec) }
     ensures area { Reads A.image A.frame A.faults A.edited area.old area.new result }
 {
     let number = number_of(form.place.flags, rec);
-    let stored = read_stored(alloc, area, form, number)?;
+    let stored = read_stored(alloc, area, form, known, number)?;
     match stored {
         Some(bytes) => Ok(bytes),
         None => read_pad_record(alloc, area, form),

@@ -8,7 +8,7 @@ ghost use Rattle.cdf_model.specs.Limits.{image_limit};
 ghost use Rattle.cdf_model.specs.Types.{size_of};
 ghost use Rattle.cdf_model.specs.Values.{values_in};
 ghost use Rattle.cdf_model.specs.declared.command.Command.TheVariants.{PutRec, PutVal};
-ghost use Rattle.cdf_puts.specs.Starts.{KnowsStarts};
+ghost use Rattle.cdf_puts.specs.Starts.{IsKnownStart, KnowsStarts};
 ghost use Rattle.cdf_vars.specs.Known.{Knows};
 ghost use Rattle.cdf_vars.specs.Puts.{HasTarget, IsPutRequest, IsTarget, SeesTarget};
 
@@ -116,6 +116,7 @@ impl Vars {
         &self,
         area: &mut A,
         target: Target,
+        known: Option<u64>,
         rec: u32,
         index: &Nums,
         value: &[u8],
@@ -123,6 +124,7 @@ impl Vars {
         requires good { Good (A.image area.old) }
         requires short { length (A.image area.old) ≤ image_limit }
         requires target { IsTarget (A.image area.old) target }
+        requires start { IsKnownStart (A.image area.old) target.form.place.vdr known }
         requires long { length value.now ≡ size_of target.form.shape.t * target.form.shape.elems }
         ensures request { IfOk result (λ request. (name : List ℕ) (words : List (List ℕ)) → HasTarget (A.image area.old) name target → values_in target.form.shape.t target.form.shape.elems 1 words ≡ Ok value.now → IsPutRequest (A.image area.old) (PutVal name rec index.now words) name rec request) }
         ensures area { Reads A.image A.frame A.faults A.edited area.old area.new result }
@@ -138,16 +140,18 @@ impl Vars {
                 reason: Reason::RecordOutOfRange,
             });
         }
-        let record = read_record(self.alloc, area, &target.form, rec)?;
+        let record = read_record(self.alloc, area, &target.form, known, rec)?;
         let size = value_size(&target.form.shape);
         let bytes = with_value(self.alloc, &record, number, size, value)?;
         Ok(PutRequest::Put { target, bytes })
     }
 
     /// What `put-val` asks for, as far as it does not depend on the room that there is.
+    #[tactic(auto, using(cdf_area::proofs::Calls::read_done, cdf_area::proofs::Calls::read_failed, cdf_area::proofs::Calls::read_more, cdf_area::proofs::Calls::read_once, cdf_area::proofs::Calls::read_without_memory))]
     fn read_value_request<A: Area>(
         &self,
         area: &mut A,
+        starts: &mut Starts,
         name: &[u8],
         rec: u32,
         index: &Nums,
@@ -155,8 +159,10 @@ impl Vars {
     ) -> Result<PutRequest, AreaError>
         requires good { Good (A.image area.old) }
         requires known { Knows (A.image area.old) self.now }
+        requires starts { KnowsStarts (A.image area.old) starts.old }
         requires short { length (A.image area.old) ≤ image_limit }
         ensures request { IfOk result (IsPutRequest (A.image area.old) (PutVal name.now rec index.now words.now) name.now rec) }
+        ensures starts { KnowsStarts (A.image area.old) starts.new }
         ensures area { Reads A.image A.frame A.faults A.edited area.old area.new result }
     {
         let Some(target) = self.find_target(area, name)? else {
@@ -164,9 +170,10 @@ impl Vars {
                 reason: Reason::NoSuchVar,
             });
         };
+        let known = starts.find_start(area, target.form.place.vdr, rec)?;
         let shape = &target.form.shape;
         match read_values(self.alloc, shape.t, shape.elems, 1, words) {
-            Ok(value) => self.read_place_request(area, target, rec, index, &value),
+            Ok(value) => self.read_place_request(area, target, known, rec, index, &value),
             Err(error) => Ok(PutRequest::Refused {
                 reason: reason_of(error)?,
             }),
@@ -220,7 +227,7 @@ impl Vars {
         ensures starts_stay { OnErr result (KnowsStarts (A.image area.old) starts.new) }
         ensures area { Edits A.frame A.faults area.old area.new result }
     {
-        match self.read_value_request(area, name, rec, index, words)? {
+        match self.read_value_request(area, starts, name, rec, index, words)? {
             PutRequest::Put { target, bytes } => self.put_bytes(area, starts, &target, rec, bytes),
             PutRequest::Refused { reason } => Ok(Outcome::Refused { reason }),
         }

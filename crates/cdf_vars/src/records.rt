@@ -6,6 +6,7 @@ ghost use Rattle.cdf_edits.specs.Answers.{Answers};
 ghost use Rattle.cdf_format.specs.WellFormed.{Good};
 ghost use Rattle.cdf_model.specs.Limits.{image_limit};
 ghost use Rattle.cdf_model.specs.declared.command.Command.TheVariants.{GetRec, GetVal};
+ghost use Rattle.cdf_puts.specs.Starts.{KnowsStarts};
 ghost use Rattle.cdf_vars.specs.Known.{Knows};
 ghost use Rattle.cdf_vars.specs.Records.{Sees};
 
@@ -13,6 +14,7 @@ use crate::vars::Vars;
 use cdf_area::{Area, AreaError};
 use cdf_model::limits::RECORD_NUMBER_LIMIT;
 use cdf_model::{Bytes, Nums, Outcome, Reason, Reply};
+use cdf_puts::Starts;
 use cdf_shape::place_of;
 use cdf_var_records::{Form, read_form, read_majority, read_record, value_size};
 use std::alloc::{AllocError, Global};
@@ -56,14 +58,17 @@ impl Vars {
     pub fn get_rec<A: Area>(
         &self,
         area: &mut A,
+        starts: &mut Starts,
         name: &[u8],
         rec: u32,
     ) -> Result<Outcome, AreaError>
         requires good { Good (A.image area.old) }
         requires known { Knows (A.image area.old) self.now }
+        requires starts { KnowsStarts (A.image area.old) starts.old }
         requires fits { length (A.image area.old) ≤ (A.frame area.old).limit }
         requires limit { (A.frame area.old).limit ≤ image_limit }
         ensures answers { IfOk result (λ o. Answers (A.frame area.old).limit (A.image area.old) (GetRec name.now rec) o (A.image area.new)) }
+        ensures starts { KnowsStarts (A.image area.old) starts.new }
         ensures area { Reads A.image A.frame A.faults A.edited area.old area.new result }
     {
         let form = match self.find_form(area, name)? {
@@ -79,7 +84,8 @@ impl Vars {
                 reason: Reason::RecordOutOfRange,
             });
         }
-        let record = read_record(self.alloc, area, &form, rec)?;
+        let known = starts.find_start(area, form.place.vdr, rec)?;
+        let record = read_record(self.alloc, area, &form, known, rec)?;
         Ok(Outcome::Done {
             reply: Reply::Values {
                 t: form.shape.t,
@@ -94,15 +100,18 @@ impl Vars {
     pub fn get_val<A: Area>(
         &self,
         area: &mut A,
+        starts: &mut Starts,
         name: &[u8],
         rec: u32,
         index: &Nums,
     ) -> Result<Outcome, AreaError>
         requires good { Good (A.image area.old) }
         requires known { Knows (A.image area.old) self.now }
+        requires starts { KnowsStarts (A.image area.old) starts.old }
         requires fits { length (A.image area.old) ≤ (A.frame area.old).limit }
         requires limit { (A.frame area.old).limit ≤ image_limit }
         ensures answers { IfOk result (λ o. Answers (A.frame area.old).limit (A.image area.old) (GetVal name.now rec index.now) o (A.image area.new)) }
+        ensures starts { KnowsStarts (A.image area.old) starts.new }
         ensures area { Reads A.image A.frame A.faults A.edited area.old area.new result }
     {
         let form = match self.find_form(area, name)? {
@@ -124,7 +133,8 @@ impl Vars {
                 reason: Reason::RecordOutOfRange,
             });
         }
-        let record = read_record(self.alloc, area, &form, rec)?;
+        let known = starts.find_start(area, form.place.vdr, rec)?;
+        let record = read_record(self.alloc, area, &form, known, rec)?;
         let size = value_size(&form.shape);
         let value = piece(self.alloc, &record, number * size, size)?;
         Ok(Outcome::Done {

@@ -6,11 +6,13 @@ use Rattle.cdf_puts.proofs.KnownStarts.{none_known}
 use Rattle.cdf_session.proofs.session.Session.create.Goals as goal
 
 pub invariant_of-result : goal.invariant_of-result
-invariant_of-result g c =
-    (new_open (g.A.Area.image c.args.area) (g.A.Area.image c.write_new.new.area) (g.A.Area.image c.keep.new.self)
-    (g.A.Area.frame c.args.area) (g.A.Area.frame c.mark.new.self) (g.A.Area.frame c.write_new.new.area) (g.A.Area.frame c.keep.new.self) c.in-Ok.loaded.attrs c.in-Ok.loaded.vars
-    c.requires.unmarked c.requires.room c.requires.limit c.mark.ensures.frame c.write_new.ensures.area.frame c.keep.ensures.frame
-    c.in-Ok.ensures.image c.keep.ensures.image c.in-Ok.ensures.known.attributes c.in-Ok.ensures.known.variables, none_known _ _ c.new.ensures)
+invariant_of-result g c = (
+  new_open (g.A.Area.image c.args.area) (g.A.Area.image c.write_new.new.area) (g.A.Area.image c.keep.new.self)
+      (g.A.Area.frame c.args.area) (g.A.Area.frame c.mark.new.self) (g.A.Area.frame c.write_new.new.area) (g.A.Area.frame c.keep.new.self) c.in-Ok.loaded.attrs c.in-Ok.loaded.vars
+      c.requires.unmarked c.requires.room c.requires.limit c.mark.ensures.frame c.write_new.ensures.area.frame c.keep.ensures.frame
+      c.in-Ok.ensures.image c.keep.ensures.image c.in-Ok.ensures.known.attributes c.in-Ok.ensures.known.variables,
+  none_known _ _ c.new.ensures,
+)
 
 pub returns-in-Err-clause-area : goal.returns-in-Err-clause-area
 returns-in-Err-clause-area g c =

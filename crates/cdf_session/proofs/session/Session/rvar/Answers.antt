@@ -7,6 +7,8 @@ pub create_r-done-requires-clause-good : goal.create_r-done-requires-clause-good
 create_r-done-requires-clause-good g c = good_stays _ _ c.self.invariant.0.good c.mark.ensures.image
 
 pub invariant_of-self : goal.invariant_of-self
-invariant_of-self g c =
-    (ends_on_variables _ _ _ _ _ _ _ _ _ _ _ _ (RVar c.args.name.now c.args.t c.args.elems c.args.vary c.args.varys.now) refl _
-    c.self.invariant.0 c.mark.ensures.image c.mark.ensures.frame c.create_r-done.ensures.area.frame c.settle.ensures.frame c.forget_entries.ensures c.create_r-done.ensures.answers c.create_r-done.ensures.known c.create_r-done.ensures.stays c.settle.ensures.kept c.settle.ensures.undone, none_known _ _ c.forget.ensures)
+invariant_of-self g c = (
+  ends_on_variables _ _ _ _ _ _ _ _ _ _ _ _ (RVar c.args.name.now c.args.t c.args.elems c.args.vary c.args.varys.now) refl _
+      c.self.invariant.0 c.mark.ensures.image c.mark.ensures.frame c.create_r-done.ensures.area.frame c.settle.ensures.frame c.forget_entries.ensures c.create_r-done.ensures.answers c.create_r-done.ensures.known c.create_r-done.ensures.stays c.settle.ensures.kept c.settle.ensures.undone,
+  none_known _ _ c.forget.ensures,
+)

@@ -7,6 +7,8 @@ pub set_blocking-done-requires-clause-good : goal.set_blocking-done-requires-cla
 set_blocking-done-requires-clause-good g c = good_stays _ _ c.self.invariant.0.good c.mark.ensures.image
 
 pub invariant_of-self : goal.invariant_of-self
-invariant_of-self g c =
-    (ends_on_variables _ _ _ _ _ _ _ _ _ _ _ _ (SetBlocking c.args.var.now c.args.n) refl _
-    c.self.invariant.0 c.mark.ensures.image c.mark.ensures.frame c.set_blocking-done.ensures.area.frame c.settle.ensures.frame c.forget_entries.ensures c.set_blocking-done.ensures.answers c.set_blocking-done.ensures.known c.set_blocking-done.ensures.stays c.settle.ensures.kept c.settle.ensures.undone, none_known _ _ c.forget.ensures)
+invariant_of-self g c = (
+  ends_on_variables _ _ _ _ _ _ _ _ _ _ _ _ (SetBlocking c.args.var.now c.args.n) refl _
+      c.self.invariant.0 c.mark.ensures.image c.mark.ensures.frame c.set_blocking-done.ensures.area.frame c.settle.ensures.frame c.forget_entries.ensures c.set_blocking-done.ensures.answers c.set_blocking-done.ensures.known c.set_blocking-done.ensures.stays c.settle.ensures.kept c.settle.ensures.undone,
+  none_known _ _ c.forget.ensures,
+)

@@ -7,6 +7,8 @@ pub set_up-done-requires-clause-good : goal.set_up-done-requires-clause-good
 set_up-done-requires-clause-good g c = good_stays _ _ c.self.invariant.0.good c.mark.ensures.image
 
 pub invariant_of-self : goal.invariant_of-self
-invariant_of-self g c =
-    (ends_on_neither _ _ _ _ _ _ _ _ _ _ _ (Setup c.args.encoding c.args.majority c.args.dims.now) refl refl _
-    c.self.invariant.0 c.mark.ensures.image c.mark.ensures.frame c.set_up-done.ensures.area.frame c.settle.ensures.frame c.forget_entries.ensures c.set_up-done.ensures.answers c.settle.ensures.kept c.settle.ensures.undone, none_known _ _ c.forget.ensures)
+invariant_of-self g c = (
+  ends_on_neither _ _ _ _ _ _ _ _ _ _ _ (Setup c.args.encoding c.args.majority c.args.dims.now) refl refl _
+      c.self.invariant.0 c.mark.ensures.image c.mark.ensures.frame c.set_up-done.ensures.area.frame c.settle.ensures.frame c.forget_entries.ensures c.set_up-done.ensures.answers c.settle.ensures.kept c.settle.ensures.undone,
+  none_known _ _ c.forget.ensures,
+)

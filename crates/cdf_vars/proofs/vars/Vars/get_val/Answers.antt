@@ -1,4 +1,5 @@
 use Rattle.cdf_vars.proofs.Common.{GetVal, HasForm, IndexOutOfRange, List, NoSuchVar, RecordOutOfRange, ap, arith, content, drop, image_limit, length, lt-ltb, place, read, record_number_limit, refl, refused, sym, take, values_fit, variable_at, ℕ, ◌*◌, ◌+◌, ◌∙◌, ◌≡◌, ◌≤◌}
+use Rattle.cdf_vars.proofs.PutWhole.{form_vdr}
 use Rattle.cdf_vars.proofs.RecordAnswers.{shown_val}
 use Rattle.cdf_vars.proofs.RecordPlaces.{inside, named_formed}
 use Rattle.cdf_vars.proofs.vars.Vars.get_val.Given.{Over}
@@ -16,7 +17,7 @@ at g c =
     (λ i. place (sym majority i) shape.dims shape.varys (sym index i)) ∙ sym c.place_of.ensures
 
 record_is : (g : Over) (c : In_ok-record g) → c.in_ok-record.record.items ≡ read (variable_at (g.A.Area.image c.args.area.now) c.in-Found.form.place.vdr) c.args.rec
-record_is g c = c.in_ok-record.ensures.record ∙ ap (λ (x : List ℕ). read (variable_at x c.in-Found.form.place.vdr) c.args.rec) (c.read_majority.ensures.area.image ∙ c.find_form.ensures.area.image)
+record_is g c = c.in_ok-record.ensures.record ∙ ap (λ (x : List ℕ). read (variable_at x c.in-Found.form.place.vdr) c.args.rec) (c.find_start.ensures.area.image ∙ c.read_majority.ensures.area.image ∙ c.find_form.ensures.area.image)
 
 value_inside : (g : Over) (c : After-value_size-size g) → c.in-Some.number * c.value_size-size.result + c.value_size-size.result ≤ length c.in_ok-record.record.items
 value_inside g c =
@@ -54,7 +55,7 @@ returns-then-rec-gt-RECORD_NUMBER_LIMIT-clause-answers g c =
 pub read_record-requires : goal.read_record-requires
 read_record-requires g c =
     let short : length (g.A.Area.image c.args.area.now) ≤ image_limit = omega (arith, c.requires.fits, c.requires.limit) in
-    rw (c.read_majority.ensures.area.image, c.find_form.ensures.area.image) (record { good = c.requires.good; short = short; form = (has g (goal.at.read_record-requires g c).In-Found).is_form })
+    rw (c.find_start.ensures.area.image, c.read_majority.ensures.area.image, c.find_form.ensures.area.image) (record { good = c.requires.good; short = short; form = (has g (goal.at.read_record-requires g c).In-Found).is_form; known = rw (c.read_majority.ensures.area.image, c.find_form.ensures.area.image) at c.in_ok-known.ensures.start })
 
 pub overflow_mul-number : goal.overflow_mul-number
 overflow_mul-number g c = omega (arith, value_inside g (goal.at.overflow_mul-number g c).After-value_size-size, c.in_ok-record.record.ok)
@@ -69,5 +70,11 @@ returns-clause-answers g c =
     let size = c.value_size-size.result in
     let value = c.new.ensures ∙ c.in_ok-value.ensures ∙ ap (λ (xs : List ℕ). take size (drop (c.in-Some.number * size) xs)) c.deref.ensures.value in
     let bytes = record_is g (goal.at.returns-clause-answers g c).In_ok-record in
-    rw (c.read_record.ensures.area.image, c.read_majority.ensures.area.image, c.find_form.ensures.area.image)
+    rw (c.read_record.ensures.area.image, c.find_start.ensures.area.image, c.read_majority.ensures.area.image, c.find_form.ensures.area.image)
     (shown_val (g.A.Area.frame c.args.area.now).limit h c.requires.good c.requires.fits c.if-rec-gt-RECORD_NUMBER_LIMIT.false bytes c.args.index.now there c.value_size-size.ensures c.new.result value)
+
+pub find_start-requires : goal.find_start-requires
+find_start-requires g c =
+    let h = has g (goal.at.find_start-requires g c).In-Found in
+    let short : length (g.A.Area.image c.args.area.now) ≤ image_limit = omega (arith, c.requires.fits, c.requires.limit) in
+    rw (c.read_majority.ensures.area.image, c.find_form.ensures.area.image) (record { good = c.requires.good; short = short; vdr = form_vdr c.requires.good h.is_form; known = c.requires.starts })

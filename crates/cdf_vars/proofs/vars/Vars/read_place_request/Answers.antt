@@ -36,7 +36,7 @@ returns-then-is_out_of_range-clause-request g c name words h says limit =
     refused limit _ (PutVal name c.args.rec c.args.index.now words) RecordOutOfRange (rw (named_formed c.requires.target.is_form name h.named, says, there, over) refl)
 
 pub read_record-requires : goal.read_record-requires
-read_record-requires g c = rw (c.read_majority.ensures.area.image) (record { good = c.requires.good; short = c.requires.short; form = c.requires.target.is_form })
+read_record-requires g c = rw (c.read_majority.ensures.area.image) (record { good = c.requires.good; short = c.requires.short; form = c.requires.target.is_form; known = c.requires.start })
 
 pub with_value-requires : goal.with_value-requires
 with_value-requires g c = record { inside = rw c.deref.ensures.value (value_inside g (goal.at.with_value-requires g c).After-value_size-size) }
