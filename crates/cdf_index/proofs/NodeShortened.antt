@@ -7,12 +7,9 @@ use Rattle.cdf_index.proofs.Inserting.{count_set, set_more}
 -- ---- an entry that ends later
 
 pub widened_by : (b now : List ℕ) (at i last first end offset : ℕ) → SaysEntry b at i first end offset → EntrySet b now at i first (max end last) offset → Widened b now at i last
-widened_by b now at i last first end offset r set = record {
-  as_long = set.as_long;
-  changed = set.changed;
-  here = λ f l o s. record { first_is = set.here.first_is ∙ sym r.first_is ∙ s.first_is; last_is = set.here.last_is ∙ ap (λ (x : ℕ). max x last) (sym r.last_is ∙ s.last_is); offset_is = set.here.offset_is ∙ sym r.offset_is ∙ s.offset_is };
-  others = set.others;
-}
+widened_by b now at i last first end offset r set =
+    let wider : (f l o : ℕ) → SaysEntry b at i f l o → SaysEntry now at i f (max l last) o = λ f l o s. record { first_is = set.here.first_is ∙ sym r.first_is ∙ s.first_is; last_is = set.here.last_is ∙ ap (λ (x : ℕ). max x last) (sym r.last_is ∙ s.last_is); offset_is = set.here.offset_is ∙ sym r.offset_is ∙ s.offset_is } in
+    search (rules, set, wider)
 
 -- ---- entries read one by one
 
