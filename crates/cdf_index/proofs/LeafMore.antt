@@ -1,5 +1,5 @@
 -- The leaves of an index with one leaf more.
-use Rattle.cdf_index.proofs.Common.{AreInOrder, Bool, Each, Each-append, Entries, InOrder, Leaf, List, Nodes, [], ap, append_assoc, arith, block, chain_reaches, either, entry_leaves, false, inl, inr, leads_down, leaves_of, leb, leb-false, lower, map, max, nat_tests, no_entry, no_node, node, or_parts, past, past_entries, range, reaches, refl, suc, sym, true, true≢false, upto, with_block, with_both, with_entry, with_leaf, with_new, with_range, ℕ, ◌++◌, ◌<◌, ◌∙◌, ◌∷◌, ◌≡◌, ◌≤◌}
+use Rattle.cdf_index.proofs.Common.{AreInOrder, Bool, Each, Each-append, Entries, InOrder, Leaf, List, Nodes, [], ap, append_assoc, arith, block, chain_reaches, entry_leaves, false, leads_down, leaves_of, leb, leb-false, lower, map, max, nat_tests, no_entry, no_node, node, or_parts, past, past_entries, range, reaches, refl, suc, sym, true, upto, with_block, with_both, with_entry, with_leaf, with_new, with_range, ℕ, ◌++◌, ◌<◌, ◌∙◌, ◌∷◌, ◌≡◌, ◌≤◌}
 use Rattle.cdf_index.proofs.Coming.{Comes, comes, comes_along, comes_below, comes_first, comes_here, chain_reaches_from, leads_none, not_reached, reaches_from}
 use Rattle.cdf_index.proofs.OrderLemmas.{Within, entries_within, leaves_within, end_after, InRange}
 use Rattle.cdf_index.proofs.Saying.{front, front_past, upto_both, both_none, no_entries}

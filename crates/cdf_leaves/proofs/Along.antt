@@ -1,5 +1,5 @@
 -- The nodes on a way are widened one by one, the last one first.
-use Rattle.cdf_leaves.proofs.Common.{All, AreTiles, Changed, Distinct, Each, Each-append, HasNodes, In, Kept, List, NodeFits, NodeInside, Nodes, Step, StepStands, Touch, WayStands, Widened, WidenedAlong, [], arith, cases_eq, changed_then, drop, edited, fits, has, heads_stay, inl, inr, kept_then, leaves_of, length, map, node_head, nodes_of, nothing_changed, others_stay, places_of, refl, room_at, slice_index_or, stands, step_pair, subst, suc, sym, tiles_same, touch, widen_all, wider, ℕ, ◌*◌, ◌++◌, ◌+◌, ◌<◌, ◌∙◌, ◌∷◌, ◌≡◌, ◌≤◌}
+use Rattle.cdf_leaves.proofs.Common.{All, AreTiles, Changed, Distinct, Each, Each-append, HasNodes, In, Kept, List, NodeFits, NodeInside, Nodes, Step, StepStands, Touch, WayStands, Widened, WidenedAlong, [], arith, cases_eq, changed_then, drop, edited, heads_stay, inl, inr, kept_then, leaves_of, length, map, node_head, nodes_of, nothing_changed, others_stay, places_of, refl, room_at, slice_index_or, step_pair, subst, suc, sym, tiles_same, touch, widen_all, wider, ℕ, ◌*◌, ◌++◌, ◌+◌, ◌<◌, ◌∙◌, ◌∷◌, ◌≡◌, ◌≤◌}
 use Rattle.std.proofs.lemmas.List.Elements.{All-cons, All-drop, All-nil}
 use Rattle.cdf_index.proofs.NodeWider.{wider_owed}
 use Rattle.cdf_leaves.proofs.NodesMore.{all_wider}

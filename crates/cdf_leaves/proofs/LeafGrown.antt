@@ -1,5 +1,5 @@
 -- A leaf more in an index, from the image in which its block was placed: what was done step by step is what a leaf more makes of the image.
-use Rattle.cdf_leaves.proofs.Common.{AreTiles, Bool, Changed, Counts, Distinct, Each, Each-append, Entry, EntryIs, FieldSet, Good, Grew, HasNodes, In, IndexTouch, Kept, Kind, Leaf, LeafAdded, List, MayName, Names, NodeFits, NodeMade, NodeTaken, NodeWritten, Nodes, Placed, SaysEntry, SaysNode, SaysUnused, StandsAmong, StillSays, TailGoesOn, Touch, UnusedEntries, VariableShape, [], ap, apart, arith, block, changed_again, changed_then, changed_wider, counts, each, each_in, entry, entry_past, false, field_set, fills, fits, gdr_type, grew, grew_none, grew_then, has, heads_stay, image_limit, in_nodes_with_leaf, index_at, inl, inr, is_in-true, le-leb, leaf, leaf_acts, leaves_of, leb, length, link_to, linkable-from, long, made, nat_tests, new_room, no_entry, no_node, node, nodes_kept, nodes_of, nothing_changed, number, others_stay, places_of, record_number_limit, refl, room_at, rules, shape, size_at, size_kept, sound, stands, subst, suc, sym, touch, true, type_at, type_kept, type_of_body, typed, uir_type, unlike, used_count, vdr_vxr_head, vdr_vxr_tail, vvr_type, vxr_n_used_entries, vxr_type, was_unused, with_block, with_field, with_leaf, zero, ℕ, ◌++◌, ◌+◌, ◌<◌, ◌^◌, ◌∙◌, ◌∷◌, ◌≡◌, ◌≢◌, ◌≤◌, ◌⊎◌}
+use Rattle.cdf_leaves.proofs.Common.{AreTiles, Bool, Changed, Counts, Distinct, Each, Each-append, Entry, EntryIs, FieldSet, Good, Grew, HasNodes, In, IndexTouch, Kept, Kind, Leaf, LeafAdded, List, MayName, Names, NodeFits, NodeMade, NodeTaken, NodeWritten, Nodes, Placed, SaysEntry, SaysNode, SaysUnused, StandsAmong, StillSays, TailGoesOn, Touch, UnusedEntries, VariableShape, [], ap, apart, arith, changed_again, changed_then, changed_wider, each, each_in, entry, entry_past, false, field_set, fits, gdr_type, grew, grew_none, grew_then, has, heads_stay, image_limit, in_nodes_with_leaf, index_at, inl, inr, is_in-true, le-leb, leaf, leaf_acts, leaves_of, leb, length, link_to, linkable-from, long, made, nat_tests, new_room, no_entry, no_node, node, nodes_kept, nodes_of, nothing_changed, number, others_stay, places_of, record_number_limit, refl, room_at, rules, shape, size_at, size_kept, sound, stands, subst, suc, sym, touch, true, type_at, type_kept, type_of_body, uir_type, unlike, used_count, vdr_vxr_head, vdr_vxr_tail, vvr_type, vxr_n_used_entries, vxr_type, was_unused, with_block, with_field, with_leaf, zero, ℕ, ◌++◌, ◌+◌, ◌<◌, ◌^◌, ◌∙◌, ◌∷◌, ◌≡◌, ◌≢◌, ◌≤◌, ◌⊎◌}
 use Rattle.cdf_edits.proofs.Edits.StandsAmong.{name_room}
 use Rattle.cdf_index.proofs.LeafMore.{leaves_more}
 use Rattle.cdf_index.proofs.Looking.{none_there}

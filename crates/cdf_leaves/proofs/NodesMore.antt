@@ -1,5 +1,5 @@
 -- The nodes of an index some of whose entries end later.
-use Rattle.cdf_leaves.proofs.Common.{Distinct, Entries, In, Leaf, List, Nodes, [], ap, ap₂, arith, block, distinct_if, either, entry_leaves, in-times, inl, inr, leaf, leaves_of, lower, lower_nodes, ltb, map-append, nat_tests, new_room, no_entry, no_node, node, nodes_of, nodes_with_leaf, places_of, redo, redo_below, refl, suc, sym, times, times-once, widen_all, widened, wider, with_leaf, with_new, zero, ℕ, ◌++◌, ◌<◌, ◌∙◌, ◌∷◌, ◌≡◌, ◌⊎◌}
+use Rattle.cdf_leaves.proofs.Common.{Distinct, Entries, In, Leaf, List, Nodes, [], ap, ap₂, arith, block, distinct_if, either, entry_leaves, in-times, inl, inr, leaves_of, lower, lower_nodes, ltb, map-append, nat_tests, new_room, no_entry, no_node, node, nodes_of, nodes_with_leaf, places_of, redo, redo_below, refl, suc, sym, times, times-once, widen_all, widened, wider, with_leaf, with_new, zero, ℕ, ◌++◌, ◌<◌, ◌∙◌, ◌∷◌, ◌≡◌, ◌⊎◌}
 
 -- ---- an entry that ends later
 

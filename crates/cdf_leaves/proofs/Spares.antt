@@ -1,5 +1,5 @@
 -- Nodes that stay but for their used entries.
-use Rattle.cdf_leaves.proofs.Common.{AreTiles, FieldSet, In, Kept, List, NodeFits, NodeInside, StillSays, Widened, arith, counts, each, entries_beside, fits, front_stays, inl, inr, length, long, number, refl, room_at, room_beside, room_stays, same_node, size_at, size_beside, tile_lies, used_count, used_stays, vxr_n_used_entries, vxr_vxr_next, ℕ, ◌*◌, ◌+◌, ◌<◌, ◌∙◌, ◌≡◌, ◌≤◌}
+use Rattle.cdf_leaves.proofs.Common.{AreTiles, FieldSet, In, Kept, List, NodeFits, NodeInside, StillSays, Widened, arith, counts, entries_beside, fits, front_stays, inl, inr, length, number, refl, room_at, room_beside, room_stays, same_node, size_at, size_beside, tile_lies, used_count, used_stays, vxr_n_used_entries, vxr_vxr_next, ℕ, ◌*◌, ◌+◌, ◌<◌, ◌∙◌, ◌≡◌, ◌≤◌}
 
 -- a node is as it was but for its used entries
 pub record Spares (mid now : List ℕ) (m : ℕ) : Type 0 where
