@@ -28,12 +28,7 @@ module _ (b b1 b2 now : List ℕ) (at n i first last offset : ℕ) (room_is : n 
   pub entry_set : EntrySet b now at i first last offset
   entry_set =
       let front = changed_again (changed_wider 28 (16 * n) begun.changed (omega arith) (omega arith)) begun.as_long (changed_wider 28 (16 * n) ended.changed (omega arith) (omega arith)) in
-      record {
-        as_long = named.as_long ∙ ended.as_long ∙ begun.as_long;
-        changed = subst (λ (x : ℕ). Changed b now (touch at 28 (16 * x) ∷ [])) room_is (changed_again front (ended.as_long ∙ begun.as_long) (changed_wider 28 (16 * n) named.changed (omega arith) (omega arith)));
-        here = says_by i first last offset
-            (named.past (at + (28 + 4 * i)) 4 (inl (omega arith)) ∙ ended.past (at + (28 + 4 * i)) 4 (inl (omega arith)) ∙ begun.reads first_fits)
-            (named.past (at + (28 + 4 * n + 4 * i)) 4 (inl (omega arith)) ∙ ended.reads last_fits)
-            (named.reads offset_fits);
-        others = λ j lt ne. others j (omega arith) ne;
-      }
+      let changed = subst (λ (x : ℕ). Changed b now (touch at 28 (16 * x) ∷ [])) room_is (changed_again front (ended.as_long ∙ begun.as_long) (changed_wider 28 (16 * n) named.changed (omega arith) (omega arith))) in
+      let first_is = named.past (at + (28 + 4 * i)) 4 (inl (omega arith)) ∙ ended.past (at + (28 + 4 * i)) 4 (inl (omega arith)) ∙ begun.reads first_fits in
+      let here = says_by i first last offset first_is (named.past (at + (28 + 4 * n + 4 * i)) 4 (inl (omega arith)) ∙ ended.reads last_fits) (named.reads offset_fits) in
+      record { as_long = named.as_long ∙ ended.as_long ∙ begun.as_long; changed = changed; here = here; others = λ j lt ne. others j (omega arith) ne }

@@ -71,18 +71,15 @@ pub still_it : {b now : List ℕ} {at to i j first last offset : ℕ} → SaysEn
 still_it r s f l o t = record { first_is = s.first_is ∙ sym r.first_is ∙ t.first_is; last_is = s.last_is ∙ sym r.last_is ∙ t.last_is; offset_is = s.offset_is ∙ sym r.offset_is ∙ t.offset_is }
 
 pub shift_more : {b mid now : List ℕ} {at used k first last offset : ℕ} → Shifted b mid at used k → NodeInside b at → used < room_at b at → k < used → SaysEntry mid at (used - k - 1) first last offset → EntrySet mid now at (used - k) first last offset → Shifted b now at used (k + 1)
-shift_more {used = used} {k = k} sh inside room more read set =
+shift_more {b = b} {now = now} {at = at} {used = used} {k = k} sh inside room more read set =
     let m = set_more inside sh.as_long sh.changed set in
-    record {
-      as_long = m.as_long;
-      changed = m.changed;
-      stay = λ j le f l o s. m.others j (omega arith) (λ e. absurd (omega arith)) f l o (sh.stay j (omega arith) f l o s);
-      moved_on = λ j le lt f l o s. elim (cases_eq j (used - k - 1)) [
-        | inl e ↦ (let there : used - k ≡ suc j = omega arith in rw there at (still_it (rw (← e) at read) set.here f l o (sh.stay j (omega arith) f l o s)))
-        | inr ne ↦ m.others (suc j) (omega arith) (λ e. ne (omega arith)) f l o (sh.moved_on j (omega arith) lt f l o s)
-      ];
-      unused = λ j lt in_room f l o s. m.others j in_room (λ e. absurd (omega arith)) f l o (sh.unused j lt in_room f l o s);
-    }
+    let stay : (j : ℕ) → j + (k + 1) ≤ used → StillSays b now at j j = λ j le f l o s. m.others j (omega arith) (λ e. absurd (omega arith)) f l o (sh.stay j (omega arith) f l o s) in
+    let moved_on : (j : ℕ) → used ≤ j + (k + 1) → j < used → StillSays b now at j (suc j) = λ j le lt f l o s. elim (cases_eq j (used - k - 1)) [
+      | inl e ↦ (let there : used - k ≡ suc j = omega arith in rw there at (still_it (rw (← e) at read) set.here f l o (sh.stay j (omega arith) f l o s)))
+      | inr ne ↦ m.others (suc j) (omega arith) (λ e. ne (omega arith)) f l o (sh.moved_on j (omega arith) lt f l o s)
+    ] in
+    let unused : (j : ℕ) → used < j → j < room_at b at → StillSays b now at j j = λ j lt in_room f l o s. m.others j in_room (λ e. absurd (omega arith)) f l o (sh.unused j lt in_room f l o s) in
+    search (rules, m, stay, moved_on, unused)
 
 -- ---- the new entry, and the count
 

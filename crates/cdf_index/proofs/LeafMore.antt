@@ -1,5 +1,5 @@
 -- The leaves of an index with one leaf more.
-use Rattle.cdf_index.proofs.Common.{AreInOrder, Bool, Each, Each-append, Entries, InOrder, Leaf, List, Nodes, [], ap, append_assoc, arith, block, chain_reaches, either, entry_leaves, false, inl, inr, leads_down, leaves_of, leb, leb-false, lower, map, max, nat_tests, no_entry, no_node, node, or_parts, past, past_entries, range, reaches, refl, suc, sym, true, true≢false, upto, with_block, with_both, with_entry, with_leaf, with_new, with_range, ℕ, ◌++◌, ◌<◌, ◌∙◌, ◌∷◌, ◌≡◌, ◌≤◌}
+use Rattle.cdf_index.proofs.Common.{AreInOrder, Bool, Each, Each-append, Entries, InOrder, Leaf, List, Nodes, [], ap, append_assoc, arith, block, chain_reaches, entry_leaves, false, leads_down, leaves_of, leb, leb-false, lower, map, max, nat_tests, no_entry, no_node, node, or_parts, past, past_entries, range, reaches, refl, suc, sym, true, upto, with_block, with_both, with_entry, with_leaf, with_new, with_range, ℕ, ◌++◌, ◌<◌, ◌∙◌, ◌∷◌, ◌≡◌, ◌≤◌}
 use Rattle.cdf_index.proofs.Coming.{Comes, comes, comes_along, comes_below, comes_first, comes_here, chain_reaches_from, leads_none, not_reached, reaches_from}
 use Rattle.cdf_index.proofs.OrderLemmas.{Within, entries_within, leaves_within, end_after, InRange}
 use Rattle.cdf_index.proofs.Saying.{front, front_past, upto_both, both_none, no_entries}
@@ -91,19 +91,11 @@ here_new : (l : Leaf) (low high : ℕ) (given : Bool) (es : Entries) → AreInOr
 unfolding AreInOrder leaves_of entry_leaves
 here_new l low high given no_entry o t = refl
 here_new l low high given (block first last place packed es) o t = grind (arith, nat_tests, here_new l (suc last) high false es o.3, t)
-here_new l low high given (lower first last nodes es) o t = elim (either (leb first l.first)) [
-  | inl s ↦
-      let d : leads_down l.first true es ≡ false = rw s at t in
-      let e = reaches_from l.first (suc last) high es o.4 (reached d) in
-      rw s (new_behind l (leaves_of nodes) (entry_leaves es) (within_by l.first first last (leaves_of nodes) (leaves_within first last nodes o.3) (omega arith)) ∙ ap (λ (xs : List Leaf). leaves_of nodes ++ xs) (here_new l (suc last) high true es o.4 d))
-  | inr s ↦
-      let past_it = leb-false first l.first s in
-      let all = Each-append (λ (x : Leaf). l.first < x.first) (leaves_of nodes) (entry_leaves es) (within_past l.first first last (leaves_of nodes) (leaves_within first last nodes o.3) past_it) (within_past l.first (suc last) high (entry_leaves es) (entries_within (suc last) high es o.4) (omega (arith, past_it, o.1))) in
-      rw s (new_first l (leaves_of nodes ++ entry_leaves es) all)
-]
-  where
-    reached : leads_down l.first true es ≡ false → reaches l.first es ≡ true
-    reached d = elim (either (reaches l.first es)) [ inl r ↦ r | inr r ↦ absurd (true≢false (sym (leads_none l.first true es r) ∙ d)) ]
+here_new l low high given (lower first last nodes es) o t =
+    let all = leaves_of nodes ++ entry_leaves es in
+    let behind : last ≤ l.first → with_new l all ≡ leaves_of nodes ++ with_new l (entry_leaves es) = λ h. new_behind l (leaves_of nodes) (entry_leaves es) (within_by l.first first last (leaves_of nodes) (leaves_within first last nodes o.3) h) in
+    let before : l.first < first → with_new l all ≡ l ∷ all = λ h. new_first l all (within_past l.first first high all (entries_within first high (lower first last nodes es) (omega arith, o.1, o.2, o.3, o.4)) h) in
+    grind (arith, nat_tests, behind, before, here_new l (suc last) high true es o.4, leads_none l.first true es, reaches_from l.first (suc last) high es o.4, o.1, t)
 
 -- entries before a chain that reaches a record
 order_by : (f low high : ℕ) (es : Entries) → AreInOrder low high es → past_entries low es ≤ f → AreInOrder low f es

@@ -31,16 +31,13 @@ pub record Making (head mid : List ℕ) (at n : ℕ) (entries : List Entry) : Ty
   pub says : SaysFirst mid at entries n
 
 pub making_more : {head mid now : List ℕ} {at n : ℕ} {entries : List Entry} {to : Entry} → NodeInside head at → Making head mid at n entries → n < room_at head at → to ≡ entry_in entries n → EntrySet mid now at n to.first to.last to.place → Making head now at (n + 1) entries
-making_more {now = now} {at = at} {n = n} inside m lt is set =
+making_more {now = now} {at = at} {n = n} {entries = entries} inside m lt is set =
     let more = set_more inside m.as_long m.changed set in
-    record {
-      as_long = more.as_long;
-      changed = more.changed;
-      says = λ i less. elim (cases_eq i n) [
-        | inl q ↦ rw q (subst (λ (e : Entry). SaysEntry now at n e.first e.last e.place) is set.here)
-        | inr ne ↦ more.others i (omega arith) ne _ _ _ (m.says i (omega arith))
-      ];
-    }
+    let says : SaysFirst now at entries (n + 1) = λ i less. elim (cases_eq i n) [
+      | inl q ↦ rw q (subst (λ (e : Entry). SaysEntry now at n e.first e.last e.place) is set.here)
+      | inr ne ↦ more.others i (omega arith) ne _ _ _ (m.says i (omega arith))
+    ] in
+    search (rules, more, says)
 
 pub node_written : {b head now : List ℕ} {at room next : ℕ} {entries : List Entry} → HeadWritten b head at room (length entries) next → Making head now at room entries → NodeWritten b now at room next entries
 node_written {head = head} {now = now} {at = at} {room = room} w m =

@@ -1,5 +1,5 @@
 -- A full node that gives up entries.
-use Rattle.cdf_index.proofs.Common.{rules, Cleared, EntriesRead, Entry, EntrySet, List, NodeInside, SaysEntry, Shortened, StillSays, Widened, [], ap, arith, cases_eq, entry_in, image_limit, inl, inr, length, length-append, max, number, refl, room_at, suc, sym, vxr_n_used_entries, vxr_vxr_next, with_field, zero, ℕ, ◌*◌, ◌++◌, ◌+◌, ◌<◌, ◌^◌, ◌∙◌, ◌∷◌, ◌≡◌, ◌≢◌, ◌≤◌}
+use Rattle.cdf_index.proofs.Common.{◌⊎◌, rules, Cleared, EntriesRead, Entry, EntrySet, List, NodeInside, SaysEntry, Shortened, StillSays, Widened, [], ap, arith, cases_eq, entry_in, image_limit, inl, inr, length, length-append, max, number, refl, room_at, suc, sym, vxr_n_used_entries, vxr_vxr_next, with_field, zero, ℕ, ◌*◌, ◌++◌, ◌+◌, ◌<◌, ◌^◌, ◌∙◌, ◌∷◌, ◌≡◌, ◌≢◌, ◌≤◌}
 use Rattle.cdf_index.specs.Writing.{SaysUnused}
 use Rattle.cdf_index.proofs.FieldSet.{FieldSet, field_set, changed_again, changed_wider, node_head, used_by_count, size_beside, room_beside, entries_beside}
 use Rattle.cdf_index.proofs.Inserting.{count_set, set_more}
@@ -7,12 +7,9 @@ use Rattle.cdf_index.proofs.Inserting.{count_set, set_more}
 -- ---- an entry that ends later
 
 pub widened_by : (b now : List ℕ) (at i last first end offset : ℕ) → SaysEntry b at i first end offset → EntrySet b now at i first (max end last) offset → Widened b now at i last
-widened_by b now at i last first end offset r set = record {
-  as_long = set.as_long;
-  changed = set.changed;
-  here = λ f l o s. record { first_is = set.here.first_is ∙ sym r.first_is ∙ s.first_is; last_is = set.here.last_is ∙ ap (λ (x : ℕ). max x last) (sym r.last_is ∙ s.last_is); offset_is = set.here.offset_is ∙ sym r.offset_is ∙ s.offset_is };
-  others = set.others;
-}
+widened_by b now at i last first end offset r set =
+    let wider : (f l o : ℕ) → SaysEntry b at i f l o → SaysEntry now at i f (max l last) o = λ f l o s. record { first_is = set.here.first_is ∙ sym r.first_is ∙ s.first_is; last_is = set.here.last_is ∙ ap (λ (x : ℕ). max x last) (sym r.last_is ∙ s.last_is); offset_is = set.here.offset_is ∙ sym r.offset_is ∙ s.offset_is } in
+    search (rules, set, wider)
 
 -- ---- entries read one by one
 
@@ -43,14 +40,11 @@ read_one {from = from} {i = i} {xs = xs} e r s =
 -- ---- entries that are not used any more
 
 pub clear_more : {b mid now : List ℕ} {at from i : ℕ} → NodeInside b at → Cleared b mid at from i → from ≤ i → i < room_at b at → EntrySet mid now at i 0xffffffff 0xffffffff 0xffffffffffffffff → Cleared b now at from (i + 1)
-clear_more {i = i} inside c le lt set =
+clear_more {b = b} {now = now} {at = at} {from = from} {i = i} inside c le lt set =
     let m = set_more inside c.as_long c.changed set in
-    record {
-      as_long = m.as_long;
-      changed = m.changed;
-      gone = λ j lo hi. elim (cases_eq j i) [ inl e ↦ rw e set.here | inr ne ↦ m.others j (omega arith) ne _ _ _ (c.gone j lo (omega arith)) ];
-      others = λ j in_room o f l k s. m.others j in_room (λ e. elim o [ inl a ↦ absurd (omega arith) | inr a ↦ absurd (omega arith) ]) f l k (c.others j in_room (elim o [ inl a ↦ inl a | inr a ↦ inr (omega arith) ]) f l k s);
-    }
+    let gone : (j : ℕ) → from ≤ j → j < i + 1 → SaysUnused now at j = λ j lo hi. elim (cases_eq j i) [ inl e ↦ rw e set.here | inr ne ↦ m.others j (omega arith) ne _ _ _ (c.gone j lo (omega arith)) ] in
+    let others : (j : ℕ) → j < room_at b at → (j < from) ⊎ (i + 1 ≤ j) → StillSays b now at j j = λ j in_room o f l k s. m.others j in_room (λ e. elim o [ inl a ↦ absurd (omega arith) | inr a ↦ absurd (omega arith) ]) f l k (c.others j in_room (elim o [ inl a ↦ inl a | inr a ↦ inr (omega arith) ]) f l k s) in
+    search (rules, m, gone, others)
 
 -- ---- fewer entries, one more behind them, and another link
 

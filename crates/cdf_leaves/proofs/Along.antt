@@ -1,8 +1,8 @@
 -- The nodes on a way are widened one by one, the last one first.
-use Rattle.cdf_leaves.proofs.Common.{All, AreTiles, Changed, Distinct, Each, Each-append, HasNodes, In, Kept, List, NodeFits, NodeInside, Nodes, Step, StepStands, Touch, WayStands, Widened, WidenedAlong, [], arith, cases_eq, changed_then, drop, edited, heads_stay, inl, inr, kept_then, leaves_of, length, map, node_head, nodes_of, nothing_changed, others_stay, refl, room_at, slice_index_or, step_pair, subst, suc, sym, tiles_same, touch, widen_all, wider, ℕ, ◌*◌, ◌++◌, ◌+◌, ◌<◌, ◌∙◌, ◌∷◌, ◌≡◌, ◌≤◌}
+use Rattle.cdf_leaves.proofs.Common.{All, AreTiles, Changed, Distinct, Each, Each-append, HasNodes, In, Kept, List, NodeFits, NodeInside, Nodes, Step, StepStands, Touch, WayStands, Widened, WidenedAlong, [], arith, cases_eq, changed_then, drop, edited, heads_stay, inl, inr, kept_then, leaves_of, length, map, node_head, nodes_of, nothing_changed, others_stay, places_of, refl, room_at, slice_index_or, step_pair, subst, suc, sym, tiles_same, touch, widen_all, wider, ℕ, ◌*◌, ◌++◌, ◌+◌, ◌<◌, ◌∙◌, ◌∷◌, ◌≡◌, ◌≤◌}
 use Rattle.std.proofs.lemmas.List.Elements.{All-cons, All-drop, All-nil}
 use Rattle.cdf_index.proofs.NodeWider.{wider_owed}
-use Rattle.cdf_leaves.proofs.NodesMore.{places, all_wider}
+use Rattle.cdf_leaves.proofs.NodesMore.{all_wider}
 use Rattle.cdf_leaves.proofs.Spares.{Spares, fits_still, kept_self, node_inside, spares_kept, spares_then, spares_widened}
 
 -- behind the type of a node of which this holds, up to its entries' end
@@ -18,7 +18,7 @@ pub record Along (b now records : List ℕ) (Y : ℕ → Type 0) (last : ℕ) (s
   pub within : Each (InNode b Y) touches
   pub still : (m : ℕ) → In m records → NodeFits b m → Spares b now m
   pub others : (m : ℕ) → In m records → (Y m → ⊥) → Kept b now m
-  pub has : (tree : Nodes) → HasNodes b records 8 tree → Distinct (nodes_of tree) → ((m : ℕ) → In m (nodes_of tree) → In m records × NodeFits b m) → ((m : ℕ) → In m (places (leaves_of tree)) → In m records) → HasNodes now records 8 (widen_all last steps tree)
+  pub has : (tree : Nodes) → HasNodes b records 8 tree → Distinct (nodes_of tree) → ((m : ℕ) → In m (nodes_of tree) → In m records × NodeFits b m) → ((m : ℕ) → In m (places_of (leaves_of tree)) → In m records) → HasNodes now records 8 (widen_all last steps tree)
 
 abbrev pub OnWay : List ℕ → List ℕ → (ℕ → Type 0) → Step → Type 0
 OnWay b records Y step = StepStands b records step × Y step.place

@@ -15,7 +15,7 @@ pub use Rattle.cdf_format.proofs.Common.{bytes_eq}
 pub use Rattle.cdf_format.proofs.GoodSound.{good_eof, good_is_sound}
 pub use Rattle.cdf_index.proofs.ByLeaf.{in_nodes_with_leaf, nodes_with_leaf}
 pub use Rattle.cdf_index.proofs.Coming.{Comes, comes, comes_along, comes_below, comes_first, comes_here}
-pub use Rattle.cdf_index.proofs.Common.{Chained, StillSays, rules, eq-eqb, ne_eqb, vdr_vxr_head, vdr_vxr_tail, Begins, Begun, Bool, Field, Good, HasIndex, Inserted, IsAmong, IsNode, Keeps, Kept, Kind, List, MayName, NodeInside, NodeWritten, Owed, R, SameHeads, Some, StandsAmong, Stays, StepSays, StillSays, Takes, Widened, Z, [], ap, apart, ap₂, arith, cases_eq, cases_lt, content, drop, edit_more, eof, eqb, eqb-true, false, first_at, gdr_type, good_by_its_shape, in-times, index_at, inl, inr, leaf, leb, length, long, ltb, map, max, nodes_stand, on_ok_weaker, placed, read_more, read_once, redone, refl, rules, shape, some_place, sound, step_pair, subst, suc, sym, tile, times, times-once, true, type_in, uir_type, used_count, variables_chain, vdrs, vvr_type, vxr_bytes, vxr_n_used_entries, vxr_vxr_next, widen_all, widened, wider, with_block, with_both, with_new, zero, ℕ, ◌*◌, ◌++◌, ◌+◌, ◌-◌, ◌<◌, ◌^◌, ◌∙◌, ◌∷◌, ◌≡◌, ◌≢◌, ◌≤◌, ◌⊎◌}
+pub use Rattle.cdf_index.proofs.Common.{places_of, Chained, StillSays, rules, eq-eqb, ne_eqb, vdr_vxr_head, vdr_vxr_tail, Begins, Begun, Bool, Field, Good, HasIndex, Inserted, IsAmong, IsNode, Keeps, Kept, Kind, List, MayName, NodeInside, NodeWritten, Owed, R, SameHeads, Some, StandsAmong, Stays, StepSays, StillSays, Takes, Widened, Z, [], ap, apart, ap₂, arith, cases_eq, cases_lt, content, drop, edit_more, eof, eqb, eqb-true, false, first_at, gdr_type, good_by_its_shape, in-times, index_at, inl, inr, leaf, leb, length, long, ltb, map, max, nodes_stand, on_ok_weaker, placed, read_more, read_once, redone, refl, rules, shape, some_place, sound, step_pair, subst, suc, sym, tile, times, times-once, true, type_in, uir_type, used_count, variables_chain, vdrs, vvr_type, vxr_bytes, vxr_n_used_entries, vxr_vxr_next, widen_all, widened, wider, with_block, with_both, with_new, zero, ℕ, ◌*◌, ◌++◌, ◌+◌, ◌-◌, ◌<◌, ◌^◌, ◌∙◌, ◌∷◌, ◌≡◌, ◌≢◌, ◌≤◌, ◌⊎◌}
 unfoldable pub use Rattle.cdf_index.proofs.Common.{spot, HasNodes, Names, entry_leaves, leaves_of, lower_nodes, new_room, nodes_of, redo, redo_below, way, with_leaf}
 pub use Rattle.cdf_index.proofs.FieldSet.{FieldSet, changed_again, changed_wider, counts, entries_beside, field_set, node_head, room_beside, size_beside}
 pub use Rattle.cdf_index.proofs.Inserting.{front_stays, nothing_changed, room_stays, used_stays}

@@ -1,9 +1,9 @@
 -- A leaf more in an index, from the image in which its block was placed: what was done step by step is what a leaf more makes of the image.
-use Rattle.cdf_leaves.proofs.Common.{AreTiles, Bool, Changed, Counts, Distinct, Each, Each-append, Entry, EntryIs, FieldSet, Good, Grew, HasNodes, In, IndexTouch, Kept, Kind, Leaf, LeafAdded, List, MayName, Names, NodeFits, NodeMade, NodeTaken, NodeWritten, Nodes, Placed, SaysEntry, SaysNode, SaysUnused, StandsAmong, StillSays, TailGoesOn, Touch, UnusedEntries, VariableShape, [], ap, apart, arith, changed_again, changed_then, changed_wider, each, each_in, entry, entry_past, false, field_set, fits, gdr_type, grew, grew_none, grew_then, has, heads_stay, image_limit, in_nodes_with_leaf, index_at, inl, inr, is_in-true, le-leb, leaf, leaf_acts, leaves_of, leb, length, link_to, linkable-from, long, made, nat_tests, new_room, no_entry, no_node, node, nodes_kept, nodes_of, nothing_changed, number, others_stay, record_number_limit, refl, room_at, rules, shape, size_at, size_kept, sound, stands, subst, suc, sym, touch, true, type_at, type_kept, type_of_body, uir_type, unlike, used_count, vdr_vxr_head, vdr_vxr_tail, vvr_type, vxr_n_used_entries, vxr_type, was_unused, with_block, with_field, with_leaf, zero, ℕ, ◌++◌, ◌+◌, ◌<◌, ◌^◌, ◌∙◌, ◌∷◌, ◌≡◌, ◌≢◌, ◌≤◌, ◌⊎◌}
+use Rattle.cdf_leaves.proofs.Common.{AreTiles, Bool, Changed, Counts, Distinct, Each, Each-append, Entry, EntryIs, FieldSet, Good, Grew, HasNodes, In, IndexTouch, Kept, Kind, Leaf, LeafAdded, List, MayName, Names, NodeFits, NodeMade, NodeTaken, NodeWritten, Nodes, Placed, SaysEntry, SaysNode, SaysUnused, StandsAmong, StillSays, TailGoesOn, Touch, UnusedEntries, VariableShape, [], ap, apart, arith, changed_again, changed_then, changed_wider, each, each_in, entry, entry_past, false, field_set, fits, gdr_type, grew, grew_none, grew_then, has, heads_stay, image_limit, in_nodes_with_leaf, index_at, inl, inr, is_in-true, le-leb, leaf, leaf_acts, leaves_of, leb, length, link_to, linkable-from, long, made, nat_tests, new_room, no_entry, no_node, node, nodes_kept, nodes_of, nothing_changed, number, others_stay, places_of, record_number_limit, refl, room_at, rules, shape, size_at, size_kept, sound, stands, subst, suc, sym, touch, true, type_at, type_kept, type_of_body, uir_type, unlike, used_count, vdr_vxr_head, vdr_vxr_tail, vvr_type, vxr_n_used_entries, vxr_type, was_unused, with_block, with_field, with_leaf, zero, ℕ, ◌++◌, ◌+◌, ◌<◌, ◌^◌, ◌∙◌, ◌∷◌, ◌≡◌, ◌≢◌, ◌≤◌, ◌⊎◌}
 use Rattle.cdf_edits.proofs.Edits.StandsAmong.{name_room}
 use Rattle.cdf_index.proofs.LeafMore.{leaves_more}
 use Rattle.cdf_index.proofs.Looking.{none_there}
-use Rattle.cdf_leaves.proofs.NodesMore.{in_new, all_once, places}
+use Rattle.cdf_leaves.proofs.NodesMore.{in_new, all_once}
 use Rattle.cdf_leaves.proofs.Own.{node_fits, node_spares, node_type, now_blocks, own_node, own_order, searchable, vdr_apart, vdr_in, vdr_kept, vdr_used}
 use Rattle.cdf_leaves.proofs.Spares.{Spares, fits_still, spares_kept}
 
@@ -158,8 +158,8 @@ module _ {b : List ℕ} {kind : Kind} {before : List VariableShape} {own : Varia
         let k = r.on.kept place (stands (sound good stood) block.fills) (λ u. apart vvr_type uir_type refl (sym typed ∙ u)) (λ u. apart vvr_type gdr_type refl (sym typed ∙ u)) in
         type_kept filled roomy place k.same k.long ∙ typed
 
-    pub blocks : (m : ℕ) → In m (places (leaves_of after_leaf)) → In m records
-    blocks m i = elim (in_new l m (leaves_of own.index) (subst (In m) (ap places (leaves_more l at 0 record_number_limit own.index (own_order good stood))) i)) [ inl e ↦ rw e block_there | inr j ↦ now_blocks good stood all_taken m j ]
+    pub blocks : (m : ℕ) → In m (places_of (leaves_of after_leaf)) → In m records
+    blocks m i = elim (in_new l m (leaves_of own.index) (subst (In m) (ap places_of (leaves_more l at 0 record_number_limit own.index (own_order good stood))) i)) [ inl e ↦ rw e block_there | inr j ↦ now_blocks good stood all_taken m j ]
 
     -- ---- then the descriptor was written, or not
 

@@ -1,10 +1,9 @@
 -- The variable whose index gets a leaf, in the images in which records were taken.
-use Rattle.cdf_leaves.proofs.Common.{Begun, Each, Each-split, Good, Grew, HasIndex, HasVariable, In, Kept, Kind, List, NodeFits, R, SameNode, StandsAmong, VariableShape, Z, ap, apart, arith, each_in, eqb, false, first_at, fits, gdr_type, good_by_its_shape, good_is_sound, has, index_at, leaves_of, linkable-in, linkable-type, nodes_of, nodes_stand, number, record_number_limit, refl, same_node, shape, subst, sym, tile, type_at, type_in, type_kept, typed, uir_type, used_count, variables, variables_chain, vdr_vxr_head, vxr_type, ℕ, ◌++◌, ◌<◌, ◌∙◌, ◌∷◌, ◌≡◌, ◌≢◌}
+use Rattle.cdf_leaves.proofs.Common.{Begun, Each, Each-split, Good, Grew, HasIndex, HasVariable, In, Kept, Kind, List, NodeFits, R, SameNode, StandsAmong, VariableShape, Z, ap, apart, arith, each_in, eqb, false, first_at, fits, gdr_type, good_by_its_shape, good_is_sound, has, index_at, leaves_of, linkable-in, linkable-type, nodes_of, nodes_stand, number, places_of, record_number_limit, refl, same_node, shape, subst, sym, tile, type_at, type_in, type_kept, typed, uir_type, used_count, variables, variables_chain, vdr_vxr_head, vxr_type, ℕ, ◌++◌, ◌<◌, ◌∙◌, ◌∷◌, ◌≡◌, ◌≢◌}
 use Rattle.cdf_format.proofs.GoodImageLemmas.{good_image}
 use Rattle.cdf_edits.proofs.Edits.StandsAmong.{behind_in}
 use Rattle.cdf_edits.proofs.Edits.VariableCopied.{block_behind}
 use Rattle.cdf_index.proofs.GoodIndex.{good_index}
-use Rattle.cdf_leaves.proofs.NodesMore.{places}
 use Rattle.cdf_leaves.proofs.Spares.{Spares, spares_kept}
 pub use Rattle.cdf_index.proofs.OneVariable.{AmongAll, among_all}
 use Rattle.cdf_index.specs.Order.{InOrder}
@@ -40,7 +39,7 @@ module _ {b : List ℕ} {kind : Kind} {before : List VariableShape} {own : Varia
     pub now_has : HasVariable now (shape now).records own
     now_has = the_own (HasVariable now (shape now).records) (variables (shape now)) among.front own among.rest (ap variables g.shape_is ∙ among.all) g.sound.has_shape.have_variables
 
-    pub now_blocks : (m : ℕ) → In m (places (leaves_of own.index)) → In m (shape now).records
+    pub now_blocks : (m : ℕ) → In m (places_of (leaves_of own.index)) → In m (shape now).records
     now_blocks m i = g.sub m (behind_in good at m (block_behind own m i))
 
     pub node_kept : (m : ℕ) → In m (nodes_of own.index) → Kept b now m
