@@ -8,8 +8,7 @@ use Rattle.cdf_index.proofs.EntriesLeft.{EntriesLeft, NodeParts, past_first, pas
 -- ---- a node
 
 pub node_there : (ns : Nodes) → link_to ns ≢ 0 → IsNode ns
-node_there no_node ne = absurd (ne refl)
-node_there (node place room entries more) ne = tt
+node_there ns ne = grind arith
 
 pub record Opened (b : List ℕ) (levels at : ℕ) (ns : Nodes) : Type 0 where
   pub down : ℕ

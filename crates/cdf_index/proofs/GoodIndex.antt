@@ -46,10 +46,9 @@ found_index {b = b} {at = at} {ns = ns} tiled x fits blocks order =
 
 pub good_index : (b : List ℕ) (s : Shape) (before : List VariableShape) (v : VariableShape) (after : List VariableShape) → IsGoodImage b s → IsSound b s → variables s ≡ before ++ v ∷ after → HasIndex b (number b v.vdr vdr_vxr_head) × (index_at b (number b v.vdr vdr_vxr_head) ≡ v.index)
 good_index b s before v after good sound all =
-    let h = good.has_shape in
-    let t = tiles_are b s h in
-    let tiled : AreTiles b 8 (length b) (tiles b) = subst (λ (x : List ℕ). AreTiles b 8 (length b) x) (sym t) h.tiled in
-    let has = (Each-split (HasVariable b s.records) before (v ∷ after) (subst (Each (HasVariable b s.records)) all h.have_variables)).1.0 in
+    let t = tiles_are b s good.has_shape in
+    let tiled : AreTiles b 8 (length b) (tiles b) = subst (λ (x : List ℕ). AreTiles b 8 (length b) x) (sym t) good.has_shape.tiled in
+    let has = (Each-split (HasVariable b s.records) before (v ∷ after) (subst (Each (HasVariable b s.records)) all good.has_shape.have_variables)).1.0 in
     let fits = (Each-split (VariableFits b s.records) before (v ∷ after) (subst (Each (VariableFits b s.records)) all sound.variables_fit)).1.0 in
     let index : IsIndex b (tiles b) (number b v.vdr vdr_vxr_head) v.index = subst (λ (x : List ℕ). IsIndex b x (number b v.vdr vdr_vxr_head) v.index) (sym t) has.indexed in
     let order = order_from b s.records 0 record_number_limit v.index (Hold-split (nodes_rows b s.records (negsuc 0) (pos record_number_limit) v.index) (flat_map (leaf_rows b s.records v.vdr) (leaves_of v.index)) (index_ruled b s before v after good all)).0 in

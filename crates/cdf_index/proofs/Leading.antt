@@ -18,8 +18,7 @@ is_some no_node = false
 is_some (node place room es more) = true
 
 pub some_node : (nodes : Nodes) → IsNode nodes → is_some nodes ≡ true
-some_node no_node is = absurd is
-some_node (node place room es more) is = refl
+some_node nodes is = grind arith
 
 -- how many they are
 abbrev pub begun_in : ℕ → Entries → ℕ

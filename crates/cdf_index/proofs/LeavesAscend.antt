@@ -21,7 +21,6 @@ mutual
   entries_ascend low high no_entry o = tt
   entries_ascend low high (block first last place packed entries) o = (o.0, o.1, end_after (suc last) high entries o.3, entries_ascend (suc last) high entries o.3)
   entries_ascend low high (lower first last nodes entries) o =
-      let l = o.1 in
       let upto = past_entries (suc last) entries in
-      let inner = leaves_ascend first last nodes o.3 (omega arith) in
-      ascending_from first low upto (leaves_of nodes ++ entry_leaves entries) o.0 (ascending_both first (suc last) upto (leaves_of nodes) (entry_leaves entries) inner (entries_ascend (suc last) high entries o.4) (omega arith) (end_after (suc last) high entries o.4))
+      let inner = leaves_ascend first last nodes o.3 (omega (arith, o.1)) in
+      ascending_from first low upto (leaves_of nodes ++ entry_leaves entries) o.0 (ascending_both first (suc last) upto (leaves_of nodes) (entry_leaves entries) inner (entries_ascend (suc last) high entries o.4) (omega (arith, o.1)) (end_after (suc last) high entries o.4))

@@ -1,5 +1,5 @@
 -- One variable has another index by now, and an edit met its VXRhead and VXRtail, nodes and unused records alone: what follows of the image, and what each record keeps.
-use Rattle.cdf_index.proofs.Common.{Act, AllKeep, Allowances, Among, Anything, Avoids, Avoids-append, Away, Away-append, Distinct, Each, Each-in, Field, Good, HasShape, Hold, In, In-append, IsChain, Kept, Kind, List, Mark, NodeFits, Nodes, OneVariable, Only, OutsideFields, OwnedOnce, R, Same, Shape, StandsAmong, VariableShape, Within, Within-append, Z, [], after_ours, all_unmarked, all_unmarked-away, all_variable_records, ap, apart, arith, attributes_kept, avoided, away-avoids, away-within, behind_in, cdr_kept, cdr_type, count_of, cpr_type, cvvr_type, eof, false, fixed_size, flat_map, gdr_in, gdr_type, gdr_typed, gdr_uir_head, good_by_its_shape, has_room, head_of, image_limit, index_rows, inl, inr, is_a, is_a-in, is_a-type, is_in, is_max_rec, is_record_type, is_taken, keep_all, keep_file, keep_kinds, keep_places, keep_unused, keep_variable_parts, keeps_all_attributes, keeps_fields, keeps_file, keeps_kind, kept, kept_away, kind_ours, leaves_of, length, linkable-in, linkable-type, long, mark, nodes_of, nodes_stand, number, of_le, other_kind, ours, own_rules, owned, places_of, read_types, refl, room_at, shape, shapes_of, signed_limit, size_at, sound, spliced_times, stood, subst, suc, sym, the_one, through, tile, tile_lies, times, times-append, times-none, times-once, true, type_at, type_in, uir_next_uir, uir_prev_uir, uir_type, unmarked, unmarked-away, variable_records, variable_typed, variable_types, variables_chain, variables_in, vdr_max_rec, vdr_vxr_head, vdr_vxr_tail, vvr_type, vxr_n_used_entries, vxr_type, with_shapes, within, word_kept, ℕ, ◌*◌, ◌++◌, ◌+◌, ◌∙◌, ◌∷◌, ◌≡◌, ◌≢◌, ◌≤◌, ◌⊎◌}
+use Rattle.cdf_index.proofs.Common.{Act, AllKeep, Allowances, Among, Anything, Avoids, Avoids-append, Away, Away-append, Distinct, Each, Each-in, Field, Good, HasShape, Hold, In, In-append, IsChain, Kept, Kind, List, Mark, NodeFits, Nodes, OneVariable, Only, OutsideFields, OwnedOnce, Same, Shape, StandsAmong, VariableShape, Within, Within-append, [], after_ours, all_unmarked, all_unmarked-away, all_variable_records, ap, apart, arith, attributes_kept, avoided, away-avoids, away-within, behind_in, cdr_kept, cdr_type, count_of, cpr_type, cvvr_type, eof, false, fixed_size, flat_map, gdr_in, gdr_type, gdr_typed, gdr_uir_head, good_by_its_shape, has_room, head_of, image_limit, index_rows, inl, inr, is_a, is_a-in, is_a-type, is_in, is_max_rec, is_record_type, is_taken, keep_all, keep_file, keep_kinds, keep_places, keep_unused, keep_variable_parts, keeps_all_attributes, keeps_fields, keeps_file, keeps_kind, kept, kept_away, kind_ours, leaves_of, length, linkable-in, linkable-type, long, mark, nodes_of, nodes_stand, number, of_le, other_kind, ours, own_rules, owned, places_of, read_types, refl, room_at, shape, shapes_of, signed_limit, size_at, sound, spliced_times, stood, subst, suc, sym, the_one, through, tile, tile_lies, times, times-append, times-none, times-once, true, type_at, type_in, uir_next_uir, uir_prev_uir, uir_type, unmarked, unmarked-away, variable_records, variable_typed, variable_types, variables_chain, variables_in, vdr_max_rec, vdr_vxr_head, vdr_vxr_tail, vvr_type, vxr_n_used_entries, vxr_type, with_shapes, within, word_kept, ℕ, ◌*◌, ◌++◌, ◌+◌, ◌∙◌, ◌∷◌, ◌≡◌, ◌≢◌, ◌≤◌, ◌⊎◌}
 use Rattle.cdf_edits.proofs.Common.{IsIndex, Keeps, Stays, Edit}
 use Rattle.cdf_edits.proofs.Commands.KeptRecords.{Stood, keep_attributes, keep_variables, keeps_stood}
 use Rattle.cdf_edits.proofs.Edits.IndexEdited.{IndexEdit, vdr_size}
@@ -55,16 +55,13 @@ pub record Exchanged (b now : List ℕ) (own : VariableShape) (index : Nodes) (r
   pub out_of_use : (m : ℕ) → In m freed → type_at now m ≡ uir_type
 
 pub vdr_of_variable : (kind : Kind) → is_in (type_in (variables_chain kind)) variable_types ≡ true
-vdr_of_variable R = refl
-vdr_of_variable Z = refl
+vdr_of_variable kind = grind arith
 
 pub vdr_no_node : (kind : Kind) → type_in (variables_chain kind) ≡ vxr_type → ⊥
-vdr_no_node R = apart _ vxr_type refl
-vdr_no_node Z = apart _ vxr_type refl
+vdr_no_node kind e = grind arith
 
 pub index_unmarked : (kind : Kind) (v : ℕ) (nodes : List ℕ) (f : Field) → unmarked (index_marks kind v nodes f) uir_type ≡ true
-index_unmarked R v nodes f = refl
-index_unmarked Z v nodes f = refl
+index_unmarked kind v nodes f = grind arith
 
 abbrev heads : List Field
 heads = vdr_vxr_head ∷ vdr_vxr_tail ∷ []

@@ -1,5 +1,5 @@
 -- The records of one variable: how often each stands in it, of which types they are, and what a command on the variable may do to them.
-use Rattle.cdf_index.proofs.Common.{Allowance, Anything, Each, Field, Found, Good, In, IsOneOf, Kind, Leaf, LeafFits, List, None, Only, Option, R, Range, Some, StandsAmong, VariableShape, Z, [], ap, cvvr_type, false, find, find_place, fits, got-middle, has, if◌then◌else◌, index_records, inl, inr, is_a, is_a-type, is_in, kind_type, leaves_apart, leaves_of, length, linkable-type, nodes_of, nodes_stand, or_cases, places_of, range, range_at, refl, shape, shapes_of, slice_get, sym, times, times-append, true≢false, type_at, typed, variable_records, vdr_type, vvr_type, vxr_type, ℕ, ◌++◌, ◌+◌, ◌==◌, ◌∙◌, ◌∷◌, ◌≡◌, ◌⊎◌}
+use Rattle.cdf_index.proofs.Common.{Allowance, Anything, Each, Field, Found, Good, In, IsOneOf, Kind, Leaf, LeafFits, List, None, Only, Option, Range, Some, StandsAmong, VariableShape, [], ap, arith, cvvr_type, false, find, find_place, fits, got-middle, has, if◌then◌else◌, index_records, inl, inr, is_a, is_a-type, is_in, kind_type, leaves_apart, leaves_of, length, linkable-type, nodes_of, nodes_stand, or_cases, places_of, range, range_at, refl, shape, shapes_of, slice_get, sym, times, times-append, true≢false, type_at, typed, variable_records, vdr_type, vvr_type, vxr_type, ℕ, ◌++◌, ◌+◌, ◌==◌, ◌∙◌, ◌∷◌, ◌≡◌, ◌⊎◌}
 use Rattle.cdf_edits.proofs.Edits.LeafPieces.{leaf_at, of_each}
 use Rattle.cdf_edits.proofs.Edits.VariableKept.{find_none}
 
@@ -36,8 +36,7 @@ by_range b kind fields block m None = by_type kind fields (type_at b m)
 by_range b kind fields block m (Some r) = block r
 
 by_types : (kind : Kind) (fields : List Field) → (by_type kind fields vxr_type ≡ Anything) × (by_type kind fields (vdr_type kind) ≡ Only fields) × (is_in (vdr_type kind) block_types ≡ false)
-by_types R fields = (refl, refl, refl)
-by_types Z fields = (refl, refl, refl)
+by_types kind fields = grind arith
 
 module _ {b : List ℕ} (found : Found) {before : List VariableShape} {own : VariableShape} {after : List VariableShape} (good : Good b) (among : StandsAmong b found.kind before own after) (number_is : found.number ≡ length before) (fields : List Field) (block : Range → Allowance) (may : ℕ → Allowance)
     (allowed : (m : ℕ) (o : Option Range) → range_at (shape b) found m ≡ o → may m ≡ by_range b found.kind fields block m o) where

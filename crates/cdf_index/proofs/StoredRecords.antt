@@ -1,5 +1,5 @@
 -- The record of a number, in the leaf that has it.
-use Rattle.cdf_index.proofs.Common.{IsGoodImage, IsSound, Leaf, List, None, Option, Shape, Some, VariableShape, drop, index_ascends, inl, inr, le-ltb, leaf_of, leaves_of, lt-ltb, max_rec_at, plain_bytes, record_bytes, record_is, record_of_leaf, record_past, records_in, refl, stored_in, take, type_of_variable, variables, ℕ, ◌*◌, ◌++◌, ◌-◌, ◌∙◌, ◌∷◌, ◌≡◌}
+use Rattle.cdf_index.proofs.Common.{IsGoodImage, IsSound, Leaf, List, Option, Shape, VariableShape, arith, drop, index_ascends, inl, inr, le-ltb, leaf_of, leaves_of, lt-ltb, max_rec_at, plain_bytes, record_bytes, record_is, record_of_leaf, record_past, records_in, sound, stored_in, take, type_of_variable, variables, ℕ, ◌*◌, ◌++◌, ◌-◌, ◌∙◌, ◌∷◌, ◌≡◌}
 use Rattle.std.proofs.lemmas.Bool.{cases_lt}
 use Rattle.std.specs.Option.{option_map}
 use Rattle.cdf_model.specs.ByteOrder.{turned}
@@ -9,8 +9,7 @@ use Rattle.cdf_format.specs.Stored.{is_little}
 use Rattle.cdf_index.proofs.GoodIndex.{index_ruled}
 
 of_leaf : (b : List ℕ) (vdr rec : ℕ) (found : Option Leaf) → option_map (turned (type_of_variable b vdr) (is_little b)) (option_map (λ (l : Leaf). take (record_bytes b vdr) (drop ((rec - l.first) * record_bytes b vdr) (plain_bytes b vdr l))) found) ≡ option_map (record_of_leaf b vdr rec) found
-of_leaf b vdr rec None = refl
-of_leaf b vdr rec (Some l) = refl
+of_leaf b vdr rec found = grind arith
 
 pub stored_record : (b : List ℕ) (s : Shape) (before : List VariableShape) (v : VariableShape) (after : List VariableShape) → IsGoodImage b s → IsSound b s → variables s ≡ before ++ v ∷ after
     → (rec : ℕ) → item_at rec (records_in b v.vdr (leaves_of v.index)) ≡ stored_in b v.vdr rec (leaf_of rec (leaves_of v.index))

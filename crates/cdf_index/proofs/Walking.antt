@@ -28,13 +28,9 @@ mutual
   entries_climb : (low high upto : ℕ) (entries : Entries) (xs : List ℕ) → AreInOrder low high entries → high ≤ upto → Climbs (past_entries low entries) upto xs → Climbs low upto (entry_firsts entries ++ xs)
   entries_climb low high upto no_entry xs o most c = c
   entries_climb low high upto (block first last place packed entries) xs o most c =
-      let fl = o.1 in
-      let lh = o.2 in
-      (o.0, omega arith, climbs_from first (suc last) upto (entry_firsts entries ++ xs) (omega arith) (entries_climb (suc last) high upto entries xs o.3 most c))
+      (o.0, omega (arith, o.1, o.2), climbs_from first (suc last) upto (entry_firsts entries ++ xs) (omega (arith, o.1)) (entries_climb (suc last) high upto entries xs o.3 most c))
   entries_climb low high upto (lower first last nodes entries) xs o most c =
-      let fl = o.1 in
-      let lh = o.2 in
-      (o.0, omega arith, rw (append_assoc (firsts_of nodes) (entry_firsts entries) xs) (firsts_climb first last upto nodes (entry_firsts entries ++ xs) o.3 (omega arith) (omega arith) (entries_climb (suc last) high upto entries xs o.4 most c)))
+      (o.0, omega (arith, o.1, o.2), rw (append_assoc (firsts_of nodes) (entry_firsts entries) xs) (firsts_climb first last upto nodes (entry_firsts entries ++ xs) o.3 (omega (arith, o.1)) (omega (arith, o.2)) (entries_climb (suc last) high upto entries xs o.4 most c)))
 
 -- none of them is less than the least
 least_stays : (rec least upto : ℕ) (xs : List ℕ) → Climbs least upto xs → fold min least (filter (ltb rec) xs) ≡ least
