@@ -1,11 +1,6 @@
 -- How many records from a first on have a block, counted from stretch to stretch.
-use Rattle.cdf_var_records.proofs.Common.{Ascending, Entries, IsStretch, List, Nodes, None, Range, Some, [], ap, arith, block, covered, covered_before, either, entry_firsts, firsts_of, inl, inr, le_of, leaf_of, leb, lower, map, max, min, next_first, next_past, no_entry, no_node, node, of_leaves, range, ranges_of, record_number_limit, refl, same_Some, subst, suc, sym, ℕ, ◌++◌, ◌+◌, ◌-◌, ◌<◌, ◌∙◌, ◌∷◌, ◌≡◌, ◌≤◌, ◌⊎◌}
+use Rattle.cdf_var_records.proofs.Common.{Ascending, Entries, IsStretch, List, Nodes, None, NoneBegins, Range, Some, Stretch, [], ap, arith, block, covered, covered_before, either, entry_firsts, entry_leaves, firsts_of, inl, inr, le_of, leaf_of, leaves_of, leb, leb-false, lower, map, max, min, next_first, next_past, no_entry, no_node, node, none_begins, of_leaves, range, ranges_of, record_number_limit, refl, same_Some, subst, suc, sum_by-cons, sym, ℕ, ◌++◌, ◌+◌, ◌-◌, ◌<◌, ◌∙◌, ◌∷◌, ◌≡◌, ◌≤◌, ◌⊎◌}
 use Rattle.cdf_edits.proofs.Common.{Leaf}
-use Rattle.cdf_format.specs.Index.{entry_leaves, leaves_of}
-use Rattle.cdf_index.proofs.LeafRules.{NoneBegins, none_begins}
-use Rattle.cdf_var_records.specs.declared.put_room.Stretch.{Stretch}
-use Rattle.std.proofs.lemmas.Bool.{leb-false}
-use Rattle.std.proofs.lemmas.List.Sums.{sum_by-cons}
 
 before_more : (s e : ℕ) (r : Range) (rs : List Range) → covered_before s e (r ∷ rs) ≡ (min e (r.last + 1) - max s r.first) + covered_before s e rs
 before_more s e r rs = sum_by-cons (λ x. x) (min e (r.last + 1) - max s r.first) (map (λ (x : Range). min e (x.last + 1) - max s x.first) rs)

@@ -1,5 +1,5 @@
 use Rattle.cdf_var_records.proofs.Common.{HoldsRecords, List, ap, option_map, plain_bytes, record_bytes, record_in, seen, subst, sym, ℕ, ◌-◌, ◌∙◌, ◌≡◌}
-use Rattle.cdf_var_records.proofs.RecordReading.{holds, holds_from, holds_upto, index, leaf_has, lies, no_record, whole}
+use Rattle.cdf_var_records.proofs.RecordReading.{held, holds, index, leaf_has, lies, no_record, whole}
 use Rattle.cdf_var_records.proofs.record.read_stored.Goals as goal
 
 pub find_stored-requires-clause-lies : goal.find_stored-requires-clause-lies
@@ -17,10 +17,10 @@ read_rec-requires-clause-block g c =
     subst (λ (x : List ℕ). HoldsRecords x c.in-Some.leaf c.record_size_of-size.result) (sym c.find_stored.ensures.area.image) (holds c.requires.good c.requires.form c.args.rec c.in-Some.leaf found c.record_size_of-size.result c.record_size_of-size.ensures)
 
 pub read_rec-requires-clause-from : goal.read_rec-requires-clause-from
-read_rec-requires-clause-from g c = holds_from c.requires.good c.requires.form c.args.rec c.in-Some.leaf (ap (option_map seen) (sym c.in-Some.is) ∙ c.in_ok-found.ensures.leaf)
+read_rec-requires-clause-from g c = (held c.requires.good c.requires.form c.args.rec c.in-Some.leaf (ap (option_map seen) (sym c.in-Some.is) ∙ c.in_ok-found.ensures.leaf)).1
 
 pub read_rec-requires-clause-upto : goal.read_rec-requires-clause-upto
-read_rec-requires-clause-upto g c = holds_upto c.requires.good c.requires.form c.args.rec c.in-Some.leaf (ap (option_map seen) (sym c.in-Some.is) ∙ c.in_ok-found.ensures.leaf)
+read_rec-requires-clause-upto g c = (held c.requires.good c.requires.form c.args.rec c.in-Some.leaf (ap (option_map seen) (sym c.in-Some.is) ∙ c.in_ok-found.ensures.leaf)).2
 
 pub in_network_order-requires : goal.in_network_order-requires
 in_network_order-requires g c =
