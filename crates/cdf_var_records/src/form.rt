@@ -33,6 +33,7 @@ pub struct Form {
 }
 
 /// The majority of a file.
+#[tactic(auto, using(cdf_format::proofs::GoodHead::cdr_fits))]
 pub fn read_majority<A: Area>(area: &mut A) -> Result<Majority, AreaError>
     requires { Good (A.image area.old) }
     ensures majority { IfOk result (λ majority. majority ≡ (content (A.image area.old)).majority) }
@@ -61,6 +62,7 @@ fn read_varys<A: Area>(alloc: Global, area: &mut A, at: u64, count: u32) -> Resu
 }
 
 /// The sizes of the dimensions that the r variables of a good image share.
+#[tactic(auto, using(crate::proofs::DimsRead::offset_lies))]
 pub fn read_dims<A: Area>(alloc: Global, area: &mut A) -> Result<Nums, AreaError>
     requires { Good (A.image area.old) }
     ensures dims { IfOk result (λ dims. dims ≡ (content (A.image area.old)).rdims) }
