@@ -6,7 +6,7 @@ pub use Rattle.cdf_edits.proofs.Edits.Common.{IsRuled, high, name_room, of_kind,
 pub use Rattle.cdf_edits.proofs.Edits.VariableFrame.{all_ruled}
 pub use Rattle.cdf_format.proofs.GoodHead.{cdr_fits, few_dimensions, gdr_fits, sizes_fit}
 pub use Rattle.cdf_format.proofs.GoodImageLemmas.{good_image}
-pub use Rattle.cdf_index.proofs.Common.{HoldsRecords, IfOk-weaker, IsGoodImage, Stays, least_first_past, of_z-to_z, record_in, record_of_leaf, seen, rules}
+pub use Rattle.cdf_index.proofs.Common.{HoldsRecords, IfOk-weaker, IsGoodImage, Stays, least_first_past, of_z-to_z, record_in, record_of_leaf, seen, rules, append-nil, append_assoc}
 pub use Rattle.cdf_index.proofs.GoodBlock.{good_block}
 pub use Rattle.cdf_index.proofs.GoodIndex.{good_index}
 pub use Rattle.cdf_index.proofs.LeafRules.{NoneBegins, none_begins}

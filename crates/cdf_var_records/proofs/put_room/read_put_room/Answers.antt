@@ -29,13 +29,9 @@ index_size-requires-clause-index g c = index_there c.requires.good c.requires.fo
 
 pub returns-clause-room : goal.returns-clause-room
 returns-clause-room g c =
-    let good = c.requires.good in
-    let is = c.requires.form in
-    let r = c.args.rec in
-    let vdr = c.args.form.now.place.vdr in
     let counted = c.count_missing.ensures.area.image ∙ c.read_unsigned8.ensures.area.image in
-    let room = room_there good is r c.read_unsigned8.ensures.area.image c.in_ok-head.ensures.value c.args.from c.in_ok-missing.missing c.requires.from c.in_ok-missing.ensures.count in
-    let count = c.in_ok-count.ensures.count ∙ ap (λ (x : List _). block_count (variable_at x vdr)) counted in
-    let long = c.record_size_of.ensures ∙ record_size_is good is in
-    let size = size_there good is r (c.read_block_count.ensures.area.image ∙ counted) c.in_ok-head.ensures.value c.in_ok-size.size c.in_ok-size.ensures.value in
-    c.room_of.ensures (v good is r) (nodes good is r) (sym count) (sym long) size ∙ sym room
+    let room = room_there c.requires.good c.requires.form c.args.rec c.read_unsigned8.ensures.area.image c.in_ok-head.ensures.value c.args.from c.in_ok-missing.missing c.requires.from c.in_ok-missing.ensures.count in
+    let count = c.in_ok-count.ensures.count ∙ ap (λ (x : List _). block_count (variable_at x c.args.form.now.place.vdr)) counted in
+    let long = c.record_size_of.ensures ∙ record_size_is c.requires.good c.requires.form in
+    let size = size_there c.requires.good c.requires.form c.args.rec (c.read_block_count.ensures.area.image ∙ counted) c.in_ok-head.ensures.value c.in_ok-size.size c.in_ok-size.ensures.value in
+    c.room_of.ensures (v c.requires.good c.requires.form c.args.rec) (nodes c.requires.good c.requires.form c.args.rec) (sym count) (sym long) size ∙ sym room
