@@ -1,11 +1,7 @@
 -- Where the pad value of a variable belongs, as it is read of its VDR.
-use Rattle.cdf_var_records.proofs.Common.{AreBytes, Bool, Each, Each-split, Field, Good, HasElements, IsGoodByShape, IsRuled, IsVdr, Kind, List, R, Z, ap, arith, both, cast_signed, cast_unsigned, dimensions_at, elems_at, false, fixed_size, gdr_offset, good_by_its_shape, has_dimensions, high, is_characters, is_positive, is_z, known_type, le_of, length, name_room, nat_le, not, notation_of, number, of_kind, pad_field, r_num_dims, refl, shape, signed_limit, size_at, sound, subst, sym, tile, true, type_at, type_of, type_of_variable, typed, variables, vdr_bytes, vdr_data_type, vdr_num_elems, vdr_z_num_dims, vdrs, w32, word, z_vdr_type, ℕ, ℤ, ◌+◌, ◌<◌, ◌==◌, ◌^◌, ◌||◌, ◌∙◌, ◌∷◌, ◌≡◌, ◌≤◌}
-use Rattle.cdf_edits.proofs.Edits.VariableFrame.{all_ruled}
-use Rattle.cdf_format.specs.VariableRules.{has_elements}
-use Rattle.cdf_records.proofs.Places.{word_fits}
+use Rattle.cdf_var_records.proofs.Common.{AreBytes, Bool, Each, Each-split, Field, Good, HasElements, IsGoodByShape, IsRuled, IsVdr, Kind, List, R, Z, all_ruled, ap, arith, both, cast_signed, cast_unsigned, dimensions_at, elems_at, false, fixed_size, gdr_offset, good_by_its_shape, has_dimensions, has_elements, high, is_characters, is_positive, is_z, known_type, le_of, length, name_room, nat_le, not, notation_of, number, of_kind, of_z-to_z, pad_field, r_num_dims, refl, shape, signed_limit, size_at, sound, subst, sym, tile, true, type_at, type_of, type_of_variable, typed, variables, vdr_bytes, vdr_data_type, vdr_num_elems, vdr_z_num_dims, vdrs, w32, word, word_fits, z_vdr_type, ℕ, ℤ, ◌+◌, ◌<◌, ◌==◌, ◌^◌, ◌||◌, ◌∙◌, ◌∷◌, ◌≡◌, ◌≤◌}
 use Rattle.cdf_var_records.proofs.DimsRead.{small_signed}
 use Rattle.cdf_var_records.proofs.VdrParts.{at, own, pad_place}
-use Rattle.std.proofs.lemmas.Int.{of_z-to_z}
 
 -- ---- the rules of a variable
 

@@ -1,11 +1,6 @@
 -- How many records from a first on have a block, counted from stretch to stretch.
-use Rattle.cdf_var_records.proofs.Common.{Ascending, Entries, IsStretch, List, Nodes, None, Range, Some, [], ap, arith, block, covered, covered_before, either, entry_firsts, firsts_of, inl, inr, le_of, leaf_of, leb, lower, map, max, min, next_first, next_past, no_entry, no_node, node, of_leaves, range, ranges_of, record_number_limit, refl, same_Some, subst, suc, sym, ℕ, ◌++◌, ◌+◌, ◌-◌, ◌<◌, ◌∙◌, ◌∷◌, ◌≡◌, ◌≤◌, ◌⊎◌}
+use Rattle.cdf_var_records.proofs.Common.{Ascending, Entries, IsStretch, List, Nodes, None, NoneBegins, Range, Some, Stretch, [], ap, append-nil, append_assoc, arith, block, covered, covered_before, either, entry_firsts, entry_leaves, firsts_of, inl, inr, le_of, leaf_of, leaves_of, leb, leb-false, lower, map, max, min, next_first, next_past, no_entry, no_node, node, none_begins, of_leaves, range, ranges_of, record_number_limit, refl, same_Some, subst, suc, sum_by-cons, sym, ℕ, ◌++◌, ◌+◌, ◌-◌, ◌<◌, ◌∙◌, ◌∷◌, ◌≡◌, ◌≤◌, ◌⊎◌}
 use Rattle.cdf_edits.proofs.Common.{Leaf}
-use Rattle.cdf_format.specs.Index.{entry_leaves, leaves_of}
-use Rattle.cdf_index.proofs.LeafRules.{NoneBegins, none_begins}
-use Rattle.cdf_var_records.specs.declared.put_room.Stretch.{Stretch}
-use Rattle.std.proofs.lemmas.Bool.{leb-false}
-use Rattle.std.proofs.lemmas.List.Sums.{sum_by-cons}
 
 before_more : (s e : ℕ) (r : Range) (rs : List Range) → covered_before s e (r ∷ rs) ≡ (min e (r.last + 1) - max s r.first) + covered_before s e rs
 before_more s e r rs = sum_by-cons (λ x. x) (min e (r.last + 1) - max s r.first) (map (λ (x : Range). min e (x.last + 1) - max s x.first) rs)
@@ -32,29 +27,18 @@ abbrev Apart : ℕ → ℕ → List Leaf → Type 0
 Apart k last [] = Unit {0}
 Apart k last (l ∷ more) = (k < l.first → last < l.first) × Apart k last more
 
-apart_both : (k last : ℕ) (xs ys : List Leaf) → Apart k last xs → Apart k last ys → Apart k last (xs ++ ys)
-apart_both k last [] ys p q = q
-apart_both k last (x ∷ xs) ys p q = (p.0, apart_both k last xs ys p.1 q)
-
-none_split : (k last : ℕ) (xs ys : List ℕ) → NoneBegins k last (xs ++ ys) → NoneBegins k last xs × NoneBegins k last ys
-none_split k last [] ys n = (tt, n)
-none_split k last (x ∷ xs) ys n = let r = none_split k last xs ys n.1 in ((n.0, r.0), r.1)
-
+-- entries, and then leaves of which this holds where none of their firsts begins
 mutual
   unfolding leaves_of entry_leaves firsts_of entry_firsts
 
-  leaves_apart : (k last : ℕ) (nodes : Nodes) → NoneBegins k last (firsts_of nodes) → Apart k last (leaves_of nodes)
-  leaves_apart k last no_node n = tt
-  leaves_apart k last (node place room entries more) n =
-      let parts = none_split k last (entry_firsts entries) (firsts_of more) n in
-      apart_both k last (entry_leaves entries) (leaves_of more) (entries_apart k last entries parts.0) (leaves_apart k last more parts.1)
+  leaves_apart : (k last : ℕ) (nodes : Nodes) (xs : List ℕ) (ls : List Leaf) → (NoneBegins k last xs → Apart k last ls) → NoneBegins k last (firsts_of nodes ++ xs) → Apart k last (leaves_of nodes ++ ls)
+  leaves_apart k last no_node xs ls on n = on n
+  leaves_apart k last (node place room entries more) xs ls on n = rw (append_assoc (entry_leaves entries) (leaves_of more) ls) (entries_apart k last entries (firsts_of more ++ xs) (leaves_of more ++ ls) (leaves_apart k last more xs ls on) (rw (append_assoc (entry_firsts entries) (firsts_of more) xs) at n))
 
-  entries_apart : (k last : ℕ) (entries : Entries) → NoneBegins k last (entry_firsts entries) → Apart k last (entry_leaves entries)
-  entries_apart k last no_entry n = tt
-  entries_apart k last (block first upto place packed entries) n = (n.0, entries_apart k last entries n.1)
-  entries_apart k last (lower first upto nodes entries) n =
-      let parts = none_split k last (firsts_of nodes) (entry_firsts entries) n.1 in
-      apart_both k last (leaves_of nodes) (entry_leaves entries) (leaves_apart k last nodes parts.0) (entries_apart k last entries parts.1)
+  entries_apart : (k last : ℕ) (entries : Entries) (xs : List ℕ) (ls : List Leaf) → (NoneBegins k last xs → Apart k last ls) → NoneBegins k last (entry_firsts entries ++ xs) → Apart k last (entry_leaves entries ++ ls)
+  entries_apart k last no_entry xs ls on n = on n
+  entries_apart k last (block first upto place packed entries) xs ls on n = (n.0, entries_apart k last entries xs ls on n.1)
+  entries_apart k last (lower first upto nodes entries) xs ls on n = rw (append_assoc (leaves_of nodes) (entry_leaves entries) ls) (leaves_apart k last nodes (entry_firsts entries ++ xs) (entry_leaves entries ++ ls) (entries_apart k last entries xs ls on) (rw (append_assoc (firsts_of nodes) (entry_firsts entries) xs) at n.1))
 
 none_covered : (k e last : ℕ) (xs : List Leaf) → e ≤ last + 1 → Apart k last xs → leaf_of k xs ≡ None → covered_before k e (of_leaves xs) ≡ 0
 none_covered k e last [] le a none = refl
@@ -106,7 +90,8 @@ pub gap_stretch : (nodes : Nodes) (k r next end : ℕ) → leaf_of k (leaves_of 
 gap_stretch nodes k r next end none le small is ends =
     let some = gap_some nodes k r next end le small is ends in
     let begins = none_begins k (end - 1) (firsts_of nodes) (omega arith) in
-    let zero = none_covered k end (end - 1) (leaves_of nodes) (omega arith) (leaves_apart k (end - 1) nodes begins) none in
+    let apart = rw (append-nil (leaves_of nodes)) at (leaves_apart k (end - 1) nodes [] [] (λ n. tt) (rw (append-nil (firsts_of nodes)) begins)) in
+    let zero = none_covered k end (end - 1) (leaves_of nodes) (omega arith) apart none in
     record { some = some; inside = omega arith; counts = omega (arith, zero) }
 
 -- ---- one stretch more

@@ -1,14 +1,8 @@
 -- What the VDR of a variable of a good image says of its records, and what its index is.
-use Rattle.cdf_var_records.proofs.Common.{Bool, DataSet, DataType, Form, Good, HasIndex, Hold-split, IsForm, IsPlace, IsVdr, Kind, List, NoRule, Nodes, Pad, Previous, R, Z, [], ap, ap₂, arith, asked, both, content, content_is, counted, counted4, cpr_link, cpr_rows, dimensions_at, dims_at, either, elems_at, false, few_dimensions, fits, gdr_offset, gdr_r_num_dims, good_by_its_shape, good_is_sound, has_bit, has_dimensions, has_pad, if◌then◌else◌, index_at, inl, inr, is_compressed, is_little, is_positive, is_z, le_of, length, length-map, list_all, ltb, majority_of, map, mul-le-mul_right, nat_le, negsuc, not, number, pad_field, pos, r_sizes, record_bytes, record_limit, record_size, refl, shape, size_at, size_of, size_some, sound, sparse_at, subst, suc, sym, tile, tile_lies, true, type_of_variable, value_bytes, variable_at, variable_of, variables, vary_field, varys_at, vdr_num_elems, vdr_r_dim_vary, vdr_r_pad_value, vdr_s_records, vdr_vxr_head, vdr_z_dim_vary, vdr_z_num_dims, vdr_z_pad_value, with_sign, word, words, ℕ, ℤ, ◌*◌, ◌+◌, ◌-◌, ◌==◌, ◌^◌, ◌||◌, ◌∙◌, ◌∷◌, ◌≡◌, ◌≤◌, ◌⊎◌}
-use Rattle.cdf_format.proofs.GoodImageLemmas.{good_image}
-use Rattle.cdf_format.specs.GoodImage.{IsGoodImage}
-use Rattle.cdf_format.specs.NotRead.{unread_sparse}
-use Rattle.cdf_index.proofs.GoodIndex.{good_index}
-use Rattle.cdf_leaves.proofs.Own.{AmongAll, among_all}
+use Rattle.cdf_var_records.proofs.Common.{AmongAll, Bool, DataSet, DataType, Form, Good, HasIndex, Hold-split, IsForm, IsGoodImage, IsPlace, IsVdr, Kind, List, NoRule, Nodes, Pad, PadPlace, Previous, R, Z, [], among_all, ap, ap₂, arith, asked, both, content, content_is, counted, counted4, cpr_link, cpr_rows, dimensions_at, dims_at, either, elems_at, false, few_dimensions, fits, gdr_offset, gdr_r_num_dims, good_by_its_shape, good_image, good_index, good_is_sound, has_bit, has_dimensions, has_pad, if◌then◌else◌, index_at, inl, inr, is_compressed, is_little, is_positive, is_z, le_of, length, length-map, list_all, ltb, majority_of, map, mul-le-mul_right, nat_le, negsuc, not, number, pad_field, pos, r_sizes, record_bytes, record_limit, record_size, refl, rules, shape, size_at, size_of, size_some, sound, sparse_at, subst, suc, sym, tile, tile_lies, true, type_of_variable, unread_sparse, value_bytes, variable_at, variable_of, variables, vary_field, varys_at, vdr_num_elems, vdr_r_dim_vary, vdr_r_pad_value, vdr_s_records, vdr_vxr_head, vdr_z_dim_vary, vdr_z_num_dims, vdr_z_pad_value, with_sign, word, words, ℕ, ℤ, ◌*◌, ◌+◌, ◌-◌, ◌==◌, ◌^◌, ◌||◌, ◌∙◌, ◌∷◌, ◌≡◌, ◌≤◌, ◌⊎◌}
 use Rattle.cdf_var_records.proofs.DimsRead.{small_signed}
 use Rattle.cdf_var_records.proofs.PadSites.{at_is, positive, r_count, r_typed, ruled, z_count, z_few, z_typed}
 use Rattle.cdf_var_records.proofs.VdrParts.{at, dims_long, inside, own, words_long}
-use Rattle.cdf_var_records.specs.declared.pad_place.PadPlace.{PadPlace}
 
 -- ---- sizes as they are read
 
@@ -157,18 +151,8 @@ pub form_is : {b : List ℕ} {kind : Kind} {vdr : ℕ} (good : Good b) (v : IsVd
 form_is {b} {kind} {vdr} good v form there place order t elems dims varys =
     let type = t ∙ place.t_is in
     let count = elems ∙ place.elems_are in
-    record {
-      kind = kind;
-      is_vdr = subst (IsVdr b kind) (sym there) v;
-      place = subst (λ (k : ℕ). IsPlace b k form.place) (sym there) place;
-      order = order;
-      t_is = t;
-      elems_are = elems;
-      dims_are = dims ∙ ap (dims_at b) (sym there);
-      varys_are = varys ∙ ap (varys_at b) (sym there);
-      shaped = record {
-        one_each = ap length varys ∙ one_each good v ∙ ap length (sym dims);
-        some = subst (λ (n : ℕ). 1 ≤ n) (sym (ap₂ (λ (t : DataType) (n : ℕ). size_of t * n) type count)) (some_bytes good v);
-        fits = subst (λ (n : ℕ). n ≤ record_limit) (sym (λ i. record_size (type i) (count i) (dims i) (varys i))) (small_record good v);
-      };
-    }
+    let is_vdr = subst (IsVdr b kind) (sym there) v in
+    let here = subst (λ (k : ℕ). IsPlace b k form.place) (sym there) place in
+    let some = subst (λ (n : ℕ). 1 ≤ n) (sym (ap₂ (λ (t : DataType) (n : ℕ). size_of t * n) type count)) (some_bytes good v) in
+    let fits = subst (λ (n : ℕ). n ≤ record_limit) (sym (λ i. record_size (type i) (count i) (dims i) (varys i))) (small_record good v) in
+    search (rules, is_vdr, here, order, t, elems, dims ∙ ap (dims_at b) (sym there), varys ∙ ap (varys_at b) (sym there), ap length varys ∙ one_each good v ∙ ap length (sym dims), some, fits)

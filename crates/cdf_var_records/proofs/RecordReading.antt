@@ -1,6 +1,5 @@
 -- What a record of a variable reads as, by what was read of its VDR.
-use Rattle.cdf_var_records.proofs.Common.{Bool, DataType, Form, Good, HasIndex, HoldsRecords, IsForm, IsRecordShape, Leaf, List, None, Some, Variable, ap, ap₂, arith, default_value, dimensions_at, drop, elems_at, extent, false, has_bit, has_pad, if◌then◌else◌, index_at, is_z, item_at, le-ltb, leaf_in, leaf_of, leaves_of, length, lt-ltb, max_rec_at, mul-div_cancel_left, mul-le-mul_right, nat_lt, network_bytes, number, number_read, option_map, pad_field, pad_record, pad_value, pad_width, plain_bytes, read, record_bytes, record_in, record_limit, record_of_leaf, record_size, refl, seen, size_of, size_stays, subst, sym, take, take_at, true, turned, type_of_variable, value_bytes, value_count, variable_at, vdr_vxr_head, whole_elements, ℕ, ◌%◌, ◌*◌, ◌++◌, ◌+◌, ◌-◌, ◌/◌, ◌<◌, ◌∙◌, ◌≡◌, ◌≤◌}
-use Rattle.cdf_shape.specs.declared.shape.Shape.{Shape}
+use Rattle.cdf_var_records.proofs.Common.{Bool, DataType, Form, Good, HasIndex, HoldsRecords, IsForm, IsRecordShape, Leaf, List, None, Shape, Some, Variable, ap, ap₂, arith, default_value, dimensions_at, drop, elems_at, extent, false, has_bit, has_pad, if◌then◌else◌, index_at, is_z, item_at, le-ltb, leaf_in, leaf_of, leaves_of, length, lt-ltb, max_rec_at, mul-div_cancel_left, mul-le-mul_right, nat_lt, network_bytes, number, number_read, option_map, pad_field, pad_record, pad_value, pad_width, plain_bytes, read, record_bytes, record_in, record_limit, record_of_leaf, record_size, refl, seen, size_of, size_stays, subst, sym, take, take_at, true, turned, type_of_variable, value_bytes, value_count, variable_at, vdr_vxr_head, whole_elements, ℕ, ◌%◌, ◌*◌, ◌++◌, ◌+◌, ◌-◌, ◌/◌, ◌<◌, ◌∙◌, ◌≡◌, ◌≤◌}
 use Rattle.cdf_var_records.proofs.PadSites.{vdr_lies}
 use Rattle.cdf_var_records.proofs.RecordForms.{has_index, pad_lies}
 use Rattle.cdf_var_records.proofs.RecordsRead.{by_leaf, holding, pad_by, pad_none, piece_long, read_is, stored_whole}
@@ -85,14 +84,8 @@ module _ {b : List ℕ} {form : Form} (good : Good b) (f : IsForm b form) where
   no_record rec e = ap (option_map (record_of_leaf b vdr rec)) e ∙ sym (by_leaf good f.is_vdr rec)
 
   module _ (rec : ℕ) (leaf : Leaf) (found : Some (seen leaf) ≡ leaf_in b vdr rec) where
-    held : HoldsRecords b leaf (record_bytes b vdr) × (leaf.first ≤ rec) × (rec ≤ leaf.last)
+    pub held : HoldsRecords b leaf (record_bytes b vdr) × (leaf.first ≤ rec) × (rec ≤ leaf.last)
     held = holding good f.is_vdr rec leaf (sym found)
-
-    pub holds_from : leaf.first ≤ rec
-    holds_from = held.1
-
-    pub holds_upto : rec ≤ leaf.last
-    holds_upto = held.2
 
     module _ (size : ℕ) (as_read : size ≡ record_size form.shape.t form.shape.elems form.shape.dims form.shape.varys) where
       sized : record_bytes b vdr ≡ size

@@ -33,6 +33,7 @@ pub struct Form {
 }
 
 /// The majority of a file.
+#[tactic(auto, using(cdf_format::proofs::GoodHead::cdr_fits))]
 pub fn read_majority<A: Area>(area: &mut A) -> Result<Majority, AreaError>
     requires { Good (A.image area.old) }
     ensures majority { IfOk result (λ majority. majority ≡ (content (A.image area.old)).majority) }
@@ -61,6 +62,7 @@ fn read_varys<A: Area>(alloc: Global, area: &mut A, at: u64, count: u32) -> Resu
 }
 
 /// The sizes of the dimensions that the r variables of a good image share.
+#[tactic(auto, using(crate::proofs::DimsRead::offset_lies, crate::proofs::DimsRead::count_lies))]
 pub fn read_dims<A: Area>(alloc: Global, area: &mut A) -> Result<Nums, AreaError>
     requires { Good (A.image area.old) }
     ensures dims { IfOk result (λ dims. dims ≡ (content (A.image area.old)).rdims) }
@@ -74,6 +76,7 @@ pub fn read_dims<A: Area>(alloc: Global, area: &mut A) -> Result<Nums, AreaError
 }
 
 /// The sizes of the dimensions of the z variable whose descriptor stands at a place of a good image.
+#[tactic(auto, using(crate::proofs::RecordForms::z_sizes_lie))]
 fn read_z_dims<A: Area>(alloc: Global, area: &mut A, vdr: u64) -> Result<Nums, AreaError>
     requires good { Good (A.image area.old) }
     requires vdr { IsVdr (A.image area.old) Z vdr }

@@ -32,6 +32,7 @@ pub struct PadPlace {
 }
 
 /// How many dimensions the r variables of a good image have.
+#[tactic(auto, using(crate::proofs::DimsRead::offset_lies, crate::proofs::DimsRead::count_lies))]
 fn read_r_dimensions<A: Area>(area: &mut A) -> Result<u32, AreaError>
     requires { Good (A.image area.old) }
     ensures few { IfOk result (λ n. n ≤ dimension_limit) }
@@ -46,6 +47,7 @@ fn read_r_dimensions<A: Area>(area: &mut A) -> Result<u32, AreaError>
 }
 
 /// How many dimensions the z variable has whose descriptor stands at a place of a good image.
+#[tactic(auto, using(crate::proofs::PadSites::z_few))]
 pub fn read_z_dimensions<A: Area>(area: &mut A, vdr: u64) -> Result<u32, AreaError>
     requires good { Good (A.image area.old) }
     requires vdr { IsVdr (A.image area.old) Z vdr }

@@ -1,4 +1,4 @@
-use Rattle.cdf_var_records.proofs.Common.{Bool, IfOk-weaker, List, arith, map, not, varys_at, words, ◌*◌, ◌+◌, ◌-◌, ◌==◌, ◌∙◌, ◌≡◌}
+use Rattle.cdf_var_records.proofs.Common.{arith}
 use Rattle.cdf_var_records.proofs.RecordForms.{count_few, varys_before, varys_inside, varys_read}
 use Rattle.cdf_var_records.proofs.form.read_varys_of.Goals as goal
 
@@ -18,8 +18,4 @@ pub read_varys-requires : goal.read_varys-requires
 read_varys-requires g c = varys_inside c.requires.good c.requires.vdr c.requires.place c.requires.count
 
 pub returns-clause-varys : goal.returns-clause-varys
-returns-clause-varys g c =
-    let b = g.A.Area.image c.args.area.now in
-    let at = c.args.place.vdr + (c.args.place.at - 4 * c.args.count) in
-    IfOk-weaker c.read_varys.result (λ (varys : List Bool). varys ≡ map (λ n. not (n == 0)) (words b at c.args.count)) (λ (varys : List Bool). varys ≡ varys_at b c.args.place.vdr)
-    (λ x e. e ∙ varys_read c.requires.good c.requires.vdr c.requires.place c.requires.count) c.read_varys.ensures.value
+returns-clause-varys g c = rw (varys_read c.requires.good c.requires.vdr c.requires.place c.requires.count) at c.read_varys.ensures.value

@@ -1,14 +1,6 @@
-use Rattle.cdf_var_records.proofs.Common.{ap, arith, few_dimensions, length, subst, sym, word, ℕ, ◌+◌, ◌∙◌, ◌≤◌}
-use Rattle.cdf_var_records.proofs.DimsRead.{count_is, count_lies, offset_lies}
+use Rattle.cdf_var_records.proofs.Common.{few_dimensions, subst, sym, word, ℕ, ◌+◌, ◌∙◌, ◌≤◌}
+use Rattle.cdf_var_records.proofs.DimsRead.{count_is, count_lies}
 use Rattle.cdf_var_records.proofs.pad_place.read_r_dimensions.Goals as goal
-
-pub read_unsigned8-requires : goal.read_unsigned8-requires
-read_unsigned8-requires g c = offset_lies (g.A.Area.image c.args.area.now) c.requires
-
-pub overflow_add-gdr : goal.overflow_add-gdr
-overflow_add-gdr g c =
-    let l = count_lies (g.A.Area.image c.args.area.now) (g.A.Area.image c.read_unsigned8.new.area) c.requires c.read_unsigned8.ensures.area.image c.in_ok-gdr.gdr c.in_ok-gdr.ensures.value in
-    omega (arith, l, c.size-size.ensures, ap length c.read_unsigned8.ensures.area.image)
 
 pub read_unsigned4-requires : goal.read_unsigned4-requires
 read_unsigned4-requires g c = count_lies (g.A.Area.image c.args.area.now) (g.A.Area.image c.read_unsigned8.new.area) c.requires c.read_unsigned8.ensures.area.image c.in_ok-gdr.gdr c.in_ok-gdr.ensures.value

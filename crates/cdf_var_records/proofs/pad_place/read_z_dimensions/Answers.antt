@@ -1,5 +1,5 @@
-use Rattle.cdf_var_records.proofs.Common.{arith, subst, sym, ℕ, ◌≤◌}
-use Rattle.cdf_var_records.proofs.PadSites.{z_count, z_few, z_lies}
+use Rattle.cdf_var_records.proofs.Common.{arith}
+use Rattle.cdf_var_records.proofs.PadSites.{z_count, z_lies}
 use Rattle.cdf_var_records.proofs.pad_place.read_z_dimensions.Goals as goal
 
 pub overflow_add-vdr : goal.overflow_add-vdr
@@ -7,9 +7,6 @@ overflow_add-vdr g c = let l = z_lies c.requires.good c.requires.vdr in omega (a
 
 pub read_unsigned4-requires : goal.read_unsigned4-requires
 read_unsigned4-requires g c = let l = z_lies c.requires.good c.requires.vdr in omega (arith, l)
-
-pub returns-clause-few : goal.returns-clause-few
-returns-clause-few g c = subst (λ (n : ℕ). n ≤ 10) (sym c.in_ok-dimensions.ensures.value) (z_few c.requires.good c.requires.vdr)
 
 pub returns-clause-dimensions : goal.returns-clause-dimensions
 returns-clause-dimensions g c = z_count c.requires.good c.requires.vdr c.in_ok-dimensions.dimensions c.in_ok-dimensions.ensures.value

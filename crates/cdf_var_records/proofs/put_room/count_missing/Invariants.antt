@@ -1,5 +1,4 @@
-use Rattle.cdf_var_records.proofs.Common.{covered_before, index_at, ranges_of, ◌+◌, ◌-◌, ◌≡◌, ◌≤◌}
-use Rattle.cdf_area.specs.Calls.{Stays}
+use Rattle.cdf_var_records.proofs.Common.{Stays, covered_before, index_at, ranges_of, ◌+◌, ◌-◌, ◌≡◌, ◌≤◌}
 use Rattle.cdf_var_records.proofs.put_room.count_missing.Given as goal
 
 abbrev pub invariant-loop-turn : goal.invariant-loop-turn

@@ -5,10 +5,7 @@ use Rattle.cdf_var_records.proofs.put_room.read_put_room.Goals as goal
 
 pub overflow_add-form : goal.overflow_add-form
 overflow_add-form g c =
-    let l = head_lies c.requires.good c.requires.form c.args.rec in
-    let e = c.size-size.ensures in
-    let s = c.size-size.type_inv in
-    omega arith
+    omega (arith, head_lies c.requires.good c.requires.form c.args.rec, c.size-size.ensures, c.size-size.type_inv)
 
 pub read_unsigned8-requires : goal.read_unsigned8-requires
 read_unsigned8-requires g c = let l = head_lies c.requires.good c.requires.form c.args.rec in omega arith
@@ -24,11 +21,8 @@ count_missing-requires-clause-order g c = leaves_rise c.requires.good c.requires
 
 pub returns-then-missing-eq0-clause-room : goal.returns-then-missing-eq0-clause-room
 returns-then-missing-eq0-clause-room g c =
-    let good = c.requires.good in
-    let is = c.requires.form in
-    let r = c.args.rec in
-    let room = room_there good is r c.read_unsigned8.ensures.area.image c.in_ok-head.ensures.value c.args.from c.in_ok-missing.missing c.requires.from c.in_ok-missing.ensures.count in
-    sym (room ∙ ap (blocks_room (v good is r) (nodes good is r)) c.if-missing-eq0.true)
+    let room = room_there c.requires.good c.requires.form c.args.rec c.read_unsigned8.ensures.area.image c.in_ok-head.ensures.value c.args.from c.in_ok-missing.missing c.requires.from c.in_ok-missing.ensures.count in
+    sym (room ∙ ap (blocks_room (v c.requires.good c.requires.form c.args.rec) (nodes c.requires.good c.requires.form c.args.rec)) c.if-missing-eq0.true)
 
 pub read_block_count-requires-clause-good : goal.read_block_count-requires-clause-good
 read_block_count-requires-clause-good g c = subst Good (sym (c.count_missing.ensures.area.image ∙ c.read_unsigned8.ensures.area.image)) c.requires.good
@@ -38,13 +32,9 @@ index_size-requires-clause-index g c = index_there c.requires.good c.requires.fo
 
 pub returns-clause-room : goal.returns-clause-room
 returns-clause-room g c =
-    let good = c.requires.good in
-    let is = c.requires.form in
-    let r = c.args.rec in
-    let vdr = c.args.form.now.place.vdr in
     let counted = c.count_missing.ensures.area.image ∙ c.read_unsigned8.ensures.area.image in
-    let room = room_there good is r c.read_unsigned8.ensures.area.image c.in_ok-head.ensures.value c.args.from c.in_ok-missing.missing c.requires.from c.in_ok-missing.ensures.count in
-    let count = c.in_ok-count.ensures.count ∙ ap (λ (x : List _). block_count (variable_at x vdr)) counted in
-    let long = c.record_size_of.ensures ∙ record_size_is good is in
-    let size = size_there good is r (c.read_block_count.ensures.area.image ∙ counted) c.in_ok-head.ensures.value c.in_ok-size.size c.in_ok-size.ensures.value in
-    c.room_of.ensures (v good is r) (nodes good is r) (sym count) (sym long) size ∙ sym room
+    let room = room_there c.requires.good c.requires.form c.args.rec c.read_unsigned8.ensures.area.image c.in_ok-head.ensures.value c.args.from c.in_ok-missing.missing c.requires.from c.in_ok-missing.ensures.count in
+    let count = c.in_ok-count.ensures.count ∙ ap (λ (x : List _). block_count (variable_at x c.args.form.now.place.vdr)) counted in
+    let long = c.record_size_of.ensures ∙ record_size_is c.requires.good c.requires.form in
+    let size = size_there c.requires.good c.requires.form c.args.rec (c.read_block_count.ensures.area.image ∙ counted) c.in_ok-head.ensures.value c.in_ok-size.size c.in_ok-size.ensures.value in
+    c.room_of.ensures (v c.requires.good c.requires.form c.args.rec) (nodes c.requires.good c.requires.form c.args.rec) (sym count) (sym long) size ∙ sym room

@@ -1,5 +1,4 @@
-use Rattle.cdf_var_records.proofs.Common.{List, ap, arith, bound_is, firsts_of, index_at, next_first, option_map, seen, sym, ℕ, ◌∙◌, ◌≡◌}
-use Rattle.cdf_index.specs.Next.{least_first_past}
+use Rattle.cdf_var_records.proofs.Common.{List, ap, arith, bound_is, firsts_of, index_at, least_first_past, next_first, option_map, seen, sym, ℕ, ◌∙◌, ◌≡◌}
 use Rattle.cdf_var_records.proofs.PutRoomCount.{gap_some, gap_stretch, leaf_stretch}
 use Rattle.cdf_var_records.proofs.put_room.read_stretch.Goals as goal
 

@@ -1,14 +1,12 @@
-use Rattle.cdf_var_records.proofs.Common.{Good, IfOk-weaker, IsForm, List, ap, pad_record, read, subst, sym, variable_at, ℕ, ◌∙◌, ◌≡◌}
+use Rattle.cdf_var_records.proofs.Common.{Good, IfOk-weaker, List, ap, pad_record, read, subst, sym, variable_at, ℕ, ◌∙◌, ◌≡◌}
 use Rattle.cdf_var_records.proofs.RecordReading.{reads_pad, reads_stored}
 use Rattle.cdf_var_records.proofs.record.read_record.Goals as goal
 
 pub returns-in-Some-clause-record : goal.returns-in-Some-clause-record
 returns-in-Some-clause-record g c = reads_stored c.requires.good c.requires.form c.args.rec c.number_of-number.result c.in-Some.bytes.items c.number_of-number.ensures (rw c.in-Some.is at c.in_ok-stored.ensures.record)
 
-pub read_pad_record-requires : goal.read_pad_record-requires
-read_pad_record-requires g c =
-    let same = c.read_stored.ensures.area.image in
-    record { good = subst Good (sym same) c.requires.good; form = subst (λ (x : List ℕ). IsForm x c.args.form.now) (sym same) c.requires.form }
+pub read_pad_record-requires-clause-good : goal.read_pad_record-requires-clause-good
+read_pad_record-requires-clause-good g c = subst Good (sym c.read_stored.ensures.area.image) c.requires.good
 
 pub returns-in-None-clause-record : goal.returns-in-None-clause-record
 returns-in-None-clause-record g c =

@@ -1,5 +1,5 @@
-use Rattle.cdf_var_records.proofs.Common.{HoldsRecords, List, ap, option_map, plain_bytes, record_bytes, record_in, seen, subst, sym, ℕ, ◌-◌, ◌∙◌, ◌≡◌}
-use Rattle.cdf_var_records.proofs.RecordReading.{holds, holds_from, holds_upto, index, leaf_has, lies, no_record, whole}
+use Rattle.cdf_var_records.proofs.Common.{HoldsRecords, List, ap, option_map, seen, subst, sym, ℕ, ◌∙◌}
+use Rattle.cdf_var_records.proofs.RecordReading.{held, holds, index, leaf_has, lies, no_record, whole}
 use Rattle.cdf_var_records.proofs.record.read_stored.Goals as goal
 
 pub find_stored-requires-clause-lies : goal.find_stored-requires-clause-lies
@@ -17,25 +17,17 @@ read_rec-requires-clause-block g c =
     subst (λ (x : List ℕ). HoldsRecords x c.in-Some.leaf c.record_size_of-size.result) (sym c.find_stored.ensures.area.image) (holds c.requires.good c.requires.form c.args.rec c.in-Some.leaf found c.record_size_of-size.result c.record_size_of-size.ensures)
 
 pub read_rec-requires-clause-from : goal.read_rec-requires-clause-from
-read_rec-requires-clause-from g c = holds_from c.requires.good c.requires.form c.args.rec c.in-Some.leaf (ap (option_map seen) (sym c.in-Some.is) ∙ c.in_ok-found.ensures.leaf)
+read_rec-requires-clause-from g c = (held c.requires.good c.requires.form c.args.rec c.in-Some.leaf (ap (option_map seen) (sym c.in-Some.is) ∙ c.in_ok-found.ensures.leaf)).1
 
 pub read_rec-requires-clause-upto : goal.read_rec-requires-clause-upto
-read_rec-requires-clause-upto g c = holds_upto c.requires.good c.requires.form c.args.rec c.in-Some.leaf (ap (option_map seen) (sym c.in-Some.is) ∙ c.in_ok-found.ensures.leaf)
+read_rec-requires-clause-upto g c = (held c.requires.good c.requires.form c.args.rec c.in-Some.leaf (ap (option_map seen) (sym c.in-Some.is) ∙ c.in_ok-found.ensures.leaf)).2
 
 pub in_network_order-requires : goal.in_network_order-requires
 in_network_order-requires g c =
-    let b = g.A.Area.image c.args.area.now in
     let found = ap (option_map seen) (sym c.in-Some.is) ∙ c.in_ok-found.ensures.leaf in
-    let leaf = c.in-Some.leaf in
-    let size = c.record_size_of-size.result in
-    let is = subst (λ (x : List ℕ). (at : ℕ) → record_bytes x at ≡ size → c.in_ok-bytes.bytes.items ≡ record_in (plain_bytes x at (seen leaf)) size (c.args.rec - leaf.first)) c.find_stored.ensures.area.image c.in_ok-bytes.ensures.value in
-    whole c.requires.good c.requires.form c.args.rec leaf found size c.record_size_of-size.ensures c.in_ok-bytes.bytes.items is
+    whole c.requires.good c.requires.form c.args.rec c.in-Some.leaf found _ c.record_size_of-size.ensures _ (rw c.find_stored.ensures.area.image at c.in_ok-bytes.ensures.value)
 
 pub returns-clause-record : goal.returns-clause-record
 returns-clause-record g c =
-    let b = g.A.Area.image c.args.area.now in
     let found = ap (option_map seen) (sym c.in-Some.is) ∙ c.in_ok-found.ensures.leaf in
-    let leaf = c.in-Some.leaf in
-    let size = c.record_size_of-size.result in
-    let is = subst (λ (x : List ℕ). (at : ℕ) → record_bytes x at ≡ size → c.in_ok-bytes.bytes.items ≡ record_in (plain_bytes x at (seen leaf)) size (c.args.rec - leaf.first)) c.find_stored.ensures.area.image c.in_ok-bytes.ensures.value in
-    leaf_has c.requires.good c.requires.form c.args.rec leaf found size c.record_size_of-size.ensures c.in_ok-bytes.bytes.items is _ c.in_network_order.ensures
+    leaf_has c.requires.good c.requires.form c.args.rec c.in-Some.leaf found _ c.record_size_of-size.ensures _ (rw c.find_stored.ensures.area.image at c.in_ok-bytes.ensures.value) _ c.in_network_order.ensures
