@@ -1,8 +1,8 @@
 -- A leaf is added while records are put: the blocks of the variable, which leaves were put by then, which ranges are new, the top chain and the nodes.
-use Rattle.cdf_puts.proofs.Common.{Nodes, fold-append, Act, Ascending, BlockRecords, BlocksSoFar, Bool, Good, In, InOrder, IndexSoFar, IsBlockBody, IsOneOf, IsVacant, Kind, Leaf, LeafAdded, List, NewBlock, NodeTaken, NodesSoFar, None, PutsBefore, Range, Same, SoFar, Some, StandsAmong, TopGrows, VariableShape, [], ap, apart, arith, before_limit, behind_in, block_behind, block_need, bytes_eq, bytes_eq-same, cases_lt, count_is, covers, drop, extent, false, filled, filter, find, find_covering, first_written, firsts_of, has, if◌then◌else◌, in_order, index_order, indexes_with, inl, inr, is_in, is_in-true, is_taken_at, last_node, last_or, leaf, leaf_acts, leaves_ascend, leaves_more, leaves_of, length, list_any, lt-ltb, max_rec_at, min, nat_tests, new_range, new_ranges, new_room, nodes_of, number, of_each, outline, own_rules, place_in, plain_bytes, plain_piece, range, ranges_of, record_alike, record_bytes, record_number_limit, records_of_leaf, refl, room, same_Some, shape, size_at, sound, subst, suc, sym, take, taken_places, tile_lies, top_chain, true, true≢false, uir_type, unwrap_or, uses_entry, variable_of, vdr_alike, vdr_vxr_tail, vvr_type, was_put, with_leaf, with_new, with_ranges, zero, ℕ, ◌*◌, ◌++◌, ◌+◌, ◌-◌, ◌<◌, ◌||◌, ◌∙◌, ◌∷◌, ◌≡◌, ◌≤◌, ◌⊎◌, or_right, or_from, or_left}
+use Rattle.cdf_puts.proofs.Common.{Nodes, fold-append, Act, Ascending, BlockRecords, BlocksSoFar, Bool, Good, In, InOrder, IndexSoFar, IsBlockBody, IsOneOf, IsVacant, Kind, Leaf, LeafAdded, List, NewBlock, NodeTaken, NodesSoFar, None, PutsBefore, Range, Same, SoFar, Some, StandsAmong, TopGrows, VariableShape, [], ap, apart, arith, before_limit, behind_in, block_behind, block_need, bytes_eq, bytes_eq-same, cases_lt, count_is, covers, drop, extent, false, filled, filter, find, find_covering, first_written, firsts_of, has, if◌then◌else◌, in_order, index_order, indexes_with, inl, inr, is_in, is_in-true, is_taken_at, last_node, last_or, leaf, leaf_acts, leaves_ascend, leaves_more, leaves_of, length, list_any, lt-ltb, max_rec_at, min, nat_tests, new_range, new_ranges, new_room, nodes_of, number, of_each, outline, own_rules, place_in, plain_bytes, plain_piece, range, ranges_of, record_alike, record_bytes, record_number_limit, records_of_leaf, refl, room, same_Some, shape, size_at, sound, subst, suc, sym, take, taken_places, tile_lies, top_chain, true, true≢false, uir_type, unwrap_or, uses_entry, variable_of, vdr_alike, vdr_vxr_tail, vvr_type, was_put, with_leaf, with_new, with_ranges, zero, ℕ, ◌*◌, ◌++◌, ◌+◌, ◌-◌, ◌<◌, ◌||◌, ◌∙◌, ◌∷◌, ◌≡◌, ◌≤◌, ◌⊎◌, or_right, or_from, or_left, node_behind}
 use Rattle.cdf_puts.proofs.CoveringRanges.{one_alone, of_leaves}
 use Rattle.cdf_puts.proofs.LeafCounts.{leaf_is_there, leaf_was_there}
-use Rattle.cdf_puts.proofs.LeafEdit.{file, new_index, used_apart, node_in, node_taken, nodes_step}
+use Rattle.cdf_puts.proofs.LeafEdit.{file, new_index, used_apart, node_taken, nodes_step}
 use Rattle.cdf_index.proofs.NewIndex.{index_edit}
 use Rattle.cdf_puts.proofs.LeafEdit.{blocks_go_on}
 use Rattle.cdf_puts.proofs.PutBytes.{beside_one, blocks_then, now_whole, size_now}
@@ -169,7 +169,7 @@ module _ {b now now' : List ℕ} {kind : Kind} {before : List VariableShape} {ow
   outside = outside_zero (taken_places (acts ++ step)) at (elim (cases_lt 0 (new_room k own'.index)) [ inl some ↦ inl (taken_both acts step at ∙ or_right _ _ (node_taken place (8 + length body) (new_room k own'.index) at some)) | inr none ↦ inr (no_node_zero w.filled w.roomy (new_room k own'.index) at w.node (omega arith)) ])
 
   lies : (m : ℕ) → In m (nodes_of own'.index) → 8 ≤ m
-  lies m i = (tile_lies now 8 (length now) (shape now).records m (sound so.goes.good so.goes.among).has_shape.tiled (node_in so.goes.good so.goes.among w m i)).low
+  lies m i = (tile_lies now 8 (length now) (shape now).records m (sound so.goes.good so.goes.among).has_shape.tiled (behind_in so.goes.good so.goes.among m (node_behind own' m i))).low
 
   nodes_added : NodesSoFar b now' own own'' (rs ++ range k last ∷ []) (acts ++ step)
   nodes_added = record {

@@ -8,7 +8,7 @@ use Rattle.cdf_puts.proofs.LeafCounts.{new_room_widest}
 use Rattle.cdf_puts.proofs.IndexWritten.{blocks_written, index_written, max_rec_kept, r_max_rec_stays, writes}
 use Rattle.cdf_puts.proofs.PutRoom.{taken_sum, takes_both, leaf_bytes, longer_by}
 use Rattle.cdf_puts.proofs.SoFarStarts.{starts_upto, index_start, blocks_start}
-use Rattle.cdf_leaves.proofs.Own.{among_all, searchable}
+use Rattle.cdf_leaves.proofs.Own.{among_all, own_order, searchable}
 use Rattle.cdf_puts.proofs.PutBytes.{found_covering, size_now, whole}
 use Rattle.cdf_base.specs.Bytes.{put as put_at}
 use Rattle.cdf_format.specs.Index.{Leaf as TreeLeaf}
@@ -58,7 +58,7 @@ module _ {b : List ℕ} {kind : Kind} {before : List VariableShape} {own : Varia
     start = start;
     upto = let l = starts_upto start in omega arith;
     goes = goes_written start.good start.among (writes_nothing start.good start.among) start.short;
-    covers = covering_starts (variable_of b own) own.index r (ap is_sparse start.no_rule) (index_order b (shape b).records own.vdr own.index (own_rules start.good start.among).1);
+    covers = covering_starts (variable_of b own) own.index r (ap is_sparse start.no_rule) (own_order start.good start.among);
     takes = tt;
     short = start.short;
     max_rec_is = refl;
