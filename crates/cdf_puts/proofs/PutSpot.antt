@@ -116,11 +116,8 @@ module _ {b : List ℕ} {kind : Kind} {before : List VariableShape} {own : Varia
 
 -- ---- how many records a new block has
 
-count_few : (v : Variable) → block_count v ≤ 1048576
-count_few v = elim (either v.vary) [ inl t ↦ rw t (let q = div-le_self 1048576 (record_length v) in omega arith) | inr t ↦ rw t (omega arith) ]
-
 most_within : (v : Variable) (r : ℕ) → (1 ≤ most_in_block v r) × (most_in_block v r ≤ 1048576)
-most_within v r = (grind (arith, nat_tests, one_at_least v), grind (arith, nat_tests, count_few v))
+most_within v r = (grind (arith, nat_tests, one_at_least v), grind (arith, nat_tests, div-le_self 1048576 (record_length v)))
 
 -- up to MaxRec it is one record, which is the one that is put
 last_as : (v : Variable) (index : Nodes) (k r most : ℕ) → is_sparse v.sparse ≡ false → most ≡ most_in_block v r → first_written v r ≤ k → k ≤ r → k < next_first k (firsts_of index) → last_in_new most index k ≡ new_last v index k
