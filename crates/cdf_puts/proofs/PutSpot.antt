@@ -39,9 +39,8 @@ module _ (raw pad : List ℕ) (r size : ℕ) (raw_long : length raw ≡ size) (p
             let long = records_long count k in
             ap (take size) (drop-append-le ((j - k) * size) rest last (omega arith)) ∙ take-append-le size (drop ((j - k) * size) rest) last (omega (arith, length-drop ((j - k) * size) rest)) ∙ record_there count k j from lt
         | inr ge ↦
-            let same : j ≡ k + count = omega arith in
             let all : j - k ≡ count = omega arith in
-            ap (take size) (drop_at rest last ((j - k) * size) (records_long count k ∙ ap (λ (n : ℕ). n * size) (sym all))) ∙ take_all size last (omega (arith, record_long (k + count))) ∙ ap (record_put raw pad r) (sym same)
+            grind (arith, all, ge, upto, drop_at rest last (count * size) (records_long count k), take_all size last (omega (arith, record_long (k + count))))
       ]
 
   pub block_records : (k last : ℕ) → BlockRecords raw pad r k last size (records_put raw pad r (last + 1 - k) k)
