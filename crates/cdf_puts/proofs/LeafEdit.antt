@@ -283,10 +283,7 @@ module _ {b now : List ℕ} {kind : Kind} {before : List VariableShape} {own : V
           let whole : length body ≡ 4 + (length body - 4) = omega (arith, body_long body records says) in
           let rest = take-take (length records) (length body - 4) (drop 4 (drop (new.place + 8) now)) (omega (arith, body_long body records says)) in
           grind (arith, whole, rest, drop-take 4 (length body - 4) (drop (new.place + 8) now), drop-drop 4 (new.place + 8) now, body_now, says.records_are);
-      spare = λ i l lt.
-          let e = block_size in
-          let behind : new.place + i ≡ new.place + 8 + (i - 8) = omega arith in
-          grind (arith, behind, get_or-drop (new.place + 8) now (i - 8) 0, get_or-take (length body) (drop (new.place + 8) now) (i - 8) 0 (omega arith), body_now, says.spare (i - 8) (omega arith) (omega arith));
+      spare = λ i l lt. grind (arith, l, lt, get_or-drop (new.place + 8) now (i - 8) 0, get_or-take (length body) (drop (new.place + 8) now) (i - 8) 0 (omega (arith, block_size)), body_now, says.spare (i - 8) (omega arith) (omega (arith, block_size)));
     }
 
     module _ (vacant : IsVacant own new.first new.last) (as_long : length records ≡ (new.last + 1 - new.first) * record_bytes b own.vdr) (short : length now ≤ image_limit) where

@@ -95,8 +95,7 @@ module _ {b : List ℕ} {kind : Kind} {before : List VariableShape} {own : Varia
         let new = leaf k last place false in
         let step = leaf_acts place (8 + length body) (new_room k own'.index) at in
         let goes : GoesOn now now' kind before own' (record own' { index = with_leaf new at own'.index }) after step = leaf_goes_on good among w holds vacant (says.as_long ∙ ap (λ (n : ℕ). (last + 1 - k) * n) (sym (later_size so.start.good so.start.among so.goes))) short in
-        let need : 8 + length body ≡ block_bytes v k last = body_long body records holds ∙ ap (λ (n : ℕ). max 28 (12 + n)) says.as_long in
-        let bytes : taken_bytes (acts ++ step) ≡ taken_bytes acts + block_bytes v k last + node_bytes k own'.index = omega (arith, taken_sum acts step, leaf_bytes place (8 + length body) (new_room k own'.index) at) in
+        let bytes : taken_bytes (acts ++ step) ≡ taken_bytes acts + block_bytes v k last + node_bytes k own'.index = omega (arith, taken_sum acts step, leaf_bytes place (8 + length body) (new_room k own'.index) at, body_long body records holds, says.as_long) in
         let covers : Covering v own.index (with_leaf new at own'.index) r (min (last + 1) (r + 1)) (taken_bytes acts + block_bytes v k last + node_bytes k own'.index) =
         subst (λ (x : ℕ). Covering v own.index (with_leaf (leaf k x place false) at own'.index) r (min (x + 1) (r + 1)) (taken_bytes acts + block_bytes v k x + node_bytes k own'.index)) (sym is)
         (covering_leaf so.covers so.start.small more (ap is_sparse so.start.no_rule) so.start.loose vacant.uncovered place at (new_room_widest now (shape now).records 8 k own'.index (has good among).indexed.has_nodes (fits good among).1)) in
