@@ -207,13 +207,10 @@ module _ {b now : List ℕ} {kind : Kind} {before : List VariableShape} {own : V
         ends_at : end ≡ new_last (variable_of b own) own'.index k
         ends_at = rw (at_is, searched.1) at end_is ∙ last_is
 
-        need : 8 + length body ≡ block_bytes (variable_of b own) k (new_last (variable_of b own) own'.index k)
-        need =
-            body_long body (records_put new.raw.items new.pad.items new.rec (end + 1 - k) k) says
-            ∙ ap (λ (n : ℕ). max 28 (12 + n)) (records_long new.raw.items new.pad.items new.rec (record_bytes b own.vdr) p.start.raw_long p.pad_long (end + 1 - k) k ∙ ap (λ (n : ℕ). (n + 1 - k) * (record_bytes b own.vdr)) ends_at)
-
         room_here : length now + (8 + length body) + vxr_bytes (widest own'.index) ≤ limit
-        room_here = omega (arith, longer_by b now is.acts so.goes.follow so.takes, need, covering_room so.covers so.start.small more (ap is_sparse so.start.no_rule) so.start.loose none)
+        room_here =
+            let bytes = records_long new.raw.items new.pad.items new.rec (record_bytes b own.vdr) p.start.raw_long p.pad_long (end + 1 - k) k ∙ ap (λ (n : ℕ). (n + 1 - k) * record_bytes b own.vdr) ends_at in
+            omega (arith, longer_by b now is.acts so.goes.follow so.takes, body_long body (records_put new.raw.items new.pad.items new.rec (end + 1 - k) k) says, bytes, covering_room so.covers so.start.small more (ap is_sparse so.start.no_rule) so.start.loose none)
 
         -- an image that is read in between
         pub room_after : {mid : List ℕ} {bound : ℕ} → mid ≡ now → bound ≡ limit → length mid + (8 + length body) + vxr_bytes (widest (index_at mid (number mid new.vdr vdr_vxr_head))) ≤ bound
