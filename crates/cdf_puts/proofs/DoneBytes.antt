@@ -1,5 +1,5 @@
 -- All records are put: the index, what was taken for it and the bytes of the blocks are as the command says, and what is stored as each record. The image follows the command.
-use Rattle.cdf_puts.proofs.Common.{Act, AllKeep, Allowance, Allowances, Ascending, Beside, BlockFollows, BlocksSoFar, Bool, Changed, CutsFirst, DataSet, Found, GoesOn, HoldsPads, In, In-append, IsOneOf, Keeps, Kind, Leaf, List, MaxRecDone, NewBlock, None, OneVariable, Only, Option, Outside, Outside-append, PlainLeaf, PutsBytes, PutsIndex, PutsLeaves, PutsRecord, Range, SoFar, Some, SpareIs, Sparse, StaysUnwritten, Unused, Variable, VariableShape, [], anything_if, ap, apart, append-nil, arith, behind_in, behind_kept, block_behind, block_end, both, bytes_eq, bytes_eq-same, cases_lt, content, content_is, count_is, covered, covers, cut_open, drop, drop-drop, drop_all, each, each_of, either, eq-eqb, eq_of, eqb-true, extent, false, false-is_in, file, filled, filter, filter-says, find, find_covering, first_written, fits, greater, has, if◌then◌else◌, inl, inr, is_changed, is_in, is_little, is_rewritten, is_sparse, is_taken, is_taken_at, is_written, keep_all, keep_attributes, keep_file, keep_kinds, keep_places, keep_variable_parts, keep_variables, keeps_stood, kept, last_node, leaf, leaf_at, leaves_ascend, leaves_of, length, length-take, list_any, map, max, max_rec_at, max_rec_touches, min, nat_lt, nat_tests, ne_eqb, nodes_of, not, number, option_map, or_parts, other_kind, owned, pad_record, past, place_in, places_of, plain_bytes, plain_piece, put_changes, put_count, put_fields, put_room, r_max_rec, r_max_rec_field, range, range_at, ranges_before_put, ranges_of, record_bytes, record_number_limit, record_of, record_place, records_in, records_of_leaf, refl, repeat, room, room_of_variable, same_Some, same_as_itself, same_of_bytes_eq, shape, shapes_of, shared, slice_get, sound, space_before, stays_alike, stays_all, stored_bytes, stored_in, subst, suc, sym, take, take-append-drop, taken_bytes, times_le, top_chain, top_stays, touch, touched_field, transport, true, true-is_in, true≢false, turned, type_alike, type_at, type_of_variable, typed, uir_type, uncovered, unused_allowance, unused_in, unused_records, upto, variable_named, variable_of, variable_records, variables, vdr_max_rec, vdr_vxr_tail, vvr_place, was_leaf, with_record, with_variable, written_in, zero, ℕ, ◌&&◌, ◌*◌, ◌++◌, ◌+◌, ◌-◌, ◌<◌, ◌==◌, ◌∙◌, ◌∷◌, ◌≡◌, ◌≤◌, ◌⊎◌}
+use Rattle.cdf_puts.proofs.Common.{Act, AllKeep, Allowance, Allowances, Ascending, Beside, BlockFollows, BlocksSoFar, Bool, Changed, CutsFirst, DataSet, Found, GoesOn, HoldsPads, In, In-append, IsOneOf, Keeps, Kind, Leaf, List, MaxRecDone, NewBlock, None, OneVariable, Only, Option, Outside, Outside-append, PlainLeaf, PutsBytes, PutsIndex, PutsLeaves, PutsRecord, Range, SoFar, Some, SpareIs, Sparse, StaysUnwritten, Unused, Variable, VariableShape, [], anything_if, ap, append-nil, arith, behind_in, behind_kept, block_behind, block_end, both, bytes_eq, bytes_eq-same, cases_lt, content, count_is, covers, cut_open, drop, drop-drop, drop_all, each_of, either, eq-eqb, eq_of, eqb-true, extent, false, false-is_in, filled, filter, filter-says, find, find_covering, first_written, greater, if◌then◌else◌, inl, inr, is_changed, is_in, is_little, is_rewritten, is_sparse, is_taken, is_taken_at, is_written, keep_all, keep_attributes, keep_file, keep_kinds, keep_places, keep_variable_parts, keep_variables, keeps_stood, last_node, leaf_at, leaves_ascend, leaves_of, leb-false, length, length-take, list_any, map, max, max_rec_at, max_rec_touches, min, nat_lt, ne_eqb, nodes_of, not, number, option_map, or_parts, other_kind, owned, pad_record, past, place_in, places_of, plain_bytes, plain_piece, put_changes, put_count, put_fields, put_room, r_max_rec_field, range, range_at, ranges_before_put, ranges_of, record_bytes, record_number_limit, record_of, record_place, records_in, records_of_leaf, refl, repeat, room, room_of_variable, same_Some, same_as_itself, same_of_bytes_eq, shape, shapes_of, shared, slice_get, sound, space_before, stays_alike, stays_all, stored_bytes, stored_in, subst, suc, sym, take, take-append-drop, taken_bytes, times_le, top_chain, top_stays, touch, touched_field, transport, true, true-is_in, true≢false, turned, type_alike, type_at, type_of_variable, uir_type, uncovered, unused_allowance, unused_in, unused_records, variable_named, variable_of, variable_records, vdr_max_rec, vdr_vxr_tail, vvr_place, was_leaf, with_record, with_variable, written_in, zero, ℕ, ◌&&◌, ◌*◌, ◌++◌, ◌+◌, ◌-◌, ◌<◌, ◌==◌, ◌∙◌, ◌∷◌, ◌≡◌, ◌≤◌, ◌⊎◌}
 use Rattle.cdf_edits.proofs.Edits.RecordsPut.{StoresPut, extent_last, filled_uncut, records_put}
 use Rattle.cdf_model.specs.Numbered.{with_item}
 use Rattle.cdf_puts.specs.Going.{found_in as own_found}
@@ -35,9 +35,6 @@ none_covered k (x ∷ more) e = grind (arith, e, none_covered k more)
 
 first_of_three : (p q c : Bool) → p ≡ true → (q ≡ true → c ≡ false) → (p && (q && not c)) ≡ q
 first_of_three p q c e none = grind (arith, e, none)
-
-none_there : (n : ℕ) → nat_lt 0 n ≡ false → n ≤ 0
-none_there n e = grind (arith, nat_tests, e)
 
 -- ---- pieces that are all the same
 
@@ -196,7 +193,7 @@ module _ {b now last : List ℕ} {kind : Kind} {before : List VariableShape} {ow
   block_keeps l i = elim (either (is_rewritten v r (range l.first l.last))) [
     | inl t ↦ rw t tt
     | inr t ↦
-        let none : put_count first (r + 1) l ≤ 0 = none_there (put_count first (r + 1) l) (or_parts (nat_lt 0 (put_count first (r + 1) l)) _ t).0 in
+        let none = leb-false 1 (put_count first (r + 1) l) (or_parts (nat_lt 0 (put_count first (r + 1) l)) _ t).0 in
         let o = all.old l i in
         let w = whole so.start.good so.start.among l i in
         rw t (record { stands = behind_in put.good put.among l.place (block_behind own' l.place (place_in leaves l (all.stay l i))); size_is = old_size o (omega (arith, w.leaf.room)); same = λ n lt out. o.kept (l.place + n) (omega arith) (omega arith) (λ j from upto f t'. absurd (omega arith)) })
