@@ -80,8 +80,7 @@ module _ {b now : List ℕ} {kind : Kind} {before : List VariableShape} {own : V
 -- records are written where they stand
 pub goes_written : {b now : List ℕ} {kind : Kind} {before : List VariableShape} {own : VariableShape} {after : List VariableShape} {ts : List Touch} (good : Good b) (at : StandsAmong b kind before own after) → WritesRecords b now kind own ts → length b ≤ image_limit → GoesOn b now kind before own own after []
 goes_written {b = b} {now = now} {kind = kind} {own = own} good at w short =
-    let x : IndexEdit b now kind own own.index (shape b).records (shape b).unused (marks good at w) [] = index_edit good at w in
-    goes_by good at x (good_now good at w short) (no_acts_follow good at w) (gdr_keeps good at w)
+    goes_by good at (index_edit good at w) (good_now good at w short) (no_acts_follow good at w) (gdr_keeps good at w)
     (λ m i free.
     let ok = (good_is_sound b good).has_shape.unused_chain.linkable m i in
     keeps_stood b now m (unused_stands good at w m (linkable-in b (shape b).records uir_type m ok) (linkable-type b (shape b).records uir_type m ok)) (Only links))
@@ -140,25 +139,22 @@ module _ {b mid now : List ℕ} {kind : Kind} {before : List VariableShape} {own
       ]
 
   pub goes_then : GoesOn b now kind before own own'' after (acts ++ acts')
-  goes_then =
-      let attributes = sym first.attributes_are in
-      let others = sym first.others_are in
-      record {
-        good = second.good;
-        among = second.among;
-        vdr_is = second.vdr_is ∙ first.vdr_is;
-        gdr_is = second.gdr_is ∙ first.gdr_is;
-        attributes_are = second.attributes_are ∙ first.attributes_are;
-        others_are = second.others_are ∙ first.others_are;
-        file = let f = first.file in let g = second.file in record { longer = omega arith; gdr_is = g.gdr_is ∙ f.gdr_is; little = g.little ∙ f.little; dimensions = g.dimensions ∙ f.dimensions; sizes = g.sizes ∙ f.sizes };
-        content_is = second.content_is ∙ ap (λ (d : DataSet). with_set d kind (length before) (variable_of now own'')) first.content_is ∙ with_twice (content b) kind (length before) (variable_of mid own') (variable_of now own'');
-        follow = acts_joined h h' first.follow second.follow takes takes' first.listed second.listed;
-        gdr = twice (shape b).gdr (r_max_rec_field kind ++ space_fields) first.gdr (subst (λ (m : ℕ). Stays mid now m (r_max_rec_field kind ++ space_fields)) first.gdr_is second.gdr);
-        descriptor = twice own.vdr put_fields first.descriptor (subst (λ (m : ℕ). Stays mid now m put_fields) first.vdr_is second.descriptor);
-        stay = λ m i.
-            let x = first.stay m i in
-            let y = second.stay m (transport (λ k. IsOther (attributes k) before after (others k) m) i) in
-            record { stands = y.stands; whole = kept_then b mid now m x.whole y.whole };
-        listed = listed_then;
-        loose = loose_then;
-      }
+  goes_then = record {
+    good = second.good;
+    among = second.among;
+    vdr_is = second.vdr_is ∙ first.vdr_is;
+    gdr_is = second.gdr_is ∙ first.gdr_is;
+    attributes_are = second.attributes_are ∙ first.attributes_are;
+    others_are = second.others_are ∙ first.others_are;
+    file = let f = first.file in let g = second.file in record { longer = omega arith; gdr_is = g.gdr_is ∙ f.gdr_is; little = g.little ∙ f.little; dimensions = g.dimensions ∙ f.dimensions; sizes = g.sizes ∙ f.sizes };
+    content_is = second.content_is ∙ ap (λ (d : DataSet). with_set d kind (length before) (variable_of now own'')) first.content_is ∙ with_twice (content b) kind (length before) (variable_of mid own') (variable_of now own'');
+    follow = acts_joined h h' first.follow second.follow takes takes' first.listed second.listed;
+    gdr = twice (shape b).gdr (r_max_rec_field kind ++ space_fields) first.gdr (subst (λ (m : ℕ). Stays mid now m (r_max_rec_field kind ++ space_fields)) first.gdr_is second.gdr);
+    descriptor = twice own.vdr put_fields first.descriptor (subst (λ (m : ℕ). Stays mid now m put_fields) first.vdr_is second.descriptor);
+    stay = λ m i.
+        let x = first.stay m i in
+        let y = second.stay m (transport (λ k. IsOther ((sym first.attributes_are) k) before after ((sym first.others_are) k) m) i) in
+        record { stands = y.stands; whole = kept_then b mid now m x.whole y.whole };
+    listed = listed_then;
+    loose = loose_then;
+  }

@@ -88,12 +88,6 @@ module _ {b now now' : List ℕ} {kind : Kind} {before : List VariableShape} {ow
   size_after : record_bytes now' own'.vdr ≡ record_bytes b own.vdr
   size_after = record_alike (file so.goes.good so.goes.among w) (vdr_alike so.goes.good so.goes.among (index_edit so.goes.good so.goes.among (new_index so.goes.good so.goes.among w))) ∙ size_now so
 
-  leaf_apart : (l : Leaf) → IsOneOf leaves l → is_taken_at step l.place ≡ false
-  leaf_apart l i = used_apart so.goes.good so.goes.among w l.place (behind_in so.goes.good so.goes.among l.place (block_behind own' l.place (place_in leaves l i))) (λ e. absurd (apart vvr_type uir_type refl (sym (now_whole so l i).leaf.typed ∙ e)))
-
-  new_taken : is_taken_at step place ≡ true
-  new_taken = is_in-true place (taken_places step) (inl refl)
-
   plain_is : plain_bytes now' own'.vdr new ≡ records
   plain_is = ap (λ (n : ℕ). take n (drop (place + 12) now')) ((λ i. (count_is new small vacant.ordered) i * size_after i) ∙ sym says.as_long) ∙ (blocks_go_on so.goes.good so.goes.among w holds).records_are
 
@@ -102,7 +96,7 @@ module _ {b now now' : List ℕ} {kind : Kind} {before : List VariableShape} {ow
     from = omega arith;
     ends = omega arith;
     alone = elim (cases_lt r (extent (max_rec_at b own.vdr))) [ inl lt ↦ let e = is ∙ one_alone (variable_of b own) (firsts_of own'.index) k (lt-ltb k (extent (max_rec_at b own.vdr)) (omega arith)) in omega arith | inr le ↦ omega arith ];
-    was_taken = new_taken;
+    was_taken = is_in-true place (taken_places step) (inl refl);
     written = λ j f t. sym (plain_piece now' own'.vdr (record_bytes b own.vdr) j new refl small size_after f t) ∙ ap (λ (xs : List ℕ). take (record_bytes b own.vdr) (drop ((j - k) * (record_bytes b own.vdr)) xs)) plain_is ∙ says.written j f t;
     spare = λ i low high. (blocks_go_on so.goes.good so.goes.among w holds).spare i (subst (λ (n : ℕ). 12 + n ≤ i) (sym says.as_long) low) high;
   }
@@ -111,7 +105,7 @@ module _ {b now now' : List ℕ} {kind : Kind} {before : List VariableShape} {ow
   blocks_added = blocks_then so (omega (arith, vacant.ordered)) (omega arith) refl (record {
     longer = (file so.goes.good so.goes.among w).longer;
     stay = in_new;
-    apart = leaf_apart;
+    apart = λ l i. used_apart so.goes.good so.goes.among w l.place (behind_in so.goes.good so.goes.among l.place (block_behind own' l.place (place_in leaves l i))) (λ e. absurd (apart vvr_type uir_type refl (sym (now_whole so l i).leaf.typed ∙ e)));
     old = λ l i.
         let side = beside_new l i in
         let same = of_each (λ (l : Leaf). Same now now' l.place (l.place + size_at now l.place)) leaves l (blocks_go_on so.goes.good so.goes.among w holds).old i in
@@ -121,7 +115,7 @@ module _ {b now now' : List ℕ} {kind : Kind} {before : List VariableShape} {ow
       | inr j ↦ inl j
     ];
     has = λ j from low. (new, (new_in, (from, omega arith)));
-    quiet = λ none. absurd (true≢false (sym new_taken ∙ none place));
+    quiet = λ none. absurd (true≢false (sym new_block.was_taken ∙ none place));
   })
 
   -- ---- the index
