@@ -1,7 +1,7 @@
 -- A leaf is added while records are put: the blocks of the variable, which leaves were put by then, which ranges are new, the top chain and the nodes.
 use Rattle.cdf_puts.proofs.Common.{Nodes, fold-append, Act, Ascending, BlockRecords, BlocksSoFar, Bool, Good, In, InOrder, IndexSoFar, IsBlockBody, IsOneOf, IsVacant, Kind, Leaf, LeafAdded, List, NewBlock, NodeTaken, NodesSoFar, None, PutsBefore, Range, Same, SoFar, Some, StandsAmong, TopGrows, VariableShape, [], ap, apart, arith, before_limit, behind_in, block_behind, block_need, bytes_eq, bytes_eq-same, cases_lt, count_is, covers, drop, extent, false, filled, filter, find, find_covering, first_written, firsts_of, has, if◌then◌else◌, in_order, index_order, indexes_with, inl, inr, is_in, is_in-true, is_taken_at, last_node, last_or, leaf, leaf_acts, leaves_ascend, leaves_more, leaves_of, length, list_any, lt-ltb, max_rec_at, min, nat_tests, new_range, new_ranges, new_room, nodes_of, number, of_each, outline, own_rules, place_in, plain_bytes, plain_piece, range, ranges_of, record_alike, record_bytes, record_number_limit, records_of_leaf, refl, room, same_Some, shape, size_at, sound, subst, suc, sym, take, taken_places, tile_lies, top_chain, true, true≢false, uir_type, unwrap_or, uses_entry, variable_of, vdr_alike, vdr_vxr_tail, vvr_type, was_put, with_leaf, with_new, with_ranges, zero, ℕ, ◌*◌, ◌++◌, ◌+◌, ◌-◌, ◌<◌, ◌||◌, ◌∙◌, ◌∷◌, ◌≡◌, ◌≤◌, ◌⊎◌, or_right, or_from, or_left, node_behind}
 use Rattle.cdf_puts.proofs.CoveringRanges.{one_alone, of_leaves}
-use Rattle.cdf_puts.proofs.LeafCounts.{leaf_is_there, leaf_was_there}
+use Rattle.cdf_puts.proofs.LeafCounts.{one_of_leaves}
 use Rattle.cdf_puts.proofs.LeafEdit.{file, new_index, used_apart, node_taken, nodes_step}
 use Rattle.cdf_index.proofs.NewIndex.{index_edit}
 use Rattle.cdf_puts.proofs.LeafEdit.{blocks_go_on}
@@ -68,10 +68,10 @@ module _ {b now now' : List ℕ} {kind : Kind} {before : List VariableShape} {ow
   small = before_limit k last (firsts_of own'.index) vacant.before_next
 
   in_new : (l : Leaf) → IsOneOf leaves l → IsOneOf (leaves_of own''.index) l
-  in_new l i = leaf_is_there new at 0 record_number_limit own'.index order l (inr i)
+  in_new l i = (one_of_leaves new at 0 record_number_limit own'.index order l).1 (inr i)
 
   new_in : IsOneOf (leaves_of own''.index) new
-  new_in = leaf_is_there new at 0 record_number_limit own'.index order new (inl refl)
+  new_in = (one_of_leaves new at 0 record_number_limit own'.index order new).1 (inl refl)
 
   found_at : (j : ℕ) (l : Leaf) → IsOneOf (leaves_of own''.index) l → l.first ≤ j → j ≤ l.last → find (λ (leaf : Leaf). covers j (range leaf.first leaf.last)) (leaves_of own''.index) ≡ Some l
   found_at j l i f t = find_covering j 0 (suc record_number_limit) (leaves_of own''.index) (leaves_ascend good' among') l i f t
@@ -110,7 +110,7 @@ module _ {b now now' : List ℕ} {kind : Kind} {before : List VariableShape} {ow
         let side = beside_new l i in
         let same = of_each (λ (l : Leaf). Same now now' l.place (l.place + size_at now l.place)) leaves l (blocks_go_on so.goes.good so.goes.among w holds).old i in
         record { written = λ j from low f t. absurd (omega arith); kept = λ p low high out. same.each p low high };
-    new = λ l i. elim (leaf_was_there new at 0 record_number_limit own'.index order l i) [
+    new = λ l i. elim ((one_of_leaves new at 0 record_number_limit own'.index order l).0 i) [
       | inl q ↦ inr (subst (NewBlock now' raw pad r k (extent (max_rec_at b own.vdr)) upto (record_bytes b own.vdr) step) (sym q) new_block)
       | inr j ↦ inl j
     ];

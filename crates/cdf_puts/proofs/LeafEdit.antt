@@ -3,7 +3,7 @@ use Rattle.cdf_puts.proofs.Common.{same_node, acts_still_by, is_block, nodes_row
 use Rattle.cdf_edits.proofs.Edits.MadeRecord.{place_in as placed_in, filled_size}
 use Rattle.cdf_edits.proofs.Edits.TakenAll.{TakenAll, none_taken, taken_then, taking_all, listed_free, unlisted_away}
 use Rattle.cdf_leaves.proofs.Own.{node_fits, own_node, own_order}
-use Rattle.cdf_puts.proofs.LeafCounts.{room_stays, places_new, leaf_was_there}
+use Rattle.cdf_puts.proofs.LeafCounts.{room_stays, one_of_leaves, places_new}
 use Rattle.cdf_puts.proofs.RaisedGoes.{behind_no_vdr}
 use Rattle.cdf_edits.proofs.Edits.Composing.{part as changed_missed}
 use Rattle.cdf_format.proofs.Pieces.{word_of_piece_lem}
@@ -61,18 +61,16 @@ body_long body records says = let e = says.as_long in omega arith
 mutual
   unfolding nodes_rows used_rows nodes_of lower_nodes
 
-  counts_hold : (b records : List ℕ) (low high : ℤ) (nodes : Nodes) → Hold (nodes_rows b records low high nodes) → Each (Counts b) (nodes_of nodes)
-  counts_hold b records low high no_node h = tt
-  counts_hold b records low high (node place room entries more) h =
-      let p = Hold-split (used_rows b records place low high entries) (nodes_rows b records (end_of low entries) high more) h.1 in
-      (grind (arith, nat_tests, h.0), Each-append (Counts b) (lower_nodes entries) (nodes_of more) (counts_below b records place low high entries p.0) (counts_hold b records (end_of low entries) high more p.1))
+  counts_hold : (b records : List ℕ) (low high : ℤ) (nodes : Nodes) → Hold (nodes_rows b records low high nodes) → (m : ℕ) → In m (nodes_of nodes) → Counts b m
+  counts_hold b records low high no_node h m i = absurd i
+  counts_hold b records low high (node place room entries more) h m i =
+      grind (arith, nat_tests, h.0, i, In-append m (lower_nodes entries) (nodes_of more), Hold-split (used_rows b records place low high entries) (nodes_rows b records (end_of low entries) high more) h.1, counts_below b records place low high entries, counts_hold b records (end_of low entries) high more)
 
-  counts_below : (b records : List ℕ) (vxr : ℕ) (low high : ℤ) (entries : Entries) → Hold (used_rows b records vxr low high entries) → Each (Counts b) (lower_nodes entries)
-  counts_below b records vxr low high no_entry h = tt
-  counts_below b records vxr low high (block first last place packed entries) h = counts_below b records vxr (with_sign last) high entries h.1.1
-  counts_below b records vxr low high (lower first last nodes entries) h =
-      let p = Hold-split (nodes_rows b records (number_before first) (with_sign last) nodes) (used_rows b records vxr (with_sign last) high entries) h.1 in
-      Each-append (Counts b) (nodes_of nodes) (lower_nodes entries) (counts_hold b records (number_before first) (with_sign last) nodes p.0) (counts_below b records vxr (with_sign last) high entries p.1)
+  counts_below : (b records : List ℕ) (vxr : ℕ) (low high : ℤ) (entries : Entries) → Hold (used_rows b records vxr low high entries) → (m : ℕ) → In m (lower_nodes entries) → Counts b m
+  counts_below b records vxr low high no_entry h m i = absurd i
+  counts_below b records vxr low high (block first last place packed entries) h m i = counts_below b records vxr (with_sign last) high entries h.1.1 m i
+  counts_below b records vxr low high (lower first last nodes entries) h m i =
+      grind (arith, i, In-append m (nodes_of nodes) (lower_nodes entries), Hold-split (nodes_rows b records (number_before first) (with_sign last) nodes) (used_rows b records vxr (with_sign last) high entries) h.1, counts_hold b records (number_before first) (with_sign last) nodes, counts_below b records vxr (with_sign last) high entries)
 
 -- ---- the edit
 
@@ -297,7 +295,7 @@ module _ {b now : List ℕ} {kind : Kind} {before : List VariableShape} {own : V
           rw (there, typed, count, size) (refl, (of_le (12 + (l.last + 1 - l.first) * record_bytes b own.vdr) (size_at now l.place) fit, tt))
 
       each_leaf : (l : Leaf) → IsOneOf (leaves_of (with_leaf new at own.index)) l → (is_block now records' l.place ≡ true) × Hold (leaf_rows now records' own.vdr l)
-      each_leaf l i = elim (leaf_was_there new at 0 record_number_limit own.index (own_order good among) l i) [
+      each_leaf l i = elim ((one_of_leaves new at 0 record_number_limit own.index (own_order good among) l).0 i) [
         | inl q ↦
             let long : 12 + (new.last + 1 - new.first) * record_bytes b own.vdr ≤ size_at now new.place = rw (block_size, body_long body records says, as_long) (omega arith) in
             subst (λ (x : Leaf). (is_block now records' x.place ≡ true) × Hold (leaf_rows now records' own.vdr x)) (sym q) (block_rows new (taken_used new.place (inl refl)).0 block_typed vacant.ordered (before_limit new.first new.last (firsts_of own.index) vacant.before_next) long)
@@ -311,7 +309,7 @@ module _ {b now : List ℕ} {kind : Kind} {before : List VariableShape} {own : V
       index_ruled : Hold (index_rows now records' own.vdr (with_leaf new at own.index))
       index_ruled =
           let rules = (own_rules good among).1 in
-          let counts = counts_hold b (shape b).records (negsuc 0) (pos record_number_limit) own.index (Hold-split (nodes_rows b (shape b).records (negsuc 0) (pos record_number_limit) own.index) (flat_map (leaf_rows b (shape b).records own.vdr) (leaves_of own.index)) rules).0 in
+          let counts = each (Counts b) nodes (counts_hold b (shape b).records (negsuc 0) (pos record_number_limit) own.index (Hold-split (nodes_rows b (shape b).records (negsuc 0) (pos record_number_limit) own.index) (flat_map (leaf_rows b (shape b).records own.vdr) (leaves_of own.index)) rules).0) in
           index_rules_with_leaf b now (shape b).records records' own.vdr new at own.index rules vacant.ordered vacant.uncovered vacant.before_next (node_room good among new_index w.fits (w.counts counts) short) each_leaf
 
       -- ---- the owners
