@@ -1,13 +1,13 @@
 -- A leaf is added while records are put: the blocks of the variable, which leaves were put by then, which ranges are new, the top chain and the nodes.
-use Rattle.cdf_puts.proofs.Common.{Act, Ascending, BlockRecords, BlocksSoFar, Bool, Good, In, InOrder, IndexSoFar, IsBlockBody, IsOneOf, IsVacant, Kind, Leaf, LeafAdded, List, NewBlock, NodeTaken, Nodes, NodesSoFar, None, PutsBefore, Range, Same, SoFar, Some, StandsAmong, TopGrows, VariableShape, [], ap, apart, arith, before_limit, behind_in, block_behind, block_need, bytes_eq, bytes_eq-same, cases_lt, count_is, covers, drop, extent, false, filled, filter, find, find_covering, first_written, firsts_of, fold-append, has, if◌then◌else◌, in_order, index_order, indexes_with, inl, inr, is_in, is_in-true, is_taken_at, last_node, last_or, leaf, leaf_acts, leaves_ascend, leaves_more, leaves_of, length, list_any, lt-ltb, max_rec_at, min, nat_tests, new_range, new_ranges, new_room, nodes_of, number, of_each, outline, own_rules, place_in, plain_bytes, plain_piece, range, ranges_of, record_alike, record_bytes, record_number_limit, records_of_leaf, refl, room, same_Some, shape, size_at, sound, subst, suc, sym, take, taken_places, tile_lies, top_chain, true, true≢false, uir_type, unwrap_or, uses_entry, variable_of, vdr_alike, vdr_vxr_tail, vvr_type, was_put, with_leaf, with_new, with_ranges, zero, ℕ, ◌*◌, ◌++◌, ◌+◌, ◌-◌, ◌<◌, ◌||◌, ◌∙◌, ◌∷◌, ◌≡◌, ◌≤◌, ◌⊎◌}
+use Rattle.cdf_puts.proofs.Common.{Act, Ascending, BlockRecords, BlocksSoFar, Bool, Good, In, InOrder, IndexSoFar, IsBlockBody, IsOneOf, IsVacant, Kind, Leaf, LeafAdded, List, NewBlock, NodeTaken, Nodes, NodesSoFar, None, PutsBefore, Range, Same, SoFar, Some, StandsAmong, TopGrows, VariableShape, [], ap, apart, arith, before_limit, behind_in, block_behind, block_need, bytes_eq, bytes_eq-same, cases_lt, count_is, covers, drop, extent, false, filled, filter, find, find_covering, first_written, firsts_of, fold-append, has, if◌then◌else◌, in_order, index_order, indexes_with, inl, inr, is_in, is_in-true, is_taken_at, last_node, last_or, leaf, leaf_acts, leaves_ascend, leaves_more, leaves_of, length, list_any, lt-ltb, max_rec_at, min, nat_tests, new_range, new_ranges, new_room, node_behind, nodes_of, number, of_each, or_from, or_left, or_right, outline, own_rules, place_in, plain_bytes, plain_piece, range, ranges_of, record_alike, record_bytes, record_number_limit, records_of_leaf, refl, room, same_Some, shape, size_at, sound, subst, suc, sym, take, taken_places, tile_lies, top_chain, true, true≢false, uir_type, unwrap_or, uses_entry, variable_of, vdr_alike, vdr_vxr_tail, vvr_type, was_put, with_leaf, with_new, with_ranges, zero, ℕ, ◌*◌, ◌++◌, ◌+◌, ◌-◌, ◌<◌, ◌||◌, ◌∙◌, ◌∷◌, ◌≡◌, ◌≤◌, ◌⊎◌}
 use Rattle.cdf_puts.proofs.CoveringRanges.{one_alone, of_leaves}
 use Rattle.cdf_puts.proofs.LeafCounts.{leaf_is_there, leaf_was_there}
-use Rattle.cdf_puts.proofs.LeafEdit.{file, new_index, used_apart, node_in, node_taken, nodes_step}
+use Rattle.cdf_puts.proofs.LeafEdit.{file, new_index, used_apart, node_taken, nodes_step}
 use Rattle.cdf_index.proofs.NewIndex.{index_edit}
 use Rattle.cdf_puts.proofs.LeafEdit.{blocks_go_on}
 use Rattle.cdf_puts.proofs.PutBytes.{beside_one, blocks_then, now_whole, size_now}
 use Rattle.std.proofs.Math.Bool.{or-false}
-use Rattle.cdf_puts.proofs.PutNodes.{taken_either, taken_neither, NodesStep, nodes_then, taken_both, place_outside, same_with_leaf, same_uses, through_goes, top_grows, bytes_longer}
+use Rattle.cdf_puts.proofs.PutNodes.{NodesStep, nodes_then, taken_both, place_outside, same_with_leaf, same_uses, through_goes, top_grows, bytes_longer}
 use Rattle.cdf_puts.proofs.SoFarStarts.{put_new, ranges_more, none_begins, puts_new, covers_own}
 
 -- ---- the ranges that are new
@@ -160,16 +160,16 @@ module _ {b now now' : List ℕ} {kind : Kind} {before : List VariableShape} {ow
 
   -- a node that is taken stands at a new place, and else none does
   outside : place_outside (taken_places (acts ++ step)) at ≡ 0
-  outside = outside_zero (taken_places (acts ++ step)) at (elim (cases_lt 0 (new_room k own'.index)) [ inl some ↦ inl (taken_either acts step at (inr (node_taken place (8 + length body) (new_room k own'.index) at some))) | inr none ↦ inr (no_node_zero w.filled w.roomy (new_room k own'.index) at w.node (omega arith)) ])
+  outside = outside_zero (taken_places (acts ++ step)) at (elim (cases_lt 0 (new_room k own'.index)) [ inl some ↦ inl (taken_both acts step at ∙ or_right _ _ (node_taken place (8 + length body) (new_room k own'.index) at some)) | inr none ↦ inr (no_node_zero w.filled w.roomy (new_room k own'.index) at w.node (omega arith)) ])
 
   lies : (m : ℕ) → In m (nodes_of own'.index) → 8 ≤ m
-  lies m i = (tile_lies now 8 (length now) (shape now).records m (sound so.goes.good so.goes.among).has_shape.tiled (node_in so.goes.good so.goes.among w m i)).low
+  lies m i = (tile_lies now 8 (length now) (shape now).records m (sound so.goes.good so.goes.among).has_shape.tiled (behind_in so.goes.good so.goes.among m (node_behind own' m i))).low
 
   nodes_added : NodesSoFar b now' own own'' (rs ++ range k last ∷ []) (acts ++ step)
   nodes_added = record {
     stay = λ m i. s.stay m (n.stay m i);
-    apart = λ m i. taken_neither acts step m (n.apart m i) (s.apart m (n.stay m i));
-    come = λ m i. elim (s.come m i) [ inl j ↦ elim (n.come m j) [ inl k ↦ inl k | inr t ↦ inr (taken_either acts step m (inl t)) ] | inr t ↦ inr (taken_either acts step m (inr t)) ];
+    apart = λ m i. taken_both acts step m ∙ or_from _ _ (n.apart m i) (s.apart m (n.stay m i));
+    come = λ m i. elim (s.come m i) [ inl j ↦ elim (n.come m j) [ inl k ↦ inl k | inr t ↦ inr (taken_both acts step m ∙ or_left _ _ t) ] | inr t ↦ inr (taken_both acts step m ∙ or_right _ _ t) ];
     sizes = λ m i. s.sizes m (n.stay m i) ∙ n.sizes m i;
     outlined =
         same_with_leaf (taken_places acts) (taken_places (acts ++ step)) new at own'.index (with_ranges own.index rs) n.outlined (λ m i. taken_both acts step m ∙ ap (λ (p : Bool). is_taken_at acts m || p) (s.apart m i) ∙ or-false (is_taken_at acts m)) outside

@@ -1,9 +1,9 @@
 -- The bytes of the blocks while records are put: two steps are one, and in the last one none is put.
-use Rattle.cdf_puts.proofs.Common.{Act, Ascending, Beside, Changed, Good, IsOneOf, Kind, Leaf, LeavesGoOn, List, NewBlock, OldBlock, PlainLeaf, RecordIs, Same, SoFar, Some, StandsAmong, Touch, VariableShape, [], ap, arith, behind_in, block_behind, cases_lt, covers, covers_within, drop, extent, find, find_covering, first_written, inl, inr, leaves_of, length, long, max_rec_at, min, piece_kept, place_in, plain_leaf, put, range, record_bytes, record_of, record_place, refl, shape, size_at, sound, subst, suc, take, take_at, tile_lies, times_le, upto, variable_of, word_kept, ℕ, ◌*◌, ◌++◌, ◌+◌, ◌-◌, ◌<◌, ◌∙◌, ◌≡◌, ◌≤◌, ◌⊎◌}
+use Rattle.cdf_puts.proofs.Common.{Act, Ascending, Beside, Changed, Good, IsOneOf, Kind, Leaf, LeavesGoOn, List, NewBlock, OldBlock, PlainLeaf, RecordIs, Same, SoFar, Some, StandsAmong, Touch, VariableShape, [], ap, arith, behind_in, block_behind, cases_lt, covers, covers_within, drop, extent, find, find_covering, first_written, inl, inr, leaves_of, length, long, max_rec_at, min, or_from, or_left, or_parts, or_right, piece_kept, place_in, plain_leaf, put, range, record_bytes, record_of, record_place, refl, shape, size_at, sound, subst, suc, sym, take, take_at, tile_lies, times_le, upto, variable_of, word_kept, ℕ, ◌*◌, ◌++◌, ◌+◌, ◌-◌, ◌<◌, ◌∙◌, ◌≡◌, ◌≤◌, ◌⊎◌}
 use Rattle.cdf_edits.proofs.Edits.LeafPieces.{found_in}
 use Rattle.cdf_fields.proofs.Writes.{drop-put_there}
 use Rattle.cdf_puts.proofs.GoesThen.{later_size}
-use Rattle.cdf_puts.proofs.PutNodes.{neither_taken, taken_either, taken_neither}
+use Rattle.cdf_puts.proofs.PutNodes.{taken_both}
 use Rattle.cdf_puts.proofs.PutRules.{loose}
 
 -- a leaf that is not the one of a record ends before it, or begins behind it
@@ -69,7 +69,7 @@ module _ {b mid now : List ℕ} {olds leaves leaves' : List Leaf} {raw pad : Lis
         from = n.from;
         ends = omega (arith, n.ends);
         alone = n.alone;
-        was_taken = taken_either acts acts' l.place (inl n.was_taken);
+        was_taken = taken_both acts acts' l.place ∙ or_left _ _ n.was_taken;
         written = λ j f t. record_stays l i j f t (omega (arith, n.ends)) (n.written j f t);
         spare = λ i' low high. let s = old_size (y.old l i) (omega (arith, w.leaf.room)) in (y.old l i).kept (l.place + i') (omega arith) (omega arith) (behind_all k k' size l (l.place + i') (omega arith)) ∙ n.spare i' low (omega arith);
       }
@@ -78,17 +78,17 @@ module _ {b mid now : List ℕ} {olds leaves leaves' : List Leaf} {raw pad : Lis
   leaves_then = record {
     longer = omega (arith, x.longer, y.longer);
     stay = λ l i. y.stay l (x.stay l i);
-    apart = λ l i. taken_neither acts acts' l.place (x.apart l i) (y.apart l (x.stay l i));
+    apart = λ l i. taken_both acts acts' l.place ∙ or_from _ _ (x.apart l i) (y.apart l (x.stay l i));
     old = λ l i. let j = x.stay l i in record {
       written = λ n from' low f t. elim (cases_lt n k) [ inl lt ↦ record_stays l j n f t (omega arith) ((x.old l i).written n from' lt f t) | inr le ↦ (y.old l j).written n le low f t ];
       kept = λ p low high out. let s = old_size (x.old l i) (omega (arith, (was l i).leaf.room)) in (y.old l j).kept p low (omega arith) (λ n a. out n (omega arith)) ∙ (x.old l i).kept p low high (λ n a c. out n a (omega arith));
     };
     new = λ l i. elim (y.new l i) [
       | inl j ↦ elim (x.new l j) [ inl o ↦ inl o | inr n ↦ inr (new_stays l j n) ]
-      | inr n ↦ inr (record { from = omega (arith, n.from); ends = n.ends; alone = n.alone; was_taken = taken_either acts acts' l.place (inr n.was_taken); written = n.written; spare = n.spare })
+      | inr n ↦ inr (record { from = omega (arith, n.from); ends = n.ends; alone = n.alone; was_taken = taken_both acts acts' l.place ∙ or_right _ _ n.was_taken; written = n.written; spare = n.spare })
     ];
     has = λ j from' low. elim (cases_lt j k) [ inl lt ↦ let h = x.has j from' lt in (h.0, (y.stay h.0 h.1.0, h.1.1)) | inr le ↦ y.has j le low ];
-    quiet = λ none p lt out beside. y.quiet (λ m. (neither_taken acts acts' m (none m)).1) p (omega (arith, x.longer)) out (λ l i n a. beside l i n (omega arith)) ∙ x.quiet (λ m. (neither_taken acts acts' m (none m)).0) p lt tt (λ l i n a c. beside l (y.stay l i) n a (omega arith));
+    quiet = λ none p lt out beside. y.quiet (λ m. (or_parts _ _ (sym (taken_both acts acts' m) ∙ none m)).1) p (omega (arith, x.longer)) out (λ l i n a. beside l i n (omega arith)) ∙ x.quiet (λ m. (or_parts _ _ (sym (taken_both acts acts' m) ∙ none m)).0) p lt tt (λ l i n a c. beside l (y.stay l i) n a (omega arith));
   }
 
 -- no record is put, and no byte of the blocks changes

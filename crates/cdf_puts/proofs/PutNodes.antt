@@ -1,5 +1,5 @@
 -- The nodes of an index that grows leaf by leaf: the index but for where its blocks and its new nodes stand, its top chain, and the unused entries and spare bytes of its nodes.
-use Rattle.cdf_puts.proofs.Common.{same_node, bytes_eq, Act, Bool, Each, Each-in, Entries, EntryIs, Gave, Grows, HasNodes, In, In-append, Kept, Leaf, List, Names, NodeFits, NodeSpareStays, Nodes, NodesFollow, Range, Same, Same-part, SaysEntry, Took, TopGrows, UnusedEntries, [], ap, arith, block, by_leaf, cases_lt, chain_reaches, each, either, entries_outline, entry_count, false, first_at, if◌then◌else◌, indexes_with, inl, inr, is_in, is_in-true, is_taken_at, last_at, leads_down, leaf, length, list_any, lower, lower_nodes, no_entry, no_node, node, nodes_of, offset_at, outline, past, reaches, refl, room_at, same-then, same_of_bytes_eq, size_at, suc, sym, true, true-is_in, upto, used_count, uses_entry, uses_entry_below, was_unused, with_both, with_leaf, with_lower, with_ranges, zero, ℕ, ◌*◌, ◌++◌, ◌+◌, ◌<◌, ◌||◌, ◌∙◌, ◌∷◌, ◌≡◌, ◌≤◌, ◌⊎◌, Each-split, nat_tests}
+use Rattle.cdf_puts.proofs.Common.{same_node, bytes_eq, Act, Bool, Each, Each-in, Entries, EntryIs, Gave, Grows, HasNodes, In, In-append, Kept, Leaf, List, Names, NodeFits, NodeSpareStays, Nodes, NodesFollow, Range, Same, Same-part, SaysEntry, Took, TopGrows, UnusedEntries, [], ap, arith, block, by_leaf, cases_lt, chain_reaches, each, either, entries_outline, entry_count, false, first_at, if◌then◌else◌, indexes_with, inl, inr, is_in, is_in-true, is_taken_at, last_at, leads_down, leaf, length, list_any, lower, lower_nodes, no_entry, no_node, node, nodes_of, offset_at, outline, past, reaches, refl, room_at, same-then, same_of_bytes_eq, size_at, suc, sym, true, true-is_in, upto, used_count, uses_entry, uses_entry_below, was_unused, with_both, with_leaf, with_lower, with_ranges, zero, ℕ, ◌*◌, ◌++◌, ◌+◌, ◌<◌, ◌||◌, ◌∙◌, ◌∷◌, ◌≡◌, ◌≤◌, ◌⊎◌, Each-split, nat_tests, or_parts}
 
 -- ---- an outline says the same of an index as the index does
 
@@ -129,15 +129,6 @@ taken_both [] acts' m = refl
 taken_both (Took place need ∷ more) acts' m = grind (arith, taken_both more acts' m)
 taken_both (Gave place size ∷ more) acts' m = taken_both more acts' m
 
-pub taken_either : (acts acts' : List Act) (m : ℕ) → (is_taken_at acts m ≡ true) ⊎ (is_taken_at acts' m ≡ true) → is_taken_at (acts ++ acts') m ≡ true
-taken_either acts acts' m e = grind (arith, e, taken_both acts acts' m)
-
-pub taken_neither : (acts acts' : List Act) (m : ℕ) → is_taken_at acts m ≡ false → is_taken_at acts' m ≡ false → is_taken_at (acts ++ acts') m ≡ false
-taken_neither acts acts' m e f = grind (arith, taken_both acts acts' m)
-
-pub neither_taken : (acts acts' : List Act) (m : ℕ) → is_taken_at (acts ++ acts') m ≡ false → (is_taken_at acts m ≡ false) × (is_taken_at acts' m ≡ false)
-neither_taken acts acts' m e = grind (arith, taken_both acts acts' m)
-
 pub unless_true : {A : Type 0} {p : Bool} → A ⊎ (p ≡ true) → p ≡ false → A
 unless_true s e = grind (arith, s, e)
 
@@ -203,7 +194,7 @@ module _ (b mid now : List ℕ) (through through' : List Nodes) (before after : 
     unused = each (UnusedEntries b now through' before (acts ++ acts')) after (λ m k i low high.
         entry_then b mid now m i (was_unused b before (acts ++ acts') m i) (was_unused mid (nodes_of index) acts' m i) (Each-in (UnusedEntries mid now (index ∷ []) (nodes_of index) acts') after step.unused m k i low high) (was_entry m i high) (was_used m i) (more m i));
     spare = each (NodeSpareStays b now (acts ++ acts')) after (λ m k e.
-        let out = neither_taken acts acts' m e in
+        let out = or_parts _ _ (sym (taken_both acts acts' m) ∙ e) in
         let j = unless_true (step.come m k) out.1 in
         spare_then b mid now acts m (step.rooms m j) (λ e. sizes m (unless_true (come m j) e)) (step.spare m j) (Each-in (NodeSpareStays b mid acts) (nodes_of index) f.spare m j) out.0);
   }

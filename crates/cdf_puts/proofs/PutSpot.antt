@@ -1,5 +1,5 @@
 -- Where the next record is put: the records of a new block, each step by which records are put, and what an image says of a variable of which some records are put.
-use Rattle.cdf_puts.proofs.Common.{Act, AddsLeaf, BlockRecords, Covering, GoesOn, HasIndex, In, IsBlockBody, IsBody, IsPut, IsVacant, Kind, LeafAdded, List, NodeTaken, Nodes, None, PutStart, PutsOn, PutsUpTo, Putting, RecordsWritten, SoFar, Some, SomePut, SomePutting, StandsAmong, Variable, VariableShape, [], ap, append-nil, arith, block_bytes, block_count, cases_lt, covers, div-le_self, drop, drop-append-le, drop_at, either, extent, false, find, first_written, firsts_of, fits, good_is_sound, has, if◌then◌else◌, image_limit, in_middle, index_at, index_order, inl, inr, is_sparse, last_in_new, leaf, leaf_acts, leaf_of, leaves_of, length, length-append, length-drop, long, max, max_rec_at, min, most_in_block, nat_tests, new_last, new_range, new_room, next_first, node_bytes, number, own_rules, range, record_bytes, record_length, record_of, record_put, records_put, refl, shape, sparse_at, subst, suc, sym, take, take-append-le, take_all, taken_bytes, tile, tile_lies, times_le, variable_of, variables, vdr_max_rec, vdr_vxr_head, vdrs, vxr_bytes, widest, with_leaf, zero, ℕ, ◌*◌, ◌++◌, ◌+◌, ◌-◌, ◌<◌, ◌==◌, ◌∙◌, ◌∷◌, ◌≡◌, ◌≤◌}
+use Rattle.cdf_puts.proofs.Common.{Act, AddsLeaf, BlockRecords, Covering, GoesOn, HasIndex, In, IsBlockBody, IsBody, IsPut, IsVacant, Kind, LeafAdded, List, NodeTaken, Nodes, None, PutStart, PutsOn, PutsUpTo, Putting, RecordsWritten, SoFar, Some, SomePut, SomePutting, StandsAmong, Variable, VariableShape, [], ap, append-nil, arith, block_bytes, block_count, cases_lt, covers, div-le_self, drop, drop-append-le, drop_at, either, extent, false, find, first_written, firsts_of, fits, good_is_sound, has, if◌then◌else◌, image_limit, in_middle, index_at, inl, inr, is_sparse, last_in_new, leaf, leaf_acts, leaf_of, leaves_of, length, length-append, length-drop, long, max, max_rec_at, min, most_in_block, nat_tests, new_last, new_range, new_room, next_first, node_bytes, number, range, record_bytes, record_length, record_of, record_put, records_put, refl, shape, sparse_at, subst, suc, sym, take, take-append-le, take_all, taken_bytes, tile, tile_lies, times_le, variable_of, variables, vdr_max_rec, vdr_vxr_head, vdrs, vxr_bytes, widest, with_leaf, zero, ℕ, ◌*◌, ◌++◌, ◌+◌, ◌-◌, ◌<◌, ◌==◌, ◌∙◌, ◌∷◌, ◌≡◌, ◌≤◌}
 use Rattle.cdf_puts.proofs.LeafEdit.{r_max_rec_stays as leaf_r_max_rec, body_long, plain_body, leaf_goes_on, leaf_max_rec, taking}
 use Rattle.cdf_puts.proofs.CoveringRanges.{covering_starts, covering_has, covering_leaf, covering_room, covering_ends, Ends, one_at_least}
 use Rattle.cdf_puts.proofs.GoesThen.{later_size, goes_then, goes_written, writes_nothing}
@@ -8,7 +8,7 @@ use Rattle.cdf_puts.proofs.LeafCounts.{new_room_widest}
 use Rattle.cdf_puts.proofs.IndexWritten.{blocks_written, index_written, max_rec_kept, r_max_rec_stays, writes}
 use Rattle.cdf_puts.proofs.PutRoom.{taken_sum, takes_both, leaf_bytes, longer_by}
 use Rattle.cdf_puts.proofs.SoFarStarts.{starts_upto, index_start, blocks_start}
-use Rattle.cdf_leaves.proofs.Own.{among_all, searchable}
+use Rattle.cdf_leaves.proofs.Own.{among_all, own_order, searchable}
 use Rattle.cdf_puts.proofs.PutBytes.{found_covering, size_now, whole}
 use Rattle.cdf_base.specs.Bytes.{put as put_at}
 use Rattle.cdf_format.specs.Index.{Leaf as TreeLeaf}
@@ -58,7 +58,7 @@ module _ {b : List ℕ} {kind : Kind} {before : List VariableShape} {own : Varia
     start = start;
     upto = let l = starts_upto start in omega arith;
     goes = goes_written start.good start.among (writes_nothing start.good start.among) start.short;
-    covers = covering_starts (variable_of b own) own.index r (ap is_sparse start.no_rule) (index_order b (shape b).records own.vdr own.index (own_rules start.good start.among).1);
+    covers = covering_starts (variable_of b own) own.index r (ap is_sparse start.no_rule) (own_order start.good start.among);
     takes = tt;
     short = start.short;
     max_rec_is = refl;
