@@ -8,7 +8,7 @@ use Rattle.cdf_puts.proofs.LastImage.{last_goes, last_max_rec, last_r_max_rec, l
 use Rattle.cdf_puts.proofs.PutBytes.{behind_all, blocks_then, found_covering, none_is_put, old_size, piece_stays, whole}
 use Rattle.cdf_puts.proofs.IndexWritten.{nodes_still, tail_still}
 use Rattle.cdf_puts.proofs.CoveringRanges.{some_or_none, covering_done}
-use Rattle.cdf_puts.proofs.GoesThen.{later_size, later_variable, stays}
+use Rattle.cdf_puts.proofs.GoesThen.{later_size, stays}
 use Rattle.cdf_puts.proofs.PutRoom.{none_given, none_without_bytes, longer_by}
 use Rattle.cdf_index.proofs.OwnRecords.{by_range}
 use Rattle.cdf_index.proofs.OwnRecords as of_own
@@ -170,7 +170,7 @@ module _ {b now last : List ℕ} {kind : Kind} {before : List VariableShape} {ow
         kept = λ k lt ne. stored_same k (λ e. lt) (elim (cases_lt r k) [ inl past ↦ inr past | inr le ↦ inl (omega arith) ]);
       } in
       let recs : records_in last own.vdr leaves ≡ with_item r bytes (filled v.sparse v r) = records_put stores ∙ ap (with_item r bytes) (sym (filled_uncut v r (uncut so.start.good so.start.among r))) in
-      put.content_is ∙ ap (with_variable (content b) (own_found b kind before own)) (later_variable so.start.good so.start.among put ∙ (λ i. record v { max_rec = (last_max_rec so done) i; recs = recs i }))
+      put.content_is ∙ ap (with_variable (content b) (own_found b kind before own)) (variable_stays put.file own own' (stays so.start.good so.start.among put.descriptor) put.vdr_is ∙ (λ i. record v { max_rec = (last_max_rec so done) i; recs = recs i }))
 
   before_is : ranges_before_put v own.index r ≡ ranges_of own.index
   before_is = ap (λ (c : Bool). if c then cut_open (extent v.max_rec) record_number_limit (ranges_of own.index) else ranges_of own.index) (uncut so.start.good so.start.among r)

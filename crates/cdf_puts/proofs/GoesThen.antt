@@ -29,10 +29,6 @@ module _ {b now : List ℕ} {kind : Kind} {before : List VariableShape} {own : V
     pub later_size : record_bytes now own'.vdr ≡ record_bytes b own.vdr
     later_size = ap (record_bytes now) goes.vdr_is ∙ record_alike goes.file (stays_alike goes.file (stays goes.descriptor))
 
-    -- but for MaxRec and its records
-    pub later_variable : variable_of now own' ≡ record (variable_of b own) { max_rec = max_rec_at now own.vdr; recs = records_in now own.vdr (leaves_of own'.index) }
-    later_variable = variable_stays goes.file own own' (stays goes.descriptor) goes.vdr_is
-
 -- ---- an edit of one variable goes on
 
 module _ {b now : List ℕ} {kind : Kind} {before : List VariableShape} {own : VariableShape} {after : List VariableShape} {index : Nodes} {new list : List ℕ} {marks : List Mark} {reborn : List ℕ} (good : Good b) (at : StandsAmong b kind before own after) (x : IndexEdit b now kind own index new list marks reborn) where

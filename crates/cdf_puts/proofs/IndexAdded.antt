@@ -180,14 +180,11 @@ module _ {b now now' : List ℕ} {kind : Kind} {before : List VariableShape} {ow
         (shape now).records 8 (has so.goes.good so.goes.among).indexed.has_nodes;
   }
 
-  grows : TopGrows own'.index own''.index
-  grows = top_grows new at own'.index
-
   pub index_added : IndexSoFar b now' own own'' first upto (acts ++ step)
   index_added = record {
     puts = puts_added;
-    tail = tail_then (top_chain own.index) (top_chain own'.index) (top_chain own''.index) (number b own.vdr vdr_vxr_tail) (number now own.vdr vdr_vxr_tail) (number now' own.vdr vdr_vxr_tail) so.index.top grows so.index.tail
+    tail = tail_then (top_chain own.index) (top_chain own'.index) (top_chain own''.index) (number b own.vdr vdr_vxr_tail) (number now own.vdr vdr_vxr_tail) (number now' own.vdr vdr_vxr_tail) so.index.top (top_grows new at own'.index) so.index.tail
         (subst (λ (v : ℕ). number now' v vdr_vxr_tail ≡ (if bytes_eq (top_chain own'.index) (top_chain own''.index) then number now v vdr_vxr_tail else last_node own''.index)) so.goes.vdr_is w.tail);
-    top = top_then (top_chain own.index) (top_chain own'.index) (top_chain own''.index) so.index.top grows;
+    top = top_then (top_chain own.index) (top_chain own'.index) (top_chain own''.index) so.index.top (top_grows new at own'.index);
     nodes = subst (λ (xs : List Range). NodesSoFar b now' own own'' xs (acts ++ step)) (sym one_new) nodes_added;
   }
