@@ -280,15 +280,10 @@ module _ {b now : List ℕ} {kind : Kind} {before : List VariableShape} {own : V
       old = each_of (λ (l : Leaf). Same b now l.place (l.place + size_at b l.place)) (leaves_of own.index) (λ l i. (block_kept good among new_index l.place (place_in (leaves_of own.index) l i)).same);
       size_is = block_size ∙ body_long body records says;
       records_are =
-          let long = body_long body records says in
-          let whole : length body ≡ 4 + (length body - 4) = omega arith in
-          let behind : new.place + 12 ≡ new.place + 8 + 4 = omega arith in
-          let rest = take-take (length records) (length body - 4) (drop 4 (drop (new.place + 8) now)) (omega arith) in
-          grind (arith, whole, behind, rest, drop-take 4 (length body - 4) (drop (new.place + 8) now), drop-drop 4 (new.place + 8) now, body_now, says.records_are);
-      spare = λ i l lt.
-          let e = block_size in
-          let behind : new.place + i ≡ new.place + 8 + (i - 8) = omega arith in
-          grind (arith, behind, get_or-drop (new.place + 8) now (i - 8) 0, get_or-take (length body) (drop (new.place + 8) now) (i - 8) 0 (omega arith), body_now, says.spare (i - 8) (omega arith) (omega arith));
+          let whole : length body ≡ 4 + (length body - 4) = omega (arith, body_long body records says) in
+          let rest = take-take (length records) (length body - 4) (drop 4 (drop (new.place + 8) now)) (omega (arith, body_long body records says)) in
+          grind (arith, whole, rest, drop-take 4 (length body - 4) (drop (new.place + 8) now), drop-drop 4 (new.place + 8) now, body_now, says.records_are);
+      spare = λ i l lt. grind (arith, l, lt, get_or-drop (new.place + 8) now (i - 8) 0, get_or-take (length body) (drop (new.place + 8) now) (i - 8) 0 (omega (arith, block_size)), body_now, says.spare (i - 8) (omega arith) (omega (arith, block_size)));
     }
 
     module _ (vacant : IsVacant own new.first new.last) (as_long : length records ≡ (new.last + 1 - new.first) * record_bytes b own.vdr) (short : length now ≤ image_limit) where

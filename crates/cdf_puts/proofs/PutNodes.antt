@@ -179,9 +179,7 @@ module _ (b mid now : List ℕ) (through through' : List Nodes) (before after : 
   was_entry : (m i : ℕ) → i < room_at now m → was_unused mid (nodes_of index) acts' m i ≡ true → EntryIs b mid m i (was_unused b before (acts ++ acts') m i) ⊎ ((list_any (uses_entry m i) through ≡ true) × EntryIs b mid m i false)
   was_entry m i high v =
       let x = was_says mid (nodes_of index) acts' m i v in
-      let room = step.rooms m x.0 in
-      let same : was_unused b before (acts ++ acts') m i ≡ was_unused b before acts m i = grind (arith, x.1, taken_both acts acts' m) in
-      rw same (Each-in (UnusedEntries b mid through before acts) (nodes_of index) f.unused m x.0 i x.2 (omega arith))
+      grind (arith, x.1, taken_both acts acts' m, Each-in (UnusedEntries b mid through before acts) (nodes_of index) f.unused m x.0 i x.2 (omega (arith, step.rooms m x.0)))
 
   was_used : (m i : ℕ) → was_unused b before (acts ++ acts') m i ≡ true → (list_any (uses_entry m i) (index ∷ []) ≡ true) ⊎ (was_unused mid (nodes_of index) acts' m i ≡ false) → list_any (uses_entry m i) through' ≡ true
   was_used m i w x =
