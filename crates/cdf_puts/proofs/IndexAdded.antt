@@ -1,5 +1,5 @@
 -- A leaf is added while records are put: the blocks of the variable, which leaves were put by then, which ranges are new, the top chain and the nodes.
-use Rattle.cdf_puts.proofs.Common.{Nodes, fold-append, Act, Ascending, BlockRecords, BlocksSoFar, Bool, Good, In, InOrder, IndexSoFar, IsBlockBody, IsOneOf, IsVacant, Kind, Leaf, LeafAdded, List, NewBlock, NodeTaken, NodesSoFar, None, PutsBefore, Range, Same, SoFar, Some, StandsAmong, TopGrows, VariableShape, [], ap, apart, arith, before_limit, behind_in, block_behind, block_need, bytes_eq, bytes_eq-same, cases_lt, count_is, covers, drop, extent, false, filled, filter, find, find_covering, first_written, firsts_of, has, if◌then◌else◌, in_order, index_order, indexes_with, inl, inr, is_in, is_in-true, is_taken_at, last_node, last_or, leaf, leaf_acts, leaves_ascend, leaves_more, leaves_of, length, list_any, lt-ltb, max_rec_at, min, nat_tests, new_range, new_ranges, new_room, nodes_of, number, of_each, outline, own_rules, place_in, plain_bytes, plain_piece, range, ranges_of, record_alike, record_bytes, record_number_limit, records_of_leaf, refl, room, same_Some, shape, size_at, sound, subst, suc, sym, take, taken_places, tile_lies, top_chain, true, true≢false, uir_type, unwrap_or, uses_entry, variable_of, vdr_alike, vdr_vxr_tail, vvr_type, was_put, with_leaf, with_new, with_ranges, zero, ℕ, ◌*◌, ◌++◌, ◌+◌, ◌-◌, ◌<◌, ◌||◌, ◌∙◌, ◌∷◌, ◌≡◌, ◌≤◌, ◌⊎◌, or_right, or_from, or_left, node_behind}
+use Rattle.cdf_puts.proofs.Common.{Act, Ascending, BlockRecords, BlocksSoFar, Bool, Good, In, InOrder, IndexSoFar, IsBlockBody, IsOneOf, IsVacant, Kind, Leaf, LeafAdded, List, NewBlock, NodeTaken, Nodes, NodesSoFar, None, PutsBefore, Range, Same, SoFar, Some, StandsAmong, VariableShape, [], ap, apart, arith, before_limit, behind_in, block_behind, block_need, bytes_eq, bytes_eq-same, cases_lt, count_is, covers, drop, extent, false, filled, filter, find, find_covering, first_written, firsts_of, fold-append, has, if◌then◌else◌, in_order, index_order, indexes_with, inl, inr, is_in, is_in-true, is_taken_at, last_node, last_or, leaf, leaf_acts, leaves_ascend, leaves_more, leaves_of, length, list_any, lt-ltb, max_rec_at, min, nat_tests, new_range, new_ranges, new_room, node_behind, nodes_of, number, of_each, or_from, or_left, or_right, outline, own_rules, place_in, plain_bytes, plain_piece, range, ranges_of, record_alike, record_bytes, record_number_limit, records_of_leaf, refl, room, same_Some, shape, size_at, sound, subst, suc, sym, take, taken_places, tile_lies, top_chain, true, true≢false, uir_type, unwrap_or, uses_entry, variable_of, vdr_alike, vdr_vxr_tail, vvr_type, was_put, with_leaf, with_new, with_ranges, zero, ℕ, ◌*◌, ◌++◌, ◌+◌, ◌-◌, ◌<◌, ◌||◌, ◌∙◌, ◌∷◌, ◌≡◌, ◌≤◌, ◌⊎◌}
 use Rattle.cdf_puts.proofs.CoveringRanges.{one_alone, of_leaves}
 use Rattle.cdf_puts.proofs.LeafCounts.{one_of_leaves}
 use Rattle.cdf_puts.proofs.LeafEdit.{file, new_index, used_apart, node_taken, nodes_step}
@@ -180,14 +180,11 @@ module _ {b now now' : List ℕ} {kind : Kind} {before : List VariableShape} {ow
         (shape now).records 8 (has so.goes.good so.goes.among).indexed.has_nodes;
   }
 
-  grows : TopGrows own'.index own''.index
-  grows = top_grows new at own'.index
-
   pub index_added : IndexSoFar b now' own own'' first upto (acts ++ step)
   index_added = record {
     puts = puts_added;
-    tail = tail_then (top_chain own.index) (top_chain own'.index) (top_chain own''.index) (number b own.vdr vdr_vxr_tail) (number now own.vdr vdr_vxr_tail) (number now' own.vdr vdr_vxr_tail) so.index.top grows so.index.tail
+    tail = tail_then (top_chain own.index) (top_chain own'.index) (top_chain own''.index) (number b own.vdr vdr_vxr_tail) (number now own.vdr vdr_vxr_tail) (number now' own.vdr vdr_vxr_tail) so.index.top (top_grows new at own'.index) so.index.tail
         (subst (λ (v : ℕ). number now' v vdr_vxr_tail ≡ (if bytes_eq (top_chain own'.index) (top_chain own''.index) then number now v vdr_vxr_tail else last_node own''.index)) so.goes.vdr_is w.tail);
-    top = top_then (top_chain own.index) (top_chain own'.index) (top_chain own''.index) so.index.top grows;
+    top = top_then (top_chain own.index) (top_chain own'.index) (top_chain own''.index) so.index.top (top_grows new at own'.index);
     nodes = subst (λ (xs : List Range). NodesSoFar b now' own own'' xs (acts ++ step)) (sym one_new) nodes_added;
   }

@@ -1,5 +1,5 @@
 -- Where the next record is put: the records of a new block, each step by which records are put, and what an image says of a variable of which some records are put.
-use Rattle.cdf_puts.proofs.Common.{Act, AddsLeaf, BlockRecords, Covering, GoesOn, HasIndex, In, IsBlockBody, IsBody, IsPut, IsVacant, Kind, LeafAdded, List, NodeTaken, Nodes, None, PutStart, PutsOn, PutsUpTo, Putting, RecordsWritten, SoFar, Some, SomePut, SomePutting, StandsAmong, Variable, VariableShape, [], ap, append-nil, arith, block_bytes, block_count, cases_lt, covers, div-le_self, drop, drop-append-le, drop_at, either, extent, false, find, first_written, firsts_of, fits, good_is_sound, has, if◌then◌else◌, image_limit, in_middle, index_at, index_order, inl, inr, is_sparse, last_in_new, leaf, leaf_acts, leaf_of, leaves_of, length, length-append, length-drop, long, max, max_rec_at, min, most_in_block, nat_tests, new_last, new_range, new_room, next_first, node_bytes, number, own_rules, range, record_bytes, record_length, record_of, record_put, records_put, refl, shape, sparse_at, subst, suc, sym, take, take-append-le, take_all, taken_bytes, tile, tile_lies, times_le, variable_of, variables, vdr_max_rec, vdr_vxr_head, vdrs, vxr_bytes, widest, with_leaf, zero, ℕ, ◌*◌, ◌++◌, ◌+◌, ◌-◌, ◌<◌, ◌==◌, ◌∙◌, ◌∷◌, ◌≡◌, ◌≤◌}
+use Rattle.cdf_puts.proofs.Common.{Act, AddsLeaf, BlockRecords, Covering, GoesOn, HasIndex, In, IsBlockBody, IsBody, IsPut, IsVacant, Kind, LeafAdded, List, NodeTaken, Nodes, None, PutStart, PutsOn, PutsUpTo, Putting, RecordsWritten, SoFar, Some, SomePut, SomePutting, StandsAmong, Variable, VariableShape, [], ap, append-nil, arith, block_bytes, block_count, cases_lt, covers, div-le_self, drop, drop-append-le, drop_at, either, extent, false, find, first_written, firsts_of, fits, good_is_sound, has, if◌then◌else◌, image_limit, in_middle, index_at, inl, inr, is_sparse, last_in_new, leaf, leaf_acts, leaf_of, leaves_of, length, length-append, length-drop, long, max_rec_at, min, most_in_block, nat_tests, new_last, new_range, new_room, next_first, node_bytes, number, range, record_bytes, record_length, record_of, record_put, records_put, refl, shape, sparse_at, subst, suc, sym, take, take-append-le, take_all, taken_bytes, tile, tile_lies, times_le, variable_of, variables, vdr_max_rec, vdr_vxr_head, vdrs, vxr_bytes, widest, with_leaf, zero, ℕ, ◌*◌, ◌++◌, ◌+◌, ◌-◌, ◌<◌, ◌==◌, ◌∙◌, ◌∷◌, ◌≡◌, ◌≤◌}
 use Rattle.cdf_puts.proofs.LeafEdit.{r_max_rec_stays as leaf_r_max_rec, body_long, plain_body, leaf_goes_on, leaf_max_rec, taking}
 use Rattle.cdf_puts.proofs.CoveringRanges.{covering_starts, covering_has, covering_leaf, covering_room, covering_ends, Ends, one_at_least}
 use Rattle.cdf_puts.proofs.GoesThen.{later_size, goes_then, goes_written, writes_nothing}
