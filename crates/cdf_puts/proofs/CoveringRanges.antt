@@ -128,7 +128,7 @@ mutual
 
   entry_firsts_count : (entries : Entries) → length (entry_firsts entries) ≡ entry_count entries + entries_below entries
   entry_firsts_count no_entry = refl
-  entry_firsts_count (block first last place packed entries) = let r = entry_firsts_count entries in omega arith
+  entry_firsts_count (block first last place packed entries) = omega (arith, entry_firsts_count entries)
   entry_firsts_count (lower first last nodes entries) = omega (arith, length-append (firsts_of nodes) (entry_firsts entries), entry_firsts_count entries, firsts_count nodes)
 
 -- ---- how many blocks, and how many bytes

@@ -1,5 +1,5 @@
 -- All records are put: the index, what was taken for it and the bytes of the blocks are as the command says, and what is stored as each record. The image follows the command.
-use Rattle.cdf_puts.proofs.Common.{Act, AllKeep, Allowance, Allowances, Ascending, Beside, BlockFollows, BlocksSoFar, Bool, Changed, CutsFirst, DataSet, Found, GoesOn, HoldsPads, In, In-append, IsOneOf, Keeps, Kind, Leaf, List, MaxRecDone, NewBlock, None, OneVariable, Only, Option, Outside, Outside-append, PlainLeaf, PutsBytes, PutsIndex, PutsLeaves, PutsRecord, Range, SoFar, Some, SpareIs, Sparse, StaysUnwritten, Unused, Variable, VariableShape, [], anything_if, ap, apart, append-nil, arith, behind_in, behind_kept, block_behind, block_end, both, bytes_eq, bytes_eq-same, cases_lt, content, content_is, count_is, covered, covers, cut_open, drop, drop-drop, drop_all, each, each_of, either, eq-eqb, eq_of, eqb-true, extent, false, false-is_in, file, filled, filter, filter-says, find, find_covering, first_written, fits, greater, has, if◌then◌else◌, inl, inr, is_changed, is_in, is_little, is_rewritten, is_sparse, is_taken, is_taken_at, is_written, keep_all, keep_attributes, keep_file, keep_kinds, keep_places, keep_variable_parts, keep_variables, keeps_stood, kept, last_node, leaf, leaf_at, leaves_ascend, leaves_of, length, length-take, list_any, long, map, max, max_rec_at, max_rec_touches, min, nat_lt, nat_tests, ne_eqb, nodes_of, not, number, option_map, or_parts, other_kind, owned, pad_record, past, place_in, places_of, plain_bytes, plain_piece, put_changes, put_count, put_fields, put_room, r_max_rec, r_max_rec_field, range, range_at, ranges_before_put, ranges_of, record_bytes, record_number_limit, record_of, record_place, records_in, records_of_leaf, refl, repeat, room, room_of_variable, same_Some, same_as_itself, same_of_bytes_eq, shape, shapes_of, shared, slice_get, sound, space_before, stays_alike, stays_all, stored_bytes, stored_in, subst, suc, sym, take, take-append-drop, taken_bytes, times_le, top_chain, top_stays, touch, touched_field, transport, true, true-is_in, true≢false, turned, type_alike, type_at, type_of_variable, typed, uir_type, uncovered, unused_allowance, unused_in, unused_records, upto, variable_named, variable_of, variable_records, variables, vdr_max_rec, vdr_vxr_tail, vvr_place, was_leaf, with_record, with_variable, written_in, zero, ℕ, ◌&&◌, ◌*◌, ◌++◌, ◌+◌, ◌-◌, ◌<◌, ◌==◌, ◌∙◌, ◌∷◌, ◌≡◌, ◌≤◌, ◌⊎◌}
+use Rattle.cdf_puts.proofs.Common.{Act, AllKeep, Allowance, Allowances, Ascending, Beside, BlockFollows, BlocksSoFar, Bool, Changed, CutsFirst, DataSet, Found, GoesOn, HoldsPads, In, In-append, IsOneOf, Keeps, Kind, Leaf, List, MaxRecDone, NewBlock, None, OneVariable, Only, Option, Outside, Outside-append, PlainLeaf, PutsBytes, PutsIndex, PutsLeaves, PutsRecord, Range, SoFar, Some, SpareIs, Sparse, StaysUnwritten, Unused, Variable, VariableShape, [], anything_if, ap, apart, append-nil, arith, behind_in, behind_kept, block_behind, block_end, both, bytes_eq, bytes_eq-same, cases_lt, content, content_is, count_is, covered, covers, cut_open, drop, drop-drop, drop_all, each, each_of, either, eq-eqb, eq_of, eqb-true, extent, false, false-is_in, file, filled, filter, filter-says, find, find_covering, first_written, fits, greater, has, if◌then◌else◌, inl, inr, is_changed, is_in, is_little, is_rewritten, is_sparse, is_taken, is_taken_at, is_written, keep_all, keep_attributes, keep_file, keep_kinds, keep_places, keep_variable_parts, keep_variables, keeps_stood, kept, last_node, leaf, leaf_at, leaves_ascend, leaves_of, leb-false, length, length-take, list_any, long, map, max, max_rec_at, max_rec_touches, min, nat_lt, nat_tests, ne_eqb, nodes_of, not, number, option_map, or_parts, other_kind, owned, pad_record, past, place_in, places_of, plain_bytes, plain_piece, put_changes, put_count, put_fields, put_room, r_max_rec, r_max_rec_field, range, range_at, ranges_before_put, ranges_of, record_bytes, record_number_limit, record_of, record_place, records_in, records_of_leaf, refl, repeat, room, room_of_variable, same_Some, same_as_itself, same_of_bytes_eq, shape, shapes_of, shared, slice_get, sound, space_before, stays_alike, stays_all, stored_bytes, stored_in, subst, suc, sym, take, take-append-drop, taken_bytes, times_le, top_chain, top_stays, touch, touched_field, transport, true, true-is_in, true≢false, turned, type_alike, type_at, type_of_variable, typed, uir_type, uncovered, unused_allowance, unused_in, unused_records, upto, variable_named, variable_of, variable_records, variable_stays, variables, vdr_max_rec, vdr_vxr_tail, vvr_place, was_leaf, with_record, with_variable, written_in, zero, ℕ, ◌&&◌, ◌*◌, ◌++◌, ◌+◌, ◌-◌, ◌<◌, ◌==◌, ◌∙◌, ◌∷◌, ◌≡◌, ◌≤◌, ◌⊎◌}
 use Rattle.cdf_edits.proofs.Edits.RecordsPut.{StoresPut, extent_last, filled_uncut, records_put}
 use Rattle.cdf_model.specs.Numbered.{with_item}
 use Rattle.cdf_puts.specs.Going.{found_in as own_found}
@@ -8,7 +8,7 @@ use Rattle.cdf_puts.proofs.LastImage.{last_goes, last_max_rec, last_r_max_rec, l
 use Rattle.cdf_puts.proofs.PutBytes.{behind_all, blocks_then, found_covering, none_is_put, old_size, piece_stays, whole}
 use Rattle.cdf_puts.proofs.IndexWritten.{nodes_still, tail_still}
 use Rattle.cdf_puts.proofs.CoveringRanges.{some_or_none, covering_done}
-use Rattle.cdf_puts.proofs.GoesThen.{later_size, later_variable, stays}
+use Rattle.cdf_puts.proofs.GoesThen.{later_size, stays}
 use Rattle.cdf_puts.proofs.PutRoom.{none_given, none_without_bytes, longer_by}
 use Rattle.cdf_index.proofs.OwnRecords.{by_range}
 use Rattle.cdf_index.proofs.OwnRecords as of_own
@@ -35,9 +35,6 @@ none_covered k (x ∷ more) e = grind (arith, e, none_covered k more)
 
 first_of_three : (p q c : Bool) → p ≡ true → (q ≡ true → c ≡ false) → (p && (q && not c)) ≡ q
 first_of_three p q c e none = grind (arith, e, none)
-
-none_there : (n : ℕ) → nat_lt 0 n ≡ false → n ≤ 0
-none_there n e = grind (arith, nat_tests, e)
 
 -- ---- pieces that are all the same
 
@@ -110,12 +107,7 @@ module _ {b now last : List ℕ} {kind : Kind} {before : List VariableShape} {ow
     put = acts;
     acts_are = refl;
     cuts = subst (CutsFirst b last v own own' own.index []) (sym (uncut so.start.good so.start.among r)) (refl, refl);
-    puts =
-        let loose = sym so.start.loose in
-        let vdr = sym so.goes.vdr_is in
-        let end = append-nil (filter (is_written v r) leaves) in
-        let acts_end = append-nil acts in
-        transport (λ i. PutsLeaves b last (loose i) (vdr i) (end i) own.index (acts_end i) own'.index) (so.index.puts last last_size [] [] own'.index (refl, refl));
+    puts = transport (λ i. PutsLeaves b last ((sym so.start.loose) i) ((sym so.goes.vdr_is) i) ((append-nil (filter (is_written v r) leaves)) i) own.index ((append-nil acts) i) own'.index) (so.index.puts last last_size [] [] own'.index (refl, refl));
     tail = rw top_test (tail_still so (last_writes so done) ∙ subst (λ (x : ℕ). number now x vdr_vxr_tail ≡ (if tops then number b own.vdr vdr_vxr_tail else last_node own'.index)) (sym so.goes.vdr_is) so.index.tail);
     nodes = (nodes_still so (last_writes so done)).follow;
     freed = (none_given b last acts acts so.takes).0;
@@ -125,7 +117,8 @@ module _ {b now last : List ℕ} {kind : Kind} {before : List VariableShape} {ow
   -- ---- the bytes
 
   all : BlocksSoFar b last own own' raw pad r first (r + 1) acts (max_rec_touches now kind own'.vdr)
-  all = blocks_then so (omega arith) (omega arith) (append-nil acts) (none_is_put (subst (Changed now last) (append-nil (max_rec_touches now kind own'.vdr)) (last_writes so done).changed) (λ l i. (behind_kept so.goes.good so.goes.among (last_writes so done) l.place (block_behind own' l.place (place_in leaves l i)) (λ none. none)).same))
+  all = blocks_then so (omega arith) (omega arith) (append-nil acts) (none_is_put (subst (Changed now last) (append-nil (max_rec_touches now kind own'.vdr)) (last_writes so done).changed)
+      (λ l i. (behind_kept so.goes.good so.goes.among (last_writes so done) l.place (block_behind own' l.place (place_in leaves l i)) (λ none. none)).same))
 
   last_plain : (l : Leaf) → IsOneOf leaves l → PlainLeaf last size l
   last_plain l i = subst (λ (n : ℕ). PlainLeaf last n l) size_last (whole put.good put.among l i).leaf
@@ -176,9 +169,8 @@ module _ {b now last : List ℕ} {kind : Kind} {before : List VariableShape} {ow
         padded = λ k le lt. ap (option_map turn) (stored_put k (omega arith) (omega arith)) ∙ ap Some (rw (ne_eqb k r (λ e. absurd (omega arith))) (pad_stored (omega arith)));
         kept = λ k lt ne. stored_same k (λ e. lt) (elim (cases_lt r k) [ inl past ↦ inr past | inr le ↦ inl (omega arith) ]);
       } in
-      let max_rec = last_max_rec so done in
       let recs : records_in last own.vdr leaves ≡ with_item r bytes (filled v.sparse v r) = records_put stores ∙ ap (with_item r bytes) (sym (filled_uncut v r (uncut so.start.good so.start.among r))) in
-      put.content_is ∙ ap (with_variable (content b) (own_found b kind before own)) (later_variable so.start.good so.start.among put ∙ (λ i. record v { max_rec = max_rec i; recs = recs i }))
+      put.content_is ∙ ap (with_variable (content b) (own_found b kind before own)) (variable_stays put.file own own' (stays so.start.good so.start.among put.descriptor) put.vdr_is ∙ (λ i. record v { max_rec = (last_max_rec so done) i; recs = recs i }))
 
   before_is : ranges_before_put v own.index r ≡ ranges_of own.index
   before_is = ap (λ (c : Bool). if c then cut_open (extent v.max_rec) record_number_limit (ranges_of own.index) else ranges_of own.index) (uncut so.start.good so.start.among r)
@@ -201,9 +193,10 @@ module _ {b now last : List ℕ} {kind : Kind} {before : List VariableShape} {ow
   block_keeps l i = elim (either (is_rewritten v r (range l.first l.last))) [
     | inl t ↦ rw t tt
     | inr t ↦
-        let none : put_count first (r + 1) l ≤ 0 = none_there (put_count first (r + 1) l) (or_parts (nat_lt 0 (put_count first (r + 1) l)) _ t).0 in
+        let none = leb-false 1 (put_count first (r + 1) l) (or_parts (nat_lt 0 (put_count first (r + 1) l)) _ t).0 in
         let o = all.old l i in
-        rw t (record { stands = behind_in put.good put.among l.place (block_behind own' l.place (place_in leaves l (all.stay l i))); size_is = old_size o (omega (arith, (whole so.start.good so.start.among l i).leaf.room)); same = λ n lt out. o.kept (l.place + n) (omega arith) (omega arith) (λ j from upto f t'. absurd (omega arith)) })
+        let w = whole so.start.good so.start.among l i in
+        rw t (record { stands = behind_in put.good put.among l.place (block_behind own' l.place (place_in leaves l (all.stay l i))); size_is = old_size o (omega (arith, w.leaf.room)); same = λ n lt out. o.kept (l.place + n) (omega arith) (omega arith) (λ j from upto f t'. absurd (omega arith)) })
   ]
 
   own_keeps : (m : ℕ) → In m (variable_records own) → Keeps b last m (own_may m)
@@ -248,11 +241,9 @@ module _ {b now last : List ℕ} {kind : Kind} {before : List VariableShape} {ow
         let room = times_le (l.last + 1 - l.first) (stored + (records_of_leaf l - stored)) size (omega arith) in
         pieces_repeat (records_of_leaf l - stored) stored size (turned v.type (is_little last) (pad_record v)) bytes (omega (arith, ap length whole)) (λ j low high.
         let same : l.first + j - l.first ≡ j = omega arith in
-        let past : r < l.first + j = omega arith in
         let upto : l.first + j ≤ l.last = omega arith in
-        let le : most ≤ r = omega (arith, n.alone) in
         ap (λ (m : ℕ). take size (drop (m * size) bytes)) (sym same) ∙ plain_piece last own'.vdr size (l.first + j) l x.plain x.small size_last (omega arith) upto
-        ∙ n.written (l.first + j) (omega arith) upto ∙ rw (ne_eqb (l.first + j) r (λ e. absurd (omega arith))) (pad_stored le ∙ ap (λ (c : Bool). turned v.type c (pad_record v)) (sym put.file.little)))
+        ∙ n.written (l.first + j) (omega arith) upto ∙ rw (ne_eqb (l.first + j) r (λ e. absurd (omega arith))) (pad_stored (omega (arith, n.alone)) ∙ ap (λ (c : Bool). turned v.type c (pad_record v)) (sym put.file.little)))
 
     -- ---- the blocks
 
@@ -281,9 +272,8 @@ module _ {b now last : List ℕ} {kind : Kind} {before : List VariableShape} {ow
             let none = none_without_bytes (space_before b) acts so.goes.follow.are so.takes (omega (arith, so.covers.fits)) in
             let quiet = λ (m : ℕ). ap (λ (xs : List Act). is_taken_at xs m) none in
             let p = Outside-append (max_rec_touches b kind own.vdr) (written_in v first r olds) place out in
-            let gdr = sym so.goes.gdr_is in
-            let vdr = sym so.goes.vdr_is in
-            all.quiet quiet place lt (transport (λ i. Outside (map (touched_field (gdr i)) (r_max_rec_field kind) ++ touched_field (vdr i) vdr_max_rec ∷ []) place) p.0) (λ l i. elim (all.new l i) [ inl o ↦ beside_written first r size olds place p.1 l o | inr n ↦ absurd (true≢false (sym n.was_taken ∙ quiet l.place)) ]);
+            let raised = transport (λ i. Outside (map (touched_field ((sym so.goes.gdr_is) i)) (r_max_rec_field kind) ++ touched_field ((sym so.goes.vdr_is) i) vdr_max_rec ∷ []) place) p.0 in
+            all.quiet quiet place lt raised (λ l i. elim (all.new l i) [ inl o ↦ beside_written first r size olds place p.1 l o | inr n ↦ absurd (true≢false (sym n.was_taken ∙ quiet l.place)) ]);
       };
       others_stay = each_of (StaysUnwritten v r leaves) olds (λ l i e. all.stay l i);
       unwritten_stay = λ k c side. ap (λ (x : ℕ). stored_bytes last x size leaves k) put.vdr_is ∙ stored_same k (λ e. absurd (true≢false (sym c ∙ ap (list_any (covers k)) before_is ∙ none_covered k olds e))) side;
@@ -316,13 +306,12 @@ module _ {b now last : List ℕ} {kind : Kind} {before : List VariableShape} {ow
         follows_by : (c : Command) → only_reads c ≡ false → step (content b) c ≡ ByStep (Go (with_variable (content b) found (with_record v r bytes)) replies.Plain) → room b c ≡ put_room v own.index r → allowances b (content b) (shape b) c ≡ put_changes b (shape b) found r → Does b c last acts → Follows b c last
         follows_by c changes goes room_is may does =
             let fits_in : taken_bytes acts ≤ room b c = subst (λ (n : ℕ). taken_bytes acts ≤ n) (sym room_is) so.covers.fits in
-            let long = longer_by b last acts put.follow so.takes in
             record {
               reply = replies.Plain;
               goes = goes ∙ ap (λ (d : DataSet). ByStep (Go d replies.Plain)) (sym (put_content bytes raw_is pad_is));
               good = put.good;
               longer = put.file.longer;
-              within = omega arith;
+              within = omega (arith, longer_by b last acts put.follow so.takes);
               reads = λ e. absurd (true≢false (sym e ∙ changes));
               acts = acts;
               takes_within = fits_in;

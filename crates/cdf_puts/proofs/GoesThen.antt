@@ -1,4 +1,4 @@
--- One image goes on to another: what a put may change of the records of its variable, what the descriptor says by then, that an edit of one variable is such a step, and that two steps are one.
+-- One image goes on to another: what the descriptor says by then, that an edit of one variable is such a step, and that two steps are one.
 use Rattle.cdf_puts.proofs.Common.{Act, ActsFollow, DataSet, Field, GoesOn, Good, HasShape, In, IndexEdit, IsOther, IsSound, Kept, Kind, List, ListedStay, LooseStay, Mark, Nodes, Only, OnlyTakes, OutsideFields, OwnEdit, R, Shape, StandsAmong, Stays, Stood, Touch, Variable, VariableShape, VdrStays, WritesRecords, Z, [], acts_joined, after_ours, all_variable_records, among_now, ap, arith, cdr_kept, cdr_type, content, content_is, content_replaced, each, either, false, false-is_in, file, fits, flat_map, gdr_keeps, good_is_sound, good_now, image_limit, index_edit, inl, inr, is_a-in, is_in, is_taken, keeps_stood, kept_away, kind_ours, leaves_of, length, linkable-in, linkable-type, list_any, listed_before, long, marks, max_rec_at, nat_le, nat_lt, no_acts_follow, none_of_both, only, other_kind, others_are, ours, own_edit, own_rules, part, put_fields, r_max_rec_field, record_alike, record_bytes, records_are, records_in, refl, shape, shapes_of, size_at, slice_set, space_fields, splices, stays_alike, stood, subst, suc, sym, take, taken, tile, tile_lies, transport, true-is_in, type_at, typed, uir_next_uir, uir_prev_uir, uir_type, unused_stands, variable_of, variable_records, variable_stays, variables_in, variables_of, vdr_size, with_variables, zero, ℕ, ◌&&◌, ◌++◌, ◌+◌, ◌<◌, ◌∙◌, ◌∷◌, ◌≡◌, ◌≤◌}
 use Rattle.cdf_edits.proofs.Edits.IndexEdited as of_index
 use Rattle.cdf_edits.proofs.Edits.OwnEdited.{same_shape}
@@ -28,10 +28,6 @@ module _ {b now : List ℕ} {kind : Kind} {before : List VariableShape} {own : V
     -- the same, of the variable with its later index
     pub later_size : record_bytes now own'.vdr ≡ record_bytes b own.vdr
     later_size = ap (record_bytes now) goes.vdr_is ∙ record_alike goes.file (stays_alike goes.file (stays goes.descriptor))
-
-    -- but for MaxRec and its records
-    pub later_variable : variable_of now own' ≡ record (variable_of b own) { max_rec = max_rec_at now own.vdr; recs = records_in now own.vdr (leaves_of own'.index) }
-    later_variable = variable_stays goes.file own own' (stays goes.descriptor) goes.vdr_is
 
 -- ---- an edit of one variable goes on
 
@@ -80,8 +76,7 @@ module _ {b now : List ℕ} {kind : Kind} {before : List VariableShape} {own : V
 -- records are written where they stand
 pub goes_written : {b now : List ℕ} {kind : Kind} {before : List VariableShape} {own : VariableShape} {after : List VariableShape} {ts : List Touch} (good : Good b) (at : StandsAmong b kind before own after) → WritesRecords b now kind own ts → length b ≤ image_limit → GoesOn b now kind before own own after []
 goes_written {b = b} {now = now} {kind = kind} {own = own} good at w short =
-    let x : IndexEdit b now kind own own.index (shape b).records (shape b).unused (marks good at w) [] = index_edit good at w in
-    goes_by good at x (good_now good at w short) (no_acts_follow good at w) (gdr_keeps good at w)
+    goes_by good at (index_edit good at w) (good_now good at w short) (no_acts_follow good at w) (gdr_keeps good at w)
     (λ m i free.
     let ok = (good_is_sound b good).has_shape.unused_chain.linkable m i in
     keeps_stood b now m (unused_stands good at w m (linkable-in b (shape b).records uir_type m ok) (linkable-type b (shape b).records uir_type m ok)) (Only links))
@@ -140,25 +135,22 @@ module _ {b mid now : List ℕ} {kind : Kind} {before : List VariableShape} {own
       ]
 
   pub goes_then : GoesOn b now kind before own own'' after (acts ++ acts')
-  goes_then =
-      let attributes = sym first.attributes_are in
-      let others = sym first.others_are in
-      record {
-        good = second.good;
-        among = second.among;
-        vdr_is = second.vdr_is ∙ first.vdr_is;
-        gdr_is = second.gdr_is ∙ first.gdr_is;
-        attributes_are = second.attributes_are ∙ first.attributes_are;
-        others_are = second.others_are ∙ first.others_are;
-        file = let f = first.file in let g = second.file in record { longer = omega arith; gdr_is = g.gdr_is ∙ f.gdr_is; little = g.little ∙ f.little; dimensions = g.dimensions ∙ f.dimensions; sizes = g.sizes ∙ f.sizes };
-        content_is = second.content_is ∙ ap (λ (d : DataSet). with_set d kind (length before) (variable_of now own'')) first.content_is ∙ with_twice (content b) kind (length before) (variable_of mid own') (variable_of now own'');
-        follow = acts_joined h h' first.follow second.follow takes takes' first.listed second.listed;
-        gdr = twice (shape b).gdr (r_max_rec_field kind ++ space_fields) first.gdr (subst (λ (m : ℕ). Stays mid now m (r_max_rec_field kind ++ space_fields)) first.gdr_is second.gdr);
-        descriptor = twice own.vdr put_fields first.descriptor (subst (λ (m : ℕ). Stays mid now m put_fields) first.vdr_is second.descriptor);
-        stay = λ m i.
-            let x = first.stay m i in
-            let y = second.stay m (transport (λ k. IsOther (attributes k) before after (others k) m) i) in
-            record { stands = y.stands; whole = kept_then b mid now m x.whole y.whole };
-        listed = listed_then;
-        loose = loose_then;
-      }
+  goes_then = record {
+    good = second.good;
+    among = second.among;
+    vdr_is = second.vdr_is ∙ first.vdr_is;
+    gdr_is = second.gdr_is ∙ first.gdr_is;
+    attributes_are = second.attributes_are ∙ first.attributes_are;
+    others_are = second.others_are ∙ first.others_are;
+    file = let f = first.file in let g = second.file in record { longer = omega arith; gdr_is = g.gdr_is ∙ f.gdr_is; little = g.little ∙ f.little; dimensions = g.dimensions ∙ f.dimensions; sizes = g.sizes ∙ f.sizes };
+    content_is = second.content_is ∙ ap (λ (d : DataSet). with_set d kind (length before) (variable_of now own'')) first.content_is ∙ with_twice (content b) kind (length before) (variable_of mid own') (variable_of now own'');
+    follow = acts_joined h h' first.follow second.follow takes takes' first.listed second.listed;
+    gdr = twice (shape b).gdr (r_max_rec_field kind ++ space_fields) first.gdr (subst (λ (m : ℕ). Stays mid now m (r_max_rec_field kind ++ space_fields)) first.gdr_is second.gdr);
+    descriptor = twice own.vdr put_fields first.descriptor (subst (λ (m : ℕ). Stays mid now m put_fields) first.vdr_is second.descriptor);
+    stay = λ m i.
+        let x = first.stay m i in
+        let y = second.stay m (transport (λ k. IsOther ((sym first.attributes_are) k) before after ((sym first.others_are) k) m) i) in
+        record { stands = y.stands; whole = kept_then b mid now m x.whole y.whole };
+    listed = listed_then;
+    loose = loose_then;
+  }

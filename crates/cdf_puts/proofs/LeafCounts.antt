@@ -53,15 +53,12 @@ pub places_new : (m : ℕ) (l : Leaf) (xs : List Leaf) → times m (places_of (w
 places_new m l [] = omega arith
 places_new m l (x ∷ xs) = grind (arith, times-append m (l.place ∷ []) (places_of (x ∷ xs)), times-append m (x.place ∷ []) (places_of xs), times-append m (x.place ∷ []) (places_of (with_new l xs)), places_new m l xs)
 
-pub one_new : (l x : Leaf) (xs : List Leaf) → (IsOneOf (with_new l xs) x → (x ≡ l) ⊎ IsOneOf xs x) × ((x ≡ l) ⊎ IsOneOf xs x → IsOneOf (with_new l xs) x)
+one_new : (l x : Leaf) (xs : List Leaf) → (IsOneOf (with_new l xs) x → (x ≡ l) ⊎ IsOneOf xs x) × ((x ≡ l) ⊎ IsOneOf xs x → IsOneOf (with_new l xs) x)
 one_new l x [] = (λ i. elim i [ inl e ↦ inl (sym e) | inr j ↦ absurd j ], λ i. grind (arith, i))
 one_new l x (y ∷ ys) = (λ i. grind (arith, i, (one_new l x ys).0), λ i. grind (arith, i, (one_new l x ys).1))
 
-pub leaf_is_there : (new : Leaf) (at low high : ℕ) (index : Nodes) → InOrder low high index → (l : Leaf) → (l ≡ new) ⊎ IsOneOf (leaves_of index) l → IsOneOf (leaves_of (with_leaf new at index)) l
-leaf_is_there new at low high index o l i = rw (leaves_more new at low high index o) ((one_new new l (leaves_of index)).1 i)
-
-pub leaf_was_there : (new : Leaf) (at low high : ℕ) (index : Nodes) → InOrder low high index → (l : Leaf) → IsOneOf (leaves_of (with_leaf new at index)) l → (l ≡ new) ⊎ IsOneOf (leaves_of index) l
-leaf_was_there new at low high index o l i = (one_new new l (leaves_of index)).0 (rw (leaves_more new at low high index o) at i)
+pub one_of_leaves : (new : Leaf) (at low high : ℕ) (index : Nodes) → InOrder low high index → (l : Leaf) → (IsOneOf (leaves_of (with_leaf new at index)) l → (l ≡ new) ⊎ IsOneOf (leaves_of index) l) × ((l ≡ new) ⊎ IsOneOf (leaves_of index) l → IsOneOf (leaves_of (with_leaf new at index)) l)
+one_of_leaves new at low high index o l = rw (leaves_more new at low high index o) (one_new new l (leaves_of index))
 
 -- ---- how wide the nodes are
 

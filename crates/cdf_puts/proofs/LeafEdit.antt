@@ -1,8 +1,9 @@
 -- A leaf that is added, as one edit: its block is taken and written, then a node where one is needed, and then the entries are. It leads from one good image to another.
-use Rattle.cdf_puts.proofs.Common.{same_node, acts_still_by, is_block, nodes_rows, used_rows, leaf_rows, index_rows, end_of, NodeTouch, Away, rules, Act, Avoids-append, Away-append, BlocksGoOn, Counts, Each, Each-append, Each-in, Each-map, Edit, Entries, Exchanged, FileSame, GoesOn, Good, Hold, Hold-split, In, In-append, In-append_left, In-append_right, InOrder, IndexTests, IndexTouch, IsBlockBody, IsChain, IsOneOf, IsSound, IsVacant, Kept, Kind, Leaf, LeafAdded, List, Mark, Marked, Misses, NewIndex, NodeFits, NodeStands, NodeTaken, Nodes, Only, R, Same, Same-part, Shape, StandsAmong, Touch, VariableShape, Within-append, Z, [], all_unmarked-away, ap, apart, append-nil, arith, avoided, away-avoids, away-within, before_limit, behind_in, block, block_behind, chain_stays, changed_edit, count_is, drop, drop-drop, drop-take, each, each_of, edit_then, eof, false, field, file_same, firsts_of, fits, flat_map, gdr_eof, gdr_field, gdr_in, gdr_type, gdr_typed, gdr_uir_head, good_is_sound, has, head_size, head_type, if◌then◌else◌, image_limit, in_nodes_with_leaf, index_marks, index_order, index_rules_with_leaf, index_unmarked, inl, inr, is_in, is_in-false, is_taken_at, keeps_away, keeps_fields, keeps_file, keeps_within, kept, kept_away, leaf_acts, leaves_of, length, linkable-in, linkable-type, long, lower, lower_nodes, max, max_rec_kept, negsuc, new_room, no_entry, no_node, node, node_acts, node_behind, node_room, node_stays, nodes_of, nodes_stand, nodes_with_leaf, number, number_before, of_le, own_rules, piece_kept, place_in, placed_grows, pos, r_max_rec, r_max_rec_field, read_types, record_alike, record_bytes, record_number_limit, refl, room_at, same-then, shape, size_at, size_kept, some_bytes, space_fields, subst, suc, sym, take, take-take, the_one, tile, tile_lies, times, times-append, true, type_at, type_in, type_kept, type_of_body, typed, uir_type, unmarked-away, variable_types, variables_chain, vdr_alike, vdr_max_rec, vdr_of_variable, vvr_type, vxr_bytes, vxr_type, with_leaf, with_sign, word, zero, ℕ, ℤ, ◌*◌, ◌++◌, ◌+◌, ◌-◌, ◌<◌, ◌==◌, ◌∙◌, ◌∷◌, ◌≡◌, ◌≢◌, ◌≤◌, taken_places, is_in-true, get_or-drop, get_or-take, places_of, leaves_more, nat_tests, Covered}
+use Rattle.cdf_puts.proofs.Common.{same_node, acts_still_by, is_block, nodes_rows, used_rows, leaf_rows, index_rows, end_of, NodeTouch, Away, rules, Act, Avoids-append, Away-append, BlocksGoOn, Counts, Each, Each-map, Edit, Entries, Exchanged, FileSame, GoesOn, Good, Hold, Hold-split, In, In-append, In-append_left, In-append_right, IndexTests, IndexTouch, IsBlockBody, IsChain, IsOneOf, IsSound, IsVacant, Kept, Kind, Leaf, LeafAdded, List, Mark, Marked, Misses, NewIndex, NodeStands, NodeTaken, Nodes, Only, R, Same, Same-part, Shape, StandsAmong, Touch, VariableShape, Within-append, Z, [], all_unmarked-away, ap, apart, append-nil, arith, avoided, away-avoids, away-within, before_limit, behind_in, block, block_behind, chain_stays, changed_edit, count_is, drop, drop-drop, drop-take, each, each_of, edit_then, eof, false, field, file_same, firsts_of, flat_map, gdr_eof, gdr_field, gdr_in, gdr_type, gdr_typed, gdr_uir_head, good_is_sound, has, head_size, head_type, if◌then◌else◌, image_limit, in_nodes_with_leaf, index_marks, index_rules_with_leaf, index_unmarked, inl, inr, is_in, is_in-false, is_taken_at, keeps_away, keeps_fields, keeps_file, keeps_within, kept, kept_away, leaf_acts, leaves_of, length, linkable-in, linkable-type, long, lower, lower_nodes, max, max_rec_kept, negsuc, new_room, no_entry, no_node, node, node_acts, node_behind, node_room, node_stays, nodes_of, nodes_with_leaf, number, number_before, of_le, own_rules, piece_kept, place_in, placed_grows, pos, r_max_rec, r_max_rec_field, read_types, record_alike, record_bytes, record_number_limit, refl, room_at, same-then, shape, size_at, size_kept, some_bytes, space_fields, subst, suc, sym, take, take-take, the_one, tile, tile_lies, times, times-append, true, type_at, type_in, type_kept, type_of_body, typed, uir_type, unmarked-away, variable_types, variables_chain, vdr_alike, vdr_max_rec, vdr_of_variable, vvr_type, vxr_bytes, vxr_type, with_leaf, with_sign, word, zero, ℕ, ℤ, ◌*◌, ◌++◌, ◌+◌, ◌-◌, ◌<◌, ◌==◌, ◌∙◌, ◌∷◌, ◌≡◌, ◌≢◌, ◌≤◌, taken_places, is_in-true, get_or-drop, get_or-take, places_of, leaves_more, nat_tests, Covered}
 use Rattle.cdf_edits.proofs.Edits.MadeRecord.{place_in as placed_in, filled_size}
 use Rattle.cdf_edits.proofs.Edits.TakenAll.{TakenAll, none_taken, taken_then, taking_all, listed_free, unlisted_away}
-use Rattle.cdf_puts.proofs.LeafCounts.{room_stays, places_new, leaf_was_there}
+use Rattle.cdf_leaves.proofs.Own.{node_fits, own_node, own_order}
+use Rattle.cdf_puts.proofs.LeafCounts.{room_stays, one_of_leaves, places_new}
 use Rattle.cdf_puts.proofs.RaisedGoes.{behind_no_vdr}
 use Rattle.cdf_edits.proofs.Edits.Composing.{part as changed_missed}
 use Rattle.cdf_format.proofs.Pieces.{word_of_piece_lem}
@@ -60,18 +61,16 @@ body_long body records says = let e = says.as_long in omega arith
 mutual
   unfolding nodes_rows used_rows nodes_of lower_nodes
 
-  counts_hold : (b records : List ℕ) (low high : ℤ) (nodes : Nodes) → Hold (nodes_rows b records low high nodes) → Each (Counts b) (nodes_of nodes)
-  counts_hold b records low high no_node h = tt
-  counts_hold b records low high (node place room entries more) h =
-      let p = Hold-split (used_rows b records place low high entries) (nodes_rows b records (end_of low entries) high more) h.1 in
-      (grind (arith, nat_tests, h.0), Each-append (Counts b) (lower_nodes entries) (nodes_of more) (counts_below b records place low high entries p.0) (counts_hold b records (end_of low entries) high more p.1))
+  counts_hold : (b records : List ℕ) (low high : ℤ) (nodes : Nodes) → Hold (nodes_rows b records low high nodes) → (m : ℕ) → In m (nodes_of nodes) → Counts b m
+  counts_hold b records low high no_node h m i = absurd i
+  counts_hold b records low high (node place room entries more) h m i =
+      grind (arith, nat_tests, h.0, i, In-append m (lower_nodes entries) (nodes_of more), Hold-split (used_rows b records place low high entries) (nodes_rows b records (end_of low entries) high more) h.1, counts_below b records place low high entries, counts_hold b records (end_of low entries) high more)
 
-  counts_below : (b records : List ℕ) (vxr : ℕ) (low high : ℤ) (entries : Entries) → Hold (used_rows b records vxr low high entries) → Each (Counts b) (lower_nodes entries)
-  counts_below b records vxr low high no_entry h = tt
-  counts_below b records vxr low high (block first last place packed entries) h = counts_below b records vxr (with_sign last) high entries h.1.1
-  counts_below b records vxr low high (lower first last nodes entries) h =
-      let p = Hold-split (nodes_rows b records (number_before first) (with_sign last) nodes) (used_rows b records vxr (with_sign last) high entries) h.1 in
-      Each-append (Counts b) (nodes_of nodes) (lower_nodes entries) (counts_hold b records (number_before first) (with_sign last) nodes p.0) (counts_below b records vxr (with_sign last) high entries p.1)
+  counts_below : (b records : List ℕ) (vxr : ℕ) (low high : ℤ) (entries : Entries) → Hold (used_rows b records vxr low high entries) → (m : ℕ) → In m (lower_nodes entries) → Counts b m
+  counts_below b records vxr low high no_entry h m i = absurd i
+  counts_below b records vxr low high (block first last place packed entries) h m i = counts_below b records vxr (with_sign last) high entries h.1.1 m i
+  counts_below b records vxr low high (lower first last nodes entries) h m i =
+      grind (arith, i, In-append m (nodes_of nodes) (lower_nodes entries), Hold-split (nodes_rows b records (number_before first) (with_sign last) nodes) (used_rows b records vxr (with_sign last) high entries) h.1, counts_hold b records (number_before first) (with_sign last) nodes, counts_below b records vxr (with_sign last) high entries)
 
 -- ---- the edit
 
@@ -122,24 +121,18 @@ module _ {b now : List ℕ} {kind : Kind} {before : List VariableShape} {own : V
 
   -- ---- records that were there
 
-  pub node_in : (m : ℕ) → In m nodes → In m (shape b).records
-  node_in m i = behind_in good among m (node_behind own m i)
-
-  node_typed : (m : ℕ) → In m nodes → type_at b m ≡ vxr_type
-  node_typed m i = linkable-type b (shape b).records vxr_type m (nodes_stand b (shape b).records 8 own.index (has good among).indexed.has_nodes m i)
-
   node_kept : (m : ℕ) → In m nodes → Kept b w.roomy m
-  node_kept m i = kept taking.grows.edit m vxr_type (node_in m i) (node_typed m i) refl
+  node_kept m i = kept taking.grows.edit m vxr_type (own_node good among m i).0 (own_node good among m i).1 refl
 
   as_before : (m : ℕ) → In m nodes → (room_at w.roomy m ≡ room_at b m) × (size_at w.roomy m ≡ size_at b m)
-  as_before m i = let n = same_node b w.roomy m (node_kept m i) (Each-in (NodeFits b) nodes (fits good among).1 m i) in (n.room_is, n.size_is)
+  as_before m i = let n = same_node b w.roomy m (node_kept m i) (node_fits good among m i) in (n.room_is, n.size_is)
 
   -- a record that is in use is not taken
   pub used_apart : (m : ℕ) → In m (shape b).records → type_at b m ≢ uir_type → is_taken_at step m ≡ false
   used_apart m i used = is_in-false m reborn (λ j. used (taking.fresh_all m j i))
 
   node_apart : (m : ℕ) → In m nodes → is_taken_at step m ≡ false
-  node_apart m i = used_apart m (node_in m i) (λ e. apart vxr_type uir_type refl (sym (node_typed m i) ∙ e))
+  node_apart m i = used_apart m (own_node good among m i).0 (λ e. apart vxr_type uir_type refl (sym (own_node good among m i).1 ∙ e))
 
   -- ---- the entries are written
 
@@ -147,11 +140,11 @@ module _ {b now : List ℕ} {kind : Kind} {before : List VariableShape} {own : V
   node_there : (m : ℕ) → In m all_nodes → In m records' × (type_at w.roomy m ≡ vxr_type)
   node_there m i = elim (In-append m (new_nodes room at) nodes i) [
     | inl j ↦ ((new_node m j).inside, (new_node m j).typed)
-    | inr j ↦ let k = node_kept m j in (taking.grows.edit.sub m (node_in m j), type_kept b w.roomy m k.same k.long ∙ node_typed m j)
+    | inr j ↦ let k = node_kept m j in (taking.grows.edit.sub m (own_node good among m j).0, type_kept b w.roomy m k.same k.long ∙ (own_node good among m j).1)
   ]
 
   node_touched : (t : Touch) → NodeTouch w.roomy own room at t → In t.tile all_nodes × (t.place + t.width ≤ size_at w.roomy t.tile)
-  node_touched t (inl n) = (In-append_right t.tile (new_nodes room at) nodes n.0, omega (arith, n.1, as_before t.tile n.0, (Each-in (NodeFits b) nodes (fits good among).1 t.tile n.0).0))
+  node_touched t (inl n) = (In-append_right t.tile (new_nodes room at) nodes n.0, omega (arith, n.1, as_before t.tile n.0, (node_fits good among t.tile n.0).0))
   node_touched t (inr n) =
       let i = subst (λ (m : ℕ). In m (new_nodes room at)) (sym n.1) (is_new_node room at n.0) in
       (In-append_left t.tile (new_nodes room at) nodes i, omega (arith, n.2, (new_node t.tile i).size_is))
@@ -246,7 +239,7 @@ module _ {b now : List ℕ} {kind : Kind} {before : List VariableShape} {own : V
   spare_stays m i =
       let k = node_kept m i in
       same-then b w.roomy now (m + (28 + 16 * room_at b m)) (m + size_at b m) (Same-part b w.roomy m (m + size_at b m) (m + (28 + 16 * room_at b m)) (m + size_at b m) k.same (omega arith) (omega arith))
-      (changed_missed w.roomy now records' w.touches entries [] taking.grows.sound.has_shape.tiled w.as_long w.changed all_marked m (28 + 16 * room_at b m) (size_at b m) (taking.grows.edit.sub m (node_in m i))
+      (changed_missed w.roomy now records' w.touches entries [] taking.grows.sound.has_shape.tiled w.as_long w.changed all_marked m (28 + 16 * room_at b m) (size_at b m) (taking.grows.edit.sub m (own_node good among m i).0)
       (omega (arith, as_before m i)) (misses m (28 + 16 * room_at b m) (size_at b m) i (omega (arith, as_before m i)) w.touches w.within))
 
   pub nodes_step : NodesStep b now own.index (nodes_of (with_leaf new at own.index)) step
@@ -285,21 +278,13 @@ module _ {b now : List ℕ} {kind : Kind} {before : List VariableShape} {own : V
       old = each_of (λ (l : Leaf). Same b now l.place (l.place + size_at b l.place)) (leaves_of own.index) (λ l i. (block_kept good among new_index l.place (place_in (leaves_of own.index) l i)).same);
       size_is = block_size ∙ body_long body records says;
       records_are =
-          let long = body_long body records says in
-          let whole : length body ≡ 4 + (length body - 4) = omega arith in
-          let behind : new.place + 12 ≡ new.place + 8 + 4 = omega arith in
-          let rest = take-take (length records) (length body - 4) (drop 4 (drop (new.place + 8) now)) (omega arith) in
-          grind (arith, whole, behind, rest, drop-take 4 (length body - 4) (drop (new.place + 8) now), drop-drop 4 (new.place + 8) now, body_now, says.records_are);
-      spare = λ i l lt.
-          let e = block_size in
-          let behind : new.place + i ≡ new.place + 8 + (i - 8) = omega arith in
-          grind (arith, behind, get_or-drop (new.place + 8) now (i - 8) 0, get_or-take (length body) (drop (new.place + 8) now) (i - 8) 0 (omega arith), body_now, says.spare (i - 8) (omega arith) (omega arith));
+          let whole : length body ≡ 4 + (length body - 4) = omega (arith, body_long body records says) in
+          let rest = take-take (length records) (length body - 4) (drop 4 (drop (new.place + 8) now)) (omega (arith, body_long body records says)) in
+          grind (arith, whole, rest, drop-take 4 (length body - 4) (drop (new.place + 8) now), drop-drop 4 (new.place + 8) now, body_now, says.records_are);
+      spare = λ i l lt. grind (arith, l, lt, get_or-drop (new.place + 8) now (i - 8) 0, get_or-take (length body) (drop (new.place + 8) now) (i - 8) 0 (omega (arith, block_size)), body_now, says.spare (i - 8) (omega arith) (omega (arith, block_size)));
     }
 
     module _ (vacant : IsVacant own new.first new.last) (as_long : length records ≡ (new.last + 1 - new.first) * record_bytes b own.vdr) (short : length now ≤ image_limit) where
-      order : InOrder 0 record_number_limit own.index
-      order = index_order b (shape b).records own.vdr own.index (own_rules good among).1
-
       -- ---- the blocks
 
       block_rows : (l : Leaf) → In l.place records' → type_at now l.place ≡ vvr_type → l.first ≤ l.last → l.last ≤ record_number_limit → 12 + (l.last + 1 - l.first) * record_bytes b own.vdr ≤ size_at now l.place → (is_block now records' l.place ≡ true) × Hold (leaf_rows now records' own.vdr l)
@@ -310,7 +295,7 @@ module _ {b now : List ℕ} {kind : Kind} {before : List VariableShape} {own : V
           rw (there, typed, count, size) (refl, (of_le (12 + (l.last + 1 - l.first) * record_bytes b own.vdr) (size_at now l.place) fit, tt))
 
       each_leaf : (l : Leaf) → IsOneOf (leaves_of (with_leaf new at own.index)) l → (is_block now records' l.place ≡ true) × Hold (leaf_rows now records' own.vdr l)
-      each_leaf l i = elim (leaf_was_there new at 0 record_number_limit own.index order l i) [
+      each_leaf l i = elim ((one_of_leaves new at 0 record_number_limit own.index (own_order good among) l).0 i) [
         | inl q ↦
             let long : 12 + (new.last + 1 - new.first) * record_bytes b own.vdr ≤ size_at now new.place = rw (block_size, body_long body records says, as_long) (omega arith) in
             subst (λ (x : Leaf). (is_block now records' x.place ≡ true) × Hold (leaf_rows now records' own.vdr x)) (sym q) (block_rows new (taken_used new.place (inl refl)).0 block_typed vacant.ordered (before_limit new.first new.last (firsts_of own.index) vacant.before_next) long)
@@ -324,7 +309,7 @@ module _ {b now : List ℕ} {kind : Kind} {before : List VariableShape} {own : V
       index_ruled : Hold (index_rows now records' own.vdr (with_leaf new at own.index))
       index_ruled =
           let rules = (own_rules good among).1 in
-          let counts = counts_hold b (shape b).records (negsuc 0) (pos record_number_limit) own.index (Hold-split (nodes_rows b (shape b).records (negsuc 0) (pos record_number_limit) own.index) (flat_map (leaf_rows b (shape b).records own.vdr) (leaves_of own.index)) rules).0 in
+          let counts = each (Counts b) nodes (counts_hold b (shape b).records (negsuc 0) (pos record_number_limit) own.index (Hold-split (nodes_rows b (shape b).records (negsuc 0) (pos record_number_limit) own.index) (flat_map (leaf_rows b (shape b).records own.vdr) (leaves_of own.index)) rules).0) in
           index_rules_with_leaf b now (shape b).records records' own.vdr new at own.index rules vacant.ordered vacant.uncovered vacant.before_next (node_room good among new_index w.fits (w.counts counts) short) each_leaf
 
       -- ---- the owners
@@ -333,7 +318,7 @@ module _ {b now : List ℕ} {kind : Kind} {before : List VariableShape} {own : V
       exchanged = record {
         are_reborn = λ m i. inl i;
         reborn_are = λ m i. elim i [ inl j ↦ j | inr none ↦ absurd none ];
-        times_are = λ m. omega (arith, nodes_with_leaf new at m own.index, new_times room at m, ap (λ (xs : List Leaf). times m (places_of xs)) (leaves_more new at 0 record_number_limit own.index order) ∙ places_new m new (leaves_of own.index), times-append m (new.place ∷ []) (new_nodes room at));
+        times_are = λ m. omega (arith, nodes_with_leaf new at m own.index, new_times room at m, ap (λ (xs : List Leaf). times m (places_of xs)) (leaves_more new at 0 record_number_limit own.index (own_order good among)) ∙ places_new m new (leaves_of own.index), times-append m (new.place ∷ []) (new_nodes room at));
         fresh = taking.fresh_all;
         taken_once = taking.once;
         in_use = λ m i u. let x = taken_used m i in x.1 (sym (head_kept m x.0 x.1).0 ∙ u);

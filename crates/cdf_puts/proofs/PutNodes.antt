@@ -1,5 +1,5 @@
 -- The nodes of an index that grows leaf by leaf: the index but for where its blocks and its new nodes stand, its top chain, and the unused entries and spare bytes of its nodes.
-use Rattle.cdf_puts.proofs.Common.{same_node, bytes_eq, Act, Bool, Each, Each-in, Entries, EntryIs, Gave, Grows, HasNodes, In, In-append, Kept, Leaf, List, Names, NodeFits, NodeSpareStays, Nodes, NodesFollow, Range, Same, Same-part, SaysEntry, Took, TopGrows, UnusedEntries, [], ap, arith, block, by_leaf, cases_lt, chain_reaches, each, either, entries_outline, entry_count, false, first_at, if◌then◌else◌, indexes_with, inl, inr, is_in, is_in-true, is_taken_at, last_at, leads_down, leaf, length, list_any, lower, lower_nodes, no_entry, no_node, node, nodes_of, offset_at, outline, past, reaches, refl, room_at, same-then, same_of_bytes_eq, size_at, suc, sym, true, true-is_in, upto, used_count, uses_entry, uses_entry_below, was_unused, with_both, with_leaf, with_lower, with_ranges, zero, ℕ, ◌*◌, ◌++◌, ◌+◌, ◌<◌, ◌||◌, ◌∙◌, ◌∷◌, ◌≡◌, ◌≤◌, ◌⊎◌, Each-split, nat_tests, or_parts}
+use Rattle.cdf_puts.proofs.Common.{same_node, bytes_eq, Act, Bool, Each, Each-in, Entries, EntryIs, Gave, Grows, HasNodes, In, In-append, Kept, Leaf, List, Names, NodeFits, NodeSpareStays, Nodes, NodesFollow, Range, Same, Same-part, SaysEntry, Took, TopGrows, UnusedEntries, [], ap, arith, block, by_leaf, cases_lt, chain_reaches, each, either, entries_outline, entry_count, false, first_at, if◌then◌else◌, indexes_with, inl, inr, is_in, is_in-true, is_taken_at, last_at, leads_down, leaf, length, list_any, lower, lower_nodes, no_entry, no_node, node, nodes_of, offset_at, outline, past, reaches, refl, room_at, same-then, same_of_bytes_eq, size_at, suc, sym, true, true-is_in, upto, used_count, uses_entry, uses_entry_below, was_unused, with_both, with_leaf, with_lower, with_ranges, zero, ℕ, ◌*◌, ◌++◌, ◌+◌, ◌<◌, ◌||◌, ◌∙◌, ◌∷◌, ◌≡◌, ◌≤◌, ◌⊎◌, nat_tests, or_parts, In-append_left, In-append_right}
 
 -- ---- an outline says the same of an index as the index does
 
@@ -64,24 +64,22 @@ module _ (news : List ℕ) where
 mutual
   unfolding outline nodes_of lower_nodes
 
-  outline_agrees : (news news' : List ℕ) (index : Nodes) → Each (λ m. is_in m news' ≡ is_in m news) (nodes_of index) → outline news' index ≡ outline news index
+  outline_agrees : (news news' : List ℕ) (index : Nodes) → ((m : ℕ) → In m (nodes_of index) → is_in m news' ≡ is_in m news) → outline news' index ≡ outline news index
   outline_agrees news news' no_node same = refl
   outline_agrees news news' (node place room es more) same =
-      let p = Each-split (λ m. is_in m news' ≡ is_in m news) (lower_nodes es) (nodes_of more) same.1 in
-      λ k. node (if same.0 k then 0 else place) room (entries_agree news news' es p.0 k) (outline_agrees news news' more p.1 k)
+      grind (arith, same place (inl refl), entries_agree news news' es (λ m i. same m (inr (In-append_left m (lower_nodes es) (nodes_of more) i))), outline_agrees news news' more (λ m i. same m (inr (In-append_right m (lower_nodes es) (nodes_of more) i))))
 
-  entries_agree : (news news' : List ℕ) (es : Entries) → Each (λ m. is_in m news' ≡ is_in m news) (lower_nodes es) → entries_outline news' es ≡ entries_outline news es
+  entries_agree : (news news' : List ℕ) (es : Entries) → ((m : ℕ) → In m (lower_nodes es) → is_in m news' ≡ is_in m news) → entries_outline news' es ≡ entries_outline news es
   entries_agree news news' no_entry same = refl
   entries_agree news news' (block first last place packed es) same = ap (block first last 0 false) (entries_agree news news' es same)
   entries_agree news news' (lower first last nodes es) same =
-      let p = Each-split (λ m. is_in m news' ≡ is_in m news) (nodes_of nodes) (lower_nodes es) same in
-      λ k. lower first last (outline_agrees news news' nodes p.0 k) (entries_agree news news' es p.1 k)
+      grind (arith, outline_agrees news news' nodes (λ m i. same m (In-append_left m (nodes_of nodes) (lower_nodes es) i)), entries_agree news news' es (λ m i. same m (In-append_right m (nodes_of nodes) (lower_nodes es) i)))
 
 -- ---- two indexes with the same outline, where new nodes stand at 0 in the second
 
 -- A leaf more keeps it, where a node that is needed stands at a new place, and one that is not at 0; no node that was there is new by that.
 pub same_with_leaf : (news news' : List ℕ) (new : Leaf) (at : ℕ) (index index' : Nodes) → outline news index ≡ outline [] index' → ((m : ℕ) → In m (nodes_of index) → is_in m news' ≡ is_in m news) → place_outside news' at ≡ 0 → outline news' (with_leaf new at index) ≡ outline [] (with_leaf (bare new) 0 index')
-same_with_leaf news news' new at index index' same agree outside = grind (arith, outline_with_leaf news' new at index, outside, outline_agrees news news' index (each (λ m. is_in m news' ≡ is_in m news) (nodes_of index) agree), same, outline_with_leaf [] (bare new) 0 index')
+same_with_leaf news news' new at index index' same agree outside = grind (arith, outline_with_leaf news' new at index, outside, outline_agrees news news' index agree, same, outline_with_leaf [] (bare new) 0 index')
 
 pub same_uses : (news : List ℕ) (vxr i : ℕ) (index index' : Nodes) → outline news index ≡ outline [] index' → is_in vxr news ≡ false → (vxr ≡ 0 → ⊥) → uses_entry vxr i index ≡ uses_entry vxr i index'
 same_uses news vxr i index index' same old stands = sym (uses_outline news vxr i old stands index) ∙ ap (uses_entry vxr i) same ∙ uses_outline [] vxr i refl stands index'
@@ -179,9 +177,7 @@ module _ (b mid now : List ℕ) (through through' : List Nodes) (before after : 
   was_entry : (m i : ℕ) → i < room_at now m → was_unused mid (nodes_of index) acts' m i ≡ true → EntryIs b mid m i (was_unused b before (acts ++ acts') m i) ⊎ ((list_any (uses_entry m i) through ≡ true) × EntryIs b mid m i false)
   was_entry m i high v =
       let x = was_says mid (nodes_of index) acts' m i v in
-      let room = step.rooms m x.0 in
-      let same : was_unused b before (acts ++ acts') m i ≡ was_unused b before acts m i = grind (arith, x.1, taken_both acts acts' m) in
-      rw same (Each-in (UnusedEntries b mid through before acts) (nodes_of index) f.unused m x.0 i x.2 (omega arith))
+      grind (arith, x.1, taken_both acts acts' m, Each-in (UnusedEntries b mid through before acts) (nodes_of index) f.unused m x.0 i x.2 (omega (arith, step.rooms m x.0)))
 
   was_used : (m i : ℕ) → was_unused b before (acts ++ acts') m i ≡ true → (list_any (uses_entry m i) (index ∷ []) ≡ true) ⊎ (was_unused mid (nodes_of index) acts' m i ≡ false) → list_any (uses_entry m i) through' ≡ true
   was_used m i w x =

@@ -9,9 +9,6 @@ module _ {b : List ℕ} {kind : Kind} {before : List VariableShape} {own : Varia
   pub no_cpr : own.cpr ≡ []
   no_cpr = (is_uncompressed (good_by_its_shape b good) own (has good at) (fits good at)).no_cpr
 
-  pub no_lengths : (variable_of b own).rle ≡ false
-  no_lengths = loose
-
   pub no_rule : (variable_of b own).sparse ≡ NoRule
   no_rule = rw ((Hold-split (asked (is_compressed b own.vdr) (cpr_rows b (shape b).records (cpr_link b own.vdr))) (unread_sparse b own.vdr) ((own_rules good at).0.1.1.1.1.1.1.1.1.1.1.1)).1.0) refl
 

@@ -1,5 +1,5 @@
 -- Where the next record is put: the records of a new block, each step by which records are put, and what an image says of a variable of which some records are put.
-use Rattle.cdf_puts.proofs.Common.{Act, AddsLeaf, BlockRecords, Covering, GoesOn, HasIndex, In, IsBlockBody, IsBody, IsPut, IsVacant, Kind, LeafAdded, List, NodeTaken, Nodes, None, PutStart, PutsOn, PutsUpTo, Putting, RecordsWritten, SoFar, Some, SomePut, SomePutting, StandsAmong, Variable, VariableShape, [], ap, append-nil, arith, block_bytes, block_count, cases_lt, covers, div-le_self, drop, drop-append-le, drop_at, either, extent, false, find, first_written, firsts_of, fits, good_is_sound, has, if◌then◌else◌, image_limit, in_middle, index_at, index_order, inl, inr, is_sparse, last_in_new, leaf, leaf_acts, leaf_of, leaves_of, length, length-append, length-drop, long, max, max_rec_at, min, most_in_block, nat_tests, new_last, new_range, new_room, next_first, node_bytes, number, own_rules, range, record_bytes, record_length, record_of, record_put, records_put, refl, shape, sparse_at, subst, suc, sym, take, take-append-le, take_all, taken_bytes, tile, tile_lies, times_le, variable_of, variables, vdr_max_rec, vdr_vxr_head, vdrs, vxr_bytes, widest, with_leaf, zero, ℕ, ◌*◌, ◌++◌, ◌+◌, ◌-◌, ◌<◌, ◌==◌, ◌∙◌, ◌∷◌, ◌≡◌, ◌≤◌}
+use Rattle.cdf_puts.proofs.Common.{Act, AddsLeaf, BlockRecords, Covering, GoesOn, HasIndex, In, IsBlockBody, IsBody, IsPut, IsVacant, Kind, LeafAdded, List, NodeTaken, Nodes, None, PutStart, PutsOn, PutsUpTo, Putting, RecordsWritten, SoFar, Some, SomePut, SomePutting, StandsAmong, Variable, VariableShape, [], ap, append-nil, arith, block_bytes, block_count, cases_lt, covers, div-le_self, drop, drop-append-le, drop_at, either, extent, false, find, first_written, firsts_of, fits, good_is_sound, has, if◌then◌else◌, image_limit, in_middle, index_at, inl, inr, is_sparse, last_in_new, leaf, leaf_acts, leaf_of, leaves_of, length, length-append, length-drop, long, max_rec_at, min, most_in_block, nat_tests, new_last, new_range, new_room, next_first, node_bytes, number, range, record_bytes, record_length, record_of, record_put, records_put, refl, shape, sparse_at, subst, suc, sym, take, take-append-le, take_all, taken_bytes, tile, tile_lies, times_le, variable_of, variables, vdr_max_rec, vdr_vxr_head, vdrs, vxr_bytes, widest, with_leaf, zero, ℕ, ◌*◌, ◌++◌, ◌+◌, ◌-◌, ◌<◌, ◌==◌, ◌∙◌, ◌∷◌, ◌≡◌, ◌≤◌}
 use Rattle.cdf_puts.proofs.LeafEdit.{r_max_rec_stays as leaf_r_max_rec, body_long, plain_body, leaf_goes_on, leaf_max_rec, taking}
 use Rattle.cdf_puts.proofs.CoveringRanges.{covering_starts, covering_has, covering_leaf, covering_room, covering_ends, Ends, one_at_least}
 use Rattle.cdf_puts.proofs.GoesThen.{later_size, goes_then, goes_written, writes_nothing}
@@ -8,7 +8,7 @@ use Rattle.cdf_puts.proofs.LeafCounts.{new_room_widest}
 use Rattle.cdf_puts.proofs.IndexWritten.{blocks_written, index_written, max_rec_kept, r_max_rec_stays, writes}
 use Rattle.cdf_puts.proofs.PutRoom.{taken_sum, takes_both, leaf_bytes, longer_by}
 use Rattle.cdf_puts.proofs.SoFarStarts.{starts_upto, index_start, blocks_start}
-use Rattle.cdf_leaves.proofs.Own.{among_all, searchable}
+use Rattle.cdf_leaves.proofs.Own.{among_all, own_order, searchable}
 use Rattle.cdf_puts.proofs.PutBytes.{found_covering, size_now, whole}
 use Rattle.cdf_base.specs.Bytes.{put as put_at}
 use Rattle.cdf_format.specs.Index.{Leaf as TreeLeaf}
@@ -39,9 +39,8 @@ module _ (raw pad : List ℕ) (r size : ℕ) (raw_long : length raw ≡ size) (p
             let long = records_long count k in
             ap (take size) (drop-append-le ((j - k) * size) rest last (omega arith)) ∙ take-append-le size (drop ((j - k) * size) rest) last (omega (arith, length-drop ((j - k) * size) rest)) ∙ record_there count k j from lt
         | inr ge ↦
-            let same : j ≡ k + count = omega arith in
             let all : j - k ≡ count = omega arith in
-            ap (take size) (drop_at rest last ((j - k) * size) (records_long count k ∙ ap (λ (n : ℕ). n * size) (sym all))) ∙ take_all size last (omega (arith, record_long (k + count))) ∙ ap (record_put raw pad r) (sym same)
+            grind (arith, all, ge, upto, drop_at rest last (count * size) (records_long count k), take_all size last (omega (arith, record_long (k + count))))
       ]
 
   pub block_records : (k last : ℕ) → BlockRecords raw pad r k last size (records_put raw pad r (last + 1 - k) k)
@@ -58,7 +57,7 @@ module _ {b : List ℕ} {kind : Kind} {before : List VariableShape} {own : Varia
     start = start;
     upto = let l = starts_upto start in omega arith;
     goes = goes_written start.good start.among (writes_nothing start.good start.among) start.short;
-    covers = covering_starts (variable_of b own) own.index r (ap is_sparse start.no_rule) (index_order b (shape b).records own.vdr own.index (own_rules start.good start.among).1);
+    covers = covering_starts (variable_of b own) own.index r (ap is_sparse start.no_rule) (own_order start.good start.among);
     takes = tt;
     short = start.short;
     max_rec_is = refl;
@@ -96,8 +95,7 @@ module _ {b : List ℕ} {kind : Kind} {before : List VariableShape} {own : Varia
         let new = leaf k last place false in
         let step = leaf_acts place (8 + length body) (new_room k own'.index) at in
         let goes : GoesOn now now' kind before own' (record own' { index = with_leaf new at own'.index }) after step = leaf_goes_on good among w holds vacant (says.as_long ∙ ap (λ (n : ℕ). (last + 1 - k) * n) (sym (later_size so.start.good so.start.among so.goes))) short in
-        let need : 8 + length body ≡ block_bytes v k last = body_long body records holds ∙ ap (λ (n : ℕ). max 28 (12 + n)) says.as_long in
-        let bytes : taken_bytes (acts ++ step) ≡ taken_bytes acts + block_bytes v k last + node_bytes k own'.index = omega (arith, taken_sum acts step, leaf_bytes place (8 + length body) (new_room k own'.index) at) in
+        let bytes : taken_bytes (acts ++ step) ≡ taken_bytes acts + block_bytes v k last + node_bytes k own'.index = omega (arith, taken_sum acts step, leaf_bytes place (8 + length body) (new_room k own'.index) at, body_long body records holds, says.as_long) in
         let covers : Covering v own.index (with_leaf new at own'.index) r (min (last + 1) (r + 1)) (taken_bytes acts + block_bytes v k last + node_bytes k own'.index) =
         subst (λ (x : ℕ). Covering v own.index (with_leaf (leaf k x place false) at own'.index) r (min (x + 1) (r + 1)) (taken_bytes acts + block_bytes v k x + node_bytes k own'.index)) (sym is)
         (covering_leaf so.covers so.start.small more (ap is_sparse so.start.no_rule) so.start.loose vacant.uncovered place at (new_room_widest now (shape now).records 8 k own'.index (has good among).indexed.has_nodes (fits good among).1)) in
@@ -116,11 +114,8 @@ module _ {b : List ℕ} {kind : Kind} {before : List VariableShape} {own : Varia
 
 -- ---- how many records a new block has
 
-count_few : (v : Variable) → block_count v ≤ 1048576
-count_few v = elim (either v.vary) [ inl t ↦ rw t (let q = div-le_self 1048576 (record_length v) in omega arith) | inr t ↦ rw t (omega arith) ]
-
 most_within : (v : Variable) (r : ℕ) → (1 ≤ most_in_block v r) × (most_in_block v r ≤ 1048576)
-most_within v r = (grind (arith, nat_tests, one_at_least v), grind (arith, nat_tests, count_few v))
+most_within v r = (grind (arith, nat_tests, one_at_least v), grind (arith, nat_tests, div-le_self 1048576 (record_length v)))
 
 -- up to MaxRec it is one record, which is the one that is put
 last_as : (v : Variable) (index : Nodes) (k r most : ℕ) → is_sparse v.sparse ≡ false → most ≡ most_in_block v r → first_written v r ≤ k → k ≤ r → k < next_first k (firsts_of index) → last_in_new most index k ≡ new_last v index k
@@ -212,13 +207,10 @@ module _ {b now : List ℕ} {kind : Kind} {before : List VariableShape} {own : V
         ends_at : end ≡ new_last (variable_of b own) own'.index k
         ends_at = rw (at_is, searched.1) at end_is ∙ last_is
 
-        need : 8 + length body ≡ block_bytes (variable_of b own) k (new_last (variable_of b own) own'.index k)
-        need =
-            body_long body (records_put new.raw.items new.pad.items new.rec (end + 1 - k) k) says
-            ∙ ap (λ (n : ℕ). max 28 (12 + n)) (records_long new.raw.items new.pad.items new.rec (record_bytes b own.vdr) p.start.raw_long p.pad_long (end + 1 - k) k ∙ ap (λ (n : ℕ). (n + 1 - k) * (record_bytes b own.vdr)) ends_at)
-
         room_here : length now + (8 + length body) + vxr_bytes (widest own'.index) ≤ limit
-        room_here = omega (arith, longer_by b now is.acts so.goes.follow so.takes, need, covering_room so.covers so.start.small more (ap is_sparse so.start.no_rule) so.start.loose none)
+        room_here =
+            let bytes = records_long new.raw.items new.pad.items new.rec (record_bytes b own.vdr) p.start.raw_long p.pad_long (end + 1 - k) k ∙ ap (λ (n : ℕ). (n + 1 - k) * record_bytes b own.vdr) ends_at in
+            omega (arith, longer_by b now is.acts so.goes.follow so.takes, body_long body (records_put new.raw.items new.pad.items new.rec (end + 1 - k) k) says, bytes, covering_room so.covers so.start.small more (ap is_sparse so.start.no_rule) so.start.loose none)
 
         -- an image that is read in between
         pub room_after : {mid : List ℕ} {bound : ℕ} → mid ≡ now → bound ≡ limit → length mid + (8 + length body) + vxr_bytes (widest (index_at mid (number mid new.vdr vdr_vxr_head))) ≤ bound

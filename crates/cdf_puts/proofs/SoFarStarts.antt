@@ -1,5 +1,5 @@
 -- The leaves that were put so far: which one more there is once a record is written or a leaf is added, that a put goes through them one after the other, and how that starts.
-use Rattle.cdf_puts.proofs.Common.{Act, Ascending, BlocksSoFar, Bool, IndexSoFar, IsOneOf, Kind, Leaf, List, NodeSpareStays, Nodes, NodesFollow, NodesSoFar, None, PutStart, PutsBefore, PutsLeaves, Range, Some, TakesNode, UnusedEntries, VariableShape, [], ap, append_assoc, arith, block_need, bytes_eq-same, covers, each, false, filter, find, first_written, has, if◌then◌else◌, in_order, indexes_with, inl, inr, is_in, is_in-true, leaf_acts, leaves_ascend, leaves_of, list_any, nat_le, nat_tests, ne_eqb, new_ranges, new_room, node_acts, nodes_of, of_le, range, ranges_of, record_bytes, record_number_limit, refl, room, subst, suc, sym, through, top_chain, true, upto, used_count, variable_of, was_put, with_leaf, with_new, zero, ℕ, ◌++◌, ◌+◌, ◌<◌, ◌==◌, ◌∙◌, ◌∷◌, ◌≡◌, ◌≤◌}
+use Rattle.cdf_puts.proofs.Common.{Act, Ascending, BlocksSoFar, Bool, IndexSoFar, IsOneOf, Kind, Leaf, List, NodeSpareStays, Nodes, NodesFollow, NodesSoFar, None, PutStart, PutsBefore, PutsLeaves, Range, Some, TakesNode, UnusedEntries, VariableShape, [], ap, append_assoc, arith, block_need, bytes_eq-same, covers, each, false, filter, find, first_written, has, if◌then◌else◌, in_order, indexes_with, inl, inr, is_in-true, leaf_acts, leaves_ascend, leaves_of, list_any, nat_tests, ne_eqb, new_ranges, new_room, node_acts, nodes_of, of_le, range, ranges_of, record_bytes, record_number_limit, refl, room, subst, suc, sym, through, top_chain, true, upto, used_count, variable_of, was_put, with_leaf, with_new, zero, ℕ, ◌++◌, ◌+◌, ◌<◌, ◌==◌, ◌∙◌, ◌∷◌, ◌≡◌, ◌≤◌}
 use Rattle.cdf_puts.proofs.CoveringRanges.{of_leaves}
 use Rattle.cdf_puts.proofs.PutBytes.{none_is_put}
 
@@ -75,10 +75,7 @@ ranges_more before low upto (x ∷ more) new a out late =
 
 nodes_first : (b : List ℕ) (through : List Nodes) (nodes : List ℕ) → NodesFollow b b through nodes nodes []
 nodes_first b through nodes = record {
-  unused = each (UnusedEntries b b through nodes []) nodes (λ m i n from upto.
-      let there : is_in m nodes ≡ true = is_in-true m nodes i in
-      let unused : nat_le (used_count b m) n ≡ true = of_le (used_count b m) n from in
-      inl (rw (there, unused) (record { first_is = refl; last_is = refl; offset_is = refl })));
+  unused = each (UnusedEntries b b through nodes []) nodes (λ m i n from upto. inl (rw (is_in-true m nodes i, of_le (used_count b m) n from) (record { first_is = refl; last_is = refl; offset_is = refl })));
   spare = each (NodeSpareStays b b []) nodes (λ m i e. record { each = λ p low high. refl });
 }
 

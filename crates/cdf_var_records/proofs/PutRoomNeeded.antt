@@ -1,6 +1,8 @@
 -- How large a put makes the file at most, by what was read of the variable.
 use Rattle.cdf_var_records.proofs.Common.{Ascending, Form, Good, HasIndex, IndexSize, IsForm, List, Nodes, Variable, ap, ap₂, arith, blocks_room, covered, cuts_before_put, either, false, first_written, index_at, inl, inr, is_sparse, leaves_ascend, leaves_of, length, no_lengths, number, packed_room, put_room, ranges_before_put, ranges_of, record_number_limit, refl, subst, suc, sym, uncovered, uncut, variable_at, vdr_vxr_head, ℕ, ◌+◌, ◌-◌, ◌∙◌, ◌≡◌, ◌≤◌}
 use Rattle.cdf_index.specs.Sizes.{size_of}
+use Rattle.cdf_index.specs.declared.measuring.IndexSize.{IndexSize}
+use Rattle.cdf_puts.proofs.PutRules.{loose, uncut}
 use Rattle.cdf_var_records.proofs.RecordForms.{variable_is}
 use Rattle.cdf_var_records.proofs.RecordReading.{index, lies}
 use Rattle.cdf_var_records.proofs.VdrParts.{at}
@@ -47,5 +49,5 @@ module _ {b : List ℕ} {form : Form} (good : Good b) (is : IsForm b form) (r : 
 
     pub room_there : (from missing : ℕ) → from ≡ first_written v r → missing ≡ (r + 1 - from) - covered from r (ranges_of (index_at x head)) → put_room v nodes r ≡ blocks_room v nodes missing
     room_there from missing from_is missing_is =
-        room_is v nodes r missing from (ap (λ (y : Variable). y.rle) (variable_is good is.is_vdr) ∙ no_lengths good (at good is.is_vdr)) (ap (λ (y : Variable). cuts_before_put y r) (variable_is good is.is_vdr) ∙ uncut good (at good is.is_vdr) r) from_is
+        room_is v nodes r missing from (ap (λ (y : Variable). y.rle) (variable_is good is.is_vdr) ∙ loose good (at good is.is_vdr)) (ap (λ (y : Variable). cuts_before_put y r) (variable_is good is.is_vdr) ∙ uncut good (at good is.is_vdr) r) from_is
         (missing_is ∙ ap (λ (y : Nodes). (r + 1 - from) - covered from r (ranges_of y)) index_same)
