@@ -1,5 +1,5 @@
 -- How large a put makes the file at most, by what was read of the variable.
-use Rattle.cdf_var_records.proofs.Common.{Ascending, Form, Good, HasIndex, IndexSize, IsForm, List, Nodes, Variable, ap, ap₂, arith, blocks_room, covered, cuts_before_put, either, false, first_written, index_at, inl, inr, is_sparse, leaves_ascend, leaves_of, length, no_lengths, number, packed_room, put_room, ranges_before_put, ranges_of, record_number_limit, refl, subst, suc, sym, uncovered, uncut, variable_at, vdr_vxr_head, ℕ, ◌+◌, ◌-◌, ◌∙◌, ◌≡◌, ◌≤◌}
+use Rattle.cdf_var_records.proofs.Common.{Ascending, Form, Good, HasIndex, IndexSize, IsForm, List, Nodes, Variable, ap, ap₂, arith, blocks_room, covered, cuts_before_put, either, false, first_written, index_at, inl, inr, is_sparse, leaves_ascend, leaves_of, length, number, packed_room, put_room, ranges_before_put, ranges_of, record_number_limit, refl, subst, suc, sym, uncovered, uncut, variable_at, vdr_vxr_head, ℕ, ◌+◌, ◌-◌, ◌∙◌, ◌≡◌, ◌≤◌}
 use Rattle.cdf_index.specs.Sizes.{size_of}
 use Rattle.cdf_index.specs.declared.measuring.IndexSize.{IndexSize}
 use Rattle.cdf_puts.proofs.PutRules.{loose, uncut}
