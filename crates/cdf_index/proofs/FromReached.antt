@@ -7,6 +7,7 @@ use Rattle.cdf_index.proofs.Coming.{chain_reaches_from}
 use Rattle.cdf_index.proofs.EntriesLeft.{node_parts}
 use Rattle.cdf_index.proofs.GoodIndex.{found_index}
 use Rattle.cdf_index.proofs.LeavesAscend.{end_before}
+use Rattle.cdf_index.proofs.LeafRules.{widened}
 use Rattle.cdf_index.proofs.Looking.{none_there}
 use Rattle.cdf_index.proofs.OrderLemmas.{end_after, find_is}
 use Rattle.cdf_index.proofs.WayDown.{chain_there, node_there_by}
@@ -45,13 +46,6 @@ rest_once (behind {es = es} {more = more} r) d = rest_once r (Distinct-back (low
 
 -- ---- it stands, in order
 
-order_from : (low low' high : ℕ) (ns : Nodes) → low' ≤ low → InOrder low high ns → InOrder low' high ns
-unfolding InOrder AreInOrder
-order_from low low' high no_node le o = tt
-order_from low low' high (node place room no_entry more) le o = (tt, order_from low low' high more le o.1)
-order_from low low' high (node place room (block first last at packed es) more) le o = ((omega (arith, o.0.0), o.0.1, o.0.2, o.0.3), o.1)
-order_from low low' high (node place room (lower first last nodes es) more) le o = ((omega (arith, o.0.0), o.0.1, o.0.2, o.0.3, o.0.4), o.1)
-
 record Standing (b : List ℕ) (ns : Nodes) : Type 0 where
   pub stands : Stands b 8 ns
   pub once : Distinct (nodes_of ns)
@@ -61,7 +55,7 @@ rest_stands : {b : List ℕ} {s ns : Nodes} → Rest s ns → Standing b ns → 
 unfolding nodes_of InOrder
 rest_stands whole p = p
 rest_stands (behind {es = es} {more = more} r) p =
-    rest_stands r (record { stands = (node_parts p.stands).more_stands; once = Distinct-back (lower_nodes es) (nodes_of more) p.once.1; order = order_from (past_entries 0 es) 0 record_number_limit more (omega arith) p.order.1 })
+    rest_stands r (record { stands = (node_parts p.stands).more_stands; once = Distinct-back (lower_nodes es) (nodes_of more) p.once.1; order = widened (past_entries 0 es) 0 record_number_limit record_number_limit more (omega arith) (omega arith) p.order.1 })
 
 index_standing : {b : List ℕ} {head : ℕ} → HasIndex b head → Standing b (index_at b head)
 index_standing {b = b} {head = head} has = record { stands = index_stands b head has; once = has.index.once; order = has.order }

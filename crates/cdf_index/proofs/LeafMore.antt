@@ -98,14 +98,11 @@ here_new l low high given (lower first last nodes es) o t =
     grind (arith, nat_tests, behind, before, here_new l (suc last) high true es o.4, leads_none l.first true es, reaches_from l.first (suc last) high es o.4, o.1, t)
 
 -- entries before a chain that reaches a record
-order_by : (f low high : ℕ) (es : Entries) → AreInOrder low high es → past_entries low es ≤ f → AreInOrder low f es
-unfolding AreInOrder
-order_by f low high no_entry o h = tt
-order_by f low high (block first last place packed es) o h = let e = end_after (suc last) high es o.3 in (o.0, o.1, omega arith, order_by f (suc last) high es o.3 h)
-order_by f low high (lower first last nodes es) o h = let e = end_after (suc last) high es o.4 in (o.0, o.1, omega arith, o.3, order_by f (suc last) high es o.4 h)
-
 chain_by : (f low high : ℕ) (es : Entries) → AreInOrder low high es → past_entries low es ≤ f → BeginBy f (entry_leaves es)
-chain_by f low high es o h = within_by f low f (entry_leaves es) (entries_within low f es (order_by f low high es o h)) (omega arith)
+unfolding AreInOrder leaves_of entry_leaves
+chain_by f low high no_entry o h = tt
+chain_by f low high (block first last place packed es) o h = (omega (arith, o.1, end_after (suc last) high es o.3), chain_by f (suc last) high es o.3 h)
+chain_by f low high (lower first last nodes es) o h = Each-append (λ (x : Leaf). x.first ≤ f) (leaves_of nodes) (entry_leaves es) (within_by f first last (leaves_of nodes) (leaves_within first last nodes o.3) (omega (arith, end_after (suc last) high es o.4))) (chain_by f (suc last) high es o.4 h)
 
 -- ---- the index
 
