@@ -37,13 +37,9 @@ pub opened_nodes : {b : List ℕ} {levels at : ℕ} {ns : Nodes} → (o : Opened
 unfolding nodes_of
 opened_nodes o = omega (arith, ap (λ (x : Nodes). length (nodes_of x)) o.is, length-append (lower_nodes o.entries) (nodes_of o.more))
 
-zero_node : (at room : ℕ) (entries : Entries) (more : Nodes) → NextsAreZero (node at room entries more) → LowerAreZero entries × (more ≡ no_node)
-unfolding NextsAreZero
-zero_node at room entries no_node z = (z, refl)
-zero_node at room entries (node at' room' entries' more) z = absurd z
-
 pub opened_zero : {b : List ℕ} {levels at : ℕ} {ns : Nodes} → (o : Opened b levels at ns) → NextsAreZero ns → LowerAreZero o.entries × (o.more ≡ no_node)
-opened_zero {at = at} o z = zero_node at o.room o.entries o.more (rw o.is at z)
+unfolding NextsAreZero
+opened_zero o z = grind (arith, o.is)
 
 -- ---- what an entry names
 
@@ -53,9 +49,7 @@ block_no_node b m e t = elim (or_cases (is_a b (tiles b) vvr_type m) (is_a b (ti
 
 pub node_linkable : (b : List ℕ) (levels : ℕ) (nodes : Nodes) → IsNode nodes → HasNodes b (tiles b) levels nodes → is_linkable b (tiles b) vxr_type (link_to nodes) ≡ true
 unfolding HasNodes
-node_linkable b levels no_node is h = absurd is
-node_linkable b zero (node place room entries more) is h = absurd h
-node_linkable b (suc levels) (node place room entries more) is h = h.0.linkable
+node_linkable b levels nodes is h = grind arith
 
 pub chain_is : (b : List ℕ) (at k : ℕ) → type_at b (offset_at b at k) ≡ 6 → chain_at b at k ≡ offset_at b at k
 chain_is b at k e = rw e refl

@@ -108,11 +108,7 @@ from_rest f ns = from_by f Rest (λ ns. whole) (λ place room es s more t r. beh
 
 -- where there is a node, it is at one of the top chain
 from_top : (f : ℕ) (ns : Nodes) → IsNode ns → IsNode (from_reached f ns) × In (link_to (from_reached f ns)) (top_chain ns)
-from_top f ns = from_by f (λ s ns. IsNode ns → IsNode s × In (link_to s) (top_chain ns)) first (λ place room es s more t r is. (let on = r (chain_there f more t) in (on.0, inr on.1))) ns
-  where
-    first : (ns : Nodes) → IsNode ns → IsNode ns × In (link_to ns) (top_chain ns)
-    first no_node is = absurd is
-    first (node place room es more) is = (tt, inl refl)
+from_top f ns = from_by f (λ s ns. IsNode ns → IsNode s × In (link_to s) (top_chain ns)) (λ ns is. grind arith) (λ place room es s more t r is. (let on = r (chain_there f more t) in (on.0, inr on.1))) ns
 
 abbrev Same : ℕ → Nodes → Nodes → Type 0
 Same f s ns = (low high : ℕ) → InOrder low high ns → (way f s ≡ way f ns) × (spot f s ≡ spot f ns) × (find_in f s ≡ find_in f ns) × (filter (ltb f) (firsts_of s) ≡ filter (ltb f) (firsts_of ns))
@@ -159,7 +155,7 @@ starts_at {b = b} {head = head} {rec = rec} {start = start} has e =
       way_is = rw x.1 same.0;
       spot_is = rw x.1 same.1;
       among = rw x.1 (rest_among rest);
-      empty = λ z. elim (cases_eq head 0) [ inl none ↦ none | inr n ↦ absurd (subst IsNode (none_there b 8 (from_reached rec ns) has.tiled (rest_has b (tiles b) 8 rest has.index.has_nodes) (sym e ∙ z)) (there n).0) ];
+      empty = λ z. elim (cases_eq head 0) [ inl none ↦ none | inr n ↦ absurd (subst IsNode (none_there b 8 (from_reached rec ns) has.tiled (rest_stands rest (index_standing has)).stands.has (sym e ∙ z)) (there n).0) ];
       some = some;
       top = λ n. rw e (there (some n)).1;
     }

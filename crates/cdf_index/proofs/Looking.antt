@@ -130,5 +130,4 @@ module _ {b : List ℕ} {rec turn at : ℕ} {nodes : Nodes} (a : At b rec turn n
 
 pub one_passed : (rec : ℕ) (ns : Nodes) → IsNode ns → 1 ≤ nodes_passed rec ns
 unfolding nodes_passed
-one_passed rec no_node is = absurd is
-one_passed rec (node place room entries more) is = omega arith
+one_passed rec ns is = grind arith

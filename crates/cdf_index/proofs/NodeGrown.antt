@@ -1,5 +1,5 @@
 -- A node with one entry more, or it and a new node behind it, in the tree.
-use Rattle.cdf_index.proofs.Common.{rules, Begins, Chained, Entries, HasNodes, Inserted, IsNode, Leaf, List, MayName, Names, Nodes, Owed, SameHeads, SayEntries, SaysEntry, SaysNode, Split, StillSays, ap, arith, either, entry_count, eqb, inl, inr, is_linkable, le-ltb, length, link_to, linkable_kept, lt-ltb, ltb, max, next_of, no_entry, node, past, placed, room_at, suc, sym, true, used_count, vxr_type, with_block, with_both, ℕ, ◌*◌, ◌+◌, ◌-◌, ◌<◌, ◌∙◌, ◌≡◌, ◌≤◌}
+use Rattle.cdf_index.proofs.Common.{rules, Begins, Chained, Entries, HasNodes, Inserted, IsNode, Leaf, List, MayName, Names, Nodes, Owed, SameHeads, SayEntries, SaysEntry, SaysNode, Split, StillSays, ap, arith, entry_count, is_linkable, le-ltb, length, link_to, linkable_kept, lt-ltb, max, next_of, no_entry, node, past, placed, room_at, suc, sym, true, used_count, vxr_type, with_block, with_both, ℕ, ◌*◌, ◌+◌, ◌-◌, ◌<◌, ◌∙◌, ◌≡◌, ◌≤◌}
 use Rattle.cdf_index.proofs.Inserting.{front_stays}
 use Rattle.cdf_index.proofs.Saying.{front, front_past, upto_both, upto_is, count_both, say_both, say_parts, names_both, names_parts, say_moved}
 use Rattle.std.proofs.lemmas.Bool.{ne_eqb, eq-eqb}
@@ -27,10 +27,7 @@ pub placed_link : (l : Leaf) (new at room : ℕ) (es : Entries) (more : Nodes) �
 placed_link l new at room es more = grind arith
 
 pub placed_node : (l : Leaf) (new at room : ℕ) (es : Entries) (more : Nodes) → IsNode (placed l new at room es more)
-placed_node l new at room es more = elim (either (ltb (entry_count es) room)) [
-  | inl t ↦ rw t tt
-  | inr t ↦ elim (either (eqb (entry_count (past l.first es)) 0)) [ inl u ↦ rw (t, u) tt | inr u ↦ rw (t, u) tt ]
-]
+placed_node l new at room es more = grind arith
 
 module _ (b now records records' : List ℕ) (heads : SameHeads b now records records') (at new used p : ℕ) (l : Leaf) (used_is : used ≡ used_count b at) (begins : Begins b at l.first p) (names : MayName now records' l) where
   parts : (levels r : ℕ) (es : Entries) (more : Nodes) → SaysNode b records at r es more → Names now records' levels es → Parts b now records' levels at l.first used p es

@@ -120,19 +120,16 @@ module _ {b : List ℕ} {rec turn : ℕ} {nodes : Nodes} {walk : Walk} (w : IsWa
         walk_down (Some first) h (rw e (sym (first_decides rec (firsts_of h.low.nodes) _ (first_at b walk.at i) walk.best (g.stop lt)) ∙ rw (entry_here here h.entry lt).adds.firsts at h.same))
 
     module _ (all : i ≡ used_count b walk.at) where
-      none_left : (h : Behind walk here rec turn i nodes) → entry_firsts h.entry.rest ≡ []
-      unfolding entry_firsts
-      none_left h = ap entry_firsts (none_here here h.entry (omega arith))
-
       -- the chain ended
       pub walk_below : AreTiles b 8 (length b) (tiles b) → next_of b walk.at ≡ 0 → IsWalk b rec nodes (turn + 1) (record { best = walk.best; at = lower; lower = 0 })
-      unfolding firsts_of
+      unfolding firsts_of entry_firsts
       walk_below tiled next =
           let h = behind i g.before g.most in
-          walk_down walk.best h (rw (none_left h, ap firsts_of (none_there b w.left.levels here.more tiled here.more_stands.has (sym here.parts.says.next_is ∙ next)), append-nil) at h.same)
+          walk_down walk.best h (rw (none_here here h.entry (omega arith), ap firsts_of (none_there b w.left.levels here.more tiled here.more_stands.has (sym here.parts.says.next_is ∙ next)), append-nil) at h.same)
 
       -- it goes on
       pub walk_along : (next : ℕ) → next ≡ next_of b walk.at → next ≢ 0 → IsWalk b rec nodes (turn + 1) (record { best = walk.best; at = next; lower = lower })
+      unfolding entry_firsts
       walk_along next e some =
           let h = behind i g.before g.most in
           let link = e ∙ here.parts.says.next_is in
@@ -140,8 +137,8 @@ module _ {b : List ℕ} {rec turn : ℕ} {nodes : Nodes} {walk : Walk} (w : IsWa
             low = record { levels = h.low.levels; nodes = h.low.nodes; stands = h.low.stands; link_is = lower_is ∙ h.low.link_is };
             left = record { levels = w.left.levels; nodes = here.more; stands = here.more_stands; link_is = link };
             ended = λ z. absurd (some z);
-            climbs = rw (none_left h) at h.climbs;
-            same = rw (none_left h) at h.same;
+            climbs = rw (none_here here h.entry (omega arith)) at h.climbs;
+            same = rw (none_here here h.entry (omega arith)) at h.same;
             fewer = omega (arith, h.entry.fewer);
             zero = λ z. absurd (some (link ∙ ap link_to (h.zero z).4));
           }
