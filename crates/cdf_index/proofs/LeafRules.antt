@@ -217,9 +217,3 @@ module _ (b records : List ℕ) where
 
   pub index_order : (vdr : ℕ) (index : Nodes) → Hold (index_rows b records vdr index) → InOrder 0 record_number_limit index
   index_order vdr index h = order_from b records 0 record_number_limit index (Hold-split (nodes_rows b records (negsuc 0) (pos record_number_limit) index) (flat_map (leaf_rows b records vdr) (leaves_of index)) h).0
-
-pub index_rules_with_leaf : (b now records records' : List ℕ) (vdr : ℕ) (new : Leaf) (at : ℕ) (index : Nodes) → Hold (index_rows b records vdr index) → new.first ≤ new.last
-    → find (λ (leaf : Leaf). covers new.first (range leaf.first leaf.last)) (leaves_of index) ≡ None → new.last < next_first new.first (firsts_of index)
-    → ((m : ℕ) → In m (nodes_of (with_leaf new at index)) → has_room now m ≡ true) → ((l : Leaf) → IsOneOf (leaves_of (with_leaf new at index)) l → (is_block now records' l.place ≡ true) × Hold (leaf_rows now records' vdr l))
-    → Hold (index_rows now records' vdr (with_leaf new at index))
-index_rules_with_leaf b now records records' vdr new at index h k u n room each = index_rules now records' vdr (with_leaf new at index) (order_with_leaf new at index (index_order b records vdr index h) k u n) room each

@@ -73,10 +73,6 @@ module _ (b now records records' : List ℕ) (heads : SameHeads b now records re
   -- ---- a full node
 
   module _ (full : room_at b at ≤ used) (fresh : is_linkable now records' vxr_type new ≡ true) where
-    -- the new node
-    new_has : (levels r : ℕ) (es : Entries) (more : Nodes) → next_of now new ≡ link_to more → room_at now new ≡ r → used_count now new ≡ entry_count es → SayEntries now new 0 es → Names now records' levels es → HasNodes now records' (suc levels) more → HasNodes now records' (suc levels) (node new r es more)
-    new_has levels r es more next room used say n m = node_has now records' levels new r es more (record { linkable = fresh; next_is = next; room_is = room; used_is = used; say_entries = say }) n m
-
     module _ (sp : Split b now at new used p l.first l.last l.place) (behind : p < used) where
       -- the new image has the two nodes, and all else of the tree
       pub split_owed : Owed b now records records' at (placed l new at)
@@ -90,7 +86,7 @@ module _ (b now records records' : List ℕ) (heads : SameHeads b now records re
             let some = ne_eqb (entry_count bk) 0 (λ e. absurd (omega (arith, q.count))) in
             let last = say_moved b now at new p 0 bk q.say_past (λ n m f o w e le lt says. (let x : n - p ≡ m = omega arith in rw x at (sp.moved n f o w le (omega (arith, q.count)) says))) in
             rw (test, some, upto_is l es) (fed_has levels r es more h q no_entry (node new (max 7 (entry_count bk)) bk more) sp.next_is sp.room_stays (sp.used_is ∙ omega arith) sp.earlier sp.here tt q.names_none
-            (new_has levels (max 7 (entry_count bk)) bk more (sp.new_next ∙ h.next_is) (sp.new_room ∙ ap (max 7) (omega (arith, q.count))) (sp.new_used ∙ omega (arith, q.count)) last q.names_past m)));
+            (node_has now records' levels new (max 7 (entry_count bk)) bk more (record { linkable = fresh; next_is = sp.new_next ∙ h.next_is; room_is = sp.new_room ∙ ap (max 7) (omega (arith, q.count)); used_is = sp.new_used ∙ omega (arith, q.count); say_entries = last }) q.names_past m)));
       }
 
     module _ (ch : Chained b now at new used l.first l.last l.place) (last : p ≡ used) where
@@ -105,5 +101,5 @@ module _ (b now records records' : List ℕ) (heads : SameHeads b now records re
             let empty : entry_count bk ≡ 0 = omega (arith, q.count) in
             let says = say_moved b now at at 0 0 es h.say_entries (λ n m f o w e le lt says. (let x : n ≡ m = omega arith in rw x at (ch.stay n (omega (arith, q.all)) f o w says))) in
             rw (test, eq-eqb (entry_count bk) 0 empty) (node_has now records' levels at r es (node new (max 7 (entry_count bk)) (with_block l no_entry) more) (search (rules, linkable_kept b now records records' heads vxr_type at h.linkable, ch.next_is, ch.room_stays ∙ h.room_is, ch.used_is ∙ used_is ∙ h.used_is, says)) n
-            (new_has levels (max 7 (entry_count bk)) (with_block l no_entry) more (ch.new_next ∙ h.next_is) (ch.new_room ∙ ap (max 7) (sym empty)) ch.new_used (ch.here, tt) (leaf_names now records' levels l no_entry names q.names_none) m)));
+            (node_has now records' levels new (max 7 (entry_count bk)) (with_block l no_entry) more (record { linkable = fresh; next_is = ch.new_next ∙ h.next_is; room_is = ch.new_room ∙ ap (max 7) (sym empty); used_is = ch.new_used; say_entries = (ch.here, tt) }) (leaf_names now records' levels l no_entry names q.names_none) m)));
       }
