@@ -163,9 +163,9 @@ ends_on_variables b start made now frame first marked end known after vars vars'
     (on_err done (subst (λ (x : List ℕ). Knows x (record known { entries = None })) (sym begins) (forgotten b known was.knows))) knows stay kept undone)
 
 -- the nodes that are kept, which stay where all was taken back
-ends_starting : {start made now : List ℕ} {after : Starts} (done : Result Outcome AreaError) → OnOk done (KnowsStarts made after) → OnErr done (KnowsStarts start after) → OnOk done (now ≡ made) → OnErr done (now ≡ start) → KnowsStarts now after
-ends_starting {after = after} (Ok o) knows stay kept back = subst (λ (x : List ℕ). KnowsStarts x after) (sym kept) knows
-ends_starting {after = after} (Err error) knows stay kept back = subst (λ (x : List ℕ). KnowsStarts x after) (sym back) stay
+ends_starting : (start made now : List ℕ) (after : Starts) (done : Result Outcome AreaError) → OnOk done (KnowsStarts made after) → OnErr done (KnowsStarts start after) → OnOk done (now ≡ made) → OnErr done (now ≡ start) → KnowsStarts now after
+ends_starting start made now after (Ok o) knows stay kept back = subst (λ (x : List ℕ). KnowsStarts x after) (sym kept) knows
+ends_starting start made now after (Err error) knows stay kept back = subst (λ (x : List ℕ). KnowsStarts x after) (sym back) stay
 
 -- of a command on variables that leaves their names and places as they are
 pub ends_on_records : {U : Type 0} (b start made now : List ℕ) (frame first marked end : Frame U) (known after : Known) (vars : KnownVariables) (starts : Starts) (c : Command) → is_on_attributes c ≡ false → (done : Result Outcome AreaError)
@@ -175,7 +175,7 @@ pub ends_on_records : {U : Type 0} (b start made now : List ℕ) (frame first ma
 ends_on_records b start made now frame first marked end known after vars starts c other done was begins is stays ends forgot answers knows knows_starts starts_stay kept undone = (
   ends_on_variables b start made now frame first marked end known after vars vars c other done was begins is stays ends forgot answers knows
       (on_err done (subst (λ (x : List ℕ). KnowsVariables x vars) (sym begins) was.knows_variables)) kept undone,
-  ends_starting done knows_starts starts_stay kept (on_err_weaker done (λ base. some_same b now (sym (ap (λ (m : Frame _). m.base) (stays ∙ is)) ∙ base) ∙ sym begins) undone),
+  ends_starting start made now starts done knows_starts starts_stay kept (on_err_weaker done (λ base. some_same b now (sym (ap (λ (m : Frame _). m.base) (stays ∙ is)) ∙ base) ∙ sym begins) undone),
 )
 
 -- of a command on neither, after which they are forgotten too

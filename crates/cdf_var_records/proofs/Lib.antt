@@ -1,9 +1,7 @@
 pub mod Common
-pub mod DimsRead
 pub mod PadSites
 pub mod PutRoomCount
 pub mod PutRoomNeeded
 pub mod RecordForms
 pub mod RecordReading
 pub mod RecordsRead
-pub mod VdrParts

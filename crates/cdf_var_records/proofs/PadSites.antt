@@ -1,7 +1,64 @@
--- Where the pad value of a variable belongs, as it is read of its VDR.
-use Rattle.cdf_var_records.proofs.Common.{AreBytes, Bool, Each, Each-split, Field, Good, HasElements, IsGoodByShape, IsRuled, IsVdr, Kind, List, R, Z, all_ruled, ap, arith, both, cast_signed, cast_unsigned, dimensions_at, elems_at, false, fixed_size, gdr_offset, good_by_its_shape, has_dimensions, has_elements, high, is_characters, is_positive, is_z, known_type, le_of, length, name_room, nat_le, not, notation_of, number, of_kind, of_z-to_z, pad_field, r_num_dims, refl, shape, signed_limit, size_at, sound, subst, sym, tile, true, type_at, type_of, type_of_variable, typed, variables, vdr_bytes, vdr_data_type, vdr_num_elems, vdr_z_num_dims, vdrs, w32, word, word_fits, z_vdr_type, ℕ, ℤ, ◌+◌, ◌<◌, ◌==◌, ◌^◌, ◌||◌, ◌∙◌, ◌∷◌, ◌≡◌, ◌≤◌}
-use Rattle.cdf_var_records.proofs.DimsRead.{small_signed}
-use Rattle.cdf_var_records.proofs.VdrParts.{at, own, pad_place}
+-- Where the VDR of a variable and its parts stand, the dimensions that it has, and where its pad value belongs, as they are read.
+use Rattle.cdf_var_records.proofs.Common.{AreBytes, Bool, DataSet, Each, Each-split, Field, Good, HasElements, IsGoodByShape, IsRuled, IsVdr, Kind, List, R, StandsAmong, VariableShape, Z, all_ruled, ap, arith, both, cast_signed, cast_unsigned, cdr_fits, content, content_is, counted, counted4, dimensions_at, dims_at, either, elems_at, false, few_dimensions, fits, fixed_size, gdr_fits, gdr_offset, good_by_its_shape, good_is_sound, has_dimensions, has_elements, high, inl, inr, is_characters, is_positive, is_z, known_type, le_of, length, length-map, name_room, nat_le, not, notation_of, number, of_kind, of_z-to_z, pad_field, r_num_dims, refl, shape, signed_limit, size_at, sizes_fit, sound, subst, suc, sym, tile, true, type_at, type_in, type_of, type_of_variable, typed, variables, variables_chain, vdr_bytes, vdr_data_type, vdr_num_elems, vdr_z_num_dims, vdrs, w32, word, word_fits, words, z_vdr_type, zero, ℕ, ℤ, ◌*◌, ◌+◌, ◌<◌, ◌==◌, ◌^◌, ◌||◌, ◌∙◌, ◌∷◌, ◌≡◌, ◌≤◌}
+
+-- ---- where the VDR of a variable stands, and how long its parts are
+
+pub words_long : (b : List ℕ) (p n : ℕ) → length (words b p n) ≡ n
+words_long b p zero = refl
+words_long b p (suc n) = ap suc (words_long b (p + 4) n)
+
+pub dims_long : (b : List ℕ) (v : ℕ) → length (dims_at b v) ≡ dimensions_at b v
+dims_long b v = elim (either (is_z b v)) [
+  | inl z ↦ rw z (length-map (words b _ _) counted4 ∙ words_long b _ _)
+  | inr z ↦ rw z (words_long b _ _)
+]
+
+pub pad_place : (kind : Kind) (b : List ℕ) (v : ℕ) → type_at b v ≡ type_in (variables_chain kind) → (pad_field b v).place ≡ vdr_bytes kind (dimensions_at b v)
+pad_place R b v e = let z : is_z b v ≡ false = ap (λ (t : ℕ). t == z_vdr_type) e in rw z refl
+pad_place Z b v e = let z : is_z b v ≡ true = ap (λ (t : ℕ). t == z_vdr_type) e in rw z refl
+
+module _ {b : List ℕ} {kind : Kind} {vdr : ℕ} (good : Good b) (v : IsVdr b kind vdr) where
+  abbrev pub own : VariableShape
+  own = record v.own { vdr = vdr }
+
+  pub at : StandsAmong b kind v.before own v.after
+  at = record { was = v.was }
+
+  -- what stands before its pad value lies in the image
+  pub inside : vdr + (pad_field b vdr).place ≤ length b
+  inside = let l = high good at in let room = (fits good at).0 in omega arith
+
+-- ---- the dimensions that r variables share, as they are read
+
+-- a small number that is read with its sign
+pub small_signed : (n : ℕ) → n ≤ signed_limit → counted (cast_signed w32 n) ≡ n
+small_signed n l = grind arith
+
+pub offset_lies : (b : List ℕ) → Good b → 28 ≤ length b
+offset_lies b good = let l = cdr_fits b good in omega arith
+
+-- from the offset and the number of dimensions that were read of an image that stays the same
+module _ (b now : List ℕ) (good : Good b) (same : now ≡ b) (g : ℕ) (there : g ≡ gdr_offset b) where
+  pub count_lies : g + 56 + 4 ≤ length now
+  count_lies = let l = gdr_fits b good in let n : length now ≡ length b = ap (λ (x : List ℕ). length x) same in omega arith
+
+  module _ (n : ℕ) (says : n ≡ word now (g + 56) 4) where
+    pub count_is : n ≡ r_num_dims b (gdr_offset b)
+    count_is =
+        let at : n ≡ word b (gdr_offset b + 56) 4 = says ∙ (λ i. word (same i) (there i + 56) 4) in
+        let small : word b (gdr_offset b + 56) 4 ≤ 10 = few_dimensions b good in
+        at ∙ sym (small_signed (word b (gdr_offset b + 56) 4) (omega (arith, small)))
+
+    pub sizes_lie : (later : List ℕ) → later ≡ b → g + 84 + 4 * n ≤ length later
+    sizes_lie later e = omega (arith, sizes_fit b good, count_is, ap length e)
+
+    pub dims_are : (later : List ℕ) → later ≡ b → words later (g + 84) n ≡ (content b).rdims
+    dims_are later e =
+        let h = (good_is_sound b good).has_shape in
+        let c = count_is in
+        (λ i. words (e i) (there i + 84) (c i)) ∙ ap (λ (x : ℕ). words b (x + 84) (r_num_dims b x)) h.gdr_is ∙ sym (ap (λ (d : DataSet). d.rdims) (content_is b (shape b) h))
+
+-- ---- where the pad value of a variable belongs, as it is read of its VDR
 
 -- ---- the rules of a variable
 

@@ -5,7 +5,7 @@ use Rattle.cdf_index.specs.declared.measuring.IndexSize.{IndexSize}
 use Rattle.cdf_puts.proofs.PutRules.{loose, uncut}
 use Rattle.cdf_var_records.proofs.RecordForms.{variable_is}
 use Rattle.cdf_var_records.proofs.RecordReading.{index, lies}
-use Rattle.cdf_var_records.proofs.VdrParts.{at}
+use Rattle.cdf_var_records.proofs.PadSites.{at}
 
 pub first_within : (v : Variable) (r : ℕ) → first_written v r ≤ r
 first_within v r = elim (either (is_sparse v.sparse)) [ inl t ↦ rw t (omega arith) | inr t ↦ rw t (omega arith) ]

@@ -1,8 +1,6 @@
 -- What the VDR of a variable of a good image says of its records, and what its index is.
 use Rattle.cdf_var_records.proofs.Common.{AmongAll, Bool, DataSet, DataType, Form, Good, HasIndex, Hold-split, IsForm, IsGoodImage, IsPlace, IsVdr, Kind, List, NoRule, Nodes, Pad, PadPlace, Previous, R, Z, [], among_all, ap, ap₂, arith, asked, both, content, content_is, counted, counted4, cpr_link, cpr_rows, dimensions_at, dims_at, either, elems_at, false, few_dimensions, fits, gdr_offset, gdr_r_num_dims, good_by_its_shape, good_image, good_index, good_is_sound, has_bit, has_dimensions, has_pad, if◌then◌else◌, index_at, inl, inr, is_compressed, is_little, is_positive, is_z, le_of, length, length-map, list_all, ltb, majority_of, map, mul-le-mul_right, nat_le, negsuc, not, number, pad_field, pos, r_sizes, record_bytes, record_limit, record_size, refl, rules, shape, size_at, size_of, size_some, sound, sparse_at, subst, suc, sym, tile, tile_lies, true, type_of_variable, unread_sparse, value_bytes, variable_at, variable_of, variables, vary_field, varys_at, vdr_num_elems, vdr_r_dim_vary, vdr_r_pad_value, vdr_s_records, vdr_vxr_head, vdr_z_dim_vary, vdr_z_num_dims, vdr_z_pad_value, with_sign, word, words, ℕ, ℤ, ◌*◌, ◌+◌, ◌-◌, ◌==◌, ◌^◌, ◌||◌, ◌∙◌, ◌∷◌, ◌≡◌, ◌≤◌, ◌⊎◌}
-use Rattle.cdf_var_records.proofs.DimsRead.{small_signed}
-use Rattle.cdf_var_records.proofs.PadSites.{at_is, positive, r_count, r_typed, ruled, z_count, z_few, z_typed}
-use Rattle.cdf_var_records.proofs.VdrParts.{at, dims_long, inside, own, words_long}
+use Rattle.cdf_var_records.proofs.PadSites.{at, at_is, dims_long, inside, own, positive, r_count, r_typed, ruled, small_signed, words_long, z_count, z_few, z_typed}
 
 -- ---- sizes as they are read
 

@@ -1,7 +1,7 @@
 -- What a record of a variable of a good image reads as, and how long it is.
 use Rattle.cdf_var_records.proofs.Common.{Bool, DataType, Good, HoldsRecords, IsVdr, Kind, Leaf, List, NoRule, Nodes, None, Option, Some, Sparse, Variable, ap, arith, default_element, default_value, dimensions_at, dims_at, drop, either, elems_at, extent, false, field_bytes, good_block, good_is_sound, has_pad, if◌then◌else◌, index_at, inl, inr, is_little, is_z, item_at, leaf_in, leaf_of, leaves_of, length, length-drop, length-repeat, length-take, max_rec_at, missing, mul-le-mul_right, nat_lt, network_bytes, number, number_read, option_map, pad_field, pad_record, pad_value, pad_width, plain_block, plain_bytes, read, read_at, record_bytes, record_in, record_is, record_of_leaf, refl, seen, shape, size_of, size_stays, stored_record, sym, take, true, type_of_variable, unwrap_or, value_bytes, value_count, variable_at, varys_at, vdr_vxr_head, whole_elements, ℕ, ◌%◌, ◌*◌, ◌+◌, ◌-◌, ◌∙◌, ◌≡◌, ◌≤◌}
 use Rattle.cdf_var_records.proofs.RecordForms.{among, image, index_is, pad_lies, variable_is, without_rule}
-use Rattle.cdf_var_records.proofs.VdrParts.{own}
+use Rattle.cdf_var_records.proofs.PadSites.{own}
 use Rattle.cdf_format.specs.Index.{Leaf as TreeLeaf}
 
 -- ---- any variable

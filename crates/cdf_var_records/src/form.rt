@@ -62,7 +62,7 @@ fn read_varys<A: Area>(alloc: Global, area: &mut A, at: u64, count: u32) -> Resu
 }
 
 /// The sizes of the dimensions that the r variables of a good image share.
-#[tactic(auto, using(crate::proofs::DimsRead::offset_lies, crate::proofs::DimsRead::count_lies))]
+#[tactic(auto, using(crate::proofs::PadSites::offset_lies, crate::proofs::PadSites::count_lies))]
 pub fn read_dims<A: Area>(alloc: Global, area: &mut A) -> Result<Nums, AreaError>
     requires { Good (A.image area.old) }
     ensures dims { IfOk result (λ dims. dims ≡ (content (A.image area.old)).rdims) }

@@ -32,7 +32,7 @@ pub struct PadPlace {
 }
 
 /// How many dimensions the r variables of a good image have.
-#[tactic(auto, using(crate::proofs::DimsRead::offset_lies, crate::proofs::DimsRead::count_lies))]
+#[tactic(auto, using(crate::proofs::PadSites::offset_lies, crate::proofs::PadSites::count_lies))]
 fn read_r_dimensions<A: Area>(area: &mut A) -> Result<u32, AreaError>
     requires { Good (A.image area.old) }
     ensures few { IfOk result (λ n. n ≤ dimension_limit) }

@@ -120,12 +120,10 @@ pub use Rattle.cdf_values.proofs.TurnedLemmas.{back, in_place, size_stays}
 pub use Rattle.cdf_values.proofs.ValueLengths.{size_some, values_long, whole_elements}
 pub use Rattle.cdf_values.specs.Reading.{Explains}
 pub use Rattle.cdf_values.specs.declared.read.ValueError.{ValueError}
-pub use Rattle.cdf_var_records.proofs.DimsRead.{small_signed}
-pub use Rattle.cdf_var_records.proofs.PadSites.{has_so_many, vdr_lies}
+pub use Rattle.cdf_var_records.proofs.PadSites.{at, dims_long, has_so_many, own, pad_place, small_signed, vdr_lies, words_long}
 pub use Rattle.cdf_var_records.proofs.RecordForms.{index_is, some_elements, variable_is}
 pub use Rattle.cdf_var_records.proofs.RecordReading.{record_size_is, values_fit}
 pub use Rattle.cdf_var_records.proofs.RecordsRead.{pad_long, read_long}
-pub use Rattle.cdf_var_records.proofs.VdrParts.{at, dims_long, own, pad_place, words_long}
 pub use Rattle.cdf_var_records.specs.Descriptors.{HasElements, IsPlace, IsVdr}
 pub use Rattle.cdf_var_records.specs.Records.{IsForm, variable_at}
 pub use Rattle.cdf_var_records.specs.declared.form.Form.{Form}

@@ -5,7 +5,7 @@ use Rattle.cdf_edits.proofs.Edits.MovedVdr.{CopiesVdr, MovesVdr, chain_late, mem
 use Rattle.cdf_edits.proofs.Edits.PadWritten.{WritesPad, edits, meaning, pads_in_place, small_flags}
 use Rattle.cdf_vars.proofs.VariableChains.{has_variable_chain, variable_members}
 use Rattle.cdf_base.proofs.Puts.{put-append}
-use Rattle.cdf_var_records.proofs.VdrParts.{at as vdr_at, inside as vdr_inside, own as vdr_own}
+use Rattle.cdf_var_records.proofs.PadSites.{at as vdr_at, inside as vdr_inside, own as vdr_own}
 use Rattle.cdf_edits.proofs.Edits.FreedVdr.{acts, acts_now, edit_now, freed_content, freed_good, freed_is, keeps_now, long_now, moved_sets_pad, pad_means}
 use Rattle.cdf_vars.specs.declared.padding.PadRequest.{PadRequest}
 use Rattle.cdf_vars.specs.declared.padding.PadRequest.TheVariants.{Put}

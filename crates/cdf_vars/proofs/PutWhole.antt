@@ -8,7 +8,7 @@ use Rattle.cdf_puts.specs.Starts.{IsKnownOf, KnowsStarts}
 use Rattle.cdf_puts.specs.declared.starts.Starts.{Starts}
 use Rattle.cdf_puts.proofs.KnownStarts.{starts_go_on}
 use Rattle.cdf_var_records.proofs.RecordForms.{among}
-use Rattle.cdf_var_records.proofs.VdrParts.{own}
+use Rattle.cdf_var_records.proofs.PadSites.{own}
 use Rattle.cdf_puts.specs.SoFar.{MaxRecDone}
 use Rattle.cdf_puts.proofs.DoneBytes.{put_content, put_rec_done, put_val_done}
 use Rattle.cdf_vars.proofs.VariableFound.{knows_now, same_name_set}

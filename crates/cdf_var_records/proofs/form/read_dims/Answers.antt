@@ -1,5 +1,5 @@
 use Rattle.cdf_var_records.proofs.Common.{arith, refl, ◌∙◌}
-use Rattle.cdf_var_records.proofs.DimsRead.{count_lies, dims_are, sizes_lie}
+use Rattle.cdf_var_records.proofs.PadSites.{count_lies, dims_are, sizes_lie}
 use Rattle.cdf_var_records.proofs.form.read_dims.Goals as goal
 
 pub read_unsigned4-requires : goal.read_unsigned4-requires

@@ -1,5 +1,5 @@
 use Rattle.cdf_var_records.proofs.Common.{few_dimensions, subst, sym, word, ℕ, ◌+◌, ◌∙◌, ◌≤◌}
-use Rattle.cdf_var_records.proofs.DimsRead.{count_is, count_lies}
+use Rattle.cdf_var_records.proofs.PadSites.{count_is, count_lies}
 use Rattle.cdf_var_records.proofs.pad_place.read_r_dimensions.Goals as goal
 
 pub read_unsigned4-requires : goal.read_unsigned4-requires
