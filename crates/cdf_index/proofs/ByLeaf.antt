@@ -1,5 +1,5 @@
 -- What a leaf more makes of an index, step by step on the way to it, and how often a node stands in it by then.
-use Rattle.cdf_index.proofs.Common.{Bool, Entries, In, Leaf, Nodes, [], ap, arith, block, cases_lt, chain_reaches, either, entry_count, eqb, eqb-true, false, if◌then◌else◌, in-times, inl, inr, leads_down, lower, lower_nodes, ltb, max, nat_tests, ne_eqb, new_room, new_room_below, no_entry, no_node, node, nodes_of, past, reaches, refl, room_of_new, sym, times, times-append, times-in, with_block, with_both, with_entry, with_leaf, with_lower, ℕ, ◌++◌, ◌+◌, ◌==◌, ◌∙◌, ◌∷◌, ◌≡◌, ◌≤◌, ◌⊎◌}
+use Rattle.cdf_index.proofs.Common.{Bool, Entries, In, Leaf, Nodes, [], arith, block, cases_lt, chain_reaches, either, entry_count, eqb, eqb-true, false, if◌then◌else◌, in-times, inl, inr, leads_down, lower, lower_nodes, ltb, max, nat_tests, new_room, new_room_below, no_entry, no_node, node, nodes_of, past, reaches, refl, room_of_new, times, times-append, times-in, with_block, with_both, with_entry, with_leaf, with_lower, ℕ, ◌++◌, ◌+◌, ◌==◌, ◌∷◌, ◌≡◌, ◌≤◌, ◌⊎◌}
 use Rattle.cdf_index.proofs.Saying.{upto_both, front, front_past, upto_is}
 
 -- ---- the steps to a leaf more
@@ -75,18 +75,7 @@ weigh_both w (lower first last nodes es) fs = let r = weigh_both w es fs in omeg
 
 pub weight_grows : (w : ℕ → ℕ → ℕ) (new : Leaf) (at : ℕ) → Grows new at (λ n a a'. weigh w a' ≡ weigh w a + weight_of w at n) (λ n es es'. weigh_below w es' ≡ weigh_below w es + weight_of w at n)
 unfolding weigh weigh_below
-weight_grows w new at = record {
-  along = λ n place room es more more' h. omega arith;
-  down = λ n place room es es' more h. omega arith;
-  none = refl;
-  past_block = λ n first last place packed es es' h. h;
-  past_lower = λ n first last nodes es es' h. omega arith;
-  below = λ n first last nodes nodes' es h. omega arith;
-  alone = omega arith;
-  fits = λ place room es fs more. let b = weigh_both w es fs in let c = weigh_both w es (with_block new fs) in omega arith;
-  behind = λ place room es more. omega arith;
-  split = λ n place room es fs more wide. let b = weigh_both w es fs in let c = weigh_both w es (with_block new no_entry) in let some = ne_eqb n 0 (λ e. absurd (omega arith)) in rw some (omega arith);
-}
+weight_grows w new at = grind (arith, weigh_both)
 
 -- ---- how often a place stands among the nodes
 
@@ -104,17 +93,15 @@ mutual
 
 -- the new node stands once more, where one is needed
 pub nodes_with_leaf : (new : Leaf) (at m : ℕ) (index : Nodes) → times m (nodes_of (with_leaf new at index)) ≡ times m (nodes_of index) + (if new_room new.first index == 0 then 0 else times m (at ∷ []))
-nodes_with_leaf new at m index =
-    nodes_weighed m (with_leaf new at index) ∙ by_leaf (weight_grows (λ p r. times m (p ∷ [])) new at) index
-    ∙ ap (λ (n : ℕ). n + (if new_room new.first index == 0 then 0 else times m (at ∷ []))) (sym (nodes_weighed m index))
+nodes_with_leaf new at m index = rw (nodes_weighed m (with_leaf new at index), nodes_weighed m index) (by_leaf (weight_grows (λ p r. times m (p ∷ [])) new at) index)
 
 -- a node more stands at `at` alone, and only where one is needed
 pub in_nodes_with_leaf : (new : Leaf) (at : ℕ) (index : Nodes) (m : ℕ) → In m (nodes_of (with_leaf new at index)) → In m (nodes_of index) ⊎ ((m ≡ at) × (1 ≤ new_room new.first index))
-in_nodes_with_leaf new at index m i =
-    let some = times-in m (nodes_of (with_leaf new at index)) i in
-    let more = nodes_with_leaf new at m index in
-    elim (cases_lt 0 (times m (nodes_of index))) [ inl p ↦ inl (in-times m (nodes_of index) p) | inr z ↦ inr (grind (arith, nat_tests, some, more), grind (arith, nat_tests, some, more)) ]
+in_nodes_with_leaf new at index m i = elim (cases_lt 0 (times m (nodes_of index))) [
+  | inl p ↦ inl (in-times m (nodes_of index) p)
+  | inr z ↦ inr (grind (arith, nat_tests, times-in m (nodes_of (with_leaf new at index)) i, nodes_with_leaf new at m index))
+]
 
 -- each node of the index stays
 pub node_stays : (new : Leaf) (at : ℕ) (index : Nodes) (m : ℕ) → In m (nodes_of index) → In m (nodes_of (with_leaf new at index))
-node_stays new at index m i = in-times m (nodes_of (with_leaf new at index)) (let some = times-in m (nodes_of index) i in let more = nodes_with_leaf new at m index in omega arith)
+node_stays new at index m i = in-times m (nodes_of (with_leaf new at index)) (omega (arith, times-in m (nodes_of index) i, nodes_with_leaf new at m index))

@@ -67,7 +67,7 @@ module _ {G : Type 0} {has : G → List Met → Type 0} where
         record { left = l.node.more; stands = l.node.more_stands; link_is = nx ∙ l.node.parts.says.next_is; all = λ end h. l.all end (rw none h); fewer = omega (arith, l.entry.fewer) }
 
     past_entry : {next : G} → (f : FirstEntry b l.node.down at i l.entry.rest) → Grew has now next f.met → NodeLeft has b levels at (i + 1) turn was next ns
-    past_entry f g = record { nodes = l.nodes; node = l.node; low = f.low; entry = pass l.node l.entry (i + 1) refl f; all = λ end h. l.all end (rw f.mets (rw append_assoc (grew_both g h))) }
+    past_entry f g = record { nodes = l.nodes; node = l.node; low = f.low; entry = pass l.node l.entry (i + 1) refl f; all = λ end h. l.all end (rw f.adds.mets (rw append_assoc (grew_both g h))) }
 
     -- at an entry that names a place
     module _ {place kind : ℕ} (lt : i < used_count b at) (p : place ≡ offset_at b at i) (k : kind ≡ type_at b place) where

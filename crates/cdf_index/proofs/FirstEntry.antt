@@ -37,13 +37,9 @@ pub opened_nodes : {b : List ℕ} {levels at : ℕ} {ns : Nodes} → (o : Opened
 unfolding nodes_of
 opened_nodes o = omega (arith, ap (λ (x : Nodes). length (nodes_of x)) o.is, length-append (lower_nodes o.entries) (nodes_of o.more))
 
-zero_node : (at room : ℕ) (entries : Entries) (more : Nodes) → NextsAreZero (node at room entries more) → LowerAreZero entries × (more ≡ no_node)
-unfolding NextsAreZero
-zero_node at room entries no_node z = (z, refl)
-zero_node at room entries (node at' room' entries' more) z = absurd z
-
 pub opened_zero : {b : List ℕ} {levels at : ℕ} {ns : Nodes} → (o : Opened b levels at ns) → NextsAreZero ns → LowerAreZero o.entries × (o.more ≡ no_node)
-opened_zero {at = at} o z = zero_node at o.room o.entries o.more (rw o.is at z)
+unfolding NextsAreZero
+opened_zero o z = grind (arith, o.is)
 
 -- ---- what an entry names
 
@@ -53,9 +49,7 @@ block_no_node b m e t = elim (or_cases (is_a b (tiles b) vvr_type m) (is_a b (ti
 
 pub node_linkable : (b : List ℕ) (levels : ℕ) (nodes : Nodes) → IsNode nodes → HasNodes b (tiles b) levels nodes → is_linkable b (tiles b) vxr_type (link_to nodes) ≡ true
 unfolding HasNodes
-node_linkable b levels no_node is h = absurd is
-node_linkable b zero (node place room entries more) is h = absurd h
-node_linkable b (suc levels) (node place room entries more) is h = h.0.linkable
+node_linkable b levels nodes is h = grind arith
 
 pub chain_is : (b : List ℕ) (at k : ℕ) → type_at b (offset_at b at k) ≡ 6 → chain_at b at k ≡ offset_at b at k
 chain_is b at k e = rw e refl
@@ -63,7 +57,17 @@ chain_is b at k e = rw e refl
 pub no_chain : (b : List ℕ) (at k : ℕ) → type_at b (offset_at b at k) ≢ 6 → chain_at b at k ≡ 0
 no_chain b at k e = grind (arith, nat_tests)
 
--- The first entry of some, and the others. It names this lower chain, or none where it names a block. Of what is asked of all of them it tells what it adds.
+-- what the first of some entries adds to the others
+pub record Adds (b : List ℕ) (at i : ℕ) (entries rest : Entries) (low : Nodes) (met : List Met) (leaf_here : ℕ → Option Leaf) : Type 0 where
+  pub many : entry_count entries ≡ suc (entry_count rest)
+  pub nodes : lower_nodes entries ≡ nodes_of low ++ lower_nodes rest
+  pub firsts : entry_firsts entries ≡ first_at b at i ∷ (firsts_of low ++ entry_firsts rest)
+  pub mets : met_below entries ≡ met ++ met_below rest
+  pub find : (rec : ℕ) (other : Option Leaf) → find_entry rec entries other ≡ (if ltb (last_at b at i) rec then find_entry rec rest other else (if ltb rec (first_at b at i) then None else leaf_here rec))
+  pub passed : (rec other : ℕ) → passed_from rec entries other ≡ (if ltb (last_at b at i) rec then passed_from rec rest other else (if ltb rec (first_at b at i) then 0 else nodes_passed rec low))
+  pub zero : LowerAreZero entries → NextsAreZero low × LowerAreZero rest
+
+-- The first entry of some, and the others. It names this lower chain, or none where it names a block.
 pub record FirstEntry (b : List ℕ) (down at i : ℕ) (entries : Entries) : Type 0 where
   pub rest : Entries
   pub low : Nodes
@@ -73,13 +77,7 @@ pub record FirstEntry (b : List ℕ) (down at i : ℕ) (entries : Entries) : Typ
   pub stands : Stands b down low
   pub named : In (offset_at b at i) (tiles b)
   pub chain : chain_at b at i ≡ link_to low
-  pub many : entry_count entries ≡ suc (entry_count rest)
-  pub nodes : lower_nodes entries ≡ nodes_of low ++ lower_nodes rest
-  pub firsts : entry_firsts entries ≡ first_at b at i ∷ (firsts_of low ++ entry_firsts rest)
-  pub mets : met_below entries ≡ met ++ met_below rest
-  pub find : (rec : ℕ) (other : Option Leaf) → find_entry rec entries other ≡ (if ltb (last_at b at i) rec then find_entry rec rest other else (if ltb rec (first_at b at i) then None else leaf_here rec))
-  pub passed : (rec other : ℕ) → passed_from rec entries other ≡ (if ltb (last_at b at i) rec then passed_from rec rest other else (if ltb rec (first_at b at i) then 0 else nodes_passed rec low))
-  pub zero : LowerAreZero entries → NextsAreZero low × LowerAreZero rest
+  pub adds : Adds b at i entries rest low met leaf_here
   pub of_block : type_at b (offset_at b at i) ≢ 6 → (met ≡ met_block (first_at b at i) (last_at b at i) (offset_at b at i) ∷ []) × ((rec : ℕ) → leaf_here rec ≡ Some (leaf (first_at b at i) (last_at b at i) (offset_at b at i) (eqb (type_at b (offset_at b at i)) 13)))
   pub of_lower : type_at b (offset_at b at i) ≡ 6 → (offset_at b at i ≡ link_to low) × (met ≡ met_in low) × ((rec : ℕ) → leaf_here rec ≡ find_in rec low)
 
@@ -99,13 +97,7 @@ first_entry {b = b} {at = at} {i = i} (block first last place packed entries) l 
       stands = record { has = tt; orderly = tt; blocks = tt };
       named = rw e.offset_is (block_in b (tiles b) place l.blocks.0);
       chain = no_chain b at i (λ t. no (rw e.offset_is at t));
-      many = refl;
-      nodes = refl;
-      firsts = rw e.first_is refl;
-      mets = refl;
-      find = λ rec other. rw (e.first_is, e.last_is) refl;
-      passed = λ rec other. rw (e.first_is, e.last_is) (grind (arith, nat_tests));
-      zero = λ z. (tt, z);
+      adds = rw (← e.first_is, ← e.last_is) (grind (arith, nat_tests));
       of_block = λ n. rw (e.first_is, e.last_is, e.offset_is) (refl, λ rec. ap (λ x. Some (leaf first last place x)) (sym l.names.1));
       of_lower = λ t. absurd (no (rw e.offset_is at t));
     }
@@ -124,13 +116,7 @@ first_entry {b = b} {down = down} {at = at} {i = i} (lower first last nodes entr
       stands = p.0;
       named = rw e.offset_is (linkable-in b (tiles b) vxr_type (link_to nodes) link);
       chain = chain_is b at i six ∙ e.offset_is;
-      many = refl;
-      nodes = refl;
-      firsts = rw e.first_is refl;
-      mets = refl;
-      find = λ rec other. rw (e.first_is, e.last_is) refl;
-      passed = λ rec other. rw (e.first_is, e.last_is) refl;
-      zero = λ z. z;
+      adds = rw (← e.first_is, ← e.last_is) (grind (arith, nat_tests));
       of_block = λ n. absurd (n six);
       of_lower = λ t. (e.offset_is, refl, λ rec. refl);
     }
@@ -153,10 +139,10 @@ module _ {b : List ℕ} {levels at : ℕ} {ns : Nodes} (o : Opened b levels at n
     entry_here lt = first_entry e.rest e.left (omega (arith, e.many))
 
     pub few_below : (f : FirstEntry b o.down at i e.rest) → length (lower_nodes e.rest) ≡ length (nodes_of f.low) + length (lower_nodes f.rest)
-    few_below f = ap length f.nodes ∙ length-append (nodes_of f.low) (lower_nodes f.rest)
+    few_below f = ap length f.adds.nodes ∙ length-append (nodes_of f.low) (lower_nodes f.rest)
 
     abbrev pub pass : (k : ℕ) → i + 1 ≡ k → (f : FirstEntry b o.down at i e.rest) → AtEntry o turn k nodes f.low
-    pass k is f = record { rest = f.rest; left = subst (λ (x : ℕ). EntriesLeft b o.down at x f.rest) is f.left; many = omega (arith, e.many, f.many); fewer = omega (arith, e.fewer, few_below f) }
+    pass k is f = record { rest = f.rest; left = subst (λ (x : ℕ). EntriesLeft b o.down at x f.rest) is f.left; many = omega (arith, e.many, f.adds.many); fewer = omega (arith, e.fewer, few_below f) }
 
     pub none_here : used_count b at ≤ i → e.rest ≡ no_entry
     none_here le = no_entries e.rest (omega (arith, e.many))

@@ -7,6 +7,7 @@ use Rattle.cdf_index.proofs.Coming.{chain_reaches_from}
 use Rattle.cdf_index.proofs.EntriesLeft.{node_parts}
 use Rattle.cdf_index.proofs.GoodIndex.{found_index}
 use Rattle.cdf_index.proofs.LeavesAscend.{end_before}
+use Rattle.cdf_index.proofs.LeafRules.{widened}
 use Rattle.cdf_index.proofs.Looking.{none_there}
 use Rattle.cdf_index.proofs.OrderLemmas.{end_after, find_is}
 use Rattle.cdf_index.proofs.WayDown.{chain_there, node_there_by}
@@ -45,13 +46,6 @@ rest_once (behind {es = es} {more = more} r) d = rest_once r (Distinct-back (low
 
 -- ---- it stands, in order
 
-order_from : (low low' high : ℕ) (ns : Nodes) → low' ≤ low → InOrder low high ns → InOrder low' high ns
-unfolding InOrder AreInOrder
-order_from low low' high no_node le o = tt
-order_from low low' high (node place room no_entry more) le o = (tt, order_from low low' high more le o.1)
-order_from low low' high (node place room (block first last at packed es) more) le o = ((omega (arith, o.0.0), o.0.1, o.0.2, o.0.3), o.1)
-order_from low low' high (node place room (lower first last nodes es) more) le o = ((omega (arith, o.0.0), o.0.1, o.0.2, o.0.3, o.0.4), o.1)
-
 record Standing (b : List ℕ) (ns : Nodes) : Type 0 where
   pub stands : Stands b 8 ns
   pub once : Distinct (nodes_of ns)
@@ -61,7 +55,7 @@ rest_stands : {b : List ℕ} {s ns : Nodes} → Rest s ns → Standing b ns → 
 unfolding nodes_of InOrder
 rest_stands whole p = p
 rest_stands (behind {es = es} {more = more} r) p =
-    rest_stands r (record { stands = (node_parts p.stands).more_stands; once = Distinct-back (lower_nodes es) (nodes_of more) p.once.1; order = order_from (past_entries 0 es) 0 record_number_limit more (omega arith) p.order.1 })
+    rest_stands r (record { stands = (node_parts p.stands).more_stands; once = Distinct-back (lower_nodes es) (nodes_of more) p.once.1; order = widened (past_entries 0 es) 0 record_number_limit record_number_limit more (omega arith) (omega arith) p.order.1 })
 
 index_standing : {b : List ℕ} {head : ℕ} → HasIndex b head → Standing b (index_at b head)
 index_standing {b = b} {head = head} has = record { stands = index_stands b head has; once = has.index.once; order = has.order }
@@ -114,11 +108,7 @@ from_rest f ns = from_by f Rest (λ ns. whole) (λ place room es s more t r. beh
 
 -- where there is a node, it is at one of the top chain
 from_top : (f : ℕ) (ns : Nodes) → IsNode ns → IsNode (from_reached f ns) × In (link_to (from_reached f ns)) (top_chain ns)
-from_top f ns = from_by f (λ s ns. IsNode ns → IsNode s × In (link_to s) (top_chain ns)) first (λ place room es s more t r is. (let on = r (chain_there f more t) in (on.0, inr on.1))) ns
-  where
-    first : (ns : Nodes) → IsNode ns → IsNode ns × In (link_to ns) (top_chain ns)
-    first no_node is = absurd is
-    first (node place room es more) is = (tt, inl refl)
+from_top f ns = from_by f (λ s ns. IsNode ns → IsNode s × In (link_to s) (top_chain ns)) (λ ns is. grind arith) (λ place room es s more t r is. (let on = r (chain_there f more t) in (on.0, inr on.1))) ns
 
 abbrev Same : ℕ → Nodes → Nodes → Type 0
 Same f s ns = (low high : ℕ) → InOrder low high ns → (way f s ≡ way f ns) × (spot f s ≡ spot f ns) × (find_in f s ≡ find_in f ns) × (filter (ltb f) (firsts_of s) ≡ filter (ltb f) (firsts_of ns))
@@ -165,7 +155,7 @@ starts_at {b = b} {head = head} {rec = rec} {start = start} has e =
       way_is = rw x.1 same.0;
       spot_is = rw x.1 same.1;
       among = rw x.1 (rest_among rest);
-      empty = λ z. elim (cases_eq head 0) [ inl none ↦ none | inr n ↦ absurd (subst IsNode (none_there b 8 (from_reached rec ns) has.tiled (rest_has b (tiles b) 8 rest has.index.has_nodes) (sym e ∙ z)) (there n).0) ];
+      empty = λ z. elim (cases_eq head 0) [ inl none ↦ none | inr n ↦ absurd (subst IsNode (none_there b 8 (from_reached rec ns) has.tiled (rest_stands rest (index_standing has)).stands.has (sym e ∙ z)) (there n).0) ];
       some = some;
       top = λ n. rw e (there (some n)).1;
     }

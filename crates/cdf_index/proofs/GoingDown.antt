@@ -67,12 +67,10 @@ route_along f best others = if chain_reaches f others then route f others else r
 
 route_is : (f : ℕ) (nodes : Nodes) → IsNode nodes → route f nodes ≡ route_along f nodes (rest_of nodes)
 unfolding way spot
-route_is f no_node is = absurd is
-route_is f (node place room es more) is = grind arith
+route_is f nodes is = grind arith
 
 route_on : (f : ℕ) (best nodes : Nodes) → IsNode nodes → route_along f best nodes ≡ route_along f (if reaches f (entries_of nodes) then nodes else best) (rest_of nodes)
-route_on f best no_node is = absurd is
-route_on f best (node place room es more) is = grind (arith, route_is f (node place room es more) is)
+route_on f best nodes is = grind (arith, route_is f nodes is)
 
 -- After so many turns along a chain these nodes are left, `here` the first of them, and `best` is the last node passed that reaches the record.
 pub record ChainAt (b : List ℕ) (f turn levels : ℕ) (nodes : Nodes) (best here : Spot) : Type 0 where

@@ -5,7 +5,6 @@ use Rattle.cdf_index.proofs.EntriesLeft.{EntriesLeft, past_first, past_lower_one
 use Rattle.cdf_index.proofs.Coming.{not_reached}
 use Rattle.cdf_index.proofs.OrderLemmas.{end_after}
 use Rattle.cdf_index.proofs.FirstEntry.{block_no_node, chain_is, no_chain, node_linkable}
-use Rattle.std.proofs.lemmas.Bool.{cases_lt}
 
 -- the lower chain that the last of them names, none where it names a block; this one where there are none
 abbrev pub lead : ℕ → Nodes → Entries → Nodes
@@ -61,16 +60,8 @@ pub record LedBy (f : ℕ) (es : Entries) (low : Nodes) : Type 0 where
 pub led : (f low high : ℕ) (nodes : Nodes) (es : Entries) → AreInOrder low high es → 0 < begun_in f es → is_some (lead f nodes es) ≡ true → LedBy f es (lead f nodes es)
 unfolding AreInOrder way_below spot_below
 led f low high nodes no_entry o lt t = absurd (omega arith)
-led f low high nodes (block first last place packed es) o lt t = elim (cases_lt 0 (begun_in f es)) [
-  | inl s ↦ let r = led f (suc last) high no_node es o.3 s (grind (arith, nat_tests, t)) in record { way_is = grind (arith, nat_tests, r.way_is); spot_is = grind (arith, nat_tests, r.spot_is); entry_is = grind (arith, nat_tests, r.entry_is) }
-  | inr z ↦ absurd (grind (arith, nat_tests, lead_none f no_node es, t))
-]
-led f low high nodes (lower first last ns es) o lt t =
-    let h = reached_is f (suc last) high es o.4 in
-    elim (cases_lt 0 (begun_in f es)) [
-      | inl s ↦ let r = led f (suc last) high ns es o.4 s (grind (arith, nat_tests, t)) in record { way_is = grind (arith, nat_tests, h, r.way_is); spot_is = grind (arith, nat_tests, h, r.spot_is); entry_is = grind (arith, nat_tests, h, r.entry_is) }
-      | inr z ↦ record { way_is = grind (arith, nat_tests, h, lead_none f ns es); spot_is = grind (arith, nat_tests, h, lead_none f ns es); entry_is = grind (arith, nat_tests, h) }
-    ]
+led f low high nodes (block first last place packed es) o lt t = grind (arith, nat_tests, led f (suc last) high no_node es o.3, lead_none f no_node es, t)
+led f low high nodes (lower first last ns es) o lt t = grind (arith, nat_tests, led f (suc last) high ns es o.4, reached_is f (suc last) high es o.4, lead_none f ns es, t)
 
 -- ---- as the bytes say them
 

@@ -25,12 +25,9 @@ pub new_behind : (l : Leaf) (xs ys : List Leaf) → BeginBy l.first xs → with_
 new_behind l [] ys w = refl
 new_behind l (x ∷ xs) ys w = let r = new_behind l xs ys w.1 in let w0 = w.0 in grind (arith, nat_tests)
 
-pub new_first : (l : Leaf) (ys : List Leaf) → BeginPast l.first ys → with_new l ys ≡ l ∷ ys
-new_first l [] w = refl
-new_first l (x ∷ xs) w = let w0 = w.0 in grind (arith, nat_tests)
-
 pub new_before : (l : Leaf) (xs ys : List Leaf) → BeginPast l.first ys → with_new l (xs ++ ys) ≡ with_new l xs ++ ys
-new_before l [] ys w = new_first l ys w
+new_before l [] [] w = refl
+new_before l [] (y ∷ ys) w = grind (arith, nat_tests, w.0)
 new_before l (x ∷ xs) ys w = let r = new_before l xs ys w in grind (arith, nat_tests)
 
 -- the ranges of records of the leaves have one more as well
@@ -92,20 +89,16 @@ unfolding AreInOrder leaves_of entry_leaves
 here_new l low high given no_entry o t = refl
 here_new l low high given (block first last place packed es) o t = grind (arith, nat_tests, here_new l (suc last) high false es o.3, t)
 here_new l low high given (lower first last nodes es) o t =
-    let all = leaves_of nodes ++ entry_leaves es in
-    let behind : last ≤ l.first → with_new l all ≡ leaves_of nodes ++ with_new l (entry_leaves es) = λ h. new_behind l (leaves_of nodes) (entry_leaves es) (within_by l.first first last (leaves_of nodes) (leaves_within first last nodes o.3) h) in
-    let before : l.first < first → with_new l all ≡ l ∷ all = λ h. new_first l all (within_past l.first first high all (entries_within first high (lower first last nodes es) (omega arith, o.1, o.2, o.3, o.4)) h) in
+    let behind = λ (h : last ≤ l.first). new_behind l (leaves_of nodes) (entry_leaves es) (within_by l.first first last (leaves_of nodes) (leaves_within first last nodes o.3) h) in
+    let before = λ (h : l.first < first). new_before l [] (leaves_of nodes ++ entry_leaves es) (within_past l.first first high (leaves_of nodes ++ entry_leaves es) (entries_within first high (lower first last nodes es) (omega arith, o.1, o.2, o.3, o.4)) h) in
     grind (arith, nat_tests, behind, before, here_new l (suc last) high true es o.4, leads_none l.first true es, reaches_from l.first (suc last) high es o.4, o.1, t)
 
 -- entries before a chain that reaches a record
-order_by : (f low high : ℕ) (es : Entries) → AreInOrder low high es → past_entries low es ≤ f → AreInOrder low f es
-unfolding AreInOrder
-order_by f low high no_entry o h = tt
-order_by f low high (block first last place packed es) o h = let e = end_after (suc last) high es o.3 in (o.0, o.1, omega arith, order_by f (suc last) high es o.3 h)
-order_by f low high (lower first last nodes es) o h = let e = end_after (suc last) high es o.4 in (o.0, o.1, omega arith, o.3, order_by f (suc last) high es o.4 h)
-
 chain_by : (f low high : ℕ) (es : Entries) → AreInOrder low high es → past_entries low es ≤ f → BeginBy f (entry_leaves es)
-chain_by f low high es o h = within_by f low f (entry_leaves es) (entries_within low f es (order_by f low high es o h)) (omega arith)
+unfolding AreInOrder leaves_of entry_leaves
+chain_by f low high no_entry o h = tt
+chain_by f low high (block first last place packed es) o h = (omega (arith, o.1, end_after (suc last) high es o.3), chain_by f (suc last) high es o.3 h)
+chain_by f low high (lower first last nodes es) o h = Each-append (λ (x : Leaf). x.first ≤ f) (leaves_of nodes) (entry_leaves es) (within_by f first last (leaves_of nodes) (leaves_within first last nodes o.3) (omega (arith, end_after (suc last) high es o.4))) (chain_by f (suc last) high es o.4 h)
 
 -- ---- the index
 

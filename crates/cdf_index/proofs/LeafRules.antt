@@ -1,5 +1,5 @@
 -- An index with a leaf more keeps the rules: its entries are in order, its nodes have room for theirs, and each leaf has a block.
-use Rattle.cdf_index.proofs.Common.{AreInOrder, Bool, Each, Each-split, Entries, Hold, Hold-append, Hold-split, In, InOrder, IsOneOf, Leaf, List, Nodes, None, [], ap, arith, before_is, before_number, block, chain_reaches, covers, either, end_of, entry_count, entry_firsts, entry_leaves, eqb, eqb-true, false, filter, find, firsts_of, flat_map, fold, inl, inr, int_lt, is_between, is_block, le-leb, le-ltb, leads_down, leaf_rows, leaves_of, leb, leb-false, leb-true, lower, lower_nodes, lt-ltb, ltb, max, nat_lt, nat_tests, negsuc, next_first, no_entry, no_node, node, nodes_of, nodes_rows, number_before, or_parts, past, past_entries, pos, range, reaches, record_number_limit, refl, signed, subst, suc, sym, true, true≢false, used_rows, with_block, with_both, with_entry, with_leaf, with_sign, ℕ, ℤ, ◌+◌, ◌<◌, ◌∙◌, ◌∷◌, ◌≡◌, ◌≤◌}
+use Rattle.cdf_index.proofs.Common.{AreInOrder, Bool, Each, Each-split, Entries, Hold, Hold-append, Hold-split, In, InOrder, IsOneOf, Leaf, List, Nodes, None, [], ap, arith, before_is, before_number, block, chain_reaches, covers, either, end_of, entry_count, entry_firsts, entry_leaves, eqb, eqb-true, false, filter, find, firsts_of, flat_map, fold, inl, inr, is_between, is_block, le-ltb, leads_down, leaf_rows, leaves_of, leb, leb-false, leb-true, lower, lower_nodes, lt-ltb, ltb, max, nat_lt, nat_tests, negsuc, next_first, no_entry, no_node, node, nodes_of, nodes_rows, number_before, or_parts, past, past_entries, pos, range, reaches, record_number_limit, refl, signed, subst, suc, sym, true, true≢false, used_rows, with_block, with_both, with_entry, with_leaf, with_sign, ℕ, ℤ, ◌+◌, ◌<◌, ◌∙◌, ◌∷◌, ◌≡◌, ◌≤◌}
 use Rattle.std.proofs.Common.{min}
 use Rattle.std.proofs.lemmas.Bool.{cases_lt}
 use Rattle.cdf_format.specs.IndexRules.{has_room, index_rows}
@@ -60,16 +60,16 @@ past_both low no_entry fs = refl
 past_both low (block first last place packed es) fs = past_both (suc last) es fs
 past_both low (lower first last nodes es) fs = past_both (suc last) es fs
 
-pub widened_entries : (low high high' : ℕ) (es : Entries) → high ≤ high' → AreInOrder low high es → AreInOrder low high' es
+pub widened_entries : (low low' high high' : ℕ) (es : Entries) → low' ≤ low → high ≤ high' → AreInOrder low high es → AreInOrder low' high' es
 unfolding AreInOrder
-widened_entries low high high' no_entry l o = tt
-widened_entries low high high' (block first last place packed es) l o = let o2 = o.2 in (o.0, o.1, omega arith, widened_entries (suc last) high high' es l o.3)
-widened_entries low high high' (lower first last nodes es) l o = let o2 = o.2 in (o.0, o.1, omega arith, o.3, widened_entries (suc last) high high' es l o.4)
+widened_entries low low' high high' no_entry k l o = tt
+widened_entries low low' high high' (block first last place packed es) k l o = (omega (arith, o.0), o.1, omega (arith, o.2), widened_entries (suc last) (suc last) high high' es (omega arith) l o.3)
+widened_entries low low' high high' (lower first last nodes es) k l o = (omega (arith, o.0), o.1, omega (arith, o.2), o.3, widened_entries (suc last) (suc last) high high' es (omega arith) l o.4)
 
-pub widened : (low high high' : ℕ) (ns : Nodes) → high ≤ high' → InOrder low high ns → InOrder low high' ns
+pub widened : (low low' high high' : ℕ) (ns : Nodes) → low' ≤ low → high ≤ high' → InOrder low high ns → InOrder low' high' ns
 unfolding InOrder
-widened low high high' no_node l o = tt
-widened low high high' (node place room es more) l o = (widened_entries low high high' es l o.0, widened (past_entries low es) high high' more l o.1)
+widened low low' high high' no_node k l o = tt
+widened low low' high high' (node place room es more) k l o = (widened_entries low low' high high' es k l o.0, widened (past_entries low es) (past_entries low' es) high high' more (omega (arith, past_most low low' es, end_after low high es o.0)) l o.1)
 
 -- those that begin past a record also begin past the last one of a leaf
 pub raised_entries : (f last low low' high : ℕ) (es : Entries) → AreInOrder low high es → reaches f es ≡ false → NoneBegins f last (entry_firsts es) → low' ≤ max low (suc last) → AreInOrder low' high es
@@ -155,7 +155,7 @@ order_come {new = new} (comes_below {more = more} fs first last nodes nodes' es 
     let ul = Each-split (Misses new.first) (leaves_of nodes) (entry_leaves es) (Each-split (Misses new.first) (entry_leaves fs) (entry_leaves (lower first last nodes es)) (subst (Uncovered new.first) (leaves_both fs (lower first last nodes es)) us.0)).1 in
     let nl = Each-split (BeginsBehind new.first new.last) (firsts_of nodes) (entry_firsts es) (firsts_both new.first new.last fs (lower first last nodes es) ns.0).1 in
     let wide = max last new.last in
-    let inner = order_come c first wide (widened first last wide nodes (omega arith) p.1.3) le k (omega arith) ul.0 nl.0 in
+    let inner = order_come c first wide (widened first first last wide nodes (omega arith) (omega arith) p.1.3) le k (omega arith) ul.0 nl.0 in
     let rest = raised_entries new.first new.last (suc last) (suc wide) high es p.1.4 r nl.1 (omega arith) in
     let past_all = past_both low fs (lower first last nodes es) in
     let past_now = past_both low fs (lower first wide nodes' es) in
@@ -171,11 +171,8 @@ order_with_leaf new at index o k u n =
 
 -- ---- from the order to the rules
 
-lt_between : (low first : ℕ) → low ≤ first → int_lt (before_number low) (pos first) ≡ true
-lt_between low first l = grind (arith, nat_tests)
-
 between_by : (low high first last : ℕ) → high ≤ record_number_limit → low ≤ first → first ≤ last → last ≤ high → is_between (before_number low) (pos high) first last ≡ true
-between_by low high first last m l k h = rw (signed first (omega arith), signed last (omega arith), lt_between low first l, le-leb first last k, le-leb last high h) refl
+between_by low high first last m l k h = rw (signed first (omega arith), signed last (omega arith)) (grind (arith, nat_tests))
 
 module _ (b records : List ℕ) where
   abbrev HasRoom : ℕ → Type 0
@@ -220,9 +217,3 @@ module _ (b records : List ℕ) where
 
   pub index_order : (vdr : ℕ) (index : Nodes) → Hold (index_rows b records vdr index) → InOrder 0 record_number_limit index
   index_order vdr index h = order_from b records 0 record_number_limit index (Hold-split (nodes_rows b records (negsuc 0) (pos record_number_limit) index) (flat_map (leaf_rows b records vdr) (leaves_of index)) h).0
-
-pub index_rules_with_leaf : (b now records records' : List ℕ) (vdr : ℕ) (new : Leaf) (at : ℕ) (index : Nodes) → Hold (index_rows b records vdr index) → new.first ≤ new.last
-    → find (λ (leaf : Leaf). covers new.first (range leaf.first leaf.last)) (leaves_of index) ≡ None → new.last < next_first new.first (firsts_of index)
-    → ((m : ℕ) → In m (nodes_of (with_leaf new at index)) → has_room now m ≡ true) → ((l : Leaf) → IsOneOf (leaves_of (with_leaf new at index)) l → (is_block now records' l.place ≡ true) × Hold (leaf_rows now records' vdr l))
-    → Hold (index_rows now records' vdr (with_leaf new at index))
-index_rules_with_leaf b now records records' vdr new at index h k u n room each = index_rules now records' vdr (with_leaf new at index) (order_with_leaf new at index (index_order b records vdr index h) k u n) room each

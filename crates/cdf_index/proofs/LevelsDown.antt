@@ -1,5 +1,5 @@
 -- The way down to the place of a new entry, from level to level.
-use Rattle.cdf_index.proofs.Common.{AreTiles, Each, Each-append, HasIndex, In, InOrder, IsAmong, IsTree, List, Nodes, SomeTree, Spot, SpotIs, Step, StepSays, [], append-nil, append_assoc, arith, false, index_at, leaf, length, link_to, map, map-append, nodes_of, record_number_limit, refl, spot, step_pair, subst, sym, tiles, way, ℕ, ◌++◌, ◌+◌, ◌-◌, ◌∷◌, ◌≡◌, ◌≢◌, ◌≤◌}
+use Rattle.cdf_index.proofs.Common.{rules, AreTiles, Each, Each-append, HasIndex, In, InOrder, IsAmong, IsTree, List, Nodes, SomeTree, Spot, SpotIs, Step, StepSays, [], append-nil, append_assoc, arith, false, index_at, leaf, length, link_to, map, map-append, nodes_of, record_number_limit, refl, spot, step_pair, subst, sym, tiles, way, ℕ, ◌++◌, ◌+◌, ◌-◌, ◌∷◌, ◌≡◌, ◌≢◌, ◌≤◌}
 use Rattle.cdf_index.proofs.Ascending.{index_stands}
 use Rattle.cdf_index.proofs.Coming.{comes}
 use Rattle.cdf_index.proofs.GoingDown.{top}
@@ -18,14 +18,7 @@ pub record Descending (b : List ℕ) (f turn : ℕ) (total : Nodes) (passed : Li
 
 module _ (b : List ℕ) (head : ℕ) (has : HasIndex b head) (some : head ≢ 0) where
   pub index_tree : IsTree b 8 (index_at b head)
-  index_tree = record {
-    stands = index_stands b head has;
-    is_node = node_there_by head (index_at b head) has.index.link_is some;
-    once = has.index.once;
-    from = 0;
-    upto = record_number_limit;
-    order = has.order;
-  }
+  index_tree = search (rules, index_stands b head has, node_there_by head (index_at b head) has.index.link_is some, has.index.once, has.order)
 
   pub some_tree : SomeTree b head
   some_tree = record { levels = 8; nodes = index_at b head; tiled = has.tiled; tree = index_tree; link = has.index.link_is }

@@ -24,7 +24,7 @@ node_opened {b = b} {at = at} n = opened b n.levels at n.nodes n.stands n.is_nod
 -- what an entry names is a tile
 named_at : {b : List ℕ} {levels at : ℕ} (k n m : ℕ) → k + n ≡ m → (entries : Entries) → EntriesLeft b levels at k entries → n < entry_count entries → In (offset_at b at m) (tiles b)
 named_at {b = b} {at = at} k zero m e entries l lt = let z : k ≡ m = omega arith in subst (λ (x : ℕ). In (offset_at b at x) (tiles b)) z (first_entry entries l lt).named
-named_at k (suc n) m e entries l lt = let f = first_entry entries l (omega arith) in named_at (k + 1) n m (omega arith) f.rest f.left (omega (arith, f.many))
+named_at k (suc n) m e entries l lt = let f = first_entry entries l (omega arith) in named_at (k + 1) n m (omega arith) f.rest f.left (omega (arith, f.adds.many))
 
 pub names_in : (b : List ℕ) (at : ℕ) → SomeNode b at → NamesIn b at
 names_in b at n = λ j lt.
@@ -78,9 +78,9 @@ module _ {b : List ℕ} {rec turn at : ℕ} {nodes : Nodes} (a : At b rec turn n
       record {
         low = f.low;
         entry = pass here h.entry (suc j) (omega arith) f;
-        same = sym (rw t at (f.find rec (find_in rec here.more))) ∙ h.same;
-        steps = omega (arith, h.steps, rw t at (f.passed rec (nodes_passed rec here.more)));
-        zero = λ z. (let y = h.zero z in ((f.zero y.0).1, y.1, y.2));
+        same = sym (rw t at (f.adds.find rec (find_in rec here.more))) ∙ h.same;
+        steps = omega (arith, h.steps, rw t at (f.adds.passed rec (nodes_passed rec here.more)));
+        zero = λ z. (let y = h.zero z in ((f.adds.zero y.0).1, y.1, y.2));
       }
 
   module _ {i : ℕ} (s : Scanned b rec at i) where
@@ -112,23 +112,22 @@ module _ {b : List ℕ} {rec turn at : ℕ} {nodes : Nodes} (a : At b rec turn n
         let t = le-ltb (last_at b at i) rec (s.stop (omega (arith, s.most))) in
         let same = sym over.same in
         rw (sym q.first_is, sym q.last_is, sym q.offset_is) (record {
-          nothing = λ h. same ∙ rw (t, lt-ltb rec _ h) at (f.find rec (find_in rec here.more));
+          nothing = λ h. same ∙ rw (t, lt-ltb rec _ h) at (f.adds.find rec (find_in rec here.more));
           below = λ h six.
               (let u = le-ltb _ _ h in
               let m = f.of_lower six in
               record {
                 left = record { levels = here.down; nodes = f.low; stands = f.stands; link_is = m.0 };
-                same = sym (same ∙ rw (t, u) at (f.find rec (find_in rec here.more)) ∙ m.2 rec);
-                passed = omega (arith, over.steps, rw (t, u) at (f.passed rec (nodes_passed rec here.more)));
+                same = sym (same ∙ rw (t, u) at (f.adds.find rec (find_in rec here.more)) ∙ m.2 rec);
+                passed = omega (arith, over.steps, rw (t, u) at (f.adds.passed rec (nodes_passed rec here.more)));
                 fewer = omega (arith, (pass here over.entry (i + 1) refl f).fewer);
-                zero = λ z. (let y = over.zero z in ((f.zero y.0).0, omega (arith, y.1, here.deep), λ is. omega (arith, y.1, here.deep)));
+                zero = λ z. (let y = over.zero z in ((f.adds.zero y.0).0, omega (arith, y.1, here.deep), λ is. omega (arith, y.1, here.deep)));
               });
-          found = λ h no. same ∙ rw (t, le-ltb _ _ h) at (f.find rec (find_in rec here.more)) ∙ (f.of_block no).1 rec;
+          found = λ h no. same ∙ rw (t, le-ltb _ _ h) at (f.adds.find rec (find_in rec here.more)) ∙ (f.of_block no).1 rec;
         })
 
 -- ---- how many nodes are passed
 
 pub one_passed : (rec : ℕ) (ns : Nodes) → IsNode ns → 1 ≤ nodes_passed rec ns
 unfolding nodes_passed
-one_passed rec no_node is = absurd is
-one_passed rec (node place room entries more) is = omega arith
+one_passed rec ns is = grind arith

@@ -1,5 +1,5 @@
 -- What a walk over an index collects and counts: the entries of blocks, the places of nodes, and the size.
-use Rattle.cdf_index.proofs.Common.{AreTiles, Counts, Entries, HasIndex, HasNodes, IndexSize, List, Met, Nodes, Stands, [], ap, arith, block, entry_count, entry_leaves, entry_met, flat_map, has, image_limit, index_at, leaf_words, leaves_of, length, length-append, length-map, linkable-in, lower, lower_nodes, map, map-append, max, met_below, met_block, met_in, met_node, no_entry, no_node, node, nodes_of, place_met, refl, size_of, suc, tile_lies, tiles, used_met, widest_met, zero, ℕ, ◌*◌, ◌++◌, ◌+◌, ◌∷◌, ◌≡◌, ◌≤◌}
+use Rattle.cdf_index.proofs.Common.{AreTiles, Counts, Entries, HasIndex, HasNodes, IndexSize, List, Met, Nodes, Stands, [], arith, block, entry_count, entry_leaves, entry_met, flat_map, has, image_limit, index_at, leaf_words, leaves_of, length, length-append, length-map, linkable-in, lower, lower_nodes, map, map-append, max, met_below, met_block, met_in, met_node, no_entry, no_node, node, nodes_of, place_met, refl, size_of, suc, tile_lies, tiles, used_met, widest_met, zero, ℕ, ◌*◌, ◌++◌, ◌+◌, ◌∷◌, ◌≡◌, ◌≤◌}
 use Rattle.cdf_edits.specs.Commands.Room.{entries_in, entries_below, widest, widest_below}
 use Rattle.cdf_index.proofs.Ascending.{index_stands}
 use Rattle.std.proofs.lemmas.Grind.{flat_map-append}
@@ -11,18 +11,12 @@ mutual
 
   pub collected : (nodes : Nodes) → (flat_map entry_met (met_in nodes) ≡ map leaf_words (leaves_of nodes)) × (flat_map place_met (met_in nodes) ≡ nodes_of nodes)
   collected no_node = (refl, refl)
-  collected (node place room entries more) =
-      let e = collected_below entries in
-      let m = collected more in
-      (simp (flat_map-append, map-append, e.0, m.0), simp (flat_map-append, e.1, m.1))
+  collected (node place room entries more) = grind (arith, flat_map-append, map-append, collected_below entries, collected more)
 
   collected_below : (entries : Entries) → (flat_map entry_met (met_below entries) ≡ map leaf_words (entry_leaves entries)) × (flat_map place_met (met_below entries) ≡ lower_nodes entries)
   collected_below no_entry = (refl, refl)
-  collected_below (block first last place packed entries) = let e = collected_below entries in (simp e.0, simp e.1)
-  collected_below (lower first last nodes entries) =
-      let n = collected nodes in
-      let e = collected_below entries in
-      (simp (flat_map-append, map-append, e.0, n.0), simp (flat_map-append, e.1, n.1))
+  collected_below (block first last place packed entries) = grind (arith, collected_below entries)
+  collected_below (lower first last nodes entries) = grind (arith, flat_map-append, map-append, collected nodes, collected_below entries)
 
 -- ---- the size
 
@@ -74,11 +68,5 @@ module _ (b : List ℕ) (tiled : AreTiles b 8 (length b) (tiles b)) (short : len
 
 pub measured_is : (b : List ℕ) (head : ℕ) → HasIndex b head → length b ≤ image_limit → (size : IndexSize) → Counts size (met_in (index_at b head)) → size ≡ size_of (index_at b head)
 measured_is b head has short size c =
-    let nodes = index_at b head in
-    let few = few_in b has.tiled short 8 nodes (index_stands b head has) in
-    let short_list = few_nodes has in
-    let m = measured nodes in
-    let leaves : size.leaves ≡ length (leaves_of nodes) = omega (arith, c.leaves, ap length (collected nodes).0, length-map (leaves_of nodes) leaf_words, m.2) in
-    let entries : size.entries ≡ entries_in nodes = omega (arith, c.entries, m.0) in
-    let wide : size.widest ≡ widest nodes = omega (arith, c.widest, m.1) in
-    λ j. record { leaves = leaves j; entries = entries j; widest = wide j }
+    let few = few_in b has.tiled short 8 (index_at b head) (index_stands b head has) in
+    grind (arith, c.leaves, c.entries, c.widest, few_nodes has, collected (index_at b head), length-map (leaves_of (index_at b head)) leaf_words, measured (index_at b head))

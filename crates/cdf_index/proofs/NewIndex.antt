@@ -194,14 +194,11 @@ module _ {b now : List ℕ} {kind : Kind} {before : List VariableShape} {own : V
   mine = record own { index = index }
 
   module _ (taken freed : List ℕ) (y : Exchanged b now own index reborn taken freed) where
-    pub own_times : (m : ℕ) → times m (variable_records mine) + times m freed ≡ times m (variable_records own) + times m taken
-    own_times m = omega (arith, parts_times own m, parts_times mine m, y.times_are m)
-
     abbrev after_it : Shape
     after_it = with_shapes s kind new list (before ++ mine ∷ after)
 
     used_after : (m : ℕ) → used_times after_it m + times m freed ≡ used_times s m + times m taken
-    used_after m = spliced_times s kind new list before (own ∷ []) (mine ∷ []) after at.was m (times m taken) (times m freed) (omega (arith, times-append m (variable_records mine) [], times-append m (variable_records own) [], own_times m))
+    used_after m = spliced_times s kind new list before (own ∷ []) (mine ∷ []) after at.was m (times m taken) (times m freed) (omega (arith, times-append m (variable_records mine) [], times-append m (variable_records own) [], parts_times own m, parts_times mine m, y.times_are m))
 
     node_in : (m : ℕ) → In m freed → In m s.records
     node_in m i = behind_in good at m (node_behind own m (y.were_nodes m i))

@@ -1,5 +1,5 @@
 -- A node with one entry more, or it and a new node behind it, in the tree.
-use Rattle.cdf_index.proofs.Common.{rules, Begins, Chained, Entries, HasNodes, Inserted, IsNode, Leaf, List, MayName, Names, Nodes, Owed, SameHeads, SayEntries, SaysEntry, SaysNode, Split, StillSays, ap, arith, either, entry_count, eqb, inl, inr, is_linkable, le-ltb, length, link_to, linkable_kept, lt-ltb, ltb, max, next_of, no_entry, node, past, placed, room_at, suc, sym, true, used_count, vxr_type, with_block, with_both, ℕ, ◌*◌, ◌+◌, ◌-◌, ◌<◌, ◌∙◌, ◌≡◌, ◌≤◌}
+use Rattle.cdf_index.proofs.Common.{rules, Begins, Chained, Entries, HasNodes, Inserted, IsNode, Leaf, List, MayName, Names, Nodes, Owed, SameHeads, SayEntries, SaysEntry, SaysNode, Split, StillSays, ap, arith, entry_count, is_linkable, le-ltb, length, link_to, linkable_kept, lt-ltb, max, next_of, no_entry, node, past, placed, room_at, suc, sym, true, used_count, vxr_type, with_block, with_both, ℕ, ◌*◌, ◌+◌, ◌-◌, ◌<◌, ◌∙◌, ◌≡◌, ◌≤◌}
 use Rattle.cdf_index.proofs.Inserting.{front_stays}
 use Rattle.cdf_index.proofs.Saying.{front, front_past, upto_both, upto_is, count_both, say_both, say_parts, names_both, names_parts, say_moved}
 use Rattle.std.proofs.lemmas.Bool.{ne_eqb, eq-eqb}
@@ -27,10 +27,7 @@ pub placed_link : (l : Leaf) (new at room : ℕ) (es : Entries) (more : Nodes) �
 placed_link l new at room es more = grind arith
 
 pub placed_node : (l : Leaf) (new at room : ℕ) (es : Entries) (more : Nodes) → IsNode (placed l new at room es more)
-placed_node l new at room es more = elim (either (ltb (entry_count es) room)) [
-  | inl t ↦ rw t tt
-  | inr t ↦ elim (either (eqb (entry_count (past l.first es)) 0)) [ inl u ↦ rw (t, u) tt | inr u ↦ rw (t, u) tt ]
-]
+placed_node l new at room es more = grind arith
 
 module _ (b now records records' : List ℕ) (heads : SameHeads b now records records') (at new used p : ℕ) (l : Leaf) (used_is : used ≡ used_count b at) (begins : Begins b at l.first p) (names : MayName now records' l) where
   parts : (levels r : ℕ) (es : Entries) (more : Nodes) → SaysNode b records at r es more → Names now records' levels es → Parts b now records' levels at l.first used p es
@@ -52,7 +49,7 @@ module _ (b now records records' : List ℕ) (heads : SameHeads b now records re
   fed_has levels r es more h q rest behind next room used earlier here say n m =
       let fr = front l.first es in
       let z : p ≡ 0 + entry_count fr = omega (arith, q.front_count) in
-      let first = say_moved b now at at 0 0 fr q.say_front (λ j f o w lt says. earlier (0 + j) (omega (arith, q.front_count)) f o w says) in
+      let first = say_moved b now at at 0 0 fr q.say_front (λ n m f o w e le lt says. (let x : n ≡ m = omega arith in rw x at (earlier n (omega (arith, q.front_count)) f o w says))) in
       let says = say_both now at 0 fr (with_block l rest) first (rw (← z) (here, say)) in
       let all : used_count now at ≡ entry_count (with_both fr (with_block l rest)) = used ∙ omega (arith, q.front_count, count_both fr (with_block l rest)) in
       node_has now records' levels at r (with_both fr (with_block l rest)) behind (search (rules, linkable_kept b now records records' heads vxr_type at h.linkable, next, room ∙ h.room_is, all, says)) (names_both now records' levels fr (with_block l rest) q.names_front (leaf_names now records' levels l rest names n)) m
@@ -69,17 +66,13 @@ module _ (b now records records' : List ℕ) (heads : SameHeads b now records re
           let q = parts levels r es more h n in
           let bk = past l.first es in
           let test = lt-ltb (entry_count es) r (omega (arith, q.all, h.room_is)) in
-          let last = say_moved b now at at p (suc p) bk q.say_past (λ j f k o lt says. (let x : suc (p + j) ≡ suc p + j = omega arith in rw x at (ins.later (p + j) (omega arith) (omega (arith, q.count)) f k o says))) in
+          let last = say_moved b now at at p (suc p) bk q.say_past (λ n m f k o e le lt says. (let x : suc n ≡ m = omega arith in rw x at (ins.later n le (omega (arith, q.count)) f k o says))) in
           rw (test, upto_both l es bk) (fed_has levels r es more h q bk more (front_stays b now at 24 (4 + 16 * room_at b at) ins.changed (omega arith) 12 8 (omega arith) ∙ h.next_is) ins.room_stays (ins.used_is ∙ omega (arith, q.count)) ins.earlier ins.here last q.names_past m));
     }
 
   -- ---- a full node
 
   module _ (full : room_at b at ≤ used) (fresh : is_linkable now records' vxr_type new ≡ true) where
-    -- the new node
-    new_has : (levels r : ℕ) (es : Entries) (more : Nodes) → next_of now new ≡ link_to more → room_at now new ≡ r → used_count now new ≡ entry_count es → SayEntries now new 0 es → Names now records' levels es → HasNodes now records' (suc levels) more → HasNodes now records' (suc levels) (node new r es more)
-    new_has levels r es more next room used say n m = node_has now records' levels new r es more (record { linkable = fresh; next_is = next; room_is = room; used_is = used; say_entries = say }) n m
-
     module _ (sp : Split b now at new used p l.first l.last l.place) (behind : p < used) where
       -- the new image has the two nodes, and all else of the tree
       pub split_owed : Owed b now records records' at (placed l new at)
@@ -91,9 +84,9 @@ module _ (b now records records' : List ℕ) (heads : SameHeads b now records re
             let bk = past l.first es in
             let test = le-ltb (entry_count es) r (omega (arith, q.all, h.room_is)) in
             let some = ne_eqb (entry_count bk) 0 (λ e. absurd (omega (arith, q.count))) in
-            let last = say_moved b now at new p 0 bk q.say_past (λ j f o w lt says. (let x : (p + j) - p ≡ 0 + j = omega arith in rw x at (sp.moved (p + j) f o w (omega arith) (omega (arith, q.count)) says))) in
+            let last = say_moved b now at new p 0 bk q.say_past (λ n m f o w e le lt says. (let x : n - p ≡ m = omega arith in rw x at (sp.moved n f o w le (omega (arith, q.count)) says))) in
             rw (test, some, upto_is l es) (fed_has levels r es more h q no_entry (node new (max 7 (entry_count bk)) bk more) sp.next_is sp.room_stays (sp.used_is ∙ omega arith) sp.earlier sp.here tt q.names_none
-            (new_has levels (max 7 (entry_count bk)) bk more (sp.new_next ∙ h.next_is) (sp.new_room ∙ ap (max 7) (omega (arith, q.count))) (sp.new_used ∙ omega (arith, q.count)) last q.names_past m)));
+            (node_has now records' levels new (max 7 (entry_count bk)) bk more (record { linkable = fresh; next_is = sp.new_next ∙ h.next_is; room_is = sp.new_room ∙ ap (max 7) (omega (arith, q.count)); used_is = sp.new_used ∙ omega (arith, q.count); say_entries = last }) q.names_past m)));
       }
 
     module _ (ch : Chained b now at new used l.first l.last l.place) (last : p ≡ used) where
@@ -106,7 +99,7 @@ module _ (b now records records' : List ℕ) (heads : SameHeads b now records re
             let bk = past l.first es in
             let test = le-ltb (entry_count es) r (omega (arith, q.all, h.room_is)) in
             let empty : entry_count bk ≡ 0 = omega (arith, q.count) in
-            let says = say_moved b now at at 0 0 es h.say_entries (λ j f o w lt says. ch.stay (0 + j) (omega (arith, q.all)) f o w says) in
+            let says = say_moved b now at at 0 0 es h.say_entries (λ n m f o w e le lt says. (let x : n ≡ m = omega arith in rw x at (ch.stay n (omega (arith, q.all)) f o w says))) in
             rw (test, eq-eqb (entry_count bk) 0 empty) (node_has now records' levels at r es (node new (max 7 (entry_count bk)) (with_block l no_entry) more) (search (rules, linkable_kept b now records records' heads vxr_type at h.linkable, ch.next_is, ch.room_stays ∙ h.room_is, ch.used_is ∙ used_is ∙ h.used_is, says)) n
-            (new_has levels (max 7 (entry_count bk)) (with_block l no_entry) more (ch.new_next ∙ h.next_is) (ch.new_room ∙ ap (max 7) (sym empty)) ch.new_used (ch.here, tt) (leaf_names now records' levels l no_entry names q.names_none) m)));
+            (node_has now records' levels new (max 7 (entry_count bk)) (with_block l no_entry) more (record { linkable = fresh; next_is = ch.new_next ∙ h.next_is; room_is = ch.new_room ∙ ap (max 7) (sym empty); used_is = ch.new_used; say_entries = (ch.here, tt) }) (leaf_names now records' levels l no_entry names q.names_none) m)));
       }

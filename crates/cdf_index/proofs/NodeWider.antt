@@ -17,10 +17,10 @@ say_widened : (b now : List ℕ) (at last i k n : ℕ) (es : Entries) → i ≡ 
 say_widened b now at last i k n no_entry e here others s = tt
 say_widened b now at last i k zero (block first end place packed es) e here others s =
     let q : i ≡ k = omega arith in
-    ((rw q at here) first end place s.0, say_moved b now at at (suc k) (suc k) es s.1 (λ j f l o lt says. others (suc k + j) (omega arith) (λ x. absurd (omega arith)) f l o says))
+    ((rw q at here) first end place s.0, say_moved b now at at (suc k) (suc k) es s.1 (λ j m f l o e le lt says. (let x : j ≡ m = omega arith in rw x at (others j (omega arith) (λ y. absurd (omega arith)) f l o says))))
 say_widened b now at last i k zero (lower first end nodes es) e here others s =
     let q : i ≡ k = omega arith in
-    ((rw q at here) first end (link_to nodes) s.0, say_moved b now at at (suc k) (suc k) es s.1 (λ j f l o lt says. others (suc k + j) (omega arith) (λ x. absurd (omega arith)) f l o says))
+    ((rw q at here) first end (link_to nodes) s.0, say_moved b now at at (suc k) (suc k) es s.1 (λ j m f l o e le lt says. (let x : j ≡ m = omega arith in rw x at (others j (omega arith) (λ y. absurd (omega arith)) f l o says))))
 say_widened b now at last i k (suc n) (block first end place packed es) e here others s = (others k (omega arith) (λ x. absurd (omega arith)) first end place s.0, say_widened b now at last i (suc k) n es (omega arith) here (λ j lt ne. others j (omega arith) ne) s.1)
 say_widened b now at last i k (suc n) (lower first end nodes es) e here others s = (others k (omega arith) (λ x. absurd (omega arith)) first end (link_to nodes) s.0, say_widened b now at last i (suc k) n es (omega arith) here (λ j lt ne. others j (omega arith) ne) s.1)
 

@@ -1,5 +1,5 @@
 -- The leaf that has a record, found on the way down.
-use Rattle.cdf_index.proofs.Common.{AreInOrder, Each, Each-append, Entries, InOrder, Leaf, List, Nodes, None, Option, [], append_assoc, arith, block, entry_leaves, find_entry, find_in, leaf_of, leaves_of, lower, nat_tests, no_entry, no_node, node, past_entries, refl, suc, ℕ, ◌++◌, ◌<◌, ◌∷◌, ◌≡◌, ◌≤◌}
+use Rattle.cdf_index.proofs.Common.{AreInOrder, Each, Each-append, Entries, InOrder, Leaf, List, Nodes, Option, [], append_assoc, arith, block, entry_leaves, find_entry, find_in, leaf_of, leaves_of, lower, nat_tests, no_entry, no_node, node, past_entries, refl, suc, ℕ, ◌++◌, ◌<◌, ◌∷◌, ◌≡◌, ◌≤◌}
 use Rattle.cdf_edits.proofs.Edits.VariableFrame.{Each-map}
 
 -- each of the leaves has records from low to high alone
@@ -39,12 +39,9 @@ pub leaf_behind : (rec low high : ℕ) (xs ys : List Leaf) → Within low high x
 leaf_behind rec low high [] ys w h = refl
 leaf_behind rec low high (x ∷ xs) ys w h = let r = leaf_behind rec low high xs ys w.1 h in let w2 = w.0.2 in grind (arith, nat_tests)
 
-pub no_leaf : (rec low high : ℕ) (xs : List Leaf) → Within low high xs → rec < low → leaf_of rec xs ≡ None
-no_leaf rec low high [] w h = refl
-no_leaf rec low high (x ∷ xs) w h = let r = no_leaf rec low high xs w.1 h in let w0 = w.0.0 in grind (arith, nat_tests)
-
 pub leaf_before : (rec low high : ℕ) (xs ys : List Leaf) → Within low high ys → rec < low → leaf_of rec (xs ++ ys) ≡ leaf_of rec xs
-leaf_before rec low high [] ys w h = no_leaf rec low high ys w h
+leaf_before rec low high [] [] w h = refl
+leaf_before rec low high [] (y ∷ ys) w h = let r = leaf_before rec low high [] ys w.1 h in let w0 = w.0.0 in grind (arith, nat_tests)
 leaf_before rec low high (x ∷ xs) ys w h = let r = leaf_before rec low high xs ys w h in grind (arith, nat_tests)
 
 -- what comes behind entries, with them
@@ -63,8 +60,8 @@ mutual
       → find_entry rec entries other ≡ leaf_of rec (entry_leaves entries ++ zs)
   find_entry_is rec low high no_entry zs other o w e = e
   find_entry_is rec low high (block first last place packed entries) zs other o w e =
-      grind (arith, nat_tests, find_entry_is rec (suc last) high entries zs other o.3 w e, no_leaf rec (suc last) high (entry_leaves entries ++ zs) (behind (suc last) high entries zs o.3 w), o.1)
+      grind (arith, nat_tests, find_entry_is rec (suc last) high entries zs other o.3 w e, leaf_before rec (suc last) high [] (entry_leaves entries ++ zs) (behind (suc last) high entries zs o.3 w), o.1)
   find_entry_is rec low high (lower first last nodes entries) zs other o w e =
       let tail = behind (suc last) high entries zs o.4 w in
       let inner = leaves_within first last nodes o.3 in
-      grind (arith, nat_tests, append_assoc (leaves_of nodes) (entry_leaves entries) zs, find_entry_is rec (suc last) high entries zs other o.4 w e, leaf_behind rec first last (leaves_of nodes) (entry_leaves entries ++ zs) inner, leaf_before rec (suc last) high (leaves_of nodes) (entry_leaves entries ++ zs) tail, no_leaf rec first last (leaves_of nodes) inner, find_is rec first last nodes o.3)
+      grind (arith, nat_tests, append_assoc (leaves_of nodes) (entry_leaves entries) zs, find_entry_is rec (suc last) high entries zs other o.4 w e, leaf_behind rec first last (leaves_of nodes) (entry_leaves entries ++ zs) inner, leaf_before rec (suc last) high (leaves_of nodes) (entry_leaves entries ++ zs) tail, leaf_before rec first last [] (leaves_of nodes) inner, find_is rec first last nodes o.3)

@@ -1,12 +1,11 @@
 -- The records of one variable: how often each stands in it, of which types they are, and what a command on the variable may do to them.
-use Rattle.cdf_index.proofs.Common.{Allowance, Anything, Each, Field, Found, Good, In, IsOneOf, Kind, Leaf, LeafFits, List, None, Only, Option, Range, Some, StandsAmong, VariableShape, [], ap, arith, cvvr_type, false, find, find_place, fits, got-middle, has, if◌then◌else◌, index_records, inl, inr, is_a, is_a-type, is_in, kind_type, leaves_apart, leaves_of, length, linkable-type, nodes_of, nodes_stand, or_cases, places_of, range, range_at, refl, shape, shapes_of, slice_get, sym, times, times-append, true≢false, type_at, typed, variable_records, vdr_type, vvr_type, vxr_type, ℕ, ◌++◌, ◌+◌, ◌==◌, ◌∙◌, ◌∷◌, ◌≡◌, ◌⊎◌}
+use Rattle.std.specs.Option.{option_map}
+use Rattle.cdf_index.proofs.Common.{nat_tests, Allowance, Anything, Each, Field, Found, Good, In, IsOneOf, Kind, Leaf, LeafFits, List, None, Only, Option, Range, Some, StandsAmong, VariableShape, [], ap, arith, cvvr_type, false, find, find_place, fits, got-middle, has, if◌then◌else◌, inl, inr, is_a, is_a-type, is_in, kind_type, leaves_apart, leaves_of, length, linkable-type, nodes_of, nodes_stand, or_cases, places_of, range, range_at, refl, shape, shapes_of, slice_get, times, times-append, type_at, typed, variable_records, vdr_type, vvr_type, vxr_type, ℕ, ◌+◌, ◌==◌, ◌∙◌, ◌∷◌, ◌≡◌, ◌⊎◌}
 use Rattle.cdf_edits.proofs.Edits.LeafPieces.{leaf_at, of_each}
 use Rattle.cdf_edits.proofs.Edits.VariableKept.{find_none}
 
 pub parts_times : (v : VariableShape) (m : ℕ) → times m (variable_records v) ≡ times m (v.vdr ∷ []) + (times m (nodes_of v.index) + times m (places_of (leaves_of v.index)) + times m v.cpr)
-parts_times v m =
-    times-append m (v.vdr ∷ []) (index_records v)
-    ∙ ap (λ (n : ℕ). times m (v.vdr ∷ []) + n) (times-append m (nodes_of v.index ++ places_of (leaves_of v.index)) v.cpr ∙ ap (λ (n : ℕ). n + times m v.cpr) (times-append m (nodes_of v.index) (places_of (leaves_of v.index))))
+parts_times v m = grind (arith, times-append)
 
 -- ---- by their types
 
@@ -18,13 +17,9 @@ block_type b records vdr leaves each m i =
 abbrev block_types : List ℕ
 block_types = vvr_type ∷ cvvr_type ∷ []
 
-abbrev in_leaf : Option Leaf → Option Range
-in_leaf None = None
-in_leaf (Some leaf) = Some (range leaf.first leaf.last)
-
 abbrev range_in : ℕ → Option VariableShape → Option Range
 range_in place None = None
-range_in place (Some v) = in_leaf (find (λ (leaf : Leaf). leaf.place == place) (leaves_of v.index))
+range_in place (Some v) = option_map (λ (leaf : Leaf). range leaf.first leaf.last) (find (λ (leaf : Leaf). leaf.place == place) (leaves_of v.index))
 
 -- ---- what a command may do, where it may write these fields of the descriptor, all of a node, and of a block what its range says
 
@@ -40,15 +35,12 @@ by_types kind fields = grind arith
 
 module _ {b : List ℕ} (found : Found) {before : List VariableShape} {own : VariableShape} {after : List VariableShape} (good : Good b) (among : StandsAmong b found.kind before own after) (number_is : found.number ≡ length before) (fields : List Field) (block : Range → Allowance) (may : ℕ → Allowance)
     (allowed : (m : ℕ) (o : Option Range) → range_at (shape b) found m ≡ o → may m ≡ by_range b found.kind fields block m o) where
-  ranged : (m : ℕ) (o : Option Leaf) → find (λ (leaf : Leaf). leaf.place == m) (leaves_of own.index) ≡ o → range_at (shape b) found m ≡ in_leaf o
-  ranged m o e = ap (range_in m) (ap (slice_get (shapes_of (shape b) found.kind)) number_is ∙ ap (λ (vs : List VariableShape). slice_get vs (length before)) among.was ∙ got-middle before own after) ∙ ap in_leaf e
+  ranged : (m : ℕ) (o : Option Leaf) → find (λ (leaf : Leaf). leaf.place == m) (leaves_of own.index) ≡ o → range_at (shape b) found m ≡ option_map (λ (leaf : Leaf). range leaf.first leaf.last) o
+  ranged m o e = ap (range_in m) (ap (slice_get (shapes_of (shape b) found.kind)) number_is ∙ ap (λ (vs : List VariableShape). slice_get vs (length before)) among.was ∙ got-middle before own after) ∙ ap (option_map (λ (leaf : Leaf). range leaf.first leaf.last)) e
 
   -- a record of another type is no block
   no_block_of : (m type : ℕ) → type_at b m ≡ type → is_in type block_types ≡ false → In m (places_of (leaves_of own.index)) → ⊥
-  no_block_of m type t none i = elim (block_type b (shape b).records own.vdr (leaves_of own.index) (fits good among).2 m i) [
-    | inl e ↦ true≢false (sym (ap (λ (x : ℕ). is_in x block_types) (sym t ∙ e)) ∙ none)
-    | inr e ↦ true≢false (sym (ap (λ (x : ℕ). is_in x block_types) (sym t ∙ e)) ∙ none)
-  ]
+  no_block_of m type t none i = let k = block_type b (shape b).records own.vdr (leaves_of own.index) (fits good among).2 m i in grind (arith, nat_tests)
 
   typed_allowed : (m type : ℕ) → type_at b m ≡ type → is_in type block_types ≡ false → may m ≡ by_type found.kind fields type
   typed_allowed m type t none = allowed m None (ranged m None (find_none (leaves_of own.index) m (no_block_of m type t none))) ∙ ap (by_type found.kind fields) t

@@ -1,5 +1,5 @@
 -- The entries of a node, and what it says of them, taken apart and put together.
-use Rattle.cdf_index.proofs.Common.{Entries, Leaf, List, Names, SayEntries, SaysEntry, ap, append_assoc, arith, block, either, entry_count, if◌then◌else◌, inl, inr, leb, link_to, lower, lower_nodes, nat_le, no_entry, nodes_of, past, refl, suc, sym, upto, with_block, with_both, ℕ, ◌++◌, ◌+◌, ◌<◌, ◌∙◌, ◌≡◌}
+use Rattle.cdf_index.proofs.Common.{Entries, Leaf, List, Names, SayEntries, SaysEntry, ap, append_assoc, arith, block, either, entry_count, if◌then◌else◌, inl, inr, leb, link_to, lower, lower_nodes, nat_le, no_entry, nodes_of, past, refl, suc, sym, upto, with_block, with_both, ℕ, ◌++◌, ◌+◌, ◌<◌, ◌∙◌, ◌≡◌, ◌≤◌}
 
 -- the entries that begin at a record or before it
 abbrev pub front : ℕ → Entries → Entries
@@ -64,13 +64,7 @@ names_parts b ts levels (block first last place packed es) fs n = let r = names_
 names_parts b ts levels (lower first last nodes es) fs n = let r = names_parts b ts levels es fs n.2 in ((n.0, n.1, r.0), r.1)
 
 -- entries that move to other numbers of a node, which may be another one
-pub say_moved : (b now : List ℕ) (at to i k : ℕ) (es : Entries) → SayEntries b at i es → ((j first last offset : ℕ) → j < entry_count es → SaysEntry b at (i + j) first last offset → SaysEntry now to (k + j) first last offset) → SayEntries now to k es
+pub say_moved : (b now : List ℕ) (at to i k : ℕ) (es : Entries) → SayEntries b at i es → ((n m first last offset : ℕ) → n + k ≡ m + i → i ≤ n → n < i + entry_count es → SaysEntry b at n first last offset → SaysEntry now to m first last offset) → SayEntries now to k es
 say_moved b now at to i k no_entry s m = tt
-say_moved b now at to i k (block first last place packed es) s m =
-    let z : i + 0 ≡ i = omega arith in
-    let y : k + 0 ≡ k = omega arith in
-    (rw y at (m 0 first last place (omega arith) (rw z s.0)), say_moved b now at to (suc i) (suc k) es s.1 (λ j f l o lt e. (let x : suc i + j ≡ i + suc j = omega arith in let w : k + suc j ≡ suc k + j = omega arith in rw w at (m (suc j) f l o (omega arith) (rw x at e)))))
-say_moved b now at to i k (lower first last nodes es) s m =
-    let z : i + 0 ≡ i = omega arith in
-    let y : k + 0 ≡ k = omega arith in
-    (rw y at (m 0 first last (link_to nodes) (omega arith) (rw z s.0)), say_moved b now at to (suc i) (suc k) es s.1 (λ j f l o lt e. (let x : suc i + j ≡ i + suc j = omega arith in let w : k + suc j ≡ suc k + j = omega arith in rw w at (m (suc j) f l o (omega arith) (rw x at e)))))
+say_moved b now at to i k (block first last place packed es) s m = (m i k first last place (omega arith) (omega arith) (omega arith) s.0, say_moved b now at to (suc i) (suc k) es s.1 (λ n j f l o e le lt. m n j f l o (omega arith) (omega arith) (omega arith)))
+say_moved b now at to i k (lower first last nodes es) s m = (m i k first last (link_to nodes) (omega arith) (omega arith) (omega arith) s.0, say_moved b now at to (suc i) (suc k) es s.1 (λ n j f l o e le lt. m n j f l o (omega arith) (omega arith) (omega arith)))

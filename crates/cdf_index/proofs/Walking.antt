@@ -97,13 +97,13 @@ module _ {b : List ℕ} {rec turn : ℕ} {nodes : Nodes} {walk : Walk} (w : IsWa
       let h = behind j (λ k lt. begun k (omega arith)) (omega arith) in
       let f = entry_here here h.entry (omega arith) in
       let ys = firsts_of f.low ++ (entry_firsts f.rest ++ firsts_of here.more) in
-      let p = first_passed rec 0 record_number_limit (first_at b walk.at j) (firsts_of h.low.nodes) ys walk.best (rw (f.firsts, append_assoc) at h.climbs) (begun j (omega arith)) in
+      let p = first_passed rec 0 record_number_limit (first_at b walk.at j) (firsts_of h.low.nodes) ys walk.best (rw (f.adds.firsts, append_assoc) at h.climbs) (begun j (omega arith)) in
       record {
         low = record { levels = here.down; nodes = f.low; stands = f.stands; link_is = f.chain };
         entry = pass here h.entry (suc j) (omega arith) f;
         climbs = p.1;
-        same = sym p.0 ∙ rw (f.firsts, append_assoc) at h.same;
-        zero = λ z. (let y = h.zero z in let e = f.zero y.2 in (e.0, omega (arith, y.3, here.deep), e.1, y.3, y.4));
+        same = sym p.0 ∙ rw (f.adds.firsts, append_assoc) at h.same;
+        zero = λ z. (let y = h.zero z in let e = f.adds.zero y.2 in (e.0, omega (arith, y.3, here.deep), e.1, y.3, y.4));
       }
 
   module _ (i : ℕ) (g : Begun b walk.at rec i) (lower : ℕ) (lower_is : lower ≡ chain_before b walk.at walk.lower i) where
@@ -117,22 +117,19 @@ module _ {b : List ℕ} {rec turn : ℕ} {nodes : Nodes} {walk : Walk} (w : IsWa
     pub walk_decided : i < used_count b walk.at → (first : ℕ) → first ≡ first_at b walk.at i → IsWalk b rec nodes (turn + 1) (record { best = Some first; at = lower; lower = 0 })
     walk_decided lt first e =
         let h = behind i g.before g.most in
-        walk_down (Some first) h (rw e (sym (first_decides rec (firsts_of h.low.nodes) _ (first_at b walk.at i) walk.best (g.stop lt)) ∙ rw (entry_here here h.entry lt).firsts at h.same))
+        walk_down (Some first) h (rw e (sym (first_decides rec (firsts_of h.low.nodes) _ (first_at b walk.at i) walk.best (g.stop lt)) ∙ rw (entry_here here h.entry lt).adds.firsts at h.same))
 
     module _ (all : i ≡ used_count b walk.at) where
-      none_left : (h : Behind walk here rec turn i nodes) → entry_firsts h.entry.rest ≡ []
-      unfolding entry_firsts
-      none_left h = ap entry_firsts (none_here here h.entry (omega arith))
-
       -- the chain ended
       pub walk_below : AreTiles b 8 (length b) (tiles b) → next_of b walk.at ≡ 0 → IsWalk b rec nodes (turn + 1) (record { best = walk.best; at = lower; lower = 0 })
-      unfolding firsts_of
+      unfolding firsts_of entry_firsts
       walk_below tiled next =
           let h = behind i g.before g.most in
-          walk_down walk.best h (rw (none_left h, ap firsts_of (none_there b w.left.levels here.more tiled here.more_stands.has (sym here.parts.says.next_is ∙ next)), append-nil) at h.same)
+          walk_down walk.best h (rw (none_here here h.entry (omega arith), ap firsts_of (none_there b w.left.levels here.more tiled here.more_stands.has (sym here.parts.says.next_is ∙ next)), append-nil) at h.same)
 
       -- it goes on
       pub walk_along : (next : ℕ) → next ≡ next_of b walk.at → next ≢ 0 → IsWalk b rec nodes (turn + 1) (record { best = walk.best; at = next; lower = lower })
+      unfolding entry_firsts
       walk_along next e some =
           let h = behind i g.before g.most in
           let link = e ∙ here.parts.says.next_is in
@@ -140,8 +137,8 @@ module _ {b : List ℕ} {rec turn : ℕ} {nodes : Nodes} {walk : Walk} (w : IsWa
             low = record { levels = h.low.levels; nodes = h.low.nodes; stands = h.low.stands; link_is = lower_is ∙ h.low.link_is };
             left = record { levels = w.left.levels; nodes = here.more; stands = here.more_stands; link_is = link };
             ended = λ z. absurd (some z);
-            climbs = rw (none_left h) at h.climbs;
-            same = rw (none_left h) at h.same;
+            climbs = rw (none_here here h.entry (omega arith)) at h.climbs;
+            same = rw (none_here here h.entry (omega arith)) at h.same;
             fewer = omega (arith, h.entry.fewer);
             zero = λ z. absurd (some (link ∙ ap link_to (h.zero z).4));
           }

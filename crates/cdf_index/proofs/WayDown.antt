@@ -133,8 +133,7 @@ pub no_zero : (b ts : List ℕ) (levels : ℕ) (nodes : Nodes) → AreTiles b 8 
 no_zero b ts levels nodes t h i = some_place b ts (length b) 0 t (linkable-in b ts vxr_type 0 (nodes_stand b ts levels nodes h 0 i)) refl
 
 pub chain_there : (f : ℕ) (nodes : Nodes) → chain_reaches f nodes ≡ true → IsNode nodes
-chain_there f no_node t = absurd (cc)
-chain_there f (node place room es more) t = tt
+chain_there f nodes t = grind arith
 
 -- the way ends at a node
 pub spot_there : {l : Leaf} {at : ℕ} {w : List (ℕ × ℕ)} {x n : ℕ} {ns ns' : Nodes} → Comes l at w x n ns ns' → (b ts : List ℕ) (levels : ℕ) → HasNodes b ts levels ns → IsNode ns → In x (nodes_of ns)

@@ -46,7 +46,7 @@ pub use Rattle.cdf_format.specs.Records.{Field, field, gdr_eof, gdr_r_max_rec, g
 pub use Rattle.cdf_index.proofs.ByLeaf.{Grows, by_leaf, in_nodes_with_leaf, node_stays, nodes_with_leaf, weight_grows}
 unfoldable pub use Rattle.cdf_index.proofs.ByLeaf.{weigh, weigh_below}
 pub use Rattle.cdf_index.proofs.LeafMore.{leaves_more, ranges_new}
-pub use Rattle.cdf_index.proofs.LeafRules.{before_limit, least_below, index_order, index_rules_with_leaf, order_with_leaf}
+pub use Rattle.cdf_index.proofs.LeafRules.{before_limit, least_below, index_order, index_rules, order_with_leaf}
 pub use Rattle.cdf_index.proofs.NewIndex.{Exchanged, IndexTests, NewIndex, index_marks, index_unmarked, max_rec_kept, node_room, vdr_no_node, vdr_of_variable}
 pub use Rattle.cdf_index.proofs.OneNode.{same_node}
 pub use Rattle.cdf_index.specs.Adding.{AddsLeaf, Counts, IndexTouch, LeafAdded, NodeTaken, NodeTouch, leaf_acts, node_acts}
