@@ -1,5 +1,5 @@
 -- Where the next record is put: the records of a new block, each step by which records are put, and what an image says of a variable of which some records are put.
-use Rattle.cdf_puts.proofs.Common.{Act, AddsLeaf, BlockRecords, Covering, GoesOn, HasIndex, In, IsBlockBody, IsBody, IsPut, IsVacant, Kind, LeafAdded, List, NodeTaken, Nodes, None, PutStart, PutsOn, PutsUpTo, Putting, RecordsWritten, SoFar, Some, SomePut, SomePutting, StandsAmong, Variable, VariableShape, [], ap, append-nil, arith, block_bytes, block_count, cases_lt, covers, div-le_self, drop, drop-append-le, drop_at, either, extent, false, find, first_written, firsts_of, fits, good_is_sound, has, if◌then◌else◌, image_limit, in_middle, index_at, inl, inr, is_sparse, last_in_new, leaf, leaf_acts, leaf_of, leaves_of, length, length-append, length-drop, long, max_rec_at, min, most_in_block, nat_tests, new_last, new_range, new_room, next_first, node_bytes, number, range, record_bytes, record_length, record_of, record_put, records_put, refl, shape, sparse_at, subst, suc, sym, take, take-append-le, take_all, taken_bytes, tile, tile_lies, times_le, variable_of, variables, vdr_max_rec, vdr_vxr_head, vdrs, vxr_bytes, widest, with_leaf, zero, ℕ, ◌*◌, ◌++◌, ◌+◌, ◌-◌, ◌<◌, ◌==◌, ◌∙◌, ◌∷◌, ◌≡◌, ◌≤◌}
+use Rattle.cdf_puts.proofs.Common.{Act, AddsLeaf, BlockRecords, Covering, GoesOn, HasIndex, In, IsBlockBody, IsBody, IsPut, IsVacant, Kind, LeafAdded, List, NodeTaken, Nodes, None, PutStart, PutsOn, PutsUpTo, Putting, RecordsWritten, SoFar, Some, SomePut, SomePutting, StandsAmong, Variable, VariableShape, [], ap, append-nil, arith, block_bytes, block_count, cases_lt, covers, div-le_self, drop, drop-append-le, drop_at, extent, false, find, first_written, firsts_of, fits, good_is_sound, has, if◌then◌else◌, image_limit, in_middle, index_at, inl, inr, is_sparse, last_in_new, leaf, leaf_acts, leaf_of, leaves_of, length, length-append, length-drop, long, max_rec_at, min, most_in_block, nat_tests, new_last, new_range, new_room, next_first, node_bytes, number, range, record_bytes, record_length, record_of, record_put, records_put, refl, shape, sparse_at, subst, suc, sym, take, take-append-le, take_all, taken_bytes, tile, tile_lies, times_le, variable_of, variables, vdr_max_rec, vdr_vxr_head, vdrs, vxr_bytes, widest, with_leaf, zero, ℕ, ◌*◌, ◌++◌, ◌+◌, ◌-◌, ◌<◌, ◌∙◌, ◌∷◌, ◌≡◌, ◌≤◌}
 use Rattle.cdf_puts.proofs.LeafEdit.{r_max_rec_stays as leaf_r_max_rec, body_long, plain_body, leaf_goes_on, leaf_max_rec, taking}
 use Rattle.cdf_puts.proofs.CoveringRanges.{covering_starts, covering_has, covering_leaf, covering_room, covering_ends, Ends, one_at_least}
 use Rattle.cdf_puts.proofs.GoesThen.{later_size, goes_then, goes_written, writes_nothing}
@@ -18,11 +18,11 @@ use Rattle.cdf_index.specs.declared.nodes.Leaf.{Leaf}
 use Rattle.cdf_puts.specs.declared.putting.NewRecord.{NewRecord}
 
 pub one_more : (raw pad : List ℕ) (r count k : ℕ) → records_put raw pad r (count + 1) k ≡ records_put raw pad r count k ++ record_put raw pad r (k + count)
-one_more raw pad r count k = let next : count + 1 ≡ suc count = omega arith in ap (λ (n : ℕ). records_put raw pad r n k) next
+one_more raw pad r count k = grind arith
 
 module _ (raw pad : List ℕ) (r size : ℕ) (raw_long : length raw ≡ size) (pad_long : length pad ≡ size) where
   pub record_long : (k : ℕ) → length (record_put raw pad r k) ≡ size
-  record_long k = elim (either (k == r)) [ inl t ↦ rw t raw_long | inr t ↦ rw t pad_long ]
+  record_long k = grind (arith, raw_long, pad_long)
 
   pub records_long : (count k : ℕ) → length (records_put raw pad r count k) ≡ count * size
   records_long zero k = omega arith
@@ -47,7 +47,7 @@ module _ (raw pad : List ℕ) (r size : ℕ) (raw_long : length raw ≡ size) (p
   block_records k last = record { as_long = records_long (last + 1 - k) k; written = λ j from upto. record_there (last + 1 - k) k j from (omega arith) }
 
 pub body_is : (body records : List ℕ) → IsBlockBody body records → IsBody body
-body_is body records says = let typed = plain_body body records says in grind (arith, typed, body_long body records says)
+body_is body records says = grind (arith, plain_body body records says, body_long body records says)
 
 -- ---- the steps
 
@@ -123,8 +123,8 @@ last_as v index k r most rule is from upto before = let first : min r (extent v.
 
 -- a node more is no wider than the widest
 node_long : (b now : List ℕ) (room at wide : ℕ) → NodeTaken b now room at → room ≤ wide → length now ≤ length b + vxr_bytes wide
-node_long b now zero at wide n le = let e : length now ≡ length b = ap length n.0 in omega arith
-node_long b now (suc room) at wide n le = let l = n.longest in omega arith
+node_long b now zero at wide n le = omega (arith, ap length n.0)
+node_long b now (suc room) at wide n le = omega (arith, n.longest)
 
 -- a leaf is added, whichever variable has this descriptor
 abbrev pub AddsOn : List ℕ → List ℕ → ℕ → ℕ → ℕ → List ℕ → Type 0
