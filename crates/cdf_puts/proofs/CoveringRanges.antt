@@ -38,10 +38,6 @@ bound_is index k next e = grind (arith, nat_tests, e, least_below (record_number
 pub one_alone : (v : Variable) (fs : List ℕ) (k : ℕ) → ltb k (extent v.max_rec) ≡ true → (new_range v fs k).last ≡ k
 one_alone v fs k t = rw t refl
 
--- it is the same where the next First is
-pub same_range : (v : Variable) (fs fs' : List ℕ) (k : ℕ) → next_first k fs' ≡ next_first k fs → range k (new_range v fs' k).last ≡ new_range v fs k
-same_range v fs fs' k e = grind (arith, e)
-
 abbrev pub Ends : ℕ → ℕ → ℕ → ℕ → Type 0
 Ends k next most last = (k ≤ last) × (last < next) × (last + 1 - k ≤ most)
 
@@ -133,17 +129,9 @@ mutual
 
 -- ---- how many blocks, and how many bytes
 
--- a block more: it is full, or one more First is passed
-pub more_blocks : (j c m q q' most : ℕ) → j * most ≤ c + q * most → (m ≡ most) ⊎ (suc q ≤ q') → q ≤ q' → suc j * most ≤ (c + m) + q' * most
-more_blocks j c m q q' most h e le = grind (arith, e, times_le q q' most le, times_le (suc q) q' most)
-
 -- c records are in j blocks, each of them full but for q; then one block more is no more than the room counts for u + 1 records
 many_blocks : (j c q e u most : ℕ) → 1 ≤ most → j * most ≤ c + q * most → c ≤ u → q ≤ e → suc j ≤ quotient_up (suc u) most + e + 1
 many_blocks j c q e u most one h cu qe = elim (cases_lt j (quotient_up (suc u) most + e)) [ inl lt ↦ omega arith | inr ge ↦ absurd (omega (arith, times_le (quotient_up (suc u) most + e) j most ge, times_le q e most qe)) ]
-
--- a block and a node more
-pub more_bytes : (t c j m size wide x : ℕ) → t ≤ c * size + j * (28 + wide) → x ≤ wide → t + max 28 (12 + m * size) + x ≤ (c + m) * size + suc j * (28 + wide)
-more_bytes t c j m size wide x le xl = omega arith
 
 -- ---- the room of a put
 
@@ -217,7 +205,7 @@ module _ {v : Variable} {index index' : Nodes} {n k taken : ℕ} (c : Covering v
     in_room = omega (arith, room_enough v index so_far.records (last + 1 - k) so_far.blocks (count_upto k fs) (uncovered v index n) one_left covering_ends.2 so_far.blocks_are (omega (arith, count_most k fs, firsts_count index)))
 
     pub covering_room : taken + block_bytes v k last + vxr_bytes (widest index') ≤ put_room v index n
-    covering_room = omega (arith, in_room, more_bytes taken so_far.records so_far.blocks (last + 1 - k) (record_length v) (vxr_bytes (widest index)) (vxr_bytes (widest index')) so_far.bytes_are (omega (arith, c.as_wide)))
+    covering_room = omega (arith, in_room, so_far.bytes_are, c.as_wide)
 
     module _ (place at : ℕ) (narrow : new_room k index' ≤ widest index') where
       abbrev new : Leaf
@@ -231,10 +219,10 @@ module _ {v : Variable} {index index' : Nodes} {n k taken : ℕ} (c : Covering v
 
       -- it ends where one would that is made in the index before the put
       same_new : range k last ≡ new_range v fs k
-      same_new = same_range v fs (firsts_of index') k (c.nexts k (omega arith))
+      same_new = grind (arith, c.nexts k)
 
       bytes' : taken' ≤ (so_far.records + (last + 1 - k)) * record_length v + suc so_far.blocks * (28 + vxr_bytes (widest index))
-      bytes' = more_bytes taken so_far.records so_far.blocks (last + 1 - k) (record_length v) (vxr_bytes (widest index)) (node_bytes k index') so_far.bytes_are (grind (arith, nat_tests, narrow, c.as_wide))
+      bytes' = grind (arith, nat_tests, narrow, c.as_wide, so_far.bytes_are)
 
       counted' : last + 1 ≤ n → Counted v index (with_leaf new at index') n (last + 1) taken'
       counted' more =
@@ -244,7 +232,7 @@ module _ {v : Variable} {index index' : Nodes} {n k taken : ℕ} (c : Covering v
             records = so_far.records + (last + 1 - k);
             blocks = suc so_far.blocks;
             records_are = ap (covered (first_written v n) n) ranges_are ∙ covered_with (first_written v n) n (range k last) (ranges_of index') ∙ omega (arith, so_far.records_are);
-            blocks_are = more_blocks so_far.blocks so_far.records (last + 1 - k) (count_upto k fs) (count_upto (last + 1) fs) (block_count v) so_far.blocks_are full (count_more k (last + 1) fs (omega (arith, covering_ends.0)));
+            blocks_are = grind (arith, so_far.blocks_are, full, times_le (count_upto k fs) (count_upto (last + 1) fs) (block_count v) (count_more k (last + 1) fs (omega (arith, covering_ends.0))), times_le (suc (count_upto k fs)) (count_upto (last + 1) fs) (block_count v));
             bytes_are = bytes';
           }
 

@@ -267,7 +267,8 @@ module _ {b now : List ℕ} {kind : Kind} {before : List VariableShape} {own : V
 
     body_now : take (length body) (drop (new.place + 8) now) ≡ body
     body_now =
-        piece_kept w.filled now new.place (new.place + size_at w.filled new.place) k.same (new.place + 8) (length body) (omega arith) (omega (arith, filled_size sound w.block.fills)) (omega (arith, k.inside, filled_size sound w.block.fills)) (omega (arith, k.inside, filled_size sound w.block.fills, node_taking.grows.edit.longer))
+        let size = filled_size sound w.block.fills in
+        piece_kept w.filled now new.place (new.place + size_at w.filled new.place) k.same (new.place + 8) (length body) (omega arith) (omega arith) (omega (arith, k.inside)) (omega (arith, k.inside, node_taking.grows.edit.longer))
         ∙ ap (λ (xs : List ℕ). take (length body) (drop (new.place + 8) xs)) w.block.written ∙ put_there w.block.taken (new.place + 8) body (omega (arith, w.block.inside))
 
     pub blocks_go_on : BlocksGoOn b now own new records

@@ -102,14 +102,11 @@ module _ (b records : List ℕ) (vxr i : ℕ) (used : i < used_count b vxr) wher
 
 -- ---- the indexes that a command goes through
 
-abbrev with_range_at_zero : Nodes → Range → Nodes
-with_range_at_zero nodes r = with_leaf (leaf r.first r.last 0 false) 0 nodes
-
 -- what holds of the last of them, or of one, goes on to hold of one
 pub through_goes : (P : Nodes → Bool) (index : Nodes) (rs : List Range) (r : Range) → (P (with_ranges index rs) ≡ true) ⊎ (list_any P (indexes_with index rs) ≡ true) → list_any P (indexes_with index (rs ++ r ∷ [])) ≡ true
 unfolding indexes_with
 through_goes P index [] r e = grind (arith, e)
-through_goes P index (x ∷ rs) r e = grind (arith, e, through_goes P (with_range_at_zero index x) rs r)
+through_goes P index (x ∷ rs) r e = grind (arith, e, through_goes P (with_leaf (leaf x.first x.last 0 false) 0 index) rs r)
 
 -- ---- the top chain
 
