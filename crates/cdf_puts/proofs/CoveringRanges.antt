@@ -1,5 +1,5 @@
 -- Records that get a block one after the other: by their ranges, in the room of a put, which is enough for them, and in an index.
-use Rattle.cdf_puts.proofs.Common.{least_below, Ahead, Ascending, Counted, Covering, Entries, InOrder, Leaf, List, Nodes, None, Option, Range, Some, Variable, [], ap, ap₂, arith, block, block_bytes, block_count, blocks_room, cases_eq, cases_lt, count_upto, cover, covered, covers, either, entries_below, entries_in, entry_count, entry_firsts, extent, false, filter, find, find_covering, first_written, firsts_of, fold, inl, inr, is_sparse, le-ltb, leaf, leaves_more, leaves_of, length, length-append, lower, lt-ltb, ltb, map, max, min, nat_tests, new_last, new_range, new_room, next_first, no_entry, no_node, node, node_bytes, option_map, order_with_leaf, put_room, quotient_up, range, ranges_after_put, ranges_new, ranges_of, record_length, record_number_limit, refl, shared, subst, suc, sum_by-cons, sym, times_le, true, uncovered, unwrap_or, vxr_bytes, widest, with_leaf, with_range, zero, ℕ, ◌*◌, ◌+◌, ◌-◌, ◌<◌, ◌∙◌, ◌∷◌, ◌≡◌, ◌≤◌, ◌⊎◌, by_leaf, transport}
+use Rattle.cdf_puts.proofs.Common.{least_below, Ahead, Ascending, Counted, Covering, Entries, InOrder, Leaf, List, Nodes, None, Option, Range, Some, Variable, [], ap, arith, block, block_bytes, block_count, blocks_room, cases_eq, cases_lt, count_upto, cover, covered, covers, entries_below, entries_in, entry_count, entry_firsts, extent, false, filter, find, find_covering, first_written, firsts_of, fold, inl, inr, is_sparse, le-ltb, leaf, leaves_more, leaves_of, length, length-append, lower, lt-ltb, ltb, map, max, min, nat_tests, new_last, new_range, new_room, next_first, no_entry, no_node, node, node_bytes, option_map, order_with_leaf, put_room, quotient_up, range, ranges_after_put, ranges_new, ranges_of, record_length, record_number_limit, refl, shared, subst, suc, sum_by-cons, sym, times_le, true, uncovered, unwrap_or, vxr_bytes, widest, with_leaf, with_range, zero, ℕ, ◌*◌, ◌+◌, ◌-◌, ◌<◌, ◌∙◌, ◌∷◌, ◌≡◌, ◌≤◌, ◌⊎◌, by_leaf, transport}
 use Rattle.cdf_index.proofs.LeavesAscend.{leaves_ascend}
 use Rattle.cdf_puts.proofs.PutBytes.{found_covering}
 use Rattle.cdf_puts.proofs.LeafCounts.{next_firsts_with_leaf, wide_grows}
@@ -38,15 +38,11 @@ bound_is index k next e = grind (arith, nat_tests, e, least_below (record_number
 pub one_alone : (v : Variable) (fs : List ℕ) (k : ℕ) → ltb k (extent v.max_rec) ≡ true → (new_range v fs k).last ≡ k
 one_alone v fs k t = rw t refl
 
--- it is the same where the next First is
-pub same_range : (v : Variable) (fs fs' : List ℕ) (k : ℕ) → next_first k fs' ≡ next_first k fs → range k (new_range v fs' k).last ≡ new_range v fs k
-same_range v fs fs' k e = elim (either (ltb k (extent v.max_rec))) [ inl t ↦ rw t refl | inr t ↦ rw t (ap (λ (next : ℕ). range k (min (k + block_count v) next - 1)) e) ]
-
 abbrev pub Ends : ℕ → ℕ → ℕ → ℕ → Type 0
 Ends k next most last = (k ≤ last) × (last < next) × (last + 1 - k ≤ most)
 
 pub ends : (v : Variable) (fs : List ℕ) (k : ℕ) → k ≤ record_number_limit → Ends k (next_first k fs) (block_count v) (new_range v fs k).last
-ends v fs k le = let past = next_past k fs le in let one = one_at_least v in grind (arith, nat_tests)
+ends v fs k le = grind (arith, nat_tests, next_past k fs le, one_at_least v)
 
 -- ---- one record after the other
 
@@ -124,7 +120,7 @@ mutual
 
   pub firsts_count : (nodes : Nodes) → length (firsts_of nodes) ≡ entries_in nodes
   firsts_count no_node = refl
-  firsts_count (node place room entries more) = length-append (entry_firsts entries) (firsts_of more) ∙ ap₂ (λ (x y : ℕ). x + y) (entry_firsts_count entries) (firsts_count more)
+  firsts_count (node place room entries more) = omega (arith, length-append (entry_firsts entries) (firsts_of more), entry_firsts_count entries, firsts_count more)
 
   entry_firsts_count : (entries : Entries) → length (entry_firsts entries) ≡ entry_count entries + entries_below entries
   entry_firsts_count no_entry = refl
@@ -133,17 +129,9 @@ mutual
 
 -- ---- how many blocks, and how many bytes
 
--- a block more: it is full, or one more First is passed
-pub more_blocks : (j c m q q' most : ℕ) → j * most ≤ c + q * most → (m ≡ most) ⊎ (suc q ≤ q') → q ≤ q' → suc j * most ≤ (c + m) + q' * most
-more_blocks j c m q q' most h e le = grind (arith, e, times_le q q' most le, times_le (suc q) q' most)
-
 -- c records are in j blocks, each of them full but for q; then one block more is no more than the room counts for u + 1 records
 many_blocks : (j c q e u most : ℕ) → 1 ≤ most → j * most ≤ c + q * most → c ≤ u → q ≤ e → suc j ≤ quotient_up (suc u) most + e + 1
 many_blocks j c q e u most one h cu qe = elim (cases_lt j (quotient_up (suc u) most + e)) [ inl lt ↦ omega arith | inr ge ↦ absurd (omega (arith, times_le (quotient_up (suc u) most + e) j most ge, times_le q e most qe)) ]
-
--- a block and a node more
-pub more_bytes : (t c j m size wide x : ℕ) → t ≤ c * size + j * (28 + wide) → x ≤ wide → t + max 28 (12 + m * size) + x ≤ (c + m) * size + suc j * (28 + wide)
-more_bytes t c j m size wide x le xl = omega arith
 
 -- ---- the room of a put
 
@@ -186,7 +174,6 @@ module _ {v : Variable} {index index' : Nodes} {n k taken : ℕ} (c : Covering v
   pub covering_has : (l : Leaf) → find (λ (leaf : Leaf). covers k (range leaf.first leaf.last)) (leaves_of index') ≡ Some l → Covering v index index' n (k + 1) taken
   covering_has l e =
       let is = found_covering k (leaves_of index') l e in
-      let passed = times_le (count_upto k fs) (count_upto (k + 1) fs) (block_count v) (count_more k (k + 1) fs (omega arith)) in
       let rng = λ (leaf : Leaf). range leaf.first leaf.last in
       record {
         ordered = c.ordered;
@@ -196,7 +183,7 @@ module _ {v : Variable} {index index' : Nodes} {n k taken : ℕ} (c : Covering v
         nexts = λ m lm. c.nexts m (omega arith);
         as_wide = c.as_wide;
         fits = c.fits;
-        counted = λ more. record { records = so_far.records; blocks = so_far.blocks; records_are = so_far.records_are; blocks_are = omega (arith, so_far.blocks_are); bytes_are = so_far.bytes_are };
+        counted = λ more. record { records = so_far.records; blocks = so_far.blocks; records_are = so_far.records_are; blocks_are = omega (arith, so_far.blocks_are, times_le (count_upto k fs) (count_upto (k + 1) fs) (block_count v) (count_more k (k + 1) fs (omega arith))); bytes_are = so_far.bytes_are };
       }
 
   -- one that has none gets a block that ends here
@@ -218,7 +205,7 @@ module _ {v : Variable} {index index' : Nodes} {n k taken : ℕ} (c : Covering v
     in_room = omega (arith, room_enough v index so_far.records (last + 1 - k) so_far.blocks (count_upto k fs) (uncovered v index n) one_left covering_ends.2 so_far.blocks_are (omega (arith, count_most k fs, firsts_count index)))
 
     pub covering_room : taken + block_bytes v k last + vxr_bytes (widest index') ≤ put_room v index n
-    covering_room = omega (arith, in_room, more_bytes taken so_far.records so_far.blocks (last + 1 - k) (record_length v) (vxr_bytes (widest index)) (vxr_bytes (widest index')) so_far.bytes_are (omega (arith, c.as_wide)))
+    covering_room = omega (arith, in_room, so_far.bytes_are, c.as_wide)
 
     module _ (place at : ℕ) (narrow : new_room k index' ≤ widest index') where
       abbrev new : Leaf
@@ -232,39 +219,32 @@ module _ {v : Variable} {index index' : Nodes} {n k taken : ℕ} (c : Covering v
 
       -- it ends where one would that is made in the index before the put
       same_new : range k last ≡ new_range v fs k
-      same_new = same_range v fs (firsts_of index') k (c.nexts k (omega arith))
+      same_new = grind (arith, c.nexts k)
 
       bytes' : taken' ≤ (so_far.records + (last + 1 - k)) * record_length v + suc so_far.blocks * (28 + vxr_bytes (widest index))
-      bytes' = more_bytes taken so_far.records so_far.blocks (last + 1 - k) (record_length v) (vxr_bytes (widest index)) (node_bytes k index') so_far.bytes_are (grind (arith, nat_tests, narrow, c.as_wide))
+      bytes' = grind (arith, nat_tests, narrow, c.as_wide, so_far.bytes_are)
 
       counted' : last + 1 ≤ n → Counted v index (with_leaf new at index') n (last + 1) taken'
       counted' more =
-          let past = next_past k (firsts_of index') (omega arith) in
           -- the new block is full, or one more First is passed
-          let full : (last + 1 - k ≡ block_count v) ⊎ (suc (count_upto k fs) ≤ count_upto (last + 1) fs) = grind (arith, nat_tests, one_passed k (record_number_limit + 1) fs, c.nexts k) in
+          let full : (last + 1 - k ≡ block_count v) ⊎ (suc (count_upto k fs) ≤ count_upto (last + 1) fs) = grind (arith, nat_tests, one_passed k (record_number_limit + 1) fs, c.nexts k, next_past k (firsts_of index') (omega arith)) in
           record {
             records = so_far.records + (last + 1 - k);
             blocks = suc so_far.blocks;
-            records_are =
-                let are = so_far.records_are in
-                ap (covered (first_written v n) n) ranges_are ∙ covered_with (first_written v n) n (range k last) (ranges_of index') ∙ omega arith;
-            blocks_are = more_blocks so_far.blocks so_far.records (last + 1 - k) (count_upto k fs) (count_upto (last + 1) fs) (block_count v) so_far.blocks_are full (count_more k (last + 1) fs (omega (arith, covering_ends.0)));
+            records_are = ap (covered (first_written v n) n) ranges_are ∙ covered_with (first_written v n) n (range k last) (ranges_of index') ∙ omega (arith, so_far.records_are);
+            blocks_are = grind (arith, so_far.blocks_are, full, times_le (count_upto k fs) (count_upto (last + 1) fs) (block_count v) (count_more k (last + 1) fs (omega (arith, covering_ends.0))), times_le (suc (count_upto k fs)) (count_upto (last + 1) fs) (block_count v));
             bytes_are = bytes';
           }
 
       pub covering_leaf : Covering v index (with_leaf (leaf k (new_last v index' k) place false) at index') n (min (new_last v index' k + 1) (n + 1)) (taken + block_bytes v k (new_last v index' k) + node_bytes k index')
       covering_leaf =
-          let ending = covering_ends in
-          let wide = by_leaf (wide_grows new at) index' in
-          let bytes = bytes' in
-          let enough = in_room in
           record {
             ordered = order_with_leaf new at index' c.ordered covering_ends.0 vacant covering_ends.1;
-            from = omega arith;
+            from = omega (arith, covering_ends.0, c.from);
             ahead = subst (λ (rs : List Range). Ahead v fs n (min (last + 1) (n + 1)) rs (ranges_after_put v index n)) (sym ranges_are)
                 (subst (λ (r : Range). Ahead v fs n (min (r.last + 1) (n + 1)) (with_range r (ranges_of index')) (ranges_after_put v index n)) (sym same_new) (ahead_new c.ahead le (subst (λ (r : Range). k ≤ r.last) same_new covering_ends.0) none));
-            nexts = λ m lm. next_firsts_with_leaf new at index' m (omega arith) ∙ c.nexts m (omega arith);
-            as_wide = omega arith;
-            fits = omega arith;
-            counted = λ more. subst (λ (x : ℕ). Counted v index (with_leaf new at index') n x taken') (omega arith) (counted' (omega arith));
+            nexts = λ m lm. next_firsts_with_leaf new at index' m (omega (arith, covering_ends.0)) ∙ c.nexts m (omega (arith, covering_ends.0));
+            as_wide = omega (arith, by_leaf (wide_grows new at) index', narrow, c.as_wide);
+            fits = omega (arith, bytes', in_room);
+            counted = λ more. subst (λ (x : ℕ). Counted v index (with_leaf new at index') n x taken') (omega (arith, covering_ends.0)) (counted' (omega (arith, covering_ends.0)));
           }

@@ -1,5 +1,5 @@
 -- All records are put: the index, what was taken for it and the bytes of the blocks are as the command says, and what is stored as each record. The image follows the command.
-use Rattle.cdf_puts.proofs.Common.{Act, AllKeep, Allowance, Allowances, Ascending, Beside, BlockFollows, BlocksSoFar, Bool, Changed, CutsFirst, DataSet, Found, GoesOn, HoldsPads, In, In-append, IsOneOf, Keeps, Kind, Leaf, List, MaxRecDone, NewBlock, None, OneVariable, Only, Option, Outside, Outside-append, PlainLeaf, PutsBytes, PutsIndex, PutsLeaves, PutsRecord, Range, SoFar, Some, SpareIs, Sparse, StaysUnwritten, Unused, Variable, VariableShape, [], anything_if, ap, apart, append-nil, arith, behind_in, behind_kept, block_behind, block_end, both, bytes_eq, bytes_eq-same, cases_lt, content, content_is, count_is, covered, covers, cut_open, drop, drop-drop, drop_all, each, each_of, either, eq-eqb, eq_of, eqb-true, extent, false, false-is_in, file, filled, filter, filter-says, find, find_covering, first_written, fits, greater, has, if◌then◌else◌, inl, inr, is_changed, is_in, is_little, is_rewritten, is_sparse, is_taken, is_taken_at, is_written, keep_all, keep_attributes, keep_file, keep_kinds, keep_places, keep_variable_parts, keep_variables, keeps_stood, kept, last_node, leaf, leaf_at, leaves_ascend, leaves_of, leb-false, length, length-take, list_any, long, map, max, max_rec_at, max_rec_touches, min, nat_lt, nat_tests, ne_eqb, nodes_of, not, number, option_map, or_parts, other_kind, owned, pad_record, past, place_in, places_of, plain_bytes, plain_piece, put_changes, put_count, put_fields, put_room, r_max_rec, r_max_rec_field, range, range_at, ranges_before_put, ranges_of, record_bytes, record_number_limit, record_of, record_place, records_in, records_of_leaf, refl, repeat, room, room_of_variable, same_Some, same_as_itself, same_of_bytes_eq, shape, shapes_of, shared, slice_get, sound, space_before, stays_alike, stays_all, stored_bytes, stored_in, subst, suc, sym, take, take-append-drop, taken_bytes, times_le, top_chain, top_stays, touch, touched_field, transport, true, true-is_in, true≢false, turned, type_alike, type_at, type_of_variable, typed, uir_type, uncovered, unused_allowance, unused_in, unused_records, upto, variable_named, variable_of, variable_records, variable_stays, variables, vdr_max_rec, vdr_vxr_tail, vvr_place, was_leaf, with_record, with_variable, written_in, zero, ℕ, ◌&&◌, ◌*◌, ◌++◌, ◌+◌, ◌-◌, ◌<◌, ◌==◌, ◌∙◌, ◌∷◌, ◌≡◌, ◌≤◌, ◌⊎◌}
+use Rattle.cdf_puts.proofs.Common.{Act, AllKeep, Allowance, Allowances, Ascending, Beside, BlockFollows, BlocksSoFar, Bool, Changed, CutsFirst, DataSet, Found, GoesOn, HoldsPads, In, In-append, IsOneOf, Keeps, Kind, Leaf, List, MaxRecDone, NewBlock, None, OneVariable, Only, Option, Outside, Outside-append, PlainLeaf, PutsBytes, PutsIndex, PutsLeaves, PutsRecord, Range, SoFar, Some, SpareIs, Sparse, StaysUnwritten, Unused, Variable, VariableShape, [], anything_if, ap, append-nil, arith, behind_in, behind_kept, block_behind, block_end, both, bytes_eq, bytes_eq-same, cases_lt, content, count_is, covers, cut_open, drop, drop-drop, drop_all, each_of, either, eq-eqb, eq_of, eqb-true, extent, false, false-is_in, filled, filter, filter-says, find, find_covering, first_written, greater, if◌then◌else◌, inl, inr, is_changed, is_in, is_little, is_rewritten, is_sparse, is_taken, is_taken_at, is_written, keep_all, keep_attributes, keep_file, keep_kinds, keep_places, keep_variable_parts, keep_variables, keeps_stood, last_node, leaf_at, leaves_ascend, leaves_of, length, length-take, list_any, map, max, max_rec_at, max_rec_touches, min, nat_tests, ne_eqb, nodes_of, number, option_map, other_kind, owned, pad_record, past, place_in, places_of, plain_bytes, plain_piece, put_changes, put_fields, put_room, r_max_rec_field, range, range_at, ranges_before_put, ranges_of, record_bytes, record_number_limit, record_of, record_place, records_in, records_of_leaf, refl, repeat, room, room_of_variable, same_Some, same_as_itself, same_of_bytes_eq, shape, shapes_of, shared, slice_get, sound, space_before, stays_alike, stays_all, stored_bytes, stored_in, subst, suc, sym, take, take-append-drop, times_le, top_chain, top_stays, touch, touched_field, transport, true, true-is_in, true≢false, turned, type_alike, type_at, type_of_variable, uir_type, uncovered, unused_allowance, unused_in, unused_records, variable_named, variable_of, variable_records, variable_stays, vdr_max_rec, vdr_vxr_tail, vvr_place, was_leaf, with_record, with_variable, written_in, zero, ℕ, ◌*◌, ◌++◌, ◌+◌, ◌-◌, ◌<◌, ◌==◌, ◌∙◌, ◌∷◌, ◌≡◌, ◌≤◌, ◌⊎◌}
 use Rattle.cdf_edits.proofs.Edits.RecordsPut.{StoresPut, extent_last, filled_uncut, records_put}
 use Rattle.cdf_model.specs.Numbered.{with_item}
 use Rattle.cdf_puts.specs.Going.{found_in as own_found}
@@ -33,17 +33,13 @@ none_covered : (k : ℕ) (leaves : List Leaf) → find (λ (leaf : Leaf). covers
 none_covered k [] e = refl
 none_covered k (x ∷ more) e = grind (arith, e, none_covered k more)
 
-first_of_three : (p q c : Bool) → p ≡ true → (q ≡ true → c ≡ false) → (p && (q && not c)) ≡ q
-first_of_three p q c e none = grind (arith, e, none)
-
 -- ---- pieces that are all the same
 
 pieces_repeat : (n s size : ℕ) (pad xs : List ℕ) → length xs ≤ (s + n) * size → ((j : ℕ) → s ≤ j → j < s + n → take size (drop (j * size) xs) ≡ pad) → drop (s * size) xs ≡ repeat n pad
 pieces_repeat zero s size pad xs e f = drop_all (s * size) xs (omega arith)
 pieces_repeat (suc n) s size pad xs e f =
     let next : s * size + size ≡ suc s * size = omega arith in
-    let rest = drop-drop size (s * size) xs ∙ ap (λ (m : ℕ). drop m xs) next ∙ pieces_repeat n (suc s) size pad xs (omega arith) (λ j low high. f j (omega arith) (omega arith)) in
-    sym (take-append-drop size (drop (s * size) xs)) ∙ (λ i. f s (omega arith) (omega arith) i ++ rest i)
+    grind (arith, next, drop-drop size (s * size) xs, pieces_repeat n (suc s) size pad xs (omega arith) (λ j low high. f j (omega arith) (omega arith)), take-append-drop size (drop (s * size) xs), f s (omega arith) (omega arith))
 
 -- what is stored as a record that the block of a leaf has
 stored_in_leaf : (b : List ℕ) (vdr size j : ℕ) (leaves : List Leaf) → Ascending 0 (suc record_number_limit) leaves → record_bytes b vdr ≡ size → (l : Leaf) → IsOneOf leaves l → PlainLeaf b size l → l.first ≤ j → j ≤ l.last → stored_bytes b vdr size leaves j ≡ Some (take size (drop (record_place l size j) b))
@@ -94,8 +90,12 @@ module _ {b now last : List ℕ} {kind : Kind} {before : List VariableShape} {ow
   tops = bytes_eq (top_chain own.index) (top_chain own'.index)
 
   top_test : top_stays acts own.index own.index own'.index ≡ tops
-  top_test = first_of_three (bytes_eq (top_chain own.index) (top_chain own.index)) tops (list_any (is_taken_at acts) (top_chain own'.index)) (bytes_eq-same (top_chain own.index)) (λ e.
-      none_taken_in acts (top_chain own'.index) (λ m i. so.index.nodes.apart m (chain_in own.index m (subst (In m) (sym (same_of_bytes_eq (top_chain own.index) (top_chain own'.index) e)) i))))
+  top_test = grind (
+    arith,
+    bytes_eq-same (top_chain own.index),
+    λ (e : tops ≡ true).
+        none_taken_in acts (top_chain own'.index) (λ m i. so.index.nodes.apart m (chain_in own.index m (subst (In m) (sym (same_of_bytes_eq (top_chain own.index) (top_chain own'.index) e)) i))),
+  )
 
   -- ---- the whole
 
@@ -192,11 +192,11 @@ module _ {b now last : List ℕ} {kind : Kind} {before : List VariableShape} {ow
   block_keeps : (l : Leaf) → IsOneOf olds l → Keeps b last l.place (anything_if (is_rewritten v r (range l.first l.last)))
   block_keeps l i = elim (either (is_rewritten v r (range l.first l.last))) [
     | inl t ↦ rw t tt
-    | inr t ↦
-        let none = leb-false 1 (put_count first (r + 1) l) (or_parts (nat_lt 0 (put_count first (r + 1) l)) _ t).0 in
-        let o = all.old l i in
-        let w = whole so.start.good so.start.among l i in
-        rw t (record { stands = behind_in put.good put.among l.place (block_behind own' l.place (place_in leaves l (all.stay l i))); size_is = old_size o (omega (arith, w.leaf.room)); same = λ n lt out. o.kept (l.place + n) (omega arith) (omega arith) (λ j from upto f t'. absurd (omega arith)) })
+    | inr t ↦ rw t (record {
+      stands = behind_in put.good put.among l.place (block_behind own' l.place (place_in leaves l (all.stay l i)));
+      size_is = old_size (all.old l i) (omega (arith, (whole so.start.good so.start.among l i).leaf.room));
+      same = λ n lt out. (all.old l i).kept (l.place + n) (omega arith) (omega arith) (λ j from upto f t'. absurd (grind (arith, nat_tests, t)));
+    })
   ]
 
   own_keeps : (m : ℕ) → In m (variable_records own) → Keeps b last m (own_may m)
@@ -204,7 +204,7 @@ module _ {b now last : List ℕ} {kind : Kind} {before : List VariableShape} {ow
   own_keeps m (inr j) = elim (In-append m (nodes_of own.index ++ places_of olds) own.cpr j) [
     | inr c ↦ absurd (subst (In m) (no_cpr so.start.good so.start.among) c)
     | inl k ↦ elim (In-append m (nodes_of own.index) (places_of olds) k) [
-      | inl n ↦ subst (Keeps b last m) (sym (of_own.node_allowed (own_found b kind before own) so.start.good so.start.among refl put_fields block_may own_may allowed m n)) tt
+      | inl n ↦ rw (of_own.node_allowed (own_found b kind before own) so.start.good so.start.among refl put_fields block_may own_may allowed m n) tt
       | inr n ↦
           let l = leaf_at olds m n in
           subst (λ (x : ℕ). Keeps b last x (own_may x)) (sym l.1.1) (subst (Keeps b last l.0.place) (sym (of_own.block_allowed (own_found b kind before own) so.start.good so.start.among refl put_fields block_may own_may allowed l.0 l.1.0)) (block_keeps l.0 l.1.0))
@@ -214,9 +214,7 @@ module _ {b now last : List ℕ} {kind : Kind} {before : List VariableShape} {ow
   unused_keeps : (m : ℕ) → In m (unused_records b (shape b)) → Keeps b last m (unused_allowance b (shape b) acts m)
   unused_keeps m i = elim (either (is_in m (shape b).unused)) [
     | inl x ↦ elim (either (is_taken b acts m)) [ inl t ↦ rw (x, t) tt | inr t ↦ rw (x, t) (put.listed m (true-is_in m (shape b).unused x) t) ]
-    | inr x ↦
-        let typed = eqb-true (type_at b m) uir_type (filter-says (λ place. type_at b place == uir_type) (shape b).records m i) in
-        rw x (put.loose m (unused_in b (shape b) (sound so.start.good so.start.among) m i) typed (false-is_in m (shape b).unused x))
+    | inr x ↦ rw x (put.loose m (unused_in b (shape b) (sound so.start.good so.start.among) m i) (eqb-true (type_at b m) uir_type (filter-says (λ place. type_at b place == uir_type) (shape b).records m i)) (false-is_in m (shape b).unused x))
   ]
 
   pub keeps : AllKeep b last (put_changes b (shape b) (own_found b kind before own) r) acts (owned b (shape b))
@@ -241,9 +239,8 @@ module _ {b now last : List ℕ} {kind : Kind} {before : List VariableShape} {ow
         let room = times_le (l.last + 1 - l.first) (stored + (records_of_leaf l - stored)) size (omega arith) in
         pieces_repeat (records_of_leaf l - stored) stored size (turned v.type (is_little last) (pad_record v)) bytes (omega (arith, ap length whole)) (λ j low high.
         let same : l.first + j - l.first ≡ j = omega arith in
-        let upto : l.first + j ≤ l.last = omega arith in
-        ap (λ (m : ℕ). take size (drop (m * size) bytes)) (sym same) ∙ plain_piece last own'.vdr size (l.first + j) l x.plain x.small size_last (omega arith) upto
-        ∙ n.written (l.first + j) (omega arith) upto ∙ rw (ne_eqb (l.first + j) r (λ e. absurd (omega arith))) (pad_stored (omega (arith, n.alone)) ∙ ap (λ (c : Bool). turned v.type c (pad_record v)) (sym put.file.little)))
+        ap (λ (m : ℕ). take size (drop (m * size) bytes)) (sym same) ∙ plain_piece last own'.vdr size (l.first + j) l x.plain x.small size_last (omega arith) (omega arith) ∙ n.written (l.first + j) (omega arith) (omega arith)
+        ∙ rw (ne_eqb (l.first + j) r (λ e. absurd (omega arith)), put.file.little) (pad_stored (omega (arith, n.alone))))
 
     -- ---- the blocks
 
@@ -252,14 +249,13 @@ module _ {b now last : List ℕ} {kind : Kind} {before : List VariableShape} {ow
         let x = last_plain l i in
         let count = count_is l x.small x.ordered in
         let end : block_end last own'.vdr l ≡ 12 + (l.last + 1 - l.first) * size = rw (x.plain, count, size_last) refl in
-        let none = λ (e : l.packed ≡ true). true≢false (sym e ∙ x.plain) in
         record {
           packed = λ e. absurd (true≢false (sym e ∙ so.start.loose));
           spare = elim (all.new l i) [
             | inl o ↦ subst (SpareIs b last own'.vdr l) (sym (all.apart l o)) (record { each = λ p low high. (all.old l o).kept p (omega arith) high (behind_all first (r + 1) size l p (omega arith)) })
             | inr n ↦ subst (SpareIs b last own'.vdr l) (sym n.was_taken) (λ p low high. n.spare p (omega arith) high)
           ];
-          reserved = elim (either (is_taken_at acts l.place)) [ inl t ↦ rw t (λ e. absurd (none e)) | inr t ↦ rw t (λ e. absurd (none e)) ];
+          reserved = grind (arith, x.plain);
         }
 
     pub bytes_done : PutsBytes b last kind v r own own' acts
@@ -267,8 +263,7 @@ module _ {b now last : List ℕ} {kind : Kind} {before : List VariableShape} {ow
       in_place = λ e. record {
         longer = all.longer;
         same = λ place lt out.
-            let covered = eq_of (uncovered v own.index r) 0 (both (uncovered v own.index r == 0) _ e).0 in
-            let room : put_room v own.index r ≡ 0 = rw (covered, so.start.loose) refl in
+            let room : put_room v own.index r ≡ 0 = rw (eq_of (uncovered v own.index r) 0 (both (uncovered v own.index r == 0) _ e).0, so.start.loose) refl in
             let none = none_without_bytes (space_before b) acts so.goes.follow.are so.takes (omega (arith, so.covers.fits)) in
             let quiet = λ (m : ℕ). ap (λ (xs : List Act). is_taken_at xs m) none in
             let p = Outside-append (max_rec_touches b kind own.vdr) (written_in v first r olds) place out in
@@ -305,16 +300,15 @@ module _ {b now last : List ℕ} {kind : Kind} {before : List VariableShape} {ow
       module _ (bytes : List ℕ) (raw_is : turned (type_of_variable b own.vdr) (is_little b) raw ≡ bytes) (pad_is : extent (max_rec_at b own.vdr) < r → turned (type_of_variable b own.vdr) (is_little b) pad ≡ pad_record v) where
         follows_by : (c : Command) → only_reads c ≡ false → step (content b) c ≡ ByStep (Go (with_variable (content b) found (with_record v r bytes)) replies.Plain) → room b c ≡ put_room v own.index r → allowances b (content b) (shape b) c ≡ put_changes b (shape b) found r → Does b c last acts → Follows b c last
         follows_by c changes goes room_is may does =
-            let fits_in : taken_bytes acts ≤ room b c = subst (λ (n : ℕ). taken_bytes acts ≤ n) (sym room_is) so.covers.fits in
             record {
               reply = replies.Plain;
               goes = goes ∙ ap (λ (d : DataSet). ByStep (Go d replies.Plain)) (sym (put_content bytes raw_is pad_is));
               good = put.good;
               longer = put.file.longer;
-              within = omega (arith, longer_by b last acts put.follow so.takes);
+              within = omega (arith, longer_by b last acts put.follow so.takes, so.covers.fits, room_is);
               reads = λ e. absurd (true≢false (sym e ∙ changes));
               acts = acts;
-              takes_within = fits_in;
+              takes_within = rw room_is so.covers.fits;
               acts_follow = put.follow;
               keeps = subst (λ (a : Allowances). AllKeep b last a acts (owned b (shape b))) (sym may) keeps;
               does = does;

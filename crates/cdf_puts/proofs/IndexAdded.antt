@@ -1,10 +1,10 @@
 -- A leaf is added while records are put: the blocks of the variable, which leaves were put by then, which ranges are new, the top chain and the nodes.
-use Rattle.cdf_puts.proofs.Common.{Act, Ascending, BlockRecords, BlocksSoFar, Bool, Good, In, InOrder, IndexSoFar, IsBlockBody, IsOneOf, IsVacant, Kind, Leaf, LeafAdded, List, NewBlock, NodeTaken, Nodes, NodesSoFar, None, PutsBefore, Range, Same, SoFar, Some, StandsAmong, TopGrows, VariableShape, [], ap, apart, arith, before_limit, behind_in, block_behind, block_need, bytes_eq, bytes_eq-same, cases_lt, count_is, covers, drop, extent, false, filled, filter, find, find_covering, first_written, firsts_of, fold-append, has, if◌then◌else◌, in_order, index_order, indexes_with, inl, inr, is_in, is_in-true, is_taken_at, last_node, last_or, leaf, leaf_acts, leaves_ascend, leaves_more, leaves_of, length, list_any, lt-ltb, max_rec_at, min, nat_tests, new_range, new_ranges, new_room, node_behind, nodes_of, number, of_each, or_from, or_left, or_right, outline, own_rules, place_in, plain_bytes, plain_piece, range, ranges_of, record_alike, record_bytes, record_number_limit, records_of_leaf, refl, room, same_Some, shape, size_at, sound, subst, suc, sym, take, taken_places, tile_lies, top_chain, true, true≢false, uir_type, unwrap_or, uses_entry, variable_of, vdr_alike, vdr_vxr_tail, vvr_type, was_put, with_leaf, with_new, with_ranges, zero, ℕ, ◌*◌, ◌++◌, ◌+◌, ◌-◌, ◌<◌, ◌||◌, ◌∙◌, ◌∷◌, ◌≡◌, ◌≤◌, ◌⊎◌}
-use Rattle.cdf_puts.proofs.CoveringRanges.{one_alone, of_leaves}
+use Rattle.cdf_puts.proofs.Common.{Act, Ascending, BlockRecords, BlocksSoFar, Bool, Good, InOrder, IndexSoFar, IsBlockBody, IsOneOf, IsVacant, Kind, Leaf, LeafAdded, List, NewBlock, NodeTaken, Nodes, NodesSoFar, None, PutsBefore, Range, Same, SoFar, Some, StandsAmong, VariableShape, [], ap, apart, arith, before_limit, behind_in, block_behind, block_need, bytes_eq, bytes_eq-same, cases_lt, count_is, covers, drop, extent, false, filled, filter, find, find_covering, first_written, firsts_of, fold-append, has, if◌then◌else◌, in_order, index_order, indexes_with, inl, inr, is_in, is_in-true, is_taken_at, last_node, last_or, leaf, leaf_acts, leaves_ascend, leaves_more, leaves_of, length, list_any, max_rec_at, min, nat_tests, new_range, new_ranges, new_room, node_behind, nodes_of, number, of_each, or_from, or_left, or_right, outline, own_rules, place_in, plain_bytes, plain_piece, range, ranges_of, record_alike, record_bytes, record_number_limit, refl, room, same_Some, shape, size_at, sound, subst, suc, sym, take, taken_places, tile_lies, top_chain, true, true≢false, uir_type, unwrap_or, uses_entry, variable_of, vdr_alike, vdr_vxr_tail, vvr_type, was_put, with_leaf, with_new, with_ranges, zero, ℕ, ◌*◌, ◌++◌, ◌+◌, ◌-◌, ◌<◌, ◌||◌, ◌∙◌, ◌∷◌, ◌≡◌, ◌≤◌, ◌⊎◌}
+use Rattle.cdf_puts.proofs.CoveringRanges.{of_leaves}
 use Rattle.cdf_puts.proofs.LeafCounts.{one_of_leaves}
 use Rattle.cdf_puts.proofs.LeafEdit.{file, new_index, used_apart, node_taken, nodes_step}
 use Rattle.cdf_index.proofs.NewIndex.{index_edit}
-use Rattle.cdf_puts.proofs.LeafEdit.{blocks_go_on, plain_body}
+use Rattle.cdf_puts.proofs.LeafEdit.{blocks_go_on, body_long}
 use Rattle.cdf_puts.proofs.PutBytes.{beside_one, blocks_then, now_whole, size_now}
 use Rattle.std.proofs.Math.Bool.{or-false}
 use Rattle.cdf_puts.proofs.PutNodes.{NodesStep, bytes_longer, nodes_then, place_outside, same_uses, same_with_leaf, taken_both, through_goes, top_grows}
@@ -28,12 +28,12 @@ tail_then x y z first mid last f g p q = grind (arith, f, g, bytes_longer x y, b
 top_then : (x y z : List ℕ) → (y ≡ x) ⊎ (length x < length y) → (z ≡ y) ⊎ (length y < length z) → (z ≡ x) ⊎ (length x < length z)
 top_then x y z f g = grind (arith, f, g)
 
+outside_zero : (news : List ℕ) (x : ℕ) → (is_in x news ≡ true) ⊎ (x ≡ 0) → place_outside news x ≡ 0
+outside_zero news x side = grind (arith, side)
+
 no_node_zero : (filled roomy : List ℕ) (room at : ℕ) → NodeTaken filled roomy room at → room ≡ 0 → at ≡ 0
 no_node_zero filled roomy zero at t e = t.1
 no_node_zero filled roomy (suc room) at t e = absurd (omega arith)
-
-outside_zero : (news : List ℕ) (x : ℕ) → (is_in x news ≡ true) ⊎ (x ≡ 0) → place_outside news x ≡ 0
-outside_zero news x side = grind (arith, side)
 
 module _ {b now now' : List ℕ} {kind : Kind} {before : List VariableShape} {own own' : VariableShape} {after : List VariableShape} {raw pad : List ℕ} {r k last place at : ℕ} {acts : List Act} {body records : List ℕ} (so : SoFar b now kind before own own' after raw pad r k acts) (more : k ≤ r) (is : last ≡ (new_range (variable_of b own) (firsts_of own'.index) k).last) (vacant : IsVacant own' k last)
     (holds : IsBlockBody body records) (says : BlockRecords raw pad r k last (record_bytes b own.vdr) records) (w : LeafAdded now now' own' (leaf k last place false) body at)
@@ -79,7 +79,7 @@ module _ {b now now' : List ℕ} {kind : Kind} {before : List VariableShape} {ow
 
   -- a leaf that was there ends before the new one, or begins behind it
   beside_new : (l : Leaf) → IsOneOf leaves l → (l.last < k) ⊎ (last < l.first)
-  beside_new l i = elim (beside_one k 0 (suc record_number_limit) leaves ascend l i (λ e. let clash : Some l ≡ None = sym e ∙ vacant.uncovered in cc)) [
+  beside_new l i = elim (beside_one k 0 (suc record_number_limit) leaves ascend l i (λ e. grind (arith, e, vacant.uncovered))) [
     | inl lt ↦ inl lt
     | inr lt ↦ elim (cases_lt last l.first) [ inl u ↦ inr u | inr u ↦ absurd (omega (arith, ap (λ (y : Leaf). y.first) (same_Some l new (sym (found_at l.first l (in_new l i) (omega arith) (ordered l i)) ∙ found_at l.first new new_in (omega arith) u)))) ]
   ]
@@ -96,7 +96,7 @@ module _ {b now now' : List ℕ} {kind : Kind} {before : List VariableShape} {ow
   new_block = record {
     from = omega arith;
     ends = omega arith;
-    alone = elim (cases_lt r (extent (max_rec_at b own.vdr))) [ inl lt ↦ let e = is ∙ one_alone (variable_of b own) (firsts_of own'.index) k (lt-ltb k (extent (max_rec_at b own.vdr)) (omega arith)) in omega arith | inr le ↦ omega arith ];
+    alone = grind (arith, nat_tests, is);
     was_taken = is_in-true place (taken_places step) (inl refl);
     written = λ j f t. sym (plain_piece now' own'.vdr (record_bytes b own.vdr) j new refl small size_after f t) ∙ ap (λ (xs : List ℕ). take (record_bytes b own.vdr) (drop ((j - k) * (record_bytes b own.vdr)) xs)) plain_is ∙ says.written j f t;
     spare = λ i low high. (blocks_go_on so.goes.good so.goes.among w holds).spare i (subst (λ (n : ℕ). 12 + n ≤ i) (sym says.as_long) low) high;
@@ -108,9 +108,8 @@ module _ {b now now' : List ℕ} {kind : Kind} {before : List VariableShape} {ow
     stay = in_new;
     apart = λ l i. used_apart so.goes.good so.goes.among w l.place (behind_in so.goes.good so.goes.among l.place (block_behind own' l.place (place_in leaves l i))) (λ e. absurd (apart vvr_type uir_type refl (sym (now_whole so l i).leaf.typed ∙ e)));
     old = λ l i.
-        let side = beside_new l i in
         let same = of_each (λ (l : Leaf). Same now now' l.place (l.place + size_at now l.place)) leaves l (blocks_go_on so.goes.good so.goes.among w holds).old i in
-        record { written = λ j from low f t. absurd (omega arith); kept = λ p low high out. same.each p low high };
+        record { written = λ j from low f t. absurd (omega (arith, beside_new l i)); kept = λ p low high out. same.each p low high };
     new = λ l i. elim ((one_of_leaves new at 0 record_number_limit own'.index order l).0 i) [
       | inl q ↦ inr (subst (NewBlock now' raw pad r k (extent (max_rec_at b own.vdr)) upto (record_bytes b own.vdr) step) (sym q) new_block)
       | inr j ↦ inl j
@@ -131,8 +130,7 @@ module _ {b now now' : List ℕ} {kind : Kind} {before : List VariableShape} {ow
 
   needs : (end : List ℕ) → record_bytes end own.vdr ≡ record_bytes b own.vdr → 8 + length body ≡ block_need end own.vdr new
   needs end same =
-      let plain : records_of_leaf new * record_bytes end own.vdr ≡ length records = (λ i. (count_is new small vacant.ordered) i * same i) ∙ sym says.as_long in
-      omega arith
+      grind (arith, count_is new small vacant.ordered, same, says.as_long, body_long body records holds)
 
   puts_added : PutsBefore b own own'' (filter (was_put first upto) (leaves_of own''.index)) (acts ++ step)
   puts_added =
@@ -146,13 +144,8 @@ module _ {b now now' : List ℕ} {kind : Kind} {before : List VariableShape} {ow
   rs = new_ranges (ranges_of own.index) (ranges_of own'.index)
 
   one_new : new_ranges (ranges_of own.index) (ranges_of own''.index) ≡ rs ++ range k last ∷ []
-  one_new = ap (λ (ls : List Leaf). new_ranges (ranges_of own.index) (of_leaves ls)) leaves_are ∙ ranges_more (ranges_of own.index) 0 (suc record_number_limit) leaves new ascend (none_covers k (leaves_of own.index) (λ l i. out l (so.blocks.stay l i))) was_there
-    where
-      out : (l : Leaf) → IsOneOf leaves l → (l.last < k) ⊎ (k < l.first)
-      out l i = elim (beside_new l i) [ inl lt ↦ inl lt | inr lt ↦ inr (let o = vacant.ordered in omega arith) ]
-
-      was_there : (l : Leaf) → IsOneOf leaves l → k < l.first → list_any (covers l.first) (ranges_of own.index) ≡ true
-      was_there l i lt = elim (so.blocks.new l i) [ inl o ↦ covers_own (leaves_of own.index) l o (ordered l i) | inr x ↦ absurd (omega (arith, x.ends, ordered l i)) ]
+  one_new = ap (λ (ls : List Leaf). new_ranges (ranges_of own.index) (of_leaves ls)) leaves_are ∙ ranges_more (ranges_of own.index) 0 (suc record_number_limit) leaves new ascend (none_covers k (leaves_of own.index) (λ l i. elim (beside_new l (so.blocks.stay l i)) [ inl lt ↦ inl lt | inr lt ↦ inr (omega (arith, vacant.ordered)) ]))
+      (λ l i lt. elim (so.blocks.new l i) [ inl o ↦ covers_own (leaves_of own.index) l o (ordered l i) | inr x ↦ absurd (omega (arith, x.ends, ordered l i)) ])
 
   -- ---- the nodes
 
@@ -161,10 +154,10 @@ module _ {b now now' : List ℕ} {kind : Kind} {before : List VariableShape} {ow
 
   -- a node that is taken stands at a new place, and else none does
   outside : place_outside (taken_places (acts ++ step)) at ≡ 0
-  outside = outside_zero (taken_places (acts ++ step)) at (elim (cases_lt 0 (new_room k own'.index)) [ inl some ↦ inl (taken_both acts step at ∙ or_right _ _ (node_taken place (8 + length body) (new_room k own'.index) at some)) | inr none ↦ inr (no_node_zero w.filled w.roomy (new_room k own'.index) at w.node (omega arith)) ])
-
-  lies : (m : ℕ) → In m (nodes_of own'.index) → 8 ≤ m
-  lies m i = (tile_lies now 8 (length now) (shape now).records m (sound so.goes.good so.goes.among).has_shape.tiled (behind_in so.goes.good so.goes.among m (node_behind own' m i))).low
+  outside = outside_zero (taken_places (acts ++ step)) at (elim (cases_lt 0 (new_room k own'.index)) [
+    | inl some ↦ inl (taken_both acts step at ∙ or_right _ _ (node_taken place (8 + length body) (new_room k own'.index) at some))
+    | inr none ↦ inr (no_node_zero w.filled w.roomy (new_room k own'.index) at w.node (omega arith))
+  ])
 
   nodes_added : NodesSoFar b now' own own'' (rs ++ range k last ∷ []) (acts ++ step)
   nodes_added = record {
@@ -177,7 +170,7 @@ module _ {b now now' : List ℕ} {kind : Kind} {before : List VariableShape} {ow
         ∙ ap (outline []) (sym (fold-append (λ (nodes : Nodes) (r : Range). with_leaf (leaf r.first r.last 0 false) 0 nodes) own.index rs (range k last ∷ [])));
     follow = nodes_then b now now' (indexes_with own.index rs) (indexes_with own.index (rs ++ range k last ∷ [])) (nodes_of own.index) (nodes_of own''.index) own'.index acts step n.follow s n.stay n.sizes n.come
         (λ m i e. through_goes (uses_entry m i) own.index rs (range k last) (inr e))
-        (λ m i j e. through_goes (uses_entry m i) own.index rs (range k last) (inl (sym (same_uses (taken_places acts) m i own'.index (with_ranges own.index rs) n.outlined (n.apart m j) (λ zero. absurd (omega (arith, lies m (n.stay m j))))) ∙ e)))
+        (λ m i j e. through_goes (uses_entry m i) own.index rs (range k last) (inl (sym (same_uses (taken_places acts) m i own'.index (with_ranges own.index rs) n.outlined (n.apart m j) (λ zero. absurd (omega (arith, tile_lies now 8 (length now) (shape now).records m (sound so.goes.good so.goes.among).has_shape.tiled (behind_in so.goes.good so.goes.among m (node_behind own' m (n.stay m j))))))) ∙ e)))
         (shape now).records 8 (has so.goes.good so.goes.among).indexed.has_nodes;
   }
 

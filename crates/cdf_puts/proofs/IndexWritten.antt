@@ -1,5 +1,5 @@
 -- A record is written in a block: the record holds its bytes, no other byte changes, and the index stays; of the leaves that were put the one of the record is the last by then.
-use Rattle.cdf_puts.proofs.Common.{Act, BlocksSoFar, Changed, Each-in, Good, HasShape, In, IndexSoFar, IsOneOf, Kind, Leaf, LeavesGoOn, List, NodeFits, NodesSoFar, OldBlock, Outside-append, PutsBefore, RecordIs, RecordsWritten, Same, SoFar, StandsAmong, Touch, VariableShape, WritesRecords, [], ap, apart, append-nil, arith, behind_in, block_behind, block_kept, byte, cases_eq, cast_signed, changed_part, covers, drop, each, either, extent, field, file, filter, find_covering, find_first, first_written, fits, gdr_in, gdr_long, gdr_r_max_rec, gdr_type, gdr_typed, has, inl, inr, integer4, is_max_rec, kept, leaf, leaves_apart, leaves_ascend, leaves_of, length, length-put, long, max_rec_at, max_rec_touches, new_ranges, no_block, node_kept, nodes_of, number, one_place, own_rules, part, place_in, places_of, r_max_rec, ranges_of, record_bytes, record_number_limit, record_of, record_place, refl, room, same_Some, shape, size_at, size_kept, sound, subst, suc, sym, take, tile, touch, type_at, typed, upto, variable_of, vdr_max_rec, vdr_vxr_tail, vvr_type, w32, was_put, word_kept, ℕ, ◌*◌, ◌+◌, ◌-◌, ◌<◌, ◌∙◌, ◌∷◌, ◌≡◌, ◌≢◌, ◌≤◌, ◌⊎◌}
+use Rattle.cdf_puts.proofs.Common.{Act, BlocksSoFar, Changed, Each-in, Good, HasShape, In, IndexSoFar, IsOneOf, Kind, Leaf, LeavesGoOn, List, NodeFits, NodesSoFar, OldBlock, Outside-append, PutsBefore, RecordIs, RecordsWritten, Same, SoFar, StandsAmong, Touch, VariableShape, WritesRecords, [], ap, apart, append-nil, arith, behind_in, block_behind, block_kept, byte, cases_eq, cast_signed, changed_part, drop, either, extent, file, filter, find_covering, find_first, first_written, fits, gdr_in, gdr_long, gdr_r_max_rec, gdr_type, gdr_typed, inl, inr, integer4, is_max_rec, leaves_apart, leaves_ascend, leaves_of, length, length-put, long, max_rec_at, max_rec_touches, new_ranges, no_block, node_kept, nodes_of, number, one_place, own_rules, part, place_in, places_of, r_max_rec, ranges_of, record_bytes, record_number_limit, record_of, record_place, refl, same_Some, shape, size_at, size_kept, sound, subst, suc, sym, take, tile, touch, type_at, variable_of, vdr_max_rec, vdr_vxr_tail, vvr_type, w32, was_put, word_kept, ℕ, ◌*◌, ◌+◌, ◌-◌, ◌<◌, ◌∙◌, ◌∷◌, ◌≡◌, ◌≢◌, ◌≤◌, ◌⊎◌}
 use Rattle.cdf_edits.proofs.Frame.ChangedBytes.{changed_put}
 use Rattle.cdf_puts.proofs.PutBytes.{Whole, blocks_then, found_covering, put_there, size_now, whole}
 use Rattle.cdf_puts.proofs.SoFarStarts.{put_next, puts_old}
@@ -51,8 +51,7 @@ module _ {b now : List ℕ} {kind : Kind} {before : List VariableShape} {own : V
 
   pub r_max_rec_stays : r_max_rec now ≡ r_max_rec b
   r_max_rec_stays =
-      let no_gdr : (shape b).gdr ≡ l.place → ⊥ = λ e. apart gdr_type vvr_type refl (sym (gdr_typed b (shape b) h) ∙ ap (type_at b) e ∙ here.leaf.typed) in
-      let same = stays (shape b).gdr 52 56 (gdr_in b (shape b) h) no_gdr (let n = gdr_long b (shape b) h in omega arith) in
+      let same = stays (shape b).gdr 52 56 (gdr_in b (shape b) h) (λ e. apart gdr_type vvr_type refl (sym (gdr_typed b (shape b) h) ∙ ap (type_at b) e ∙ here.leaf.typed)) (omega (arith, gdr_long b (shape b) h)) in
       let field : integer4 now (shape b).gdr gdr_r_max_rec ≡ integer4 b (shape b).gdr gdr_r_max_rec = ap (cast_signed w32) (word_kept b now ((shape b).gdr + 52) ((shape b).gdr + 56) same ((shape b).gdr + 52) 4 (omega arith) (omega arith)) in
       ap (λ (x : ℕ). integer4 now x gdr_r_max_rec) (file good at writes).gdr_is ∙ subst (λ (x : ℕ). integer4 now x gdr_r_max_rec ≡ integer4 b x gdr_r_max_rec) (sym h.gdr_is) field
 
@@ -124,7 +123,7 @@ module _ {b now now' : List ℕ} {kind : Kind} {before : List VariableShape} {ow
   puts_written =
       let ascend = leaves_ascend so.goes.good so.goes.among in
       let next = put_next first k (k + 1) 0 (suc record_number_limit) now_leaves ascend l (found_leaf w).0 so.covers.from (found_leaf w).1.0 (omega arith) (omega (arith, (found_leaf w).1.1)) in
-      subst (λ (ls : List Leaf). PutsBefore b own own' ls acts) (sym next) (elim (either (was_put first k l)) [ inl t ↦ rw t so.index.puts | inr t ↦ rw t (puts_old b own own' (filter (was_put first k) now_leaves) acts l so.index.puts (find_first 0 (suc record_number_limit) now_leaves ascend l (found_leaf w).0)) ])
+      rw next (elim (either (was_put first k l)) [ inl t ↦ rw t so.index.puts | inr t ↦ rw t (puts_old b own own' (filter (was_put first k) now_leaves) acts l so.index.puts (find_first 0 (suc record_number_limit) now_leaves ascend l (found_leaf w).0)) ])
 
   pub index_written : IndexSoFar b now' own own' first (k + 1) acts
   index_written = record {

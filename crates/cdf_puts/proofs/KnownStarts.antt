@@ -1,8 +1,9 @@
 -- Nodes of top chains that are known of the variables of an image, and that they are known yet where records were put.
-use Rattle.cdf_puts.proofs.Common.{Act, Each, Each-append, Each-split, GoesOn, Good, HasIndex, In, InTopChain, IsKnownOf, IsKnownStart, KeepsStart, Kind, KnowsStarts, Leaf, List, Nodes, None, Option, PutsUpTo, R, Some, SomePutting, StandsAmong, TopStays, VariableShape, Z, [], ap, arith, good_by_its_shape, good_is_sound, index_at, inl, inr, length, long, no_node, node, node_known, number, other_kind, refl, shape, shapes_of, sound, subst, sym, tile, tile_lies, top_chain, variables, vdr_vxr_head, vdrs, with_leaf, ℕ, ◌++◌, ◌+◌, ◌∙◌, ◌∷◌, ◌≡◌, ◌≢◌, ◌≤◌}
+use Rattle.cdf_puts.proofs.Common.{Act, Each, Each-append, Each-split, GoesOn, Good, HasIndex, In, InTopChain, IsKnownOf, IsKnownStart, KeepsStart, Kind, KnowsStarts, Leaf, List, Nodes, None, Option, PutsUpTo, R, Some, SomePutting, StandsAmong, TopStays, VariableShape, Z, [], ap, arith, good_by_its_shape, good_is_sound, index_at, inl, inr, length, long, no_node, node, node_known, number, other_kind, refl, shape, shapes_of, sound, subst, sym, tile, tile_lies, variables, vdr_vxr_head, vdrs, with_leaf, ℕ, ◌++◌, ◌+◌, ◌∙◌, ◌∷◌, ◌≡◌, ◌≢◌, ◌≤◌}
+use Rattle.cdf_leaves.proofs.Own.{searchable}
 use Rattle.cdf_format.proofs.GoodImageLemmas.{good_image}
 use Rattle.cdf_index.proofs.GoodIndex.{good_index}
-use Rattle.cdf_index.proofs.OneVariable.{AmongAll, OneOf, among_all, one_of}
+use Rattle.cdf_index.proofs.OneVariable.{OneOf, among_all, one_of}
 use Rattle.cdf_puts.specs.declared.putting.NewRecord.{NewRecord}
 use Rattle.cdf_puts.specs.declared.starts.Starts.{Starts}
 
@@ -23,17 +24,14 @@ module _ (b : List ℕ) (good : Good b) where
   index_here front own rest all = good_index b (shape b) front own rest (good_image b (shape b) (good_by_its_shape b good)) (good_is_sound b good) all
 
   index_of : {kind : Kind} {before : List VariableShape} {own : VariableShape} {after : List VariableShape} {vdr : ℕ} → StandsAmong b kind before own after → own.vdr ≡ vdr → index_at b (number b vdr vdr_vxr_head) ≡ own.index
-  index_of {kind} {before} {own} {after} at e = let a = among_all b kind before own after at.was in subst (λ (v : ℕ). index_at b (number b v vdr_vxr_head) ≡ own.index) e (index_here a.front own a.rest a.all).1
+  index_of {own = own} at e = subst (λ (v : ℕ). index_at b (number b v vdr_vxr_head) ≡ own.index) e (searchable good at).1
 
   module _ (vdr : ℕ) (i : In vdr (vdrs (variables (shape b)))) where
     abbrev o : OneOf b vdr
     o = one_of b vdr i
 
-    abbrev a : AmongAll (variables (shape b)) o.own
-    a = among_all b o.kind o.before o.own o.after o.among.was
-
     pub has_index : HasIndex b (number b vdr vdr_vxr_head)
-    has_index = subst (λ (v : ℕ). HasIndex b (number b v vdr_vxr_head)) o.vdr_is (index_here a.front o.own a.rest a.all).0
+    has_index = subst (λ (v : ℕ). HasIndex b (number b v vdr_vxr_head)) o.vdr_is (searchable good o.among).0
 
     pub vdr_lies : vdr + 340 ≤ length b
     vdr_lies = subst (λ (v : ℕ). v + 340 ≤ length b) o.vdr_is (omega (arith, long good o.among, tile_lies b 8 (length b) (shape b).records o.own.vdr (sound good o.among).has_shape.tiled (tile good o.among)))

@@ -45,8 +45,7 @@ node_taken place need room at some = is_in-true at (place ∷ new_nodes room at)
 
 -- how often it stands in a variable
 new_times : (room at m : ℕ) → times m (new_nodes room at) ≡ (if room == 0 then 0 else times m (at ∷ []))
-new_times zero at m = refl
-new_times (suc room) at m = grind arith
+new_times room at m = grind arith
 
 -- ---- the bytes of a block that is not packed
 
@@ -269,8 +268,7 @@ module _ {b now : List ℕ} {kind : Kind} {before : List VariableShape} {own : V
     body_now : take (length body) (drop (new.place + 8) now) ≡ body
     body_now =
         let size = filled_size sound w.block.fills in
-        let grows : length w.filled ≤ length w.roomy = node_taking.grows.edit.longer in
-        piece_kept w.filled now new.place (new.place + size_at w.filled new.place) k.same (new.place + 8) (length body) (omega arith) (omega arith) (omega (arith, k.inside)) (omega arith)
+        piece_kept w.filled now new.place (new.place + size_at w.filled new.place) k.same (new.place + 8) (length body) (omega arith) (omega arith) (omega (arith, k.inside)) (omega (arith, k.inside, node_taking.grows.edit.longer))
         ∙ ap (λ (xs : List ℕ). take (length body) (drop (new.place + 8) xs)) w.block.written ∙ put_there w.block.taken (new.place + 8) body (omega (arith, w.block.inside))
 
     pub blocks_go_on : BlocksGoOn b now own new records
@@ -301,9 +299,9 @@ module _ {b now : List ℕ} {kind : Kind} {before : List VariableShape} {own : V
             subst (λ (x : Leaf). (is_block now records' x.place ≡ true) × Hold (leaf_rows now records' own.vdr x)) (sym q) (block_rows new (taken_used new.place (inl refl)).0 block_typed vacant.ordered (before_limit new.first new.last (firsts_of own.index) vacant.before_next) long)
         | inr j ↦
             let x = (whole good among l j).leaf in
-            let k = block_kept good among new_index l.place (place_in (leaves_of own.index) l j) in
-            let stands = edit.sub l.place (behind_in good among l.place (block_behind own l.place (place_in (leaves_of own.index) l j))) in
-            block_rows l stands (type_kept b now l.place k.same k.long ∙ x.typed) x.ordered x.small (rw (size_kept b now l.place k.same (omega (arith, k.long))) x.room)
+            let at = place_in (leaves_of own.index) l j in
+            let k = block_kept good among new_index l.place at in
+            block_rows l (edit.sub l.place (behind_in good among l.place (block_behind own l.place at))) (type_kept b now l.place k.same k.long ∙ x.typed) x.ordered x.small (rw (size_kept b now l.place k.same (omega (arith, k.long))) x.room)
       ]
 
       index_ruled : Hold (index_rows now records' own.vdr (with_leaf new at own.index))
@@ -330,8 +328,8 @@ module _ {b now : List ℕ} {kind : Kind} {before : List VariableShape} {own : V
       -- ---- the rules of the image
 
       born_read : (m : ℕ) → In m reborn → is_in (type_at now m) read_types ≡ true
-      born_read m (inl q) = ap (λ (t : ℕ). is_in t read_types) (ap (type_at now) q ∙ block_typed)
-      born_read m (inr i) = let x = taken_used m (inr i) in ap (λ (t : ℕ). is_in t read_types) ((head_kept m x.0 x.1).0 ∙ (new_node m i).typed)
+      born_read m (inl q) = rw (q, block_typed) refl
+      born_read m (inr i) = let x = taken_used m (inr i) in rw ((head_kept m x.0 x.1).0, (new_node m i).typed) refl
 
       pub good_now : Good now
       good_now = changed_good good among new_index reborn [] exchanged index_ruled born_read end_now short

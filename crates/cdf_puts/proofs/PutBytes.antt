@@ -1,5 +1,5 @@
 -- The bytes of the blocks while records are put: two steps are one, and in the last one none is put.
-use Rattle.cdf_puts.proofs.Common.{Act, Ascending, Beside, Changed, Good, IsOneOf, Kind, Leaf, LeavesGoOn, List, NewBlock, OldBlock, PlainLeaf, RecordIs, Same, SoFar, Some, StandsAmong, Touch, VariableShape, [], ap, apart, arith, behind_in, block_behind, cases_lt, covers, covers_within, drop, each, extent, find, find_covering, first_written, has, inl, inr, kept, leaves_of, length, long, max_rec_at, min, or_from, or_left, or_parts, or_right, piece_kept, place_in, plain_leaf, put, range, record_bytes, record_of, record_place, refl, room, shape, size_at, sound, subst, suc, sym, take, take_at, tile_lies, times_le, upto, variable_of, word_kept, ℕ, ◌*◌, ◌++◌, ◌+◌, ◌-◌, ◌<◌, ◌∙◌, ◌≡◌, ◌≤◌, ◌⊎◌}
+use Rattle.cdf_puts.proofs.Common.{Act, Ascending, Beside, Changed, Good, IsOneOf, Kind, Leaf, LeavesGoOn, List, NewBlock, OldBlock, PlainLeaf, RecordIs, Same, SoFar, Some, StandsAmong, Touch, VariableShape, [], ap, arith, behind_in, block_behind, cases_lt, covers, covers_within, drop, extent, find, find_covering, first_written, inl, inr, leaves_of, length, long, max_rec_at, min, nat_tests, or_from, or_left, or_parts, or_right, piece_kept, place_in, plain_leaf, put, range, record_bytes, record_of, record_place, refl, shape, size_at, sound, subst, suc, sym, take, take_at, tile_lies, times_le, upto, variable_of, word_kept, ℕ, ◌*◌, ◌++◌, ◌+◌, ◌-◌, ◌<◌, ◌∙◌, ◌≡◌, ◌≤◌, ◌⊎◌}
 use Rattle.cdf_edits.proofs.Edits.LeafPieces.{found_in}
 use Rattle.cdf_fields.proofs.Writes.{drop-put_there}
 use Rattle.cdf_puts.proofs.GoesThen.{later_size}
@@ -8,7 +8,7 @@ use Rattle.cdf_puts.proofs.PutRules.{loose}
 
 -- a leaf that is not the one of a record ends before it, or begins behind it
 pub beside_one : (k low upto : ℕ) (leaves : List Leaf) → Ascending low upto leaves → (l : Leaf) → IsOneOf leaves l → (find (λ (leaf : Leaf). covers k (range leaf.first leaf.last)) leaves ≡ Some l → ⊥) → (l.last < k) ⊎ (k < l.first)
-beside_one k low upto leaves a l i out = elim (cases_lt l.last k) [ inl lt ↦ inl lt | inr t ↦ elim (cases_lt k l.first) [ inl lt ↦ inr lt | inr f ↦ absurd (out (find_covering k low upto leaves a l i f t)) ] ]
+beside_one k low upto leaves a l i out = grind (arith, nat_tests, out, find_covering k low upto leaves a l i)
 
 -- the leaf that is found has the record
 pub found_covering : (k : ℕ) (leaves : List Leaf) (l : Leaf) → find (λ (leaf : Leaf). covers k (range leaf.first leaf.last)) leaves ≡ Some l → IsOneOf leaves l × ((l.first ≤ k) × (k ≤ l.last))
@@ -21,11 +21,11 @@ put_there b place xs le = ap (take (length xs)) (drop-put_there b xs place le) �
 -- ---- where a record stands in its block
 
 pub record_fits : (k f t size : ℕ) → f ≤ k → k ≤ t → 12 + (k - f) * size + size ≤ 12 + (t + 1 - f) * size
-record_fits k f t size a c = let p = times_le (suc (k - f)) (t + 1 - f) size (omega arith) in omega arith
+record_fits k f t size a c = omega (arith, times_le (suc (k - f)) (t + 1 - f) size (omega arith))
 
 -- records of one block do not meet
 pub records_apart : (j k f size : ℕ) → f ≤ j → j < k → 12 + (j - f) * size + size ≤ 12 + (k - f) * size
-records_apart j k f size a lt = let p = times_le (suc (j - f)) (k - f) size (omega arith) in omega arith
+records_apart j k f size a lt = omega (arith, times_le (suc (j - f)) (k - f) size (omega arith))
 
 -- what stands behind all records is beside each
 pub behind_all : (first k size : ℕ) (l : Leaf) (place : ℕ) → l.place + (12 + (l.last + 1 - l.first) * size) ≤ place → Beside first k size l place

@@ -1,5 +1,5 @@
 -- The nodes of an index that grows leaf by leaf: the index but for where its blocks and its new nodes stand, its top chain, and the unused entries and spare bytes of its nodes.
-use Rattle.cdf_puts.proofs.Common.{same_node, bytes_eq, Act, Bool, Each, Each-in, Entries, EntryIs, Gave, Grows, HasNodes, In, In-append, Kept, Leaf, List, Names, NodeFits, NodeSpareStays, Nodes, NodesFollow, Range, Same, Same-part, SaysEntry, Took, TopGrows, UnusedEntries, [], ap, arith, block, by_leaf, cases_lt, chain_reaches, each, either, entries_outline, entry_count, false, first_at, if◌then◌else◌, indexes_with, inl, inr, is_in, is_in-true, is_taken_at, last_at, leads_down, leaf, length, list_any, lower, lower_nodes, no_entry, no_node, node, nodes_of, offset_at, outline, past, reaches, refl, room_at, same-then, same_of_bytes_eq, size_at, suc, sym, true, true-is_in, upto, used_count, uses_entry, uses_entry_below, was_unused, with_both, with_leaf, with_lower, with_ranges, zero, ℕ, ◌*◌, ◌++◌, ◌+◌, ◌<◌, ◌||◌, ◌∙◌, ◌∷◌, ◌≡◌, ◌≤◌, ◌⊎◌, nat_tests, or_parts, In-append_left, In-append_right}
+use Rattle.cdf_puts.proofs.Common.{same_node, bytes_eq, Act, Bool, Each, Each-in, Entries, EntryIs, Gave, Grows, HasNodes, In, In-append, Kept, Leaf, List, Names, NodeFits, NodeSpareStays, Nodes, NodesFollow, Range, Same, Same-part, SaysEntry, Took, TopGrows, UnusedEntries, [], ap, arith, block, by_leaf, cases_lt, chain_reaches, each, entries_outline, entry_count, false, first_at, if◌then◌else◌, indexes_with, inl, inr, is_in, is_in-true, is_taken_at, last_at, leads_down, leaf, length, list_any, lower, lower_nodes, no_entry, no_node, node, nodes_of, offset_at, outline, past, reaches, refl, room_at, same-then, same_of_bytes_eq, size_at, suc, sym, true, true-is_in, upto, used_count, uses_entry, uses_entry_below, was_unused, with_both, with_leaf, with_lower, with_ranges, zero, ℕ, ◌*◌, ◌++◌, ◌+◌, ◌<◌, ◌||◌, ◌∙◌, ◌∷◌, ◌≡◌, ◌≤◌, ◌⊎◌, nat_tests, or_parts, In-append_left, In-append_right}
 
 -- ---- an outline says the same of an index as the index does
 
@@ -102,14 +102,11 @@ module _ (b records : List ℕ) (vxr i : ℕ) (used : i < used_count b vxr) wher
 
 -- ---- the indexes that a command goes through
 
-abbrev with_range_at_zero : Nodes → Range → Nodes
-with_range_at_zero nodes r = with_leaf (leaf r.first r.last 0 false) 0 nodes
-
 -- what holds of the last of them, or of one, goes on to hold of one
 pub through_goes : (P : Nodes → Bool) (index : Nodes) (rs : List Range) (r : Range) → (P (with_ranges index rs) ≡ true) ⊎ (list_any P (indexes_with index rs) ≡ true) → list_any P (indexes_with index (rs ++ r ∷ [])) ≡ true
 unfolding indexes_with
 through_goes P index [] r e = grind (arith, e)
-through_goes P index (x ∷ rs) r e = grind (arith, e, through_goes P (with_range_at_zero index x) rs r)
+through_goes P index (x ∷ rs) r e = grind (arith, e, through_goes P (with_leaf (leaf x.first x.last 0 false) 0 index) rs r)
 
 -- ---- the top chain
 
@@ -118,7 +115,7 @@ pub top_grows : (new : Leaf) (at : ℕ) (index : Nodes) → TopGrows index (with
 top_grows new at index = let steps : Grows new at (λ n a a'. TopGrows a a') (λ n es es'. Unit {0}) = grind arith in by_leaf steps index
 
 pub bytes_longer : (xs ys : List ℕ) → length xs < length ys → bytes_eq xs ys ≡ false
-bytes_longer xs ys l = elim (either (bytes_eq xs ys)) [ inl t ↦ absurd (omega (arith, ap length (same_of_bytes_eq xs ys t))) | inr t ↦ t ]
+bytes_longer xs ys l = grind (arith, l, same_of_bytes_eq xs ys)
 
 -- ---- what was taken first, and then
 

@@ -1,5 +1,5 @@
 -- Where the next record is put: the records of a new block, each step by which records are put, and what an image says of a variable of which some records are put.
-use Rattle.cdf_puts.proofs.Common.{Act, AddsLeaf, BlockRecords, Covering, GoesOn, HasIndex, In, IsBlockBody, IsBody, IsPut, IsVacant, Kind, LeafAdded, List, NodeTaken, Nodes, None, PutStart, PutsOn, PutsUpTo, Putting, RecordsWritten, SoFar, Some, SomePut, SomePutting, StandsAmong, Variable, VariableShape, [], ap, append-nil, arith, block_bytes, block_count, cases_lt, covers, div-le_self, drop, drop-append-le, drop_at, either, extent, false, find, first_written, firsts_of, fits, good_is_sound, has, if◌then◌else◌, image_limit, in_middle, index_at, inl, inr, is_sparse, last_in_new, leaf, leaf_acts, leaf_of, leaves_of, length, length-append, length-drop, long, max_rec_at, min, most_in_block, nat_tests, new_last, new_range, new_room, next_first, node_bytes, number, range, record_bytes, record_length, record_of, record_put, records_put, refl, shape, sparse_at, subst, suc, sym, take, take-append-le, take_all, taken_bytes, tile, tile_lies, times_le, variable_of, variables, vdr_max_rec, vdr_vxr_head, vdrs, vxr_bytes, widest, with_leaf, zero, ℕ, ◌*◌, ◌++◌, ◌+◌, ◌-◌, ◌<◌, ◌==◌, ◌∙◌, ◌∷◌, ◌≡◌, ◌≤◌}
+use Rattle.cdf_puts.proofs.Common.{Act, AddsLeaf, BlockRecords, GoesOn, HasIndex, In, IsBlockBody, IsBody, IsPut, IsVacant, Kind, LeafAdded, List, NodeTaken, Nodes, None, PutStart, PutsOn, PutsUpTo, Putting, RecordsWritten, SoFar, Some, SomePut, SomePutting, StandsAmong, Variable, VariableShape, [], ap, append-nil, arith, block_bytes, block_count, cases_lt, covers, div-le_self, drop, drop-append-le, drop_at, extent, false, find, first_written, firsts_of, fits, has, if◌then◌else◌, image_limit, in_middle, index_at, inl, inr, is_sparse, last_in_new, leaf, leaf_acts, leaf_of, leaves_of, length, length-append, length-drop, max_rec_at, min, most_in_block, nat_tests, new_last, new_range, new_room, next_first, node_bytes, number, range, record_bytes, record_length, record_of, record_put, records_put, refl, shape, sparse_at, subst, suc, sym, take, take-append-le, take_all, taken_bytes, times_le, variable_of, variables, vdr_max_rec, vdr_vxr_head, vdrs, vxr_bytes, widest, with_leaf, zero, ℕ, ◌*◌, ◌++◌, ◌+◌, ◌-◌, ◌<◌, ◌∙◌, ◌∷◌, ◌≡◌, ◌≤◌}
 use Rattle.cdf_puts.proofs.LeafEdit.{r_max_rec_stays as leaf_r_max_rec, body_long, plain_body, leaf_goes_on, leaf_max_rec, taking}
 use Rattle.cdf_puts.proofs.CoveringRanges.{covering_starts, covering_has, covering_leaf, covering_room, covering_ends, Ends, one_at_least}
 use Rattle.cdf_puts.proofs.GoesThen.{later_size, goes_then, goes_written, writes_nothing}
@@ -10,6 +10,7 @@ use Rattle.cdf_puts.proofs.PutRoom.{taken_sum, takes_both, leaf_bytes, longer_by
 use Rattle.cdf_puts.proofs.SoFarStarts.{starts_upto, index_start, blocks_start}
 use Rattle.cdf_leaves.proofs.Own.{among_all, own_order, searchable}
 use Rattle.cdf_puts.proofs.PutBytes.{found_covering, size_now, whole}
+use Rattle.cdf_puts.proofs.KnownStarts.{vdr_lies}
 use Rattle.cdf_base.specs.Bytes.{put as put_at}
 use Rattle.cdf_format.specs.Index.{Leaf as TreeLeaf}
 use Rattle.cdf_index.specs.Reading.{HoldsRecords}
@@ -18,11 +19,11 @@ use Rattle.cdf_index.specs.declared.nodes.Leaf.{Leaf}
 use Rattle.cdf_puts.specs.declared.putting.NewRecord.{NewRecord}
 
 pub one_more : (raw pad : List ℕ) (r count k : ℕ) → records_put raw pad r (count + 1) k ≡ records_put raw pad r count k ++ record_put raw pad r (k + count)
-one_more raw pad r count k = let next : count + 1 ≡ suc count = omega arith in ap (λ (n : ℕ). records_put raw pad r n k) next
+one_more raw pad r count k = grind arith
 
 module _ (raw pad : List ℕ) (r size : ℕ) (raw_long : length raw ≡ size) (pad_long : length pad ≡ size) where
   pub record_long : (k : ℕ) → length (record_put raw pad r k) ≡ size
-  record_long k = elim (either (k == r)) [ inl t ↦ rw t raw_long | inr t ↦ rw t pad_long ]
+  record_long k = grind (arith, raw_long, pad_long)
 
   pub records_long : (count k : ℕ) → length (records_put raw pad r count k) ≡ count * size
   records_long zero k = omega arith
@@ -47,7 +48,7 @@ module _ (raw pad : List ℕ) (r size : ℕ) (raw_long : length raw ≡ size) (p
   block_records k last = record { as_long = records_long (last + 1 - k) k; written = λ j from upto. record_there (last + 1 - k) k j from (omega arith) }
 
 pub body_is : (body records : List ℕ) → IsBlockBody body records → IsBody body
-body_is body records says = let typed = plain_body body records says in grind (arith, typed, body_long body records says)
+body_is body records says = grind (arith, plain_body body records says, body_long body records says)
 
 -- ---- the steps
 
@@ -96,14 +97,11 @@ module _ {b : List ℕ} {kind : Kind} {before : List VariableShape} {own : Varia
         let step = leaf_acts place (8 + length body) (new_room k own'.index) at in
         let goes : GoesOn now now' kind before own' (record own' { index = with_leaf new at own'.index }) after step = leaf_goes_on good among w holds vacant (says.as_long ∙ ap (λ (n : ℕ). (last + 1 - k) * n) (sym (later_size so.start.good so.start.among so.goes))) short in
         let bytes : taken_bytes (acts ++ step) ≡ taken_bytes acts + block_bytes v k last + node_bytes k own'.index = omega (arith, taken_sum acts step, leaf_bytes place (8 + length body) (new_room k own'.index) at, body_long body records holds, says.as_long) in
-        let covers : Covering v own.index (with_leaf new at own'.index) r (min (last + 1) (r + 1)) (taken_bytes acts + block_bytes v k last + node_bytes k own'.index) =
-        subst (λ (x : ℕ). Covering v own.index (with_leaf (leaf k x place false) at own'.index) r (min (x + 1) (r + 1)) (taken_bytes acts + block_bytes v k x + node_bytes k own'.index)) (sym is)
-        (covering_leaf so.covers so.start.small more (ap is_sparse so.start.no_rule) so.start.loose vacant.uncovered place at (new_room_widest now (shape now).records 8 k own'.index (has good among).indexed.has_nodes (fits good among).1)) in
         record {
           start = so.start;
           upto = omega arith;
           goes = goes_then so.start.good so.start.among so.goes goes so.takes (taking good among w).takes;
-          covers = subst (Covering v own.index (with_leaf new at own'.index) r (min (last + 1) (r + 1))) (sym bytes) covers;
+          covers = rw (bytes, is) (covering_leaf so.covers so.start.small more (ap is_sparse so.start.no_rule) so.start.loose vacant.uncovered place at (new_room_widest now (shape now).records 8 k own'.index (has good among).indexed.has_nodes (fits good among).1));
           takes = takes_both acts step so.takes (taking good among w).takes;
           short = short;
           max_rec_is = subst (λ (v : ℕ). number now' v vdr_max_rec ≡ number now v vdr_max_rec) so.goes.vdr_is (leaf_max_rec good among w) ∙ so.max_rec_is;
@@ -115,7 +113,7 @@ module _ {b : List ℕ} {kind : Kind} {before : List VariableShape} {own : Varia
 -- ---- how many records a new block has
 
 most_within : (v : Variable) (r : ℕ) → (1 ≤ most_in_block v r) × (most_in_block v r ≤ 1048576)
-most_within v r = (grind (arith, nat_tests, one_at_least v), grind (arith, nat_tests, div-le_self 1048576 (record_length v)))
+most_within v r = grind (arith, nat_tests, one_at_least v, div-le_self 1048576 (record_length v))
 
 -- up to MaxRec it is one record, which is the one that is put
 last_as : (v : Variable) (index : Nodes) (k r most : ℕ) → is_sparse v.sparse ≡ false → most ≡ most_in_block v r → first_written v r ≤ k → k ≤ r → k < next_first k (firsts_of index) → last_in_new most index k ≡ new_last v index k
@@ -123,8 +121,8 @@ last_as v index k r most rule is from upto before = let first : min r (extent v.
 
 -- a node more is no wider than the widest
 node_long : (b now : List ℕ) (room at wide : ℕ) → NodeTaken b now room at → room ≤ wide → length now ≤ length b + vxr_bytes wide
-node_long b now zero at wide n le = let e : length now ≡ length b = ap length n.0 in omega arith
-node_long b now (suc room) at wide n le = let l = n.longest in omega arith
+node_long b now zero at wide n le = omega (arith, ap length n.0)
+node_long b now (suc room) at wide n le = omega (arith, n.longest)
 
 -- a leaf is added, whichever variable has this descriptor
 abbrev pub AddsOn : List ℕ → List ℕ → ℕ → ℕ → ℕ → List ℕ → Type 0
@@ -142,11 +140,11 @@ module _ {b now : List ℕ} {kind : Kind} {before : List VariableShape} {own : V
   vdr_is : own'.vdr ≡ new.vdr
   vdr_is = so.goes.vdr_is ∙ p.vdr_is
 
-  pub lies : new.vdr + 340 ≤ length now
-  lies = omega (arith, long so.goes.good so.goes.among, tile_lies now 8 (length now) (shape now).records own'.vdr (good_is_sound now so.goes.good).has_shape.tiled (tile so.goes.good so.goes.among))
-
   pub vdr_in : In new.vdr (vdrs (variables (shape now)))
   vdr_in = let g = among_all now kind before own' after so.goes.among.was in subst (λ (vs : List VariableShape). In new.vdr (vdrs vs)) (sym g.all) (subst (λ (v : ℕ). In v (vdrs (g.front ++ own' ∷ g.rest))) vdr_is (in_middle g.front own' g.rest))
+
+  pub lies : new.vdr + 340 ≤ length now
+  lies = vdr_lies now so.goes.good new.vdr vdr_in
 
   pub searched : HasIndex now (number now new.vdr vdr_vxr_head) × (index_at now (number now new.vdr vdr_vxr_head) ≡ own'.index)
   searched = subst (λ (v : ℕ). HasIndex now (number now v vdr_vxr_head) × (index_at now (number now v vdr_vxr_head) ≡ own'.index)) vdr_is (searchable so.goes.good so.goes.among)

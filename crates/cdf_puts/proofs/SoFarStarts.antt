@@ -62,7 +62,7 @@ covers_own (x ∷ more) l i le = grind (arith, nat_tests, i, covers_own more l)
 
 pub none_new : (before : List Range) (leaves : List Leaf) → ((l : Leaf) → IsOneOf leaves l → list_any (covers l.first) before ≡ true) → new_ranges before (of_leaves leaves) ≡ []
 none_new before [] has = refl
-none_new before (x ∷ more) has = let here = has x (inl refl) in rw here (none_new before more (λ l i. has l (inr i)))
+none_new before (x ∷ more) has = rw (has x (inl refl)) (none_new before more (λ l i. has l (inr i)))
 
 -- one more is, and none past it: it comes behind those that are
 pub ranges_more : (before : List Range) (low upto : ℕ) (leaves : List Leaf) (new : Leaf) → Ascending low upto leaves → list_any (covers new.first) before ≡ false → ((l : Leaf) → IsOneOf leaves l → new.first < l.first → list_any (covers l.first) before ≡ true)
@@ -91,7 +91,7 @@ module _ {b : List ℕ} {kind : Kind} {before : List VariableShape} {own : Varia
   pub index_start : IndexSoFar b b own own first first []
   index_start = record {
     puts = subst (λ (ls : List Leaf). PutsBefore b own own ls []) (sym (none_pass (was_put first first) (leaves_of own.index) (λ l i. grind (arith, nat_tests)))) (λ last size more acts' end p. p);
-    tail = let same = bytes_eq-same (top_chain own.index) in rw same refl;
+    tail = rw (bytes_eq-same (top_chain own.index)) refl;
     top = inl refl;
     tops = λ m i. i;
     nodes = subst (λ (rs : List Range). NodesSoFar b b own own rs []) (sym (none_new (ranges_of own.index) (leaves_of own.index) (λ l i. covers_own (leaves_of own.index) l i (in_order 0 (suc record_number_limit) (leaves_of own.index) (leaves_ascend start.good start.among) l i).ordered)))

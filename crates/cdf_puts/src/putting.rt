@@ -251,6 +251,7 @@ fn put_next<A: Area>(
 }
 
 /// Puts a record into a variable, and from one on those before it that are not stored. Of the top chain of its index a node may be known. After an error a part of this may have been done.
+#[tactic(auto, using(cdf_area::proofs::Calls::edit_done, cdf_area::proofs::Calls::edit_failed, cdf_area::proofs::Calls::edit_more))]
 pub fn put_records<A: Area>(
     alloc: Global,
     area: &mut A,

@@ -1,4 +1,4 @@
-use Rattle.cdf_puts.proofs.Common.{Frame, Good, HasIndex, In, IsBlockBody, IsBody, IsPut, List, ap, edit_done, edit_failed, edit_more, edit_without_memory, edits_by_read, keeps_by_read, read_more, read_once, records_put, refl, shape, subst, sym, variables, vdrs, ℕ, ◌+◌, ◌-◌, ◌∙◌}
+use Rattle.cdf_puts.proofs.Common.{Frame, HasIndex, List, ap, edit_done, edit_failed, edit_more, edit_without_memory, edits_by_read, keeps_by_read, read_more, read_once, refl, subst, sym, ℕ, ◌∙◌}
 use Rattle.cdf_puts.proofs.PutSpot.{AddsOn, added_on, body_is, room_after, searched, some_few, vdr_in}
 use Rattle.cdf_puts.proofs.putting.add_block.Goals as goal
 
@@ -6,7 +6,7 @@ pub last_of_new-requires-clause-index : goal.last_of_new-requires-clause-index
 last_of_new-requires-clause-index g c = subst (HasIndex (g.A.Area.image c.args.area.now)) (sym c.requires.head) (searched c.requires.some.putting c.requires.some.is).0
 
 pub last_of_new-requires-clause-some : goal.last_of_new-requires-clause-some
-last_of_new-requires-clause-some g c = let s = c.requires.some in (some_few s.putting s.is c.requires.more).0
+last_of_new-requires-clause-some g c = (some_few c.requires.some.putting c.requires.some.is c.requires.more).0
 
 pub last_of_new-requires-clause-few : goal.last_of_new-requires-clause-few
 last_of_new-requires-clause-few g c = let s = c.requires.some in (some_few s.putting s.is c.requires.more).1
@@ -19,8 +19,7 @@ returns-in_err-body-clause-area g c = edit_without_memory (keeps_by_read (read_o
 
 pub start_of-requires-clause-index : goal.start_of-requires-clause-index
 start_of-requires-clause-index g c =
-    let s = c.requires.some in
-    rw (c.last_of_new.ensures.area.image, c.requires.head) (searched s.putting s.is).0
+    rw (c.last_of_new.ensures.area.image, c.requires.head) (searched c.requires.some.putting c.requires.some.is).0
 
 pub start_of-requires-clause-known : goal.start_of-requires-clause-known
 start_of-requires-clause-known g c = rw (c.last_of_new.ensures.area.image) c.requires.known
@@ -32,21 +31,19 @@ pub add_leaf-requires-clause-start : goal.add_leaf-requires-clause-start
 add_leaf-requires-clause-start g c = rw (c.start_of.ensures.area.image, c.last_of_new.ensures.area.image) (rw (c.last_of_new.ensures.area.image, c.requires.head) at c.in_ok-start.ensures.start)
 
 pub add_leaf-requires-clause-good : goal.add_leaf-requires-clause-good
-add_leaf-requires-clause-good g c = let s = c.requires.some in subst Good (sym (c.start_of.ensures.area.image ∙ c.last_of_new.ensures.area.image)) s.is.so.goes.good
+add_leaf-requires-clause-good g c = rw (c.start_of.ensures.area.image, c.last_of_new.ensures.area.image) c.requires.some.is.so.goes.good
 
 pub add_leaf-requires-clause-vdr : goal.add_leaf-requires-clause-vdr
-add_leaf-requires-clause-vdr g c = let s = c.requires.some in subst (λ (x : List ℕ). In c.args.put.now.vdr (vdrs (variables (shape x)))) (sym (c.start_of.ensures.area.image ∙ c.last_of_new.ensures.area.image)) (vdr_in s.putting s.is)
+add_leaf-requires-clause-vdr g c = rw (c.start_of.ensures.area.image, c.last_of_new.ensures.area.image) (vdr_in c.requires.some.putting c.requires.some.is)
 
 pub add_leaf-requires-clause-body : goal.add_leaf-requires-clause-body
 add_leaf-requires-clause-body g c =
-    let put = c.args.put.now in
-    subst IsBody (sym c.deref.ensures.value) (body_is c.in_ok-body.body.items (records_put put.raw.items put.pad.items put.rec (c.in_ok-last.last + 1 - c.args.k) c.args.k) c.in_ok-body.ensures.body)
+    rw (c.deref.ensures.value) (body_is c.in_ok-body.body.items _ c.in_ok-body.ensures.body)
 
 pub add_leaf-requires-clause-room : goal.add_leaf-requires-clause-room
 add_leaf-requires-clause-room g c =
     let s = c.requires.some in
-    let put = c.args.put.now in
-    let says = subst (λ (x : List ℕ). IsBlockBody x (records_put put.raw.items put.pad.items put.rec (c.in_ok-last.last + 1 - c.args.k) c.args.k)) (sym c.deref.ensures.value) c.in_ok-body.ensures.body in
+    let says = rw (← c.deref.ensures.value) at c.in_ok-body.ensures.body in
     room_after s.putting s.is c.requires.more c.requires.head c.requires.none c.in_ok-last.last c.in_ok-last.ensures.last c.deref.result.now says (c.start_of.ensures.area.image ∙ c.last_of_new.ensures.area.image) (ap (λ (f : Frame g.A.Area.Under). f.limit) (c.start_of.ensures.area.frame ∙ c.last_of_new.ensures.area.frame))
 
 pub returns-in_err-add_leaf-clause-area : goal.returns-in_err-add_leaf-clause-area
@@ -55,10 +52,10 @@ returns-in_err-add_leaf-clause-area g c = edit_failed (keeps_by_read (read_more 
 pub returns-clause-put : goal.returns-clause-put
 returns-clause-put g c =
     let put = c.args.put.now in
-    let says = subst (λ (x : List ℕ). IsBlockBody x (records_put put.raw.items put.pad.items put.rec (c.in_ok-last.last + 1 - c.args.k) c.args.k)) (sym c.deref.ensures.value) c.in_ok-body.ensures.body in
+    let says = rw (← c.deref.ensures.value) at c.in_ok-body.ensures.body in
     let now = g.A.Area.image c.add_leaf.new.area in
     let adds = subst (λ (x : List ℕ). AddsOn x now put.vdr c.args.k c.in_ok-last.last c.deref.result.now) (c.start_of.ensures.area.image ∙ c.last_of_new.ensures.area.image) c.in_ok-add_leaf.ensures.added in
-    λ b kind before own after putting is. subst (λ (n : ℕ). IsPut b now kind before own after put (n + 1)) (sym c.min.ensures) (added_on putting is c.requires.more c.requires.head c.requires.none c.in_ok-last.last c.in_ok-last.ensures.last c.deref.result.now says adds c.requires.limit)
+    λ b kind before own after putting is. rw (c.min.ensures) (added_on putting is c.requires.more c.requires.head c.requires.none c.in_ok-last.last c.in_ok-last.ensures.last c.deref.result.now says adds c.requires.limit)
 
 pub returns-clause-area : goal.returns-clause-area
 returns-clause-area g c = edit_done (edit_more (keeps_by_read (read_more (read_once c.in_ok-last.ensures.area) c.in_ok-start.ensures.area)) c.in_ok-add_leaf.ensures.area)

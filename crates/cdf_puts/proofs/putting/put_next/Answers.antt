@@ -1,4 +1,4 @@
-use Rattle.cdf_puts.proofs.Common.{Frame, HasIndex, ap, arith, edit_done, edit_failed, edit_more, edits_by_read, keeps_by_read, read_more, read_once, refl, sym, transport}
+use Rattle.cdf_puts.proofs.Common.{Frame, ap, arith, edit_done, edit_failed, edit_more, edits_by_read, keeps_by_read, read_more, read_once, refl}
 use Rattle.cdf_leaves.proofs.LastCall.{edit_last}
 use Rattle.cdf_puts.proofs.PutSpot.{lies, on_after, searched}
 use Rattle.cdf_puts.proofs.putting.put_next.Goals as goal
@@ -14,9 +14,7 @@ returns-in_err-head-clause-area g c = edit_failed (record { frame = refl; faults
 
 pub find_leaf-requires-clause-index : goal.find_leaf-requires-clause-index
 find_leaf-requires-clause-index g c =
-    let same = sym c.read_unsigned8.ensures.area.image in
-    let head = sym c.in_ok-head.ensures.value in
-    transport (λ i. HasIndex (same i) (head i)) (searched c.requires.some.putting c.requires.some.is).0
+    rw (c.read_unsigned8.ensures.area.image, c.in_ok-head.ensures.value) (searched c.requires.some.putting c.requires.some.is).0
 
 pub returns-in_err-found-clause-area : goal.returns-in_err-found-clause-area
 returns-in_err-found-clause-area g c = edit_failed (keeps_by_read (read_once c.in_ok-head.ensures.area)) (edits_by_read c.in_err-found.ensures.area) c.from_residual-in_err-found.ensures.1

@@ -1,4 +1,4 @@
-use Rattle.cdf_puts.proofs.Common.{Frame, SomePut, ap, arith, edit_done, edit_failed, edit_more, refl, subst, sym, ℕ}
+use Rattle.cdf_puts.proofs.Common.{Frame, ap, arith, edit_more, refl}
 use Rattle.cdf_puts.proofs.PutSpot.{all_done, all_on, all_start, on_after, some_put}
 use Rattle.cdf_puts.proofs.KnownStarts.{known_yet}
 use Rattle.cdf_puts.proofs.putting.put_records.Goals as goal
@@ -8,8 +8,7 @@ loop-k-init g c = record { puts = all_start c.requires.some; area = record { fra
 
 pub put_next-requires-clause-some : goal.put_next-requires-clause-some
 put_next-requires-clause-some g c =
-    let i = c.loop-k.invariant in
-    subst (λ (n : ℕ). SomePut (g.A.Area.image c.loop-k.area) c.args.put.now c.loop-k.k n) (sym (ap (λ (f : Frame g.A.Area.Under). f.limit) i.area.frame)) (some_put c.requires.some i.puts)
+    rw (c.loop-k.invariant.area.frame) (some_put c.requires.some c.loop-k.invariant.puts)
 
 pub loop-k-preserved : goal.loop-k-preserved
 loop-k-preserved g c =
@@ -18,12 +17,6 @@ loop-k-preserved g c =
 
 pub returns-clause-put : goal.returns-clause-put
 returns-clause-put g c = all_done c.loop-k.invariant.puts (omega (arith, c.loop-k-test.false))
-
-pub returns-clause-area : goal.returns-clause-area
-returns-clause-area g c = edit_done c.loop-k.invariant.area
-
-pub returns-in_err-k-clause-area : goal.returns-in_err-k-clause-area
-returns-in_err-k-clause-area g c = edit_failed c.loop-k.invariant.area c.in_err-k.ensures.area c.from_residual.ensures.1
 
 pub put_next-requires-clause-known : goal.put_next-requires-clause-known
 put_next-requires-clause-known g c = known_yet c.args.known c.requires.some c.loop-k.invariant.puts c.requires.known

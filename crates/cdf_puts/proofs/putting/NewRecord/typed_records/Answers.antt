@@ -1,4 +1,4 @@
-use Rattle.cdf_puts.proofs.Common.{ap, append_assoc, block_type, record_put, records_put, sym, ◌++◌, ◌+◌, ◌∙◌}
+use Rattle.cdf_puts.proofs.Common.{append_assoc, block_type, record_put, records_put, ◌+◌}
 use Rattle.cdf_puts.proofs.putting.NewRecord.typed_records.Goals as goal
 use Rattle.cdf_puts.proofs.PutSpot.{one_more}
 
@@ -7,4 +7,4 @@ loop-i-preserved c =
     let raw = c.args.self.now.raw.items in
     let pad = c.args.self.now.pad.items in
     let r = c.args.self.now.rec in
-    c.in_ok-extend_from_slice-2.ensures.items ∙ ap (λ x. x ++ c.bytes_of.result.now) c.loop-i.invariant ∙ ap (λ x. (block_type ++ records_put raw pad r c.loop-i.i c.args.first) ++ x) c.bytes_of.ensures ∙ append_assoc block_type (records_put raw pad r c.loop-i.i c.args.first) (record_put raw pad r (c.args.first + c.loop-i.i)) ∙ ap (λ x. block_type ++ x) (sym (one_more raw pad r c.loop-i.i c.args.first))
+    rw (c.in_ok-extend_from_slice-2.ensures.items, c.loop-i.invariant, c.bytes_of.ensures, one_more raw pad r c.loop-i.i c.args.first) (append_assoc block_type (records_put raw pad r c.loop-i.i c.args.first) (record_put raw pad r (c.args.first + c.loop-i.i)))
