@@ -55,9 +55,7 @@ module _ (b : List ℕ) (tiled : AreTiles b 8 (length b) (tiles b)) (short : len
     few_in zero (node place room entries more) st = absurd st.has
     few_in (suc levels) (node place room entries more) st =
         let p = node_parts st in
-        let lies = tile_lies b 8 (length b) (tiles b) place tiled (linkable-in b (tiles b) 6 place p.says.linkable) in
-        let fits = st.orderly.0.fits in
-        omega (arith, fits.0, fits.1, lies.high, p.says.used_is, few_below levels place 0 entries p.left, few_in (suc levels) more p.more_stands, length-append (lower_nodes entries) (nodes_of more))
+        omega (arith, st.orderly.0.fits, tile_lies b 8 (length b) (tiles b) place tiled (linkable-in b (tiles b) 6 place p.says.linkable), p.says.used_is, few_below levels place 0 entries p.left, few_in (suc levels) more p.more_stands, length-append (lower_nodes entries) (nodes_of more))
 
     few_below : (levels at i : ℕ) (entries : Entries) → EntriesLeft b levels at i entries → entries_below entries ≤ length (lower_nodes entries) * most
     few_below levels at i no_entry l = omega arith
