@@ -60,9 +60,7 @@ module _ (b : List ℕ) (tiled : AreTiles b 8 (length b) (tiles b)) (short : len
     few_below : (levels at i : ℕ) (entries : Entries) → EntriesLeft b levels at i entries → entries_below entries ≤ length (lower_nodes entries) * most
     few_below levels at i no_entry l = omega arith
     few_below levels at i (block first last place packed entries) l = few_below levels at (suc i) entries (past_first l)
-    few_below levels at i (lower first last nodes entries) l =
-        let p = past_lower_one l in
-        omega (arith, few_in levels nodes p.0, few_below levels at (suc i) entries p.1, length-append (nodes_of nodes) (lower_nodes entries))
+    few_below levels at i (lower first last nodes entries) l = omega (arith, few_in levels nodes (past_lower_one l).0, few_below levels at (suc i) entries (past_lower_one l).1, length-append (nodes_of nodes) (lower_nodes entries))
 
 pub measured_is : (b : List ℕ) (head : ℕ) → HasIndex b head → length b ≤ image_limit → (size : IndexSize) → Counts size (met_in (index_at b head)) → size ≡ size_of (index_at b head)
 measured_is b head has short size c =

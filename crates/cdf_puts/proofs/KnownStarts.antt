@@ -1,5 +1,5 @@
 -- Nodes of top chains that are known of the variables of an image, and that they are known yet where records were put.
-use Rattle.cdf_puts.proofs.Common.{Act, Each, Each-append, Each-split, GoesOn, Good, HasIndex, In, InTopChain, IsKnownOf, IsKnownStart, KeepsStart, Kind, KnowsStarts, Leaf, List, Nodes, None, Option, PutsUpTo, R, Some, SomePutting, StandsAmong, TopStays, VariableShape, Z, [], ap, arith, good_by_its_shape, good_is_sound, index_at, inl, inr, length, long, no_node, node, node_known, number, other_kind, refl, shape, shapes_of, sound, subst, sym, tile, tile_lies, top_chain, variables, vdr_vxr_head, vdrs, with_leaf, ℕ, ◌++◌, ◌+◌, ◌∙◌, ◌∷◌, ◌≡◌, ◌≢◌, ◌≤◌}
+use Rattle.cdf_puts.proofs.Common.{Act, Each, Each-append, Each-split, GoesOn, Good, HasIndex, In, InTopChain, IsKnownOf, IsKnownStart, KeepsStart, Kind, KnowsStarts, Leaf, List, Nodes, None, Option, PutsUpTo, R, Some, SomePutting, StandsAmong, TopStays, VariableShape, Z, [], ap, arith, good_by_its_shape, good_is_sound, index_at, inl, inr, length, long, no_node, node, node_known, number, other_kind, refl, shape, shapes_of, sound, subst, sym, tile, tile_lies, variables, vdr_vxr_head, vdrs, with_leaf, ℕ, ◌++◌, ◌+◌, ◌∙◌, ◌∷◌, ◌≡◌, ◌≢◌, ◌≤◌}
 use Rattle.cdf_format.proofs.GoodImageLemmas.{good_image}
 use Rattle.cdf_index.proofs.GoodIndex.{good_index}
 use Rattle.cdf_index.proofs.OneVariable.{AmongAll, OneOf, among_all, one_of}

@@ -1,5 +1,5 @@
 -- The bytes of the blocks while records are put: two steps are one, and in the last one none is put.
-use Rattle.cdf_puts.proofs.Common.{Act, Ascending, Beside, Changed, Good, IsOneOf, Kind, Leaf, LeavesGoOn, List, NewBlock, OldBlock, PlainLeaf, RecordIs, Same, SoFar, Some, StandsAmong, Touch, VariableShape, [], ap, apart, arith, behind_in, block_behind, cases_lt, covers, covers_within, drop, each, extent, find, find_covering, first_written, has, inl, inr, kept, leaves_of, length, long, max_rec_at, min, or_from, or_left, or_parts, or_right, piece_kept, place_in, plain_leaf, put, range, record_bytes, record_of, record_place, refl, room, shape, size_at, sound, subst, suc, sym, take, take_at, tile_lies, times_le, upto, variable_of, word_kept, ℕ, ◌*◌, ◌++◌, ◌+◌, ◌-◌, ◌<◌, ◌∙◌, ◌≡◌, ◌≤◌, ◌⊎◌}
+use Rattle.cdf_puts.proofs.Common.{Act, Ascending, Beside, Changed, Good, IsOneOf, Kind, Leaf, LeavesGoOn, List, NewBlock, OldBlock, PlainLeaf, RecordIs, Same, SoFar, Some, StandsAmong, Touch, VariableShape, [], ap, arith, behind_in, block_behind, cases_lt, covers, covers_within, drop, extent, find, find_covering, first_written, inl, inr, leaves_of, length, long, max_rec_at, min, or_from, or_left, or_parts, or_right, piece_kept, place_in, plain_leaf, put, range, record_bytes, record_of, record_place, refl, shape, size_at, sound, subst, suc, sym, take, take_at, tile_lies, times_le, upto, variable_of, word_kept, ℕ, ◌*◌, ◌++◌, ◌+◌, ◌-◌, ◌<◌, ◌∙◌, ◌≡◌, ◌≤◌, ◌⊎◌}
 use Rattle.cdf_edits.proofs.Edits.LeafPieces.{found_in}
 use Rattle.cdf_fields.proofs.Writes.{drop-put_there}
 use Rattle.cdf_puts.proofs.GoesThen.{later_size}
