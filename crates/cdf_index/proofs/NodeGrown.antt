@@ -86,6 +86,7 @@ module _ (b now records records' : List ℕ) (heads : SameHeads b now records re
           let bk = past l.first es in
           let test = le-ltb (entry_count es) r (omega (arith, q.all, h.room_is)) in
           let empty : entry_count bk ≡ 0 = omega (arith, q.count) in
+          let room : room_at now new ≡ max 7 (entry_count bk) = ch.new_room ∙ ap (max 7) (sym empty) in
           let says = say_moved b now at at 0 0 es h.say_entries (λ n m f o w e le lt says. (let x : n ≡ m = omega arith in rw x at (ch.stay n (omega (arith, q.all)) f o w says))) in
           rw (test, eq-eqb (entry_count bk) 0 empty) (node_has now records' levels at r es (node new (max 7 (entry_count bk)) (with_block l no_entry) more) (search (rules, linkable_kept b now records records' heads vxr_type at h.linkable, ch.next_is, ch.room_stays ∙ h.room_is, ch.used_is ∙ used_is ∙ h.used_is, says)) n
-          (node_has now records' levels new (max 7 (entry_count bk)) (with_block l no_entry) more (record { linkable = fresh; next_is = ch.new_next ∙ h.next_is; room_is = ch.new_room ∙ ap (max 7) (sym empty); used_is = ch.new_used; say_entries = (ch.here, tt) }) (leaf_names now records' levels l no_entry names q.names_none) m))))
+          (node_has now records' levels new (max 7 (entry_count bk)) (with_block l no_entry) more (record { linkable = fresh; next_is = ch.new_next ∙ h.next_is; room_is = room; used_is = ch.new_used; say_entries = (ch.here, tt) }) (leaf_names now records' levels l no_entry names q.names_none) m))))
