@@ -51,9 +51,6 @@ pub node_linkable : (b : List ℕ) (levels : ℕ) (nodes : Nodes) → IsNode nod
 unfolding HasNodes
 node_linkable b levels nodes is h = grind arith
 
-pub chain_is : (b : List ℕ) (at k : ℕ) → type_at b (offset_at b at k) ≡ 6 → chain_at b at k ≡ offset_at b at k
-chain_is b at k e = rw e refl
-
 pub no_chain : (b : List ℕ) (at k : ℕ) → type_at b (offset_at b at k) ≢ 6 → chain_at b at k ≡ 0
 no_chain b at k e = grind (arith, nat_tests)
 
@@ -115,7 +112,7 @@ first_entry {b = b} {down = down} {at = at} {i = i} (lower first last nodes entr
       left = rw z at p.1;
       stands = p.0;
       named = rw e.offset_is (linkable-in b (tiles b) vxr_type (link_to nodes) link);
-      chain = chain_is b at i six ∙ e.offset_is;
+      chain = rw six e.offset_is;
       adds = rw (← e.first_is, ← e.last_is) (grind (arith, nat_tests));
       of_block = λ n. absurd (n six);
       of_lower = λ t. (e.offset_is, refl, λ rec. refl);

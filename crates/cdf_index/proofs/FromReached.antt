@@ -19,13 +19,9 @@ pub data Rest : Nodes → Nodes → Type 0 where
   whole : {ns : Nodes} → Rest ns ns
   behind : {place room : ℕ} {es : Entries} {s more : Nodes} → Rest s more → Rest s (node place room es more)
 
-rest_node : {s ns : Nodes} → Rest s ns → IsNode s → IsNode ns
-rest_node whole is = is
-rest_node (behind r) is = tt
-
 pub rest_last : {s ns : Nodes} → Rest s ns → IsNode s → last_node s ≡ last_node ns
 rest_last whole is = refl
-rest_last (behind {more = no_node} r) is = absurd (rest_node r is)
+rest_last (behind {more = no_node} whole) is = absurd is
 rest_last (behind {more = node place room es more} r) is = rest_last r is
 
 pub rest_among : {s ns : Nodes} → Rest s ns → (m : ℕ) → In m (nodes_of s) → In m (nodes_of ns)

@@ -16,10 +16,8 @@ used_stays b now at n c room = λ i. counts (front_stays b now at 28 n c room 24
 pub inside_stays : (b now : List ℕ) (at n : ℕ) → Changed b now (touch at 28 n ∷ []) → length now ≡ length b → NodeInside b at → NodeInside now at
 inside_stays b now at n c long i =
     let h = node_head i in
-    let r = room_stays b now at n c h in
-    let u = used_stays b now at n c h in
     let s : size_at now at ≡ size_at b at = front_stays b now at 28 n c h 0 8 (omega arith) in
-    record { low = i.low; inside = omega (arith, i.inside); room = omega (arith, i.room); entries = omega (arith, i.entries); fits = omega (arith, i.fits) }
+    grind (arith, i, room_stays b now at n c h, used_stays b now at n c h)
 
 -- what one more entry leaves, where entries of a node alone were written before
 pub record SetMore (b mid now : List ℕ) (at i : ℕ) : Type 0 where

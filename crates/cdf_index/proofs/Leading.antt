@@ -4,7 +4,7 @@ use Rattle.cdf_index.proofs.EntriesCut.{Parted, one_more, parted_all}
 use Rattle.cdf_index.proofs.EntriesLeft.{EntriesLeft, past_first, past_lower_one}
 use Rattle.cdf_index.proofs.Coming.{not_reached}
 use Rattle.cdf_index.proofs.OrderLemmas.{end_after}
-use Rattle.cdf_index.proofs.FirstEntry.{block_no_node, chain_is, no_chain, node_linkable}
+use Rattle.cdf_index.proofs.FirstEntry.{block_no_node, no_chain, node_linkable}
 
 -- the lower chain that the last of them names, none where it names a block; this one where there are none
 abbrev pub lead : ℕ → Nodes → Entries → Nodes
@@ -88,7 +88,7 @@ below b f levels at k m low high before (lower first last nodes es) s w e =
     let p = past_lower_one s.left in
     let tree : IsTree b levels nodes = record { stands = p.0; is_node = s.left.names.0; once = Distinct-front (nodes_of nodes) (lower_nodes es) s.once; from = first; upto = last; order = s.order.3 } in
     let r = below b f levels at (suc k) m (suc last) high nodes es (record { left = p.1; once = Distinct-back (nodes_of nodes) (lower_nodes es) s.once; order = s.order.4 })
-    (record { link = chain_is b at k (ap (type_at b) s.left.say.0.offset_is ∙ type) ∙ s.left.say.0.offset_is; tree = λ x. tree }) in
+    (record { link = rw (ap (type_at b) s.left.say.0.offset_is ∙ type) s.left.say.0.offset_is; tree = λ x. tree }) in
     elim (either (leb first f)) [ inl t ↦ rw t (r (omega (arith, rw t at e))) | inr t ↦ let z : m ≡ k = omega (arith, rw t at e) in rw (t, z) w ]
 
 begun_is : (b : List ℕ) (at f k n : ℕ) (es : Entries) → SayEntries b at k es → Parted (λ j. first_at b at j ≤ f) (λ j. f < first_at b at j) k n (entry_count es) → n ≡ begun_in f es

@@ -1,5 +1,5 @@
 -- An index with a leaf more keeps the rules: its entries are in order, its nodes have room for theirs, and each leaf has a block.
-use Rattle.cdf_index.proofs.Common.{AreInOrder, Bool, Each, Each-split, Entries, Hold, Hold-append, Hold-split, In, InOrder, IsOneOf, Leaf, List, Nodes, None, [], ap, arith, before_is, before_number, block, chain_reaches, covers, either, end_of, entry_count, entry_firsts, entry_leaves, eqb, eqb-true, false, filter, find, firsts_of, flat_map, fold, inl, inr, is_between, is_block, le-ltb, leads_down, leaf_rows, leaves_of, leb, leb-false, leb-true, lower, lower_nodes, lt-ltb, ltb, max, nat_lt, nat_tests, negsuc, next_first, no_entry, no_node, node, nodes_of, nodes_rows, number_before, or_parts, past, past_entries, pos, range, reaches, record_number_limit, refl, signed, subst, suc, sym, true, true≢false, used_rows, with_block, with_both, with_entry, with_leaf, with_sign, ℕ, ℤ, ◌+◌, ◌<◌, ◌∙◌, ◌∷◌, ◌≡◌, ◌≤◌}
+use Rattle.cdf_index.proofs.Common.{append_assoc, ◌++◌, AreInOrder, Bool, Each, Each-split, Entries, Hold, Hold-append, Hold-split, In, InOrder, IsOneOf, Leaf, List, Nodes, None, [], ap, arith, before_is, before_number, block, chain_reaches, covers, either, end_of, entry_count, entry_firsts, entry_leaves, eqb, eqb-true, false, filter, find, firsts_of, flat_map, fold, inl, inr, is_between, is_block, le-ltb, leads_down, leaf_rows, leaves_of, leb, leb-false, leb-true, lower, lower_nodes, lt-ltb, ltb, max, nat_lt, nat_tests, negsuc, next_first, no_entry, no_node, node, nodes_of, nodes_rows, number_before, or_parts, past, past_entries, pos, range, reaches, record_number_limit, refl, signed, subst, suc, sym, true, true≢false, used_rows, with_block, with_both, with_entry, with_leaf, with_sign, ℕ, ℤ, ◌+◌, ◌<◌, ◌∙◌, ◌∷◌, ◌≡◌, ◌≤◌}
 use Rattle.std.proofs.Common.{min}
 use Rattle.std.proofs.lemmas.Bool.{cases_lt}
 use Rattle.cdf_format.specs.IndexRules.{has_room, index_rows}
@@ -109,11 +109,11 @@ front_ends f low high given (lower first last nodes es) o d g u = elim (either (
   | inr t ↦ rw t (g (rw t at d))
 ]
 
-firsts_both : (f last : ℕ) (es fs : Entries) → NoneBegins f last (entry_firsts (with_both es fs)) → NoneBegins f last (entry_firsts fs)
+pub firsts_both : (es fs : Entries) → entry_firsts (with_both es fs) ≡ entry_firsts es ++ entry_firsts fs
 unfolding entry_firsts
-firsts_both f last no_entry fs n = n
-firsts_both f last (block first last' place packed es) fs n = firsts_both f last es fs n.1
-firsts_both f last (lower first last' nodes es) fs n = firsts_both f last es fs (Each-split (BeginsBehind f last) (firsts_of nodes) (entry_firsts (with_both es fs)) n.1).1
+firsts_both no_entry fs = refl
+firsts_both (block first last place packed es) fs = ap (λ (xs : List ℕ). first ∷ xs) (firsts_both es fs)
+firsts_both (lower first last nodes es) fs = rw (firsts_both es fs, append_assoc) refl
 
 order_with_entry : (new : Leaf) (at place room low high : ℕ) (es : Entries) (more : Nodes) → InOrder low high (node place room es more) → leads_down new.first false es ≡ false → chain_reaches new.first more ≡ false
     → low ≤ new.first → new.first ≤ new.last → new.last ≤ high → Uncovered new.first (entry_leaves es) → NoneBegins new.first new.last (entry_firsts es) → NoneBegins new.first new.last (firsts_of more) → InOrder low high (with_entry new at place room es more)
@@ -125,7 +125,7 @@ order_with_entry new at place room low high es more o d c l k h u n n' =
     let whole = front_past f es in
     let parts = parts_in_order low high fr bk (rw whole o.0) in
     let ends = front_ends f low high false es o.0 d (λ e. l) u in
-    let back = raised_entries f new.last (past_entries low fr) (suc new.last) high bk parts.1 (none_reached f low high es o.0) (firsts_both f new.last fr bk (rw whole n)) (omega arith) in
+    let back = raised_entries f new.last (past_entries low fr) (suc new.last) high bk parts.1 (none_reached f low high es o.0) (Each-split (BeginsBehind f new.last) (entry_firsts fr) (entry_firsts bk) (rw (← firsts_both fr bk, whole) n)).1 (omega arith) in
     let past_is : past_entries low es ≡ past_entries (past_entries low fr) bk = ap (past_entries low) (sym whole) ∙ past_both low fr bk in
     let rest = raised f new.last (past_entries low es) (past_entries (suc new.last) bk) high more o.1 c n' (omega (arith, past_is, past_most (past_entries low fr) (suc new.last) bk)) in
     elim (either (ltb (entry_count es) room)) [
@@ -153,7 +153,7 @@ order_come {new = new} (comes_below {more = more} fs first last nodes nodes' es 
     let us = Each-split (Misses new.first) (entry_leaves whole) (leaves_of more) u in
     let ns = Each-split (BeginsBehind new.first new.last) (entry_firsts whole) (firsts_of more) n in
     let ul = Each-split (Misses new.first) (leaves_of nodes) (entry_leaves es) (Each-split (Misses new.first) (entry_leaves fs) (entry_leaves (lower first last nodes es)) (subst (Uncovered new.first) (leaves_both fs (lower first last nodes es)) us.0)).1 in
-    let nl = Each-split (BeginsBehind new.first new.last) (firsts_of nodes) (entry_firsts es) (firsts_both new.first new.last fs (lower first last nodes es) ns.0).1 in
+    let nl = Each-split (BeginsBehind new.first new.last) (firsts_of nodes) (entry_firsts es) (Each-split (BeginsBehind new.first new.last) (entry_firsts fs) (entry_firsts (lower first last nodes es)) (rw (← firsts_both fs (lower first last nodes es)) ns.0)).1.1 in
     let wide = max last new.last in
     let inner = order_come c first wide (widened first first last wide nodes (omega arith) (omega arith) p.1.3) le k (omega arith) ul.0 nl.0 in
     let rest = raised_entries new.first new.last (suc last) (suc wide) high es p.1.4 r nl.1 (omega arith) in

@@ -27,10 +27,9 @@ named_at {b = b} {at = at} k zero m e entries l lt = let z : k ≡ m = omega ari
 named_at k (suc n) m e entries l lt = let f = first_entry entries l (omega arith) in named_at (k + 1) n m (omega arith) f.rest f.left (omega (arith, f.adds.many))
 
 pub names_in : (b : List ℕ) (at : ℕ) → SomeNode b at → NamesIn b at
-names_in b at n = λ j lt.
-    (let o = node_opened n in
-    let lies = tile_lies b 8 (length b) (tiles b) (offset_at b at j) n.tiled (named_at 0 j j (omega arith) o.entries o.parts.left (omega (arith, o.parts.says.used_is))) in
-    omega (arith, lies.high, lies.long))
+names_in b at n j lt =
+    let o = node_opened n in
+    omega (arith, tile_lies b 8 (length b) (tiles b) (offset_at b at j) n.tiled (named_at 0 j j (omega arith) o.entries o.parts.left (omega (arith, o.parts.says.used_is))))
 
 -- its Firsts ascend, and its Lasts
 pub node_firsts : (b : List ℕ) (at used : ℕ) → SomeNode b at → used ≡ used_count b at → Ascends b at 28 used
@@ -42,9 +41,7 @@ node_lasts b at room used n r u = rw (r, u) (node_opened n).here.lasts
 pub node_inside : (b : List ℕ) (at : ℕ) → SomeNode b at → NodeInside b at
 node_inside b at n =
     let o = node_opened n in
-    let lies = tile_lies b 8 (length b) (tiles b) at n.tiled (linkable-in b (tiles b) vxr_type at o.parts.says.linkable) in
-    let fits = o.here.fits in
-    record { low = lies.low; inside = lies.high; room = omega (arith, lies.high); entries = fits.0; fits = fits.1 }
+    grind (arith, tile_lies b 8 (length b) (tiles b) at n.tiled (linkable-in b (tiles b) vxr_type at o.parts.says.linkable), o.here.fits)
 
 -- ---- from the node at which a search is
 

@@ -55,16 +55,12 @@ module _ (b : List ℕ) (tiled : AreTiles b 8 (length b) (tiles b)) (short : len
     few_in zero (node place room entries more) st = absurd st.has
     few_in (suc levels) (node place room entries more) st =
         let p = node_parts st in
-        let lies = tile_lies b 8 (length b) (tiles b) place tiled (linkable-in b (tiles b) 6 place p.says.linkable) in
-        let fits = st.orderly.0.fits in
-        omega (arith, fits.0, fits.1, lies.high, p.says.used_is, few_below levels place 0 entries p.left, few_in (suc levels) more p.more_stands, length-append (lower_nodes entries) (nodes_of more))
+        omega (arith, st.orderly.0.fits, tile_lies b 8 (length b) (tiles b) place tiled (linkable-in b (tiles b) 6 place p.says.linkable), p.says.used_is, few_below levels place 0 entries p.left, few_in (suc levels) more p.more_stands, length-append (lower_nodes entries) (nodes_of more))
 
     few_below : (levels at i : ℕ) (entries : Entries) → EntriesLeft b levels at i entries → entries_below entries ≤ length (lower_nodes entries) * most
     few_below levels at i no_entry l = omega arith
     few_below levels at i (block first last place packed entries) l = few_below levels at (suc i) entries (past_first l)
-    few_below levels at i (lower first last nodes entries) l =
-        let p = past_lower_one l in
-        omega (arith, few_in levels nodes p.0, few_below levels at (suc i) entries p.1, length-append (nodes_of nodes) (lower_nodes entries))
+    few_below levels at i (lower first last nodes entries) l = omega (arith, few_in levels nodes (past_lower_one l).0, few_below levels at (suc i) entries (past_lower_one l).1, length-append (nodes_of nodes) (lower_nodes entries))
 
 pub measured_is : (b : List ℕ) (head : ℕ) → HasIndex b head → length b ≤ image_limit → (size : IndexSize) → Counts size (met_in (index_at b head)) → size ≡ size_of (index_at b head)
 measured_is b head has short size c =

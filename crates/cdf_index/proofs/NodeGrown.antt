@@ -1,5 +1,5 @@
 -- A node with one entry more, or it and a new node behind it, in the tree.
-use Rattle.cdf_index.proofs.Common.{rules, Begins, Chained, Entries, HasNodes, Inserted, IsNode, Leaf, List, MayName, Names, Nodes, Owed, SameHeads, SayEntries, SaysEntry, SaysNode, Split, StillSays, ap, arith, entry_count, is_linkable, le-ltb, length, link_to, linkable_kept, lt-ltb, max, next_of, no_entry, node, past, placed, room_at, suc, sym, true, used_count, vxr_type, with_block, with_both, ℕ, ◌*◌, ◌+◌, ◌-◌, ◌<◌, ◌∙◌, ◌≡◌, ◌≤◌}
+use Rattle.cdf_index.proofs.Common.{rules, Begins, Chained, Entries, HasNodes, Inserted, Leaf, List, MayName, Names, Nodes, Owed, SameHeads, SayEntries, SaysEntry, SaysNode, Split, StillSays, ap, arith, entry_count, is_linkable, le-ltb, length, link_to, linkable_kept, lt-ltb, max, next_of, no_entry, node, past, placed, room_at, suc, sym, true, used_count, vxr_type, with_block, with_both, ℕ, ◌*◌, ◌+◌, ◌-◌, ◌<◌, ◌∙◌, ◌≡◌, ◌≤◌}
 use Rattle.cdf_index.proofs.Inserting.{front_stays}
 use Rattle.cdf_index.proofs.Saying.{front, front_past, upto_both, upto_is, count_both, say_both, say_parts, names_both, names_parts, say_moved}
 use Rattle.std.proofs.lemmas.Bool.{ne_eqb, eq-eqb}
@@ -23,12 +23,6 @@ record Parts (b now records : List ℕ) (levels at f used p : ℕ) (es : Entries
   pub names_none : Names now records levels no_entry
   pub names_past : Names now records levels (past f es)
 
-pub placed_link : (l : Leaf) (new at room : ℕ) (es : Entries) (more : Nodes) → link_to (placed l new at room es more) ≡ at
-placed_link l new at room es more = grind arith
-
-pub placed_node : (l : Leaf) (new at room : ℕ) (es : Entries) (more : Nodes) → IsNode (placed l new at room es more)
-placed_node l new at room es more = grind arith
-
 module _ (b now records records' : List ℕ) (heads : SameHeads b now records records') (at new used p : ℕ) (l : Leaf) (used_is : used ≡ used_count b at) (begins : Begins b at l.first p) (names : MayName now records' l) where
   parts : (levels r : ℕ) (es : Entries) (more : Nodes) → SaysNode b records at r es more → Names now records' levels es → Parts b now records' levels at l.first used p es
   parts levels r es more h n =
@@ -42,6 +36,10 @@ module _ (b now records records' : List ℕ) (heads : SameHeads b now records re
       let z : 0 + entry_count fr ≡ p = omega arith in
       let all = sym (used_is ∙ h.used_is) in
       record { front_count = omega arith; count = e ∙ all; all = all; say_front = q.0; say_past = rw z at q.1; names_front = k.0; names_none = (names_parts now records' levels no_entry es n).0; names_past = k.1 }
+
+  -- what is owed, where the new image has what stands there now
+  placed_owed : ((levels r : ℕ) (es : Entries) (more : Nodes) → SaysNode b records at r es more → Names now records' levels es → HasNodes now records' (suc levels) more → HasNodes now records' (suc levels) (placed l new at r es more)) → Owed b now records records' at (placed l new at)
+  placed_owed stands = record { same_link = λ r es more. grind arith; is_node = λ r es more. grind arith; stands = stands }
 
   -- the node with the first of its entries, which stay, then the leaf, and others behind it
   fed_has : (levels r : ℕ) (es : Entries) (more : Nodes) → SaysNode b records at r es more → Parts b now records' levels at l.first used p es → (rest : Entries) (behind : Nodes) → next_of now at ≡ link_to behind → room_at now at ≡ room_at b at → used_count now at ≡ suc p + entry_count rest
@@ -59,16 +57,12 @@ module _ (b now records records' : List ℕ) (heads : SameHeads b now records re
   module _ (fits : used < room_at b at) (ins : Inserted b now at used p l.first l.last l.place) (inside : at + 28 ≤ length b) where
     -- the new image has the node with one entry more, and all else of the tree
     pub grown_owed : Owed b now records records' at (placed l new at)
-    grown_owed = record {
-      same_link = placed_link l new at;
-      is_node = placed_node l new at;
-      stands = λ levels r es more h n m. (
-          let q = parts levels r es more h n in
-          let bk = past l.first es in
-          let test = lt-ltb (entry_count es) r (omega (arith, q.all, h.room_is)) in
-          let last = say_moved b now at at p (suc p) bk q.say_past (λ n m f k o e le lt says. (let x : suc n ≡ m = omega arith in rw x at (ins.later n le (omega (arith, q.count)) f k o says))) in
-          rw (test, upto_both l es bk) (fed_has levels r es more h q bk more (front_stays b now at 24 (4 + 16 * room_at b at) ins.changed (omega arith) 12 8 (omega arith) ∙ h.next_is) ins.room_stays (ins.used_is ∙ omega (arith, q.count)) ins.earlier ins.here last q.names_past m));
-    }
+    grown_owed = placed_owed (λ levels r es more h n m. (
+        let q = parts levels r es more h n in
+        let bk = past l.first es in
+        let test = lt-ltb (entry_count es) r (omega (arith, q.all, h.room_is)) in
+        let last = say_moved b now at at p (suc p) bk q.say_past (λ n m f k o e le lt says. (let x : suc n ≡ m = omega arith in rw x at (ins.later n le (omega (arith, q.count)) f k o says))) in
+        rw (test, upto_both l es bk) (fed_has levels r es more h q bk more (front_stays b now at 24 (4 + 16 * room_at b at) ins.changed (omega arith) 12 8 (omega arith) ∙ h.next_is) ins.room_stays (ins.used_is ∙ omega (arith, q.count)) ins.earlier ins.here last q.names_past m)))
 
   -- ---- a full node
 
@@ -76,30 +70,23 @@ module _ (b now records records' : List ℕ) (heads : SameHeads b now records re
     module _ (sp : Split b now at new used p l.first l.last l.place) (behind : p < used) where
       -- the new image has the two nodes, and all else of the tree
       pub split_owed : Owed b now records records' at (placed l new at)
-      split_owed = record {
-        same_link = placed_link l new at;
-        is_node = placed_node l new at;
-        stands = λ levels r es more h n m. (
-            let q = parts levels r es more h n in
-            let bk = past l.first es in
-            let test = le-ltb (entry_count es) r (omega (arith, q.all, h.room_is)) in
-            let some = ne_eqb (entry_count bk) 0 (λ e. absurd (omega (arith, q.count))) in
-            let last = say_moved b now at new p 0 bk q.say_past (λ n m f o w e le lt says. (let x : n - p ≡ m = omega arith in rw x at (sp.moved n f o w le (omega (arith, q.count)) says))) in
-            rw (test, some, upto_is l es) (fed_has levels r es more h q no_entry (node new (max 7 (entry_count bk)) bk more) sp.next_is sp.room_stays (sp.used_is ∙ omega arith) sp.earlier sp.here tt q.names_none
-            (node_has now records' levels new (max 7 (entry_count bk)) bk more (record { linkable = fresh; next_is = sp.new_next ∙ h.next_is; room_is = sp.new_room ∙ ap (max 7) (omega (arith, q.count)); used_is = sp.new_used ∙ omega (arith, q.count); say_entries = last }) q.names_past m)));
-      }
+      split_owed = placed_owed (λ levels r es more h n m. (
+          let q = parts levels r es more h n in
+          let bk = past l.first es in
+          let test = le-ltb (entry_count es) r (omega (arith, q.all, h.room_is)) in
+          let some = ne_eqb (entry_count bk) 0 (λ e. absurd (omega (arith, q.count))) in
+          let last = say_moved b now at new p 0 bk q.say_past (λ n m f o w e le lt says. (let x : n - p ≡ m = omega arith in rw x at (sp.moved n f o w le (omega (arith, q.count)) says))) in
+          rw (test, some, upto_is l es) (fed_has levels r es more h q no_entry (node new (max 7 (entry_count bk)) bk more) sp.next_is sp.room_stays (sp.used_is ∙ omega arith) sp.earlier sp.here tt q.names_none
+          (node_has now records' levels new (max 7 (entry_count bk)) bk more (record { linkable = fresh; next_is = sp.new_next ∙ h.next_is; room_is = sp.new_room ∙ ap (max 7) (omega (arith, q.count)); used_is = sp.new_used ∙ omega (arith, q.count); say_entries = last }) q.names_past m))))
 
     module _ (ch : Chained b now at new used l.first l.last l.place) (last : p ≡ used) where
       pub chained_owed : Owed b now records records' at (placed l new at)
-      chained_owed = record {
-        same_link = placed_link l new at;
-        is_node = placed_node l new at;
-        stands = λ levels r es more h n m. (
-            let q = parts levels r es more h n in
-            let bk = past l.first es in
-            let test = le-ltb (entry_count es) r (omega (arith, q.all, h.room_is)) in
-            let empty : entry_count bk ≡ 0 = omega (arith, q.count) in
-            let says = say_moved b now at at 0 0 es h.say_entries (λ n m f o w e le lt says. (let x : n ≡ m = omega arith in rw x at (ch.stay n (omega (arith, q.all)) f o w says))) in
-            rw (test, eq-eqb (entry_count bk) 0 empty) (node_has now records' levels at r es (node new (max 7 (entry_count bk)) (with_block l no_entry) more) (search (rules, linkable_kept b now records records' heads vxr_type at h.linkable, ch.next_is, ch.room_stays ∙ h.room_is, ch.used_is ∙ used_is ∙ h.used_is, says)) n
-            (node_has now records' levels new (max 7 (entry_count bk)) (with_block l no_entry) more (record { linkable = fresh; next_is = ch.new_next ∙ h.next_is; room_is = ch.new_room ∙ ap (max 7) (sym empty); used_is = ch.new_used; say_entries = (ch.here, tt) }) (leaf_names now records' levels l no_entry names q.names_none) m)));
-      }
+      chained_owed = placed_owed (λ levels r es more h n m. (
+          let q = parts levels r es more h n in
+          let bk = past l.first es in
+          let test = le-ltb (entry_count es) r (omega (arith, q.all, h.room_is)) in
+          let empty : entry_count bk ≡ 0 = omega (arith, q.count) in
+          let room : room_at now new ≡ max 7 (entry_count bk) = ch.new_room ∙ ap (max 7) (sym empty) in
+          let says = say_moved b now at at 0 0 es h.say_entries (λ n m f o w e le lt says. (let x : n ≡ m = omega arith in rw x at (ch.stay n (omega (arith, q.all)) f o w says))) in
+          rw (test, eq-eqb (entry_count bk) 0 empty) (node_has now records' levels at r es (node new (max 7 (entry_count bk)) (with_block l no_entry) more) (search (rules, linkable_kept b now records records' heads vxr_type at h.linkable, ch.next_is, ch.room_stays ∙ h.room_is, ch.used_is ∙ used_is ∙ h.used_is, says)) n
+          (node_has now records' levels new (max 7 (entry_count bk)) (with_block l no_entry) more (record { linkable = fresh; next_is = ch.new_next ∙ h.next_is; room_is = room; used_is = ch.new_used; say_entries = (ch.here, tt) }) (leaf_names now records' levels l no_entry names q.names_none) m))))

@@ -1,5 +1,5 @@
 -- What the calls ask for that add a leaf, and what they leave.
-use Rattle.cdf_leaves.proofs.Common.{AddsLeaf, AreTiles, Begins, Bool, ChainInside, ChainMade, Chained, Changed, Comes, Distinct, Each, Each-append, Each-map, Entry, EntryPut, Field, FieldSet, Good, Grew, HasIndex, HasNodes, In, IndexStarted, IndexTouch, Inserted, IsAmong, IsWay, Kept, Kind, Leaf, List, MayName, MayPut, NodeFits, NodeMade, Nodes, Owed, Placed, SameHeads, SameNode, SplitMade, StandsAmong, Step, StepSays, StepStands, StillSays, VariableShape, WayStands, WidenedAlong, [], ap, apart, arith, begins_by, bytes_eq, cases_eq, cases_lt, chain_end, changed_then, changed_wider, comes, entries_beside, entry, eof, false, field_set, front_stays, gdr_offset, gdr_type, grew, has, heads_stay, image_limit, index_at, inl, inr, is_linkable, kept_then, last_node, leaf, leaves_of, length, link_to, linkable-from, long, lt-leb, made, map, max, new_room, no_zero, node_head, nodes_of, nothing_changed, number, number_kept, others_stay, placed, places_of, record_number_limit, redo, redone, refl, room_at, rules, same_node, shape, size_at, sound, spot, step_pair, subst, sym, tile_lies, tiles_same, top_chain, touch, true, type_of_body, uir_type, used_count, variables, vdr_vxr_head, vdr_vxr_tail, vdrs, vvr_type, vxr_bytes, vxr_type, vxr_vxr_next, way, widen_all, widest, with_field, with_leaf, ℕ, ◌*◌, ◌++◌, ◌+◌, ◌-◌, ◌<◌, ◌∙◌, ◌∷◌, ◌≡◌, ◌≢◌, ◌≤◌, ◌⊎◌}
+use Rattle.cdf_leaves.proofs.Common.{AddsLeaf, AreTiles, Begins, Bool, ChainInside, ChainMade, Chained, Changed, Comes, Distinct, Each, Each-append, Each-map, Entry, EntryPut, Field, FieldSet, Good, Grew, HasNodes, In, IndexStarted, IndexTouch, Inserted, IsAmong, IsWay, Kept, Kind, Leaf, List, MayName, MayPut, NodeFits, NodeMade, Nodes, Owed, Placed, SameHeads, SameNode, SplitMade, StandsAmong, Step, StepSays, StepStands, StillSays, VariableShape, WayStands, WidenedAlong, [], ap, apart, arith, begins_by, bytes_eq, cases_eq, cases_lt, chain_end, changed_then, changed_wider, comes, entries_beside, entry, eof, false, field_set, front_stays, gdr_offset, gdr_type, grew, has, heads_stay, image_limit, index_at, inl, inr, is_linkable, kept_then, last_node, leaf, leaves_of, length, link_to, linkable-from, long, lt-leb, made, map, max, new_room, no_zero, node_head, nodes_of, nothing_changed, number, number_kept, others_stay, placed, places_of, record_number_limit, redo, redone, refl, room_at, rules, same_node, shape, size_at, sound, spot, step_pair, subst, sym, tile_lies, tiles_same, top_chain, touch, true, type_of_body, uir_type, used_count, variables, vdr_vxr_head, vdr_vxr_tail, vdrs, vvr_type, vxr_bytes, vxr_type, vxr_vxr_next, way, widen_all, widest, with_field, with_leaf, ℕ, ◌*◌, ◌++◌, ◌+◌, ◌-◌, ◌<◌, ◌∙◌, ◌∷◌, ◌≡◌, ◌≢◌, ◌≤◌, ◌⊎◌}
 use Rattle.cdf_edits.proofs.Edits.RecordGrown as of_grown
 use Rattle.cdf_edits.proofs.Edits.StandsAmong.{name_room}
 use Rattle.cdf_format.proofs.NameRules.{bytes_eq-same}

@@ -3,7 +3,6 @@ use Rattle.cdf_leaves.proofs.Common.{AreTiles, ChainInside, Comes, Distinct, Dis
 use Rattle.std.specs.List.{last_or}
 use Rattle.cdf_format.proofs.Members.{length-le_from_distinct}
 use Rattle.cdf_format.proofs.TilesLemmas.{length_tiles}
-use Rattle.cdf_index.proofs.NodeGrown.{placed_link, placed_node}
 
 -- ---- in the tree
 
@@ -19,7 +18,7 @@ top_grown comes_first some = absurd (some refl)
 top_grown (comes_along {place = place} t c) some = let r = top_grown c some in record { link_is = refl; is_node = tt; stays = λ h. ap (λ (xs : List ℕ). place ∷ xs) (r.stays h); grows = λ e n. ap suc (r.grows e n) }
 top_grown (comes_below fs first last nodes nodes' es t le r c) some = record { link_is = refl; is_node = tt; stays = λ h. refl; grows = λ e. absurd (cc) }
 top_grown {l = l} {at = at} (comes_here {place = place} {room = room} {es = es} {more = more} t d) some =
-    record { link_is = placed_link l at place room es more; is_node = placed_node l at place room es more; stays = λ h. elim h [ inl z ↦ grind arith | inr ne ↦ absurd (ne refl) ]; grows = λ e n. grind arith }
+    record { link_is = grind arith; is_node = grind arith; stays = λ h. elim h [ inl z ↦ grind arith | inr ne ↦ absurd (ne refl) ]; grows = λ e n. grind arith }
 
 -- ---- in the bytes
 

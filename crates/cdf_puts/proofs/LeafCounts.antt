@@ -1,8 +1,9 @@
 -- What a leaf more makes of the nodes, the Firsts and the leaves of an index, and of how wide its nodes are and which room they have.
-use Rattle.cdf_puts.proofs.Common.{past, Bool, Each, Each-split, Entries, Grows, HasNodes, In, InOrder, IsOneOf, Leaf, List, Names, NodeFits, Nodes, [], ap, append_assoc, arith, block, by_leaf, entry_count, entry_firsts, false, filter, firsts_of, fold, if◌then◌else◌, inl, inr, le-ltb, leaves_more, leaves_of, lower, lower_nodes, max, min, nat_lt, next_first, no_entry, no_node, node, nodes_of, places_of, record_number_limit, refl, room_at, suc, sym, times, times-append, weigh, weigh_below, weight_grows, widest, widest_below, with_both, with_leaf, with_new, zero, ℕ, ◌++◌, ◌+◌, ◌==◌, ◌∙◌, ◌∷◌, ◌≡◌, ◌≤◌, ◌⊎◌, ◌&&◌, nat_tests, In-append, append-nil}
+use Rattle.cdf_puts.proofs.Common.{past, Bool, Each, Each-split, Entries, Grows, HasNodes, In, InOrder, IsOneOf, Leaf, List, Names, NodeFits, Nodes, [], ap, append_assoc, arith, block, by_leaf, entry_count, entry_firsts, false, filter, firsts_of, fold, if◌then◌else◌, inl, inr, le-ltb, leaves_more, leaves_of, lower, lower_nodes, max, min, nat_lt, next_first, no_entry, no_node, node, nodes_of, places_of, record_number_limit, room_at, suc, sym, times, times-append, weigh, weigh_below, weight_grows, widest, widest_below, with_both, with_leaf, with_new, zero, ℕ, ◌+◌, ◌==◌, ◌∷◌, ◌≡◌, ◌≤◌, ◌⊎◌, ◌&&◌, nat_tests, In-append, append-nil}
 use Rattle.std.proofs.lemmas.List.Elements.{filter-append}
 use Rattle.cdf_index.proofs.Measured.{seven_at_least}
 unfoldable use Rattle.cdf_edits.specs.Index.Grown.{new_room, new_room_below}
+use Rattle.cdf_index.proofs.LeafRules.{firsts_both}
 use Rattle.cdf_index.proofs.Saying.{count_both, front, front_past}
 
 -- ---- a node keeps its room
@@ -32,12 +33,6 @@ room_stays b now records records' levels levels' new at m index h h' i =
     (rooms_in now records' m (room_at b m) levels' (with_leaf new at index) h').1 (omega (arith, by_leaf (weight_grows (with_room m (room_at b m)) new at) index))
 
 -- ---- the Firsts, and the least of them past a record
-
-firsts_both : (es fs : Entries) → entry_firsts (with_both es fs) ≡ entry_firsts es ++ entry_firsts fs
-unfolding entry_firsts
-firsts_both no_entry fs = refl
-firsts_both (block first last place packed es) fs = ap (λ (xs : List ℕ). first ∷ xs) (firsts_both es fs)
-firsts_both (lower first last nodes es) fs = ap (λ (xs : List ℕ). first ∷ xs) (ap (λ (xs : List ℕ). firsts_of nodes ++ xs) (firsts_both es fs) ∙ sym (append_assoc (firsts_of nodes) (entry_firsts es) (entry_firsts fs)))
 
 -- those that pass a test stay, where the new one does not pass it
 firsts_grow : (new : Leaf) (at : ℕ) (p : ℕ → Bool) → p new.first ≡ false → Grows new at (λ n a a'. filter p (firsts_of a') ≡ filter p (firsts_of a)) (λ n es es'. filter p (entry_firsts es') ≡ filter p (entry_firsts es))
