@@ -35,8 +35,6 @@ pub bound_is : (index : Nodes) (k : ℕ) (next : Option ℕ) → next ≡ least_
 bound_is index k next e = grind (arith, nat_tests, e, least_below (record_number_limit + 1) (filter (ltb k) (firsts_of index)))
 
 -- a new block ends at its record, or where it is full, or before the next First
-pub one_alone : (v : Variable) (fs : List ℕ) (k : ℕ) → ltb k (extent v.max_rec) ≡ true → (new_range v fs k).last ≡ k
-one_alone v fs k t = rw t refl
 
 abbrev pub Ends : ℕ → ℕ → ℕ → ℕ → Type 0
 Ends k next most last = (k ≤ last) × (last < next) × (last + 1 - k ≤ most)

@@ -145,7 +145,7 @@ module _ {b now : List ℕ} {kind : Kind} {before : List VariableShape} {own : V
   node_touched : (t : Touch) → NodeTouch w.roomy own room at t → In t.tile all_nodes × (t.place + t.width ≤ size_at w.roomy t.tile)
   node_touched t (inl n) = (In-append_right t.tile (new_nodes room at) nodes n.0, omega (arith, n.1, as_before t.tile n.0, (node_fits good among t.tile n.0).0))
   node_touched t (inr n) =
-      let i = subst (λ (m : ℕ). In m (new_nodes room at)) (sym n.1) (is_new_node room at n.0) in
+      let i : In t.tile (new_nodes room at) = rw n.1 (is_new_node room at n.0) in
       (In-append_left t.tile (new_nodes room at) nodes i, omega (arith, n.2, (new_node t.tile i).size_is))
 
   -- a touch is marked by the record in which it is
@@ -161,8 +161,7 @@ module _ {b now : List ℕ} {kind : Kind} {before : List VariableShape} {own : V
   touch_marked t (inr x) =
       let n = node_touched t x.1 in
       let m = node_there t.tile n.0 in
-      let far = tile_lies w.roomy 8 (length w.roomy) records' t.tile taking.grows.sound.has_shape.tiled m.0 in
-      marked t m.0 n.1 x.0 (inr (inl (record { typed = m.1; lies = n.0; low = x.0; high = omega (arith, n.1) })))
+      marked t m.0 n.1 x.0 (inr (inl (record { typed = m.1; lies = n.0; low = x.0; high = omega (arith, n.1, tile_lies w.roomy 8 (length w.roomy) records' t.tile taking.grows.sound.has_shape.tiled m.0) })))
 
   all_marked : Each (Marked w.roomy records' entries []) w.touches
   all_marked = Each-map (IndexTouch w.roomy own room at) (Marked w.roomy records' entries []) touch_marked w.touches w.within
