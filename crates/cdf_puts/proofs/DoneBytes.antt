@@ -90,12 +90,9 @@ module _ {b now last : List ℕ} {kind : Kind} {before : List VariableShape} {ow
   tops = bytes_eq (top_chain own.index) (top_chain own'.index)
 
   top_test : top_stays acts own.index own.index own'.index ≡ tops
-  top_test = grind (
-    arith,
-    bytes_eq-same (top_chain own.index),
-    λ (e : tops ≡ true).
-        none_taken_in acts (top_chain own'.index) (λ m i. so.index.nodes.apart m (chain_in own.index m (subst (In m) (sym (same_of_bytes_eq (top_chain own.index) (top_chain own'.index) e)) i))),
-  )
+  top_test =
+      let none = λ (e : tops ≡ true). none_taken_in acts (top_chain own'.index) (λ m i. so.index.nodes.apart m (chain_in own.index m (subst (In m) (sym (same_of_bytes_eq (top_chain own.index) (top_chain own'.index) e)) i))) in
+      grind (arith, bytes_eq-same (top_chain own.index), none)
 
   -- ---- the whole
 
@@ -156,7 +153,7 @@ module _ {b now last : List ℕ} {kind : Kind} {before : List VariableShape} {ow
 
   pub put_content : (bytes : List ℕ) → turned (type_of_variable b own.vdr) (is_little b) raw ≡ bytes → (most < r → turned (type_of_variable b own.vdr) (is_little b) pad ≡ pad_record v) → content last ≡ with_variable (content b) (own_found b kind before own) (with_record v r bytes)
   put_content bytes raw_is pad_stored =
-      let first_is : first ≡ min r most = ap (λ (s : Sparse). if is_sparse s then r else min r most) so.start.no_rule in
+      let first_is : first ≡ min r most = rw so.start.no_rule refl in
       let turn = turned (type_of_variable b own.vdr) (is_little b) in
       let stores : StoresPut b last own.vdr own.vdr olds leaves r bytes (pad_record v) = record {
         typed = type_alike put.file (stays_alike put.file (stays so.start.good so.start.among put.descriptor));
@@ -247,8 +244,7 @@ module _ {b now last : List ℕ} {kind : Kind} {before : List VariableShape} {ow
     blocks : (l : Leaf) → IsOneOf leaves l → is_changed v r (ranges_of own.index) l ≡ true → BlockFollows b last v.rle own'.vdr (was_leaf olds l) acts l
     blocks l i changed =
         let x = last_plain l i in
-        let count = count_is l x.small x.ordered in
-        let end : block_end last own'.vdr l ≡ 12 + (l.last + 1 - l.first) * size = rw (x.plain, count, size_last) refl in
+        let end : block_end last own'.vdr l ≡ 12 + (l.last + 1 - l.first) * size = rw (x.plain, count_is l x.small x.ordered, size_last) refl in
         record {
           packed = λ e. absurd (true≢false (sym e ∙ so.start.loose));
           spare = elim (all.new l i) [
@@ -293,9 +289,9 @@ module _ {b now last : List ℕ} {kind : Kind} {before : List VariableShape} {ow
       puts_named : OfVariable b last name (λ found v v'. PutsRecord b last found.kind found.variable r v v' acts)
       puts_named found' x x' is =
           let q : found ≡ found' = same_Some found found' (sym named ∙ is.named) in
-          let was : own ≡ x = same_Some own x (sym was_there ∙ ap (λ (f : Found). slice_get (shapes_of (shape b) f.kind) f.number) q ∙ is.before) in
-          let now_is : own' ≡ x' = same_Some own' x' (sym (ap (λ (vs : List VariableShape). slice_get vs (length before)) put.among.was ∙ got-middle before own' after) ∙ ap (λ (f : Found). slice_get (shapes_of (shape last) f.kind) f.number) q ∙ is.after) in
-          transport (λ i. PutsRecord b last (q i).kind (q i).variable r (was i) (now_is i) acts) (record { index = index_done; bytes = bytes_done; r_max_rec = last_r_max_rec so done })
+          let was : own ≡ x = same_Some own x (sym was_there ∙ (rw (← q) at is.before)) in
+          let now_is : own' ≡ x' = same_Some own' x' (sym (got-middle before own' after) ∙ (rw (← q, put.among.was) at is.after)) in
+          rw (← q, ← was, ← now_is) (record { index = index_done; bytes = bytes_done; r_max_rec = last_r_max_rec so done })
 
       module _ (bytes : List ℕ) (raw_is : turned (type_of_variable b own.vdr) (is_little b) raw ≡ bytes) (pad_is : extent (max_rec_at b own.vdr) < r → turned (type_of_variable b own.vdr) (is_little b) pad ≡ pad_record v) where
         follows_by : (c : Command) → only_reads c ≡ false → step (content b) c ≡ ByStep (Go (with_variable (content b) found (with_record v r bytes)) replies.Plain) → room b c ≡ put_room v own.index r → allowances b (content b) (shape b) c ≡ put_changes b (shape b) found r → Does b c last acts → Follows b c last

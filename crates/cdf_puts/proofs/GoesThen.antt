@@ -141,7 +141,7 @@ module _ {b mid now : List ℕ} {kind : Kind} {before : List VariableShape} {own
     gdr_is = second.gdr_is ∙ first.gdr_is;
     attributes_are = second.attributes_are ∙ first.attributes_are;
     others_are = second.others_are ∙ first.others_are;
-    file = let f = first.file in let g = second.file in record { longer = omega arith; gdr_is = g.gdr_is ∙ f.gdr_is; little = g.little ∙ f.little; dimensions = g.dimensions ∙ f.dimensions; sizes = g.sizes ∙ f.sizes };
+    file = grind (arith, first.file, second.file);
     content_is = second.content_is ∙ ap (λ (d : DataSet). with_set d kind (length before) (variable_of now own'')) first.content_is ∙ with_twice (content b) kind (length before) (variable_of mid own') (variable_of now own'');
     follow = acts_joined h h' first.follow second.follow takes takes' first.listed second.listed;
     gdr = twice (shape b).gdr (r_max_rec_field kind ++ space_fields) first.gdr (subst (λ (m : ℕ). Stays mid now m (r_max_rec_field kind ++ space_fields)) first.gdr_is second.gdr);

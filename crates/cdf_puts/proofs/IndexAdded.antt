@@ -128,8 +128,7 @@ module _ {b now now' : List ℕ} {kind : Kind} {before : List VariableShape} {ow
   -- ---- the leaves that were put
 
   needs : (end : List ℕ) → record_bytes end own.vdr ≡ record_bytes b own.vdr → 8 + length body ≡ block_need end own.vdr new
-  needs end same =
-      grind (arith, count_is new small vacant.ordered, same, says.as_long, body_long body records holds)
+  needs end same = grind (arith, count_is new small vacant.ordered, same, says.as_long, body_long body records holds)
 
   puts_added : PutsBefore b own own'' (filter (was_put first upto) (leaves_of own''.index)) (acts ++ step)
   puts_added =

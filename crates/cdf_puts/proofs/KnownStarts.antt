@@ -42,8 +42,7 @@ pub known_yet : {b now : List ℕ} {new : NewRecord} {from k limit : ℕ} (known
 known_yet {b} {now} known some all is =
     let p = some.putting in
     let done = all some.kind some.before some.own some.after p in
-    let was = subst (λ (nodes : Nodes). InTopChain nodes known) (index_of b p.start.good p.start.among p.vdr_is) is in
-    subst (λ (nodes : Nodes). InTopChain nodes known) (sym (index_of now done.so.goes.good done.so.goes.among (done.so.goes.vdr_is ∙ p.vdr_is))) (tops_in some.own.index done.own'.index done.so.index.tops known was)
+    rw (index_of now done.so.goes.good done.so.goes.among (done.so.goes.vdr_is ∙ p.vdr_is)) (tops_in some.own.index done.own'.index done.so.index.tops known (rw (index_of b p.start.good p.start.among p.vdr_is) at is))
 
 -- ---- each variable
 
@@ -65,8 +64,7 @@ module _ {b : List ℕ} {starts : Starts} (knows : KnowsStarts b starts) where
   start_known vdr good i =
       let o = one_of b vdr i in
       let a = among_all b o.kind o.before o.own o.after o.among.was in
-      let one = one_at (IsKnownOf starts) a.front o.own a.rest a.all knows.each in
-      subst (λ (nodes : Nodes). InTopChain nodes (node_known starts vdr)) (sym (index_of b good o.among o.vdr_is)) (subst (λ (v : ℕ). InTopChain o.own.index (node_known starts v)) o.vdr_is one)
+      rw (index_of b good o.among o.vdr_is) (subst (λ (v : ℕ). InTopChain o.own.index (node_known starts v)) o.vdr_is (one_at (IsKnownOf starts) a.front o.own a.rest a.all knows.each))
 
   -- of one variable another node is known
   pub start_kept : (vdr place : ℕ) (after : Starts) → Good b → (place ≢ 0 → IsKnownStart b vdr (Some place)) → KeepsStart starts vdr place after → KnowsStarts b after

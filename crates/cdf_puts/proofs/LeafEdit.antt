@@ -145,7 +145,7 @@ module _ {b now : List ℕ} {kind : Kind} {before : List VariableShape} {own : V
   node_touched : (t : Touch) → NodeTouch w.roomy own room at t → In t.tile all_nodes × (t.place + t.width ≤ size_at w.roomy t.tile)
   node_touched t (inl n) = (In-append_right t.tile (new_nodes room at) nodes n.0, omega (arith, n.1, as_before t.tile n.0, (node_fits good among t.tile n.0).0))
   node_touched t (inr n) =
-      let i = subst (λ (m : ℕ). In m (new_nodes room at)) (sym n.1) (is_new_node room at n.0) in
+      let i : In t.tile (new_nodes room at) = rw n.1 (is_new_node room at n.0) in
       (In-append_left t.tile (new_nodes room at) nodes i, omega (arith, n.2, (new_node t.tile i).size_is))
 
   -- a touch is marked by the record in which it is
@@ -161,8 +161,7 @@ module _ {b now : List ℕ} {kind : Kind} {before : List VariableShape} {own : V
   touch_marked t (inr x) =
       let n = node_touched t x.1 in
       let m = node_there t.tile n.0 in
-      let far = tile_lies w.roomy 8 (length w.roomy) records' t.tile taking.grows.sound.has_shape.tiled m.0 in
-      marked t m.0 n.1 x.0 (inr (inl (record { typed = m.1; lies = n.0; low = x.0; high = omega (arith, n.1) })))
+      marked t m.0 n.1 x.0 (inr (inl (record { typed = m.1; lies = n.0; low = x.0; high = omega (arith, n.1, tile_lies w.roomy 8 (length w.roomy) records' t.tile taking.grows.sound.has_shape.tiled m.0) })))
 
   all_marked : Each (Marked w.roomy records' entries []) w.touches
   all_marked = Each-map (IndexTouch w.roomy own room at) (Marked w.roomy records' entries []) touch_marked w.touches w.within
@@ -277,8 +276,7 @@ module _ {b now : List ℕ} {kind : Kind} {before : List VariableShape} {own : V
       size_is = block_size ∙ body_long body records says;
       records_are =
           let whole : length body ≡ 4 + (length body - 4) = omega (arith, body_long body records says) in
-          let rest = take-take (length records) (length body - 4) (drop 4 (drop (new.place + 8) now)) (omega (arith, body_long body records says)) in
-          grind (arith, whole, rest, drop-take 4 (length body - 4) (drop (new.place + 8) now), drop-drop 4 (new.place + 8) now, body_now, says.records_are);
+          grind (arith, whole, take-take (length records) (length body - 4) (drop 4 (drop (new.place + 8) now)) (omega (arith, body_long body records says)), drop-take 4 (length body - 4) (drop (new.place + 8) now), drop-drop 4 (new.place + 8) now, body_now, says.records_are);
       spare = λ i l lt. grind (arith, l, lt, get_or-drop (new.place + 8) now (i - 8) 0, get_or-take (length body) (drop (new.place + 8) now) (i - 8) 0 (omega (arith, block_size)), body_now, says.spare (i - 8) (omega arith) (omega (arith, block_size)));
     }
 
@@ -287,10 +285,7 @@ module _ {b now : List ℕ} {kind : Kind} {before : List VariableShape} {own : V
 
       block_rows : (l : Leaf) → In l.place records' → type_at now l.place ≡ vvr_type → l.first ≤ l.last → l.last ≤ record_number_limit → 12 + (l.last + 1 - l.first) * record_bytes b own.vdr ≤ size_at now l.place → (is_block now records' l.place ≡ true) × Hold (leaf_rows now records' own.vdr l)
       block_rows l stands typed ordered small fit =
-          let there = is_in-true l.place records' stands in
-          let count = count_is l small ordered in
-          let size = record_alike file (vdr_alike good among (index_edit good among new_index)) in
-          rw (there, typed, count, size) (refl, (of_le (12 + (l.last + 1 - l.first) * record_bytes b own.vdr) (size_at now l.place) fit, tt))
+          rw (is_in-true l.place records' stands, typed, count_is l small ordered, record_alike file (vdr_alike good among (index_edit good among new_index))) (refl, (of_le (12 + (l.last + 1 - l.first) * record_bytes b own.vdr) (size_at now l.place) fit, tt))
 
       each_leaf : (l : Leaf) → IsOneOf (leaves_of (with_leaf new at own.index)) l → (is_block now records' l.place ≡ true) × Hold (leaf_rows now records' own.vdr l)
       each_leaf l i = elim ((one_of_leaves new at 0 record_number_limit own.index (own_order good among) l).0 i) [

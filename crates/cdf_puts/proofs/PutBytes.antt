@@ -20,16 +20,13 @@ put_there b place xs le = ap (take (length xs)) (drop-put_there b xs place le) �
 
 -- ---- where a record stands in its block
 
-pub record_fits : (k f t size : ℕ) → f ≤ k → k ≤ t → 12 + (k - f) * size + size ≤ 12 + (t + 1 - f) * size
-record_fits k f t size a c = omega (arith, times_le (suc (k - f)) (t + 1 - f) size (omega arith))
-
 -- records of one block do not meet
 pub records_apart : (j k f size : ℕ) → f ≤ j → j < k → 12 + (j - f) * size + size ≤ 12 + (k - f) * size
 records_apart j k f size a lt = omega (arith, times_le (suc (j - f)) (k - f) size (omega arith))
 
 -- what stands behind all records is beside each
 pub behind_all : (first k size : ℕ) (l : Leaf) (place : ℕ) → l.place + (12 + (l.last + 1 - l.first) * size) ≤ place → Beside first k size l place
-behind_all first k size l place le j from upto f t = inr (omega (arith, record_fits j l.first l.last size f t))
+behind_all first k size l place le j from upto f t = inr (omega (arith, records_apart j (l.last + 1) l.first size f (omega arith)))
 
 -- ---- a plain block that an image has whole
 
@@ -47,7 +44,7 @@ old_size {b = b} {now = now} {l = l} o long = word_kept b now l.place (l.place +
 -- a record that is not put stays
 pub piece_stays : {b now raw pad : List ℕ} {r first k size : ℕ} {l : Leaf} → OldBlock b now raw pad r first k size l → Whole b size l → length b ≤ length now → (j : ℕ) → l.first ≤ j → j ≤ l.last → (j < first) ⊎ (k ≤ j) → take size (drop (record_place l size j) now) ≡ take size (drop (record_place l size j) b)
 piece_stays {b = b} {now = now} {first = first} {k = k} {size = size} {l = l} o w longer j f t side =
-    let fit = record_fits j l.first l.last size f t in
+    let fit = records_apart j (l.last + 1) l.first size f (omega arith) in
     piece_kept b now (record_place l size j) (record_place l size j + size) (record { each = λ p low high. o.kept p (omega arith) (omega (arith, w.leaf.room)) (beside p low high side) }) (record_place l size j) size (omega arith) (omega arith) (omega (arith, w.leaf.room, w.inside)) longer
   where
     beside : (p : ℕ) → record_place l size j ≤ p → p < record_place l size j + size → (j < first) ⊎ (k ≤ j) → Beside first k size l p

@@ -1,5 +1,5 @@
 -- The leaves that were put so far: which one more there is once a record is written or a leaf is added, that a put goes through them one after the other, and how that starts.
-use Rattle.cdf_puts.proofs.Common.{Act, Ascending, BlocksSoFar, Bool, IndexSoFar, IsOneOf, Kind, Leaf, List, NodeSpareStays, Nodes, NodesFollow, NodesSoFar, None, PutStart, PutsBefore, PutsLeaves, Range, Some, TakesNode, UnusedEntries, VariableShape, [], ap, append_assoc, arith, block_need, bytes_eq-same, covers, each, false, filter, find, first_written, has, if◌then◌else◌, in_order, indexes_with, inl, inr, is_in-true, leaf_acts, leaves_ascend, leaves_of, list_any, nat_tests, ne_eqb, new_ranges, new_room, node_acts, nodes_of, of_le, range, ranges_of, record_bytes, record_number_limit, refl, room, subst, suc, sym, through, top_chain, true, upto, used_count, variable_of, was_put, with_leaf, with_new, zero, ℕ, ◌++◌, ◌+◌, ◌<◌, ◌==◌, ◌∙◌, ◌∷◌, ◌≡◌, ◌≤◌}
+use Rattle.cdf_puts.proofs.Common.{Act, Ascending, BlocksSoFar, Bool, IndexSoFar, IsOneOf, Kind, Leaf, List, NodeSpareStays, Nodes, NodesFollow, NodesSoFar, None, PutStart, PutsBefore, PutsLeaves, Range, Some, TakesNode, UnusedEntries, VariableShape, [], ap, append_assoc, arith, block_need, bytes_eq-same, covers, each, false, filter, find, first_written, has, if◌then◌else◌, in_order, indexes_with, inl, inr, is_in-true, leaf_acts, leaves_ascend, leaves_of, list_any, nat_tests, ne_eqb, new_ranges, new_room, node_acts, nodes_of, of_le, range, ranges_of, record_bytes, record_number_limit, refl, room, subst, suc, sym, through, top_chain, true, upto, used_count, variable_of, was_put, with_leaf, with_new, zero, ℕ, ◌++◌, ◌+◌, ◌<◌, ◌==◌, ◌∷◌, ◌≡◌, ◌≤◌}
 use Rattle.cdf_puts.proofs.CoveringRanges.{of_leaves}
 use Rattle.cdf_puts.proofs.PutBytes.{none_is_put}
 
@@ -26,8 +26,7 @@ put_next first k k' low upto (x ∷ xs) a l (inr i) from f more t = grind (arith
 -- a leaf that is added comes behind them
 pub put_new : (first k k' low upto : ℕ) (leaves : List Leaf) (new : Leaf) → Ascending low upto (with_new new leaves) → IsOneOf (with_new new leaves) new → new.first ≡ k → first ≤ k → k < k' → k' ≤ new.last + 1 → filter (was_put first k') (with_new new leaves) ≡ filter (was_put first k) leaves ++ new ∷ []
 put_new first k k' low upto leaves new a i is from more within =
-    let none : was_put first k new ≡ false = grind (arith, nat_tests) in
-    put_next first k k' low upto (with_new new leaves) a new i from (omega arith) more within ∙ rw none (ap (λ (ls : List Leaf). ls ++ new ∷ []) (none_more (was_put first k) leaves new none))
+    grind (arith, nat_tests, put_next first k k' low upto (with_new new leaves) a new i from (omega arith) more within, none_more (was_put first k) leaves new)
 
 -- no other leaf begins where none has the record
 pub none_begins : (k low upto : ℕ) (leaves : List Leaf) → Ascending low upto leaves → find (λ (leaf : Leaf). covers k (range leaf.first leaf.last)) leaves ≡ None → find (λ (old : Leaf). old.first == k) leaves ≡ None

@@ -1,5 +1,5 @@
-use Rattle.cdf_puts.proofs.Common.{Frame, HasIndex, List, ap, edit_done, edit_failed, edit_more, edit_without_memory, edits_by_read, keeps_by_read, read_more, read_once, refl, subst, sym, ℕ, ◌∙◌}
-use Rattle.cdf_puts.proofs.PutSpot.{AddsOn, added_on, body_is, room_after, searched, some_few, vdr_in}
+use Rattle.cdf_puts.proofs.Common.{Frame, HasIndex, ap, edit_done, edit_failed, edit_more, edit_without_memory, edits_by_read, keeps_by_read, read_more, read_once, refl, subst, sym, ◌∙◌}
+use Rattle.cdf_puts.proofs.PutSpot.{added_on, body_is, room_after, searched, some_few, vdr_in}
 use Rattle.cdf_puts.proofs.putting.add_block.Goals as goal
 
 pub last_of_new-requires-clause-index : goal.last_of_new-requires-clause-index
@@ -51,10 +51,8 @@ returns-in_err-add_leaf-clause-area g c = edit_failed (keeps_by_read (read_more 
 
 pub returns-clause-put : goal.returns-clause-put
 returns-clause-put g c =
-    let put = c.args.put.now in
     let says = rw (← c.deref.ensures.value) at c.in_ok-body.ensures.body in
-    let now = g.A.Area.image c.add_leaf.new.area in
-    let adds = subst (λ (x : List ℕ). AddsOn x now put.vdr c.args.k c.in_ok-last.last c.deref.result.now) (c.start_of.ensures.area.image ∙ c.last_of_new.ensures.area.image) c.in_ok-add_leaf.ensures.added in
+    let adds = rw (c.start_of.ensures.area.image, c.last_of_new.ensures.area.image) at c.in_ok-add_leaf.ensures.added in
     λ b kind before own after putting is. rw (c.min.ensures) (added_on putting is c.requires.more c.requires.head c.requires.none c.in_ok-last.last c.in_ok-last.ensures.last c.deref.result.now says adds c.requires.limit)
 
 pub returns-clause-area : goal.returns-clause-area

@@ -5,16 +5,14 @@ use Rattle.cdf_puts.proofs.putting.write_one.Goals as goal
 
 pub write_recs-requires-clause-block : goal.write_recs-requires-clause-block
 write_recs-requires-clause-block g c =
-    let s = c.requires.some in
-    holds s.putting s.is c.requires.more c.args.leaf.now c.requires.found c.len.result (omega (arith, c.args.put.now.raw.ok))
+    holds c.requires.some.putting c.requires.some.is c.requires.more c.args.leaf.now c.requires.found c.len.result (omega (arith, c.args.put.now.raw.ok))
 
 pub write_recs-requires-clause-from : goal.write_recs-requires-clause-from
 write_recs-requires-clause-from g c = (held c.requires.some.putting c.requires.some.is c.requires.more c.args.leaf.now c.requires.found).1
 
 pub write_recs-requires-clause-within : goal.write_recs-requires-clause-within
 write_recs-requires-clause-within g c =
-    let s = c.requires.some in
-    held_within s.putting s.is c.requires.more c.args.leaf.now c.requires.found c.len.result (omega (arith, c.args.put.now.raw.ok)) c.bytes_of.result.now c.bytes_of.ensures
+    held_within c.requires.some.putting c.requires.some.is c.requires.more c.args.leaf.now c.requires.found c.len.result (omega (arith, c.args.put.now.raw.ok)) c.bytes_of.result.now c.bytes_of.ensures
 
 pub returns-clause-put : goal.returns-clause-put
 returns-clause-put g c =
