@@ -1,6 +1,6 @@
 -- A leaf is added while records are put: the blocks of the variable, which leaves were put by then, which ranges are new, the top chain and the nodes.
-use Rattle.cdf_puts.proofs.Common.{Act, Ascending, BlockRecords, BlocksSoFar, Bool, Good, In, InOrder, IndexSoFar, IsBlockBody, IsOneOf, IsVacant, Kind, Leaf, LeafAdded, List, NewBlock, NodeTaken, Nodes, NodesSoFar, None, PutsBefore, Range, Same, SoFar, Some, StandsAmong, VariableShape, [], ap, apart, arith, before_limit, behind_in, block_behind, block_need, bytes_eq, bytes_eq-same, cases_lt, count_is, covers, drop, extent, false, filled, filter, find, find_covering, first_written, firsts_of, fold-append, has, if◌then◌else◌, in_order, index_order, indexes_with, inl, inr, is_in, is_in-true, is_taken_at, last_node, last_or, leaf, leaf_acts, leaves_ascend, leaves_more, leaves_of, length, list_any, lt-ltb, max_rec_at, min, nat_tests, new_range, new_ranges, new_room, node_behind, nodes_of, number, of_each, or_from, or_left, or_right, outline, own_rules, place_in, plain_bytes, plain_piece, range, ranges_of, record_alike, record_bytes, record_number_limit, records_of_leaf, refl, room, same_Some, shape, size_at, sound, subst, suc, sym, take, taken_places, tile_lies, top_chain, true, true≢false, uir_type, unwrap_or, uses_entry, variable_of, vdr_alike, vdr_vxr_tail, vvr_type, was_put, with_leaf, with_new, with_ranges, zero, ℕ, ◌*◌, ◌++◌, ◌+◌, ◌-◌, ◌<◌, ◌||◌, ◌∙◌, ◌∷◌, ◌≡◌, ◌≤◌, ◌⊎◌}
-use Rattle.cdf_puts.proofs.CoveringRanges.{of_leaves, one_alone}
+use Rattle.cdf_puts.proofs.Common.{Act, Ascending, BlockRecords, BlocksSoFar, Bool, Good, InOrder, IndexSoFar, IsBlockBody, IsOneOf, IsVacant, Kind, Leaf, LeafAdded, List, NewBlock, NodeTaken, Nodes, NodesSoFar, None, PutsBefore, Range, Same, SoFar, Some, StandsAmong, VariableShape, [], ap, apart, arith, before_limit, behind_in, block_behind, block_need, bytes_eq, bytes_eq-same, cases_lt, count_is, covers, drop, extent, false, filled, filter, find, find_covering, first_written, firsts_of, fold-append, has, if◌then◌else◌, in_order, index_order, indexes_with, inl, inr, is_in, is_in-true, is_taken_at, last_node, last_or, leaf, leaf_acts, leaves_ascend, leaves_more, leaves_of, length, list_any, max_rec_at, min, nat_tests, new_range, new_ranges, new_room, node_behind, nodes_of, number, of_each, or_from, or_left, or_right, outline, own_rules, place_in, plain_bytes, plain_piece, range, ranges_of, record_alike, record_bytes, record_number_limit, refl, room, same_Some, shape, size_at, sound, subst, suc, sym, take, taken_places, tile_lies, top_chain, true, true≢false, uir_type, unwrap_or, uses_entry, variable_of, vdr_alike, vdr_vxr_tail, vvr_type, was_put, with_leaf, with_new, with_ranges, zero, ℕ, ◌*◌, ◌++◌, ◌+◌, ◌-◌, ◌<◌, ◌||◌, ◌∙◌, ◌∷◌, ◌≡◌, ◌≤◌, ◌⊎◌}
+use Rattle.cdf_puts.proofs.CoveringRanges.{of_leaves}
 use Rattle.cdf_puts.proofs.LeafCounts.{one_of_leaves}
 use Rattle.cdf_puts.proofs.LeafEdit.{blocks_go_on, body_long, file, new_index, node_taken, nodes_step, used_apart}
 use Rattle.cdf_index.proofs.NewIndex.{index_edit}
