@@ -45,8 +45,8 @@ pub use Rattle.cdf_format.specs.Shape.{Each, HasVariable, Shape, VariableShape, 
 pub use Rattle.cdf_format.specs.Sound.{BlockFits, IsSound, LeafFits, NodeFits, VariableFits}
 pub use Rattle.cdf_format.specs.Tiles.{AreTiles, Distinct, In, tiles}
 pub use Rattle.cdf_format.specs.VariableFields.{max_rec_at, number_before, plain_size, record_bytes, type_of_variable}
-pub use Rattle.cdf_index.specs.Ahead.{Begun, Climbs, IsWalk, NamesIn, chain_at, chain_before, first_past}
-pub use Rattle.cdf_index.specs.Descent.{IsAmong, IsTree, SeesNode, SomeTree, SpotIs, StepSays, end_from, spot_at, step_pair, way_from}
+pub use Rattle.cdf_index.specs.Ahead.{Begun, NamesIn, chain_at, chain_before, first_past}
+pub use Rattle.cdf_index.specs.Descent.{ChainWalked, IsAmong, Meets, SeesNode, StepSays, behind_of, first_after, step_pair}
 pub use Rattle.cdf_index.specs.Finding.{Ascends, At, ChainFrom, HasIndex, IsBlock, IsCut, IsOrderly, NodeInside, Scanned, SomeNode, Stands, in_column, index_at}
 pub use Rattle.cdf_index.specs.Growing.{Begins, MayName, with_new}
 pub use Rattle.cdf_index.specs.Next.{least_first_past, number_within}
