@@ -1,6 +1,7 @@
 -- What a leaf more makes of an index, step by step on the way to it, and how often a node stands in it by then.
-use Rattle.cdf_index.proofs.Common.{Bool, Entries, In, Leaf, Nodes, [], arith, block, cases_lt, chain_reaches, either, entry_count, eqb, eqb-true, false, if◌then◌else◌, in-times, inl, inr, leads_down, lower, lower_nodes, ltb, max, nat_tests, new_room, new_room_below, no_entry, no_node, node, nodes_of, past, reaches, refl, room_of_new, times, times-append, times-in, with_block, with_both, with_entry, with_leaf, with_lower, ℕ, ◌++◌, ◌+◌, ◌==◌, ◌∷◌, ◌≡◌, ◌≤◌, ◌⊎◌}
+use Rattle.cdf_index.proofs.Common.{Bool, Entries, In, Leaf, Nodes, [], arith, block, cases_lt, chain_reaches, either, entry_count, eqb, eqb-true, false, if◌then◌else◌, in-times, inl, inr, leads_down, lower, lower_nodes, ltb, max, nat_tests, new_room, new_room_below, no_entry, no_node, node, nodes_of, past, reaches, refl, room_of_new, times, times-append, times-in, with_block, with_both, with_entry, with_leaf, with_lower, ℕ, ◌+◌, ◌==◌, ◌∷◌, ◌≡◌, ◌≤◌, ◌⊎◌}
 use Rattle.cdf_index.proofs.Saying.{upto_both, front, front_past, upto_is}
+use Rattle.cdf_index.proofs.ByParts.{entries_by, nodes_by}
 
 -- ---- the steps to a leaf more
 
@@ -69,9 +70,7 @@ weight_of w at n = if n == 0 then 0 else w at n
 
 weigh_both : (w : ℕ → ℕ → ℕ) (es fs : Entries) → weigh_below w (with_both es fs) ≡ weigh_below w es + weigh_below w fs
 unfolding weigh_below
-weigh_both w no_entry fs = omega arith
-weigh_both w (block first last place packed es) fs = weigh_both w es fs
-weigh_both w (lower first last nodes es) fs = let r = weigh_both w es fs in omega arith
+weigh_both w es fs = entries_by (λ es. weigh_below w (with_both es fs) ≡ weigh_below w es + weigh_below w fs) (grind arith) es
 
 pub weight_grows : (w : ℕ → ℕ → ℕ) (new : Leaf) (at : ℕ) → Grows new at (λ n a a'. weigh w a' ≡ weigh w a + weight_of w at n) (λ n es es'. weigh_below w es' ≡ weigh_below w es + weight_of w at n)
 unfolding weigh weigh_below
@@ -79,17 +78,9 @@ weight_grows w new at = grind (arith, weigh_both)
 
 -- ---- how often a place stands among the nodes
 
-mutual
-  unfolding weigh weigh_below nodes_of lower_nodes
-
-  nodes_weighed : (m : ℕ) (nodes : Nodes) → times m (nodes_of nodes) ≡ weigh (λ p r. times m (p ∷ [])) nodes
-  nodes_weighed m no_node = refl
-  nodes_weighed m (node place room es more) = omega (arith, times-append m (place ∷ []) (lower_nodes es ++ nodes_of more), times-append m (lower_nodes es) (nodes_of more), entries_weighed m es, nodes_weighed m more)
-
-  entries_weighed : (m : ℕ) (es : Entries) → times m (lower_nodes es) ≡ weigh_below (λ p r. times m (p ∷ [])) es
-  entries_weighed m no_entry = refl
-  entries_weighed m (block first last place packed es) = entries_weighed m es
-  entries_weighed m (lower first last nodes es) = omega (arith, times-append m (nodes_of nodes) (lower_nodes es), nodes_weighed m nodes, entries_weighed m es)
+nodes_weighed : (m : ℕ) (nodes : Nodes) → times m (nodes_of nodes) ≡ weigh (λ p r. times m (p ∷ [])) nodes
+unfolding weigh weigh_below nodes_of lower_nodes
+nodes_weighed m = nodes_by (λ ns. times m (nodes_of ns) ≡ weigh (λ p r. times m (p ∷ [])) ns) (λ es. times m (lower_nodes es) ≡ weigh_below (λ p r. times m (p ∷ [])) es) (grind (arith, times-append))
 
 -- the new node stands once more, where one is needed
 pub nodes_with_leaf : (new : Leaf) (at m : ℕ) (index : Nodes) → times m (nodes_of (with_leaf new at index)) ≡ times m (nodes_of index) + (if new_room new.first index == 0 then 0 else times m (at ∷ []))

@@ -1,5 +1,5 @@
 -- An index with a leaf more keeps the rules: its entries are in order, its nodes have room for theirs, and each leaf has a block.
-use Rattle.cdf_index.proofs.Common.{append_assoc, ◌++◌, AreInOrder, Bool, Each, Each-split, Entries, Hold, Hold-append, Hold-split, In, InOrder, IsOneOf, Leaf, List, Nodes, None, [], ap, arith, before_is, before_number, block, chain_reaches, covers, either, end_of, entry_count, entry_firsts, entry_leaves, eqb, eqb-true, false, filter, find, firsts_of, flat_map, fold, inl, inr, is_between, is_block, le-ltb, leads_down, leaf_rows, leaves_of, leb, leb-false, leb-true, lower, lower_nodes, lt-ltb, ltb, max, nat_lt, nat_tests, negsuc, next_first, no_entry, no_node, node, nodes_of, nodes_rows, number_before, or_parts, past, past_entries, pos, range, reaches, record_number_limit, refl, signed, subst, suc, sym, true, true≢false, used_rows, with_block, with_both, with_entry, with_leaf, with_sign, ℕ, ℤ, ◌+◌, ◌<◌, ◌∙◌, ◌∷◌, ◌≡◌, ◌≤◌}
+use Rattle.cdf_index.proofs.Common.{append_assoc, ◌++◌, AreInOrder, Bool, Each, Each-split, Entries, Hold, Hold-append, Hold-split, In, InOrder, IsOneOf, Leaf, List, Nodes, None, [], ap, arith, before_is, before_number, block, chain_reaches, covers, either, end_of, entry_count, entry_firsts, entry_leaves, eqb, eqb-true, false, filter, find, firsts_of, flat_map, fold, inl, inr, is_between, is_block, le-ltb, leads_down, leaf_rows, leaves_of, leb, leb-true, lower, lower_nodes, lt-ltb, ltb, max, nat_lt, nat_tests, negsuc, next_first, no_entry, no_node, node, nodes_of, nodes_rows, number_before, past, past_entries, pos, range, reaches, record_number_limit, refl, signed, subst, suc, sym, true, true≢false, used_rows, with_block, with_both, with_entry, with_leaf, with_sign, ℕ, ℤ, ◌+◌, ◌<◌, ◌∙◌, ◌∷◌, ◌≡◌, ◌≤◌}
 use Rattle.std.proofs.Common.{min}
 use Rattle.std.proofs.lemmas.Bool.{cases_lt}
 use Rattle.cdf_format.specs.IndexRules.{has_room, index_rows}
@@ -7,6 +7,7 @@ use Rattle.cdf_edits.proofs.Space.ActsLeave.{each as each_place}
 use Rattle.cdf_edits.proofs.Edits.LeafPieces.{each_of}
 use Rattle.cdf_edits.proofs.Edits.VariableFrame.{hold_all}
 use Rattle.cdf_index.proofs.GoodIndex.{order_from}
+use Rattle.cdf_index.proofs.ByParts.{entries_by}
 use Rattle.cdf_index.proofs.Coming.{Comes, comes, comes_along, comes_below, comes_first, comes_here, chain_reaches_from}
 use Rattle.cdf_index.proofs.LeafMore.{leaves_both, none_reached, parts_in_order}
 use Rattle.cdf_index.proofs.OrderLemmas.{end_after}
@@ -51,50 +52,37 @@ before_limit f last firsts h = let r = least_below (record_number_limit + 1) (fi
 -- ---- entries that go on from another number, and up to one that is higher
 
 past_most : (low low' : ℕ) (es : Entries) → past_entries low' es ≤ max (past_entries low es) low'
-past_most low low' no_entry = omega arith
-past_most low low' (block first last place packed es) = omega arith
-past_most low low' (lower first last nodes es) = omega arith
+past_most low low' = entries_by (λ es. past_entries low' es ≤ max (past_entries low es) low') (grind arith)
 
 past_both : (low : ℕ) (es fs : Entries) → past_entries low (with_both es fs) ≡ past_entries (past_entries low es) fs
-past_both low no_entry fs = refl
-past_both low (block first last place packed es) fs = past_both (suc last) es fs
-past_both low (lower first last nodes es) fs = past_both (suc last) es fs
+past_both low es fs = entries_by (λ es. (low : ℕ) → past_entries low (with_both es fs) ≡ past_entries (past_entries low es) fs) (grind arith) es low
 
-pub widened_entries : (low low' high high' : ℕ) (es : Entries) → low' ≤ low → high ≤ high' → AreInOrder low high es → AreInOrder low' high' es
+widened_entries : (low low' high high' : ℕ) (es : Entries) → low' ≤ low → high ≤ high' → AreInOrder low high es → AreInOrder low' high' es
 unfolding AreInOrder
-widened_entries low low' high high' no_entry k l o = tt
-widened_entries low low' high high' (block first last place packed es) k l o = (omega (arith, o.0), o.1, omega (arith, o.2), widened_entries (suc last) (suc last) high high' es (omega arith) l o.3)
-widened_entries low low' high high' (lower first last nodes es) k l o = (omega (arith, o.0), o.1, omega (arith, o.2), o.3, widened_entries (suc last) (suc last) high high' es (omega arith) l o.4)
+widened_entries low low' high high' es k l = entries_by (λ es. (low low' : ℕ) → low' ≤ low → AreInOrder low high es → AreInOrder low' high' es) (grind arith) es low low' k
 
 pub widened : (low low' high high' : ℕ) (ns : Nodes) → low' ≤ low → high ≤ high' → InOrder low high ns → InOrder low' high' ns
 unfolding InOrder
 widened low low' high high' no_node k l o = tt
-widened low low' high high' (node place room es more) k l o = (widened_entries low low' high high' es k l o.0, widened (past_entries low es) (past_entries low' es) high high' more (omega (arith, past_most low low' es, end_after low high es o.0)) l o.1)
+widened low low' high high' (node place room es more) k l o = grind (arith, widened_entries low low' high high' es, widened (past_entries low es) (past_entries low' es) high high' more, past_most low low' es, end_after low high es)
 
 -- those that begin past a record also begin past the last one of a leaf
 pub raised_entries : (f last low low' high : ℕ) (es : Entries) → AreInOrder low high es → reaches f es ≡ false → NoneBegins f last (entry_firsts es) → low' ≤ max low (suc last) → AreInOrder low' high es
 unfolding AreInOrder entry_firsts
-raised_entries f last low low' high no_entry o r n l = tt
-raised_entries f last low low' high (block first last' place packed es) o r n l = let g = n.0 (leb-false first f (or_parts (leb first f) (reaches f es) r).0) in (omega (arith, o.0), o.1, o.2, o.3)
-raised_entries f last low low' high (lower first last' nodes es) o r n l = let g = n.0 (leb-false first f (or_parts (leb first f) (reaches f es) r).0) in (omega (arith, o.0), o.1, o.2, o.3, o.4)
+raised_entries f last low low' high = entries_by (λ es. AreInOrder low high es → reaches f es ≡ false → NoneBegins f last (entry_firsts es) → low' ≤ max low (suc last) → AreInOrder low' high es) (grind (arith, nat_tests))
 
 pub raised : (f last low low' high : ℕ) (ns : Nodes) → InOrder low high ns → chain_reaches f ns ≡ false → NoneBegins f last (firsts_of ns) → low' ≤ max low (suc last) → InOrder low' high ns
 unfolding InOrder firsts_of
 raised f last low low' high no_node o r n l = tt
 raised f last low low' high (node place room es more) o r n l =
     let s = Each-split (BeginsBehind f last) (entry_firsts es) (firsts_of more) n in
-    let u = or_parts (reaches f es) (chain_reaches f more) r in
-    let p = past_most low low' es in
-    let e = end_after low high es o.0 in
-    (raised_entries f last low low' high es o.0 u.0 s.0 l, raised f last (past_entries low es) (past_entries low' es) high more o.1 u.1 s.1 (omega arith))
+    grind (arith, nat_tests, raised_entries f last low low' high es, raised f last (past_entries low es) (past_entries low' es) high more, past_most low low' es, end_after low high es)
 
 -- ---- the entries of a node that begin at a record or before it, and the others
 
 both_in_order : (low high : ℕ) (es fs : Entries) → AreInOrder low high es → AreInOrder (past_entries low es) high fs → AreInOrder low high (with_both es fs)
 unfolding AreInOrder
-both_in_order low high no_entry fs o p = p
-both_in_order low high (block first last place packed es) fs o p = (o.0, o.1, o.2, both_in_order (suc last) high es fs o.3 p)
-both_in_order low high (lower first last nodes es) fs o p = (o.0, o.1, o.2, o.3, both_in_order (suc last) high es fs o.4 p)
+both_in_order low high es fs = entries_by (λ es. (low : ℕ) → AreInOrder low high es → AreInOrder (past_entries low es) high fs → AreInOrder low high (with_both es fs)) (grind arith) es low
 
 -- where the last of them names a block, they end before the record
 front_ends : (f low high : ℕ) (given : Bool) (es : Entries) → AreInOrder low high es → leads_down f given es ≡ false → (given ≡ false → low ≤ f) → Uncovered f (entry_leaves es) → past_entries low (front f es) ≤ f
@@ -111,9 +99,7 @@ front_ends f low high given (lower first last nodes es) o d g u = elim (either (
 
 pub firsts_both : (es fs : Entries) → entry_firsts (with_both es fs) ≡ entry_firsts es ++ entry_firsts fs
 unfolding entry_firsts
-firsts_both no_entry fs = refl
-firsts_both (block first last place packed es) fs = ap (λ (xs : List ℕ). first ∷ xs) (firsts_both es fs)
-firsts_both (lower first last nodes es) fs = rw (firsts_both es fs, append_assoc) refl
+firsts_both es fs = entries_by (λ es. entry_firsts (with_both es fs) ≡ entry_firsts es ++ entry_firsts fs) (grind (arith, append_assoc)) es
 
 order_with_entry : (new : Leaf) (at place room low high : ℕ) (es : Entries) (more : Nodes) → InOrder low high (node place room es more) → leads_down new.first false es ≡ false → chain_reaches new.first more ≡ false
     → low ≤ new.first → new.first ≤ new.last → new.last ≤ high → Uncovered new.first (entry_leaves es) → NoneBegins new.first new.last (entry_firsts es) → NoneBegins new.first new.last (firsts_of more) → InOrder low high (with_entry new at place room es more)
