@@ -4,7 +4,7 @@ use Rattle.cdf_index.proofs.Coming.{Comes, comes, comes_along, comes_below, come
 use Rattle.cdf_index.proofs.OrderLemmas.{Within, entries_within, leaves_within, end_after, InRange}
 use Rattle.cdf_index.proofs.Saying.{front, front_past, upto_both, both_none, no_entries}
 use Rattle.cdf_edits.proofs.Edits.VariableFrame.{Each-map}
-use Rattle.cdf_index.proofs.ByParts.{entries_by, nodes_by}
+use Rattle.cdf_index.proofs.ByParts.{entries_by, entries_within as entries_in, nodes_within as nodes_in}
 
 -- ---- leaves that begin at a record or before it, and leaves past it
 
@@ -40,28 +40,28 @@ ranges_new l (x ∷ xs) = grind (arith, ranges_new l xs)
 
 order_past : (f low high : ℕ) (es : Entries) → AreInOrder low high es → reaches f es ≡ false → AreInOrder (suc f) high es
 unfolding AreInOrder
-order_past f low high = entries_by (λ es. AreInOrder low high es → reaches f es ≡ false → AreInOrder (suc f) high es) (grind (arith, nat_tests))
+order_past f = entries_in (grind (arith, nat_tests))
 
 entries_past : (f low high : ℕ) (es : Entries) → AreInOrder low high es → reaches f es ≡ false → BeginPast f (entry_leaves es)
 entries_past f low high es o t = within_past f (suc f) high (entry_leaves es) (entries_within (suc f) high es (order_past f low high es o t)) (omega arith)
 
 nodes_past : (f low high : ℕ) (ns : Nodes) → InOrder low high ns → chain_reaches f ns ≡ false → BeginPast f (leaves_of ns)
 unfolding InOrder leaves_of
-nodes_past f low high ns = nodes_by (λ ns. (low : ℕ) → InOrder low high ns → chain_reaches f ns ≡ false → BeginPast f (leaves_of ns)) (λ es. Unit {0}) (grind (arith, nat_tests, Each-append, entries_past)) ns low
+nodes_past f = nodes_in (λ low high es. Unit {0}) (grind (arith, nat_tests, Each-append, entries_past))
 
 -- ---- the front of a node
 
 pub leaves_both : (es fs : Entries) → entry_leaves (with_both es fs) ≡ entry_leaves es ++ entry_leaves fs
 unfolding leaves_of entry_leaves
-leaves_both es fs = entries_by (λ es. entry_leaves (with_both es fs) ≡ entry_leaves es ++ entry_leaves fs) (grind (arith, append_assoc)) es
+leaves_both = entries_by (grind (arith, append_assoc))
 
 pub parts_in_order : (low high : ℕ) (es fs : Entries) → AreInOrder low high (with_both es fs) → AreInOrder low high es × AreInOrder (past_entries low es) high fs
 unfolding AreInOrder
-parts_in_order low high es fs = entries_by (λ es. (low : ℕ) → AreInOrder low high (with_both es fs) → AreInOrder low high es × AreInOrder (past_entries low es) high fs) (grind arith) es low
+parts_in_order = entries_in (grind arith)
 
 pub none_reached : (f low high : ℕ) (es : Entries) → AreInOrder low high es → reaches f (past f es) ≡ false
 unfolding AreInOrder
-none_reached f low high es = entries_by (λ es. (low : ℕ) → AreInOrder low high es → reaches f (past f es) ≡ false) (grind (arith, nat_tests, not_reached)) es low
+none_reached f = entries_in (grind (arith, nat_tests, not_reached))
 
 -- ---- a node, or it and a new one
 
@@ -86,9 +86,7 @@ here_new l low high given (lower first last nodes es) o t =
 -- entries before a chain that reaches a record
 chain_by : (f low high : ℕ) (es : Entries) → AreInOrder low high es → past_entries low es ≤ f → BeginBy f (entry_leaves es)
 unfolding AreInOrder leaves_of entry_leaves
-chain_by f low high no_entry o h = tt
-chain_by f low high (block first last place packed es) o h = (omega (arith, o.1, end_after (suc last) high es o.3), chain_by f (suc last) high es o.3 h)
-chain_by f low high (lower first last nodes es) o h = Each-append (λ (x : Leaf). x.first ≤ f) (leaves_of nodes) (entry_leaves es) (within_by f first last (leaves_of nodes) (leaves_within first last nodes o.3) (omega (arith, end_after (suc last) high es o.4))) (chain_by f (suc last) high es o.4 h)
+chain_by f = entries_in (grind (arith, Each-append, within_by, leaves_within, end_after))
 
 -- ---- the index
 

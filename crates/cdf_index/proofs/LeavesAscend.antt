@@ -1,11 +1,11 @@
 -- The leaves of an index that is in order are so.
 use Rattle.cdf_index.proofs.Common.{AreInOrder, Ascending, Entries, InOrder, Nodes, arith, ascending_both, ascending_from, block, entry_leaves, leaves_of, lower, no_entry, no_node, node, past_entries, suc, ℕ, ◌++◌, ◌≤◌}
 use Rattle.cdf_index.proofs.OrderLemmas.{end_after}
-use Rattle.cdf_index.proofs.ByParts.{entries_by}
+use Rattle.cdf_index.proofs.ByParts.{entries_within}
 
 pub end_before : (low high : ℕ) (entries : Entries) → AreInOrder low high entries → low ≤ suc high → past_entries low entries ≤ suc high
 unfolding AreInOrder
-end_before low high es = entries_by (λ es. (low : ℕ) → AreInOrder low high es → low ≤ suc high → past_entries low es ≤ suc high) (grind arith) es low
+end_before = entries_within (grind arith)
 
 mutual
   unfolding InOrder AreInOrder leaves_of entry_leaves

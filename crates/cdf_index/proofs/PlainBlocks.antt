@@ -2,7 +2,7 @@
 use Rattle.cdf_index.proofs.Common.{Each, Each-append, Each-split, HasNodes, HasVariable, IsGoodImage, IsSound, Leaf, List, Names, Nodes, Shape, Some, VariableFits, VariableShape, arith, covers, cvvr_type, entry_leaves, false, found_in, is_linkable, leaf_of, leaves_of, of_each, range, sound, subst, type_at, variables, vxr_type, ℕ, ◌++◌, ◌==◌, ◌∷◌, ◌≡◌}
 use Rattle.cdf_edits.proofs.Edits.PlainVariables.{IsPlainBlock, is_uncompressed}
 use Rattle.cdf_format.proofs.GoodImageLemmas.{by_shape}
-use Rattle.cdf_index.proofs.ByParts.{nodes_by}
+use Rattle.cdf_index.proofs.ByParts.{nodes_from}
 
 -- a leaf names a block
 abbrev pub Named : List ℕ → List ℕ → Leaf → Type 0
@@ -10,8 +10,8 @@ Named now records leaf = (is_linkable now records vxr_type leaf.place ≡ false)
 
 pub leaves_named : (now records : List ℕ) (levels : ℕ) (nodes : Nodes) → HasNodes now records levels nodes → Each (Named now records) (leaves_of nodes)
 unfolding HasNodes Names leaves_of entry_leaves
-leaves_named now records levels ns =
-    nodes_by (λ ns. (levels : ℕ) → HasNodes now records levels ns → Each (Named now records) (leaves_of ns)) (λ es. (levels : ℕ) → Names now records levels es → Each (Named now records) (entry_leaves es)) (grind (arith, Each-append)) ns levels
+leaves_named now records =
+    nodes_from (λ levels es. Names now records levels es → Each (Named now records) (entry_leaves es)) (grind (arith, Each-append))
 
 pub plain_block : (b : List ℕ) (s : Shape) (before : List VariableShape) (v : VariableShape) (after : List VariableShape) → IsGoodImage b s → IsSound b s → variables s ≡ before ++ v ∷ after
     → (rec : ℕ) (leaf : Leaf) → leaf_of rec (leaves_of v.index) ≡ Some leaf → leaf.packed ≡ false

@@ -1,6 +1,6 @@
 -- The entries of a node, and what it says of them, taken apart and put together.
 use Rattle.cdf_index.proofs.Common.{Entries, Leaf, List, Names, SayEntries, SaysEntry, append_assoc, arith, block, entry_count, if◌then◌else◌, link_to, lower, lower_nodes, nat_le, no_entry, nodes_of, past, suc, sym, upto, with_block, with_both, ℕ, ◌++◌, ◌+◌, ◌<◌, ◌∙◌, ◌≡◌, ◌≤◌}
-use Rattle.cdf_index.proofs.ByParts.{entries_by}
+use Rattle.cdf_index.proofs.ByParts.{entries_by, entries_from}
 
 -- the entries that begin at a record or before it
 abbrev pub front : ℕ → Entries → Entries
@@ -9,40 +9,40 @@ front f (block first last place packed entries) = if nat_le first f then block f
 front f (lower first last nodes entries) = if nat_le first f then lower first last nodes (front f entries) else no_entry
 
 pub front_past : (f : ℕ) (es : Entries) → with_both (front f es) (past f es) ≡ es
-front_past f = entries_by (λ es. with_both (front f es) (past f es) ≡ es) (grind arith)
+front_past f = entries_by (grind arith)
 
 pub upto_both : (l : Leaf) (es fs : Entries) → with_both (upto l es) fs ≡ with_both (front l.first es) (with_block l fs)
-upto_both l es fs = entries_by (λ es. with_both (upto l es) fs ≡ with_both (front l.first es) (with_block l fs)) (grind arith) es
+upto_both l = entries_by (grind arith)
 
 pub both_none : (es : Entries) → with_both es no_entry ≡ es
-both_none = entries_by (λ es. with_both es no_entry ≡ es) (grind arith)
+both_none = entries_by (grind arith)
 
 pub upto_is : (l : Leaf) (es : Entries) → upto l es ≡ with_both (front l.first es) (with_block l no_entry)
 upto_is l es = sym (both_none (upto l es)) ∙ upto_both l es no_entry
 
 pub count_both : (es fs : Entries) → entry_count (with_both es fs) ≡ entry_count es + entry_count fs
-count_both es fs = entries_by (λ es. entry_count (with_both es fs) ≡ entry_count es + entry_count fs) (grind arith) es
+count_both = entries_by (grind arith)
 
 pub lower_both : (es fs : Entries) → lower_nodes (with_both es fs) ≡ lower_nodes es ++ lower_nodes fs
 unfolding nodes_of lower_nodes
-lower_both es fs = entries_by (λ es. lower_nodes (with_both es fs) ≡ lower_nodes es ++ lower_nodes fs) (grind (arith, append_assoc)) es
+lower_both = entries_by (grind (arith, append_assoc))
 
 pub no_entries : (es : Entries) → entry_count es ≡ 0 → es ≡ no_entry
-no_entries = entries_by (λ es. entry_count es ≡ 0 → es ≡ no_entry) (grind arith)
+no_entries = entries_by (grind arith)
 
 pub say_both : (b : List ℕ) (at i : ℕ) (es fs : Entries) → SayEntries b at i es → SayEntries b at (i + entry_count es) fs → SayEntries b at i (with_both es fs)
-say_both b at i es fs = entries_by (λ es. (i : ℕ) → SayEntries b at i es → SayEntries b at (i + entry_count es) fs → SayEntries b at i (with_both es fs)) (grind arith) es i
+say_both b at = entries_from (grind arith)
 
 pub say_parts : (b : List ℕ) (at i : ℕ) (es fs : Entries) → SayEntries b at i (with_both es fs) → SayEntries b at i es × SayEntries b at (i + entry_count es) fs
-say_parts b at i es fs = entries_by (λ es. (i : ℕ) → SayEntries b at i (with_both es fs) → SayEntries b at i es × SayEntries b at (i + entry_count es) fs) (grind arith) es i
+say_parts b at = entries_from (grind arith)
 
 pub names_both : (b ts : List ℕ) (levels : ℕ) (es fs : Entries) → Names b ts levels es → Names b ts levels fs → Names b ts levels (with_both es fs)
 unfolding Names
-names_both b ts levels es fs = entries_by (λ es. Names b ts levels es → Names b ts levels fs → Names b ts levels (with_both es fs)) (grind arith) es
+names_both b ts levels = entries_by (grind arith)
 
 pub names_parts : (b ts : List ℕ) (levels : ℕ) (es fs : Entries) → Names b ts levels (with_both es fs) → Names b ts levels es × Names b ts levels fs
 unfolding Names
-names_parts b ts levels es fs = entries_by (λ es. Names b ts levels (with_both es fs) → Names b ts levels es × Names b ts levels fs) (grind arith) es
+names_parts b ts levels = entries_by (grind arith)
 
 -- entries that move to other numbers of a node, which may be another one
 pub say_moved : (b now : List ℕ) (at to i k : ℕ) (es : Entries) → SayEntries b at i es → ((n m first last offset : ℕ) → n + k ≡ m + i → i ≤ n → n < i + entry_count es → SaysEntry b at n first last offset → SaysEntry now to m first last offset) → SayEntries now to k es
