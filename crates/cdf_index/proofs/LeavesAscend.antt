@@ -1,12 +1,11 @@
 -- The leaves of an index that is in order are so.
 use Rattle.cdf_index.proofs.Common.{AreInOrder, Ascending, Entries, InOrder, Nodes, arith, ascending_both, ascending_from, block, entry_leaves, leaves_of, lower, no_entry, no_node, node, past_entries, suc, ℕ, ◌++◌, ◌≤◌}
 use Rattle.cdf_index.proofs.OrderLemmas.{end_after}
+use Rattle.cdf_index.proofs.ByParts.{entries_within}
 
 pub end_before : (low high : ℕ) (entries : Entries) → AreInOrder low high entries → low ≤ suc high → past_entries low entries ≤ suc high
 unfolding AreInOrder
-end_before low high no_entry o le = le
-end_before low high (block first last place packed entries) o le = let l = o.2 in end_before (suc last) high entries o.3 (omega arith)
-end_before low high (lower first last nodes entries) o le = let l = o.2 in end_before (suc last) high entries o.4 (omega arith)
+end_before = entries_within (grind arith)
 
 mutual
   unfolding InOrder AreInOrder leaves_of entry_leaves
