@@ -1,6 +1,6 @@
 -- An entry more in a node: those behind it stand one further.
-use Rattle.cdf_index.proofs.Common.{rules, Changed, EntrySet, Inserted, List, NodeInside, SaysEntry, StillSays, Touch, [], arith, cases_eq, image_limit, inl, inr, length, number, refl, room_at, size_at, subst, suc, sym, touch, used_count, vxr_n_used_entries, with_field, word, word-same, ℕ, ◌*◌, ◌+◌, ◌-◌, ◌<◌, ◌∙◌, ◌∷◌, ◌≡◌, ◌≢◌, ◌≤◌}
-use Rattle.cdf_index.proofs.FieldSet.{FieldSet, field_set, changed_again, changed_wider, counts, node_head, node_small, used_by_count, size_beside, room_beside, entries_beside}
+use Rattle.cdf_index.proofs.Common.{rules, Changed, EntrySet, Inserted, List, NodeInside, SaysEntry, StillSays, Touch, [], arith, cases_eq, image_limit, inl, inr, length, refl, room_at, suc, sym, touch, used_count, vxr_n_used_entries, with_field, word, word-same, ℕ, ◌*◌, ◌+◌, ◌-◌, ◌<◌, ◌∙◌, ◌∷◌, ◌≡◌, ◌≢◌, ◌≤◌}
+use Rattle.cdf_index.proofs.FieldSet.{FieldSet, field_set, counts, entries_beside}
 
 -- ---- what stands before a place in a node stays
 
@@ -14,10 +14,7 @@ pub used_stays : (b now : List ℕ) (at n : ℕ) → Changed b now (touch at 28 
 used_stays b now at n c room = λ i. counts (front_stays b now at 28 n c room 24 4 (omega arith) i) (room_stays b now at n c room i) (front_stays b now at 28 n c room 0 8 (omega arith) i)
 
 pub inside_stays : (b now : List ℕ) (at n : ℕ) → Changed b now (touch at 28 n ∷ []) → length now ≡ length b → NodeInside b at → NodeInside now at
-inside_stays b now at n c long i =
-    let h = node_head i in
-    let s : size_at now at ≡ size_at b at = front_stays b now at 28 n c h 0 8 (omega arith) in
-    grind (arith, i, room_stays b now at n c h, used_stays b now at n c h)
+inside_stays b now at n c long i = grind (arith, c.same, i)
 
 -- what one more entry leaves, where entries of a node alone were written before
 pub record SetMore (b mid now : List ℕ) (at i : ℕ) : Type 0 where
@@ -26,30 +23,7 @@ pub record SetMore (b mid now : List ℕ) (at i : ℕ) : Type 0 where
   pub others : (j : ℕ) → j < room_at b at → j ≢ i → StillSays mid now at j j
 
 pub set_more : {b mid now : List ℕ} {at i first last offset : ℕ} → NodeInside b at → length mid ≡ length b → Changed b mid (touch at 28 (16 * room_at b at) ∷ []) → EntrySet mid now at i first last offset → SetMore b mid now at i
-set_more {b = b} {mid = mid} {now = now} {at = at} inside long c set =
-    let room = room_stays b mid at (16 * room_at b at) c (node_head inside) in
-    record { as_long = set.as_long ∙ long; changed = changed_again c long (subst (λ (x : ℕ). Changed mid now (touch at 28 (16 * x) ∷ [])) room set.changed); others = λ j lt. set.others j (omega arith) }
-
--- and the count behind them
-pub record CountSet (b mid now : List ℕ) (at n : ℕ) : Type 0 where
-  pub as_long : length now ≡ length b
-  pub changed : Changed b now (touch at 24 (4 + 16 * room_at b at) ∷ [])
-  pub size_is : size_at now at ≡ size_at b at
-  pub room_is : room_at now at ≡ room_at b at
-  pub count_is : number now at vxr_n_used_entries ≡ n
-  pub used_is : used_count now at ≡ n
-  pub entries : (i : ℕ) → StillSays mid now at i i
-
-pub count_set : {b mid now : List ℕ} {at n : ℕ} → NodeInside b at → length b ≤ image_limit → length mid ≡ length b → Changed b mid (touch at 28 (16 * room_at b at) ∷ []) → n ≤ room_at b at → now ≡ with_field mid at vxr_n_used_entries n → CountSet b mid now at n
-count_set {b = b} {mid = mid} {now = now} {at = at} {n = n} inside short long c few is =
-    let head = node_head inside in
-    let small = node_small inside short in
-    let set : FieldSet mid now at vxr_n_used_entries n = field_set (omega arith) is in
-    let size = size_beside set (omega arith) (omega arith) (inr (omega arith)) ∙ front_stays b mid at 28 (16 * room_at b at) c head 0 8 (omega arith) in
-    let room = room_beside set (omega arith) (omega arith) (inr (omega arith)) ∙ room_stays b mid at (16 * room_at b at) c head in
-    let count = set.reads (omega arith) in
-    let changed = changed_again (changed_wider 24 (4 + 16 * room_at b at) c (omega arith) (omega arith)) long (changed_wider 24 (4 + 16 * room_at b at) set.changed (omega arith) (omega arith)) in
-    search (rules, set.as_long ∙ long, changed, size, room, count, used_by_count now inside short count room size few, entries_beside set (omega arith) (omega arith) (inr (omega arith)))
+set_more inside long c set = grind (arith, inside, c, set)
 
 -- ---- entries move on, the last one first
 
@@ -82,10 +56,11 @@ shift_more {b = b} {now = now} {at = at} {used = used} {k = k} sh inside room mo
 -- ---- the new entry, and the count
 
 pub inserted : {b mid mid2 now : List ℕ} {at used p first last offset : ℕ} → Shifted b mid at used (used - p) → NodeInside b at → length b ≤ image_limit → used < room_at b at → p ≤ used → EntrySet mid mid2 at p first last offset → now ≡ with_field mid2 at vxr_n_used_entries (suc used) → Inserted b now at used p first last offset
-inserted {b = b} {now = now} {at = at} {used = used} {p = p} {first = first} {last = last} {offset = offset} sh inside short room place set write =
+inserted {b = b} {mid2 = mid2} {now = now} {at = at} {used = used} {p = p} {first = first} {last = last} {offset = offset} sh inside short room place set write =
     let m = set_more inside sh.as_long sh.changed set in
-    let c = count_set inside short m.as_long m.changed room write in
-    let earlier : (j : ℕ) → j < p → StillSays b now at j j = λ j lt f l o s. c.entries j f l o (m.others j (omega arith) (λ e. absurd (omega arith)) f l o (sh.stay j (omega arith) f l o s)) in
-    let later : (j : ℕ) → p ≤ j → j < used → StillSays b now at j (suc j) = λ j le lt f l o s. c.entries (suc j) f l o (m.others (suc j) (omega arith) (λ e. absurd (omega arith)) f l o (sh.moved_on j (omega arith) lt f l o s)) in
-    let unused : (j : ℕ) → used < j → j < room_at b at → StillSays b now at j j = λ j lt in_room f l o s. c.entries j f l o (m.others j in_room (λ e. absurd (omega arith)) f l o (sh.unused j lt in_room f l o s)) in
-    search (rules, c, earlier, c.entries p first last offset set.here, later, unused)
+    let counted : FieldSet mid2 now at vxr_n_used_entries (suc used) = field_set (omega (arith, inside.room, m.as_long)) write in
+    let kept = entries_beside counted (omega arith) (omega arith) (inr (omega arith)) in
+    let earlier : (j : ℕ) → j < p → StillSays b now at j j = λ j lt f l o s. kept j f l o (m.others j (omega arith) (λ e. absurd (omega arith)) f l o (sh.stay j (omega arith) f l o s)) in
+    let later : (j : ℕ) → p ≤ j → j < used → StillSays b now at j (suc j) = λ j le lt f l o s. kept (suc j) f l o (m.others (suc j) (omega arith) (λ e. absurd (omega arith)) f l o (sh.moved_on j (omega arith) lt f l o s)) in
+    let unused : (j : ℕ) → used < j → j < room_at b at → StillSays b now at j j = λ j lt in_room f l o s. kept j f l o (m.others j in_room (λ e. absurd (omega arith)) f l o (sh.unused j lt in_room f l o s)) in
+    grind (arith, inside, m.changed, counted, earlier, kept p first last offset set.here, later, unused)

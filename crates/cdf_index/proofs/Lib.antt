@@ -10,7 +10,6 @@ pub mod RecordRead
 pub mod Walking
 pub mod GoodBlock
 pub mod ChainWalk
-pub mod EntryWritten
 pub mod Inserting
 pub mod Measured
 pub mod NodeMade

@@ -1,15 +1,13 @@
 -- A full node that gives up entries.
-use Rattle.cdf_index.proofs.Common.{◌⊎◌, rules, Cleared, EntriesRead, Entry, EntrySet, List, NodeInside, SaysEntry, Shortened, StillSays, Widened, [], ap, arith, cases_eq, entry_in, image_limit, inl, inr, length, length-append, max, number, refl, room_at, suc, sym, vxr_n_used_entries, vxr_vxr_next, with_field, zero, ℕ, ◌*◌, ◌++◌, ◌+◌, ◌<◌, ◌^◌, ◌∙◌, ◌∷◌, ◌≡◌, ◌≢◌, ◌≤◌}
+use Rattle.cdf_index.proofs.Common.{◌⊎◌, rules, Cleared, EntriesRead, Entry, EntrySet, List, NodeInside, SaysEntry, Shortened, StillSays, Widened, [], arith, cases_eq, entry_in, image_limit, inl, inr, length, length-append, max, refl, room_at, suc, vxr_n_used_entries, vxr_vxr_next, with_field, zero, ℕ, ◌++◌, ◌+◌, ◌<◌, ◌^◌, ◌∷◌, ◌≡◌, ◌≢◌, ◌≤◌}
 use Rattle.cdf_index.specs.Writing.{SaysUnused}
-use Rattle.cdf_index.proofs.FieldSet.{FieldSet, field_set, changed_again, changed_wider, node_head, used_by_count, size_beside, room_beside, entries_beside}
-use Rattle.cdf_index.proofs.Inserting.{count_set, set_more}
+use Rattle.cdf_index.proofs.FieldSet.{FieldSet, field_set, entries_beside}
+use Rattle.cdf_index.proofs.Inserting.{set_more}
 
 -- ---- an entry that ends later
 
 pub widened_by : (b now : List ℕ) (at i last first end offset : ℕ) → SaysEntry b at i first end offset → EntrySet b now at i first (max end last) offset → Widened b now at i last
-widened_by b now at i last first end offset r set =
-    let wider : (f l o : ℕ) → SaysEntry b at i f l o → SaysEntry now at i f (max l last) o = λ f l o s. record { first_is = set.here.first_is ∙ sym r.first_is ∙ s.first_is; last_is = set.here.last_is ∙ ap (λ (x : ℕ). max x last) (sym r.last_is ∙ s.last_is); offset_is = set.here.offset_is ∙ sym r.offset_is ∙ s.offset_is } in
-    search (rules, set, wider)
+widened_by b now at i last first end offset r set = grind (arith, r, set)
 
 -- ---- entries read one by one
 
@@ -52,16 +50,11 @@ pub shortened : (b mid mid2 mid3 now : List ℕ) (at used p first last offset ne
     → Shortened b now at used p first last offset next
 shortened b mid mid2 mid3 now at used p first last offset next inside short fits place next_fits cl set write link =
     let m = set_more inside cl.as_long cl.changed set in
-    let c = count_set inside short m.as_long m.changed (omega arith) write in
-    let linked : FieldSet mid3 now at vxr_vxr_next next = field_set (let h = node_head inside in let l = c.as_long in omega arith) link in
-    let kept : (j : ℕ) → j < room_at b at → j ≢ p → StillSays mid now at j j = λ j lt ne f l o s. entries_beside linked (omega arith) (omega arith) (inl (omega arith)) j f l o (c.entries j f l o (m.others j lt ne f l o s)) in
-    let size = size_beside linked (omega arith) (omega arith) (inl (omega arith)) ∙ c.size_is in
-    let room = room_beside linked (omega arith) (omega arith) (inl (omega arith)) ∙ c.room_is in
-    let count : number now at vxr_n_used_entries ≡ suc p = linked.past (at + 24) 4 (inr (omega arith)) ∙ c.count_is ∙ omega arith in
-    let as_long = linked.as_long ∙ c.as_long in
-    let changed = changed_again (changed_wider 12 (16 + 16 * room_at b at) c.changed (omega arith) (omega arith)) c.as_long (changed_wider 12 (16 + 16 * room_at b at) linked.changed (omega arith) (omega arith)) in
+    let counted : FieldSet mid2 mid3 at vxr_n_used_entries (p + 1) = field_set (omega (arith, inside.room, m.as_long)) write in
+    let linked : FieldSet mid3 now at vxr_vxr_next next = field_set (omega (arith, inside.room, m.as_long, counted.as_long)) link in
+    let still = λ (j f l o : ℕ) (s : SaysEntry mid2 at j f l o). entries_beside linked (omega arith) (omega arith) (inl (omega arith)) j f l o (entries_beside counted (omega arith) (omega arith) (inr (omega arith)) j f l o s) in
+    let kept : (j : ℕ) → j < room_at b at → j ≢ p → StillSays mid now at j j = λ j lt ne f l o s. still j f l o (m.others j lt ne f l o s) in
     let earlier : (j : ℕ) → j < p → StillSays b now at j j = λ j lt f l o s. kept j (omega arith) (λ e. absurd (omega arith)) f l o (cl.others j (omega arith) (inl (omega arith)) f l o s) in
-    let here = entries_beside linked (omega arith) (omega arith) (inl (omega arith)) p first last offset (c.entries p first last offset set.here) in
     let gone : (j : ℕ) → p < j → j < used → SaysUnused now at j = λ j lo hi. kept j (omega arith) (λ e. absurd (omega arith)) _ _ _ (cl.gone j (omega arith) hi) in
     let unused : (j : ℕ) → used ≤ j → j < room_at b at → StillSays b now at j j = λ j le lt f l o s. kept j lt (λ e. absurd (omega arith)) f l o (cl.others j lt (inr le) f l o s) in
-    search (rules, as_long, changed, earlier, here, gone, unused, room, used_by_count now inside short count room size (omega arith), count, linked.reads next_fits)
+    grind (arith, inside, m.changed, counted, linked, earlier, still p first last offset set.here, gone, unused)
