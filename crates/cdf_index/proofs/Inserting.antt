@@ -1,6 +1,9 @@
--- An entry more in a node: those behind it stand one further.
-use Rattle.cdf_index.proofs.Common.{rules, Changed, EntrySet, Inserted, List, NodeInside, SaysEntry, StillSays, Touch, [], arith, cases_eq, image_limit, inl, inr, length, refl, room_at, suc, sym, touch, used_count, vxr_n_used_entries, with_field, word, word-same, ℕ, ◌*◌, ◌+◌, ◌-◌, ◌<◌, ◌∙◌, ◌∷◌, ◌≡◌, ◌≢◌, ◌≤◌}
+-- Entries of a node are written: what stands before them stays, and what is said of an entry more, one that ends later, fewer entries, and all of them.
+use Rattle.cdf_index.proofs.Common.{rules, Changed, EntrySet, Inserted, List, NodeInside, SaysEntry, SaysUnused, StillSays, Touch, [], arith, cases_eq, image_limit, inl, inr, length, refl, room_at, suc, sym, touch, used_count, vxr_n_used_entries, with_field, word, word-same, ℕ, ◌*◌, ◌+◌, ◌-◌, ◌<◌, ◌∙◌, ◌∷◌, ◌≡◌, ◌≢◌, ◌≤◌, ◌⊎◌, Cleared, EntriesRead, Entry, Shortened, Widened, entry_in, length-append, max, unused_entry, vxr_vxr_next, ◌++◌, ◌^◌, HeadWritten, NodeWritten, SaysFirst, subst}
 use Rattle.cdf_index.proofs.FieldSet.{FieldSet, field_set, counts, entries_beside}
+use Rattle.std.proofs.Math.Seq.{get_or-append_seam}
+use Rattle.std.proofs.lemmas.List.{get_or_append_left}
+use Rattle.std.proofs.lemmas.Option.{unwrap_or-slice_get}
 
 -- ---- what stands before a place in a node stays
 
@@ -64,3 +67,66 @@ inserted {b = b} {mid2 = mid2} {now = now} {at = at} {used = used} {p = p} {firs
     let later : (j : ℕ) → p ≤ j → j < used → StillSays b now at j (suc j) = λ j le lt f l o s. kept (suc j) f l o (m.others (suc j) (omega arith) (λ e. absurd (omega arith)) f l o (sh.moved_on j (omega arith) lt f l o s)) in
     let unused : (j : ℕ) → used < j → j < room_at b at → StillSays b now at j j = λ j lt in_room f l o s. kept j f l o (m.others j in_room (λ e. absurd (omega arith)) f l o (sh.unused j lt in_room f l o s)) in
     grind (arith, inside, m.changed, counted, earlier, kept p first last offset set.here, later, unused)
+
+-- ---- an entry that ends later
+
+pub widened_by : (b now : List ℕ) (at i last first end offset : ℕ) → SaysEntry b at i first end offset → EntrySet b now at i first (max end last) offset → Widened b now at i last
+widened_by b now at i last first end offset r set = grind (arith, r, set)
+
+-- ---- entries read one by one
+
+abbrev SaysIt : List ℕ → ℕ → ℕ → Entry → Type 0
+SaysIt b at i e = SaysEntry b at i e.first e.last e.place
+
+pub read_one : {b : List ℕ} {at from i : ℕ} {xs : List Entry} (e : Entry) → EntriesRead b at from i xs → SaysIt b at i e → EntriesRead b at from (i + 1) (xs ++ e ∷ [])
+read_one {from = from} {i = i} {xs = xs} e r s = record {
+  many = omega (arith, r.many, length-append xs (e ∷ []));
+  say = λ j lt. elim (cases_eq j (length xs)) [
+    | inl q ↦ (let there : i ≡ from + length xs = omega (arith, r.many) in rw (q, unwrap_or-slice_get, get_or-append_seam) (rw there at s))
+    | inr ne ↦ (let less : j < length xs = omega (arith, length-append xs (e ∷ [])) in rw (unwrap_or-slice_get (xs ++ e ∷ []) j unused_entry ∙ get_or_append_left xs (e ∷ []) unused_entry j less ∙ sym (unwrap_or-slice_get xs j unused_entry)) (r.say j less))
+  ];
+}
+
+-- ---- entries that are not used any more
+
+pub clear_more : {b mid now : List ℕ} {at from i : ℕ} → NodeInside b at → Cleared b mid at from i → from ≤ i → i < room_at b at → EntrySet mid now at i 0xffffffff 0xffffffff 0xffffffffffffffff → Cleared b now at from (i + 1)
+clear_more {b = b} {now = now} {at = at} {from = from} {i = i} inside c le lt set =
+    let m = set_more inside c.as_long c.changed set in
+    let gone : (j : ℕ) → from ≤ j → j < i + 1 → SaysUnused now at j = λ j lo hi. elim (cases_eq j i) [ inl e ↦ rw e set.here | inr ne ↦ m.others j (omega arith) ne _ _ _ (c.gone j lo (omega arith)) ] in
+    let others : (j : ℕ) → j < room_at b at → (j < from) ⊎ (i + 1 ≤ j) → StillSays b now at j j = λ j in_room o f l k s. m.others j in_room (λ e. elim o [ inl a ↦ absurd (omega arith) | inr a ↦ absurd (omega arith) ]) f l k (c.others j in_room (elim o [ inl a ↦ inl a | inr a ↦ inr (omega arith) ]) f l k s) in
+    search (rules, m, gone, others)
+
+-- ---- fewer entries, one more behind them, and another link
+
+pub shortened : (b mid mid2 mid3 now : List ℕ) (at used p first last offset next : ℕ) → NodeInside b at → length b ≤ image_limit → used ≤ room_at b at → p < used → next < 256 ^ 8 → Cleared b mid at (p + 1) used → EntrySet mid mid2 at p first last offset → mid3 ≡ with_field mid2 at vxr_n_used_entries (p + 1) → now ≡ with_field mid3 at vxr_vxr_next next
+    → Shortened b now at used p first last offset next
+shortened b mid mid2 mid3 now at used p first last offset next inside short fits place next_fits cl set write link =
+    let m = set_more inside cl.as_long cl.changed set in
+    let counted : FieldSet mid2 mid3 at vxr_n_used_entries (p + 1) = field_set (omega (arith, inside.room, m.as_long)) write in
+    let linked : FieldSet mid3 now at vxr_vxr_next next = field_set (omega (arith, inside.room, m.as_long, counted.as_long)) link in
+    let still = λ (j f l o : ℕ) (s : SaysEntry mid2 at j f l o). entries_beside linked (omega arith) (omega arith) (inl (omega arith)) j f l o (entries_beside counted (omega arith) (omega arith) (inr (omega arith)) j f l o s) in
+    let kept : (j : ℕ) → j < room_at b at → j ≢ p → StillSays mid now at j j = λ j lt ne f l o s. still j f l o (m.others j lt ne f l o s) in
+    let earlier : (j : ℕ) → j < p → StillSays b now at j j = λ j lt f l o s. kept j (omega arith) (λ e. absurd (omega arith)) f l o (cl.others j (omega arith) (inl (omega arith)) f l o s) in
+    let gone : (j : ℕ) → p < j → j < used → SaysUnused now at j = λ j lo hi. kept j (omega arith) (λ e. absurd (omega arith)) _ _ _ (cl.gone j (omega arith) hi) in
+    let unused : (j : ℕ) → used ≤ j → j < room_at b at → StillSays b now at j j = λ j le lt f l o s. kept j lt (λ e. absurd (omega arith)) f l o (cl.others j lt (inr le) f l o s) in
+    grind (arith, inside, m.changed, counted, linked, earlier, still p first last offset set.here, gone, unused)
+
+-- ---- the entries, one by one
+
+-- so many entries of a node were written, since its fields were
+pub record Making (head mid : List ℕ) (at n : ℕ) (entries : List Entry) : Type 0 where
+  pub as_long : length mid ≡ length head
+  pub changed : Changed head mid (touch at 28 (16 * room_at head at) ∷ [])
+  pub says : SaysFirst mid at entries n
+
+pub making_more : {head mid now : List ℕ} {at n : ℕ} {entries : List Entry} {to : Entry} → NodeInside head at → Making head mid at n entries → n < room_at head at → to ≡ entry_in entries n → EntrySet mid now at n to.first to.last to.place → Making head now at (n + 1) entries
+making_more {now = now} {at = at} {n = n} {entries = entries} inside m lt is set =
+    let more = set_more inside m.as_long m.changed set in
+    let says : SaysFirst now at entries (n + 1) = λ i less. elim (cases_eq i n) [
+      | inl q ↦ rw q (subst (λ (e : Entry). SaysEntry now at n e.first e.last e.place) is set.here)
+      | inr ne ↦ more.others i (omega arith) ne _ _ _ (m.says i (omega arith))
+    ] in
+    search (rules, more, says)
+
+pub node_written : {b head now : List ℕ} {at room next : ℕ} {entries : List Entry} → HeadWritten b head at room (length entries) next → Making head now at room entries → NodeWritten b now at room next entries
+node_written w m = grind (arith, w, m)

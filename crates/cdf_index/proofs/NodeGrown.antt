@@ -1,8 +1,7 @@
 -- A node with one entry more, or it and a new node behind it, in the tree.
-use Rattle.cdf_index.proofs.Common.{rules, Begins, Chained, Entries, HasNodes, Inserted, Leaf, List, MayName, Names, Nodes, Owed, SameHeads, SayEntries, SaysEntry, SaysNode, Split, StillSays, ap, arith, entry_count, is_linkable, le-ltb, length, link_to, linkable_kept, lt-ltb, max, next_of, no_entry, node, past, placed, room_at, suc, sym, true, used_count, vxr_type, with_block, with_both, ℕ, ◌*◌, ◌+◌, ◌-◌, ◌<◌, ◌∙◌, ◌≡◌, ◌≤◌}
+use Rattle.cdf_index.proofs.Common.{rules, Begins, Chained, Entries, HasNodes, Inserted, Leaf, List, MayName, Names, Nodes, Owed, SameHeads, SayEntries, SaysEntry, SaysNode, Split, StillSays, ap, arith, entry_count, eq-eqb, is_linkable, le-ltb, length, link_to, linkable_kept, lt-ltb, max, ne_eqb, next_of, no_entry, node, past, placed, room_at, suc, sym, true, used_count, vxr_type, with_block, with_both, ℕ, ◌*◌, ◌+◌, ◌-◌, ◌<◌, ◌∙◌, ◌≡◌, ◌≤◌}
 use Rattle.cdf_index.proofs.Inserting.{front_stays}
 use Rattle.cdf_index.proofs.Saying.{front, front_past, upto_both, upto_is, count_both, say_both, say_parts, names_both, names_parts, say_moved}
-use Rattle.std.proofs.lemmas.Bool.{ne_eqb, eq-eqb}
 
 pub node_has : (now records : List ℕ) (levels place room : ℕ) (es : Entries) (more : Nodes) → SaysNode now records place room es more → Names now records levels es → HasNodes now records (suc levels) more → HasNodes now records (suc levels) (node place room es more)
 unfolding HasNodes

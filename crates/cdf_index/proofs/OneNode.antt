@@ -1,5 +1,6 @@
 -- One node whose record stays, and the entries behind those that it has.
-use Rattle.cdf_index.proofs.Common.{Entry, Kept, List, NodeFits, StillSays, [], arith, entry_in, length, next_of, number, refl, room_at, size_at, suc, unused_entry, used_count, vxr_n_used_entries, zero, ℕ, ◌<◌, ◌∷◌, ◌≡◌, ◌≤◌}
+use Rattle.cdf_index.proofs.Common.{Entry, Kept, List, NodeFits, StillSays, arith, entry_in, length, next_of, number, refl, room_at, size_at, unused_entry, used_count, vxr_n_used_entries, ℕ, ◌<◌, ◌≡◌, ◌≤◌}
+use Rattle.std.proofs.lemmas.Option.{slice_get_past}
 
 pub record SameNode (b now : List ℕ) (m : ℕ) : Type 0 where
   pub size_is : size_at now m ≡ size_at b m
@@ -13,6 +14,4 @@ pub same_node : (b now : List ℕ) (m : ℕ) → Kept b now m → NodeFits b m �
 same_node b now m k fits = grind (arith, k, fits)
 
 pub entry_past : (entries : List Entry) (i : ℕ) → length entries ≤ i → entry_in entries i ≡ unused_entry
-entry_past [] i le = refl
-entry_past (e ∷ entries) zero le = absurd (omega arith)
-entry_past (e ∷ entries) (suc i) le = entry_past entries i (omega arith)
+entry_past entries i le = rw (slice_get_past entries i le) refl
