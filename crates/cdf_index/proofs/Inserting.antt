@@ -1,6 +1,9 @@
--- An entry more in a node: those behind it stand one further.
-use Rattle.cdf_index.proofs.Common.{rules, Changed, EntrySet, Inserted, List, NodeInside, SaysEntry, StillSays, Touch, [], arith, cases_eq, image_limit, inl, inr, length, number, refl, room_at, size_at, subst, suc, sym, touch, used_count, vxr_n_used_entries, with_field, word, word-same, ℕ, ◌*◌, ◌+◌, ◌-◌, ◌<◌, ◌∙◌, ◌∷◌, ◌≡◌, ◌≢◌, ◌≤◌}
-use Rattle.cdf_index.proofs.FieldSet.{FieldSet, field_set, changed_again, changed_wider, counts, node_head, node_small, used_by_count, size_beside, room_beside, entries_beside}
+-- Entries of a node are written: what stands before them stays, and what is said of an entry more, one that ends later, fewer entries, and all of them.
+use Rattle.cdf_index.proofs.Common.{rules, Changed, EntrySet, Inserted, List, NodeInside, SaysEntry, SaysUnused, StillSays, Touch, [], arith, cases_eq, image_limit, inl, inr, length, refl, room_at, suc, sym, touch, used_count, vxr_n_used_entries, with_field, word, word-same, ℕ, ◌*◌, ◌+◌, ◌-◌, ◌<◌, ◌∙◌, ◌∷◌, ◌≡◌, ◌≢◌, ◌≤◌, ◌⊎◌, Cleared, EntriesRead, Entry, Shortened, Widened, entry_in, length-append, max, unused_entry, vxr_vxr_next, ◌++◌, ◌^◌, HeadWritten, NodeWritten, SaysFirst, subst}
+use Rattle.cdf_index.proofs.FieldSet.{FieldSet, field_set, counts, entries_beside}
+use Rattle.std.proofs.Math.Seq.{get_or-append_seam}
+use Rattle.std.proofs.lemmas.List.{get_or_append_left}
+use Rattle.std.proofs.lemmas.Option.{unwrap_or-slice_get}
 
 -- ---- what stands before a place in a node stays
 
@@ -14,10 +17,7 @@ pub used_stays : (b now : List ℕ) (at n : ℕ) → Changed b now (touch at 28 
 used_stays b now at n c room = λ i. counts (front_stays b now at 28 n c room 24 4 (omega arith) i) (room_stays b now at n c room i) (front_stays b now at 28 n c room 0 8 (omega arith) i)
 
 pub inside_stays : (b now : List ℕ) (at n : ℕ) → Changed b now (touch at 28 n ∷ []) → length now ≡ length b → NodeInside b at → NodeInside now at
-inside_stays b now at n c long i =
-    let h = node_head i in
-    let s : size_at now at ≡ size_at b at = front_stays b now at 28 n c h 0 8 (omega arith) in
-    grind (arith, i, room_stays b now at n c h, used_stays b now at n c h)
+inside_stays b now at n c long i = grind (arith, c.same, i)
 
 -- what one more entry leaves, where entries of a node alone were written before
 pub record SetMore (b mid now : List ℕ) (at i : ℕ) : Type 0 where
@@ -26,30 +26,7 @@ pub record SetMore (b mid now : List ℕ) (at i : ℕ) : Type 0 where
   pub others : (j : ℕ) → j < room_at b at → j ≢ i → StillSays mid now at j j
 
 pub set_more : {b mid now : List ℕ} {at i first last offset : ℕ} → NodeInside b at → length mid ≡ length b → Changed b mid (touch at 28 (16 * room_at b at) ∷ []) → EntrySet mid now at i first last offset → SetMore b mid now at i
-set_more {b = b} {mid = mid} {now = now} {at = at} inside long c set =
-    let room = room_stays b mid at (16 * room_at b at) c (node_head inside) in
-    record { as_long = set.as_long ∙ long; changed = changed_again c long (subst (λ (x : ℕ). Changed mid now (touch at 28 (16 * x) ∷ [])) room set.changed); others = λ j lt. set.others j (omega arith) }
-
--- and the count behind them
-pub record CountSet (b mid now : List ℕ) (at n : ℕ) : Type 0 where
-  pub as_long : length now ≡ length b
-  pub changed : Changed b now (touch at 24 (4 + 16 * room_at b at) ∷ [])
-  pub size_is : size_at now at ≡ size_at b at
-  pub room_is : room_at now at ≡ room_at b at
-  pub count_is : number now at vxr_n_used_entries ≡ n
-  pub used_is : used_count now at ≡ n
-  pub entries : (i : ℕ) → StillSays mid now at i i
-
-pub count_set : {b mid now : List ℕ} {at n : ℕ} → NodeInside b at → length b ≤ image_limit → length mid ≡ length b → Changed b mid (touch at 28 (16 * room_at b at) ∷ []) → n ≤ room_at b at → now ≡ with_field mid at vxr_n_used_entries n → CountSet b mid now at n
-count_set {b = b} {mid = mid} {now = now} {at = at} {n = n} inside short long c few is =
-    let head = node_head inside in
-    let small = node_small inside short in
-    let set : FieldSet mid now at vxr_n_used_entries n = field_set (omega arith) is in
-    let size = size_beside set (omega arith) (omega arith) (inr (omega arith)) ∙ front_stays b mid at 28 (16 * room_at b at) c head 0 8 (omega arith) in
-    let room = room_beside set (omega arith) (omega arith) (inr (omega arith)) ∙ room_stays b mid at (16 * room_at b at) c head in
-    let count = set.reads (omega arith) in
-    let changed = changed_again (changed_wider 24 (4 + 16 * room_at b at) c (omega arith) (omega arith)) long (changed_wider 24 (4 + 16 * room_at b at) set.changed (omega arith) (omega arith)) in
-    search (rules, set.as_long ∙ long, changed, size, room, count, used_by_count now inside short count room size few, entries_beside set (omega arith) (omega arith) (inr (omega arith)))
+set_more inside long c set = grind (arith, inside, c, set)
 
 -- ---- entries move on, the last one first
 
@@ -82,10 +59,74 @@ shift_more {b = b} {now = now} {at = at} {used = used} {k = k} sh inside room mo
 -- ---- the new entry, and the count
 
 pub inserted : {b mid mid2 now : List ℕ} {at used p first last offset : ℕ} → Shifted b mid at used (used - p) → NodeInside b at → length b ≤ image_limit → used < room_at b at → p ≤ used → EntrySet mid mid2 at p first last offset → now ≡ with_field mid2 at vxr_n_used_entries (suc used) → Inserted b now at used p first last offset
-inserted {b = b} {now = now} {at = at} {used = used} {p = p} {first = first} {last = last} {offset = offset} sh inside short room place set write =
+inserted {b = b} {mid2 = mid2} {now = now} {at = at} {used = used} {p = p} {first = first} {last = last} {offset = offset} sh inside short room place set write =
     let m = set_more inside sh.as_long sh.changed set in
-    let c = count_set inside short m.as_long m.changed room write in
-    let earlier : (j : ℕ) → j < p → StillSays b now at j j = λ j lt f l o s. c.entries j f l o (m.others j (omega arith) (λ e. absurd (omega arith)) f l o (sh.stay j (omega arith) f l o s)) in
-    let later : (j : ℕ) → p ≤ j → j < used → StillSays b now at j (suc j) = λ j le lt f l o s. c.entries (suc j) f l o (m.others (suc j) (omega arith) (λ e. absurd (omega arith)) f l o (sh.moved_on j (omega arith) lt f l o s)) in
-    let unused : (j : ℕ) → used < j → j < room_at b at → StillSays b now at j j = λ j lt in_room f l o s. c.entries j f l o (m.others j in_room (λ e. absurd (omega arith)) f l o (sh.unused j lt in_room f l o s)) in
-    search (rules, c, earlier, c.entries p first last offset set.here, later, unused)
+    let counted : FieldSet mid2 now at vxr_n_used_entries (suc used) = field_set (omega (arith, inside.room, m.as_long)) write in
+    let kept = entries_beside counted (omega arith) (omega arith) (inr (omega arith)) in
+    let earlier : (j : ℕ) → j < p → StillSays b now at j j = λ j lt f l o s. kept j f l o (m.others j (omega arith) (λ e. absurd (omega arith)) f l o (sh.stay j (omega arith) f l o s)) in
+    let later : (j : ℕ) → p ≤ j → j < used → StillSays b now at j (suc j) = λ j le lt f l o s. kept (suc j) f l o (m.others (suc j) (omega arith) (λ e. absurd (omega arith)) f l o (sh.moved_on j (omega arith) lt f l o s)) in
+    let unused : (j : ℕ) → used < j → j < room_at b at → StillSays b now at j j = λ j lt in_room f l o s. kept j f l o (m.others j in_room (λ e. absurd (omega arith)) f l o (sh.unused j lt in_room f l o s)) in
+    grind (arith, inside, m.changed, counted, earlier, kept p first last offset set.here, later, unused)
+
+-- ---- an entry that ends later
+
+pub widened_by : (b now : List ℕ) (at i last first end offset : ℕ) → SaysEntry b at i first end offset → EntrySet b now at i first (max end last) offset → Widened b now at i last
+widened_by b now at i last first end offset r set = grind (arith, r, set)
+
+-- ---- entries read one by one
+
+abbrev SaysIt : List ℕ → ℕ → ℕ → Entry → Type 0
+SaysIt b at i e = SaysEntry b at i e.first e.last e.place
+
+pub read_one : {b : List ℕ} {at from i : ℕ} {xs : List Entry} (e : Entry) → EntriesRead b at from i xs → SaysIt b at i e → EntriesRead b at from (i + 1) (xs ++ e ∷ [])
+read_one {from = from} {i = i} {xs = xs} e r s = record {
+  many = omega (arith, r.many, length-append xs (e ∷ []));
+  say = λ j lt. elim (cases_eq j (length xs)) [
+    | inl q ↦ (let there : i ≡ from + length xs = omega (arith, r.many) in rw (q, unwrap_or-slice_get, get_or-append_seam) (rw there at s))
+    | inr ne ↦ (let less : j < length xs = omega (arith, length-append xs (e ∷ [])) in rw (unwrap_or-slice_get (xs ++ e ∷ []) j unused_entry ∙ get_or_append_left xs (e ∷ []) unused_entry j less ∙ sym (unwrap_or-slice_get xs j unused_entry)) (r.say j less))
+  ];
+}
+
+-- ---- entries that are not used any more
+
+pub clear_more : {b mid now : List ℕ} {at from i : ℕ} → NodeInside b at → Cleared b mid at from i → from ≤ i → i < room_at b at → EntrySet mid now at i 0xffffffff 0xffffffff 0xffffffffffffffff → Cleared b now at from (i + 1)
+clear_more {b = b} {now = now} {at = at} {from = from} {i = i} inside c le lt set =
+    let m = set_more inside c.as_long c.changed set in
+    let gone : (j : ℕ) → from ≤ j → j < i + 1 → SaysUnused now at j = λ j lo hi. elim (cases_eq j i) [ inl e ↦ rw e set.here | inr ne ↦ m.others j (omega arith) ne _ _ _ (c.gone j lo (omega arith)) ] in
+    let others : (j : ℕ) → j < room_at b at → (j < from) ⊎ (i + 1 ≤ j) → StillSays b now at j j = λ j in_room o f l k s. m.others j in_room (λ e. elim o [ inl a ↦ absurd (omega arith) | inr a ↦ absurd (omega arith) ]) f l k (c.others j in_room (elim o [ inl a ↦ inl a | inr a ↦ inr (omega arith) ]) f l k s) in
+    search (rules, m, gone, others)
+
+-- ---- fewer entries, one more behind them, and another link
+
+pub shortened : (b mid mid2 mid3 now : List ℕ) (at used p first last offset next : ℕ) → NodeInside b at → length b ≤ image_limit → used ≤ room_at b at → p < used → next < 256 ^ 8 → Cleared b mid at (p + 1) used → EntrySet mid mid2 at p first last offset → mid3 ≡ with_field mid2 at vxr_n_used_entries (p + 1) → now ≡ with_field mid3 at vxr_vxr_next next
+    → Shortened b now at used p first last offset next
+shortened b mid mid2 mid3 now at used p first last offset next inside short fits place next_fits cl set write link =
+    let m = set_more inside cl.as_long cl.changed set in
+    let counted : FieldSet mid2 mid3 at vxr_n_used_entries (p + 1) = field_set (omega (arith, inside.room, m.as_long)) write in
+    let linked : FieldSet mid3 now at vxr_vxr_next next = field_set (omega (arith, inside.room, m.as_long, counted.as_long)) link in
+    let still = λ (j f l o : ℕ) (s : SaysEntry mid2 at j f l o). entries_beside linked (omega arith) (omega arith) (inl (omega arith)) j f l o (entries_beside counted (omega arith) (omega arith) (inr (omega arith)) j f l o s) in
+    let kept : (j : ℕ) → j < room_at b at → j ≢ p → StillSays mid now at j j = λ j lt ne f l o s. still j f l o (m.others j lt ne f l o s) in
+    let earlier : (j : ℕ) → j < p → StillSays b now at j j = λ j lt f l o s. kept j (omega arith) (λ e. absurd (omega arith)) f l o (cl.others j (omega arith) (inl (omega arith)) f l o s) in
+    let gone : (j : ℕ) → p < j → j < used → SaysUnused now at j = λ j lo hi. kept j (omega arith) (λ e. absurd (omega arith)) _ _ _ (cl.gone j (omega arith) hi) in
+    let unused : (j : ℕ) → used ≤ j → j < room_at b at → StillSays b now at j j = λ j le lt f l o s. kept j lt (λ e. absurd (omega arith)) f l o (cl.others j lt (inr le) f l o s) in
+    grind (arith, inside, m.changed, counted, linked, earlier, still p first last offset set.here, gone, unused)
+
+-- ---- the entries, one by one
+
+-- so many entries of a node were written, since its fields were
+pub record Making (head mid : List ℕ) (at n : ℕ) (entries : List Entry) : Type 0 where
+  pub as_long : length mid ≡ length head
+  pub changed : Changed head mid (touch at 28 (16 * room_at head at) ∷ [])
+  pub says : SaysFirst mid at entries n
+
+pub making_more : {head mid now : List ℕ} {at n : ℕ} {entries : List Entry} {to : Entry} → NodeInside head at → Making head mid at n entries → n < room_at head at → to ≡ entry_in entries n → EntrySet mid now at n to.first to.last to.place → Making head now at (n + 1) entries
+making_more {now = now} {at = at} {n = n} {entries = entries} inside m lt is set =
+    let more = set_more inside m.as_long m.changed set in
+    let says : SaysFirst now at entries (n + 1) = λ i less. elim (cases_eq i n) [
+      | inl q ↦ rw q (subst (λ (e : Entry). SaysEntry now at n e.first e.last e.place) is set.here)
+      | inr ne ↦ more.others i (omega arith) ne _ _ _ (m.says i (omega arith))
+    ] in
+    search (rules, more, says)
+
+pub node_written : {b head now : List ℕ} {at room next : ℕ} {entries : List Entry} → HeadWritten b head at room (length entries) next → Making head now at room entries → NodeWritten b now at room next entries
+node_written w m = grind (arith, w, m)

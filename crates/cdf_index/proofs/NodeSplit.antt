@@ -1,6 +1,5 @@
 -- A full node and a new one behind it, in the bytes: what was written of both makes the split.
-use Rattle.cdf_index.proofs.Common.{rules, EntriesRead, Entry, Kept, List, NodeFits, NodeWritten, SaysEntry, Shortened, Split, arith, entry_in, max, next_of, room_at, sym, ℕ, ◌+◌, ◌-◌, ◌<◌, ◌∙◌, ◌≡◌, ◌≤◌}
-use Rattle.cdf_format.specs.Index.{used_count}
+use Rattle.cdf_index.proofs.Common.{rules, EntriesRead, Entry, Kept, List, NodeFits, NodeWritten, SaysEntry, Shortened, Split, arith, entry_in, max, next_of, room_at, sym, used_count, ℕ, ◌+◌, ◌-◌, ◌<◌, ◌∙◌, ◌≡◌, ◌≤◌}
 use Rattle.cdf_index.proofs.Inserting.{still_it}
 use Rattle.cdf_index.proofs.OneNode.{same_node}
 

@@ -45,6 +45,7 @@ pub fn read_entry<A: Area>(area: &mut A, at: u64, room: u64, i: u64) -> Result<E
 }
 
 /// Writes the entry with number `i` of a node that has room for so many.
+#[tactic(auto, using(crate::proofs::FieldSet::entry_written))]
 pub fn set_entry<A: Area>(
     area: &mut A,
     at: u64,

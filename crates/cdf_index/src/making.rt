@@ -21,6 +21,7 @@ fn entry_of(entries: &[Entry], i: u64) -> Entry
 }
 
 /// Writes what a node says before its entries, with its type.
+#[tactic(auto, using(crate::proofs::FieldSet::set_there))]
 fn write_head<A: Area>(
     area: &mut A,
     at: u64,

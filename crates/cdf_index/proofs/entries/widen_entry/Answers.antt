@@ -1,5 +1,5 @@
 use Rattle.cdf_index.proofs.Common.{on_ok_weaker}
-use Rattle.cdf_index.proofs.NodeShortened.{widened_by}
+use Rattle.cdf_index.proofs.Inserting.{widened_by}
 use Rattle.cdf_index.proofs.entries.widen_entry.Goals as goal
 
 pub returns-clause-widened : goal.returns-clause-widened

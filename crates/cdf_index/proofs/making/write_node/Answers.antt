@@ -1,5 +1,5 @@
 use Rattle.cdf_index.proofs.Common.{arith, edit_more, ◌≡◌}
-use Rattle.cdf_index.proofs.NodeMade.{making_more, node_written}
+use Rattle.cdf_index.proofs.Inserting.{making_more, node_written}
 use Rattle.cdf_index.proofs.making.write_node.Goals as goal
 
 pub loop-i-preserved : goal.loop-i-preserved

@@ -1,5 +1,5 @@
 use Rattle.cdf_index.proofs.Common.{Keeps}
-use Rattle.cdf_index.proofs.NodeMade.{Making}
+use Rattle.cdf_index.proofs.Inserting.{Making}
 use Rattle.cdf_index.proofs.making.write_node.Given as goal
 
 abbrev pub invariant-loop-i : goal.invariant-loop-i

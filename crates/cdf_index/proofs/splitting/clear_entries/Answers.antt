@@ -1,5 +1,5 @@
 use Rattle.cdf_index.proofs.Common.{arith, edit_more, ◌≡◌}
-use Rattle.cdf_index.proofs.NodeShortened.{clear_more}
+use Rattle.cdf_index.proofs.Inserting.{clear_more}
 use Rattle.cdf_index.proofs.splitting.clear_entries.Goals as goal
 
 pub loop-i-preserved : goal.loop-i-preserved
