@@ -1,8 +1,9 @@
 -- What a search has that starts along the top chain of an index, and what of the index it has with the search from the first node.
-use Rattle.cdf_index.proofs.Common.{AreInOrder, AreTiles, Distinct, Distinct-back, Entries, HasIndex, HasNodes, In, In-append_right, InOrder, IsNode, IsOrderly, Leaf, List, NodeFits, Nodes, Option, SomeNode, Stands, ap, append_assoc, arith, block, cases_eq, chain_reaches, either, entry_firsts, filter, find_entry, find_in, firsts_of, fold, has, index_at, inl, inr, leaf_of, least_first_past, leaves_of, length, link_to, lower, lower_nodes, ltb, min, nat_tests, no_entry, no_node, node, nodes_of, number_within, past_entries, record_number_limit, refl, spot, subst, suc, sym, tiles, true, way, with_leaf, zero, ℕ, ◌++◌, ◌+◌, ◌∙◌, ◌≡◌, ◌≢◌, ◌≤◌}
+use Rattle.cdf_index.proofs.Common.{AreInOrder, AreTiles, Distinct, Distinct-back, Entries, HasIndex, HasNodes, In, In-append_right, InOrder, IsNode, IsOrderly, Leaf, List, NodeFits, Nodes, Option, SomeNode, Stands, ap, append_assoc, arith, cases_eq, chain_reaches, either, entry_firsts, filter, find_entry, find_in, firsts_of, fold, has, index_at, inl, inr, leaf_of, least_first_past, leaves_of, length, link_to, lower_nodes, ltb, min, nat_tests, no_node, node, nodes_of, number_within, past_entries, record_number_limit, refl, spot, subst, suc, sym, tiles, true, way, with_leaf, zero, ℕ, ◌++◌, ◌+◌, ◌∙◌, ◌≡◌, ◌≢◌, ◌≤◌}
 use Rattle.cdf_edits.specs.Index.Written.{last_node, top_chain}
 use Rattle.cdf_edits.proofs.Edits.VariableFrame.{Each-map}
 use Rattle.cdf_index.proofs.Ascending.{index_stands}
+use Rattle.cdf_index.proofs.ByParts.{ByParts, entries_within, nodes_by, of_entries, of_nodes}
 use Rattle.cdf_index.proofs.Coming.{chain_reaches_from}
 use Rattle.cdf_index.proofs.EntriesLeft.{node_parts}
 use Rattle.cdf_index.proofs.GoodIndex.{found_index}
@@ -71,28 +72,19 @@ index_node {b = b} {head = head} has some = rest_node has whole (node_there_by h
 
 -- ---- entries before a record are passed
 
-mutual
-  unfolding InOrder AreInOrder firsts_of entry_firsts
+abbrev Passed : ℕ → List ℕ → Type 0
+Passed f firsts = (xs : List ℕ) → filter (ltb f) (firsts ++ xs) ≡ filter (ltb f) xs
 
-  pub chain_passed : (f low high : ℕ) (ns : Nodes) (xs : List ℕ) → InOrder low high ns → low ≤ suc high → high ≤ f → filter (ltb f) (firsts_of ns ++ xs) ≡ filter (ltb f) xs
-  chain_passed f low high no_node xs o le lt = refl
-  chain_passed f low high (node place room es more) xs o le lt =
-      let e = end_before low high es o.0 le in
-      rw append_assoc (firsts_passed f low high es (firsts_of more ++ xs) o.0 (omega arith) ∙ chain_passed f (past_entries low es) high more xs o.1 e lt)
+passed : (f : ℕ) → ByParts (λ ns. (low high : ℕ) → InOrder low high ns → low ≤ suc high → high ≤ f → Passed f (firsts_of ns)) (λ es. (low high : ℕ) → AreInOrder low high es → past_entries low es ≤ suc f → Passed f (entry_firsts es))
+unfolding InOrder AreInOrder firsts_of entry_firsts
+passed f = grind (arith, nat_tests, append_assoc {A = ℕ}, end_before, end_after)
 
-  firsts_passed : (f low high : ℕ) (es : Entries) (xs : List ℕ) → AreInOrder low high es → past_entries low es ≤ suc f → filter (ltb f) (entry_firsts es ++ xs) ≡ filter (ltb f) xs
-  firsts_passed f low high no_entry xs o le = refl
-  firsts_passed f low high (block first last place packed es) xs o le = grind (arith, nat_tests, end_after (suc last) high es o.3, firsts_passed f (suc last) high es xs o.3 le, o.1)
-  firsts_passed f low high (lower first last nodes es) xs o le =
-      let e = end_after (suc last) high es o.4 in
-      let fl = o.1 in
-      grind (arith, nat_tests, append_assoc (firsts_of nodes) (entry_firsts es) xs, chain_passed f first last nodes (entry_firsts es ++ xs) o.3 (omega arith) (omega arith), firsts_passed f (suc last) high es xs o.4 le)
+pub chain_passed : (f low high : ℕ) (ns : Nodes) → InOrder low high ns → low ≤ suc high → high ≤ f → Passed f (firsts_of ns)
+chain_passed f low high ns = of_nodes (passed f) ns low high
 
-entries_passed : (f low high : ℕ) (es : Entries) (other : Option Leaf) → AreInOrder low high es → past_entries low es ≤ f → find_entry f es other ≡ other
+entries_passed : (f : ℕ) (other : Option Leaf) (low high : ℕ) (es : Entries) → AreInOrder low high es → past_entries low es ≤ f → find_entry f es other ≡ other
 unfolding AreInOrder find_entry
-entries_passed f low high no_entry other o le = refl
-entries_passed f low high (block first last place packed es) other o le = grind (arith, nat_tests, end_after (suc last) high es o.3, entries_passed f (suc last) high es other o.3 le)
-entries_passed f low high (lower first last nodes es) other o le = grind (arith, nat_tests, end_after (suc last) high es o.4, entries_passed f (suc last) high es other o.4 le)
+entries_passed f other = entries_within (grind (arith, nat_tests, end_after))
 
 -- ---- a search from there on meets the same
 
@@ -110,18 +102,14 @@ from_rest f ns = from_by f Rest (λ ns. whole) (λ place room es s more t r. beh
 
 -- where there is a node, it is at one of the top chain
 pub from_top : (f : ℕ) (ns : Nodes) → IsNode ns → IsNode (from_reached f ns) × In (link_to (from_reached f ns)) (top_chain ns)
-from_top f ns = from_by f (λ s ns. IsNode ns → IsNode s × In (link_to s) (top_chain ns)) (λ ns is. grind arith) (λ place room es s more t r is. (let on = r (chain_there f more t) in (on.0, inr on.1))) ns
+from_top f = nodes_by (λ es. Unit {0}) (grind (arith, chain_there))
 
 abbrev pub Same : ℕ → Nodes → Nodes → Type 0
 Same f s ns = (low high : ℕ) → InOrder low high ns → (way f s ≡ way f ns) × (spot f s ≡ spot f ns) × (find_in f s ≡ find_in f ns) × (filter (ltb f) (firsts_of s) ≡ filter (ltb f) (firsts_of ns))
 
 pub same_from : (f : ℕ) (ns : Nodes) → Same f (from_reached f ns) ns
 unfolding way spot InOrder find_in firsts_of
-same_from f ns =
-    from_by f (Same f) (λ ns low high o. (refl, refl, refl, refl)) (λ place room es s more t r low high o.
-    (let e = r (past_entries low es) high o.1 in
-    let le = chain_reaches_from f (past_entries low es) high more o.1 t in
-    (rw t e.0, rw t e.1, e.2 ∙ sym (entries_passed f low high es (find_in f more) o.0 le), e.3 ∙ sym (firsts_passed f low high es (firsts_of more) o.0 (omega arith))))) ns
+same_from f = nodes_by (λ es. Unit {0}) (grind (arith, chain_reaches_from, entries_passed, of_entries (passed f)))
 
 -- what a start has, and what of the index
 pub record StartsAt (b : List ℕ) (head rec start : ℕ) : Type 0 where

@@ -1,6 +1,7 @@
 -- The walk along a chain, to the last of its nodes that has an entry which begins at a record or before it.
-use Rattle.cdf_index.proofs.Common.{Entries, HasIndex, InOrder, List, Nodes, Option, Some, SayEntries, SomeNode, ap, arith, block, cases_lt, chain_reaches, entry_count, entry_firsts, false, first_at, first_past, firsts_of, if◌then◌else◌, index_at, inl, inr, le-ltb, length, length-append, link_to, lower, lower_nodes, lt-ltb, nat_tests, no_entry, no_node, node, nodes_of, past, past_entries, record_number_limit, refl, suc, sym, ℕ, ◌++◌, ◌+◌, ◌<◌, ◌∙◌, ◌≡◌, ◌≢◌, ◌≤◌, ◌⊎◌, ChainWalked, Meets, behind_of, first_after}
+use Rattle.cdf_index.proofs.Common.{Entries, HasIndex, InOrder, List, Nodes, Option, Some, SayEntries, SomeNode, ap, arith, cases_lt, chain_reaches, entry_count, entry_firsts, false, first_at, first_past, firsts_of, if◌then◌else◌, index_at, inl, inr, le-ltb, length, length-append, link_to, lower_nodes, lt-ltb, nat_tests, no_entry, no_node, node, nodes_of, past, past_entries, record_number_limit, refl, sym, ℕ, ◌++◌, ◌+◌, ◌<◌, ◌∙◌, ◌≡◌, ◌≢◌, ◌≤◌, ◌⊎◌, ChainWalked, Meets, behind_of, first_after}
 use Rattle.cdf_edits.specs.Index.Written.{top_chain}
+use Rattle.cdf_index.proofs.ByParts.{entries_by, entries_from, nodes_by}
 use Rattle.cdf_index.proofs.Coming.{chain_not_reached}
 use Rattle.cdf_index.proofs.EntriesLeft.{NodeParts, node_parts}
 use Rattle.cdf_index.proofs.FromReached.{Rest, Standing, behind, from_rest, from_top, index_standing, rest_node, rest_stands, whole}
@@ -18,11 +19,9 @@ rest_more (behind r) = behind (rest_more r)
 
 -- ---- how many nodes there are
 
-lead_few : (f : ℕ) (low : Nodes) (es : Entries) → length (nodes_of (lead f low es)) ≤ length (nodes_of low) + length (lower_nodes es)
-unfolding lower_nodes
-lead_few f low no_entry = omega arith
-lead_few f low (block first last place packed es) = grind (arith, nat_tests, lead_few f no_node es)
-lead_few f low (lower first last nodes es) = grind (arith, nat_tests, lead_few f nodes es, length-append (nodes_of nodes) (lower_nodes es))
+lead_few : (f : ℕ) (es : Entries) (low : Nodes) → length (nodes_of (lead f low es)) ≤ length (nodes_of low) + length (lower_nodes es)
+unfolding nodes_of lower_nodes
+lead_few f = entries_by (grind (arith, nat_tests, length-append {A = ℕ}))
 
 -- the chain to which the entries of the first node lead
 abbrev pub down_of : ℕ → Nodes → Nodes
@@ -31,8 +30,7 @@ down_of f (node place room es more) = lead f no_node es
 
 pub chain_few : (f : ℕ) (ns : Nodes) → length (top_chain ns) + length (nodes_of (down_of f (from_reached f ns))) ≤ length (nodes_of ns)
 unfolding nodes_of
-chain_few f no_node = omega arith
-chain_few f (node place room es more) = grind (arith, chain_few f more, lead_few f no_node es, length-append (lower_nodes es) (nodes_of more))
+chain_few f = nodes_by (λ es. Unit {0}) (grind (arith, lead_few, length-append {A = ℕ}))
 
 pub some_turn : (ns : Nodes) → link_to ns ≢ 0 → 1 ≤ length (top_chain ns)
 some_turn ns n = grind arith
@@ -40,16 +38,12 @@ some_turn ns n = grind arith
 -- ---- the entries past a record
 
 past_none : (f : ℕ) (es : Entries) → begun_in f es ≡ 0 → past f es ≡ es
-past_none f no_entry z = refl
-past_none f (block first last place packed es) z = grind (arith, nat_tests)
-past_none f (lower first last nodes es) z = grind (arith, nat_tests)
+past_none f = entries_by (grind (arith, nat_tests))
 
 -- the First of the first of them comes next
-first_behind : (b : List ℕ) (at f k m : ℕ) (es : Entries) (xs : List ℕ) (other : Option ℕ) → SayEntries b at k es → m ≡ k + begun_in f es → begun_in f es < entry_count es → first_past f (entry_firsts (past f es) ++ xs) other ≡ Some (first_at b at m)
+first_behind : (b : List ℕ) (at f m : ℕ) (xs : List ℕ) (other : Option ℕ) (k : ℕ) (es : Entries) → SayEntries b at k es → m ≡ k + begun_in f es → begun_in f es < entry_count es → first_past f (entry_firsts (past f es) ++ xs) other ≡ Some (first_at b at m)
 unfolding entry_firsts
-first_behind b at f k m no_entry xs other s e lt = absurd (omega arith)
-first_behind b at f k m (block first last place packed es) xs other s e lt = grind (arith, nat_tests, s.0.first_is, first_behind b at f (suc k) m es xs other s.1)
-first_behind b at f k m (lower first last nodes es) xs other s e lt = grind (arith, nat_tests, s.0.first_is, first_behind b at f (suc k) m es xs other s.1)
+first_behind b at f m xs other = entries_from (grind (arith, nat_tests))
 
 -- ---- the walk
 
@@ -143,7 +137,7 @@ module _ {b : List ℕ} {f turn at : ℕ} {best here : Stop} (has : HasIndex b a
   ahead : (here.begun < here.head.used) ⊎ (here.head.next ≡ 0) → (other : Option ℕ) → first_past f (entry_firsts (past f c.entries) ++ firsts_of c.more) other ≡ first_after b here other
   unfolding firsts_of entry_firsts
   ahead o other = elim (cases_lt here.begun here.head.used) [
-    | inl lt ↦ rw (lt-ltb here.begun here.head.used lt) (first_behind b here.place f 0 here.begun c.entries (firsts_of c.more) other parts.says.say_entries (omega (arith, count)) (omega (arith, count, used)))
+    | inl lt ↦ rw (lt-ltb here.begun here.head.used lt) (first_behind b here.place f here.begun (firsts_of c.more) other 0 c.entries parts.says.say_entries (omega (arith, count)) (omega (arith, count, used)))
     | inr le ↦ rw (le-ltb here.begun here.head.used le, all_past le, no_more (elim o [ inl lt ↦ absurd (omega arith) | inr z ↦ z ])) refl
   ]
 

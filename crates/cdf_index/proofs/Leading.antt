@@ -1,5 +1,5 @@
 -- The entries of a node that begin at a record or before it: how many they are, and where the last of them leads to.
-use Rattle.cdf_index.proofs.Common.{AreInOrder, Begins, Begun, Bool, Entries, IsNode, List, Names, Nodes, SayEntries, arith, block, down_at, entry_count, false, first_at, if◌then◌else◌, leads_down, leb, lower, ltb, nat_tests, no_entry, no_node, node, past, past_entries, reaches, refl, spot, spot_below, suc, true, used_count, way, way_below, ℕ, ◌+◌, ◌<◌, ◌≡◌, ◌≤◌}
+use Rattle.cdf_index.proofs.Common.{AreInOrder, Begins, Begun, Bool, Entries, IsNode, List, Names, Nodes, SayEntries, arith, block, down_at, entry_count, false, first_at, if◌then◌else◌, leads_down, leb, lower, ltb, nat_tests, no_entry, no_node, node, past, past_entries, reaches, spot, spot_below, suc, true, used_count, way, way_below, ℕ, ◌+◌, ◌<◌, ◌≡◌, ◌≤◌}
 use Rattle.cdf_index.proofs.EntriesCut.{Parted, one_more, parted_all}
 use Rattle.cdf_index.proofs.Coming.{not_reached}
 use Rattle.cdf_index.proofs.OrderLemmas.{end_after}

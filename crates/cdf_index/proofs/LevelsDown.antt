@@ -1,6 +1,7 @@
 -- The way down to the place of a new entry, from level to level.
-use Rattle.cdf_index.proofs.Common.{AreInOrder, AreTiles, Begun, Distinct, Distinct-back, Distinct-front, Each, Each-append, Entries, HasIndex, HasNodes, In, InOrder, IsAmong, IsNode, List, LowerAreZero, Names, NextsAreZero, Nodes, Option, SeesNode, Spot, Step, StepSays, [], ap, append-nil, append_assoc, arith, block, chain_before, chain_reaches, either, entry_firsts, eq-eqb, eqb, false, filter, first_past, firsts_of, if◌then◌else◌, index_at, inl, inr, leaf, leb, length, link_to, linkable-type, lower, lower_nodes, ltb, map, map-append, nat_tests, ne_eqb, no_entry, no_node, node, nodes_of, past, record_number_limit, refl, spot, step_pair, subst, suc, sym, tiles, true, type_at, vxr_type, way, zero, ℕ, ◌++◌, ◌+◌, ◌-◌, ◌<◌, ◌∙◌, ◌∷◌, ◌≡◌, ◌≢◌, ◌≤◌, behind_of, Stands, entry_leaves, leaves_of}
+use Rattle.cdf_index.proofs.Common.{AreInOrder, AreTiles, Begun, Distinct, Distinct-back, Distinct-front, Each, Each-append, Entries, HasIndex, HasNodes, In, InOrder, IsAmong, IsNode, List, LowerAreZero, Names, NextsAreZero, Nodes, Option, SeesNode, Spot, Step, StepSays, [], ap, append-nil, append_assoc, arith, block, chain_before, chain_reaches, either, entry_firsts, eq-eqb, eqb, false, filter, first_past, firsts_of, if◌then◌else◌, index_at, inl, inr, leaf, leb, length, link_to, linkable-type, lower, lower_nodes, ltb, map, map-append, nat_tests, ne_eqb, no_entry, no_node, node, nodes_of, past, record_number_limit, refl, spot, step_pair, subst, suc, sym, tiles, true, type_at, vxr_type, way, ℕ, ◌++◌, ◌+◌, ◌-◌, ◌<◌, ◌∙◌, ◌∷◌, ◌≡◌, ◌≢◌, ◌≤◌, behind_of, Stands, entry_leaves, leaves_of}
 use Rattle.cdf_edits.specs.Index.Written.{top_chain}
+use Rattle.cdf_index.proofs.ByParts.{entries_by, nodes_by, nodes_from}
 use Rattle.cdf_index.proofs.Coming.{comes}
 use Rattle.cdf_index.proofs.EntriesLeft.{EntriesLeft, node_parts, past_first, past_lower_one}
 use Rattle.cdf_index.proofs.FirstEntry.{block_no_node, no_chain, node_linkable}
@@ -8,36 +9,23 @@ use Rattle.cdf_index.proofs.FromReached.{Rest, Standing, chain_passed, from_rest
 use Rattle.cdf_index.proofs.GoingDown.{chain_few, down_of}
 use Rattle.cdf_index.proofs.LeafRules.{widened}
 use Rattle.cdf_index.proofs.Leading.{begun_in, counted_begun, is_some, lead, lead_none, leads, led}
-use Rattle.cdf_index.proofs.WayDown.{AllIn, node_there_by, spot_there, way_in}
+use Rattle.cdf_index.proofs.WayDown.{AllIn, node_has, node_there_by, spot_there, way_in}
 use Rattle.cdf_index.specs.Starting.{from_reached}
 
 -- ---- what stands on some levels does so on more
 
 module _ (b ts : List ℕ) where
-  mutual
-    unfolding HasNodes Names
-
-    more_levels : (levels : ℕ) (nodes : Nodes) → HasNodes b ts levels nodes → HasNodes b ts (suc levels) nodes
-    more_levels levels no_node h = tt
-    more_levels zero (node place room es more) h = absurd h
-    more_levels (suc levels) (node place room es more) h = (h.0, more_below levels es h.1, more_levels (suc levels) more h.2)
-
-    more_below : (levels : ℕ) (es : Entries) → Names b ts levels es → Names b ts (suc levels) es
-    more_below levels no_entry n = tt
-    more_below levels (block first last place packed es) n = (n.0, n.1, more_below levels es n.2)
-    more_below levels (lower first last nodes es) n = (n.0, more_levels levels nodes n.1, more_below levels es n.2)
-
-  lead_has : (f levels : ℕ) (low : Nodes) (es : Entries) → HasNodes b ts levels low → Names b ts levels es → HasNodes b ts levels (lead f low es)
+  more_levels : (levels : ℕ) (nodes : Nodes) → HasNodes b ts levels nodes → HasNodes b ts (suc levels) nodes
   unfolding HasNodes Names
-  lead_has f levels low no_entry h n = h
-  lead_has f levels low (block first last place packed es) h n = grind (arith, lead_has f levels no_node es, h, n)
-  lead_has f levels low (lower first last nodes es) h n = grind (arith, lead_has f levels nodes es, h, n)
+  more_levels = nodes_from (λ levels es. Names b ts levels es → Names b ts (suc levels) es) (grind arith)
 
-lead_zero : (f : ℕ) (low : Nodes) (es : Entries) → NextsAreZero low → LowerAreZero es → NextsAreZero (lead f low es)
+  lead_has : (f levels : ℕ) (es : Entries) (low : Nodes) → HasNodes b ts levels low → Names b ts levels es → HasNodes b ts levels (lead f low es)
+  unfolding HasNodes Names
+  lead_has f levels = entries_by (grind arith)
+
+lead_zero : (f : ℕ) (es : Entries) (low : Nodes) → NextsAreZero low → LowerAreZero es → NextsAreZero (lead f low es)
 unfolding NextsAreZero LowerAreZero
-lead_zero f low no_entry z l = z
-lead_zero f low (block first last place packed es) z l = grind (arith, lead_zero f no_node es, z, l)
-lead_zero f low (lower first last nodes es) z l = grind (arith, lead_zero f nodes es, z, l)
+lead_zero f = entries_by (grind arith)
 
 -- ---- the chain below the entry before number k
 
@@ -66,9 +54,8 @@ below b f at k m low high before (lower first last nodes es) l d o le w e =
 
 -- ---- a level of the way
 
-from_stops : (f : ℕ) (ns : Nodes) (place room : ℕ) (es : Entries) (more : Nodes) → from_reached f ns ≡ node place room es more → chain_reaches f more ≡ false
-from_stops f no_node place room es more e = grind arith
-from_stops f (node q r fs others) place room es more e = grind (arith, from_stops f others place room es more, e)
+from_stops : (f place room : ℕ) (es : Entries) (more ns : Nodes) → from_reached f ns ≡ node place room es more → chain_reaches f more ≡ false
+from_stops f place room es more = nodes_by (λ es. Unit {0}) (grind arith)
 
 -- a node from which the way goes on, or at which it ends
 led_way : (b ts : List ℕ) (levels f place room low high : ℕ) (es : Entries) (more : Nodes) → Names b ts levels es → AreInOrder low high es → chain_reaches f more ≡ false
@@ -83,11 +70,11 @@ led_way b ts levels f place room low high es more n o c =
     ]
 
 -- its Firsts past a record are those of the chain below, and those of the entries past the record
-led_firsts : (f from to low high : ℕ) (nodes : Nodes) (es : Entries) (xs : List ℕ) → InOrder from to nodes → from ≤ suc to → to ≤ low → AreInOrder low high es → filter (ltb f) (firsts_of nodes ++ (entry_firsts es ++ xs)) ≡ filter (ltb f) (firsts_of (lead f nodes es) ++ (entry_firsts (past f es) ++ xs))
+led_firsts : (f : ℕ) (xs : List ℕ) (low high : ℕ) (es : Entries) (from to : ℕ) (nodes : Nodes) → InOrder from to nodes → from ≤ suc to → to ≤ low → AreInOrder low high es → filter (ltb f) (firsts_of nodes ++ (entry_firsts es ++ xs)) ≡ filter (ltb f) (firsts_of (lead f nodes es) ++ (entry_firsts (past f es) ++ xs))
 unfolding AreInOrder firsts_of entry_firsts InOrder
-led_firsts f from to low high nodes no_entry xs i le t o = refl
-led_firsts f from to low high nodes (block first last place packed es) xs i le t o = grind (arith, nat_tests, chain_passed f from to nodes (first ∷ (entry_firsts es ++ xs)) i le, led_firsts f 0 0 (suc last) high no_node es xs tt, o.0, o.3)
-led_firsts f from to low high nodes (lower first last ns es) xs i le t o = grind (arith, nat_tests, chain_passed f from to nodes (first ∷ ((firsts_of ns ++ entry_firsts es) ++ xs)) i le, append_assoc (firsts_of ns) (entry_firsts es) xs, led_firsts f first last (suc last) high ns es xs o.3, o.0, o.1, o.4)
+led_firsts f xs low high no_entry from to nodes i le t o = refl
+led_firsts f xs low high (block first last place packed es) from to nodes i le t o = grind (arith, nat_tests, chain_passed f from to nodes i le, led_firsts f xs (suc last) high es 0 0 no_node tt, o.0, o.3)
+led_firsts f xs low high (lower first last ns es) from to nodes i le t o = grind (arith, nat_tests, chain_passed f from to nodes i le, append_assoc (firsts_of ns) (entry_firsts es) xs, led_firsts f xs (suc last) high es first last ns o.3, o.0, o.1, o.4)
 
 first_same : (f : ℕ) (xs : List ℕ) (other : Option ℕ) → first_past f xs other ≡ first_past f (filter (ltb f) xs) other
 first_same f [] other = refl
@@ -111,13 +98,8 @@ pub record Level (b : List ℕ) (f at place begun lower : ℕ) : Type 0 where
 pub lead_flat : (f : ℕ) (ns : Nodes) → NextsAreZero ns → NextsAreZero (down_of f (from_reached f ns)) × (length (top_chain ns) ≤ 1)
 unfolding NextsAreZero
 lead_flat f no_node z = (tt, omega arith)
-lead_flat f (node place room es no_node) z = (lead_zero f no_node es tt z, omega arith)
+lead_flat f (node place room es no_node) z = (lead_zero f es no_node tt z, omega arith)
 lead_flat f (node place room es (node q r fs more)) z = absurd z
-
-node_has : (b ts : List ℕ) (levels place room : ℕ) (es : Entries) (more : Nodes) → HasNodes b ts levels (node place room es more) → (1 ≤ levels) × Names b ts (levels - 1) es
-unfolding HasNodes
-node_has b ts zero place room es more h = absurd h
-node_has b ts (suc levels) place room es more h = let z : suc levels - 1 ≡ levels = omega arith in (omega arith, rw z h.1)
 
 no_link : {b : List ℕ} → AreTiles b 8 (length b) (tiles b) → (low : Nodes) → Standing b low → eqb (link_to low) 0 ≡ (if is_some low then false else true)
 no_link tiled no_node s = refl
@@ -141,17 +123,17 @@ module _ {b : List ℕ} {f at place begun lower : ℕ} (has : HasIndex b at) (so
           let link : lower ≡ link_to low = chain ∙ rw place_is bel.link in
           let y = rest_index has.tiled bel.stands link in
           let test = ap (λ (k : ℕ). eqb k 0) link ∙ no_link has.tiled low bel.stands in
-          let w = led_way b (tiles b) 7 f q room 0 record_number_limit es more p.left.names st.order.0 (from_stops f ns q room es more x) in
+          let w = led_way b (tiles b) 7 f q room 0 record_number_limit es more p.left.names st.order.0 (from_stops f q room es more ns x) in
           let same = rw x at (same_from f ns 0 record_number_limit has.order) in
           record {
             index = y.0;
             way_is = grind (arith, y.1, same.0, w.0, test, n, place_is);
             spot_is = grind (arith, y.1, same.1, w.1, test, place_is);
             leads = λ m. grind (arith, nat_tests, test, w.2, n, m);
-            deep = λ levels h. rw y.1 (let k = node_has b (tiles b) levels q room es more (rest_has b (tiles b) levels r h) in (k.0, lead_has b (tiles b) f (levels - 1) no_node es tt k.1));
+            deep = λ levels h. rw y.1 (let k = node_has b (tiles b) levels q room es more (rest_has b (tiles b) levels r h) in (k.0, lead_has b (tiles b) f (levels - 1) es no_node tt k.1));
             ahead = λ other.
                 rw (y.1, x)
-                (first_same f (firsts_of ns) other ∙ ap (λ (xs : List ℕ). first_past f xs other) (sym same.3 ∙ led_firsts f 0 0 0 record_number_limit no_node es (firsts_of more) tt (omega arith) (omega arith) st.order.0)
+                (first_same f (firsts_of ns) other ∙ ap (λ (xs : List ℕ). first_past f xs other) (sym same.3 ∙ led_firsts f (firsts_of more) 0 record_number_limit es 0 0 no_node tt (omega arith) (omega arith) st.order.0)
                 ∙ sym (first_same f (firsts_of low ++ (entry_firsts (past f es) ++ firsts_of more)) other) ∙ first_both f (firsts_of low) (entry_firsts (past f es) ++ firsts_of more) other);
             few = rw y.1 (rw x at (chain_few f ns));
             flat = λ z. rw y.1 (rw x at (lead_flat f ns z));

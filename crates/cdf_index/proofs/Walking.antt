@@ -1,6 +1,7 @@
 -- The search for the next First, from level to level.
-use Rattle.cdf_index.proofs.Common.{AreInOrder, Entries, HasIndex, HasNodes, InOrder, List, NextsAreZero, Nodes, None, Option, [], append-nil, append_assoc, arith, block, chain_before, entry_firsts, filter, first_past, firsts_of, fold, index_at, least_first_past, length, link_to, lower, ltb, min, nat_tests, next_first, no_entry, no_node, node, nodes_of, number_within, past_entries, record_number_limit, refl, suc, sym, tiles, zero, ap, ℕ, ◌++◌, ◌+◌, ◌-◌, ◌∙◌, ◌∷◌, ◌≡◌, ◌≢◌, ◌≤◌, ChainWalked, first_after}
+use Rattle.cdf_index.proofs.Common.{AreInOrder, HasIndex, HasNodes, InOrder, List, NextsAreZero, Nodes, None, Option, [], append-nil, append_assoc, arith, chain_before, entry_firsts, filter, first_past, firsts_of, fold, index_at, least_first_past, length, link_to, ltb, min, nat_tests, next_first, no_node, node, nodes_of, number_within, past_entries, record_number_limit, refl, suc, sym, tiles, zero, ap, ℕ, ◌++◌, ◌+◌, ◌-◌, ◌∙◌, ◌∷◌, ◌≡◌, ◌≢◌, ◌≤◌, ChainWalked, first_after}
 use Rattle.cdf_edits.specs.Index.Written.{top_chain}
+use Rattle.cdf_index.proofs.ByParts.{nodes_within}
 use Rattle.cdf_index.proofs.GoingDown.{chain_few}
 use Rattle.cdf_index.proofs.LeavesAscend.{end_before}
 use Rattle.cdf_index.proofs.LevelsDown.{lead_flat, level}
@@ -18,21 +19,16 @@ climbs_from : (from from' upto : ℕ) (xs : List ℕ) → from ≤ from' → Cli
 climbs_from from from' upto [] le c = tt
 climbs_from from from' upto (x ∷ xs) le c = let c0 = c.0 in (omega arith, c.1, c.2)
 
-mutual
-  unfolding InOrder AreInOrder firsts_of entry_firsts
-
-  -- the Firsts of an index in order climb, with numbers behind them that do
-  firsts_climb : (low high upto : ℕ) (nodes : Nodes) (xs : List ℕ) → InOrder low high nodes → low ≤ suc high → high ≤ upto → Climbs (suc high) upto xs → Climbs low upto (firsts_of nodes ++ xs)
-  firsts_climb low high upto no_node xs o le most c = climbs_from low (suc high) upto xs le c
-  firsts_climb low high upto (node place room entries more) xs o le most c =
-      rw append_assoc (entries_climb low high upto entries (firsts_of more ++ xs) o.0 most (firsts_climb (past_entries low entries) high upto more xs o.1 (end_before low high entries o.0 le) most c))
-
-  entries_climb : (low high upto : ℕ) (entries : Entries) (xs : List ℕ) → AreInOrder low high entries → high ≤ upto → Climbs (past_entries low entries) upto xs → Climbs low upto (entry_firsts entries ++ xs)
-  entries_climb low high upto no_entry xs o most c = c
-  entries_climb low high upto (block first last place packed entries) xs o most c =
-      (o.0, omega (arith, o.1, o.2), climbs_from first (suc last) upto (entry_firsts entries ++ xs) (omega (arith, o.1)) (entries_climb (suc last) high upto entries xs o.3 most c))
-  entries_climb low high upto (lower first last nodes entries) xs o most c =
-      (o.0, omega (arith, o.1, o.2), rw (append_assoc (firsts_of nodes) (entry_firsts entries) xs) (firsts_climb first last upto nodes (entry_firsts entries ++ xs) o.3 (omega (arith, o.1)) (omega (arith, o.2)) (entries_climb (suc last) high upto entries xs o.4 most c)))
+-- the Firsts of an index in order climb, with numbers behind them that do
+firsts_climb : (upto low high : ℕ) (nodes : Nodes) (xs : List ℕ) (from : ℕ) → InOrder low high nodes → from ≤ low → low ≤ suc high → high ≤ upto → Climbs (suc high) upto xs → Climbs from upto (firsts_of nodes ++ xs)
+unfolding InOrder AreInOrder firsts_of entry_firsts
+firsts_climb upto = nodes_within (λ low high es. (xs : List ℕ) (from : ℕ) → AreInOrder low high es → from ≤ low → high ≤ upto → Climbs (past_entries low es) upto xs → Climbs from upto (entry_firsts es ++ xs)) (record {
+  no_nodes = grind (arith, climbs_from);
+  nodes = grind (arith, append_assoc {A = ℕ}, end_before);
+  none = grind (arith, climbs_from);
+  block = grind arith;
+  lower = λ first last nodes es p q low high xs from o f m c. (omega (arith, o.0), omega (arith, o.1, o.2), rw (append_assoc (firsts_of nodes) (entry_firsts es) xs) (p first last (entry_firsts es ++ xs) first o.3 (omega arith) (omega (arith, o.1)) (omega (arith, o.2)) (q (suc last) high xs (suc last) o.4 (omega arith) m c)));
+})
 
 -- none of them is less than the least
 least_stays : (rec least upto : ℕ) (xs : List ℕ) → Climbs least upto xs → fold min least (filter (ltb rec) xs) ≡ least
@@ -69,7 +65,7 @@ pub record NextAt (b : List ℕ) (rec : ℕ) (nodes : Nodes) (turn old steps : �
 
 pub next_start : {b : List ℕ} {head : ℕ} (rec old : ℕ) → HasIndex b head → NextAt b rec (index_at b head) 0 old old None head
 next_start {b = b} {head = head} rec old has =
-    let climbs = firsts_climb 0 record_number_limit record_number_limit (index_at b head) [] has.order (omega arith) (omega arith) tt in
+    let climbs = firsts_climb record_number_limit 0 record_number_limit (index_at b head) [] 0 has.order (omega arith) (omega arith) (omega arith) tt in
     record { index = has; levels = 8; has = has.index.has_nodes; deep = omega arith; same = first_is_least rec 0 (firsts_of (index_at b head)) (rw append-nil at climbs); few = omega arith; flat = λ z. (z, omega arith) }
 
 module _ {b : List ℕ} {rec turn old steps at : ℕ} {nodes : Nodes} {best : Option ℕ} (n : NextAt b rec nodes turn old steps best at) where
