@@ -1,8 +1,7 @@
 -- A chain that stands, taken apart at its first node, and the entries of a node at the first of them.
-use Rattle.cdf_index.proofs.Common.{ChainFrom, Entries, HasNodes, In, IsNode, IsOrderly, Leaf, List, LowerAreZero, Met, Names, NextsAreZero, NodeInside, Nodes, None, Option, Some, Stands, [], ap, arith, block, block_in, chain_at, cvvr_type, entry_count, entry_firsts, entry_leaves, eqb, find_entry, find_in, first_at, firsts_of, if◌then◌else◌, inl, inr, is_a, is_block, is_linkable, last_at, leaf, length, length-append, link_to, linkable-in, linkable-type, lower, lower_nodes, ltb, met_below, met_block, met_in, nat_tests, no_entry, no_node, node, nodes_of, nodes_passed, offset_at, or_cases, passed_from, refl, subst, suc, sym, tiles, true, type_at, used_count, vxr_type, zero, ℕ, ◌++◌, ◌+◌, ◌<◌, ◌∙◌, ◌∷◌, ◌≡◌, ◌≢◌, ◌≤◌}
+use Rattle.cdf_index.proofs.Common.{ChainFrom, Entries, HasNodes, In, IsNode, IsOrderly, Leaf, List, Met, Names, NodeInside, Nodes, None, Option, Some, Stands, [], ap, arith, block, block_in, chain_at, cvvr_type, entry_count, entry_leaves, eqb, find_entry, find_in, first_at, if◌then◌else◌, inl, inr, is_a, is_block, is_linkable, last_at, leaf, length, length-append, link_to, linkable-in, linkable-type, lower, lower_nodes, ltb, met_below, met_block, met_in, nat_tests, no_entry, no_node, node, nodes_of, nodes_passed, offset_at, or_cases, passed_from, refl, subst, suc, sym, tiles, true, type_at, vxr_type, zero, ℕ, ◌++◌, ◌+◌, ◌<◌, ◌∷◌, ◌≡◌, ◌≢◌}
 use Rattle.cdf_format.specs.RecordTypes.{vvr_type}
 use Rattle.cdf_format.proofs.ChainsLemmas.{is_a-type}
-use Rattle.cdf_index.proofs.Saying.{no_entries}
 use Rattle.cdf_index.proofs.EntriesLeft.{EntriesLeft, NodeParts, past_first, past_lower_one, node_parts}
 
 -- ---- a node
@@ -37,10 +36,6 @@ pub opened_nodes : {b : List ℕ} {levels at : ℕ} {ns : Nodes} → (o : Opened
 unfolding nodes_of
 opened_nodes o = omega (arith, ap (λ (x : Nodes). length (nodes_of x)) o.is, length-append (lower_nodes o.entries) (nodes_of o.more))
 
-pub opened_zero : {b : List ℕ} {levels at : ℕ} {ns : Nodes} → (o : Opened b levels at ns) → NextsAreZero ns → LowerAreZero o.entries × (o.more ≡ no_node)
-unfolding NextsAreZero
-opened_zero o z = grind (arith, o.is)
-
 -- ---- what an entry names
 
 -- a block is a VVR or a CVVR, and no node
@@ -58,11 +53,9 @@ no_chain b at k e = grind (arith, nat_tests)
 pub record Adds (b : List ℕ) (at i : ℕ) (entries rest : Entries) (low : Nodes) (met : List Met) (leaf_here : ℕ → Option Leaf) : Type 0 where
   pub many : entry_count entries ≡ suc (entry_count rest)
   pub nodes : lower_nodes entries ≡ nodes_of low ++ lower_nodes rest
-  pub firsts : entry_firsts entries ≡ first_at b at i ∷ (firsts_of low ++ entry_firsts rest)
   pub mets : met_below entries ≡ met ++ met_below rest
   pub find : (rec : ℕ) (other : Option Leaf) → find_entry rec entries other ≡ (if ltb (last_at b at i) rec then find_entry rec rest other else (if ltb rec (first_at b at i) then None else leaf_here rec))
   pub passed : (rec other : ℕ) → passed_from rec entries other ≡ (if ltb (last_at b at i) rec then passed_from rec rest other else (if ltb rec (first_at b at i) then 0 else nodes_passed rec low))
-  pub zero : LowerAreZero entries → NextsAreZero low × LowerAreZero rest
 
 -- The first entry of some, and the others. It names this lower chain, or none where it names a block.
 pub record FirstEntry (b : List ℕ) (down at i : ℕ) (entries : Entries) : Type 0 where
@@ -79,7 +72,7 @@ pub record FirstEntry (b : List ℕ) (down at i : ℕ) (entries : Entries) : Typ
   pub of_lower : type_at b (offset_at b at i) ≡ 6 → (offset_at b at i ≡ link_to low) × (met ≡ met_in low) × ((rec : ℕ) → leaf_here rec ≡ find_in rec low)
 
 pub first_entry : {b : List ℕ} {down at i : ℕ} (entries : Entries) → EntriesLeft b down at i entries → 0 < entry_count entries → FirstEntry b down at i entries
-unfolding HasNodes Names nodes_of lower_nodes entry_leaves firsts_of entry_firsts met_in met_below find_in find_entry nodes_passed passed_from NextsAreZero LowerAreZero
+unfolding HasNodes Names nodes_of lower_nodes entry_leaves met_in met_below find_in find_entry nodes_passed passed_from
 first_entry no_entry l some = absurd (omega arith)
 first_entry {b = b} {at = at} {i = i} (block first last place packed entries) l some =
     let z : suc i ≡ i + 1 = omega arith in
@@ -117,29 +110,3 @@ first_entry {b = b} {down = down} {at = at} {i = i} (lower first last nodes entr
       of_block = λ n. absurd (n six);
       of_lower = λ t. (e.offset_is, refl, λ rec. refl);
     }
-
--- ---- on the way along the entries of a node, from number i on
-
--- the chain below the entry before, the other entries and the nodes behind this one have fewer nodes than there were at first, as many turns ago
-pub record AtEntry {b : List ℕ} {levels at : ℕ} {ns : Nodes} (o : Opened b levels at ns) (turn i : ℕ) (nodes low : Nodes) : Type 0 where
-  pub rest : Entries
-  pub left : EntriesLeft b o.down at i rest
-  pub many : i + entry_count rest ≡ used_count b at
-  pub fewer : length (nodes_of low) + length (lower_nodes rest) + length (nodes_of o.more) + (turn + 1) ≤ length (nodes_of nodes)
-
-module _ {b : List ℕ} {levels at : ℕ} {ns : Nodes} (o : Opened b levels at ns) where
-  abbrev pub enter : {turn : ℕ} {nodes : Nodes} → (low : Nodes) → length (nodes_of low) + length (nodes_of ns) + turn ≤ length (nodes_of nodes) → AtEntry o turn 0 nodes low
-  enter low few = record { rest = o.entries; left = o.parts.left; many = omega (arith, o.parts.says.used_is); fewer = omega (arith, opened_nodes o) }
-
-  module _ {turn i : ℕ} {nodes low : Nodes} (e : AtEntry o turn i nodes low) where
-    pub entry_here : i < used_count b at → FirstEntry b o.down at i e.rest
-    entry_here lt = first_entry e.rest e.left (omega (arith, e.many))
-
-    pub few_below : (f : FirstEntry b o.down at i e.rest) → length (lower_nodes e.rest) ≡ length (nodes_of f.low) + length (lower_nodes f.rest)
-    few_below f = ap length f.adds.nodes ∙ length-append (nodes_of f.low) (lower_nodes f.rest)
-
-    abbrev pub pass : (k : ℕ) → i + 1 ≡ k → (f : FirstEntry b o.down at i e.rest) → AtEntry o turn k nodes f.low
-    pass k is f = record { rest = f.rest; left = subst (λ (x : ℕ). EntriesLeft b o.down at x f.rest) is f.left; many = omega (arith, e.many, f.adds.many); fewer = omega (arith, e.fewer, few_below f) }
-
-    pub none_here : used_count b at ≤ i → e.rest ≡ no_entry
-    none_here le = no_entries e.rest (omega (arith, e.many))
