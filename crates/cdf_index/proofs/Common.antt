@@ -1,10 +1,10 @@
 -- The names that most proofs of this crate cite, passed on from one place. Declares nothing.
 pub use Rattle.cdf_area.proofs.Calls.{edit_more, edits_by_read, read_more, read_once, read_without_memory}
 pub use Rattle.cdf_area.specs.Calls.{Keeps, Stays}
-pub use Rattle.cdf_edits.proofs.Common.{Act, AllKeep, Allowance, Allowances, Among, Anything, Avoids, Away, ChangedWithin, Field, FileStays, Fills, Found, Good, HasShape, IsChain, Kind, Leaves, LiesIn, Mark, OneVariable, Only, OutsideFields, OwnedOnce, Placed, R, Range, Same, Takes, Within, Z, adr_type, all_unmarked, attributes_in, avoided, cases_lt, cast_signed, cdr_type, content, count_of, cpr_type, eof, fixed_size, gdr_r_vdr_head, gdr_type, gdr_uir_head, gdr_z_vdr_head, good_by_its_shape, has_room, head_of, index_rows, is_a-type, is_max_rec, is_record_type, is_taken, keeps_file, mark, ne_eqb, nodes_stand, of_le, owned, owned_records, r_vdr_type, range_at, read_types, shape, shape_is, shapes_of, signed_limit, some_place, times, times-none, times-once, type_in, uir_next_uir, uir_prev_uir, uir_type, unmarked, unused_records, variable_records, variable_types, variables_chain, vdr_max_rec, vdr_type, vdr_vxr_head, vdr_vxr_tail, vdrs, vvr_type, w32, with_space, within, word_kept, z_vdr_type}
+pub use Rattle.cdf_edits.proofs.Common.{Act, AllKeep, Allowance, Allowances, Among, Anything, Avoids, Away, ChangedWithin, Field, FileStays, Fills, Found, Good, HasShape, IsChain, Kind, Leaves, LiesIn, Mark, OneVariable, Only, OutsideFields, OwnedOnce, Placed, R, Range, Same, Takes, Within, Z, adr_type, all_unmarked, attributes_in, avoided, cases_lt, cast_signed, cdr_type, content, count_of, cpr_type, eof, extent, fixed_size, gdr_r_vdr_head, gdr_type, gdr_uir_head, gdr_z_vdr_head, good_by_its_shape, has_room, head_of, index_rows, is_a-type, is_little, is_max_rec, is_record_type, is_taken, item_at, keeps_file, mark, ne_eqb, nodes_stand, of_le, option_map, owned, owned_records, r_vdr_type, range_at, read_types, shape, shape_is, shapes_of, signed_limit, some_place, times, times-none, times-once, turned, type_in, uir_next_uir, uir_prev_uir, uir_type, unmarked, unused_records, variable_records, variable_types, variables_chain, vdr_max_rec, vdr_type, vdr_vxr_head, vdr_vxr_tail, vdrs, vvr_type, w32, with_space, within, word_kept, z_vdr_type}
 pub use Rattle.cdf_edits.proofs.Edits.Common.{Each-map, FileSame, all_variable_records, apart, attributes_kept, cdr_kept, fits, gdr_in, gdr_typed, got-middle, has, in-times, index_records, keep_all, keep_file, keep_kinds, keep_places, keep_unused, keep_variable_parts, keeps_all_attributes, keeps_fields, keeps_kind, kept, kept_away, kind_ours, kind_type, other_kind, spliced_times, stood, times-append, times-in, typed, variable_typed, variables_in, with_shapes}
 pub use Rattle.cdf_edits.proofs.Edits.InRecords.{places_of}
-pub use Rattle.cdf_edits.proofs.Edits.LeafPieces.{IsOneOf, covers_within, find_place, found_in, in_order, of_each, plain_piece}
+pub use Rattle.cdf_edits.proofs.Edits.LeafPieces.{IsOneOf, covers_within, each_of, find_place, found_in, in_order, leaf_at, of_each, plain_piece}
 pub use Rattle.cdf_edits.proofs.Edits.LeafRecords.{Ascending, count_is, record_is, record_past, signed}
 pub use Rattle.cdf_edits.proofs.Edits.LeavesOrder.{ascending_both, ascending_from, before_is, before_number, between, index_ascends}
 pub use Rattle.cdf_edits.proofs.Edits.MarkLemmas.{Avoids-append, Away-append, Within-append, all_unmarked-away, away-avoids, away-within, or_cases, the_one, unmarked-away}
@@ -22,7 +22,7 @@ pub use Rattle.cdf_edits.specs.Index.Grown.{chain_reaches, leads_down, past, rea
 unfoldable pub use Rattle.cdf_edits.specs.Index.Grown.{new_room, new_room_below, with_leaf, with_lower}
 pub use Rattle.cdf_format.proofs.BytesLemmas.{next_kept, number_kept, size_kept, type_kept, word-same}
 pub use Rattle.cdf_format.proofs.ChainsLemmas.{is_a-in, linkable-in, linkable-type}
-pub use Rattle.cdf_format.proofs.IndexLemmas.{index_complete}
+pub use Rattle.cdf_format.proofs.IndexLemmas.{index_complete, levels_complete}
 pub use Rattle.cdf_format.proofs.Members.{Distinct-back, Distinct-front, In-append, In-append_left, In-append_right, either, length-le_from_distinct}
 pub use Rattle.cdf_format.proofs.Owning.{block_in}
 pub use Rattle.cdf_format.proofs.RowLemmas.{Hold-append, Hold-member, Hold-split}
@@ -73,3 +73,5 @@ pub use Rattle.std.proofs.lemmas.List.{length-append, length-map, map-append}
 pub use Rattle.std.proofs.lemmas.Result.{IfOk-weaker, on_ok_weaker}
 pub use Rattle.std.specs.List.{filter, flat_map, fold}
 pub use Rattle.std.specs.Prelude.{find, if◌then◌else◌, int_lt, min, nat_le, nat_lt, slice_get, ◌==◌}
+pub use Rattle.cdf_edits.proofs.Edits.VariableFrame.{IsRuled, all_ruled, hold_all}
+pub use Rattle.cdf_format.proofs.GoodImageLemmas.{by_shape}

@@ -1,12 +1,6 @@
 -- The index of a variable of a good image is one that can be searched.
-use Rattle.cdf_index.proofs.Common.{AreInOrder, AreTiles, Each, Each-split, Entries, HasIndex, HasVariable, Hold, Hold-split, InOrder, IsBlock, IsGoodImage, IsIndex, IsSound, LeafFits, List, NodeFits, Nodes, Shape, VariableFits, VariableShape, [], ap, before_is, before_number, between, block, end_of, flat_map, index_at, is_block, leaf_rows, leaves_of, length, lower, negsuc, no_entry, no_node, node, nodes_of, nodes_rows, number, number_before, past_entries, pos, record_number_limit, refl, sound, subst, suc, sym, tiles, tiles_are, used_rows, variables, with_sign, ℕ, ℤ, ◌++◌, ◌∙◌, ◌∷◌, ◌≡◌}
-use Rattle.cdf_format.specs.IndexRules.{index_rows}
-use Rattle.cdf_format.proofs.IndexLemmas.{levels_complete}
+use Rattle.cdf_index.proofs.Common.{by_shape, Each-map, IsRuled, all_ruled, vdrs, vdr_vxr_head, levels_complete, index_rows, AreInOrder, AreTiles, Each, Each-split, Entries, HasIndex, HasVariable, Hold, Hold-split, InOrder, IsBlock, IsGoodImage, IsIndex, IsSound, LeafFits, List, NodeFits, Nodes, Shape, VariableFits, VariableShape, [], ap, before_is, before_number, between, block, end_of, flat_map, index_at, is_block, leaf_rows, leaves_of, length, lower, negsuc, no_entry, no_node, node, nodes_of, nodes_rows, number, number_before, past_entries, pos, record_number_limit, refl, sound, subst, suc, sym, tiles, tiles_are, used_rows, variables, with_sign, ℕ, ℤ, ◌++◌, ◌∙◌, ◌∷◌, ◌≡◌}
 use Rattle.cdf_format.specs.IndexWalk.{nodes_met}
-use Rattle.cdf_format.specs.Records.{vdr_vxr_head}
-use Rattle.cdf_format.specs.Shape.{vdrs}
-use Rattle.cdf_edits.proofs.Edits.VariableFrame.{Each-map, IsRuled, all_ruled}
-use Rattle.cdf_format.proofs.GoodImageLemmas.{by_shape}
 
 module _ (b records : List ℕ) where
   mutual

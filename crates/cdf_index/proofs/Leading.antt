@@ -4,6 +4,7 @@ use Rattle.cdf_index.proofs.EntriesCut.{Parted, one_more, parted_all}
 use Rattle.cdf_index.proofs.EntriesLeft.{EntriesLeft, past_first, past_lower_one}
 use Rattle.cdf_index.proofs.Coming.{not_reached}
 use Rattle.cdf_index.proofs.OrderLemmas.{end_after}
+use Rattle.cdf_index.proofs.Saying.{count_both, front, front_past}
 use Rattle.cdf_index.proofs.ByParts.{entries_by, entries_within}
 use Rattle.cdf_index.proofs.FirstEntry.{block_no_node, no_chain, node_linkable}
 
@@ -22,9 +23,7 @@ some_node nodes is = grind arith
 
 -- how many they are
 abbrev pub begun_in : ℕ → Entries → ℕ
-begun_in f no_entry = 0
-begun_in f (block first last place packed es) = if leb first f then suc (begun_in f es) else 0
-begun_in f (lower first last nodes es) = if leb first f then suc (begun_in f es) else 0
+begun_in f es = entry_count (front f es)
 
 pub reached_is : (f low high : ℕ) (es : Entries) → AreInOrder low high es → reaches f es ≡ ltb 0 (begun_in f es)
 unfolding AreInOrder
@@ -85,15 +84,12 @@ below b f levels at k m low high before (lower first last nodes es) s w e =
 
 begun_is : (b : List ℕ) (at f k n : ℕ) (es : Entries) → SayEntries b at k es → Parted (λ j. first_at b at j ≤ f) (λ j. f < first_at b at j) k n (entry_count es) → n ≡ begun_in f es
 begun_is b at f k n no_entry s p = let m = p.most in omega arith
-begun_is b at f k n (block first last place packed es) s p = one_more (λ j. first_at b at j ≤ f) (λ j. f < first_at b at j) k n (entry_count es) (leb first f) (begun_in f es) (λ x. grind (arith, nat_tests, s.0.first_is)) (λ x. grind (arith, nat_tests, s.0.first_is)) p (λ m r. begun_is b at f (suc k) m es s.1 r)
-begun_is b at f k n (lower first last nodes es) s p = one_more (λ j. first_at b at j ≤ f) (λ j. f < first_at b at j) k n (entry_count es) (leb first f) (begun_in f es) (λ x. grind (arith, nat_tests, s.0.first_is)) (λ x. grind (arith, nat_tests, s.0.first_is)) p (λ m r. begun_is b at f (suc k) m es s.1 r)
+begun_is b at f k n (block first last place packed es) s p = grind (arith, one_more (λ j. first_at b at j ≤ f) (λ j. f < first_at b at j) k n (entry_count es) (leb first f) (begun_in f es) (λ x. grind (arith, nat_tests, s.0.first_is)) (λ x. grind (arith, nat_tests, s.0.first_is)) p (λ m r. begun_is b at f (suc k) m es s.1 r))
+begun_is b at f k n (lower first last nodes es) s p = grind (arith, one_more (λ j. first_at b at j ≤ f) (λ j. f < first_at b at j) k n (entry_count es) (leb first f) (begun_in f es) (λ x. grind (arith, nat_tests, s.0.first_is)) (λ x. grind (arith, nat_tests, s.0.first_is)) p (λ m r. begun_is b at f (suc k) m es s.1 r))
 
 -- so many of them were counted
 pub counted_begun : (b : List ℕ) (at f n : ℕ) (es : Entries) → Begun b at f n → used_count b at ≡ entry_count es → SayEntries b at 0 es → n ≡ begun_in f es
 counted_begun b at f n es g u s = let most = g.most in begun_is b at f 0 n es s (parted_all (λ j. first_at b at j ≤ f) (λ j. f < first_at b at j) n (entry_count es) g.before (λ lt. g.stop (omega arith)) (omega arith))
 
-begun_past : (f : ℕ) (es : Entries) → begun_in f es + entry_count (past f es) ≡ entry_count es
-begun_past f = entries_by (grind arith)
-
 pub begins_by : (b : List ℕ) (at f p : ℕ) → Begun b at f p → Begins b at f p
-begins_by b at f p g es u s = omega (arith, counted_begun b at f p es g u s, begun_past f es)
+begins_by b at f p g es u s = omega (arith, counted_begun b at f p es g u s, count_both (front f es) (past f es), ap entry_count (front_past f es))

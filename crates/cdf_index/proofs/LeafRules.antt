@@ -1,10 +1,6 @@
 -- An index with a leaf more keeps the rules: its entries are in order, its nodes have room for theirs, and each leaf has a block.
-use Rattle.cdf_index.proofs.Common.{append_assoc, ◌++◌, AreInOrder, Each, Each-split, Entries, Hold, Hold-append, Hold-split, In, InOrder, IsOneOf, Leaf, List, Nodes, None, [], ap, arith, before_is, before_number, block, chain_reaches, covers, end_of, entry_firsts, entry_leaves, false, filter, find, firsts_of, flat_map, fold, is_between, is_block, leads_down, leaf_rows, leaves_of, lower, lower_nodes, max, nat_lt, nat_tests, negsuc, next_first, no_entry, no_node, node, nodes_of, nodes_rows, number_before, past, past_entries, pos, range, reaches, record_number_limit, refl, signed, suc, true, used_rows, with_both, with_entry, with_leaf, with_sign, ℕ, ℤ, ◌+◌, ◌<◌, ◌∙◌, ◌∷◌, ◌≡◌, ◌≤◌}
-use Rattle.std.proofs.Common.{min}
-use Rattle.cdf_format.specs.IndexRules.{has_room, index_rows}
+use Rattle.cdf_index.proofs.Common.{hold_all, each_of, has_room, index_rows, min, append_assoc, ◌++◌, AreInOrder, Each, Each-split, Entries, Hold, Hold-append, Hold-split, In, InOrder, IsOneOf, Leaf, List, Nodes, None, [], ap, arith, before_is, before_number, block, chain_reaches, covers, end_of, entry_firsts, entry_leaves, false, filter, find, firsts_of, flat_map, fold, is_between, is_block, leads_down, leaf_rows, leaves_of, lower, lower_nodes, max, nat_lt, nat_tests, negsuc, next_first, no_entry, no_node, node, nodes_of, nodes_rows, number_before, past, past_entries, pos, range, reaches, record_number_limit, refl, signed, suc, true, used_rows, with_both, with_entry, with_leaf, with_sign, ℕ, ℤ, ◌+◌, ◌<◌, ◌∙◌, ◌∷◌, ◌≡◌, ◌≤◌}
 use Rattle.cdf_edits.proofs.Space.ActsLeave.{each as each_place}
-use Rattle.cdf_edits.proofs.Edits.LeafPieces.{each_of}
-use Rattle.cdf_edits.proofs.Edits.VariableFrame.{hold_all}
 use Rattle.cdf_index.proofs.GoodIndex.{order_from}
 use Rattle.cdf_index.proofs.ByParts.{entries_by, entries_from, entries_within}
 use Rattle.cdf_index.proofs.Coming.{Comes, comes, comes_along, comes_below, comes_first, comes_here, chain_reaches_from}

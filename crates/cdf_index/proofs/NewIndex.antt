@@ -1,5 +1,5 @@
 -- One variable has another index by now, and an edit met its VXRhead and VXRtail, nodes and unused records alone: what follows of the image, and what each record keeps.
-use Rattle.cdf_index.proofs.Common.{Act, AllKeep, Allowances, Among, Anything, Avoids, Avoids-append, Away, Away-append, Distinct, Each, Each-in, Field, Good, HasShape, Hold, In, In-append, IsChain, Kept, Kind, List, Mark, NodeFits, Nodes, OneVariable, Only, OutsideFields, OwnedOnce, Same, Shape, StandsAmong, VariableShape, Within, Within-append, [], after_ours, all_unmarked, all_unmarked-away, all_variable_records, ap, apart, arith, attributes_kept, avoided, away-avoids, away-within, behind_in, cdr_kept, cdr_type, count_of, cpr_type, cvvr_type, eof, false, fixed_size, flat_map, gdr_in, gdr_type, gdr_typed, gdr_uir_head, good_by_its_shape, has_room, head_of, image_limit, index_rows, inl, inr, is_a, is_a-in, is_a-type, is_in, is_max_rec, is_record_type, is_taken, keep_all, keep_file, keep_kinds, keep_places, keep_unused, keep_variable_parts, keeps_all_attributes, keeps_fields, keeps_file, keeps_kind, kept, kept_away, kind_ours, leaves_of, length, linkable-in, linkable-type, long, mark, nodes_of, nodes_stand, number, of_le, other_kind, ours, own_rules, owned, places_of, read_types, refl, room_at, shape, shapes_of, signed_limit, size_at, sound, spliced_times, stood, subst, suc, sym, the_one, through, tile, tile_lies, times, times-append, times-none, times-once, true, type_at, type_in, uir_next_uir, uir_prev_uir, uir_type, unmarked, unmarked-away, variable_records, variable_typed, variable_types, variables_chain, variables_in, vdr_max_rec, vdr_vxr_head, vdr_vxr_tail, vvr_type, vxr_n_used_entries, vxr_type, with_shapes, within, word_kept, ℕ, ◌*◌, ◌++◌, ◌+◌, ◌∙◌, ◌∷◌, ◌≡◌, ◌≢◌, ◌≤◌, ◌⊎◌}
+use Rattle.cdf_index.proofs.Common.{fits, has, typed, Act, AllKeep, Allowances, Among, Anything, Avoids, Avoids-append, Away, Away-append, Distinct, Each, Each-in, Field, Good, HasShape, Hold, In, In-append, IsChain, Kept, Kind, List, Mark, NodeFits, Nodes, OneVariable, Only, OutsideFields, OwnedOnce, Same, Shape, StandsAmong, VariableShape, Within, Within-append, [], after_ours, all_unmarked, all_unmarked-away, all_variable_records, ap, apart, arith, attributes_kept, avoided, away-avoids, away-within, behind_in, cdr_kept, cdr_type, count_of, cpr_type, cvvr_type, eof, false, fixed_size, flat_map, gdr_in, gdr_type, gdr_typed, gdr_uir_head, good_by_its_shape, has_room, head_of, image_limit, index_rows, inl, inr, is_a, is_a-in, is_a-type, is_in, is_max_rec, is_record_type, is_taken, keep_all, keep_file, keep_kinds, keep_places, keep_unused, keep_variable_parts, keeps_all_attributes, keeps_fields, keeps_file, keeps_kind, kept, kept_away, kind_ours, leaves_of, length, linkable-in, linkable-type, long, mark, nodes_of, nodes_stand, number, of_le, other_kind, ours, own_rules, owned, places_of, read_types, refl, room_at, shape, shapes_of, signed_limit, size_at, sound, spliced_times, stood, subst, suc, sym, the_one, through, tile, tile_lies, times, times-append, times-none, times-once, true, type_at, type_in, uir_next_uir, uir_prev_uir, uir_type, unmarked, unmarked-away, variable_records, variable_typed, variable_types, variables_chain, variables_in, vdr_max_rec, vdr_vxr_head, vdr_vxr_tail, vvr_type, vxr_n_used_entries, vxr_type, with_shapes, within, word_kept, ℕ, ◌*◌, ◌++◌, ◌+◌, ◌∙◌, ◌∷◌, ◌≡◌, ◌≢◌, ◌≤◌, ◌⊎◌}
 use Rattle.cdf_edits.proofs.Common.{IsIndex, Keeps, Stays, Edit}
 use Rattle.cdf_edits.proofs.Commands.KeptRecords.{Stood, keep_attributes, keep_variables, keeps_stood}
 use Rattle.cdf_edits.proofs.Edits.IndexEdited.{IndexEdit, vdr_size}
@@ -7,7 +7,6 @@ use Rattle.cdf_edits.proofs.Edits.IndexEdited as of_index
 use Rattle.cdf_edits.proofs.Edits.OwnEdited.{OwnEdit, only, records_are, splices}
 use Rattle.cdf_edits.proofs.Edits.OwnedOnce.{IsSorted, all_attributes_in, fresh_unowned, owned_once_if, sorted_before, used_times}
 use Rattle.cdf_edits.proofs.Edits.RecordPlaced.{links_mark}
-use Rattle.cdf_edits.proofs.Edits.StandsAmong.{fits, has, typed}
 use Rattle.cdf_edits.proofs.Edits.VariableCopied.{block_behind, cpr_behind, node_behind}
 use Rattle.cdf_index.specs.Adding.{Counts}
 use Rattle.cdf_index.proofs.OwnRecords.{block_type, parts_times}
