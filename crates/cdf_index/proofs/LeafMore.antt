@@ -1,8 +1,8 @@
 -- The leaves of an index with one leaf more.
-use Rattle.cdf_index.proofs.Common.{Each-map, AreInOrder, Bool, Each, Each-append, Entries, InOrder, Leaf, List, Nodes, [], append_assoc, arith, block, chain_reaches, entry_leaves, false, leads_down, leaves_of, lower, map, max, nat_tests, no_entry, past, past_entries, range, reaches, refl, suc, true, upto, with_block, with_both, with_entry, with_leaf, with_new, with_range, ℕ, ◌++◌, ◌<◌, ◌∷◌, ◌≡◌, ◌≤◌}
+use Rattle.cdf_index.proofs.Common.{Each-map, AreInOrder, Bool, Each, Each-append, Entries, InOrder, Leaf, List, Nodes, [], append_assoc, arith, block, chain_reaches, entry_leaves, false, leads_down, leaves_of, lower, map, nat_tests, no_entry, past, past_entries, range, reaches, refl, suc, true, upto, with_both, with_entry, with_leaf, with_new, with_range, ℕ, ◌++◌, ◌<◌, ◌∷◌, ◌≡◌, ◌≤◌}
 use Rattle.cdf_index.proofs.Coming.{Comes, comes, comes_along, comes_below, comes_first, comes_here, chain_reaches_from, leads_none, not_reached, reaches_from}
 use Rattle.cdf_index.proofs.OrderLemmas.{Within, entries_within, leaves_within, end_after, InRange}
-use Rattle.cdf_index.proofs.Saying.{front, front_past, upto_both, both_none, no_entries}
+use Rattle.cdf_index.proofs.Saying.{front_past, upto_both, both_none, no_entries}
 use Rattle.cdf_index.proofs.ByParts.{entries_by, entries_within as entries_in, nodes_within as nodes_in}
 
 -- ---- leaves that begin at a record or before it, and leaves past it

@@ -1,5 +1,5 @@
 -- An index with a leaf more keeps the rules: its entries are in order, its nodes have room for theirs, and each leaf has a block.
-use Rattle.cdf_index.proofs.Common.{hold_all, each_of, has_room, index_rows, min, append_assoc, ◌++◌, AreInOrder, Each, Each-split, Entries, Hold, Hold-append, Hold-split, In, InOrder, IsOneOf, Leaf, List, Nodes, None, [], ap, arith, before_is, before_number, block, chain_reaches, covers, end_of, entry_firsts, entry_leaves, false, filter, find, firsts_of, flat_map, fold, is_between, is_block, leads_down, leaf_rows, leaves_of, lower, lower_nodes, max, nat_lt, nat_tests, negsuc, next_first, no_entry, no_node, node, nodes_of, nodes_rows, number_before, past, past_entries, pos, range, reaches, record_number_limit, refl, signed, suc, true, used_rows, with_both, with_entry, with_leaf, with_sign, ℕ, ℤ, ◌+◌, ◌<◌, ◌∙◌, ◌∷◌, ◌≡◌, ◌≤◌}
+use Rattle.cdf_index.proofs.Common.{hold_all, each_of, has_room, index_rows, min, append_assoc, ◌++◌, AreInOrder, Each, Each-split, Entries, Hold, Hold-append, Hold-split, In, InOrder, IsOneOf, Leaf, List, Nodes, None, [], arith, before_is, before_number, block, chain_reaches, covers, end_of, entry_firsts, entry_leaves, false, filter, find, firsts_of, flat_map, fold, is_between, is_block, leads_down, leaf_rows, leaves_of, lower, lower_nodes, max, nat_lt, nat_tests, negsuc, next_first, no_entry, no_node, node, nodes_of, nodes_rows, past, past_entries, pos, range, reaches, record_number_limit, refl, signed, suc, true, used_rows, with_both, with_entry, with_leaf, ℕ, ◌+◌, ◌<◌, ◌∷◌, ◌≡◌, ◌≤◌}
 use Rattle.cdf_edits.proofs.Space.ActsLeave.{each as each_place}
 use Rattle.cdf_index.proofs.GoodIndex.{order_from}
 use Rattle.cdf_index.proofs.ByParts.{entries_by, entries_from, entries_within}
@@ -136,24 +136,18 @@ module _ (b records : List ℕ) where
     rules_from low high (node place wide entries more) m o room is =
         let rooms = Each-split HasRoom (lower_nodes entries) (nodes_of more) room.1 in
         let blocks = Each-split HasBlock (entry_leaves entries) (leaves_of more) is in
-        let p = entries_rules_from place low high entries m o.0 rooms.0 blocks.0 in
-        (room.0, Hold-append (used_rows b records place (before_number low) (pos high) entries) (nodes_rows b records (end_of (before_number low) entries) (pos high) more) p.0 (rw p.1 (rules_from (past_entries low entries) high more m o.1 rooms.1 blocks.1)))
+        grind (arith, Hold-append, entries_rules_from place low high entries m o.0 rooms.0 blocks.0, rules_from (past_entries low entries) high more m o.1 rooms.1 blocks.1)
 
     entries_rules_from : (vxr low high : ℕ) (entries : Entries) → high ≤ record_number_limit → AreInOrder low high entries → Each HasRoom (lower_nodes entries) → Each HasBlock (entry_leaves entries)
         → Hold (used_rows b records vxr (before_number low) (pos high) entries) × (end_of (before_number low) entries ≡ before_number (past_entries low entries))
     entries_rules_from vxr low high no_entry m o room is = (tt, refl)
     entries_rules_from vxr low high (block first last place packed entries) m o room is =
-        let s = signed last (omega (arith, o.2)) in
-        let r = entries_rules_from vxr (suc last) high entries m o.3 room is.1 in
-        ((is.0, (between_by low high first last m o.0 o.1 o.2, rw s r.0)), ap (λ (z : ℤ). end_of z entries) s ∙ r.1)
+        grind (arith, signed last, between_by low high first last m o.0 o.1 o.2, entries_rules_from vxr (suc last) high entries m o.3 room is.1)
     entries_rules_from vxr low high (lower first last nodes entries) m o room is =
-        let s = signed last (omega (arith, o.2)) in
-        let f = before_is first (signed first (omega (arith, o.1, o.2))) in
         let rooms = Each-split HasRoom (nodes_of nodes) (lower_nodes entries) room in
         let blocks = Each-split HasBlock (leaves_of nodes) (entry_leaves entries) is in
         let below = rules_from first last nodes (omega (arith, o.2)) o.3 rooms.0 blocks.0 in
-        let r = entries_rules_from vxr (suc last) high entries m o.4 rooms.1 blocks.1 in
-        ((between_by low high first last m o.0 o.1 o.2, Hold-append (nodes_rows b records (number_before first) (with_sign last) nodes) (used_rows b records vxr (with_sign last) (pos high) entries) (rw (f, s) below) (rw s r.0)), ap (λ (z : ℤ). end_of z entries) s ∙ r.1)
+        grind (arith, Hold-append, signed, before_is, below, between_by low high first last m o.0 o.1 o.2, entries_rules_from vxr (suc last) high entries m o.4 rooms.1 blocks.1)
 
   -- an index in order, of which each node and each block is one
   pub index_rules : (vdr : ℕ) (index : Nodes) → InOrder 0 record_number_limit index → ((m : ℕ) → In m (nodes_of index) → has_room b m ≡ true) → ((l : Leaf) → IsOneOf (leaves_of index) l → (is_block b records l.place ≡ true) × Hold (leaf_rows b records vdr l))

@@ -149,11 +149,11 @@ module _ {b now : List ℕ} {kind : Kind} {before : List VariableShape} {own : V
     cpr_stands m c = kept x.edit m cpr_type (behind_in good at m (cpr_behind own m c)) (is_a-type b s.records cpr_type m (Each-in (λ y. is_a b s.records cpr_type y ≡ true) own.cpr (fits good at).3 m c)) x.tests.cpr_clear
 
     own_keeps : (m : ℕ) → In m (variable_records own) → Keeps b now m (may.variables kind (length before) m)
-    own_keeps m (inl q) = subst (λ (y : ℕ). Keeps b now y (may.variables kind (length before) y)) (sym q) (subst (Keeps b now v) (sym vdr_may) vdr_keeps)
+    own_keeps m (inl q) = rw (q, vdr_may) vdr_keeps
     own_keeps m (inr j) = elim (In-append m (nodes_of own.index ++ places_of (leaves_of own.index)) own.cpr j) [
       | inr c ↦ keeps_stood b now m (stands m (behind_in good at m j) (cpr_stands m c)) _
       | inl k ↦ elim (In-append m (nodes_of own.index) (places_of (leaves_of own.index)) k) [
-        | inl n ↦ subst (Keeps b now m) (sym (node_may m n)) tt
+        | inl n ↦ rw (node_may m n) tt
         | inr n ↦ keeps_stood b now m (stands m (behind_in good at m j) (block_kept m n)) _
       ]
     ]
@@ -210,10 +210,7 @@ module _ {b now : List ℕ} {kind : Kind} {before : List VariableShape} {own : V
 
     sorted : (m : ℕ) → In m taken ⊎ In m freed → IsSorted now after_it m
     sorted m (inl i) = inl (y.in_use m i, omega (arith, used_after m, fresh_unowned (sound good at) m (y.fresh m i), times-once m taken y.taken_once i, times-none m freed (none_both m i)))
-    sorted m (inr i) = elim (sorted_before (sound good at) (good_by_its_shape b good).owned_once m (node_in m i)) [
-      | inl u ↦ inr (y.out_of_use m i, omega (arith, used_after m, u.1, times-once m freed y.freed_once i, times-none m taken (λ k. none_both m k i)))
-      | inr u ↦ absurd (apart vxr_type uir_type refl (sym (node_typed m i) ∙ u.0))
-    ]
+    sorted m (inr i) = grind (arith, sorted_before (sound good at) (good_by_its_shape b good).owned_once m (node_in m i), node_typed m i, y.out_of_use m i, used_after m, times-once m freed y.freed_once i, times-none m taken (λ k. none_both m k i))
 
     owned_now : OwnedOnce now after_it
     owned_now = owned_once_if b now s after_it (space ++ entries) reborn (sound good at) (good_by_its_shape b good).owned_once x.edit (λ m out. omega (arith, used_after m, times-none m taken (λ i. out (y.reborn_are m (inl i))), times-none m freed (λ i. out (y.reborn_are m (inr i))))) (λ m i. sorted m (y.are_reborn m i))
