@@ -1,5 +1,5 @@
 -- Entries of a node are written: what stands before them stays, and what is said of an entry more, one that ends later, fewer entries, and all of them.
-use Rattle.cdf_index.proofs.Common.{rules, Changed, EntrySet, Inserted, List, NodeInside, SaysEntry, SaysUnused, StillSays, Touch, [], arith, cases_eq, image_limit, inl, inr, length, refl, room_at, suc, sym, touch, used_count, vxr_n_used_entries, with_field, word, word-same, ℕ, ◌*◌, ◌+◌, ◌-◌, ◌<◌, ◌∙◌, ◌∷◌, ◌≡◌, ◌≢◌, ◌≤◌, ◌⊎◌, Cleared, EntriesRead, Entry, Shortened, Widened, entry_in, length-append, max, unused_entry, vxr_vxr_next, ◌++◌, ◌^◌, HeadWritten, NodeWritten, SaysFirst, subst}
+use Rattle.cdf_index.proofs.Common.{Changed, EntrySet, Inserted, List, NodeInside, SaysEntry, SaysUnused, StillSays, Touch, [], arith, cases_eq, first_at, last_at, offset_at, image_limit, inl, inr, length, refl, room_at, suc, sym, touch, used_count, vxr_n_used_entries, with_field, word, word-same, ℕ, ◌*◌, ◌+◌, ◌-◌, ◌<◌, ◌∙◌, ◌∷◌, ◌⊎◌, ◌≡◌, ◌≢◌, ◌≤◌, ◌⊎◌, Cleared, EntriesRead, Entry, Shortened, Widened, entry_in, length-append, max, unused_entry, vxr_vxr_next, ◌++◌, ◌^◌, HeadWritten, NodeWritten, SaysFirst}
 use Rattle.cdf_index.proofs.FieldSet.{FieldSet, field_set, counts, entries_beside, node_head}
 use Rattle.std.proofs.Math.Seq.{get_or-append_seam}
 use Rattle.std.proofs.lemmas.List.{get_or_append_left}
@@ -25,24 +25,18 @@ inside_stays b now at n c long i = grind (arith, c.same, i)
 pub record Shifted (b now : List ℕ) (at used moved : ℕ) : Type 0 where
   pub as_long : length now ≡ length b
   pub changed : Changed b now (touch at 28 (16 * room_at b at) ∷ [])
-  pub stay : (j : ℕ) → j + moved ≤ used → StillSays b now at j j
+  pub stay : (j : ℕ) → j < room_at b at → (j + moved ≤ used) ⊎ (used < j) → StillSays b now at j j
   pub moved_on : (j : ℕ) → used ≤ j + moved → j < used → StillSays b now at j (suc j)
-  pub unused : (j : ℕ) → used < j → j < room_at b at → StillSays b now at j j
 
 pub nothing_changed : {b : List ℕ} {ts : List Touch} → Changed b b ts
 nothing_changed = record { longer = omega arith; same = λ i lt o. refl }
 
--- what two sayings of one entry have in common
-pub still_it : {b now : List ℕ} {at to i j first last offset : ℕ} → SaysEntry b at i first last offset → SaysEntry now to j first last offset → (f l o : ℕ) → SaysEntry b at i f l o → SaysEntry now to j f l o
-still_it r s f l o t = record { first_is = s.first_is ∙ sym r.first_is ∙ t.first_is; last_is = s.last_is ∙ sym r.last_is ∙ t.last_is; offset_is = s.offset_is ∙ sym r.offset_is ∙ t.offset_is }
-
 pub shift_more : {b mid now : List ℕ} {at used k first last offset : ℕ} → Shifted b mid at used k → NodeInside b at → used < room_at b at → k < used → SaysEntry mid at (used - k - 1) first last offset → EntrySet mid now at (used - k) first last offset → Shifted b now at used (k + 1)
 shift_more {b = b} {now = now} {at = at} {used = used} {k = k} sh inside room more read set =
     let same = room_stays _ _ at _ sh.changed (node_head inside) in
-    let stay : (j : ℕ) → j + (k + 1) ≤ used → StillSays b now at j j = λ j le f l o s. set.others j (omega arith) (λ e. absurd (omega arith)) f l o (sh.stay j (omega arith) f l o s) in
-    let moved_on : (j : ℕ) → used ≤ j + (k + 1) → j < used → StillSays b now at j (suc j) = λ j le lt f l o s. grind (arith, cases_eq j (used - k - 1), read, set.here, sh.stay j, λ (ne : j ≢ used - k - 1). set.others (suc j) (omega arith) (λ e. ne (omega arith)) f l o (sh.moved_on j (omega arith) lt f l o s)) in
-    let unused : (j : ℕ) → used < j → j < room_at b at → StillSays b now at j j = λ j lt in_room f l o s. set.others j (omega arith) (λ e. absurd (omega arith)) f l o (sh.unused j lt in_room f l o s) in
-    grind (arith, inside, sh.changed, set.changed, stay, moved_on, unused)
+    let stay : (j : ℕ) → j < room_at b at → (j + (k + 1) ≤ used) ⊎ (used < j) → StillSays b now at j j = λ j in_room apart f l o s. (let was : (j + k ≤ used) ⊎ (used < j) = grind arith in set.others j (omega arith) (λ e. absurd (grind arith)) f l o (sh.stay j in_room was f l o s)) in
+    let moved_on : (j : ℕ) → used ≤ j + (k + 1) → j < used → StillSays b now at j (suc j) = λ j le lt f l o s. grind (arith, cases_eq j (used - k - 1), read, set.here, sh.stay j (omega arith), λ (ne : j ≢ used - k - 1). set.others (suc j) (omega arith) (λ e. ne (omega arith)) f l o (sh.moved_on j (omega arith) lt f l o s)) in
+    grind (arith, inside, sh.changed, set.changed, stay, moved_on)
 
 -- ---- the new entry, and the count
 
@@ -51,22 +45,19 @@ inserted {b = b} {mid2 = mid2} {now = now} {at = at} {used = used} {p = p} {firs
     let same = room_stays _ _ at _ sh.changed (node_head inside) in
     let counted : FieldSet mid2 now at vxr_n_used_entries (suc used) = field_set (omega (arith, inside.room, sh.as_long, set.as_long)) write in
     let kept = entries_beside counted (omega arith) (omega arith) (inr (omega arith)) in
-    let earlier : (j : ℕ) → j < p → StillSays b now at j j = λ j lt f l o s. kept j f l o (set.others j (omega arith) (λ e. absurd (omega arith)) f l o (sh.stay j (omega arith) f l o s)) in
+    let earlier : (j : ℕ) → j < p → StillSays b now at j j = λ j lt f l o s. kept j f l o (set.others j (omega arith) (λ e. absurd (omega arith)) f l o (sh.stay j (omega arith) (inl (omega arith)) f l o s)) in
     let later : (j : ℕ) → p ≤ j → j < used → StillSays b now at j (suc j) = λ j le lt f l o s. kept (suc j) f l o (set.others (suc j) (omega arith) (λ e. absurd (omega arith)) f l o (sh.moved_on j (omega arith) lt f l o s)) in
-    let unused : (j : ℕ) → used < j → j < room_at b at → StillSays b now at j j = λ j lt in_room f l o s. kept j f l o (set.others j (omega arith) (λ e. absurd (omega arith)) f l o (sh.unused j lt in_room f l o s)) in
+    let unused : (j : ℕ) → used < j → j < room_at b at → StillSays b now at j j = λ j lt in_room f l o s. kept j f l o (set.others j (omega arith) (λ e. absurd (omega arith)) f l o (sh.stay j in_room (inr lt) f l o s)) in
     grind (arith, inside, sh.changed, set.changed, counted, earlier, kept p first last offset set.here, later, unused)
 
 -- ---- an entry that ends later
 
-pub widened_by : (b now : List ℕ) (at i last first end offset : ℕ) → SaysEntry b at i first end offset → EntrySet b now at i first (max end last) offset → Widened b now at i last
-widened_by b now at i last first end offset r set = grind (arith, r, set)
+pub widened_by : (b now : List ℕ) (at i last : ℕ) → EntrySet b now at i (first_at b at i) (max (last_at b at i) last) (offset_at b at i) → Widened b now at i last
+widened_by b now at i last set = grind (arith, set)
 
 -- ---- entries read one by one
 
-abbrev SaysIt : List ℕ → ℕ → ℕ → Entry → Type 0
-SaysIt b at i e = SaysEntry b at i e.first e.last e.place
-
-pub read_one : {b : List ℕ} {at from i : ℕ} {xs : List Entry} (e : Entry) → EntriesRead b at from i xs → SaysIt b at i e → EntriesRead b at from (i + 1) (xs ++ e ∷ [])
+pub read_one : {b : List ℕ} {at from i : ℕ} {xs : List Entry} (e : Entry) → EntriesRead b at from i xs → SaysEntry b at i e.first e.last e.place → EntriesRead b at from (i + 1) (xs ++ e ∷ [])
 read_one {from = from} {i = i} {xs = xs} e r s = record {
   many = omega (arith, r.many, length-append xs (e ∷ []));
   say = λ j lt. elim (cases_eq j (length xs)) [

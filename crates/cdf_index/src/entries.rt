@@ -93,6 +93,7 @@ pub fn insert_entry<A: Area>(
 }
 
 /// Lets the entry with number `i` of a node end at a record, if it ends before it.
+#[tactic(auto, using(crate::proofs::Inserting::widened_by))]
 pub fn widen_entry<A: Area>(
     area: &mut A,
     at: u64,
