@@ -37,7 +37,7 @@ pub use Rattle.cdf_index.specs.Way.{down_at, placed, widen_all, widened, wider}
 unfoldable pub use Rattle.cdf_index.specs.Way.{spot, spot_below, way, way_below}
 pub use Rattle.cdf_index.specs.Whole.{Grew, Met, SomeChain, entry_met, leaf_words, met_block, met_node, place_met, places_in}
 unfoldable pub use Rattle.cdf_index.specs.Whole.{met_below, met_in}
-pub use Rattle.cdf_index.specs.Writing.{Chained, Cleared, EntriesRead, EntrySet, HasRoomFor, HeadWritten, Inserted, NodeWritten, SaysFirst, SaysUnused, Shortened, Split, StillSays, Widened, entry_in, unused_entry}
+pub use Rattle.cdf_index.specs.Writing.{Chained, Cleared, EntriesRead, EntriesWritten, EntrySet, HasRoomFor, HeadWritten, Inserted, NodeWritten, SaysFirst, SaysUnused, Shortened, Split, StillSays, Widened, entry_in, unused_entry}
 pub use Rattle.cdf_index.specs.declared.descending.Spot.{Spot}
 pub use Rattle.cdf_index.specs.declared.descending.Step.{Step}
 pub use Rattle.cdf_index.specs.declared.entries.Entry.{Entry}

@@ -1,5 +1,5 @@
 -- Entries of a node are written: what stands before them stays, and what is said of an entry more, one that ends later, fewer entries, and all of them.
-use Rattle.cdf_index.proofs.Common.{Changed, EntrySet, Inserted, List, NodeInside, SaysEntry, SaysUnused, StillSays, Touch, [], arith, cases_eq, first_at, last_at, offset_at, image_limit, inl, inr, length, refl, room_at, suc, sym, touch, used_count, vxr_n_used_entries, with_field, word, word-same, ℕ, ◌*◌, ◌+◌, ◌-◌, ◌<◌, ◌∙◌, ◌∷◌, ◌⊎◌, ◌≡◌, ◌≢◌, ◌≤◌, ◌⊎◌, Cleared, EntriesRead, Entry, Shortened, Widened, entry_in, length-append, max, unused_entry, vxr_vxr_next, ◌++◌, ◌^◌, HeadWritten, NodeWritten, SaysFirst}
+use Rattle.cdf_index.proofs.Common.{Changed, EntrySet, Inserted, List, NodeInside, SaysEntry, SaysUnused, StillSays, Touch, [], arith, cases_eq, first_at, last_at, offset_at, image_limit, inl, inr, length, refl, room_at, suc, sym, touch, used_count, vxr_n_used_entries, with_field, word, word-same, ℕ, ◌*◌, ◌+◌, ◌-◌, ◌<◌, ◌∙◌, ◌∷◌, ◌⊎◌, ◌≡◌, ◌≢◌, ◌≤◌, ◌⊎◌, Cleared, EntriesRead, EntriesWritten, Entry, Shortened, Widened, entry_in, length-append, max, unused_entry, vxr_vxr_next, ◌++◌, ◌^◌, HeadWritten, NodeWritten}
 use Rattle.cdf_index.proofs.FieldSet.{FieldSet, field_set, counts, entries_beside, node_head}
 use Rattle.std.proofs.Math.Seq.{get_or-append_seam}
 use Rattle.std.proofs.lemmas.List.{get_or_append_left}
@@ -66,14 +66,14 @@ read_one {from = from} {i = i} {xs = xs} e r s = record {
   ];
 }
 
--- ---- entries that are not used any more
+-- ---- entries written one by one
 
-pub clear_more : {b mid now : List ℕ} {at from i : ℕ} → NodeInside b at → Cleared b mid at from i → from ≤ i → i < room_at b at → EntrySet mid now at i 0xffffffff 0xffffffff 0xffffffffffffffff → Cleared b now at from (i + 1)
-clear_more {b = b} {now = now} {at = at} {from = from} {i = i} inside c le lt set =
-    let same = room_stays _ _ at _ c.changed (node_head inside) in
-    let gone : (j : ℕ) → from ≤ j → j < i + 1 → SaysUnused now at j = λ j lo hi. elim (cases_eq j i) [ inl e ↦ rw e set.here | inr ne ↦ set.others j (omega arith) ne _ _ _ (c.gone j lo (omega arith)) ] in
-    let others : (j : ℕ) → j < room_at b at → (j < from) ⊎ (i + 1 ≤ j) → StillSays b now at j j = λ j in_room o f l k s. set.others j (omega arith) (λ e. elim o [ inl a ↦ absurd (omega arith) | inr a ↦ absurd (omega arith) ]) f l k (c.others j in_room (elim o [ inl a ↦ inl a | inr a ↦ inr (omega arith) ]) f l k s) in
-    grind (arith, inside, c.changed, set.changed, gone, others)
+pub write_more : {b mid now : List ℕ} {at from i : ℕ} {entries : List Entry} (e : Entry) → NodeInside b at → EntriesWritten b mid at from i entries → from ≤ i → i < room_at b at → e ≡ entry_in entries i → EntrySet mid now at i e.first e.last e.place → EntriesWritten b now at from (i + 1) entries
+write_more {b = b} {now = now} {at = at} {from = from} {i = i} {entries = entries} e inside w le lt is set =
+    let same = room_stays _ _ at _ w.changed (node_head inside) in
+    let says : (j : ℕ) → from ≤ j → j < i + 1 → SaysEntry now at j (entry_in entries j).first (entry_in entries j).last (entry_in entries j).place = λ j lo hi. grind (arith, cases_eq j i, is, set.here, λ (ne : j ≢ i). set.others j (omega arith) ne _ _ _ (w.says j lo (omega arith))) in
+    let others : (j : ℕ) → j < room_at b at → (j < from) ⊎ (i + 1 ≤ j) → StillSays b now at j j = λ j in_room apart f l o s. (let was : (j < from) ⊎ (i ≤ j) = grind arith in set.others j (omega arith) (λ x. absurd (grind arith)) f l o (w.others j in_room was f l o s)) in
+    grind (arith, inside, w.changed, set.changed, says, others)
 
 -- ---- fewer entries, one more behind them, and another link
 
@@ -90,19 +90,7 @@ shortened b mid mid2 mid3 now at used p first last offset next inside short fits
     let unused : (j : ℕ) → used ≤ j → j < room_at b at → StillSays b now at j j = λ j le lt f l o s. kept j lt (λ e. absurd (omega arith)) f l o (cl.others j lt (inr le) f l o s) in
     grind (arith, inside, cl.changed, set.changed, counted, linked, earlier, still p first last offset set.here, gone, unused)
 
--- ---- the entries, one by one
+-- ---- all of them
 
--- so many entries of a node were written, since its fields were
-pub record Making (head mid : List ℕ) (at n : ℕ) (entries : List Entry) : Type 0 where
-  pub as_long : length mid ≡ length head
-  pub changed : Changed head mid (touch at 28 (16 * room_at head at) ∷ [])
-  pub says : SaysFirst mid at entries n
-
-pub making_more : {head mid now : List ℕ} {at n : ℕ} {entries : List Entry} {to : Entry} → NodeInside head at → Making head mid at n entries → n < room_at head at → to ≡ entry_in entries n → EntrySet mid now at n to.first to.last to.place → Making head now at (n + 1) entries
-making_more {now = now} {at = at} {n = n} {entries = entries} inside m lt is set =
-    let same = room_stays _ _ at _ m.changed (node_head inside) in
-    let says : SaysFirst now at entries (n + 1) = λ i less. grind (arith, cases_eq i n, is, set.here, λ (ne : i ≢ n). set.others i (omega arith) ne _ _ _ (m.says i (omega arith))) in
-    grind (arith, inside, m.changed, set.changed, says)
-
-pub node_written : {b head now : List ℕ} {at room next : ℕ} {entries : List Entry} → HeadWritten b head at room (length entries) next → Making head now at room entries → NodeWritten b now at room next entries
+pub node_written : {b head now : List ℕ} {at room next : ℕ} {entries : List Entry} → HeadWritten b head at room (length entries) next → EntriesWritten head now at 0 room entries → NodeWritten b now at room next entries
 node_written w m = grind (arith, w, m)
