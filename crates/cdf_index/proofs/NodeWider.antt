@@ -1,6 +1,5 @@
 -- A node on the way whose entry ends later, in the tree.
-use Rattle.cdf_index.proofs.Common.{rules, Entries, List, Names, Owed, SameHeads, SayEntries, SaysEntry, StillSays, Widened, ap, arith, block, entry_count, length, link_to, linkable_kept, lower, max, no_entry, refl, room_at, suc, sym, used_count, vxr_type, widened, wider, zero, ℕ, ◌*◌, ◌+◌, ◌<◌, ◌∙◌, ◌≡◌, ◌≢◌, ◌≤◌}
-use Rattle.cdf_index.proofs.Inserting.{front_stays, room_stays, used_stays}
+use Rattle.cdf_index.proofs.Common.{Entries, List, Names, Owed, SameHeads, SayEntries, SaysEntry, StillSays, Widened, ap, arith, block, entry_count, length, link_to, linkable_kept, lower, max, no_entry, refl, room_at, suc, used_count, vxr_type, widened, wider, zero, ℕ, ◌+◌, ◌<◌, ◌≡◌, ◌≢◌, ◌≤◌}
 use Rattle.cdf_index.proofs.NodeGrown.{node_has}
 use Rattle.cdf_index.proofs.Saying.{say_moved}
 
@@ -31,11 +30,8 @@ module _ (b now records records' : List ℕ) (heads : SameHeads b now records re
     same_link = λ r es more. refl;
     is_node = λ r es more. tt;
     stands = λ levels r es more h n m.
-        (let u = h.used_is in
-        let wide = names_widened now records' levels last i es n in
-        let next = front_stays b now at 28 (16 * room_at b at) w.changed inside 12 8 (omega arith) ∙ h.next_is in
-        let room = room_stays b now at (16 * room_at b at) w.changed inside ∙ h.room_is in
-        let used = used_stays b now at (16 * room_at b at) w.changed inside ∙ h.used_is ∙ sym wide.1 in
+        (let wide = names_widened now records' levels last i es n in
+        let u = h.used_is in
         let says = say_widened b now at last i 0 i es (omega arith) w.here (λ j lt ne. w.others j (omega arith) ne) h.say_entries in
-        node_has now records' levels at r (widened last i es) more (search (rules, linkable_kept b now records records' heads vxr_type at h.linkable, next, room, used, says)) wide.0 m);
+        node_has now records' levels at r (widened last i es) more (grind (arith, linkable_kept b now records records' heads vxr_type at h.linkable, w.changed.same, h, wide.1, says)) wide.0 m);
   }

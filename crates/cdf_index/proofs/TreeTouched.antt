@@ -1,5 +1,5 @@
 -- One node of an index was touched behind its first 12 bytes: what stays, and what the tree becomes.
-use Rattle.cdf_index.proofs.Common.{AreTiles, Changed, Distinct, Edit, HasNodes, In, Kept, Leaf, List, NodeFits, Nodes, Owed, Placed, SameHeads, [], arith, inl, inr, leaves_of, length, map, nodes_of, redo, redone, refl, size_at, sym, tile_lies, touch, word_kept, ℕ, ◌+◌, ◌∷◌, ◌≢◌, ◌≤◌}
+use Rattle.cdf_index.proofs.Common.{AreTiles, Changed, Distinct, Edit, HasNodes, In, Kept, Leaf, List, NodeFits, Nodes, Owed, Placed, SameHeads, [], arith, inl, inr, leaves_of, length, map, nodes_of, redo, redone, refl, size_at, sym, tile_lies, touch, ℕ, ◌+◌, ◌∷◌, ◌≢◌, ◌≤◌}
 use Rattle.cdf_edits.proofs.Frame.ChangedBytes.{changed_part, changed_whole}
 
 module _ (b now records : List ℕ) (tiled : AreTiles b 8 (length b) records) (at from n : ℕ) (there : In at records) (later : 12 ≤ from) (fits : from + n ≤ size_at b at) (change : Changed b now (touch at from n ∷ [])) where
@@ -9,7 +9,7 @@ module _ (b now records : List ℕ) (tiled : AreTiles b 8 (length b) records) (a
   pub heads_stay : SameHeads b now records records
   heads_stay =
       let front = λ (m : ℕ) (i : In m records). changed_part b now records (length b) tiled (omega arith) (touch at from n ∷ []) change lies_there m 0 12 i (tile_lies b 8 (length b) records m tiled i).long ((λ e. inl later), tt) in
-      record { sizes = λ m i. word_kept b now (m + 0) (m + 12) (front m i) (m + 0) 8 (omega arith) (omega arith); types = λ m i. word_kept b now (m + 0) (m + 12) (front m i) (m + 8) 4 (omega arith) (omega arith); sub = λ m i. i }
+      record { sizes = λ m i. grind (arith, front m i); types = λ m i. grind (arith, front m i); sub = λ m i. i }
 
   pub others_stay : (m : ℕ) → In m records → m ≢ at → Kept b now m
   others_stay m i ne =

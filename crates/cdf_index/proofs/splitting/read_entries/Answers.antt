@@ -1,5 +1,5 @@
 use Rattle.cdf_index.proofs.Common.{read_more, read_without_memory}
-use Rattle.cdf_index.proofs.NodeShortened.{read_one}
+use Rattle.cdf_index.proofs.Inserting.{read_one}
 use Rattle.cdf_index.proofs.splitting.read_entries.Goals as goal
 
 pub loop-i-preserved : goal.loop-i-preserved

@@ -1,6 +1,6 @@
 use Rattle.cdf_index.proofs.Common.{ap, arith, of_z-to_z, on_ok_weaker, vxr_n_used_entries, with_field, ℕ, ◌+◌, ◌∙◌}
 use Rattle.std.specs.Int.{w32}
-use Rattle.cdf_index.proofs.NodeShortened.{shortened}
+use Rattle.cdf_index.proofs.Inserting.{shortened}
 use Rattle.cdf_index.proofs.splitting.shorten_node.Goals as goal
 
 pub returns-clause-shortened : goal.returns-clause-shortened
