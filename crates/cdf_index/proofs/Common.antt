@@ -23,8 +23,8 @@ pub use Rattle.cdf_format.proofs.BytesLemmas.{next_kept, number_kept, size_kept,
 pub use Rattle.cdf_format.specs.GoodImage.{IsGoodImage}
 pub use Rattle.cdf_format.specs.Index.{Entries, Leaf, Nodes, block, entry_count, first_at, last_at, leaf, link_to, lower, no_entry, no_node, node, offset_at, room_at, used_count}
 pub use Rattle.cdf_format.specs.Records.{field, vxr_bytes, vxr_first, vxr_last, vxr_n_used_entries, vxr_offset, vxr_vxr_next}
-pub use Rattle.cdf_index.specs.Ahead.{Begun, Climbs, IsWalk, NamesIn, chain_at, chain_before, first_past}
-pub use Rattle.cdf_index.specs.Descent.{IsAmong, IsTree, SeesNode, SomeTree, SpotIs, StepSays, end_from, spot_at, step_pair, way_from}
+pub use Rattle.cdf_index.specs.Ahead.{Begun, NamesIn, chain_at, chain_before, first_past}
+pub use Rattle.cdf_index.specs.Descent.{ChainWalked, IsAmong, Meets, SeesNode, StepSays, behind_of, first_after, step_pair}
 pub use Rattle.cdf_index.specs.Finding.{Ascends, At, ChainFrom, HasIndex, IsBlock, IsCut, IsOrderly, NodeInside, Scanned, SomeNode, Stands, in_column, index_at}
 pub use Rattle.cdf_index.specs.Growing.{Begins, MayName, with_new}
 pub use Rattle.cdf_index.specs.Next.{least_first_past, number_within}
