@@ -1,19 +1,14 @@
 -- Where the entries of a node are cut in two: those before a record, and the others.
-use Rattle.cdf_index.proofs.Common.{Ascends, Bool, List, ap, arith, false, in_column, IsCut, inl, inr, refl, subst, suc, true, zero, ℕ, ◌+◌, ◌-◌, ◌<◌, ◌≡◌, ◌≤◌}
-use Rattle.std.proofs.Common.{if◌then◌else◌}
-use Rattle.std.proofs.lemmas.Bool.{cases_lt}
+use Rattle.cdf_index.proofs.Common.{Ascends, Bool, List, ap, arith, false, if◌then◌else◌, in_column, IsCut, refl, subst, suc, true, zero, ℕ, ◌+◌, ◌-◌, ◌<◌, ◌≡◌, ◌≤◌}
 
 -- a number of a column is at most a later one
-pub climbs : (b : List ℕ) (at field used : ℕ) → Ascends b at field used → (i j : ℕ) → i ≤ j → j < used → in_column b at field i ≤ in_column b at field j
-climbs b at field used a i zero le lt = let e : i ≡ 0 = omega arith in rw e (omega arith)
-climbs b at field used a i (suc j) le lt = elim (cases_lt j i) [
-  | inl more ↦ let e : i ≡ suc j = omega arith in rw e (omega arith)
-  | inr less ↦ let z : j + 1 ≡ suc j = omega arith in omega (arith, climbs b at field used a i j less (omega arith), rw z at (a j (omega arith)))
-]
+climbs : (b : List ℕ) (at field used : ℕ) → Ascends b at field used → (i n : ℕ) → i + n < used → in_column b at field i ≤ in_column b at field (i + n)
+climbs b at field used a i zero lt = let z : i + 0 ≡ i = omega arith in rw z (omega arith)
+climbs b at field used a i (suc n) lt = let z : i + n + 1 ≡ i + suc n = omega arith in omega (arith, climbs b at field used a i n (omega arith), rw z at (a (i + n) (omega arith)))
 
 -- where the last number before a place is below a bound, and the one there is not, the column is cut there
 pub is_cut : (b : List ℕ) (at field used bound i : ℕ) → Ascends b at field used → ((j : ℕ) → j + 1 ≡ i → in_column b at field j < bound) → i ≤ used → (i < used → bound ≤ in_column b at field i) → IsCut b at field used bound i
-is_cut b at field used bound i a last most stop = record { before = λ j lt. omega (arith, climbs b at field used a j (i - 1) (omega arith) (omega arith), last (i - 1) (omega arith)); most = most; stop = stop }
+is_cut b at field used bound i a last most stop = record { before = λ j lt. omega (arith, climbs b at field used a j (i - 1 - j) (omega arith), last (j + (i - 1 - j)) (omega arith)); most = most; stop = stop }
 
 -- the first n of so many entries from number k on are one thing, and the one behind them is another
 pub record Parted (P Q : ℕ → Type 0) (k n count : ℕ) : Type 0 where

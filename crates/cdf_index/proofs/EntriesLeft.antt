@@ -1,5 +1,5 @@
 -- Entries of a node, from a number on, as they stand in the image with what is below them.
-use Rattle.cdf_index.proofs.Common.{Bool, Each, Each-split, Entries, HasNodes, IsBlock, IsOrderly, List, Names, Nodes, SayEntries, SaysNode, Stands, block, entry_leaves, leaves_of, lower, lower_nodes, node, nodes_of, suc, tiles, ℕ}
+use Rattle.cdf_index.proofs.Common.{Bool, Each, Each-split, Entries, HasNodes, IsBlock, IsOrderly, List, Names, Nodes, SayEntries, SaysNode, Stands, block, entry_leaves, leaves_of, lower, lower_nodes, node, nodes_of, rules, suc, tiles, ℕ}
 
 pub record EntriesLeft (b : List ℕ) (levels at i : ℕ) (es : Entries) : Type 0 where
   pub say : SayEntries b at i es
@@ -15,9 +15,13 @@ past_first r = record { say = r.say.1; names = r.names.2; orderly = r.orderly; b
 pub past_lower_one : {b : List ℕ} {levels at i first last : ℕ} {nodes : Nodes} {es : Entries} → EntriesLeft b levels at i (lower first last nodes es) → Stands b levels nodes × EntriesLeft b levels at (suc i) es
 unfolding Names lower_nodes entry_leaves
 past_lower_one {b = b} {nodes = nodes} {es = es} r =
-    let fs = Each-split (IsOrderly b) (nodes_of nodes) (lower_nodes es) r.orderly in
-    let ks = Each-split (IsBlock b) (leaves_of nodes) (entry_leaves es) r.blocks in
-    (record { has = r.names.1; orderly = fs.0; blocks = ks.0 }, record { say = r.say.1; names = r.names.2; orderly = fs.1; blocks = ks.1 })
+    search (
+      rules,
+      r.say,
+      r.names,
+      Each-split (IsOrderly b) (nodes_of nodes) (lower_nodes es) r.orderly,
+      Each-split (IsBlock b) (leaves_of nodes) (entry_leaves es) r.blocks,
+    )
 
 -- a node, its entries, and the chain behind it
 pub record NodeParts (b : List ℕ) (levels place room : ℕ) (es : Entries) (more : Nodes) : Type 0 where
@@ -28,6 +32,10 @@ pub record NodeParts (b : List ℕ) (levels place room : ℕ) (es : Entries) (mo
 pub node_parts : {b : List ℕ} {levels place room : ℕ} {es : Entries} {more : Nodes} → Stands b (suc levels) (node place room es more) → NodeParts b levels place room es more
 unfolding HasNodes nodes_of leaves_of
 node_parts {b = b} {es = es} {more = more} st =
-    let fs = Each-split (IsOrderly b) (lower_nodes es) (nodes_of more) st.orderly.1 in
-    let ks = Each-split (IsBlock b) (entry_leaves es) (leaves_of more) st.blocks in
-    record { says = st.has.0; left = record { say = st.has.0.say_entries; names = st.has.1; orderly = fs.0; blocks = ks.0 }; more_stands = record { has = st.has.2; orderly = fs.1; blocks = ks.1 } }
+    search (
+      rules,
+      st.has,
+      st.has.0.say_entries,
+      Each-split (IsOrderly b) (lower_nodes es) (nodes_of more) st.orderly.1,
+      Each-split (IsBlock b) (entry_leaves es) (leaves_of more) st.blocks,
+    )

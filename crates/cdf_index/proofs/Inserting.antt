@@ -1,6 +1,6 @@
 -- Entries of a node are written: what stands before them stays, and what is said of an entry more, one that ends later, fewer entries, and all of them.
-use Rattle.cdf_index.proofs.Common.{rules, Changed, EntrySet, Inserted, List, NodeInside, SaysEntry, SaysUnused, StillSays, Touch, [], arith, cases_eq, image_limit, inl, inr, length, refl, room_at, suc, sym, touch, used_count, vxr_n_used_entries, with_field, word, word-same, ℕ, ◌*◌, ◌+◌, ◌-◌, ◌<◌, ◌∙◌, ◌∷◌, ◌≡◌, ◌≢◌, ◌≤◌, ◌⊎◌, Cleared, EntriesRead, Entry, Shortened, Widened, entry_in, length-append, max, unused_entry, vxr_vxr_next, ◌++◌, ◌^◌, HeadWritten, NodeWritten, SaysFirst, subst}
-use Rattle.cdf_index.proofs.FieldSet.{FieldSet, field_set, counts, entries_beside}
+use Rattle.cdf_index.proofs.Common.{Changed, EntrySet, Inserted, List, NodeInside, SaysEntry, SaysUnused, StillSays, Touch, [], arith, cases_eq, first_at, last_at, offset_at, image_limit, inl, inr, length, refl, room_at, suc, sym, touch, used_count, vxr_n_used_entries, with_field, word, word-same, ℕ, ◌*◌, ◌+◌, ◌-◌, ◌<◌, ◌∙◌, ◌∷◌, ◌⊎◌, ◌≡◌, ◌≢◌, ◌≤◌, ◌⊎◌, Cleared, EntriesRead, EntriesWritten, Entry, Shortened, Widened, entry_in, length-append, max, unused_entry, vxr_vxr_next, ◌++◌, ◌^◌, HeadWritten, NodeWritten}
+use Rattle.cdf_index.proofs.FieldSet.{FieldSet, field_set, counts, entries_beside, node_head}
 use Rattle.std.proofs.Math.Seq.{get_or-append_seam}
 use Rattle.std.proofs.lemmas.List.{get_or_append_left}
 use Rattle.std.proofs.lemmas.Option.{unwrap_or-slice_get}
@@ -19,66 +19,45 @@ used_stays b now at n c room = λ i. counts (front_stays b now at 28 n c room 24
 pub inside_stays : (b now : List ℕ) (at n : ℕ) → Changed b now (touch at 28 n ∷ []) → length now ≡ length b → NodeInside b at → NodeInside now at
 inside_stays b now at n c long i = grind (arith, c.same, i)
 
--- what one more entry leaves, where entries of a node alone were written before
-pub record SetMore (b mid now : List ℕ) (at i : ℕ) : Type 0 where
-  pub as_long : length now ≡ length b
-  pub changed : Changed b now (touch at 28 (16 * room_at b at) ∷ [])
-  pub others : (j : ℕ) → j < room_at b at → j ≢ i → StillSays mid now at j j
-
-pub set_more : {b mid now : List ℕ} {at i first last offset : ℕ} → NodeInside b at → length mid ≡ length b → Changed b mid (touch at 28 (16 * room_at b at) ∷ []) → EntrySet mid now at i first last offset → SetMore b mid now at i
-set_more inside long c set = grind (arith, inside, c, set)
-
 -- ---- entries move on, the last one first
 
 -- the last so many of the used entries of a node stand one further
 pub record Shifted (b now : List ℕ) (at used moved : ℕ) : Type 0 where
   pub as_long : length now ≡ length b
   pub changed : Changed b now (touch at 28 (16 * room_at b at) ∷ [])
-  pub stay : (j : ℕ) → j + moved ≤ used → StillSays b now at j j
+  pub stay : (j : ℕ) → j < room_at b at → (j + moved ≤ used) ⊎ (used < j) → StillSays b now at j j
   pub moved_on : (j : ℕ) → used ≤ j + moved → j < used → StillSays b now at j (suc j)
-  pub unused : (j : ℕ) → used < j → j < room_at b at → StillSays b now at j j
 
 pub nothing_changed : {b : List ℕ} {ts : List Touch} → Changed b b ts
 nothing_changed = record { longer = omega arith; same = λ i lt o. refl }
 
--- what two sayings of one entry have in common
-pub still_it : {b now : List ℕ} {at to i j first last offset : ℕ} → SaysEntry b at i first last offset → SaysEntry now to j first last offset → (f l o : ℕ) → SaysEntry b at i f l o → SaysEntry now to j f l o
-still_it r s f l o t = record { first_is = s.first_is ∙ sym r.first_is ∙ t.first_is; last_is = s.last_is ∙ sym r.last_is ∙ t.last_is; offset_is = s.offset_is ∙ sym r.offset_is ∙ t.offset_is }
-
 pub shift_more : {b mid now : List ℕ} {at used k first last offset : ℕ} → Shifted b mid at used k → NodeInside b at → used < room_at b at → k < used → SaysEntry mid at (used - k - 1) first last offset → EntrySet mid now at (used - k) first last offset → Shifted b now at used (k + 1)
 shift_more {b = b} {now = now} {at = at} {used = used} {k = k} sh inside room more read set =
-    let m = set_more inside sh.as_long sh.changed set in
-    let stay : (j : ℕ) → j + (k + 1) ≤ used → StillSays b now at j j = λ j le f l o s. m.others j (omega arith) (λ e. absurd (omega arith)) f l o (sh.stay j (omega arith) f l o s) in
-    let moved_on : (j : ℕ) → used ≤ j + (k + 1) → j < used → StillSays b now at j (suc j) = λ j le lt f l o s. elim (cases_eq j (used - k - 1)) [
-      | inl e ↦ (let there : used - k ≡ suc j = omega arith in rw there at (still_it (rw (← e) at read) set.here f l o (sh.stay j (omega arith) f l o s)))
-      | inr ne ↦ m.others (suc j) (omega arith) (λ e. ne (omega arith)) f l o (sh.moved_on j (omega arith) lt f l o s)
-    ] in
-    let unused : (j : ℕ) → used < j → j < room_at b at → StillSays b now at j j = λ j lt in_room f l o s. m.others j in_room (λ e. absurd (omega arith)) f l o (sh.unused j lt in_room f l o s) in
-    search (rules, m, stay, moved_on, unused)
+    let same = room_stays _ _ at _ sh.changed (node_head inside) in
+    let stay : (j : ℕ) → j < room_at b at → (j + (k + 1) ≤ used) ⊎ (used < j) → StillSays b now at j j = λ j in_room apart f l o s. (let was : (j + k ≤ used) ⊎ (used < j) = grind arith in set.others j (omega arith) (λ e. absurd (grind arith)) f l o (sh.stay j in_room was f l o s)) in
+    let moved_on : (j : ℕ) → used ≤ j + (k + 1) → j < used → StillSays b now at j (suc j) = λ j le lt f l o s. grind (arith, cases_eq j (used - k - 1), read, set.here, sh.stay j (omega arith), λ (ne : j ≢ used - k - 1). set.others (suc j) (omega arith) (λ e. ne (omega arith)) f l o (sh.moved_on j (omega arith) lt f l o s)) in
+    grind (arith, inside, sh.changed, set.changed, stay, moved_on)
 
 -- ---- the new entry, and the count
 
 pub inserted : {b mid mid2 now : List ℕ} {at used p first last offset : ℕ} → Shifted b mid at used (used - p) → NodeInside b at → length b ≤ image_limit → used < room_at b at → p ≤ used → EntrySet mid mid2 at p first last offset → now ≡ with_field mid2 at vxr_n_used_entries (suc used) → Inserted b now at used p first last offset
 inserted {b = b} {mid2 = mid2} {now = now} {at = at} {used = used} {p = p} {first = first} {last = last} {offset = offset} sh inside short room place set write =
-    let m = set_more inside sh.as_long sh.changed set in
-    let counted : FieldSet mid2 now at vxr_n_used_entries (suc used) = field_set (omega (arith, inside.room, m.as_long)) write in
+    let same = room_stays _ _ at _ sh.changed (node_head inside) in
+    let counted : FieldSet mid2 now at vxr_n_used_entries (suc used) = field_set (omega (arith, inside.room, sh.as_long, set.as_long)) write in
     let kept = entries_beside counted (omega arith) (omega arith) (inr (omega arith)) in
-    let earlier : (j : ℕ) → j < p → StillSays b now at j j = λ j lt f l o s. kept j f l o (m.others j (omega arith) (λ e. absurd (omega arith)) f l o (sh.stay j (omega arith) f l o s)) in
-    let later : (j : ℕ) → p ≤ j → j < used → StillSays b now at j (suc j) = λ j le lt f l o s. kept (suc j) f l o (m.others (suc j) (omega arith) (λ e. absurd (omega arith)) f l o (sh.moved_on j (omega arith) lt f l o s)) in
-    let unused : (j : ℕ) → used < j → j < room_at b at → StillSays b now at j j = λ j lt in_room f l o s. kept j f l o (m.others j in_room (λ e. absurd (omega arith)) f l o (sh.unused j lt in_room f l o s)) in
-    grind (arith, inside, m.changed, counted, earlier, kept p first last offset set.here, later, unused)
+    let earlier : (j : ℕ) → j < p → StillSays b now at j j = λ j lt f l o s. kept j f l o (set.others j (omega arith) (λ e. absurd (omega arith)) f l o (sh.stay j (omega arith) (inl (omega arith)) f l o s)) in
+    let later : (j : ℕ) → p ≤ j → j < used → StillSays b now at j (suc j) = λ j le lt f l o s. kept (suc j) f l o (set.others (suc j) (omega arith) (λ e. absurd (omega arith)) f l o (sh.moved_on j (omega arith) lt f l o s)) in
+    let unused : (j : ℕ) → used < j → j < room_at b at → StillSays b now at j j = λ j lt in_room f l o s. kept j f l o (set.others j (omega arith) (λ e. absurd (omega arith)) f l o (sh.stay j in_room (inr lt) f l o s)) in
+    grind (arith, inside, sh.changed, set.changed, counted, earlier, kept p first last offset set.here, later, unused)
 
 -- ---- an entry that ends later
 
-pub widened_by : (b now : List ℕ) (at i last first end offset : ℕ) → SaysEntry b at i first end offset → EntrySet b now at i first (max end last) offset → Widened b now at i last
-widened_by b now at i last first end offset r set = grind (arith, r, set)
+pub widened_by : (b now : List ℕ) (at i last : ℕ) → EntrySet b now at i (first_at b at i) (max (last_at b at i) last) (offset_at b at i) → Widened b now at i last
+widened_by b now at i last set = grind (arith, set)
 
 -- ---- entries read one by one
 
-abbrev SaysIt : List ℕ → ℕ → ℕ → Entry → Type 0
-SaysIt b at i e = SaysEntry b at i e.first e.last e.place
-
-pub read_one : {b : List ℕ} {at from i : ℕ} {xs : List Entry} (e : Entry) → EntriesRead b at from i xs → SaysIt b at i e → EntriesRead b at from (i + 1) (xs ++ e ∷ [])
+pub read_one : {b : List ℕ} {at from i : ℕ} {xs : List Entry} (e : Entry) → EntriesRead b at from i xs → SaysEntry b at i e.first e.last e.place → EntriesRead b at from (i + 1) (xs ++ e ∷ [])
 read_one {from = from} {i = i} {xs = xs} e r s = record {
   many = omega (arith, r.many, length-append xs (e ∷ []));
   say = λ j lt. elim (cases_eq j (length xs)) [
@@ -87,46 +66,31 @@ read_one {from = from} {i = i} {xs = xs} e r s = record {
   ];
 }
 
--- ---- entries that are not used any more
+-- ---- entries written one by one
 
-pub clear_more : {b mid now : List ℕ} {at from i : ℕ} → NodeInside b at → Cleared b mid at from i → from ≤ i → i < room_at b at → EntrySet mid now at i 0xffffffff 0xffffffff 0xffffffffffffffff → Cleared b now at from (i + 1)
-clear_more {b = b} {now = now} {at = at} {from = from} {i = i} inside c le lt set =
-    let m = set_more inside c.as_long c.changed set in
-    let gone : (j : ℕ) → from ≤ j → j < i + 1 → SaysUnused now at j = λ j lo hi. elim (cases_eq j i) [ inl e ↦ rw e set.here | inr ne ↦ m.others j (omega arith) ne _ _ _ (c.gone j lo (omega arith)) ] in
-    let others : (j : ℕ) → j < room_at b at → (j < from) ⊎ (i + 1 ≤ j) → StillSays b now at j j = λ j in_room o f l k s. m.others j in_room (λ e. elim o [ inl a ↦ absurd (omega arith) | inr a ↦ absurd (omega arith) ]) f l k (c.others j in_room (elim o [ inl a ↦ inl a | inr a ↦ inr (omega arith) ]) f l k s) in
-    search (rules, m, gone, others)
+pub write_more : {b mid now : List ℕ} {at from i : ℕ} {entries : List Entry} (e : Entry) → NodeInside b at → EntriesWritten b mid at from i entries → from ≤ i → i < room_at b at → e ≡ entry_in entries i → EntrySet mid now at i e.first e.last e.place → EntriesWritten b now at from (i + 1) entries
+write_more {b = b} {now = now} {at = at} {from = from} {i = i} {entries = entries} e inside w le lt is set =
+    let same = room_stays _ _ at _ w.changed (node_head inside) in
+    let says : (j : ℕ) → from ≤ j → j < i + 1 → SaysEntry now at j (entry_in entries j).first (entry_in entries j).last (entry_in entries j).place = λ j lo hi. grind (arith, cases_eq j i, is, set.here, λ (ne : j ≢ i). set.others j (omega arith) ne _ _ _ (w.says j lo (omega arith))) in
+    let others : (j : ℕ) → j < room_at b at → (j < from) ⊎ (i + 1 ≤ j) → StillSays b now at j j = λ j in_room apart f l o s. (let was : (j < from) ⊎ (i ≤ j) = grind arith in set.others j (omega arith) (λ x. absurd (grind arith)) f l o (w.others j in_room was f l o s)) in
+    grind (arith, inside, w.changed, set.changed, says, others)
 
 -- ---- fewer entries, one more behind them, and another link
 
 pub shortened : (b mid mid2 mid3 now : List ℕ) (at used p first last offset next : ℕ) → NodeInside b at → length b ≤ image_limit → used ≤ room_at b at → p < used → next < 256 ^ 8 → Cleared b mid at (p + 1) used → EntrySet mid mid2 at p first last offset → mid3 ≡ with_field mid2 at vxr_n_used_entries (p + 1) → now ≡ with_field mid3 at vxr_vxr_next next
     → Shortened b now at used p first last offset next
 shortened b mid mid2 mid3 now at used p first last offset next inside short fits place next_fits cl set write link =
-    let m = set_more inside cl.as_long cl.changed set in
-    let counted : FieldSet mid2 mid3 at vxr_n_used_entries (p + 1) = field_set (omega (arith, inside.room, m.as_long)) write in
-    let linked : FieldSet mid3 now at vxr_vxr_next next = field_set (omega (arith, inside.room, m.as_long, counted.as_long)) link in
+    let same = room_stays _ _ at _ cl.changed (node_head inside) in
+    let counted : FieldSet mid2 mid3 at vxr_n_used_entries (p + 1) = field_set (omega (arith, inside.room, cl.as_long, set.as_long)) write in
+    let linked : FieldSet mid3 now at vxr_vxr_next next = field_set (omega (arith, inside.room, cl.as_long, set.as_long, counted.as_long)) link in
     let still = λ (j f l o : ℕ) (s : SaysEntry mid2 at j f l o). entries_beside linked (omega arith) (omega arith) (inl (omega arith)) j f l o (entries_beside counted (omega arith) (omega arith) (inr (omega arith)) j f l o s) in
-    let kept : (j : ℕ) → j < room_at b at → j ≢ p → StillSays mid now at j j = λ j lt ne f l o s. still j f l o (m.others j lt ne f l o s) in
+    let kept : (j : ℕ) → j < room_at b at → j ≢ p → StillSays mid now at j j = λ j lt ne f l o s. still j f l o (set.others j (omega arith) ne f l o s) in
     let earlier : (j : ℕ) → j < p → StillSays b now at j j = λ j lt f l o s. kept j (omega arith) (λ e. absurd (omega arith)) f l o (cl.others j (omega arith) (inl (omega arith)) f l o s) in
     let gone : (j : ℕ) → p < j → j < used → SaysUnused now at j = λ j lo hi. kept j (omega arith) (λ e. absurd (omega arith)) _ _ _ (cl.gone j (omega arith) hi) in
     let unused : (j : ℕ) → used ≤ j → j < room_at b at → StillSays b now at j j = λ j le lt f l o s. kept j lt (λ e. absurd (omega arith)) f l o (cl.others j lt (inr le) f l o s) in
-    grind (arith, inside, m.changed, counted, linked, earlier, still p first last offset set.here, gone, unused)
+    grind (arith, inside, cl.changed, set.changed, counted, linked, earlier, still p first last offset set.here, gone, unused)
 
--- ---- the entries, one by one
+-- ---- all of them
 
--- so many entries of a node were written, since its fields were
-pub record Making (head mid : List ℕ) (at n : ℕ) (entries : List Entry) : Type 0 where
-  pub as_long : length mid ≡ length head
-  pub changed : Changed head mid (touch at 28 (16 * room_at head at) ∷ [])
-  pub says : SaysFirst mid at entries n
-
-pub making_more : {head mid now : List ℕ} {at n : ℕ} {entries : List Entry} {to : Entry} → NodeInside head at → Making head mid at n entries → n < room_at head at → to ≡ entry_in entries n → EntrySet mid now at n to.first to.last to.place → Making head now at (n + 1) entries
-making_more {now = now} {at = at} {n = n} {entries = entries} inside m lt is set =
-    let more = set_more inside m.as_long m.changed set in
-    let says : SaysFirst now at entries (n + 1) = λ i less. elim (cases_eq i n) [
-      | inl q ↦ rw q (subst (λ (e : Entry). SaysEntry now at n e.first e.last e.place) is set.here)
-      | inr ne ↦ more.others i (omega arith) ne _ _ _ (m.says i (omega arith))
-    ] in
-    search (rules, more, says)
-
-pub node_written : {b head now : List ℕ} {at room next : ℕ} {entries : List Entry} → HeadWritten b head at room (length entries) next → Making head now at room entries → NodeWritten b now at room next entries
+pub node_written : {b head now : List ℕ} {at room next : ℕ} {entries : List Entry} → HeadWritten b head at room (length entries) next → EntriesWritten head now at 0 room entries → NodeWritten b now at room next entries
 node_written w m = grind (arith, w, m)

@@ -1,9 +1,8 @@
 -- The leaves of an index with one leaf more.
-use Rattle.cdf_index.proofs.Common.{AreInOrder, Bool, Each, Each-append, Entries, InOrder, Leaf, List, Nodes, [], append_assoc, arith, block, chain_reaches, entry_leaves, false, leads_down, leaves_of, lower, map, max, nat_tests, no_entry, past, past_entries, range, reaches, refl, suc, true, upto, with_block, with_both, with_entry, with_leaf, with_new, with_range, ℕ, ◌++◌, ◌<◌, ◌∷◌, ◌≡◌, ◌≤◌}
+use Rattle.cdf_index.proofs.Common.{Each-map, AreInOrder, Bool, Each, Each-append, Entries, InOrder, Leaf, List, Nodes, [], append_assoc, arith, block, chain_reaches, entry_leaves, false, leads_down, leaves_of, lower, map, nat_tests, no_entry, past, past_entries, range, reaches, refl, suc, true, upto, with_both, with_entry, with_leaf, with_new, with_range, ℕ, ◌++◌, ◌<◌, ◌∷◌, ◌≡◌, ◌≤◌}
 use Rattle.cdf_index.proofs.Coming.{Comes, comes, comes_along, comes_below, comes_first, comes_here, chain_reaches_from, leads_none, not_reached, reaches_from}
 use Rattle.cdf_index.proofs.OrderLemmas.{Within, entries_within, leaves_within, end_after, InRange}
-use Rattle.cdf_index.proofs.Saying.{front, front_past, upto_both, both_none, no_entries}
-use Rattle.cdf_edits.proofs.Edits.VariableFrame.{Each-map}
+use Rattle.cdf_index.proofs.Saying.{front_past, upto_both, both_none, no_entries}
 use Rattle.cdf_index.proofs.ByParts.{entries_by, entries_within as entries_in, nodes_within as nodes_in}
 
 -- ---- leaves that begin at a record or before it, and leaves past it
@@ -67,11 +66,7 @@ none_reached f = entries_in (grind (arith, nat_tests, not_reached))
 
 leaves_with_entry : (l : Leaf) (at place room : ℕ) (es : Entries) (more : Nodes) → leaves_of (with_entry l at place room es more) ≡ entry_leaves (with_both (upto l es) (past l.first es)) ++ leaves_of more
 unfolding leaves_of entry_leaves
-leaves_with_entry l at place room es more =
-    let f = front l.first es in
-    let p = past l.first es in
-    let u = upto l es in
-    grind (arith, leaves_both u p, leaves_both f (with_block l no_entry), upto_both l es no_entry, both_none u, both_none f, front_past l.first es, no_entries p, append_assoc (entry_leaves u) (entry_leaves p) (leaves_of more), append_assoc (entry_leaves f) (l ∷ []) (leaves_of more))
+leaves_with_entry l at place room es more = grind (arith, nat_tests, leaves_both, upto_both l es no_entry, both_none, front_past l.first es, no_entries, append_assoc)
 
 -- where the last entry of those that reach a record names a block, the leaf goes behind them
 here_new : (l : Leaf) (low high : ℕ) (given : Bool) (es : Entries) → AreInOrder low high es → leads_down l.first given es ≡ false → with_new l (entry_leaves es) ≡ entry_leaves (with_both (upto l es) (past l.first es))
@@ -94,18 +89,13 @@ leaves_come : {l : Leaf} {at : ℕ} {w : List (ℕ × ℕ)} {x n : ℕ} {ns ns' 
 unfolding InOrder AreInOrder leaves_of entry_leaves
 leaves_come comes_first low high o = refl
 leaves_come {l = l} (comes_along {es = es} {more = more} t c) low high o =
-    let old = chain_by l.first low high es o.0 (chain_reaches_from l.first (past_entries low es) high more o.1 t) in
-    rw (leaves_come c (past_entries low es) high o.1, new_behind l (entry_leaves es) (leaves_of more) old) refl
+    grind (arith, chain_by l.first low high es, chain_reaches_from l.first (past_entries low es) high more, leaves_come c (past_entries low es) high, new_behind)
 leaves_come {l = l} (comes_below {more = more} fs first last nodes nodes' es t le u c) low high o =
     let p = parts_in_order low high fs (lower first last nodes es) o.0 in
-    let before = chain_by l.first low high fs p.0 (omega (arith, p.1.0, le)) in
-    let behind = entries_past l.first (suc last) high es p.1.4 u in
     let later = nodes_past l.first (past_entries low (with_both fs (lower first last nodes es))) high more o.1 t in
-    let inner = leaves_come c first last p.1.3 in
-    let all = leaves_of nodes ++ entry_leaves es in
-    rw (leaves_both fs (lower first last nodes es), leaves_both fs (lower first (max last l.last) nodes' es), new_before l (entry_leaves fs ++ all) (leaves_of more) later, new_behind l (entry_leaves fs) all before, new_before l (leaves_of nodes) (entry_leaves es) behind, inner) refl
-leaves_come {l = l} {at = at} (comes_here {place = place} {room = room} {es = es} {more = more} t d) low high o =
-    rw (leaves_with_entry l at place room es more, new_before l (entry_leaves es) (leaves_of more) (nodes_past l.first (past_entries low es) high more o.1 t), here_new l low high false es o.0 d) refl
+    grind (arith, p, later, chain_by l.first low high fs, entries_past l.first (suc last) high es, leaves_come c first last, leaves_both, new_before, new_behind)
+leaves_come {l = l} {at = at} (comes_here {es = es} {more = more} t d) low high o =
+    grind (arith, leaves_with_entry, nodes_past l.first (past_entries low es) high more, new_before, here_new l low high false es)
 
 pub leaves_more : (l : Leaf) (at low high : ℕ) (ns : Nodes) → InOrder low high ns → leaves_of (with_leaf l at ns) ≡ with_new l (leaves_of ns)
 leaves_more l at low high ns o = leaves_come (comes l at low high ns o) low high o

@@ -1,10 +1,6 @@
 -- An index with a leaf more keeps the rules: its entries are in order, its nodes have room for theirs, and each leaf has a block.
-use Rattle.cdf_index.proofs.Common.{append_assoc, ◌++◌, AreInOrder, Each, Each-split, Entries, Hold, Hold-append, Hold-split, In, InOrder, IsOneOf, Leaf, List, Nodes, None, [], ap, arith, before_is, before_number, block, chain_reaches, covers, end_of, entry_firsts, entry_leaves, false, filter, find, firsts_of, flat_map, fold, is_between, is_block, leads_down, leaf_rows, leaves_of, lower, lower_nodes, max, nat_lt, nat_tests, negsuc, next_first, no_entry, no_node, node, nodes_of, nodes_rows, number_before, past, past_entries, pos, range, reaches, record_number_limit, refl, signed, suc, true, used_rows, with_both, with_entry, with_leaf, with_sign, ℕ, ℤ, ◌+◌, ◌<◌, ◌∙◌, ◌∷◌, ◌≡◌, ◌≤◌}
-use Rattle.std.proofs.Common.{min}
-use Rattle.cdf_format.specs.IndexRules.{has_room, index_rows}
+use Rattle.cdf_index.proofs.Common.{hold_all, each_of, has_room, index_rows, min, append_assoc, ◌++◌, AreInOrder, Each, Each-split, Entries, Hold, Hold-append, Hold-split, In, InOrder, IsOneOf, Leaf, List, Nodes, None, [], arith, before_is, before_number, block, chain_reaches, covers, end_of, entry_firsts, entry_leaves, false, filter, find, firsts_of, flat_map, fold, is_between, is_block, leads_down, leaf_rows, leaves_of, lower, lower_nodes, max, nat_lt, nat_tests, negsuc, next_first, no_entry, no_node, node, nodes_of, nodes_rows, past, past_entries, pos, range, reaches, record_number_limit, refl, signed, suc, true, used_rows, with_both, with_entry, with_leaf, ℕ, ◌+◌, ◌<◌, ◌∷◌, ◌≡◌, ◌≤◌}
 use Rattle.cdf_edits.proofs.Space.ActsLeave.{each as each_place}
-use Rattle.cdf_edits.proofs.Edits.LeafPieces.{each_of}
-use Rattle.cdf_edits.proofs.Edits.VariableFrame.{hold_all}
 use Rattle.cdf_index.proofs.GoodIndex.{order_from}
 use Rattle.cdf_index.proofs.ByParts.{entries_by, entries_from, entries_within}
 use Rattle.cdf_index.proofs.Coming.{Comes, comes, comes_along, comes_below, comes_first, comes_here, chain_reaches_from}
@@ -112,8 +108,7 @@ order_come {new = new} (comes_below {more = more} fs first last nodes nodes' es 
     let wide = max last new.last in
     grind (arith, Each-split (Misses new.first), Each-split (BeginsBehind new.first new.last), leaves_both fs (lower first last nodes es), firsts_both fs (lower first last nodes es), parts_in_order low high fs (lower first last nodes es), widened first first last wide nodes, order_come c first wide, raised_entries new.first new.last (suc last) (suc wide) high es, past_both, both_in_order, raised new.first new.last (past_entries low whole) (past_entries low (with_both fs (lower first wide nodes' es))) high more, past_most (suc last) (suc wide) es, end_after (suc last) high es)
 order_come {new = new} {at = at} (comes_here {place = place} {room = room} {es = es} {more = more} t d) low high o l k h u n =
-    let ns = Each-split (BeginsBehind new.first new.last) (entry_firsts es) (firsts_of more) n in
-    order_with_entry new at place room low high es more o d t l k h (Each-split (Misses new.first) (entry_leaves es) (leaves_of more) u).0 ns.0 ns.1
+    grind (arith, Each-split (Misses new.first), Each-split (BeginsBehind new.first new.last), order_with_entry new at place room low high es more o d t l k h)
 
 pub order_with_leaf : (new : Leaf) (at : ℕ) (index : Nodes) → InOrder 0 record_number_limit index → new.first ≤ new.last → find (λ (leaf : Leaf). covers new.first (range leaf.first leaf.last)) (leaves_of index) ≡ None → new.last < next_first new.first (firsts_of index)
     → InOrder 0 record_number_limit (with_leaf new at index)
@@ -140,24 +135,18 @@ module _ (b records : List ℕ) where
     rules_from low high (node place wide entries more) m o room is =
         let rooms = Each-split HasRoom (lower_nodes entries) (nodes_of more) room.1 in
         let blocks = Each-split HasBlock (entry_leaves entries) (leaves_of more) is in
-        let p = entries_rules_from place low high entries m o.0 rooms.0 blocks.0 in
-        (room.0, Hold-append (used_rows b records place (before_number low) (pos high) entries) (nodes_rows b records (end_of (before_number low) entries) (pos high) more) p.0 (rw p.1 (rules_from (past_entries low entries) high more m o.1 rooms.1 blocks.1)))
+        grind (arith, Hold-append, entries_rules_from place low high entries m o.0 rooms.0 blocks.0, rules_from (past_entries low entries) high more m o.1 rooms.1 blocks.1)
 
     entries_rules_from : (vxr low high : ℕ) (entries : Entries) → high ≤ record_number_limit → AreInOrder low high entries → Each HasRoom (lower_nodes entries) → Each HasBlock (entry_leaves entries)
         → Hold (used_rows b records vxr (before_number low) (pos high) entries) × (end_of (before_number low) entries ≡ before_number (past_entries low entries))
     entries_rules_from vxr low high no_entry m o room is = (tt, refl)
     entries_rules_from vxr low high (block first last place packed entries) m o room is =
-        let s = signed last (omega (arith, o.2)) in
-        let r = entries_rules_from vxr (suc last) high entries m o.3 room is.1 in
-        ((is.0, (between_by low high first last m o.0 o.1 o.2, rw s r.0)), ap (λ (z : ℤ). end_of z entries) s ∙ r.1)
+        grind (arith, signed last, between_by low high first last m o.0 o.1 o.2, entries_rules_from vxr (suc last) high entries m o.3 room is.1)
     entries_rules_from vxr low high (lower first last nodes entries) m o room is =
-        let s = signed last (omega (arith, o.2)) in
-        let f = before_is first (signed first (omega (arith, o.1, o.2))) in
         let rooms = Each-split HasRoom (nodes_of nodes) (lower_nodes entries) room in
         let blocks = Each-split HasBlock (leaves_of nodes) (entry_leaves entries) is in
         let below = rules_from first last nodes (omega (arith, o.2)) o.3 rooms.0 blocks.0 in
-        let r = entries_rules_from vxr (suc last) high entries m o.4 rooms.1 blocks.1 in
-        ((between_by low high first last m o.0 o.1 o.2, Hold-append (nodes_rows b records (number_before first) (with_sign last) nodes) (used_rows b records vxr (with_sign last) (pos high) entries) (rw (f, s) below) (rw s r.0)), ap (λ (z : ℤ). end_of z entries) s ∙ r.1)
+        grind (arith, Hold-append, signed, before_is, below, between_by low high first last m o.0 o.1 o.2, entries_rules_from vxr (suc last) high entries m o.4 rooms.1 blocks.1)
 
   -- an index in order, of which each node and each block is one
   pub index_rules : (vdr : ℕ) (index : Nodes) → InOrder 0 record_number_limit index → ((m : ℕ) → In m (nodes_of index) → has_room b m ≡ true) → ((l : Leaf) → IsOneOf (leaves_of index) l → (is_block b records l.place ≡ true) × Hold (leaf_rows b records vdr l))

@@ -1,6 +1,5 @@
 -- A node with one entry more, or it and a new node behind it, in the tree.
-use Rattle.cdf_index.proofs.Common.{rules, Begins, Chained, Entries, HasNodes, Inserted, Leaf, List, MayName, Names, Nodes, Owed, SameHeads, SayEntries, SaysEntry, SaysNode, Split, StillSays, ap, arith, entry_count, eq-eqb, is_linkable, le-ltb, length, link_to, linkable_kept, lt-ltb, max, ne_eqb, next_of, no_entry, node, past, placed, room_at, suc, sym, true, used_count, vxr_type, with_block, with_both, ℕ, ◌*◌, ◌+◌, ◌-◌, ◌<◌, ◌∙◌, ◌≡◌, ◌≤◌}
-use Rattle.cdf_index.proofs.Inserting.{front_stays}
+use Rattle.cdf_index.proofs.Common.{rules, Begins, Chained, Entries, HasNodes, Inserted, Leaf, List, MayName, Names, Nodes, Owed, SameHeads, SayEntries, SaysEntry, SaysNode, Split, StillSays, ap, arith, entry_count, eq-eqb, is_linkable, le-ltb, length, link_to, linkable_kept, lt-ltb, max, ne_eqb, next_of, no_entry, node, past, placed, room_at, suc, sym, true, used_count, vxr_type, with_block, with_both, ℕ, ◌+◌, ◌-◌, ◌<◌, ◌∙◌, ◌≡◌, ◌≤◌}
 use Rattle.cdf_index.proofs.Saying.{front, front_past, upto_both, upto_is, count_both, say_both, say_parts, names_both, names_parts, say_moved}
 
 pub node_has : (now records : List ℕ) (levels place room : ℕ) (es : Entries) (more : Nodes) → SaysNode now records place room es more → Names now records levels es → HasNodes now records (suc levels) more → HasNodes now records (suc levels) (node place room es more)
@@ -49,7 +48,7 @@ module _ (b now records records' : List ℕ) (heads : SameHeads b now records re
         let bk = past l.first es in
         let test = lt-ltb (entry_count es) r (omega (arith, h.room_is)) in
         let last = say_moved b now at at p (suc p) bk (say h levels n).1 (λ n m f k o e le lt says. (let x : suc n ≡ m = omega arith in rw x at (ins.later n le (omega arith) f k o says))) in
-        rw (test, upto_both l es bk) (fed_has h levels n bk more (front_stays b now at 24 (4 + 16 * room_at b at) ins.changed (omega arith) 12 8 (omega arith) ∙ h.next_is) ins.room_stays (ins.used_is ∙ omega arith) ins.earlier ins.here last (named h levels n).1 m)))
+        rw (test, upto_both l es bk) (fed_has h levels n bk more (grind (arith, ins.changed.same, h.next_is)) ins.room_stays (ins.used_is ∙ omega arith) ins.earlier ins.here last (named h levels n).1 m)))
 
   -- ---- a full node
 

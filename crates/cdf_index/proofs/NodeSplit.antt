@@ -1,6 +1,5 @@
 -- A full node and a new one behind it, in the bytes: what was written of both makes the split.
 use Rattle.cdf_index.proofs.Common.{rules, EntriesRead, Entry, Kept, List, NodeFits, NodeWritten, SaysEntry, Shortened, Split, arith, entry_in, max, next_of, room_at, sym, used_count, ℕ, ◌+◌, ◌-◌, ◌<◌, ◌∙◌, ◌≡◌, ◌≤◌}
-use Rattle.cdf_index.proofs.Inserting.{still_it}
 use Rattle.cdf_index.proofs.OneNode.{same_node}
 
 -- the new node was made of a record, then the full one was shortened
@@ -13,6 +12,6 @@ split t b made now at new room next used p first last offset entries full_stays 
     let moved : (j f l o : ℕ) → p ≤ j → j < used → SaysEntry made at j f l o → SaysEntry now new (j - p) f l o = λ j f l o le lt s. (let e = entry_in entries (j - p) in
     let there : p + (j - p) ≡ j = omega arith in
     let was : SaysEntry made at j e.first e.last e.place = at_made.entries j (omega arith) e.first e.last e.place (rw there at (r.say (j - p) (omega arith))) in
-    still_it was (new_now.entries (j - p) (omega (arith, w.room_is)) e.first e.last e.place (w.says (j - p) (omega arith))) f l o s) in
+    grind (arith, was, s, new_now.entries (j - p) (omega (arith, w.room_is)) e.first e.last e.place (w.says (j - p) (omega arith)))) in
     let new_used : used_count now new ≡ used - p = new_now.used_is ∙ w.used_is ∙ omega arith in
     search (rules, sh, moved, new_now.room_is ∙ w.room_is ∙ room_is, new_used, new_now.next_is ∙ w.next_is ∙ next_is ∙ sym at_made.next_is)

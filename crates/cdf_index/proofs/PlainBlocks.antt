@@ -1,7 +1,6 @@
 -- The blocks that the index of a variable of a good image names are not packed, since no packed one is read so far.
-use Rattle.cdf_index.proofs.Common.{Each, Each-append, Each-split, HasNodes, HasVariable, IsGoodImage, IsSound, Leaf, List, Names, Nodes, Shape, Some, VariableFits, VariableShape, arith, covers, cvvr_type, entry_leaves, false, found_in, is_linkable, leaf_of, leaves_of, of_each, range, sound, subst, type_at, variables, vxr_type, ℕ, ◌++◌, ◌==◌, ◌∷◌, ◌≡◌}
+use Rattle.cdf_index.proofs.Common.{by_shape, Each, Each-append, Each-split, HasNodes, HasVariable, IsGoodImage, IsSound, Leaf, List, Names, Nodes, Shape, Some, VariableFits, VariableShape, arith, covers, cvvr_type, entry_leaves, false, found_in, is_linkable, leaf_of, leaves_of, of_each, range, sound, subst, type_at, variables, vxr_type, ℕ, ◌++◌, ◌==◌, ◌∷◌, ◌≡◌}
 use Rattle.cdf_edits.proofs.Edits.PlainVariables.{IsPlainBlock, is_uncompressed}
-use Rattle.cdf_format.proofs.GoodImageLemmas.{by_shape}
 use Rattle.cdf_index.proofs.ByParts.{nodes_from}
 
 -- a leaf names a block

@@ -68,6 +68,13 @@ pub record Cleared (b now : List ℕ) (at from upto : ℕ) : Type 0 where
   pub gone : (j : ℕ) → from ≤ j → j < upto → SaysUnused now at j
   pub others : (j : ℕ) → j < room_at b at → (j < from) ⊎ (upto ≤ j) → StillSays b now at j j
 
+-- the entries of a node from one number to another were written: these, and unused ones behind them
+pub record EntriesWritten (b now : List ℕ) (at from upto : ℕ) (entries : List Entry) : Type 0 where
+  pub as_long : length now ≡ length b
+  pub changed : Changed b now (touched_field at (vxr_entries (room_at b at)) ∷ [])
+  pub says : (j : ℕ) → from ≤ j → j < upto → SaysEntry now at j (entry_in entries j).first (entry_in entries j).last (entry_in entries j).place
+  pub others : (j : ℕ) → j < room_at b at → (j < from) ⊎ (upto ≤ j) → StillSays b now at j j
+
 -- Of the used entries of a node the first p stayed, one was put behind them, and the others are not used; it has another link.
 pub record Shortened (b now : List ℕ) (at used p first last offset next : ℕ) : Type 0 where
   pub as_long : length now ≡ length b

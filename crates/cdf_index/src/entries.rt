@@ -6,7 +6,7 @@ ghost use Rattle.cdf_format.specs.Index.{room_at, used_count};
 ghost use Rattle.cdf_format.specs.IndexOf.{SaysEntry};
 ghost use Rattle.cdf_model.specs.Limits.{image_limit};
 ghost use Rattle.cdf_index.specs.Finding.{NodeInside};
-ghost use Rattle.cdf_index.specs.Writing.{EntrySet, Inserted, Widened};
+ghost use Rattle.cdf_index.specs.Writing.{EntriesWritten, EntrySet, Inserted, Widened, entry_in};
 
 use cdf_area::{Area, AreaError};
 use cdf_format::fields::VXR_FIRST;
@@ -65,6 +65,39 @@ pub fn set_entry<A: Area>(
     set_unsigned8(area, at, VXR_FIRST + 8 * room + 8 * i, to.place)
 }
 
+/// The entry with number `i` of a node that has these, -1 throughout behind them.
+fn entry_of(entries: &[Entry], i: u64) -> Entry
+    ensures { result ≡ entry_in entries.now i }
+{
+    match entries.get(i as usize) {
+        Some(entry) => *entry,
+        None => UNUSED,
+    }
+}
+
+/// Writes the entries of a node from one number to another: these, and -1 throughout behind them.
+pub fn write_entries<A: Area>(
+    area: &mut A,
+    at: u64,
+    room: u64,
+    from: u64,
+    upto: u64,
+    entries: &[Entry],
+) -> Result<(), AreaError>
+    requires inside { NodeInside (A.image area.old) at }
+    requires room { room ≡ room_at (A.image area.old) at }
+    requires order { from ≤ upto }
+    requires below { upto ≤ room }
+    requires short { length (A.image area.old) ≤ image_limit }
+    ensures written { OnOk result (EntriesWritten (A.image area.old) (A.image area.new) at from upto entries.now) }
+    ensures area { Edits A.frame A.faults area.old area.new result }
+{
+    for i in from..upto {
+        set_entry(area, at, room, i, entry_of(entries, i))?;
+    }
+    Ok(())
+}
+
 /// Puts an entry more before the entry with number `p` of a node that has room for it.
 pub fn insert_entry<A: Area>(
     area: &mut A,
@@ -93,6 +126,7 @@ pub fn insert_entry<A: Area>(
 }
 
 /// Lets the entry with number `i` of a node end at a record, if it ends before it.
+#[tactic(auto, using(crate::proofs::Inserting::widened_by))]
 pub fn widen_entry<A: Area>(
     area: &mut A,
     at: u64,

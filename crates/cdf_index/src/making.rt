@@ -3,22 +3,12 @@
 ghost use Rattle.std.specs.Prelude.{◌≡◌, ◌+◌, ◌≤◌, ◌<◌, length, OnOk};
 ghost use Rattle.cdf_area.specs.Calls.{Edits};
 ghost use Rattle.cdf_model.specs.Limits.{image_limit};
-ghost use Rattle.cdf_index.specs.Writing.{HasRoomFor, HeadWritten, NodeWritten, entry_in};
+ghost use Rattle.cdf_index.specs.Writing.{HasRoomFor, HeadWritten, NodeWritten};
 
-use crate::entries::{Entry, UNUSED, set_entry};
+use crate::entries::{Entry, write_entries};
 use cdf_area::{Area, AreaError};
 use cdf_format::fields::{VXR_N_ENTRIES, VXR_TYPE};
 use cdf_records::{set_record_type, set_unsigned4, set_vxr_n_used_entries, set_vxr_vxr_next};
-
-/// The entry with number `i` of a node that has these, -1 throughout behind them.
-fn entry_of(entries: &[Entry], i: u64) -> Entry
-    ensures { result ≡ entry_in entries.now i }
-{
-    match entries.get(i as usize) {
-        Some(entry) => *entry,
-        None => UNUSED,
-    }
-}
 
 /// Writes what a node says before its entries, with its type.
 #[tactic(auto, using(crate::proofs::FieldSet::set_there))]
@@ -56,8 +46,5 @@ pub fn write_node<A: Area>(
     ensures area { Edits A.frame A.faults area.old area.new result }
 {
     write_head(area, at, room, entries.len() as u64, next)?;
-    for i in 0..room {
-        set_entry(area, at, room, i, entry_of(entries, i))?;
-    }
-    Ok(())
+    write_entries(area, at, room, 0, room, entries)
 }

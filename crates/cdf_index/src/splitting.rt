@@ -7,7 +7,7 @@ ghost use Rattle.cdf_model.specs.Limits.{image_limit};
 ghost use Rattle.cdf_index.specs.Finding.{NodeInside};
 ghost use Rattle.cdf_index.specs.Writing.{Cleared, EntriesRead, Shortened};
 
-use crate::entries::{Entry, UNUSED, read_entry, set_entry};
+use crate::entries::{Entry, read_entry, set_entry, write_entries};
 use cdf_area::{Area, AreaError};
 use cdf_records::{set_vxr_n_used_entries, set_vxr_vxr_next};
 use std::alloc::Global;
@@ -53,10 +53,7 @@ fn clear_entries<A: Area>(
     ensures cleared { OnOk result (Cleared (A.image area.old) (A.image area.new) at from upto) }
     ensures area { Edits A.frame A.faults area.old area.new result }
 {
-    for i in from..upto {
-        set_entry(area, at, room, i, UNUSED)?;
-    }
-    Ok(())
+    write_entries(area, at, room, from, upto, &[])
 }
 
 /// Leaves the first `p` of the used entries of a node, with one more behind them, and a link to another node.

@@ -3,16 +3,13 @@ use Rattle.std.specs.Int.{w32}
 use Rattle.cdf_index.proofs.Inserting.{inside_stays, shift_more, inserted}
 use Rattle.cdf_index.proofs.entries.insert_entry.Goals as goal
 
-pub set_entry-requires-clause-inside : goal.set_entry-requires-clause-inside
-set_entry-requires-clause-inside g c =
-    let sh = c.loop-moved.invariant.shifted in
-    rw c.in_ok-before.ensures.area.image (inside_stays (g.A.Area.image c.args.area.now) (g.A.Area.image c.loop-moved.area) c.args.at _ sh.changed sh.as_long c.requires.inside)
-
 pub loop-moved-preserved : goal.loop-moved-preserved
 loop-moved-preserved g c =
     let i = c.loop-moved.invariant in
+    let shifted = shift_more i.shifted c.requires.inside (omega (arith, c.requires.room, c.requires.fits)) (omega (arith, c.loop-moved-test.true)) c.in_ok-before.ensures.value (rw c.in_ok-before.ensures.area.image at c.in_ok-set_entry.ensures.set) in
     record {
-      shifted = shift_more i.shifted c.requires.inside (omega (arith, c.requires.room, c.requires.fits)) (omega (arith, c.loop-moved-test.true)) c.in_ok-before.ensures.value (rw c.in_ok-before.ensures.area.image at c.in_ok-set_entry.ensures.set);
+      shifted = shifted;
+      inside = inside_stays _ _ _ _ shifted.changed shifted.as_long c.requires.inside;
       area = edit_more (edit_more i.area (edits_by_read c.in_ok-before.ensures.area)) c.in_ok-set_entry.ensures.area;
       far = omega (arith, c.loop-moved-test.true);
     }

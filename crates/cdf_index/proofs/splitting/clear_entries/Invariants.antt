@@ -1,9 +1,0 @@
-use Rattle.cdf_index.proofs.Common.{Cleared, Keeps, ◌≤◌}
-use Rattle.cdf_index.proofs.splitting.clear_entries.Given as goal
-
-abbrev pub invariant-loop-i : goal.invariant-loop-i
-invariant-loop-i g l = record {
-  cleared : Cleared (g.A.Area.image l.fn.area) (g.A.Area.image l.area) l.at l.from l.i;
-  area : Keeps g.A.Area.frame g.A.Area.faults l.fn.area l.area;
-  lower : l.from ≤ l.i;
-}
