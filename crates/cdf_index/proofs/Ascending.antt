@@ -1,5 +1,6 @@
 -- The entries of each node of an index ascend.
-use Rattle.cdf_index.proofs.Common.{AreInOrder, Each, Each-append, Each-split, Entries, HasIndex, HasNodes, InOrder, IsOrderly, List, Names, NodeFits, Nodes, SayEntries, Stands, arith, block, cases_lt, entry_count, first_at, has, index_at, last_at, lower, lower_nodes, no_entry, no_node, node, nodes_of, past_entries, record_number_limit, suc, tiles, used_count, zero, ℕ, ◌+◌, ◌<◌, ◌≡◌, ◌≤◌}
+use Rattle.cdf_index.proofs.Common.{AreInOrder, Each, Each-append, Each-split, Entries, HasIndex, HasNodes, InOrder, IsOrderly, List, Names, NodeFits, Nodes, SayEntries, Stands, arith, block, cases_lt, entry_count, first_at, has, index_at, last_at, lower, lower_nodes, no_entry, nodes_of, record_number_limit, suc, tiles, used_count, ℕ, ◌+◌, ◌<◌, ◌≡◌, ◌≤◌}
+use Rattle.cdf_index.proofs.ByParts.{nodes_by}
 
 module _ (b : List ℕ) (at high : ℕ) where
   -- an entry begins and ends at the next one's First and Last or before them
@@ -13,24 +14,12 @@ module _ (b : List ℕ) (at high : ℕ) where
   orderly : (low : ℕ) (es : Entries) → used_count b at ≡ entry_count es → SayEntries b at 0 es → AreInOrder low high es → NodeFits b at → IsOrderly b at
   orderly low es u s o f = record { fits = f; firsts = λ i lt. ((ascend 0 low i es s o (omega arith) (omega arith)).2 (omega arith)).0; lasts = λ i lt. ((ascend 0 low i es s o (omega arith) (omega arith)).2 (omega arith)).1 }
 
-module _ (b : List ℕ) where
-  mutual
-    unfolding HasNodes Names InOrder AreInOrder nodes_of lower_nodes
-
-    all_orderly : (levels low high : ℕ) (nodes : Nodes) → HasNodes b (tiles b) levels nodes → InOrder low high nodes → Each (NodeFits b) (nodes_of nodes) → Each (IsOrderly b) (nodes_of nodes)
-    all_orderly levels low high no_node h o f = tt
-    all_orderly zero low high (node place room es more) h o f = absurd h
-    all_orderly (suc levels) low high (node place room es more) h o f =
-        let fs = Each-split (NodeFits b) (lower_nodes es) (nodes_of more) f.1 in
-        (orderly b place high low es h.0.used_is h.0.say_entries o.0 f.0, Each-append (IsOrderly b) (lower_nodes es) (nodes_of more) (all_below levels low high es h.1 o.0 fs.0) (all_orderly (suc levels) (past_entries low es) high more h.2 o.1 fs.1))
-
-    all_below : (levels low high : ℕ) (es : Entries) → Names b (tiles b) levels es → AreInOrder low high es → Each (NodeFits b) (lower_nodes es) → Each (IsOrderly b) (lower_nodes es)
-    all_below levels low high no_entry n o f = tt
-    all_below levels low high (block first last place packed es) n o f = all_below levels (suc last) high es n.2 o.3 f
-    all_below levels low high (lower first last nodes es) n o f =
-        let fs = Each-split (NodeFits b) (nodes_of nodes) (lower_nodes es) f in
-        Each-append (IsOrderly b) (nodes_of nodes) (lower_nodes es) (all_orderly levels first last nodes n.1 o.3 fs.0) (all_below levels (suc last) high es n.2 o.4 fs.1)
+all_orderly : (b : List ℕ) (nodes : Nodes) (levels low high : ℕ) → HasNodes b (tiles b) levels nodes → InOrder low high nodes → Each (NodeFits b) (nodes_of nodes) → Each (IsOrderly b) (nodes_of nodes)
+unfolding HasNodes Names InOrder AreInOrder nodes_of lower_nodes
+all_orderly b =
+    nodes_by (λ es. (levels low high : ℕ) → Names b (tiles b) levels es → AreInOrder low high es → Each (NodeFits b) (lower_nodes es) → Each (IsOrderly b) (lower_nodes es))
+    (grind (arith, Each-split (NodeFits b), Each-append (IsOrderly b), orderly))
 
 -- the nodes of an index stand
 pub index_stands : (b : List ℕ) (head : ℕ) → HasIndex b head → Stands b 8 (index_at b head)
-index_stands b head has = record { has = has.index.has_nodes; orderly = all_orderly b 8 0 record_number_limit (index_at b head) has.index.has_nodes has.order has.fits; blocks = has.blocks }
+index_stands b head has = record { has = has.index.has_nodes; orderly = all_orderly b (index_at b head) 8 0 record_number_limit has.index.has_nodes has.order has.fits; blocks = has.blocks }

@@ -1,6 +1,7 @@
 -- What a leaf more makes of an index, step by step on the way to it, and how often a node stands in it by then.
-use Rattle.cdf_index.proofs.Common.{Bool, Entries, In, Leaf, Nodes, [], arith, block, cases_lt, chain_reaches, either, entry_count, eqb, eqb-true, false, if◌then◌else◌, in-times, inl, inr, leads_down, lower, lower_nodes, ltb, max, nat_tests, new_room, new_room_below, no_entry, no_node, node, nodes_of, past, reaches, refl, room_of_new, times, times-append, times-in, with_block, with_both, with_entry, with_leaf, with_lower, ℕ, ◌++◌, ◌+◌, ◌==◌, ◌∷◌, ◌≡◌, ◌≤◌, ◌⊎◌}
-use Rattle.cdf_index.proofs.Saying.{upto_both, front, front_past, upto_is}
+use Rattle.cdf_index.proofs.Common.{Bool, Entries, In, Leaf, Nodes, [], arith, block, cases_lt, entry_count, if◌then◌else◌, in-times, inl, inr, lower, lower_nodes, max, nat_tests, new_room, new_room_below, no_entry, no_node, node, nodes_of, past, room_of_new, times, times-append, times-in, with_block, with_both, with_entry, with_leaf, with_lower, ℕ, ◌+◌, ◌==◌, ◌∷◌, ◌≡◌, ◌≤◌, ◌⊎◌}
+use Rattle.cdf_index.proofs.Saying.{upto_both, front_past, upto_is}
+use Rattle.cdf_index.proofs.ByParts.{entries_by, nodes_by}
 
 -- ---- the steps to a leaf more
 
@@ -19,38 +20,11 @@ pub record Grows (new : Leaf) (at : ℕ) (P : ℕ → Nodes → Nodes → Type 0
 
 module _ {new : Leaf} {at : ℕ} {P : ℕ → Nodes → Nodes → Type 0} {Q : ℕ → Entries → Entries → Type 0} (g : Grows new at P Q) where
   by_entry : (place room : ℕ) (es : Entries) (more : Nodes) → P (room_of_new new.first room es) (node place room es more) (with_entry new at place room es more)
-  by_entry place room es more =
-      let f = front new.first es in
-      let p = past new.first es in
-      let whole = front_past new.first es in
-      elim (either (ltb (entry_count es) room)) [
-        | inl t ↦ rw (t, upto_both new es p) (rw whole at (g.fits place room f p more))
-        | inr t ↦ elim (either (eqb (entry_count p) 0)) [
-          | inl z ↦ let seven : max 7 (entry_count p) ≡ 7 = omega (arith, eqb-true (entry_count p) 0 z) in rw (t, z, seven) (g.behind place room es more)
-          | inr z ↦ rw (t, z, upto_is new es) (rw whole at (g.split (max 7 (entry_count p)) place room f p more refl))
-        ]
-      ]
+  by_entry place room es more = grind (arith, nat_tests, g, front_past new.first es, upto_both new es (past new.first es), upto_is new es)
 
-  mutual
-    unfolding with_leaf with_lower new_room new_room_below
-
-    pub by_leaf : (index : Nodes) → P (new_room new.first index) index (with_leaf new at index)
-    by_leaf no_node = g.alone
-    by_leaf (node place room es more) = elim (either (chain_reaches new.first more)) [
-      | inl t ↦ rw t (g.along (new_room new.first more) place room es more (with_leaf new at more) (by_leaf more))
-      | inr t ↦ elim (either (leads_down new.first false es)) [
-        | inl d ↦ rw (t, d) (g.down (new_room_below new.first es) place room es (with_lower new at es) more (by_lower es))
-        | inr d ↦ rw (t, d) (by_entry place room es more)
-      ]
-    ]
-
-    pub by_lower : (es : Entries) → Q (new_room_below new.first es) es (with_lower new at es)
-    by_lower no_entry = g.none
-    by_lower (block first last place packed es) = g.past_block (new_room_below new.first es) first last place packed es (with_lower new at es) (by_lower es)
-    by_lower (lower first last nodes es) = elim (either (reaches new.first es)) [
-      | inl t ↦ rw t (g.past_lower (new_room_below new.first es) first last nodes es (with_lower new at es) (by_lower es))
-      | inr t ↦ rw t (g.below (new_room new.first nodes) first last nodes (with_leaf new at nodes) es (by_leaf nodes))
-    ]
+  pub by_leaf : (index : Nodes) → P (new_room new.first index) index (with_leaf new at index)
+  unfolding with_leaf with_lower new_room new_room_below
+  by_leaf = nodes_by (λ es. Q (new_room_below new.first es) es (with_lower new at es)) (grind (arith, nat_tests, g, by_entry))
 
 -- ---- numbers of the nodes, added up
 
@@ -69,9 +43,7 @@ weight_of w at n = if n == 0 then 0 else w at n
 
 weigh_both : (w : ℕ → ℕ → ℕ) (es fs : Entries) → weigh_below w (with_both es fs) ≡ weigh_below w es + weigh_below w fs
 unfolding weigh_below
-weigh_both w no_entry fs = omega arith
-weigh_both w (block first last place packed es) fs = weigh_both w es fs
-weigh_both w (lower first last nodes es) fs = let r = weigh_both w es fs in omega arith
+weigh_both w = entries_by (grind arith)
 
 pub weight_grows : (w : ℕ → ℕ → ℕ) (new : Leaf) (at : ℕ) → Grows new at (λ n a a'. weigh w a' ≡ weigh w a + weight_of w at n) (λ n es es'. weigh_below w es' ≡ weigh_below w es + weight_of w at n)
 unfolding weigh weigh_below
@@ -79,17 +51,9 @@ weight_grows w new at = grind (arith, weigh_both)
 
 -- ---- how often a place stands among the nodes
 
-mutual
-  unfolding weigh weigh_below nodes_of lower_nodes
-
-  nodes_weighed : (m : ℕ) (nodes : Nodes) → times m (nodes_of nodes) ≡ weigh (λ p r. times m (p ∷ [])) nodes
-  nodes_weighed m no_node = refl
-  nodes_weighed m (node place room es more) = omega (arith, times-append m (place ∷ []) (lower_nodes es ++ nodes_of more), times-append m (lower_nodes es) (nodes_of more), entries_weighed m es, nodes_weighed m more)
-
-  entries_weighed : (m : ℕ) (es : Entries) → times m (lower_nodes es) ≡ weigh_below (λ p r. times m (p ∷ [])) es
-  entries_weighed m no_entry = refl
-  entries_weighed m (block first last place packed es) = entries_weighed m es
-  entries_weighed m (lower first last nodes es) = omega (arith, times-append m (nodes_of nodes) (lower_nodes es), nodes_weighed m nodes, entries_weighed m es)
+nodes_weighed : (m : ℕ) (nodes : Nodes) → times m (nodes_of nodes) ≡ weigh (λ p r. times m (p ∷ [])) nodes
+unfolding weigh weigh_below nodes_of lower_nodes
+nodes_weighed m = nodes_by (λ es. times m (lower_nodes es) ≡ weigh_below (λ p r. times m (p ∷ [])) es) (grind (arith, times-append))
 
 -- the new node stands once more, where one is needed
 pub nodes_with_leaf : (new : Leaf) (at m : ℕ) (index : Nodes) → times m (nodes_of (with_leaf new at index)) ≡ times m (nodes_of index) + (if new_room new.first index == 0 then 0 else times m (at ∷ []))

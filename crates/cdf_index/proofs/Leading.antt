@@ -1,9 +1,11 @@
 -- The entries of a node that begin at a record or before it: how many they are, and where the last of them leads to.
-use Rattle.cdf_index.proofs.Common.{AreInOrder, Begins, Begun, Bool, Distinct, Distinct-back, Distinct-front, Entries, IsNode, IsTree, List, Names, Nodes, SayEntries, ap, arith, block, chain_before, down_at, either, entry_count, entry_leaves, false, first_at, if◌then◌else◌, inl, inr, leads_down, leaves_of, leb, link_to, linkable-type, lower, lower_nodes, ltb, nat_tests, no_entry, no_node, node, nodes_of, past, past_entries, reaches, refl, spot, spot_below, suc, sym, tiles, true, type_at, used_count, vxr_type, way, way_below, ℕ, ◌+◌, ◌<◌, ◌∙◌, ◌≡◌, ◌≤◌}
+use Rattle.cdf_index.proofs.Common.{AreInOrder, Begins, Begun, Bool, Distinct, Distinct-back, Distinct-front, Entries, IsNode, IsTree, List, Names, Nodes, SayEntries, ap, arith, block, chain_before, down_at, either, entry_count, entry_leaves, false, first_at, if◌then◌else◌, inl, inr, leads_down, leaves_of, leb, link_to, linkable-type, lower, lower_nodes, ltb, nat_tests, no_entry, no_node, node, nodes_of, past, past_entries, reaches, spot, spot_below, suc, sym, tiles, true, type_at, used_count, vxr_type, way, way_below, ℕ, ◌+◌, ◌<◌, ◌∙◌, ◌≡◌, ◌≤◌}
 use Rattle.cdf_index.proofs.EntriesCut.{Parted, one_more, parted_all}
 use Rattle.cdf_index.proofs.EntriesLeft.{EntriesLeft, past_first, past_lower_one}
 use Rattle.cdf_index.proofs.Coming.{not_reached}
 use Rattle.cdf_index.proofs.OrderLemmas.{end_after}
+use Rattle.cdf_index.proofs.Saying.{count_both, front, front_past}
+use Rattle.cdf_index.proofs.ByParts.{entries_by, entries_within}
 use Rattle.cdf_index.proofs.FirstEntry.{block_no_node, no_chain, node_linkable}
 
 -- the lower chain that the last of them names, none where it names a block; this one where there are none
@@ -21,35 +23,24 @@ some_node nodes is = grind arith
 
 -- how many they are
 abbrev pub begun_in : ℕ → Entries → ℕ
-begun_in f no_entry = 0
-begun_in f (block first last place packed es) = if leb first f then suc (begun_in f es) else 0
-begun_in f (lower first last nodes es) = if leb first f then suc (begun_in f es) else 0
+begun_in f es = entry_count (front f es)
 
 pub reached_is : (f low high : ℕ) (es : Entries) → AreInOrder low high es → reaches f es ≡ ltb 0 (begun_in f es)
 unfolding AreInOrder
-reached_is f low high no_entry o = refl
-reached_is f low high (block first last place packed es) o = grind (arith, nat_tests, not_reached f (suc last) high es o.3, o.1)
-reached_is f low high (lower first last nodes es) o = grind (arith, nat_tests, not_reached f (suc last) high es o.4, o.1)
+reached_is f = entries_within (grind (arith, nat_tests, not_reached))
 
 -- where others stand behind them, the record is before the end
 pub ends_past : (f low high : ℕ) (es : Entries) → AreInOrder low high es → begun_in f es < entry_count es → f < past_entries low es
 unfolding AreInOrder
-ends_past f low high no_entry o lt = absurd (omega arith)
-ends_past f low high (block first last place packed es) o lt = grind (arith, nat_tests, ends_past f (suc last) high es o.3, end_after (suc last) high es o.3, o.1)
-ends_past f low high (lower first last nodes es) o lt = grind (arith, nat_tests, ends_past f (suc last) high es o.4, end_after (suc last) high es o.4, o.1)
+ends_past f = entries_within (grind (arith, nat_tests, end_after))
 
 pub lead_none : (f : ℕ) (nodes : Nodes) (es : Entries) → begun_in f es ≡ 0 → lead f nodes es ≡ nodes
-lead_none f nodes no_entry z = refl
-lead_none f nodes (block first last place packed es) z = grind (arith, nat_tests)
-lead_none f nodes (lower first last ns es) z = grind (arith, nat_tests)
+lead_none f nodes = entries_by (grind (arith, nat_tests))
 
 -- the last of them leads down where it names a chain
 pub leads : (b ts : List ℕ) (levels f : ℕ) (low : Nodes) (es : Entries) → Names b ts levels es → leads_down f (is_some low) es ≡ is_some (lead f low es)
 unfolding Names
-leads b ts levels f low no_entry n = refl
-leads b ts levels f low (block first last place packed es) n = grind (arith, nat_tests, leads b ts levels f no_node es n.2)
-leads b ts levels f low (lower first last no_node es) n = absurd n.0
-leads b ts levels f low (lower first last (node place room fs more) es) n = grind (arith, nat_tests, leads b ts levels f (node place room fs more) es n.2)
+leads b ts levels f low es = entries_by {Q = λ es. (low : Nodes) → Names b ts levels es → leads_down f (is_some low) es ≡ is_some (lead f low es)} (grind (arith, nat_tests, some_node)) es low
 
 -- the way on below them
 pub record LedBy (f : ℕ) (es : Entries) (low : Nodes) : Type 0 where
@@ -93,17 +84,12 @@ below b f levels at k m low high before (lower first last nodes es) s w e =
 
 begun_is : (b : List ℕ) (at f k n : ℕ) (es : Entries) → SayEntries b at k es → Parted (λ j. first_at b at j ≤ f) (λ j. f < first_at b at j) k n (entry_count es) → n ≡ begun_in f es
 begun_is b at f k n no_entry s p = let m = p.most in omega arith
-begun_is b at f k n (block first last place packed es) s p = one_more (λ j. first_at b at j ≤ f) (λ j. f < first_at b at j) k n (entry_count es) (leb first f) (begun_in f es) (λ x. grind (arith, nat_tests, s.0.first_is)) (λ x. grind (arith, nat_tests, s.0.first_is)) p (λ m r. begun_is b at f (suc k) m es s.1 r)
-begun_is b at f k n (lower first last nodes es) s p = one_more (λ j. first_at b at j ≤ f) (λ j. f < first_at b at j) k n (entry_count es) (leb first f) (begun_in f es) (λ x. grind (arith, nat_tests, s.0.first_is)) (λ x. grind (arith, nat_tests, s.0.first_is)) p (λ m r. begun_is b at f (suc k) m es s.1 r)
+begun_is b at f k n (block first last place packed es) s p = grind (arith, one_more (λ j. first_at b at j ≤ f) (λ j. f < first_at b at j) k n (entry_count es) (leb first f) (begun_in f es) (λ x. grind (arith, nat_tests, s.0.first_is)) (λ x. grind (arith, nat_tests, s.0.first_is)) p (λ m r. begun_is b at f (suc k) m es s.1 r))
+begun_is b at f k n (lower first last nodes es) s p = grind (arith, one_more (λ j. first_at b at j ≤ f) (λ j. f < first_at b at j) k n (entry_count es) (leb first f) (begun_in f es) (λ x. grind (arith, nat_tests, s.0.first_is)) (λ x. grind (arith, nat_tests, s.0.first_is)) p (λ m r. begun_is b at f (suc k) m es s.1 r))
 
 -- so many of them were counted
 pub counted_begun : (b : List ℕ) (at f n : ℕ) (es : Entries) → Begun b at f n → used_count b at ≡ entry_count es → SayEntries b at 0 es → n ≡ begun_in f es
 counted_begun b at f n es g u s = let most = g.most in begun_is b at f 0 n es s (parted_all (λ j. first_at b at j ≤ f) (λ j. f < first_at b at j) n (entry_count es) g.before (λ lt. g.stop (omega arith)) (omega arith))
 
-begun_past : (f : ℕ) (es : Entries) → begun_in f es + entry_count (past f es) ≡ entry_count es
-begun_past f no_entry = refl
-begun_past f (block first last place packed es) = grind (arith, begun_past f es)
-begun_past f (lower first last nodes es) = grind (arith, begun_past f es)
-
 pub begins_by : (b : List ℕ) (at f p : ℕ) → Begun b at f p → Begins b at f p
-begins_by b at f p g es u s = omega (arith, counted_begun b at f p es g u s, begun_past f es)
+begins_by b at f p g es u s = omega (arith, counted_begun b at f p es g u s, count_both (front f es) (past f es), ap entry_count (front_past f es))

@@ -1,9 +1,9 @@
 -- The leaves of an index with one leaf more.
-use Rattle.cdf_index.proofs.Common.{AreInOrder, Bool, Each, Each-append, Entries, InOrder, Leaf, List, Nodes, [], ap, append_assoc, arith, block, chain_reaches, entry_leaves, false, leads_down, leaves_of, leb, leb-false, lower, map, max, nat_tests, no_entry, no_node, node, or_parts, past, past_entries, range, reaches, refl, suc, sym, true, upto, with_block, with_both, with_entry, with_leaf, with_new, with_range, ℕ, ◌++◌, ◌<◌, ◌∙◌, ◌∷◌, ◌≡◌, ◌≤◌}
+use Rattle.cdf_index.proofs.Common.{Each-map, AreInOrder, Bool, Each, Each-append, Entries, InOrder, Leaf, List, Nodes, [], append_assoc, arith, block, chain_reaches, entry_leaves, false, leads_down, leaves_of, lower, map, nat_tests, no_entry, past, past_entries, range, reaches, refl, suc, true, upto, with_both, with_entry, with_leaf, with_new, with_range, ℕ, ◌++◌, ◌<◌, ◌∷◌, ◌≡◌, ◌≤◌}
 use Rattle.cdf_index.proofs.Coming.{Comes, comes, comes_along, comes_below, comes_first, comes_here, chain_reaches_from, leads_none, not_reached, reaches_from}
 use Rattle.cdf_index.proofs.OrderLemmas.{Within, entries_within, leaves_within, end_after, InRange}
-use Rattle.cdf_index.proofs.Saying.{front, front_past, upto_both, both_none, no_entries}
-use Rattle.cdf_edits.proofs.Edits.VariableFrame.{Each-map}
+use Rattle.cdf_index.proofs.Saying.{front_past, upto_both, both_none, no_entries}
+use Rattle.cdf_index.proofs.ByParts.{entries_by, entries_within as entries_in, nodes_within as nodes_in}
 
 -- ---- leaves that begin at a record or before it, and leaves past it
 
@@ -39,49 +39,34 @@ ranges_new l (x ∷ xs) = grind (arith, ranges_new l xs)
 
 order_past : (f low high : ℕ) (es : Entries) → AreInOrder low high es → reaches f es ≡ false → AreInOrder (suc f) high es
 unfolding AreInOrder
-order_past f low high no_entry o t = tt
-order_past f low high (block first last place packed es) o t = (leb-false first f (or_parts (leb first f) (reaches f es) t).0, o.1, o.2, o.3)
-order_past f low high (lower first last nodes es) o t = (leb-false first f (or_parts (leb first f) (reaches f es) t).0, o.1, o.2, o.3, o.4)
+order_past f = entries_in (grind (arith, nat_tests))
 
 entries_past : (f low high : ℕ) (es : Entries) → AreInOrder low high es → reaches f es ≡ false → BeginPast f (entry_leaves es)
 entries_past f low high es o t = within_past f (suc f) high (entry_leaves es) (entries_within (suc f) high es (order_past f low high es o t)) (omega arith)
 
 nodes_past : (f low high : ℕ) (ns : Nodes) → InOrder low high ns → chain_reaches f ns ≡ false → BeginPast f (leaves_of ns)
 unfolding InOrder leaves_of
-nodes_past f low high no_node o t = tt
-nodes_past f low high (node place room es more) o t =
-    let u = or_parts (reaches f es) (chain_reaches f more) t in
-    Each-append (λ (x : Leaf). f < x.first) (entry_leaves es) (leaves_of more) (entries_past f low high es o.0 u.0) (nodes_past f (past_entries low es) high more o.1 u.1)
+nodes_past f = nodes_in (λ low high es. Unit {0}) (grind (arith, nat_tests, Each-append, entries_past))
 
 -- ---- the front of a node
 
 pub leaves_both : (es fs : Entries) → entry_leaves (with_both es fs) ≡ entry_leaves es ++ entry_leaves fs
 unfolding leaves_of entry_leaves
-leaves_both no_entry fs = refl
-leaves_both (block first last place packed es) fs = ap (λ (xs : List Leaf). record { first = first; last = last; place = place; packed = packed } ∷ xs) (leaves_both es fs)
-leaves_both (lower first last nodes es) fs = ap (λ (xs : List Leaf). leaves_of nodes ++ xs) (leaves_both es fs) ∙ sym (append_assoc (leaves_of nodes) (entry_leaves es) (entry_leaves fs))
+leaves_both = entries_by (grind (arith, append_assoc))
 
 pub parts_in_order : (low high : ℕ) (es fs : Entries) → AreInOrder low high (with_both es fs) → AreInOrder low high es × AreInOrder (past_entries low es) high fs
 unfolding AreInOrder
-parts_in_order low high no_entry fs o = (tt, o)
-parts_in_order low high (block first last place packed es) fs o = let r = parts_in_order (suc last) high es fs o.3 in ((o.0, o.1, o.2, r.0), r.1)
-parts_in_order low high (lower first last nodes es) fs o = let r = parts_in_order (suc last) high es fs o.4 in ((o.0, o.1, o.2, o.3, r.0), r.1)
+parts_in_order = entries_in (grind arith)
 
 pub none_reached : (f low high : ℕ) (es : Entries) → AreInOrder low high es → reaches f (past f es) ≡ false
 unfolding AreInOrder
-none_reached f low high no_entry o = refl
-none_reached f low high (block first last place packed es) o = grind (arith, nat_tests, none_reached f (suc last) high es o.3, not_reached f (suc last) high es o.3, o.1)
-none_reached f low high (lower first last nodes es) o = grind (arith, nat_tests, none_reached f (suc last) high es o.4, not_reached f (suc last) high es o.4, o.1)
+none_reached f = entries_in (grind (arith, nat_tests, not_reached))
 
 -- ---- a node, or it and a new one
 
 leaves_with_entry : (l : Leaf) (at place room : ℕ) (es : Entries) (more : Nodes) → leaves_of (with_entry l at place room es more) ≡ entry_leaves (with_both (upto l es) (past l.first es)) ++ leaves_of more
 unfolding leaves_of entry_leaves
-leaves_with_entry l at place room es more =
-    let f = front l.first es in
-    let p = past l.first es in
-    let u = upto l es in
-    grind (arith, leaves_both u p, leaves_both f (with_block l no_entry), upto_both l es no_entry, both_none u, both_none f, front_past l.first es, no_entries p, append_assoc (entry_leaves u) (entry_leaves p) (leaves_of more), append_assoc (entry_leaves f) (l ∷ []) (leaves_of more))
+leaves_with_entry l at place room es more = grind (arith, nat_tests, leaves_both, upto_both l es no_entry, both_none, front_past l.first es, no_entries, append_assoc)
 
 -- where the last entry of those that reach a record names a block, the leaf goes behind them
 here_new : (l : Leaf) (low high : ℕ) (given : Bool) (es : Entries) → AreInOrder low high es → leads_down l.first given es ≡ false → with_new l (entry_leaves es) ≡ entry_leaves (with_both (upto l es) (past l.first es))
@@ -96,9 +81,7 @@ here_new l low high given (lower first last nodes es) o t =
 -- entries before a chain that reaches a record
 chain_by : (f low high : ℕ) (es : Entries) → AreInOrder low high es → past_entries low es ≤ f → BeginBy f (entry_leaves es)
 unfolding AreInOrder leaves_of entry_leaves
-chain_by f low high no_entry o h = tt
-chain_by f low high (block first last place packed es) o h = (omega (arith, o.1, end_after (suc last) high es o.3), chain_by f (suc last) high es o.3 h)
-chain_by f low high (lower first last nodes es) o h = Each-append (λ (x : Leaf). x.first ≤ f) (leaves_of nodes) (entry_leaves es) (within_by f first last (leaves_of nodes) (leaves_within first last nodes o.3) (omega (arith, end_after (suc last) high es o.4))) (chain_by f (suc last) high es o.4 h)
+chain_by f = entries_in (grind (arith, Each-append, within_by, leaves_within, end_after))
 
 -- ---- the index
 
@@ -106,18 +89,13 @@ leaves_come : {l : Leaf} {at : ℕ} {w : List (ℕ × ℕ)} {x n : ℕ} {ns ns' 
 unfolding InOrder AreInOrder leaves_of entry_leaves
 leaves_come comes_first low high o = refl
 leaves_come {l = l} (comes_along {es = es} {more = more} t c) low high o =
-    let old = chain_by l.first low high es o.0 (chain_reaches_from l.first (past_entries low es) high more o.1 t) in
-    rw (leaves_come c (past_entries low es) high o.1, new_behind l (entry_leaves es) (leaves_of more) old) refl
+    grind (arith, chain_by l.first low high es, chain_reaches_from l.first (past_entries low es) high more, leaves_come c (past_entries low es) high, new_behind)
 leaves_come {l = l} (comes_below {more = more} fs first last nodes nodes' es t le u c) low high o =
     let p = parts_in_order low high fs (lower first last nodes es) o.0 in
-    let before = chain_by l.first low high fs p.0 (omega (arith, p.1.0, le)) in
-    let behind = entries_past l.first (suc last) high es p.1.4 u in
     let later = nodes_past l.first (past_entries low (with_both fs (lower first last nodes es))) high more o.1 t in
-    let inner = leaves_come c first last p.1.3 in
-    let all = leaves_of nodes ++ entry_leaves es in
-    rw (leaves_both fs (lower first last nodes es), leaves_both fs (lower first (max last l.last) nodes' es), new_before l (entry_leaves fs ++ all) (leaves_of more) later, new_behind l (entry_leaves fs) all before, new_before l (leaves_of nodes) (entry_leaves es) behind, inner) refl
-leaves_come {l = l} {at = at} (comes_here {place = place} {room = room} {es = es} {more = more} t d) low high o =
-    rw (leaves_with_entry l at place room es more, new_before l (entry_leaves es) (leaves_of more) (nodes_past l.first (past_entries low es) high more o.1 t), here_new l low high false es o.0 d) refl
+    grind (arith, p, later, chain_by l.first low high fs, entries_past l.first (suc last) high es, leaves_come c first last, leaves_both, new_before, new_behind)
+leaves_come {l = l} {at = at} (comes_here {es = es} {more = more} t d) low high o =
+    grind (arith, leaves_with_entry, nodes_past l.first (past_entries low es) high more, new_before, here_new l low high false es)
 
 pub leaves_more : (l : Leaf) (at low high : ℕ) (ns : Nodes) → InOrder low high ns → leaves_of (with_leaf l at ns) ≡ with_new l (leaves_of ns)
 leaves_more l at low high ns o = leaves_come (comes l at low high ns o) low high o

@@ -1,12 +1,8 @@
 -- An index with a leaf more keeps the rules: its entries are in order, its nodes have room for theirs, and each leaf has a block.
-use Rattle.cdf_index.proofs.Common.{append_assoc, ◌++◌, AreInOrder, Bool, Each, Each-split, Entries, Hold, Hold-append, Hold-split, In, InOrder, IsOneOf, Leaf, List, Nodes, None, [], ap, arith, before_is, before_number, block, chain_reaches, covers, either, end_of, entry_count, entry_firsts, entry_leaves, eqb, eqb-true, false, filter, find, firsts_of, flat_map, fold, inl, inr, is_between, is_block, le-ltb, leads_down, leaf_rows, leaves_of, leb, leb-false, leb-true, lower, lower_nodes, lt-ltb, ltb, max, nat_lt, nat_tests, negsuc, next_first, no_entry, no_node, node, nodes_of, nodes_rows, number_before, or_parts, past, past_entries, pos, range, reaches, record_number_limit, refl, signed, subst, suc, sym, true, true≢false, used_rows, with_block, with_both, with_entry, with_leaf, with_sign, ℕ, ℤ, ◌+◌, ◌<◌, ◌∙◌, ◌∷◌, ◌≡◌, ◌≤◌}
-use Rattle.std.proofs.Common.{min}
-use Rattle.std.proofs.lemmas.Bool.{cases_lt}
-use Rattle.cdf_format.specs.IndexRules.{has_room, index_rows}
+use Rattle.cdf_index.proofs.Common.{hold_all, each_of, has_room, index_rows, min, append_assoc, ◌++◌, AreInOrder, Each, Each-split, Entries, Hold, Hold-append, Hold-split, In, InOrder, IsOneOf, Leaf, List, Nodes, None, [], arith, before_is, before_number, block, chain_reaches, covers, end_of, entry_firsts, entry_leaves, false, filter, find, firsts_of, flat_map, fold, is_between, is_block, leads_down, leaf_rows, leaves_of, lower, lower_nodes, max, nat_lt, nat_tests, negsuc, next_first, no_entry, no_node, node, nodes_of, nodes_rows, past, past_entries, pos, range, reaches, record_number_limit, refl, signed, suc, true, used_rows, with_both, with_entry, with_leaf, ℕ, ◌+◌, ◌<◌, ◌∷◌, ◌≡◌, ◌≤◌}
 use Rattle.cdf_edits.proofs.Space.ActsLeave.{each as each_place}
-use Rattle.cdf_edits.proofs.Edits.LeafPieces.{each_of}
-use Rattle.cdf_edits.proofs.Edits.VariableFrame.{hold_all}
 use Rattle.cdf_index.proofs.GoodIndex.{order_from}
+use Rattle.cdf_index.proofs.ByParts.{entries_by, entries_from, entries_within}
 use Rattle.cdf_index.proofs.Coming.{Comes, comes, comes_along, comes_below, comes_first, comes_here, chain_reaches_from}
 use Rattle.cdf_index.proofs.LeafMore.{leaves_both, none_reached, parts_in_order}
 use Rattle.cdf_index.proofs.OrderLemmas.{end_after}
@@ -29,7 +25,7 @@ NoneBegins f last xs = Each (BeginsBehind f last) xs
 
 pub uncovered_by : (f : ℕ) (xs : List Leaf) → find (λ (leaf : Leaf). covers f (range leaf.first leaf.last)) xs ≡ None → Uncovered f xs
 uncovered_by f [] e = tt
-uncovered_by f (x ∷ xs) e = ((λ h. grind (arith, nat_tests, e)), uncovered_by f xs (grind (arith, nat_tests, e)))
+uncovered_by f (x ∷ xs) e = grind (arith, nat_tests, uncovered_by f xs)
 
 pub least_below : (best : ℕ) (xs : List ℕ) → fold min best xs ≤ best
 least_below best [] = omega arith
@@ -37,10 +33,7 @@ least_below best (x ∷ xs) = omega (arith, least_below (min best x) xs)
 
 none_before : (f last best : ℕ) (xs : List ℕ) → last < fold min best (filter (nat_lt f) xs) → NoneBegins f last xs
 none_before f last best [] h = tt
-none_before f last best (x ∷ xs) h = elim (cases_lt f x) [
-  | inl t ↦ let k : last < fold min (min best x) (filter (nat_lt f) xs) = rw (lt-ltb f x t) at h in ((λ g. omega (arith, least_below (min best x) (filter (nat_lt f) xs))), none_before f last (min best x) xs k)
-  | inr t ↦ ((λ g. absurd (omega arith)), none_before f last best xs (rw (le-ltb f x t) at h))
-]
+none_before f last best (x ∷ xs) h = grind (arith, nat_tests, least_below (min best x) (filter (nat_lt f) xs), none_before f last (min best x) xs, none_before f last best xs)
 
 pub none_begins : (f last : ℕ) (firsts : List ℕ) → last < next_first f firsts → NoneBegins f last firsts
 none_begins f last firsts h = none_before f last (record_number_limit + 1) firsts h
@@ -51,69 +44,47 @@ before_limit f last firsts h = let r = least_below (record_number_limit + 1) (fi
 -- ---- entries that go on from another number, and up to one that is higher
 
 past_most : (low low' : ℕ) (es : Entries) → past_entries low' es ≤ max (past_entries low es) low'
-past_most low low' no_entry = omega arith
-past_most low low' (block first last place packed es) = omega arith
-past_most low low' (lower first last nodes es) = omega arith
+past_most low low' = entries_by (grind arith)
 
 past_both : (low : ℕ) (es fs : Entries) → past_entries low (with_both es fs) ≡ past_entries (past_entries low es) fs
-past_both low no_entry fs = refl
-past_both low (block first last place packed es) fs = past_both (suc last) es fs
-past_both low (lower first last nodes es) fs = past_both (suc last) es fs
+past_both = entries_from (grind arith)
 
-pub widened_entries : (low low' high high' : ℕ) (es : Entries) → low' ≤ low → high ≤ high' → AreInOrder low high es → AreInOrder low' high' es
+widened_entries : (low low' high high' : ℕ) (es : Entries) → low' ≤ low → high ≤ high' → AreInOrder low high es → AreInOrder low' high' es
 unfolding AreInOrder
-widened_entries low low' high high' no_entry k l o = tt
-widened_entries low low' high high' (block first last place packed es) k l o = (omega (arith, o.0), o.1, omega (arith, o.2), widened_entries (suc last) (suc last) high high' es (omega arith) l o.3)
-widened_entries low low' high high' (lower first last nodes es) k l o = (omega (arith, o.0), o.1, omega (arith, o.2), o.3, widened_entries (suc last) (suc last) high high' es (omega arith) l o.4)
+widened_entries low low' high high' es k l = entries_by {Q = λ es. (low low' : ℕ) → low' ≤ low → AreInOrder low high es → AreInOrder low' high' es} (grind arith) es low low' k
 
 pub widened : (low low' high high' : ℕ) (ns : Nodes) → low' ≤ low → high ≤ high' → InOrder low high ns → InOrder low' high' ns
 unfolding InOrder
 widened low low' high high' no_node k l o = tt
-widened low low' high high' (node place room es more) k l o = (widened_entries low low' high high' es k l o.0, widened (past_entries low es) (past_entries low' es) high high' more (omega (arith, past_most low low' es, end_after low high es o.0)) l o.1)
+widened low low' high high' (node place room es more) k l o = grind (arith, widened_entries low low' high high' es, widened (past_entries low es) (past_entries low' es) high high' more, past_most low low' es, end_after low high es)
 
 -- those that begin past a record also begin past the last one of a leaf
 pub raised_entries : (f last low low' high : ℕ) (es : Entries) → AreInOrder low high es → reaches f es ≡ false → NoneBegins f last (entry_firsts es) → low' ≤ max low (suc last) → AreInOrder low' high es
 unfolding AreInOrder entry_firsts
-raised_entries f last low low' high no_entry o r n l = tt
-raised_entries f last low low' high (block first last' place packed es) o r n l = let g = n.0 (leb-false first f (or_parts (leb first f) (reaches f es) r).0) in (omega (arith, o.0), o.1, o.2, o.3)
-raised_entries f last low low' high (lower first last' nodes es) o r n l = let g = n.0 (leb-false first f (or_parts (leb first f) (reaches f es) r).0) in (omega (arith, o.0), o.1, o.2, o.3, o.4)
+raised_entries f last low low' high = entries_by (grind (arith, nat_tests))
 
 pub raised : (f last low low' high : ℕ) (ns : Nodes) → InOrder low high ns → chain_reaches f ns ≡ false → NoneBegins f last (firsts_of ns) → low' ≤ max low (suc last) → InOrder low' high ns
 unfolding InOrder firsts_of
 raised f last low low' high no_node o r n l = tt
 raised f last low low' high (node place room es more) o r n l =
     let s = Each-split (BeginsBehind f last) (entry_firsts es) (firsts_of more) n in
-    let u = or_parts (reaches f es) (chain_reaches f more) r in
-    let p = past_most low low' es in
-    let e = end_after low high es o.0 in
-    (raised_entries f last low low' high es o.0 u.0 s.0 l, raised f last (past_entries low es) (past_entries low' es) high more o.1 u.1 s.1 (omega arith))
+    grind (arith, nat_tests, raised_entries f last low low' high es, raised f last (past_entries low es) (past_entries low' es) high more, past_most low low' es, end_after low high es)
 
 -- ---- the entries of a node that begin at a record or before it, and the others
 
 both_in_order : (low high : ℕ) (es fs : Entries) → AreInOrder low high es → AreInOrder (past_entries low es) high fs → AreInOrder low high (with_both es fs)
 unfolding AreInOrder
-both_in_order low high no_entry fs o p = p
-both_in_order low high (block first last place packed es) fs o p = (o.0, o.1, o.2, both_in_order (suc last) high es fs o.3 p)
-both_in_order low high (lower first last nodes es) fs o p = (o.0, o.1, o.2, o.3, both_in_order (suc last) high es fs o.4 p)
+both_in_order = entries_within (grind arith)
 
 -- where the last of them names a block, they end before the record
-front_ends : (f low high : ℕ) (given : Bool) (es : Entries) → AreInOrder low high es → leads_down f given es ≡ false → (given ≡ false → low ≤ f) → Uncovered f (entry_leaves es) → past_entries low (front f es) ≤ f
+front_ends : (f low high : ℕ) (es : Entries) → AreInOrder low high es → Uncovered f (entry_leaves es)
+    → (leads_down f false es ≡ false → low ≤ f → past_entries low (front f es) ≤ f) × (leads_down f true es ≡ false → past_entries low (front f es) ≤ f)
 unfolding AreInOrder entry_leaves
-front_ends f low high given no_entry o d g u = g d
-front_ends f low high given (block first last place packed es) o d g u = elim (either (leb first f)) [
-  | inl t ↦ let b = u.0 (leb-true first f t) in rw t (front_ends f (suc last) high false es o.3 (rw t at d) (λ e. b) u.1)
-  | inr t ↦ rw t (g (rw t at d))
-]
-front_ends f low high given (lower first last nodes es) o d g u = elim (either (leb first f)) [
-  | inl t ↦ rw t (front_ends f (suc last) high true es o.4 (rw t at d) (λ e. absurd (true≢false e)) (Each-split (Misses f) (leaves_of nodes) (entry_leaves es) u).1)
-  | inr t ↦ rw t (g (rw t at d))
-]
+front_ends f = entries_within (grind (arith, nat_tests, Each-split (Misses f)))
 
 pub firsts_both : (es fs : Entries) → entry_firsts (with_both es fs) ≡ entry_firsts es ++ entry_firsts fs
 unfolding entry_firsts
-firsts_both no_entry fs = refl
-firsts_both (block first last place packed es) fs = ap (λ (xs : List ℕ). first ∷ xs) (firsts_both es fs)
-firsts_both (lower first last nodes es) fs = rw (firsts_both es fs, append_assoc) refl
+firsts_both = entries_by (grind (arith, append_assoc))
 
 order_with_entry : (new : Leaf) (at place room low high : ℕ) (es : Entries) (more : Nodes) → InOrder low high (node place room es more) → leads_down new.first false es ≡ false → chain_reaches new.first more ≡ false
     → low ≤ new.first → new.first ≤ new.last → new.last ≤ high → Uncovered new.first (entry_leaves es) → NoneBegins new.first new.last (entry_firsts es) → NoneBegins new.first new.last (firsts_of more) → InOrder low high (with_entry new at place room es more)
@@ -122,21 +93,8 @@ order_with_entry new at place room low high es more o d c l k h u n n' =
     let f = new.first in
     let fr = front f es in
     let bk = past f es in
-    let whole = front_past f es in
-    let parts = parts_in_order low high fr bk (rw whole o.0) in
-    let ends = front_ends f low high false es o.0 d (λ e. l) u in
-    let back = raised_entries f new.last (past_entries low fr) (suc new.last) high bk parts.1 (none_reached f low high es o.0) (Each-split (BeginsBehind f new.last) (entry_firsts fr) (entry_firsts bk) (rw (← firsts_both fr bk, whole) n)).1 (omega arith) in
-    let past_is : past_entries low es ≡ past_entries (past_entries low fr) bk = ap (past_entries low) (sym whole) ∙ past_both low fr bk in
-    let rest = raised f new.last (past_entries low es) (past_entries (suc new.last) bk) high more o.1 c n' (omega (arith, past_is, past_most (past_entries low fr) (suc new.last) bk)) in
-    elim (either (ltb (entry_count es) room)) [
-      | inl t ↦ rw (t, upto_both new es bk) (both_in_order low high fr (with_block new bk) parts.0 (ends, k, h, back), rw (past_both low fr (with_block new bk)) rest)
-      | inr t ↦ elim (either (eqb (entry_count bk) 0)) [
-        | inl z ↦
-            let none = ap (past_entries (past_entries low fr)) (no_entries bk (eqb-true (entry_count bk) 0 z)) in
-            rw (t, z) (o.0, ((omega (arith, past_is, none), k, h, tt), raised f new.last (past_entries low es) (suc new.last) high more o.1 c n' (omega (arith, past_is, none))))
-        | inr z ↦ rw (t, z, upto_is new es) (both_in_order low high fr (with_block new no_entry) parts.0 (ends, k, h, tt), rw (past_both low fr (with_block new no_entry)) (back, rest))
-      ]
-    ]
+    let first = Each-split (BeginsBehind f new.last) (entry_firsts fr) (entry_firsts bk) (rw (← firsts_both fr bk, front_past f es) n) in
+    grind (arith, nat_tests, front_past f es, parts_in_order low high fr bk, front_ends f low high es, raised_entries f new.last (past_entries low fr) (suc new.last) high bk, none_reached, raised f new.last (past_entries low es) (past_entries (suc new.last) bk) high more, past_most, upto_both, upto_is, both_in_order, past_both, no_entries)
 
 -- ---- the index
 
@@ -144,22 +102,11 @@ order_come : {new : Leaf} {at : ℕ} {w : List (ℕ × ℕ)} {x n : ℕ} {ns ns'
 unfolding InOrder AreInOrder leaves_of entry_leaves firsts_of entry_firsts
 order_come comes_first low high o l k h u n = ((l, k, h, tt), tt)
 order_come {new = new} (comes_along {es = es} {more = more} t c) low high o l k h u n =
-    let us = Each-split (Misses new.first) (entry_leaves es) (leaves_of more) u in
-    let ns = Each-split (BeginsBehind new.first new.last) (entry_firsts es) (firsts_of more) n in
-    (o.0, order_come c (past_entries low es) high o.1 (chain_reaches_from new.first (past_entries low es) high more o.1 t) k h us.1 ns.1)
+    grind (arith, nat_tests, Each-split (Misses new.first) (entry_leaves es) (leaves_of more), Each-split (BeginsBehind new.first new.last) (entry_firsts es) (firsts_of more), order_come c (past_entries low es) high, chain_reaches_from new.first (past_entries low es) high more)
 order_come {new = new} (comes_below {more = more} fs first last nodes nodes' es t le r c) low high o l k h u n =
     let whole = with_both fs (lower first last nodes es) in
-    let p = parts_in_order low high fs (lower first last nodes es) o.0 in
-    let us = Each-split (Misses new.first) (entry_leaves whole) (leaves_of more) u in
-    let ns = Each-split (BeginsBehind new.first new.last) (entry_firsts whole) (firsts_of more) n in
-    let ul = Each-split (Misses new.first) (leaves_of nodes) (entry_leaves es) (Each-split (Misses new.first) (entry_leaves fs) (entry_leaves (lower first last nodes es)) (subst (Uncovered new.first) (leaves_both fs (lower first last nodes es)) us.0)).1 in
-    let nl = Each-split (BeginsBehind new.first new.last) (firsts_of nodes) (entry_firsts es) (Each-split (BeginsBehind new.first new.last) (entry_firsts fs) (entry_firsts (lower first last nodes es)) (rw (← firsts_both fs (lower first last nodes es)) ns.0)).1.1 in
     let wide = max last new.last in
-    let inner = order_come c first wide (widened first first last wide nodes (omega arith) (omega arith) p.1.3) le k (omega arith) ul.0 nl.0 in
-    let rest = raised_entries new.first new.last (suc last) (suc wide) high es p.1.4 r nl.1 (omega arith) in
-    let past_all = past_both low fs (lower first last nodes es) in
-    let past_now = past_both low fs (lower first wide nodes' es) in
-    (both_in_order low high fs (lower first wide nodes' es) p.0 (p.1.0, omega (arith, p.1.1), omega (arith, p.1.2), inner, rest), raised new.first new.last (past_entries low whole) (past_entries low (with_both fs (lower first wide nodes' es))) high more o.1 t ns.1 (omega (arith, past_all, past_now, past_most (suc last) (suc wide) es, end_after (suc last) high es p.1.4)))
+    grind (arith, Each-split (Misses new.first), Each-split (BeginsBehind new.first new.last), leaves_both fs (lower first last nodes es), firsts_both fs (lower first last nodes es), parts_in_order low high fs (lower first last nodes es), widened first first last wide nodes, order_come c first wide, raised_entries new.first new.last (suc last) (suc wide) high es, past_both, both_in_order, raised new.first new.last (past_entries low whole) (past_entries low (with_both fs (lower first wide nodes' es))) high more, past_most (suc last) (suc wide) es, end_after (suc last) high es)
 order_come {new = new} {at = at} (comes_here {place = place} {room = room} {es = es} {more = more} t d) low high o l k h u n =
     let ns = Each-split (BeginsBehind new.first new.last) (entry_firsts es) (firsts_of more) n in
     order_with_entry new at place room low high es more o d t l k h (Each-split (Misses new.first) (entry_leaves es) (leaves_of more) u).0 ns.0 ns.1
@@ -189,24 +136,18 @@ module _ (b records : List ℕ) where
     rules_from low high (node place wide entries more) m o room is =
         let rooms = Each-split HasRoom (lower_nodes entries) (nodes_of more) room.1 in
         let blocks = Each-split HasBlock (entry_leaves entries) (leaves_of more) is in
-        let p = entries_rules_from place low high entries m o.0 rooms.0 blocks.0 in
-        (room.0, Hold-append (used_rows b records place (before_number low) (pos high) entries) (nodes_rows b records (end_of (before_number low) entries) (pos high) more) p.0 (rw p.1 (rules_from (past_entries low entries) high more m o.1 rooms.1 blocks.1)))
+        grind (arith, Hold-append, entries_rules_from place low high entries m o.0 rooms.0 blocks.0, rules_from (past_entries low entries) high more m o.1 rooms.1 blocks.1)
 
     entries_rules_from : (vxr low high : ℕ) (entries : Entries) → high ≤ record_number_limit → AreInOrder low high entries → Each HasRoom (lower_nodes entries) → Each HasBlock (entry_leaves entries)
         → Hold (used_rows b records vxr (before_number low) (pos high) entries) × (end_of (before_number low) entries ≡ before_number (past_entries low entries))
     entries_rules_from vxr low high no_entry m o room is = (tt, refl)
     entries_rules_from vxr low high (block first last place packed entries) m o room is =
-        let s = signed last (omega (arith, o.2)) in
-        let r = entries_rules_from vxr (suc last) high entries m o.3 room is.1 in
-        ((is.0, (between_by low high first last m o.0 o.1 o.2, rw s r.0)), ap (λ (z : ℤ). end_of z entries) s ∙ r.1)
+        grind (arith, signed last, between_by low high first last m o.0 o.1 o.2, entries_rules_from vxr (suc last) high entries m o.3 room is.1)
     entries_rules_from vxr low high (lower first last nodes entries) m o room is =
-        let s = signed last (omega (arith, o.2)) in
-        let f = before_is first (signed first (omega (arith, o.1, o.2))) in
         let rooms = Each-split HasRoom (nodes_of nodes) (lower_nodes entries) room in
         let blocks = Each-split HasBlock (leaves_of nodes) (entry_leaves entries) is in
         let below = rules_from first last nodes (omega (arith, o.2)) o.3 rooms.0 blocks.0 in
-        let r = entries_rules_from vxr (suc last) high entries m o.4 rooms.1 blocks.1 in
-        ((between_by low high first last m o.0 o.1 o.2, Hold-append (nodes_rows b records (number_before first) (with_sign last) nodes) (used_rows b records vxr (with_sign last) (pos high) entries) (rw (f, s) below) (rw s r.0)), ap (λ (z : ℤ). end_of z entries) s ∙ r.1)
+        grind (arith, Hold-append, signed, before_is, below, between_by low high first last m o.0 o.1 o.2, entries_rules_from vxr (suc last) high entries m o.4 rooms.1 blocks.1)
 
   -- an index in order, of which each node and each block is one
   pub index_rules : (vdr : ℕ) (index : Nodes) → InOrder 0 record_number_limit index → ((m : ℕ) → In m (nodes_of index) → has_room b m ≡ true) → ((l : Leaf) → IsOneOf (leaves_of index) l → (is_block b records l.place ≡ true) × Hold (leaf_rows b records vdr l))

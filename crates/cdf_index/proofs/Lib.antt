@@ -37,3 +37,4 @@ pub mod LeavesAscend
 pub mod EntriesLeft
 pub mod FromReached
 pub mod StartFound
+pub mod ByParts

@@ -1,5 +1,5 @@
 -- One variable has another index by now, and an edit met its VXRhead and VXRtail, nodes and unused records alone: what follows of the image, and what each record keeps.
-use Rattle.cdf_index.proofs.Common.{Act, AllKeep, Allowances, Among, Anything, Avoids, Avoids-append, Away, Away-append, Distinct, Each, Each-in, Field, Good, HasShape, Hold, In, In-append, IsChain, Kept, Kind, List, Mark, NodeFits, Nodes, OneVariable, Only, OutsideFields, OwnedOnce, Same, Shape, StandsAmong, VariableShape, Within, Within-append, [], after_ours, all_unmarked, all_unmarked-away, all_variable_records, ap, apart, arith, attributes_kept, avoided, away-avoids, away-within, behind_in, cdr_kept, cdr_type, count_of, cpr_type, cvvr_type, eof, false, fixed_size, flat_map, gdr_in, gdr_type, gdr_typed, gdr_uir_head, good_by_its_shape, has_room, head_of, image_limit, index_rows, inl, inr, is_a, is_a-in, is_a-type, is_in, is_max_rec, is_record_type, is_taken, keep_all, keep_file, keep_kinds, keep_places, keep_unused, keep_variable_parts, keeps_all_attributes, keeps_fields, keeps_file, keeps_kind, kept, kept_away, kind_ours, leaves_of, length, linkable-in, linkable-type, long, mark, nodes_of, nodes_stand, number, of_le, other_kind, ours, own_rules, owned, places_of, read_types, refl, room_at, shape, shapes_of, signed_limit, size_at, sound, spliced_times, stood, subst, suc, sym, the_one, through, tile, tile_lies, times, times-append, times-none, times-once, true, type_at, type_in, uir_next_uir, uir_prev_uir, uir_type, unmarked, unmarked-away, variable_records, variable_typed, variable_types, variables_chain, variables_in, vdr_max_rec, vdr_vxr_head, vdr_vxr_tail, vvr_type, vxr_n_used_entries, vxr_type, with_shapes, within, word_kept, ℕ, ◌*◌, ◌++◌, ◌+◌, ◌∙◌, ◌∷◌, ◌≡◌, ◌≢◌, ◌≤◌, ◌⊎◌}
+use Rattle.cdf_index.proofs.Common.{fits, has, typed, Act, AllKeep, Allowances, Among, Anything, Avoids, Avoids-append, Away, Away-append, Distinct, Each, Each-in, Field, Good, HasShape, Hold, In, In-append, IsChain, Kept, Kind, List, Mark, NodeFits, Nodes, OneVariable, Only, OutsideFields, OwnedOnce, Same, Shape, StandsAmong, VariableShape, Within, Within-append, [], after_ours, all_unmarked, all_unmarked-away, all_variable_records, ap, apart, arith, attributes_kept, avoided, away-avoids, away-within, behind_in, cdr_kept, cdr_type, count_of, cpr_type, cvvr_type, eof, false, fixed_size, flat_map, gdr_in, gdr_type, gdr_typed, gdr_uir_head, good_by_its_shape, has_room, head_of, image_limit, index_rows, inl, inr, is_a, is_a-in, is_a-type, is_in, is_max_rec, is_record_type, is_taken, keep_all, keep_file, keep_kinds, keep_places, keep_unused, keep_variable_parts, keeps_all_attributes, keeps_fields, keeps_file, keeps_kind, kept, kept_away, kind_ours, leaves_of, length, linkable-in, linkable-type, long, mark, nodes_of, nodes_stand, number, of_le, other_kind, ours, own_rules, owned, places_of, read_types, refl, room_at, shape, shapes_of, signed_limit, size_at, sound, spliced_times, stood, subst, suc, sym, the_one, through, tile, tile_lies, times, times-append, times-none, times-once, true, type_at, type_in, uir_next_uir, uir_prev_uir, uir_type, unmarked, unmarked-away, variable_records, variable_typed, variable_types, variables_chain, variables_in, vdr_max_rec, vdr_vxr_head, vdr_vxr_tail, vvr_type, vxr_n_used_entries, vxr_type, with_shapes, within, word_kept, ℕ, ◌*◌, ◌++◌, ◌+◌, ◌∙◌, ◌∷◌, ◌≡◌, ◌≢◌, ◌≤◌, ◌⊎◌}
 use Rattle.cdf_edits.proofs.Common.{IsIndex, Keeps, Stays, Edit}
 use Rattle.cdf_edits.proofs.Commands.KeptRecords.{Stood, keep_attributes, keep_variables, keeps_stood}
 use Rattle.cdf_edits.proofs.Edits.IndexEdited.{IndexEdit, vdr_size}
@@ -7,7 +7,6 @@ use Rattle.cdf_edits.proofs.Edits.IndexEdited as of_index
 use Rattle.cdf_edits.proofs.Edits.OwnEdited.{OwnEdit, only, records_are, splices}
 use Rattle.cdf_edits.proofs.Edits.OwnedOnce.{IsSorted, all_attributes_in, fresh_unowned, owned_once_if, sorted_before, used_times}
 use Rattle.cdf_edits.proofs.Edits.RecordPlaced.{links_mark}
-use Rattle.cdf_edits.proofs.Edits.StandsAmong.{fits, has, typed}
 use Rattle.cdf_edits.proofs.Edits.VariableCopied.{block_behind, cpr_behind, node_behind}
 use Rattle.cdf_index.specs.Adding.{Counts}
 use Rattle.cdf_index.proofs.OwnRecords.{block_type, parts_times}
@@ -150,11 +149,11 @@ module _ {b now : List ℕ} {kind : Kind} {before : List VariableShape} {own : V
     cpr_stands m c = kept x.edit m cpr_type (behind_in good at m (cpr_behind own m c)) (is_a-type b s.records cpr_type m (Each-in (λ y. is_a b s.records cpr_type y ≡ true) own.cpr (fits good at).3 m c)) x.tests.cpr_clear
 
     own_keeps : (m : ℕ) → In m (variable_records own) → Keeps b now m (may.variables kind (length before) m)
-    own_keeps m (inl q) = subst (λ (y : ℕ). Keeps b now y (may.variables kind (length before) y)) (sym q) (subst (Keeps b now v) (sym vdr_may) vdr_keeps)
+    own_keeps m (inl q) = rw (q, vdr_may) vdr_keeps
     own_keeps m (inr j) = elim (In-append m (nodes_of own.index ++ places_of (leaves_of own.index)) own.cpr j) [
       | inr c ↦ keeps_stood b now m (stands m (behind_in good at m j) (cpr_stands m c)) _
       | inl k ↦ elim (In-append m (nodes_of own.index) (places_of (leaves_of own.index)) k) [
-        | inl n ↦ subst (Keeps b now m) (sym (node_may m n)) tt
+        | inl n ↦ rw (node_may m n) tt
         | inr n ↦ keeps_stood b now m (stands m (behind_in good at m j) (block_kept m n)) _
       ]
     ]
@@ -211,10 +210,7 @@ module _ {b now : List ℕ} {kind : Kind} {before : List VariableShape} {own : V
 
     sorted : (m : ℕ) → In m taken ⊎ In m freed → IsSorted now after_it m
     sorted m (inl i) = inl (y.in_use m i, omega (arith, used_after m, fresh_unowned (sound good at) m (y.fresh m i), times-once m taken y.taken_once i, times-none m freed (none_both m i)))
-    sorted m (inr i) = elim (sorted_before (sound good at) (good_by_its_shape b good).owned_once m (node_in m i)) [
-      | inl u ↦ inr (y.out_of_use m i, omega (arith, used_after m, u.1, times-once m freed y.freed_once i, times-none m taken (λ k. none_both m k i)))
-      | inr u ↦ absurd (apart vxr_type uir_type refl (sym (node_typed m i) ∙ u.0))
-    ]
+    sorted m (inr i) = grind (arith, sorted_before (sound good at) (good_by_its_shape b good).owned_once m (node_in m i), node_typed m i, y.out_of_use m i, used_after m, times-once m freed y.freed_once i, times-none m taken (λ k. none_both m k i))
 
     owned_now : OwnedOnce now after_it
     owned_now = owned_once_if b now s after_it (space ++ entries) reborn (sound good at) (good_by_its_shape b good).owned_once x.edit (λ m out. omega (arith, used_after m, times-none m taken (λ i. out (y.reborn_are m (inl i))), times-none m freed (λ i. out (y.reborn_are m (inr i))))) (λ m i. sorted m (y.are_reborn m i))

@@ -41,7 +41,7 @@ pub trait Gather {
 }
 
 /// Has the nodes of a chain gathered, and what is below them.
-#[tactic(auto, using(crate::proofs::Looking::node_inside, crate::proofs::ChainWalk::walk_node))]
+#[tactic(auto, using(crate::proofs::Looking::node_inside, crate::proofs::ChainWalk::walk_node, crate::proofs::ChainWalk::walk_end, crate::proofs::ChainWalk::walk_in, crate::proofs::ChainWalk::lower_chain))]
 pub fn gather_chain<A: Area, G: Gather>(
     area: &mut A,
     link: u64,

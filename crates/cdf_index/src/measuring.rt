@@ -35,12 +35,14 @@ impl Gather for IndexSize {
 
     ghost has = { Counts };
 
+    #[tactic(auto, using(crate::proofs::Measured::sizes_both))]
     fn node(&mut self, place: u64, head: &Head) -> Result<(), AllocError> {
         self.entries = self.entries.saturating_add(head.used);
         self.widest = self.widest.max(head.room as u32);
         Ok(())
     }
 
+    #[tactic(auto, using(crate::proofs::Measured::sizes_both))]
     fn block<A: Area>(
         &mut self,
         area: &mut A,

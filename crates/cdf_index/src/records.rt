@@ -17,6 +17,7 @@ use cdf_records::read_bytes;
 use std::alloc::Global;
 
 /// The bytes of a record, as they are stored, from a block that is not packed.
+#[tactic(auto, using(crate::proofs::RecordRead::record_is))]
 pub fn read_rec<A: Area>(
     alloc: Global,
     area: &mut A,

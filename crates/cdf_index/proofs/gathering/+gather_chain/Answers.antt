@@ -1,27 +1,8 @@
 use Rattle.cdf_index.proofs.Common.{arith, read_more, used_count, ◌<◌, ◌∙◌}
 use Rattle.cdf_index.proofs.Looking.{node_inside}
-use Rattle.cdf_index.proofs.ChainWalk.{walk_end, walk_over, walk_node, walk_in, lower_chain, past_block, past_lower, walk_out}
+use Rattle.cdf_index.proofs.ChainWalk.{walk_end, walk_over, walk_node, past_block, past_lower, walk_out}
 use Rattle.cdf_index.proofs.gathering.+gather_chain.Goals.{then-named-eq-VXR_TYPE+in_ok-gather_chain, else-named-eq-VXR_TYPE+in_ok-block}
 use Rattle.cdf_index.proofs.gathering.+gather_chain.Goals as goal
-
-pub returns-then-at-eq0-clause-grew : goal.returns-then-at-eq0-clause-grew
-returns-then-at-eq0-clause-grew g t c = λ ns st e. walk_end (c.loop-turn.invariant.walked.left ns st e) c.requires.chain.tiled c.if-at-eq0.true
-
-pub loop-i-init : goal.loop-i-init
-loop-i-init g t c =
-    let i = c.loop-turn.invariant in
-    let h = rw i.area.image at c.in_ok-head.ensures.head in
-    record { gone = λ ns st e. walk_in (i.walked.left ns st e) c.if-at-eq0.false (rw (h.used_is, h.room_is) at c.in_ok-node.ensures); area = read_more i.area c.in_ok-head.ensures.area }
-
-pub gather_chain-requires : goal.gather_chain-requires
-gather_chain-requires g t c =
-    let l = c.loop-i in
-    let e = c.in_ok-named.ensures.area.image ∙ l.invariant.area.image in
-    let h = rw c.loop-turn.invariant.area.image at c.in_ok-head.ensures.head in
-    let some = c.requires.chain in
-    let n = l.invariant.gone some.nodes some.stands some.link_is in
-    let chain = lower_chain n (omega (arith, h.used_is)) (rw l.invariant.area.image at c.in_ok-named.ensures.place) (rw l.invariant.area.image at c.in_ok-named.ensures.kind) c.if-named-eq-VXR_TYPE.true some.tiled some.few in
-    λ κs w. (omega (arith, c.decreases, n.node.deep), (w.0, (w.1, (rw e chain, rw e c.requires.short))))
 
 pub loop-i-preserved : goal.loop-i-preserved
 loop-i-preserved g t c =
