@@ -1,11 +1,10 @@
 -- The entries of a node that begin at a record or before it: how many they are, and where the last of them leads to.
-use Rattle.cdf_index.proofs.Common.{AreInOrder, Begins, Begun, Bool, Distinct, Distinct-back, Distinct-front, Entries, IsNode, IsTree, List, Names, Nodes, SayEntries, ap, arith, block, chain_before, down_at, either, entry_count, entry_leaves, false, first_at, if◌then◌else◌, inl, inr, leads_down, leaves_of, leb, link_to, linkable-type, lower, lower_nodes, ltb, nat_tests, no_entry, no_node, node, nodes_of, past, past_entries, reaches, spot, spot_below, suc, sym, tiles, true, type_at, used_count, vxr_type, way, way_below, ℕ, ◌+◌, ◌<◌, ◌∙◌, ◌≡◌, ◌≤◌}
-use Rattle.cdf_index.proofs.EntriesCut.{Parted, one_more, parted_all}
+use Rattle.cdf_index.proofs.Common.{AreInOrder, Begins, Begun, Bool, Distinct, Distinct-back, Distinct-front, Entries, IsNode, IsTree, List, Names, Nodes, SayEntries, ap, arith, block, cases_lt, chain_before, down_at, either, entry_count, entry_leaves, false, first_at, if◌then◌else◌, inl, inr, leads_down, leaves_of, leb, link_to, linkable-type, lower, lower_nodes, ltb, nat_tests, no_entry, no_node, node, nodes_of, past, past_entries, reaches, spot, spot_below, suc, sym, tiles, true, type_at, used_count, vxr_type, way, way_below, ℕ, ◌+◌, ◌<◌, ◌∙◌, ◌≡◌, ◌≤◌}
 use Rattle.cdf_index.proofs.EntriesLeft.{EntriesLeft, past_first, past_lower_one}
 use Rattle.cdf_index.proofs.Coming.{not_reached}
 use Rattle.cdf_index.proofs.OrderLemmas.{end_after}
 use Rattle.cdf_index.proofs.Saying.{count_both, front, front_past}
-use Rattle.cdf_index.proofs.ByParts.{entries_by, entries_within}
+use Rattle.cdf_index.proofs.ByParts.{entries_by, entries_from, entries_within}
 use Rattle.cdf_index.proofs.FirstEntry.{block_no_node, no_chain, node_linkable}
 
 -- the lower chain that the last of them names, none where it names a block; this one where there are none
@@ -82,14 +81,16 @@ below b f levels at k m low high before (lower first last nodes es) s w e =
     (record { link = rw (ap (type_at b) s.left.say.0.offset_is ∙ type) s.left.say.0.offset_is; tree = λ x. tree }) in
     elim (either (leb first f)) [ inl t ↦ rw t (r (omega (arith, rw t at e))) | inr t ↦ let z : m ≡ k = omega (arith, rw t at e) in rw (t, z) w ]
 
-begun_is : (b : List ℕ) (at f k n : ℕ) (es : Entries) → SayEntries b at k es → Parted (λ j. first_at b at j ≤ f) (λ j. f < first_at b at j) k n (entry_count es) → n ≡ begun_in f es
-begun_is b at f k n no_entry s p = let m = p.most in omega arith
-begun_is b at f k n (block first last place packed es) s p = grind (arith, one_more (λ j. first_at b at j ≤ f) (λ j. f < first_at b at j) k n (entry_count es) (leb first f) (begun_in f es) (λ x. grind (arith, nat_tests, s.0.first_is)) (λ x. grind (arith, nat_tests, s.0.first_is)) p (λ m r. begun_is b at f (suc k) m es s.1 r))
-begun_is b at f k n (lower first last nodes es) s p = grind (arith, one_more (λ j. first_at b at j ≤ f) (λ j. f < first_at b at j) k n (entry_count es) (leb first f) (begun_in f es) (λ x. grind (arith, nat_tests, s.0.first_is)) (λ x. grind (arith, nat_tests, s.0.first_is)) p (λ m r. begun_is b at f (suc k) m es s.1 r))
+-- each of them begins at the record or before it, and the one behind them past it
+begun_first : (b : List ℕ) (at f k : ℕ) (es : Entries) → SayEntries b at k es → (i : ℕ) → k ≤ i → (i < k + begun_in f es → first_at b at i ≤ f) × (i ≡ k + begun_in f es → i < k + entry_count es → f < first_at b at i)
+begun_first b at f = entries_from (grind (arith, nat_tests, cases_lt))
 
 -- so many of them were counted
 pub counted_begun : (b : List ℕ) (at f n : ℕ) (es : Entries) → Begun b at f n → used_count b at ≡ entry_count es → SayEntries b at 0 es → n ≡ begun_in f es
-counted_begun b at f n es g u s = let most = g.most in begun_is b at f 0 n es s (parted_all (λ j. first_at b at j ≤ f) (λ j. f < first_at b at j) n (entry_count es) g.before (λ lt. g.stop (omega arith)) (omega arith))
+counted_begun b at f n es g u s =
+    let many = count_both (front f es) (past f es) in
+    let all = ap entry_count (front_past f es) in
+    grind (arith, begun_first b at f 0 es s n, begun_first b at f 0 es s (begun_in f es), g.before (begun_in f es), g.stop, g.most)
 
 pub begins_by : (b : List ℕ) (at f p : ℕ) → Begun b at f p → Begins b at f p
 begins_by b at f p g es u s = omega (arith, counted_begun b at f p es g u s, count_both (front f es) (past f es), ap entry_count (front_past f es))
