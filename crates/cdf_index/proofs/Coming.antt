@@ -1,21 +1,18 @@
 -- How a leaf comes into an index whose entries are in order: along the chain and down through entries that reach it, step by step.
-use Rattle.cdf_index.proofs.Common.{AreInOrder, Bool, Entries, InOrder, Leaf, List, Nodes, [], arith, block, chain_reaches, down_at, either, entry_count, false, inl, inr, le-leb, leads_down, leb, leb-false, leb-true, lower, lt-leb, max, new_room, new_room_below, no_entry, no_node, node, or_from, or_parts, past_entries, reaches, refl, room_of_new, spot, spot_below, suc, sym, true, true≢false, way, way_below, with_block, with_both, with_entry, with_leaf, with_lower, ℕ, ◌<◌, ◌∙◌, ◌∷◌, ◌≡◌, ◌≤◌}
+use Rattle.cdf_index.proofs.Common.{AreInOrder, Bool, Entries, InOrder, Leaf, List, Nodes, [], arith, block, chain_reaches, down_at, either, entry_count, false, inl, inr, le-leb, leads_down, leb, leb-false, leb-true, lower, max, nat_tests, new_room, new_room_below, no_entry, no_node, node, past_entries, reaches, refl, room_of_new, spot, spot_below, suc, sym, true, true≢false, way, way_below, with_block, with_both, with_entry, with_leaf, with_lower, ℕ, ◌<◌, ◌∙◌, ◌∷◌, ◌≡◌, ◌≤◌}
 use Rattle.std.proofs.lemmas.Bool.{cases_lt}
+use Rattle.cdf_index.proofs.ByParts.{entries_by, entries_within, nodes_within}
 use Rattle.cdf_index.proofs.OrderLemmas.{end_after}
 
 -- ---- entries that reach a record
 
 pub not_reached : (f low high : ℕ) (es : Entries) → AreInOrder low high es → f < low → reaches f es ≡ false
 unfolding AreInOrder
-not_reached f low high no_entry o lt = refl
-not_reached f low high (block first last place packed es) o lt = or_from (leb first f) (reaches f es) (lt-leb first f (omega (arith, o.0))) (not_reached f (suc last) high es o.3 (omega (arith, o.0, o.1)))
-not_reached f low high (lower first last nodes es) o lt = or_from (leb first f) (reaches f es) (lt-leb first f (omega (arith, o.0))) (not_reached f (suc last) high es o.4 (omega (arith, o.0, o.1)))
+not_reached f = entries_within (grind (arith, nat_tests))
 
 pub chain_not_reached : (f low high : ℕ) (ns : Nodes) → InOrder low high ns → f < low → chain_reaches f ns ≡ false
-unfolding InOrder
-chain_not_reached f low high no_node o lt = refl
-chain_not_reached f low high (node place room es more) o lt =
-    or_from (reaches f es) (chain_reaches f more) (not_reached f low high es o.0 lt) (chain_not_reached f (past_entries low es) high more o.1 (omega (arith, end_after low high es o.0)))
+unfolding InOrder AreInOrder
+chain_not_reached f = nodes_within (λ low high es. Unit {0}) (grind (arith, nat_tests, not_reached, end_after))
 
 pub reaches_from : (f low high : ℕ) (es : Entries) → AreInOrder low high es → reaches f es ≡ true → low ≤ f
 reaches_from f low high es o t = elim (cases_lt f low) [ inl lt ↦ absurd (true≢false (sym t ∙ not_reached f low high es o lt)) | inr le ↦ le ]
@@ -24,9 +21,7 @@ pub chain_reaches_from : (f low high : ℕ) (ns : Nodes) → InOrder low high ns
 chain_reaches_from f low high ns o t = elim (cases_lt f low) [ inl lt ↦ absurd (true≢false (sym t ∙ chain_not_reached f low high ns o lt)) | inr le ↦ le ]
 
 pub leads_none : (f : ℕ) (g : Bool) (es : Entries) → reaches f es ≡ false → leads_down f g es ≡ g
-leads_none f g no_entry t = refl
-leads_none f g (block first last place packed es) t = rw (or_parts (leb first f) (reaches f es) t).0 refl
-leads_none f g (lower first last nodes es) t = rw (or_parts (leb first f) (reaches f es) t).0 refl
+leads_none f g = entries_by (grind (arith, nat_tests))
 
 -- ---- the steps of the way
 

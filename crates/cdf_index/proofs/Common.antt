@@ -11,7 +11,6 @@ pub use Rattle.cdf_edits.proofs.Edits.LeavesOrder.{ascending_both, ascending_fro
 pub use Rattle.cdf_edits.proofs.Edits.MarkLemmas.{Avoids-append, Away-append, Within-append, all_unmarked-away, away-avoids, away-within, or_cases, the_one, unmarked-away}
 pub use Rattle.cdf_edits.proofs.Edits.PlainLeaves.{leaves_apart, own_rules}
 pub use Rattle.cdf_edits.proofs.Edits.StandsAmong.{StandsAmong, after_ours, behind_in, long, ours, sound, through, tile}
-pub use Rattle.cdf_edits.proofs.Edits.VariableFrame.{all_ruled, hold_all}
 pub use Rattle.cdf_edits.proofs.Frame.LinksStay.{SameHeads, entry_same, linkable_kept, room_same, used_same}
 pub use Rattle.cdf_edits.proofs.Frame.OwnerAlone.{Each-in, heads, stays}
 pub use Rattle.cdf_edits.proofs.Index.NodeEdited.{Edit, Owed, redone}
@@ -21,13 +20,11 @@ unfoldable pub use Rattle.cdf_edits.specs.Index.Blocks.{entry_firsts, firsts_of}
 pub use Rattle.cdf_edits.specs.Index.Grown.{chain_reaches, leads_down, past, reaches, room_of_new, upto, with_block, with_both, with_entry}
 unfoldable pub use Rattle.cdf_edits.specs.Index.Grown.{new_room, new_room_below, with_leaf, with_lower}
 pub use Rattle.cdf_format.proofs.BytesLemmas.{next_kept, number_kept, size_kept, type_kept, word-same}
-pub use Rattle.cdf_format.proofs.GoodImageLemmas.{by_shape}
-pub use Rattle.cdf_format.proofs.IndexLemmas.{levels_complete}
 pub use Rattle.cdf_format.specs.GoodImage.{IsGoodImage}
 pub use Rattle.cdf_format.specs.Index.{Entries, Leaf, Nodes, block, entry_count, first_at, last_at, leaf, link_to, lower, no_entry, no_node, node, offset_at, room_at, used_count}
 pub use Rattle.cdf_format.specs.Records.{field, vxr_bytes, vxr_first, vxr_last, vxr_n_used_entries, vxr_offset, vxr_vxr_next}
-pub use Rattle.cdf_index.specs.Ahead.{Begun, Climbs, IsWalk, NamesIn, chain_at, chain_before, first_past}
-pub use Rattle.cdf_index.specs.Descent.{IsAmong, IsTree, SeesNode, SomeTree, SpotIs, StepSays, end_from, spot_at, step_pair, way_from}
+pub use Rattle.cdf_index.specs.Ahead.{Begun, NamesIn, chain_at, chain_before, first_past}
+pub use Rattle.cdf_index.specs.Descent.{ChainWalked, IsAmong, Meets, SeesNode, StepSays, behind_of, first_after, step_pair}
 pub use Rattle.cdf_index.specs.Finding.{Ascends, At, ChainFrom, HasIndex, IsBlock, IsCut, IsOrderly, NodeInside, Scanned, SomeNode, Stands, in_column, index_at}
 pub use Rattle.cdf_index.specs.Growing.{Begins, MayName, with_new}
 pub use Rattle.cdf_index.specs.Next.{least_first_past, number_within}
@@ -49,3 +46,6 @@ pub use Rattle.std.proofs.Common.{Bool, List, None, Option, Some, [], add-one, a
 pub use Rattle.std.proofs.lemmas.Bool.{cases_eq, eqb-true, le-leb, le-ltb, leb-false, leb-true, lt-leb, lt-ltb, or_from, or_parts}
 pub use Rattle.std.proofs.lemmas.Int.{of_z-to_z}
 pub use Rattle.std.proofs.lemmas.Result.{IfOk-weaker, on_ok_weaker}
+pub use Rattle.cdf_format.proofs.IndexLemmas.{levels_complete}
+pub use Rattle.cdf_edits.proofs.Edits.VariableFrame.{all_ruled, hold_all}
+pub use Rattle.cdf_format.proofs.GoodImageLemmas.{by_shape}

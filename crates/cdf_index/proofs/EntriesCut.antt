@@ -1,5 +1,5 @@
 -- Where a column of a node is cut in two: the numbers below a bound, and the others.
-use Rattle.cdf_index.proofs.Common.{Ascends, Bool, List, ap, arith, false, if◌then◌else◌, in_column, IsCut, refl, subst, suc, true, zero, ℕ, ◌+◌, ◌-◌, ◌<◌, ◌≡◌, ◌≤◌}
+use Rattle.cdf_index.proofs.Common.{Ascends, IsCut, List, arith, in_column, suc, zero, ℕ, ◌+◌, ◌-◌, ◌<◌, ◌≡◌, ◌≤◌}
 
 -- a number of a column is at most a later one
 climbs : (b : List ℕ) (at field used : ℕ) → Ascends b at field used → (i n : ℕ) → i + n < used → in_column b at field i ≤ in_column b at field (i + n)

@@ -1,8 +1,9 @@
 -- What a search has that starts along the top chain of an index, and what of the index it has with the search from the first node.
-use Rattle.cdf_index.proofs.Common.{AreInOrder, AreTiles, Distinct, Distinct-back, Entries, HasIndex, HasNodes, In, In-append_right, InOrder, IsNode, IsOrderly, IsTree, Leaf, List, NodeFits, Nodes, Option, Stands, ap, append_assoc, arith, block, cases_eq, chain_reaches, either, entry_firsts, filter, find_entry, find_in, firsts_of, fold, has, index_at, inl, inr, leaf_of, least_first_past, leaves_of, length, link_to, lower, lower_nodes, ltb, min, nat_tests, no_entry, no_node, node, nodes_of, number_within, past_entries, record_number_limit, refl, spot, subst, suc, sym, tiles, true, way, with_leaf, zero, ℕ, ◌++◌, ◌+◌, ◌<◌, ◌∙◌, ◌≡◌, ◌≢◌, ◌≤◌}
+use Rattle.cdf_index.proofs.Common.{AreInOrder, AreTiles, Distinct, Distinct-back, Entries, HasIndex, HasNodes, In, In-append_right, InOrder, IsNode, IsOrderly, Leaf, List, NodeFits, Nodes, Option, SomeNode, Stands, ap, append_assoc, arith, cases_eq, chain_reaches, either, entry_firsts, filter, find_entry, find_in, firsts_of, fold, has, index_at, inl, inr, leaf_of, least_first_past, leaves_of, length, link_to, lower_nodes, ltb, min, nat_tests, no_node, node, nodes_of, number_within, past_entries, record_number_limit, refl, spot, subst, suc, sym, tiles, true, way, with_leaf, zero, ℕ, ◌++◌, ◌+◌, ◌∙◌, ◌≡◌, ◌≢◌, ◌≤◌}
 use Rattle.cdf_edits.specs.Index.Written.{last_node, top_chain}
 use Rattle.cdf_edits.proofs.Edits.VariableFrame.{Each-map}
 use Rattle.cdf_index.proofs.Ascending.{index_stands}
+use Rattle.cdf_index.proofs.ByParts.{ByParts, entries_within, nodes_by, of_entries, of_nodes}
 use Rattle.cdf_index.proofs.Coming.{chain_reaches_from}
 use Rattle.cdf_index.proofs.EntriesLeft.{node_parts}
 use Rattle.cdf_index.proofs.GoodIndex.{found_index}
@@ -42,51 +43,48 @@ rest_once (behind {es = es} {more = more} r) d = rest_once r (Distinct-back (low
 
 -- ---- it stands, in order
 
-record Standing (b : List ℕ) (ns : Nodes) : Type 0 where
+pub record Standing (b : List ℕ) (ns : Nodes) : Type 0 where
   pub stands : Stands b 8 ns
   pub once : Distinct (nodes_of ns)
   pub order : InOrder 0 record_number_limit ns
 
-rest_stands : {b : List ℕ} {s ns : Nodes} → Rest s ns → Standing b ns → Standing b s
+pub rest_stands : {b : List ℕ} {s ns : Nodes} → Rest s ns → Standing b ns → Standing b s
 unfolding nodes_of InOrder
 rest_stands whole p = p
 rest_stands (behind {es = es} {more = more} r) p =
     rest_stands r (record { stands = (node_parts p.stands).more_stands; once = Distinct-back (lower_nodes es) (nodes_of more) p.once.1; order = widened (past_entries 0 es) 0 record_number_limit record_number_limit more (omega arith) (omega arith) p.order.1 })
 
-index_standing : {b : List ℕ} {head : ℕ} → HasIndex b head → Standing b (index_at b head)
+pub index_standing : {b : List ℕ} {head : ℕ} → HasIndex b head → Standing b (index_at b head)
 index_standing {b = b} {head = head} has = record { stands = index_stands b head has; once = has.index.once; order = has.order }
 
 -- so it is an index
-rest_index : {b : List ℕ} {at : ℕ} {s : Nodes} → AreTiles b 8 (length b) (tiles b) → Standing b s → at ≡ link_to s → HasIndex b at × (index_at b at ≡ s)
+pub rest_index : {b : List ℕ} {at : ℕ} {s : Nodes} → AreTiles b 8 (length b) (tiles b) → Standing b s → at ≡ link_to s → HasIndex b at × (index_at b at ≡ s)
 rest_index {b = b} {s = s} tiled p e = found_index tiled (record { link_is = e; has_nodes = p.stands.has; once = p.once }) (Each-map (IsOrderly b) (NodeFits b) (λ m o. o.fits) (nodes_of s) p.stands.orderly) p.stands.blocks p.order
 
-pub rest_tree : {b : List ℕ} {head : ℕ} {s : Nodes} → Rest s (index_at b head) → IsNode s → HasIndex b head → IsTree b 8 s
-rest_tree r is has = let p = rest_stands r (index_standing has) in record { stands = p.stands; is_node = is; once = p.once; from = 0; upto = record_number_limit; order = p.order }
+pub link_there : {b : List ℕ} {s : Nodes} → AreTiles b 8 (length b) (tiles b) → Standing b s → IsNode s → link_to s ≢ 0
+link_there {b = b} {s = s} tiled p is z = subst IsNode (none_there b 8 s tiled p.stands.has z) is
+
+pub rest_node : {b : List ℕ} {head m : ℕ} {s : Nodes} → HasIndex b head → Rest s (index_at b head) → IsNode s → m ≡ link_to s → SomeNode b m
+rest_node {s = s} has r is e = record { levels = 8; nodes = s; tiled = has.tiled; stands = (rest_stands r (index_standing has)).stands; is_node = is; link = e }
+
+pub index_node : {b : List ℕ} {head : ℕ} → HasIndex b head → head ≢ 0 → SomeNode b head
+index_node {b = b} {head = head} has some = rest_node has whole (node_there_by head (index_at b head) has.index.link_is some) has.index.link_is
 
 -- ---- entries before a record are passed
 
-mutual
-  unfolding InOrder AreInOrder firsts_of entry_firsts
+abbrev Passed : ℕ → List ℕ → Type 0
+Passed f firsts = (xs : List ℕ) → filter (ltb f) (firsts ++ xs) ≡ filter (ltb f) xs
 
-  chain_passed : (f low high : ℕ) (ns : Nodes) (xs : List ℕ) → InOrder low high ns → low ≤ suc high → high < f → filter (ltb f) (firsts_of ns ++ xs) ≡ filter (ltb f) xs
-  chain_passed f low high no_node xs o le lt = refl
-  chain_passed f low high (node place room es more) xs o le lt =
-      let e = end_before low high es o.0 le in
-      rw append_assoc (firsts_passed f low high es (firsts_of more ++ xs) o.0 (omega arith) ∙ chain_passed f (past_entries low es) high more xs o.1 e lt)
+passed : (f : ℕ) → ByParts (λ ns. (low high : ℕ) → InOrder low high ns → low ≤ suc high → high ≤ f → Passed f (firsts_of ns)) (λ es. (low high : ℕ) → AreInOrder low high es → past_entries low es ≤ suc f → Passed f (entry_firsts es))
+unfolding InOrder AreInOrder firsts_of entry_firsts
+passed f = grind (arith, nat_tests, append_assoc {A = ℕ}, end_before, end_after)
 
-  firsts_passed : (f low high : ℕ) (es : Entries) (xs : List ℕ) → AreInOrder low high es → past_entries low es ≤ f → filter (ltb f) (entry_firsts es ++ xs) ≡ filter (ltb f) xs
-  firsts_passed f low high no_entry xs o le = refl
-  firsts_passed f low high (block first last place packed es) xs o le = grind (arith, nat_tests, end_after (suc last) high es o.3, firsts_passed f (suc last) high es xs o.3 le, o.1)
-  firsts_passed f low high (lower first last nodes es) xs o le =
-      let e = end_after (suc last) high es o.4 in
-      let fl = o.1 in
-      grind (arith, nat_tests, append_assoc (firsts_of nodes) (entry_firsts es) xs, chain_passed f first last nodes (entry_firsts es ++ xs) o.3 (omega arith) (omega arith), firsts_passed f (suc last) high es xs o.4 le)
+pub chain_passed : (f low high : ℕ) (ns : Nodes) → InOrder low high ns → low ≤ suc high → high ≤ f → Passed f (firsts_of ns)
+chain_passed f low high ns = of_nodes (passed f) ns low high
 
-entries_passed : (f low high : ℕ) (es : Entries) (other : Option Leaf) → AreInOrder low high es → past_entries low es ≤ f → find_entry f es other ≡ other
+entries_passed : (f : ℕ) (other : Option Leaf) (low high : ℕ) (es : Entries) → AreInOrder low high es → past_entries low es ≤ f → find_entry f es other ≡ other
 unfolding AreInOrder find_entry
-entries_passed f low high no_entry other o le = refl
-entries_passed f low high (block first last place packed es) other o le = grind (arith, nat_tests, end_after (suc last) high es o.3, entries_passed f (suc last) high es other o.3 le)
-entries_passed f low high (lower first last nodes es) other o le = grind (arith, nat_tests, end_after (suc last) high es o.4, entries_passed f (suc last) high es other o.4 le)
+entries_passed f other = entries_within (grind (arith, nat_tests, end_after))
 
 -- ---- a search from there on meets the same
 
@@ -99,23 +97,19 @@ pub leaf_rest : (l : Leaf) (at : ℕ) (ns : Nodes) → Rest (with_leaf l at (fro
 unfolding with_leaf
 leaf_rest l at ns = from_by l.first (λ s ns. Rest (with_leaf l at s) (with_leaf l at ns)) (λ ns. whole) (λ place room es s more t r. rw t (behind r)) ns
 
-from_rest : (f : ℕ) (ns : Nodes) → Rest (from_reached f ns) ns
+pub from_rest : (f : ℕ) (ns : Nodes) → Rest (from_reached f ns) ns
 from_rest f ns = from_by f Rest (λ ns. whole) (λ place room es s more t r. behind r) ns
 
 -- where there is a node, it is at one of the top chain
-from_top : (f : ℕ) (ns : Nodes) → IsNode ns → IsNode (from_reached f ns) × In (link_to (from_reached f ns)) (top_chain ns)
-from_top f ns = from_by f (λ s ns. IsNode ns → IsNode s × In (link_to s) (top_chain ns)) (λ ns is. grind arith) (λ place room es s more t r is. (let on = r (chain_there f more t) in (on.0, inr on.1))) ns
+pub from_top : (f : ℕ) (ns : Nodes) → IsNode ns → IsNode (from_reached f ns) × In (link_to (from_reached f ns)) (top_chain ns)
+from_top f = nodes_by (λ es. Unit {0}) (grind (arith, chain_there))
 
-abbrev Same : ℕ → Nodes → Nodes → Type 0
+abbrev pub Same : ℕ → Nodes → Nodes → Type 0
 Same f s ns = (low high : ℕ) → InOrder low high ns → (way f s ≡ way f ns) × (spot f s ≡ spot f ns) × (find_in f s ≡ find_in f ns) × (filter (ltb f) (firsts_of s) ≡ filter (ltb f) (firsts_of ns))
 
-same_from : (f : ℕ) (ns : Nodes) → Same f (from_reached f ns) ns
+pub same_from : (f : ℕ) (ns : Nodes) → Same f (from_reached f ns) ns
 unfolding way spot InOrder find_in firsts_of
-same_from f ns =
-    from_by f (Same f) (λ ns low high o. (refl, refl, refl, refl)) (λ place room es s more t r low high o.
-    (let e = r (past_entries low es) high o.1 in
-    let le = chain_reaches_from f (past_entries low es) high more o.1 t in
-    (rw t e.0, rw t e.1, e.2 ∙ sym (entries_passed f low high es (find_in f more) o.0 le), e.3 ∙ sym (firsts_passed f low high es (firsts_of more) o.0 le)))) ns
+same_from f = nodes_by (λ es. Unit {0}) (grind (arith, chain_reaches_from, entries_passed, of_entries (passed f)))
 
 -- what a start has, and what of the index
 pub record StartsAt (b : List ℕ) (head rec start : ℕ) : Type 0 where
@@ -151,7 +145,7 @@ starts_at {b = b} {head = head} {rec = rec} {start = start} has e =
       way_is = rw x.1 same.0;
       spot_is = rw x.1 same.1;
       among = rw x.1 (rest_among rest);
-      empty = λ z. elim (cases_eq head 0) [ inl none ↦ none | inr n ↦ absurd (subst IsNode (none_there b 8 (from_reached rec ns) has.tiled (rest_stands rest (index_standing has)).stands.has (sym e ∙ z)) (there n).0) ];
+      empty = λ z. elim (cases_eq head 0) [ inl none ↦ none | inr n ↦ absurd (link_there has.tiled (rest_stands rest (index_standing has)) (there n).0 (sym e ∙ z)) ];
       some = some;
       top = λ n. rw e (there (some n)).1;
     }

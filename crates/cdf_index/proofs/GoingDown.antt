@@ -1,161 +1,157 @@
--- The way down to the place of a new entry, along a chain.
-use Rattle.cdf_index.proofs.Common.{AreTiles, Distinct, Distinct-back, Distinct-front, Entries, HasNodes, InOrder, IsNode, IsTree, List, Nodes, SeesNode, SomeNode, Spot, SpotIs, Stands, [], ap, arith, cases_lt, chain_reaches, down_at, end_from, entry_count, false, if◌then◌else◌, inl, inr, kept, le-ltb, leads_down, leaves_of, length, length-append, link_to, lower_nodes, lt-ltb, nat_tests, ne_eqb, next_of, no_entry, no_node, node, nodes_of, past_entries, reaches, refl, spot, spot_below, subst, suc, sym, tiles, true, used_count, way, way_below, way_from, zero, ℕ, ◌+◌, ◌<◌, ◌∙◌, ◌∷◌, ◌≡◌, ◌≢◌, ◌≤◌, ◌⊎◌}
-use Rattle.cdf_index.proofs.EntriesLeft.{node_parts}
-use Rattle.cdf_index.proofs.Leading.{Stand, begun_in, below, counted_begun, ends_past, LedBy, is_some, lead, lead_none, leads, led, reached_is, some_node}
+-- The walk along a chain, to the last of its nodes that has an entry which begins at a record or before it.
+use Rattle.cdf_index.proofs.Common.{Entries, HasIndex, InOrder, List, Nodes, Option, Some, SayEntries, SomeNode, ap, arith, cases_lt, chain_reaches, entry_count, entry_firsts, false, first_at, first_past, firsts_of, if◌then◌else◌, index_at, inl, inr, le-ltb, length, length-append, link_to, lower_nodes, lt-ltb, nat_tests, no_entry, no_node, node, nodes_of, past, past_entries, record_number_limit, refl, sym, ℕ, ◌++◌, ◌+◌, ◌<◌, ◌∙◌, ◌≡◌, ◌≢◌, ◌≤◌, ◌⊎◌, ChainWalked, Meets, behind_of, first_after}
+use Rattle.cdf_edits.specs.Index.Written.{top_chain}
+use Rattle.cdf_index.proofs.ByParts.{entries_by, entries_from, nodes_by}
 use Rattle.cdf_index.proofs.Coming.{chain_not_reached}
+use Rattle.cdf_index.proofs.EntriesLeft.{NodeParts, node_parts}
+use Rattle.cdf_index.proofs.FromReached.{Rest, Standing, behind, from_rest, from_top, index_standing, rest_node, rest_stands, whole}
+use Rattle.cdf_index.proofs.Leading.{begun_in, begun_past, counted_begun, ends_past, lead, reached_is}
 use Rattle.cdf_index.proofs.Looking.{node_there, none_there}
-use Rattle.cdf_index.proofs.Searching.{few}
+use Rattle.cdf_index.proofs.Saying.{no_entries}
+use Rattle.cdf_index.proofs.Searching.{few_nodes}
+use Rattle.cdf_index.proofs.WayDown.{node_there_by}
+use Rattle.cdf_index.specs.Starting.{from_reached}
+use Rattle.cdf_index.specs.declared.descending.Stop.{Stop}
 
--- ---- a chain: the entries of its first node, and the others
+rest_more : {place room : ℕ} {es : Entries} {s ns : Nodes} → Rest (node place room es s) ns → Rest s ns
+rest_more whole = behind whole
+rest_more (behind r) = behind (rest_more r)
 
-abbrev pub entries_of : Nodes → Entries
-entries_of no_node = no_entry
-entries_of (node place room es more) = es
+-- ---- how many nodes there are
 
-abbrev pub rest_of : Nodes → Nodes
-rest_of no_node = no_node
-rest_of (node place room es more) = more
+lead_few : (f : ℕ) (es : Entries) (low : Nodes) → length (nodes_of (lead f low es)) ≤ length (nodes_of low) + length (lower_nodes es)
+unfolding nodes_of lower_nodes
+lead_few f = entries_by (grind (arith, nat_tests, length-append {A = ℕ}))
 
-pub record Top (b : List ℕ) (levels : ℕ) (nodes : Nodes) : Type 0 where
-  pub levels_below : ℕ
-  pub fewer : levels_below < levels
-  pub used_is : used_count b (link_to nodes) ≡ entry_count (entries_of nodes)
-  pub next_is : next_of b (link_to nodes) ≡ link_to (rest_of nodes)
-  pub low : ℕ
-  pub high : ℕ
-  pub stand : Stand b levels_below (link_to nodes) 0 low high (entries_of nodes)
-  pub order : InOrder (past_entries low (entries_of nodes)) high (rest_of nodes)
-  pub rest : Stands b levels (rest_of nodes)
-  pub rest_once : Distinct (nodes_of (rest_of nodes))
-  pub nodes_left : length (nodes_of (rest_of nodes)) < length (nodes_of nodes)
+-- the chain to which the entries of the first node lead
+abbrev pub down_of : ℕ → Nodes → Nodes
+down_of f no_node = no_node
+down_of f (node place room es more) = lead f no_node es
 
-pub top : (b : List ℕ) (levels : ℕ) (nodes : Nodes) → IsTree b levels nodes → Top b levels nodes
-unfolding HasNodes nodes_of leaves_of InOrder
-top b levels no_node t = absurd t.is_node
-top b zero (node place room es more) t = absurd t.stands.has
-top b (suc levels) (node place room es more) t =
-    let p = node_parts t.stands in
-    record {
-      levels_below = levels;
-      fewer = omega arith;
-      used_is = p.says.used_is;
-      next_is = p.says.next_is;
-      low = t.from;
-      high = t.upto;
-      stand = record { left = p.left; once = Distinct-front (lower_nodes es) (nodes_of more) t.once.1; order = t.order.0 };
-      order = t.order.1;
-      rest = p.more_stands;
-      rest_once = Distinct-back (lower_nodes es) (nodes_of more) t.once.1;
-      nodes_left = omega (arith, length-append (lower_nodes es) (nodes_of more));
-    }
+pub chain_few : (f : ℕ) (ns : Nodes) → length (top_chain ns) + length (nodes_of (down_of f (from_reached f ns))) ≤ length (nodes_of ns)
+unfolding nodes_of
+chain_few f = nodes_by (λ es. Unit {0}) (grind (arith, lead_few, length-append {A = ℕ}))
 
--- ---- where a chain leads
+pub some_turn : (ns : Nodes) → link_to ns ≢ 0 → 1 ≤ length (top_chain ns)
+some_turn ns n = grind arith
 
-abbrev Route : Type 0
-Route = List (ℕ × ℕ) × ℕ
+-- ---- the entries past a record
 
-abbrev route : ℕ → Nodes → Route
-route f nodes = (way f nodes, spot f nodes)
+past_none : (f : ℕ) (es : Entries) → begun_in f es ≡ 0 → past f es ≡ es
+past_none f = entries_by (grind (arith, nat_tests))
 
--- from its first node
-abbrev route_here : ℕ → Nodes → Route
-route_here f nodes = if leads_down f false (entries_of nodes) then ((link_to nodes, down_at f (entries_of nodes)) ∷ way_below f (entries_of nodes), spot_below f (entries_of nodes)) else ([], link_to nodes)
+-- the First of the first of them comes next
+first_behind : (b : List ℕ) (at f m : ℕ) (xs : List ℕ) (other : Option ℕ) (k : ℕ) (es : Entries) → SayEntries b at k es → m ≡ k + begun_in f es → begun_in f es < entry_count es → first_past f (entry_firsts (past f es) ++ xs) other ≡ Some (first_at b at m)
+unfolding entry_firsts
+first_behind b at f m xs other = entries_from (grind (arith, nat_tests))
 
--- from that of another one, unless these others reach the record
-abbrev route_along : ℕ → Nodes → Nodes → Route
-route_along f best others = if chain_reaches f others then route f others else route_here f best
+-- ---- the walk
 
-route_is : (f : ℕ) (nodes : Nodes) → IsNode nodes → route f nodes ≡ route_along f nodes (rest_of nodes)
-unfolding way spot
-route_is f nodes is = grind arith
-
-route_on : (f : ℕ) (best nodes : Nodes) → IsNode nodes → route_along f best nodes ≡ route_along f (if reaches f (entries_of nodes) then nodes else best) (rest_of nodes)
-route_on f best nodes is = grind (arith, route_is f nodes is)
-
--- After so many turns along a chain these nodes are left, `here` the first of them, and `best` is the last node passed that reaches the record.
-pub record ChainAt (b : List ℕ) (f turn levels : ℕ) (nodes : Nodes) (best here : Spot) : Type 0 where
-  pub left : Nodes
-  pub tree : IsTree b levels left
-  pub sees : SeesNode b (link_to left) f here
+-- After so many turns the walk is at `here`, and `best_of` are the nodes from the last one on that was passed and reaches the record.
+pub record ChainAt (b : List ℕ) (f turn : ℕ) (nodes : Nodes) (best here : Stop) : Type 0 where
+  pub room : ℕ
+  pub entries : Entries
+  pub more : Nodes
+  pub rest : Rest (node here.place room entries more) nodes
+  pub meets : Meets b f here
   pub best_of : Nodes
-  pub best_tree : IsTree b levels best_of
-  pub best_sees : SeesNode b (link_to best_of) f best
-  pub route_is : route f nodes ≡ route_along f best_of (rest_of left)
-  pub fewer : length (nodes_of left) + turn ≤ length (nodes_of nodes)
+  pub place_is : best.place ≡ link_to best_of
+  pub best_meets : Meets b f best
+  pub reached_is : from_reached f nodes ≡ (if chain_reaches f more then from_reached f more else best_of)
+  pub behind_is : behind_of f best_of ≡ entry_firsts (past f entries) ++ firsts_of more
+  pub turns : length (top_chain more) + (turn + 1) ≡ length (top_chain nodes)
 
-pub chain_start : (b : List ℕ) (f at levels : ℕ) (nodes : Nodes) (here : Spot) → IsTree b levels nodes → at ≡ link_to nodes → SeesNode b at f here → ChainAt b f 0 levels nodes here here
-chain_start b f at levels nodes here t e s =
-    let sees = subst (λ (x : ℕ). SeesNode b x f here) e s in
-    record { left = nodes; tree = t; sees = sees; best_of = nodes; best_tree = t; best_sees = sees; route_is = route_is f nodes t.is_node; fewer = omega arith }
+pub chain_start : (b : List ℕ) (f : ℕ) (ns : Nodes) (here : Stop) → link_to ns ≢ 0 → here.place ≡ link_to ns → Meets b f here → ChainAt b f 0 ns here here
+chain_start b f no_node here n e m = absurd (n refl)
+chain_start b f (node place room es more) here n e m = record {
+  room = room;
+  entries = es;
+  more = more;
+  rest = rw e whole;
+  meets = m;
+  best_of = node place room es more;
+  place_is = e;
+  best_meets = m;
+  reached_is = refl;
+  behind_is = refl;
+  turns = omega arith;
+}
 
-module _ {b : List ℕ} {f turn levels : ℕ} {nodes : Nodes} {best here : Spot} (tiled : AreTiles b 8 (length b) (tiles b)) (c : ChainAt b f turn levels nodes best here) where
-  here_top : Top b levels c.left
-  here_top = top b levels c.left c.tree
+module _ {b : List ℕ} {f turn at : ℕ} {best here : Stop} (has : HasIndex b at) (c : ChainAt b f turn (index_at b at) best here) where
+  standing : Standing b (node here.place c.room c.entries c.more)
+  standing = rest_stands c.rest (index_standing has)
 
-  next_link : here.next ≡ link_to (rest_of c.left)
-  next_link = c.sees.next_is ∙ here_top.next_is
+  parts : NodeParts b 7 here.place c.room c.entries c.more
+  parts = node_parts standing.stands
 
-  more_left : here.next ≢ 0 → IsTree b levels (rest_of c.left)
-  more_left n = record { stands = here_top.rest; is_node = node_there (rest_of c.left) (λ z. n (next_link ∙ z)); once = here_top.rest_once; from = past_entries here_top.low (entries_of c.left); upto = here_top.high; order = here_top.order }
+  count : here.begun ≡ begun_in f c.entries
+  count = counted_begun b here.place f here.begun c.entries c.meets.begun parts.says.used_is parts.says.say_entries
 
-  -- the next node of the chain
-  pub next_tree : here.next ≢ 0 → SomeNode b here.next
-  next_tree n = let t = more_left n in record { levels = levels; nodes = rest_of c.left; tiled = tiled; stands = t.stands; is_node = t.is_node; link = next_link }
+  used : here.head.used ≡ entry_count c.entries
+  used = c.meets.head.used_is ∙ parts.says.used_is
 
-  pub better_chain : (next best' : Spot) → here.next ≢ 0 → SeesNode b here.next f next → (0 < next.begun → best' ≡ next) → (next.begun ≡ 0 → best' ≡ best) → ChainAt b f (turn + 1) levels nodes best' next
-  better_chain next best' n s taken kept =
-      let there = rest_of c.left in
-      let t = more_left n in
-      let p = top b levels there t in
-      let sees = subst (λ (x : ℕ). SeesNode b x f next) next_link s in
-      let reached = rw (← counted_begun b (link_to there) f next.begun (entries_of there) sees.begun p.used_is p.stand.left.say) at (reached_is f p.low p.high (entries_of there) p.stand.order) in
-      let on = rw reached at (c.route_is ∙ route_on f c.best_of there t.is_node) in
-      let fewer : length (nodes_of there) + (turn + 1) ≤ length (nodes_of nodes) = omega (arith, c.fewer, here_top.nodes_left) in
-      elim (cases_lt 0 next.begun) [
-        | inl lt ↦ record { left = there; tree = t; sees = sees; best_of = there; best_tree = t; best_sees = subst (SeesNode b (link_to there) f) (sym (taken lt)) sees; route_is = rw (lt-ltb 0 next.begun lt) at on; fewer = fewer }
-        | inr le ↦ record { left = there; tree = t; sees = sees; best_of = c.best_of; best_tree = c.best_tree; best_sees = subst (SeesNode b (link_to c.best_of) f) (sym (kept (omega arith))) c.best_sees; route_is = rw (le-ltb 0 next.begun le) at on; fewer = fewer }
-      ]
+  next_link : here.head.next ≡ link_to c.more
+  next_link = c.meets.head.next_is ∙ parts.says.next_is
+
+  pub next_node : here.head.next ≢ 0 → SomeNode b here.head.next
+  next_node n = rest_node has (rest_more c.rest) (node_there c.more (λ z. n (next_link ∙ z))) next_link
+
+  pub next_turn : here.head.next ≢ 0 → turn + 2 ≤ length (top_chain (index_at b at))
+  next_turn n = omega (arith, c.turns, some_turn c.more (λ z. n (next_link ∙ z)))
+
+  all_past : here.head.used ≤ here.begun → past f c.entries ≡ no_entry
+  all_past le = no_entries (past f c.entries) (omega (arith, begun_past f c.entries, count, used))
+
+  pub chain_next : (next best' : Stop) → (here.head.used ≤ here.begun) × (here.head.next ≢ 0) → next.place ≡ here.head.next → Meets b f next → (0 < next.begun → best' ≡ next) → (next.begun ≡ 0 → best' ≡ best) → ChainAt b f (turn + 1) (index_at b at) best' next
+  unfolding firsts_of InOrder
+  chain_next next best' on e m taken kept = at_more c.more refl
+    where
+      at_more : (more : Nodes) → c.more ≡ more → ChainAt b f (turn + 1) (index_at b at) best' next
+      at_more no_node x = absurd (on.1 (next_link ∙ ap link_to x))
+      at_more (node place room es more) x =
+          let p : place ≡ next.place = sym (e ∙ next_link ∙ ap link_to x) in
+          let y : c.more ≡ node next.place room es more = rw p at x in
+          let rest : Rest (node next.place room es more) (index_at b at) = rw y at (rest_more c.rest) in
+          let st = rest_stands rest (index_standing has) in
+          let says = (node_parts st.stands).says in
+          let n = counted_begun b next.place f next.begun es m.begun says.used_is says.say_entries in
+          let r = reached_is f 0 record_number_limit es st.order.0 in
+          let there = rw y at c.reached_is in
+          let behind = rw (all_past on.0, y) at c.behind_is in
+          let turns = rw y at c.turns in
+          elim (cases_lt 0 next.begun) [
+            | inl lt ↦ rw (taken lt) (record { room = room; entries = es; more = more; rest = rest; meets = m; best_of = node next.place room es more; place_is = refl; best_meets = m; reached_is = grind (arith, nat_tests, there, r, n, lt); behind_is = refl; turns = omega arith })
+            | inr le ↦ rw (kept (omega arith)) (record { room = room; entries = es; more = more; rest = rest; meets = m; best_of = c.best_of; place_is = c.place_is; best_meets = c.best_meets; reached_is = grind (arith, nat_tests, there, r, n, le); behind_is = rw (past_none f es (omega arith)) behind; turns = omega arith })
+          ]
 
   -- ---- the chain is over, or its other entries are past the record
 
-  link_there : (levels : ℕ) (ns : Nodes) → IsTree b levels ns → link_to ns ≢ 0
-  link_there levels ns t e = subst IsNode (none_there b levels ns tiled t.stands.has e) t.is_node
+  no_more : here.head.next ≡ 0 → c.more ≡ no_node
+  no_more e = none_there b 8 c.more has.tiled parts.more_stands.has (sym next_link ∙ e)
 
-  over : (here.begun < here.used) ⊎ (here.next ≡ 0) → chain_reaches f (rest_of c.left) ≡ false
-  over (inl lt) =
-      let u = here_top.used_is in
-      let begun = counted_begun b (link_to c.left) f here.begun (entries_of c.left) c.sees.begun here_top.used_is here_top.stand.left.say in
-      chain_not_reached f (past_entries here_top.low (entries_of c.left)) here_top.high (rest_of c.left) here_top.order (ends_past f here_top.low here_top.high (entries_of c.left) here_top.stand.order (omega (arith, begun, c.sees.used_is)))
-  over (inr e) = ap (chain_reaches f) (none_there b levels (rest_of c.left) tiled here_top.rest.has (sym next_link ∙ e))
+  over : (here.begun < here.head.used) ⊎ (here.head.next ≡ 0) → chain_reaches f c.more ≡ false
+  unfolding InOrder
+  over (inl lt) = chain_not_reached f (past_entries 0 c.entries) record_number_limit c.more standing.order.1 (ends_past f 0 record_number_limit c.entries standing.order.0 (omega (arith, count, used)))
+  over (inr e) = ap (chain_reaches f) (no_more e)
 
-  out : (ns : Nodes) → best.begun ≡ begun_in f (entries_of c.best_of) → leads_down f false (entries_of c.best_of) ≡ is_some ns → best.lower ≡ link_to ns → (IsNode ns → link_to ns ≢ 0) → (is_some ns ≡ true → LedBy f (entries_of c.best_of) ns) → route_here f c.best_of ≡ (way_from f best ns, end_from f best ns)
-  out no_node k d e n w = rw (d, e) (ap (λ (x : ℕ). ([], x)) (sym c.best_sees.place_is))
-  out (node place room fs more) k d e n w = let t = ne_eqb best.lower 0 (λ z. n tt (sym e ∙ z)) in let r = w refl in rw (d, t) (grind (arith, r.way_is, r.spot_is, r.entry_is, c.best_sees.place_is, k))
+  ahead : (here.begun < here.head.used) ⊎ (here.head.next ≡ 0) → (other : Option ℕ) → first_past f (entry_firsts (past f c.entries) ++ firsts_of c.more) other ≡ first_after b here other
+  unfolding firsts_of entry_firsts
+  ahead o other = elim (cases_lt here.begun here.head.used) [
+    | inl lt ↦ rw (lt-ltb here.begun here.head.used lt) (first_behind b here.place f here.begun (firsts_of c.more) other 0 c.entries parts.says.say_entries (omega (arith, count)) (omega (arith, count, used)))
+    | inr le ↦ rw (le-ltb here.begun here.head.used le, all_past le, no_more (elim o [ inl lt ↦ absurd (omega arith) | inr z ↦ z ])) refl
+  ]
 
-  pub spot_found : IsTree b levels nodes → (here.begun < here.used) ⊎ (here.next ≡ 0) → SpotIs b f levels nodes best
-  spot_found t o =
-      let es = entries_of c.best_of in
-      let low = lead f no_node es in
-      let p = top b levels c.best_of c.best_tree in
-      let count = counted_begun b (link_to c.best_of) f best.begun es c.best_sees.begun p.used_is p.stand.left.say in
-      let led_by = below b f p.levels_below (link_to c.best_of) 0 best.begun p.low p.high no_node es p.stand (record { link = refl; tree = λ x. absurd x }) (omega (arith, count)) in
-      let lower = c.best_sees.lower_is ∙ led_by.link in
-      let begun : is_some low ≡ true → 0 < begun_in f es = λ t. grind (arith, nat_tests, lead_none f no_node es, t) in
-      let all = c.route_is ∙ rw (over o) (out low count (leads b (tiles b) p.levels_below f no_node es p.stand.left.names) lower (λ is. link_there p.levels_below low (led_by.tree is)) (λ t. led f p.low p.high no_node es p.stand.order (begun t) t)) in
+  pub chain_walked : at ≢ 0 → (here.begun < here.head.used) ⊎ (here.head.next ≡ 0) → ChainWalked b f (index_at b at) (record { best = best; here = here })
+  chain_walked some o =
+      let all : from_reached f (index_at b at) ≡ c.best_of = rw (over o) at c.reached_is in
       record {
-        sees = subst (λ (x : ℕ). SeesNode b x f best) (sym c.best_sees.place_is) c.best_sees;
-        down = p.levels_below;
-        low = low;
-        lower_is = lower;
-        fewer = λ x. p.fewer;
-        below = λ x. led_by.tree (node_there low (λ z. x (lower ∙ z)));
-        leads = λ x. rw count (begun (some_node low (node_there low (λ z. x (lower ∙ z)))));
-        way_is = ap (λ (r : Route). r.0) all;
-        end_is = ap (λ (r : Route). r.1) all;
+        place_is = rw all c.place_is;
+        node = rest_node has (from_rest f (index_at b at)) (from_top f (index_at b at) (node_there_by at (index_at b at) has.index.link_is some)).0 (rw all c.place_is);
+        meets = c.best_meets;
+        here_node = rest_node has c.rest tt refl;
+        here_meets = c.meets;
+        ahead = λ other. rw (all, c.behind_is) (ahead o other);
       }
 
-  pub best_node : SomeNode b best.place
-  best_node = record { levels = levels; nodes = c.best_of; tiled = tiled; stands = c.best_tree.stands; is_node = c.best_tree.is_node; link = c.best_sees.place_is }
-
-  pub spot_never : IsTree b levels nodes → length b ≤ turn → ⊥
-  spot_never t le = absurd (omega (arith, few b levels nodes tiled t.once t.stands.has, here_top.nodes_left, c.fewer))
+  pub chain_never : length b ≤ turn → ⊥
+  chain_never le = absurd (omega (arith, few_nodes has, chain_few f (index_at b at), c.turns))

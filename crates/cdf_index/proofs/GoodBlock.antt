@@ -11,7 +11,5 @@ good_block b s before v after good sound all rec leaf found plain =
     let order = in_order 0 (suc record_number_limit) (leaves_of v.index) (index_ascends b s.records v.vdr v.index (index_ruled b s before v after good all)) (seen leaf) one.0 in
     let small : leaf.last ≤ record_number_limit = omega (arith, order.before) in
     let fit = of_each (LeafFits b s.records v.vdr) (leaves_of v.index) (seen leaf) ((Each-split (VariableFits b s.records) before (v ∷ after) (subst (Each (VariableFits b s.records)) all sound.variables_fit)).1.0).2 one.0 in
-    let block : BlockFits b v.vdr (seen leaf) false = rw plain at fit.1 in
-    let size : plain_size b v.vdr (seen leaf) ≡ (leaf.last + 1 - leaf.first) * record_bytes b v.vdr = ap (λ (n : ℕ). n * record_bytes b v.vdr) (count_is (seen leaf) small order.ordered) in
-    let long : 12 + (leaf.last + 1 - leaf.first) * record_bytes b v.vdr ≤ size_at b leaf.at = subst (λ (n : ℕ). 12 + n ≤ size_at b leaf.at) size block in
-    (record { plain = plain; ordered = order.ordered; small = small; inside = omega (arith, (tile_lies b 8 (length b) s.records leaf.at good.has_shape.tiled (block_in b s.records leaf.at fit.0)).high) }, has.0, has.1)
+    let inside = (tile_lies b 8 (length b) s.records leaf.at good.has_shape.tiled (block_in b s.records leaf.at fit.0)).high in
+    (record { plain = plain; ordered = order.ordered; small = small; inside = grind (arith, fit.1, inside, count_is (seen leaf) small order.ordered) }, has.0, has.1)

@@ -1,9 +1,11 @@
 -- What is read at one node leads the search on.
-use Rattle.cdf_index.proofs.Common.{AreTiles, Ascends, At, ChainFrom, Entries, HasNodes, In, IsNode, List, LowerAreZero, NamesIn, NextsAreZero, NodeInside, Nodes, None, SaysEntry, Scanned, Some, SomeNode, arith, entry_count, eqb, find_entry, find_in, last_at, le-ltb, leaf, length, link_to, linkable-in, lt-ltb, next_of, no_node, node, nodes_of, nodes_passed, offset_at, passed_from, refl, room_at, subst, suc, sym, tile_lies, tiles, type_at, used_count, vxr_type, zero, ℕ, ◌*◌, ◌+◌, ◌<◌, ◌∙◌, ◌≡◌, ◌≢◌, ◌≤◌}
+use Rattle.cdf_index.proofs.Common.{AreTiles, Ascends, At, ChainFrom, Entries, HasNodes, IsNode, List, LowerAreZero, NamesIn, NextsAreZero, NodeInside, Nodes, None, SaysEntry, Scanned, Some, SomeNode, arith, entry_count, eqb, find_entry, find_in, last_at, le-ltb, leaf, length, link_to, linkable-in, lt-ltb, next_of, no_node, node, nodes_of, nodes_passed, offset_at, passed_from, refl, room_at, subst, suc, sym, tile_lies, tiles, type_at, used_count, vxr_type, zero, ℕ, ◌*◌, ◌+◌, ◌<◌, ◌∙◌, ◌≡◌, ◌≢◌, ◌≤◌, Leaf, Option, Names, lower_nodes, nat_tests, length-append}
 use Rattle.cdf_format.proofs.ChainsLemmas.{some_place}
 use Rattle.cdf_index.proofs.EntriesLeft.{EntriesLeft}
 pub use Rattle.cdf_index.proofs.FirstEntry.{node_there}
-use Rattle.cdf_index.proofs.FirstEntry.{AtEntry, Opened, enter, entry_here, first_entry, none_here, opened, opened_inside, opened_zero, pass}
+use Rattle.cdf_index.proofs.FirstEntry.{Opened, first_entry, opened, opened_inside}
+use Rattle.cdf_index.proofs.ByParts.{nodes_from}
+use Rattle.cdf_index.proofs.Saying.{no_entries}
 
 -- ---- the first node of a chain
 
@@ -13,23 +15,41 @@ none_there b levels no_node t h e = refl
 none_there b zero (node place room entries more) t h e = absurd h
 none_there b (suc levels) (node place room entries more) t h e = absurd (some_place b (tiles b) (length b) place t (linkable-in b (tiles b) vxr_type place h.0.linkable) e)
 
--- ---- where it is safe to read
-
 pub node_of : {b : List ℕ} {at : ℕ} → AreTiles b 8 (length b) (tiles b) → ChainFrom b at → at ≢ 0 → SomeNode b at
 node_of tiled c some = record { levels = c.levels; nodes = c.nodes; tiled = tiled; stands = c.stands; is_node = node_there c.nodes (λ z. some (c.link_is ∙ z)); link = c.link_is }
 
 node_opened : {b : List ℕ} {at : ℕ} → (n : SomeNode b at) → Opened b n.levels at n.nodes
 node_opened {b = b} {at = at} n = opened b n.levels at n.nodes n.stands n.is_node n.link
 
--- what an entry names is a tile
-named_at : {b : List ℕ} {levels at : ℕ} (k n m : ℕ) → k + n ≡ m → (entries : Entries) → EntriesLeft b levels at k entries → n < entry_count entries → In (offset_at b at m) (tiles b)
-named_at {b = b} {at = at} k zero m e entries l lt = let z : k ≡ m = omega arith in subst (λ (x : ℕ). In (offset_at b at x) (tiles b)) z (first_entry entries l lt).named
-named_at k (suc n) m e entries l lt = let f = first_entry entries l (omega arith) in named_at (k + 1) n m (omega arith) f.rest f.left (omega (arith, f.adds.many))
+-- ---- the entries of a node, from number i on
 
+record From (b : List ℕ) (down at i : ℕ) (es : Entries) : Type 0 where
+  rest : Entries
+  left : EntriesLeft b down at i rest
+  many : i + entry_count rest ≡ used_count b at
+  passed : (rec : ℕ) → ((j : ℕ) → j < i → last_at b at j < rec) → ((other : Option Leaf) → find_entry rec es other ≡ find_entry rec rest other) × ((other : ℕ) → passed_from rec es other ≡ passed_from rec rest other)
+
+module _ {b : List ℕ} {down at : ℕ} where
+  from : (n k i : ℕ) → k + n ≡ i → (es : Entries) → EntriesLeft b down at k es → k + entry_count es ≡ used_count b at → i ≤ used_count b at → From b down at i es
+  from zero k i e es l many most = let z : k ≡ i = omega arith in record { rest = es; left = subst (λ (x : ℕ). EntriesLeft b down at x es) z l; many = omega arith; passed = λ rec before. (λ other. refl, λ other. refl) }
+  from (suc n) k i e es l many most =
+      let f = first_entry es l (omega arith) in
+      let r = from n (k + 1) i (omega arith) f.rest f.left (omega (arith, f.adds.many)) most in
+      record {
+        rest = r.rest;
+        left = r.left;
+        many = r.many;
+        passed = λ rec before. (let t = lt-ltb (last_at b at k) rec (before k (omega arith)) in let p = r.passed rec before in (λ other. rw t at (f.adds.find rec other) ∙ p.0 other, λ other. rw t at (f.adds.passed rec other) ∙ p.1 other));
+      }
+
+node_from : {b : List ℕ} {levels at : ℕ} {ns : Nodes} → (o : Opened b levels at ns) → (i : ℕ) → i ≤ used_count b at → From b o.down at i o.entries
+node_from o i most = from i 0 i (omega arith) o.entries o.parts.left (omega (arith, o.parts.says.used_is)) most
+
+-- what an entry names is a tile
 pub names_in : (b : List ℕ) (at : ℕ) → SomeNode b at → NamesIn b at
-names_in b at n j lt =
-    let o = node_opened n in
-    omega (arith, tile_lies b 8 (length b) (tiles b) (offset_at b at j) n.tiled (named_at 0 j j (omega arith) o.entries o.parts.left (omega (arith, o.parts.says.used_is))))
+names_in b at n j lt = let r = node_from (node_opened n) j (omega arith) in omega (arith, tile_lies b 8 (length b) (tiles b) (offset_at b at j) n.tiled (first_entry r.rest r.left (omega (arith, r.many))).named)
+
+-- ---- where it is safe to read
 
 -- its Firsts ascend, and its Lasts
 pub node_firsts : (b : List ℕ) (at used : ℕ) → SomeNode b at → used ≡ used_count b at → Ascends b at 28 used
@@ -45,56 +65,31 @@ node_inside b at n =
 
 -- ---- from the node at which a search is
 
--- what is left from entry number i on
-record Left {b : List ℕ} {levels at : ℕ} {ns : Nodes} (o : Opened b levels at ns) (rec turn i : ℕ) (nodes : Nodes) : Type 0 where
-  low : Nodes
-  entry : AtEntry o turn i nodes low
-  same : find_entry rec entry.rest (find_in rec o.more) ≡ find_in rec nodes
-  steps : suc (passed_from rec entry.rest (nodes_passed rec o.more)) + turn ≡ nodes_passed rec nodes
-  zero : NextsAreZero nodes → LowerAreZero entry.rest × (levels + turn ≤ 8) × (o.more ≡ no_node)
-
 module _ {b : List ℕ} {rec turn at : ℕ} {nodes : Nodes} (a : At b rec turn nodes at) (inside : NodeInside b at) where
   here : Opened b a.left.levels at a.left.nodes
   here = opened_inside a.left inside
 
-  left_over : (i : ℕ) → ((j : ℕ) → j < i → last_at b at j < rec) → i ≤ used_count b at → Left here rec turn i nodes
-  unfolding find_in nodes_passed nodes_of
-  left_over zero before most =
-      let o = here in
-      record {
-        low = no_node;
-        entry = enter o no_node (omega (arith, a.fewer));
-        same = rw o.is at a.same;
-        steps = omega (arith, rw o.is at a.passed);
-        zero = λ z. (let y = a.zero z in let n = opened_zero o y.0 in (n.0, y.2 (rw o.is tt), n.1));
-      }
-  left_over (suc j) before most =
-      let h = left_over j (λ k lt. before k (omega arith)) (omega arith) in
-      let f = entry_here here h.entry (omega arith) in
-      let t = lt-ltb (last_at b at j) rec (before j (omega arith)) in
-      record {
-        low = f.low;
-        entry = pass here h.entry (suc j) (omega arith) f;
-        same = sym (rw t at (f.adds.find rec (find_in rec here.more))) ∙ h.same;
-        steps = omega (arith, h.steps, rw t at (f.adds.passed rec (nodes_passed rec here.more)));
-        zero = λ z. (let y = h.zero z in ((f.adds.zero y.0).1, y.1, y.2));
-      }
-
   module _ {i : ℕ} (s : Scanned b rec at i) where
-    over : Left here rec turn i nodes
-    over = left_over i s.before s.most
+    over : From b here.down at i here.entries
+    over = node_from here i s.most
+
+    same : find_entry rec over.rest (find_in rec here.more) ≡ find_in rec nodes
+    unfolding find_in
+    same = sym ((over.passed rec s.before).0 (find_in rec here.more)) ∙ rw here.is at a.same
+
+    steps : suc (passed_from rec over.rest (nodes_passed rec here.more)) + turn ≡ nodes_passed rec nodes
+    unfolding nodes_passed
+    steps = omega (arith, (over.passed rec s.before).1 (nodes_passed rec here.more), rw here.is at a.passed)
 
     -- the whole node was passed
     pub look_next : (link : ℕ) → i ≡ used_count b at → link ≡ next_of b at → At b rec (turn + 1) nodes link
-    unfolding find_entry passed_from NextsAreZero
+    unfolding find_entry passed_from
     look_next link e x =
-        let none = none_here here over.entry (omega arith) in
+        let none = no_entries over.rest (omega (arith, over.many)) in
         record {
           left = record { levels = a.left.levels; nodes = here.more; stands = here.more_stands; link_is = x ∙ here.parts.says.next_is };
-          same = rw none at over.same;
-          passed = omega (arith, rw none at over.steps);
-          fewer = omega (arith, over.entry.fewer);
-          zero = λ z. (let y = over.zero z in (rw y.2 tt, omega (arith, y.1, here.deep), λ is. absurd (rw y.2 at is)));
+          same = rw none at same;
+          passed = omega (arith, rw none at steps);
         }
 
     -- an entry tells: no leaf has the record, or the search goes on below it, or it names the leaf
@@ -105,22 +100,19 @@ module _ {b : List ℕ} {rec turn at : ℕ} {nodes : Nodes} (a : At b rec turn n
 
     pub look_tells : (first last place : ℕ) → i ≢ used_count b at → SaysEntry b at i first last place → Tells first last place
     look_tells first last place ne q =
-        let f = entry_here here over.entry (omega (arith, s.most)) in
+        let f = first_entry over.rest over.left (omega (arith, over.many, s.most)) in
         let t = le-ltb (last_at b at i) rec (s.stop (omega (arith, s.most))) in
-        let same = sym over.same in
         rw (sym q.first_is, sym q.last_is, sym q.offset_is) (record {
-          nothing = λ h. same ∙ rw (t, lt-ltb rec _ h) at (f.adds.find rec (find_in rec here.more));
+          nothing = λ h. sym same ∙ rw (t, lt-ltb rec _ h) at (f.adds.find rec (find_in rec here.more));
           below = λ h six.
               (let u = le-ltb _ _ h in
               let m = f.of_lower six in
               record {
                 left = record { levels = here.down; nodes = f.low; stands = f.stands; link_is = m.0 };
-                same = sym (same ∙ rw (t, u) at (f.adds.find rec (find_in rec here.more)) ∙ m.2 rec);
-                passed = omega (arith, over.steps, rw (t, u) at (f.adds.passed rec (nodes_passed rec here.more)));
-                fewer = omega (arith, (pass here over.entry (i + 1) refl f).fewer);
-                zero = λ z. (let y = over.zero z in ((f.adds.zero y.0).0, omega (arith, y.1, here.deep), λ is. omega (arith, y.1, here.deep)));
+                same = sym (sym same ∙ rw (t, u) at (f.adds.find rec (find_in rec here.more)) ∙ m.2 rec);
+                passed = omega (arith, steps, rw (t, u) at (f.adds.passed rec (nodes_passed rec here.more)));
               });
-          found = λ h no. same ∙ rw (t, le-ltb _ _ h) at (f.adds.find rec (find_in rec here.more)) ∙ (f.of_block no).1 rec;
+          found = λ h no. sym same ∙ rw (t, le-ltb _ _ h) at (f.adds.find rec (find_in rec here.more)) ∙ (f.of_block no).1 rec;
         })
 
 -- ---- how many nodes are passed
@@ -128,3 +120,8 @@ module _ {b : List ℕ} {rec turn at : ℕ} {nodes : Nodes} (a : At b rec turn n
 pub one_passed : (rec : ℕ) (ns : Nodes) → IsNode ns → 1 ≤ nodes_passed rec ns
 unfolding nodes_passed
 one_passed rec ns is = grind arith
+
+-- no more than there are, and where no node has one behind it, no more than there are levels
+pub few_passed : (b ts : List ℕ) (rec levels : ℕ) (ns : Nodes) → HasNodes b ts levels ns → (nodes_passed rec ns ≤ length (nodes_of ns)) × (NextsAreZero ns → nodes_passed rec ns ≤ levels)
+unfolding nodes_passed passed_from nodes_of lower_nodes HasNodes Names NextsAreZero LowerAreZero
+few_passed b ts rec = nodes_from (λ levels es. (other : ℕ) → Names b ts levels es → (passed_from rec es other ≤ length (lower_nodes es) + other) × (LowerAreZero es → other ≤ levels → passed_from rec es other ≤ levels)) (grind (arith, nat_tests, length-append {A = ℕ}))

@@ -1,5 +1,5 @@
 -- One variable has another index by now, and an edit met its VXRhead and VXRtail, nodes and unused records alone: what follows of the image, and what each record keeps.
-use Rattle.cdf_index.proofs.Common.{fits, has, typed, Act, AllKeep, Allowances, Among, Anything, Avoids, Avoids-append, Away, Away-append, Distinct, Each, Each-in, Field, Good, HasShape, Hold, In, In-append, IsChain, Kept, Kind, List, Mark, NodeFits, Nodes, OneVariable, Only, OutsideFields, OwnedOnce, Same, Shape, StandsAmong, VariableShape, Within, Within-append, [], after_ours, all_unmarked, all_unmarked-away, all_variable_records, ap, apart, arith, attributes_kept, avoided, away-avoids, away-within, behind_in, cdr_kept, cdr_type, count_of, cpr_type, cvvr_type, eof, false, fixed_size, flat_map, gdr_in, gdr_type, gdr_typed, gdr_uir_head, good_by_its_shape, has_room, head_of, image_limit, index_rows, inl, inr, is_a, is_a-in, is_a-type, is_in, is_max_rec, is_record_type, is_taken, keep_all, keep_file, keep_kinds, keep_places, keep_unused, keep_variable_parts, keeps_all_attributes, keeps_fields, keeps_file, keeps_kind, kept, kept_away, kind_ours, leaves_of, length, linkable-in, linkable-type, long, mark, nodes_of, nodes_stand, number, of_le, other_kind, ours, own_rules, owned, places_of, read_types, refl, room_at, shape, shapes_of, signed_limit, size_at, sound, spliced_times, stood, subst, suc, sym, the_one, through, tile, tile_lies, times, times-append, times-none, times-once, true, type_at, type_in, uir_next_uir, uir_prev_uir, uir_type, unmarked, unmarked-away, variable_records, variable_typed, variable_types, variables_chain, variables_in, vdr_max_rec, vdr_vxr_head, vdr_vxr_tail, vvr_type, vxr_n_used_entries, vxr_type, with_shapes, within, word_kept, ℕ, ◌*◌, ◌++◌, ◌+◌, ◌∙◌, ◌∷◌, ◌≡◌, ◌≢◌, ◌≤◌, ◌⊎◌}
+use Rattle.cdf_index.proofs.Common.{fits, has, typed, Act, AllKeep, Allowances, Among, Anything, Avoids, Avoids-append, Away, Away-append, Distinct, Each, Each-in, Field, Good, Hold, In, In-append, IsChain, Kept, Kind, List, ◌<◌, Mark, NodeFits, Nodes, OneVariable, Only, OutsideFields, OwnedOnce, Same, Shape, StandsAmong, VariableShape, Within, Within-append, [], after_ours, all_unmarked, all_unmarked-away, all_variable_records, ap, apart, arith, attributes_kept, avoided, away-avoids, away-within, behind_in, cdr_kept, cdr_type, count_of, cpr_type, cvvr_type, eof, false, fixed_size, flat_map, gdr_in, gdr_type, gdr_typed, gdr_uir_head, good_by_its_shape, has_room, head_of, image_limit, index_rows, inl, inr, is_a, is_a-in, is_a-type, is_in, is_max_rec, is_record_type, is_taken, keep_all, keep_file, keep_kinds, keep_places, keep_unused, keep_variable_parts, keeps_all_attributes, keeps_fields, keeps_file, keeps_kind, kept, kept_away, kind_ours, leaves_of, length, linkable-in, linkable-type, long, mark, nodes_of, nodes_stand, number, of_le, other_kind, ours, own_rules, owned, places_of, read_types, refl, room_at, shape, shapes_of, signed_limit, size_at, sound, spliced_times, stood, subst, suc, sym, the_one, through, tile, tile_lies, times, times-append, times-none, times-once, true, type_at, type_in, uir_next_uir, uir_prev_uir, uir_type, unmarked, unmarked-away, variable_records, variable_typed, variable_types, variables_chain, variables_in, vdr_max_rec, vdr_vxr_head, vdr_vxr_tail, vvr_type, vxr_n_used_entries, vxr_type, with_shapes, within, word_kept, ℕ, ◌*◌, ◌++◌, ◌+◌, ◌∙◌, ◌∷◌, ◌≡◌, ◌≢◌, ◌≤◌, ◌⊎◌}
 use Rattle.cdf_edits.proofs.Common.{IsIndex, Keeps, Stays, Edit}
 use Rattle.cdf_edits.proofs.Commands.KeptRecords.{Stood, keep_attributes, keep_variables, keeps_stood}
 use Rattle.cdf_edits.proofs.Edits.IndexEdited.{IndexEdit, vdr_size}
@@ -86,9 +86,6 @@ module _ {b now : List ℕ} {kind : Kind} {before : List VariableShape} {own : V
   abbrev entries : List Mark
   entries = index_marks kind v nodes f
 
-  h : HasShape b s
-  h = (sound good at).has_shape
-
   -- records of variables that are not of this one
   beside : (m : ℕ) → In m (all_variable_records s) → (In m (variable_records own) → ⊥) → Away (space ++ entries) (type_at b m) m
   beside m i out =
@@ -139,11 +136,10 @@ module _ {b now : List ℕ} {kind : Kind} {before : List VariableShape} {own : V
         stands m inside (kept_away x.edit m (type_at b m) inside refl (beside m (sub m i) (λ j. out m j i)))
 
     vdr_keeps : Stays b now v (front ++ heads)
-    vdr_keeps = record {
-      stands = subst (In v) (sym same) (x.edit.sub v (tile good at));
-      size_is = vdr_size good at index_edit;
-      same = λ n lt out. (part n (n + 1) (aside front n out) (omega arith)).each (v + n) (omega arith) (omega arith);
-    }
+    vdr_keeps =
+        let there = subst (In v) (sym same) (x.edit.sub v (tile good at)) in
+        let outside = λ (n : ℕ) (lt : n < size_at b v) (out : OutsideFields (front ++ heads) n). (part n (n + 1) (aside front n out) (omega arith)).each (v + n) (omega arith) (omega arith) in
+        search (there, outside, vdr_size good at index_edit)
 
     cpr_stands : (m : ℕ) → In m own.cpr → Kept b now m
     cpr_stands m c = kept x.edit m cpr_type (behind_in good at m (cpr_behind own m c)) (is_a-type b s.records cpr_type m (Each-in (λ y. is_a b s.records cpr_type y ≡ true) own.cpr (fits good at).3 m c)) x.tests.cpr_clear
@@ -163,11 +159,12 @@ module _ {b now : List ℕ} {kind : Kind} {before : List VariableShape} {own : V
 
     listed_all : (m : ℕ) → In m s.unused → is_taken b acts m ≡ false → Avoids (space ++ entries) uir_type m 0 12 × Within (space ++ entries) uir_type m links
     listed_all m i free =
-        let w = listed m i (tile_lies b 8 (length b) s.records m h.tiled (linkable-in b s.records uir_type m (h.unused_chain.linkable m i))).long free in
+        let w = listed m i (tile_lies b 8 (length b) s.records m (sound good at).has_shape.tiled (linkable-in b s.records uir_type m ((sound good at).has_shape.unused_chain.linkable m i))).long free in
         (Avoids-append space entries uir_type m 0 12 w.0 (away-avoids entries uir_type m 0 12 (away m)), Within-append space entries uir_type m links w.1 (away-within entries uir_type m links (away m)))
 
     pub index_keeps : AllKeep b now may acts (owned b s)
     index_keeps =
+        let h = (sound good at).has_shape in
         let front = keep_variables b now may acts kind 0 before (other before (ours good at).0.sub (λ m i. (only good at own_edit m i).in_before)) in
         let back = keep_variables b now may acts kind (suc (length before)) after (other after (after_ours good at).sub (λ m i. (only good at own_edit m i).in_after)) in
         let others = keep_variables b now may acts (other_kind kind) 0 (shapes_of s (other_kind kind)) (other (shapes_of s (other_kind kind)) (kind_ours b s (sound good at) (other_kind kind)).sub (λ m i. (only good at own_edit m i).in_others)) in
@@ -199,18 +196,15 @@ module _ {b now : List ℕ} {kind : Kind} {before : List VariableShape} {own : V
     used_after : (m : ℕ) → used_times after_it m + times m freed ≡ used_times s m + times m taken
     used_after m = spliced_times s kind new list before (own ∷ []) (mine ∷ []) after at.was m (times m taken) (times m freed) (omega (arith, times-append m (variable_records mine) [], times-append m (variable_records own) [], parts_times own m, parts_times mine m, y.times_are m))
 
-    node_in : (m : ℕ) → In m freed → In m s.records
-    node_in m i = behind_in good at m (node_behind own m (y.were_nodes m i))
-
-    node_typed : (m : ℕ) → In m freed → type_at b m ≡ vxr_type
-    node_typed m i = linkable-type b s.records vxr_type m (nodes_stand b s.records 8 own.index (has good at).indexed.has_nodes m (y.were_nodes m i))
+    was_node : (m : ℕ) → In m freed → In m s.records × (type_at b m ≡ vxr_type)
+    was_node m i = let l = nodes_stand b s.records 8 own.index (has good at).indexed.has_nodes m (y.were_nodes m i) in (linkable-in b s.records vxr_type m l, linkable-type b s.records vxr_type m l)
 
     none_both : (m : ℕ) → In m taken → In m freed → ⊥
-    none_both m i j = apart vxr_type uir_type refl (sym (node_typed m j) ∙ y.fresh m i (node_in m j))
+    none_both m i j = apart vxr_type uir_type refl (sym (was_node m j).1 ∙ y.fresh m i (was_node m j).0)
 
     sorted : (m : ℕ) → In m taken ⊎ In m freed → IsSorted now after_it m
     sorted m (inl i) = inl (y.in_use m i, omega (arith, used_after m, fresh_unowned (sound good at) m (y.fresh m i), times-once m taken y.taken_once i, times-none m freed (none_both m i)))
-    sorted m (inr i) = grind (arith, sorted_before (sound good at) (good_by_its_shape b good).owned_once m (node_in m i), node_typed m i, y.out_of_use m i, used_after m, times-once m freed y.freed_once i, times-none m taken (λ k. none_both m k i))
+    sorted m (inr i) = grind (arith, sorted_before (sound good at) (good_by_its_shape b good).owned_once m (was_node m i).0, was_node m i, y.out_of_use m i, used_after m, times-once m freed y.freed_once i, times-none m taken (λ k. none_both m k i))
 
     owned_now : OwnedOnce now after_it
     owned_now = owned_once_if b now s after_it (space ++ entries) reborn (sound good at) (good_by_its_shape b good).owned_once x.edit (λ m out. omega (arith, used_after m, times-none m taken (λ i. out (y.reborn_are m (inl i))), times-none m freed (λ i. out (y.reborn_are m (inr i))))) (λ m i. sorted m (y.are_reborn m i))

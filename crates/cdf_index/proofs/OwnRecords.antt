@@ -15,10 +15,6 @@ block_type b records vdr leaves each m i =
 abbrev block_types : List ℕ
 block_types = vvr_type ∷ cvvr_type ∷ []
 
-abbrev range_in : ℕ → Option VariableShape → Option Range
-range_in place None = None
-range_in place (Some v) = option_map (λ (leaf : Leaf). range leaf.first leaf.last) (find (λ (leaf : Leaf). leaf.place == place) (leaves_of v.index))
-
 -- ---- what a command may do, where it may write these fields of the descriptor, all of a node, and of a block what its range says
 
 abbrev by_type : Kind → List Field → ℕ → Allowance
@@ -34,7 +30,7 @@ by_types kind fields = grind arith
 module _ {b : List ℕ} (found : Found) {before : List VariableShape} {own : VariableShape} {after : List VariableShape} (good : Good b) (among : StandsAmong b found.kind before own after) (number_is : found.number ≡ length before) (fields : List Field) (block : Range → Allowance) (may : ℕ → Allowance)
     (allowed : (m : ℕ) (o : Option Range) → range_at (shape b) found m ≡ o → may m ≡ by_range b found.kind fields block m o) where
   ranged : (m : ℕ) (o : Option Leaf) → find (λ (leaf : Leaf). leaf.place == m) (leaves_of own.index) ≡ o → range_at (shape b) found m ≡ option_map (λ (leaf : Leaf). range leaf.first leaf.last) o
-  ranged m o e = ap (range_in m) (ap (slice_get (shapes_of (shape b) found.kind)) number_is ∙ ap (λ (vs : List VariableShape). slice_get vs (length before)) among.was ∙ got-middle before own after) ∙ ap (option_map (λ (leaf : Leaf). range leaf.first leaf.last)) e
+  ranged m o e = grind (arith, number_is, among.was, got-middle before own after, e)
 
   -- a record of another type is no block
   no_block_of : (m type : ℕ) → type_at b m ≡ type → is_in type block_types ≡ false → In m (places_of (leaves_of own.index)) → ⊥

@@ -1,25 +1,19 @@
 -- An index with one leaf more, made by one edit at the end of the way and one in each node on it, from the bottom up.
-use Rattle.cdf_index.proofs.Common.{AreTiles, Distinct, Distinct-back, Distinct-front, Each, Each-map, Edit, Entries, HasIndex, HasNodes, In, In-append_left, In-append_right, InOrder, IsNode, Leaf, List, Names, Nodes, [], ap, apart, ap₂, arith, block, chain_reaches, entry_count, eq-eqb, eqb, false, has, in-times, index_at, inl, inr, leaf, length, link_to, linkable-in, lower, lower_nodes, max, ne_eqb, no_entry, no_node, node, nodes_of, nodes_stand, placed, record_number_limit, redo, redo_below, refl, some_place, spot, subst, suc, sym, tiles, times, times-append, times-in, times-once, true, vxr_type, way, widen_all, widened, wider, with_both, with_leaf, zero, ℕ, ◌++◌, ◌+◌, ◌∙◌, ◌∷◌, ◌≡◌, ◌≢◌, ◌⊎◌}
+use Rattle.cdf_index.proofs.Common.{AreTiles, Distinct, Distinct-back, Distinct-front, Each, Each-map, Edit, Entries, HasIndex, HasNodes, In, In-append_left, In-append_right, InOrder, IsNode, Leaf, List, Names, Nodes, [], ap, apart, arith, chain_reaches, entry_count, eq-eqb, false, has, in-times, index_at, inl, inr, leaf, length, link_to, linkable-in, lower, lower_nodes, max, nat_tests, node, nodes_of, nodes_stand, placed, record_number_limit, redo, redo_below, refl, some_place, spot, subst, suc, tiles, times, times-append, times-in, times-once, true, vxr_type, way, widen_all, widened, wider, with_both, with_leaf, zero, ℕ, ◌++◌, ◌+◌, ◌∙◌, ◌∷◌, ◌≡◌, ◌≢◌, ◌⊎◌, ◌-◌, ◌≤◌}
+use Rattle.cdf_index.proofs.ByParts.{entries_by, nodes_by}
 use Rattle.cdf_index.proofs.Coming.{Comes, comes, comes_along, comes_below, comes_first, comes_here}
 use Rattle.cdf_index.proofs.Saying.{lower_both, names_parts}
 use Rattle.cdf_index.proofs.Looking.{node_there}
 
 -- ---- an edit of no node of an index
 
-mutual
-  unfolding redo redo_below nodes_of lower_nodes
+redo_none : (x : ℕ) (edit : Edit) (nodes : Nodes) → (In x (nodes_of nodes) → ⊥) → redo x edit nodes ≡ nodes
+unfolding redo redo_below nodes_of lower_nodes
+redo_none x edit = nodes_by (λ es. (In x (lower_nodes es) → ⊥) → redo_below x edit es ≡ es) (grind (arith, nat_tests, In-append_left x, In-append_right x))
 
-  redo_none : (x : ℕ) (edit : Edit) (nodes : Nodes) → (In x (nodes_of nodes) → ⊥) → redo x edit nodes ≡ nodes
-  redo_none x edit no_node n = refl
-  redo_none x edit (node place room es more) n =
-      let test : eqb place x ≡ false = ne_eqb place x (λ e. n (inl (sym e))) in
-      rw test (ap₂ (λ (a : Entries) (c : Nodes). node place room a c) (redo_below_none x edit es (λ i. n (inr (In-append_left x (lower_nodes es) (nodes_of more) i)))) (redo_none x edit more (λ i. n (inr (In-append_right x (lower_nodes es) (nodes_of more) i)))))
-
-  redo_below_none : (x : ℕ) (edit : Edit) (es : Entries) → (In x (lower_nodes es) → ⊥) → redo_below x edit es ≡ es
-  redo_below_none x edit no_entry n = refl
-  redo_below_none x edit (block first last place packed es) n = ap (block first last place packed) (redo_below_none x edit es n)
-  redo_below_none x edit (lower first last nodes es) n =
-      ap₂ (λ (a : Nodes) (c : Entries). lower first last a c) (redo_none x edit nodes (λ i. n (In-append_left x (nodes_of nodes) (lower_nodes es) i))) (redo_below_none x edit es (λ i. n (In-append_right x (nodes_of nodes) (lower_nodes es) i)))
+redo_below_none : (x : ℕ) (edit : Edit) (es : Entries) → (In x (lower_nodes es) → ⊥) → redo_below x edit es ≡ es
+unfolding redo redo_below nodes_of lower_nodes
+redo_below_none x edit = entries_by (grind (arith, nat_tests, In-append_left x, In-append_right x, redo_none x edit))
 
 -- ---- the way lies in the index
 
@@ -37,10 +31,7 @@ lies_in w x xs ys f l = (Each-map (λ (step : ℕ × ℕ). In step.0 xs) (λ (st
 -- how often a node below entries stands in all
 pub below_times : (m place room first last : ℕ) (fs es : Entries) (nodes more : Nodes) → times m (nodes_of (node place room (with_both fs (lower first last nodes es)) more)) ≡ times m (nodes_of nodes) + times m (place ∷ lower_nodes fs ++ (lower_nodes es ++ nodes_of more))
 unfolding nodes_of lower_nodes
-below_times m place room first last fs es nodes more =
-    let all = nodes_of nodes ++ lower_nodes es in
-    ap (λ (xs : List ℕ). times m (place ∷ xs ++ nodes_of more)) (lower_both fs (lower first last nodes es))
-    ∙ omega (arith, times-append m (place ∷ (lower_nodes fs ++ all)) (nodes_of more), times-append m (place ∷ lower_nodes fs) all, times-append m (nodes_of nodes) (lower_nodes es), times-append m (place ∷ lower_nodes fs) (lower_nodes es ++ nodes_of more), times-append m (lower_nodes es) (nodes_of more))
+below_times m place room first last fs es nodes more = grind (arith, lower_both, times-append)
 
 pub way_lies : {l : Leaf} {at : ℕ} {w : List (ℕ × ℕ)} {x n : ℕ} {ns ns' : Nodes} → Comes l at w x n ns ns' → LiesIn w x (nodes_of ns)
 unfolding nodes_of lower_nodes
@@ -60,26 +51,16 @@ way_in f low high nodes o = way_lies (comes (leaf f 0 0 false) 0 low high nodes 
 module _ (x : ℕ) (edit : Edit) where
   redo_along : (place room : ℕ) (es : Entries) (more : Nodes) → (In x (place ∷ lower_nodes es) → ⊥) → redo x edit (node place room es more) ≡ node place room es (redo x edit more)
   unfolding redo
-  redo_along place room es more out = let test = ne_eqb place x (λ e. out (inl (sym e))) in rw (test, redo_below_none x edit es (λ i. out (inr i))) refl
+  redo_along place room es more = grind (arith, nat_tests, redo_below_none x edit)
 
   redo_both : (fs es : Entries) → redo_below x edit (with_both fs es) ≡ with_both (redo_below x edit fs) (redo_below x edit es)
   unfolding redo redo_below
-  redo_both no_entry es = refl
-  redo_both (block first last place packed fs) es = ap (block first last place packed) (redo_both fs es)
-  redo_both (lower first last nodes fs) es = ap (lower first last (redo x edit nodes)) (redo_both fs es)
+  redo_both = entries_by (grind arith)
 
   redo_under : (place room first last : ℕ) (fs es : Entries) (nodes more : Nodes) → (In x (place ∷ lower_nodes fs ++ (lower_nodes es ++ nodes_of more)) → ⊥)
       → redo x edit (node place room (with_both fs (lower first last nodes es)) more) ≡ node place room (with_both fs (lower first last (redo x edit nodes) es)) more
-  unfolding redo redo_below
-  redo_under place room first last fs es nodes more out =
-      let in_es = In-append_left x (lower_nodes es) (nodes_of more) in
-      rw (
-        (ne_eqb place x (λ e. out (inl (sym e)))),
-        redo_both fs (lower first last nodes es),
-        redo_below_none x edit fs (λ i. out (inr (In-append_left x (lower_nodes fs) (lower_nodes es ++ nodes_of more) i))),
-        redo_below_none x edit es (λ i. out (inr (In-append_right x (lower_nodes fs) (lower_nodes es ++ nodes_of more) (in_es i)))),
-        redo_none x edit more (λ i. out (inr (In-append_right x (lower_nodes fs) (lower_nodes es ++ nodes_of more) (In-append_right x (lower_nodes es) (nodes_of more) i)))),
-      ) refl
+  unfolding redo redo_below lower_nodes
+  redo_under place room first last fs es nodes more = grind (arith, nat_tests, redo_both, redo_none x edit, redo_below_none x edit, In-append_left x, In-append_right x)
 
 -- all nodes of the way in what stands in one place of an index
 module _ (last : ℕ) (whole : Nodes → Nodes) (out : List ℕ) (past : (x : ℕ) (edit : Edit) (m : Nodes) → (In x out → ⊥) → redo x edit (whole m) ≡ whole (redo x edit m)) where
@@ -92,9 +73,7 @@ module _ (last : ℕ) (whole : Nodes → Nodes) (out : List ℕ) (past : (x : �
       ap (widen_all last w) (past x edit m (elim l.1 [ inl z ↦ absurd (some z) | inr i ↦ apart x i ])) ∙ widen_in w xs (redo x edit m) l.0 apart
 
 widened_both : (last : ℕ) (fs : Entries) (first end : ℕ) (nodes : Nodes) (es : Entries) → widened last (entry_count fs) (with_both fs (lower first end nodes es)) ≡ with_both fs (lower first (max end last) nodes es)
-widened_both last no_entry first end nodes es = refl
-widened_both last (block f l p packed fs) first end nodes es = ap (block f l p packed) (widened_both last fs first end nodes es)
-widened_both last (lower f l ns fs) first end nodes es = ap (lower f l ns) (widened_both last fs first end nodes es)
+widened_both last = entries_by (grind arith)
 
 -- what stands in two parts of a list does not stand in it once
 pub apart_by : (m : ℕ) (all xs ys : List ℕ) → Distinct all → times m all ≡ times m xs + times m ys → In m xs → In m ys → ⊥
@@ -102,9 +81,7 @@ apart_by m all xs ys d e i j = let a = times-in m xs i in let c = times-in m ys 
 
 pub below_once : (place room first last : ℕ) (fs es : Entries) (nodes more : Nodes) → Distinct (nodes_of (node place room (with_both fs (lower first last nodes es)) more)) → Distinct (nodes_of nodes)
 unfolding nodes_of lower_nodes
-below_once place room first last fs es nodes more d =
-    let all = Distinct-front (lower_nodes (with_both fs (lower first last nodes es))) (nodes_of more) d.1 in
-    Distinct-front (nodes_of nodes) (lower_nodes es) (Distinct-back (lower_nodes fs) (nodes_of nodes ++ lower_nodes es) (subst Distinct (lower_both fs (lower first last nodes es)) all))
+below_once place room first last fs es nodes more = grind (arith, lower_both, Distinct-front, Distinct-back)
 
 -- ---- the law
 
@@ -135,16 +112,20 @@ no_zero b ts levels nodes t h i = some_place b ts (length b) 0 t (linkable-in b 
 pub chain_there : (f : ℕ) (nodes : Nodes) → chain_reaches f nodes ≡ true → IsNode nodes
 chain_there f nodes t = grind arith
 
+pub node_has : (b ts : List ℕ) (levels place room : ℕ) (es : Entries) (more : Nodes) → HasNodes b ts levels (node place room es more) → (1 ≤ levels) × Names b ts (levels - 1) es × HasNodes b ts levels more
+unfolding HasNodes
+node_has b ts zero place room es more h = absurd h
+node_has b ts (suc levels) place room es more h = let z : suc levels - 1 ≡ levels = omega arith in (omega arith, rw z h.1, h.2)
+
 -- the way ends at a node
 pub spot_there : {l : Leaf} {at : ℕ} {w : List (ℕ × ℕ)} {x n : ℕ} {ns ns' : Nodes} → Comes l at w x n ns ns' → (b ts : List ℕ) (levels : ℕ) → HasNodes b ts levels ns → IsNode ns → In x (nodes_of ns)
-unfolding HasNodes Names nodes_of lower_nodes
+unfolding Names nodes_of lower_nodes
 spot_there comes_first b ts levels h is = absurd is
-spot_there (comes_along t c) b ts zero h is = absurd h
-spot_there {l = l} {x = x} (comes_along {es = es} {more = more} t c) b ts (suc levels) h is = inr (In-append_right x (lower_nodes es) (nodes_of more) (spot_there c b ts (suc levels) h.2 (chain_there l.first more t)))
-spot_there (comes_below fs first last nodes nodes' es t le r c) b ts zero h is = absurd h
-spot_there {x = x} (comes_below {place = place} {room = room} {more = more} fs first last nodes nodes' es t le r c) b ts (suc levels) h is =
-    let n = (names_parts b ts levels fs (lower first last nodes es) h.1).1 in
-    in-times x (nodes_of (node place room (with_both fs (lower first last nodes es)) more)) (omega (arith, times-in x (nodes_of nodes) (spot_there c b ts levels n.1 n.0), below_times x place room first last fs es nodes more))
+spot_there {l = l} {x = x} (comes_along {place = place} {room = room} {es = es} {more = more} t c) b ts levels h is =
+    inr (In-append_right x (lower_nodes es) (nodes_of more) (spot_there c b ts levels (node_has b ts levels place room es more h).2 (chain_there l.first more t)))
+spot_there {x = x} (comes_below {place = place} {room = room} {more = more} fs first last nodes nodes' es t le r c) b ts levels h is =
+    let n = (names_parts b ts (levels - 1) fs (lower first last nodes es) (node_has b ts levels place room (with_both fs (lower first last nodes es)) more h).1).1 in
+    in-times x (nodes_of (node place room (with_both fs (lower first last nodes es)) more)) (omega (arith, times-in x (nodes_of nodes) (spot_there c b ts (levels - 1) n.1 n.0), below_times x place room first last fs es nodes more))
 spot_there (comes_here t d) b ts levels h is = inl refl
 
 pub on_its_way : (b : List ℕ) (head at : ℕ) (l : Leaf) → HasIndex b head → head ≢ 0

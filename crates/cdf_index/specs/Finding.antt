@@ -10,7 +10,7 @@ use Rattle.cdf_format.specs.IndexWalk.{levels_on, nodes_met}
 use Rattle.cdf_format.specs.Shape.{Each}
 use Rattle.cdf_format.specs.Tiles.{AreTiles, tiles}
 use Rattle.cdf_format.specs.Records.{cdr_place, vxr_first, vxr_bytes}
-use Rattle.cdf_index.specs.Order.{InOrder, NextsAreZero, find_in, nodes_passed}
+use Rattle.cdf_index.specs.Order.{InOrder, find_in, nodes_passed}
 
 -- the index that a link leads to
 abbrev pub index_at : List ℕ → ℕ → Nodes
@@ -83,10 +83,8 @@ pub record ChainFrom (b : List ℕ) (link : ℕ) : Type 0 where
   pub stands : Stands b levels nodes
   pub link_is : link ≡ link_to nodes
 
--- after so many turns the search is at a link; where no node has one behind it, each turn leads a level down
+-- after so many turns the search is at a link
 pub record At (b : List ℕ) (rec turn : ℕ) (nodes : Nodes) (link : ℕ) : Type 0 where
   pub left : ChainFrom b link
   pub same : find_in rec left.nodes ≡ find_in rec nodes
   pub passed : nodes_passed rec left.nodes + turn ≡ nodes_passed rec nodes
-  pub fewer : length (nodes_of left.nodes) + turn ≤ length (nodes_of nodes)
-  pub zero : NextsAreZero nodes → NextsAreZero left.nodes × (turn ≤ level_limit) × (IsNode left.nodes → left.levels + turn ≤ level_limit)

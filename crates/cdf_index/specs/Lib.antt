@@ -11,5 +11,5 @@ pub mod Growing
 pub mod Way
 pub mod Replacing
 pub mod Adding
-pub mod Descent
 pub mod Starting
+pub mod Descent

@@ -1,9 +1,8 @@
 -- Where a search for a record may start along the top chain of an index (own).
-use Rattle.std.specs.Prelude.{◌≡◌, ℕ, List, if◌then◌else◌}
+use Rattle.std.specs.Prelude.{◌≡◌, ◌≢◌, ℕ, List, if◌then◌else◌}
 use Rattle.cdf_edits.specs.Index.Grown.{chain_reaches}
 use Rattle.cdf_format.specs.Index.{Nodes, no_node, node, link_to}
-use Rattle.cdf_index.specs.Descent.{IsTree}
-use Rattle.cdf_index.specs.Finding.{index_at}
+use Rattle.cdf_index.specs.Finding.{HasIndex, index_at}
 
 -- the chain from its last node on that has an entry which begins at a record or before it, or the whole chain where none has
 abbrev pub from_reached : ℕ → Nodes → Nodes
@@ -16,8 +15,6 @@ IsStart b head rec start = start ≡ link_to (from_reached rec (index_at b head)
 
 -- a walk from this node on ends where a search for the record may start
 pub record LeadsToStart (b : List ℕ) (head rec at : ℕ) : Type 0 where
-  pub levels : ℕ
-  pub nodes : Nodes
-  pub tree : IsTree b levels nodes
-  pub link : at ≡ link_to nodes
-  pub same : from_reached rec nodes ≡ from_reached rec (index_at b head)
+  pub index : HasIndex b at
+  pub some : at ≢ 0
+  pub same : from_reached rec (index_at b at) ≡ from_reached rec (index_at b head)

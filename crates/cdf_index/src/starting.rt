@@ -8,7 +8,7 @@ ghost use Rattle.cdf_model.specs.Limits.{image_limit};
 ghost use Rattle.cdf_index.specs.Finding.{index_at, HasIndex};
 ghost use Rattle.cdf_index.specs.Starting.{IsStart, LeadsToStart};
 
-use crate::descending::{see_node, stop_of_chain};
+use crate::descending::{see_node, walk_chain};
 use cdf_area::{Area, AreaError};
 use cdf_records::Steps;
 use std::marker::Brand;
@@ -56,8 +56,8 @@ fn start_counted<A: Area, L: Ledger>(
 {
     let mut steps = Steps::<L>::new(blank);
     let from = walked_from(area, head, known, rec, &mut steps)?;
-    let stop = stop_of_chain(area, from, rec, &mut steps)?;
-    Ok(stop.place)
+    let chain = walk_chain(area, from, rec, &mut steps)?;
+    Ok(chain.best.place)
 }
 
 /// Where a search for a record may start in the index that a link leads to: at the last node of its top chain that has an entry which begins at the record or before it,
