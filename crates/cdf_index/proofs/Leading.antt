@@ -1,9 +1,8 @@
 -- The entries of a node that begin at a record or before it: how many they are, and where the last of them leads to.
-use Rattle.cdf_index.proofs.Common.{AreInOrder, Begins, Begun, Bool, Entries, IsNode, List, Names, Nodes, SayEntries, arith, block, down_at, entry_count, false, first_at, if◌then◌else◌, leads_down, leb, lower, ltb, nat_tests, no_entry, no_node, node, past, past_entries, reaches, spot, spot_below, suc, true, used_count, way, way_below, ℕ, ◌+◌, ◌<◌, ◌≡◌, ◌≤◌}
-use Rattle.cdf_index.proofs.EntriesCut.{Parted, one_more, parted_all}
+use Rattle.cdf_index.proofs.Common.{AreInOrder, Begins, Begun, Bool, Entries, IsNode, List, Names, Nodes, SayEntries, arith, block, cases_lt, down_at, entry_count, false, first_at, if◌then◌else◌, leads_down, leb, lower, ltb, nat_tests, no_entry, no_node, node, past, past_entries, reaches, spot, spot_below, suc, true, used_count, way, way_below, ℕ, ◌+◌, ◌<◌, ◌≡◌, ◌≤◌}
 use Rattle.cdf_index.proofs.Coming.{not_reached}
 use Rattle.cdf_index.proofs.OrderLemmas.{end_after}
-use Rattle.cdf_index.proofs.ByParts.{entries_by, entries_within}
+use Rattle.cdf_index.proofs.ByParts.{entries_by, entries_from, entries_within}
 
 -- the lower chain that the last of them names, none where it names a block; this one where there are none
 abbrev pub lead : ℕ → Nodes → Entries → Nodes
@@ -55,17 +54,18 @@ led f low high nodes (lower first last ns es) o lt t = grind (arith, nat_tests, 
 
 -- ---- as the bytes say them
 
-begun_is : (b : List ℕ) (at f k n : ℕ) (es : Entries) → SayEntries b at k es → Parted (λ j. first_at b at j ≤ f) (λ j. f < first_at b at j) k n (entry_count es) → n ≡ begun_in f es
-begun_is b at f k n no_entry s p = let m = p.most in omega arith
-begun_is b at f k n (block first last place packed es) s p = one_more (λ j. first_at b at j ≤ f) (λ j. f < first_at b at j) k n (entry_count es) (leb first f) (begun_in f es) (λ x. grind (arith, nat_tests, s.0.first_is)) (λ x. grind (arith, nat_tests, s.0.first_is)) p (λ m r. begun_is b at f (suc k) m es s.1 r)
-begun_is b at f k n (lower first last nodes es) s p = one_more (λ j. first_at b at j ≤ f) (λ j. f < first_at b at j) k n (entry_count es) (leb first f) (begun_in f es) (λ x. grind (arith, nat_tests, s.0.first_is)) (λ x. grind (arith, nat_tests, s.0.first_is)) p (λ m r. begun_is b at f (suc k) m es s.1 r)
+pub begun_past : (f : ℕ) (es : Entries) → begun_in f es + entry_count (past f es) ≡ entry_count es
+begun_past f = entries_by (grind arith)
+
+-- each of them begins at the record or before it, and the one behind them past it
+begun_first : (b : List ℕ) (at f k : ℕ) (es : Entries) → SayEntries b at k es → (i : ℕ) → k ≤ i → (i < k + begun_in f es → first_at b at i ≤ f) × (i ≡ k + begun_in f es → i < k + entry_count es → f < first_at b at i)
+begun_first b at f = entries_from (grind (arith, nat_tests, cases_lt))
 
 -- so many of them were counted
 pub counted_begun : (b : List ℕ) (at f n : ℕ) (es : Entries) → Begun b at f n → used_count b at ≡ entry_count es → SayEntries b at 0 es → n ≡ begun_in f es
-counted_begun b at f n es g u s = let most = g.most in begun_is b at f 0 n es s (parted_all (λ j. first_at b at j ≤ f) (λ j. f < first_at b at j) n (entry_count es) g.before (λ lt. g.stop (omega arith)) (omega arith))
-
-pub begun_past : (f : ℕ) (es : Entries) → begun_in f es + entry_count (past f es) ≡ entry_count es
-begun_past f = entries_by (grind arith)
+counted_begun b at f n es g u s =
+    let all = begun_past f es in
+    grind (arith, begun_first b at f 0 es s n, begun_first b at f 0 es s (begun_in f es), g.before (begun_in f es), g.stop, g.most)
 
 pub begins_by : (b : List ℕ) (at f p : ℕ) → Begun b at f p → Begins b at f p
 begins_by b at f p g es u s = omega (arith, counted_begun b at f p es g u s, begun_past f es)

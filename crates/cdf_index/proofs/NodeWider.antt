@@ -1,15 +1,12 @@
 -- A node on the way whose entry ends later, in the tree.
-use Rattle.cdf_index.proofs.Common.{Entries, List, Names, Owed, SameHeads, SayEntries, SaysEntry, StillSays, Widened, ap, arith, block, entry_count, length, link_to, linkable_kept, lower, max, no_entry, refl, room_at, suc, used_count, vxr_type, widened, wider, zero, ℕ, ◌+◌, ◌<◌, ◌≡◌, ◌≢◌, ◌≤◌}
+use Rattle.cdf_index.proofs.Common.{Entries, List, Names, Owed, SameHeads, SayEntries, SaysEntry, StillSays, Widened, arith, block, entry_count, length, link_to, linkable_kept, lower, max, no_entry, refl, room_at, suc, used_count, vxr_type, widened, wider, zero, ℕ, ◌+◌, ◌<◌, ◌≡◌, ◌≢◌, ◌≤◌}
 use Rattle.cdf_index.proofs.NodeGrown.{node_has}
+use Rattle.cdf_index.proofs.ByParts.{entries_by}
 use Rattle.cdf_index.proofs.Saying.{say_moved}
 
-names_widened : (b ts : List ℕ) (levels last i : ℕ) (es : Entries) → Names b ts levels es → Names b ts levels (widened last i es) × (entry_count (widened last i es) ≡ entry_count es)
+names_widened : (b ts : List ℕ) (levels last : ℕ) (es : Entries) (i : ℕ) → Names b ts levels es → Names b ts levels (widened last i es) × (entry_count (widened last i es) ≡ entry_count es)
 unfolding Names
-names_widened b ts levels last i no_entry n = (n, refl)
-names_widened b ts levels last zero (block first end place packed es) n = (n, refl)
-names_widened b ts levels last zero (lower first end nodes es) n = (n, refl)
-names_widened b ts levels last (suc i) (block first end place packed es) n = let r = names_widened b ts levels last i es n.2 in ((n.0, n.1, r.0), ap suc r.1)
-names_widened b ts levels last (suc i) (lower first end nodes es) n = let r = names_widened b ts levels last i es n.2 in ((n.0, n.1, r.0), ap suc r.1)
+names_widened b ts levels last = entries_by (grind arith)
 
 -- the entries from number k on, the one with number i wider and the others as they were
 say_widened : (b now : List ℕ) (at last i k n : ℕ) (es : Entries) → i ≡ k + n → ((f l o : ℕ) → SaysEntry b at i f l o → SaysEntry now at i f (max l last) o) → ((j : ℕ) → j < k + entry_count es → j ≢ i → StillSays b now at j j) → SayEntries b at k es → SayEntries now at k (widened last n es)
@@ -30,7 +27,7 @@ module _ (b now records records' : List ℕ) (heads : SameHeads b now records re
     same_link = λ r es more. refl;
     is_node = λ r es more. tt;
     stands = λ levels r es more h n m.
-        (let wide = names_widened now records' levels last i es n in
+        (let wide = names_widened now records' levels last es i n in
         let u = h.used_is in
         let says = say_widened b now at last i 0 i es (omega arith) w.here (λ j lt ne. w.others j (omega arith) ne) h.say_entries in
         node_has now records' levels at r (widened last i es) more (grind (arith, linkable_kept b now records records' heads vxr_type at h.linkable, w.changed.same, h, wide.1, says)) wide.0 m);
