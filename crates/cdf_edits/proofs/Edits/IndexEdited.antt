@@ -1,23 +1,10 @@
 -- One variable of a kind has another index by now, and its descriptor stays but for MaxRec, VXRhead and VXRtail: what follows of the image.
-use Rattle.cdf_edits.proofs.Edits.Composing.{head_type, head_size}
-use Rattle.cdf_edits.proofs.Edits.RecordFrame.{kept, file_same}
-use Rattle.cdf_edits.proofs.Edits.StepEdits.{fixed_long}
-use Rattle.cdf_edits.proofs.Edits.VariableCopied.{cpr_behind}
-use Rattle.cdf_edits.proofs.Edits.VariableFrame.{IsRuled}
-use Rattle.cdf_edits.proofs.Edits.VariableKinds.{other_kind, with_shapes, keeps_kind, kind_chain}
-use Rattle.cdf_edits.proofs.Edits.VariableSplice.{keeps_all_attributes}
-use Rattle.cdf_edits.proofs.Frame.Meaning.{FileSame, Kept}
-use Rattle.cdf_edits.proofs.Frame.OwnerAlone.{Each-in}
-use Rattle.cdf_edits.proofs.Frame.OwnersApart.{all_variable_records}
-use Rattle.cdf_edits.proofs.Frame.VdrAlike.{VdrAlike}
-use Rattle.cdf_edits.proofs.Rules.OfVdrCopied.{cpr_stays, variable_rules_alike}
 use Rattle.cdf_model.specs.Forms.{rows}
 use Rattle.cdf_edits.proofs.Common.{Avoids, Away, Bool, Edit, Good, HasShape, HasVariable, Hold, In, IsChain, IsIndex, Kind, List, Mark, Nodes, OwnedOnce, Same, Shape, VariableShape, [], ap, arith, avoided, count_of, cpr_link, cpr_type, eof, fixed_size, gdr_type, gdr_uir_head, head_of, image_limit, index_rows, inl, inr, is_a, is_a-type, is_compressed, is_in, is_max_rec, is_record_type, keeps_file, length, linkable-in, linkable-type, max, name_in, number, owned, read, read_types, refl, shape, shapes_of, size_at, subst, sym, tile_lies, true, type_at, type_in, uir_type, unmarked, variable_records, variables_chain, vdr_max_rec, vdr_name, vdr_num, vdr_vxr_head, vdrs, word_kept, ℕ, ◌++◌, ◌+◌, ◌∙◌, ◌∷◌, ◌≡◌, ◌≤◌, ◌⊎◌}
+use Rattle.cdf_edits.proofs.Edits.Common.{Each-in, FileSame, IsRuled, Kept, OwnEdit, VdrAlike, VdrStays, all_variable_records, cpr_behind, cpr_stays, end_stays, file_same, fixed_long, head_size, head_type, keeps_all_attributes, keeps_kind, kept, kind_chain, name_stays, named_before, other_kind, own_ruled, packed_stays, stays_alike, variable_rules_alike, with_shapes}
 use Rattle.std.proofs.Common.{not, ◌==◌, if◌then◌else◌}
 use Rattle.cdf_edits.proofs.Edits.StandsAmong.{StandsAmong, sound, tile, typed, long, has, fits, behind_in, through, least_size}
-use Rattle.cdf_edits.proofs.Edits.OwnEdited.{OwnEdit, named_before, own_ruled}
 use Rattle.cdf_edits.proofs.Edits.OwnEdited as of_own
-use Rattle.cdf_edits.proofs.Frame.VdrStays.{VdrStays, stays_alike, packed_stays, name_stays, end_stays}
 use Rattle.cdf_edits.proofs.Frame.VdrStays as vdr_of
 
 pub record IndexEdit (b now : List ℕ) (kind : Kind) (own : VariableShape) (index : Nodes) (new list : List ℕ) (marks : List Mark) (reborn : List ℕ) : Type 0 where
@@ -116,7 +103,7 @@ module _ {b now : List ℕ} {kind : Kind} {before : List VariableShape} {own : V
       let there : own.cpr ≡ cpr_link b v ∷ [] = sym (has good at).packed_by ∙ ap (λ (p : Bool). if p then cpr_link b v ∷ [] else []) c in
       subst (λ (xs : List ℕ). In (cpr_link b v) xs) (sym there) (inl refl)
 
-  cpr_kept : (m : ℕ) → In m own.cpr → Kept b now m
+  pub cpr_kept : (m : ℕ) → In m own.cpr → Kept b now m
   cpr_kept m i = kept x.edit m cpr_type (behind_in good at m (cpr_behind own m i)) (is_a-type b s.records cpr_type m (Each-in (λ y. is_a b s.records cpr_type y ≡ true) own.cpr (fits good at).3 m i)) x.cpr_clear
 
   abbrev before_it : IsRuled b s.records own

@@ -1,15 +1,8 @@
 -- The leaves of a variable of a good image that is not compressed: no block is packed, each has room for its records, and no two stand at one place.
 use Rattle.cdf_edits.proofs.Common.{BlockFits, Bool, Each, Each-append, Each-split, Entries, Good, HasNodes, Hold, Hold-asked, Hold-split, Kind, Leaf, LeafFits, List, Names, Nodes, R, Shape, VariableShape, Z, [], ap, arith, asked, block, both, cvvr_rows, cvvr_type, entry_leaves, false, flat_map, good_by_its_shape, holds_packed, if◌then◌else◌, inl, inr, is_a, is_a-type, is_block, is_compressed, leaf_rows, leaves_of, lower, no_entry, no_node, node, nodes_of, nodes_rows, owned_records, record_bytes, record_number_limit, shape, shapes_of, size_at, subst, suc, sym, times, true, true≢false, type_at, unused_records, variable_records, variables, vdrs, vvr_rows, vvr_type, zero, ℕ, ◌*◌, ◌++◌, ◌+◌, ◌-◌, ◌==◌, ◌∙◌, ◌∷◌, ◌≡◌, ◌≤◌}
-use Rattle.cdf_edits.proofs.Edits.InRecords.{places_of}
-use Rattle.cdf_edits.proofs.Edits.LeafPieces.{IsOneOf, in_order, PlacedApart, of_each}
-use Rattle.cdf_edits.proofs.Edits.LeafRecords.{Ascending, count_is}
+use Rattle.cdf_edits.proofs.Edits.Common.{Ascending, IsRuled, StandsAmong, all_attribute_records, all_ruled, all_variable_records, count_is, file_records, fits, flat-append, has, index_records, of_kind, or_cases, owned-times, places_of, sound, times-append, times-three}
+use Rattle.cdf_edits.proofs.Edits.LeafPieces.{IsOneOf, PlacedApart, in_order, of_each}
 use Rattle.cdf_edits.proofs.Edits.LeavesOrder.{index_ascends}
-use Rattle.cdf_edits.proofs.Edits.MarkLemmas.{or_cases}
-use Rattle.cdf_edits.proofs.Edits.RecordFrame.{index_records}
-use Rattle.cdf_edits.proofs.Edits.VariableFrame.{IsRuled, all_ruled}
-use Rattle.cdf_edits.proofs.Edits.VariableKinds.{of_kind}
-use Rattle.cdf_edits.proofs.Edits.VdrEdited.{StandsAmong, sound, has, fits}
-use Rattle.cdf_edits.proofs.Frame.OwnersApart.{flat-append, times-append, times-three, owned-times, file_records, all_attribute_records, all_variable_records}
 
 -- ---- which blocks are packed
 

@@ -1,11 +1,8 @@
 -- An image has all that another has, but for its unused records and for links and numbers in its GDR: records were taken from the one and written, or nothing was done.
 use Rattle.cdf_edits.proofs.Common.{Away, Edit, Fills, In, IsSound, List, Same, Shape, [], ap, arith, content, eof, gdr_offset, gdr_type, inl, inr, length, refl, shape, shape_is, size_at, size_kept, subst, sym, tile_lies, type_at, uir_type, with_space, ℕ, ◌+◌, ◌∙◌, ◌∷◌, ◌≡◌, ◌≢◌, ◌≤◌}
-use Rattle.cdf_edits.proofs.Edits.Composing.{head_type, same-then}
+use Rattle.cdf_edits.proofs.Edits.Common.{Kept, end_now, filled_content, filled_edit, filled_sound, head_type, kept_away, placing_marks, same-then, still_edit}
 pub use Rattle.cdf_edits.proofs.Edits.MadeRecord.{unlike}
-use Rattle.cdf_edits.proofs.Edits.MadeRecord.{place_in, filled_edit, filled_sound, filled_content, end_now}
-use Rattle.cdf_edits.proofs.Edits.RecordFrame.{kept_away}
-use Rattle.cdf_edits.proofs.Edits.RecordPlaced.{placing_marks, still_edit}
-use Rattle.cdf_edits.proofs.Frame.Meaning.{Kept}
+use Rattle.cdf_edits.proofs.Edits.MadeRecord.{place_in}
 
 pub record Grew (b now : List ℕ) : Type 0 where
   pub sound : IsSound now (shape now)

@@ -1,10 +1,10 @@
 -- The records of a variable once one is put: what its leaves hold then says that they are those of the content.
 use Rattle.cdf_edits.proofs.Common.{Leaf, List, NoRule, Pad, Previous, Some, Variable, ap, arith, cases_eq, cases_lt, cuts_before_put, extent, false, filled, greater, inl, inr, is_little, is_sparse, item_at, last_number, le-ltb, lt-ltb, max_rec_at, nat_lt, nat_tests, option_map, pad_record, record_bytes, record_number_limit, records_in, refl, stored_bytes, subst, suc, sym, true, turned, type_of_variable, with_item, with_items, zero, ℕ, ◌+◌, ◌-◌, ◌<◌, ◌∙◌, ◌≡◌, ◌≢◌, ◌≤◌, ◌⊎◌}
+use Rattle.cdf_edits.proofs.Edits.Common.{Ascending, record_is, record_past, rising_records}
+use Rattle.cdf_edits.proofs.Edits.NumberedLookup.{item_among, item_before_all, item_beside, item_past_all, item_with, rising_with_items, same_items}
+use Rattle.cdf_edits.proofs.Edits.NumberedItems.{rising_with}
 use Rattle.std.proofs.Common.{◌&&◌}
 use Rattle.cdf_model.specs.declared.kinds.Sparse.{Sparse}
-use Rattle.cdf_edits.proofs.Edits.LeafRecords.{Ascending, rising_records, record_is, record_past}
-use Rattle.cdf_edits.proofs.Edits.NumberedItems.{rising_with}
-use Rattle.cdf_edits.proofs.Edits.NumberedLookup.{same_items, item_with, item_beside, rising_with_items, item_among, item_before_all, item_past_all}
 
 -- One record is put, of a variable whose VDR says now of each record as much as before: it is stored, each from MaxRec on before it is stored as a pad, and what was stored up to MaxRec stays.
 pub record StoresPut (b now : List ℕ) (vdr vdr' : ℕ) (leaves leaves' : List Leaf) (r : ℕ) (bytes pad : List ℕ) : Type 0 where

@@ -1,29 +1,11 @@
 -- Records of a variable are written where they stand, in blocks that are not packed, and MaxRec with them: the image has its shape and its rules, and all but the variable stays.
-use Rattle.cdf_edits.proofs.Common.{ActsFollow, Among, Anywhere, Avoids, Away, Changed, Covered, Each, Each-append, Edit, Good, HasShape, Hold, In, In-append, In-append_left, IsIndex, IsSound, Kind, List, Mark, Marked, NodeFits, R, Same, Shape, Stays, Touch, VariableShape, Within, Z, [], ap, arith, avoided, content, count_of, cpr_type, cvvr_type, either, false-is_in, flat_map, gdr_eof, gdr_r_max_rec, gdr_type, gdr_uir_head, good_is_sound, head_of, image_limit, index_rows, inl, inr, is_a, is_a-type, is_in, is_max_rec, keeps_file, leaves_of, length, linkable-type, map, mark, max_rec_touches, nodes_of, nodes_stand, number, r_max_rec, r_max_rec_field, r_vdr_type, refl, shape, size_at, slice_set, space_fields, subst, sym, tile_lies, touched_field, true, true-is_in, true≢false, type_at, type_in, uir_type, unmarked, variable_of, variable_records, variable_types, variables_chain, variables_of, vdr_max_rec, vdr_vxr_head, vvr_type, vxr_type, with_variables, z_vdr_type, ℕ, ◌++◌, ◌+◌, ◌∙◌, ◌∷◌, ◌≡◌, ◌≤◌, ◌⊎◌}
-use Rattle.cdf_edits.proofs.Commands.KeptRecords.{Stood}
-use Rattle.cdf_edits.proofs.Edits.Composing.{head_size, head_type, changed_edit}
-use Rattle.cdf_edits.proofs.Edits.InRecords.{places_of, index_both, index_rows_both}
-use Rattle.cdf_edits.proofs.Edits.MarkLemmas.{the_one}
-use Rattle.cdf_edits.proofs.Edits.OwnersKept.{stood, keeps_within}
-use Rattle.cdf_edits.proofs.Edits.RecordFrame.{index_records, kept, kept_away, chain_stays, gdr_field, file_same}
-use Rattle.cdf_edits.proofs.Edits.StepEdits.{gdr_in, gdr_typed, gdr_long, some_bytes}
-use Rattle.cdf_edits.proofs.Edits.VariableCopied.{node_behind, block_behind, cpr_behind}
-use Rattle.cdf_edits.proofs.Edits.VariableFrame.{IsRuled, variable_typed}
-use Rattle.cdf_edits.proofs.Edits.VariableKinds.{other_kind, keeps_kind}
-use Rattle.cdf_edits.proofs.Edits.VariableSplice.{keeps_all_attributes}
-use Rattle.cdf_edits.proofs.Edits.OwnEdited.{OwnEdit, shape_stays, good_in_place, named_before, r_max_rec_kept}
-use Rattle.cdf_edits.proofs.Edits.OwnEdited as of_own
+use Rattle.cdf_edits.proofs.Common.{ActsFollow, Among, Anywhere, Avoids, Away, Changed, Each, Each-append, Edit, Good, HasShape, Hold, In, In-append, IsIndex, IsSound, Kind, List, Mark, Marked, NodeFits, R, Same, Shape, Stays, Touch, VariableShape, Within, Z, [], ap, arith, avoided, content, count_of, cpr_type, either, false-is_in, gdr_eof, gdr_r_max_rec, gdr_type, gdr_uir_head, good_is_sound, head_of, image_limit, index_rows, inl, inr, is_in, is_max_rec, keeps_file, leaves_of, length, linkable-type, map, mark, max_rec_touches, nodes_of, nodes_stand, number, r_max_rec, r_max_rec_field, r_vdr_type, refl, shape, size_at, slice_set, space_fields, subst, sym, tile_lies, touched_field, true, true-is_in, true≢false, type_at, type_in, uir_type, unmarked, variable_of, variable_records, variable_types, variables_chain, variables_of, vdr_max_rec, vdr_vxr_head, vvr_type, vxr_type, with_variables, z_vdr_type, ℕ, ◌++◌, ◌+◌, ◌∙◌, ◌∷◌, ◌≡◌, ◌≤◌, ◌⊎◌}
+use Rattle.cdf_edits.proofs.Edits.Common.{Each-in, FileSame, IsRuled, Kept, OwnEdit, SameHeads, StandsAmong, Stood, VdrAlike, all_variable_records, apart, behind_in, behind_ours, block_behind, chain_stays, changed_edit, file_same, fits, gdr_field, gdr_in, gdr_long, gdr_typed, good_in_place, has, head_size, head_type, index_kept, index_records, keeps_all_attributes, keeps_kind, keeps_within, kept, kept_away, long, named_before, no_block, node_behind, other_kind, packed_stays, places_of, plain_alike, r_max_rec_kept, shape_stays, some_bytes, stood, the_one, tile, typed, variable_typed}
 use Rattle.cdf_edits.proofs.Edits.IndexEdited.{IndexEdit}
-use Rattle.cdf_edits.proofs.Edits.IndexEdited as of_index
-use Rattle.cdf_edits.proofs.Frame.VdrStays.{packed_stays}
-use Rattle.cdf_edits.proofs.Edits.VdrEdited.{StandsAmong, tile, typed, long, has, fits, ours, behind_in, no_block}
-use Rattle.cdf_edits.proofs.Frame.LinksStay.{SameHeads, index_kept}
-use Rattle.cdf_edits.proofs.Frame.Meaning.{FileSame, Kept}
-use Rattle.cdf_edits.proofs.Frame.OwnerAlone.{Each-in}
-use Rattle.cdf_edits.proofs.Frame.OwnersApart.{all_variable_records}
-use Rattle.cdf_edits.proofs.Frame.VdrAlike.{VdrAlike, Copied, copied_in_place, word_copied, plain_alike}
 use Rattle.cdf_edits.proofs.Rules.OfIndexes.{index_rules_written}
-use Rattle.cdf_edits.proofs.Space.UsedRecords.{apart}
+use Rattle.cdf_edits.proofs.Edits.OwnEdited as of_own
+use Rattle.cdf_edits.proofs.Edits.IndexEdited as of_index
+use Rattle.cdf_edits.proofs.Frame.VdrAlike.{Copied, copied_in_place, word_copied}
 
 -- some bytes of a block of the variable that is not packed, behind its type
 pub record InBlock (b : List ℕ) (own : VariableShape) (t : Touch) : Type 0 where
@@ -49,7 +31,7 @@ abbrev block_mark : List ℕ → ℕ → Mark
 block_mark places most = record { type = vvr_type; tiles = Among places; place = 12; width = most }
 
 abbrev pub put_marks : Kind → ℕ → List ℕ → ℕ → List Mark
-put_marks kind v places most = gdr_marks kind ++ mark (type_in (variables_chain kind)) (Among (v ∷ [])) vdr_max_rec ∷ block_mark places most ∷ []
+put_marks kind v places most = mark (type_in (variables_chain kind)) (Among (v ∷ [])) vdr_max_rec ∷ block_mark places most ∷ gdr_marks kind
 
 -- which records they leave by their types alone
 record PutTests (kind : Kind) (marks : List Mark) : Type 0 where
@@ -57,7 +39,6 @@ record PutTests (kind : Kind) (marks : List Mark) : Type 0 where
   attributes_clear : keeps_all_attributes marks ≡ true
   other_clear : keeps_kind marks (other_kind kind) ≡ true
   nodes_clear : unmarked marks vxr_type ≡ true
-  packed_clear : unmarked marks cvvr_type ≡ true
   cpr_clear : unmarked marks cpr_type ≡ true
   unused_clear : unmarked marks uir_type ≡ true
   head_clear : avoided marks gdr_type (head_of (variables_chain kind)).place ((head_of (variables_chain kind)).place + (head_of (variables_chain kind)).width) ≡ true
@@ -66,15 +47,14 @@ record PutTests (kind : Kind) (marks : List Mark) : Type 0 where
   eof_clear : avoided marks gdr_type gdr_eof.place (gdr_eof.place + gdr_eof.width) ≡ true
 
 put_tests : (kind : Kind) (v : ℕ) (places : List ℕ) (most : ℕ) → PutTests kind (put_marks kind v places most)
-put_tests R v places most = record { file_clear = refl; attributes_clear = refl; other_clear = refl; nodes_clear = refl; packed_clear = refl; cpr_clear = refl; unused_clear = refl; head_clear = refl; count_clear = refl; list_clear = refl; eof_clear = refl }
-put_tests Z v places most = record { file_clear = refl; attributes_clear = refl; other_clear = refl; nodes_clear = refl; packed_clear = refl; cpr_clear = refl; unused_clear = refl; head_clear = refl; count_clear = refl; list_clear = refl; eof_clear = refl }
+put_tests kind v places most = grind arith
 
 pub put_avoids : (kind : Kind) (v : ℕ) (places : List ℕ) (most type m lo hi : ℕ) → (type ≡ gdr_type → (hi ≤ 52) ⊎ (56 ≤ lo)) → (type ≡ type_in (variables_chain kind) → m ≡ v → (hi ≤ 24) ⊎ (28 ≤ lo)) → (type ≡ vvr_type → In m places → hi ≤ 12) → Avoids (put_marks kind v places most) type m lo hi
-put_avoids R v places most type m lo hi g d p = ((λ same lies. g same), ((λ same lies. d same (the_one v m lies)), ((λ same lies. inl (p same lies)), tt)))
+put_avoids R v places most type m lo hi g d p = ((λ same lies. d same (the_one v m lies)), ((λ same lies. inl (p same lies)), ((λ same lies. g same), tt)))
 put_avoids Z v places most type m lo hi g d p = ((λ same lies. d same (the_one v m lies)), ((λ same lies. inl (p same lies)), tt))
 
 put_away : (kind : Kind) (v : ℕ) (places : List ℕ) (most type m : ℕ) → (type ≡ gdr_type → ⊥) → (m ≡ v → ⊥) → (type ≡ vvr_type → In m places → ⊥) → Away (put_marks kind v places most) type m
-put_away R v places most type m g d p = ((λ same lies. g same), ((λ same lies. d (the_one v m lies)), ((λ same lies. p same lies), tt)))
+put_away R v places most type m g d p = ((λ same lies. d (the_one v m lies)), ((λ same lies. p same lies), ((λ same lies. g same), tt)))
 put_away Z v places most type m g d p = ((λ same lies. d (the_one v m lies)), ((λ same lies. p same lies), tt))
 
 -- the first bytes of all records
@@ -88,10 +68,6 @@ vdr_no_gdr Z = apart z_vdr_type gdr_type refl
 vdr_no_block : (kind : Kind) → type_in (variables_chain kind) ≡ vvr_type → ⊥
 vdr_no_block R = apart r_vdr_type vvr_type refl
 vdr_no_block Z = apart z_vdr_type vvr_type refl
-
-covered_later : (b : List ℕ) (ks xs : List Mark) (t : Touch) → Covered b xs t → Covered b (ks ++ xs) t
-covered_later b [] xs t c = c
-covered_later b (k ∷ ks) xs t c = inr (covered_later b ks xs t c)
 
 tiles_in : (b : List ℕ) (own : VariableShape) (ts : List Touch) → Each (InBlock b own) ts → (m : ℕ) → In m (map (λ (t : Touch). t.tile) ts) → In m (places_of (leaves_of own.index))
 tiles_in b own [] each m i = absurd i
@@ -141,12 +117,12 @@ module _ {b now : List ℕ} {kind : Kind} {before : List VariableShape} {own : V
           fits = x.fits;
           behind_size = let l = x.later in omega arith;
           behind_type = inl x.later;
-          covered = covered_later b (gdr_marks kind) (mark type (Among (v ∷ [])) vdr_max_rec ∷ block_mark places (length b) ∷ []) t (inr (inl (record {
+          covered = inr (inl (record {
             typed = x.typed;
             lies = sub t.tile (inl refl);
             low = x.later;
             high = upto (t.place + t.width) (size_at b t.tile) t.tile (length b) x.fits (tile_lies b 8 (length b) s.records t.tile h.tiled inside).high;
-          })));
+          }));
         },
         blocks_marked xs (λ m i. sub m (inr i)) each.1,
       )
@@ -160,12 +136,12 @@ module _ {b now : List ℕ} {kind : Kind} {before : List VariableShape} {own : V
     fits = let n = long good at in omega arith;
     behind_size = omega arith;
     behind_type = inl (omega arith);
-    covered = covered_later b (gdr_marks kind) (mark type (Among (v ∷ [])) vdr_max_rec ∷ block_mark places (length b) ∷ []) (touched_field v vdr_max_rec) (inl (record { typed = typed good at; lies = inl refl; low = omega arith; high = omega arith }));
+    covered = inl (record { typed = typed good at; lies = inl refl; low = omega arith; high = omega arith });
   }
 
   gdr_marked : (k : Kind) → Each (Marked b s.records (put_marks k v places (length b)) []) (map (touched_field s.gdr) (r_max_rec_field k))
   gdr_marked R = (
-    record { inside = gdr_in b s h; fits = let l = gdr_long b s h in omega arith; behind_size = omega arith; behind_type = inl (omega arith); covered = inl (record { typed = gdr_typed b s h; lies = tt; low = omega arith; high = omega arith }) },
+    record { inside = gdr_in b s h; fits = let l = gdr_long b s h in omega arith; behind_size = omega arith; behind_type = inl (omega arith); covered = inr (inr (inl (record { typed = gdr_typed b s h; lies = tt; low = omega arith; high = omega arith }))) },
     tt,
   )
   gdr_marked Z = tt
@@ -196,28 +172,15 @@ module _ {b now : List ℕ} {kind : Kind} {before : List VariableShape} {own : V
   pub node_kept : (m : ℕ) → In m (nodes_of own.index) → Kept b now m
   node_kept m i = kept edit m vxr_type (behind_in good at m (node_behind own m i)) (linkable-type b s.records vxr_type m (nodes_stand b s.records 8 own.index (has good at).indexed.has_nodes m i)) tests.nodes_clear
 
-  cpr_kept : (m : ℕ) → In m own.cpr → Kept b now m
-  cpr_kept m i = kept edit m cpr_type (behind_in good at m (cpr_behind own m i)) (is_a-type b s.records cpr_type m (Each-in (λ x. is_a b s.records cpr_type x ≡ true) own.cpr (fits good at).3 m i)) tests.cpr_clear
+  -- no record of a variable is the GDR
+  no_gdr : (m : ℕ) → In m (all_variable_records s) → type_at b m ≡ gdr_type → ⊥
+  no_gdr m i e = true≢false (sym (ap (λ (x : ℕ). is_in x variable_types) (sym e) ∙ variable_typed b s sound m i))
 
   -- a block of which nothing is written
   pub block_kept : (m : ℕ) → In m (places_of (leaves_of own.index)) → (In m places → ⊥) → Kept b now m
-  block_kept m i out = kept_away edit m (type_at b m) (in_records m i) refl (put_away kind v places (length b) (type_at b m) m (λ e. no_gdr m (variable_typed b s sound m (own_of m i)) e) (λ e. no_vdr m i e) (λ e j. out j))
-    where
-      no_gdr : (m : ℕ) → is_in (type_at b m) variable_types ≡ true → type_at b m ≡ gdr_type → ⊥
-      no_gdr m t e = true≢false (sym (ap (λ (x : ℕ). is_in x variable_types) (sym e) ∙ t))
-
-      own_of : (m : ℕ) → In m (places_of (leaves_of own.index)) → In m (all_variable_records s)
-      own_of m i = (ours good at).1.sub m (In-append_left m (variable_records own) (flat_map variable_records after) (inr (block_behind own m i)))
-
-      no_vdr : (m : ℕ) → In m (places_of (leaves_of own.index)) → m ≡ v → ⊥
-      no_vdr m i e = no_block good at (subst (λ (x : ℕ). In x (places_of (leaves_of own.index))) e i)
-
-  -- a record behind its VDR, of which nothing is written
-  pub behind_kept : (m : ℕ) → In m (index_records own) → (In m places → ⊥) → Kept b now m
-  behind_kept m i out = elim (In-append m (nodes_of own.index ++ places_of (leaves_of own.index)) own.cpr i) [
-    | inr c ↦ cpr_kept m c
-    | inl j ↦ elim (In-append m (nodes_of own.index) (places_of (leaves_of own.index)) j) [ inl n ↦ node_kept m n | inr n ↦ block_kept m n out ]
-  ]
+  block_kept m i out =
+      kept_away edit m (type_at b m) (in_records m i) refl (put_away kind v places (length b) (type_at b m) m (no_gdr m (behind_ours good at m (block_behind own m i)))
+      (λ e. no_block good at (subst (λ (x : ℕ). In x (places_of (leaves_of own.index))) e i)) (λ e j. out j))
 
   -- ---- its VDR
 
@@ -229,19 +192,18 @@ module _ {b now : List ℕ} {kind : Kind} {before : List VariableShape} {own : V
 
   -- ---- its index and the others
 
-  mine_heads : (records : List ℕ) → ((m : ℕ) → In m (index_records own) → In m records) → SameHeads b now (index_records own) records
-  mine_heads records sub = record { sizes = λ m i. size_same m (behind_in good at m i); types = λ m i. type_same m (behind_in good at m i); sub = sub }
+  heads : SameHeads b now s.records s.records
+  heads = record { sizes = size_same; types = type_same; sub = λ m i. i }
+
+  nodes_fit : (m : ℕ) → In m (nodes_of own.index) → NodeFits b m
+  nodes_fit = Each-in (NodeFits b) (nodes_of own.index) (fits good at).1
 
   index_now : IsIndex now s.records (number now v vdr_vxr_head) own.index
-  index_now =
-      let mine = index_records own in
-      let index = index_both b s.records mine (number b v vdr_vxr_head) own.index (λ m i. (behind_in good at m (node_behind own m i), node_behind own m i)) (λ m i. (behind_in good at m (block_behind own m i), block_behind own m i)) (has good at).indexed in
-      index_kept b now mine s.records (mine_heads s.records (behind_in good at)) (number b v vdr_vxr_head) (number now v vdr_vxr_head) own.index index (word_copied links_same 28 8 (omega arith) (omega arith))
-      node_kept (Each-in (NodeFits b) (nodes_of own.index) (fits good at).1) (block_behind own)
+  index_now = index_kept b now s.records s.records heads (number b v vdr_vxr_head) (number now v vdr_vxr_head) own.index (has good at).indexed (word_copied links_same 28 8 (omega arith) (omega arith)) node_kept nodes_fit in_records
 
   -- records of variables that are not of this one
   beside : (m : ℕ) → In m (all_variable_records s) → (In m (variable_records own) → ⊥) → Away marks (type_at b m) m
-  beside m i out = put_away kind v places (length b) (type_at b m) m (λ e. true≢false (sym (ap (λ (x : ℕ). is_in x variable_types) (sym e) ∙ variable_typed b s sound m i))) (λ e. out (inl e)) (λ e j. out (inr (block_behind own m (block_in m j))))
+  beside m i out = put_away kind v places (length b) (type_at b m) m (no_gdr m i) (λ e. out (inl e)) (λ e j. out (inr (block_behind own m (block_in m j))))
 
   pub index_edit : IndexEdit b now kind own own.index s.records s.unused marks []
   index_edit = record {
@@ -265,6 +227,13 @@ module _ {b now : List ℕ} {kind : Kind} {before : List VariableShape} {own : V
 
   pub vdr_alike : VdrAlike b now v v
   vdr_alike = of_index.vdr_alike good at index_edit
+
+  -- a record behind its VDR, of which nothing is written
+  pub behind_kept : (m : ℕ) → In m (index_records own) → (In m places → ⊥) → Kept b now m
+  behind_kept m i out = elim (In-append m (nodes_of own.index ++ places_of (leaves_of own.index)) own.cpr i) [
+    | inr c ↦ of_index.cpr_kept good at index_edit m c
+    | inl j ↦ elim (In-append m (nodes_of own.index) (places_of (leaves_of own.index)) j) [ inl n ↦ node_kept m n | inr n ↦ block_kept m n out ]
+  ]
 
   -- ---- the shape and the content
 
@@ -299,12 +268,7 @@ module _ {b now : List ℕ} {kind : Kind} {before : List VariableShape} {own : V
       plain (t ∷ xs) each m (inr i) = plain xs each.1 m i
 
   index_ruled : Hold (index_rows b s.records v own.index) → Hold (index_rows now s.records v own.index)
-  index_ruled rules =
-      let mine = index_records own in
-      let there : Hold (index_rows b mine v own.index) = subst Hold (sym (index_rows_both b s.records mine v own.index (λ m i. (behind_in good at m (block_behind own m i), block_behind own m i)))) rules in
-      subst Hold (sym (index_rows_both now mine s.records v own.index (λ m i. (block_behind own m i, behind_in good at m (block_behind own m i)))))
-      (index_rules_written b now mine (mine_heads mine (λ m i. i)) file (λ m i. h.fixed m (behind_in good at m i)) v v (packed_stays file (of_index.stays good at index_edit)) (plain_alike file vdr_alike) own.index node_kept (Each-in (NodeFits b) (nodes_of own.index) (fits good at).1)
-      (λ m i. (block_behind own m i, kept_or_plain m i)) there)
+  index_ruled = index_rules_written b now s.records heads file h.fixed v v (packed_stays file (of_index.stays good at index_edit)) (plain_alike file vdr_alike) own.index node_kept nodes_fit (λ m i. (in_records m i, kept_or_plain m i))
 
   pub own_ruled : IsRuled b s.records own
   own_ruled = of_own.own_ruled good at own_edit
@@ -318,7 +282,7 @@ module _ {b now : List ℕ} {kind : Kind} {before : List VariableShape} {own : V
   -- ---- what stays
 
   gdr_within : (k : Kind) → Within (put_marks k v places (length b)) gdr_type s.gdr (r_max_rec_field k ++ space_fields)
-  gdr_within R = ((λ same lies. refl), ((λ same lies. absurd (vdr_no_gdr R (sym same))), ((λ same lies. absurd (apart gdr_type vvr_type refl same)), tt)))
+  gdr_within R = ((λ same lies. absurd (vdr_no_gdr R (sym same))), ((λ same lies. absurd (apart gdr_type vvr_type refl same)), ((λ same lies. refl), tt)))
   gdr_within Z = ((λ same lies. absurd (vdr_no_gdr Z (sym same))), ((λ same lies. absurd (apart gdr_type vvr_type refl same)), tt))
 
   pub gdr_keeps : Stays b now s.gdr (r_max_rec_field kind ++ space_fields)

@@ -18,7 +18,7 @@ use Rattle.cdf_edits.proofs.Frame.OwnersApart.{all_attribute_records, file_in, u
 use Rattle.cdf_edits.proofs.Frame.VdrCopied.{VdrCopied}
 use Rattle.cdf_edits.proofs.Edits.OwnEdited.{OwnEdit, shape_stays, good_in_place, no_acts_follow}
 use Rattle.cdf_edits.proofs.Edits.OwnEdited as of_own
-pub use Rattle.cdf_edits.proofs.Edits.StandsAmong.{StandsAmong, through, in_middle, high, least_size, name_room, sound, tile, typed, long, ours, after_ours, has, fits, behind_in, only, no_block}
+pub use Rattle.cdf_edits.proofs.Edits.StandsAmong.{StandsAmong, through, in_middle, high, least_size, name_room, sound, tile, typed, long, ours, after_ours, has, fits, behind_in, behind_ours, only, no_block}
 
 -- each mark is in the record at a place, behind its link
 abbrev pub AreIn : ℕ → List Mark → Type 0

@@ -1,7 +1,6 @@
 -- One node of an index is edited, with the chain behind it: where all other nodes stay, the new image has the edited index.
 use Rattle.cdf_edits.proofs.Common.{Distinct, Distinct-back, Distinct-front, Entries, HasNodes, In, In-append_left, In-append_right, IsNode, Leaf, List, Names, NodeFits, Nodes, SayEntries, SaysEntry, SaysNode, ap, block, cases_eq, either, entry_count, entry_leaves, eq-eqb, eqb, eqb-true, false, if◌then◌else◌, inl, inr, leaves_of, link_to, lower, lower_nodes, map, map-append, no_entry, no_node, node, nodes_of, refl, subst, suc, sym, true, zero, ℕ, ◌++◌, ◌==◌, ◌∙◌, ◌≡◌, ◌≢◌}
-use Rattle.cdf_edits.proofs.Frame.Meaning.{Kept}
-use Rattle.cdf_edits.proofs.Frame.LinksStay.{SameHeads, node_kept, nodes_kept, names_kept}
+use Rattle.cdf_edits.proofs.Edits.Common.{Kept, SameHeads, names_kept, node_kept, nodes_kept}
 
 -- what becomes of a node with so much room, these entries and this chain behind it
 abbrev pub Edit : Type 0
