@@ -32,7 +32,7 @@ pub use Rattle.cdf_edits.proofs.Edits.OnlyTaken.{Once, OnlyTakes, acts_carry, ha
 pub use Rattle.cdf_edits.proofs.Edits.OwnEdited.{OwnEdit, good_in_place, named_before, own_ruled, r_max_rec_kept, shape_stays}
 pub use Rattle.cdf_edits.proofs.Edits.OwnedOnce.{IsSorted, OnlyOwns, all_attributes_in, back_in, front_in, none_in_use, only_owns, own_in, owned_once_if, parts_once, unused_none, used_times}
 pub use Rattle.cdf_edits.proofs.Edits.OwnersKept.{all_keep, keep_all, keep_attributes_alone, keep_each, keep_file, keep_parts, keep_places, keep_unused, keeps_away, keeps_fields, keeps_stays, keeps_within, stood, taken_is_taken}
-pub use Rattle.cdf_edits.proofs.Edits.RecordFrame.{VariableLives, cdr_kept, chain_clear, chain_kept, chain_stays, field_avoids, field_clear, file_same, gdr_field, gdr_place, gdr_start, index_records, kept, kept_away, kept_but_link, part_clear}
+pub use Rattle.cdf_edits.proofs.Edits.RecordFrame.{VariableLives, cdr_kept, chain_clear, chain_kept, chain_stays, cpr_own, field_avoids, field_clear, file_same, gdr_field, gdr_place, gdr_start, index_records, kept, kept_away, kept_but_link, part_clear}
 pub use Rattle.cdf_edits.proofs.Edits.RecordPlaced.{Grows, grows_not, placed_grows, placing_marks, still_edit}
 pub use Rattle.cdf_edits.proofs.Edits.RowsOneLess.{AreNumbered, numbered_still}
 pub use Rattle.cdf_edits.proofs.Edits.StaysBut.{StaysBut, field_stays, stays_within}
@@ -42,7 +42,7 @@ pub use Rattle.cdf_edits.proofs.Edits.VariableCopied.{block_behind, content_copi
 pub use Rattle.cdf_edits.proofs.Edits.VariableFrame.{AreOurs, Each-apply, Each-map, IsRuled, all_ruled, all_variables_kept, index_typed, nums_from, ours_parts, remain_from, variable_typed, variables_in}
 pub use Rattle.cdf_edits.proofs.Edits.VariableKeeps.{all_kept, stays_bytes, stays_then, stays_word, type_stays}
 pub use Rattle.cdf_edits.proofs.Edits.VariableKept.{keep_kinds, keep_own, keep_variable_parts, only_variable, same_as_itself, vdr_allowance}
-pub use Rattle.cdf_edits.proofs.Edits.VariableKinds.{attributes_counted, counted_before, keeps_kind, kind_chain, kind_in, kind_ours, kind_type, of_kind, other_kind, spliced_times, vdrs_rows, with_shapes}
+pub use Rattle.cdf_edits.proofs.Edits.VariableKinds.{attributes_counted, counted_before, keeps_kind, kind_chain, kind_in, kind_ours, kind_times, kind_type, of_kind, other_kind, spliced_times, vdrs_rows, with_shapes}
 pub use Rattle.cdf_edits.proofs.Edits.VariableNames.{apart_if}
 pub use Rattle.cdf_edits.proofs.Edits.VariableSplice.{OwnRules, VariableSplices, attributes_kept, attributes_stay, content_now, good_image_if, keeps_all_attributes, shape_now, sound_if}
 pub use Rattle.cdf_edits.proofs.Edits.VdrEdited.{EditsVdr, MarkTests, StandsAmong, after_ours, behind_in, behind_kept, behind_ours, file, fits, has, high, long, name_room, no_block, sound, through, tile, typed}

@@ -1,8 +1,8 @@
 -- One variable of a kind has another index by now, and its descriptor stays but for MaxRec, VXRhead and VXRtail: what follows of the image.
-use Rattle.cdf_model.specs.Forms.{rows}
-use Rattle.cdf_edits.proofs.Common.{Avoids, Away, Bool, Edit, Good, HasShape, HasVariable, Hold, In, IsChain, IsIndex, Kind, List, Mark, Nodes, OwnedOnce, Same, Shape, VariableShape, [], ap, arith, avoided, count_of, cpr_link, cpr_type, eof, fixed_size, gdr_type, gdr_uir_head, head_of, image_limit, index_rows, inl, inr, is_a, is_a-type, is_compressed, is_in, is_max_rec, is_record_type, keeps_file, length, linkable-in, linkable-type, max, name_in, number, owned, read, read_types, refl, shape, shapes_of, size_at, subst, sym, tile_lies, true, type_at, type_in, uir_type, unmarked, variable_records, variables_chain, vdr_max_rec, vdr_name, vdr_num, vdr_vxr_head, vdrs, word_kept, ℕ, ◌++◌, ◌+◌, ◌∙◌, ◌∷◌, ◌≡◌, ◌≤◌, ◌⊎◌}
-use Rattle.cdf_edits.proofs.Edits.Common.{Each-in, FileSame, IsRuled, Kept, OwnEdit, VdrAlike, VdrStays, all_variable_records, cpr_behind, cpr_stays, end_stays, file_same, fixed_long, head_size, head_type, keeps_all_attributes, keeps_kind, kept, kind_chain, name_stays, named_before, other_kind, own_ruled, packed_stays, stays_alike, variable_rules_alike, with_shapes}
-use Rattle.std.proofs.Common.{not, ◌==◌, if◌then◌else◌}
+
+use Rattle.cdf_edits.proofs.Common.{Avoids, Away, Edit, Good, HasShape, HasVariable, Hold, In, IsChain, IsIndex, Kind, List, Mark, Nodes, OwnedOnce, Same, Shape, VariableShape, [], ap, arith, avoided, count_of, cpr_link, cpr_type, eof, fixed_size, gdr_type, gdr_uir_head, head_of, image_limit, index_rows, inl, inr, is_a, is_a-type, is_in, is_max_rec, is_record_type, keeps_file, length, linkable-in, linkable-type, max, name_in, number, owned, read, read_types, refl, shape, shapes_of, size_at, subst, sym, tile_lies, true, type_at, type_in, uir_type, unmarked, variable_records, variables_chain, vdr_max_rec, vdr_name, vdr_num, vdr_vxr_head, vdrs, word_kept, ℕ, ◌++◌, ◌+◌, ◌∙◌, ◌∷◌, ◌≡◌, ◌≤◌, ◌⊎◌}
+use Rattle.cdf_edits.proofs.Edits.Common.{Each-in, FileSame, cpr_own, IsRuled, Kept, OwnEdit, VdrAlike, VdrStays, all_variable_records, cpr_behind, cpr_stays, end_stays, file_same, fixed_long, head_size, head_type, keeps_all_attributes, keeps_kind, kept, kind_chain, name_stays, named_before, other_kind, own_ruled, packed_stays, stays_alike, variable_rules_alike, with_shapes}
+use Rattle.std.proofs.Common.{not, ◌==◌}
 use Rattle.cdf_edits.proofs.Edits.StandsAmong.{StandsAmong, sound, tile, typed, long, has, fits, behind_in, through, least_size}
 use Rattle.cdf_edits.proofs.Edits.OwnEdited as of_own
 use Rattle.cdf_edits.proofs.Frame.VdrStays as vdr_of
@@ -98,11 +98,6 @@ module _ {b now : List ℕ} {kind : Kind} {before : List VariableShape} {own : V
 
   -- ---- its rules
 
-  cpr_in : is_compressed b v ≡ true → In (cpr_link b v) own.cpr
-  cpr_in c =
-      let there : own.cpr ≡ cpr_link b v ∷ [] = sym (has good at).packed_by ∙ ap (λ (p : Bool). if p then cpr_link b v ∷ [] else []) c in
-      subst (λ (xs : List ℕ). In (cpr_link b v) xs) (sym there) (inl refl)
-
   pub cpr_kept : (m : ℕ) → In m own.cpr → Kept b now m
   cpr_kept m i = kept x.edit m cpr_type (behind_in good at m (cpr_behind own m i)) (is_a-type b s.records cpr_type m (Each-in (λ y. is_a b s.records cpr_type y ≡ true) own.cpr (fits good at).3 m i)) x.cpr_clear
 
@@ -113,7 +108,7 @@ module _ {b now : List ℕ} {kind : Kind} {before : List VariableShape} {own : V
   ruled rows max = (
     variable_rules_alike file vdr_alike (subst (λ (n : ℕ). size_at b v ≤ n) (sym vdr_size) (omega arith)) s.records new [] [] before_it.0 (ap (λ (xs : List ℕ). not (length xs == 0)) name_same ∙ before_it.0.0) refl
         (rw (vdr_size, end_stays file stays) (fits good at).0) (packed_stays file stays)
-        (λ c is. let i = cpr_in c in cpr_stays b now s.records new (cpr_link b v) is (cpr_kept (cpr_link b v) i) (x.edit.sub (cpr_link b v) (behind_in good at (cpr_link b v) (cpr_behind own (cpr_link b v) i)))) max,
+        (λ c is. let i = cpr_own (has good at) c in cpr_stays b now s.records new (cpr_link b v) is (cpr_kept (cpr_link b v) i) (x.edit.sub (cpr_link b v) (behind_in good at (cpr_link b v) (cpr_behind own (cpr_link b v) i)))) max,
     rows,
   )
 

@@ -1,6 +1,6 @@
 -- An image has all that another has, but for its unused records and for links and numbers in its GDR: records were taken from the one and written, or nothing was done.
-use Rattle.cdf_edits.proofs.Common.{Away, Edit, Fills, In, IsSound, List, Same, Shape, [], ap, arith, content, eof, gdr_offset, gdr_type, inl, inr, length, refl, shape, shape_is, size_at, size_kept, subst, sym, tile_lies, type_at, uir_type, with_space, ℕ, ◌+◌, ◌∙◌, ◌∷◌, ◌≡◌, ◌≢◌, ◌≤◌}
-use Rattle.cdf_edits.proofs.Edits.Common.{Kept, end_now, filled_content, filled_edit, filled_sound, head_type, kept_away, placing_marks, same-then, still_edit}
+use Rattle.cdf_edits.proofs.Common.{Away, Edit, Fills, In, IsSound, List, Same, Shape, [], ap, arith, content, eof, gdr_offset, gdr_type, length, refl, shape, shape_is, size_at, size_kept, subst, sym, tile_lies, type_at, uir_type, with_space, ℕ, ◌+◌, ◌∙◌, ◌∷◌, ◌≡◌, ◌≢◌, ◌≤◌}
+use Rattle.cdf_edits.proofs.Edits.Common.{Kept, end_now, filled_content, filled_edit, filled_sound, head_type, kept_away, placing_marks, same-then, still_edit, the_one}
 pub use Rattle.cdf_edits.proofs.Edits.MadeRecord.{unlike}
 use Rattle.cdf_edits.proofs.Edits.MadeRecord.{place_in}
 
@@ -50,8 +50,7 @@ module _ {b taken now : List ℕ} {need place type : ℕ} (sound : IsSound b (sh
   is_shape = shape_is now (with_space (shape b) (shape now).records (shape now).unused) (filled_sound sound fills).has_shape
 
   out_of : (m : ℕ) → In m (shape b).records → type_at b m ≢ uir_type → In m (place ∷ []) → ⊥
-  out_of m i used (inl e) = unlike sound fills m i used e
-  out_of m i used (inr none) = none
+  out_of m i used j = unlike sound fills m i used (the_one place m j)
 
   away : (m type : ℕ) → type ≢ uir_type → type ≢ gdr_type → Away (placing_marks (shape b).unused place need) type m
   away m type used other = ((λ e l. other e), ((λ e l. other e), ((λ e l. used e), ((λ e l. used e), ((λ e l. used e), ((λ e l. used e), tt))))))

@@ -1,6 +1,6 @@
 -- Records of a variable are written where they stand, in blocks that are not packed, and MaxRec with them: the image has its shape and its rules, and all but the variable stays.
-use Rattle.cdf_edits.proofs.Common.{ActsFollow, Among, Anywhere, Avoids, Away, Changed, Each, Each-append, Edit, Good, HasShape, Hold, In, In-append, IsIndex, IsSound, Kind, List, Mark, Marked, NodeFits, R, Same, Shape, Stays, Touch, VariableShape, Within, Z, [], ap, arith, avoided, content, count_of, cpr_type, either, false-is_in, gdr_eof, gdr_r_max_rec, gdr_type, gdr_uir_head, good_is_sound, head_of, image_limit, index_rows, inl, inr, is_in, is_max_rec, keeps_file, leaves_of, length, linkable-type, map, mark, max_rec_touches, nodes_of, nodes_stand, number, r_max_rec, r_max_rec_field, r_vdr_type, refl, shape, size_at, slice_set, space_fields, subst, sym, tile_lies, touched_field, true, true-is_in, true≢false, type_at, type_in, uir_type, unmarked, variable_of, variable_records, variable_types, variables_chain, variables_of, vdr_max_rec, vdr_vxr_head, vvr_type, vxr_type, with_variables, z_vdr_type, ℕ, ◌++◌, ◌+◌, ◌∙◌, ◌∷◌, ◌≡◌, ◌≤◌, ◌⊎◌}
-use Rattle.cdf_edits.proofs.Edits.Common.{Each-in, FileSame, IsRuled, Kept, OwnEdit, SameHeads, StandsAmong, Stood, VdrAlike, all_variable_records, apart, behind_in, behind_ours, block_behind, chain_stays, changed_edit, file_same, fits, gdr_field, gdr_in, gdr_long, gdr_typed, good_in_place, has, head_size, head_type, index_kept, index_records, keeps_all_attributes, keeps_kind, keeps_within, kept, kept_away, long, named_before, no_block, node_behind, other_kind, packed_stays, places_of, plain_alike, r_max_rec_kept, shape_stays, some_bytes, stood, the_one, tile, typed, variable_typed}
+use Rattle.cdf_edits.proofs.Common.{ActsFollow, Among, Anywhere, Avoids, Away, Changed, Each, Each-append, Edit, Good, HasShape, Hold, In, In-append, IsIndex, IsSound, Kind, List, Mark, Marked, NodeFits, R, Same, Shape, Stays, Touch, VariableShape, Within, Z, [], ap, arith, either, false-is_in, gdr_r_max_rec, gdr_type, gdr_uir_head, good_is_sound, image_limit, index_rows, inl, inr, is_in, is_max_rec, leaves_of, length, linkable-type, map, mark, max_rec_touches, nodes_of, nodes_stand, number, r_max_rec, r_max_rec_field, refl, shape, size_at, space_fields, subst, sym, tile_lies, touched_field, true, true-is_in, true≢false, type_at, type_in, uir_type, variable_records, variable_types, variables_chain, vdr_max_rec, vdr_vxr_head, vvr_type, vxr_type, ℕ, ◌++◌, ◌+◌, ◌∙◌, ◌∷◌, ◌≡◌, ◌≤◌, ◌⊎◌}
+use Rattle.cdf_edits.proofs.Edits.Common.{Each-in, FileSame, IsRuled, Kept, OwnEdit, SameHeads, StandsAmong, Stood, VdrAlike, all_variable_records, apart, behind_in, behind_ours, block_behind, chain_stays, changed_edit, file_same, fits, gdr_field, gdr_in, gdr_long, gdr_typed, good_in_place, has, head_size, head_type, index_kept, index_records, keeps_within, kept, kept_away, long, named_before, no_block, node_behind, packed_stays, places_of, plain_alike, r_max_rec_kept, shape_stays, some_bytes, stood, the_one, tile, typed, variable_typed}
 use Rattle.cdf_edits.proofs.Edits.IndexEdited.{IndexEdit}
 use Rattle.cdf_edits.proofs.Rules.OfIndexes.{index_rules_written}
 use Rattle.cdf_edits.proofs.Edits.OwnEdited as of_own
@@ -33,22 +33,6 @@ block_mark places most = record { type = vvr_type; tiles = Among places; place =
 abbrev pub put_marks : Kind → ℕ → List ℕ → ℕ → List Mark
 put_marks kind v places most = mark (type_in (variables_chain kind)) (Among (v ∷ [])) vdr_max_rec ∷ block_mark places most ∷ gdr_marks kind
 
--- which records they leave by their types alone
-record PutTests (kind : Kind) (marks : List Mark) : Type 0 where
-  file_clear : keeps_file marks ≡ true
-  attributes_clear : keeps_all_attributes marks ≡ true
-  other_clear : keeps_kind marks (other_kind kind) ≡ true
-  nodes_clear : unmarked marks vxr_type ≡ true
-  cpr_clear : unmarked marks cpr_type ≡ true
-  unused_clear : unmarked marks uir_type ≡ true
-  head_clear : avoided marks gdr_type (head_of (variables_chain kind)).place ((head_of (variables_chain kind)).place + (head_of (variables_chain kind)).width) ≡ true
-  count_clear : avoided marks gdr_type (count_of (variables_chain kind)).place ((count_of (variables_chain kind)).place + (count_of (variables_chain kind)).width) ≡ true
-  list_clear : avoided marks gdr_type gdr_uir_head.place (gdr_uir_head.place + gdr_uir_head.width) ≡ true
-  eof_clear : avoided marks gdr_type gdr_eof.place (gdr_eof.place + gdr_eof.width) ≡ true
-
-put_tests : (kind : Kind) (v : ℕ) (places : List ℕ) (most : ℕ) → PutTests kind (put_marks kind v places most)
-put_tests kind v places most = grind arith
-
 pub put_avoids : (kind : Kind) (v : ℕ) (places : List ℕ) (most type m lo hi : ℕ) → (type ≡ gdr_type → (hi ≤ 52) ⊎ (56 ≤ lo)) → (type ≡ type_in (variables_chain kind) → m ≡ v → (hi ≤ 24) ⊎ (28 ≤ lo)) → (type ≡ vvr_type → In m places → hi ≤ 12) → Avoids (put_marks kind v places most) type m lo hi
 put_avoids R v places most type m lo hi g d p = ((λ same lies. d same (the_one v m lies)), ((λ same lies. inl (p same lies)), ((λ same lies. g same), tt)))
 put_avoids Z v places most type m lo hi g d p = ((λ same lies. d same (the_one v m lies)), ((λ same lies. inl (p same lies)), tt))
@@ -62,17 +46,16 @@ early : (kind : Kind) (v : ℕ) (places : List ℕ) (most type m lo hi : ℕ) �
 early kind v places most type m lo hi l = put_avoids kind v places most type m lo hi (λ e. inl (omega arith)) (λ e f. inl (omega arith)) (λ e i. l)
 
 vdr_no_gdr : (kind : Kind) → type_in (variables_chain kind) ≡ gdr_type → ⊥
-vdr_no_gdr R = apart r_vdr_type gdr_type refl
-vdr_no_gdr Z = apart z_vdr_type gdr_type refl
+vdr_no_gdr kind e = grind arith
 
 vdr_no_block : (kind : Kind) → type_in (variables_chain kind) ≡ vvr_type → ⊥
-vdr_no_block R = apart r_vdr_type vvr_type refl
-vdr_no_block Z = apart z_vdr_type vvr_type refl
+vdr_no_block kind e = grind arith
 
-tiles_in : (b : List ℕ) (own : VariableShape) (ts : List Touch) → Each (InBlock b own) ts → (m : ℕ) → In m (map (λ (t : Touch). t.tile) ts) → In m (places_of (leaves_of own.index))
-tiles_in b own [] each m i = absurd i
-tiles_in b own (t ∷ ts) each m (inl q) = subst (λ (x : ℕ). In x (places_of (leaves_of own.index))) (sym q) each.0.block
-tiles_in b own (t ∷ ts) each m (inr i) = tiles_in b own ts each.1 m i
+-- each is in a block of its own
+in_block : (b : List ℕ) (own : VariableShape) (ts : List Touch) → Each (InBlock b own) ts → (m : ℕ) → In m (map (λ (t : Touch). t.tile) ts) → In m (places_of (leaves_of own.index)) × (type_at b m ≡ vvr_type)
+in_block b own [] each m i = absurd i
+in_block b own (t ∷ ts) each m (inl q) = rw q (each.0.block, each.0.typed)
+in_block b own (t ∷ ts) each m (inr i) = in_block b own ts each.1 m i
 
 -- ---- the edit
 
@@ -92,17 +75,11 @@ module _ {b now : List ℕ} {kind : Kind} {before : List VariableShape} {own : V
   abbrev pub marks : List Mark
   marks = put_marks kind v places (length b)
 
-  abbrev tests : PutTests kind marks
-  tests = put_tests kind v places (length b)
-
   sound : IsSound b s
   sound = good_is_sound b good
 
   h : HasShape b s
   h = sound.has_shape
-
-  block_in : (m : ℕ) → In m places → In m (places_of (leaves_of own.index))
-  block_in = tiles_in b own ts w.in_blocks
 
   pub in_records : (m : ℕ) → In m (places_of (leaves_of own.index)) → In m s.records
   in_records m i = behind_in good at m (block_behind own m i)
@@ -121,14 +98,11 @@ module _ {b now : List ℕ} {kind : Kind} {before : List VariableShape} {own : V
             typed = x.typed;
             lies = sub t.tile (inl refl);
             low = x.later;
-            high = upto (t.place + t.width) (size_at b t.tile) t.tile (length b) x.fits (tile_lies b 8 (length b) s.records t.tile h.tiled inside).high;
+            high = omega (arith, x.fits, (tile_lies b 8 (length b) s.records t.tile h.tiled inside).high);
           }));
         },
         blocks_marked xs (λ m i. sub m (inr i)) each.1,
       )
-    where
-      upto : (e n m l : ℕ) → e ≤ n → m + n ≤ l → e ≤ 12 + l
-      upto e n m l p q = omega arith
 
   vdr_marked : Marked b s.records marks [] (touched_field v vdr_max_rec)
   vdr_marked = record {
@@ -152,11 +126,8 @@ module _ {b now : List ℕ} {kind : Kind} {before : List VariableShape} {own : V
   pub edit : Edit b now s.records s.records marks []
   edit = changed_edit b now s.records (max_rec_touches b kind v ++ ts) marks [] h.tiled w.as_long w.changed all_marked (some_bytes b s h)
 
-  pub file_clear : keeps_file marks ≡ true
-  file_clear = tests.file_clear
-
   pub file : FileSame b now
-  file = file_same sound edit tests.file_clear
+  file = file_same sound edit (grind arith)
 
   -- ---- its records
 
@@ -170,7 +141,7 @@ module _ {b now : List ℕ} {kind : Kind} {before : List VariableShape} {own : V
   type_same m i = head_type b now m (start m i)
 
   pub node_kept : (m : ℕ) → In m (nodes_of own.index) → Kept b now m
-  node_kept m i = kept edit m vxr_type (behind_in good at m (node_behind own m i)) (linkable-type b s.records vxr_type m (nodes_stand b s.records 8 own.index (has good at).indexed.has_nodes m i)) tests.nodes_clear
+  node_kept m i = kept edit m vxr_type (behind_in good at m (node_behind own m i)) (linkable-type b s.records vxr_type m (nodes_stand b s.records 8 own.index (has good at).indexed.has_nodes m i)) (grind arith)
 
   -- no record of a variable is the GDR
   no_gdr : (m : ℕ) → In m (all_variable_records s) → type_at b m ≡ gdr_type → ⊥
@@ -203,21 +174,21 @@ module _ {b now : List ℕ} {kind : Kind} {before : List VariableShape} {own : V
 
   -- records of variables that are not of this one
   beside : (m : ℕ) → In m (all_variable_records s) → (In m (variable_records own) → ⊥) → Away marks (type_at b m) m
-  beside m i out = put_away kind v places (length b) (type_at b m) m (no_gdr m i) (λ e. out (inl e)) (λ e j. out (inr (block_behind own m (block_in m j))))
+  beside m i out = put_away kind v places (length b) (type_at b m) m (no_gdr m i) (λ e. out (inl e)) (λ e j. out (inr (block_behind own m ((in_block b own ts w.in_blocks m j).0))))
 
   pub index_edit : IndexEdit b now kind own own.index s.records s.unused marks []
   index_edit = record {
     edit = edit;
-    file_clear = tests.file_clear;
-    attributes_clear = tests.attributes_clear;
-    other_clear = tests.other_clear;
-    cpr_clear = tests.cpr_clear;
-    head_clear = tests.head_clear;
-    count_clear = tests.count_clear;
+    file_clear = grind arith;
+    attributes_clear = grind arith;
+    other_clear = grind arith;
+    cpr_clear = grind arith;
+    head_clear = grind arith;
+    count_clear = grind arith;
     beside = beside;
     avoids = λ m lo hi side. put_avoids kind v places (length b) type m lo hi (λ e. absurd (vdr_no_gdr kind e)) (λ e f. elim side [ inl l ↦ inl l | inr l ↦ inr (omega arith) ]) (λ e i. absurd (vdr_no_block kind e));
     typed = λ m i. absurd i;
-    unused_chain = chain_stays edit uir_type _ _ s.unused h.unused_chain (gdr_field sound edit tests.file_clear gdr_uir_head tests.list_clear (omega arith))
+    unused_chain = chain_stays edit uir_type _ _ s.unused h.unused_chain (gdr_field sound edit (grind arith) gdr_uir_head (grind arith) (omega arith))
         (λ m i. put_avoids kind v places (length b) uir_type m 0 20 (λ e. absurd (apart uir_type gdr_type refl e)) (λ e f. inl (omega arith)) (λ e i. absurd (apart uir_type vvr_type refl e)));
     index_now = index_now;
   }
@@ -243,29 +214,17 @@ module _ {b now : List ℕ} {kind : Kind} {before : List VariableShape} {own : V
   pub records_are : (shape now).records ≡ s.records
   records_are = ap (λ (x : Shape). x.records) same_shape
 
-  pub content_replaced : content now ≡ with_variables (content b) kind (slice_set (variables_of (content b) kind) (length before) (variable_of now own))
-  content_replaced = of_own.content_replaced good at own_edit
-
   -- of a z variable rMaxRec stays
   pub r_max_rec_of_z : kind ≡ Z → r_max_rec now ≡ r_max_rec b
-  r_max_rec_of_z z = r_max_rec_kept good at own_edit (clear kind z)
-    where
-      clear : (k : Kind) → k ≡ Z → avoided (put_marks k v places (length b)) gdr_type 52 56 ≡ true
-      clear R e = absurd cc
-      clear Z e = refl
+  r_max_rec_of_z z = r_max_rec_kept good at own_edit (grind arith)
 
   -- ---- the rules
 
   kept_or_plain : (m : ℕ) → In m (places_of (leaves_of own.index)) → Kept b now m ⊎ (type_at b m ≡ vvr_type)
   kept_or_plain m i = elim (either (is_in m places)) [
-    | inl e ↦ inr (plain ts w.in_blocks m (true-is_in m places e))
+    | inl e ↦ inr (in_block b own ts w.in_blocks m (true-is_in m places e)).1
     | inr e ↦ inl (block_kept m i (false-is_in m places e))
   ]
-    where
-      plain : (xs : List Touch) → Each (InBlock b own) xs → (m : ℕ) → In m (map (λ (t : Touch). t.tile) xs) → type_at b m ≡ vvr_type
-      plain [] each m i = absurd i
-      plain (t ∷ xs) each m (inl q) = ap (type_at b) q ∙ each.0.typed
-      plain (t ∷ xs) each m (inr i) = plain xs each.1 m i
 
   index_ruled : Hold (index_rows b s.records v own.index) → Hold (index_rows now s.records v own.index)
   index_ruled = index_rules_written b now s.records heads file h.fixed v v (packed_stays file (of_index.stays good at index_edit)) (plain_alike file vdr_alike) own.index node_kept nodes_fit (λ m i. (in_records m i, kept_or_plain m i))
@@ -274,10 +233,10 @@ module _ {b now : List ℕ} {kind : Kind} {before : List VariableShape} {own : V
   own_ruled = of_own.own_ruled good at own_edit
 
   pub good_now : length b ≤ image_limit → Good now
-  good_now = good_in_place good at own_edit w.as_long tests.eof_clear (of_index.ruled good at index_edit (index_ruled own_ruled.1) w.max_rec_ruled) (named_before good at own_edit (of_index.name_same good at index_edit))
+  good_now = good_in_place good at own_edit w.as_long (grind arith) (of_index.ruled good at index_edit (index_ruled own_ruled.1) w.max_rec_ruled) (named_before good at own_edit (of_index.name_same good at index_edit))
 
   pub no_acts_follow : ActsFollow b now []
-  no_acts_follow = of_own.no_acts_follow good at own_edit w.as_long tests.unused_clear
+  no_acts_follow = of_own.no_acts_follow good at own_edit w.as_long (grind arith)
 
   -- ---- what stays
 
@@ -289,4 +248,4 @@ module _ {b now : List ℕ} {kind : Kind} {before : List VariableShape} {own : V
   gdr_keeps = keeps_within sound edit records_are s.gdr gdr_type (r_max_rec_field kind ++ space_fields) (gdr_in b s h) (gdr_typed b s h) (early kind v places (length b) gdr_type s.gdr 0 12 (omega arith)) (gdr_within kind)
 
   pub unused_stands : (m : ℕ) → In m s.records → type_at b m ≡ uir_type → Stood b now m
-  unused_stands m i t = stood sound edit records_are m i (kept edit m uir_type i t tests.unused_clear)
+  unused_stands m i t = stood sound edit records_are m i (kept edit m uir_type i t (grind arith))
