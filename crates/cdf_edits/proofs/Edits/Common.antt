@@ -37,7 +37,7 @@ pub use Rattle.cdf_edits.proofs.Edits.RecordPlaced.{Grows, grows_not, placed_gro
 pub use Rattle.cdf_edits.proofs.Edits.RowsOneLess.{AreNumbered, numbered_still}
 pub use Rattle.cdf_edits.proofs.Edits.StaysBut.{StaysBut, field_stays, stays_within}
 pub use Rattle.cdf_edits.proofs.Edits.StepEdits.{fixed_long, gdr_in, gdr_long, gdr_typed, gives_edit, some_bytes, takes_edit}
-pub use Rattle.cdf_edits.proofs.Edits.TakenVariable.{SaysTaken, Stands, TakesVariable, back_out, content_taken, least_size, left_by, once, ours, own_stand, sound_taken, taken_good, tests, vdr_avoids, vdr_record, vdr_there, without_variable}
+pub use Rattle.cdf_edits.proofs.Edits.TakenVariable.{SaysTaken, Stands, TakesVariable, back_out, content_taken, left_by, once, ours, own_stand, sound_taken, taken_good, tests, vdr_avoids, vdr_record, vdr_there, without_variable}
 pub use Rattle.cdf_edits.proofs.Edits.VariableCopied.{block_behind, content_copied, cpr_behind, fits_copied, index_rules_stay, links_copied, node_behind, rules_stay}
 pub use Rattle.cdf_edits.proofs.Edits.VariableFrame.{AreOurs, Each-apply, Each-map, IsRuled, all_ruled, all_variables_kept, index_typed, nums_from, ours_parts, remain_from, variable_typed, variables_in}
 pub use Rattle.cdf_edits.proofs.Edits.VariableKeeps.{all_kept, stays_bytes, stays_then, stays_word, type_stays}
@@ -45,7 +45,7 @@ pub use Rattle.cdf_edits.proofs.Edits.VariableKept.{keep_kinds, keep_own, keep_v
 pub use Rattle.cdf_edits.proofs.Edits.VariableKinds.{attributes_counted, counted_before, keeps_kind, kind_chain, kind_in, kind_ours, kind_times, kind_type, of_kind, other_kind, spliced_times, vdrs_rows, with_shapes}
 pub use Rattle.cdf_edits.proofs.Edits.VariableNames.{apart_if}
 pub use Rattle.cdf_edits.proofs.Edits.VariableSplice.{OwnRules, VariableSplices, attributes_kept, attributes_stay, content_now, good_image_if, keeps_all_attributes, shape_now, sound_if}
-pub use Rattle.cdf_edits.proofs.Edits.VdrEdited.{EditsVdr, MarkTests, StandsAmong, after_ours, behind_in, behind_kept, behind_ours, file, fits, has, high, long, name_room, no_block, sound, through, tile, typed}
+pub use Rattle.cdf_edits.proofs.Edits.VdrEdited.{EditsVdr, MarkTests, StandsAmong, after_ours, behind_in, behind_kept, behind_ours, file, fits, has, high, least_size, long, name_room, no_block, sound, through, tile, typed}
 pub use Rattle.cdf_edits.proofs.Edits.WrittenFields.{MayWrite, may_after, write_lies, writes_edit, writes_lie, writes_long, written_tiles}
 pub use Rattle.cdf_edits.proofs.Frame.ChangedBytes.{changed_put}
 pub use Rattle.cdf_edits.proofs.Frame.LinksStay.{SameHeads, index_kept, names_kept, node_kept, nodes_kept}
@@ -61,4 +61,4 @@ pub use Rattle.cdf_edits.proofs.Rules.WithoutLinks.{eof_by_rules}
 pub use Rattle.cdf_edits.proofs.Space.ActsLeave.{among_sized, each, no_acts, no_rest, places-sized}
 pub use Rattle.cdf_edits.proofs.Space.LaidOut.{laid_kept, placed_laid, says_laid_out, value_laid}
 pub use Rattle.cdf_edits.proofs.Space.TakenFromList.{leads_rest, same_link}
-pub use Rattle.cdf_edits.proofs.Space.UsedRecords.{apart, filter-distinct, filter-keeps, filter-says, used-in}
+pub use Rattle.cdf_edits.proofs.Space.UsedRecords.{apart, filter-distinct, in-filter, filter-says, used-in}
