@@ -18,13 +18,10 @@ are_both l [] ys p q = q
 are_both l (x ∷ xs) ys p q = (p.0, are_both (after_act l x) xs ys p.1 q)
 
 left_more : (now : List ℕ) (l : SpaceLeft) (used loose : List (ℕ × ℕ)) (acts : List Act) → OnlyTakes acts → ((x : ℕ × ℕ) → Among x l.used → Among x used) → ((x : ℕ × ℕ) → Among x l.loose → Among x loose) → HasLeft now (fold after_act l acts) → HasLeft now (fold after_act (with_others l used loose) acts)
-left_more now l used loose [] takes more others has = record {
-  used_are = each (λ place. Among (place, size_at now place) used) (used_records now) (λ m i. more (m, size_at now m) (Each-in (λ place. Among (place, size_at now place) l.used) (used_records now) has.used_are m i));
-  list_is = has.list_is;
-  back_is = has.back_is;
-  loose_are = each (λ place. Among (place, size_at now place) loose) (loose_records now) (λ m i. others (m, size_at now m) (Each-in (λ place. Among (place, size_at now place) l.loose) (loose_records now) has.loose_are m i));
-  end_is = has.end_is;
-}
+left_more now l used loose [] takes more others has =
+    let used_are = each (λ place. Among (place, size_at now place) used) (used_records now) (λ m i. more (m, size_at now m) (Each-in (λ place. Among (place, size_at now place) l.used) (used_records now) has.used_are m i)) in
+    let loose_are = each (λ place. Among (place, size_at now place) loose) (loose_records now) (λ m i. others (m, size_at now m) (Each-in (λ place. Among (place, size_at now place) l.loose) (loose_records now) has.loose_are m i)) in
+    grind (arith, has.list_is, has.back_is, has.end_is, used_are, loose_are)
 left_more now l used loose (Took place need ∷ acts) takes more others has = left_more now (after_act l (Took place need)) ((place, need) ∷ used) loose acts takes (λ x a. elim a [ inl q ↦ inl q | inr b ↦ inr (more x b) ]) others has
 left_more now l used loose (Gave place size ∷ acts) takes more others has = absurd takes
 

@@ -55,13 +55,7 @@ module _ {b now : List ℕ} {kind : Kind} {before : List VariableShape} {own : V
   vdr_type = head_type b now v (part_of 0 12 (inl (omega arith)) (omega arith))
 
   pub stays : VdrStays b now v
-  stays = record {
-    typed = vdr_type;
-    type = part_of 20 24 (inl (omega arith)) (omega arith);
-    behind = part 44 (size_at b v) (inr (omega arith)) (omega arith);
-    inside = (tile_lies b 8 (length b) s.records v h.tiled (tile good at)).high;
-    end = (fits good at).0;
-  }
+  stays = grind (arith, vdr_type, part_of 20 24 (inl (omega arith)) (omega arith), part 44 (size_at b v) (inr (omega arith)) (omega arith), (tile_lies b 8 (length b) s.records v h.tiled (tile good at)).high, (fits good at).0)
 
   pub vdr_alike : VdrAlike b now v v
   vdr_alike = stays_alike file stays
@@ -81,20 +75,7 @@ module _ {b now : List ℕ} {kind : Kind} {before : List VariableShape} {own : V
   has_now = record { indexed = x.index_now; packed_by = vdr_of.cpr_stays file stays ∙ (has good at).packed_by }
 
   pub own_edit : OwnEdit b now kind own index new list marks reborn
-  own_edit = record {
-    edit = x.edit;
-    file_clear = x.file_clear;
-    attributes_clear = x.attributes_clear;
-    other_clear = x.other_clear;
-    head_clear = x.head_clear;
-    count_clear = x.count_clear;
-    beside = x.beside;
-    linked = λ m. x.avoids m 0 20 (inl (omega arith));
-    nums = nums_same;
-    typed = x.typed;
-    unused_chain = x.unused_chain;
-    has_now = has_now;
-  }
+  own_edit = grind (arith, x, nums_same, has_now, λ (m : ℕ). x.avoids m 0 20 (inl (omega arith)))
 
   -- ---- its rules
 

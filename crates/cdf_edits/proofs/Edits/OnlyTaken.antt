@@ -1,5 +1,5 @@
 -- Acts that take records and free none: what they leave of the unused list.
-use Rattle.cdf_edits.proofs.Common.{Act, AreActs, Bool, Each, Gave, Happens, List, SpaceLeft, Took, [], after_act, arith, either, eof_after, false, fold, if◌then◌else◌, le_of, list_any, nat_le, nat_lt, nat_tests, or_parts, place_for, taken, taken_from, ℕ, ◌&&◌, ◌++◌, ◌+◌, ◌-◌, ◌==◌, ◌∷◌, ◌≡◌, ◌≤◌, inl, inr, refl, subst, sym}
+use Rattle.cdf_edits.proofs.Common.{Act, AreActs, Bool, Each, Gave, Happens, List, SpaceLeft, Took, [], after_act, arith, either, eof_after, false, fold, if◌then◌else◌, le_of, list_any, nat_le, nat_lt, nat_tests, or_parts, place_for, taken, taken_from, ℕ, ◌&&◌, ◌++◌, ◌+◌, ◌-◌, ◌==◌, ◌∷◌, ◌≡◌, ◌≤◌, inl, inr, refl}
 use Rattle.cdf_edits.specs.Space.Acts.{Among}
 
 -- no record is freed
@@ -73,8 +73,8 @@ having_less l (Gave place size ∷ acts) i are takes once = absurd takes
 
 having_among : (i m k : ℕ) (list : List (ℕ × ℕ)) (end : ℕ) → Among (m, k) list → one i m k ≤ having i list end
 having_among i m k [] end a = absurd a
-having_among i m k (x ∷ list) end (inl q) = subst (λ (y : ℕ × ℕ). one i y.0 y.1 ≤ having i (x ∷ list) end) (sym q) (omega arith)
-having_among i m k (x ∷ list) end (inr a) = let l = having_among i m k list end a in omega arith
+having_among i m k (x ∷ list) end (inl q) = rw (← q) (omega arith)
+having_among i m k (x ∷ list) end (inr a) = omega (arith, having_among i m k list end a)
 
 -- no record that was taken begins in one that is left
 pub untaken : (l : SpaceLeft) (acts : List Act) (m k : ℕ) → AreActs l acts → OnlyTakes acts → Once l.listed l.end → Among (m, k) (fold after_act l acts).listed → list_any (λ take. nat_le m take.0 && nat_lt take.0 (m + k)) (taken acts) ≡ false

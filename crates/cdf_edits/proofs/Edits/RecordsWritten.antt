@@ -34,12 +34,10 @@ abbrev pub put_marks : Kind → ℕ → List ℕ → ℕ → List Mark
 put_marks kind v places most = mark (type_in (variables_chain kind)) (Among (v ∷ [])) vdr_max_rec ∷ block_mark places most ∷ gdr_marks kind
 
 pub put_avoids : (kind : Kind) (v : ℕ) (places : List ℕ) (most type m lo hi : ℕ) → (type ≡ gdr_type → (hi ≤ 52) ⊎ (56 ≤ lo)) → (type ≡ type_in (variables_chain kind) → m ≡ v → (hi ≤ 24) ⊎ (28 ≤ lo)) → (type ≡ vvr_type → In m places → hi ≤ 12) → Avoids (put_marks kind v places most) type m lo hi
-put_avoids R v places most type m lo hi g d p = ((λ same lies. d same (the_one v m lies)), ((λ same lies. inl (p same lies)), ((λ same lies. g same), tt)))
-put_avoids Z v places most type m lo hi g d p = ((λ same lies. d same (the_one v m lies)), ((λ same lies. inl (p same lies)), tt))
+put_avoids kind v places most type m lo hi g d p = grind (arith, the_one v m, g, d, p)
 
 put_away : (kind : Kind) (v : ℕ) (places : List ℕ) (most type m : ℕ) → (type ≡ gdr_type → ⊥) → (m ≡ v → ⊥) → (type ≡ vvr_type → In m places → ⊥) → Away (put_marks kind v places most) type m
-put_away R v places most type m g d p = ((λ same lies. d (the_one v m lies)), ((λ same lies. p same lies), ((λ same lies. g same), tt)))
-put_away Z v places most type m g d p = ((λ same lies. d (the_one v m lies)), ((λ same lies. p same lies), tt))
+put_away kind v places most type m g d p = grind (arith, the_one v m, g, d, p)
 
 -- the first bytes of all records
 early : (kind : Kind) (v : ℕ) (places : List ℕ) (most type m lo hi : ℕ) → hi ≤ 12 → Avoids (put_marks kind v places most) type m lo hi
@@ -88,36 +86,14 @@ module _ {b now : List ℕ} {kind : Kind} {before : List VariableShape} {own : V
   blocks_marked [] sub each = tt
   blocks_marked (t ∷ xs) sub each =
       let x = each.0 in
-      let inside = in_records t.tile x.block in (
-        record {
-          inside = inside;
-          fits = x.fits;
-          behind_size = let l = x.later in omega arith;
-          behind_type = inl x.later;
-          covered = inr (inl (record {
-            typed = x.typed;
-            lies = sub t.tile (inl refl);
-            low = x.later;
-            high = omega (arith, x.fits, (tile_lies b 8 (length b) s.records t.tile h.tiled inside).high);
-          }));
-        },
-        blocks_marked xs (λ m i. sub m (inr i)) each.1,
-      )
+      let inside = in_records t.tile x.block in
+      (grind (arith, inside, x.typed, x.later, x.fits, sub t.tile (inl refl), (tile_lies b 8 (length b) s.records t.tile h.tiled inside).high), blocks_marked xs (λ m i. sub m (inr i)) each.1)
 
   vdr_marked : Marked b s.records marks [] (touched_field v vdr_max_rec)
-  vdr_marked = record {
-    inside = tile good at;
-    fits = let n = long good at in omega arith;
-    behind_size = omega arith;
-    behind_type = inl (omega arith);
-    covered = inl (record { typed = typed good at; lies = inl refl; low = omega arith; high = omega arith });
-  }
+  vdr_marked = grind (arith, long good at, tile good at, typed good at)
 
   gdr_marked : (k : Kind) → Each (Marked b s.records (put_marks k v places (length b)) []) (map (touched_field s.gdr) (r_max_rec_field k))
-  gdr_marked R = (
-    record { inside = gdr_in b s h; fits = let l = gdr_long b s h in omega arith; behind_size = omega arith; behind_type = inl (omega arith); covered = inr (inr (inl (record { typed = gdr_typed b s h; lies = tt; low = omega arith; high = omega arith }))) },
-    tt,
-  )
+  gdr_marked R = grind (arith, gdr_in b s h, gdr_long b s h, gdr_typed b s h)
   gdr_marked Z = tt
 
   all_marked : Each (Marked b s.records marks []) (max_rec_touches b kind v ++ ts)
@@ -177,21 +153,10 @@ module _ {b now : List ℕ} {kind : Kind} {before : List VariableShape} {own : V
   beside m i out = put_away kind v places (length b) (type_at b m) m (no_gdr m i) (λ e. out (inl e)) (λ e j. out (inr (block_behind own m ((in_block b own ts w.in_blocks m j).0))))
 
   pub index_edit : IndexEdit b now kind own own.index s.records s.unused marks []
-  index_edit = record {
-    edit = edit;
-    file_clear = grind arith;
-    attributes_clear = grind arith;
-    other_clear = grind arith;
-    cpr_clear = grind arith;
-    head_clear = grind arith;
-    count_clear = grind arith;
-    beside = beside;
-    avoids = λ m lo hi side. put_avoids kind v places (length b) type m lo hi (λ e. absurd (vdr_no_gdr kind e)) (λ e f. elim side [ inl l ↦ inl l | inr l ↦ inr (omega arith) ]) (λ e i. absurd (vdr_no_block kind e));
-    typed = λ m i. absurd i;
-    unused_chain = chain_stays edit uir_type _ _ s.unused h.unused_chain (gdr_field sound edit (grind arith) gdr_uir_head (grind arith) (omega arith))
-        (λ m i. put_avoids kind v places (length b) uir_type m 0 20 (λ e. absurd (apart uir_type gdr_type refl e)) (λ e f. inl (omega arith)) (λ e i. absurd (apart uir_type vvr_type refl e)));
-    index_now = index_now;
-  }
+  index_edit =
+      let apart_vdr = λ (m lo hi : ℕ) (side : (hi ≤ 24) ⊎ (44 ≤ lo)). put_avoids kind v places (length b) type m lo hi (λ e. absurd (vdr_no_gdr kind e)) (λ e f. elim side [ inl l ↦ inl l | inr l ↦ inr (omega arith) ]) (λ e i. absurd (vdr_no_block kind e)) in
+      let list = chain_stays edit uir_type _ _ s.unused h.unused_chain (gdr_field sound edit (grind arith) gdr_uir_head (grind arith) (omega arith)) (λ m i. put_avoids kind v places (length b) uir_type m 0 20 (λ e. absurd (apart uir_type gdr_type refl e)) (λ e f. inl (omega arith)) (λ e i. absurd (apart uir_type vvr_type refl e))) in
+      grind (arith, edit, beside, apart_vdr, list, index_now)
 
   abbrev own_edit : OwnEdit b now kind own own.index s.records s.unused marks []
   own_edit = of_index.own_edit good at index_edit
@@ -241,8 +206,7 @@ module _ {b now : List ℕ} {kind : Kind} {before : List VariableShape} {own : V
   -- ---- what stays
 
   gdr_within : (k : Kind) → Within (put_marks k v places (length b)) gdr_type s.gdr (r_max_rec_field k ++ space_fields)
-  gdr_within R = ((λ same lies. absurd (vdr_no_gdr R (sym same))), ((λ same lies. absurd (apart gdr_type vvr_type refl same)), ((λ same lies. refl), tt)))
-  gdr_within Z = ((λ same lies. absurd (vdr_no_gdr Z (sym same))), ((λ same lies. absurd (apart gdr_type vvr_type refl same)), tt))
+  gdr_within k = grind arith
 
   pub gdr_keeps : Stays b now s.gdr (r_max_rec_field kind ++ space_fields)
   gdr_keeps = keeps_within sound edit records_are s.gdr gdr_type (r_max_rec_field kind ++ space_fields) (gdr_in b s h) (gdr_typed b s h) (early kind v places (length b) gdr_type s.gdr 0 12 (omega arith)) (gdr_within kind)

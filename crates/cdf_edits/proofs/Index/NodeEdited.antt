@@ -77,13 +77,7 @@ module _ (b now records records' : List ℕ) (heads : SameHeads b now records re
               let own = k place (inl refl) ne in
               let says = node_kept b now records records' heads place own.0 own.1 room entries more h.0 in
               rw test (
-                record {
-                  linkable = says.linkable;
-                  next_is = says.next_is ∙ sym (link_redone at edit more owed.same_link);
-                  room_is = says.room_is;
-                  used_is = says.used_is ∙ sym (count_redone at edit entries);
-                  say_entries = say_redone now place 0 at edit entries owed.same_link says.say_entries;
-                },
+                grind (arith, says, link_redone at edit more owed.same_link, count_redone at edit entries, say_redone now place 0 at edit entries owed.same_link says.say_entries),
                 below_redone levels entries h.1 (Distinct-front (lower_nodes entries) (nodes_of more) d.1) (λ m i. k m (inr (low m i))) low_blocks,
                 redone (suc levels) more h.2 (Distinct-back (lower_nodes entries) (nodes_of more) d.1) (λ m i. k m (inr (behind m i))) more_blocks,
               )
