@@ -1,5 +1,5 @@
 -- Acts that follow from one image to another, and from there on to a third, follow from the first to the third, where they only take.
-use Rattle.cdf_edits.proofs.Common.{Act, ActsFollow, AreActs, Distinct, Each, Gave, HasLeft, HasShape, In, List, RestStays, SpaceLeft, Stays, Took, [], after_act, ap, arith, both, byte, either, false, fold, fold-append, inl, inr, is_taken, le_of, length, lies_in_taken, linkable-in, list_any, loose_records, ltb-true, nat_le, nat_lt, nat_tests, refl, shape, size_at, sized, space_before, subst, sym, taken, tile_lies, tiles_lie_apart, uir_next_uir, uir_prev_uir, uir_type, unused, used_records, ℕ, ◌&&◌, ◌++◌, ◌+◌, ◌-◌, ◌<◌, ◌∙◌, ◌∷◌, ◌≡◌, ◌≤◌, ◌⊎◌}
+use Rattle.cdf_edits.proofs.Common.{Act, ActsFollow, AreActs, Distinct, Each, Gave, HasLeft, HasShape, In, List, RestStays, SpaceLeft, Stays, Took, [], after_act, ap, arith, byte, false, fold, fold-append, inl, inr, is_taken, length, lies_in_taken, linkable-in, list_any, loose_records, nat_le, nat_lt, nat_tests, refl, shape, size_at, sized, space_before, subst, sym, taken, tile_lies, tiles_lie_apart, uir_next_uir, uir_prev_uir, uir_type, unused, used_records, ℕ, ◌&&◌, ◌++◌, ◌+◌, ◌<◌, ◌∙◌, ◌∷◌, ◌≡◌, ◌≤◌, ◌⊎◌}
 use Rattle.cdf_edits.proofs.Edits.Common.{Each-in, Once, OnlyTakes, acts_carry, among_sized, each, having, no_rest, none_of_both, stays_bytes, untaken}
 use Rattle.cdf_edits.specs.Space.Acts.{Among}
 
@@ -46,13 +46,10 @@ unused_once {b = b} h j = go (shape b).unused h.unused_chain.once (λ m i. linka
 
     go : (xs : List ℕ) → Distinct xs → ((m : ℕ) → In m xs → In m (shape b).records) → having j (sized b xs) (length b) ≤ 1
     go [] once sub = grind (arith, nat_tests)
-    go (x ∷ xs) once sub = elim (either (nat_le x j && nat_lt j (x + size_at b x))) [
-      | inl e ↦
-          let p = both (nat_le x j) (nat_lt j (x + size_at b x)) e in
-          let high = (tile_lies b 8 (length b) (shape b).records x h.tiled (sub x (inl refl))).high in
-          rw (e, none x xs (le_of x j p.0) (ltb-true j (x + size_at b x) p.1) high (λ m i. tiles_lie_apart b 8 (length b) (shape b).records x m h.tiled (sub x (inl refl)) (sub m (inr i)) (λ q. once.0 (subst (λ (z : ℕ). In z xs) (sym q) i)))) (omega arith)
-      | inr e ↦ rw e (let l = go xs once.1 (λ m i. sub m (inr i)) in omega arith)
-    ]
+    go (x ∷ xs) once sub =
+        let high = (tile_lies b 8 (length b) (shape b).records x h.tiled (sub x (inl refl))).high in
+        let apart = λ (m : ℕ) (i : In m xs). tiles_lie_apart b 8 (length b) (shape b).records x m h.tiled (sub x (inl refl)) (sub m (inr i)) (λ q. once.0 (subst (λ (z : ℕ). In z xs) (sym q) i)) in
+        grind (arith, nat_tests, go xs once.1 (λ m i. sub m (inr i)), λ (low : x ≤ j) (under : j < x + size_at b x). none x xs low under high apart)
 
 -- it was a record of the list, or is the later part of one
 record Origin (b : List ℕ) (x : ℕ × ℕ) : Type 0 where
@@ -70,10 +67,10 @@ module _ {b now : List ℕ} {acts : List Act} (h : HasShape b (shape b)) (follow
 
   -- where a record of the unused list of the later image comes from
   came_from : (m : ℕ) → In m (shape now).unused → Origin b (m, size_at now m)
-  came_from m i = each_among (Origin b) _ (acts_carry (Origin b) rest (space_before b) acts follow.are takes (each_sized b (Origin b) (shape b).unused (λ n j. record { place = n; listed = j; comes = inl (refl, refl) }))) (m, size_at now m) (left_over m i)
-    where
-      rest : (place size need : ℕ) → 28 ≤ need → need + 28 ≤ size → Origin b (place, size) → Origin b (place + need, size - need)
-      rest place size need enough fits o = record { place = o.place; listed = o.listed; comes = inr (let c = o.comes in grind arith) }
+  came_from m i =
+      let first = each_sized b (Origin b) (shape b).unused (λ n j. record { place = n; listed = j; comes = inl (refl, refl) }) in
+      let left = acts_carry (Origin b) (λ place size need enough fits o. record { place = o.place; listed = o.listed; comes = inr (let c = o.comes in grind arith) }) (space_before b) acts follow.are takes first in
+      each_among (Origin b) _ left (m, size_at now m) (left_over m i)
 
   -- behind its links it has the bytes that were there
   behind_links : ListedStay b now acts → (m : ℕ) → In m (shape now).unused → (n : ℕ) → m + 28 ≤ n → n < m + size_at now m → lies_in_taken acts n ≡ false → byte now n ≡ byte b n

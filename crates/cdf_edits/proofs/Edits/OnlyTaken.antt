@@ -1,5 +1,5 @@
 -- Acts that take records and free none: what they leave of the unused list.
-use Rattle.cdf_edits.proofs.Common.{Act, AreActs, Bool, Each, Gave, Happens, List, SpaceLeft, Took, [], after_act, arith, either, eof_after, false, fold, if◌then◌else◌, le_of, list_any, nat_le, nat_lt, nat_tests, or_parts, place_for, taken, taken_from, ℕ, ◌&&◌, ◌++◌, ◌+◌, ◌-◌, ◌==◌, ◌∷◌, ◌≡◌, ◌≤◌, inl, inr, refl}
+use Rattle.cdf_edits.proofs.Common.{Act, AreActs, Bool, Each, Gave, Happens, List, SpaceLeft, Took, [], after_act, arith, eof_after, false, fold, if◌then◌else◌, list_any, nat_le, nat_lt, nat_tests, or_parts, place_for, taken, taken_from, ℕ, ◌&&◌, ◌++◌, ◌+◌, ◌-◌, ◌∷◌, ◌≡◌, ◌≤◌, inl, inr, refl}
 use Rattle.cdf_edits.specs.Space.Acts.{Among}
 
 -- no record is freed
@@ -19,13 +19,7 @@ none_of_both test (Gave place size ∷ xs) ys e = none_of_both test xs ys e
 module _ (P : ℕ × ℕ → Type 0) (rest : (place size need : ℕ) → 28 ≤ need → need + 28 ≤ size → P (place, size) → P (place + need, size - need)) where
   taken_carries : (list : List (ℕ × ℕ)) (need : ℕ) → 28 ≤ need → Each P list → Each P (taken_from list need)
   taken_carries [] need enough h = tt
-  taken_carries ((place, size) ∷ more) need enough h = elim (either (size == need)) [
-    | inl whole ↦ rw whole h.1
-    | inr partly ↦ elim (either (nat_le (need + 28) size)) [
-      | inl larger ↦ rw (partly, larger) (rest place size need enough (le_of (need + 28) size larger) h.0, h.1)
-      | inr small ↦ rw (partly, small) (h.0, taken_carries more need enough h.1)
-    ]
-  ]
+  taken_carries ((place, size) ∷ more) need enough h = grind (arith, nat_tests, rest place size need enough, h.0, h.1, taken_carries more need enough h.1)
 
   pub acts_carry : (l : SpaceLeft) (acts : List Act) → AreActs l acts → OnlyTakes acts → Each P l.listed → Each P (fold after_act l acts).listed
   acts_carry l [] are takes h = h
@@ -51,13 +45,7 @@ end_had (x ∷ list) end = let m = end_had list end in omega arith
 -- what is taken lies in none that is left
 having_taken : (list : List (ℕ × ℕ)) (end need i : ℕ) → 28 ≤ need → having end list end ≤ 1 → having i (taken_from list need) (eof_after list end need) + one i (place_for list end need) need ≡ having i list end
 having_taken [] end need i enough once = grind (arith, nat_tests)
-having_taken ((place, size) ∷ more) end need i enough once = let had = end_had more end in elim (either (size == need)) [
-  | inl whole ↦ rw whole (grind (arith, nat_tests))
-  | inr partly ↦ elim (either (nat_le (need + 28) size)) [
-    | inl larger ↦ rw (partly, larger) (grind (arith, nat_tests))
-    | inr small ↦ rw (partly, small) (let m = having_taken more end need i enough (omega arith) in omega arith)
-  ]
-]
+having_taken ((place, size) ∷ more) end need i enough once = grind (arith, nat_tests, end_had more end, having_taken more end need i enough)
 
 -- in one list after the other
 step_once : (l : SpaceLeft) (place need i : ℕ) → Happens l (Took place need) → Once l.listed l.end → having i (after_act l (Took place need)).listed (after_act l (Took place need)).end + one i place need ≡ having i l.listed l.end
@@ -84,8 +72,5 @@ untaken l (Took place need ∷ acts) m k are takes once a =
     let later : Once (after_act l (Took place need)).listed (after_act l (Took place need)).end = λ j. omega (arith, first j, once j) in
     let less = having_less (after_act l (Took place need)) acts place are.1 takes later in
     let among = having_among place m k (fold after_act (after_act l (Took place need)) acts).listed (fold after_act (after_act l (Took place need)) acts).end a in
-    rw (none m k place need (having place (after_act l (Took place need)).listed (after_act l (Took place need)).end) are.0.0 (omega arith) (omega (arith, first place, once place))) (untaken (after_act l (Took place need)) acts m k are.1 takes later a)
-  where
-    none : (m k place need left : ℕ) → 28 ≤ need → one place m k ≤ left → left + one place place need ≤ 1 → (nat_le m place && nat_lt place (m + k)) ≡ false
-    none m k place need left enough less most = grind (arith, nat_tests)
+    grind (arith, nat_tests, are.0.0, first place, once place, less, among, untaken (after_act l (Took place need)) acts m k are.1 takes later a)
 untaken l (Gave place size ∷ acts) m k are takes once a = absurd takes

@@ -1,6 +1,6 @@
 -- Records of a variable are written where they stand, in blocks that are not packed, and MaxRec with them: the image has its shape and its rules, and all but the variable stays.
-use Rattle.cdf_edits.proofs.Common.{ActsFollow, Among, Anywhere, Avoids, Away, Changed, Each, Each-append, Edit, Good, HasShape, Hold, In, In-append, IsIndex, IsSound, Kind, List, Mark, Marked, NodeFits, R, Same, Shape, Stays, Touch, VariableShape, Within, Z, [], ap, arith, either, false-is_in, gdr_r_max_rec, gdr_type, gdr_uir_head, good_is_sound, image_limit, index_rows, inl, inr, is_in, is_max_rec, leaves_of, length, linkable-type, map, mark, max_rec_touches, nodes_of, nodes_stand, number, r_max_rec, r_max_rec_field, refl, shape, size_at, space_fields, subst, sym, tile_lies, touched_field, true, true-is_in, true≢false, type_at, type_in, uir_type, variable_records, variable_types, variables_chain, vdr_max_rec, vdr_vxr_head, vvr_type, vxr_type, ℕ, ◌++◌, ◌+◌, ◌∙◌, ◌∷◌, ◌≡◌, ◌≤◌, ◌⊎◌}
-use Rattle.cdf_edits.proofs.Edits.Common.{Each-in, FileSame, IsRuled, Kept, OwnEdit, SameHeads, StandsAmong, Stood, VdrAlike, all_variable_records, apart, behind_in, behind_ours, block_behind, chain_stays, changed_edit, file_same, fits, gdr_field, gdr_in, gdr_long, gdr_typed, good_in_place, has, head_size, head_type, index_kept, index_records, keeps_within, kept, kept_away, long, named_before, no_block, node_behind, packed_stays, places_of, plain_alike, r_max_rec_kept, shape_stays, some_bytes, stood, the_one, tile, typed, variable_typed}
+use Rattle.cdf_edits.proofs.Common.{ActsFollow, Among, Anywhere, Avoids, Away, Changed, Each, Each-append, Edit, Good, HasShape, Hold, In, In-append, IsIndex, IsSound, Kind, List, Mark, Marked, NodeFits, R, Same, Shape, Stays, Touch, VariableShape, Within, Z, [], ap, arith, either, false-is_in, gdr_r_max_rec, gdr_type, gdr_uir_head, good_is_sound, image_limit, index_rows, inl, inr, is_in, is_max_rec, leaves_of, length, linkable-type, map, mark, max_rec_touches, nodes_of, nodes_stand, number, r_max_rec, r_max_rec_field, refl, shape, size_at, space_fields, subst, sym, tile_lies, true, true-is_in, true≢false, type_at, type_in, uir_type, variable_records, variable_types, variables_chain, vdr_max_rec, vdr_vxr_head, vvr_type, vxr_type, ℕ, ◌++◌, ◌+◌, ◌∙◌, ◌∷◌, ◌≡◌, ◌≤◌, ◌⊎◌}
+use Rattle.cdf_edits.proofs.Edits.Common.{Each-in, FileSame, IsRuled, Kept, OwnEdit, SameHeads, StandsAmong, Stood, VdrAlike, all_variable_records, behind_in, behind_ours, block_behind, chain_stays, changed_edit, file_same, fits, gdr_field, gdr_in, gdr_long, gdr_typed, good_in_place, has, head_size, head_type, index_kept, index_records, keeps_within, kept, kept_away, long, named_before, no_block, node_behind, packed_stays, places_of, plain_alike, r_max_rec_kept, shape_stays, some_bytes, stood, the_one, tile, typed, variable_typed}
 use Rattle.cdf_edits.proofs.Edits.IndexEdited.{IndexEdit}
 use Rattle.cdf_edits.proofs.Rules.OfIndexes.{index_rules_written}
 use Rattle.cdf_edits.proofs.Edits.OwnEdited as of_own
@@ -33,21 +33,12 @@ block_mark places most = record { type = vvr_type; tiles = Among places; place =
 abbrev pub put_marks : Kind → ℕ → List ℕ → ℕ → List Mark
 put_marks kind v places most = mark (type_in (variables_chain kind)) (Among (v ∷ [])) vdr_max_rec ∷ block_mark places most ∷ gdr_marks kind
 
-pub put_avoids : (kind : Kind) (v : ℕ) (places : List ℕ) (most type m lo hi : ℕ) → (type ≡ gdr_type → (hi ≤ 52) ⊎ (56 ≤ lo)) → (type ≡ type_in (variables_chain kind) → m ≡ v → (hi ≤ 24) ⊎ (28 ≤ lo)) → (type ≡ vvr_type → In m places → hi ≤ 12) → Avoids (put_marks kind v places most) type m lo hi
-put_avoids kind v places most type m lo hi g d p = grind (arith, the_one v m, g, d, p)
-
-put_away : (kind : Kind) (v : ℕ) (places : List ℕ) (most type m : ℕ) → (type ≡ gdr_type → ⊥) → (m ≡ v → ⊥) → (type ≡ vvr_type → In m places → ⊥) → Away (put_marks kind v places most) type m
-put_away kind v places most type m g d p = grind (arith, the_one v m, g, d, p)
-
--- the first bytes of all records
+-- the first bytes of all records, and a part of the VDR beside MaxRec
 early : (kind : Kind) (v : ℕ) (places : List ℕ) (most type m lo hi : ℕ) → hi ≤ 12 → Avoids (put_marks kind v places most) type m lo hi
-early kind v places most type m lo hi l = put_avoids kind v places most type m lo hi (λ e. inl (omega arith)) (λ e f. inl (omega arith)) (λ e i. l)
+early kind v places most type m lo hi l = grind arith
 
-vdr_no_gdr : (kind : Kind) → type_in (variables_chain kind) ≡ gdr_type → ⊥
-vdr_no_gdr kind e = grind arith
-
-vdr_no_block : (kind : Kind) → type_in (variables_chain kind) ≡ vvr_type → ⊥
-vdr_no_block kind e = grind arith
+vdr_avoids : (kind : Kind) (v : ℕ) (places : List ℕ) (most m lo hi : ℕ) → (hi ≤ 24) ⊎ (28 ≤ lo) → Avoids (put_marks kind v places most) (type_in (variables_chain kind)) m lo hi
+vdr_avoids kind v places most m lo hi side = grind arith
 
 -- each is in a block of its own
 in_block : (b : List ℕ) (own : VariableShape) (ts : List Touch) → Each (InBlock b own) ts → (m : ℕ) → In m (map (λ (t : Touch). t.tile) ts) → In m (places_of (leaves_of own.index)) × (type_at b m ≡ vvr_type)
@@ -89,15 +80,11 @@ module _ {b now : List ℕ} {kind : Kind} {before : List VariableShape} {own : V
       let inside = in_records t.tile x.block in
       (grind (arith, inside, x.typed, x.later, x.fits, sub t.tile (inl refl), (tile_lies b 8 (length b) s.records t.tile h.tiled inside).high), blocks_marked xs (λ m i. sub m (inr i)) each.1)
 
-  vdr_marked : Marked b s.records marks [] (touched_field v vdr_max_rec)
-  vdr_marked = grind (arith, long good at, tile good at, typed good at)
-
-  gdr_marked : (k : Kind) → Each (Marked b s.records (put_marks k v places (length b)) []) (map (touched_field s.gdr) (r_max_rec_field k))
-  gdr_marked R = grind (arith, gdr_in b s h, gdr_long b s h, gdr_typed b s h)
-  gdr_marked Z = tt
+  fields_marked : Each (Marked b s.records marks []) (max_rec_touches b kind v)
+  fields_marked = grind (arith, gdr_in b s h, gdr_long b s h, gdr_typed b s h, long good at, tile good at, typed good at)
 
   all_marked : Each (Marked b s.records marks []) (max_rec_touches b kind v ++ ts)
-  all_marked = Each-append (Marked b s.records marks []) (max_rec_touches b kind v) ts (Each-append (Marked b s.records marks []) (map (touched_field s.gdr) (r_max_rec_field kind)) (touched_field v vdr_max_rec ∷ []) (gdr_marked kind) (vdr_marked, tt)) (blocks_marked ts (λ m i. i) w.in_blocks)
+  all_marked = Each-append (Marked b s.records marks []) (max_rec_touches b kind v) ts fields_marked (blocks_marked ts (λ m i. i) w.in_blocks)
 
   pub edit : Edit b now s.records s.records marks []
   edit = changed_edit b now s.records (max_rec_touches b kind v ++ ts) marks [] h.tiled w.as_long w.changed all_marked (some_bytes b s h)
@@ -126,13 +113,13 @@ module _ {b now : List ℕ} {kind : Kind} {before : List VariableShape} {own : V
   -- a block of which nothing is written
   pub block_kept : (m : ℕ) → In m (places_of (leaves_of own.index)) → (In m places → ⊥) → Kept b now m
   block_kept m i out =
-      kept_away edit m (type_at b m) (in_records m i) refl (put_away kind v places (length b) (type_at b m) m (no_gdr m (behind_ours good at m (block_behind own m i)))
-      (λ e. no_block good at (subst (λ (x : ℕ). In x (places_of (leaves_of own.index))) e i)) (λ e j. out j))
+      let other = λ (e : m ≡ v). no_block good at (subst (λ (x : ℕ). In x (places_of (leaves_of own.index))) e i) in
+      kept_away edit m (type_at b m) (in_records m i) refl (grind (arith, the_one v m, no_gdr m (behind_ours good at m (block_behind own m i)), other, out))
 
   -- ---- its VDR
 
   pub part : (lo hi : ℕ) → (hi ≤ 24) ⊎ (28 ≤ lo) → hi ≤ size_at b v → Same b now (v + lo) (v + hi)
-  part lo hi side fit = edit.part v type lo hi (tile good at) (typed good at) (early kind v places (length b) type v 0 12 (omega arith)) (put_avoids kind v places (length b) type v lo hi (λ e. absurd (vdr_no_gdr kind e)) (λ e f. side) (λ e i. absurd (vdr_no_block kind e))) fit
+  part lo hi side fit = edit.part v type lo hi (tile good at) (typed good at) (early kind v places (length b) type v 0 12 (omega arith)) (vdr_avoids kind v places (length b) v lo hi side) fit
 
   links_same : Copied b now v v 28 44
   links_same = copied_in_place b now v 28 44 (part 28 44 (inr (omega arith)) (let l = long good at in omega arith))
@@ -150,12 +137,12 @@ module _ {b now : List ℕ} {kind : Kind} {before : List VariableShape} {own : V
 
   -- records of variables that are not of this one
   beside : (m : ℕ) → In m (all_variable_records s) → (In m (variable_records own) → ⊥) → Away marks (type_at b m) m
-  beside m i out = put_away kind v places (length b) (type_at b m) m (no_gdr m i) (λ e. out (inl e)) (λ e j. out (inr (block_behind own m ((in_block b own ts w.in_blocks m j).0))))
+  beside m i out = let block = λ (j : In m places). out (inr (block_behind own m (in_block b own ts w.in_blocks m j).0)) in grind (arith, the_one v m, no_gdr m i, λ (e : m ≡ v). out (inl e), block)
 
   pub index_edit : IndexEdit b now kind own own.index s.records s.unused marks []
   index_edit =
-      let apart_vdr = λ (m lo hi : ℕ) (side : (hi ≤ 24) ⊎ (44 ≤ lo)). put_avoids kind v places (length b) type m lo hi (λ e. absurd (vdr_no_gdr kind e)) (λ e f. elim side [ inl l ↦ inl l | inr l ↦ inr (omega arith) ]) (λ e i. absurd (vdr_no_block kind e)) in
-      let list = chain_stays edit uir_type _ _ s.unused h.unused_chain (gdr_field sound edit (grind arith) gdr_uir_head (grind arith) (omega arith)) (λ m i. put_avoids kind v places (length b) uir_type m 0 20 (λ e. absurd (apart uir_type gdr_type refl e)) (λ e f. inl (omega arith)) (λ e i. absurd (apart uir_type vvr_type refl e))) in
+      let apart_vdr = λ (m lo hi : ℕ) (side : (hi ≤ 24) ⊎ (44 ≤ lo)). vdr_avoids kind v places (length b) m lo hi (elim side [ inl l ↦ inl l | inr l ↦ inr (omega arith) ]) in
+      let list = chain_stays edit uir_type _ _ s.unused h.unused_chain (gdr_field sound edit (grind arith) gdr_uir_head (grind arith) (omega arith)) (λ m i. grind arith) in
       grind (arith, edit, beside, apart_vdr, list, index_now)
 
   abbrev own_edit : OwnEdit b now kind own own.index s.records s.unused marks []
