@@ -1,5 +1,5 @@
 -- The records of a variable once one is put: what its leaves hold then says that they are those of the content.
-use Rattle.cdf_edits.proofs.Common.{Leaf, List, NoRule, Pad, Previous, Some, Variable, ap, arith, cases_eq, cases_lt, cuts_before_put, extent, false, filled, greater, inl, inr, is_little, is_sparse, item_at, last_number, le-ltb, lt-ltb, max_rec_at, nat_lt, nat_tests, option_map, pad_record, record_bytes, record_number_limit, records_in, refl, stored_bytes, subst, suc, sym, turned, type_of_variable, with_item, with_items, zero, ℕ, ◌+◌, ◌-◌, ◌<◌, ◌∙◌, ◌≡◌, ◌≢◌, ◌≤◌, ◌⊎◌}
+use Rattle.cdf_edits.proofs.Common.{Leaf, List, NoRule, Pad, Previous, Some, Variable, ap, arith, cases_eq, cases_lt, cuts_before_put, extent, false, filled, greater, inl, inr, is_little, is_sparse, item_at, last_number, le-ltb, lt-ltb, max_rec_at, nat_lt, nat_tests, option_map, pad_record, record_bytes, record_number_limit, records_in, refl, stored_bytes, subst, suc, sym, turned, type_of_variable, with_item, with_items, zero, ℕ, ◌+◌, ◌-◌, ◌<◌, ◌∙◌, ◌≡◌, ◌≢◌, ◌≤◌}
 use Rattle.cdf_edits.proofs.Edits.Common.{Ascending, record_is, record_past, rising_records}
 use Rattle.cdf_edits.proofs.Edits.NumberedLookup.{item_among, item_before_all, item_beside, item_past_all, item_with, rising_with_items, same_items}
 use Rattle.cdf_edits.proofs.Edits.NumberedItems.{rising_with}
@@ -53,16 +53,14 @@ module _ {b now : List ℕ} {vdr vdr' : ℕ} {leaves leaves' : List Leaf} {r : �
   each : (k : ℕ) → item_at k (records_in now vdr' leaves') ≡ item_at k (with_item r bytes filled_up)
   each k = elim (cases_eq r k) [
     | inl e ↦ subst (λ (x : ℕ). item_at x (records_in now vdr' leaves') ≡ item_at x (with_item r bytes filled_up)) e (now_is r (omega (arith, p.upto, greater_least m (r + 1))) ∙ p.stored ∙ sym (item_with r bytes filled_up))
-    | inr ne ↦ beside ne (cases_lt k m) ∙ sym (item_beside k r bytes filled_up ne)
-  ]
-    where
-      beside : r ≢ k → (k < m) ⊎ (m ≤ k) → item_at k (records_in now vdr' leaves') ≡ item_at k filled_up
-      beside ne (inl lt) =
-          now_is k (omega (arith, p.upto, greater_first m (r + 1))) ∙ ap (option_map turn) (p.kept k lt (λ e. ne (sym e))) ∙ sym (record_is b vdr leaves p.ascend k lt) ∙ sym (item_before_all k m (r - m) pad was lt)
-      beside ne (inr le) = elim (cases_lt k r) [
+    | inr ne ↦ rw (item_beside k r bytes filled_up ne) (elim (cases_lt k m) [
+      | inl lt ↦ now_is k (omega (arith, p.upto, greater_first m (r + 1))) ∙ ap (option_map turn) (p.kept k lt (λ e. ne (sym e))) ∙ sym (record_is b vdr leaves p.ascend k lt) ∙ sym (item_before_all k m (r - m) pad was lt)
+      | inr le ↦ elim (cases_lt k r) [
         | inl lt ↦ now_is k (omega (arith, p.upto, greater_least m (r + 1))) ∙ p.padded k le lt ∙ sym (item_among k m (r - m) pad was le (omega arith))
         | inr ge ↦ record_past now vdr' leaves' p.ascend_now k (omega (arith, p.upto, greater_most m (r + 1) k le (omega arith))) ∙ sym (record_past b vdr leaves p.ascend k le) ∙ sym (item_past_all k m (r - m) pad was (omega arith))
       ]
+    ])
+  ]
 
   pub records_put : records_in now vdr' leaves' ≡ with_item r bytes (with_items m (r - m) pad (records_in b vdr leaves))
   records_put = same_items 0 0 (records_in now vdr' leaves') (with_item r bytes filled_up) (rising_records now vdr' leaves' p.ascend_now) (rising_with 0 r bytes filled_up (omega arith) (rising_with_items 0 m (r - m) pad was (omega arith) (rising_records b vdr leaves p.ascend))) each
