@@ -1,14 +1,11 @@
 -- How large a put makes the file at most, by what was read of the variable.
-use Rattle.cdf_var_records.proofs.Common.{Ascending, Form, Good, HasIndex, IndexSize, IsForm, List, Nodes, Variable, ap, ap₂, arith, blocks_room, covered, cuts_before_put, either, false, first_written, index_at, inl, inr, is_sparse, leaves_ascend, leaves_of, length, number, packed_room, put_room, ranges_before_put, ranges_of, record_number_limit, refl, subst, suc, sym, uncovered, uncut, variable_at, vdr_vxr_head, ℕ, ◌+◌, ◌-◌, ◌∙◌, ◌≡◌, ◌≤◌}
+use Rattle.cdf_var_records.proofs.Common.{Ascending, Form, Good, HasIndex, IndexSize, IsForm, List, Nodes, Variable, ap, ap₂, arith, blocks_room, covered, cuts_before_put, false, first_written, index_at, leaves_ascend, leaves_of, length, number, packed_room, put_room, ranges_before_put, ranges_of, record_number_limit, refl, subst, suc, sym, uncovered, uncut, variable_at, vdr_vxr_head, ℕ, ◌+◌, ◌-◌, ◌∙◌, ◌≡◌, ◌≤◌}
 use Rattle.cdf_index.specs.Sizes.{size_of}
 use Rattle.cdf_index.specs.declared.measuring.IndexSize.{IndexSize}
 use Rattle.cdf_puts.proofs.PutRules.{loose, uncut}
 use Rattle.cdf_var_records.proofs.RecordForms.{variable_is}
 use Rattle.cdf_var_records.proofs.RecordReading.{index, lies}
 use Rattle.cdf_var_records.proofs.PadSites.{at}
-
-pub first_within : (v : Variable) (r : ℕ) → first_written v r ≤ r
-first_within v r = elim (either (is_sparse v.sparse)) [ inl t ↦ rw t (omega arith) | inr t ↦ rw t (omega arith) ]
 
 no_packed : (v : Variable) (nodes : Nodes) (r : ℕ) → v.rle ≡ false → packed_room v nodes r ≡ 0
 no_packed v nodes r loose = rw loose refl

@@ -1,23 +1,12 @@
 -- What a record of a variable reads as, by what was read of its VDR.
-use Rattle.cdf_var_records.proofs.Common.{Bool, DataType, Form, Good, HasIndex, HoldsRecords, IsForm, IsRecordShape, Leaf, List, None, Shape, Some, Variable, ap, ap₂, arith, default_value, dimensions_at, drop, elems_at, extent, false, has_bit, has_pad, if◌then◌else◌, index_at, is_z, item_at, le-ltb, leaf_in, leaf_of, leaves_of, length, lt-ltb, max_rec_at, mul-div_cancel_left, mul-le-mul_right, nat_lt, network_bytes, number, number_read, option_map, pad_field, pad_record, pad_value, pad_width, plain_bytes, read, record_bytes, record_in, record_limit, record_of_leaf, record_size, refl, seen, size_of, size_stays, subst, sym, take, take_at, true, turned, type_of_variable, value_bytes, value_count, variable_at, vdr_vxr_head, whole_elements, ℕ, ◌%◌, ◌*◌, ◌++◌, ◌+◌, ◌-◌, ◌/◌, ◌<◌, ◌∙◌, ◌≡◌, ◌≤◌}
+use Rattle.cdf_var_records.proofs.Common.{Bool, DataType, Form, Good, HasIndex, HoldsRecords, IsForm, IsRecordShape, Leaf, List, None, Shape, Some, Variable, ap, ap₂, arith, drop, elems_at, has_bit, has_pad, if◌then◌else◌, item_at, leaf_in, length, mul-div_cancel_left, mul-le-mul_right, number, number_read, option_map, pad_record, plain_bytes, read, record_bytes, record_in, record_limit, record_of_leaf, record_size, seen, size_of, subst, sym, take, true, turned, type_of_variable, value_bytes, value_count, variable_at, vdr_vxr_head, whole_elements, ℕ, ◌%◌, ◌*◌, ◌+◌, ◌-◌, ◌/◌, ◌∙◌, ◌≡◌, ◌≤◌}
 use Rattle.cdf_var_records.proofs.PadSites.{vdr_lies}
 use Rattle.cdf_var_records.proofs.RecordForms.{has_index, pad_lies}
-use Rattle.cdf_var_records.proofs.RecordsRead.{by_leaf, holding, pad_by, pad_none, piece_long, read_is, stored_whole}
+use Rattle.cdf_var_records.proofs.RecordsRead.{by_leaf, holding, piece_long, read_is, stored_whole}
 
 -- a record has no more values than bytes
 pub values_fit : (shape : Shape) → IsRecordShape shape → value_count shape.dims shape.varys ≤ record_limit
 values_fit shape is = omega (arith, mul-le-mul_right (value_count shape.dims shape.varys) is.some, is.fits)
-
--- elements that were turned in place
-pub turned_in_place : (t : DataType) (little : Bool) (n : ℕ) (bytes now : List ℕ) → length bytes % size_of t ≡ 0 → n ≡ length bytes → now ≡ turned t little bytes → take n (now ++ drop (length now) bytes) ≡ turned t little bytes
-turned_in_place t little n bytes now whole all is = take_at now (drop (length now) bytes) n (ap length is ∙ size_stays t little bytes whole ∙ sym all) ∙ is
-
--- before MaxRec a record is looked for in the index
-pub past_max : (b : List ℕ) (at rec : ℕ) → extent (max_rec_at b at) ≤ rec → None ≡ leaf_in b at rec
-past_max b at rec le = let past : nat_lt rec (extent (max_rec_at b at)) ≡ false = le-ltb rec (extent (max_rec_at b at)) le in rw past refl
-
-pub before_max : (b : List ℕ) (at rec : ℕ) → rec < extent (max_rec_at b at) → leaf_of rec (leaves_of (index_at b (number b at vdr_vxr_head))) ≡ leaf_in b at rec
-before_max b at rec lt = let within : nat_lt rec (extent (max_rec_at b at)) ≡ true = lt-ltb rec (extent (max_rec_at b at)) lt in rw within refl
 
 module _ {b : List ℕ} {form : Form} (good : Good b) (f : IsForm b form) where
   abbrev pub vdr : ℕ
@@ -40,11 +29,6 @@ module _ {b : List ℕ} {form : Form} (good : Good b) (f : IsForm b form) where
 
   -- ---- the pad value
 
-  pub value_is_default : has_bit form.place.flags 1 ≡ false → default_value form.shape.t form.shape.elems ≡ pad_value variable
-  value_is_default without =
-      let none : has_pad b vdr ≡ false = ap (λ (n : ℕ). has_bit n 1) (sym f.place.flags_are) ∙ without in
-      ap₂ (λ (t : DataType) (n : ℕ). default_value t n) t_here elems_here ∙ sym (pad_none (has_pad b vdr) (network_bytes b vdr (pad_field b vdr) (type_of_variable b vdr)) (default_value (type_of_variable b vdr) (elems_at b vdr)) none)
-
   module _ (has : has_bit form.place.flags 1 ≡ true) where
     some : has_pad b vdr ≡ true
     some = ap (λ (n : ℕ). has_bit n 1) (sym f.place.flags_are) ∙ has
@@ -57,14 +41,6 @@ module _ {b : List ℕ} {form : Form} (good : Good b) (f : IsForm b form) where
     pad_whole bytes e =
         let long : length bytes ≡ size_of form.shape.t * form.shape.elems = ap length e ∙ piece_long b (vdr + form.place.at) (size_of form.shape.t * form.shape.elems) pad_is_inside in
         whole_elements form.place.t form.shape.elems (length bytes) (long ∙ ap (λ (t : DataType). size_of t * form.shape.elems) f.t_is)
-
-    pub value_is_read : turned form.place.t form.encoding.little (take (size_of form.shape.t * form.shape.elems) (drop (vdr + form.place.at) b)) ≡ pad_value variable
-    value_is_read =
-        let t = f.place.t_is in
-        let o = f.order in
-        let n = value_size_is ∙ sym (pad_width (is_z b vdr) (dimensions_at b vdr) (value_bytes b vdr)) in
-        let p = f.place.at_is in
-        (λ i. turned (t i) (o i) (take (n i) (drop (vdr + p i) b))) ∙ sym (pad_by (has_pad b vdr) (network_bytes b vdr (pad_field b vdr) (type_of_variable b vdr)) (default_value (type_of_variable b vdr) (elems_at b vdr)) some)
 
   pub count_is : (size value : ℕ) → size ≡ record_size form.shape.t form.shape.elems form.shape.dims form.shape.varys → value ≡ size_of form.shape.t * form.shape.elems → size / value ≡ value_count variable.dims variable.varys
   count_is size value s w =

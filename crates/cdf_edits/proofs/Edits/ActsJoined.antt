@@ -1,200 +1,114 @@
 -- Acts that follow from one image to another, and from there on to a third, follow from the first to the third, where they only take.
-use Rattle.cdf_edits.proofs.Common.{Act, ActsFollow, AreActs, Distinct, Each, Gave, Happens, HasLeft, HasShape, In, List, RestStays, SpaceLeft, Stays, Took, [], after_act, ap, arith, byte, false, fold, fold-append, inl, inr, is_taken, length, lies_in_taken, linkable-in, loose_records, nat_le, nat_lt, place_for, refl, shape, size_at, sized, space_before, subst, sym, tile_lies, tiles_lie_apart, uir_next_uir, uir_prev_uir, uir_type, unused, used_records, ℕ, ◌&&◌, ◌++◌, ◌+◌, ◌-◌, ◌<◌, ◌∙◌, ◌∷◌, ◌≡◌, ◌≤◌, ◌⊎◌}
-use Rattle.cdf_edits.proofs.Edits.ActsThen.{each_in}
-use Rattle.cdf_edits.proofs.Space.ActsLeave.{each, among_sized, no_rest}
+use Rattle.cdf_edits.proofs.Common.{Act, ActsFollow, AreActs, Distinct, Each, Gave, HasLeft, HasShape, In, List, RestStays, SpaceLeft, Stays, Took, [], after_act, ap, arith, byte, false, fold, fold-append, inl, inr, is_taken, length, lies_in_taken, linkable-in, list_any, loose_records, nat_le, nat_lt, nat_tests, refl, shape, size_at, sized, space_before, subst, sym, taken, tile_lies, tiles_lie_apart, uir_next_uir, uir_prev_uir, uir_type, unused, used_records, ℕ, ◌&&◌, ◌++◌, ◌+◌, ◌<◌, ◌∙◌, ◌∷◌, ◌≡◌, ◌≤◌, ◌⊎◌}
+use Rattle.cdf_edits.proofs.Edits.Common.{Each-in, Once, OnlyTakes, acts_carry, among_sized, each, having, no_rest, none_of_both, stays_bytes, untaken}
 use Rattle.cdf_edits.specs.Space.Acts.{Among}
-use Rattle.cdf_edits.proofs.Edits.OnlyTaken.{OnlyTakes, none_of_both, AllApart, EndBefore, acts_origin, acts_outside, not_taken}
 
--- ---- a space that has no more than another
+-- ---- a space with more records in use, and more on no list
 
--- the list is the same, and so is the end
-record Under (less more : SpaceLeft) : Type 0 where
-  used : (m n : ℕ) → Among (m, n) less.used → Among (m, n) more.used
-  listed : less.listed ≡ more.listed
-  back : less.back ≡ more.back
-  loose : (m n : ℕ) → Among (m, n) less.loose → Among (m, n) more.loose
-  end : less.end ≡ more.end
+abbrev with_others : SpaceLeft → List (ℕ × ℕ) → List (ℕ × ℕ) → SpaceLeft
+with_others l used loose = record l { used = used; loose = loose }
 
-took_under : (less more : SpaceLeft) (place need : ℕ) → Under less more → Under (after_act less (Took place need)) (after_act more (Took place need))
-took_under less more place need u =
-    let l = u.listed in
-    let b = u.back in
-    let e = u.end in
-    record {
-      used = λ m n a. elim a [ inl q ↦ inl q | inr x ↦ inr (u.used m n x) ];
-      listed = λ i. (after_act (record { used = less.used; listed = l i; back = b i; loose = less.loose; end = e i }) (Took place need)).listed;
-      back = λ i. (after_act (record { used = less.used; listed = l i; back = b i; loose = less.loose; end = e i }) (Took place need)).back;
-      loose = u.loose;
-      end = λ i. (after_act (record { used = less.used; listed = l i; back = b i; loose = less.loose; end = e i }) (Took place need)).end;
-    }
-
-took_happens : (less more : SpaceLeft) (place need : ℕ) → Under less more → Happens less (Took place need) → Happens more (Took place need)
-took_happens less more place need u h =
-    let l = u.listed in
-    let e = u.end in
-    (h.0, h.1 ∙ (λ i. place_for (l i) (e i) need))
-
-acts_under : (less more : SpaceLeft) (acts : List Act) → OnlyTakes acts → Under less more → AreActs less acts → AreActs more acts × Under (fold after_act less acts) (fold after_act more acts)
-acts_under less more [] takes u are = (tt, u)
-acts_under less more (Took place need ∷ acts) takes u are =
-    let rest = acts_under (after_act less (Took place need)) (after_act more (Took place need)) acts takes (took_under less more place need u) are.1 in
-    ((took_happens less more place need u are.0, rest.0), rest.1)
-acts_under less more (Gave place size ∷ acts) takes u are = absurd takes
+are_more : (l : SpaceLeft) (used loose : List (ℕ × ℕ)) (acts : List Act) → OnlyTakes acts → AreActs l acts → AreActs (with_others l used loose) acts
+are_more l used loose [] takes are = tt
+are_more l used loose (Took place need ∷ acts) takes are = (are.0, are_more (after_act l (Took place need)) ((place, need) ∷ used) loose acts takes are.1)
+are_more l used loose (Gave place size ∷ acts) takes are = absurd takes
 
 are_both : (l : SpaceLeft) (xs ys : List Act) → AreActs l xs → AreActs (fold after_act l xs) ys → AreActs l (xs ++ ys)
 are_both l [] ys p q = q
 are_both l (x ∷ xs) ys p q = (p.0, are_both (after_act l x) xs ys p.1 q)
 
-among_each : (b : List ℕ) (P : ℕ × ℕ → Type 0) (places : List ℕ) (m n : ℕ) → Each (λ place. P (place, size_at b place)) places → Among (m, n) (sized b places) → P (m, n)
-among_each b P [] m n each a = absurd a
-among_each b P (x ∷ xs) m n each (inl q) = subst P (sym q) each.0
-among_each b P (x ∷ xs) m n each (inr a) = among_each b P xs m n each.1 a
-
--- an image has what acts left
-left_under : (mid : List ℕ) (left : SpaceLeft) → HasLeft mid left → Under (space_before mid) left
-left_under mid left has = record {
-  used = λ m n a. among_each mid (λ (x : ℕ × ℕ). Among x left.used) (used_records mid) m n has.used_are a;
-  listed = has.list_is;
-  back = has.back_is;
-  loose = λ m n a. among_each mid (λ (x : ℕ × ℕ). Among x left.loose) (loose_records mid) m n has.loose_are a;
-  end = has.end_is;
-}
-
-each_more : (b places : List ℕ) (less more : List (ℕ × ℕ)) → ((m n : ℕ) → Among (m, n) less → Among (m, n) more) → Each (λ place. Among (place, size_at b place) less) places → Each (λ place. Among (place, size_at b place) more) places
-each_more b [] less more sub each = tt
-each_more b (p ∷ places) less more sub each = (sub p (size_at b p) each.0, each_more b places less more sub each.1)
-
-has_under : (now : List ℕ) (less more : SpaceLeft) → Under less more → HasLeft now less → HasLeft now more
-has_under now less more u has = record {
-  used_are = each_more now (used_records now) less.used more.used u.used has.used_are;
-  list_is = has.list_is ∙ u.listed;
-  back_is = has.back_is ∙ u.back;
-  loose_are = each_more now (loose_records now) less.loose more.loose u.loose has.loose_are;
-  end_is = has.end_is ∙ u.end;
-}
+left_more : (now : List ℕ) (l : SpaceLeft) (used loose : List (ℕ × ℕ)) (acts : List Act) → OnlyTakes acts → ((x : ℕ × ℕ) → Among x l.used → Among x used) → ((x : ℕ × ℕ) → Among x l.loose → Among x loose) → HasLeft now (fold after_act l acts) → HasLeft now (fold after_act (with_others l used loose) acts)
+left_more now l used loose [] takes more others has =
+    let used_are = each (λ place. Among (place, size_at now place) used) (used_records now) (λ m i. more (m, size_at now m) (Each-in (λ place. Among (place, size_at now place) l.used) (used_records now) has.used_are m i)) in
+    let loose_are = each (λ place. Among (place, size_at now place) loose) (loose_records now) (λ m i. others (m, size_at now m) (Each-in (λ place. Among (place, size_at now place) l.loose) (loose_records now) has.loose_are m i)) in
+    grind (arith, has.list_is, has.back_is, has.end_is, used_are, loose_are)
+left_more now l used loose (Took place need ∷ acts) takes more others has = left_more now (after_act l (Took place need)) ((place, need) ∷ used) loose acts takes (λ x a. elim a [ inl q ↦ inl q | inr b ↦ inr (more x b) ]) others has
+left_more now l used loose (Gave place size ∷ acts) takes more others has = absurd takes
 
 -- ---- the unused list of an image that has a shape
 
-module _ {b : List ℕ} (h : HasShape b (shape b)) where
-  listed_in : (m : ℕ) → In m (shape b).unused → In m (shape b).records
-  listed_in m i = linkable-in b (shape b).records uir_type m (h.unused_chain.linkable m i)
+each_sized : (b : List ℕ) (P : ℕ × ℕ → Type 0) (xs : List ℕ) → ((m : ℕ) → In m xs → P (m, size_at b m)) → Each P (sized b xs)
+each_sized b P [] h = tt
+each_sized b P (x ∷ xs) h = (h x (inl refl), each_sized b P xs (λ m i. h m (inr i)))
 
-  sized_place : (xs : List ℕ) (m n : ℕ) → Among (m, n) (sized b xs) → In m xs × (n ≡ size_at b m)
-  sized_place [] m n a = absurd a
-  sized_place (x ∷ xs) m n (inl q) =
-      let e : m ≡ x = ap (λ (pair : ℕ × ℕ). pair.0) q in
-      let f : n ≡ size_at b x = ap (λ (pair : ℕ × ℕ). pair.1) q in
-      (inl e, f ∙ ap (size_at b) (sym e))
-  sized_place (x ∷ xs) m n (inr a) = let r = sized_place xs m n a in (inr r.0, r.1)
+each_among : (P : ℕ × ℕ → Type 0) (list : List (ℕ × ℕ)) → Each P list → (x : ℕ × ℕ) → Among x list → P x
+each_among P [] h x a = absurd a
+each_among P (y ∷ list) h x (inl q) = subst P (sym q) h.0
+each_among P (y ∷ list) h x (inr a) = each_among P list h.1 x a
 
-  pub listed_size : (m n : ℕ) → Among (m, n) (unused b (shape b)) → In m (shape b).unused × (n ≡ size_at b m)
-  listed_size m n a = sized_place (shape b).unused m n a
+-- each byte lies in one record, or behind the end
+unused_once : {b : List ℕ} → HasShape b (shape b) → Once (unused b (shape b)) (length b)
+unused_once {b = b} h j = go (shape b).unused h.unused_chain.once (λ m i. linkable-in b (shape b).records uir_type m (h.unused_chain.linkable m i))
+  where
+    none : (x : ℕ) (xs : List ℕ) → x ≤ j → j < x + size_at b x → x + size_at b x ≤ length b → ((m : ℕ) → In m xs → (x + size_at b x ≤ m) ⊎ (m + size_at b m ≤ x)) → having j (sized b xs) (length b) ≡ 0
+    none x [] low high end apart = grind (arith, nat_tests)
+    none x (m ∷ xs) low high end apart = let a = apart m (inl refl) in let more = none x xs low high end (λ y i. apart y (inr i)) in grind (arith, nat_tests)
 
-  pub unused_apart : AllApart (unused b (shape b))
-  unused_apart = go (shape b).unused h.unused_chain.once (λ m i. listed_in m i)
-    where
-      go : (xs : List ℕ) → Distinct xs → ((m : ℕ) → In m xs → In m (shape b).records) → AllApart (sized b xs)
-      go [] once sub = tt
-      go (x ∷ xs) once sub = (
-        λ m k a.
-            let r = sized_place xs m k a in
-            let size = r.1 in
-            elim (tiles_lie_apart b 8 (length b) (shape b).records x m h.tiled (sub x (inl refl)) (sub m (inr r.0)) (λ e. once.0 (subst (λ (z : ℕ). In z xs) (sym e) r.0))) [
-              | inl l ↦ inl l
-              | inr l ↦ inr (subst (λ (z : ℕ). m + z ≤ x) (sym size) l)
-            ],
-        go xs once.1 (λ m i. sub m (inr i)),
-      )
+    go : (xs : List ℕ) → Distinct xs → ((m : ℕ) → In m xs → In m (shape b).records) → having j (sized b xs) (length b) ≤ 1
+    go [] once sub = grind (arith, nat_tests)
+    go (x ∷ xs) once sub =
+        let high = (tile_lies b 8 (length b) (shape b).records x h.tiled (sub x (inl refl))).high in
+        let apart = λ (m : ℕ) (i : In m xs). tiles_lie_apart b 8 (length b) (shape b).records x m h.tiled (sub x (inl refl)) (sub m (inr i)) (λ q. once.0 (subst (λ (z : ℕ). In z xs) (sym q) i)) in
+        grind (arith, nat_tests, go xs once.1 (λ m i. sub m (inr i)), λ (low : x ≤ j) (under : j < x + size_at b x). none x xs low under high apart)
 
-  pub unused_before_end : EndBefore (length b) (unused b (shape b))
-  unused_before_end m k a =
-      let r = listed_size m k a in
-      let lies = tile_lies b 8 (length b) (shape b).records m h.tiled (listed_in m r.0) in
-      let long = lies.long in
-      let high = lies.high in
-      let size = r.1 in
-      (omega arith, omega arith)
-
--- ---- the rests
+-- it was a record of the list, or is the later part of one
+record Origin (b : List ℕ) (x : ℕ × ℕ) : Type 0 where
+  place : ℕ
+  listed : In place (shape b).unused
+  comes : ((x.0 ≡ place) × (x.1 ≡ size_at b place)) ⊎ ((place < x.0) × (x.0 + x.1 ≤ place + size_at b place))
 
 -- a listed record that is not taken changes in its links alone
 abbrev pub ListedStay : List ℕ → List ℕ → List Act → Type 0
 ListedStay b now acts = (m : ℕ) → In m (shape b).unused → is_taken b acts m ≡ false → Stays b now m (uir_next_uir ∷ uir_prev_uir ∷ [])
 
--- where a record of the unused list of the later image comes from
-record CameFrom (b now : List ℕ) (acts : List Act) (m : ℕ) : Type 0 where
-  place : ℕ
-  listed : In place (shape b).unused
-  comes : ((m ≡ place) × ((size_at now m ≡ size_at b place) × (is_taken b acts place ≡ false))) ⊎ ((place < m) × (m + size_at now m ≤ place + size_at b place))
+module _ {b now : List ℕ} {acts : List Act} (h : HasShape b (shape b)) (follow : ActsFollow b now acts) (takes : OnlyTakes acts) where
+  left_over : (m : ℕ) → In m (shape now).unused → Among (m, size_at now m) (fold after_act (space_before b) acts).listed
+  left_over m i = subst (Among (m, size_at now m)) follow.left.list_is (among_sized now (shape now).unused m (size_at now m) i refl)
 
-came_from : {b now : List ℕ} {acts : List Act} → HasShape b (shape b) → ActsFollow b now acts → OnlyTakes acts → (m : ℕ) → In m (shape now).unused → CameFrom b now acts m
-came_from {b = b} {now = now} {acts = acts} h follow takes m i =
-    let a : Among (m, size_at now m) (unused now (shape now)) = among_sized now (shape now).unused m (size_at now m) i refl in
-    let left = subst (Among (m, size_at now m)) follow.left.list_is a in
-    let o = acts_origin (space_before b) acts m (size_at now m) follow.are takes left in
-    let r = listed_size h o.place o.size o.listed in
-    record {
-      place = o.place;
-      listed = r.0;
-      comes = elim o.comes [
-        | inl x ↦ inl (
-          x.0,
-          (
-            x.1 ∙ r.1,
-            not_taken b acts o.place (size_at now m) (sym r.1 ∙ sym x.1) (λ p n t.
-                subst (λ (z : ℕ). (p < z) ⊎ (z + size_at now m ≤ p)) x.0 (acts_outside (space_before b) acts p n follow.are takes (unused_apart h) (unused_before_end h) t m (size_at now m) left)),
-          ),
-        )
-        | inr x ↦ let size = r.1 in let high = x.1 in inr (x.0, omega arith)
-      ];
-    }
+  -- where a record of the unused list of the later image comes from
+  came_from : (m : ℕ) → In m (shape now).unused → Origin b (m, size_at now m)
+  came_from m i =
+      let first = each_sized b (Origin b) (shape b).unused (λ n j. record { place = n; listed = j; comes = inl (refl, refl) }) in
+      let left = acts_carry (Origin b) (λ place size need enough fits o. record { place = o.place; listed = o.listed; comes = inr (let c = o.comes in grind arith) }) (space_before b) acts follow.are takes first in
+      each_among (Origin b) _ left (m, size_at now m) (left_over m i)
 
--- behind its links a record of the unused list has the bytes that were there
-behind_links : {b now : List ℕ} {acts : List Act} → HasShape b (shape b) → ActsFollow b now acts → OnlyTakes acts → ListedStay b now acts → (m : ℕ) → In m (shape now).unused → (n : ℕ) → m + 28 ≤ n → n < m + size_at now m → lies_in_taken acts n ≡ false → byte now n ≡ byte b n
-behind_links {b = b} {now = now} {acts = acts} h follow takes stay m i n low high untaken = let c = came_from h follow takes m i in from c c.comes
-  where
-    at_offset : (p : ℕ) → ((k : ℕ) → k < size_at b p → (k < 12 ⊎ 20 ≤ k) × ((k < 20 ⊎ 28 ≤ k) × Unit {0}) → byte now (p + k) ≡ byte b (p + k)) → p + 28 ≤ n → n < p + size_at b p → byte now n ≡ byte b n
-    at_offset p same l u =
-        let e : n ≡ p + (n - p) = omega arith in
-        subst (λ (z : ℕ). byte now z ≡ byte b z) (sym e) (same (n - p) (omega arith) (inr (omega arith), (inr (omega arith), tt)))
-
-    from : (c : CameFrom b now acts m) → ((m ≡ c.place) × ((size_at now m ≡ size_at b c.place) × (is_taken b acts c.place ≡ false))) ⊎ ((c.place < m) × (m + size_at now m ≤ c.place + size_at b c.place)) → byte now n ≡ byte b n
-    from c (inl x) = let e = x.0 in let f = x.1.0 in at_offset c.place (stay c.place c.listed x.1.1).same (omega arith) (omega arith)
-    from c (inr x) =
-        let rest = each_in (RestStays b now acts c.place) (shape now).unused m (each_in (λ split. Each (RestStays b now acts split) (shape now).unused) (shape b).unused c.place follow.rests c.listed) i in
-        let high_end = x.1 in
-        let some : m < c.place + size_at b c.place = omega arith in
-        rest x.0 some n low high untaken
+  -- behind its links it has the bytes that were there
+  behind_links : ListedStay b now acts → (m : ℕ) → In m (shape now).unused → (n : ℕ) → m + 28 ≤ n → n < m + size_at now m → lies_in_taken acts n ≡ false → byte now n ≡ byte b n
+  behind_links stay m i n low high free =
+      let o = came_from m i in
+      let none = untaken (space_before b) acts m (size_at now m) follow.are takes (unused_once h) (left_over m i) in
+      elim o.comes [
+        | inl x ↦ (stays_bytes (stay o.place o.listed (sym (λ k. list_any (λ take. nat_le (x.0 k) take.0 && nat_lt take.0 (x.0 k + x.1 k)) (taken acts)) ∙ none)) 28 (size_at b o.place) (omega arith) (λ k l u. (inr (omega arith), (inr (omega arith), tt)))).each n (omega (arith, x.0)) (omega (arith, x.0, x.1))
+        | inr x ↦ Each-in (RestStays b now acts o.place) (shape now).unused (Each-in (λ split. Each (RestStays b now acts split) (shape now).unused) (shape b).unused follow.rests o.place o.listed) m i x.0 (omega (arith, x.1)) n low high free
+      ]
 
 module _ {b mid now : List ℕ} {acts acts' : List Act} (was : HasShape b (shape b)) (was' : HasShape mid (shape mid)) (first : ActsFollow b mid acts) (second : ActsFollow mid now acts') (takes : OnlyTakes acts) (takes' : OnlyTakes acts') (stay : ListedStay b mid acts) (stay' : ListedStay mid now acts') where
   rest_stays : (split rest : ℕ) → In rest (shape now).unused → RestStays b now (acts ++ acts') split rest
-  rest_stays split rest j low high n l u untaken =
-      let none = none_of_both (λ take. nat_le take.0 n && nat_lt n (take.0 + take.1)) acts acts' untaken in
-      let c = came_from was' second takes' rest j in
-      let inside = within c c.comes in
-      behind_links was' second takes' stay' rest j n l u none.1 ∙ behind_links was first takes stay c.place c.listed n inside.0 inside.1 none.0
-    where
-      within : (c : CameFrom mid now acts' rest) → ((rest ≡ c.place) × ((size_at now rest ≡ size_at mid c.place) × (is_taken mid acts' c.place ≡ false))) ⊎ ((c.place < rest) × (rest + size_at now rest ≤ c.place + size_at mid c.place)) → (c.place + 28 ≤ n) × (n < c.place + size_at mid c.place)
-      within c (inl x) = let e = x.0 in let f = x.1.0 in (omega arith, omega arith)
-      within c (inr x) = let e = x.0 in let f = x.1 in (omega arith, omega arith)
+  rest_stays split rest j low high n l u free =
+      let none = none_of_both (λ take. nat_le take.0 n && nat_lt n (take.0 + take.1)) acts acts' free in
+      let o = came_from was' second takes' rest j in
+      let c = o.comes in
+      behind_links was' second takes' stay' rest j n l u none.1 ∙ behind_links was first takes stay o.place o.listed n (grind arith) (grind arith) none.0
 
   pub acts_joined : ActsFollow b now (acts ++ acts')
   acts_joined =
       let left = fold after_act (space_before b) acts in
-      let both = acts_under (space_before mid) left acts' takes' (left_under mid left first.left) second.are in
+      let has = first.left in
+      let same : with_others (space_before mid) left.used left.loose ≡ left = λ i. record { used = left.used; listed = has.list_is i; back = has.back_is i; loose = left.loose; end = has.end_is i } in
+      let among = λ (list : List (ℕ × ℕ)) (places : List ℕ) (all : Each (λ place. Among (place, size_at mid place) list) places). each_among (λ x. Among x list) (sized mid places) (each_sized mid (λ x. Among x list) places (Each-in _ places all)) in
       record {
-        are = are_both (space_before b) acts acts' first.are both.0;
-        left = subst (HasLeft now) (sym (fold-append after_act (space_before b) acts acts')) (has_under now (fold after_act (space_before mid) acts') (fold after_act left acts') both.1 second.left);
+        are = are_both (space_before b) acts acts' first.are (subst (λ (l : SpaceLeft). AreActs l acts') same (are_more (space_before mid) left.used left.loose acts' takes' second.are));
+        left = subst (HasLeft now) (ap (λ (l : SpaceLeft). fold after_act l acts') same ∙ sym (fold-append after_act (space_before b) acts acts'))
+            (left_more now (space_before mid) left.used left.loose acts' takes' (among left.used (used_records mid) has.used_are) (among left.loose (loose_records mid) has.loose_are) second.left);
         rests = each (λ split. Each (RestStays b now (acts ++ acts') split) (shape now).unused) (shape b).unused (λ split i. each (RestStays b now (acts ++ acts') split) (shape now).unused (λ rest j. rest_stays split rest j));
       }
 
   -- what is on the list, and began as a record of the first image, was on the list
   pub listed_before : (m : ℕ) → In m (shape b).records → In m (shape mid).unused → In m (shape b).unused
-  listed_before m i j = let c = came_from was first takes m j in from c c.comes
-    where
-      from : (c : CameFrom b mid acts m) → ((m ≡ c.place) × ((size_at mid m ≡ size_at b c.place) × (is_taken b acts c.place ≡ false))) ⊎ ((c.place < m) × (m + size_at mid m ≤ c.place + size_at b c.place)) → In m (shape b).unused
-      from c (inl x) = subst (λ (z : ℕ). In z (shape b).unused) (sym x.0) c.listed
-      from c (inr x) =
-          let long = (tile_lies mid 8 (length mid) (shape mid).records m was'.tiled (listed_in was' m j)).long in
-          let high = x.1 in
-          absurd (no_rest b was c.place m (listed_in was c.place c.listed) i x.0 (omega arith))
+  listed_before m i j =
+      let o = came_from was first takes m j in
+      let long = (tile_lies mid 8 (length mid) (shape mid).records m was'.tiled (linkable-in mid (shape mid).records uir_type m (was'.unused_chain.linkable m j))).long in
+      elim o.comes [
+        | inl x ↦ subst (λ (z : ℕ). In z (shape b).unused) (sym x.0) o.listed
+        | inr x ↦ absurd (no_rest b was o.place m (linkable-in b (shape b).records uir_type o.place (was.unused_chain.linkable o.place o.listed)) i x.0 (omega (arith, x.1)))
+      ]

@@ -1,6 +1,7 @@
 -- Acts that follow, and then a record is freed, or some one after the other.
-use Rattle.cdf_edits.proofs.Common.{Act, ActsFollow, AllGiven, AreActs, Avoids, Bool, Each, Edit, Gave, Gives, Happens, HasLeft, HasShape, In, IsSound, List, RestStays, Same, SpaceLeft, Took, [], after_act, ap, append-nil, append_assoc, ap₂, arith, back_after, cases_eq, eq-eqb, false, fold, fold-append, gave, gdr_type, given_to, giving, giving_marks, if◌then◌else◌, inl, inr, is_a-type, le-leb, lies_in_taken, linkable-in, linkable-type, list_any, loose_records, lt-ltb, map, nat_le, nat_lt, ne_eqb, refl, shape, size_at, sized, space_before, subst, sym, taken, true, type_at, uir_type, unused, used_records, ℕ, ◌&&◌, ◌++◌, ◌+◌, ◌<◌, ◌||◌, ◌∙◌, ◌∷◌, ◌≡◌, ◌≢◌, ◌≤◌, ◌⊎◌}
+use Rattle.cdf_edits.proofs.Common.{Act, ActsFollow, AllGiven, AreActs, Avoids, Bool, Each, Edit, Gave, Gives, Happens, HasLeft, HasShape, In, IsSound, List, RestStays, Same, SpaceLeft, Took, [], after_act, ap, append-nil, append_assoc, ap₂, arith, back_after, cases_eq, eq-eqb, false, fold, fold-append, gave, gdr_type, given_to, giving, giving_marks, if◌then◌else◌, inl, inr, is_a-type, le-leb, lies_in_taken, linkable-in, linkable-type, list_any, loose_records, lt-ltb, map, nat_le, nat_lt, ne_eqb, refl, shape, size_at, sized, space_before, subst, sym, taken, true, type_at, uir_type, unused, used_records, ℕ, ◌&&◌, ◌++◌, ◌+◌, ◌<◌, ◌∙◌, ◌∷◌, ◌≡◌, ◌≢◌, ◌≤◌, ◌⊎◌, true≢false}
 use Rattle.cdf_edits.specs.Space.Acts.{Among, without}
+use Rattle.std.proofs.lemmas.Bool.{or_right}
 use Rattle.cdf_edits.proofs.Edits.Composing.{sizes}
 use Rattle.cdf_edits.proofs.Edits.StepEdits.{gives_edit, all_marked}
 use Rattle.cdf_edits.proofs.Space.ActsLeave.{each, places-sized, used_says, used_if, loose_says, loose_if, backs_follow, no_rest}
@@ -55,10 +56,6 @@ lies_taken (x ∷ xs) p n i (inl q) low high =
     let here : (nat_le x.0 i && nat_lt i (x.0 + x.1)) ≡ true = subst (λ (y : ℕ × ℕ). (nat_le y.0 i && nat_lt i (y.0 + y.1)) ≡ true) q (rw (le-leb p i low, lt-ltb i (p + n) high) refl) in
     rw here refl
 lies_taken (x ∷ xs) p n i (inr a) low high = or_right (nat_le x.0 i && nat_lt i (x.0 + x.1)) (list_any (λ take. nat_le take.0 i && nat_lt i (take.0 + take.1)) xs) (lies_taken xs p n i a low high)
-  where
-    or_right : (q r : Bool) → r ≡ true → (q || r) ≡ true
-    or_right true r e = refl
-    or_right false r e = e
 
 -- ---- a record is freed
 
@@ -166,14 +163,10 @@ module _ {b mid now : List ℕ} {acts : List Act} {place : ℕ} (was : HasShape 
   -- it was in use before, so no record of the unused list had it, or it was taken
   rest_given : (split : ℕ) → In split (shape b).unused → split < place → place < split + size_at b split → (i : ℕ) → place ≤ i → i < place + size → lies_in_taken after i ≡ false → ⊥
   rest_given split i low high n l u untaken = elim (used_from (space_before b) acts place size in_use) [
-    | inl t ↦ clash (lies_in_taken after n) (ap (list_any (λ take. nat_le take.0 n && nat_lt n (take.0 + take.1))) (taken_still acts place size) ∙ lies_taken (taken acts) place size n t l u) untaken
+    | inl t ↦ true≢false (sym (ap (list_any (λ take. nat_le take.0 n && nat_lt n (take.0 + take.1))) (taken_still acts place size) ∙ lies_taken (taken acts) place size n t l u) ∙ untaken)
     | inr x ↦ no_rest b was split place (linkable-in b (shape b).records uir_type split (was.unused_chain.linkable split i)) (used_says b place (sized_in b (used_records b) place size x)).0 low high
   ]
     where
-      clash : (p : Bool) → p ≡ true → p ≡ false → ⊥
-      clash true e f = absurd cc
-      clash false e f = absurd cc
-
       sized_in : (b : List ℕ) (xs : List ℕ) (p n : ℕ) → Among (p, n) (sized b xs) → In p xs
       sized_in b [] p n a = a
       sized_in b (x ∷ xs) p n (inl q) = inl (ap (λ (pair : ℕ × ℕ). pair.0) q)

@@ -1,5 +1,5 @@
 -- Entries of a chain: what of them stays where their bytes do, that their numbers differ, and what they mean where one is added to the chain, replaced in it, or goes.
-use Rattle.cdf_edits.proofs.Common.{Bool, Distinct, Distinct-middle, Distinct-push, EntryFits, Hold, In, List, [], adr_num, aedr_attr_num, aedr_num, ap, append-nil, append_assoc, ap₂, arith, cases_eq, differ_rows, entry_bytes, entry_of, entry_rows, eq-eqb, false, has_value, inl, inr, is_in, is_in-false, is_in-true, list_any, map, map-append, nat_le, ne_eqb, not_false, number, record_number_limit, refl, row, same_number, size_at, subst, sym, true, with_in_place, with_item, without, ℕ, ◌++◌, ◌==◌, ◌∙◌, ◌∷◌, ◌≡◌, ◌≢◌}
+use Rattle.cdf_edits.proofs.Common.{Bool, Distinct, Distinct-middle, Distinct-push, EntryFits, Hold, In, List, [], adr_num, aedr_attr_num, aedr_num, ap, append-nil, append_assoc, ap₂, arith, cases_eq, differ_rows, entry_bytes, entry_of, entry_rows, eq-eqb, false, has_value, inl, inr, is_in, is_in-false, is_in-true, list_any, map, map-append, nat_le, ne_eqb, not_false, number, record_number_limit, refl, row, same_number, size_at, subst, sym, with_in_place, with_item, without, ℕ, ◌++◌, ◌==◌, ◌∙◌, ◌∷◌, ◌≡◌, ◌≢◌, true≢false}
 use Rattle.std.proofs.Common.{not, ◌||◌}
 use Rattle.cdf_format.specs.Content.{entries_of}
 use Rattle.cdf_edits.specs.Space.Chains.{without as left_of}
@@ -51,12 +51,8 @@ differ_behind : (b before es : List ℕ) → Hold (differ_rows 7 (same_number b)
 differ_behind b before [] h d = subst (λ (x : List ℕ). Distinct (nums b x)) (sym (append-nil before)) d
 differ_behind b before (e ∷ es) h d =
     let absent : is_in (number b e aedr_num) (nums b before) ≡ false = sym (any_is_in b e before) ∙ not_false (list_any (same_number b e) before) h.0 in
-    let next : Distinct (nums b (before ++ e ∷ [])) = subst Distinct (sym (nums_push b before e)) (Distinct-push (nums b before) (number b e aedr_num) d (λ i. clash (is_in (number b e aedr_num) (nums b before)) (is_in-true (number b e aedr_num) (nums b before) i) absent)) in
+    let next : Distinct (nums b (before ++ e ∷ [])) = subst Distinct (sym (nums_push b before e)) (Distinct-push (nums b before) (number b e aedr_num) d (λ i. true≢false (sym (is_in-true (number b e aedr_num) (nums b before) i) ∙ absent))) in
     subst (λ (x : List ℕ). Distinct (nums b x)) (append_assoc before (e ∷ []) es) (differ_behind b (before ++ e ∷ []) es h.1 next)
-  where
-    clash : (p : Bool) → p ≡ true → p ≡ false → ⊥
-    clash true p q = absurd cc
-    clash false p q = absurd cc
 
 -- the rule that they differ
 pub nums_differ : (b es : List ℕ) → Hold (differ_rows 7 (same_number b) [] es) → Distinct (nums b es)

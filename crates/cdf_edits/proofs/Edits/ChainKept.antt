@@ -1,5 +1,5 @@
 -- What a command on an entry may change of records, where one chain of an attribute is another.
-use Rattle.cdf_edits.proofs.Common.{Act, AllKeep, Allowances, Anything, AttributeShape, Bool, EntryKind, Field, In, In-append, IsSound, Keeps, List, Mark, OneAttribute, Only, Shape, Unused, [], adr_type, aedr_num, ap, arith, attribute_records, chain_fields, chain_of, content, either, entry_allowance, entry_changes, entry_type, eq-eqb, false, gdr_type, if◌then◌else◌, inl, inr, is_attribute, length, linkable-in, linkable-type, next_field, number, owned, owned_by, refl, shape, space_fields, subst, sym, true, type_at, unused_records, within, ℕ, ◌+◌, ◌==◌, ◌∙◌, ◌∷◌, ◌≡◌}
+use Rattle.cdf_edits.proofs.Common.{Act, AllKeep, Allowances, Anything, AttributeShape, Bool, EntryKind, Field, In, In-append, IsSound, Keeps, List, Mark, OneAttribute, Only, Shape, Unused, [], adr_type, aedr_num, ap, arith, attribute_records, chain_fields, chain_of, content, either, entry_allowance, entry_changes, entry_type, eq-eqb, false, gdr_type, if◌then◌else◌, inl, inr, is_attribute, length, linkable-in, linkable-type, next_field, number, owned, owned_by, refl, shape, space_fields, subst, sym, true, type_at, unused_records, within, ℕ, ◌+◌, ◌==◌, ◌∙◌, ◌∷◌, ◌≡◌, true≢false}
 use Rattle.cdf_model.specs.declared.kinds.EntryKind.TheVariants as entries
 use Rattle.cdf_edits.proofs.Commands.KeptRecords.{AllKeep-append, keeps_stood, keep_attributes}
 use Rattle.cdf_edits.proofs.Edits.ChainKinds.{other_of, other_type, chain_has, other_has}
@@ -64,16 +64,12 @@ module _ {b now new list : List ℕ} {marks : List Mark} {reborn : List ℕ} {ki
         let ok = (chain_has kind own (there sound r).1.0.have.0).linkable m j in
         subst (Keeps b now m) (sym (chain_allowed b kind num (next_field ∷ []) m (linkable-type b s.records (entry_type kind) m ok))) (elim (either (number b m aedr_num == num)) [
           | inl e ↦ rw e tt
-          | inr e ↦ rw e (link_allowed m (linkable-in b s.records (entry_type kind) m ok) (r.live m j (λ g. clash (number b m aedr_num == num) (eq-eqb (number b m aedr_num) num (of_gone m g)) e)))
+          | inr e ↦ rw e (link_allowed m (linkable-in b s.records (entry_type kind) m ok) (r.live m j (λ g. true≢false (sym (eq-eqb (number b m aedr_num) num (of_gone m g)) ∙ e))))
         ]))
         (λ j.
         let ok = (other_has kind own (there sound r).1.0.have.0).linkable m j in
         subst (Keeps b now m) (sym (other_allowed b kind num (next_field ∷ []) m (linkable-type b s.records (other_type kind) m ok)))
         (keeps_stood b now m (stood sound r.edit records_are m (linkable-in b s.records (other_type kind) m ok) (other_kept sound r m j)) (Only [])))
-      where
-        clash : (p : Bool) → p ≡ true → p ≡ false → ⊥
-        clash true p q = absurd cc
-        clash false p q = absurd cc
 
     pub entry_keeps : AllKeep b now may acts (owned_by Unused (unused_records b s)) → AllKeep b now may acts (owned b s)
     entry_keeps unused =

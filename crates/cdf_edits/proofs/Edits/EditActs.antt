@@ -1,5 +1,5 @@
 -- What an edit leaves of the space of an image: of one that takes nothing, and of one that makes a record.
-use Rattle.cdf_edits.proofs.Common.{ActsFollow, Bool, Each, Edit, Fills, In, IsSound, List, Mark, RestStays, Same, Shape, Took, [], ap, ap₂, arith, back_after, either, eq-eqb, eqb-true, false, false-is_in, inl, inr, is_late, length, linkable-in, linkable-long, linkable-type, loose_records, making_marks, map, nat_le, number_kept, place_for, record_size, record_type, refl, shape, size_at, sized, subst, sym, taken_from, tile_lies, true, type_at, uir_prev_uir, uir_type, unmarked, unused, used_records, ℕ, ◌+◌, ◌==◌, ◌∙◌, ◌∷◌, ◌≡◌, ◌≢◌}
+use Rattle.cdf_edits.proofs.Common.{ActsFollow, Each, Edit, Fills, In, IsSound, List, Mark, RestStays, Same, Shape, Took, [], ap, ap₂, arith, back_after, either, eq-eqb, eqb-true, false, false-is_in, inl, inr, is_late, length, linkable-in, linkable-long, linkable-type, loose_records, making_marks, map, nat_le, number_kept, place_for, record_size, record_type, refl, shape, size_at, sized, subst, sym, taken_from, tile_lies, true, type_at, uir_prev_uir, uir_type, unmarked, unused, used_records, ℕ, ◌+◌, ◌==◌, ◌∙◌, ◌∷◌, ◌≡◌, ◌≢◌, true≢false}
 use Rattle.cdf_edits.specs.Space.Acts.{Among}
 use Rattle.cdf_edits.proofs.Space.ActsLeave.{each, places-sized, among_sized, used_says, used_if, loose_says, loose_if, backs, backs_follow, no_rest, no_acts}
 use Rattle.cdf_edits.proofs.Edits.Composing.{head_size, head_type}
@@ -8,11 +8,7 @@ use Rattle.cdf_edits.proofs.Edits.MadeRecord.{fresh, made_edit, made_type, made_
 use Rattle.cdf_edits.proofs.Edits.MarkLemmas.{away-avoids, the_one}
 
 pub differs : (t : ℕ) → (t == uir_type) ≡ false → t ≢ uir_type
-differs t e q = no (t == uir_type) (eq-eqb t uir_type q) e
-  where
-    no : (p : Bool) → p ≡ true → p ≡ false → ⊥
-    no true e f = absurd cc
-    no false e f = absurd cc
+differs t e q = true≢false (sym (eq-eqb t uir_type q) ∙ e)
 
 -- ---- nothing is taken, and no mark is of an unused record
 

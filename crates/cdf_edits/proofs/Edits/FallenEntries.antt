@@ -3,7 +3,7 @@ use Rattle.cdf_edits.proofs.Common.{ActsFollow, Among, AttributeShape, Distinct,
 use Rattle.cdf_edits.proofs.Edits.ChainMembers.{IsAmong, member, member_fits, own_there}
 use Rattle.cdf_edits.proofs.Edits.OneChain.{counted_before}
 use Rattle.cdf_edits.proofs.Edits.ChainFollowed.{chain_now}
-use Rattle.cdf_edits.proofs.Edits.Common.{Rechains, chain_has, file_now, filter-distinct, filter-keeps, filter-says, num_same, some_bytes, acts_still_by, keeps_away, keeps_within, now_is, type_stays, unmarked-away, differ_before, good_settled, items_of, rules_before, EntryMeans, entry_means, nums}
+use Rattle.cdf_edits.proofs.Edits.Common.{Rechains, chain_has, file_now, filter-distinct, in-filter, filter-says, num_same, some_bytes, acts_still_by, keeps_away, keeps_within, now_is, type_stays, unmarked-away, differ_before, good_settled, items_of, rules_before, EntryMeans, entry_means, nums}
 use Rattle.cdf_edits.proofs.Edits.DroppedEntries.{lowers, number_field}
 use Rattle.cdf_edits.proofs.Edits.EntriesEdited.{EditsEntries, EntryEdited, StandTests, edited, only_at, same_records}
 use Rattle.cdf_edits.proofs.Edits.WrittenEntries.{WriteTests, WritesChain, as_long, count_now as count_written, edit, greatest_now as greatest_written, mid_kept, mid_size, part_beside, size_now, rechains as rechains_written, settled as settled_written, write_tests, writing}
@@ -201,7 +201,7 @@ module _ {b now : List ℕ} {kind : EntryKind} {before : List AttributeShape} {o
   fell_number : (m : ℕ) → In m chain → number now m aedr_num ≡ fallen num (number b m aedr_num)
   fell_number m i = elim (cases_lt num (number b m aedr_num)) [
     | inl lt ↦
-        let to = of_write b those (λ (w : Write). number mid w.tile w.f ≡ w.to) m (filter-keeps (λ aedr. nat_lt num (number b aedr aedr_num)) chain m i (lt-ltb num (number b m aedr_num) lt)) says in
+        let to = of_write b those (λ (w : Write). number mid w.tile w.f ≡ w.to) m (in-filter (λ aedr. nat_lt num (number b aedr aedr_num)) chain m i (lt-ltb num (number b m aedr_num) lt)) says in
         late_says m i ∙ to ∙ grind (arith, nat_tests)
     | inr le ↦
         let out : In m (written_tiles ws) → ⊥ = λ j. let lt = later_above b num chain m (subst (In m) (tiles_of b those) j) in absurd (omega arith) in

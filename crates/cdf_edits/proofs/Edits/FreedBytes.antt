@@ -6,7 +6,7 @@ use Rattle.cdf_edits.proofs.Edits.StaysBut.{StaysBut, part_stays}
 use Rattle.cdf_edits.proofs.Edits.StepEdits.{all_marked}
 use Rattle.cdf_edits.proofs.Frame.OwnersApart.{times-in, owned-times, file_records, all_attribute_records, all_variable_records}
 use Rattle.cdf_edits.proofs.Space.ActsLeave.{each}
-use Rattle.cdf_edits.proofs.Space.UsedRecords.{filter-keeps, filter-says}
+use Rattle.cdf_edits.proofs.Space.UsedRecords.{in-filter, filter-says}
 use Rattle.cdf_edits.proofs.Frame.Meaning.{Kept, KeptButLink}
 
 end_low : (size : ℕ) → 12 ≤ links_end size
@@ -151,7 +151,7 @@ freed_stay b now acts places but tiled stand sizes behind = freed_stay_but b now
 -- a record that no owner has is in use
 pub unowned_used : (b : List ℕ) (s : Shape) (m : ℕ) → In m s.records → times m (owned_records b s) ≡ 0 → type_at b m ≢ uir_type
 unowned_used b s m i none t =
-    let one = times-in m (unused_records b s) (filter-keeps (λ (place : ℕ). type_at b place == uir_type) s.records m i (eq-eqb (type_at b m) uir_type t)) in
+    let one = times-in m (unused_records b s) (in-filter (λ (place : ℕ). type_at b place == uir_type) s.records m i (eq-eqb (type_at b m) uir_type t)) in
     clash (times m (owned_records b s)) (times m (file_records s)) (times m (all_attribute_records s)) (times m (all_variable_records s)) (times m (unused_records b s)) (owned-times b s m) none one
   where
     clash : (n f a v r : ℕ) → n ≡ f + (a + (v + r)) → n ≡ 0 → 1 ≤ r → ⊥

@@ -1,23 +1,10 @@
 -- One variable of a kind has another index by now, and its descriptor stays but for MaxRec, VXRhead and VXRtail: what follows of the image.
-use Rattle.cdf_edits.proofs.Edits.Composing.{head_type, head_size}
-use Rattle.cdf_edits.proofs.Edits.RecordFrame.{kept, file_same}
-use Rattle.cdf_edits.proofs.Edits.StepEdits.{fixed_long}
-use Rattle.cdf_edits.proofs.Edits.VariableCopied.{cpr_behind}
-use Rattle.cdf_edits.proofs.Edits.VariableFrame.{IsRuled}
-use Rattle.cdf_edits.proofs.Edits.VariableKinds.{other_kind, with_shapes, keeps_kind, kind_chain}
-use Rattle.cdf_edits.proofs.Edits.VariableSplice.{keeps_all_attributes}
-use Rattle.cdf_edits.proofs.Frame.Meaning.{FileSame, Kept}
-use Rattle.cdf_edits.proofs.Frame.OwnerAlone.{Each-in}
-use Rattle.cdf_edits.proofs.Frame.OwnersApart.{all_variable_records}
-use Rattle.cdf_edits.proofs.Frame.VdrAlike.{VdrAlike}
-use Rattle.cdf_edits.proofs.Rules.OfVdrCopied.{cpr_stays, variable_rules_alike}
-use Rattle.cdf_model.specs.Forms.{rows}
-use Rattle.cdf_edits.proofs.Common.{Avoids, Away, Bool, Edit, Good, HasShape, HasVariable, Hold, In, IsChain, IsIndex, Kind, List, Mark, Nodes, OwnedOnce, Same, Shape, VariableShape, [], ap, arith, avoided, count_of, cpr_link, cpr_type, eof, fixed_size, gdr_type, gdr_uir_head, head_of, image_limit, index_rows, inl, inr, is_a, is_a-type, is_compressed, is_in, is_max_rec, is_record_type, keeps_file, length, linkable-in, linkable-type, max, name_in, number, owned, read, read_types, refl, shape, shapes_of, size_at, subst, sym, tile_lies, true, type_at, type_in, uir_type, unmarked, variable_records, variables_chain, vdr_max_rec, vdr_name, vdr_num, vdr_vxr_head, vdrs, word_kept, ℕ, ◌++◌, ◌+◌, ◌∙◌, ◌∷◌, ◌≡◌, ◌≤◌, ◌⊎◌}
-use Rattle.std.proofs.Common.{not, ◌==◌, if◌then◌else◌}
+
+use Rattle.cdf_edits.proofs.Common.{Avoids, Away, Edit, Good, HasShape, HasVariable, Hold, In, IsChain, IsIndex, Kind, List, Mark, Nodes, OwnedOnce, Same, Shape, VariableShape, [], ap, arith, avoided, count_of, cpr_link, cpr_type, eof, fixed_size, gdr_type, gdr_uir_head, head_of, image_limit, index_rows, inl, inr, is_a, is_a-type, is_in, is_max_rec, is_record_type, keeps_file, length, linkable-in, linkable-type, max, name_in, number, owned, read, read_types, refl, shape, shapes_of, size_at, subst, sym, tile_lies, true, type_at, type_in, uir_type, unmarked, variable_records, variables_chain, vdr_max_rec, vdr_name, vdr_num, vdr_vxr_head, vdrs, word_kept, ℕ, ◌++◌, ◌+◌, ◌∙◌, ◌∷◌, ◌≡◌, ◌≤◌, ◌⊎◌}
+use Rattle.cdf_edits.proofs.Edits.Common.{Each-in, FileSame, cpr_own, IsRuled, Kept, OwnEdit, VdrAlike, VdrStays, all_variable_records, cpr_behind, cpr_stays, end_stays, file_same, fixed_long, head_size, head_type, keeps_all_attributes, keeps_kind, kept, kind_chain, name_stays, named_before, other_kind, own_ruled, packed_stays, stays_alike, variable_rules_alike, with_shapes}
+use Rattle.std.proofs.Common.{not, ◌==◌}
 use Rattle.cdf_edits.proofs.Edits.StandsAmong.{StandsAmong, sound, tile, typed, long, has, fits, behind_in, through, least_size}
-use Rattle.cdf_edits.proofs.Edits.OwnEdited.{OwnEdit, named_before, own_ruled}
 use Rattle.cdf_edits.proofs.Edits.OwnEdited as of_own
-use Rattle.cdf_edits.proofs.Frame.VdrStays.{VdrStays, stays_alike, packed_stays, name_stays, end_stays}
 use Rattle.cdf_edits.proofs.Frame.VdrStays as vdr_of
 
 pub record IndexEdit (b now : List ℕ) (kind : Kind) (own : VariableShape) (index : Nodes) (new list : List ℕ) (marks : List Mark) (reborn : List ℕ) : Type 0 where
@@ -68,13 +55,7 @@ module _ {b now : List ℕ} {kind : Kind} {before : List VariableShape} {own : V
   vdr_type = head_type b now v (part_of 0 12 (inl (omega arith)) (omega arith))
 
   pub stays : VdrStays b now v
-  stays = record {
-    typed = vdr_type;
-    type = part_of 20 24 (inl (omega arith)) (omega arith);
-    behind = part 44 (size_at b v) (inr (omega arith)) (omega arith);
-    inside = (tile_lies b 8 (length b) s.records v h.tiled (tile good at)).high;
-    end = (fits good at).0;
-  }
+  stays = grind (arith, vdr_type, part_of 20 24 (inl (omega arith)) (omega arith), part 44 (size_at b v) (inr (omega arith)) (omega arith), (tile_lies b 8 (length b) s.records v h.tiled (tile good at)).high, (fits good at).0)
 
   pub vdr_alike : VdrAlike b now v v
   vdr_alike = stays_alike file stays
@@ -94,29 +75,11 @@ module _ {b now : List ℕ} {kind : Kind} {before : List VariableShape} {own : V
   has_now = record { indexed = x.index_now; packed_by = vdr_of.cpr_stays file stays ∙ (has good at).packed_by }
 
   pub own_edit : OwnEdit b now kind own index new list marks reborn
-  own_edit = record {
-    edit = x.edit;
-    file_clear = x.file_clear;
-    attributes_clear = x.attributes_clear;
-    other_clear = x.other_clear;
-    head_clear = x.head_clear;
-    count_clear = x.count_clear;
-    beside = x.beside;
-    linked = λ m. x.avoids m 0 20 (inl (omega arith));
-    nums = nums_same;
-    typed = x.typed;
-    unused_chain = x.unused_chain;
-    has_now = has_now;
-  }
+  own_edit = grind (arith, x, nums_same, has_now, λ (m : ℕ). x.avoids m 0 20 (inl (omega arith)))
 
   -- ---- its rules
 
-  cpr_in : is_compressed b v ≡ true → In (cpr_link b v) own.cpr
-  cpr_in c =
-      let there : own.cpr ≡ cpr_link b v ∷ [] = sym (has good at).packed_by ∙ ap (λ (p : Bool). if p then cpr_link b v ∷ [] else []) c in
-      subst (λ (xs : List ℕ). In (cpr_link b v) xs) (sym there) (inl refl)
-
-  cpr_kept : (m : ℕ) → In m own.cpr → Kept b now m
+  pub cpr_kept : (m : ℕ) → In m own.cpr → Kept b now m
   cpr_kept m i = kept x.edit m cpr_type (behind_in good at m (cpr_behind own m i)) (is_a-type b s.records cpr_type m (Each-in (λ y. is_a b s.records cpr_type y ≡ true) own.cpr (fits good at).3 m i)) x.cpr_clear
 
   abbrev before_it : IsRuled b s.records own
@@ -126,7 +89,7 @@ module _ {b now : List ℕ} {kind : Kind} {before : List VariableShape} {own : V
   ruled rows max = (
     variable_rules_alike file vdr_alike (subst (λ (n : ℕ). size_at b v ≤ n) (sym vdr_size) (omega arith)) s.records new [] [] before_it.0 (ap (λ (xs : List ℕ). not (length xs == 0)) name_same ∙ before_it.0.0) refl
         (rw (vdr_size, end_stays file stays) (fits good at).0) (packed_stays file stays)
-        (λ c is. let i = cpr_in c in cpr_stays b now s.records new (cpr_link b v) is (cpr_kept (cpr_link b v) i) (x.edit.sub (cpr_link b v) (behind_in good at (cpr_link b v) (cpr_behind own (cpr_link b v) i)))) max,
+        (λ c is. let i = cpr_own (has good at) c in cpr_stays b now s.records new (cpr_link b v) is (cpr_kept (cpr_link b v) i) (x.edit.sub (cpr_link b v) (behind_in good at (cpr_link b v) (cpr_behind own (cpr_link b v) i)))) max,
     rows,
   )
 

@@ -2,7 +2,7 @@
 use Rattle.cdf_edits.proofs.Common.{AllKeep, Allowances, Avoids, Away, Changed, Edit, Field, Fills, HasShape, In, IsChain, IsSound, List, Mark, Same, Shape, Took, Unused, Within, [], ap, ap₂, arith, avoided, back_links, both, content, either, eof, eof_after, eq-eqb, false, false-is_in, fixed_size, gdr_eof, gdr_type, gdr_uir_head, inl, inr, is_a-in, is_a-type, is_in, is_late, is_record_type, is_taken, leb-true, length, linkable-in, linkable-long, linkable-type, making_marks, map, nat_le, number, owned_by, place_for, record_size, refl, shape, size_at, sized, subst, sym, taken_from, taking_marks, tile_lies, times, touch, true, true-is_in, type_at, uir_next_uir, uir_prev_uir, uir_type, unmarked, unused, unused_records, whole, with_space, word_kept, ℕ, ◌&&◌, ◌++◌, ◌+◌, ◌-◌, ◌<◌, ◌==◌, ◌∙◌, ◌∷◌, ◌≡◌, ◌≢◌, ◌≤◌, ◌⊎◌}
 use Rattle.cdf_edits.proofs.Space.RecordFilled.{filled_stays_sound}
 use Rattle.cdf_edits.proofs.Space.TakenLeaves.{KeepsTaken, IsRest, takes_keep, takes_new, takes_longest}
-use Rattle.cdf_edits.proofs.Space.ActsLeave.{no_rest, places-sized}
+use Rattle.cdf_edits.proofs.Space.ActsLeave.{no_rest, places-sized, sizes_same}
 use Rattle.cdf_edits.proofs.Space.UsedRecords.{apart}
 use Rattle.cdf_edits.proofs.Edits.Composing.{head_size, head_type, edit_then}
 use Rattle.cdf_edits.proofs.Edits.RecordFrame.{kept, part_clear, field_avoids, field_clear, chain_stays}
@@ -44,10 +44,6 @@ whole_away : (place need m : ℕ) → m ≢ place → Away (whole uir_type place
 whole_away place need m ne = ((λ same lies. absurd (other_one place m ne lies)), tt)
 
 -- ---- lists that keep their sizes and links back
-
-sized_same : (b now list : List ℕ) → ((m : ℕ) → In m list → size_at now m ≡ size_at b m) → sized now list ≡ sized b list
-sized_same b now [] same = refl
-sized_same b now (m ∷ more) same = ap₂ (λ (n : ℕ) (rest : List (ℕ × ℕ)). (m, n) ∷ rest) (same m (inl refl)) (sized_same b now more (λ x i. same x (inr i)))
 
 backs_same : (b now list : List ℕ) → ((m : ℕ) → In m list → number now m uir_prev_uir ≡ number b m uir_prev_uir) → map (λ uir. number now uir uir_prev_uir) list ≡ map (λ uir. number b uir uir_prev_uir) list
 backs_same b now [] same = refl
@@ -212,7 +208,7 @@ module _ {b taken filled : List ℕ} {s : Shape} {records list : List ℕ} {need
     listed = record {
       place_is = fills.takes.place_is;
       length_is = as_long ∙ fills.long ∙ fills.takes.length_is;
-      list_is = sized_same taken now list (listed_field record_size (omega arith)) ∙ fills.takes.list_is;
+      list_is = sizes_same taken now list (listed_field record_size (omega arith)) ∙ fills.takes.list_is;
       back = backs_same taken now list (listed_field uir_prev_uir (omega arith)) ∙ fills.takes.back;
     }
 

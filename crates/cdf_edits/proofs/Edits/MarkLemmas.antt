@@ -1,14 +1,11 @@
 -- What avoids marks.
-use Rattle.cdf_edits.proofs.Common.{Avoids, Away, Bool, Confined, Covered, Each, Field, In, Lies, List, Mark, Marked, Misses, OutsideFields, Touch, Within, [], all_unmarked, ap, arith, avoided, both, either, ended, eq-eqb, eqb-true, false, has_mark, if◌then◌else◌, inl, inr, is_in, leb-true, nat_le, refl, subst, sym, true, true≢false, type_at, unmarked, within, ℕ, ◌&&◌, ◌++◌, ◌+◌, ◌==◌, ◌∙◌, ◌∷◌, ◌≡◌, ◌≤◌, ◌⊎◌}
+use Rattle.cdf_edits.proofs.Common.{Avoids, Away, Bool, Confined, Covered, Each, Field, In, Lies, List, Mark, Marked, Misses, OutsideFields, Touch, Within, [], all_unmarked, ap, arith, avoided, both, either, ended, eq-eqb, eqb-true, false, has_mark, if◌then◌else◌, inl, inr, is_in, leb-true, nat_le, subst, sym, true, true≢false, type_at, unmarked, within, ℕ, ◌&&◌, ◌++◌, ◌+◌, ◌==◌, ◌∙◌, ◌∷◌, ◌≡◌, ◌≤◌, ◌⊎◌}
 use Rattle.std.proofs.Common.{not, ◌||◌}
+pub use Rattle.std.proofs.lemmas.Bool.{or_cases}
 
 pub the_one : (x m : ℕ) → In m (x ∷ []) → m ≡ x
 the_one x m (inl q) = q
 the_one x m (inr none) = absurd none
-
-pub or_cases : (p q : Bool) → (p || q) ≡ true → (p ≡ true) ⊎ (q ≡ true)
-or_cases true q e = inl refl
-or_cases false q e = inr e
 
 -- a test that types differ or else something holds
 unless : (type other : ℕ) (p : Bool) → (not (type == other) || p) ≡ true → type ≡ other → p ≡ true

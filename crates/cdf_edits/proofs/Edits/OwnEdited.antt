@@ -113,21 +113,13 @@ module _ {b now : List ℕ} {kind : Kind} {before : List VariableShape} {own : V
   others = shapes_of s (other_kind kind)
 
   pub splices : VariableSplices b now s kind new list marks reborn before (own ∷ []) (mine ∷ []) after
-  splices = record {
-    edit = x.edit;
-    was = at.was;
-    file_clear = x.file_clear;
-    attributes_clear = x.attributes_clear;
-    other_clear = x.other_clear;
-    before_remain = remain_from (sound good at) x.edit file before (ours good at).0 (variables_away (sound good at) x.edit before (ours good at).0 (away (flat_map variable_records before) (ours good at).0.sub (λ m i. (only m i).in_before)));
-    after_remain = remain_from (sound good at) x.edit file after (after_ours good at) (variables_away (sound good at) x.edit after (after_ours good at) (away (flat_map variable_records after) (after_ours good at).sub (λ m i. (only m i).in_after)));
-    others_live = variables_away (sound good at) x.edit others (kind_ours b s (sound good at) (other_kind kind)) (away (flat_map variable_records others) (kind_ours b s (sound good at) (other_kind kind)).sub (λ m i. (only m i).in_others));
-    typed = x.typed;
-    variable_chain = subst (λ (ms : List ℕ). IsChain now new type (number now s.gdr (head_of (variables_chain kind))) ms) (sym same_vdrs)
-        (chain_stays x.edit type _ _ (vdrs (shapes_of s kind)) (kind_chain kind h) (gdr_same (head_of (variables_chain kind)) x.head_clear (in_gdr kind).0) (λ m i. x.linked m));
-    unused_chain = x.unused_chain;
-    own_have = (x.has_now, tt);
-  }
+  splices =
+      let before_remain = remain_from (sound good at) x.edit file before (ours good at).0 (variables_away (sound good at) x.edit before (ours good at).0 (away (flat_map variable_records before) (ours good at).0.sub (λ m i. (only m i).in_before))) in
+      let after_remain = remain_from (sound good at) x.edit file after (after_ours good at) (variables_away (sound good at) x.edit after (after_ours good at) (away (flat_map variable_records after) (after_ours good at).sub (λ m i. (only m i).in_after))) in
+      let others_live = variables_away (sound good at) x.edit others (kind_ours b s (sound good at) (other_kind kind)) (away (flat_map variable_records others) (kind_ours b s (sound good at) (other_kind kind)).sub (λ m i. (only m i).in_others)) in
+      let chain = subst (λ (ms : List ℕ). IsChain now new type (number now s.gdr (head_of (variables_chain kind))) ms) (sym same_vdrs)
+      (chain_stays x.edit type _ _ (vdrs (shapes_of s kind)) (kind_chain kind h) (gdr_same (head_of (variables_chain kind)) x.head_clear (in_gdr kind).0) (λ m i. x.linked m)) in
+      grind (arith, at, x, before_remain, after_remain, others_live, chain)
 
   -- ---- the shape and the content
 

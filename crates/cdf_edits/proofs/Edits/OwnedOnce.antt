@@ -1,7 +1,7 @@
 -- Which records are owned once an image was edited, and how owners stand apart.
 use Rattle.cdf_edits.proofs.Common.{AreTiles, AttributeShape, Edit, HasShape, In, In-append_left, In-append_right, IsSound, List, Mark, OwnedOnce, Shape, adr_type, ap, arith, attribute_records, attributes_in, cases_eq, either, eq-eqb, eqb, eqb-true, false-is_in, flat_map, inl, inr, is_in, length, linkable-in, owned_records, refl, subst, suc, sym, tiles_distinct, times, times-none, times-once, true-is_in, type_at, uir_type, unused_records, ℕ, ◌++◌, ◌+◌, ◌∙◌, ◌∷◌, ◌≡◌, ◌≢◌, ◌≤◌, ◌⊎◌}
-use Rattle.cdf_edits.proofs.Frame.OwnersApart.{flat-append, times-append, times-three, times-in, owned-times, file_records, all_attribute_records, all_variable_records, unused_from_file, unused_from_attributes, unused_from_variables, file_in}
-use Rattle.cdf_edits.proofs.Space.UsedRecords.{filter-keeps, filter-says, filter-distinct}
+use Rattle.cdf_edits.proofs.Frame.OwnersApart.{none-out, flat-append, times-append, times-three, times-in, owned-times, file_records, all_attribute_records, all_variable_records, unused_from_file, unused_from_attributes, unused_from_variables, file_in}
+use Rattle.cdf_edits.proofs.Space.UsedRecords.{in-filter, filter-says, filter-distinct}
 use Rattle.cdf_edits.proofs.Edits.VariableFrame.{variables_in}
 
 -- how often the owners that use records have one
@@ -19,7 +19,7 @@ module _ (now : List ℕ) (s : Shape) (tiled : AreTiles now 8 (length now) s.rec
   unused_none m used = times-none m (unused_records now s) (λ j. used (eqb-true _ _ (filter-says (λ (p : ℕ). eqb (type_at now p) uir_type) s.records m j)))
 
   pub unused_once : (m : ℕ) → In m s.records → type_at now m ≡ uir_type → times m (unused_records now s) ≡ 1
-  unused_once m i u = times-once m (unused_records now s) (filter-distinct (λ (p : ℕ). eqb (type_at now p) uir_type) s.records (tiles_distinct now 8 (length now) s.records tiled)) (filter-keeps (λ (p : ℕ). eqb (type_at now p) uir_type) s.records m i (eq-eqb _ _ u))
+  unused_once m i u = times-once m (unused_records now s) (filter-distinct (λ (p : ℕ). eqb (type_at now p) uir_type) s.records (tiles_distinct now 8 (length now) s.records tiled)) (in-filter (λ (p : ℕ). eqb (type_at now p) uir_type) s.records m i (eq-eqb _ _ u))
 
 sum_once : (f a v u : ℕ) → f + (a + v) ≡ 1 → u ≡ 0 → f + (a + (v + u)) ≡ 1
 sum_once f a v u p q = omega arith
@@ -61,7 +61,7 @@ module _ {b : List ℕ} {s : Shape} (sound : IsSound b s) where
   -- nor is an unused one
   pub unused_unowned : (m : ℕ) → In m s.records → type_at b m ≡ uir_type → used_times s m ≡ 0
   unused_unowned m i u =
-      let j = filter-keeps (λ (p : ℕ). eqb (type_at b p) uir_type) s.records m i (eq-eqb _ _ u) in
+      let j = in-filter (λ (p : ℕ). eqb (type_at b p) uir_type) s.records m i (eq-eqb _ _ u) in
       no_sum (times m (file_records s)) (times m (all_attribute_records s)) (times m (all_variable_records s))
       (times-none m (file_records s) (λ k. unused_from_file b s sound m k j)) (times-none m (all_attribute_records s) (λ k. unused_from_attributes b s sound m k j)) (times-none m (all_variable_records s) (λ k. unused_from_variables b s sound m k j))
 
@@ -132,12 +132,6 @@ pub record OnlyOwns (b : List ℕ) (s : Shape) (before : List AttributeShape) (a
 
 none_other : (f x o y v u a n : ℕ) → n ≤ 1 → n ≡ f + (a + (v + u)) → a ≡ x + (o + y) → 1 ≤ o → (f ≡ 0) × (x ≡ 0) × (y ≡ 0) × (v ≡ 0) × (u ≡ 0)
 none_other f x o y v u a n l p q r = (omega arith, omega arith, omega arith, omega arith, omega arith)
-
-none-out : (m : ℕ) (xs : List ℕ) → times m xs ≡ 0 → In m xs → ⊥
-none-out m xs e i = let l = times-in m xs i in clash (times m xs) e l
-  where
-    clash : (n : ℕ) → n ≡ 0 → 1 ≤ n → ⊥
-    clash n e l = omega arith
 
 pub only_owns : (b : List ℕ) (s : Shape) → IsSound b s → (before : List AttributeShape) (own : AttributeShape) (after : List AttributeShape) → s.attributes ≡ before ++ own ∷ after → (m : ℕ) → In m (attribute_records own) → OnlyOwns b s before after m
 only_owns b s sound before own after all m i =

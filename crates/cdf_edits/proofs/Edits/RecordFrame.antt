@@ -1,5 +1,5 @@
 -- What an edit leaves: decided by the types of its marks.
-use Rattle.cdf_edits.proofs.Common.{AttributeShape, Avoids, Away, Edit, Field, FileStays, HasShape, HasVariable, In, In-append_left, In-append_right, IsChain, IsSound, Leads, List, Mark, NodeFits, Same, Same-part, Shape, VariableFits, VariableShape, VariableStays, [], ap, arith, avoided, both, cast_signed, cdr_encoding, cdr_flags, cdr_gdr_offset, cdr_increment, cdr_release, cdr_type, counted, cpr_of, encoding, ended, gdr_offset, gdr_type, if◌then◌else◌, inl, inr, integer_kept, is_a-in, is_a-type, keeps_file, leaves_of, length, linkable-from, linkable-in, linkable-long, linkable-type, next_field, next_kept, nodes_of, number, number_kept, r_num_dims, r_sizes, size_at, size_kept, subst, sym, tile_lies, true, type_at, type_kept, unmarked, variable_records, vdr_vxr_head, w32, word_kept, words, words_kept, ℕ, ◌&&◌, ◌*◌, ◌++◌, ◌+◌, ◌∙◌, ◌∷◌, ◌≡◌, ◌≤◌}
+use Rattle.cdf_edits.proofs.Common.{AttributeShape, Avoids, Away, Bool, Edit, Field, FileStays, HasShape, HasVariable, In, In-append_left, In-append_right, IsChain, IsSound, Leads, List, Mark, NodeFits, Same, Same-part, Shape, VariableFits, VariableShape, VariableStays, [], ap, arith, avoided, both, cast_signed, cdr_encoding, cdr_flags, cdr_gdr_offset, cdr_increment, cdr_release, cdr_type, counted, cpr_link, cpr_of, encoding, ended, gdr_offset, gdr_type, if◌then◌else◌, inl, inr, integer_kept, is_a-in, is_a-type, is_compressed, keeps_file, leaves_of, length, linkable-from, linkable-in, linkable-long, linkable-type, next_field, next_kept, nodes_of, number, number_kept, r_num_dims, refl, r_sizes, size_at, size_kept, subst, sym, tile_lies, true, type_at, type_kept, unmarked, variable_records, vdr_vxr_head, w32, word_kept, words, words_kept, ℕ, ◌&&◌, ◌*◌, ◌++◌, ◌+◌, ◌∙◌, ◌∷◌, ◌≡◌, ◌≤◌}
 use Rattle.cdf_edits.proofs.Frame.OwnerAlone.{Each-in, little_code}
 use Rattle.cdf_edits.proofs.Frame.Meaning.{FileSame, Kept, KeptButLink, late_size, late_type}
 use Rattle.cdf_edits.proofs.Frame.VdrCopied.{cpr_link_copied, index_link_copied}
@@ -18,6 +18,10 @@ pub record AttributeLives (b now : List ℕ) (a : AttributeShape) : Type 0 where
 -- what is behind the VDR of a variable
 abbrev pub index_records : VariableShape → List ℕ
 index_records v = nodes_of v.index ++ places_of (leaves_of v.index) ++ v.cpr
+
+-- the parameters of a variable that is compressed
+pub cpr_own : {b records : List ℕ} {v : VariableShape} → HasVariable b records v → is_compressed b v.vdr ≡ true → In (cpr_link b v.vdr) v.cpr
+cpr_own {b = b} {v = v} has c = subst (In (cpr_link b v.vdr)) (ap (λ (p : Bool). if p then cpr_link b v.vdr ∷ [] else []) (sym c) ∙ has.packed_by) (inl refl)
 
 -- a variable stays but for the link to the next one
 pub record VariableLives (b now : List ℕ) (v : VariableShape) : Type 0 where

@@ -1,11 +1,8 @@
 -- An image has all that another has, but for its unused records and for links and numbers in its GDR: records were taken from the one and written, or nothing was done.
-use Rattle.cdf_edits.proofs.Common.{Away, Edit, Fills, In, IsSound, List, Same, Shape, [], ap, arith, content, eof, gdr_offset, gdr_type, inl, inr, length, refl, shape, shape_is, size_at, size_kept, subst, sym, tile_lies, type_at, uir_type, with_space, ℕ, ◌+◌, ◌∙◌, ◌∷◌, ◌≡◌, ◌≢◌, ◌≤◌}
-use Rattle.cdf_edits.proofs.Edits.Composing.{head_type, same-then}
+use Rattle.cdf_edits.proofs.Common.{Away, Fills, In, IsSound, List, Same, Shape, [], ap, arith, content, eof, gdr_offset, gdr_type, length, refl, shape, size_at, size_kept, subst, sym, tile_lies, type_at, uir_type, with_space, ℕ, ◌+◌, ◌∙◌, ◌∷◌, ◌≡◌, ◌≢◌, ◌≤◌}
+use Rattle.cdf_edits.proofs.Edits.Common.{Grows, placed_grows, Kept, head_type, kept_away, placing_marks, same-then, the_one}
 pub use Rattle.cdf_edits.proofs.Edits.MadeRecord.{unlike}
-use Rattle.cdf_edits.proofs.Edits.MadeRecord.{place_in, filled_edit, filled_sound, filled_content, end_now}
-use Rattle.cdf_edits.proofs.Edits.RecordFrame.{kept_away}
-use Rattle.cdf_edits.proofs.Edits.RecordPlaced.{placing_marks, still_edit}
-use Rattle.cdf_edits.proofs.Frame.Meaning.{Kept}
+use Rattle.cdf_edits.proofs.Edits.MadeRecord.{place_in}
 
 pub record Grew (b now : List ℕ) : Type 0 where
   pub sound : IsSound now (shape now)
@@ -17,15 +14,7 @@ pub record Grew (b now : List ℕ) : Type 0 where
   pub kept : (m : ℕ) → In m (shape b).records → type_at b m ≢ uir_type → type_at b m ≢ gdr_type → Kept b now m
 
 pub grew_none : (b : List ℕ) → IsSound b (shape b) → Grew b b
-grew_none b sound = record {
-  sound = sound;
-  shape_is = refl;
-  content_is = refl;
-  longer = omega arith;
-  sub = λ m i. i;
-  head = λ m i used. record { each = λ n l u. refl };
-  kept = λ m i used other. let l = tile_lies b 8 (length b) (shape b).records m sound.has_shape.tiled i in record { same = record { each = λ n l u. refl }; inside = l.high; long = l.long };
-}
+grew_none b sound = grind (arith, sound, λ (m : ℕ) (i : In m (shape b).records). tile_lies b 8 (length b) (shape b).records m sound.has_shape.tiled i)
 
 pub kept_then : (b mid now : List ℕ) (m : ℕ) → Kept b mid m → Kept mid now m → Kept b now m
 kept_then b mid now m p q =
@@ -46,32 +35,20 @@ grew_then {b = b} {mid = mid} {now = now} p q =
     }
 
 module _ {b taken now : List ℕ} {need place type : ℕ} (sound : IsSound b (shape b)) (fills : Fills b taken now (shape b) (shape now).records (shape now).unused need place type) where
-  edit : Edit b now (shape b).records (shape now).records (placing_marks (shape b).unused place need) (place ∷ [])
-  edit = filled_edit sound fills
-
-  is_shape : shape now ≡ with_space (shape b) (shape now).records (shape now).unused
-  is_shape = shape_is now (with_space (shape b) (shape now).records (shape now).unused) (filled_sound sound fills).has_shape
+  first : Grows b now (placing_marks (shape b).unused place need) (place ∷ [])
+  first = placed_grows sound fills
 
   out_of : (m : ℕ) → In m (shape b).records → type_at b m ≢ uir_type → In m (place ∷ []) → ⊥
-  out_of m i used (inl e) = unlike sound fills m i used e
-  out_of m i used (inr none) = none
+  out_of m i used j = unlike sound fills m i used (the_one place m j)
 
   away : (m type : ℕ) → type ≢ uir_type → type ≢ gdr_type → Away (placing_marks (shape b).unused place need) type m
   away m type used other = ((λ e l. other e), ((λ e l. other e), ((λ e l. used e), ((λ e l. used e), ((λ e l. used e), ((λ e l. used e), tt))))))
 
   pub grew : Grew b now
-  grew = record {
-    sound = subst (IsSound now) (sym is_shape) (filled_sound sound fills);
-    shape_is = is_shape;
-    content_is = filled_content sound fills;
-    longer = edit.longer;
-    sub = edit.sub;
-    head = λ m i used. edit.head m i used (out_of m i used);
-    kept = λ m i used no_gdr. kept_away edit m (type_at b m) i refl (away m (type_at b m) used no_gdr);
-  }
+  grew = grind (arith, first, λ (m : ℕ) (i : In m (shape b).records) (used : type_at b m ≢ uir_type). first.edit.head m i used (out_of m i used), λ (m : ℕ) (i : In m (shape b).records) (used : type_at b m ≢ uir_type) (other : type_at b m ≢ gdr_type). kept_away first.edit m (type_at b m) i refl (away m (type_at b m) used other))
 
   pub ends : eof now (gdr_offset now) ≡ length now
-  ends = let h = (filled_sound sound fills).has_shape in ap (eof now) h.gdr_is ∙ end_now sound fills (still_edit h) refl refl
+  ends = ap (eof now) first.sound.has_shape.gdr_is ∙ first.end_is
 
   -- where the record stands
   pub stands : In place (shape now).records

@@ -38,13 +38,10 @@ module _ {b taken now : List ℕ} {need place type : ℕ} (sound : IsSound b (sh
   placed_shape = shape_is now _ (filled_sound sound fills).has_shape
 
   pub placed_grows : Grows b now (placing_marks (shape b).unused place need) (place ∷ [])
-  placed_grows = record {
-    edit = filled_edit sound fills;
-    sound = subst (IsSound now) (sym placed_shape) (filled_sound sound fills);
-    same_shape = placed_shape;
-    content_stays = filled_content sound fills;
-    end_is = ap (λ (s : Shape). eof now s.gdr) placed_shape ∙ end_now sound fills (still_edit (filled_sound sound fills).has_shape) refl refl;
-  }
+  placed_grows =
+      let sound_now = subst (IsSound now) (sym placed_shape) (filled_sound sound fills) in
+      let end = ap (λ (s : Shape). eof now s.gdr) placed_shape ∙ end_now sound fills (still_edit (filled_sound sound fills).has_shape) refl refl in
+      grind (arith, filled_edit sound fills, sound_now, placed_shape, filled_content sound fills, end)
 
 -- a node that was taken
 pub record NodeStands (now : List ℕ) (room at : ℕ) : Type 0 where

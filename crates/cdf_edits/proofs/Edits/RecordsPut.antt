@@ -1,10 +1,10 @@
 -- The records of a variable once one is put: what its leaves hold then says that they are those of the content.
-use Rattle.cdf_edits.proofs.Common.{Leaf, List, NoRule, Pad, Previous, Some, Variable, ap, arith, cases_eq, cases_lt, cuts_before_put, extent, false, filled, greater, inl, inr, is_little, is_sparse, item_at, last_number, le-ltb, lt-ltb, max_rec_at, nat_lt, nat_tests, option_map, pad_record, record_bytes, record_number_limit, records_in, refl, stored_bytes, subst, suc, sym, true, turned, type_of_variable, with_item, with_items, zero, ℕ, ◌+◌, ◌-◌, ◌<◌, ◌∙◌, ◌≡◌, ◌≢◌, ◌≤◌, ◌⊎◌}
+use Rattle.cdf_edits.proofs.Common.{Leaf, List, NoRule, Pad, Previous, Some, Variable, ap, arith, cases_eq, cases_lt, cuts_before_put, extent, false, filled, greater, inl, inr, is_little, is_sparse, item_at, last_number, le-ltb, lt-ltb, max_rec_at, nat_lt, nat_tests, option_map, pad_record, record_bytes, record_number_limit, records_in, refl, stored_bytes, subst, suc, sym, turned, type_of_variable, with_item, with_items, zero, ℕ, ◌+◌, ◌-◌, ◌<◌, ◌∙◌, ◌≡◌, ◌≢◌, ◌≤◌}
+use Rattle.cdf_edits.proofs.Edits.Common.{Ascending, record_is, record_past, rising_records}
+use Rattle.cdf_edits.proofs.Edits.NumberedLookup.{item_among, item_before_all, item_beside, item_past_all, item_with, rising_with_items, same_items}
+use Rattle.cdf_edits.proofs.Edits.NumberedItems.{rising_with}
 use Rattle.std.proofs.Common.{◌&&◌}
 use Rattle.cdf_model.specs.declared.kinds.Sparse.{Sparse}
-use Rattle.cdf_edits.proofs.Edits.LeafRecords.{Ascending, rising_records, record_is, record_past}
-use Rattle.cdf_edits.proofs.Edits.NumberedItems.{rising_with}
-use Rattle.cdf_edits.proofs.Edits.NumberedLookup.{same_items, item_with, item_beside, rising_with_items, item_among, item_before_all, item_past_all}
 
 -- One record is put, of a variable whose VDR says now of each record as much as before: it is stored, each from MaxRec on before it is stored as a pad, and what was stored up to MaxRec stays.
 pub record StoresPut (b now : List ℕ) (vdr vdr' : ℕ) (leaves leaves' : List Leaf) (r : ℕ) (bytes pad : List ℕ) : Type 0 where
@@ -19,13 +19,13 @@ pub record StoresPut (b now : List ℕ) (vdr vdr' : ℕ) (leaves leaves' : List 
   pub kept : (k : ℕ) → k < extent (max_rec_at b vdr) → k ≢ r → stored_bytes now vdr' (record_bytes b vdr) leaves' k ≡ stored_bytes b vdr (record_bytes b vdr) leaves k
 
 greater_least : (m n : ℕ) → n ≤ greater m n
-greater_least m n = elim (cases_lt m n) [ inl lt ↦ rw (lt-ltb m n lt) (omega arith) | inr le ↦ rw (le-ltb m n le) le ]
+greater_least m n = grind (arith, nat_tests)
 
 greater_first : (m n : ℕ) → m ≤ greater m n
-greater_first m n = elim (cases_lt m n) [ inl lt ↦ rw (lt-ltb m n lt) (omega arith) | inr le ↦ rw (le-ltb m n le) (omega arith) ]
+greater_first m n = grind (arith, nat_tests)
 
 greater_most : (m n k : ℕ) → m ≤ k → n ≤ k → greater m n ≤ k
-greater_most m n k l h = elim (cases_lt m n) [ inl lt ↦ rw (lt-ltb m n lt) h | inr le ↦ rw (le-ltb m n le) l ]
+greater_most m n k l h = grind (arith, nat_tests)
 
 module _ {b now : List ℕ} {vdr vdr' : ℕ} {leaves leaves' : List Leaf} {r : ℕ} {bytes pad : List ℕ} (p : StoresPut b now vdr vdr' leaves leaves' r bytes pad) where
   abbrev turn : List ℕ → List ℕ
@@ -52,46 +52,27 @@ module _ {b now : List ℕ} {vdr vdr' : ℕ} {leaves leaves' : List Leaf} {r : �
 
   each : (k : ℕ) → item_at k (records_in now vdr' leaves') ≡ item_at k (with_item r bytes filled_up)
   each k = elim (cases_eq r k) [
-    | inl e ↦ subst (λ (x : ℕ). item_at x (records_in now vdr' leaves') ≡ item_at x (with_item r bytes filled_up)) e (now_is r (put_below most p.upto) ∙ p.stored ∙ sym (item_with r bytes filled_up))
-    | inr ne ↦ beside ne (cases_lt k m) ∙ sym (item_beside k r bytes filled_up ne)
-  ]
-    where
-      put_below : (x : ℕ) → x ≡ greater m (r + 1) → r < x
-      put_below x e = let l = greater_least m (r + 1) in omega arith
-
-      first_below : (x : ℕ) → x ≡ greater m (r + 1) → m ≤ x
-      first_below x e = let l = greater_first m (r + 1) in omega arith
-
-      past : (x : ℕ) → x ≡ greater m (r + 1) → m ≤ k → r + 1 ≤ k → x ≤ k
-      past x e l h = let g = greater_most m (r + 1) k l h in omega arith
-
-      beside : r ≢ k → (k < m) ⊎ (m ≤ k) → item_at k (records_in now vdr' leaves') ≡ item_at k filled_up
-      beside ne (inl lt) =
-          now_is k (let f = first_below most p.upto in omega arith) ∙ ap (option_map turn) (p.kept k lt (λ e. ne (sym e))) ∙ sym (record_is b vdr leaves p.ascend k lt) ∙ sym (item_before_all k m (r - m) pad was lt)
-      beside ne (inr le) = elim (cases_lt k r) [
-        | inl lt ↦ now_is k (let f = put_below most p.upto in omega arith) ∙ p.padded k le lt ∙ sym (item_among k m (r - m) pad was le (omega arith))
-        | inr ge ↦ record_past now vdr' leaves' p.ascend_now k (past most p.upto le (omega arith)) ∙ sym (record_past b vdr leaves p.ascend k le) ∙ sym (item_past_all k m (r - m) pad was (reach ne ge le))
+    | inl e ↦ subst (λ (x : ℕ). item_at x (records_in now vdr' leaves') ≡ item_at x (with_item r bytes filled_up)) e (now_is r (omega (arith, p.upto, greater_least m (r + 1))) ∙ p.stored ∙ sym (item_with r bytes filled_up))
+    | inr ne ↦ rw (item_beside k r bytes filled_up ne) (elim (cases_lt k m) [
+      | inl lt ↦ now_is k (omega (arith, p.upto, greater_first m (r + 1))) ∙ ap (option_map turn) (p.kept k lt (λ e. ne (sym e))) ∙ sym (record_is b vdr leaves p.ascend k lt) ∙ sym (item_before_all k m (r - m) pad was lt)
+      | inr le ↦ elim (cases_lt k r) [
+        | inl lt ↦ now_is k (omega (arith, p.upto, greater_least m (r + 1))) ∙ p.padded k le lt ∙ sym (item_among k m (r - m) pad was le (omega arith))
+        | inr ge ↦ record_past now vdr' leaves' p.ascend_now k (omega (arith, p.upto, greater_most m (r + 1) k le (omega arith))) ∙ sym (record_past b vdr leaves p.ascend k le) ∙ sym (item_past_all k m (r - m) pad was (omega arith))
       ]
-        where
-          reach : r ≢ k → r ≤ k → m ≤ k → m + (r - m) ≤ k
-          reach ne g l = omega arith
+    ])
+  ]
 
   pub records_put : records_in now vdr' leaves' ≡ with_item r bytes (with_items m (r - m) pad (records_in b vdr leaves))
   records_put = same_items 0 0 (records_in now vdr' leaves') (with_item r bytes filled_up) (rising_records now vdr' leaves' p.ascend_now) (rising_with 0 r bytes filled_up (omega arith) (rising_with_items 0 m (r - m) pad was (omega arith) (rising_records b vdr leaves p.ascend))) each
 
 -- what is filled up, where nothing is cut before
-uncut_sparse : (s : Sparse) (m r : ℕ) → (is_sparse s && nat_lt m r) ≡ false → is_sparse s ≡ true → r ≤ m
-uncut_sparse NoRule m r e t = absurd cc
-uncut_sparse Pad m r e t = grind (arith, nat_tests)
-uncut_sparse Previous m r e t = grind (arith, nat_tests)
-
 pub filled_uncut : (v : Variable) (r : ℕ) → cuts_before_put v r ≡ false → filled v.sparse v r ≡ with_items (extent v.max_rec) (r - extent v.max_rec) (pad_record v) v.recs
 filled_uncut v r e = by v.sparse e
   where
     by : (s : Sparse) → (is_sparse s && nat_lt (extent v.max_rec) r) ≡ false → filled s v r ≡ with_items (extent v.max_rec) (r - extent v.max_rec) (pad_record v) v.recs
     by NoRule e = refl
-    by Pad e = let l = uncut_sparse Pad (extent v.max_rec) r e refl in let none : 0 ≡ r - extent v.max_rec = omega arith in ap (λ (c : ℕ). with_items (extent v.max_rec) c (pad_record v) v.recs) none
-    by Previous e = let l = uncut_sparse Previous (extent v.max_rec) r e refl in let none : 0 ≡ r - extent v.max_rec = omega arith in ap (λ (c : ℕ). with_items (extent v.max_rec) c (pad_record v) v.recs) none
+    by Pad e = let none : 0 ≡ r - extent v.max_rec = grind (arith, nat_tests) in ap (λ (c : ℕ). with_items (extent v.max_rec) c (pad_record v) v.recs) none
+    by Previous e = let none : 0 ≡ r - extent v.max_rec = grind (arith, nat_tests) in ap (λ (c : ℕ). with_items (extent v.max_rec) c (pad_record v) v.recs) none
 
 -- ---- MaxRec
 

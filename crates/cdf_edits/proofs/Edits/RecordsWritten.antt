@@ -1,29 +1,11 @@
 -- Records of a variable are written where they stand, in blocks that are not packed, and MaxRec with them: the image has its shape and its rules, and all but the variable stays.
-use Rattle.cdf_edits.proofs.Common.{ActsFollow, Among, Anywhere, Avoids, Away, Changed, Covered, Each, Each-append, Edit, Good, HasShape, Hold, In, In-append, In-append_left, IsIndex, IsSound, Kind, List, Mark, Marked, NodeFits, R, Same, Shape, Stays, Touch, VariableShape, Within, Z, [], ap, arith, avoided, content, count_of, cpr_type, cvvr_type, either, false-is_in, flat_map, gdr_eof, gdr_r_max_rec, gdr_type, gdr_uir_head, good_is_sound, head_of, image_limit, index_rows, inl, inr, is_a, is_a-type, is_in, is_max_rec, keeps_file, leaves_of, length, linkable-type, map, mark, max_rec_touches, nodes_of, nodes_stand, number, r_max_rec, r_max_rec_field, r_vdr_type, refl, shape, size_at, slice_set, space_fields, subst, sym, tile_lies, touched_field, true, true-is_in, true≢false, type_at, type_in, uir_type, unmarked, variable_of, variable_records, variable_types, variables_chain, variables_of, vdr_max_rec, vdr_vxr_head, vvr_type, vxr_type, with_variables, z_vdr_type, ℕ, ◌++◌, ◌+◌, ◌∙◌, ◌∷◌, ◌≡◌, ◌≤◌, ◌⊎◌}
-use Rattle.cdf_edits.proofs.Commands.KeptRecords.{Stood}
-use Rattle.cdf_edits.proofs.Edits.Composing.{head_size, head_type, changed_edit}
-use Rattle.cdf_edits.proofs.Edits.InRecords.{places_of, index_both, index_rows_both}
-use Rattle.cdf_edits.proofs.Edits.MarkLemmas.{the_one}
-use Rattle.cdf_edits.proofs.Edits.OwnersKept.{stood, keeps_within}
-use Rattle.cdf_edits.proofs.Edits.RecordFrame.{index_records, kept, kept_away, chain_stays, gdr_field, file_same}
-use Rattle.cdf_edits.proofs.Edits.StepEdits.{gdr_in, gdr_typed, gdr_long, some_bytes}
-use Rattle.cdf_edits.proofs.Edits.VariableCopied.{node_behind, block_behind, cpr_behind}
-use Rattle.cdf_edits.proofs.Edits.VariableFrame.{IsRuled, variable_typed}
-use Rattle.cdf_edits.proofs.Edits.VariableKinds.{other_kind, keeps_kind}
-use Rattle.cdf_edits.proofs.Edits.VariableSplice.{keeps_all_attributes}
-use Rattle.cdf_edits.proofs.Edits.OwnEdited.{OwnEdit, shape_stays, good_in_place, named_before, r_max_rec_kept}
-use Rattle.cdf_edits.proofs.Edits.OwnEdited as of_own
+use Rattle.cdf_edits.proofs.Common.{ActsFollow, Among, Anywhere, Avoids, Away, Changed, Each, Each-append, Edit, Good, HasShape, Hold, In, In-append, IsIndex, IsSound, Kind, List, Mark, Marked, NodeFits, R, Same, Shape, Stays, Touch, VariableShape, Within, Z, [], ap, arith, either, false-is_in, gdr_r_max_rec, gdr_type, gdr_uir_head, good_is_sound, image_limit, index_rows, inl, inr, is_in, is_max_rec, leaves_of, length, linkable-type, map, mark, max_rec_touches, nodes_of, nodes_stand, number, r_max_rec, r_max_rec_field, refl, shape, size_at, space_fields, subst, sym, tile_lies, true, true-is_in, true≢false, type_at, type_in, uir_type, variable_records, variable_types, variables_chain, vdr_max_rec, vdr_vxr_head, vvr_type, vxr_type, ℕ, ◌++◌, ◌+◌, ◌∙◌, ◌∷◌, ◌≡◌, ◌≤◌, ◌⊎◌}
+use Rattle.cdf_edits.proofs.Edits.Common.{Each-in, FileSame, IsRuled, Kept, OwnEdit, SameHeads, StandsAmong, Stood, VdrAlike, all_variable_records, behind_in, behind_ours, block_behind, chain_stays, changed_edit, file_same, fits, gdr_field, gdr_in, gdr_long, gdr_typed, good_in_place, has, head_size, head_type, index_kept, index_records, keeps_within, kept, kept_away, long, named_before, no_block, node_behind, packed_stays, places_of, plain_alike, r_max_rec_kept, shape_stays, some_bytes, stood, the_one, tile, typed, variable_typed}
 use Rattle.cdf_edits.proofs.Edits.IndexEdited.{IndexEdit}
-use Rattle.cdf_edits.proofs.Edits.IndexEdited as of_index
-use Rattle.cdf_edits.proofs.Frame.VdrStays.{packed_stays}
-use Rattle.cdf_edits.proofs.Edits.VdrEdited.{StandsAmong, tile, typed, long, has, fits, ours, behind_in, no_block}
-use Rattle.cdf_edits.proofs.Frame.LinksStay.{SameHeads, index_kept}
-use Rattle.cdf_edits.proofs.Frame.Meaning.{FileSame, Kept}
-use Rattle.cdf_edits.proofs.Frame.OwnerAlone.{Each-in}
-use Rattle.cdf_edits.proofs.Frame.OwnersApart.{all_variable_records}
-use Rattle.cdf_edits.proofs.Frame.VdrAlike.{VdrAlike, Copied, copied_in_place, word_copied, plain_alike}
 use Rattle.cdf_edits.proofs.Rules.OfIndexes.{index_rules_written}
-use Rattle.cdf_edits.proofs.Space.UsedRecords.{apart}
+use Rattle.cdf_edits.proofs.Edits.OwnEdited as of_own
+use Rattle.cdf_edits.proofs.Edits.IndexEdited as of_index
+use Rattle.cdf_edits.proofs.Frame.VdrAlike.{Copied, copied_in_place, word_copied}
 
 -- some bytes of a block of the variable that is not packed, behind its type
 pub record InBlock (b : List ℕ) (own : VariableShape) (t : Touch) : Type 0 where
@@ -49,54 +31,20 @@ abbrev block_mark : List ℕ → ℕ → Mark
 block_mark places most = record { type = vvr_type; tiles = Among places; place = 12; width = most }
 
 abbrev pub put_marks : Kind → ℕ → List ℕ → ℕ → List Mark
-put_marks kind v places most = gdr_marks kind ++ mark (type_in (variables_chain kind)) (Among (v ∷ [])) vdr_max_rec ∷ block_mark places most ∷ []
+put_marks kind v places most = mark (type_in (variables_chain kind)) (Among (v ∷ [])) vdr_max_rec ∷ block_mark places most ∷ gdr_marks kind
 
--- which records they leave by their types alone
-record PutTests (kind : Kind) (marks : List Mark) : Type 0 where
-  file_clear : keeps_file marks ≡ true
-  attributes_clear : keeps_all_attributes marks ≡ true
-  other_clear : keeps_kind marks (other_kind kind) ≡ true
-  nodes_clear : unmarked marks vxr_type ≡ true
-  packed_clear : unmarked marks cvvr_type ≡ true
-  cpr_clear : unmarked marks cpr_type ≡ true
-  unused_clear : unmarked marks uir_type ≡ true
-  head_clear : avoided marks gdr_type (head_of (variables_chain kind)).place ((head_of (variables_chain kind)).place + (head_of (variables_chain kind)).width) ≡ true
-  count_clear : avoided marks gdr_type (count_of (variables_chain kind)).place ((count_of (variables_chain kind)).place + (count_of (variables_chain kind)).width) ≡ true
-  list_clear : avoided marks gdr_type gdr_uir_head.place (gdr_uir_head.place + gdr_uir_head.width) ≡ true
-  eof_clear : avoided marks gdr_type gdr_eof.place (gdr_eof.place + gdr_eof.width) ≡ true
-
-put_tests : (kind : Kind) (v : ℕ) (places : List ℕ) (most : ℕ) → PutTests kind (put_marks kind v places most)
-put_tests R v places most = record { file_clear = refl; attributes_clear = refl; other_clear = refl; nodes_clear = refl; packed_clear = refl; cpr_clear = refl; unused_clear = refl; head_clear = refl; count_clear = refl; list_clear = refl; eof_clear = refl }
-put_tests Z v places most = record { file_clear = refl; attributes_clear = refl; other_clear = refl; nodes_clear = refl; packed_clear = refl; cpr_clear = refl; unused_clear = refl; head_clear = refl; count_clear = refl; list_clear = refl; eof_clear = refl }
-
-pub put_avoids : (kind : Kind) (v : ℕ) (places : List ℕ) (most type m lo hi : ℕ) → (type ≡ gdr_type → (hi ≤ 52) ⊎ (56 ≤ lo)) → (type ≡ type_in (variables_chain kind) → m ≡ v → (hi ≤ 24) ⊎ (28 ≤ lo)) → (type ≡ vvr_type → In m places → hi ≤ 12) → Avoids (put_marks kind v places most) type m lo hi
-put_avoids R v places most type m lo hi g d p = ((λ same lies. g same), ((λ same lies. d same (the_one v m lies)), ((λ same lies. inl (p same lies)), tt)))
-put_avoids Z v places most type m lo hi g d p = ((λ same lies. d same (the_one v m lies)), ((λ same lies. inl (p same lies)), tt))
-
-put_away : (kind : Kind) (v : ℕ) (places : List ℕ) (most type m : ℕ) → (type ≡ gdr_type → ⊥) → (m ≡ v → ⊥) → (type ≡ vvr_type → In m places → ⊥) → Away (put_marks kind v places most) type m
-put_away R v places most type m g d p = ((λ same lies. g same), ((λ same lies. d (the_one v m lies)), ((λ same lies. p same lies), tt)))
-put_away Z v places most type m g d p = ((λ same lies. d (the_one v m lies)), ((λ same lies. p same lies), tt))
-
--- the first bytes of all records
+-- the first bytes of all records, and a part of the VDR beside MaxRec
 early : (kind : Kind) (v : ℕ) (places : List ℕ) (most type m lo hi : ℕ) → hi ≤ 12 → Avoids (put_marks kind v places most) type m lo hi
-early kind v places most type m lo hi l = put_avoids kind v places most type m lo hi (λ e. inl (omega arith)) (λ e f. inl (omega arith)) (λ e i. l)
+early kind v places most type m lo hi l = grind arith
 
-vdr_no_gdr : (kind : Kind) → type_in (variables_chain kind) ≡ gdr_type → ⊥
-vdr_no_gdr R = apart r_vdr_type gdr_type refl
-vdr_no_gdr Z = apart z_vdr_type gdr_type refl
+vdr_avoids : (kind : Kind) (v : ℕ) (places : List ℕ) (most m lo hi : ℕ) → (hi ≤ 24) ⊎ (28 ≤ lo) → Avoids (put_marks kind v places most) (type_in (variables_chain kind)) m lo hi
+vdr_avoids kind v places most m lo hi side = grind arith
 
-vdr_no_block : (kind : Kind) → type_in (variables_chain kind) ≡ vvr_type → ⊥
-vdr_no_block R = apart r_vdr_type vvr_type refl
-vdr_no_block Z = apart z_vdr_type vvr_type refl
-
-covered_later : (b : List ℕ) (ks xs : List Mark) (t : Touch) → Covered b xs t → Covered b (ks ++ xs) t
-covered_later b [] xs t c = c
-covered_later b (k ∷ ks) xs t c = inr (covered_later b ks xs t c)
-
-tiles_in : (b : List ℕ) (own : VariableShape) (ts : List Touch) → Each (InBlock b own) ts → (m : ℕ) → In m (map (λ (t : Touch). t.tile) ts) → In m (places_of (leaves_of own.index))
-tiles_in b own [] each m i = absurd i
-tiles_in b own (t ∷ ts) each m (inl q) = subst (λ (x : ℕ). In x (places_of (leaves_of own.index))) (sym q) each.0.block
-tiles_in b own (t ∷ ts) each m (inr i) = tiles_in b own ts each.1 m i
+-- each is in a block of its own
+in_block : (b : List ℕ) (own : VariableShape) (ts : List Touch) → Each (InBlock b own) ts → (m : ℕ) → In m (map (λ (t : Touch). t.tile) ts) → In m (places_of (leaves_of own.index)) × (type_at b m ≡ vvr_type)
+in_block b own [] each m i = absurd i
+in_block b own (t ∷ ts) each m (inl q) = rw q (each.0.block, each.0.typed)
+in_block b own (t ∷ ts) each m (inr i) = in_block b own ts each.1 m i
 
 -- ---- the edit
 
@@ -116,17 +64,11 @@ module _ {b now : List ℕ} {kind : Kind} {before : List VariableShape} {own : V
   abbrev pub marks : List Mark
   marks = put_marks kind v places (length b)
 
-  abbrev tests : PutTests kind marks
-  tests = put_tests kind v places (length b)
-
   sound : IsSound b s
   sound = good_is_sound b good
 
   h : HasShape b s
   h = sound.has_shape
-
-  block_in : (m : ℕ) → In m places → In m (places_of (leaves_of own.index))
-  block_in = tiles_in b own ts w.in_blocks
 
   pub in_records : (m : ℕ) → In m (places_of (leaves_of own.index)) → In m s.records
   in_records m i = behind_in good at m (block_behind own m i)
@@ -135,52 +77,20 @@ module _ {b now : List ℕ} {kind : Kind} {before : List VariableShape} {own : V
   blocks_marked [] sub each = tt
   blocks_marked (t ∷ xs) sub each =
       let x = each.0 in
-      let inside = in_records t.tile x.block in (
-        record {
-          inside = inside;
-          fits = x.fits;
-          behind_size = let l = x.later in omega arith;
-          behind_type = inl x.later;
-          covered = covered_later b (gdr_marks kind) (mark type (Among (v ∷ [])) vdr_max_rec ∷ block_mark places (length b) ∷ []) t (inr (inl (record {
-            typed = x.typed;
-            lies = sub t.tile (inl refl);
-            low = x.later;
-            high = upto (t.place + t.width) (size_at b t.tile) t.tile (length b) x.fits (tile_lies b 8 (length b) s.records t.tile h.tiled inside).high;
-          })));
-        },
-        blocks_marked xs (λ m i. sub m (inr i)) each.1,
-      )
-    where
-      upto : (e n m l : ℕ) → e ≤ n → m + n ≤ l → e ≤ 12 + l
-      upto e n m l p q = omega arith
+      let inside = in_records t.tile x.block in
+      (grind (arith, inside, x.typed, x.later, x.fits, sub t.tile (inl refl), (tile_lies b 8 (length b) s.records t.tile h.tiled inside).high), blocks_marked xs (λ m i. sub m (inr i)) each.1)
 
-  vdr_marked : Marked b s.records marks [] (touched_field v vdr_max_rec)
-  vdr_marked = record {
-    inside = tile good at;
-    fits = let n = long good at in omega arith;
-    behind_size = omega arith;
-    behind_type = inl (omega arith);
-    covered = covered_later b (gdr_marks kind) (mark type (Among (v ∷ [])) vdr_max_rec ∷ block_mark places (length b) ∷ []) (touched_field v vdr_max_rec) (inl (record { typed = typed good at; lies = inl refl; low = omega arith; high = omega arith }));
-  }
-
-  gdr_marked : (k : Kind) → Each (Marked b s.records (put_marks k v places (length b)) []) (map (touched_field s.gdr) (r_max_rec_field k))
-  gdr_marked R = (
-    record { inside = gdr_in b s h; fits = let l = gdr_long b s h in omega arith; behind_size = omega arith; behind_type = inl (omega arith); covered = inl (record { typed = gdr_typed b s h; lies = tt; low = omega arith; high = omega arith }) },
-    tt,
-  )
-  gdr_marked Z = tt
+  fields_marked : Each (Marked b s.records marks []) (max_rec_touches b kind v)
+  fields_marked = grind (arith, gdr_in b s h, gdr_long b s h, gdr_typed b s h, long good at, tile good at, typed good at)
 
   all_marked : Each (Marked b s.records marks []) (max_rec_touches b kind v ++ ts)
-  all_marked = Each-append (Marked b s.records marks []) (max_rec_touches b kind v) ts (Each-append (Marked b s.records marks []) (map (touched_field s.gdr) (r_max_rec_field kind)) (touched_field v vdr_max_rec ∷ []) (gdr_marked kind) (vdr_marked, tt)) (blocks_marked ts (λ m i. i) w.in_blocks)
+  all_marked = Each-append (Marked b s.records marks []) (max_rec_touches b kind v) ts fields_marked (blocks_marked ts (λ m i. i) w.in_blocks)
 
   pub edit : Edit b now s.records s.records marks []
   edit = changed_edit b now s.records (max_rec_touches b kind v ++ ts) marks [] h.tiled w.as_long w.changed all_marked (some_bytes b s h)
 
-  pub file_clear : keeps_file marks ≡ true
-  file_clear = tests.file_clear
-
   pub file : FileSame b now
-  file = file_same sound edit tests.file_clear
+  file = file_same sound edit (grind arith)
 
   -- ---- its records
 
@@ -194,77 +104,59 @@ module _ {b now : List ℕ} {kind : Kind} {before : List VariableShape} {own : V
   type_same m i = head_type b now m (start m i)
 
   pub node_kept : (m : ℕ) → In m (nodes_of own.index) → Kept b now m
-  node_kept m i = kept edit m vxr_type (behind_in good at m (node_behind own m i)) (linkable-type b s.records vxr_type m (nodes_stand b s.records 8 own.index (has good at).indexed.has_nodes m i)) tests.nodes_clear
+  node_kept m i = kept edit m vxr_type (behind_in good at m (node_behind own m i)) (linkable-type b s.records vxr_type m (nodes_stand b s.records 8 own.index (has good at).indexed.has_nodes m i)) (grind arith)
 
-  cpr_kept : (m : ℕ) → In m own.cpr → Kept b now m
-  cpr_kept m i = kept edit m cpr_type (behind_in good at m (cpr_behind own m i)) (is_a-type b s.records cpr_type m (Each-in (λ x. is_a b s.records cpr_type x ≡ true) own.cpr (fits good at).3 m i)) tests.cpr_clear
+  -- no record of a variable is the GDR
+  no_gdr : (m : ℕ) → In m (all_variable_records s) → type_at b m ≡ gdr_type → ⊥
+  no_gdr m i e = true≢false (sym (ap (λ (x : ℕ). is_in x variable_types) (sym e) ∙ variable_typed b s sound m i))
 
   -- a block of which nothing is written
   pub block_kept : (m : ℕ) → In m (places_of (leaves_of own.index)) → (In m places → ⊥) → Kept b now m
-  block_kept m i out = kept_away edit m (type_at b m) (in_records m i) refl (put_away kind v places (length b) (type_at b m) m (λ e. no_gdr m (variable_typed b s sound m (own_of m i)) e) (λ e. no_vdr m i e) (λ e j. out j))
-    where
-      no_gdr : (m : ℕ) → is_in (type_at b m) variable_types ≡ true → type_at b m ≡ gdr_type → ⊥
-      no_gdr m t e = true≢false (sym (ap (λ (x : ℕ). is_in x variable_types) (sym e) ∙ t))
-
-      own_of : (m : ℕ) → In m (places_of (leaves_of own.index)) → In m (all_variable_records s)
-      own_of m i = (ours good at).1.sub m (In-append_left m (variable_records own) (flat_map variable_records after) (inr (block_behind own m i)))
-
-      no_vdr : (m : ℕ) → In m (places_of (leaves_of own.index)) → m ≡ v → ⊥
-      no_vdr m i e = no_block good at (subst (λ (x : ℕ). In x (places_of (leaves_of own.index))) e i)
-
-  -- a record behind its VDR, of which nothing is written
-  pub behind_kept : (m : ℕ) → In m (index_records own) → (In m places → ⊥) → Kept b now m
-  behind_kept m i out = elim (In-append m (nodes_of own.index ++ places_of (leaves_of own.index)) own.cpr i) [
-    | inr c ↦ cpr_kept m c
-    | inl j ↦ elim (In-append m (nodes_of own.index) (places_of (leaves_of own.index)) j) [ inl n ↦ node_kept m n | inr n ↦ block_kept m n out ]
-  ]
+  block_kept m i out =
+      let other = λ (e : m ≡ v). no_block good at (subst (λ (x : ℕ). In x (places_of (leaves_of own.index))) e i) in
+      kept_away edit m (type_at b m) (in_records m i) refl (grind (arith, the_one v m, no_gdr m (behind_ours good at m (block_behind own m i)), other, out))
 
   -- ---- its VDR
 
   pub part : (lo hi : ℕ) → (hi ≤ 24) ⊎ (28 ≤ lo) → hi ≤ size_at b v → Same b now (v + lo) (v + hi)
-  part lo hi side fit = edit.part v type lo hi (tile good at) (typed good at) (early kind v places (length b) type v 0 12 (omega arith)) (put_avoids kind v places (length b) type v lo hi (λ e. absurd (vdr_no_gdr kind e)) (λ e f. side) (λ e i. absurd (vdr_no_block kind e))) fit
+  part lo hi side fit = edit.part v type lo hi (tile good at) (typed good at) (early kind v places (length b) type v 0 12 (omega arith)) (vdr_avoids kind v places (length b) v lo hi side) fit
 
   links_same : Copied b now v v 28 44
   links_same = copied_in_place b now v 28 44 (part 28 44 (inr (omega arith)) (let l = long good at in omega arith))
 
   -- ---- its index and the others
 
-  mine_heads : (records : List ℕ) → ((m : ℕ) → In m (index_records own) → In m records) → SameHeads b now (index_records own) records
-  mine_heads records sub = record { sizes = λ m i. size_same m (behind_in good at m i); types = λ m i. type_same m (behind_in good at m i); sub = sub }
+  heads : SameHeads b now s.records s.records
+  heads = record { sizes = size_same; types = type_same; sub = λ m i. i }
+
+  nodes_fit : (m : ℕ) → In m (nodes_of own.index) → NodeFits b m
+  nodes_fit = Each-in (NodeFits b) (nodes_of own.index) (fits good at).1
 
   index_now : IsIndex now s.records (number now v vdr_vxr_head) own.index
-  index_now =
-      let mine = index_records own in
-      let index = index_both b s.records mine (number b v vdr_vxr_head) own.index (λ m i. (behind_in good at m (node_behind own m i), node_behind own m i)) (λ m i. (behind_in good at m (block_behind own m i), block_behind own m i)) (has good at).indexed in
-      index_kept b now mine s.records (mine_heads s.records (behind_in good at)) (number b v vdr_vxr_head) (number now v vdr_vxr_head) own.index index (word_copied links_same 28 8 (omega arith) (omega arith))
-      node_kept (Each-in (NodeFits b) (nodes_of own.index) (fits good at).1) (block_behind own)
+  index_now = index_kept b now s.records s.records heads (number b v vdr_vxr_head) (number now v vdr_vxr_head) own.index (has good at).indexed (word_copied links_same 28 8 (omega arith) (omega arith)) node_kept nodes_fit in_records
 
   -- records of variables that are not of this one
   beside : (m : ℕ) → In m (all_variable_records s) → (In m (variable_records own) → ⊥) → Away marks (type_at b m) m
-  beside m i out = put_away kind v places (length b) (type_at b m) m (λ e. true≢false (sym (ap (λ (x : ℕ). is_in x variable_types) (sym e) ∙ variable_typed b s sound m i))) (λ e. out (inl e)) (λ e j. out (inr (block_behind own m (block_in m j))))
+  beside m i out = let block = λ (j : In m places). out (inr (block_behind own m (in_block b own ts w.in_blocks m j).0)) in grind (arith, the_one v m, no_gdr m i, λ (e : m ≡ v). out (inl e), block)
 
   pub index_edit : IndexEdit b now kind own own.index s.records s.unused marks []
-  index_edit = record {
-    edit = edit;
-    file_clear = tests.file_clear;
-    attributes_clear = tests.attributes_clear;
-    other_clear = tests.other_clear;
-    cpr_clear = tests.cpr_clear;
-    head_clear = tests.head_clear;
-    count_clear = tests.count_clear;
-    beside = beside;
-    avoids = λ m lo hi side. put_avoids kind v places (length b) type m lo hi (λ e. absurd (vdr_no_gdr kind e)) (λ e f. elim side [ inl l ↦ inl l | inr l ↦ inr (omega arith) ]) (λ e i. absurd (vdr_no_block kind e));
-    typed = λ m i. absurd i;
-    unused_chain = chain_stays edit uir_type _ _ s.unused h.unused_chain (gdr_field sound edit tests.file_clear gdr_uir_head tests.list_clear (omega arith))
-        (λ m i. put_avoids kind v places (length b) uir_type m 0 20 (λ e. absurd (apart uir_type gdr_type refl e)) (λ e f. inl (omega arith)) (λ e i. absurd (apart uir_type vvr_type refl e)));
-    index_now = index_now;
-  }
+  index_edit =
+      let apart_vdr = λ (m lo hi : ℕ) (side : (hi ≤ 24) ⊎ (44 ≤ lo)). vdr_avoids kind v places (length b) m lo hi (elim side [ inl l ↦ inl l | inr l ↦ inr (omega arith) ]) in
+      let list = chain_stays edit uir_type _ _ s.unused h.unused_chain (gdr_field sound edit (grind arith) gdr_uir_head (grind arith) (omega arith)) (λ m i. grind arith) in
+      grind (arith, edit, beside, apart_vdr, list, index_now)
 
   abbrev own_edit : OwnEdit b now kind own own.index s.records s.unused marks []
   own_edit = of_index.own_edit good at index_edit
 
   pub vdr_alike : VdrAlike b now v v
   vdr_alike = of_index.vdr_alike good at index_edit
+
+  -- a record behind its VDR, of which nothing is written
+  pub behind_kept : (m : ℕ) → In m (index_records own) → (In m places → ⊥) → Kept b now m
+  behind_kept m i out = elim (In-append m (nodes_of own.index ++ places_of (leaves_of own.index)) own.cpr i) [
+    | inr c ↦ of_index.cpr_kept good at index_edit m c
+    | inl j ↦ elim (In-append m (nodes_of own.index) (places_of (leaves_of own.index)) j) [ inl n ↦ node_kept m n | inr n ↦ block_kept m n out ]
+  ]
 
   -- ---- the shape and the content
 
@@ -274,55 +166,37 @@ module _ {b now : List ℕ} {kind : Kind} {before : List VariableShape} {own : V
   pub records_are : (shape now).records ≡ s.records
   records_are = ap (λ (x : Shape). x.records) same_shape
 
-  pub content_replaced : content now ≡ with_variables (content b) kind (slice_set (variables_of (content b) kind) (length before) (variable_of now own))
-  content_replaced = of_own.content_replaced good at own_edit
-
   -- of a z variable rMaxRec stays
   pub r_max_rec_of_z : kind ≡ Z → r_max_rec now ≡ r_max_rec b
-  r_max_rec_of_z z = r_max_rec_kept good at own_edit (clear kind z)
-    where
-      clear : (k : Kind) → k ≡ Z → avoided (put_marks k v places (length b)) gdr_type 52 56 ≡ true
-      clear R e = absurd cc
-      clear Z e = refl
+  r_max_rec_of_z z = r_max_rec_kept good at own_edit (grind arith)
 
   -- ---- the rules
 
   kept_or_plain : (m : ℕ) → In m (places_of (leaves_of own.index)) → Kept b now m ⊎ (type_at b m ≡ vvr_type)
   kept_or_plain m i = elim (either (is_in m places)) [
-    | inl e ↦ inr (plain ts w.in_blocks m (true-is_in m places e))
+    | inl e ↦ inr (in_block b own ts w.in_blocks m (true-is_in m places e)).1
     | inr e ↦ inl (block_kept m i (false-is_in m places e))
   ]
-    where
-      plain : (xs : List Touch) → Each (InBlock b own) xs → (m : ℕ) → In m (map (λ (t : Touch). t.tile) xs) → type_at b m ≡ vvr_type
-      plain [] each m i = absurd i
-      plain (t ∷ xs) each m (inl q) = ap (type_at b) q ∙ each.0.typed
-      plain (t ∷ xs) each m (inr i) = plain xs each.1 m i
 
   index_ruled : Hold (index_rows b s.records v own.index) → Hold (index_rows now s.records v own.index)
-  index_ruled rules =
-      let mine = index_records own in
-      let there : Hold (index_rows b mine v own.index) = subst Hold (sym (index_rows_both b s.records mine v own.index (λ m i. (behind_in good at m (block_behind own m i), block_behind own m i)))) rules in
-      subst Hold (sym (index_rows_both now mine s.records v own.index (λ m i. (block_behind own m i, behind_in good at m (block_behind own m i)))))
-      (index_rules_written b now mine (mine_heads mine (λ m i. i)) file (λ m i. h.fixed m (behind_in good at m i)) v v (packed_stays file (of_index.stays good at index_edit)) (plain_alike file vdr_alike) own.index node_kept (Each-in (NodeFits b) (nodes_of own.index) (fits good at).1)
-      (λ m i. (block_behind own m i, kept_or_plain m i)) there)
+  index_ruled = index_rules_written b now s.records heads file h.fixed v v (packed_stays file (of_index.stays good at index_edit)) (plain_alike file vdr_alike) own.index node_kept nodes_fit (λ m i. (in_records m i, kept_or_plain m i))
 
   pub own_ruled : IsRuled b s.records own
   own_ruled = of_own.own_ruled good at own_edit
 
   pub good_now : length b ≤ image_limit → Good now
-  good_now = good_in_place good at own_edit w.as_long tests.eof_clear (of_index.ruled good at index_edit (index_ruled own_ruled.1) w.max_rec_ruled) (named_before good at own_edit (of_index.name_same good at index_edit))
+  good_now = good_in_place good at own_edit w.as_long (grind arith) (of_index.ruled good at index_edit (index_ruled own_ruled.1) w.max_rec_ruled) (named_before good at own_edit (of_index.name_same good at index_edit))
 
   pub no_acts_follow : ActsFollow b now []
-  no_acts_follow = of_own.no_acts_follow good at own_edit w.as_long tests.unused_clear
+  no_acts_follow = of_own.no_acts_follow good at own_edit w.as_long (grind arith)
 
   -- ---- what stays
 
   gdr_within : (k : Kind) → Within (put_marks k v places (length b)) gdr_type s.gdr (r_max_rec_field k ++ space_fields)
-  gdr_within R = ((λ same lies. refl), ((λ same lies. absurd (vdr_no_gdr R (sym same))), ((λ same lies. absurd (apart gdr_type vvr_type refl same)), tt)))
-  gdr_within Z = ((λ same lies. absurd (vdr_no_gdr Z (sym same))), ((λ same lies. absurd (apart gdr_type vvr_type refl same)), tt))
+  gdr_within k = grind arith
 
   pub gdr_keeps : Stays b now s.gdr (r_max_rec_field kind ++ space_fields)
   gdr_keeps = keeps_within sound edit records_are s.gdr gdr_type (r_max_rec_field kind ++ space_fields) (gdr_in b s h) (gdr_typed b s h) (early kind v places (length b) gdr_type s.gdr 0 12 (omega arith)) (gdr_within kind)
 
   pub unused_stands : (m : ℕ) → In m s.records → type_at b m ≡ uir_type → Stood b now m
-  unused_stands m i t = stood sound edit records_are m i (kept edit m uir_type i t tests.unused_clear)
+  unused_stands m i t = stood sound edit records_are m i (kept edit m uir_type i t (grind arith))

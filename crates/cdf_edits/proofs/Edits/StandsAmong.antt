@@ -5,6 +5,7 @@ use Rattle.cdf_edits.proofs.Edits.RecordFrame.{index_records}
 use Rattle.cdf_edits.proofs.Edits.StepEdits.{fixed_long}
 use Rattle.cdf_edits.proofs.Edits.VariableCopied.{block_behind}
 use Rattle.cdf_edits.proofs.Edits.VariableFrame.{AreOurs, ours_parts, index_typed, variables_in}
+use Rattle.cdf_edits.proofs.Frame.OwnersApart.{all_variable_records}
 use Rattle.cdf_edits.proofs.Edits.VariableKept.{OnlyVariable, only_variable}
 use Rattle.cdf_edits.proofs.Edits.VariableKinds.{kind_chain, kind_ours}
 
@@ -72,8 +73,11 @@ module _ {b : List ℕ} {kind : Kind} {before : List VariableShape} {own : Varia
   pub fits : VariableFits b s.records own
   fits = ours.1.fits.0
 
+  pub behind_ours : (m : ℕ) → In m (index_records own) → In m (all_variable_records s)
+  behind_ours m i = ours.1.sub m (In-append_left m (variable_records own) (flat_map variable_records after) (inr i))
+
   pub behind_in : (m : ℕ) → In m (index_records own) → In m s.records
-  behind_in m i = variables_in b s sound m (ours.1.sub m (In-append_left m (variable_records own) (flat_map variable_records after) (inr i)))
+  behind_in m i = variables_in b s sound m (behind_ours m i)
 
   pub only : OnlyVariable b s kind before after v
   only = only_variable sound kind before own after at.was v (inl refl)

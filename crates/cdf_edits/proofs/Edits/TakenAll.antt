@@ -1,12 +1,8 @@
 -- Records that are taken and written one after the other: one edit, and acts that follow.
-use Rattle.cdf_edits.proofs.Common.{Act, ActsFollow, Among, Anywhere, Avoids, Away, Distinct, Edit, Field, Fills, In, IsSound, List, Mark, Shape, Took, Within, [], ap, arith, either, eof, false, false-is_in, field, gdr_eof, gdr_type, gdr_uir_head, inl, inr, is_in, is_taken, length, linkable-in, linkable-type, mark, or_parts, refl, shape, size_at, subst, sym, tile_lies, true-is_in, type_at, uir_next_uir, uir_prev_uir, uir_type, with_space, ℕ, ◌+◌, ◌∙◌, ◌∷◌, ◌≡◌, ◌≤◌, ◌⊎◌}
-use Rattle.cdf_edits.proofs.Edits.Common.{Avoids-append, acts_none, acts_took, apart, edit_then, fresh, keeps_within, made_edit, placing_marks, the_one}
+use Rattle.cdf_edits.proofs.Common.{Act, ActsFollow, Among, Anywhere, Avoids, Away, Distinct, Edit, Field, Fills, In, IsSound, List, Mark, Took, Within, [], arith, either, eof, false, false-is_in, field, gdr_eof, gdr_type, gdr_uir_head, inl, inr, is_in, is_taken, length, linkable-in, linkable-type, mark, or_parts, refl, shape, size_at, subst, sym, tile_lies, true-is_in, type_at, uir_next_uir, uir_prev_uir, uir_type, ℕ, ◌+◌, ◌∙◌, ◌∷◌, ◌≡◌, ◌≤◌, ◌⊎◌}
+use Rattle.cdf_edits.proofs.Edits.Common.{Avoids-append, Grows, OnlyTakes, acts_none, acts_took, apart, edit_then, edit_under, grows_not, keeps_within, listed_before, listed_marks, loose_away, made_edit, placed_grows, placing_marks, still_edit, taken_is_taken, the_one}
 use Rattle.cdf_edits.proofs.Edits.ActsJoined.{ListedStay, acts_joined}
-use Rattle.cdf_edits.proofs.Edits.FreedRecords.{edit_under}
-use Rattle.cdf_edits.proofs.Edits.MadeRecord.{listed_before, listed_marks, loose_away, place_in}
-use Rattle.cdf_edits.proofs.Edits.OnlyTaken.{OnlyTakes}
-use Rattle.cdf_edits.proofs.Edits.OwnersKept.{taken_is_taken}
-use Rattle.cdf_edits.proofs.Edits.RecordPlaced.{Grows, grows_not, placed_grows, still_edit}
+use Rattle.cdf_edits.proofs.Edits.MadeRecord.{place_in}
 
 -- ---- marks
 
@@ -41,14 +37,10 @@ pub record TakenAll (b now : List ℕ) (acts : List Act) (places : List ℕ) (mo
 module _ {b now places : List ℕ} {acts : List Act} {most : ℕ} (t : TakenAll b now acts places most) where
   -- of a listed record that is not taken the links alone are marked
   pub listed_free : (m : ℕ) → In m (shape b).unused → 12 ≤ size_at b m → is_taken b acts m ≡ false → Avoids (taking_all (shape b).unused places most) uir_type m 0 12 × Within (taking_all (shape b).unused places most) uir_type m links
-  listed_free m i long free =
-      let out = t.untaken b m long free in (
-        ((λ same lies. absurd (no_gdr same)), ((λ same lies. absurd (no_gdr same)), ((λ same lies. inl (omega arith)), ((λ same lies. inl (omega arith)), ((λ same lies. absurd (out lies)), tt))))),
-        ((λ same lies. absurd (no_gdr same)), ((λ same lies. absurd (no_gdr same)), ((λ same lies. refl), ((λ same lies. refl), ((λ same lies. absurd (out lies)), tt))))),
-      )
+  listed_free m i long free = let out = t.untaken b m long free in (grind (arith, out), grind (arith, out))
 
   pub unlisted_away : (m : ℕ) → In m (shape b).records → (In m (shape b).unused → ⊥) → Away (taking_all (shape b).unused places most) uir_type m
-  unlisted_away m i off = ((λ same lies. no_gdr same), ((λ same lies. no_gdr same), ((λ same lies. off lies), ((λ same lies. off lies), ((λ same lies. off (t.from_list m lies i)), tt)))))
+  unlisted_away m i off = grind (arith, off, λ (lies : In m places). off (t.from_list m lies i))
 
   listed_stay : IsSound b (shape b) → ListedStay b now acts
   listed_stay sound m i free =
@@ -61,16 +53,8 @@ module _ {b now places : List ℕ} {acts : List Act} {most : ℕ} (t : TakenAll 
 pub none_taken : {b : List ℕ} {most : ℕ} → IsSound b (shape b) → eof b (shape b).gdr ≡ length b → TakenAll b b [] [] most
 none_taken {b = b} {most = most} sound end =
     let g = grows_not sound end in
-    record {
-      grows = record { edit = edit_under g.edit (taking_all (shape b).unused [] most) (λ m type lo hi i is a. tt); sound = g.sound; same_shape = g.same_shape; content_stays = g.content_stays; end_is = g.end_is };
-      fresh_all = λ m i. absurd i;
-      from_list = λ m i. absurd i;
-      once = tt;
-      before = λ m i j. j;
-      follow = acts_none sound (still_edit sound.has_shape) refl refl refl refl refl;
-      takes = tt;
-      untaken = λ c m long free i. i;
-    }
+    let edit = edit_under g.edit (taking_all (shape b).unused [] most) (λ m type lo hi i is a. tt) in
+    grind (arith, edit, g.sound, g.same_shape, g.content_stays, g.end_is, acts_none sound (still_edit sound.has_shape) refl refl refl refl refl)
 
 -- one, and then the others
 module _ {b taken mid : List ℕ} {need place type : ℕ} (sound : IsSound b (shape b)) (fills : Fills b taken mid (shape b) (shape mid).records (shape mid).unused need place type) {now more : List ℕ} {acts : List Act} {most : ℕ} (few : need ≤ most) (rest : TakenAll mid now acts more most) where
@@ -89,15 +73,13 @@ module _ {b taken mid : List ℕ} {need place type : ℕ} (sound : IsSound b (sh
   before_first : (m : ℕ) → In m (shape b).records → In m (shape mid).unused → In m (shape b).unused
   before_first = listed_before sound fills still refl refl
 
-  -- a record that was there was on the list
-  was_listed : In place (shape b).records → In place (shape b).unused
-  was_listed i = elim (either (is_in place (shape b).unused)) [
-    | inl x ↦ true-is_in place (shape b).unused x
-    | inr x ↦ absurd ((loose_away sound fills still refl refl place i (false-is_in place (shape b).unused x)).1.1.1.1.0 refl (inl refl))
+  -- one that was there was on the list
+  from_list : (m : ℕ) → In m (place ∷ more) → In m (shape b).records → In m (shape b).unused
+  from_list m (inl q) j = elim (either (is_in m (shape b).unused)) [
+    | inl x ↦ true-is_in m (shape b).unused x
+    | inr x ↦ absurd ((loose_away sound fills still refl refl m j (false-is_in m (shape b).unused x)).1.1.1.1.0 refl (inl q))
   ]
-
-  here : (m : ℕ) → m ≡ place → In m (shape b).records → type_at b m ≡ uir_type
-  here m q j = ap (type_at b) q ∙ fresh sound fills (subst (λ (x : ℕ). In x (shape b).records) q j)
+  from_list m (inr k) j = before_first m j (rest.from_list m k (first.edit.sub m j))
 
   both : Edit b now (shape b).records (shape now).records (taking_all (shape b).unused (place ∷ more) most) (place ∷ more)
   both = edit_under (edit_then first.edit rest.grows.edit) (taking_all (shape b).unused (place ∷ more) most) (λ m type lo hi i is a.
@@ -107,24 +89,9 @@ module _ {b taken mid : List ℕ} {need place type : ℕ} (sound : IsSound b (sh
 
   pub taken_then : TakenAll b now (Took place need ∷ acts) (place ∷ more) most
   taken_then = record {
-    grows = record {
-      edit = both;
-      sound = rest.grows.sound;
-      same_shape = rest.grows.same_shape ∙ ap (λ (s : Shape). with_space s (shape now).records (shape now).unused) first.same_shape;
-      content_stays = rest.grows.content_stays ∙ first.content_stays;
-      end_is = rest.grows.end_is;
-    };
-    fresh_all = λ m i j. elim i [
-      | inl q ↦ here m q j
-      | inr k ↦ elim (first.edit.kind m (first.edit.sub m j)) [
-        | inl x ↦ sym x.1 ∙ rest.fresh_all m k (first.edit.sub m j)
-        | inr x ↦ elim x [ inl new ↦ absurd (new.0 j) | inr r ↦ here m (the_one place m r) j ]
-      ]
-    ];
-    from_list = λ m i j. elim i [
-      | inl q ↦ subst (λ (x : ℕ). In x (shape b).unused) (sym q) (was_listed (subst (λ (x : ℕ). In x (shape b).records) q j))
-      | inr k ↦ before_first m j (rest.from_list m k (first.edit.sub m j))
-    ];
+    grows = grind (arith, both, rest.grows.sound, rest.grows.same_shape, first.same_shape, rest.grows.content_stays, first.content_stays, rest.grows.end_is);
+    fresh_all = λ m i j. linkable-type b (shape b).records uir_type m (sound.has_shape.unused_chain.linkable m (from_list m i j));
+    from_list = from_list;
     once = ((λ i. fills.in_use (sym fills.typed ∙ rest.fresh_all place i (place_in sound fills))), rest.once);
     before = λ m i j. before_first m i (rest.before m (first.edit.sub m i) j);
     follow = acts_joined sound.has_shape first.sound.has_shape (acts_took sound fills still refl refl refl refl) rest.follow tt rest.takes first_listed (listed_stay rest first.sound);

@@ -7,6 +7,7 @@ use Rattle.cdf_edits.proofs.Edits.LeftOwners.{Left, left_of, owned_left}
 use Rattle.cdf_edits.proofs.Edits.NumbersBehind.{fewer_rows, place_in}
 use Rattle.cdf_edits.proofs.Edits.RowsOneLess.{AreNumbered}
 use Rattle.cdf_edits.proofs.Edits.RecordFrame.{VariableLives, file_same, gdr_place, index_records, kept_away, kept_but_link, through}
+use Rattle.cdf_edits.proofs.Edits.StandsAmong.{least_size}
 use Rattle.cdf_edits.proofs.Edits.StepEdits.{fixed_long}
 use Rattle.cdf_edits.proofs.Edits.VariableFrame.{AreOurs, VariableRemains, ours_parts, remain_from, nums_from, index_typed, variables_in}
 use Rattle.cdf_edits.proofs.Edits.VariableKinds.{other_kind, with_shapes, vdrs_rows, number_part, keeps_kind, kind_ours, kind_chain, counted_before, variables_of_are, spliced_times}
@@ -47,10 +48,6 @@ wholes_confined (type ∷ types) places limit = (inr (λ m i. i), wholes_confine
 pub index_confined : (kind : Kind) (gdr : ℕ) (members behind unused places : List ℕ) (limit : ℕ) → Confined (variable_removing_marks kind gdr members behind unused places limit) index_types places
 index_confined R gdr members behind unused places limit = (inl refl, (inl refl, (inl refl, (inl refl, (inl refl, (inl refl, (inl refl, wholes_confined (type_in (variables_chain R) ∷ index_types) places limit)))))))
 index_confined Z gdr members behind unused places limit = (inl refl, (inl refl, (inl refl, (inl refl, (inl refl, (inl refl, wholes_confined (type_in (variables_chain Z) ∷ index_types) places limit))))))
-
-pub least_size : (kind : Kind) → 340 ≤ fixed_size (type_in (variables_chain kind))
-least_size R = omega arith
-least_size Z = omega arith
 
 pub counting_by : (kind : Kind) (now ms : List ℕ) → number now (gdr_offset now) (count_of (variables_chain kind)) ≡ length ms → Hold (number_part kind now ms) → Hold (vdrs_rows kind now ms)
 counting_by R now ms count numbers = (eq-eqb _ _ count, numbers)

@@ -1,7 +1,7 @@
 -- A variable whose VDR stands at another place, or is another where it is, and whose other records an edit leaves: its links, its content and its rules.
-use Rattle.cdf_edits.proofs.Common.{Bool, Each, Edit, HasVariable, Hold, In, In-append_left, In-append_right, IsSound, Leaf, LeafFits, List, Mark, NodeFits, Shape, VariableFits, VariableShape, [], ap, arith, cpr_link, cpr_of, has_name, if◌then◌else◌, index_rows, inl, inr, integer4, is_compressed, is_named_apart, leaves_of, name_in, nodes_of, number, pad_at, records_vary, refl, size_at, size_kept, subst, sym, true, type_kept, variable_of, variable_rows, vdr_blocking_factor, vdr_end, vdr_name, vdr_vxr_head, ℕ, ◌++◌, ◌∙◌, ◌∷◌, ◌≡◌, ◌≤◌}
+use Rattle.cdf_edits.proofs.Common.{Each, Edit, HasVariable, Hold, In, In-append_left, In-append_right, IsSound, Leaf, LeafFits, List, Mark, NodeFits, Shape, VariableFits, VariableShape, [], arith, cpr_link, cpr_of, has_name, if◌then◌else◌, index_rows, inl, inr, integer4, is_compressed, is_named_apart, leaves_of, name_in, nodes_of, number, pad_at, records_vary, refl, size_at, size_kept, subst, sym, true, type_kept, variable_of, variable_rows, vdr_blocking_factor, vdr_end, vdr_name, vdr_vxr_head, ℕ, ◌++◌, ◌∙◌, ◌∷◌, ◌≡◌, ◌≤◌}
 use Rattle.cdf_edits.proofs.Edits.InRecords.{places_of, index_both, index_rows_both, leaves_fit_both, cprs_both}
-use Rattle.cdf_edits.proofs.Edits.RecordFrame.{index_records}
+use Rattle.cdf_edits.proofs.Edits.RecordFrame.{cpr_own, index_records}
 use Rattle.cdf_edits.proofs.Frame.LinksStay.{SameHeads, index_kept}
 use Rattle.cdf_edits.proofs.Frame.Meaning.{FileSame, Kept}
 use Rattle.cdf_edits.proofs.Frame.OwnerAlone.{Each-in}
@@ -53,15 +53,13 @@ module _ {b now : List ℕ} {s : Shape} {new : List ℕ} {marks : List Mark} {re
       (index_rules_copied b now mine (heads mine (λ m i. i)) file (λ m i. sound.has_shape.fixed m (stand m i)) own.vdr v' packed (plain_copied file k) own.index (λ m i. kept m (node_behind own m i)) (Each-in (NodeFits b) (nodes_of own.index) fits.1)
       (λ m i. kept m (block_behind own m i)) there)
 
-  cpr_own : is_compressed b own.vdr ≡ true → In (cpr_link b own.vdr) (index_records own)
-  cpr_own c =
-      let there : own.cpr ≡ cpr_link b own.vdr ∷ [] = sym has.packed_by ∙ ap (λ (p : Bool). if p then cpr_link b own.vdr ∷ [] else []) c in
-      cpr_behind own (cpr_link b own.vdr) (subst (λ (x : List ℕ). In (cpr_link b own.vdr) x) (sym there) (inl refl))
+  cpr_mine : is_compressed b own.vdr ≡ true → In (cpr_link b own.vdr) (index_records own)
+  cpr_mine c = cpr_behind own (cpr_link b own.vdr) (cpr_own has c)
 
   pub rules_stay : (ids ids' : List ℕ) → Hold (variable_rows b s.records ids own.vdr) → has_name now v' vdr_name ≡ true → is_named_apart now ids' v' ≡ true → vdr_end now v' ≤ size_at now v' → size_at b own.vdr ≤ size_at now v' → Hold (variable_rows now new ids' v')
   rules_stay ids ids' rules named apart ends larger =
       variable_rules_copied file k larger s.records new ids ids' rules named apart ends packed
-      (λ c is. cpr_stays b now s.records new (cpr_link b own.vdr) is (kept (cpr_link b own.vdr) (cpr_own c)) (e.sub (cpr_link b own.vdr) (stand (cpr_link b own.vdr) (cpr_own c))))
+      (λ c is. cpr_stays b now s.records new (cpr_link b own.vdr) is (kept (cpr_link b own.vdr) (cpr_mine c)) (e.sub (cpr_link b own.vdr) (stand (cpr_link b own.vdr) (cpr_mine c))))
 
   leaves_fit_copied : (leaves : List Leaf) → ((m : ℕ) → In m (places_of leaves) → Kept b now m) → Each (LeafFits b (index_records own) own.vdr) leaves → Each (LeafFits now new v') leaves
   leaves_fit_copied [] still f = tt

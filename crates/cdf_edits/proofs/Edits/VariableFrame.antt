@@ -1,5 +1,5 @@
 -- Variables whose records an edit leaves stay, and keep their rules, whatever records an image has beside.
-use Rattle.cdf_edits.proofs.Common.{Away, Bool, Each, Each-split, Edit, HasShape, HasVariable, Hold, Hold-append, Hold-split, In, In-append, In-append_left, In-append_right, IsSound, Leaf, LeafFits, List, Mark, NodeFits, Row, Shape, Variable, VariableFits, VariableShape, VariableStays, [], all_unmarked, ap, arith, avoided, both, cpr_link, cpr_type, cvvr_type, either, ended, fixed_size, flat_map, if◌then◌else◌, index_rows, index_types, indexes_shape_rows, inl, inr, is_a, is_a-in, is_a-type, is_block, is_compressed, is_in, is_linkable, is_named_apart, keeps_index_records, leaves_of, linkable-in, linkable-type, name_in, nodes_of, nodes_stand, number, r_vdr_type, refl, size_at, subst, sym, true, type_at, variable_records, variable_rows, variable_types, variables, variables_shape_rows, vdr_name, vdr_num, vdrs, vdrs_append, vvr_type, vxr_type, z_vdr_type, ℕ, ◌&&◌, ◌++◌, ◌==◌, ◌∙◌, ◌∷◌, ◌≡◌, ◌≤◌, ◌⊎◌}
+use Rattle.cdf_edits.proofs.Common.{Away, Each, Each-split, Edit, HasShape, HasVariable, Hold, Hold-append, Hold-split, In, In-append, In-append_left, In-append_right, IsSound, Leaf, LeafFits, List, Mark, NodeFits, Row, Shape, Variable, VariableFits, VariableShape, VariableStays, [], all_unmarked, ap, arith, avoided, both, cpr_link, cpr_type, cvvr_type, either, ended, fixed_size, flat_map, index_rows, index_types, indexes_shape_rows, inl, inr, is_a, is_a-in, is_a-type, is_block, is_compressed, is_in, is_linkable, is_named_apart, keeps_index_records, leaves_of, linkable-in, linkable-type, name_in, nodes_of, nodes_stand, number, r_vdr_type, refl, size_at, subst, sym, true, type_at, variable_records, variable_rows, variable_types, variables, variables_shape_rows, vdr_name, vdr_num, vdrs, vdrs_append, vvr_type, vxr_type, z_vdr_type, ℕ, ◌&&◌, ◌++◌, ◌==◌, ◌∙◌, ◌∷◌, ◌≡◌, ◌≤◌, ◌⊎◌}
 use Rattle.cdf_edits.proofs.Frame.OwnerAlone.{Each-in}
 use Rattle.cdf_edits.proofs.Rules.OfIndexes.{index_rules_kept}
 use Rattle.cdf_edits.proofs.Frame.Meaning.{FileSame, Kept, KeptButLink, but_link}
@@ -11,7 +11,7 @@ use Rattle.cdf_edits.proofs.Space.UsedRecords.{apart}
 use Rattle.cdf_edits.proofs.Frame.SoundStays.{nodes_fit_kept, leaves_fit_kept, cprs_kept}
 use Rattle.cdf_edits.proofs.Frame.FileSound.{variables_stand}
 use Rattle.cdf_edits.proofs.Rules.OfVariables.{variable_rows_same}
-use Rattle.cdf_edits.proofs.Edits.RecordFrame.{VariableLives, index_records, kept_away, kept_but_link, own_heads, node_own, block_own, variable_stays}
+use Rattle.cdf_edits.proofs.Edits.RecordFrame.{VariableLives, cpr_own, index_records, kept_away, kept_but_link, own_heads, node_own, block_own, variable_stays}
 use Rattle.cdf_edits.proofs.Edits.InRecords.{places_of, variable_rows_both, index_rows_both, leaves_fit_both, cprs_both}
 use Rattle.cdf_edits.proofs.Edits.MarkLemmas.{or_cases, avoided-avoids, ended-avoids, all_unmarked-away}
 
@@ -222,13 +222,11 @@ module _ {b now : List ℕ} {s : Shape} {new : List ℕ} {marks : List Mark} {re
       fixed_own : (m : ℕ) → In m (variable_records v) → fixed_size (type_at b m) ≤ size_at b m
       fixed_own m i = h.fixed m (stand m i)
 
-      cpr_own : is_compressed b v.vdr ≡ true → In (cpr_link b v.vdr) (variable_records v)
-      cpr_own c =
-          let there : v.cpr ≡ cpr_link b v.vdr ∷ [] = sym has.packed_by ∙ ap (λ (p : Bool). if p then cpr_link b v.vdr ∷ [] else []) c in
-          inr (In-append_right (cpr_link b v.vdr) (nodes_of v.index ++ places_of (leaves_of v.index)) v.cpr (subst (λ (x : List ℕ). In (cpr_link b v.vdr) x) (sym there) (inl refl)))
+      cpr_mine : is_compressed b v.vdr ≡ true → In (cpr_link b v.vdr) (variable_records v)
+      cpr_mine c = inr (In-append_right (cpr_link b v.vdr) (nodes_of v.index ++ places_of (leaves_of v.index)) v.cpr (cpr_own has c))
 
       cpr_own_now : is_compressed now v.vdr ≡ true → In (cpr_link now v.vdr) (variable_records v)
-      cpr_own_now c = subst (λ (x : ℕ). In x (variable_records v)) (sym (cpr_link_copied file (vdr_kept b now file v.vdr live.vdr fits.0))) (cpr_own (sym (compressed_same b now file v.vdr live.vdr fits.0) ∙ c))
+      cpr_own_now c = subst (λ (x : ℕ). In x (variable_records v)) (sym (cpr_link_copied file (vdr_kept b now file v.vdr live.vdr fits.0))) (cpr_mine (sym (compressed_same b now file v.vdr live.vdr fits.0) ∙ c))
 
       -- the VDR itself is no CPR
       cpr_kept : (m : ℕ) → is_a b (variable_records v) cpr_type m ≡ true → Kept b now m
@@ -254,7 +252,7 @@ module _ {b now : List ℕ} {s : Shape} {new : List ℕ} {marks : List Mark} {re
           let own = variable_records v in
           variable_rows_both now own new ids v.vdr (λ c. (cpr_own_now c, e.sub _ (stand _ (cpr_own_now c))))
           ∙ variable_rows_same b now own (heads own (λ m i. i)) file fixed_own cpr_kept v.vdr live.vdr fits.0 ids names
-          ∙ variable_rows_both b s.records own ids v.vdr (λ c. (stand _ (cpr_own c), cpr_own c))
+          ∙ variable_rows_both b s.records own ids v.vdr (λ c. (stand _ (cpr_mine c), cpr_mine c))
 
       one_index : Hold (index_rows b s.records v.vdr v.index) → Hold (index_rows now new v.vdr v.index)
       one_index rules =

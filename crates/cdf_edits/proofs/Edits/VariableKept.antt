@@ -5,8 +5,8 @@ use Rattle.cdf_edits.proofs.Commands.ListParts.{got-middle}
 use Rattle.cdf_edits.proofs.Edits.InRecords.{places_of}
 use Rattle.cdf_edits.proofs.Edits.OwnersKept.{keep_all}
 use Rattle.cdf_edits.proofs.Edits.RecordFrame.{index_records}
-use Rattle.cdf_edits.proofs.Edits.VariableKinds.{other_kind}
-use Rattle.cdf_edits.proofs.Frame.OwnersApart.{flat-append, times-append, times-three, times-in, owned-times, file_records, all_attribute_records, all_variable_records}
+use Rattle.cdf_edits.proofs.Edits.VariableKinds.{kind_times, other_kind}
+use Rattle.cdf_edits.proofs.Frame.OwnersApart.{none-out, times-append, times-three, times-in, owned-times, file_records, all_attribute_records, all_variable_records}
 
 -- ---- whose the records are
 
@@ -19,24 +19,8 @@ pub record OnlyVariable (b : List ℕ) (s : Shape) (kind : Kind) (before after :
   pub in_others : In m (flat_map variable_records (shapes_of s (other_kind kind))) → ⊥
   pub in_unused : In m (unused_records b s) → ⊥
 
-both_times : (xs ys : List VariableShape) (m : ℕ) → times m (flat_map variable_records (xs ++ ys)) ≡ times m (flat_map variable_records xs) + times m (flat_map variable_records ys)
-both_times xs ys m = ap (times m) (flat-append variable_records xs ys) ∙ times-append m (flat_map variable_records xs) (flat_map variable_records ys)
-
-kind_times : (kind : Kind) (s : Shape) (m : ℕ) → times m (all_variable_records s) ≡ times m (flat_map variable_records (shapes_of s kind)) + times m (flat_map variable_records (shapes_of s (other_kind kind)))
-kind_times R s m = both_times s.r_variables s.z_variables m
-kind_times Z s m = turned _ _ _ (both_times s.r_variables s.z_variables m)
-  where
-    turned : (n x y : ℕ) → n ≡ x + y → n ≡ y + x
-    turned n x y e = omega arith
-
 none_besides : (f a v u x o y z k n : ℕ) → n ≤ 1 → n ≡ f + (a + (v + u)) → v ≡ k + z → k ≡ x + (o + y) → 1 ≤ o → (f ≡ 0) × (a ≡ 0) × (x ≡ 0) × (y ≡ 0) × (z ≡ 0) × (u ≡ 0)
 none_besides f a v u x o y z k n l p q r t = (omega arith, omega arith, omega arith, omega arith, omega arith, omega arith)
-
-none-out : (m : ℕ) (xs : List ℕ) → times m xs ≡ 0 → In m xs → ⊥
-none-out m xs e i = let l = times-in m xs i in clash (times m xs) e l
-  where
-    clash : (n : ℕ) → n ≡ 0 → 1 ≤ n → ⊥
-    clash n e l = omega arith
 
 pub only_variable : {b : List ℕ} {s : Shape} → IsSound b s → (kind : Kind) (before : List VariableShape) (own : VariableShape) (after : List VariableShape) → shapes_of s kind ≡ before ++ own ∷ after → (m : ℕ) → In m (variable_records own) → OnlyVariable b s kind before after m
 only_variable {b = b} {s = s} sound kind before own after was m i =

@@ -118,6 +118,14 @@ with_kind d Z s vs meaning ws own other = λ i. record d { r_variables = other i
 
 -- ---- how often a record is owned
 
+-- by variables of the kind, and those of the other one
+pub kind_times : (kind : Kind) (s : Shape) (m : ℕ) → times m (all_variable_records s) ≡ times m (flat_map variable_records (shapes_of s kind)) + times m (flat_map variable_records (shapes_of s (other_kind kind)))
+kind_times kind s m = let parts = ap (times m) (flat-append variable_records s.r_variables s.z_variables) ∙ times-append m (flat_map variable_records s.r_variables) (flat_map variable_records s.z_variables) in by kind parts
+  where
+    by : (k : Kind) → times m (all_variable_records s) ≡ times m (flat_map variable_records s.r_variables) + times m (flat_map variable_records s.z_variables) → times m (all_variable_records s) ≡ times m (flat_map variable_records (shapes_of s k)) + times m (flat_map variable_records (shapes_of s (other_kind k)))
+    by R parts = parts
+    by Z parts = omega arith
+
 -- counts with other records of some variables
 pub spliced_times : (s : Shape) (kind : Kind) (records list : List ℕ) (before own own' after : List VariableShape) → shapes_of s kind ≡ before ++ (own ++ after) → (m k l : ℕ) → times m (flat_map variable_records own') + l ≡ times m (flat_map variable_records own) + k
     → used_times (with_shapes s kind records list (before ++ (own' ++ after))) m + l ≡ used_times s m + k
@@ -126,21 +134,11 @@ spliced_times s kind records list before own own' after was m k l same =
     let parts = λ (mid : List VariableShape). times-three variable_records m before mid after in
     let old : count (shapes_of s kind) ≡ count before + (count own + count after) = ap count was ∙ parts own in
     sums (times m (file_records s)) (times m (all_attribute_records s)) (count before) (count after) (count own) (count own') (count (shapes_of s kind)) (count (before ++ (own' ++ after))) (count (shapes_of s (other_kind kind)))
-    (times m (all_variable_records s)) (times m (all_variable_records (with_shapes s kind records list (before ++ (own' ++ after))))) k l old (parts own') (all_times kind s m) (all_times_with kind s records list (before ++ (own' ++ after)) m) same
+    (times m (all_variable_records s)) (times m (all_variable_records (with_shapes s kind records list (before ++ (own' ++ after))))) k l old (parts own') (kind_times kind s m) (now_times kind (before ++ (own' ++ after))) same
   where
     sums : (f a x y o o' c c' d v v' k l : ℕ) → c ≡ x + (o + y) → c' ≡ x + (o' + y) → v ≡ c + d → v' ≡ c' + d → o' + l ≡ o + k → f + (a + v') + l ≡ f + (a + v) + k
     sums f a x y o o' c c' d v v' k l p q r t u = omega arith
 
-    two : (m : ℕ) (xs ys : List VariableShape) → times m (flat_map variable_records (xs ++ ys)) ≡ times m (flat_map variable_records xs) + times m (flat_map variable_records ys)
-    two m xs ys = ap (times m) (flat-append variable_records xs ys) ∙ times-append m (flat_map variable_records xs) (flat_map variable_records ys)
-
-    turned : (n x y : ℕ) → n ≡ x + y → n ≡ y + x
-    turned n x y e = omega arith
-
-    all_times_with : (kind : Kind) (s : Shape) (records list : List ℕ) (vs : List VariableShape) (m : ℕ) → times m (all_variable_records (with_shapes s kind records list vs)) ≡ times m (flat_map variable_records vs) + times m (flat_map variable_records (shapes_of s (other_kind kind)))
-    all_times_with R s records list vs m = two m vs s.z_variables
-    all_times_with Z s records list vs m = turned _ _ _ (two m s.r_variables vs)
-
-    all_times : (kind : Kind) (s : Shape) (m : ℕ) → times m (all_variable_records s) ≡ times m (flat_map variable_records (shapes_of s kind)) + times m (flat_map variable_records (shapes_of s (other_kind kind)))
-    all_times R s m = two m s.r_variables s.z_variables
-    all_times Z s m = turned _ _ _ (two m s.r_variables s.z_variables)
+    now_times : (kind : Kind) (vs : List VariableShape) → times m (all_variable_records (with_shapes s kind records list vs)) ≡ times m (flat_map variable_records vs) + times m (flat_map variable_records (shapes_of s (other_kind kind)))
+    now_times R vs = kind_times R (with_shapes s R records list vs) m
+    now_times Z vs = kind_times Z (with_shapes s Z records list vs) m

@@ -14,11 +14,11 @@ use Rattle.cdf_edits.proofs.Edits.VariableKinds.{other_kind, keeps_kind, kind_ch
 use Rattle.cdf_edits.proofs.Edits.VariableNames.{IsBeside}
 use Rattle.cdf_edits.proofs.Edits.VariableSplice.{VariableSplices, keeps_all_attributes}
 use Rattle.cdf_edits.proofs.Frame.Meaning.{FileSame, Kept}
-use Rattle.cdf_edits.proofs.Frame.OwnersApart.{all_attribute_records, file_in, unused_in}
+use Rattle.cdf_edits.proofs.Frame.OwnersApart.{all_attribute_records, all_variable_records, file_in, unused_in}
 use Rattle.cdf_edits.proofs.Frame.VdrCopied.{VdrCopied}
 use Rattle.cdf_edits.proofs.Edits.OwnEdited.{OwnEdit, shape_stays, good_in_place, no_acts_follow}
 use Rattle.cdf_edits.proofs.Edits.OwnEdited as of_own
-pub use Rattle.cdf_edits.proofs.Edits.StandsAmong.{StandsAmong, through, in_middle, high, least_size, name_room, sound, tile, typed, long, ours, after_ours, has, fits, behind_in, only, no_block}
+pub use Rattle.cdf_edits.proofs.Edits.StandsAmong.{StandsAmong, through, in_middle, high, least_size, name_room, sound, tile, typed, long, ours, after_ours, has, fits, behind_in, behind_ours, only, no_block}
 
 -- each mark is in the record at a place, behind its link
 abbrev pub AreIn : ℕ → List Mark → Type 0
@@ -113,20 +113,10 @@ module _ {b now : List ℕ} {kind : Kind} {before : List VariableShape} {own : V
       ]
 
   own_edit : OwnEdit b now kind own own.index s.records s.unused marks []
-  own_edit = record {
-    edit = edit;
-    file_clear = t.file_clear;
-    attributes_clear = t.attributes_clear;
-    other_clear = t.other_clear;
-    head_clear = t.gdr_clear _ _;
-    count_clear = t.gdr_clear _ _;
-    beside = λ m i out. away m (λ q. out (inl q));
-    linked = λ m. early type m 0 20 (omega arith);
-    nums = num_same;
-    typed = λ m i. absurd i;
-    unused_chain = chain_stays edit uir_type _ _ s.unused h.unused_chain (gdr_field (sound good at) edit t.file_clear gdr_uir_head (t.gdr_clear _ _) (omega arith)) (λ m i. early uir_type m 0 20 (omega arith));
-    has_now = links_copied (sound good at) edit file own (has good at) (fits good at) (behind_in good at) behind_kept w.copied w.packed;
-  }
+  own_edit =
+      let list = chain_stays edit uir_type _ _ s.unused h.unused_chain (gdr_field (sound good at) edit t.file_clear gdr_uir_head (t.gdr_clear _ _) (omega arith)) (λ m i. early uir_type m 0 20 (omega arith)) in
+      let beside = λ (m : ℕ) (i : In m (all_variable_records s)) (out : In m (variable_records own) → ⊥). away m (λ q. out (inl q)) in
+      grind (arith, t, list, beside, early type, num_same, links_copied (sound good at) edit file own (has good at) (fits good at) (behind_in good at) behind_kept w.copied w.packed)
 
   pub splices : VariableSplices b now s kind s.records s.unused marks [] before (own ∷ []) (own ∷ []) after
   splices = of_own.splices good at own_edit

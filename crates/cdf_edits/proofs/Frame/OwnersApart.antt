@@ -1,5 +1,5 @@
 -- Owners share no record, so a change within the records of one leaves those of every other.
-use Rattle.cdf_edits.proofs.Common.{AttributeFits, AttributeShape, Bool, ChangedWithin, Each, Each-append, Each-split, FileStays, HasEntries, HasShape, HasVariable, In, In-append, IsSound, Leaf, Leaves, LeavesFinding, List, Misses, Same, Shape, VariableFits, VariableShape, [], adr_type, agr_edr_type, ap, append_assoc, arith, attribute_records, az_edr_type, cast_signed, cdr_type, counted, cpr_type, either, encoding, eq-eqb, eqb, eqb-true, false, filter-in, flat_map, gdr_offset, gdr_r_num_dims, gdr_type, inl, inr, integer_kept, is_a, is_a-in, is_linkable, leaves_of, linkable-in, map, nodes_of, nodes_stand, number, owned_is, owned_records, r_num_dims, r_sizes, r_vdr_type, refl, size_at, size_kept, subst, suc, sym, times, true, type_at, uir_type, unused_records, variable_records, variables, vdrs, vdrs_append, vxr_type, w32, word_kept, words, words_kept, z_vdr_type, ℕ, ◌*◌, ◌++◌, ◌+◌, ◌∙◌, ◌∷◌, ◌≡◌, ◌≤◌}
+use Rattle.cdf_edits.proofs.Common.{AttributeFits, AttributeShape, ChangedWithin, Each, Each-append, Each-split, FileStays, HasEntries, HasShape, HasVariable, In, In-append, IsSound, Leaf, Leaves, LeavesFinding, List, Misses, Same, Shape, VariableFits, VariableShape, [], adr_type, agr_edr_type, ap, append_assoc, arith, attribute_records, az_edr_type, cast_signed, cdr_type, counted, cpr_type, either, encoding, eq-eqb, eqb, eqb-true, filter-in, flat_map, gdr_offset, gdr_r_num_dims, gdr_type, inl, inr, integer_kept, is_a, is_a-in, is_linkable, leaves_of, linkable-in, map, nodes_of, nodes_stand, number, owned_is, owned_records, r_num_dims, r_sizes, r_vdr_type, refl, size_at, size_kept, subst, suc, sym, times, true, type_at, uir_type, unused_records, variable_records, variables, vdrs, vdrs_append, vxr_type, w32, word_kept, words, words_kept, z_vdr_type, ℕ, ◌*◌, ◌++◌, ◌+◌, ◌∙◌, ◌∷◌, ◌≡◌, ◌≤◌, true≢false}
 use Rattle.cdf_edits.proofs.Frame.Meaning.{Kept, FileSame}
 use Rattle.cdf_edits.proofs.Frame.OwnerAlone.{stays, tiling_stays, attributes_stay, variables_stay, file_same, chains_stay, file_stays, Each-in, blocks_stand, part, cdr_long, gdr_long, chains_by_links, file_same_by}
 
@@ -19,15 +19,14 @@ pub times-in : (m : ℕ) (xs : List ℕ) → In m xs → 1 ≤ times m xs
 times-in m [] i = absurd i
 times-in m (x ∷ xs) i = elim (either (eqb m x)) [
   | inl e ↦ rw e (some (times m xs))
-  | inr e ↦ rw e (elim i [ inl h ↦ let t = eq-eqb m x h in absurd (clash (eqb m x) t e) | inr h ↦ times-in m xs h ])
+  | inr e ↦ rw e (elim i [ inl h ↦ absurd (true≢false (sym (eq-eqb m x h) ∙ e)) | inr h ↦ times-in m xs h ])
 ]
   where
     some : (n : ℕ) → 1 ≤ suc n
     some n = omega arith
 
-    clash : (p : Bool) → p ≡ true → p ≡ false → ⊥
-    clash true a e = cc
-    clash false a e = cc
+pub none-out : (m : ℕ) (xs : List ℕ) → times m xs ≡ 0 → In m xs → ⊥
+none-out m xs e i = let l = times-in m xs i in absurd (omega arith)
 
 pub in-times : (m : ℕ) (xs : List ℕ) → 1 ≤ times m xs → In m xs
 in-times m [] h = absurd (omega arith)

@@ -1,7 +1,6 @@
 -- One node of an index is edited, with the chain behind it: where all other nodes stay, the new image has the edited index.
-use Rattle.cdf_edits.proofs.Common.{Distinct, Distinct-back, Distinct-front, Entries, HasNodes, In, In-append_left, In-append_right, IsNode, Leaf, List, Names, NodeFits, Nodes, SayEntries, SaysEntry, SaysNode, ap, block, cases_eq, either, entry_count, entry_leaves, eq-eqb, eqb, eqb-true, false, if◌then◌else◌, inl, inr, leaves_of, link_to, lower, lower_nodes, map, map-append, no_entry, no_node, node, nodes_of, refl, subst, suc, sym, true, zero, ℕ, ◌++◌, ◌==◌, ◌∙◌, ◌≡◌, ◌≢◌}
-use Rattle.cdf_edits.proofs.Frame.Meaning.{Kept}
-use Rattle.cdf_edits.proofs.Frame.LinksStay.{SameHeads, node_kept, nodes_kept, names_kept}
+use Rattle.cdf_edits.proofs.Common.{arith, Distinct, Distinct-back, Distinct-front, Entries, HasNodes, In, In-append_left, In-append_right, IsNode, Leaf, List, Names, NodeFits, Nodes, SayEntries, SaysEntry, SaysNode, ap, block, cases_eq, entry_count, entry_leaves, eq-eqb, eqb, false, if◌then◌else◌, inl, inr, leaves_of, link_to, lower, lower_nodes, map, map-append, nat_tests, ne_eqb, no_entry, no_node, node, nodes_of, refl, subst, suc, sym, true, zero, ℕ, ◌++◌, ◌==◌, ◌∙◌, ◌≡◌, ◌≢◌}
+use Rattle.cdf_edits.proofs.Edits.Common.{Kept, SameHeads, names_kept, node_kept, nodes_kept}
 
 -- what becomes of a node with so much room, these entries and this chain behind it
 abbrev pub Edit : Type 0
@@ -24,24 +23,15 @@ pub record Owed (b now records records' : List ℕ) (at : ℕ) (edit : Edit) : T
   pub is_node : (room : ℕ) (entries : Entries) (more : Nodes) → IsNode (edit room entries more)
   pub stands : (levels room : ℕ) (entries : Entries) (more : Nodes) → SaysNode b records at room entries more → Names now records' levels entries → HasNodes now records' (suc levels) more → HasNodes now records' (suc levels) (edit room entries more)
 
-no_eqb : (m n : ℕ) → m ≢ n → eqb m n ≡ false
-no_eqb m n ne = elim (either (eqb m n)) [ inl e ↦ absurd (ne (eqb-true m n e)) | inr e ↦ e ]
-
 pub link_redone : (at : ℕ) (edit : Edit) (nodes : Nodes) → ((room : ℕ) (entries : Entries) (more : Nodes) → link_to (edit room entries more) ≡ at) → link_to (redo at edit nodes) ≡ link_to nodes
 unfolding redo redo_below
 link_redone at edit no_node h = refl
-link_redone at edit (node place room entries more) h = elim (cases_eq place at) [
-  | inl e ↦ let test : eqb place at ≡ true = eq-eqb place at e in rw test (h room entries more ∙ sym e)
-  | inr ne ↦ let test : eqb place at ≡ false = no_eqb place at ne in rw test refl
-]
+link_redone at edit (node place room entries more) h = grind (arith, nat_tests, h room entries more)
 
 node_stays : (at : ℕ) (edit : Edit) (nodes : Nodes) → ((room : ℕ) (entries : Entries) (more : Nodes) → IsNode (edit room entries more)) → IsNode nodes → IsNode (redo at edit nodes)
 unfolding redo redo_below
 node_stays at edit no_node h i = i
-node_stays at edit (node place room entries more) h i = elim (cases_eq place at) [
-  | inl e ↦ let test : eqb place at ≡ true = eq-eqb place at e in rw test (h room entries more)
-  | inr ne ↦ let test : eqb place at ≡ false = no_eqb place at ne in rw test tt
-]
+node_stays at edit (node place room entries more) h i = grind (arith, nat_tests, h room entries more)
 
 pub count_redone : (at : ℕ) (edit : Edit) (entries : Entries) → entry_count (redo_below at edit entries) ≡ entry_count entries
 unfolding redo redo_below
@@ -83,17 +73,11 @@ module _ (b now records records' : List ℕ) (heads : SameHeads b now records re
               (names_kept b now records records' heads levels entries h.1 (λ m i. (k m (inr (low m i)) (other m (low m i))).0) (λ m i. (k m (inr (low m i)) (other m (low m i))).1) low_blocks)
               (nodes_kept b now records records' heads (suc levels) more h.2 (λ m i. (k m (inr (behind m i)) (other m (behind m i))).0) (λ m i. (k m (inr (behind m i)) (other m (behind m i))).1) more_blocks))
           | inr ne ↦
-              let test : eqb place at ≡ false = no_eqb place at ne in
+              let test : eqb place at ≡ false = ne_eqb place at ne in
               let own = k place (inl refl) ne in
               let says = node_kept b now records records' heads place own.0 own.1 room entries more h.0 in
               rw test (
-                record {
-                  linkable = says.linkable;
-                  next_is = says.next_is ∙ sym (link_redone at edit more owed.same_link);
-                  room_is = says.room_is;
-                  used_is = says.used_is ∙ sym (count_redone at edit entries);
-                  say_entries = say_redone now place 0 at edit entries owed.same_link says.say_entries;
-                },
+                grind (arith, says, link_redone at edit more owed.same_link, count_redone at edit entries, say_redone now place 0 at edit entries owed.same_link says.say_entries),
                 below_redone levels entries h.1 (Distinct-front (lower_nodes entries) (nodes_of more) d.1) (λ m i. k m (inr (low m i))) low_blocks,
                 redone (suc levels) more h.2 (Distinct-back (lower_nodes entries) (nodes_of more) d.1) (λ m i. k m (inr (behind m i))) more_blocks,
               )

@@ -1,8 +1,9 @@
 -- The space that acts leave: of none, and of one that takes a record.
-use Rattle.cdf_edits.proofs.Common.{ActsFollow, Bool, Each, HasShape, In, List, RestStays, [], ap, ap₂, arith, back_after, back_in, back_links, either, eq-eqb, eqb-true, false, false-is_in, filter-in, if◌then◌else◌, inl, inr, is_in, is_in-false, length, linkable-in, loose_records, map, number, refl, shape, size_at, sized, stands_behind, subst, sym, tiles_lie_apart, true, type_at, uir_prev_uir, uir_type, unused_records, used_records, ℕ, ◌+◌, ◌<◌, ◌==◌, ◌∙◌, ◌∷◌, ◌≡◌, ◌≢◌}
+use Rattle.cdf_edits.proofs.Common.{ActsFollow, Bool, Each, HasShape, In, List, RestStays, [], ap, ap₂, arith, back_after, back_in, back_links, either, eq-eqb, eqb-true, false, false-is_in, filter-in, if◌then◌else◌, inl, inr, is_in, is_in-false, length, linkable-in, loose_records, map, number, refl, shape, size_at, sized, stands_behind, subst, sym, tiles_lie_apart, true, type_at, uir_prev_uir, uir_type, unused_records, used_records, ℕ, ◌+◌, ◌<◌, ◌==◌, ◌∙◌, ◌∷◌, ◌≡◌, ◌≢◌, true≢false, not_false}
 use Rattle.std.proofs.Common.{not, ◌&&◌, ◌||◌}
 use Rattle.cdf_edits.specs.Space.Acts.{Among}
 use Rattle.cdf_format.proofs.SpaceLemmas.{in-filter}
+pub use Rattle.cdf_edits.proofs.Space.UnusedLists.{sizes_same}
 use Rattle.cdf_edits.proofs.Space.UsedRecords.{filter-says}
 
 -- it holds of each
@@ -21,18 +22,10 @@ places-sized b (p ∷ ps) = ap (λ (more : List ℕ). p ∷ more) (places-sized 
 
 -- ---- records in use, and those on no list
 
-not-true : (p : Bool) → not p ≡ true → p ≡ false
-not-true true e = absurd cc
-not-true false e = refl
-
 pub used_says : (now : List ℕ) (m : ℕ) → In m (used_records now) → In m (shape now).records × (type_at now m ≢ uir_type)
 used_says now m i =
-    let says = not-true (type_at now m == uir_type) (filter-says (λ place. not (type_at now place == uir_type)) (shape now).records m i) in
-    (filter-in (λ place. not (type_at now place == uir_type)) (shape now).records m i, (λ e. no (type_at now m == uir_type) (eq-eqb (type_at now m) uir_type e) says))
-  where
-    no : (p : Bool) → p ≡ true → p ≡ false → ⊥
-    no true e f = absurd cc
-    no false e f = absurd cc
+    let says = not_false (type_at now m == uir_type) (filter-says (λ place. not (type_at now place == uir_type)) (shape now).records m i) in
+    (filter-in (λ place. not (type_at now place == uir_type)) (shape now).records m i, (λ e. true≢false (sym (eq-eqb (type_at now m) uir_type e) ∙ says)))
 
 pub used_if : (b : List ℕ) (m : ℕ) → In m (shape b).records → type_at b m ≢ uir_type → In m (used_records b)
 used_if b m i other =
@@ -47,7 +40,7 @@ pub record IsLoose (b : List ℕ) (m : ℕ) : Type 0 where
 pub loose_says : (now : List ℕ) (m : ℕ) → In m (loose_records now) → IsLoose now m
 loose_says now m i =
     let unused_one = filter-in (λ place. not (is_in place (shape now).unused)) (unused_records now (shape now)) m i in
-    let out = not-true (is_in m (shape now).unused) (filter-says (λ place. not (is_in place (shape now).unused)) (unused_records now (shape now)) m i) in
+    let out = not_false (is_in m (shape now).unused) (filter-says (λ place. not (is_in place (shape now).unused)) (unused_records now (shape now)) m i) in
     record {
       stands = filter-in (λ place. type_at now place == uir_type) (shape now).records m unused_one;
       typed = eqb-true (type_at now m) uir_type (filter-says (λ place. type_at now place == uir_type) (shape now).records m unused_one);
@@ -69,12 +62,8 @@ back_found : (b list : List ℕ) (uir : ℕ) → In uir list → back_in (backs 
 back_found b [] uir i = absurd i
 back_found b (x ∷ xs) uir i = elim (either (x == uir)) [
   | inl e ↦ rw (back_in, e) (ap (λ (m : ℕ). number b m uir_prev_uir) (eqb-true x uir e))
-  | inr e ↦ rw (back_in, e) (back_found b xs uir (elim i [ inl q ↦ absurd (no (x == uir) (eq-eqb x uir (sym q)) e) | inr j ↦ j ]))
+  | inr e ↦ rw (back_in, e) (back_found b xs uir (elim i [ inl q ↦ absurd (true≢false (sym (eq-eqb x uir (sym q)) ∙ e)) | inr j ↦ j ]))
 ]
-  where
-    no : (p : Bool) → p ≡ true → p ≡ false → ⊥
-    no true e f = absurd cc
-    no false e f = absurd cc
 
 stands_in : (before : ℕ) (was : List ℕ) (other uir : ℕ) → stands_behind before was other uir ≡ true → In uir was
 stands_in before [] other uir e = absurd cc
@@ -108,10 +97,6 @@ backs_follow b now was before (uir ∷ more) e =
 pub backs_same : (b now list : List ℕ) → ((m : ℕ) → In m list → number now m uir_prev_uir ≡ number b m uir_prev_uir) → backs now list ≡ backs b list
 backs_same b now [] same = refl
 backs_same b now (m ∷ more) same = ap₂ (λ (n : ℕ) (rest : List (ℕ × ℕ)). (m, n) ∷ rest) (same m (inl refl)) (backs_same b now more (λ x i. same x (inr i)))
-
-pub sizes_same : (b now list : List ℕ) → ((m : ℕ) → In m list → size_at now m ≡ size_at b m) → sized now list ≡ sized b list
-sizes_same b now [] same = refl
-sizes_same b now (m ∷ more) same = ap₂ (λ (n : ℕ) (rest : List (ℕ × ℕ)). (m, n) ∷ rest) (same m (inl refl)) (sizes_same b now more (λ x i. same x (inr i)))
 
 -- ---- no act
 

@@ -1,11 +1,11 @@
 -- A record of no owner is freed: a small one is on no list, a larger one becomes the first of the list.
-use Rattle.cdf_edits.proofs.Common.{AreTiles, Changed, Distinct, FirstBytes, HasShape, In, IsChain, IsGiven, IsSound, Leads, List, Misses, Placed, Same, Same-part, Shape, Touch, TouchesNone, UnlistedBytes, [], ap, ap₂, arith, cases_eq, content, eq-eqb, false, first_back_link, fixed_size, gdr_type, gdr_uir_head, given_to, inl, inr, is_a-from, is_a-in, is_a-type, is_linkable, is_record_type, le-leb, length, linkable-from, linkable-in, linkable-long, linkable-type, lt-leb, nat_le, next_of, number, owned_records, record_type, refl, size_at, some_place, subst, sym, tile_lies, times, touched_field, true, type_at, uir_next_uir, uir_prev_uir, uir_type, unused, unused_records, with_space, word_kept, ℕ, ◌+◌, ◌<◌, ◌==◌, ◌∙◌, ◌∷◌, ◌≡◌, ◌≢◌, ◌≤◌, ◌⊎◌}
+use Rattle.cdf_edits.proofs.Common.{AreTiles, Changed, Distinct, FirstBytes, HasShape, In, IsChain, IsGiven, IsSound, Leads, List, Misses, Placed, Same, Same-part, Shape, Touch, UnlistedBytes, [], ap, ap₂, arith, cases_eq, content, eq-eqb, false, first_back_link, fixed_size, gdr_type, gdr_uir_head, given_to, inl, inr, is_a-from, is_a-in, is_a-type, is_linkable, is_record_type, le-leb, length, linkable-from, linkable-in, linkable-long, linkable-type, lt-leb, nat_le, next_of, number, owned_records, record_type, refl, size_at, some_place, subst, sym, tile_lies, times, touched_field, true, type_at, uir_next_uir, uir_prev_uir, uir_type, unused, unused_records, with_space, word_kept, ℕ, ◌+◌, ◌<◌, ◌==◌, ◌∙◌, ◌∷◌, ◌≡◌, ◌≢◌, ◌≤◌, ◌⊎◌, sized}
 use Rattle.cdf_edits.proofs.Frame.ChangedBytes.{changed_part, changed_whole}
 use Rattle.cdf_edits.proofs.Frame.LinksStay.{tiles_same, leads_same}
-use Rattle.cdf_edits.proofs.Space.UsedRecords.{apart, filter-keeps, used-in}
+use Rattle.cdf_edits.proofs.Space.UsedRecords.{apart, in-filter, used-in}
 use Rattle.cdf_edits.proofs.Frame.OwnersApart.{file_records, all_attribute_records, all_variable_records, owned-times, times-in}
 use Rattle.cdf_edits.proofs.Space.SpaceSound.{stay_sound}
-use Rattle.cdf_edits.proofs.Space.UnusedLists.{sized, RestKept, back_none, back_given}
+use Rattle.cdf_edits.proofs.Space.UnusedLists.{first_misses, first_other, none_first, RestKept, back_none, back_given}
 
 module _ (b now : List ℕ) (s : Shape) (place : ℕ) (sound : IsSound b s) (inside : In place s.records) (free : times place (owned_records b s) ≡ 0) where
   h : HasShape b s
@@ -39,7 +39,7 @@ module _ (b now : List ℕ) (s : Shape) (place : ℕ) (sound : IsSound b s) (ins
 
   pub place_used : type_at b place ≢ uir_type
   place_used e =
-      let i : In place (unused_records b s) = filter-keeps (λ (p : ℕ). type_at b p == uir_type) s.records place inside (eq-eqb _ _ e) in
+      let i : In place (unused_records b s) = in-filter (λ (p : ℕ). type_at b p == uir_type) s.records place inside (eq-eqb _ _ e) in
       no_fourth (times place (file_records s)) (times place (all_attribute_records s)) (times place (all_variable_records s)) _ none (times-in place (unused_records b s) i)
 
   gdr_in : In s.gdr s.records
@@ -181,35 +181,23 @@ module _ (b now : List ℕ) (s : Shape) (place : ℕ) (sound : IsSound b s) (ins
     large_placed : Placed b s.records (length b) all_touches
     large_placed = let l = gdr_long in (inl (inside, (omega arith)), (inl (gdr_in, (omega arith)), (inl (inside, (omega arith)), (inl (inside, (omega arith)), back_placed s.unused (λ m i. i)))))
 
-    back_low : (us : List ℕ) (m lo hi : ℕ) → hi ≤ 20 → Misses (first_back_link us) m lo hi
-    back_low [] m lo hi le = tt
-    back_low (u ∷ us) m lo hi le = ((λ e. inl le), tt)
-
-    back_other : (us : List ℕ) (m lo hi : ℕ) → (In m us → ⊥) → Misses (first_back_link us) m lo hi
-    back_other [] m lo hi out = tt
-    back_other (u ∷ us) m lo hi out = ((λ e. absurd (out (inl e))), tt)
-
-    back_none_in : (us : List ℕ) (m : ℕ) → (In m us → ⊥) → TouchesNone (first_back_link us) (m ∷ [])
-    back_none_in [] m out = tt
-    back_none_in (u ∷ us) m out = ((λ j. elim j [ inl e ↦ out (inl (sym e)) | inr never ↦ never ]), tt)
-
     large_heads : (m : ℕ) → Misses all_touches m 0 8
-    large_heads m = ((λ e. inl (omega arith)), ((λ e. inl (omega arith)), ((λ e. inl (omega arith)), ((λ e. inl (omega arith)), back_low s.unused m 0 8 (omega arith)))))
+    large_heads m = ((λ e. inl (omega arith)), ((λ e. inl (omega arith)), ((λ e. inl (omega arith)), ((λ e. inl (omega arith)), first_misses s.unused m 0 8 (omega arith)))))
 
     large_typed : (m : ℕ) → m ≢ place → Misses all_touches m 8 12
-    large_typed m ne = ((λ e. absurd (ne e)), ((λ e. inl (omega arith)), ((λ e. inl (omega arith)), ((λ e. inl (omega arith)), back_low s.unused m 8 12 (omega arith)))))
+    large_typed m ne = ((λ e. absurd (ne e)), ((λ e. inl (omega arith)), ((λ e. inl (omega arith)), ((λ e. inl (omega arith)), first_misses s.unused m 8 12 (omega arith)))))
 
     large_others : (m : ℕ) → In m s.records → type_at b m ≢ uir_type → m ≢ s.gdr → m ≢ place → Same b now m (m + size_at b m)
     large_others m i other no_gdr ne =
         let here : In place (m ∷ []) → ⊥ = λ j. elim j [ inl e ↦ ne (sym e) | inr never ↦ never ] in
         let there : In s.gdr (m ∷ []) → ⊥ = λ j. elim j [ inl e ↦ no_gdr (sym e) | inr never ↦ never ] in
         let unlisted : In m s.unused → ⊥ = λ j. other (linkable-type b s.records uir_type m (h.unused_chain.linkable m j)) in
-        changed_whole b now s.records (length b) h.tiled (omega arith) all_touches given.changed large_placed (m ∷ []) m i (inl refl) (here, (there, (here, (here, back_none_in s.unused m unlisted))))
+        changed_whole b now s.records (length b) h.tiled (omega arith) all_touches given.changed large_placed (m ∷ []) m i (inl refl) (here, (there, (here, (here, none_first s.unused m unlisted))))
 
     large_gdr : (lo hi : ℕ) → (hi ≤ 64) ⊎ (72 ≤ lo) → Misses all_touches s.gdr lo hi
     large_gdr lo hi beside = (
       (λ e. absurd (not_gdr (sym e))),
-      ((λ e. beside), ((λ e. absurd (not_gdr (sym e))), ((λ e. absurd (not_gdr (sym e))), back_other s.unused s.gdr lo hi (λ j. gdr_unlisted s.gdr j refl)))),
+      ((λ e. beside), ((λ e. absurd (not_gdr (sym e))), ((λ e. absurd (not_gdr (sym e))), first_other s.unused s.gdr lo hi (λ j. gdr_unlisted s.gdr j refl)))),
     )
 
     -- of a record of the list all but the link back of the first
@@ -223,7 +211,7 @@ module _ (b now : List ℕ) (s : Shape) (place : ℕ) (sound : IsSound b s) (ins
     large_part = part all_touches given.as_long given.changed large_placed given.type_is large_heads large_typed
 
     list_next : (m : ℕ) → In m s.unused → next_of now m ≡ next_of b m
-    list_next m i = let w = listed_long m i in word_kept b now (m + 12) (m + 20) (large_part m 12 20 (listed_in m i) (omega arith) (list_misses m 12 20 i (back_low s.unused m 12 20 (omega arith)))) (m + 12) 8 (omega arith) (omega arith)
+    list_next m i = let w = listed_long m i in word_kept b now (m + 12) (m + 20) (large_part m 12 20 (listed_in m i) (omega arith) (list_misses m 12 20 i (first_misses s.unused m 12 20 (omega arith)))) (m + 12) 8 (omega arith) (omega arith)
 
     rest_prev_of : (us : List ℕ) → s.unused ≡ us → RestKept b now us
     rest_prev_of [] e = tt

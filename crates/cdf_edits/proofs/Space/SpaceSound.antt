@@ -9,7 +9,7 @@ use Rattle.cdf_edits.proofs.Frame.OwnersApart.{file_records, all_attribute_recor
 use Rattle.cdf_edits.proofs.Frame.SoundStays.{attributes_fit_kept, variables_fit_kept}
 use Rattle.cdf_edits.proofs.Frame.FileSound.{variables_stand}
 use Rattle.cdf_edits.proofs.Frame.SameShape.{has_entries, has_variables, content_by, is_a_kept}
-use Rattle.cdf_edits.proofs.Space.UsedRecords.{filter-keeps, filter-says, filter-distinct, apart, used, used_but, used-in, used-type, used-stays, in-used, is_a_used, chain_used, variable_used, fits_used}
+use Rattle.cdf_edits.proofs.Space.UsedRecords.{in-filter, filter-says, filter-distinct, apart, used, used_but, used-in, used-type, used-stays, in-used, is_a_used, chain_used, variable_used, fits_used}
 
 -- what such a change leaves, and what it makes; some records of no owner may be gone
 pub record StaysBut (b now : List ℕ) (s : Shape) (records unused gone : List ℕ) : Type 0 where
@@ -59,7 +59,7 @@ module _ (b now : List ℕ) (s : Shape) (records unused gone : List ℕ) (sound 
   }
 
   used_by : (m : ℕ) → In m s.records → (In m (unused_records b s) → ⊥) → type_at b m ≢ uir_type
-  used_by m i out e = out (filter-keeps (λ (p : ℕ). eqb (type_at b p) uir_type) s.records m i (eq-eqb _ _ e))
+  used_by m i out e = out (in-filter (λ (p : ℕ). eqb (type_at b p) uir_type) s.records m i (eq-eqb _ _ e))
 
   keep : (m : ℕ) → In m s.records → (In m (unused_records b s) → ⊥) → (In m (file_records s) → ⊥) → (In m gone → ⊥) → Kept b now m
   keep m i out apart_file stays = let l = tile_lies b 8 (length b) s.records m h.tiled i in record {

@@ -1,11 +1,11 @@
 -- A record of the unused list is taken, whole or split.
-use Rattle.cdf_edits.proofs.Common.{AllSpare, AreTiles, BackLinksFollow, Bool, Changed, Distinct, Distinct-back, Distinct-middle, Field, HasShape, In, In-append, In-append_left, In-append_right, IsChain, IsHead, IsSound, Leads, List, Misses, NoneFit, Placed, Same, Same-part, Shape, TakenBytes, Takes, Touch, TouchesNone, [], ap, arith, cases_eq, chain_head, content, either, end_place, eof, eof_after, eqb, eqb-true, false, first_back_link, fits, fixed_size, gdr_type, gdr_uir_head, if◌then◌else◌, inl, inr, is_a-from, is_a-in, is_a-type, is_in-false, is_linkable, is_record_type, length, link_field, link_tile, linkable-in, linkable-long, linkable-type, next_of, number, place_for, prev_of, refl, size_at, split_width, subst, sym, taken_from, taking, tile_lies, touch, touched_by, touched_field, true, type_at, uir_next_uir, uir_type, unused, with_space, word, word_kept, ℕ, ◌++◌, ◌+◌, ◌∙◌, ◌∷◌, ◌≡◌, ◌≢◌, ◌≤◌, ◌⊎◌}
+use Rattle.cdf_edits.proofs.Common.{AllSpare, AreTiles, BackLinksFollow, Bool, Changed, Distinct, Distinct-back, Distinct-middle, Field, HasShape, In, In-append, In-append_left, In-append_right, IsChain, IsHead, IsSound, Leads, List, Misses, NoneFit, Placed, Same, Same-part, Shape, TakenBytes, Takes, Touch, TouchesNone, [], ap, arith, cases_eq, chain_head, content, either, end_place, eof, eof_after, eqb, eqb-true, false, first_back_link, fits, fixed_size, gdr_type, gdr_uir_head, if◌then◌else◌, inl, inr, is_a-from, is_a-in, is_a-type, is_in-false, is_linkable, is_record_type, length, link_field, link_tile, linkable-in, linkable-long, linkable-type, next_of, number, place_for, prev_of, refl, size_at, split_width, subst, sym, taken_from, taking, tile_lies, touch, touched_by, touched_field, true, type_at, uir_next_uir, uir_type, unused, with_space, word, word_kept, ℕ, ◌++◌, ◌+◌, ◌∙◌, ◌∷◌, ◌≡◌, ◌≢◌, ◌≤◌, ◌⊎◌, sized}
 use Rattle.cdf_edits.proofs.Frame.ChangedBytes.{changed_part, changed_whole}
 use Rattle.cdf_edits.proofs.Frame.LinksStay.{leads_same}
 use Rattle.cdf_edits.proofs.Frame.LinkWritten.{one_chain}
 use Rattle.cdf_edits.proofs.Space.UsedRecords.{apart, used-in}
 use Rattle.cdf_edits.proofs.Space.SpaceSound.{UsedStay, used_stay_sound}
-use Rattle.cdf_edits.proofs.Space.UnusedLists.{sized, place_skips, place_first, taking_skips, taking_first, RestKept}
+use Rattle.cdf_edits.proofs.Space.UnusedLists.{first_misses, first_other, none_first, place_skips, place_first, taking_skips, taking_first, RestKept}
 
 -- ---- lists
 
@@ -133,14 +133,6 @@ module _ (b now : List ℕ) (s : Shape) (front : List ℕ) (a : ℕ) (more : Lis
   link_low : 12 ≤ field.place
   link_low = elim (link_after s.gdr gdr_uir_head front).1 [ inl g ↦ subst (λ (p : ℕ). 12 ≤ p) (sym g.1) (omega arith) | inr g ↦ subst (λ (p : ℕ). 12 ≤ p) (sym g.1) (omega arith) ]
 
-  first_misses : (rs : List ℕ) (m lo hi : ℕ) → hi ≤ 20 → Misses (first_back_link rs) m lo hi
-  first_misses [] m lo hi le = tt
-  first_misses (r ∷ rs) m lo hi le = ((λ e. inl le), tt)
-
-  first_other : (rs : List ℕ) (m lo hi : ℕ) → (In m rs → ⊥) → Misses (first_back_link rs) m lo hi
-  first_other [] m lo hi out = tt
-  first_other (r ∷ rs) m lo hi out = ((λ e. absurd (out (inl e))), tt)
-
   low : (m : ℕ) → m ≢ a → Misses touches m 0 12
   low m ne = ((λ e. inl link_low), ((λ e. absurd (ne e)), first_misses more m 0 12 (omega arith)))
 
@@ -155,10 +147,6 @@ module _ (b now : List ℕ) (s : Shape) (front : List ℕ) (a : ℕ) (more : Lis
 
   pub list_sizes : (m : ℕ) → In m (front ++ more) → size_at now m ≡ size_at b m
   list_sizes m i = sizes m (linkable-in b s.records uir_type m (linkable m (in_list m i))) (other_than_a m i)
-
-  none_first : (rs : List ℕ) (m : ℕ) → (In m rs → ⊥) → TouchesNone (first_back_link rs) (m ∷ [])
-  none_first [] m out = tt
-  none_first (r ∷ rs) m out = ((λ j. elim j [ inl e ↦ out (inl (sym e)) | inr none ↦ none ]), tt)
 
   used_same : (m : ℕ) → In m s.records → type_at b m ≢ uir_type → m ≢ s.gdr → Same b now m (m + size_at b m)
   used_same m i other no_gdr =

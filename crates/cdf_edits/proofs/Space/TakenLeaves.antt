@@ -1,10 +1,9 @@
 -- What an image keeps where a record was taken, from its unused list or at its end.
-use Rattle.cdf_edits.proofs.Common.{AreTiles, Changed, Distinct, Distinct-back, Distinct-middle, Field, HasShape, In, In-append, In-append_left, In-append_right, IsSound, List, Misses, Outside, Placed, Same, Same-part, Shape, Takes, Touch, [], ap, arith, cases_eq, either, eq-eqb, eqb-true, false, first_back_link, fits, fixed_size, gdr_type, gdr_uir_head, inl, inr, is_a-in, is_a-type, leb-true, length, linkable-in, linkable-long, linkable-type, map, nat_le, place_for, refl, size_at, split_width, subst, sym, taken_from, taking, tile_lies, tiles_distinct, tiles_unique, true, true≢false, type_at, uir_next_uir, uir_type, unused, word_kept, ℕ, ◌++◌, ◌+◌, ◌-◌, ◌<◌, ◌==◌, ◌∙◌, ◌∷◌, ◌≡◌, ◌≢◌, ◌≤◌, ◌⊎◌}
+use Rattle.cdf_edits.proofs.Common.{AreTiles, Changed, Distinct, Distinct-back, Distinct-middle, Field, HasShape, In, In-append, In-append_left, In-append_right, IsSound, List, Misses, Outside, Placed, Same, Same-part, Shape, Takes, Touch, [], ap, arith, cases_eq, either, eq-eqb, eqb-true, false, first_back_link, fits, fixed_size, gdr_type, gdr_uir_head, inl, inr, is_a-in, is_a-type, leb-true, length, linkable-in, linkable-long, linkable-type, map, nat_le, place_for, refl, size_at, split_width, subst, sym, taken_from, taking, tile_lies, tiles_distinct, tiles_unique, true, true≢false, type_at, uir_next_uir, uir_type, unused, word_kept, ℕ, ◌++◌, ◌+◌, ◌-◌, ◌<◌, ◌==◌, ◌∙◌, ◌∷◌, ◌≡◌, ◌≢◌, ◌≤◌, ◌⊎◌, sized}
 use Rattle.cdf_edits.proofs.Frame.ChangedBytes.{changed_part}
 use Rattle.cdf_edits.proofs.Frame.LinksStay.{tiles_same}
 use Rattle.cdf_edits.proofs.Space.TakenFromList.{member_split}
 use Rattle.cdf_edits.proofs.Frame.TilesGrow.{tiles_push, tiles_split}
-use Rattle.cdf_edits.proofs.Space.UnusedLists.{sized}
 use Rattle.cdf_edits.proofs.Space.UsedRecords.{apart}
 
 -- ---- what is touched

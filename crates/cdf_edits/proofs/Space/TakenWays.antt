@@ -1,6 +1,6 @@
 -- The three ways in which a record is taken: a record of the unused list whole, one that is split, and one at the end of the image.
 use Rattle.cdf_edits.proofs.Common.{AreTiles, BackLinksFollow, Bool, Changed, Distinct, EndBytes, FirstBack, HasShape, In, In-append, In-append_left, In-append_right, IsChain, IsSound, IsTaken, Leads, List, NoneFit, Placed, RestBytes, Same, Same-part, Shape, TakenBytes, Touch, [], ap, arith, back_links, cases_eq, either, eof, eof_after, eq-eqb, eqb, eqb-true, false, fits, fixed_size, gdr_eof, gdr_type, gdr_uir_head, if◌then◌else◌, inl, inr, is_a-from, is_a-in, is_a-type, is_in-false, is_linkable, is_record_type, last_of, le-leb, leb, length, linkable-from, linkable-in, linkable-long, linkable-type, map, next_kept, next_of, number, place_for, refl, size_at, some_place, split_width, subst, sym, tile_lies, tiles_distinct, tiles_lie_apart, touched_field, true, type_at, uir_prev_uir, uir_type, unused, with_space, word_kept, ℕ, ◌++◌, ◌+◌, ◌∙◌, ◌∷◌, ◌≡◌, ◌≢◌, ◌≤◌, ◌⊎◌}
-use Rattle.std.proofs.Common.{◌||◌}
+use Rattle.std.proofs.lemmas.Bool.{or_right}
 use Rattle.cdf_edits.proofs.Frame.TilesGrow.{tiles_push, tiles_split}
 use Rattle.cdf_edits.proofs.Frame.ChangedBytes.{changed_part, changed_whole}
 use Rattle.cdf_edits.proofs.Frame.LinksStay.{tiles_same, leads_same}
@@ -8,10 +8,6 @@ use Rattle.cdf_edits.proofs.Space.UsedRecords.{apart, used-in}
 use Rattle.cdf_edits.proofs.Space.SpaceSound.{UsedStay, used_stay_sound}
 use Rattle.cdf_edits.proofs.Space.UnusedLists.{place_none, taking_none, list_none, list_whole, list_split, back_none, back_whole, back_split}
 use Rattle.cdf_edits.proofs.Space.TakenFromList.{distinct_without, distinct_with, distinct_apart, once, linkable, a_tile, a_not_front, a_not_more, other_than_a, in_list, sizes, types, list_sizes, front_prev, rest_prev, more_leads, taken_sound, taken_takes}
-
-or_true : (p q : Bool) → q ≡ true → (p || q) ≡ true
-or_true true q e = refl
-or_true false q e = e
 
 -- ---- whole
 
@@ -97,7 +93,7 @@ module _ (b now : List ℕ) (s : Shape) (front : List ℕ) (a : ℕ) (more : Lis
       ] in
       let not_old : In q (front ++ a ∷ more) → ⊥ = λ i. split_out (linkable-in b s.records uir_type q (ok q i)) in
       let apart_q : a ≢ q = λ e. absurd (omega arith) in
-      let first : fits need (size_at b a) ≡ true = or_true (eqb (size_at b a) need) (leb (need + 28) (size_at b a)) (le-leb (need + 28) (size_at b a) room) in
+      let first : fits need (size_at b a) ≡ true = or_right (eqb (size_at b a) need) (leb (need + 28) (size_at b a)) (le-leb (need + 28) (size_at b a) room) in
       let uneven : eqb (size_at b a) need ≡ false = elim (either (eqb (size_at b a) need)) [ inl e ↦ let f = eqb-true (size_at b a) need e in absurd (omega arith) | inr e ↦ e ] in
       let wide : w ≡ split_width need (size_at b a) = rw uneven refl in
       let sized_is = list_split b now need front a more none room rest.size_is (list_sizes b now s front a more need w q sound list taken room whole_eof) in

@@ -1,17 +1,23 @@
 -- The unused list where one record of it is taken: lists alone.
-use Rattle.cdf_edits.proofs.Common.{Bool, Distinct, Field, FirstBack, In, In-append_right, List, NoneFit, [], ap, append-nil, append_assoc, ap₂, arith, back_links, either, eq-eqb, eqb, eqb-true, false, first_back_link, fits, inl, inr, last_of, le-leb, link_field, link_tile, map, map-append, nat_le, place_for, prev_of, refl, size_at, split_width, stands_behind, subst, sym, taken_from, taking, touch, touched_field, true, uir_next_uir, ℕ, ◌++◌, ◌+◌, ◌-◌, ◌==◌, ◌∙◌, ◌∷◌, ◌≡◌, ◌≢◌, ◌≤◌}
+use Rattle.cdf_edits.proofs.Common.{Bool, Distinct, Field, FirstBack, In, In-append_right, List, NoneFit, [], ap, append-nil, append_assoc, ap₂, arith, back_links, either, eq-eqb, eqb, eqb-true, false, first_back_link, fits, inl, inr, last_of, le-leb, link_field, link_tile, map, map-append, nat_le, place_for, prev_of, refl, size_at, split_width, stands_behind, subst, sym, taken_from, taking, touch, touched_field, true, uir_next_uir, ℕ, ◌++◌, ◌+◌, ◌-◌, ◌==◌, ◌∙◌, ◌∷◌, ◌≡◌, ◌≢◌, ◌≤◌, or_parts, Misses, TouchesNone, sized}
 use Rattle.std.proofs.Common.{◌&&◌, ◌||◌}
-
--- where the records of a list stand, with their sizes
-abbrev pub sized : List ℕ → List ℕ → List (ℕ × ℕ)
-sized b places = map (λ place. (place, size_at b place)) places
-
-or_parts : (p q : Bool) → (p || q) ≡ false → (p ≡ false) × (q ≡ false)
-or_parts true q e = absurd cc
-or_parts false q e = (refl, e)
 
 pub unfit_parts : (need size : ℕ) → fits need size ≡ false → ((size == need) ≡ false) × (nat_le (need + 28) size ≡ false)
 unfit_parts need size e = or_parts (size == need) (nat_le (need + 28) size) e
+
+-- ---- what is touched of the first record of a list
+
+pub first_misses : (rs : List ℕ) (m lo hi : ℕ) → hi ≤ 20 → Misses (first_back_link rs) m lo hi
+first_misses [] m lo hi le = tt
+first_misses (r ∷ rs) m lo hi le = ((λ e. inl le), tt)
+
+pub first_other : (rs : List ℕ) (m lo hi : ℕ) → (In m rs → ⊥) → Misses (first_back_link rs) m lo hi
+first_other [] m lo hi out = tt
+first_other (r ∷ rs) m lo hi out = ((λ e. absurd (out (inl e))), tt)
+
+pub none_first : (rs : List ℕ) (m : ℕ) → (In m rs → ⊥) → TouchesNone (first_back_link rs) (m ∷ [])
+none_first [] m out = tt
+none_first (r ∷ rs) m out = ((λ j. elim j [ inl e ↦ out (inl (sym e)) | inr none ↦ none ]), tt)
 
 -- ---- the first that fits
 
@@ -46,9 +52,9 @@ taking_none b need gdr holder f (m ∷ front) none = rw none.0 (taking_none b ne
 taken_skips : (need size : ℕ) (place : ℕ) (more : List (ℕ × ℕ)) → fits need size ≡ false → taken_from ((place, size) ∷ more) need ≡ (place, size) ∷ taken_from more need
 taken_skips need size place more e = let p = unfit_parts need size e in rw (p.0, p.1) refl
 
-sized_same : (b now : List ℕ) (ms : List ℕ) → ((m : ℕ) → In m ms → size_at now m ≡ size_at b m) → sized now ms ≡ sized b ms
-sized_same b now [] same = refl
-sized_same b now (m ∷ ms) same = ap₂ (λ (n : ℕ) (xs : List (ℕ × ℕ)). (m, n) ∷ xs) (same m (inl refl)) (sized_same b now ms (λ x i. same x (inr i)))
+pub sizes_same : (b now : List ℕ) (ms : List ℕ) → ((m : ℕ) → In m ms → size_at now m ≡ size_at b m) → sized now ms ≡ sized b ms
+sizes_same b now [] same = refl
+sizes_same b now (m ∷ ms) same = ap₂ (λ (n : ℕ) (xs : List (ℕ × ℕ)). (m, n) ∷ xs) (same m (inl refl)) (sizes_same b now ms (λ x i. same x (inr i)))
 
 pub list_none : (b now : List ℕ) (need : ℕ) (front : List ℕ) → NoneFit b need front → ((m : ℕ) → In m front → size_at now m ≡ size_at b m) → sized now front ≡ taken_from (sized b front) need
 list_none b now need [] none same = refl
@@ -56,7 +62,7 @@ list_none b now need (m ∷ front) none same =
     ap₂ (λ (n : ℕ) (xs : List (ℕ × ℕ)). (m, n) ∷ xs) (same m (inl refl)) (list_none b now need front none.1 (λ x i. same x (inr i))) ∙ sym (taken_skips need (size_at b m) m (sized b front) none.0)
 
 pub list_whole : (b now : List ℕ) (need : ℕ) (front : List ℕ) (a : ℕ) (more : List ℕ) → NoneFit b need front → size_at b a ≡ need → ((m : ℕ) → In m (front ++ more) → size_at now m ≡ size_at b m) → sized now (front ++ more) ≡ taken_from (sized b (front ++ a ∷ more)) need
-list_whole b now need [] a more none e same = rw (eq-eqb (size_at b a) need e) (sized_same b now more same)
+list_whole b now need [] a more none e same = rw (eq-eqb (size_at b a) need e) (sizes_same b now more same)
 list_whole b now need (m ∷ front) a more none e same =
     ap₂ (λ (n : ℕ) (xs : List (ℕ × ℕ)). (m, n) ∷ xs) (same m (inl refl)) (list_whole b now need front a more none.1 e (λ x i. same x (inr i)))
     ∙ sym (taken_skips need (size_at b m) m (sized b (front ++ a ∷ more)) none.0)
@@ -65,7 +71,7 @@ pub list_split : (b now : List ℕ) (need : ℕ) (front : List ℕ) (a : ℕ) (m
     → sized now (front ++ (a + need) ∷ more) ≡ taken_from (sized b (front ++ a ∷ more)) need
 list_split b now need [] a more none room rest same =
     let other : eqb (size_at b a) need ≡ false = elim (either (eqb (size_at b a) need)) [ inl e ↦ let f = eqb-true (size_at b a) need e in absurd (omega arith) | inr e ↦ e ] in
-    rw (other, le-leb (need + 28) (size_at b a) room) (ap₂ (λ (n : ℕ) (xs : List (ℕ × ℕ)). (a + need, n) ∷ xs) rest (sized_same b now more same))
+    rw (other, le-leb (need + 28) (size_at b a) room) (ap₂ (λ (n : ℕ) (xs : List (ℕ × ℕ)). (a + need, n) ∷ xs) rest (sizes_same b now more same))
 list_split b now need (m ∷ front) a more none room rest same =
     ap₂ (λ (n : ℕ) (xs : List (ℕ × ℕ)). (m, n) ∷ xs) (same m (inl refl)) (list_split b now need front a more none.1 room rest (λ x i. same x (inr i)))
     ∙ sym (taken_skips need (size_at b m) m (sized b (front ++ a ∷ more)) none.0)

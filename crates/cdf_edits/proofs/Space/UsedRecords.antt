@@ -1,15 +1,9 @@
 -- What is linked through the used records of an image is linked through them alone, also where some that it does not lead through are gone.
-use Rattle.cdf_edits.proofs.Common.{Bool, Distinct, Each, Entries, HasNodes, HasVariable, In, In-append_left, In-append_right, IsChain, Leaf, LeafFits, List, Names, Nodes, VariableFits, VariableShape, [], ap, block, cpr_type, cvvr_type, either, eq-eqb, eqb, eqb-true, false, false-is_in, filter, filter-in, inl, inr, is_a, is_a-from, is_a-in, is_a-type, is_block, is_in, is_in-false, is_linkable, leaves_of, linkable-from, linkable-in, linkable-long, linkable-type, lower, lower_nodes, map, nat_le, no_entry, no_node, node, nodes_of, refl, size_at, suc, sym, true, true≢false, type_at, uir_type, variable_records, vvr_type, vxr_type, zero, ℕ, ◌++◌, ◌∙◌, ◌∷◌, ◌≡◌, ◌≢◌}
+use Rattle.cdf_edits.proofs.Common.{Bool, Distinct, Each, Entries, HasNodes, HasVariable, In, In-append_left, In-append_right, IsChain, Leaf, LeafFits, List, Names, Nodes, VariableFits, VariableShape, [], ap, block, cpr_type, cvvr_type, either, eq-eqb, eqb, eqb-true, false, false-is_in, filter, filter-in, inl, inr, is_a, is_a-from, is_a-in, is_a-type, is_block, is_in, is_in-false, is_linkable, leaves_of, linkable-from, linkable-in, linkable-long, linkable-type, lower, lower_nodes, map, nat_le, no_entry, no_node, node, nodes_of, refl, size_at, suc, sym, true, true≢false, type_at, uir_type, variable_records, vvr_type, vxr_type, zero, ℕ, ◌++◌, ◌∙◌, ◌∷◌, ◌≡◌, ◌≢◌, both, not_false}
+pub use Rattle.cdf_format.proofs.SpaceLemmas.{in-filter}
 use Rattle.std.proofs.Common.{not, ◌&&◌, ◌||◌}
 
 -- ---- members of a list that pass a test
-
-pub filter-keeps : (p : ℕ → Bool) (xs : List ℕ) (x : ℕ) → In x xs → p x ≡ true → In x (filter p xs)
-filter-keeps p [] x i e = absurd i
-filter-keeps p (y ∷ ys) x i e = elim (either (p y)) [
-  | inl t ↦ rw t (elim i [ inl h ↦ inl h | inr h ↦ inr (filter-keeps p ys x h e) ])
-  | inr f ↦ rw f (elim i [ inl h ↦ absurd (true≢false (sym e ∙ ap p h ∙ f)) | inr h ↦ filter-keeps p ys x h e ])
-]
 
 pub filter-says : (p : ℕ → Bool) (xs : List ℕ) (x : ℕ) → In x (filter p xs) → p x ≡ true
 filter-says p [] x i = absurd i
@@ -45,26 +39,18 @@ used_but b gone records = filter (is_used b gone) records
 abbrev pub used : List ℕ → List ℕ → List ℕ
 used b records = used_but b [] records
 
-both_hold : (p q : Bool) → (p && q) ≡ true → (p ≡ true) × (q ≡ true)
-both_hold true q e = (refl, e)
-both_hold false q e = absurd cc
-
-not_true : (p : Bool) → not p ≡ true → p ≡ false
-not_true true e = absurd cc
-not_true false e = refl
-
 module _ (b gone records : List ℕ) where
   pub used-in : (m : ℕ) → In m (used_but b gone records) → In m records
   used-in m i = filter-in (is_used b gone) records m i
 
   pub used-type : (m : ℕ) → In m (used_but b gone records) → type_at b m ≢ uir_type
-  used-type m i = equal_not (type_at b m) uir_type (both_hold (not (is_in m gone)) (not (eqb (type_at b m) uir_type)) (filter-says (is_used b gone) records m i)).1
+  used-type m i = equal_not (type_at b m) uir_type (both (not (is_in m gone)) (not (eqb (type_at b m) uir_type)) (filter-says (is_used b gone) records m i)).1
 
   pub used-stays : (m : ℕ) → In m (used_but b gone records) → In m gone → ⊥
-  used-stays m i = false-is_in m gone (not_true (is_in m gone) (both_hold (not (is_in m gone)) (not (eqb (type_at b m) uir_type)) (filter-says (is_used b gone) records m i)).0)
+  used-stays m i = false-is_in m gone (not_false (is_in m gone) (both (not (is_in m gone)) (not (eqb (type_at b m) uir_type)) (filter-says (is_used b gone) records m i)).0)
 
   pub in-used : (m : ℕ) → In m records → type_at b m ≢ uir_type → (In m gone → ⊥) → In m (used_but b gone records)
-  in-used m i other out = filter-keeps (is_used b gone) records m i (rw (is_in-false m gone out, not_equal (type_at b m) uir_type other) refl)
+  in-used m i other out = in-filter (is_used b gone) records m i (rw (is_in-false m gone out, not_equal (type_at b m) uir_type other) refl)
 
   pub is_a_used : (type place : ℕ) → type ≢ uir_type → (In place gone → ⊥) → is_a b (used_but b gone records) type place ≡ is_a b records type place
   is_a_used type place other out = elim (either (is_a b records type place)) [

@@ -1,5 +1,5 @@
 use Rattle.cdf_var_records.proofs.Common.{IsStretch, List, arith, index_at, ranges_of, read_more, refl, subst, ℕ}
-use Rattle.cdf_var_records.proofs.PutRoomCount.{few_more, none_yet_of, one_more}
+use Rattle.cdf_var_records.proofs.PutRoomCount.{none_yet_of, one_more}
 use Rattle.cdf_var_records.proofs.put_room.count_missing.Goals as goal
 
 pub loop-turn-init : goal.loop-turn-init
@@ -26,6 +26,6 @@ loop-turn-preserved g c =
       ends = is.inside;
       goes = omega arith;
       counts = one_more ranges c.args.from l.k c.args.rec l.missing s begins is l.invariant.counts;
-      few = few_more ranges c.args.from l.k c.args.rec l.missing s begins is l.invariant.few;
+      few = omega (arith, is.counts, is.some, l.invariant.few);
       area = read_more l.invariant.area c.in_ok-stretch.ensures.area;
     }
