@@ -1,7 +1,7 @@
 -- The last step of a put: MaxRec is raised, or nothing is done.
-use Rattle.cdf_puts.proofs.Common.{Act, GoesOn, Kind, List, MaxRecDone, RMaxRecFollows, SoFar, VariableShape, WritesRecords, [], ap, append-nil, arith, extent, greater, inl, inr, last_number, max_rec_at, negsuc, pos, r_max_rec, r_max_rec_of_z, signed, subst, suc, sym, variable_of, with_sign, ℕ, ℤ, ◌+◌, ◌<◌, ◌∙◌, ◌≡◌}
+use Rattle.cdf_puts.proofs.Common.{Act, GoesOn, Kind, List, MaxRecDone, RMaxRecFollows, SoFar, VariableShape, WritesRecords, [], ap, append-nil, arith, extent, greater, inl, inr, last_number, length, max_rec_at, negsuc, pos, r_max_rec, r_max_rec_of_z, signed, subst, suc, sym, variable_of, with_sign, ℕ, ℤ, ◌+◌, ◌<◌, ◌∙◌, ◌≡◌}
 use Rattle.cdf_puts.proofs.RaisedGoes.{greatest_follows, raise_writes}
-use Rattle.cdf_puts.proofs.GoesThen.{goes_then, goes_written, writes_nothing}
+use Rattle.cdf_puts.proofs.GoesThen.{goes_then, goes_written, variable_there, writes_nothing}
 use Rattle.cdf_edits.proofs.Edits.RecordsPut.{extent_last, greater_is_first, greater_is_last}
 
 -- ---- MaxRec
@@ -30,5 +30,5 @@ module _ {b now last : List ℕ} {kind : Kind} {before : List VariableShape} {ow
   pub last_r_max_rec : RMaxRecFollows b last
   last_r_max_rec =
       let is = ap (λ (x : ℕ). extent (max_rec_at last x)) last_goes.vdr_is ∙ ap extent last_max_rec ∙ extent_last (greater most (r + 1)) in
-      greatest_follows so.start.good so.start.among last (variable_of last own') last_goes.content_is (λ z. r_max_rec_of_z so.goes.good so.goes.among last_writes z ∙ so.r_max_rec_is)
+      greatest_follows b last kind (length before) (variable_of b own) (variable_of last own') (variable_there so.start.good so.start.among) last_goes.content_is (λ z. r_max_rec_of_z so.goes.good so.goes.among last_writes z ∙ so.r_max_rec_is)
       (elim done [ inl x ↦ inr ((let past = is ∙ greater_is_last most r x.0 in omega arith), x.1.greatest) | inr x ↦ inl (is ∙ greater_is_first most r x.0, ap r_max_rec x.1 ∙ so.r_max_rec_is) ])
