@@ -1,5 +1,5 @@
 -- One image goes on to another: what the descriptor says by then, that an edit of one variable is such a step, and that two steps are one.
-use Rattle.cdf_puts.proofs.Common.{Act, ActsFollow, DataSet, Field, GoesOn, Good, HasShape, In, IndexEdit, IsOther, IsSound, Kept, Kind, List, ListedStay, LooseStay, Mark, Nodes, Only, OnlyTakes, OutsideFields, OwnEdit, Some, StandsAmong, Stays, Stood, Touch, Variable, VariableShape, VdrStays, WritesRecords, [], acts_joined, after_ours, all_variable_records, among_now, ap, arith, cdr_kept, cdr_type, content, content_is, content_replaced, either, false, false-is_in, fits, flat_map, gdr_keeps, good_is_sound, good_now, image_limit, index_edit, inl, inr, is_a-in, is_in, is_taken, keeps_stood, kept_away, kind_ours, length, linkable-in, linkable-type, listed_before, long, nat_le, nat_lt, no_acts_follow, none_of_both, only, other_kind, others_are, ours, own_edit, own_rules, put_fields, r_max_rec_field, record_alike, record_bytes, records_are, refl, shape, shapes_of, size_at, slice_get, slice_set, space_fields, splices, stays_alike, stood, subst, sym, tile, tile_lies, true-is_in, type_at, uir_next_uir, uir_prev_uir, uir_type, unused_stands, variable_of, variable_records, variables_in, variables_of, variables_of_are, vdr_size, with_variables, ℕ, ◌&&◌, ◌++◌, ◌+◌, ◌<◌, ◌∙◌, ◌∷◌, ◌≡◌, ◌≤◌}
+use Rattle.cdf_puts.proofs.Common.{Act, ActsFollow, DataSet, Field, GoesOn, Good, HasShape, In, IndexEdit, IsOther, IsSound, Kept, Kind, List, ListedStay, LooseStay, Mark, Nodes, Only, OnlyTakes, OutsideFields, OwnEdit, Some, StandsAmong, Stays, Stood, Touch, Variable, VariableShape, VdrStays, WritesRecords, [], acts_joined, after_ours, all_variable_records, among_now, ap, arith, cdr_kept, cdr_type, content, content_is, content_replaced, either, false-is_in, fits, flat_map, gdr_keeps, good_is_sound, good_now, image_limit, index_edit, inl, inr, is_a-in, is_in, keeps_stood, kept_away, kind_ours, length, linkable-in, linkable-type, listed_before, long, nat_le, nat_lt, no_acts_follow, none_of_both, only, other_kind, others_are, ours, own_edit, own_rules, put_fields, r_max_rec_field, record_alike, record_bytes, records_are, refl, shape, shapes_of, size_at, slice_get, slice_set, space_fields, splices, stays_alike, stood, subst, sym, tile, tile_lies, true-is_in, type_at, uir_next_uir, uir_prev_uir, uir_type, unused_stands, variable_of, variable_records, variables_in, variables_of, variables_of_are, vdr_size, with_variables, ℕ, ◌&&◌, ◌++◌, ◌+◌, ◌<◌, ◌∙◌, ◌∷◌, ◌≡◌, ◌≤◌}
 use Rattle.std.proofs.lemmas.List.{set-set}
 use Rattle.cdf_edits.proofs.Edits.Common.{all_attributes_in, attributes_kept, got-map, got-middle, stays_bytes, stays_then, type_stays}
 use Rattle.cdf_edits.proofs.Edits.IndexEdited as of_index
@@ -24,13 +24,10 @@ module _ {b now : List ℕ} {kind : Kind} {before : List VariableShape} {own : V
   pub stays : Stays b now own.vdr put_fields → VdrStays b now own.vdr
   stays d =
       let n = long good at in
-      record {
-        typed = type_stays b now own.vdr put_fields d (omega arith) (λ i lt. grind arith);
-        type = stays_bytes d 20 24 (omega arith) (λ i low high. grind arith);
-        behind = stays_bytes d 44 (size_at b own.vdr) (omega arith) (λ i low high. grind arith);
-        inside = (tile_lies b 8 (length b) (shape b).records own.vdr (good_is_sound b good).has_shape.tiled (tile good at)).high;
-        end = (fits good at).0;
-      }
+      let typed = type_stays b now own.vdr put_fields d (omega arith) (λ i lt. grind arith) in
+      let type = stays_bytes d 20 24 (omega arith) (λ i low high. grind arith) in
+      let behind = stays_bytes d 44 (size_at b own.vdr) (omega arith) (λ i low high. grind arith) in
+      search (typed, type, behind, (tile_lies b 8 (length b) (shape b).records own.vdr (good_is_sound b good).has_shape.tiled (tile good at)).high, (fits good at).0)
 
   -- the same, of the variable with its later index
   pub later_size : {own' : VariableShape} {acts : List Act} → GoesOn b now kind before own own' after acts → record_bytes now own'.vdr ≡ record_bytes b own.vdr
@@ -108,16 +105,12 @@ module _ {b mid now : List ℕ} {kind : Kind} {before : List VariableShape} {own
   listed_then : ListedStay b now (acts ++ acts')
   listed_then m j free =
       let ok = h.unused_chain.linkable m j in
-      let i = linkable-in b (shape b).records uir_type m ok in
       let none = none_of_both (λ (take : ℕ × ℕ). nat_le m take.0 && nat_lt take.0 (m + size_at b m)) acts acts' free in
       let x = first.listed m j none.0 in
-      let later : is_taken mid acts' m ≡ false = rw x.size_is none.1 in
-      elim (either (is_in m (shape mid).unused)) [
-        | inl e ↦ twice m links x (second.listed m (true-is_in m (shape mid).unused e) later)
-        | inr e ↦
-            let typed = type_later m links i (linkable-type b (shape b).records uir_type m ok) x (λ n l. (inl (omega arith), (inl (omega arith), tt))) in
-            stays_then b mid now m links [] links x (second.loose m x.stands typed (false-is_in m (shape mid).unused e)) (λ n o. (o, tt))
-      ]
+      let typed = type_later m links (linkable-in b (shape b).records uir_type m ok) (linkable-type b (shape b).records uir_type m ok) x (λ n l. (inl (omega arith), (inl (omega arith), tt))) in
+      let kept = λ (e : In m (shape mid).unused). twice m links x (second.listed m e (rw x.size_is none.1)) in
+      let freed = λ (out : In m (shape mid).unused → ⊥). stays_then b mid now m links [] links x (second.loose m x.stands typed out) (λ n o. (o, tt)) in
+      grind (arith, kept, freed, either (is_in m (shape mid).unused), true-is_in m (shape mid).unused, false-is_in m (shape mid).unused)
 
   stay_then : (m : ℕ) → IsOther (shape b).attributes before after (shapes_of (shape b) (other_kind kind)) m → Stood b now m
   stay_then m i = search (kept_then b mid now m (first.stay m i).whole, second.stay m (rw (first.attributes_are, first.others_are) i))

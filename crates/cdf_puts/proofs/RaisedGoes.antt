@@ -1,5 +1,5 @@
 -- MaxRec is raised to the record that was put: no byte changes but MaxRec, and rMaxRec of an r variable.
-use Rattle.cdf_puts.proofs.Common.{Changed, Good, In, Kind, List, MaxRecRaised, R, RMaxRecFollows, Some, StandsAmong, Variable, VariableShape, WritesRecords, Z, [], ap, append-nil, arith, bytes_eq, bytes_eq-same, content, eq-eqb, extent, fits, greatest_r_max_rec, has, index_records, index_typed, index_types, inl, inr, is_in, is_max_rec, le-leb, map, max_rec_touches, nat_tests, ne_eqb, only_variable, r_max_rec, record_number_limit, refl, same_Some, same_shape, shape, slice_get, slice_set, sound, subst, suc, sym, true, type_in, typed, variables_chain, variables_of, with_variables, zero, ℕ, ◌<◌, ◌==◌, ◌∙◌, ◌∷◌, ◌≡◌, ◌≢◌, ◌≤◌, ◌⊎◌}
+use Rattle.cdf_puts.proofs.Common.{number, vdr_max_rec, Changed, Good, In, Kind, List, MaxRecRaised, R, RMaxRecFollows, Some, StandsAmong, Variable, VariableShape, WritesRecords, Z, [], ap, append-nil, arith, bytes_eq, bytes_eq-same, content, extent, fits, greatest_r_max_rec, has, index_records, index_typed, index_types, inl, inr, is_in, is_max_rec, le-leb, map, max_rec_touches, nat_tests, only_variable, r_max_rec, record_number_limit, refl, same_Some, same_shape, shape, slice_get, slice_set, sound, suc, true, type_in, typed, variables_chain, variables_of, with_variables, zero, ℕ, ◌++◌, ◌<◌, ◌==◌, ◌∙◌, ◌∷◌, ◌≡◌, ◌≢◌, ◌≤◌, ◌⊎◌}
 
 -- ---- the greatest numbers of the r variables
 
@@ -16,8 +16,7 @@ extents_set (w ∷ ws) (suc n) x v e = grind (arith, nat_tests, extents_set ws n
 pub greatest_follows : (b now : List ℕ) (kind : Kind) (n : ℕ) (x v : Variable) → slice_get (variables_of (content b) kind) n ≡ Some x → content now ≡ with_variables (content b) kind (slice_set (variables_of (content b) kind) n v) → (kind ≡ Z → r_max_rec now ≡ r_max_rec b)
     → ((extent v.max_rec ≡ extent x.max_rec) × (r_max_rec now ≡ r_max_rec b)) ⊎ ((extent x.max_rec < extent v.max_rec) × (kind ≡ R → r_max_rec now ≡ greatest_r_max_rec (content now))) → RMaxRecFollows b now
 greatest_follows b now Z n x v at is of_z side = rw (is, bytes_eq-same) (of_z refl)
-greatest_follows b now R n x v at is of_z (inl e) = rw (is, extents_set (content b).r_variables n x v at, eq-eqb (extent x.max_rec) (extent v.max_rec) (sym e.0)) e.1
-greatest_follows b now R n x v at is of_z (inr e) = rw (is, extents_set (content b).r_variables n x v at, ne_eqb (extent x.max_rec) (extent v.max_rec) (λ q. absurd (omega (arith, e.0)))) (rw is at (e.1 refl))
+greatest_follows b now R n x v at is of_z side = rw (is, extents_set (content b).r_variables n x v at) (grind (arith, nat_tests, side, is))
 
 -- ---- whose records are the GDR and the VDR
 
@@ -32,12 +31,10 @@ module _ {b : List ℕ} {kind : Kind} {before : List VariableShape} {own : Varia
 
 module _ {b now : List ℕ} {kind : Kind} {before : List VariableShape} {own : VariableShape} {after : List VariableShape} {r : ℕ} (good : Good b) (at : StandsAmong b kind before own after) (w : MaxRecRaised b now kind own r) (small : r ≤ record_number_limit) where
   pub raise_writes : WritesRecords b now kind own []
-  raise_writes = record {
-    changed = subst (Changed b now) (sym (append-nil (max_rec_touches b kind own.vdr))) w.changed;
-    as_long = w.as_long;
-    in_blocks = tt;
-    max_rec_ruled = ap is_max_rec w.max_rec_is ∙ rw (le-leb r record_number_limit small) refl;
-  }
+  raise_writes =
+      let changed : Changed b now (max_rec_touches b kind own.vdr ++ []) = rw append-nil w.changed in
+      let ruled : is_max_rec (number now own.vdr vdr_max_rec) ≡ true = ap is_max_rec w.max_rec_is ∙ rw (le-leb r record_number_limit small) refl in
+      search (w, changed, ruled)
 
   pub raised_shape : shape now ≡ shape b
   raised_shape = same_shape good at raise_writes
