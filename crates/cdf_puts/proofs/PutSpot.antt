@@ -1,5 +1,5 @@
 -- Where the next record is put: the records of a new block, each step by which records are put, and what an image says of a variable of which some records are put.
-use Rattle.cdf_puts.proofs.Common.{Act, AddsLeaf, BlockRecords, Covering, GoesOn, HasIndex, In, IsBlockBody, IsBody, IsPut, IsVacant, Kind, LeafAdded, List, NodeTaken, Nodes, None, PutStart, PutsOn, PutsUpTo, Putting, RecordsWritten, SoFar, Some, SomePut, SomePutting, StandsAmong, Variable, VariableShape, [], ap, append-nil, arith, block_bytes, block_count, covers, div-le_self, drop, drop-append-le, drop_at, extent, false, find, first_written, firsts_of, fits, has, if◌then◌else◌, image_limit, in_middle, index_at, is_sparse, last_in_new, leaf, leaf_acts, leaf_of, leaves_of, length, length-append, length-drop, max_rec_at, min, most_in_block, nat_tests, new_last, new_range, new_room, next_first, node_bytes, number, range, record_bytes, record_length, record_of, record_put, records_put, shape, sparse_at, subst, suc, sym, take, take-append-le, take_all, taken_bytes, times_le, variable_of, variables, vdr_max_rec, vdr_vxr_head, vdrs, vxr_bytes, widest, with_leaf, zero, ℕ, ◌*◌, ◌++◌, ◌+◌, ◌-◌, ◌<◌, ◌==◌, ◌∙◌, ◌∷◌, ◌≡◌, ◌≤◌}
+use Rattle.cdf_puts.proofs.Common.{Act, AddsLeaf, BlockRecords, Covering, GoesOn, HasIndex, In, IsBlockBody, IsBody, IsPut, IsVacant, Kind, LeafAdded, List, NodeTaken, Nodes, None, PutStart, PutsOn, PutsUpTo, Putting, RecordsWritten, SoFar, Some, SomePut, SomePutting, StandsAmong, Variable, VariableShape, [], ap, append-nil, arith, block_bytes, block_count, covers, div-le_self, drop, drop-append-le, drop_at, extent, false, find, first_written, firsts_of, fits, has, if◌then◌else◌, image_limit, in_middle, index_at, is_sparse, last_in_new, leaf, leaf_acts, leaf_of, leaves_of, length, length-append, length-drop, max_rec_at, min, most_in_block, nat_tests, new_last, new_range, new_room, next_first, node_bytes, number, range, record_bytes, record_length, record_of, record_put, records_put, shape, sparse_at, subst, suc, sym, take, take-append-le, take_all, taken_bytes, times_le, variable_of, variables, vdr_vxr_head, vdrs, vxr_bytes, widest, with_leaf, zero, ℕ, ◌*◌, ◌++◌, ◌+◌, ◌-◌, ◌<◌, ◌==◌, ◌∙◌, ◌∷◌, ◌≡◌, ◌≤◌}
 use Rattle.cdf_puts.proofs.LeafEdit.{r_max_rec_stays as leaf_r_max_rec, body_long, plain_body, leaf_goes_on, leaf_max_rec, taking}
 use Rattle.cdf_puts.proofs.CoveringRanges.{covering_starts, covering_has, covering_leaf, covering_room, covering_ends, Ends, one_at_least}
 use Rattle.cdf_puts.proofs.GoesThen.{later_size, goes_then, goes_written, writes_nothing}
@@ -57,9 +57,8 @@ module _ {b : List ℕ} {kind : Kind} {before : List VariableShape} {own : Varia
         let good = so.goes.good in
         let at = so.goes.among in
         let goes = subst (GoesOn b now' kind before own own' after) (append-nil acts) (goes_then so.start.good so.start.among so.goes (goes_written good at (writes good at w) so.short) so.takes tt) in
-        let max_rec_is = subst (λ (v : ℕ). number now' v vdr_max_rec ≡ number now v vdr_max_rec) so.goes.vdr_is (max_rec_kept good at w) ∙ so.max_rec_is in
-        let r_max_rec_is = r_max_rec_stays good at w ∙ so.r_max_rec_is in
-        search (arith, so, goes, covering_has so.covers so.start.small more l w.found, index_written so more w as_long, blocks_written so more w as_long)
+        let max_rec_is = rw so.goes.vdr_is at (max_rec_kept good at w) in
+        search (arith, so, goes, r_max_rec_stays good at w, covering_has so.covers so.start.small more l w.found, index_written so more w as_long, blocks_written so more w as_long)
 
     pub so_far_added : {now' : List ℕ} {last place at : ℕ} {body records : List ℕ} → last ≡ (new_range (variable_of b own) (firsts_of own'.index) k).last → IsVacant own' k last → IsBlockBody body records → BlockRecords raw pad r k last (record_bytes b own.vdr) records
         → LeafAdded now now' own' (leaf k last place false) body at → length now' ≤ image_limit
@@ -74,9 +73,8 @@ module _ {b : List ℕ} {kind : Kind} {before : List VariableShape} {own : Varia
         let bytes : taken_bytes (acts ++ step) ≡ taken_bytes acts + block_bytes v k last + node_bytes k own'.index = omega (arith, taken_sum acts step, leaf_bytes place (8 + length body) (new_room k own'.index) at, body_long body records holds, says.as_long) in
         let wide = new_room_widest now (shape now).records 8 k own'.index (has good among).indexed.has_nodes (fits good among).1 in
         let covers : Covering v own.index (with_leaf new at own'.index) r (min (last + 1) (r + 1)) (taken_bytes (acts ++ step)) = rw (bytes, is) (covering_leaf so.covers so.start.small more (ap is_sparse so.start.no_rule) so.start.loose vacant.uncovered place at wide) in
-        let max_rec_is = subst (λ (v : ℕ). number now' v vdr_max_rec ≡ number now v vdr_max_rec) so.goes.vdr_is (leaf_max_rec good among w) ∙ so.max_rec_is in
-        let r_max_rec_is = leaf_r_max_rec good among w ∙ so.r_max_rec_is in
-        search (arith, so, short, goes_then so.start.good so.start.among so.goes goes so.takes (taking good among w).takes, takes_both acts step so.takes (taking good among w).takes, index_added so more is vacant holds says w goes.good goes.among, blocks_added so more is vacant holds says w goes.good goes.among)
+        let max_rec_is = rw so.goes.vdr_is at (leaf_max_rec good among w) in
+        search (arith, so, short, leaf_r_max_rec good among w, goes_then so.start.good so.start.among so.goes goes so.takes (taking good among w).takes, takes_both acts step so.takes (taking good among w).takes, index_added so more is vacant holds says w goes.good goes.among, blocks_added so more is vacant holds says w goes.good goes.among)
 
 -- ---- how many records a new block has
 
@@ -131,7 +129,7 @@ module _ {b now : List ℕ} {kind : Kind} {before : List VariableShape} {own : V
       held =
           let one = found_covering k (leaves_of own'.index) (seen l) here in
           let x = whole so.goes.good so.goes.among (seen l) one.0 in
-          (record { plain = x.leaf.plain; ordered = x.leaf.ordered; small = x.leaf.small; inside = omega (arith, x.leaf.room, x.inside) }, one.1.0, one.1.1)
+          search (arith, x.leaf, x.inside, one)
 
       module _ (n : ℕ) (n_is : n ≡ length new.raw.items) where
         sized : record_bytes now own'.vdr ≡ n
@@ -150,11 +148,7 @@ module _ {b now : List ℕ} {kind : Kind} {before : List VariableShape} {own : V
           written_on w = record {
             own' = own';
             acts = is.acts;
-            so = so_far_written so more (record {
-              found = here;
-              within = rw (sized, ← bytes_are) held_within;
-              written = rw (sized, ← bytes_are) w;
-            }) (record_long new.raw.items new.pad.items new.rec (record_bytes b own.vdr) p.start.raw_long p.pad_long k);
+            so = so_far_written so more (record { found = here; within = rw (sized, ← bytes_are) held_within; written = rw (sized, ← bytes_are) w }) (record_long new.raw.items new.pad.items new.rec (record_bytes b own.vdr) p.start.raw_long p.pad_long k);
           }
 
     -- ---- no block has it
