@@ -1,14 +1,14 @@
 -- All records are put: the index, what was taken for it and the bytes of the blocks are as the command says, and what is stored as each record. The image follows the command.
-use Rattle.cdf_puts.proofs.Common.{Act, AllKeep, Allowance, Allowances, Ascending, Beside, BlockFollows, BlocksSoFar, Bool, Changed, CutsFirst, DataSet, Found, GoesOn, HoldsPads, In, In-append, IsOneOf, Keeps, Kind, Leaf, List, MaxRecDone, NewBlock, Nodes, None, OneVariable, Only, Option, Outside, Outside-append, PlainLeaf, PutsBytes, PutsIndex, PutsLeaves, PutsRecord, Range, SoFar, Some, SpareIs, StaysUnwritten, Unused, Variable, VariableShape, [], anything_if, ap, append-nil, arith, behind_in, behind_kept, block_behind, block_end, both, bytes_eq, bytes_eq-same, cases_lt, content, count_is, covers, cut_open, drop, drop-drop, drop_all, each_of, either, eq-eqb, eq_of, eqb-true, extent, false, false-is_in, filled, filter, filter-says, find, find_covering, first_written, greater, if◌then◌else◌, inl, inr, is_changed, is_in, is_little, is_rewritten, is_taken, is_taken_at, is_written, keep_all, keep_attributes, keep_file, keep_kinds, keep_places, keep_variable_parts, keep_variables, keeps_stood, leaf_at, leaves_ascend, leaves_of, length, length-take, list_any, map, max, max_rec_at, max_rec_touches, min, nat_tests, ne_eqb, nodes_of, option_map, other_kind, owned, pad_record, past, place_in, places_of, plain_bytes, plain_piece, put_changes, put_fields, put_room, range, range_at, ranges_before_put, ranges_of, record_bytes, record_number_limit, record_of, record_place, records_in, records_of_leaf, refl, repeat, room, room_of_variable, same_Some, same_as_itself, same_of_bytes_eq, shape, shapes_of, shared, sound, space_before, stays_alike, stays_all, stored_bytes, stored_in, subst, suc, sym, take, take-append-drop, times_le, top_chain, top_stays, touch, transport, true, true-is_in, true≢false, turned, type_alike, type_at, type_of_variable, uir_type, uncovered, unused_allowance, unused_in, unused_records, variable_named, variable_of, variable_records, variable_stays, vvr_place, was_leaf, with_record, with_variable, written_in, zero, ℕ, ◌*◌, ◌++◌, ◌+◌, ◌-◌, ◌<◌, ◌==◌, ◌∙◌, ◌∷◌, ◌≡◌, ◌≤◌, ◌⊎◌}
+use Rattle.cdf_puts.proofs.Common.{OldBlock, size_at, Act, AllKeep, Allowance, Allowances, Ascending, Beside, BlockFollows, BlocksSoFar, Changed, CutsFirst, DataSet, Found, GoesOn, HoldsPads, In, In-append, IsOneOf, Keeps, Kind, Leaf, List, MaxRecDone, NewBlock, Nodes, None, OneVariable, Only, Option, Outside, Outside-append, PlainLeaf, PutsBytes, PutsIndex, PutsLeaves, PutsRecord, RMaxRecFollows, Range, SoFar, Some, SpareIs, StaysUnwritten, Unused, Variable, VariableShape, WritesRecords, [], anything_if, ap, append-nil, arith, behind_in, behind_kept, block_behind, block_end, both, bytes_eq, bytes_eq-same, cases_lt, content, count_is, covers, drop, drop-drop, drop_all, each_of, either, eq-eqb, eq_of, eqb-true, extent, false, false-is_in, filled, filter, filter-says, find, find_covering, first_written, greater, inl, inr, is_changed, is_in, is_little, is_rewritten, is_taken, is_taken_at, is_written, keep_all, keep_attributes, keep_file, keep_kinds, keep_places, keep_variable_parts, keep_variables, keeps_stood, last_number, leaf_at, leaves_ascend, leaves_of, length, length-take, list_any, map, max, max_rec_at, max_rec_touches, min, nat_tests, ne_eqb, negsuc, nodes_of, option_map, other_kind, owned, pad_record, past, place_in, places_of, plain_bytes, plain_piece, pos, put_changes, put_fields, put_room, r_max_rec, r_max_rec_of_z, range, range_at, ranges_before_put, ranges_of, record_bytes, record_number_limit, record_of, record_place, records_in, records_of_leaf, refl, repeat, room, room_of_variable, same_Some, same_as_itself, same_of_bytes_eq, shape, shapes_of, shared, signed, sound, space_before, stays_alike, stays_all, stored_bytes, stored_in, subst, suc, sym, take, take-append-drop, times_le, top_chain, top_stays, touch, transport, true, true-is_in, true≢false, turned, type_alike, type_at, type_of_variable, uir_type, uncovered, unused_allowance, unused_in, unused_records, variable_named, variable_of, variable_records, variable_stays, vvr_place, was_leaf, with_record, with_sign, with_variable, written_in, zero, ℕ, ℤ, ◌*◌, ◌++◌, ◌+◌, ◌-◌, ◌<◌, ◌==◌, ◌∙◌, ◌∷◌, ◌≡◌, ◌≤◌, ◌⊎◌}
 use Rattle.cdf_edits.proofs.Common.{ByStep, Command, Does, Follows, Go, allowances, only_reads, step, with_item}
-use Rattle.cdf_edits.proofs.Edits.RecordsPut.{StoresPut, extent_last, filled_uncut, records_put}
+use Rattle.cdf_edits.proofs.Edits.RecordsPut.{StoresPut, extent_last, filled_uncut, greater_is_first, greater_is_last, records_put}
 use Rattle.cdf_puts.specs.Going.{found_in as own_found}
 use Rattle.cdf_puts.proofs.PutRules.{no_cpr, uncut}
-use Rattle.cdf_puts.proofs.LastImage.{last_goes, last_max_rec, last_r_max_rec, last_writes}
+use Rattle.cdf_puts.proofs.RaisedGoes.{greatest_follows, raise_writes}
 use Rattle.cdf_puts.proofs.PutBytes.{behind_all, blocks_then, found_covering, none_is_put, old_size, piece_stays, whole}
 use Rattle.cdf_puts.proofs.IndexWritten.{nodes_still, tail_still}
 use Rattle.cdf_puts.proofs.CoveringRanges.{some_or_none, covering_done}
-use Rattle.cdf_puts.proofs.GoesThen.{later_size, own_there, stays}
+use Rattle.cdf_puts.proofs.GoesThen.{goes_then, goes_written, later_size, own_there, stays, variable_there, writes_nothing}
 use Rattle.cdf_puts.proofs.PutRoom.{none_given, none_without_bytes, longer_by}
 use Rattle.cdf_index.proofs.OwnRecords.{by_range}
 use Rattle.cdf_index.proofs.OwnRecords as of_own
@@ -56,6 +56,15 @@ beside_written first r size [] place o l i = absurd i
 beside_written first r size (x ∷ more) place o l i = λ j from upto f t.
     grind (arith, i, o.0, λ (k : IsOneOf more l). beside_written first r size more place o.1 l k j from upto f t, times_le (max first x.first - x.first) (j - x.first) size, times_le (suc (j - x.first)) (max first x.first - x.first + shared first r (range x.first x.last)) size)
 
+-- a block that was there stays where none of its records was put
+block_stays : {b last raw pad : List ℕ} {s size : ℕ} {l : Leaf} (v : Variable) (r : ℕ) → OldBlock b last raw pad s (first_written v r) (r + 1) size l → In l.place (shape last).records → size_at last l.place ≡ size_at b l.place → Keeps b last l.place (anything_if (is_rewritten v r (range l.first l.last)))
+block_stays v r old stands sized = grind (arith, nat_tests, old, stands, sized)
+
+-- as it is where it is not raised
+last_of_extent : (z : ℤ) (r : ℕ) → r < extent z → last_number (extent z) ≡ z
+last_of_extent (pos n) r lt = let e : n + 1 ≡ suc n = omega arith in ap last_number e
+last_of_extent (negsuc n) r lt = absurd (omega arith)
+
 module _ {b now last : List ℕ} {kind : Kind} {before : List VariableShape} {own own' : VariableShape} {after : List VariableShape} {raw pad : List ℕ} {r : ℕ} {acts : List Act} (so : SoFar b now kind before own own' after raw pad r (r + 1) acts) (done : MaxRecDone b now last kind own own' r) where
   abbrev v : Variable
   v = variable_of b own
@@ -75,8 +84,25 @@ module _ {b now last : List ℕ} {kind : Kind} {before : List VariableShape} {ow
   abbrev leaves : List Leaf
   leaves = leaves_of own'.index
 
+  -- ---- MaxRec
+
+  last_writes : WritesRecords now last kind own' []
+  last_writes = elim done [ inl x ↦ raise_writes so.goes.good so.goes.among x.1 so.start.small | inr x ↦ subst (λ (y : List ℕ). WritesRecords now y kind own' []) (sym x.1) (writes_nothing so.goes.good so.goes.among) ]
+
   put : GoesOn b last kind before own own' after acts
-  put = last_goes so done
+  put = subst (GoesOn b last kind before own own' after) (append-nil acts) (goes_then so.start.good so.start.among so.goes (goes_written so.goes.good so.goes.among last_writes so.short) so.takes tt)
+
+  last_max_rec : max_rec_at last own.vdr ≡ last_number (greater most (r + 1))
+  last_max_rec = elim done [
+    | inl x ↦ ap (max_rec_at last) (sym so.goes.vdr_is) ∙ ap with_sign x.1.max_rec_is ∙ signed r so.start.small ∙ sym (ap last_number (greater_is_last most r x.0))
+    | inr x ↦ ap (λ (y : List ℕ). max_rec_at y own.vdr) x.1 ∙ ap with_sign so.max_rec_is ∙ sym (last_of_extent (max_rec_at b own.vdr) r x.0) ∙ ap last_number (sym (greater_is_first most r x.0))
+  ]
+
+  last_r_max_rec : RMaxRecFollows b last
+  last_r_max_rec =
+      let is = ap (λ (x : ℕ). extent (max_rec_at last x)) put.vdr_is ∙ ap extent last_max_rec ∙ extent_last (greater most (r + 1)) in
+      greatest_follows b last kind (length before) (variable_of b own) (variable_of last own') (variable_there so.start.good so.start.among) put.content_is (λ z. r_max_rec_of_z so.goes.good so.goes.among last_writes z ∙ so.r_max_rec_is)
+      (elim done [ inl x ↦ inr ((let past = is ∙ greater_is_last most r x.0 in omega arith), x.1.greatest) | inr x ↦ inl (is ∙ greater_is_first most r x.0, ap r_max_rec x.1 ∙ so.r_max_rec_is) ])
 
   -- ---- the index
 
@@ -97,8 +123,8 @@ module _ {b now last : List ℕ} {kind : Kind} {before : List VariableShape} {ow
     acts_are = refl;
     cuts = subst (CutsFirst b last v own own' own.index []) (sym (uncut so.start.good so.start.among r)) (refl, refl);
     puts = transport (λ i. PutsLeaves b last ((sym so.start.loose) i) ((sym so.goes.vdr_is) i) ((append-nil (filter (is_written v r) leaves)) i) own.index ((append-nil acts) i) own'.index) (so.index.puts last last_size [] [] own'.index (refl, refl));
-    tail = rw (top_stays_by acts own.index own'.index so.index.nodes.apart, tail_still so (last_writes so done), so.goes.vdr_is) so.index.tail;
-    nodes = (nodes_still so (last_writes so done)).follow;
+    tail = rw (top_stays_by acts own.index own'.index so.index.nodes.apart, tail_still so last_writes, so.goes.vdr_is) so.index.tail;
+    nodes = (nodes_still so last_writes).follow;
     freed = (none_given b last acts acts so.takes).0;
     nodes_freed = (none_given b last acts acts so.takes).1;
   }
@@ -106,8 +132,8 @@ module _ {b now last : List ℕ} {kind : Kind} {before : List VariableShape} {ow
   -- ---- the bytes
 
   all : BlocksSoFar b last own own' raw pad r first (r + 1) acts (max_rec_touches now kind own'.vdr)
-  all = blocks_then so (omega arith) (omega arith) (append-nil acts) (none_is_put (subst (Changed now last) (append-nil (max_rec_touches now kind own'.vdr)) (last_writes so done).changed)
-      (λ l i. (behind_kept so.goes.good so.goes.among (last_writes so done) l.place (block_behind own' l.place (place_in leaves l i)) (λ none. none)).same))
+  all = blocks_then so (omega arith) (omega arith) (append-nil acts) (none_is_put (subst (Changed now last) (append-nil (max_rec_touches now kind own'.vdr)) last_writes.changed)
+      (λ l i. (behind_kept so.goes.good so.goes.among last_writes l.place (block_behind own' l.place (place_in leaves l i)) (λ none. none)).same))
 
   last_plain : (l : Leaf) → IsOneOf leaves l → PlainLeaf last size l
   last_plain l i = subst (λ (n : ℕ). PlainLeaf last n l) size_last (whole put.good put.among l i).leaf
@@ -149,16 +175,13 @@ module _ {b now last : List ℕ} {kind : Kind} {before : List VariableShape} {ow
         as_long = last_size;
         ascend = leaves_ascend so.start.good so.start.among;
         ascend_now = leaves_ascend put.good put.among;
-        upto = ap extent (last_max_rec so done) ∙ extent_last (greater most (r + 1));
+        upto = ap extent last_max_rec ∙ extent_last (greater most (r + 1));
         stored = ap (option_map turn) (stored_put r (omega arith) (omega arith)) ∙ ap Some (rw (eq-eqb r r refl) raw_is);
         padded = λ k le lt. ap (option_map turn) (stored_put k (omega arith) (omega arith)) ∙ ap Some (rw (ne_eqb k r (λ e. absurd (omega arith))) (pad_stored (omega arith)));
         kept = λ k lt ne. stored_same k (λ e. lt) (elim (cases_lt r k) [ inl past ↦ inr past | inr le ↦ inl (omega arith) ]);
       } in
       let recs : records_in last own.vdr leaves ≡ with_item r bytes (filled v.sparse v r) = records_put stores ∙ ap (with_item r bytes) (sym (filled_uncut v r (uncut so.start.good so.start.among r))) in
-      put.content_is ∙ ap (with_variable (content b) (own_found b kind before own)) (variable_stays put.file own own' (stays so.start.good so.start.among put.descriptor) put.vdr_is ∙ (λ i. record v { max_rec = (last_max_rec so done) i; recs = recs i }))
-
-  before_is : ranges_before_put v own.index r ≡ ranges_of own.index
-  before_is = ap (λ (c : Bool). if c then cut_open (extent v.max_rec) record_number_limit (ranges_of own.index) else ranges_of own.index) (uncut so.start.good so.start.among r)
+      put.content_is ∙ ap (with_variable (content b) (own_found b kind before own)) (variable_stays put.file own own' (stays so.start.good so.start.among put.descriptor) put.vdr_is ∙ (λ i. record v { max_rec = last_max_rec i; recs = recs i }))
 
   -- ---- what each record keeps
 
@@ -175,14 +198,7 @@ module _ {b now last : List ℕ} {kind : Kind} {before : List VariableShape} {ow
   allowed m o e = let same = same_as_itself kind in let number = eq-eqb (length before) (length before) refl in rw (same, number, e)
 
   block_keeps : (l : Leaf) → IsOneOf olds l → Keeps b last l.place (anything_if (is_rewritten v r (range l.first l.last)))
-  block_keeps l i = elim (either (is_rewritten v r (range l.first l.last))) [
-    | inl t ↦ rw t tt
-    | inr t ↦ rw t (record {
-      stands = behind_in put.good put.among l.place (block_behind own' l.place (place_in leaves l (all.stay l i)));
-      size_is = old_size (all.old l i) (omega (arith, (whole so.start.good so.start.among l i).leaf.room));
-      same = λ n lt out. (all.old l i).kept (l.place + n) (omega arith) (omega arith) (λ j from upto f t'. absurd (grind (arith, nat_tests, t)));
-    })
-  ]
+  block_keeps l i = block_stays v r (all.old l i) (behind_in put.good put.among l.place (block_behind own' l.place (place_in leaves l (all.stay l i)))) (old_size (all.old l i) (omega (arith, (whole so.start.good so.start.among l i).leaf.room)))
 
   own_keeps : (m : ℕ) → In m (variable_records own) → Keeps b last m (own_may m)
   own_keeps = each_own (λ (m : ℕ). Keeps b last m (own_may m)) own (rw (of_own.descriptor_allowed (own_found b kind before own) so.start.good so.start.among refl put_fields block_may own_may allowed) put.descriptor)
@@ -249,9 +265,9 @@ module _ {b now last : List ℕ} {kind : Kind} {before : List VariableShape} {ow
             all.quiet quiet place lt (rw (so.goes.gdr_is, so.goes.vdr_is) p.0) (λ l i. elim (all.new l i) [ inl o ↦ beside_written first r size olds place p.1 l o | inr n ↦ absurd (true≢false (sym n.was_taken ∙ quiet l.place)) ]);
       };
       others_stay = each_of (StaysUnwritten v r leaves) olds (λ l i e. all.stay l i);
-      unwritten_stay = λ k c side. ap (λ (x : ℕ). stored_bytes last x size leaves k) put.vdr_is ∙ stored_same k (λ e. absurd (true≢false (sym c ∙ ap (list_any (covers k)) before_is ∙ none_covered k olds e))) side;
+      unwritten_stay = λ k c side. ap (λ (x : ℕ). stored_bytes last x size leaves k) put.vdr_is ∙ stored_same k (λ e. absurd (true≢false (sym (rw (uncut so.start.good so.start.among r) at c) ∙ none_covered k olds e))) side;
       padded = each_of (HoldsPads last v own'.vdr r (ranges_before_put v own.index r)) leaves (λ l i none. elim (all.new l i) [
-        | inl o ↦ absurd (true≢false (sym (covers_own olds l o (whole so.start.good so.start.among l o).leaf.ordered) ∙ sym (ap (list_any (covers l.first)) before_is) ∙ none))
+        | inl o ↦ absurd (true≢false (sym (covers_own olds l o (whole so.start.good so.start.among l o).leaf.ordered) ∙ (rw (uncut so.start.good so.start.among r) at none)))
         | inr n ↦ new_pads l i n
       ]);
       blocks = each_of (λ (l : Leaf). is_changed v r (ranges_of own.index) l ≡ true → BlockFollows b last v.rle own'.vdr (was_leaf olds l) acts l) leaves blocks;
@@ -270,7 +286,7 @@ module _ {b now last : List ℕ} {kind : Kind} {before : List VariableShape} {ow
           let q : found ≡ found' = same_Some found found' (sym named ∙ is.named) in
           let was : own ≡ x = same_Some own x (sym (own_there so.start.good so.start.among) ∙ (rw (← q) at is.before)) in
           let now_is : own' ≡ x' = same_Some own' x' (sym (got-middle before own' after) ∙ (rw (← q, put.among.was) at is.after)) in
-          rw (← q, ← was, ← now_is) (record { index = index_done; bytes = bytes_done; r_max_rec = last_r_max_rec so done })
+          rw (← q, ← was, ← now_is) (record { index = index_done; bytes = bytes_done; r_max_rec = last_r_max_rec })
 
       module _ (bytes : List ℕ) (raw_is : turned (type_of_variable b own.vdr) (is_little b) raw ≡ bytes) (pad_is : extent (max_rec_at b own.vdr) < r → turned (type_of_variable b own.vdr) (is_little b) pad ≡ pad_record v) where
         follows_by : (c : Command) → only_reads c ≡ false → step (content b) c ≡ ByStep (Go (with_variable (content b) found (with_record v r bytes)) replies.Plain) → room b c ≡ put_room v own.index r → allowances b (content b) (shape b) c ≡ put_changes b (shape b) found r → Does b c last acts → Follows b c last
