@@ -1,5 +1,5 @@
 -- All records are put: the index, what was taken for it and the bytes of the blocks are as the command says, and what is stored as each record. The image follows the command.
-use Rattle.cdf_puts.proofs.Common.{OldBlock, size_at, Act, AllKeep, Allowance, Allowances, Ascending, Beside, BlockFollows, BlocksSoFar, Changed, CutsFirst, DataSet, Found, GoesOn, HoldsPads, In, In-append, IsOneOf, Keeps, Kind, Leaf, List, MaxRecDone, NewBlock, Nodes, None, OneVariable, Only, Option, Outside, Outside-append, PlainLeaf, PutsBytes, PutsIndex, PutsLeaves, PutsRecord, RMaxRecFollows, Range, SoFar, Some, SpareIs, StaysUnwritten, Unused, Variable, VariableShape, WritesRecords, [], anything_if, ap, append-nil, arith, behind_in, behind_kept, block_behind, block_end, both, bytes_eq, bytes_eq-same, cases_lt, content, count_is, covers, drop, drop-drop, drop_all, each_of, either, eq-eqb, eq_of, eqb-true, extent, false, false-is_in, filled, filter, filter-says, find, find_covering, first_written, greater, inl, inr, is_changed, is_in, is_little, is_rewritten, is_taken, is_taken_at, is_written, keep_all, keep_attributes, keep_file, keep_kinds, keep_places, keep_variable_parts, keep_variables, keeps_stood, last_number, leaf_at, leaves_ascend, leaves_of, length, length-take, list_any, map, max, max_rec_at, max_rec_touches, min, nat_tests, ne_eqb, negsuc, nodes_of, option_map, other_kind, owned, pad_record, past, place_in, places_of, plain_bytes, plain_piece, pos, put_changes, put_fields, put_room, r_max_rec, r_max_rec_of_z, range, range_at, ranges_before_put, ranges_of, record_bytes, record_number_limit, record_of, record_place, records_in, records_of_leaf, refl, repeat, room, room_of_variable, same_Some, same_as_itself, same_of_bytes_eq, shape, shapes_of, shared, signed, sound, space_before, stays_alike, stays_all, stored_bytes, stored_in, subst, suc, sym, take, take-append-drop, times_le, top_chain, top_stays, touch, transport, true, true-is_in, true≢false, turned, type_alike, type_at, type_of_variable, uir_type, uncovered, unused_allowance, unused_in, unused_records, variable_named, variable_of, variable_records, variable_stays, vvr_place, was_leaf, with_record, with_sign, with_variable, written_in, zero, ℕ, ℤ, ◌*◌, ◌++◌, ◌+◌, ◌-◌, ◌<◌, ◌==◌, ◌∙◌, ◌∷◌, ◌≡◌, ◌≤◌, ◌⊎◌}
+use Rattle.cdf_puts.proofs.Common.{◌≢◌, ListedStay, LooseStay, NewBlock, OldBlock, size_at, Act, AllKeep, Allowance, Allowances, Ascending, Beside, BlockFollows, BlocksSoFar, Changed, CutsFirst, DataSet, Found, GoesOn, HoldsPads, In, In-append, IsOneOf, Keeps, Kind, Leaf, List, MaxRecDone, NewBlock, Nodes, None, OneVariable, Only, Option, Outside, Outside-append, PlainLeaf, PutsBytes, PutsIndex, PutsLeaves, PutsRecord, RMaxRecFollows, Range, SoFar, Some, SpareIs, StaysUnwritten, Unused, Variable, VariableShape, WritesRecords, [], anything_if, ap, append-nil, arith, behind_in, behind_kept, block_behind, block_end, both, bytes_eq, bytes_eq-same, cases_lt, content, count_is, covers, drop, drop-drop, drop_all, each_of, eq-eqb, eq_of, eqb-true, extent, false, false-is_in, filled, filter, filter-says, find, find_covering, first_written, greater, inl, inr, is_changed, is_little, is_rewritten, is_taken_at, is_written, keep_all, keep_attributes, keep_file, keep_kinds, keep_places, keep_variable_parts, keep_variables, keeps_stood, last_number, leaf_at, leaves_ascend, leaves_of, length, length-take, list_any, map, max, max_rec_at, max_rec_touches, min, nat_tests, ne_eqb, negsuc, nodes_of, option_map, other_kind, owned, pad_record, past, place_in, places_of, plain_bytes, plain_piece, pos, put_changes, put_fields, put_room, r_max_rec, r_max_rec_of_z, range, range_at, ranges_before_put, ranges_of, record_bytes, record_number_limit, record_of, record_place, records_in, records_of_leaf, refl, repeat, room, room_of_variable, same_Some, same_as_itself, same_of_bytes_eq, shape, shapes_of, shared, signed, sound, space_before, stays_alike, stays_all, stored_bytes, stored_in, subst, suc, sym, take, take-append-drop, times_le, top_chain, top_stays, touch, transport, true, true-is_in, true≢false, turned, type_alike, type_at, type_of_variable, uir_type, uncovered, unused_allowance, unused_in, unused_records, variable_named, variable_of, variable_records, variable_stays, vvr_place, was_leaf, with_record, with_sign, with_variable, written_in, zero, ℕ, ℤ, ◌*◌, ◌++◌, ◌+◌, ◌-◌, ◌<◌, ◌==◌, ◌∙◌, ◌∷◌, ◌≡◌, ◌≤◌, ◌⊎◌}
 use Rattle.cdf_edits.proofs.Common.{ByStep, Command, Does, Follows, Go, allowances, only_reads, step, with_item}
 use Rattle.cdf_edits.proofs.Edits.RecordsPut.{StoresPut, extent_last, filled_uncut, greater_is_first, greater_is_last, records_put}
 use Rattle.cdf_puts.specs.Going.{found_in as own_found}
@@ -60,6 +60,12 @@ beside_written first r size (x ∷ more) place o l i = λ j from upto f t.
 block_stays : {b last raw pad : List ℕ} {s size : ℕ} {l : Leaf} (v : Variable) (r : ℕ) → OldBlock b last raw pad s (first_written v r) (r + 1) size l → In l.place (shape last).records → size_at last l.place ≡ size_at b l.place → Keeps b last l.place (anything_if (is_rewritten v r (range l.first l.last)))
 block_stays v r old stands sized = grind (arith, nat_tests, old, stands, sized)
 
+-- an unused record keeps what it has to
+unused_stays : {b last : List ℕ} (acts : List Act) → ListedStay b last acts → LooseStay b last → (m : ℕ) → In m (unused_records b (shape b)) → In m (shape b).records → Keeps b last m (unused_allowance b (shape b) acts m)
+unused_stays {b = b} acts listed loose m i inside =
+    let stays = loose m inside (eqb-true (type_at b m) uir_type (filter-says (λ place. type_at b place == uir_type) (shape b).records m i)) in
+    grind (arith, listed m, stays, true-is_in m (shape b).unused, false-is_in m (shape b).unused)
+
 -- as it is where it is not raised
 last_of_extent : (z : ℤ) (r : ℕ) → r < extent z → last_number (extent z) ≡ z
 last_of_extent (pos n) r lt = let e : n + 1 ≡ suc n = omega arith in ap last_number e
@@ -109,9 +115,6 @@ module _ {b now last : List ℕ} {kind : Kind} {before : List VariableShape} {ow
   size_last : record_bytes last own'.vdr ≡ size
   size_last = later_size so.start.good so.start.among put
 
-  last_size : record_bytes last own.vdr ≡ size
-  last_size = ap (record_bytes last) (sym put.vdr_is) ∙ size_last
-
   -- ---- the whole
 
   pub index_done : PutsIndex b last v r own own' acts
@@ -122,7 +125,7 @@ module _ {b now last : List ℕ} {kind : Kind} {before : List VariableShape} {ow
     put = acts;
     acts_are = refl;
     cuts = subst (CutsFirst b last v own own' own.index []) (sym (uncut so.start.good so.start.among r)) (refl, refl);
-    puts = transport (λ i. PutsLeaves b last ((sym so.start.loose) i) ((sym so.goes.vdr_is) i) ((append-nil (filter (is_written v r) leaves)) i) own.index ((append-nil acts) i) own'.index) (so.index.puts last last_size [] [] own'.index (refl, refl));
+    puts = transport (λ i. PutsLeaves b last ((sym so.start.loose) i) ((sym so.goes.vdr_is) i) ((append-nil (filter (is_written v r) leaves)) i) own.index ((append-nil acts) i) own'.index) (so.index.puts last (rw put.vdr_is at size_last) [] [] own'.index (refl, refl));
     tail = rw (top_stays_by acts own.index own'.index so.index.nodes.apart, tail_still so last_writes, so.goes.vdr_is) so.index.tail;
     nodes = (nodes_still so last_writes).follow;
     freed = (none_given b last acts acts so.takes).0;
@@ -141,7 +144,7 @@ module _ {b now last : List ℕ} {kind : Kind} {before : List VariableShape} {ow
   -- ---- what is stored as a record
 
   stored_at : (j : ℕ) (l : Leaf) → IsOneOf leaves l → l.first ≤ j → j ≤ l.last → stored_bytes last own.vdr size leaves j ≡ Some (take size (drop (record_place l size j) last))
-  stored_at j l i f t = stored_in_leaf last own.vdr size j leaves (leaves_ascend put.good put.among) last_size l i (last_plain l i) f t
+  stored_at j l i f t = stored_in_leaf last own.vdr size j leaves (leaves_ascend put.good put.among) (rw put.vdr_is at size_last) l i (last_plain l i) f t
 
   -- one that was put
   stored_put : (j : ℕ) → first ≤ j → j < r + 1 → stored_bytes last own.vdr size leaves j ≡ Some (record_of raw pad r j)
@@ -169,17 +172,13 @@ module _ {b now last : List ℕ} {kind : Kind} {before : List VariableShape} {ow
   put_content bytes raw_is pad_stored =
       let first_is : first ≡ min r most = rw so.start.no_rule refl in
       let turn = turned (type_of_variable b own.vdr) (is_little b) in
-      let stores : StoresPut b last own.vdr own.vdr olds leaves r bytes (pad_record v) = record {
-        typed = type_alike put.file (stays_alike put.file (stays so.start.good so.start.among put.descriptor));
-        little = put.file.little;
-        as_long = last_size;
-        ascend = leaves_ascend so.start.good so.start.among;
-        ascend_now = leaves_ascend put.good put.among;
-        upto = ap extent last_max_rec ∙ extent_last (greater most (r + 1));
-        stored = ap (option_map turn) (stored_put r (omega arith) (omega arith)) ∙ ap Some (rw (eq-eqb r r refl) raw_is);
-        padded = λ k le lt. ap (option_map turn) (stored_put k (omega arith) (omega arith)) ∙ ap Some (rw (ne_eqb k r (λ e. absurd (omega arith))) (pad_stored (omega arith)));
-        kept = λ k lt ne. stored_same k (λ e. lt) (elim (cases_lt r k) [ inl past ↦ inr past | inr le ↦ inl (omega arith) ]);
-      } in
+      let stored : option_map turn (stored_bytes last own.vdr size leaves r) ≡ Some bytes = ap (option_map turn) (stored_put r (omega arith) (omega arith)) ∙ ap Some (rw (eq-eqb r r refl) raw_is) in
+      let padded : (k : ℕ) → most ≤ k → k < r → option_map turn (stored_bytes last own.vdr size leaves k) ≡ Some (pad_record v) =
+      λ k le lt. ap (option_map turn) (stored_put k (omega arith) (omega arith)) ∙ ap Some (rw (ne_eqb k r (λ e. absurd (omega arith))) (pad_stored (omega arith))) in
+      let kept = λ (k : ℕ) (lt : k < most) (ne : k ≢ r). stored_same k (λ e. lt) (elim (cases_lt r k) [ inl past ↦ inr past | inr le ↦ inl (omega arith) ]) in
+      let upto = ap extent last_max_rec ∙ extent_last (greater most (r + 1)) in
+      let typed = type_alike put.file (stays_alike put.file (stays so.start.good so.start.among put.descriptor)) in
+      let stores : StoresPut b last own.vdr own.vdr olds leaves r bytes (pad_record v) = search (put.file, rw put.vdr_is at size_last, leaves_ascend so.start.good so.start.among, leaves_ascend put.good put.among) in
       let recs : records_in last own.vdr leaves ≡ with_item r bytes (filled v.sparse v r) = records_put stores ∙ ap (with_item r bytes) (sym (filled_uncut v r (uncut so.start.good so.start.among r))) in
       put.content_is ∙ ap (with_variable (content b) (own_found b kind before own)) (variable_stays put.file own own' (stays so.start.good so.start.among put.descriptor) put.vdr_is ∙ (λ i. record v { max_rec = last_max_rec i; recs = recs i }))
 
@@ -206,12 +205,6 @@ module _ {b now last : List ℕ} {kind : Kind} {before : List VariableShape} {ow
       (λ l i. rw (of_own.block_allowed (own_found b kind before own) so.start.good so.start.among refl put_fields block_may own_may allowed l i) (block_keeps l i))
       (λ m i. absurd (subst (In m) (no_cpr so.start.good so.start.among) i))
 
-  unused_keeps : (m : ℕ) → In m (unused_records b (shape b)) → Keeps b last m (unused_allowance b (shape b) acts m)
-  unused_keeps m i = elim (either (is_in m (shape b).unused)) [
-    | inl x ↦ elim (either (is_taken b acts m)) [ inl t ↦ rw (x, t) tt | inr t ↦ rw (x, t) (put.listed m (true-is_in m (shape b).unused x) t) ]
-    | inr x ↦ rw x (put.loose m (unused_in b (shape b) (sound so.start.good so.start.among) m i) (eqb-true (type_at b m) uir_type (filter-says (λ place. type_at b place == uir_type) (shape b).records m i)) (false-is_in m (shape b).unused x))
-  ]
-
   pub keeps : AllKeep b last (put_changes b (shape b) (own_found b kind before own) r) acts (owned b (shape b))
   keeps =
       let front = keep_variables b last may acts kind 0 before (λ m i. put.stay m (inr (inr (inl i)))) in
@@ -219,7 +212,7 @@ module _ {b now last : List ℕ} {kind : Kind} {before : List VariableShape} {ow
       let others = keep_variables b last may acts (other_kind kind) 0 (shapes_of (shape b) (other_kind kind)) (λ m i. put.stay m (inr (inr (inr (inr i))))) in
       let both = keep_kinds b last may acts kind (keep_variable_parts b last may acts kind before own after so.start.among.was front (keep_places b last may acts (OneVariable kind (length before)) (variable_records own) own_keeps) back) others in
       keep_all b last may acts (keep_file b last may acts (sound so.start.good so.start.among) (keeps_stood b last 8 (put.stay 8 (inl refl)) (Only [])) put.gdr) (keep_attributes b last may acts 0 (shape b).attributes (λ m i. put.stay m (inr (inl i)))) both.0 both.1
-      (keep_places b last may acts Unused (unused_records b (shape b)) unused_keeps)
+      (keep_places b last may acts Unused (unused_records b (shape b)) (λ m i. unused_stays acts put.listed put.loose m i (unused_in b (shape b) (sound so.start.good so.start.among) m i)))
 
   -- ---- pads
 
