@@ -237,14 +237,11 @@ module _ {b now last : List ℕ} {kind : Kind} {before : List VariableShape} {ow
     blocks l i changed =
         let x = last_plain l i in
         let end : block_end last own'.vdr l ≡ 12 + (l.last + 1 - l.first) * size = rw (x.plain, count_is l x.small x.ordered, size_last) refl in
-        record {
-          packed = λ e. absurd (true≢false (sym e ∙ so.start.loose));
-          spare = elim (all.new l i) [
-            | inl o ↦ subst (SpareIs b last own'.vdr l) (sym (all.apart l o)) (record { each = λ p low high. (all.old l o).kept p (omega arith) high (behind_all first (r + 1) size l p (omega arith)) })
-            | inr n ↦ subst (SpareIs b last own'.vdr l) (sym n.was_taken) (λ p low high. n.spare p (omega arith) high)
-          ];
-          reserved = grind (arith, x.plain);
-        }
+        let spare : SpareIs b last own'.vdr l (is_taken_at acts l.place) = elim (all.new l i) [
+          | inl o ↦ rw (all.apart l o) (record { each = λ p low high. (all.old l o).kept p (omega arith) high (behind_all first (r + 1) size l p (omega arith)) })
+          | inr n ↦ rw n.was_taken (λ p low high. n.spare p (omega arith) high)
+        ] in
+        record { packed = λ e. absurd (true≢false (sym e ∙ so.start.loose)); spare = spare; reserved = grind (arith, x.plain) }
 
     pub bytes_done : PutsBytes b last kind v r own own' acts
     bytes_done = record {

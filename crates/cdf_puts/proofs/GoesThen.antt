@@ -117,6 +117,4 @@ module _ {b mid now : List ℕ} {kind : Kind} {before : List VariableShape} {own
 
   pub goes_then : GoesOn b now kind before own own'' after (acts ++ acts')
   goes_then =
-      let gdr : Stays mid now (shape b).gdr (r_max_rec_field kind ++ space_fields) = rw first.gdr_is at second.gdr in
-      let vdr : Stays mid now own.vdr put_fields = rw first.vdr_is at second.descriptor in
-      search (arith, first, second, stay_then, listed_then, loose_then, acts_joined h h' first.follow second.follow takes takes' first.listed second.listed, twice, with_twice (content b) kind (length before) (variable_of mid own') (variable_of now own''))
+      search (arith, first, second, ← first.gdr_is, ← first.vdr_is, stay_then, listed_then, loose_then, acts_joined h h' first.follow second.follow takes takes' first.listed second.listed, twice, with_twice (content b) kind (length before) (variable_of mid own') (variable_of now own''))

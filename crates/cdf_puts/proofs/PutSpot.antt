@@ -1,5 +1,5 @@
 -- Where the next record is put: the records of a new block, each step by which records are put, and what an image says of a variable of which some records are put.
-use Rattle.cdf_puts.proofs.Common.{Leaf, put, Act, AddsLeaf, BlockRecords, Covering, GoesOn, HasIndex, In, IsBlockBody, IsBody, IsPut, IsVacant, Kind, LeafAdded, List, NodeTaken, Nodes, None, PutStart, PutsOn, PutsUpTo, Putting, RecordsWritten, SoFar, Some, SomePut, SomePutting, StandsAmong, Variable, VariableShape, [], ap, append-nil, arith, block_bytes, block_count, covers, div-le_self, drop, drop-append-le, drop_at, extent, false, find, first_written, firsts_of, fits, has, if◌then◌else◌, image_limit, in_middle, index_at, is_sparse, last_in_new, leaf, leaf_acts, leaf_of, leaves_of, length, length-append, length-drop, max_rec_at, min, most_in_block, nat_tests, new_last, new_range, new_room, next_first, node_bytes, number, range, record_bytes, record_length, record_of, record_put, records_put, shape, sparse_at, subst, suc, sym, take, take-append-le, take_all, taken_bytes, times_le, variable_of, variables, vdr_vxr_head, vdrs, vxr_bytes, widest, with_leaf, zero, ℕ, ◌*◌, ◌++◌, ◌+◌, ◌-◌, ◌<◌, ◌==◌, ◌∙◌, ◌∷◌, ◌≡◌, ◌≤◌}
+use Rattle.cdf_puts.proofs.Common.{refl, Leaf, put, Act, AddsLeaf, BlockRecords, Covering, GoesOn, HasIndex, In, IsBlockBody, IsBody, IsPut, IsVacant, Kind, LeafAdded, List, NodeTaken, Nodes, None, PutStart, PutsOn, PutsUpTo, Putting, RecordsWritten, SoFar, Some, SomePut, SomePutting, StandsAmong, Variable, VariableShape, [], ap, append-nil, arith, block_bytes, block_count, covers, div-le_self, drop, drop-append-le, drop_at, extent, false, find, first_written, firsts_of, fits, has, if◌then◌else◌, image_limit, in_middle, index_at, is_sparse, last_in_new, leaf, leaf_acts, leaf_of, leaves_of, length, length-append, length-drop, max_rec_at, min, most_in_block, nat_tests, new_last, new_range, new_room, next_first, node_bytes, number, range, record_bytes, record_length, record_of, record_put, records_put, shape, sparse_at, subst, suc, sym, take, take-append-le, take_all, taken_bytes, times_le, variable_of, variables, vdr_vxr_head, vdrs, vxr_bytes, widest, with_leaf, zero, ℕ, ◌*◌, ◌++◌, ◌+◌, ◌-◌, ◌<◌, ◌==◌, ◌∙◌, ◌∷◌, ◌≡◌, ◌≤◌}
 use Rattle.cdf_puts.proofs.LeafEdit.{r_max_rec_stays as leaf_r_max_rec, body_long, plain_body, leaf_goes_on, leaf_max_rec, taking}
 use Rattle.cdf_puts.proofs.CoveringRanges.{covering_starts, covering_has, covering_leaf, covering_room, covering_ends, Ends, one_at_least}
 use Rattle.cdf_puts.proofs.GoesThen.{later_size, goes_then, goes_written, writes_nothing}
@@ -55,8 +55,7 @@ module _ {b : List ℕ} {kind : Kind} {before : List VariableShape} {own : Varia
         let good = so.goes.good in
         let at = so.goes.among in
         let goes = subst (GoesOn b now' kind before own own' after) (append-nil acts) (goes_then so.start.good so.start.among so.goes (goes_written good at (writes good at w) so.short) so.takes tt) in
-        let max_rec_is = rw so.goes.vdr_is at (max_rec_kept good at w) in
-        search (arith, so, goes, r_max_rec_stays good at w, covering_has so.covers so.start.small more l w.found, index_written so more w as_long, blocks_written so more w as_long)
+        search (arith, so, goes, ← so.goes.vdr_is, max_rec_kept good at w, r_max_rec_stays good at w, covering_has so.covers so.start.small more l w.found, index_written so more w as_long, blocks_written so more w as_long)
 
     pub so_far_added : {now' : List ℕ} {last place at : ℕ} {body records : List ℕ} → last ≡ (new_range (variable_of b own) (firsts_of own'.index) k).last → IsVacant own' k last → IsBlockBody body records → BlockRecords raw pad r k last (record_bytes b own.vdr) records
         → LeafAdded now now' own' (leaf k last place false) body at → length now' ≤ image_limit
@@ -70,8 +69,7 @@ module _ {b : List ℕ} {kind : Kind} {before : List VariableShape} {own : Varia
         let bytes : taken_bytes (acts ++ step) ≡ taken_bytes acts + block_bytes (variable_of b own) k last + node_bytes k own'.index = omega (arith, taken_sum acts step, leaf_bytes place (8 + length body) (new_room k own'.index) at, body_long body records holds, says.as_long) in
         let wide = new_room_widest now (shape now).records 8 k own'.index (has good among).indexed.has_nodes (fits good among).1 in
         let covers : Covering (variable_of b own) own.index (with_leaf new at own'.index) r (min (last + 1) (r + 1)) (taken_bytes (acts ++ step)) = rw (bytes, is) (covering_leaf so.covers so.start.small more (ap is_sparse so.start.no_rule) so.start.loose vacant.uncovered place at wide) in
-        let max_rec_is = rw so.goes.vdr_is at (leaf_max_rec good among w) in
-        search (arith, so, short, leaf_r_max_rec good among w, goes_then so.start.good so.start.among so.goes goes so.takes (taking good among w).takes, takes_both acts step so.takes (taking good among w).takes, index_added so more is vacant holds says w goes.good goes.among, blocks_added so more is vacant holds says w goes.good goes.among)
+        search (arith, so, short, ← so.goes.vdr_is, leaf_max_rec good among w, leaf_r_max_rec good among w, goes_then so.start.good so.start.among so.goes goes so.takes (taking good among w).takes, takes_both acts step so.takes (taking good among w).takes, index_added so more is vacant holds says w goes.good goes.among, blocks_added so more is vacant holds says w goes.good goes.among)
 
 -- ---- how many records a new block has
 
@@ -160,21 +158,19 @@ module _ {b now : List ℕ} {kind : Kind} {before : List VariableShape} {own : V
         ends_at : end ≡ new_last (variable_of b own) own'.index k
         ends_at = rw (at_is, searched.1) at end_is ∙ last_as (variable_of b own) own'.index k new.rec new.most (ap is_sparse so.start.no_rule) p.most_is so.covers.from more (omega (arith, ending.0, ending.1))
 
-        room_here : length now + (8 + length body) + vxr_bytes (widest own'.index) ≤ limit
-        room_here =
-            let bytes = records_long new.raw.items new.pad.items new.rec (record_bytes b own.vdr) p.start.raw_long p.pad_long (end + 1 - k) k ∙ ap (λ (n : ℕ). (n + 1 - k) * record_bytes b own.vdr) ends_at in
-            omega (arith, longer_by b now is.acts so.goes.follow so.takes, body_long body (records_put new.raw.items new.pad.items new.rec (end + 1 - k) k) says, bytes, covering_room so.covers so.start.small more (ap is_sparse so.start.no_rule) so.start.loose none)
-
         -- an image that is read in between
         pub room_after : {mid : List ℕ} {bound : ℕ} → mid ≡ now → bound ≡ limit → length mid + (8 + length body) + vxr_bytes (widest (index_at mid (number mid new.vdr vdr_vxr_head))) ≤ bound
-        room_after same bounded = rw (same, bounded, searched.1) room_here
+        room_after same bounded =
+            let bytes = records_long new.raw.items new.pad.items new.rec (record_bytes b own.vdr) p.start.raw_long p.pad_long (end + 1 - k) k ∙ ap (λ (n : ℕ). (n + 1 - k) * record_bytes b own.vdr) ends_at in
+            let need = covering_room so.covers so.start.small more (ap is_sparse so.start.no_rule) so.start.loose none in
+            rw (same, bounded, searched.1) (omega (arith, longer_by b now is.acts so.goes.follow so.takes, body_long body (records_put new.raw.items new.pad.items new.rec (end + 1 - k) k) says, bytes, need))
 
         pub added_on : {now' : List ℕ} → AddsOn now now' new.vdr k end body → limit ≤ image_limit → IsPut b now' kind before own after new (min end new.rec + 1)
         added_on {now' = now'} adds upto =
             let a = adds kind before own' after so.goes.among vdr_is in
             let vacancy : IsVacant own' k end = record { ordered = omega (arith, ends_at, ending.0); uncovered = none; before_next = omega (arith, ends_at, ending.1) } in
             let wide = new_room_widest now (shape now).records 8 k own'.index (has so.goes.good so.goes.among).indexed.has_nodes (fits so.goes.good so.goes.among).1 in
-            let short : length now' ≤ image_limit = omega (arith, a.added.as_long, a.added.block.longest, node_long a.added.filled a.added.roomy (new_room k own'.index) a.at (widest own'.index) a.added.node wide, room_here) in
+            let short : length now' ≤ image_limit = omega (arith, a.added.as_long, a.added.block.longest, node_long a.added.filled a.added.roomy (new_room k own'.index) a.at (widest own'.index) a.added.node wide, rw searched.1 at (room_after refl refl)) in
             record {
               own' = record own' { index = with_leaf (leaf k end a.place false) a.at own'.index };
               acts = is.acts ++ leaf_acts a.place (8 + length body) (new_room k own'.index) a.at;
