@@ -1,8 +1,7 @@
 -- All records are put: the index, what was taken for it and the bytes of the blocks are as the command says, and what is stored as each record. The image follows the command.
-use Rattle.cdf_puts.proofs.Common.{◌≢◌, ListedStay, LooseStay, NewBlock, OldBlock, size_at, Act, AllKeep, Allowance, Allowances, Ascending, Beside, BlockFollows, BlocksSoFar, Changed, CutsFirst, DataSet, Found, GoesOn, HoldsPads, In, In-append, IsOneOf, Keeps, Kind, Leaf, List, MaxRecDone, NewBlock, Nodes, None, OneVariable, Only, Option, Outside, Outside-append, PlainLeaf, PutsBytes, PutsIndex, PutsLeaves, PutsRecord, RMaxRecFollows, Range, SoFar, Some, SpareIs, StaysUnwritten, Unused, Variable, VariableShape, WritesRecords, [], anything_if, ap, append-nil, arith, behind_in, behind_kept, block_behind, block_end, both, bytes_eq, bytes_eq-same, cases_lt, content, count_is, covers, drop, drop-drop, drop_all, each_of, eq-eqb, eq_of, eqb-true, extent, false, false-is_in, filled, filter, filter-says, find, find_covering, first_written, greater, inl, inr, is_changed, is_little, is_rewritten, is_taken_at, is_written, keep_all, keep_attributes, keep_file, keep_kinds, keep_places, keep_variable_parts, keep_variables, keeps_stood, last_number, leaf_at, leaves_ascend, leaves_of, length, length-take, list_any, map, max, max_rec_at, max_rec_touches, min, nat_tests, ne_eqb, negsuc, nodes_of, option_map, other_kind, owned, pad_record, past, place_in, places_of, plain_bytes, plain_piece, pos, put_changes, put_fields, put_room, r_max_rec, r_max_rec_of_z, range, range_at, ranges_before_put, ranges_of, record_bytes, record_number_limit, record_of, record_place, records_in, records_of_leaf, refl, repeat, room, room_of_variable, same_Some, same_as_itself, same_of_bytes_eq, shape, shapes_of, shared, signed, sound, space_before, stays_alike, stays_all, stored_bytes, stored_in, subst, suc, sym, take, take-append-drop, times_le, top_chain, top_stays, touch, transport, true, true-is_in, true≢false, turned, type_alike, type_at, type_of_variable, uir_type, uncovered, unused_allowance, unused_in, unused_records, variable_named, variable_of, variable_records, variable_stays, vvr_place, was_leaf, with_record, with_sign, with_variable, written_in, zero, ℕ, ℤ, ◌*◌, ◌++◌, ◌+◌, ◌-◌, ◌<◌, ◌==◌, ◌∙◌, ◌∷◌, ◌≡◌, ◌≤◌, ◌⊎◌}
+use Rattle.cdf_puts.proofs.Common.{UnwrittenStay, stays_in_place, found_in, ◌≢◌, ListedStay, LooseStay, NewBlock, OldBlock, size_at, Act, AllKeep, Allowance, Allowances, Ascending, Beside, BlockFollows, BlocksSoFar, Changed, CutsFirst, DataSet, Found, GoesOn, HoldsPads, In, In-append, IsOneOf, Keeps, Kind, Leaf, List, MaxRecDone, NewBlock, Nodes, None, OneVariable, Only, Option, Outside, Outside-append, PlainLeaf, PutsBytes, PutsIndex, PutsLeaves, PutsRecord, RMaxRecFollows, Range, SoFar, Some, SpareIs, Unused, Variable, VariableShape, WritesRecords, [], anything_if, ap, append-nil, arith, behind_in, behind_kept, block_behind, block_end, both, bytes_eq, bytes_eq-same, cases_lt, content, count_is, covers, drop, drop-drop, drop_all, each_of, eq-eqb, eq_of, eqb-true, extent, false, false-is_in, filled, filter, filter-says, find, find_covering, first_written, greater, inl, inr, is_changed, is_little, is_rewritten, is_taken_at, is_written, keep_all, keep_attributes, keep_file, keep_kinds, keep_places, keep_variable_parts, keep_variables, keeps_stood, last_number, leaf_at, leaves_ascend, leaves_of, length, length-take, list_any, map, max, max_rec_at, max_rec_touches, min, nat_tests, ne_eqb, negsuc, nodes_of, option_map, other_kind, owned, pad_record, past, place_in, places_of, plain_bytes, plain_piece, pos, put_changes, put_fields, put_room, r_max_rec, r_max_rec_of_z, range, range_at, ranges_before_put, ranges_of, record_bytes, record_number_limit, record_of, record_place, records_in, records_of_leaf, refl, repeat, room, room_of_variable, same_Some, same_as_itself, same_of_bytes_eq, shape, shapes_of, shared, signed, sound, space_before, stays_alike, stays_all, stored_bytes, stored_in, subst, suc, sym, take, take-append-drop, times_le, top_chain, top_stays, touch, transport, true, true-is_in, true≢false, turned, type_alike, type_at, type_of_variable, uir_type, uncovered, unused_allowance, unused_in, unused_records, variable_named, variable_of, variable_records, variable_stays, vvr_place, was_leaf, with_record, with_sign, with_variable, written_in, zero, ℕ, ℤ, ◌*◌, ◌++◌, ◌+◌, ◌-◌, ◌<◌, ◌==◌, ◌∙◌, ◌∷◌, ◌≡◌, ◌≤◌, ◌⊎◌}
 use Rattle.cdf_edits.proofs.Common.{ByStep, Command, Does, Follows, Go, allowances, only_reads, step, with_item}
 use Rattle.cdf_edits.proofs.Edits.RecordsPut.{StoresPut, extent_last, filled_uncut, greater_is_first, greater_is_last, records_put}
-use Rattle.cdf_puts.specs.Going.{found_in as own_found}
 use Rattle.cdf_puts.proofs.PutRules.{no_cpr, uncut}
 use Rattle.cdf_puts.proofs.RaisedGoes.{greatest_follows, raise_writes}
 use Rattle.cdf_puts.proofs.PutBytes.{behind_all, blocks_then, found_covering, none_is_put, old_size, piece_stays, whole}
@@ -10,11 +9,9 @@ use Rattle.cdf_puts.proofs.IndexWritten.{nodes_still, tail_still}
 use Rattle.cdf_puts.proofs.CoveringRanges.{some_or_none, covering_done}
 use Rattle.cdf_puts.proofs.GoesThen.{goes_then, goes_written, later_size, own_there, stays, variable_there, writes_nothing}
 use Rattle.cdf_puts.proofs.PutRoom.{none_given, none_without_bytes, longer_by}
-use Rattle.cdf_index.proofs.OwnRecords.{by_range}
 use Rattle.cdf_index.proofs.OwnRecords as of_own
 use Rattle.cdf_leaves.proofs.TopChain.{chain_in}
 use Rattle.cdf_puts.proofs.SoFarStarts.{covers_own}
-use Rattle.cdf_edits.proofs.Commands.ListParts.{got-middle}
 use Rattle.cdf_model.specs.declared.answer.Reply.TheVariants as replies
 use Rattle.cdf_model.specs.declared.command.Command.TheVariants as commands
 use Rattle.cdf_edits.specs.Commands.Named.{OfVariable}
@@ -168,7 +165,7 @@ module _ {b now last : List ℕ} {kind : Kind} {before : List VariableShape} {ow
 
   -- ---- as the content has it
 
-  pub put_content : (bytes : List ℕ) → turned (type_of_variable b own.vdr) (is_little b) raw ≡ bytes → (most < r → turned (type_of_variable b own.vdr) (is_little b) pad ≡ pad_record v) → content last ≡ with_variable (content b) (own_found b kind before own) (with_record v r bytes)
+  pub put_content : (bytes : List ℕ) → turned (type_of_variable b own.vdr) (is_little b) raw ≡ bytes → (most < r → turned (type_of_variable b own.vdr) (is_little b) pad ≡ pad_record v) → content last ≡ with_variable (content b) (found_in b kind before own) (with_record v r bytes)
   put_content bytes raw_is pad_stored =
       let first_is : first ≡ min r most = rw so.start.no_rule refl in
       let turn = turned (type_of_variable b own.vdr) (is_little b) in
@@ -180,12 +177,12 @@ module _ {b now last : List ℕ} {kind : Kind} {before : List VariableShape} {ow
       let typed = type_alike put.file (stays_alike put.file (stays so.start.good so.start.among put.descriptor)) in
       let stores : StoresPut b last own.vdr own.vdr olds leaves r bytes (pad_record v) = search (put.file, rw put.vdr_is at size_last, leaves_ascend so.start.good so.start.among, leaves_ascend put.good put.among) in
       let recs : records_in last own.vdr leaves ≡ with_item r bytes (filled v.sparse v r) = records_put stores ∙ ap (with_item r bytes) (sym (filled_uncut v r (uncut so.start.good so.start.among r))) in
-      put.content_is ∙ ap (with_variable (content b) (own_found b kind before own)) (variable_stays put.file own own' (stays so.start.good so.start.among put.descriptor) put.vdr_is ∙ (λ i. record v { max_rec = last_max_rec i; recs = recs i }))
+      put.content_is ∙ ap (with_variable (content b) (found_in b kind before own)) (variable_stays put.file own own' (stays so.start.good so.start.among put.descriptor) put.vdr_is ∙ (λ i. record v { max_rec = last_max_rec i; recs = recs i }))
 
   -- ---- what each record keeps
 
   abbrev may : Allowances
-  may = put_changes b (shape b) (own_found b kind before own) r
+  may = put_changes b (shape b) (found_in b kind before own) r
 
   abbrev own_may : ℕ → Allowance
   own_may m = may.variables kind (length before) m
@@ -193,19 +190,19 @@ module _ {b now last : List ℕ} {kind : Kind} {before : List VariableShape} {ow
   abbrev block_may : Range → Allowance
   block_may rg = anything_if (is_rewritten v r rg)
 
-  allowed : (m : ℕ) (o : Option Range) → range_at (shape b) (own_found b kind before own) m ≡ o → own_may m ≡ by_range b kind put_fields block_may m o
+  allowed : (m : ℕ) (o : Option Range) → range_at (shape b) (found_in b kind before own) m ≡ o → own_may m ≡ of_own.by_range b kind put_fields block_may m o
   allowed m o e = let same = same_as_itself kind in let number = eq-eqb (length before) (length before) refl in rw (same, number, e)
 
   block_keeps : (l : Leaf) → IsOneOf olds l → Keeps b last l.place (anything_if (is_rewritten v r (range l.first l.last)))
   block_keeps l i = block_stays v r (all.old l i) (behind_in put.good put.among l.place (block_behind own' l.place (place_in leaves l (all.stay l i)))) (old_size (all.old l i) (omega (arith, (whole so.start.good so.start.among l i).leaf.room)))
 
   own_keeps : (m : ℕ) → In m (variable_records own) → Keeps b last m (own_may m)
-  own_keeps = each_own (λ (m : ℕ). Keeps b last m (own_may m)) own (rw (of_own.descriptor_allowed (own_found b kind before own) so.start.good so.start.among refl put_fields block_may own_may allowed) put.descriptor)
-      (λ m i. rw (of_own.node_allowed (own_found b kind before own) so.start.good so.start.among refl put_fields block_may own_may allowed m i) tt)
-      (λ l i. rw (of_own.block_allowed (own_found b kind before own) so.start.good so.start.among refl put_fields block_may own_may allowed l i) (block_keeps l i))
+  own_keeps = each_own (λ (m : ℕ). Keeps b last m (own_may m)) own (rw (of_own.descriptor_allowed (found_in b kind before own) so.start.good so.start.among refl put_fields block_may own_may allowed) put.descriptor)
+      (λ m i. rw (of_own.node_allowed (found_in b kind before own) so.start.good so.start.among refl put_fields block_may own_may allowed m i) tt)
+      (λ l i. rw (of_own.block_allowed (found_in b kind before own) so.start.good so.start.among refl put_fields block_may own_may allowed l i) (block_keeps l i))
       (λ m i. absurd (subst (In m) (no_cpr so.start.good so.start.among) i))
 
-  pub keeps : AllKeep b last (put_changes b (shape b) (own_found b kind before own) r) acts (owned b (shape b))
+  pub keeps : AllKeep b last (put_changes b (shape b) (found_in b kind before own) r) acts (owned b (shape b))
   keeps =
       let front = keep_variables b last may acts kind 0 before (λ m i. put.stay m (inr (inr (inl i)))) in
       let back = keep_variables b last may acts kind (suc (length before)) after (λ m i. put.stay m (inr (inr (inr (inl i))))) in
@@ -244,29 +241,27 @@ module _ {b now last : List ℕ} {kind : Kind} {before : List VariableShape} {ow
         record { packed = λ e. absurd (true≢false (sym e ∙ so.start.loose)); spare = spare; reserved = grind (arith, x.plain) }
 
     pub bytes_done : PutsBytes b last kind v r own own' acts
-    bytes_done = record {
-      in_place = λ e. record {
-        longer = all.longer;
-        same = λ place lt out.
-            let room : put_room v own.index r ≡ 0 = rw (eq_of (uncovered v own.index r) 0 (both (uncovered v own.index r == 0) _ e).0, so.start.loose) refl in
-            let none = none_without_bytes (space_before b) acts so.goes.follow.are so.takes (omega (arith, so.covers.fits)) in
-            let quiet = λ (m : ℕ). ap (λ (xs : List Act). is_taken_at xs m) none in
-            let p = Outside-append (max_rec_touches b kind own.vdr) (written_in v first r olds) place out in
-            all.quiet quiet place lt (rw (so.goes.gdr_is, so.goes.vdr_is) p.0) (λ l i. elim (all.new l i) [ inl o ↦ beside_written first r size olds place p.1 l o | inr n ↦ absurd (true≢false (sym n.was_taken ∙ quiet l.place)) ]);
-      };
-      others_stay = each_of (StaysUnwritten v r leaves) olds (λ l i e. all.stay l i);
-      unwritten_stay = λ k c side. ap (λ (x : ℕ). stored_bytes last x size leaves k) put.vdr_is ∙ stored_same k (λ e. absurd (true≢false (sym (rw (uncut so.start.good so.start.among r) at c) ∙ none_covered k olds e))) side;
-      padded = each_of (HoldsPads last v own'.vdr r (ranges_before_put v own.index r)) leaves (λ l i none. elim (all.new l i) [
-        | inl o ↦ absurd (true≢false (sym (covers_own olds l o (whole so.start.good so.start.among l o).leaf.ordered) ∙ (rw (uncut so.start.good so.start.among r) at none)))
-        | inr n ↦ new_pads l i n
-      ]);
-      blocks = each_of (λ (l : Leaf). is_changed v r (ranges_of own.index) l ≡ true → BlockFollows b last v.rle own'.vdr (was_leaf olds l) acts l) leaves blocks;
-    }
+    bytes_done =
+        let in_place : stays_in_place v own r ≡ true → Changed b last (max_rec_touches b kind own.vdr ++ written_in v first r olds) = λ e. record {
+          longer = all.longer;
+          same = λ place lt out.
+              let room : put_room v own.index r ≡ 0 = rw (eq_of (uncovered v own.index r) 0 (both (uncovered v own.index r == 0) _ e).0, so.start.loose) refl in
+              let none = none_without_bytes (space_before b) acts so.goes.follow.are so.takes (omega (arith, so.covers.fits)) in
+              let quiet = λ (m : ℕ). ap (λ (xs : List Act). is_taken_at xs m) none in
+              let p = Outside-append (max_rec_touches b kind own.vdr) (written_in v first r olds) place out in
+              all.quiet quiet place lt (rw (so.goes.gdr_is, so.goes.vdr_is) p.0) (λ l i. elim (all.new l i) [ inl o ↦ beside_written first r size olds place p.1 l o | inr n ↦ absurd (true≢false (sym n.was_taken ∙ quiet l.place)) ]);
+        } in
+        let unwritten : UnwrittenStay b last v r own own' = λ k c side. ap (λ (x : ℕ). stored_bytes last x size leaves k) put.vdr_is ∙ stored_same k (λ e. absurd (true≢false (sym (rw (uncut so.start.good so.start.among r) at c) ∙ none_covered k olds e))) side in
+        let padded : (l : Leaf) → IsOneOf leaves l → HoldsPads last v own'.vdr r (ranges_before_put v own.index r) l = λ l i none. elim (all.new l i) [
+          | inl o ↦ absurd (true≢false (sym (covers_own olds l o (whole so.start.good so.start.among l o).leaf.ordered) ∙ (rw (uncut so.start.good so.start.among r) at none)))
+          | inr n ↦ new_pads l i n
+        ] in
+        search (each_of, in_place, unwritten, padded, blocks, all.stay)
 
     -- ---- the whole
 
     abbrev found : Found
-    found = own_found b kind before own
+    found = found_in b kind before own
 
     -- ---- of the variable that has a name
 
@@ -275,7 +270,7 @@ module _ {b now last : List ℕ} {kind : Kind} {before : List VariableShape} {ow
       puts_named found' x x' is =
           let q : found ≡ found' = same_Some found found' (sym named ∙ is.named) in
           let was : own ≡ x = same_Some own x (sym (own_there so.start.good so.start.among) ∙ (rw (← q) at is.before)) in
-          let now_is : own' ≡ x' = same_Some own' x' (sym (got-middle before own' after) ∙ (rw (← q, put.among.was) at is.after)) in
+          let now_is : own' ≡ x' = same_Some own' x' (sym (own_there put.good put.among) ∙ (rw (← q) at is.after)) in
           rw (← q, ← was, ← now_is) (record { index = index_done; bytes = bytes_done; r_max_rec = last_r_max_rec })
 
       module _ (bytes : List ℕ) (raw_is : turned (type_of_variable b own.vdr) (is_little b) raw ≡ bytes) (pad_is : extent (max_rec_at b own.vdr) < r → turned (type_of_variable b own.vdr) (is_little b) pad ≡ pad_record v) where

@@ -57,10 +57,10 @@ module _ {b : List ℕ} {kind : Kind} {before : List VariableShape} {own : Varia
         let goes = subst (GoesOn b now' kind before own own' after) (append-nil acts) (goes_then so.start.good so.start.among so.goes (goes_written good at (writes good at w) so.short) so.takes tt) in
         search (arith, so, goes, ← so.goes.vdr_is, max_rec_kept good at w, r_max_rec_stays good at w, covering_has so.covers so.start.small more l w.found, index_written so more w as_long, blocks_written so more w as_long)
 
-    pub so_far_added : {now' : List ℕ} {last place at : ℕ} {body records : List ℕ} → last ≡ (new_range (variable_of b own) (firsts_of own'.index) k).last → IsVacant own' k last → IsBlockBody body records → BlockRecords raw pad r k last (record_bytes b own.vdr) records
-        → LeafAdded now now' own' (leaf k last place false) body at → length now' ≤ image_limit
-        → SoFar b now' kind before own (record own' { index = with_leaf (leaf k last place false) at own'.index }) after raw pad r (min (last + 1) (r + 1)) (acts ++ leaf_acts place (8 + length body) (new_room k own'.index) at)
-    so_far_added {now' = now'} {last = last} {place = place} {at = at} {body = body} {records = records} is vacant holds says w short =
+    pub so_far_added : {now' : List ℕ} {last place at next : ℕ} {body records : List ℕ} → last ≡ (new_range (variable_of b own) (firsts_of own'.index) k).last → IsVacant own' k last → IsBlockBody body records → BlockRecords raw pad r k last (record_bytes b own.vdr) records
+        → LeafAdded now now' own' (leaf k last place false) body at → length now' ≤ image_limit → min (last + 1) (r + 1) ≡ next
+        → SoFar b now' kind before own (record own' { index = with_leaf (leaf k last place false) at own'.index }) after raw pad r next (acts ++ leaf_acts place (8 + length body) (new_room k own'.index) at)
+    so_far_added {now' = now'} {last = last} {place = place} {at = at} {body = body} {records = records} is vacant holds says w short upto =
         let good = so.goes.good in
         let among = so.goes.among in
         let new = leaf k last place false in
@@ -69,7 +69,7 @@ module _ {b : List ℕ} {kind : Kind} {before : List VariableShape} {own : Varia
         let bytes : taken_bytes (acts ++ step) ≡ taken_bytes acts + block_bytes (variable_of b own) k last + node_bytes k own'.index = omega (arith, taken_sum acts step, leaf_bytes place (8 + length body) (new_room k own'.index) at, body_long body records holds, says.as_long) in
         let wide = new_room_widest now (shape now).records 8 k own'.index (has good among).indexed.has_nodes (fits good among).1 in
         let covers : Covering (variable_of b own) own.index (with_leaf new at own'.index) r (min (last + 1) (r + 1)) (taken_bytes (acts ++ step)) = rw (bytes, is) (covering_leaf so.covers so.start.small more (ap is_sparse so.start.no_rule) so.start.loose vacant.uncovered place at wide) in
-        search (arith, so, short, ← so.goes.vdr_is, leaf_max_rec good among w, leaf_r_max_rec good among w, goes_then so.start.good so.start.among so.goes goes so.takes (taking good among w).takes, takes_both acts step so.takes (taking good among w).takes, index_added so more is vacant holds says w goes.good goes.among, blocks_added so more is vacant holds says w goes.good goes.among)
+        rw (← upto) (search (arith, so, short, ← so.goes.vdr_is, leaf_max_rec good among w, leaf_r_max_rec good among w, goes_then so.start.good so.start.among so.goes goes so.takes (taking good among w).takes, takes_both acts step so.takes (taking good among w).takes, index_added so more is vacant holds says w goes.good goes.among, blocks_added so more is vacant holds says w goes.good goes.among))
 
 -- ---- how many records a new block has
 
@@ -174,8 +174,7 @@ module _ {b now : List ℕ} {kind : Kind} {before : List VariableShape} {own : V
             record {
               own' = record own' { index = with_leaf (leaf k end a.place false) a.at own'.index };
               acts = is.acts ++ leaf_acts a.place (8 + length body) (new_room k own'.index) a.at;
-              so = subst (λ (n : ℕ). SoFar b now' kind before own (record own' { index = with_leaf (leaf k end a.place false) a.at own'.index }) after new.raw.items new.pad.items new.rec n (is.acts ++ leaf_acts a.place (8 + length body) (new_room k own'.index) a.at)) (omega arith)
-                  (so_far_added so more ends_at vacancy says (block_records new.raw.items new.pad.items new.rec (record_bytes b own.vdr) p.start.raw_long p.pad_long k end) a.added short);
+              so = so_far_added so more ends_at vacancy says (block_records new.raw.items new.pad.items new.rec (record_bytes b own.vdr) p.start.raw_long p.pad_long k end) a.added short (omega arith);
             }
 
 -- ---- from the first image on
