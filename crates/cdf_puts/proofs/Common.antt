@@ -22,7 +22,7 @@ pub use Rattle.cdf_edits.proofs.Frame.VdrAlike.{record_alike, type_alike}
 pub use Rattle.cdf_edits.proofs.Frame.VdrStays.{VdrStays, stays_alike, variable_stays}
 pub use Rattle.cdf_edits.specs.Commands.Allowances.{anything_if}
 pub use Rattle.cdf_edits.specs.Commands.GreatestRecord.{RMaxRecFollows, greatest_r_max_rec}
-pub use Rattle.cdf_edits.specs.Commands.Puts.{CutsFirst, HoldsPads, PutsBytes, PutsIndex, PutsLeaves, PutsRecord, StaysUnwritten, TakesNode, is_changed, is_written, new_ranges, stored_in, was_leaf, written_in}
+pub use Rattle.cdf_edits.specs.Commands.Puts.{CutsFirst, HoldsPads, PutsBytes, PutsIndex, PutsLeaves, PutsRecord, StaysUnwritten, TakesNode, UnwrittenStay, is_changed, is_written, new_ranges, stays_in_place, stored_in, was_leaf, written_in}
 pub use Rattle.cdf_edits.specs.Commands.Room.{blocks_room, is_rewritten, packed_room, put_room, quotient_up, room_of_variable, uncovered}
 unfoldable pub use Rattle.cdf_edits.specs.Commands.Room.{entries_below, entries_in, widest, widest_below}
 pub use Rattle.cdf_edits.specs.Index.Blocks.{block_count, covered, cut_open, first_written, new_range, ranges_after_put, ranges_before_put, ranges_of, record_length}
@@ -44,7 +44,7 @@ pub use Rattle.cdf_index.specs.Adding.{NodeTouch, node_acts}
 pub use Rattle.cdf_leaves.proofs.Common.{AddsLeaf, Counts, EntryIs, Frame, IndexTouch, LeafAdded, NodeTaken, UnusedEntries, edit_done, edit_failed, in_nodes_with_leaf, keeps_by_read, last_node, leaf_acts, nodes_with_leaf, same_node, top_chain, was_unused}
 pub use Rattle.cdf_model.specs.declared.kinds.Sparse.{Sparse}
 pub use Rattle.cdf_puts.specs.Covering.{Ahead, Counted, Covering, block_bytes, count_upto, new_last, node_bytes}
-pub use Rattle.cdf_puts.specs.Going.{GoesOn, IsOther, LooseStay, put_fields}
+pub use Rattle.cdf_puts.specs.Going.{GoesOn, IsOther, LooseStay, found_in, put_fields}
 pub use Rattle.cdf_puts.specs.Putting.{IsPut, PutsOn, PutsUpTo, Putting, SomePut, SomePutting, block_type, last_in_new, most_in_block, record_put, records_put}
 pub use Rattle.cdf_puts.specs.SoFar.{Beside, BlockRecords, BlocksSoFar, IndexSoFar, LeavesGoOn, MaxRecDone, NewBlock, NodesSoFar, OldBlock, PutStart, PutsBefore, RecordIs, SoFar, TopGrows, TopStays, record_of, taken_bytes, taken_places, was_put}
 pub use Rattle.cdf_puts.specs.Starts.{InTopChain, IsKnownOf, IsKnownStart, KeepsStart, KnowsStarts, node_known}
