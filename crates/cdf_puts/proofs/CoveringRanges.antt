@@ -1,5 +1,5 @@
 -- Records that get a block one after the other: by their ranges, in the room of a put, which is enough for them, and in an index.
-use Rattle.cdf_puts.proofs.Common.{least_below, Ahead, Ascending, Counted, Covering, Entries, InOrder, Leaf, List, Nodes, None, Option, Range, Some, Variable, [], ap, arith, block, block_bytes, block_count, blocks_room, cases_eq, cases_lt, count_upto, cover, covered, covers, entries_below, entries_in, entry_count, entry_firsts, false, filter, find, find_covering, first_written, firsts_of, fold, inl, inr, is_sparse, le-ltb, leaf, leaves_more, leaves_of, length, length-append, lower, lt-ltb, ltb, map, max, min, nat_tests, new_last, new_range, new_room, next_first, no_entry, no_node, node, node_bytes, option_map, order_with_leaf, put_room, quotient_up, range, ranges_after_put, ranges_new, ranges_of, record_length, record_number_limit, refl, shared, subst, suc, sum_by-cons, sym, times_le, uncovered, unwrap_or, vxr_bytes, widest, with_leaf, with_range, zero, ℕ, ◌*◌, ◌+◌, ◌-◌, ◌<◌, ◌∙◌, ◌∷◌, ◌≡◌, ◌≤◌, ◌⊎◌, by_leaf, transport}
+use Rattle.cdf_puts.proofs.Common.{least_below, Ahead, Ascending, Counted, Covering, Entries, InOrder, Leaf, List, Nodes, None, Option, Range, Some, Variable, [], ap, arith, block, block_bytes, block_count, blocks_room, cases_eq, cases_lt, count_upto, cover, covered, covers, entries_below, entries_in, entry_count, entry_firsts, false, filter, find, find_covering, first_written, firsts_of, fold, inl, inr, is_sparse, le-ltb, leaf, leaves_more, leaves_of, length, length-append, lower, lt-ltb, ltb, map, max, min, nat_tests, new_last, new_range, new_room, next_first, no_entry, no_node, node, node_bytes, option_map, order_with_leaf, put_room, quotient_up, range, ranges_after_put, ranges_new, ranges_of, record_length, record_number_limit, refl, shared, subst, suc, sum_by-cons, sym, times_le, uncovered, unwrap_or, vxr_bytes, widest, with_leaf, with_range, zero, ℕ, ◌*◌, ◌+◌, ◌-◌, ◌<◌, ◌∙◌, ◌∷◌, ◌≡◌, ◌≤◌, ◌⊎◌, by_leaf}
 use Rattle.cdf_index.proofs.LeavesAscend.{leaves_ascend}
 use Rattle.cdf_puts.proofs.PutBytes.{found_covering}
 use Rattle.cdf_puts.proofs.LeafCounts.{next_firsts_with_leaf, wide_grows}
@@ -46,34 +46,34 @@ ends v fs k le = grind (arith, nat_tests, next_past k fs le, one_at_least v)
 
 module _ (v : Variable) (firsts : List ℕ) (n : ℕ) where
   -- a record that has a block, or gets one, and the end
-  cover_step : (m k : ℕ) (rs : List Range) → k ≤ n → cover (suc m) v firsts k n rs ≡ elim (find (covers k) rs) [ Some r ↦ cover m v firsts (r.last + 1) n rs | None ↦ cover m v firsts ((new_range v firsts k).last + 1) n (with_range (new_range v firsts k) rs) ]
+  next_step : (m k : ℕ) (rs after : List Range) → k ≤ n → n < m + k → cover m v firsts k n rs ≡ after
+      → ((r : Range) → find (covers k) rs ≡ Some r → cover (m - 1) v firsts (r.last + 1) n rs ≡ after) × (find (covers k) rs ≡ None → cover (m - 1) v firsts ((new_range v firsts k).last + 1) n (with_range (new_range v firsts k) rs) ≡ after)
   unfolding cover
-  cover_step m k rs le = rw (le-ltb n k le) refl
+  next_step zero k rs after le lt e = absurd (omega arith)
+  next_step (suc m) k rs after le lt e =
+      let one : suc m - 1 ≡ m = omega arith in
+      let on = rw (le-ltb n k le) at e in
+      rw one (λ r h. rw h at on, λ h. rw h at on)
 
   end_step : (m k : ℕ) (rs : List Range) → n < k → cover m v firsts k n rs ≡ rs
   unfolding cover
   end_step zero k rs lt = refl
   end_step (suc m) k rs lt = rw (lt-ltb n k lt) refl
 
-module _ {v : Variable} {firsts : List ℕ} {n k : ℕ} {rs after : List Range} (a : Ahead v firsts n k rs after) where
-  -- record k is the next one, and the range of its block ends with a last one
-  ahead_step : {rs' : List Range} (k' last : ℕ) → k ≤ n → k ≤ last → k' ≤ last + 1 → ((m : ℕ) → cover (suc m) v firsts k n rs ≡ cover m v firsts (last + 1) n rs') → ((j : ℕ) → k' ≤ j → j ≤ last → j ≤ n → find (covers j) rs' ≡ None → ⊥) → a.next ≡ k → Ahead v firsts n k' rs' after
-  ahead_step k' last le upto low step again e =
-      let enough = a.enough in
-      let some : a.steps ≡ suc (a.steps - 1) = omega arith in
-      let leads = sym (step (a.steps - 1)) ∙ transport (λ i. cover (some i) v firsts (e i) n rs ≡ after) a.leads in
-      record { next = last + 1; steps = a.steps - 1; upto = low; enough = omega arith; between = λ j from high. again j from (omega arith); leads = leads }
+module _ {v : Variable} {firsts : List ℕ} {n k : ℕ} {rs after : List Range} (a : Ahead v firsts n k rs after) (le : k ≤ n) where
+  on : a.next ≡ k → ((r : Range) → find (covers k) rs ≡ Some r → cover (a.steps - 1) v firsts (r.last + 1) n rs ≡ after) × (find (covers k) rs ≡ None → cover (a.steps - 1) v firsts ((new_range v firsts k).last + 1) n (with_range (new_range v firsts k) rs) ≡ after)
+  on e = next_step v firsts n a.steps k rs after le (omega (arith, a.enough)) (rw e at a.leads)
 
-  ahead_has : (r : Range) → k ≤ n → k ≤ r.last → find (covers k) rs ≡ Some r → ((j : ℕ) → k < j → j ≤ r.last → find (covers j) rs ≡ None → ⊥) → Ahead v firsts n (k + 1) rs after
-  ahead_has r le upto found again = elim (cases_eq a.next k) [
-    | inl e ↦ ahead_step (k + 1) r.last le upto (omega arith) (λ m. rw found at (cover_step v firsts n m k rs le)) (λ j low high small. again j (omega arith) high) e
+  ahead_has : (r : Range) → k ≤ r.last → find (covers k) rs ≡ Some r → ((j : ℕ) → k < j → j ≤ r.last → find (covers j) rs ≡ None → ⊥) → Ahead v firsts n (k + 1) rs after
+  ahead_has r upto found again = elim (cases_eq a.next k) [
+    | inl e ↦ record { next = r.last + 1; steps = a.steps - 1; upto = omega arith; enough = omega (arith, a.enough); between = λ j low high small. again j (omega arith) (omega arith); leads = (on e).0 r found }
     | inr ne ↦ record { next = a.next; steps = a.steps; upto = omega (arith, a.upto); enough = a.enough; between = λ j low. a.between j (omega arith); leads = a.leads }
   ]
 
   -- the next one is the first behind the new block, or that behind the last
-  ahead_new : k ≤ n → k ≤ (new_range v firsts k).last → find (covers k) rs ≡ None → Ahead v firsts n (min ((new_range v firsts k).last + 1) (n + 1)) (with_range (new_range v firsts k) rs) after
-  ahead_new le upto none = elim (cases_eq a.next k) [
-    | inl e ↦ ahead_step (min ((new_range v firsts k).last + 1) (n + 1)) (new_range v firsts k).last le upto (omega arith) (λ m. rw none at (cover_step v firsts n m k rs le)) (λ j low high small. absurd (omega arith)) e
+  ahead_new : k ≤ (new_range v firsts k).last → find (covers k) rs ≡ None → Ahead v firsts n (min ((new_range v firsts k).last + 1) (n + 1)) (with_range (new_range v firsts k) rs) after
+  ahead_new upto none = elim (cases_eq a.next k) [
+    | inl e ↦ record { next = (new_range v firsts k).last + 1; steps = a.steps - 1; upto = omega arith; enough = omega (arith, a.enough); between = λ j low high small. absurd (omega arith); leads = (on e).1 none }
     | inr ne ↦ absurd (a.between k (omega arith) (omega (arith, a.upto)) le none)
   ]
 
@@ -86,15 +86,10 @@ pub covered_with : (s n : ℕ) (new : Range) (rs : List Range) → covered s n (
 covered_with s n new [] = covered_more s n new []
 covered_with s n new (r ∷ rs) = grind (arith, covered_with s n new rs, covered_more s n new (r ∷ rs), covered_more s n r (with_range new rs), covered_more s n r rs)
 
--- no more of the records from s to n than are there from `low` on
-pub covered_upto : (s n low upto : ℕ) (xs : List Leaf) → Ascending low upto xs → covered s n (of_leaves xs) ≤ (n + 1) - max s low
-covered_upto s n low upto [] a = omega arith
-covered_upto s n low upto (x ∷ xs) a = omega (arith, covered_upto s n (suc x.last) upto xs a.3, covered_more s n (range x.first x.last) (of_leaves xs))
-
--- and one less where one of them is not covered
-pub covered_less : (s n k low upto : ℕ) (xs : List Leaf) → Ascending low upto xs → s ≤ k → low ≤ k → k ≤ n → find (covers k) (of_leaves xs) ≡ None → covered s n (of_leaves xs) + 1 ≤ (n + 1) - max s low
-covered_less s n k low upto [] a sk lk kn e = omega arith
-covered_less s n k low upto (x ∷ xs) a sk lk kn e = grind (arith, nat_tests, covered_upto s n (suc x.last) upto xs a.3, covered_less s n k (suc x.last) upto xs a.3 sk, covered_more s n (range x.first x.last) (of_leaves xs), a.0, a.1)
+-- no more of the records from s to n than are there from `low` on, and one less where one of them is not covered
+covered_most : (s n k low upto : ℕ) (xs : List Leaf) → Ascending low upto xs → (covered s n (of_leaves xs) ≤ (n + 1) - max s low) × (s ≤ k → low ≤ k → k ≤ n → find (covers k) (of_leaves xs) ≡ None → covered s n (of_leaves xs) + 1 ≤ (n + 1) - max s low)
+covered_most s n k low upto [] a = (omega arith, λ sk lk kn e. omega arith)
+covered_most s n k low upto (x ∷ xs) a = grind (arith, nat_tests, covered_most s n k (suc x.last) upto xs a.3, covered_more s n (range x.first x.last) (of_leaves xs), a.0, a.1)
 
 -- ---- the Firsts that are passed
 
@@ -145,15 +140,10 @@ room_enough v nodes c m j q (suc u) some few full passed =
 -- ---- a put under way
 
 pub covering_starts : (v : Variable) (index : Nodes) (n : ℕ) → is_sparse v.sparse ≡ false → InOrder 0 record_number_limit index → Covering v index index n (first_written v n) 0
-covering_starts v index n rule o = record {
-  ordered = o;
-  from = omega arith;
-  ahead = record { next = first_written v n; steps = n + 1 - first_written v n; upto = omega arith; enough = omega arith; between = λ j low high. absurd (omega arith); leads = rw rule refl };
-  nexts = λ m le. refl;
-  as_wide = omega arith;
-  fits = omega arith;
-  counted = λ le. record { records = 0; blocks = 0; records_are = omega arith; blocks_are = omega arith; bytes_are = omega arith };
-}
+covering_starts v index n rule o =
+    let ahead : Ahead v (firsts_of index) n (first_written v n) (ranges_of index) (ranges_after_put v index n) = record { next = first_written v n; steps = n + 1 - first_written v n; upto = omega arith; enough = omega arith; between = λ j low high. absurd (omega arith); leads = rw rule refl } in
+    let counted : first_written v n ≤ n → Counted v index index n (first_written v n) 0 = λ le. record { records = 0; blocks = 0; records_are = omega arith; blocks_are = omega arith; bytes_are = omega arith } in
+    grind (arith, o, ahead, counted)
 
 pub covering_done : {v : Variable} {index index' : Nodes} {n k taken : ℕ} → Covering v index index' n k taken → n < k → ranges_of index' ≡ ranges_after_put v index n
 covering_done {v = v} {index = index} {n = n} c lt = let u = c.ahead.upto in sym (end_step v (firsts_of index) n c.ahead.steps c.ahead.next _ (omega arith)) ∙ c.ahead.leads
@@ -173,16 +163,10 @@ module _ {v : Variable} {index index' : Nodes} {n k taken : ℕ} (c : Covering v
   covering_has l e =
       let is = found_covering k (leaves_of index') l e in
       let rng = λ (leaf : Leaf). range leaf.first leaf.last in
-      record {
-        ordered = c.ordered;
-        from = omega arith;
-        ahead = ahead_has c.ahead (rng l) le is.1.1 (find_range k (leaves_of index') ∙ ap (option_map rng) e) (λ j low high none.
-            let there : find (covers j) (ranges_of index') ≡ Some (rng l) = find_range j (leaves_of index') ∙ ap (option_map rng) (find_covering j 0 (suc record_number_limit) (leaves_of index') ascends l is.0 (omega (arith, is.1.0)) high) in cc);
-        nexts = λ m lm. c.nexts m (omega arith);
-        as_wide = c.as_wide;
-        fits = c.fits;
-        counted = λ more. record { records = so_far.records; blocks = so_far.blocks; records_are = so_far.records_are; blocks_are = omega (arith, so_far.blocks_are, times_le (count_upto k fs) (count_upto (k + 1) fs) (block_count v) (count_more k (k + 1) fs (omega arith))); bytes_are = so_far.bytes_are };
-      }
+      let found = λ (j : ℕ) (e : find (λ (leaf : Leaf). covers j (range leaf.first leaf.last)) (leaves_of index') ≡ Some l). (find_range j (leaves_of index') ∙ ap (option_map rng) e) in
+      let ahead = ahead_has c.ahead le (rng l) is.1.1 (found k e) (λ j low high none. let there = found j (find_covering j 0 (suc record_number_limit) (leaves_of index') ascends l is.0 (omega (arith, is.1.0)) high) in cc) in
+      let counted : Counted v index index' n (k + 1) taken = record { records = so_far.records; blocks = so_far.blocks; records_are = so_far.records_are; blocks_are = omega (arith, so_far.blocks_are, times_le (count_upto k fs) (count_upto (k + 1) fs) (block_count v) (count_more k (k + 1) fs (omega arith))); bytes_are = so_far.bytes_are } in
+      grind (arith, c, ahead, counted)
 
   -- one that has none gets a block that ends here
   abbrev last : ℕ
@@ -197,7 +181,7 @@ module _ {v : Variable} {index index' : Nodes} {n k taken : ℕ} (c : Covering v
 
     -- of those that had no block, one at least has none yet
     one_left : so_far.records + 1 ≤ uncovered v index n
-    one_left = grind (arith, nat_tests, rule, covered_less (first_written v n) n k 0 (suc record_number_limit) (leaves_of index') ascends c.from (omega arith) le none, so_far.records_are)
+    one_left = grind (arith, nat_tests, rule, (covered_most (first_written v n) n k 0 (suc record_number_limit) (leaves_of index') ascends).1 c.from (omega arith) le none, so_far.records_are)
 
     in_room : (so_far.records + (last + 1 - k)) * record_length v + suc so_far.blocks * (28 + vxr_bytes (widest index)) ≤ put_room v index n
     in_room = omega (arith, room_enough v index so_far.records (last + 1 - k) so_far.blocks (count_upto k fs) (uncovered v index n) one_left covering_ends.2 so_far.blocks_are (omega (arith, count_most k fs, firsts_count index)))

@@ -1,14 +1,22 @@
 -- One image goes on to another: what the descriptor says by then, that an edit of one variable is such a step, and that two steps are one.
-use Rattle.cdf_puts.proofs.Common.{Act, ActsFollow, DataSet, Field, GoesOn, Good, HasShape, In, IndexEdit, IsOther, IsSound, Kept, Kind, List, ListedStay, LooseStay, Mark, Nodes, Only, OnlyTakes, OutsideFields, OwnEdit, Shape, StandsAmong, Stays, Stood, Touch, Variable, VariableShape, VdrStays, WritesRecords, [], acts_joined, after_ours, all_variable_records, among_now, ap, arith, cdr_kept, cdr_type, content, content_replaced, either, false, false-is_in, fits, flat_map, gdr_keeps, good_is_sound, good_now, image_limit, index_edit, inl, inr, is_a-in, is_in, is_taken, keeps_stood, kept_away, kind_ours, length, linkable-in, linkable-type, listed_before, long, nat_le, nat_lt, no_acts_follow, none_of_both, only, other_kind, others_are, ours, own_edit, own_rules, put_fields, r_max_rec_field, record_alike, record_bytes, records_are, refl, shape, shapes_of, size_at, slice_set, space_fields, splices, stays_alike, stood, subst, suc, sym, tile, tile_lies, transport, true-is_in, type_at, uir_next_uir, uir_prev_uir, uir_type, unused_stands, variable_of, variable_records, variables_in, variables_of, vdr_size, with_variables, zero, ℕ, ◌&&◌, ◌++◌, ◌+◌, ◌<◌, ◌∙◌, ◌∷◌, ◌≡◌, ◌≤◌}
+use Rattle.cdf_puts.proofs.Common.{Act, ActsFollow, DataSet, Field, GoesOn, Good, HasShape, In, IndexEdit, IsOther, IsSound, Kept, Kind, List, ListedStay, LooseStay, Mark, Nodes, Only, OnlyTakes, OutsideFields, OwnEdit, Some, StandsAmong, Stays, Stood, Touch, Variable, VariableShape, VdrStays, WritesRecords, [], acts_joined, after_ours, all_variable_records, among_now, ap, arith, cdr_kept, cdr_type, content, content_is, content_replaced, either, false-is_in, fits, flat_map, gdr_keeps, good_is_sound, good_now, image_limit, index_edit, inl, inr, is_a-in, is_in, keeps_stood, kept_away, kind_ours, length, linkable-in, linkable-type, listed_before, long, nat_le, nat_lt, no_acts_follow, none_of_both, only, other_kind, others_are, ours, own_edit, own_rules, put_fields, r_max_rec_field, record_alike, record_bytes, records_are, refl, shape, shapes_of, size_at, slice_get, slice_set, space_fields, splices, stays_alike, stood, subst, sym, tile, tile_lies, true-is_in, type_at, uir_next_uir, uir_prev_uir, uir_type, unused_stands, variable_of, variable_records, variables_in, variables_of, variables_of_are, vdr_size, with_variables, ℕ, ◌&&◌, ◌++◌, ◌+◌, ◌<◌, ◌∙◌, ◌∷◌, ◌≡◌, ◌≤◌}
+use Rattle.std.proofs.lemmas.List.{set-set}
+use Rattle.cdf_edits.proofs.Edits.Common.{all_attributes_in, attributes_kept, got-map, got-middle, stays_bytes, stays_then, type_stays}
 use Rattle.cdf_edits.proofs.Edits.IndexEdited as of_index
 use Rattle.cdf_edits.proofs.Edits.OwnEdited.{same_shape}
-use Rattle.cdf_edits.proofs.Edits.VariableKeeps.{stays_then, type_stays, stays_bytes}
 use Rattle.cdf_edits.proofs.Edits.RecordGrown.{kept_then}
-use Rattle.cdf_edits.proofs.Edits.OwnedOnce.{all_attributes_in}
-use Rattle.cdf_edits.proofs.Edits.VariableSplice.{attributes_kept}
 
 abbrev pub links : List Field
 links = uir_next_uir ∷ uir_prev_uir ∷ []
+
+-- ---- the variable among those of its kind
+
+module _ {b : List ℕ} {kind : Kind} {before : List VariableShape} {own : VariableShape} {after : List VariableShape} (good : Good b) (at : StandsAmong b kind before own after) where
+  pub own_there : slice_get (shapes_of (shape b) kind) (length before) ≡ Some own
+  own_there = rw at.was (got-middle before own after)
+
+  pub variable_there : slice_get (variables_of (content b) kind) (length before) ≡ Some (variable_of b own)
+  variable_there = rw (content_is b (shape b) (good_is_sound b good).has_shape, variables_of_are) (got-map (variable_of b) (shapes_of (shape b) kind) (length before) own own_there)
 
 -- ---- the descriptor
 
@@ -16,18 +24,14 @@ module _ {b now : List ℕ} {kind : Kind} {before : List VariableShape} {own : V
   pub stays : Stays b now own.vdr put_fields → VdrStays b now own.vdr
   stays d =
       let n = long good at in
-      record {
-        typed = type_stays b now own.vdr put_fields d (omega arith) (λ i lt. grind arith);
-        type = stays_bytes d 20 24 (omega arith) (λ i low high. grind arith);
-        behind = stays_bytes d 44 (size_at b own.vdr) (omega arith) (λ i low high. grind arith);
-        inside = (tile_lies b 8 (length b) (shape b).records own.vdr (good_is_sound b good).has_shape.tiled (tile good at)).high;
-        end = (fits good at).0;
-      }
+      let typed = type_stays b now own.vdr put_fields d (omega arith) (λ i lt. grind arith) in
+      let type = stays_bytes d 20 24 (omega arith) (λ i low high. grind arith) in
+      let behind = stays_bytes d 44 (size_at b own.vdr) (omega arith) (λ i low high. grind arith) in
+      search (typed, type, behind, (tile_lies b 8 (length b) (shape b).records own.vdr (good_is_sound b good).has_shape.tiled (tile good at)).high, (fits good at).0)
 
-  module _ {own' : VariableShape} {acts : List Act} (goes : GoesOn b now kind before own own' after acts) where
-    -- the same, of the variable with its later index
-    pub later_size : record_bytes now own'.vdr ≡ record_bytes b own.vdr
-    later_size = ap (record_bytes now) goes.vdr_is ∙ record_alike goes.file (stays_alike goes.file (stays goes.descriptor))
+  -- the same, of the variable with its later index
+  pub later_size : {own' : VariableShape} {acts : List Act} → GoesOn b now kind before own own' after acts → record_bytes now own'.vdr ≡ record_bytes b own.vdr
+  later_size goes = ap (record_bytes now) goes.vdr_is ∙ record_alike goes.file (stays_alike goes.file (stays goes.descriptor))
 
 -- ---- an edit of one variable goes on
 
@@ -52,26 +56,10 @@ module _ {b now : List ℕ} {kind : Kind} {before : List VariableShape} {own : V
   other m (inr (inr (inr (inr i)))) = beside (shapes_of (shape b) (other_kind kind)) (kind_ours b (shape b) sound (other_kind kind)).sub (λ m i. (only good at y m i).in_others) m i
 
   pub goes_by : {acts : List Act} → Good now → ActsFollow b now acts → Stays b now (shape b).gdr (r_max_rec_field kind ++ space_fields) → ListedStay b now acts → LooseStay b now → GoesOn b now kind before own (record own { index = index }) after acts
-  goes_by still follow gdr listed loose = record {
-    good = still;
-    among = among_now good at y;
-    vdr_is = refl;
-    gdr_is = ap (λ (x : Shape). x.gdr) (same_shape good at y);
-    attributes_are = ap (λ (x : Shape). x.attributes) (same_shape good at y);
-    others_are = others_are good at y;
-    file = of_index.file good at x;
-    content_is = content_replaced good at y;
-    follow = follow;
-    gdr = gdr;
-    descriptor = record {
-      stands = subst (In own.vdr) (sym (records_are good at y)) (x.edit.sub own.vdr (tile good at));
-      size_is = vdr_size good at x;
-      same = λ n lt out. (of_index.part good at x n (n + 1) (grind (arith, out)) (omega arith)).each (own.vdr + n) (omega arith) (omega arith);
-    };
-    stay = other;
-    listed = listed;
-    loose = loose;
-  }
+  goes_by still follow gdr listed loose =
+      let outside = λ (n : ℕ) (lt : n < size_at b own.vdr) (out : OutsideFields put_fields n). (of_index.part good at x n (n + 1) (grind (arith, out)) (omega arith)).each (own.vdr + n) (omega arith) (omega arith) in
+      let there = x.edit.sub own.vdr (tile good at) in
+      search (arith, among_now good at y, same_shape good at y, others_are good at y, of_index.file good at x, content_replaced good at y, other, vdr_size good at x)
 
 -- records are written where they stand
 pub goes_written : {b now : List ℕ} {kind : Kind} {before : List VariableShape} {own : VariableShape} {after : List VariableShape} {ts : List Touch} (good : Good b) (at : StandsAmong b kind before own after) → WritesRecords b now kind own ts → length b ≤ image_limit → GoesOn b now kind before own own after []
@@ -88,17 +76,12 @@ writes_nothing good at = record { changed = record { longer = omega arith; same 
 
 -- ---- two steps are one
 
-set_twice : {A : Type 0} (xs : List A) (n : ℕ) (x y : A) → slice_set (slice_set xs n x) n y ≡ slice_set xs n y
-set_twice [] n x y = refl
-set_twice (z ∷ zs) zero x y = refl
-set_twice (z ∷ zs) (suc n) x y = ap (λ ws. z ∷ ws) (set_twice zs n x y)
-
 -- in a data set a variable is another, and then another again
 abbrev with_set : DataSet → Kind → ℕ → Variable → DataSet
 with_set d kind n v = with_variables d kind (slice_set (variables_of d kind) n v)
 
 with_twice : (d : DataSet) (kind : Kind) (n : ℕ) (v v' : Variable) → with_set (with_set d kind n v) kind n v' ≡ with_set d kind n v'
-with_twice d kind n v v' = grind (arith, set_twice d.r_variables n v v', set_twice d.z_variables n v v')
+with_twice d kind n v v' = grind (arith, set-set)
 
 module _ {b mid now : List ℕ} {kind : Kind} {before : List VariableShape} {own own' own'' : VariableShape} {after : List VariableShape} {acts acts' : List Act} (good : Good b) (at : StandsAmong b kind before own after) (first : GoesOn b mid kind before own own' after acts) (second : GoesOn mid now kind before own' own'' after acts') (takes : OnlyTakes acts) (takes' : OnlyTakes acts') where
   h : HasShape b (shape b)
@@ -122,34 +105,16 @@ module _ {b mid now : List ℕ} {kind : Kind} {before : List VariableShape} {own
   listed_then : ListedStay b now (acts ++ acts')
   listed_then m j free =
       let ok = h.unused_chain.linkable m j in
-      let i = linkable-in b (shape b).records uir_type m ok in
       let none = none_of_both (λ (take : ℕ × ℕ). nat_le m take.0 && nat_lt take.0 (m + size_at b m)) acts acts' free in
       let x = first.listed m j none.0 in
-      let later : is_taken mid acts' m ≡ false = rw x.size_is none.1 in
-      elim (either (is_in m (shape mid).unused)) [
-        | inl e ↦ twice m links x (second.listed m (true-is_in m (shape mid).unused e) later)
-        | inr e ↦
-            let typed = type_later m links i (linkable-type b (shape b).records uir_type m ok) x (λ n l. (inl (omega arith), (inl (omega arith), tt))) in
-            stays_then b mid now m links [] links x (second.loose m x.stands typed (false-is_in m (shape mid).unused e)) (λ n o. (o, tt))
-      ]
+      let typed = type_later m links (linkable-in b (shape b).records uir_type m ok) (linkable-type b (shape b).records uir_type m ok) x (λ n l. (inl (omega arith), (inl (omega arith), tt))) in
+      let kept = λ (e : In m (shape mid).unused). twice m links x (second.listed m e (rw x.size_is none.1)) in
+      let freed = λ (out : In m (shape mid).unused → ⊥). stays_then b mid now m links [] links x (second.loose m x.stands typed out) (λ n o. (o, tt)) in
+      grind (arith, kept, freed, either (is_in m (shape mid).unused), true-is_in m (shape mid).unused, false-is_in m (shape mid).unused)
+
+  stay_then : (m : ℕ) → IsOther (shape b).attributes before after (shapes_of (shape b) (other_kind kind)) m → Stood b now m
+  stay_then m i = search (kept_then b mid now m (first.stay m i).whole, second.stay m (rw (first.attributes_are, first.others_are) i))
 
   pub goes_then : GoesOn b now kind before own own'' after (acts ++ acts')
-  goes_then = record {
-    good = second.good;
-    among = second.among;
-    vdr_is = second.vdr_is ∙ first.vdr_is;
-    gdr_is = second.gdr_is ∙ first.gdr_is;
-    attributes_are = second.attributes_are ∙ first.attributes_are;
-    others_are = second.others_are ∙ first.others_are;
-    file = grind (arith, first.file, second.file);
-    content_is = second.content_is ∙ ap (λ (d : DataSet). with_set d kind (length before) (variable_of now own'')) first.content_is ∙ with_twice (content b) kind (length before) (variable_of mid own') (variable_of now own'');
-    follow = acts_joined h h' first.follow second.follow takes takes' first.listed second.listed;
-    gdr = twice (shape b).gdr (r_max_rec_field kind ++ space_fields) first.gdr (subst (λ (m : ℕ). Stays mid now m (r_max_rec_field kind ++ space_fields)) first.gdr_is second.gdr);
-    descriptor = twice own.vdr put_fields first.descriptor (subst (λ (m : ℕ). Stays mid now m put_fields) first.vdr_is second.descriptor);
-    stay = λ m i.
-        let x = first.stay m i in
-        let y = second.stay m (transport (λ k. IsOther ((sym first.attributes_are) k) before after ((sym first.others_are) k) m) i) in
-        record { stands = y.stands; whole = kept_then b mid now m x.whole y.whole };
-    listed = listed_then;
-    loose = loose_then;
-  }
+  goes_then =
+      search (arith, first, second, ← first.gdr_is, ← first.vdr_is, stay_then, listed_then, loose_then, acts_joined h h' first.follow second.follow takes takes' first.listed second.listed, twice, with_twice (content b) kind (length before) (variable_of mid own') (variable_of now own''))

@@ -1,5 +1,5 @@
 -- A leaf is added while records are put: the blocks of the variable, which leaves were put by then, which ranges are new, the top chain and the nodes.
-use Rattle.cdf_puts.proofs.Common.{Act, Ascending, BlockRecords, BlocksSoFar, Bool, Good, InOrder, IndexSoFar, IsBlockBody, IsOneOf, IsVacant, Kind, Leaf, LeafAdded, List, NewBlock, NodeTaken, Nodes, NodesSoFar, None, PutsBefore, Range, Same, SoFar, Some, StandsAmong, VariableShape, [], ap, apart, arith, before_limit, behind_in, block_behind, block_need, bytes_eq, bytes_eq-same, cases_lt, count_is, covers, drop, extent, false, filled, filter, find, find_covering, first_written, firsts_of, fold-append, has, if◌then◌else◌, in_order, index_order, indexes_with, inl, inr, is_in, is_in-true, is_taken_at, last_node, last_or, leaf, leaf_acts, leaves_ascend, leaves_more, leaves_of, length, list_any, max_rec_at, min, nat_tests, new_range, new_ranges, new_room, node_behind, nodes_of, number, of_each, or_from, or_left, or_right, outline, own_rules, place_in, plain_bytes, plain_piece, range, ranges_of, record_alike, record_bytes, record_number_limit, refl, room, same_Some, shape, size_at, sound, subst, suc, sym, take, taken_places, tile_lies, top_chain, true, true≢false, uir_type, unwrap_or, uses_entry, variable_of, vdr_alike, vdr_vxr_tail, vvr_type, was_put, with_leaf, with_new, with_ranges, zero, ℕ, ◌*◌, ◌++◌, ◌+◌, ◌-◌, ◌<◌, ◌||◌, ◌∙◌, ◌∷◌, ◌≡◌, ◌≤◌, ◌⊎◌}
+use Rattle.cdf_puts.proofs.Common.{Act, Ascending, BlockRecords, BlocksSoFar, Bool, Good, InOrder, IndexSoFar, IsBlockBody, IsOneOf, IsVacant, Kind, Leaf, LeafAdded, List, NewBlock, NodeTaken, Nodes, NodesSoFar, None, PutsBefore, Range, Same, SoFar, Some, StandsAmong, VariableShape, [], ap, apart, arith, before_limit, behind_in, block_behind, block_need, bytes_eq, bytes_eq-same, cases_lt, count_is, covers, drop, extent, false, filled, filter, find, find_covering, first_written, firsts_of, fold-append, has, if◌then◌else◌, in_order, index_order, indexes_with, inl, inr, is_in-true, is_taken_at, last_node, last_or, leaf, leaf_acts, leaves_ascend, leaves_more, leaves_of, length, list_any, max_rec_at, min, nat_tests, new_range, new_ranges, new_room, node_behind, nodes_of, number, of_each, or_from, or_left, or_right, outline, own_rules, place_in, plain_bytes, plain_piece, range, ranges_of, record_alike, record_bytes, record_number_limit, refl, room, same_Some, shape, size_at, sound, subst, suc, sym, take, taken_places, tile_lies, top_chain, true, true≢false, uir_type, unwrap_or, uses_entry, variable_of, vdr_alike, vdr_vxr_tail, vvr_type, was_put, with_leaf, with_new, with_ranges, zero, ℕ, ◌*◌, ◌++◌, ◌+◌, ◌-◌, ◌<◌, ◌||◌, ◌∙◌, ◌∷◌, ◌≡◌, ◌≤◌, ◌⊎◌, byte, record_of, rules, In}
 use Rattle.cdf_puts.proofs.CoveringRanges.{of_leaves}
 use Rattle.cdf_puts.proofs.LeafCounts.{one_of_leaves}
 use Rattle.cdf_puts.proofs.LeafEdit.{blocks_go_on, body_long, file, new_index, node_taken, nodes_step, used_apart}
@@ -24,11 +24,11 @@ last_of xs = unwrap_or (last_or None xs) 0
 tail_then : (x y z : List ℕ) (first mid last : ℕ) → (y ≡ x) ⊎ (length x < length y) → (z ≡ y) ⊎ (length y < length z) → mid ≡ (if bytes_eq x y then first else last_of y) → last ≡ (if bytes_eq y z then mid else last_of z) → last ≡ (if bytes_eq x z then first else last_of z)
 tail_then x y z first mid last f g p q = grind (arith, f, g, bytes_longer x y, bytes_longer x z, bytes_longer y z, bytes_eq-same x, bytes_eq-same y)
 
+outside_by : (acts acts' : List Act) (at room : ℕ) → (room ≡ 0 → at ≡ 0) → (1 ≤ room → is_taken_at acts' at ≡ true) → place_outside (taken_places (acts ++ acts')) at ≡ 0
+outside_by acts acts' at room none some = grind (arith, none, some, taken_both acts acts' at)
+
 top_then : (x y z : List ℕ) → (y ≡ x) ⊎ (length x < length y) → (z ≡ y) ⊎ (length y < length z) → (z ≡ x) ⊎ (length x < length z)
 top_then x y z f g = grind (arith, f, g)
-
-outside_zero : (news : List ℕ) (x : ℕ) → (is_in x news ≡ true) ⊎ (x ≡ 0) → place_outside news x ≡ 0
-outside_zero news x side = grind (arith, side)
 
 no_node_zero : (filled roomy : List ℕ) (room at : ℕ) → NodeTaken filled roomy room at → room ≡ 0 → at ≡ 0
 no_node_zero filled roomy zero at t e = t.1
@@ -92,14 +92,12 @@ module _ {b now now' : List ℕ} {kind : Kind} {before : List VariableShape} {ow
   plain_is = ap (λ (n : ℕ). take n (drop (place + 12) now')) ((λ i. (count_is new small vacant.ordered) i * size_after i) ∙ sym says.as_long) ∙ (blocks_go_on so.goes.good so.goes.among w holds).records_are
 
   new_block : NewBlock now' raw pad r k (extent (max_rec_at b own.vdr)) upto (record_bytes b own.vdr) step new
-  new_block = record {
-    from = omega arith;
-    ends = omega arith;
-    alone = grind (arith, nat_tests, is);
-    was_taken = is_in-true place (taken_places step) (inl refl);
-    written = λ j f t. sym (plain_piece now' own'.vdr (record_bytes b own.vdr) j new refl small size_after f t) ∙ ap (λ (xs : List ℕ). take (record_bytes b own.vdr) (drop ((j - k) * (record_bytes b own.vdr)) xs)) plain_is ∙ says.written j f t;
-    spare = λ i low high. (blocks_go_on so.goes.good so.goes.among w holds).spare i (subst (λ (n : ℕ). 12 + n ≤ i) (sym says.as_long) low) high;
-  }
+  new_block =
+      let written : (j : ℕ) → k ≤ j → j ≤ last → take (record_bytes b own.vdr) (drop (place + (12 + (j - k) * record_bytes b own.vdr)) now') ≡ record_of raw pad r j =
+      λ j f t. sym (plain_piece now' own'.vdr (record_bytes b own.vdr) j new refl small size_after f t) ∙ ap (λ (xs : List ℕ). take (record_bytes b own.vdr) (drop ((j - k) * (record_bytes b own.vdr)) xs)) plain_is ∙ says.written j f t in
+      let spare = λ (i : ℕ). subst (λ (n : ℕ). 12 + n ≤ i → i < size_at now' place → byte now' (place + i) ≡ 0) says.as_long ((blocks_go_on so.goes.good so.goes.among w holds).spare i) in
+      let alone : min last (extent (max_rec_at b own.vdr)) ≤ r = grind (arith, nat_tests, is) in
+      grind (arith, alone, is_in-true place (taken_places step) (inl refl), written, spare)
 
   pub blocks_added : BlocksSoFar b now' own own'' raw pad r first upto (acts ++ step) []
   blocks_added = blocks_then so (omega (arith, vacant.ordered)) (omega arith) refl (record {
@@ -152,10 +150,7 @@ module _ {b now now' : List ℕ} {kind : Kind} {before : List VariableShape} {ow
 
   -- a node that is taken stands at a new place, and else none does
   outside : place_outside (taken_places (acts ++ step)) at ≡ 0
-  outside = outside_zero (taken_places (acts ++ step)) at (elim (cases_lt 0 (new_room k own'.index)) [
-    | inl some ↦ inl (taken_both acts step at ∙ or_right _ _ (node_taken place (8 + length body) (new_room k own'.index) at some))
-    | inr none ↦ inr (no_node_zero w.filled w.roomy (new_room k own'.index) at w.node (omega arith))
-  ])
+  outside = outside_by acts step at (new_room k own'.index) (no_node_zero w.filled w.roomy (new_room k own'.index) at w.node) (node_taken place (8 + length body) (new_room k own'.index) at)
 
   nodes_added : NodesSoFar b now' own own'' (rs ++ range k last ∷ []) (acts ++ step)
   nodes_added = record {
@@ -173,11 +168,10 @@ module _ {b now now' : List ℕ} {kind : Kind} {before : List VariableShape} {ow
   }
 
   pub index_added : IndexSoFar b now' own own'' first upto (acts ++ step)
-  index_added = record {
-    puts = puts_added;
-    tail = tail_then (top_chain own.index) (top_chain own'.index) (top_chain own''.index) (number b own.vdr vdr_vxr_tail) (number now own.vdr vdr_vxr_tail) (number now' own.vdr vdr_vxr_tail) so.index.top (top_grows new at own'.index) so.index.tail
-        (subst (λ (v : ℕ). number now' v vdr_vxr_tail ≡ (if bytes_eq (top_chain own'.index) (top_chain own''.index) then number now v vdr_vxr_tail else last_node own''.index)) so.goes.vdr_is w.tail);
-    top = top_then (top_chain own.index) (top_chain own'.index) (top_chain own''.index) so.index.top (top_grows new at own'.index);
-    tops = λ m i. top_kept new at own'.index m (so.index.tops m i);
-    nodes = subst (λ (xs : List Range). NodesSoFar b now' own own'' xs (acts ++ step)) (sym one_new) nodes_added;
-  }
+  index_added =
+      let top = top_grows new at own'.index in
+      let tail = subst (λ (v : ℕ). number now' v vdr_vxr_tail ≡ (if bytes_eq (top_chain own'.index) (top_chain own''.index) then number now v vdr_vxr_tail else last_node own''.index)) so.goes.vdr_is w.tail in
+      let tail' = tail_then (top_chain own.index) (top_chain own'.index) (top_chain own''.index) (number b own.vdr vdr_vxr_tail) (number now own.vdr vdr_vxr_tail) (number now' own.vdr vdr_vxr_tail) so.index.top top so.index.tail tail in
+      let top' = top_then (top_chain own.index) (top_chain own'.index) (top_chain own''.index) so.index.top top in
+      let tops = λ (m : ℕ) (i : In m (top_chain own.index)). top_kept new at own'.index m (so.index.tops m i) in
+      search (rules, puts_added, tail', top', tops, subst (λ (xs : List Range). NodesSoFar b now' own own'' xs (acts ++ step)) (sym one_new) nodes_added)

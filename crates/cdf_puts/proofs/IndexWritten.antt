@@ -1,5 +1,5 @@
 -- A record is written in a block: the record holds its bytes, no other byte changes, and the index stays; of the leaves that were put the one of the record is the last by then.
-use Rattle.cdf_puts.proofs.Common.{Act, BlocksSoFar, Changed, Each-in, Good, HasShape, In, IndexSoFar, IsOneOf, Kind, Leaf, LeavesGoOn, List, NodeFits, NodesSoFar, OldBlock, Outside-append, PutsBefore, RecordIs, RecordsWritten, Same, SoFar, StandsAmong, Touch, VariableShape, WritesRecords, [], ap, apart, append-nil, arith, behind_in, block_behind, block_kept, byte, cases_eq, cast_signed, changed_part, drop, either, extent, file, filter, find_covering, find_first, first_written, fits, gdr_in, gdr_long, gdr_r_max_rec, gdr_type, gdr_typed, inl, inr, integer4, is_max_rec, leaves_apart, leaves_ascend, leaves_of, length, length-put, long, max_rec_at, max_rec_touches, new_ranges, no_block, node_kept, nodes_of, number, one_place, own_rules, part, place_in, places_of, r_max_rec, ranges_of, record_bytes, record_number_limit, record_of, record_place, refl, same_Some, shape, size_at, size_kept, sound, subst, suc, sym, take, tile, touch, type_at, variable_of, vdr_max_rec, vdr_vxr_tail, vvr_type, w32, was_put, word_kept, ℕ, ◌*◌, ◌+◌, ◌-◌, ◌<◌, ◌∙◌, ◌∷◌, ◌≡◌, ◌≢◌, ◌≤◌, ◌⊎◌}
+use Rattle.cdf_puts.proofs.Common.{Act, BlocksSoFar, Changed, Each-in, Good, HasShape, In, IndexSoFar, IsOneOf, Kind, Leaf, LeavesGoOn, List, NodeFits, NodesSoFar, OldBlock, Outside-append, PutsBefore, RecordIs, RecordsWritten, Same, SoFar, StandsAmong, Touch, VariableShape, WritesRecords, [], ap, apart, append-nil, arith, behind_in, block_behind, block_kept, byte, cases_eq, cast_signed, changed_part, drop, either, extent, file, filter, find_covering, find_first, first_written, fits, gdr_in, gdr_long, gdr_r_max_rec, gdr_type, gdr_typed, inl, inr, integer4, is_max_rec, leaves_apart, leaves_ascend, leaves_of, length, length-put, long, max_rec_at, max_rec_touches, new_ranges, no_block, node_kept, nodes_of, number, one_place, own_rules, part, place_in, places_of, r_max_rec, ranges_of, record_bytes, record_number_limit, record_of, record_place, refl, same_Some, shape, size_at, size_kept, sound, subst, suc, sym, take, tile, touch, type_at, variable_of, vdr_max_rec, vdr_vxr_tail, vvr_type, w32, was_put, word_kept, ℕ, ◌*◌, ◌+◌, ◌-◌, ◌<◌, ◌∙◌, ◌∷◌, ◌≡◌, ◌≢◌, ◌≤◌, ◌⊎◌, ◌++◌, rules, Beside, Outside, is_taken_at, false, NewBlock}
 use Rattle.cdf_edits.proofs.Frame.ChangedBytes.{changed_put}
 use Rattle.cdf_puts.proofs.PutBytes.{Whole, blocks_then, found_covering, put_there, size_now, whole}
 use Rattle.cdf_puts.proofs.SoFarStarts.{put_next, puts_old}
@@ -42,12 +42,9 @@ module _ {b now : List ℕ} {kind : Kind} {before : List VariableShape} {own : V
   max_rec_kept = word_kept b now (own.vdr + 24) (own.vdr + 28) (stays own.vdr 24 28 (tile good at) (λ e. no_block good at (subst (λ (x : ℕ). In x (places_of leaves)) (sym e) block)) (let n = long good at in omega arith)) (own.vdr + 24) 4 (omega arith) (omega arith)
 
   pub writes : WritesRecords b now kind own ts
-  writes = record {
-    changed = record { longer = changed_here.longer; same = λ place lt out. changed_here.same place lt (Outside-append (max_rec_touches b kind own.vdr) ts place out).1 };
-    as_long = ap length w.written ∙ length-put b (record_place l size k) bytes (omega (arith, fits_in, here.inside));
-    in_blocks = (record { block = block; typed = here.leaf.typed; later = omega arith; fits = fits_in }, tt);
-    max_rec_ruled = ap is_max_rec max_rec_kept ∙ (own_rules good at).0.1.1.1.1.1.1.1.0;
-  }
+  writes =
+      let changed : Changed b now (max_rec_touches b kind own.vdr ++ ts) = record { longer = changed_here.longer; same = λ place lt out. changed_here.same place lt (Outside-append (max_rec_touches b kind own.vdr) ts place out).1 } in
+      search (rules, changed, ap length w.written ∙ length-put b (record_place l size k) bytes (omega (arith, fits_in, here.inside)), block, here.leaf.typed, fits_in, ap is_max_rec max_rec_kept ∙ (own_rules good at).0.1.1.1.1.1.1.1.0)
 
   pub r_max_rec_stays : r_max_rec now ≡ r_max_rec b
   r_max_rec_stays =
@@ -77,15 +74,12 @@ module _ {b now : List ℕ} {kind : Kind} {before : List VariableShape} {own : V
     ]
 
     pub leaves_written : {most : ℕ} → LeavesGoOn b now leaves leaves raw pad r k most (k + 1) size [] []
-    leaves_written = record {
-      longer = changed_here.longer;
-      stay = λ l' i. i;
-      apart = λ l' i. refl;
-      old = each_block;
-      new = λ l' i. inl i;
-      has = λ j from upto. (l, ((found_leaf w).0, (omega (arith, (found_leaf w).1.0), omega (arith, (found_leaf w).1.1))));
-      quiet = λ none p lt out side. beside as_long p lt (side l (found_leaf w).0 k (omega arith) (omega arith) (found_leaf w).1.0 (found_leaf w).1.1);
-    }
+    leaves_written {most} =
+        let here = found_leaf w in
+        let new : (l : Leaf) → IsOneOf leaves l → IsOneOf leaves l ⊎ NewBlock now raw pad r k most (k + 1) size [] l = λ l i. inl i in
+        let has : (j : ℕ) → k ≤ j → j < k + 1 → (l : Leaf) × (IsOneOf leaves l × ((l.first ≤ j) × (j ≤ l.last))) = λ j from upto. (l, (here.0, (omega (arith, here.1.0), omega (arith, here.1.1)))) in
+        let quiet = λ (none : (m : ℕ) → is_taken_at [] m ≡ false) (p : ℕ) (lt : p < length b) (out : Outside [] p) (side : (l : Leaf) → IsOneOf leaves l → Beside k (k + 1) size l p). beside as_long p lt (side l here.0 k (omega arith) (omega arith) here.1.0 here.1.1) in
+        search (rules, changed_here.longer, each_block, new, has, quiet)
 
 -- ---- while records are put
 
@@ -98,14 +92,9 @@ module _ {b now now' : List ℕ} {kind : Kind} {before : List VariableShape} {ow
   nodes_still =
       let n = so.index.nodes in
       let kept = node_kept so.goes.good so.goes.among w in
-      record {
-        stay = n.stay;
-        apart = n.apart;
-        come = n.come;
-        sizes = λ m i. let k = kept m (n.stay m i) in size_kept now now' m k.same (let l = k.long in omega arith) ∙ n.sizes m i;
-        outlined = n.outlined;
-        follow = nodes_same b now now' _ (nodes_of own.index) (nodes_of own'.index) acts (λ m i. Each-in (NodeFits now) (nodes_of own'.index) (fits so.goes.good so.goes.among).1 m i) kept (λ m j e. n.sizes m (unless_true (n.come m j) e)) n.follow;
-      }
+      let sizes = λ (m : ℕ) (i : In m (nodes_of own.index)). (let k = kept m (n.stay m i) in size_kept now now' m k.same (let l = k.long in omega arith) ∙ n.sizes m i) in
+      let follow = nodes_same b now now' _ (nodes_of own.index) (nodes_of own'.index) acts (λ m i. Each-in (NodeFits now) (nodes_of own'.index) (fits so.goes.good so.goes.among).1 m i) kept (λ m j e. n.sizes m (unless_true (n.come m j) e)) n.follow in
+      search (rules, n, sizes, follow)
 
 module _ {b now now' : List ℕ} {kind : Kind} {before : List VariableShape} {own own' : VariableShape} {after : List VariableShape} {raw pad : List ℕ} {r k : ℕ} {acts : List Act} {l : Leaf} (so : SoFar b now kind before own own' after raw pad r k acts) (more : k ≤ r) (w : RecordsWritten now now' own' l k (record_of raw pad r k)) (as_long : length (record_of raw pad r k) ≡ record_bytes b own.vdr) where
   abbrev first : ℕ
@@ -126,10 +115,6 @@ module _ {b now now' : List ℕ} {kind : Kind} {before : List VariableShape} {ow
       rw next (elim (either (was_put first k l)) [ inl t ↦ rw t so.index.puts | inr t ↦ rw t (puts_old b own own' (filter (was_put first k) now_leaves) acts l so.index.puts (find_first 0 (suc record_number_limit) now_leaves ascend l (found_leaf w).0)) ])
 
   pub index_written : IndexSoFar b now' own own' first (k + 1) acts
-  index_written = record {
-    puts = puts_written;
-    tail = subst (λ (v : ℕ). number now' v vdr_vxr_tail ≡ number now v vdr_vxr_tail) so.goes.vdr_is (tail_still so (writes so.goes.good so.goes.among w)) ∙ so.index.tail;
-    top = so.index.top;
-    tops = so.index.tops;
-    nodes = nodes_still so (writes so.goes.good so.goes.among w);
-  }
+  index_written =
+      let writing = writes so.goes.good so.goes.among w in
+      search (rules, puts_written, subst (λ (v : ℕ). number now' v vdr_vxr_tail ≡ number now v vdr_vxr_tail) so.goes.vdr_is (tail_still so writing) ∙ so.index.tail, so.index, nodes_still so writing)

@@ -1,5 +1,6 @@
 -- Nodes of top chains that are known of the variables of an image, and that they are known yet where records were put.
-use Rattle.cdf_puts.proofs.Common.{Act, Each, Each-append, Each-split, GoesOn, Good, HasIndex, In, InTopChain, IsKnownOf, IsKnownStart, KeepsStart, Kind, KnowsStarts, Leaf, List, Nodes, None, Option, PutsUpTo, R, Some, SomePutting, StandsAmong, TopStays, VariableShape, Z, [], ap, arith, good_by_its_shape, good_is_sound, index_at, inl, inr, length, long, no_node, node, node_known, number, other_kind, refl, shape, shapes_of, sound, subst, sym, tile, tile_lies, variables, vdr_vxr_head, vdrs, with_leaf, ℕ, ◌++◌, ◌+◌, ◌∙◌, ◌∷◌, ◌≡◌, ◌≢◌, ◌≤◌}
+use Rattle.cdf_puts.proofs.Common.{Act, Each, Each-append, Each-split, GoesOn, Good, HasIndex, In, InTopChain, IsKnownOf, IsKnownStart, KeepsStart, Kind, KnowsStarts, Leaf, List, Nodes, None, Option, PutsUpTo, R, Some, SomePutting, StandsAmong, TopStays, VariableShape, Z, [], ap, arith, good_by_its_shape, good_is_sound, index_at, inl, inr, length, long, node_known, number, other_kind, refl, shape, shapes_of, sound, subst, sym, tile, tile_lies, variables, vdr_vxr_head, vdrs, with_leaf, ℕ, ◌++◌, ◌+◌, ◌∙◌, ◌∷◌, ◌≡◌, ◌≢◌, ◌≤◌, Grows, by_leaf, Shape, top_chain}
+use Rattle.cdf_edits.proofs.Edits.VariableKinds.{of_kind}
 use Rattle.cdf_leaves.proofs.Own.{searchable}
 use Rattle.cdf_format.proofs.GoodImageLemmas.{good_image}
 use Rattle.cdf_index.proofs.GoodIndex.{good_index}
@@ -9,9 +10,7 @@ use Rattle.cdf_puts.specs.declared.starts.Starts.{Starts}
 
 -- each node of the top chain of an index is one of it once the index gets a leaf
 pub top_kept : (new : Leaf) (at : ℕ) (index : Nodes) → TopStays index (with_leaf new at index)
-unfolding with_leaf
-top_kept new at no_node m i = absurd i
-top_kept new at (node place room es more) m i = grind (arith, i, top_kept new at more m)
+top_kept new at index m i = let steps : Grows new at (λ n a a'. In m (top_chain a) → In m (top_chain a')) (λ n es es'. Unit {0}) = grind arith in by_leaf steps index i
 
 tops_in : (before after : Nodes) → TopStays before after → (known : Option ℕ) → InTopChain before known → InTopChain after known
 tops_in before after stay None known = tt
@@ -53,8 +52,9 @@ each_at P (v ∷ vs) f = (f [] v vs refl, each_at P vs (λ front own rest e. f (
 one_at : (P : VariableShape → Type 0) (front : List VariableShape) (own : VariableShape) (rest : List VariableShape) {vs : List VariableShape} → vs ≡ front ++ own ∷ rest → Each P vs → P own
 one_at P front own rest e h = (Each-split P front (own ∷ rest) (subst (Each P) e h)).1.0
 
-own_set : (P : VariableShape → Type 0) (before : List VariableShape) (own own' : VariableShape) (after : List VariableShape) {vs ws : List VariableShape} → vs ≡ before ++ own ∷ after → ws ≡ before ++ own' ∷ after → (P own → P own') → Each P vs → Each P ws
-own_set P before own own' after e f step h = let s = Each-split P before (own ∷ after) (subst (Each P) e h) in subst (Each P) (sym f) (Each-append P before (own' ∷ after) s.0 (step s.1.0, s.1.1))
+all_kinds : (P : VariableShape → Type 0) (kind : Kind) (s : Shape) → Each P (shapes_of s kind) → Each P (shapes_of s (other_kind kind)) → Each P (variables s)
+all_kinds P R s own other = Each-append P s.r_variables s.z_variables own other
+all_kinds P Z s own other = Each-append P s.r_variables s.z_variables other own
 
 pub none_known : (b : List ℕ) (starts : Starts) → ((v : ℕ) → node_known starts v ≡ None) → KnowsStarts b starts
 none_known b starts none = record { each = each_at (IsKnownOf starts) (variables (shape b)) (λ front own rest all. rw (none own.vdr) tt) }
@@ -77,14 +77,8 @@ module _ {b : List ℕ} {starts : Starts} (knows : KnowsStarts b starts) where
 
   -- records of one variable are put
   pub starts_go_on : {now : List ℕ} (kind : Kind) {before : List VariableShape} {own own' : VariableShape} {after : List VariableShape} {acts : List Act} → StandsAmong b kind before own after → GoesOn b now kind before own own' after acts → TopStays own.index own'.index → KnowsStarts now starts
-  starts_go_on {now} kind {before} {own} {own'} {after} at goes tops = by kind at.was goes.among.was goes.others_are
-    where
-      later : IsKnownOf starts own → IsKnownOf starts own'
-      later known = subst (λ (v : ℕ). InTopChain own'.index (node_known starts v)) (sym goes.vdr_is) (tops_in own.index own'.index tops (node_known starts own.vdr) known)
-
-      s : Each (IsKnownOf starts) (shape b).r_variables × Each (IsKnownOf starts) (shape b).z_variables
-      s = Each-split (IsKnownOf starts) (shape b).r_variables (shape b).z_variables knows.each
-
-      by : (kind : Kind) → shapes_of (shape b) kind ≡ before ++ own ∷ after → shapes_of (shape now) kind ≡ before ++ own' ∷ after → shapes_of (shape now) (other_kind kind) ≡ shapes_of (shape b) (other_kind kind) → KnowsStarts now starts
-      by R was is others = record { each = Each-append (IsKnownOf starts) (shape now).r_variables (shape now).z_variables (own_set (IsKnownOf starts) before own own' after was is later s.0) (subst (Each (IsKnownOf starts)) (sym others) s.1) }
-      by Z was is others = record { each = Each-append (IsKnownOf starts) (shape now).r_variables (shape now).z_variables (subst (Each (IsKnownOf starts)) (sym others) s.0) (own_set (IsKnownOf starts) before own own' after was is later s.1) }
+  starts_go_on {now} kind {before} {own} {own'} {after} at goes tops =
+      let P = IsKnownOf starts in
+      let s = Each-split P before (own ∷ after) (subst (Each P) at.was (of_kind P kind (shape b) knows.each)) in
+      let later = subst (λ (v : ℕ). InTopChain own'.index (node_known starts v)) (sym goes.vdr_is) (tops_in own.index own'.index tops (node_known starts own.vdr) s.1.0) in
+      record { each = all_kinds P kind (shape now) (subst (Each P) (sym goes.among.was) (Each-append P before (own' ∷ after) s.0 (later, s.1.1))) (subst (Each P) (sym goes.others_are) (of_kind P (other_kind kind) (shape b) knows.each)) }

@@ -1,10 +1,10 @@
 -- What a leaf more makes of the nodes, the Firsts and the leaves of an index, and of how wide its nodes are and which room they have.
-use Rattle.cdf_puts.proofs.Common.{past, Bool, Each, Each-split, Entries, Grows, HasNodes, In, InOrder, IsOneOf, Leaf, List, Names, NodeFits, Nodes, [], ap, append_assoc, arith, block, by_leaf, entry_count, entry_firsts, false, filter, firsts_of, fold, if◌then◌else◌, inl, inr, le-ltb, leaves_more, leaves_of, lower, lower_nodes, max, min, nat_lt, next_first, no_entry, no_node, node, nodes_of, places_of, record_number_limit, room_at, suc, sym, times, times-append, weigh, weigh_below, weight_grows, widest, widest_below, with_both, with_leaf, with_new, zero, ℕ, ◌+◌, ◌==◌, ◌∷◌, ◌≡◌, ◌≤◌, ◌⊎◌, ◌&&◌, nat_tests, In-append, append-nil}
+use Rattle.cdf_puts.proofs.Common.{Bool, Each, Each-split, Entries, Grows, HasNodes, In, InOrder, IsOneOf, Leaf, List, Names, NodeFits, Nodes, [], ap, append_assoc, arith, block, by_leaf, entry_firsts, false, filter, firsts_of, fold, if◌then◌else◌, inl, inr, le-ltb, leaves_more, leaves_of, lower, lower_nodes, max, min, nat_lt, next_first, no_entry, no_node, node, nodes_of, places_of, record_number_limit, room_at, suc, sym, times, times-append, weigh, weigh_below, weight_grows, widest, widest_below, with_both, with_leaf, with_new, zero, ℕ, ◌+◌, ◌==◌, ◌∷◌, ◌≡◌, ◌≤◌, ◌⊎◌, ◌&&◌, nat_tests, In-append, append-nil, leaf}
 use Rattle.std.proofs.lemmas.List.Elements.{filter-append}
 use Rattle.cdf_index.proofs.Measured.{seven_at_least}
 unfoldable use Rattle.cdf_edits.specs.Index.Grown.{new_room, new_room_below}
 use Rattle.cdf_index.proofs.LeafRules.{firsts_both}
-use Rattle.cdf_index.proofs.Saying.{count_both, front, front_past}
+use Rattle.cdf_index.proofs.Saying.{count_both}
 
 -- ---- a node keeps its room
 
@@ -57,24 +57,6 @@ one_of_leaves new at low high index o l = rw (leaves_more new at low high index 
 
 -- ---- how wide the nodes are
 
--- a new node has no more entries than the widest, in each image that is sound
-mutual
-  unfolding new_room new_room_below widest widest_below HasNodes Names nodes_of lower_nodes
-
-  pub new_room_widest : (b records : List ℕ) (levels f : ℕ) (index : Nodes) → HasNodes b records levels index → Each (NodeFits b) (nodes_of index) → new_room f index ≤ widest index
-  new_room_widest b records levels f no_node h fit = omega arith
-  new_room_widest b records zero f (node place room es more) h fit = absurd h
-  new_room_widest b records (suc levels) f (node place room es more) h fit =
-      let p = Each-split (NodeFits b) (lower_nodes es) (nodes_of more) fit.1 in
-      grind (arith, nat_tests, fit.0.1, h.0.used_is, h.0.room_is, count_both (front f es) (past f es), ap entry_count (front_past f es), new_below_widest b records levels f es h.1 p.0, new_room_widest b records (suc levels) f more h.2 p.1, seven_at_least more)
-
-  new_below_widest : (b records : List ℕ) (levels f : ℕ) (es : Entries) → Names b records levels es → Each (NodeFits b) (lower_nodes es) → new_room_below f es ≤ widest_below es
-  new_below_widest b records levels f no_entry h fit = omega arith
-  new_below_widest b records levels f (block first last place packed es) h fit = new_below_widest b records levels f es h.2 fit
-  new_below_widest b records levels f (lower first last nodes es) h fit =
-      let p = Each-split (NodeFits b) (nodes_of nodes) (lower_nodes es) fit in
-      grind (arith, new_room_widest b records levels f nodes h.1 p.0, new_below_widest b records levels f es h.2 p.1)
-
 seven_below : (es : Entries) → 7 ≤ widest_below es
 unfolding widest_below
 seven_below no_entry = omega arith
@@ -91,3 +73,12 @@ widest_both (lower first last nodes es) fs = omega (arith, widest_both es fs)
 pub wide_grows : (new : Leaf) (at : ℕ) → Grows new at (λ n a a'. widest a' ≤ max (widest a) n) (λ n es es'. widest_below es' ≤ max (widest_below es) n)
 unfolding widest widest_below
 wide_grows new at = grind (arith, widest_both, seven_at_least)
+
+-- a new node has no more entries than the widest, in each image that is sound
+room_grows : (b records : List ℕ) (new : Leaf) (at : ℕ)
+    → Grows new at (λ n a a'. (levels : ℕ) → HasNodes b records levels a → Each (NodeFits b) (nodes_of a) → n ≤ widest a) (λ n es es'. (levels : ℕ) → Names b records levels es → Each (NodeFits b) (lower_nodes es) → n ≤ widest_below es)
+unfolding widest widest_below HasNodes Names nodes_of lower_nodes
+room_grows b records new at = grind (arith, nat_tests, Each-split (NodeFits b), count_both, seven_at_least)
+
+pub new_room_widest : (b records : List ℕ) (levels f : ℕ) (index : Nodes) → HasNodes b records levels index → Each (NodeFits b) (nodes_of index) → new_room f index ≤ widest index
+new_room_widest b records levels f index h fit = by_leaf (room_grows b records (leaf f 0 0 false) 0) index levels h fit

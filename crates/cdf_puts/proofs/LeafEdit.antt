@@ -1,5 +1,5 @@
 -- A leaf that is added, as one edit: its block is taken and written, then a node where one is needed, and then the entries are. It leads from one good image to another.
-use Rattle.cdf_puts.proofs.Common.{same_node, acts_still_by, is_block, nodes_rows, used_rows, leaf_rows, index_rows, end_of, NodeTouch, Away, rules, Act, Avoids-append, Away-append, BlocksGoOn, Counts, Each, Each-map, Edit, Entries, Exchanged, FileSame, GoesOn, Good, Hold, Hold-split, In, In-append, In-append_left, In-append_right, IndexTests, IndexTouch, IsBlockBody, IsChain, IsOneOf, IsSound, IsVacant, Kept, Kind, Leaf, LeafAdded, List, Mark, Marked, Misses, NewIndex, NodeStands, NodeTaken, Nodes, Only, R, Same, Same-part, Shape, StandsAmong, Touch, VariableShape, Within-append, Z, [], all_unmarked-away, ap, apart, append-nil, arith, avoided, away-avoids, away-within, before_limit, behind_in, block, block_behind, chain_stays, changed_edit, count_is, drop, drop-drop, drop-take, each, each_of, edit_then, eof, false, field, file_same, firsts_of, flat_map, gdr_eof, gdr_field, gdr_in, gdr_type, gdr_typed, gdr_uir_head, good_is_sound, has, head_size, head_type, if◌then◌else◌, image_limit, in_nodes_with_leaf, index_marks, index_rules, order_with_leaf, index_unmarked, inl, inr, is_in, is_in-false, is_taken_at, keeps_away, keeps_fields, keeps_file, keeps_within, kept, kept_away, leaf_acts, leaves_of, length, linkable-in, linkable-type, long, lower, lower_nodes, max, max_rec_kept, negsuc, new_room, no_entry, no_node, node, node_acts, node_behind, node_room, node_stays, nodes_of, nodes_with_leaf, number, number_before, of_le, own_rules, piece_kept, place_in, placed_grows, pos, r_max_rec, r_max_rec_field, read_types, record_alike, record_bytes, record_number_limit, refl, room_at, same-then, shape, size_at, size_kept, some_bytes, space_fields, subst, suc, sym, take, take-take, the_one, tile, tile_lies, times, times-append, true, type_at, type_in, type_kept, type_of_body, typed, uir_type, unmarked-away, variable_types, variables_chain, vdr_alike, vdr_max_rec, vdr_of_variable, vvr_type, vxr_bytes, vxr_type, with_leaf, with_sign, word, zero, ℕ, ℤ, ◌*◌, ◌++◌, ◌+◌, ◌-◌, ◌<◌, ◌==◌, ◌∙◌, ◌∷◌, ◌≡◌, ◌≢◌, ◌≤◌, taken_places, is_in-true, get_or-drop, get_or-take, places_of, leaves_more, nat_tests, Covered}
+use Rattle.cdf_puts.proofs.Common.{same_node, acts_still_by, is_block, nodes_rows, used_rows, leaf_rows, index_rows, end_of, NodeTouch, Away, rules, Act, Avoids-append, Away-append, BlocksGoOn, Counts, Each, Each-map, Edit, Entries, Exchanged, FileSame, GoesOn, Good, Hold, Hold-split, In, In-append, In-append_left, In-append_right, IndexTests, IndexTouch, IsBlockBody, IsChain, IsOneOf, IsSound, IsVacant, Kept, Kind, Leaf, LeafAdded, List, Mark, Marked, Misses, NewIndex, NodeStands, NodeTaken, Nodes, Only, R, Same, Same-part, Shape, StandsAmong, Touch, VariableShape, Within-append, Z, [], all_unmarked-away, ap, apart, append-nil, arith, avoided, away-avoids, away-within, before_limit, behind_in, block, block_behind, chain_stays, changed_edit, count_is, drop, drop-drop, drop-take, each, each_of, edit_then, eof, false, field, file_same, firsts_of, flat_map, gdr_eof, gdr_field, gdr_in, gdr_type, gdr_typed, gdr_uir_head, good_is_sound, has, head_size, head_type, if◌then◌else◌, image_limit, in_nodes_with_leaf, index_marks, index_rules, order_with_leaf, index_unmarked, inl, inr, is_in, is_in-false, is_taken_at, keeps_away, keeps_fields, keeps_file, keeps_within, kept, kept_away, leaf_acts, leaves_of, length, linkable-in, linkable-type, long, lower, lower_nodes, max, max_rec_kept, negsuc, new_room, no_entry, no_node, node, node_acts, node_behind, node_room, node_stays, nodes_of, nodes_with_leaf, number, number_before, of_le, own_rules, piece_kept, place_in, placed_grows, pos, r_max_rec, r_max_rec_field, read_types, record_alike, record_bytes, record_number_limit, refl, room_at, same-then, shape, size_at, size_kept, some_bytes, space_fields, subst, suc, sym, take, take-take, the_one, tile, tile_lies, times, times-append, true, type_at, type_in, type_kept, type_of_body, typed, uir_type, unmarked-away, variable_types, variables_chain, vdr_alike, vdr_max_rec, vdr_of_variable, vvr_type, vxr_bytes, vxr_type, with_leaf, with_sign, word, zero, ℕ, ℤ, ◌*◌, ◌++◌, ◌+◌, ◌-◌, ◌<◌, ◌==◌, ◌∙◌, ◌∷◌, ◌≡◌, ◌≢◌, ◌≤◌, taken_places, is_in-true, get_or-drop, get_or-take, places_of, leaves_more, nat_tests, Covered, ◌⊎◌, is_record_type, fixed_size, byte}
 use Rattle.cdf_edits.proofs.Edits.MadeRecord.{place_in as placed_in, filled_size}
 use Rattle.cdf_edits.proofs.Edits.TakenAll.{TakenAll, none_taken, taken_then, taking_all, listed_free, unlisted_away}
 use Rattle.cdf_leaves.proofs.Own.{node_fits, own_node, own_order}
@@ -201,21 +201,14 @@ module _ {b now : List ℕ} {kind : Kind} {before : List VariableShape} {own : V
   -- ---- the edit of one variable
 
   pub new_index : NewIndex b now kind own (with_leaf new at own.index) records' (shape w.roomy).unused (r_max_rec_field kind ++ space_fields) space all_nodes (field 12 (length w.roomy)) reborn
-  new_index = record {
-    edit = edit;
-    tests = tests;
-    unspaced = refl;
-    own_nodes = λ m stands i. elim (In-append m (new_nodes room at) nodes i) [ inl j ↦ inr (taking.fresh_all m (inr j) stands) | inr j ↦ inl j ];
-    typed_now = λ m i.
-        let x = taken_used m i in
-        let k = head_kept m x.0 x.1 in
-        rw (k.0, k.1) (taking.grows.sound.has_shape.typed m x.0, taking.grows.sound.has_shape.fixed m x.0);
-    unused_chain =
-        let c = entries_clear kind own.vdr all_nodes (length w.roomy) in
-        subst (λ (g : ℕ). IsChain now records' uir_type (number now g gdr_uir_head) (shape w.roomy).unused) (ap (λ (x : Shape). x.gdr) taking.grows.same_shape)
-        (chain_stays entries_written uir_type _ _ (shape w.roomy).unused taking.grows.sound.has_shape.unused_chain (gdr_field taking.grows.sound entries_written c.0 gdr_uir_head c.2 (omega arith)) (λ m i. away-avoids entries uir_type m 0 20 (unused_away m)));
-    index_now = w.index;
-  }
+  new_index =
+      let own_nodes : (m : ℕ) → In m (shape b).records → In m all_nodes → In m nodes ⊎ (type_at b m ≡ uir_type) = λ m stands i. elim (In-append m (new_nodes room at) nodes i) [ inl j ↦ inr (taking.fresh_all m (inr j) stands) | inr j ↦ inl j ] in
+      let typed : (m : ℕ) → In m reborn → (is_record_type (type_at now m) ≡ true) × (fixed_size (type_at now m) ≤ size_at now m) =
+      λ m i. (let x = taken_used m i in let k = head_kept m x.0 x.1 in rw (k.0, k.1) (taking.grows.sound.has_shape.typed m x.0, taking.grows.sound.has_shape.fixed m x.0)) in
+      let head = let c = entries_clear kind own.vdr all_nodes (length w.roomy) in gdr_field taking.grows.sound entries_written c.0 gdr_uir_head c.2 (omega arith) in
+      let unused = subst (λ (g : ℕ). IsChain now records' uir_type (number now g gdr_uir_head) (shape w.roomy).unused) (ap (λ (x : Shape). x.gdr) taking.grows.same_shape)
+      (chain_stays entries_written uir_type _ _ (shape w.roomy).unused taking.grows.sound.has_shape.unused_chain head (λ m i. away-avoids entries uir_type m 0 20 (unused_away m))) in
+      search (rules, edit, tests, own_nodes, typed, unused, w.index)
 
   records_are : (shape now).records ≡ records'
   records_are = of_own.records_are good among (own_edit good among new_index)
@@ -241,15 +234,11 @@ module _ {b now : List ℕ} {kind : Kind} {before : List VariableShape} {own : V
       (omega (arith, as_before m i)) (misses m (28 + 16 * room_at b m) (size_at b m) i (omega (arith, as_before m i)) w.touches w.within))
 
   pub nodes_step : NodesStep b now own.index (nodes_of (with_leaf new at own.index)) step
-  nodes_step = record {
-    stay = λ m i. node_stays new at own.index m i;
-    apart = node_apart;
-    come = λ m i. elim (in_nodes_with_leaf new at own.index m i) [ inl j ↦ inl j | inr x ↦ inr (subst (λ (y : ℕ). is_taken_at step y ≡ true) (sym x.0) (node_taken new.place (8 + length body) room at x.1)) ];
-    sizes = λ m i. let there = node_there m (In-append_right m (new_nodes room at) nodes i) in (head_kept m there.0 (λ u. apart vxr_type uir_type refl (sym there.1 ∙ u))).1 ∙ (as_before m i).1;
-    rooms = λ m i. room_stays b now (shape b).records records' 8 8 new at m own.index (has good among).indexed.has_nodes w.index.has_nodes i;
-    spare = spare_stays;
-    unused = w.unused;
-  }
+  nodes_step =
+      let come : (m : ℕ) → In m (nodes_of (with_leaf new at own.index)) → In m nodes ⊎ (is_taken_at step m ≡ true) = λ m i. elim (in_nodes_with_leaf new at own.index m i) [ inl j ↦ inl j | inr x ↦ inr (subst (λ (y : ℕ). is_taken_at step y ≡ true) (sym x.0) (node_taken new.place (8 + length body) room at x.1)) ] in
+      let sizes = λ (m : ℕ) (i : In m nodes). (let there = node_there m (In-append_right m (new_nodes room at) nodes i) in (head_kept m there.0 (λ u. apart vxr_type uir_type refl (sym there.1 ∙ u))).1 ∙ (as_before m i).1) in
+      let rooms = λ (m : ℕ) (i : In m nodes). room_stays b now (shape b).records records' 8 8 new at m own.index (has good among).indexed.has_nodes w.index.has_nodes i in
+      search (rules, node_stays new at own.index, node_apart, come, sizes, rooms, spare_stays, w.unused)
 
   -- ---- its records
 
@@ -271,14 +260,14 @@ module _ {b now : List ℕ} {kind : Kind} {before : List VariableShape} {own : V
         ∙ ap (λ (xs : List ℕ). take (length body) (drop (new.place + 8) xs)) w.block.written ∙ put_there w.block.taken (new.place + 8) body (omega (arith, w.block.inside))
 
     pub blocks_go_on : BlocksGoOn b now own new records
-    blocks_go_on = record {
-      old = each_of (λ (l : Leaf). Same b now l.place (l.place + size_at b l.place)) (leaves_of own.index) (λ l i. (block_kept good among new_index l.place (place_in (leaves_of own.index) l i)).same);
-      size_is = block_size ∙ body_long body records says;
-      records_are =
-          let whole : length body ≡ 4 + (length body - 4) = omega (arith, body_long body records says) in
-          grind (arith, whole, take-take (length records) (length body - 4) (drop 4 (drop (new.place + 8) now)) (omega (arith, body_long body records says)), drop-take 4 (length body - 4) (drop (new.place + 8) now), drop-drop 4 (new.place + 8) now, body_now, says.records_are);
-      spare = λ i l lt. grind (arith, l, lt, get_or-drop (new.place + 8) now (i - 8) 0, get_or-take (length body) (drop (new.place + 8) now) (i - 8) 0 (omega (arith, block_size)), body_now, says.spare (i - 8) (omega arith) (omega (arith, block_size)));
-    }
+    blocks_go_on =
+        let old = each_of (λ (l : Leaf). Same b now l.place (l.place + size_at b l.place)) (leaves_of own.index) (λ l i. (block_kept good among new_index l.place (place_in (leaves_of own.index) l i)).same) in
+        let whole : length body ≡ 4 + (length body - 4) = omega (arith, body_long body records says) in
+        let records_are : take (length records) (drop (new.place + 12) now) ≡ records =
+        grind (arith, whole, take-take (length records) (length body - 4) (drop 4 (drop (new.place + 8) now)) (omega (arith, body_long body records says)), drop-take 4 (length body - 4) (drop (new.place + 8) now), drop-drop 4 (new.place + 8) now, body_now, says.records_are) in
+        let spare : (i : ℕ) → 12 + length records ≤ i → i < size_at now new.place → byte now (new.place + i) ≡ 0 =
+        λ i l lt. grind (arith, l, lt, get_or-drop (new.place + 8) now (i - 8) 0, get_or-take (length body) (drop (new.place + 8) now) (i - 8) 0 (omega (arith, block_size)), body_now, says.spare (i - 8) (omega arith) (omega (arith, block_size))) in
+        search (rules, old, block_size ∙ body_long body records says, records_are, spare)
 
     module _ (vacant : IsVacant own new.first new.last) (as_long : length records ≡ (new.last + 1 - new.first) * record_bytes b own.vdr) (short : length now ≤ image_limit) where
       -- ---- the blocks
@@ -308,17 +297,15 @@ module _ {b now : List ℕ} {kind : Kind} {before : List VariableShape} {own : V
       -- ---- the owners
 
       exchanged : Exchanged b now own (with_leaf new at own.index) reborn reborn []
-      exchanged = record {
-        are_reborn = λ m i. inl i;
-        reborn_are = λ m i. elim i [ inl j ↦ j | inr none ↦ absurd none ];
-        times_are = λ m. omega (arith, nodes_with_leaf new at m own.index, new_times room at m, ap (λ (xs : List Leaf). times m (places_of xs)) (leaves_more new at 0 record_number_limit own.index (own_order good among)) ∙ places_new m new (leaves_of own.index), times-append m (new.place ∷ []) (new_nodes room at));
-        fresh = taking.fresh_all;
-        taken_once = taking.once;
-        in_use = λ m i u. let x = taken_used m i in x.1 (sym (head_kept m x.0 x.1).0 ∙ u);
-        were_nodes = λ m i. absurd i;
-        freed_once = tt;
-        out_of_use = λ m i. absurd i;
-      }
+      exchanged =
+          let times_are : (m : ℕ) → times m (nodes_of (with_leaf new at own.index)) + times m (places_of (leaves_of (with_leaf new at own.index))) + 0 ≡ times m nodes + times m (places_of (leaves_of own.index)) + times m reborn =
+          λ m. omega (arith, nodes_with_leaf new at m own.index, new_times room at m, ap (λ (xs : List Leaf). times m (places_of xs)) (leaves_more new at 0 record_number_limit own.index (own_order good among)) ∙ places_new m new (leaves_of own.index), times-append m (new.place ∷ []) (new_nodes room at)) in
+          let in_use = λ (m : ℕ) (i : In m reborn) (u : type_at now m ≡ uir_type). (let x = taken_used m i in x.1 (sym (head_kept m x.0 x.1).0 ∙ u)) in
+          let back : (m : ℕ) → In m reborn ⊎ In m [] → In m reborn = λ m i. elim i [ inl j ↦ j | inr none ↦ absurd none ] in
+          let are : (m : ℕ) → In m reborn → In m reborn ⊎ In m [] = λ m i. inl i in
+          let were : (m : ℕ) → In m [] → In m nodes = λ m i. absurd i in
+          let out : (m : ℕ) → In m [] → type_at now m ≡ uir_type = λ m i. absurd i in
+          search (rules, times_are, are, back, were, out, taking.fresh_all, taking.once, in_use)
 
       -- ---- the rules of the image
 

@@ -5,7 +5,6 @@ pub mod GoesThen
 pub mod IndexAdded
 pub mod IndexWritten
 pub mod KnownStarts
-pub mod LastImage
 pub mod LeafCounts
 pub mod LeafEdit
 pub mod PutBytes

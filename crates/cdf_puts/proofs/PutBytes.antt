@@ -1,5 +1,5 @@
 -- The bytes of the blocks while records are put: two steps are one, and in the last one none is put.
-use Rattle.cdf_puts.proofs.Common.{Act, Ascending, Beside, Changed, Good, IsOneOf, Kind, Leaf, LeavesGoOn, List, NewBlock, OldBlock, PlainLeaf, RecordIs, Same, SoFar, Some, StandsAmong, Touch, VariableShape, [], ap, arith, behind_in, block_behind, cases_lt, covers, covers_within, drop, extent, find, find_covering, first_written, inl, inr, leaves_of, length, long, max_rec_at, min, nat_tests, or_from, or_left, or_parts, or_right, piece_kept, place_in, plain_leaf, put, range, record_bytes, record_of, record_place, refl, shape, size_at, sound, subst, suc, sym, take, take_at, tile_lies, times_le, upto, variable_of, word_kept, ℕ, ◌*◌, ◌++◌, ◌+◌, ◌-◌, ◌<◌, ◌∙◌, ◌≡◌, ◌≤◌, ◌⊎◌}
+use Rattle.cdf_puts.proofs.Common.{Act, Ascending, Beside, Changed, Good, IsOneOf, Kind, Leaf, LeavesGoOn, List, OldBlock, PlainLeaf, RecordIs, Same, SoFar, Some, StandsAmong, Touch, VariableShape, [], ap, arith, behind_in, block_behind, cases_lt, covers, covers_within, drop, extent, false, find, find_covering, first_written, inl, inr, is_taken_at, leaves_of, length, long, max_rec_at, min, nat_tests, piece_kept, place_in, plain_leaf, put, range, record_bytes, record_of, record_place, refl, shape, size_at, sound, subst, suc, take, take_at, tile_lies, times_le, upto, variable_of, word_kept, ℕ, ◌*◌, ◌++◌, ◌+◌, ◌-◌, ◌<◌, ◌∙◌, ◌≡◌, ◌≤◌, ◌⊎◌}
 use Rattle.cdf_edits.proofs.Edits.LeafPieces.{found_in}
 use Rattle.cdf_fields.proofs.Writes.{drop-put_there}
 use Rattle.cdf_puts.proofs.GoesThen.{later_size}
@@ -45,11 +45,8 @@ old_size {b = b} {now = now} {l = l} o long = word_kept b now l.place (l.place +
 pub piece_stays : {b now raw pad : List ℕ} {r first k size : ℕ} {l : Leaf} → OldBlock b now raw pad r first k size l → Whole b size l → length b ≤ length now → (j : ℕ) → l.first ≤ j → j ≤ l.last → (j < first) ⊎ (k ≤ j) → take size (drop (record_place l size j) now) ≡ take size (drop (record_place l size j) b)
 piece_stays {b = b} {now = now} {first = first} {k = k} {size = size} {l = l} o w longer j f t side =
     let fit = records_apart j (l.last + 1) l.first size f (omega arith) in
-    piece_kept b now (record_place l size j) (record_place l size j + size) (record { each = λ p low high. o.kept p (omega arith) (omega (arith, w.leaf.room)) (beside p low high side) }) (record_place l size j) size (omega arith) (omega arith) (omega (arith, w.leaf.room, w.inside)) longer
-  where
-    beside : (p : ℕ) → record_place l size j ≤ p → p < record_place l size j + size → (j < first) ⊎ (k ≤ j) → Beside first k size l p
-    beside p low high (inl lt) n from upto f' t' = inl (omega (arith, records_apart j n l.first size f (omega arith)))
-    beside p low high (inr le) n from upto f' t' = inr (omega (arith, records_apart n j l.first size f' (omega arith)))
+    let kept = λ (p : ℕ) (low : record_place l size j ≤ p) (high : p < record_place l size j + size). o.kept p (omega arith) (omega (arith, w.leaf.room)) (λ n from upto f' t'. grind (arith, side, records_apart j n l.first size f, records_apart n j l.first size f')) in
+    piece_kept b now (record_place l size j) (record_place l size j + size) (record { each = kept }) (record_place l size j) size (omega arith) (omega arith) (omega (arith, w.leaf.room, w.inside)) longer
 
 -- ---- two steps are one
 
@@ -59,46 +56,28 @@ module _ {b mid now : List ℕ} {olds leaves leaves' : List Leaf} {raw pad : Lis
   record_stays : (l : Leaf) → IsOneOf leaves l → (j : ℕ) → l.first ≤ j → j ≤ l.last → min (j + 1) (r + 1) ≤ k → RecordIs mid size l j (record_of raw pad r j) → RecordIs now size l j (record_of raw pad r j)
   record_stays l i j f t before e = piece_stays (y.old l i) (is l i) y.longer j f t (elim (cases_lt j k) [ inl lt ↦ inl lt | inr le ↦ inr (omega arith) ]) ∙ e
 
-  new_stays : (l : Leaf) → IsOneOf leaves l → NewBlock mid raw pad r first most k size acts l → NewBlock now raw pad r first most k' size (acts ++ acts') l
-  new_stays l i n =
-      let w = is l i in
-      record {
-        from = n.from;
-        ends = omega (arith, n.ends);
-        alone = n.alone;
-        was_taken = taken_both acts acts' l.place ∙ or_left _ _ n.was_taken;
-        written = λ j f t. record_stays l i j f t (omega (arith, n.ends)) (n.written j f t);
-        spare = λ i' low high. let s = old_size (y.old l i) (omega (arith, w.leaf.room)) in (y.old l i).kept (l.place + i') (omega arith) (omega arith) (behind_all k k' size l (l.place + i') (omega arith)) ∙ n.spare i' low (omega arith);
-      }
+  old_then : (l : Leaf) → IsOneOf olds l → OldBlock b now raw pad r first k' size l
+  old_then l i =
+      let sized = old_size (x.old l i) (omega (arith, (was l i).leaf.room)) in
+      grind (arith, cases_lt, x.stay l i, x.old l i, y.old l, record_stays l)
 
   pub leaves_then : LeavesGoOn b now olds leaves' raw pad r first most k' size (acts ++ acts') fields
-  leaves_then = record {
-    longer = omega (arith, x.longer, y.longer);
-    stay = λ l i. y.stay l (x.stay l i);
-    apart = λ l i. taken_both acts acts' l.place ∙ or_from _ _ (x.apart l i) (y.apart l (x.stay l i));
-    old = λ l i. let j = x.stay l i in record {
-      written = λ n from' low f t. elim (cases_lt n k) [ inl lt ↦ record_stays l j n f t (omega arith) ((x.old l i).written n from' lt f t) | inr le ↦ (y.old l j).written n le low f t ];
-      kept = λ p low high out. let s = old_size (x.old l i) (omega (arith, (was l i).leaf.room)) in (y.old l j).kept p low (omega arith) (λ n a. out n (omega arith)) ∙ (x.old l i).kept p low high (λ n a c. out n a (omega arith));
-    };
-    new = λ l i. elim (y.new l i) [
-      | inl j ↦ elim (x.new l j) [ inl o ↦ inl o | inr n ↦ inr (new_stays l j n) ]
-      | inr n ↦ inr (record { from = omega (arith, n.from); ends = n.ends; alone = n.alone; was_taken = taken_both acts acts' l.place ∙ or_right _ _ n.was_taken; written = n.written; spare = n.spare })
-    ];
-    has = λ j from' low. elim (cases_lt j k) [ inl lt ↦ let h = x.has j from' lt in (h.0, (y.stay h.0 h.1.0, h.1.1)) | inr le ↦ y.has j le low ];
-    quiet = λ none p lt out beside. y.quiet (λ m. (or_parts _ _ (sym (taken_both acts acts' m) ∙ none m)).1) p (omega (arith, x.longer)) out (λ l i n a. beside l i n (omega arith)) ∙ x.quiet (λ m. (or_parts _ _ (sym (taken_both acts acts' m) ∙ none m)).0) p lt tt (λ l i n a c. beside l (y.stay l i) n a (omega arith));
-  }
+  leaves_then =
+      let neither : (m : ℕ) → is_taken_at (acts ++ acts') m ≡ false → (is_taken_at acts m ≡ false) × (is_taken_at acts' m ≡ false) = λ m e. grind (arith, e, taken_both acts acts' m) in
+      let sized = λ (l : Leaf) (j : IsOneOf leaves l). old_size (y.old l j) (omega (arith, (is l j).leaf.room)) in
+      record {
+        longer = omega (arith, x.longer, y.longer);
+        stay = λ l i. y.stay l (x.stay l i);
+        apart = λ l i. grind (arith, taken_both acts acts' l.place, x.apart l i, y.apart l (x.stay l i));
+        old = old_then;
+        new = λ l i. grind (arith, y.new l i, x.new l, is l, sized l, record_stays l, y.old l, behind_all k k' size l, taken_both acts acts' l.place);
+        has = λ j from' low. elim (cases_lt j k) [ inl lt ↦ let h = x.has j from' lt in (h.0, (y.stay h.0 h.1.0, h.1.1)) | inr le ↦ y.has j le low ];
+        quiet = λ none p lt out beside. y.quiet (λ m. (neither m (none m)).1) p (omega (arith, x.longer)) out (λ l i n a. beside l i n (omega arith)) ∙ x.quiet (λ m. (neither m (none m)).0) p lt tt (λ l i n a c. beside l (y.stay l i) n a (omega arith));
+      }
 
 -- no record is put, and no byte of the blocks changes
 pub none_is_put : {b now : List ℕ} {leaves : List Leaf} {raw pad : List ℕ} {r k most size : ℕ} {fields : List Touch} → Changed b now fields → ((l : Leaf) → IsOneOf leaves l → Same b now l.place (l.place + size_at b l.place)) → LeavesGoOn b now leaves leaves raw pad r k most k size [] fields
-none_is_put c same = record {
-  longer = c.longer;
-  stay = λ l i. i;
-  apart = λ l i. refl;
-  old = λ l i. record { written = λ j from upto. absurd (omega arith); kept = λ p low high out. (same l i).each p low high };
-  new = λ l i. inl i;
-  has = λ j from upto. absurd (omega arith);
-  quiet = λ none p lt out beside. c.same p lt out;
-}
+none_is_put c same = search (arith, c, c.same, same)
 
 -- ---- the blocks of a variable in which records are put
 

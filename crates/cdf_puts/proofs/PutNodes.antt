@@ -1,5 +1,5 @@
 -- The nodes of an index that grows leaf by leaf: the index but for where its blocks and its new nodes stand, its top chain, and the unused entries and spare bytes of its nodes.
-use Rattle.cdf_puts.proofs.Common.{same_node, bytes_eq, Act, Bool, Each, Each-in, Entries, EntryIs, Gave, Grows, HasNodes, In, In-append, Kept, Leaf, List, Names, NodeFits, NodeSpareStays, Nodes, NodesFollow, Range, Same, Same-part, SaysEntry, Took, TopGrows, UnusedEntries, [], ap, arith, block, by_leaf, cases_lt, chain_reaches, each, entries_outline, entry_count, false, first_at, if◌then◌else◌, indexes_with, inl, inr, is_in, is_in-true, is_taken_at, last_at, leads_down, leaf, length, list_any, lower, lower_nodes, no_entry, no_node, node, nodes_of, offset_at, outline, past, reaches, refl, room_at, same-then, same_of_bytes_eq, size_at, suc, sym, true, true-is_in, upto, used_count, uses_entry, uses_entry_below, was_unused, with_both, with_leaf, with_lower, with_ranges, zero, ℕ, ◌*◌, ◌++◌, ◌+◌, ◌<◌, ◌||◌, ◌∙◌, ◌∷◌, ◌≡◌, ◌≤◌, ◌⊎◌, nat_tests, or_parts, In-append_left, In-append_right}
+use Rattle.cdf_puts.proofs.Common.{same_node, bytes_eq, Act, Bool, Each, Each-in, Entries, Gave, Grows, HasNodes, In, In-append, Kept, Leaf, List, Names, NodeFits, NodeSpareStays, Nodes, NodesFollow, Range, Same, Same-part, Took, TopGrows, UnusedEntries, [], ap, arith, block, by_leaf, chain_reaches, each, entries_outline, entry_count, false, if◌then◌else◌, indexes_with, is_in, is_in-true, is_taken_at, leads_down, leaf, length, list_any, lower, lower_nodes, no_entry, no_node, node, nodes_of, outline, past, reaches, refl, room_at, same-then, same_of_bytes_eq, size_at, suc, sym, true, true-is_in, upto, used_count, uses_entry, uses_entry_below, with_both, with_leaf, with_lower, with_ranges, zero, ℕ, ◌*◌, ◌++◌, ◌+◌, ◌<◌, ◌||◌, ◌∙◌, ◌∷◌, ◌≡◌, ◌⊎◌, nat_tests, In-append_left, In-append_right}
 
 -- ---- an outline says the same of an index as the index does
 
@@ -66,14 +66,12 @@ mutual
 
   outline_agrees : (news news' : List ℕ) (index : Nodes) → ((m : ℕ) → In m (nodes_of index) → is_in m news' ≡ is_in m news) → outline news' index ≡ outline news index
   outline_agrees news news' no_node same = refl
-  outline_agrees news news' (node place room es more) same =
-      grind (arith, same place (inl refl), entries_agree news news' es (λ m i. same m (inr (In-append_left m (lower_nodes es) (nodes_of more) i))), outline_agrees news news' more (λ m i. same m (inr (In-append_right m (lower_nodes es) (nodes_of more) i))))
+  outline_agrees news news' (node place room es more) same = grind (arith, same, In-append_left, In-append_right, outline_agrees news news' more, entries_agree news news' es)
 
   entries_agree : (news news' : List ℕ) (es : Entries) → ((m : ℕ) → In m (lower_nodes es) → is_in m news' ≡ is_in m news) → entries_outline news' es ≡ entries_outline news es
   entries_agree news news' no_entry same = refl
   entries_agree news news' (block first last place packed es) same = ap (block first last 0 false) (entries_agree news news' es same)
-  entries_agree news news' (lower first last nodes es) same =
-      grind (arith, outline_agrees news news' nodes (λ m i. same m (In-append_left m (nodes_of nodes) (lower_nodes es) i)), entries_agree news news' es (λ m i. same m (In-append_right m (nodes_of nodes) (lower_nodes es) i)))
+  entries_agree news news' (lower first last nodes es) same = grind (arith, same, In-append_left, In-append_right, outline_agrees news news' nodes, entries_agree news news' es)
 
 -- ---- two indexes with the same outline, where new nodes stand at 0 in the second
 
@@ -129,11 +127,7 @@ unless_true s e = grind (arith, s, e)
 
 -- ---- nodes that stay
 
--- an entry of a node, where it stays
-says_then : (b mid now : List ℕ) (m i : ℕ) (w : Bool) → SaysEntry now m i (first_at mid m i) (last_at mid m i) (offset_at mid m i) → EntryIs b mid m i w → EntryIs b now m i w
-says_then b mid now m i w s e = grind (arith, s.first_is, s.last_is, s.offset_is, e)
-
--- and what follows its entries
+-- what follows the entries of a node, where it stays
 spare_then : (b mid now : List ℕ) (acts : List Act) (m : ℕ) → room_at now m ≡ room_at mid m → (is_taken_at acts m ≡ false → size_at mid m ≡ size_at b m) → Same mid now (m + (28 + 16 * room_at mid m)) (m + size_at mid m) → NodeSpareStays b mid acts m → NodeSpareStays b now acts m
 spare_then b mid now acts m room size same was e = rw room (same-then b mid now (m + (28 + 16 * room_at mid m)) (m + size_at b m) (was e) (rw (size e) at same))
 
@@ -144,7 +138,7 @@ nodes_same b mid now through before after acts fit kept sizes f = record {
   unused = each (UnusedEntries b now through before acts) after (λ m j i from upto.
       let n = same_node mid now m (kept m j) (fit m j) in
       let says = n.entries i (omega arith) _ _ _ (record { first_is = refl; last_is = refl; offset_is = refl }) in
-      elim (Each-in (UnusedEntries b mid through before acts) after f.unused m j i (omega arith) (omega arith)) [ inl e ↦ inl (says_then b mid now m i (was_unused b before acts m i) says e) | inr e ↦ inr (e.0, says_then b mid now m i false says e.1) ]);
+      grind (arith, says, Each-in (UnusedEntries b mid through before acts) after f.unused m j i (omega arith) (omega arith)));
   spare = each (NodeSpareStays b now acts) after (λ m j. spare_then b mid now acts m (same_node mid now m (kept m j) (fit m j)).room_is (sizes m j) (Same-part mid now m (m + size_at mid m) _ _ (kept m j).same (omega arith) (omega arith)) (Each-in (NodeSpareStays b mid acts) after f.spare m j));
 }
 
@@ -160,34 +154,18 @@ pub record NodesStep (mid now : List ℕ) (index : Nodes) (after : List ℕ) (ac
   pub spare : (m : ℕ) → In m (nodes_of index) → Same mid now (m + (28 + 16 * room_at mid m)) (m + size_at mid m)
   pub unused : Each (UnusedEntries mid now (index ∷ []) (nodes_of index) acts) after
 
-was_says : (b : List ℕ) (before : List ℕ) (acts : List Act) (m i : ℕ) → was_unused b before acts m i ≡ true → In m before × (is_taken_at acts m ≡ false) × (used_count b m ≤ i)
-was_says b before acts m i e = grind (arith, nat_tests, e, true-is_in m before)
-
--- an entry in two steps: whether it was unused before both (w), and before the second (v)
-entry_then : {X Y Z : Type 0} (b mid now : List ℕ) (m i : ℕ) (w v : Bool) → EntryIs mid now m i v ⊎ (X × EntryIs mid now m i false) → (v ≡ true → EntryIs b mid m i w ⊎ (Y × EntryIs b mid m i false)) → (w ≡ true → X ⊎ (v ≡ false) → Z) → (Y → Z) → EntryIs b now m i w ⊎ (Z × EntryIs b now m i false)
-entry_then b mid now m i w v s was used more = grind (arith, s, was, used, more, says_then b mid now m i)
-
 module _ (b mid now : List ℕ) (through through' : List Nodes) (before after : List ℕ) (index : Nodes) (acts acts' : List Act) (f : NodesFollow b mid through before (nodes_of index) acts)
     (step : NodesStep mid now index after acts') (before_in : (m : ℕ) → In m before → In m (nodes_of index)) (sizes : (m : ℕ) → In m before → size_at mid m ≡ size_at b m)
     (come : (m : ℕ) → In m (nodes_of index) → In m before ⊎ (is_taken_at acts m ≡ true)) (more : (m i : ℕ) → list_any (uses_entry m i) through ≡ true → list_any (uses_entry m i) through' ≡ true)
     (uses : (m i : ℕ) → In m before → uses_entry m i index ≡ true → list_any (uses_entry m i) through' ≡ true) (records : List ℕ) (levels : ℕ) (has : HasNodes mid records levels index) where
-  was_entry : (m i : ℕ) → i < room_at now m → was_unused mid (nodes_of index) acts' m i ≡ true → EntryIs b mid m i (was_unused b before (acts ++ acts') m i) ⊎ ((list_any (uses_entry m i) through ≡ true) × EntryIs b mid m i false)
-  was_entry m i high v =
-      let x = was_says mid (nodes_of index) acts' m i v in
-      grind (arith, x.1, taken_both acts acts' m, Each-in (UnusedEntries b mid through before acts) (nodes_of index) f.unused m x.0 i x.2 (omega (arith, step.rooms m x.0)))
+  unused_now : (m : ℕ) → In m after → UnusedEntries b now through' before (acts ++ acts') m
+  unused_now m k i low high =
+      let entry = Each-in (UnusedEntries mid now (index ∷ []) (nodes_of index) acts') after step.unused m k i low high in
+      let used = λ (lt : i < used_count mid m). used_in mid records m i lt levels index has in
+      grind (arith, nat_tests, entry, used, Each-in (UnusedEntries b mid through before acts) (nodes_of index) f.unused m, taken_both acts acts' m, true-is_in m (nodes_of index), true-is_in m before, before_in m, step.rooms m, step.apart m, is_in-true m (nodes_of index), uses m i, more m i)
 
-  was_used : (m i : ℕ) → was_unused b before (acts ++ acts') m i ≡ true → (list_any (uses_entry m i) (index ∷ []) ≡ true) ⊎ (was_unused mid (nodes_of index) acts' m i ≡ false) → list_any (uses_entry m i) through' ≡ true
-  was_used m i w x =
-      let was = was_says b before (acts ++ acts') m i w in
-      let j = before_in m was.0 in
-      uses m i was.0 (elim (cases_lt i (used_count mid m)) [ inl lt ↦ used_in mid records m i lt levels index has j | inr le ↦ grind (arith, nat_tests, x, le, is_in-true m (nodes_of index) j, step.apart m j) ])
+  spare_now : (m : ℕ) → In m after → NodeSpareStays b now (acts ++ acts') m
+  spare_now m k e = grind (arith, e, taken_both acts acts' m, step.come m k, come m, step.rooms m, sizes m, step.spare m, Each-in (NodeSpareStays b mid acts) (nodes_of index) f.spare m, same-then b mid now (m + (28 + 16 * room_at mid m)) (m + size_at b m))
 
   pub nodes_then : NodesFollow b now through' before after (acts ++ acts')
-  nodes_then = record {
-    unused = each (UnusedEntries b now through' before (acts ++ acts')) after (λ m k i low high.
-        entry_then b mid now m i (was_unused b before (acts ++ acts') m i) (was_unused mid (nodes_of index) acts' m i) (Each-in (UnusedEntries mid now (index ∷ []) (nodes_of index) acts') after step.unused m k i low high) (was_entry m i high) (was_used m i) (more m i));
-    spare = each (NodeSpareStays b now (acts ++ acts')) after (λ m k e.
-        let out = or_parts _ _ (sym (taken_both acts acts' m) ∙ e) in
-        let j = unless_true (step.come m k) out.1 in
-        spare_then b mid now acts m (step.rooms m j) (λ e. sizes m (unless_true (come m j) e)) (step.spare m j) (Each-in (NodeSpareStays b mid acts) (nodes_of index) f.spare m j) out.0);
-  }
+  nodes_then = search (each, unused_now, spare_now)

@@ -1,5 +1,5 @@
 -- Where the next record is put: the records of a new block, each step by which records are put, and what an image says of a variable of which some records are put.
-use Rattle.cdf_puts.proofs.Common.{Act, AddsLeaf, BlockRecords, GoesOn, HasIndex, In, IsBlockBody, IsBody, IsPut, IsVacant, Kind, LeafAdded, List, NodeTaken, Nodes, None, PutStart, PutsOn, PutsUpTo, Putting, RecordsWritten, SoFar, Some, SomePut, SomePutting, StandsAmong, Variable, VariableShape, [], ap, append-nil, arith, block_bytes, block_count, cases_lt, covers, div-le_self, drop, drop-append-le, drop_at, extent, false, find, first_written, firsts_of, fits, has, if◌then◌else◌, image_limit, in_middle, index_at, inl, inr, is_sparse, last_in_new, leaf, leaf_acts, leaf_of, leaves_of, length, length-append, length-drop, max_rec_at, min, most_in_block, nat_tests, new_last, new_range, new_room, next_first, node_bytes, number, range, record_bytes, record_length, record_of, record_put, records_put, refl, shape, sparse_at, subst, suc, sym, take, take-append-le, take_all, taken_bytes, times_le, variable_of, variables, vdr_max_rec, vdr_vxr_head, vdrs, vxr_bytes, widest, with_leaf, zero, ℕ, ◌*◌, ◌++◌, ◌+◌, ◌-◌, ◌<◌, ◌∙◌, ◌∷◌, ◌≡◌, ◌≤◌}
+use Rattle.cdf_puts.proofs.Common.{refl, Leaf, put, Act, AddsLeaf, BlockRecords, Covering, GoesOn, HasIndex, In, IsBlockBody, IsBody, IsPut, IsVacant, Kind, LeafAdded, List, NodeTaken, Nodes, None, PutStart, PutsOn, PutsUpTo, Putting, RecordsWritten, SoFar, Some, SomePut, SomePutting, StandsAmong, Variable, VariableShape, [], ap, append-nil, arith, block_bytes, block_count, covers, div-le_self, drop, drop-append-le, drop_at, extent, false, find, first_written, firsts_of, fits, has, if◌then◌else◌, image_limit, in_middle, index_at, is_sparse, last_in_new, leaf, leaf_acts, leaf_of, leaves_of, length, length-append, length-drop, max_rec_at, min, most_in_block, nat_tests, new_last, new_range, new_room, next_first, node_bytes, number, range, record_bytes, record_length, record_of, record_put, records_put, shape, sparse_at, subst, suc, sym, take, take-append-le, take_all, taken_bytes, times_le, variable_of, variables, vdr_vxr_head, vdrs, vxr_bytes, widest, with_leaf, zero, ℕ, ◌*◌, ◌++◌, ◌+◌, ◌-◌, ◌<◌, ◌==◌, ◌∙◌, ◌∷◌, ◌≡◌, ◌≤◌}
 use Rattle.cdf_puts.proofs.LeafEdit.{r_max_rec_stays as leaf_r_max_rec, body_long, plain_body, leaf_goes_on, leaf_max_rec, taking}
 use Rattle.cdf_puts.proofs.CoveringRanges.{covering_starts, covering_has, covering_leaf, covering_room, covering_ends, Ends, one_at_least}
 use Rattle.cdf_puts.proofs.GoesThen.{later_size, goes_then, goes_written, writes_nothing}
@@ -11,15 +11,16 @@ use Rattle.cdf_puts.proofs.SoFarStarts.{starts_upto, index_start, blocks_start}
 use Rattle.cdf_leaves.proofs.Own.{among_all, own_order, searchable}
 use Rattle.cdf_puts.proofs.PutBytes.{found_covering, size_now, whole}
 use Rattle.cdf_puts.proofs.KnownStarts.{vdr_lies}
-use Rattle.cdf_base.specs.Bytes.{put as put_at}
-use Rattle.cdf_format.specs.Index.{Leaf as TreeLeaf}
-use Rattle.cdf_index.specs.Reading.{HoldsRecords}
-use Rattle.cdf_index.specs.Sight.{seen}
-use Rattle.cdf_index.specs.declared.nodes.Leaf.{Leaf}
+use Rattle.cdf_index.proofs.Common.{HoldsRecords, seen}
+use Rattle.cdf_index.specs.declared.nodes.Leaf.{Leaf as SeenLeaf}
 use Rattle.cdf_puts.specs.declared.putting.NewRecord.{NewRecord}
 
 pub one_more : (raw pad : List ℕ) (r count k : ℕ) → records_put raw pad r (count + 1) k ≡ records_put raw pad r count k ++ record_put raw pad r (k + count)
 one_more raw pad r count k = grind arith
+
+-- a piece more behind pieces of a size
+piece_more : (xs y : List ℕ) (size n j : ℕ) → length xs ≡ n * size → length y ≡ size → j ≤ n → take size (drop (j * size) (xs ++ y)) ≡ (if j == n then y else take size (drop (j * size) xs))
+piece_more xs y size n j long as_long le = grind (arith, nat_tests, times_le (suc j) n size, drop-append-le (j * size) xs y, take-append-le size (drop (j * size) xs) y, length-drop (j * size) xs, drop_at xs y (n * size) long, take_all size y)
 
 module _ (raw pad : List ℕ) (r size : ℕ) (raw_long : length raw ≡ size) (pad_long : length pad ≡ size) where
   pub record_long : (k : ℕ) → length (record_put raw pad r k) ≡ size
@@ -31,18 +32,7 @@ module _ (raw pad : List ℕ) (r size : ℕ) (raw_long : length raw ≡ size) (p
 
   record_there : (count k j : ℕ) → k ≤ j → j < k + count → take size (drop ((j - k) * size) (records_put raw pad r count k)) ≡ record_put raw pad r j
   record_there zero k j from upto = absurd (omega arith)
-  record_there (suc count) k j from upto =
-      let rest = records_put raw pad r count k in
-      let last = record_put raw pad r (k + count) in
-      elim (cases_lt j (k + count)) [
-        | inl lt ↦
-            let room = times_le (suc (j - k)) count size (omega arith) in
-            let long = records_long count k in
-            ap (take size) (drop-append-le ((j - k) * size) rest last (omega arith)) ∙ take-append-le size (drop ((j - k) * size) rest) last (omega (arith, length-drop ((j - k) * size) rest)) ∙ record_there count k j from lt
-        | inr ge ↦
-            let all : j - k ≡ count = omega arith in
-            grind (arith, all, ge, upto, drop_at rest last (count * size) (records_long count k), take_all size last (omega (arith, record_long (k + count))))
-      ]
+  record_there (suc count) k j from upto = grind (arith, nat_tests, from, upto, record_there count k j from, piece_more (records_put raw pad r count k) (record_put raw pad r (k + count)) size count (j - k) (records_long count k) (record_long (k + count)))
 
   pub block_records : (k last : ℕ) → BlockRecords raw pad r k last size (records_put raw pad r (last + 1 - k) k)
   block_records k last = record { as_long = records_long (last + 1 - k) k; written = λ j from upto. record_there (last + 1 - k) k j from (omega arith) }
@@ -54,61 +44,32 @@ body_is body records says = grind (arith, plain_body body records says, body_lon
 
 module _ {b : List ℕ} {kind : Kind} {before : List VariableShape} {own : VariableShape} {after : List VariableShape} {raw pad : List ℕ} {r : ℕ} where
   pub so_far_starts : PutStart b kind before own after raw pad r → SoFar b b kind before own own after raw pad r (first_written (variable_of b own) r) []
-  so_far_starts start = record {
-    start = start;
-    upto = let l = starts_upto start in omega arith;
-    goes = goes_written start.good start.among (writes_nothing start.good start.among) start.short;
-    covers = covering_starts (variable_of b own) own.index r (ap is_sparse start.no_rule) (own_order start.good start.among);
-    takes = tt;
-    short = start.short;
-    max_rec_is = refl;
-    r_max_rec_is = refl;
-    index = index_start start;
-    blocks = blocks_start start;
-  }
+  so_far_starts start =
+      let goes = goes_written start.good start.among (writes_nothing start.good start.among) start.short in
+      let covers = covering_starts (variable_of b own) own.index r (ap is_sparse start.no_rule) (own_order start.good start.among) in
+      search (arith, start, goes, covers, starts_upto start, index_start start, blocks_start start)
 
   module _ {now : List ℕ} {own' : VariableShape} {k : ℕ} {acts : List Act} (so : SoFar b now kind before own own' after raw pad r k acts) (more : k ≤ r) where
-    pub so_far_written : {now' : List ℕ} {l : TreeLeaf} → RecordsWritten now now' own' l k (record_of raw pad r k) → length (record_of raw pad r k) ≡ record_bytes b own.vdr → SoFar b now' kind before own own' after raw pad r (k + 1) acts
+    pub so_far_written : {now' : List ℕ} {l : Leaf} → RecordsWritten now now' own' l k (record_of raw pad r k) → length (record_of raw pad r k) ≡ record_bytes b own.vdr → SoFar b now' kind before own own' after raw pad r (k + 1) acts
     so_far_written {now' = now'} {l = l} w as_long =
         let good = so.goes.good in
         let at = so.goes.among in
-        let step = goes_written good at (writes good at w) so.short in
-        record {
-          start = so.start;
-          upto = omega arith;
-          goes = subst (GoesOn b now' kind before own own' after) (append-nil acts) (goes_then so.start.good so.start.among so.goes step so.takes tt);
-          covers = covering_has so.covers so.start.small more l w.found;
-          takes = so.takes;
-          short = omega arith;
-          max_rec_is = subst (λ (v : ℕ). number now' v vdr_max_rec ≡ number now v vdr_max_rec) so.goes.vdr_is (max_rec_kept good at w) ∙ so.max_rec_is;
-          r_max_rec_is = r_max_rec_stays good at w ∙ so.r_max_rec_is;
-          index = index_written so more w as_long;
-          blocks = blocks_written so more w as_long;
-        }
+        let goes = subst (GoesOn b now' kind before own own' after) (append-nil acts) (goes_then so.start.good so.start.among so.goes (goes_written good at (writes good at w) so.short) so.takes tt) in
+        search (arith, so, goes, ← so.goes.vdr_is, max_rec_kept good at w, r_max_rec_stays good at w, covering_has so.covers so.start.small more l w.found, index_written so more w as_long, blocks_written so more w as_long)
 
-    pub so_far_added : {now' : List ℕ} {last place at : ℕ} {body records : List ℕ} → last ≡ (new_range (variable_of b own) (firsts_of own'.index) k).last → IsVacant own' k last → IsBlockBody body records → BlockRecords raw pad r k last (record_bytes b own.vdr) records
-        → LeafAdded now now' own' (leaf k last place false) body at → length now' ≤ image_limit
-        → SoFar b now' kind before own (record own' { index = with_leaf (leaf k last place false) at own'.index }) after raw pad r (min (last + 1) (r + 1)) (acts ++ leaf_acts place (8 + length body) (new_room k own'.index) at)
-    so_far_added {now' = now'} {last = last} {place = place} {at = at} {body = body} {records = records} is vacant holds says w short =
+    pub so_far_added : {now' : List ℕ} {last place at next : ℕ} {body records : List ℕ} → last ≡ (new_range (variable_of b own) (firsts_of own'.index) k).last → IsVacant own' k last → IsBlockBody body records → BlockRecords raw pad r k last (record_bytes b own.vdr) records
+        → LeafAdded now now' own' (leaf k last place false) body at → length now' ≤ image_limit → min (last + 1) (r + 1) ≡ next
+        → SoFar b now' kind before own (record own' { index = with_leaf (leaf k last place false) at own'.index }) after raw pad r next (acts ++ leaf_acts place (8 + length body) (new_room k own'.index) at)
+    so_far_added {now' = now'} {last = last} {place = place} {at = at} {body = body} {records = records} is vacant holds says w short upto =
         let good = so.goes.good in
         let among = so.goes.among in
-        let v = variable_of b own in
         let new = leaf k last place false in
         let step = leaf_acts place (8 + length body) (new_room k own'.index) at in
         let goes : GoesOn now now' kind before own' (record own' { index = with_leaf new at own'.index }) after step = leaf_goes_on good among w holds vacant (says.as_long ∙ ap (λ (n : ℕ). (last + 1 - k) * n) (sym (later_size so.start.good so.start.among so.goes))) short in
-        let bytes : taken_bytes (acts ++ step) ≡ taken_bytes acts + block_bytes v k last + node_bytes k own'.index = omega (arith, taken_sum acts step, leaf_bytes place (8 + length body) (new_room k own'.index) at, body_long body records holds, says.as_long) in
-        record {
-          start = so.start;
-          upto = omega arith;
-          goes = goes_then so.start.good so.start.among so.goes goes so.takes (taking good among w).takes;
-          covers = rw (bytes, is) (covering_leaf so.covers so.start.small more (ap is_sparse so.start.no_rule) so.start.loose vacant.uncovered place at (new_room_widest now (shape now).records 8 k own'.index (has good among).indexed.has_nodes (fits good among).1));
-          takes = takes_both acts step so.takes (taking good among w).takes;
-          short = short;
-          max_rec_is = subst (λ (v : ℕ). number now' v vdr_max_rec ≡ number now v vdr_max_rec) so.goes.vdr_is (leaf_max_rec good among w) ∙ so.max_rec_is;
-          r_max_rec_is = leaf_r_max_rec good among w ∙ so.r_max_rec_is;
-          index = index_added so more is vacant holds says w goes.good goes.among;
-          blocks = blocks_added so more is vacant holds says w goes.good goes.among;
-        }
+        let bytes : taken_bytes (acts ++ step) ≡ taken_bytes acts + block_bytes (variable_of b own) k last + node_bytes k own'.index = omega (arith, taken_sum acts step, leaf_bytes place (8 + length body) (new_room k own'.index) at, body_long body records holds, says.as_long) in
+        let wide = new_room_widest now (shape now).records 8 k own'.index (has good among).indexed.has_nodes (fits good among).1 in
+        let covers : Covering (variable_of b own) own.index (with_leaf new at own'.index) r (min (last + 1) (r + 1)) (taken_bytes (acts ++ step)) = rw (bytes, is) (covering_leaf so.covers so.start.small more (ap is_sparse so.start.no_rule) so.start.loose vacant.uncovered place at wide) in
+        rw (← upto) (search (arith, so, short, ← so.goes.vdr_is, leaf_max_rec good among w, leaf_r_max_rec good among w, goes_then so.start.good so.start.among so.goes goes so.takes (taking good among w).takes, takes_both acts step so.takes (taking good among w).takes, index_added so more is vacant holds says w goes.good goes.among, blocks_added so more is vacant holds says w goes.good goes.among))
 
 -- ---- how many records a new block has
 
@@ -121,8 +82,7 @@ last_as v index k r most rule is from upto before = let first : min r (extent v.
 
 -- a node more is no wider than the widest
 node_long : (b now : List ℕ) (room at wide : ℕ) → NodeTaken b now room at → room ≤ wide → length now ≤ length b + vxr_bytes wide
-node_long b now zero at wide n le = omega (arith, ap length n.0)
-node_long b now (suc room) at wide n le = omega (arith, n.longest)
+node_long b now room at wide n le = grind (arith, n, le)
 
 -- a leaf is added, whichever variable has this descriptor
 abbrev pub AddsOn : List ℕ → List ℕ → ℕ → ℕ → ℕ → List ℕ → Type 0
@@ -155,7 +115,7 @@ module _ {b now : List ℕ} {kind : Kind} {before : List VariableShape} {own : V
 
     -- ---- a block has the next one
 
-    module _ (l : Leaf) (found : Some (seen l) ≡ leaf_of k (leaves_of (index_at now (number now new.vdr vdr_vxr_head)))) where
+    module _ (l : SeenLeaf) (found : Some (seen l) ≡ leaf_of k (leaves_of (index_at now (number now new.vdr vdr_vxr_head)))) where
       here : leaf_of k (leaves_of own'.index) ≡ Some (seen l)
       here = sym (rw searched.1 at found)
 
@@ -163,7 +123,7 @@ module _ {b now : List ℕ} {kind : Kind} {before : List VariableShape} {own : V
       held =
           let one = found_covering k (leaves_of own'.index) (seen l) here in
           let x = whole so.goes.good so.goes.among (seen l) one.0 in
-          (record { plain = x.leaf.plain; ordered = x.leaf.ordered; small = x.leaf.small; inside = omega (arith, x.leaf.room, x.inside) }, one.1.0, one.1.1)
+          search (arith, x.leaf, x.inside, one)
 
       module _ (n : ℕ) (n_is : n ≡ length new.raw.items) where
         sized : record_bytes now own'.vdr ≡ n
@@ -178,15 +138,11 @@ module _ {b now : List ℕ} {kind : Kind} {before : List VariableShape} {own : V
               let long = ap length bytes_are ∙ record_long new.raw.items new.pad.items new.rec (record_bytes b own.vdr) p.start.raw_long p.pad_long k ∙ sym (size_now so) ∙ sized in
               omega (arith, held.1, held.2, times_le (suc (k - l.first)) (l.last + 1 - l.first) n (omega (arith, held.1, held.2)))
 
-          pub written_on : {now' : List ℕ} → now' ≡ put_at now (l.at + (12 + (k - l.first) * n)) bytes → IsPut b now' kind before own after new (k + 1)
+          pub written_on : {now' : List ℕ} → now' ≡ put now (l.at + (12 + (k - l.first) * n)) bytes → IsPut b now' kind before own after new (k + 1)
           written_on w = record {
             own' = own';
             acts = is.acts;
-            so = so_far_written so more (record {
-              found = here;
-              within = rw (sized, ← bytes_are) held_within;
-              written = rw (sized, ← bytes_are) w;
-            }) (record_long new.raw.items new.pad.items new.rec (record_bytes b own.vdr) p.start.raw_long p.pad_long k);
+            so = so_far_written so more (record { found = here; within = rw (sized, ← bytes_are) held_within; written = rw (sized, ← bytes_are) w }) (record_long new.raw.items new.pad.items new.rec (record_bytes b own.vdr) p.start.raw_long p.pad_long k);
           }
 
     -- ---- no block has it
@@ -194,37 +150,31 @@ module _ {b now : List ℕ} {kind : Kind} {before : List VariableShape} {own : V
     ending : Ends k (next_first k (firsts_of own'.index)) (block_count (variable_of b own)) (new_last (variable_of b own) own'.index k)
     ending = covering_ends so.covers so.start.small more
 
-    last_is : last_in_new new.most own'.index k ≡ new_last (variable_of b own) own'.index k
-    last_is = last_as (variable_of b own) own'.index k new.rec new.most (ap is_sparse so.start.no_rule) p.most_is so.covers.from more (omega (arith, ending.0, ending.1))
-
     module _ {at : ℕ} (at_is : at ≡ number now new.vdr vdr_vxr_head) (vacant : leaf_of k (leaves_of (index_at now at)) ≡ None) where
-      none : find (λ (leaf : TreeLeaf). covers k (range leaf.first leaf.last)) (leaves_of own'.index) ≡ None
+      none : find (λ (leaf : Leaf). covers k (range leaf.first leaf.last)) (leaves_of own'.index) ≡ None
       none = rw (at_is, searched.1) at vacant
 
       module _ (end : ℕ) (end_is : end ≡ last_in_new new.most (index_at now at) k) (body : List ℕ) (says : IsBlockBody body (records_put new.raw.items new.pad.items new.rec (end + 1 - k) k)) where
         ends_at : end ≡ new_last (variable_of b own) own'.index k
-        ends_at = rw (at_is, searched.1) at end_is ∙ last_is
-
-        room_here : length now + (8 + length body) + vxr_bytes (widest own'.index) ≤ limit
-        room_here =
-            let bytes = records_long new.raw.items new.pad.items new.rec (record_bytes b own.vdr) p.start.raw_long p.pad_long (end + 1 - k) k ∙ ap (λ (n : ℕ). (n + 1 - k) * record_bytes b own.vdr) ends_at in
-            omega (arith, longer_by b now is.acts so.goes.follow so.takes, body_long body (records_put new.raw.items new.pad.items new.rec (end + 1 - k) k) says, bytes, covering_room so.covers so.start.small more (ap is_sparse so.start.no_rule) so.start.loose none)
+        ends_at = rw (at_is, searched.1) at end_is ∙ last_as (variable_of b own) own'.index k new.rec new.most (ap is_sparse so.start.no_rule) p.most_is so.covers.from more (omega (arith, ending.0, ending.1))
 
         -- an image that is read in between
         pub room_after : {mid : List ℕ} {bound : ℕ} → mid ≡ now → bound ≡ limit → length mid + (8 + length body) + vxr_bytes (widest (index_at mid (number mid new.vdr vdr_vxr_head))) ≤ bound
-        room_after same bounded = rw (same, bounded, searched.1) room_here
+        room_after same bounded =
+            let bytes = records_long new.raw.items new.pad.items new.rec (record_bytes b own.vdr) p.start.raw_long p.pad_long (end + 1 - k) k ∙ ap (λ (n : ℕ). (n + 1 - k) * record_bytes b own.vdr) ends_at in
+            let need = covering_room so.covers so.start.small more (ap is_sparse so.start.no_rule) so.start.loose none in
+            rw (same, bounded, searched.1) (omega (arith, longer_by b now is.acts so.goes.follow so.takes, body_long body (records_put new.raw.items new.pad.items new.rec (end + 1 - k) k) says, bytes, need))
 
         pub added_on : {now' : List ℕ} → AddsOn now now' new.vdr k end body → limit ≤ image_limit → IsPut b now' kind before own after new (min end new.rec + 1)
         added_on {now' = now'} adds upto =
             let a = adds kind before own' after so.goes.among vdr_is in
             let vacancy : IsVacant own' k end = record { ordered = omega (arith, ends_at, ending.0); uncovered = none; before_next = omega (arith, ends_at, ending.1) } in
             let wide = new_room_widest now (shape now).records 8 k own'.index (has so.goes.good so.goes.among).indexed.has_nodes (fits so.goes.good so.goes.among).1 in
-            let short : length now' ≤ image_limit = omega (arith, a.added.as_long, a.added.block.longest, node_long a.added.filled a.added.roomy (new_room k own'.index) a.at (widest own'.index) a.added.node wide, room_here) in
+            let short : length now' ≤ image_limit = omega (arith, a.added.as_long, a.added.block.longest, node_long a.added.filled a.added.roomy (new_room k own'.index) a.at (widest own'.index) a.added.node wide, rw searched.1 at (room_after refl refl)) in
             record {
               own' = record own' { index = with_leaf (leaf k end a.place false) a.at own'.index };
               acts = is.acts ++ leaf_acts a.place (8 + length body) (new_room k own'.index) a.at;
-              so = subst (λ (n : ℕ). SoFar b now' kind before own (record own' { index = with_leaf (leaf k end a.place false) a.at own'.index }) after new.raw.items new.pad.items new.rec n (is.acts ++ leaf_acts a.place (8 + length body) (new_room k own'.index) a.at)) (omega arith)
-                  (so_far_added so more ends_at vacancy says (block_records new.raw.items new.pad.items new.rec (record_bytes b own.vdr) p.start.raw_long p.pad_long k end) a.added short);
+              so = so_far_added so more ends_at vacancy says (block_records new.raw.items new.pad.items new.rec (record_bytes b own.vdr) p.start.raw_long p.pad_long k end) a.added short (omega arith);
             }
 
 -- ---- from the first image on

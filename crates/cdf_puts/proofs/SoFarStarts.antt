@@ -1,5 +1,5 @@
 -- The leaves that were put so far: which one more there is once a record is written or a leaf is added, that a put goes through them one after the other, and how that starts.
-use Rattle.cdf_puts.proofs.Common.{Act, Ascending, BlocksSoFar, Bool, IndexSoFar, IsOneOf, Kind, Leaf, List, NodeSpareStays, Nodes, NodesFollow, NodesSoFar, None, PutStart, PutsBefore, PutsLeaves, Range, Some, TakesNode, UnusedEntries, VariableShape, [], ap, append_assoc, arith, block_need, bytes_eq-same, covers, each, false, filter, find, first_written, has, if◌then◌else◌, in_order, indexes_with, inl, inr, is_in-true, leaf_acts, leaves_ascend, leaves_of, list_any, nat_tests, ne_eqb, new_ranges, new_room, node_acts, nodes_of, of_le, range, ranges_of, record_bytes, record_number_limit, refl, room, subst, suc, sym, through, top_chain, true, upto, used_count, variable_of, was_put, with_leaf, with_new, zero, ℕ, ◌++◌, ◌+◌, ◌<◌, ◌==◌, ◌∷◌, ◌≡◌, ◌≤◌}
+use Rattle.cdf_puts.proofs.Common.{Act, Ascending, BlocksSoFar, Bool, IndexSoFar, IsOneOf, Kind, Leaf, List, NodeSpareStays, Nodes, NodesFollow, NodesSoFar, None, PutStart, PutsBefore, PutsLeaves, Range, Some, TakesNode, UnusedEntries, VariableShape, [], ap, append_assoc, arith, block_need, bytes_eq-same, covers, each, false, filter, find, first_written, has, if◌then◌else◌, in_order, indexes_with, inl, inr, is_in-true, leaf_acts, leaves_ascend, leaves_of, list_any, nat_tests, ne_eqb, new_ranges, new_room, node_acts, nodes_of, of_le, range, ranges_of, record_bytes, record_number_limit, refl, room, subst, suc, sym, through, top_chain, true, upto, used_count, variable_of, was_put, with_leaf, with_new, zero, ℕ, ◌++◌, ◌+◌, ◌<◌, ◌==◌, ◌∷◌, ◌≡◌, ◌≤◌, rules}
 use Rattle.cdf_puts.proofs.CoveringRanges.{of_leaves}
 use Rattle.cdf_puts.proofs.PutBytes.{none_is_put}
 
@@ -88,14 +88,11 @@ module _ {b : List ℕ} {kind : Kind} {before : List VariableShape} {own : Varia
   starts_upto = rw start.no_rule (omega arith)
 
   pub index_start : IndexSoFar b b own own first first []
-  index_start = record {
-    puts = subst (λ (ls : List Leaf). PutsBefore b own own ls []) (sym (none_pass (was_put first first) (leaves_of own.index) (λ l i. grind (arith, nat_tests)))) (λ last size more acts' end p. p);
-    tail = rw (bytes_eq-same (top_chain own.index)) refl;
-    top = inl refl;
-    tops = λ m i. i;
-    nodes = subst (λ (rs : List Range). NodesSoFar b b own own rs []) (sym (none_new (ranges_of own.index) (leaves_of own.index) (λ l i. covers_own (leaves_of own.index) l i (in_order 0 (suc record_number_limit) (leaves_of own.index) (leaves_ascend start.good start.among) l i).ordered)))
-        (record { stay = λ m i. i; apart = λ m i. refl; come = λ m i. inl i; sizes = λ m i. refl; outlined = refl; follow = nodes_first b (indexes_with own.index []) (nodes_of own.index) });
-  }
+  index_start =
+      let puts = subst (λ (ls : List Leaf). PutsBefore b own own ls []) (sym (none_pass (was_put first first) (leaves_of own.index) (λ l i. grind (arith, nat_tests)))) (λ last size more acts' end p. p) in
+      let nodes = subst (λ (rs : List Range). NodesSoFar b b own own rs []) (sym (none_new (ranges_of own.index) (leaves_of own.index) (λ l i. covers_own (leaves_of own.index) l i (in_order 0 (suc record_number_limit) (leaves_of own.index) (leaves_ascend start.good start.among) l i).ordered)))
+      (record { stay = λ m i. i; apart = λ m i. refl; come = λ m i. inl i; sizes = λ m i. refl; outlined = refl; follow = nodes_first b (indexes_with own.index []) (nodes_of own.index) }) in
+      search (rules, bytes_eq-same (top_chain own.index), puts, nodes)
 
   pub blocks_start : BlocksSoFar b b own own raw pad r first first [] []
   blocks_start = none_is_put (record { longer = omega arith; same = λ place lt out. refl }) (λ l i. record { each = λ p low high. refl })

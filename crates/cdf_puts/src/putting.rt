@@ -161,6 +161,7 @@ impl NewRecord {
 }
 
 /// The last record of a new block from one on, which ends before the next First.
+#[tactic(auto, using(crate::proofs::CoveringRanges::bound_is, crate::proofs::CoveringRanges::next_past))]
 fn last_of_new<A: Area>(
     area: &mut A,
     head: u64,
