@@ -1,5 +1,5 @@
 -- Levels make an index of their leaves: what the entries that name the nodes of a level have of those in them, and what holds of all levels.
-use Rattle.cdf_reindex.proofs.Common.{AreInOrder, AreLevels, AreTight, Distinct, Each, Each-split, Entries, EntriesTight, Filled, FullFromLeft, HasNodes, In, InOrder, Leaf, List, LowerAreZero, MakesPyramid, Named, Names, NewNode, NextsAreZero, None, Option, SaysNode, Some, Spans, [], alone, ap, append-nil, append_assoc, ap₂, arith, block, cases_lt, count_both, either, entries_for, entries_of, entry_count, entry_leaves, false-is_in, first_of, from_below, inl, inr, is_in, last_of, last_or, leaves_both, leaves_of, length, length-append, length-map, levels_up, lower, lower_both, lower_nodes, map, map-append, names_parts, nat_tests, no_entry, no_node, nodes_above, nodes_at, nodes_below, nodes_left, nodes_of, option_map, parts_in_order, past_entries, places_of, quotient_up, refl, subst, suc, sum, sum_by-cons, sym, times, times-append, times-in, times-none, times-once, true-is_in, uppers, with_both, zero, ℕ, ◌*◌, ◌++◌, ◌+◌, ◌∙◌, ◌∷◌, ◌≡◌, ◌≤◌, ◌⊎◌, rules}
+use Rattle.cdf_reindex.proofs.Common.{take, take_all, AreInOrder, AreLevels, AreTight, Distinct, Each, Each-split, Entries, EntriesTight, Filled, FullFromLeft, HasNodes, In, InOrder, Leaf, List, LowerAreZero, MakesPyramid, Named, Names, NewNode, NextsAreZero, None, Option, SaysNode, Some, Spans, [], alone, ap, append-nil, append_assoc, ap₂, arith, block, cases_lt, count_both, either, entries_for, entries_of, entry_count, entry_leaves, false-is_in, first_of, from_below, inl, inr, is_in, last_of, last_or, leaves_both, leaves_of, length, length-append, length-map, levels_up, lower, lower_both, lower_nodes, map, map-append, names_parts, nat_tests, no_entry, no_node, nodes_above, nodes_at, nodes_below, nodes_left, nodes_of, option_map, parts_in_order, past_entries, places_of, quotient_up, refl, subst, suc, sum, sum_by-cons, sym, times, times-append, times-in, times-none, times-once, true-is_in, uppers, with_both, zero, ℕ, ◌*◌, ◌++◌, ◌+◌, ◌∙◌, ◌∷◌, ◌≡◌, ◌≤◌, ◌⊎◌, rules}
 
 -- what counts a list by its parts
 pub record Adds (f : List ℕ → ℕ) : Type 0 where
@@ -123,20 +123,12 @@ row [] k = []
 row (level ∷ more) zero = level
 row (level ∷ more) (suc k) = row more k
 
--- the nodes of so many levels, from the lowest one up
-abbrev ups : ℕ → List (List NewNode) → List ℕ
-ups zero levels = []
-ups (suc n) levels = places_of (row levels n) ++ ups n levels
-
-ups_more : (n : ℕ) (level : List NewNode) (more : List (List NewNode)) → ups (suc n) (level ∷ more) ≡ ups n more ++ places_of level
-ups_more zero level more = append-nil (places_of level)
-ups_more (suc n) level more = ap (λ (ps : List ℕ). places_of (row more n) ++ ps) (ups_more n level more) ∙ sym (append_assoc (places_of (row more n)) (ups n more) (places_of level))
-
-ups_all : (n : ℕ) (levels : List (List NewNode)) → length levels ≤ n → ups n levels ≡ places_of (from_below levels)
-ups_all zero [] few = refl
-ups_all (suc n) [] few = ups_all n [] (omega arith)
-ups_all zero (level ∷ more) few = absurd (omega arith)
-ups_all (suc n) (level ∷ more) few = ups_more n level more ∙ ap (λ (ps : List ℕ). ps ++ places_of level) (ups_all n more (omega arith)) ∙ sym (map-append (λ (new : NewNode). new.place) (from_below more) level)
+-- the nodes of the upper levels, with one level more
+one_more : (k : ℕ) (levels : List (List NewNode)) → from_below (take (suc k) levels) ≡ row levels k ++ from_below (take k levels)
+one_more zero [] = refl
+one_more (suc k) [] = refl
+one_more zero (level ∷ more) = sym (append-nil level)
+one_more (suc k) (level ∷ more) = rw (one_more k more) (append_assoc (row more k) (from_below (take k more)) level)
 
 -- entries over levels
 pub record Piled (leaves : List Leaf) (entries : Entries) (levels : List (List NewNode)) : Type 0 where
@@ -185,16 +177,13 @@ full_level [] f = tt
 full_level (new ∷ []) f = tt
 full_level (new ∷ next ∷ more) f = (f.2 (omega arith), full_level (next ∷ more) f.3)
 
-full_row : (leaves : List Leaf) (level : List NewNode) (more : List (List NewNode)) → AreLevels leaves (level ∷ more) → (k : ℕ) → FullFromLeft (counted (row (level ∷ more) k))
-full_row leaves level more l zero = full_level level (top_filled leaves level more l)
-full_row leaves level [] l (suc k) = tt
-full_row leaves level (below ∷ more) l (suc k) = full_row leaves below more l.3 k
-
--- each level but the lowest has an entry for each node of the next one
-even_row : (leaves : List Leaf) (level : List NewNode) (more : List (List NewNode)) → AreLevels leaves (level ∷ more) → (k : ℕ) → (counted (row more k) ≡ []) ⊎ (length (counted (row more k)) ≡ sum (map (λ pair. pair.1) (counted (row (level ∷ more) k))))
-even_row leaves level [] l k = inl refl
-even_row leaves level (below ∷ more) l zero = inr (omega (arith, length-map {B = ℕ × ℕ} below (λ new. (new.place, entry_count new.entries)), (raised below (top_filled leaves below more l.3)).count, ap entry_count l.0, (raised level l.1).sum_is))
-even_row leaves level (below ∷ more) l (suc k) = even_row leaves below more l.3 k
+-- each level is full from the left, and each but the lowest has an entry for each node of the next one
+rows : (leaves : List Leaf) (level : List NewNode) (more : List (List NewNode)) → AreLevels leaves (level ∷ more) → (k : ℕ)
+    → FullFromLeft (counted (row (level ∷ more) k)) × ((counted (row more k) ≡ []) ⊎ (length (counted (row more k)) ≡ sum (map (λ pair. pair.1) (counted (row (level ∷ more) k)))))
+rows leaves level [] l zero = (full_level level l.1, inl refl)
+rows leaves level [] l (suc k) = (tt, inl refl)
+rows leaves level (below ∷ more) l zero = (full_level level l.1, inr (omega (arith, length-map {B = ℕ × ℕ} below (λ new. (new.place, entry_count new.entries)), (raised below (top_filled leaves below more l.3)).count, ap entry_count l.0, (raised level l.1).sum_is)))
+rows leaves level (below ∷ more) l (suc k) = rows leaves below more l.3 k
 
 -- ---- how many levels, and how many nodes
 
@@ -250,9 +239,9 @@ module _ (leaves : List Leaf) (top : NewNode) (more : List (List NewNode)) (l : 
   unfolding nodes_at nodes_below
   at k = sym (append-nil (nodes_at k (alone top))) ∙ p.rows k
 
-  up : (n : ℕ) → levels_up n (alone top) ≡ ups (suc n) ((top ∷ []) ∷ more)
+  up : (n : ℕ) → levels_up n (alone top) ≡ places_of (from_below (take (suc n) ((top ∷ []) ∷ more)))
   up zero = ap (map (λ pair. pair.0)) (at 0)
-  up (suc n) = ap₂ (λ (xs ys : List ℕ). xs ++ ys) (ap (map (λ pair. pair.0)) (at (suc n)) ∙ mapped (row more n)) (up n)
+  up (suc n) = ap₂ (λ (xs ys : List ℕ). xs ++ ys) (ap (map (λ pair. pair.0)) (at (suc n)) ∙ mapped (row more n)) (up n) ∙ sym (ap places_of (one_more (suc n) ((top ∷ []) ∷ more)) ∙ map-append (λ (new : NewNode). new.place) (row more n) (from_below (take (suc n) ((top ∷ []) ∷ more))))
     where
       mapped : (ns : List NewNode) → map (λ pair. pair.0) (counted ns) ≡ places_of ns
       mapped [] = refl
@@ -269,13 +258,13 @@ module _ (leaves : List Leaf) (top : NewNode) (more : List (List NewNode)) (l : 
   pub makes_pyramid : MakesPyramid leaves top more
   unfolding leaves_of entry_leaves InOrder AreInOrder NextsAreZero LowerAreZero AreTight EntriesTight
   makes_pyramid =
-      let full = λ (k : ℕ). subst FullFromLeft (sym (at k)) (full_row leaves (top ∷ []) more l k) in
-      let even : (k : ℕ) → (nodes_at (suc k) (alone top) ≡ []) ⊎ (length (nodes_at (suc k) (alone top)) ≡ sum (map (λ pair. pair.1) (nodes_at k (alone top)))) = λ k. rw (at k, at (suc k)) (even_row leaves (top ∷ []) more l k) in
+      let full = λ (k : ℕ). subst FullFromLeft (sym (at k)) (rows leaves (top ∷ []) more l k).0 in
+      let even : (k : ℕ) → (nodes_at (suc k) (alone top) ≡ []) ⊎ (length (nodes_at (suc k) (alone top)) ≡ sum (map (λ pair. pair.1) (nodes_at k (alone top)))) = λ k. rw (at k, at (suc k)) (rows leaves (top ∷ []) more l k).1 in
       let order : (high : ℕ) → AreInOrder 0 high (entries_for leaves) → InOrder 0 high (alone top) = λ high o. ((parts_in_order 0 high top.entries no_entry (inner.order high o)).0, tt) in
       let high = tall leaves (top ∷ []) more l in
       let few : length leaves ≤ 2147483648 → length ((top ∷ []) ∷ more) ≤ 6 = λ few. omega (arith, (high few).count) in
       let fewest : 1 ≤ length leaves → length leaves ≤ 2147483648 → length (nodes_of (alone top)) ≡ nodes_above 8 (length leaves) = λ some few. omega (arith, nodes_are lengths_add, length-map (from_below ((top ∷ []) ∷ more)) (λ (new : NewNode). new.place), (high few).total some) in
-      let places = λ (f : length leaves ≤ 2147483648). up 7 ∙ ups_all 8 ((top ∷ []) ∷ more) (omega (arith, (high f).count)) in
+      let places = λ (f : length leaves ≤ 2147483648). up 7 ∙ ap (λ (levels : List (List NewNode)). places_of (from_below levels)) (take_all 8 ((top ∷ []) ∷ more) (omega (arith, (high f).count))) in
       search (rules, sym (append-nil (leaves_of (alone top))) ∙ p.leaves_are, full, even, p.tight.1, order, p.zeros.0, few, fewest, places)
 
 -- ---- lists with the same members

@@ -1,10 +1,10 @@
 -- The new nodes are taken and written, VXRhead and VXRtail lead to them, and the old nodes are freed: one edit, by which a good image stays good.
-use Rattle.cdf_reindex.proofs.Common.{Act, ActsFollow, AllGiven, AreFree, AreTiles, Counts, DataSet, Each, Each-in, Each-map, Edit, Exchanged, Field, Good, HasVariable, Hold, Hold-split, In, In-append, In-append_left, In-append_right, InOrder, IndexEdit, IndexTests, IsBare, IsBuilt, IsChain, IsIndex, IsLeft, IsOneOf, IsRebuilt, IsSound, Kept, Kind, Leaf, LeafFits, LiesIn, List, Mark, MayFree, MayWrite, NewIndex, NextsAreZero, NodeFits, Nodes, OwnEdit, R, SameHeads, Shape, StandsAmong, TakenAll, Variable, VariableFits, VariableShape, Z, [], acts_still_by, all_gave, all_given_edit, all_left, all_unused, ap, apart, append-nil, arith, avoided, away-avoids, behind_in, block_behind, block_fits_alike, block_kept, by_kind, cast_signed, chain_stays, content, content_is, content_now, cpr_behind, cpr_type, cvvr_type, distinct_if, each, each_holds, each_of, edit_then, edit_under, end_stays, eof, field, field_reads, file, fits, fixed_size, flat_map, freeing_marks, fresh_unowned, gave-same, gdr_eof, gdr_field, gdr_place, gdr_type, gdr_uir_head, has, heads_written, image_limit, index_edit, index_marks, index_order, index_rows, index_rules, inl, inr, is_a, is_a-type, is_block, is_in, is_in-true, is_linkable, is_record_type, keeps_file, kept, kept_away, last_node, leaf_rows, leaf_same, leaves_of, length, length-with_field, levels_up, link_to, linkable-in, linkable-long, linkable-type, links_mark, long, made_acts, map, map-append, max_rec_kept, negsuc, no_node, node, node_behind, node_room, nodes_kept, nodes_of, nodes_rows, nodes_stand, none_in_use, not_twice_kept, number, number_kept, of_each, other_words, own_edit, own_rules, owned-times, owned_records, packed_stays, parts_times, plain_alike, pos, r_vdr_type, read_types, record_number_limit, records_alike, records_in, refl, reindex_room, room, rules, same_shape, shape, shapes_of, shapes_with, size_at, size_kept, sizes_by_tiles, some_bytes, sound, sound_if, space_fields, spliced_times, splices, stays, stays_alike, subst, sym, taking_all, through, tile, times, times-append, times-in, times-none, times-once, true, type_at, type_in, type_kept, typed, uir_type, unmarked, unmarked-away, used_times, variable_of, variable_records, variable_stays, variables_chain, variables_of, variables_of_are, vdr_alike, vdr_no_node, vdr_size, vdr_type, vdr_vxr_head, vdr_vxr_tail, vdrs, vvr_type, vxr_bytes, vxr_n_used_entries, vxr_type, w32, with_field, with_index, with_shapes, with_variables, with_writes, write, write_lies, writes_edit, writes_long, z_vdr_type, ℕ, ◌&&◌, ◌++◌, ◌+◌, ◌==◌, ◌||◌, ◌∙◌, ◌∷◌, ◌≡◌, ◌≢◌, ◌≤◌, ◌⊎◌}
+use Rattle.cdf_reindex.proofs.Common.{Frees, all_freed, freed_edit, freed_long, freed_places, freed_records, freed_shape, gdr_still, may_free, others_kept, sizes_before, sound_now, Act, ActsFollow, AllGiven, AreFree, AreTiles, Counts, DataSet, Each, Each-in, Each-map, Edit, Exchanged, Field, Good, HasVariable, Hold, Hold-split, In, In-append, In-append_left, In-append_right, InOrder, IndexEdit, IndexTests, IsBare, IsBuilt, IsChain, IsIndex, IsOneOf, IsRebuilt, IsSound, Kept, Kind, Leaf, LeafFits, LiesIn, List, Mark, MayWrite, NewIndex, NextsAreZero, NodeFits, Nodes, OwnEdit, R, SameHeads, Shape, StandsAmong, TakenAll, Variable, VariableFits, VariableShape, Z, [], acts_still_by, all_gave, ap, apart, append-nil, arith, avoided, away-avoids, behind_in, block_behind, block_fits_alike, block_kept, by_kind, cast_signed, chain_stays, content, content_is, content_now, cpr_behind, cpr_type, cvvr_type, distinct_if, each, each_holds, each_of, edit_then, edit_under, end_stays, eof, field, field_reads, file, fits, fixed_size, flat_map, freeing_marks, fresh_unowned, gave-same, gdr_eof, gdr_field, gdr_place, gdr_type, gdr_uir_head, has, heads_written, image_limit, index_edit, index_marks, index_order, index_rows, index_rules, inl, inr, is_a, is_a-type, is_block, is_in, is_in-true, is_linkable, is_record_type, keeps_file, kept, kept_away, last_node, leaf_rows, leaf_same, leaves_of, length, length-with_field, levels_up, link_to, linkable-in, linkable-long, linkable-type, links_mark, long, made_acts, map, map-append, max_rec_kept, negsuc, no_node, node, node_behind, node_room, nodes_kept, nodes_of, nodes_rows, nodes_stand, none_in_use, not_twice_kept, number, number_kept, of_each, other_words, own_edit, own_rules, owned-times, owned_records, packed_stays, parts_times, plain_alike, pos, read_types, record_number_limit, records_alike, records_in, refl, reindex_room, room, rules, same_shape, shape, shapes_of, size_at, size_kept, sizes_by_tiles, some_bytes, sound, sound_if, space_fields, spliced_times, splices, stays, stays_alike, subst, sym, taking_all, through, tile, times, times-append, times-in, times-none, times-once, true, type_at, type_in, type_kept, typed, uir_type, unmarked, unmarked-away, used_times, variable_of, variable_records, variable_stays, variables_chain, variables_of, variables_of_are, vdr_alike, vdr_no_node, vdr_size, vdr_vxr_head, vdr_vxr_tail, vdrs, vvr_type, vxr_bytes, vxr_n_used_entries, vxr_type, w32, with_field, with_index, with_shapes, with_variables, with_writes, write, write_lies, writes_edit, writes_long, ℕ, ◌&&◌, ◌++◌, ◌+◌, ◌==◌, ◌||◌, ◌∙◌, ◌∷◌, ◌≡◌, ◌≢◌, ◌≤◌, ◌⊎◌}
 use Rattle.cdf_edits.proofs.Edits.LeafPieces.{place_in as leaf_in}
 use Rattle.cdf_edits.proofs.Edits.InRecords.{places_of}
 use Rattle.cdf_index.proofs.NewIndex.{good_now as changed_good}
 use Rattle.cdf_reindex.proofs.Levels.{in_by_times, times_most}
-use Rattle.cdf_reindex.proofs.PyramidBuilt.{all_taken, among_space, bare_by, end_before, node_takes, own_of}
+use Rattle.cdf_reindex.proofs.PyramidBuilt.{all_taken, bare_by, end_before, node_takes, own_of}
 use Rattle.cdf_edits.proofs.Edits.OwnEdited as of_own_edit
 
 -- ---- marks
@@ -27,12 +27,10 @@ pub record HeadTests (kind : Kind) (v : ℕ) (unused new nodes : List ℕ) (limi
   pub unused_clear : unmarked (heads_marks kind v) uir_type ≡ true
   pub file_clear : keeps_file (heads_marks kind v) ≡ true
   pub list_clear : avoided (heads_marks kind v) gdr_type 64 72 ≡ true
-  pub file_freed : keeps_file (heads_marks kind v ++ freeing_marks (vxr_type ∷ []) unused nodes limit) ≡ true
-  pub end_clear : avoided (heads_marks kind v ++ freeing_marks (vxr_type ∷ []) unused nodes limit) gdr_type 36 44 ≡ true
+  pub end_clear : avoided (heads_marks kind v) gdr_type 36 44 ≡ true
 
 made_tests : (kind : Kind) (v : ℕ) (unused new nodes : List ℕ) (limit : ℕ) → HeadTests kind v unused new nodes limit
-made_tests R v unused new nodes limit = search (rules, apart r_vdr_type uir_type refl, apart r_vdr_type gdr_type refl)
-made_tests Z v unused new nodes limit = search (rules, apart z_vdr_type uir_type refl, apart z_vdr_type gdr_type refl)
+made_tests kind v unused new nodes limit = grind arith
 
 -- where none has one behind it, the first is the last
 last_is : (nodes : Nodes) → NextsAreZero nodes → last_node nodes ≡ link_to nodes
@@ -146,13 +144,13 @@ module _ {b made : List ℕ} {kind : Kind} {before : List VariableShape} {own : 
   some = some_bytes made (shape made) t.grows.sound.has_shape
 
   -- VXRhead and VXRtail are written
-  lies : (f : Field) → f.place + f.width ≤ 44 → LiesIn made v f
+  pub lies : (f : Field) → f.place + f.width ≤ 44 → LiesIn made v f
   lies f high = write_lies made rs t.grows.sound.has_shape.tiled some v f (t.grows.edit.sub v (tile good among)) (omega (arith, vdr_made.1))
 
   pub head_lies : LiesIn made v vdr_vxr_head
   head_lies = lies vdr_vxr_head (omega arith)
 
-  pub tail_lies : (first : List ℕ) → first ≡ with_field made v vdr_vxr_head (link_to index) → LiesIn first v vdr_vxr_tail
+  tail_lies : (first : List ℕ) → first ≡ with_field made v vdr_vxr_head (link_to index) → LiesIn first v vdr_vxr_tail
   tail_lies first one = omega (arith, ap length one ∙ length-with_field made v vdr_vxr_head (link_to index) head_lies, lies vdr_vxr_tail (omega arith))
 
   may_write : (f : Field) → 28 ≤ f.place → f.place + f.width ≤ 44 → MayWrite made rs (heads_marks kind v) (write v f (link_to index))
@@ -171,6 +169,9 @@ module _ {b made : List ℕ} {kind : Kind} {before : List VariableShape} {own : 
 
   node_typed : (m : ℕ) → In m os → type_at b m ≡ vxr_type
   node_typed m i = linkable-type b s.records vxr_type m (nodes_stand b s.records 8 own.index (has good among).indexed.has_nodes m i)
+
+  old_made : (m : ℕ) → In m os → type_at made m ≡ vxr_type
+  old_made m i = let k = kept t.grows.edit m vxr_type (node_before m i) (node_typed m i) refl in type_kept b made m k.same k.long ∙ node_typed m i
 
   in_places : (m : ℕ) → In m (nodes_of index) → In m ps
   in_places m i = in_by_times (nodes_of index) ps (λ k. sym (x.each_taken k)) m i
@@ -257,40 +258,35 @@ module _ {b made : List ℕ} {kind : Kind} {before : List VariableShape} {own : 
         (not_twice_kept b linked s s' _ ps (sound good among) linked_index.edit (λ m out. omega (arith, used_now m, times-none m ps out))
         (λ m i. inl ((λ u. apart vxr_type uir_type refl (sym (new_linked m i) ∙ u)), omega (arith, used_now m, fresh_unowned (sound good among) m (t.fresh_all m i), times-once m ps t.once i)))))
 
-    pub may_free : MayFree linked (vxr_type ∷ []) os
-    may_free = record {
-      stand = λ m i. subst (λ (y : Shape). In m y.records) (sym linked_shape) (t.grows.edit.sub m (node_before m i));
-      typed = λ m i. ap (λ (k : ℕ). is_in k (vxr_type ∷ [])) (old_linked m i);
-      used = λ m i u. apart vxr_type uir_type refl (sym (old_linked m i) ∙ u);
-      once = (has good among).indexed.once;
-    }
-
     pub old_free : AreFree linked os
-    old_free = record {
-      stand = may_free.stand;
-      unowned = λ m i. subst (λ (y : Shape). times m (owned_records linked y) ≡ 0) (sym linked_shape)
-          (none_in_use linked s' heads_edit.tiled_now m (may_free.used m i) (omega (arith, used_now m, (sound good among).not_twice m, owned-times b s m, times-in m os i, times-none m ps (λ j. new_apart m j i))));
-      once = may_free.once;
-    }
+    old_free =
+        let stand : (m : ℕ) → In m os → In m (shape linked).records = λ m i. subst (λ (y : Shape). In m y.records) (sym linked_shape) (t.grows.edit.sub m (node_before m i)) in
+        let unowned : (m : ℕ) → In m os → times m (owned_records linked (shape linked)) ≡ 0 = λ m i. subst (λ (y : Shape). times m (owned_records linked y) ≡ 0) (sym linked_shape)
+        (none_in_use linked s' heads_edit.tiled_now m (λ u. apart vxr_type uir_type refl (sym (old_linked m i) ∙ u)) (omega (arith, used_now m, (sound good among).not_twice m, owned-times b s m, times-in m os i, times-none m ps (λ j. new_apart m j i)))) in
+        search (rules, stand, unowned, (has good among).indexed.once)
 
     -- ---- the old nodes are freed
 
     module _ (now : List ℕ) (given : AllGiven linked now os) where
-      pub left : IsLeft linked now
-      left = all_left linked now os sound_linked may_free.stand given
-
-      gives_edit : Edit linked now rs (shape now).records (freeing_marks (vxr_type ∷ []) (shape made).unused os (length linked)) os
-      gives_edit = subst (λ (y : Shape). Edit linked now y.records (shape now).records (freeing_marks (vxr_type ∷ []) y.unused os (length linked)) os) linked_shape
-          (subst (λ (ns : List ℕ). Edit linked now (shape linked).records ns (freeing_marks (vxr_type ∷ []) (shape linked).unused os (length linked)) os) (sym (ap (λ (y : Shape). y.records) left.shape_is)) (all_given_edit linked now (vxr_type ∷ []) os sound_linked may_free given))
+      pub frees : Frees made linked now (heads_marks kind v) (vxr_type ∷ []) os
+      frees = record {
+        sound = t.grows.sound;
+        edit = heads_edit;
+        long = linked_long;
+        mid_sound = sound_linked;
+        records = ap (λ (y : Shape). y.records) linked_shape;
+        unused = ap (λ (y : Shape). y.unused) linked_shape;
+        free = old_free;
+        typed = λ m i. ap (λ (k : ℕ). is_in k (vxr_type ∷ [])) (old_made m i);
+        no_gdr = refl;
+        given = given;
+      }
 
       onward : Edit made now rs (shape now).records (heads_marks kind v ++ freeing_marks (vxr_type ∷ []) (shape made).unused os (length linked)) os
-      onward = edit_then heads_edit gives_edit
-
-      pub long_now : length now ≡ length made
-      long_now = left.long ∙ linked_long
+      onward = subst (λ (ns : List ℕ). Edit made now rs ns (heads_marks kind v ++ freeing_marks (vxr_type ∷ []) (shape made).unused os (length linked)) os) (sym (freed_records frees)) (freed_edit frees)
 
       stands_now : IsIndex now (shape now).records (number now v vdr_vxr_head) index
-      stands_now = (own_of (HasVariable now (shape now).records) (among_space left.shape_is (of_own_edit.among_now good among linked_edit)) left.sound.has_shape.have_variables).indexed
+      stands_now = (own_of (HasVariable now (shape now).records) now (of_own_edit.among_now good among linked_edit) (freed_shape frees refl) (sound_now frees).has_shape.have_variables).indexed
 
       new_now : (m : ℕ) → In m ps → Kept made now m
       new_now m i = kept_away onward m vxr_type (new_in m i) (new_made m i) ((λ e l. vdr_no_node kind (sym e)), ((λ e l. apart vxr_type gdr_type refl e), ((λ e l. apart vxr_type uir_type refl e), ((λ e l. new_apart m i l), tt))))
@@ -300,10 +296,10 @@ module _ {b made : List ℕ} {kind : Kind} {before : List VariableShape} {own : 
 
       tail_now : number now v vdr_vxr_tail ≡ link_to index
       tail_now =
-          let at = index_edit good among linked_index in
           let there = t.grows.edit.sub v (tile good among) in
-          let k = kept_away gives_edit v _ there (vdr_type good among at ∙ typed good among) ((λ e l. (tests [] 0).no_gdr e), ((λ e l. (tests [] 0).used e), ((λ e l. vdr_no_node kind e), tt))) in
-          number_kept linked now v k.same vdr_vxr_tail (omega (arith, vdr_size good among at, long good among)) ∙ tail_is
+          let type : type_at linked v ≡ type_in (variables_chain kind) = same_heads.types v there ∙ vdr_made.0 in
+          let k = others_kept frees v there (λ e. (tests [] 0).no_gdr (sym type ∙ e)) (λ e. (tests [] 0).used (sym type ∙ e)) (λ i. vdr_no_node kind (sym (typed good among) ∙ node_typed v i)) in
+          number_kept linked now v k.same vdr_vxr_tail (omega (arith, same_heads.sizes v there, vdr_made.1)) ∙ tail_is
 
       -- ---- the whole
 
@@ -314,33 +310,30 @@ module _ {b made : List ℕ} {kind : Kind} {before : List VariableShape} {own : 
       pub new_index : NewIndex b now kind own index (shape now).records (shape now).unused space_fields (taking_all s.unused ps (vxr_bytes 64)) os (field 0 (length linked)) (ps ++ os)
       new_index =
           let there : (m : ℕ) → In m (ps ++ os) → In m (shape now).records = λ m i. elim (In-append m ps os i) [ inl j ↦ onward.sub m (new_in m j) | inr j ↦ onward.sub m (t.grows.edit.sub m (node_before m j)) ] in
-          let typed : (m : ℕ) → In m (ps ++ os) → (is_record_type (type_at now m) ≡ true) × (fixed_size (type_at now m) ≤ size_at now m) = λ m i. (left.sound.has_shape.typed m (there m i), left.sound.has_shape.fixed m (there m i)) in
-          let gdr = sym left.sound.has_shape.gdr_is ∙ gdr_place (sound good among) edit (tests os (length linked)).tests.file_clear in
-          search (rules, edit, (tests os (length linked)).tests, typed, rw gdr at left.sound.has_shape.unused_chain, stands_now)
+          let typed : (m : ℕ) → In m (ps ++ os) → (is_record_type (type_at now m) ≡ true) × (fixed_size (type_at now m) ≤ size_at now m) = λ m i. ((sound_now frees).has_shape.typed m (there m i), (sound_now frees).has_shape.fixed m (there m i)) in
+          let gdr = sym (sound_now frees).has_shape.gdr_is ∙ gdr_place (sound good among) edit (tests os (length linked)).tests.file_clear in
+          search (rules, edit, (tests os (length linked)).tests, typed, rw gdr at (sound_now frees).has_shape.unused_chain, stands_now)
 
       pub rebuilt : IsRebuilt b now own
       rebuilt =
           let tail : number now v vdr_vxr_tail ≡ last_node index = tail_now ∙ sym (last_is index x.nexts) in
-          let longest : length now ≤ length b + reindex_room own.index = omega (arith, long_now, x.longest) in
-          search (rules, x, heads, sound_linked, given, stands_now, bare_now, left.sound, content_same good among new_index x.leaves_stay bare_now)
+          let longest : length now ≤ length b + reindex_room own.index = omega (arith, freed_long frees, x.longest) in
+          search (rules, x, heads, sound_linked, given, stands_now, bare_now, sound_now frees, content_same good among new_index x.leaves_stay bare_now)
 
       -- ---- a good image stays good
 
       new_type : (m : ℕ) → In m ps → type_at now m ≡ vxr_type
       new_type m i = let k = new_now m i in type_kept made now m k.same k.long ∙ new_made m i
 
-      old_type : (m : ℕ) → In m os → type_at now m ≡ uir_type
-      old_type = all_unused linked now os sound_linked may_free.stand given
-
       exchanged : Exchanged b now own index (ps ++ os) ps os
       exchanged =
           let back : (m : ℕ) → In m ps ⊎ In m os → In m (ps ++ os) = λ m i. elim i [ inl j ↦ In-append_left m ps os j | inr j ↦ In-append_right m ps os j ] in
           let times_are : (m : ℕ) → times m (nodes_of index) + times m (places_of (leaves_of index)) + times m os ≡ times m os + times m (places_of (leaves_of own.index)) + times m ps = λ m. omega (arith, ap (λ (ls : List Leaf). times m (places_of ls)) x.leaves_stay, x.each_taken m) in
           let in_use = λ (m : ℕ) (i : In m ps) (u : type_at now m ≡ uir_type). apart vxr_type uir_type refl (sym (new_type m i) ∙ u) in
-          search (rules, In-append, back, times_are, t.fresh_all, t.once, in_use, (has good among).indexed.once, old_type)
+          search (rules, In-append, back, times_are, t.fresh_all, t.once, in_use, (has good among).indexed.once, all_freed frees)
 
       end_now : eof now s.gdr ≡ length now
-      end_now = subst (λ (g : ℕ). eof now g ≡ length now) (ap (λ (y : Shape). y.gdr) t.grows.same_shape) (gdr_field t.grows.sound onward (tests [] 0).file_freed gdr_eof (tests [] 0).end_clear (omega arith) ∙ t.grows.end_is ∙ sym long_now)
+      end_now = subst (λ (g : ℕ). eof now g ≡ length now) (ap (λ (y : Shape). y.gdr) t.grows.same_shape) (gdr_still frees gdr_eof (omega arith) ∙ gdr_field t.grows.sound heads_edit (tests [] 0).file_clear gdr_eof (tests [] 0).end_clear (omega arith) ∙ t.grows.end_is ∙ sym (freed_long frees))
 
       abbrev made_edit : OwnEdit b now kind own index (shape now).records (shape now).unused (index_made_marks kind v s.unused ps os (length linked)) (ps ++ os)
       made_edit = own_edit good among new_index
@@ -350,21 +343,20 @@ module _ {b made : List ℕ} {kind : Kind} {before : List VariableShape} {own : 
 
       -- the descriptors of both kinds stay where they are
       pub vdrs_stay : (k : Kind) → vdrs (shapes_of (shape now) k) ≡ vdrs (shapes_of s k)
-      vdrs_stay k = ap (λ (y : Shape). vdrs (shapes_of y k)) (of_own_edit.same_shape good among made_edit) ∙ ap vdrs (as_with k) ∙ by_kind (λ (j : Kind) (vs : List VariableShape). vdrs vs ≡ vdrs (shapes_of s j)) kind s _ (of_own_edit.same_vdrs good among made_edit) refl k
-        where
-          as_with : (k : Kind) → shapes_of (with_shapes s kind (shape now).records (shape now).unused (before ++ with_index own index ∷ after)) k ≡ shapes_with s kind (before ++ with_index own index ∷ after) k
-          as_with R = refl
-          as_with Z = refl
+      vdrs_stay = by_kind (λ (k : Kind) (vs : List VariableShape). vdrs (shapes_of (shape now) k) ≡ vdrs (shapes_of s k)) kind s [] (ap vdrs among_now.was ∙ of_own_edit.same_vdrs good among made_edit) (ap vdrs (of_own_edit.others_are good among made_edit))
 
       pub good_now : length now ≤ image_limit → Good now
       good_now short = changed_good good among new_index ps os exchanged (index_ruled good among new_index x.leaves_stay bare_now x.order short)
-          (λ m i. elim (In-append m ps os i) [ inl j ↦ ap (λ (k : ℕ). is_in k read_types) (new_type m j) | inr j ↦ ap (λ (k : ℕ). is_in k read_types) (old_type m j) ]) end_now short
+          (λ m i. elim (In-append m ps os i) [ inl j ↦ ap (λ (k : ℕ). is_in k read_types) (new_type m j) | inr j ↦ ap (λ (k : ℕ). is_in k read_types) (all_freed frees m j) ]) end_now short
 
       -- ---- the acts
 
       pub same_size : (m : ℕ) → In m os → size_at linked m ≡ size_at b m
       same_size m i = let k = node_linked m i in size_kept b linked m k.same (let l = k.long in omega arith)
 
+      pub freed_size : (m : ℕ) → In m os → size_at now m ≡ size_at b m
+      freed_size m i = sizes_by_tiles made now 8 8 (length made) rs refl t.grows.sound.has_shape.tiled (subst (λ (n : ℕ). AreTiles now 8 n rs) (freed_long frees) (freed_edit frees).tiled_now) m (freed_places frees m i) ∙ sym (sizes_before frees m i) ∙ same_size m i
+
       pub made_follow : ActsFollow b now (made_acts b own.index index)
       made_follow = subst (λ (xs : List Act). ActsFollow b now (node_takes ps ++ xs)) (gave-same b linked os same_size)
-          (all_gave b linked now (node_takes ps) (vxr_type ∷ []) os (sound good among).has_shape (acts_still_by t.grows.sound t.follow heads_edit (tests [] 0).unused_clear (ap (λ (y : Shape). y.records) linked_shape) (ap (λ (y : Shape). y.unused) linked_shape) linked_long) sound_linked may_free given)
+          (all_gave b linked now (node_takes ps) (vxr_type ∷ []) os (sound good among).has_shape (acts_still_by t.grows.sound t.follow heads_edit (tests [] 0).unused_clear (ap (λ (y : Shape). y.records) linked_shape) (ap (λ (y : Shape). y.unused) linked_shape) linked_long) sound_linked (may_free frees) given)

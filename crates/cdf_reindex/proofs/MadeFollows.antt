@@ -1,7 +1,7 @@
 -- An index made anew follows `reindex`.
-use Rattle.cdf_reindex.proofs.Common.{Act, AllKeep, Allowance, Allowances, AreTiles, Bool, ByStep, DataSet, Each-map, Field, Follows, Found, FreedStay, GivenStay, Go, Good, In, IsBare, IsNode, IsRebuilt, Kind, List, MakesIndex, NodeSpareStays, Nodes, None, OfVariable, Only, Option, Range, Reindexed, Same, Some, StandsAmong, UnusedEntries, VariableShape, [], ap, apart, arith, by_range, content, descriptor_allowed, each, eq-eqb, false, freed_stay, gave, gdr_type, gdr_typed, got-middle, if◌then◌else◌, image_limit, index_keeps, inl, inr, is_in-true, is_taken_at, last_node, leaves_of, length, levels_up, links_end, listed_free, made_acts, map, nat_le, nat_lt, next_of, no_fields, no_node, node, node_allowed, nodes_above, nodes_at, nodes_of, none_of_both, number, owned, range_at, refl, reindex_changes, reindex_room, reindex_step, room, room_at, rules, same_as_itself, shape, shapes_of, size_at, sizes_by_tiles, slice_get, staying_follows, stays_all, subst, sum, sum_by-cons, sym, taken, taken-gave, top_stays, true, true≢false, type_at, unlisted_away, variable_named, vdr_vxr_head, vdr_vxr_tail, vdrs, vxr_bytes, vxr_type, with_index, ℕ, ◌&&◌, ◌*◌, ◌++◌, ◌+◌, ◌<◌, ◌∙◌, ◌∷◌, ◌≡◌, ◌≢◌, ◌≤◌}
+use Rattle.cdf_reindex.proofs.Common.{Act, AllKeep, Allowance, Allowances, Bool, ByStep, DataSet, Each-map, Field, Follows, Found, FreedStay, GivenStay, Go, Good, In, IsBare, IsNode, IsRebuilt, Kind, List, MakesIndex, NodeSpareStays, Nodes, None, OfVariable, Only, Option, Range, Reindexed, Same, Some, StandsAmong, UnusedEntries, VariableShape, [], ap, arith, by_range, content, descriptor_allowed, each, eq-eqb, false, freed_places, freed_records, freed_stay, freeing_behind, gave, got-middle, if◌then◌else◌, image_limit, index_keeps, inl, inr, is_in-true, is_taken_at, last_node, leaves_of, length, levels_up, links_end, listed_free, made_acts, map, nat_le, nat_lt, next_of, no_fields, no_node, node, node_allowed, nodes_above, nodes_at, nodes_of, none_of_both, number, owned, range_at, refl, reindex_changes, reindex_room, reindex_step, room, room_at, rules, same_as_itself, shape, shapes_of, size_at, sizes_before, slice_get, staying_follows, stays_all, subst, sum, sum_by-cons, sym, taken, taken-gave, top_stays, true, true≢false, unlisted_away, variable_named, vdr_vxr_head, vdr_vxr_tail, vdrs, vxr_bytes, with_index, ℕ, ◌&&◌, ◌*◌, ◌++◌, ◌+◌, ◌<◌, ◌∙◌, ◌∷◌, ◌≡◌, ◌≤◌}
 use Rattle.cdf_reindex.proofs.Levels.{in_by_times}
-use Rattle.cdf_reindex.proofs.MadeEdit.{among_now, edit, good_now, left, made_follow, may_free, new_index, node_linked, old_linked, same_size, t, vdrs_stay}
+use Rattle.cdf_reindex.proofs.MadeEdit.{among_now, edit, freed_size, frees, good_now, made_follow, new_index, node_linked, same_size, t, vdrs_stay}
 use Rattle.cdf_reindex.proofs.PyramidBuilt.{no_pyramid, node_takes}
 use Rattle.cdf_model.specs.declared.answer.Reply.TheVariants as replies
 use Rattle.cdf_model.specs.declared.command.Command.TheVariants as commands
@@ -14,16 +14,11 @@ goes_by d name found e = rw e refl
 got_at : {n : ℕ} {vs : List VariableShape} (before : List VariableShape) (own : VariableShape) (after : List VariableShape) → n ≡ length before → vs ≡ before ++ own ∷ after → slice_get vs n ≡ Some own
 got_at before own after at was = (λ i. slice_get (was i) (at i)) ∙ got-middle before own after
 
--- ---- the nodes that are taken, before others are freed
+-- ---- the nodes that are taken, before others are freed, each of which has as many bytes
 
-taken_places : (b new old : List ℕ) → map (λ (take : ℕ × ℕ). take.0) (taken (node_takes new ++ gave b old)) ≡ new
-taken_places b [] old = ap (map (λ (take : ℕ × ℕ). take.0)) (taken-gave b old)
-taken_places b (place ∷ new) old = ap (λ (xs : List ℕ). place ∷ xs) (taken_places b new old)
-
--- each of them has as many bytes
-taken_sum : (b new old : List ℕ) → sum (map (λ (take : ℕ × ℕ). take.1) (taken (node_takes new ++ gave b old))) ≡ vxr_bytes 64 * length new
-taken_sum b [] old = ap (λ (xs : List (ℕ × ℕ)). sum (map (λ (take : ℕ × ℕ). take.1) xs)) (taken-gave b old)
-taken_sum b (place ∷ new) old = sum_by-cons (λ x. x) (vxr_bytes 64) (map (λ (take : ℕ × ℕ). take.1) (taken (node_takes new ++ gave b old))) ∙ omega (arith, taken_sum b new old)
+taken_new : (b new old : List ℕ) → (map (λ (take : ℕ × ℕ). take.0) (taken (node_takes new ++ gave b old)) ≡ new) × (sum (map (λ (take : ℕ × ℕ). take.1) (taken (node_takes new ++ gave b old))) ≡ vxr_bytes 64 * length new)
+taken_new b [] old = rw (taken-gave b old) (refl, refl)
+taken_new b (place ∷ new) old = let r = taken_new b new old in (ap (λ (xs : List ℕ). place ∷ xs) r.0, sum_by-cons (λ x. x) (vxr_bytes 64) (map (λ (take : ℕ × ℕ). take.1) (taken (node_takes new ++ gave b old))) ∙ omega (arith, r.1))
 
 given_after : (b now : List ℕ) (acts : List Act) (new : List ℕ) (given : List Act) → GivenStay b now no_fields acts given → GivenStay b now no_fields acts (node_takes new ++ given)
 given_after b now acts [] given g = g
@@ -67,23 +62,21 @@ module _ {b now : List ℕ} (found : Found) {before : List VariableShape} {own :
   of_own = with_index own r.index
 
   taken_all : (m : ℕ) → In m (nodes_of r.index) → is_taken_at done m ≡ true
-  taken_all m i = is_in-true m _ (subst (In m) (sym (taken_places b ps os)) (in_by_times (nodes_of r.index) ps (λ k. sym (r.built.each_taken k)) m i))
+  taken_all m i = is_in-true m _ (subst (In m) (sym (taken_new b ps os).0) (in_by_times (nodes_of r.index) ps (λ k. sym (r.built.each_taken k)) m i))
 
   -- ---- the nodes that were freed
 
   behind : (m : ℕ) → In m os → (size_at now m ≡ size_at b m) × Same b now (m + links_end (size_at b m)) (m + size_at b m)
   behind m i =
-      let l = left good among r.built r.heads now r.given in
-      let stand = (may_free good among r.built r.heads).stand m i in
+      let f = frees good among r.built r.heads now r.given in
       let size = same_size good among r.built r.heads now r.given m i in
-      let tiled = subst (λ (n : ℕ). AreTiles now 8 n (shape r.linked).records) l.long (subst (AreTiles now 8 (length now)) (ap (λ x. x.records) l.shape_is) l.sound.has_shape.tiled) in
-      let no_gdr : m ≢ (shape r.linked).gdr = λ q. apart vxr_type gdr_type refl (sym (old_linked good among r.built r.heads m i) ∙ ap (type_at r.linked) q ∙ gdr_typed r.linked (shape r.linked) r.linked_sound.has_shape) in
-      let last : Same r.linked now (m + links_end (size_at b m)) (m + size_at b m) = subst (λ (n : ℕ). Same r.linked now (m + links_end n) (m + n)) size (l.behind m stand no_gdr) in
-      (sizes_by_tiles r.linked now 8 8 (length r.linked) (shape r.linked).records refl r.linked_sound.has_shape.tiled tiled m stand ∙ size, record { each = λ k low up. last.each k low up ∙ (node_linked good among r.built r.heads m i).same.each k (omega arith) up })
+      let last : Same r.linked now (m + links_end (size_at b m)) (m + size_at b m) = subst (λ (n : ℕ). Same r.linked now (m + links_end n) (m + n)) (sym (sizes_before f m i) ∙ size) (freeing_behind f m i) in
+      (freed_size good among r.built r.heads now r.given m i, record { each = λ k low up. last.each k low up ∙ (node_linked good among r.built r.heads m i).same.each k (omega arith) up })
 
   freed : FreedStay b now no_fields done
-  freed = given_after b now done ps (gave b os)
-      (freed_stay b now done os no_fields r.sound.has_shape.tiled (λ m i. subst (In m) (sym (ap (λ x. x.records) (left good among r.built r.heads now r.given).shape_is)) ((may_free good among r.built r.heads).stand m i)) (λ m i. (behind m i).0) (λ m i. (behind m i).1))
+  freed =
+      let f = frees good among r.built r.heads now r.given in
+      given_after b now done ps (gave b os) (freed_stay b now done os no_fields r.sound.has_shape.tiled (λ m i. subst (In m) (sym (freed_records f)) (freed_places f m i)) (λ m i. (behind m i).0) (λ m i. (behind m i).1))
 
   -- ---- what is done
 
@@ -121,19 +114,16 @@ module _ {b now : List ℕ} (found : Found) {before : List VariableShape} {own :
     rebuilt_follows =
         let goes = ap ByStep (goes_by (content b) name found named) ∙ ap (λ (d : DataSet). ByStep (Go d replies.Plain)) (sym r.content_stays) in
         let within : length now ≤ length b + room b (commands.Reindex name) = omega (arith, room_is b name found named there, r.longest) in
-        let takes_within : sum (map (λ take. take.1) (taken done)) ≤ room b (commands.Reindex name) = omega (arith, room_is b name found named there, taken_sum b ps os, r.built.as_many, r.built.fewest) in
+        let takes_within : sum (map (λ take. take.1) (taken done)) ≤ room b (commands.Reindex name) = omega (arith, room_is b name found named there, (taken_new b ps os).1, r.built.as_many, r.built.fewest) in
         let kept = subst (λ (o : Option Found). AllKeep b now (elim o as (λ x. Allowances) [ None ↦ stays_all | Some f ↦ reindex_changes b (shape b) f ]) done (owned b (shape b))) (sym named) keeps in
         let does = does_by b name found named there (got_at before of_own after at (among_now good among r.built r.heads now r.given).was) makes in
         search (rules, goes, good_now good among r.built r.heads now r.given short, (edit good among r.built r.heads now r.given).longer, within, takes_within, made_follow good among r.built r.heads now r.given, kept, does)
 
 -- ---- an index without nodes stays, and so does every byte
 
-none_stays : (b : List ℕ) (vdr : ℕ) (cpr : List ℕ) → MakesIndex b b (record { vdr = vdr; index = no_node; cpr = cpr }) (record { vdr = vdr; index = no_node; cpr = cpr }) []
-unfolding nodes_of leaves_of nodes_at nodes_above
-none_stays b vdr cpr = record { acts_are = refl; leaves_stay = refl; fewest = refl; filled = no_pyramid; wide = tt; alone = tt; nodes = record { unused = tt; spare = tt }; tail = refl; freed = tt }
-
 none_makes : (b : List ℕ) (own : VariableShape) → own.index ≡ no_node → MakesIndex b b own own []
-none_makes b own none = subst (λ (n : Nodes). MakesIndex b b (record own { index = n }) (record own { index = n }) []) (sym none) (none_stays b own.vdr own.cpr)
+unfolding nodes_of leaves_of nodes_at nodes_above
+none_makes b own none = record { acts_are = rw none refl; leaves_stay = refl; fewest = rw none refl; filled = rw none no_pyramid; wide = rw none tt; alone = rw none tt; nodes = record { unused = rw none tt; spare = rw none tt }; tail = rw none refl; freed = tt }
 
 -- ---- what a call that makes an index anew comes to
 
