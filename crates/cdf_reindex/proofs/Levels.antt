@@ -1,5 +1,5 @@
 -- Levels make an index of their leaves: what the entries that name the nodes of a level have of those in them, and what holds of all levels.
-use Rattle.cdf_reindex.proofs.Common.{take, take_all, AreInOrder, AreLevels, AreTight, Distinct, Each, Each-split, Entries, EntriesTight, Filled, FullFromLeft, HasNodes, In, InOrder, Leaf, List, LowerAreZero, MakesPyramid, Named, Names, NewNode, NextsAreZero, None, Option, SaysNode, Some, Spans, [], alone, ap, append-nil, append_assoc, ap₂, arith, block, cases_lt, count_both, either, entries_for, entries_of, entry_count, entry_leaves, false-is_in, first_of, from_below, inl, inr, is_in, last_of, last_or, leaves_both, leaves_of, length, length-append, length-map, levels_up, lower, lower_both, lower_nodes, map, map-append, names_parts, nat_tests, no_entry, no_node, nodes_above, nodes_at, nodes_below, nodes_left, nodes_of, option_map, parts_in_order, past_entries, places_of, quotient_up, refl, subst, suc, sum, sum_by-cons, sym, times, times-append, times-in, times-none, times-once, true-is_in, uppers, with_both, zero, ℕ, ◌*◌, ◌++◌, ◌+◌, ◌∙◌, ◌∷◌, ◌≡◌, ◌≤◌, ◌⊎◌, rules}
+use Rattle.cdf_reindex.proofs.Common.{in-times, take, take_all, AreInOrder, AreLevels, AreTight, Each, Each-split, Entries, EntriesTight, Filled, FullFromLeft, HasNodes, In, InOrder, Leaf, List, LowerAreZero, MakesPyramid, Named, Names, NewNode, NextsAreZero, None, Option, SaysNode, Some, Spans, [], alone, ap, append-nil, append_assoc, ap₂, arith, block, cases_lt, count_both, entries_for, entries_of, entry_count, entry_leaves, first_of, from_below, inl, inr, last_of, last_or, leaves_both, leaves_of, length, length-append, length-map, levels_up, lower, lower_both, lower_nodes, map, map-append, names_parts, nat_tests, no_entry, no_node, nodes_above, nodes_at, nodes_below, nodes_left, nodes_of, option_map, parts_in_order, past_entries, places_of, quotient_up, refl, subst, suc, sum, sum_by-cons, sym, times, times-append, times-in, uppers, with_both, zero, ℕ, ◌*◌, ◌++◌, ◌+◌, ◌∙◌, ◌∷◌, ◌≡◌, ◌≤◌, ◌⊎◌, rules}
 
 -- what counts a list by its parts
 pub record Adds (f : List ℕ → ℕ) : Type 0 where
@@ -152,16 +152,15 @@ pile_more {leaves = leaves} level {more = more} f p =
     let r = raised level f in
     let nodes : (f : List ℕ → ℕ) → Adds f → f (lower_nodes (uppers level)) ≡ f (places_of (from_below (level ∷ more))) =
     λ f adds. omega (arith, r.nodes f adds ∙ adds.both (places_of level) (lower_nodes (entries_of level)), p.nodes f adds, ap f (map-append (λ (new : NewNode). new.place) (from_below more) level) ∙ adds.both (places_of (from_below more)) (places_of level)) in
-    let named = λ (now rs : List ℕ) (deep : ℕ) (few : length (level ∷ more) ≤ deep) (named : Each (Named now rs) leaves) (s : Each (Says now rs) (from_below more ++ level)). names r now rs deep few named (Each-split (Says now rs) (from_below more) level s) in
-    search (rules, r.leaves_are ∙ p.leaves_are, r.order, p.order, r.zeros p.zeros, r.tight p.tight, nodes, rows r, named)
+    search (rules, r.leaves_are ∙ p.leaves_are, r.order, p.order, r.zeros p.zeros, r.tight p.tight, nodes, rows r, names r)
   where
     rows : Raised level → (k : ℕ) → nodes_below k (uppers level) ≡ counted (row (level ∷ more) k)
     rows r zero = r.here
     rows r (suc k) = r.below k ∙ p.rows k
 
-    names : Raised level → (now rs : List ℕ) (deep : ℕ) → length (level ∷ more) ≤ deep → Each (Named now rs) leaves → Each (Says now rs) (from_below more) × Each (Says now rs) level → Names now rs deep (uppers level)
+    names : Raised level → (now rs : List ℕ) (deep : ℕ) → length (level ∷ more) ≤ deep → Each (Named now rs) leaves → Each (Says now rs) (from_below (level ∷ more)) → Names now rs deep (uppers level)
     names r now rs zero few named s = absurd (omega arith)
-    names r now rs (suc deep) few named s = r.names now rs deep s.1 (p.names now rs deep (omega arith) named s.0)
+    names r now rs (suc deep) few named s = let t = Each-split (Says now rs) (from_below more) level s in r.names now rs deep t.1 (p.names now rs deep (omega arith) named t.0)
 
 pub top_filled : (leaves : List Leaf) (level : List NewNode) (more : List (List NewNode)) → AreLevels leaves (level ∷ more) → Filled level
 top_filled leaves level [] l = l.1
@@ -198,11 +197,9 @@ above_is k n some = grind (arith, nat_tests)
 pub left_more : (k n : ℕ) → 2 ≤ n → nodes_left k n ≡ nodes_above k n
 left_more k n some = grind (arith, nat_tests)
 
-pub record Tall (leaves : List Leaf) (level : List NewNode) (more : List (List NewNode)) : Type 0 where
-  pub left : ℕ
-  pub count : length (level ∷ more) + left ≡ 6
-  pub small : length level ≤ leaves_under left
-  pub total : 1 ≤ length leaves → nodes_above 8 (length leaves) ≡ length (from_below (level ∷ more)) + nodes_left (suc (suc left)) (length level)
+-- how many more levels there may be, up to 6, and how many nodes there are in all
+abbrev pub Tall : List Leaf → List NewNode → List (List NewNode) → Type 0
+Tall leaves level more = (left : ℕ) × ((length (level ∷ more) + left ≡ 6) × (length level ≤ leaves_under left) × (1 ≤ length leaves → nodes_above 8 (length leaves) ≡ length (from_below (level ∷ more)) + nodes_left (suc (suc left)) (length level)))
 
 count_for : (leaves : List Leaf) → entry_count (entries_for leaves) ≡ length leaves
 count_for [] = refl
@@ -212,19 +209,14 @@ count_for (leaf ∷ more) = ap suc (count_for more)
 pub tall : (leaves : List Leaf) (level : List NewNode) (more : List (List NewNode)) → AreLevels leaves (level ∷ more) → length leaves ≤ 2147483648 → Tall leaves level more
 tall leaves level [] l few =
     let n = (raised level l.1).shortest ∙ ap (λ (k : ℕ). quotient_up k 64) (ap entry_count l.0 ∙ count_for leaves) in
-    record { left = 5; count = omega arith; small = omega (arith, n); total = λ some. above_is 7 (length leaves) some ∙ ap (λ (k : ℕ). k + nodes_left 7 k) (sym n) }
-tall leaves level (below ∷ more) l few = let r = tall leaves below more l.3 few in go r.left r.count r.small r.total
+    (5, (omega arith, omega (arith, n), λ some. above_is 7 (length leaves) some ∙ ap (λ (k : ℕ). k + nodes_left 7 k) (sym n)))
+tall leaves level (below ∷ more) l few = go (tall leaves below more l.3 few)
   where
-    go : (d : ℕ) → length (below ∷ more) + d ≡ 6 → length below ≤ leaves_under d → (1 ≤ length leaves → nodes_above 8 (length leaves) ≡ length (from_below (below ∷ more)) + nodes_left (suc (suc d)) (length below)) → Tall leaves level (below ∷ more)
-    go zero e small total = absurd (omega (arith, l.2))
-    go (suc d) e small total =
+    go : Tall leaves below more → Tall leaves level (below ∷ more)
+    go (zero, r) = absurd (omega (arith, l.2, r.1))
+    go (suc d, r) =
         let n = (raised level l.1).shortest ∙ ap (λ (k : ℕ). quotient_up k 64) (ap entry_count l.0 ∙ (raised below (top_filled leaves below more l.3)).count) in
-        record {
-          left = d;
-          count = omega arith;
-          small = omega (arith, n);
-          total = λ some. omega (arith, total some, left_more (suc (suc (suc d))) (length below) l.2, above_is (suc (suc d)) (length below) (omega (arith, l.2)), ap (λ (k : ℕ). k + nodes_left (suc (suc d)) k) n, length-append (from_below (below ∷ more)) level);
-        }
+        (d, (omega (arith, r.0), omega (arith, n, r.1), λ some. omega (arith, r.2 some, left_more (suc (suc (suc d))) (length below) l.2, above_is (suc (suc d)) (length below) (omega (arith, l.2)), ap (λ (k : ℕ). k + nodes_left (suc (suc d)) k) n, length-append (from_below (below ∷ more)) level)))
 
 -- ---- of one node
 
@@ -262,18 +254,12 @@ module _ (leaves : List Leaf) (top : NewNode) (more : List (List NewNode)) (l : 
       let even : (k : ℕ) → (nodes_at (suc k) (alone top) ≡ []) ⊎ (length (nodes_at (suc k) (alone top)) ≡ sum (map (λ pair. pair.1) (nodes_at k (alone top)))) = λ k. rw (at k, at (suc k)) (rows leaves (top ∷ []) more l k).1 in
       let order : (high : ℕ) → AreInOrder 0 high (entries_for leaves) → InOrder 0 high (alone top) = λ high o. ((parts_in_order 0 high top.entries no_entry (inner.order high o)).0, tt) in
       let high = tall leaves (top ∷ []) more l in
-      let few : length leaves ≤ 2147483648 → length ((top ∷ []) ∷ more) ≤ 6 = λ few. omega (arith, (high few).count) in
-      let fewest : 1 ≤ length leaves → length leaves ≤ 2147483648 → length (nodes_of (alone top)) ≡ nodes_above 8 (length leaves) = λ some few. omega (arith, nodes_are lengths_add, length-map (from_below ((top ∷ []) ∷ more)) (λ (new : NewNode). new.place), (high few).total some) in
-      let places = λ (f : length leaves ≤ 2147483648). up 7 ∙ ap (λ (levels : List (List NewNode)). places_of (from_below levels)) (take_all 8 ((top ∷ []) ∷ more) (omega (arith, (high f).count))) in
+      let few : length leaves ≤ 2147483648 → length ((top ∷ []) ∷ more) ≤ 6 = λ few. omega (arith, (high few).1.0) in
+      let fewest : 1 ≤ length leaves → length leaves ≤ 2147483648 → length (nodes_of (alone top)) ≡ nodes_above 8 (length leaves) = λ some few. omega (arith, nodes_are lengths_add, length-map (from_below ((top ∷ []) ∷ more)) (λ (new : NewNode). new.place), (high few).1.2 some) in
+      let places = λ (f : length leaves ≤ 2147483648). up 7 ∙ ap (λ (levels : List (List NewNode)). places_of (from_below levels)) (take_all 8 ((top ∷ []) ∷ more) (omega (arith, (high f).1.0))) in
       search (rules, sym (append-nil (leaves_of (alone top))) ∙ p.leaves_are, full, even, p.tight.1, order, p.zeros.0, few, fewest, places)
 
 -- ---- lists with the same members
 
 pub in_by_times : (xs ys : List ℕ) → ((m : ℕ) → times m xs ≡ times m ys) → (m : ℕ) → In m xs → In m ys
-in_by_times xs ys same m i = elim (either (is_in m ys)) [
-  | inl e ↦ true-is_in m ys e
-  | inr e ↦ absurd (omega (arith, same m, times-none m ys (false-is_in m ys e), times-in m xs i))
-]
-
-pub times_most : (m : ℕ) (xs : List ℕ) → Distinct xs → times m xs ≤ 1
-times_most m xs d = elim (either (is_in m xs)) [ inl x ↦ omega (arith, times-once m xs d (true-is_in m xs x)) | inr x ↦ omega (arith, times-none m xs (false-is_in m xs x)) ]
+in_by_times xs ys same m i = in-times m ys (omega (arith, same m, times-in m xs i))

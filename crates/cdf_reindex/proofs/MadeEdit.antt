@@ -1,11 +1,13 @@
 -- The new nodes are taken and written, VXRhead and VXRtail lead to them, and the old nodes are freed: one edit, by which a good image stays good.
-use Rattle.cdf_reindex.proofs.Common.{Frees, all_freed, freed_edit, freed_long, freed_places, freed_records, freed_shape, gdr_still, may_free, others_kept, sizes_before, sound_now, Act, ActsFollow, AllGiven, AreFree, AreTiles, Counts, DataSet, Each, Each-in, Each-map, Edit, Exchanged, Field, Good, HasVariable, Hold, Hold-split, In, In-append, In-append_left, In-append_right, InOrder, IndexEdit, IndexTests, IsBare, IsBuilt, IsChain, IsIndex, IsOneOf, IsRebuilt, IsSound, Kept, Kind, Leaf, LeafFits, LiesIn, List, Mark, MayWrite, NewIndex, NextsAreZero, NodeFits, Nodes, OwnEdit, R, SameHeads, Shape, StandsAmong, TakenAll, Variable, VariableFits, VariableShape, Z, [], acts_still_by, all_gave, ap, apart, append-nil, arith, avoided, away-avoids, behind_in, block_behind, block_fits_alike, block_kept, by_kind, cast_signed, chain_stays, content, content_is, content_now, cpr_behind, cpr_type, cvvr_type, distinct_if, each, each_holds, each_of, edit_then, edit_under, end_stays, eof, field, field_reads, file, fits, fixed_size, flat_map, freeing_marks, fresh_unowned, gave-same, gdr_eof, gdr_field, gdr_place, gdr_type, gdr_uir_head, has, heads_written, image_limit, index_edit, index_marks, index_order, index_rows, index_rules, inl, inr, is_a, is_a-type, is_block, is_in, is_in-true, is_linkable, is_record_type, keeps_file, kept, kept_away, last_node, leaf_rows, leaf_same, leaves_of, length, length-with_field, levels_up, link_to, linkable-in, linkable-long, linkable-type, links_mark, long, made_acts, map, map-append, max_rec_kept, negsuc, no_node, node, node_behind, node_room, nodes_kept, nodes_of, nodes_rows, nodes_stand, none_in_use, not_twice_kept, number, number_kept, of_each, other_words, own_edit, own_rules, owned-times, owned_records, packed_stays, parts_times, plain_alike, pos, read_types, record_number_limit, records_alike, records_in, refl, reindex_room, room, rules, same_shape, shape, shapes_of, size_at, size_kept, sizes_by_tiles, some_bytes, sound, sound_if, space_fields, spliced_times, splices, stays, stays_alike, subst, sym, taking_all, through, tile, times, times-append, times-in, times-none, times-once, true, type_at, type_in, type_kept, typed, uir_type, unmarked, unmarked-away, used_times, variable_of, variable_records, variable_stays, variables_chain, variables_of, variables_of_are, vdr_alike, vdr_no_node, vdr_size, vdr_vxr_head, vdr_vxr_tail, vdrs, vvr_type, vxr_bytes, vxr_n_used_entries, vxr_type, w32, with_field, with_index, with_shapes, with_variables, with_writes, write, write_lies, writes_edit, writes_long, ℕ, ◌&&◌, ◌++◌, ◌+◌, ◌==◌, ◌||◌, ◌∙◌, ◌∷◌, ◌≡◌, ◌≢◌, ◌≤◌, ◌⊎◌}
+use Rattle.cdf_reindex.proofs.Common.{in-times, Act, ActsFollow, AllGiven, AllKeep, Allowances, AreFree, AreTiles, Bool, ByStep, Counts, DataSet, Each, Each-in, Each-map, Edit, Exchanged, Field, Follows, Found, FreedStay, Frees, GivenStay, Go, Good, HasVariable, Hold, Hold-split, In, In-append, In-append_left, In-append_right, InOrder, IndexEdit, IndexTests, IsBare, IsBuilt, IsChain, IsIndex, IsNode, IsOneOf, IsRebuilt, IsSound, Kept, Kind, Leaf, LeafFits, LiesIn, List, MakesIndex, Mark, MayWrite, NewIndex, NextsAreZero, NodeFits, NodeSpareStays, Nodes, None, OfVariable, Only, Option, OwnEdit, R, Range, Same, SameHeads, Shape, Some, StandsAmong, TakenAll, UnusedEntries, Variable, VariableFits, VariableShape, Z, [], acts_still_by, all_freed, all_gave, ap, apart, append-nil, arith, avoided, away-avoids, behind_in, block_behind, block_fits_alike, block_kept, by_kind, by_range, cast_signed, chain_stays, content, content_is, content_now, cpr_behind, cpr_type, cvvr_type, descriptor_allowed, distinct_if, each, each_holds, each_of, edit_then, edit_under, end_stays, eof, eq-eqb, false, field, field_reads, file, fits, fixed_size, flat_map, freed_edit, freed_long, freed_places, freed_records, freed_shape, freed_stay, freeing_behind, freeing_marks, fresh_unowned, gave, gave-same, gdr_eof, gdr_field, gdr_place, gdr_still, gdr_type, gdr_uir_head, got-middle, has, heads_written, if◌then◌else◌, image_limit, index_edit, index_keeps, index_marks, index_order, index_rows, index_rules, inl, inr, is_a, is_a-type, is_block, is_in, is_in-true, is_linkable, is_record_type, is_taken_at, keeps_file, kept, kept_away, last_node, leaf_rows, leaf_same, leaves_of, length, length-with_field, levels_up, link_to, linkable-in, linkable-long, linkable-type, links_end, links_mark, listed_free, long, made_acts, map, map-append, max_rec_kept, may_free, nat_le, nat_lt, negsuc, next_of, no_fields, no_node, node, node_allowed, node_behind, node_room, nodes_above, nodes_kept, nodes_of, nodes_rows, nodes_stand, none_in_use, none_of_both, not_twice_kept, number, number_kept, of_each, other_words, others_kept, own_edit, own_rules, owned, owned-times, owned_records, packed_stays, parts_times, plain_alike, pos, range_at, read_types, record_number_limit, records_alike, records_in, refl, reindex_changes, reindex_room, reindex_step, room, room_at, rules, same_as_itself, same_shape, shape, shapes_of, size_at, size_kept, sizes_before, sizes_by_tiles, slice_get, some_bytes, sound, sound_if, sound_now, space_fields, spliced_times, splices, stays, stays_alike, stays_all, subst, sum, sum_by-cons, sym, taken, taken-gave, taking_all, through, tile, times, times-append, times-in, times-none, times-once, top_stays, true, true≢false, type_at, type_in, type_kept, typed, uir_type, unlisted_away, unmarked, unmarked-away, used_times, variable_named, variable_of, variable_records, variable_stays, variables_chain, variables_of, variables_of_are, vdr_alike, vdr_no_node, vdr_size, vdr_vxr_head, vdr_vxr_tail, vdrs, vvr_type, vxr_bytes, vxr_n_used_entries, vxr_type, w32, with_field, with_index, with_shapes, with_variables, with_writes, write, write_lies, writes_edit, writes_long, ℕ, ◌&&◌, ◌*◌, ◌++◌, ◌+◌, ◌<◌, ◌==◌, ◌||◌, ◌∙◌, ◌∷◌, ◌≡◌, ◌≢◌, ◌≤◌, ◌⊎◌}
 use Rattle.cdf_edits.proofs.Edits.LeafPieces.{place_in as leaf_in}
 use Rattle.cdf_edits.proofs.Edits.InRecords.{places_of}
 use Rattle.cdf_index.proofs.NewIndex.{good_now as changed_good}
-use Rattle.cdf_reindex.proofs.Levels.{in_by_times, times_most}
+use Rattle.cdf_reindex.proofs.Levels.{in_by_times}
 use Rattle.cdf_reindex.proofs.PyramidBuilt.{all_taken, bare_by, end_before, node_takes, own_of}
 use Rattle.cdf_edits.proofs.Edits.OwnEdited as of_own_edit
+use Rattle.cdf_model.specs.declared.answer.Reply.TheVariants as replies
+use Rattle.cdf_model.specs.declared.command.Command.TheVariants as commands
 
 -- ---- marks
 
@@ -23,7 +25,6 @@ pub record HeadTests (kind : Kind) (v : ℕ) (unused new nodes : List ℕ) (limi
   pub used : type_in (variables_chain kind) ≢ uir_type
   pub no_gdr : type_in (variables_chain kind) ≢ gdr_type
   pub nodes_clear : unmarked (heads_marks kind v) vxr_type ≡ true
-  pub grown_clear : unmarked (taking_all unused new (vxr_bytes 64) ++ heads_marks kind v) vxr_type ≡ true
   pub unused_clear : unmarked (heads_marks kind v) uir_type ≡ true
   pub file_clear : keeps_file (heads_marks kind v) ≡ true
   pub list_clear : avoided (heads_marks kind v) gdr_type 64 72 ≡ true
@@ -38,6 +39,46 @@ unfolding NextsAreZero
 last_is no_node z = refl
 last_is (node place room entries no_node) z = refl
 last_is (node place room entries (node other wide others more)) z = absurd z
+
+-- ---- the step of a data set
+
+pub goes_by : (d : DataSet) (name : List ℕ) (found : Found) → variable_named d name ≡ Some found → reindex_step d name ≡ Go d replies.Plain
+goes_by d name found e = rw e refl
+
+pub got_at : {n : ℕ} {vs : List VariableShape} (before : List VariableShape) (own : VariableShape) (after : List VariableShape) → n ≡ length before → vs ≡ before ++ own ∷ after → slice_get vs n ≡ Some own
+got_at before own after at was = (λ i. slice_get (was i) (at i)) ∙ got-middle before own after
+
+-- ---- the nodes that are taken, before others are freed, each of which has as many bytes
+
+taken_new : (b new old : List ℕ) → (map (λ (take : ℕ × ℕ). take.0) (taken (node_takes new ++ gave b old)) ≡ new) × (sum (map (λ (take : ℕ × ℕ). take.1) (taken (node_takes new ++ gave b old))) ≡ vxr_bytes 64 * length new)
+taken_new b [] old = rw (taken-gave b old) (refl, refl)
+taken_new b (place ∷ new) old = let r = taken_new b new old in (ap (λ (xs : List ℕ). place ∷ xs) r.0, sum_by-cons (λ x. x) (vxr_bytes 64) (map (λ (take : ℕ × ℕ). take.1) (taken (node_takes new ++ gave b old))) ∙ omega (arith, r.1))
+
+given_after : (b now : List ℕ) (acts : List Act) (new : List ℕ) (given : List Act) → GivenStay b now no_fields acts given → GivenStay b now no_fields acts (node_takes new ++ given)
+given_after b now acts [] given g = g
+given_after b now acts (place ∷ new) given g = given_after b now acts new given g
+
+-- ---- another top chain
+
+top_moves : (acts : List Act) (old new : Nodes) → IsNode old → ((m : ℕ) → In m (nodes_of new) → is_taken_at acts m ≡ true) → top_stays acts old old new ≡ false
+unfolding nodes_of
+top_moves acts no_node new is all = absurd is
+top_moves acts (node place room entries more) no_node is all = grind arith
+top_moves acts (node place room entries more) (node other wide others next) is all = grind (arith, all other (inl refl))
+
+-- ---- a variable by its name
+
+module _ (b name : List ℕ) (found : Found) {own : VariableShape} (named : variable_named (content b) name ≡ Some found) (there : slice_get (shapes_of (shape b) found.kind) found.number ≡ Some own) where
+  pub room_is : room b (commands.Reindex name) ≡ reindex_room own.index
+  room_is = ap (λ (o : Option Found). elim o as (λ x. ℕ) [ None ↦ 0 | Some f ↦ elim (slice_get (shapes_of (shape b) f.kind) f.number) as (λ x. ℕ) [ None ↦ 0 | Some v ↦ reindex_room v.index ] ]) named
+      ∙ ap (λ (o : Option VariableShape). elim o as (λ x. ℕ) [ None ↦ 0 | Some v ↦ reindex_room v.index ]) there
+
+  pub does_by : {now : List ℕ} {own' : VariableShape} {acts : List Act} → slice_get (shapes_of (shape now) found.kind) found.number ≡ Some own' → MakesIndex b now own own' acts → OfVariable b now name (λ other v v'. MakesIndex b now v v' acts)
+  does_by {now = now} {own' = own'} {acts = acts} there' makes other v v' is =
+      let same : found ≡ other = cc in
+      let was : own ≡ v = cc in
+      let by_now : own' ≡ v' = cc in
+      rw (← was, ← by_now) makes
 
 -- ---- an image in which a variable has another index by now, of the same leaves, in new nodes: its rules and its content
 
@@ -105,11 +146,8 @@ module _ {b now : List ℕ} {kind : Kind} {before : List VariableShape} {own : V
   content_same =
       let all : variables_of (content b) kind ≡ map (variable_of b) before ++ variable_of b own ∷ map (variable_of b) after =
       ap (λ (d : DataSet). variables_of d kind) (content_is b (shape b) (sound good at).has_shape) ∙ variables_of_are b (shape b) kind ∙ ap (map (variable_of b)) at.was ∙ map-append (variable_of b) before (own ∷ after) in
-      content_now (sound good at) (splices good at oe) ∙ ap (λ (w : Variable). with_variables (content b) kind (map (variable_of b) before ++ w ∷ map (variable_of b) after)) means ∙ ap (with_variables (content b) kind) (sym all) ∙ itself kind (content b)
-    where
-      itself : (k : Kind) (d : DataSet) → with_variables d k (variables_of d k) ≡ d
-      itself R d = refl
-      itself Z d = refl
+      let itself : with_variables (content b) kind (variables_of (content b) kind) ≡ content b = elim kind as (λ k. with_variables (content b) k (variables_of (content b) k) ≡ content b) [ R ↦ refl | Z ↦ refl ] in
+      content_now (sound good at) (splices good at oe) ∙ ap (λ (w : Variable). with_variables (content b) kind (map (variable_of b) before ++ w ∷ map (variable_of b) after)) means ∙ ap (with_variables (content b) kind) (sym all) ∙ itself
 
 -- ---- the nodes are taken
 
@@ -147,11 +185,8 @@ module _ {b made : List ℕ} {kind : Kind} {before : List VariableShape} {own : 
   pub lies : (f : Field) → f.place + f.width ≤ 44 → LiesIn made v f
   lies f high = write_lies made rs t.grows.sound.has_shape.tiled some v f (t.grows.edit.sub v (tile good among)) (omega (arith, vdr_made.1))
 
-  pub head_lies : LiesIn made v vdr_vxr_head
-  head_lies = lies vdr_vxr_head (omega arith)
-
   tail_lies : (first : List ℕ) → first ≡ with_field made v vdr_vxr_head (link_to index) → LiesIn first v vdr_vxr_tail
-  tail_lies first one = omega (arith, ap length one ∙ length-with_field made v vdr_vxr_head (link_to index) head_lies, lies vdr_vxr_tail (omega arith))
+  tail_lies first one = omega (arith, ap length one ∙ length-with_field made v vdr_vxr_head (link_to index) (lies vdr_vxr_head (omega arith)), lies vdr_vxr_tail (omega arith))
 
   may_write : (f : Field) → 28 ≤ f.place → f.place + f.width ≤ 44 → MayWrite made rs (heads_marks kind v) (write v f (link_to index))
   may_write f low high =
@@ -205,10 +240,7 @@ module _ {b made : List ℕ} {kind : Kind} {before : List VariableShape} {own : 
     grown = subst (Edit b linked s.records rs (taking_all s.unused ps (vxr_bytes 64) ++ heads_marks kind v)) (append-nil ps) (edit_then t.grows.edit heads_edit)
 
     pub node_linked : (m : ℕ) → In m os → Kept b linked m
-    node_linked m i = kept grown m vxr_type (node_before m i) (node_typed m i) (tests [] 0).grown_clear
-
-    pub old_linked : (m : ℕ) → In m os → type_at linked m ≡ vxr_type
-    old_linked m i = let k = node_linked m i in type_kept b linked m k.same k.long ∙ node_typed m i
+    node_linked m i = kept grown m vxr_type (node_before m i) (node_typed m i) (tests [] 0).nodes_clear
 
     new_kept : (m : ℕ) → In m ps → Kept made linked m
     new_kept m i = kept heads_edit m vxr_type (new_in m i) (new_made m i) (tests [] 0).nodes_clear
@@ -222,9 +254,6 @@ module _ {b made : List ℕ} {kind : Kind} {before : List VariableShape} {own : 
         let types : (m : ℕ) → In m rs → type_at linked m ≡ type_at made m = λ m i. elim (heads_edit.kind m i) [ inl k ↦ k.1 | inr k ↦ elim k [ inl u ↦ absurd (u.0 i) | inr none ↦ absurd none ] ] in
         search (rules, sizes, types)
 
-    bare_linked : Each (IsBare linked) (nodes_of index)
-    bare_linked = each (IsBare linked) (nodes_of index) (λ m i. bare_by made linked m (new_kept m (in_places m i)) (Each-in (IsBare made) (nodes_of index) x.bare m i))
-
     linked_index : NewIndex b linked kind own index rs (shape made).unused space_fields (taking_all s.unused ps (vxr_bytes 64)) [] (field 0 0) ps
     linked_index =
         let edit = edit_under grown (index_made_marks kind v s.unused ps [] 0) (λ m type lo hi i is a. (a.0, (a.1.0, (a.1.1.0, (a.1.1.1.0, (a.1.1.1.1.0, (a.1.1.1.1.1.0, tt))))))) in
@@ -233,10 +262,10 @@ module _ {b made : List ℕ} {kind : Kind} {before : List VariableShape} {own : 
         let head = gdr_field t.grows.sound heads_edit (tests [] 0).file_clear gdr_uir_head (tests [] 0).list_clear (omega arith) in
         let unused = subst (λ (g : ℕ). IsChain linked rs uir_type (number linked g gdr_uir_head) (shape made).unused) (ap (λ (y : Shape). y.gdr) t.grows.same_shape)
         (chain_stays heads_edit uir_type _ _ (shape made).unused t.grows.sound.has_shape.unused_chain head (λ m i. away-avoids (heads_marks kind v) uir_type m 0 20 (unmarked-away (heads_marks kind v) uir_type m (tests [] 0).unused_clear))) in
-        let link = ap (λ (y : List ℕ). number y v vdr_vxr_head) heads ∙ other_words _ v vdr_vxr_tail (link_to index) (v + 28) 8 (tail_lies _ refl) (inl (omega arith)) ∙ field_reads made v vdr_vxr_head (link_to index) head_lies x.small in
+        let link = ap (λ (y : List ℕ). number y v vdr_vxr_head) heads ∙ other_words _ v vdr_vxr_tail (link_to index) (v + 28) 8 (tail_lies _ refl) (inl (omega arith)) ∙ field_reads made v vdr_vxr_head (link_to index) (lies vdr_vxr_head (omega arith)) x.small in
         let nodes = nodes_kept made linked rs rs same_heads 8 index x.stands (λ m i. new_kept m (in_places m i)) (λ m i. (Each-in (IsBare made) (nodes_of index) x.bare m i).fits)
         (λ m i. t.grows.edit.sub m (behind_in good among m (block_behind own m (subst (λ (ls : List Leaf). In m (places_of ls)) x.leaves_stay i)))) in
-        let once = distinct_if (nodes_of index) (λ m. subst (λ (n : ℕ). n ≤ 1) (x.each_taken m) (times_most m ps t.once)) in
+        let once = distinct_if (nodes_of index) (λ m. (let one : 0 < times m ps → times m ps ≡ 1 = λ some. times-once m ps t.once (in-times m ps some) in grind (arith, x.each_taken m, one))) in
         search (rules, edit, (tests [] 0).tests, typed, unused, link, nodes, once)
 
     abbrev linked_edit : OwnEdit b linked kind own index rs (shape made).unused (index_made_marks kind v s.unused ps [] 0) ps
@@ -254,7 +283,7 @@ module _ {b made : List ℕ} {kind : Kind} {before : List VariableShape} {own : 
         (omega (arith, times-append m (variable_records (with_index own index)) [], times-append m (variable_records own) [], parts_times own m, parts_times (with_index own index) m, ap (λ (ls : List Leaf). times m (places_of ls)) x.leaves_stay, x.each_taken m))
 
     pub sound_linked : IsSound linked (shape linked)
-    sound_linked = subst (IsSound linked) (sym linked_shape) (sound_if (sound good among) (splices good among linked_edit) (fits_now good among linked_index x.leaves_stay bare_linked, tt)
+    sound_linked = subst (IsSound linked) (sym linked_shape) (sound_if (sound good among) (splices good among linked_edit) (fits_now good among linked_index x.leaves_stay (each (IsBare linked) (nodes_of index) (λ m i. bare_by made linked m (new_kept m (in_places m i)) (Each-in (IsBare made) (nodes_of index) x.bare m i))), tt)
         (not_twice_kept b linked s s' _ ps (sound good among) linked_index.edit (λ m out. omega (arith, used_now m, times-none m ps out))
         (λ m i. inl ((λ u. apart vxr_type uir_type refl (sym (new_linked m i) ∙ u)), omega (arith, used_now m, fresh_unowned (sound good among) m (t.fresh_all m i), times-once m ps t.once i)))))
 
@@ -262,25 +291,18 @@ module _ {b made : List ℕ} {kind : Kind} {before : List VariableShape} {own : 
     old_free =
         let stand : (m : ℕ) → In m os → In m (shape linked).records = λ m i. subst (λ (y : Shape). In m y.records) (sym linked_shape) (t.grows.edit.sub m (node_before m i)) in
         let unowned : (m : ℕ) → In m os → times m (owned_records linked (shape linked)) ≡ 0 = λ m i. subst (λ (y : Shape). times m (owned_records linked y) ≡ 0) (sym linked_shape)
-        (none_in_use linked s' heads_edit.tiled_now m (λ u. apart vxr_type uir_type refl (sym (old_linked m i) ∙ u)) (omega (arith, used_now m, (sound good among).not_twice m, owned-times b s m, times-in m os i, times-none m ps (λ j. new_apart m j i)))) in
+        (none_in_use linked s' heads_edit.tiled_now m (λ u. apart vxr_type uir_type refl (sym (same_heads.types m (t.grows.edit.sub m (node_before m i)) ∙ old_made m i) ∙ u)) (omega (arith, used_now m, (sound good among).not_twice m, owned-times b s m, times-in m os i, times-none m ps (λ j. new_apart m j i)))) in
         search (rules, stand, unowned, (has good among).indexed.once)
 
     -- ---- the old nodes are freed
 
     module _ (now : List ℕ) (given : AllGiven linked now os) where
       pub frees : Frees made linked now (heads_marks kind v) (vxr_type ∷ []) os
-      frees = record {
-        sound = t.grows.sound;
-        edit = heads_edit;
-        long = linked_long;
-        mid_sound = sound_linked;
-        records = ap (λ (y : Shape). y.records) linked_shape;
-        unused = ap (λ (y : Shape). y.unused) linked_shape;
-        free = old_free;
-        typed = λ m i. ap (λ (k : ℕ). is_in k (vxr_type ∷ [])) (old_made m i);
-        no_gdr = refl;
-        given = given;
-      }
+      frees =
+          let records = ap (λ (y : Shape). y.records) linked_shape in
+          let unused = ap (λ (y : Shape). y.unused) linked_shape in
+          let typed : (m : ℕ) → In m os → is_in (type_at made m) (vxr_type ∷ []) ≡ true = λ m i. ap (λ (k : ℕ). is_in k (vxr_type ∷ [])) (old_made m i) in
+          search (rules, t.grows.sound, heads_edit, linked_long, sound_linked, records, unused, old_free, typed, given)
 
       onward : Edit made now rs (shape now).records (heads_marks kind v ++ freeing_marks (vxr_type ∷ []) (shape made).unused os (length linked)) os
       onward = subst (λ (ns : List ℕ). Edit made now rs ns (heads_marks kind v ++ freeing_marks (vxr_type ∷ []) (shape made).unused os (length linked)) os) (sym (freed_records frees)) (freed_edit frees)
@@ -294,12 +316,12 @@ module _ {b made : List ℕ} {kind : Kind} {before : List VariableShape} {own : 
       pub bare_now : Each (IsBare now) (nodes_of index)
       bare_now = each (IsBare now) (nodes_of index) (λ m i. bare_by made now m (new_now m (in_places m i)) (Each-in (IsBare made) (nodes_of index) x.bare m i))
 
-      tail_now : number now v vdr_vxr_tail ≡ link_to index
+      tail_now : number now v vdr_vxr_tail ≡ last_node index
       tail_now =
           let there = t.grows.edit.sub v (tile good among) in
           let type : type_at linked v ≡ type_in (variables_chain kind) = same_heads.types v there ∙ vdr_made.0 in
           let k = others_kept frees v there (λ e. (tests [] 0).no_gdr (sym type ∙ e)) (λ e. (tests [] 0).used (sym type ∙ e)) (λ i. vdr_no_node kind (sym (typed good among) ∙ node_typed v i)) in
-          number_kept linked now v k.same vdr_vxr_tail (omega (arith, same_heads.sizes v there, vdr_made.1)) ∙ tail_is
+          number_kept linked now v k.same vdr_vxr_tail (omega (arith, same_heads.sizes v there, vdr_made.1)) ∙ tail_is ∙ sym (last_is index x.nexts)
 
       -- ---- the whole
 
@@ -316,9 +338,8 @@ module _ {b made : List ℕ} {kind : Kind} {before : List VariableShape} {own : 
 
       pub rebuilt : IsRebuilt b now own
       rebuilt =
-          let tail : number now v vdr_vxr_tail ≡ last_node index = tail_now ∙ sym (last_is index x.nexts) in
           let longest : length now ≤ length b + reindex_room own.index = omega (arith, freed_long frees, x.longest) in
-          search (rules, x, heads, sound_linked, given, stands_now, bare_now, sound_now frees, content_same good among new_index x.leaves_stay bare_now)
+          search (rules, x, heads, sound_linked, given, stands_now, tail_now, bare_now, sound_now frees, content_same good among new_index x.leaves_stay bare_now)
 
       -- ---- a good image stays good
 
@@ -360,3 +381,55 @@ module _ {b made : List ℕ} {kind : Kind} {before : List VariableShape} {own : 
       pub made_follow : ActsFollow b now (made_acts b own.index index)
       made_follow = subst (λ (xs : List Act). ActsFollow b now (node_takes ps ++ xs)) (gave-same b linked os same_size)
           (all_gave b linked now (node_takes ps) (vxr_type ∷ []) os (sound good among).has_shape (acts_still_by t.grows.sound t.follow heads_edit (tests [] 0).unused_clear (ap (λ (y : Shape). y.records) linked_shape) (ap (λ (y : Shape). y.unused) linked_shape) linked_long) sound_linked (may_free frees) given)
+
+      -- ---- what is done
+
+      abbrev done : List Act
+      done = made_acts b own.index index
+
+      taken_all : (m : ℕ) → In m (nodes_of index) → is_taken_at done m ≡ true
+      taken_all m i = is_in-true m _ (subst (In m) (sym (taken_new b ps os).0) (in_places m i))
+
+      behind : (m : ℕ) → In m os → Same b now (m + links_end (size_at b m)) (m + size_at b m)
+      behind m i =
+          let last : Same linked now (m + links_end (size_at b m)) (m + size_at b m) = subst (λ (n : ℕ). Same linked now (m + links_end n) (m + n)) (sym (sizes_before frees m i) ∙ same_size m i) (freeing_behind frees m i) in
+          record { each = λ k low up. last.each k low up ∙ (node_linked m i).same.each k (omega arith) up }
+
+      freed : FreedStay b now no_fields done
+      freed = given_after b now done ps (gave b os) (freed_stay b now done os no_fields (sound_now frees).has_shape.tiled (λ m i. subst (In m) (sym (freed_records frees)) (freed_places frees m i)) freed_size behind)
+
+      makes : IsNode own.index → MakesIndex b now own (with_index own index) done
+      makes some =
+          let fewest = x.fewest ∙ ap (λ leaves. nodes_above 8 (length leaves)) (sym x.leaves_stay) in
+          let wide = Each-map (IsBare now) (λ vxr. room_at now vxr ≡ 64) (λ m bare. bare.room_is) (nodes_of index) bare_now in
+          let alone = Each-map (IsBare now) (λ vxr. next_of now vxr ≡ 0) (λ m bare. bare.next_is) (nodes_of index) bare_now in
+          let unused = Each-map (IsBare now) (UnusedEntries b now [] [] done) (λ m bare i low high. inl (bare.unused i low (subst (λ (n : ℕ). i < n) bare.room_is high))) (nodes_of index) bare_now in
+          let spare = each (NodeSpareStays b now done) (nodes_of index) (λ m i free. absurd (true≢false (sym (taken_all m i) ∙ free))) in
+          let tail = tail_now ∙ sym (ap (λ (p : Bool). if p then number b v vdr_vxr_tail else last_node index) (top_moves done own.index index some taken_all)) in
+          search (rules, x.leaves_stay, fewest, x.filled, wide, alone, unused, spare, tail, freed)
+
+      -- ---- the command, which names the variable
+
+      module _ (variable : Variable) (name : List ℕ) (named : variable_named (content b) name ≡ Some (record { kind = kind; number = length before; variable = variable })) where
+        abbrev found : Found
+        found = record { kind = kind; number = length before; variable = variable }
+
+        allowed : (m : ℕ) (o : Option Range) → range_at s found m ≡ o → (reindex_changes b s found).variables kind (length before) m ≡ by_range b kind (vdr_vxr_head ∷ vdr_vxr_tail ∷ []) (λ rg. Only []) m o
+        allowed m o is = rw (same_as_itself kind, eq-eqb (length before) (length before) refl) (ap (by_range b kind (vdr_vxr_head ∷ vdr_vxr_tail ∷ []) (λ rg. Only []) m) is)
+
+        keeps : AllKeep b now (reindex_changes b s found) done (owned b s)
+        keeps =
+            let heads : List Field = vdr_vxr_head ∷ vdr_vxr_tail ∷ [] in
+            let may = (reindex_changes b s found).variables kind (length before) in
+            index_keeps good among new_index (reindex_changes b s found) done [] refl (descriptor_allowed found good among refl heads (λ rg. Only []) may allowed) (node_allowed found good among refl heads (λ rg. Only []) may allowed)
+            (λ m i long free. listed_free t m i long (none_of_both (λ (take : ℕ × ℕ). nat_le m take.0 && nat_lt take.0 (m + size_at b m)) (node_takes ps) (gave b os) free).0) (unlisted_away t)
+
+        pub rebuilt_follows : IsNode own.index → length now ≤ image_limit → Follows b (commands.Reindex name) now
+        rebuilt_follows some short =
+            let there = got_at before own after refl among.was in
+            let goes = ap ByStep (goes_by (content b) name found named) ∙ ap (λ (d : DataSet). ByStep (Go d replies.Plain)) (sym rebuilt.content_stays) in
+            let within : length now ≤ length b + room b (commands.Reindex name) = omega (arith, room_is b name found named there, rebuilt.longest) in
+            let takes_within : sum (map (λ take. take.1) (taken done)) ≤ room b (commands.Reindex name) = omega (arith, room_is b name found named there, (taken_new b ps os).1, x.as_many, x.fewest) in
+            let kept = subst (λ (o : Option Found). AllKeep b now (elim o as (λ x. Allowances) [ None ↦ stays_all | Some f ↦ reindex_changes b (shape b) f ]) done (owned b (shape b))) (sym named) keeps in
+            let does = does_by b name found named there (got_at before (with_index own index) after refl among_now.was) (makes some) in
+            search (rules, goes, good_now short, edit.longer, within, takes_within, made_follow, kept, does)

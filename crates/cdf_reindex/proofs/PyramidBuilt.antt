@@ -1,5 +1,5 @@
 -- The nodes that code made, and their levels, as a tree that stands in the image.
-use Rattle.cdf_reindex.proofs.Common.{Shape, Each-in, Act, AllMade, AllTaken, AreInOrder, AreTight, Ascending, Each, Each-split, EntriesTight, Entry, Fills, Good, HasNodes, HasVariable, InOrder, IndexMade, IsBare, IsBuilt, IsPyramid, IsSound, Kept, Kind, Leaf, List, NewNode, NextsAreZero, NodeFits, NodeMade, NodeWritten, Nodes, PyramidMade, SaysEntry, SaysUnused, StandsAmong, TakenAll, Takes, Took, VariableShape, [], alone, ap, arith, content, each, ends, entries_for, entry_count, entry_past, eof, eof_by_rules, filled_size, fills, from_below, gdr_offset, good_by_its_shape, good_is_sound, good_long, inl, kept, leaf_words, leaves_ascend, leaves_named, leaves_of, length, length-map, link_to, linkable-from, map, no_node, node_short, nodes_above, nodes_at, nodes_of, none_taken, number, of_kind, place_in, placed_grows, places_of, record_number_limit, refl, reindex_room, rules, rules_of_good, same_node, sealed_kept, shape, size_at, subst, suc, sym, taken_then, times, type_kept, used_count, variables, vxr_bytes, vxr_n_used_entries, vxr_type, with_space, ℕ, ◌+◌, ◌<◌, ◌^◌, ◌∙◌, ◌∷◌, ◌≡◌, ◌≤◌}
+use Rattle.cdf_reindex.proofs.Common.{Shape, Each-in, Act, AllMade, AllTaken, AreInOrder, AreTight, Ascending, Each, Each-split, EntriesTight, Entry, Fills, Good, HasNodes, HasVariable, InOrder, IndexMade, IsBare, IsBuilt, IsPyramid, IsSound, Kept, Kind, Leaf, List, NewNode, NextsAreZero, NodeMade, NodeWritten, Nodes, PyramidMade, StandsAmong, TakenAll, Takes, Took, VariableShape, [], alone, ap, arith, content, each, ends, entries_for, entry_count, entry_past, eof, eof_by_rules, filled_size, fills, from_below, gdr_offset, good_by_its_shape, good_is_sound, good_long, inl, kept, leaf_words, leaves_ascend, leaves_named, leaves_of, length, length-map, link_to, linkable-from, map, no_node, node_short, nodes_above, nodes_at, nodes_of, none_taken, of_kind, place_in, placed_grows, places_of, record_number_limit, refl, reindex_room, rules, rules_of_good, same_node, sealed_kept, shape, size_at, subst, suc, sym, taken_then, times, type_kept, variables, vxr_bytes, vxr_type, with_space, ℕ, ◌+◌, ◌<◌, ◌^◌, ◌∙◌, ◌∷◌, ◌≡◌, ◌≤◌}
 use Rattle.cdf_reindex.proofs.LevelSteps.{all_longest, length_words, say_entries}
 use Rattle.cdf_reindex.proofs.Levels.{Says, has_pyramid, in_by_times, lengths_add, makes_pyramid, nodes_are, times_add}
 
@@ -10,11 +10,7 @@ module _ (b taken : List ℕ) (place : ℕ) (sound : IsSound b (shape b)) (takes
   filled = fills b taken 64 place sound takes sound_taken stays now 0 entries w
 
   pub node_made : length entries ≤ 64 → NodeMade b now entries place
-  node_made few =
-      let fits : NodeFits now place = (omega (arith, filled_size sound filled, w.room_is), omega (arith, w.room_is, w.used_is)) in
-      let low : number now place vxr_n_used_entries ≤ 64 = omega (arith, w.count_is) in
-      let unused : (i : ℕ) → used_count now place ≤ i → i < 64 → SaysUnused now place i = λ i le lt. subst (λ (e : Entry). SaysEntry now place i e.first e.last e.place) (entry_past entries i (omega (arith, w.used_is, le))) (w.says i lt) in
-      search (rules, filled, fits, w.room_is, low, w.next_is, unused, w.count_is, w.used_is, w.says, node_short b taken 64 place sound takes sound_taken stays now 0 entries w)
+  node_made few = grind (arith, filled, filled_size sound filled, w, w.says, entry_past entries, node_short b taken 64 place sound takes sound_taken stays now 0 entries w)
 
   pub node_eof : eof now (gdr_offset now) ≡ length now
   node_eof = ends sound filled
@@ -39,12 +35,7 @@ own_of P now {b = b} {kind = kind} {before = before} {own = own} {after = after}
 -- ---- new nodes stay as they were made while others are made
 
 pub bare_by : (b now : List ℕ) (place : ℕ) → Kept b now place → IsBare b place → IsBare now place
-bare_by b now place k bare =
-    let n = same_node b now place k bare.fits in
-    let fits : NodeFits now place = (omega (arith, n.size_is, n.room_is, bare.fits.0), omega (arith, n.used_is, n.room_is, bare.fits.1)) in
-    let few : number now place vxr_n_used_entries ≤ 64 = omega (arith, n.count_is, bare.few) in
-    let unused : (i : ℕ) → used_count now place ≤ i → i < 64 → SaysUnused now place i = λ i le lt. n.entries i (omega (arith, bare.room_is, lt)) _ _ _ (bare.unused i (omega (arith, n.used_is, le)) lt) in
-    search (rules, fits, n.room_is ∙ bare.room_is, few, n.next_is ∙ bare.next_is, unused)
+bare_by b now place k bare = let n = same_node b now place k bare.fits in grind (arith, n.entries, bare.unused)
 
 pub nodes_taken : (b now : List ℕ) (nodes : List NewNode) → AllMade b now nodes → AllTaken b now (places_of nodes)
 nodes_taken b now [] m = m
@@ -80,10 +71,6 @@ unfolding AreInOrder
 ascend_order low high [] a = tt
 ascend_order low high (leaf ∷ more) a = (a.0, a.1, omega (arith, a.2), ascend_order (suc leaf.last) high more a.3)
 
--- the leaves of an index in order are in order
-pub leaves_order : (high : ℕ) (nodes : Nodes) → InOrder 0 high nodes → AreInOrder 0 high (entries_for (leaves_of nodes))
-leaves_order high nodes o = ascend_order 0 high (leaves_of nodes) (leaves_ascend 0 high nodes o (omega arith))
-
 pub few_leaves : (nodes : Nodes) → InOrder 0 record_number_limit nodes → length (leaves_of nodes) ≤ 2147483648
 few_leaves nodes o = let m = ascend_most 0 2147483647 (leaves_of nodes) (omega arith) (leaves_ascend 0 record_number_limit nodes o (omega arith)) in omega arith
 
@@ -101,10 +88,7 @@ no_pyramid = record { full = λ levels. tt; even = λ levels. inl refl; tight = 
 
 no_tree : (b : List ℕ) → IsSound b (shape b) → (own : VariableShape) → leaves_of own.index ≡ [] → IsBuilt b b own no_node
 unfolding HasNodes nodes_of leaves_of nodes_at nodes_above NextsAreZero InOrder
-no_tree b sound own none =
-    let fewest = sym (ap (λ (ls : List Leaf). nodes_above 8 (length ls)) none) in
-    let longest : length b ≤ length b + reindex_room own.index = omega arith in
-    search (rules, no_pyramid, sym none, fewest, longest)
+no_tree b sound own none = grind (arith, no_pyramid, none)
 
 module _ {b : List ℕ} {kind : Kind} {before : List VariableShape} {own : VariableShape} {after : List VariableShape} (good : Good b) (among : StandsAmong b kind before own after) (few : length (leaves_of own.index) ≤ 2147483648) (made : List ℕ) (top : ℕ) (small : top < 2 ^ 64) where
   abbrev ls : List Leaf
@@ -124,7 +108,7 @@ module _ {b : List ℕ} {kind : Kind} {before : List VariableShape} {own : Varia
       let bare = each (IsBare made) (nodes_of (alone p.root)) (λ m i. Each-in (IsBare made) (places_of all) stand.0 m (in_by_times (nodes_of (alone p.root)) (places_of all) times_are m i)) in
       let stands = has_pyramid ls p.root p.more p.are made (shape made).records 8 (omega (arith, pyramid.few few)) (leaves_named made (shape made).records 8 own.index has.indexed.has_nodes) stand.1 in
       let longest : length made ≤ length b + reindex_room own.index = omega (arith, all_longest b made all p.made, long, length-map all (λ (new : NewNode). new.place), pyramid.fewest some few) in
-      let order = λ (o : InOrder 0 record_number_limit own.index). pyramid.order record_number_limit (leaves_order record_number_limit own.index o) in
+      let order = λ (o : InOrder 0 record_number_limit own.index). pyramid.order record_number_limit (ascend_order 0 record_number_limit ls (leaves_ascend 0 record_number_limit own.index o (omega arith))) in
       let each_taken = λ (m : ℕ). ap (times m) places ∙ sym (times_are m) in
       let built : IsBuilt b made own (alone p.root) = search (rules, pyramid.leaves_are, pyramid.filled, pyramid.fewest some few, pyramid.nexts, order, subst (AllTaken b made) (sym places) taken, each_taken, ap length places ∙ sym long, stands, rw p.place_is at small, bare, longest) in
       record { index = alone p.root; link_is = p.place_is; built = built }

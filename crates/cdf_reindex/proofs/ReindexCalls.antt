@@ -1,6 +1,6 @@
 -- What a good image gives for the calls by which the index of one of its variables is made anew, and what they come to.
-use Rattle.cdf_reindex.proofs.Common.{length-with_field, AllGiven, AreFree, Entry, Good, HasIndex, In, IndexMade, IsNode, IsRebuilt, IsSound, Kind, LiesIn, List, Nodes, OneOf, Reindexed, StandsAmong, VariableShape, [], among_all, ap, arith, fits, good_by_its_shape, good_image, good_index, good_is_sound, heads_written, image_limit, index_at, index_of, inl, inr, leaf_words, leaves_of, length, length-map, map, name_room, nil_from_length, no_node, node, nodes_of, number, one_of, refl, reindex_room, shape, subst, sym, variables, vdr_vxr_head, vdr_vxr_tail, vdrs, with_field, with_writes, ℕ, ◌+◌, ◌<◌, ◌^◌, ◌∙◌, ◌≡◌, ◌≤◌}
-use Rattle.cdf_reindex.proofs.MadeEdit.{good_now, head_lies, lies, old_free, rebuilt, sound_linked}
+use Rattle.cdf_reindex.proofs.Common.{length-with_field, AllGiven, AreFree, Entry, Good, HasIndex, In, IndexMade, IsNode, IsRebuilt, IsSound, Kind, LiesIn, List, Nodes, OneOf, Reindexed, StandsAmong, VariableShape, [], among_all, ap, arith, fits, good_by_its_shape, good_image, good_index, good_is_sound, heads_written, image_limit, index_of, inl, inr, leaf_words, leaves_of, length, length-map, map, name_room, nil_from_length, no_node, node, nodes_of, number, one_of, refl, reindex_room, shape, subst, sym, variables, vdr_vxr_head, vdr_vxr_tail, vdrs, with_field, with_writes, ℕ, ◌+◌, ◌<◌, ◌^◌, ◌∙◌, ◌≡◌, ◌≤◌}
+use Rattle.cdf_reindex.proofs.MadeEdit.{good_now, lies, old_free, rebuilt, sound_linked}
 use Rattle.cdf_reindex.proofs.PyramidBuilt.{TreeMade, few_leaves, tree_made}
 
 -- an index of no nodes is none
@@ -20,8 +20,8 @@ module _ (b : List ℕ) (good : Good b) where
     one = one_of b vdr i
 
     -- VXRhead lies in the image, and leads to an index
-    pub head_there : vdr + 36 ≤ length b
-    head_there = let wide = name_room good one.among in subst (λ (m : ℕ). m + 36 ≤ length b) one.vdr_is (omega arith)
+    pub head_there : LiesIn b vdr vdr_vxr_head
+    head_there = omega (arith, name_room good one.among, one.vdr_is)
 
     pub has_index : HasIndex b (number b vdr vdr_vxr_head)
     has_index = (index_is one.among one.vdr_is).0
@@ -62,7 +62,7 @@ module _ (b : List ℕ) (good : Good b) (vdr : ℕ) {leaves : List Entry} (leave
     of = one_of b vdr i
 
     pub head_written_there : LiesIn made vdr vdr_vxr_head
-    head_written_there = omega (arith, head_lies good of.among (tree of.among of.vdr_is).built, of.vdr_is)
+    head_written_there = omega (arith, lies good of.among (tree of.among of.vdr_is).built vdr_vxr_head (omega arith), of.vdr_is)
 
     pub tail_written_there : {first : List ℕ} → first ≡ with_field made vdr vdr_vxr_head top → LiesIn first vdr vdr_vxr_tail
     tail_written_there head = omega (arith, ap length head ∙ length-with_field made vdr vdr_vxr_head top head_written_there, lies good of.among (tree of.among of.vdr_is).built vdr_vxr_tail (omega arith), of.vdr_is)

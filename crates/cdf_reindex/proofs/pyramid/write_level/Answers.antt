@@ -20,11 +20,9 @@ loop-node-preserved g c =
       eof_is = call.eof;
       count = omega (arith, ap length c.in_ok-push.ensures.items ∙ length-append l.uppers.items _, i.count, size, ap length steps.1.0 ∙ length-append chunk left, steps.1.2);
       longest = omega (arith, ap length c.in_ok-push.ensures.items ∙ length-append l.uppers.items _, i.longest, call.made.longest);
-      goes = λ all said. subst (Goes _ _ all left) (sym (c.in_ok-push.ensures.items ∙ ap (λ (e : Entry). l.uppers.items ++ e ∷ []) c.naming.ensures)) (goes_more _ _ _ all rest chunk left l.uppers.items c.in_ok-place.place (i.goes all said) steps.1.0 size steps.1.2 call.made);
+      goes = λ all said. subst (Goes _ _ all left) (sym (c.in_ok-push.ensures.items ∙ ap (λ (e : Entry). l.uppers.items ++ e ∷ []) c.naming.ensures)) (goes_more (i.goes all said) steps.1.0 size steps.1.2 call.made);
       area = edit_more i.area call.area;
     }
 
 pub returns-clause-made : goal.returns-clause-made
-returns-clause-made g c =
-    let l = c.loop-node in
-    λ all said. goes_last _ _ all (chunks_rest l.node-iterator) l.uppers.items (l.invariant.goes all said) (nil_from_length _ c.in-None.ensures.steps.1.0)
+returns-clause-made g c = λ all said. goes_last (c.loop-node.invariant.goes all said) (nil_from_length _ c.in-None.ensures.steps.1.0)

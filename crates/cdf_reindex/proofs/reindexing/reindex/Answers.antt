@@ -3,7 +3,7 @@ use Rattle.cdf_reindex.proofs.ReindexCalls.{good_again, has_index, head_there, n
 use Rattle.cdf_reindex.proofs.reindexing.reindex.Goals as goal
 
 pub read_unsigned8-requires : goal.read_unsigned8-requires
-read_unsigned8-requires g c = omega (arith, head_there _ c.requires.good _ c.requires.vdr)
+read_unsigned8-requires g c = head_there _ c.requires.good _ c.requires.vdr
 
 pub overflow_add-vdr : goal.overflow_add-vdr
 overflow_add-vdr g c = omega (arith, head_there _ c.requires.good _ c.requires.vdr, c.requires.room, c.requires.limit)
