@@ -1,16 +1,9 @@
 -- Levels make an index of their leaves: what the entries that name the nodes of a level have of those in them, and what holds of all levels.
-use Rattle.cdf_reindex.proofs.Common.{in-times, take, take_all, AreInOrder, AreLevels, AreTight, Each, Each-split, Entries, EntriesTight, Filled, FullFromLeft, HasNodes, In, InOrder, Leaf, List, LowerAreZero, MakesPyramid, Named, Names, NewNode, NextsAreZero, None, Option, SaysNode, Some, Spans, [], alone, ap, append-nil, append_assoc, ap₂, arith, block, cases_lt, count_both, entries_for, entries_of, entry_count, entry_leaves, first_of, from_below, inl, inr, last_of, last_or, leaves_both, leaves_of, length, length-append, length-map, levels_up, lower, lower_both, lower_nodes, map, map-append, names_parts, nat_tests, no_entry, no_node, nodes_above, nodes_at, nodes_below, nodes_left, nodes_of, option_map, parts_in_order, past_entries, places_of, quotient_up, refl, subst, suc, sum, sum_by-cons, sym, times, times-append, times-in, uppers, with_both, zero, ℕ, ◌*◌, ◌++◌, ◌+◌, ◌∙◌, ◌∷◌, ◌≡◌, ◌≤◌, ◌⊎◌, rules}
+use Rattle.cdf_reindex.proofs.Common.{in-times, take, take_all, AreInOrder, AreLevels, AreTight, Each, Each-split, Entries, EntriesTight, Filled, FullFromLeft, HasNodes, In, InOrder, Leaf, List, LowerAreZero, MakesPyramid, Named, Names, NewNode, NextsAreZero, None, Option, SaysNode, Some, Spans, [], alone, ap, append-nil, append_assoc, ap₂, arith, block, cases_lt, count_both, entries_for, entries_of, entry_count, entry_leaves, first_of, from_below, inl, inr, last_of, last_or, leaves_both, leaves_of, length, length-append, length-map, levels_up, lower, lower_both, lower_nodes, map, map-append, names_parts, nat_tests, no_entry, no_node, nodes_above, nodes_at, nodes_below, nodes_left, nodes_of, option_map, parts_in_order, past_entries, places_of, quotient_up, refl, subst, suc, sum, sum_by-cons, sym, times, times-in, uppers, with_both, zero, ℕ, ◌*◌, ◌++◌, ◌+◌, ◌∙◌, ◌∷◌, ◌≡◌, ◌≤◌, ◌⊎◌, rules}
 
 -- what counts a list by its parts
-pub record Adds (f : List ℕ → ℕ) : Type 0 where
-  pub none : f [] ≡ 0
-  pub both : (xs ys : List ℕ) → f (xs ++ ys) ≡ f xs + f ys
-
-pub times_add : (m : ℕ) → Adds (times m)
-times_add m = record { none = refl; both = times-append m }
-
-pub lengths_add : Adds length
-lengths_add = record { none = refl; both = length-append }
+abbrev pub Adds : (List ℕ → ℕ) → Type 0
+Adds f = (xs ys : List ℕ) → f (xs ++ ys) ≡ f xs + f ys
 
 -- ---- two lists of entries
 
@@ -108,10 +101,10 @@ raised (new ∷ more) f =
       here = ap (λ (ps : List (ℕ × ℕ)). (new.place, entry_count es) ∷ ps) r.here;
       below = λ levels. rw (below_both levels es (entries_of more), append-nil (nodes_below levels es), r.below levels) refl;
       nodes = λ f adds.
-          let back = ap f (lower_both es (entries_of more)) ∙ adds.both (lower_nodes es) (lower_nodes (entries_of more)) in
+          let back = ap f (lower_both es (entries_of more)) ∙ adds (lower_nodes es) (lower_nodes (entries_of more)) in
           rw (append-nil (lower_nodes es))
-          (adds.both (new.place ∷ lower_nodes es) (lower_nodes (uppers more))
-          ∙ omega (arith, adds.both (new.place ∷ []) (lower_nodes es), r.nodes f adds ∙ adds.both (places_of more) (lower_nodes (entries_of more)), adds.both (new.place ∷ []) (places_of more), adds.both (new.place ∷ places_of more) (lower_nodes (with_both es (entries_of more))), back));
+          (adds (new.place ∷ lower_nodes es) (lower_nodes (uppers more))
+          ∙ omega (arith, adds (new.place ∷ []) (lower_nodes es), r.nodes f adds ∙ adds (places_of more) (lower_nodes (entries_of more)), adds (new.place ∷ []) (places_of more), adds (new.place ∷ places_of more) (lower_nodes (with_both es (entries_of more))), back));
       names = λ now rs levels s h. let p = names_parts now rs levels es (entries_of more) h in (tt, (s.0, p.0, tt), r.names now rs levels s.1 p.1);
     }
 
@@ -151,7 +144,7 @@ pile_more : {leaves : List Leaf} (level : List NewNode) {more : List (List NewNo
 pile_more {leaves = leaves} level {more = more} f p =
     let r = raised level f in
     let nodes : (f : List ℕ → ℕ) → Adds f → f (lower_nodes (uppers level)) ≡ f (places_of (from_below (level ∷ more))) =
-    λ f adds. omega (arith, r.nodes f adds ∙ adds.both (places_of level) (lower_nodes (entries_of level)), p.nodes f adds, ap f (map-append (λ (new : NewNode). new.place) (from_below more) level) ∙ adds.both (places_of (from_below more)) (places_of level)) in
+    λ f adds. omega (arith, r.nodes f adds ∙ adds (places_of level) (lower_nodes (entries_of level)), p.nodes f adds, ap f (map-append (λ (new : NewNode). new.place) (from_below more) level) ∙ adds (places_of (from_below more)) (places_of level)) in
     search (rules, r.leaves_are ∙ p.leaves_are, r.order, p.order, r.zeros p.zeros, r.tight p.tight, nodes, rows r, names r)
   where
     rows : Raised level → (k : ℕ) → nodes_below k (uppers level) ≡ counted (row (level ∷ more) k)
@@ -239,9 +232,9 @@ module _ (leaves : List Leaf) (top : NewNode) (more : List (List NewNode)) (l : 
       mapped [] = refl
       mapped (new ∷ ns) = ap (λ (ps : List ℕ). new.place ∷ ps) (mapped ns)
 
-  pub nodes_are : {f : List ℕ → ℕ} → Adds f → f (nodes_of (alone top)) ≡ f (places_of (from_below ((top ∷ []) ∷ more)))
+  pub nodes_are : (f : List ℕ → ℕ) → Adds f → f (nodes_of (alone top)) ≡ f (places_of (from_below ((top ∷ []) ∷ more)))
   unfolding nodes_of lower_nodes
-  nodes_are {f = f} adds = ap f (sym (append-nil (nodes_of (alone top)))) ∙ p.nodes f adds
+  nodes_are f adds = ap f (sym (append-nil (nodes_of (alone top)))) ∙ p.nodes f adds
 
   pub has_pyramid : (now rs : List ℕ) (deep : ℕ) → length ((top ∷ []) ∷ more) ≤ deep → Each (Named now rs) leaves → Each (Says now rs) (from_below ((top ∷ []) ∷ more)) → HasNodes now rs deep (alone top)
   unfolding HasNodes Names
@@ -255,7 +248,7 @@ module _ (leaves : List Leaf) (top : NewNode) (more : List (List NewNode)) (l : 
       let order : (high : ℕ) → AreInOrder 0 high (entries_for leaves) → InOrder 0 high (alone top) = λ high o. ((parts_in_order 0 high top.entries no_entry (inner.order high o)).0, tt) in
       let high = tall leaves (top ∷ []) more l in
       let few : length leaves ≤ 2147483648 → length ((top ∷ []) ∷ more) ≤ 6 = λ few. omega (arith, (high few).1.0) in
-      let fewest : 1 ≤ length leaves → length leaves ≤ 2147483648 → length (nodes_of (alone top)) ≡ nodes_above 8 (length leaves) = λ some few. omega (arith, nodes_are lengths_add, length-map (from_below ((top ∷ []) ∷ more)) (λ (new : NewNode). new.place), (high few).1.2 some) in
+      let fewest : 1 ≤ length leaves → length leaves ≤ 2147483648 → length (nodes_of (alone top)) ≡ nodes_above 8 (length leaves) = λ some few. omega (arith, nodes_are length length-append, length-map (from_below ((top ∷ []) ∷ more)) (λ (new : NewNode). new.place), (high few).1.2 some) in
       let places = λ (f : length leaves ≤ 2147483648). up 7 ∙ ap (λ (levels : List (List NewNode)). places_of (from_below levels)) (take_all 8 ((top ∷ []) ∷ more) (omega (arith, (high f).1.0))) in
       search (rules, sym (append-nil (leaves_of (alone top))) ∙ p.leaves_are, full, even, p.tight.1, order, p.zeros.0, few, fewest, places)
 

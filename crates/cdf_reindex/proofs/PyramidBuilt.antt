@@ -1,7 +1,7 @@
 -- The nodes that code made, and their levels, as a tree that stands in the image.
-use Rattle.cdf_reindex.proofs.Common.{Shape, Each-in, Act, AllMade, AllTaken, AreInOrder, AreTight, Ascending, Each, Each-split, EntriesTight, Entry, Fills, Good, HasNodes, HasVariable, InOrder, IndexMade, IsBare, IsBuilt, IsPyramid, IsSound, Kept, Kind, Leaf, List, NewNode, NextsAreZero, NodeMade, NodeWritten, Nodes, PyramidMade, StandsAmong, TakenAll, Takes, Took, VariableShape, [], alone, ap, arith, content, each, ends, entries_for, entry_count, entry_past, eof, eof_by_rules, filled_size, fills, from_below, gdr_offset, good_by_its_shape, good_is_sound, good_long, inl, kept, leaf_words, leaves_ascend, leaves_named, leaves_of, length, length-map, link_to, linkable-from, map, no_node, node_short, nodes_above, nodes_at, nodes_of, none_taken, of_kind, place_in, placed_grows, places_of, record_number_limit, refl, reindex_room, rules, rules_of_good, same_node, sealed_kept, shape, size_at, subst, suc, sym, taken_then, times, type_kept, variables, vxr_bytes, vxr_type, with_space, ℕ, ◌+◌, ◌<◌, ◌^◌, ◌∙◌, ◌∷◌, ◌≡◌, ◌≤◌}
+use Rattle.cdf_reindex.proofs.Common.{times-append, length-append, Shape, Each-in, Act, AllMade, AllTaken, AreInOrder, AreTight, Ascending, Each, Each-split, EntriesTight, Entry, Fills, Good, HasNodes, HasVariable, InOrder, IndexMade, IsBare, IsBuilt, IsPyramid, IsSound, Kept, Kind, Leaf, List, NewNode, NextsAreZero, NodeMade, NodeWritten, Nodes, PyramidMade, StandsAmong, TakenAll, Takes, Took, VariableShape, [], alone, ap, arith, content, each, ends, entries_for, entry_past, eof, eof_by_rules, filled_size, fills, from_below, gdr_offset, good_by_its_shape, good_is_sound, good_long, inl, kept, leaf_words, leaves_ascend, leaves_named, leaves_of, length, length-map, link_to, linkable-from, map, no_node, node_short, nodes_above, nodes_at, nodes_of, none_taken, of_kind, place_in, placed_grows, places_of, record_number_limit, refl, rules, rules_of_good, same_node, sealed_kept, shape, size_at, subst, suc, sym, taken_then, times, type_kept, variables, vxr_bytes, vxr_type, with_space, ℕ, ◌+◌, ◌<◌, ◌^◌, ◌∙◌, ◌∷◌, ◌≡◌, ◌≤◌}
 use Rattle.cdf_reindex.proofs.LevelSteps.{all_longest, length_words, say_entries}
-use Rattle.cdf_reindex.proofs.Levels.{Says, has_pyramid, in_by_times, lengths_add, makes_pyramid, nodes_are, times_add}
+use Rattle.cdf_reindex.proofs.Levels.{Says, has_pyramid, in_by_times, makes_pyramid, nodes_are}
 
 -- ---- a record that was taken becomes a node
 
@@ -53,8 +53,7 @@ all_stand b now (new ∷ more) sound end m =
     let many = length_words new.entries in
     let long : 28 ≤ size_at now new.place = omega (arith, n.size_is, filled_size sound made.fills) in
     let link = linkable-from now (shape now).records vxr_type new.place (edit.sub new.place inside) (type_kept m.0 now new.place k.same k.long ∙ made.fills.typed) long in
-    let in_room : (j : ℕ) → j < entry_count new.entries → j < 64 = λ j lt. omega (arith, made.bare.room_is, made.bare.fits.1, made.used_is, many, lt) in
-    let say = say_entries now new.place 0 new.entries (λ j lt. let z : j ≡ 0 + j = omega arith in rw (← z) (n.entries j (omega (arith, made.bare.room_is, in_room j lt)) _ _ _ (made.says j (in_room j lt)))) in
+    let say = say_entries now new.place 0 new.entries (λ j lt. let z : 0 + j ≡ j = omega arith in rw z (n.entries j (omega (arith, made.bare.room_is, made.bare.fits.1, made.used_is, many)) _ _ _ (made.says j (omega (arith, made.bare.room_is, made.bare.fits.1, made.used_is, many))))) in
     let rest = all_stand m.0 now more one.sound one.end_is m.1.1 in
     ((bare_by m.0 now new.place k made.bare, rest.0), search (rules, link, n.next_is ∙ made.bare.next_is, n.room_is ∙ made.bare.room_is, n.used_is ∙ made.used_is ∙ many, say, rest.1))
 
@@ -103,14 +102,13 @@ module _ {b : List ℕ} {kind : Kind} {before : List VariableShape} {own : Varia
       let grows = (all_taken b made (places_of all) (good_is_sound b good) (end_before b good) taken).grows in
       let stand = all_stand b made all (good_is_sound b good) (end_before b good) p.made in
       let has = own_of (HasVariable made (shape made).records) made among grows.same_shape grows.sound.has_shape.have_variables in
-      let times_are = λ (m : ℕ). nodes_are ls p.root p.more p.are (times_add m) in
-      let long = nodes_are ls p.root p.more p.are lengths_add in
+      let times_are = λ (m : ℕ). nodes_are ls p.root p.more p.are (times m) (times-append m) in
+      let long = nodes_are ls p.root p.more p.are length length-append in
       let bare = each (IsBare made) (nodes_of (alone p.root)) (λ m i. Each-in (IsBare made) (places_of all) stand.0 m (in_by_times (nodes_of (alone p.root)) (places_of all) times_are m i)) in
       let stands = has_pyramid ls p.root p.more p.are made (shape made).records 8 (omega (arith, pyramid.few few)) (leaves_named made (shape made).records 8 own.index has.indexed.has_nodes) stand.1 in
-      let longest : length made ≤ length b + reindex_room own.index = omega (arith, all_longest b made all p.made, long, length-map all (λ (new : NewNode). new.place), pyramid.fewest some few) in
       let order = λ (o : InOrder 0 record_number_limit own.index). pyramid.order record_number_limit (ascend_order 0 record_number_limit ls (leaves_ascend 0 record_number_limit own.index o (omega arith))) in
       let each_taken = λ (m : ℕ). ap (times m) places ∙ sym (times_are m) in
-      let built : IsBuilt b made own (alone p.root) = search (rules, pyramid.leaves_are, pyramid.filled, pyramid.fewest some few, pyramid.nexts, order, subst (AllTaken b made) (sym places) taken, each_taken, ap length places ∙ sym long, stands, rw p.place_is at small, bare, longest) in
+      let built : IsBuilt b made own (alone p.root) = search (arith, rules, pyramid.leaves_are, pyramid.filled, pyramid.fewest some few, pyramid.nexts, order, subst (AllTaken b made) (sym places) taken, each_taken, ap length places ∙ sym long, stands, rw p.place_is at small, bare, all_longest b made all p.made, long, length-map all (λ (new : NewNode). new.place)) in
       record { index = alone p.root; link_is = p.place_is; built = built }
 
   pub tree_made : IndexMade b made (map leaf_words ls) top → TreeMade b made own top

@@ -1,6 +1,6 @@
 -- What a good image gives for the calls by which the index of one of its variables is made anew, and what they come to.
 use Rattle.cdf_reindex.proofs.Common.{length-with_field, AllGiven, AreFree, Entry, Good, HasIndex, In, IndexMade, IsNode, IsRebuilt, IsSound, Kind, LiesIn, List, Nodes, OneOf, Reindexed, StandsAmong, VariableShape, [], among_all, ap, arith, fits, good_by_its_shape, good_image, good_index, good_is_sound, heads_written, image_limit, index_of, inl, inr, leaf_words, leaves_of, length, length-map, map, name_room, nil_from_length, no_node, node, nodes_of, number, one_of, refl, reindex_room, shape, subst, sym, variables, vdr_vxr_head, vdr_vxr_tail, vdrs, with_field, with_writes, ℕ, ◌+◌, ◌<◌, ◌^◌, ◌∙◌, ◌≡◌, ◌≤◌}
-use Rattle.cdf_reindex.proofs.MadeEdit.{good_now, lies, old_free, rebuilt, sound_linked}
+use Rattle.cdf_reindex.proofs.MadeFollows.{good_now, lies, old_free, rebuilt, sound_linked}
 use Rattle.cdf_reindex.proofs.PyramidBuilt.{TreeMade, few_leaves, tree_made}
 
 -- an index of no nodes is none
