@@ -13,17 +13,11 @@ pub words_for : (leaves : List Leaf) → words_of (entries_for leaves) ≡ map l
 words_for [] = refl
 words_for (leaf ∷ more) = ap (λ (ws : List Entry). leaf_words leaf ∷ ws) (words_for more)
 
-here : (i : ℕ) → i + 0 ≡ i
-here i = omega arith
-
-on : (i j : ℕ) → i + suc j ≡ suc i + j
-on i j = omega arith
-
 -- words that a node says one by one
 pub say_entries : (b : List ℕ) (place i : ℕ) (entries : Entries) → ((j : ℕ) → j < entry_count entries → SaysEntry b place (i + j) (entry_in (words_of entries) j).first (entry_in (words_of entries) j).last (entry_in (words_of entries) j).place) → SayEntries b place i entries
 say_entries b place i no_entry s = tt
-say_entries b place i (block first last at packed entries) s = (rw (here i) at (s 0 (omega arith)), say_entries b place (suc i) entries (λ j lt. rw (on i j) at (s (suc j) (omega arith))))
-say_entries b place i (lower first last nodes entries) s = (rw (here i) at (s 0 (omega arith)), say_entries b place (suc i) entries (λ j lt. rw (on i j) at (s (suc j) (omega arith))))
+say_entries b place i (block first last at packed entries) s = let z : i + 0 ≡ i = omega arith in (rw z at (s 0 (omega arith)), say_entries b place (suc i) entries (λ j lt. let on : i + suc j ≡ suc i + j = omega arith in rw on at (s (suc j) (omega arith))))
+say_entries b place i (lower first last nodes entries) s = let z : i + 0 ≡ i = omega arith in (rw z at (s 0 (omega arith)), say_entries b place (suc i) entries (λ j lt. let on : i + suc j ≡ suc i + j = omega arith in rw on at (s (suc j) (omega arith))))
 
 -- ---- parted as their words are
 
@@ -39,12 +33,10 @@ parted [] ys entries e = record { front = no_entry; back = entries; whole = refl
 parted (x ∷ xs) ys no_entry e = absurd cc
 parted (x ∷ xs) ys (block first last place packed entries) e =
     let r = parted xs ys entries cc in
-    let q = r.front_is in
-    record { front = block first last place packed r.front; back = r.back; whole = ap (block first last place packed) r.whole; front_is = cc; back_is = r.back_is }
+    record { front = block first last place packed r.front; back = r.back; whole = ap (block first last place packed) r.whole; front_is = (let q = r.front_is in cc); back_is = r.back_is }
 parted (x ∷ xs) ys (lower first last nodes entries) e =
     let r = parted xs ys entries cc in
-    let q = r.front_is in
-    record { front = lower first last nodes r.front; back = r.back; whole = ap (lower first last nodes) r.whole; front_is = cc; back_is = r.back_is }
+    record { front = lower first last nodes r.front; back = r.back; whole = ap (lower first last nodes) r.whole; front_is = (let q = r.front_is in cc); back_is = r.back_is }
 
 -- ---- the entry that names a node
 
@@ -68,8 +60,8 @@ pub record Goes (b mid : List ℕ) (all : Entries) (rest said : List Entry) : Ty
   pub rest_is : words_of back ≡ rest
   pub on : (now : List ℕ) (nodes : List NewNode) → entries_of nodes ≡ back → Filled nodes → AllMade mid now nodes → LevelMade b now all (said ++ words_of (uppers nodes))
 
-pub goes_more : (b mid new : List ℕ) (all : Entries) (rest chunk left said : List Entry) (place : ℕ) → Goes b mid all rest said → rest ≡ chunk ++ left → length chunk ≡ min 64 (length rest) → 1 ≤ length rest → NodeMade mid new chunk place → Goes b new all left (said ++ naming place chunk ∷ [])
-goes_more b mid new all rest chunk left said place goes parts size some made =
+pub goes_more : {b mid new : List ℕ} {all : Entries} {rest chunk left said : List Entry} {place : ℕ} → Goes b mid all rest said → rest ≡ chunk ++ left → length chunk ≡ min 64 (length rest) → 1 ≤ length rest → NodeMade mid new chunk place → Goes b new all left (said ++ naming place chunk ∷ [])
+goes_more {b = b} {mid = mid} {new = new} {all = all} {rest = rest} {chunk = chunk} {left = left} {said = said} {place = place} goes parts size some made =
     let p = parted chunk left goes.back (goes.rest_is ∙ parts) in
     let count = sym (length_words p.front) ∙ ap length p.front_is in
     let one : 1 ≤ entry_count p.front = omega (arith, count, size) in
@@ -84,8 +76,8 @@ goes_more b mid new all rest chunk left said place goes parts size some made =
           (goes.on now (record { place = place; entries = p.front } ∷ nodes) (ap (with_both p.front) e ∙ p.whole) (one, omega (arith, count, size), (λ more. omega (arith, count, size, all_of, left_of, (raised nodes f).shortest)), f) (new, (subst (λ (ws : List Entry). NodeMade mid new ws place) (sym p.front_is) made, m)));
     }
 
-pub goes_last : (b mid : List ℕ) (all : Entries) (rest said : List Entry) → Goes b mid all rest said → rest ≡ [] → LevelMade b mid all said
-goes_last b mid all rest said goes none = subst (LevelMade b mid all) (append-nil said) (goes.on mid [] (sym (no_entries goes.back (sym (length_words goes.back) ∙ ap length (goes.rest_is ∙ none)))) tt refl)
+pub goes_last : {b mid : List ℕ} {all : Entries} {rest said : List Entry} → Goes b mid all rest said → rest ≡ [] → LevelMade b mid all said
+goes_last {b = b} {mid = mid} {all = all} {said = said} goes none = subst (LevelMade b mid all) (append-nil said) (goes.on mid [] (sym (no_entries goes.back (sym (length_words goes.back) ∙ ap length (goes.rest_is ∙ none)))) tt refl)
 
 -- ---- a level over another
 

@@ -1,16 +1,9 @@
 -- Levels make an index of their leaves: what the entries that name the nodes of a level have of those in them, and what holds of all levels.
-use Rattle.cdf_reindex.proofs.Common.{AreInOrder, AreLevels, AreTight, Distinct, Each, Each-split, Entries, EntriesTight, Filled, FullFromLeft, HasNodes, In, InOrder, Leaf, List, LowerAreZero, MakesPyramid, Named, Names, NewNode, NextsAreZero, None, Option, SaysNode, Some, Spans, [], alone, ap, append-nil, append_assoc, ap₂, arith, block, cases_lt, count_both, either, entries_for, entries_of, entry_count, entry_leaves, false-is_in, first_of, from_below, inl, inr, is_in, last_of, last_or, leaves_both, leaves_of, length, length-append, length-map, levels_up, lower, lower_both, lower_nodes, map, map-append, names_parts, nat_tests, no_entry, no_node, nodes_above, nodes_at, nodes_below, nodes_left, nodes_of, option_map, parts_in_order, past_entries, places_of, quotient_up, refl, subst, suc, sum, sum_by-cons, sym, times, times-append, times-in, times-none, times-once, true-is_in, uppers, with_both, zero, ℕ, ◌*◌, ◌++◌, ◌+◌, ◌∙◌, ◌∷◌, ◌≡◌, ◌≤◌, ◌⊎◌, rules}
+use Rattle.cdf_reindex.proofs.Common.{in-times, take, take_all, AreInOrder, AreLevels, AreTight, Each, Each-split, Entries, EntriesTight, Filled, FullFromLeft, HasNodes, In, InOrder, Leaf, List, LowerAreZero, MakesPyramid, Named, Names, NewNode, NextsAreZero, None, Option, SaysNode, Some, Spans, [], alone, ap, append-nil, append_assoc, ap₂, arith, block, cases_lt, count_both, entries_for, entries_of, entry_count, entry_leaves, first_of, from_below, inl, inr, last_of, last_or, leaves_both, leaves_of, length, length-append, length-map, levels_up, lower, lower_both, lower_nodes, map, map-append, names_parts, nat_tests, no_entry, no_node, nodes_above, nodes_at, nodes_below, nodes_left, nodes_of, option_map, parts_in_order, past_entries, places_of, quotient_up, refl, subst, suc, sum, sum_by-cons, sym, times, times-in, uppers, with_both, zero, ℕ, ◌*◌, ◌++◌, ◌+◌, ◌∙◌, ◌∷◌, ◌≡◌, ◌≤◌, ◌⊎◌, rules}
 
 -- what counts a list by its parts
-pub record Adds (f : List ℕ → ℕ) : Type 0 where
-  pub none : f [] ≡ 0
-  pub both : (xs ys : List ℕ) → f (xs ++ ys) ≡ f xs + f ys
-
-pub times_add : (m : ℕ) → Adds (times m)
-times_add m = record { none = refl; both = times-append m }
-
-pub lengths_add : Adds length
-lengths_add = record { none = refl; both = length-append }
+abbrev pub Adds : (List ℕ → ℕ) → Type 0
+Adds f = (xs ys : List ℕ) → f (xs ++ ys) ≡ f xs + f ys
 
 -- ---- two lists of entries
 
@@ -108,10 +101,10 @@ raised (new ∷ more) f =
       here = ap (λ (ps : List (ℕ × ℕ)). (new.place, entry_count es) ∷ ps) r.here;
       below = λ levels. rw (below_both levels es (entries_of more), append-nil (nodes_below levels es), r.below levels) refl;
       nodes = λ f adds.
-          let back = ap f (lower_both es (entries_of more)) ∙ adds.both (lower_nodes es) (lower_nodes (entries_of more)) in
+          let back = ap f (lower_both es (entries_of more)) ∙ adds (lower_nodes es) (lower_nodes (entries_of more)) in
           rw (append-nil (lower_nodes es))
-          (adds.both (new.place ∷ lower_nodes es) (lower_nodes (uppers more))
-          ∙ omega (arith, adds.both (new.place ∷ []) (lower_nodes es), r.nodes f adds ∙ adds.both (places_of more) (lower_nodes (entries_of more)), adds.both (new.place ∷ []) (places_of more), adds.both (new.place ∷ places_of more) (lower_nodes (with_both es (entries_of more))), back));
+          (adds (new.place ∷ lower_nodes es) (lower_nodes (uppers more))
+          ∙ omega (arith, adds (new.place ∷ []) (lower_nodes es), r.nodes f adds ∙ adds (places_of more) (lower_nodes (entries_of more)), adds (new.place ∷ []) (places_of more), adds (new.place ∷ places_of more) (lower_nodes (with_both es (entries_of more))), back));
       names = λ now rs levels s h. let p = names_parts now rs levels es (entries_of more) h in (tt, (s.0, p.0, tt), r.names now rs levels s.1 p.1);
     }
 
@@ -123,20 +116,12 @@ row [] k = []
 row (level ∷ more) zero = level
 row (level ∷ more) (suc k) = row more k
 
--- the nodes of so many levels, from the lowest one up
-abbrev ups : ℕ → List (List NewNode) → List ℕ
-ups zero levels = []
-ups (suc n) levels = places_of (row levels n) ++ ups n levels
-
-ups_more : (n : ℕ) (level : List NewNode) (more : List (List NewNode)) → ups (suc n) (level ∷ more) ≡ ups n more ++ places_of level
-ups_more zero level more = append-nil (places_of level)
-ups_more (suc n) level more = ap (λ (ps : List ℕ). places_of (row more n) ++ ps) (ups_more n level more) ∙ sym (append_assoc (places_of (row more n)) (ups n more) (places_of level))
-
-ups_all : (n : ℕ) (levels : List (List NewNode)) → length levels ≤ n → ups n levels ≡ places_of (from_below levels)
-ups_all zero [] few = refl
-ups_all (suc n) [] few = ups_all n [] (omega arith)
-ups_all zero (level ∷ more) few = absurd (omega arith)
-ups_all (suc n) (level ∷ more) few = ups_more n level more ∙ ap (λ (ps : List ℕ). ps ++ places_of level) (ups_all n more (omega arith)) ∙ sym (map-append (λ (new : NewNode). new.place) (from_below more) level)
+-- the nodes of the upper levels, with one level more
+one_more : (k : ℕ) (levels : List (List NewNode)) → from_below (take (suc k) levels) ≡ row levels k ++ from_below (take k levels)
+one_more zero [] = refl
+one_more (suc k) [] = refl
+one_more zero (level ∷ more) = sym (append-nil level)
+one_more (suc k) (level ∷ more) = rw (one_more k more) (append_assoc (row more k) (from_below (take k more)) level)
 
 -- entries over levels
 pub record Piled (leaves : List Leaf) (entries : Entries) (levels : List (List NewNode)) : Type 0 where
@@ -159,17 +144,16 @@ pile_more : {leaves : List Leaf} (level : List NewNode) {more : List (List NewNo
 pile_more {leaves = leaves} level {more = more} f p =
     let r = raised level f in
     let nodes : (f : List ℕ → ℕ) → Adds f → f (lower_nodes (uppers level)) ≡ f (places_of (from_below (level ∷ more))) =
-    λ f adds. omega (arith, r.nodes f adds ∙ adds.both (places_of level) (lower_nodes (entries_of level)), p.nodes f adds, ap f (map-append (λ (new : NewNode). new.place) (from_below more) level) ∙ adds.both (places_of (from_below more)) (places_of level)) in
-    let named = λ (now rs : List ℕ) (deep : ℕ) (few : length (level ∷ more) ≤ deep) (named : Each (Named now rs) leaves) (s : Each (Says now rs) (from_below more ++ level)). names r now rs deep few named (Each-split (Says now rs) (from_below more) level s) in
-    search (rules, r.leaves_are ∙ p.leaves_are, r.order, p.order, r.zeros p.zeros, r.tight p.tight, nodes, rows r, named)
+    λ f adds. omega (arith, r.nodes f adds ∙ adds (places_of level) (lower_nodes (entries_of level)), p.nodes f adds, ap f (map-append (λ (new : NewNode). new.place) (from_below more) level) ∙ adds (places_of (from_below more)) (places_of level)) in
+    search (rules, r.leaves_are ∙ p.leaves_are, r.order, p.order, r.zeros p.zeros, r.tight p.tight, nodes, rows r, names r)
   where
     rows : Raised level → (k : ℕ) → nodes_below k (uppers level) ≡ counted (row (level ∷ more) k)
     rows r zero = r.here
     rows r (suc k) = r.below k ∙ p.rows k
 
-    names : Raised level → (now rs : List ℕ) (deep : ℕ) → length (level ∷ more) ≤ deep → Each (Named now rs) leaves → Each (Says now rs) (from_below more) × Each (Says now rs) level → Names now rs deep (uppers level)
+    names : Raised level → (now rs : List ℕ) (deep : ℕ) → length (level ∷ more) ≤ deep → Each (Named now rs) leaves → Each (Says now rs) (from_below (level ∷ more)) → Names now rs deep (uppers level)
     names r now rs zero few named s = absurd (omega arith)
-    names r now rs (suc deep) few named s = r.names now rs deep s.1 (p.names now rs deep (omega arith) named s.0)
+    names r now rs (suc deep) few named s = let t = Each-split (Says now rs) (from_below more) level s in r.names now rs deep t.1 (p.names now rs deep (omega arith) named t.0)
 
 pub top_filled : (leaves : List Leaf) (level : List NewNode) (more : List (List NewNode)) → AreLevels leaves (level ∷ more) → Filled level
 top_filled leaves level [] l = l.1
@@ -185,16 +169,13 @@ full_level [] f = tt
 full_level (new ∷ []) f = tt
 full_level (new ∷ next ∷ more) f = (f.2 (omega arith), full_level (next ∷ more) f.3)
 
-full_row : (leaves : List Leaf) (level : List NewNode) (more : List (List NewNode)) → AreLevels leaves (level ∷ more) → (k : ℕ) → FullFromLeft (counted (row (level ∷ more) k))
-full_row leaves level more l zero = full_level level (top_filled leaves level more l)
-full_row leaves level [] l (suc k) = tt
-full_row leaves level (below ∷ more) l (suc k) = full_row leaves below more l.3 k
-
--- each level but the lowest has an entry for each node of the next one
-even_row : (leaves : List Leaf) (level : List NewNode) (more : List (List NewNode)) → AreLevels leaves (level ∷ more) → (k : ℕ) → (counted (row more k) ≡ []) ⊎ (length (counted (row more k)) ≡ sum (map (λ pair. pair.1) (counted (row (level ∷ more) k))))
-even_row leaves level [] l k = inl refl
-even_row leaves level (below ∷ more) l zero = inr (omega (arith, length-map {B = ℕ × ℕ} below (λ new. (new.place, entry_count new.entries)), (raised below (top_filled leaves below more l.3)).count, ap entry_count l.0, (raised level l.1).sum_is))
-even_row leaves level (below ∷ more) l (suc k) = even_row leaves below more l.3 k
+-- each level is full from the left, and each but the lowest has an entry for each node of the next one
+rows : (leaves : List Leaf) (level : List NewNode) (more : List (List NewNode)) → AreLevels leaves (level ∷ more) → (k : ℕ)
+    → FullFromLeft (counted (row (level ∷ more) k)) × ((counted (row more k) ≡ []) ⊎ (length (counted (row more k)) ≡ sum (map (λ pair. pair.1) (counted (row (level ∷ more) k)))))
+rows leaves level [] l zero = (full_level level l.1, inl refl)
+rows leaves level [] l (suc k) = (tt, inl refl)
+rows leaves level (below ∷ more) l zero = (full_level level l.1, inr (omega (arith, length-map {B = ℕ × ℕ} below (λ new. (new.place, entry_count new.entries)), (raised below (top_filled leaves below more l.3)).count, ap entry_count l.0, (raised level l.1).sum_is)))
+rows leaves level (below ∷ more) l (suc k) = rows leaves below more l.3 k
 
 -- ---- how many levels, and how many nodes
 
@@ -209,11 +190,9 @@ above_is k n some = grind (arith, nat_tests)
 pub left_more : (k n : ℕ) → 2 ≤ n → nodes_left k n ≡ nodes_above k n
 left_more k n some = grind (arith, nat_tests)
 
-pub record Tall (leaves : List Leaf) (level : List NewNode) (more : List (List NewNode)) : Type 0 where
-  pub left : ℕ
-  pub count : length (level ∷ more) + left ≡ 6
-  pub small : length level ≤ leaves_under left
-  pub total : 1 ≤ length leaves → nodes_above 8 (length leaves) ≡ length (from_below (level ∷ more)) + nodes_left (suc (suc left)) (length level)
+-- how many more levels there may be, up to 6, and how many nodes there are in all
+abbrev pub Tall : List Leaf → List NewNode → List (List NewNode) → Type 0
+Tall leaves level more = (left : ℕ) × ((length (level ∷ more) + left ≡ 6) × (length level ≤ leaves_under left) × (1 ≤ length leaves → nodes_above 8 (length leaves) ≡ length (from_below (level ∷ more)) + nodes_left (suc (suc left)) (length level)))
 
 count_for : (leaves : List Leaf) → entry_count (entries_for leaves) ≡ length leaves
 count_for [] = refl
@@ -223,19 +202,14 @@ count_for (leaf ∷ more) = ap suc (count_for more)
 pub tall : (leaves : List Leaf) (level : List NewNode) (more : List (List NewNode)) → AreLevels leaves (level ∷ more) → length leaves ≤ 2147483648 → Tall leaves level more
 tall leaves level [] l few =
     let n = (raised level l.1).shortest ∙ ap (λ (k : ℕ). quotient_up k 64) (ap entry_count l.0 ∙ count_for leaves) in
-    record { left = 5; count = omega arith; small = omega (arith, n); total = λ some. above_is 7 (length leaves) some ∙ ap (λ (k : ℕ). k + nodes_left 7 k) (sym n) }
-tall leaves level (below ∷ more) l few = let r = tall leaves below more l.3 few in go r.left r.count r.small r.total
+    (5, (omega arith, omega (arith, n), λ some. above_is 7 (length leaves) some ∙ ap (λ (k : ℕ). k + nodes_left 7 k) (sym n)))
+tall leaves level (below ∷ more) l few = go (tall leaves below more l.3 few)
   where
-    go : (d : ℕ) → length (below ∷ more) + d ≡ 6 → length below ≤ leaves_under d → (1 ≤ length leaves → nodes_above 8 (length leaves) ≡ length (from_below (below ∷ more)) + nodes_left (suc (suc d)) (length below)) → Tall leaves level (below ∷ more)
-    go zero e small total = absurd (omega (arith, l.2))
-    go (suc d) e small total =
+    go : Tall leaves below more → Tall leaves level (below ∷ more)
+    go (zero, r) = absurd (omega (arith, l.2, r.1))
+    go (suc d, r) =
         let n = (raised level l.1).shortest ∙ ap (λ (k : ℕ). quotient_up k 64) (ap entry_count l.0 ∙ (raised below (top_filled leaves below more l.3)).count) in
-        record {
-          left = d;
-          count = omega arith;
-          small = omega (arith, n);
-          total = λ some. omega (arith, total some, left_more (suc (suc (suc d))) (length below) l.2, above_is (suc (suc d)) (length below) (omega (arith, l.2)), ap (λ (k : ℕ). k + nodes_left (suc (suc d)) k) n, length-append (from_below (below ∷ more)) level);
-        }
+        (d, (omega (arith, r.0), omega (arith, n, r.1), λ some. omega (arith, r.2 some, left_more (suc (suc (suc d))) (length below) l.2, above_is (suc (suc d)) (length below) (omega (arith, l.2)), ap (λ (k : ℕ). k + nodes_left (suc (suc d)) k) n, length-append (from_below (below ∷ more)) level)))
 
 -- ---- of one node
 
@@ -250,17 +224,17 @@ module _ (leaves : List Leaf) (top : NewNode) (more : List (List NewNode)) (l : 
   unfolding nodes_at nodes_below
   at k = sym (append-nil (nodes_at k (alone top))) ∙ p.rows k
 
-  up : (n : ℕ) → levels_up n (alone top) ≡ ups (suc n) ((top ∷ []) ∷ more)
+  up : (n : ℕ) → levels_up n (alone top) ≡ places_of (from_below (take (suc n) ((top ∷ []) ∷ more)))
   up zero = ap (map (λ pair. pair.0)) (at 0)
-  up (suc n) = ap₂ (λ (xs ys : List ℕ). xs ++ ys) (ap (map (λ pair. pair.0)) (at (suc n)) ∙ mapped (row more n)) (up n)
+  up (suc n) = ap₂ (λ (xs ys : List ℕ). xs ++ ys) (ap (map (λ pair. pair.0)) (at (suc n)) ∙ mapped (row more n)) (up n) ∙ sym (ap places_of (one_more (suc n) ((top ∷ []) ∷ more)) ∙ map-append (λ (new : NewNode). new.place) (row more n) (from_below (take (suc n) ((top ∷ []) ∷ more))))
     where
       mapped : (ns : List NewNode) → map (λ pair. pair.0) (counted ns) ≡ places_of ns
       mapped [] = refl
       mapped (new ∷ ns) = ap (λ (ps : List ℕ). new.place ∷ ps) (mapped ns)
 
-  pub nodes_are : {f : List ℕ → ℕ} → Adds f → f (nodes_of (alone top)) ≡ f (places_of (from_below ((top ∷ []) ∷ more)))
+  pub nodes_are : (f : List ℕ → ℕ) → Adds f → f (nodes_of (alone top)) ≡ f (places_of (from_below ((top ∷ []) ∷ more)))
   unfolding nodes_of lower_nodes
-  nodes_are {f = f} adds = ap f (sym (append-nil (nodes_of (alone top)))) ∙ p.nodes f adds
+  nodes_are f adds = ap f (sym (append-nil (nodes_of (alone top)))) ∙ p.nodes f adds
 
   pub has_pyramid : (now rs : List ℕ) (deep : ℕ) → length ((top ∷ []) ∷ more) ≤ deep → Each (Named now rs) leaves → Each (Says now rs) (from_below ((top ∷ []) ∷ more)) → HasNodes now rs deep (alone top)
   unfolding HasNodes Names
@@ -269,22 +243,16 @@ module _ (leaves : List Leaf) (top : NewNode) (more : List (List NewNode)) (l : 
   pub makes_pyramid : MakesPyramid leaves top more
   unfolding leaves_of entry_leaves InOrder AreInOrder NextsAreZero LowerAreZero AreTight EntriesTight
   makes_pyramid =
-      let full = λ (k : ℕ). subst FullFromLeft (sym (at k)) (full_row leaves (top ∷ []) more l k) in
-      let even : (k : ℕ) → (nodes_at (suc k) (alone top) ≡ []) ⊎ (length (nodes_at (suc k) (alone top)) ≡ sum (map (λ pair. pair.1) (nodes_at k (alone top)))) = λ k. rw (at k, at (suc k)) (even_row leaves (top ∷ []) more l k) in
+      let full = λ (k : ℕ). subst FullFromLeft (sym (at k)) (rows leaves (top ∷ []) more l k).0 in
+      let even : (k : ℕ) → (nodes_at (suc k) (alone top) ≡ []) ⊎ (length (nodes_at (suc k) (alone top)) ≡ sum (map (λ pair. pair.1) (nodes_at k (alone top)))) = λ k. rw (at k, at (suc k)) (rows leaves (top ∷ []) more l k).1 in
       let order : (high : ℕ) → AreInOrder 0 high (entries_for leaves) → InOrder 0 high (alone top) = λ high o. ((parts_in_order 0 high top.entries no_entry (inner.order high o)).0, tt) in
       let high = tall leaves (top ∷ []) more l in
-      let few : length leaves ≤ 2147483648 → length ((top ∷ []) ∷ more) ≤ 6 = λ few. omega (arith, (high few).count) in
-      let fewest : 1 ≤ length leaves → length leaves ≤ 2147483648 → length (nodes_of (alone top)) ≡ nodes_above 8 (length leaves) = λ some few. omega (arith, nodes_are lengths_add, length-map (from_below ((top ∷ []) ∷ more)) (λ (new : NewNode). new.place), (high few).total some) in
-      let places = λ (f : length leaves ≤ 2147483648). up 7 ∙ ups_all 8 ((top ∷ []) ∷ more) (omega (arith, (high f).count)) in
+      let few : length leaves ≤ 2147483648 → length ((top ∷ []) ∷ more) ≤ 6 = λ few. omega (arith, (high few).1.0) in
+      let fewest : 1 ≤ length leaves → length leaves ≤ 2147483648 → length (nodes_of (alone top)) ≡ nodes_above 8 (length leaves) = λ some few. omega (arith, nodes_are length length-append, length-map (from_below ((top ∷ []) ∷ more)) (λ (new : NewNode). new.place), (high few).1.2 some) in
+      let places = λ (f : length leaves ≤ 2147483648). up 7 ∙ ap (λ (levels : List (List NewNode)). places_of (from_below levels)) (take_all 8 ((top ∷ []) ∷ more) (omega (arith, (high f).1.0))) in
       search (rules, sym (append-nil (leaves_of (alone top))) ∙ p.leaves_are, full, even, p.tight.1, order, p.zeros.0, few, fewest, places)
 
 -- ---- lists with the same members
 
 pub in_by_times : (xs ys : List ℕ) → ((m : ℕ) → times m xs ≡ times m ys) → (m : ℕ) → In m xs → In m ys
-in_by_times xs ys same m i = elim (either (is_in m ys)) [
-  | inl e ↦ true-is_in m ys e
-  | inr e ↦ absurd (omega (arith, same m, times-none m ys (false-is_in m ys e), times-in m xs i))
-]
-
-pub times_most : (m : ℕ) (xs : List ℕ) → Distinct xs → times m xs ≤ 1
-times_most m xs d = elim (either (is_in m xs)) [ inl x ↦ omega (arith, times-once m xs d (true-is_in m xs x)) | inr x ↦ omega (arith, times-none m xs (false-is_in m xs x)) ]
+in_by_times xs ys same m i = in-times m ys (omega (arith, same m, times-in m xs i))

@@ -3,5 +3,4 @@ pub mod LevelSteps
 pub mod Levels
 pub mod PyramidBuilt
 pub mod ReindexCalls
-pub mod MadeEdit
 pub mod MadeFollows

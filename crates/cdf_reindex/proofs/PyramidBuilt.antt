@@ -1,7 +1,7 @@
 -- The nodes that code made, and their levels, as a tree that stands in the image.
-use Rattle.cdf_reindex.proofs.Common.{Act, AllMade, AllTaken, AreInOrder, AreTight, Ascending, Each, Each-map, Each-split, EntriesTight, Entry, Fills, Good, HasNodes, HasVariable, In, InOrder, IndexMade, IsBare, IsBuilt, IsPyramid, IsSound, Kept, Kind, Leaf, List, NewNode, NextsAreZero, NodeFits, NodeMade, NodeWritten, Nodes, PyramidMade, R, SaysEntry, SaysUnused, StandsAmong, TakenAll, Takes, Took, VariableShape, Z, [], alone, ap, arith, content, each, ends, entries_for, entry_count, entry_past, eof, eof_by_rules, filled_size, fills, from_below, gdr_offset, good_by_its_shape, good_is_sound, good_long, inl, inr, kept, leaf_words, leaves_ascend, leaves_named, leaves_of, length, length-map, link_to, linkable-from, map, no_node, node_short, nodes_above, nodes_at, nodes_of, none_taken, number, of_kind, place_in, placed_grows, places_of, record_number_limit, refl, reindex_room, rules, rules_of_good, same_node, sealed_kept, shape, shapes_of, size_at, subst, suc, sym, taken_then, times, type_kept, used_count, variables, vxr_bytes, vxr_n_used_entries, vxr_type, with_space, ℕ, ◌+◌, ◌<◌, ◌^◌, ◌∙◌, ◌∷◌, ◌≡◌, ◌≤◌}
+use Rattle.cdf_reindex.proofs.Common.{times-append, length-append, Shape, Each-in, Act, AllMade, AllTaken, AreInOrder, AreTight, Ascending, Each, Each-split, EntriesTight, Entry, Fills, Good, HasNodes, HasVariable, InOrder, IndexMade, IsBare, IsBuilt, IsPyramid, IsSound, Kept, Kind, Leaf, List, NewNode, NextsAreZero, NodeMade, NodeWritten, Nodes, PyramidMade, StandsAmong, TakenAll, Takes, Took, VariableShape, [], alone, ap, arith, content, each, ends, entries_for, entry_past, eof, eof_by_rules, filled_size, fills, from_below, gdr_offset, good_by_its_shape, good_is_sound, good_long, inl, kept, leaf_words, leaves_ascend, leaves_named, leaves_of, length, length-map, link_to, linkable-from, map, no_node, node_short, nodes_above, nodes_at, nodes_of, none_taken, of_kind, place_in, placed_grows, places_of, record_number_limit, refl, rules, rules_of_good, same_node, sealed_kept, shape, size_at, subst, suc, sym, taken_then, times, type_kept, variables, vxr_bytes, vxr_type, with_space, ℕ, ◌+◌, ◌<◌, ◌^◌, ◌∙◌, ◌∷◌, ◌≡◌, ◌≤◌}
 use Rattle.cdf_reindex.proofs.LevelSteps.{all_longest, length_words, say_entries}
-use Rattle.cdf_reindex.proofs.Levels.{Says, has_pyramid, in_by_times, lengths_add, makes_pyramid, nodes_are, times_add}
+use Rattle.cdf_reindex.proofs.Levels.{Says, has_pyramid, in_by_times, makes_pyramid, nodes_are}
 
 -- ---- a record that was taken becomes a node
 
@@ -10,11 +10,7 @@ module _ (b taken : List ℕ) (place : ℕ) (sound : IsSound b (shape b)) (takes
   filled = fills b taken 64 place sound takes sound_taken stays now 0 entries w
 
   pub node_made : length entries ≤ 64 → NodeMade b now entries place
-  node_made few =
-      let fits : NodeFits now place = (omega (arith, filled_size sound filled, w.room_is), omega (arith, w.room_is, w.used_is)) in
-      let low : number now place vxr_n_used_entries ≤ 64 = omega (arith, w.count_is) in
-      let unused : (i : ℕ) → used_count now place ≤ i → i < 64 → SaysUnused now place i = λ i le lt. subst (λ (e : Entry). SaysEntry now place i e.first e.last e.place) (entry_past entries i (omega (arith, w.used_is, le))) (w.says i lt) in
-      search (rules, filled, fits, w.room_is, low, w.next_is, unused, w.count_is, w.used_is, w.says, node_short b taken 64 place sound takes sound_taken stays now 0 entries w)
+  node_made few = grind (arith, filled, filled_size sound filled, w, w.says, entry_past entries, node_short b taken 64 place sound takes sound_taken stays now 0 entries w)
 
   pub node_eof : eof now (gdr_offset now) ≡ length now
   node_eof = ends sound filled
@@ -32,39 +28,21 @@ all_taken b now (place ∷ more) sound end all = let first = placed_grows sound 
 pub end_before : (b : List ℕ) → Good b → eof b (shape b).gdr ≡ length b
 end_before b good = eof_by_rules b (shape b) (good_is_sound b good) (sealed_kept b (good_long b (shape b) (good_by_its_shape b good)) (rules_of_good b good)).0
 
--- ---- a variable of an image whose records and unused list alone are others
-
-module _ {b now records list : List ℕ} {kind : Kind} {before : List VariableShape} {own : VariableShape} {after : List VariableShape} where
-  pub among_space : shape now ≡ with_space (shape b) records list → StandsAmong b kind before own after → StandsAmong now kind before own after
-  among_space same among = record { was = ap (λ s. shapes_of s kind) same ∙ by kind ∙ among.was }
-    where
-      by : (k : Kind) → shapes_of (with_space (shape b) records list) k ≡ shapes_of (shape b) k
-      by R = refl
-      by Z = refl
-
-pub own_of : (P : VariableShape → Type 0) {now : List ℕ} {kind : Kind} {before : List VariableShape} {own : VariableShape} {after : List VariableShape} → StandsAmong now kind before own after → Each P (variables (shape now)) → P own
-own_of P {now = now} {kind = kind} {before = before} {own = own} {after = after} among all = (Each-split P before (own ∷ after) (subst (Each P) among.was (of_kind P kind (shape now) all))).1.0
+-- what holds of all variables of an image whose records and unused list alone are others holds of one of them
+pub own_of : (P : VariableShape → Type 0) (now : List ℕ) {b records list : List ℕ} {kind : Kind} {before : List VariableShape} {own : VariableShape} {after : List VariableShape} → StandsAmong b kind before own after → shape now ≡ with_space (shape b) records list → Each P (variables (shape now)) → P own
+own_of P now {b = b} {kind = kind} {before = before} {own = own} {after = after} among same all = (Each-split P before (own ∷ after) (subst (Each P) among.was (of_kind P kind (shape b) (subst (λ (s : Shape). Each P (variables s)) same all)))).1.0
 
 -- ---- new nodes stay as they were made while others are made
 
 pub bare_by : (b now : List ℕ) (place : ℕ) → Kept b now place → IsBare b place → IsBare now place
-bare_by b now place k bare =
-    let n = same_node b now place k bare.fits in
-    let fits : NodeFits now place = (omega (arith, n.size_is, n.room_is, bare.fits.0), omega (arith, n.used_is, n.room_is, bare.fits.1)) in
-    let few : number now place vxr_n_used_entries ≤ 64 = omega (arith, n.count_is, bare.few) in
-    let unused : (i : ℕ) → used_count now place ≤ i → i < 64 → SaysUnused now place i = λ i le lt. n.entries i (omega (arith, bare.room_is, lt)) _ _ _ (bare.unused i (omega (arith, n.used_is, le)) lt) in
-    search (rules, fits, n.room_is ∙ bare.room_is, few, n.next_is ∙ bare.next_is, unused)
-
-pub record Stands (now : List ℕ) (new : NewNode) : Type 0 where
-  pub bare : IsBare now new.place
-  pub says : Says now (shape now).records new
+bare_by b now place k bare = let n = same_node b now place k bare.fits in grind (arith, n.entries, bare.unused)
 
 pub nodes_taken : (b now : List ℕ) (nodes : List NewNode) → AllMade b now nodes → AllTaken b now (places_of nodes)
 nodes_taken b now [] m = m
 nodes_taken b now (new ∷ more) m = (m.0, (record { taken = m.1.0.taken; fills = m.1.0.fills }, nodes_taken m.0 now more m.1.1))
 
-pub all_stand : (b now : List ℕ) (nodes : List NewNode) → IsSound b (shape b) → eof b (shape b).gdr ≡ length b → AllMade b now nodes → Each (Stands now) nodes
-all_stand b now [] sound end m = tt
+pub all_stand : (b now : List ℕ) (nodes : List NewNode) → IsSound b (shape b) → eof b (shape b).gdr ≡ length b → AllMade b now nodes → Each (IsBare now) (places_of nodes) × Each (Says now (shape now).records) nodes
+all_stand b now [] sound end m = (tt, tt)
 all_stand b now (new ∷ more) sound end m =
     let made = m.1.0 in
     let one = placed_grows sound made.fills in
@@ -75,15 +53,9 @@ all_stand b now (new ∷ more) sound end m =
     let many = length_words new.entries in
     let long : 28 ≤ size_at now new.place = omega (arith, n.size_is, filled_size sound made.fills) in
     let link = linkable-from now (shape now).records vxr_type new.place (edit.sub new.place inside) (type_kept m.0 now new.place k.same k.long ∙ made.fills.typed) long in
-    let in_room : (j : ℕ) → j < entry_count new.entries → j < 64 = λ j lt. omega (arith, made.bare.room_is, made.bare.fits.1, made.used_is, many, lt) in
-    let say = say_entries now new.place 0 new.entries (λ j lt. let z : j ≡ 0 + j = omega arith in rw (← z) (n.entries j (omega (arith, made.bare.room_is, in_room j lt)) _ _ _ (made.says j (in_room j lt)))) in
-    (search (rules, bare_by m.0 now new.place k made.bare, link, n.next_is ∙ made.bare.next_is, n.room_is ∙ made.bare.room_is, n.used_is ∙ made.used_is ∙ many, say), all_stand m.0 now more one.sound one.end_is m.1.1)
-
--- each of them by its place
-pub bare_at : (now : List ℕ) (nodes : List NewNode) → Each (Stands now) nodes → (m : ℕ) → In m (places_of nodes) → IsBare now m
-bare_at now [] s m i = absurd i
-bare_at now (new ∷ more) s m (inl e) = subst (IsBare now) (sym e) s.0.bare
-bare_at now (new ∷ more) s m (inr i) = bare_at now more s.1 m i
+    let say = say_entries now new.place 0 new.entries (λ j lt. let z : 0 + j ≡ j = omega arith in rw z (n.entries j (omega (arith, made.bare.room_is, made.bare.fits.1, made.used_is, many)) _ _ _ (made.says j (omega (arith, made.bare.room_is, made.bare.fits.1, made.used_is, many))))) in
+    let rest = all_stand m.0 now more one.sound one.end_is m.1.1 in
+    ((bare_by m.0 now new.place k made.bare, rest.0), search (rules, link, n.next_is ∙ made.bare.next_is, n.room_is ∙ made.bare.room_is, n.used_is ∙ made.used_is ∙ many, say, rest.1))
 
 -- ---- the levels that code made, as a tree that stands in the image
 
@@ -97,10 +69,6 @@ ascend_order : (low high : ℕ) (leaves : List Leaf) → Ascending low (suc high
 unfolding AreInOrder
 ascend_order low high [] a = tt
 ascend_order low high (leaf ∷ more) a = (a.0, a.1, omega (arith, a.2), ascend_order (suc leaf.last) high more a.3)
-
--- the leaves of an index in order are in order
-pub leaves_order : (high : ℕ) (nodes : Nodes) → InOrder 0 high nodes → AreInOrder 0 high (entries_for (leaves_of nodes))
-leaves_order high nodes o = ascend_order 0 high (leaves_of nodes) (leaves_ascend 0 high nodes o (omega arith))
 
 pub few_leaves : (nodes : Nodes) → InOrder 0 record_number_limit nodes → length (leaves_of nodes) ≤ 2147483648
 few_leaves nodes o = let m = ascend_most 0 2147483647 (leaves_of nodes) (omega arith) (leaves_ascend 0 record_number_limit nodes o (omega arith)) in omega arith
@@ -119,10 +87,7 @@ no_pyramid = record { full = λ levels. tt; even = λ levels. inl refl; tight = 
 
 no_tree : (b : List ℕ) → IsSound b (shape b) → (own : VariableShape) → leaves_of own.index ≡ [] → IsBuilt b b own no_node
 unfolding HasNodes nodes_of leaves_of nodes_at nodes_above NextsAreZero InOrder
-no_tree b sound own none =
-    let fewest = sym (ap (λ (ls : List Leaf). nodes_above 8 (length ls)) none) in
-    let longest : length b ≤ length b + reindex_room own.index = omega arith in
-    search (rules, no_pyramid, sym none, fewest, longest)
+no_tree b sound own none = grind (arith, no_pyramid, none)
 
 module _ {b : List ℕ} {kind : Kind} {before : List VariableShape} {own : VariableShape} {after : List VariableShape} (good : Good b) (among : StandsAmong b kind before own after) (few : length (leaves_of own.index) ≤ 2147483648) (made : List ℕ) (top : ℕ) (small : top < 2 ^ 64) where
   abbrev ls : List Leaf
@@ -136,15 +101,14 @@ module _ {b : List ℕ} {kind : Kind} {before : List VariableShape} {own : Varia
       let taken = nodes_taken b made all p.made in
       let grows = (all_taken b made (places_of all) (good_is_sound b good) (end_before b good) taken).grows in
       let stand = all_stand b made all (good_is_sound b good) (end_before b good) p.made in
-      let has = own_of (HasVariable made (shape made).records) (among_space grows.same_shape among) grows.sound.has_shape.have_variables in
-      let times_are = λ (m : ℕ). nodes_are ls p.root p.more p.are (times_add m) in
-      let long = nodes_are ls p.root p.more p.are lengths_add in
-      let bare = each (IsBare made) (nodes_of (alone p.root)) (λ m i. bare_at made all stand m (in_by_times (nodes_of (alone p.root)) (places_of all) times_are m i)) in
-      let stands = has_pyramid ls p.root p.more p.are made (shape made).records 8 (omega (arith, pyramid.few few)) (leaves_named made (shape made).records 8 own.index has.indexed.has_nodes) (Each-map (Stands made) (Says made (shape made).records) (λ new r. r.says) all stand) in
-      let longest : length made ≤ length b + reindex_room own.index = omega (arith, all_longest b made all p.made, long, length-map all (λ (new : NewNode). new.place), pyramid.fewest some few) in
-      let order = λ (o : InOrder 0 record_number_limit own.index). pyramid.order record_number_limit (leaves_order record_number_limit own.index o) in
+      let has = own_of (HasVariable made (shape made).records) made among grows.same_shape grows.sound.has_shape.have_variables in
+      let times_are = λ (m : ℕ). nodes_are ls p.root p.more p.are (times m) (times-append m) in
+      let long = nodes_are ls p.root p.more p.are length length-append in
+      let bare = each (IsBare made) (nodes_of (alone p.root)) (λ m i. Each-in (IsBare made) (places_of all) stand.0 m (in_by_times (nodes_of (alone p.root)) (places_of all) times_are m i)) in
+      let stands = has_pyramid ls p.root p.more p.are made (shape made).records 8 (omega (arith, pyramid.few few)) (leaves_named made (shape made).records 8 own.index has.indexed.has_nodes) stand.1 in
+      let order = λ (o : InOrder 0 record_number_limit own.index). pyramid.order record_number_limit (ascend_order 0 record_number_limit ls (leaves_ascend 0 record_number_limit own.index o (omega arith))) in
       let each_taken = λ (m : ℕ). ap (times m) places ∙ sym (times_are m) in
-      let built : IsBuilt b made own (alone p.root) = search (rules, pyramid.leaves_are, pyramid.filled, pyramid.fewest some few, pyramid.nexts, order, subst (AllTaken b made) (sym places) taken, each_taken, ap length places ∙ sym long, stands, rw p.place_is at small, bare, longest) in
+      let built : IsBuilt b made own (alone p.root) = search (arith, rules, pyramid.leaves_are, pyramid.filled, pyramid.fewest some few, pyramid.nexts, order, subst (AllTaken b made) (sym places) taken, each_taken, ap length places ∙ sym long, stands, rw p.place_is at small, bare, all_longest b made all p.made, long, length-map all (λ (new : NewNode). new.place)) in
       record { index = alone p.root; link_is = p.place_is; built = built }
 
   pub tree_made : IndexMade b made (map leaf_words ls) top → TreeMade b made own top

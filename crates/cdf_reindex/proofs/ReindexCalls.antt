@@ -1,7 +1,7 @@
 -- What a good image gives for the calls by which the index of one of its variables is made anew, and what they come to.
-use Rattle.cdf_reindex.proofs.Common.{AllGiven, AreFree, Entry, Good, HasIndex, In, IndexMade, IsNode, IsRebuilt, IsSound, Kind, LiesIn, List, Nodes, OneOf, Reindexed, StandsAmong, VariableShape, [], among_all, ap, arith, fits, good_by_its_shape, good_image, good_index, good_is_sound, heads_written, image_limit, index_at, index_of, inl, inr, leaf_words, leaves_of, length, length-map, map, name_room, nil_from_length, no_node, node, nodes_of, number, one_of, refl, reindex_room, shape, subst, sym, variables, vdr_vxr_head, vdr_vxr_tail, vdrs, with_field, with_writes, ℕ, ◌+◌, ◌<◌, ◌^◌, ◌∙◌, ◌≡◌, ◌≤◌}
-use Rattle.cdf_reindex.proofs.MadeEdit.{good_now, head_lies, old_free, rebuilt, sound_linked, tail_lies}
-use Rattle.cdf_reindex.proofs.PyramidBuilt.{few_leaves, tree_made}
+use Rattle.cdf_reindex.proofs.Common.{length-with_field, AllGiven, AreFree, Entry, Good, HasIndex, In, IndexMade, IsNode, IsRebuilt, IsSound, Kind, LiesIn, List, Nodes, OneOf, Reindexed, StandsAmong, VariableShape, [], among_all, ap, arith, fits, good_by_its_shape, good_image, good_index, good_is_sound, heads_written, image_limit, index_of, inl, inr, leaf_words, leaves_of, length, length-map, map, name_room, nil_from_length, no_node, node, nodes_of, number, one_of, refl, reindex_room, shape, subst, sym, variables, vdr_vxr_head, vdr_vxr_tail, vdrs, with_field, with_writes, ℕ, ◌+◌, ◌<◌, ◌^◌, ◌∙◌, ◌≡◌, ◌≤◌}
+use Rattle.cdf_reindex.proofs.MadeFollows.{good_now, lies, old_free, rebuilt, sound_linked}
+use Rattle.cdf_reindex.proofs.PyramidBuilt.{TreeMade, few_leaves, tree_made}
 
 -- an index of no nodes is none
 no_nodes : (nodes : Nodes) → (nodes_of nodes ≡ [] → nodes ≡ no_node) × ((nodes_of nodes ≡ [] → ⊥) → IsNode nodes)
@@ -20,8 +20,8 @@ module _ (b : List ℕ) (good : Good b) where
     one = one_of b vdr i
 
     -- VXRhead lies in the image, and leads to an index
-    pub head_there : vdr + 36 ≤ length b
-    head_there = let wide = name_room good one.among in subst (λ (m : ℕ). m + 36 ≤ length b) one.vdr_is (omega arith)
+    pub head_there : LiesIn b vdr vdr_vxr_head
+    head_there = omega (arith, name_room good one.among, one.vdr_is)
 
     pub has_index : HasIndex b (number b vdr vdr_vxr_head)
     has_index = (index_is one.among one.vdr_is).0
@@ -35,42 +35,41 @@ module _ (b : List ℕ) (good : Good b) where
     pub few : (leaves : List Entry) → leaves ≡ map leaf_words (leaves_of (index_of b vdr)) → length leaves ≤ 2147483648
     few leaves leaves_are = omega (arith, ap length leaves_are ∙ length-map (leaves_of (index_of b vdr)) leaf_words, few_leaves (index_of b vdr) has_index.order)
 
-  -- what was read of the index, and there were no nodes, or it was built anew
-  module _ (vdr : ℕ) {y : List ℕ} {head : ℕ} (here : y ≡ b) (head_is : head ≡ number b vdr vdr_vxr_head) {x : List ℕ} (same : x ≡ y) {nodes : List ℕ} (nodes_are : nodes ≡ nodes_of (index_at y head)) where
-    nodes_by : {kind : Kind} {before : List VariableShape} {own : VariableShape} {after : List VariableShape} → StandsAmong b kind before own after → own.vdr ≡ vdr → nodes ≡ nodes_of own.index
-    nodes_by among is = nodes_are ∙ (λ i. nodes_of (index_at (here i) (head_is i))) ∙ ap nodes_of (index_is among is).1
+  -- its nodes were read: there were none, or it was built anew
+  module _ {vdr : ℕ} {nodes : List ℕ} (nodes_are : nodes ≡ nodes_of (index_of b vdr)) where
+    pub nothing_done : length nodes ≡ 0 → (kind : Kind) (before : List VariableShape) (own : VariableShape) (after : List VariableShape) → StandsAmong b kind before own after → own.vdr ≡ vdr → Reindexed b b own
+    nothing_done none kind before own after among is = inl ((no_nodes own.index).0 (sym (nodes_are ∙ ap nodes_of (index_is among is).1) ∙ nil_from_length nodes none), refl)
 
-    pub nothing_done : length nodes ≡ 0 → (kind : Kind) (before : List VariableShape) (own : VariableShape) (after : List VariableShape) → StandsAmong b kind before own after → own.vdr ≡ vdr → Reindexed b x own
-    nothing_done none kind before own after among is = inl ((no_nodes own.index).0 (sym (nodes_by among is) ∙ nil_from_length nodes none), same ∙ here)
-
-    pub reindexed : {now : List ℕ} → (length nodes ≡ 0 → ⊥) → ((kind : Kind) (before : List VariableShape) (own : VariableShape) (after : List VariableShape) → StandsAmong x kind before own after → own.vdr ≡ vdr → IsRebuilt x now own)
+    pub reindexed : {now : List ℕ} → (length nodes ≡ 0 → ⊥) → ((kind : Kind) (before : List VariableShape) (own : VariableShape) (after : List VariableShape) → StandsAmong b kind before own after → own.vdr ≡ vdr → IsRebuilt b now own)
         → (kind : Kind) (before : List VariableShape) (own : VariableShape) (after : List VariableShape) → StandsAmong b kind before own after → own.vdr ≡ vdr → Reindexed b now own
-    reindexed {now = now} some by kind before own after among is = inr (
-      (no_nodes own.index).1 (λ e. some (ap length (nodes_by among is ∙ e))),
-      subst (λ (z : List ℕ). StandsAmong z kind before own after → IsRebuilt z now own) (same ∙ here) (λ at. by kind before own after at is) among,
-    )
+    reindexed some by kind before own after among is = inr ((no_nodes own.index).1 (λ e. some (ap length (nodes_are ∙ ap nodes_of (index_is among is).1 ∙ e))), by kind before own after among is)
 
-  -- ---- the nodes were made
+-- ---- the nodes were made: what the next calls ask, and what they come to
 
-  -- what the next calls ask, and what they come to
-  pub record Links (made : List ℕ) (own : VariableShape) (v top : ℕ) : Type 0 where
-    pub head : LiesIn made v vdr_vxr_head
-    pub tail : {first : List ℕ} → first ≡ with_field made v vdr_vxr_head top → LiesIn first v vdr_vxr_tail
-    pub linked : {nodes first linked : List ℕ} → nodes ≡ nodes_of (index_of b v) → first ≡ with_field made v vdr_vxr_head top → linked ≡ with_field first v vdr_vxr_tail top → IsSound linked (shape linked) × (AreFree linked nodes × ((now : List ℕ) → AllGiven linked now nodes → IsRebuilt b now own))
+module _ (b : List ℕ) (good : Good b) (vdr : ℕ) {leaves : List Entry} (leaves_are : leaves ≡ map leaf_words (leaves_of (index_of b vdr))) (made : List ℕ) {top : ℕ} (index_made : IndexMade b made leaves top) (small : top < 2 ^ 64) where
+  module _ {kind : Kind} {before : List VariableShape} {own : VariableShape} {after : List VariableShape} (among : StandsAmong b kind before own after) (is : own.vdr ≡ vdr) where
+    tree : TreeMade b made own top
+    tree = let at = index_is b good among is in tree_made good among (rw at.1 at (few_leaves (index_of b vdr) at.0.order)) made top small (rw (leaves_are, at.1) at index_made)
 
-  module _ {vdr : ℕ} {leaves : List Entry} (leaves_are : leaves ≡ map leaf_words (leaves_of (index_of b vdr))) {made : List ℕ} {top : ℕ} (index_made : IndexMade b made leaves top) (small : top < 2 ^ 64) where
-    pub links : {kind : Kind} {before : List VariableShape} {own : VariableShape} {after : List VariableShape} → StandsAmong b kind before own after → own.vdr ≡ vdr → Links made own vdr top
-    links {own = own} among is =
-        let at = index_is among is in
-        let x = tree_made good among (rw at.1 at (few_leaves (index_of b vdr) at.0.order)) made top small (rw (leaves_are, at.1) at index_made) in
-        subst (λ (v : ℕ). Links made own v top) is (record {
-          head = head_lies good among x.built;
-          tail = λ {first} one. tail_lies good among x.built first (rw x.link_is at one);
-          linked = λ {nodes} {first} {linked} old one two.
-              let heads : linked ≡ with_writes made (heads_written own.vdr x.index) = rw (two, one) (ap (λ (n : ℕ). with_field (with_field made own.vdr vdr_vxr_head n) own.vdr vdr_vxr_tail n) x.link_is) in
-              let mine : nodes ≡ nodes_of own.index = old ∙ ap nodes_of (index_is among refl).1 in
-              (sound_linked good among x.built heads, (subst (AreFree linked) (sym mine) (old_free good among x.built heads), λ now given. rebuilt good among x.built heads now (rw mine at given)));
-        })
+    heads : {first linked : List ℕ} → first ≡ with_field made vdr vdr_vxr_head top → linked ≡ with_field first vdr vdr_vxr_tail top → linked ≡ with_writes made (heads_written own.vdr tree.index)
+    heads head tail = rw (tail, head) (λ i. with_field (with_field made (sym is i) vdr_vxr_head (tree.link_is i)) (sym is i) vdr_vxr_tail (tree.link_is i))
 
-  pub links_one : (vdr : ℕ) (i : In vdr (vdrs (variables (shape b)))) {leaves : List Entry} → leaves ≡ map leaf_words (leaves_of (index_of b vdr)) → {made : List ℕ} {top : ℕ} → IndexMade b made leaves top → top < 2 ^ 64 → Links made (one vdr i).own vdr top
-  links_one vdr i leaves_are made small = links leaves_are made small (one vdr i).among (one vdr i).vdr_is
+    pub rebuilt_by : {nodes first linked now : List ℕ} → nodes ≡ nodes_of (index_of b vdr) → first ≡ with_field made vdr vdr_vxr_head top → linked ≡ with_field first vdr vdr_vxr_tail top → AllGiven linked now nodes → IsRebuilt b now own
+    rebuilt_by {now = now} old head tail given = rebuilt good among tree.built (heads head tail) now (rw (old, (index_is b good among is).1) at given)
+
+  module _ (i : In vdr (vdrs (variables (shape b)))) where
+    abbrev of : OneOf b vdr
+    of = one_of b vdr i
+
+    pub head_written_there : LiesIn made vdr vdr_vxr_head
+    head_written_there = omega (arith, lies good of.among (tree of.among of.vdr_is).built vdr_vxr_head (omega arith), of.vdr_is)
+
+    pub tail_written_there : {first : List ℕ} → first ≡ with_field made vdr vdr_vxr_head top → LiesIn first vdr vdr_vxr_tail
+    tail_written_there head = omega (arith, ap length head ∙ length-with_field made vdr vdr_vxr_head top head_written_there, lies good of.among (tree of.among of.vdr_is).built vdr_vxr_tail (omega arith), of.vdr_is)
+
+    module _ {first linked : List ℕ} (head : first ≡ with_field made vdr vdr_vxr_head top) (tail : linked ≡ with_field first vdr vdr_vxr_tail top) where
+      pub linked_sound : IsSound linked (shape linked)
+      linked_sound = sound_linked good of.among (tree of.among of.vdr_is).built (heads of.among of.vdr_is head tail)
+
+      pub linked_free : {nodes : List ℕ} → nodes ≡ nodes_of (index_of b vdr) → AreFree linked nodes
+      linked_free old = rw (old, (index_is b good of.among of.vdr_is).1) (old_free good of.among (tree of.among of.vdr_is).built (heads of.among of.vdr_is head tail))

@@ -45,7 +45,7 @@ fn write_index<A: Area>(alloc: Global, area: &mut A, entries: &[Entry]) -> Resul
 
 /// Builds the index of the variable anew whose VDR stands at a place, with these leaves and nodes: full nodes name the leaves, level by level, and the old nodes are freed.
 /// After an error a part of this may have been done.
-#[tactic(auto, using(cdf_format::proofs::GoodSound::good_eof, crate::proofs::ReindexCalls::few))]
+#[tactic(auto, using(cdf_format::proofs::GoodSound::good_eof, crate::proofs::ReindexCalls::few, crate::proofs::ReindexCalls::head_written_there, crate::proofs::ReindexCalls::tail_written_there))]
 fn rebuild<A: Area>(
     alloc: Global,
     area: &mut A,

@@ -1,4 +1,4 @@
-use Rattle.cdf_reindex.proofs.Common.{Entry, [], ap, arith, chunks_rest, edit_more, length, length-append, min, nil_from_length, rules, subst, sym, ℕ, ◌++◌, ◌∙◌, ◌∷◌, ◌≡◌}
+use Rattle.cdf_reindex.proofs.Common.{Entries, words_of, Entry, [], ap, arith, chunks_rest, edit_more, length, length-append, min, nil_from_length, rules, subst, sym, ℕ, ◌++◌, ◌∙◌, ◌∷◌, ◌≡◌}
 use Rattle.cdf_reindex.proofs.LevelSteps.{Goes, goes_last, goes_more}
 use Rattle.cdf_reindex.proofs.pyramid.write_level.Goals as goal
 
@@ -12,19 +12,10 @@ loop-node-preserved g c =
     let call = c.in_ok-place.ensures in
     let steps = c.in-Some.ensures.steps in
     let size : length chunk ≡ min 64 (length rest) = steps.1.1 ∙ ap (λ (n : ℕ). min n (length rest)) i.size in
-    record {
-      next = search rules;
-      finite = tt;
-      size = steps.0 ∙ i.size;
-      sound = call.sound;
-      eof_is = call.eof;
-      count = omega (arith, ap length c.in_ok-push.ensures.items ∙ length-append l.uppers.items _, i.count, size, ap length steps.1.0 ∙ length-append chunk left, steps.1.2);
-      longest = omega (arith, ap length c.in_ok-push.ensures.items ∙ length-append l.uppers.items _, i.longest, call.made.longest);
-      goes = λ all said. subst (Goes _ _ all left) (sym (c.in_ok-push.ensures.items ∙ ap (λ (e : Entry). l.uppers.items ++ e ∷ []) c.naming.ensures)) (goes_more _ _ _ all rest chunk left l.uppers.items c.in_ok-place.place (i.goes all said) steps.1.0 size steps.1.2 call.made);
-      area = edit_more i.area call.area;
-    }
+    let lists = ap length c.in_ok-push.ensures.items ∙ length-append l.uppers.items _ in
+    let parts = ap length steps.1.0 ∙ length-append chunk left in
+    let goes = λ (all : Entries) (said : words_of all ≡ c.args.entries.now). subst (Goes _ _ all left) (sym (c.in_ok-push.ensures.items ∙ ap (λ (e : Entry). l.uppers.items ++ e ∷ []) c.naming.ensures)) (goes_more (i.goes all said) steps.1.0 size steps.1.2 call.made) in
+    search (arith, rules, steps.0 ∙ i.size, call, lists, parts, size, i.count, i.longest, call.made.longest, goes, edit_more i.area call.area)
 
 pub returns-clause-made : goal.returns-clause-made
-returns-clause-made g c =
-    let l = c.loop-node in
-    λ all said. goes_last _ _ all (chunks_rest l.node-iterator) l.uppers.items (l.invariant.goes all said) (nil_from_length _ c.in-None.ensures.steps.1.0)
+returns-clause-made g c = λ all said. goes_last (c.loop-node.invariant.goes all said) (nil_from_length _ c.in-None.ensures.steps.1.0)
