@@ -98,10 +98,7 @@ from_rest f = nodes_by (λ es. Unit {0}) (grind (arith, whole, behind))
 pub from_top : (f : ℕ) (ns : Nodes) → IsNode ns → IsNode (from_reached f ns) × In (link_to (from_reached f ns)) (top_chain ns)
 from_top f = nodes_by (λ es. Unit {0}) (grind (arith, chain_there))
 
-abbrev pub Same : ℕ → Nodes → Nodes → Type 0
-Same f s ns = (low high : ℕ) → InOrder low high ns → (way f s ≡ way f ns) × (spot f s ≡ spot f ns) × (find_in f s ≡ find_in f ns) × (filter (ltb f) (firsts_of s) ≡ filter (ltb f) (firsts_of ns))
-
-pub same_from : (f : ℕ) (ns : Nodes) → Same f (from_reached f ns) ns
+pub same_from : (f : ℕ) (ns : Nodes) (low high : ℕ) → InOrder low high ns → (way f (from_reached f ns) ≡ way f ns) × (spot f (from_reached f ns) ≡ spot f ns) × (find_in f (from_reached f ns) ≡ find_in f ns) × (filter (ltb f) (firsts_of (from_reached f ns)) ≡ filter (ltb f) (firsts_of ns))
 unfolding way spot InOrder find_in firsts_of
 same_from f = nodes_by (λ es. Unit {0}) (grind (arith, chain_reaches_from, entries_passed, of_entries (passed f)))
 

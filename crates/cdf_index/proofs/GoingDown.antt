@@ -1,5 +1,5 @@
 -- The walk along a chain, to the last of its nodes that has an entry which begins at a record or before it.
-use Rattle.cdf_index.proofs.Common.{Entries, HasIndex, InOrder, List, Nodes, Option, Some, SayEntries, SomeNode, ap, arith, cases_lt, chain_reaches, entry_count, entry_firsts, false, first_at, first_past, firsts_of, if◌then◌else◌, index_at, inl, inr, le-ltb, length, length-append, link_to, lower_nodes, lt-ltb, nat_tests, no_entry, no_node, node, nodes_of, past, past_entries, record_number_limit, refl, sym, ℕ, ◌++◌, ◌+◌, ◌<◌, ◌∙◌, ◌≡◌, ◌≢◌, ◌≤◌, ◌⊎◌, ChainWalked, Meets, behind_of, first_after, top_chain, from_reached, Stop}
+use Rattle.cdf_index.proofs.Common.{Entries, HasIndex, InOrder, List, Nodes, Option, Some, SayEntries, SomeNode, ap, arith, cases_lt, chain_reaches, entry_count, entry_firsts, false, first_at, first_past, firsts_of, if◌then◌else◌, index_at, inl, inr, length, length-append, link_to, lower_nodes, nat_tests, no_entry, no_node, node, nodes_of, past, past_entries, record_number_limit, refl, sym, ℕ, ◌++◌, ◌+◌, ◌<◌, ◌∙◌, ◌≡◌, ◌≢◌, ◌≤◌, ◌⊎◌, ChainWalked, Meets, behind_of, first_after, top_chain, from_reached, Stop}
 use Rattle.cdf_index.proofs.ByParts.{entries_by, entries_from, nodes_by}
 use Rattle.cdf_index.proofs.Coming.{chain_not_reached}
 use Rattle.cdf_index.proofs.EntriesLeft.{NodeParts, node_parts}
@@ -128,15 +128,11 @@ module _ {b : List ℕ} {f turn at : ℕ} {best here : Stop} (has : HasIndex b a
 
   over : (here.begun < here.head.used) ⊎ (here.head.next ≡ 0) → chain_reaches f c.more ≡ false
   unfolding InOrder
-  over (inl lt) = chain_not_reached f (past_entries 0 c.entries) record_number_limit c.more standing.order.1 (ends_past f 0 record_number_limit c.entries standing.order.0 (omega (arith, count, used)))
-  over (inr e) = ap (chain_reaches f) (no_more e)
+  over o = grind (arith, no_more, chain_not_reached f (past_entries 0 c.entries) record_number_limit c.more standing.order.1, ends_past f 0 record_number_limit c.entries standing.order.0, count, used, o)
 
   ahead : (here.begun < here.head.used) ⊎ (here.head.next ≡ 0) → (other : Option ℕ) → first_past f (entry_firsts (past f c.entries) ++ firsts_of c.more) other ≡ first_after b here other
   unfolding firsts_of entry_firsts
-  ahead o other = elim (cases_lt here.begun here.head.used) [
-    | inl lt ↦ rw (lt-ltb here.begun here.head.used lt) (first_behind b here.place f here.begun (firsts_of c.more) other 0 c.entries parts.says.say_entries (omega (arith, count)) (omega (arith, count, used)))
-    | inr le ↦ rw (le-ltb here.begun here.head.used le, all_past le, no_more (elim o [ inl lt ↦ absurd (omega arith) | inr z ↦ z ])) refl
-  ]
+  ahead o other = grind (arith, nat_tests, first_behind b here.place f here.begun (firsts_of c.more) other 0 c.entries parts.says.say_entries, all_past, no_more, count, used, o)
 
   pub chain_walked : at ≢ 0 → (here.begun < here.head.used) ⊎ (here.head.next ≡ 0) → ChainWalked b f (index_at b at) (record { best = best; here = here })
   chain_walked some o =

@@ -8,7 +8,7 @@ use Rattle.cdf_index.proofs.FromReached.{Rest, Standing, chain_passed, from_rest
 use Rattle.cdf_index.proofs.GoingDown.{chain_few, down_of}
 use Rattle.cdf_index.proofs.LeafRules.{widened}
 use Rattle.cdf_index.proofs.Leading.{begun_in, counted_begun, is_some, lead, lead_none, leads, led}
-use Rattle.cdf_index.proofs.WayDown.{AllIn, node_has, node_there_by, spot_there, way_in}
+use Rattle.cdf_index.proofs.WayDown.{AllIn, node_has, node_there_by, spot_there, way_lies}
 
 -- ---- what stands on some levels does so on more
 
@@ -59,13 +59,7 @@ from_stops f place room es more = nodes_by (λ es. Unit {0}) (grind arith)
 led_way : (b ts : List ℕ) (levels f place room low high : ℕ) (es : Entries) (more : Nodes) → Names b ts levels es → AreInOrder low high es → chain_reaches f more ≡ false
     → (way f (node place room es more) ≡ (if is_some (lead f no_node es) then (place, begun_in f es - 1) ∷ way f (lead f no_node es) else [])) × (spot f (node place room es more) ≡ (if is_some (lead f no_node es) then spot f (lead f no_node es) else place)) × (is_some (lead f no_node es) ≡ true → 0 < begun_in f es)
 unfolding way spot
-led_way b ts levels f place room low high es more n o c =
-    let begun : is_some (lead f no_node es) ≡ true → 0 < begun_in f es = λ t. grind (arith, nat_tests, lead_none f no_node es, t) in
-    let l = leads b ts levels f no_node es n in
-    elim (either (is_some (lead f no_node es))) [
-      | inl t ↦ (let r = led f low high no_node es o (begun t) t in rw (c, l, t) (grind (arith, r.way_is, r.entry_is), r.spot_is, λ x. begun t))
-      | inr t ↦ rw (c, l, t) (refl, refl, λ x. absurd (grind (arith, x)))
-    ]
+led_way b ts levels f place room low high es more n o c = grind (arith, nat_tests, leads b ts levels f no_node es n, led f low high no_node es o, lead_none f no_node es, c)
 
 -- its Firsts past a record are those of the chain below, and those of the entries past the record
 led_firsts : (f : ℕ) (xs : List ℕ) (low high : ℕ) (es : Entries) (from to : ℕ) (nodes : Nodes) → InOrder from to nodes → from ≤ suc to → to ≤ low → AreInOrder low high es → filter (ltb f) (firsts_of nodes ++ (entry_firsts es ++ xs)) ≡ filter (ltb f) (firsts_of (lead f nodes es) ++ (entry_firsts (past f es) ++ xs))
@@ -148,12 +142,8 @@ pub record Descending (b : List ℕ) (f turn : ℕ) (total : Nodes) (passed : Li
   pub end_is : spot f total ≡ spot f (index_at b at)
   pub say : Each (StepSays b) passed
 
-module _ {b : List ℕ} {f : ℕ} {end : Spot} where
-  level_at : {at : ℕ} → HasIndex b at → at ≢ 0 → end.place ≡ link_to (from_reached f (index_at b at)) → SeesNode b end.place f end → Level b f at end.place end.begun end.lower
-  level_at has some e s = level has some e s.begun s.lower_is
-
-  pub descend_start : {head : ℕ} → HasIndex b head → head ≢ 0 → end.place ≡ link_to (from_reached f (index_at b head)) → SeesNode b end.place f end → Descending b f 0 (index_at b head) [] end
-  descend_start {head = head} has some e s = record { at = head; level = level_at has some e s; sees = s; levels = 8; has = has.index.has_nodes; deep = omega arith; way_is = refl; end_is = refl; say = tt }
+pub descend_start : {b : List ℕ} {f head : ℕ} {end : Spot} → HasIndex b head → head ≢ 0 → end.place ≡ link_to (from_reached f (index_at b head)) → SeesNode b end.place f end → Descending b f 0 (index_at b head) [] end
+descend_start {head = head} has some e s = record { at = head; level = level has some e s.begun s.lower_is; sees = s; levels = 8; has = has.index.has_nodes; deep = omega arith; way_is = refl; end_is = refl; say = tt }
 
 module _ {b : List ℕ} {f turn : ℕ} {total : Nodes} {passed : List Step} {end : Spot} (d : Descending b f turn total passed end) where
   pub descend_more : (next : Spot) → end.lower ≢ 0 → next.place ≡ link_to (from_reached f (index_at b end.lower)) → SeesNode b next.place f next → Descending b f (turn + 1) total (passed ++ record { place = end.place; room = end.room; entry = end.begun - 1 } ∷ []) next
@@ -162,7 +152,7 @@ module _ {b : List ℕ} {f turn : ℕ} {total : Nodes} {passed : List Step} {end
       let below = d.level.deep d.levels d.has in
       record {
         at = end.lower;
-        level = level_at d.level.index n e s;
+        level = level d.level.index n e s.begun s.lower_is;
         sees = s;
         levels = d.levels - 1;
         has = below.1;
@@ -183,7 +173,7 @@ module _ {b : List ℕ} {f turn : ℕ} {total : Nodes} {passed : List Step} {end
     end_done = let t = eq-eqb end.lower 0 over in rw (d.end_is, d.level.spot_is, t) refl
 
     pub all_among : InOrder 0 record_number_limit total → Each (IsAmong total) passed
-    all_among o = pairs_among passed (subst (λ (w : List (ℕ × ℕ)). AllIn w (nodes_of total)) (sym way_done) (way_in f 0 record_number_limit total o).0)
+    all_among o = pairs_among passed (subst (λ (w : List (ℕ × ℕ)). AllIn w (nodes_of total)) (sym way_done) (way_lies (comes (leaf f 0 0 false) 0 0 record_number_limit total o)).0)
       where
         pairs_among : (steps : List Step) → AllIn (map step_pair steps) (nodes_of total) → Each (IsAmong total) steps
         pairs_among [] a = tt

@@ -1,5 +1,5 @@
 -- What is read at one node leads the search on.
-use Rattle.cdf_index.proofs.Common.{AreTiles, Ascends, At, ChainFrom, Entries, HasNodes, IsNode, List, LowerAreZero, NamesIn, NextsAreZero, NodeInside, Nodes, None, SaysEntry, Scanned, Some, SomeNode, arith, entry_count, eqb, find_entry, find_in, last_at, le-ltb, leaf, length, link_to, linkable-in, lt-ltb, next_of, no_node, node, nodes_of, nodes_passed, offset_at, passed_from, refl, room_at, subst, suc, sym, tile_lies, tiles, type_at, used_count, vxr_type, zero, ℕ, ◌*◌, ◌+◌, ◌<◌, ◌∙◌, ◌≡◌, ◌≢◌, ◌≤◌, Leaf, Option, Names, lower_nodes, nat_tests, length-append}
+use Rattle.cdf_index.proofs.Common.{AreTiles, Ascends, At, ChainFrom, Entries, HasNodes, IsNode, List, LowerAreZero, NamesIn, NextsAreZero, NodeInside, Nodes, None, SaysEntry, Scanned, Some, SomeNode, arith, entry_count, eqb, find_entry, find_in, last_at, le-ltb, leaf, length, link_to, linkable-in, lt-ltb, next_of, no_node, nodes_of, nodes_passed, offset_at, passed_from, refl, room_at, subst, suc, sym, tile_lies, tiles, type_at, used_count, vxr_type, zero, ℕ, ◌*◌, ◌+◌, ◌<◌, ◌∙◌, ◌≡◌, ◌≢◌, ◌≤◌, Leaf, Option, Names, lower_nodes, nat_tests, length-append}
 use Rattle.cdf_format.proofs.ChainsLemmas.{some_place}
 use Rattle.cdf_index.proofs.EntriesLeft.{EntriesLeft}
 pub use Rattle.cdf_index.proofs.FirstEntry.{node_there}
@@ -11,9 +11,7 @@ use Rattle.cdf_index.proofs.Saying.{no_entries}
 
 pub none_there : (b : List ℕ) (levels : ℕ) (ns : Nodes) → AreTiles b 8 (length b) (tiles b) → HasNodes b (tiles b) levels ns → link_to ns ≡ 0 → ns ≡ no_node
 unfolding HasNodes
-none_there b levels no_node t h e = refl
-none_there b zero (node place room entries more) t h e = absurd h
-none_there b (suc levels) (node place room entries more) t h e = absurd (some_place b (tiles b) (length b) place t (linkable-in b (tiles b) vxr_type place h.0.linkable) e)
+none_there b levels ns t h e = grind (arith, some_place b (tiles b) (length b), linkable-in b (tiles b) vxr_type)
 
 pub node_of : {b : List ℕ} {at : ℕ} → AreTiles b 8 (length b) (tiles b) → ChainFrom b at → at ≢ 0 → SomeNode b at
 node_of tiled c some = record { levels = c.levels; nodes = c.nodes; tiled = tiled; stands = c.stands; is_node = node_there c.nodes (λ z. some (c.link_is ∙ z)); link = c.link_is }

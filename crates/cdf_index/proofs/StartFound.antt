@@ -11,7 +11,7 @@ known_rest m (node place room es more) (inr i) = let r = known_rest m more i in 
 
 rest_reached : {s ns : Nodes} → Rest s ns → (f : ℕ) → chain_reaches f s ≡ true → (chain_reaches f ns ≡ true) × (from_reached f s ≡ from_reached f ns)
 rest_reached whole f t = (t, refl)
-rest_reached (behind {es = es} r) f t = let p = rest_reached r f t in (grind (arith, p.0), rw p.0 p.1)
+rest_reached (behind r) f t = grind (arith, rest_reached r f t)
 
 reached : {b : List ℕ} {f : ℕ} {stop : Stop} → (s : Nodes) → Standing b s → IsNode s → stop.place ≡ link_to s → Meets b f stop → 0 < stop.begun → chain_reaches f s ≡ true
 unfolding InOrder

@@ -1,5 +1,5 @@
 -- The search for the next First, from level to level.
-use Rattle.cdf_index.proofs.Common.{AreInOrder, HasIndex, HasNodes, InOrder, List, NextsAreZero, Nodes, None, Option, [], append-nil, append_assoc, arith, chain_before, entry_firsts, filter, first_past, firsts_of, fold, index_at, least_first_past, length, link_to, ltb, min, nat_tests, next_first, no_node, node, nodes_of, number_within, past_entries, record_number_limit, refl, suc, sym, tiles, zero, ap, ℕ, ◌++◌, ◌+◌, ◌-◌, ◌∙◌, ◌∷◌, ◌≡◌, ◌≢◌, ◌≤◌, ChainWalked, first_after, top_chain, Chain}
+use Rattle.cdf_index.proofs.Common.{AreInOrder, HasIndex, HasNodes, InOrder, List, NextsAreZero, Nodes, None, Option, [], append-nil, append_assoc, arith, chain_before, entry_firsts, filter, first_past, firsts_of, fold, index_at, least_first_past, length, link_to, ltb, min, nat_tests, next_first, nodes_of, number_within, past_entries, record_number_limit, refl, suc, sym, tiles, ap, ℕ, ◌++◌, ◌+◌, ◌-◌, ◌∙◌, ◌∷◌, ◌≡◌, ◌≢◌, ◌≤◌, ChainWalked, first_after, top_chain, Chain}
 use Rattle.cdf_index.proofs.ByParts.{nodes_within}
 use Rattle.cdf_index.proofs.GoingDown.{chain_few}
 use Rattle.cdf_index.proofs.LeavesAscend.{end_before}
@@ -47,9 +47,7 @@ top_flat ns z = (lead_flat 0 ns z).1
 
 no_levels : (b ts : List ℕ) (levels : ℕ) (ns : Nodes) → HasNodes b ts levels ns → levels ≡ 0 → link_to ns ≡ 0
 unfolding HasNodes
-no_levels b ts levels no_node h z = refl
-no_levels b ts zero (node place room es more) h z = absurd h
-no_levels b ts (suc levels) (node place room es more) h z = absurd (omega arith)
+no_levels b ts levels ns = grind arith
 
 -- After so many levels, and from so many steps to so many, the search is at a chain: the First that comes next in it, or else the best one so far, is the one asked for. Where no node has one behind it, each step leads a level down.
 pub record NextAt (b : List ℕ) (rec : ℕ) (nodes : Nodes) (turn old steps : ℕ) (best : Option ℕ) (at : ℕ) : Type 0 where

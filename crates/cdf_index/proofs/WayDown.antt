@@ -1,5 +1,5 @@
 -- An index with one leaf more, made by one edit at the end of the way and one in each node on it, from the bottom up.
-use Rattle.cdf_index.proofs.Common.{AreTiles, Distinct, Distinct-back, Distinct-front, Each, Each-map, Edit, Entries, HasIndex, HasNodes, In, In-append_left, In-append_right, InOrder, IsNode, Leaf, List, Names, Nodes, [], ap, apart, arith, chain_reaches, entry_count, eq-eqb, false, has, in-times, index_at, inl, inr, leaf, length, link_to, linkable-in, lower, lower_nodes, max, nat_tests, node, nodes_of, nodes_stand, placed, record_number_limit, redo, redo_below, refl, some_place, spot, subst, suc, tiles, times, times-append, times-in, times-once, true, vxr_type, way, widen_all, widened, wider, with_both, with_leaf, zero, ℕ, ◌++◌, ◌+◌, ◌∙◌, ◌∷◌, ◌≡◌, ◌≢◌, ◌⊎◌, ◌-◌, ◌≤◌}
+use Rattle.cdf_index.proofs.Common.{AreTiles, Distinct, Distinct-back, Distinct-front, Each, Each-map, Edit, Entries, HasIndex, HasNodes, In, In-append_left, In-append_right, IsNode, Leaf, List, Names, Nodes, [], ap, apart, arith, chain_reaches, entry_count, eq-eqb, has, in-times, index_at, inl, inr, length, link_to, linkable-in, lower, lower_nodes, max, nat_tests, node, nodes_of, nodes_stand, placed, record_number_limit, redo, redo_below, refl, some_place, spot, subst, tiles, times, times-append, times-in, times-once, true, vxr_type, way, widen_all, widened, wider, with_both, with_leaf, ℕ, ◌++◌, ◌+◌, ◌∙◌, ◌∷◌, ◌≡◌, ◌≢◌, ◌⊎◌, ◌-◌, ◌≤◌}
 use Rattle.cdf_index.proofs.ByParts.{entries_by, nodes_by}
 use Rattle.cdf_index.proofs.Coming.{Comes, comes, comes_along, comes_below, comes_first, comes_here}
 use Rattle.cdf_index.proofs.Saying.{lower_both, names_parts}
@@ -42,9 +42,6 @@ way_lies (comes_below {w = w} {x = x} {place = place} {room = room} {more = more
     let l = lies_in w x (nodes_of nodes) all (λ m i. in-times m all (omega (arith, times-in m (nodes_of nodes) i, below_times m place room first last fs es nodes more))) (way_lies c) in
     ((inl refl, l.0), l.1)
 way_lies (comes_here t d) = (tt, inr (inl refl))
-
-pub way_in : (f low high : ℕ) (nodes : Nodes) → InOrder low high nodes → LiesIn (way f nodes) (spot f nodes) (nodes_of nodes)
-way_in f low high nodes o = way_lies (comes (leaf f 0 0 false) 0 low high nodes o)
 
 -- ---- edits of other nodes
 
@@ -114,8 +111,7 @@ chain_there f nodes t = grind arith
 
 pub node_has : (b ts : List ℕ) (levels place room : ℕ) (es : Entries) (more : Nodes) → HasNodes b ts levels (node place room es more) → (1 ≤ levels) × Names b ts (levels - 1) es × HasNodes b ts levels more
 unfolding HasNodes
-node_has b ts zero place room es more h = absurd h
-node_has b ts (suc levels) place room es more h = let z : suc levels - 1 ≡ levels = omega arith in (omega arith, rw z h.1, h.2)
+node_has b ts levels place room es more = grind arith
 
 -- the way ends at a node
 pub spot_there : {l : Leaf} {at : ℕ} {w : List (ℕ × ℕ)} {x n : ℕ} {ns ns' : Nodes} → Comes l at w x n ns ns' → (b ts : List ℕ) (levels : ℕ) → HasNodes b ts levels ns → IsNode ns → In x (nodes_of ns)
