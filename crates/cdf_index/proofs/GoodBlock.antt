@@ -1,5 +1,5 @@
 -- A block of a variable of a good image, not packed, has its records.
-use Rattle.cdf_index.proofs.Common.{BlockFits, Each, Each-split, HoldsRecords, IsGoodImage, IsSound, LeafFits, Leaf as TreeLeaf, List, Shape, Some, VariableFits, VariableShape, ap, arith, block_in, count_is, covers, covers_within, false, found_in, in_order, index_ascends, leaf_of, leaves_of, length, of_each, plain_size, range, record_bytes, record_number_limit, seen, size_at, subst, suc, tile_lies, variables, ℕ, ◌*◌, ◌++◌, ◌+◌, ◌-◌, ◌∷◌, ◌≡◌, ◌≤◌}
+use Rattle.cdf_index.proofs.Common.{Each, Each-split, HoldsRecords, IsGoodImage, IsSound, LeafFits, Leaf as TreeLeaf, List, Shape, Some, VariableFits, VariableShape, arith, block_in, count_is, covers, covers_within, false, found_in, in_order, index_ascends, leaf_of, leaves_of, length, of_each, range, record_bytes, record_number_limit, seen, subst, suc, tile_lies, variables, ℕ, ◌++◌, ◌∷◌, ◌≡◌, ◌≤◌}
 use Rattle.cdf_index.specs.declared.nodes.Leaf.{Leaf}
 use Rattle.cdf_index.proofs.GoodIndex.{index_ruled}
 

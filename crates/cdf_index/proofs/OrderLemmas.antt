@@ -1,5 +1,5 @@
 -- The leaf that has a record, found on the way down.
-use Rattle.cdf_index.proofs.Common.{AreInOrder, Each, Each-append, Entries, InOrder, Leaf, List, Nodes, None, Option, arith, block, covers, entry_leaves, find_entry, find_in, leaf_of, leaves_of, lower, nat_tests, past_entries, range, refl, suc, ℕ, ◌<◌, ◌≡◌, ◌≤◌, ◌⊎◌}
+use Rattle.cdf_index.proofs.Common.{AreInOrder, Each, Each-append, Entries, InOrder, Leaf, List, Nodes, None, Option, arith, covers, entry_leaves, find_entry, find_in, leaf_of, leaves_of, nat_tests, past_entries, range, refl, suc, ℕ, ◌<◌, ◌≡◌, ◌≤◌, ◌⊎◌}
 use Rattle.cdf_index.proofs.ByParts.{ByParts, entries_within as entries_in, nodes_within as nodes_in, of_entries, of_nodes}
 use Rattle.std.proofs.lemmas.List.Folds.{find-append}
 use Rattle.std.specs.Option.{option_or}

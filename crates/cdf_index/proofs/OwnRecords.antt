@@ -1,5 +1,5 @@
 -- The records of one variable: how often each stands in it, of which types they are, and what a command on the variable may do to them.
-use Rattle.cdf_index.proofs.Common.{leaf_at, of_each, option_map, nat_tests, Allowance, Anything, Each, Field, Found, Good, In, IsOneOf, Kind, Leaf, LeafFits, List, None, Only, Option, Range, Some, StandsAmong, VariableShape, [], ap, arith, cvvr_type, false, find, find_place, fits, got-middle, has, if◌then◌else◌, inl, inr, is_a, is_a-type, is_in, kind_type, leaves_apart, leaves_of, length, linkable-type, nodes_of, nodes_stand, or_cases, places_of, range, range_at, refl, shape, shapes_of, slice_get, times, times-append, type_at, typed, variable_records, vdr_type, vvr_type, vxr_type, ℕ, ◌+◌, ◌==◌, ◌∙◌, ◌∷◌, ◌≡◌, ◌⊎◌}
+use Rattle.cdf_index.proofs.Common.{leaf_at, of_each, option_map, nat_tests, Allowance, Anything, Each, Field, Found, Good, In, IsOneOf, Kind, Leaf, LeafFits, List, None, Only, Option, Range, Some, StandsAmong, VariableShape, [], ap, arith, cvvr_type, false, find, find_place, fits, got-middle, has, if◌then◌else◌, inl, inr, is_a, is_a-type, is_in, kind_type, leaves_apart, leaves_of, length, linkable-type, nodes_of, nodes_stand, or_cases, places_of, range, range_at, refl, shape, times, times-append, type_at, typed, variable_records, vdr_type, vvr_type, vxr_type, ℕ, ◌+◌, ◌==◌, ◌∙◌, ◌∷◌, ◌≡◌, ◌⊎◌}
 use Rattle.cdf_edits.proofs.Edits.VariableKept.{find_none}
 
 pub parts_times : (v : VariableShape) (m : ℕ) → times m (variable_records v) ≡ times m (v.vdr ∷ []) + (times m (nodes_of v.index) + times m (places_of (leaves_of v.index)) + times m v.cpr)

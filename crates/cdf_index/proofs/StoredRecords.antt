@@ -1,5 +1,5 @@
 -- The record of a number, in the leaf that has it.
-use Rattle.cdf_index.proofs.Common.{is_little, item_at, extent, turned, option_map, cases_lt, IsGoodImage, IsSound, Leaf, List, Option, Shape, VariableShape, arith, nat_tests, drop, index_ascends, inl, inr, le-ltb, leaf_of, leaves_of, lt-ltb, max_rec_at, plain_bytes, record_bytes, record_is, record_of_leaf, record_past, records_in, sound, stored_in, take, type_of_variable, variables, ℕ, ◌*◌, ◌++◌, ◌-◌, ◌∙◌, ◌∷◌, ◌≡◌}
+use Rattle.cdf_index.proofs.Common.{is_little, item_at, turned, option_map, IsGoodImage, IsSound, Leaf, List, Option, Shape, VariableShape, arith, nat_tests, drop, index_ascends, leaf_of, leaves_of, plain_bytes, record_bytes, record_is, record_of_leaf, record_past, records_in, sound, stored_in, take, type_of_variable, variables, ℕ, ◌*◌, ◌++◌, ◌-◌, ◌∷◌, ◌≡◌}
 use Rattle.cdf_index.proofs.GoodIndex.{index_ruled}
 
 of_leaf : (b : List ℕ) (vdr rec : ℕ) (found : Option Leaf) → option_map (turned (type_of_variable b vdr) (is_little b)) (option_map (λ (l : Leaf). take (record_bytes b vdr) (drop ((rec - l.first) * record_bytes b vdr) (plain_bytes b vdr l))) found) ≡ option_map (record_of_leaf b vdr rec) found
