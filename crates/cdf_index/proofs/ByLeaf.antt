@@ -1,5 +1,5 @@
 -- What a leaf more makes of an index, step by step on the way to it, and how often a node stands in it by then.
-use Rattle.cdf_index.proofs.Common.{Bool, Entries, In, Leaf, Nodes, [], arith, block, cases_lt, entry_count, if◌then◌else◌, in-times, inl, inr, lower, lower_nodes, max, nat_tests, new_room, new_room_below, no_entry, no_node, node, nodes_of, past, room_of_new, times, times-append, times-in, with_block, with_both, with_entry, with_leaf, with_lower, ℕ, ◌+◌, ◌==◌, ◌∷◌, ◌≡◌, ◌≤◌, ◌⊎◌}
+use Rattle.cdf_index.proofs.Common.{Bool, Entries, In, Leaf, Nodes, [], arith, block, entry_count, if◌then◌else◌, in-times, lower, lower_nodes, max, nat_tests, new_room, new_room_below, no_entry, no_node, node, nodes_of, past, room_of_new, times, times-append, times-in, with_block, with_both, with_entry, with_leaf, with_lower, ℕ, ◌+◌, ◌==◌, ◌∷◌, ◌≡◌, ◌≤◌, ◌⊎◌}
 use Rattle.cdf_index.proofs.Saying.{upto_both, front_past, upto_is}
 use Rattle.cdf_index.proofs.ByParts.{entries_by, nodes_by}
 
@@ -61,10 +61,7 @@ nodes_with_leaf new at m index = rw (nodes_weighed m (with_leaf new at index), n
 
 -- a node more stands at `at` alone, and only where one is needed
 pub in_nodes_with_leaf : (new : Leaf) (at : ℕ) (index : Nodes) (m : ℕ) → In m (nodes_of (with_leaf new at index)) → In m (nodes_of index) ⊎ ((m ≡ at) × (1 ≤ new_room new.first index))
-in_nodes_with_leaf new at index m i = elim (cases_lt 0 (times m (nodes_of index))) [
-  | inl p ↦ inl (in-times m (nodes_of index) p)
-  | inr z ↦ inr (grind (arith, nat_tests, times-in m (nodes_of (with_leaf new at index)) i, nodes_with_leaf new at m index))
-]
+in_nodes_with_leaf new at index m i = grind (arith, nat_tests, in-times m (nodes_of index), times-in m (nodes_of (with_leaf new at index)) i, nodes_with_leaf new at m index)
 
 -- each node of the index stays
 pub node_stays : (new : Leaf) (at : ℕ) (index : Nodes) (m : ℕ) → In m (nodes_of index) → In m (nodes_of (with_leaf new at index))

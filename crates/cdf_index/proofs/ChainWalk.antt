@@ -1,8 +1,10 @@
 -- The walk over a whole chain, with what is below it.
-use Rattle.cdf_index.proofs.Common.{AreTiles, Grew, HasIndex, List, Met, Nodes, SomeChain, SomeNode, Stands, [], ap, append-nil, append_assoc, arith, cases_eq, eq-eqb, eqb, first_at, index_at, inl, inr, last_at, length, link_to, met_below, met_block, met_in, met_node, ne_eqb, next_of, no_node, nodes_of, offset_at, refl, room_at, subst, sym, tiles, true, type_at, used_count, ℕ, ◌++◌, ◌+◌, ◌-◌, ◌<◌, ◌∙◌, ◌∷◌, ◌≡◌, ◌≢◌, ◌≤◌}
+use Rattle.cdf_index.proofs.Common.{AreTiles, Grew, HasIndex, List, Met, Nodes, SomeChain, SomeNode, Stands, [], ap, append-nil, append_assoc, arith, cases_eq, eq-eqb, eqb, first_at, index_at, inl, inr, last_at, length, link_to, met_below, met_block, met_in, met_node, ne_eqb, next_of, nodes_of, offset_at, room_at, subst, sym, tiles, true, type_at, used_count, ℕ, ◌++◌, ◌+◌, ◌-◌, ◌<◌, ◌∙◌, ◌∷◌, ◌≡◌, ◌≢◌, ◌≤◌, Entries, entry_count, lower_nodes, length-append}
 use Rattle.cdf_index.proofs.Ascending.{index_stands}
-use Rattle.cdf_index.proofs.FirstEntry.{AtEntry, FirstEntry, enter, entry_here, few_below, met_at, none_here, opened, opened_nodes, pass, node_there, Opened}
+use Rattle.cdf_index.proofs.EntriesLeft.{EntriesLeft}
+use Rattle.cdf_index.proofs.FirstEntry.{FirstEntry, first_entry, met_at, opened, opened_nodes, node_there, Opened}
 use Rattle.cdf_index.proofs.Looking.{node_of, none_there}
+use Rattle.cdf_index.proofs.Saying.{no_entries}
 use Rattle.cdf_index.proofs.Searching.{few_nodes}
 
 -- ---- what is left of a chain at a link, or at the entry with number i of a node
@@ -18,9 +20,11 @@ module _ {G : Type 0} (has : G → List Met → Type 0) where
   pub record NodeLeft (b : List ℕ) (levels at i turn : ℕ) (was now : G) (ns : Nodes) : Type 0 where
     pub nodes : Nodes
     pub node : Opened b levels at nodes
-    pub low : Nodes
-    pub entry : AtEntry node turn i ns low
-    pub all : (end : G) → Grew has now end (met_below entry.rest ++ met_in node.more) → Grew has was end (met_in ns)
+    pub rest : Entries
+    pub left : EntriesLeft b node.down at i rest
+    pub many : i + entry_count rest ≡ used_count b at
+    pub all : (end : G) → Grew has now end (met_below rest ++ met_in node.more) → Grew has was end (met_in ns)
+    pub fewer : length (lower_nodes rest) + length (nodes_of node.more) + (turn + 1) ≤ length (nodes_of ns)
 
   -- of whichever nodes begin at a link
   pub record Walked (b : List ℕ) (levels link at turn : ℕ) (was now : G) : Type 0 where
@@ -54,8 +58,10 @@ module _ {G : Type 0} {has : G → List Met → Type 0} where
         record {
           nodes = l.left;
           node = o;
-          low = no_node;
-          entry = enter o no_node (omega (arith, l.fewer));
+          rest = o.entries;
+          left = o.parts.left;
+          many = omega (arith, o.parts.says.used_is);
+          fewer = omega (arith, opened_nodes o, l.fewer);
           all = λ end h. l.all end (rw o.is (rw (o.parts.says.used_is, o.parts.says.room_is) at (grew_both g h)));
         }
 
@@ -63,16 +69,19 @@ module _ {G : Type 0} {has : G → List Met → Type 0} where
     pub walk_out : {next : ℕ} → used_count b at ≤ i → next ≡ next_of b at → ChainLeft has b levels next (turn + 1) was now ns
     unfolding met_below
     walk_out le nx =
-        let none = none_here l.node l.entry le in
-        record { left = l.node.more; stands = l.node.more_stands; link_is = nx ∙ l.node.parts.says.next_is; all = λ end h. l.all end (rw none h); fewer = omega (arith, l.entry.fewer) }
+        let none = no_entries l.rest (omega (arith, l.many)) in
+        record { left = l.node.more; stands = l.node.more_stands; link_is = nx ∙ l.node.parts.says.next_is; all = λ end h. l.all end (rw none h); fewer = omega (arith, l.fewer) }
 
-    past_entry : {next : G} → (f : FirstEntry b l.node.down at i l.entry.rest) → Grew has now next (met_at b at i f.low) → NodeLeft has b levels at (i + 1) turn was next ns
-    past_entry f g = record { nodes = l.nodes; node = l.node; low = f.low; entry = pass l.node l.entry (i + 1) refl f; all = λ end h. l.all end (rw f.adds.mets (rw append_assoc (grew_both g h))) }
+    few_below : (f : FirstEntry b l.node.down at i l.rest) → length (lower_nodes l.rest) ≡ length (nodes_of f.low) + length (lower_nodes f.rest)
+    few_below f = ap length f.adds.nodes ∙ length-append (nodes_of f.low) (lower_nodes f.rest)
+
+    past_entry : {next : G} → (f : FirstEntry b l.node.down at i l.rest) → Grew has now next (met_at b at i f.low) → NodeLeft has b levels at (i + 1) turn was next ns
+    past_entry f g = record { nodes = l.nodes; node = l.node; rest = f.rest; left = f.left; many = omega (arith, l.many, f.adds.many); fewer = omega (arith, l.fewer, few_below f); all = λ end h. l.all end (rw f.adds.mets (rw append_assoc (grew_both g h))) }
 
     -- at an entry that names a place
     module _ {place kind : ℕ} (lt : i < used_count b at) (p : place ≡ offset_at b at i) (k : kind ≡ type_at b place) where
-      first : FirstEntry b l.node.down at i l.entry.rest
-      first = entry_here l.node l.entry lt
+      first : FirstEntry b l.node.down at i l.rest
+      first = first_entry l.rest l.left (omega (arith, l.many))
 
       pub past_block : {next : G} → kind ≢ 6 → Grew has now next (met_block (first_at b at i) (last_at b at i) place ∷ []) → NodeLeft has b levels at (i + 1) turn was next ns
       past_block ne g = past_entry first (rw (ne_eqb (type_at b (offset_at b at i)) 6 (λ t. ne (k ∙ ap (type_at b) p ∙ t))) (rw p at g))
@@ -87,7 +96,7 @@ module _ {G : Type 0} {has : G → List Met → Type 0} where
         past_lower told = past_entry first (rw lower_here.1 (told first.low lower_here.2 lower_here.0))
 
         pub lower_chain : AreTiles b 8 (length b) (tiles b) → length (nodes_of ns) ≤ length b → SomeChain b (levels - 1) place
-        lower_chain tiled few = record { nodes = first.low; tiled = tiled; stands = lower_here.2; link_is = lower_here.0; few = omega (arith, few_below l.node l.entry first, l.entry.fewer) }
+        lower_chain tiled few = record { nodes = first.low; tiled = tiled; stands = lower_here.2; link_is = lower_here.0; few = omega (arith, few_below first, l.fewer) }
 
 -- a node of the chain
 pub walk_node : {G : Type 0} {has : G → List Met → Type 0} {b : List ℕ} {levels link at turn : ℕ} {was now : G} → SomeChain b levels link → Walked has b levels link at turn was now → at ≢ 0 → SomeNode b at

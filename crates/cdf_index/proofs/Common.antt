@@ -23,6 +23,7 @@ pub use Rattle.cdf_format.proofs.BytesLemmas.{next_kept, number_kept, size_kept,
 pub use Rattle.cdf_format.specs.GoodImage.{IsGoodImage}
 pub use Rattle.cdf_format.specs.Index.{Entries, Leaf, Nodes, block, entry_count, first_at, last_at, leaf, link_to, lower, no_entry, no_node, node, offset_at, room_at, used_count}
 pub use Rattle.cdf_format.specs.Records.{field, vxr_bytes, vxr_first, vxr_last, vxr_n_used_entries, vxr_offset, vxr_vxr_next}
+pub use Rattle.cdf_edits.specs.Index.Written.{last_node, top_chain}
 pub use Rattle.cdf_index.specs.Ahead.{Begun, NamesIn, chain_at, chain_before, first_past}
 pub use Rattle.cdf_index.specs.Descent.{ChainWalked, IsAmong, Meets, SeesNode, StepSays, behind_of, first_after, step_pair}
 pub use Rattle.cdf_index.specs.Finding.{Ascends, At, ChainFrom, HasIndex, IsBlock, IsCut, IsOrderly, NodeInside, Scanned, SomeNode, Stands, in_column, index_at}
@@ -33,11 +34,14 @@ unfoldable pub use Rattle.cdf_index.specs.Order.{AreInOrder, InOrder, LowerAreZe
 pub use Rattle.cdf_index.specs.Reading.{HoldsRecords, record_in, record_of_leaf, stored_in}
 pub use Rattle.cdf_index.specs.Sight.{IsHead, seen}
 pub use Rattle.cdf_index.specs.Sizes.{Counts, size_of, used_met, widest_met}
+pub use Rattle.cdf_index.specs.Starting.{IsStart, LeadsToStart, from_reached}
 pub use Rattle.cdf_index.specs.Way.{down_at, placed, widen_all, widened, wider}
 unfoldable pub use Rattle.cdf_index.specs.Way.{spot, spot_below, way, way_below}
 pub use Rattle.cdf_index.specs.Whole.{Grew, Met, SomeChain, entry_met, leaf_words, met_block, met_node, place_met, places_in}
 unfoldable pub use Rattle.cdf_index.specs.Whole.{met_below, met_in}
 pub use Rattle.cdf_index.specs.Writing.{Chained, Cleared, EntriesRead, EntriesWritten, EntrySet, HasRoomFor, HeadWritten, Inserted, NodeWritten, SaysFirst, SaysUnused, Shortened, Split, StillSays, Widened, entry_in, unused_entry}
+pub use Rattle.cdf_index.specs.declared.descending.Chain.{Chain}
+pub use Rattle.cdf_index.specs.declared.descending.Stop.{Stop}
 pub use Rattle.cdf_index.specs.declared.descending.Spot.{Spot}
 pub use Rattle.cdf_index.specs.declared.descending.Step.{Step}
 pub use Rattle.cdf_index.specs.declared.entries.Entry.{Entry}

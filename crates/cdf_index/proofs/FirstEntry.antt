@@ -1,6 +1,5 @@
 -- A chain that stands, taken apart at its first node, and the entries of a node at the first of them.
-use Rattle.cdf_index.proofs.Common.{ChainFrom, Entries, HasNodes, In, IsNode, IsOrderly, Leaf, List, Met, Names, NodeInside, Nodes, None, Option, Some, Stands, [], ap, arith, block, block_in, chain_at, cvvr_type, entry_count, entry_leaves, eqb, find_entry, find_in, first_at, if◌then◌else◌, inl, inr, is_a, is_a-type, is_block, is_linkable, last_at, leaf, length, length-append, link_to, linkable-in, linkable-type, lower, lower_nodes, ltb, met_below, met_block, met_in, nat_tests, no_entry, no_node, node, nodes_of, nodes_passed, offset_at, or_cases, passed_from, refl, subst, suc, sym, tiles, true, type_at, used_count, vvr_type, vxr_type, zero, ℕ, ◌++◌, ◌+◌, ◌<◌, ◌∙◌, ◌∷◌, ◌≡◌, ◌≢◌, ◌≤◌}
-use Rattle.cdf_index.proofs.Saying.{no_entries}
+use Rattle.cdf_index.proofs.Common.{ChainFrom, Entries, HasNodes, In, IsNode, IsOrderly, Leaf, List, Met, Names, NodeInside, Nodes, None, Option, Some, Stands, [], ap, arith, block, block_in, chain_at, cvvr_type, entry_count, entry_leaves, eqb, find_entry, find_in, first_at, if◌then◌else◌, inl, inr, is_a, is_a-type, is_block, is_linkable, last_at, leaf, length, length-append, link_to, linkable-in, linkable-type, lower, lower_nodes, ltb, met_below, met_block, met_in, nat_tests, no_entry, no_node, node, nodes_of, nodes_passed, offset_at, or_cases, passed_from, refl, subst, suc, sym, tiles, true, type_at, vvr_type, vxr_type, zero, ℕ, ◌++◌, ◌+◌, ◌<◌, ◌∷◌, ◌≡◌, ◌≢◌}
 use Rattle.cdf_index.proofs.EntriesLeft.{EntriesLeft, NodeParts, past_first, past_lower_one, node_parts}
 
 -- ---- a node
@@ -101,29 +100,3 @@ first_entry {b = b} {down = down} {at = at} {i = i} (lower first last nodes entr
       adds = rw (← e.first_is, ← e.last_is) (grind (arith, nat_tests, six));
       link = λ t. e.offset_is;
     }
-
--- ---- on the way along the entries of a node, from number i on
-
--- the chain below the entry before, the other entries and the nodes behind this one have fewer nodes than there were at first, as many turns ago
-pub record AtEntry {b : List ℕ} {levels at : ℕ} {ns : Nodes} (o : Opened b levels at ns) (turn i : ℕ) (nodes low : Nodes) : Type 0 where
-  pub rest : Entries
-  pub left : EntriesLeft b o.down at i rest
-  pub many : i + entry_count rest ≡ used_count b at
-  pub fewer : length (nodes_of low) + length (lower_nodes rest) + length (nodes_of o.more) + (turn + 1) ≤ length (nodes_of nodes)
-
-module _ {b : List ℕ} {levels at : ℕ} {ns : Nodes} (o : Opened b levels at ns) where
-  abbrev pub enter : {turn : ℕ} {nodes : Nodes} → (low : Nodes) → length (nodes_of low) + length (nodes_of ns) + turn ≤ length (nodes_of nodes) → AtEntry o turn 0 nodes low
-  enter low few = record { rest = o.entries; left = o.parts.left; many = omega (arith, o.parts.says.used_is); fewer = omega (arith, opened_nodes o) }
-
-  module _ {turn i : ℕ} {nodes low : Nodes} (e : AtEntry o turn i nodes low) where
-    pub entry_here : i < used_count b at → FirstEntry b o.down at i e.rest
-    entry_here lt = first_entry e.rest e.left (omega (arith, e.many))
-
-    pub few_below : (f : FirstEntry b o.down at i e.rest) → length (lower_nodes e.rest) ≡ length (nodes_of f.low) + length (lower_nodes f.rest)
-    few_below f = ap length f.adds.nodes ∙ length-append (nodes_of f.low) (lower_nodes f.rest)
-
-    abbrev pub pass : (k : ℕ) → i + 1 ≡ k → (f : FirstEntry b o.down at i e.rest) → AtEntry o turn k nodes f.low
-    pass k is f = record { rest = f.rest; left = subst (λ (x : ℕ). EntriesLeft b o.down at x f.rest) is f.left; many = omega (arith, e.many, f.adds.many); fewer = omega (arith, e.fewer, few_below f) }
-
-    pub none_here : used_count b at ≤ i → e.rest ≡ no_entry
-    none_here le = no_entries e.rest (omega (arith, e.many))

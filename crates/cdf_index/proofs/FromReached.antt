@@ -1,6 +1,5 @@
 -- What a search has that starts along the top chain of an index, and what of the index it has with the search from the first node.
-use Rattle.cdf_index.proofs.Common.{AreInOrder, AreTiles, Distinct, Distinct-back, Entries, HasIndex, HasNodes, In, In-append_right, InOrder, IsNode, IsOrderly, Leaf, List, NodeFits, Nodes, Option, SomeNode, Stands, ap, append_assoc, arith, cases_eq, chain_reaches, either, entry_firsts, filter, find_entry, find_in, firsts_of, fold, has, index_at, inl, inr, leaf_of, least_first_past, leaves_of, length, link_to, lower_nodes, ltb, min, nat_tests, no_node, node, nodes_of, number_within, past_entries, record_number_limit, refl, spot, subst, suc, sym, tiles, true, way, with_leaf, zero, ℕ, ◌++◌, ◌+◌, ◌∙◌, ◌≡◌, ◌≢◌, ◌≤◌}
-use Rattle.cdf_edits.specs.Index.Written.{last_node, top_chain}
+use Rattle.cdf_index.proofs.Common.{AreInOrder, AreTiles, Distinct, Distinct-back, Entries, HasIndex, HasNodes, In, In-append_right, InOrder, IsNode, IsOrderly, Leaf, List, NodeFits, Nodes, Option, SomeNode, Stands, ap, append_assoc, arith, cases_eq, entry_firsts, filter, find_entry, find_in, firsts_of, fold, has, index_at, inl, inr, leaf_of, least_first_past, leaves_of, length, link_to, lower_nodes, ltb, min, nat_tests, no_node, node, nodes_of, number_within, past_entries, record_number_limit, refl, spot, subst, suc, sym, tiles, way, with_leaf, zero, ℕ, ◌++◌, ◌+◌, ◌∙◌, ◌≡◌, ◌≢◌, ◌≤◌, last_node, top_chain, IsStart, from_reached}
 use Rattle.cdf_edits.proofs.Edits.VariableFrame.{Each-map}
 use Rattle.cdf_index.proofs.Ascending.{index_stands}
 use Rattle.cdf_index.proofs.ByParts.{ByParts, entries_within, nodes_by, of_entries, of_nodes}
@@ -12,7 +11,6 @@ use Rattle.cdf_index.proofs.LeafRules.{widened}
 use Rattle.cdf_index.proofs.Looking.{none_there}
 use Rattle.cdf_index.proofs.OrderLemmas.{end_after, find_is}
 use Rattle.cdf_index.proofs.WayDown.{chain_there, node_there_by}
-use Rattle.cdf_index.specs.Starting.{IsStart, from_reached}
 
 -- ---- a chain from one of its nodes on
 
@@ -88,17 +86,13 @@ entries_passed f other = entries_within (grind (arith, nat_tests, end_after))
 
 -- ---- a search from there on meets the same
 
-from_by : (f : ℕ) (P : Nodes → Nodes → Type 0) → ((ns : Nodes) → P ns ns) → ((place room : ℕ) (es : Entries) (s more : Nodes) → chain_reaches f more ≡ true → P s more → P s (node place room es more)) → (ns : Nodes) → P (from_reached f ns) ns
-from_by f P here on no_node = here no_node
-from_by f P here on (node place room es more) = elim (either (chain_reaches f more)) [ inl t ↦ rw t (on place room es (from_reached f more) more t (from_by f P here on more)) | inr t ↦ rw t (here (node place room es more)) ]
-
 -- a leaf that is added there is added to the index
 pub leaf_rest : (l : Leaf) (at : ℕ) (ns : Nodes) → Rest (with_leaf l at (from_reached l.first ns)) (with_leaf l at ns)
 unfolding with_leaf
-leaf_rest l at ns = from_by l.first (λ s ns. Rest (with_leaf l at s) (with_leaf l at ns)) (λ ns. whole) (λ place room es s more t r. rw t (behind r)) ns
+leaf_rest l at = nodes_by (λ es. Unit {0}) (grind (arith, whole, behind))
 
 pub from_rest : (f : ℕ) (ns : Nodes) → Rest (from_reached f ns) ns
-from_rest f ns = from_by f Rest (λ ns. whole) (λ place room es s more t r. behind r) ns
+from_rest f = nodes_by (λ es. Unit {0}) (grind (arith, whole, behind))
 
 -- where there is a node, it is at one of the top chain
 pub from_top : (f : ℕ) (ns : Nodes) → IsNode ns → IsNode (from_reached f ns) × In (link_to (from_reached f ns)) (top_chain ns)

@@ -1,6 +1,5 @@
 -- The walk along a chain, to the last of its nodes that has an entry which begins at a record or before it.
-use Rattle.cdf_index.proofs.Common.{Entries, HasIndex, InOrder, List, Nodes, Option, Some, SayEntries, SomeNode, ap, arith, cases_lt, chain_reaches, entry_count, entry_firsts, false, first_at, first_past, firsts_of, if◌then◌else◌, index_at, inl, inr, le-ltb, length, length-append, link_to, lower_nodes, lt-ltb, nat_tests, no_entry, no_node, node, nodes_of, past, past_entries, record_number_limit, refl, sym, ℕ, ◌++◌, ◌+◌, ◌<◌, ◌∙◌, ◌≡◌, ◌≢◌, ◌≤◌, ◌⊎◌, ChainWalked, Meets, behind_of, first_after}
-use Rattle.cdf_edits.specs.Index.Written.{top_chain}
+use Rattle.cdf_index.proofs.Common.{Entries, HasIndex, InOrder, List, Nodes, Option, Some, SayEntries, SomeNode, ap, arith, cases_lt, chain_reaches, entry_count, entry_firsts, false, first_at, first_past, firsts_of, if◌then◌else◌, index_at, inl, inr, le-ltb, length, length-append, link_to, lower_nodes, lt-ltb, nat_tests, no_entry, no_node, node, nodes_of, past, past_entries, record_number_limit, refl, sym, ℕ, ◌++◌, ◌+◌, ◌<◌, ◌∙◌, ◌≡◌, ◌≢◌, ◌≤◌, ◌⊎◌, ChainWalked, Meets, behind_of, first_after, top_chain, from_reached, Stop}
 use Rattle.cdf_index.proofs.ByParts.{entries_by, entries_from, nodes_by}
 use Rattle.cdf_index.proofs.Coming.{chain_not_reached}
 use Rattle.cdf_index.proofs.EntriesLeft.{NodeParts, node_parts}
@@ -10,8 +9,6 @@ use Rattle.cdf_index.proofs.Looking.{node_there, none_there}
 use Rattle.cdf_index.proofs.Saying.{no_entries}
 use Rattle.cdf_index.proofs.Searching.{few_nodes}
 use Rattle.cdf_index.proofs.WayDown.{node_there_by}
-use Rattle.cdf_index.specs.Starting.{from_reached}
-use Rattle.cdf_index.specs.declared.descending.Stop.{Stop}
 
 rest_more : {place room : ℕ} {es : Entries} {s ns : Nodes} → Rest (node place room es s) ns → Rest s ns
 rest_more whole = behind whole

@@ -108,8 +108,7 @@ order_come {new = new} (comes_below {more = more} fs first last nodes nodes' es 
     let wide = max last new.last in
     grind (arith, Each-split (Misses new.first), Each-split (BeginsBehind new.first new.last), leaves_both fs (lower first last nodes es), firsts_both fs (lower first last nodes es), parts_in_order low high fs (lower first last nodes es), widened first first last wide nodes, order_come c first wide, raised_entries new.first new.last (suc last) (suc wide) high es, past_both, both_in_order, raised new.first new.last (past_entries low whole) (past_entries low (with_both fs (lower first wide nodes' es))) high more, past_most (suc last) (suc wide) es, end_after (suc last) high es)
 order_come {new = new} {at = at} (comes_here {place = place} {room = room} {es = es} {more = more} t d) low high o l k h u n =
-    let ns = Each-split (BeginsBehind new.first new.last) (entry_firsts es) (firsts_of more) n in
-    order_with_entry new at place room low high es more o d t l k h (Each-split (Misses new.first) (entry_leaves es) (leaves_of more) u).0 ns.0 ns.1
+    grind (arith, Each-split (Misses new.first), Each-split (BeginsBehind new.first new.last), order_with_entry new at place room low high es more o d t l k h)
 
 pub order_with_leaf : (new : Leaf) (at : ℕ) (index : Nodes) → InOrder 0 record_number_limit index → new.first ≤ new.last → find (λ (leaf : Leaf). covers new.first (range leaf.first leaf.last)) (leaves_of index) ≡ None → new.last < next_first new.first (firsts_of index)
     → InOrder 0 record_number_limit (with_leaf new at index)

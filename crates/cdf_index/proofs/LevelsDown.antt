@@ -1,6 +1,5 @@
 -- The way down to the place of a new entry, from level to level.
-use Rattle.cdf_index.proofs.Common.{AreInOrder, AreTiles, Begun, Distinct, Distinct-back, Distinct-front, Each, Each-append, Entries, HasIndex, HasNodes, In, InOrder, IsAmong, IsNode, List, LowerAreZero, Names, NextsAreZero, Nodes, Option, SeesNode, Spot, Step, StepSays, [], ap, append-nil, append_assoc, arith, block, chain_before, chain_reaches, either, entry_firsts, eq-eqb, eqb, false, filter, first_past, firsts_of, if◌then◌else◌, index_at, inl, inr, leaf, leb, length, link_to, linkable-type, lower, lower_nodes, ltb, map, map-append, nat_tests, ne_eqb, no_entry, no_node, node, nodes_of, past, record_number_limit, refl, spot, step_pair, subst, suc, sym, tiles, true, type_at, vxr_type, way, ℕ, ◌++◌, ◌+◌, ◌-◌, ◌<◌, ◌∙◌, ◌∷◌, ◌≡◌, ◌≢◌, ◌≤◌, behind_of, Stands, entry_leaves, leaves_of}
-use Rattle.cdf_edits.specs.Index.Written.{top_chain}
+use Rattle.cdf_index.proofs.Common.{AreInOrder, AreTiles, Begun, Distinct, Distinct-back, Distinct-front, Each, Each-append, Entries, HasIndex, HasNodes, In, InOrder, IsAmong, IsNode, List, LowerAreZero, Names, NextsAreZero, Nodes, Option, SeesNode, Spot, Step, StepSays, [], ap, append-nil, append_assoc, arith, block, chain_before, chain_reaches, either, entry_firsts, eq-eqb, eqb, false, filter, first_past, firsts_of, if◌then◌else◌, index_at, inl, inr, leaf, leb, length, link_to, linkable-type, lower, lower_nodes, ltb, map, map-append, nat_tests, ne_eqb, no_entry, no_node, node, nodes_of, past, record_number_limit, refl, spot, step_pair, subst, suc, sym, tiles, true, type_at, vxr_type, way, ℕ, ◌++◌, ◌+◌, ◌-◌, ◌<◌, ◌∙◌, ◌∷◌, ◌≡◌, ◌≢◌, ◌≤◌, behind_of, Stands, entry_leaves, leaves_of, top_chain, from_reached}
 use Rattle.cdf_index.proofs.ByParts.{entries_by, nodes_by, nodes_from}
 use Rattle.cdf_index.proofs.Coming.{comes}
 use Rattle.cdf_index.proofs.EntriesLeft.{EntriesLeft, node_parts, past_first, past_lower_one}
@@ -10,7 +9,6 @@ use Rattle.cdf_index.proofs.GoingDown.{chain_few, down_of}
 use Rattle.cdf_index.proofs.LeafRules.{widened}
 use Rattle.cdf_index.proofs.Leading.{begun_in, counted_begun, is_some, lead, lead_none, leads, led}
 use Rattle.cdf_index.proofs.WayDown.{AllIn, node_has, node_there_by, spot_there, way_in}
-use Rattle.cdf_index.specs.Starting.{from_reached}
 
 -- ---- what stands on some levels does so on more
 
@@ -97,13 +95,10 @@ pub record Level (b : List ℕ) (f at place begun lower : ℕ) : Type 0 where
 
 pub lead_flat : (f : ℕ) (ns : Nodes) → NextsAreZero ns → NextsAreZero (down_of f (from_reached f ns)) × (length (top_chain ns) ≤ 1)
 unfolding NextsAreZero
-lead_flat f no_node z = (tt, omega arith)
-lead_flat f (node place room es no_node) z = (lead_zero f es no_node tt z, omega arith)
-lead_flat f (node place room es (node q r fs more)) z = absurd z
+lead_flat f = nodes_by (λ es. Unit {0}) (grind (arith, lead_zero f))
 
 no_link : {b : List ℕ} → AreTiles b 8 (length b) (tiles b) → (low : Nodes) → Standing b low → eqb (link_to low) 0 ≡ (if is_some low then false else true)
-no_link tiled no_node s = refl
-no_link tiled (node place room es more) s = ne_eqb place 0 (link_there tiled s tt)
+no_link tiled low s = grind (arith, nat_tests, link_there tiled s)
 
 module _ {b : List ℕ} {f at place begun lower : ℕ} (has : HasIndex b at) (some : at ≢ 0) (here : place ≡ link_to (from_reached f (index_at b at))) (g : Begun b place f begun) (chain : lower ≡ chain_before b place 0 begun) where
   pub level : Level b f at place begun lower

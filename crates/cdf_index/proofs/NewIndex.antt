@@ -2,7 +2,6 @@
 use Rattle.cdf_index.proofs.Common.{fits, has, typed, Act, AllKeep, Allowances, Among, Anything, Avoids, Avoids-append, Away, Away-append, Distinct, Each, Each-in, Field, Good, Hold, In, In-append, IsChain, Kept, Kind, List, ◌<◌, Mark, NodeFits, Nodes, OneVariable, Only, OutsideFields, OwnedOnce, Same, Shape, StandsAmong, VariableShape, Within, Within-append, [], after_ours, all_unmarked, all_unmarked-away, all_variable_records, ap, apart, arith, attributes_kept, avoided, away-avoids, away-within, behind_in, cdr_kept, cdr_type, count_of, cpr_type, cvvr_type, eof, false, fixed_size, flat_map, gdr_in, gdr_type, gdr_typed, gdr_uir_head, good_by_its_shape, has_room, head_of, image_limit, index_rows, inl, inr, is_a, is_a-in, is_a-type, is_in, is_max_rec, is_record_type, is_taken, keep_all, keep_file, keep_kinds, keep_places, keep_unused, keep_variable_parts, keeps_all_attributes, keeps_fields, keeps_file, keeps_kind, kept, kept_away, kind_ours, leaves_of, length, linkable-in, linkable-type, long, mark, nodes_of, nodes_stand, number, of_le, other_kind, ours, own_rules, owned, places_of, read_types, refl, room_at, shape, shapes_of, signed_limit, size_at, sound, spliced_times, stood, subst, suc, sym, the_one, through, tile, tile_lies, times, times-append, times-none, times-once, true, type_at, type_in, uir_next_uir, uir_prev_uir, uir_type, unmarked, unmarked-away, variable_records, variable_typed, variable_types, variables_chain, variables_in, vdr_max_rec, vdr_vxr_head, vdr_vxr_tail, vvr_type, vxr_n_used_entries, vxr_type, with_shapes, within, word_kept, ℕ, ◌*◌, ◌++◌, ◌+◌, ◌∙◌, ◌∷◌, ◌≡◌, ◌≢◌, ◌≤◌, ◌⊎◌}
 use Rattle.cdf_edits.proofs.Common.{IsIndex, Keeps, Stays, Edit}
 use Rattle.cdf_edits.proofs.Commands.KeptRecords.{Stood, keep_attributes, keep_variables, keeps_stood}
-use Rattle.cdf_edits.proofs.Edits.IndexEdited.{IndexEdit, vdr_size}
 use Rattle.cdf_edits.proofs.Edits.IndexEdited as of_index
 use Rattle.cdf_edits.proofs.Edits.OwnEdited.{OwnEdit, only, records_are, splices}
 use Rattle.cdf_edits.proofs.Edits.OwnedOnce.{IsSorted, all_attributes_in, fresh_unowned, owned_once_if, sorted_before, used_times}
@@ -104,7 +103,7 @@ module _ {b now : List ℕ} {kind : Kind} {before : List VariableShape} {own : V
 
   -- ---- the edit of one variable
 
-  pub index_edit : IndexEdit b now kind own index new list (space ++ entries) reborn
+  pub index_edit : of_index.IndexEdit b now kind own index new list (space ++ entries) reborn
   index_edit =
       let avoid : (m lo hi : ℕ) → (hi ≤ 24) ⊎ (44 ≤ lo) → Avoids (space ++ entries) type m lo hi = λ m lo hi side. avoids m lo hi (elim side [ inl l ↦ inl (omega arith) | inr l ↦ inr l ]) in
       search (x, x.tests, beside)
@@ -139,7 +138,7 @@ module _ {b now : List ℕ} {kind : Kind} {before : List VariableShape} {own : V
     vdr_keeps =
         let there = subst (In v) (sym same) (x.edit.sub v (tile good at)) in
         let outside = λ (n : ℕ) (lt : n < size_at b v) (out : OutsideFields (front ++ heads) n). (part n (n + 1) (aside front n out) (omega arith)).each (v + n) (omega arith) (omega arith) in
-        search (there, outside, vdr_size good at index_edit)
+        search (there, outside, of_index.vdr_size good at index_edit)
 
     cpr_stands : (m : ℕ) → In m own.cpr → Kept b now m
     cpr_stands m c = kept x.edit m cpr_type (behind_in good at m (cpr_behind own m c)) (is_a-type b s.records cpr_type m (Each-in (λ y. is_a b s.records cpr_type y ≡ true) own.cpr (fits good at).3 m c)) x.tests.cpr_clear

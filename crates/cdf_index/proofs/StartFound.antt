@@ -1,11 +1,8 @@
 -- The walk to the start of a search, from a node that is known or from the first one.
-use Rattle.cdf_index.proofs.Common.{HasIndex, In, InOrder, IsNode, List, Nodes, SomeNode, ap, arith, chain_reaches, index_at, inl, inr, link_to, nat_tests, no_node, node, record_number_limit, refl, sym, true, ℕ, ◌<◌, ◌∙◌, ◌≡◌, Meets}
-use Rattle.cdf_edits.specs.Index.Written.{top_chain}
+use Rattle.cdf_index.proofs.Common.{HasIndex, In, InOrder, IsNode, List, Nodes, SomeNode, ap, arith, chain_reaches, index_at, inl, inr, link_to, nat_tests, no_node, node, record_number_limit, refl, sym, true, ℕ, ◌<◌, ◌∙◌, ◌≡◌, Meets, top_chain, LeadsToStart, from_reached, Stop}
 use Rattle.cdf_index.proofs.EntriesLeft.{node_parts}
 use Rattle.cdf_index.proofs.FromReached.{Rest, Standing, behind, index_standing, link_there, rest_index, rest_node, rest_stands, whole}
 use Rattle.cdf_index.proofs.Leading.{counted_begun, reached_is}
-use Rattle.cdf_index.specs.Starting.{LeadsToStart, from_reached}
-use Rattle.cdf_index.specs.declared.descending.Stop.{Stop}
 
 known_rest : (m : ℕ) (ns : Nodes) → In m (top_chain ns) → (s : Nodes) × (Rest s ns × IsNode s × (m ≡ link_to s))
 known_rest m no_node i = absurd i

@@ -1,12 +1,10 @@
 -- The search for the next First, from level to level.
-use Rattle.cdf_index.proofs.Common.{AreInOrder, HasIndex, HasNodes, InOrder, List, NextsAreZero, Nodes, None, Option, [], append-nil, append_assoc, arith, chain_before, entry_firsts, filter, first_past, firsts_of, fold, index_at, least_first_past, length, link_to, ltb, min, nat_tests, next_first, no_node, node, nodes_of, number_within, past_entries, record_number_limit, refl, suc, sym, tiles, zero, ap, ℕ, ◌++◌, ◌+◌, ◌-◌, ◌∙◌, ◌∷◌, ◌≡◌, ◌≢◌, ◌≤◌, ChainWalked, first_after}
-use Rattle.cdf_edits.specs.Index.Written.{top_chain}
+use Rattle.cdf_index.proofs.Common.{AreInOrder, HasIndex, HasNodes, InOrder, List, NextsAreZero, Nodes, None, Option, [], append-nil, append_assoc, arith, chain_before, entry_firsts, filter, first_past, firsts_of, fold, index_at, least_first_past, length, link_to, ltb, min, nat_tests, next_first, no_node, node, nodes_of, number_within, past_entries, record_number_limit, refl, suc, sym, tiles, zero, ap, ℕ, ◌++◌, ◌+◌, ◌-◌, ◌∙◌, ◌∷◌, ◌≡◌, ◌≢◌, ◌≤◌, ChainWalked, first_after, top_chain, Chain}
 use Rattle.cdf_index.proofs.ByParts.{nodes_within}
 use Rattle.cdf_index.proofs.GoingDown.{chain_few}
 use Rattle.cdf_index.proofs.LeavesAscend.{end_before}
 use Rattle.cdf_index.proofs.LevelsDown.{lead_flat, level}
 use Rattle.cdf_index.proofs.Looking.{none_there}
-use Rattle.cdf_index.specs.declared.descending.Chain.{Chain}
 
 -- ---- numbers that climb, of which the first that is past a record is the least one
 

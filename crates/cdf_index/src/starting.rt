@@ -62,6 +62,7 @@ fn start_counted<A: Area, L: Ledger>(
 
 /// Where a search for a record may start in the index that a link leads to: at the last node of its top chain that has an entry which begins at the record or before it,
 /// at the first node where none has, and 0 where there is no node. A node of the top chain that is known saves the walk along those before it.
+#[tactic(auto, using(crate::proofs::FromReached::none_starts))]
 pub fn start_of<A: Area>(
     area: &mut A,
     head: u64,
