@@ -38,7 +38,7 @@ pub use Rattle.cdf_index.proofs.LeavesAscend.{leaves_ascend}
 pub use Rattle.cdf_index.proofs.NewIndex.{Exchanged, IndexTests, NewIndex, block_kept, index_edit, index_keeps, index_marks, max_rec_kept, node_room, own_edit, vdr_no_node}
 pub use Rattle.cdf_index.proofs.NodeFilled.{fills, has_room, node_short, node_sound}
 pub use Rattle.cdf_index.proofs.OneNode.{entry_past, same_node}
-pub use Rattle.cdf_index.proofs.OneVariable.{OneOf, among_all, one_of}
+pub use Rattle.cdf_index.proofs.OneVariable.{among_all, one_of}
 pub use Rattle.cdf_index.proofs.OwnRecords.{by_range, descriptor_allowed, node_allowed, parts_times}
 pub use Rattle.cdf_index.proofs.PlainBlocks.{Named, leaves_named}
 pub use Rattle.cdf_index.proofs.Saying.{count_both, lower_both, names_parts, no_entries}

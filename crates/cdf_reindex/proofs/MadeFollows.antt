@@ -87,9 +87,6 @@ module _ {b now : List ℕ} {kind : Kind} {before : List VariableShape} {own : V
   abbrev ie : IndexEdit b now kind own index new list (space ++ index_marks kind own.vdr nodes f) reborn
   ie = index_edit good at y
 
-  abbrev oe : OwnEdit b now kind own index new list (space ++ index_marks kind own.vdr nodes f) reborn
-  oe = own_edit good at y
-
   abbrev ls : List Leaf
   ls = leaves_of own.index
 
@@ -131,18 +128,15 @@ module _ {b now : List ℕ} {kind : Kind} {before : List VariableShape} {own : V
 
   -- ---- what the variable means, and all
 
-  means : variable_of now (with_index own index) ≡ variable_of b own
-  means =
-      let max = max_rec_kept good at y in
-      let all = ap (records_in now own.vdr) same ∙ records_alike (file good at ie) (vdr_alike good at ie) max ls (shape b).records (block_kept good at y) (fits good at).2 in
-      variable_stays (file good at ie) own (with_index own index) (stays good at ie) refl ∙ (λ i. record (variable_of b own) { max_rec = cast_signed w32 (max i); recs = all i })
-
   pub content_same : content now ≡ content b
   content_same =
+      let max = max_rec_kept good at y in
+      let recs = ap (records_in now own.vdr) same ∙ records_alike (file good at ie) (vdr_alike good at ie) max ls (shape b).records (block_kept good at y) (fits good at).2 in
+      let means : variable_of now (with_index own index) ≡ variable_of b own = variable_stays (file good at ie) own (with_index own index) (stays good at ie) refl ∙ (λ i. record (variable_of b own) { max_rec = cast_signed w32 (max i); recs = recs i }) in
       let all : variables_of (content b) kind ≡ map (variable_of b) before ++ variable_of b own ∷ map (variable_of b) after =
       ap (λ (d : DataSet). variables_of d kind) (content_is b (shape b) (sound good at).has_shape) ∙ variables_of_are b (shape b) kind ∙ ap (map (variable_of b)) at.was ∙ map-append (variable_of b) before (own ∷ after) in
       let itself : with_variables (content b) kind (variables_of (content b) kind) ≡ content b = elim kind as (λ k. with_variables (content b) k (variables_of (content b) k) ≡ content b) [ R ↦ refl | Z ↦ refl ] in
-      content_now (sound good at) (splices good at oe) ∙ ap (λ (w : Variable). with_variables (content b) kind (map (variable_of b) before ++ w ∷ map (variable_of b) after)) means ∙ ap (with_variables (content b) kind) (sym all) ∙ itself
+      content_now (sound good at) (splices good at (own_edit good at y)) ∙ ap (λ (w : Variable). with_variables (content b) kind (map (variable_of b) before ++ w ∷ map (variable_of b) after)) means ∙ ap (with_variables (content b) kind) (sym all) ∙ itself
 
 -- ---- the nodes are taken
 
@@ -224,9 +218,6 @@ module _ {b made : List ℕ} {kind : Kind} {before : List VariableShape} {own : 
 
     pub linked_long : length linked ≡ length made
     linked_long = ap length heads ∙ writes_long made rs (heads_marks kind v) (heads_written v index) t.grows.sound.has_shape.tiled some may_all
-
-    tail_is : number linked v vdr_vxr_tail ≡ link_to index
-    tail_is = ap (λ (y : List ℕ). number y v vdr_vxr_tail) heads ∙ field_reads _ v vdr_vxr_tail (link_to index) (tail_lies _ refl) x.small
 
     -- both edits at once
     grown : Edit b linked s.records rs (taking_all s.unused ps (vxr_bytes 64) ++ heads_marks kind v) ps
@@ -312,6 +303,7 @@ module _ {b made : List ℕ} {kind : Kind} {before : List VariableShape} {own : 
       tail_now : number now v vdr_vxr_tail ≡ last_node index
       tail_now =
           let there = t.grows.edit.sub v (tile good among) in
+          let tail_is = ap (λ (y : List ℕ). number y v vdr_vxr_tail) heads ∙ field_reads _ v vdr_vxr_tail (link_to index) (tail_lies _ refl) x.small in
           let type : type_at linked v ≡ type_in (variables_chain kind) = same_heads.types v there ∙ vdr_made.0 in
           let k = others_kept frees v there (λ e. (tests [] 0).no_gdr (sym type ∙ e)) (λ e. (tests [] 0).used (sym type ∙ e)) (λ i. vdr_no_node kind (sym (typed good among) ∙ node_typed v i)) in
           number_kept linked now v k.same vdr_vxr_tail (omega (arith, same_heads.sizes v there, vdr_made.1)) ∙ tail_is ∙ sym (last_is index x.nexts)
@@ -344,9 +336,6 @@ module _ {b made : List ℕ} {kind : Kind} {before : List VariableShape} {own : 
           let in_use = λ (m : ℕ) (i : In m ps) (u : type_at now m ≡ uir_type). apart vxr_type uir_type refl (sym (new_type m i) ∙ u) in
           search (rules, In-append, back, times_are, t.fresh_all, t.once, in_use, (has good among).indexed.once, all_freed frees)
 
-      end_now : eof now s.gdr ≡ length now
-      end_now = subst (λ (g : ℕ). eof now g ≡ length now) (ap (λ (y : Shape). y.gdr) t.grows.same_shape) (gdr_still frees gdr_eof (omega arith) ∙ gdr_field t.grows.sound heads_edit (tests [] 0).file_clear gdr_eof (tests [] 0).end_clear (omega arith) ∙ t.grows.end_is ∙ sym (freed_long frees))
-
       abbrev made_edit : OwnEdit b now kind own index (shape now).records (shape now).unused (index_made_marks kind v s.unused ps os (length linked)) (ps ++ os)
       made_edit = own_edit good among new_index
 
@@ -358,7 +347,9 @@ module _ {b made : List ℕ} {kind : Kind} {before : List VariableShape} {own : 
       vdrs_stay = by_kind (λ (k : Kind) (vs : List VariableShape). vdrs (shapes_of (shape now) k) ≡ vdrs (shapes_of s k)) kind s [] (ap vdrs among_now.was ∙ of_own_edit.same_vdrs good among made_edit) (ap vdrs (of_own_edit.others_are good among made_edit))
 
       pub good_now : length now ≤ image_limit → Good now
-      good_now short = changed_good good among new_index ps os exchanged (index_ruled good among new_index x.leaves_stay bare_now x.order short)
+      good_now short =
+          let end_now = subst (λ (g : ℕ). eof now g ≡ length now) (ap (λ (y : Shape). y.gdr) t.grows.same_shape) (gdr_still frees gdr_eof (omega arith) ∙ gdr_field t.grows.sound heads_edit (tests [] 0).file_clear gdr_eof (tests [] 0).end_clear (omega arith) ∙ t.grows.end_is ∙ sym (freed_long frees)) in
+          changed_good good among new_index ps os exchanged (index_ruled good among new_index x.leaves_stay bare_now x.order short)
           (λ m i. elim (In-append m ps os i) [ inl j ↦ ap (λ (k : ℕ). is_in k read_types) (new_type m j) | inr j ↦ ap (λ (k : ℕ). is_in k read_types) (all_freed frees m j) ]) end_now short
 
       -- ---- the acts
@@ -386,9 +377,6 @@ module _ {b made : List ℕ} {kind : Kind} {before : List VariableShape} {own : 
           let last : Same linked now (m + links_end (size_at b m)) (m + size_at b m) = subst (λ (n : ℕ). Same linked now (m + links_end n) (m + n)) (sym (sizes_before frees m i) ∙ same_size m i) (freeing_behind frees m i) in
           record { each = λ k low up. last.each k low up ∙ (node_linked m i).same.each k (omega arith) up }
 
-      freed : FreedStay b now no_fields done
-      freed = given_after b now done ps (gave b os) (freed_stay b now done os no_fields (sound_now frees).has_shape.tiled (λ m i. subst (In m) (sym (freed_records frees)) (freed_places frees m i)) freed_size behind)
-
       makes : IsNode own.index → MakesIndex b now own (with_index own index) done
       makes some =
           let fewest = x.fewest ∙ ap (λ leaves. nodes_above 8 (length leaves)) (sym x.leaves_stay) in
@@ -397,6 +385,7 @@ module _ {b made : List ℕ} {kind : Kind} {before : List VariableShape} {own : 
           let unused = Each-map (IsBare now) (UnusedEntries b now [] [] done) (λ m bare i low high. inl (bare.unused i low (subst (λ (n : ℕ). i < n) bare.room_is high))) (nodes_of index) bare_now in
           let spare = each (NodeSpareStays b now done) (nodes_of index) (λ m i free. absurd (true≢false (sym (taken_all m i) ∙ free))) in
           let tail = tail_now ∙ sym (ap (λ (p : Bool). if p then number b v vdr_vxr_tail else last_node index) (top_moves done own.index index some taken_all)) in
+          let freed : FreedStay b now no_fields done = given_after b now done ps (gave b os) (freed_stay b now done os no_fields (sound_now frees).has_shape.tiled (λ m i. subst (In m) (sym (freed_records frees)) (freed_places frees m i)) freed_size behind) in
           search (rules, x.leaves_stay, fewest, x.filled, wide, alone, unused, spare, tail, freed)
 
       -- ---- the command, which names the variable

@@ -108,8 +108,7 @@ module _ {b : List ℕ} {kind : Kind} {before : List VariableShape} {own : Varia
       let stands = has_pyramid ls p.root p.more p.are made (shape made).records 8 (omega (arith, pyramid.few few)) (leaves_named made (shape made).records 8 own.index has.indexed.has_nodes) stand.1 in
       let order = λ (o : InOrder 0 record_number_limit own.index). pyramid.order record_number_limit (ascend_order 0 record_number_limit ls (leaves_ascend 0 record_number_limit own.index o (omega arith))) in
       let each_taken = λ (m : ℕ). ap (times m) places ∙ sym (times_are m) in
-      let built : IsBuilt b made own (alone p.root) = search (arith, rules, pyramid.leaves_are, pyramid.filled, pyramid.fewest some few, pyramid.nexts, order, subst (AllTaken b made) (sym places) taken, each_taken, ap length places ∙ sym long, stands, rw p.place_is at small, bare, all_longest b made all p.made, long, length-map all (λ (new : NewNode). new.place)) in
-      record { index = alone p.root; link_is = p.place_is; built = built }
+      record { index = alone p.root; link_is = p.place_is; built = search (arith, rules, pyramid.leaves_are, pyramid.filled, pyramid.fewest some few, pyramid.nexts, order, subst (AllTaken b made) (sym places) taken, each_taken, ap length places ∙ sym long, stands, rw p.place_is at small, bare, all_longest b made all p.made, long, length-map all (λ (new : NewNode). new.place)) }
 
   pub tree_made : IndexMade b made (map leaf_words ls) top → TreeMade b made own top
   tree_made = go ls refl

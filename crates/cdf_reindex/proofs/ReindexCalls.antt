@@ -1,5 +1,5 @@
 -- What a good image gives for the calls by which the index of one of its variables is made anew, and what they come to.
-use Rattle.cdf_reindex.proofs.Common.{length-with_field, AllGiven, AreFree, Entry, Good, HasIndex, In, IndexMade, IsNode, IsRebuilt, IsSound, Kind, LiesIn, List, Nodes, OneOf, Reindexed, StandsAmong, VariableShape, [], among_all, ap, arith, fits, good_by_its_shape, good_image, good_index, good_is_sound, heads_written, image_limit, index_of, inl, inr, leaf_words, leaves_of, length, length-map, map, name_room, nil_from_length, no_node, node, nodes_of, number, one_of, refl, reindex_room, shape, subst, sym, variables, vdr_vxr_head, vdr_vxr_tail, vdrs, with_field, with_writes, ℕ, ◌+◌, ◌<◌, ◌^◌, ◌∙◌, ◌≡◌, ◌≤◌}
+use Rattle.cdf_reindex.proofs.Common.{length-with_field, AllGiven, AreFree, Entry, Good, HasIndex, In, IndexMade, IsNode, IsRebuilt, IsSound, Kind, LiesIn, List, Nodes, Reindexed, StandsAmong, VariableShape, [], among_all, ap, arith, fits, good_by_its_shape, good_image, good_index, good_is_sound, heads_written, image_limit, index_of, inl, inr, leaf_words, leaves_of, length, length-map, map, name_room, nil_from_length, no_node, node, nodes_of, number, one_of, refl, reindex_room, shape, subst, sym, variables, vdr_vxr_head, vdr_vxr_tail, vdrs, with_field, with_writes, ℕ, ◌+◌, ◌<◌, ◌^◌, ◌∙◌, ◌≡◌, ◌≤◌}
 use Rattle.cdf_reindex.proofs.MadeFollows.{good_now, lies, old_free, rebuilt, sound_linked}
 use Rattle.cdf_reindex.proofs.PyramidBuilt.{TreeMade, few_leaves, tree_made}
 
@@ -16,21 +16,20 @@ module _ (b : List ℕ) (good : Good b) where
       subst (λ (m : ℕ). HasIndex b (number b m vdr_vxr_head) × (index_of b m ≡ own.index)) is (good_index b (shape b) at.front own at.rest (good_image b (shape b) (good_by_its_shape b good)) (good_is_sound b good) at.all)
 
   module _ (vdr : ℕ) (i : In vdr (vdrs (variables (shape b)))) where
-    abbrev one : OneOf b vdr
-    one = one_of b vdr i
-
     -- VXRhead lies in the image, and leads to an index
     pub head_there : LiesIn b vdr vdr_vxr_head
-    head_there = omega (arith, name_room good one.among, one.vdr_is)
+    head_there = omega (arith, name_room good (one_of b vdr i).among, (one_of b vdr i).vdr_is)
 
     pub has_index : HasIndex b (number b vdr vdr_vxr_head)
-    has_index = (index_is one.among one.vdr_is).0
+    has_index = (index_is (one_of b vdr i).among (one_of b vdr i).vdr_is).0
 
     pub good_again : {limit : ℕ} {now : List ℕ} → length b + reindex_room (index_of b vdr) ≤ limit → limit ≤ image_limit → ((kind : Kind) (before : List VariableShape) (own : VariableShape) (after : List VariableShape) → StandsAmong b kind before own after → own.vdr ≡ vdr → Reindexed b now own) → Good now
-    good_again {now = now} fits most made = elim (made one.kind one.before one.own one.after one.among one.vdr_is) [
-      | inl same ↦ subst Good (sym same.1) good
-      | inr r ↦ good_now good one.among r.1.built r.1.heads now r.1.given (omega (arith, r.1.longest, ap reindex_room (index_is one.among one.vdr_is).1))
-    ]
+    good_again {now = now} fits most made =
+        let one = one_of b vdr i in
+        elim (made one.kind one.before one.own one.after one.among one.vdr_is) [
+          | inl same ↦ subst Good (sym same.1) good
+          | inr r ↦ good_now good one.among r.1.built r.1.heads now r.1.given (omega (arith, r.1.longest, ap reindex_room (index_is one.among one.vdr_is).1))
+        ]
 
     pub few : (leaves : List Entry) → leaves ≡ map leaf_words (leaves_of (index_of b vdr)) → length leaves ≤ 2147483648
     few leaves leaves_are = omega (arith, ap length leaves_are ∙ length-map (leaves_of (index_of b vdr)) leaf_words, few_leaves (index_of b vdr) has_index.order)
@@ -58,18 +57,15 @@ module _ (b : List ℕ) (good : Good b) (vdr : ℕ) {leaves : List Entry} (leave
     rebuilt_by {now = now} old head tail given = rebuilt good among tree.built (heads head tail) now (rw (old, (index_is b good among is).1) at given)
 
   module _ (i : In vdr (vdrs (variables (shape b)))) where
-    abbrev of : OneOf b vdr
-    of = one_of b vdr i
-
     pub head_written_there : LiesIn made vdr vdr_vxr_head
-    head_written_there = omega (arith, lies good of.among (tree of.among of.vdr_is).built vdr_vxr_head (omega arith), of.vdr_is)
+    head_written_there = omega (arith, lies good (one_of b vdr i).among (tree (one_of b vdr i).among (one_of b vdr i).vdr_is).built vdr_vxr_head (omega arith), (one_of b vdr i).vdr_is)
 
     pub tail_written_there : {first : List ℕ} → first ≡ with_field made vdr vdr_vxr_head top → LiesIn first vdr vdr_vxr_tail
-    tail_written_there head = omega (arith, ap length head ∙ length-with_field made vdr vdr_vxr_head top head_written_there, lies good of.among (tree of.among of.vdr_is).built vdr_vxr_tail (omega arith), of.vdr_is)
+    tail_written_there head = omega (arith, ap length head ∙ length-with_field made vdr vdr_vxr_head top head_written_there, lies good (one_of b vdr i).among (tree (one_of b vdr i).among (one_of b vdr i).vdr_is).built vdr_vxr_tail (omega arith), (one_of b vdr i).vdr_is)
 
     module _ {first linked : List ℕ} (head : first ≡ with_field made vdr vdr_vxr_head top) (tail : linked ≡ with_field first vdr vdr_vxr_tail top) where
       pub linked_sound : IsSound linked (shape linked)
-      linked_sound = sound_linked good of.among (tree of.among of.vdr_is).built (heads of.among of.vdr_is head tail)
+      linked_sound = sound_linked good (one_of b vdr i).among (tree (one_of b vdr i).among (one_of b vdr i).vdr_is).built (heads (one_of b vdr i).among (one_of b vdr i).vdr_is head tail)
 
       pub linked_free : {nodes : List ℕ} → nodes ≡ nodes_of (index_of b vdr) → AreFree linked nodes
-      linked_free old = rw (old, (index_is b good of.among of.vdr_is).1) (old_free good of.among (tree of.among of.vdr_is).built (heads of.among of.vdr_is head tail))
+      linked_free old = rw (old, (index_is b good (one_of b vdr i).among (one_of b vdr i).vdr_is).1) (old_free good (one_of b vdr i).among (tree (one_of b vdr i).among (one_of b vdr i).vdr_is).built (heads (one_of b vdr i).among (one_of b vdr i).vdr_is head tail))

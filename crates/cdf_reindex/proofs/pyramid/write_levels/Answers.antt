@@ -5,8 +5,7 @@ use Rattle.cdf_reindex.proofs.pyramid.write_levels.Goals as goal
 pub loop-alloc-init : goal.loop-alloc-init
 loop-alloc-init g c =
     let call = c.in_ok-level.ensures in
-    let some : 1 ≤ length c.in_ok-level.level.items = omega (arith, call.count, c.requires.some) in
-    search (rules, levels_first call.made, levels_left _ _ _ _ _ call.count call.longest c.requires.some c.requires.few c.requires.room, edit_once call.area)
+    search (arith, rules, call.count, c.requires.some, levels_first call.made, levels_left _ _ _ _ _ call.count call.longest c.requires.some c.requires.few c.requires.room, edit_once call.area)
 
 pub write_level-requires-in-loop-alloc-clause-room : goal.write_level-requires-in-loop-alloc-clause-room
 write_level-requires-in-loop-alloc-clause-room g c =
@@ -18,8 +17,8 @@ loop-alloc-preserved g c =
     let l = c.loop-alloc in
     let call = c.in_ok-level-2.ensures in
     let two : 2 ≤ length l.level.items = omega (arith, c.len.ensures, c.loop-alloc-test.true) in
-    let some : 1 ≤ length c.in_ok-level-2.level.items = omega (arith, call.count, ap length c.deref.ensures.value, two) in
-    search (rules, levels_more l.invariant.made two (rw c.deref.ensures.value at call.made), levels_next _ _ _ _ _ (rw c.deref.ensures.value at call.count) call.longest two l.invariant.room, edit_more l.invariant.area call.area)
+    let count = rw c.deref.ensures.value at call.count in
+    search (arith, rules, count, levels_more l.invariant.made two (rw c.deref.ensures.value at call.made), levels_next _ _ _ _ _ count call.longest two l.invariant.room, edit_more l.invariant.area call.area)
 
 pub returns-clause-made : goal.returns-clause-made
 returns-clause-made g c =
