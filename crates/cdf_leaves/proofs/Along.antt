@@ -1,76 +1,63 @@
 -- The nodes on a way are widened one by one, the last one first.
-use Rattle.cdf_leaves.proofs.Common.{All, AreTiles, Changed, Distinct, Each, Each-append, HasNodes, In, Kept, List, NodeFits, NodeInside, Nodes, Step, StepStands, Touch, WayStands, Widened, WidenedAlong, [], arith, cases_eq, changed_then, drop, edited, heads_stay, inl, inr, kept_then, leaves_of, length, map, node_head, nodes_of, nothing_changed, others_stay, places_of, refl, room_at, slice_index_or, step_pair, subst, suc, sym, tiles_same, touch, widen_all, wider, ℕ, ◌*◌, ◌++◌, ◌+◌, ◌<◌, ◌∙◌, ◌∷◌, ◌≡◌, ◌≤◌}
-use Rattle.std.proofs.lemmas.List.Elements.{All-cons, All-drop, All-nil}
-use Rattle.cdf_index.proofs.NodeWider.{wider_owed}
-use Rattle.cdf_leaves.proofs.NodesMore.{all_wider}
-use Rattle.cdf_leaves.proofs.Spares.{Spares, fits_still, kept_self, node_inside, spares_kept, spares_then, spares_widened}
+use Rattle.cdf_leaves.proofs.Common.{AreTiles, WidenedAlong, drop, map, step_pair, ◌+◌, ◌-◌, Each, Each-map, In, List, NodeFits, NodeInside, Step, StepStands, WayStands, Widened, arith, cases_eq, inl, inr, length, node_head, room_at, slice_index_or, suc, sym, used_count, zero, ℕ, ◌<◌, ◌∙◌, ◌∷◌, ◌≡◌, []}
+use Rattle.std.proofs.lemmas.List.{drop_more}
+use Rattle.cdf_index.proofs.TreeTouched.{Touched, touched}
+use Rattle.cdf_leaves.proofs.Spares.{Spares, fits_still, node_inside, spares_kept, spares_widened}
 
--- behind the type of a node of which this holds, up to its entries' end
-abbrev pub InNode : List ℕ → (ℕ → Type 0) → Touch → Type 0
-InNode b Y t = Y t.tile × (12 ≤ t.place) × (t.place + t.width ≤ 28 + 16 * room_at b t.tile)
+-- ---- one of them
 
--- what is left of the records, and what an index becomes, where this holds of each node on the way
-pub record Along (b now records : List ℕ) (Y : ℕ → Type 0) (last : ℕ) (steps : List (ℕ × ℕ)) : Type 0 where
+-- it alone is written, and behind its used entries it stays too
+pub record OneWider (mid now records : List ℕ) (x : ℕ) : Type 0 where
+  pub touches : Touched mid now records x
+  pub still : (m : ℕ) → In m records → NodeFits mid m → Spares mid now m
+
+pub one_wider : {mid now records : List ℕ} {x i last : ℕ} → AreTiles mid 8 (length mid) records → In x records → NodeFits mid x → i < used_count mid x → Widened mid now x i last → OneWider mid now records x
+one_wider {mid = mid} {now = now} {records = records} {x = x} {i = i} {last = last} tiled there fits used w =
+    let t = touched tiled there (omega arith) fits.0 w.changed w.as_long in
+    let lies = node_head (node_inside mid records x tiled there fits) in
+    record { touches = t; still = λ m j f. elim (cases_eq m x) [ inl q ↦ rw q (spares_widened mid now x i last w lies used) | inr ne ↦ spares_kept mid now m (t.others m j ne) f ] }
+
+-- ---- what the next one asks for
+
+each_at : {A : Type 0} (P : A → Type 0) (xs : List A) (k : ℕ) (none : A) → Each P xs → k < length xs → P (slice_index_or xs k none)
+each_at P [] k none e lt = absurd (omega arith)
+each_at P (x ∷ xs) zero none e lt = e.0
+each_at P (x ∷ xs) (suc k) none e lt = each_at P xs k none e.1 (omega arith)
+
+-- so many of the steps were taken, the last one first
+pub record Widening (b now : List ℕ) (last : ℕ) (steps : List Step) (turn : ℕ) : Type 0 where
+  pub stands : WayStands now steps
+  pub widened : WidenedAlong b now last (map step_pair (drop (length steps - turn) steps))
   pub as_long : length now ≡ length b
-  pub tiled : AreTiles now 8 (length now) records
-  pub touches : List Touch
-  pub changed : Changed b now touches
-  pub within : Each (InNode b Y) touches
-  pub still : (m : ℕ) → In m records → NodeFits b m → Spares b now m
-  pub others : (m : ℕ) → In m records → (Y m → ⊥) → Kept b now m
-  pub has : (tree : Nodes) → HasNodes b records 8 tree → Distinct (nodes_of tree) → ((m : ℕ) → In m (nodes_of tree) → In m records × NodeFits b m) → ((m : ℕ) → In m (places_of (leaves_of tree)) → In m records) → HasNodes now records 8 (widen_all last steps tree)
 
-abbrev pub OnWay : List ℕ → List ℕ → (ℕ → Type 0) → Step → Type 0
-OnWay b records Y step = StepStands b records step × Y step.place
+module _ {b mid : List ℕ} {last turn : ℕ} {steps : List Step} (w : Widening b mid last steps turn) (none : Step) (lt : turn < length steps) where
+  abbrev step : Step
+  step = slice_index_or steps (length steps - 1 - turn) none
 
-pub along : (b now records : List ℕ) (Y : ℕ → Type 0) (last : ℕ) (steps : List Step) → AreTiles b 8 (length b) records → All (OnWay b records Y) steps → WidenedAlong b now last (map step_pair steps) → Along b now records Y last (map step_pair steps)
-along b now records Y last [] tiled e w = rw w (record { as_long = refl; tiled = tiled; touches = []; changed = nothing_changed; within = tt; still = λ m i. spares_kept b b m (kept_self b records m tiled i); others = λ m i out. kept_self b records m tiled i; has = λ tree h once stand blocks. h })
-along b now records Y last (step ∷ more) tiled e w =
-    let mid = w.0 in
-    let x = step.place in
-    let n = 16 * room_at mid x in
-    let write : Widened mid now x step.entry last = w.1.1 in
-    let stands = e 0 step (omega arith) in
-    let there = stands.0.there in
-    let a = along b mid records Y last more tiled (λ k none lt. e (suc k) none (omega arith)) w.1.0 in
-    let here = a.still x there stands.0.fits in
-    let fits = fits_still b mid x here stands.0.fits in
-    let lies = node_head (node_inside mid records x a.tiled there fits) in
-    let heads = heads_stay mid now records a.tiled x 28 n there (omega arith) fits.0 write.changed in
-    let kept = others_stay mid now records a.tiled x 28 n there (omega arith) fits.0 write.changed in
-    record {
-      as_long = write.as_long ∙ a.as_long;
-      tiled = subst (λ (k : ℕ). AreTiles now 8 k records) (sym write.as_long) (tiles_same mid now 8 (length mid) records a.tiled heads.sizes);
-      touches = a.touches ++ touch x 28 n ∷ [];
-      changed = changed_then b mid now a.touches (touch x 28 n ∷ []) a.changed write.changed;
-      within = Each-append (InNode b Y) a.touches (touch x 28 n ∷ []) a.within ((stands.1, omega arith, omega (arith, here.room_is)), tt);
-      still = λ m i f. (let s = a.still m i f in spares_then b mid now m s (elim (cases_eq m x) [
-        | inl q ↦ rw q (spares_widened mid now x step.entry last write lies (omega (arith, here.used_is, stands.0.within)))
-        | inr ne ↦ spares_kept mid now m (kept m i ne) (fits_still b mid m s f)
-      ]));
-      others = λ m i out. kept_then b mid now m (a.others m i out) (kept m i (λ q. out (rw q stands.1)));
-      has = λ tree h once stand blocks. (let same = all_wider last (map step_pair more) tree in
-          edited mid now records x 28 n 8 (wider last x step.entry) (widen_all last (map step_pair more) tree) a.tiled there (omega arith) fits.0 write.changed (wider_owed mid now records records heads x step.entry last write fits.1 lies)
-          (a.has tree h once stand blocks) (subst Distinct (sym same.0) once) (λ m j. let k = stand m (subst (In m) same.0 j) in (k.0, fits_still b mid m (a.still m k.0 k.1) k.1)) (λ m j. blocks m (subst (In m) same.1 j)));
-    }
+  here : StepStands mid w.stands.records step
+  here = each_at (StepStands mid w.stands.records) steps (length steps - 1 - turn) none w.stands.stand (omega arith)
 
-pub all_of : {A : Type 0} (P : A → Type 0) (xs : List A) → Each P xs → All P xs
-all_of P [] e = All-nil P
-all_of P (x ∷ xs) e = All-cons P x xs e.0 (all_of P xs e.1)
+  pub next_inside : NodeInside mid step.place
+  next_inside = node_inside mid w.stands.records step.place w.stands.tiled here.there here.fits
 
--- what the next one asks for
-pub record IsNext (b mid : List ℕ) (step : Step) : Type 0 where
-  pub inside : NodeInside mid step.place
-  pub room_is : step.room ≡ room_at mid step.place
-  pub as_long : length mid ≡ length b
+  pub next_room : step.room ≡ room_at mid step.place
+  next_room = here.room_is
 
-pub next_step : (b mid : List ℕ) (last : ℕ) (steps : List Step) (j k : ℕ) (none : Step) → WayStands b steps → WidenedAlong b mid last (map step_pair (drop j steps)) → k < length steps → IsNext b mid (slice_index_or steps k none)
-next_step b mid last steps j k none ready w lt =
-    let records = ready.records in
-    let some = λ (m : ℕ). In m records in
-    let all = all_of (StepStands b records) steps ready.stand in
-    let s = along b mid records some last (drop j steps) ready.tiled (λ i d less. let e = All-drop (StepStands b records) j steps all i d less in (e, e.there)) w in
-    let here = all k none lt in
-    let place = (slice_index_or steps k none).place in
-    let x = s.still place here.there here.fits in
-    record { inside = node_inside mid records place s.tiled here.there (fits_still b mid place x here.fits); room_is = here.room_is ∙ sym x.room_is; as_long = s.as_long }
+  pub next_below : step.entry < step.room
+  next_below = omega (arith, here.room_is, here.within, here.fits.1)
+
+  pub widen_more : {now : List ℕ} → Widened mid now step.place step.entry last → Widening b now last steps (turn + 1)
+  widen_more {now = now} write =
+      let o = one_wider w.stands.tiled here.there here.fits here.within write in
+      let less : length steps - 1 - turn < length steps = omega arith in
+      let back : length steps - (turn + 1) ≡ length steps - 1 - turn = omega arith in
+      let on : length steps - turn ≡ length steps - 1 - turn + 1 = omega arith in
+      record {
+        stands = record {
+          records = w.stands.records;
+          tiled = o.touches.tiled;
+          stand = Each-map (StepStands mid w.stands.records) (StepStands now w.stands.records) (λ step s. let x = o.still step.place s.there s.fits in record { there = s.there; fits = fits_still mid now step.place x s.fits; room_is = s.room_is ∙ sym x.room_is; within = omega (arith, x.used_is, s.within) }) steps w.stands.stand;
+        };
+        widened = rw (back, drop_more steps (length steps - 1 - turn) none less) (mid, (rw on at w.widened, write));
+        as_long = write.as_long ∙ w.as_long;
+      }

@@ -1,5 +1,5 @@
 -- The nodes of an index some of whose entries end later.
-use Rattle.cdf_leaves.proofs.Common.{Distinct, Entries, In, Leaf, List, Nodes, [], ap, ap₂, arith, block, distinct_if, either, entry_leaves, in-times, inl, inr, leaves_of, lower, lower_nodes, ltb, map-append, nat_tests, new_room, no_entry, no_node, node, nodes_of, nodes_with_leaf, places_of, redo, redo_below, refl, suc, sym, times, times-once, widen_all, widened, wider, with_leaf, with_new, zero, ℕ, ◌++◌, ◌<◌, ◌∙◌, ◌∷◌, ◌≡◌, ◌⊎◌}
+use Rattle.cdf_leaves.proofs.Common.{Distinct, Entries, In, Leaf, List, Nodes, [], ap, ap₂, arith, block, distinct_if, entry_leaves, in-times, leaves_of, lower, lower_nodes, map-append, nat_tests, new_room, no_entry, no_node, node, nodes_of, nodes_with_leaf, places_of, redo, redo_below, refl, suc, sym, times, times-once, widen_all, widened, wider, with_leaf, with_new, zero, ℕ, ◌++◌, ◌<◌, ◌∙◌, ◌∷◌, ◌≡◌, ◌⊎◌}
 
 -- ---- an entry that ends later
 
@@ -45,10 +45,7 @@ all_wider last (step ∷ more) nodes =
 
 pub in_new : (l : Leaf) (m : ℕ) (ls : List Leaf) → In m (places_of (with_new l ls)) → (m ≡ l.place) ⊎ In m (places_of ls)
 in_new l m [] i = i
-in_new l m (x ∷ xs) i = elim (either (ltb l.first x.first)) [
-  | inl t ↦ rw t at i
-  | inr t ↦ let j : In m (x.place ∷ places_of (with_new l xs)) = rw t at i in elim j [ inl q ↦ inr (inl q) | inr k ↦ elim (in_new l m xs k) [ inl q ↦ inl q | inr r ↦ inr (inr r) ] ]
-]
+in_new l m (x ∷ xs) i = grind (arith, nat_tests, i, in_new l m xs)
 
 -- none stands in it twice, where the new one stood nowhere
 pub all_once : (index : Nodes) (l : Leaf) (at : ℕ) → Distinct (nodes_of index) → (0 < new_room l.first index → In at (nodes_of index) → ⊥) → Distinct (nodes_of (with_leaf l at index))

@@ -1,5 +1,5 @@
 -- The variable whose index gets a leaf, in the images in which records were taken.
-use Rattle.cdf_leaves.proofs.Common.{Begun, Each, Each-split, Good, Grew, HasIndex, HasVariable, In, Kept, Kind, List, NodeFits, R, SameNode, StandsAmong, VariableShape, Z, ap, apart, arith, each_in, eqb, false, first_at, fits, gdr_type, good_by_its_shape, good_is_sound, has, index_at, leaves_of, linkable-in, linkable-type, nodes_of, nodes_stand, number, places_of, record_number_limit, refl, same_node, shape, subst, sym, tile, type_at, type_in, type_kept, typed, uir_type, used_count, variables, variables_chain, vdr_vxr_head, vxr_type, ℕ, ◌++◌, ◌<◌, ◌∙◌, ◌∷◌, ◌≡◌, ◌≢◌}
+use Rattle.cdf_leaves.proofs.Common.{Begun, Each-split, Good, Grew, HasIndex, HasVariable, In, Kept, Kind, List, NodeFits, R, SameNode, StandsAmong, VariableShape, Z, ap, apart, arith, each_in, eqb, false, first_at, fits, gdr_type, good_by_its_shape, good_is_sound, has, index_at, leaves_of, linkable-in, linkable-type, nodes_of, nodes_stand, number, places_of, record_number_limit, refl, same_node, shape, subst, sym, tile, type_at, type_in, type_kept, typed, uir_type, used_count, variables, variables_chain, vdr_vxr_head, vxr_type, ℕ, ◌<◌, ◌∙◌, ◌∷◌, ◌≡◌, ◌≢◌}
 use Rattle.cdf_format.proofs.GoodImageLemmas.{good_image}
 use Rattle.cdf_edits.proofs.Edits.StandsAmong.{behind_in}
 use Rattle.cdf_edits.proofs.Edits.VariableCopied.{block_behind}
@@ -7,9 +7,6 @@ use Rattle.cdf_index.proofs.GoodIndex.{good_index}
 use Rattle.cdf_leaves.proofs.Spares.{Spares, spares_kept}
 pub use Rattle.cdf_index.proofs.OneVariable.{AmongAll, among_all}
 use Rattle.cdf_index.specs.Order.{InOrder}
-
-the_own : {A : Type 0} (P : A → Type 0) (vs front : List A) (own : A) (rest : List A) → vs ≡ front ++ own ∷ rest → Each P vs → P own
-the_own P vs front own rest all e = (Each-split P front (own ∷ rest) (subst (Each P) all e)).1.0
 
 -- the type of a descriptor is another one
 pub no_type : (kind : Kind) (t : ℕ) → eqb (type_in (variables_chain R)) t ≡ false → eqb (type_in (variables_chain Z)) t ≡ false → type_in (variables_chain kind) ≢ t
@@ -37,7 +34,7 @@ module _ {b : List ℕ} {kind : Kind} {before : List VariableShape} {own : Varia
 
   module _ {now : List ℕ} (g : Grew b now) where
     pub now_has : HasVariable now (shape now).records own
-    now_has = the_own (HasVariable now (shape now).records) (variables (shape now)) among.front own among.rest (ap variables g.shape_is ∙ among.all) g.sound.has_shape.have_variables
+    now_has = (Each-split (HasVariable now (shape now).records) among.front (own ∷ among.rest) (rw (ap variables g.shape_is ∙ among.all) at g.sound.has_shape.have_variables)).1.0
 
     pub now_blocks : (m : ℕ) → In m (places_of (leaves_of own.index)) → In m (shape now).records
     now_blocks m i = g.sub m (behind_in good at m (block_behind own m i))
@@ -58,11 +55,8 @@ module _ {b : List ℕ} {kind : Kind} {before : List VariableShape} {own : Varia
     pub still_begun : {f m p : ℕ} → Begun b m f p → In m (nodes_of own.index) → Begun now m f p
     still_begun {m = m} {p = p} s i =
         let n = node_same m i in
-        let fits = (node_fits m i).1 in
-        let first : (j : ℕ) → j < used_count b m → first_at now m j ≡ first_at b m j = λ j lt. (n.entries j (omega arith) _ _ _ (record { first_is = refl; last_is = refl; offset_is = refl })).first_is in
-        let most = s.most in
-        let used = n.used_is in
-        record { before = λ j lt. rw (first j (omega arith)) (s.before j lt); most = omega arith; stop = λ lt. rw (first p (omega arith)) (s.stop (omega arith)) }
+        let first : (j : ℕ) → j < used_count b m → first_at now m j ≡ first_at b m j = λ j lt. (n.entries j (omega (arith, (node_fits m i).1)) _ _ _ (record { first_is = refl; last_is = refl; offset_is = refl })).first_is in
+        record { before = λ j lt. rw (first j (omega (arith, s.most))) (s.before j lt); most = omega (arith, n.used_is, s.most); stop = λ lt. rw (first p (omega (arith, n.used_is))) (s.stop (omega (arith, n.used_is))) }
 
     pub vdr_kept : Kept b now own.vdr
     vdr_kept = g.kept own.vdr (tile good at) (λ u. no_type kind uir_type refl refl (sym (typed good at) ∙ u)) (λ u. no_type kind gdr_type refl refl (sym (typed good at) ∙ u))

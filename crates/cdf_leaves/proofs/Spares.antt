@@ -1,5 +1,5 @@
 -- Nodes that stay but for their used entries.
-use Rattle.cdf_leaves.proofs.Common.{AreTiles, FieldSet, In, Kept, List, NodeFits, NodeInside, StillSays, Widened, arith, counts, entries_beside, fits, front_stays, inl, inr, length, number, refl, room_at, room_beside, room_stays, same_node, size_at, size_beside, tile_lies, used_count, used_stays, vxr_n_used_entries, vxr_vxr_next, ℕ, ◌*◌, ◌+◌, ◌<◌, ◌∙◌, ◌≡◌, ◌≤◌}
+use Rattle.cdf_leaves.proofs.Common.{AreTiles, FieldSet, In, Kept, List, NodeFits, NodeInside, StillSays, Widened, arith, counts, entries_beside, front_stays, inl, inr, length, number, room_at, room_beside, room_stays, same_node, size_at, size_beside, tile_lies, used_count, used_stays, vxr_n_used_entries, vxr_vxr_next, ℕ, ◌*◌, ◌+◌, ◌<◌, ◌∙◌, ◌≡◌, ◌≤◌}
 
 -- a node is as it was but for its used entries
 pub record Spares (mid now : List ℕ) (m : ℕ) : Type 0 where
@@ -41,10 +41,6 @@ spares_widened mid now m i last w lies used = record {
   count_is = front_stays mid now m 28 (16 * room_at mid m) w.changed lies 24 4 (omega arith);
   spare = λ j le lt. w.others j lt (λ e. absurd (omega arith));
 }
-
--- a record of which nothing was written
-pub kept_self : (b records : List ℕ) (m : ℕ) → AreTiles b 8 (length b) records → In m records → Kept b b m
-kept_self b records m tiled i = let l = tile_lies b 8 (length b) records m tiled i in record { same = record { each = λ n a u. refl }; inside = l.high; long = l.long }
 
 -- where it stands
 pub node_inside : (b records : List ℕ) (m : ℕ) → AreTiles b 8 (length b) records → In m records → NodeFits b m → NodeInside b m

@@ -1,26 +1,5 @@
--- The top chain of an index that gets a leaf, and its end in the bytes.
-use Rattle.cdf_leaves.proofs.Common.{AreTiles, ChainInside, Comes, Distinct, Distinct-back, HasNodes, In, In-append_right, IsNode, Leaf, List, Nodes, Some, [], ap, arith, chain_end, comes_along, comes_below, comes_first, comes_here, eq-eqb, inl, inr, is_linkable, last_node, length, link_to, linkable-in, linkable-long, lower_nodes, ne_eqb, next_of, no_node, node, nodes_of, refl, some_place, suc, sym, tile_lies, top_chain, true, unwrap_or, vxr_type, zero, ℕ, ◌+◌, ◌-◌, ◌<◌, ◌∙◌, ◌∷◌, ◌≡◌, ◌≢◌, ◌≤◌, ◌⊎◌}
-use Rattle.std.specs.List.{last_or}
-use Rattle.cdf_format.proofs.Members.{length-le_from_distinct}
-use Rattle.cdf_format.proofs.TilesLemmas.{length_tiles}
-
--- ---- in the tree
-
--- what a leaf more leaves of the first node, and of the chain behind it
-pub record TopGrown (w : List (ℕ × ℕ)) (n : ℕ) (before after : Nodes) : Type 0 where
-  pub link_is : link_to after ≡ link_to before
-  pub is_node : IsNode after
-  pub stays : (n ≡ 0) ⊎ (w ≢ []) → top_chain after ≡ top_chain before
-  pub grows : w ≡ [] → n ≢ 0 → length (top_chain after) ≡ suc (length (top_chain before))
-
-pub top_grown : {l : Leaf} {at : ℕ} {w : List (ℕ × ℕ)} {x n : ℕ} {ns ns' : Nodes} → Comes l at w x n ns ns' → x ≢ 0 → TopGrown w n ns ns'
-top_grown comes_first some = absurd (some refl)
-top_grown (comes_along {place = place} t c) some = let r = top_grown c some in record { link_is = refl; is_node = tt; stays = λ h. ap (λ (xs : List ℕ). place ∷ xs) (r.stays h); grows = λ e n. ap suc (r.grows e n) }
-top_grown (comes_below fs first last nodes nodes' es t le r c) some = record { link_is = refl; is_node = tt; stays = λ h. refl; grows = λ e. absurd (cc) }
-top_grown {l = l} {at = at} (comes_here {place = place} {room = room} {es = es} {more = more} t d) some =
-    record { link_is = grind arith; is_node = grind arith; stays = λ h. elim h [ inl z ↦ grind arith | inr ne ↦ absurd (ne refl) ]; grows = λ e n. grind arith }
-
--- ---- in the bytes
+-- The top chain of an index in the bytes, followed link by link to its last node.
+use Rattle.cdf_leaves.proofs.Common.{AreTiles, EndsIn, HasEnd, HasNodes, IsEnd, TailSet, vdr_vxr_tail, with_field, In, In-append_right, IsNode, List, Nodes, arith, inl, inr, is_linkable, last_node, length, length-append, link_to, linkable-in, linkable-long, lower_nodes, next_of, no_node, node, nodes_of, refl, some_place, suc, sym, tile_lies, top_chain, true, vxr_type, zero, ℕ, ◌+◌, ◌-◌, ◌<◌, ◌^◌, ◌∙◌, ◌≡◌, ◌≢◌, ◌≤◌}
 
 pub chain_in : (nodes : Nodes) (m : ℕ) → In m (top_chain nodes) → In m (nodes_of nodes)
 unfolding nodes_of lower_nodes
@@ -28,56 +7,56 @@ chain_in no_node m i = i
 chain_in (node place room es more) m (inl e) = inl e
 chain_in (node place room es more) m (inr i) = inr (In-append_right m (lower_nodes es) (nodes_of more) (chain_in more m i))
 
-chain_once : (nodes : Nodes) → Distinct (nodes_of nodes) → Distinct (top_chain nodes)
-unfolding nodes_of lower_nodes
-chain_once no_node d = tt
-chain_once (node place room es more) d = ((λ i. d.0 (In-append_right place (lower_nodes es) (nodes_of more) (chain_in more place i))), chain_once more (Distinct-back (lower_nodes es) (nodes_of more) d.1))
+-- ---- one node of it
 
-module _ (b ts : List ℕ) (tiled : AreTiles b 8 (length b) ts) where
-  in_image : (m : ℕ) → is_linkable b ts vxr_type m ≡ true → m + 20 ≤ length b
-  in_image m l = omega (arith, (tile_lies b 8 (length b) ts m tiled (linkable-in b ts vxr_type m l)).high, linkable-long b ts vxr_type m l)
+pub record Follows (b : List ℕ) (most here last : ℕ) : Type 0 where
+  pub left : 0 < most
+  pub inside : here + 20 ≤ length b
+  pub ends : next_of b here ≡ 0 → here ≡ last
+  pub goes_on : next_of b here ≢ 0 → EndsIn b (most - 1) (next_of b here) last
 
-  -- what a walk along it asks for, and what it finds
-  pub chain_walked : (most levels : ℕ) (nodes : Nodes) → HasNodes b ts levels nodes → IsNode nodes → ChainInside most b (link_to nodes) × (length (top_chain nodes) ≤ most → chain_end most b (link_to nodes) ≡ last_node nodes)
-  unfolding HasNodes
-  chain_walked most levels no_node h is = absurd is
-  chain_walked zero levels (node place room es more) h is = (tt, λ le. absurd (omega arith))
-  chain_walked (suc most) zero (node place room es more) h is = absurd h
-  chain_walked (suc most) (suc levels) (node place room es no_node) h is = let t = eq-eqb (next_of b place) 0 h.0.next_is in ((in_image place h.0.linkable, λ n. absurd (n h.0.next_is)), λ le. rw t refl)
-  chain_walked (suc most) (suc levels) (node place room es (node p r fs more)) h is =
-      let rest = chain_walked most (suc levels) (node p r fs more) h.2 tt in
-      let t = ne_eqb (next_of b place) 0 (λ z. some_place b ts (length b) p tiled (linkable-in b ts vxr_type p h.2.0.linkable) (sym h.0.next_is ∙ z)) in
-      ((in_image place h.0.linkable, λ n. rw h.0.next_is rest.0), λ le. rw (t, h.0.next_is) (rest.1 (omega arith)))
+lies : (b ts : List ℕ) (m : ℕ) → AreTiles b 8 (length b) ts → is_linkable b ts vxr_type m ≡ true → m + 20 ≤ length b
+lies b ts m tiled l = omega (arith, (tile_lies b 8 (length b) ts m tiled (linkable-in b ts vxr_type m l)).high, linkable-long b ts vxr_type m l)
 
-  pub end_is_last : (levels : ℕ) (nodes : Nodes) → HasNodes b ts levels nodes → IsNode nodes → Distinct (nodes_of nodes) → ((m : ℕ) → In m (nodes_of nodes) → In m ts) → chain_end (length b) b (link_to nodes) ≡ last_node nodes
-  end_is_last levels nodes h is once stand =
-      let few = length-le_from_distinct (top_chain nodes) ts (chain_once nodes once) (λ m i. stand m (chain_in nodes m i)) in
-      (chain_walked (length b) levels nodes h is).1 (omega (arith, few, length_tiles b 8 (length b) ts tiled))
+follow : (b ts : List ℕ) (levels most : ℕ) (nodes : Nodes) → AreTiles b 8 (length b) ts → HasNodes b ts levels nodes → IsNode nodes → length (nodes_of nodes) ≤ most → Follows b most (link_to nodes) (last_node nodes)
+unfolding HasNodes nodes_of
+follow b ts levels most no_node tiled h is few = absurd is
+follow b ts zero most (node place room es more) tiled h is few = absurd h
+follow b ts (suc levels) most (node place room es no_node) tiled h is few = record { left = omega arith; inside = lies b ts place tiled h.0.linkable; ends = λ z. refl; goes_on = λ n. absurd (n h.0.next_is) }
+follow b ts (suc levels) most (node place room es (node p r fs more)) tiled h is few = record {
+  left = omega arith;
+  inside = lies b ts place tiled h.0.linkable;
+  ends = λ z. absurd (some_place b ts (length b) p tiled (linkable-in b ts vxr_type p h.2.0.linkable) (sym h.0.next_is ∙ z));
+  goes_on = λ n. record { tiles = ts; levels = suc levels; nodes = node p r fs more; tiled = tiled; has = h.2; is_node = tt; link_is = h.0.next_is; last_is = refl; few = omega (arith, length-append (lower_nodes es) (nodes_of (node p r fs more))) };
+}
 
-last_one : (p : ℕ) (xs : List ℕ) → In (unwrap_or (last_or (Some p) xs) 0) (p ∷ xs)
-last_one p [] = inl refl
-last_one p (x ∷ xs) = inr (last_one x xs)
+follows : {b : List ℕ} {most here last : ℕ} → EndsIn b most here last → Follows b most here last
+follows {b = b} {most = most} e = rw (e.link_is, ← e.last_is) (follow b e.tiles e.levels most e.nodes e.tiled e.has e.is_node e.few)
 
-pub last_in : (nodes : Nodes) → IsNode nodes → In (last_node nodes) (nodes_of nodes)
-last_in no_node is = absurd is
-last_in (node place room es more) is = chain_in (node place room es more) (last_node (node place room es more)) (last_one place (top_chain more))
+-- ---- the walk along it, in an image that is as it was
 
--- ---- followed to its end
-
+-- after so many turns it is at a node from which it comes to the same end
 pub record Following (b : List ℕ) (at turn here : ℕ) : Type 0 where
-  pub inside : ChainInside (length b - turn) b here
-  pub same : chain_end (length b - turn) b here ≡ chain_end (length b) b at
+  pub leads : (last : ℕ) → EndsIn b (length b) at last → EndsIn b (length b - turn) here last
 
--- a link was read, in an image that is as it was
-module _ {b now : List ℕ} {at turn here next : ℕ} (f : Following b at turn here) (lt : turn < length b) (same : now ≡ b) (value : next ≡ next_of now here) where
-  one_less : length b - turn ≡ suc (length b - (turn + 1))
-  one_less = omega arith
+module _ {b now : List ℕ} {at turn here : ℕ} (f : Following b at turn here) (same : now ≡ b) where
+  pub inside_now : HasEnd b at → here + 20 ≤ length now
+  inside_now h = rw same (follows (f.leads h.0 h.1)).inside
 
-  is_next : next_of b here ≡ next
-  is_next = ap (λ (x : List ℕ). next_of x here) (sym same) ∙ sym value
+  pub follow_done : length b ≤ turn → IsEnd b at here
+  follow_done done = record { is = λ last e. absurd (omega (arith, (follows (f.leads last e)).left)) }
 
-  pub follow_end : next ≡ 0 → here ≡ chain_end (length b) b at
-  follow_end z = let t = eq-eqb (next_of b here) 0 (is_next ∙ z) in rw (one_less, t) at f.same
+  module _ {next : ℕ} (value : next ≡ next_of now here) where
+    is_next : next ≡ next_of b here
+    is_next = rw same at value
 
-  pub follow_more : next ≢ 0 → Following b at (turn + 1) next
-  follow_more n = rw (← is_next) (let n' : next_of b here ≢ 0 = λ z. n (sym is_next ∙ z) in let t = ne_eqb (next_of b here) 0 n' in record { inside = (rw one_less at f.inside).1 n'; same = rw (one_less, t) at f.same })
+    pub follow_end : next ≡ 0 → IsEnd b at here
+    follow_end z = record { is = λ last e. (follows (f.leads last e)).ends (sym is_next ∙ z) }
+
+    pub follow_more : next ≢ 0 → Following b at (turn + 1) next
+    follow_more n =
+        let less : length b - turn - 1 ≡ length b - (turn + 1) = omega arith in
+        record { leads = λ last e. rw (is_next, ← less) ((follows (f.leads last e)).goes_on (λ z. n (is_next ∙ z))) }
+
+pub tail_set : {b mid now : List ℕ} {vdr at end : ℕ} → IsEnd b at end → mid ≡ b → end < 256 ^ 8 → now ≡ with_field mid vdr vdr_vxr_tail end → TailSet b now vdr at
+tail_set {end = end} ends same small e = record { end = end; ends = ends; small = small; written = rw (← same) e }

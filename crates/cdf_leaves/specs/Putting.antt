@@ -1,9 +1,9 @@
 -- An entry that is put into a node or into a new one behind it, step by step (CDF Internal Format Description, "Variable Index Record"; own: where it goes).
-use Rattle.std.specs.Prelude.{◌≡◌, ◌⊎◌, ◌<◌, ◌≤◌, ℕ, ◌+◌, ◌-◌, max, List, [], ◌∷◌, length}
+use Rattle.std.specs.Prelude.{◌≡◌, ◌⊎◌, ◌<◌, ◌≤◌, ℕ, ◌+◌, ◌-◌, ◌^◌, max, List, [], ◌∷◌, length}
 use Rattle.cdf_edits.specs.Space.Placing.{Fills}
 use Rattle.cdf_edits.specs.Index.Grown.{new_entries}
 use Rattle.cdf_format.specs.Chains.{next_of}
-use Rattle.cdf_format.specs.Fields.{eof, gdr_offset, type_at, with_field}
+use Rattle.cdf_format.specs.Fields.{type_at, with_field}
 use Rattle.cdf_format.specs.Index.{room_at, used_count}
 use Rattle.cdf_format.specs.Records.{vdr_vxr_head, vdr_vxr_tail, vxr_vxr_next, vxr_bytes}
 use Rattle.cdf_format.specs.RecordTypes.{vxr_type}
@@ -24,7 +24,6 @@ pub record NodeMade (b now : List ℕ) (room next : ℕ) (entries : List Entry) 
 -- an entry may be put into a node, which was seen like this
 pub record MayPut (b : List ℕ) (seen : Spot) : Type 0 where
   pub sound : IsSound b (shape b)
-  pub ends : eof b (gdr_offset b) ≡ length b
   pub there : In seen.place (shape b).records
   pub typed : type_at b seen.place ≡ vxr_type
   pub fits : NodeFits b seen.place
@@ -46,6 +45,7 @@ pub record ChainMade (b now : List ℕ) (seen : Spot) (new : Entry) (at : ℕ) :
   pub roomy : List ℕ
   pub made : NodeMade b roomy new_entries seen.next (new ∷ []) at
   pub linked : now ≡ with_field roomy seen.place vxr_vxr_next at
+  pub small : at < 256 ^ vxr_vxr_next.width
 
 -- the entry was put, and this is the new node, 0 for none
 abbrev pub EntryPut : List ℕ → List ℕ → Spot → Entry → ℕ → Type 0
@@ -59,3 +59,4 @@ pub record IndexStarted (b now : List ℕ) (vdr : ℕ) (new : Entry) : Type 0 wh
   pub roomy : List ℕ
   pub made : NodeMade b roomy new_entries 0 (new ∷ []) at
   pub linked : now ≡ with_field (with_field roomy vdr vdr_vxr_head at) vdr vdr_vxr_tail at
+  pub small : at < 256 ^ vdr_vxr_head.width

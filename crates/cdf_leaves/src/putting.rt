@@ -19,17 +19,19 @@ use std::alloc::Global;
 
 /// Puts an entry into a full node before others, which go to a new node behind it. Gives the new node.
 /// After an error a part of this may have been done.
-#[tactic(auto, using(crate::proofs::PutSteps::inside_before, crate::proofs::PutSteps::stays_there))]
+#[tactic(auto, using(crate::proofs::PutSteps::inside_before, crate::proofs::PutSteps::inside_made, crate::proofs::PutSteps::room_made, crate::proofs::PutSteps::used_made, cdf_area::proofs::Calls::edit_done, cdf_area::proofs::Calls::edit_failed, cdf_area::proofs::Calls::edit_more, cdf_area::proofs::Calls::keeps_by_read, cdf_area::proofs::Calls::read_once))]
 fn split_node<A: Area>(
     alloc: Global,
     area: &mut A,
     end: Spot,
     entry: Entry,
 ) -> Result<u64, AreaError>
+    requires eof { eof (A.image area.old) (gdr_offset (A.image area.old)) ≡ length (A.image area.old) }
     requires end { MayPut (A.image area.old) end }
     requires behind { end.begun < end.used }
     requires room { length (A.image area.old) + vxr_bytes (max new_entries end.room) ≤ (A.frame area.old).limit }
     requires limit { (A.frame area.old).limit ≤ image_limit }
+    ensures longest { OnOk result (length (A.image area.new) ≤ length (A.image area.old) + vxr_bytes (max new_entries end.room)) }
     ensures split { IfOk result (SplitMade (A.image area.old) (A.image area.new) end entry) }
     ensures area { Edits A.frame A.faults area.old area.new result }
 {
@@ -44,9 +46,11 @@ fn split_node<A: Area>(
 /// After an error a part of this may have been done.
 #[tactic(auto, using(crate::proofs::PutSteps::next_lies))]
 fn chain_node<A: Area>(area: &mut A, end: Spot, entry: Entry) -> Result<u64, AreaError>
+    requires eof { eof (A.image area.old) (gdr_offset (A.image area.old)) ≡ length (A.image area.old) }
     requires end { MayPut (A.image area.old) end }
     requires room { length (A.image area.old) + vxr_bytes new_entries ≤ (A.frame area.old).limit }
     requires limit { (A.frame area.old).limit ≤ image_limit }
+    ensures longest { OnOk result (length (A.image area.new) ≤ length (A.image area.old) + vxr_bytes new_entries) }
     ensures chained { IfOk result (ChainMade (A.image area.old) (A.image area.new) end entry) }
     ensures area { Edits A.frame A.faults area.old area.new result }
 {
@@ -64,9 +68,11 @@ pub fn put_entry<A: Area>(
     end: Spot,
     entry: Entry,
 ) -> Result<u64, AreaError>
+    requires eof { eof (A.image area.old) (gdr_offset (A.image area.old)) ≡ length (A.image area.old) }
     requires end { MayPut (A.image area.old) end }
     requires room { length (A.image area.old) + vxr_bytes (max new_entries end.room) ≤ (A.frame area.old).limit }
     requires limit { (A.frame area.old).limit ≤ image_limit }
+    ensures longest { OnOk result (length (A.image area.new) ≤ length (A.image area.old) + vxr_bytes (max new_entries end.room)) }
     ensures put { IfOk result (EntryPut (A.image area.old) (A.image area.new) end entry) }
     ensures area { Edits A.frame A.faults area.old area.new result }
 {

@@ -2,21 +2,20 @@
 
 ghost use Rattle.std.specs.Prelude.{◌≡◌, ◌+◌, ◌≤◌, length, IfOk, OnOk};
 ghost use Rattle.cdf_area.specs.Calls.{Edits, Reads};
-ghost use Rattle.cdf_format.specs.Fields.{with_field};
 ghost use Rattle.cdf_format.specs.Records.{past, vdr_vxr_tail};
 ghost use Rattle.cdf_model.specs.Limits.{image_limit};
-ghost use Rattle.cdf_leaves.specs.Tail.{ChainInside, chain_end};
+ghost use Rattle.cdf_leaves.specs.Tail.{HasEnd, IsEnd, TailSet};
 
 use cdf_area::{Area, AreaError};
 use cdf_format::fields::{VDR_VXR_TAIL, VXR_VXR_NEXT};
 use cdf_records::{read_unsigned8, set_unsigned8};
 
 /// The last node of a chain of nodes.
-#[tactic(auto, using(crate::proofs::TopChain::follow_end))]
+#[tactic(auto, using(crate::proofs::TopChain::follow_done, crate::proofs::TopChain::follow_end, crate::proofs::TopChain::follow_more, crate::proofs::TopChain::inside_now))]
 fn last_of_chain<A: Area>(area: &mut A, at: u64) -> Result<u64, AreaError>
-    requires chain { ChainInside (length (A.image area.old)) (A.image area.old) at }
+    requires chain { HasEnd (A.image area.old) at }
     requires short { length (A.image area.old) ≤ image_limit }
-    ensures last { IfOk result (λ end. end ≡ chain_end (length (A.image area.old)) (A.image area.old) at) }
+    ensures last { IfOk result (IsEnd (A.image area.old) at) }
     ensures area { Reads A.image A.frame A.faults A.edited area.old area.new result }
 {
     let mut here = at;
@@ -30,14 +29,16 @@ fn last_of_chain<A: Area>(area: &mut A, at: u64) -> Result<u64, AreaError>
     Ok(here)
 }
 
-/// Writes VXRtail of the descriptor at a place, the last node of the top chain of its index.
-pub fn set_tail<A: Area>(area: &mut A, vdr: u64, head: u64) -> Result<(), AreaError>
-    requires chain { ChainInside (length (A.image area.old)) (A.image area.old) head }
+/// Writes VXRtail of the descriptor at a place: the last node of the top chain of its index, found from one of its nodes on.
+#[tactic(auto, using(crate::proofs::TopChain::tail_set, cdf_area::proofs::Calls::edit_done, cdf_area::proofs::Calls::edit_failed, cdf_area::proofs::Calls::edit_more, cdf_area::proofs::Calls::edits_by_read, cdf_area::proofs::Calls::edits_by_write, cdf_area::proofs::Calls::keeps_by_read, cdf_area::proofs::Calls::read_once))]
+pub fn set_tail<A: Area>(area: &mut A, vdr: u64, at: u64) -> Result<(), AreaError>
+    requires chain { HasEnd (A.image area.old) at }
     requires lies { vdr + past vdr_vxr_tail ≤ length (A.image area.old) }
     requires short { length (A.image area.old) ≤ image_limit }
-    ensures set { OnOk result (A.image area.new ≡ with_field (A.image area.old) vdr vdr_vxr_tail (chain_end (length (A.image area.old)) (A.image area.old) head)) }
+    ensures set { OnOk result (TailSet (A.image area.old) (A.image area.new) vdr at) }
     ensures area { Edits A.frame A.faults area.old area.new result }
 {
-    let end = last_of_chain(area, head)?;
-    set_unsigned8(area, vdr, VDR_VXR_TAIL, end)
+    let end = last_of_chain(area, at)?;
+    set_unsigned8(area, vdr, VDR_VXR_TAIL, end)?;
+    Ok(())
 }

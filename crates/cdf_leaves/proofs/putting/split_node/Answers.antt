@@ -1,12 +1,5 @@
 use Rattle.cdf_leaves.proofs.Common.{edit_done, edit_failed, edit_more, keeps_by_read, read_once}
-use Rattle.cdf_leaves.proofs.PutSteps.{stays_there}
 use Rattle.cdf_leaves.proofs.putting.split_node.Goals as goal
-
-pub shorten_node-requires-clause-inside : goal.shorten_node-requires-clause-inside
-shorten_node-requires-clause-inside g c = (stays_there c.in_ok-behind.ensures.area.image c.requires.end c.in_ok-at.ensures.made).inside
-
-pub shorten_node-requires-clause-room : goal.shorten_node-requires-clause-room
-shorten_node-requires-clause-room g c = (stays_there c.in_ok-behind.ensures.area.image c.requires.end c.in_ok-at.ensures.made).room_is
 
 pub returns-in_err-shorten_node-clause-area : goal.returns-in_err-shorten_node-clause-area
 returns-in_err-shorten_node-clause-area g c = edit_failed (edit_more (keeps_by_read (read_once c.in_ok-behind.ensures.area)) c.in_ok-at.ensures.area) c.in_err-shorten_node.ensures.area c.from_residual-in_err-shorten_node.ensures.1
