@@ -1,8 +1,8 @@
 -- The walk over a whole chain, with what is below it.
-use Rattle.cdf_index.proofs.Common.{AreTiles, Grew, HasIndex, List, Met, Nodes, SomeChain, SomeNode, Stands, [], ap, append-nil, append_assoc, arith, cases_eq, first_at, index_at, inl, inr, last_at, length, link_to, met_below, met_block, met_in, met_node, next_of, nodes_of, offset_at, room_at, subst, sym, tiles, type_at, used_count, ℕ, ◌++◌, ◌+◌, ◌-◌, ◌<◌, ◌∙◌, ◌∷◌, ◌≡◌, ◌≢◌, ◌≤◌, Entries, entry_count, lower_nodes, length-append}
+use Rattle.cdf_index.proofs.Common.{AreTiles, Grew, HasIndex, List, Met, Nodes, SomeChain, SomeNode, Stands, [], ap, append-nil, append_assoc, arith, cases_eq, eq-eqb, eqb, first_at, index_at, inl, inr, last_at, length, link_to, met_below, met_block, met_in, met_node, ne_eqb, next_of, nodes_of, offset_at, room_at, subst, sym, tiles, true, type_at, used_count, ℕ, ◌++◌, ◌+◌, ◌-◌, ◌<◌, ◌∙◌, ◌∷◌, ◌≡◌, ◌≢◌, ◌≤◌, Entries, entry_count, lower_nodes, length-append}
 use Rattle.cdf_index.proofs.Ascending.{index_stands}
 use Rattle.cdf_index.proofs.EntriesLeft.{EntriesLeft}
-use Rattle.cdf_index.proofs.FirstEntry.{FirstEntry, first_entry, opened, opened_nodes, node_there, Opened}
+use Rattle.cdf_index.proofs.FirstEntry.{FirstEntry, first_entry, met_at, opened, opened_nodes, node_there, Opened}
 use Rattle.cdf_index.proofs.Looking.{node_of, none_there}
 use Rattle.cdf_index.proofs.Saying.{no_entries}
 use Rattle.cdf_index.proofs.Searching.{few_nodes}
@@ -75,7 +75,7 @@ module _ {G : Type 0} {has : G → List Met → Type 0} where
     few_below : (f : FirstEntry b l.node.down at i l.rest) → length (lower_nodes l.rest) ≡ length (nodes_of f.low) + length (lower_nodes f.rest)
     few_below f = ap length f.adds.nodes ∙ length-append (nodes_of f.low) (lower_nodes f.rest)
 
-    past_entry : {next : G} → (f : FirstEntry b l.node.down at i l.rest) → Grew has now next f.met → NodeLeft has b levels at (i + 1) turn was next ns
+    past_entry : {next : G} → (f : FirstEntry b l.node.down at i l.rest) → Grew has now next (met_at b at i f.low) → NodeLeft has b levels at (i + 1) turn was next ns
     past_entry f g = record { nodes = l.nodes; node = l.node; rest = f.rest; left = f.left; many = omega (arith, l.many, f.adds.many); fewer = omega (arith, l.fewer, few_below f); all = λ end h. l.all end (rw f.adds.mets (rw append_assoc (grew_both g h))) }
 
     -- at an entry that names a place
@@ -84,11 +84,13 @@ module _ {G : Type 0} {has : G → List Met → Type 0} where
       first = first_entry l.rest l.left (omega (arith, l.many))
 
       pub past_block : {next : G} → kind ≢ 6 → Grew has now next (met_block (first_at b at i) (last_at b at i) place ∷ []) → NodeLeft has b levels at (i + 1) turn was next ns
-      past_block ne g = past_entry first (rw (first.of_block (λ t. ne (k ∙ ap (type_at b) p ∙ t))).0 (rw p at g))
+      past_block ne g = past_entry first (rw (ne_eqb (type_at b (offset_at b at i)) 6 (λ t. ne (k ∙ ap (type_at b) p ∙ t))) (rw p at g))
 
       module _ (is : kind ≡ 6) where
-        lower_here : (place ≡ link_to first.low) × (first.met ≡ met_in first.low) × Stands b (levels - 1) first.low
-        lower_here = let m = first.of_lower (ap (type_at b) (sym p) ∙ sym k ∙ is) in (p ∙ m.0, m.1, subst (λ (x : ℕ). Stands b x first.low) (omega (arith, l.node.deep)) first.stands)
+        lower_here : (place ≡ link_to first.low) × (eqb (type_at b (offset_at b at i)) 6 ≡ true) × Stands b (levels - 1) first.low
+        lower_here =
+            let six : type_at b (offset_at b at i) ≡ 6 = ap (type_at b) (sym p) ∙ sym k ∙ is in
+            (p ∙ first.link six, eq-eqb (type_at b (offset_at b at i)) 6 six, subst (λ (x : ℕ). Stands b x first.low) (omega (arith, l.node.deep)) first.stands)
 
         pub past_lower : {next : G} → ((low : Nodes) → Stands b (levels - 1) low → place ≡ link_to low → Grew has now next (met_in low)) → NodeLeft has b levels at (i + 1) turn was next ns
         past_lower told = past_entry first (rw lower_here.1 (told first.low lower_here.2 lower_here.0))

@@ -1,5 +1,5 @@
 -- What is read at one node leads the search on.
-use Rattle.cdf_index.proofs.Common.{AreTiles, Ascends, At, ChainFrom, Entries, HasNodes, IsNode, List, LowerAreZero, NamesIn, NextsAreZero, NodeInside, Nodes, None, SaysEntry, Scanned, Some, SomeNode, arith, entry_count, eqb, find_entry, find_in, last_at, le-ltb, leaf, length, link_to, linkable-in, lt-ltb, next_of, no_node, nodes_of, nodes_passed, offset_at, passed_from, refl, room_at, subst, suc, sym, tile_lies, tiles, type_at, used_count, vxr_type, zero, ℕ, ◌*◌, ◌+◌, ◌<◌, ◌∙◌, ◌≡◌, ◌≢◌, ◌≤◌, Leaf, Option, Names, lower_nodes, nat_tests, length-append}
+use Rattle.cdf_index.proofs.Common.{AreTiles, Ascends, At, ChainFrom, Entries, HasNodes, IsNode, List, LowerAreZero, NamesIn, NextsAreZero, NodeInside, Nodes, None, SaysEntry, Scanned, Some, SomeNode, arith, entry_count, eqb, find_entry, find_in, last_at, le-ltb, leaf, length, link_to, linkable-in, lt-ltb, next_of, no_node, nodes_of, nodes_passed, offset_at, passed_from, refl, room_at, subst, suc, sym, tile_lies, tiles, type_at, used_count, vxr_type, zero, ℕ, ◌*◌, ◌+◌, ◌<◌, ◌∙◌, ◌≡◌, ◌≢◌, ◌≤◌, Leaf, Option, Names, lower_nodes, nat_tests, length-append, eq-eqb, node, ne_eqb}
 use Rattle.cdf_format.proofs.ChainsLemmas.{some_place}
 use Rattle.cdf_index.proofs.EntriesLeft.{EntriesLeft}
 pub use Rattle.cdf_index.proofs.FirstEntry.{node_there}
@@ -104,13 +104,12 @@ module _ {b : List ℕ} {rec turn at : ℕ} {nodes : Nodes} (a : At b rec turn n
           nothing = λ h. sym same ∙ rw (t, lt-ltb rec _ h) at (f.adds.find rec (find_in rec here.more));
           below = λ h six.
               (let u = le-ltb _ _ h in
-              let m = f.of_lower six in
               record {
-                left = record { levels = here.down; nodes = f.low; stands = f.stands; link_is = m.0 };
-                same = sym (sym same ∙ rw (t, u) at (f.adds.find rec (find_in rec here.more)) ∙ m.2 rec);
+                left = record { levels = here.down; nodes = f.low; stands = f.stands; link_is = f.link six };
+                same = sym (sym same ∙ rw (t, u, eq-eqb _ 6 six) at (f.adds.find rec (find_in rec here.more)));
                 passed = omega (arith, steps, rw (t, u) at (f.adds.passed rec (nodes_passed rec here.more)));
               });
-          found = λ h no. sym same ∙ rw (t, le-ltb _ _ h) at (f.adds.find rec (find_in rec here.more)) ∙ (f.of_block no).1 rec;
+          found = λ h no. sym same ∙ rw (t, le-ltb _ _ h, ne_eqb _ 6 no) at (f.adds.find rec (find_in rec here.more));
         })
 
 -- ---- how many nodes are passed
