@@ -94,7 +94,9 @@ order_with_entry new at place room low high es more o d c l k h u n n' =
     let fr = front f es in
     let bk = past f es in
     let first = Each-split (BeginsBehind f new.last) (entry_firsts fr) (entry_firsts bk) (rw (← firsts_both fr bk, front_past f es) n) in
-    grind (arith, nat_tests, front_past f es, parts_in_order low high fr bk, front_ends f low high es, raised_entries f new.last (past_entries low fr) (suc new.last) high bk, none_reached, raised f new.last (past_entries low es) (past_entries (suc new.last) bk) high more, past_most, upto_both, upto_is, both_in_order, past_both, no_entries)
+    let raise = raised_entries f new.last (past_entries low fr) (suc new.last) high bk in
+    let along = raised f new.last (past_entries low es) (past_entries (suc new.last) bk) high more in
+    grind (arith, nat_tests, front_past f es, parts_in_order low high fr bk, front_ends f low high es, none_reached, past_most, upto_both, upto_is, both_in_order, past_both, no_entries)
 
 -- ---- the index
 
@@ -104,9 +106,12 @@ order_come comes_first low high o l k h u n = ((l, k, h, tt), tt)
 order_come {new = new} (comes_along {es = es} {more = more} t c) low high o l k h u n =
     grind (arith, nat_tests, Each-split (Misses new.first) (entry_leaves es) (leaves_of more), Each-split (BeginsBehind new.first new.last) (entry_firsts es) (firsts_of more), order_come c (past_entries low es) high, chain_reaches_from new.first (past_entries low es) high more)
 order_come {new = new} (comes_below {more = more} fs first last nodes nodes' es t le r c) low high o l k h u n =
-    let whole = with_both fs (lower first last nodes es) in
     let wide = max last new.last in
-    grind (arith, Each-split (Misses new.first), Each-split (BeginsBehind new.first new.last), leaves_both fs (lower first last nodes es), firsts_both fs (lower first last nodes es), parts_in_order low high fs (lower first last nodes es), widened first first last wide nodes, order_come c first wide, raised_entries new.first new.last (suc last) (suc wide) high es, past_both, both_in_order, raised new.first new.last (past_entries low whole) (past_entries low (with_both fs (lower first wide nodes' es))) high more, past_most (suc last) (suc wide) es, end_after (suc last) high es)
+    let old = lower first last nodes es in
+    let here = lower first wide nodes' es in
+    let raise = raised_entries new.first new.last (suc last) (suc wide) high es in
+    let along = raised new.first new.last (past_entries low (with_both fs old)) (past_entries low (with_both fs here)) high more in
+    grind (arith, Each-split (Misses new.first), Each-split (BeginsBehind new.first new.last), leaves_both fs old, firsts_both fs old, parts_in_order low high fs old, widened first first last wide nodes, order_come c first wide, past_both, both_in_order, past_most, end_after)
 order_come {new = new} {at = at} (comes_here {place = place} {room = room} {es = es} {more = more} t d) low high o l k h u n =
     grind (arith, Each-split (Misses new.first), Each-split (BeginsBehind new.first new.last), order_with_entry new at place room low high es more o d t l k h)
 
