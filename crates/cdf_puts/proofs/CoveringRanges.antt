@@ -1,9 +1,8 @@
 -- Records that get a block one after the other: by their ranges, in the room of a put, which is enough for them, and in an index.
-use Rattle.cdf_puts.proofs.Common.{least_below, Ahead, Ascending, Counted, Covering, Entries, InOrder, Leaf, List, Nodes, None, Option, Range, Some, Variable, [], ap, arith, block, block_bytes, block_count, blocks_room, cases_eq, cases_lt, count_upto, cover, covered, covers, entries_below, entries_in, entry_count, entry_firsts, false, filter, find, find_covering, first_written, firsts_of, fold, inl, inr, is_sparse, le-ltb, leaf, leaves_more, leaves_of, length, length-append, lower, lt-ltb, ltb, map, max, min, nat_tests, new_last, new_range, new_room, next_first, no_entry, no_node, node, node_bytes, option_map, order_with_leaf, put_room, quotient_up, range, ranges_after_put, ranges_new, ranges_of, record_length, record_number_limit, refl, shared, subst, suc, sum_by-cons, sym, times_le, uncovered, unwrap_or, vxr_bytes, widest, with_leaf, with_range, zero, ℕ, ◌*◌, ◌+◌, ◌-◌, ◌<◌, ◌∙◌, ◌∷◌, ◌≡◌, ◌≤◌, ◌⊎◌, by_leaf}
+use Rattle.cdf_puts.proofs.Common.{least_below, Ahead, Ascending, Counted, Covering, Entries, InOrder, Leaf, List, Nodes, None, Option, Range, Some, Variable, [], ap, arith, block, block_bytes, block_count, blocks_room, cases_eq, cases_lt, count_upto, cover, covered, covers, entries_below, entries_in, entry_count, entry_firsts, false, filter, find, find_covering, first_written, firsts_of, fold, inl, inr, is_sparse, le-ltb, leaf, leaves_more, leaves_of, length, length-append, lower, lt-ltb, ltb, map, max, min, nat_tests, new_last, new_range, new_room, next_first, no_entry, no_node, node, node_bytes, option_map, order_with_leaf, put_room, quotient_up, range, ranges_after_put, ranges_new, ranges_of, record_length, record_number_limit, refl, shared, subst, suc, sum_by-cons, sym, times_le, uncovered, unwrap_or, vxr_bytes, widest, with_leaf, with_range, zero, ℕ, ◌*◌, ◌+◌, ◌-◌, ◌<◌, ◌∙◌, ◌∷◌, ◌≡◌, ◌≤◌, ◌⊎◌, by_leaf, least_first_past}
 use Rattle.cdf_index.proofs.LeavesAscend.{leaves_ascend}
 use Rattle.cdf_puts.proofs.PutBytes.{found_covering}
 use Rattle.cdf_puts.proofs.LeafCounts.{next_firsts_with_leaf, wide_grows}
-use Rattle.cdf_index.specs.Next.{least_first_past}
 
 abbrev pub of_leaves : List Leaf → List Range
 of_leaves leaves = map (λ (leaf : Leaf). range leaf.first leaf.last) leaves
@@ -220,13 +219,9 @@ module _ {v : Variable} {index index' : Nodes} {n k taken : ℕ} (c : Covering v
 
       pub covering_leaf : Covering v index (with_leaf (leaf k (new_last v index' k) place false) at index') n (min (new_last v index' k + 1) (n + 1)) (taken + block_bytes v k (new_last v index' k) + node_bytes k index')
       covering_leaf =
-          record {
-            ordered = order_with_leaf new at index' c.ordered covering_ends.0 vacant covering_ends.1;
-            from = omega (arith, covering_ends.0, c.from);
-            ahead = subst (λ (rs : List Range). Ahead v fs n (min (last + 1) (n + 1)) rs (ranges_after_put v index n)) (sym ranges_are)
-                (subst (λ (r : Range). Ahead v fs n (min (r.last + 1) (n + 1)) (with_range r (ranges_of index')) (ranges_after_put v index n)) (sym same_new) (ahead_new c.ahead le (subst (λ (r : Range). k ≤ r.last) same_new covering_ends.0) none));
-            nexts = λ m lm. next_firsts_with_leaf new at index' m (omega (arith, covering_ends.0)) ∙ c.nexts m (omega (arith, covering_ends.0));
-            as_wide = omega (arith, by_leaf (wide_grows new at) index', narrow, c.as_wide);
-            fits = omega (arith, bytes', in_room);
-            counted = λ more. subst (λ (x : ℕ). Counted v index (with_leaf new at index') n x taken') (omega (arith, covering_ends.0)) (counted' (omega (arith, covering_ends.0)));
-          }
+          let ends = covering_ends in
+          let ahead = subst (λ (rs : List Range). Ahead v fs n (min (last + 1) (n + 1)) rs (ranges_after_put v index n)) (sym ranges_are)
+          (subst (λ (r : Range). Ahead v fs n (min (r.last + 1) (n + 1)) (with_range r (ranges_of index')) (ranges_after_put v index n)) (sym same_new) (ahead_new c.ahead le (subst (λ (r : Range). k ≤ r.last) same_new ends.0) none)) in
+          let nexts : (m : ℕ) → min (last + 1) (n + 1) ≤ m → next_first m (firsts_of (with_leaf new at index')) ≡ next_first m fs = λ m lm. next_firsts_with_leaf new at index' m (omega arith) ∙ c.nexts m (omega arith) in
+          let counted : min (last + 1) (n + 1) ≤ n → Counted v index (with_leaf new at index') n (min (last + 1) (n + 1)) taken' = λ more. subst (λ (x : ℕ). Counted v index (with_leaf new at index') n x taken') (omega arith) (counted' (omega arith)) in
+          search (arith, order_with_leaf new at index' c.ordered ends.0 vacant ends.1, c.from, ahead, nexts, by_leaf (wide_grows new at) index', narrow, c.as_wide, bytes', in_room, counted)

@@ -1,5 +1,5 @@
 -- A leaf is added while records are put: the blocks of the variable, which leaves were put by then, which ranges are new, the top chain and the nodes.
-use Rattle.cdf_puts.proofs.Common.{Act, Ascending, BlockRecords, BlocksSoFar, Bool, Good, InOrder, IndexSoFar, IsBlockBody, IsOneOf, IsVacant, Kind, Leaf, LeafAdded, List, NewBlock, NodeTaken, Nodes, NodesSoFar, None, PutsBefore, Range, Same, SoFar, Some, StandsAmong, VariableShape, [], ap, apart, arith, before_limit, behind_in, block_behind, block_need, bytes_eq, bytes_eq-same, cases_lt, count_is, covers, drop, extent, false, filled, filter, find, find_covering, first_written, firsts_of, fold-append, has, if◌then◌else◌, in_order, index_order, indexes_with, inl, inr, is_in-true, is_taken_at, last_node, last_or, leaf, leaf_acts, leaves_ascend, leaves_more, leaves_of, length, list_any, max_rec_at, min, nat_tests, new_range, new_ranges, new_room, node_behind, nodes_of, number, of_each, or_from, or_left, or_right, outline, own_rules, place_in, plain_bytes, plain_piece, range, ranges_of, record_alike, record_bytes, record_number_limit, refl, room, same_Some, shape, size_at, sound, subst, suc, sym, take, taken_places, tile_lies, top_chain, true, true≢false, uir_type, unwrap_or, uses_entry, variable_of, vdr_alike, vdr_vxr_tail, vvr_type, was_put, with_leaf, with_new, with_ranges, zero, ℕ, ◌*◌, ◌++◌, ◌+◌, ◌-◌, ◌<◌, ◌||◌, ◌∙◌, ◌∷◌, ◌≡◌, ◌≤◌, ◌⊎◌, byte, record_of, rules, In}
+use Rattle.cdf_puts.proofs.Common.{Act, Ascending, BlockRecords, BlocksSoFar, Bool, Good, InOrder, IndexSoFar, IsBlockBody, IsOneOf, IsVacant, Kind, Leaf, LeafAdded, List, NewBlock, NodeTaken, Nodes, NodesSoFar, None, PutsBefore, Range, Same, SoFar, Some, StandsAmong, VariableShape, [], ap, apart, arith, before_limit, behind_in, block_behind, block_need, bytes_eq, bytes_eq-same, cases_lt, count_is, covers, drop, extent, false, filled, filter, find, find_covering, first_written, firsts_of, fold-append, has, if◌then◌else◌, in_order, index_order, indexes_with, inl, inr, is_in-true, is_taken_at, last_node, last_or, leaf, leaf_acts, leaves_ascend, leaves_more, leaves_of, length, list_any, max_rec_at, min, nat_tests, new_range, new_ranges, new_room, node_behind, nodes_of, number, of_each, or_from, or_left, or_right, outline, own_rules, place_in, plain_bytes, plain_piece, range, ranges_of, record_alike, record_bytes, record_number_limit, refl, room, same_Some, shape, size_at, sound, subst, suc, sym, take, taken_places, tile_lies, top_chain, true, true≢false, uir_type, unwrap_or, uses_entry, variable_of, vdr_alike, vdr_vxr_tail, vvr_type, was_put, with_leaf, with_new, with_ranges, zero, ℕ, ◌*◌, ◌++◌, ◌+◌, ◌-◌, ◌<◌, ◌||◌, ◌∙◌, ◌∷◌, ◌≡◌, ◌≤◌, ◌⊎◌, byte, record_of, rules, In, OldBlock}
 use Rattle.cdf_puts.proofs.CoveringRanges.{of_leaves}
 use Rattle.cdf_puts.proofs.LeafCounts.{one_of_leaves}
 use Rattle.cdf_puts.proofs.LeafEdit.{blocks_go_on, body_long, file, new_index, node_taken, nodes_step, used_apart}
@@ -100,20 +100,17 @@ module _ {b now now' : List ℕ} {kind : Kind} {before : List VariableShape} {ow
       grind (arith, alone, is_in-true place (taken_places step) (inl refl), written, spare)
 
   pub blocks_added : BlocksSoFar b now' own own'' raw pad r first upto (acts ++ step) []
-  blocks_added = blocks_then so (omega (arith, vacant.ordered)) (omega arith) refl (record {
-    longer = (file so.goes.good so.goes.among w).longer;
-    stay = in_new;
-    apart = λ l i. used_apart so.goes.good so.goes.among w l.place (behind_in so.goes.good so.goes.among l.place (block_behind own' l.place (place_in leaves l i))) (λ e. absurd (apart vvr_type uir_type refl (sym (now_whole so l i).leaf.typed ∙ e)));
-    old = λ l i.
-        let same = of_each (λ (l : Leaf). Same now now' l.place (l.place + size_at now l.place)) leaves l (blocks_go_on so.goes.good so.goes.among w holds).old i in
-        record { written = λ j from low f t. absurd (omega (arith, beside_new l i)); kept = λ p low high out. same.each p low high };
-    new = λ l i. elim ((one_of_leaves new at 0 record_number_limit own'.index order l).0 i) [
-      | inl q ↦ inr (subst (NewBlock now' raw pad r k (extent (max_rec_at b own.vdr)) upto (record_bytes b own.vdr) step) (sym q) new_block)
-      | inr j ↦ inl j
-    ];
-    has = λ j from low. (new, (new_in, (from, omega arith)));
-    quiet = λ none. absurd (true≢false (sym new_block.was_taken ∙ none place));
-  })
+  blocks_added =
+      let go = blocks_go_on so.goes.good so.goes.among w holds in
+      let apart : (l : Leaf) → IsOneOf leaves l → is_taken_at step l.place ≡ false =
+      λ l i. used_apart so.goes.good so.goes.among w l.place (behind_in so.goes.good so.goes.among l.place (block_behind own' l.place (place_in leaves l i))) (λ e. absurd (apart vvr_type uir_type refl (sym (now_whole so l i).leaf.typed ∙ e))) in
+      let old : (l : Leaf) → IsOneOf leaves l → OldBlock now now' raw pad r k upto (record_bytes b own.vdr) l =
+      λ l i. record { written = λ j from low f t. absurd (omega (arith, beside_new l i)); kept = λ p low high out. (of_each (λ (l : Leaf). Same now now' l.place (l.place + size_at now l.place)) leaves l go.old i).each p low high } in
+      let other : (l : Leaf) → IsOneOf (leaves_of own''.index) l → IsOneOf leaves l ⊎ NewBlock now' raw pad r k (extent (max_rec_at b own.vdr)) upto (record_bytes b own.vdr) step l =
+      λ l i. elim ((one_of_leaves new at 0 record_number_limit own'.index order l).0 i) [ inl q ↦ inr (subst (NewBlock now' raw pad r k (extent (max_rec_at b own.vdr)) upto (record_bytes b own.vdr) step) (sym q) new_block) | inr j ↦ inl j ] in
+      let has : (j : ℕ) → k ≤ j → j < upto → (l : Leaf) × (IsOneOf (leaves_of own''.index) l × ((l.first ≤ j) × (j ≤ l.last))) = λ j from low. (new, (new_in, (from, omega arith))) in
+      let loud : ((m : ℕ) → is_taken_at step m ≡ false) → ⊥ = λ none. true≢false (sym new_block.was_taken ∙ none place) in
+      blocks_then so (omega (arith, vacant.ordered)) (omega arith) refl (search (rules, (file so.goes.good so.goes.among w).longer, in_new, apart, old, other, has, loud))
 
   -- ---- the index
 

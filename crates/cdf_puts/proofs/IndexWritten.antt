@@ -1,6 +1,5 @@
 -- A record is written in a block: the record holds its bytes, no other byte changes, and the index stays; of the leaves that were put the one of the record is the last by then.
-use Rattle.cdf_puts.proofs.Common.{Act, BlocksSoFar, Changed, Each-in, Good, HasShape, In, IndexSoFar, IsOneOf, Kind, Leaf, LeavesGoOn, List, NodeFits, NodesSoFar, OldBlock, Outside-append, PutsBefore, RecordIs, RecordsWritten, Same, SoFar, StandsAmong, Touch, VariableShape, WritesRecords, [], ap, apart, append-nil, arith, behind_in, block_behind, block_kept, byte, cases_eq, cast_signed, changed_part, drop, either, extent, file, filter, find_covering, find_first, first_written, fits, gdr_in, gdr_long, gdr_r_max_rec, gdr_type, gdr_typed, inl, inr, integer4, is_max_rec, leaves_apart, leaves_ascend, leaves_of, length, length-put, long, max_rec_at, max_rec_touches, new_ranges, no_block, node_kept, nodes_of, number, one_place, own_rules, part, place_in, places_of, r_max_rec, ranges_of, record_bytes, record_number_limit, record_of, record_place, refl, same_Some, shape, size_at, size_kept, sound, subst, suc, sym, take, tile, touch, type_at, variable_of, vdr_max_rec, vdr_vxr_tail, vvr_type, w32, was_put, word_kept, ℕ, ◌*◌, ◌+◌, ◌-◌, ◌<◌, ◌∙◌, ◌∷◌, ◌≡◌, ◌≢◌, ◌≤◌, ◌⊎◌, ◌++◌, rules, Beside, Outside, is_taken_at, false, NewBlock}
-use Rattle.cdf_edits.proofs.Frame.ChangedBytes.{changed_put}
+use Rattle.cdf_puts.proofs.Common.{Act, BlocksSoFar, Changed, Each-in, Good, HasShape, In, IndexSoFar, IsOneOf, Kind, Leaf, LeavesGoOn, List, NodeFits, NodesSoFar, OldBlock, Outside-append, PutsBefore, RecordIs, RecordsWritten, Same, SoFar, StandsAmong, Touch, VariableShape, WritesRecords, [], ap, apart, append-nil, arith, behind_in, block_behind, block_kept, byte, cases_eq, cast_signed, changed_part, drop, either, extent, file, filter, find_covering, find_first, first_written, fits, gdr_in, gdr_long, gdr_r_max_rec, gdr_type, gdr_typed, inl, inr, integer4, is_max_rec, leaves_apart, leaves_ascend, leaves_of, length, length-put, long, max_rec_at, max_rec_touches, new_ranges, no_block, node_kept, nodes_of, number, one_place, own_rules, part, place_in, places_of, r_max_rec, ranges_of, record_bytes, record_number_limit, record_of, record_place, refl, same_Some, shape, size_at, size_kept, sound, subst, suc, sym, take, tile, touch, type_at, variable_of, vdr_max_rec, vdr_vxr_tail, vvr_type, w32, was_put, word_kept, ℕ, ◌*◌, ◌+◌, ◌-◌, ◌<◌, ◌∙◌, ◌∷◌, ◌≡◌, ◌≢◌, ◌≤◌, ◌⊎◌, ◌++◌, rules, Beside, Outside, is_taken_at, false, NewBlock, changed_put}
 use Rattle.cdf_puts.proofs.PutBytes.{Whole, blocks_then, found_covering, put_there, size_now, whole}
 use Rattle.cdf_puts.proofs.SoFarStarts.{put_next, puts_old}
 use Rattle.cdf_puts.proofs.PutNodes.{nodes_same, unless_true}

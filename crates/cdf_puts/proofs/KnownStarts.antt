@@ -1,10 +1,6 @@
 -- Nodes of top chains that are known of the variables of an image, and that they are known yet where records were put.
-use Rattle.cdf_puts.proofs.Common.{Act, Each, Each-append, Each-split, GoesOn, Good, HasIndex, In, InTopChain, IsKnownOf, IsKnownStart, KeepsStart, Kind, KnowsStarts, Leaf, List, Nodes, None, Option, PutsUpTo, R, Some, SomePutting, StandsAmong, TopStays, VariableShape, Z, [], ap, arith, good_by_its_shape, good_is_sound, index_at, inl, inr, length, long, node_known, number, other_kind, refl, shape, shapes_of, sound, subst, sym, tile, tile_lies, variables, vdr_vxr_head, vdrs, with_leaf, ℕ, ◌++◌, ◌+◌, ◌∙◌, ◌∷◌, ◌≡◌, ◌≢◌, ◌≤◌, Grows, by_leaf, Shape, top_chain}
-use Rattle.cdf_edits.proofs.Edits.VariableKinds.{of_kind}
-use Rattle.cdf_leaves.proofs.Own.{searchable}
-use Rattle.cdf_format.proofs.GoodImageLemmas.{good_image}
-use Rattle.cdf_index.proofs.GoodIndex.{good_index}
-use Rattle.cdf_index.proofs.OneVariable.{OneOf, among_all, one_of}
+use Rattle.cdf_puts.proofs.Common.{Act, Each, Each-append, Each-split, GoesOn, Good, HasIndex, In, InTopChain, IsKnownOf, IsKnownStart, KeepsStart, Kind, KnowsStarts, Leaf, List, Nodes, None, Option, PutsUpTo, R, Some, SomePutting, StandsAmong, TopStays, VariableShape, Z, [], ap, arith, index_at, inl, inr, length, long, node_known, number, other_kind, refl, shape, shapes_of, sound, subst, sym, tile, tile_lies, variables, vdr_vxr_head, vdrs, with_leaf, ℕ, ◌++◌, ◌+◌, ◌∙◌, ◌∷◌, ◌≡◌, ◌≢◌, ◌≤◌, Grows, by_leaf, Shape, top_chain, of_kind, searchable}
+use Rattle.cdf_index.proofs.OneVariable.{OneOf, one_of}
 use Rattle.cdf_puts.specs.declared.putting.NewRecord.{NewRecord}
 use Rattle.cdf_puts.specs.declared.starts.Starts.{Starts}
 
@@ -19,9 +15,6 @@ tops_in before after stay (Some m) known = stay m known
 -- ---- the index of a variable
 
 module _ (b : List ℕ) (good : Good b) where
-  index_here : (front : List VariableShape) (own : VariableShape) (rest : List VariableShape) → variables (shape b) ≡ front ++ own ∷ rest → HasIndex b (number b own.vdr vdr_vxr_head) × (index_at b (number b own.vdr vdr_vxr_head) ≡ own.index)
-  index_here front own rest all = good_index b (shape b) front own rest (good_image b (shape b) (good_by_its_shape b good)) (good_is_sound b good) all
-
   index_of : {kind : Kind} {before : List VariableShape} {own : VariableShape} {after : List VariableShape} {vdr : ℕ} → StandsAmong b kind before own after → own.vdr ≡ vdr → index_at b (number b vdr vdr_vxr_head) ≡ own.index
   index_of {own = own} at e = subst (λ (v : ℕ). index_at b (number b v vdr_vxr_head) ≡ own.index) e (searchable good at).1
 
@@ -49,29 +42,32 @@ each_at : (P : VariableShape → Type 0) (vs : List VariableShape) → ((front :
 each_at P [] f = tt
 each_at P (v ∷ vs) f = (f [] v vs refl, each_at P vs (λ front own rest e. f (v ∷ front) own rest (ap (λ (r : List VariableShape). v ∷ r) e)))
 
-one_at : (P : VariableShape → Type 0) (front : List VariableShape) (own : VariableShape) (rest : List VariableShape) {vs : List VariableShape} → vs ≡ front ++ own ∷ rest → Each P vs → P own
-one_at P front own rest e h = (Each-split P front (own ∷ rest) (subst (Each P) e h)).1.0
-
 all_kinds : (P : VariableShape → Type 0) (kind : Kind) (s : Shape) → Each P (shapes_of s kind) → Each P (shapes_of s (other_kind kind)) → Each P (variables s)
 all_kinds P R s own other = Each-append P s.r_variables s.z_variables own other
 all_kinds P Z s own other = Each-append P s.r_variables s.z_variables other own
 
+module _ (b : List ℕ) (P : VariableShape → Type 0) where
+  each_among : ((kind : Kind) (before : List VariableShape) (own : VariableShape) (after : List VariableShape) → StandsAmong b kind before own after → P own) → Each P (variables (shape b))
+  each_among f = all_kinds P R (shape b) (each_at P (shape b).r_variables (λ before own after e. f R before own after (record { was = e }))) (each_at P (shape b).z_variables (λ before own after e. f Z before own after (record { was = e })))
+
+  one_among : {kind : Kind} {before : List VariableShape} {own : VariableShape} {after : List VariableShape} → StandsAmong b kind before own after → Each P (variables (shape b)) → P own
+  one_among {kind} {before} {own} {after} at all = (Each-split P before (own ∷ after) (subst (Each P) at.was (of_kind P kind (shape b) all))).1.0
+
 pub none_known : (b : List ℕ) (starts : Starts) → ((v : ℕ) → node_known starts v ≡ None) → KnowsStarts b starts
-none_known b starts none = record { each = each_at (IsKnownOf starts) (variables (shape b)) (λ front own rest all. rw (none own.vdr) tt) }
+none_known b starts none = record { each = each_among b (IsKnownOf starts) (λ kind before own after at. rw (none own.vdr) tt) }
 
 module _ {b : List ℕ} {starts : Starts} (knows : KnowsStarts b starts) where
   pub start_known : (vdr : ℕ) → Good b → In vdr (vdrs (variables (shape b))) → IsKnownStart b vdr (node_known starts vdr)
   start_known vdr good i =
       let o = one_of b vdr i in
-      let a = among_all b o.kind o.before o.own o.after o.among.was in
-      rw (index_of b good o.among o.vdr_is) (subst (λ (v : ℕ). InTopChain o.own.index (node_known starts v)) o.vdr_is (one_at (IsKnownOf starts) a.front o.own a.rest a.all knows.each))
+      rw (index_of b good o.among o.vdr_is) (subst (λ (v : ℕ). InTopChain o.own.index (node_known starts v)) o.vdr_is (one_among b (IsKnownOf starts) o.among knows.each))
 
   -- of one variable another node is known
   pub start_kept : (vdr place : ℕ) (after : Starts) → Good b → (place ≢ 0 → IsKnownStart b vdr (Some place)) → KeepsStart starts vdr place after → KnowsStarts b after
   start_kept vdr place after good is keeps = record {
-    each = each_at (IsKnownOf after) (variables (shape b)) (λ front own rest all. elim (keeps own.vdr) [
-      | inl same ↦ subst (InTopChain own.index) (sym same) (one_at (IsKnownOf starts) front own rest all knows.each)
-      | inr new ↦ subst (InTopChain own.index) (sym new.2) (subst (λ (nodes : Nodes). InTopChain nodes (Some place)) (index_here b good front own rest all).1 (subst (λ (v : ℕ). IsKnownStart b v (Some place)) (sym new.0) (is new.1)))
+    each = each_among b (IsKnownOf after) (λ kind before own rest at. elim (keeps own.vdr) [
+      | inl same ↦ subst (InTopChain own.index) (sym same) (one_among b (IsKnownOf starts) at knows.each)
+      | inr new ↦ subst (InTopChain own.index) (sym new.2) (subst (λ (nodes : Nodes). InTopChain nodes (Some place)) (index_of b good at refl) (subst (λ (v : ℕ). IsKnownStart b v (Some place)) (sym new.0) (is new.1)))
     ]);
   }
 

@@ -1,9 +1,7 @@
 -- What a leaf more makes of the nodes, the Firsts and the leaves of an index, and of how wide its nodes are and which room they have.
-use Rattle.cdf_puts.proofs.Common.{Bool, Each, Each-split, Entries, Grows, HasNodes, In, InOrder, IsOneOf, Leaf, List, Names, NodeFits, Nodes, [], ap, append_assoc, arith, block, by_leaf, entry_firsts, false, filter, firsts_of, fold, if◌then◌else◌, inl, inr, le-ltb, leaves_more, leaves_of, lower, lower_nodes, max, min, nat_lt, next_first, no_entry, no_node, node, nodes_of, places_of, record_number_limit, room_at, suc, sym, times, times-append, weigh, weigh_below, weight_grows, widest, widest_below, with_both, with_leaf, with_new, zero, ℕ, ◌+◌, ◌==◌, ◌∷◌, ◌≡◌, ◌≤◌, ◌⊎◌, ◌&&◌, nat_tests, In-append, append-nil, leaf}
+use Rattle.cdf_puts.proofs.Common.{Bool, Each, Each-split, Entries, Grows, HasNodes, In, InOrder, IsOneOf, Leaf, List, Names, NodeFits, Nodes, [], ap, append_assoc, arith, block, by_leaf, entry_firsts, false, filter, firsts_of, fold, if◌then◌else◌, inl, inr, le-ltb, leaves_more, leaves_of, lower, lower_nodes, max, min, nat_lt, next_first, no_entry, no_node, node, nodes_of, places_of, record_number_limit, room_at, suc, sym, times, times-append, weigh, weigh_below, weight_grows, widest, widest_below, with_both, with_leaf, with_new, zero, ℕ, ◌+◌, ◌==◌, ◌∷◌, ◌≡◌, ◌≤◌, ◌⊎◌, ◌&&◌, nat_tests, In-append, append-nil, leaf, firsts_both, new_room}
 use Rattle.std.proofs.lemmas.List.Elements.{filter-append}
 use Rattle.cdf_index.proofs.Measured.{seven_at_least}
-unfoldable use Rattle.cdf_edits.specs.Index.Grown.{new_room, new_room_below}
-use Rattle.cdf_index.proofs.LeafRules.{firsts_both}
 use Rattle.cdf_index.proofs.Saying.{count_both}
 
 -- ---- a node keeps its room

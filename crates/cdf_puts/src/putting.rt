@@ -136,6 +136,7 @@ impl NewRecord {
     }
 
     /// The type of a block, and these records one after the other.
+    #[tactic(auto, using(crate::proofs::PutSpot::one_more, std::proofs::Common::append_assoc))]
     fn typed_records(&self, alloc: Global, first: u32, last: u32) -> Result<Vec<u8>, AllocError>
         requires order { first ≤ last }
         requires small { last ≤ record_number_limit }
@@ -198,6 +199,7 @@ fn write_one<A: Area>(area: &mut A, leaf: &Leaf, put: &NewRecord, k: u32) -> Res
 }
 
 /// Makes a new block for records from one on that no block has. Gives the next one to be put.
+#[tactic(auto, using(crate::proofs::PutSpot::body_is))]
 fn add_block<A: Area>(
     alloc: Global,
     area: &mut A,

@@ -1,5 +1,5 @@
 use Rattle.cdf_puts.proofs.Common.{Frame, HasIndex, ap, edit_done, edit_failed, edit_more, edit_without_memory, edits_by_read, keeps_by_read, read_more, read_once, refl, subst, sym, ◌∙◌}
-use Rattle.cdf_puts.proofs.PutSpot.{added_on, body_is, room_after, searched, some_few, vdr_in}
+use Rattle.cdf_puts.proofs.PutSpot.{added_on, room_after, searched, some_few, vdr_in}
 use Rattle.cdf_puts.proofs.putting.add_block.Goals as goal
 
 pub last_of_new-requires-clause-index : goal.last_of_new-requires-clause-index
@@ -35,10 +35,6 @@ add_leaf-requires-clause-good g c = rw (c.start_of.ensures.area.image, c.last_of
 
 pub add_leaf-requires-clause-vdr : goal.add_leaf-requires-clause-vdr
 add_leaf-requires-clause-vdr g c = rw (c.start_of.ensures.area.image, c.last_of_new.ensures.area.image) (vdr_in c.requires.some.putting c.requires.some.is)
-
-pub add_leaf-requires-clause-body : goal.add_leaf-requires-clause-body
-add_leaf-requires-clause-body g c =
-    rw (c.deref.ensures.value) (body_is c.in_ok-body.body.items _ c.in_ok-body.ensures.body)
 
 pub add_leaf-requires-clause-room : goal.add_leaf-requires-clause-room
 add_leaf-requires-clause-room g c =

@@ -1,6 +1,4 @@
-use Rattle.cdf_index.proofs.FromReached.{starts_at}
-use Rattle.std.proofs.lemmas.Result.{IfOk-weaker}
-use Rattle.cdf_puts.proofs.Common.{◌∙◌}
+use Rattle.cdf_puts.proofs.Common.{◌∙◌, starts_at, IfOk-weaker}
 use Rattle.cdf_puts.proofs.putting.find_next.Goals as goal
 
 pub next_counted-requires-clause-index : goal.next_counted-requires-clause-index

@@ -1,5 +1,4 @@
-use Rattle.cdf_puts.proofs.Common.{arith}
-use Rattle.std.proofs.lemmas.Result.{on_ok_weaker}
+use Rattle.cdf_puts.proofs.Common.{arith, on_ok_weaker}
 use Rattle.cdf_puts.proofs.PutSpot.{held, held_within, holds, written_on}
 use Rattle.cdf_puts.proofs.putting.write_one.Goals as goal
 

@@ -1,5 +1,4 @@
-use Rattle.std.specs.Prelude.{◌≡◌, ◌++◌}
-use Rattle.cdf_puts.proofs.Common.{block_type, records_put}
+use Rattle.cdf_puts.proofs.Common.{block_type, records_put, ◌≡◌, ◌++◌}
 use Rattle.cdf_puts.proofs.putting.NewRecord.typed_records.Given as goal
 
 abbrev pub invariant-loop-i : goal.invariant-loop-i

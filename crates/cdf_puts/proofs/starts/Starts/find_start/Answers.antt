@@ -1,5 +1,4 @@
-use Rattle.cdf_index.proofs.FromReached.{starts_at}
-use Rattle.cdf_puts.proofs.Common.{KnowsStarts, arith}
+use Rattle.cdf_puts.proofs.Common.{KnowsStarts, arith, starts_at}
 use Rattle.cdf_puts.proofs.KnownStarts.{has_index, start_kept, start_known, vdr_lies}
 use Rattle.cdf_puts.proofs.starts.Starts.find_start.Given.{Over}
 use Rattle.cdf_puts.proofs.starts.Starts.find_start.Goals.{After-keep}
