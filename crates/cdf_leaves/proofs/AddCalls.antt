@@ -1,8 +1,6 @@
 -- What the calls ask for that add a leaf, and what they leave.
-use Rattle.cdf_leaves.proofs.Common.{Good, In, IsBody, good_eof, good_is_sound, image_limit, type_of_body, variables, vdrs, vvr_type, widest, ◌≤◌, Added, Each-map, EntryPut, HasEnd, IndexStarted, IsAmong, IsStart, IsWay, List, MayAdd, MayPut, Placed, PutAlong, StandsAmong, StartsAt, TailSet, VariableShape, WayStands, [], ap, arith, entry, eof, gdr_offset, index_at, length, max, number, one_of, rules, seven_at_least, shape, sound, starts_at, vdr_vxr_head, vxr_bytes, ℕ, ◌++◌, ◌+◌, ◌∙◌, ◌∷◌, ◌≡◌, ◌≢◌, ◌⊎◌}
+use Rattle.cdf_leaves.proofs.Common.{Way, name_room, Good, In, IsBody, good_eof, good_is_sound, image_limit, type_of_body, variables, vdrs, vvr_type, widest, ◌≤◌, Added, Each-map, EntryPut, HasEnd, IndexStarted, IsAmong, IsStart, IsWay, List, MayAdd, MayPut, Placed, PutAlong, StandsAmong, StartsAt, TailSet, VariableShape, WayStands, [], ap, arith, entry, eof, gdr_offset, index_at, length, max, number, one_of, rules, seven_at_least, shape, sound, starts_at, vdr_vxr_head, vxr_bytes, ℕ, ◌++◌, ◌+◌, ◌∙◌, ◌∷◌, ◌≡◌, ◌≢◌, ◌⊎◌}
 use Rattle.cdf_edits.proofs.Edits.RecordGrown.{ends as ends_now}
-use Rattle.cdf_edits.proofs.Edits.StandsAmong.{name_room}
-use Rattle.cdf_index.specs.declared.descending.Way.{Way}
 use Rattle.cdf_leaves.proofs.LeafGrown.{first_added, grown_stays, grown_tail, may_put, tail_ready, vdr_lies, way_ready, wide_enough}
 use Rattle.cdf_leaves.proofs.Own.{searchable}
 

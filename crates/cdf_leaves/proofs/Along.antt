@@ -1,7 +1,6 @@
 -- The nodes on a way are widened one by one, the last one first.
-use Rattle.cdf_leaves.proofs.Common.{AreTiles, WidenedAlong, drop, map, step_pair, ◌+◌, ◌-◌, Each, Each-map, In, List, NodeFits, NodeInside, Step, StepStands, WayStands, Widened, arith, cases_eq, inl, inr, length, node_head, room_at, slice_index_or, suc, sym, used_count, zero, ℕ, ◌<◌, ◌∙◌, ◌∷◌, ◌≡◌, []}
+use Rattle.cdf_leaves.proofs.Common.{Touched, touched, AreTiles, WidenedAlong, drop, map, step_pair, ◌+◌, ◌-◌, Each, Each-map, In, List, NodeFits, NodeInside, Step, StepStands, WayStands, Widened, arith, cases_eq, inl, inr, length, node_head, room_at, slice_index_or, suc, sym, used_count, zero, ℕ, ◌<◌, ◌∙◌, ◌∷◌, ◌≡◌, []}
 use Rattle.std.proofs.lemmas.List.{drop_more}
-use Rattle.cdf_index.proofs.TreeTouched.{Touched, touched}
 use Rattle.cdf_leaves.proofs.Spares.{Spares, fits_still, node_inside, spares_kept, spares_widened}
 
 -- ---- one of them

@@ -6,6 +6,7 @@ pub use Rattle.cdf_edits.proofs.Common.{bytes_eq, nil_from_length, AreTiles, Cha
 pub use Rattle.cdf_edits.proofs.Edits.ActsThen.{each_in}
 pub use Rattle.cdf_edits.proofs.Edits.Common.{Each-map, distinct_if, each, fits, has, typed}
 pub use Rattle.cdf_edits.proofs.Edits.RecordGrown.{Grew, grew, grew_none, grew_then, kept_then, stands, unlike}
+pub use Rattle.cdf_edits.proofs.Edits.StandsAmong.{name_room}
 pub use Rattle.cdf_edits.proofs.Frame.ChangedBytes.{changed_then}
 pub use Rattle.cdf_edits.proofs.Frame.LinksStay.{nodes_kept, tiles_same}
 unfoldable pub use Rattle.cdf_edits.specs.Commands.Room.{widest, widest_below}
@@ -21,15 +22,17 @@ pub use Rattle.cdf_index.proofs.Inserting.{front_stays, nothing_changed, room_st
 pub use Rattle.cdf_index.proofs.Leading.{begins_by}
 pub use Rattle.cdf_index.proofs.NodeFilled.{fills, node_short}
 pub use Rattle.cdf_index.proofs.OneNode.{SameNode, entry_past, same_node}
-pub use Rattle.cdf_index.proofs.FromReached.{StartsAt, starts_at}
+pub use Rattle.cdf_index.proofs.FromReached.{StartsAt, leaf_rest, rest_among, rest_has, rest_last, rest_once, starts_at}
 pub use Rattle.cdf_index.proofs.Measured.{seven_at_least}
 pub use Rattle.cdf_index.proofs.OneVariable.{one_of}
-pub use Rattle.cdf_index.specs.Starting.{IsStart}
+pub use Rattle.cdf_index.specs.Starting.{IsStart, from_reached}
 pub use Rattle.cdf_index.proofs.WayDown.{apart_by, below_once, below_times, made, no_zero, way_lies}
+pub use Rattle.cdf_index.proofs.TreeTouched.{Touched, touched}
 pub use Rattle.cdf_index.specs.Adding.{AddsLeaf, Counts, IndexTouch, LeafAdded, NodeTaken, TailGoesOn, leaf_acts}
 pub use Rattle.cdf_index.specs.Writing.{SaysUnused}
 pub use Rattle.cdf_index.specs.declared.descending.Spot.{Spot}
 pub use Rattle.cdf_index.specs.declared.descending.Step.{Step}
+pub use Rattle.cdf_index.specs.declared.descending.Way.{Way}
 pub use Rattle.cdf_index.specs.declared.entries.Entry.{Entry}
 pub use Rattle.cdf_leaves.specs.Added.{Added, IsWay, MayAdd, PutAlong, entry}
 pub use Rattle.cdf_leaves.specs.Putting.{ChainMade, EntryPut, IndexStarted, MayPut, NodeMade, SplitMade}

@@ -1,20 +1,14 @@
 -- A leaf more in an index, from the image in which its block was placed: what was done step by step is what a leaf more makes of the image.
-use Rattle.cdf_leaves.proofs.Common.{AddsLeaf, AreTiles, Begins, Bool, Chained, ChainMade, Changed, Comes, Counts, Distinct, Each, Each-append, Each-map, Edit, EndsIn, Entry, EntryIs, EntryPut, Field, FieldSet, Good, Grew, HasEnd, HasNodes, In, IndexTouch, Inserted, IsAmong, IsWay, Kept, Kind, Leaf, List, MayName, MayPut, Names, NodeFits, NodeMade, NodeTaken, NodeWritten, Nodes, Owed, Placed, PutAlong, SaysEntry, SaysNode, SaysUnused, SplitMade, StandsAmong, Step, StepSays, StepStands, StillSays, TailGoesOn, TailSet, Touch, UnusedEntries, VariableShape, WayStands, Widened, WidenedAlong, [], ap, apart, arith, begins_by, bytes_eq, cases_eq, cases_lt, changed_again, changed_then, changed_wider, comes, each, each_in, entries_beside, entry, entry_past, false, field_set, fits, gdr_type, grew, grew_none, grew_then, has, in_nodes_with_leaf, index_at, inl, inr, is_in-true, is_linkable, kept_then, last_node, le-leb, leaf, leaf_acts, leaves_of, leb, length, length-le_from_distinct, length-map, length_tiles, link_to, linkable-from, linkable_kept, long, lt-leb, made, map, max, nat_tests, new_room, nil_from_length, no_entry, no_node, no_zero, node, node_head, node_stays, nodes_kept, nodes_of, nothing_changed, number, number_kept, placed, places_of, record_number_limit, redo, redone, refl, room_at, rules, same_node, shape, size_at, size_kept, sound, stands, step_pair, subst, suc, sym, tile_lies, top_chain, touch, true, type_at, type_of_body, uir_type, unlike, used_count, vdr_vxr_head, vdr_vxr_tail, vvr_type, vxr_n_used_entries, vxr_type, vxr_vxr_next, was_unused, way, widen_all, widest, with_block, with_field, with_leaf, zero, ℕ, ◌*◌, ◌++◌, ◌+◌, ◌-◌, ◌<◌, ◌^◌, ◌∙◌, ◌∷◌, ◌≡◌, ◌≢◌, ◌≤◌, ◌⊎◌}
+use Rattle.cdf_leaves.proofs.Common.{Touched, Way, from_reached, leaf_rest, name_room, rest_among, rest_has, rest_last, rest_once, seven_at_least, touched, AddsLeaf, AreTiles, Begins, Bool, Chained, ChainMade, Changed, Comes, Counts, Distinct, Each, Each-append, Each-map, Edit, EndsIn, Entry, EntryIs, EntryPut, Field, FieldSet, Good, Grew, HasEnd, HasNodes, In, IndexTouch, Inserted, IsAmong, IsWay, Kept, Kind, Leaf, List, MayName, MayPut, Names, NodeFits, NodeMade, NodeTaken, NodeWritten, Nodes, Owed, Placed, PutAlong, SaysEntry, SaysNode, SaysUnused, SplitMade, StandsAmong, Step, StepSays, StepStands, StillSays, TailGoesOn, TailSet, Touch, UnusedEntries, VariableShape, WayStands, Widened, WidenedAlong, [], ap, apart, arith, begins_by, bytes_eq, cases_eq, cases_lt, changed_again, changed_then, changed_wider, comes, each, each_in, entries_beside, entry, entry_past, false, field_set, fits, gdr_type, grew, grew_none, grew_then, has, in_nodes_with_leaf, index_at, inl, inr, is_in-true, is_linkable, kept_then, last_node, le-leb, leaf, leaf_acts, leaves_of, leb, length, length-le_from_distinct, length-map, length_tiles, link_to, linkable-from, linkable_kept, long, lt-leb, made, map, max, nat_tests, new_room, nil_from_length, no_entry, no_node, no_zero, node, node_head, node_stays, nodes_kept, nodes_of, nothing_changed, number, number_kept, placed, places_of, record_number_limit, redo, redone, refl, room_at, rules, same_node, shape, size_at, size_kept, sound, stands, step_pair, subst, suc, sym, tile_lies, top_chain, touch, true, type_at, type_of_body, uir_type, unlike, used_count, vdr_vxr_head, vdr_vxr_tail, vvr_type, vxr_n_used_entries, vxr_type, vxr_vxr_next, was_unused, way, widen_all, widest, with_block, with_field, with_leaf, zero, ℕ, ◌*◌, ◌++◌, ◌+◌, ◌-◌, ◌<◌, ◌^◌, ◌∙◌, ◌∷◌, ◌≡◌, ◌≢◌, ◌≤◌, ◌⊎◌}
 use Rattle.cdf_edits.proofs.Edits.Composing.{head_type}
-use Rattle.cdf_edits.proofs.Edits.StandsAmong.{name_room}
 use Rattle.cdf_format.proofs.NameRules.{bytes_eq-same}
 use Rattle.cdf_format.proofs.Tests.{same_of_bytes_eq}
 use Rattle.cdf_index.proofs.FirstEntry.{node_there}
-use Rattle.cdf_index.proofs.FromReached.{leaf_rest, rest_among, rest_has, rest_last, rest_once}
 use Rattle.cdf_index.proofs.LeafMore.{leaves_more}
 use Rattle.cdf_index.proofs.Looking.{none_there}
-use Rattle.cdf_index.proofs.Measured.{seven_at_least}
 use Rattle.cdf_index.proofs.NodeGrown.{chained_owed, grown_owed, split_owed}
 use Rattle.cdf_index.proofs.NodeSplit.{split}
 use Rattle.cdf_index.proofs.NodeWider.{wider_owed}
-use Rattle.cdf_index.proofs.TreeTouched.{Touched, touched}
-use Rattle.cdf_index.specs.Starting.{from_reached}
-use Rattle.cdf_index.specs.declared.descending.Way.{Way}
 use Rattle.cdf_leaves.proofs.Along.{one_wider}
 use Rattle.cdf_leaves.proofs.NodesMore.{all_once, all_wider, in_new}
 use Rattle.cdf_leaves.proofs.Own.{node_fits, node_spares, node_type, now_blocks, now_has, own_node, own_order, searchable, still_begun, vdr_apart, vdr_in, vdr_kept, vdr_used}

@@ -1,5 +1,5 @@
 -- Nodes that stay but for their used entries.
-use Rattle.cdf_leaves.proofs.Common.{AreTiles, FieldSet, In, Kept, List, NodeFits, NodeInside, StillSays, Widened, arith, counts, entries_beside, front_stays, inl, inr, length, number, room_at, room_beside, room_stays, same_node, size_at, size_beside, tile_lies, used_count, used_stays, vxr_n_used_entries, vxr_vxr_next, ℕ, ◌*◌, ◌+◌, ◌<◌, ◌∙◌, ◌≡◌, ◌≤◌}
+use Rattle.cdf_leaves.proofs.Common.{AreTiles, FieldSet, In, Kept, List, NodeFits, NodeInside, StillSays, Widened, arith, counts, entries_beside, front_stays, inl, inr, length, number, room_at, room_beside, room_stays, same_node, size_at, size_beside, tile_lies, used_count, used_stays, vxr_n_used_entries, vxr_vxr_next, ℕ, ◌*◌, ◌+◌, ◌<◌, ◌≡◌, ◌≤◌}
 
 -- a node is as it was but for its used entries
 pub record Spares (mid now : List ℕ) (m : ℕ) : Type 0 where
@@ -10,13 +10,9 @@ pub record Spares (mid now : List ℕ) (m : ℕ) : Type 0 where
   pub spare : (i : ℕ) → used_count mid m ≤ i → i < room_at mid m → StillSays mid now m i i
 
 pub spares_then : (b mid now : List ℕ) (m : ℕ) → Spares b mid m → Spares mid now m → Spares b now m
-spares_then b mid now m p q = record {
-  size_is = q.size_is ∙ p.size_is;
-  room_is = q.room_is ∙ p.room_is;
-  used_is = q.used_is ∙ p.used_is;
-  count_is = q.count_is ∙ p.count_is;
-  spare = λ i le lt f l o s. q.spare i (omega (arith, p.used_is)) (omega (arith, p.room_is)) f l o (p.spare i le lt f l o s);
-}
+spares_then b mid now m p q =
+    let spare : (i : ℕ) → used_count b m ≤ i → i < room_at b m → StillSays b now m i i = λ i le lt f l o s. q.spare i (omega (arith, p.used_is)) (omega (arith, p.room_is)) f l o (p.spare i le lt f l o s) in
+    grind (arith, spare)
 
 pub fits_still : (mid now : List ℕ) (m : ℕ) → Spares mid now m → NodeFits mid m → NodeFits now m
 fits_still mid now m s fits = (omega (arith, fits.0), omega (arith, fits.1))

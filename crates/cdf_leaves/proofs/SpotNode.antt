@@ -1,6 +1,5 @@
 -- The node at the end of the way, and what a leaf more there leaves of the top chain.
-use Rattle.cdf_leaves.proofs.Common.{Begun, Comes, Distinct, Distinct-back, Each, Entries, HasNodes, IsNode, Leaf, List, Names, Nodes, [], ap, apart_by, arith, begins_by, below_once, below_times, comes_along, comes_below, comes_first, comes_here, inl, inr, length, link_to, block, lower, lower_nodes, max, nat_tests, no_entry, node, nodes_of, refl, room_at, suc, sym, top_chain, used_count, way_lies, widest, widest_below, with_both, with_leaf, no_node, zero, ℕ, ◌++◌, ◌-◌, ◌<◌, ◌∷◌, ◌≡◌, ◌≢◌, ◌≤◌, ◌⊎◌}
-use Rattle.cdf_index.specs.Starting.{from_reached}
+use Rattle.cdf_leaves.proofs.Common.{from_reached, Begun, Comes, Distinct, Distinct-back, Each, Entries, HasNodes, IsNode, Leaf, List, Names, Nodes, [], ap, apart_by, arith, begins_by, below_once, below_times, comes_along, comes_below, comes_first, comes_here, inl, inr, length, link_to, block, lower, lower_nodes, max, nat_tests, no_entry, node, nodes_of, refl, room_at, suc, sym, top_chain, used_count, way_lies, widest, widest_below, with_both, with_leaf, no_node, zero, ℕ, ◌++◌, ◌-◌, ◌<◌, ◌∷◌, ◌≡◌, ◌≢◌, ◌≤◌, ◌⊎◌}
 use Rattle.cdf_index.proofs.Saying.{names_parts}
 
 -- What is found there, and what a leaf more makes of the top chain. A new node goes into it only where the way is short, and then the way ends where the search may start. None is made where the node at its end has room; else there is room in it for the entries past the new one, and for 7. No node on the way is this one.
