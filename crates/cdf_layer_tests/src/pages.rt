@@ -3,7 +3,7 @@
 ghost use Rattle.std.specs.Prelude.{◌≡◌, IsSome, IfOk, OnOk, None};
 
 use cdf_area::Area;
-use cdf_pages::PagedArea;
+use cdf_pages::{PagedArea, SaveError};
 use cdf_store::{FileStore, MemStore, Store};
 use std::alloc::Global;
 use std::fs;
@@ -14,13 +14,15 @@ const NAME: &str = "file";
 /// How many bytes a page has.
 const PAGE: u64 = 65_536;
 
-/// An area over a file of so many bytes that are 7.
-fn area_over(alloc: Global, size: u64) -> Result<PagedArea<MemStore>, Fail>
+/// An area over a file of so many bytes that are 7, whose calls of two numbers fail.
+fn failing_area(alloc: Global, size: u64, fails: [u64; 2]) -> Result<PagedArea<MemStore>, Fail>
     ensures base { IfOk result (λ area. (⟦<PagedArea<MemStore> as Area>⟧.frame area).base ≡ None) }
     ensures held { IfOk result (λ area. IsSome (⟦<PagedArea<MemStore> as Area>⟧.frame area).under.0.held) }
 {
     let bytes = vec![in alloc; 7u8; size as usize]?;
     let mut store = MemStore::new(alloc);
+    store.fail_at(fails[0])?;
+    store.fail_at(fails[1])?;
     store.put_file(NAME, &bytes)?;
     let Ok(Some(length)) = store.attach(NAME, false) else {
         return Err(Fail::new("no file was attached"));
@@ -29,6 +31,15 @@ fn area_over(alloc: Global, size: u64) -> Result<PagedArea<MemStore>, Fail>
         Ok(area) => Ok(area),
         Err(_) => Err(Fail::new("no area")),
     }
+}
+
+/// An area over a file of so many bytes that are 7.
+fn area_over(alloc: Global, size: u64) -> Result<PagedArea<MemStore>, Fail>
+    ensures base { IfOk result (λ area. (⟦<PagedArea<MemStore> as Area>⟧.frame area).base ≡ None) }
+    ensures held { IfOk result (λ area. IsSome (⟦<PagedArea<MemStore> as Area>⟧.frame area).under.0.held) }
+{
+    // No call has the number 0.
+    failing_area(alloc, size, [0, 0])
 }
 
 /// The byte at a place.
@@ -116,6 +127,78 @@ fn a_page_that_was_changed_back_is_not_written(rt: HostRuntime) -> Result<(), Fa
     // Two pages were read, and read again to be compared. One was written, which is the one that the last byte is in.
     save(&mut area, None)?;
     assert_eq!(rt; area.into_store().calls(), 1 + 2 + 2 + 1);
+    Ok(())
+}
+
+/// Why the image is not saved.
+fn save_error(area: &mut PagedArea<MemStore>) -> Result<SaveError, Fail>
+    requires base { (⟦<PagedArea<MemStore> as Area>⟧.frame area.old).base ≡ None }
+    requires held { IsSome (⟦<PagedArea<MemStore> as Area>⟧.frame area.old).under.0.held }
+{
+    if area.size() > 1 << 40 {
+        return Err(Fail::new("the image is too long"));
+    }
+    match area.save(None) {
+        Ok(()) => Err(Fail::new("the image was saved")),
+        Err(error) => Ok(error),
+    }
+}
+
+/// An area over 10 bytes that are 7, whose first byte is 1 and which is three pages long. Calls of two numbers fail.
+fn growing_area(alloc: Global, fails: [u64; 2]) -> Result<PagedArea<MemStore>, Fail>
+    ensures base { IfOk result (λ area. (⟦<PagedArea<MemStore> as Area>⟧.frame area).base ≡ None) }
+    ensures held { IfOk result (λ area. IsSome (⟦<PagedArea<MemStore> as Area>⟧.frame area).under.0.held) }
+{
+    let mut area = failing_area(alloc, 10, fails)?;
+    resize(&mut area, 3 * PAGE)?;
+    write(&mut area, 0, &[1])?;
+    Ok(area)
+}
+
+#[test]
+fn a_file_that_cannot_grow_keeps_its_bytes(rt: HostRuntime) -> Result<(), Fail> {
+    // The file was attached and its page read. It grows by a part of that page, and the next page fails.
+    let mut area = growing_area(rt.alloc(), [4, 4])?;
+    assert_eq!(rt; save_error(&mut area)?, SaveError::Failed { kept: true });
+    let store = area.into_store();
+    assert_eq!(rt; store.calls(), 5);
+    assert_eq!(rt; store.file(NAME), Some([7; 10].as_slice()));
+    Ok(())
+}
+
+#[test]
+fn bytes_stay_behind_a_file_that_cannot_be_cut_back(rt: HostRuntime) -> Result<(), Fail> {
+    let mut area = growing_area(rt.alloc(), [4, 5])?;
+    assert_eq!(rt; save_error(&mut area)?, SaveError::Failed { kept: false });
+    let store = area.into_store();
+    assert_eq!(rt; store.calls(), 5);
+    let Some(bytes) = store.file(NAME) else {
+        return Err(Fail::new("there is no file"));
+    };
+    assert_eq!(rt; bytes.len(), 65_536);
+    assert_eq!(rt;
+        bytes.get(..11),
+        Some([7, 7, 7, 7, 7, 7, 7, 7, 7, 7, 0].as_slice())
+    );
+    Ok(())
+}
+
+#[test]
+fn a_page_across_the_end_is_written_in_two_parts(rt: HostRuntime) -> Result<(), Fail> {
+    let mut area = growing_area(rt.alloc(), [0, 0])?;
+    save(&mut area, Some([9; 16]))?;
+    let store = area.into_store();
+    // Parts of three pages and the tail lie past the end, and a part of a page before it.
+    assert_eq!(rt; store.calls(), 2 + 3 + 1 + 1);
+    let Some(bytes) = store.file(NAME) else {
+        return Err(Fail::new("there is no file"));
+    };
+    assert_eq!(rt; bytes.len(), 3 * 65_536 + 16);
+    assert_eq!(rt;
+        bytes.get(..11),
+        Some([1, 7, 7, 7, 7, 7, 7, 7, 7, 7, 0].as_slice())
+    );
+    assert_eq!(rt; bytes.last(), Some(&9));
     Ok(())
 }
 

@@ -3,4 +3,4 @@ pub mod Fronts
 pub mod LeftBytes
 pub mod Files
 pub mod Attached
-pub mod FaultCounts
+pub mod LimitedReads

@@ -2,7 +2,7 @@
 use Rattle.std.specs.Prelude.{◌≡◌, ℕ, is_some, refl, List, Some, None, string_bytes}
 use Rattle.std.specs.Option.{option_map, option_map_or}
 use Rattle.std.specs.declared.option.Option.{Option}
-use Rattle.cdf_store.specs.declared.file_store.HeldFile.{HeldFile}
+use Rattle.cdf_store.specs.declared.file_store.held_file.HeldFile.{HeldFile}
 
 -- its bytes and its name, where there is one, and the bytes for which it has room
 abbrev pub bytes_in : Option HeldFile → Option (List ℕ)

@@ -6,6 +6,9 @@ pub mod MemFile
 pub mod MemFiles
 pub mod Pieces
 pub mod HeldFile
+pub mod Untouched
+pub mod Folder
+pub mod FileStore
 pub mod Attaching
 pub mod Plan
 pub mod MemSource

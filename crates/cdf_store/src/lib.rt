@@ -3,6 +3,7 @@
 
 mod copy;
 mod failed;
+mod file_failure;
 mod file_store;
 mod mem_files;
 mod mem_sink;
@@ -18,6 +19,7 @@ mod sure_source;
 mod writing;
 
 pub use failed::Failed;
+pub use file_failure::{FileFailure, FileKind};
 pub use file_store::FileStore;
 pub use mem_sink::MemSink;
 pub use mem_source::MemSource;

@@ -1,6 +1,6 @@
 //! A store in memory.
 
-ghost use Rattle.std.specs.Prelude.{◌≡◌, ◌+◌, ◌≤◌, ◌∷◌, ◌++◌, [], IfSome, OnOk, OnErr, Some, None, vec_len, vec_capacity};
+ghost use Rattle.std.specs.Prelude.{◌≡◌, ◌+◌, ◌≤◌, ◌∷◌, ◌++◌, [], IfSome, OnOk, OnErr, Some, None, false, vec_len, vec_capacity};
 ghost use Rattle.std.specs.Option.{option_copied, option_map};
 ghost use Rattle.cdf_store.specs.Named.{lookup, with_file};
 ghost use Rattle.cdf_store.specs.Disk.{Disk};
@@ -24,6 +24,7 @@ pub struct MemStore {
     plan: Plan,
     read_faults: u64,
     write_faults: u64,
+    synced: bool,
     ghost has_writes: { vec_len touched + writes ≤ vec_capacity touched },
     ghost has_room: { end ≤ room_of files },
 }
@@ -40,6 +41,7 @@ impl MemStore {
         ensures write { ⟦<MemStore as Store>⟧.write_faults result ≡ 0 }
         ensures calls { calls_of result ≡ 0 }
         ensures failing { failing_of result ≡ [] }
+        ensures synced { ⟦<MemStore as Store>⟧.synced result ≡ false }
     {
         MemStore {
             files: MemFiles::new(alloc),
@@ -50,6 +52,7 @@ impl MemStore {
             plan: Plan::new(alloc),
             read_faults: 0,
             write_faults: 0,
+            synced: false,
         }
     }
 
@@ -125,6 +128,8 @@ impl Store for MemStore {
 
     ghost write_faults = { write_faults_of };
 
+    ghost synced = { λ s. s.synced };
+
     ghost also = { CallsAsPlanned };
 
     ghost whole = { λ s. record {
@@ -151,6 +156,10 @@ impl Store for MemStore {
         Ok(())
     }
 
+    fn size(&self) -> u64 {
+        self.files.bytes().len() as u64
+    }
+
     fn read_at(&mut self, place: u64, out: &mut [u8]) -> Result<usize, Failed> {
         if self.plan.next_fails() {
             self.read_faults = self.read_faults.saturating_add(1);
@@ -162,6 +171,7 @@ impl Store for MemStore {
     }
 
     fn write_at(&mut self, place: u64, bytes: &[u8]) -> Result<(), Failed> {
+        self.synced = false;
         if self.plan.next_fails() {
             self.write_faults = self.write_faults.saturating_add(1);
             return Err(Failed);
@@ -173,6 +183,7 @@ impl Store for MemStore {
     }
 
     fn write_page(&mut self, place: u64, page: Vec<u8>, count: usize) -> Result<(), Vec<u8>> {
+        self.synced = false;
         if self.plan.next_fails() {
             self.write_faults = self.write_faults.saturating_add(1);
             return Err(page);
@@ -184,12 +195,22 @@ impl Store for MemStore {
     }
 
     fn set_len(&mut self, n: u64) -> Result<(), Failed> {
+        self.synced = false;
         if self.plan.next_fails() {
             self.write_faults = self.write_faults.saturating_add(1);
             return Err(Failed);
         }
         self.files.cut(n as usize);
         self.writes -= 1;
+        Ok(())
+    }
+
+    fn sync(&mut self) -> Result<(), Failed> {
+        self.synced = !self.plan.next_fails();
+        if !self.synced {
+            self.write_faults = self.write_faults.saturating_add(1);
+            return Err(Failed);
+        }
         Ok(())
     }
 }

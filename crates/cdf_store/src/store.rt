@@ -1,6 +1,6 @@
 //! What a store is.
 
-ghost use Rattle.std.specs.Prelude.{◌≡◌, ◌≤◌, ◌+◌, ℕ, List, Bool, length, take, is_err, IsSome, IsTrue, OnOk, OnErr, IfOk, IfErr, IfSome};
+ghost use Rattle.std.specs.Prelude.{◌≡◌, ◌≤◌, ◌+◌, ◌↔◌, ℕ, List, Bool, length, take, is_err, IsSome, IsOk, IsTrue, IsFalse, OnOk, OnErr, IfOk, IfErr, IfSome};
 ghost use Rattle.std.specs.Option.{option_map};
 ghost use Rattle.std.specs.declared.option.Option.{Option};
 ghost use Rattle.cdf_base.specs.Causes.{HasCause, HasCauseOf};
@@ -48,8 +48,11 @@ pub trait Store {
     /// How often attaching and reading have failed.
     ghost read_faults: { Self → ℕ };
 
-    /// How often writing and cutting have failed.
+    /// How often writing, cutting and storing have failed.
     ghost write_faults: { Self → ℕ };
+
+    /// Whether the attached file is stored as it stands: `sync` alone makes it so, and a write or a cut ends it.
+    ghost synced: { Self → Bool };
 
     /// What a device says of each call beyond these clauses: of itself before and after, and whether it failed, or `None` for
     /// `reserve`, which cannot fail by a fault.
@@ -80,6 +83,7 @@ pub trait Store {
         ensures cause { HasCauseOf AttachError.Failed (read_faults self.old) (read_faults self.new)
             result }
         ensures write { write_faults self.new ≡ write_faults self.old }
+        ensures synced { IsTrue (synced self.new) → IsTrue (synced self.old) }
         ensures also { also self.old self.new (Some (is_failed result)) };
 
     /// Makes room for so many writes and cuts, and for writes up to this end of the file. They then take no memory.
@@ -92,7 +96,12 @@ pub trait Store {
         ensures taken { taken self.new ≡ taken self.old }
         ensures read { read_faults self.new ≡ read_faults self.old }
         ensures write { write_faults self.new ≡ write_faults self.old }
+        ensures synced { IsTrue (synced self.new) → IsTrue (synced self.old) }
         ensures also { also self.old self.new None };
+
+    /// How many bytes the attached file has, and 0 where there is none.
+    fn size(&self) -> u64
+        ensures { result ≡ length (file_of (disk self.now)) };
 
     /// Reads bytes of the attached file from `place` on to the front of `out`, and answers how many. It takes no memory.
     fn read_at(&mut self, place: u64, out: &mut [u8]) -> Result<usize, Failed>
@@ -103,6 +112,7 @@ pub trait Store {
         ensures spare { spare self.new ≡ spare self.old }
         ensures cause { HasCause (read_faults self.old) (read_faults self.new) result }
         ensures write { write_faults self.new ≡ write_faults self.old }
+        ensures synced { IsTrue (synced self.new) → IsTrue (synced self.old) }
         ensures also { also self.old self.new (Some (is_err result)) };
 
     /// Writes bytes of the attached file from `place` on, for which room was made. It takes no memory. After a fault the front
@@ -119,6 +129,7 @@ pub trait Store {
         ensures taken { taken self.new ≡ taken self.old }
         ensures cause { HasCause (write_faults self.old) (write_faults self.new) result }
         ensures read { read_faults self.new ≡ read_faults self.old }
+        ensures unsynced { IsFalse (synced self.new) }
         ensures also { also self.old self.new (Some (is_err result)) };
 
     /// Writes the first `count` bytes of a page of 65,536 bytes, as `write_at` does, and may keep the page, so that they need not
@@ -138,6 +149,7 @@ pub trait Store {
         ensures taken { taken self.new ≡ taken self.old }
         ensures cause { HasCause (write_faults self.old) (write_faults self.new) result }
         ensures read { read_faults self.new ≡ read_faults self.old }
+        ensures unsynced { IsFalse (synced self.new) }
         ensures also { also self.old self.new (Some (is_err result)) };
 
     /// Cuts the attached file to `n` bytes. It takes no memory.
@@ -148,6 +160,19 @@ pub trait Store {
         ensures ok { OnOk result (disk self.new ≡ cut (disk self.old) n) }
         ensures stays { OnErr result (disk self.new ≡ disk self.old) }
         ensures spare { Spent (spare self.old) (spare self.new) }
+        ensures taken { taken self.new ≡ taken self.old }
+        ensures cause { HasCause (write_faults self.old) (write_faults self.new) result }
+        ensures read { read_faults self.new ≡ read_faults self.old }
+        ensures unsynced { IsFalse (synced self.new) }
+        ensures also { also self.old self.new (Some (is_err result)) };
+
+    /// Has the attached file stored, so that it outlasts the machine's next stop. It takes no memory, and none of the writes for
+    /// which room was made. What the file has stays, after a fault too.
+    fn sync(&mut self) -> Result<(), Failed>
+        requires held { IsSome (disk self.old).held }
+        ensures disk { disk self.new ≡ disk self.old }
+        ensures synced { IsTrue (synced self.new) ↔ IsOk result }
+        ensures spare { spare self.new ≡ spare self.old }
         ensures taken { taken self.new ≡ taken self.old }
         ensures cause { HasCause (write_faults self.old) (write_faults self.new) result }
         ensures read { read_faults self.new ≡ read_faults self.old }

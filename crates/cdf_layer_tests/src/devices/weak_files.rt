@@ -3,6 +3,7 @@
 use std::alloc::Allocator;
 use std::fs::{File, Metadata, OpenFile, OpenOptions};
 use std::io::{Error, ErrorKind, Read, Result, Seek, SeekFrom, Write};
+use std::os::fd::{AsRawFd, RawFd};
 use std::rt::Files;
 
 /// A stream whose first call is interrupted, and whose third call fails.
@@ -45,18 +46,47 @@ impl Write for Stutter<'_> {
     }
 }
 
-/// A runtime with files that cannot be opened for writing, or take so many bytes and then fail.
+/// How a file is weak.
+#[derive(Clone, Copy)]
+pub struct Weakness {
+    /// How many bytes the file takes in all, or `None` where it cannot be opened for writing.
+    pub takes: Option<usize>,
+    /// How many bytes the file gives before its reads fail.
+    pub gives: usize,
+    /// The most bytes of a call.
+    pub most: usize,
+    /// Whether the file cannot be opened at all.
+    pub is_locked: bool,
+    /// Whether each cut fails.
+    pub is_uncut: bool,
+    /// The place that the file says it has, where not its own.
+    pub place: Option<RawFd>,
+}
+
+/// A file that gives and takes two bytes at once, and is sound besides.
+pub const SLOW: Weakness = Weakness {
+    takes: Some(1 << 20),
+    gives: 1 << 20,
+    most: 2,
+    is_locked: false,
+    is_uncut: false,
+    place: None,
+};
+
+/// A runtime whose files are weak.
 #[derive(Drop)]
 pub struct WeakFiles {
     pub rt: HostRuntime,
-    pub writes: Option<usize>,
+    pub weakness: Weakness,
 }
 
-/// A file whose every other call is interrupted, which gives and takes two bytes at once, and takes `left` in all.
+/// A weak file, whose every other call is interrupted.
 #[derive(Drop)]
 pub struct WeakFile {
     file: File,
-    left: usize,
+    weakness: Weakness,
+    takes: usize,
+    gives: usize,
     interrupts: bool,
 }
 
@@ -74,25 +104,39 @@ impl WeakFile {
 impl Read for WeakFile {
     fn read(&mut self, buf: &mut [u8]) -> Result<usize> {
         self.call()?;
-        let most = buf.len().min(2);
-        self.file.read(&mut buf[..most])
+        let most = buf.len().min(self.gives).min(self.weakness.most);
+        if most == 0 {
+            return Err(Error::from(ErrorKind::TimedOut));
+        }
+        let count = self.file.read(&mut buf[..most])?;
+        self.gives -= count;
+        Ok(count)
     }
 }
 
 impl Write for WeakFile {
     fn write(&mut self, buf: &[u8]) -> Result<usize> {
         self.call()?;
-        let most = buf.len().min(self.left).min(2);
+        let most = buf.len().min(self.takes).min(self.weakness.most);
         if most == 0 {
             return Err(Error::from(ErrorKind::StorageFull));
         }
         let count = self.file.write(&buf[..most])?;
-        self.left -= count;
+        self.takes -= count;
         Ok(count)
     }
 
     fn flush(&mut self) -> Result<()> {
         Ok(())
+    }
+}
+
+impl AsRawFd for WeakFile {
+    fn as_raw_fd(&self) -> RawFd {
+        match self.weakness.place {
+            None => self.file.as_raw_fd(),
+            Some(place) => place,
+        }
     }
 }
 
@@ -108,6 +152,9 @@ impl OpenFile for WeakFile {
     }
 
     fn set_len(&self, size: u64) -> Result<()> {
+        if self.weakness.is_uncut {
+            return Err(Error::from(ErrorKind::FileTooLarge));
+        }
         self.file.set_len(size)
     }
 
@@ -126,13 +173,15 @@ impl Files for WeakFiles {
     type Dir = <HostRuntime as Files>::Dir;
 
     fn open_file(&self, how: &OpenOptions, path: &str) -> Result<WeakFile> {
-        if how.asks_write() && self.writes.is_none() {
+        let weakness = self.weakness;
+        if weakness.is_locked || how.asks_write() && weakness.takes.is_none() {
             return Err(Error::from(ErrorKind::PermissionDenied));
         }
-        let file = self.rt.open_file(how, path)?;
         Ok(WeakFile {
-            file,
-            left: self.writes.unwrap_or(0),
+            file: self.rt.open_file(how, path)?,
+            weakness,
+            takes: weakness.takes.unwrap_or(0),
+            gives: weakness.gives,
             interrupts: false,
         })
     }

@@ -1,0 +1,29 @@
+//! Why a call on a real file failed.
+
+use std::io::ErrorKind;
+
+/// What a name leads to that is no regular file.
+#[derive(Clone, Copy, Debug, PartialEq, Eq)]
+pub enum FileKind {
+    Folder,
+    Fifo,
+    Socket,
+    CharacterDevice,
+    BlockDevice,
+    Other,
+}
+
+/// Why a call on a real file failed.
+#[derive(Clone, Copy, Debug, PartialEq, Eq)]
+pub enum FileFailure {
+    /// The name leads to something else than a regular file.
+    NotRegular(FileKind),
+    /// Another program wrote the file, or put another in its place, after it was attached.
+    Changed,
+    /// The file was opened in the place of a standard stream.
+    StandardStream,
+    /// The file can be read, but could not be opened for writing.
+    NotWritable(ErrorKind),
+    /// The system refused a call.
+    System(ErrorKind),
+}

@@ -1,0 +1,49 @@
+//! Reading a file whole.
+
+ghost use Rattle.std.specs.Prelude.{◌≡◌, ◌+◌, ◌++◌, take, OnOk, IfSome};
+ghost use Rattle.std.specs.Io.{ReadsAtMost};
+ghost use Rattle.std.specs.Io.KnownBytes.{ReadConsumes};
+ghost use Rattle.cdf_model.specs.Limits.{image_limit};
+
+use super::open_error::{OpenError, open_error};
+use crate::pieces::{PIECE, Pieces};
+use cdf_model::limits::IMAGE_LIMIT;
+use std::io::{ErrorKind, Read};
+
+/// How many bytes of a file are read: those of an image of the most bytes, a checksum behind it, and one more, by which a file
+/// shows that it is longer.
+pub const READ_LIMIT: u64 = IMAGE_LIMIT + 17;
+
+/// Reads once, and again after an interruption.
+pub fn read_some<F: Read>(file: &mut F, out: &mut [u8]) -> Result<usize, ErrorKind>
+    ensures bound { ReadsAtMost result out.new }
+    ensures bytes { ReadConsumes (F.remaining file.old) (F.remaining file.new) result out.new }
+{
+    for _ in 0..u64::MAX {
+        match file.read(out) {
+            Ok(count) => return Ok(count),
+            Err(error) if error.kind() == ErrorKind::Interrupted => {}
+            Err(error) => return Err(error.kind()),
+        }
+    }
+    Err(ErrorKind::Interrupted)
+}
+
+/// Appends all that a file has left, or its first bytes up to the limit.
+pub fn read_whole<F: Read>(file: &mut F, pieces: &mut Pieces) -> Result<(), OpenError>
+    ensures { OnOk result (IfSome (F.remaining file.old) (λ left. pieces.new.bytes ≡ pieces.old.bytes ++ take (image_limit + 17) left)) }
+{
+    let mut piece = [0; PIECE as usize];
+    let mut room = READ_LIMIT;
+    while room > 0 {
+        let part = &mut piece[..room.min(PIECE) as usize];
+        let count = match read_some(file, part) {
+            Ok(0) => return Ok(()),
+            Ok(count) => count,
+            Err(kind) => return Err(open_error(kind)),
+        };
+        pieces.push(&part[..count])?;
+        room -= count as u64;
+    }
+    Ok(())
+}

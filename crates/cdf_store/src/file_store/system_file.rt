@@ -1,0 +1,163 @@
+//! The attached file as the system has it: when it is written, cut and stored.
+
+ghost use Rattle.std.specs.Prelude.{◌≡◌, ◌<◌, ◌≤◌, ◌↔◌, length, IsOk, IsSomeAnd, None};
+ghost use Rattle.cdf_store.specs.Untouched.{IsWritable, MayBeWritten};
+
+use super::comparison::{Comparison, stands_as_before};
+use super::folder::store_folder;
+use super::stamp::Stamp;
+use super::writing::{Written, go_to, write_some};
+use crate::FileFailure;
+use std::fs::OpenFile;
+use std::io::ErrorKind;
+use std::rt::Files;
+
+/// The attached file as the system has it.
+#[derive(Drop)]
+pub struct SystemFile<F> {
+    pub name: String,
+    pub file: F,
+    /// Why the file could not be opened for writing, where it could not.
+    pub refusal: Option<ErrorKind>,
+    /// How the file stood before its first byte was read.
+    pub stamp: Stamp,
+    pub comparison: Comparison,
+    /// The folder that holds the file, where attaching made the file.
+    pub made_in: Option<String>,
+}
+
+/// Refuses a file that could not be opened for writing, and a file that was found to be changed.
+fn check_writable<F>(file: &SystemFile<F>) -> Result<(), FileFailure>
+    ensures { IsOk result ↔ IsWritable file.now }
+{
+    if let Some(kind) = file.refusal {
+        return Err(FileFailure::NotWritable(kind));
+    }
+    if file.comparison == Comparison::Changed {
+        return Err(FileFailure::Changed);
+    }
+    Ok(())
+}
+
+/// Refuses a file that is not to be written. Before the first write and cut the file is compared with how it stood.
+fn check_unchanged<R: Files>(rt: &R, file: &mut SystemFile<R::File>) -> Result<(), FileFailure>
+    ensures ready { IsOk result → MayBeWritten file.new }
+    ensures refused { IsOk result → IsWritable file.old }
+    ensures once { MayBeWritten file.old → IsOk result × (file.new ≡ file.old) }
+{
+    check_writable(file)?;
+    if file.comparison == Comparison::Same {
+        return Ok(());
+    }
+    match stands_as_before(rt, &file.name, &file.file, &file.stamp) {
+        Ok(true) => {
+            file.comparison = Comparison::Same;
+            Ok(())
+        }
+        Ok(false) => {
+            file.comparison = Comparison::Changed;
+            Err(FileFailure::Changed)
+        }
+        Err(kind) => Err(FileFailure::System(kind)),
+    }
+}
+
+/// Writes bytes from a place on, where the file may be written.
+fn write_from<R: Files>(rt: &R, file: &mut SystemFile<R::File>, place: u64, bytes: &[u8]) -> Written
+    ensures bound { result.count ≤ length bytes.now }
+    ensures whole { result.failure ≡ None → result.count ≡ length bytes.now }
+    ensures refused { 0 < result.count → IsWritable file.old }
+{
+    let ready = match check_unchanged(rt, file) {
+        Ok(()) => go_to(&mut file.file, place),
+        Err(failure) => Err(failure),
+    };
+    match ready {
+        Ok(()) => write_some(&mut file.file, bytes),
+        Err(failure) => Written {
+            count: 0,
+            failure: Some(failure),
+        },
+    }
+}
+
+/// Cuts a file of this length to `n` bytes. Where it has just these, the system is not called.
+fn cut_to<R: Files>(
+    rt: &R,
+    file: &mut SystemFile<R::File>,
+    length: u64,
+    n: u64,
+) -> Result<(), FileFailure>
+    ensures refused { IsOk result → IsWritable file.old }
+{
+    if n == length {
+        return check_writable(file);
+    }
+    check_unchanged(rt, file)?;
+    match file.file.set_len(n) {
+        Ok(()) => Ok(()),
+        Err(error) => Err(FileFailure::System(error.kind())),
+    }
+}
+
+/// Has a file stored, and the folder that holds it, where attaching made the file.
+fn store_file<R: Files>(rt: &R, file: &SystemFile<R::File>) -> Result<(), FileFailure>
+    ensures refused { IsOk result → IsWritable file.now }
+{
+    check_writable(file)?;
+    if let Err(error) = file.file.sync_all() {
+        return Err(FileFailure::System(error.kind()));
+    }
+    match &file.made_in {
+        None => Ok(()),
+        Some(folder) => store_folder(rt, folder),
+    }
+}
+
+/// The failure of a call where no file is attached.
+const NO_FILE: FileFailure = FileFailure::System(ErrorKind::NotFound);
+
+/// Writes bytes of the attached file from a place on.
+pub fn write<R: Files>(
+    rt: &R,
+    system: &mut Option<SystemFile<R::File>>,
+    place: u64,
+    bytes: &[u8],
+) -> Written
+    ensures bound { result.count ≤ length bytes.now }
+    ensures whole { result.failure ≡ None → result.count ≡ length bytes.now }
+    ensures refused { 0 < result.count → IsSomeAnd system.old IsWritable }
+{
+    match system {
+        None => Written {
+            count: 0,
+            failure: Some(NO_FILE),
+        },
+        Some(file) => write_from(rt, file, place, bytes),
+    }
+}
+
+/// Cuts the attached file, which has this length, to `n` bytes.
+pub fn cut<R: Files>(
+    rt: &R,
+    system: &mut Option<SystemFile<R::File>>,
+    length: u64,
+    n: u64,
+) -> Result<(), FileFailure>
+    ensures refused { IsOk result → IsSomeAnd system.old IsWritable }
+{
+    match system {
+        None => Err(NO_FILE),
+        Some(file) => cut_to(rt, file, length, n),
+    }
+}
+
+/// Has the attached file stored.
+pub fn store<R: Files>(rt: &R, system: &Option<SystemFile<R::File>>) -> Result<(), FileFailure>
+    ensures refused { IsOk result → IsSomeAnd system.now IsWritable }
+{
+    match system {
+        None => Err(NO_FILE),
+        Some(file) => store_file(rt, file),
+    }
+}
