@@ -1,14 +1,15 @@
 -- The names that most proofs of this crate cite, passed on from one place. Declares nothing.
 pub use Rattle.cdf_area.specs.OldBytes.{AllLieBelow, LiesBelow, Old}
 unfoldable pub use Rattle.cdf_area.specs.OldBytes.{back}
-pub use Rattle.cdf_area.specs.declared.area.AreaError.TheVariants.{Fault, NoMemory}
 pub use Rattle.cdf_base.proofs.Puts.{byte-put_after, byte-put_before, byte-put_inside, length-put, put_more, put_own, take-put}
 unfoldable pub use Rattle.cdf_base.specs.Bytes.{put}
 pub use Rattle.cdf_pages.specs.Grown.{Grown, Owned, RemovesSome}
 unfoldable pub use Rattle.cdf_pages.specs.Grown.{removed}
+pub use Rattle.cdf_pages.specs.Growth.{Grows, HasBehind, HasTailBehind, HoldsGrown, pages_to}
 pub use Rattle.cdf_pages.specs.Pages.{AllShow, Backed, Covers, Shows, TakesAtMost, byte_from, byte_of, is_in, part_from, part_upto, was}
 unfoldable pub use Rattle.cdf_pages.specs.Pages.{image_of, listed}
-pub use Rattle.cdf_pages.specs.Saving.{Differs, HasNothingToSave, Holds, HoldsBetween, IsBetween, IsChangedRange, IsSavedAlready, LiesIn, Touches, is_edited, most_of, tail_bytes}
+pub use Rattle.cdf_pages.specs.Saving.{Differs, FailsSaving, HasNothingToSave, HasSaveCause, Holds, HoldsBetween, IsBetween, IsChangedRange, IsSavedAlready, LiesIn, Touches, tail_bytes}
+pub use Rattle.cdf_pages.specs.Table.{pages_before}
 pub use Rattle.cdf_pages.specs.Standing.{Changes, ChangesSome, IsPageOf, ReadsSome, page_cost, pages_in, to_front, used, without}
 unfoldable pub use Rattle.cdf_pages.specs.Standing.{cost_of_reading, cost_of_writing, used_from, without_from}
 unfoldable pub use Rattle.cdf_pages.specs.Table.{page_at, pages_held}

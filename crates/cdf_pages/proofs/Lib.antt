@@ -5,6 +5,7 @@ pub mod Covered
 pub mod Disks
 pub mod Filling
 pub mod Growing
+pub mod Grew
 pub mod Images
 pub mod Keys
 pub mod SavedArea
@@ -12,3 +13,4 @@ pub mod SavedPage
 pub mod Settled
 pub mod Slots
 pub mod Touched
+pub mod WrittenOver

@@ -1,7 +1,12 @@
 -- A page is written to the file.
-use Rattle.cdf_pages.proofs.Common.{Backed, Disk, IsSome, IsTrue, List, None, Option, Some, WrittenPart, ap, arith, byte-put_after, byte-put_before, byte-put_inside, byte_from, cases_Bool, cases_lt, file_of, get_or-take, get_or_append_left, image_of, inl, inr, is_in, is_some, length, length-append, length-take-le, length-written, max, min, put, refl, slice_index, sym, take, take_at, written, ℕ, ◌%◌, ◌*◌, ◌++◌, ◌+◌, ◌-◌, ◌/◌, ◌<◌, ◌∙◌, ◌≡◌, ◌≤◌}
+use Rattle.cdf_pages.proofs.Common.{Backed, HasBehind, IsSome, IsTrue, List, None, Option, Some, ap, arith, byte-put_after, byte-put_before, byte-put_inside, byte_from, cases_Bool, cases_lt, get_or-take, get_or_append_left, image_of, inl, inr, is_in, is_some, length, length-append, length-take-le, min, put, refl, slice_index, sym, take, take_at, ℕ, ◌%◌, ◌*◌, ◌++◌, ◌+◌, ◌-◌, ◌/◌, ◌<◌, ◌∙◌, ◌≡◌, ◌≤◌, ◌⊎◌}
 use Rattle.cdf_pages.proofs.Filling.{false_not_true, none_is}
 use Rattle.cdf_pages.proofs.Images.{at_page, byte-image, image_file, image_same, length-image, same_or_not}
+
+-- a byte of the image stays, if the file's stays where there is no changed page
+pub byte_kept : (o : Option (List ℕ)) (f g : List ℕ) (i : ℕ) → (o ≡ None → slice_index f i ≡ slice_index g i) → byte_from o f i ≡ byte_from o g i
+byte_kept None f g i e = e refl
+byte_kept (Some x) f g i e = refl
 
 module _ (p p' : ℕ → Option (List ℕ)) (file page xs : List ℕ) (n k : ℕ) (there : p k ≡ Some page) (place : k * 65536 ≤ length file) (room : length xs ≤ 65536)
     (others : (q : ℕ) → (q ≡ k → ⊥) → p' q ≡ p q) where
@@ -15,65 +20,65 @@ module _ (p p' : ℕ → Option (List ℕ)) (file page xs : List ℕ) (n k : ℕ
     ]
   ]
 
-  from_same : (o : Option (List ℕ)) (f g : List ℕ) (i : ℕ) → slice_index f i ≡ slice_index g i → byte_from o f i ≡ byte_from o g i
-  from_same None f g i e = e
-  from_same (Some x) f g i e = refl
-
   -- the page is still a changed one
   pub part_same : image_of p (put file (k * 65536) xs) n ≡ image_of p file n
   part_same = image_same p p (put file (k * 65536) xs) file n (λ i lt. elim (same_or_not (i / 65536) k) [
     | inl here ↦ at_page p (put file (k * 65536) xs) page i k here there ∙ sym (at_page p file page i k here there)
-    | inr else ↦ from_same (p (i / 65536)) (put file (k * 65536) xs) file i (elsewhere i else)
+    | inr else ↦ byte_kept (p (i / 65536)) (put file (k * 65536) xs) file i (λ none. elsewhere i else)
   ])
 
-  -- it is a changed one no more, and its live part was written
-  pub saved_same : p' k ≡ None → xs ≡ take (min 65536 (n - k * 65536)) page → length page ≡ 65536 → image_of p' (put file (k * 65536) xs) n ≡ image_of p file n
-  saved_same gone is long = image_same p' p (put file (k * 65536) xs) file n (λ i lt. elim (same_or_not (i / 65536) k) [
+  -- It is a changed one no more. It was written up to an end, behind which the file has the image's bytes.
+  pub saved_same : (end : ℕ) → p' k ≡ None → k * 65536 < end → xs ≡ take (min 65536 (end - k * 65536)) page → length page ≡ 65536 → HasBehind p file end n → image_of p' (put file (k * 65536) xs) n ≡ image_of p file n
+  saved_same end gone inside is long behind = image_same p' p (put file (k * 65536) xs) file n (λ i lt. elim (same_or_not (i / 65536) k) [
     | inl here ↦
-        (let live = min 65536 (n - k * 65536) in
-        let count : length xs ≡ live = ap (λ (l : List ℕ). length l) is ∙ length-take-le live page (omega (arith, long)) in
-        let low : i % 65536 < live = omega arith in
-        let spot : k * 65536 + i % 65536 ≡ i = omega arith in
-        ap (λ q. byte_from (p' q) (put file (k * 65536) xs) i) here ∙ ap (λ o. byte_from o (put file (k * 65536) xs) i) gone
-        ∙ ap (slice_index (put file (k * 65536) xs)) (sym spot) ∙ byte-put_inside file (k * 65536) xs (i % 65536) place (omega (arith, count))
-        ∙ ap (λ (l : List ℕ). slice_index l (i % 65536)) is ∙ get_or-take live page (i % 65536) 0 low ∙ sym (at_page p file page i k here there))
-    | inr else ↦ ap (λ o. byte_from o (put file (k * 65536) xs) i) (others (i / 65536) else) ∙ from_same (p (i / 65536)) (put file (k * 65536) xs) file i (elsewhere i else)
+        (let count = min 65536 (end - k * 65536) in
+        let size : length xs ≡ count = ap (λ (l : List ℕ). length l) is ∙ length-take-le count page (omega (arith, long)) in
+        let read : byte_from (p' (i / 65536)) (put file (k * 65536) xs) i ≡ slice_index (put file (k * 65536) xs) i = ap (λ q. byte_from (p' q) (put file (k * 65536) xs) i) here ∙ ap (λ o. byte_from o (put file (k * 65536) xs) i) gone in
+        elim (cases_lt i end) [
+          | inl before ↦
+              (let low : i % 65536 < count = omega (arith, here, before) in
+              let spot : k * 65536 + i % 65536 ≡ i = omega (arith, here) in
+              read ∙ ap (slice_index (put file (k * 65536) xs)) (sym spot) ∙ byte-put_inside file (k * 65536) xs (i % 65536) place (omega (arith, low, size))
+              ∙ ap (λ (l : List ℕ). slice_index l (i % 65536)) is ∙ get_or-take count page (i % 65536) 0 low ∙ sym (at_page p file page i k here there))
+          | inr after ↦ read ∙ byte-put_after file (k * 65536) xs i place (omega (arith, size, inside, after)) ∙ behind i after lt
+        ])
+    | inr else ↦ ap (λ o. byte_from o (put file (k * 65536) xs) i) (others (i / 65536) else) ∙ byte_kept (p (i / 65536)) (put file (k * 65536) xs) file i (λ none. elsewhere i else)
   ])
 
--- the live part of a changed page stands in the image, and in front of a tail
-pub page_in_image : (p : ℕ → Option (List ℕ)) (file page xs tail : List ℕ) (n k : ℕ) → p k ≡ Some page → length page ≡ 65536 → xs ≡ take (min 65536 (n - k * 65536)) page → k * 65536 < n
+-- the part of a changed page up to an end in the image stands there, and in front of a tail
+pub page_in_image : (p : ℕ → Option (List ℕ)) (file page xs tail : List ℕ) (n k end : ℕ) → p k ≡ Some page → length page ≡ 65536 → xs ≡ take (min 65536 (end - k * 65536)) page → k * 65536 < end → end ≤ n
     → (k * 65536 + length xs ≤ length (image_of p file n ++ tail)) × ((t : ℕ) → t < length xs → slice_index xs t ≡ slice_index (image_of p file n ++ tail) (k * 65536 + t))
-page_in_image p file page xs tail n k there whole is inside =
-    let live = min 65536 (n - k * 65536) in
+page_in_image p file page xs tail n k end there whole is inside within_image =
+    let count = min 65536 (end - k * 65536) in
     let size = length-image p file n in
-    let count : length xs ≡ live = ap (λ (l : List ℕ). length l) is ∙ length-take-le live page (omega (arith, whole)) in (
-      omega (arith, count, size, inside, length-append (image_of p file n) tail),
+    let long : length xs ≡ count = ap (λ (l : List ℕ). length l) is ∙ length-take-le count page (omega (arith, whole)) in (
+      omega (arith, long, size, inside, within_image, length-append (image_of p file n) tail),
       λ t lt.
-          let low : t < live = omega (arith, lt, count) in
-          let within : k * 65536 + t < length (image_of p file n) = omega (arith, low, size) in
+          let low : t < count = omega (arith, lt, long) in
+          let within : k * 65536 + t < length (image_of p file n) = omega (arith, low, size, within_image) in
           let here : (k * 65536 + t) / 65536 ≡ k = omega (arith, low) in
           let rest : (k * 65536 + t) % 65536 ≡ t = omega (arith, low) in
-          ap (λ (l : List ℕ). slice_index l t) is ∙ get_or-take live page t 0 low
-          ∙ sym (get_or_append_left (image_of p file n) tail 0 (k * 65536 + t) within ∙ byte-image p file n (k * 65536 + t) 0 (omega (arith, low)) ∙ at_page p file page (k * 65536 + t) k here there ∙ ap (slice_index page) rest),
+          ap (λ (l : List ℕ). slice_index l t) is ∙ get_or-take count page t 0 low
+          ∙ sym (get_or_append_left (image_of p file n) tail 0 (k * 65536 + t) within ∙ byte-image p file n (k * 65536 + t) 0 (omega (arith, low, within_image)) ∙ at_page p file page (k * 65536 + t) k here there ∙ ap (slice_index page) rest),
     )
+
+-- what the file has of the image behind an end it still has, whatever changed before
+pub behind_stays : (p p' : ℕ → Option (List ℕ)) (file file' : List ℕ) (end n : ℕ) → ((i : ℕ) → end ≤ i → slice_index file' i ≡ slice_index file i) → ((q : ℕ) → (p' q ≡ None) ⊎ (p' q ≡ p q)) → HasBehind p file end n → HasBehind p' file' end n
+behind_stays p p' file file' end n same which behind i low lt = elim (which (i / 65536)) [
+  | inl none ↦ sym (ap (λ o. byte_from o file' i) none)
+  | inr is ↦ same i low ∙ behind i low lt ∙ byte_kept (p (i / 65536)) file file' i (λ none. sym (same i low)) ∙ ap (λ o. byte_from o file' i) (sym is)
+]
+
+-- one page goes, and the others stay
+pub goes_or_stays : (p p' : ℕ → Option (List ℕ)) (k : ℕ) → p' k ≡ None → ((q : ℕ) → (q ≡ k → ⊥) → p' q ≡ p q) → (q : ℕ) → (p' q ≡ None) ⊎ (p' q ≡ p q)
+goes_or_stays p p' k gone others q = elim (same_or_not q k) [
+  | inl here ↦ inl (ap p' here ∙ gone)
+  | inr else ↦ inr (others q else)
+]
 
 -- what no changed page has still stands in the file
 pub backed_longer : (p p' : ℕ → Option (List ℕ)) (long long' n : ℕ) → long ≤ long' → ((q : ℕ) → p' q ≡ None → p q ≡ None) → Backed p long n → Backed p' long' n
 backed_longer p p' long long' n le less b i lt e = omega (arith, le, b i lt (less (i / 65536) e))
-
-pub backed_part : {U : Type 0} (p : ℕ → Option (List ℕ)) (d next : Disk U) (n place : ℕ) (xs : List ℕ) → place ≤ length (file_of d) → WrittenPart d place xs next → Backed p (length (file_of d)) n → Backed p (length (file_of next)) n
-backed_part p d next n place xs room (inl same) b = backed_longer p p (length (file_of d)) (length (file_of next)) n (omega (arith, ap (λ x. length (file_of x)) same)) (λ q e. e) b
-backed_part p d next n place xs room (inr w) b =
-    backed_longer p p (length (file_of d)) (length (file_of next)) n (omega (arith, ap (λ x. length (file_of x)) w.2, length-written (file_of d) place (take w.0 xs) room)) (λ q e. e) b
-
-pub backed_saved : {U : Type 0} (p p' : ℕ → Option (List ℕ)) (d next : Disk U) (n k : ℕ) (xs : List ℕ) → length xs ≡ min 65536 (n - k * 65536) → k * 65536 ≤ length (file_of d) → next ≡ written d (k * 65536) xs → ((q : ℕ) → (q ≡ k → ⊥) → p' q ≡ p q)
-    → Backed p (length (file_of d)) n → Backed p' (length (file_of next)) n
-backed_saved p p' d next n k xs size room is others b i lt e =
-    let long : length (file_of next) ≡ max (length (file_of d)) (k * 65536 + length xs) = ap (λ x. length (file_of x)) is ∙ length-written (file_of d) (k * 65536) xs room in
-    elim (same_or_not (i / 65536) k) [
-      | inl here ↦ omega (arith, here, long, size, lt)
-      | inr else ↦ omega (arith, long, b i lt (sym (others (i / 65536) else) ∙ e))
-    ]
 
 pub less_saved : (p p' : ℕ → Option (List ℕ)) (k : ℕ) → p' k ≡ None → ((q : ℕ) → (q ≡ k → ⊥) → p' q ≡ p q) → (q : ℕ) → p q ≡ None → p' q ≡ None
 less_saved p p' k gone others q e = elim (same_or_not q k) [
@@ -95,19 +100,12 @@ changed_at_first p p' k less some = elim (cases_Bool (is_some (p k))) [
   | inr none ↦ absurd (false_not_true (sym (ap is_some (less k (none_is (p k) none))) ∙ some))
 ]
 
--- all before a changed page stands in the file
-pub place_in_file : (p : ℕ → Option (List ℕ)) (long n k : ℕ) → Backed p long n → ((q : ℕ) → q < k → p q ≡ None) → k * 65536 < n → k * 65536 ≤ long
-place_in_file p long n k b none inside = elim (cases_lt 0 k) [
-  | inl some ↦ (let before = b (k * 65536 - 1) (omega (arith, inside)) (none ((k * 65536 - 1) / 65536) (omega (arith, some))) in omega (arith, before, some))
-  | inr zero ↦ omega (arith, zero)
-]
-
--- a page past the image may be forgotten
-pub forgotten_same : (p p' : ℕ → Option (List ℕ)) (file : List ℕ) (n k : ℕ) → n ≤ k * 65536 → ((q : ℕ) → (q ≡ k → ⊥) → p' q ≡ p q) → image_of p' file n ≡ image_of p file n
-forgotten_same p p' file n k past others = image_same p' p file file n (λ i lt. ap (λ o. byte_from o file i) (others (i / 65536) (λ e. omega (arith, e, lt, past))))
-
-pub forgotten_backed : (p p' : ℕ → Option (List ℕ)) (long n k : ℕ) → n ≤ k * 65536 → ((q : ℕ) → (q ≡ k → ⊥) → p' q ≡ p q) → Backed p long n → Backed p' long n
-forgotten_backed p p' long n k past others b i lt e = b i lt (sym (others (i / 65536) (λ is. omega (arith, is, lt, past))) ∙ e)
+-- a page past an end may be forgotten, where the file has the image's bytes behind it
+pub forgotten_same : (p p' : ℕ → Option (List ℕ)) (file : List ℕ) (n k end : ℕ) → end ≤ k * 65536 → p' k ≡ None → HasBehind p file end n → ((q : ℕ) → (q ≡ k → ⊥) → p' q ≡ p q) → image_of p' file n ≡ image_of p file n
+forgotten_same p p' file n k end past gone behind others = image_same p' p file file n (λ i lt. elim (same_or_not (i / 65536) k) [
+  | inl here ↦ ap (λ q. byte_from (p' q) file i) here ∙ ap (λ o. byte_from o file i) gone ∙ behind i (omega (arith, here, past)) lt
+  | inr else ↦ ap (λ o. byte_from o file i) (others (i / 65536) else)
+])
 
 -- ---- no page is a changed one any more
 

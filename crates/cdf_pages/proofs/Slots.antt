@@ -1,5 +1,5 @@
 -- Changed pages in places of their own: one that is put in, one that goes, places more.
-use Rattle.cdf_pages.proofs.Common.{IsSome, List, None, Option, Some, [], ap, arith, get_or-set_other, get_or-set_same, get_or_past, if◌then◌else◌, is_some, length, page_at, pages_held, refl, slice_set, suc, take, zero, ℕ, ◌++◌, ◌+◌, ◌<◌, ◌∙◌, ◌∷◌, ◌≡◌, ◌≢◌, ◌≤◌}
+use Rattle.cdf_pages.proofs.Common.{IsSome, List, None, Option, Some, [], ap, arith, cases_lt, get_or-set_other, get_or-set_same, get_or_past, if◌then◌else◌, inl, inr, is_some, length, min, page_at, pages_held, refl, slice_set, suc, sym, take, take_all, zero, ℕ, ◌++◌, ◌+◌, ◌<◌, ◌∙◌, ◌∷◌, ◌≡◌, ◌≢◌, ◌≤◌}
 use Rattle.std.specs.Prelude.{get_or}
 use Rattle.cdf_pages.proofs.Filling.{false_not_true}
 
@@ -65,6 +65,35 @@ counted_short slots zero = let r = none_counted slots in omega (arith, r)
 counted_short [] (suc n) = omega arith
 counted_short (None ∷ more) (suc n) = let r = counted_short more n in omega (arith, r)
 counted_short (Some page ∷ more) (suc n) = let r = counted_short more n in omega (arith, r)
+
+-- a page goes, before a number or behind it
+pub less_before : (slots : List (Option (List ℕ))) (n k : ℕ) → n < k → IsSome (page_at slots n) → pages_held (take k (slice_set slots n None)) + 1 ≡ pages_held (take k slots)
+unfolding page_at pages_held
+less_before slots n zero lt some = absurd (omega (arith, lt))
+less_before [] n (suc k) lt some = absurd (false_not_true some)
+less_before (None ∷ more) zero (suc k) lt some = absurd (false_not_true some)
+less_before (Some page ∷ more) zero (suc k) lt some = omega arith
+less_before (None ∷ more) (suc n) (suc k) lt some = less_before more n k (omega (arith, lt)) some
+less_before (Some page ∷ more) (suc n) (suc k) lt some = let r = less_before more n k (omega (arith, lt)) some in omega (arith, r)
+
+pub same_before : (slots : List (Option (List ℕ))) (n k : ℕ) (slot : Option (List ℕ)) → k ≤ n → pages_held (take k (slice_set slots n slot)) ≡ pages_held (take k slots)
+unfolding pages_held
+same_before slots n zero slot le = none_counted (slice_set slots n slot) ∙ sym (none_counted slots)
+same_before [] n (suc k) slot le = refl
+same_before (one ∷ more) zero (suc k) slot le = absurd (omega (arith, le))
+same_before (None ∷ more) (suc n) (suc k) slot le = same_before more n k slot (omega (arith, le))
+same_before (Some page ∷ more) (suc n) (suc k) slot le = ap suc (same_before more n k slot (omega (arith, le)))
+
+-- a number past all places counts them all
+pub counted_upto : (slots : List (Option (List ℕ))) (k : ℕ) → pages_held (take (min (length slots) k) slots) ≡ pages_held (take k slots)
+counted_upto slots k = elim (cases_lt k (length slots)) [
+  | inl less ↦ ap (λ m. pages_held (take m slots)) (omega (arith, less))
+  | inr more ↦ ap pages_held (take_all (min (length slots) k) slots (omega (arith, more)) ∙ sym (take_all k slots more))
+]
+
+-- there is a page before a number
+pub some_before : (slots : List (Option (List ℕ))) (n k : ℕ) → n < k → IsSome (page_at slots n) → 1 ≤ pages_held (take k slots)
+some_before slots n k lt some = let r = less_before slots n k lt some in omega (arith, r)
 
 pub some_held : (slots : List (Option (List ℕ))) (n : ℕ) → IsSome (page_at slots n) → 1 ≤ pages_held slots
 some_held slots n some = let r = one_less slots n some in omega (arith, r)

@@ -20,8 +20,8 @@ pub trait InPages {
     /// The number of bytes that reads of the device have given, where it tells it.
     ghost taken: { Self → Option ℕ };
 
-    /// Whether it is known how long the file is, which is lost where saving fails.
-    ghost measured: { Self → Bool };
+    /// Whether the device has the file stored as it stands.
+    ghost synced: { Self → Bool };
 
     /// At most 256 pages are clean, no page twice, and none that is changed.
     ghost cached: { (area : Self) → AreClean (changed area) (clean area) };

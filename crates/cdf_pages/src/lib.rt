@@ -2,11 +2,13 @@
 #![tactic(auto)]
 
 mod cache;
+mod growth;
 mod in_pages;
 mod owning;
 mod page;
 mod paged_area;
 mod reading;
+mod save_error;
 mod saving;
 mod settling;
 mod sheets;
@@ -15,3 +17,4 @@ mod writing;
 
 pub use in_pages::InPages;
 pub use paged_area::PagedArea;
+pub use save_error::SaveError;

@@ -1,6 +1,6 @@
 //! An area in pages over the attached file of a store.
 
-ghost use Rattle.std.specs.Prelude.{◌≡◌, ◌≤◌, ◌<◌, ◌+◌, ◌-◌, ◌/◌, ◌++◌, ◌==◌, ◌^◌, ℕ, List, [], length, take, drop, replicate, false, not, nat_eq, Some, None, IsSome, IfOk, IfErr, IsErrOf, IsOk, IsTrue, OnOk, OnErr};
+ghost use Rattle.std.specs.Prelude.{◌≡◌, ◌↔◌, ◌≤◌, ◌<◌, ◌+◌, ◌-◌, ◌/◌, ◌++◌, ◌^◌, ℕ, List, [], length, take, drop, replicate, false, not, nat_eq, Some, None, IsSome, IfOk, IfErr, IsErrOf, IsOk, IsTrue, OnOk, OnErr};
 ghost use Rattle.std.proofs.Props.{props};
 ghost use Rattle.std.specs.Option.{option_map};
 ghost use Rattle.std.specs.Map.{keys_of};
@@ -13,8 +13,8 @@ ghost use Rattle.cdf_area.specs.Frame.{Frame, with_base};
 ghost use Rattle.cdf_store.specs.Disk.{Disk, file_of};
 ghost use Rattle.cdf_pages.specs.Cached.{all_clean};
 ghost use Rattle.cdf_pages.specs.Pages.{AllShow, Backed, TakesAtMost, image_of, is_in, was};
-ghost use Rattle.cdf_base.specs.Causes.{HasCauseOf};
-ghost use Rattle.cdf_pages.specs.Saving.{Differs, HasNothingToSave, Holds, HoldsBetween, IsChangedRange, IsSavedAlready, Touches, is_edited, tail_bytes};
+ghost use Rattle.cdf_base.specs.Causes.{HasCause, HasCauseOf};
+ghost use Rattle.cdf_pages.specs.Saving.{Differs, FailsSaving, HasNothingToSave, HasSaveCause, Holds, IsChangedRange, IsSavedAlready, Touches, tail_bytes};
 ghost use Rattle.cdf_pages.specs.Standing.{Changes, ChangesSome, ReadsSome, cost_of_reading, cost_of_writing, pages_in, used_from};
 ghost use Rattle.cdf_pages.specs.Table.{page_at};
 
@@ -23,12 +23,13 @@ use crate::in_pages::InPages;
 use crate::owning::own_pages;
 use crate::page::{PAGE, Page};
 use crate::reading::read_range;
-use crate::saving::{most_after, save_image, tail_slice};
+use crate::save_error::SaveError;
+use crate::saving::{save_image, tail_slice};
 use crate::settling::settle_pages;
 use crate::sheets::Sheets;
 use crate::writing::{write_range, zero_range};
 use cdf_area::{Area, AreaError};
-use cdf_store::Store;
+use cdf_store::{Failed, Store};
 use std::alloc::{AllocFailed, Global};
 
 /// An area over the file that is attached to a store, in pages of 65,536 bytes.
@@ -42,14 +43,14 @@ pub struct PagedArea<S: Store> {
     sheets: Sheets,
     clean: Cache,
     limit: u64,
-    /// The file has at most so many bytes.
-    most: u64,
+    /// How many bytes the file has.
+    file_size: u64,
     /// Whether a write or a growth may have been made.
     edited: bool,
     ghost backed: { Backed (page_at sheets.changed) (length (file_of (S.disk store))) sheets.length },
     ghost base_backed: { (size : ℕ) → sheets.marked ≡ Some size → (size ≤ sheets.length) × Backed (λ number. was (get nat_cmp sheets.kept number) (page_at sheets.changed number)) (length (file_of (S.disk store))) size },
     ghost shows: { AllShow (page_at sheets.changed) (file_of (S.disk store)) sheets.length clean.entries },
-    ghost bounded: { length (file_of (S.disk store)) ≤ most },
+    ghost measured: { file_size ≡ length (file_of (S.disk store)) },
     ghost valid: { IsValid nat_eq clean } by { Prim.hlevel props },
     ghost cap: { clean.cap ≡ 256 },
     ghost unedited: { edited ≡ false → (number : ℕ) → page_at sheets.changed number ≡ None },
@@ -98,28 +99,30 @@ impl<S: Store> PagedArea<S> {
         PagedArea::new(alloc, store, size, 0, limit)
     }
 
-    /// Makes the attached file the image and a tail behind it, and cuts it where it is longer. Only changed pages are written,
-    /// in ascending order, and the tail. Room for all writes is made first, which is the one want of memory.
+    /// Makes the attached file the image and a tail behind it. Only changed pages are written, and the tail: first what lies past
+    /// the end of the file, in ascending order, and then what lies before it. A file that is longer is cut at last. So where there is
+    /// no room for the file to grow, none of its bytes is written over; then it is cut back, unless it was empty. Room for all writes
+    /// is made first, which is the one want of memory.
     #[tactic(auto, using(crate::proofs::Images::image_size))]
-    pub fn save(&mut self, tail: Option<[u8; 16]>) -> Result<(), AreaError>
+    pub fn save(&mut self, tail: Option<[u8; 16]>) -> Result<(), SaveError>
         requires held { IsSome (⟦<PagedArea<S> as Area>⟧.frame self.old).under.0.held }
         requires unmarked { (⟦<PagedArea<S> as Area>⟧.frame self.old).base ≡ None }
         requires fits { length (⟦<PagedArea<S> as Area>⟧.image self.old) + 16 < 2 ^ 64 }
         ensures saved { OnOk result (Holds (⟦<PagedArea<S> as Area>⟧.frame self.old).under.0 (⟦<PagedArea<S> as Area>⟧.image self.old ++ tail_bytes tail) (⟦<PagedArea<S> as Area>⟧.frame self.new).under.0) }
-        ensures failed { IsErrOf result AreaError.Fault → HoldsBetween (⟦<PagedArea<S> as Area>⟧.frame self.old).under.0 (⟦<PagedArea<S> as Area>⟧.image self.old ++ tail_bytes tail) (⟦<PagedArea<S> as Area>⟧.frame self.new).under.0 }
-        ensures no_memory { IsErrOf result AreaError.NoMemory → (⟦<PagedArea<S> as Area>⟧.frame self.new).under ≡ (⟦<PagedArea<S> as Area>⟧.frame self.old).under }
+        ensures failed { FailsSaving (⟦<PagedArea<S> as Area>⟧.frame self.old).under.0 (⟦<PagedArea<S> as Area>⟧.image self.old ++ tail_bytes tail) (⟦<PagedArea<S> as Area>⟧.frame self.new).under.0 result }
         ensures image { ⟦<PagedArea<S> as Area>⟧.image self.new ≡ ⟦<PagedArea<S> as Area>⟧.image self.old }
         ensures base { (⟦<PagedArea<S> as Area>⟧.frame self.new).base ≡ None }
         ensures limit { (⟦<PagedArea<S> as Area>⟧.frame self.new).limit ≡ (⟦<PagedArea<S> as Area>⟧.frame self.old).limit }
         ensures faults { ⟦<PagedArea<S> as Area>⟧.faults self.new ≡ ⟦<PagedArea<S> as Area>⟧.faults self.old }
-        ensures cause { HasCauseOf AreaError.Fault (⟦<PagedArea<S> as Area>⟧.frame self.old).under.1 (⟦<PagedArea<S> as Area>⟧.frame self.new).under.1 result }
+        ensures cause { HasSaveCause (⟦<PagedArea<S> as Area>⟧.frame self.old).under.1 (⟦<PagedArea<S> as Area>⟧.frame self.new).under.1 result }
         // Then no page is a changed one. Nothing but changed pages and the tail was written, and nothing was read.
         ensures unchanged { OnOk result ((number : ℕ) → ⟦<PagedArea<S> as InPages>⟧.changed self.new number ≡ false) }
         ensures clean { ⟦<PagedArea<S> as InPages>⟧.clean self.new ≡ ⟦<PagedArea<S> as InPages>⟧.clean self.old }
         ensures taken { ⟦<PagedArea<S> as InPages>⟧.taken self.new ≡ ⟦<PagedArea<S> as InPages>⟧.taken self.old }
         ensures touched { Touches (IsChangedRange (⟦<PagedArea<S> as InPages>⟧.changed self.old) (length (⟦<PagedArea<S> as Area>⟧.image self.old)) (length (tail_bytes tail))) (⟦<PagedArea<S> as Area>⟧.frame self.old).under.0.touched (⟦<PagedArea<S> as Area>⟧.frame self.new).under.0.touched }
         // Where no page is changed and the file is as long as it is to be, the store is not called.
-        ensures not_called { HasNothingToSave (⟦<PagedArea<S> as InPages>⟧.changed self.old) (⟦<PagedArea<S> as InPages>⟧.measured self.old) (file_of (⟦<PagedArea<S> as Area>⟧.frame self.old).under.0) (⟦<PagedArea<S> as Area>⟧.image self.old) tail → (result ≡ Ok tt) × ((⟦<PagedArea<S> as Area>⟧.frame self.new).under ≡ (⟦<PagedArea<S> as Area>⟧.frame self.old).under) }
+        ensures not_called { HasNothingToSave (⟦<PagedArea<S> as InPages>⟧.changed self.old) (file_of (⟦<PagedArea<S> as Area>⟧.frame self.old).under.0) (⟦<PagedArea<S> as Area>⟧.image self.old) tail → (result ≡ Ok tt) × ((⟦<PagedArea<S> as Area>⟧.frame self.new).under ≡ (⟦<PagedArea<S> as Area>⟧.frame self.old).under) }
+        ensures synced { HasNothingToSave (⟦<PagedArea<S> as InPages>⟧.changed self.old) (file_of (⟦<PagedArea<S> as Area>⟧.frame self.old).under.0) (⟦<PagedArea<S> as Area>⟧.image self.old) tail → ⟦<PagedArea<S> as InPages>⟧.synced self.new ≡ ⟦<PagedArea<S> as InPages>⟧.synced self.old }
         // So it is of a file that is the image as it stands.
         ensures untouched { IsSavedAlready (⟦<PagedArea<S> as Area>⟧.edited self.old) (file_of (⟦<PagedArea<S> as Area>⟧.frame self.old).under.0) (⟦<PagedArea<S> as Area>⟧.image self.old) tail → (⟦<PagedArea<S> as Area>⟧.frame self.new).under ≡ (⟦<PagedArea<S> as Area>⟧.frame self.old).under }
         ensures unfailed { IsSavedAlready (⟦<PagedArea<S> as Area>⟧.edited self.old) (file_of (⟦<PagedArea<S> as Area>⟧.frame self.old).under.0) (⟦<PagedArea<S> as Area>⟧.image self.old) tail → IsOk result }
@@ -128,10 +131,8 @@ impl<S: Store> PagedArea<S> {
             return Ok(());
         }
         let bytes = tail_slice(&tail);
-        let most = self.most;
-        let end = self.sheets.length + bytes.len() as u64;
-        let outcome = save_image(&mut self.store, &mut self.sheets, most, bytes);
-        self.most = most_after(&outcome, most, end);
+        let outcome = save_image(&mut self.store, &mut self.sheets, self.file_size, bytes);
+        self.file_size = self.store.size();
         outcome
     }
 
@@ -148,19 +149,40 @@ impl<S: Store> PagedArea<S> {
         ensures fewer { (number : ℕ) → IsTrue (⟦<PagedArea<S> as InPages>⟧.changed self.new number) → IsTrue (⟦<PagedArea<S> as InPages>⟧.changed self.old number) }
         ensures differs { OnOk result ((number : ℕ) → IsTrue (⟦<PagedArea<S> as InPages>⟧.changed self.new number) → Differs (file_of (⟦<PagedArea<S> as Area>⟧.frame self.old).under.0) (⟦<PagedArea<S> as Area>⟧.image self.old) number) }
         ensures clean { ⟦<PagedArea<S> as InPages>⟧.clean self.new ≡ ⟦<PagedArea<S> as InPages>⟧.clean self.old }
-        ensures measured { ⟦<PagedArea<S> as InPages>⟧.measured self.new ≡ ⟦<PagedArea<S> as InPages>⟧.measured self.old }
         // Of the file no more is read than it has in the changed pages of the image.
         ensures taken { TakesAtMost (⟦<PagedArea<S> as InPages>⟧.taken self.old) (⟦<PagedArea<S> as InPages>⟧.taken self.new) (cost_of_writing (λ number. not (⟦<PagedArea<S> as InPages>⟧.changed self.old number)) [] (length (file_of (⟦<PagedArea<S> as Area>⟧.frame self.old).under.0)) 0 (pages_in 0 (length (⟦<PagedArea<S> as Area>⟧.image self.old)))) }
     {
-        settle_pages(self.alloc, &mut self.store, &mut self.sheets, self.most)
+        settle_pages(
+            self.alloc,
+            &mut self.store,
+            &mut self.sheets,
+            self.file_size,
+        )
     }
 
     /// Whether no page is changed, the file is not longer than the image, and no tail is to stand behind it.
-    fn has_nothing_to_save(&self, tail: &Option<[u8; 16]>) -> bool
-        ensures yes { IsTrue result → ((number : ℕ) → page_at self.now.sheets.changed number ≡ None) × (tail.now ≡ None) × (self.now.most ≤ self.now.sheets.length) }
-        ensures no { ((number : ℕ) → page_at self.now.sheets.changed number ≡ None) → tail.now ≡ None → self.now.most ≤ self.now.sheets.length → IsTrue result }
+    pub fn has_nothing_to_save(&self, tail: &Option<[u8; 16]>) -> bool
+        ensures { IsTrue result ↔ HasNothingToSave (⟦<PagedArea<S> as InPages>⟧.changed self.now) (file_of (⟦<PagedArea<S> as Area>⟧.frame self.now).under.0) (⟦<PagedArea<S> as Area>⟧.image self.now) tail.now }
     {
-        self.sheets.first().is_none() && tail.is_none() && self.most <= self.sheets.length
+        self.sheets.first().is_none() && tail.is_none() && self.file_size <= self.sheets.length
+    }
+
+    /// Has the attached file stored by the device as it stands.
+    pub fn sync(&mut self) -> Result<(), Failed>
+        requires held { IsSome (⟦<PagedArea<S> as Area>⟧.frame self.old).under.0.held }
+        ensures synced { OnOk result (IsTrue (⟦<PagedArea<S> as InPages>⟧.synced self.new)) }
+        ensures image { ⟦<PagedArea<S> as Area>⟧.image self.new ≡ ⟦<PagedArea<S> as Area>⟧.image self.old }
+        ensures disk { (⟦<PagedArea<S> as Area>⟧.frame self.new).under.0 ≡ (⟦<PagedArea<S> as Area>⟧.frame self.old).under.0 }
+        ensures base { (⟦<PagedArea<S> as Area>⟧.frame self.new).base ≡ (⟦<PagedArea<S> as Area>⟧.frame self.old).base }
+        ensures limit { (⟦<PagedArea<S> as Area>⟧.frame self.new).limit ≡ (⟦<PagedArea<S> as Area>⟧.frame self.old).limit }
+        ensures edited { ⟦<PagedArea<S> as Area>⟧.edited self.new ≡ ⟦<PagedArea<S> as Area>⟧.edited self.old }
+        ensures faults { ⟦<PagedArea<S> as Area>⟧.faults self.new ≡ ⟦<PagedArea<S> as Area>⟧.faults self.old }
+        ensures cause { HasCause (⟦<PagedArea<S> as Area>⟧.frame self.old).under.1 (⟦<PagedArea<S> as Area>⟧.frame self.new).under.1 result }
+        ensures changed { ⟦<PagedArea<S> as InPages>⟧.changed self.new ≡ ⟦<PagedArea<S> as InPages>⟧.changed self.old }
+        ensures clean { ⟦<PagedArea<S> as InPages>⟧.clean self.new ≡ ⟦<PagedArea<S> as InPages>⟧.clean self.old }
+        ensures taken { ⟦<PagedArea<S> as InPages>⟧.taken self.new ≡ ⟦<PagedArea<S> as InPages>⟧.taken self.old }
+    {
+        self.store.sync()
     }
 
     /// Whether the image may be other than the front of the file.
@@ -176,20 +198,21 @@ impl<S: Store> PagedArea<S> {
         ensures disk { S.disk result ≡ (⟦<PagedArea<S> as Area>⟧.frame self).under.0 }
         ensures write { S.write_faults result ≡ (⟦<PagedArea<S> as Area>⟧.frame self).under.1 }
         ensures read { S.read_faults result ≡ ⟦<PagedArea<S> as Area>⟧.faults self }
+        ensures synced { S.synced result ≡ ⟦<PagedArea<S> as InPages>⟧.synced self }
     {
         self.store
     }
 
-    /// The first `size` bytes of the file that is attached, which has `most` bytes.
+    /// The first `size` bytes of the file that is attached, which has `file_size` bytes.
     fn new(
         alloc: Global,
         store: S,
-        most: u64,
+        file_size: u64,
         size: u64,
         limit: u64,
     ) -> Result<PagedArea<S>, AllocFailed<S>>
-        requires most { most ≡ length (file_of (S.disk store)) }
-        requires size { size ≤ most }
+        requires file_size { file_size ≡ length (file_of (S.disk store)) }
+        requires size { size ≤ file_size }
         ensures image { IfOk result (λ area. ⟦<PagedArea<S> as Area>⟧.image area ≡ take size (file_of (S.disk store))) }
         ensures frame { IfOk result (λ area. ⟦<PagedArea<S> as Area>⟧.frame area ≡ record { base = None; limit = limit; under = (S.disk store, S.write_faults store) }) }
         ensures faults { IfOk result (λ area. ⟦<PagedArea<S> as Area>⟧.faults area ≡ S.read_faults store) }
@@ -209,7 +232,7 @@ impl<S: Store> PagedArea<S> {
             sheets,
             clean,
             limit,
-            most,
+            file_size,
             edited: false,
         })
     }
@@ -224,7 +247,7 @@ impl<S: Store> InPages for PagedArea<S> {
 
     ghost taken = { λ a. S.taken a.store };
 
-    ghost measured = { λ a. a.most == length (file_of (S.disk a.store)) };
+    ghost synced = { λ a. S.synced a.store };
 
     ghost cached = { λ a. all_clean (page_at a.sheets.changed) (file_of (S.disk a.store)) a.sheets.length a.clean a.valid a.cap a.shows };
 }
@@ -242,7 +265,7 @@ impl<S: Store> Area for PagedArea<S> {
 
     ghost faults = { λ a. S.read_faults a.store };
 
-    ghost edited = { λ a. is_edited a.edited a.most (file_of (S.disk a.store)) };
+    ghost edited = { λ a. a.edited };
 
     #[tactic(auto, using(crate::proofs::Images::image_size))]
     fn size(&self) -> u64 {

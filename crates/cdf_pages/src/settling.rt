@@ -60,18 +60,18 @@ fn has_bytes<S: Store>(
     Ok(count == bytes.len() && *bytes == *out)
 }
 
-/// Whether the file, of at most so many bytes, has the bytes of a changed page, as far as the image goes.
+/// Whether the file, of so many bytes, has the bytes of a changed page, as far as the image goes.
 fn has_page<S: Store>(
     store: &mut S,
     sheets: &Sheets,
-    most: u64,
+    file_size: u64,
     number: u64,
     buffer: &mut [u8],
 ) -> Result<bool, Failed>
     requires there { IsSome (page_at sheets.now.changed number) }
     requires inside { number * 65536 < sheets.now.length }
     requires held { IsSome (S.disk store.old).held }
-    requires most { length (file_of (S.disk store.old)) ≤ most }
+    requires file_size { file_size ≡ length (file_of (S.disk store.old)) }
     requires buffer { length buffer.old ≡ 65536 }
     ensures shows { IfOk result (λ yes. IsTrue yes → (page : List ℕ) → page_at sheets.now.changed number ≡ Some page → Shows (file_of (S.disk store.old)) sheets.now.length number page) }
     ensures backed { IfOk result (λ yes. IsTrue yes → (j : ℕ) → j < 65536 → number * 65536 + j < sheets.now.length → number * 65536 + j < length (file_of (S.disk store.old))) }
@@ -84,7 +84,7 @@ fn has_page<S: Store>(
 {
     let live = live_bytes(sheets.length, number);
     let place = number * PAGE;
-    if most < place + live as u64 {
+    if file_size < place + live as u64 {
         return Ok(false);
     }
     let Some(page) = sheets.page(number) else {
@@ -97,13 +97,13 @@ fn has_page<S: Store>(
 fn is_settled<S: Store>(
     store: &mut S,
     sheets: &Sheets,
-    most: u64,
+    file_size: u64,
     number: u64,
     buffer: &mut [u8],
 ) -> Result<bool, Failed>
     requires there { IsSome (page_at sheets.now.changed number) }
     requires held { IsSome (S.disk store.old).held }
-    requires most { length (file_of (S.disk store.old)) ≤ most }
+    requires file_size { file_size ≡ length (file_of (S.disk store.old)) }
     requires buffer { length buffer.old ≡ 65536 }
     ensures shows { IfOk result (λ yes. IsTrue yes → (page : List ℕ) → page_at sheets.now.changed number ≡ Some page → Shows (file_of (S.disk store.old)) sheets.now.length number page) }
     ensures backed { IfOk result (λ yes. IsTrue yes → (j : ℕ) → j < 65536 → number * 65536 + j < sheets.now.length → number * 65536 + j < length (file_of (S.disk store.old))) }
@@ -118,21 +118,21 @@ fn is_settled<S: Store>(
     if !is_within(sheets.length, number) {
         return Ok(true);
     }
-    has_page(store, sheets, most, number, buffer)
+    has_page(store, sheets, file_size, number, buffer)
 }
 
 /// Drops a changed page whose bytes the file has.
 fn settle_page<S: Store>(
     store: &mut S,
     sheets: &mut Sheets,
-    most: u64,
+    file_size: u64,
     number: u64,
     buffer: &mut [u8],
 ) -> Result<(), Failed>
     requires there { IsSome (page_at sheets.old.changed number) }
     requires unmarked { sheets.old.marked ≡ None }
     requires held { IsSome (S.disk store.old).held }
-    requires most { length (file_of (S.disk store.old)) ≤ most }
+    requires file_size { file_size ≡ length (file_of (S.disk store.old)) }
     requires buffer { length buffer.old ≡ 65536 }
     requires backed { Backed (page_at sheets.old.changed) (length (file_of (S.disk store.old))) sheets.old.length }
     ensures image { image_of (page_at sheets.new.changed) (file_of (S.disk store.old)) sheets.old.length ≡ image_of (page_at sheets.old.changed) (file_of (S.disk store.old)) sheets.old.length }
@@ -149,7 +149,7 @@ fn settle_page<S: Store>(
     ensures cause { HasCause (S.read_faults store.old) (S.read_faults store.new) result }
     ensures write { S.write_faults store.new ≡ S.write_faults store.old }
 {
-    if !is_settled(store, sheets, most, number, buffer)? {
+    if !is_settled(store, sheets, file_size, number, buffer)? {
         return Ok(());
     }
     sheets.take(number);
@@ -160,12 +160,12 @@ fn settle_page<S: Store>(
 fn settle_all<S: Store>(
     store: &mut S,
     sheets: &mut Sheets,
-    most: u64,
+    file_size: u64,
     buffer: &mut [u8],
 ) -> Result<(), Failed>
     requires unmarked { sheets.old.marked ≡ None }
     requires held { IsSome (S.disk store.old).held }
-    requires most { length (file_of (S.disk store.old)) ≤ most }
+    requires file_size { file_size ≡ length (file_of (S.disk store.old)) }
     requires buffer { length buffer.old ≡ 65536 }
     requires backed { Backed (page_at sheets.old.changed) (length (file_of (S.disk store.old))) sheets.old.length }
     ensures image { image_of (page_at sheets.new.changed) (file_of (S.disk store.old)) sheets.old.length ≡ image_of (page_at sheets.old.changed) (file_of (S.disk store.old)) sheets.old.length }
@@ -181,7 +181,7 @@ fn settle_all<S: Store>(
 {
     let mut next = sheets.first();
     while let Some(number) = next {
-        settle_page(store, sheets, most, number, buffer)?;
+        settle_page(store, sheets, file_size, number, buffer)?;
         next = sheets.next(number);
     }
     Ok(())
@@ -192,11 +192,11 @@ pub fn settle_pages<S: Store>(
     alloc: Global,
     store: &mut S,
     sheets: &mut Sheets,
-    most: u64,
+    file_size: u64,
 ) -> Result<(), AreaError>
     requires unmarked { sheets.old.marked ≡ None }
     requires held { IsSome (S.disk store.old).held }
-    requires most { length (file_of (S.disk store.old)) ≤ most }
+    requires file_size { file_size ≡ length (file_of (S.disk store.old)) }
     requires backed { Backed (page_at sheets.old.changed) (length (file_of (S.disk store.old))) sheets.old.length }
     ensures image { image_of (page_at sheets.new.changed) (file_of (S.disk store.old)) sheets.old.length ≡ image_of (page_at sheets.old.changed) (file_of (S.disk store.old)) sheets.old.length }
     ensures backed { Backed (page_at sheets.new.changed) (length (file_of (S.disk store.old))) sheets.old.length }
@@ -211,7 +211,7 @@ pub fn settle_pages<S: Store>(
 {
     let mut buffer = Vec::new(alloc);
     buffer.resize(PAGE as usize, 0)?;
-    match settle_all(store, sheets, most, &mut buffer) {
+    match settle_all(store, sheets, file_size, &mut buffer) {
         Ok(()) => Ok(()),
         Err(Failed) => Err(AreaError::Fault),
     }

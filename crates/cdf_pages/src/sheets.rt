@@ -7,7 +7,7 @@ ghost use Rattle.std.specs.BTreeMap.{get};
 ghost use Rattle.cdf_area.specs.OldBytes.{AllLieBelow, Old};
 ghost use Rattle.cdf_base.specs.Bytes.{put};
 ghost use Rattle.cdf_pages.specs.Pages.{Covers, was};
-ghost use Rattle.cdf_pages.specs.Table.{page_at, pages_held};
+ghost use Rattle.cdf_pages.specs.Table.{page_at, pages_before, pages_held};
 
 use crate::page::Page;
 use crate::table::Table;
@@ -166,12 +166,12 @@ impl Sheets {
         self.changed.next(last)
     }
 
-    /// How many changed pages there are.
-    pub fn count(&self) -> u64
-        ensures count { result ≡ pages_held self.now.changed }
-        ensures small { result < 2 ^ 63 }
+    /// How many changed pages come before a number.
+    pub fn count_before(&self, number: u64) -> u64
+        ensures count { result ≡ pages_before self.now.changed number }
+        ensures small { result ≤ number }
     {
-        self.changed.count()
+        self.changed.count_before(number)
     }
 
     /// Puts a page in its place, which is there, while there is no mark.
@@ -193,6 +193,8 @@ impl Sheets {
         ensures page { result ≡ page_at self.old.changed number }
         ensures place { IfSome result (λ _. number < length self.new.changed) }
         ensures fewer { IsSome (page_at self.old.changed number) → pages_held self.new.changed + 1 ≡ pages_held self.old.changed }
+        ensures before { IsSome (page_at self.old.changed number) → (end : ℕ) → number < end → pages_before self.new.changed end + 1 ≡ pages_before self.old.changed end }
+        ensures behind { (end : ℕ) → end ≤ number → pages_before self.new.changed end ≡ pages_before self.old.changed end }
         ensures gone { page_at self.new.changed number ≡ None }
         ensures others { (other : ℕ) → (other ≡ number → ⊥) → page_at self.new.changed other ≡ page_at self.old.changed other }
         ensures kept { self.new.kept ≡ self.old.kept }

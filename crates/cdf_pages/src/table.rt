@@ -4,7 +4,7 @@ ghost use Rattle.std.specs.Prelude.{◌≡◌, ◌+◌, ◌≤◌, ◌<◌, ◌^
 ghost use Rattle.std.specs.Option.{is_some};
 ghost use Rattle.cdf_area.specs.OldBytes.{AllLieBelow, back};
 ghost use Rattle.cdf_base.specs.Bytes.{put};
-ghost use Rattle.cdf_pages.specs.Table.{page_at, pages_held};
+ghost use Rattle.cdf_pages.specs.Table.{page_at, pages_before, pages_held};
 
 use crate::page::Page;
 use cdf_area::UndoLog;
@@ -81,11 +81,13 @@ impl Table {
     }
 
     /// Takes a page away. Its place stays.
-    #[tactic(auto, using(crate::proofs::Slots::page_set, crate::proofs::Slots::page_kept, crate::proofs::Slots::one_less, crate::proofs::Slots::page_past, crate::proofs::Slots::page_read))]
+    #[tactic(auto, using(crate::proofs::Slots::page_set, crate::proofs::Slots::page_kept, crate::proofs::Slots::one_less, crate::proofs::Slots::less_before, crate::proofs::Slots::same_before, crate::proofs::Slots::page_past, crate::proofs::Slots::page_read))]
     pub fn take(&mut self, number: u64) -> Option<Page>
         ensures page { result ≡ page_at self.old number }
         ensures place { IfSome result (λ _. number < length self.new) }
         ensures fewer { IsSome (page_at self.old number) → pages_held self.new + 1 ≡ pages_held self.old }
+        ensures before { IsSome (page_at self.old number) → (end : ℕ) → number < end → pages_before self.new end + 1 ≡ pages_before self.old end }
+        ensures behind { (end : ℕ) → end ≤ number → pages_before self.new end ≡ pages_before self.old end }
         ensures gone { page_at self.new number ≡ None }
         ensures others { (other : ℕ) → (other ≡ number → ⊥) → page_at self.new other ≡ page_at self.old other }
     {
@@ -162,14 +164,15 @@ impl Table {
         self.first_from(last + 1)
     }
 
-    /// How many pages there are.
-    #[tactic(auto, using(crate::proofs::Slots::none_counted, crate::proofs::Slots::one_counted, crate::proofs::Slots::counted_short))]
-    pub fn count(&self) -> u64
-        ensures count { result ≡ pages_held self.now }
-        ensures small { result < 2 ^ 63 }
+    /// How many pages come before a number.
+    #[tactic(auto, using(crate::proofs::Slots::none_counted, crate::proofs::Slots::one_counted, crate::proofs::Slots::counted_short, crate::proofs::Slots::counted_upto))]
+    pub fn count_before(&self, number: u64) -> u64
+        ensures count { result ≡ pages_before self.now number }
+        ensures small { result ≤ number }
     {
+        let end = self.slots.len().min(number as usize);
         let mut count: u64 = 0;
-        for at in 0..self.slots.len() {
+        for at in 0..end {
             count += u64::from(self.slots[at].is_some());
         }
         count

@@ -1,43 +1,41 @@
-use Rattle.cdf_pages.proofs.Common.{ap, arith, eqb-true, file_of, length, refl, sym, ◌++◌, ◌∙◌}
-use Rattle.cdf_pages.proofs.Between.{front_part, front_written, longer_part, longer_written, part_between, tail_in, written_between}
+use Rattle.cdf_pages.proofs.Common.{ap, arith, eqb-true, file_of, length, refl, sym, ◌+◌, ◌∙◌}
+use Rattle.cdf_pages.proofs.Between.{front_part, front_written, long_part, long_written, part_between, written_between}
 use Rattle.cdf_pages.proofs.Images.{put_empty}
 use Rattle.cdf_pages.proofs.Touched.{touches_none, touches_part, touches_write}
 use Rattle.cdf_pages.proofs.saving.save_tail.Goals as goal
 
 pub returns-then-is_empty-clause-written : goal.returns-then-is_empty-clause-written
-returns-then-is_empty-clause-written g c = sym (put_empty _ c.args.place c.args.tail.now (eqb-true (length c.args.tail.now) 0 (sym c.is_empty.ensures ∙ c.if-is_empty.true)))
+returns-then-is_empty-clause-written g c = sym (put_empty _ c.args.place c.args.front.now (eqb-true (length c.args.front.now) 0 (sym c.is_empty.ensures ∙ c.if-is_empty.true)))
 
 pub returns-then-is_empty-clause-touched : goal.returns-then-is_empty-clause-touched
 returns-then-is_empty-clause-touched g c = touches_none _ _ _ refl
 
 pub returns-in_err-write_at-clause-front : goal.returns-in_err-write_at-clause-front
-returns-in_err-write_at-clause-front g c = front_part (g.S.Store.disk c.args.store.now) (g.S.Store.disk c.write_at.new.self) c.args.place c.args.tail.now c.requires.place c.in_err-write_at.ensures.part
+returns-in_err-write_at-clause-front g c = front_part (g.S.Store.disk c.args.store.now) (g.S.Store.disk c.write_at.new.self) c.args.place c.args.front.now (omega (arith, c.requires.place)) c.in_err-write_at.ensures.part
 
 pub returns-in_err-write_at-clause-long : goal.returns-in_err-write_at-clause-long
-returns-in_err-write_at-clause-long g c = longer_part (g.S.Store.disk c.args.store.now) (g.S.Store.disk c.write_at.new.self) c.args.place c.args.tail.now c.requires.place c.in_err-write_at.ensures.part
+returns-in_err-write_at-clause-long g c = long_part (g.S.Store.disk c.args.store.now) (g.S.Store.disk c.write_at.new.self) c.args.place (c.args.place + length c.args.front.now) c.args.front.now (omega arith) c.requires.place c.in_err-write_at.ensures.part
 
 pub returns-in_err-write_at-clause-between : goal.returns-in_err-write_at-clause-between
-returns-in_err-write_at-clause-between g c first image e h =
-    let behind = tail_in image c.args.tail.now c.args.place e in
-    part_between first (g.S.Store.disk c.args.store.now) (image ++ c.args.tail.now) c.args.place c.args.tail.now h c.requires.place behind.0 behind.1 (g.S.Store.disk c.write_at.new.self) c.in_err-write_at.ensures.part
+returns-in_err-write_at-clause-between g c first new whole fits same h =
+    part_between first (g.S.Store.disk c.args.store.now) new c.args.place c.args.front.now h whole fits same (g.S.Store.disk c.write_at.new.self) c.in_err-write_at.ensures.part
 
 pub returns-in_err-write_at-clause-touched : goal.returns-in_err-write_at-clause-touched
 returns-in_err-write_at-clause-touched g c =
-    touches_part _ (g.S.Store.disk c.args.store.now) (g.S.Store.disk c.write_at.new.self) c.args.place c.args.tail.now (λ n within. (omega arith, omega (arith, within))) c.in_err-write_at.ensures.part
+    touches_part _ (g.S.Store.disk c.args.store.now) (g.S.Store.disk c.write_at.new.self) c.args.place c.args.front.now (λ n within. (omega arith, omega (arith, within))) c.in_err-write_at.ensures.part
 
 pub returns-clause-written : goal.returns-clause-written
 returns-clause-written g c = ap (λ d. file_of d) c.in_ok-write_at.ensures.ok
 
 pub returns-clause-front : goal.returns-clause-front
-returns-clause-front g c = front_written (g.S.Store.disk c.args.store.now) (g.S.Store.disk c.write_at.new.self) c.args.place c.args.tail.now c.requires.place c.in_ok-write_at.ensures.ok
+returns-clause-front g c = front_written (g.S.Store.disk c.args.store.now) (g.S.Store.disk c.write_at.new.self) c.args.place c.args.front.now (omega (arith, c.requires.place)) c.in_ok-write_at.ensures.ok
 
 pub returns-clause-long : goal.returns-clause-long
-returns-clause-long g c = longer_written (g.S.Store.disk c.args.store.now) (g.S.Store.disk c.write_at.new.self) c.args.place c.args.tail.now c.requires.place c.in_ok-write_at.ensures.ok
+returns-clause-long g c = long_written (g.S.Store.disk c.args.store.now) (g.S.Store.disk c.write_at.new.self) c.args.place (c.args.place + length c.args.front.now) c.args.front.now (omega arith) c.requires.place c.in_ok-write_at.ensures.ok
 
 pub returns-clause-between : goal.returns-clause-between
-returns-clause-between g c first image e h =
-    let behind = tail_in image c.args.tail.now c.args.place e in
-    written_between first (g.S.Store.disk c.args.store.now) (image ++ c.args.tail.now) c.args.place c.args.tail.now h c.requires.place behind.0 behind.1 (g.S.Store.disk c.write_at.new.self) c.in_ok-write_at.ensures.ok
+returns-clause-between g c first new whole fits same h =
+    written_between first (g.S.Store.disk c.args.store.now) new c.args.place c.args.front.now h whole fits same (g.S.Store.disk c.write_at.new.self) c.in_ok-write_at.ensures.ok
 
 pub returns-clause-touched : goal.returns-clause-touched
-returns-clause-touched g c = touches_write _ (g.S.Store.disk c.args.store.now) (g.S.Store.disk c.write_at.new.self) c.args.place c.args.tail.now (omega arith, omega arith) c.in_ok-write_at.ensures.ok
+returns-clause-touched g c = touches_write _ (g.S.Store.disk c.args.store.now) (g.S.Store.disk c.write_at.new.self) c.args.place c.args.front.now (omega arith, omega arith) c.in_ok-write_at.ensures.ok

@@ -2,10 +2,10 @@ use Rattle.cdf_pages.proofs.Common.{List, Shows, arith, file_of, page_at, same_S
 use Rattle.cdf_pages.proofs.Settled.{beyond, differs_there, if_ok_map, shows_file}
 use Rattle.cdf_pages.proofs.settling.has_page.Goals as goal
 
-pub returns-then-most-place-clause-differs : goal.returns-then-most-place-clause-differs
-returns-then-most-place-clause-differs g c e =
+pub returns-then-file_size-place-clause-differs : goal.returns-then-file_size-place-clause-differs
+returns-then-file_size-place-clause-differs g c e =
     beyond (page_at c.args.sheets.now.changed) (file_of (g.S.Store.disk c.args.store.now)) c.args.sheets.now.length c.args.number c.live_bytes-live.result c.live_bytes-live.ensures c.requires.inside
-    (omega (arith, c.requires.most, c.if-most-place.true))
+    (omega (arith, c.requires.file_size, c.if-file_size-place.true))
 
 pub returns-clause-shows : goal.returns-clause-shows
 returns-clause-shows g c =

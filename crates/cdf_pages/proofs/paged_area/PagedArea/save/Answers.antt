@@ -1,7 +1,7 @@
-use Rattle.cdf_pages.proofs.Common.{Holds, HoldsBetween, IsChangedRange, List, None, OnOk, Touches, ap, arith, file_of, image_of, is_in, is_some, length, page_at, refl, subst, sym, tail_bytes, ℕ, ◌++◌, ◌+◌, ◌∙◌, ◌≤◌}
+use Rattle.cdf_pages.proofs.Common.{FailsSaving, Holds, IsChangedRange, List, OnOk, Touches, ap, arith, file_of, image_of, is_in, is_some, length, page_at, refl, subst, sym, tail_bytes, ℕ, ◌++◌, ◌∙◌}
 use Rattle.cdf_pages.proofs.Filling.{on_ok_map, true_not_false}
 use Rattle.cdf_pages.proofs.Images.{image_size}
-use Rattle.cdf_pages.proofs.SavedArea.{no_mark, nothing_to_save, saved_already, saved_bound, saved_shows, saved_whole}
+use Rattle.cdf_pages.proofs.SavedArea.{no_mark, saved_already, saved_shows, saved_whole}
 use Rattle.cdf_pages.proofs.Touched.{touches_none}
 use Rattle.cdf_pages.proofs.paged_area.PagedArea.save.Goals as goal
 
@@ -18,9 +18,7 @@ invariant_of-self g c =
       backed = λ i lt none. e.backed i (omega (arith, lt, e.length)) none;
       base_backed = λ size is. (let no = e.marked in cc);
       shows = saved_shows P (page_at c.save_image-outcome.new.sheets.changed) F _ self.sheets.length _ self.clean.entries e.length e.image e.less self.shows;
-      bounded = subst (λ (m : ℕ). length (file_of (g.S.Store.disk c.save_image-outcome.new.store)) ≤ m) (sym c.most_after-self.ensures)
-          (saved_bound c.save_image-outcome.result (g.S.Store.disk self.store) (g.S.Store.disk c.save_image-outcome.new.store) (image_of P F self.sheets.length) c.tail_slice-bytes.result.now self.most self.sheets.length (self.sheets.length + length c.tail_slice-bytes.result.now)
-          (image_size P F self.sheets.length) refl self.bounded e.bound e.saved e.no_memory);
+      measured = c.size-self.ensures;
       valid = self.valid;
       cap = self.cap;
       unedited = λ is q. e.less q (self.unedited is q);
@@ -29,12 +27,12 @@ invariant_of-self g c =
 pub returns-then-has_nothing_to_save-clause-saved : goal.returns-then-has_nothing_to_save-clause-saved
 returns-then-has_nothing_to_save-clause-saved g c =
     let self = c.args.self.now in
-    let found = c.has_nothing_to_save.ensures.yes c.if-has_nothing_to_save.true in
-    let no_tail = found.1 in
-    rw no_tail (saved_whole (g.S.Store.disk self.store) (page_at self.sheets.changed) self.sheets.length self.most None (g.met.S.Store.whole self.store) c.requires.held found.0 self.backed self.bounded found.2)
+    let found = c.has_nothing_to_save.ensures.0 c.if-has_nothing_to_save.true in
+    let no_tail = found.no_tail in
+    rw no_tail (saved_whole (g.S.Store.disk self.store) (page_at self.sheets.changed) self.sheets.length (g.met.S.Store.whole self.store) c.requires.held found.unchanged self.backed found.short)
 
 pub returns-then-has_nothing_to_save-clause-unchanged : goal.returns-then-has_nothing_to_save-clause-unchanged
-returns-then-has_nothing_to_save-clause-unchanged g c q = ap is_some ((c.has_nothing_to_save.ensures.yes c.if-has_nothing_to_save.true).0 q)
+returns-then-has_nothing_to_save-clause-unchanged g c = (c.has_nothing_to_save.ensures.0 c.if-has_nothing_to_save.true).unchanged
 
 pub returns-then-has_nothing_to_save-clause-touched : goal.returns-then-has_nothing_to_save-clause-touched
 returns-then-has_nothing_to_save-clause-touched g c = touches_none _ _ _ refl
@@ -46,10 +44,10 @@ returns-clause-saved g c =
     c.tail_slice-bytes.ensures.bytes c.save_image-outcome.ensures.saved
 
 pub returns-clause-failed : goal.returns-clause-failed
-returns-clause-failed g c is =
+returns-clause-failed g c =
     let self = c.args.self.now in
-    subst (λ (l : List ℕ). HoldsBetween (g.S.Store.disk self.store) (image_of (page_at self.sheets.changed) (file_of (g.S.Store.disk self.store)) self.sheets.length ++ l) (g.S.Store.disk c.save_image-outcome.new.store))
-    c.tail_slice-bytes.ensures.bytes (c.save_image-outcome.ensures.failed is)
+    subst (λ (l : List ℕ). FailsSaving (g.S.Store.disk self.store) (image_of (page_at self.sheets.changed) (file_of (g.S.Store.disk self.store)) self.sheets.length ++ l) (g.S.Store.disk c.save_image-outcome.new.store) c.save_image-outcome.result)
+    c.tail_slice-bytes.ensures.bytes c.save_image-outcome.ensures.failed
 
 pub returns-clause-image : goal.returns-clause-image
 returns-clause-image g c =
@@ -67,25 +65,17 @@ returns-clause-touched g c =
     (subst (λ (l : List ℕ). Touches (IsChangedRange (is_in P) self.sheets.length (length l)) (g.S.Store.disk self.store).touched (g.S.Store.disk c.save_image-outcome.new.store).touched) c.tail_slice-bytes.ensures.bytes c.save_image-outcome.ensures.touched)
 
 pub returns-clause-not_called : goal.returns-clause-not_called
-returns-clause-not_called g c h =
-    let self = c.args.self.now in
-    let F = file_of (g.S.Store.disk self.store) in
-    let P = page_at self.sheets.changed in
-    let found = nothing_to_save P F (image_of P F self.sheets.length) self.sheets.length self.most c.args.tail (image_size P F self.sheets.length) h in
-    absurd (true_not_false (sym (c.has_nothing_to_save.ensures.no found.0 found.1 found.2) ∙ c.if-has_nothing_to_save.false))
+returns-clause-not_called g c h = absurd (true_not_false (sym (c.has_nothing_to_save.ensures.1 h) ∙ c.if-has_nothing_to_save.false))
+
+pub returns-clause-synced : goal.returns-clause-synced
+returns-clause-synced g c h = absurd (true_not_false (sym (c.has_nothing_to_save.ensures.1 h) ∙ c.if-has_nothing_to_save.false))
 
 pub returns-clause-untouched : goal.returns-clause-untouched
 returns-clause-untouched g c h =
     let self = c.args.self.now in
-    let F = file_of (g.S.Store.disk self.store) in
-    let P = page_at self.sheets.changed in
-    let found = saved_already P self.edited F (image_of P F self.sheets.length) self.sheets.length self.most c.args.tail (image_size P F self.sheets.length) self.unedited h in
-    absurd (true_not_false (sym (c.has_nothing_to_save.ensures.no found.0 found.1 found.2) ∙ c.if-has_nothing_to_save.false))
+    absurd (true_not_false (sym (c.has_nothing_to_save.ensures.1 (saved_already (page_at self.sheets.changed) self.edited _ _ c.args.tail self.unedited h)) ∙ c.if-has_nothing_to_save.false))
 
 pub returns-clause-unfailed : goal.returns-clause-unfailed
 returns-clause-unfailed g c h =
     let self = c.args.self.now in
-    let F = file_of (g.S.Store.disk self.store) in
-    let P = page_at self.sheets.changed in
-    let found = saved_already P self.edited F (image_of P F self.sheets.length) self.sheets.length self.most c.args.tail (image_size P F self.sheets.length) self.unedited h in
-    absurd (true_not_false (sym (c.has_nothing_to_save.ensures.no found.0 found.1 found.2) ∙ c.if-has_nothing_to_save.false))
+    absurd (true_not_false (sym (c.has_nothing_to_save.ensures.1 (saved_already (page_at self.sheets.changed) self.edited _ _ c.args.tail self.unedited h)) ∙ c.if-has_nothing_to_save.false))

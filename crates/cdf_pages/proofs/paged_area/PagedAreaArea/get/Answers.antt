@@ -10,7 +10,7 @@ invariant_of-self g c =
       backed = λ i lt none. let stood = self.backed i lt none in omega (arith, stood, size);
       base_backed = λ marked is. let old = self.base_backed marked is in (old.0, λ i lt none. let stood = old.1 i lt none in omega (arith, stood, size));
       shows = λ q page is. let now = e.shows q page is in (now.0, λ j lt low. now.1 j lt low ∙ ap (λ d. slice_index (file_of d) (q * 65536 + j)) (sym e.disk));
-      bounded = omega (arith, self.bounded, size);
+      measured = self.measured ∙ sym size;
       valid = e.valid;
       cap = e.cap ∙ self.cap;
       unedited = self.unedited;

@@ -13,7 +13,7 @@ invariant_of-self g c =
       base_backed = was_backed (λ q. was (get nat_cmp c.args.self.now.sheets.kept q) (page_at c.args.self.now.sheets.changed q)) (λ q. was (get nat_cmp c.own_pages-owned.new.sheets.kept q) (page_at c.own_pages-owned.new.sheets.changed q)) _ _ c.args.self.now.sheets.marked _ c.args.self.now.sheets.length _
           file c.own_pages-owned.ensures.length c.own_pages-owned.ensures.marked c.own_pages-owned.ensures.grown.was c.args.self.now.base_backed;
       shows = kept_shows (page_at c.args.self.now.sheets.changed) (page_at c.own_pages-owned.new.sheets.changed) _ _ c.args.self.now.sheets.length _ c.args.self.now.clean.entries c.own_pages-owned.new.clean.entries file c.own_pages-owned.ensures.length c.own_pages-owned.ensures.fewer c.own_pages-owned.ensures.apart c.args.self.now.shows;
-      bounded = omega (arith, c.args.self.now.bounded, ap length file);
+      measured = c.args.self.now.measured ∙ sym (ap length file);
       valid = c.len-count.ensures.valid;
       cap = c.own_pages-owned.ensures.cap ∙ c.args.self.now.cap;
       unedited = λ e. absurd (true_not_false e);

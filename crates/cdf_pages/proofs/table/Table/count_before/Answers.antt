@@ -1,6 +1,6 @@
 use Rattle.cdf_pages.proofs.Common.{[], arith, if◌then◌else◌, is_some, length, page_at, rules, sym, ◌<◌, ◌≡◌}
 use Rattle.cdf_pages.proofs.Slots.{none_counted, one_counted, page_read}
-use Rattle.cdf_pages.proofs.table.Table.count.Goals as goal
+use Rattle.cdf_pages.proofs.table.Table.count_before.Goals as goal
 
 pub loop-at-init : goal.loop-at-init
 loop-at-init c = sym (none_counted [])
