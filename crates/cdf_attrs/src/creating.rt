@@ -1,6 +1,6 @@
 //! The command `attr`: a last attribute is made.
 
-ghost use Rattle.std.specs.Prelude.{[], ◌≡◌, ◌≤◌, ◌+◌, ◌++◌, ◌∷◌, length, false, IfOk, OnOk, OnErr};
+ghost use Rattle.std.specs.Prelude.{[], ◌≡◌, ◌≤◌, ◌+◌, ◌++◌, ◌∷◌, length, false, IfOk, OnOk, OnErr, IsTrue};
 ghost use Rattle.cdf_area.specs.Calls.{Edits};
 ghost use Rattle.cdf_attrs.specs.Creating.{adr_body, scope_code};
 ghost use Rattle.cdf_attrs.specs.Known.{Knows};
@@ -13,6 +13,7 @@ ghost use Rattle.cdf_format.specs.RecordTypes.{fixed_size, adr_type};
 ghost use Rattle.cdf_model.specs.Limits.{image_limit};
 ghost use Rattle.cdf_model.specs.Names.{attribute_names, is_among, is_bad_name, name_limit};
 ghost use Rattle.cdf_model.specs.Sayable.{CanBeGiven};
+ghost use Rattle.cdf_model.specs.Turns.{is_refused};
 ghost use Rattle.cdf_model.specs.declared.command.Command.TheVariants.{Attr};
 
 use crate::attrs::Attrs;
@@ -106,6 +107,7 @@ impl Attrs {
         ensures answers { IfOk result (λ o. Answers (A.frame area.old).limit (A.image area.old) (Attr name.now scope) o (A.image area.new)) }
         ensures known { OnOk result (Knows (A.image area.new) self.new) }
         ensures stays { OnErr result (Knows (A.image area.old) self.new) }
+        ensures refused { IfOk result (λ o. IsTrue (is_refused o) → A.edited area.new ≡ A.edited area.old) }
         ensures area { Edits A.frame A.faults area.old area.new result }
     {
         if is_bad_name(name) {

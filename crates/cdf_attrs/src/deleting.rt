@@ -1,6 +1,6 @@
 //! The command `del-attr`: an attribute goes with its entries, and those behind it get their numbers one lower.
 
-ghost use Rattle.std.specs.Prelude.{◌≡◌, ◌<◌, ◌≤◌, ◌+◌, ◌++◌, ◌∷◌, [], length, map, drop, IfOk, OnOk, OnErr};
+ghost use Rattle.std.specs.Prelude.{◌≡◌, ◌<◌, ◌≤◌, ◌+◌, ◌++◌, ◌∷◌, [], length, map, drop, IfOk, OnOk, OnErr, IsTrue};
 ghost use Rattle.cdf_area.specs.Calls.{Edits, Reads};
 ghost use Rattle.cdf_attrs.specs.Numbering.{entry_numbers, write_of};
 ghost use Rattle.cdf_attrs.specs.Known.{Knows};
@@ -13,6 +13,7 @@ ghost use Rattle.cdf_format.specs.Shape.{adrs, shape};
 ghost use Rattle.cdf_format.specs.Tiles.{In};
 ghost use Rattle.cdf_format.specs.WellFormed.{Good};
 ghost use Rattle.cdf_model.specs.Limits.{image_limit};
+ghost use Rattle.cdf_model.specs.Turns.{is_refused};
 ghost use Rattle.cdf_model.specs.declared.command.Command.TheVariants.{DelAttr};
 
 use crate::attrs::Attrs;
@@ -125,6 +126,7 @@ impl Attrs {
         ensures answers { IfOk result (λ o. Answers (A.frame area.old).limit (A.image area.old) (DelAttr name.now) o (A.image area.new)) }
         ensures known { OnOk result (Knows (A.image area.new) self.new) }
         ensures stays { OnErr result (Knows (A.image area.old) self.new) }
+        ensures refused { IfOk result (λ o. IsTrue (is_refused o) → A.edited area.new ≡ A.edited area.old) }
         ensures area { Edits A.frame A.faults area.old area.new result }
     {
         let Some(number) = self.names.find(name) else {

@@ -1,6 +1,6 @@
 //! The command `put-entry`: what it asks for is read, and the entry is made or replaced.
 
-ghost use Rattle.std.specs.Prelude.{◌≡◌, ◌≤◌, length, Result, IfOk, IfErr, OnOk, OnErr, Err};
+ghost use Rattle.std.specs.Prelude.{◌≡◌, ◌≤◌, length, Result, IfOk, IfErr, OnOk, OnErr, Err, IsTrue};
 ghost use Rattle.cdf_area.specs.Calls.{Edits, Reads};
 ghost use Rattle.cdf_area.specs.declared.area.AreaError.TheVariants.{NoMemory};
 ghost use Rattle.cdf_attrs.specs.Known.{Knows};
@@ -11,6 +11,7 @@ ghost use Rattle.cdf_format.specs.WellFormed.{Good};
 ghost use Rattle.cdf_model.specs.DataSet.{Entry};
 ghost use Rattle.cdf_model.specs.Limits.{image_limit};
 ghost use Rattle.cdf_model.specs.Sayable.{Fit};
+ghost use Rattle.cdf_model.specs.Turns.{is_refused};
 ghost use Rattle.cdf_model.specs.declared.answer.Reason.{Reason};
 ghost use Rattle.cdf_model.specs.declared.command.Command.TheVariants.{PutEntry};
 
@@ -115,6 +116,7 @@ impl Attrs {
         ensures answers { IfOk result (λ o. Answers (A.frame area.old).limit (A.image area.old) (PutEntry attr.now kind num t words.now) o (A.image area.new)) }
         ensures known { OnOk result (Knows (A.image area.new) self.new) }
         ensures stays { OnErr result (Knows (A.image area.old) self.new) }
+        ensures refused { IfOk result (λ o. IsTrue (is_refused o) → A.edited area.new ≡ A.edited area.old) }
         ensures area { Edits A.frame A.faults area.old area.new result }
     {
         let (attribute, chain, value) = match self.read_request(area, attr, kind, num, t, words)? {

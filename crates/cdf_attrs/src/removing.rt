@@ -1,6 +1,6 @@
 //! The command `del-entry`: an entry goes.
 
-ghost use Rattle.std.specs.Prelude.{◌≡◌, ◌<◌, ◌≤◌, ◌↔◌, [], length, slice_index, All, Contains, IfOk, IfSome, IsNone, None, OnErr, OnOk};
+ghost use Rattle.std.specs.Prelude.{◌≡◌, ◌<◌, ◌≤◌, ◌↔◌, [], length, slice_index, All, Contains, IfOk, IfSome, IsNone, None, OnErr, OnOk, IsTrue};
 ghost use Rattle.std.specs.List.{last_or};
 ghost use Rattle.cdf_area.specs.Calls.{Edits};
 ghost use Rattle.cdf_attrs.specs.Known.{Knows, KnowsEntries};
@@ -13,6 +13,7 @@ ghost use Rattle.cdf_format.specs.Shape.{shape};
 ghost use Rattle.cdf_format.specs.Sound.{IsSound};
 ghost use Rattle.cdf_format.specs.WellFormed.{Good};
 ghost use Rattle.cdf_model.specs.Limits.{image_limit, signed_limit};
+ghost use Rattle.cdf_model.specs.Turns.{is_refused};
 ghost use Rattle.cdf_model.specs.declared.command.Command.TheVariants.{DelEntry};
 
 use crate::attrs::Attrs;
@@ -112,6 +113,7 @@ impl Attrs {
         ensures answers { IfOk result (λ o. Answers (A.frame area.old).limit (A.image area.old) (DelEntry attr.now kind num) o (A.image area.new)) }
         ensures known { OnOk result (Knows (A.image area.new) self.new) }
         ensures stays { OnErr result (Knows (A.image area.old) self.new) }
+        ensures refused { IfOk result (λ o. IsTrue (is_refused o) → A.edited area.new ≡ A.edited area.old) }
         ensures area { Edits A.frame A.faults area.old area.new result }
     {
         let (number, chain) = match self.find_chain(area, attr, kind)? {

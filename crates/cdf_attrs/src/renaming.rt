@@ -1,11 +1,12 @@
 //! The command `rename-attr`: an attribute gets another name.
 
-ghost use Rattle.std.specs.Prelude.{◌≤◌, length, IfOk, OnOk, OnErr};
+ghost use Rattle.std.specs.Prelude.{◌≤◌, length, IfOk, OnOk, OnErr, ◌≡◌, IsTrue};
 ghost use Rattle.cdf_area.specs.Calls.{Edits};
 ghost use Rattle.cdf_attrs.specs.Known.{Knows};
 ghost use Rattle.cdf_edits.specs.Answers.{Answers};
 ghost use Rattle.cdf_format.specs.WellFormed.{Good};
 ghost use Rattle.cdf_model.specs.Limits.{image_limit};
+ghost use Rattle.cdf_model.specs.Turns.{is_refused};
 ghost use Rattle.cdf_model.specs.declared.command.Command.TheVariants.{RenameAttr};
 
 use crate::attrs::Attrs;
@@ -29,6 +30,7 @@ impl Attrs {
         ensures answers { IfOk result (λ o. Answers (A.frame area.old).limit (A.image area.old) (RenameAttr from.now to.now) o (A.image area.new)) }
         ensures known { OnOk result (Knows (A.image area.new) self.new) }
         ensures stays { OnErr result (Knows (A.image area.old) self.new) }
+        ensures refused { IfOk result (λ o. IsTrue (is_refused o) → A.edited area.new ≡ A.edited area.old) }
         ensures area { Edits A.frame A.faults area.old area.new result }
     {
         let Some(number) = self.names.find(from) else {

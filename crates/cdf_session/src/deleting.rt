@@ -1,11 +1,12 @@
 //! The command `del-var` over what is kept of attributes and of variables.
 
-ghost use Rattle.std.specs.Prelude.{◌≡◌, ◌≤◌, length, IfOk, OnOk, OnErr};
+ghost use Rattle.std.specs.Prelude.{◌≡◌, ◌≤◌, length, IfOk, OnOk, OnErr, IsTrue};
 ghost use Rattle.cdf_area.specs.Calls.{Edits};
 ghost use Rattle.cdf_attrs.specs.Known.{Knows};
 ghost use Rattle.cdf_edits.specs.Answers.{Answers};
 ghost use Rattle.cdf_format.specs.WellFormed.{Good};
 ghost use Rattle.cdf_model.specs.Limits.{image_limit};
+ghost use Rattle.cdf_model.specs.Turns.{is_refused};
 ghost use Rattle.cdf_model.specs.declared.command.Command.TheVariants.{DelVar};
 ghost use Rattle.cdf_vars.specs.Known.{Knows as KnowsVariables};
 
@@ -31,6 +32,7 @@ pub(crate) fn delete_variable<A: Area>(
     ensures variables { OnOk result (KnowsVariables (A.image area.new) vars.new) }
     ensures attributes_stay { OnErr result (Knows (A.image area.old) attrs.new) }
     ensures variables_stay { OnErr result (KnowsVariables (A.image area.old) vars.new) }
+    ensures refused { IfOk result (λ o. IsTrue (is_refused o) → A.edited area.new ≡ A.edited area.old) }
     ensures area { Edits A.frame A.faults area.old area.new result }
 {
     let Some(found) = vars.find(name) else {

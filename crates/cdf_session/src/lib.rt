@@ -13,6 +13,7 @@ mod reading;
 mod refusal;
 mod session;
 
+pub use checksum::read_seal;
 pub use new_file::NEW_SIZE;
 pub use refusal::{AdoptError, Refusal};
 pub use session::Session;

@@ -1,9 +1,10 @@
 //! The commands on attributes and on their entries, as a session carries them out.
 
-ghost use Rattle.std.specs.Prelude.{◌≡◌, ◌≤◌, length, IfOk, OnErr};
+ghost use Rattle.std.specs.Prelude.{◌≡◌, ◌≤◌, length, IfOk, OnErr, IsTrue};
 ghost use Rattle.cdf_area.specs.Calls.{Edits, Reads};
 ghost use Rattle.cdf_edits.specs.Answers.{Answers};
 ghost use Rattle.cdf_model.specs.Sayable.{CanBeGiven, Fit};
+ghost use Rattle.cdf_model.specs.Turns.{is_refused};
 
 use crate::session::{Session, settle};
 use cdf_area::{Area, AreaError};
@@ -15,6 +16,7 @@ impl<A: Area> Session<A> {
         requires scope { CanBeGiven scope }
         ensures answers { IfOk result (λ o. Answers (A.frame self.old).limit (A.image self.old) (Command.Attr name.now scope) o (A.image self.new)) }
         ensures stays { OnErr result (A.image self.new ≡ A.image self.old) }
+        ensures refused { IfOk result (λ o. IsTrue (is_refused o) → A.edited self.new ≡ A.edited self.old) }
         ensures area { Edits A.frame A.faults self.old self.new result }
     {
         self.starts.forget();
@@ -27,6 +29,7 @@ impl<A: Area> Session<A> {
     pub(crate) fn rename_attr(&mut self, from: &[u8], to: &[u8]) -> Result<Outcome, AreaError>
         ensures answers { IfOk result (λ o. Answers (A.frame self.old).limit (A.image self.old) (Command.RenameAttr from.now to.now) o (A.image self.new)) }
         ensures stays { OnErr result (A.image self.new ≡ A.image self.old) }
+        ensures refused { IfOk result (λ o. IsTrue (is_refused o) → A.edited self.new ≡ A.edited self.old) }
         ensures area { Edits A.frame A.faults self.old self.new result }
     {
         self.starts.forget();
@@ -39,6 +42,7 @@ impl<A: Area> Session<A> {
     pub(crate) fn del_attr(&mut self, name: &[u8]) -> Result<Outcome, AreaError>
         ensures answers { IfOk result (λ o. Answers (A.frame self.old).limit (A.image self.old) (Command.DelAttr name.now) o (A.image self.new)) }
         ensures stays { OnErr result (A.image self.new ≡ A.image self.old) }
+        ensures refused { IfOk result (λ o. IsTrue (is_refused o) → A.edited self.new ≡ A.edited self.old) }
         ensures area { Edits A.frame A.faults self.old self.new result }
     {
         self.starts.forget();
@@ -69,6 +73,7 @@ impl<A: Area> Session<A> {
     ) -> Result<Outcome, AreaError>
         ensures answers { IfOk result (λ o. Answers (A.frame self.old).limit (A.image self.old) (Command.DelEntry attr.now kind num) o (A.image self.new)) }
         ensures stays { OnErr result (A.image self.new ≡ A.image self.old) }
+        ensures refused { IfOk result (λ o. IsTrue (is_refused o) → A.edited self.new ≡ A.edited self.old) }
         ensures area { Edits A.frame A.faults self.old self.new result }
     {
         self.starts.forget();
@@ -90,6 +95,7 @@ impl<A: Area> Session<A> {
         requires fit { Fit words.now }
         ensures answers { IfOk result (λ o. Answers (A.frame self.old).limit (A.image self.old) (Command.PutEntry attr.now kind num t words.now) o (A.image self.new)) }
         ensures stays { OnErr result (A.image self.new ≡ A.image self.old) }
+        ensures refused { IfOk result (λ o. IsTrue (is_refused o) → A.edited self.new ≡ A.edited self.old) }
         ensures area { Edits A.frame A.faults self.old self.new result }
     {
         self.starts.forget();

@@ -1,8 +1,9 @@
 //! The commands on the records of a variable, as a session carries them out.
 
-ghost use Rattle.std.specs.Prelude.{◌≡◌, IfOk, OnErr};
+ghost use Rattle.std.specs.Prelude.{◌≡◌, IfOk, OnErr, IsTrue};
 ghost use Rattle.cdf_area.specs.Calls.{Edits, Reads};
 ghost use Rattle.cdf_edits.specs.Answers.{Answers};
+ghost use Rattle.cdf_model.specs.Turns.{is_refused};
 
 use crate::session::{Session, settle};
 use cdf_area::{Area, AreaError};
@@ -13,6 +14,7 @@ impl<A: Area> Session<A> {
     pub(crate) fn reindex(&mut self, var: &[u8]) -> Result<Outcome, AreaError>
         ensures answers { IfOk result (λ o. Answers (A.frame self.old).limit (A.image self.old) (Command.Reindex var.now) o (A.image self.new)) }
         ensures stays { OnErr result (A.image self.new ≡ A.image self.old) }
+        ensures refused { IfOk result (λ o. IsTrue (is_refused o) → A.edited self.new ≡ A.edited self.old) }
         ensures area { Edits A.frame A.faults self.old self.new result }
     {
         self.starts.forget();
@@ -31,6 +33,7 @@ impl<A: Area> Session<A> {
     ) -> Result<Outcome, AreaError>
         ensures answers { IfOk result (λ o. Answers (A.frame self.old).limit (A.image self.old) (Command.PutRec var.now rec words.now) o (A.image self.new)) }
         ensures stays { OnErr result (A.image self.new ≡ A.image self.old) }
+        ensures refused { IfOk result (λ o. IsTrue (is_refused o) → A.edited self.new ≡ A.edited self.old) }
         ensures area { Edits A.frame A.faults self.old self.new result }
     {
         self.area.mark();
@@ -60,6 +63,7 @@ impl<A: Area> Session<A> {
     ) -> Result<Outcome, AreaError>
         ensures answers { IfOk result (λ o. Answers (A.frame self.old).limit (A.image self.old) (Command.PutVal var.now rec index.now words.now) o (A.image self.new)) }
         ensures stays { OnErr result (A.image self.new ≡ A.image self.old) }
+        ensures refused { IfOk result (λ o. IsTrue (is_refused o) → A.edited self.new ≡ A.edited self.old) }
         ensures area { Edits A.frame A.faults self.old self.new result }
     {
         self.area.mark();

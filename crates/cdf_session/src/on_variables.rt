@@ -1,9 +1,10 @@
 //! The commands on variables as such, and `setup`, as a session carries them out.
 
-ghost use Rattle.std.specs.Prelude.{◌≡◌, length, IfOk, OnErr};
+ghost use Rattle.std.specs.Prelude.{◌≡◌, length, IfOk, OnErr, IsTrue};
 ghost use Rattle.cdf_area.specs.Calls.{Edits};
 ghost use Rattle.cdf_edits.specs.Answers.{Answers};
 ghost use Rattle.cdf_model.specs.Sayable.{Fit};
+ghost use Rattle.cdf_model.specs.Turns.{is_refused};
 
 use crate::deleting::delete_variable;
 use crate::session::{Session, settle};
@@ -21,6 +22,7 @@ impl<A: Area> Session<A> {
     ) -> Result<Outcome, AreaError>
         ensures answers { IfOk result (λ o. Answers (A.frame self.old).limit (A.image self.old) (Command.Setup encoding majority dims.now) o (A.image self.new)) }
         ensures stays { OnErr result (A.image self.new ≡ A.image self.old) }
+        ensures refused { IfOk result (λ o. IsTrue (is_refused o) → A.edited self.new ≡ A.edited self.old) }
         ensures area { Edits A.frame A.faults self.old self.new result }
     {
         self.starts.forget();
@@ -41,6 +43,7 @@ impl<A: Area> Session<A> {
     ) -> Result<Outcome, AreaError>
         ensures answers { IfOk result (λ o. Answers (A.frame self.old).limit (A.image self.old) (Command.RVar name.now t elems vary varys.now) o (A.image self.new)) }
         ensures stays { OnErr result (A.image self.new ≡ A.image self.old) }
+        ensures refused { IfOk result (λ o. IsTrue (is_refused o) → A.edited self.new ≡ A.edited self.old) }
         ensures area { Edits A.frame A.faults self.old self.new result }
     {
         self.starts.forget();
@@ -64,6 +67,7 @@ impl<A: Area> Session<A> {
     ) -> Result<Outcome, AreaError>
         ensures answers { IfOk result (λ o. Answers (A.frame self.old).limit (A.image self.old) (Command.ZVar name.now t elems vary dims.now varys.now) o (A.image self.new)) }
         ensures stays { OnErr result (A.image self.new ≡ A.image self.old) }
+        ensures refused { IfOk result (λ o. IsTrue (is_refused o) → A.edited self.new ≡ A.edited self.old) }
         ensures area { Edits A.frame A.faults self.old self.new result }
     {
         self.starts.forget();
@@ -79,6 +83,7 @@ impl<A: Area> Session<A> {
     pub(crate) fn rename_var(&mut self, from: &[u8], to: &[u8]) -> Result<Outcome, AreaError>
         ensures answers { IfOk result (λ o. Answers (A.frame self.old).limit (A.image self.old) (Command.RenameVar from.now to.now) o (A.image self.new)) }
         ensures stays { OnErr result (A.image self.new ≡ A.image self.old) }
+        ensures refused { IfOk result (λ o. IsTrue (is_refused o) → A.edited self.new ≡ A.edited self.old) }
         ensures area { Edits A.frame A.faults self.old self.new result }
     {
         self.starts.forget();
@@ -92,6 +97,7 @@ impl<A: Area> Session<A> {
     pub(crate) fn del_var(&mut self, name: &[u8]) -> Result<Outcome, AreaError>
         ensures answers { IfOk result (λ o. Answers (A.frame self.old).limit (A.image self.old) (Command.DelVar name.now) o (A.image self.new)) }
         ensures stays { OnErr result (A.image self.new ≡ A.image self.old) }
+        ensures refused { IfOk result (λ o. IsTrue (is_refused o) → A.edited self.new ≡ A.edited self.old) }
         ensures area { Edits A.frame A.faults self.old self.new result }
     {
         self.starts.forget();
@@ -106,6 +112,7 @@ impl<A: Area> Session<A> {
         requires fit { Fit words.now }
         ensures answers { IfOk result (λ o. Answers (A.frame self.old).limit (A.image self.old) (Command.SetPad var.now words.now) o (A.image self.new)) }
         ensures stays { OnErr result (A.image self.new ≡ A.image self.old) }
+        ensures refused { IfOk result (λ o. IsTrue (is_refused o) → A.edited self.new ≡ A.edited self.old) }
         ensures area { Edits A.frame A.faults self.old self.new result }
     {
         self.starts.forget();
@@ -119,6 +126,7 @@ impl<A: Area> Session<A> {
     pub(crate) fn set_blocking(&mut self, var: &[u8], n: u32) -> Result<Outcome, AreaError>
         ensures answers { IfOk result (λ o. Answers (A.frame self.old).limit (A.image self.old) (Command.SetBlocking var.now n) o (A.image self.new)) }
         ensures stays { OnErr result (A.image self.new ≡ A.image self.old) }
+        ensures refused { IfOk result (λ o. IsTrue (is_refused o) → A.edited self.new ≡ A.edited self.old) }
         ensures area { Edits A.frame A.faults self.old self.new result }
     {
         self.starts.forget();

@@ -1,6 +1,6 @@
 //! A file under edit, and the commands that are carried out on it.
 
-ghost use Rattle.std.specs.Prelude.{◌≡◌, ◌≤◌, [], length, true, IsSome, IfOk, IfErr, OnOk, OnErr, Some, None};
+ghost use Rattle.std.specs.Prelude.{◌≡◌, ◌≤◌, [], length, true, IsSome, IfOk, IfErr, OnOk, OnErr, Some, None, IsTrue};
 ghost use Rattle.cdf_area.specs.Calls.{Edits, Reads};
 ghost use Rattle.cdf_area.specs.Frame.{with_base};
 ghost use Rattle.cdf_edits.specs.Answers.{Answers};
@@ -11,6 +11,7 @@ ghost use Rattle.cdf_format.specs.Shape.{shape};
 ghost use Rattle.cdf_format.specs.WellFormed.{Good, WellFormed};
 ghost use Rattle.cdf_model.specs.Limits.{image_limit};
 ghost use Rattle.cdf_model.specs.Sayable.{Sayable};
+ghost use Rattle.cdf_model.specs.Turns.{is_refused};
 ghost use Rattle.cdf_model.specs.declared.answer.LineError.TheVariants.{UnknownWord};
 ghost use Rattle.cdf_model.specs.declared.answer.Outcome.TheVariants.{Refused};
 ghost use Rattle.cdf_model.specs.declared.answer.Reason.TheVariants.{BadLine};
@@ -62,6 +63,7 @@ pub(crate) fn settle<A: Area>(
     ensures kept { OnOk done (A.image area.new ≡ A.image area.old) }
     ensures undone { OnErr done ((A.frame area.old).base ≡ Some (A.image area.new)) }
     ensures frame { A.frame area.new ≡ with_base (A.frame area.old) None }
+    ensures edited { A.edited area.new ≡ A.edited area.old }
     ensures faults { A.faults area.new ≡ A.faults area.old }
 {
     match &done {
@@ -165,13 +167,15 @@ impl<A: Area> Session<A> {
         }
     }
 
-    /// Carries out a command. One that there is not yet is a word that is not known. After a refusal and after an error the image is as before.
+    /// Carries out a command. One that there is not yet is a word that is not known. After a refusal and after an error the image is as before,
+    /// and a command that is refused is no edit.
     #[rattlefmt::skip]
     pub fn apply(&mut self, command: &Command) -> Result<Outcome, AreaError>
         requires { Sayable command.now }
         ensures answers { IfOk result (λ o. AnswersBuilt (built command.now) (A.frame self.old).limit (A.image self.old) command.now o (A.image self.new)) }
         ensures stays { OnErr result (A.image self.new ≡ A.image self.old) }
         ensures unedited { only_reads command.now ≡ true → A.edited self.new ≡ A.edited self.old }
+        ensures refused { IfOk result (λ o. IsTrue (is_refused o) → A.edited self.new ≡ A.edited self.old) }
         ensures area { Edits A.frame A.faults self.old self.new result }
     {
         match command {
@@ -237,6 +241,7 @@ impl<A: Area> Session<A> {
     fn checksum(&mut self, md5: bool) -> Result<Outcome, AreaError>
         ensures answers { IfOk result (λ o. Answers (A.frame self.old).limit (A.image self.old) (Command.Checksum md5) o (A.image self.new)) }
         ensures stays { OnErr result (A.image self.new ≡ A.image self.old) }
+        ensures refused { IfOk result (λ o. IsTrue (is_refused o) → A.edited self.new ≡ A.edited self.old) }
         ensures area { Edits A.frame A.faults self.old self.new result }
     {
         self.starts.forget();

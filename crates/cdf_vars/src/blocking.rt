@@ -1,10 +1,11 @@
 //! The command `set-blocking`: a variable gets another blocking factor, which is how many records a new block is to hold.
 
-ghost use Rattle.std.specs.Prelude.{◌≤◌, length, IfOk, OnOk, OnErr};
+ghost use Rattle.std.specs.Prelude.{◌≤◌, length, IfOk, OnOk, OnErr, ◌≡◌, IsTrue};
 ghost use Rattle.cdf_area.specs.Calls.{Edits};
 ghost use Rattle.cdf_edits.specs.Answers.{Answers};
 ghost use Rattle.cdf_format.specs.WellFormed.{Good};
 ghost use Rattle.cdf_model.specs.Limits.{image_limit};
+ghost use Rattle.cdf_model.specs.Turns.{is_refused};
 ghost use Rattle.cdf_model.specs.declared.command.Command.TheVariants.{SetBlocking};
 ghost use Rattle.cdf_vars.specs.Known.{Knows};
 
@@ -30,6 +31,7 @@ impl Vars {
         ensures answers { IfOk result (λ o. Answers (A.frame area.old).limit (A.image area.old) (SetBlocking name.now n) o (A.image area.new)) }
         ensures known { OnOk result (Knows (A.image area.new) self.new) }
         ensures stays { OnErr result (Knows (A.image area.old) self.new) }
+        ensures refused { IfOk result (λ o. IsTrue (is_refused o) → A.edited area.new ≡ A.edited area.old) }
         ensures area { Edits A.frame A.faults area.old area.new result }
     {
         let Some(found) = self.find(name) else {

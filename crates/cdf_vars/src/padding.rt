@@ -1,6 +1,6 @@
 //! The command `set-pad`: a variable gets another pad value.
 
-ghost use Rattle.std.specs.Prelude.{◌≡◌, ◌≤◌, ◌+◌, ℕ, List, Result, Err, length, IfOk, IfErr, OnOk, OnErr};
+ghost use Rattle.std.specs.Prelude.{◌≡◌, ◌≤◌, ◌+◌, ℕ, List, Result, Err, length, IfOk, IfErr, OnOk, OnErr, IsTrue};
 ghost use Rattle.cdf_area.specs.Calls.{Edits, Reads};
 ghost use Rattle.cdf_area.specs.declared.area.AreaError.TheVariants.{NoMemory};
 ghost use Rattle.cdf_edits.specs.Answers.{Answers};
@@ -8,6 +8,7 @@ ghost use Rattle.cdf_format.specs.WellFormed.{Good};
 ghost use Rattle.cdf_model.specs.Limits.{image_limit};
 ghost use Rattle.cdf_model.specs.Sayable.{Fit};
 ghost use Rattle.cdf_model.specs.Values.{values_in};
+ghost use Rattle.cdf_model.specs.Turns.{is_refused};
 ghost use Rattle.cdf_model.specs.declared.answer.Reason.{Reason};
 ghost use Rattle.cdf_model.specs.declared.command.Command.TheVariants.{SetPad};
 ghost use Rattle.cdf_values.specs.Reading.{Explains};
@@ -115,6 +116,7 @@ impl Vars {
         ensures answers { IfOk result (λ o. Answers (A.frame area.old).limit (A.image area.old) (SetPad name.now words.now) o (A.image area.new)) }
         ensures known { OnOk result (Knows (A.image area.new) self.new) }
         ensures stays { OnErr result (Knows (A.image area.old) self.new) }
+        ensures refused { IfOk result (λ o. IsTrue (is_refused o) → A.edited area.new ≡ A.edited area.old) }
         ensures area { Edits A.frame A.faults area.old area.new result }
     {
         let (id, place, bytes) = match self.read_request(area, name, words)? {

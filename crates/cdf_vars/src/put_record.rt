@@ -1,6 +1,6 @@
 //! A record that a command puts, once it is known what is put.
 
-ghost use Rattle.std.specs.Prelude.{◌≡◌, ◌+◌, ◌≤◌, ◌%◌, ℕ, ℤ, List, length, IfOk, OnOk, OnErr};
+ghost use Rattle.std.specs.Prelude.{◌≡◌, ◌+◌, ◌≤◌, ◌%◌, ℕ, ℤ, List, length, IfOk, OnOk, OnErr, IsTrue};
 ghost use Rattle.cdf_puts.specs.declared.starts.Starts.{Starts};
 ghost use Rattle.cdf_area.specs.Calls.{Edits, Reads};
 ghost use Rattle.cdf_edits.specs.Answers.{Answers};
@@ -17,6 +17,7 @@ ghost use Rattle.cdf_model.specs.ByteOrder.{turned};
 ghost use Rattle.cdf_model.specs.DataSet.{extent};
 ghost use Rattle.cdf_model.specs.Limits.{image_limit, record_number_limit};
 ghost use Rattle.cdf_model.specs.Types.{size_of};
+ghost use Rattle.cdf_model.specs.Turns.{is_refused};
 ghost use Rattle.cdf_model.specs.declared.command.Command.{Command};
 ghost use Rattle.cdf_model.specs.declared.kinds.Kind.TheVariants.{R};
 ghost use Rattle.cdf_vars.specs.Known.{Knows};
@@ -179,6 +180,7 @@ impl Vars {
         ensures known { OnOk result (Knows (A.image area.new) self.now) }
         ensures starts { OnOk result (KnowsStarts (A.image area.new) starts.new) }
         ensures starts_stay { OnErr result (KnowsStarts (A.image area.old) starts.new) }
+        ensures refused { IfOk result (λ o. IsTrue (is_refused o) → A.edited area.new ≡ A.edited area.old) }
         ensures area { Edits A.frame A.faults area.old area.new result }
     {
         let vdr = target.form.place.vdr;

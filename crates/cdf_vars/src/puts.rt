@@ -1,12 +1,13 @@
 //! The commands `put-rec` and `put-val`: a record of a variable, or one value of it, gets other values.
 
-ghost use Rattle.std.specs.Prelude.{◌≡◌, ◌≤◌, ◌+◌, ◌*◌, ◌++◌, ℕ, List, Ok, length, take, drop, IfOk, OnOk, OnErr};
+ghost use Rattle.std.specs.Prelude.{◌≡◌, ◌≤◌, ◌+◌, ◌*◌, ◌++◌, ℕ, List, Ok, length, take, drop, IfOk, OnOk, OnErr, IsTrue};
 ghost use Rattle.cdf_area.specs.Calls.{Edits, Reads};
 ghost use Rattle.cdf_edits.specs.Answers.{Answers};
 ghost use Rattle.cdf_format.specs.WellFormed.{Good};
 ghost use Rattle.cdf_model.specs.Limits.{image_limit};
 ghost use Rattle.cdf_model.specs.Types.{size_of};
 ghost use Rattle.cdf_model.specs.Values.{values_in};
+ghost use Rattle.cdf_model.specs.Turns.{is_refused};
 ghost use Rattle.cdf_model.specs.declared.command.Command.TheVariants.{PutRec, PutVal};
 ghost use Rattle.cdf_puts.specs.Starts.{IsKnownStart, KnowsStarts};
 ghost use Rattle.cdf_vars.specs.Known.{Knows};
@@ -198,6 +199,7 @@ impl Vars {
         ensures known { OnOk result (Knows (A.image area.new) self.now) }
         ensures starts { OnOk result (KnowsStarts (A.image area.new) starts.new) }
         ensures starts_stay { OnErr result (KnowsStarts (A.image area.old) starts.new) }
+        ensures refused { IfOk result (λ o. IsTrue (is_refused o) → A.edited area.new ≡ A.edited area.old) }
         ensures area { Edits A.frame A.faults area.old area.new result }
     {
         match self.read_record_request(area, name, rec, words)? {
@@ -225,6 +227,7 @@ impl Vars {
         ensures known { OnOk result (Knows (A.image area.new) self.now) }
         ensures starts { OnOk result (KnowsStarts (A.image area.new) starts.new) }
         ensures starts_stay { OnErr result (KnowsStarts (A.image area.old) starts.new) }
+        ensures refused { IfOk result (λ o. IsTrue (is_refused o) → A.edited area.new ≡ A.edited area.old) }
         ensures area { Edits A.frame A.faults area.old area.new result }
     {
         match self.read_value_request(area, starts, name, rec, index, words)? {

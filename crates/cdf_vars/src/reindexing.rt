@@ -1,6 +1,6 @@
 //! The command `reindex`: the index of a variable is made anew, in as few nodes as can be.
 
-ghost use Rattle.std.specs.Prelude.{◌≡◌, ◌+◌, ◌*◌, ◌≤◌, length, IfOk, OnOk, OnErr};
+ghost use Rattle.std.specs.Prelude.{◌≡◌, ◌+◌, ◌*◌, ◌≤◌, length, IfOk, OnOk, OnErr, IsTrue};
 ghost use Rattle.cdf_area.specs.Calls.{Edits, Reads};
 ghost use Rattle.cdf_edits.specs.Answers.{Answers};
 ghost use Rattle.cdf_edits.specs.Commands.Room.{nodes_above, reindex_room};
@@ -11,6 +11,7 @@ ghost use Rattle.cdf_format.specs.Tiles.{In};
 ghost use Rattle.cdf_format.specs.WellFormed.{Good};
 ghost use Rattle.cdf_index.specs.Finding.{index_at};
 ghost use Rattle.cdf_model.specs.Limits.{image_limit, signed_limit};
+ghost use Rattle.cdf_model.specs.Turns.{is_refused};
 ghost use Rattle.cdf_model.specs.declared.command.Command.TheVariants.{Reindex};
 ghost use Rattle.cdf_vars.specs.Known.{Knows};
 
@@ -66,6 +67,7 @@ impl Vars {
         ensures answers { IfOk result (λ o. Answers (A.frame area.old).limit (A.image area.old) (Reindex name.now) o (A.image area.new)) }
         ensures known { OnOk result (Knows (A.image area.new) self.new) }
         ensures stays { OnErr result (Knows (A.image area.old) self.new) }
+        ensures refused { IfOk result (λ o. IsTrue (is_refused o) → A.edited area.new ≡ A.edited area.old) }
         ensures area { Edits A.frame A.faults area.old area.new result }
     {
         let Some(found) = self.find(name) else {

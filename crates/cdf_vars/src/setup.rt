@@ -1,6 +1,6 @@
 //! The command `setup`: the encoding, the majority, and the dimensions that the r variables share.
 
-ghost use Rattle.std.specs.Prelude.{◌≡◌, ◌+◌, ◌≤◌, ◌++◌, ◌==◌, ◌&&◌, ◌||◌, length, false, is_some, not, true, IfOk, OnOk};
+ghost use Rattle.std.specs.Prelude.{◌≡◌, ◌+◌, ◌≤◌, ◌++◌, ◌==◌, ◌&&◌, ◌||◌, length, false, is_some, not, true, IfOk, OnOk, IsTrue};
 ghost use Rattle.std.specs.Int.{cast_unsigned, w32};
 ghost use Rattle.cdf_area.specs.Calls.{Edits, Reads};
 ghost use Rattle.cdf_base.specs.Bytes.{put};
@@ -16,6 +16,7 @@ ghost use Rattle.cdf_format.specs.WellFormed.{Good};
 ghost use Rattle.cdf_model.specs.Encodings.{encoding_at};
 ghost use Rattle.cdf_model.specs.Limits.{image_limit};
 ghost use Rattle.cdf_model.specs.VariableSteps.{are_bad_sizes, is_empty_set};
+ghost use Rattle.cdf_model.specs.Turns.{is_refused};
 ghost use Rattle.cdf_model.specs.declared.command.Command.TheVariants.{Setup};
 ghost use Rattle.cdf_vars.specs.Setup.{MakesGdr, MovesGdr, WritesHeads, gdr_fields};
 
@@ -243,6 +244,7 @@ pub fn set_up<A: Area>(
     requires fits { length (A.image area.old) ≤ (A.frame area.old).limit }
     requires limit { (A.frame area.old).limit ≤ image_limit }
     ensures answers { IfOk result (λ o. Answers (A.frame area.old).limit (A.image area.old) (Setup encoding majority dims.now) o (A.image area.new)) }
+    ensures refused { IfOk result (λ o. IsTrue (is_refused o) → A.edited area.new ≡ A.edited area.old) }
     ensures area { Edits A.frame A.faults area.old area.new result }
 {
     let sizes = dims.as_slice();

@@ -54,11 +54,11 @@ returns g c =
     elim c.if-need-place.branch [
       | then-need-place+in_ok-write_pad w ↦
           let done = put_done c.args.name.now c.args.words.now c.requires.good c.requires.known may (rw (same, w.deref.ensures.value) at w.in_ok-write_pad.ensures.written) (omega (arith, long, w.if-need-place.true)) in
-          rw (w.area-is, w.self-is) (record { answers = done.0 _ under c.requires.fits c.requires.limit; known = done.1; stays = tt; area = edit_done (edit_more read w.in_ok-write_pad.ensures.area) })
+          rw (w.area-is, w.self-is) (record { answers = done.0 _ under c.requires.fits c.requires.limit; known = done.1; stays = tt; refused = λ is. absurd cc; area = edit_done (edit_more read w.in_ok-write_pad.ensures.area) })
       | else-need-place+in-R+in_ok-move_vdr-in-R w ↦
           let done = moved_done c.args.name.now c.args.words.now c.requires.good knows may_move (rw (same, w.deref-in-R.ensures.value) at w.in_ok-move_vdr-in-R.ensures.moves) (omega (arith, long, w.if-need-place.false)) in
-          rw (w.area-is, w.self-is) (record { answers = done.0 _ under c.requires.fits c.requires.limit; known = done.1 _ w.in-R.is refl refl; stays = tt; area = edit_done (edit_more read w.in_ok-move_vdr-in-R.ensures.area) })
+          rw (w.area-is, w.self-is) (record { answers = done.0 _ under c.requires.fits c.requires.limit; known = done.1 _ w.in-R.is refl refl; stays = tt; refused = λ is. absurd cc; area = edit_done (edit_more read w.in_ok-move_vdr-in-R.ensures.area) })
       | else-need-place+in-Z+in_ok-move_vdr-in-Z w ↦
           let done = moved_done c.args.name.now c.args.words.now c.requires.good knows may_move (rw (same, w.deref-in-Z.ensures.value) at w.in_ok-move_vdr-in-Z.ensures.moves) (omega (arith, long, w.if-need-place.false)) in
-          rw (w.area-is, w.self-is) (record { answers = done.0 _ under c.requires.fits c.requires.limit; known = done.1 _ w.in-Z.is refl refl; stays = tt; area = edit_done (edit_more read w.in_ok-move_vdr-in-Z.ensures.area) })
+          rw (w.area-is, w.self-is) (record { answers = done.0 _ under c.requires.fits c.requires.limit; known = done.1 _ w.in-Z.is refl refl; stays = tt; refused = λ is. absurd cc; area = edit_done (edit_more read w.in_ok-move_vdr-in-Z.ensures.area) })
     ]
