@@ -1,8 +1,9 @@
 -- A file that is checked and no more.
-use Rattle.cdf_tool.proofs.Common.{Asked, Attached, Bool, Checks, Counted, Disk, EndsChecked, EndsOverFile, EndsUnread, EndsWithout, Exactly, IsAnswered, KeptBy, List, Option, SaysAccepted, Some, Status, WellFormed, accepted_text, all_phases, counts, excluded, false, image_of, inl, inr, refl, shape, space_text, subst, sym, true, yes_text, ℕ, ◌++◌, ◌∙◌, ◌≡◌}
+use Rattle.cdf_tool.proofs.Common.{Asked, Attached, Bool, Checks, Counted, Disk, EndsChecked, EndsOverFile, EndsUnread, EndsWithout, Exactly, IsAnswered, IsDone, KeptBy, List, Option, SaysAccepted, SaysNoFile, SaysUsage, Some, Status, WellFormed, accepted_text, all_phases, counts, excluded, false, image_of, inl, inr, refl, shape, space_text, subst, sym, true, yes_text, ℕ, ◌++◌, ◌∙◌, ◌≡◌, ◌≢◌}
 use Rattle.cdf_format.specs.Owners.{space_of}
 use Rattle.cdf_model.specs.declared.space.Space.{Space}
 use Rattle.cdf_tool.specs.declared.status.Status.TheVariants as statuses
+use Rattle.cdf_tool.proofs.Headline.{unread_not_done}
 use Rattle.cdf_tool.proofs.RunStore.{kept_attached}
 
 some_same : (x y : List ℕ) → Some x ≡ Some y → x ≡ y
@@ -84,3 +85,51 @@ says_space false image taken first now status asked is says = absurd (cc asked)
 -- no read failed before it
 pub said_counted : (status : Status) (r o s r' o' : ℕ) → r' ≡ r → Counted (counts r 0 o s) (counts r 0 o' s) status → Counted (counts r 0 o s) (counts r' 0 o' s) status
 said_counted status r o s r' o' same counted = subst (λ (n : ℕ). Counted (counts r 0 o s) (counts n 0 o' s) status) (sym same) counted
+
+-- a check that succeeded refused no line
+accepted_done : (text : List ℕ) (first now : Option (List ℕ)) (status : Status) → SaysAccepted text first now status → IsDone status → status ≡ statuses.Done
+accepted_done text first now statuses.Done says done = refl
+accepted_done text first now statuses.SomeRefused says done = absurd says
+accepted_done text first now statuses.Usage says done = absurd done
+accepted_done text first now statuses.NoFile says done = absurd done
+accepted_done text first now statuses.Rejected says done = absurd done
+accepted_done text first now statuses.StoreReadFault says done = absurd done
+accepted_done text first now statuses.StoreWriteFault says done = absurd done
+accepted_done text first now statuses.OutputFault says done = absurd done
+accepted_done text first now statuses.NoMemory says done = absurd done
+accepted_done text first now statuses.ScriptFault says done = absurd done
+accepted_done text first now statuses.ScriptTooLong says done = absurd done
+
+pub checked_done : (space : Bool) (file : List ℕ) (first now : Option (List ℕ)) (status : Status) → EndsOverFile space file first now status → IsDone status → status ≡ statuses.Done
+checked_done space file first now status (inl ends) done = absurd (unread_not_done false file first now status ends done)
+checked_done space file first now status (inr accepted) done = accepted_done (accepted_text space (image_of file)) first now status accepted.1 done
+
+-- nor did a run that found no file
+pub no_file_not_done : (first now : Option (List ℕ)) (status : Status) → SaysNoFile first now status → IsDone status → ⊥
+no_file_not_done first now statuses.Done says done = says
+no_file_not_done first now statuses.SomeRefused says done = says
+no_file_not_done first now statuses.Usage says done = done
+no_file_not_done first now statuses.NoFile says done = done
+no_file_not_done first now statuses.Rejected says done = done
+no_file_not_done first now statuses.StoreReadFault says done = done
+no_file_not_done first now statuses.StoreWriteFault says done = done
+no_file_not_done first now statuses.OutputFault says done = done
+no_file_not_done first now statuses.NoMemory says done = done
+no_file_not_done first now statuses.ScriptFault says done = done
+no_file_not_done first now statuses.ScriptTooLong says done = done
+
+pub no_file_no_six : (first now : Option (List ℕ)) (status : Status) → SaysNoFile first now status → status ≢ statuses.StoreWriteFault
+no_file_no_six first now status says is = subst (λ (s : Status). SaysNoFile first now s) is says
+
+pub usage_not_done : (first now : Option (List ℕ)) (status : Status) → SaysUsage first now status → IsDone status → ⊥
+usage_not_done first now statuses.Done says done = says
+usage_not_done first now statuses.SomeRefused says done = says
+usage_not_done first now statuses.Usage says done = done
+usage_not_done first now statuses.NoFile says done = done
+usage_not_done first now statuses.Rejected says done = done
+usage_not_done first now statuses.StoreReadFault says done = done
+usage_not_done first now statuses.StoreWriteFault says done = done
+usage_not_done first now statuses.OutputFault says done = done
+usage_not_done first now statuses.NoMemory says done = done
+usage_not_done first now statuses.ScriptFault says done = done
+usage_not_done first now statuses.ScriptTooLong says done = done

@@ -45,15 +45,20 @@ unfoldable pub use Rattle.cdf_tool.specs.CommandLine.{command, faults, found}
 pub use Rattle.cdf_tool.specs.Counts.{Counted, CountedIn, Counts, ReadsCounted, ReadsCountedBehind, WritesCounted, counts}
 pub use Rattle.cdf_tool.specs.Due.{CanBegin, FilesStay, IsGood, Looked, Untouched}
 pub use Rattle.cdf_tool.specs.Endings.{Ends, EndsAsked}
-pub use Rattle.cdf_tool.specs.Ends.{Completes, EndsNamed, EndsUnread, EndsWithout, Opens, Runs, Without}
+pub use Rattle.cdf_tool.specs.Ends.{Completes, EndsNamed, EndsUnread, EndsWithout, Opens, Replays, Runs, Spoils, SpoilsTo, Without}
 pub use Rattle.cdf_tool.specs.Gathering.{Gathers}
-pub use Rattle.cdf_tool.specs.Reading.{IfReads, WritesNothing, all_read, line_reads, reads}
+pub use Rattle.cdf_tool.specs.Idle.{IfIdle, IsUnmoved, all_idle, all_idle_over, command_full, full_for, is_idle, line_idles, route_full}
+unfoldable pub use Rattle.cdf_tool.specs.Idle.{asks_idly}
+pub use Rattle.cdf_tool.specs.Reading.{IfAll, IfReads, WritesNothing, all_read, line_reads, reads}
+pub use Rattle.cdf_tool.specs.Refusing.{was_refused}
 pub use Rattle.cdf_tool.specs.Replay.{AreBlank, AreShort, GathersReply, GivesNext, Goes, IsDrained, IsReply, IsSayable, IsShort, Passes, PassesAll, Replies, Stops, StopsAt, Turns, Wrote, asked_by, begun, flagged_line, line_of_moment, tale, turn_over}
 pub use Rattle.cdf_tool.specs.Says.{Names, Rejects, SaysNoFile, SaysRejected, SaysUsage, Tells, old_file, rejection}
 pub use Rattle.cdf_tool.specs.Script.{Finishes, FinishesWith, Follow, Halts, HaltsAfter, HaltsWith, Pieces, StopsIn, last_line}
 pub use Rattle.cdf_tool.specs.Statuses.{Exactly, IsDone, IsFailure, IsUnsaved, status_of, status_of_area}
-pub use Rattle.cdf_tool.specs.Stored.{Attached, IsChanged, IsRewritten, Kept, KeptBy, Replaced, Rewrites, Spoiled, StoredBy}
+pub use Rattle.cdf_tool.specs.Stored.{Attached, IsChanged, IsLeft, IsRewritten, Kept, KeptBy, Replaced, Rewrites, Spoiled, StoredBy, TellsLeft, Unattached}
 pub use Rattle.cdf_tool.specs.Taking.{Takes, TakesLast, TakesNone, TakesPiece, piece_limit}
+pub use Rattle.cdf_tool.specs.declared.notes.Left.{Left}
+pub use Rattle.cdf_tool.specs.declared.refusals.Refusals.{Refusals}
 pub use Rattle.cdf_tool.specs.declared.status.Status.{Status}
 pub use Rattle.clap.specs.Faults.{bundle_fault, check_fault, default_fault, flag_word_fault, long_fault, settle_fault, step_fault, turn_fault}
 unfoldable pub use Rattle.clap.specs.Faults.{defaults_fault, flags_fault, walk_fault}
@@ -70,7 +75,7 @@ pub use Rattle.std.proofs.Math.Path.{transport}
 pub use Rattle.std.proofs.lemmas.Bool.{cases_Bool, eqb-true}
 pub use Rattle.std.proofs.lemmas.List.Folds.{list_all-append, list_any-append}
 pub use Rattle.std.specs.Io.KnownBytes.{Appends, Consumes, IsAtEnd}
-pub use Rattle.std.specs.List.{after_first, before_first, position_or_len, remove}
+pub use Rattle.std.specs.List.{after_first, before_first, list_all, position_or_len, remove}
 pub use Rattle.std.specs.Option.{is_none, option_and_then, option_map, option_map_or}
 pub use Rattle.std.specs.Prelude.{IfOk, IfSome, IsSome, bytes_eq, find, fold, if◌then◌else◌, is_some, nat_le, nat_lt, not, pos, slice_get, ◌&&◌, ◌||◌, ◌↔◌, ◌≢◌}
 pub use Rattle.std.specs.Str.{IsUtf8}

@@ -1,5 +1,5 @@
 -- What the counts of faults say of the status.
-use Rattle.cdf_tool.proofs.Common.{AdoptError, AreaError, Asked, Bool, Broken, Counted, CountedIn, Counts, Disk, EndsNamed, EndsSaving, EndsStored, Err, Explains, IsUnsaved, List, Ok, Option, ReadsCounted, ReadsCountedBehind, Result, Status, WritesCounted, ap, arith, counts, false, inl, inr, not, refl, status_of, status_of_area, subst, sym, transport, true, ℕ, ◌<◌, ◌∙◌, ◌≡◌, ◌≤◌}
+use Rattle.cdf_tool.proofs.Common.{AdoptError, AreaError, Asked, Bool, Broken, Counted, CountedIn, Counts, Disk, EndsNamed, EndsSaving, EndsStored, Err, Explains, IsUnsaved, List, Ok, Option, ReadsCounted, ReadsCountedBehind, Refusals, Result, Status, WritesCounted, ap, arith, counts, false, inl, inr, not, refl, status_of, status_of_area, subst, sym, transport, true, was_refused, ℕ, ◌<◌, ◌∙◌, ◌≡◌, ◌≤◌}
 use Rattle.cdf_area.specs.declared.area.AreaError.TheVariants as areas
 use Rattle.cdf_base.specs.Causes.{HasCauseOf, Rose}
 use Rattle.cdf_session.specs.declared.refusal.AdoptError.TheVariants as errors
@@ -113,16 +113,16 @@ unsaved_counted true r w o s r' w' o' s' now same reads writes = saved_stays r w
 unsaved_counted false r w o s r' w' o' s' now same reads writes = saved_stays r w o s r' w' o' s' now same reads writes
 
 -- a run over the file that is attached
-attached_counted : {U : Type 0} (no_save : Bool) (end : List ℕ) (d d' : Disk U) (outcome : Result Bool Status) (status : Status) (r w o s r' w' o' s' now : ℕ) → EndsStored no_save end d d' outcome status → CountedIn (counts r 0 o s) (counts now 0 o' s') outcome
+attached_counted : {U : Type 0} (no_save : Bool) (end : List ℕ) (d d' : Disk U) (outcome : Result Refusals Status) (status : Status) (r w o s r' w' o' s' now : ℕ) → EndsStored no_save end d d' outcome status → CountedIn (counts r 0 o s) (counts now 0 o' s') outcome
     → ReadsCountedBehind outcome now r' status → WritesCounted w w' status → Counted (counts r w o s) (counts r' w' o' s') status
 attached_counted no_save end d d' (Err stopped) status r w o s r' w' o' s' now (is, same) counted reads writes =
     let here : Counted (counts r 0 o s) (counts r' 0 o' s') status = transport (λ i. Counted (counts r 0 o s) (counts (sym reads i) 0 o' s') (sym is i)) counted in
     let not_so : status ≡ statuses.StoreWriteFault → ⊥ = λ so. never_writes r o s r' o' s' (subst (λ (x : Status). Counted (counts r 0 o s) (counts r' 0 o' s') x) so here) in
     stopped_counted status r w o s r' w' o' s' here (writes_of status w w' not_so writes)
-attached_counted true end d d' (Ok refused) status r w o s r' w' o' s' now (is, same) counted reads writes =
+attached_counted true end d d' (Ok refusals) status r w o s r' w' o' s' now (is, same) counted reads writes =
     subst (λ (x : Status). Counted (counts r w o s) (counts r' w' o' s') x) (sym is)
-    (unsaved_counted refused r w o s r' w' o' s' now counted (subst (λ (x : Status). ReadsCounted now r' x) is reads) (subst (λ (x : Status). WritesCounted w w' x) is writes))
-attached_counted false end d d' (Ok refused) status r w o s r' w' o' s' now ends counted reads writes = saved_counted refused end d d' status r w o s r' w' o' s' now ends counted reads writes
+    (unsaved_counted (was_refused refusals) r w o s r' w' o' s' now counted (subst (λ (x : Status). ReadsCounted now r' x) is reads) (subst (λ (x : Status). WritesCounted w w' x) is writes))
+attached_counted false end d d' (Ok refusals) status r w o s r' w' o' s' now ends counted reads writes = saved_counted (was_refused refusals) end d d' status r w o s r' w' o' s' now ends counted reads writes
 
 -- a run over a new file in memory
 pub in_memory_counted : (refused : Bool) (status : Status) (c now : Counts) → status ≡ status_of refused → now ≡ c → Counted c now status
@@ -133,7 +133,7 @@ in_memory_counted refused status c now is same = subst (λ (x : Status). Counted
     by_refused false = same
 
 -- the same, where the counts of the area are those of the store
-pub counted_attached : {U : Type 0} (no_save : Bool) (end : List ℕ) (d d' : Disk U) (outcome : Result Bool Status) (status : Status) (r w o s r' w' o' s' before now writes : ℕ) → before ≡ r → writes ≡ w → EndsStored no_save end d d' outcome status
+pub counted_attached : {U : Type 0} (no_save : Bool) (end : List ℕ) (d d' : Disk U) (outcome : Result Refusals Status) (status : Status) (r w o s r' w' o' s' before now writes : ℕ) → before ≡ r → writes ≡ w → EndsStored no_save end d d' outcome status
     → CountedIn (counts before 0 o s) (counts now 0 o' s') outcome → ReadsCountedBehind outcome now r' status → WritesCounted writes w' status → Counted (counts r w o s) (counts r' w' o' s') status
 counted_attached no_save end d d' outcome status r w o s r' w' o' s' before now writes first same ends counted reads wrote =
     attached_counted no_save end d d' outcome status r w o s r' w' o' s' now ends
@@ -145,8 +145,8 @@ pub counted_from : (r w o s : ℕ) (now : Counts) (before writes : ℕ) (status 
 counted_from r w o s now before writes status first same counted = transport (λ i. Counted (counts (first i) (same i) o s) now status) counted
 
 -- no run over an area blames a write
-pub no_write : (c now : ℕ) (o s o' s' : ℕ) (outcome : Result Bool Status) → CountedIn (counts c 0 o s) (counts now 0 o' s') outcome → outcome ≡ Err statuses.StoreWriteFault → ⊥
-no_write c now o s o' s' outcome counted is = never_writes c o s now o' s' (subst (λ (r : Result Bool Status). CountedIn (counts c 0 o s) (counts now 0 o' s') r) is counted)
+pub no_write : (c now : ℕ) (o s o' s' : ℕ) (outcome : Result Refusals Status) → CountedIn (counts c 0 o s) (counts now 0 o' s') outcome → outcome ≡ Err statuses.StoreWriteFault → ⊥
+no_write c now o s o' s' outcome counted is = never_writes c o s now o' s' (subst (λ (r : Result Refusals Status). CountedIn (counts c 0 o s) (counts now 0 o' s') r) is counted)
 
 -- ---- a whole run
 

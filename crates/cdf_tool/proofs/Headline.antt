@@ -1,7 +1,9 @@
 -- What a run with status 0 or 1 comes to, over devices that tell their bytes.
-use Rattle.cdf_tool.proofs.Common.{Accepts, Appends, Asked, Bool, Completes, Consumes, Disk, EndsNamed, EndsUnread, EndsWithout, Finishes, Goes, IsAtEnd, IsDone, List, Moment, None, Opens, Option, Runs, Some, State, Status, [], ap, append-nil, append_assoc, content, false, flagged, flagged_line, image_limit, inl, inr, last_line, length, line_of_moment, lines, map, refl, run_of, run_on, script_limit, start, subst, sym, tale, true, ℕ, ◌++◌, ◌↔◌, ◌∙◌, ◌∷◌, ◌≡◌, ◌≤◌}
+use Rattle.cdf_tool.proofs.Common.{Accepts, Appends, Asked, Bool, Completes, Consumes, Disk, EndsNamed, EndsUnread, EndsWithout, Finishes, Goes, IfIdle, IsAtEnd, IsDone, IsUnmoved, List, Moment, None, Opens, Option, Runs, Some, State, Status, [], all_idle, all_idle_over, ap, append-nil, append_assoc, content, false, flagged, flagged_line, image_limit, inl, inr, last_line, length, line_of_moment, lines, map, refl, run_of, run_on, script_limit, start, subst, sym, tale, true, ℕ, ◌++◌, ◌↔◌, ◌∙◌, ◌∷◌, ◌≡◌, ◌≤◌}
 use Rattle.cdf_tool.specs.declared.status.Status.TheVariants as statuses
 use Rattle.cdf_tool.specs.Accepts.{Accepted}
+use Rattle.cdf_tool.proofs.IdleLemmas.{moments_idle}
+use Rattle.cdf_tool.proofs.Moments.{tale_stands}
 
 -- what was taken to the end was all that was left
 all_taken : (script taken : List ℕ) (left : Option (List ℕ)) → Consumes (Some script) left taken → IsAtEnd left → (left ≡ Some []) × (taken ≡ script)
@@ -43,8 +45,17 @@ module _ {U : Type 0} (a : Asked) (file image : List ℕ) (d d' : Disk U) (scrip
   refuses : refused ≡ (run_of (content image) [] script full).refused
   refuses = g.refused_is ∙ ap (λ (s : State). s.refused) (sym run)
 
-  accepted : (status : Status) → (status ≡ statuses.SomeRefused) ↔ ((run_of (content image) [] script full).refused ≡ true) → Accepted a d d' script left written now status
-  accepted status so = record {
+  means : content c.end ≡ (run_of (content image) [] script full).data_set
+  means = ap content g.end_is ∙ sym (tale_stands image_limit image 0 g.moments g.steps).data_set ∙ ap (λ (s : State). s.data_set) (sym run)
+
+  -- lines that are idle with their flags are idle over the image
+  idle_over : all_idle (content image) (flagged (lines script) full) ≡ true → all_idle_over image_limit image (lines script) ≡ true
+  idle_over all =
+      let same : flagged (lines script) full ≡ map flagged_line g.moments = ap (λ l. flagged l full) (sym these) ∙ flagged_moments g.moments in
+      sym (ap (all_idle_over image_limit image) these) ∙ moments_idle image_limit g.moments image g.steps (sym (ap (all_idle (content image)) same) ∙ all)
+
+  accepted : (status : Status) → (a.new ≡ false → IfIdle image_limit image (Some script) (IsUnmoved d d' status)) → (status ≡ statuses.SomeRefused) ↔ ((run_of (content image) [] script full).refused ≡ true) → Accepted a d d' script left written now status
+  accepted status idle so = record {
     file = file;
     image = image;
     end = c.end;
@@ -56,29 +67,32 @@ module _ {U : Type 0} (a : Asked) (file image : List ℕ) (d d' : Disk U) (scrip
     replies = appended written f.replies.text (last_line a.space c.end) c.finishes.then now f.replies.written c.finishes.line
         ∙ ap (λ (t : List ℕ). Some (written ++ (t ++ last_line a.space c.end))) (g.text_is ∙ ap (λ (s : State). s.text) (sym run));
     refused = so;
+    good = c.good;
+    means = means;
     stored = c.stored;
+    idle = λ old all. idle old (idle_over all);
   }
 
-accepted_done : {U : Type 0} (a : Asked) (file image : List ℕ) (d d' : Disk U) (script written : List ℕ) (left now : Option (List ℕ)) → Opens a.new file image → Completes a file image d d' (Some script) left (Some written) now false → Accepted a d d' script left written now statuses.Done
-accepted_done a file image d d' script written left now opens c =
-    accepted a file image d d' script written left now false opens c statuses.Done (λ is. absurd (cc is), λ is. absurd (cc (refuses a file image d d' script written left now false opens c ∙ is)))
+accepted_done : {U : Type 0} (a : Asked) (file image : List ℕ) (d d' : Disk U) (script written : List ℕ) (left now : Option (List ℕ)) → Opens a.new file image → Completes a file image d d' (Some script) left (Some written) now false → (a.new ≡ false → IfIdle image_limit image (Some script) (IsUnmoved d d' statuses.Done)) → Accepted a d d' script left written now statuses.Done
+accepted_done a file image d d' script written left now opens c idle =
+    accepted a file image d d' script written left now false opens c statuses.Done idle (λ is. absurd (cc is), λ is. absurd (cc (refuses a file image d d' script written left now false opens c ∙ is)))
 
-accepted_some : {U : Type 0} (a : Asked) (file image : List ℕ) (d d' : Disk U) (script written : List ℕ) (left now : Option (List ℕ)) → Opens a.new file image → Completes a file image d d' (Some script) left (Some written) now true → Accepted a d d' script left written now statuses.SomeRefused
-accepted_some a file image d d' script written left now opens c =
-    accepted a file image d d' script written left now true opens c statuses.SomeRefused (λ is. sym (refuses a file image d d' script written left now true opens c), λ is. refl)
+accepted_some : {U : Type 0} (a : Asked) (file image : List ℕ) (d d' : Disk U) (script written : List ℕ) (left now : Option (List ℕ)) → Opens a.new file image → Completes a file image d d' (Some script) left (Some written) now true → (a.new ≡ false → IfIdle image_limit image (Some script) (IsUnmoved d d' statuses.SomeRefused)) → Accepted a d d' script left written now statuses.SomeRefused
+accepted_some a file image d d' script written left now opens c idle =
+    accepted a file image d d' script written left now true opens c statuses.SomeRefused idle (λ is. sym (refuses a file image d d' script written left now true opens c), λ is. refl)
 
-runs_accepted : {U : Type 0} (a : Asked) (file image : List ℕ) (d d' : Disk U) (script written : List ℕ) (left now : Option (List ℕ)) (status : Status) → Opens a.new file image → Runs a file image d d' (Some script) left (Some written) now status → IsDone status → Accepted a d d' script left written now status
-runs_accepted a file image d d' script written left now statuses.Done opens r is = accepted_done a file image d d' script written left now opens r
-runs_accepted a file image d d' script written left now statuses.SomeRefused opens r is = accepted_some a file image d d' script written left now opens r
-runs_accepted a file image d d' script written left now statuses.Usage opens r is = absurd is
-runs_accepted a file image d d' script written left now statuses.NoFile opens r is = absurd is
-runs_accepted a file image d d' script written left now statuses.Rejected opens r is = absurd is
-runs_accepted a file image d d' script written left now statuses.StoreReadFault opens r is = absurd is
-runs_accepted a file image d d' script written left now statuses.StoreWriteFault opens r is = absurd is
-runs_accepted a file image d d' script written left now statuses.OutputFault opens r is = absurd is
-runs_accepted a file image d d' script written left now statuses.NoMemory opens r is = absurd is
-runs_accepted a file image d d' script written left now statuses.ScriptFault opens r is = absurd is
-runs_accepted a file image d d' script written left now statuses.ScriptTooLong opens r is = absurd is
+runs_accepted : {U : Type 0} (a : Asked) (file image : List ℕ) (d d' : Disk U) (script written : List ℕ) (left now : Option (List ℕ)) (status : Status) → Opens a.new file image → Runs a file image d d' (Some script) left (Some written) now status → (a.new ≡ false → IfIdle image_limit image (Some script) (IsUnmoved d d' status)) → IsDone status → Accepted a d d' script left written now status
+runs_accepted a file image d d' script written left now statuses.Done opens r idle is = accepted_done a file image d d' script written left now opens r idle
+runs_accepted a file image d d' script written left now statuses.SomeRefused opens r idle is = accepted_some a file image d d' script written left now opens r idle
+runs_accepted a file image d d' script written left now statuses.Usage opens r idle is = absurd is
+runs_accepted a file image d d' script written left now statuses.NoFile opens r idle is = absurd is
+runs_accepted a file image d d' script written left now statuses.Rejected opens r idle is = absurd is
+runs_accepted a file image d d' script written left now statuses.StoreReadFault opens r idle is = absurd is
+runs_accepted a file image d d' script written left now statuses.StoreWriteFault opens r idle is = absurd is
+runs_accepted a file image d d' script written left now statuses.OutputFault opens r idle is = absurd is
+runs_accepted a file image d d' script written left now statuses.NoMemory opens r idle is = absurd is
+runs_accepted a file image d d' script written left now statuses.ScriptFault opens r idle is = absurd is
+runs_accepted a file image d d' script written left now statuses.ScriptTooLong opens r idle is = absurd is
 
 pub without_not_done : (a : Asked) (files : Option (List (List ℕ × List ℕ))) (first now : Option (List ℕ)) (status : Status) → EndsWithout a files first now status → IsDone status → ⊥
 without_not_done a files first now statuses.Done ends is = ends
@@ -109,7 +123,7 @@ unread_not_done new file first now statuses.ScriptTooLong ends is = is
 named_accepted : {U : Type 0} (a : Asked) (d d' : Disk U) (script written : List ℕ) (left now : Option (List ℕ)) (status : Status) → EndsNamed a d d' (Some script) left (Some written) now status → IsDone status → Accepted a d d' script left written now status
 named_accepted a d d' script written left now status (inl w) is = absurd (without_not_done a d.files (Some written) now status w.ends is)
 named_accepted a d d' script written left now status (inr (inl u)) is = absurd (unread_not_done a.new u.file (Some written) now status u.ends is)
-named_accepted a d d' script written left now status (inr (inr r)) is = runs_accepted a r.file r.image d d' script written left now status r.opens r.runs is
+named_accepted a d d' script written left now status (inr (inr r)) is = runs_accepted a r.file r.image d d' script written left now status r.opens r.runs r.idle is
 
 pub accepts : {U : Type 0} (a : Asked) (d d' : Disk U) (before left first now : Option (List ℕ)) (status : Status) → EndsNamed a d d' before left first now status → Accepts (Some a) d d' before left first now status
 accepts a d d' None left first now status ends = tt

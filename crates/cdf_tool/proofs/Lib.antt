@@ -15,9 +15,11 @@ pub mod ClapRows
 pub mod ClapWords
 pub mod ClapLine
 pub mod OnlyReads
+pub mod IdleLemmas
 pub mod RunStore
 pub mod CountLemmas
 pub mod RunLemmas
+pub mod RunIdle
 pub mod Told
 pub mod CheckLemmas
 pub mod AskedLemmas

@@ -1,6 +1,6 @@
 -- Moments one after the other, and the run that they tell.
 use Rattle.cdf_tool.proofs.Common.{Answer, Appends-nil, Appends-trans, Asks, Blank, Bool, ByContent, ByStep, ByTaps, Command, CommandLeads, DataSet, Faulty, Go, Goes, LineLeads, LinesLead, List, Moment, Moves, MovesIf, Option, Parsed, Refuse, Replies, Route, RouteLeads, State, Stops, Turn, Turns, UnknownWord, [], advance, ap, append-nil, append_assoc, arith, asked, begun, built, content, data_after, false, faulty, flagged_line, if◌then◌else◌, is_accepted, last_image, length, line_of_moment, map, parse, refl, run_on, step, subst, sym, tale, true, turn, turn_over, ℕ, ◌++◌, ◌+◌, ◌||◌, ◌∙◌, ◌∷◌, ◌≡◌}
-use Rattle.std.proofs.lemmas.List.{map-append, length-map}
+use Rattle.std.proofs.lemmas.List.{length-map, map-append}
 use Rattle.cdf_tool.specs.declared.status.Status.TheVariants.{NoMemory}
 
 -- ---- the content of the image follows the data set
@@ -76,7 +76,7 @@ run_more s [] more = refl
 run_more s (l ∷ first) more = run_more (advance s l) first more
 
 -- where a run stands over its image
-record Standing (b : List ℕ) (given : ℕ) (s : State) : Type 0 where
+pub record Standing (b : List ℕ) (given : ℕ) (s : State) : Type 0 where
   pub data_set : s.data_set ≡ content b
   pub no_taps : s.taps ≡ []
   pub count : s.count ≡ given
@@ -94,7 +94,7 @@ run_stands limit (m ∷ ms) b given s stands leads =
     let onward = run_stands limit ms m.image (given + 1) (advance s (flagged_line m)) next leads.1 in
     record { data_set = onward.data_set; no_taps = onward.no_taps; count = onward.count ∙ omega arith }
 
-tale_stands : (limit : ℕ) (b : List ℕ) (given : ℕ) (ms : List Moment) → LinesLead limit b ms → Standing (last_image b ms) (given + length ms) (tale b given ms)
+pub tale_stands : (limit : ℕ) (b : List ℕ) (given : ℕ) (ms : List Moment) → LinesLead limit b ms → Standing (last_image b ms) (given + length ms) (tale b given ms)
 tale_stands limit b given ms leads = run_stands limit ms b given (begun b given) (record { data_set = refl; no_taps = refl; count = refl }) leads
 
 -- what is told of more moments is told after what was told before

@@ -1,5 +1,5 @@
 -- A rule is handed back exactly where a file was rejected.
-use Rattle.cdf_tool.proofs.Common.{AdoptError, AreaError, Bool, Breaks, Broken, Disk, EndsSaving, EndsStored, Err, IfOk, IfSome, List, Names, None, Ok, Option, Refuses, Result, SaysRejected, Some, Status, Tells, ap, false, file_of, old_file, refl, rejected_text, status_from, status_of, status_of_area, subst, sym, true, ℕ, ◌∙◌, ◌≡◌, ◌≢◌}
+use Rattle.cdf_tool.proofs.Common.{AdoptError, AreaError, Bool, Breaks, Broken, Disk, EndsSaving, EndsStored, Err, IfOk, IfSome, List, Names, None, Ok, Option, Refusals, Refuses, Result, SaysRejected, Some, Status, Tells, ap, false, file_of, old_file, refl, rejected_text, status_from, status_of, status_of_area, subst, sym, true, was_refused, ℕ, ◌∙◌, ◌≡◌, ◌≢◌}
 use Rattle.cdf_area.specs.declared.area.AreaError.TheVariants as areas
 use Rattle.cdf_session.specs.declared.refusal.AdoptError.TheVariants as errors
 use Rattle.cdf_tool.specs.declared.status.Status.TheVariants as statuses
@@ -33,9 +33,9 @@ module _ (first now : Option (List ℕ)) where
   refused_tells new file broken status told why is refuses says some none =
       refused_by new file broken status told (subst (λ (w : AdoptError). Refuses new file w) is refuses) says some none
 
-  pub untold_at_end : (broken : Option Broken) (file : Option (List ℕ)) (outcome : Result Bool Status) → Tells broken file first now (status_from outcome) → IfOk outcome (λ _. broken ≡ None)
-  untold_at_end None file (Ok refused) tells = refl
-  untold_at_end (Some b) file (Ok refused) tells = absurd (never_at_end refused tells.0)
+  pub untold_at_end : (broken : Option Broken) (file : Option (List ℕ)) (outcome : Result Refusals Status) → Tells broken file first now (status_from outcome) → IfOk outcome (λ _. broken ≡ None)
+  untold_at_end None file (Ok refusals) tells = refl
+  untold_at_end (Some b) file (Ok refusals) tells = absurd (never_at_end (was_refused refusals) tells.0)
   untold_at_end broken file (Err status) tells = tt
 
   pub tells_names : (broken : Option Broken) (file : Option (List ℕ)) (status : Status) → Tells broken file first now status → status ≡ statuses.Rejected → Names broken file first now
@@ -49,18 +49,18 @@ module _ (first now : Option (List ℕ)) where
   -- ---- over the file that is attached
 
   module _ {U : Type 0} (no_save : Bool) (end : List ℕ) (d at d' : Disk U) (same : at ≡ d) where
-    rejected_before : (outcome : Result Bool Status) (status : Status) → EndsStored no_save end at d' outcome status → status ≡ statuses.Rejected → status_from outcome ≡ statuses.Rejected
+    rejected_before : (outcome : Result Refusals Status) (status : Status) → EndsStored no_save end at d' outcome status → status ≡ statuses.Rejected → status_from outcome ≡ statuses.Rejected
     rejected_before (Err stopped) status ends is = sym ends.0 ∙ is
-    rejected_before (Ok refused) status ends is = elim no_save as (λ n. EndsStored n end at d' (Ok refused) status → status_of refused ≡ statuses.Rejected) [
+    rejected_before (Ok refusals) status ends is = elim no_save as (λ n. EndsStored n end at d' (Ok refusals) status → status_of (was_refused refusals) ≡ statuses.Rejected) [
       | true ↦ λ e. sym e.0 ∙ is
-      | false ↦ λ e. absurd (subst (λ (s : Status). EndsSaving refused end at d' s) is e)
+      | false ↦ λ e. absurd (subst (λ (s : Status). EndsSaving (was_refused refusals) end at d' s) is e)
     ] ends
 
-    stopped_by : (outcome : Result Bool Status) (status : Status) → EndsStored no_save end at d' outcome status → status_from outcome ≡ statuses.Rejected → (status ≡ statuses.Rejected) × (d' ≡ at)
+    stopped_by : (outcome : Result Refusals Status) (status : Status) → EndsStored no_save end at d' outcome status → status_from outcome ≡ statuses.Rejected → (status ≡ statuses.Rejected) × (d' ≡ at)
     stopped_by (Err stopped) status ends is = (ends.0 ∙ is, ends.1)
-    stopped_by (Ok refused) status ends is = absurd (never_at_end refused is)
+    stopped_by (Ok refusals) status ends is = absurd (never_at_end (was_refused refusals) is)
 
-    tells_by : (new : Bool) (image : List ℕ) (broken : Option Broken) (outcome : Result Bool Status) (status : Status) → (new ≡ false → image ≡ file_of d) → d.held ≡ Some (file_of d)
+    tells_by : (new : Bool) (image : List ℕ) (broken : Option Broken) (outcome : Result Refusals Status) (status : Status) → (new ≡ false → image ≡ file_of d) → d.held ≡ Some (file_of d)
         → Tells broken (old_file new image) first now (status_from outcome) → EndsStored no_save end at d' outcome status → Tells broken d'.held first now status
     tells_by new image None outcome status holds held tells ends = λ is. tells (rejected_before outcome status ends is)
     tells_by true image (Some b) outcome status holds held tells ends = absurd tells.1
@@ -68,7 +68,7 @@ module _ (first now : Option (List ℕ)) where
         let by = stopped_by outcome status ends tells.0 in
         (by.0, subst (λ (h : Option (List ℕ)). Names (Some b) h first now) (ap (λ (f : List ℕ). Some f) (holds refl) ∙ sym held ∙ ap (λ (x : Disk U). x.held) (sym (by.1 ∙ same))) tells.1)
 
-    pub stored_tells : (new : Bool) (image : List ℕ) (broken told : Option Broken) (outcome : Result Bool Status) (status : Status) → told ≡ broken → (new ≡ false → image ≡ file_of d) → d.held ≡ Some (file_of d)
+    pub stored_tells : (new : Bool) (image : List ℕ) (broken told : Option Broken) (outcome : Result Refusals Status) (status : Status) → told ≡ broken → (new ≡ false → image ≡ file_of d) → d.held ≡ Some (file_of d)
         → Tells broken (old_file new image) first now (status_from outcome) → EndsStored no_save end at d' outcome status → Tells told d'.held first now status
     stored_tells new image broken told outcome status is holds held tells ends =
         subst (λ (t : Option Broken). Tells t d'.held first now status) (sym is) (tells_by new image broken outcome status holds held tells ends)

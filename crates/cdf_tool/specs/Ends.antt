@@ -1,21 +1,23 @@
 -- What a run leaves, by its status (own). `d` is the store as it came, and `d'` as it is handed back.
-use Rattle.std.specs.Prelude.{◌≡◌, ◌⊎◌, ℕ, List, Bool, true, false, IfSome, None}
+use Rattle.std.specs.Prelude.{Bool, IfSome, List, None, false, true, ℕ, ◌≡◌, ◌⊎◌}
 use Rattle.std.specs.declared.option.Option.{Option}
 use Rattle.std.specs.Io.KnownBytes.{Appends}
 use Rattle.cdf_store.specs.Disk.{Disk}
 use Rattle.cdf_store.specs.Named.{lookup}
 use Rattle.cdf_store.specs.Written.{AppendsFront}
 use Rattle.cdf_format.specs.NewFile.{new_image}
-use Rattle.cdf_format.specs.Sealed.{image_of}
-use Rattle.cdf_format.specs.WellFormed.{WellFormed}
+use Rattle.cdf_format.specs.Sealed.{image_of, sealed}
+use Rattle.cdf_format.specs.WellFormed.{Good, WellFormed}
 use Rattle.cdf_model.specs.Limits.{image_limit}
 use Rattle.cdf_model.specs.Texts.{no_file_text}
 use Rattle.cdf_tool.specs.Asking.{Asked}
 use Rattle.cdf_tool.specs.declared.status.Status.{Status}
 use Rattle.cdf_tool.specs.declared.status.Status.TheVariants as statuses
+use Rattle.cdf_tool.specs.declared.notes.Left.{Left}
+use Rattle.cdf_tool.specs.Idle.{IfIdle, IsUnmoved}
 use Rattle.cdf_tool.specs.Says.{Rejects, rejection}
 use Rattle.cdf_tool.specs.Script.{FinishesWith, HaltsWith}
-use Rattle.cdf_tool.specs.Stored.{Unattached, Kept, Stored, Spoiled}
+use Rattle.cdf_tool.specs.Stored.{IsLeft, Kept, Spoiled, Stored, Unattached}
 
 -- ---- over a file
 
@@ -28,6 +30,7 @@ Opens false file image = WellFormed file × (image ≡ image_of file)
 pub record Completes {U : Type 0} (a : Asked) (file image : List ℕ) (d d' : Disk U) (before left first now : Option (List ℕ)) (refused : Bool) : Type 0 where
   pub end : List ℕ
   pub finishes : FinishesWith a.space image_limit image before left first end refused now
+  pub good : Good end
   pub stored : Stored a file end d d'
 
 -- it was run to its end, and the saving failed
@@ -49,6 +52,15 @@ pub record Replays {U : Type 0} (a : Asked) (d d' : Disk U) (before left first n
   pub image : List ℕ
   pub opens : Opens a.new file image
   pub runs : Runs a file image d d' before left first now status
+  pub idle : a.new ≡ false → IfIdle image_limit image before (IsUnmoved d d' status)
+
+-- the saving failed, and this is told of what it left
+pub record SpoilsTo {U : Type 0} (a : Asked) (d d' : Disk U) (before left first now : Option (List ℕ)) (what : Option Left) : Type 0 where
+  pub file : List ℕ
+  pub image : List ℕ
+  pub opens : Opens a.new file image
+  pub spoils : Spoils a file image d d' before left first now
+  pub leaves : IsLeft what file (sealed spoils.end) spoils.spoiled.now
 
 -- nothing of the script was read: the file was rejected, which no new one is, or a device failed or memory was refused before
 abbrev pub EndsUnread : Bool → List ℕ → Option (List ℕ) → Option (List ℕ) → Status → Type 0

@@ -1,4 +1,5 @@
 pub mod Statuses
+pub mod Refusing
 pub mod Counts
 pub mod Gathering
 pub mod Replay
@@ -15,3 +16,4 @@ pub mod CommandLine
 pub mod Accepts
 pub mod Due
 pub mod Reading
+pub mod Idle

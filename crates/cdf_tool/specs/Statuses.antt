@@ -1,5 +1,5 @@
 -- When each status comes (own).
-use Rattle.std.specs.Prelude.{◌≡◌, ◌⊎◌, ℕ, Bool, true, false}
+use Rattle.std.specs.Prelude.{Bool, false, true, ℕ, ◌≡◌, ◌⊎◌}
 use Rattle.cdf_area.specs.declared.area.AreaError.{AreaError}
 use Rattle.cdf_area.specs.declared.area.AreaError.TheVariants as areas
 use Rattle.cdf_tool.specs.declared.status.Status.{Status}
@@ -51,6 +51,12 @@ IsUnsaved false statuses.Done = ⊥
 IsUnsaved false statuses.SomeRefused = ⊥
 IsUnsaved false statuses.StoreWriteFault = ⊥
 IsUnsaved false other = Unit {0}
+
+-- so many bytes were there that a new file took the place of, which a run notes that saved it
+abbrev pub replaced_by : Bool → ℕ → Status → ℕ
+replaced_by true size statuses.Done = size
+replaced_by true size statuses.SomeRefused = size
+replaced_by new size other = 0
 
 -- A status comes only where this holds, and where it holds no other one comes, unless a device failed or memory was refused.
 pub record Exactly (due status : Status) (P : Type 0) : Type 0 where

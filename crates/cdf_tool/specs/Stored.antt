@@ -1,5 +1,5 @@
 -- What a run leaves of the store.
-use Rattle.std.specs.Prelude.{◌≡◌, ◌⊎◌, ◌+◌, ◌≤◌, ℕ, List, length, Bool, true, false, IfSome, Some, None}
+use Rattle.std.specs.Prelude.{Bool, IfSome, List, None, Some, false, length, true, ℕ, ◌+◌, ◌≡◌, ◌≤◌, ◌⊎◌}
 use Rattle.std.specs.Option.{option_map}
 use Rattle.std.specs.declared.option.Option.{Option}
 use Rattle.cdf_store.specs.Disk.{Disk}
@@ -8,6 +8,10 @@ use Rattle.cdf_pages.specs.Saving.{Differs, IsBetween, LiesIn, Touches}
 use Rattle.cdf_format.specs.Sealed.{image_of, sealed}
 use Rattle.cdf_format.specs.WellFormed.{Good}
 use Rattle.cdf_tool.specs.Asking.{Asked}
+use Rattle.cdf_tool.specs.declared.notes.Left.{Left}
+use Rattle.cdf_tool.specs.declared.notes.Left.TheVariants as lefts
+use Rattle.cdf_tool.specs.declared.status.Status.{Status}
+use Rattle.cdf_tool.specs.declared.status.Status.TheVariants as statuses
 
 -- over a store that tells its files this is the file under the name, or an empty one that was made
 abbrev pub IsFound : Asked → Option (List (List ℕ × List ℕ)) → List ℕ → Type 0
@@ -77,3 +81,15 @@ pub record Spoiled {U : Type 0} (a : Asked) (file end : List ℕ) (d d' : Disk U
   pub between : IsBetween file (sealed end) now
   pub replaced : Replaced a file now d d'
   pub touched : Rewrites file end d d'
+
+-- what a saving that failed left of the old bytes and of the new ones: all old ones, some of both, or all new ones
+abbrev pub IsLeft : Option Left → List ℕ → List ℕ → List ℕ → Type 0
+IsLeft None old new now = ⊥
+IsLeft (Some lefts.Old) old new now = now ≡ old
+IsLeft (Some lefts.Part) old new now = IsBetween old new now
+IsLeft (Some lefts.Unsynced) old new now = now ≡ new
+
+-- it is told where a saving failed, and of no other run
+abbrev pub TellsLeft : Option Left → List ℕ → List ℕ → List ℕ → Status → Type 0
+TellsLeft what old new now statuses.StoreWriteFault = IsLeft what old new now
+TellsLeft what old new now other = what ≡ None

@@ -10,10 +10,13 @@ ghost use Rattle.cdf_tool.specs.Asking.{asked_for};
 ghost use Rattle.cdf_tool.specs.Checking.{EndsChecked, EndsOverFile, SaysAccepted, accepted_text};
 ghost use Rattle.cdf_tool.specs.Counts.{Counted, counts};
 ghost use Rattle.cdf_tool.specs.Reading.{WritesNothing};
+ghost use Rattle.cdf_tool.specs.Refusing.{was_refused};
 ghost use Rattle.cdf_tool.specs.Says.{Tells};
+ghost use Rattle.cdf_tool.specs.Statuses.{IsDone, status_of};
 
 use crate::Status;
 use crate::ended::Ended;
+use crate::notes::Notes;
 use crate::opened::{Refused, refuse};
 use crate::say::{say_accepted, say_no_file};
 use crate::status::area_status;
@@ -96,7 +99,10 @@ fn check_attached<S: Store, O: Sink>(
 ) -> Ended<S>
     requires { Some size ≡ option_map length (S.disk store).held }
     ensures ends { EndsOverFile space (file_of (S.disk store)) (O.written out.old) (O.written out.new) result.status }
-    ensures told { Tells result.broken (S.disk result.store).held (O.written out.old) (O.written out.new) result.status }
+    ensures none_left { result.notes.left ≡ None }
+    ensures replaced { result.notes.replaced ≡ 0 }
+    ensures refusals { IsDone result.status → result.status ≡ status_of (was_refused result.notes.refusals) }
+    ensures told { Tells result.notes.broken (S.disk result.store).held (O.written out.old) (O.written out.new) result.status }
     ensures disk { S.disk result.store ≡ S.disk store }
     ensures counted { (source : ℕ) → Counted (counts (S.read_faults store) (S.write_faults store) (O.faults out.old) source) (counts (S.read_faults result.store) (S.write_faults result.store) (O.faults out.new) source) result.status }
 {
@@ -110,13 +116,13 @@ fn check_attached<S: Store, O: Sink>(
             let store = area.into_store();
             Ended {
                 status,
-                broken,
+                notes: Notes::of_verdict(broken),
                 store,
             }
         }
         Err(failed) => Ended {
             status: Status::NoMemory,
-            broken: None,
+            notes: Notes::none(),
             store: failed.value,
         },
     }
@@ -133,7 +139,10 @@ pub fn check_file<S: Store, O: Sink>(
     requires allowed { Allows (S.disk store).only asked.now.name.now }
     requires old { asked.now.new ≡ false }
     ensures ends { (left : Option (List ℕ)) → EndsChecked (asked_for asked.now) (S.disk store) (S.disk result.store) left left (O.written out.old) (O.written out.new) result.status }
-    ensures told { Tells result.broken (S.disk result.store).held (O.written out.old) (O.written out.new) result.status }
+    ensures none_left { result.notes.left ≡ None }
+    ensures replaced { result.notes.replaced ≡ 0 }
+    ensures refusals { IsDone result.status → result.status ≡ status_of (was_refused result.notes.refusals) }
+    ensures told { Tells result.notes.broken (S.disk result.store).held (O.written out.old) (O.written out.new) result.status }
     ensures counted { (source : ℕ) → Counted (counts (S.read_faults store) (S.write_faults store) (O.faults out.old) source) (counts (S.read_faults result.store) (S.write_faults result.store) (O.faults out.new) source) result.status }
     ensures reads { WritesNothing (S.disk store) (S.disk result.store) (S.write_faults store) (S.write_faults result.store) result.status }
 {
@@ -144,18 +153,18 @@ pub fn check_file<S: Store, O: Sink>(
             let status = say_no_file(out);
             Ended {
                 status,
-                broken: None,
+                notes: Notes::none(),
                 store,
             }
         }
         Err(AttachError::Failed) => Ended {
             status: Status::StoreReadFault,
-            broken: None,
+            notes: Notes::none(),
             store,
         },
         Err(AttachError::NoMemory) => Ended {
             status: Status::NoMemory,
-            broken: None,
+            notes: Notes::none(),
             store,
         },
     }

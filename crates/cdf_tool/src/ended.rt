@@ -1,13 +1,12 @@
 //! How a run ended.
 
 use crate::Status;
-use cdf_check::Broken;
+use crate::notes::Notes;
 
 /// How a run ended, and the store that was lent to it.
 #[derive(Drop)]
 pub struct Ended<S> {
     pub status: Status,
-    /// The rule that the file breaks, where it was rejected.
-    pub broken: Option<Broken>,
+    pub notes: Notes,
     pub store: S,
 }

@@ -1,20 +1,23 @@
 //! The file that is asked for is attached, and the script is run over it.
 
-ghost use Rattle.std.specs.Prelude.{◌≡◌, ◌≢◌, ◌&&◌, ℕ, [], true, false, length, IfErr, IfOk, Some, None};
+ghost use Rattle.std.specs.Prelude.{◌≡◌, ◌≢◌, ◌&&◌, ◌⊎◌, ℕ, [], true, false, length, IfErr, IfOk, IfSome, IsTrue, Some, None, not};
 ghost use Rattle.std.specs.Option.{option_map};
 ghost use Rattle.cdf_area.specs.Frame.{Frame};
-ghost use Rattle.cdf_store.specs.Disk.{file_of};
-ghost use Rattle.cdf_store.specs.Named.{Allows};
+ghost use Rattle.cdf_store.specs.Disk.{file_in, file_of};
+ghost use Rattle.cdf_store.specs.Named.{Allows, lookup};
 ghost use Rattle.cdf_model.specs.Limits.{image_limit};
 ghost use Rattle.cdf_tool.specs.Areas.{EndsAttached, EndsInMemory};
 ghost use Rattle.cdf_tool.specs.Asking.{asked_for};
 ghost use Rattle.cdf_tool.specs.Counts.{Counted, counts};
-ghost use Rattle.cdf_tool.specs.Ends.{EndsNamed};
-ghost use Rattle.cdf_tool.specs.Reading.{IfReads, WritesNothing};
+ghost use Rattle.cdf_tool.specs.Due.{Untouched};
+ghost use Rattle.cdf_tool.specs.Ends.{EndsNamed, SpoilsTo};
+ghost use Rattle.cdf_tool.specs.Refusing.{was_refused};
 ghost use Rattle.cdf_tool.specs.Says.{Tells};
+ghost use Rattle.cdf_tool.specs.Statuses.{IsDone, replaced_by, status_of};
 
 use crate::Status;
 use crate::ended::Ended;
+use crate::notes::Notes;
 use crate::opened::run_area;
 use crate::saving::finish;
 use crate::say::say_no_file;
@@ -59,41 +62,58 @@ fn run_attached<S: Store, I: Source, O: Sink>(
     out: &mut O,
 ) -> Ended<S>
     requires { Some size ≡ option_map length (S.disk store).held }
-    ensures ends { EndsAttached asked.now.new asked.now.no_save asked.now.space (file_of (S.disk store)) (S.disk store) (S.disk result.store) (I.left script.old) (I.left script.new) (O.written out.old) (O.written out.new) result.status }
-    ensures told { Tells result.broken (S.disk result.store).held (O.written out.old) (O.written out.new) result.status }
+    ensures ends { EndsAttached asked.now.new asked.now.no_save asked.now.space (file_of (S.disk store)) (S.disk store) (S.disk result.store) (I.left script.old) (I.left script.new) (O.written out.old) (O.written out.new) result.notes.left result.status }
+    ensures told { Tells result.notes.broken (S.disk result.store).held (O.written out.old) (O.written out.new) result.status }
+    ensures none_left { result.status ≢ Status.StoreWriteFault → result.notes.left ≡ None }
+    ensures replaced { result.notes.replaced ≡ 0 }
+    ensures refusals { IsDone result.status → result.status ≡ status_of (was_refused result.notes.refusals) }
+    ensures synced { IsDone result.status → (S.disk result.store ≡ S.disk store) ⊎ IsTrue (S.synced result.store) }
     ensures counted { Counted (counts (S.read_faults store) (S.write_faults store) (O.faults out.old) (I.faults script.old)) (counts (S.read_faults result.store) (S.write_faults result.store) (O.faults out.new) (I.faults script.new)) result.status }
-    ensures reads { asked.now.new ≡ false → IfReads (I.left script.old) (WritesNothing (S.disk store) (S.disk result.store) (S.write_faults store) (S.write_faults result.store) result.status) }
 {
     match area_over(alloc, asked.new, store, size) {
         Ok(area) => {
-            let seal = !asked.no_save;
-            let ran = run_area(alloc, asked.new, asked.space, seal, area, script, out);
+            let ran = run_area(alloc, asked.new, asked.space, area, script, out);
             finish(asked.new, asked.no_save, ran)
         }
         Err(failed) => Ended {
             status: Status::NoMemory,
-            broken: None,
+            notes: Notes::none(),
             store: failed.value,
         },
     }
 }
 
 /// Runs the script over a new file in memory, which is not saved.
-fn run_in_memory<I: Source, O: Sink>(
+fn run_in_memory<S: Store, I: Source, O: Sink>(
     alloc: Global,
     space: bool,
+    store: S,
     script: &mut I,
     out: &mut O,
-) -> Status
-    ensures ends { EndsInMemory space (I.left script.old) (I.left script.new) (O.written out.old) (O.written out.new) result }
-    ensures told { result ≢ Status.Rejected }
-    ensures counted { (reads writes : ℕ) → Counted (counts reads writes (O.faults out.old) (I.faults script.old)) (counts reads writes (O.faults out.new) (I.faults script.new)) result }
+) -> Ended<S>
+    ensures ends { EndsInMemory space (I.left script.old) (I.left script.new) (O.written out.old) (O.written out.new) result.status }
+    ensures told { result.status ≢ Status.Rejected }
+    ensures untold { result.notes.broken ≡ None }
+    ensures left { result.notes.left ≡ None }
+    ensures not_saved { result.status ≢ Status.StoreWriteFault }
+    ensures replaced { result.notes.replaced ≡ 0 }
+    ensures refusals { IsDone result.status → result.status ≡ status_of (was_refused result.notes.refusals) }
+    ensures counted { (reads writes : ℕ) → Counted (counts reads writes (O.faults out.old) (I.faults script.old)) (counts reads writes (O.faults out.new) (I.faults script.new)) result.status }
+    ensures store { result.store ≡ store }
 {
     let area = MemArea::new(alloc, Vec::new(alloc), IMAGE_LIMIT);
-    let ran = run_area(alloc, true, space, false, area, script, out);
+    let ran = run_area(alloc, true, space, area, script, out);
     match ran.outcome {
-        Ok(refused) => end_status(refused),
-        Err(status) => status,
+        Ok(refusals) => Ended {
+            status: end_status(refusals),
+            notes: Notes::of_script(refusals),
+            store,
+        },
+        Err(status) => Ended {
+            status,
+            notes: Notes::none(),
+            store,
+        },
     }
 }
 
@@ -102,6 +122,23 @@ fn is_in_memory(asked: &Asked<'_>) -> bool
     ensures { result ≡ (asked.now.new && asked.now.no_save) }
 {
     asked.new && asked.no_save
+}
+
+/// Notes how many bytes a new file took the place of, where it was saved.
+fn note_replaced<S: Store>(new: bool, size: u64, ended: Ended<S>) -> Ended<S>
+    requires { ended.notes.replaced ≡ 0 }
+    ensures replaced { result.notes.replaced ≡ replaced_by new size ended.status }
+    ensures status { result.status ≡ ended.status }
+    ensures broken { result.notes.broken ≡ ended.notes.broken }
+    ensures left { result.notes.left ≡ ended.notes.left }
+    ensures refusals { result.notes.refusals ≡ ended.notes.refusals }
+    ensures store { result.store ≡ ended.store }
+{
+    let mut ended = ended;
+    if new && ended.status.is_done() {
+        ended.notes.replaced = size;
+    }
+    ended
 }
 
 /// Attaches the file that is asked for, and runs the script over it.
@@ -115,38 +152,40 @@ pub fn run_file<S: Store, I: Source, O: Sink>(
     requires free { (S.disk store).held ≡ None }
     requires allowed { Allows (S.disk store).only asked.now.name.now }
     ensures ends { EndsNamed (asked_for asked.now) (S.disk store) (S.disk result.store) (I.left script.old) (I.left script.new) (O.written out.old) (O.written out.new) result.status }
-    ensures told { Tells result.broken (S.disk result.store).held (O.written out.old) (O.written out.new) result.status }
+    ensures told { Tells result.notes.broken (S.disk result.store).held (O.written out.old) (O.written out.new) result.status }
     ensures counted { Counted (counts (S.read_faults store) (S.write_faults store) (O.faults out.old) (I.faults script.old)) (counts (S.read_faults result.store) (S.write_faults result.store) (O.faults out.new) (I.faults script.new)) result.status }
-    ensures reads { asked.now.new ≡ false → IfReads (I.left script.old) (WritesNothing (S.disk store) (S.disk result.store) (S.write_faults store) (S.write_faults result.store) result.status) }
+    ensures left { result.status ≡ Status.StoreWriteFault → SpoilsTo (asked_for asked.now) (S.disk store) (S.disk result.store) (I.left script.old) (I.left script.new) (O.written out.old) (O.written out.new) result.notes.left }
+    ensures none_left { result.status ≢ Status.StoreWriteFault → result.notes.left ≡ None }
+    ensures replaced { IfSome (S.disk store).files (λ files. result.notes.replaced ≡ replaced_by (asked.now.new && not asked.now.no_save) (length (file_in (lookup asked.now.name.now files))) result.status) }
+    ensures refusals { IsDone result.status → result.status ≡ status_of (was_refused result.notes.refusals) }
+    ensures synced { IsDone result.status → Untouched (asked_for asked.now) (S.disk store) (S.disk result.store) ⊎ IsTrue (S.synced result.store) }
     ensures not_called { (asked.now.new && asked.now.no_save) ≡ true → result.store ≡ store }
 {
     if is_in_memory(asked) {
-        let status = run_in_memory(alloc, asked.space, script, out);
-        return Ended {
-            status,
-            broken: None,
-            store,
-        };
+        return run_in_memory(alloc, asked.space, store, script, out);
     }
     let mut store = store;
     match store.attach(asked.name, asked.new) {
-        Ok(Some(size)) => run_attached(alloc, asked, store, size, script, out),
+        Ok(Some(size)) => {
+            let ended = run_attached(alloc, asked, store, size, script, out);
+            note_replaced(asked.new, size, ended)
+        }
         Ok(None) => {
             let status = say_no_file(out);
             Ended {
                 status,
-                broken: None,
+                notes: Notes::none(),
                 store,
             }
         }
         Err(AttachError::Failed) => Ended {
             status: Status::StoreReadFault,
-            broken: None,
+            notes: Notes::none(),
             store,
         },
         Err(AttachError::NoMemory) => Ended {
             status: Status::NoMemory,
-            broken: None,
+            notes: Notes::none(),
             store,
         },
     }

@@ -5,7 +5,9 @@ mod checked;
 mod ended;
 mod file;
 mod measured;
+mod notes;
 mod opened;
+mod refusals;
 mod replay;
 mod replies;
 mod saving;
@@ -16,6 +18,8 @@ mod top;
 mod words;
 
 pub use ended::Ended;
+pub use notes::{Left, Notes};
+pub use refusals::{LineMark, Refusals, RefusedLine};
 pub use status::Status;
 pub use top::run;
 pub use words::{Asked, WordsError, read_words};

@@ -1,18 +1,19 @@
 //! The file in an area is opened, and the script is run over it.
 
 ghost use Rattle.std.specs.Prelude.{◌≡◌, ◌≢◌, ◌≤◌, ℕ, List, [], Bool, length, true, false, IfOk, IfErr, IfSome, OnOk, None};
+ghost use Rattle.cdf_format.specs.Sealed.{image_of};
 ghost use Rattle.cdf_format.specs.WellFormed.{Good};
 ghost use Rattle.cdf_model.specs.Limits.{image_limit};
-ghost use Rattle.cdf_session.specs.Seals.{seal_of};
 ghost use Rattle.cdf_session.specs.Sessions.{Begins, Explains};
 ghost use Rattle.cdf_tool.specs.Areas.{EndsOver, Refuses, status_from};
 ghost use Rattle.cdf_tool.specs.Counts.{Counted, CountedIn, counts};
 ghost use Rattle.cdf_tool.specs.Ends.{EndsUnread, Opens};
-ghost use Rattle.cdf_tool.specs.Reading.{IfReads};
+ghost use Rattle.cdf_tool.specs.Idle.{IfIdle};
 ghost use Rattle.cdf_tool.specs.Says.{Tells, old_file};
 
 use crate::Status;
-use crate::measured::{Answered, run_sealed};
+use crate::measured::run_measured;
+use crate::refusals::Refusals;
 use crate::say::say_rejected;
 use crate::status::area_status;
 use cdf_area::Area;
@@ -21,13 +22,11 @@ use cdf_session::{AdoptError, Refusal, Session};
 use cdf_store::{Sink, Source};
 use std::alloc::Global;
 
-/// What a run leaves over an area: whether a line was refused, or the status with which it stopped; and the checksum that is to
-/// stand behind the image, where that was asked for.
+/// What a run leaves over an area: which lines were refused, or the status with which it stopped.
 #[derive(Drop)]
 pub struct Ran<A> {
     pub area: A,
-    pub outcome: Result<bool, Status>,
-    pub seal: Option<[u8; 16]>,
+    pub outcome: Result<Refusals, Status>,
     /// The rule that the file breaks, where it was rejected.
     pub broken: Option<Broken>,
 }
@@ -89,12 +88,11 @@ pub fn refuse<O: Sink>(alloc: Global, why: AdoptError, out: &mut O) -> Refused
     }
 }
 
-/// Opens the file in an area, or makes a new one, runs the script over it, says what the records take and makes the checksum of the image, the last two where they are asked for.
+/// Opens the file in an area, or makes a new one, runs the script over it, and says what the records take, where that is asked for.
 pub fn run_area<A: Area, I: Source, O: Sink>(
     alloc: Global,
     new: bool,
     space: bool,
-    seal: bool,
     area: A,
     script: &mut I,
     out: &mut O,
@@ -106,29 +104,18 @@ pub fn run_area<A: Area, I: Source, O: Sink>(
     ensures told { Tells result.broken (old_file new (A.image area)) (O.written out.old) (O.written out.new) (status_from result.outcome) }
     ensures good { IfOk result.outcome (λ _. Good (A.image result.area)) }
     ensures fits { IfOk result.outcome (λ _. length (A.image result.area) ≤ image_limit) }
-    ensures seal { seal ≡ true → IfOk result.outcome (λ _. result.seal ≡ seal_of (A.image result.area)) }
-    ensures unedited { new ≡ false → OnOk result.outcome (IfReads (I.left script.old) (A.edited result.area ≡ A.edited area)) }
+    ensures unedited { new ≡ false → OnOk result.outcome (IfIdle image_limit (image_of (A.image area)) (I.left script.old) (A.edited result.area ≡ A.edited area)) }
     ensures frame { A.frame result.area ≡ A.frame area }
     ensures counted { CountedIn (counts (A.faults area) 0 (O.faults out.old) (I.faults script.old)) (counts (A.faults result.area) 0 (O.faults out.new) (I.faults script.new)) result.outcome }
 {
     match open(alloc, new, area) {
         Ok(session) => {
             let mut session = session;
-            let answered = run_sealed(alloc, space, seal, &mut session, script, out);
-            let area = session.into_area();
-            match answered {
-                Ok(Answered { refused, seal }) => Ran {
-                    area,
-                    outcome: Ok(refused),
-                    seal,
-                    broken: None,
-                },
-                Err(status) => Ran {
-                    area,
-                    outcome: Err(status),
-                    seal: None,
-                    broken: None,
-                },
+            let outcome = run_measured(alloc, space, &mut session, script, out);
+            Ran {
+                area: session.into_area(),
+                outcome,
+                broken: None,
             }
         }
         Err(Refusal { area, why }) => {
@@ -136,7 +123,6 @@ pub fn run_area<A: Area, I: Source, O: Sink>(
             Ran {
                 area,
                 outcome: Err(status),
-                seal: None,
                 broken,
             }
         }

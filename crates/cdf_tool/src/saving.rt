@@ -1,6 +1,8 @@
 //! A run over the file that is attached ends, and its image is saved.
 
-ghost use Rattle.std.specs.Prelude.{◌≡◌, ◌≤◌, ℕ, length, take, true, false, IsSome, IsTrue, IfOk, IsErrOf, OnOk, None};
+ghost use Rattle.std.specs.Prelude.{◌≡◌, ◌≢◌, ◌≤◌, ◌⊎◌, ℕ, length, take, true, false, IsSome, IsTrue, IfOk, IfErr, IsErrOf, OnOk, None};
+ghost use Rattle.cdf_base.specs.Causes.{HasCause};
+ghost use Rattle.cdf_format.specs.Sealed.{sealed};
 ghost use Rattle.cdf_format.specs.WellFormed.{Good, WellFormed};
 ghost use Rattle.cdf_model.specs.Limits.{image_limit};
 ghost use Rattle.cdf_session.specs.Seals.{seal_of};
@@ -8,43 +10,78 @@ ghost use Rattle.cdf_pages.specs.Saving.{Differs};
 ghost use Rattle.cdf_store.specs.Disk.{file_of};
 ghost use Rattle.cdf_tool.specs.Areas.{EndsSaving, EndsStored};
 ghost use Rattle.cdf_tool.specs.Counts.{ReadsCounted, ReadsCountedBehind, WritesCounted};
-ghost use Rattle.cdf_tool.specs.Reading.{WritesNothing};
+ghost use Rattle.cdf_tool.specs.Refusing.{was_refused};
+ghost use Rattle.cdf_tool.specs.Statuses.{IsDone, status_of};
+ghost use Rattle.cdf_tool.specs.Stored.{TellsLeft};
 
 use crate::Status;
 use crate::ended::Ended;
+use crate::notes::{Left, Notes};
 use crate::opened::Ran;
+use crate::refusals::Refusals;
 use crate::status::{area_status, end_status};
-use cdf_area::{Area, AreaError};
-use cdf_pages::{InPages, PagedArea};
-use cdf_store::Store;
+use cdf_area::Area;
+use cdf_pages::{InPages, PagedArea, SaveError};
+use cdf_session::read_seal;
+use cdf_store::{Failed, Store};
 
-/// Writes the image to the file that is attached, and behind it its checksum, where it has one. Each changed page differs from the file.
-fn write<S: Store>(refused: bool, area: PagedArea<S>, seal: Option<[u8; 16]>) -> Ended<S>
+/// Has the file that is attached stored, where there was anything to write.
+fn sync_written<S: Store>(is_same: bool, area: &mut PagedArea<S>) -> Result<(), Failed>
+    requires held { IsSome (⟦<PagedArea<S> as Area>⟧.frame area.old).under.0.held }
+    ensures disk { (⟦<PagedArea<S> as Area>⟧.frame area.new).under.0 ≡ (⟦<PagedArea<S> as Area>⟧.frame area.old).under.0 }
+    ensures faults { ⟦<PagedArea<S> as Area>⟧.faults area.new ≡ ⟦<PagedArea<S> as Area>⟧.faults area.old }
+    ensures cause { HasCause (⟦<PagedArea<S> as Area>⟧.frame area.old).under.1 (⟦<PagedArea<S> as Area>⟧.frame area.new).under.1 result }
+    ensures synced { OnOk result (IsTrue is_same ⊎ IsTrue (⟦<PagedArea<S> as InPages>⟧.synced area.new)) }
+{
+    if is_same {
+        return Ok(());
+    }
+    area.sync()
+}
+
+/// Writes the image to the file that is attached, and behind it its checksum, where it has one, and has the file stored where
+/// there was anything to write. Each changed page differs from the file.
+fn write<S: Store>(refusals: Refusals, area: PagedArea<S>, seal: Option<[u8; 16]>) -> Ended<S>
     requires held { IsSome (⟦<PagedArea<S> as Area>⟧.frame area).under.0.held }
     requires fits { length (⟦<PagedArea<S> as Area>⟧.image area) ≤ image_limit }
     requires unmarked { (⟦<PagedArea<S> as Area>⟧.frame area).base ≡ None }
     requires seal { seal ≡ seal_of (⟦<PagedArea<S> as Area>⟧.image area) }
     requires settled { (number : ℕ) → IsTrue (⟦<PagedArea<S> as InPages>⟧.changed area number) → Differs (file_of (⟦<PagedArea<S> as Area>⟧.frame area).under.0) (⟦<PagedArea<S> as Area>⟧.image area) number }
-    ensures ends { EndsSaving refused (⟦<PagedArea<S> as Area>⟧.image area) (⟦<PagedArea<S> as Area>⟧.frame area).under.0 (S.disk result.store) result.status }
-    ensures untold { result.broken ≡ None }
+    ensures ends { EndsSaving (was_refused refusals) (⟦<PagedArea<S> as Area>⟧.image area) (⟦<PagedArea<S> as Area>⟧.frame area).under.0 (S.disk result.store) result.status }
+    ensures untold { result.notes.broken ≡ None }
+    ensures replaced { result.notes.replaced ≡ 0 }
+    ensures left { TellsLeft result.notes.left (file_of (⟦<PagedArea<S> as Area>⟧.frame area).under.0) (sealed (⟦<PagedArea<S> as Area>⟧.image area)) (file_of (S.disk result.store)) result.status }
+    ensures refusals { IsDone result.status → result.status ≡ status_of (was_refused result.notes.refusals) }
+    ensures synced { IsDone result.status → (S.disk result.store ≡ (⟦<PagedArea<S> as Area>⟧.frame area).under.0) ⊎ IsTrue (S.synced result.store) }
     ensures reads { ReadsCounted (⟦<PagedArea<S> as Area>⟧.faults area) (S.read_faults result.store) result.status }
     ensures writes { WritesCounted (⟦<PagedArea<S> as Area>⟧.frame area).under.1 (S.write_faults result.store) result.status }
 {
     let mut area = area;
+    let is_same = area.has_nothing_to_save(&seal);
     match area.save(seal) {
-        Ok(()) => Ended {
-            status: end_status(refused),
-            broken: None,
-            store: area.into_store(),
+        Ok(()) => match sync_written(is_same, &mut area) {
+            Ok(()) => Ended {
+                status: end_status(refusals),
+                notes: Notes::of_script(refusals),
+                store: area.into_store(),
+            },
+            Err(Failed) => Ended {
+                status: Status::StoreWriteFault,
+                notes: Notes::of_saving(refusals, Left::Unsynced),
+                store: area.into_store(),
+            },
         },
-        Err(AreaError::Fault) => Ended {
-            status: Status::StoreWriteFault,
-            broken: None,
-            store: area.into_store(),
-        },
-        Err(AreaError::NoMemory) => Ended {
+        Err(SaveError::Failed { kept }) => {
+            let left = if kept { Left::Old } else { Left::Part };
+            Ended {
+                status: Status::StoreWriteFault,
+                notes: Notes::of_saving(refusals, left),
+                store: area.into_store(),
+            }
+        }
+        Err(SaveError::NoMemory) => Ended {
             status: Status::NoMemory,
-            broken: None,
+            notes: Notes::none(),
             store: area.into_store(),
         },
     }
@@ -52,22 +89,52 @@ fn write<S: Store>(refused: bool, area: PagedArea<S>, seal: Option<[u8; 16]>) ->
 
 /// Saves the image to the file that is attached, and behind it its checksum, where it has one. Of its pages those alone are written
 /// that differ from the file, which is read for that.
-fn save<S: Store>(refused: bool, area: PagedArea<S>, seal: Option<[u8; 16]>) -> Ended<S>
+fn save<S: Store>(refusals: Refusals, area: PagedArea<S>, seal: Option<[u8; 16]>) -> Ended<S>
     requires held { IsSome (⟦<PagedArea<S> as Area>⟧.frame area).under.0.held }
     requires fits { length (⟦<PagedArea<S> as Area>⟧.image area) ≤ image_limit }
     requires unmarked { (⟦<PagedArea<S> as Area>⟧.frame area).base ≡ None }
     requires seal { seal ≡ seal_of (⟦<PagedArea<S> as Area>⟧.image area) }
-    ensures ends { EndsSaving refused (⟦<PagedArea<S> as Area>⟧.image area) (⟦<PagedArea<S> as Area>⟧.frame area).under.0 (S.disk result.store) result.status }
-    ensures untold { result.broken ≡ None }
+    ensures ends { EndsSaving (was_refused refusals) (⟦<PagedArea<S> as Area>⟧.image area) (⟦<PagedArea<S> as Area>⟧.frame area).under.0 (S.disk result.store) result.status }
+    ensures untold { result.notes.broken ≡ None }
+    ensures replaced { result.notes.replaced ≡ 0 }
+    ensures left { TellsLeft result.notes.left (file_of (⟦<PagedArea<S> as Area>⟧.frame area).under.0) (sealed (⟦<PagedArea<S> as Area>⟧.image area)) (file_of (S.disk result.store)) result.status }
+    ensures refusals { IsDone result.status → result.status ≡ status_of (was_refused result.notes.refusals) }
+    ensures synced { IsDone result.status → (S.disk result.store ≡ (⟦<PagedArea<S> as Area>⟧.frame area).under.0) ⊎ IsTrue (S.synced result.store) }
     ensures reads { ReadsCounted (⟦<PagedArea<S> as Area>⟧.faults area) (S.read_faults result.store) result.status }
     ensures writes { WritesCounted (⟦<PagedArea<S> as Area>⟧.frame area).under.1 (S.write_faults result.store) result.status }
 {
     let mut area = area;
     match area.settle() {
-        Ok(()) => write(refused, area, seal),
+        Ok(()) => write(refusals, area, seal),
         Err(error) => Ended {
             status: area_status(error),
-            broken: None,
+            notes: Notes::none(),
+            store: area.into_store(),
+        },
+    }
+}
+
+/// Makes the checksum of the image, where one is in use, and saves the two.
+fn seal_and_save<S: Store>(refusals: Refusals, area: PagedArea<S>) -> Ended<S>
+    requires good { Good (⟦<PagedArea<S> as Area>⟧.image area) }
+    requires held { IsSome (⟦<PagedArea<S> as Area>⟧.frame area).under.0.held }
+    requires fits { length (⟦<PagedArea<S> as Area>⟧.image area) ≤ image_limit }
+    requires unmarked { (⟦<PagedArea<S> as Area>⟧.frame area).base ≡ None }
+    ensures ends { EndsSaving (was_refused refusals) (⟦<PagedArea<S> as Area>⟧.image area) (⟦<PagedArea<S> as Area>⟧.frame area).under.0 (S.disk result.store) result.status }
+    ensures untold { result.notes.broken ≡ None }
+    ensures replaced { result.notes.replaced ≡ 0 }
+    ensures left { TellsLeft result.notes.left (file_of (⟦<PagedArea<S> as Area>⟧.frame area).under.0) (sealed (⟦<PagedArea<S> as Area>⟧.image area)) (file_of (S.disk result.store)) result.status }
+    ensures refusals { IsDone result.status → result.status ≡ status_of (was_refused result.notes.refusals) }
+    ensures synced { IsDone result.status → (S.disk result.store ≡ (⟦<PagedArea<S> as Area>⟧.frame area).under.0) ⊎ IsTrue (S.synced result.store) }
+    ensures reads { ReadsCounted (⟦<PagedArea<S> as Area>⟧.faults area) (S.read_faults result.store) result.status }
+    ensures writes { WritesCounted (⟦<PagedArea<S> as Area>⟧.frame area).under.1 (S.write_faults result.store) result.status }
+{
+    let mut area = area;
+    match read_seal(&mut area) {
+        Ok(seal) => save(refusals, area, seal),
+        Err(error) => Ended {
+            status: area_status(error),
+            notes: Notes::none(),
             store: area.into_store(),
         },
     }
@@ -87,44 +154,42 @@ pub fn finish<S: Store>(new: bool, no_save: bool, ran: Ran<PagedArea<S>>) -> End
     requires good { IfOk ran.outcome (λ _. Good (⟦<PagedArea<S> as Area>⟧.image ran.area)) }
     requires fits { IfOk ran.outcome (λ _. length (⟦<PagedArea<S> as Area>⟧.image ran.area) ≤ image_limit) }
     requires unmarked { (⟦<PagedArea<S> as Area>⟧.frame ran.area).base ≡ None }
-    requires seal { no_save ≡ false → IfOk ran.outcome (λ _. ran.seal ≡ seal_of (⟦<PagedArea<S> as Area>⟧.image ran.area)) }
     requires held { IsSome (⟦<PagedArea<S> as Area>⟧.frame ran.area).under.0.held }
     requires opened { new ≡ false → IfOk ran.outcome (λ _. WellFormed (file_of (⟦<PagedArea<S> as Area>⟧.frame ran.area).under.0)) }
     requires no_write { IsErrOf ran.outcome Status.StoreWriteFault → ⊥ }
+    requires not_done { IfErr ran.outcome (λ status. IsDone status → ⊥) }
     requires untold { IfOk ran.outcome (λ _. ran.broken ≡ None) }
-    ensures told { result.broken ≡ ran.broken }
+    ensures told { result.notes.broken ≡ ran.broken }
+    ensures replaced { result.notes.replaced ≡ 0 }
     ensures ends { EndsStored no_save (⟦<PagedArea<S> as Area>⟧.image ran.area) (⟦<PagedArea<S> as Area>⟧.frame ran.area).under.0 (S.disk result.store) ran.outcome result.status }
+    ensures left { TellsLeft result.notes.left (file_of (⟦<PagedArea<S> as Area>⟧.frame ran.area).under.0) (sealed (⟦<PagedArea<S> as Area>⟧.image ran.area)) (file_of (S.disk result.store)) result.status }
+    ensures refusals { IsDone result.status → result.status ≡ status_of (was_refused result.notes.refusals) }
+    ensures synced { IsDone result.status → (S.disk result.store ≡ (⟦<PagedArea<S> as Area>⟧.frame ran.area).under.0) ⊎ IsTrue (S.synced result.store) }
     ensures reads { ReadsCountedBehind ran.outcome (⟦<PagedArea<S> as Area>⟧.faults ran.area) (S.read_faults result.store) result.status }
     ensures writes { WritesCounted (⟦<PagedArea<S> as Area>⟧.frame ran.area).under.1 (S.write_faults result.store) result.status }
-    ensures untouched { new ≡ false → OnOk ran.outcome (⟦<PagedArea<S> as Area>⟧.edited ran.area ≡ false) → WritesNothing (⟦<PagedArea<S> as Area>⟧.frame ran.area).under.0 (S.disk result.store) (⟦<PagedArea<S> as Area>⟧.frame ran.area).under.1 (S.write_faults result.store) result.status }
+    ensures unmoved { new ≡ false → OnOk ran.outcome (⟦<PagedArea<S> as Area>⟧.edited ran.area ≡ false) → (S.disk result.store ≡ (⟦<PagedArea<S> as Area>⟧.frame ran.area).under.0) × (result.status ≢ Status.StoreWriteFault) }
 {
     let Ran {
         area,
         outcome,
-        seal,
         broken,
     } = ran;
     match outcome {
-        Ok(refused) => {
+        Ok(refusals) => {
             if no_save || is_saved(new, &area) {
-                let store = area.into_store();
-                let status = end_status(refused);
                 Ended {
-                    status,
-                    broken: None,
-                    store,
+                    status: end_status(refusals),
+                    notes: Notes::of_script(refusals),
+                    store: area.into_store(),
                 }
             } else {
-                save(refused, area, seal)
+                seal_and_save(refusals, area)
             }
         }
-        Err(status) => {
-            let store = area.into_store();
-            Ended {
-                status,
-                broken,
-                store,
-            }
-        }
+        Err(status) => Ended {
+            status,
+            notes: Notes::of_verdict(broken),
+            store: area.into_store(),
+        },
     }
 }

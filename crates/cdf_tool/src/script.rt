@@ -1,15 +1,17 @@
 //! A script is run line by line.
 
-ghost use Rattle.std.specs.Prelude.{◌≡◌, ◌≤◌, ◌||◌, ℕ, [], true, false, IsTrue, IfOk, IfErr, OnOk};
+ghost use Rattle.std.specs.Prelude.{◌≡◌, ◌≤◌, ℕ, [], true, false, is_some, IsTrue, IfOk, IfErr, OnOk};
 ghost use Rattle.cdf_area.specs.Calls.{Stays};
 ghost use Rattle.cdf_lines.specs.Pending.{line_of};
 ghost use Rattle.cdf_tool.specs.Counts.{CountedIn, counts};
 ghost use Rattle.cdf_tool.specs.Taking.{Takes, TakesNone};
-ghost use Rattle.cdf_tool.specs.Reading.{IfReads, all_read, line_reads};
+ghost use Rattle.cdf_tool.specs.Idle.{IfIdle, all_idle_over, line_idles};
 ghost use Rattle.cdf_tool.specs.Replay.{AreShort, GathersReply, GivesNext, IsDrained, IsShort, PassesAll, Replies as AllReplies, Stops, StopsAt};
+ghost use Rattle.cdf_tool.specs.Refusing.{was_refused};
 ghost use Rattle.cdf_tool.specs.Script.{Finishes, Halts};
 
 use crate::Status;
+use crate::refusals::{Refusals, RefusedLine};
 use crate::replay::answer_line;
 use crate::replies::Replies;
 use crate::status::area_status;
@@ -23,12 +25,6 @@ use std::alloc::{AllocError, Global};
 
 /// The most bytes that are taken of the source at a time.
 const PIECE: usize = 65_536;
-
-fn either(one: bool, other: bool) -> bool
-    ensures { result ≡ (one || other) }
-{
-    one || other
-}
 
 /// Goes on to the next line that is not blank, and says whether there is one. A blank line costs as little as can be: nothing else stands
 /// in this loop.
@@ -45,18 +41,18 @@ fn next_to_answer(lines: &mut Lines) -> bool
     false
 }
 
-/// Answers a line, and says whether it was refused. Its reply is gathered; where there is none, what was gathered before is written.
+/// Answers a line, and answers it where it was refused. Its reply is gathered; where there is none, what was gathered before is written.
 fn gather_reply<A: Area, O: Sink>(
     alloc: Global,
     session: &mut Session<A>,
     line: &Line,
     replies: &mut Replies,
     out: &mut O,
-) -> Result<bool, Status>
+) -> Result<Option<RefusedLine>, Status>
     requires { IsShort (line_of line.now) }
-    ensures ok { IfOk result (λ refused. GathersReply (A.frame session.old).limit (A.image session.old) line.now (A.image session.new) refused (O.written out.old) replies.old (O.written out.new) replies.new) }
+    ensures ok { IfOk result (λ refused. GathersReply (A.frame session.old).limit (A.image session.old) line.now (A.image session.new) (is_some refused) (O.written out.old) replies.old (O.written out.new) replies.new) }
     ensures stops { IfErr result (λ status. StopsAt (A.frame session.old).limit (A.image session.old) line.now (O.written out.old) replies.old (O.written out.new) status) }
-    ensures reads { line_reads (line_of line.now) ≡ true → OnOk result (Stays A.image A.frame A.faults A.edited session.old session.new) }
+    ensures idle { line_idles (A.frame session.old).limit (A.image session.old) (line_of line.now) ≡ true → OnOk result (Stays A.image A.frame A.faults A.edited session.old session.new) }
     ensures frame { A.frame session.new ≡ A.frame session.old }
     ensures counted { (source : ℕ) → CountedIn (counts (A.faults session.old) 0 (O.faults out.old) source) (counts (A.faults session.new) 0 (O.faults out.new) source) result }
 {
@@ -72,33 +68,33 @@ fn gather_reply<A: Area, O: Sink>(
     }
 }
 
-/// Answers the lines that are ready, and says whether one of them was refused. Their replies are written before it ends, unless the sink fails.
+/// Answers the lines that are ready, and says which of them were refused. Their replies are written before it ends, unless the sink fails.
 fn answer_lines<A: Area, O: Sink>(
     alloc: Global,
     session: &mut Session<A>,
     lines: &mut Lines,
     replies: &mut Replies,
     out: &mut O,
-) -> Result<bool, Status>
+) -> Result<Refusals, Status>
     requires short { AreShort lines.old.ready }
     requires none_left { replies.old ≡ [] }
-    ensures ok { IfOk result (λ refused. AllReplies (A.frame session.old).limit (A.image session.old) lines.old.given lines.old.ready (A.image session.new) refused (O.written out.old) (O.written out.new)) }
+    ensures ok { IfOk result (λ refusals. AllReplies (A.frame session.old).limit (A.image session.old) lines.old.given lines.old.ready (A.image session.new) (was_refused refusals) (O.written out.old) (O.written out.new)) }
     ensures drained { OnOk result (IsDrained lines.old lines.new) }
     ensures none_left { OnOk result (replies.new ≡ []) }
     ensures stops { IfErr result (λ status. Stops (A.frame session.old).limit (A.image session.old) lines.old.given lines.old.ready (O.written out.old) (O.written out.new) status) }
-    ensures reads { all_read lines.old.ready ≡ true → OnOk result (Stays A.image A.frame A.faults A.edited session.old session.new) }
+    ensures idle { all_idle_over (A.frame session.old).limit (A.image session.old) lines.old.ready ≡ true → OnOk result (Stays A.image A.frame A.faults A.edited session.old session.new) }
     ensures frame { A.frame session.new ≡ A.frame session.old }
     ensures counted { (source : ℕ) → CountedIn (counts (A.faults session.old) 0 (O.faults out.old) source) (counts (A.faults session.new) 0 (O.faults out.new) source) result }
 {
-    let mut refused = false;
+    let mut refusals = Refusals::none();
     'ready: while next_to_answer(lines) {
         match gather_reply(alloc, session, &lines.line(), replies, out) {
-            Ok(more) => refused = either(refused, more),
+            Ok(refused) => refusals.count(refused),
             Err(status) => return Err(status),
         }
     }
     match replies.write(out) {
-        Ok(()) => Ok(refused),
+        Ok(()) => Ok(refusals),
         Err(Failed) => Err(Status::OutputFault),
     }
 }
@@ -130,22 +126,22 @@ fn take_piece<I: Source>(script: &mut I, lines: &mut Lines, taken: &mut u64) -> 
     }
 }
 
-/// Runs a script line by line, and says whether a line was refused. The replies to the lines of a piece are written before the next is read.
+/// Runs a script line by line, and says which lines were refused. The replies to the lines of a piece are written before the next is read.
 pub fn run_script<A: Area, I: Source, O: Sink>(
     alloc: Global,
     session: &mut Session<A>,
     script: &mut I,
     out: &mut O,
-) -> Result<bool, Status>
-    ensures ok { IfOk result (λ refused. Finishes (A.frame session.old).limit (A.image session.old) (I.left script.old) (I.left script.new) (O.written out.old) (A.image session.new) refused (O.written out.new)) }
+) -> Result<Refusals, Status>
+    ensures ok { IfOk result (λ refusals. Finishes (A.frame session.old).limit (A.image session.old) (I.left script.old) (I.left script.new) (O.written out.old) (A.image session.new) (was_refused refusals) (O.written out.new)) }
     ensures err { IfErr result (λ status. Halts (A.frame session.old).limit (A.image session.old) (I.left script.old) (I.left script.new) (O.written out.old) (O.written out.new) status) }
-    ensures reads { OnOk result (IfReads (I.left script.old) (Stays A.image A.frame A.faults A.edited session.old session.new)) }
+    ensures idle { OnOk result (IfIdle (A.frame session.old).limit (A.image session.old) (I.left script.old) (Stays A.image A.frame A.faults A.edited session.old session.new)) }
     ensures frame { A.frame session.new ≡ A.frame session.old }
     ensures counted { CountedIn (counts (A.faults session.old) 0 (O.faults out.old) (I.faults script.old)) (counts (A.faults session.new) 0 (O.faults out.new) (I.faults script.new)) result }
 {
     let mut lines = Lines::new(alloc);
     let mut replies = Replies::new(alloc);
-    let mut refused = false;
+    let mut refusals = Refusals::none();
     let mut taken = 0u64;
     for _ in 0..SCRIPT_LIMIT + 1 {
         let more = match take_piece(script, &mut lines, &mut taken) {
@@ -153,11 +149,11 @@ pub fn run_script<A: Area, I: Source, O: Sink>(
             Err(status) => return Err(status),
         };
         match answer_lines(alloc, session, &mut lines, &mut replies, out) {
-            Ok(again) => refused = either(refused, again),
+            Ok(more) => refusals.join(more),
             Err(status) => return Err(status),
         }
         if !more {
-            return Ok(refused);
+            return Ok(refusals);
         }
     }
     Err(Status::ScriptTooLong)

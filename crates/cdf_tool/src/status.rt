@@ -1,8 +1,10 @@
 //! The statuses of a run, and their numbers.
 
-ghost use Rattle.std.specs.Prelude.{◌≡◌};
-ghost use Rattle.cdf_tool.specs.Statuses.{number_of, status_of, status_of_area};
+ghost use Rattle.std.specs.Prelude.{◌≡◌, IsTrue, IsFalse};
+ghost use Rattle.cdf_tool.specs.Refusing.{was_refused};
+ghost use Rattle.cdf_tool.specs.Statuses.{IsDone, number_of, status_of, status_of_area};
 
+use crate::refusals::Refusals;
 use cdf_area::AreaError;
 
 /// How a run ended.
@@ -51,13 +53,21 @@ impl Status {
             Status::ScriptTooLong => 10,
         }
     }
+
+    /// Whether everything succeeded.
+    pub fn is_done(self) -> bool
+        ensures yes { IsTrue result → IsDone self }
+        ensures no { IsFalse result → IsDone self → ⊥ }
+    {
+        matches!(self, Status::Done | Status::SomeRefused)
+    }
 }
 
 /// The status of a script that was run to its end.
-pub fn end_status(refused: bool) -> Status
-    ensures { result ≡ status_of refused }
+pub fn end_status(refusals: Refusals) -> Status
+    ensures { result ≡ status_of (was_refused refusals) }
 {
-    if refused {
+    if refusals.any() {
         Status::SomeRefused
     } else {
         Status::Done

@@ -1,27 +1,31 @@
 //! The top call: `run`.
 
-ghost use Rattle.std.specs.Prelude.{◌≡◌, ◌-◌, ◌<◌, ◌≤◌, length, map, string_bytes, true, false, Some, None, IfSome, ◌⊎◌};
+ghost use Rattle.std.specs.Prelude.{◌≡◌, ◌≢◌, ◌-◌, ◌<◌, ◌≤◌, ◌↔◌, length, map, string_bytes, true, false, Some, None, IfSome, IsTrue, not, ◌&&◌, ◌⊎◌};
 ghost use Rattle.std.specs.Option.{ForSome, option_map};
 ghost use Rattle.cdf_store.specs.Disk.{file_in};
 ghost use Rattle.cdf_store.specs.Named.{Allows, lookup};
 ghost use Rattle.cdf_pages.specs.Saving.{Touches};
+ghost use Rattle.cdf_format.specs.Sealed.{image_of};
 ghost use Rattle.cdf_format.specs.WellFormed.{WellFormed};
-ghost use Rattle.cdf_model.specs.Limits.{script_limit};
+ghost use Rattle.cdf_model.specs.Limits.{image_limit, script_limit};
 ghost use Rattle.cdf_tool.specs.Asking.{ask, saves_nothing};
 ghost use Rattle.cdf_tool.specs.Accepts.{Accepts};
 ghost use Rattle.cdf_tool.specs.Checking.{Checks};
 ghost use Rattle.cdf_tool.specs.Counts.{Counted, counts};
 ghost use Rattle.cdf_tool.specs.Due.{CanBegin, Looked, Untouched, calls_store};
 ghost use Rattle.cdf_tool.specs.Endings.{Ends};
+ghost use Rattle.cdf_tool.specs.Ends.{SpoilsTo};
+ghost use Rattle.cdf_tool.specs.Idle.{IfIdle};
 ghost use Rattle.cdf_tool.specs.Reading.{IfReads, WritesNothing};
 ghost use Rattle.cdf_tool.specs.Says.{Names};
-ghost use Rattle.cdf_tool.specs.Statuses.{Exactly, IsDone, IsFailure, IsUnsaved};
+ghost use Rattle.cdf_tool.specs.Statuses.{Exactly, IsDone, IsFailure, IsUnsaved, replaced_by};
 ghost use Rattle.cdf_tool.specs.Stored.{IsChanged};
 
 use crate::Status;
 use crate::checked::check_file;
 use crate::ended::Ended;
 use crate::file::run_file;
+use crate::notes::Notes;
 use crate::say::say_usage;
 use crate::words::{WordsError, read_words};
 use cdf_store::{Sink, Source, Store};
@@ -42,7 +46,8 @@ pub fn run<S: Store, I: Source, O: Sink>(
     // Over devices that tell their bytes: with status 0 or 1, and without `--check`, the file is well formed, or a new one was made, and there are a last image
     // and a flag for each line, so that the script leads from the first image to the last one, what was written is the text of the run
     // over the data set of the first, and nothing else, the last image is stored, the script was read to its end, and the status is 1
-    // exactly where that run refuses a line.
+    // exactly where that run refuses a line. The last image is good, and means the data set that the run ends with. Where no line changed
+    // anything, nothing was written to the store.
     ensures accepted { Accepts (ask (map string_bytes words.now)) (S.disk store) (S.disk result.store) (I.left script.old) (I.left script.new) (O.written out.old) (O.written out.new) result.status }
 
     // With `--check` status 0 comes exactly where the file that was read is well formed; then `yes` is written, and the line on space
@@ -66,8 +71,8 @@ pub fn run<S: Store, I: Source, O: Sink>(
     ensures too_long { IfSome (I.left script.old) (λ before. IfSome (I.left script.new) (λ left. Exactly Status.ScriptTooLong result.status (script_limit < length before - length left))) }
 
     // A rule is handed back with status 4, and with no other: it is one that the file breaks, and nothing else was written.
-    ensures verdict { result.status ≡ Status.Rejected → Names result.broken (S.disk result.store).held (O.written out.old) (O.written out.new) }
-    ensures told { IfSome result.broken (λ _. result.status ≡ Status.Rejected) }
+    ensures verdict { result.status ≡ Status.Rejected → Names result.notes.broken (S.disk result.store).held (O.written out.old) (O.written out.new) }
+    ensures told { IfSome result.notes.broken (λ _. result.status ≡ Status.Rejected) }
 
     // A well-formed file or a new one, and a script that is not too long, end with status 0 or 1, unless a device failed or memory was refused.
     ensures complete { IfSome (ask (map string_bytes words.now)) (λ asked. CanBegin asked.new asked.name (S.disk store).files →
@@ -92,6 +97,27 @@ pub fn run<S: Store, I: Source, O: Sink>(
     ensures reads { IfSome (ask (map string_bytes words.now)) (λ asked. asked.new ≡ false → IfReads (I.left script.old)
         (WritesNothing (S.disk store) (S.disk result.store) (S.write_faults store) (S.write_faults result.store) result.status)) }
 
+    // Where no new file is begun, and each line is blank, no command, a command that only reads, or is refused over the file of the
+    // name, nothing is written to the store, and no saving fails. A refused command is no edit.
+    ensures idle { IfSome (ask (map string_bytes words.now)) (λ asked. asked.new ≡ false → IfSome (S.disk store).files (λ files. IfSome (lookup asked.name files) (λ file.
+        IfIdle image_limit (image_of file) (I.left script.old) (WritesNothing (S.disk store) (S.disk result.store) (S.write_faults store) (S.write_faults result.store) result.status)))) }
+
+    // With status 0 or 1 nothing was written to the store, or the store has the file stored as it stands.
+    ensures synced { IfSome (ask (map string_bytes words.now)) (λ asked. IsDone result.status → Untouched asked (S.disk store) (S.disk result.store) ⊎ IsTrue (S.synced result.store)) }
+
+    // With status 6 it is told what the saving left: the file has its old bytes, old ones and new ones, or all new ones, which the
+    // store may not have stored. With any other status nothing is told.
+    ensures left { IfSome (ask (map string_bytes words.now)) (λ asked. result.status ≡ Status.StoreWriteFault →
+        SpoilsTo asked (S.disk store) (S.disk result.store) (I.left script.old) (I.left script.new) (O.written out.old) (O.written out.new) result.notes.left) }
+    ensures none_left { result.status ≢ Status.StoreWriteFault → result.notes.left ≡ None }
+
+    // With `--new`, where the file was saved, it is told how many bytes there were under the name, and else 0.
+    ensures replaced { IfSome (ask (map string_bytes words.now)) (λ asked. IfSome (S.disk store).files (λ files.
+        result.notes.replaced ≡ replaced_by (asked.new && not asked.no_save) (length (file_in (lookup asked.name files))) result.status)) }
+
+    // Status 1 comes exactly where a line is counted as refused.
+    ensures refusals { IsDone result.status → (1 ≤ result.notes.refusals.refused) ↔ (result.status ≡ Status.SomeRefused) }
+
     // What stands beneath the store stays.
     ensures only { (S.disk result.store).only ≡ (S.disk store).only }
     ensures under { (S.disk result.store).under ≡ (S.disk store).under }
@@ -108,13 +134,13 @@ pub fn run<S: Store, I: Source, O: Sink>(
             let status = say_usage(out);
             Ended {
                 status,
-                broken: None,
+                notes: Notes::none(),
                 store,
             }
         }
         Err(WordsError::NoMemory) => Ended {
             status: Status::NoMemory,
-            broken: None,
+            notes: Notes::none(),
             store,
         },
     }

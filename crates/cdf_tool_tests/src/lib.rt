@@ -1,6 +1,11 @@
-//! Runs of which a row of a table cannot say what they come to: over a real file, and over an output that fails.
+//! Runs of which a row of a table cannot say what they come to: over a real file, over an output that fails, over a store that fails as
+//! it is written, and what is noted of refused lines.
 #![tactic(auto)]
 
+#[cfg(test)]
+mod failed_saving;
+#[cfg(test)]
+mod marks;
 #[cfg(test)]
 mod output;
 #[cfg(test)]

@@ -1,11 +1,11 @@
-use Rattle.cdf_tool.proofs.Common.{Disk, Err, Frame, List, None, Option, Some, [], ap, file_of, inl, length, option_map, refl, subst, sym, ℕ, ◌∙◌, ◌≡◌}
+use Rattle.cdf_tool.proofs.Common.{Disk, Err, Frame, List, None, Option, Some, [], ap, file_of, image_limit, image_of, inl, inr, length, line_idles, option_map, refl, subst, sym, ℕ, ◌∙◌, ◌≡◌}
 use Rattle.std.proofs.Common.{IsSome}
 use Rattle.cdf_tool.specs.declared.status.Status.TheVariants as statuses
 use Rattle.cdf_tool.proofs.AreaLemmas.{attached_holds}
 use Rattle.cdf_tool.proofs.CountLemmas.{counted_attached, no_write}
-use Rattle.cdf_tool.proofs.EndLemmas.{attached_all}
-use Rattle.cdf_tool.proofs.OnlyReads.{attached_reads, if_reads, nothing_from}
-use Rattle.cdf_tool.proofs.StoredLemmas.{held_file}
+use Rattle.cdf_tool.proofs.EndLemmas.{attached_all, over_not_done}
+use Rattle.cdf_tool.proofs.OnlyReads.{if_all}
+use Rattle.cdf_tool.proofs.StoredLemmas.{held_file, none_left}
 use Rattle.cdf_tool.proofs.Told.{stored_tells, untold_at_end}
 use Rattle.cdf_tool.proofs.file.run_attached.Goals as goal
 
@@ -20,8 +20,9 @@ finish-requires-clause-opened g c =
 pub returns-in-Ok-clause-ends : goal.returns-in-Ok-clause-ends
 returns-in-Ok-clause-ends g c =
     attached_all c.args.asked.now.new c.args.asked.now.no_save c.args.asked.now.space (file_of (g.S.Store.disk c.args.store)) _ (g.S.Store.disk c.args.store) _ (g.S.Store.disk c.finish.result.store) (g.I.Source.left c.args.script.now) (g.I.Source.left c.run_area-ran.new.script) (g.O.Sink.written c.args.out.now) (g.O.Sink.written c.run_area-ran.new.out)
-    _ c.run_area-ran.result.outcome c.finish.result.status c.in-Ok.ensures.image c.run_area-ran.ensures.ends c.run_area-ran.ensures.good
-    (ap (λ (f : Frame (Disk g.S.Store.Under × ℕ)). f.under.0) (c.run_area-ran.ensures.frame ∙ c.in-Ok.ensures.frame)) c.finish.ensures.ends
+    _ c.run_area-ran.result.outcome c.finish.result.notes.left c.finish.result.status c.in-Ok.ensures.image c.run_area-ran.ensures.ends c.run_area-ran.ensures.good
+    (ap (λ (f : Frame (Disk g.S.Store.Under × ℕ)). f.under.0) (c.run_area-ran.ensures.frame ∙ c.in-Ok.ensures.frame)) c.finish.ensures.ends c.finish.ensures.left
+    _ _ (λ old same. same ∙ c.in-Ok.ensures.unedited old) c.run_area-ran.ensures.unedited c.finish.ensures.unmoved
 
 pub finish-requires-clause-untold : goal.finish-requires-clause-untold
 finish-requires-clause-untold g c = untold_at_end (g.O.Sink.written c.args.out.now) (g.O.Sink.written c.run_area-ran.new.out) c.run_area-ran.result.broken _ c.run_area-ran.result.outcome c.run_area-ran.ensures.told
@@ -30,7 +31,7 @@ pub returns-in-Ok-clause-told : goal.returns-in-Ok-clause-told
 returns-in-Ok-clause-told g c =
     let d = g.S.Store.disk c.args.store in
     stored_tells (g.O.Sink.written c.args.out.now) (g.O.Sink.written c.run_area-ran.new.out) c.args.asked.now.no_save _ d _ (g.S.Store.disk c.finish.result.store) (ap (λ (f : Frame (Disk g.S.Store.Under × ℕ)). f.under.0) (c.run_area-ran.ensures.frame ∙ c.in-Ok.ensures.frame))
-    c.args.asked.now.new _ c.run_area-ran.result.broken c.finish.result.broken c.run_area-ran.result.outcome c.finish.result.status c.finish.ensures.told c.in-Ok.ensures.image (held_file d.held c.args.size (Some c.args.size) refl c.requires)
+    c.args.asked.now.new _ c.run_area-ran.result.broken c.finish.result.notes.broken c.run_area-ran.result.outcome c.finish.result.status c.finish.ensures.told c.in-Ok.ensures.image (held_file d.held c.args.size (Some c.args.size) refl c.requires)
     c.run_area-ran.ensures.told c.finish.ensures.ends
 
 pub returns-in-Ok-clause-counted : goal.returns-in-Ok-clause-counted
@@ -40,15 +41,17 @@ returns-in-Ok-clause-counted g c =
     c.in-Ok.ensures.faults (ap (λ (f : Frame (Disk g.S.Store.Under × ℕ)). f.under.1) (c.run_area-ran.ensures.frame ∙ c.in-Ok.ensures.frame))
     c.finish.ensures.ends c.run_area-ran.ensures.counted c.finish.ensures.reads c.finish.ensures.writes
 
-pub returns-in-Ok-clause-reads : goal.returns-in-Ok-clause-reads
-returns-in-Ok-clause-reads g c = λ old.
-    let area = c.in-Ok.ensures in
-    let ran = c.run_area-ran.result in
-    let disk = g.S.Store.disk c.args.store in
-    let under = c.run_area-ran.ensures.frame ∙ area.frame in
-    attached_reads ran.outcome (g.I.Source.left c.args.script.now) _ _ _ (λ same. same ∙ area.unedited old) (c.run_area-ran.ensures.unedited old)
-    (λ unedited. nothing_from disk _ (g.S.Store.disk c.finish.result.store) (g.S.Store.write_faults c.args.store) _ (g.S.Store.write_faults c.finish.result.store) c.finish.result.status
-    (ap (λ (f : Frame (Disk g.S.Store.Under × ℕ)). f.under.0) under) (ap (λ (f : Frame (Disk g.S.Store.Under × ℕ)). f.under.1) under) (c.finish.ensures.untouched old unedited))
+pub finish-requires-clause-not_done : goal.finish-requires-clause-not_done
+finish-requires-clause-not_done g c = over_not_done _ _ _ _ _ _ _ _ c.run_area-ran.result.outcome c.run_area-ran.ensures.ends
+
+pub returns-in-Ok-clause-none_left : goal.returns-in-Ok-clause-none_left
+returns-in-Ok-clause-none_left g c = none_left c.finish.result.notes.left _ _ _ c.finish.result.status c.finish.ensures.left
+
+pub returns-in-Ok-clause-synced : goal.returns-in-Ok-clause-synced
+returns-in-Ok-clause-synced g c = λ done. elim (c.finish.ensures.synced done) [
+  | inl same ↦ inl (same ∙ ap (λ (f : Frame (Disk g.S.Store.Under × ℕ)). f.under.0) (c.run_area-ran.ensures.frame ∙ c.in-Ok.ensures.frame))
+  | inr synced ↦ inr synced
+]
 
 -- a file of which the length is known is attached
 is_attached : (held : Option (List ℕ)) (size : ℕ) → Some size ≡ option_map (λ (l : List ℕ). length l) held → IsSome held
@@ -67,14 +70,6 @@ returns-in-Err-clause-ends g c = record {
   over = inl (refl, refl);
   good = tt;
   stored = (refl, ap (λ s. g.S.Store.disk s) c.in-Err.ensures.handed_back);
+  leaves = c.none.ensures.left;
+  idle = λ old. if_all (line_idles image_limit (image_of (file_of (g.S.Store.disk c.args.store)))) (g.I.Source.left c.args.script.now) _ (ap (λ s. g.S.Store.disk s) c.in-Err.ensures.handed_back, λ is. cc);
 }
-
-pub returns-in-Err-clause-reads : goal.returns-in-Err-clause-reads
-returns-in-Err-clause-reads g c = λ old.
-    let same = c.in-Err.ensures.handed_back in
-    if_reads (g.I.Source.left c.args.script.now) _ (record {
-      files = ap (λ s. (g.S.Store.disk s).files) same;
-      touched = ap (λ s. (g.S.Store.disk s).touched) same;
-      writes = ap (λ s. g.S.Store.write_faults s) same;
-      saved = λ is. cc;
-    })

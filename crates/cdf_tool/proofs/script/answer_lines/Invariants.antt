@@ -1,12 +1,12 @@
-use Rattle.cdf_tool.proofs.Common.{AreShort, Stays, all_read, counts, length, true, ◌≡◌}
+use Rattle.cdf_tool.proofs.Common.{AreShort, Stays, all_idle_over, counts, length, true, was_refused, ◌≡◌}
 use Rattle.cdf_tool.proofs.Standing.{Reached}
 use Rattle.cdf_tool.proofs.script.answer_lines.Given as goal
 
 abbrev pub invariant-ready : goal.invariant-ready
 invariant-ready g l = record {
-  reached : Reached (g.A.Area.frame l.fn.session).limit (g.A.Area.image l.fn.session) l.fn.lines.given l.fn.lines.ready (g.O.Sink.written l.fn.out) l.lines.given l.lines.ready (g.A.Area.image l.session) l.refused (g.O.Sink.written l.out) l.replies;
+  reached : Reached (g.A.Area.frame l.fn.session).limit (g.A.Area.image l.fn.session) l.fn.lines.given l.fn.lines.ready (g.O.Sink.written l.fn.out) l.lines.given l.lines.ready (g.A.Area.image l.session) (was_refused l.refusals) (g.O.Sink.written l.out) l.replies;
   short : AreShort l.lines.ready;
-  reads : all_read l.fn.lines.ready ≡ true → (all_read l.lines.ready ≡ true) × Stays g.A.Area.image g.A.Area.frame g.A.Area.faults g.A.Area.edited l.fn.session l.session;
+  idle : all_idle_over (g.A.Area.frame l.fn.session).limit (g.A.Area.image l.fn.session) l.fn.lines.ready ≡ true → (all_idle_over (g.A.Area.frame l.fn.session).limit (g.A.Area.image l.fn.session) l.lines.ready ≡ true) × Stays g.A.Area.image g.A.Area.frame g.A.Area.faults g.A.Area.edited l.fn.session l.session;
   rest : l.lines.rest ≡ l.fn.lines.rest;
   over : l.lines.over ≡ l.fn.lines.over;
   frame : g.A.Area.frame l.session ≡ g.A.Area.frame l.fn.session;

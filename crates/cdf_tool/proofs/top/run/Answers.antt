@@ -1,13 +1,14 @@
-use Rattle.cdf_tool.proofs.Common.{ask, asked_for, map, string_bytes}
+use Rattle.cdf_tool.proofs.Common.{Bool, ask, asked_for, false, image_limit, image_of, inl, line_idles, line_reads, lookup, map, not, refl, string_bytes, true, ◌&&◌, ◌≡◌}
 use Rattle.cdf_tool.specs.declared.status.Status.TheVariants as statuses
-use Rattle.cdf_tool.proofs.AskedLemmas.{accepts_checked, check_ends, check_leaves, old_called, run_ends, unsaved_run, untouched_old}
+use Rattle.cdf_tool.proofs.AskedLemmas.{accepts_checked, check_ends, check_leaves, if_some, old_called, run_ends, unsaved_run, untouched_old}
 use Rattle.cdf_tool.proofs.Changes.{run_changes, unstarted_changes, unwritten_changes}
-use Rattle.cdf_tool.proofs.CheckLemmas.{checks}
+use Rattle.cdf_tool.proofs.CheckLemmas.{checks, usage_not_done}
 use Rattle.cdf_tool.proofs.CountLemmas.{not_false, unwritten}
 use Rattle.cdf_tool.proofs.RunLemmas.{came, checked_came, completes, never_usage, no_file_exactly, no_file_held, rejected_exactly, too_long_exactly}
 use Rattle.cdf_tool.proofs.Headline.{accepts}
 use Rattle.cdf_tool.proofs.Told.{tells_names, tells_status}
-use Rattle.cdf_tool.proofs.OnlyReads.{if_reads}
+use Rattle.cdf_tool.proofs.OnlyReads.{if_all}
+use Rattle.cdf_tool.proofs.RunIdle.{named_idle, named_reads, none_replaced, refusals_counted, replaced_not_done, replaced_old}
 use Rattle.cdf_tool.proofs.Unstarted.{unnamed, unstarted_ends}
 use Rattle.cdf_tool.proofs.top.run.Goals as goal
 
@@ -67,13 +68,36 @@ returns-else-asked-clause-not_called g c =
 
 pub returns-else-asked-clause-reads : goal.returns-else-asked-clause-reads
 returns-else-asked-clause-reads g c =
-    rw c.in-Ok.ensures.asked c.run_file.ensures.reads
+    rw c.in-Ok.ensures.asked (λ old. named_reads (asked_for c.in-Ok.asked) (g.S.Store.disk c.args.store) (g.S.Store.disk c.run_file.result.store) (g.I.Source.left c.args.script.now) (g.I.Source.left c.run_file.new.script) (g.O.Sink.written c.args.out.now) (g.O.Sink.written c.run_file.new.out) old c.run_file.result.status _ _ c.run_file.ensures.counted c.run_file.ensures.ends)
+
+pub returns-else-asked-clause-idle : goal.returns-else-asked-clause-idle
+returns-else-asked-clause-idle g c =
+    rw c.in-Ok.ensures.asked (λ old. named_idle (asked_for c.in-Ok.asked) (g.S.Store.disk c.args.store) (g.S.Store.disk c.run_file.result.store) (g.I.Source.left c.args.script.now) (g.I.Source.left c.run_file.new.script) (g.O.Sink.written c.args.out.now) (g.O.Sink.written c.run_file.new.out) old c.run_file.result.status _ _ c.run_file.ensures.counted c.run_file.ensures.ends)
+
+pub returns-else-asked-clause-synced : goal.returns-else-asked-clause-synced
+returns-else-asked-clause-synced g c =
+    rw c.in-Ok.ensures.asked c.run_file.ensures.synced
+
+pub returns-else-asked-clause-left : goal.returns-else-asked-clause-left
+returns-else-asked-clause-left g c =
+    rw c.in-Ok.ensures.asked c.run_file.ensures.left
+
+pub returns-else-asked-clause-replaced : goal.returns-else-asked-clause-replaced
+returns-else-asked-clause-replaced g c =
+    rw c.in-Ok.ensures.asked c.run_file.ensures.replaced
+
+pub returns-else-asked-clause-refusals : goal.returns-else-asked-clause-refusals
+returns-else-asked-clause-refusals g c = λ done. refusals_counted c.run_file.result.notes.refusals c.run_file.result.status (c.run_file.ensures.refusals done)
 
 pub returns-else-asked-clause-touched : goal.returns-else-asked-clause-touched
 returns-else-asked-clause-touched g c =
     rw c.in-Ok.ensures.asked (run_changes (asked_for c.in-Ok.asked) (g.S.Store.disk c.args.store) (g.S.Store.disk c.run_file.result.store) (g.I.Source.left c.args.script.now) (g.I.Source.left c.run_file.new.script) (g.O.Sink.written c.args.out.now) (g.O.Sink.written c.run_file.new.out) c.run_file.result.status c.run_file.ensures.ends)
 
 -- ---- a file was checked
+
+not_new : (new no_save : Bool) → new ≡ false → (new && not no_save) ≡ false
+not_new true no_save is = absurd (cc is)
+not_new false no_save is = refl
 
 pub returns-then-asked-clause-touched : goal.returns-then-asked-clause-touched
 returns-then-asked-clause-touched g c =
@@ -125,11 +149,11 @@ returns-else-asked-clause-no_file_read g c =
 
 pub returns-else-asked-clause-verdict : goal.returns-else-asked-clause-verdict
 returns-else-asked-clause-verdict g c =
-    tells_names (g.O.Sink.written c.args.out.now) (g.O.Sink.written c.run_file.new.out) c.run_file.result.broken (g.S.Store.disk c.run_file.result.store).held c.run_file.result.status c.run_file.ensures.told
+    tells_names (g.O.Sink.written c.args.out.now) (g.O.Sink.written c.run_file.new.out) c.run_file.result.notes.broken (g.S.Store.disk c.run_file.result.store).held c.run_file.result.status c.run_file.ensures.told
 
 pub returns-else-asked-clause-told : goal.returns-else-asked-clause-told
 returns-else-asked-clause-told g c =
-    tells_status (g.O.Sink.written c.args.out.now) (g.O.Sink.written c.run_file.new.out) c.run_file.result.broken (g.S.Store.disk c.run_file.result.store).held c.run_file.result.status c.run_file.ensures.told
+    tells_status (g.O.Sink.written c.args.out.now) (g.O.Sink.written c.run_file.new.out) c.run_file.result.notes.broken (g.S.Store.disk c.run_file.result.store).held c.run_file.result.status c.run_file.ensures.told
 
 pub returns-then-asked-clause-usage : goal.returns-then-asked-clause-usage
 returns-then-asked-clause-usage g c =
@@ -141,11 +165,11 @@ returns-then-asked-clause-no_file_read g c =
 
 pub returns-then-asked-clause-verdict : goal.returns-then-asked-clause-verdict
 returns-then-asked-clause-verdict g c =
-    tells_names (g.O.Sink.written c.args.out.now) (g.O.Sink.written c.check_file.new.out) c.check_file.result.broken (g.S.Store.disk c.check_file.result.store).held c.check_file.result.status c.check_file.ensures.told
+    tells_names (g.O.Sink.written c.args.out.now) (g.O.Sink.written c.check_file.new.out) c.check_file.result.notes.broken (g.S.Store.disk c.check_file.result.store).held c.check_file.result.status c.check_file.ensures.told
 
 pub returns-then-asked-clause-told : goal.returns-then-asked-clause-told
 returns-then-asked-clause-told g c =
-    tells_status (g.O.Sink.written c.args.out.now) (g.O.Sink.written c.check_file.new.out) c.check_file.result.broken (g.S.Store.disk c.check_file.result.store).held c.check_file.result.status c.check_file.ensures.told
+    tells_status (g.O.Sink.written c.args.out.now) (g.O.Sink.written c.check_file.new.out) c.check_file.result.notes.broken (g.S.Store.disk c.check_file.result.store).held c.check_file.result.status c.check_file.ensures.told
 
 pub returns-then-asked-clause-not_called : goal.returns-then-asked-clause-not_called
 returns-then-asked-clause-not_called g c =
@@ -153,7 +177,27 @@ returns-then-asked-clause-not_called g c =
 
 pub returns-then-asked-clause-reads : goal.returns-then-asked-clause-reads
 returns-then-asked-clause-reads g c =
-    rw c.in-Ok.ensures.asked (λ old. if_reads (g.I.Source.left c.args.script.now) _ c.check_file.ensures.reads)
+    rw c.in-Ok.ensures.asked (λ old. if_all line_reads (g.I.Source.left c.args.script.now) _ c.check_file.ensures.reads)
+
+pub returns-then-asked-clause-idle : goal.returns-then-asked-clause-idle
+returns-then-asked-clause-idle g c =
+    rw c.in-Ok.ensures.asked (λ old. if_some (g.S.Store.disk c.args.store).files _ (λ files. if_some (lookup c.in-Ok.asked.name.now files) _ (λ file. if_all (line_idles image_limit (image_of file)) (g.I.Source.left c.args.script.now) _ c.check_file.ensures.reads)))
+
+pub returns-then-asked-clause-synced : goal.returns-then-asked-clause-synced
+returns-then-asked-clause-synced g c =
+    rw c.in-Ok.ensures.asked (λ done. inl (untouched_old (asked_for c.in-Ok.asked) (g.S.Store.disk c.args.store) (g.S.Store.disk c.check_file.result.store) (c.in-Ok.ensures.old c.if-asked.true) c.check_file.ensures.reads.files c.check_file.ensures.reads.touched))
+
+pub returns-then-asked-clause-left : goal.returns-then-asked-clause-left
+returns-then-asked-clause-left g c =
+    rw c.in-Ok.ensures.asked (λ is. absurd (c.check_file.ensures.reads.saved is))
+
+pub returns-then-asked-clause-replaced : goal.returns-then-asked-clause-replaced
+returns-then-asked-clause-replaced g c =
+    rw c.in-Ok.ensures.asked (none_replaced (g.S.Store.disk c.args.store).files c.in-Ok.asked.name.now (c.in-Ok.asked.new && not c.in-Ok.asked.no_save) c.check_file.result.notes.replaced c.check_file.result.status c.check_file.ensures.replaced
+    (λ size. replaced_old (c.in-Ok.asked.new && not c.in-Ok.asked.no_save) size c.check_file.result.status (not_new c.in-Ok.asked.new c.in-Ok.asked.no_save (c.in-Ok.ensures.old c.if-asked.true))))
+
+pub returns-then-asked-clause-refusals : goal.returns-then-asked-clause-refusals
+returns-then-asked-clause-refusals g c = λ done. refusals_counted c.check_file.result.notes.refusals c.check_file.result.status (c.check_file.ensures.refusals done)
 
 pub returns-then-asked-clause-untouched : goal.returns-then-asked-clause-untouched
 returns-then-asked-clause-untouched g c =
@@ -190,3 +234,8 @@ returns-in-Err-NoMemory-clause-touched g c =
 pub returns-in-Err-Usage-clause-counted : goal.returns-in-Err-Usage-clause-counted
 returns-in-Err-Usage-clause-counted g c =
     c.say_usage-status.ensures.counted (g.S.Store.read_faults c.args.store) (g.S.Store.write_faults c.args.store) (g.I.Source.faults c.args.script.now)
+
+pub returns-in-Err-Usage-clause-replaced : goal.returns-in-Err-Usage-clause-replaced
+returns-in-Err-Usage-clause-replaced g c =
+    if_some (ask (map string_bytes c.args.words.now)) _ (λ asked. none_replaced (g.S.Store.disk c.args.store).files asked.name (asked.new && not asked.no_save) _ c.say_usage-status.result c.none.ensures.replaced
+    (λ size. replaced_not_done (asked.new && not asked.no_save) size c.say_usage-status.result (usage_not_done _ _ c.say_usage-status.result c.say_usage-status.ensures.text)))

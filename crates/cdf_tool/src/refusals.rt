@@ -1,0 +1,94 @@
+//! The lines of a script that were refused.
+
+ghost use Rattle.std.specs.Prelude.{◌≡◌, ◌||◌, is_some, false};
+ghost use Rattle.cdf_tool.specs.Refusing.{was_refused};
+
+use cdf_lines::Line;
+use cdf_model::Reason;
+
+/// What a refused line looks like, where that tells more than the reason.
+#[derive(Clone, Copy, Debug, PartialEq, Eq)]
+pub enum LineMark {
+    /// The line ends in a carriage return.
+    CarriageReturn,
+    /// The line begins with the mark of a text in UTF-8.
+    ByteOrderMark,
+    /// The line begins with the mark of a text in UTF-16.
+    Utf16,
+    /// The line asks for a command that there is not yet.
+    NotYet,
+}
+
+/// A line that was refused.
+#[derive(Clone, Copy, Debug, PartialEq, Eq)]
+pub struct RefusedLine {
+    /// Counted from 1.
+    pub number: u64,
+    pub reason: Reason,
+    pub mark: Option<LineMark>,
+}
+
+/// The lines that were refused.
+#[derive(Clone, Copy, Debug, PartialEq, Eq)]
+pub struct Refusals {
+    /// How many lines were answered; a blank line is not.
+    pub answered: u64,
+    /// How many of them were refused.
+    pub refused: u64,
+    /// The first line that was refused.
+    pub first: Option<RefusedLine>,
+}
+
+/// What a line looks like.
+pub fn mark_of(line: &Line<'_>) -> Option<LineMark> {
+    let text = line.text;
+    if text.starts_with(b"\xEF\xBB\xBF") {
+        Some(LineMark::ByteOrderMark)
+    } else if text.starts_with(b"\xFF\xFE") || text.starts_with(b"\xFE\xFF") {
+        Some(LineMark::Utf16)
+    } else if text.ends_with(b"\r") {
+        Some(LineMark::CarriageReturn)
+    } else {
+        None
+    }
+}
+
+impl Refusals {
+    /// No line was answered.
+    pub fn none() -> Refusals
+        ensures { was_refused result ≡ false }
+    {
+        Refusals {
+            answered: 0,
+            refused: 0,
+            first: None,
+        }
+    }
+
+    /// A line was answered, and refused or not.
+    pub fn count(&mut self, refused: Option<RefusedLine>)
+        ensures { was_refused self.new ≡ (was_refused self.old || is_some refused) }
+    {
+        self.answered = self.answered.saturating_add(1);
+        if refused.is_some() {
+            self.refused = self.refused.saturating_add(1);
+        }
+        self.first = self.first.or(refused);
+    }
+
+    /// Further lines were answered.
+    pub fn join(&mut self, more: Refusals)
+        ensures { was_refused self.new ≡ (was_refused self.old || was_refused more) }
+    {
+        self.answered = self.answered.saturating_add(more.answered);
+        self.refused = self.refused.saturating_add(more.refused);
+        self.first = self.first.or(more.first);
+    }
+
+    /// Whether a line was refused.
+    pub fn any(&self) -> bool
+        ensures { result ≡ was_refused self.now }
+    {
+        self.refused != 0
+    }
+}
