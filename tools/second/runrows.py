@@ -5,7 +5,8 @@ it says whether the editor writes the same text, ends with the same status and l
 row answers BadLine counts as no command. A verdict is right where the rule is broken at the place, whichever of several
 is named; of rules 99 it knows nothing. Of the words it knows --new, --check, --no-save and --space. A row with a limit
 runs its script over a new image that may grow to so many bytes, and leaves this image. What is told of a run on
-standard error it does not look at. With --after it prints what the run of a row leaves, as lines of a file of rows.
+standard error it does not look at, nor at how often the store is called; a row whose store fails it leaves out. With
+--after it prints what the run of a row leaves, as lines of a file of rows.
 """
 import sys
 from dataclasses import dataclass, field
@@ -37,6 +38,8 @@ class Row:
     text: bytes = b''
     status: int = 0
     told: str = None
+    fails: list = field(default_factory=list)
+    calls: int = None
     under: str = 'a.cdf'
     is_saved: bool = False
     after: str = None
@@ -121,7 +124,14 @@ class Table:
         self.rows[-1].status = int(text)
 
     def take_told(self, text):
-        self.rows[-1].told = text
+        told = self.rows[-1].told
+        self.rows[-1].told = text if told is None else f'{told}\n{text}'
+
+    def take_fails(self, text):
+        self.rows[-1].fails = [int(word) for word in text.split()]
+
+    def take_calls(self, text):
+        self.rows[-1].calls = int(text)
 
     def take_under(self, text):
         self.rows[-1].under = text
@@ -344,6 +354,9 @@ def main():
                     base = 'new' if row.before == 'none' else row.before
                     after = wrong_parts(row, table)[1].after
                     print(*lines_of_file(row.after or 'after', base, table.files[base], after), sep='\n')
+                continue
+            if row.fails:
+                print(f'  left out: {row.title}')
                 continue
             parts, _ = wrong_parts(row, table)
             wrong += bool(parts)

@@ -1,11 +1,19 @@
 //! The program over what its runtime gives: the words of the command line, the real files, standard input and standard output.
 #![tactic(auto)]
 
+mod standard;
+
+ghost use Rattle.std.specs.Prelude.{◌≡◌};
+ghost use Rattle.std.specs.Process.{exit_status};
+ghost use Rattle.cdf_tool.specs.Statuses.{number_of};
+
 use cdf_store::{FileStore, StdSink, StdSource};
-use cdf_tellings::Telling;
-use cdf_tool::{Status, run};
+use cdf_tellings::{FileNews, Said, Telling, WordsFault, look};
+use cdf_tool::{Ended, Status, run};
+use standard::hold_standard;
 use std::env::Env;
 use std::io::ErrorKind;
+use std::os::fd::AsRawFd;
 use std::process::ExitCode;
 use std::rt::Files;
 use std::{env, io};
@@ -19,42 +27,93 @@ fn words_of(rt: &(impl Env + AllocGlobal)) -> io::Result<Vec<String>> {
     Ok(words)
 }
 
-/// Tells on standard error what could not be done. A line that cannot be written is let go: the status says the rest.
+/// The exit status that says how a run ended.
+fn exit_of(status: Status) -> ExitCode
+    ensures { exit_status result ≡ number_of status }
+{
+    ExitCode::from(status.number())
+}
+
+/// Tells on standard error what there is to tell. A line that cannot be written is let go: the status says the rest.
 fn tell(rt: &impl Eprint, telling: Telling<'_>) {
     if telling.is_due() {
         let _ = rt.eprintln(telling);
     }
 }
 
-/// The status of a run that had no memory to read its words.
-fn without_memory(rt: &impl Eprint) -> Status {
-    let status = Status::NoMemory;
-    tell(
-        rt,
-        Telling {
-            name: None,
-            status,
-            broken: None,
-        },
-    );
-    status
+/// What the file and its device tell once a run over them has ended.
+fn news_of<R: Files>(ended: &mut Ended<FileStore<R>>) -> FileNews
+where
+    R::File: AsRawFd,
+{
+    let failure = ended.store.failure();
+    let is_unwritten = !ended.store.is_written();
+    let nature = match ended.notes.broken {
+        Some(broken) => look(&mut ended.store, broken),
+        None => None,
+    };
+    FileNews {
+        failure,
+        is_unwritten,
+        nature,
+    }
 }
 
-/// Runs the program to its end, and answers its exit status. Words that are not UTF-8 name no file; where there is no memory to read
-/// the words, the status is that of a run without memory.
-pub fn start(rt: &(impl Files + Env + Input + Print + Eprint + AllocGlobal)) -> ExitCode {
-    let words = match words_of(rt) {
-        Ok(words) => words,
-        Err(error) if error.kind() == ErrorKind::InvalidData => Vec::new(rt.alloc()),
-        Err(_) => return ExitCode::from(without_memory(rt).number()),
-    };
+/// Runs what these words ask for, tells what there is to tell, and answers how the run ended. Where a word is not UTF-8 there are no
+/// words.
+fn run_words<R>(rt: &R, words: &[String], is_text: bool) -> Status
+where
+    R: Files + Env + Input + Print + Eprint + AllocGlobal,
+    R::File: AsRawFd,
+{
     let store = FileStore::new(rt, rt.alloc());
     let mut script = StdSource::new(rt.reader());
     let mut out = StdSink::new(io::writer(rt));
-    let ended = run(rt.alloc(), &words, store, &mut script, &mut out);
+    let mut ended = run(rt.alloc(), words, store, &mut script, &mut out);
+    let said = if is_text {
+        Said::of_words(rt.alloc(), words)
+    } else {
+        Said::Fault(WordsFault::NotUtf8)
+    };
+    let news = news_of(&mut ended);
     tell(
         rt,
-        Telling::of_run(rt.alloc(), &words, ended.status, ended.broken),
+        Telling {
+            said,
+            status: ended.status,
+            notes: ended.notes,
+            news,
+        },
     );
-    ExitCode::from(ended.status.number())
+    ended.status
+}
+
+/// Reads the words of the command line, and runs what they ask for. Words that are not UTF-8 name no file; where there is no memory to
+/// read the words, the status is that of a run without memory.
+fn run_program<R>(rt: &R) -> Status
+where
+    R: Files + Env + Input + Print + Eprint + AllocGlobal,
+    R::File: AsRawFd,
+{
+    match words_of(rt) {
+        Ok(words) => run_words(rt, &words, true),
+        Err(error) if error.kind() == ErrorKind::InvalidData => run_words(rt, &[], false),
+        Err(_) => {
+            let telling = Telling::unread();
+            tell(rt, telling);
+            telling.status
+        }
+    }
+}
+
+/// Runs the program to its end, and answers its exit status. Standard streams that are closed stay so: no file gets their descriptors.
+pub fn start<R>(rt: &R) -> ExitCode
+where
+    R: Files + Env + Input + Print + Eprint + AllocGlobal,
+    R::File: AsRawFd,
+{
+    let held = hold_standard(rt);
+    let status = run_program(rt);
+    drop(held);
+    exit_of(status)
 }

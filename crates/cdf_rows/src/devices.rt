@@ -3,8 +3,8 @@
 use crate::row::Row;
 use anyhow::Result;
 use cdf_store::{MemSink, MemSource, MemStore};
-use cdf_tellings::Telling;
-use cdf_tool::run;
+use cdf_tellings::{FileNews, Said, Telling, look};
+use cdf_tool::{Ended, run};
 use std::alloc::Global;
 
 /// What the store, the script and the output do.
@@ -56,21 +56,55 @@ const ROOM: usize = 1_000_000;
 /// What stands in the file `-` beside `a.cdf`.
 const OTHER: &[u8] = b"another file";
 
+/// What is told of a run of a row over this file, and nothing where nothing is to be told. The store does not say whether it wrote, so
+/// where all went well it is taken for one that wrote nothing if the file stayed.
+fn told_of(
+    alloc: Global,
+    row: &Row,
+    before: Option<&[u8]>,
+    ended: &mut Ended<MemStore>,
+) -> Result<String> {
+    let is_same = ended.store.file(row.name.as_str()) == before;
+    let nature = match ended.notes.broken {
+        Some(broken) => look(&mut ended.store, broken),
+        None => None,
+    };
+    let telling = Telling {
+        said: Said::of_words(alloc, &row.words),
+        status: ended.status,
+        notes: ended.notes,
+        news: FileNews {
+            failure: None,
+            is_unwritten: ended.status.is_done() && is_same,
+            nature,
+        },
+    };
+    if telling.is_due() {
+        Ok(format!(in alloc; "{telling}")?)
+    } else {
+        Ok(String::new(alloc))
+    }
+}
+
 /// Runs what a row asks for over its file and such devices.
 pub fn run_row(alloc: Global, row: &Row, before: Option<&[u8]>, devices: &Devices) -> Result<Ran> {
     let mut store = MemStore::new(alloc);
+    for call in &row.fails {
+        store.fail_at(*call)?;
+    }
+    store.fail_at(devices.failing[0])?;
     if let Some(bytes) = before {
         store.put_file(row.name.as_str(), bytes)?;
     }
     store.put_file("-", OTHER)?;
-    store.fail_at(devices.failing[0])?;
     let script = Vec::from_slice(alloc, &row.script)?;
     let mut source = MemSource::new(alloc, script, devices.most.max(1));
     source.fail_at(devices.failing[1])?;
     let mut sink = MemSink::new(alloc, ROOM)?;
     sink.fail_at(devices.failing[2])?;
-    let ended = run(alloc, &row.words, store, &mut source, &mut sink);
-    let telling = Telling::of_run(alloc, &row.words, ended.status, ended.broken);
+    let mut ended = run(alloc, &row.words, store, &mut source, &mut sink);
+    let calls = [ended.store.calls(), source.calls(), sink.calls()];
+    let told = told_of(alloc, row, before, &mut ended)?;
     let store = ended.store;
     let file = match store.file(row.name.as_str()) {
         Some(bytes) => Some(Vec::from_slice(alloc, bytes)?),
@@ -79,9 +113,9 @@ pub fn run_row(alloc: Global, row: &Row, before: Option<&[u8]>, devices: &Device
     Ok(Ran {
         status: ended.status.number() as usize,
         text: Vec::from_slice(alloc, sink.written())?,
-        told: format!(in alloc; "{telling}")?,
+        told,
         file,
         is_other_kept: store.file("-") == Some(OTHER),
-        calls: [store.calls(), source.calls(), sink.calls()],
+        calls,
     })
 }

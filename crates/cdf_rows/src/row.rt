@@ -44,8 +44,12 @@ pub struct Row {
     /// What has to be written.
     pub text: Vec<u8>,
     pub status: usize,
-    /// What has to be told of the run on standard error, if that is asked.
+    /// What has to be told of the run on standard error, line by line, if that is asked.
     pub told: Option<String>,
+    /// The calls of the store that fail, counted from 1.
+    pub fails: Vec<u64>,
+    /// How often the store has to be called, if that is asked.
+    pub calls: Option<usize>,
     /// The file after the run; the one before it, if none is said.
     pub after: Option<String>,
     /// The file is saved though it stays as it was.
@@ -88,6 +92,8 @@ impl Row {
             text: Vec::new(alloc),
             status: 0,
             told: None,
+            fails: Vec::new(alloc),
+            calls: None,
             after: None,
             is_saved: false,
             limit: None,
@@ -100,6 +106,26 @@ impl Row {
         for word in text.split_whitespace() {
             let word = if word == "\"\"" { "" } else { word };
             self.words.push(String::from_str(alloc, word)?)?;
+        }
+        Ok(())
+    }
+
+    /// A further line that has to be told.
+    fn take_told(&mut self, alloc: Global, text: &str) -> Result<()> {
+        match &mut self.told {
+            Some(told) => {
+                told.push('\n')?;
+                told.push_str(text)?;
+            }
+            None => self.told = Some(String::from_str(alloc, text)?),
+        }
+        Ok(())
+    }
+
+    /// The calls of the store that fail.
+    fn take_fails(&mut self, text: &str) -> Result<()> {
+        for word in text.split_whitespace() {
+            self.fails.push(number_in(word)? as u64)?;
         }
         Ok(())
     }
@@ -119,7 +145,9 @@ impl Row {
             "text-bytes" => self.text.extend_from_slice(&bytes_in(alloc, text)?)?,
             "text-repeat" => push_repeated(alloc, &mut self.text, text)?,
             "status" => self.status = number_in(text)?,
-            "told" => self.told = Some(String::from_str(alloc, text)?),
+            "told" => self.take_told(alloc, text)?,
+            "fails" => self.take_fails(text)?,
+            "calls" => self.calls = Some(number_in(text)?),
             "after" => self.after = Some(String::from_str(alloc, text)?),
             "saved" => self.is_saved = true,
             "limit" => self.limit = Some(number_in(text)?),

@@ -71,6 +71,14 @@ impl<'a> Trial<'a> {
         run_row(self.alloc, self.row, self.before.as_deref(), devices)
     }
 
+    /// The store was not called as often as the row says, if it says anything.
+    fn is_called_wrong(&self, ran: &Ran) -> bool {
+        match self.row.calls {
+            Some(calls) => ran.calls[0] != calls as u64,
+            None => false,
+        }
+    }
+
     /// The file that is to be left: the one before, if the row says of none.
     fn wanted(&self) -> Option<&[u8]> {
         match &self.row.after {
@@ -87,12 +95,13 @@ impl<'a> Trial<'a> {
         }
     }
 
-    /// What is wrong with a run over sound devices.
+    /// What is wrong with a run over sound devices, or over those that fail as the row says.
     fn fault_of_sound(&self, ran: &Ran) -> Option<&'static str> {
         wrong_if(&[
             (ran.status != self.row.status, "the status"),
             (ran.text.as_slice() != self.row.text.as_slice(), "the text"),
             (self.is_told_wrong(ran), "what is told"),
+            (self.is_called_wrong(ran), "the calls of the store"),
             (ran.file.as_deref() != self.wanted(), "the file"),
             (!ran.is_other_kept, "another file"),
         ])
@@ -121,6 +130,7 @@ impl<'a> Trial<'a> {
         let is_kept = ran.status == 6 || ran.file.as_deref() == before || self.is_made(ran);
         wrong_if(&[
             (!is_blamed, "the status after a failing call"),
+            (ran.told.is_empty(), "what is told after a failing call"),
             (
                 !self.row.text.starts_with(&ran.text),
                 "the text after a failing call",
@@ -154,7 +164,7 @@ impl<'a> Trial<'a> {
                 if fault.is_some() {
                     return Ok(fault);
                 }
-                if is_short {
+                if is_short && self.row.fails.is_empty() {
                     let fault = self.try_failing(most, &ran.calls)?;
                     if fault.is_some() {
                         return Ok(fault);
