@@ -22,6 +22,8 @@ only_reads commands.List = true
 only_reads (commands.GetEntry attr kind num) = true
 only_reads (commands.GetRec var rec) = true
 only_reads (commands.GetVal var rec index) = true
+only_reads commands.Dump = true
+only_reads (commands.Report tap) = true
 only_reads c = false
 
 -- A command that goes makes of one good image another. It takes and frees records, in this order; those that it takes have no more bytes in all than it has room for. What it keeps of each record, by its owner, and what else it does is said by the page of its family.

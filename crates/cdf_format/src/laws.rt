@@ -1,11 +1,12 @@
 //! What follows from the definitions, each law as the clause of a function.
 
-ghost use Rattle.std.specs.Prelude.{◌≡◌, ◌≢◌, ◌⊎◌, ◌≤◌, ◌<◌, ◌+◌, ◌-◌, ℕ, List, length, take, drop};
-ghost use Rattle.cdf_model.specs.DataSet.{head_of, new_data_set};
+ghost use Rattle.std.specs.Prelude.{◌≡◌, ◌≢◌, ◌⊎◌, ◌≤◌, ◌<◌, ◌+◌, ◌-◌, ℕ, List, length, nat_lt, take, drop, true};
+ghost use Rattle.std.specs.List.{All};
+ghost use Rattle.cdf_model.specs.DataSet.{extent, head_of, new_data_set};
 ghost use Rattle.cdf_model.specs.Limits.{image_limit};
 ghost use Rattle.cdf_format.specs.Sound.{IsSound};
 ghost use Rattle.cdf_format.specs.Chains.{IsChain, chain};
-ghost use Rattle.cdf_format.specs.Content.{content, content_of, head_by_fields};
+ghost use Rattle.cdf_format.specs.Content.{content, content_of, head_by_fields, variable_of};
 ghost use Rattle.cdf_format.specs.Fields.{word, number, size_at, type_at, eof, gdr_offset};
 ghost use Rattle.cdf_format.specs.GoodImage.{IsGoodImage};
 ghost use Rattle.cdf_format.specs.Index.{Nodes, nodes_of};
@@ -18,7 +19,7 @@ ghost use Rattle.cdf_format.specs.Records.{Field};
 ghost use Rattle.cdf_format.specs.RecordTypes.{cdr_type};
 ghost use Rattle.cdf_format.specs.Rules.{AllHold};
 ghost use Rattle.cdf_format.specs.Sealed.{image_of, sealed};
-ghost use Rattle.cdf_format.specs.Shape.{Shape, HasShape, shape};
+ghost use Rattle.cdf_format.specs.Shape.{Shape, HasShape, VariableShape, shape};
 ghost use Rattle.cdf_format.specs.Tiles.{In, AreTiles, tiling};
 ghost use Rattle.cdf_format.specs.Walks.{whole};
 ghost use Rattle.cdf_format.specs.WellFormed.{WellFormed, Breaks, Good};
@@ -114,6 +115,11 @@ pub fn space_adds_up()
 /// The head of a good image's content is what the fields of its two first records say.
 pub fn head_is_fields()
     ensures { (b : List ℕ) (s : Shape) → IsGoodImage b s → head_of (content b) ≡ head_by_fields b }
+{}
+
+/// No record of a variable stands past its greatest record number.
+pub fn records_end_at_max_rec()
+    ensures { (b : List ℕ) (v : VariableShape) → All (λ pair. nat_lt pair.0 (extent (variable_of b v).max_rec) ≡ true) (variable_of b v).recs }
 {}
 
 /// A good image is good by its shape, and sound, and its eof is its length.

@@ -56,5 +56,12 @@ event_text (events.Var kind num name t elems vary dims varys sparse rle blocking
 event_text (events.Rec num t elems bytes) = codes "record " ⧺ decimal num ⧺ codes " " ⧺ values_text t elems bytes
 event_text (events.End attrs vars recs) = codes "end attributes " ⧺ decimal attrs ⧺ codes " variables " ⧺ decimal vars ⧺ codes " records " ⧺ decimal recs
 
+abbrev pub event_line : Event → List ℕ
+event_line event = event_text event ⧺ newline
+
+-- events as lines
+abbrev pub lines_of : List Event → List ℕ
+lines_of shown = flat_map event_line shown
+
 abbrev pub dump_text : DataSet → List ℕ
-dump_text d = flat_map (λ event. event_text event ⧺ newline) (events_of d)
+dump_text d = lines_of (events_of d)

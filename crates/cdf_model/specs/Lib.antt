@@ -28,6 +28,9 @@ pub mod Texts
 pub mod Whole
 pub mod Events
 pub mod EventTexts
+pub mod Spots
+pub mod Walks
 pub mod Taps
+pub mod ShippedTaps
 pub mod Turns
 pub mod RunLengths

@@ -1,6 +1,6 @@
 -- Taps: at a report each tap of a name is shown the events of the data set, and says a text of them (own).
-use Rattle.std.specs.Prelude.{ℕ, List, [], ◌∷◌, Bool, not, ◌&&◌, bytes_eq, if◌then◌else◌}
-use Rattle.std.specs.List.{filter, flat_map, list_any}
+use Rattle.std.specs.Prelude.{ℕ, List, Bool, true, false, not, ◌&&◌, bytes_eq}
+use Rattle.std.specs.List.{filter, flat_map, fold, list_any}
 use Rattle.cdf_model.specs.declared.event.Event.{Event}
 use Rattle.cdf_model.specs.DataSet.{DataSet}
 use Rattle.cdf_model.specs.Events.{events_of}
@@ -13,14 +13,26 @@ pub record Tap : Type 0 where
   pub text : List ℕ → List ℕ
   pub is_final : List ℕ → Bool
 
--- its state behind the first events that bring it to its end, or behind all of them
-abbrev pub state_behind : Tap → List ℕ → List Event → List ℕ
-state_behind tap state [] = state
-state_behind tap state (event ∷ more) = if tap.is_final (tap.after state event) then tap.after state event else state_behind tap (tap.after state event) more
+-- a tap that sees one event more: its state, and whether it came to its end, behind which it sees no more
+abbrev pub seen : Tap → List ℕ × Bool → Event → List ℕ × Bool
+seen tap (state, true) event = (state, true)
+seen tap (state, false) event = (tap.after state event, tap.is_final (tap.after state event))
 
--- its state once it has been shown a data set
+-- its state once it was shown these events in turn, and whether it came to its end
+abbrev pub shown_to : Tap → List Event → List ℕ × Bool
+shown_to tap shown = fold (seen tap) (tap.first, false) shown
+
+-- its state once it was shown a data set
 abbrev pub state_at_end : DataSet → Tap → List ℕ
-state_at_end d tap = state_behind tap tap.first (events_of d)
+state_at_end d tap = (shown_to tap (events_of d)).0
+
+-- whether it came to its end while it was shown a data set
+abbrev pub comes_to_end : DataSet → Tap → Bool
+comes_to_end d tap = (shown_to tap (events_of d)).1
+
+-- its state behind all of these events, whether it ends or not
+abbrev pub state_after : Tap → List Event → List ℕ
+state_after tap shown = fold tap.after tap.first shown
 
 abbrev pub is_named : List ℕ → Tap → Bool
 is_named name tap = bytes_eq tap.name name
@@ -34,7 +46,7 @@ told taps name d = flat_map (λ tap. tap.text (state_at_end d tap)) (filter (is_
 
 -- a tap of the name that came to its end goes
 abbrev pub goes_on : List ℕ → DataSet → Tap → Bool
-goes_on name d tap = not (is_named name tap && tap.is_final (state_at_end d tap))
+goes_on name d tap = not (is_named name tap && comes_to_end d tap)
 
 -- the taps that are left after a report
 abbrev pub left_after : List Tap → List ℕ → DataSet → List Tap

@@ -7,7 +7,7 @@ use Rattle.cdf_model.specs.declared.answer.Reason.TheVariants.{BadLine, NoSuchTa
 use Rattle.cdf_model.specs.Answers.{Answer, outcome, data_after}
 use Rattle.cdf_model.specs.DataSet.{DataSet}
 use Rattle.cdf_model.specs.EventTexts.{dump_text}
-use Rattle.cdf_model.specs.Step.{Route, ByStep, ByContent, ByTaps, step}
+use Rattle.cdf_model.specs.Step.{Route, ByStep, ByContent, ByTaps}
 use Rattle.cdf_model.specs.Taps.{Tap, has_tap, left_after, told}
 use Rattle.cdf_model.specs.Texts.{framed, reply_text}
 

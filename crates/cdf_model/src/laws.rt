@@ -1,8 +1,8 @@
 //! What follows from the definitions, each law as the clause of a function.
 
-ghost use Rattle.std.specs.Prelude.{◌≡◌, ◌↔◌, ◌*◌, ◌^◌, ◌<◌, ◌≤◌, ℕ, List, ◌∷◌, ◌++◌, length, map, true, false, Some, Ok, IsOkAnd};
+ghost use Rattle.std.specs.Prelude.{◌≡◌, ◌↔◌, ◌+◌, ◌*◌, ◌^◌, ◌<◌, ◌≤◌, ℕ, suc, List, [], ◌∷◌, ◌++◌, length, map, take, true, false, Some, Ok, IsOkAnd};
 ghost use Rattle.std.specs.Fmt.{decimal};
-ghost use Rattle.std.specs.List.{All, flat_map, join_with_byte, list_all};
+ghost use Rattle.std.specs.List.{All, flat_map, join_with_byte, list_all, slice_get};
 ghost use Rattle.cdf_model.specs.declared.data_type.DataType.{DataType};
 ghost use Rattle.cdf_model.specs.Arguments.{number_in};
 ghost use Rattle.cdf_model.specs.declared.command.Command.{Command};
@@ -10,9 +10,17 @@ ghost use Rattle.cdf_model.specs.Grammar.{parse, Asks, Blank};
 ghost use Rattle.cdf_model.specs.Limits.{line_limit};
 ghost use Rattle.cdf_model.specs.Lines.{joined, kept, split, is_blank, is_one_line};
 ghost use Rattle.cdf_model.specs.Quoting.{AWord, quote, at_end, before_quote, meaning, first_word, words};
+ghost use Rattle.cdf_model.specs.DataSet.{DataSet};
+ghost use Rattle.cdf_model.specs.Events.{events_of};
 ghost use Rattle.cdf_model.specs.Sayable.{Sayable};
+ghost use Rattle.cdf_model.specs.Spots.{rest};
+ghost use Rattle.cdf_model.specs.Taps.{Tap, shown_to, state_after};
 ghost use Rattle.cdf_model.specs.Values.{quoted, quoted_byte, text_size, values_in, values_text};
+ghost use Rattle.cdf_model.specs.Walks.{Counts, Gave, records_of};
 ghost use Rattle.cdf_model.specs.Written.{WritesLine};
+ghost use Rattle.cdf_model.specs.declared.event.Event.{Event};
+ghost use Rattle.cdf_model.specs.declared.spot.Spot.{Spot};
+ghost use Rattle.cdf_model.specs.declared.spot.Spot.TheVariants as spots;
 
 /// The lines of a text, each with its newline, and the bytes after the last newline are the text, and none of them has a newline in it.
 pub fn lines_are_the_text()
@@ -58,4 +66,23 @@ pub fn a_command_is_sayable()
 /// The values that a reply shows are words, and as the values of a command they are read as the same bytes.
 pub fn shown_values_are_read_back()
     ensures { (t : DataType) (elems count : ℕ) (bytes : List ℕ) → 0 < text_size t elems → length bytes ≡ count * text_size t elems → All (λ b. b < 256) bytes → IsOkAnd (words (values_text t elems bytes)) (λ read. values_in t elems count (map (λ word. word.bytes) read) ≡ Ok bytes) }
+{}
+
+/// A walk begins with no event given. Each call gives the event that is next in the content, and none comes exactly behind the last.
+pub fn walks_give()
+    ensures begins { (d : DataSet) → Gave d spots.Head 0 }
+    ensures goes_on { (d : DataSet) (spot after : Spot) (k : ℕ) (event : Event) → Gave d spot k → rest d spot ≡ event ∷ rest d after → Gave d after (k + 1) × (slice_get (events_of d) k ≡ Some event) }
+    ensures ends { (d : DataSet) (spot : Spot) (k : ℕ) → Gave d spot k → rest d spot ≡ [] → k ≡ length (events_of d) }
+{}
+
+/// A walk that counts the records it gave has, with those that are left, all records of the data set.
+pub fn walks_count()
+    ensures begins { (d : DataSet) → Counts d spots.Head 0 }
+    ensures goes_on { (d : DataSet) (spot after : Spot) (n : ℕ) (event : Event) → Counts d spot n → rest d spot ≡ event ∷ rest d after → Counts d after (n + records_of event) }
+{}
+
+/// A tap sees the shortest part from the front of the events, of at least one event, behind which its state is final; where there is none, it sees all of them.
+pub fn a_tap_sees_until_its_end()
+    ensures ends { (tap : Tap) (shown : List Event) (k : ℕ) → k < length shown → tap.is_final (state_after tap (take (suc k) shown)) ≡ true → ((j : ℕ) → j < k → tap.is_final (state_after tap (take (suc j) shown)) ≡ false) → shown_to tap shown ≡ (state_after tap (take (suc k) shown), true) }
+    ensures sees_all { (tap : Tap) (shown : List Event) → ((j : ℕ) → j < length shown → tap.is_final (state_after tap (take (suc j) shown)) ≡ false) → shown_to tap shown ≡ (state_after tap shown, false) }
 {}

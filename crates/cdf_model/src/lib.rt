@@ -14,6 +14,7 @@ pub mod limits;
 mod list;
 mod pad;
 mod space;
+mod spot;
 mod words;
 
 pub use answer::{LineError, Outcome, Reason, Reply};
@@ -27,4 +28,5 @@ pub use kinds::{EntryKind, Kind, Scope, Sparse};
 pub use list::{Bytes, Nums, Varys};
 pub use pad::default_pad;
 pub use space::Space;
+pub use spot::Spot;
 pub use words::{WordIter, Words, WordsBuilder};

@@ -20,6 +20,8 @@ does_nothing b commands.List e = refl
 does_nothing b (commands.GetEntry attr kind num) e = refl
 does_nothing b (commands.GetRec var rec) e = refl
 does_nothing b (commands.GetVal var rec index) e = refl
+does_nothing b commands.Dump e = refl
+does_nothing b (commands.Report tap) e = refl
 does_nothing b c e = absurd cc
 
 -- where every byte stays, and that is what the command is to do
