@@ -7,7 +7,7 @@ use cdf_model::{Head, Majority};
 use std::alloc::AllocError;
 
 /// Appends the sizes of dimensions: `-` for none, else numbers joined by commas.
-fn append_list(text: &mut String, numbers: &[u32]) -> Result<(), AllocError>
+pub fn append_list(text: &mut String, numbers: &[u32]) -> Result<(), AllocError>
     ensures { OnOk result (string_bytes text.new ≡ string_bytes text.old ++ list_text numbers.now) }
 {
     match numbers {

@@ -9,7 +9,7 @@ use cdf_model::{Item, Kind, Scope};
 use cdf_values::quoted_text;
 use std::alloc::{AllocError, Global};
 
-fn scope_name(scope: Scope) -> &'static str
+pub fn scope_name(scope: Scope) -> &'static str
     ensures { result.now ≡ scope_text scope }
 {
     match scope {
@@ -20,7 +20,7 @@ fn scope_name(scope: Scope) -> &'static str
     }
 }
 
-fn kind_name(kind: Kind) -> &'static str
+pub fn kind_name(kind: Kind) -> &'static str
     ensures { result.now ≡ kind_text kind }
 {
     match kind {

@@ -7,4 +7,6 @@ mod item;
 mod reason;
 mod reply;
 
+pub use head::{append_head, append_list};
+pub use item::{kind_name, scope_name};
 pub use reply::reply_text;

@@ -10,7 +10,8 @@ mod quoted;
 mod read;
 mod write;
 
+pub use number::append_decimal;
 pub use order::{from_network, to_network};
-pub use quoted::quoted_text;
+pub use quoted::{append_quoted, quoted_text};
 pub use read::{ValueError, read_values};
-pub use write::write_values;
+pub use write::{append_values, write_values};

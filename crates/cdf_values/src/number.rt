@@ -110,7 +110,8 @@ fn number_in(bytes: &[u8]) -> u64
     number
 }
 
-fn append_decimal(number: u64, text: &mut Vec<u8>) -> Result<(), AllocError>
+/// Appends a number in decimal.
+pub fn append_decimal(number: u64, text: &mut Vec<u8>) -> Result<(), AllocError>
     ensures { OnOk result (text.new.items ≡ text.old.items ++ decimal number) }
 {
     let mut buffer = Buffer::new();

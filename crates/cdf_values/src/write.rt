@@ -24,20 +24,35 @@ pub fn write_values(
     ensures { IfOk result (λ text. text.items ≡ values_text t elems bytes.now) }
 {
     let mut text = Vec::new(alloc);
+    append_values(t, elems, bytes, &mut text)?;
+    Ok(text)
+}
+
+/// Appends the texts of values of `elems` elements each, in network order, with a blank between two.
+pub fn append_values(
+    t: DataType,
+    elems: u32,
+    bytes: &[u8],
+    text: &mut Vec<u8>,
+) -> Result<(), AllocError>
+    requires some { 1 ≤ elems }
+    requires whole { length bytes.now % (size_of t * elems) ≡ 0 }
+    ensures { OnOk result (text.new.items ≡ text.old.items ++ values_text t elems bytes.now) }
+{
     if bytes.is_empty() {
-        return Ok(text);
+        return Ok(());
     }
     let notation = notation_of(t);
     let size = text_size(t, elems);
     let (first, mut rest) = bytes.split_at(size);
-    append_text(notation, first, &mut text)?;
+    append_text(notation, first, text)?;
     while !rest.is_empty() {
         let (value, more) = rest.split_at(size);
         text.push(b' ')?;
-        append_text(notation, value, &mut text)?;
+        append_text(notation, value, text)?;
         rest = more;
     }
-    Ok(text)
+    Ok(())
 }
 
 /// Appends the text of an element, or of a value of letters.

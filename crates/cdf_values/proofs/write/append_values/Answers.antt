@@ -1,7 +1,7 @@
-use Rattle.cdf_values.proofs.Common.{[], ap, arith, length, length-drop, meant, notation_of, sym, take, text_by, ◌%◌, ◌++◌, ◌<◌, ◌∙◌, ◌∷◌, ◌≡◌, ◌≤◌}
+use Rattle.cdf_values.proofs.Common.{[], ap, append_assoc, drop, arith, length, length-drop, meant, notation_of, sym, take, text_by, ◌%◌, ◌++◌, ◌<◌, ◌∙◌, ◌∷◌, ◌≡◌, ◌≤◌}
 use Rattle.cdf_values.proofs.NotationLemmas.{has_size}
 use Rattle.cdf_values.proofs.WriteLemmas.{led, begins, goes_on, not_none, some_bytes, some_part, still_whole, whole_texts}
-use Rattle.cdf_values.proofs.write.write_values.Goals as goal
+use Rattle.cdf_values.proofs.write.append_values.Goals as goal
 
 pub split_at-requires : goal.split_at-requires
 split_at-requires c =
@@ -28,12 +28,13 @@ loop-rest-init c =
     let some : 0 < size = omega (arith, some_bytes t c.args.elems c.requires.some, c.text_size-size.ensures.value) in
     let whole : len % size ≡ 0 = ap (λ n. len % n) c.text_size-size.ensures.value ∙ whole_texts t c.args.elems len c.requires.whole in
     let long : size ≤ len = some_part size len some whole (not_none len c.if-is_empty.ensures) in
-    let first : c.append_text.new.text.items ≡ text_by (notation_of t) (take size bytes) =
-    c.in_ok-append_text.ensures ∙ ap (λ n. c.new-text.result.items ++ text_by n c.split_at.result.0.now) c.notation_of-notation.ensures ∙ ap (λ l. l ++ text_by (notation_of t) c.split_at.result.0.now) c.new-text.ensures.items ∙ ap (text_by (notation_of t)) c.split_at.ensures.front in
+    let old = c.args.text.now.items in
+    let first : c.append_text.new.text.items ≡ old ++ text_by (notation_of t) (take size bytes) =
+    c.in_ok-append_text.ensures ∙ ap (λ n. old ++ text_by n c.split_at.result.0.now) c.notation_of-notation.ensures ∙ ap (λ l. old ++ text_by (notation_of t) l) c.split_at.ensures.front in
     record {
       whole = ap (λ l. length l % size) c.split_at.ensures.back ∙ ap (λ n. n % size) (length-drop size bytes) ∙ still_whole size len whole long;
-      same = ap (λ l. l ++ led t size c.split_at.result.1.now) first ∙ ap (λ l. text_by (notation_of t) (take size bytes) ++ led t size l) c.split_at.ensures.back
-          ∙ begins t c.args.elems size bytes c.text_size-size.ensures.value some long;
+      same = ap (λ l. l ++ led t size c.split_at.result.1.now) first ∙ ap (λ l. (old ++ text_by (notation_of t) (take size bytes)) ++ led t size l) c.split_at.ensures.back
+          ∙ append_assoc old (text_by (notation_of t) (take size bytes)) (led t size (drop size bytes)) ∙ ap (λ l. old ++ l) (begins t c.args.elems size bytes c.text_size-size.ensures.value some long);
     }
 
 pub split_at-requires-in-loop-rest : goal.split_at-requires-in-loop-rest
