@@ -1,0 +1,4 @@
+pub mod Dropped
+pub mod Lists
+pub mod Looked
+pub mod Told
