@@ -102,7 +102,7 @@ module _ (b : List ℕ) (good : Good b) where
       pub scope_read : (now : List ℕ) → now ≡ b → get_or places i 0 + 32 ≤ length now
       scope_read now same = let l = adr_inside b s h (get_or places i 0) here in let n : length now ≡ length b = ap (λ (xs : List ℕ). length xs) same in omega arith
 
-      name_is : (name : List ℕ) → name ≡ name_at b (get_or places i 0) → name ≡ name_in b (get_or places i 0) adr_name
+      pub name_is : (name : List ℕ) → name ≡ name_at b (get_or places i 0) → name ≡ name_in b (get_or places i 0) adr_name
       name_is name read = read ∙ ap (name_in b (get_or places i 0)) named_by
 
       -- the next name is not among those before it

@@ -1,5 +1,7 @@
 -- The command `del-entry`: what it is answered, and what is known of the attributes after it.
-use Rattle.cdf_attrs.proofs.Common.{Answer, Answers, Attribute, AttributeShape, ByStep, Chain, DelEntry, Done, Entry, EntryKind, EntryLives, FindsChain, Follows, Go, Good, In, IsEntryOf, IsGreatest, IsOfAttribute, IsRefusedFor, IsSound, KnownEntries, Knows, KnowsEntries, LeavesChain, List, NoSuchAttr, NoSuchEntry, None, Plain, Reason, Refused, Some, TakenAt, WrongScope, [], adr_type, adrs, aedr_num, ap, arith, attribute_named, attribute_names, attribute_of, cast_unsigned, chain_of, content, count_field, count_now, counted_in, entries_chain, entries_left, entries_of, entry_bytes, entry_of, gone, good_is_sound, greatest_integer, greatest_number, greatest_same, image_limit, integer4, left_frees, left_greatest, length, max_field, max_lies, members_of, members_stay, number, nums, nums_live, of_count, option_and_then, others, position, refl, refused, remove, shape, size_at, slice_get, slice_index, subst, suc, sym, with_attribute, with_entries, without, without_at, zero, ℕ, ◌+◌, ◌<◌, ◌==◌, ◌^◌, ◌∙◌, ◌∷◌, ◌≡◌, ◌≤◌}
+use Rattle.cdf_attrs.specs.Known.{KnownOrder}
+use Rattle.std.proofs.lemmas.Option.{none-some}
+use Rattle.cdf_attrs.proofs.Common.{Option, Answer, Answers, Attribute, AttributeShape, ByStep, Chain, DelEntry, Done, Entry, EntryKind, EntryLives, FindsChain, Follows, Go, Good, In, IsEntryOf, IsGreatest, IsOfAttribute, IsRefusedFor, IsSound, KnownEntries, Knows, KnowsEntries, LeavesChain, List, NoSuchAttr, NoSuchEntry, None, Plain, Reason, Refused, Some, TakenAt, WrongScope, [], adr_type, adrs, aedr_num, ap, arith, attribute_named, attribute_names, attribute_of, cast_unsigned, chain_of, content, count_field, count_now, counted_in, entries_chain, entries_left, entries_of, entry_bytes, entry_of, gone, good_is_sound, greatest_integer, greatest_number, greatest_same, image_limit, integer4, left_frees, left_greatest, length, max_field, max_lies, members_of, members_stay, number, nums, nums_live, of_count, option_and_then, others, position, refl, refused, remove, shape, size_at, slice_get, slice_index, subst, suc, sym, with_attribute, with_entries, without, without_at, zero, ℕ, ◌+◌, ◌<◌, ◌==◌, ◌^◌, ◌∙◌, ◌∷◌, ◌≡◌, ◌≤◌}
 use Rattle.std.proofs.Common.{w32}
 use Rattle.cdf_model.specs.declared.kinds.EntryKind.TheVariants as entries
 use Rattle.cdf_format.specs.Content.{entries_of as chain_items}
@@ -145,11 +147,12 @@ module _ {b : List ℕ} {chain : Chain} (good : Good b) (of : IsOfAttribute b ch
             let x = members_stay good q taken.removed.gives m j in
             others good q taken.removed.gives m x.0 x.1
 
-    pub known_after : (table : List (List ℕ)) (places : List ℕ) (rest : KnownEntries) → table ≡ attribute_names (content b) → places ≡ adrs (shape b) → rest ≡ without_at es i → Knows now (record { names = table; places = places; entries = Some rest })
-    known_after table places rest named placed is_rest = record {
+    pub known_after : (table : List (List ℕ)) (places : List ℕ) (rest : KnownEntries) (order : Option KnownOrder) → table ≡ attribute_names (content b) → places ≡ adrs (shape b) → rest ≡ without_at es i → order ≡ None → Knows now (record { names = table; places = places; entries = Some rest; order = order })
+    known_after table places rest order named placed is_rest unordered = record {
       names_are = named ∙ sym (left.names_left good q taken.removed.gives);
       places_are = placed ∙ sym (left.places_left good q taken.removed.gives);
       entries_are = λ e same. let other : rest ≡ e = cc in subst (KnowsEntries now) (sym is_rest ∙ other) left_known;
+      order_is = λ e same. absurd (none-some e (sym unordered ∙ same));
     }
 
 -- ---- the command

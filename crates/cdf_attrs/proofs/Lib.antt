@@ -26,6 +26,9 @@ pub mod EntriesRead
 pub mod EntryLookup
 pub mod EntrySteps
 pub mod GettingAnswers
+pub mod Pairs
+pub mod OrderedEntries
+pub mod ShownAttributes
 pub mod WholeEntries
 pub mod ValueWords
 pub mod RangeCounts

@@ -1,17 +1,29 @@
 -- The value of an entry of a good image has a byte for each of its elements' bytes, and no more.
-use Rattle.cdf_attrs.proofs.Common.{Answer, Attribute, AttributeShape, Bool, Chain, DataSet, Entry, EntryKind, Go, Good, In, IsOfAttribute, List, NoSuchAttr, NoSuchEntry, None, Option, Reply, Some, WrongScope, [], aedr_data_type, aedr_num, aedr_num_elems, aedr_value, ap, arith, attribute_named, attribute_of, both, chain_of, content, content_is, data_type_in, drop, entries_chain, entries_of, entry_bytes, entry_of, false, field_bytes, find, get_entry_step, given, good_is_sound, holds, is_little, is_positive, is_wrong_scope, item_at, known_type, le_of, length, length-drop, length-take-le, map, members_of, number, option_map, record_limit, refl, shape, signed_limit, size_of, size_stays, slice_get, subst, suc, sym, take, true, unless, zero, ℕ, ◌%◌, ◌*◌, ◌+◌, ◌==◌, ◌∙◌, ◌∷◌, ◌≡◌, ◌≤◌}
+use Rattle.cdf_attrs.proofs.Common.{Answer, Attribute, AttributeShape, Bool, Chain, DataSet, Each, Entry, EntryKind, G, Go, Good, In, IsOfAttribute, List, NoSuchAttr, NoSuchEntry, None, Option, Reply, Some, WrongScope, Z, [], aedr_data_type, aedr_num, aedr_num_elems, aedr_value, ap, arith, attribute_named, attribute_of, both, chain_of, content, content_is, data_type_in, drop, entries_chain, entries_of, entry_bytes, entry_of, false, field_bytes, find, get_entry_step, given, good_is_sound, holds, inl, inr, is_little, is_positive, is_wrong_scope, item_at, known_type, le_of, length, length-drop, length-take-le, map, members_of, number, option_map, record_limit, refl, shape, signed_limit, size_of, size_stays, slice_get, subst, suc, sym, take, true, unless, with_item, zero, ℕ, ◌%◌, ◌*◌, ◌+◌, ◌==◌, ◌∙◌, ◌∷◌, ◌≡◌, ◌≤◌}
 use Rattle.std.proofs.Common.{nat_le, ◌&&◌}
 use Rattle.std.proofs.Math.Nat.{mod_self, mul-mod_right}
 use Rattle.std.specs.Prelude.{is_some}
 use Rattle.cdf_model.specs.declared.answer.Reply.TheVariants as replies
 use Rattle.cdf_model.specs.Names.{numbered}
 use Rattle.cdf_model.specs.Whole.{IsWhole, HasWholeValues}
+use Rattle.cdf_attrs.specs.Showing.{HasWholeEntries, IsWholeEntry}
+use Rattle.cdf_edits.proofs.Edits.NumberedItems.{Above, Below, Equal, at_first, before_first, behind_first, order}
+use Rattle.cdf_format.specs.Content.{entries_of as items_of}
 use Rattle.cdf_attrs.proofs.EntryChains.{members, entry_has_value, entry_inside}
 use Rattle.cdf_attrs.proofs.EntryLookup.{item_of_chain}
 use Rattle.cdf_attrs.proofs.GettingAnswers.{entries_by_chain, found_in}
 
 taken : (xs : List ℕ) (place n : ℕ) → place + n ≤ length xs → length (take n (drop place xs)) ≡ n
 taken xs place n fits = length-take-le n (drop place xs) (omega (arith, length-drop place xs))
+
+-- one more that is whole
+whole_with : (n : ℕ) (a : Entry) (items : List (ℕ × Entry)) → IsWholeEntry (n, a) → Each IsWholeEntry items → Each IsWholeEntry (with_item n a items)
+whole_with n a [] own all = (own, tt)
+whole_with n a ((m, c) ∷ rest) own all = elim (order n m) [
+  | Below lt ↦ subst (Each IsWholeEntry) (sym (before_first n a m c rest lt)) (own, all)
+  | Equal e ↦ subst (Each IsWholeEntry) (sym (at_first n a m c rest e)) (own, all.1)
+  | Above gt ↦ subst (Each IsWholeEntry) (sym (behind_first n a m c rest gt)) (all.0, whole_with n a rest own all.1)
+]
 
 module _ (b : List ℕ) (good : Good b) where
   entry_is_whole : (c : Chain) → IsOfAttribute b c → (m : ℕ) → In m (members_of b c) → IsWhole (entry_of b m).type (entry_of b m).elems (entry_of b m).bytes
@@ -28,6 +40,27 @@ module _ (b : List ℕ) (good : Good b) where
     where
       inside : (n : ℕ) → m + (56 + n) ≤ length b → m + 56 + n ≤ length b
       inside n fits = omega arith
+
+  -- ---- all entries of the data set
+
+  chain_whole : (c : Chain) → IsOfAttribute b c → (ms : List ℕ) → ((m : ℕ) → In m ms → In m (members_of b c)) → Each IsWholeEntry (items_of b ms)
+  chain_whole c of [] within = tt
+  chain_whole c of (m ∷ ms) within = whole_with (number b m aedr_num) (entry_of b m) (items_of b ms) (entry_is_whole c of m (within m (inl refl))) (chain_whole c of ms (λ x i. within x (inr i)))
+
+  attribute_whole : (n : ℕ) (a : AttributeShape) → slice_get (shape b).attributes n ≡ Some a → HasWholeEntries (attribute_of b a)
+  attribute_whole n a stands = (own G, own Z)
+    where
+      own : (kind : EntryKind) → Each IsWholeEntry (items_of b (chain_of a kind))
+      own kind =
+          let of : IsOfAttribute b (entries_chain kind a.adr) = record { number = n; own = a; stands = stands; kind = kind; chain_is = refl } in
+          chain_whole (entries_chain kind a.adr) of (chain_of a kind) (λ m i. subst (In m) (sym (members b good (entries_chain kind a.adr) of)) i)
+
+  each_got : (as_ : List AttributeShape) → ((n : ℕ) (a : AttributeShape) → slice_get as_ n ≡ Some a → HasWholeEntries (attribute_of b a)) → Each HasWholeEntries (map (attribute_of b) as_)
+  each_got [] every = tt
+  each_got (a ∷ as_) every = (every 0 a refl, each_got as_ (λ n x is. every (suc n) x is))
+
+  pub entries_whole : Each HasWholeEntries (content b).attributes
+  entries_whole = subst (λ (d : DataSet). Each HasWholeEntries d.attributes) (sym (content_is b (shape b) (good_is_sound b good).has_shape)) (each_got (shape b).attributes attribute_whole)
 
   -- ---- an entry of the data set
 

@@ -1,6 +1,7 @@
--- What is kept of the attributes of a file: their names, and where their descriptors stand, both in order; and the entries of one chain, the one that was used last (own).
+-- What is kept of the attributes of a file: their names, and where their descriptors stand, both in order; the entries of one chain, the one that was used last; and those of one chain in the order of their numbers, the one that was shown last (own).
 use Rattle.std.specs.Prelude.{◌≡◌, ℕ, List, map}
 use Rattle.std.specs.declared.option.Option.{Option}
+use Rattle.std.specs.List.Sorted.{IsNonDecreasingBy, IsPermutation}
 use Rattle.std.specs.Option.{ForSome}
 use Rattle.cdf_edits.specs.Space.Chains.{members_of}
 use Rattle.cdf_edits.specs.declared.chain.Chain.{Chain}
@@ -16,18 +17,34 @@ pub record KnownEntries : Type 0 where
   pub numbers : List ℕ
   pub places : List ℕ
 
+-- the entries of a chain in the order of their numbers: the number of each, and where it stands
+pub record KnownOrder : Type 0 where
+  pub chain : Chain
+  pub entries : List (ℕ × ℕ)
+
 pub record Known : Type 0 where
   pub names : List (List ℕ)
   pub places : List ℕ
   pub entries : Option KnownEntries
+  pub order : Option KnownOrder
 
 -- these are the entries of the chain in an image
 pub record KnowsEntries (b : List ℕ) (entries : KnownEntries) : Type 0 where
   pub places_are : entries.places ≡ members_of b entries.chain
   pub numbers_are : entries.numbers ≡ map (λ aedr. number b aedr aedr_num) entries.places
 
+-- entries that stand at these places, each with its number
+abbrev pub with_numbers : List ℕ → List ℕ → List (ℕ × ℕ)
+with_numbers b places = map (λ aedr. (number b aedr aedr_num, aedr)) places
+
+-- these are the entries of the chain in an image, in the order of their numbers
+pub record KnowsOrder (b : List ℕ) (order : KnownOrder) : Type 0 where
+  pub all : IsPermutation (with_numbers b (members_of b order.chain)) order.entries
+  pub rise : IsNonDecreasingBy (λ entry. entry.0) order.entries
+
 -- this is what there is of the attributes of an image
 pub record Knows (b : List ℕ) (known : Known) : Type 0 where
   pub names_are : known.names ≡ attribute_names (content b)
   pub places_are : known.places ≡ adrs (shape b)
   pub entries_are : ForSome known.entries (KnowsEntries b)
+  pub order_is : ForSome known.order (KnowsOrder b)

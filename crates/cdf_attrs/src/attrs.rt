@@ -8,6 +8,7 @@ ghost use Rattle.cdf_format.specs.WellFormed.{Good};
 ghost use Rattle.cdf_model.specs.Listing.{attribute_items};
 
 use crate::entry_chain::EntryChain;
+use crate::entry_order::EntryOrder;
 use crate::reading::{read_items, read_names};
 use cdf_area::{Area, AreaError};
 use cdf_model::Item;
@@ -16,20 +17,21 @@ use cdf_space::{Chain, read_chain};
 use std::alloc::Global;
 use std::marker::Model;
 
-/// The attributes of a file: their names in a table, and where their descriptors stand, in the same order; and the entries of
-/// the chain that was used last, if it is known.
+/// The attributes of a file: their names in a table, and where their descriptors stand, in the same order; the entries of the
+/// chain that was used last, if it is known; and those of the chain that was shown last in the order of their numbers, if they are.
 #[derive(Drop)]
 pub struct Attrs {
     pub(crate) alloc: Global,
     pub(crate) names: NameTable,
     pub(crate) places: Vec<u64>,
     pub(crate) entries: Option<EntryChain>,
+    pub(crate) order: Option<EntryOrder>,
 }
 
 impl Model for Attrs {
     ghost Value = { Known };
 
-    ghost view = { λ attrs. record { names = attrs.names; places = attrs.places.items; entries = attrs.entries } };
+    ghost view = { λ attrs. record { names = attrs.names; places = attrs.places.items; entries = attrs.entries; order = attrs.order } };
 }
 
 impl Attrs {
@@ -46,14 +48,16 @@ impl Attrs {
             names,
             places,
             entries: None,
+            order: None,
         })
     }
 
     /// Lets go the entries that are kept, so that what is left is right of each image with the same attributes in the same places.
     pub fn forget_entries(&mut self)
-        ensures { self.new ≡ record self.old { entries = None } }
+        ensures { self.new ≡ record self.old { entries = None; order = None } }
     {
         self.entries = None;
+        self.order = None;
     }
 
     /// The attributes as `list` shows them, each with its number, its name and its scope.

@@ -135,6 +135,7 @@ impl Attrs {
             });
         };
         self.entries = None;
+        self.order = None;
         delete(self.alloc, area, &self.places, number as usize)?;
         self.names.remove(number);
         self.places.remove(number as usize);

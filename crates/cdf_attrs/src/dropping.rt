@@ -162,6 +162,7 @@ impl Attrs {
         ensures area { Edits A.frame A.faults area.old area.new result }
     {
         self.entries = None;
+        self.order = None;
         for adr in &self.places {
             drop_from(self.alloc, area, *adr, kind, num)?;
         }

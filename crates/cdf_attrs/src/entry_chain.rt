@@ -48,7 +48,7 @@ fn read_numbers<A: Area>(alloc: Global, area: &mut A, places: &[u64]) -> Result<
 }
 
 /// Whether two chains are of the same entries. Of other records than entries none are.
-fn are_same_entries(one: Chain, other: Chain) -> bool
+pub(crate) fn are_same_entries(one: Chain, other: Chain) -> bool
     ensures { IsTrue result → one ≡ other }
 {
     match one {
@@ -121,7 +121,7 @@ impl EntryChain {
 
 impl Attrs {
     /// The entries of a chain of an attribute: those that are kept, where they are of this chain, else as they are read. They are
-    /// given away, so that none are kept any more.
+    /// given away, so that none are kept any more, in no order.
     pub(crate) fn take_entries<A: Area>(
         &mut self,
         area: &mut A,
@@ -132,9 +132,10 @@ impl Attrs {
         requires attribute { IsOfAttribute (A.image area.old) chain }
         ensures chain { IfOk result (λ entries. entries.chain ≡ chain) }
         ensures entries { IfOk result (KnowsEntries (A.image area.old)) }
-        ensures given { self.new ≡ record self.old { entries = None } }
+        ensures given { self.new ≡ record self.old { entries = None; order = None } }
         ensures area { Reads A.image A.frame A.faults A.edited area.old area.new result }
     {
+        self.order = None;
         if let Some(kept) = self.entries.take() {
             if are_same_entries(kept.chain, chain) {
                 return Ok(kept);

@@ -3,7 +3,7 @@
 ghost use Rattle.std.specs.Prelude.{◌≡◌, ◌+◌, ◌≤◌, length, IfOk};
 ghost use Rattle.cdf_area.specs.Calls.{Reads};
 ghost use Rattle.cdf_attrs.specs.Known.{Knows};
-ghost use Rattle.cdf_attrs.specs.Getting.{entry_reply};
+ghost use Rattle.cdf_attrs.specs.Getting.{entry_reply, meant};
 ghost use Rattle.cdf_edits.specs.Answers.{Answers};
 ghost use Rattle.cdf_format.specs.AttributeRules.{entry_bytes};
 ghost use Rattle.cdf_format.specs.Content.{entry_of};
@@ -34,11 +34,23 @@ fn read_type<A: Area>(area: &mut A, place: u64) -> Result<DataType, AreaError>
     Ok(DataType::of_code(code).unwrap_or(DataType::Byte))
 }
 
-/// What `get-entry` shows of the entry whose descriptor stands at a place.
-fn read_entry<A: Area>(alloc: Global, area: &mut A, place: u64) -> Result<Reply, AreaError>
+/// The value of an entry: so many elements of a type, in network order.
+#[derive(Drop)]
+pub struct EntryValue {
+    pub t: DataType,
+    pub elems: u32,
+    pub bytes: Bytes,
+}
+
+/// The value of the entry whose descriptor stands at a place.
+pub(crate) fn read_entry_value<A: Area>(
+    alloc: Global,
+    area: &mut A,
+    place: u64,
+) -> Result<EntryValue, AreaError>
     requires cdr { LiesIn (A.image area.old) cdr_place cdr_copyright }
     requires entry { place + past (aedr_value (entry_bytes (A.image area.old) place)) ≤ length (A.image area.old) }
-    ensures reply { IfOk result (λ reply. reply ≡ entry_reply (entry_of (A.image area.old) place)) }
+    ensures value { IfOk result (λ value. meant value ≡ entry_of (A.image area.old) place) }
     ensures area { Reads A.image A.frame A.faults A.edited area.old area.new result }
 {
     // An image has fewer than 2^64 bytes, so no place in it overflows.
@@ -49,10 +61,25 @@ fn read_entry<A: Area>(alloc: Global, area: &mut A, place: u64) -> Result<Reply,
     let count = u64::from(t.size()) * u64::from(elems);
     let mut bytes = read_bytes(alloc, area, place + AEDR_VALUE, count)?;
     to_network(t, encoding, &mut bytes);
-    Ok(Reply::Entry {
+    Ok(EntryValue {
         t,
         elems,
         bytes: Bytes::new(bytes),
+    })
+}
+
+/// What `get-entry` shows of the entry whose descriptor stands at a place.
+fn read_entry<A: Area>(alloc: Global, area: &mut A, place: u64) -> Result<Reply, AreaError>
+    requires cdr { LiesIn (A.image area.old) cdr_place cdr_copyright }
+    requires entry { place + past (aedr_value (entry_bytes (A.image area.old) place)) ≤ length (A.image area.old) }
+    ensures reply { IfOk result (λ reply. reply ≡ entry_reply (entry_of (A.image area.old) place)) }
+    ensures area { Reads A.image A.frame A.faults A.edited area.old area.new result }
+{
+    let value = read_entry_value(alloc, area, place)?;
+    Ok(Reply::Entry {
+        t: value.t,
+        elems: value.elems,
+        bytes: value.bytes,
     })
 }
 

@@ -71,4 +71,4 @@ returns-clause-known g c =
     let adr = adr_is found c.as_slice-places.result.now (c.as_slice-places.ensures.value ∙ ap (λ (k : Known). k.places) known ∙ c.requires.known.places_are) in
     let taken = taken_in b (g.A.Area.image c.take_entries.new.area) (c.take_entries.ensures.area.image ∙ c.find_chain.ensures.area.image) adr c.in_ok-left.ensures.removed in
     known_after c.requires.good (of_attribute found) c.in_ok-entries.entries c.in_ok-entries.ensures.chain knows c.args.num c.in-Some.i (sym c.find.ensures ∙ c.in-Some.is) taken (omega (arith, c.requires.fits, c.requires.limit))
-    c.self.inside.names c.self.inside.places.items c.in_ok-left.left (ap (λ (k : Known). k.names) known ∙ c.requires.known.names_are) (ap (λ (k : Known). k.places) known ∙ c.requires.known.places_are) c.in_ok-left.ensures.left
+    c.self.inside.names c.self.inside.places.items c.in_ok-left.left c.self.inside.order (ap (λ (k : Known). k.names) known ∙ c.requires.known.names_are) (ap (λ (k : Known). k.places) known ∙ c.requires.known.places_are) c.in_ok-left.ensures.left (ap (λ (k : Known). k.order) known)
