@@ -1,7 +1,10 @@
 pub mod Common
 pub mod PadSites
 pub mod PutRoomCount
+pub mod NextItem
+pub mod NextRecord
 pub mod PutRoomNeeded
 pub mod RecordForms
 pub mod RecordReading
 pub mod RecordsRead
+pub mod VariableTold

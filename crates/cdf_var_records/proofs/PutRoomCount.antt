@@ -13,14 +13,14 @@ split a k e (r ∷ rs) p q = omega (arith, before_more a k r rs, before_more k e
 -- ---- none of them has one
 
 -- a leaf does not begin past the one and up to the other
-abbrev IsBehind : ℕ → ℕ → Leaf → Type 0
+abbrev pub IsBehind : ℕ → ℕ → Leaf → Type 0
 IsBehind k last l = k < l.first → last < l.first
 
 -- where none of the firsts begins up to a last record, no leaf does
 mutual
   unfolding leaves_of entry_leaves firsts_of entry_firsts
 
-  leaves_behind : (k last : ℕ) (nodes : Nodes) → NoneBegins k last (firsts_of nodes) → Each (IsBehind k last) (leaves_of nodes)
+  pub leaves_behind : (k last : ℕ) (nodes : Nodes) → NoneBegins k last (firsts_of nodes) → Each (IsBehind k last) (leaves_of nodes)
   leaves_behind k last no_node n = tt
   leaves_behind k last (node place room entries more) n = let parts = Each-split (λ (f : ℕ). k < f → last < f) (entry_firsts entries) (firsts_of more) n in Each-append (IsBehind k last) (entry_leaves entries) (leaves_of more) (entries_behind k last entries parts.0) (leaves_behind k last more parts.1)
 

@@ -94,7 +94,7 @@ module _ {b : List ℕ} {kind : Kind} {vdr : ℕ} (good : Good b) (v : IsVdr b k
 
   -- ---- how long it is
 
-  value_long : length (pad_value variable) ≡ value_bytes b vdr
+  pub value_long : length (pad_value variable) ≡ value_bytes b vdr
   value_long = by (has_pad b vdr) refl
     where
       field : List ℕ
@@ -121,7 +121,7 @@ module _ {b : List ℕ} {kind : Kind} {vdr : ℕ} (good : Good b) (v : IsVdr b k
       let leaf : Leaf = record { first = l.first; last = l.last; at = l.place; packed = l.packed } in
       size_stays (type_of_variable b vdr) (is_little b) (stored rec leaf e) (stored_whole rec leaf e) ∙ stored_long rec leaf e
 
-  item_long : (rec : ℕ) → length (unwrap_or (item_at rec variable.recs) (pad_record variable)) ≡ record_bytes b vdr
+  pub item_long : (rec : ℕ) → length (unwrap_or (item_at rec variable.recs) (pad_record variable)) ≡ record_bytes b vdr
   item_long rec = ap (λ (o : Option (List ℕ)). length (unwrap_or o (pad_record variable))) (by_leaf rec) ∙ leaf_long rec (leaf_in b vdr rec) refl
 
   pub read_long : (rec : ℕ) → length (read variable rec) ≡ record_bytes b vdr

@@ -1,3 +1,4 @@
 pub mod Descriptors
+pub mod Next
 pub mod Records
 pub mod Room

@@ -59,7 +59,7 @@ pub fn values_of(shape: &Shape) -> u64
 }
 
 /// The bytes of elements of a type, as they are stored, turned into network order.
-fn in_network_order(t: DataType, encoding: Encoding, mut bytes: Vec<u8>) -> Vec<u8>
+pub fn in_network_order(t: DataType, encoding: Encoding, mut bytes: Vec<u8>) -> Vec<u8>
     requires { length bytes.items % size_of t ≡ 0 }
     ensures { result.items ≡ turned t encoding.little bytes.items }
 {
@@ -106,6 +106,29 @@ fn default_value(alloc: Global, shape: &Shape) -> Result<Vec<u8>, AllocError>
     Ok(bytes)
 }
 
+/// The pad value of a variable, in network order; none where its Flags say that there is none.
+#[tactic(auto, using(cdf_area::proofs::Calls::read_done, cdf_area::proofs::Calls::read_failed, cdf_area::proofs::Calls::read_more, cdf_area::proofs::Calls::read_once))]
+pub fn read_pad<A: Area>(
+    alloc: Global,
+    area: &mut A,
+    form: &Form,
+) -> Result<Option<Vec<u8>>, AreaError>
+    requires good { Good (A.image area.old) }
+    requires form { IsForm (A.image area.old) form.now }
+    ensures pad { IfOk result (λ found. option_map (λ bytes. bytes.items) found ≡ (variable_at (A.image area.old) form.now.place.vdr).pad) }
+    ensures area { Reads A.image A.frame A.faults A.edited area.old area.new result }
+{
+    let place = form.place;
+    if !says_pad(place.flags) {
+        return Ok(None);
+    }
+    // An image has fewer than 2^64 bytes, so no place in it overflows.
+    let _size = area.size();
+    let size = value_size(&form.shape);
+    let bytes = read_bytes(alloc, area, place.vdr + place.at, size)?;
+    Ok(Some(in_network_order(place.t, form.encoding, bytes)))
+}
+
 /// The value that stands where none was written, in network order.
 #[tactic(auto, using(cdf_area::proofs::Calls::read_done, cdf_area::proofs::Calls::read_failed, cdf_area::proofs::Calls::read_more, cdf_area::proofs::Calls::read_once))]
 fn read_pad_value<A: Area>(alloc: Global, area: &mut A, form: &Form) -> Result<Vec<u8>, AreaError>
@@ -114,16 +137,13 @@ fn read_pad_value<A: Area>(alloc: Global, area: &mut A, form: &Form) -> Result<V
     ensures value { IfOk result (λ bytes. bytes.items ≡ pad_value (variable_at (A.image area.old) form.now.place.vdr)) }
     ensures area { Reads A.image A.frame A.faults A.edited area.old area.new result }
 {
-    let place = form.place;
-    if !says_pad(place.flags) {
-        let filler = default_value(alloc, &form.shape)?;
-        return Ok(filler);
+    match read_pad(alloc, area, form)? {
+        Some(bytes) => Ok(bytes),
+        None => {
+            let filler = default_value(alloc, &form.shape)?;
+            Ok(filler)
+        }
     }
-    // An image has fewer than 2^64 bytes, so no place in it overflows.
-    let _size = area.size();
-    let size = value_size(&form.shape);
-    let bytes = read_bytes(alloc, area, place.vdr + place.at, size)?;
-    Ok(in_network_order(place.t, form.encoding, bytes))
 }
 
 /// A value so many times, one after the other.

@@ -2,6 +2,7 @@ pub mod Common
 pub mod CreatedVariable
 pub mod NamesRead
 pub mod NewVdr
+pub mod NextEvents
 pub mod OwnShapes
 pub mod RemovalAnswers
 pub mod VariableChains
@@ -11,7 +12,9 @@ pub mod VariableNames
 pub mod PadValues
 pub mod PadRequests
 pub mod RecordPlaces
+pub mod VariableNumbered
 pub mod WholeRecords
+pub mod WholeVariables
 pub mod RecordAnswers
 pub mod Sizes
 pub mod SetUpAnswers

@@ -1,5 +1,5 @@
 -- The chains of the variables, as a good image has them.
-use Rattle.cdf_vars.proofs.Common.{Good, HasChain, HasShape, HolderStands, In, IsChain, IsGoodByShape, Kind, List, R, Shape, Z, ap, arith, chain_of, counted_before, counted_in, fixed_size, good_by_its_shape, head_of, kind_chain, length, length-append, length-le_from_distinct, length_tiles, linkable-in, linkable-type, members_of, number, rules_of_good, shape, shapes_of, size_at, subst, sym, tile_lies, vdr_type, vdrs, ℕ, ◌+◌, ◌<◌, ◌∙◌, ◌≡◌, ◌≤◌}
+use Rattle.cdf_vars.proofs.Common.{Good, HasChain, HasShape, HolderStands, In, IsChain, IsGoodByShape, Kind, List, R, Shape, Z, ap, arith, chain_of, counted_before, counted_in, fixed_size, good_by_its_shape, head_of, kind_chain, length, length-append, length-le_from_distinct, length_tiles, linkable-in, linkable-type, members_of, number, rules_of_good, shape, shapes_of, size_at, subst, sym, tile_lies, vdr_type, vdrs, ℕ, ◌+◌, ◌<◌, ◌^◌, ◌∙◌, ◌≡◌, ◌≤◌}
 use Rattle.cdf_edits.proofs.Edits.ChainsOfShape.{IsOf, has_chain, members_are}
 use Rattle.cdf_edits.proofs.Edits.UnlinkedVariable.{in_holder}
 use Rattle.cdf_format.specs.Sealed.{trailer, sealed}
@@ -70,6 +70,9 @@ module _ (b : List ℕ) (good : Good b) where
   short_image =
       let f : length (sealed b) ≤ 1073741840 = le_of (length (sealed b)) 1073741840 (rules_of_good b good).0.1.0 in
       omega (arith, length-append b (trailer b))
+
+  pub under_31_bits : (kind : Kind) → length (vdrs (shapes_of s kind)) < 2 ^ 31
+  under_31_bits kind = let few = few_variables b s h kind in let short = short_image in omega arith
 
   pub few_places : (kind : Kind) → length (vdrs (shapes_of s kind)) < 4294967295
   few_places kind = let few = few_variables b s h kind in let short = short_image in omega arith

@@ -1,5 +1,6 @@
 pub mod Chains
 pub mod Creating
+pub mod Events
 pub mod Finding
 pub mod Known
 pub mod Padding

@@ -1,6 +1,6 @@
 use Rattle.cdf_var_records.proofs.Common.{arith, sym, ◌∙◌}
 use Rattle.cdf_var_records.proofs.RecordReading.{pad_is_inside, pad_whole}
-use Rattle.cdf_var_records.proofs.record.read_pad_value.Goals as goal
+use Rattle.cdf_var_records.proofs.record.read_pad.Goals as goal
 
 pub overflow_add-place : goal.overflow_add-place
 overflow_add-place g c = let l = pad_is_inside c.requires.good c.requires.form (sym c.says_pad.ensures ∙ c.if-not-says_pad.false) in omega (arith, l, c.size-size.ensures)
