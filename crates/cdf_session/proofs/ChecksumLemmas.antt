@@ -66,11 +66,11 @@ module _ (b now : List ℕ) (md5 : Bool) (good : Good b) (flags_are : flags now 
   pub checksum_answers : (limit : ℕ) → length b ≤ limit → limit ≤ image_limit → Answers limit b (commands.Checksum md5) (Done replies.Plain) now
   checksum_answers limit fits limited = gone limit b (commands.Checksum md5) (record (content b) { md5 = md5 }) replies.Plain now refl (omega arith) (leads (omega arith))
 
-  pub checksum_open : {U : Type 0} (frame after : Frame U) (known : Known) (vars : KnownVariables) → IsOpen b frame known vars → after ≡ frame → IsOpen now after (record known { entries = None }) vars
+  pub checksum_open : {U : Type 0} (frame after : Frame U) (known : Known) (vars : KnownVariables) → IsOpen b frame known vars → after ≡ frame → IsOpen now after (record known { entries = None; order = None }) vars
   checksum_open frame after known vars was kept =
       let fits = was.fits in
       let limited = was.limited in
       let knows = attributes_known b now (commands.Checksum md5) known refl good (leads (omega arith)) was.knows in
       let variables = variables_known b now (commands.Checksum md5) vars refl good (leads (omega arith)) was.knows_variables in
-      let there : IsOpen now frame (record known { entries = None }) vars = record { good = (leads (omega arith)).good; fits = omega arith; limited = limited; unmarked = was.unmarked; knows = knows; knows_variables = variables } in
-      subst (λ (f : Frame _). IsOpen now f (record known { entries = None }) vars) (sym kept) there
+      let there : IsOpen now frame (record known { entries = None; order = None }) vars = record { good = (leads (omega arith)).good; fits = omega arith; limited = limited; unmarked = was.unmarked; knows = knows; knows_variables = variables } in
+      subst (λ (f : Frame _). IsOpen now f (record known { entries = None; order = None }) vars) (sym kept) there

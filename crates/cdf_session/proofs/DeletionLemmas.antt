@@ -11,11 +11,12 @@ same_names d kind vs = grind arith
 
 module _ {b now : List ℕ} {kind : Kind} {n : ℕ} (good : Good b) (d : RemovesVariable b now kind n) where
   -- the attributes stay while the variable itself goes
-  pub attributes_stay : {known : Known} → known.entries ≡ None → Knows b known → Knows now known
-  attributes_stay {known} none knows = record {
+  pub attributes_stay : {known : Known} → known.entries ≡ None → known.order ≡ None → Knows b known → Knows now known
+  attributes_stay {known} no_entries no_order knows = record {
     names_are = knows.names_are ∙ sym (ap attribute_names (content_after good d) ∙ same_names _ kind _);
     places_are = knows.places_are ∙ sym (ap adrs (shape_after good d));
-    entries_are = λ e same. let no : None ≡ Some e = sym none ∙ same in absurd cc;
+    entries_are = λ e same. let gone : None ≡ Some e = sym no_entries ∙ same in absurd cc;
+    order_is = λ o same. let gone : None ≡ Some o = sym no_order ∙ same in absurd cc;
   }
 
 module _ {b now : List ℕ} {found : Found} (drops : DropsEntries b found now) where
@@ -74,5 +75,5 @@ module _ {b mid : List ℕ} {known : KnownVariables} (name : List ℕ) {id : Var
   is_deleted limit fits most removes = delete_done good drops removes name named limit fits (omega arith)
 
 -- nothing but the entries of one chain was let go
-pub forgets : {b : List ℕ} {known after : Known} → Knows b known → after ≡ record known { entries = None } → Knows b after
-forgets {b} {known} {after} knows is = subst (Knows b) (sym is) (record { names_are = knows.names_are; places_are = knows.places_are; entries_are = λ e same. absurd cc })
+pub forgets : {b : List ℕ} {known after : Known} → Knows b known → after ≡ record known { entries = None; order = None } → Knows b after
+forgets {b} {known} {after} knows is = subst (Knows b) (sym is) (record { names_are = knows.names_are; places_are = knows.places_are; entries_are = λ e same. absurd cc; order_is = λ o same. absurd cc })

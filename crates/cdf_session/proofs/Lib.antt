@@ -6,3 +6,6 @@ pub mod AdoptLemmas
 pub mod NewFileLemmas
 pub mod DeletionLemmas
 pub mod Explained
+pub mod WholeEvents
+pub mod FewVariables
+pub mod WalkLemmas

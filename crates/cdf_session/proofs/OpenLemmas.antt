@@ -102,18 +102,18 @@ variables_after limit b start made c vars other good knows begins (Ok o) answers
 variables_after limit b start made c vars other good knows begins (Err error) answers = tt
 
 -- one that is not on attributes leaves what is known of them, but for the entries of one chain, which are to be forgotten
-pub attributes_known : (b now : List ℕ) (c : Command) (known : Known) → is_on_attributes c ≡ false → Good b → Follows b c now → Knows b known → Knows now (record known { entries = None })
+pub attributes_known : (b now : List ℕ) (c : Command) (known : Known) → is_on_attributes c ≡ false → Good b → Follows b c now → Knows b known → Knows now (record known { entries = None; order = None })
 attributes_known b now c known other good follows knows =
     let stay = attributes_stay b now c other good follows in
     none_known now known.names known.places (knows.names_are ∙ sym stay.names_stay) (knows.places_are ∙ sym stay.places_stay)
 
-forgotten : (b : List ℕ) (known : Known) → Knows b known → Knows b (record known { entries = None })
+forgotten : (b : List ℕ) (known : Known) → Knows b known → Knows b (record known { entries = None; order = None })
 forgotten b known knows = none_known b known.names known.places knows.names_are knows.places_are
 
 attributes_after : (limit : ℕ) (b start made : List ℕ) (c : Command) (known : Known) → is_on_attributes c ≡ false → Good b → Knows b known → start ≡ b
-    → (done : Result Outcome AreaError) → IfOk done (λ o. Answers limit start c o made) → OnOk done (Knows made (record known { entries = None }))
+    → (done : Result Outcome AreaError) → IfOk done (λ o. Answers limit start c o made) → OnOk done (Knows made (record known { entries = None; order = None }))
 attributes_after limit b start made c known other good knows begins (Ok o) answers =
-    answered_so (λ (x : List ℕ). Knows x (record known { entries = None })) limit b made c o (subst (λ (x : List ℕ). Answers limit x c o made) begins answers) (forgotten b known knows) (λ f. attributes_known b made c known other good f knows)
+    answered_so (λ (x : List ℕ). Knows x (record known { entries = None; order = None })) limit b made c o (subst (λ (x : List ℕ). Answers limit x c o made) begins answers) (forgotten b known knows) (λ f. attributes_known b made c known other good f knows)
 attributes_after limit b start made c known other good knows begins (Err error) answers = tt
 
 -- the mark is gone at the end
@@ -153,14 +153,14 @@ ends_open b start made now frame first marked end known after vars c other done 
 
 -- of a command on variables, after which the entries that were kept are forgotten
 pub ends_on_variables : {U : Type 0} (b start made now : List ℕ) (frame first marked end : Frame U) (known after : Known) (vars vars' : KnownVariables) (c : Command) → is_on_attributes c ≡ false → (done : Result Outcome AreaError)
-    → IsOpen b frame known vars → start ≡ b → first ≡ with_base frame (Some b) → marked ≡ first → end ≡ with_base marked None → after ≡ record known { entries = None }
+    → IsOpen b frame known vars → start ≡ b → first ≡ with_base frame (Some b) → marked ≡ first → end ≡ with_base marked None → after ≡ record known { entries = None; order = None }
     → IfOk done (λ o. Answers first.limit start c o made) → OnOk done (KnowsVariables made vars') → OnErr done (KnowsVariables start vars')
     → OnOk done (now ≡ made) → OnErr done (marked.base ≡ Some now) → IsOpen now end after vars'
 ends_on_variables b start made now frame first marked end known after vars vars' c other done was begins is stays ends forgot answers knows stay kept undone =
     subst (λ (k : Known). IsOpen now end k vars') (sym forgot)
-    (ends_known b start made now frame first marked end known (record known { entries = None }) vars vars' c done was begins is stays ends answers
+    (ends_known b start made now frame first marked end known (record known { entries = None; order = None }) vars vars' c done was begins is stays ends answers
     (attributes_after first.limit b start made c known other was.good was.knows begins done answers)
-    (on_err done (subst (λ (x : List ℕ). Knows x (record known { entries = None })) (sym begins) (forgotten b known was.knows))) knows stay kept undone)
+    (on_err done (subst (λ (x : List ℕ). Knows x (record known { entries = None; order = None })) (sym begins) (forgotten b known was.knows))) knows stay kept undone)
 
 -- the nodes that are kept, which stay where all was taken back
 ends_starting : (start made now : List ℕ) (after : Starts) (done : Result Outcome AreaError) → OnOk done (KnowsStarts made after) → OnErr done (KnowsStarts start after) → OnOk done (now ≡ made) → OnErr done (now ≡ start) → KnowsStarts now after
@@ -169,7 +169,7 @@ ends_starting start made now after (Err error) knows stay kept back = subst (λ 
 
 -- of a command on variables that leaves their names and places as they are
 pub ends_on_records : {U : Type 0} (b start made now : List ℕ) (frame first marked end : Frame U) (known after : Known) (vars : KnownVariables) (starts : Starts) (c : Command) → is_on_attributes c ≡ false → (done : Result Outcome AreaError)
-    → IsOpen b frame known vars → start ≡ b → first ≡ with_base frame (Some b) → marked ≡ first → end ≡ with_base marked None → after ≡ record known { entries = None }
+    → IsOpen b frame known vars → start ≡ b → first ≡ with_base frame (Some b) → marked ≡ first → end ≡ with_base marked None → after ≡ record known { entries = None; order = None }
     → IfOk done (λ o. Answers first.limit start c o made) → OnOk done (KnowsVariables made vars) → OnOk done (KnowsStarts made starts) → OnErr done (KnowsStarts start starts)
     → OnOk done (now ≡ made) → OnErr done (marked.base ≡ Some now) → IsOpen now end after vars × KnowsStarts now starts
 ends_on_records b start made now frame first marked end known after vars starts c other done was begins is stays ends forgot answers knows knows_starts starts_stay kept undone = (
@@ -180,7 +180,7 @@ ends_on_records b start made now frame first marked end known after vars starts 
 
 -- of a command on neither, after which they are forgotten too
 pub ends_on_neither : {U : Type 0} (b start made now : List ℕ) (frame first marked end : Frame U) (known after : Known) (vars : KnownVariables) (c : Command) → is_on_attributes c ≡ false → is_on_variables c ≡ false → (done : Result Outcome AreaError)
-    → IsOpen b frame known vars → start ≡ b → first ≡ with_base frame (Some b) → marked ≡ first → end ≡ with_base marked None → after ≡ record known { entries = None }
+    → IsOpen b frame known vars → start ≡ b → first ≡ with_base frame (Some b) → marked ≡ first → end ≡ with_base marked None → after ≡ record known { entries = None; order = None }
     → IfOk done (λ o. Answers first.limit start c o made) → OnOk done (now ≡ made) → OnErr done (marked.base ≡ Some now) → IsOpen now end after vars
 ends_on_neither b start made now frame first marked end known after vars c not_attributes not_variables done was begins is stays ends forgot answers kept undone =
     ends_on_variables b start made now frame first marked end known after vars vars c not_attributes done was begins is stays ends forgot answers

@@ -1,4 +1,4 @@
--- Which commands there are by now (own).
+-- Which commands there are by now, and which of them come to an outcome (own).
 use Rattle.std.specs.Prelude.{Bool, true, false}
 use Rattle.cdf_model.specs.declared.command.Command.{Command}
 use Rattle.cdf_model.specs.declared.command.Command.TheVariants as commands
@@ -26,4 +26,12 @@ built (commands.PutRec var rec words) = true
 built (commands.GetRec var rec) = true
 built (commands.PutVal var rec index words) = true
 built (commands.GetVal var rec index) = true
+built commands.Dump = true
+built (commands.Report tap) = true
 built c = false
+
+-- those that come to an outcome: a dump and a report write the events, or what taps say of them
+abbrev pub is_applied : Command → Bool
+is_applied commands.Dump = false
+is_applied (commands.Report tap) = false
+is_applied c = true

@@ -1,5 +1,6 @@
 pub mod Heads
 pub mod Built
+pub mod Walking
 pub mod Seals
 pub mod Loading
 pub mod Sessions

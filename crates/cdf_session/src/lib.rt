@@ -4,14 +4,18 @@
 mod adopting;
 mod checksum;
 mod deleting;
+mod kept;
 mod loading;
 mod new_file;
 mod on_attributes;
 mod on_records;
 mod on_variables;
+mod parts;
 mod reading;
 mod refusal;
 mod session;
+mod setting_up;
+mod walking;
 
 pub use checksum::read_seal;
 pub use new_file::NEW_SIZE;

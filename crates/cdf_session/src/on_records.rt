@@ -17,7 +17,7 @@ impl<A: Area> Session<A> {
         ensures refused { IfOk result (λ o. IsTrue (is_refused o) → A.edited self.new ≡ A.edited self.old) }
         ensures area { Edits A.frame A.faults self.old self.new result }
     {
-        self.starts.forget();
+        self.kept.forget();
         self.area.mark();
         let done = self.vars.reindex(&mut self.area, var);
         self.attrs.forget_entries();
@@ -36,10 +36,11 @@ impl<A: Area> Session<A> {
         ensures refused { IfOk result (λ o. IsTrue (is_refused o) → A.edited self.new ≡ A.edited self.old) }
         ensures area { Edits A.frame A.faults self.old self.new result }
     {
+        self.kept.forget_view();
         self.area.mark();
         let done = self
             .vars
-            .put_rec(&mut self.area, &mut self.starts, var, rec, words);
+            .put_rec(&mut self.area, &mut self.kept.starts, var, rec, words);
         self.attrs.forget_entries();
         settle(&mut self.area, done)
     }
@@ -50,7 +51,7 @@ impl<A: Area> Session<A> {
         ensures area { Reads A.image A.frame A.faults A.edited self.old self.new result }
     {
         self.vars
-            .get_rec(&mut self.area, &mut self.starts, var, rec)
+            .get_rec(&mut self.area, &mut self.kept.starts, var, rec)
     }
 
     /// The command `put-val`.
@@ -66,10 +67,16 @@ impl<A: Area> Session<A> {
         ensures refused { IfOk result (λ o. IsTrue (is_refused o) → A.edited self.new ≡ A.edited self.old) }
         ensures area { Edits A.frame A.faults self.old self.new result }
     {
+        self.kept.forget_view();
         self.area.mark();
-        let done = self
-            .vars
-            .put_val(&mut self.area, &mut self.starts, var, rec, index, words);
+        let done = self.vars.put_val(
+            &mut self.area,
+            &mut self.kept.starts,
+            var,
+            rec,
+            index,
+            words,
+        );
         self.attrs.forget_entries();
         settle(&mut self.area, done)
     }
@@ -85,6 +92,6 @@ impl<A: Area> Session<A> {
         ensures area { Reads A.image A.frame A.faults A.edited self.old self.new result }
     {
         self.vars
-            .get_val(&mut self.area, &mut self.starts, var, rec, index)
+            .get_val(&mut self.area, &mut self.kept.starts, var, rec, index)
     }
 }

@@ -1,4 +1,4 @@
-//! The commands on variables as such, and `setup`, as a session carries them out.
+//! The commands on variables as such, as a session carries them out.
 
 ghost use Rattle.std.specs.Prelude.{◌≡◌, length, IfOk, OnErr, IsTrue};
 ghost use Rattle.cdf_area.specs.Calls.{Edits};
@@ -9,29 +9,9 @@ ghost use Rattle.cdf_model.specs.Turns.{is_refused};
 use crate::deleting::delete_variable;
 use crate::session::{Session, settle};
 use cdf_area::{Area, AreaError};
-use cdf_model::{Command, DataType, Majority, Nums, Outcome, Varys, Words};
-use cdf_vars::set_up;
+use cdf_model::{Command, DataType, Nums, Outcome, Varys, Words};
 
 impl<A: Area> Session<A> {
-    /// The command `setup`.
-    pub(crate) fn setup(
-        &mut self,
-        encoding: u32,
-        majority: Majority,
-        dims: &Nums,
-    ) -> Result<Outcome, AreaError>
-        ensures answers { IfOk result (λ o. Answers (A.frame self.old).limit (A.image self.old) (Command.Setup encoding majority dims.now) o (A.image self.new)) }
-        ensures stays { OnErr result (A.image self.new ≡ A.image self.old) }
-        ensures refused { IfOk result (λ o. IsTrue (is_refused o) → A.edited self.new ≡ A.edited self.old) }
-        ensures area { Edits A.frame A.faults self.old self.new result }
-    {
-        self.starts.forget();
-        self.area.mark();
-        let done = set_up(self.alloc, &mut self.area, encoding, majority, dims);
-        self.attrs.forget_entries();
-        settle(&mut self.area, done)
-    }
-
     /// The command `rvar`.
     pub(crate) fn rvar(
         &mut self,
@@ -46,7 +26,7 @@ impl<A: Area> Session<A> {
         ensures refused { IfOk result (λ o. IsTrue (is_refused o) → A.edited self.new ≡ A.edited self.old) }
         ensures area { Edits A.frame A.faults self.old self.new result }
     {
-        self.starts.forget();
+        self.kept.forget();
         self.area.mark();
         let done = self
             .vars
@@ -70,7 +50,7 @@ impl<A: Area> Session<A> {
         ensures refused { IfOk result (λ o. IsTrue (is_refused o) → A.edited self.new ≡ A.edited self.old) }
         ensures area { Edits A.frame A.faults self.old self.new result }
     {
-        self.starts.forget();
+        self.kept.forget();
         self.area.mark();
         let done = self
             .vars
@@ -86,7 +66,7 @@ impl<A: Area> Session<A> {
         ensures refused { IfOk result (λ o. IsTrue (is_refused o) → A.edited self.new ≡ A.edited self.old) }
         ensures area { Edits A.frame A.faults self.old self.new result }
     {
-        self.starts.forget();
+        self.kept.forget();
         self.area.mark();
         let done = self.vars.rename(&mut self.area, from, to);
         self.attrs.forget_entries();
@@ -100,7 +80,7 @@ impl<A: Area> Session<A> {
         ensures refused { IfOk result (λ o. IsTrue (is_refused o) → A.edited self.new ≡ A.edited self.old) }
         ensures area { Edits A.frame A.faults self.old self.new result }
     {
-        self.starts.forget();
+        self.kept.forget();
         self.area.mark();
         let done = delete_variable(&mut self.area, &mut self.attrs, &mut self.vars, name);
         settle(&mut self.area, done)
@@ -115,7 +95,7 @@ impl<A: Area> Session<A> {
         ensures refused { IfOk result (λ o. IsTrue (is_refused o) → A.edited self.new ≡ A.edited self.old) }
         ensures area { Edits A.frame A.faults self.old self.new result }
     {
-        self.starts.forget();
+        self.kept.forget();
         self.area.mark();
         let done = self.vars.set_pad(&mut self.area, var, words);
         self.attrs.forget_entries();
@@ -129,7 +109,7 @@ impl<A: Area> Session<A> {
         ensures refused { IfOk result (λ o. IsTrue (is_refused o) → A.edited self.new ≡ A.edited self.old) }
         ensures area { Edits A.frame A.faults self.old self.new result }
     {
-        self.starts.forget();
+        self.kept.forget();
         self.area.mark();
         let done = self.vars.set_blocking(&mut self.area, var, n);
         self.attrs.forget_entries();

@@ -15,13 +15,14 @@ ghost use Rattle.cdf_model.specs.Turns.{is_refused};
 ghost use Rattle.cdf_model.specs.declared.answer.LineError.TheVariants.{UnknownWord};
 ghost use Rattle.cdf_model.specs.declared.answer.Outcome.TheVariants.{Refused};
 ghost use Rattle.cdf_model.specs.declared.answer.Reason.TheVariants.{BadLine};
-ghost use Rattle.cdf_puts.specs.Starts.{KnowsStarts};
-ghost use Rattle.cdf_session.specs.Built.{built};
+ghost use Rattle.cdf_session.specs.Built.{built, is_applied};
+ghost use Rattle.cdf_session.specs.Loading.{IsKept};
 ghost use Rattle.cdf_session.specs.Seals.{seal_of};
 ghost use Rattle.cdf_session.specs.Sessions.{Adopts, AnswersBuilt, Begins, IsOpen, IsNoVerdict, Rejects};
 
 use crate::adopting::take_up;
 use crate::checksum::{read_seal, set_checksum};
+use crate::kept::Kept;
 use crate::new_file::write_new;
 use crate::reading::read_head;
 use crate::refusal::{AdoptError, Refusal};
@@ -29,7 +30,6 @@ use cdf_area::{Area, AreaError};
 use cdf_attrs::Attrs;
 use cdf_check::check;
 use cdf_model::{Command, Items, LineError, Outcome, Reason, Reply, Space};
-use cdf_puts::Starts;
 use cdf_space::space_of;
 use cdf_vars::Vars;
 use std::alloc::Global;
@@ -42,7 +42,7 @@ pub struct Session<A: Area> {
     pub(crate) area: A,
     pub(crate) attrs: Attrs,
     pub(crate) vars: Vars,
-    pub(crate) starts: Starts,
+    pub(crate) kept: Kept,
 }
 
 impl<A: Area> Model for Session<A> {
@@ -50,7 +50,7 @@ impl<A: Area> Model for Session<A> {
 
     ghost view = { λ session. session.area };
 
-    ghost invariant = { λ session. IsOpen (A.image session.area) (A.frame session.area) session.attrs session.vars × KnowsStarts (A.image session.area) session.starts };
+    ghost invariant = { λ session. IsOpen (A.image session.area) (A.frame session.area) session.attrs session.vars × IsKept (A.image session.area) session.kept };
 }
 
 /// Ends what began at the mark: a command that was carried out is kept, and after an error all is taken back.
@@ -125,7 +125,7 @@ impl<A: Area> Session<A> {
                 area,
                 attrs: loaded.attrs,
                 vars: loaded.vars,
-                starts: Starts::new(alloc),
+                kept: Kept::new(alloc),
             }),
             Err(error) => Err(Refusal {
                 area,
@@ -154,7 +154,7 @@ impl<A: Area> Session<A> {
                     area,
                     attrs: loaded.attrs,
                     vars: loaded.vars,
-                    starts: Starts::new(alloc),
+                    kept: Kept::new(alloc),
                 })
             }
             Err(error) => {
@@ -167,11 +167,12 @@ impl<A: Area> Session<A> {
         }
     }
 
-    /// Carries out a command. One that there is not yet is a word that is not known. After a refusal and after an error the image is as before,
-    /// and a command that is refused is no edit.
+    /// Carries out a command that comes to an outcome. One that there is not yet is a word that is not known. After a refusal and after an
+    /// error the image is as before, and a command that is refused is no edit.
     #[rattlefmt::skip]
     pub fn apply(&mut self, command: &Command) -> Result<Outcome, AreaError>
-        requires { Sayable command.now }
+        requires sayable { Sayable command.now }
+        requires applied { is_applied command.now ≡ true }
         ensures answers { IfOk result (λ o. AnswersBuilt (built command.now) (A.frame self.old).limit (A.image self.old) command.now o (A.image self.new)) }
         ensures stays { OnErr result (A.image self.new ≡ A.image self.old) }
         ensures unedited { only_reads command.now ≡ true → A.edited self.new ≡ A.edited self.old }
@@ -244,7 +245,7 @@ impl<A: Area> Session<A> {
         ensures refused { IfOk result (λ o. IsTrue (is_refused o) → A.edited self.new ≡ A.edited self.old) }
         ensures area { Edits A.frame A.faults self.old self.new result }
     {
-        self.starts.forget();
+        self.kept.forget();
         set_checksum(&mut self.area, md5)?;
         self.attrs.forget_entries();
         Ok(Outcome::Done {

@@ -1,6 +1,5 @@
 use Rattle.cdf_session.proofs.Common.{Attr, refl}
 use Rattle.cdf_session.proofs.OpenLemmas.{good_stays, ends_open}
-use Rattle.cdf_puts.proofs.KnownStarts.{none_known}
 use Rattle.cdf_session.proofs.session.Session.attr.Goals as goal
 
 pub create-done-requires-clause-good : goal.create-done-requires-clause-good
@@ -13,5 +12,5 @@ invariant_of-self g c = (
       c.self.inside.attrs c.create-done.new.self c.self.inside.vars (Attr c.args.name.now c.args.scope) refl c.create-done.result
       c.self.invariant.0 c.mark.ensures.image c.mark.ensures.frame c.create-done.ensures.area.frame c.settle.ensures.frame
       c.create-done.ensures.answers c.create-done.ensures.known c.create-done.ensures.stays c.settle.ensures.kept c.settle.ensures.undone,
-  none_known _ _ c.forget.ensures,
+  c.forget.ensures _,
 )

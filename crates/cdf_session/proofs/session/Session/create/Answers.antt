@@ -2,7 +2,6 @@ use Rattle.cdf_session.proofs.Common.{Frame, Some, ap, sym, ◌∙◌, ◌≡◌
 use Rattle.cdf_session.proofs.NewFileLemmas.{new_open}
 use Rattle.cdf_session.proofs.OpenLemmas.{frame_back}
 use Rattle.cdf_session.proofs.Explained.{explained}
-use Rattle.cdf_puts.proofs.KnownStarts.{none_known}
 use Rattle.cdf_session.proofs.session.Session.create.Goals as goal
 
 pub invariant_of-result : goal.invariant_of-result
@@ -11,7 +10,7 @@ invariant_of-result g c = (
       (g.A.Area.frame c.args.area) (g.A.Area.frame c.mark.new.self) (g.A.Area.frame c.write_new.new.area) (g.A.Area.frame c.keep.new.self) c.in-Ok.loaded.attrs c.in-Ok.loaded.vars
       c.requires.unmarked c.requires.room c.requires.limit c.mark.ensures.frame c.write_new.ensures.area.frame c.keep.ensures.frame
       c.in-Ok.ensures.image c.keep.ensures.image c.in-Ok.ensures.known.attributes c.in-Ok.ensures.known.variables,
-  none_known _ _ c.new.ensures,
+  c.new.ensures _,
 )
 
 pub returns-in-Err-clause-area : goal.returns-in-Err-clause-area

@@ -1,6 +1,5 @@
 use Rattle.cdf_session.proofs.Common.{DelAttr, refl}
 use Rattle.cdf_session.proofs.OpenLemmas.{good_stays, ends_open}
-use Rattle.cdf_puts.proofs.KnownStarts.{none_known}
 use Rattle.cdf_session.proofs.session.Session.del_attr.Goals as goal
 
 pub remove-done-requires-clause-good : goal.remove-done-requires-clause-good
@@ -13,5 +12,5 @@ invariant_of-self g c = (
       c.self.inside.attrs c.remove-done.new.self c.self.inside.vars (DelAttr c.args.name.now) refl c.remove-done.result
       c.self.invariant.0 c.mark.ensures.image c.mark.ensures.frame c.remove-done.ensures.area.frame c.settle.ensures.frame
       c.remove-done.ensures.answers c.remove-done.ensures.known c.remove-done.ensures.stays c.settle.ensures.kept c.settle.ensures.undone,
-  none_known _ _ c.forget.ensures,
+  c.forget.ensures _,
 )

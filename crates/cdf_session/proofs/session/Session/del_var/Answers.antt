@@ -1,6 +1,5 @@
 use Rattle.cdf_session.proofs.Common.{DelVar}
 use Rattle.cdf_session.proofs.OpenLemmas.{good_stays, ends_known}
-use Rattle.cdf_puts.proofs.KnownStarts.{none_known}
 use Rattle.cdf_session.proofs.session.Session.del_var.Goals as goal
 
 pub delete_variable-done-requires-clause-good : goal.delete_variable-done-requires-clause-good
@@ -14,5 +13,5 @@ invariant_of-self g c = (
       c.self.invariant.0 c.mark.ensures.image c.mark.ensures.frame c.delete_variable-done.ensures.area.frame c.settle.ensures.frame c.delete_variable-done.ensures.answers
       c.delete_variable-done.ensures.attributes c.delete_variable-done.ensures.attributes_stay c.delete_variable-done.ensures.variables c.delete_variable-done.ensures.variables_stay
       c.settle.ensures.kept c.settle.ensures.undone,
-  none_known _ _ c.forget.ensures,
+  c.forget.ensures _,
 )

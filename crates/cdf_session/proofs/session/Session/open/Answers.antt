@@ -1,13 +1,12 @@
 use Rattle.cdf_session.proofs.AdoptLemmas.{adopted, adopted_open}
 use Rattle.cdf_session.proofs.Explained.{explained}
-use Rattle.cdf_puts.proofs.KnownStarts.{none_known}
 use Rattle.cdf_session.proofs.session.Session.open.Goals as goal
 
 pub invariant_of-result : goal.invariant_of-result
 invariant_of-result g c = (
   adopted_open (g.A.Area.image c.args.area) (g.A.Area.image c.take_up.new.area) (g.A.Area.frame c.args.area) (g.A.Area.frame c.take_up.new.area) c.in-Ok.loaded.attrs c.in-Ok.loaded.vars
       c.requires.well_formed c.in-Ok.ensures.image c.take_up.ensures.area.frame c.requires.limit c.requires.unmarked c.in-Ok.ensures.known.attributes c.in-Ok.ensures.known.variables,
-  none_known _ _ c.new.ensures,
+  c.new.ensures _,
 )
 
 pub returns-in-Ok-clause-adopted : goal.returns-in-Ok-clause-adopted

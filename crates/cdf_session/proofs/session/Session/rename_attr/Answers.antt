@@ -1,6 +1,5 @@
 use Rattle.cdf_session.proofs.Common.{RenameAttr, refl}
 use Rattle.cdf_session.proofs.OpenLemmas.{good_stays, ends_open}
-use Rattle.cdf_puts.proofs.KnownStarts.{none_known}
 use Rattle.cdf_session.proofs.session.Session.rename_attr.Goals as goal
 
 pub rename-done-requires-clause-good : goal.rename-done-requires-clause-good
@@ -13,5 +12,5 @@ invariant_of-self g c = (
       c.self.inside.attrs c.rename-done.new.self c.self.inside.vars (RenameAttr c.args.from.now c.args.to.now) refl c.rename-done.result
       c.self.invariant.0 c.mark.ensures.image c.mark.ensures.frame c.rename-done.ensures.area.frame c.settle.ensures.frame
       c.rename-done.ensures.answers c.rename-done.ensures.known c.rename-done.ensures.stays c.settle.ensures.kept c.settle.ensures.undone,
-  none_known _ _ c.forget.ensures,
+  c.forget.ensures _,
 )

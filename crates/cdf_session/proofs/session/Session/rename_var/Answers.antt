@@ -1,6 +1,5 @@
 use Rattle.cdf_session.proofs.Common.{RenameVar, refl}
 use Rattle.cdf_session.proofs.OpenLemmas.{good_stays, ends_on_variables}
-use Rattle.cdf_puts.proofs.KnownStarts.{none_known}
 use Rattle.cdf_session.proofs.session.Session.rename_var.Goals as goal
 
 pub rename-done-requires-clause-good : goal.rename-done-requires-clause-good
@@ -10,5 +9,5 @@ pub invariant_of-self : goal.invariant_of-self
 invariant_of-self g c = (
   ends_on_variables _ _ _ _ _ _ _ _ _ _ _ _ (RenameVar c.args.from.now c.args.to.now) refl _
       c.self.invariant.0 c.mark.ensures.image c.mark.ensures.frame c.rename-done.ensures.area.frame c.settle.ensures.frame c.forget_entries.ensures c.rename-done.ensures.answers c.rename-done.ensures.known c.rename-done.ensures.stays c.settle.ensures.kept c.settle.ensures.undone,
-  none_known _ _ c.forget.ensures,
+  c.forget.ensures _,
 )

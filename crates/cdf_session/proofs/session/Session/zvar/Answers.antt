@@ -1,6 +1,5 @@
 use Rattle.cdf_session.proofs.Common.{ZVar, refl}
 use Rattle.cdf_session.proofs.OpenLemmas.{good_stays, ends_on_variables}
-use Rattle.cdf_puts.proofs.KnownStarts.{none_known}
 use Rattle.cdf_session.proofs.session.Session.zvar.Goals as goal
 
 pub create_z-done-requires-clause-good : goal.create_z-done-requires-clause-good
@@ -10,5 +9,5 @@ pub invariant_of-self : goal.invariant_of-self
 invariant_of-self g c = (
   ends_on_variables _ _ _ _ _ _ _ _ _ _ _ _ (ZVar c.args.name.now c.args.t c.args.elems c.args.vary c.args.dims.now c.args.varys.now) refl _
       c.self.invariant.0 c.mark.ensures.image c.mark.ensures.frame c.create_z-done.ensures.area.frame c.settle.ensures.frame c.forget_entries.ensures c.create_z-done.ensures.answers c.create_z-done.ensures.known c.create_z-done.ensures.stays c.settle.ensures.kept c.settle.ensures.undone,
-  none_known _ _ c.forget.ensures,
+  c.forget.ensures _,
 )

@@ -1,0 +1,5 @@
+use Rattle.cdf_puts.proofs.KnownStarts.{none_known}
+use Rattle.cdf_session.proofs.kept.Kept.forget.Goals as goal
+
+pub returns : goal.returns
+returns c b = record { starts = none_known b _ c.forget.ensures; view = c.forget-2.ensures b }
