@@ -8,9 +8,11 @@ ghost use Rattle.std.specs.Process.{exit_status};
 ghost use Rattle.cdf_tool.specs.Statuses.{number_of};
 
 use cdf_store::{FileStore, StdSink, StdSource};
+use cdf_tap::{NeedsVarType, Tally, Tap};
 use cdf_tellings::{FileNews, Said, Telling, WordsFault, look};
 use cdf_tool::{Ended, Status, run};
 use standard::hold_standard;
+use std::alloc::AllocError;
 use std::env::Env;
 use std::io::ErrorKind;
 use std::os::fd::AsRawFd;
@@ -61,7 +63,7 @@ where
 
 /// Runs what these words ask for, tells what there is to tell, and answers how the run ended. Where a word is not UTF-8 there are no
 /// words.
-fn run_words<R>(rt: &R, words: &[String], is_text: bool) -> Status
+fn run_words<R>(rt: &R, words: &[String], is_text: bool, taps: &mut Vec<Box<dyn Tap>>) -> Status
 where
     R: Files + Env + Input + Print + Eprint + AllocGlobal,
     R::File: AsRawFd,
@@ -69,7 +71,7 @@ where
     let store = FileStore::new(rt, rt.alloc());
     let mut script = StdSource::new(rt.reader());
     let mut out = StdSink::new(io::writer(rt));
-    let mut ended = run(rt.alloc(), words, store, &mut script, &mut out);
+    let mut ended = run(rt.alloc(), words, store, &mut script, &mut out, taps);
     let said = if is_text {
         Said::of_words(rt.alloc(), words)
     } else {
@@ -88,22 +90,37 @@ where
     ended.status
 }
 
+/// Runs what these words ask for, with the taps that the program comes with, which a report may name.
+fn run_with_taps<R>(rt: &R, words: &[String], is_text: bool) -> Result<Status, AllocError>
+where
+    R: Files + Env + Input + Print + Eprint + AllocGlobal,
+    R::File: AsRawFd,
+{
+    let alloc = rt.alloc();
+    let mut taps: Vec<Box<dyn Tap>> = Vec::new(alloc);
+    taps.push(Box::new(alloc, Tally::new(alloc)?)?)?;
+    taps.push(Box::new(alloc, NeedsVarType::new(alloc)?)?)?;
+    Ok(run_words(rt, words, is_text, &mut taps))
+}
+
 /// Reads the words of the command line, and runs what they ask for. Words that are not UTF-8 name no file; where there is no memory to
-/// read the words, the status is that of a run without memory.
+/// read the words or to make the taps, the status is that of a run without memory.
 fn run_program<R>(rt: &R) -> Status
 where
     R: Files + Env + Input + Print + Eprint + AllocGlobal,
     R::File: AsRawFd,
 {
-    match words_of(rt) {
-        Ok(words) => run_words(rt, &words, true),
-        Err(error) if error.kind() == ErrorKind::InvalidData => run_words(rt, &[], false),
-        Err(_) => {
-            let telling = Telling::unread();
-            tell(rt, telling);
-            telling.status
-        }
+    let ran = match words_of(rt) {
+        Ok(words) => run_with_taps(rt, &words, true),
+        Err(error) if error.kind() == ErrorKind::InvalidData => run_with_taps(rt, &[], false),
+        Err(_) => Err(AllocError),
+    };
+    if let Ok(status) = ran {
+        return status;
     }
+    let telling = Telling::unread();
+    tell(rt, telling);
+    telling.status
 }
 
 /// Runs the program to its end, and answers its exit status. Standard streams that are closed stay so: no file gets their descriptors.

@@ -35,10 +35,8 @@ pub enum WordsFault<'a> {
 static FLAGS: [&str; 4] = ["--new", "--check", "--no-save", "--space"];
 
 /// What is planned, as flags: an option, and commands of a script that are not there yet.
-static PLANNED: [&str; 7] = [
+static PLANNED: [&str; 5] = [
     "--make",
-    "--dump",
-    "--report",
     "--tap",
     "--del-recs",
     "--set-sparse",

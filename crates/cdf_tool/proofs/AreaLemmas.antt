@@ -1,5 +1,5 @@
 -- How a run over an area ends.
-use Rattle.cdf_tool.proofs.Common.{AdoptError, AreaError, Bool, Broken, Disk, EndsOver, EndsUnread, Err, IfOk, List, Ok, Option, Refusals, Refuses, Rejects, Result, SaysRejected, Status, WellFormed, ap, false, file_of, inl, inr, refl, rejected_text, rejection, status_of_area, subst, sym, true, ℕ, ◌∙◌, ◌≡◌}
+use Rattle.cdf_tool.proofs.Common.{AdoptError, AreaError, Bool, Broken, Disk, EndsOver, EndsUnread, Err, IfOk, List, Ok, Option, Outlets, Refusals, Refuses, Rejects, Result, SaysRejected, Status, WellFormed, ap, false, file_of, inl, inr, refl, rejected_text, rejection, status_of_area, subst, sym, true, ℕ, ◌∙◌, ◌≡◌}
 use Rattle.cdf_area.specs.declared.area.AreaError.TheVariants as areas
 use Rattle.cdf_session.specs.declared.refusal.AdoptError.TheVariants as errors
 use Rattle.cdf_tool.specs.declared.status.Status.TheVariants as statuses
@@ -49,10 +49,10 @@ unread_new file other first now statuses.StoreWriteFault ends = ends
 unread_new file other first now statuses.ScriptFault ends = ends
 unread_new file other first now statuses.ScriptTooLong ends = ends
 
-module _ (space : Bool) (before left first now : Option (List ℕ)) (end : List ℕ) where
+module _ (space : Bool) (before left : Option (List ℕ)) (first now : Outlets) (end : List ℕ) where
   over_new : (file other : List ℕ) (outcome : Result Refusals Status) → EndsOver true space file before left first now end outcome → EndsOver true space other before left first now end outcome
   over_new file other (Ok refusals) f = record { image = f.image; opens = f.opens; finishes = f.finishes }
-  over_new file other (Err status) (inl (same, ends)) = inl (same, unread_new file other first now status ends)
+  over_new file other (Err status) (inl (none, same, ends)) = inl (none, same, unread_new file other first.written now.written status ends)
   over_new file other (Err status) (inr h) = inr (record { image = h.image; opens = h.opens; halts = h.halts })
 
   -- what the area held is the file, or does not count
@@ -61,13 +61,13 @@ module _ (space : Bool) (before left first now : Option (List ℕ)) (end : List 
   over_file false held file outcome same ends = subst (λ (f : List ℕ). EndsOver false space f before left first now end outcome) (same refl) ends
 
 -- the file that is opened, and not made, is well formed
-opened_holds : (new space : Bool) (file : List ℕ) (before left first now : Option (List ℕ)) (end : List ℕ) (outcome : Result Refusals Status) → new ≡ false → EndsOver new space file before left first now end outcome → IfOk outcome (λ _. WellFormed file)
+opened_holds : (new space : Bool) (file : List ℕ) (before left : Option (List ℕ)) (first now : Outlets) (end : List ℕ) (outcome : Result Refusals Status) → new ≡ false → EndsOver new space file before left first now end outcome → IfOk outcome (λ _. WellFormed file)
 opened_holds true space file before left first now end outcome is ends = absurd (cc is)
 opened_holds false space file before left first now end (Ok refusals) is f = f.opens.0
 opened_holds false space file before left first now end (Err status) is ends = tt
 
 -- and so is the one that is still attached once the script is answered
-pub attached_holds : {U : Type 0} (new space : Bool) (held : List ℕ) (d at : Disk U) (before left first now : Option (List ℕ)) (end : List ℕ) (outcome : Result Refusals Status) → (new ≡ false → held ≡ file_of d) → at ≡ d → EndsOver new space held before left first now end outcome
+pub attached_holds : {U : Type 0} (new space : Bool) (held : List ℕ) (d at : Disk U) (before left : Option (List ℕ)) (first now : Outlets) (end : List ℕ) (outcome : Result Refusals Status) → (new ≡ false → held ≡ file_of d) → at ≡ d → EndsOver new space held before left first now end outcome
     → new ≡ false → IfOk outcome (λ _. WellFormed (file_of at))
 attached_holds new space held d at before left first now end outcome same is over old =
     subst (λ (f : List ℕ). IfOk outcome (λ _. WellFormed f)) (same old ∙ sym (ap (λ (x : Disk _). file_of x) is)) (opened_holds new space held before left first now end outcome old over)

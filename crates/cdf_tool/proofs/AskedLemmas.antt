@@ -1,16 +1,16 @@
 -- What follows of a run by whether a check was asked for.
-use Rattle.cdf_tool.proofs.Common.{Accepts, Asked, Attached, Bool, Disk, EndsAsked, EndsChecked, EndsNamed, EndsWithout, FilesStay, IfSome, IsUnsaved, List, Looked, None, Option, Some, Status, Untouched, ap, false, inl, inr, lookup, not, option_map, sym, true, ℕ, ◌&&◌, ◌||◌, ◌∙◌, ◌≡◌}
+use Rattle.cdf_tool.proofs.Common.{Accepts, Asked, Attached, Bool, Disk, EndsAsked, EndsChecked, EndsNamed, EndsWithout, FilesStay, IfSome, IsUnsaved, Kept, List, Looked, None, Option, Outlets, Runs, Some, Status, StoredBy, Untouched, ap, false, inl, inr, lookup, not, option_map, sym, true, ℕ, ◌&&◌, ◌||◌, ◌∙◌, ◌≡◌}
 use Rattle.cdf_tool.specs.declared.status.Status.TheVariants as statuses
 use Rattle.cdf_tool.proofs.RunStore.{found_lookup_in, kept_attached}
 
-module _ {U : Type 0} (a : Asked) (d d' : Disk U) (before left first now : Option (List ℕ)) (status : Status) where
+module _ {U : Type 0} (a : Asked) (d d' : Disk U) (before left : Option (List ℕ)) (first now : Outlets) (status : Status) where
   pub run_ends : (check : Bool) → check ≡ false → EndsNamed a d d' before left first now status → EndsAsked check a d d' before left first now status
   run_ends true is ends = absurd (cc is)
   run_ends false is ends = ends
 
-  pub check_ends : (check : Bool) → check ≡ true → EndsChecked a d d' before left first now status → EndsAsked check a d d' before left first now status
-  check_ends true is ends = ends
-  check_ends false is ends = absurd (cc is)
+  pub check_ends : (check : Bool) → check ≡ true → now.taps ≡ first.taps → EndsChecked a d d' before left first.written now.written status → EndsAsked check a d d' before left first now status
+  check_ends true is same ends = (same, ends)
+  check_ends false is same ends = absurd (cc is)
 
 -- a run that checks nothing saves nothing only where that is asked for
 pub unsaved_run : (check no_save : Bool) (status : Status) → check ≡ false → IsUnsaved (check || no_save) status → IsUnsaved no_save status
@@ -23,10 +23,9 @@ if_some (Some a) P all = all a
 
 -- ---- a check
 
-pub accepts_checked : {U : Type 0} (a : Asked) (d d' : Disk U) (before left first now : Option (List ℕ)) (status : Status) → a.check ≡ true → Accepts (Some a) d d' before left first now status
+pub accepts_checked : {U : Type 0} (a : Asked) (d d' : Disk U) (before left : Option (List ℕ)) (first now : Outlets) (status : Status) → a.check ≡ true → Accepts (Some a) d d' before left first now status
 accepts_checked a d d' None left first now status is = tt
-accepts_checked a d d' (Some script) left None now status is = tt
-accepts_checked a d d' (Some script) left (Some written) now status is = λ unchecked. absurd (cc (is, unchecked))
+accepts_checked a d d' (Some script) left first now status is = if_some first.written _ (λ written unchecked. absurd (cc (is, unchecked)))
 
 -- the store is called for a file that is no new one
 pub old_called : (new no_save : Bool) → new ≡ false → not (new && no_save) ≡ false → ⊥
@@ -95,3 +94,42 @@ module _ {U : Type 0} (a : Asked) (d d' : Disk U) (before left first now : Optio
   }
   check_leaves (inr (inl u)) = of_attached u.file (kept_attached a u.file d d' a.new a.no_save old u.kept)
   check_leaves (inr (inr c)) = of_attached c.file c.attached
+
+-- ---- a run that saves nothing
+
+module _ {U : Type 0} (a : Asked) (d d' : Disk U) (before left : Option (List ℕ)) (first now : Outlets) (old : a.new ≡ false) where
+  kept_looked : (file : List ℕ) (status : Status) → Kept a file d d' → IfSome d.files (λ files. Looked d'.held (lookup a.name files) status)
+  kept_looked file status k =
+      let at = kept_attached a file d d' a.new a.no_save old k in
+      looked_in d.files a.name d'.held (Some file) status at.held (found_lookup_in a.new a.name file d.files old at.found)
+
+  done_kept : (no_save : Bool) (file end : List ℕ) → IsUnsaved no_save statuses.Done → StoredBy no_save a file end d d' → Kept a file d d'
+  done_kept true file end unsaved k = k
+  done_kept false file end unsaved k = absurd unsaved
+
+  refused_kept : (no_save : Bool) (file end : List ℕ) → IsUnsaved no_save statuses.SomeRefused → StoredBy no_save a file end d d' → Kept a file d d'
+  refused_kept true file end unsaved k = k
+  refused_kept false file end unsaved k = absurd unsaved
+
+  not_failed : (no_save : Bool) → IsUnsaved no_save statuses.StoreWriteFault → no_save ≡ false → ⊥
+  not_failed true unsaved is = cc
+  not_failed false unsaved is = unsaved
+
+  runs_looked : (file image : List ℕ) (status : Status) → IsUnsaved a.no_save status → Runs a file image d d' before left first now status → IfSome d.files (λ files. Looked d'.held (lookup a.name files) status)
+  runs_looked file image statuses.Done unsaved r = kept_looked file statuses.Done (done_kept a.no_save file r.end unsaved r.stored)
+  runs_looked file image statuses.SomeRefused unsaved r = kept_looked file statuses.SomeRefused (refused_kept a.no_save file r.end unsaved r.stored)
+  runs_looked file image statuses.StoreWriteFault unsaved r = absurd (not_failed a.no_save unsaved r.spoiled.saves)
+  runs_looked file image statuses.Usage unsaved (k, h) = kept_looked file statuses.Usage k
+  runs_looked file image statuses.NoFile unsaved (k, h) = kept_looked file statuses.NoFile k
+  runs_looked file image statuses.Rejected unsaved (k, h) = kept_looked file statuses.Rejected k
+  runs_looked file image statuses.StoreReadFault unsaved (k, h) = kept_looked file statuses.StoreReadFault k
+  runs_looked file image statuses.OutputFault unsaved (k, h) = kept_looked file statuses.OutputFault k
+  runs_looked file image statuses.NoMemory unsaved (k, h) = kept_looked file statuses.NoMemory k
+  runs_looked file image statuses.ScriptFault unsaved (k, h) = kept_looked file statuses.ScriptFault k
+  runs_looked file image statuses.ScriptTooLong unsaved (k, h) = kept_looked file statuses.ScriptTooLong k
+
+  -- the file that was read is the one under the name
+  pub named_looked : (status : Status) → IsUnsaved a.no_save status → EndsNamed a d d' before left first now status → IfSome d.files (λ files. Looked d'.held (lookup a.name files) status)
+  named_looked status unsaved (inl (same, w)) = not_looked status a d.files first.written now.written d'.held w.unattached.held w.ends
+  named_looked status unsaved (inr (inl (same, u))) = kept_looked u.file status u.kept
+  named_looked status unsaved (inr (inr r)) = runs_looked r.file r.image status unsaved r.runs

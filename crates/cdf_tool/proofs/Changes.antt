@@ -1,5 +1,5 @@
 -- What a run wrote of the file under the name.
-use Rattle.cdf_tool.proofs.Common.{Asked, Bool, Differs, Disk, EndsNamed, Good, IfSome, IsChanged, IsDone, IsRewritten, KeptBy, List, None, Option, Runs, Some, Status, StoredBy, Touches, ap, arith, false, file_in, found_or_made, image_of, inl, inr, length, length-append, lookup, refl, sealed, subst, sym, touches_none, touches_weaker, trailer, true, ℕ, ◌<◌, ◌∙◌, ◌≡◌, ◌≤◌}
+use Rattle.cdf_tool.proofs.Common.{Asked, Bool, Differs, Disk, EndsNamed, Good, IfSome, IsChanged, IsDone, IsRewritten, KeptBy, List, None, Option, Outlets, Runs, Some, Status, StoredBy, Touches, ap, arith, false, file_in, found_or_made, image_of, inl, inr, length, length-append, lookup, refl, sealed, subst, sym, touches_none, touches_weaker, trailer, true, ℕ, ◌<◌, ◌∙◌, ◌≡◌, ◌≤◌}
 use Rattle.std.proofs.Math.ListN.{get_or-append}
 use Rattle.std.proofs.Math.Seq.{take-append_seam}
 use Rattle.cdf_tool.specs.declared.status.Status.TheVariants as statuses
@@ -61,18 +61,18 @@ module _ {U : Type 0} (a : Asked) (d d' : Disk U) where
       subst (λ (l : List ℕ). Touches (IsChanged (file_in (lookup a.name fs)) l) d.touched d'.touched) same
       (subst (λ (l : List ℕ). Touches (IsChanged l (sealed end)) d.touched d'.touched) old over)
 
-  runs_changes : (file image : List ℕ) (before left first out : Option (List ℕ)) (fs : List (List ℕ × List ℕ)) (now : List ℕ) → d.files ≡ Some fs → d'.held ≡ Some now → (status : Status) → IsDone status → Runs a file image d d' before left first out status → Changes fs now
+  runs_changes : (file image : List ℕ) (before left : Option (List ℕ)) (first out : Outlets) (fs : List (List ℕ × List ℕ)) (now : List ℕ) → d.files ≡ Some fs → d'.held ≡ Some now → (status : Status) → IsDone status → Runs a file image d d' before left first out status → Changes fs now
   runs_changes file image before left first out fs now told held statuses.Done is r = stored_changes a.no_save file r.end fs now told held r.stored
   runs_changes file image before left first out fs now told held statuses.SomeRefused is r = stored_changes a.no_save file r.end fs now told held r.stored
   runs_changes file image before left first out fs now told held other is r = absurd is
 
-  named_changes : (before left first out : Option (List ℕ)) (status : Status) (fs : List (List ℕ × List ℕ)) (now : List ℕ) → d.files ≡ Some fs → d'.held ≡ Some now → EndsNamed a d d' before left first out status → IsDone status → Changes fs now
-  named_changes before left first out status fs now told held (inl w) is = absurd (without_not_done a d.files first out status w.ends is)
-  named_changes before left first out status fs now told held (inr (inl u)) is = absurd (unread_not_done a.new u.file first out status u.ends is)
+  named_changes : (before left : Option (List ℕ)) (first out : Outlets) (status : Status) (fs : List (List ℕ × List ℕ)) (now : List ℕ) → d.files ≡ Some fs → d'.held ≡ Some now → EndsNamed a d d' before left first out status → IsDone status → Changes fs now
+  named_changes before left first out status fs now told held (inl (same, w)) is = absurd (without_not_done a d.files first.written out.written status w.ends is)
+  named_changes before left first out status fs now told held (inr (inl (same, u))) is = absurd (unread_not_done a.new u.file first.written out.written status u.ends is)
   named_changes before left first out status fs now told held (inr (inr r)) is = runs_changes r.file r.image before left first out fs now told held status is r.runs
 
   -- a run of a script
-  pub run_changes : (before left first out : Option (List ℕ)) (status : Status) → EndsNamed a d d' before left first out status → IfSome d.files (λ fs. IfSome d'.held (λ now. IsDone status → Changes fs now))
+  pub run_changes : (before left : Option (List ℕ)) (first out : Outlets) (status : Status) → EndsNamed a d d' before left first out status → IfSome d.files (λ fs. IfSome d'.held (λ now. IsDone status → Changes fs now))
   run_changes before left first out status ends = in_files d.files refl
     where
       in_held : (fs : List (List ℕ × List ℕ)) → d.files ≡ Some fs → (held : Option (List ℕ)) → d'.held ≡ held → IfSome held (λ now. IsDone status → Changes fs now)

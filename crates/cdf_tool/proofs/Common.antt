@@ -16,27 +16,31 @@ pub use Rattle.cdf_lines.proofs.Pieces.{lines-split, rest-append, whole_lines-ap
 pub use Rattle.cdf_lines.specs.Pending.{GivesLine, Pending, fed, grown, last_of, line_of, lines_ended, new_lines, new_rest, nothing_fed}
 pub use Rattle.cdf_model.specs.Answers.{Answer, Go, Refuse, data_after, given, is_accepted, outcome, unless, valued}
 pub use Rattle.cdf_model.specs.DataSet.{Attribute, DataSet, Entry}
+pub use Rattle.cdf_model.specs.EventTexts.{dump_text}
 pub use Rattle.cdf_model.specs.Grammar.{Asks, Blank, Faulty, Parsed, parse}
 pub use Rattle.cdf_model.specs.Limits.{image_limit, line_limit, script_limit, signed_limit}
 pub use Rattle.cdf_model.specs.Lines.{kept, lines, split, whole_lines}
 pub use Rattle.cdf_model.specs.Names.{Found, attribute_named, attribute_names, is_among, is_bad_name, variable_named, variable_names, variables_of, with_variables}
 pub use Rattle.cdf_model.specs.Step.{ByContent, ByStep, ByTaps, Route, step}
-pub use Rattle.cdf_model.specs.Texts.{rejected_text, reply_text, space_text}
+pub use Rattle.cdf_model.specs.Taps.{Tap, has_tap, left_after, told}
+pub use Rattle.cdf_model.specs.Texts.{end_text, framed, rejected_text, reply_text, space_text}
 pub use Rattle.cdf_model.specs.Turns.{State, Turn, answered, asked, faulty, is_refused, start}
 pub use Rattle.cdf_model.specs.declared.answer.LineError.TheVariants.{UnknownWord}
 pub use Rattle.cdf_model.specs.declared.answer.Outcome.{Outcome}
 pub use Rattle.cdf_model.specs.declared.command.Command.{Command}
 pub use Rattle.cdf_pages.proofs.Touched.{touches_none, touches_weaker}
 pub use Rattle.cdf_pages.specs.Saving.{Differs, Holds, HoldsBetween, IsBetween, IsChangedRange, Touches, tail_bytes}
-pub use Rattle.cdf_session.specs.Built.{built}
+pub use Rattle.cdf_session.specs.Built.{built, is_applied}
 pub use Rattle.cdf_session.specs.History.{CommandLeads, LineLeads, LinesLead, Moment, RouteLeads, last_image}
 pub use Rattle.cdf_session.specs.Run.{advance, flagged, run_of, run_on, turn}
 pub use Rattle.cdf_session.specs.Sessions.{AnswersBuilt, Explains}
 pub use Rattle.cdf_session.specs.declared.refusal.AdoptError.{AdoptError}
 pub use Rattle.cdf_store.specs.Disk.{Disk, IsWhole, file_in, file_of, files_with}
 pub use Rattle.cdf_store.specs.Named.{AttachesIn, files_attached, found_or_made, lookup, with_file}
-pub use Rattle.cdf_store.specs.Written.{AppendsFront}
+pub use Rattle.cdf_store.specs.Written.{AppendsFront, IsFront}
+pub use Rattle.cdf_tap.specs.Meanings.{Meaning, kinds_of}
 pub use Rattle.cdf_tool.specs.Accepts.{Accepts}
+pub use Rattle.cdf_tool.specs.Answering.{IsAnswer, IsReplyOf, RepliesTo}
 pub use Rattle.cdf_tool.specs.Areas.{EndsAttached, EndsInMemory, EndsOver, EndsSaving, EndsStored, Refuses, status_from}
 pub use Rattle.cdf_tool.specs.Asking.{Asked, are_fine, ask, asked_for, files_in, flags_in, is_end, is_flag, known_flags, said, said_by}
 pub use Rattle.cdf_tool.specs.Checking.{Accepted, Checks, EndsChecked, EndsOverFile, IsAnswered, SaysAccepted, accepted_text, yes_text}
@@ -49,11 +53,13 @@ pub use Rattle.cdf_tool.specs.Ends.{Completes, EndsNamed, EndsUnread, EndsWithou
 pub use Rattle.cdf_tool.specs.Gathering.{Gathers}
 pub use Rattle.cdf_tool.specs.Idle.{IfIdle, IsUnmoved, all_idle, all_idle_over, command_full, full_for, is_idle, line_idles, route_full}
 unfoldable pub use Rattle.cdf_tool.specs.Idle.{asks_idly}
+pub use Rattle.cdf_tool.specs.Outlets.{Outlets, with_taps}
 pub use Rattle.cdf_tool.specs.Reading.{IfAll, IfReads, WritesNothing, all_read, line_reads, reads}
 pub use Rattle.cdf_tool.specs.Refusing.{was_refused}
-pub use Rattle.cdf_tool.specs.Replay.{AreBlank, AreShort, GathersReply, GivesNext, Goes, IsDrained, IsReply, IsSayable, IsShort, Passes, PassesAll, Replies, Stops, StopsAt, Turns, Wrote, asked_by, begun, flagged_line, line_of_moment, tale, turn_over}
+pub use Rattle.cdf_tool.specs.Replay.{AreBlank, AreShort, GathersReply, GivesNext, Goes, IsDrained, IsPartOfNext, IsPartOfReply, IsReply, IsSayable, IsShort, IsShown, Passes, PassesAll, Replies, Stops, StopsAt, Turns, Wrote, asked_by, begun, flagged_line, line_of_moment, shows, tale, turn_over}
 pub use Rattle.cdf_tool.specs.Says.{Names, Rejects, SaysNoFile, SaysRejected, SaysUsage, Tells, old_file, rejection}
 pub use Rattle.cdf_tool.specs.Script.{Finishes, FinishesWith, Follow, Halts, HaltsAfter, HaltsWith, Pieces, StopsIn, last_line}
+pub use Rattle.cdf_tool.specs.Showing.{StopsReply, WrotePart, status_of_walk}
 pub use Rattle.cdf_tool.specs.Statuses.{Exactly, IsDone, IsFailure, IsUnsaved, status_of, status_of_area}
 pub use Rattle.cdf_tool.specs.Stored.{Attached, IsChanged, IsLeft, IsRewritten, Kept, KeptBy, Replaced, Rewrites, Spoiled, StoredBy, TellsLeft, Unattached}
 pub use Rattle.cdf_tool.specs.Taking.{Takes, TakesLast, TakesNone, TakesPiece, piece_limit}

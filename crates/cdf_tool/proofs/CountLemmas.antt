@@ -1,5 +1,5 @@
 -- What the counts of faults say of the status.
-use Rattle.cdf_tool.proofs.Common.{AdoptError, AreaError, Asked, Bool, Broken, Counted, CountedIn, Counts, Disk, EndsNamed, EndsSaving, EndsStored, Err, Explains, IsUnsaved, List, Ok, Option, ReadsCounted, ReadsCountedBehind, Refusals, Result, Status, WritesCounted, ap, arith, counts, false, inl, inr, not, refl, status_of, status_of_area, subst, sym, transport, true, was_refused, ℕ, ◌<◌, ◌∙◌, ◌≡◌, ◌≤◌}
+use Rattle.cdf_tool.proofs.Common.{AdoptError, AreaError, Asked, Bool, Broken, Counted, CountedIn, Counts, Disk, EndsNamed, EndsSaving, EndsStored, Err, Explains, IsUnsaved, List, Ok, Option, Outlets, ReadsCounted, ReadsCountedBehind, Refusals, Result, Status, WritesCounted, ap, arith, counts, false, inl, inr, not, refl, status_of, status_of_area, subst, sym, transport, true, was_refused, ℕ, ◌<◌, ◌∙◌, ◌≡◌, ◌≤◌}
 use Rattle.cdf_area.specs.declared.area.AreaError.TheVariants as areas
 use Rattle.cdf_base.specs.Causes.{HasCauseOf, Rose}
 use Rattle.cdf_session.specs.declared.refusal.AdoptError.TheVariants as errors
@@ -164,9 +164,9 @@ writes_stay statuses.Rejected c now not_so counted = ap (λ (k : Counts). k.writ
 writes_stay statuses.NoMemory c now not_so counted = ap (λ (k : Counts). k.writes) counted
 writes_stay statuses.ScriptTooLong c now not_so counted = ap (λ (k : Counts). k.writes) counted
 
-six_saves : {U : Type 0} (a : Asked) (d d' : Disk U) (before left first now : Option (List ℕ)) → EndsNamed a d d' before left first now statuses.StoreWriteFault → a.no_save ≡ false
-six_saves a d d' before left first now (inl w) = absurd w.ends
-six_saves a d d' before left first now (inr (inl u)) = absurd u.ends
+six_saves : {U : Type 0} (a : Asked) (d d' : Disk U) (before left : Option (List ℕ)) (first now : Outlets) → EndsNamed a d d' before left first now statuses.StoreWriteFault → a.no_save ≡ false
+six_saves a d d' before left first now (inl (same, w)) = absurd w.ends
+six_saves a d d' before left first now (inr (inl (same, u))) = absurd u.ends
 six_saves a d d' before left first now (inr (inr r)) = r.runs.spoiled.saves
 
 not_unsaved : (no_save : Bool) → IsUnsaved no_save statuses.StoreWriteFault → no_save ≡ false → ⊥
@@ -174,7 +174,7 @@ not_unsaved true unsaved is = cc
 not_unsaved false unsaved is = unsaved
 
 -- what is not saved counts no write
-pub unwritten : {U : Type 0} (a : Asked) (d d' : Disk U) (before left first now : Option (List ℕ)) (status : Status) (c c' : Counts) → EndsNamed a d d' before left first now status → Counted c c' status → IsUnsaved a.no_save status → c'.writes ≡ c.writes
+pub unwritten : {U : Type 0} (a : Asked) (d d' : Disk U) (before left : Option (List ℕ)) (first now : Outlets) (status : Status) (c c' : Counts) → EndsNamed a d d' before left first now status → Counted c c' status → IsUnsaved a.no_save status → c'.writes ≡ c.writes
 unwritten a d d' before left first now status c c' ends counted unsaved =
     writes_stay status c c' (λ so. not_unsaved a.no_save (subst (λ (s : Status). IsUnsaved a.no_save s) so unsaved) (six_saves a d d' before left first now (subst (λ (s : Status). EndsNamed a d d' before left first now s) so ends))) counted
 

@@ -1,5 +1,5 @@
 -- How a run of a named file ends.
-use Rattle.cdf_tool.proofs.Common.{Asked, Attached, Bool, Disk, EndsAttached, EndsInMemory, EndsNamed, EndsOver, EndsSaving, EndsStored, Err, FinishesWith, Good, HaltsWith, IfIdle, IfOk, IsDone, IsLeft, IsUnmoved, Kept, Left, List, Ok, OnOk, Opens, Option, Refusals, Result, Runs, SpoilsTo, Status, StoredBy, TellsLeft, [], ap, false, file_in, file_of, image_limit, image_of, inl, inr, line_idles, refl, sealed, status_from, status_of, subst, sym, transport, true, was_refused, ℕ, ◌∙◌, ◌≡◌, ◌≢◌}
+use Rattle.cdf_tool.proofs.Common.{Asked, Attached, Bool, Disk, EndsAttached, EndsInMemory, EndsNamed, EndsOver, EndsSaving, EndsStored, Err, FinishesWith, Good, HaltsWith, IfIdle, IfOk, IsDone, IsLeft, IsUnmoved, Kept, Left, List, Ok, OnOk, Opens, Option, Outlets, Refusals, Result, Runs, SpoilsTo, Status, StoredBy, TellsLeft, [], ap, false, file_in, file_of, image_limit, image_of, inl, inr, line_idles, refl, sealed, status_from, status_of, subst, sym, transport, true, was_refused, ℕ, ◌∙◌, ◌≡◌, ◌≢◌}
 use Rattle.cdf_tool.specs.declared.status.Status.TheVariants as statuses
 use Rattle.std.specs.Prelude.{IfErr}
 use Rattle.cdf_tool.proofs.AreaLemmas.{over_file}
@@ -7,16 +7,16 @@ use Rattle.cdf_tool.proofs.Headline.{unread_not_done}
 use Rattle.cdf_tool.proofs.OnlyReads.{attached_pass, files_stay, if_all_map}
 use Rattle.cdf_tool.proofs.StoredLemmas.{kept, replaced, rewritten, spoiled}
 
-halts_no_six : (space : Bool) (image : List ℕ) (before left first now : Option (List ℕ)) → HaltsWith space image_limit image before left first now statuses.StoreWriteFault → ⊥
+halts_no_six : (space : Bool) (image : List ℕ) (before left : Option (List ℕ)) (first now : Outlets) → HaltsWith space image_limit image before left first now statuses.StoreWriteFault → ⊥
 halts_no_six space image before left first now (inl h) = h.how
 halts_no_six space image before left first now (inr (inl l)) = l.stops
 halts_no_six space image before left first now (inr (inr l)) = l.stops
 
-over_no_six : (new space : Bool) (file : List ℕ) (before left first now : Option (List ℕ)) (end : List ℕ) → EndsOver new space file before left first now end (Err statuses.StoreWriteFault) → ⊥
-over_no_six new space file before left first now end (inl (none, ends)) = ends
+over_no_six : (new space : Bool) (file : List ℕ) (before left : Option (List ℕ)) (first now : Outlets) (end : List ℕ) → EndsOver new space file before left first now end (Err statuses.StoreWriteFault) → ⊥
+over_no_six new space file before left first now end (inl (none, same, ends)) = ends
 over_no_six new space file before left first now end (inr h) = halts_no_six space h.image before left first now h.halts
 
-module _ {U : Type 0} (new check no_save space : Bool) (name file : List ℕ) (d d' : Disk U) (before left first now : Option (List ℕ)) where
+module _ {U : Type 0} (new check no_save space : Bool) (name file : List ℕ) (d d' : Disk U) (before left : Option (List ℕ)) (first now : Outlets) where
   abbrev asked : Asked
   asked = record { new = new; check = check; no_save = no_save; space = space; name = name }
 
@@ -45,7 +45,7 @@ module _ {U : Type 0} (new check no_save space : Bool) (name file : List ℕ) (d
 
   -- a run that stopped, where nothing was written
   stopped_ends : (end : List ℕ) (status : Status) → Kept asked file d d' → Idles status → EndsOver new space file before left first now end (Err status) → EndsNamed asked d d' before left first now status
-  stopped_ends end status same idle (inl (none, ends)) = inr (inl (record { file = file; kept = same; none_read = none; ends = ends }))
+  stopped_ends end status same idle (inl (none, taps, ends)) = inr (inl (taps, record { file = file; kept = same; none_read = none; ends = ends }))
   stopped_ends end status same idle (inr h) = inr (inr (record { file = file; image = h.image; opens = h.opens; runs = halted_runs h.image status same h.halts; idle = idle h.image h.opens }))
 
   completed_runs : (image end : List ℕ) (refused : Bool) → Good end → FinishesWith space image_limit image before left first end refused now → StoredBy no_save asked file end d d' → Runs asked file image d d' before left first now (status_of refused)
@@ -124,7 +124,7 @@ module _ {U : Type 0} (new check no_save space : Bool) (name file : List ℕ) (d
         spoils_by what e.end e.outcome no_save refl e.over (subst (λ (s : Status). EndsStored no_save e.end at d' e.outcome s) is e.stored)
         (subst (λ (s : Status). TellsLeft what (file_of at) (sealed e.end) (file_of d') s) is e.leaves)
 
-in_memory : {U : Type 0} (check space : Bool) (name : List ℕ) (d : Disk U) (before left first now : Option (List ℕ)) (end : List ℕ) (outcome : Result Refusals Status) (status : Status) → EndsOver true space [] before left first now end outcome → IfOk outcome (λ _. Good end) → status ≡ status_from outcome
+in_memory : {U : Type 0} (check space : Bool) (name : List ℕ) (d : Disk U) (before left : Option (List ℕ)) (first now : Outlets) (end : List ℕ) (outcome : Result Refusals Status) (status : Status) → EndsOver true space [] before left first now end outcome → IfOk outcome (λ _. Good end) → status ≡ status_from outcome
     → EndsNamed (record { new = true; check = check; no_save = true; space = space; name = name }) d d before left first now status
 in_memory check space name d before left first now end (Ok refusals) status over good is =
     unsaved_ends true check true space name [] d d before left first now end refusals status refl refl (λ image opens old. absurd (cc old)) good over is
@@ -133,14 +133,14 @@ in_memory {U} check space name d before left first now end (Err stopped) status 
     subst (λ (s : Status). EndsNamed a d d before left first now s) (sym is) (stopped_ends true check true space name [] d d before left first now end stopped refl (λ image opens old. absurd (cc old)) over)
 
 -- a run over a new file that is not saved
-pub in_memory_ends : {U : Type 0} (new check no_save space : Bool) (name : List ℕ) (d : Disk U) (before left first now : Option (List ℕ)) (status : Status) → new ≡ true → no_save ≡ true → EndsInMemory space before left first now status
+pub in_memory_ends : {U : Type 0} (new check no_save space : Bool) (name : List ℕ) (d : Disk U) (before left : Option (List ℕ)) (first now : Outlets) (status : Status) → new ≡ true → no_save ≡ true → EndsInMemory space before left first now status
     → EndsNamed (record { new = new; check = check; no_save = no_save; space = space; name = name }) d d before left first now status
 in_memory_ends new check no_save space name d before left first now status n s e =
     let made = in_memory check space name d before left first now e.end e.outcome status e.over e.good e.status_is in
     transport (λ i. EndsNamed (record { new = sym n i; check = check; no_save = sym s i; space = space; name = name }) d d before left first now status) made
 
 -- what a run over an area and a saving come to
-pub attached_all : {U : Type 0} (new no_save space : Bool) (file held : List ℕ) (d at d' : Disk U) (before left first now : Option (List ℕ)) (end : List ℕ) (outcome : Result Refusals Status) (what : Option Left) (status : Status)
+pub attached_all : {U : Type 0} (new no_save space : Bool) (file held : List ℕ) (d at d' : Disk U) (before left : Option (List ℕ)) (first now : Outlets) (end : List ℕ) (outcome : Result Refusals Status) (what : Option Left) (status : Status)
     → (new ≡ false → held ≡ file) → EndsOver new space held before left first now end outcome → IfOk outcome (λ _. Good end) → at ≡ d → EndsStored no_save end at d' outcome status → TellsLeft what (file_of at) (sealed end) (file_of d') status
     → (P S : Type 0) → (new ≡ false → P → S) → (new ≡ false → OnOk outcome (IfIdle image_limit (image_of held) before P)) → (new ≡ false → OnOk outcome S → (d' ≡ at) × (status ≢ statuses.StoreWriteFault)) → EndsAttached new no_save space file d d' before left first now what status
 attached_all {U} new no_save space file held d at d' before left first now end outcome what status same over good is stored leaves P S kept idle unmoved = record {
@@ -155,7 +155,7 @@ attached_all {U} new no_save space file held d at d' before left first now end o
 }
 
 -- a run over an area that stopped has no status of one that came to its end, and failed no saving
-halts_not_done : (space : Bool) (limit : ℕ) (image : List ℕ) (before left first now : Option (List ℕ)) (status : Status) → HaltsWith space limit image before left first now status → IsDone status → ⊥
+halts_not_done : (space : Bool) (limit : ℕ) (image : List ℕ) (before left : Option (List ℕ)) (first now : Outlets) (status : Status) → HaltsWith space limit image before left first now status → IsDone status → ⊥
 halts_not_done space limit image before left first now statuses.Done (inl h) is = h.how
 halts_not_done space limit image before left first now statuses.Done (inr (inl l)) is = l.stops
 halts_not_done space limit image before left first now statuses.Done (inr (inr l)) is = l.stops
@@ -172,7 +172,7 @@ halts_not_done space limit image before left first now statuses.NoMemory h is = 
 halts_not_done space limit image before left first now statuses.ScriptFault h is = is
 halts_not_done space limit image before left first now statuses.ScriptTooLong h is = is
 
-pub over_not_done : (new space : Bool) (file : List ℕ) (before left first now : Option (List ℕ)) (end : List ℕ) (outcome : Result Refusals Status) → EndsOver new space file before left first now end outcome → IfErr outcome (λ status. IsDone status → ⊥)
+pub over_not_done : (new space : Bool) (file : List ℕ) (before left : Option (List ℕ)) (first now : Outlets) (end : List ℕ) (outcome : Result Refusals Status) → EndsOver new space file before left first now end outcome → IfErr outcome (λ status. IsDone status → ⊥)
 over_not_done new space file before left first now end (Ok refusals) over = tt
-over_not_done new space file before left first now end (Err status) (inl (none, ends)) = unread_not_done new file first now status ends
+over_not_done new space file before left first now end (Err status) (inl (none, same, ends)) = unread_not_done new file first.written now.written status ends
 over_not_done new space file before left first now end (Err status) (inr h) = halts_not_done space image_limit h.image before left first now status h.halts

@@ -12,6 +12,10 @@ pub gathers_none_if : {T E : Type 0} (was half now : Option (List ℕ)) (held re
 gathers_none_if was half now held reply same none held' is writes empty stays (Ok x) more = gathers_none was half now held reply none held' (subst (λ l. Appends was half l) is writes) empty stays more
 gathers_none_if was half now held reply same none held' is writes empty stays (Err e) more = tt
 
+-- a text was written whole, and nothing is gathered
+pub gathers_all : (was now : Option (List ℕ)) (text none : List ℕ) → none ≡ [] → Appends was now text → Gathers was text now none
+gathers_all was now text none empty writes = (text, ap (λ l. text ++ l) empty ∙ append-nil text, writes)
+
 -- nothing is gathered at first
 pub gathers_nothing : (was : Option (List ℕ)) (held : List ℕ) → held ≡ [] → Gathers was [] was held
 gathers_nothing was held empty = ([], empty, Appends-nil was)

@@ -46,7 +46,7 @@ full_is limit b (Asks c) full now leads = command_full_is (built c) limit b c fu
 full_is limit b (Faulty fault) full now leads = leads.0
 
 -- an idle line that was answered only reads, or was refused
-pub idle_turns : (limit : ℕ) (b : List ℕ) (n : ℕ) (parsed : Parsed) (end : List ℕ) (refused : Bool) (reply : List ℕ) → Turns limit b n parsed end refused reply → asks_idly limit b parsed ≡ true → (reads parsed ≡ true) ⊎ (refused ≡ true)
+pub idle_turns : (limit : ℕ) (b : List ℕ) (n : ℕ) (parsed : Parsed) (end : List ℕ) (refused : Bool) (reply : List ℕ) → Turns limit b [] n parsed end [] refused reply → asks_idly limit b parsed ≡ true → (reads parsed ≡ true) ⊎ (refused ≡ true)
 unfolding asks_idly
 idle_turns limit b n parsed end refused reply t idle = elim (either (reads parsed) (turn (content b) [] 0 parsed (full_for limit b parsed)).refused idle) [
   | inl read ↦ inl read

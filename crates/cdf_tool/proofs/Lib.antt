@@ -5,6 +5,7 @@ pub mod Moments
 pub mod Commands
 pub mod Whole
 pub mod Lines
+pub mod Answered
 pub mod ScriptLemmas
 pub mod AreaLemmas
 pub mod StoredLemmas
@@ -18,6 +19,7 @@ pub mod OnlyReads
 pub mod IdleLemmas
 pub mod RunStore
 pub mod CountLemmas
+pub mod Shown
 pub mod RunLemmas
 pub mod RunIdle
 pub mod Told

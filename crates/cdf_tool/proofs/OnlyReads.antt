@@ -1,5 +1,5 @@
 -- A script each line of which only reads, or is refused.
-use Rattle.cdf_tool.proofs.Common.{AnswersBuilt, AttachesIn, Bool, Command, Consumes, Err, Frame, GivesNext, IfAll, List, MovesIf, None, Ok, OnOk, Option, Outcome, Passes, Pending, Result, Some, Stays, [], ap, append-nil, both, false, files_attached, inl, inr, is_accepted, is_full, kept, last_of, lines, lines-split, list_all, list_all-append, new_lines, refl, split, sym, true, whole_lines, whole_lines-append, ℕ, ◌++◌, ◌∙◌, ◌∷◌, ◌≡◌}
+use Rattle.cdf_tool.proofs.Common.{AnswersBuilt, AttachesIn, Bool, Command, Consumes, Err, Frame, GivesNext, IfAll, List, MovesIf, None, Ok, OnOk, Option, Outcome, Outlets, Passes, Pending, Result, Some, Stays, [], ap, append-nil, both, false, files_attached, inl, inr, is_accepted, is_full, kept, last_of, lines, lines-split, list_all, list_all-append, new_lines, refl, split, sym, true, whole_lines, whole_lines-append, ℕ, ◌++◌, ◌∙◌, ◌∷◌, ◌≡◌}
 use Rattle.cdf_edits.specs.Follows.{only_reads}
 use Rattle.cdf_tool.proofs.Standing.{HasTaken, IsReady}
 
@@ -53,7 +53,7 @@ module _ (test : Option (List ℕ) → Bool) where
   ready_pass more (Some script) None earlier last p P Q took ready so_far onward = absurd took
   ready_pass more (Some script) (Some left) earlier last p P Q took ready so_far onward = λ all. onward (all_ready more earlier last left p ready (sym (ap (λ s. list_all test (lines s)) took) ∙ all)) (so_far all)
 
-  pub taken_pass : (more : Bool) (limit : ℕ) (b : List ℕ) (before left first : Option (List ℕ)) (p : Pending) (image : List ℕ) (refused : Bool) (was : Option (List ℕ)) (total : ℕ) → HasTaken more limit b before left first p image refused was total
+  pub taken_pass : (more : Bool) (limit : ℕ) (b : List ℕ) (before left : Option (List ℕ)) (first : Outlets) (p : Pending) (image : List ℕ) (refused : Bool) (was : Outlets) (total : ℕ) → HasTaken more limit b before left first p image refused was total
       → (P Q : Type 0) → IfAll test before P → (Pass p.ready → P → Q) → IfAll test before Q
   taken_pass more limit b before left first p image refused was total has P Q so_far onward = ready_pass more before left has.earlier has.last p P Q has.consumed has.ready so_far onward
 

@@ -1,5 +1,5 @@
 -- A run over lines that change nothing.
-use Rattle.cdf_tool.proofs.Common.{Asked, Bool, Counted, Counts, Disk, EndsNamed, EndsUnread, EndsWithout, IfIdle, IfReads, IfSome, IsDone, IsUnmoved, Kept, List, None, Opens, Option, Refusals, Runs, Some, Status, StoredBy, Unattached, WritesNothing, [], ap, eq_of, false, file_in, found_or_made, image_limit, image_of, inl, inr, length, line_idles, line_reads, lookup, not, option_map, refl, status_of, subst, sym, true, was_refused, ℕ, ◌&&◌, ◌==◌, ◌↔◌, ◌∙◌, ◌≡◌, ◌≤◌}
+use Rattle.cdf_tool.proofs.Common.{Asked, Bool, Counted, Counts, Disk, EndsNamed, EndsUnread, EndsWithout, IfIdle, IfReads, IfSome, IsDone, IsUnmoved, Kept, List, None, Opens, Option, Outlets, Refusals, Runs, Some, Status, StoredBy, Unattached, WritesNothing, [], ap, eq_of, false, file_in, found_or_made, image_limit, image_of, inl, inr, length, line_idles, line_reads, lookup, not, option_map, refl, status_of, subst, sym, true, was_refused, ℕ, ◌&&◌, ◌==◌, ◌↔◌, ◌∙◌, ◌≡◌, ◌≤◌}
 use Rattle.std.proofs.Common.{arith}
 use Rattle.std.proofs.lemmas.Bool.{eqb-false}
 use Rattle.cdf_tool.specs.declared.status.Status.TheVariants as statuses
@@ -9,21 +9,21 @@ use Rattle.cdf_tool.proofs.IdleLemmas.{if_idle_reads}
 use Rattle.cdf_tool.proofs.OnlyReads.{files_stay, if_all, if_all_map}
 use Rattle.cdf_tool.proofs.RunStore.{found_lookup_in, kept_attached}
 
-module _ {U : Type 0} (a : Asked) (d d' : Disk U) (before left first now : Option (List ℕ)) (old : a.new ≡ false) where
-  unattached : (status : Status) → Unattached a d d' → EndsWithout a d.files first now status → IsUnmoved d d' status
+module _ {U : Type 0} (a : Asked) (d d' : Disk U) (before left : Option (List ℕ)) (first now : Outlets) (old : a.new ≡ false) where
+  unattached : (status : Status) → Unattached a d d' → EndsWithout a d.files first.written now.written status → IsUnmoved d d' status
   unattached status u ends = record {
     files = elim u.files [ inl same ↦ same | inr made ↦ made ∙ files_stay a.new a.name d.files old ];
     touched = u.touched;
-    saved = λ is. subst (λ (s : Status). EndsWithout a d.files first now s) is ends;
+    saved = λ is. subst (λ (s : Status). EndsWithout a d.files first.written now.written s) is ends;
   }
 
-  kept : (file : List ℕ) (status : Status) → Kept a file d d' → EndsUnread a.new file first now status → IsUnmoved d d' status
+  kept : (file : List ℕ) (status : Status) → Kept a file d d' → EndsUnread a.new file first.written now.written status → IsUnmoved d d' status
   kept file status k ends =
       let at = kept_attached a file d d' a.new a.no_save old k in
       record {
         files = at.files ∙ files_stay a.new a.name d.files old;
         touched = at.touched;
-        saved = λ is. subst (λ (s : Status). EndsUnread a.new file first now s) is ends;
+        saved = λ is. subst (λ (s : Status). EndsUnread a.new file first.written now.written s) is ends;
       }
 
   abbrev Under : List ℕ → Type 0
@@ -66,8 +66,8 @@ module _ {U : Type 0} (a : Asked) (d d' : Disk U) (before left first now : Optio
 
     -- where each line only reads
     pub named_reads : EndsNamed a d d' before left first now status → IfReads before Nothing
-    named_reads (inl w) = if_all line_reads before Nothing (nothing (unattached status w.unattached w.ends))
-    named_reads (inr (inl u)) = if_all line_reads before Nothing (nothing (kept u.file status u.kept u.ends))
+    named_reads (inl (taps, w)) = if_all line_reads before Nothing (nothing (unattached status w.unattached w.ends))
+    named_reads (inr (inl (taps, u))) = if_all line_reads before Nothing (nothing (kept u.file status u.kept u.ends))
     named_reads (inr (inr r)) = if_idle_reads image_limit r.image before Nothing (if_all_map (line_idles image_limit r.image) before (IsUnmoved d d' status) Nothing nothing (r.idle old))
 
     under_idle : (file : List ℕ) → Under file → EndsNamed a d d' before left first now status → (fs : List (List ℕ × List ℕ)) → d.files ≡ Some fs → lookup a.name fs ≡ Some file → IfIdle image_limit (image_of file) before Nothing
@@ -77,8 +77,8 @@ module _ {U : Type 0} (a : Asked) (d d' : Disk U) (before left first now : Optio
         same other there = some_same other file (sym (subst (λ (o : Option (List (List ℕ × List ℕ))). IfSome o (λ l. lookup a.name l ≡ Some other)) told there) ∙ is)
 
         named : EndsNamed a d d' before left first now status → IfIdle image_limit (image_of file) before Nothing
-        named (inl w) = if_all (line_idles image_limit (image_of file)) before Nothing (nothing (unattached status w.unattached w.ends))
-        named (inr (inl u)) = if_all (line_idles image_limit (image_of file)) before Nothing (nothing (kept u.file status u.kept u.ends))
+        named (inl (taps, w)) = if_all (line_idles image_limit (image_of file)) before Nothing (nothing (unattached status w.unattached w.ends))
+        named (inr (inl (taps, u))) = if_all (line_idles image_limit (image_of file)) before Nothing (nothing (kept u.file status u.kept u.ends))
         named (inr (inr r)) =
             subst (λ (b : List ℕ). IfIdle image_limit b before Nothing) (opened_image a.new r.file r.image old r.opens ∙ ap image_of (same r.file (runs_under r.file r.image status r.runs)))
             (if_all_map (line_idles image_limit r.image) before (IsUnmoved d d' status) Nothing nothing (r.idle old))

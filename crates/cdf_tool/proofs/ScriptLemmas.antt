@@ -1,5 +1,5 @@
 -- What the run of a script leaves, at each of its ends.
-use Rattle.cdf_tool.proofs.Common.{AreShort, Bool, Consumes, Consumes-nil, Consumes-trans, Finishes, Follow, Halts, HaltsAfter, IsDrained, IsShort, List, Option, Pending, Pieces, Replies, Status, Stops, StopsIn, Takes, TakesLast, TakesNone, TakesPiece, [], ap, append-nil, arith, false, fed, inl, inr, last_of, length, length-append, lines, lines-split, new_lines, new_rest, nothing_fed, piece_limit, refl, rest-append, script_limit, split, subst, sym, transport, true, whole_lines, whole_lines-append, ℕ, ◌++◌, ◌+◌, ◌||◌, ◌∙◌, ◌≡◌, ◌≤◌}
+use Rattle.cdf_tool.proofs.Common.{AreShort, Bool, Consumes, Consumes-nil, Consumes-trans, Finishes, Follow, Halts, HaltsAfter, IsDrained, IsShort, List, Option, Outlets, Pending, Pieces, Replies, Status, Stops, StopsIn, Takes, TakesLast, TakesNone, TakesPiece, [], ap, append-nil, arith, false, fed, inl, inr, last_of, length, length-append, lines, lines-split, new_lines, new_rest, nothing_fed, piece_limit, refl, rest-append, script_limit, split, subst, sym, transport, true, whole_lines, whole_lines-append, ℕ, ◌++◌, ◌+◌, ◌||◌, ◌∙◌, ◌≡◌, ◌≤◌}
 use Rattle.cdf_lines.specs.Pending.{finished}
 use Rattle.cdf_tool.specs.declared.status.Status.TheVariants as statuses
 use Rattle.cdf_tool.proofs.Lines.{kept_short, last_short, new_short}
@@ -15,7 +15,7 @@ finished_ready : (p p' : Pending) → p.ready ≡ [] → p' ≡ finished p → (
 finished_ready p p' none is =
     (ap (λ (q : Pending). q.ready) is ∙ ap (λ (ls : List (Option (List ℕ))). ls ++ last_of p.rest) none, ap (λ (q : Pending). q.given) is)
 
-halts_in : (limit : ℕ) (b taken : List ℕ) (left first now : Option (List ℕ)) (status : Status) → length taken ≤ script_limit → StopsIn limit b taken left first now status → HaltsAfter limit b taken left first now status
+halts_in : (limit : ℕ) (b taken : List ℕ) (left : Option (List ℕ)) (first now : Outlets) (status : Status) → length taken ≤ script_limit → StopsIn limit b taken left first now status → HaltsAfter limit b taken left first now status
 halts_in limit b taken left first now statuses.StoreReadFault le s = (le, s)
 halts_in limit b taken left first now statuses.OutputFault le s = (le, s)
 halts_in limit b taken left first now statuses.NoMemory le s = (le, s)
@@ -29,7 +29,7 @@ halts_in limit b taken left first now statuses.ScriptFault le s = absurd s.stops
 halts_in limit b taken left first now statuses.ScriptTooLong le s = absurd s.stops.wrote
 
 -- before the first piece
-pub at_start : (limit : ℕ) (b : List ℕ) (before first : Option (List ℕ)) (p : Pending) → p ≡ nothing_fed → IsAfter limit b before before first p b false first 0
+pub at_start : (limit : ℕ) (b : List ℕ) (before : Option (List ℕ)) (first : Outlets) (p : Pending) → p ≡ nothing_fed → IsAfter limit b before before first p b false first 0
 at_start limit b before first p is = record {
   taken = [];
   consumed = Consumes-nil before;
@@ -41,7 +41,7 @@ at_start limit b before first p is = record {
   replies = no_replies limit b 0 first;
 }
 
-module _ (limit : ℕ) (b : List ℕ) (before left first : Option (List ℕ)) (p : Pending) (image : List ℕ) (refused : Bool) (was : Option (List ℕ)) (total : ℕ) (so_far : IsAfter limit b before left first p image refused was total) where
+module _ (limit : ℕ) (b : List ℕ) (before left : Option (List ℕ)) (first : Outlets) (p : Pending) (image : List ℕ) (refused : Bool) (was : Outlets) (total : ℕ) (so_far : IsAfter limit b before left first p image refused was total) where
   abbrev whole : List (Option (List ℕ))
   whole = whole_lines so_far.taken
 
@@ -149,12 +149,12 @@ follow : (more : Bool) (earlier last : List ℕ) (p : Pending) (left : Option (L
 follow true earlier last p left ready = inl ready.0
 follow false earlier last p left ready = inr ready
 
-module _ (more : Bool) (limit : ℕ) (b : List ℕ) (before left first : Option (List ℕ)) (p : Pending) (image : List ℕ) (refused : Bool) (was : Option (List ℕ)) (total : ℕ) (has : HasTaken more limit b before left first p image refused was total) (limit' : ℕ) (same : limit' ≡ limit) where
+module _ (more : Bool) (limit : ℕ) (b : List ℕ) (before left : Option (List ℕ)) (first : Outlets) (p : Pending) (image : List ℕ) (refused : Bool) (was : Outlets) (total : ℕ) (has : HasTaken more limit b before left first p image refused was total) (limit' : ℕ) (same : limit' ≡ limit) where
   abbrev taken : List ℕ
   taken = has.earlier ++ has.last
 
   -- the lines that were ready were not all answered
-  pub halted : (now : Option (List ℕ)) (status : Status) → Stops limit' image p.given p.ready was now status → Halts limit b before left first now status
+  pub halted : (now : Outlets) (status : Status) → Stops limit' image p.given p.ready was now status → Halts limit b before left first now status
   halted now status stops = record {
     taken = taken;
     consumed = has.consumed;
@@ -171,7 +171,7 @@ module _ (more : Bool) (limit : ℕ) (b : List ℕ) (before left first : Option 
   }
 
   -- they were
-  module _ (end : List ℕ) (again either : Bool) (now : Option (List ℕ)) (is : either ≡ (refused || again)) (replies : Replies limit' image p.given p.ready end again was now) where
+  module _ (end : List ℕ) (again either : Bool) (now : Outlets) (is : either ≡ (refused || again)) (replies : Replies limit' image p.given p.ready end again was now) where
     all_replies : (all : List (Option (List ℕ))) → whole_lines has.earlier ++ p.ready ≡ all → Replies limit b 0 all end either first now
     all_replies all are =
         let joined : Replies limit b 0 (whole_lines has.earlier ++ p.ready) end (refused || again) first now =

@@ -4,7 +4,7 @@ use Rattle.cdf_attrs.proofs.WholeEntries.{shown_is_whole}
 use Rattle.cdf_model.specs.declared.answer.Reason.{Reason}
 use Rattle.cdf_model.specs.declared.answer.Reason.TheVariants as reasons
 use Rattle.cdf_model.specs.declared.answer.Reply.TheVariants as replies
-use Rattle.cdf_model.specs.declared.command.Command.TheVariants.{Info, List as Lists, Attr, RenameAttr, DelAttr, PutEntry, GetEntry, DelEntry, Setup, RVar, ZVar, RenameVar, DelVar, SetPad, SetBlocking, PutRec, GetRec, PutVal, GetVal, Reindex, Checksum}
+use Rattle.cdf_model.specs.declared.command.Command.TheVariants.{Attr, Checksum, DelAttr, DelEntry, DelVar, Dump, GetEntry, GetRec, GetVal, Info, List as Lists, PutEntry, PutRec, PutVal, RVar, Reindex, RenameAttr, RenameVar, Report, SetBlocking, SetPad, Setup, ZVar}
 use Rattle.cdf_model.specs.declared.head.Majority.{Majority}
 use Rattle.cdf_model.specs.declared.kinds.Kind.{Kind}
 use Rattle.cdf_model.specs.declared.kinds.Kind.TheVariants.{R, Z}
@@ -175,4 +175,6 @@ can_be_written limit b (GetRec name rec) o now a =
 can_be_written limit b (GetVal name rec index) o now a =
     subst CanBeWritten (sym a.outcome_is) (value_written b name rec index now a.answer (is_full limit b (GetVal name rec index) a.answer) (by_step (get_val_step (content b) name rec index) a.answer a.step_is) a.moves)
 can_be_written limit b (Checksum md5) o now a = from_answers limit b (Checksum md5) o now (Go (record (content b) { md5 = md5 }) replies.Plain) refl tt a
+can_be_written limit b Dump o now a = absurd (cc a.step_is)
+can_be_written limit b (Report tap) o now a = absurd (cc a.step_is)
 can_be_written limit b c o now a = subst CanBeWritten (sym a.0) tt

@@ -16,6 +16,7 @@ use Rattle.cdf_tool.specs.declared.status.Status.{Status}
 use Rattle.cdf_tool.specs.declared.status.Status.TheVariants as statuses
 use Rattle.cdf_tool.specs.Ends.{EndsUnread, Opens}
 use Rattle.cdf_tool.specs.Idle.{IfIdle}
+use Rattle.cdf_tool.specs.Outlets.{Outlets}
 use Rattle.cdf_tool.specs.Refusing.{was_refused}
 use Rattle.cdf_tool.specs.Script.{FinishesWith, HaltsWith}
 use Rattle.cdf_tool.specs.Statuses.{status_of}
@@ -27,21 +28,21 @@ Refuses true file why = IsNoVerdict why
 Refuses false file why = RejectedFor file why
 
 -- an image was opened, and its script was run to its end; the line on space is written where it is asked for
-pub record Finished (new space : Bool) (file : List ℕ) (before left first : Option (List ℕ)) (end : List ℕ) (refused : Bool) (now : Option (List ℕ)) : Type 0 where
+pub record Finished (new space : Bool) (file : List ℕ) (before left : Option (List ℕ)) (first : Outlets) (end : List ℕ) (refused : Bool) (now : Outlets) : Type 0 where
   pub image : List ℕ
   pub opens : Opens new file image
   pub finishes : FinishesWith space image_limit image before left first end refused now
 
 -- an image was opened, and the run stopped in its script, or at the line on space
-pub record Halted (new space : Bool) (file : List ℕ) (before left first now : Option (List ℕ)) (status : Status) : Type 0 where
+pub record Halted (new space : Bool) (file : List ℕ) (before left : Option (List ℕ)) (first now : Outlets) (status : Status) : Type 0 where
   pub image : List ℕ
   pub opens : Opens new file image
   pub halts : HaltsWith space image_limit image before left first now status
 
 -- a run over an area came to its end, with this image, or stopped with a status
-abbrev pub EndsOver : Bool → Bool → List ℕ → Option (List ℕ) → Option (List ℕ) → Option (List ℕ) → Option (List ℕ) → List ℕ → Result Refusals Status → Type 0
+abbrev pub EndsOver : Bool → Bool → List ℕ → Option (List ℕ) → Option (List ℕ) → Outlets → Outlets → List ℕ → Result Refusals Status → Type 0
 EndsOver new space file before left first now end (Ok refusals) = Finished new space file before left first end (was_refused refusals) now
-EndsOver new space file before left first now end (Err status) = ((left ≡ before) × EndsUnread new file first now status) ⊎ Halted new space file before left first now status
+EndsOver new space file before left first now end (Err status) = ((left ≡ before) × (now.taps ≡ first.taps) × EndsUnread new file first.written now.written status) ⊎ Halted new space file before left first now status
 
 -- A run whose script was answered is saved, or that fails. Of the file only what differs is written.
 abbrev pub EndsSaving : {U : Type 0} → Bool → List ℕ → Disk U → Disk U → Status → Type 0
@@ -59,7 +60,7 @@ EndsStored true end d d' (Ok refusals) status = (status ≡ status_of (was_refus
 EndsStored false end d d' (Ok refusals) status = EndsSaving (was_refused refusals) end d d' status
 
 -- a run over an area with this file ended so, and this became of the store and is told of a saving that failed
-pub record EndsAttached {U : Type 0} (new no_save space : Bool) (file : List ℕ) (d d' : Disk U) (before left first now : Option (List ℕ)) (what : Option Left) (status : Status) : Type 0 where
+pub record EndsAttached {U : Type 0} (new no_save space : Bool) (file : List ℕ) (d d' : Disk U) (before left : Option (List ℕ)) (first now : Outlets) (what : Option Left) (status : Status) : Type 0 where
   pub end : List ℕ
   pub outcome : Result Refusals Status
   pub over : EndsOver new space file before left first now end outcome
@@ -73,7 +74,7 @@ status_from (Ok refusals) = status_of (was_refused refusals)
 status_from (Err status) = status
 
 -- a run over a new file that is not saved ended so
-pub record EndsInMemory (space : Bool) (before left first now : Option (List ℕ)) (status : Status) : Type 0 where
+pub record EndsInMemory (space : Bool) (before left : Option (List ℕ)) (first now : Outlets) (status : Status) : Type 0 where
   pub end : List ℕ
   pub outcome : Result Refusals Status
   pub over : EndsOver true space [] before left first now end outcome

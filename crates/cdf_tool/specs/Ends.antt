@@ -15,6 +15,7 @@ use Rattle.cdf_tool.specs.declared.status.Status.{Status}
 use Rattle.cdf_tool.specs.declared.status.Status.TheVariants as statuses
 use Rattle.cdf_tool.specs.declared.notes.Left.{Left}
 use Rattle.cdf_tool.specs.Idle.{IfIdle, IsUnmoved}
+use Rattle.cdf_tool.specs.Outlets.{Outlets}
 use Rattle.cdf_tool.specs.Says.{Rejects, rejection}
 use Rattle.cdf_tool.specs.Script.{FinishesWith, HaltsWith}
 use Rattle.cdf_tool.specs.Stored.{IsLeft, Kept, Spoiled, Stored, Unattached}
@@ -27,27 +28,27 @@ Opens true file image = image ≡ new_image
 Opens false file image = WellFormed file × (image ≡ image_of file)
 
 -- the script was run to its end, the line on space written where it is asked for, and the image that it led to was stored
-pub record Completes {U : Type 0} (a : Asked) (file image : List ℕ) (d d' : Disk U) (before left first now : Option (List ℕ)) (refused : Bool) : Type 0 where
+pub record Completes {U : Type 0} (a : Asked) (file image : List ℕ) (d d' : Disk U) (before left : Option (List ℕ)) (first now : Outlets) (refused : Bool) : Type 0 where
   pub end : List ℕ
   pub finishes : FinishesWith a.space image_limit image before left first end refused now
   pub good : Good end
   pub stored : Stored a file end d d'
 
 -- it was run to its end, and the saving failed
-pub record Spoils {U : Type 0} (a : Asked) (file image : List ℕ) (d d' : Disk U) (before left first now : Option (List ℕ)) : Type 0 where
+pub record Spoils {U : Type 0} (a : Asked) (file image : List ℕ) (d d' : Disk U) (before left : Option (List ℕ)) (first now : Outlets) : Type 0 where
   pub end : List ℕ
   pub refused : Bool
   pub finishes : FinishesWith a.space image_limit image before left first end refused now
   pub spoiled : Spoiled a file end d d'
 
 -- the script was run over this image
-abbrev pub Runs : {U : Type 0} → Asked → List ℕ → List ℕ → Disk U → Disk U → Option (List ℕ) → Option (List ℕ) → Option (List ℕ) → Option (List ℕ) → Status → Type 0
+abbrev pub Runs : {U : Type 0} → Asked → List ℕ → List ℕ → Disk U → Disk U → Option (List ℕ) → Option (List ℕ) → Outlets → Outlets → Status → Type 0
 Runs a file image d d' before left first now statuses.Done = Completes a file image d d' before left first now false
 Runs a file image d d' before left first now statuses.SomeRefused = Completes a file image d d' before left first now true
 Runs a file image d d' before left first now statuses.StoreWriteFault = Spoils a file image d d' before left first now
 Runs a file image d d' before left first now other = Kept a file d d' × HaltsWith a.space image_limit image before left first now other
 
-pub record Replays {U : Type 0} (a : Asked) (d d' : Disk U) (before left first now : Option (List ℕ)) (status : Status) : Type 0 where
+pub record Replays {U : Type 0} (a : Asked) (d d' : Disk U) (before left : Option (List ℕ)) (first now : Outlets) (status : Status) : Type 0 where
   pub file : List ℕ
   pub image : List ℕ
   pub opens : Opens a.new file image
@@ -55,7 +56,7 @@ pub record Replays {U : Type 0} (a : Asked) (d d' : Disk U) (before left first n
   pub idle : a.new ≡ false → IfIdle image_limit image before (IsUnmoved d d' status)
 
 -- the saving failed, and this is told of what it left
-pub record SpoilsTo {U : Type 0} (a : Asked) (d d' : Disk U) (before left first now : Option (List ℕ)) (what : Option Left) : Type 0 where
+pub record SpoilsTo {U : Type 0} (a : Asked) (d d' : Disk U) (before left : Option (List ℕ)) (first now : Outlets) (what : Option Left) : Type 0 where
   pub file : List ℕ
   pub image : List ℕ
   pub opens : Opens a.new file image
@@ -93,6 +94,6 @@ pub record Without {U : Type 0} (a : Asked) (d d' : Disk U) (before left first n
 
 -- ---- a whole run
 
--- a run ended so that was asked for this, and for no check
-abbrev pub EndsNamed : {U : Type 0} → Asked → Disk U → Disk U → Option (List ℕ) → Option (List ℕ) → Option (List ℕ) → Option (List ℕ) → Status → Type 0
-EndsNamed a d d' before left first now status = Without a d d' before left first now status ⊎ (Unread a d d' before left first now status ⊎ Replays a d d' before left first now status)
+-- A run ended so that was asked for this, and for no check. Where nothing of the script was read, the taps are as they were.
+abbrev pub EndsNamed : {U : Type 0} → Asked → Disk U → Disk U → Option (List ℕ) → Option (List ℕ) → Outlets → Outlets → Status → Type 0
+EndsNamed a d d' before left first now status = ((now.taps ≡ first.taps) × Without a d d' before left first.written now.written status) ⊎ (((now.taps ≡ first.taps) × Unread a d d' before left first.written now.written status) ⊎ Replays a d d' before left first now status)

@@ -2,7 +2,10 @@ pub mod Statuses
 pub mod Refusing
 pub mod Counts
 pub mod Gathering
+pub mod Outlets
 pub mod Replay
+pub mod Answering
+pub mod Showing
 pub mod Taking
 pub mod Script
 pub mod Stored

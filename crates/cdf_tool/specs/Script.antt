@@ -1,4 +1,4 @@
--- What the run of a script over an image leaves (own). `first` is what the sink held as it began and `now` what it holds, `left` what the source has left.
+-- What the run of a script over an image leaves (own). `first` is what the sink held as it began, with the taps of then, and `now` what it holds, with the taps that are left, `left` what the source has left.
 use Rattle.std.specs.Prelude.{◌≡◌, ◌⊎◌, ℕ, ◌<◌, ◌≤◌, List, [], ◌++◌, Bool, true, false, length}
 use Rattle.std.specs.declared.option.Option.{Option}
 use Rattle.std.specs.Io.KnownBytes.{Appends, Consumes, IsAtEnd}
@@ -11,10 +11,11 @@ use Rattle.cdf_model.specs.Texts.{space_text}
 use Rattle.cdf_tool.specs.declared.status.Status.{Status}
 use Rattle.cdf_tool.specs.declared.status.Status.TheVariants as statuses
 use Rattle.cdf_tool.specs.Taking.{piece_limit}
+use Rattle.cdf_tool.specs.Outlets.{Outlets}
 use Rattle.cdf_tool.specs.Replay.{Replies, Stops}
 
 -- the script was read to its end, each of its lines was answered, and all replies were written
-pub record Finishes (limit : ℕ) (b : List ℕ) (before left first : Option (List ℕ)) (end : List ℕ) (refused : Bool) (now : Option (List ℕ)) : Type 0 where
+pub record Finishes (limit : ℕ) (b : List ℕ) (before left : Option (List ℕ)) (first : Outlets) (end : List ℕ) (refused : Bool) (now : Outlets) : Type 0 where
   pub taken : List ℕ
   pub consumed : Consumes before left taken
   pub short : length taken ≤ script_limit
@@ -22,7 +23,7 @@ pub record Finishes (limit : ℕ) (b : List ℕ) (before left first : Option (Li
   pub replies : Replies limit b 0 (lines taken) end refused first now
 
 -- all replies to the whole lines of these bytes
-pub record Answered (limit : ℕ) (b bytes : List ℕ) (first now : Option (List ℕ)) : Type 0 where
+pub record Answered (limit : ℕ) (b bytes : List ℕ) (first now : Outlets) : Type 0 where
   pub end : List ℕ
   pub refused : Bool
   pub replies : Replies limit b 0 (whole_lines bytes) end refused first now
@@ -39,24 +40,24 @@ abbrev pub Follow : List (Option (List ℕ)) → List ℕ → List ℕ → Optio
 Follow more earlier taken left = (whole_lines earlier ++ more ≡ whole_lines taken) ⊎ (IsAtEnd left × (whole_lines earlier ++ more ≡ lines taken))
 
 -- All replies to the whole lines of the earlier pieces were written, and replies to lines of the last one.
-pub record StopsIn (limit : ℕ) (b taken : List ℕ) (left first now : Option (List ℕ)) (status : Status) : Type 0 where
+pub record StopsIn (limit : ℕ) (b taken : List ℕ) (left : Option (List ℕ)) (first now : Outlets) (status : Status) : Type 0 where
   pub pieces : Pieces taken
   pub image : List ℕ
   pub refused : Bool
-  pub then : Option (List ℕ)
+  pub then : Outlets
   pub replies : Replies limit b 0 (whole_lines pieces.earlier) image refused first then
   pub more : List (Option (List ℕ))
   pub follow : Follow more pieces.earlier taken left
   pub stops : Stops limit image (length (whole_lines pieces.earlier)) more then now status
 
 -- the piece that passed the limit of a script was not answered, and the whole lines before it were
-pub record TooLong (limit : ℕ) (b taken : List ℕ) (first now : Option (List ℕ)) : Type 0 where
+pub record TooLong (limit : ℕ) (b taken : List ℕ) (first now : Outlets) : Type 0 where
   pub pieces : Pieces taken
   pub long : script_limit < length taken
   pub answered : Answered limit b pieces.earlier first now
 
 -- what each status says of a run that stopped, where these bytes of the script were taken
-abbrev pub HaltsAfter : ℕ → List ℕ → List ℕ → Option (List ℕ) → Option (List ℕ) → Option (List ℕ) → Status → Type 0
+abbrev pub HaltsAfter : ℕ → List ℕ → List ℕ → Option (List ℕ) → Outlets → Outlets → Status → Type 0
 HaltsAfter limit b taken left first now statuses.StoreReadFault = (length taken ≤ script_limit) × StopsIn limit b taken left first now statuses.StoreReadFault
 HaltsAfter limit b taken left first now statuses.OutputFault = (length taken ≤ script_limit) × StopsIn limit b taken left first now statuses.OutputFault
 HaltsAfter limit b taken left first now statuses.NoMemory = (length taken ≤ script_limit) × StopsIn limit b taken left first now statuses.NoMemory
@@ -65,7 +66,7 @@ HaltsAfter limit b taken left first now statuses.ScriptTooLong = TooLong limit b
 HaltsAfter limit b taken left first now other = ⊥
 
 -- some bytes were taken of the script, and then the run stopped so
-pub record Halts (limit : ℕ) (b : List ℕ) (before left first now : Option (List ℕ)) (status : Status) : Type 0 where
+pub record Halts (limit : ℕ) (b : List ℕ) (before left : Option (List ℕ)) (first now : Outlets) (status : Status) : Type 0 where
   pub taken : List ℕ
   pub consumed : Consumes before left taken
   pub how : HaltsAfter limit b taken left first now status
@@ -78,10 +79,11 @@ last_line true end = space_text (space_of end (shape end))
 last_line false end = []
 
 -- all replies were written, and then this line
-pub record FinishesWith (space : Bool) (limit : ℕ) (b : List ℕ) (before left first : Option (List ℕ)) (end : List ℕ) (refused : Bool) (now : Option (List ℕ)) : Type 0 where
-  pub then : Option (List ℕ)
+pub record FinishesWith (space : Bool) (limit : ℕ) (b : List ℕ) (before left : Option (List ℕ)) (first : Outlets) (end : List ℕ) (refused : Bool) (now : Outlets) : Type 0 where
+  pub then : Outlets
   pub finishes : Finishes limit b before left first end refused then
-  pub line : Appends then now (last_line space end)
+  pub line : Appends then.written now.written (last_line space end)
+  pub taps : now.taps ≡ then.taps
 
 -- nothing of this line was written, or a part of it where the sink failed
 abbrev pub LineStops : List ℕ → Option (List ℕ) → Option (List ℕ) → Status → Type 0
@@ -91,13 +93,14 @@ LineStops line then now statuses.OutputFault = AppendsFront then now line
 LineStops line then now other = ⊥
 
 -- all replies were written, and not the whole line
-pub record LacksLine (space : Bool) (limit : ℕ) (b : List ℕ) (before left first now : Option (List ℕ)) (status : Status) : Type 0 where
+pub record LacksLine (space : Bool) (limit : ℕ) (b : List ℕ) (before left : Option (List ℕ)) (first now : Outlets) (status : Status) : Type 0 where
   pub asked : space ≡ true
   pub end : List ℕ
   pub refused : Bool
-  pub then : Option (List ℕ)
+  pub then : Outlets
   pub finishes : Finishes limit b before left first end refused then
-  pub stops : LineStops (last_line true end) then now status
+  pub stops : LineStops (last_line true end) then.written now.written status
+  pub taps : now.taps ≡ then.taps
 
 -- ---- the saving
 
@@ -108,12 +111,12 @@ SavingStops statuses.NoMemory = Unit {0}
 SavingStops other = ⊥
 
 -- all replies were written, and the line, and nothing was saved
-pub record LacksSaving (space : Bool) (limit : ℕ) (b : List ℕ) (before left first now : Option (List ℕ)) (status : Status) : Type 0 where
+pub record LacksSaving (space : Bool) (limit : ℕ) (b : List ℕ) (before left : Option (List ℕ)) (first now : Outlets) (status : Status) : Type 0 where
   pub end : List ℕ
   pub refused : Bool
   pub finishes : FinishesWith space limit b before left first end refused now
   pub stops : SavingStops status
 
 -- the run stopped in its script, at the line behind it, or before its saving
-abbrev pub HaltsWith : Bool → ℕ → List ℕ → Option (List ℕ) → Option (List ℕ) → Option (List ℕ) → Option (List ℕ) → Status → Type 0
+abbrev pub HaltsWith : Bool → ℕ → List ℕ → Option (List ℕ) → Option (List ℕ) → Outlets → Outlets → Status → Type 0
 HaltsWith space limit b before left first now status = Halts limit b before left first now status ⊎ (LacksLine space limit b before left first now status ⊎ LacksSaving space limit b before left first now status)

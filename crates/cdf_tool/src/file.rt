@@ -1,6 +1,6 @@
 //! The file that is asked for is attached, and the script is run over it.
 
-ghost use Rattle.std.specs.Prelude.{◌≡◌, ◌≢◌, ◌&&◌, ◌⊎◌, ℕ, [], true, false, length, IfErr, IfOk, IfSome, IsTrue, Some, None, not};
+ghost use Rattle.std.specs.Prelude.{◌≡◌, ◌≢◌, ◌&&◌, ◌⊎◌, ℕ, [], true, false, length, map, IfErr, IfOk, IfSome, IsTrue, Some, None, not};
 ghost use Rattle.std.specs.Option.{option_map};
 ghost use Rattle.cdf_area.specs.Frame.{Frame};
 ghost use Rattle.cdf_store.specs.Disk.{file_in, file_of};
@@ -11,6 +11,7 @@ ghost use Rattle.cdf_tool.specs.Asking.{asked_for};
 ghost use Rattle.cdf_tool.specs.Counts.{Counted, counts};
 ghost use Rattle.cdf_tool.specs.Due.{Untouched};
 ghost use Rattle.cdf_tool.specs.Ends.{EndsNamed, SpoilsTo};
+ghost use Rattle.cdf_tool.specs.Outlets.{with_taps};
 ghost use Rattle.cdf_tool.specs.Refusing.{was_refused};
 ghost use Rattle.cdf_tool.specs.Says.{Tells};
 ghost use Rattle.cdf_tool.specs.Statuses.{IsDone, replaced_by, status_of};
@@ -27,6 +28,7 @@ use cdf_area::{Area, MemArea};
 use cdf_model::limits::IMAGE_LIMIT;
 use cdf_pages::PagedArea;
 use cdf_store::{AttachError, Sink, Source, Store};
+use cdf_tap::Tap;
 use std::alloc::{AllocFailed, Global};
 
 /// An area over the file that is attached, which has so many bytes: over its image, or over an empty one. Where there is no memory
@@ -60,9 +62,10 @@ fn run_attached<S: Store, I: Source, O: Sink>(
     size: u64,
     script: &mut I,
     out: &mut O,
+    taps: &mut Vec<Box<dyn Tap>>,
 ) -> Ended<S>
     requires { Some size ≡ option_map length (S.disk store).held }
-    ensures ends { EndsAttached asked.now.new asked.now.no_save asked.now.space (file_of (S.disk store)) (S.disk store) (S.disk result.store) (I.left script.old) (I.left script.new) (O.written out.old) (O.written out.new) result.notes.left result.status }
+    ensures ends { EndsAttached asked.now.new asked.now.no_save asked.now.space (file_of (S.disk store)) (S.disk store) (S.disk result.store) (I.left script.old) (I.left script.new) (with_taps (O.written out.old) (map (λ tap. meaning tap) taps.old.items)) (with_taps (O.written out.new) (map (λ tap. meaning tap) taps.new.items)) result.notes.left result.status }
     ensures told { Tells result.notes.broken (S.disk result.store).held (O.written out.old) (O.written out.new) result.status }
     ensures none_left { result.status ≢ Status.StoreWriteFault → result.notes.left ≡ None }
     ensures replaced { result.notes.replaced ≡ 0 }
@@ -72,7 +75,7 @@ fn run_attached<S: Store, I: Source, O: Sink>(
 {
     match area_over(alloc, asked.new, store, size) {
         Ok(area) => {
-            let ran = run_area(alloc, asked.new, asked.space, area, script, out);
+            let ran = run_area(alloc, asked.new, asked.space, area, script, out, taps);
             finish(asked.new, asked.no_save, ran)
         }
         Err(failed) => Ended {
@@ -90,8 +93,9 @@ fn run_in_memory<S: Store, I: Source, O: Sink>(
     store: S,
     script: &mut I,
     out: &mut O,
+    taps: &mut Vec<Box<dyn Tap>>,
 ) -> Ended<S>
-    ensures ends { EndsInMemory space (I.left script.old) (I.left script.new) (O.written out.old) (O.written out.new) result.status }
+    ensures ends { EndsInMemory space (I.left script.old) (I.left script.new) (with_taps (O.written out.old) (map (λ tap. meaning tap) taps.old.items)) (with_taps (O.written out.new) (map (λ tap. meaning tap) taps.new.items)) result.status }
     ensures told { result.status ≢ Status.Rejected }
     ensures untold { result.notes.broken ≡ None }
     ensures left { result.notes.left ≡ None }
@@ -102,7 +106,7 @@ fn run_in_memory<S: Store, I: Source, O: Sink>(
     ensures store { result.store ≡ store }
 {
     let area = MemArea::new(alloc, Vec::new(alloc), IMAGE_LIMIT);
-    let ran = run_area(alloc, true, space, area, script, out);
+    let ran = run_area(alloc, true, space, area, script, out, taps);
     match ran.outcome {
         Ok(refusals) => Ended {
             status: end_status(refusals),
@@ -148,13 +152,14 @@ pub fn run_file<S: Store, I: Source, O: Sink>(
     store: S,
     script: &mut I,
     out: &mut O,
+    taps: &mut Vec<Box<dyn Tap>>,
 ) -> Ended<S>
     requires free { (S.disk store).held ≡ None }
     requires allowed { Allows (S.disk store).only asked.now.name.now }
-    ensures ends { EndsNamed (asked_for asked.now) (S.disk store) (S.disk result.store) (I.left script.old) (I.left script.new) (O.written out.old) (O.written out.new) result.status }
+    ensures ends { EndsNamed (asked_for asked.now) (S.disk store) (S.disk result.store) (I.left script.old) (I.left script.new) (with_taps (O.written out.old) (map (λ tap. meaning tap) taps.old.items)) (with_taps (O.written out.new) (map (λ tap. meaning tap) taps.new.items)) result.status }
     ensures told { Tells result.notes.broken (S.disk result.store).held (O.written out.old) (O.written out.new) result.status }
     ensures counted { Counted (counts (S.read_faults store) (S.write_faults store) (O.faults out.old) (I.faults script.old)) (counts (S.read_faults result.store) (S.write_faults result.store) (O.faults out.new) (I.faults script.new)) result.status }
-    ensures left { result.status ≡ Status.StoreWriteFault → SpoilsTo (asked_for asked.now) (S.disk store) (S.disk result.store) (I.left script.old) (I.left script.new) (O.written out.old) (O.written out.new) result.notes.left }
+    ensures left { result.status ≡ Status.StoreWriteFault → SpoilsTo (asked_for asked.now) (S.disk store) (S.disk result.store) (I.left script.old) (I.left script.new) (with_taps (O.written out.old) (map (λ tap. meaning tap) taps.old.items)) (with_taps (O.written out.new) (map (λ tap. meaning tap) taps.new.items)) result.notes.left }
     ensures none_left { result.status ≢ Status.StoreWriteFault → result.notes.left ≡ None }
     ensures replaced { IfSome (S.disk store).files (λ files. result.notes.replaced ≡ replaced_by (asked.now.new && not asked.now.no_save) (length (file_in (lookup asked.now.name.now files))) result.status) }
     ensures refusals { IsDone result.status → result.status ≡ status_of (was_refused result.notes.refusals) }
@@ -162,12 +167,12 @@ pub fn run_file<S: Store, I: Source, O: Sink>(
     ensures not_called { (asked.now.new && asked.now.no_save) ≡ true → result.store ≡ store }
 {
     if is_in_memory(asked) {
-        return run_in_memory(alloc, asked.space, store, script, out);
+        return run_in_memory(alloc, asked.space, store, script, out, taps);
     }
     let mut store = store;
     match store.attach(asked.name, asked.new) {
         Ok(Some(size)) => {
-            let ended = run_attached(alloc, asked, store, size, script, out);
+            let ended = run_attached(alloc, asked, store, size, script, out, taps);
             note_replaced(asked.new, size, ended)
         }
         Ok(None) => {

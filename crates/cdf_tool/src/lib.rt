@@ -13,6 +13,7 @@ mod replies;
 mod saving;
 mod say;
 mod script;
+mod showing;
 mod status;
 mod top;
 mod words;

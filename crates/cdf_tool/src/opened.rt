@@ -1,6 +1,6 @@
 //! The file in an area is opened, and the script is run over it.
 
-ghost use Rattle.std.specs.Prelude.{◌≡◌, ◌≢◌, ◌≤◌, ℕ, List, [], Bool, length, true, false, IfOk, IfErr, IfSome, OnOk, None};
+ghost use Rattle.std.specs.Prelude.{◌≡◌, ◌≢◌, ◌≤◌, ℕ, List, [], Bool, length, map, true, false, IfOk, IfErr, IfSome, OnOk, None};
 ghost use Rattle.cdf_format.specs.Sealed.{image_of};
 ghost use Rattle.cdf_format.specs.WellFormed.{Good};
 ghost use Rattle.cdf_model.specs.Limits.{image_limit};
@@ -9,6 +9,7 @@ ghost use Rattle.cdf_tool.specs.Areas.{EndsOver, Refuses, status_from};
 ghost use Rattle.cdf_tool.specs.Counts.{Counted, CountedIn, counts};
 ghost use Rattle.cdf_tool.specs.Ends.{EndsUnread, Opens};
 ghost use Rattle.cdf_tool.specs.Idle.{IfIdle};
+ghost use Rattle.cdf_tool.specs.Outlets.{with_taps};
 ghost use Rattle.cdf_tool.specs.Says.{Tells, old_file};
 
 use crate::Status;
@@ -20,6 +21,7 @@ use cdf_area::Area;
 use cdf_check::Broken;
 use cdf_session::{AdoptError, Refusal, Session};
 use cdf_store::{Sink, Source};
+use cdf_tap::Tap;
 use std::alloc::Global;
 
 /// What a run leaves over an area: which lines were refused, or the status with which it stopped.
@@ -96,11 +98,12 @@ pub fn run_area<A: Area, I: Source, O: Sink>(
     area: A,
     script: &mut I,
     out: &mut O,
+    taps: &mut Vec<Box<dyn Tap>>,
 ) -> Ran<A>
     requires empty { new ≡ true → A.image area ≡ [] }
     requires unmarked { (A.frame area).base ≡ None }
     requires limit { (A.frame area).limit ≡ image_limit }
-    ensures ends { EndsOver new space (A.image area) (I.left script.old) (I.left script.new) (O.written out.old) (O.written out.new) (A.image result.area) result.outcome }
+    ensures ends { EndsOver new space (A.image area) (I.left script.old) (I.left script.new) (with_taps (O.written out.old) (map (λ tap. meaning tap) taps.old.items)) (with_taps (O.written out.new) (map (λ tap. meaning tap) taps.new.items)) (A.image result.area) result.outcome }
     ensures told { Tells result.broken (old_file new (A.image area)) (O.written out.old) (O.written out.new) (status_from result.outcome) }
     ensures good { IfOk result.outcome (λ _. Good (A.image result.area)) }
     ensures fits { IfOk result.outcome (λ _. length (A.image result.area) ≤ image_limit) }
@@ -111,7 +114,7 @@ pub fn run_area<A: Area, I: Source, O: Sink>(
     match open(alloc, new, area) {
         Ok(session) => {
             let mut session = session;
-            let outcome = run_measured(alloc, space, &mut session, script, out);
+            let outcome = run_measured(alloc, space, &mut session, script, out, taps);
             Ran {
                 area: session.into_area(),
                 outcome,

@@ -1,32 +1,42 @@
 //! One line of a script is answered.
 
-ghost use Rattle.std.specs.Prelude.{◌≡◌, true, is_some, IfOk, OnOk};
+ghost use Rattle.std.specs.Prelude.{◌≡◌, ℕ, List, true, is_some, map, IfOk, OnOk};
 ghost use Rattle.cdf_area.specs.Calls.{Edits, Stays};
 ghost use Rattle.cdf_model.specs.Grammar.{Asks, parse as asked_for};
 ghost use Rattle.cdf_model.specs.Sayable.{Sayable};
 ghost use Rattle.cdf_model.specs.Turns.{is_refused};
-ghost use Rattle.cdf_model.specs.Texts.{reply_text as text_of};
 ghost use Rattle.cdf_model.specs.Whole.{CanBeWritten};
 ghost use Rattle.cdf_lines.specs.Pending.{line_of};
+ghost use Rattle.cdf_session.specs.Built.{is_applied};
+ghost use Rattle.cdf_tap.specs.Meanings.{kinds_of};
+ghost use Rattle.cdf_tool.specs.Answering.{IsAnswer, IsReplyOf, RepliesTo};
 ghost use Rattle.cdf_tool.specs.Idle.{asks_idly, line_idles};
-ghost use Rattle.cdf_tool.specs.Replay.{IsSayable, IsShort, Turns, asked_by};
+ghost use Rattle.cdf_tool.specs.Replay.{IsSayable, IsShort, asked_by};
 
 use crate::refusals::{LineMark, RefusedLine, mark_of};
 use cdf_area::{Area, AreaError};
 use cdf_lines::Line;
-use cdf_model::{Command, LineError, Outcome, Reason};
+use cdf_model::{Bytes, Command, LineError, Outcome, Reason};
 use cdf_reply::reply_text;
 use cdf_script::{ParseError, Parsed, parse};
 use cdf_session::Session;
+use cdf_tap::{Tap, has_tap};
 use std::alloc::{AllocError, Global};
 
-/// What is answered to a line.
+/// What a line is answered.
 #[derive(Drop)]
-pub struct Answer {
-    /// The reply, which is empty for a blank line.
-    pub text: Vec<u8>,
-    /// The line, where it was refused.
-    pub refused: Option<RefusedLine>,
+pub enum Answer {
+    /// This reply, which is empty for a blank line, and the line, where it was refused.
+    Reply {
+        text: Vec<u8>,
+        refused: Option<RefusedLine>,
+    },
+    /// All events of the data set, which are yet to be written.
+    Dump,
+    /// What the taps of a name say, of which there are some. They are yet to be shown the events.
+    Report {
+        name: Bytes,
+    },
 }
 
 /// A line of a number that was refused, where it comes to a refusal.
@@ -43,7 +53,7 @@ fn refused_line(number: u64, outcome: &Outcome, mark: Option<LineMark>) -> Optio
     }
 }
 
-/// What is answered to a line of a number that comes to this.
+/// The reply to a line of a number that comes to this.
 fn answer_of(
     alloc: Global,
     number: u64,
@@ -51,18 +61,16 @@ fn answer_of(
     mark: Option<LineMark>,
 ) -> Result<Answer, AllocError>
     requires { CanBeWritten outcome.now }
-    ensures text { IfOk result (λ answer. answer.text.items ≡ text_of number outcome.now) }
-    ensures refused { IfOk result (λ answer. is_some answer.refused ≡ is_refused outcome.now) }
+    ensures { IfOk result (IsReplyOf number outcome.now) }
 {
     let text = reply_text(alloc, number, outcome)?;
     let refused = refused_line(number, outcome, mark);
-    Ok(Answer { text, refused })
+    Ok(Answer::Reply { text, refused })
 }
 
-/// What is answered to a line that is no command.
+/// The reply to a line that is no command.
 fn answer_to_fault(alloc: Global, line: &Line, fault: LineError) -> Result<Answer, AllocError>
-    ensures text { IfOk result (λ answer. answer.text.items ≡ text_of line.now.number (Outcome.Refused (Reason.BadLine fault))) }
-    ensures refused { IfOk result (λ answer. is_some answer.refused ≡ true) }
+    ensures { IfOk result (IsReplyOf line.now.number (Outcome.Refused (Reason.BadLine fault))) }
 {
     let reason = Reason::BadLine { fault };
     answer_of(
@@ -85,15 +93,16 @@ fn mark_of_command(line: &Line, outcome: &Outcome) -> Option<LineMark> {
     }
 }
 
-/// Answers a command, which a line asks for.
-fn answer_command<A: Area>(
+/// Carries out a command, which a line asks for, and replies what it comes to.
+fn answer_outcome<A: Area>(
     alloc: Global,
     session: &mut Session<A>,
     line: &Line,
     command: &Command,
 ) -> Result<Answer, AreaError>
-    requires { Sayable command.now }
-    ensures turns { IfOk result (λ answer. Turns (A.frame session.old).limit (A.image session.old) line.now.number (Asks command.now) (A.image session.new) (is_some answer.refused) answer.text.items) }
+    requires sayable { Sayable command.now }
+    requires applied { is_applied command.now ≡ true }
+    ensures replies { IfOk result (RepliesTo (A.frame session.old).limit (A.image session.old) line.now.number command.now (A.image session.new)) }
     ensures idle { asks_idly (A.frame session.old).limit (A.image session.old) (Asks command.now) ≡ true → OnOk result (Stays A.image A.frame A.faults A.edited session.old session.new) }
     ensures area { Edits A.frame A.faults session.old session.new result }
 {
@@ -102,40 +111,83 @@ fn answer_command<A: Area>(
     Ok(answer_of(alloc, line.number, &outcome, mark)?)
 }
 
+/// Answers a report of a name, which a line asks for.
+fn answer_report(
+    alloc: Global,
+    line: &Line,
+    taps: &Vec<Box<dyn Tap>>,
+    name: Bytes,
+) -> Result<Answer, AllocError>
+    ensures { (limit : ℕ) (b : List ℕ) → IfOk result (IsAnswer limit b (kinds_of (map (λ tap. meaning tap) taps.now.items)) line.now.number (Asks (Command.Report name)) b) }
+{
+    if has_tap(taps, name.as_slice()) {
+        return Ok(Answer::Report { name });
+    }
+    let reason = Reason::NoSuchTap;
+    answer_of(
+        alloc,
+        line.number,
+        &Outcome::Refused { reason },
+        mark_of(line),
+    )
+}
+
+/// Answers a command, which a line asks for.
+fn answer_command<A: Area>(
+    alloc: Global,
+    session: &mut Session<A>,
+    line: &Line,
+    taps: &Vec<Box<dyn Tap>>,
+    command: Command,
+) -> Result<Answer, AreaError>
+    requires { Sayable command }
+    ensures answers { IfOk result (IsAnswer (A.frame session.old).limit (A.image session.old) (kinds_of (map (λ tap. meaning tap) taps.now.items)) line.now.number (Asks command) (A.image session.new)) }
+    ensures idle { asks_idly (A.frame session.old).limit (A.image session.old) (Asks command) ≡ true → OnOk result (Stays A.image A.frame A.faults A.edited session.old session.new) }
+    ensures area { Edits A.frame A.faults session.old session.new result }
+{
+    match command {
+        Command::Dump => Ok(Answer::Dump),
+        Command::Report { tap } => Ok(answer_report(alloc, line, taps, tap)?),
+        other => answer_outcome(alloc, session, line, &other),
+    }
+}
+
 /// Answers what a line asks for.
 fn answer_parsed<A: Area>(
     alloc: Global,
     session: &mut Session<A>,
     line: &Line,
-    parsed: &Parsed,
+    taps: &Vec<Box<dyn Tap>>,
+    parsed: Parsed,
 ) -> Result<Answer, AreaError>
-    requires { IsSayable (asked_by parsed.now) }
-    ensures turns { IfOk result (λ answer. Turns (A.frame session.old).limit (A.image session.old) line.now.number (asked_by parsed.now) (A.image session.new) (is_some answer.refused) answer.text.items) }
-    ensures idle { asks_idly (A.frame session.old).limit (A.image session.old) (asked_by parsed.now) ≡ true → OnOk result (Stays A.image A.frame A.faults A.edited session.old session.new) }
+    requires { IsSayable (asked_by parsed) }
+    ensures answers { IfOk result (IsAnswer (A.frame session.old).limit (A.image session.old) (kinds_of (map (λ tap. meaning tap) taps.now.items)) line.now.number (asked_by parsed) (A.image session.new)) }
+    ensures idle { asks_idly (A.frame session.old).limit (A.image session.old) (asked_by parsed) ≡ true → OnOk result (Stays A.image A.frame A.faults A.edited session.old session.new) }
     ensures area { Edits A.frame A.faults session.old session.new result }
 {
     match parsed {
-        Parsed::Blank => Ok(Answer {
+        Parsed::Blank => Ok(Answer::Reply {
             text: Vec::new(alloc),
             refused: None,
         }),
-        Parsed::Cmd { c } => answer_command(alloc, session, line, c),
+        Parsed::Cmd { c } => answer_command(alloc, session, line, taps, c),
     }
 }
 
-/// Answers a line.
+/// Answers a line. A dump or a report is yet to be written then.
 pub fn answer_line<A: Area>(
     alloc: Global,
     session: &mut Session<A>,
     line: &Line,
+    taps: &Vec<Box<dyn Tap>>,
 ) -> Result<Answer, AreaError>
     requires { IsShort (line_of line.now) }
-    ensures turns { IfOk result (λ answer. Turns (A.frame session.old).limit (A.image session.old) line.now.number (asked_for (line_of line.now)) (A.image session.new) (is_some answer.refused) answer.text.items) }
+    ensures answers { IfOk result (IsAnswer (A.frame session.old).limit (A.image session.old) (kinds_of (map (λ tap. meaning tap) taps.now.items)) line.now.number (asked_for (line_of line.now)) (A.image session.new)) }
     ensures idle { line_idles (A.frame session.old).limit (A.image session.old) (line_of line.now) ≡ true → OnOk result (Stays A.image A.frame A.faults A.edited session.old session.new) }
     ensures area { Edits A.frame A.faults session.old session.new result }
 {
     match parse(alloc, line) {
-        Ok(parsed) => answer_parsed(alloc, session, line, &parsed),
+        Ok(parsed) => answer_parsed(alloc, session, line, taps, parsed),
         Err(ParseError::Bad { fault }) => Ok(answer_to_fault(alloc, line, fault)?),
         Err(ParseError::NoMemory) => Err(AreaError::NoMemory),
     }

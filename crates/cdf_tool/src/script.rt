@@ -1,19 +1,21 @@
 //! A script is run line by line.
 
-ghost use Rattle.std.specs.Prelude.{◌≡◌, ◌≤◌, ℕ, [], true, false, is_some, IsTrue, IfOk, IfErr, OnOk};
+ghost use Rattle.std.specs.Prelude.{◌≡◌, ◌≤◌, ℕ, [], true, false, is_some, map, IsTrue, IfOk, IfErr, OnOk};
 ghost use Rattle.cdf_area.specs.Calls.{Stays};
 ghost use Rattle.cdf_lines.specs.Pending.{line_of};
 ghost use Rattle.cdf_tool.specs.Counts.{CountedIn, counts};
 ghost use Rattle.cdf_tool.specs.Taking.{Takes, TakesNone};
 ghost use Rattle.cdf_tool.specs.Idle.{IfIdle, all_idle_over, line_idles};
+ghost use Rattle.cdf_tool.specs.Outlets.{with_taps};
 ghost use Rattle.cdf_tool.specs.Replay.{AreShort, GathersReply, GivesNext, IsDrained, IsShort, PassesAll, Replies as AllReplies, Stops, StopsAt};
 ghost use Rattle.cdf_tool.specs.Refusing.{was_refused};
 ghost use Rattle.cdf_tool.specs.Script.{Finishes, Halts};
 
 use crate::Status;
 use crate::refusals::{Refusals, RefusedLine};
-use crate::replay::answer_line;
+use crate::replay::{Answer, answer_line};
 use crate::replies::Replies;
+use crate::showing::{dump, report};
 use crate::status::area_status;
 use cdf_area::Area;
 use cdf_lines::{Line, Lines};
@@ -21,6 +23,7 @@ use cdf_model::limits::SCRIPT_LIMIT;
 use cdf_script::is_blank_line;
 use cdf_session::Session;
 use cdf_store::{Failed, Sink, Source};
+use cdf_tap::Tap;
 use std::alloc::{AllocError, Global};
 
 /// The most bytes that are taken of the source at a time.
@@ -41,26 +44,46 @@ fn next_to_answer(lines: &mut Lines) -> bool
     false
 }
 
-/// Answers a line, and answers it where it was refused. Its reply is gathered; where there is none, what was gathered before is written.
+/// Answers a line, and answers it where it was refused. Its reply is gathered; where it shows the data set, or there is none, what was
+/// gathered before is written.
 fn gather_reply<A: Area, O: Sink>(
     alloc: Global,
     session: &mut Session<A>,
     line: &Line,
     replies: &mut Replies,
     out: &mut O,
+    taps: &mut Vec<Box<dyn Tap>>,
 ) -> Result<Option<RefusedLine>, Status>
     requires { IsShort (line_of line.now) }
-    ensures ok { IfOk result (λ refused. GathersReply (A.frame session.old).limit (A.image session.old) line.now (A.image session.new) (is_some refused) (O.written out.old) replies.old (O.written out.new) replies.new) }
-    ensures stops { IfErr result (λ status. StopsAt (A.frame session.old).limit (A.image session.old) line.now (O.written out.old) replies.old (O.written out.new) status) }
+    ensures ok { IfOk result (λ refused. GathersReply (A.frame session.old).limit (A.image session.old) line.now (A.image session.new) (is_some refused) (with_taps (O.written out.old) (map (λ tap. meaning tap) taps.old.items)) replies.old (with_taps (O.written out.new) (map (λ tap. meaning tap) taps.new.items)) replies.new) }
+    ensures stops { IfErr result (λ status. StopsAt (A.frame session.old).limit (A.image session.old) line.now (with_taps (O.written out.old) (map (λ tap. meaning tap) taps.old.items)) replies.old (with_taps (O.written out.new) (map (λ tap. meaning tap) taps.new.items)) status) }
     ensures idle { line_idles (A.frame session.old).limit (A.image session.old) (line_of line.now) ≡ true → OnOk result (Stays A.image A.frame A.faults A.edited session.old session.new) }
     ensures frame { A.frame session.new ≡ A.frame session.old }
     ensures counted { (source : ℕ) → CountedIn (counts (A.faults session.old) 0 (O.faults out.old) source) (counts (A.faults session.new) 0 (O.faults out.new) source) result }
 {
-    match answer_line(alloc, session, line) {
-        Ok(answer) => match replies.add(&answer.text, out) {
-            Ok(()) => Ok(answer.refused),
+    match answer_line(alloc, session, line, taps) {
+        Ok(Answer::Reply { text, refused }) => match replies.add(&text, out) {
+            Ok(()) => Ok(refused),
             Err(Failed) => Err(Status::OutputFault),
         },
+        Ok(Answer::Dump) => match dump(alloc, session, line.number, replies, out) {
+            Ok(()) => Ok(None),
+            Err(status) => Err(status),
+        },
+        Ok(Answer::Report { name }) => {
+            match report(
+                alloc,
+                session,
+                line.number,
+                name.as_slice(),
+                taps,
+                replies,
+                out,
+            ) {
+                Ok(()) => Ok(None),
+                Err(status) => Err(status),
+            }
+        }
         Err(error) => match replies.write(out) {
             Ok(()) => Err(area_status(error)),
             Err(Failed) => Err(Status::OutputFault),
@@ -75,20 +98,21 @@ fn answer_lines<A: Area, O: Sink>(
     lines: &mut Lines,
     replies: &mut Replies,
     out: &mut O,
+    taps: &mut Vec<Box<dyn Tap>>,
 ) -> Result<Refusals, Status>
     requires short { AreShort lines.old.ready }
     requires none_left { replies.old ≡ [] }
-    ensures ok { IfOk result (λ refusals. AllReplies (A.frame session.old).limit (A.image session.old) lines.old.given lines.old.ready (A.image session.new) (was_refused refusals) (O.written out.old) (O.written out.new)) }
+    ensures ok { IfOk result (λ refusals. AllReplies (A.frame session.old).limit (A.image session.old) lines.old.given lines.old.ready (A.image session.new) (was_refused refusals) (with_taps (O.written out.old) (map (λ tap. meaning tap) taps.old.items)) (with_taps (O.written out.new) (map (λ tap. meaning tap) taps.new.items))) }
     ensures drained { OnOk result (IsDrained lines.old lines.new) }
     ensures none_left { OnOk result (replies.new ≡ []) }
-    ensures stops { IfErr result (λ status. Stops (A.frame session.old).limit (A.image session.old) lines.old.given lines.old.ready (O.written out.old) (O.written out.new) status) }
+    ensures stops { IfErr result (λ status. Stops (A.frame session.old).limit (A.image session.old) lines.old.given lines.old.ready (with_taps (O.written out.old) (map (λ tap. meaning tap) taps.old.items)) (with_taps (O.written out.new) (map (λ tap. meaning tap) taps.new.items)) status) }
     ensures idle { all_idle_over (A.frame session.old).limit (A.image session.old) lines.old.ready ≡ true → OnOk result (Stays A.image A.frame A.faults A.edited session.old session.new) }
     ensures frame { A.frame session.new ≡ A.frame session.old }
     ensures counted { (source : ℕ) → CountedIn (counts (A.faults session.old) 0 (O.faults out.old) source) (counts (A.faults session.new) 0 (O.faults out.new) source) result }
 {
     let mut refusals = Refusals::none();
     'ready: while next_to_answer(lines) {
-        match gather_reply(alloc, session, &lines.line(), replies, out) {
+        match gather_reply(alloc, session, &lines.line(), replies, out, taps) {
             Ok(refused) => refusals.count(refused),
             Err(status) => return Err(status),
         }
@@ -132,9 +156,10 @@ pub fn run_script<A: Area, I: Source, O: Sink>(
     session: &mut Session<A>,
     script: &mut I,
     out: &mut O,
+    taps: &mut Vec<Box<dyn Tap>>,
 ) -> Result<Refusals, Status>
-    ensures ok { IfOk result (λ refusals. Finishes (A.frame session.old).limit (A.image session.old) (I.left script.old) (I.left script.new) (O.written out.old) (A.image session.new) (was_refused refusals) (O.written out.new)) }
-    ensures err { IfErr result (λ status. Halts (A.frame session.old).limit (A.image session.old) (I.left script.old) (I.left script.new) (O.written out.old) (O.written out.new) status) }
+    ensures ok { IfOk result (λ refusals. Finishes (A.frame session.old).limit (A.image session.old) (I.left script.old) (I.left script.new) (with_taps (O.written out.old) (map (λ tap. meaning tap) taps.old.items)) (A.image session.new) (was_refused refusals) (with_taps (O.written out.new) (map (λ tap. meaning tap) taps.new.items))) }
+    ensures err { IfErr result (λ status. Halts (A.frame session.old).limit (A.image session.old) (I.left script.old) (I.left script.new) (with_taps (O.written out.old) (map (λ tap. meaning tap) taps.old.items)) (with_taps (O.written out.new) (map (λ tap. meaning tap) taps.new.items)) status) }
     ensures idle { OnOk result (IfIdle (A.frame session.old).limit (A.image session.old) (I.left script.old) (Stays A.image A.frame A.faults A.edited session.old session.new)) }
     ensures frame { A.frame session.new ≡ A.frame session.old }
     ensures counted { CountedIn (counts (A.faults session.old) 0 (O.faults out.old) (I.faults script.old)) (counts (A.faults session.new) 0 (O.faults out.new) (I.faults script.new)) result }
@@ -148,7 +173,7 @@ pub fn run_script<A: Area, I: Source, O: Sink>(
             Ok(more) => more,
             Err(status) => return Err(status),
         };
-        match answer_lines(alloc, session, &mut lines, &mut replies, out) {
+        match answer_lines(alloc, session, &mut lines, &mut replies, out, taps) {
             Ok(more) => refusals.join(more),
             Err(status) => return Err(status),
         }

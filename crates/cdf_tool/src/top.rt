@@ -16,6 +16,7 @@ ghost use Rattle.cdf_tool.specs.Due.{CanBegin, Looked, Untouched, calls_store};
 ghost use Rattle.cdf_tool.specs.Endings.{Ends};
 ghost use Rattle.cdf_tool.specs.Ends.{SpoilsTo};
 ghost use Rattle.cdf_tool.specs.Idle.{IfIdle};
+ghost use Rattle.cdf_tool.specs.Outlets.{with_taps};
 ghost use Rattle.cdf_tool.specs.Reading.{IfReads, WritesNothing};
 ghost use Rattle.cdf_tool.specs.Says.{Names};
 ghost use Rattle.cdf_tool.specs.Statuses.{Exactly, IsDone, IsFailure, IsUnsaved, replaced_by};
@@ -29,34 +30,38 @@ use crate::notes::Notes;
 use crate::say::say_usage;
 use crate::words::{WordsError, read_words};
 use cdf_store::{Sink, Source, Store};
+use cdf_tap::Tap;
 use std::alloc::Global;
 
-/// Runs the program: over the words of its command line without the program's own name, a store that has no file attached, the script
-/// and the output. The store comes back on every status.
+/// Runs the program: over the words of its command line without the program's own name, a store that has no file attached, the taps that
+/// a report may name, the script and the output. The store comes back on every status.
 pub fn run<S: Store, I: Source, O: Sink>(
     alloc: Global,
     words: &[String],
     store: S,
     script: &mut I,
     out: &mut O,
+    taps: &mut Vec<Box<dyn Tap>>,
 ) -> Ended<S>
     requires free { (S.disk store).held ≡ None }
     requires allowed { ForSome (ask (map string_bytes words.now)) (λ asked. Allows (S.disk store).only asked.name) }
 
     // Over devices that tell their bytes: with status 0 or 1, and without `--check`, the file is well formed, or a new one was made, and there are a last image
     // and a flag for each line, so that the script leads from the first image to the last one, what was written is the text of the run
-    // over the data set of the first, and nothing else, the last image is stored, the script was read to its end, and the status is 1
-    // exactly where that run refuses a line. The last image is good, and means the data set that the run ends with. Where no line changed
-    // anything, nothing was written to the store.
-    ensures accepted { Accepts (ask (map string_bytes words.now)) (S.disk store) (S.disk result.store) (I.left script.old) (I.left script.new) (O.written out.old) (O.written out.new) result.status }
+    // over the data set of the first and the taps, and nothing else, the last image is stored, the script was read to its end, and the status
+    // is 1 exactly where that run refuses a line. The last image is good, and means the data set that the run ends with, and those taps
+    // are left that the run leaves. Where no line changed anything, nothing was written to the store.
+    ensures accepted { Accepts (ask (map string_bytes words.now)) (S.disk store) (S.disk result.store) (I.left script.old) (I.left script.new) (with_taps (O.written out.old) (map (λ tap. meaning tap) taps.old.items)) (with_taps (O.written out.new) (map (λ tap. meaning tap) taps.new.items)) result.status }
 
     // With `--check` status 0 comes exactly where the file that was read is well formed; then `yes` is written, and the line on space
-    // where it is asked for, and nothing else. The script is not read.
+    // where it is asked for, and nothing else. The script is not read, and the taps are as they were.
     ensures checked { IfSome (ask (map string_bytes words.now)) (λ asked. asked.check ≡ true → Checks asked.space (S.disk result.store).held (O.written out.old) (O.written out.new) result.status) }
     ensures unread { IfSome (ask (map string_bytes words.now)) (λ asked. asked.check ≡ true → script.new ≡ script.old) }
+    ensures unshown { IfSome (ask (map string_bytes words.now)) (λ asked. asked.check ≡ true → taps.new ≡ taps.old) }
 
-    // Over any devices: what was written, what was read and what became of the store, status by status.
-    ensures ends { Ends (ask (map string_bytes words.now)) (S.disk store) (S.disk result.store) (I.left script.old) (I.left script.new) (O.written out.old) (O.written out.new) result.status }
+    // Over any devices: what was written, what was read and what became of the store and of the taps, status by status. Where the run
+    // stopped in its script, the taps are left that the lines left which were answered.
+    ensures ends { Ends (ask (map string_bytes words.now)) (S.disk store) (S.disk result.store) (I.left script.old) (I.left script.new) (with_taps (O.written out.old) (map (λ tap. meaning tap) taps.old.items)) (with_taps (O.written out.new) (map (λ tap. meaning tap) taps.new.items)) result.status }
 
     // The file that is attached has the name that was asked for. Unless it is new or was saved, it is the one of that name over a store that tells its files.
     ensures named { IfSome (ask (map string_bytes words.now)) (λ asked. (S.disk result.store).name ≡ option_map (λ _. asked.name) (S.disk result.store).held) }
@@ -108,7 +113,7 @@ pub fn run<S: Store, I: Source, O: Sink>(
     // With status 6 it is told what the saving left: the file has its old bytes, old ones and new ones, or all new ones, which the
     // store may not have stored. With any other status nothing is told.
     ensures left { IfSome (ask (map string_bytes words.now)) (λ asked. result.status ≡ Status.StoreWriteFault →
-        SpoilsTo asked (S.disk store) (S.disk result.store) (I.left script.old) (I.left script.new) (O.written out.old) (O.written out.new) result.notes.left) }
+        SpoilsTo asked (S.disk store) (S.disk result.store) (I.left script.old) (I.left script.new) (with_taps (O.written out.old) (map (λ tap. meaning tap) taps.old.items)) (with_taps (O.written out.new) (map (λ tap. meaning tap) taps.new.items)) result.notes.left) }
     ensures none_left { result.status ≢ Status.StoreWriteFault → result.notes.left ≡ None }
 
     // With `--new`, where the file was saved, it is told how many bytes there were under the name, and else 0.
@@ -127,7 +132,7 @@ pub fn run<S: Store, I: Source, O: Sink>(
             if asked.check {
                 check_file(alloc, &asked, store, out)
             } else {
-                run_file(alloc, &asked, store, script, out)
+                run_file(alloc, &asked, store, script, out, taps)
             }
         }
         Err(WordsError::Usage) => {

@@ -14,12 +14,12 @@ finish-requires-clause-no_write g c = no_write _ _ _ _ _ _ c.run_area-ran.result
 
 pub finish-requires-clause-opened : goal.finish-requires-clause-opened
 finish-requires-clause-opened g c =
-    attached_holds c.args.asked.now.new c.args.asked.now.space _ (g.S.Store.disk c.args.store) _ (g.I.Source.left c.args.script.now) (g.I.Source.left c.run_area-ran.new.script) (g.O.Sink.written c.args.out.now) (g.O.Sink.written c.run_area-ran.new.out)
+    attached_holds c.args.asked.now.new c.args.asked.now.space _ (g.S.Store.disk c.args.store) _ (g.I.Source.left c.args.script.now) (g.I.Source.left c.run_area-ran.new.script) _ _
     _ c.run_area-ran.result.outcome c.in-Ok.ensures.image (ap (λ (f : Frame (Disk g.S.Store.Under × ℕ)). f.under.0) (c.run_area-ran.ensures.frame ∙ c.in-Ok.ensures.frame)) c.run_area-ran.ensures.ends
 
 pub returns-in-Ok-clause-ends : goal.returns-in-Ok-clause-ends
 returns-in-Ok-clause-ends g c =
-    attached_all c.args.asked.now.new c.args.asked.now.no_save c.args.asked.now.space (file_of (g.S.Store.disk c.args.store)) _ (g.S.Store.disk c.args.store) _ (g.S.Store.disk c.finish.result.store) (g.I.Source.left c.args.script.now) (g.I.Source.left c.run_area-ran.new.script) (g.O.Sink.written c.args.out.now) (g.O.Sink.written c.run_area-ran.new.out)
+    attached_all c.args.asked.now.new c.args.asked.now.no_save c.args.asked.now.space (file_of (g.S.Store.disk c.args.store)) _ (g.S.Store.disk c.args.store) _ (g.S.Store.disk c.finish.result.store) (g.I.Source.left c.args.script.now) (g.I.Source.left c.run_area-ran.new.script) _ _
     _ c.run_area-ran.result.outcome c.finish.result.notes.left c.finish.result.status c.in-Ok.ensures.image c.run_area-ran.ensures.ends c.run_area-ran.ensures.good
     (ap (λ (f : Frame (Disk g.S.Store.Under × ℕ)). f.under.0) (c.run_area-ran.ensures.frame ∙ c.in-Ok.ensures.frame)) c.finish.ensures.ends c.finish.ensures.left
     _ _ (λ old same. same ∙ c.in-Ok.ensures.unedited old) c.run_area-ran.ensures.unedited c.finish.ensures.unmoved
@@ -67,7 +67,7 @@ pub returns-in-Err-clause-ends : goal.returns-in-Err-clause-ends
 returns-in-Err-clause-ends g c = record {
   end = [];
   outcome = Err statuses.NoMemory;
-  over = inl (refl, refl);
+  over = inl (refl, refl, refl);
   good = tt;
   stored = (refl, ap (λ s. g.S.Store.disk s) c.in-Err.ensures.handed_back);
   leaves = c.none.ensures.left;

@@ -11,7 +11,7 @@ pub returns-then-is_in_memory-clause-ends : goal.returns-then-is_in_memory-claus
 returns-then-is_in_memory-clause-ends g c =
     let asked = c.args.asked.now in
     let both = both_are asked.new asked.no_save (sym c.is_in_memory.ensures ∙ c.if-is_in_memory.true) in
-    rw c.run_in_memory.ensures.store (in_memory_ends asked.new asked.check asked.no_save asked.space asked.name.now (g.S.Store.disk c.args.store) (g.I.Source.left c.args.script.now) (g.I.Source.left c.run_in_memory.new.script) (g.O.Sink.written c.args.out.now) (g.O.Sink.written c.run_in_memory.new.out)
+    rw c.run_in_memory.ensures.store (in_memory_ends asked.new asked.check asked.no_save asked.space asked.name.now (g.S.Store.disk c.args.store) (g.I.Source.left c.args.script.now) (g.I.Source.left c.run_in_memory.new.script) _ _
     c.run_in_memory.result.status both.0 both.1 c.run_in_memory.ensures.ends)
 
 pub returns-in-Ok-Some-clause-ends : goal.returns-in-Ok-Some-clause-ends
@@ -30,7 +30,7 @@ returns-in-Ok-Some-clause-ends g c =
       only = e.only;
       under = e.under;
     } in
-    rw (c.note_replaced.ensures.status, c.note_replaced.ensures.store) (attached_ends asked.new asked.check asked.no_save asked.space asked.name.now (file_of at) d (g.S.Store.disk c.run_attached-ended.result.store) (g.I.Source.left c.args.script.now) (g.I.Source.left c.run_attached-ended.new.script) (g.O.Sink.written c.args.out.now) (g.O.Sink.written c.run_attached-ended.new.out)
+    rw (c.note_replaced.ensures.status, c.note_replaced.ensures.store) (attached_ends asked.new asked.check asked.no_save asked.space asked.name.now (file_of at) d (g.S.Store.disk c.run_attached-ended.result.store) (g.I.Source.left c.args.script.now) (g.I.Source.left c.run_attached-ended.new.script) _ _
     at attached (saves asked.new asked.no_save (sym c.is_in_memory.ensures ∙ c.if-is_in_memory.false)) c.run_attached-ended.result.notes.left c.run_attached-ended.result.status c.run_attached-ended.ensures.ends)
 
 pub returns-in-Ok-Some-clause-left : goal.returns-in-Ok-Some-clause-left
@@ -49,7 +49,7 @@ returns-in-Ok-Some-clause-left g c =
       only = e.only;
       under = e.under;
     } in
-    rw (c.note_replaced.ensures.status, c.note_replaced.ensures.store, c.note_replaced.ensures.left) (attached_spoils asked.new asked.check asked.no_save asked.space asked.name.now (file_of at) d (g.S.Store.disk c.run_attached-ended.result.store) (g.I.Source.left c.args.script.now) (g.I.Source.left c.run_attached-ended.new.script) (g.O.Sink.written c.args.out.now) (g.O.Sink.written c.run_attached-ended.new.out)
+    rw (c.note_replaced.ensures.status, c.note_replaced.ensures.store, c.note_replaced.ensures.left) (attached_spoils asked.new asked.check asked.no_save asked.space asked.name.now (file_of at) d (g.S.Store.disk c.run_attached-ended.result.store) (g.I.Source.left c.args.script.now) (g.I.Source.left c.run_attached-ended.new.script) _ _
     at attached (saves asked.new asked.no_save (sym c.is_in_memory.ensures ∙ c.if-is_in_memory.false)) c.run_attached-ended.result.notes.left c.run_attached-ended.result.status c.run_attached-ended.ensures.ends)
 
 pub returns-in-Ok-Some-clause-synced : goal.returns-in-Ok-Some-clause-synced

@@ -8,8 +8,7 @@ use Rattle.cdf_tool.proofs.script.answer_lines.Goals as goal
 
 pub ready-init : goal.ready-init
 ready-init g c = record {
-  reached = subst (λ (r : Bool). Reached (g.A.Area.frame c.args.session.now).limit (g.A.Area.image c.args.session.now) c.args.lines.now.given c.args.lines.now.ready (g.O.Sink.written c.args.out.now) c.args.lines.now.given c.args.lines.now.ready (g.A.Area.image c.args.session.now) r (g.O.Sink.written c.args.out.now) c.args.replies.now) (sym c.none-refusals.ensures)
-      (starts (g.A.Area.frame c.args.session.now).limit (g.A.Area.image c.args.session.now) c.args.lines.now.given c.args.lines.now.ready (g.O.Sink.written c.args.out.now) c.args.replies.now c.requires.none_left);
+  reached = rw c.none-refusals.ensures (starts (g.A.Area.frame c.args.session.now).limit (g.A.Area.image c.args.session.now) c.args.lines.now.given c.args.lines.now.ready _ c.args.replies.now c.requires.none_left);
   short = c.requires.short;
   idle = λ all. (all, stays_still g.A.Area.image g.A.Area.frame g.A.Area.faults g.A.Area.edited c.args.session.now);
   rest = refl;
@@ -32,10 +31,10 @@ ready-preserved g c =
     let next : GivesNext c.ready.lines c.next_to_answer.new.lines = c.next_to_answer.ensures.line c.ready-test.true in
     let same = next_same c.ready.lines c.next_to_answer.new.lines next in
     record {
-      reached = next_answered (g.A.Area.frame c.args.session.now).limit (g.A.Area.image c.args.session.now) c.args.lines.now.given c.args.lines.now.ready (g.O.Sink.written c.args.out.now)
-          (g.A.Area.image c.ready.session) (was_refused c.ready.refusals) (g.O.Sink.written c.ready.out) c.ready.replies c.ready.lines i.reached
+      reached = next_answered (g.A.Area.frame c.args.session.now).limit (g.A.Area.image c.args.session.now) c.args.lines.now.given c.args.lines.now.ready _
+          (g.A.Area.image c.ready.session) (was_refused c.ready.refusals) _ c.ready.replies c.ready.lines i.reached
           c.next_to_answer.new.lines c.line.result (g.A.Area.frame c.ready.session).limit next c.line.ensures.text c.line.ensures.number (ap (λ f. f.limit) i.frame)
-          (g.A.Area.image c.gather_reply.new.session) (is_some c.in-Ok.refused) (was_refused c.count.new.self) (g.O.Sink.written c.gather_reply.new.out) c.gather_reply.new.replies c.count.ensures c.in-Ok.ensures.ok;
+          (g.A.Area.image c.gather_reply.new.session) (is_some c.in-Ok.refused) (was_refused c.count.new.self) _ c.gather_reply.new.replies c.count.ensures c.in-Ok.ensures.ok;
       short = (next_short c.ready.lines c.next_to_answer.new.lines next i.short).1;
       idle = λ all.
           let so_far = i.idle all in
@@ -58,10 +57,10 @@ returns-in-Err g c =
       ok = tt;
       drained = tt;
       none_left = tt;
-      stops = next_stops (g.A.Area.frame c.args.session.now).limit (g.A.Area.image c.args.session.now) c.args.lines.now.given c.args.lines.now.ready (g.O.Sink.written c.args.out.now)
-          (g.A.Area.image c.ready.session) (was_refused c.ready.refusals) (g.O.Sink.written c.ready.out) c.ready.replies c.ready.lines i.reached
+      stops = next_stops (g.A.Area.frame c.args.session.now).limit (g.A.Area.image c.args.session.now) c.args.lines.now.given c.args.lines.now.ready _
+          (g.A.Area.image c.ready.session) (was_refused c.ready.refusals) _ c.ready.replies c.ready.lines i.reached
           c.next_to_answer.new.lines c.line.result (g.A.Area.frame c.ready.session).limit next c.line.ensures.text c.line.ensures.number (ap (λ f. f.limit) i.frame)
-          (g.O.Sink.written c.gather_reply.new.out) c.in-Err.status c.in-Err.ensures.stops;
+          _ c.in-Err.status c.in-Err.ensures.stops;
       idle = λ all. tt;
       frame = c.gather_reply.ensures.frame ∙ i.frame;
       counted = λ source. counted_on _ _ _ c.in-Err.status (with_source _ _ _ _ _ _ source i.counted) (c.in-Err.ensures.counted source);
@@ -72,10 +71,10 @@ returns-in-Ok-write g c =
     let i = c.ready.invariant in
     let all = c.next_to_answer.ensures.none c.ready-test.false in
     record {
-      ok = all_replies (g.A.Area.frame c.args.session.now).limit (g.A.Area.image c.args.session.now) c.args.lines.now.given c.args.lines.now.ready (g.O.Sink.written c.args.out.now)
-          (g.A.Area.image c.ready.session) (was_refused c.ready.refusals) (g.O.Sink.written c.ready.out) c.ready.replies c.ready.lines i.reached c.next_to_answer.new.lines all (g.O.Sink.written c.write.new.out) c.in-Ok-write.ensures.all;
-      drained = all_drained (g.A.Area.frame c.args.session.now).limit (g.A.Area.image c.args.session.now) c.args.lines.now.given c.args.lines.now.ready (g.O.Sink.written c.args.out.now)
-          (g.A.Area.image c.ready.session) (was_refused c.ready.refusals) (g.O.Sink.written c.ready.out) c.ready.replies c.ready.lines i.reached c.next_to_answer.new.lines all c.args.lines.now i.rest i.over refl refl;
+      ok = all_replies (g.A.Area.frame c.args.session.now).limit (g.A.Area.image c.args.session.now) c.args.lines.now.given c.args.lines.now.ready _
+          (g.A.Area.image c.ready.session) (was_refused c.ready.refusals) _ c.ready.replies c.ready.lines i.reached c.next_to_answer.new.lines all (g.O.Sink.written c.write.new.out) c.in-Ok-write.ensures.all;
+      drained = all_drained (g.A.Area.frame c.args.session.now).limit (g.A.Area.image c.args.session.now) c.args.lines.now.given c.args.lines.now.ready _
+          (g.A.Area.image c.ready.session) (was_refused c.ready.refusals) _ c.ready.replies c.ready.lines i.reached c.next_to_answer.new.lines all c.args.lines.now i.rest i.over refl refl;
       none_left = c.in-Ok-write.ensures.none_left;
       stops = tt;
       idle = λ all. (i.idle all).1;
@@ -90,8 +89,8 @@ returns-in-Err-write g c =
       ok = tt;
       drained = tt;
       none_left = tt;
-      stops = stopped_cut (g.A.Area.frame c.args.session.now).limit (g.A.Area.image c.args.session.now) c.args.lines.now.given c.args.lines.now.ready (g.O.Sink.written c.args.out.now)
-          (g.A.Area.image c.ready.session) (was_refused c.ready.refusals) (g.O.Sink.written c.ready.out) c.ready.replies c.ready.lines i.reached (g.O.Sink.written c.write.new.out) c.in-Err-write.ensures.part;
+      stops = stopped_cut (g.A.Area.frame c.args.session.now).limit (g.A.Area.image c.args.session.now) c.args.lines.now.given c.args.lines.now.ready _
+          (g.A.Area.image c.ready.session) (was_refused c.ready.refusals) _ c.ready.replies c.ready.lines i.reached (g.O.Sink.written c.write.new.out) c.in-Err-write.ensures.part;
       idle = λ all. tt;
       frame = i.frame;
       counted = λ source. counted_on (counts (g.A.Area.faults c.args.session.now) 0 (g.O.Sink.faults c.args.out.now) source) (counts (g.A.Area.faults c.ready.session) 0 (g.O.Sink.faults c.ready.out) source) (counts (g.A.Area.faults c.ready.session) 0 (g.O.Sink.faults c.write.new.out) source) statuses.OutputFault

@@ -1,48 +1,46 @@
-use Rattle.cdf_tool.proofs.Common.{AppendsFront, Gathers, List, inr, is_some, refl, subst, ℕ, ◌++◌}
-use Rattle.cdf_tool.proofs.CountLemmas.{area_counted, counts_stay, output_counted}
+use Rattle.cdf_tool.proofs.Common.{counts, refl, ◌∙◌}
+use Rattle.cdf_tool.proofs.Answered.{dump_gathers, dump_stops, report_stops}
+use Rattle.cdf_tool.proofs.CountLemmas.{counted_on}
 use Rattle.cdf_tool.proofs.Lines.{stops_before, stops_cut}
 use Rattle.cdf_tool.proofs.script.gather_reply.Goals as goal
 
-pub returns-in-Ok-add : goal.returns-in-Ok-add
-returns-in-Ok-add g c = record {
-  ok = record {
-    reply = c.in-Ok.answer.text.items;
-    turns = c.in-Ok.ensures.turns;
-    gathers = subst (λ (t : List ℕ). Gathers (g.O.Sink.written c.args.out.now) (c.args.replies.now ++ t) (g.O.Sink.written c.add.new.out) c.add.new.self) c.deref.ensures.value c.in-Ok-add.ensures.all;
-  };
-  stops = tt;
-  idle = c.in-Ok.ensures.idle;
-  frame = c.answer_line.ensures.area.frame;
-  counted = λ source. counts_stay _ _ _ _ _ _ _ _ c.in-Ok.ensures.area.cause.done refl c.in-Ok-add.ensures.cause.done refl;
-}
+-- ---- a dump
 
-pub returns-in-Ok : goal.returns-in-Ok
-returns-in-Ok g c = record {
-  ok = tt;
-  stops = record {
-    reply = c.in-Ok.answer.text.items;
-    answered = inr (record { end = g.A.Area.image c.answer_line.new.session; refused = is_some c.in-Ok.answer.refused; turns = c.in-Ok.ensures.turns });
-    wrote = subst (λ (t : List ℕ). AppendsFront (g.O.Sink.written c.args.out.now) (g.O.Sink.written c.add.new.out) (c.args.replies.now ++ t)) c.deref.ensures.value c.in-Err-add.ensures.part;
-  };
-  idle = λ line. tt;
-  frame = c.answer_line.ensures.area.frame;
-  counted = λ source. output_counted _ _ _ _ _ _ _ _ c.in-Ok.ensures.area.cause.later refl refl c.in-Err-add.ensures.cause.failed;
-}
+pub returns-in-Ok-dump-clause-ok : goal.returns-in-Ok-dump-clause-ok
+returns-in-Ok-dump-clause-ok g c =
+    let done = c.in-Ok-dump.ensures in
+    dump_gathers _ _ c.args.line.now _ c.args.replies.now _ (g.A.Area.image c.answer_line.new.session) c.in-Ok-Dump.field-0 c.in-Ok-Dump.ensures.answers c.in-Ok-Dump.field-0-is (g.A.Area.image c.dump.new.session) c.dump.new.replies done.stays.image refl done.none_left done.wrote
 
-pub returns-in-Ok-write : goal.returns-in-Ok-write
-returns-in-Ok-write g c = record {
-  ok = tt;
-  stops = stops_before (g.A.Area.frame c.args.session.now).limit (g.A.Area.image c.args.session.now) c.args.line.now (g.O.Sink.written c.args.out.now) c.args.replies.now (g.O.Sink.written c.write.new.out) c.in-Err.error c.area_status.result c.area_status.ensures c.in-Ok-write.ensures.all;
-  idle = λ line. tt;
-  frame = c.answer_line.ensures.area.frame;
-  counted = λ source. area_counted c.in-Err.error c.area_status.result _ _ _ _ _ _ _ _ c.area_status.ensures c.in-Err.ensures.area.cause refl c.in-Ok-write.ensures.cause.done refl;
-}
+pub returns-in-Ok-dump-clause-counted : goal.returns-in-Ok-dump-clause-counted
+returns-in-Ok-dump-clause-counted g c = λ source. c.in-Ok-dump.ensures.counted source ∙ (λ i. counts (c.in-Ok-Dump.ensures.area.cause.done i) 0 (g.O.Sink.faults c.args.out.now) source)
 
-pub returns : goal.returns
-returns g c = record {
-  ok = tt;
-  stops = stops_cut (g.A.Area.frame c.args.session.now).limit (g.A.Area.image c.args.session.now) c.args.line.now (g.O.Sink.written c.args.out.now) c.args.replies.now (g.O.Sink.written c.write.new.out) c.in-Err-write.ensures.part;
-  idle = λ line. tt;
-  frame = c.answer_line.ensures.area.frame;
-  counted = λ source. output_counted _ _ _ _ _ _ _ _ c.in-Err.ensures.area.cause.later refl refl c.in-Err-write.ensures.cause.failed;
-}
+pub returns-in-Ok-Dump-clause-stops : goal.returns-in-Ok-Dump-clause-stops
+returns-in-Ok-Dump-clause-stops g c =
+    dump_stops _ _ c.args.line.now _ c.args.replies.now _ (g.A.Area.image c.answer_line.new.session) c.in-Ok-Dump.field-0 c.in-Ok-Dump.ensures.answers c.in-Ok-Dump.field-0-is c.in-Err-dump.status refl c.in-Err-dump.ensures.part
+
+pub returns-in-Ok-Dump-clause-counted : goal.returns-in-Ok-Dump-clause-counted
+returns-in-Ok-Dump-clause-counted g c = λ source.
+    counted_on _ _ _ c.in-Err-dump.status (λ i. counts (c.in-Ok-Dump.ensures.area.cause.done i) 0 (g.O.Sink.faults c.args.out.now) source) (c.in-Err-dump.ensures.counted source)
+
+-- ---- a report
+
+pub returns-in-Ok-report-clause-counted : goal.returns-in-Ok-report-clause-counted
+returns-in-Ok-report-clause-counted g c = λ source. c.in-Ok-report.ensures.counted source ∙ (λ i. counts (c.in-Ok-Report.ensures.area.cause.done i) 0 (g.O.Sink.faults c.args.out.now) source)
+
+pub returns-in-Ok-Report-clause-stops : goal.returns-in-Ok-Report-clause-stops
+returns-in-Ok-Report-clause-stops g c =
+    report_stops _ _ c.args.line.now _ c.args.replies.now _ (g.A.Area.image c.answer_line.new.session) c.in-Ok-Report.field-0 c.in-Ok-Report.ensures.answers c.in-Ok-Report.name c.as_slice.result.now c.in-Ok-Report.field-0-is c.as_slice.ensures
+    c.in-Err-report.status c.in-Err-report.ensures.part
+
+pub returns-in-Ok-Report-clause-counted : goal.returns-in-Ok-Report-clause-counted
+returns-in-Ok-Report-clause-counted g c = λ source.
+    counted_on _ _ _ c.in-Err-report.status (λ i. counts (c.in-Ok-Report.ensures.area.cause.done i) 0 (g.O.Sink.faults c.args.out.now) source) (c.in-Err-report.ensures.counted source)
+
+-- ---- no reply
+
+pub returns-in-Ok-write-clause-stops : goal.returns-in-Ok-write-clause-stops
+returns-in-Ok-write-clause-stops g c =
+    stops_before _ _ c.args.line.now _ c.args.replies.now _ refl c.in-Err.error c.area_status.result c.area_status.ensures c.in-Ok-write.ensures.all
+
+pub returns-clause-stops : goal.returns-clause-stops
+returns-clause-stops g c = stops_cut _ _ c.args.line.now _ c.args.replies.now _ refl c.in-Err-write.ensures.part

@@ -1,6 +1,6 @@
 use Rattle.cdf_tool.proofs.Common.{Bool, ask, asked_for, false, image_limit, image_of, inl, line_idles, line_reads, lookup, map, not, refl, string_bytes, true, ◌&&◌, ◌≡◌}
 use Rattle.cdf_tool.specs.declared.status.Status.TheVariants as statuses
-use Rattle.cdf_tool.proofs.AskedLemmas.{accepts_checked, check_ends, check_leaves, if_some, old_called, run_ends, unsaved_run, untouched_old}
+use Rattle.cdf_tool.proofs.AskedLemmas.{accepts_checked, check_ends, check_leaves, if_some, named_looked, old_called, run_ends, unsaved_run, untouched_old}
 use Rattle.cdf_tool.proofs.Changes.{run_changes, unstarted_changes, unwritten_changes}
 use Rattle.cdf_tool.proofs.CheckLemmas.{checks, usage_not_done}
 use Rattle.cdf_tool.proofs.CountLemmas.{not_false, unwritten}
@@ -28,7 +28,7 @@ check_file-requires-clause-old g c =
 
 pub returns-else-asked-clause-accepted : goal.returns-else-asked-clause-accepted
 returns-else-asked-clause-accepted g c =
-    rw c.in-Ok.ensures.asked (accepts (asked_for c.in-Ok.asked) (g.S.Store.disk c.args.store) (g.S.Store.disk c.run_file.result.store) (g.I.Source.left c.args.script.now) (g.I.Source.left c.run_file.new.script) (g.O.Sink.written c.args.out.now) (g.O.Sink.written c.run_file.new.out) c.run_file.result.status c.run_file.ensures.ends)
+    rw c.in-Ok.ensures.asked (accepts (asked_for c.in-Ok.asked) (g.S.Store.disk c.args.store) (g.S.Store.disk c.run_file.result.store) (g.I.Source.left c.args.script.now) (g.I.Source.left c.run_file.new.script) _ _ c.run_file.result.status c.run_file.ensures.ends)
 
 pub returns-else-asked-clause-checked : goal.returns-else-asked-clause-checked
 returns-else-asked-clause-checked g c =
@@ -38,29 +38,37 @@ pub returns-else-asked-clause-unread : goal.returns-else-asked-clause-unread
 returns-else-asked-clause-unread g c =
     rw c.in-Ok.ensures.asked (λ is. absurd (cc (is, c.if-asked.false)))
 
+pub returns-else-asked-clause-unshown : goal.returns-else-asked-clause-unshown
+returns-else-asked-clause-unshown g c =
+    rw c.in-Ok.ensures.asked (λ is. absurd (cc (is, c.if-asked.false)))
+
 pub returns-else-asked-clause-ends : goal.returns-else-asked-clause-ends
 returns-else-asked-clause-ends g c =
-    rw c.in-Ok.ensures.asked (run_ends (asked_for c.in-Ok.asked) (g.S.Store.disk c.args.store) (g.S.Store.disk c.run_file.result.store) (g.I.Source.left c.args.script.now) (g.I.Source.left c.run_file.new.script) (g.O.Sink.written c.args.out.now) (g.O.Sink.written c.run_file.new.out) c.run_file.result.status c.in-Ok.asked.check c.if-asked.false c.run_file.ensures.ends)
+    rw c.in-Ok.ensures.asked (run_ends (asked_for c.in-Ok.asked) (g.S.Store.disk c.args.store) (g.S.Store.disk c.run_file.result.store) (g.I.Source.left c.args.script.now) (g.I.Source.left c.run_file.new.script) _ _ c.run_file.result.status c.in-Ok.asked.check c.if-asked.false c.run_file.ensures.ends)
 
 pub returns-else-asked-clause-no_file : goal.returns-else-asked-clause-no_file
 returns-else-asked-clause-no_file g c =
-    rw c.in-Ok.ensures.asked (no_file_exactly (asked_for c.in-Ok.asked) (g.S.Store.disk c.args.store) (g.S.Store.disk c.run_file.result.store) (g.I.Source.left c.args.script.now) (g.I.Source.left c.run_file.new.script) (g.O.Sink.written c.args.out.now) (g.O.Sink.written c.run_file.new.out) c.run_file.result.status (came (asked_for c.in-Ok.asked) (g.S.Store.disk c.args.store) (g.S.Store.disk c.run_file.result.store) (g.I.Source.left c.args.script.now) (g.I.Source.left c.run_file.new.script) (g.O.Sink.written c.args.out.now) (g.O.Sink.written c.run_file.new.out) c.run_file.result.status c.run_file.ensures.ends))
+    rw c.in-Ok.ensures.asked (no_file_exactly (asked_for c.in-Ok.asked) (g.S.Store.disk c.args.store) (g.S.Store.disk c.run_file.result.store) (g.I.Source.left c.args.script.now) (g.I.Source.left c.run_file.new.script) c.run_file.result.status (came (asked_for c.in-Ok.asked) (g.S.Store.disk c.args.store) (g.S.Store.disk c.run_file.result.store) (g.I.Source.left c.args.script.now) (g.I.Source.left c.run_file.new.script) _ _ c.run_file.result.status c.run_file.ensures.ends))
 
 pub returns-else-asked-clause-rejected : goal.returns-else-asked-clause-rejected
 returns-else-asked-clause-rejected g c =
-    rw c.in-Ok.ensures.asked (rejected_exactly (asked_for c.in-Ok.asked) (g.S.Store.disk c.args.store) (g.S.Store.disk c.run_file.result.store) (g.I.Source.left c.args.script.now) (g.I.Source.left c.run_file.new.script) (g.O.Sink.written c.args.out.now) (g.O.Sink.written c.run_file.new.out) c.run_file.result.status (came (asked_for c.in-Ok.asked) (g.S.Store.disk c.args.store) (g.S.Store.disk c.run_file.result.store) (g.I.Source.left c.args.script.now) (g.I.Source.left c.run_file.new.script) (g.O.Sink.written c.args.out.now) (g.O.Sink.written c.run_file.new.out) c.run_file.result.status c.run_file.ensures.ends))
+    rw c.in-Ok.ensures.asked (rejected_exactly (asked_for c.in-Ok.asked) (g.S.Store.disk c.args.store) (g.S.Store.disk c.run_file.result.store) (g.I.Source.left c.args.script.now) (g.I.Source.left c.run_file.new.script) c.run_file.result.status (came (asked_for c.in-Ok.asked) (g.S.Store.disk c.args.store) (g.S.Store.disk c.run_file.result.store) (g.I.Source.left c.args.script.now) (g.I.Source.left c.run_file.new.script) _ _ c.run_file.result.status c.run_file.ensures.ends))
 
 pub returns-else-asked-clause-too_long : goal.returns-else-asked-clause-too_long
 returns-else-asked-clause-too_long g c =
-    too_long_exactly (asked_for c.in-Ok.asked) (g.S.Store.disk c.args.store) (g.S.Store.disk c.run_file.result.store) (g.I.Source.left c.args.script.now) (g.I.Source.left c.run_file.new.script) (g.O.Sink.written c.args.out.now) (g.O.Sink.written c.run_file.new.out) c.run_file.result.status (came (asked_for c.in-Ok.asked) (g.S.Store.disk c.args.store) (g.S.Store.disk c.run_file.result.store) (g.I.Source.left c.args.script.now) (g.I.Source.left c.run_file.new.script) (g.O.Sink.written c.args.out.now) (g.O.Sink.written c.run_file.new.out) c.run_file.result.status c.run_file.ensures.ends)
+    too_long_exactly (asked_for c.in-Ok.asked) (g.S.Store.disk c.args.store) (g.S.Store.disk c.run_file.result.store) (g.I.Source.left c.args.script.now) (g.I.Source.left c.run_file.new.script) c.run_file.result.status (came (asked_for c.in-Ok.asked) (g.S.Store.disk c.args.store) (g.S.Store.disk c.run_file.result.store) (g.I.Source.left c.args.script.now) (g.I.Source.left c.run_file.new.script) _ _ c.run_file.result.status c.run_file.ensures.ends)
 
 pub returns-else-asked-clause-complete : goal.returns-else-asked-clause-complete
 returns-else-asked-clause-complete g c =
-    rw c.in-Ok.ensures.asked (completes (asked_for c.in-Ok.asked) (g.S.Store.disk c.args.store) (g.S.Store.disk c.run_file.result.store) (g.I.Source.left c.args.script.now) (g.I.Source.left c.run_file.new.script) (g.O.Sink.written c.args.out.now) (g.O.Sink.written c.run_file.new.out) c.run_file.result.status (came (asked_for c.in-Ok.asked) (g.S.Store.disk c.args.store) (g.S.Store.disk c.run_file.result.store) (g.I.Source.left c.args.script.now) (g.I.Source.left c.run_file.new.script) (g.O.Sink.written c.args.out.now) (g.O.Sink.written c.run_file.new.out) c.run_file.result.status c.run_file.ensures.ends))
+    rw c.in-Ok.ensures.asked (completes (asked_for c.in-Ok.asked) (g.S.Store.disk c.args.store) (g.S.Store.disk c.run_file.result.store) (g.I.Source.left c.args.script.now) (g.I.Source.left c.run_file.new.script) c.run_file.result.status (came (asked_for c.in-Ok.asked) (g.S.Store.disk c.args.store) (g.S.Store.disk c.run_file.result.store) (g.I.Source.left c.args.script.now) (g.I.Source.left c.run_file.new.script) _ _ c.run_file.result.status c.run_file.ensures.ends))
+
+pub returns-else-asked-clause-looked : goal.returns-else-asked-clause-looked
+returns-else-asked-clause-looked g c =
+    rw c.in-Ok.ensures.asked (λ old unsaved. named_looked (asked_for c.in-Ok.asked) (g.S.Store.disk c.args.store) (g.S.Store.disk c.run_file.result.store) (g.I.Source.left c.args.script.now) (g.I.Source.left c.run_file.new.script) _ _ old c.run_file.result.status (unsaved_run c.in-Ok.asked.check c.in-Ok.asked.no_save c.run_file.result.status c.if-asked.false unsaved) c.run_file.ensures.ends)
 
 pub returns-else-asked-clause-unwritten : goal.returns-else-asked-clause-unwritten
 returns-else-asked-clause-unwritten g c =
-    rw c.in-Ok.ensures.asked (λ unsaved. unwritten (asked_for c.in-Ok.asked) (g.S.Store.disk c.args.store) (g.S.Store.disk c.run_file.result.store) (g.I.Source.left c.args.script.now) (g.I.Source.left c.run_file.new.script) (g.O.Sink.written c.args.out.now) (g.O.Sink.written c.run_file.new.out) c.run_file.result.status _ _ c.run_file.ensures.ends c.run_file.ensures.counted (unsaved_run c.in-Ok.asked.check c.in-Ok.asked.no_save c.run_file.result.status c.if-asked.false unsaved))
+    rw c.in-Ok.ensures.asked (λ unsaved. unwritten (asked_for c.in-Ok.asked) (g.S.Store.disk c.args.store) (g.S.Store.disk c.run_file.result.store) (g.I.Source.left c.args.script.now) (g.I.Source.left c.run_file.new.script) _ _ c.run_file.result.status _ _ c.run_file.ensures.ends c.run_file.ensures.counted (unsaved_run c.in-Ok.asked.check c.in-Ok.asked.no_save c.run_file.result.status c.if-asked.false unsaved))
 
 pub returns-else-asked-clause-not_called : goal.returns-else-asked-clause-not_called
 returns-else-asked-clause-not_called g c =
@@ -68,11 +76,11 @@ returns-else-asked-clause-not_called g c =
 
 pub returns-else-asked-clause-reads : goal.returns-else-asked-clause-reads
 returns-else-asked-clause-reads g c =
-    rw c.in-Ok.ensures.asked (λ old. named_reads (asked_for c.in-Ok.asked) (g.S.Store.disk c.args.store) (g.S.Store.disk c.run_file.result.store) (g.I.Source.left c.args.script.now) (g.I.Source.left c.run_file.new.script) (g.O.Sink.written c.args.out.now) (g.O.Sink.written c.run_file.new.out) old c.run_file.result.status _ _ c.run_file.ensures.counted c.run_file.ensures.ends)
+    rw c.in-Ok.ensures.asked (λ old. named_reads (asked_for c.in-Ok.asked) (g.S.Store.disk c.args.store) (g.S.Store.disk c.run_file.result.store) (g.I.Source.left c.args.script.now) (g.I.Source.left c.run_file.new.script) _ _ old c.run_file.result.status _ _ c.run_file.ensures.counted c.run_file.ensures.ends)
 
 pub returns-else-asked-clause-idle : goal.returns-else-asked-clause-idle
 returns-else-asked-clause-idle g c =
-    rw c.in-Ok.ensures.asked (λ old. named_idle (asked_for c.in-Ok.asked) (g.S.Store.disk c.args.store) (g.S.Store.disk c.run_file.result.store) (g.I.Source.left c.args.script.now) (g.I.Source.left c.run_file.new.script) (g.O.Sink.written c.args.out.now) (g.O.Sink.written c.run_file.new.out) old c.run_file.result.status _ _ c.run_file.ensures.counted c.run_file.ensures.ends)
+    rw c.in-Ok.ensures.asked (λ old. named_idle (asked_for c.in-Ok.asked) (g.S.Store.disk c.args.store) (g.S.Store.disk c.run_file.result.store) (g.I.Source.left c.args.script.now) (g.I.Source.left c.run_file.new.script) _ _ old c.run_file.result.status _ _ c.run_file.ensures.counted c.run_file.ensures.ends)
 
 pub returns-else-asked-clause-synced : goal.returns-else-asked-clause-synced
 returns-else-asked-clause-synced g c =
@@ -91,7 +99,7 @@ returns-else-asked-clause-refusals g c = λ done. refusals_counted c.run_file.re
 
 pub returns-else-asked-clause-touched : goal.returns-else-asked-clause-touched
 returns-else-asked-clause-touched g c =
-    rw c.in-Ok.ensures.asked (run_changes (asked_for c.in-Ok.asked) (g.S.Store.disk c.args.store) (g.S.Store.disk c.run_file.result.store) (g.I.Source.left c.args.script.now) (g.I.Source.left c.run_file.new.script) (g.O.Sink.written c.args.out.now) (g.O.Sink.written c.run_file.new.out) c.run_file.result.status c.run_file.ensures.ends)
+    rw c.in-Ok.ensures.asked (run_changes (asked_for c.in-Ok.asked) (g.S.Store.disk c.args.store) (g.S.Store.disk c.run_file.result.store) (g.I.Source.left c.args.script.now) (g.I.Source.left c.run_file.new.script) _ _ c.run_file.result.status c.run_file.ensures.ends)
 
 -- ---- a file was checked
 
@@ -105,7 +113,7 @@ returns-then-asked-clause-touched g c =
 
 pub returns-then-asked-clause-accepted : goal.returns-then-asked-clause-accepted
 returns-then-asked-clause-accepted g c =
-    rw c.in-Ok.ensures.asked (accepts_checked (asked_for c.in-Ok.asked) (g.S.Store.disk c.args.store) (g.S.Store.disk c.check_file.result.store) (g.I.Source.left c.args.script.now) (g.I.Source.left c.args.script.now) (g.O.Sink.written c.args.out.now) (g.O.Sink.written c.check_file.new.out) c.check_file.result.status c.if-asked.true)
+    rw c.in-Ok.ensures.asked (accepts_checked (asked_for c.in-Ok.asked) (g.S.Store.disk c.args.store) (g.S.Store.disk c.check_file.result.store) (g.I.Source.left c.args.script.now) (g.I.Source.left c.args.script.now) _ _ c.check_file.result.status c.if-asked.true)
 
 pub returns-then-asked-clause-checked : goal.returns-then-asked-clause-checked
 returns-then-asked-clause-checked g c =
@@ -113,23 +121,23 @@ returns-then-asked-clause-checked g c =
 
 pub returns-then-asked-clause-ends : goal.returns-then-asked-clause-ends
 returns-then-asked-clause-ends g c =
-    rw c.in-Ok.ensures.asked (check_ends (asked_for c.in-Ok.asked) (g.S.Store.disk c.args.store) (g.S.Store.disk c.check_file.result.store) (g.I.Source.left c.args.script.now) (g.I.Source.left c.args.script.now) (g.O.Sink.written c.args.out.now) (g.O.Sink.written c.check_file.new.out) c.check_file.result.status c.in-Ok.asked.check c.if-asked.true (c.check_file.ensures.ends (g.I.Source.left c.args.script.now)))
+    rw c.in-Ok.ensures.asked (check_ends (asked_for c.in-Ok.asked) (g.S.Store.disk c.args.store) (g.S.Store.disk c.check_file.result.store) (g.I.Source.left c.args.script.now) (g.I.Source.left c.args.script.now) _ _ c.check_file.result.status c.in-Ok.asked.check c.if-asked.true refl (c.check_file.ensures.ends (g.I.Source.left c.args.script.now)))
 
 pub returns-then-asked-clause-no_file : goal.returns-then-asked-clause-no_file
 returns-then-asked-clause-no_file g c =
-    rw c.in-Ok.ensures.asked (no_file_exactly (asked_for c.in-Ok.asked) (g.S.Store.disk c.args.store) (g.S.Store.disk c.check_file.result.store) (g.I.Source.left c.args.script.now) (g.I.Source.left c.args.script.now) (g.O.Sink.written c.args.out.now) (g.O.Sink.written c.check_file.new.out) c.check_file.result.status (checked_came (asked_for c.in-Ok.asked) (g.S.Store.disk c.args.store) (g.S.Store.disk c.check_file.result.store) (g.I.Source.left c.args.script.now) (g.I.Source.left c.args.script.now) (g.O.Sink.written c.args.out.now) (g.O.Sink.written c.check_file.new.out) c.check_file.result.status (c.in-Ok.ensures.old c.if-asked.true) (c.check_file.ensures.ends (g.I.Source.left c.args.script.now))))
+    rw c.in-Ok.ensures.asked (no_file_exactly (asked_for c.in-Ok.asked) (g.S.Store.disk c.args.store) (g.S.Store.disk c.check_file.result.store) (g.I.Source.left c.args.script.now) (g.I.Source.left c.args.script.now) c.check_file.result.status (checked_came (asked_for c.in-Ok.asked) (g.S.Store.disk c.args.store) (g.S.Store.disk c.check_file.result.store) (g.I.Source.left c.args.script.now) (g.I.Source.left c.args.script.now) (g.O.Sink.written c.args.out.now) (g.O.Sink.written c.check_file.new.out) c.check_file.result.status (c.in-Ok.ensures.old c.if-asked.true) (c.check_file.ensures.ends (g.I.Source.left c.args.script.now))))
 
 pub returns-then-asked-clause-rejected : goal.returns-then-asked-clause-rejected
 returns-then-asked-clause-rejected g c =
-    rw c.in-Ok.ensures.asked (rejected_exactly (asked_for c.in-Ok.asked) (g.S.Store.disk c.args.store) (g.S.Store.disk c.check_file.result.store) (g.I.Source.left c.args.script.now) (g.I.Source.left c.args.script.now) (g.O.Sink.written c.args.out.now) (g.O.Sink.written c.check_file.new.out) c.check_file.result.status (checked_came (asked_for c.in-Ok.asked) (g.S.Store.disk c.args.store) (g.S.Store.disk c.check_file.result.store) (g.I.Source.left c.args.script.now) (g.I.Source.left c.args.script.now) (g.O.Sink.written c.args.out.now) (g.O.Sink.written c.check_file.new.out) c.check_file.result.status (c.in-Ok.ensures.old c.if-asked.true) (c.check_file.ensures.ends (g.I.Source.left c.args.script.now))))
+    rw c.in-Ok.ensures.asked (rejected_exactly (asked_for c.in-Ok.asked) (g.S.Store.disk c.args.store) (g.S.Store.disk c.check_file.result.store) (g.I.Source.left c.args.script.now) (g.I.Source.left c.args.script.now) c.check_file.result.status (checked_came (asked_for c.in-Ok.asked) (g.S.Store.disk c.args.store) (g.S.Store.disk c.check_file.result.store) (g.I.Source.left c.args.script.now) (g.I.Source.left c.args.script.now) (g.O.Sink.written c.args.out.now) (g.O.Sink.written c.check_file.new.out) c.check_file.result.status (c.in-Ok.ensures.old c.if-asked.true) (c.check_file.ensures.ends (g.I.Source.left c.args.script.now))))
 
 pub returns-then-asked-clause-too_long : goal.returns-then-asked-clause-too_long
 returns-then-asked-clause-too_long g c =
-    too_long_exactly (asked_for c.in-Ok.asked) (g.S.Store.disk c.args.store) (g.S.Store.disk c.check_file.result.store) (g.I.Source.left c.args.script.now) (g.I.Source.left c.args.script.now) (g.O.Sink.written c.args.out.now) (g.O.Sink.written c.check_file.new.out) c.check_file.result.status (checked_came (asked_for c.in-Ok.asked) (g.S.Store.disk c.args.store) (g.S.Store.disk c.check_file.result.store) (g.I.Source.left c.args.script.now) (g.I.Source.left c.args.script.now) (g.O.Sink.written c.args.out.now) (g.O.Sink.written c.check_file.new.out) c.check_file.result.status (c.in-Ok.ensures.old c.if-asked.true) (c.check_file.ensures.ends (g.I.Source.left c.args.script.now)))
+    too_long_exactly (asked_for c.in-Ok.asked) (g.S.Store.disk c.args.store) (g.S.Store.disk c.check_file.result.store) (g.I.Source.left c.args.script.now) (g.I.Source.left c.args.script.now) c.check_file.result.status (checked_came (asked_for c.in-Ok.asked) (g.S.Store.disk c.args.store) (g.S.Store.disk c.check_file.result.store) (g.I.Source.left c.args.script.now) (g.I.Source.left c.args.script.now) (g.O.Sink.written c.args.out.now) (g.O.Sink.written c.check_file.new.out) c.check_file.result.status (c.in-Ok.ensures.old c.if-asked.true) (c.check_file.ensures.ends (g.I.Source.left c.args.script.now)))
 
 pub returns-then-asked-clause-complete : goal.returns-then-asked-clause-complete
 returns-then-asked-clause-complete g c =
-    rw c.in-Ok.ensures.asked (completes (asked_for c.in-Ok.asked) (g.S.Store.disk c.args.store) (g.S.Store.disk c.check_file.result.store) (g.I.Source.left c.args.script.now) (g.I.Source.left c.args.script.now) (g.O.Sink.written c.args.out.now) (g.O.Sink.written c.check_file.new.out) c.check_file.result.status (checked_came (asked_for c.in-Ok.asked) (g.S.Store.disk c.args.store) (g.S.Store.disk c.check_file.result.store) (g.I.Source.left c.args.script.now) (g.I.Source.left c.args.script.now) (g.O.Sink.written c.args.out.now) (g.O.Sink.written c.check_file.new.out) c.check_file.result.status (c.in-Ok.ensures.old c.if-asked.true) (c.check_file.ensures.ends (g.I.Source.left c.args.script.now))))
+    rw c.in-Ok.ensures.asked (completes (asked_for c.in-Ok.asked) (g.S.Store.disk c.args.store) (g.S.Store.disk c.check_file.result.store) (g.I.Source.left c.args.script.now) (g.I.Source.left c.args.script.now) c.check_file.result.status (checked_came (asked_for c.in-Ok.asked) (g.S.Store.disk c.args.store) (g.S.Store.disk c.check_file.result.store) (g.I.Source.left c.args.script.now) (g.I.Source.left c.args.script.now) (g.O.Sink.written c.args.out.now) (g.O.Sink.written c.check_file.new.out) c.check_file.result.status (c.in-Ok.ensures.old c.if-asked.true) (c.check_file.ensures.ends (g.I.Source.left c.args.script.now))))
 
 pub returns-then-asked-clause-counted : goal.returns-then-asked-clause-counted
 returns-then-asked-clause-counted g c =
@@ -141,11 +149,11 @@ returns-then-asked-clause-unwritten g c =
 
 pub returns-else-asked-clause-usage : goal.returns-else-asked-clause-usage
 returns-else-asked-clause-usage g c =
-    rw c.in-Ok.ensures.asked (record { only = λ be. absurd (never_usage (asked_for c.in-Ok.asked) (g.S.Store.disk c.args.store) (g.S.Store.disk c.run_file.result.store) (g.I.Source.left c.args.script.now) (g.I.Source.left c.run_file.new.script) (g.O.Sink.written c.args.out.now) (g.O.Sink.written c.run_file.new.out) c.run_file.result.status (came (asked_for c.in-Ok.asked) (g.S.Store.disk c.args.store) (g.S.Store.disk c.run_file.result.store) (g.I.Source.left c.args.script.now) (g.I.Source.left c.run_file.new.script) (g.O.Sink.written c.args.out.now) (g.O.Sink.written c.run_file.new.out) c.run_file.result.status c.run_file.ensures.ends) be); always = λ none. absurd (cc none) })
+    rw c.in-Ok.ensures.asked (record { only = λ be. absurd (never_usage (asked_for c.in-Ok.asked) (g.S.Store.disk c.args.store) (g.S.Store.disk c.run_file.result.store) (g.I.Source.left c.args.script.now) (g.I.Source.left c.run_file.new.script) c.run_file.result.status (came (asked_for c.in-Ok.asked) (g.S.Store.disk c.args.store) (g.S.Store.disk c.run_file.result.store) (g.I.Source.left c.args.script.now) (g.I.Source.left c.run_file.new.script) _ _ c.run_file.result.status c.run_file.ensures.ends) be); always = λ none. absurd (cc none) })
 
 pub returns-else-asked-clause-no_file_read : goal.returns-else-asked-clause-no_file_read
 returns-else-asked-clause-no_file_read g c =
-    no_file_held (asked_for c.in-Ok.asked) (g.S.Store.disk c.args.store) (g.S.Store.disk c.run_file.result.store) (g.I.Source.left c.args.script.now) (g.I.Source.left c.run_file.new.script) (g.O.Sink.written c.args.out.now) (g.O.Sink.written c.run_file.new.out) c.run_file.result.status (came (asked_for c.in-Ok.asked) (g.S.Store.disk c.args.store) (g.S.Store.disk c.run_file.result.store) (g.I.Source.left c.args.script.now) (g.I.Source.left c.run_file.new.script) (g.O.Sink.written c.args.out.now) (g.O.Sink.written c.run_file.new.out) c.run_file.result.status c.run_file.ensures.ends)
+    no_file_held (asked_for c.in-Ok.asked) (g.S.Store.disk c.args.store) (g.S.Store.disk c.run_file.result.store) (g.I.Source.left c.args.script.now) (g.I.Source.left c.run_file.new.script) c.run_file.result.status (came (asked_for c.in-Ok.asked) (g.S.Store.disk c.args.store) (g.S.Store.disk c.run_file.result.store) (g.I.Source.left c.args.script.now) (g.I.Source.left c.run_file.new.script) _ _ c.run_file.result.status c.run_file.ensures.ends)
 
 pub returns-else-asked-clause-verdict : goal.returns-else-asked-clause-verdict
 returns-else-asked-clause-verdict g c =
@@ -157,11 +165,11 @@ returns-else-asked-clause-told g c =
 
 pub returns-then-asked-clause-usage : goal.returns-then-asked-clause-usage
 returns-then-asked-clause-usage g c =
-    rw c.in-Ok.ensures.asked (record { only = λ be. absurd (never_usage (asked_for c.in-Ok.asked) (g.S.Store.disk c.args.store) (g.S.Store.disk c.check_file.result.store) (g.I.Source.left c.args.script.now) (g.I.Source.left c.args.script.now) (g.O.Sink.written c.args.out.now) (g.O.Sink.written c.check_file.new.out) c.check_file.result.status (checked_came (asked_for c.in-Ok.asked) (g.S.Store.disk c.args.store) (g.S.Store.disk c.check_file.result.store) (g.I.Source.left c.args.script.now) (g.I.Source.left c.args.script.now) (g.O.Sink.written c.args.out.now) (g.O.Sink.written c.check_file.new.out) c.check_file.result.status (c.in-Ok.ensures.old c.if-asked.true) (c.check_file.ensures.ends (g.I.Source.left c.args.script.now))) be); always = λ none. absurd (cc none) })
+    rw c.in-Ok.ensures.asked (record { only = λ be. absurd (never_usage (asked_for c.in-Ok.asked) (g.S.Store.disk c.args.store) (g.S.Store.disk c.check_file.result.store) (g.I.Source.left c.args.script.now) (g.I.Source.left c.args.script.now) c.check_file.result.status (checked_came (asked_for c.in-Ok.asked) (g.S.Store.disk c.args.store) (g.S.Store.disk c.check_file.result.store) (g.I.Source.left c.args.script.now) (g.I.Source.left c.args.script.now) (g.O.Sink.written c.args.out.now) (g.O.Sink.written c.check_file.new.out) c.check_file.result.status (c.in-Ok.ensures.old c.if-asked.true) (c.check_file.ensures.ends (g.I.Source.left c.args.script.now))) be); always = λ none. absurd (cc none) })
 
 pub returns-then-asked-clause-no_file_read : goal.returns-then-asked-clause-no_file_read
 returns-then-asked-clause-no_file_read g c =
-    no_file_held (asked_for c.in-Ok.asked) (g.S.Store.disk c.args.store) (g.S.Store.disk c.check_file.result.store) (g.I.Source.left c.args.script.now) (g.I.Source.left c.args.script.now) (g.O.Sink.written c.args.out.now) (g.O.Sink.written c.check_file.new.out) c.check_file.result.status (checked_came (asked_for c.in-Ok.asked) (g.S.Store.disk c.args.store) (g.S.Store.disk c.check_file.result.store) (g.I.Source.left c.args.script.now) (g.I.Source.left c.args.script.now) (g.O.Sink.written c.args.out.now) (g.O.Sink.written c.check_file.new.out) c.check_file.result.status (c.in-Ok.ensures.old c.if-asked.true) (c.check_file.ensures.ends (g.I.Source.left c.args.script.now)))
+    no_file_held (asked_for c.in-Ok.asked) (g.S.Store.disk c.args.store) (g.S.Store.disk c.check_file.result.store) (g.I.Source.left c.args.script.now) (g.I.Source.left c.args.script.now) c.check_file.result.status (checked_came (asked_for c.in-Ok.asked) (g.S.Store.disk c.args.store) (g.S.Store.disk c.check_file.result.store) (g.I.Source.left c.args.script.now) (g.I.Source.left c.args.script.now) (g.O.Sink.written c.args.out.now) (g.O.Sink.written c.check_file.new.out) c.check_file.result.status (c.in-Ok.ensures.old c.if-asked.true) (c.check_file.ensures.ends (g.I.Source.left c.args.script.now)))
 
 pub returns-then-asked-clause-verdict : goal.returns-then-asked-clause-verdict
 returns-then-asked-clause-verdict g c =
@@ -223,7 +231,7 @@ returns-then-asked-clause-under g c =
 
 pub returns-in-Err-NoMemory-clause-ends : goal.returns-in-Err-NoMemory-clause-ends
 returns-in-Err-NoMemory-clause-ends g c =
-    unstarted_ends (g.S.Store.disk c.args.store) (g.I.Source.left c.args.script.now) (g.O.Sink.written c.args.out.now) c.requires.free (unnamed _ _ (g.met.S.Store.whole c.args.store).named c.requires.free) (ask (map string_bytes c.args.words.now))
+    unstarted_ends (g.S.Store.disk c.args.store) (g.I.Source.left c.args.script.now) _ c.requires.free (unnamed _ _ (g.met.S.Store.whole c.args.store).named c.requires.free) (ask (map string_bytes c.args.words.now))
 
 pub returns-in-Err-NoMemory-clause-touched : goal.returns-in-Err-NoMemory-clause-touched
 returns-in-Err-NoMemory-clause-touched g c =
