@@ -3,6 +3,7 @@
 use crate::row::Row;
 use anyhow::Result;
 use cdf_store::{MemSink, MemSource, MemStore};
+use cdf_tap::{NeedsVarType, Tally, Tap};
 use cdf_tellings::{FileNews, Said, Telling, look};
 use cdf_tool::{Ended, run};
 use std::alloc::Global;
@@ -86,7 +87,7 @@ fn told_of(
     }
 }
 
-/// Runs what a row asks for over its file and such devices.
+/// Runs what a row asks for over its file and such devices, with the taps that the program hands in.
 pub fn run_row(alloc: Global, row: &Row, before: Option<&[u8]>, devices: &Devices) -> Result<Ran> {
     let mut store = MemStore::new(alloc);
     for call in &row.fails {
@@ -102,7 +103,10 @@ pub fn run_row(alloc: Global, row: &Row, before: Option<&[u8]>, devices: &Device
     source.fail_at(devices.failing[1])?;
     let mut sink = MemSink::new(alloc, ROOM)?;
     sink.fail_at(devices.failing[2])?;
-    let mut ended = run(alloc, &row.words, store, &mut source, &mut sink);
+    let mut taps: Vec<Box<dyn Tap>> = Vec::new(alloc);
+    taps.push(Box::new(alloc, Tally::new(alloc)?)?)?;
+    taps.push(Box::new(alloc, NeedsVarType::new(alloc)?)?)?;
+    let mut ended = run(alloc, &row.words, store, &mut source, &mut sink, &mut taps);
     let calls = [ended.store.calls(), source.calls(), sink.calls()];
     let told = told_of(alloc, row, before, &mut ended)?;
     let store = ended.store;

@@ -1,6 +1,8 @@
 //! A session over a new file that may grow to so many bytes: what a row with a limit runs, in place of the program.
 
+ghost use Rattle.std.specs.Prelude.{◌≡◌, true};
 ghost use Rattle.cdf_model.specs.Sayable.{Sayable};
+ghost use Rattle.cdf_session.specs.Built.{is_applied};
 
 use crate::devices::Ran;
 use crate::row::Row;
@@ -33,14 +35,15 @@ fn new_within(alloc: Global, limit: u64) -> Result<Session<MemArea>> {
     }
 }
 
-/// Answers a command, on a line of a number.
-fn answer_command(
+/// Answers a command that comes to an outcome, on a line of a number.
+fn answer_outcome(
     alloc: Global,
     session: &mut Session<MemArea>,
     number: u64,
     command: &Command,
 ) -> Result<Answer>
-    requires { Sayable command.now }
+    requires sayable { Sayable command.now }
+    requires applied { is_applied command.now ≡ true }
 {
     let Ok(outcome) = session.apply(command) else {
         bail!("the command of line {number} was not carried out");
@@ -51,7 +54,23 @@ fn answer_command(
     })
 }
 
-/// Answers a line of a number, which is a command or blank.
+/// Answers a command, on a line of a number. One that shows the events takes the whole program.
+fn answer_command(
+    alloc: Global,
+    session: &mut Session<MemArea>,
+    number: u64,
+    command: Command,
+) -> Result<Answer>
+    requires { Sayable command }
+{
+    match command {
+        Command::Dump => bail!("line {number} is a dump"),
+        Command::Report { .. } => bail!("line {number} is a report"),
+        other => answer_outcome(alloc, session, number, &other),
+    }
+}
+
+/// Answers a line of a number, which is blank or a command.
 fn answer_line(
     alloc: Global,
     session: &mut Session<MemArea>,
@@ -60,7 +79,7 @@ fn answer_line(
 ) -> Result<Option<Answer>> {
     match parse_line(alloc, line) {
         Ok(Parsed::Blank) => Ok(None),
-        Ok(Parsed::Cmd { c }) => Ok(Some(answer_command(alloc, session, number, &c)?)),
+        Ok(Parsed::Cmd { c }) => Ok(Some(answer_command(alloc, session, number, c)?)),
         Err(_) => bail!("line {number} is no command"),
     }
 }

@@ -34,7 +34,14 @@ fn run_failing(
     store.put_file("b.cdf", b"another file")?;
     let mut source = MemSource::new(alloc, Vec::from_slice(alloc, script)?, 65_536);
     let mut sink = MemSink::new(alloc, 1000)?;
-    let ended = run(alloc, &words, store, &mut source, &mut sink);
+    let ended = run(
+        alloc,
+        &words,
+        store,
+        &mut source,
+        &mut sink,
+        &mut Vec::new(alloc),
+    );
     Ok(Ran {
         status: ended.status.number(),
         notes: ended.notes,
@@ -131,7 +138,14 @@ fn a_new_file_tells_what_it_took_the_place_of(rt: HostRuntime) -> Result<(), Fai
     }
     let mut source = MemSource::new(alloc, Vec::new(alloc), 1);
     let mut sink = MemSink::new(alloc, 1000)?;
-    let ended = run(alloc, &words, store, &mut source, &mut sink);
+    let ended = run(
+        alloc,
+        &words,
+        store,
+        &mut source,
+        &mut sink,
+        &mut Vec::new(alloc),
+    );
     assert_eq!(rt; (ended.status.number(), ended.notes.replaced), (0, 12));
     Ok(())
 }

@@ -13,7 +13,14 @@ fn first_refused(alloc: Global, script: &[u8]) -> Result<Option<RefusedLine>, Fa
     }
     let mut source = MemSource::new(alloc, Vec::from_slice(alloc, script)?, 16);
     let mut sink = MemSink::new(alloc, 1000)?;
-    let ended = run(alloc, &words, MemStore::new(alloc), &mut source, &mut sink);
+    let ended = run(
+        alloc,
+        &words,
+        MemStore::new(alloc),
+        &mut source,
+        &mut sink,
+        &mut Vec::new(alloc),
+    );
     Ok(ended.notes.refusals.first)
 }
 
@@ -34,7 +41,11 @@ fn the_first_refused_line_is_marked(rt: HostRuntime) -> Result<(), Fail> {
             1,
             Some(LineMark::Utf16),
         ),
-        (b"info\n\ndump\n".as_slice(), 3, Some(LineMark::NotYet)),
+        (
+            b"info\n\ndel-recs V 0 1\n".as_slice(),
+            3,
+            Some(LineMark::NotYet),
+        ),
     ] {
         let line = first_refused(alloc, script)?;
         assert_eq!(rt;

@@ -18,7 +18,14 @@ fn run_really(rt: HostRuntime, flags: &[&str], script: &[u8]) -> Result<(u8, Vec
     let store = FileStore::new(rt, alloc);
     let mut source = MemSource::new(alloc, Vec::from_slice(alloc, script)?, 16);
     let mut sink = MemSink::new(alloc, 1000)?;
-    let ended = run(alloc, &words, store, &mut source, &mut sink);
+    let ended = run(
+        alloc,
+        &words,
+        store,
+        &mut source,
+        &mut sink,
+        &mut Vec::new(alloc),
+    );
     Ok((
         ended.status.number(),
         Vec::from_slice(alloc, sink.written())?,
