@@ -1,4 +1,4 @@
-"""Lines of a script as commands, of those on attributes, their entries, the checksum, variables and their records, and quoted text."""
+"""Lines of a script as commands (but for those of sparse and packed variables and of cuts), and quoted text."""
 from layout import TYPE_NAMED
 from model import Command
 
@@ -116,4 +116,6 @@ def command_of(words):
     kind, rest = words[0].decode(), words[1:]
     if kind == 'checksum':
         return Command(kind, md5=rest[0] == b'md5')
+    if kind == 'report':
+        return Command(kind, tap=rest[0])
     return attribute_command(kind, rest) or variable_command(kind, rest) or record_command(kind, rest) or Command(kind)

@@ -14,18 +14,17 @@ from types import SimpleNamespace
 
 from content import content
 from editor import apply
+from events import NeedsVarType, Tally, dump, report
 from image import Image
-from layout import (ADR, AGREDR, AZEDR, CDR, GDR, IMAGE_LIMIT, RVDR, TEXT_TYPES, TYPES, UIR, VVR, VXR, ZVDR, Adr, Aedr,
-                    Cdr, Gdr, Uir, Vdr, Vxr, fresh_image)
+from layout import (ADR, AGREDR, AZEDR, CDR, GDR, IMAGE_LIMIT, RVDR, UIR, VVR, VXR, ZVDR, Adr, Aedr, Cdr, Gdr, Uir, Vdr,
+                    Vxr, fresh_image)
 from model import READERS, Refused
 from rowscript import command_of, quoted, words_of
+from texts import refusal_text, reply_text
 from validator import broken, sealed, unsealed
 from worked import space
 
-REASONS = ('BadLine NoSuchAttr NoSuchVar NoSuchTap BadName NameTaken WrongScope NoSuchEntry NumberOutOfRange BadShape '
-           'WrongCount BadValue IndexOutOfRange RecordOutOfRange InUse TooLarge').split()
-SCOPES = {1: 'global', 2: 'variable', 3: 'global-assumed', 4: 'variable-assumed'}
-USAGE = b'usage: cdfedit [--new] [--check] [--no-save] [--space] [--make N] FILE\n'
+LONGEST = 16_777_216
 
 
 @dataclass
@@ -143,44 +142,6 @@ class Table:
         self.rows[-1].limit = int(text)
 
 
-# Replies
-
-def values_text(data_type, elems, network):
-    if data_type.code in TEXT_TYPES:
-        return ' '.join(quoted(network[i:i + elems]) for i in range(0, len(network), elems))
-    parts = [network[i:i + data_type.size] for i in range(0, len(network), data_type.size)]
-    if data_type.signed is None:
-        return ' '.join(part.hex() for part in parts)
-    return ' '.join(str(int.from_bytes(part, 'big', signed=data_type.signed)) for part in parts)
-
-
-def head_text(d):
-    dims = ','.join(map(str, d.rdims)) or '-'
-    return (f'version 3.{d.release}.{d.increment} encoding {d.encoding} majority {"row" if d.row else "column"} '
-            f'checksum {"md5" if d.md5 else "none"} rdims {dims} '
-            f'attributes {len(d.attributes)} rvars {len(d.r)} zvars {len(d.z)}')
-
-
-def reply_text(number, c, d, reply):
-    """What is written for a command that is done."""
-    if c.kind == 'info':
-        return f'{number} ok {head_text(d)}\n'
-    if c.kind == 'list':
-        lines = [f'attribute {i} {quoted(a.name)} {SCOPES[a.scope]}' for i, a in enumerate(d.attributes)]
-        lines += [f'{kind}var {i} {quoted(v.name)}' for kind, vs in (('r', d.r), ('z', d.z)) for i, v in enumerate(vs)]
-        return '\n'.join([f'{number} ok', *lines, f'{number} end']) + '\n'
-    if c.kind in ('get-entry', 'get-rec', 'get-val'):
-        data_type, elems, network = TYPES[reply[0]], reply[1], reply[2]
-        form = f'{data_type.name} {elems} ' if c.kind == 'get-entry' else ''
-        return f'{number} ok {form}{values_text(data_type, elems, network)}\n'
-    return f'{number} ok\n'
-
-
-def refusal_text(number, refusal):
-    more = ''.join(f' {n}' for n in refusal.more)
-    return f'{number} refused {refusal.number} {REASONS[refusal.number - 1]}{more}\n'
-
-
 # A run
 
 class Run:
@@ -188,6 +149,7 @@ class Run:
         self.row, self.before = row, before
         self.text, self.status = b'', 0
         self.after = before
+        self.taps = [Tally(), NeedsVarType()]
 
     def bad_line_of(self, number):
         """The reply to a line that the row takes as no command."""
@@ -197,7 +159,7 @@ class Run:
     def carry_out(self, image):
         lines = self.row.script.split(b'\n')
         for number, line in enumerate(lines[:-1] if not lines[-1] else lines, 1):
-            if not line.strip(b' \t') or line.strip(b' \t').startswith(b'#'):
+            if len(line) <= LONGEST and line.strip(b' \t')[:1] in (b'', b'#'):
                 continue
             bad = self.bad_line_of(number)
             if bad:
@@ -210,13 +172,21 @@ class Run:
     def one_line(self, image, number, line):
         c = command_of(words_of(line))
         try:
-            edited, d, reply = apply(bytes(image), c, self.row.limit or IMAGE_LIMIT)
+            image, text = self.answer(image, number, c)
         except Refused as refusal:
-            self.text += refusal_text(number, refusal).encode()
+            text = refusal_text(number, refusal)
             self.status = 1
-            return image
-        self.text += reply_text(number, c, d, reply).encode()
-        return image if c.kind in READERS else bytes(edited.data)
+        self.text += text.encode()
+        return image
+
+    def answer(self, image, number, c):
+        """The image behind a command, and what is written for it."""
+        if c.kind == 'dump':
+            return image, dump(number, content(Image(image)))
+        if c.kind == 'report':
+            return image, report(number, self.taps, c.tap, content(Image(image)))
+        edited, d, reply = apply(bytes(image), c, self.row.limit or IMAGE_LIMIT)
+        return image if c.kind in READERS else bytes(edited.data), reply_text(number, c, d, reply)
 
     def go(self):
         if self.row.limit is not None:

@@ -2,7 +2,7 @@
 from itertools import combinations
 
 from system_cases.case import ABSENT, SAME, Case, Wanted
-from system_cases.files import EDIT, EDITED, GOOD, MADE, MAKE, NEW, REFUSED, REFUSED_DONE, WRONG_EOF, WRONG_EOF_TEXT, YES, Expected
+from system_cases.files import DUMP, DUMPED, EDIT, EDITED, GOOD, MADE, MAKE, NEW, REFUSED, REFUSED_DONE, WRONG_EOF, WRONG_EOF_TEXT, YES, Expected
 from system_cases.running import How
 
 CLOSED = [some for count in (1, 2, 3) for some in combinations((0, 1, 2), count)]
@@ -15,6 +15,7 @@ RUNS = [
     ("an edit", ("FILE",), EDIT, GOOD, EDITED, Expected(b"", 0, GOOD)),
     ("refused lines", ("FILE",), REFUSED, GOOD, REFUSED_DONE, Expected(b"", 0, GOOD)),
     ("an edit of a rejected file", ("FILE",), EDIT, WRONG_EOF, Expected(WRONG_EOF_TEXT, 4, WRONG_EOF), Expected(WRONG_EOF_TEXT, 4, WRONG_EOF)),
+    ("a dump between edits", ("FILE",), DUMP, GOOD, DUMPED, Expected(b"", 0, GOOD)),
     ("--new of no file", ("--new", "FILE"), MAKE, None, MADE, Expected(b"", 0, NEW)),
     ("--new over a file", ("--new", "FILE"), MAKE, GOOD, MADE, Expected(b"", 0, NEW)),
     ("no file", ("FILE",), EDIT, None, Expected(b"no file\n", 3, None), Expected(b"no file\n", 3, None)),

@@ -66,6 +66,9 @@ READ_DONE = expected(READ, GOOD)
 # An edit with refused lines
 REFUSED = lines("attr Attribute1 global", "attr Added global", "del-attr Nothing", "get-rec Nowhere 0")
 REFUSED_DONE = expected(REFUSED, GOOD)
+# All that a file has, in a reply that is longer than what is written at once, between edits, and what taps say of it
+DUMP = lines("zvar Long INT1 1 vary 40000 T", "set-blocking Long 8", "put-val Long 7 0 7", "dump", "report tally", "report vartype", "report vartype", "attr Added global")
+DUMPED = expected(DUMP, GOOD)
 # What is made new
 MAKE = lines("attr Project global", "zvar Epoch EPOCH 1 vary - -", "list")
 MADE = expected(MAKE, None, ("--new", "FILE"))

@@ -1,6 +1,6 @@
 """2. A file system that is full, and other ways in which nothing more can be written."""
 from system_cases.case import ABSENT, SMALL_DISK, Case, Folder, Wanted
-from system_cases.files import EDIT, EDITED, GOOD, IN_PLACE, IN_PLACE_DONE, READ, READ_DONE, YES, expected, lines, with_unused
+from system_cases.files import DUMP, EDIT, EDITED, GOOD, IN_PLACE, IN_PLACE_DONE, READ, READ_DONE, YES, expected, lines, with_unused
 from system_cases.running import How
 
 PAGE = 4096  # in which the small file system gives room
@@ -49,6 +49,7 @@ CASES = [
     Case("full disk: --new over a longer file", Wanted(0, after=(expected(MAKE_LONGER, None, ("--new", "FILE")).after,)), ("--new", "FILE"), MAKE_LONGER, with_unused(60_000), where="small", prepare=filled()),
     Case("full disk: --new of no file", Wanted((5, 6), after=()), ("--new", "FILE"), MAKE_LONGER, None, where="small", prepare=filled()),
     Case("/dev/full: an edit", Wanted(7), script=EDIT, how=How(output="/dev/full")),
+    Case("/dev/full: a dump between edits", Wanted(7), script=DUMP, how=How(output="/dev/full")),
     Case("/dev/full: --check", Wanted(7), ("--check", "FILE"), how=How(output="/dev/full")),
     Case("/dev/full: --new of no file", Wanted(7, after=(ABSENT, b"")), ("--new", "FILE"), EDIT, None, how=How(output="/dev/full")),
     Case("/dev/full: no answer is due", Wanted(0), script=b"", how=How(output="/dev/full")),

@@ -6,7 +6,7 @@ from collections import Counter
 from typing import Iterator
 
 from system_cases.case import COUNTED, RIGHT, WRONG, Case, Folder, Verdict, Wanted, described, said
-from system_cases.files import EDIT, EDITED, GOOD, IN_PLACE, IN_PLACE_DONE, YES, expected, lines, with_unused
+from system_cases.files import DUMP, EDIT, EDITED, GOOD, IN_PLACE, IN_PLACE_DONE, YES, expected, lines, with_unused
 from system_cases.running import Ended, How, Program
 
 MIB = 1 << 20
@@ -109,6 +109,7 @@ OR_NOT_OPENED = Wanted(5, b"")
 CASES = [
     Case(f"limits: {STEPS} steps of memory, an edit", script=EDIT, attempt=in_little_memory, where="memory"),
     Case(f"limits: {STEPS} steps of memory, an edit of 8 MiB", script=ADD, before=LARGE, attempt=in_little_memory, where="memory"),
+    Case(f"limits: {STEPS} steps of memory, a dump and reports", script=DUMP, attempt=in_little_memory, where="memory"),
     Case("limits: no byte beyond the file, it grows", Wanted(6, told=NOTHING_CHANGED), script=GROW, how=length_limit(len(GOOD))),
     Case("limits: few bytes beyond the file, it grows", Wanted(6, told=NOTHING_CHANGED), script=GROW, how=length_limit(len(GOOD) + 700)),
     Case("limits: a page beyond the file, it grows", Wanted(6, told=NOTHING_CHANGED), script=GROW, how=length_limit(len(GOOD) + 4096)),

@@ -4,7 +4,7 @@ import signal
 import subprocess
 
 from system_cases.case import Case, Folder, Verdict, Wanted, judge
-from system_cases.files import EDIT, EDITED, READ, lines
+from system_cases.files import DUMP, DUMPED, EDIT, EDITED, READ, lines
 from system_cases.running import How, Program
 
 # many more answers than a pipe holds, behind an edit
@@ -52,6 +52,9 @@ CASES = [
     Case("pipes: into head, many answers", BROKEN, script=MANY, attempt=into(HEAD)),
     Case("pipes: into head, many answers, with SIGPIPE ignored", Wanted(7), script=MANY, how=IGNORED, attempt=into(HEAD)),
     Case("pipes: into head, few answers that it reads", (Wanted(0, after=(EDITED.after,)), BROKEN), script=EDIT, attempt=into(HEAD)),
+    Case("pipes: into head, a dump", BROKEN, script=DUMP, attempt=into(HEAD)),
+    Case("pipes: into head, a dump, with SIGPIPE ignored", Wanted(7), script=DUMP, how=IGNORED, attempt=into(HEAD)),
+    Case("pipes: into cat, a dump", Wanted(1, after=(DUMPED.after,)), script=DUMP, attempt=into(["cat"])),
     Case("pipes: into cat, many answers", Wanted(0, after=()), script=MANY, attempt=into(["cat"])),
     Case("pipes: into nothing, an edit", BROKEN, script=EDIT, attempt=into_nothing),
     Case("pipes: into nothing, an edit, with SIGPIPE ignored", Wanted(7), script=EDIT, how=IGNORED, attempt=into_nothing),

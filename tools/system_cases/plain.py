@@ -3,7 +3,7 @@ from typing import Optional
 
 from system_cases.case import ABSENT, SAME, Case, Wanted
 from system_cases.files import (
-    EDIT, GOOD, MAKE, NO_CDF, NO_CDF_TEXT, NO_FILE, READ, REFUSED, WRONG_EOF, WRONG_EOF_TEXT, YES, expected, foreign, lines
+    DUMP, EDIT, GOOD, MAKE, NO_CDF, NO_CDF_TEXT, NO_FILE, READ, REFUSED, WRONG_EOF, WRONG_EOF_TEXT, YES, expected, foreign, lines
 )
 
 FOREIGN = foreign(range(200))
@@ -39,6 +39,9 @@ CASES = [
     edited("take a checksum away", lines("checksum none"), SEALED),
     edited("edit a file of another maker", EDIT_FOREIGN, FOREIGN),
     edited("read", READ),
+    edited("dump", lines("dump", "report tally"), words=("--no-save", "FILE")),
+    edited("dump a file of another maker", lines("dump", "report tally", "report vartype"), FOREIGN),
+    edited("a long dump between edits", DUMP),
     edited("say what space is used", EDIT, GOOD, SPACE),
     edited("save nothing", EDIT, GOOD, ("--no-save", "FILE")),
     edited("make nothing", MAKE, None, ("--new", "--no-save", "FILE")),
