@@ -1,8 +1,10 @@
-//! The cases of cdf_bench but `digest` as plain loops, to which bench/run compares it: the same data, the same lines.
+//! The cases of cdf_bench but `digest`, and a dump of records, as plain loops, to which bench/run compares the programs: the same data, the
+//! same lines.
 //!
 //! Build it by hand, from the top of the repository: rustc -O -o bench/made/plain bench/plain.rs
 
 use std::collections::HashMap;
+use std::io::{BufWriter, Write};
 use std::process::ExitCode;
 use std::time::Instant;
 
@@ -174,9 +176,61 @@ fn pages(count: usize, size: usize) {
     println!("{first:016x} {again:016x}");
 }
 
+/// A field of so many bytes, the highest first.
+fn field(file: &[u8], place: usize, width: usize) -> usize {
+    file[place..place + width].iter().fold(0, |number, byte| number << 8 | usize::from(*byte))
+}
+
+/// Writes the records that a block has up to the greatest one.
+fn dump_block(out: &mut impl Write, file: &[u8], place: usize, records: std::ops::Range<usize>, values: usize) -> std::io::Result<()> {
+    let size = 4 * values;
+    let mut line = Vec::new();
+    for (number, bytes) in records.zip(file[place + 12..].chunks(size)) {
+        line.clear();
+        write!(line, "record {number}")?;
+        for value in bytes.chunks(4) {
+            write!(line, " {}", i32::from_le_bytes([value[0], value[1], value[2], value[3]]))?;
+        }
+        line.push(b'\n');
+        out.write_all(&line)?;
+    }
+    Ok(())
+}
+
+/// Writes what `dump` writes of a file that has one z variable of INT4 below one chain of nodes, of one dimension at most.
+fn dump(name: &str) -> std::io::Result<()> {
+    let file = std::fs::read(name)?;
+    let mut out = BufWriter::with_capacity(65_536, std::io::stdout().lock());
+    let vdr = field(&file, 340, 8);
+    let (most, dimensions) = (field(&file, vdr + 24, 4), field(&file, vdr + 340, 4));
+    let values = if dimensions == 0 { 1 } else { field(&file, vdr + 344, 4) };
+    let sizes = if dimensions == 0 { "- -".to_string() } else { format!("{values} T") };
+    let blocking = field(&file, vdr + 80, 4);
+    writeln!(out, "1 ok\nversion 3.9.0 encoding 6 majority row checksum none rdims - attributes 0 rvars 0 zvars 1")?;
+    writeln!(out, "zvar 0 \"0\" INT4 1 vary {sizes} sparse none compress none blocking {blocking} maxrec {most} pad -")?;
+    let mut node = field(&file, vdr + 28, 8);
+    while node != 0 {
+        let (room, used) = (field(&file, node + 20, 4), field(&file, node + 24, 4));
+        for entry in 0..used {
+            let first = field(&file, node + 28 + 4 * entry, 4);
+            let last = field(&file, node + 28 + 4 * (room + entry), 4);
+            let block = field(&file, node + 28 + 8 * (room + entry), 8);
+            dump_block(&mut out, &file, block, first..last.min(most) + 1, values)?;
+        }
+        node = field(&file, node + 12, 8);
+    }
+    writeln!(out, "end attributes 0 variables 1 records {}\n1 end", most + 1)?;
+    out.flush()
+}
+
 fn main() -> ExitCode {
     let words: Vec<String> = std::env::args().skip(1).collect();
     let number = |place: usize| words.get(place).and_then(|word| word.parse().ok());
+    if let [command, name] = words.as_slice() {
+        if command == "dump" {
+            return ExitCode::from(u8::from(dump(name).is_err()));
+        }
+    }
     match (words.first().map(String::as_str), number(1), number(2)) {
         (Some("rle"), Some(size), _) => rle(size),
         (Some("names"), Some(count), Some(asked)) if asked > 0 => names(count, asked),
