@@ -1,0 +1,200 @@
+"""Runs of the programs, and the line of a case."""
+
+import hashlib
+import os
+import subprocess
+import sys
+import tempfile
+import time
+from dataclasses import dataclass, field
+from pathlib import Path
+from typing import Callable, Optional
+
+from cases import Case, LibraryCase
+from places import LIBRARIES, MADE, MB, MIB, NEW_FILE, PLAIN, PROGRAM, TIME
+
+
+def input_of(make: Callable[[int], bytes], size: int) -> Path:
+    path = MADE / f"{make.__name__}.{size}"
+    if not path.exists() or path.stat().st_size != size:
+        path.write_bytes(make(size))
+    return path
+
+
+@dataclass
+class Run:
+    seconds: float
+    memory: int  # bytes
+    status: int
+    answer: bytes  # of a hashed run the hash of what it wrote
+    user: float  # seconds that the processor worked for it, and not for the system
+    laps: dict[str, float] = field(default_factory=dict)  # seconds of the parts, of cdf_bench and the plain program
+
+
+def run_program(command: list[str], script: Optional[Path] = None, has_laps: bool = False, hashed: bool = False) -> Run:
+    """One run. `time` starts the program, so that the memory of this script does not count as the program's."""
+    note, answer = MADE / "memory", MADE / "answer"
+    timed = [str(TIME), "-q", "-o", str(note), "-f", "%M %U", *command]
+    with open(script or "/dev/null", "rb") as source, open(answer, "wb") as target:
+        start = time.perf_counter()
+        done = subprocess.run(timed, stdin=source, stdout=target if hashed else subprocess.PIPE, stderr=subprocess.PIPE)
+        seconds = time.perf_counter() - start
+    # of a library these are the laps; what the program tells of a run is let go
+    laps = dict(line.split() for line in done.stderr.decode().splitlines()) if has_laps else {}
+    in_seconds = {part: int(micros) / MB for part, micros in laps.items()}
+    memory, user = note.read_text().split()
+    return Run(seconds, int(memory) * 1024, done.returncode, hash_of(answer) if hashed else done.stdout, float(user), in_seconds)
+
+
+def hash_of(path: Path) -> bytes:
+    """A hash of a file that may be too long to be held."""
+    digest = hashlib.sha256()
+    with open(path, "rb") as file:
+        while piece := file.read(MIB):
+            digest.update(piece)
+    return digest.hexdigest().encode()
+
+
+MEMORY = Path("/dev/shm")
+
+
+def folder_in_memory() -> "tempfile.TemporaryDirectory[str]":
+    """A folder for the files that the program opens, where a sync costs nothing; on the disk where there is no such place."""
+    if not os.access(MEMORY, os.W_OK):
+        print(f"bench/run: no {MEMORY}, so that all files are on the disk, and every save waits for it", file=sys.stderr)
+    return tempfile.TemporaryDirectory(prefix="cdfedit-bench-", dir=MEMORY if os.access(MEMORY, os.W_OK) else MADE)
+
+
+def seconds_of_copy(source: Path, copy: Path, on_disk: bool) -> float:
+    """How long a copy takes. One on the disk is brought there afterwards, so that what the program saves is all that it waits for."""
+    seconds = seconds_of(["cp", str(source), str(copy)])
+    if on_disk:
+        with open(copy, "rb") as file:
+            os.fsync(file.fileno())
+    return seconds
+
+
+def seconds_of(command: list[str]) -> float:
+    start = time.perf_counter()
+    subprocess.run(command, stdout=subprocess.DEVNULL, check=True)
+    return time.perf_counter() - start
+
+
+COLUMNS = [("seconds", 9, 3), ("md5sum", 7, 2), ("cat", 7, 2), ("cp", 7, 2), ("plain", 7, 2), ("before", 7, 2), ("beyond", 7, 3), ("MiB", 9, 1), ("of size", 7, 2)]
+
+
+def print_head() -> None:
+    print(f"{'case':40}" + " ".join(f"{name:>{width}}" for name, width, _ in COLUMNS))
+
+
+def print_line(name: str, numbers: dict[str, tuple[float, Optional[float]]]) -> bool:
+    """Prints the numbers of a case, each with what is wanted at most, and says whether all are within it."""
+    text = f"{name:40}"
+    good = True
+    for column, width, digits in COLUMNS:
+        if column not in numbers:
+            text += " " * (width + 1)
+            continue
+        value, wanted = numbers[column]
+        fits = wanted is None or value <= wanted
+        text += f"{value:{width}.{digits}f}{' ' if fits else '!'}"
+        good = good and fits
+    print(text.rstrip(), flush=True)
+    return good
+
+
+def print_wrong(run: Run) -> None:
+    print(f"    wrong answer: status {run.status}, {run.answer[:80]!r}", flush=True)
+
+
+def measure(case: Case, runs: int, folder: Path, memory: dict[str, int], earlier: dict[str, float]) -> bool:
+    """Prints the line of a case, whose file is opened in a folder, and says whether all is as it is wanted."""
+    made = input_of(case.file or case.script, case.size)
+    script = input_of(case.script, case.size) if case.script else None
+    # the program may write to the file that it opens
+    opened = (MADE if case.on_disk else folder) / "opened.cdf"
+    tries, sums, cats, copies, plains = [], [], [], [], []
+    for _ in range(runs):
+        sums.append(seconds_of(["md5sum", str(made)]))
+        if case.times_cat:
+            cats.append(seconds_of(["sh", "-c", 'cat "$1" | cat > /dev/null', "sh", str(made)]))
+        copies.append(seconds_of_copy(made if case.file else NEW_FILE, opened, case.on_disk))
+        tries.append(run_program([str(PROGRAM), *case.flags, str(opened)], script, hashed=bool(case.plain)))
+        if case.plain:
+            plains.append(run_program([str(PLAIN), *case.plain, str(made)], hashed=True))
+    seconds = min(run.seconds for run in tries)
+    worked = min(run.user for run in tries)
+    compared = worked if case.by_user else seconds
+    earlier[case.name] = compared
+    most = max(run.memory for run in tries)
+    memory[case.name] = most
+    wanted_memory = memory[case.memory_of] / MIB + 1 if case.memory_of in memory else None
+    numbers = {
+        "seconds": (seconds, case.most_seconds),
+        "md5sum": (seconds / min(sums), case.times_md5sum),
+        "MiB": (most / MIB, wanted_memory),
+    }
+    if case.memory_beyond:
+        numbers["MiB"] = (most / MIB, (case.size + case.memory_beyond) / MIB)
+    if case.plain:
+        numbers["plain"] = (worked / max(min(run.user for run in plains), 0.01), case.times_plain)
+    if case.times_cat:
+        numbers["cat"] = (seconds / min(cats), case.times_cat)
+    if case.times_cp:
+        numbers["cp"] = (seconds / min(copies), case.times_cp)
+    if case.times_size:
+        numbers["of size"] = (most / case.size, case.times_size)
+    if case.times_made:
+        size = opened.stat().st_size
+        seconds_of(["cp", str(NEW_FILE), str(opened)])
+        beside = min(run_program([str(PROGRAM), *case.flags, str(opened)], input_of(case.beside, case.size)).memory for _ in range(runs))
+        numbers["of size"] = ((min(run.memory for run in tries) - beside) / (size - opened.stat().st_size), case.times_made)
+    if case.before in earlier:
+        numbers["before"] = (compared / max(earlier[case.before], 0.01), case.times_before)
+    if case.before in earlier and (case.seconds_beyond or case.on_disk):
+        numbers["beyond"] = (seconds - earlier[case.before], case.seconds_beyond)
+    good = print_line(case.name, numbers)
+    answer = plains[-1].answer if case.plain else case.answer
+    right = all((run.status, run.answer) == (case.status, answer) for run in tries)
+    if not right:
+        print_wrong(tries[-1])
+    opened.unlink(missing_ok=True)
+    return right and good
+
+
+def measure_library(case: LibraryCase, runs: int, earlier: dict[str, float]) -> bool:
+    """Prints the line of a case of a library, and says whether all is as it is wanted."""
+    made = [str(input_of(case.file, case.size))] if case.file else []
+    tries, sums, plains = [], [], []
+    for _ in range(runs):
+        tries.append(run_program([str(LIBRARIES), *case.words, *made], has_laps=True))
+        if case.file:
+            sums.append(seconds_of(["md5sum", *made]))
+        else:
+            plains.append(run_program([str(PLAIN), *case.words], has_laps=True))
+    if any(run.status != 0 for run in tries + plains):
+        print_wrong(tries[-1])
+        return False
+    seconds = fastest(tries, case.parts)
+    earlier[case.name] = seconds
+    most = max(run.memory for run in tries)
+    numbers = {"seconds": (seconds, None), "MiB": (most / MIB, None)}
+    if case.file:
+        numbers["md5sum"] = (seconds / min(sums), case.times_md5sum)
+        answer = subprocess.run(["md5sum", *made], stdout=subprocess.PIPE, check=True).stdout[:32] + b"\n"
+    else:
+        numbers["plain"] = (seconds / fastest(plains, case.parts), case.times_plain)
+        answer = plains[-1].answer
+    if case.before in earlier:
+        numbers["before"] = (seconds / earlier[case.before], case.times_before)
+    if case.size:
+        numbers["of size"] = (most / case.size, None)
+    good = print_line(case.name, numbers)
+    right = all(run.answer == answer for run in tries)
+    if not right:
+        print_wrong(tries[-1])
+    return right and good
+
+
+def fastest(tries: list[Run], parts: list[str]) -> float:
+    return min(sum(run.laps[part] for part in parts) for run in tries)
