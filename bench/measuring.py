@@ -11,6 +11,7 @@ from pathlib import Path
 from typing import Callable, Optional
 
 from cases import Case, LibraryCase
+from cases_shapes import COUNTS_FROM, TWICE_AS_LARGE, ShapeCase
 from places import LIBRARIES, MADE, MB, MIB, NEW_FILE, PLAIN, PROGRAM, TIME
 
 
@@ -80,16 +81,16 @@ def seconds_of(command: list[str]) -> float:
     return time.perf_counter() - start
 
 
-COLUMNS = [("seconds", 9, 3), ("md5sum", 7, 2), ("cat", 7, 2), ("cp", 7, 2), ("plain", 7, 2), ("before", 7, 2), ("beyond", 7, 3), ("MiB", 9, 1), ("of size", 7, 2)]
+COLUMNS = [("seconds", 9, 3), ("user", 7, 2), ("md5sum", 7, 2), ("cat", 7, 2), ("cp", 7, 2), ("plain", 7, 2), ("before", 7, 2), ("beyond", 7, 3), ("MiB", 9, 1), ("of size", 7, 2)]
 
 
 def print_head() -> None:
-    print(f"{'case':40}" + " ".join(f"{name:>{width}}" for name, width, _ in COLUMNS))
+    print(f"{'case':48}" + " ".join(f"{name:>{width}}" for name, width, _ in COLUMNS))
 
 
 def print_line(name: str, numbers: dict[str, tuple[float, Optional[float]]]) -> bool:
     """Prints the numbers of a case, each with what is wanted at most, and says whether all are within it."""
-    text = f"{name:40}"
+    text = f"{name:48}"
     good = True
     for column, width, digits in COLUMNS:
         if column not in numbers:
@@ -138,6 +139,8 @@ def measure(case: Case, runs: int, folder: Path, memory: dict[str, int], earlier
         numbers["MiB"] = (most / MIB, (case.size + case.memory_beyond) / MIB)
     if case.plain:
         numbers["plain"] = (worked / max(min(run.user for run in plains), 0.01), case.times_plain)
+    if case.by_user:
+        numbers["user"] = (worked, None)
     if case.times_cat:
         numbers["cat"] = (seconds / min(cats), case.times_cat)
     if case.times_cp:
@@ -159,6 +162,63 @@ def measure(case: Case, runs: int, folder: Path, memory: dict[str, int], earlier
     if not right:
         print_wrong(tries[-1])
     opened.unlink(missing_ok=True)
+    return right and good
+
+
+LONGEST_RUN = 120  # seconds, after which a run over a shape is ended
+LONG_RUNS = 20.0  # seconds, after which a case of a shape is not run again
+STOP = ["timeout", str(LONGEST_RUN)]
+
+
+def input_of_count(make: Callable[[int], bytes], count: int) -> Path:
+    path = MADE / f"{make.__name__}.{count}"
+    if not path.exists():
+        made = MADE / "made-now"
+        made.write_bytes(make(count))
+        made.rename(path)
+    return path
+
+
+def run_shape(case: ShapeCase, command: list[str], opened: Path) -> tuple[Run, Optional[bytes]]:
+    """A run of the program or the plain one over the file of a shape, and a hash of the file that it leaves."""
+    opened.unlink(missing_ok=True)
+    if case.file:
+        seconds_of_copy(input_of_count(case.file, case.count), opened, on_disk=False)
+    script = input_of_count(case.script, case.count) if case.script else None
+    run = run_program([*STOP, *command, str(opened)], script, hashed=True)
+    return run, hash_of(opened) if case.does != "check" and opened.exists() else None
+
+
+def measure_shape(case: ShapeCase, runs: int, folder: Path, earlier: dict[str, float]) -> bool:
+    """Prints the line of a shape, and says whether all is as it is wanted. The plain program runs but once where no limit is on its time."""
+    opened = folder / "opened.cdf"
+    tries, plains, left, wanted = [], [], set(), set()
+    for turn in range(runs):
+        run, file = run_shape(case, [str(PROGRAM), *case.flags], opened)
+        tries.append(run)
+        left.add((run.status, run.answer, file))
+        if turn == 0 or case.times_plain:
+            plain, file = run_shape(case, [str(PLAIN), case.does], opened)
+            plains.append(plain)
+            wanted.add((plain.status, plain.answer, file))
+        if sum(run.seconds for run in tries + plains) > LONG_RUNS:
+            break
+    opened.unlink(missing_ok=True)
+    worked, most = min(run.user for run in tries), max(run.memory for run in tries)
+    earlier[case.name] = worked
+    numbers = {
+        "seconds": (min(run.seconds for run in tries), None),
+        "user": (worked, case.most_user),
+        "plain": (worked / max(min(run.user for run in plains), 0.01), case.times_plain),
+        "MiB": (most / MIB, case.most_memory and case.most_memory / MIB),
+    }
+    if case.half in earlier:
+        half = earlier[case.half]
+        numbers["before"] = (worked / max(half, 0.01), TWICE_AS_LARGE if half >= COUNTS_FROM else None)
+    good = print_line(case.name, numbers)
+    right = left == wanted and len(left) == 1
+    if not right:
+        print(f"    wrong answer: status, answer and file {left}, where the plain program has {wanted}", flush=True)
     return right and good
 
 

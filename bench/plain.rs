@@ -1,8 +1,16 @@
-//! The cases of cdf_bench but `digest`, and a dump of records, as plain loops, to which bench/run compares the programs: the same data, the
-//! same lines.
+//! The cases of cdf_bench but `digest`, a dump of records, a check and an editor, as plain loops, to which bench/run compares the programs: the
+//! same data, the same lines, the same files.
 //!
 //! Build it by hand, from the top of the repository: rustc -O -o bench/made/plain bench/plain.rs
 
+#[path = "plain/check.rs"]
+mod check;
+#[path = "plain/edit.rs"]
+mod edit;
+#[path = "plain/image.rs"]
+mod image;
+
+use image::Image;
 use std::collections::HashMap;
 use std::io::{BufWriter, Write};
 use std::process::ExitCode;
@@ -16,6 +24,8 @@ const LOOKUPS: usize = 1_000_000;
 
 /// The most zeros of a pair.
 const LONGEST: usize = 256;
+
+const NEW_FILE: &[u8] = include_bytes!("../crates/cdfedit/data/new.cdf");
 
 struct Random {
     state: u64,
@@ -223,12 +233,54 @@ fn dump(name: &str) -> std::io::Result<()> {
     out.flush()
 }
 
+/// The status of a file that breaks a rule.
+const REJECTED: u8 = 4;
+
+/// Whether the file is well formed; says so, or which rule it breaks.
+fn is_well_formed(image: &Image, says_yes: bool) -> bool {
+    let verdict = check::check(image);
+    match &verdict {
+        Ok(()) if says_yes => println!("yes"),
+        Ok(()) => (),
+        Err(broken) => println!("{broken}"),
+    }
+    verdict.is_ok()
+}
+
+/// Checks a file, carries out the script on standard input, and saves the file; one that is new need not be there.
+fn edit_file(name: &str, is_new: bool) -> std::io::Result<ExitCode> {
+    let bytes = if is_new { NEW_FILE.to_vec() } else { std::fs::read(name)? };
+    let mut image = Image { bytes };
+    if !is_new && !is_well_formed(&image, false) {
+        return Ok(ExitCode::from(REJECTED));
+    }
+    edit::edit(&mut image)?;
+    std::fs::write(name, &image.bytes)?;
+    Ok(ExitCode::SUCCESS)
+}
+
+fn check_file(name: &str) -> std::io::Result<ExitCode> {
+    let image = Image { bytes: std::fs::read(name)? };
+    Ok(if is_well_formed(&image, true) { ExitCode::SUCCESS } else { ExitCode::from(REJECTED) })
+}
+
+/// A command on a file.
+fn on_file(command: &str, name: &str) -> Option<std::io::Result<ExitCode>> {
+    match command {
+        "dump" => Some(dump(name).map(|()| ExitCode::SUCCESS)),
+        "check" => Some(check_file(name)),
+        "edit" => Some(edit_file(name, false)),
+        "edit-new" => Some(edit_file(name, true)),
+        _ => None,
+    }
+}
+
 fn main() -> ExitCode {
     let words: Vec<String> = std::env::args().skip(1).collect();
     let number = |place: usize| words.get(place).and_then(|word| word.parse().ok());
     if let [command, name] = words.as_slice() {
-        if command == "dump" {
-            return ExitCode::from(u8::from(dump(name).is_err()));
+        if let Some(status) = on_file(command, name) {
+            return status.unwrap_or(ExitCode::FAILURE);
         }
     }
     match (words.first().map(String::as_str), number(1), number(2)) {
