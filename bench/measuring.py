@@ -81,14 +81,15 @@ def seconds_of(command: list[str]) -> float:
     return time.perf_counter() - start
 
 
-COLUMNS = [("seconds", 9, 3), ("user", 7, 2), ("md5sum", 7, 2), ("cat", 7, 2), ("cp", 7, 2), ("plain", 7, 2), ("before", 7, 2), ("beyond", 7, 3), ("MiB", 9, 1), ("of size", 7, 2)]
+RATIOS = [(name, 7, 2) for name in ("md5sum", "cat", "cp", "plain", "before")]
+COLUMNS = [("seconds", 9, 3), ("user", 7, 2), *RATIOS, ("beyond", 7, 3), ("MiB", 9, 1), ("of size", 7, 2)]
 
 
 def print_head() -> None:
     print(f"{'case':48}" + " ".join(f"{name:>{width}}" for name, width, _ in COLUMNS))
 
 
-def print_line(name: str, numbers: dict[str, tuple[float, Optional[float]]]) -> bool:
+def print_line(name: str, numbers: "Numbers") -> bool:
     """Prints the numbers of a case, each with what is wanted at most, and says whether all are within it."""
     text = f"{name:48}"
     good = True
@@ -108,59 +109,83 @@ def print_wrong(run: Run) -> None:
     print(f"    wrong answer: status {run.status}, {run.answer[:80]!r}", flush=True)
 
 
-def measure(case: Case, runs: int, folder: Path, memory: dict[str, int], earlier: dict[str, float]) -> bool:
-    """Prints the line of a case, whose file is opened in a folder, and says whether all is as it is wanted."""
+@dataclass
+class Compared:
+    """The runs of a case, and the seconds of what it is compared to."""
+
+    tries: list[Run] = field(default_factory=list)
+    plains: list[Run] = field(default_factory=list)
+    sums: list[float] = field(default_factory=list)
+    cats: list[float] = field(default_factory=list)
+    copies: list[float] = field(default_factory=list)
+
+
+def run_case(case: Case, runs: int, opened: Path) -> Compared:
+    """Runs a case in turn with what it is compared to. The program may write to the file that it opens."""
     made = input_of(case.file or case.script, case.size)
     script = input_of(case.script, case.size) if case.script else None
-    # the program may write to the file that it opens
-    opened = (MADE if case.on_disk else folder) / "opened.cdf"
-    tries, sums, cats, copies, plains = [], [], [], [], []
+    of = Compared()
     for _ in range(runs):
-        sums.append(seconds_of(["md5sum", str(made)]))
+        of.sums.append(seconds_of(["md5sum", str(made)]))
         if case.times_cat:
-            cats.append(seconds_of(["sh", "-c", 'cat "$1" | cat > /dev/null', "sh", str(made)]))
-        copies.append(seconds_of_copy(made if case.file else NEW_FILE, opened, case.on_disk))
-        tries.append(run_program([str(PROGRAM), *case.flags, str(opened)], script, hashed=bool(case.plain)))
+            of.cats.append(seconds_of(["sh", "-c", 'cat "$1" | cat > /dev/null', "sh", str(made)]))
+        of.copies.append(seconds_of_copy(made if case.file else NEW_FILE, opened, case.on_disk))
+        of.tries.append(run_program([str(PROGRAM), *case.flags, str(opened)], script, hashed=bool(case.plain)))
         if case.plain:
-            plains.append(run_program([str(PLAIN), *case.plain, str(made)], hashed=True))
-    seconds = min(run.seconds for run in tries)
-    worked = min(run.user for run in tries)
-    compared = worked if case.by_user else seconds
-    earlier[case.name] = compared
-    most = max(run.memory for run in tries)
-    memory[case.name] = most
-    wanted_memory = memory[case.memory_of] / MIB + 1 if case.memory_of in memory else None
-    numbers = {
-        "seconds": (seconds, case.most_seconds),
-        "md5sum": (seconds / min(sums), case.times_md5sum),
-        "MiB": (most / MIB, wanted_memory),
-    }
-    if case.memory_beyond:
-        numbers["MiB"] = (most / MIB, (case.size + case.memory_beyond) / MIB)
-    if case.plain:
-        numbers["plain"] = (worked / max(min(run.user for run in plains), 0.01), case.times_plain)
+            of.plains.append(run_program([str(PLAIN), *case.plain, str(made)], hashed=True))
+    return of
+
+
+def times_made(case: Case, runs: int, opened: Path, tries: list[Run]) -> float:
+    """The memory beyond that of the script beside, in times of what the file that is left is larger by."""
+    size = opened.stat().st_size
+    seconds_of(["cp", str(NEW_FILE), str(opened)])
+    beside = min(run_program([str(PROGRAM), *case.flags, str(opened)], input_of(case.beside, case.size)).memory for _ in range(runs))
+    return (min(run.memory for run in tries) - beside) / (size - opened.stat().st_size)
+
+
+Numbers = dict[str, tuple[float, Optional[float]]]  # each with what is wanted at most
+
+
+def compared_numbers(case: Case, of: Compared, seconds: float, worked: float) -> Numbers:
+    """How a case stands to what it is run in turn with."""
+    numbers: Numbers = {"seconds": (seconds, case.most_seconds), "md5sum": (seconds / min(of.sums), case.times_md5sum)}
     if case.by_user:
         numbers["user"] = (worked, None)
+    if case.plain:
+        numbers["plain"] = (worked / max(min(run.user for run in of.plains), 0.01), case.times_plain)
     if case.times_cat:
-        numbers["cat"] = (seconds / min(cats), case.times_cat)
+        numbers["cat"] = (seconds / min(of.cats), case.times_cat)
     if case.times_cp:
-        numbers["cp"] = (seconds / min(copies), case.times_cp)
+        numbers["cp"] = (seconds / min(of.copies), case.times_cp)
+    return numbers
+
+
+def measure(case: Case, runs: int, folder: Path, memory: dict[str, int], earlier: dict[str, float]) -> bool:
+    """Prints the line of a case, whose file is opened in a folder, and says whether all is as it is wanted."""
+    opened = (MADE if case.on_disk else folder) / "opened.cdf"
+    of = run_case(case, runs, opened)
+    seconds, worked = min(run.seconds for run in of.tries), min(run.user for run in of.tries)
+    most = memory[case.name] = max(run.memory for run in of.tries)
+    compared = earlier[case.name] = worked if case.by_user else seconds
+    numbers = compared_numbers(case, of, seconds, worked)
+    wanted_memory = memory[case.memory_of] + MIB if case.memory_of in memory else None
+    if case.memory_beyond:
+        wanted_memory = case.size + case.memory_beyond
+    numbers["MiB"] = (most / MIB, wanted_memory and wanted_memory / MIB)
     if case.times_size:
         numbers["of size"] = (most / case.size, case.times_size)
     if case.times_made:
-        size = opened.stat().st_size
-        seconds_of(["cp", str(NEW_FILE), str(opened)])
-        beside = min(run_program([str(PROGRAM), *case.flags, str(opened)], input_of(case.beside, case.size)).memory for _ in range(runs))
-        numbers["of size"] = ((min(run.memory for run in tries) - beside) / (size - opened.stat().st_size), case.times_made)
+        numbers["of size"] = (times_made(case, runs, opened, of.tries), case.times_made)
     if case.before in earlier:
         numbers["before"] = (compared / max(earlier[case.before], 0.01), case.times_before)
     if case.before in earlier and (case.seconds_beyond or case.on_disk):
         numbers["beyond"] = (seconds - earlier[case.before], case.seconds_beyond)
     good = print_line(case.name, numbers)
-    answer = plains[-1].answer if case.plain else case.answer
-    right = all((run.status, run.answer) == (case.status, answer) for run in tries)
+    answer = of.plains[-1].answer if case.plain else case.answer
+    right = all((run.status, run.answer) == (case.status, answer) for run in of.tries)
     if not right:
-        print_wrong(tries[-1])
+        print_wrong(of.tries[-1])
     opened.unlink(missing_ok=True)
     return right and good
 
