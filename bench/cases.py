@@ -41,10 +41,10 @@ class Case:
     times_before: Optional[float] = None
     seconds_beyond: Optional[float] = None  # at most so many seconds more than that case
     on_disk: bool = False  # the file is opened on the disk; how many seconds more than the case before it takes is shown
-    plain: tuple[str, ...] = ()  # what the plain program is given before the file, to write the same
-    times_plain: Optional[float] = None  # of the time that the processor worked for it
+    plain: tuple[str, ...] = ()  # what the plain program is given before the file, to answer the same; that is the answer where none is given
+    times_plain: Optional[float] = None
     memory_beyond: Optional[int] = None  # memory: at most so many bytes beyond the file
-    by_user: bool = False  # the case before it is compared by that time too
+    by_user: bool = False  # the plain program and the case before it are compared by the time that the processor worked for them
 
 
 @dataclass
@@ -74,7 +74,7 @@ def line_case(kind: str, line: Callable[[int], bytes], status: int, answer: byte
 
 
 def file_case(kind: str, file: Callable[[int], bytes], answer: bytes) -> Case:
-    return Case(f"file, {kind}, 256 MiB", 4, answer, 256 * MIB, file=file, times_cat=2, times_size=1.1)
+    return Case(f"file, {kind}, 256 MiB", 4, answer, 256 * MIB, file=file, times_cat=2, times_size=1.1, plain=("check",))
 
 
 def dump_case(kind: str, file: Callable[[int], bytes], size: int, answer: bytes = b"", **wanted) -> Case:
@@ -112,7 +112,7 @@ CASES = [
     Case("file, 256 MiB, one new attribute, on the disk", 0, b"1 ok\n", 256 * MIB, script=one_attribute, file=one_unused, before="file, 256 MiB, one new attribute", on_disk=True),
     Case("file, records, 256 MiB", 0, b"1 ok\n", LARGE_BLOCKS_OF_256_MIB, script=no_checksum, file=large_blocks, times_size=1.09),
     Case("file, records, 256 MiB, one value", 0, b"1 ok\n", LARGE_BLOCKS_OF_256_MIB, script=one_value, file=large_blocks, times_size=1.09, before="file, records, 256 MiB", times_before=1.1),
-    Case("check, 512 MB", 0, b"yes\n", 512 * MB, flags=("--check",), file=one_unused, times_cat=2, times_size=1.1),
+    Case("check, 512 MB", 0, b"yes\n", 512 * MB, flags=("--check",), file=one_unused, times_cat=2, times_size=1.1, plain=("check",)),
     Case("check, 512 MB with a checksum", 0, b"yes\n", 512 * MB, flags=("--check",), file=sealed, times_md5sum=2, times_size=1.1),
     Case("file, 100000 attributes", 0, b"", HUNDRED_THOUSAND, file=attributes, times_md5sum=3, times_size=2),
     Case("file, 100000 attributes, one renamed", 0, b"1 ok\n", HUNDRED_THOUSAND, script=rename_last, file=attributes, times_size=2, before="file, 100000 attributes", times_before=2),

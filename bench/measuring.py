@@ -124,15 +124,16 @@ def run_case(case: Case, runs: int, opened: Path) -> Compared:
     """Runs a case in turn with what it is compared to. The program may write to the file that it opens."""
     made = input_of(case.file or case.script, case.size)
     script = input_of(case.script, case.size) if case.script else None
+    hashed = bool(case.plain) and not case.answer
     of = Compared()
     for _ in range(runs):
         of.sums.append(seconds_of(["md5sum", str(made)]))
         if case.times_cat:
             of.cats.append(seconds_of(["sh", "-c", 'cat "$1" | cat > /dev/null', "sh", str(made)]))
         of.copies.append(seconds_of_copy(made if case.file else NEW_FILE, opened, case.on_disk))
-        of.tries.append(run_program([str(PROGRAM), *case.flags, str(opened)], script, hashed=bool(case.plain)))
+        of.tries.append(run_program([str(PROGRAM), *case.flags, str(opened)], script, hashed=hashed))
         if case.plain:
-            of.plains.append(run_program([str(PLAIN), *case.plain, str(made)], hashed=True))
+            of.plains.append(run_program([str(PLAIN), *case.plain, str(made)], hashed=hashed))
     return of
 
 
@@ -153,7 +154,8 @@ def compared_numbers(case: Case, of: Compared, seconds: float, worked: float) ->
     if case.by_user:
         numbers["user"] = (worked, None)
     if case.plain:
-        numbers["plain"] = (worked / max(min(run.user for run in of.plains), 0.01), case.times_plain)
+        plain = min(run.user if case.by_user else run.seconds for run in of.plains)
+        numbers["plain"] = ((worked if case.by_user else seconds) / max(plain, 0.01), case.times_plain)
     if case.times_cat:
         numbers["cat"] = (seconds / min(of.cats), case.times_cat)
     if case.times_cp:
@@ -182,8 +184,8 @@ def measure(case: Case, runs: int, folder: Path, memory: dict[str, int], earlier
     if case.before in earlier and (case.seconds_beyond or case.on_disk):
         numbers["beyond"] = (seconds - earlier[case.before], case.seconds_beyond)
     good = print_line(case.name, numbers)
-    answer = of.plains[-1].answer if case.plain else case.answer
-    right = all((run.status, run.answer) == (case.status, answer) for run in of.tries)
+    answer = case.answer or (of.plains[-1].answer if case.plain else b"")
+    right = all((run.status, run.answer) == (case.status, answer) for run in of.tries + of.plains)
     if not right:
         print_wrong(of.tries[-1])
     opened.unlink(missing_ok=True)
