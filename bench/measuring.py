@@ -1,6 +1,7 @@
 """Runs of the programs, and the line of a case."""
 
 import hashlib
+import math
 import os
 import subprocess
 import sys
@@ -195,6 +196,7 @@ def measure(case: Case, runs: int, folder: Path, memory: dict[str, int], earlier
 LONGEST_RUN = 120  # seconds, after which a run over a shape is ended
 LONG_RUNS = 20.0  # seconds, after which a case of a shape is not run again
 STOP = ["timeout", str(LONGEST_RUN)]
+ENDED = 124  # the status of a run that `timeout` ended
 
 
 def input_of_count(make: Callable[[int], bytes], count: int) -> Path:
@@ -218,6 +220,9 @@ def run_shape(case: ShapeCase, command: list[str], opened: Path) -> tuple[Run, O
 
 def measure_shape(case: ShapeCase, runs: int, folder: Path, earlier: dict[str, float]) -> bool:
     """Prints the line of a shape, and says whether all is as it is wanted. The plain program runs but once where no limit is on its time."""
+    if earlier.get(case.half) == math.inf:
+        print(f"{case.name:48}    not run, since half of it was ended", flush=True)
+        return False
     opened = folder / "opened.cdf"
     tries, plains, left, wanted = [], [], set(), set()
     for turn in range(runs):
@@ -231,9 +236,19 @@ def measure_shape(case: ShapeCase, runs: int, folder: Path, earlier: dict[str, f
         if sum(run.seconds for run in tries + plains) > LONG_RUNS:
             break
     opened.unlink(missing_ok=True)
+    was_ended = any(run.status == ENDED for run in tries)
+    good = print_line(case.name, shape_numbers(case, tries, plains, earlier))
+    earlier[case.name] = math.inf if was_ended else min(run.user for run in tries)
+    if was_ended:
+        print(f"    ended after {LONGEST_RUN} seconds", flush=True)
+    elif left != wanted or len(left) > 1:
+        print(f"    wrong answer: status, answer and file {left}, where the plain program has {wanted}", flush=True)
+    return good and not was_ended and left == wanted and len(left) == 1
+
+
+def shape_numbers(case: ShapeCase, tries: list[Run], plains: list[Run], earlier: dict[str, float]) -> Numbers:
     worked, most = min(run.user for run in tries), max(run.memory for run in tries)
-    earlier[case.name] = worked
-    numbers = {
+    numbers: Numbers = {
         "seconds": (min(run.seconds for run in tries), None),
         "user": (worked, case.most_user),
         "plain": (worked / max(min(run.user for run in plains), 0.01), case.times_plain),
@@ -242,11 +257,7 @@ def measure_shape(case: ShapeCase, runs: int, folder: Path, earlier: dict[str, f
     if case.half in earlier:
         half = earlier[case.half]
         numbers["before"] = (worked / max(half, 0.01), TWICE_AS_LARGE if half >= COUNTS_FROM else None)
-    good = print_line(case.name, numbers)
-    right = left == wanted and len(left) == 1
-    if not right:
-        print(f"    wrong answer: status, answer and file {left}, where the plain program has {wanted}", flush=True)
-    return right and good
+    return numbers
 
 
 def measure_library(case: LibraryCase, runs: int, earlier: dict[str, float]) -> bool:
