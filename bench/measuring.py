@@ -3,6 +3,7 @@
 import hashlib
 import math
 import os
+import resource
 import subprocess
 import sys
 import tempfile
@@ -36,16 +37,21 @@ class Run:
 def run_program(command: list[str], script: Optional[Path] = None, has_laps: bool = False, hashed: bool = False) -> Run:
     """One run. `time` starts the program, so that the memory of this script does not count as the program's."""
     note, answer = MADE / "memory", MADE / "answer"
-    timed = [str(TIME), "-q", "-o", str(note), "-f", "%M %U", *command]
+    timed = [str(TIME), "-q", "-o", str(note), "-f", "%M", *command]
     with open(script or "/dev/null", "rb") as source, open(answer, "wb") as target:
-        start = time.perf_counter()
+        start, worked = time.perf_counter(), user_seconds()
         done = subprocess.run(timed, stdin=source, stdout=target if hashed else subprocess.PIPE, stderr=subprocess.PIPE)
-        seconds = time.perf_counter() - start
+        seconds, worked = time.perf_counter() - start, user_seconds() - worked
     # of a library these are the laps; what the program tells of a run is let go
     laps = dict(line.split() for line in done.stderr.decode().splitlines()) if has_laps else {}
     in_seconds = {part: int(micros) / MB for part, micros in laps.items()}
-    memory, user = note.read_text().split()
-    return Run(seconds, int(memory) * 1024, done.returncode, hash_of(answer) if hashed else done.stdout, float(user), in_seconds)
+    memory = int(note.read_text()) * 1024
+    return Run(seconds, memory, done.returncode, hash_of(answer) if hashed else done.stdout, worked, in_seconds)
+
+
+def user_seconds() -> float:
+    """How long the processor worked for all programs that were started here and have ended."""
+    return resource.getrusage(resource.RUSAGE_CHILDREN).ru_utime
 
 
 def hash_of(path: Path) -> bytes:
