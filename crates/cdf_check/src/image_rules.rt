@@ -1,6 +1,6 @@
 //! The rules on an image, phases 4 to 9.
 
-ghost use Rattle.std.specs.Prelude.{◌≡◌, ◌+◌, ◌++◌, ◌≤◌, ◌<◌, ◌^◌, length, map, IfOk};
+ghost use Rattle.std.specs.Prelude.{◌≡◌, ◌+◌, ◌++◌, ◌∷◌, ◌≤◌, ◌<◌, ◌^◌, length, map, IfOk};
 ghost use Rattle.std.specs.List.{flat_map};
 ghost use Rattle.cdf_area.specs.Calls.{Reads};
 ghost use Rattle.cdf_format.specs.AttributeRules.{phase6};
@@ -14,7 +14,9 @@ ghost use Rattle.cdf_format.specs.Tiles.{tiling};
 ghost use Rattle.cdf_format.specs.Walks.{whole};
 ghost use Rattle.cdf_format.specs.Records.{cdr_place};
 ghost use Rattle.cdf_structure.specs.FileChains.{AreChains};
+ghost use Rattle.cdf_structure.specs.Owners.{IsFor, KnowsOwned};
 ghost use Rattle.cdf_structure.specs.Records.{unused_of};
+ghost use Rattle.cdf_structure.specs.Walked.{Climbs};
 ghost use Rattle.cdf_check.specs.Variables.{HasRoomForSizes};
 ghost use Rattle.cdf_check.specs.Verdicts.{JudgesImage};
 
@@ -22,7 +24,8 @@ use crate::attributes::check_attributes;
 use crate::variables::check_variables;
 use crate::verdict::{Broken, in_phase};
 use cdf_area::{Area, AreaError};
-use cdf_structure::{Chains, check_chains, check_indexes, check_owners, check_tiles};
+use cdf_format::fields::CDR_PLACE;
+use cdf_structure::{Chains, Owners, check_chains, check_indexes, check_tiles};
 use std::alloc::{AllocError, Global};
 
 /// The places of two lists, one after the other.
@@ -35,6 +38,24 @@ fn join(alloc: Global, first: &[u64], second: &[u64]) -> Result<Vec<u64>, AllocE
     Ok(both)
 }
 
+/// The owners of the first two records of a file and of the records of its attributes, which are these members.
+fn own_members(
+    alloc: Global,
+    tiles: &[u64],
+    gdr: u64,
+    members: &[u64],
+) -> Result<Owners, AllocError>
+    requires climbs { Climbs tiles.now }
+    ensures marks { IfOk result (IsFor tiles.now) }
+    ensures told { IfOk result (KnowsOwned tiles.now (cdr_place ∷ gdr ∷ members.now)) }
+{
+    let mut owners = Owners::new(alloc, tiles)?;
+    owners.add(tiles, CDR_PLACE);
+    owners.add(tiles, gdr);
+    owners.add_all(tiles, members);
+    Ok(owners)
+}
+
 /// A rule on variables or owners that an image breaks, of which the records, the chains and the attributes keep their rules. The
 /// records of the attributes are these members.
 fn check_variable_members<A: Area>(
@@ -44,7 +65,7 @@ fn check_variable_members<A: Area>(
     unused: &[u64],
     chains: &Chains,
     gdr: u64,
-    mut members: Vec<u64>,
+    members: &[u64],
 ) -> Result<Option<Broken>, AreaError>
     requires tiling { tiling (A.image area.old) ≡ whole tiles.now }
     requires unused { unused.now ≡ unused_of (A.image area.old) tiles.now }
@@ -52,7 +73,7 @@ fn check_variable_members<A: Area>(
     requires chains { AreChains (A.image area.old) tiles.now chains.now }
     requires linked { Hold (phase5 (A.image area.old) tiles.now) }
     requires attributes { Hold (phase6 (A.image area.old) tiles.now chains.now.attributes.items) }
-    requires members { members.items ≡ flat_map attribute_records (map (attribute_shape (A.image area.old) tiles.now) chains.now.attributes.items) }
+    requires members { members.now ≡ flat_map attribute_records (map (attribute_shape (A.image area.old) tiles.now) chains.now.attributes.items) }
     requires small { length (A.image area.old) < 2 ^ 31 }
     requires gdr { gdr ≡ gdr_offset (A.image area.old) }
     requires sizes { HasRoomForSizes (A.image area.old) }
@@ -64,19 +85,15 @@ fn check_variable_members<A: Area>(
         Ok(described) => described,
         Err(finding) => return Ok(Some(in_phase(7, finding))),
     };
-    let owned = match check_indexes(
-        alloc,
-        area,
-        tiles,
-        &vdrs,
-        &described.record_sizes,
-        &described.vxr_heads,
-    )? {
-        Ok(owned) => owned,
-        Err(finding) => return Ok(Some(in_phase(8, finding))),
-    };
-    members.extend_from_slice(&owned)?;
-    if let Some(finding) = check_owners(alloc, tiles, gdr, &members, unused)? {
+    let sizes = &described.record_sizes;
+    let heads = &described.vxr_heads;
+    let mut owners = own_members(alloc, tiles, gdr, members)?;
+    let broken = check_indexes(alloc, area, tiles, &vdrs, sizes, heads, &mut owners)?;
+    if let Some(finding) = broken {
+        return Ok(Some(in_phase(8, finding)));
+    }
+    owners.add_all(tiles, unused);
+    if let Some(finding) = owners.check(tiles) {
         return Ok(Some(in_phase(9, finding)));
     }
     Ok(None)
@@ -106,7 +123,7 @@ fn check_members<A: Area>(
         Ok(members) => members,
         Err(finding) => return Ok(Some(in_phase(6, finding))),
     };
-    check_variable_members(alloc, area, tiles, unused, chains, gdr, members)
+    check_variable_members(alloc, area, tiles, unused, chains, gdr, &members)
 }
 
 /// A rule that an image breaks, of which the records keep their rules.

@@ -34,10 +34,12 @@ pub use Rattle.cdf_structure.specs.Findings.{Finds, Yields}
 pub use Rattle.cdf_structure.specs.Indexes.{EndsAt, Enters, FindsMore, IsEntryAt, MeetsIndex, WalksEntries, WalksIndex, WalksNodes, block_in, block_of, block_rows, index_records}
 pub use Rattle.cdf_structure.specs.Met.{Agrees, Ascends}
 pub use Rattle.cdf_structure.specs.Records.{AreRead, AreRecords, AreSorted, WalksTiles, head_rows, unused_of}
-pub use Rattle.cdf_structure.specs.Walked.{Climbs, Counts, Meets, SizesTile, StandsAt}
+pub use Rattle.cdf_structure.specs.Owners.{IsFor, IsToldOf, KnowsOwned, Marks}
+pub use Rattle.cdf_structure.specs.Walked.{Climbs, Meets, SizesTile, StandsAt}
 pub use Rattle.cdf_structure.specs.declared.finding.Finding.{Finding}
 pub use Rattle.cdf_structure.specs.declared.index_walk.Block.{Block}
 pub use Rattle.cdf_structure.specs.declared.index_walk.Index.{Index}
+pub use Rattle.cdf_structure.specs.declared.owners.Owners.{Owners}
 pub use Rattle.std.proofs.Common.{Bool, Err, FitsSigned, List, None, Ok, Option, Some, [], add-one, ap, append-nil, append_assoc, ap₂, arith, cond, drop, eq-eqb, eqb, false, get_or, get_or-set_other, get_or-set_same, inl, inr, is_eq, leb, length, length-set, map, min, nat_cmp, negsuc, not, pos, refl, replicate, rules, set, slice_index, subst, suc, sym, take, true, true≢false, w64, zero, ℕ, ℤ, ◌&&◌, ◌*◌, ◌++◌, ◌+◌, ◌-◌, ◌/◌, ◌<◌, ◌||◌, ◌∙◌, ◌∷◌, ◌≡◌, ◌≢◌, ◌≤◌, ◌⊎◌}
 pub use Rattle.std.proofs.lemmas.Bool.{and_parts, cases_lt, eqb-true, leb-true, ne_eqb}
 pub use Rattle.std.proofs.lemmas.Bool.Decides.{nat_tests}

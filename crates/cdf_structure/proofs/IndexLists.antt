@@ -1,9 +1,10 @@
 -- The indexes of variables, one after the other.
-use Rattle.cdf_structure.proofs.Common.{AreRead, Hold, Hold-member, List, [], ap, append-nil, false, flat_map, flat_map-append, get_or, get_or-map, is_compressed, length, map, map-append, phase7, record_bytes, sym, take, take_more, variable_rows, ℕ, ◌++◌, ◌+◌, ◌<◌, ◌∙◌, ◌∷◌, ◌≡◌, ◌≤◌}
+use Rattle.cdf_structure.proofs.Common.{AreRead, Hold, Hold-member, IsToldOf, List, Owners, [], ap, append-nil, false, flat_map, flat_map-append, get_or, get_or-map, is_compressed, length, map, map-append, phase7, record_bytes, refl, subst, sym, take, take_more, variable_records, variable_rows, variable_shape, ℕ, ◌++◌, ◌+◌, ◌<◌, ◌∙◌, ◌∷◌, ◌≡◌, ◌≤◌}
 use Rattle.cdf_model.specs.Place.{record_limit}
 use Rattle.cdf_format.proofs.Tests.{le_of}
 use Rattle.cdf_structure.proofs.IndexSteps.{plain}
 use Rattle.cdf_structure.proofs.Rows.{In-get_or}
+use Rattle.cdf_structure.proofs.Tallies.{told_then}
 
 -- the members of lists that were made of others
 module _ {X : Type 0} (f : X → List ℕ) (g : ℕ → X) where
@@ -29,3 +30,12 @@ module _ (b ts vdrs : List ℕ) (read : AreRead b ts) (described : Hold (phase7 
 -- what each of these variables has, in their order
 pub had_at : (f : ℕ → ℕ) (vdrs xs : List ℕ) (i : ℕ) → i < length vdrs → xs ≡ map f vdrs → get_or xs i 0 ≡ f (get_or vdrs i 0)
 had_at f vdrs xs i lt e = ap (λ (ys : List ℕ). get_or ys i 0) e ∙ get_or-map f vdrs i 0 0 lt
+
+-- the records of one variable more are told of
+pub told_variable : (b ts vdrs : List ℕ) (i : ℕ) → i < length vdrs → (first before now : Owners) (records : List ℕ) → records ≡ variable_records (variable_shape b ts (get_or vdrs i 0))
+    → IsToldOf ts (flat_map variable_records (map (variable_shape b ts) (take i vdrs))) first before → IsToldOf ts records before now
+    → IsToldOf ts (flat_map variable_records (map (variable_shape b ts) (take (i + 1) vdrs))) first now
+told_variable b ts vdrs i lt first before now records is told more =
+    subst (λ (xs : List ℕ). IsToldOf ts xs first now)
+    (list_more variable_records (variable_shape b ts) vdrs i (flat_map variable_records (map (variable_shape b ts) (take i vdrs))) _ lt refl (ap (λ (xs : List ℕ). flat_map variable_records (map (variable_shape b ts) (take i vdrs)) ++ xs) is))
+    (told_then ts (flat_map variable_records (map (variable_shape b ts) (take i vdrs))) records first before now told more)

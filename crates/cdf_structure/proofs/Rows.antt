@@ -1,5 +1,5 @@
 -- The rules of each member of a list, one after the other.
-use Rattle.cdf_structure.proofs.Common.{Finding, Finds, Hold, Hold-append, Hold-split, In, IsBroken, IsBroken-after, IsBroken-before, List, None, Option, Row, Some, [], ap, append-nil, arith, flat_map, get_or, inl, inr, length, map, map-append, option_or, refl, suc, sym, take, take_more, zero, ℕ, ◌++◌, ◌+◌, ◌<◌, ◌∙◌, ◌∷◌, ◌≡◌, ◌⊎◌}
+use Rattle.cdf_structure.proofs.Common.{Finding, Finds, Hold, Hold-append, Hold-split, In, IsBroken, IsBroken-after, IsBroken-before, List, None, Option, Row, Some, [], ap, append-nil, arith, flat_map, get_or, inl, inr, length, map, map-append, option_or, refl, subst, suc, sym, take, take_more, zero, ℕ, ◌++◌, ◌+◌, ◌<◌, ◌∙◌, ◌∷◌, ◌≡◌, ◌⊎◌}
 use Rattle.cdf_format.proofs.RowLemmas.{flat_map-append}
 
 pub In-get_or : (xs : List ℕ) (i : ℕ) → i < length xs → In (get_or xs i 0) xs
@@ -12,6 +12,11 @@ pub broken_member : {X : Type 0} (rows : X → List Row) (members : List X) (i :
 broken_member rows [] i d rule place lt broken = absurd (omega arith)
 broken_member rows (x ∷ members) zero d rule place lt broken = IsBroken-before (rows x) (flat_map rows members) rule place broken
 broken_member rows (x ∷ members) (suc i) d rule place lt broken = IsBroken-after (rows x) (flat_map rows members) rule place (broken_member rows members i d rule place (omega arith) broken)
+
+pub broken_in : (rows : ℕ → List Row) (members : List ℕ) (m rule place : ℕ) → In m members → IsBroken (rows m) rule place → IsBroken (flat_map rows members) rule place
+broken_in rows [] m rule place stands broken = absurd stands
+broken_in rows (x ∷ members) m rule place (inl e) broken = IsBroken-before (rows x) (flat_map rows members) rule place (subst (λ (n : ℕ). IsBroken (rows n) rule place) e broken)
+broken_in rows (x ∷ members) m rule place (inr stands) broken = IsBroken-after (rows x) (flat_map rows members) rule place (broken_in rows members m rule place stands broken)
 
 -- one more member's rules hold
 pub holds_more : {X : Type 0} (rows : X → List Row) (members : List X) (i : ℕ) (d : X) → i < length members → Hold (flat_map rows (take i members)) → Hold (rows (get_or members i d)) → Hold (flat_map rows (take (suc i) members))

@@ -1,12 +1,11 @@
 -- What a walk from record to record answers.
-use Rattle.std.specs.Prelude.{◌≡◌, ◌≢◌, ◌<◌, ℕ, List, [], ◌∷◌, ◌++◌, length, get_or, min, true, false, not, ◌&&◌, Ok, Err, Some, None}
+use Rattle.std.specs.Prelude.{◌≡◌, ◌≢◌, ◌<◌, ℕ, List, [], ◌∷◌, ◌++◌, length, get_or, true, false, not, ◌&&◌, Ok, Err, Some, None}
 use Rattle.std.specs.declared.option.Option.{Option}
 use Rattle.std.specs.declared.result.Result.{Result}
 use Rattle.std.specs.declared.vec.Vec.{Vec}
 use Rattle.std.specs.declared.alloc.Global.{Global}
 use Rattle.cdf_format.specs.Chains.{is_in, is_linkable, next_of}
 use Rattle.cdf_format.specs.Fields.{size_at}
-use Rattle.cdf_format.specs.Owners.{times}
 use Rattle.cdf_format.specs.Tiles.{is_tile}
 use Rattle.cdf_format.specs.Walks.{Walk, whole, stuck}
 use Rattle.cdf_structure.specs.Met.{Agrees}
@@ -35,8 +34,3 @@ Climbs xs = (i j : ℕ) → i < j → j < length xs → get_or xs i 0 < get_or x
 abbrev pub StandsAt : List ℕ → ℕ → Option ℕ → Type 0
 StandsAt xs n None = (i : ℕ) → i < length xs → get_or xs i 0 ≢ n
 StandsAt xs n (Some i) = (i < length xs) × (get_or xs i 0 ≡ n)
-
--- how often each number stands in a list, up to 255 times
-pub record Counts (xs ys counts : List ℕ) : Type 0 where
-  pub as_many : length counts ≡ length xs
-  pub each : (j : ℕ) → j < length xs → get_or counts j 0 ≡ min (times (get_or xs j 0) ys) 255

@@ -1,6 +1,6 @@
 //! The rules on the indexes of variables and on their blocks.
 
-ghost use Rattle.std.specs.Prelude.{◌≡◌, ◌+◌, ◌++◌, ◌∷◌, ◌≤◌, ◌<◌, ◌^◌, length, map, false, IfOk, OnOk, MatchResult};
+ghost use Rattle.std.specs.Prelude.{◌≡◌, ◌∷◌, ◌≤◌, ◌<◌, ◌^◌, length, map, false, None, IfOk};
 ghost use Rattle.std.specs.List.{flat_map};
 ghost use Rattle.cdf_area.specs.Calls.{Reads};
 ghost use Rattle.cdf_model.specs.Place.{record_limit};
@@ -16,12 +16,15 @@ ghost use Rattle.cdf_format.specs.VariableRules.{phase7};
 ghost use Rattle.cdf_structure.specs.Indexes.{block_rows, index_records, records_of_block, WalksIndex};
 ghost use Rattle.cdf_structure.specs.Records.{AreRead};
 ghost use Rattle.cdf_structure.specs.Findings.{Finds, Yields};
+ghost use Rattle.cdf_structure.specs.Owners.{IsFor, IsToldOf};
+ghost use Rattle.cdf_structure.specs.Walked.{Climbs};
 
 use crate::fields::read_size;
 use crate::finding::Finding;
 use crate::index_walk::{Between, Block, Chain, Index, walk_nodes};
 use crate::links::is_a;
 use crate::nodes::with_sign;
+use crate::owners::Owners;
 use cdf_area::{Area, AreaError};
 use cdf_format::fields::{VVR_RECORDS, VVR_TYPE};
 use cdf_model::limits::{LEVEL_LIMIT, RECORD_NUMBER_LIMIT};
@@ -142,21 +145,22 @@ fn check_index<A: Area>(
     Ok(Ok(index))
 }
 
-/// Puts the records of a variable with this index last.
-fn own(owned: &mut Vec<u64>, vdr: u64, index: &Index) -> Result<(), AreaError>
-    ensures owned { OnOk result (owned.new.items ≡ owned.old.items ++ index_records vdr index.now) }
-    ensures cause { MatchResult result (λ _. Unit {0}) (λ e. e ≡ AreaError.NoMemory) }
+/// Tells of the records of a variable with this index, whose VDR stands at a place.
+fn own(owners: &mut Owners, tiles: &[u64], vdr: u64, index: &Index)
+    requires climbs { Climbs tiles.now }
+    requires marks { IsFor tiles.now owners.old }
+    ensures marks { IsFor tiles.now owners.new }
+    ensures told { IsToldOf tiles.now (index_records vdr index.now) owners.old owners.new }
 {
-    owned.push(vdr)?;
-    owned.extend_from_slice(&index.nodes.list)?;
+    owners.add(tiles, vdr);
+    owners.add_all(tiles, &index.nodes.list);
     for block in &index.blocks {
-        owned.push(block.place)?;
+        owners.add(tiles, block.place);
     }
-    Ok(())
 }
 
-/// The records of the variables of an image, which keep their own rules and have records of so many bytes each; or a rule on their
-/// indexes that is broken.
+/// A rule on the indexes of the variables of an image that is broken; the variables keep their own rules, and have records of so many
+/// bytes each. Where none is, the records of all of them are told of.
 pub fn check_indexes<A: Area>(
     alloc: Global,
     area: &mut A,
@@ -164,27 +168,30 @@ pub fn check_indexes<A: Area>(
     vdrs: &[u64],
     record_sizes: &[u64],
     vxr_heads: &[u64],
-) -> Result<Result<Vec<u64>, Finding>, AreaError>
+    owners: &mut Owners,
+) -> Result<Option<Finding>, AreaError>
     requires tiled { AreTiles (A.image area.old) cdr_place (length (A.image area.old)) tiles.now }
     requires small { length (A.image area.old) < 2 ^ 31 }
     requires read { AreRead (A.image area.old) tiles.now }
     requires described { Hold (phase7 (A.image area.old) tiles.now vdrs.now) }
     requires sizes { record_sizes.now ≡ map (record_bytes (A.image area.old)) vdrs.now }
     requires heads { vxr_heads.now ≡ map (λ vdr. number (A.image area.old) vdr vdr_vxr_head) vdrs.now }
-    ensures found { IfOk result (Yields (phase8 (A.image area.old) tiles.now vdrs.now) (λ owned. owned.items ≡ flat_map variable_records (map (variable_shape (A.image area.old) tiles.now) vdrs.now))) }
+    requires marks { IsFor tiles.now owners.old }
+    ensures found { IfOk result (Finds (phase8 (A.image area.old) tiles.now vdrs.now)) }
+    ensures marks { IsFor tiles.now owners.new }
+    ensures told { result ≡ Ok None → IsToldOf tiles.now (flat_map variable_records (map (variable_shape (A.image area.old) tiles.now) vdrs.now)) owners.old owners.new }
     ensures area { Reads A.image A.frame A.faults A.edited area.old area.new result }
 {
-    let mut owned = Vec::new(alloc);
     for i in 0..vdrs.len() {
         let vdr = vdrs[i];
         let rec_bytes = record_sizes[i];
         let head = vxr_heads[i];
         match check_index(alloc, area, tiles, vdr, rec_bytes, head)? {
             Ok(index) => {
-                own(&mut owned, vdr, &index)?;
+                own(owners, tiles, vdr, &index);
             }
-            Err(broken) => return Ok(Err(broken)),
+            Err(broken) => return Ok(Some(broken)),
         }
     }
-    Ok(Ok(owned))
+    Ok(None)
 }

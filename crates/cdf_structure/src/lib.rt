@@ -22,5 +22,5 @@ pub use finding::Finding;
 pub use indexes::check_indexes;
 pub use links::walk_chain;
 pub use met::Met;
-pub use owners::check_owners;
+pub use owners::Owners;
 pub use tiles::{Records, check_tiles};

@@ -1,13 +1,13 @@
 //! The rule that each record of an image has one owner.
 
-ghost use Rattle.std.specs.Prelude.{◌≡◌, ℕ, List, ◌++◌, ◌∷◌, length, IfOk};
+ghost use Rattle.std.specs.Prelude.{◌≡◌, ℕ, List, [], ◌∷◌, length, min, IfOk};
+ghost use Rattle.std.specs.Option.{option_map_or};
 ghost use Rattle.cdf_format.specs.Phases.{phase9};
-ghost use Rattle.cdf_format.specs.Records.{cdr_place};
 ghost use Rattle.cdf_structure.specs.Findings.{Finds};
-ghost use Rattle.cdf_structure.specs.Walked.{Climbs, StandsAt, Counts};
+ghost use Rattle.cdf_structure.specs.Owners.{IsFor, IsToldOf, KnowsOwned};
+ghost use Rattle.cdf_structure.specs.Walked.{Climbs, StandsAt};
 
 use crate::finding::Finding;
-use cdf_format::fields::CDR_PLACE;
 use std::alloc::{AllocError, Global};
 
 /// Where a place stands among those of the records.
@@ -32,55 +32,87 @@ fn place_near(tiles: &[u64], place: u64, near: usize) -> Option<usize>
     place_in(tiles, place)
 }
 
-/// Counts records once more for each time that they stand in a list, up to 255 times.
-fn count_owned(tiles: &[u64], counts: &mut [u8], owned: &[u64])
-    requires climbs { Climbs tiles.now }
-    requires as_many { length counts.old ≡ length tiles.now }
-    ensures as_many { length counts.new ≡ length counts.old }
-    ensures counts { (met : List ℕ) → Counts tiles.now met counts.old → Counts tiles.now (met ++ owned.now) counts.new }
+/// The first of two records, of which one may be none.
+fn first_of(one: Option<u64>, other: u64) -> u64
+    ensures { result ≡ option_map_or (min other) one other }
 {
-    let mut next = 0;
-    for place in owned {
-        let stands = place_near(tiles, *place, next);
-        if let Some(i) = stands {
-            counts[i] = counts[i].saturating_add(1);
-            next = i + 1;
-        }
+    match one {
+        Some(place) => other.min(place),
+        None => other,
     }
 }
 
-/// That each record was met once.
-fn check_counts(tiles: &[u64], counts: &[u8]) -> Option<Finding>
-    requires as_many { length counts.now ≡ length tiles.now }
-    ensures found { (met : List ℕ) → Counts tiles.now met counts.now → Finds (phase9 tiles.now met) result }
-{
-    for i in 0..tiles.len() {
-        if counts[i] != 1 {
+/// Which records of an image have an owner, the first of them that was found to have a second one, and the number of the record
+/// that is looked at first when the next one is told of.
+#[derive(Drop)]
+pub struct Owners {
+    has_owner: Vec<bool>,
+    shared: Option<u64>,
+    next: usize,
+}
+
+impl Owners {
+    /// No record has an owner yet.
+    pub fn new(alloc: Global, tiles: &[u64]) -> Result<Owners, AllocError>
+        ensures marks { IfOk result (IsFor tiles.now) }
+        ensures none { IfOk result (KnowsOwned tiles.now []) }
+    {
+        let has_owner = vec![in alloc; false; tiles.len()]?;
+        Ok(Owners {
+            has_owner,
+            shared: None,
+            next: 0,
+        })
+    }
+
+    /// Tells of one more record that has an owner.
+    pub fn add(&mut self, tiles: &[u64], place: u64)
+        requires climbs { Climbs tiles.now }
+        requires marks { IsFor tiles.now self.old }
+        ensures marks { IsFor tiles.now self.new }
+        ensures told { IsToldOf tiles.now (place ∷ []) self.old self.new }
+    {
+        let Some(i) = place_near(tiles, place, self.next) else {
+            return;
+        };
+        self.next = i + 1;
+        if self.has_owner[i] {
+            self.shared = Some(first_of(self.shared, place));
+        } else {
+            self.has_owner[i] = true;
+        }
+    }
+
+    /// Tells of each of these records.
+    pub fn add_all(&mut self, tiles: &[u64], places: &[u64])
+        requires climbs { Climbs tiles.now }
+        requires marks { IsFor tiles.now self.old }
+        ensures marks { IsFor tiles.now self.new }
+        ensures told { IsToldOf tiles.now places.now self.old self.new }
+    {
+        for place in places {
+            self.add(tiles, *place);
+        }
+    }
+
+    /// That each record has one owner.
+    pub fn check(&self, tiles: &[u64]) -> Option<Finding>
+        requires marks { IsFor tiles.now self.now }
+        ensures found { (owned : List ℕ) → KnowsOwned tiles.now owned self.now → Finds (phase9 tiles.now owned) result }
+    {
+        if let Some(place) = self.shared {
             // 9.1
-            return Some(Finding {
-                rule: 1,
-                place: tiles[i],
-            });
+            return Some(Finding { rule: 1, place });
         }
+        for i in 0..tiles.len() {
+            if !self.has_owner[i] {
+                // 9.1
+                return Some(Finding {
+                    rule: 1,
+                    place: tiles[i],
+                });
+            }
+        }
+        None
     }
-    None
-}
-
-/// That each record of an image has one owner: the file, an attribute or a variable, whose records `members` lists, or it is unused.
-pub fn check_owners(
-    alloc: Global,
-    tiles: &[u64],
-    gdr: u64,
-    members: &[u64],
-    unused: &[u64],
-) -> Result<Option<Finding>, AllocError>
-    requires climbs { Climbs tiles.now }
-    ensures found { IfOk result (Finds (phase9 tiles.now ((cdr_place ∷ gdr ∷ members.now) ++ unused.now))) }
-{
-    let mut made = vec![in alloc; 0u8; tiles.len()]?;
-    let counts = made.as_mut_slice();
-    count_owned(tiles, counts, &[CDR_PLACE, gdr]);
-    count_owned(tiles, counts, members);
-    count_owned(tiles, counts, unused);
-    Ok(check_counts(tiles, counts))
 }

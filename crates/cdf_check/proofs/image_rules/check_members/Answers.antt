@@ -23,7 +23,7 @@ check_variable_members-requires g c =
     let ts = c.args.tiles.now in
     let chains = c.args.chains.now in
     let members : Yields (phase6 b ts chains.attributes.items) (λ (v : Vec ℕ Global). v.items ≡ flat_map attribute_records (map (attribute_shape b ts) chains.attributes.items)) (Ok c.in-Ok.members) = rw (c.in-Ok.is, c.deref.ensures.value) at c.in_ok-members.ensures.found in
-    rw c.check_attributes.ensures.area.image (record {
+    rw (c.check_attributes.ensures.area.image, c.deref-2.ensures.value) (record {
       tiling = c.requires.tiling;
       unused = c.requires.unused;
       records = c.requires.records;

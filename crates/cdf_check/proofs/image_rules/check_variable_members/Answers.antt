@@ -1,10 +1,8 @@
-use Rattle.cdf_check.proofs.Common.{AreDescribed, Err, Finds, Global, List, None, Ok, Some, Vec, Yields, arith, flat_map, length, map, phase7, phase8, phase9, refl, tiling_sound, unused_of, variable_records, variable_shape, ℕ, ◌++◌, ◌∷◌, ◌≡◌}
+use Rattle.cdf_check.proofs.Common.{AreDescribed, Err, Finds, None, Ok, Some, Yields, ap, arith, flat_map, length, map, phase7, phase8, phase9, refl, tiling_sound, variable_records, variable_shape, ◌++◌, ◌∷◌}
+use Rattle.cdf_structure.specs.Owners.{IsToldOf}
 use Rattle.cdf_structure.proofs.Searches.{tiles_climb}
 use Rattle.cdf_check.proofs.ImageSteps.{all_read, sizes_lie, variables, variables_once, variables_few, variables_break, indexes_break, owners_break, all_held}
 use Rattle.cdf_check.proofs.image_rules.check_variable_members.Goals as goal
-
-abbrev AreOwned : List ℕ → List ℕ → List ℕ → Vec ℕ Global → Type 0
-AreOwned b ts vs owned = owned.items ≡ flat_map variable_records (map (variable_shape b ts) vs)
 
 pub check_variables-requires : goal.check_variables-requires
 check_variables-requires g c =
@@ -46,23 +44,18 @@ check_indexes-requires g c =
       described = described.0;
       sizes = described.1.sizes_are;
       heads = described.1.heads_are;
+      marks = c.in_ok-owners.ensures.marks;
     })
 
-pub returns-in-Err-2-clause-verdict : goal.returns-in-Err-2-clause-verdict
-returns-in-Err-2-clause-verdict g c =
-    let b = g.A.Area.image c.args.area.now in
-    let ts = c.args.tiles.now in
-    let q = c.requires in
-    let chains = c.args.chains.now in
-    let vs = chains.r_variables.items ++ chains.z_variables.items in
-    let described : Yields (phase7 b ts vs) (AreDescribed b vs) (Ok c.in-Ok.described) = rw (c.in-Ok.is, c.deref-3.ensures.value, c.in_ok-vdrs.ensures, c.deref.ensures.value, c.deref-2.ensures.value) at c.in_ok-described.ensures.found in
-    let broken : Yields (phase8 b ts vs) (AreOwned b ts vs) (Err c.in-Err-2.finding) = rw (c.in-Err-2.is, c.check_variables.ensures.area.image, c.deref-4.ensures.value, c.in_ok-vdrs.ensures, c.deref.ensures.value, c.deref-2.ensures.value) at c.in_ok-owned.ensures.found in
-    rw c.in_phase-in-Err-2.ensures (4, refl, indexes_break b ts q.tiling q.records chains q.chains q.linked q.attributes described.0 c.in-Err-2.finding.rule c.in-Err-2.finding.place broken)
-
-pub check_owners-requires : goal.check_owners-requires
-check_owners-requires g c =
+pub own_members-requires : goal.own_members-requires
+own_members-requires g c =
     let b = g.A.Area.image c.args.area.now in
     record { climbs = tiles_climb b 8 (length b) c.args.tiles.now (tiling_sound b c.args.tiles.now c.requires.tiling) }
+
+pub add_all-requires : goal.add_all-requires
+add_all-requires g c =
+    let b = g.A.Area.image c.args.area.now in
+    record { climbs = tiles_climb b 8 (length b) c.args.tiles.now (tiling_sound b c.args.tiles.now c.requires.tiling); marks = c.in_ok-broken.ensures.marks }
 
 pub returns-in-Some-clause-verdict : goal.returns-in-Some-clause-verdict
 returns-in-Some-clause-verdict g c =
@@ -72,11 +65,25 @@ returns-in-Some-clause-verdict g c =
     let chains = c.args.chains.now in
     let vs = chains.r_variables.items ++ chains.z_variables.items in
     let described : Yields (phase7 b ts vs) (AreDescribed b vs) (Ok c.in-Ok.described) = rw (c.in-Ok.is, c.deref-3.ensures.value, c.in_ok-vdrs.ensures, c.deref.ensures.value, c.deref-2.ensures.value) at c.in_ok-described.ensures.found in
-    let indexed : Yields (phase8 b ts vs) (AreOwned b ts vs) (Ok c.in-Ok-2.owned) = rw (c.in-Ok-2.is, c.check_variables.ensures.area.image, c.deref-4.ensures.value, c.in_ok-vdrs.ensures, c.deref.ensures.value, c.deref-2.ensures.value) at c.in_ok-owned.ensures.found in
-    let all : c.extend_from_slice.new.self.items ≡ c.args.members.items ++ flat_map variable_records (map (variable_shape b ts) vs) = rw (c.deref-7.ensures.value, indexed.1) at c.in_ok-extend_from_slice.ensures.items in
-    let broken : Finds (phase9 ts ((8 ∷ c.args.gdr ∷ c.extend_from_slice.new.self.items) ++ unused_of b ts)) (Some c.in-Some.finding) = rw (c.in-Some.is, c.deref-8.ensures.value, q.unused) at c.in_ok-finding.ensures.found in
-    let here = rw c.requires.gdr at broken in
-    rw c.in_phase-in-Some.ensures (5, refl, owners_break b ts q.tiling q.records chains q.chains q.linked q.attributes described.0 indexed.0 c.args.members.items c.extend_from_slice.new.self.items q.members all c.in-Some.finding.rule c.in-Some.finding.place here)
+    let broken : Finds (phase8 b ts vs) (Some c.in-Some.finding) = rw (c.in-Some.is, c.check_variables.ensures.area.image, c.deref-4.ensures.value, c.in_ok-vdrs.ensures, c.deref.ensures.value, c.deref-2.ensures.value) at c.in_ok-broken.ensures.found in
+    rw c.in_phase-in-Some.ensures (4, refl, indexes_break b ts q.tiling q.records chains q.chains q.linked q.attributes described.0 c.in-Some.finding.rule c.in-Some.finding.place broken)
+
+pub returns-in-Some-check-clause-verdict : goal.returns-in-Some-check-clause-verdict
+returns-in-Some-check-clause-verdict g c =
+    let b = g.A.Area.image c.args.area.now in
+    let ts = c.args.tiles.now in
+    let q = c.requires in
+    let chains = c.args.chains.now in
+    let own = c.args.members.now in
+    let vs = chains.r_variables.items ++ chains.z_variables.items in
+    let owned = flat_map variable_records (map (variable_shape b ts) vs) in
+    let described : Yields (phase7 b ts vs) (AreDescribed b vs) (Ok c.in-Ok.described) = rw (c.in-Ok.is, c.deref-3.ensures.value, c.in_ok-vdrs.ensures, c.deref.ensures.value, c.deref-2.ensures.value) at c.in_ok-described.ensures.found in
+    let indexed : Finds (phase8 b ts vs) None = rw (c.in_default.is, c.check_variables.ensures.area.image, c.deref-4.ensures.value, c.in_ok-vdrs.ensures, c.deref.ensures.value, c.deref-2.ensures.value) at c.in_ok-broken.ensures.found in
+    let told : IsToldOf ts owned c.in_ok-owners.owners c.check_indexes.new.owners = rw (c.check_variables.ensures.area.image, c.deref-4.ensures.value, c.in_ok-vdrs.ensures, c.deref.ensures.value, c.deref-2.ensures.value) at (c.in_ok-broken.ensures.told (ap Ok c.in_default.is)) in
+    let knows = c.add_all.ensures.told ((8 ∷ c.args.gdr ∷ own) ++ owned) (told (8 ∷ c.args.gdr ∷ own) c.in_ok-owners.ensures.told) in
+    let broken : Finds (phase9 ts ((8 ∷ c.args.gdr ∷ (own ++ owned)) ++ c.args.unused.now)) (Some c.in-Some-check.finding) = rw c.in-Some-check.is at (c.check.ensures.found ((8 ∷ c.args.gdr ∷ (own ++ owned)) ++ c.args.unused.now) knows) in
+    let here = rw (q.unused, q.gdr) at broken in
+    rw c.in_phase-in-Some-check.ensures (5, refl, owners_break b ts q.tiling q.records chains q.chains q.linked q.attributes described.0 indexed own (own ++ owned) q.members refl c.in-Some-check.finding.rule c.in-Some-check.finding.place here)
 
 pub returns-clause-verdict : goal.returns-clause-verdict
 returns-clause-verdict g c =
@@ -84,10 +91,13 @@ returns-clause-verdict g c =
     let ts = c.args.tiles.now in
     let q = c.requires in
     let chains = c.args.chains.now in
+    let own = c.args.members.now in
     let vs = chains.r_variables.items ++ chains.z_variables.items in
+    let owned = flat_map variable_records (map (variable_shape b ts) vs) in
     let described : Yields (phase7 b ts vs) (AreDescribed b vs) (Ok c.in-Ok.described) = rw (c.in-Ok.is, c.deref-3.ensures.value, c.in_ok-vdrs.ensures, c.deref.ensures.value, c.deref-2.ensures.value) at c.in_ok-described.ensures.found in
-    let indexed : Yields (phase8 b ts vs) (AreOwned b ts vs) (Ok c.in-Ok-2.owned) = rw (c.in-Ok-2.is, c.check_variables.ensures.area.image, c.deref-4.ensures.value, c.in_ok-vdrs.ensures, c.deref.ensures.value, c.deref-2.ensures.value) at c.in_ok-owned.ensures.found in
-    let all : c.extend_from_slice.new.self.items ≡ c.args.members.items ++ flat_map variable_records (map (variable_shape b ts) vs) = rw (c.deref-7.ensures.value, indexed.1) at c.in_ok-extend_from_slice.ensures.items in
-    let held : Finds (phase9 ts ((8 ∷ c.args.gdr ∷ c.extend_from_slice.new.self.items) ++ unused_of b ts)) None = rw (c.in_default.is, c.deref-8.ensures.value, q.unused) at c.in_ok-finding.ensures.found in
-    let here = rw c.requires.gdr at held in
-    all_held b ts q.tiling q.records chains q.chains q.linked q.attributes described.0 indexed.0 c.args.members.items c.extend_from_slice.new.self.items q.members all here
+    let indexed : Finds (phase8 b ts vs) None = rw (c.in_default.is, c.check_variables.ensures.area.image, c.deref-4.ensures.value, c.in_ok-vdrs.ensures, c.deref.ensures.value, c.deref-2.ensures.value) at c.in_ok-broken.ensures.found in
+    let told : IsToldOf ts owned c.in_ok-owners.owners c.check_indexes.new.owners = rw (c.check_variables.ensures.area.image, c.deref-4.ensures.value, c.in_ok-vdrs.ensures, c.deref.ensures.value, c.deref-2.ensures.value) at (c.in_ok-broken.ensures.told (ap Ok c.in_default.is)) in
+    let knows = c.add_all.ensures.told ((8 ∷ c.args.gdr ∷ own) ++ owned) (told (8 ∷ c.args.gdr ∷ own) c.in_ok-owners.ensures.told) in
+    let held : Finds (phase9 ts ((8 ∷ c.args.gdr ∷ (own ++ owned)) ++ c.args.unused.now)) None = rw c.in_default-check.is at (c.check.ensures.found ((8 ∷ c.args.gdr ∷ (own ++ owned)) ++ c.args.unused.now) knows) in
+    let here = rw (q.unused, q.gdr) at held in
+    all_held b ts q.tiling q.records chains q.chains q.linked q.attributes described.0 indexed own (own ++ owned) q.members refl here

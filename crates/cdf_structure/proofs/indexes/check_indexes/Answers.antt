@@ -1,6 +1,7 @@
-use Rattle.cdf_structure.proofs.Common.{Err, Hold, Index, List, Ok, Yields, add-one, ap, arith, flat_map, get_or, index_of, index_records, length, length-map, map, met_rows, number, phase8, read_more, record_bytes, take, take_all, variable_records, variable_shape, vdr_vxr_head, ℕ, ◌++◌, ◌∙◌, ◌≡◌}
-use Rattle.cdf_structure.proofs.IndexLists.{had_at, is_plain, is_small, list_more}
+use Rattle.cdf_structure.proofs.Common.{Err, Hold, Index, IsToldOf, List, Ok, Yields, add-one, ap, arith, flat_map, get_or, index_of, index_records, length, length-map, map, met_rows, number, phase8, read_more, record_bytes, subst, take, take_all, variable_records, variable_shape, vdr_vxr_head, ℕ, ◌≡◌}
+use Rattle.cdf_structure.proofs.IndexLists.{had_at, is_plain, is_small, told_variable}
 use Rattle.cdf_structure.proofs.Rows.{broken_member, holds_more}
+use Rattle.cdf_structure.proofs.Searches.{tiles_climb}
 use Rattle.cdf_structure.proofs.indexes.check_indexes.Goals as goal
 
 abbrev IsOf : List ℕ → List ℕ → ℕ → Index → Type 0
@@ -53,8 +54,14 @@ loop-i-preserved g c =
     record {
       area = read_more l.invariant.area c.in_ok-index.ensures.area;
       rows = rw add-one (holds_more (λ vdr. met_rows b ts vdr (index_of b ts vdr)) c.args.vdrs.now l.i 0 c.loop-i-test.true l.invariant.rows here.0);
-      owned = list_more variable_records (variable_shape b ts) c.args.vdrs.now l.i l.owned.items c.own.new.owned.items c.loop-i-test.true l.invariant.owned (c.in_ok-own-in-Ok.ensures.owned ∙ ap (λ (xs : List ℕ). l.owned.items ++ xs) here.1);
+      marks = c.own.ensures.marks;
+      told = told_variable b ts c.args.vdrs.now l.i c.loop-i-test.true c.args.owners.now l.owners c.own.new.owners (index_records m c.in-Ok.index) here.1 l.invariant.told c.own.ensures.told;
     }
+
+pub own-requires-clause-climbs : goal.own-requires-clause-climbs
+own-requires-clause-climbs g c =
+    let b = g.A.Area.image c.args.area.now in
+    tiles_climb b 8 (length b) c.args.tiles.now c.requires.tiled
 
 pub returns-clause-found : goal.returns-clause-found
 returns-clause-found g c =
@@ -64,4 +71,12 @@ returns-clause-found g c =
     let vdrs = c.args.vdrs.now in
     let all : take l.i vdrs ≡ vdrs = take_all l.i vdrs (omega (arith, c.loop-i-test.false)) in
     let rows : Hold (phase8 b ts vdrs) = rw all at l.invariant.rows in
-    (rows, l.invariant.owned ∙ ap (λ (xs : List ℕ). flat_map variable_records (map (variable_shape b ts) xs)) all)
+    rows
+
+pub returns-clause-told : goal.returns-clause-told
+returns-clause-told g c = λ none.
+    let l = c.loop-i in
+    let b = g.A.Area.image c.args.area.now in
+    let ts = c.args.tiles.now in
+    let vdrs = c.args.vdrs.now in
+    subst (λ (xs : List ℕ). IsToldOf ts (flat_map variable_records (map (variable_shape b ts) xs)) c.args.owners.now l.owners) (take_all l.i vdrs (omega (arith, c.loop-i-test.false))) l.invariant.told
