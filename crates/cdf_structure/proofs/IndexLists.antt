@@ -32,10 +32,10 @@ pub had_at : (f : ℕ → ℕ) (vdrs xs : List ℕ) (i : ℕ) → i < length vdr
 had_at f vdrs xs i lt e = ap (λ (ys : List ℕ). get_or ys i 0) e ∙ get_or-map f vdrs i 0 0 lt
 
 -- the records of one variable more are told of
-pub told_variable : (b ts vdrs : List ℕ) (i : ℕ) → i < length vdrs → (first before now : Owners) (records : List ℕ) → records ≡ variable_records (variable_shape b ts (get_or vdrs i 0))
-    → IsToldOf ts (flat_map variable_records (map (variable_shape b ts) (take i vdrs))) first before → IsToldOf ts records before now
+pub told_variable : (b ts vdrs : List ℕ) (i : ℕ) → i < length vdrs → (first before now : Owners)
+    → IsToldOf ts (flat_map variable_records (map (variable_shape b ts) (take i vdrs))) first before → IsToldOf ts (variable_records (variable_shape b ts (get_or vdrs i 0))) before now
     → IsToldOf ts (flat_map variable_records (map (variable_shape b ts) (take (i + 1) vdrs))) first now
-told_variable b ts vdrs i lt first before now records is told more =
+told_variable b ts vdrs i lt first before now told more =
     subst (λ (xs : List ℕ). IsToldOf ts xs first now)
-    (list_more variable_records (variable_shape b ts) vdrs i (flat_map variable_records (map (variable_shape b ts) (take i vdrs))) _ lt refl (ap (λ (xs : List ℕ). flat_map variable_records (map (variable_shape b ts) (take i vdrs)) ++ xs) is))
-    (told_then ts (flat_map variable_records (map (variable_shape b ts) (take i vdrs))) records first before now told more)
+    (list_more variable_records (variable_shape b ts) vdrs i (flat_map variable_records (map (variable_shape b ts) (take i vdrs))) _ lt refl refl)
+    (told_then ts (flat_map variable_records (map (variable_shape b ts) (take i vdrs))) (variable_records (variable_shape b ts (get_or vdrs i 0))) first before now told more)

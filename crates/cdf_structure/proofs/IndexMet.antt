@@ -8,7 +8,7 @@ use Rattle.cdf_structure.specs.declared.nodes.Entry.{Entry}
 use Rattle.cdf_structure.specs.declared.nodes.Node.{Node}
 use Rattle.cdf_structure.proofs.IndexFindings.{more_found, none_asked, from_none}
 use Rattle.cdf_structure.proofs.IndexJoins.{join, leaves-join, end-join, rows-join, link_chains, chain_end, leaves-chains, end-chains, rows-chains}
-use Rattle.cdf_structure.proofs.IndexWalks.{one_block, one_lower, one_lost, no_entries, more_met, more_lost, lost_on, chain_ends, chain_spent, chain_stops, node_lost, node_met, behind_nodes, behind_one}
+use Rattle.cdf_structure.proofs.IndexWalks.{one_block, one_lower, one_lost, no_entries, more_met, more_lost, lost_on, chain_ends, chain_spent, chain_stops, node_lost, node_met, from_any, behind_nodes, behind_one}
 
 -- blocks behind others
 blocks_more : {X : Type 0} (old mid new xs ys : List X) → mid ≡ old ++ xs → new ≡ mid ++ ys → new ≡ old ++ (xs ++ ys)
@@ -238,3 +238,10 @@ module _ (b ts : List ℕ) (vdr head : ℕ) (between : Between) (old new : Index
 
   pub index_is_lost : (place : ℕ) → WalksNodes b ts 8 (record { holder = vdr; link = head }) between old new (Err place) → WalksIndex b ts vdr (Err place)
   index_is_lost place walked = sym from_none_met ∙ walked
+
+-- the index of one variable is that of each other one with its link
+pub index_again : (b ts : List ℕ) (one other : ℕ) (now : List ℕ) (nodes : Nodes) → number b other vdr_vxr_head ≡ number b one vdr_vxr_head → index_of b ts one ≡ met now nodes → index_of b ts other ≡ met now nodes
+unfolding levels_on
+index_again b ts one other now nodes same e =
+    (λ i. nodes_on (levels_on 7 b ts) (length ts) b ts [] other (same i))
+    ∙ from_any (levels_on 7 b ts) b ts (length ts) [] one other (number b one vdr_vxr_head) now nodes e

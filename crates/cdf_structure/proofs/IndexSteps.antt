@@ -1,7 +1,7 @@
 -- The rules on the index of a variable, and its records.
-use Rattle.cdf_structure.proofs.Common.{AreRead, AreTiles, Block, Finding, Finds, Hold, Hold-append, Index, IsBroken, IsBroken-after, IsBroken-before, Leaf, List, MeetsIndex, Met, Nodes, None, Ok, Option, Row, Some, WalksIndex, [], ap, append-nil, ap₂, asked, block_of, block_rows, cpr_link, cpr_of, cpr_type, cvvr_type, either, false, flat_map, index_of, index_records, inl, inr, is_a, is_a-in, is_a-type, is_compressed, is_cpr, is_in, leaf_rows, leaves_of, length, lost, map, met, met_rows, negsuc, nodes_met, nodes_of, nodes_rows, not, pos, read_types, record_bytes, record_number_limit, refl, subst, sym, true, true≢false, variable_records, variable_rows, variable_shape, vdr_vxr_head, vvr_rows, vvr_type, ℕ, ◌++◌, ◌||◌, ◌∙◌, ◌∷◌, ◌≡◌}
+use Rattle.cdf_structure.proofs.Common.{AreRead, AreTiles, Block, Finding, Hold, Hold-append, Index, IsBroken, IsBroken-after, IsBroken-before, Leaf, List, MeetsIndex, Met, Nodes, Ok, Row, Some, WalksIndex, [], ap, append-nil, ap₂, asked, block_of, block_rows, cpr_link, cpr_of, cpr_type, cvvr_type, either, false, flat_map, index_of, index_records, inl, inr, is_a, is_a-in, is_a-type, is_compressed, is_cpr, is_in, leaf_rows, leaves_of, length, lost, map, met, met_rows, negsuc, nodes_met, nodes_of, nodes_rows, not, pos, read_types, record_bytes, record_number_limit, refl, subst, sym, true, true≢false, variable_records, variable_rows, variable_shape, vdr_vxr_head, vvr_rows, vvr_type, ℕ, ◌++◌, ◌||◌, ◌∙◌, ◌∷◌, ◌≡◌}
 use Rattle.cdf_format.proofs.IndexLemmas.{index_sound, index_complete}
-use Rattle.cdf_structure.proofs.Findings.{none_found, one_found}
+use Rattle.cdf_structure.proofs.Findings.{one_found}
 
 module _ (b ts : List ℕ) (read : AreRead b ts) where
   -- there is no record of a type that is not read
@@ -88,12 +88,3 @@ module _ (b ts : List ℕ) (read : AreRead b ts) where
     module _ (index : Index) (walked : WalksIndex b ts vdr (Ok index)) where
       pub found_in_nodes : (f : Finding) → index.broken ≡ Some f → IsBroken (met_rows b ts vdr (index_of b ts vdr)) f.rule f.place
       found_in_nodes f is = index_breaks index walked.0 walked.1 f.rule f.place (one_found (nodes_rows b ts (negsuc 0) (pos record_number_limit) walked.0) index.broken f walked.1.found is)
-
-      module _ (bytes : ℕ) (is : bytes ≡ record_bytes b vdr) (found : Option Finding) (finds : Finds (flat_map (block_rows b ts bytes) index.blocks.items) found) where
-        pub found_in_blocks : (f : Finding) → found ≡ Some f → IsBroken (met_rows b ts vdr (index_of b ts vdr)) f.rule f.place
-        found_in_blocks f some = blocks_break index walked.0 walked.1 bytes is f.rule f.place (one_found (flat_map (block_rows b ts bytes) index.blocks.items) found f finds some)
-
-        pub none_found_in_index : index.broken ≡ None → found ≡ None → Hold (met_rows b ts vdr (index_of b ts vdr))
-        none_found_in_index walk_none blocks_none =
-            index_holds index walked.0 walked.1 bytes is (none_found (nodes_rows b ts (negsuc 0) (pos record_number_limit) walked.0) index.broken walked.1.found walk_none)
-            (none_found (flat_map (block_rows b ts bytes) index.blocks.items) found finds blocks_none)

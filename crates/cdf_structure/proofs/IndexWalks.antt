@@ -1,5 +1,5 @@
 -- Steps of a walk over an index.
-use Rattle.cdf_structure.proofs.Common.{Entries, List, Met, Nodes, [], and_then, ap, arith, block, cvvr_type, either, entries_on, eq-eqb, eqb, false, first_at, inl, inr, is_in, is_linkable, last_at, lost, lower, met, ne_eqb, next_of, no_entry, no_node, node, nodes_on, not, offset_at, refl, room_at, suc, sym, true, type_at, used_count, vxr_type, zero, ℕ, ◌&&◌, ◌++◌, ◌+◌, ◌∙◌, ◌∷◌, ◌≡◌, ◌≢◌}
+use Rattle.cdf_structure.proofs.Common.{Bool, Entries, List, Met, Nodes, [], and_then, ap, arith, block, cvvr_type, either, entries_on, eq-eqb, eqb, eqb-true, false, first_at, inl, inr, is_in, is_linkable, last_at, lost, lower, met, ne_eqb, next_of, no_entry, no_node, node, nodes_on, not, offset_at, refl, room_at, suc, sym, true, true≢false, type_at, used_count, vxr_type, zero, ℕ, ◌&&◌, ◌++◌, ◌+◌, ◌∙◌, ◌∷◌, ◌≡◌, ◌≢◌}
 use Rattle.cdf_structure.proofs.IndexJoins.{join, link_chains, chains-assoc}
 
 -- ---- entries
@@ -92,6 +92,13 @@ module _ (below : List ℕ → ℕ → ℕ → Met Nodes) (b ts : List ℕ) (pla
 
 -- ---- chains
 
+abbrev is_met : Met Nodes → Bool
+is_met (met seen nodes) = true
+is_met (lost place) = false
+
+not_lost : (place : ℕ) (seen : List ℕ) (nodes : Nodes) → lost place ≡ met seen nodes → ⊥
+not_lost place seen nodes e = true≢false (ap is_met (sym e))
+
 module _ (below : List ℕ → ℕ → ℕ → Met Nodes) (b ts : List ℕ) where
   -- what is left of a chain, of at most so many nodes
   abbrev left : ℕ → List ℕ → ℕ → ℕ → Met Nodes
@@ -123,6 +130,22 @@ module _ (below : List ℕ → ℕ → ℕ → Met Nodes) (b ts : List ℕ) wher
     pub node_met : (now : List ℕ) (entries : Entries) → entries_on below b ts link 0 (used_count b link) (seen ++ link ∷ []) ≡ met now entries
         → left most seen holder link ≡ and_then (left less now link (next_of b link)) (λ t more. met t (node link (room_at b link) entries more))
     node_met now entries e = node_step ∙ ap (λ (x : Met Entries). and_then x (λ s es. and_then (left less s link (next_of b link)) (λ t more. met t (node link (room_at b link) es more)))) e
+
+  -- a chain that leads right does so from any record with its link
+  pub from_any : (most : ℕ) (seen : List ℕ) (one other link : ℕ) (now : List ℕ) (nodes : Nodes) → left most seen one link ≡ met now nodes → left most seen other link ≡ met now nodes
+  from_any most seen one other link now nodes e = elim (either (eqb link 0)) [
+    | inl none ↦ let z : link ≡ 0 = eqb-true link 0 none in chain_ends most seen other link z ∙ sym (chain_ends most seen one link z) ∙ e
+    | inr some ↦
+        let goes : link ≢ 0 = λ z. absurd (true≢false (sym (eq-eqb link 0 z) ∙ some)) in
+        elim (either (is_linkable b ts vxr_type link && not (is_in link seen))) [
+          | inl fresh ↦ on_from most refl goes fresh
+          | inr stale ↦ absurd (not_lost one now nodes (sym (chain_stops most seen one link goes stale) ∙ e))
+        ]
+  ]
+    where
+      on_from : (n : ℕ) → n ≡ most → link ≢ 0 → (is_linkable b ts vxr_type link && not (is_in link seen)) ≡ true → left most seen other link ≡ met now nodes
+      on_from zero is goes fresh = absurd (not_lost one now nodes (sym (chain_spent most seen one link (sym is) goes) ∙ e))
+      on_from (suc less) is goes fresh = node_step most less (sym is) seen other link goes fresh ∙ sym (node_step most less (sym is) seen one link goes fresh) ∙ e
 
 -- what is left, behind nodes that were met
 abbrev pub behind_nodes : Nodes → Met Nodes → Met Nodes

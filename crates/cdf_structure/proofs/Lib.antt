@@ -16,4 +16,5 @@ pub mod IndexJoins
 pub mod IndexWalks
 pub mod IndexMet
 pub mod IndexSteps
+pub mod IndexAgain
 pub mod IndexLists

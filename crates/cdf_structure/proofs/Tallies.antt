@@ -2,6 +2,7 @@
 use Rattle.cdf_structure.proofs.Common.{Block, Bool, Climbs, In, IsBroken, IsToldOf, List, Marks, None, Option, Owners, Some, StandsAt, [], ap, append-nil, append_assoc, arith, cases_lt, either, eq-eqb, eqb, eqb-true, false, flat_map, get_or, get_or-set_other, get_or-set_same, inl, inr, length, map, map-append, min, ne_eqb, owner_rows, refl, set, subst, sym, take, take_more, times, true, true≢false, ℕ, ◌++◌, ◌+◌, ◌<◌, ◌∙◌, ◌∷◌, ◌≡◌, ◌≢◌, ◌≤◌}
 use Rattle.std.proofs.lemmas.List.{get_or_default}
 use Rattle.std.specs.Option.{option_map_or}
+use Rattle.std.specs.Prelude.{is_some}
 use Rattle.cdf_structure.specs.Owners.{count_of}
 use Rattle.cdf_structure.proofs.Rows.{In-get_or, broken_in}
 
@@ -16,8 +17,12 @@ times_same : (x : ℕ) (owned : List ℕ) (place : ℕ) → x ≡ place → time
 times_same x owned place e = let one : times x (place ∷ []) ≡ 1 = rw (eq-eqb x place e) refl in omega (arith, times-append x owned (place ∷ []), one)
 
 -- a record with two owners has them with more of them
-pub marks_more : (tiles owned more : List ℕ) (marks : List Bool) (p : ℕ) → Marks tiles owned marks (Some p) → Marks tiles (owned ++ more) marks (Some p)
+marks_more : (tiles owned more : List ℕ) (marks : List Bool) (p : ℕ) → Marks tiles owned marks (Some p) → Marks tiles (owned ++ more) marks (Some p)
 marks_more tiles owned more marks p m = (m.0, omega (arith, m.1, times-append p owned more), λ j lj. omega (arith, m.2 j lj, times-append (get_or tiles j 0) owned more))
+
+pub shared_stays : (tiles owned more : List ℕ) (marks : List Bool) (shared : Option ℕ) → is_some shared ≡ true → Marks tiles owned marks shared → Marks tiles (owned ++ more) marks shared
+shared_stays tiles owned more marks None some m = absurd (true≢false (sym some))
+shared_stays tiles owned more marks (Some p) some m = marks_more tiles owned more marks p m
 
 -- one more that stands nowhere
 pub marks_miss : (tiles owned : List ℕ) (place : ℕ) (marks : List Bool) (shared : Option ℕ) → StandsAt tiles place None → Marks tiles owned marks shared → Marks tiles (owned ++ place ∷ []) marks shared

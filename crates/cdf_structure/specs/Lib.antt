@@ -5,3 +5,4 @@ pub mod Met
 pub mod Owners
 pub mod FileChains
 pub mod Indexes
+pub mod Known

@@ -7,6 +7,7 @@ mod file_chains;
 mod finding;
 mod index_walk;
 mod indexes;
+mod known;
 mod links;
 mod met;
 mod nodes;

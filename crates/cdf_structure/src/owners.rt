@@ -1,6 +1,6 @@
 //! The rule that each record of an image has one owner.
 
-ghost use Rattle.std.specs.Prelude.{◌≡◌, ℕ, List, [], ◌∷◌, length, min, IfOk};
+ghost use Rattle.std.specs.Prelude.{◌≡◌, ℕ, List, [], ◌∷◌, length, min, true, IfOk};
 ghost use Rattle.std.specs.Option.{option_map_or};
 ghost use Rattle.cdf_format.specs.Phases.{phase9};
 ghost use Rattle.cdf_structure.specs.Findings.{Finds};
@@ -93,6 +93,13 @@ impl Owners {
         for place in places {
             self.add(tiles, *place);
         }
+    }
+
+    /// Whether a record has two owners. Then all that is known stays so, whatever else is told of.
+    pub fn is_shared(&self) -> bool
+        ensures { result ≡ true → (tiles more : List ℕ) → IsToldOf tiles more self.now self.now }
+    {
+        self.shared.is_some()
     }
 
     /// That each record has one owner.

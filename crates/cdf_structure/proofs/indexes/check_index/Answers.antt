@@ -1,5 +1,8 @@
-use Rattle.cdf_structure.proofs.Common.{Err, Finds, Ok, WalksIndex, block_rows, flat_map}
-use Rattle.cdf_structure.proofs.IndexSteps.{index_lost, found_in_nodes, found_in_blocks, none_found_in_index, records_are}
+use Rattle.cdf_structure.proofs.Common.{Err, IsBroken, Ok, WalksIndex, Yields, block_rows, flat_map, negsuc, nodes_rows, pos, record_number_limit}
+use Rattle.cdf_structure.specs.Known.{HaveRoom}
+use Rattle.cdf_structure.proofs.Findings.{none_found}
+use Rattle.cdf_structure.proofs.IndexAgain.{right_again}
+use Rattle.cdf_structure.proofs.IndexSteps.{index_lost, found_in_nodes, blocks_break, index_holds, records_are}
 use Rattle.cdf_structure.proofs.indexes.check_index.Goals as goal
 
 pub returns-in-Err-clause-found : goal.returns-in-Err-clause-found
@@ -14,20 +17,26 @@ returns-in-Some-clause-found g c =
     let walked : WalksIndex b c.args.tiles.now c.args.vdr (Ok c.in-Ok.index) = rw c.in-Ok.is at c.in_ok-index.ensures.walk in
     found_in_nodes b c.args.tiles.now c.requires.read c.args.vdr c.in-Ok.index walked c.in-Some.broken c.in-Some.is
 
-pub returns-in-Some-2-clause-found : goal.returns-in-Some-2-clause-found
-returns-in-Some-2-clause-found g c =
+pub returns-in-Err-2-clause-found : goal.returns-in-Err-2-clause-found
+returns-in-Err-2-clause-found g c =
     let b = g.A.Area.image c.args.area.now in
+    let ts = c.args.tiles.now in
     let index = c.in-Ok.index in
-    let walked : WalksIndex b c.args.tiles.now c.args.vdr (Ok index) = rw c.in-Ok.is at c.in_ok-index.ensures.walk in
-    let finds : Finds (flat_map (block_rows b c.args.tiles.now c.args.rec_bytes) index.blocks.items) c.in_ok-broken.field-0 = rw (c.in_ok-index.ensures.area.image, c.deref.ensures.value) at c.in_ok-broken.ensures.found in
-    found_in_blocks b c.args.tiles.now c.requires.read c.args.vdr index walked c.args.rec_bytes c.requires.bytes c.in_ok-broken.field-0 finds c.in-Some-2.broken c.in-Some-2.is
+    let walked : WalksIndex b ts c.args.vdr (Ok index) = rw c.in-Ok.is at c.in_ok-index.ensures.walk in
+    let broken : IsBroken (flat_map (block_rows b ts c.args.rec_bytes) index.blocks.items) c.in-Err-2.broken.rule c.in-Err-2.broken.place = rw (c.in-Err-2.is, c.in_ok-index.ensures.area.image, c.deref.ensures.value) at c.in_ok-room.ensures.found in
+    blocks_break b ts c.requires.read c.args.vdr index walked.0 walked.1 c.args.rec_bytes c.requires.bytes c.in-Err-2.broken.rule c.in-Err-2.broken.place broken
 
 pub returns-clause-found : goal.returns-clause-found
 returns-clause-found g c =
     let b = g.A.Area.image c.args.area.now in
+    let ts = c.args.tiles.now in
     let index = c.in-Ok.index in
-    let walked : WalksIndex b c.args.tiles.now c.args.vdr (Ok index) = rw c.in-Ok.is at c.in_ok-index.ensures.walk in
-    let finds : Finds (flat_map (block_rows b c.args.tiles.now c.args.rec_bytes) index.blocks.items) c.in_ok-broken.field-0 = rw (c.in_ok-index.ensures.area.image, c.deref.ensures.value) at c.in_ok-broken.ensures.found in (
-      none_found_in_index b c.args.tiles.now c.requires.read c.args.vdr index walked c.args.rec_bytes c.requires.bytes c.in_ok-broken.field-0 finds c.in_default.is c.in_default-2.is,
-      records_are b c.args.tiles.now c.requires.read c.args.vdr index walked.0 walked.1 c.requires.tiled c.requires.plain,
+    let walked : WalksIndex b ts c.args.vdr (Ok index) = rw c.in-Ok.is at c.in_ok-index.ensures.walk in
+    let blocks : Yields (flat_map (block_rows b ts c.args.rec_bytes) index.blocks.items) (HaveRoom b ts index.blocks.items) (Ok c.in-Ok-2.room) = rw (c.in-Ok-2.is, c.in_ok-index.ensures.area.image, c.deref.ensures.value) at c.in_ok-room.ensures.found in
+    let nodes = none_found (nodes_rows b ts (negsuc 0) (pos record_number_limit) walked.0) index.broken walked.1.found c.in_default.is in (
+      index_holds b ts c.requires.read c.args.vdr index walked.0 walked.1 c.args.rec_bytes c.requires.bytes nodes blocks.0,
+      record {
+        records_are = records_are b ts c.requires.read c.args.vdr index walked.0 walked.1 c.requires.tiled c.requires.plain;
+        room_is = right_again b ts c.requires.read c.args.vdr c.in-Ok-2.room index walked c.in_default.is blocks.1;
+      },
     )

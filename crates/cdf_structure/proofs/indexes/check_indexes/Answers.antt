@@ -1,11 +1,9 @@
-use Rattle.cdf_structure.proofs.Common.{Err, Hold, Index, IsToldOf, List, Ok, Yields, add-one, ap, arith, flat_map, get_or, index_of, index_records, length, length-map, map, met_rows, number, phase8, read_more, record_bytes, subst, take, take_all, variable_records, variable_shape, vdr_vxr_head, ℕ, ◌≡◌}
+use Rattle.cdf_structure.proofs.Common.{Finds, Hold, IsToldOf, List, None, Ok, Some, add-one, ap, arith, flat_map, get_or, index_of, length, length-map, map, met_rows, number, phase8, read_more, record_bytes, refl, subst, take, take_all, variable_records, variable_shape, vdr_vxr_head, ℕ, ◌≡◌}
+use Rattle.cdf_structure.proofs.IndexAgain.{knows_none}
 use Rattle.cdf_structure.proofs.IndexLists.{had_at, is_plain, is_small, told_variable}
 use Rattle.cdf_structure.proofs.Rows.{broken_member, holds_more}
-use Rattle.cdf_structure.proofs.Searches.{tiles_climb}
+use Rattle.cdf_structure.proofs.Tallies.{told_none}
 use Rattle.cdf_structure.proofs.indexes.check_indexes.Goals as goal
-
-abbrev IsOf : List ℕ → List ℕ → ℕ → Index → Type 0
-IsOf b ts vdr index = index_records vdr index ≡ variable_records (variable_shape b ts vdr)
 
 pub bounds-record_sizes-i : goal.bounds-record_sizes-i
 bounds-record_sizes-i g c =
@@ -17,8 +15,20 @@ bounds-vxr_heads-i g c =
     let b = g.A.Area.image c.args.area.now in
     omega (arith, c.loop-i-test.true, ap length c.requires.heads, length-map c.args.vdrs.now (λ vdr. number b vdr vdr_vxr_head))
 
-pub check_index-requires : goal.check_index-requires
-check_index-requires g c =
+pub loop-i-init : goal.loop-i-init
+loop-i-init g c =
+    let b = g.A.Area.image c.args.area.now in
+    let ts = c.args.tiles.now in
+    record {
+      area = record { image = refl; edited = refl; frame = refl; faults = refl };
+      rows = tt;
+      known = knows_none b ts c.new-known.result c.new-known.ensures;
+      marks = c.requires.marks;
+      told = told_none ts c.args.owners.now;
+    }
+
+pub check_indexed-requires : goal.check_indexed-requires
+check_indexed-requires g c =
     let l = c.loop-i in
     let b = g.A.Area.image c.args.area.now in
     let ts = c.args.tiles.now in
@@ -29,39 +39,41 @@ check_index-requires g c =
       tiled = c.requires.tiled;
       small = c.requires.small;
       read = c.requires.read;
-      head = had_at (λ vdr. number b vdr vdr_vxr_head) vdrs c.args.vxr_heads.now l.i lt c.requires.heads;
-      plain = is_plain b ts vdrs c.requires.read c.requires.described l.i lt;
-      bytes = bytes;
-      few = omega (arith, bytes, is_small b ts vdrs c.requires.read c.requires.described l.i lt);
+      variable = record {
+        head_is = had_at (λ vdr. number b vdr vdr_vxr_head) vdrs c.args.vxr_heads.now l.i lt c.requires.heads;
+        plain = is_plain b ts vdrs c.requires.read c.requires.described l.i lt;
+        bytes_are = bytes;
+        few = omega (arith, bytes, is_small b ts vdrs c.requires.read c.requires.described l.i lt);
+      };
+      known = l.invariant.known;
+      marks = l.invariant.marks;
     })
 
-pub returns-in-Err-clause-found : goal.returns-in-Err-clause-found
-returns-in-Err-clause-found g c =
+pub returns-in-Some-clause-found : goal.returns-in-Some-clause-found
+returns-in-Some-clause-found g c =
     let l = c.loop-i in
     let b = g.A.Area.image c.args.area.now in
     let ts = c.args.tiles.now in
     let m = get_or c.args.vdrs.now l.i 0 in
-    let here : Yields (met_rows b ts m (index_of b ts m)) (IsOf b ts m) (Err c.in-Err.broken) = rw (c.in-Err.is, l.invariant.area.image) at c.in_ok-index.ensures.found in
-    broken_member (λ vdr. met_rows b ts vdr (index_of b ts vdr)) c.args.vdrs.now l.i 0 c.in-Err.broken.rule c.in-Err.broken.place c.loop-i-test.true here
+    let here : Finds (met_rows b ts m (index_of b ts m)) (Some c.in-Some.broken) = rw (c.in-Some.is, l.invariant.area.image) at c.in_ok-found.ensures.found in
+    broken_member (λ vdr. met_rows b ts vdr (index_of b ts vdr)) c.args.vdrs.now l.i 0 c.in-Some.broken.rule c.in-Some.broken.place c.loop-i-test.true here
 
 pub loop-i-preserved : goal.loop-i-preserved
 loop-i-preserved g c =
     let l = c.loop-i in
     let b = g.A.Area.image c.args.area.now in
     let ts = c.args.tiles.now in
-    let m = get_or c.args.vdrs.now l.i 0 in
-    let here : Yields (met_rows b ts m (index_of b ts m)) (IsOf b ts m) (Ok c.in-Ok.index) = rw (c.in-Ok.is, l.invariant.area.image) at c.in_ok-index.ensures.found in
+    let vdrs = c.args.vdrs.now in
+    let m = get_or vdrs l.i 0 in
+    let here : Finds (met_rows b ts m (index_of b ts m)) None = rw (c.in_default.is, l.invariant.area.image) at c.in_ok-found.ensures.found in
+    let told : IsToldOf ts (variable_records (variable_shape b ts m)) l.owners c.check_indexed.new.owners = rw l.invariant.area.image at (c.in_ok-found.ensures.told (ap Ok c.in_default.is)) in
     record {
-      area = read_more l.invariant.area c.in_ok-index.ensures.area;
-      rows = rw add-one (holds_more (λ vdr. met_rows b ts vdr (index_of b ts vdr)) c.args.vdrs.now l.i 0 c.loop-i-test.true l.invariant.rows here.0);
-      marks = c.own.ensures.marks;
-      told = told_variable b ts c.args.vdrs.now l.i c.loop-i-test.true c.args.owners.now l.owners c.own.new.owners (index_records m c.in-Ok.index) here.1 l.invariant.told c.own.ensures.told;
+      area = read_more l.invariant.area c.in_ok-found.ensures.area;
+      rows = rw add-one (holds_more (λ vdr. met_rows b ts vdr (index_of b ts vdr)) vdrs l.i 0 c.loop-i-test.true l.invariant.rows here);
+      known = rw l.invariant.area.image at c.in_ok-found.ensures.known;
+      marks = c.in_ok-found.ensures.marks;
+      told = told_variable b ts vdrs l.i c.loop-i-test.true c.args.owners.now l.owners c.check_indexed.new.owners l.invariant.told told;
     }
-
-pub own-requires-clause-climbs : goal.own-requires-clause-climbs
-own-requires-clause-climbs g c =
-    let b = g.A.Area.image c.args.area.now in
-    tiles_climb b 8 (length b) c.args.tiles.now c.requires.tiled
 
 pub returns-clause-found : goal.returns-clause-found
 returns-clause-found g c =
