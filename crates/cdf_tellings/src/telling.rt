@@ -11,7 +11,8 @@ use crate::rules::words_of_rule;
 use crate::words::{WordsFault, fault_of_words};
 use cdf_check::Broken;
 use cdf_store::FileFailure;
-use cdf_tool::{Left, Notes, Status, WordsError, read_words};
+use cdf_tool::{Left, Notes, Status};
+use cdf_words::{WordsError, read_words};
 use std::alloc::Global;
 use std::fmt;
 

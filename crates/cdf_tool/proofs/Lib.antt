@@ -10,11 +10,6 @@ pub mod ScriptLemmas
 pub mod AreaLemmas
 pub mod StoredLemmas
 pub mod EndLemmas
-pub mod FlagLemmas
-pub mod ClapSimple
-pub mod ClapRows
-pub mod ClapWords
-pub mod ClapLine
 pub mod OnlyReads
 pub mod IdleLemmas
 pub mod RunStore

@@ -9,7 +9,7 @@ use Rattle.cdf_format.specs.WellFormed.{Good}
 use Rattle.cdf_model.specs.Lines.{lines}
 use Rattle.cdf_model.specs.Taps.{Tap}
 use Rattle.cdf_session.specs.Run.{flagged, run_of}
-use Rattle.cdf_tool.specs.Asking.{Asked}
+use Rattle.cdf_words.specs.Asking.{Asked}
 use Rattle.cdf_tool.specs.declared.status.Status.{Status}
 use Rattle.cdf_tool.specs.declared.status.Status.TheVariants as statuses
 use Rattle.cdf_tool.specs.Ends.{Opens}

@@ -7,7 +7,7 @@ use Rattle.cdf_format.specs.WellFormed.{WellFormed}
 use Rattle.cdf_model.specs.Texts.{◌⧺◌, newline}
 use Rattle.cdf_store.specs.Disk.{Disk}
 use Rattle.cdf_store.specs.Written.{AppendsFront}
-use Rattle.cdf_tool.specs.Asking.{Asked}
+use Rattle.cdf_words.specs.Asking.{Asked}
 use Rattle.cdf_tool.specs.declared.status.Status.{Status}
 use Rattle.cdf_tool.specs.declared.status.Status.TheVariants as statuses
 use Rattle.cdf_tool.specs.Ends.{EndsUnread, Unread, Without}

@@ -5,7 +5,7 @@ use Rattle.std.specs.declared.option.Option.{Option}
 use Rattle.cdf_store.specs.Disk.{Disk}
 use Rattle.cdf_store.specs.Named.{lookup, with_made}
 use Rattle.cdf_format.specs.WellFormed.{WellFormed}
-use Rattle.cdf_tool.specs.Asking.{Asked}
+use Rattle.cdf_words.specs.Asking.{Asked}
 use Rattle.cdf_tool.specs.declared.status.Status.{Status}
 use Rattle.cdf_tool.specs.declared.status.Status.TheVariants as statuses
 

@@ -10,7 +10,7 @@ use Rattle.cdf_format.specs.Sealed.{image_of, sealed}
 use Rattle.cdf_format.specs.WellFormed.{Good, WellFormed}
 use Rattle.cdf_model.specs.Limits.{image_limit}
 use Rattle.cdf_model.specs.Texts.{no_file_text}
-use Rattle.cdf_tool.specs.Asking.{Asked}
+use Rattle.cdf_words.specs.Asking.{Asked}
 use Rattle.cdf_tool.specs.declared.status.Status.{Status}
 use Rattle.cdf_tool.specs.declared.status.Status.TheVariants as statuses
 use Rattle.cdf_tool.specs.declared.notes.Left.{Left}

@@ -14,8 +14,6 @@ pub mod Ends
 pub mod Checking
 pub mod Endings
 pub mod Areas
-pub mod Asking
-pub mod CommandLine
 pub mod Accepts
 pub mod Due
 pub mod Reading

@@ -7,7 +7,7 @@ use Rattle.cdf_store.specs.Named.{files_attached, found_or_made, lookup, with_fi
 use Rattle.cdf_pages.specs.Saving.{Differs, IsBetween, LiesIn, Touches}
 use Rattle.cdf_format.specs.Sealed.{image_of, sealed}
 use Rattle.cdf_format.specs.WellFormed.{Good}
-use Rattle.cdf_tool.specs.Asking.{Asked}
+use Rattle.cdf_words.specs.Asking.{Asked}
 use Rattle.cdf_tool.specs.declared.notes.Left.{Left}
 use Rattle.cdf_tool.specs.declared.notes.Left.TheVariants as lefts
 use Rattle.cdf_tool.specs.declared.status.Status.{Status}

@@ -6,7 +6,7 @@ ghost use Rattle.std.specs.Option.{option_map};
 ghost use Rattle.cdf_model.specs.Limits.{image_limit};
 ghost use Rattle.cdf_store.specs.Disk.{file_of};
 ghost use Rattle.cdf_store.specs.Named.{Allows};
-ghost use Rattle.cdf_tool.specs.Asking.{asked_for};
+ghost use Rattle.cdf_words.specs.Asking.{asked_for};
 ghost use Rattle.cdf_tool.specs.Checking.{EndsChecked, EndsOverFile, SaysAccepted, accepted_text};
 ghost use Rattle.cdf_tool.specs.Counts.{Counted, counts};
 ghost use Rattle.cdf_tool.specs.Reading.{WritesNothing};
@@ -20,13 +20,13 @@ use crate::notes::Notes;
 use crate::opened::{Refused, refuse};
 use crate::say::{say_accepted, say_no_file};
 use crate::status::area_status;
-use crate::words::Asked;
 use cdf_area::Area;
 use cdf_check::Broken;
 use cdf_model::limits::IMAGE_LIMIT;
 use cdf_pages::PagedArea;
 use cdf_session::{Refusal, Session};
 use cdf_store::{AttachError, Sink, Store};
+use cdf_words::Asked;
 use std::alloc::Global;
 
 /// What a check leaves over an area.

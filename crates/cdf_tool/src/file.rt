@@ -7,7 +7,7 @@ ghost use Rattle.cdf_store.specs.Disk.{file_in, file_of};
 ghost use Rattle.cdf_store.specs.Named.{Allows, lookup};
 ghost use Rattle.cdf_model.specs.Limits.{image_limit};
 ghost use Rattle.cdf_tool.specs.Areas.{EndsAttached, EndsInMemory};
-ghost use Rattle.cdf_tool.specs.Asking.{asked_for};
+ghost use Rattle.cdf_words.specs.Asking.{asked_for};
 ghost use Rattle.cdf_tool.specs.Counts.{Counted, counts};
 ghost use Rattle.cdf_tool.specs.Due.{Untouched};
 ghost use Rattle.cdf_tool.specs.Ends.{EndsNamed, SpoilsTo};
@@ -23,12 +23,12 @@ use crate::opened::run_area;
 use crate::saving::finish;
 use crate::say::say_no_file;
 use crate::status::end_status;
-use crate::words::Asked;
 use cdf_area::{Area, MemArea};
 use cdf_model::limits::IMAGE_LIMIT;
 use cdf_pages::PagedArea;
 use cdf_store::{AttachError, Sink, Source, Store};
 use cdf_tap::Tap;
+use cdf_words::Asked;
 use std::alloc::{AllocFailed, Global};
 
 /// An area over the file that is attached, which has so many bytes: over its image, or over an empty one. Where there is no memory

@@ -16,11 +16,9 @@ mod script;
 mod showing;
 mod status;
 mod top;
-mod words;
 
 pub use ended::Ended;
 pub use notes::{Left, Notes};
 pub use refusals::{LineMark, Refusals, RefusedLine};
 pub use status::Status;
 pub use top::run;
-pub use words::{Asked, WordsError, read_words};

@@ -8,7 +8,7 @@ ghost use Rattle.cdf_pages.specs.Saving.{Touches};
 ghost use Rattle.cdf_format.specs.Sealed.{image_of};
 ghost use Rattle.cdf_format.specs.WellFormed.{WellFormed};
 ghost use Rattle.cdf_model.specs.Limits.{image_limit, script_limit};
-ghost use Rattle.cdf_tool.specs.Asking.{ask, saves_nothing};
+ghost use Rattle.cdf_words.specs.Asking.{ask, saves_nothing};
 ghost use Rattle.cdf_tool.specs.Accepts.{Accepts};
 ghost use Rattle.cdf_tool.specs.Checking.{Checks};
 ghost use Rattle.cdf_tool.specs.Counts.{Counted, counts};
@@ -28,9 +28,9 @@ use crate::ended::Ended;
 use crate::file::run_file;
 use crate::notes::Notes;
 use crate::say::say_usage;
-use crate::words::{WordsError, read_words};
 use cdf_store::{Sink, Source, Store};
 use cdf_tap::Tap;
+use cdf_words::{WordsError, read_words};
 use std::alloc::Global;
 
 /// Runs the program: over the words of its command line without the program's own name, a store that has no file attached, the taps that

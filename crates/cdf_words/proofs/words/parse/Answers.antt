@@ -1,11 +1,11 @@
-use Rattle.cdf_tool.proofs.Common.{IsAmong, IsSome, None, Option, Some, Text, [], ap, app_of, codes, fault_of, faults, first_of, found, found_of, inl, inr, is_simple, is_simple_and_free, is_some, kind_of, map, matches_of, one_of, rows_of, string_bytes, subst, sym, true, ◌∙◌, ◌≡◌}
+use Rattle.cdf_words.proofs.Common.{IsAmong, IsSome, None, Option, Some, Text, [], ap, app_of, codes, fault_of, faults, first_of, found, found_of, inl, inr, is_simple, is_simple_and_free, is_some, kind_of, map, matches_of, one_of, rows_of, string_bytes, subst, sym, true, ◌∙◌, ◌≡◌}
 use Rattle.std.specs.Prelude.{option_map}
 use Rattle.std.specs.Borrow.{Bor}
 use Rattle.clap.proofs.WalkLemmas.{first_value-rows, one_text-rows}
-use Rattle.cdf_tool.specs.declared.words.WordsError.TheVariants.{Usage}
-use Rattle.cdf_tool.proofs.ClapLine.{says, says_none, has_file}
-use Rattle.cdf_tool.proofs.ClapSimple.{simple, simple_and_free}
-use Rattle.cdf_tool.proofs.words.parse.Goals as goal
+use Rattle.cdf_words.specs.declared.words.WordsError.TheVariants.{Usage}
+use Rattle.cdf_words.proofs.ClapLine.{says, says_none, has_file}
+use Rattle.cdf_words.proofs.ClapSimple.{simple, simple_and_free}
+use Rattle.cdf_words.proofs.words.parse.Goals as goal
 
 is_there : (o : Option (Bor Text)) → is_some (option_map (λ s. s.now) o) ≡ true → IsSome o
 is_there None is = is

@@ -1,5 +1,5 @@
 -- A whole command line: clap finds no fault in words exactly where they are fine flags and one file, and then finds what they ask for.
-use Rattle.cdf_tool.proofs.Common.{Asked, Bool, Held, IsUtf8, Kinds, List, MissingRequiredArgument, None, Option, Row, Rule, Some, Step, String, Text, Walk, [], after_first, after_flag, after_step, ap, append-nil, append_assoc, are_fine, arg_by_long, arith, before_first, bundle_fault, bytes_eq, cases_Bool, chars, check_fault, codes, command, command_app, cond, default_fault, defaults_fault, eqb-true, false, faults, files_in, finished, flag_word_fault, flags_in, fold, found, has_byte, has_row, idle, inl, inr, is_among, is_end, is_flag, is_some, known_flags, long_fault, long_met, long_of, long_or_other, map, nothing_held, one-add, option_and_then, option_map_or, or_else, position_or_len, refl, row_text, said, said_by, same_of_bytes_eq, settle_fault, settled, short_of, short_or_plain, slice_get, step_fault, string_bytes, subst, suc, sym, trailing, true, turn_fault, value, walk_fault, walk_from, walked, with_default, ℕ, ◌++◌, ◌+◌, ◌==◌, ◌∙◌, ◌∷◌, ◌≡◌}
+use Rattle.cdf_words.proofs.Common.{Asked, Bool, Held, IsUtf8, Kinds, List, MissingRequiredArgument, None, Option, Row, Rule, Some, Step, String, Text, Walk, [], after_first, after_flag, after_step, ap, append-nil, append_assoc, are_fine, arg_by_long, arith, before_first, bundle_fault, bytes_eq, cases_Bool, chars, check_fault, codes, command, command_app, cond, default_fault, defaults_fault, eqb-true, false, faults, files_in, finished, flag_word_fault, flags_in, fold, found, has_byte, has_row, idle, inl, inr, is_among, is_end, is_flag, is_some, known_flags, long_fault, long_met, long_of, long_or_other, map, nothing_held, one-add, option_and_then, option_map_or, or_else, position_or_len, refl, row_text, said, said_by, same_of_bytes_eq, settle_fault, settled, short_of, short_or_plain, slice_get, step_fault, string_bytes, subst, suc, sym, trailing, true, turn_fault, value, walk_fault, walk_from, walked, with_default, ℕ, ◌++◌, ◌+◌, ◌==◌, ◌∙◌, ◌∷◌, ◌≡◌}
 use Rattle.std.proofs.Common.{not, ◌||◌, if◌then◌else◌}
 use Rattle.std.specs.Str.{encode_utf8_all as encodes}
 use Rattle.std.proofs.lemmas.Str.{IsCharBoundary-after_ascii, IsUtf8-drop, IsUtf8-string_bytes, encodes-chars}
@@ -7,9 +7,9 @@ use Rattle.clap.specs.Facts.{explicit_source}
 use Rattle.clap.specs.Walk.{first_of, one_of}
 use Rattle.clap.specs.Words.{built}
 use Rattle.clap.proofs.FaultLemmas.{leaf_fault}
-use Rattle.cdf_tool.proofs.FlagLemmas.{twice_not_fine, unknown_not_fine}
-use Rattle.cdf_tool.proofs.ClapRows.{added, at, at_defaults, by_default, default_at, flag_arg, with_defaults, yes}
-use Rattle.cdf_tool.proofs.ClapWords.{Fails, Goes, Look, Open, Spelled, all_before, bundle_fails, dashed, ends, file_arg, first_file, first_none, kinds_apart, long, look, names, once_goes, plain, position_of, rules, second_file, short, start, top, twice_fails, unknown_fails, valued_fails, walk_at}
+use Rattle.cdf_words.proofs.FlagLemmas.{twice_not_fine, unknown_not_fine}
+use Rattle.cdf_words.proofs.ClapRows.{added, at, at_defaults, by_default, default_at, flag_arg, with_defaults, yes}
+use Rattle.cdf_words.proofs.ClapWords.{Fails, Goes, Look, Open, Spelled, all_before, bundle_fails, dashed, ends, file_arg, first_file, first_none, kinds_apart, long, look, names, once_goes, plain, position_of, rules, second_file, short, start, top, twice_fails, unknown_fails, valued_fails, walk_at}
 
 -- ---- the flags and files of words, by the first of them
 

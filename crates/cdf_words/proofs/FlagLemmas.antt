@@ -1,5 +1,5 @@
 -- Flags that are known, and of which none stands twice.
-use Rattle.cdf_tool.proofs.Common.{Bool, List, [], ap, are_fine, both, bytes_eq, bytes_eq-same, cases_Bool, differ-turned, false, inl, inr, is_among, known_flags, list_any-append, not_false, refl, same_of_bytes_eq, subst, true, ℕ, ◌++◌, ◌∙◌, ◌∷◌, ◌≡◌}
+use Rattle.cdf_words.proofs.Common.{Bool, List, [], and_parts, ap, are_fine, bytes_eq, bytes_eq-same, cases_Bool, differ-turned, false, inl, inr, is_among, known_flags, list_any-append, not-true, or_parts, refl, same_of_bytes_eq, subst, true, ℕ, ◌++◌, ◌∙◌, ◌∷◌, ◌≡◌}
 use Rattle.std.proofs.Common.{not, ◌&&◌, ◌||◌}
 
 pub and_false : (a : Bool) → (a && false) ≡ false
@@ -13,10 +13,6 @@ or_true false = refl
 pub or_false : (a : Bool) → (a || false) ≡ a
 or_false true = refl
 or_false false = refl
-
-pub or_parts : (a b : Bool) → (a || b) ≡ false → (a ≡ false) × (b ≡ false)
-or_parts true b e = cc e
-or_parts false b e = (refl, e)
 
 or_right : (a b : Bool) → a ≡ false → (a || b) ≡ true → b ≡ true
 or_right true b first either = cc first
@@ -59,9 +55,9 @@ twice_not_fine (first ∷ before) flag later stands = elim (cases_Bool (bytes_eq
 pub once_fine : (before : List (List ℕ)) (flag : List ℕ) → are_fine before ≡ true → is_among flag known_flags ≡ true → is_among flag before ≡ false → are_fine (before ++ flag ∷ []) ≡ true
 once_fine [] flag fine known new = rw known refl
 once_fine (first ∷ before) flag fine known new =
-    let parts = both (is_among first known_flags && not (is_among first before)) (are_fine before) fine in
-    let front = both (is_among first known_flags) (not (is_among first before)) parts.0 in
+    let parts = and_parts (is_among first known_flags && not (is_among first before)) (are_fine before) fine in
+    let front = and_parts (is_among first known_flags) (not (is_among first before)) parts.0 in
     let apart = or_parts (bytes_eq flag first) (is_among flag before) new in
     let alone : is_among first (before ++ flag ∷ []) ≡ false =
-    among_more first before flag ∙ ap (λ (b : Bool). b || bytes_eq first flag) (not_false (is_among first before) front.1) ∙ differ-turned flag first apart.0 in
+    among_more first before flag ∙ ap (λ (b : Bool). b || bytes_eq first flag) (not-true (is_among first before) front.1) ∙ differ-turned flag first apart.0 in
     rw (front.0, alone) (once_fine before flag parts.1 known apart.1)

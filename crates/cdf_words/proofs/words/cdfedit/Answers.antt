@@ -1,5 +1,5 @@
-use Rattle.cdf_tool.proofs.Common.{ap₂, codes, command, flag_rule, rule_of, rules, with_rule, ◌∙◌, ◌≡◌}
-use Rattle.cdf_tool.proofs.words.cdfedit.Goals as goal
+use Rattle.cdf_words.proofs.Common.{ap₂, codes, command, flag_rule, rule_of, rules, with_rule, ◌∙◌, ◌≡◌}
+use Rattle.cdf_words.proofs.words.cdfedit.Goals as goal
 
 pub returns : goal.returns
 unfolding command

@@ -2,8 +2,8 @@
 
 ghost use Rattle.std.specs.Prelude.{◌≡◌, map, string_bytes, codes, Err, Some, None, true, false, IfOk};
 ghost use Rattle.clap.specs.Words.{app_of, rule_of};
-ghost use Rattle.cdf_tool.specs.Asking.{ask, asked_for, said};
-ghost use Rattle.cdf_tool.specs.CommandLine.{command, file_rule, flag_rule, plain_app};
+ghost use Rattle.cdf_words.specs.Asking.{ask, asked_for, said};
+ghost use Rattle.cdf_words.specs.CommandLine.{command, file_rule, flag_rule, plain_app};
 
 use clap::error::ErrorKind;
 use clap::{Arg, ArgAction, Command};
@@ -34,7 +34,7 @@ pub enum WordsError {
 
 impl From<AllocError> for WordsError {
     ghost use Rattle.std.specs.Prelude.{◌≡◌};
-    ghost use Rattle.cdf_tool.specs.declared.words.WordsError.TheVariants.{NoMemory};
+    ghost use Rattle.cdf_words.specs.declared.words.WordsError.TheVariants.{NoMemory};
 
     ghost from_gives = { λ _ e. e ≡ NoMemory };
 

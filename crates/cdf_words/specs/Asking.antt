@@ -4,7 +4,7 @@ use Rattle.std.specs.List.{after_first, before_first, filter}
 use Rattle.std.specs.declared.option.Option.{Option}
 use Rattle.std.specs.Option.{option_and_then}
 use Rattle.cdf_model.specs.Names.{is_among}
-use Rattle.cdf_tool.specs.declared.words.Asked.{Asked as AskedWords}
+use Rattle.cdf_words.specs.declared.words.Asked.{Asked as AskedWords}
 
 -- what a run is asked for: to begin with a new file, to check one and no more, not to save, to show what records take, and the file
 pub record Asked : Type 0 where

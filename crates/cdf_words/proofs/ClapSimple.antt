@@ -1,5 +1,5 @@
 -- The command is one of which clap's clauses say all.
-use Rattle.cdf_tool.proofs.Common.{command, is_simple, is_simple_and_free, refl, true, ◌≡◌}
+use Rattle.cdf_words.proofs.Common.{command, is_simple, is_simple_and_free, refl, true, ◌≡◌}
 
 pub simple : is_simple command ≡ true
 unfolding command

@@ -1,11 +1,11 @@
 -- One word of a command line, as clap takes it where some flags, and a file or none, were read before.
-use Rattle.cdf_tool.proofs.Common.{ArgumentConflict, Bool, Held, Kinds, List, None, Option, Row, Rule, Shape, Some, Step, Text, TooManyValues, UnknownArgument, Walk, [], after_flag, after_step, ap, ap₂, are_fine, arg_by_long, before_first, bundle_fault, bytes_eq, cases_Bool, chars, codes, command_app, differ-turned, eqb-true, false, file_rule, filled, flags_fault, has_byte, has_row, idle, inl, inr, is_among, is_end, is_flag, is_pending, is_some, known_flags, long_fault, long_met, long_of, nothing_held, one-add, or_else, reacted, refl, same_of_bytes_eq, settle_fault, settled, short_of, slice_get, step_fault, subst, true, value, with_index, ℕ, ◌++◌, ◌==◌, ◌∙◌, ◌∷◌, ◌≡◌}
+use Rattle.cdf_words.proofs.Common.{ArgumentConflict, Bool, Held, Kinds, List, None, Option, Row, Rule, Shape, Some, Step, Text, TooManyValues, UnknownArgument, Walk, [], after_flag, after_step, ap, ap₂, are_fine, arg_by_long, before_first, bundle_fault, bytes_eq, cases_Bool, chars, codes, command_app, differ-turned, eqb-true, false, file_rule, filled, flags_fault, has_byte, has_row, idle, inl, inr, is_among, is_end, is_flag, is_pending, is_some, known_flags, long_fault, long_met, long_of, nothing_held, one-add, or_else, or_parts, reacted, refl, same_of_bytes_eq, settle_fault, settled, short_of, slice_get, step_fault, subst, true, value, with_index, ℕ, ◌++◌, ◌==◌, ◌∙◌, ◌∷◌, ◌≡◌}
 use Rattle.std.proofs.Common.{◌&&◌, ◌||◌, if◌then◌else◌}
 use Rattle.std.specs.Prelude.{option_map}
 use Rattle.clap.specs.declared.error.kind.ErrorKind.{ErrorKind}
 use Rattle.clap.specs.Words.{built}
-use Rattle.cdf_tool.proofs.FlagLemmas.{among_later, among_more, and_false, once_fine, or_false, or_parts}
-use Rattle.cdf_tool.proofs.ClapRows.{add, added, at, at_add_other, at_add_same, flag_arg, has_none, has_some, yes}
+use Rattle.cdf_words.proofs.FlagLemmas.{among_later, among_more, and_false, once_fine, or_false}
+use Rattle.cdf_words.proofs.ClapRows.{add, added, at, at_add_other, at_add_same, flag_arg, has_none, has_some, yes}
 
 abbrev pub top : Shape
 top = (built command_app).top

@@ -1,10 +1,9 @@
 -- The rows that clap finds: one for each argument that was used, and at the end one for each flag that was not.
-use Rattle.cdf_tool.proofs.Common.{List, None, Option, Row, Rule, Some, Text, [], ap, bytes_eq, bytes_eq-same, cases_Bool, codes, false, filled, find, flag_rule, fold, has_row, inl, inr, is_some, map, reading_by, refl, same_of_bytes_eq, sym, true, with_default, with_values, without, ◌∙◌, ◌∷◌, ◌≡◌}
+use Rattle.cdf_words.proofs.Common.{List, None, Option, Row, Rule, Some, Text, [], ap, bytes_eq, bytes_eq-same, cases_Bool, codes, false, filled, find, flag_rule, fold, has_row, inl, inr, is_some, map, or_parts, reading_by, refl, same_of_bytes_eq, sym, true, with_default, with_values, without, ◌∙◌, ◌∷◌, ◌≡◌}
 use Rattle.std.proofs.Common.{if◌then◌else◌}
 use Rattle.clap.specs.declared.parser.matches.ValueSource.TheVariants.{CommandLine, DefaultValue}
 use Rattle.clap.specs.declared.parser.matches.ValueSource.{ValueSource}
 use Rattle.clap.specs.declared.builder.value_parser.Reading.{Reading}
-use Rattle.cdf_tool.proofs.FlagLemmas.{or_parts}
 
 abbrev pub flag_arg : Text → Rule
 flag_arg name = filled (flag_rule name)
