@@ -5,7 +5,7 @@ mod standard;
 
 ghost use Rattle.std.specs.Prelude.{◌≡◌};
 ghost use Rattle.std.specs.Process.{exit_status};
-ghost use Rattle.cdf_tool.specs.Statuses.{number_of};
+ghost use Rattle.cdf_saving.specs.Statuses.{number_of};
 
 use cdf_store::{FileStore, StdSink, StdSource};
 use cdf_tap::{NeedsVarType, Tally, Tap};

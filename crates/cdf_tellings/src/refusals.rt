@@ -1,7 +1,7 @@
 //! Lines that were refused, in words.
 
 use cdf_model::{LineError, Reason};
-use cdf_tool::{LineMark, Refusals, RefusedLine};
+use cdf_saving::{LineMark, Refusals, RefusedLine};
 use std::fmt;
 
 /// Writes the fault of a line that is no command. Bytes of the line are counted from 0.

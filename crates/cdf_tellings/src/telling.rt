@@ -1,7 +1,7 @@
 //! What a person is told.
 
 ghost use Rattle.std.specs.Prelude.{◌≡◌, ◌<◌, IsTrue, IsFalse};
-ghost use Rattle.cdf_tool.specs.Statuses.{IsDone};
+ghost use Rattle.cdf_saving.specs.Statuses.{IsDone};
 
 use crate::causes::Cause;
 use crate::files::Nature;
@@ -10,8 +10,8 @@ use crate::refusals::RefusalsWords;
 use crate::rules::words_of_rule;
 use crate::words::{WordsFault, fault_of_words};
 use cdf_check::Broken;
+use cdf_saving::{Left, Notes, Status};
 use cdf_store::FileFailure;
-use cdf_tool::{Left, Notes, Status};
 use cdf_words::{WordsError, read_words};
 use std::alloc::Global;
 use std::fmt;

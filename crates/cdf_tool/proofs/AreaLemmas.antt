@@ -2,7 +2,7 @@
 use Rattle.cdf_tool.proofs.Common.{AdoptError, AreaError, Bool, Broken, Disk, EndsOver, EndsUnread, Err, IfOk, List, Ok, Option, Outlets, Refusals, Refuses, Rejects, Result, SaysRejected, Status, WellFormed, ap, false, file_of, inl, inr, refl, rejected_text, rejection, status_of_area, subst, sym, true, ℕ, ◌∙◌, ◌≡◌}
 use Rattle.cdf_area.specs.declared.area.AreaError.TheVariants as areas
 use Rattle.cdf_session.specs.declared.refusal.AdoptError.TheVariants as errors
-use Rattle.cdf_tool.specs.declared.status.Status.TheVariants as statuses
+use Rattle.cdf_saving.specs.declared.status.Status.TheVariants as statuses
 
 -- a rejection ends a run
 rejected_ends : (file : List ℕ) (first now : Option (List ℕ)) (r : Rejects file) (status : Status) → SaysRejected (rejection r) first now status → EndsUnread false file first now status

@@ -1,6 +1,6 @@
 -- What follows of a run by whether a check was asked for.
 use Rattle.cdf_tool.proofs.Common.{Accepts, Asked, Attached, Bool, Disk, EndsAsked, EndsChecked, EndsNamed, EndsWithout, FilesStay, IfSome, IsUnsaved, Kept, List, Looked, None, Option, Outlets, Runs, Some, Status, StoredBy, Untouched, ap, false, inl, inr, lookup, not, option_map, sym, true, ℕ, ◌&&◌, ◌||◌, ◌∙◌, ◌≡◌}
-use Rattle.cdf_tool.specs.declared.status.Status.TheVariants as statuses
+use Rattle.cdf_saving.specs.declared.status.Status.TheVariants as statuses
 use Rattle.cdf_tool.proofs.RunStore.{found_lookup_in, kept_attached}
 
 module _ {U : Type 0} (a : Asked) (d d' : Disk U) (before left : Option (List ℕ)) (first now : Outlets) (status : Status) where

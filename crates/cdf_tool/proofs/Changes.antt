@@ -2,7 +2,7 @@
 use Rattle.cdf_tool.proofs.Common.{Asked, Bool, Differs, Disk, EndsNamed, Good, IfSome, IsChanged, IsDone, IsRewritten, KeptBy, List, None, Option, Outlets, Runs, Some, Status, StoredBy, Touches, ap, arith, false, file_in, found_or_made, image_of, inl, inr, length, length-append, lookup, refl, sealed, subst, sym, touches_none, touches_weaker, trailer, true, ℕ, ◌<◌, ◌∙◌, ◌≡◌, ◌≤◌}
 use Rattle.std.proofs.Math.ListN.{get_or-append}
 use Rattle.std.proofs.Math.Seq.{take-append_seam}
-use Rattle.cdf_tool.specs.declared.status.Status.TheVariants as statuses
+use Rattle.cdf_saving.specs.declared.status.Status.TheVariants as statuses
 use Rattle.cdf_tool.proofs.AskedLemmas.{if_some}
 use Rattle.cdf_tool.proofs.Headline.{unread_not_done, without_not_done}
 use Rattle.cdf_tool.proofs.StoredLemmas.{front_is_image}

@@ -2,7 +2,7 @@
 use Rattle.cdf_tool.proofs.Common.{Asked, Attached, Bool, Checks, Counted, Disk, EndsChecked, EndsOverFile, EndsUnread, EndsWithout, Exactly, IsAnswered, IsDone, KeptBy, List, Option, SaysAccepted, SaysNoFile, SaysUsage, Some, Status, WellFormed, accepted_text, all_phases, counts, excluded, false, image_of, inl, inr, refl, shape, space_text, subst, sym, true, yes_text, ℕ, ◌++◌, ◌∙◌, ◌≡◌, ◌≢◌}
 use Rattle.cdf_format.specs.Owners.{space_of}
 use Rattle.cdf_model.specs.declared.space.Space.{Space}
-use Rattle.cdf_tool.specs.declared.status.Status.TheVariants as statuses
+use Rattle.cdf_saving.specs.declared.status.Status.TheVariants as statuses
 use Rattle.cdf_tool.proofs.Headline.{unread_not_done}
 use Rattle.cdf_tool.proofs.RunStore.{kept_attached}
 

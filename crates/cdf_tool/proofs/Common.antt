@@ -28,7 +28,14 @@ pub use Rattle.cdf_model.specs.declared.answer.LineError.TheVariants.{UnknownWor
 pub use Rattle.cdf_model.specs.declared.answer.Outcome.{Outcome}
 pub use Rattle.cdf_model.specs.declared.command.Command.{Command}
 pub use Rattle.cdf_pages.proofs.Touched.{touches_none, touches_weaker}
-pub use Rattle.cdf_pages.specs.Saving.{Differs, Holds, HoldsBetween, IsBetween, IsChangedRange, Touches, tail_bytes}
+pub use Rattle.cdf_pages.specs.Saving.{Differs, Holds, HoldsBetween, IsBetween, Touches, tail_bytes}
+pub use Rattle.cdf_saving.specs.Counts.{Counted, CountedIn, Counts, ReadsCounted, ReadsCountedBehind, WritesCounted, counts}
+pub use Rattle.cdf_saving.specs.Refusing.{was_refused}
+pub use Rattle.cdf_saving.specs.Saved.{EndsSaving, IsLeft, IsRewritten, Rewrites, TellsLeft}
+pub use Rattle.cdf_saving.specs.Statuses.{Exactly, IsDone, IsFailure, IsUnsaved, status_of, status_of_area}
+pub use Rattle.cdf_saving.specs.declared.notes.Left.{Left}
+pub use Rattle.cdf_saving.specs.declared.refusals.Refusals.{Refusals}
+pub use Rattle.cdf_saving.specs.declared.status.Status.{Status}
 pub use Rattle.cdf_session.specs.Built.{built}
 pub use Rattle.cdf_session.specs.History.{CommandLeads, LineLeads, LinesLead, Moment, RouteLeads, last_image}
 pub use Rattle.cdf_session.specs.Run.{advance, flagged, run_of, run_on, turn}
@@ -40,10 +47,8 @@ pub use Rattle.cdf_store.specs.Written.{AppendsFront, IsFront}
 pub use Rattle.cdf_tap.specs.Meanings.{kinds_of}
 pub use Rattle.cdf_tool.specs.Accepts.{Accepts}
 pub use Rattle.cdf_tool.specs.Answering.{IsAnswer, IsReplyOf, RepliesTo}
-pub use Rattle.cdf_tool.specs.Areas.{EndsAttached, EndsInMemory, EndsOver, EndsSaving, EndsStored, Refuses, status_from}
-pub use Rattle.cdf_words.specs.Asking.{Asked, ask, asked_for}
+pub use Rattle.cdf_tool.specs.Areas.{EndsAttached, EndsInMemory, EndsOver, EndsStored, Refuses, status_from}
 pub use Rattle.cdf_tool.specs.Checking.{Accepted, Checks, EndsChecked, EndsOverFile, IsAnswered, SaysAccepted, accepted_text, yes_text}
-pub use Rattle.cdf_tool.specs.Counts.{Counted, CountedIn, Counts, ReadsCounted, ReadsCountedBehind, WritesCounted, counts}
 pub use Rattle.cdf_tool.specs.Due.{CanBegin, FilesStay, IsGood, Looked, Untouched}
 pub use Rattle.cdf_tool.specs.Endings.{Ends, EndsAsked}
 pub use Rattle.cdf_tool.specs.Ends.{Completes, EndsNamed, EndsUnread, EndsWithout, Opens, Runs, SpoilsTo, Without}
@@ -52,18 +57,14 @@ pub use Rattle.cdf_tool.specs.Idle.{IfIdle, IsUnmoved, all_idle, all_idle_over, 
 unfoldable pub use Rattle.cdf_tool.specs.Idle.{asks_idly}
 pub use Rattle.cdf_tool.specs.Outlets.{Outlets, with_taps}
 pub use Rattle.cdf_tool.specs.Reading.{IfAll, IfReads, WritesNothing, line_reads, reads}
-pub use Rattle.cdf_tool.specs.Refusing.{was_refused}
 pub use Rattle.cdf_tool.specs.Replay.{AreBlank, AreShort, GathersReply, GivesNext, Goes, IsDrained, IsPartOfNext, IsPartOfReply, IsReply, IsSayable, IsShort, IsShown, Passes, PassesAll, Replies, Stops, StopsAt, Turns, Wrote, asked_by, begun, flagged_line, line_of_moment, tale, turn_over}
 pub use Rattle.cdf_tool.specs.Says.{Names, Rejects, SaysNoFile, SaysRejected, SaysUsage, Tells, old_file, rejection}
 pub use Rattle.cdf_tool.specs.Script.{Finishes, FinishesWith, Follow, Halts, HaltsAfter, HaltsWith, Pieces, StopsIn, last_line}
 pub use Rattle.cdf_tool.specs.Showing.{StopsReply, WrotePart, status_of_walk}
-pub use Rattle.cdf_tool.specs.Statuses.{Exactly, IsDone, IsFailure, IsUnsaved, status_of, status_of_area}
-pub use Rattle.cdf_tool.specs.Stored.{Attached, IsChanged, IsLeft, IsRewritten, Kept, KeptBy, Replaced, Rewrites, Spoiled, StoredBy, TellsLeft, Unattached}
+pub use Rattle.cdf_tool.specs.Stored.{Attached, IsChanged, Kept, KeptBy, Replaced, Spoiled, StoredBy, Unattached}
 pub use Rattle.cdf_tool.specs.Taking.{Takes, TakesLast, TakesNone, TakesPiece, piece_limit}
-pub use Rattle.cdf_tool.specs.declared.notes.Left.{Left}
-pub use Rattle.cdf_tool.specs.declared.refusals.Refusals.{Refusals}
-pub use Rattle.cdf_tool.specs.declared.status.Status.{Status}
-pub use Rattle.std.proofs.Common.{Bool, Err, IsTrue, List, None, Ok, OnOk, Option, Result, Some, [], ap, append-nil, append_assoc, arith, codes, cond, false, inl, inr, leb-true, length, length-append, map, refl, string_bytes, subst, sym, take, true, ℕ, ◌++◌, ◌+◌, ◌-◌, ◌<◌, ◌==◌, ◌∙◌, ◌∷◌, ◌≡◌, ◌≤◌, ◌⊎◌}
+pub use Rattle.cdf_words.specs.Asking.{Asked, ask, asked_for}
+pub use Rattle.std.proofs.Common.{Bool, Err, List, None, Ok, OnOk, Option, Result, Some, [], ap, append-nil, append_assoc, arith, codes, cond, false, inl, inr, leb-true, length, length-append, map, refl, string_bytes, subst, sym, take, true, ℕ, ◌++◌, ◌+◌, ◌-◌, ◌<◌, ◌==◌, ◌∙◌, ◌∷◌, ◌≡◌, ◌≤◌, ◌⊎◌}
 pub use Rattle.std.proofs.KnownBytes.{Appends-nil, Appends-trans, Consumes-nil, Consumes-trans}
 pub use Rattle.std.proofs.Math.Path.{transport}
 pub use Rattle.std.proofs.lemmas.List.Folds.{list_all-append}

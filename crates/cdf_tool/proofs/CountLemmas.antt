@@ -3,7 +3,7 @@ use Rattle.cdf_tool.proofs.Common.{AdoptError, AreaError, Asked, Bool, Broken, C
 use Rattle.cdf_area.specs.declared.area.AreaError.TheVariants as areas
 use Rattle.cdf_base.specs.Causes.{HasCauseOf, Rose}
 use Rattle.cdf_session.specs.declared.refusal.AdoptError.TheVariants as errors
-use Rattle.cdf_tool.specs.declared.status.Status.TheVariants as statuses
+use Rattle.cdf_saving.specs.declared.status.Status.TheVariants as statuses
 
 -- no count rose
 pub counts_stay : (r w o s r' w' o' s' : ℕ) → r' ≡ r → w' ≡ w → o' ≡ o → s' ≡ s → counts r' w' o' s' ≡ counts r w o s

@@ -1,6 +1,6 @@
 -- How a run of a named file ends.
 use Rattle.cdf_tool.proofs.Common.{Asked, Attached, Bool, Disk, EndsAttached, EndsInMemory, EndsNamed, EndsOver, EndsSaving, EndsStored, Err, FinishesWith, Good, HaltsWith, IfIdle, IfOk, IsDone, IsLeft, IsUnmoved, Kept, Left, List, Ok, OnOk, Opens, Option, Outlets, Refusals, Result, Runs, SpoilsTo, Status, StoredBy, TellsLeft, [], ap, false, file_in, file_of, image_limit, image_of, inl, inr, line_idles, refl, sealed, status_from, status_of, subst, sym, transport, true, was_refused, ℕ, ◌∙◌, ◌≡◌, ◌≢◌}
-use Rattle.cdf_tool.specs.declared.status.Status.TheVariants as statuses
+use Rattle.cdf_saving.specs.declared.status.Status.TheVariants as statuses
 use Rattle.std.specs.Prelude.{IfErr}
 use Rattle.cdf_tool.proofs.AreaLemmas.{over_file}
 use Rattle.cdf_tool.proofs.Headline.{unread_not_done}

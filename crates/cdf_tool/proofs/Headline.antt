@@ -1,6 +1,6 @@
 -- What a run with status 0 or 1 comes to, over devices that tell their bytes.
 use Rattle.cdf_tool.proofs.Common.{Accepts, Appends, Asked, Bool, Completes, Consumes, Disk, EndsNamed, EndsUnread, EndsWithout, Finishes, Goes, IfIdle, IfSome, IsAtEnd, IsDone, IsUnmoved, List, Moment, None, Opens, Option, Outlets, Runs, Some, State, Status, [], all_idle, all_idle_over, ap, append-nil, append_assoc, content, false, flagged, flagged_line, image_limit, inl, inr, last_line, length, line_of_moment, lines, map, refl, run_of, run_on, script_limit, start, subst, sym, tale, true, ℕ, ◌++◌, ◌↔◌, ◌∙◌, ◌∷◌, ◌≡◌, ◌≤◌}
-use Rattle.cdf_tool.specs.declared.status.Status.TheVariants as statuses
+use Rattle.cdf_saving.specs.declared.status.Status.TheVariants as statuses
 use Rattle.cdf_tool.specs.Accepts.{Accepted}
 use Rattle.cdf_tool.proofs.IdleLemmas.{moments_idle}
 use Rattle.cdf_tool.proofs.Moments.{tale_stands}

@@ -3,7 +3,7 @@ use Rattle.cdf_tool.proofs.Common.{Appends, AppendsFront, AreBlank, AreShort, Ar
 use Rattle.std.specs.Prelude.{◌⊎◌}
 use Rattle.cdf_area.specs.declared.area.AreaError.TheVariants as areas
 use Rattle.cdf_lines.specs.declared.line.Line.{Line}
-use Rattle.cdf_tool.specs.declared.status.Status.TheVariants as statuses
+use Rattle.cdf_saving.specs.declared.status.Status.TheVariants as statuses
 use Rattle.cdf_tool.proofs.Commands.{turns_blank}
 use Rattle.cdf_tool.proofs.Gathered.{gathers_nothing, gathers_more, gathered_whole, gathered_in_part, gathered_written, gathered_cut}
 use Rattle.cdf_tool.proofs.Moments.{goes_nowhere, goes_one, goes_more, no_part}

@@ -4,7 +4,7 @@ use Rattle.std.proofs.lemmas.List.{length-map, map-append}
 use Rattle.cdf_model.specs.Turns.{replied}
 use Rattle.cdf_model.specs.declared.answer.Outcome.TheVariants.{Refused}
 use Rattle.cdf_model.specs.declared.answer.Reason.TheVariants.{NoSuchTap}
-use Rattle.cdf_tool.specs.declared.status.Status.TheVariants.{NoMemory}
+use Rattle.cdf_saving.specs.declared.status.Status.TheVariants.{NoMemory}
 
 -- ---- the content of the image follows the data set
 

@@ -2,8 +2,8 @@
 use Rattle.cdf_tool.proofs.Common.{Asked, Bool, Counted, Counts, Disk, EndsNamed, EndsUnread, EndsWithout, IfIdle, IfReads, IfSome, IsDone, IsUnmoved, Kept, List, None, Opens, Option, Outlets, Refusals, Runs, Some, Status, StoredBy, Unattached, WritesNothing, [], ap, eq_of, false, file_in, found_or_made, image_limit, image_of, inl, inr, length, line_idles, line_reads, lookup, not, option_map, refl, status_of, subst, sym, true, was_refused, ℕ, ◌&&◌, ◌==◌, ◌↔◌, ◌∙◌, ◌≡◌, ◌≤◌}
 use Rattle.std.proofs.Common.{arith}
 use Rattle.std.proofs.lemmas.Bool.{eqb-false}
-use Rattle.cdf_tool.specs.declared.status.Status.TheVariants as statuses
-use Rattle.cdf_tool.specs.Statuses.{replaced_by}
+use Rattle.cdf_saving.specs.declared.status.Status.TheVariants as statuses
+use Rattle.cdf_saving.specs.Statuses.{replaced_by}
 use Rattle.cdf_tool.proofs.CountLemmas.{writes_stay}
 use Rattle.cdf_tool.proofs.IdleLemmas.{if_idle_reads}
 use Rattle.cdf_tool.proofs.OnlyReads.{files_stay, if_all, if_all_map}

@@ -1,6 +1,6 @@
 -- What follows from how a run ends.
 use Rattle.cdf_tool.proofs.Common.{Accepted, Asked, Attached, Bool, CanBegin, Completes, Consumes, Consumes-nil, Disk, EndsChecked, EndsNamed, EndsUnread, EndsWithout, Exactly, Finishes, IfSome, IsDone, IsFailure, IsGood, Kept, List, None, Opens, Option, Outlets, Rejects, Runs, SaysUsage, Some, Status, StoredBy, WellFormed, Without, [], all_phases, ap, arith, excluded, false, image_limit, inl, inr, length, length-append, lookup, refl, script_limit, subst, sym, true, ℕ, ◌+◌, ◌-◌, ◌<◌, ◌∙◌, ◌≡◌, ◌≤◌, ◌⊎◌}
-use Rattle.cdf_tool.specs.declared.status.Status.TheVariants as statuses
+use Rattle.cdf_saving.specs.declared.status.Status.TheVariants as statuses
 use Rattle.cdf_tool.proofs.RunStore.{found_lookup_in, kept_attached}
 
 -- ---- statuses

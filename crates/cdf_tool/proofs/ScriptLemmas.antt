@@ -1,7 +1,7 @@
 -- What the run of a script leaves, at each of its ends.
 use Rattle.cdf_tool.proofs.Common.{AreShort, Bool, Consumes, Consumes-nil, Consumes-trans, Finishes, Follow, Halts, HaltsAfter, IsDrained, IsShort, List, Option, Outlets, Pending, Pieces, Replies, Status, Stops, StopsIn, Takes, TakesLast, TakesNone, TakesPiece, [], ap, append-nil, arith, false, fed, inl, inr, last_of, length, length-append, lines, lines-split, new_lines, new_rest, nothing_fed, piece_limit, refl, rest-append, script_limit, split, subst, sym, transport, true, whole_lines, whole_lines-append, ℕ, ◌++◌, ◌+◌, ◌||◌, ◌∙◌, ◌≡◌, ◌≤◌}
 use Rattle.cdf_lines.specs.Pending.{finished}
-use Rattle.cdf_tool.specs.declared.status.Status.TheVariants as statuses
+use Rattle.cdf_saving.specs.declared.status.Status.TheVariants as statuses
 use Rattle.cdf_tool.proofs.Lines.{kept_short, last_short, new_short}
 use Rattle.cdf_tool.proofs.Moments.{more_replies, no_replies, stops_nowhere}
 use Rattle.cdf_tool.proofs.Standing.{HasTaken, IsAfter, IsReady}

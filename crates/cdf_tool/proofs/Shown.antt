@@ -6,7 +6,7 @@ use Rattle.cdf_base.specs.Causes.{HasCauseOf}
 use Rattle.cdf_model.specs.Texts.{done_text, newline}
 use Rattle.cdf_model.specs.declared.answer.Reply.TheVariants.{Plain}
 use Rattle.cdf_store.proofs.Fronts.{IsFront-refl, IsFront-trans, front_after}
-use Rattle.cdf_tool.specs.declared.status.Status.TheVariants as statuses
+use Rattle.cdf_saving.specs.declared.status.Status.TheVariants as statuses
 use Rattle.cdf_walk.specs.declared.error.WalkError.{WalkError}
 use Rattle.cdf_walk.specs.declared.error.WalkError.TheVariants as errors
 use Rattle.cdf_tool.proofs.CountLemmas.{counts_stay}

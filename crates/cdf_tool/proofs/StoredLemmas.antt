@@ -1,11 +1,6 @@
 -- What becomes of the store.
-use Rattle.cdf_tool.proofs.Common.{Asked, Attached, Bool, Differs, Disk, EndsSaving, EndsStored, Err, Good, Holds, HoldsBetween, IfSome, IsBetween, IsChangedRange, IsRewritten, IsSome, IsTrue, IsWhole, KeptBy, Left, List, None, Ok, Option, Refusals, Replaced, Rewrites, Some, Spoiled, Status, TellsLeft, Touches, WellFormed, [], ap, arith, bytes_eq, eq_of, false, file_in, file_of, files_attached, files_with, found_or_made, has_checksum, if◌then◌else◌, image_of, inl, inr, is_some, length, length-append, lookup, option_map, refl, sealed, shape, status_of, subst, sym, tail_bytes, take, touches_none, touches_weaker, trailer_length, transport, true, was_refused, with_file, ℕ, ◌&&◌, ◌++◌, ◌+◌, ◌-◌, ◌∙◌, ◌∷◌, ◌≡◌, ◌≢◌, ◌≤◌}
-use Rattle.cdf_tool.specs.declared.status.Status.TheVariants as statuses
+use Rattle.cdf_tool.proofs.Common.{Asked, Attached, Bool, Disk, EndsSaving, EndsStored, Good, Holds, HoldsBetween, IfSome, IsBetween, IsRewritten, IsSome, IsWhole, KeptBy, List, None, Ok, Option, Refusals, Replaced, Rewrites, Some, Spoiled, Status, Touches, WellFormed, [], ap, arith, bytes_eq, eq_of, false, file_in, file_of, files_attached, files_with, found_or_made, has_checksum, if◌then◌else◌, image_of, is_some, length, lookup, option_map, refl, sealed, shape, status_of, subst, sym, tail_bytes, take, touches_none, trailer_length, transport, true, was_refused, with_file, ℕ, ◌&&◌, ◌+◌, ◌-◌, ◌∙◌, ◌∷◌, ◌≡◌, ◌≤◌, trailer}
 use Rattle.std.proofs.lemmas.Slice.Eq.{bytes_eq-Decides}
-use Rattle.cdf_pages.specs.declared.save_error.SaveError.{SaveError}
-use Rattle.cdf_pages.specs.declared.save_error.SaveError.TheVariants as errors
-use Rattle.cdf_pages.specs.Saving.{FailsSaving}
-use Rattle.cdf_pages.proofs.Between.{between_same}
 use Rattle.cdf_pages.proofs.Disks.{holds_first}
 use Rattle.cdf_format.specs.Fields.{eof, gdr_offset, word}
 use Rattle.cdf_format.proofs.FileRecords.{gdr_holds}
@@ -90,8 +85,8 @@ module _ {U : Type 0} (new check no_save space : Bool) (name file : List ℕ) (d
 -- ---- an image as it is saved
 
 -- its checksum stands behind it where it has one
-seal_is : (b : List ℕ) (seal : Option (List ℕ)) → seal ≡ seal_of b → b ++ tail_bytes seal ≡ sealed b
-seal_is b seal is = ap (λ (s : Option (List ℕ)). b ++ tail_bytes s) is ∙ ap (λ (t : List ℕ). b ++ t) (bytes (has_checksum b))
+pub seal_is : (b : List ℕ) (seal : Option (List ℕ)) → seal ≡ seal_of b → tail_bytes seal ≡ trailer b
+seal_is b seal is = ap tail_bytes is ∙ bytes (has_checksum b)
   where
     bytes : (used : Bool) → tail_bytes (if used then Some (md5 b) else None) ≡ (if used then md5 b else [])
     bytes true = refl
@@ -117,55 +112,7 @@ saved_already d b whole held holds good front =
     let bytes : f ≡ sealed b = sym (sealed_is_file f holds) ∙ sym (ap sealed (front_is_image f b holds good front)) in
     subst (λ (file : List ℕ). Holds d file d) bytes (holds_first d whole held)
 
--- ---- a saving
-
-between_new : (old new : List ℕ) → IsBetween old new new
-between_new old new = record { long = inr (omega arith); short = inr (omega arith); each = λ i lt. inr (lt, refl); grown = λ lt. absurd (omega (arith, lt)) }
-
-module _ {U : Type 0} (end : List ℕ) (seal : Option (List ℕ)) (d d' now : Disk U) (is : seal ≡ seal_of end) (same : d' ≡ now) where
-  bytes_are : end ++ tail_bytes seal ≡ sealed end
-  bytes_are = seal_is end seal is
-
-  -- only changed pages were written, which differ, and the checksum
-  pub rewrites : (changed : ℕ → Bool) → ((number : ℕ) → IsTrue (changed number) → Differs (file_of d) end number) → Touches (IsChangedRange changed (length end) (length (tail_bytes seal))) d.touched now.touched → Rewrites (file_of d) end d d'
-  rewrites changed differs written =
-      subst (λ (x : Disk U). Rewrites (file_of d) end d x) (sym same) (touches_weaker (IsChangedRange changed (length end) (length (tail_bytes seal))) (IsRewritten (file_of d) end) d.touched now.touched each written)
-    where
-      long : length end + length (tail_bytes seal) ≡ length (sealed end)
-      long = sym (length-append end (tail_bytes seal)) ∙ ap (λ (l : List ℕ). length l) bytes_are
-
-      each : (range : ℕ × ℕ) → IsChangedRange changed (length end) (length (tail_bytes seal)) range → IsRewritten (file_of d) end range
-      each range (inl page) = inl (page.0, differs page.0 page.1, page.2)
-      each range (inr tail) = inr (tail.0, subst (λ (n : ℕ). range.0 + range.1 ≤ n) long tail.1)
-
-  pub saved_done : (refused : Bool) (status : Status) → status ≡ status_of refused → Holds d (end ++ tail_bytes seal) now → Rewrites (file_of d) end d d' → EndsSaving refused end d d' status
-  saved_done true status ends holds written = subst (λ (s : Status). EndsSaving true end d d' s) (sym ends) (refl, transport (λ i. Holds d (bytes_are i) (sym same i)) holds, written)
-  saved_done false status ends holds written = subst (λ (s : Status). EndsSaving false end d d' s) (sym ends) (refl, transport (λ i. Holds d (bytes_are i) (sym same i)) holds, written)
-
-  pub saved_in_part : HoldsBetween d (end ++ tail_bytes seal) now → HoldsBetween d (sealed end) d'
-  saved_in_part holds = transport (λ i. HoldsBetween d (bytes_are i) (sym same i)) holds
-
-  -- all was written
-  pub saved_whole : Holds d (end ++ tail_bytes seal) now → HoldsBetween d (sealed end) d'
-  saved_whole holds = record { bytes = sealed end; between = between_new (file_of d) (sealed end); holds = transport (λ i. Holds d (bytes_are i) (sym same i)) holds }
-
-  -- and nothing
-  pub saved_none : Holds d (file_of d) now → HoldsBetween d (sealed end) d'
-  saved_none holds = record { bytes = file_of d; between = between_same (file_of d) (sealed end); holds = subst (Holds d (file_of d)) (sym same) holds }
-
-  pub failed_between : (was_kept : Bool) (error : SaveError) → error ≡ errors.Failed was_kept → FailsSaving {T = Unit {0}} d (end ++ tail_bytes seal) now (Err error) → HoldsBetween d (sealed end) d'
-  failed_between true error e fails = saved_none (subst (λ (x : SaveError). FailsSaving {T = Unit {0}} d (end ++ tail_bytes seal) now (Err x)) e fails)
-  failed_between false error e fails = saved_in_part (subst (λ (x : SaveError). FailsSaving {T = Unit {0}} d (end ++ tail_bytes seal) now (Err x)) e fails)
-
-  -- what is left then
-  pub left_whole : Holds d (end ++ tail_bytes seal) now → file_of d' ≡ sealed end
-  left_whole holds = ap (λ (x : Disk U). file_of x) same ∙ ap file_in holds.held_is ∙ bytes_are
-
-  pub left_none : Holds d (file_of d) now → file_of d' ≡ file_of d
-  left_none holds = ap (λ (x : Disk U). file_of x) same ∙ ap file_in holds.held_is
-
-  pub left_part : HoldsBetween d (end ++ tail_bytes seal) now → IsBetween (file_of d) (sealed end) (file_of d')
-  left_part holds = transport (λ i. IsBetween (file_of d) (bytes_are i) ((sym (ap file_in holds.holds.held_is) ∙ sym (ap (λ (x : Disk U). file_of x) same)) i)) holds.between
+-- ---- an image that is saved already
 
 none_written : {U : Type 0} (file end : List ℕ) (d d' : Disk U) → d' ≡ d → Rewrites file end d d'
 none_written file end d d' same = touches_none (IsRewritten file end) d.touched d'.touched (ap (λ (x : Disk _). x.touched) same)
@@ -189,36 +136,3 @@ both_are false no_save is = absurd (cc is)
 pub saves : (new no_save : Bool) → (new && no_save) ≡ false → new ≡ true → no_save ≡ false
 saves true no_save is asks = is
 saves false no_save is asks = absurd (cc asks)
-
--- ---- what is told of a saving that failed
-
-pub none_left : (what : Option Left) (old new now : List ℕ) (status : Status) → TellsLeft what old new now status → status ≢ statuses.StoreWriteFault → what ≡ None
-none_left what old new now statuses.StoreWriteFault told no_six = absurd (no_six refl)
-none_left what old new now statuses.Done told no_six = told
-none_left what old new now statuses.SomeRefused told no_six = told
-none_left what old new now statuses.Usage told no_six = told
-none_left what old new now statuses.NoFile told no_six = told
-none_left what old new now statuses.Rejected told no_six = told
-none_left what old new now statuses.StoreReadFault told no_six = told
-none_left what old new now statuses.OutputFault told no_six = told
-none_left what old new now statuses.NoMemory told no_six = told
-none_left what old new now statuses.ScriptFault told no_six = told
-none_left what old new now statuses.ScriptTooLong told no_six = told
-
--- and of another run
-pub left_of : (what : Option Left) (old new now : List ℕ) (status : Status) → what ≡ None → status ≢ statuses.StoreWriteFault → TellsLeft what old new now status
-left_of what old new now statuses.StoreWriteFault told no_six = absurd (no_six refl)
-left_of what old new now statuses.Done told no_six = told
-left_of what old new now statuses.SomeRefused told no_six = told
-left_of what old new now statuses.Usage told no_six = told
-left_of what old new now statuses.NoFile told no_six = told
-left_of what old new now statuses.Rejected told no_six = told
-left_of what old new now statuses.StoreReadFault told no_six = told
-left_of what old new now statuses.OutputFault told no_six = told
-left_of what old new now statuses.NoMemory told no_six = told
-left_of what old new now statuses.ScriptFault told no_six = told
-left_of what old new now statuses.ScriptTooLong told no_six = told
-
-pub end_is_no_six : (refused : Bool) → status_of refused ≢ statuses.StoreWriteFault
-end_is_no_six true is = cc
-end_is_no_six false is = cc

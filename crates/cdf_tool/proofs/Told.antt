@@ -2,7 +2,7 @@
 use Rattle.cdf_tool.proofs.Common.{AdoptError, AreaError, Bool, Breaks, Broken, Disk, EndsSaving, EndsStored, Err, IfOk, IfSome, List, Names, None, Ok, Option, Refusals, Refuses, Result, SaysRejected, Some, Status, Tells, ap, false, file_of, old_file, refl, rejected_text, status_from, status_of, status_of_area, subst, sym, true, was_refused, ℕ, ◌∙◌, ◌≡◌, ◌≢◌}
 use Rattle.cdf_area.specs.declared.area.AreaError.TheVariants as areas
 use Rattle.cdf_session.specs.declared.refusal.AdoptError.TheVariants as errors
-use Rattle.cdf_tool.specs.declared.status.Status.TheVariants as statuses
+use Rattle.cdf_saving.specs.declared.status.Status.TheVariants as statuses
 
 -- ---- statuses of no rejected file
 

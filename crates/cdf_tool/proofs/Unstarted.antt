@@ -1,6 +1,6 @@
 -- A run that had no memory to read its words.
 use Rattle.cdf_tool.proofs.Common.{Asked, Bool, Disk, Ends, EndsAsked, List, None, Option, Outlets, Some, Without, false, inl, is_some, refl, true, ℕ, ◌≡◌}
-use Rattle.cdf_tool.specs.declared.status.Status.TheVariants as statuses
+use Rattle.cdf_saving.specs.declared.status.Status.TheVariants as statuses
 
 pub unnamed : (name held : Option (List ℕ)) → is_some name ≡ is_some held → held ≡ None → name ≡ None
 unnamed None held same free = refl

@@ -9,14 +9,14 @@ use Rattle.cdf_format.specs.WellFormed.{Good}
 use Rattle.cdf_model.specs.Lines.{lines}
 use Rattle.cdf_model.specs.Taps.{Tap}
 use Rattle.cdf_session.specs.Run.{flagged, run_of}
+use Rattle.cdf_saving.specs.Statuses.{IsDone}
+use Rattle.cdf_saving.specs.declared.status.Status.TheVariants as statuses
+use Rattle.cdf_saving.specs.declared.status.Status.{Status}
 use Rattle.cdf_words.specs.Asking.{Asked}
-use Rattle.cdf_tool.specs.declared.status.Status.{Status}
-use Rattle.cdf_tool.specs.declared.status.Status.TheVariants as statuses
 use Rattle.cdf_tool.specs.Ends.{Opens}
 use Rattle.cdf_tool.specs.Idle.{IsUnmoved, all_idle}
 use Rattle.cdf_tool.specs.Outlets.{Outlets}
 use Rattle.cdf_tool.specs.Script.{last_line}
-use Rattle.cdf_tool.specs.Statuses.{IsDone}
 use Rattle.cdf_tool.specs.Stored.{Stored}
 
 -- The file was opened, or a new one made. From its image the script led to another one, which was stored, and the text of the run over the data set with the taps was written, then the line on space where it is asked for, and nothing else. The last image is good, and means the data set that the run ends with, and the taps are left that it leaves. Where no line changed anything, nothing was written to the store.

@@ -5,22 +5,21 @@ use Rattle.std.specs.declared.result.Result.{Result}
 use Rattle.cdf_format.specs.Sealed.{image_of, sealed}
 use Rattle.cdf_format.specs.WellFormed.{Good}
 use Rattle.cdf_model.specs.Limits.{image_limit}
-use Rattle.cdf_pages.specs.Saving.{Holds, HoldsBetween}
 use Rattle.cdf_session.specs.Sessions.{IsNoVerdict}
 use Rattle.cdf_session.specs.Sessions.{Rejects as RejectedFor}
 use Rattle.cdf_session.specs.declared.refusal.AdoptError.{AdoptError}
 use Rattle.cdf_store.specs.Disk.{Disk, file_of}
-use Rattle.cdf_tool.specs.declared.notes.Left.{Left}
-use Rattle.cdf_tool.specs.declared.refusals.Refusals.{Refusals}
-use Rattle.cdf_tool.specs.declared.status.Status.{Status}
-use Rattle.cdf_tool.specs.declared.status.Status.TheVariants as statuses
+use Rattle.cdf_saving.specs.Refusing.{was_refused}
+use Rattle.cdf_saving.specs.Saved.{EndsSaving, TellsLeft}
+use Rattle.cdf_saving.specs.Statuses.{status_of}
+use Rattle.cdf_saving.specs.declared.notes.Left.{Left}
+use Rattle.cdf_saving.specs.declared.refusals.Refusals.{Refusals}
+use Rattle.cdf_saving.specs.declared.status.Status.TheVariants as statuses
+use Rattle.cdf_saving.specs.declared.status.Status.{Status}
 use Rattle.cdf_tool.specs.Ends.{EndsUnread, Opens}
 use Rattle.cdf_tool.specs.Idle.{IfIdle}
 use Rattle.cdf_tool.specs.Outlets.{Outlets}
-use Rattle.cdf_tool.specs.Refusing.{was_refused}
 use Rattle.cdf_tool.specs.Script.{FinishesWith, HaltsWith}
-use Rattle.cdf_tool.specs.Statuses.{status_of}
-use Rattle.cdf_tool.specs.Stored.{Rewrites, TellsLeft}
 
 -- why no session began: no new file is rejected, and another one only for a rule that it breaks
 abbrev pub Refuses : Bool → List ℕ → AdoptError → Type 0
@@ -43,15 +42,6 @@ pub record Halted (new space : Bool) (file : List ℕ) (before left : Option (Li
 abbrev pub EndsOver : Bool → Bool → List ℕ → Option (List ℕ) → Option (List ℕ) → Outlets → Outlets → List ℕ → Result Refusals Status → Type 0
 EndsOver new space file before left first now end (Ok refusals) = Finished new space file before left first end (was_refused refusals) now
 EndsOver new space file before left first now end (Err status) = ((left ≡ before) × (now.taps ≡ first.taps) × EndsUnread new file first.written now.written status) ⊎ Halted new space file before left first now status
-
--- A run whose script was answered is saved, or that fails. Of the file only what differs is written.
-abbrev pub EndsSaving : {U : Type 0} → Bool → List ℕ → Disk U → Disk U → Status → Type 0
-EndsSaving refused end d d' statuses.Done = (refused ≡ false) × Holds d (sealed end) d' × Rewrites (file_of d) end d d'
-EndsSaving refused end d d' statuses.SomeRefused = (refused ≡ true) × Holds d (sealed end) d' × Rewrites (file_of d) end d d'
-EndsSaving refused end d d' statuses.StoreWriteFault = HoldsBetween d (sealed end) d' × Rewrites (file_of d) end d d'
-EndsSaving refused end d d' statuses.StoreReadFault = d' ≡ d
-EndsSaving refused end d d' statuses.NoMemory = d' ≡ d
-EndsSaving refused end d d' other = ⊥
 
 -- what becomes of the store once a run ended so over an area
 abbrev pub EndsStored : {U : Type 0} → Bool → List ℕ → Disk U → Disk U → Result Refusals Status → Status → Type 0

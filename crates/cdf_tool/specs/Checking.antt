@@ -7,12 +7,12 @@ use Rattle.cdf_format.specs.WellFormed.{WellFormed}
 use Rattle.cdf_model.specs.Texts.{◌⧺◌, newline}
 use Rattle.cdf_store.specs.Disk.{Disk}
 use Rattle.cdf_store.specs.Written.{AppendsFront}
+use Rattle.cdf_saving.specs.Statuses.{Exactly}
+use Rattle.cdf_saving.specs.declared.status.Status.TheVariants as statuses
+use Rattle.cdf_saving.specs.declared.status.Status.{Status}
 use Rattle.cdf_words.specs.Asking.{Asked}
-use Rattle.cdf_tool.specs.declared.status.Status.{Status}
-use Rattle.cdf_tool.specs.declared.status.Status.TheVariants as statuses
 use Rattle.cdf_tool.specs.Ends.{EndsUnread, Unread, Without}
 use Rattle.cdf_tool.specs.Script.{last_line}
-use Rattle.cdf_tool.specs.Statuses.{Exactly}
 use Rattle.cdf_tool.specs.Stored.{Attached}
 
 abbrev pub yes_text : List ℕ

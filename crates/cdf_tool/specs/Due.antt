@@ -6,8 +6,8 @@ use Rattle.cdf_store.specs.Disk.{Disk}
 use Rattle.cdf_store.specs.Named.{lookup, with_made}
 use Rattle.cdf_format.specs.WellFormed.{WellFormed}
 use Rattle.cdf_words.specs.Asking.{Asked}
-use Rattle.cdf_tool.specs.declared.status.Status.{Status}
-use Rattle.cdf_tool.specs.declared.status.Status.TheVariants as statuses
+use Rattle.cdf_saving.specs.declared.status.Status.{Status}
+use Rattle.cdf_saving.specs.declared.status.Status.TheVariants as statuses
 
 -- the store is called, but where no file is named, and for a new one that is not saved
 abbrev pub calls_store : Option Asked → Bool

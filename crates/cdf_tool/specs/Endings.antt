@@ -2,8 +2,8 @@
 use Rattle.std.specs.Prelude.{◌≡◌, ℕ, List, Bool, true, false, Some, None}
 use Rattle.std.specs.declared.option.Option.{Option}
 use Rattle.cdf_store.specs.Disk.{Disk}
+use Rattle.cdf_saving.specs.declared.status.Status.{Status}
 use Rattle.cdf_words.specs.Asking.{Asked}
-use Rattle.cdf_tool.specs.declared.status.Status.{Status}
 use Rattle.cdf_tool.specs.Checking.{EndsChecked}
 use Rattle.cdf_tool.specs.Ends.{EndsNamed}
 use Rattle.cdf_tool.specs.Outlets.{Outlets}

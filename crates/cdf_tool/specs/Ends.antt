@@ -10,15 +10,16 @@ use Rattle.cdf_format.specs.Sealed.{image_of, sealed}
 use Rattle.cdf_format.specs.WellFormed.{Good, WellFormed}
 use Rattle.cdf_model.specs.Limits.{image_limit}
 use Rattle.cdf_model.specs.Texts.{no_file_text}
+use Rattle.cdf_saving.specs.Saved.{IsLeft}
+use Rattle.cdf_saving.specs.declared.notes.Left.{Left}
+use Rattle.cdf_saving.specs.declared.status.Status.TheVariants as statuses
+use Rattle.cdf_saving.specs.declared.status.Status.{Status}
 use Rattle.cdf_words.specs.Asking.{Asked}
-use Rattle.cdf_tool.specs.declared.status.Status.{Status}
-use Rattle.cdf_tool.specs.declared.status.Status.TheVariants as statuses
-use Rattle.cdf_tool.specs.declared.notes.Left.{Left}
 use Rattle.cdf_tool.specs.Idle.{IfIdle, IsUnmoved}
 use Rattle.cdf_tool.specs.Outlets.{Outlets}
 use Rattle.cdf_tool.specs.Says.{Rejects, rejection}
 use Rattle.cdf_tool.specs.Script.{FinishesWith, HaltsWith}
-use Rattle.cdf_tool.specs.Stored.{IsLeft, Kept, Spoiled, Stored, Unattached}
+use Rattle.cdf_tool.specs.Stored.{Kept, Spoiled, Stored, Unattached}
 
 -- ---- over a file
 

@@ -11,8 +11,8 @@ use Rattle.cdf_model.specs.Step.{ByStep, Route, step}
 use Rattle.cdf_session.specs.Built.{built}
 use Rattle.cdf_session.specs.Run.{turn}
 use Rattle.cdf_store.specs.Disk.{Disk}
-use Rattle.cdf_tool.specs.declared.status.Status.{Status}
-use Rattle.cdf_tool.specs.declared.status.Status.TheVariants as statuses
+use Rattle.cdf_saving.specs.declared.status.Status.TheVariants as statuses
+use Rattle.cdf_saving.specs.declared.status.Status.{Status}
 use Rattle.cdf_tool.specs.Reading.{IfAll, line_reads, reads}
 
 -- ---- over a data set

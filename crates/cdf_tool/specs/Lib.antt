@@ -1,6 +1,3 @@
-pub mod Statuses
-pub mod Refusing
-pub mod Counts
 pub mod Gathering
 pub mod Outlets
 pub mod Replay

@@ -6,8 +6,8 @@ use Rattle.cdf_store.specs.Disk.{Disk}
 use Rattle.cdf_edits.specs.Follows.{only_reads}
 use Rattle.cdf_model.specs.Grammar.{Asks, Parsed, parse}
 use Rattle.cdf_model.specs.Lines.{lines}
-use Rattle.cdf_tool.specs.declared.status.Status.{Status}
-use Rattle.cdf_tool.specs.declared.status.Status.TheVariants as statuses
+use Rattle.cdf_saving.specs.declared.status.Status.{Status}
+use Rattle.cdf_saving.specs.declared.status.Status.TheVariants as statuses
 
 abbrev pub reads : Parsed → Bool
 reads (Asks c) = only_reads c

@@ -16,8 +16,8 @@ use Rattle.cdf_script.specs.declared.parsing.Parsed.TheVariants as forms
 use Rattle.cdf_session.specs.Run.{turn, run_on}
 use Rattle.cdf_lines.specs.declared.line.Line.{Line}
 use Rattle.cdf_lines.specs.Pending.{Pending, GivesLine, line_of}
-use Rattle.cdf_tool.specs.declared.status.Status.{Status}
-use Rattle.cdf_tool.specs.declared.status.Status.TheVariants as statuses
+use Rattle.cdf_saving.specs.declared.status.Status.TheVariants as statuses
+use Rattle.cdf_saving.specs.declared.status.Status.{Status}
 use Rattle.cdf_tool.specs.Gathering.{Gathers}
 use Rattle.cdf_tool.specs.Outlets.{Outlets}
 

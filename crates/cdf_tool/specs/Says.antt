@@ -8,8 +8,8 @@ use Rattle.cdf_check.specs.declared.verdict.Broken.{Broken}
 use Rattle.cdf_format.specs.WellFormed.{Breaks}
 use Rattle.cdf_model.specs.declared.space.Space.{Space}
 use Rattle.cdf_model.specs.Texts.{◌⧺◌, newline, usage_text, no_file_text, rejected_text}
-use Rattle.cdf_tool.specs.declared.status.Status.{Status}
-use Rattle.cdf_tool.specs.declared.status.Status.TheVariants as statuses
+use Rattle.cdf_saving.specs.declared.status.Status.{Status}
+use Rattle.cdf_saving.specs.declared.status.Status.TheVariants as statuses
 
 -- how the program is called was written, or a part of it, or there was no memory to read the words
 abbrev pub SaysUsage : Option (List ℕ) → Option (List ℕ) → Status → Type 0

@@ -8,8 +8,8 @@ use Rattle.cdf_store.specs.Written.{AppendsFront}
 use Rattle.cdf_model.specs.Limits.{script_limit}
 use Rattle.cdf_model.specs.Lines.{lines, whole_lines}
 use Rattle.cdf_model.specs.Texts.{space_text}
-use Rattle.cdf_tool.specs.declared.status.Status.{Status}
-use Rattle.cdf_tool.specs.declared.status.Status.TheVariants as statuses
+use Rattle.cdf_saving.specs.declared.status.Status.TheVariants as statuses
+use Rattle.cdf_saving.specs.declared.status.Status.{Status}
 use Rattle.cdf_tool.specs.Taking.{piece_limit}
 use Rattle.cdf_tool.specs.Outlets.{Outlets}
 use Rattle.cdf_tool.specs.Replay.{Replies, Stops}

@@ -3,8 +3,8 @@ use Rattle.std.specs.Prelude.{◌≡◌, ◌⊎◌, ℕ, List, ◌++◌}
 use Rattle.std.specs.declared.option.Option.{Option}
 use Rattle.cdf_store.specs.Written.{IsFront}
 use Rattle.cdf_model.specs.Taps.{Tap}
-use Rattle.cdf_tool.specs.declared.status.Status.{Status}
-use Rattle.cdf_tool.specs.declared.status.Status.TheVariants as statuses
+use Rattle.cdf_saving.specs.declared.status.Status.TheVariants as statuses
+use Rattle.cdf_saving.specs.declared.status.Status.{Status}
 use Rattle.cdf_tool.specs.Outlets.{Outlets}
 use Rattle.cdf_tool.specs.Replay.{Wrote}
 use Rattle.cdf_walk.specs.declared.error.WalkError.{WalkError}

@@ -4,14 +4,11 @@ use Rattle.std.specs.Option.{option_map}
 use Rattle.std.specs.declared.option.Option.{Option}
 use Rattle.cdf_store.specs.Disk.{Disk}
 use Rattle.cdf_store.specs.Named.{files_attached, found_or_made, lookup, with_file}
-use Rattle.cdf_pages.specs.Saving.{Differs, IsBetween, LiesIn, Touches}
+use Rattle.cdf_pages.specs.Saving.{Differs, IsBetween, LiesIn}
 use Rattle.cdf_format.specs.Sealed.{image_of, sealed}
 use Rattle.cdf_format.specs.WellFormed.{Good}
 use Rattle.cdf_words.specs.Asking.{Asked}
-use Rattle.cdf_tool.specs.declared.notes.Left.{Left}
-use Rattle.cdf_tool.specs.declared.notes.Left.TheVariants as lefts
-use Rattle.cdf_tool.specs.declared.status.Status.{Status}
-use Rattle.cdf_tool.specs.declared.status.Status.TheVariants as statuses
+use Rattle.cdf_saving.specs.Saved.{Rewrites}
 
 -- over a store that tells its files this is the file under the name, or an empty one that was made
 abbrev pub IsFound : Asked → Option (List (List ℕ × List ℕ)) → List ℕ → Type 0
@@ -54,14 +51,6 @@ KeptBy false no_save a file d d' = Attached a file d d'
 abbrev pub Kept : {U : Type 0} → Asked → List ℕ → Disk U → Disk U → Type 0
 Kept a file d d' = KeptBy a.new a.no_save a file d d'
 
--- a range lies in a page in which the image has a byte that the file had not there, or behind the image in its checksum
-abbrev pub IsRewritten : List ℕ → List ℕ → ℕ × ℕ → Type 0
-IsRewritten file image range = ((number : ℕ) × Differs file image number × LiesIn number range) ⊎ ((length image ≤ range.0) × (range.0 + range.1 ≤ length (sealed image)))
-
--- only such ranges were written
-abbrev pub Rewrites : {U : Type 0} → List ℕ → List ℕ → Disk U → Disk U → Type 0
-Rewrites file image d d' = Touches (IsRewritten file image) d.touched d'.touched
-
 -- a range lies in a page in which a file has a byte by now that the old one had not there, or behind the image that it holds
 abbrev pub IsChanged : List ℕ → List ℕ → ℕ × ℕ → Type 0
 IsChanged old now range = ((number : ℕ) × Differs old now number × LiesIn number range) ⊎ ((length (image_of now) ≤ range.0) × (range.0 + range.1 ≤ length now))
@@ -81,15 +70,3 @@ pub record Spoiled {U : Type 0} (a : Asked) (file end : List ℕ) (d d' : Disk U
   pub between : IsBetween file (sealed end) now
   pub replaced : Replaced a file now d d'
   pub touched : Rewrites file end d d'
-
--- what a saving that failed left of the old bytes and of the new ones: all old ones, some of both, or all new ones
-abbrev pub IsLeft : Option Left → List ℕ → List ℕ → List ℕ → Type 0
-IsLeft None old new now = ⊥
-IsLeft (Some lefts.Old) old new now = now ≡ old
-IsLeft (Some lefts.Part) old new now = IsBetween old new now
-IsLeft (Some lefts.Unsynced) old new now = now ≡ new
-
--- it is told where a saving failed, and of no other run
-abbrev pub TellsLeft : Option Left → List ℕ → List ℕ → List ℕ → Status → Type 0
-TellsLeft what old new now statuses.StoreWriteFault = IsLeft what old new now
-TellsLeft what old new now other = what ≡ None

@@ -4,8 +4,8 @@ use Rattle.std.specs.declared.option.Option.{Option}
 use Rattle.std.specs.Io.KnownBytes.{Consumes, IsAtEnd}
 use Rattle.cdf_lines.specs.Pending.{Pending, fed, finished}
 use Rattle.cdf_model.specs.Limits.{script_limit}
-use Rattle.cdf_tool.specs.declared.status.Status.{Status}
-use Rattle.cdf_tool.specs.declared.status.Status.TheVariants as statuses
+use Rattle.cdf_saving.specs.declared.status.Status.{Status}
+use Rattle.cdf_saving.specs.declared.status.Status.TheVariants as statuses
 
 -- the most bytes of a script that are taken before they are answered
 abbrev pub piece_limit : ℕ

@@ -3,18 +3,16 @@
 ghost use Rattle.std.specs.Prelude.{◌≡◌, ℕ, true, map, IfOk, IfErr, OnOk};
 ghost use Rattle.std.specs.Io.KnownBytes.{Appends};
 ghost use Rattle.cdf_area.specs.Calls.{Stays};
-ghost use Rattle.cdf_tool.specs.Counts.{CountedIn, counts};
+ghost use Rattle.cdf_saving.specs.Counts.{CountedIn, counts};
+ghost use Rattle.cdf_saving.specs.Refusing.{was_refused};
 ghost use Rattle.cdf_tool.specs.Idle.{IfIdle};
 ghost use Rattle.cdf_tool.specs.Outlets.{with_taps};
-ghost use Rattle.cdf_tool.specs.Refusing.{was_refused};
 ghost use Rattle.cdf_tool.specs.Script.{FinishesWith, HaltsWith, LineStops, last_line};
 
-use crate::Status;
-use crate::refusals::Refusals;
 use crate::say::say_space;
 use crate::script::run_script;
-use crate::status::area_status;
 use cdf_area::Area;
+use cdf_saving::{Refusals, Status, area_status};
 use cdf_session::Session;
 use cdf_store::{Sink, Source};
 use cdf_tap::Tap;

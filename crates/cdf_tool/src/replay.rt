@@ -13,11 +13,11 @@ ghost use Rattle.cdf_tool.specs.Answering.{IsAnswer, IsReplyOf, RepliesTo};
 ghost use Rattle.cdf_tool.specs.Idle.{asks_idly, line_idles};
 ghost use Rattle.cdf_tool.specs.Replay.{IsSayable, IsShort, asked_by};
 
-use crate::refusals::{LineMark, RefusedLine, mark_of};
 use cdf_area::{Area, AreaError};
 use cdf_lines::Line;
 use cdf_model::{Bytes, Command, LineError, Outcome, Reason};
 use cdf_reply::reply_text;
+use cdf_saving::{LineMark, RefusedLine};
 use cdf_script::{ParseError, Parsed, parse};
 use cdf_session::Session;
 use cdf_tap::{Tap, has_tap};
@@ -190,5 +190,19 @@ pub fn answer_line<A: Area>(
         Ok(parsed) => answer_parsed(alloc, session, line, taps, parsed),
         Err(ParseError::Bad { fault }) => Ok(answer_to_fault(alloc, line, fault)?),
         Err(ParseError::NoMemory) => Err(AreaError::NoMemory),
+    }
+}
+
+/// What a line looks like.
+fn mark_of(line: &Line<'_>) -> Option<LineMark> {
+    let text = line.text;
+    if text.starts_with(b"\xEF\xBB\xBF") {
+        Some(LineMark::ByteOrderMark)
+    } else if text.starts_with(b"\xFF\xFE") || text.starts_with(b"\xFE\xFF") {
+        Some(LineMark::Utf16)
+    } else if text.ends_with(b"\r") {
+        Some(LineMark::CarriageReturn)
+    } else {
+        None
     }
 }

@@ -4,14 +4,14 @@ ghost use Rattle.std.specs.Prelude.{◌≡◌, ◌++◌, ℕ, [], IfOk, IfErr, O
 ghost use Rattle.std.specs.Option.{option_map_or};
 ghost use Rattle.std.specs.Io.KnownBytes.{Appends};
 ghost use Rattle.cdf_model.specs.Texts.{rejected_text, space_text};
+ghost use Rattle.cdf_saving.specs.Counts.{Counted, CountedIn, counts};
 ghost use Rattle.cdf_tool.specs.Checking.{SaysAccepted, yes_text};
-ghost use Rattle.cdf_tool.specs.Counts.{Counted, CountedIn, counts};
 ghost use Rattle.cdf_tool.specs.Says.{SaysUsage, SaysNoFile, SaysRejected, listed_text, unlisted_text, used_text};
 ghost use Rattle.cdf_tool.specs.Script.{LineStops};
 
-use crate::Status;
 use cdf_check::Broken;
 use cdf_model::Space;
+use cdf_saving::Status;
 use cdf_store::{Failed, Sink, write_all};
 use std::alloc::{AllocError, Global};
 

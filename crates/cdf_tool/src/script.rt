@@ -3,23 +3,21 @@
 ghost use Rattle.std.specs.Prelude.{◌≡◌, ◌≤◌, ℕ, [], true, false, is_some, map, IsTrue, IfOk, IfErr, OnOk};
 ghost use Rattle.cdf_area.specs.Calls.{Stays};
 ghost use Rattle.cdf_lines.specs.Pending.{line_of};
-ghost use Rattle.cdf_tool.specs.Counts.{CountedIn, counts};
+ghost use Rattle.cdf_saving.specs.Counts.{CountedIn, counts};
+ghost use Rattle.cdf_saving.specs.Refusing.{was_refused};
 ghost use Rattle.cdf_tool.specs.Taking.{Takes, TakesNone};
 ghost use Rattle.cdf_tool.specs.Idle.{IfIdle, all_idle_over, line_idles};
 ghost use Rattle.cdf_tool.specs.Outlets.{with_taps};
 ghost use Rattle.cdf_tool.specs.Replay.{AreShort, GathersReply, GivesNext, IsDrained, IsShort, PassesAll, Replies as AllReplies, Stops, StopsAt};
-ghost use Rattle.cdf_tool.specs.Refusing.{was_refused};
 ghost use Rattle.cdf_tool.specs.Script.{Finishes, Halts};
 
-use crate::Status;
-use crate::refusals::{Refusals, RefusedLine};
 use crate::replay::{Answer, answer_line};
 use crate::replies::Replies;
 use crate::showing::{dump, report};
-use crate::status::area_status;
 use cdf_area::Area;
 use cdf_lines::{Line, Lines};
 use cdf_model::limits::SCRIPT_LIMIT;
+use cdf_saving::{Refusals, RefusedLine, Status, area_status};
 use cdf_script::is_blank_line;
 use cdf_session::Session;
 use cdf_store::{Failed, Sink, Source};

@@ -9,15 +9,15 @@ ghost use Rattle.cdf_model.specs.Taps.{has_tap, left_after, told};
 ghost use Rattle.cdf_model.specs.Texts.{done_text, end_text, framed};
 ghost use Rattle.cdf_store.specs.Written.{AppendsFront};
 ghost use Rattle.cdf_tap.specs.Meanings.{kinds_of};
-ghost use Rattle.cdf_tool.specs.Counts.{CountedIn, counts};
+ghost use Rattle.cdf_saving.specs.Counts.{CountedIn, counts};
 ghost use Rattle.cdf_tool.specs.Outlets.{with_taps};
 ghost use Rattle.cdf_tool.specs.Showing.{StopsReply, WrotePart, status_of_walk};
 
-use crate::Status;
 use crate::replies::Replies;
 use cdf_area::Area;
 use cdf_model::{Outcome, Reply};
 use cdf_reply::reply_text;
+use cdf_saving::Status;
 use cdf_session::Session;
 use cdf_store::{Failed, Sink, write_all};
 use cdf_tap::Tap;

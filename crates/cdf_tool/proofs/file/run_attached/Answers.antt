@@ -1,11 +1,12 @@
 use Rattle.cdf_tool.proofs.Common.{Disk, Err, Frame, List, None, Option, Some, [], ap, file_of, image_limit, image_of, inl, inr, length, line_idles, option_map, refl, subst, sym, ℕ, ◌∙◌, ◌≡◌}
 use Rattle.std.proofs.Common.{IsSome}
-use Rattle.cdf_tool.specs.declared.status.Status.TheVariants as statuses
+use Rattle.cdf_saving.specs.declared.status.Status.TheVariants as statuses
 use Rattle.cdf_tool.proofs.AreaLemmas.{attached_holds}
 use Rattle.cdf_tool.proofs.CountLemmas.{counted_attached, no_write}
 use Rattle.cdf_tool.proofs.EndLemmas.{attached_all, over_not_done}
 use Rattle.cdf_tool.proofs.OnlyReads.{if_all}
-use Rattle.cdf_tool.proofs.StoredLemmas.{held_file, none_left}
+use Rattle.cdf_tool.proofs.StoredLemmas.{held_file}
+use Rattle.cdf_saving.proofs.SavedLemmas.{none_left}
 use Rattle.cdf_tool.proofs.Told.{stored_tells, untold_at_end}
 use Rattle.cdf_tool.proofs.file.run_attached.Goals as goal
 

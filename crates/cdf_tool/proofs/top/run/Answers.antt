@@ -1,5 +1,5 @@
 use Rattle.cdf_tool.proofs.Common.{Bool, ask, asked_for, false, image_limit, image_of, inl, line_idles, line_reads, lookup, map, not, refl, string_bytes, true, ◌&&◌, ◌≡◌}
-use Rattle.cdf_tool.specs.declared.status.Status.TheVariants as statuses
+use Rattle.cdf_saving.specs.declared.status.Status.TheVariants as statuses
 use Rattle.cdf_tool.proofs.AskedLemmas.{accepts_checked, check_ends, check_leaves, if_some, named_looked, old_called, run_ends, unsaved_run, untouched_old}
 use Rattle.cdf_tool.proofs.Changes.{run_changes, unstarted_changes, unwritten_changes}
 use Rattle.cdf_tool.proofs.CheckLemmas.{checks, usage_not_done}

@@ -2,8 +2,8 @@
 use Rattle.std.specs.Prelude.{◌≡◌, ◌≤◌, ℕ, Ok, Err}
 use Rattle.std.specs.declared.result.Result.{Result}
 use Rattle.cdf_base.specs.Causes.{Rose}
-use Rattle.cdf_tool.specs.declared.status.Status.{Status}
-use Rattle.cdf_tool.specs.declared.status.Status.TheVariants as statuses
+use Rattle.cdf_saving.specs.declared.status.Status.{Status}
+use Rattle.cdf_saving.specs.declared.status.Status.TheVariants as statuses
 
 -- how often the store failed as it was read and as it was written, the sink, and the source
 pub record Counts : Type 0 where

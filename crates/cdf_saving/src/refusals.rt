@@ -1,9 +1,8 @@
 //! The lines of a script that were refused.
 
 ghost use Rattle.std.specs.Prelude.{◌≡◌, ◌||◌, is_some, false};
-ghost use Rattle.cdf_tool.specs.Refusing.{was_refused};
+ghost use Rattle.cdf_saving.specs.Refusing.{was_refused};
 
-use cdf_lines::Line;
 use cdf_model::Reason;
 
 /// What a refused line looks like, where that tells more than the reason.
@@ -37,20 +36,6 @@ pub struct Refusals {
     pub refused: u64,
     /// The first line that was refused.
     pub first: Option<RefusedLine>,
-}
-
-/// What a line looks like.
-pub fn mark_of(line: &Line<'_>) -> Option<LineMark> {
-    let text = line.text;
-    if text.starts_with(b"\xEF\xBB\xBF") {
-        Some(LineMark::ByteOrderMark)
-    } else if text.starts_with(b"\xFF\xFE") || text.starts_with(b"\xFE\xFF") {
-        Some(LineMark::Utf16)
-    } else if text.ends_with(b"\r") {
-        Some(LineMark::CarriageReturn)
-    } else {
-        None
-    }
 }
 
 impl Refusals {

@@ -1,6 +1,7 @@
-use Rattle.cdf_tool.proofs.Common.{was_refused, ◌∙◌}
-use Rattle.cdf_tool.proofs.StoredLemmas.{failed_between, rewrites, saved_done, saved_whole}
-use Rattle.cdf_tool.proofs.saving.write.Goals as goal
+use Rattle.std.proofs.Common.{◌∙◌}
+use Rattle.cdf_saving.proofs.SavedLemmas.{failed_between, rewrites, saved_done, saved_whole}
+use Rattle.cdf_saving.specs.Refusing.{was_refused}
+use Rattle.cdf_saving.proofs.saving.write.Goals as goal
 
 pub returns-in-Ok-sync_written-clause-ends : goal.returns-in-Ok-sync_written-clause-ends
 returns-in-Ok-sync_written-clause-ends g c =

@@ -1,8 +1,8 @@
 //! The statuses of a run, and their numbers.
 
 ghost use Rattle.std.specs.Prelude.{◌≡◌, IsTrue, IsFalse};
-ghost use Rattle.cdf_tool.specs.Refusing.{was_refused};
-ghost use Rattle.cdf_tool.specs.Statuses.{IsDone, number_of, status_of, status_of_area};
+ghost use Rattle.cdf_saving.specs.Refusing.{was_refused};
+ghost use Rattle.cdf_saving.specs.Statuses.{IsDone, number_of, status_of, status_of_area};
 
 use crate::refusals::Refusals;
 use cdf_area::AreaError;

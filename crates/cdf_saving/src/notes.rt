@@ -1,7 +1,7 @@
 //! What is known of a run beside its status.
 
 ghost use Rattle.std.specs.Prelude.{◌≡◌, Some, None, false};
-ghost use Rattle.cdf_tool.specs.Refusing.{was_refused};
+ghost use Rattle.cdf_saving.specs.Refusing.{was_refused};
 
 use crate::refusals::Refusals;
 use cdf_check::Broken;

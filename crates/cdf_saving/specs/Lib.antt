@@ -1,0 +1,4 @@
+pub mod Statuses
+pub mod Refusing
+pub mod Counts
+pub mod Saved
