@@ -127,15 +127,27 @@ module _ {ps : List (Vec ℕ Global)} {i : ℕ} {p : Vec ℕ Global} (r : At ps 
     | inr full ↦ omega (arith, lt, full)
   ]
 
+  -- the bytes from a place in the piece on
+  from : (o : ℕ) → o ≤ length p.items → drop (i * 65536 + o) (joined ps) ≡ drop o p.items ++ r.rest
+  from o le =
+      ap (drop (i * 65536 + o)) r.whole ∙ ap (λ m. drop (m + o) (r.front ++ (p.items ++ r.rest))) (sym r.long) ∙ drop-append-add r.front (p.items ++ r.rest) o
+      ∙ drop-append-le o p.items r.rest le
+
+  -- bytes that lie in the piece
+  lend : (o n : ℕ) → o + n ≤ 65536 → i * 65536 + o + n ≤ length (joined ps) → (o + n ≤ length p.items) × (take n (drop o p.items) ≡ take n (drop (i * 65536 + o) (joined ps)))
+  lend o n fits inside =
+      let there : o + n ≤ length p.items = elim (cases_lt (length p.items) 65536) [
+        | inl short ↦ omega (arith, count, inside, last_count short)
+        | inr full ↦ omega (arith, fits, full)
+      ] in
+      (there, sym (ap (take n) (from o (omega (arith, there))) ∙ take-append-le n (drop o p.items) r.rest (omega (arith, there, length-drop o p.items))))
+
   read : (o n : ℕ) (out : List ℕ) → o < 65536 → o ≤ length p.items → ReadsPiece p.items o out n → ReadsPiece (joined ps) (i * 65536 + o) out n
   read o n out lt le given =
       let some : n ≤ length (drop o p.items) = omega (arith, given.fits, ap (λ (l : List ℕ). length l) given.bytes, length-take n out, length-take n (drop o p.items)) in
-      let there : drop (i * 65536 + o) (joined ps) ≡ drop o p.items ++ r.rest =
-      ap (drop (i * 65536 + o)) r.whole ∙ ap (λ m. drop (m + o) (r.front ++ (p.items ++ r.rest))) (sym r.long) ∙ drop-append-add r.front (p.items ++ r.rest) o
-      ∙ drop-append-le o p.items r.rest le in
       record {
         fits = given.fits;
-        bytes = given.bytes ∙ sym (ap (take n) there ∙ take-append-le n (drop o p.items) r.rest some);
+        bytes = given.bytes ∙ sym (ap (take n) (from o le) ∙ take-append-le n (drop o p.items) r.rest some);
         none = λ zero. elim (given.none zero) [
           | inl full ↦ inl full
           | inr past ↦ inr (omega (arith, count, past, lt, last_count (omega (arith, past, lt))))
@@ -196,6 +208,12 @@ module _ (ps : List (Vec ℕ Global)) (place : ℕ) (p : Vec ℕ Global) (are : 
 
   pub read_piece : (n : ℕ) (out : List ℕ) → ReadsPiece p.items (place % 65536) out n → ReadsPiece (joined ps) place out n
   read_piece n out given = subst (λ m. ReadsPiece (joined ps) m out n) split (read piece (place % 65536) n out (omega arith) piece_place given)
+
+  pub lend_piece : (n : ℕ) → place % 65536 + n ≤ 65536 → place + n ≤ length (joined ps)
+      → (place % 65536 + n ≤ length p.items) × (take n (drop (place % 65536) p.items) ≡ take n (drop place (joined ps)))
+  lend_piece n fits ends =
+      let (inside, bytes) = lend piece (place % 65536) n fits (omega (arith, split, ends)) in
+      (inside, bytes ∙ ap (λ m. take n (drop m (joined ps))) split)
 
   pub put_piece : (q : Vec ℕ Global) (xs : List ℕ) → place % 65536 + length xs ≤ 65536 → 65536 ≤ vec_capacity q → q.items ≡ put p.items (place % 65536) xs → Put ps place q xs
   put_piece q xs fits room items =

@@ -1,6 +1,7 @@
 //! The files of the system as a store.
 
-ghost use Rattle.std.specs.Prelude.{◌≡◌, ◌≤◌, ◌||◌, IsFalse, None};
+ghost use Rattle.std.specs.Prelude.{◌≡◌, ◌≤◌, ◌||◌, true, refl, IsFalse, None};
+ghost use Rattle.std.proofs.Common.{inr};
 ghost use Rattle.cdf_store.specs.Disk.{Disk};
 ghost use Rattle.cdf_store.specs.HeldFile.{bytes_in, name_in, room_in, same_is_some};
 
@@ -119,9 +120,13 @@ where
 
     ghost synced = { λ s. s.synced };
 
+    ghost lends = { true };
+
     ghost also = { TellsWhy };
 
     ghost whole = { λ s. record { named = same_is_some s.held; distinct = tt; listed = tt } };
+
+    ghost untold = { λ _. inr refl };
 
     fn attach(&mut self, name: &str, make: bool) -> Result<Option<u64>, AttachError> {
         let opened = attach_file(&self.rt, self.alloc, name, make);
@@ -157,6 +162,13 @@ where
         match &self.held {
             None => Ok(0),
             Some(held) => Ok(held.pieces.copy_from(place, out)),
+        }
+    }
+
+    fn lend(&self, place: u64, count: usize) -> Option<&[u8]> {
+        match &self.held {
+            None => Some(&[]),
+            Some(held) => Some(held.pieces.part(place, count)),
         }
     }
 

@@ -1,6 +1,7 @@
 //! A store in memory.
 
-ghost use Rattle.std.specs.Prelude.{◌≡◌, ◌+◌, ◌≤◌, ◌∷◌, ◌++◌, [], IfSome, OnOk, OnErr, Some, None, false, vec_len, vec_capacity};
+ghost use Rattle.std.specs.Prelude.{◌≡◌, ◌+◌, ◌≤◌, ◌∷◌, ◌++◌, [], IfSome, OnOk, OnErr, Some, None, false, refl, vec_len, vec_capacity};
+ghost use Rattle.std.proofs.Common.{inl};
 ghost use Rattle.std.specs.Option.{option_copied, option_map};
 ghost use Rattle.cdf_store.specs.Named.{lookup, with_file};
 ghost use Rattle.cdf_store.specs.Disk.{Disk};
@@ -130,6 +131,8 @@ impl Store for MemStore {
 
     ghost synced = { λ s. s.synced };
 
+    ghost lends = { false };
+
     ghost also = { CallsAsPlanned };
 
     ghost whole = { λ s. record {
@@ -137,6 +140,8 @@ impl Store for MemStore {
       distinct = s.files.distinct;
       listed = s.files.listed;
     } };
+
+    ghost untold = { λ _. inl refl };
 
     fn attach(&mut self, name: &str, make: bool) -> Result<Option<u64>, AttachError> {
         if self.plan.next_fails() {
@@ -168,6 +173,11 @@ impl Store for MemStore {
         let count = copy_from(self.files.bytes(), place, out);
         self.taken = self.taken.saturating_add(count as u64);
         Ok(count)
+    }
+
+    // Nothing, so that each byte that is read counts.
+    fn lend(&self, _place: u64, _count: usize) -> Option<&[u8]> {
+        None
     }
 
     fn write_at(&mut self, place: u64, bytes: &[u8]) -> Result<(), Failed> {

@@ -1,6 +1,6 @@
 //! The bytes of a file in pieces.
 
-ghost use Rattle.std.specs.Prelude.{◌≡◌, ◌+◌, ◌*◌, ◌%◌, ◌≤◌, ◌<◌, [], ◌++◌, length, max, take, OnOk, OnErr, vec_capacity};
+ghost use Rattle.std.specs.Prelude.{◌≡◌, ◌+◌, ◌*◌, ◌%◌, ◌≤◌, ◌<◌, [], ◌++◌, length, max, take, drop, OnOk, OnErr, vec_capacity};
 ghost use Rattle.cdf_base.specs.Bytes.{put};
 ghost use Rattle.cdf_store.specs.Pieces.{Roomed};
 ghost use Rattle.cdf_store.specs.Reading.{ReadsPiece};
@@ -66,6 +66,20 @@ impl Pieces {
             return 0;
         }
         copy::copy_from(&self.list[(place / PIECE) as usize], place % PIECE, out)
+    }
+
+    /// Bytes that lie in one piece, where they stand.
+    pub fn part(&self, place: u64, count: usize) -> &[u8]
+        requires inside { place + count ≤ length self.now.bytes }
+        requires piece { place % 65536 + count ≤ 65536 }
+        ensures { result.now ≡ take count (drop place self.now.bytes) }
+    {
+        if count == 0 {
+            return &[];
+        }
+        let piece = &self.list[(place / PIECE) as usize];
+        let start = (place % PIECE) as usize;
+        &piece[start..start + count]
     }
 
     /// Makes room up to an end.

@@ -1,6 +1,6 @@
 //! What a store is.
 
-ghost use Rattle.std.specs.Prelude.{◌≡◌, ◌≤◌, ◌+◌, ◌↔◌, ℕ, List, Bool, length, take, is_err, IsSome, IsOk, IsTrue, IsFalse, OnOk, OnErr, IfOk, IfErr, IfSome};
+ghost use Rattle.std.specs.Prelude.{◌≡◌, ◌≤◌, ◌+◌, ◌%◌, ◌⊎◌, ◌↔◌, ℕ, List, Bool, false, None, length, take, drop, is_err, is_some, IsSome, IsOk, IsTrue, IsFalse, OnOk, OnErr, IfOk, IfErr, IfSome};
 ghost use Rattle.std.specs.Option.{option_map};
 ghost use Rattle.std.specs.declared.option.Option.{Option};
 ghost use Rattle.cdf_base.specs.Causes.{HasCause, HasCauseOf};
@@ -53,6 +53,9 @@ pub trait Store {
 
     /// Whether the attached file is stored as it stands: `sync` alone makes it so, and a write or a cut ends it.
     ghost synced: { Self → Bool };
+
+    /// Whether the device has the bytes of the attached file in memory and lends them.
+    ghost lends: { Bool };
 
     /// What a device says of each call beyond these clauses: of itself before and after, and whether it failed, or `None` for
     /// `reserve`, which cannot fail by a fault.
@@ -114,6 +117,14 @@ pub trait Store {
         ensures write { write_faults self.new ≡ write_faults self.old }
         ensures synced { IsTrue (synced self.new) → IsTrue (synced self.old) }
         ensures also { also self.old self.new (Some (is_err result)) };
+
+    /// Lends bytes of the attached file, which lie in one page of 65,536 bytes, where the device has them in memory, so that they
+    /// need not be copied. It takes no memory and cannot fail.
+    fn lend(&self, place: u64, count: usize) -> Option<&[u8]>
+        requires inside { place + count ≤ length (file_of (disk self.now)) }
+        requires page { place % 65536 + count ≤ 65536 }
+        ensures lent { is_some result ≡ lends }
+        ensures bytes { IfSome result (λ bytes. bytes.now ≡ take count (drop place (file_of (disk self.now)))) };
 
     /// Writes bytes of the attached file from `place` on, for which room was made. It takes no memory. After a fault the front
     /// of the bytes may have been written.
@@ -181,4 +192,7 @@ pub trait Store {
     /// A file is attached under a name. Where the device tells its files, no name stands twice, and the attached file is the
     /// one of its name.
     ghost whole: { (s : Self) → IsWhole (disk s) };
+
+    /// A device that lends does not tell what reads give.
+    ghost untold: { (s : Self) → (lends ≡ false) ⊎ (taken s ≡ None) };
 }
