@@ -6,7 +6,7 @@ unfoldable pub use Rattle.cdf_base.specs.Bytes.{put}
 pub use Rattle.cdf_pages.specs.Grown.{Grown, Owned, RemovesSome}
 unfoldable pub use Rattle.cdf_pages.specs.Grown.{removed}
 pub use Rattle.cdf_pages.specs.Growth.{Grows, HasBehind, HasTailBehind, HoldsGrown, pages_to}
-pub use Rattle.cdf_pages.specs.Pages.{AllShow, Backed, Covers, Shows, TakesAtMost, byte_from, byte_of, is_in, part_from, part_upto, was}
+pub use Rattle.cdf_pages.specs.Pages.{AllServe, Backed, Covers, Serves, Shows, TakesAtMost, byte_from, byte_of, is_in, part_from, part_upto, was}
 unfoldable pub use Rattle.cdf_pages.specs.Pages.{image_of, listed}
 pub use Rattle.cdf_pages.specs.Saving.{Differs, FailsSaving, HasNothingToSave, HasSaveCause, Holds, HoldsBetween, IsBetween, IsChangedRange, IsSavedAlready, LiesIn, Touches, tail_bytes}
 pub use Rattle.cdf_pages.specs.Table.{pages_before}

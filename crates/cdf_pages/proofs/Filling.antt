@@ -31,6 +31,11 @@ pub backed_live : (size k long m : ℕ) → ((j : ℕ) → j < 65536 → k * 655
 backed_live size k long m h e some =
     let last : k * 65536 + (m - 1) < long = h (m - 1) (omega (arith, e)) (omega (arith, e, some)) in omega (arith, last, some)
 
+-- some bytes of a page lie in the file
+pub backed_part : (size k off long m : ℕ) → ((j : ℕ) → j < 65536 → k * 65536 + j < size → k * 65536 + j < long) → 0 < m → off + m ≤ 65536 → k * 65536 + off + m ≤ size → k * 65536 + off + m ≤ long
+backed_part size k off long m h some room inside =
+    let last : k * 65536 + (off + m - 1) < long = h (off + m - 1) (omega arith) (omega arith) in omega (arith, last, some)
+
 pub takes_live : (a b : Option ℕ) (size k long m : ℕ) → ((j : ℕ) → j < 65536 → k * 65536 + j < size → k * 65536 + j < long) → m ≡ min 65536 (size - k * 65536)
     → TakesAtMost a b m → TakesAtMost a b (min 65536 (long - k * 65536))
 takes_live a b size k long m h e t = elim (cases_lt 0 m) [

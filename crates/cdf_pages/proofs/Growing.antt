@@ -1,5 +1,5 @@
 -- Pages become changed ones, one after another.
-use Rattle.cdf_pages.proofs.Common.{All, All-cons, All-head, All-tail, Backed, Bool, Contains-promoted, Contains-put_entries, Covers, Grown, IsDistinct, List, LruCache, None, Old, Option, Owned, RemovesSome, Shows, Some, [], ap, arith, byte_of, cases_lt, cond, eq-eqb, eqb-true, false, inl, inr, is_some, keys_of, length, lookup, nat_eq, part_from, part_upto, promoted, put_entries, refl, remove_entry, removed, slice_index, subst, suc, sym, true, zero, ℕ, ◌*◌, ◌+◌, ◌-◌, ◌/◌, ◌<◌, ◌∙◌, ◌∷◌, ◌≡◌, ◌≤◌, ◌⊎◌}
+use Rattle.cdf_pages.proofs.Common.{All, AllServe, All-cons, All-head, All-tail, Backed, Bool, Contains-promoted, Contains-put_entries, Covers, Grown, IsDistinct, List, LruCache, None, Old, Option, Owned, RemovesSome, Serves, Some, [], ap, arith, byte_of, cases_lt, cond, eq-eqb, eqb-true, false, inl, inr, is_some, keys_of, length, lookup, nat_eq, part_from, part_upto, promoted, put_entries, refl, remove_entry, removed, subst, suc, sym, true, zero, ℕ, ◌+◌, ◌-◌, ◌/◌, ◌<◌, ◌∙◌, ◌∷◌, ◌≡◌, ◌≤◌, ◌⊎◌}
 use Rattle.std.proofs.Common.{IsSome}
 use Rattle.std.specs.Cmp.{nat_eq_equiv}
 use Rattle.std.proofs.lemmas.Map.{lookup-remove_entry}
@@ -120,12 +120,19 @@ was_backed p p' file file' marked marked' n n' ef en em same b m e =
     let old = b m is in
     (omega (arith, old.0, en), kept_backed p p' file file' m m ef refl (λ q none. sym (same (ap is_some is) q) ∙ none) old.1)
 
-pub kept_shows : (p p' : ℕ → Option (List ℕ)) (file file' : List ℕ) (n n' : ℕ) (es es' : List (ℕ × List ℕ)) → file' ≡ file → n' ≡ n
-    → ((q : ℕ) (x : List ℕ) → lookup (nat_eq q) es' ≡ Some x → lookup (nat_eq q) es ≡ Some x) → ((q : ℕ) (x : List ℕ) → lookup (nat_eq q) es' ≡ Some x → p' q ≡ p q)
-    → ((q : ℕ) (x : List ℕ) → lookup (nat_eq q) es ≡ Some x → (p q ≡ None) × Shows file n q x) → (q : ℕ) (x : List ℕ) → lookup (nat_eq q) es' ≡ Some x → (p' q ≡ None) × Shows file' n' q x
-kept_shows p p' file file' n n' es es' ef en fewer apart old q x e =
+-- what is kept of pages serves for the same file
+pub serves_file : (lends : Bool) (file file' : List ℕ) (n n' k : ℕ) (kept : Option (List ℕ)) → file' ≡ file → n' ≡ n → Serves lends file n k kept → Serves lends file' n' k kept
+serves_file lends file file' n n' k kept ef en serves = subst (λ (f : List ℕ). Serves lends f n' k kept) (sym ef) (subst (λ (m : ℕ). Serves lends file m k kept) (sym en) serves)
+
+pub serves_same : (lends : Bool) (p : ℕ → Option (List ℕ)) (file file' : List ℕ) (n : ℕ) (es : List (ℕ × Option (List ℕ))) → file ≡ file' → AllServe lends p file n es → AllServe lends p file' n es
+serves_same lends p file file' n es ef serves q kept e = let r = serves q kept e in (r.0, serves_file lends file file' n n q kept (sym ef) refl r.1)
+
+pub kept_serves : (lends : Bool) (p p' : ℕ → Option (List ℕ)) (file file' : List ℕ) (n n' : ℕ) (es es' : List (ℕ × Option (List ℕ))) → file' ≡ file → n' ≡ n
+    → ((q : ℕ) (x : Option (List ℕ)) → lookup (nat_eq q) es' ≡ Some x → lookup (nat_eq q) es ≡ Some x) → ((q : ℕ) (x : Option (List ℕ)) → lookup (nat_eq q) es' ≡ Some x → p' q ≡ p q)
+    → AllServe lends p file n es → AllServe lends p' file' n' es'
+kept_serves lends p p' file file' n n' es es' ef en fewer apart old q x e =
     let was = old q x (fewer q x e) in
-    (apart q x e ∙ was.0, λ j lt low. was.1 j lt (omega (arith, low, en)) ∙ ap (λ (f : List ℕ). slice_index f (q * 65536 + j)) (sym ef))
+    (apart q x e ∙ was.0, serves_file lends file file' n n' q x ef en was.1)
 
 module _ {X : Type 0} (q : ℕ) (x : X) (es : List (ℕ × X)) (once : IsDistinct nat_eq (keys_of es)) where
   pub promoted_old : (k : ℕ) → lookup (nat_eq q) (promoted (nat_eq k) es) ≡ Some x → lookup (nat_eq q) es ≡ Some x

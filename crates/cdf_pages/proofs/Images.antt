@@ -1,5 +1,5 @@
 -- Images in pages.
-use Rattle.cdf_pages.proofs.Common.{List, None, Option, Shows, Some, [], ap, ap₂, arith, byte-put_after, byte-put_before, byte-put_inside, byte_from, byte_of, cases_lt, drop, drop_all, get_or, get_or-drop, get_or-take, get_or_default, image_of, inl, inr, is_some, length, length-drop, length-put, length-replicate, length-take-le, listed, min, put, put_more, refl, replicate, replicate-append-replicate, same_lists, slice_index, suc, sym, take, take-append-drop, take_at, zero, ℕ, ◌%◌, ◌*◌, ◌++◌, ◌+◌, ◌-◌, ◌/◌, ◌<◌, ◌∙◌, ◌∷◌, ◌≡◌, ◌≤◌, ◌⊎◌}
+use Rattle.cdf_pages.proofs.Common.{Bool, List, None, Option, Serves, Shows, Some, [], ap, ap₂, arith, byte-put_after, byte-put_before, byte-put_inside, byte_from, byte_of, cases_lt, drop, drop_all, get_or, get_or-drop, get_or-take, get_or_default, image_of, inl, inr, is_some, length, length-drop, length-put, length-replicate, length-take-le, listed, min, put, put_more, refl, replicate, replicate-append-replicate, same_lists, slice_index, suc, sym, take, take-append-drop, take_at, zero, ℕ, ◌%◌, ◌*◌, ◌++◌, ◌+◌, ◌-◌, ◌/◌, ◌<◌, ◌∙◌, ◌∷◌, ◌≡◌, ◌≤◌, ◌⊎◌}
 use Rattle.std.proofs.lemmas.List.{append-nil}
 use lib.Seq.{take-add}
 use Rattle.cdf_pages.proofs.Filling.{false_not_true}
@@ -163,6 +163,10 @@ shown_part file page k off (suc m) size shows long room inside backed =
     let last : k * 65536 + (off + m) < length file = backed (off + m) (omega arith) (omega arith) in
     window page file off (k * 65536 + off) (suc m) (omega (arith, long)) (omega (arith, last)) (λ j lt.
     shows (off + j) (omega arith) (omega arith) ∙ ap (slice_index file) (omega arith))
+
+-- what is kept of a page serves for a shorter image too
+pub serves_part : (lends : Bool) (file : List ℕ) (size less k : ℕ) (kept : Option (List ℕ)) → less ≤ size → Serves lends file size k kept → Serves lends file less k kept
+serves_part lends file size less k kept le serves = (serves.0, λ page is j lt low. serves.1 page is j lt (omega arith))
 
 -- what was read of a page shows the file
 pub load_shows : (file page : List ℕ) (k size live : ℕ) → live ≡ min 65536 (size - k * 65536) → length page ≡ 65536 → take live page ≡ take live (drop (k * 65536) file) → Shows file size k page

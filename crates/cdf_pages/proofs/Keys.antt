@@ -76,6 +76,14 @@ used_missing {X = X} k c v cap none =
     ∙ ap (λ (l : List ℕ). k ∷ l) (map_take (c.cap - 1) c.entries ∙ ap (λ n. take (n - 1) (keys_of c.entries)) cap)
     ∙ sym (ap (λ (l : List ℕ). take 256 (k ∷ l)) (without_none k (keys_of c.entries) gone))
 
+-- a page that is not there is not missed
+pub removed_none : {X : Type 0} (k : ℕ) (es : List (ℕ × X)) → lookup (nat_eq k) es ≡ None → remove_entry (nat_eq k) es ≡ es
+removed_none k [] none = refl
+removed_none k (e ∷ es) none = elim (cases_Bool (nat_eq k e.0)) [
+  | inl same ↦ (let no : Some e.1 ≡ None = rw same at none in cc)
+  | inr apart ↦ rw apart (ap (λ l. e ∷ l) (removed_none k es (rw apart at none)))
+]
+
 -- a page stays in the cache while others leave it
 lookup-apart : {X : Type 0} (q k : ℕ) (es : List (ℕ × X)) → (k ≡ q → ⊥) → lookup (nat_eq q) (remove_entry (nat_eq k) es) ≡ lookup (nat_eq q) es
 lookup-apart q k [] ne = refl

@@ -8,6 +8,7 @@ pub mod Growing
 pub mod Grew
 pub mod Images
 pub mod Keys
+pub mod Lent
 pub mod SavedArea
 pub mod SavedPage
 pub mod Settled

@@ -1,24 +1,29 @@
 -- What a save leaves of an area.
-use Rattle.cdf_pages.proofs.Common.{AllShow, Backed, Bool, Disk, HasNothingToSave, Holds, IsSavedAlready, IsSome, IsWhole, List, None, Option, Some, [], ap, append-nil, arith, byte_from, byte_of, false, file_of, get_or, image_of, is_in, is_some, length, option_map, refl, slice_index, subst, sym, take_all, ℕ, ◌*◌, ◌++◌, ◌+◌, ◌/◌, ◌<◌, ◌∙◌, ◌≡◌, ◌≤◌}
+use Rattle.cdf_pages.proofs.Common.{AllServe, Backed, Bool, Disk, HasNothingToSave, Holds, IsSavedAlready, IsSome, IsWhole, List, None, Option, Serves, Some, [], ap, append-nil, arith, byte_from, byte_of, false, file_of, get_or, image_of, is_in, is_some, length, option_map, refl, slice_index, subst, sym, take_all, ℕ, ◌*◌, ◌++◌, ◌+◌, ◌/◌, ◌<◌, ◌∙◌, ◌≡◌, ◌≤◌}
 use Rattle.cdf_pages.proofs.Disks.{holds_first}
 use Rattle.cdf_pages.proofs.Filling.{none_is}
 use Rattle.cdf_pages.proofs.Images.{byte-image, image_file, image_size}
 use Rattle.cdf_pages.proofs.SavedPage.{all_backed}
 
--- what a page that is no changed one shows stays in the file
-pub saved_shows : (p p' : ℕ → Option (List ℕ)) (file file' : List ℕ) (n n' : ℕ) (clean : List (ℕ × List ℕ)) → n' ≡ n → image_of p' file' n ≡ image_of p file n → ((q : ℕ) → p q ≡ None → p' q ≡ None) → AllShow p file n clean → AllShow p' file' n' clean
-saved_shows p p' file file' n n' clean len same less shows q page e =
-    let old = shows q page e in
-    let gone = less q old.0 in (
-      gone,
-      λ j lt low.
-          let i = q * 65536 + j in
-          let here : i / 65536 ≡ q = omega (arith, lt) in
-          let within : i < n = omega (arith, low, len) in
-          let before : byte_of p file i ≡ slice_index file i = ap (λ m. byte_from (p m) file i) here ∙ ap (λ o. byte_from o file i) old.0 in
-          let after : byte_of p' file' i ≡ slice_index file' i = ap (λ m. byte_from (p' m) file' i) here ∙ ap (λ o. byte_from o file' i) gone in
-          old.1 j lt within ∙ sym before ∙ sym (byte-image p file n i 0 within) ∙ sym (ap (λ (l : List ℕ). get_or l i 0) same) ∙ byte-image p' file' n i 0 within ∙ after,
-    )
+-- what is kept of a page that is no changed one serves for the saved file too
+module _ (lends : Bool) (p p' : ℕ → Option (List ℕ)) (file file' : List ℕ) (n n' : ℕ) (len : n' ≡ n) (same : image_of p' file' n ≡ image_of p file n) where
+  saved_page : (q : ℕ) (kept : Option (List ℕ)) → p q ≡ None → p' q ≡ None → Serves lends file n q kept → Serves lends file' n' q kept
+  saved_page q kept was now serves = (
+    serves.0,
+    λ page is j lt low.
+        let i = q * 65536 + j in
+        let here : i / 65536 ≡ q = omega (arith, lt) in
+        let within : i < n = omega (arith, low, len) in
+        let before : byte_of p file i ≡ slice_index file i = ap (λ m. byte_from (p m) file i) here ∙ ap (λ o. byte_from o file i) was in
+        let after : byte_of p' file' i ≡ slice_index file' i = ap (λ m. byte_from (p' m) file' i) here ∙ ap (λ o. byte_from o file' i) now in
+        serves.1 page is j lt within ∙ sym before ∙ sym (byte-image p file n i 0 within) ∙ sym (ap (λ (l : List ℕ). get_or l i 0) same) ∙ byte-image p' file' n i 0 within ∙ after,
+  )
+
+  pub saved_serves : (clean : List (ℕ × Option (List ℕ))) → ((q : ℕ) → p q ≡ None → p' q ≡ None) → AllServe lends p file n clean → AllServe lends p' file' n' clean
+  saved_serves clean less serves q kept e =
+      let old = serves q kept e in
+      let gone = less q old.0 in
+      (gone, saved_page q kept old.0 gone old.1)
 
 -- nothing was to be written
 pub saved_whole : {U : Type 0} (d : Disk U) (p : ℕ → Option (List ℕ)) (n : ℕ) → IsWhole d → IsSome d.held → ((q : ℕ) → is_in p q ≡ false) → Backed p (length (file_of d)) n → length (file_of d) ≤ length (image_of p (file_of d) n)

@@ -1,5 +1,5 @@
 -- An image in pages of 65,536 bytes: some pages are changed ones, and all other bytes are those of a file.
-use Rattle.std.specs.Prelude.{◌≡◌, ◌⊎◌, ℕ, Bool, is_some, zero, suc, min, ◌+◌, ◌-◌, ◌*◌, ◌/◌, ◌%◌, ◌<◌, ◌≤◌, List, [], ◌∷◌, length, nat_eq, slice_index, Some, None}
+use Rattle.std.specs.Prelude.{◌≡◌, ◌⊎◌, ℕ, Bool, true, is_some, zero, suc, min, ◌+◌, ◌-◌, ◌*◌, ◌/◌, ◌%◌, ◌<◌, ◌≤◌, List, [], ◌∷◌, length, nat_eq, slice_index, Some, None}
 use Rattle.std.specs.Map.{lookup}
 use Rattle.std.specs.declared.option.Option.{Option}
 use Rattle.std.specs.Option.{option_map}
@@ -52,9 +52,13 @@ Backed pages long n = (i : ℕ) → i < n → pages (i / 65536) ≡ None → i <
 abbrev pub Shows : List ℕ → ℕ → ℕ → List ℕ → Type 0
 Shows file n number page = (j : ℕ) → j < 65536 → number * 65536 + j < n → slice_index page j ≡ slice_index file (number * 65536 + j)
 
--- each page that is kept beside the changed ones is none of them, and shows the file
-abbrev pub AllShow : (ℕ → Option (List ℕ)) → List ℕ → ℕ → List (ℕ × List ℕ) → Type 0
-AllShow pages file n clean = (number : ℕ) → (page : List ℕ) → lookup (nat_eq number) clean ≡ Some page → (pages number ≡ None) × Shows file n number page
+-- What is kept of a page serves for it: bytes that show what stands in the file, or none, where the device lends those of the file.
+abbrev pub Serves : Bool → List ℕ → ℕ → ℕ → Option (List ℕ) → Type 0
+Serves lends file n number kept = (kept ≡ None → lends ≡ true) × ((page : List ℕ) → kept ≡ Some page → Shows file n number page)
+
+-- each page that is kept beside the changed ones is none of them, and serves
+abbrev pub AllServe : Bool → (ℕ → Option (List ℕ)) → List ℕ → ℕ → List (ℕ × Option (List ℕ)) → Type 0
+AllServe lends pages file n clean = (number : ℕ) → (kept : Option (List ℕ)) → lookup (nat_eq number) clean ≡ Some kept → (pages number ≡ None) × Serves lends file n number kept
 
 -- a count of bytes, where it is told, rose by at most n
 abbrev pub TakesAtMost : Option ℕ → Option ℕ → ℕ → Type 0

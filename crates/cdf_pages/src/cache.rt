@@ -1,4 +1,4 @@
-//! The pages of the file that were read, as many as stand in memory.
+//! The pages of the file that were read, as many as are kept.
 
 ghost use Rattle.std.specs.Prelude.{◌≡◌, ◌<◌, ◌^◌, [], length, nat_eq, Some, OnOk, OnErr, IfOk, slice_get};
 ghost use Rattle.std.specs.Option.{is_some, option_map};
@@ -12,22 +12,23 @@ use std::alloc::{AllocError, Global};
 use std::marker::Model;
 use std::num::NonZeroUsize;
 
-/// How many pages that were only read stand in memory.
+/// How many pages that were only read are kept.
 const CLEAN_PAGES: usize = 256;
 
-/// At most 256 pages by their numbers, the one that was used last in front.
+/// At most 256 pages by their numbers, the one that was used last in front. `None` stands for one that the device lends, of which
+/// no bytes are kept.
 #[derive(Drop)]
 pub struct Cache {
-    pages: LruCache<u64, Page>,
+    pages: LruCache<u64, Option<Page>>,
     /// The page that left last, whose memory serves the next one that is read.
     spare: Option<Page>,
 }
 
 impl Model for Cache {
-    ghost use Rattle.std.specs.Prelude.{◌≡◌, ℕ, List};
+    ghost use Rattle.std.specs.Prelude.{◌≡◌, ℕ, List, Option};
     ghost use Rattle.lru.specs.LruCache.{LruCache};
 
-    ghost Value = { LruCache ℕ (List ℕ) };
+    ghost Value = { LruCache ℕ (Option (List ℕ)) };
 
     ghost view = { λ cache. cache.pages };
 }
@@ -60,14 +61,14 @@ impl Cache {
     }
 
     /// The page in front.
-    pub fn first(&self) -> Option<(&u64, &Page)>
+    pub fn first(&self) -> Option<(&u64, &Option<Page>)>
         ensures { option_map deref_pair result ≡ slice_get self.now.entries 0 }
     {
         self.pages.peek_mru()
     }
 
     /// Takes a page out.
-    pub fn pop(&mut self, number: &u64) -> Option<Page>
+    pub fn pop(&mut self, number: &u64) -> Option<Option<Page>>
         ensures value { result ≡ lookup (nat_eq number.now) self.old.entries }
         ensures entries { self.new ≡ lru_cache (remove_entry (nat_eq number.now) self.old.entries) self.old.cap }
     {
@@ -75,11 +76,11 @@ impl Cache {
     }
 
     /// Puts a page in front, and lets the last one go where there are too many.
-    pub fn put(&mut self, number: u64, page: Page) -> Result<(), AllocError>
+    pub fn put(&mut self, number: u64, page: Option<Page>) -> Result<(), AllocError>
         ensures entries { OnOk result (self.new ≡ lru_cache (put_entries nat_eq self.old number page) self.old.cap) }
         ensures err { OnErr result (self.new ≡ self.old) }
     {
-        if let Some((_, last)) = self.pages.push(number, page)? {
+        if let Some((_, Some(last))) = self.pages.push(number, page)? {
             self.spare = Some(last);
         }
         Ok(())

@@ -1,6 +1,6 @@
 //! Making pages changed ones before they are written.
 
-ghost use Rattle.std.specs.Prelude.{◌≡◌, ◌+◌, ◌-◌, ◌*◌, ◌≤◌, ◌<◌, ◌^◌, ◌⊎◌, ℕ, List, length, min, nat_eq, if◌then◌else◌, Some, None, IsSome, OnOk, IfOk};
+ghost use Rattle.std.specs.Prelude.{◌≡◌, ◌+◌, ◌-◌, ◌*◌, ◌≤◌, ◌<◌, ◌^◌, ◌⊎◌, ℕ, List, Option, length, min, nat_eq, if◌then◌else◌, Some, None, IsSome, OnOk, IfOk};
 ghost use Rattle.std.specs.Option.{is_some};
 ghost use Rattle.std.specs.Map.{keys_of, lookup, remove_entry};
 ghost use Rattle.std.specs.Ordering.{nat_cmp};
@@ -8,7 +8,7 @@ ghost use Rattle.std.specs.BTreeMap.{get};
 ghost use Rattle.cdf_base.specs.Causes.{HasCauseOf};
 ghost use Rattle.cdf_store.specs.Disk.{file_of};
 ghost use Rattle.cdf_pages.specs.Grown.{Grown, Owned, RemovesSome, removed};
-ghost use Rattle.cdf_pages.specs.Pages.{Backed, Covers, Shows, TakesAtMost, is_in};
+ghost use Rattle.cdf_pages.specs.Pages.{AllServe, Backed, Covers, Serves, Shows, TakesAtMost, is_in};
 ghost use Rattle.cdf_pages.specs.Standing.{cost_of_writing};
 ghost use Rattle.cdf_pages.specs.Table.{page_at};
 
@@ -29,7 +29,7 @@ fn take_page<S: Store>(
     number: u64,
 ) -> Result<Page, AreaError>
     requires fits { number * 65536 < 2 ^ 64 }
-    requires shows { (page : List ℕ) → lookup (nat_eq number) clean.old.entries ≡ Some page → Shows (file_of (S.disk store.old)) size number page }
+    requires serves { (kept : Option (List ℕ)) → lookup (nat_eq number) clean.old.entries ≡ Some kept → Serves S.lends (file_of (S.disk store.old)) size number kept }
     requires backed { (j : ℕ) → j < 65536 → number * 65536 + j < size → number * 65536 + j < length (file_of (S.disk store.old)) }
     ensures page { IfOk result (λ page. Shows (file_of (S.disk store.old)) size number page) }
     ensures clean { clean.new.entries ≡ remove_entry (nat_eq number) clean.old.entries }
@@ -39,7 +39,7 @@ fn take_page<S: Store>(
     ensures cause { HasCauseOf AreaError.Fault (S.read_faults store.old) (S.read_faults store.new) result }
     ensures write { S.write_faults store.new ≡ S.write_faults store.old }
 {
-    if let Some(page) = clean.pop(&number) {
+    if let Some(page) = clean.pop(&number).flatten() {
         return Ok(page);
     }
     let live = live_bytes(size, number);
@@ -58,7 +58,7 @@ fn own_page<S: Store>(
 ) -> Result<(), AreaError>
     requires room { upto ≤ 65536 }
     requires fits { number * 65536 < 2 ^ 64 }
-    requires shows { (page : List ℕ) → lookup (nat_eq number) clean.old.entries ≡ Some page → Shows (file_of (S.disk store.old)) sheets.old.length number page }
+    requires serves { (kept : Option (List ℕ)) → lookup (nat_eq number) clean.old.entries ≡ Some kept → (page_at sheets.old.changed number ≡ None) × Serves S.lends (file_of (S.disk store.old)) sheets.old.length number kept }
     requires backed { Backed (page_at sheets.old.changed) (length (file_of (S.disk store.old))) sheets.old.length }
     ensures grown { Grown (file_of (S.disk store.old)) sheets.old.length sheets.old.marked (page_at sheets.old.changed) (get nat_cmp sheets.old.kept) (page_at sheets.new.changed) (get nat_cmp sheets.new.kept) }
     ensures there { OnOk result (IsSome (page_at sheets.new.changed number)) }
@@ -68,8 +68,8 @@ fn own_page<S: Store>(
     ensures clean { (clean.new.entries ≡ clean.old.entries) ⊎ (clean.new.entries ≡ remove_entry (nat_eq number) clean.old.entries) }
     ensures gone { OnOk result (clean.new.entries ≡ remove_entry (nat_eq number) clean.old.entries) }
     ensures out { OnOk result (lookup (nat_eq number) clean.new.entries ≡ None) }
-    ensures fewer { (other : ℕ) → (page : List ℕ) → lookup (nat_eq other) clean.new.entries ≡ Some page → lookup (nat_eq other) clean.old.entries ≡ Some page }
-    ensures apart { (other : ℕ) → (page : List ℕ) → lookup (nat_eq other) clean.new.entries ≡ Some page → page_at sheets.new.changed other ≡ page_at sheets.old.changed other }
+    ensures fewer { (other : ℕ) → (kept : Option (List ℕ)) → lookup (nat_eq other) clean.new.entries ≡ Some kept → lookup (nat_eq other) clean.old.entries ≡ Some kept }
+    ensures apart { (other : ℕ) → (kept : Option (List ℕ)) → lookup (nat_eq other) clean.new.entries ≡ Some kept → page_at sheets.new.changed other ≡ page_at sheets.old.changed other }
     ensures cap { clean.new.cap ≡ clean.old.cap }
     ensures length { sheets.new.length ≡ sheets.old.length }
     ensures marked { sheets.new.marked ≡ sheets.old.marked }
@@ -81,7 +81,6 @@ fn own_page<S: Store>(
     let _count = clean.len();
     sheets.keep_page(number, from, upto)?;
     if sheets.has(number) {
-        let _ = clean.pop(&number);
         return Ok(());
     }
     let page = take_page(alloc, store, clean, sheets.length, number)?;
@@ -102,7 +101,7 @@ pub fn own_pages<S: Store>(
     upto: u64,
 ) -> Result<(), AreaError>
     requires fits { (number : ℕ) → number < upto → number * 65536 < 2 ^ 64 }
-    requires shows { (other : ℕ) → (page : List ℕ) → lookup (nat_eq other) clean.old.entries ≡ Some page → Shows (file_of (S.disk store.old)) sheets.old.length other page }
+    requires serves { AllServe S.lends (page_at sheets.old.changed) (file_of (S.disk store.old)) sheets.old.length clean.old.entries }
     requires backed { Backed (page_at sheets.old.changed) (length (file_of (S.disk store.old))) sheets.old.length }
     ensures grown { Grown (file_of (S.disk store.old)) sheets.old.length sheets.old.marked (page_at sheets.old.changed) (get nat_cmp sheets.old.kept) (page_at sheets.new.changed) (get nat_cmp sheets.new.kept) }
     ensures owned { OnOk result (Owned sheets.new.marked (page_at sheets.new.changed) (get nat_cmp sheets.new.kept) place end from upto) }
@@ -110,8 +109,8 @@ pub fn own_pages<S: Store>(
     ensures clean { RemovesSome from (upto - from) clean.old.entries clean.new.entries }
     ensures gone { OnOk result (clean.new.entries ≡ removed from (upto - from) clean.old.entries) }
     ensures out { OnOk result ((number : ℕ) → from ≤ number → number < upto → lookup (nat_eq number) clean.new.entries ≡ None) }
-    ensures fewer { (other : ℕ) → (page : List ℕ) → lookup (nat_eq other) clean.new.entries ≡ Some page → lookup (nat_eq other) clean.old.entries ≡ Some page }
-    ensures apart { (other : ℕ) → (page : List ℕ) → lookup (nat_eq other) clean.new.entries ≡ Some page → page_at sheets.new.changed other ≡ page_at sheets.old.changed other }
+    ensures fewer { (other : ℕ) → (kept : Option (List ℕ)) → lookup (nat_eq other) clean.new.entries ≡ Some kept → lookup (nat_eq other) clean.old.entries ≡ Some kept }
+    ensures apart { (other : ℕ) → (kept : Option (List ℕ)) → lookup (nat_eq other) clean.new.entries ≡ Some kept → page_at sheets.new.changed other ≡ page_at sheets.old.changed other }
     ensures cap { clean.new.cap ≡ clean.old.cap }
     ensures length { sheets.new.length ≡ sheets.old.length }
     ensures marked { sheets.new.marked ≡ sheets.old.marked }

@@ -12,7 +12,7 @@ ghost use Rattle.cdf_area.specs.Calls.{Edits, Overwrites, Reads};
 ghost use Rattle.cdf_area.specs.Frame.{Frame, with_base};
 ghost use Rattle.cdf_store.specs.Disk.{Disk, file_of};
 ghost use Rattle.cdf_pages.specs.Cached.{all_clean};
-ghost use Rattle.cdf_pages.specs.Pages.{AllShow, Backed, TakesAtMost, image_of, is_in, was};
+ghost use Rattle.cdf_pages.specs.Pages.{AllServe, Backed, TakesAtMost, image_of, is_in, was};
 ghost use Rattle.cdf_base.specs.Causes.{HasCause, HasCauseOf};
 ghost use Rattle.cdf_pages.specs.Saving.{Differs, FailsSaving, HasNothingToSave, HasSaveCause, Holds, IsChangedRange, IsSavedAlready, Touches, tail_bytes};
 ghost use Rattle.cdf_pages.specs.Standing.{Changes, ChangesSome, ReadsSome, cost_of_reading, cost_of_writing, pages_in, used_from};
@@ -34,8 +34,8 @@ use std::alloc::{AllocFailed, Global};
 
 /// An area over the file that is attached to a store, in pages of 65,536 bytes.
 ///
-/// A page that is read is kept in a cache of 256 pages, and one that is written in a map until it is saved. So an edit costs
-/// what it touches. Nothing is written to the store but by `save`.
+/// A page that is read is kept in a cache of 256 pages, and one that is written in a table until it is saved. So an edit costs
+/// what it touches. A page that the store lends is not copied until it is written. Nothing is written to the store but by `save`.
 #[derive(Drop)]
 pub struct PagedArea<S: Store> {
     alloc: Global,
@@ -49,7 +49,7 @@ pub struct PagedArea<S: Store> {
     edited: bool,
     ghost backed: { Backed (page_at sheets.changed) (length (file_of (S.disk store))) sheets.length },
     ghost base_backed: { (size : ℕ) → sheets.marked ≡ Some size → (size ≤ sheets.length) × Backed (λ number. was (get nat_cmp sheets.kept number) (page_at sheets.changed number)) (length (file_of (S.disk store))) size },
-    ghost shows: { AllShow (page_at sheets.changed) (file_of (S.disk store)) sheets.length clean.entries },
+    ghost serves: { AllServe S.lends (page_at sheets.changed) (file_of (S.disk store)) sheets.length clean.entries },
     ghost measured: { file_size ≡ length (file_of (S.disk store)) },
     ghost valid: { IsValid nat_eq clean } by { Prim.hlevel props },
     ghost cap: { clean.cap ≡ 256 },
@@ -249,7 +249,7 @@ impl<S: Store> InPages for PagedArea<S> {
 
     ghost synced = { λ a. S.synced a.store };
 
-    ghost cached = { λ a. all_clean (page_at a.sheets.changed) (file_of (S.disk a.store)) a.sheets.length a.clean a.valid a.cap a.shows };
+    ghost cached = { λ a. all_clean S.lends (page_at a.sheets.changed) (file_of (S.disk a.store)) a.sheets.length a.clean a.valid a.cap a.serves };
 }
 
 impl<S: Store> Area for PagedArea<S> {

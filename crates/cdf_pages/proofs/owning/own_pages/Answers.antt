@@ -3,7 +3,7 @@ use Rattle.cdf_pages.proofs.Costs.{takes_same, takes_then, write_cost_grows, wri
 use Rattle.cdf_pages.proofs.Covered.{covers_less}
 use Rattle.cdf_pages.proofs.Filling.{takes_less}
 use Rattle.cdf_pages.proofs.Keys.{is_there, lookup-removed}
-use Rattle.cdf_pages.proofs.Growing.{grown_refl, removed_next, owned_more, some_not_none, grown_next, others_next, some_removed, out_next}
+use Rattle.cdf_pages.proofs.Growing.{serves_file, grown_refl, removed_next, owned_more, some_not_none, grown_next, others_next, some_removed, out_next}
 use Rattle.cdf_pages.proofs.owning.own_pages.Goals as goal
 
 pub loop-number-init : goal.loop-number-init
@@ -93,3 +93,9 @@ pub returns-clause-owned : goal.returns-clause-owned
 returns-clause-owned g c =
     let owned = c.loop-number.invariant.owned in
     record { there = λ q lo hi. owned.there q lo (omega arith); ready = λ q lo hi s. owned.ready q lo (omega arith) s }
+
+pub own_page-requires-clause-serves : goal.own_page-requires-clause-serves
+own_page-requires-clause-serves g c kept e =
+    let inv = c.loop-number.invariant in
+    let old = c.requires.serves c.loop-number.number kept (inv.fewer c.loop-number.number kept e) in
+    (inv.apart c.loop-number.number kept e ∙ old.0, serves_file g.S.Store.lends _ _ _ _ c.loop-number.number kept (ap (λ d. file_of d) inv.disk) inv.length old.1)

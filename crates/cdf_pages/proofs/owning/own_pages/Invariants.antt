@@ -1,4 +1,4 @@
-use Rattle.cdf_pages.proofs.Common.{Grown, List, None, Owned, Some, TakesAtMost, cost_of_writing, file_of, get, is_in, keys_of, length, lookup, nat_cmp, nat_eq, page_at, removed, ℕ, ◌-◌, ◌<◌, ◌≡◌, ◌≤◌, ◌⊎◌}
+use Rattle.cdf_pages.proofs.Common.{Grown, List, None, Option, Owned, Some, TakesAtMost, cost_of_writing, file_of, get, is_in, keys_of, length, lookup, nat_cmp, nat_eq, page_at, removed, ℕ, ◌-◌, ◌<◌, ◌≡◌, ◌≤◌, ◌⊎◌}
 use Rattle.cdf_pages.proofs.owning.own_pages.Given as goal
 
 abbrev pub invariant-loop-number : goal.invariant-loop-number
@@ -10,8 +10,8 @@ invariant-loop-number g l = record {
   others : (q : ℕ) → (q < l.fn.from) ⊎ (l.number ≤ q) → page_at l.sheets.changed q ≡ page_at l.fn.sheets.changed q;
   gone : l.clean.entries ≡ removed l.fn.from (l.number - l.fn.from) l.fn.clean.entries;
   out : (q : ℕ) → l.fn.from ≤ q → q < l.number → lookup (nat_eq q) l.clean.entries ≡ None;
-  fewer : (q : ℕ) → (p : List ℕ) → lookup (nat_eq q) l.clean.entries ≡ Some p → lookup (nat_eq q) l.fn.clean.entries ≡ Some p;
-  apart : (q : ℕ) → (p : List ℕ) → lookup (nat_eq q) l.clean.entries ≡ Some p → page_at l.sheets.changed q ≡ page_at l.fn.sheets.changed q;
+  fewer : (q : ℕ) → (p : Option (List ℕ)) → lookup (nat_eq q) l.clean.entries ≡ Some p → lookup (nat_eq q) l.fn.clean.entries ≡ Some p;
+  apart : (q : ℕ) → (p : Option (List ℕ)) → lookup (nat_eq q) l.clean.entries ≡ Some p → page_at l.sheets.changed q ≡ page_at l.fn.sheets.changed q;
   taken : TakesAtMost (g.S.Store.taken l.fn.store) (g.S.Store.taken l.store) (cost_of_writing (is_in (page_at l.fn.sheets.changed)) (keys_of l.fn.clean.entries) (length (file_of (g.S.Store.disk l.fn.store))) l.fn.from (l.number - l.fn.from));
   cap : l.clean.cap ≡ l.fn.clean.cap;
   length : l.sheets.length ≡ l.fn.sheets.length;

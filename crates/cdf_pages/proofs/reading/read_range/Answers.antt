@@ -1,6 +1,7 @@
-use Rattle.cdf_pages.proofs.Common.{Bool, IsValid, List, LruCache, ReadsSome, ap, arith, cost_of_reading, drop, drop-drop, file_of, image_of, is_in, keys_of, length, min, nat_eq, page_at, page_cost, pages_in, refl, rules, slice_index, subst, suc, sym, take, take-take, used, used_from, ℕ, ◌%◌, ◌*◌, ◌+◌, ◌-◌, ◌/◌, ◌<◌, ◌∙◌, ◌≡◌}
+use Rattle.cdf_pages.proofs.Common.{Bool, IsValid, List, LruCache, Option, ReadsSome, ap, arith, cost_of_reading, drop, drop-drop, file_of, image_of, is_in, keys_of, length, min, nat_eq, page_at, page_cost, pages_in, refl, rules, subst, suc, sym, take, take-take, used, used_from, ℕ, ◌%◌, ◌*◌, ◌+◌, ◌-◌, ◌/◌, ◌<◌, ◌∙◌, ◌≡◌}
 use borrow.Rule.Slice.PartMut.{put_mid}
 use Rattle.cdf_pages.proofs.Costs.{page_next, page_now, pages_grow, read_cost_grows, read_cost_next, takes_same, takes_then, used_next}
+use Rattle.cdf_pages.proofs.Growing.{serves_same}
 use Rattle.cdf_pages.proofs.Filling.{filled, on_err, takes_less}
 use Rattle.cdf_pages.proofs.reading.read_range.Goals as goal
 
@@ -12,7 +13,7 @@ loop-done-init g c =
       within = omega arith;
       bytes = refl;
       len = refl;
-      shows = c.requires.shows;
+      serves = c.requires.serves;
       aligned = λ some. absurd (omega (arith, some));
       used = ap (λ m. used_from (is_in (page_at c.args.sheets.now.changed)) (c.args.place / 65536) m (keys_of c.args.clean.now.entries)) (sym none);
       taken = takes_same _ _ _ refl;
@@ -43,7 +44,7 @@ returns-in_err-read_within-clause-some g c =
     on_err _ some
 
 pub returns-in_err-read_within-clause-valid : goal.returns-in_err-read_within-clause-valid
-returns-in_err-read_within-clause-valid g c = subst (λ (clean : LruCache ℕ (List ℕ)). IsValid nat_eq clean) (sym c.in_err-read_within.ensures.stays) c.loop-done.invariant.valid
+returns-in_err-read_within-clause-valid g c = subst (λ (clean : LruCache ℕ (Option (List ℕ))). IsValid nat_eq clean) (sym c.in_err-read_within.ensures.stays) c.loop-done.invariant.valid
 
 pub returns-in_err-read_within-clause-taken : goal.returns-in_err-read_within-clause-taken
 returns-in_err-read_within-clause-taken g c =
@@ -114,7 +115,7 @@ loop-done-preserved g c =
       within = omega (arith, len, least, more);
       bytes = filled c.loop-done.out c.read_within.new.out (drop c.args.place (image_of P F L)) done n (done + n - done) inv.within (omega (arith, size)) inv.bytes here;
       len = len ∙ inv.len;
-      shows = λ q p e. let r = c.in_ok-read_within.ensures.shows q p e in (r.0, λ j lt low. r.1 j lt low ∙ ap (λ d. slice_index (file_of d) (q * 65536 + j)) inv.disk);
+      serves = serves_same g.S.Store.lends P _ F L c.read_within.new.clean.entries (ap (λ d. file_of d) inv.disk) c.in_ok-read_within.ensures.serves;
       disk = c.in_ok-read_within.ensures.disk ∙ inv.disk;
       read = c.in_ok-read_within.ensures.cause.done ∙ inv.read;
       write = c.in_ok-read_within.ensures.write ∙ inv.write;

@@ -1,4 +1,4 @@
-use Rattle.cdf_pages.proofs.Common.{AllShow, IsValid, TakesAtMost, cost_of_reading, drop, file_of, image_of, is_in, keys_of, length, nat_eq, page_at, pages_in, take, used_from, ◌%◌, ◌+◌, ◌-◌, ◌/◌, ◌<◌, ◌≡◌, ◌≤◌}
+use Rattle.cdf_pages.proofs.Common.{AllServe, IsValid, TakesAtMost, cost_of_reading, drop, file_of, image_of, is_in, keys_of, length, nat_eq, page_at, pages_in, take, used_from, ◌%◌, ◌+◌, ◌-◌, ◌/◌, ◌<◌, ◌≡◌, ◌≤◌}
 use Rattle.cdf_pages.proofs.reading.read_range.Given as goal
 
 abbrev pub invariant-loop-done : goal.invariant-loop-done
@@ -6,7 +6,7 @@ invariant-loop-done g l = record {
   within : l.done ≤ length l.out;
   bytes : take l.done l.out ≡ take l.done (drop l.fn.place (image_of (page_at l.sheets.changed) (file_of (g.S.Store.disk l.fn.store)) l.sheets.length));
   len : length l.out ≡ length l.fn.out;
-  shows : AllShow (page_at l.sheets.changed) (file_of (g.S.Store.disk l.fn.store)) l.sheets.length l.clean.entries;
+  serves : AllServe g.S.Store.lends (page_at l.sheets.changed) (file_of (g.S.Store.disk l.fn.store)) l.sheets.length l.clean.entries;
   aligned : 0 < l.done → l.done < length l.out → (l.fn.place + l.done) % 65536 ≡ 0;
   used : keys_of l.clean.entries ≡ used_from (is_in (page_at l.sheets.changed)) (l.fn.place / 65536) (pages_in l.fn.place l.done) (keys_of l.fn.clean.entries);
   taken : TakesAtMost (g.S.Store.taken l.fn.store) (g.S.Store.taken l.store) (cost_of_reading (is_in (page_at l.sheets.changed)) (keys_of l.fn.clean.entries) (length (file_of (g.S.Store.disk l.fn.store))) (l.fn.place / 65536) (pages_in l.fn.place l.done));

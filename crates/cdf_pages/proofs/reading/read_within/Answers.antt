@@ -1,20 +1,49 @@
-use Rattle.cdf_pages.proofs.Common.{ap, arith, false, file_of, is_some, length, page_at, sym, ℕ, ◌*◌, ◌+◌, ◌/◌, ◌<◌, ◌∙◌, ◌≡◌}
-use Rattle.cdf_pages.proofs.Images.{file_part, shown_part}
-use Rattle.cdf_pages.proofs.Keys.{first_stays, first_there}
+use Rattle.cdf_pages.proofs.Common.{None, Serves, ap, arith, false, file_of, inl, inr, is_some, length, option_copied, page_at, refl, subst, sym, true, ◌*◌, ◌+◌, ◌/◌, ◌∙◌, ◌≡◌}
+use Rattle.cdf_pages.proofs.Images.{image_part, file_part}
+use Rattle.cdf_pages.proofs.Costs.{takes_same}
+use Rattle.cdf_pages.proofs.Filling.{on_ok_map}
 use Rattle.cdf_pages.proofs.reading.read_within.Goals as goal
 
 pub returns-in-Some-clause-bytes : goal.returns-in-Some-clause-bytes
 returns-in-Some-clause-bytes g c =
-    let pages = page_at c.args.sheets.now.changed in
-    let file = file_of (g.S.Store.disk c.args.store.now) in
-    let shown = c.requires.shows c.args.number c.in-Some.page.now (first_there c.args.number c.in-Some.page.now c.args.clean.now.entries c.in-Some.ensures) in
-    let stands : (j : ℕ) → j < 65536 → c.args.number * 65536 + j < c.args.sheets.now.length → c.args.number * 65536 + j < length file = λ j lt low. let here : (c.args.number * 65536 + j) / 65536 ≡ c.args.number = omega arith in c.requires.backed (c.args.number * 65536 + j) low (ap pages here ∙ shown.0) in
-    c.read.ensures.bytes
-    ∙ shown_part file c.in-Some.page.now c.args.number c.args.place (length c.args.out.now) c.args.sheets.now.length shown.1 c.read.ensures.whole c.requires.room c.requires.inside stands
-    ∙ file_part pages file c.args.sheets.now.length c.args.number c.args.place (length c.args.out.now) shown.0 c.requires.room c.requires.inside stands
+    c.read.ensures.bytes ∙ image_part (page_at c.args.sheets.now.changed) (file_of (g.S.Store.disk c.args.store.now)) c.in-Some.page.now c.args.sheets.now.length c.args.number c.args.place (length c.args.out.now)
+    (sym c.page.ensures ∙ ap option_copied c.in-Some.is) c.read.ensures.whole c.requires.room c.requires.inside
+
+pub read_clean-requires-clause-backed : goal.read_clean-requires-clause-backed
+read_clean-requires-clause-backed g c j lt low =
+    let here : (c.args.number * 65536 + j) / 65536 ≡ c.args.number = omega arith in
+    let gone : page_at c.args.sheets.now.changed c.args.number ≡ None = sym c.page.ensures ∙ ap option_copied c.in_default.is in
+    c.requires.backed (c.args.number * 65536 + j) low (ap (page_at c.args.sheets.now.changed) here ∙ gone)
+
+pub returns-clause-bytes : goal.returns-clause-bytes
+returns-clause-bytes g c =
+    let gone : page_at c.args.sheets.now.changed c.args.number ≡ None = sym c.page.ensures ∙ ap option_copied c.in_default.is in
+    let part = file_part (page_at c.args.sheets.now.changed) (file_of (g.S.Store.disk c.args.store.now)) c.args.sheets.now.length c.args.number c.args.place (length c.args.out.now) gone c.requires.room c.requires.inside
+    (λ j lt low. let here : (c.args.number * 65536 + j) / 65536 ≡ c.args.number = omega arith in c.requires.backed (c.args.number * 65536 + j) low (ap (page_at c.args.sheets.now.changed) here ∙ gone)) in
+    on_ok_map c.read_clean.result (λ e. e ∙ part) c.read_clean.ensures.bytes
+
+pub returns-clause-serves : goal.returns-clause-serves
+returns-clause-serves g c q p e =
+    let gone : page_at c.args.sheets.now.changed c.args.number ≡ None = sym c.page.ensures ∙ ap option_copied c.in_default.is in
+    elim (c.read_clean.ensures.fewer q p e) [
+      | inl old ↦ c.requires.serves q p old
+      | inr new ↦ (ap (page_at c.args.sheets.now.changed) new.0 ∙ gone, subst (λ x. Serves g.S.Store.lends (file_of (g.S.Store.disk c.args.store.now)) c.args.sheets.now.length x p) (sym new.0) new.1)
+    ]
 
 pub returns-in-Some-clause-used : goal.returns-in-Some-clause-used
 returns-in-Some-clause-used g c =
-    let shown = c.requires.shows c.args.number c.in-Some.page.now (first_there c.args.number c.in-Some.page.now c.args.clean.now.entries c.in-Some.ensures) in
-    let gone : is_some (page_at c.args.sheets.now.changed c.args.number) ≡ false = ap is_some shown.0 in
-    rw gone (sym (first_stays c.args.number c.in-Some.page.now c.args.clean.now.entries c.in-Some.ensures (omega (arith, c.len-count.ensures.valid.1, c.requires.cap))))
+    let there : is_some (page_at c.args.sheets.now.changed c.args.number) ≡ true = ap is_some (sym c.page.ensures ∙ ap option_copied c.in-Some.is) in
+    rw there refl
+
+pub returns-in-Some-clause-taken : goal.returns-in-Some-clause-taken
+returns-in-Some-clause-taken g c = takes_same _ _ _ refl
+
+pub returns-clause-used : goal.returns-clause-used
+returns-clause-used g c =
+    let gone : is_some (page_at c.args.sheets.now.changed c.args.number) ≡ false = ap is_some (sym c.page.ensures ∙ ap option_copied c.in_default.is) in
+    rw gone c.read_clean.ensures.used
+
+pub returns-clause-taken : goal.returns-clause-taken
+returns-clause-taken g c =
+    let gone : is_some (page_at c.args.sheets.now.changed c.args.number) ≡ false = ap is_some (sym c.page.ensures ∙ ap option_copied c.in_default.is) in
+    rw gone c.read_clean.ensures.taken

@@ -1,7 +1,7 @@
 use Rattle.cdf_pages.proofs.Common.{FailsSaving, Holds, IsChangedRange, List, OnOk, Touches, ap, arith, file_of, image_of, is_in, is_some, length, page_at, refl, subst, sym, tail_bytes, ℕ, ◌++◌, ◌∙◌}
 use Rattle.cdf_pages.proofs.Filling.{on_ok_map, true_not_false}
 use Rattle.cdf_pages.proofs.Images.{image_size}
-use Rattle.cdf_pages.proofs.SavedArea.{no_mark, saved_already, saved_shows, saved_whole}
+use Rattle.cdf_pages.proofs.SavedArea.{no_mark, saved_already, saved_serves, saved_whole}
 use Rattle.cdf_pages.proofs.Touched.{touches_none}
 use Rattle.cdf_pages.proofs.paged_area.PagedArea.save.Goals as goal
 
@@ -17,7 +17,7 @@ invariant_of-self g c =
     record {
       backed = λ i lt none. e.backed i (omega (arith, lt, e.length)) none;
       base_backed = λ size is. (let no = e.marked in cc);
-      shows = saved_shows P (page_at c.save_image-outcome.new.sheets.changed) F _ self.sheets.length _ self.clean.entries e.length e.image e.less self.shows;
+      serves = saved_serves g.S.Store.lends P (page_at c.save_image-outcome.new.sheets.changed) F _ self.sheets.length _ e.length e.image self.clean.entries e.less self.serves;
       measured = c.size-self.ensures;
       valid = self.valid;
       cap = self.cap;

@@ -1,7 +1,7 @@
 use Rattle.cdf_pages.proofs.Common.{Changes, ChangesSome, Covers, List, TakesAtMost, ap, ap₂, arith, cost_of_writing, file_of, get, image_of, is_in, keys_of, length, nat_cmp, page_at, pages_in, part_from, part_upto, refl, replicate, rules, subst, sym, was, ℕ, ◌*◌, ◌++◌, ◌+◌, ◌/◌, ◌<◌, ◌∙◌, ◌≡◌, ◌≤◌, ◌⊎◌}
 use Rattle.cdf_pages.proofs.Filling.{on_err, true_not_false}
 use Rattle.cdf_pages.proofs.Images.{image_same, image_size}
-use Rattle.cdf_pages.proofs.Growing.{kept_backed, was_backed, kept_shows}
+use Rattle.cdf_pages.proofs.Growing.{kept_backed, was_backed, kept_serves}
 use Rattle.cdf_pages.proofs.Costs.{changes, changes_none, changes_some, pages_between, takes_same}
 use Rattle.cdf_pages.proofs.paged_area.PagedAreaArea.extend.Goals as goal
 
@@ -12,7 +12,7 @@ invariant_of-self g c =
       backed = kept_backed (page_at c.args.self.now.sheets.changed) (page_at c.own_pages-owned.new.sheets.changed) _ _ c.args.self.now.sheets.length _ file c.own_pages-owned.ensures.length c.own_pages-owned.ensures.grown.less c.args.self.now.backed;
       base_backed = was_backed (λ q. was (get nat_cmp c.args.self.now.sheets.kept q) (page_at c.args.self.now.sheets.changed q)) (λ q. was (get nat_cmp c.own_pages-owned.new.sheets.kept q) (page_at c.own_pages-owned.new.sheets.changed q)) _ _ c.args.self.now.sheets.marked _ c.args.self.now.sheets.length _
           file c.own_pages-owned.ensures.length c.own_pages-owned.ensures.marked c.own_pages-owned.ensures.grown.was c.args.self.now.base_backed;
-      shows = kept_shows (page_at c.args.self.now.sheets.changed) (page_at c.own_pages-owned.new.sheets.changed) _ _ c.args.self.now.sheets.length _ c.args.self.now.clean.entries c.own_pages-owned.new.clean.entries file c.own_pages-owned.ensures.length c.own_pages-owned.ensures.fewer c.own_pages-owned.ensures.apart c.args.self.now.shows;
+      serves = kept_serves g.S.Store.lends (page_at c.args.self.now.sheets.changed) (page_at c.own_pages-owned.new.sheets.changed) _ _ c.args.self.now.sheets.length _ c.args.self.now.clean.entries c.own_pages-owned.new.clean.entries file c.own_pages-owned.ensures.length c.own_pages-owned.ensures.fewer c.own_pages-owned.ensures.apart c.args.self.now.serves;
       measured = c.args.self.now.measured ∙ sym (ap length file);
       valid = c.len-count.ensures.valid;
       cap = c.own_pages-owned.ensures.cap ∙ c.args.self.now.cap;

@@ -1,4 +1,5 @@
-use Rattle.cdf_pages.proofs.Common.{ap, arith, file_of, length, slice_index, sym, ◌*◌, ◌+◌, ◌∙◌}
+use Rattle.cdf_pages.proofs.Common.{ap, arith, file_of, length, sym, ◌∙◌}
+use Rattle.cdf_pages.proofs.Growing.{serves_same}
 use Rattle.cdf_pages.proofs.paged_area.PagedAreaArea.get.Goals as goal
 
 pub invariant_of-self : goal.invariant_of-self
@@ -9,7 +10,7 @@ invariant_of-self g c =
     record {
       backed = λ i lt none. let stood = self.backed i lt none in omega (arith, stood, size);
       base_backed = λ marked is. let old = self.base_backed marked is in (old.0, λ i lt none. let stood = old.1 i lt none in omega (arith, stood, size));
-      shows = λ q page is. let now = e.shows q page is in (now.0, λ j lt low. now.1 j lt low ∙ ap (λ d. slice_index (file_of d) (q * 65536 + j)) (sym e.disk));
+      serves = serves_same g.S.Store.lends _ _ _ _ c.read_range.new.clean.entries (ap (λ d. file_of d) (sym e.disk)) e.serves;
       measured = self.measured ∙ sym size;
       valid = e.valid;
       cap = e.cap ∙ self.cap;
