@@ -3,6 +3,8 @@ pub mod ChainsStay
 pub mod KeptRecords
 pub mod OtherNames
 pub mod OthersStay
+pub mod SameIndexes
+pub mod SameEntries
 pub mod FineNames
 pub mod ListParts
 pub mod ReadingFollows

@@ -7,6 +7,7 @@ pub mod VdrAlike
 pub mod VdrCopied
 pub mod VdrKept
 pub mod VdrStays
+pub mod OwnIndex
 pub mod OwnerAlone
 pub mod OwnersApart
 pub mod SameShape

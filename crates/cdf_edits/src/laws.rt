@@ -1,12 +1,15 @@
 //! What follows from a change of bytes, each law as the clause of a function.
 
-ghost use Rattle.std.specs.Prelude.{◌≡◌, ◌≤◌, ◌<◌, ◌+◌, ◌-◌, ℕ, List, [], ◌∷◌, ◌++◌, true, false, length};
+ghost use Rattle.std.specs.Prelude.{◌≡◌, ◌≤◌, ◌<◌, ◌+◌, ◌-◌, ℕ, List, [], ◌∷◌, ◌++◌, true, false, length, Some};
 ghost use Rattle.cdf_model.specs.declared.answer.Reply.{Reply};
 ghost use Rattle.cdf_model.specs.declared.command.Command.{Command};
 ghost use Rattle.cdf_model.specs.Answers.{Go};
 ghost use Rattle.cdf_model.specs.Step.{ByStep, step};
 ghost use Rattle.cdf_format.specs.Sound.{IsSound};
-ghost use Rattle.cdf_edits.specs.Commands.Others.{is_on_attributes, is_on_variables, AttributesStay, VariablesStay};
+ghost use Rattle.cdf_model.specs.declared.kinds.EntryKind.{EntryKind};
+ghost use Rattle.std.specs.List.{slice_get};
+ghost use Rattle.cdf_edits.specs.Commands.Others.{is_on_attributes, is_on_entries, is_on_variables, AttributesStay, EntriesStay, IndexesStay, VariablesStay};
+ghost use Rattle.cdf_edits.specs.Edits.EntryMarks.{entries_chain};
 ghost use Rattle.cdf_edits.specs.Frame.Leaves.{ChangedWithin, LeavesFinding, FileStays, Leaves};
 ghost use Rattle.cdf_edits.specs.Frame.Changed.{Touch, touch, Changed, Placed};
 ghost use Rattle.cdf_format.specs.Chains.{Leads, is_a, is_in, is_linkable, next_field, next_of, chain};
@@ -105,6 +108,16 @@ pub fn reading_follows()
 pub fn others_stay()
     ensures attributes { (b now : List ℕ) (c : Command) → is_on_attributes c ≡ false → Good b → Follows b c now → AttributesStay b now }
     ensures variables { (b now : List ℕ) (c : Command) → is_on_variables c ≡ false → Good b → Follows b c now → VariablesStay b now }
+{}
+
+/// A command that is not on variables leaves the index of each.
+pub fn indexes_stay()
+    ensures { (b now : List ℕ) (c : Command) → is_on_variables c ≡ false → Good b → Follows b c now → IndexesStay b now }
+{}
+
+/// A command leaves the entries of each chain of each attribute where it is not on them.
+pub fn entries_stay()
+    ensures { (b now : List ℕ) (c : Command) (n : ℕ) (own : AttributeShape) (kind : EntryKind) → slice_get (shape b).attributes n ≡ Some own → is_on_entries (content b) c n kind ≡ false → Good b → Follows b c now → EntriesStay b now (entries_chain kind own.adr) }
 {}
 
 /// Two edits, one after the other, are one.

@@ -60,7 +60,7 @@ pub record SparesVariables (b : List ℕ) (may : Allowances) : Type 0 where
   pub links : (kind : Kind) (n place : ℕ) → type_at b place ≡ vdr_type kind → spares next_field (may.variables kind n place) ≡ true
 
 module _ (b now : List ℕ) (may : Allowances) (acts : List Act) where
-  AllKeep-split : (xs ys : List (ℕ × Owner)) → AllKeep b now may acts (xs ++ ys) → AllKeep b now may acts xs × AllKeep b now may acts ys
+  pub AllKeep-split : (xs ys : List (ℕ × Owner)) → AllKeep b now may acts (xs ++ ys) → AllKeep b now may acts xs × AllKeep b now may acts ys
   AllKeep-split [] ys p = (tt, p)
   AllKeep-split ((place, owner) ∷ xs) ys p = let rest = AllKeep-split xs ys p.1 in ((p.0, rest.0), rest.1)
 

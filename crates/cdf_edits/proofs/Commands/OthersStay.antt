@@ -5,6 +5,8 @@ use Rattle.cdf_model.specs.declared.command.Command.TheVariants as commands
 use Rattle.cdf_edits.specs.Commands.Cuts.{del_recs_changes, set_compress_changes, set_sparse_changes}
 use Rattle.cdf_edits.specs.Commands.Reindex.{reindex_changes}
 use Rattle.cdf_edits.proofs.Commands.ChainsStay.{spares, SparesAttributes, SparesVariables, adrs_stay, vdrs_stay}
+use Rattle.cdf_edits.proofs.Commands.SameIndexes.{LeavesVariables, shapes_same}
+use Rattle.cdf_edits.specs.Commands.Others.{IndexesStay}
 use Rattle.cdf_edits.proofs.Commands.OtherNames.{OfRoute, SameNames, SameVariables, same_names, same_variables, setup_attributes, setup_empty}
 
 -- ---- what each command may change
@@ -113,6 +115,15 @@ module _ (b : List ℕ) (good : Good b) where
   no_vdrs R none = no_places (λ (v : VariableShape). v.vdr) (variable_of b) (shape b).r_variables (content b).r_variables (ap (λ (d : DataSet). d.r_variables) (content_is b (shape b) h)) none
   no_vdrs Z none = no_places (λ (v : VariableShape). v.vdr) (variable_of b) (shape b).z_variables (content b).z_variables (ap (λ (d : DataSet). d.z_variables) (content_is b (shape b) h)) none
 
+  no_variables : (kind : Kind) → variables_of (content b) kind ≡ [] → shapes_of (shape b) kind ≡ []
+  no_variables kind none = by_length (shapes_of (shape b) kind) (vdrs_length (shapes_of (shape b) kind) (no_vdrs kind none))
+    where
+      vdrs_length : (vs : List VariableShape) → vdrs vs ≡ [] → length vs ≡ 0
+      vdrs_length vs e = sym (length-map vs (λ (v : VariableShape). v.vdr)) ∙ ap (λ (l : List ℕ). length l) e
+
+      by_length : (vs : List VariableShape) → length vs ≡ 0 → vs ≡ []
+      by_length vs e = nil_from_length vs e
+
 -- ---- what a command leaves
 
 module _ (b now : List ℕ) (c : Command) (good : Good b) (f : Follows b c now) where
@@ -158,6 +169,10 @@ module _ (b now : List ℕ) (encoding : ℕ) (majority : Majority) (dims : List 
   none_before R = was_empty.no_r_variables
   none_before Z = was_empty.no_z_variables
 
+  -- and so there is no index
+  none_there : (kind : Kind) → shapes_of (shape now) kind ≡ shapes_of (shape b) kind
+  none_there kind = no_variables now f.good kind (variables_are b now (commands.Setup encoding majority dims) good f refl kind ∙ none_before kind) ∙ sym (no_variables b good kind (none_before kind))
+
   setup_variables : VariablesStay b now
   setup_variables =
       let same = variables_are b now (commands.Setup encoding majority dims) good f refl in
@@ -176,3 +191,27 @@ variables_stay b now c e good f = variables_spared b now c good f e (spares_vari
 pub attributes_stay : (b now : List ℕ) (c : Command) → is_on_attributes c ≡ false → Good b → Follows b c now → AttributesStay b now
 attributes_stay b now (commands.Setup encoding majority dims) e good f = setup_attributes_stay b now encoding majority dims good f
 attributes_stay b now c e good f = attributes_spared b now c good f e (spares_attributes b (content b) (shape b) c e refl)
+
+-- ---- the indexes of variables
+
+-- what a command that is not on variables may change, no record of a variable is among it
+leaves_variables : (b : List ℕ) (d : DataSet) (s : Shape) (c : Command) → is_on_variables c ≡ false → LeavesVariables (allowances b d s c)
+leaves_variables b d s (commands.RVar name t elems vary varys) e = absurd cc
+leaves_variables b d s (commands.ZVar name t elems vary dims varys) e = absurd cc
+leaves_variables b d s (commands.RenameVar from to) e = absurd cc
+leaves_variables b d s (commands.DelVar name) e = absurd cc
+leaves_variables b d s (commands.SetPad var words) e = absurd cc
+leaves_variables b d s (commands.SetSparse var rule) e = absurd cc
+leaves_variables b d s (commands.SetCompress var rle) e = absurd cc
+leaves_variables b d s (commands.SetBlocking var n) e = absurd cc
+leaves_variables b d s (commands.PutRec var rec words) e = absurd cc
+leaves_variables b d s (commands.DelRecs var first last) e = absurd cc
+leaves_variables b d s (commands.PutVal var rec index words) e = absurd cc
+leaves_variables b d s (commands.Reindex var) e = absurd cc
+leaves_variables b d s c e = record { whole = λ kind n place. refl }
+
+pub indexes_stay : (b now : List ℕ) (c : Command) → is_on_variables c ≡ false → Good b → Follows b c now → IndexesStay b now
+indexes_stay b now (commands.Setup encoding majority dims) e good f = record { shapes_stay = none_there b now encoding majority dims good f }
+indexes_stay b now c e good f = record {
+  shapes_stay = shapes_same b now (allowances b (content b) (shape b) c) f.acts (good_is_sound b good) (good_is_sound now f.good).has_shape f.keeps (leaves_variables b (content b) (shape b) c e) (variables_spared b now c good f e (spares_variables b (content b) (shape b) c e refl)).places_stay;
+}
