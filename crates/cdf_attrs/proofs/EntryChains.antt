@@ -33,7 +33,7 @@ numbers_of b adr count ms rows m i =
 differ_of : (b : List ℕ) (adr : ℕ) (count : Field) (ms : List ℕ) → Hold (entries_rows b adr count ms) → Distinct (nums b ms)
 differ_of b adr count ms rows = nums_differ b ms (Hold-split (count_rows 5 b adr count ms ++ flat_map (entry_rows b adr) ms) (differ_rows 7 (same_number b) [] ms) rows).1
 
-got_in : (as_ : List AttributeShape) (i : ℕ) (a : AttributeShape) → slice_get as_ i ≡ Some a → In a.adr (map (λ (x : AttributeShape). x.adr) as_)
+pub got_in : (as_ : List AttributeShape) (i : ℕ) (a : AttributeShape) → slice_get as_ i ≡ Some a → In a.adr (map (λ (x : AttributeShape). x.adr) as_)
 got_in [] i a e = absurd cc
 got_in (x ∷ as_) zero a e = inl (ap (λ (o : Option AttributeShape). elim o [ None ↦ a.adr | Some y ↦ y.adr ]) (sym e))
 got_in (x ∷ as_) (suc i) a e = inr (got_in as_ i a e)

@@ -1,7 +1,10 @@
 -- The command `del-entry`: what it is answered, and what is known of the attributes after it.
-use Rattle.cdf_attrs.specs.Known.{KnownOrder}
-use Rattle.std.proofs.lemmas.Option.{none-some}
-use Rattle.cdf_attrs.proofs.Common.{Option, Answer, Answers, Attribute, AttributeShape, ByStep, Chain, DelEntry, Done, Entry, EntryKind, EntryLives, FindsChain, Follows, Go, Good, In, IsEntryOf, IsGreatest, IsOfAttribute, IsRefusedFor, IsSound, KnownEntries, Knows, KnowsEntries, LeavesChain, List, NoSuchAttr, NoSuchEntry, None, Plain, Reason, Refused, Some, TakenAt, WrongScope, [], adr_type, adrs, aedr_num, ap, arith, attribute_named, attribute_names, attribute_of, cast_unsigned, chain_of, content, count_field, count_now, counted_in, entries_chain, entries_left, entries_of, entry_bytes, entry_of, gone, good_is_sound, greatest_integer, greatest_number, greatest_same, image_limit, integer4, left_frees, left_greatest, length, max_field, max_lies, members_of, members_stay, number, nums, nums_live, of_count, option_and_then, others, position, refl, refused, remove, shape, size_at, slice_get, slice_index, subst, suc, sym, with_attribute, with_entries, without, without_at, zero, ℕ, ◌+◌, ◌<◌, ◌==◌, ◌^◌, ◌∙◌, ◌∷◌, ◌≡◌, ◌≤◌}
+use Rattle.cdf_attrs.proofs.Common.{false}
+use Rattle.cdf_attrs.proofs.OtherChains.{on_other}
+use Rattle.cdf_attrs.specs.Known.{is_same_chain}
+use Rattle.cdf_edits.proofs.Commands.SameEntries.{entries_stay}
+use Rattle.cdf_edits.specs.Commands.Others.{EntriesStay}
+use Rattle.cdf_attrs.proofs.Common.{Answer, Answers, Attribute, AttributeShape, ByStep, Chain, DelEntry, Done, Entry, EntryKind, EntryLives, FindsChain, Follows, Go, Good, In, IsEntryOf, IsGreatest, IsOfAttribute, IsRefusedFor, IsSound, KnownEntries, KnowsEntries, LeavesChain, List, NoSuchAttr, NoSuchEntry, None, Plain, Reason, Refused, Some, TakenAt, WrongScope, [], adr_type, adrs, aedr_num, ap, arith, attribute_named, attribute_names, attribute_of, cast_unsigned, chain_of, content, count_field, count_now, counted_in, entries_chain, entries_left, entries_of, entry_bytes, entry_of, gone, good_is_sound, greatest_integer, greatest_number, greatest_same, image_limit, integer4, left_frees, left_greatest, length, max_field, max_lies, members_of, members_stay, number, nums, nums_live, of_count, option_and_then, others, position, refl, refused, remove, shape, size_at, slice_get, slice_index, subst, suc, sym, with_attribute, with_entries, without, without_at, zero, ℕ, ◌+◌, ◌<◌, ◌==◌, ◌^◌, ◌∙◌, ◌∷◌, ◌≡◌, ◌≤◌}
 use Rattle.std.proofs.Common.{w32}
 use Rattle.cdf_model.specs.declared.kinds.EntryKind.TheVariants as entries
 use Rattle.cdf_format.specs.Content.{entries_of as chain_items}
@@ -147,13 +150,11 @@ module _ {b : List ℕ} {chain : Chain} (good : Good b) (of : IsOfAttribute b ch
             let x = members_stay good q taken.removed.gives m j in
             others good q taken.removed.gives m x.0 x.1
 
-    pub known_after : (table : List (List ℕ)) (places : List ℕ) (rest : KnownEntries) (order : Option KnownOrder) → table ≡ attribute_names (content b) → places ≡ adrs (shape b) → rest ≡ without_at es i → order ≡ None → Knows now (record { names = table; places = places; entries = Some rest; order = order })
-    known_after table places rest order named placed is_rest unordered = record {
-      names_are = named ∙ sym (left.names_left good q taken.removed.gives);
-      places_are = placed ∙ sym (left.places_left good q taken.removed.gives);
-      entries_are = λ e same. let other : rest ≡ e = cc in subst (KnowsEntries now) (sym is_rest ∙ other) left_known;
-      order_is = λ e same. absurd (none-some e (sym unordered ∙ same));
-    }
+    pub names_stay : attribute_names (content now) ≡ attribute_names (content b)
+    names_stay = left.names_left good q taken.removed.gives
+
+    pub places_stay : adrs (shape now) ≡ adrs (shape b)
+    places_stay = left.places_left good q taken.removed.gives
 
 -- ---- the command
 
@@ -176,3 +177,7 @@ module _ {b attr : List ℕ} {kind : EntryKind} {n : ℕ} {chain : Chain} (good 
 
     pub is_deleted : (limit : ℕ) → length b ≤ limit → Answers limit b (DelEntry attr kind num) (Done Plain) now
     is_deleted limit fits = gone limit b (DelEntry attr kind num) _ Plain now (ap ByStep (left.del_goes names)) (omega arith) follow
+
+    -- the entries of other chains stay
+    pub del_leaves : (k : ℕ) (own : AttributeShape) (other : EntryKind) → slice_get (shape b).attributes k ≡ Some own → is_same_chain (entries_chain other own.adr) chain ≡ false → EntriesStay b now (entries_chain other own.adr)
+    del_leaves k own other own_at differ = entries_stay b now (DelEntry attr kind num) k own other own_at (on_other found k own other own_at differ) good follow

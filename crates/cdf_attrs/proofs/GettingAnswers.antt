@@ -1,14 +1,26 @@
 -- What the command that shows an entry is answered.
-use Rattle.cdf_attrs.proofs.Common.{Answer, Answers, Attribute, AttributeShape, Bool, ByStep, Chain, Command, Done, Entry, EntryKind, FindsChain, G, GetEntry, Go, Good, In, IsOfAttribute, IsRefusedFor, KnownEntries, KnowsEntries, List, NoSuchAttr, NoSuchEntry, None, Option, R, Reason, Refused, Reply, Some, WrongScope, Z, [], aedr_num, ap, arith, attribute_of, chain_of, cond, content, entries_of, entry_at, entry_bytes, entry_of, entry_reply, false, find, gone, inl, inr, item_at, length, members_of, number, option_and_then, option_map, position, refl, refused, slice_get, subst, sym, true, ℕ, ◌+◌, ◌==◌, ◌∙◌, ◌∷◌, ◌≡◌, ◌≤◌}
+use Rattle.cdf_attrs.proofs.Common.{Answer, Answers, Attribute, AttributeShape, Bool, ByStep, Chain, Command, Done, Entry, EntryKind, FindsChain, G, GetEntry, Go, Good, In, IsOfAttribute, IsRefusedFor, Known, KnownEntries, Knows, KnowsEntries, List, NoSuchAttr, NoSuchEntry, None, Option, R, Reason, Refused, Reply, Some, WrongScope, Z, [], aedr_num, ap, arith, attribute_of, chain_of, cond, content, entries_of, entry_at, entry_bytes, entry_of, entry_reply, false, find, gone, inl, inr, item_at, length, members_of, number, option_and_then, option_map, position, refl, refused, slice_get, subst, sym, true, ℕ, ◌+◌, ◌==◌, ◌∙◌, ◌∷◌, ◌≡◌, ◌≤◌}
 use Rattle.cdf_edits.proofs.Commands.ReadingFollows.{reading_follows}
 use Rattle.cdf_format.specs.Content.{entries_of as items_of}
+use Rattle.std.specs.Prelude.{All, Contains, ◌⊎◌}
 use Rattle.cdf_attrs.proofs.EntryChains.{members, entry_inside}
 use Rattle.cdf_attrs.proofs.EntryLookup.{place_found, item_of_chain}
+use Rattle.cdf_attrs.proofs.KnownAttributes.{more_known, of_one, places_known}
 use Rattle.cdf_attrs.proofs.EntrySteps.{no_attribute, wrong_scope, no_entry, has_entry}
 
 -- a chain that was found is one of an attribute
 abbrev pub of_attribute : {b attr : List ℕ} {kind : EntryKind} {n : ℕ} {chain : Chain} → FindsChain b attr kind n chain → IsOfAttribute b chain
 of_attribute {kind = kind} {n = n} found = record { number = n; own = found.own; stands = found.stands; kind = kind; chain_is = found.chain_is }
+
+-- what is known of an image is known of it yet
+pub still_known : {b now : List ℕ} {known : Known} → now ≡ b → Knows b known → Knows now known
+still_known {known = known} same knows = subst (λ (x : List ℕ). Knows x known) (sym same) knows
+
+-- the entries of a chain that was found are kept beside others
+pub kept_with : {b mid : List ℕ} {v known : Known} {chain : Chain} → mid ≡ b → Knows mid known → v ≡ known → IsOfAttribute b chain → (own : KnownEntries) → own.chain ≡ chain → KnowsEntries mid own → (es : List KnownEntries) → All (λ e. (e ≡ own) ⊎ Contains v.entries e) es → Knows b (record v { entries = es })
+kept_with {b} {known = known} same knows is of own own_is own_knows es all =
+    let before : Knows b known = subst (λ (x : List ℕ). Knows x known) same knows in
+    more_known before is own es (record { of_one = of_one (places_known before is) of own_is; knows = subst (λ (x : List ℕ). KnowsEntries x own) same own_knows }) all
 
 -- the entries of a kind are those of its chain
 pub entries_by_chain : (b : List ℕ) (a : AttributeShape) (kind : EntryKind) → entries_of (attribute_of b a) kind ≡ items_of b (chain_of a kind)

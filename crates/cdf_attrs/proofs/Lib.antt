@@ -12,6 +12,9 @@ pub mod EntryCalls
 pub mod EntryLeft
 pub mod NewAdr
 pub mod NumberGone
+pub mod OtherChains
+pub mod KeptEntries
+pub mod Failing
 pub mod Created
 pub mod CreatingAnswers
 pub mod KnownAttributes

@@ -1,6 +1,11 @@
 -- What the command that puts an entry is answered.
 use Rattle.cdf_attrs.proofs.Common.{Answers, Asks, ByStep, Chain, Command, DataSet, DataType, Done, EntryKind, Err, FindsChain, FitsSigned, Go, Good, In, IsReady, KnownEntries, KnowsEntries, List, Plain, PutEntry, Puts, Reason, Refuse, Refused, TooLarge, [], adrs, ap, arith, attribute_of, cases_lt, content, entries_chain, entries_of, entry_length, entry_of_words, false, fold, gone, image_limit, inl, inr, ints, is_little, is_out_of_range, length, max, pos, put_entry_step, record_number_limit, refl, room, shape, signed_limit, size_stays, slice_index, stored_entry, sym, too_large, with_attribute, with_entries, with_item, ℕ, ℤ, ◌+◌, ◌<◌, ◌∙◌, ◌∷◌, ◌≡◌, ◌≤◌}
 use Rattle.std.proofs.Common.{w32}
+use Rattle.cdf_attrs.proofs.Common.{AttributeShape, Follows, Some, false, slice_get}
+use Rattle.cdf_attrs.proofs.OtherChains.{on_other}
+use Rattle.cdf_attrs.specs.Known.{is_same_chain}
+use Rattle.cdf_edits.proofs.Commands.SameEntries.{entries_stay}
+use Rattle.cdf_edits.specs.Commands.Others.{EntriesStay}
 use Rattle.cdf_attrs.specs.Requests.{MayPut}
 use Rattle.cdf_attrs.specs.declared.entry_bytes.StoredValue.{StoredValue}
 use Rattle.cdf_attrs.proofs.AttributeFound.{adr_is}
@@ -67,7 +72,15 @@ module _ {b attr : List ℕ} {kind : EntryKind} {num : ℕ} {t : DataType} {word
     pub put_too_large : limit < length b + (56 + length value.bytes.items) → Answers limit b c (Refused TooLarge) b
     put_too_large over = too_large limit b c made Plain (ap ByStep goes) (omega (arith, over, takes))
 
-    pub put_done : {now : List ℕ} {adr : ℕ} → length b + (56 + length value.bytes.items) ≤ limit → Puts b now (record { kind = kind; attribute = n; adr = adr; num = num }) (stored_entry b value.t value.elems value.bytes.items) → Answers limit b c (Done Plain) now
-    put_done {now = now} {adr = adr} fits puts =
+    pub put_follows : {now : List ℕ} {adr : ℕ} → Puts b now (record { kind = kind; attribute = n; adr = adr; num = num }) (stored_entry b value.t value.elems value.bytes.items) → Follows b c now
+    put_follows {adr = adr} puts =
         let asks : Asks b attr (record { kind = kind; attribute = n; adr = adr; num = num }) words (stored_entry b t value.elems value.bytes.items) = record { own = m.found.own; stands = m.found.stands; named = m.found.named; goes = goes; takes = ap (λ r. 56 + entry_length r) m.written.means } in
-        gone limit b c made Plain now (ap ByStep goes) (omega (arith, fits, takes)) ((rw m.t_is at puts).follows attr words asks)
+        (rw m.t_is at puts).follows attr words asks
+
+    pub put_done : {now : List ℕ} {adr : ℕ} → length b + (56 + length value.bytes.items) ≤ limit → Puts b now (record { kind = kind; attribute = n; adr = adr; num = num }) (stored_entry b value.t value.elems value.bytes.items) → Answers limit b c (Done Plain) now
+    put_done {now = now} fits puts = gone limit b c made Plain now (ap ByStep goes) (omega (arith, fits, takes)) (put_follows puts)
+
+    -- and the entries of other chains stay
+    pub put_leaves : {now : List ℕ} {adr : ℕ} → Good b → Puts b now (record { kind = kind; attribute = n; adr = adr; num = num }) (stored_entry b value.t value.elems value.bytes.items)
+        → (k : ℕ) (own : AttributeShape) (other : EntryKind) → slice_get (shape b).attributes k ≡ Some own → is_same_chain (entries_chain other own.adr) chain ≡ false → EntriesStay b now (entries_chain other own.adr)
+    put_leaves {now = now} good puts k own other at differ = entries_stay b now c k own other at (on_other m.found k own other at differ) good (put_follows puts)

@@ -1,6 +1,6 @@
 //! The attributes of a file as a command meets them.
 
-ghost use Rattle.std.specs.Prelude.{◌≡◌, IfOk, None};
+ghost use Rattle.std.specs.Prelude.{◌≡◌, IfOk, None, []};
 ghost use Rattle.cdf_area.specs.Calls.{Reads};
 ghost use Rattle.cdf_attrs.specs.Known.{Known, Knows};
 ghost use Rattle.cdf_format.specs.Content.{content};
@@ -18,20 +18,20 @@ use std::alloc::Global;
 use std::marker::Model;
 
 /// The attributes of a file: their names in a table, and where their descriptors stand, in the same order; the entries of the
-/// chain that was used last, if it is known; and those of the chain that was shown last in the order of their numbers, if they are.
+/// chains that were used last; and those of the chain that was shown last in the order of their numbers, if they are known.
 #[derive(Drop)]
 pub struct Attrs {
     pub(crate) alloc: Global,
     pub(crate) names: NameTable,
     pub(crate) places: Vec<u64>,
-    pub(crate) entries: Option<EntryChain>,
+    pub(crate) entries: Vec<EntryChain>,
     pub(crate) order: Option<EntryOrder>,
 }
 
 impl Model for Attrs {
     ghost Value = { Known };
 
-    ghost view = { λ attrs. record { names = attrs.names; places = attrs.places.items; entries = attrs.entries; order = attrs.order } };
+    ghost view = { λ attrs. record { names = attrs.names; places = attrs.places.items; entries = attrs.entries.items; order = attrs.order } };
 }
 
 impl Attrs {
@@ -47,16 +47,16 @@ impl Attrs {
             alloc,
             names,
             places,
-            entries: None,
+            entries: Vec::new(alloc),
             order: None,
         })
     }
 
     /// Lets go the entries that are kept, so that what is left is right of each image with the same attributes in the same places.
     pub fn forget_entries(&mut self)
-        ensures { self.new ≡ record self.old { entries = None; order = None } }
+        ensures { self.new ≡ record self.old { entries = []; order = None } }
     {
-        self.entries = None;
+        self.entries.clear();
         self.order = None;
     }
 

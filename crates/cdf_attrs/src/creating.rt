@@ -127,7 +127,7 @@ impl Attrs {
         }
         let last = self.names.len();
         self.names.add(Bytes::new(name.to_vec(self.alloc)?))?;
-        self.entries = None;
+        self.entries.clear();
         self.order = None;
         match make(self.alloc, &mut self.places, area, name, scope) {
             Ok(()) => Ok(Outcome::Done {

@@ -134,7 +134,7 @@ impl Attrs {
                 reason: Reason::NoSuchAttr,
             });
         };
-        self.entries = None;
+        self.entries.clear();
         self.order = None;
         delete(self.alloc, area, &self.places, number as usize)?;
         self.names.remove(number);

@@ -161,7 +161,7 @@ impl Attrs {
         ensures stays { Knows (A.image area.old) self.new }
         ensures area { Edits A.frame A.faults area.old area.new result }
     {
-        self.entries = None;
+        self.entries.clear();
         self.order = None;
         for adr in &self.places {
             drop_from(self.alloc, area, *adr, kind, num)?;

@@ -1,15 +1,16 @@
 //! The entries of one chain of an attribute, as far as commands ask for them.
 
-ghost use Rattle.std.specs.Prelude.{◌≡◌, ◌==◌, ◌+◌, ◌≤◌, length, map, position, slice_get, slice_index, slice_set, ◌<◌, EachIndex, IfOk, IsTrue, None, ◌++◌, ◌∷◌, [], OnOk};
+ghost use Rattle.std.specs.Prelude.{◌≡◌, ◌==◌, ◌+◌, ◌≤◌, length, map, position, slice_get, slice_index, slice_set, ◌<◌, EachIndex, IfOk, IsTrue, None, ◌++◌, ◌∷◌, [], OnOk, All, false};
 ghost use Rattle.std.specs.Option.{option_and_then};
 ghost use Rattle.cdf_area.specs.Calls.{Reads};
 ghost use Rattle.cdf_attrs.specs.Finding.{IsOfAttribute};
-ghost use Rattle.cdf_attrs.specs.Known.{KnownEntries, Knows, KnowsEntries};
+ghost use Rattle.cdf_attrs.specs.Known.{KnownEntries, Knows, KnowsEntries, is_same_chain};
 ghost use Rattle.cdf_format.specs.Fields.{number};
 ghost use Rattle.cdf_format.specs.Records.{aedr_num, aedr_value};
 ghost use Rattle.cdf_format.specs.WellFormed.{Good};
 
 use crate::attrs::Attrs;
+use crate::kept_chains::take_chain;
 use cdf_area::{Area, AreaError};
 use cdf_format::fields::AEDR_NUM;
 use cdf_records::read_unsigned4;
@@ -49,7 +50,7 @@ fn read_numbers<A: Area>(alloc: Global, area: &mut A, places: &[u64]) -> Result<
 
 /// Whether two chains are of the same entries. Of other records than entries none are.
 pub(crate) fn are_same_entries(one: Chain, other: Chain) -> bool
-    ensures { IsTrue result → one ≡ other }
+    ensures { result ≡ is_same_chain one other }
 {
     match one {
         Chain::GrEntries { adr } => match other {
@@ -86,6 +87,13 @@ impl EntryChain {
         })
     }
 
+    /// Whether these are the entries of a chain.
+    pub(crate) fn is_of(&self, chain: Chain) -> bool
+        ensures { result ≡ is_same_chain self.now.chain chain }
+    {
+        are_same_entries(self.chain, chain)
+    }
+
     /// How many entries stand before the one with a number.
     pub(crate) fn find(&self, num: u32) -> Option<usize>
         ensures { result ≡ position (λ n. n == num) self.now.numbers }
@@ -120,8 +128,8 @@ impl EntryChain {
 }
 
 impl Attrs {
-    /// The entries of a chain of an attribute: those that are kept, where they are of this chain, else as they are read. They are
-    /// given away, so that none are kept any more, in no order.
+    /// The entries of a chain of an attribute: those that are kept, if there are such, else as they are read. They are given away, so
+    /// that none of this chain are kept any more, and none in order.
     pub(crate) fn take_entries<A: Area>(
         &mut self,
         area: &mut A,
@@ -132,14 +140,14 @@ impl Attrs {
         requires attribute { IsOfAttribute (A.image area.old) chain }
         ensures chain { IfOk result (λ entries. entries.chain ≡ chain) }
         ensures entries { IfOk result (KnowsEntries (A.image area.old)) }
-        ensures given { self.new ≡ record self.old { entries = None; order = None } }
+        ensures given { self.new ≡ record self.old { entries = self.new.entries; order = None } }
+        ensures others { All (λ entries. is_same_chain entries.chain chain ≡ false) self.new.entries }
+        ensures known { Knows (A.image area.old) self.new }
         ensures area { Reads A.image A.frame A.faults A.edited area.old area.new result }
     {
         self.order = None;
-        if let Some(kept) = self.entries.take() {
-            if are_same_entries(kept.chain, chain) {
-                return Ok(kept);
-            }
+        if let Some(kept) = take_chain(&mut self.entries, chain) {
+            return Ok(kept);
         }
         EntryChain::load(self.alloc, area, chain)
     }

@@ -15,6 +15,7 @@ ghost use Rattle.cdf_format.specs.WellFormed.{Good};
 
 use crate::attrs::Attrs;
 use crate::entry_chain::{EntryChain, are_same_entries};
+use crate::kept_chains::keep_chain;
 use cdf_area::{Area, AreaError};
 use cdf_space::Chain;
 use std::alloc::{AllocError, Global};
@@ -86,7 +87,7 @@ impl Attrs {
         }
         let entries = self.take_entries(area, chain)?;
         let order = EntryOrder::of(self.alloc, &entries)?;
-        self.entries = Some(entries);
+        keep_chain(&mut self.entries, entries);
         Ok(order)
     }
 

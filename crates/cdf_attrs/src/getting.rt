@@ -15,6 +15,7 @@ ghost use Rattle.cdf_model.specs.declared.command.Command.TheVariants.{GetEntry}
 
 use crate::attrs::Attrs;
 use crate::finding::Target;
+use crate::kept_chains::keep_chain;
 use cdf_area::{Area, AreaError};
 use cdf_format::fields::{AEDR_DATA_TYPE, AEDR_NUM_ELEMS, AEDR_VALUE};
 use cdf_model::{Bytes, DataType, EntryKind, Outcome, Reason, Reply};
@@ -105,7 +106,7 @@ impl Attrs {
         };
         let entries = self.take_entries(area, chain)?;
         let place = entries.place_of(num);
-        self.entries = Some(entries);
+        keep_chain(&mut self.entries, entries);
         let Some(place) = place else {
             return Ok(Outcome::Refused {
                 reason: Reason::NoSuchEntry,

@@ -12,6 +12,7 @@ mod entry_order;
 mod finding;
 mod getting;
 mod greatest;
+mod kept_chains;
 pub mod laws;
 mod numbering;
 mod putting;

@@ -19,6 +19,7 @@ use crate::attrs::Attrs;
 use crate::entry_bytes::StoredValue;
 use crate::finding::Target;
 use crate::greatest::greatest_with;
+use crate::kept_chains::keep_chain;
 use crate::putting::{NewEntry, Slot, put_new};
 use crate::range::is_out_of_range;
 use crate::value::read_value;
@@ -147,7 +148,7 @@ impl Attrs {
             greatest,
         };
         let put = put_new(self.alloc, area, &entry, entries)?;
-        self.entries = Some(put);
+        keep_chain(&mut self.entries, put);
         Ok(Outcome::Done {
             reply: Reply::Plain,
         })

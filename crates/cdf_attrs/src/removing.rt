@@ -20,6 +20,7 @@ use crate::attrs::Attrs;
 use crate::chain_fields::{entries_chain, set_count, set_greatest};
 use crate::entry_chain::EntryChain;
 use crate::finding::Target;
+use crate::kept_chains::keep_chain;
 use cdf_area::{Area, AreaError};
 use cdf_model::{EntryKind, Outcome, Reason, Reply};
 use cdf_space::{chain_remove, free_record};
@@ -122,7 +123,7 @@ impl Attrs {
         };
         let entries = self.take_entries(area, chain)?;
         let Some(i) = entries.find(num) else {
-            self.entries = Some(entries);
+            keep_chain(&mut self.entries, entries);
             return Ok(Outcome::Refused {
                 reason: Reason::NoSuchEntry,
             });
@@ -130,7 +131,7 @@ impl Attrs {
         let places = self.places.as_slice();
         let adr = places[number as usize];
         let left = remove_at(area, kind, adr, entries, i)?;
-        self.entries = Some(left);
+        keep_chain(&mut self.entries, left);
         Ok(Outcome::Done {
             reply: Reply::Plain,
         })

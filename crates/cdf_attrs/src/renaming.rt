@@ -50,7 +50,7 @@ impl Attrs {
         }
         let last = self.names.len();
         self.names.add(Bytes::new(to.to_vec(self.alloc)?))?;
-        self.entries = None;
+        self.entries.clear();
         self.order = None;
         let places = self.places.as_slice();
         match set_adr_name(area, places[number as usize], to) {

@@ -39,12 +39,12 @@ make-requires-clause-places g c = places_known c.requires.known c.self.view_is
 pub returns-in-Ok-clause-known : goal.returns-in-Ok-clause-known
 returns-in-Ok-clause-known g c =
     let name : c.new.result ≡ c.args.name.now = c.new.ensures ∙ c.in_ok-to_vec.ensures.items_if_clones_equal (λ x y e. e) in
-    none_known (g.A.Area.image c.make.new.area) c.add.new.self c.make.new.places.items
+    none_known (g.A.Area.image c.make.new.area) c.add.new.self c.make.new.places.items _
     (c.in_ok-add.ensures.added ∙ ap₂ (λ (xs : List (List ℕ)) (x : List ℕ). xs ++ x ∷ []) (names_known c.requires.known c.self.view_is) name ∙ sym c.in-Ok.ensures.names)
-    c.in-Ok.ensures.places
+    c.in-Ok.ensures.places c.clear.ensures.items
 
 pub returns-in-Err-clause-stays : goal.returns-in-Err-clause-stays
 returns-in-Err-clause-stays g c =
-    none_known (g.A.Area.image c.args.area.now) c.remove.new.self c.make.new.places.items
+    none_known (g.A.Area.image c.args.area.now) c.remove.new.self c.make.new.places.items _
     (c.remove.ensures ∙ ap (λ (x : List (List ℕ)). remove x c.len-last.result) c.in_ok-add.ensures.added ∙ last_removed c.self.inside.names c.new.result c.len-last.result c.len-last.ensures.count ∙ names_known c.requires.known c.self.view_is)
-    (c.in-Err.ensures.stays ∙ places_known c.requires.known c.self.view_is)
+    (c.in-Err.ensures.stays ∙ places_known c.requires.known c.self.view_is) c.clear.ensures.items

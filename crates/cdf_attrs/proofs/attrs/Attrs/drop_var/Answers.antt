@@ -1,5 +1,6 @@
 use Rattle.cdf_attrs.proofs.Common.{Known, ap, arith, edit_more, refl, start, sym, ◌∙◌}
 use Rattle.cdf_attrs.proofs.DroppedChains.{all_done, at_index, drops_more, keeps_same}
+use Rattle.cdf_attrs.proofs.KnownAttributes.{names_known, none_known, places_known}
 use Rattle.cdf_attrs.proofs.attrs.Attrs.drop_var.Goals as goal
 
 pub loop-adr-init : goal.loop-adr-init
@@ -25,3 +26,14 @@ pub returns-clause-dropped : goal.returns-clause-dropped
 returns-clause-dropped g c =
     let are = c.deref-adr-items.ensures.value ∙ ap (λ (k : Known). k.places) c.self.view_is ∙ c.requires.known.places_are in
     λ found kind_is num_is. all_done c.deref-adr-items.result.now c.loop-adr.adr-index are (omega (arith, c.loop-adr-test.false, c.loop-adr.auto.adr-index-end)) (c.loop-adr.invariant.dropped found kind_is num_is)
+
+pub returns-clause-known : goal.returns-clause-known
+returns-clause-known g c =
+    let keeps = c.loop-adr.invariant.keeps in
+    none_known _ _ _ _ (names_known c.requires.known c.self.view_is ∙ sym keeps.names) (places_known c.requires.known c.self.view_is ∙ sym keeps.places) c.clear.ensures.items
+
+pub returns-clause-stays : goal.returns-clause-stays
+returns-clause-stays g c = none_known _ _ _ _ (names_known c.requires.known c.self.view_is) (places_known c.requires.known c.self.view_is) c.clear.ensures.items
+
+pub returns-in_err-drop_from-clause-stays : goal.returns-in_err-drop_from-clause-stays
+returns-in_err-drop_from-clause-stays g c = none_known _ _ _ _ (names_known c.requires.known c.self.view_is) (places_known c.requires.known c.self.view_is) c.clear.ensures.items

@@ -1,5 +1,5 @@
 use Rattle.cdf_attrs.proofs.Common.{List, ap, option_map, subst, sym, ℕ, ◌∙◌}
-use Rattle.cdf_attrs.proofs.KnownAttributes.{some_ordered}
+use Rattle.cdf_attrs.proofs.KnownAttributes.{of_one, places_known, some_ordered}
 use Rattle.cdf_attrs.proofs.ShownAttributes.{entry_found, few_some, found_stands}
 use Rattle.cdf_attrs.specs.Known.{KnowsOrder}
 use Rattle.cdf_attrs.specs.Showing.{numbered_entry}
@@ -18,5 +18,7 @@ returns-clause-member g c = found_stands (g.A.Area.image c.args.area.now) c.requ
 
 pub returns-clause-known : goal.returns-clause-known
 returns-clause-known g c =
-    some_ordered c.take_order.ensures.known c.self.view_is c.in_ok-order.order
-    (subst (λ (x : List ℕ). KnowsOrder x c.in_ok-order.order) (sym c.take_order.ensures.area.image) c.in_ok-order.ensures.order)
+    some_ordered c.take_order.ensures.known c.self.view_is c.in_ok-order.order (record {
+      of_one = of_one (places_known (rw c.take_order.ensures.area.image at c.take_order.ensures.known) c.self.view_is) c.requires.attribute c.in_ok-order.ensures.chain;
+      knows = subst (λ (x : List ℕ). KnowsOrder x c.in_ok-order.order) (sym c.take_order.ensures.area.image) c.in_ok-order.ensures.order;
+    })

@@ -1,5 +1,5 @@
 use Rattle.cdf_attrs.proofs.Common.{Answers, Done, Finds, GetEntry, Good, KnowsEntries, List, NoSuchEntry, Refused, ap, arith, cdr_room, entry_bytes, entry_of, entry_reply, good_is_sound, length, subst, sym, ℕ, ◌+◌, ◌∙◌, ◌≤◌}
-use Rattle.cdf_attrs.proofs.GettingAnswers.{entry_fits, refused_for, is_missing, is_shown}
+use Rattle.cdf_attrs.proofs.GettingAnswers.{entry_fits, is_missing, is_shown, kept_with, of_attribute, refused_for, still_known}
 use Rattle.cdf_attrs.proofs.attrs.Attrs.get_entry.Goals as goal
 
 pub returns-in-Refused-clause-answers : goal.returns-in-Refused-clause-answers
@@ -46,3 +46,18 @@ returns-clause-answers g c =
     let reply = c.in_ok-reply.ensures.reply ∙ ap (λ (x : List ℕ). entry_reply (entry_of x c.in-Some.place)) same in
     let shown = is_shown limit b c.args.attr.now c.args.kind c.args.num c.requires.good found c.in_ok-entries.entries c.in_ok-entries.ensures.chain knows c.requires.fits c.in-Some.place (sym c.in-Some.is ∙ c.place_of-place.ensures) c.in_ok-reply.reply reply in
     subst (λ (x : List ℕ). Answers limit b (GetEntry c.args.attr.now c.args.kind c.args.num) (Done c.in_ok-reply.reply) x) (sym (c.read_entry.ensures.area.image ∙ same)) shown
+
+pub returns-in_default-clause-known : goal.returns-in_default-clause-known
+returns-in_default-clause-known g c =
+    let found = subst (Finds (g.A.Area.image c.args.area.now) c.args.attr.now c.args.kind) c.in-Found.is c.in_ok-chain.ensures.target in
+    still_known (c.take_entries.ensures.area.image ∙ c.find_chain.ensures.area.image) (kept_with c.find_chain.ensures.area.image c.take_entries.ensures.known c.self.view_is (of_attribute found) c.in_ok-entries.entries c.in_ok-entries.ensures.chain c.in_ok-entries.ensures.entries _ c.keep_chain.ensures)
+
+pub returns-in_err-reply-clause-known : goal.returns-in_err-reply-clause-known
+returns-in_err-reply-clause-known g c =
+    let found = subst (Finds (g.A.Area.image c.args.area.now) c.args.attr.now c.args.kind) c.in-Found.is c.in_ok-chain.ensures.target in
+    still_known (c.read_entry.ensures.area.image ∙ c.take_entries.ensures.area.image ∙ c.find_chain.ensures.area.image) (kept_with c.find_chain.ensures.area.image c.take_entries.ensures.known c.self.view_is (of_attribute found) c.in_ok-entries.entries c.in_ok-entries.ensures.chain c.in_ok-entries.ensures.entries _ c.keep_chain.ensures)
+
+pub returns-clause-known : goal.returns-clause-known
+returns-clause-known g c =
+    let found = subst (Finds (g.A.Area.image c.args.area.now) c.args.attr.now c.args.kind) c.in-Found.is c.in_ok-chain.ensures.target in
+    still_known (c.read_entry.ensures.area.image ∙ c.take_entries.ensures.area.image ∙ c.find_chain.ensures.area.image) (kept_with c.find_chain.ensures.area.image c.take_entries.ensures.known c.self.view_is (of_attribute found) c.in_ok-entries.entries c.in_ok-entries.ensures.chain c.in_ok-entries.ensures.entries _ c.keep_chain.ensures)

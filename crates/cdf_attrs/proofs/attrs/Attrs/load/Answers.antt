@@ -24,6 +24,6 @@ read_names-requires-clause-places g c =
 pub returns-clause-known : goal.returns-clause-known
 returns-clause-known g c =
     let b = g.A.Area.image c.args.area.now in
-    none_known b c.in_ok-names.names c.in_ok-places.places.items
+    none_known b c.in_ok-names.names c.in_ok-places.places.items _
     (c.in_ok-names.ensures.names ∙ ap (λ (x : List ℕ). attribute_names (content x)) c.in_ok-places.ensures.area.image)
-    (c.in_ok-places.ensures.members ∙ attribute_members b (shape b) (good_is_sound b c.requires).has_shape)
+    (c.in_ok-places.ensures.members ∙ attribute_members b (shape b) (good_is_sound b c.requires).has_shape) c.new.ensures.items

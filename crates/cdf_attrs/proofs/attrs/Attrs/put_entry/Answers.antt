@@ -1,7 +1,10 @@
 use Rattle.cdf_attrs.proofs.Common.{ByStep, Known, KnownEntries, List, ap, arith, fold, image_limit, length, max, pos, refused, to_z-of_z, ℕ, ◌∙◌, ◌≤◌}
 use Rattle.std.proofs.Common.{w32}
 use Rattle.cdf_attrs.proofs.AttributeFound.{place_within}
-use Rattle.cdf_attrs.proofs.PutAnswers.{greatest_signed, greatest_within, put_done, put_ready, put_too_large}
+use Rattle.cdf_attrs.proofs.GettingAnswers.{of_attribute}
+use Rattle.cdf_attrs.proofs.KnownAttributes.{of_one, one_changed, places_known}
+use Rattle.cdf_attrs.proofs.PutAnswers.{greatest_signed, greatest_within, put_done, put_leaves, put_ready, put_too_large}
+use Rattle.cdf_attrs.proofs.Failing.{on_err}
 use Rattle.cdf_attrs.proofs.attrs.Attrs.put_entry.Goals as goal
 
 pub returns-in-Refused-clause-answers : goal.returns-in-Refused-clause-answers
@@ -37,3 +40,15 @@ put_new-requires g c =
 pub returns-clause-answers : goal.returns-clause-answers
 returns-clause-answers g c =
     put_done _ (rw c.in-Put.is at c.in_ok-number.ensures.request) (grind (arith, c.requires.fits, c.read_request.ensures.area.image, c.read_request.ensures.area.frame, c.if-limit-size.false, c.limit.ensures, c.size.ensures, c.len.ensures)) (rw (c.take_entries.ensures.area.image, c.read_request.ensures.area.image) at c.in_ok-put.ensures.put.puts)
+
+pub returns-clause-known : goal.returns-clause-known
+returns-clause-known g c =
+    let may = rw c.in-Put.is at c.in_ok-number.ensures.request in
+    let put = rw (c.take_entries.ensures.area.image, c.read_request.ensures.area.image) at c.in_ok-put.ensures.put in
+    let before = rw c.read_request.ensures.area.image at c.take_entries.ensures.known in
+    one_changed c.in-Put.chain before c.self.view_is (ap (λ (k : Known). k.order) c.take_entries.ensures.given) put.puts.names_stay put.puts.places_stay
+    c.take_entries.ensures.others (put_leaves 0 may c.requires.good put.puts) c.in_ok-put.put _
+    (of_one (places_known before c.self.view_is) (of_attribute may.found) (put.chain_is ∙ c.in_ok-entries.ensures.chain)) put.knows c.keep_chain.ensures
+
+pub returns-in_err-put-clause-stays : goal.returns-in_err-put-clause-stays
+returns-in_err-put-clause-stays g c = on_err _ (rw c.read_request.ensures.area.image at c.take_entries.ensures.known)

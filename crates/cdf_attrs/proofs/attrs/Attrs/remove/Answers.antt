@@ -2,6 +2,7 @@ use Rattle.cdf_attrs.proofs.Common.{List, ap, arith, content, delete_done, delet
 use Rattle.cdf_attrs.proofs.KnownAttributes.{names_known, places_known, none_known}
 use Rattle.cdf_attrs.proofs.NamesChanged.{none_named, number_within, some_named}
 use Rattle.cdf_attrs.proofs.RenamingSteps.{number_is_adr}
+use Rattle.cdf_attrs.proofs.Failing.{on_err}
 use Rattle.cdf_attrs.proofs.attrs.Attrs.remove.Goals as goal
 
 pub returns-in_default-clause-answers : goal.returns-in_default-clause-answers
@@ -22,6 +23,9 @@ returns-clause-answers g c =
 
 pub returns-clause-known : goal.returns-clause-known
 returns-clause-known g c =
-    none_known _ c.remove.new.self c.remove-2.new.self.items
+    none_known _ c.remove.new.self c.remove-2.new.self.items _
     (c.remove.ensures ∙ ap (λ (xs : List (List ℕ)). remove xs c.in-Some.number) (names_known c.requires.known c.self.view_is) ∙ names_after c.requires.good c.in_ok-delete.ensures.deleted)
-    (c.remove-2.ensures.items ∙ ap (λ (xs : List ℕ). remove xs c.in-Some.number) (places_known c.requires.known c.self.view_is) ∙ places_after c.requires.good c.in_ok-delete.ensures.deleted)
+    (c.remove-2.ensures.items ∙ ap (λ (xs : List ℕ). remove xs c.in-Some.number) (places_known c.requires.known c.self.view_is) ∙ places_after c.requires.good c.in_ok-delete.ensures.deleted) c.clear.ensures.items
+
+pub returns-in_err-delete-clause-stays : goal.returns-in_err-delete-clause-stays
+returns-in_err-delete-clause-stays g c = on_err _ (none_known _ _ _ _ (names_known c.requires.known c.self.view_is) (places_known c.requires.known c.self.view_is) c.clear.ensures.items)

@@ -48,7 +48,7 @@ returns-in-Ok-clause-answers g c =
 pub returns-in-Ok-clause-known : goal.returns-in-Ok-clause-known
 returns-in-Ok-clause-known g c =
     let name : c.new.result ≡ c.args.to.now = c.new.ensures ∙ c.in_ok-to_vec.ensures.items_if_clones_equal (λ x y e. e) in
-    none_known (g.A.Area.image c.set_adr_name.new.area) c.last_to.new.self c.self.inside.places.items
+    none_known (g.A.Area.image c.set_adr_name.new.area) c.last_to.new.self c.self.inside.places.items _
     (c.last_to.ensures
     ∙ ap (λ (xs : List (List ℕ)). last_to xs c.in-Some.number) (c.in_ok-add.ensures.added ∙ ap (λ (x : List ℕ). c.self.inside.names ++ x ∷ []) name)
     ∙ names_done (g.A.Area.image c.args.area.now) _ c.self.inside.names c.args.from.now c.args.to.now (names_known c.requires.known c.self.view_is) c.in-Some.number _ c.requires.good c.requires.fits (omega (arith, c.requires.fits, c.requires.limit)) (sym c.in-Some.ensures.number)
@@ -58,10 +58,10 @@ returns-in-Ok-clause-known g c =
     (places_known c.requires.known c.self.view_is ∙ places_done (g.A.Area.image c.args.area.now) _ c.self.inside.names c.args.from.now c.args.to.now (names_known c.requires.known c.self.view_is) c.in-Some.number _ c.requires.good c.requires.fits (omega (arith, c.requires.fits, c.requires.limit)) (sym c.in-Some.ensures.number)
     (sym c.is_bad_name.ensures ∙ c.if-is_bad_name.false)
     (sym c.find-2.ensures.exact ∙ sym c.is_some.ensures ∙ c.if-is_some.false)
-    _ (ap (λ (xs : List ℕ). slice_index xs c.in-Some.number) (c.as_slice-places.ensures.value ∙ places_known c.requires.known c.self.view_is)) c.in-Ok.ensures.ok)
+    _ (ap (λ (xs : List ℕ). slice_index xs c.in-Some.number) (c.as_slice-places.ensures.value ∙ places_known c.requires.known c.self.view_is)) c.in-Ok.ensures.ok) c.clear.ensures.items
 
 pub returns-in-Err-clause-stays : goal.returns-in-Err-clause-stays
 returns-in-Err-clause-stays g c =
-    none_known (g.A.Area.image c.args.area.now) c.remove.new.self c.self.inside.places.items
+    none_known (g.A.Area.image c.args.area.now) c.remove.new.self c.self.inside.places.items _
     (c.remove.ensures ∙ ap (λ (xs : List (List ℕ)). remove xs c.len-last.result) c.in_ok-add.ensures.added ∙ last_removed c.self.inside.names c.new.result c.len-last.result c.len-last.ensures.count ∙ names_known c.requires.known c.self.view_is)
-    (places_known c.requires.known c.self.view_is)
+    (places_known c.requires.known c.self.view_is) c.clear.ensures.items
