@@ -13,7 +13,9 @@ use Rattle.cdf_format.proofs.ChainsLemmas.{is_a-in, is_a-type}
 use Rattle.cdf_model.specs.declared.answer.Reply.TheVariants as replies
 use Rattle.cdf_model.specs.declared.command.Command.TheVariants as commands
 use Rattle.cdf_session.specs.Seals.{seal_of}
-use Rattle.cdf_session.proofs.OpenLemmas.{attributes_known, variables_known}
+use Rattle.cdf_puts.specs.Starts.{KnowsStarts}
+use Rattle.cdf_puts.specs.declared.starts.Starts.{Starts}
+use Rattle.cdf_session.proofs.OpenLemmas.{starts_known, attributes_known, variables_known}
 use Rattle.md5.specs.Md5.{md5 as md5_of}
 use Rattle.std.proofs.lemmas.List.{take_all}
 
@@ -66,11 +68,15 @@ module _ (b now : List ℕ) (md5 : Bool) (good : Good b) (flags_are : flags now 
   pub checksum_answers : (limit : ℕ) → length b ≤ limit → limit ≤ image_limit → Answers limit b (commands.Checksum md5) (Done replies.Plain) now
   checksum_answers limit fits limited = gone limit b (commands.Checksum md5) (record (content b) { md5 = md5 }) replies.Plain now refl (omega arith) (leads (omega arith))
 
-  pub checksum_open : {U : Type 0} (frame after : Frame U) (known : Known) (vars : KnownVariables) → IsOpen b frame known vars → after ≡ frame → IsOpen now after (record known { entries = None; order = None }) vars
+  pub checksum_open : {U : Type 0} (frame after : Frame U) (known : Known) (vars : KnownVariables) → IsOpen b frame known vars → after ≡ frame → IsOpen now after known vars
   checksum_open frame after known vars was kept =
       let fits = was.fits in
       let limited = was.limited in
-      let knows = attributes_known b now (commands.Checksum md5) known refl good (leads (omega arith)) was.knows in
+      let knows = attributes_known b now (commands.Checksum md5) known (record { not_on_attributes = refl; on_no_entry = λ d n kind. refl }) good (leads (omega arith)) was.knows in
       let variables = variables_known b now (commands.Checksum md5) vars refl good (leads (omega arith)) was.knows_variables in
-      let there : IsOpen now frame (record known { entries = None; order = None }) vars = record { good = (leads (omega arith)).good; fits = omega arith; limited = limited; unmarked = was.unmarked; knows = knows; knows_variables = variables } in
-      subst (λ (f : Frame _). IsOpen now f (record known { entries = None; order = None }) vars) (sym kept) there
+      let there : IsOpen now frame known vars = record { good = (leads (omega arith)).good; fits = omega arith; limited = limited; unmarked = was.unmarked; knows = knows; knows_variables = variables } in
+      subst (λ (f : Frame _). IsOpen now f known vars) (sym kept) there
+
+  -- the nodes that are known stay too
+  pub checksum_starts : (starts after : Starts) → KnowsStarts b starts → after ≡ starts → length b ≤ image_limit → KnowsStarts now after
+  checksum_starts starts after knows same short = subst (KnowsStarts now) (sym same) (starts_known b now (commands.Checksum md5) starts refl good (leads short) knows)

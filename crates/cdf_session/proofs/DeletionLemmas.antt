@@ -1,5 +1,8 @@
 -- What is kept of attributes and variables while a variable goes with its entries.
-use Rattle.cdf_session.proofs.Common.{DelVar, Known, Knows, List, None, Parts, Some, ap, arith, delete_done, length, map, refl, subst, sym, the_parts, ℕ, ◌<◌, ◌∙◌, ◌≡◌, ◌≤◌}
+use Rattle.cdf_attrs.proofs.KnownAttributes.{none_known}
+use Rattle.cdf_attrs.specs.Known.{KeepsEntries}
+use Rattle.std.specs.Prelude.{All}
+use Rattle.cdf_session.proofs.Common.{DelVar, Known, Knows, List, None, Parts, Some, [], ap, arith, delete_done, length, map, refl, subst, sym, the_parts, ℕ, ◌<◌, ◌∙◌, ◌≡◌, ◌≤◌}
 use Rattle.cdf_edits.proofs.Common.{DropsEntries, RemovesVariable, content, adrs, vdrs, Good, DataSet, Variable, Found, attribute_names, variable_named, variables_of, with_variables, Kind, R, Z, Answers, variable_of, image_limit, Done, Plain}
 use Rattle.cdf_edits.proofs.Edits.RemovedVariable.{content_after, shape_after}
 use Rattle.cdf_vars.specs.Finding.{found_among}
@@ -11,11 +14,11 @@ same_names d kind vs = grind arith
 
 module _ {b now : List ℕ} {kind : Kind} {n : ℕ} (good : Good b) (d : RemovesVariable b now kind n) where
   -- the attributes stay while the variable itself goes
-  pub attributes_stay : {known : Known} → known.entries ≡ None → known.order ≡ None → Knows b known → Knows now known
+  pub attributes_stay : {known : Known} → known.entries ≡ [] → known.order ≡ None → Knows b known → Knows now known
   attributes_stay {known} no_entries no_order knows = record {
     names_are = knows.names_are ∙ sym (ap attribute_names (content_after good d) ∙ same_names _ kind _);
     places_are = knows.places_are ∙ sym (ap adrs (shape_after good d));
-    entries_are = λ e same. let gone : None ≡ Some e = sym no_entries ∙ same in absurd cc;
+    entries_are = subst (All (KeepsEntries now known.places)) (sym no_entries) (λ k d lt. absurd (omega (arith, lt)));
     order_is = λ o same. let gone : None ≡ Some o = sym no_order ∙ same in absurd cc;
   }
 
@@ -74,6 +77,6 @@ module _ {b mid : List ℕ} {known : KnownVariables} (name : List ℕ) {id : Var
   pub is_deleted : {now : List ℕ} (limit : ℕ) → length b ≤ limit → limit ≤ image_limit → RemovesVariable mid now id.kind id.num → Answers limit b (DelVar name) (Done Plain) now
   is_deleted limit fits most removes = delete_done good drops removes name named limit fits (omega arith)
 
--- nothing but the entries of one chain was let go
-pub forgets : {b : List ℕ} {known after : Known} → Knows b known → after ≡ record known { entries = None; order = None } → Knows b after
-forgets {b} {known} {after} knows is = subst (Knows b) (sym is) (record { names_are = knows.names_are; places_are = knows.places_are; entries_are = λ e same. absurd cc; order_is = λ o same. absurd cc })
+-- nothing but entries was let go
+pub forgets : {b : List ℕ} {known after : Known} → Knows b known → after ≡ record known { entries = []; order = None } → Knows b after
+forgets {b} {known} {after} knows is = subst (Knows b) (sym is) (none_known b known.names known.places [] knows.names_are knows.places_are refl)

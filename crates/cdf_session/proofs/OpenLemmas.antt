@@ -1,13 +1,14 @@
 -- A session stays open.
-use Rattle.cdf_session.proofs.Common.{Answers, AreaError, Bool, Done, Err, Follows, Frame, Good, IfOk, IsOpen, Known, Knows, List, MovesIf, None, Ok, OnErr, OnOk, Result, Some, ap, arith, content, false, head_of, inl, inr, is_full, length, nat_lt, refl, subst, sym, transport, true, with_base, ℕ, ◌&&◌, ◌++◌, ◌+◌, ◌∙◌, ◌≡◌, ◌≤◌}
-use Rattle.cdf_attrs.proofs.KnownAttributes.{none_known}
-use Rattle.cdf_puts.specs.Starts.{KnowsStarts}
+use Rattle.cdf_session.proofs.Common.{Answers, AreaError, Bool, Done, Err, Follows, Frame, Good, IfOk, IsOpen, Known, Knows, List, MovesIf, None, Ok, OnErr, OnOk, Result, Some, ap, arith, content, false, head_of, inl, inr, is_full, length, nat_lt, refl, shape, subst, sym, transport, true, with_base, ℕ, ◌&&◌, ◌++◌, ◌+◌, ◌∙◌, ◌≡◌, ◌≤◌}
+use Rattle.cdf_attrs.proofs.KnownAttributes.{known_stays}
+use Rattle.cdf_puts.specs.Starts.{IsKnownOf, KnowsStarts}
 use Rattle.cdf_puts.specs.declared.starts.Starts.{Starts}
 use Rattle.std.proofs.lemmas.Result.{on_err_weaker}
 use Rattle.cdf_vars.specs.Known.{Known as KnownVariables, Knows as KnowsVariables}
-use Rattle.cdf_edits.specs.Commands.Others.{is_on_attributes, is_on_variables}
+use Rattle.cdf_edits.specs.Commands.Others.{is_on_attributes, is_on_entries, is_on_variables}
 use Rattle.cdf_edits.specs.Commands.Room.{room}
-use Rattle.cdf_edits.proofs.Commands.OthersStay.{attributes_stay, variables_stay}
+use Rattle.cdf_edits.proofs.Commands.OthersStay.{attributes_stay, indexes_stay, variables_stay}
+use Rattle.cdf_edits.proofs.Commands.SameEntries.{entries_stay}
 use Rattle.cdf_edits.proofs.Commands.ReadingFollows.{reading_follows}
 use Rattle.cdf_format.proofs.Members.{either}
 use Rattle.cdf_model.specs.declared.answer.Outcome.{Outcome}
@@ -16,7 +17,11 @@ use Rattle.cdf_model.specs.declared.command.Command.{Command}
 use Rattle.cdf_model.specs.declared.command.Command.TheVariants as commands
 use Rattle.cdf_model.specs.declared.head.Head.{Head}
 use Rattle.cdf_model.specs.declared.item.Item.{Item}
+use Rattle.cdf_format.specs.Shape.{Each, VariableShape, variables}
+use Rattle.cdf_model.specs.declared.kinds.EntryKind.{EntryKind}
 use Rattle.cdf_model.specs.declared.kinds.Kind.TheVariants.{R, Z}
+use Rattle.std.proofs.Common.{ap₂}
+use Rattle.cdf_model.specs.DataSet.{DataSet}
 use Rattle.cdf_model.specs.Answers.{Answer, Go, Refuse, is_accepted}
 use Rattle.cdf_model.specs.Listing.{attribute_items, items_of, variable_items}
 
@@ -51,7 +56,16 @@ pub listed : (b read : List ℕ) (attributes items : List Item) → read ≡ b �
     → items ≡ attributes ++ variable_items R 0 (content read).r_variables ++ variable_items Z 0 (content read).z_variables → items ≡ items_of (content b)
 listed b read attributes items same first all = all ∙ (λ i. first i ++ variable_items R 0 (content (same i)).r_variables ++ variable_items Z 0 (content (same i)).z_variables)
 
+-- the nodes that are kept
+pub starts_stay : (b now : List ℕ) (starts after : Starts) → KnowsStarts b starts → after ≡ starts → now ≡ b → KnowsStarts now after
+starts_stay b now starts after knows same stays = transport (λ i. KnowsStarts (sym stays i) (sym same i)) knows
+
 -- ---- a command that changes, between a mark and its end
+
+-- the command is on no attribute and on no entry
+pub record LeavesEntries (c : Command) : Type 0 where
+  pub not_on_attributes : is_on_attributes c ≡ false
+  pub on_no_entry : (d : DataSet) (n : ℕ) (kind : EntryKind) → is_on_entries d c n kind ≡ false
 
 -- a command is accepted only where its image is not too long
 accepted_fits : (answer : Answer) (long : Bool) → is_accepted answer (is_accepted answer false && long) ≡ true → long ≡ false
@@ -101,20 +115,30 @@ variables_after limit b start made c vars other good knows begins (Ok o) answers
     answered_so (λ (x : List ℕ). KnowsVariables x vars) limit b made c o (subst (λ (x : List ℕ). Answers limit x c o made) begins answers) knows (λ f. variables_known b made c vars other good f knows)
 variables_after limit b start made c vars other good knows begins (Err error) answers = tt
 
--- one that is not on attributes leaves what is known of them, but for the entries of one chain, which are to be forgotten
-pub attributes_known : (b now : List ℕ) (c : Command) (known : Known) → is_on_attributes c ≡ false → Good b → Follows b c now → Knows b known → Knows now (record known { entries = None; order = None })
+-- one that is on no attribute and on no entry leaves what is known of them
+pub attributes_known : (b now : List ℕ) (c : Command) (known : Known) → LeavesEntries c → Good b → Follows b c now → Knows b known → Knows now known
 attributes_known b now c known other good follows knows =
-    let stay = attributes_stay b now c other good follows in
-    none_known now known.names known.places (knows.names_are ∙ sym stay.names_stay) (knows.places_are ∙ sym stay.places_stay)
+    let stay = attributes_stay b now c other.not_on_attributes good follows in
+    known_stays (knows.names_are ∙ sym stay.names_stay) (knows.places_are ∙ sym stay.places_stay) knows (λ n own kind at. entries_stay b now c n own kind at (other.on_no_entry (content b) n kind) good follows)
 
-forgotten : (b : List ℕ) (known : Known) → Knows b known → Knows b (record known { entries = None; order = None })
-forgotten b known knows = none_known b known.names known.places knows.names_are knows.places_are
-
-attributes_after : (limit : ℕ) (b start made : List ℕ) (c : Command) (known : Known) → is_on_attributes c ≡ false → Good b → Knows b known → start ≡ b
-    → (done : Result Outcome AreaError) → IfOk done (λ o. Answers limit start c o made) → OnOk done (Knows made (record known { entries = None; order = None }))
+attributes_after : (limit : ℕ) (b start made : List ℕ) (c : Command) (known : Known) → LeavesEntries c → Good b → Knows b known → start ≡ b
+    → (done : Result Outcome AreaError) → IfOk done (λ o. Answers limit start c o made) → OnOk done (Knows made known)
 attributes_after limit b start made c known other good knows begins (Ok o) answers =
-    answered_so (λ (x : List ℕ). Knows x (record known { entries = None; order = None })) limit b made c o (subst (λ (x : List ℕ). Answers limit x c o made) begins answers) (forgotten b known knows) (λ f. attributes_known b made c known other good f knows)
+    answered_so (λ (x : List ℕ). Knows x known) limit b made c o (subst (λ (x : List ℕ). Answers limit x c o made) begins answers) knows (λ f. attributes_known b made c known other good f knows)
 attributes_after limit b start made c known other good knows begins (Err error) answers = tt
+
+-- one that is not on variables leaves the nodes that are known of their indexes
+pub starts_known : (b now : List ℕ) (c : Command) (starts : Starts) → is_on_variables c ≡ false → Good b → Follows b c now → KnowsStarts b starts → KnowsStarts now starts
+starts_known b now c starts other good follows knows =
+    let stay = indexes_stay b now c other good follows in
+    let same : variables (shape now) ≡ variables (shape b) = ap₂ (λ (rs zs : List VariableShape). rs ++ zs) (stay.shapes_stay R) (stay.shapes_stay Z) in
+    record { each = subst (Each (IsKnownOf starts)) (sym same) knows.each }
+
+starts_after : (limit : ℕ) (b start made : List ℕ) (c : Command) (starts : Starts) → is_on_variables c ≡ false → Good b → KnowsStarts b starts → start ≡ b
+    → (done : Result Outcome AreaError) → IfOk done (λ o. Answers limit start c o made) → OnOk done (KnowsStarts made starts)
+starts_after limit b start made c starts other good knows begins (Ok o) answers =
+    answered_so (λ (x : List ℕ). KnowsStarts x starts) limit b made c o (subst (λ (x : List ℕ). Answers limit x c o made) begins answers) knows (λ f. starts_known b made c starts other good f knows)
+starts_after limit b start made c starts other good knows begins (Err error) answers = tt
 
 -- the mark is gone at the end
 pub frame_back : {U : Type 0} (frame marked end : Frame U) (b : List ℕ) → frame.base ≡ None → marked ≡ with_base frame (Some b) → end ≡ with_base marked None → end ≡ frame
@@ -151,38 +175,50 @@ ends_open b start made now frame first marked end known after vars c other done 
     (variables_after first.limit b start made c vars other was.good was.knows_variables begins done answers)
     (on_err done (subst (λ (x : List ℕ). KnowsVariables x vars) (sym begins) was.knows_variables)) kept undone
 
--- of a command on variables, after which the entries that were kept are forgotten
-pub ends_on_variables : {U : Type 0} (b start made now : List ℕ) (frame first marked end : Frame U) (known after : Known) (vars vars' : KnownVariables) (c : Command) → is_on_attributes c ≡ false → (done : Result Outcome AreaError)
-    → IsOpen b frame known vars → start ≡ b → first ≡ with_base frame (Some b) → marked ≡ first → end ≡ with_base marked None → after ≡ record known { entries = None; order = None }
+-- of a command on variables
+pub ends_on_variables : {U : Type 0} (b start made now : List ℕ) (frame first marked end : Frame U) (known : Known) (vars vars' : KnownVariables) (c : Command) → LeavesEntries c → (done : Result Outcome AreaError)
+    → IsOpen b frame known vars → start ≡ b → first ≡ with_base frame (Some b) → marked ≡ first → end ≡ with_base marked None
     → IfOk done (λ o. Answers first.limit start c o made) → OnOk done (KnowsVariables made vars') → OnErr done (KnowsVariables start vars')
-    → OnOk done (now ≡ made) → OnErr done (marked.base ≡ Some now) → IsOpen now end after vars'
-ends_on_variables b start made now frame first marked end known after vars vars' c other done was begins is stays ends forgot answers knows stay kept undone =
-    subst (λ (k : Known). IsOpen now end k vars') (sym forgot)
-    (ends_known b start made now frame first marked end known (record known { entries = None; order = None }) vars vars' c done was begins is stays ends answers
+    → OnOk done (now ≡ made) → OnErr done (marked.base ≡ Some now) → IsOpen now end known vars'
+ends_on_variables b start made now frame first marked end known vars vars' c other done was begins is stays ends answers knows stay kept undone =
+    ends_known b start made now frame first marked end known known vars vars' c done was begins is stays ends answers
     (attributes_after first.limit b start made c known other was.good was.knows begins done answers)
-    (on_err done (subst (λ (x : List ℕ). Knows x (record known { entries = None; order = None })) (sym begins) (forgotten b known was.knows))) knows stay kept undone)
+    (on_err done (subst (λ (x : List ℕ). Knows x known) (sym begins) was.knows)) knows stay kept undone
 
 -- the nodes that are kept, which stay where all was taken back
 ends_starting : (start made now : List ℕ) (after : Starts) (done : Result Outcome AreaError) → OnOk done (KnowsStarts made after) → OnErr done (KnowsStarts start after) → OnOk done (now ≡ made) → OnErr done (now ≡ start) → KnowsStarts now after
 ends_starting start made now after (Ok o) knows stay kept back = subst (λ (x : List ℕ). KnowsStarts x after) (sym kept) knows
 ends_starting start made now after (Err error) knows stay kept back = subst (λ (x : List ℕ). KnowsStarts x after) (sym back) stay
 
+-- where an error came, all was taken back
+back_at_start : {U : Type 0} (b start now : List ℕ) (frame first marked : Frame U) → start ≡ b → first ≡ with_base frame (Some b) → marked ≡ first → (done : Result Outcome AreaError) → OnErr done (marked.base ≡ Some now) → OnErr done (now ≡ start)
+back_at_start b start now frame first marked begins is stays done undone = on_err_weaker done (λ base. some_same b now (sym (ap (λ (m : Frame _). m.base) (stays ∙ is)) ∙ base) ∙ sym begins) undone
+
 -- of a command on variables that leaves their names and places as they are
-pub ends_on_records : {U : Type 0} (b start made now : List ℕ) (frame first marked end : Frame U) (known after : Known) (vars : KnownVariables) (starts : Starts) (c : Command) → is_on_attributes c ≡ false → (done : Result Outcome AreaError)
-    → IsOpen b frame known vars → start ≡ b → first ≡ with_base frame (Some b) → marked ≡ first → end ≡ with_base marked None → after ≡ record known { entries = None; order = None }
+pub ends_on_records : {U : Type 0} (b start made now : List ℕ) (frame first marked end : Frame U) (known : Known) (vars : KnownVariables) (starts : Starts) (c : Command) → LeavesEntries c → (done : Result Outcome AreaError)
+    → IsOpen b frame known vars → start ≡ b → first ≡ with_base frame (Some b) → marked ≡ first → end ≡ with_base marked None
     → IfOk done (λ o. Answers first.limit start c o made) → OnOk done (KnowsVariables made vars) → OnOk done (KnowsStarts made starts) → OnErr done (KnowsStarts start starts)
-    → OnOk done (now ≡ made) → OnErr done (marked.base ≡ Some now) → IsOpen now end after vars × KnowsStarts now starts
-ends_on_records b start made now frame first marked end known after vars starts c other done was begins is stays ends forgot answers knows knows_starts starts_stay kept undone = (
-  ends_on_variables b start made now frame first marked end known after vars vars c other done was begins is stays ends forgot answers knows
+    → OnOk done (now ≡ made) → OnErr done (marked.base ≡ Some now) → IsOpen now end known vars × KnowsStarts now starts
+ends_on_records b start made now frame first marked end known vars starts c other done was begins is stays ends answers knows knows_starts starts_stay kept undone = (
+  ends_on_variables b start made now frame first marked end known vars vars c other done was begins is stays ends answers knows
       (on_err done (subst (λ (x : List ℕ). KnowsVariables x vars) (sym begins) was.knows_variables)) kept undone,
-  ends_starting start made now starts done knows_starts starts_stay kept (on_err_weaker done (λ base. some_same b now (sym (ap (λ (m : Frame _). m.base) (stays ∙ is)) ∙ base) ∙ sym begins) undone),
+  ends_starting start made now starts done knows_starts starts_stay kept (back_at_start b start now frame first marked begins is stays done undone),
 )
 
--- of a command on neither, after which they are forgotten too
-pub ends_on_neither : {U : Type 0} (b start made now : List ℕ) (frame first marked end : Frame U) (known after : Known) (vars : KnownVariables) (c : Command) → is_on_attributes c ≡ false → is_on_variables c ≡ false → (done : Result Outcome AreaError)
-    → IsOpen b frame known vars → start ≡ b → first ≡ with_base frame (Some b) → marked ≡ first → end ≡ with_base marked None → after ≡ record known { entries = None; order = None }
-    → IfOk done (λ o. Answers first.limit start c o made) → OnOk done (now ≡ made) → OnErr done (marked.base ≡ Some now) → IsOpen now end after vars
-ends_on_neither b start made now frame first marked end known after vars c not_attributes not_variables done was begins is stays ends forgot answers kept undone =
-    ends_on_variables b start made now frame first marked end known after vars vars c not_attributes done was begins is stays ends forgot answers
+-- of a command that is not on variables, the nodes that are kept
+pub ends_with_starts : {U : Type 0} (b start made now : List ℕ) (frame first marked : Frame U) (starts after : Starts) (c : Command) → is_on_variables c ≡ false → (done : Result Outcome AreaError)
+    → Good b → KnowsStarts b starts → after ≡ starts → start ≡ b → first ≡ with_base frame (Some b) → marked ≡ first
+    → IfOk done (λ o. Answers first.limit start c o made) → OnOk done (now ≡ made) → OnErr done (marked.base ≡ Some now) → KnowsStarts now after
+ends_with_starts b start made now frame first marked starts after c other done good knows same begins is stays answers kept undone =
+    subst (KnowsStarts now) (sym same)
+    (ends_starting start made now starts done (starts_after first.limit b start made c starts other good knows begins done answers) (on_err done (subst (λ (x : List ℕ). KnowsStarts x starts) (sym begins) knows)) kept
+    (back_at_start b start now frame first marked begins is stays done undone))
+
+-- of a command on neither
+pub ends_on_neither : {U : Type 0} (b start made now : List ℕ) (frame first marked end : Frame U) (known : Known) (vars : KnownVariables) (c : Command) → LeavesEntries c → is_on_variables c ≡ false → (done : Result Outcome AreaError)
+    → IsOpen b frame known vars → start ≡ b → first ≡ with_base frame (Some b) → marked ≡ first → end ≡ with_base marked None
+    → IfOk done (λ o. Answers first.limit start c o made) → OnOk done (now ≡ made) → OnErr done (marked.base ≡ Some now) → IsOpen now end known vars
+ends_on_neither b start made now frame first marked end known vars c other not_variables done was begins is stays ends answers kept undone =
+    ends_on_variables b start made now frame first marked end known vars vars c other done was begins is stays ends answers
     (variables_after first.limit b start made c vars not_variables was.good was.knows_variables begins done answers)
     (on_err done (subst (λ (x : List ℕ). KnowsVariables x vars) (sym begins) was.knows_variables)) kept undone

@@ -19,7 +19,7 @@ impl<A: Area> Session<A> {
         ensures refused { IfOk result (λ o. IsTrue (is_refused o) → A.edited self.new ≡ A.edited self.old) }
         ensures area { Edits A.frame A.faults self.old self.new result }
     {
-        self.kept.forget();
+        self.kept.forget_view();
         self.area.mark();
         let done = self.attrs.create(&mut self.area, name, scope);
         settle(&mut self.area, done)
@@ -32,7 +32,7 @@ impl<A: Area> Session<A> {
         ensures refused { IfOk result (λ o. IsTrue (is_refused o) → A.edited self.new ≡ A.edited self.old) }
         ensures area { Edits A.frame A.faults self.old self.new result }
     {
-        self.kept.forget();
+        self.kept.forget_view();
         self.area.mark();
         let done = self.attrs.rename(&mut self.area, from, to);
         settle(&mut self.area, done)
@@ -45,7 +45,7 @@ impl<A: Area> Session<A> {
         ensures refused { IfOk result (λ o. IsTrue (is_refused o) → A.edited self.new ≡ A.edited self.old) }
         ensures area { Edits A.frame A.faults self.old self.new result }
     {
-        self.kept.forget();
+        self.kept.forget_view();
         self.area.mark();
         let done = self.attrs.remove(&mut self.area, name);
         settle(&mut self.area, done)
@@ -76,7 +76,7 @@ impl<A: Area> Session<A> {
         ensures refused { IfOk result (λ o. IsTrue (is_refused o) → A.edited self.new ≡ A.edited self.old) }
         ensures area { Edits A.frame A.faults self.old self.new result }
     {
-        self.kept.forget();
+        self.kept.forget_view();
         self.area.mark();
         let done = self.attrs.del_entry(&mut self.area, attr, kind, num);
         settle(&mut self.area, done)
@@ -98,7 +98,7 @@ impl<A: Area> Session<A> {
         ensures refused { IfOk result (λ o. IsTrue (is_refused o) → A.edited self.new ≡ A.edited self.old) }
         ensures area { Edits A.frame A.faults self.old self.new result }
     {
-        self.kept.forget();
+        self.kept.forget_view();
         self.area.mark();
         let done = self
             .attrs

@@ -20,7 +20,6 @@ impl<A: Area> Session<A> {
         self.kept.forget();
         self.area.mark();
         let done = self.vars.reindex(&mut self.area, var);
-        self.attrs.forget_entries();
         settle(&mut self.area, done)
     }
 
@@ -41,7 +40,6 @@ impl<A: Area> Session<A> {
         let done = self
             .vars
             .put_rec(&mut self.area, &mut self.kept.starts, var, rec, words);
-        self.attrs.forget_entries();
         settle(&mut self.area, done)
     }
 
@@ -77,7 +75,6 @@ impl<A: Area> Session<A> {
             index,
             words,
         );
-        self.attrs.forget_entries();
         settle(&mut self.area, done)
     }
 

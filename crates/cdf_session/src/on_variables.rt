@@ -31,7 +31,6 @@ impl<A: Area> Session<A> {
         let done = self
             .vars
             .create_r(&mut self.area, name, t, elems, vary, varys);
-        self.attrs.forget_entries();
         settle(&mut self.area, done)
     }
 
@@ -55,7 +54,6 @@ impl<A: Area> Session<A> {
         let done = self
             .vars
             .create_z(&mut self.area, name, t, elems, vary, dims, varys);
-        self.attrs.forget_entries();
         settle(&mut self.area, done)
     }
 
@@ -69,7 +67,6 @@ impl<A: Area> Session<A> {
         self.kept.forget();
         self.area.mark();
         let done = self.vars.rename(&mut self.area, from, to);
-        self.attrs.forget_entries();
         settle(&mut self.area, done)
     }
 
@@ -98,7 +95,6 @@ impl<A: Area> Session<A> {
         self.kept.forget();
         self.area.mark();
         let done = self.vars.set_pad(&mut self.area, var, words);
-        self.attrs.forget_entries();
         settle(&mut self.area, done)
     }
 
@@ -112,7 +108,6 @@ impl<A: Area> Session<A> {
         self.kept.forget();
         self.area.mark();
         let done = self.vars.set_blocking(&mut self.area, var, n);
-        self.attrs.forget_entries();
         settle(&mut self.area, done)
     }
 }

@@ -245,9 +245,8 @@ impl<A: Area> Session<A> {
         ensures refused { IfOk result (λ o. IsTrue (is_refused o) → A.edited self.new ≡ A.edited self.old) }
         ensures area { Edits A.frame A.faults self.old self.new result }
     {
-        self.kept.forget();
+        self.kept.forget_view();
         set_checksum(&mut self.area, md5)?;
-        self.attrs.forget_entries();
         Ok(Outcome::Done {
             reply: Reply::Plain,
         })

@@ -26,7 +26,6 @@ impl<A: Area> Session<A> {
         self.kept.forget();
         self.area.mark();
         let done = set_up(self.alloc, &mut self.area, encoding, majority, dims);
-        self.attrs.forget_entries();
         settle(&mut self.area, done)
     }
 }

@@ -27,3 +27,6 @@ returns-in_err-remove-clause-variables_stay g c = on_err _ (deletion.knew_before
 pub returns-clause-attributes : goal.returns-clause-attributes
 returns-clause-attributes g c = deletion.attributes_stay (deletion.good_between c.args.name.now c.requires.good c.requires.variables (sym c.find.ensures.found ∙ c.in-Some.is) c.in_ok-drop_var.ensures.dropped) c.in_ok-remove.ensures.removed
     (ap (λ (k : Known). k.entries) c.forget_entries.ensures) (ap (λ (k : Known). k.order) c.forget_entries.ensures) (deletion.forgets c.in_ok-drop_var.ensures.known c.forget_entries.ensures)
+
+pub returns-in_err-remove-clause-attributes_stay : goal.returns-in_err-remove-clause-attributes_stay
+returns-in_err-remove-clause-attributes_stay g c = on_err _ (deletion.forgets c.drop_var.ensures.stays c.forget_entries.ensures)

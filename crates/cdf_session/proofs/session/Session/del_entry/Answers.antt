@@ -1,5 +1,5 @@
 use Rattle.cdf_session.proofs.Common.{DelEntry, refl}
-use Rattle.cdf_session.proofs.OpenLemmas.{good_stays, ends_open}
+use Rattle.cdf_session.proofs.OpenLemmas.{good_stays, ends_open, ends_with_starts}
 use Rattle.cdf_session.proofs.session.Session.del_entry.Goals as goal
 
 pub del_entry-done-requires-clause-good : goal.del_entry-done-requires-clause-good
@@ -12,5 +12,9 @@ invariant_of-self g c = (
       c.self.inside.attrs c.del_entry-done.new.self c.self.inside.vars (DelEntry c.args.attr.now c.args.kind c.args.num) refl c.del_entry-done.result
       c.self.invariant.0 c.mark.ensures.image c.mark.ensures.frame c.del_entry-done.ensures.area.frame c.settle.ensures.frame
       c.del_entry-done.ensures.answers c.del_entry-done.ensures.known c.del_entry-done.ensures.stays c.settle.ensures.kept c.settle.ensures.undone,
-  c.forget.ensures _,
+  record {
+    starts = ends_with_starts _ _ _ _ (g.A.Area.frame c.self.inside.area) _ _ _ _ (DelEntry c.args.attr.now c.args.kind c.args.num) refl _
+        c.self.invariant.0.good c.self.invariant.1.starts c.forget_view.ensures.starts c.mark.ensures.image c.mark.ensures.frame c.del_entry-done.ensures.area.frame c.del_entry-done.ensures.answers c.settle.ensures.kept c.settle.ensures.undone;
+    view = c.forget_view.ensures.view _;
+  },
 )
