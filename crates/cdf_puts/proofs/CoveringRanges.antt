@@ -33,6 +33,10 @@ next_past k fs le = least_past k (record_number_limit + 1) fs (omega arith)
 pub bound_is : (index : Nodes) (k : ℕ) (next : Option ℕ) → next ≡ least_first_past k index → unwrap_or next (record_number_limit + 1) ≡ next_first k (firsts_of index)
 bound_is index k next e = grind (arith, nat_tests, e, least_below (record_number_limit + 1) (filter (ltb k) (firsts_of index)))
 
+-- so two indexes with the same answer have the same least First
+pub next_same : (index index' : Nodes) (k : ℕ) → least_first_past k index ≡ least_first_past k index' → next_first k (firsts_of index) ≡ next_first k (firsts_of index')
+next_same index index' k e = sym (bound_is index k (least_first_past k index) refl) ∙ bound_is index' k (least_first_past k index) e
+
 -- a new block ends at its record, or where it is full, or before the next First
 
 abbrev pub Ends : ℕ → ℕ → ℕ → ℕ → Type 0

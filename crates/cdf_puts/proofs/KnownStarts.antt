@@ -1,14 +1,13 @@
 -- Nodes of top chains that are known of the variables of an image, and that they are known yet where records were put.
-use Rattle.cdf_puts.proofs.Common.{Act, Each, Each-append, Each-split, GoesOn, Good, HasIndex, In, InTopChain, IsKnownOf, IsKnownStart, KeepsStart, Kind, KnowsStarts, Leaf, List, Nodes, None, Option, PutsUpTo, R, Some, SomePutting, StandsAmong, TopStays, VariableShape, Z, [], ap, arith, index_at, inl, inr, length, long, node_known, number, other_kind, refl, shape, shapes_of, sound, subst, sym, tile, tile_lies, variables, vdr_vxr_head, vdrs, with_leaf, ℕ, ◌++◌, ◌+◌, ◌∙◌, ◌∷◌, ◌≡◌, ◌≢◌, ◌≤◌, Grows, by_leaf, Shape, top_chain, of_kind, searchable}
+use Rattle.cdf_puts.proofs.Common.{Act, Each, Each-append, Each-split, GoesOn, Good, HasIndex, In, InTopChain, IsKnownOf, IsKnownStart, KeepsStart, Kind, KnowsStarts, Leaf, List, Nodes, None, Option, R, Some, StandsAmong, TopStays, VariableShape, Z, [], ap, arith, index_at, inl, inr, length, long, node_known, number, other_kind, refl, shape, shapes_of, sound, subst, sym, tile, tile_lies, variables, vdr_vxr_head, vdrs, with_leaf, ℕ, ◌++◌, ◌+◌, ◌∷◌, ◌≡◌, ◌≢◌, ◌≤◌, Grows, by_leaf, Shape, top_chain, of_kind, searchable}
 use Rattle.cdf_index.proofs.OneVariable.{OneOf, one_of}
-use Rattle.cdf_puts.specs.declared.putting.NewRecord.{NewRecord}
 use Rattle.cdf_puts.specs.declared.starts.Starts.{Starts}
 
 -- each node of the top chain of an index is one of it once the index gets a leaf
 pub top_kept : (new : Leaf) (at : ℕ) (index : Nodes) → TopStays index (with_leaf new at index)
 top_kept new at index m i = let steps : Grows new at (λ n a a'. In m (top_chain a) → In m (top_chain a')) (λ n es es'. Unit {0}) = grind arith in by_leaf steps index i
 
-tops_in : (before after : Nodes) → TopStays before after → (known : Option ℕ) → InTopChain before known → InTopChain after known
+pub tops_in : (before after : Nodes) → TopStays before after → (known : Option ℕ) → InTopChain before known → InTopChain after known
 tops_in before after stay None known = tt
 tops_in before after stay (Some m) known = stay m known
 
@@ -27,14 +26,6 @@ module _ (b : List ℕ) (good : Good b) where
 
     pub vdr_lies : vdr + 340 ≤ length b
     vdr_lies = subst (λ (v : ℕ). v + 340 ≤ length b) o.vdr_is (omega (arith, long good o.among, tile_lies b 8 (length b) (shape b).records o.own.vdr (sound good o.among).has_shape.tiled (tile good o.among)))
-
--- ---- the variable into which a record is put
-
-pub known_yet : {b now : List ℕ} {new : NewRecord} {from k limit : ℕ} (known : Option ℕ) → SomePutting b new from limit → PutsUpTo b now limit new k → IsKnownStart b new.vdr known → IsKnownStart now new.vdr known
-known_yet {b} {now} known some all is =
-    let p = some.putting in
-    let done = all some.kind some.before some.own some.after p in
-    rw (index_of now done.so.goes.good done.so.goes.among (done.so.goes.vdr_is ∙ p.vdr_is)) (tops_in some.own.index done.own'.index done.so.index.tops known (rw (index_of b p.start.good p.start.among p.vdr_is) at is))
 
 -- ---- each variable
 

@@ -1,5 +1,5 @@
 -- Where the next record is put: the records of a new block, each step by which records are put, and what an image says of a variable of which some records are put.
-use Rattle.cdf_puts.proofs.Common.{refl, Leaf, put, Act, AddsLeaf, BlockRecords, Covering, GoesOn, HasIndex, In, IsBlockBody, IsBody, IsPut, IsVacant, Kind, LeafAdded, List, NodeTaken, Nodes, None, PutStart, PutsOn, PutsUpTo, Putting, RecordsWritten, SoFar, Some, SomePut, SomePutting, StandsAmong, Variable, VariableShape, [], ap, append-nil, arith, block_bytes, block_count, covers, div-le_self, drop, drop-append-le, drop_at, extent, false, find, first_written, firsts_of, fits, has, if◌then◌else◌, image_limit, in_middle, index_at, is_sparse, last_in_new, leaf, leaf_acts, leaf_of, leaves_of, length, length-append, length-drop, max_rec_at, min, most_in_block, nat_tests, new_last, new_range, new_room, next_first, node_bytes, number, range, record_bytes, record_length, record_of, record_put, records_put, shape, sparse_at, subst, suc, sym, take, take-append-le, take_all, taken_bytes, times_le, variable_of, variables, vdr_vxr_head, vdrs, vxr_bytes, widest, with_leaf, zero, ℕ, ◌*◌, ◌++◌, ◌+◌, ◌-◌, ◌<◌, ◌==◌, ◌∙◌, ◌∷◌, ◌≡◌, ◌≤◌}
+use Rattle.cdf_puts.proofs.Common.{GoesOnTo, IsKnownStart, Option, refl, Leaf, put, Act, AddsLeaf, BlockRecords, Covering, GoesOn, HasIndex, In, IsBlockBody, IsBody, IsPut, IsVacant, Kind, LeafAdded, List, NodeTaken, Nodes, None, PutStart, PutsOn, PutsUpTo, Putting, RecordsWritten, SoFar, Some, SomePut, SomePutting, StandsAmong, Variable, VariableShape, [], ap, append-nil, arith, block_bytes, block_count, covers, div-le_self, drop, drop-append-le, drop_at, extent, false, find, first_written, firsts_of, fits, has, if◌then◌else◌, image_limit, in_middle, index_at, is_sparse, last_in_new, leaf, leaf_acts, leaf_of, leaves_of, length, length-append, length-drop, max_rec_at, min, most_in_block, nat_tests, new_last, new_range, new_room, next_first, node_bytes, number, range, record_bytes, record_length, record_of, record_put, records_put, shape, sparse_at, subst, suc, sym, take, take-append-le, take_all, taken_bytes, times_le, variable_of, variables, vdr_vxr_head, vdrs, vxr_bytes, widest, with_leaf, zero, ℕ, ◌*◌, ◌++◌, ◌+◌, ◌-◌, ◌<◌, ◌==◌, ◌∙◌, ◌∷◌, ◌≡◌, ◌≤◌}
 use Rattle.cdf_puts.proofs.LeafEdit.{r_max_rec_stays as leaf_r_max_rec, body_long, plain_body, leaf_goes_on, leaf_max_rec, taking}
 use Rattle.cdf_puts.proofs.CoveringRanges.{covering_starts, covering_has, covering_leaf, covering_room, covering_ends, Ends, one_at_least}
 use Rattle.cdf_puts.proofs.GoesThen.{later_size, goes_then, goes_written, writes_nothing}
@@ -10,7 +10,7 @@ use Rattle.cdf_puts.proofs.PutRoom.{taken_sum, takes_both, leaf_bytes, longer_by
 use Rattle.cdf_puts.proofs.SoFarStarts.{starts_upto, index_start, blocks_start}
 use Rattle.cdf_leaves.proofs.Own.{among_all, own_order, searchable}
 use Rattle.cdf_puts.proofs.PutBytes.{found_covering, size_now, whole}
-use Rattle.cdf_puts.proofs.KnownStarts.{vdr_lies}
+use Rattle.cdf_puts.proofs.KnownStarts.{top_kept, tops_in, vdr_lies}
 use Rattle.cdf_index.proofs.Common.{HoldsRecords, seen}
 use Rattle.cdf_index.specs.declared.nodes.Leaf.{Leaf as SeenLeaf}
 use Rattle.cdf_puts.specs.declared.putting.NewRecord.{NewRecord}
@@ -138,11 +138,14 @@ module _ {b now : List ℕ} {kind : Kind} {before : List VariableShape} {own : V
               let long = ap length bytes_are ∙ record_long new.raw.items new.pad.items new.rec (record_bytes b own.vdr) p.start.raw_long p.pad_long k ∙ sym (size_now so) ∙ sized in
               omega (arith, held.1, held.2, times_le (suc (k - l.first)) (l.last + 1 - l.first) n (omega (arith, held.1, held.2)))
 
-          pub written_on : {now' : List ℕ} → now' ≡ put now (l.at + (12 + (k - l.first) * n)) bytes → IsPut b now' kind before own after new (k + 1)
+          pub written_on : {now' : List ℕ} → now' ≡ put now (l.at + (12 + (k - l.first) * n)) bytes → GoesOnTo b now now' kind before own after new k (k + 1) is
           written_on w = record {
-            own' = own';
-            acts = is.acts;
-            so = so_far_written so more (record { found = here; within = rw (sized, ← bytes_are) held_within; written = rw (sized, ← bytes_are) w }) (record_long new.raw.items new.pad.items new.rec (record_bytes b own.vdr) p.start.raw_long p.pad_long k);
+            tops = λ m i. i;
+            is = record {
+              own' = own';
+              acts = is.acts;
+              so = so_far_written so more (record { found = here; within = rw (sized, ← bytes_are) held_within; written = rw (sized, ← bytes_are) w }) (record_long new.raw.items new.pad.items new.rec (record_bytes b own.vdr) p.start.raw_long p.pad_long k);
+            };
           }
 
     -- ---- no block has it
@@ -165,16 +168,19 @@ module _ {b now : List ℕ} {kind : Kind} {before : List VariableShape} {own : V
             let need = covering_room so.covers so.start.small more (ap is_sparse so.start.no_rule) so.start.loose none in
             rw (same, bounded, searched.1) (omega (arith, longer_by b now is.acts so.goes.follow so.takes, body_long body (records_put new.raw.items new.pad.items new.rec (end + 1 - k) k) says, bytes, need))
 
-        pub added_on : {now' : List ℕ} → AddsOn now now' new.vdr k end body → limit ≤ image_limit → IsPut b now' kind before own after new (min end new.rec + 1)
+        pub added_on : {now' : List ℕ} → AddsOn now now' new.vdr k end body → limit ≤ image_limit → GoesOnTo b now now' kind before own after new k (min end new.rec + 1) is
         added_on {now' = now'} adds upto =
             let a = adds kind before own' after so.goes.among vdr_is in
             let vacancy : IsVacant own' k end = record { ordered = omega (arith, ends_at, ending.0); uncovered = none; before_next = omega (arith, ends_at, ending.1) } in
             let wide = new_room_widest now (shape now).records 8 k own'.index (has so.goes.good so.goes.among).indexed.has_nodes (fits so.goes.good so.goes.among).1 in
             let short : length now' ≤ image_limit = omega (arith, a.added.as_long, a.added.block.longest, node_long a.added.filled a.added.roomy (new_room k own'.index) a.at (widest own'.index) a.added.node wide, rw searched.1 at (room_after refl refl)) in
             record {
-              own' = record own' { index = with_leaf (leaf k end a.place false) a.at own'.index };
-              acts = is.acts ++ leaf_acts a.place (8 + length body) (new_room k own'.index) a.at;
-              so = so_far_added so more ends_at vacancy says (block_records new.raw.items new.pad.items new.rec (record_bytes b own.vdr) p.start.raw_long p.pad_long k end) a.added short (omega arith);
+              tops = top_kept (leaf k end a.place false) a.at own'.index;
+              is = record {
+                own' = record own' { index = with_leaf (leaf k end a.place false) a.at own'.index };
+                acts = is.acts ++ leaf_acts a.place (8 + length body) (new_room k own'.index) a.at;
+                so = so_far_added so more ends_at vacancy says (block_records new.raw.items new.pad.items new.rec (record_bytes b own.vdr) p.start.raw_long p.pad_long k end) a.added short (omega arith);
+              };
             }
 
 -- ---- from the first image on
@@ -192,7 +198,13 @@ pub some_put : {b now : List ℕ} {new : NewRecord} {from k limit : ℕ} → Som
 some_put {b = b} some all = record { b = b; kind = some.kind; before = some.before; own = some.own; after = some.after; putting = some.putting; is = all some.kind some.before some.own some.after some.putting }
 
 pub all_on : {b mid now : List ℕ} {new : NewRecord} {k next limit : ℕ} → PutsUpTo b mid limit new k → PutsOn mid now limit new k next → PutsUpTo b now limit new next
-all_on {b = b} all on kind before own after p = on b kind before own after p (all kind before own after p)
+all_on {b = b} all on kind before own after p = (on b kind before own after p (all kind before own after p)).is
+
+-- a node that is known of the index before a step is known of it after the step
+pub node_on : {mid now : List ℕ} {new : NewRecord} {k next limit : ℕ} (known : Option ℕ) → SomePut mid new k limit → PutsOn mid now limit new k next → IsKnownStart mid new.vdr known → IsKnownStart now new.vdr known
+node_on {mid = mid} {now = now} known some on i =
+    let to = on some.b some.kind some.before some.own some.after some.putting some.is in
+    rw ((searched some.putting to.is).1) (tops_in some.is.own'.index to.is.own'.index to.tops known (rw ((searched some.putting some.is).1) at i))
 
 -- once a record past the last one would be next, all are put
 pub all_done : {b now : List ℕ} {new : NewRecord} {k limit : ℕ} → PutsUpTo b now limit new k → new.rec < k → PutsUpTo b now limit new (new.rec + 1)

@@ -12,7 +12,7 @@ use Rattle.cdf_format.specs.RecordTypes.{vvr_type}
 use Rattle.cdf_format.specs.VariableFields.{record_bytes}
 use Rattle.cdf_model.specs.declared.kinds.Kind.{Kind}
 use Rattle.cdf_model.specs.DataSet.{Variable, extent}
-use Rattle.cdf_puts.specs.SoFar.{PutStart, SoFar}
+use Rattle.cdf_puts.specs.SoFar.{PutStart, SoFar, TopStays}
 use Rattle.cdf_puts.specs.declared.putting.NewRecord.{NewRecord}
 
 -- the type of a block that is not packed
@@ -62,10 +62,15 @@ pub record SomePut (now : List ℕ) (put : NewRecord) (k limit : ℕ) : Type 0 w
   pub putting : Putting b kind before own after put limit
   pub is : IsPut b now kind before own after put k
 
+-- the records before another one are put, and each node of the top chain stays one
+pub record GoesOnTo (b mid now : List ℕ) (kind : Kind) (before : List VariableShape) (own : VariableShape) (after : List VariableShape) (put : NewRecord) (k next : ℕ) (was : IsPut b mid kind before own after put k) : Type 0 where
+  pub is : IsPut b now kind before own after put next
+  pub tops : TopStays was.own'.index is.own'.index
+
 -- From one image to another the records from one on to another are put too, whatever image was there before.
 abbrev pub PutsOn : List ℕ → List ℕ → ℕ → NewRecord → ℕ → ℕ → Type 0
 PutsOn mid now limit put k next = (b : List ℕ) (kind : Kind) (before : List VariableShape) (own : VariableShape) (after : List VariableShape)
-    → Putting b kind before own after put limit → IsPut b mid kind before own after put k → IsPut b now kind before own after put next
+    → Putting b kind before own after put limit → (was : IsPut b mid kind before own after put k) → GoesOnTo b mid now kind before own after put k next was
 
 -- From one image to another the records before one are put, whatever variable it is.
 abbrev pub PutsUpTo : List ℕ → List ℕ → ℕ → NewRecord → ℕ → Type 0

@@ -3,7 +3,9 @@
 
 pub mod laws;
 mod putting;
+mod searching;
 mod starts;
 
-pub use putting::{NewRecord, find_leaf, find_next, put_records};
+pub use putting::{NewRecord, put_records};
+pub use searching::{Search, find_leaf};
 pub use starts::Starts;

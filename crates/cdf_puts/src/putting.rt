@@ -1,29 +1,27 @@
 //! A record is put into a variable, and those before it that are not stored: each into the block that has it, or into a new one.
 
 ghost use Rattle.std.specs.Prelude.{◌≡◌, ◌≤◌, ◌<◌, ◌+◌, ◌-◌, ◌++◌, List, length, replicate, Some, None, IfOk, OnOk};
-ghost use Rattle.std.specs.Option.{option_map};
 ghost use Rattle.cdf_area.specs.Calls.{Edits, Reads};
 ghost use Rattle.cdf_format.specs.Fields.{number};
 ghost use Rattle.cdf_format.specs.Index.{leaves_of};
 ghost use Rattle.cdf_format.specs.Records.{vdr_vxr_head};
-ghost use Rattle.cdf_index.specs.Finding.{index_at, HasIndex};
-ghost use Rattle.cdf_index.specs.Next.{least_first_past};
+ghost use Rattle.cdf_index.specs.Finding.{index_at};
 ghost use Rattle.cdf_index.specs.Order.{leaf_of};
 ghost use Rattle.cdf_index.specs.Sight.{seen};
 ghost use Rattle.cdf_model.specs.Limits.{image_limit, record_number_limit};
 ghost use Rattle.cdf_puts.specs.Putting.{block_type, last_in_new, record_put, records_put, PutsOn, PutsUpTo, SomePut, SomePutting};
-ghost use Rattle.cdf_puts.specs.Starts.{InTopChain, IsKnownStart};
+ghost use Rattle.cdf_puts.specs.Searching.{IsSearch, SearchesIn};
+ghost use Rattle.cdf_puts.specs.Starts.{IsKnownStart};
 ghost use Rattle.cdf_puts.specs.Steps.{IsBlockBody};
 
+use crate::searching::Search;
 use cdf_area::{Area, AreaError};
 use cdf_format::fields::{VDR_VXR_HEAD, VVR_TYPE};
-use cdf_index::{Leaf, find, next_first, start_of, write_recs};
+use cdf_index::{Leaf, write_recs};
 use cdf_leaves::add_leaf;
 use cdf_model::limits::RECORD_NUMBER_LIMIT;
-use cdf_records::{Steps, read_unsigned8};
+use cdf_records::read_unsigned8;
 use std::alloc::{AllocError, Global};
-use std::marker::Brand;
-use std::sync::ledger::{Blank, Ledger};
 
 /// The least bytes of a block behind its size.
 const LEAST_BODY: usize = 20;
@@ -41,80 +39,6 @@ pub struct NewRecord {
     pub pad: Vec<u8>,
     /// How many records a new block has at most.
     pub most: u32,
-}
-
-/// The leaf that has a record, as `find` counts it in steps.
-fn find_counted<A: Area, L: Ledger>(
-    area: &mut A,
-    head: u64,
-    rec: u32,
-    blank: Blank,
-) -> Result<Option<Leaf>, AreaError>
-    requires name { blank.name ≡ L.name }
-    requires parts { blank.parts ≡ L.parts }
-    requires some { 0 < L.parts }
-    requires index { HasIndex (A.image area.old) head }
-    requires short { length (A.image area.old) ≤ image_limit }
-    ensures value { IfOk result (λ found. option_map seen found ≡ leaf_of rec (leaves_of (index_at (A.image area.old) head))) }
-    ensures area { Reads A.image A.frame A.faults A.edited area.old area.new result }
-{
-    let mut steps = Steps::<L>::new(blank);
-    find(area, head, rec, &mut steps)
-}
-
-/// The leaf that has a record, in the index that a link leads to, of whose top chain a node may be known.
-#[tactic(auto, using(cdf_area::proofs::Calls::read_done, cdf_area::proofs::Calls::read_failed, cdf_area::proofs::Calls::read_more, cdf_area::proofs::Calls::read_once))]
-pub fn find_leaf<A: Area>(
-    area: &mut A,
-    head: u64,
-    known: Option<u64>,
-    rec: u32,
-) -> Result<Option<Leaf>, AreaError>
-    requires index { HasIndex (A.image area.old) head }
-    requires known { InTopChain (index_at (A.image area.old) head) known }
-    requires short { length (A.image area.old) ≤ image_limit }
-    ensures value { IfOk result (λ found. option_map seen found ≡ leaf_of rec (leaves_of (index_at (A.image area.old) head))) }
-    ensures area { Reads A.image A.frame A.faults A.edited area.old area.new result }
-{
-    let start = start_of(area, head, known, rec)?;
-    find_counted::<A, Brand>(area, start, rec, Blank::new(1))
-}
-
-/// The least First past a record, as `next_first` counts it in steps.
-fn next_counted<A: Area, L: Ledger>(
-    area: &mut A,
-    head: u64,
-    rec: u32,
-    blank: Blank,
-) -> Result<Option<u32>, AreaError>
-    requires name { blank.name ≡ L.name }
-    requires parts { blank.parts ≡ L.parts }
-    requires some { 0 < L.parts }
-    requires index { HasIndex (A.image area.old) head }
-    requires short { length (A.image area.old) ≤ image_limit }
-    ensures value { IfOk result (λ next. next ≡ least_first_past rec (index_at (A.image area.old) head)) }
-    ensures area { Reads A.image A.frame A.faults A.edited area.old area.new result }
-{
-    let mut steps = Steps::<L>::new(blank);
-    next_first(area, head, rec, &mut steps)
-}
-
-/// The least First past a record, in the index that a link leads to, of whose top chain a node may be known.
-#[tactic(auto, using(cdf_area::proofs::Calls::read_done, cdf_area::proofs::Calls::read_failed, cdf_area::proofs::Calls::read_more, cdf_area::proofs::Calls::read_once))]
-pub fn find_next<A: Area>(
-    area: &mut A,
-    head: u64,
-    known: Option<u64>,
-    rec: u32,
-) -> Result<Option<u32>, AreaError>
-    requires index { HasIndex (A.image area.old) head }
-    requires known { InTopChain (index_at (A.image area.old) head) known }
-    requires short { length (A.image area.old) ≤ image_limit }
-    ensures value { IfOk result (λ next. next ≡ least_first_past rec (index_at (A.image area.old) head)) }
-    ensures area { Reads A.image A.frame A.faults A.edited area.old area.new result }
-{
-    let start = start_of(area, head, known, rec)?;
-    next_counted::<A, Brand>(area, start, rec, Blank::new(1))
 }
 
 /// These bytes, and bytes 0 behind them up to the least size of a record.
@@ -161,29 +85,22 @@ impl NewRecord {
     }
 }
 
-/// The last record of a new block from one on, which ends before the next First.
+/// The last record of a new block from the one on that is searched for, which ends before the next First.
 #[tactic(auto, using(crate::proofs::CoveringRanges::bound_is, crate::proofs::CoveringRanges::next_past))]
-fn last_of_new<A: Area>(
-    area: &mut A,
-    head: u64,
-    known: Option<u64>,
-    k: u32,
-    most: u32,
-) -> Result<u32, AreaError>
-    requires index { HasIndex (A.image area.old) head }
-    requires known { InTopChain (index_at (A.image area.old) head) known }
+fn last_of_new<A: Area>(area: &mut A, search: &Search, most: u32) -> Result<u32, AreaError>
+    requires search { IsSearch (A.image area.old) search.now }
     requires short { length (A.image area.old) ≤ image_limit }
-    requires within { k ≤ record_number_limit }
+    requires within { search.now.rec ≤ record_number_limit }
     requires some { 1 ≤ most }
     requires few { most ≤ 1048576 }
-    ensures last { IfOk result (λ last. last ≡ last_in_new most (index_at (A.image area.old) head) k) }
-    ensures order { IfOk result (λ last. k ≤ last) }
+    ensures last { IfOk result (λ last. last ≡ last_in_new most (index_at (A.image area.old) search.now.head) search.now.rec) }
+    ensures order { IfOk result (λ last. search.now.rec ≤ last) }
     ensures small { IfOk result (λ last. last ≤ record_number_limit) }
     ensures area { Reads A.image A.frame A.faults A.edited area.old area.new result }
 {
-    let next = find_next(area, head, known, k)?;
+    let next = search.next_first(area)?;
     let bound = next.unwrap_or(RECORD_NUMBER_LIMIT + 1);
-    Ok(bound.min(k + most) - 1)
+    Ok(bound.min(search.rec + most) - 1)
 }
 
 /// Writes a record into the block that has it.
@@ -198,59 +115,87 @@ fn write_one<A: Area>(area: &mut A, leaf: &Leaf, put: &NewRecord, k: u32) -> Res
     write_recs(area, leaf, put.raw.len() as u64, k, put.bytes_of(k))
 }
 
-/// Makes a new block for records from one on that no block has. Gives the next one to be put.
+/// Makes a new block for records from the one on that is searched for, which no block has. Gives the next one to be put.
 #[tactic(auto, using(crate::proofs::PutSpot::body_is))]
 fn add_block<A: Area>(
     alloc: Global,
     area: &mut A,
-    head: u64,
     put: &NewRecord,
-    known: Option<u64>,
-    k: u32,
+    search: &Search,
 ) -> Result<u32, AreaError>
-    requires some { SomePut (A.image area.old) put.now k (A.frame area.old).limit }
-    requires more { k ≤ put.now.rec }
+    requires some { SomePut (A.image area.old) put.now search.now.rec (A.frame area.old).limit }
+    requires more { search.now.rec ≤ put.now.rec }
     requires limit { (A.frame area.old).limit ≤ image_limit }
-    requires head { head ≡ number (A.image area.old) put.now.vdr vdr_vxr_head }
-    requires known { InTopChain (index_at (A.image area.old) head) known }
-    requires none { leaf_of k (leaves_of (index_at (A.image area.old) head)) ≡ None }
-    ensures put { IfOk result (λ next. PutsOn (A.image area.old) (A.image area.new) (A.frame area.old).limit put.now k next) }
-    ensures further { IfOk result (λ next. k < next) }
+    requires search { SearchesIn (A.image area.old) put.now.vdr search.now }
+    requires none { leaf_of search.now.rec (leaves_of (index_at (A.image area.old) search.now.head)) ≡ None }
+    ensures put { IfOk result (λ next. PutsOn (A.image area.old) (A.image area.new) (A.frame area.old).limit put.now search.now.rec next) }
+    ensures further { IfOk result (λ next. search.now.rec < next) }
     ensures area { Edits A.frame A.faults area.old area.new result }
 {
-    let last = last_of_new(area, head, known, k, put.most)?;
-    let body = put.block_body(alloc, k, last)?;
-    let start = start_of(area, head, known, k)?;
-    add_leaf(alloc, area, put.vdr, start, k, last, &body)?;
+    let last = last_of_new(area, search, put.most)?;
+    let body = put.block_body(alloc, search.rec, last)?;
+    add_leaf(alloc, area, put.vdr, search.start, search.rec, last, &body)?;
     Ok(last.min(put.rec) + 1)
 }
 
-/// Puts the next record that is not put yet, into the block that has it or into a new one, which has those behind it too. Gives the
-/// next one after that.
+/// Puts the record that is searched for, into the block that has it or into a new one, which has those behind it too. Gives the next one
+/// to be put.
+fn put_found<A: Area>(
+    alloc: Global,
+    area: &mut A,
+    put: &NewRecord,
+    search: &Search,
+) -> Result<u32, AreaError>
+    requires some { SomePut (A.image area.old) put.now search.now.rec (A.frame area.old).limit }
+    requires more { search.now.rec ≤ put.now.rec }
+    requires limit { (A.frame area.old).limit ≤ image_limit }
+    requires search { SearchesIn (A.image area.old) put.now.vdr search.now }
+    ensures put { IfOk result (λ next. PutsOn (A.image area.old) (A.image area.new) (A.frame area.old).limit put.now search.now.rec next) }
+    ensures further { IfOk result (λ next. search.now.rec < next) }
+    ensures area { Edits A.frame A.faults area.old area.new result }
+{
+    let found = search.leaf(area)?;
+    match found {
+        Some(leaf) => {
+            write_one(area, &leaf, put, search.rec)?;
+            Ok(search.rec + 1)
+        }
+        None => add_block(alloc, area, put, search),
+    }
+}
+
+/// How far a put has come.
+#[derive(Clone, Copy)]
+pub struct Progress {
+    /// The next record to be put.
+    pub next: u32,
+    /// A node of the top chain of the index, from which the next search goes on, if one is known.
+    pub node: Option<u64>,
+}
+
+/// Puts the next record that is not put yet, and those behind it that get a block with it.
 fn put_next<A: Area>(
     alloc: Global,
     area: &mut A,
     put: &NewRecord,
-    known: Option<u64>,
-    k: u32,
-) -> Result<u32, AreaError>
-    requires some { SomePut (A.image area.old) put.now k (A.frame area.old).limit }
-    requires more { k ≤ put.now.rec }
-    requires known { IsKnownStart (A.image area.old) put.now.vdr known }
+    from: Progress,
+) -> Result<Progress, AreaError>
+    requires some { SomePut (A.image area.old) put.now from.next (A.frame area.old).limit }
+    requires more { from.next ≤ put.now.rec }
+    requires known { IsKnownStart (A.image area.old) put.now.vdr from.node }
     requires limit { (A.frame area.old).limit ≤ image_limit }
-    ensures put { IfOk result (λ next. PutsOn (A.image area.old) (A.image area.new) (A.frame area.old).limit put.now k next) }
-    ensures further { IfOk result (λ next. k < next) }
+    ensures put { IfOk result (λ to. PutsOn (A.image area.old) (A.image area.new) (A.frame area.old).limit put.now from.next to.next) }
+    ensures known { IfOk result (λ to. IsKnownStart (A.image area.new) put.now.vdr to.node) }
+    ensures further { IfOk result (λ to. from.next < to.next) }
     ensures area { Edits A.frame A.faults area.old area.new result }
 {
     let head = read_unsigned8(area, put.vdr + VDR_VXR_HEAD)?;
-    let found = find_leaf(area, head, known, k)?;
-    match found {
-        Some(leaf) => {
-            write_one(area, &leaf, put, k)?;
-            Ok(k + 1)
-        }
-        None => add_block(alloc, area, head, put, known, k),
-    }
+    let search = Search::begin(area, head, from.node, from.next)?;
+    let next = put_found(alloc, area, put, &search)?;
+    Ok(Progress {
+        next,
+        node: search.node(),
+    })
 }
 
 /// Puts a record into a variable, and from one on those before it that are not stored. Of the top chain of its index a node may be known. After an error a part of this may have been done.
@@ -268,9 +213,12 @@ pub fn put_records<A: Area>(
     ensures put { OnOk result (PutsUpTo (A.image area.old) (A.image area.new) (A.frame area.old).limit put.now (put.now.rec + 1)) }
     ensures area { Edits A.frame A.faults area.old area.new result }
 {
-    let mut k = from;
-    while k <= put.rec {
-        k = put_next(alloc, area, put, known, k)?;
+    let mut so_far = Progress {
+        next: from,
+        node: known,
+    };
+    while so_far.next <= put.rec {
+        so_far = put_next(alloc, area, put, so_far)?;
     }
     Ok(())
 }

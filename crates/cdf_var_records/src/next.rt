@@ -19,7 +19,7 @@ use cdf_area::{Area, AreaError};
 use cdf_format::fields::VDR_VXR_HEAD;
 use cdf_index::{Leaf, read_rec};
 use cdf_model::Kind;
-use cdf_puts::{Starts, find_leaf, find_next};
+use cdf_puts::{Search, Starts};
 use cdf_records::read_unsigned8;
 use std::alloc::Global;
 
@@ -63,16 +63,19 @@ fn find_first<A: Area>(
     ensures area { Reads A.image A.frame A.faults A.edited area.old area.new result }
 {
     let mut num = from;
+    let mut node = known;
     while num < end {
-        let found = find_leaf(area, head, known, num)?;
+        let search = Search::begin(area, head, node, num)?;
+        let found = search.leaf(area)?;
         if let Some(leaf) = found {
             return Ok(Some(Located { num, leaf }));
         }
         // A node may say that it has records that no leaf below it has.
-        let Some(next) = find_next(area, head, known, num)? else {
+        let Some(next) = search.next_first(area)? else {
             return Ok(None);
         };
         num = next;
+        node = search.node();
     }
     Ok(None)
 }

@@ -14,6 +14,7 @@ ghost use Rattle.cdf_index.specs.Sizes.{size_of};
 ghost use Rattle.cdf_model.specs.DataSet.{Variable};
 ghost use Rattle.cdf_model.specs.Limits.{image_limit, record_number_limit};
 ghost use Rattle.cdf_model.specs.Place.{record_limit};
+ghost use Rattle.cdf_puts.specs.Searching.{IsSearch};
 ghost use Rattle.cdf_puts.specs.Starts.{InTopChain, IsKnownStart};
 ghost use Rattle.cdf_var_records.specs.Room.{IsStretch, count_in_block};
 ghost use Rattle.cdf_var_records.specs.Records.{IsForm, variable_at};
@@ -26,7 +27,7 @@ use cdf_format::fields::{
 };
 use cdf_index::{IndexSize, index_size};
 use cdf_model::limits::RECORD_NUMBER_LIMIT;
-use cdf_puts::{find_leaf, find_next};
+use cdf_puts::Search;
 use cdf_records::{read_signed4, read_unsigned8};
 
 /// The most bytes of the records of a block that has more than one.
@@ -96,35 +97,28 @@ pub fn read_block_count<A: Area>(area: &mut A, form: &Form) -> Result<u32, AreaE
     Ok(count_of(vary, wanted, record_size_of(&form.shape)))
 }
 
-/// Records from one on up to a last that all have a block, or all have none.
-fn read_stretch<A: Area>(
-    area: &mut A,
-    head: u64,
-    known: Option<u64>,
-    k: u32,
-    rec: u32,
-) -> Result<Stretch, AreaError>
-    requires index { HasIndex (A.image area.old) head }
-    requires known { InTopChain (index_at (A.image area.old) head) known }
-    requires order { Ascending 0 (suc record_number_limit) (leaves_of (index_at (A.image area.old) head)) }
+/// Records from the one on that is searched for, up to a last, that all have a block, or all have none.
+fn read_stretch<A: Area>(area: &mut A, search: &Search, rec: u32) -> Result<Stretch, AreaError>
+    requires search { IsSearch (A.image area.old) search.now }
+    requires order { Ascending 0 (suc record_number_limit) (leaves_of (index_at (A.image area.old) search.now.head)) }
     requires short { length (A.image area.old) ≤ image_limit }
-    requires more { k ≤ rec }
+    requires more { search.now.rec ≤ rec }
     requires within { rec ≤ record_number_limit }
-    ensures stretch { IfOk result (IsStretch (ranges_of (index_at (A.image area.old) head)) k rec) }
+    ensures stretch { IfOk result (IsStretch (ranges_of (index_at (A.image area.old) search.now.head)) search.now.rec rec) }
     ensures area { Reads A.image A.frame A.faults A.edited area.old area.new result }
 {
-    let found = find_leaf(area, head, known, k)?;
+    let found = search.leaf(area)?;
     if let Some(leaf) = found {
         return Ok(Stretch {
             end: leaf.last.min(rec) + 1,
             missing: 0,
         });
     }
-    let next = find_next(area, head, known, k)?;
+    let next = search.next_first(area)?;
     let end = next.unwrap_or(RECORD_NUMBER_LIMIT + 1).min(rec + 1);
     Ok(Stretch {
         end,
-        missing: end - k,
+        missing: end - search.rec,
     })
 }
 
@@ -147,14 +141,17 @@ fn count_missing<A: Area>(
     ensures area { Reads A.image A.frame A.faults A.edited area.old area.new result }
 {
     let mut k = from;
+    let mut node = known;
     let mut missing = 0;
     for turn in 0..rec - from + 1 {
         if rec < k {
             return Ok(missing);
         }
-        let stretch = read_stretch(area, head, known, k, rec)?;
+        let search = Search::begin(area, head, node, k)?;
+        let stretch = read_stretch(area, &search, rec)?;
         missing += stretch.missing;
         k = stretch.end;
+        node = search.node();
     }
     Ok(missing)
 }

@@ -1,9 +1,6 @@
-use Rattle.cdf_puts.proofs.Common.{Frame, HasIndex, ap, edit_done, edit_failed, edit_more, edit_without_memory, edits_by_read, keeps_by_read, read_more, read_once, refl, subst, sym, ◌∙◌}
-use Rattle.cdf_puts.proofs.PutSpot.{added_on, room_after, searched, some_few, vdr_in}
+use Rattle.cdf_puts.proofs.Common.{Frame, ap, edit_done, edit_failed, edit_more, edit_without_memory, edits_by_read, keeps_by_read, read_once, refl}
+use Rattle.cdf_puts.proofs.PutSpot.{added_on, room_after, some_few, vdr_in}
 use Rattle.cdf_puts.proofs.putting.add_block.Goals as goal
-
-pub last_of_new-requires-clause-index : goal.last_of_new-requires-clause-index
-last_of_new-requires-clause-index g c = subst (HasIndex (g.A.Area.image c.args.area.now)) (sym c.requires.head) (searched c.requires.some.putting c.requires.some.is).0
 
 pub last_of_new-requires-clause-some : goal.last_of_new-requires-clause-some
 last_of_new-requires-clause-some g c = (some_few c.requires.some.putting c.requires.some.is c.requires.more).0
@@ -17,39 +14,29 @@ returns-in_err-last-clause-area g c = edit_failed (record { frame = refl; faults
 pub returns-in_err-body-clause-area : goal.returns-in_err-body-clause-area
 returns-in_err-body-clause-area g c = edit_without_memory (keeps_by_read (read_once c.in_ok-last.ensures.area)) c.from_residual-in_err-body.ensures.1
 
-pub start_of-requires-clause-index : goal.start_of-requires-clause-index
-start_of-requires-clause-index g c =
-    rw (c.last_of_new.ensures.area.image, c.requires.head) (searched c.requires.some.putting c.requires.some.is).0
-
-pub start_of-requires-clause-known : goal.start_of-requires-clause-known
-start_of-requires-clause-known g c = rw (c.last_of_new.ensures.area.image) c.requires.known
-
-pub returns-in_err-start-clause-area : goal.returns-in_err-start-clause-area
-returns-in_err-start-clause-area g c = edit_failed (keeps_by_read (read_once c.in_ok-last.ensures.area)) (edits_by_read c.in_err-start.ensures.area) c.from_residual-in_err-start.ensures.1
-
 pub add_leaf-requires-clause-start : goal.add_leaf-requires-clause-start
-add_leaf-requires-clause-start g c = rw (c.start_of.ensures.area.image, c.last_of_new.ensures.area.image) (rw (c.last_of_new.ensures.area.image, c.requires.head) at c.in_ok-start.ensures.start)
+add_leaf-requires-clause-start g c = rw (c.last_of_new.ensures.area.image) (rw (c.requires.search.head_is) at c.requires.search.is.start)
 
 pub add_leaf-requires-clause-good : goal.add_leaf-requires-clause-good
-add_leaf-requires-clause-good g c = rw (c.start_of.ensures.area.image, c.last_of_new.ensures.area.image) c.requires.some.is.so.goes.good
+add_leaf-requires-clause-good g c = rw (c.last_of_new.ensures.area.image) c.requires.some.is.so.goes.good
 
 pub add_leaf-requires-clause-vdr : goal.add_leaf-requires-clause-vdr
-add_leaf-requires-clause-vdr g c = rw (c.start_of.ensures.area.image, c.last_of_new.ensures.area.image) (vdr_in c.requires.some.putting c.requires.some.is)
+add_leaf-requires-clause-vdr g c = rw (c.last_of_new.ensures.area.image) (vdr_in c.requires.some.putting c.requires.some.is)
 
 pub add_leaf-requires-clause-room : goal.add_leaf-requires-clause-room
 add_leaf-requires-clause-room g c =
     let s = c.requires.some in
     let says = rw (← c.deref.ensures.value) at c.in_ok-body.ensures.body in
-    room_after s.putting s.is c.requires.more c.requires.head c.requires.none c.in_ok-last.last c.in_ok-last.ensures.last c.deref.result.now says (c.start_of.ensures.area.image ∙ c.last_of_new.ensures.area.image) (ap (λ (f : Frame g.A.Area.Under). f.limit) (c.start_of.ensures.area.frame ∙ c.last_of_new.ensures.area.frame))
+    room_after s.putting s.is c.requires.more c.requires.search.head_is c.requires.none c.in_ok-last.last c.in_ok-last.ensures.last c.deref.result.now says c.last_of_new.ensures.area.image (ap (λ (f : Frame g.A.Area.Under). f.limit) c.last_of_new.ensures.area.frame)
 
 pub returns-in_err-add_leaf-clause-area : goal.returns-in_err-add_leaf-clause-area
-returns-in_err-add_leaf-clause-area g c = edit_failed (keeps_by_read (read_more (read_once c.in_ok-last.ensures.area) c.in_ok-start.ensures.area)) c.in_err-add_leaf.ensures.area c.from_residual-in_err-add_leaf.ensures.1
+returns-in_err-add_leaf-clause-area g c = edit_failed (keeps_by_read (read_once c.in_ok-last.ensures.area)) c.in_err-add_leaf.ensures.area c.from_residual-in_err-add_leaf.ensures.1
 
 pub returns-clause-put : goal.returns-clause-put
 returns-clause-put g c =
     let says = rw (← c.deref.ensures.value) at c.in_ok-body.ensures.body in
-    let adds = rw (c.start_of.ensures.area.image, c.last_of_new.ensures.area.image) at c.in_ok-add_leaf.ensures.added in
-    λ b kind before own after putting is. rw (c.min.ensures) (added_on putting is c.requires.more c.requires.head c.requires.none c.in_ok-last.last c.in_ok-last.ensures.last c.deref.result.now says adds c.requires.limit)
+    let adds = rw (c.last_of_new.ensures.area.image) at c.in_ok-add_leaf.ensures.added in
+    λ b kind before own after putting is. rw (c.min.ensures) (added_on putting is c.requires.more c.requires.search.head_is c.requires.none c.in_ok-last.last c.in_ok-last.ensures.last c.deref.result.now says adds c.requires.limit)
 
 pub returns-clause-area : goal.returns-clause-area
-returns-clause-area g c = edit_done (edit_more (keeps_by_read (read_more (read_once c.in_ok-last.ensures.area) c.in_ok-start.ensures.area)) c.in_ok-add_leaf.ensures.area)
+returns-clause-area g c = edit_done (edit_more (keeps_by_read (read_once c.in_ok-last.ensures.area)) c.in_ok-add_leaf.ensures.area)

@@ -1,6 +1,7 @@
-use Rattle.cdf_puts.proofs.Common.{Frame, ap, arith, edit_done, edit_failed, edit_more, edits_by_read, keeps_by_read, read_more, read_once, refl}
-use Rattle.cdf_leaves.proofs.LastCall.{edit_last}
-use Rattle.cdf_puts.proofs.PutSpot.{lies, on_after, searched}
+use Rattle.cdf_puts.proofs.Common.{Frame, List, PutsOn, ap, arith, edit_done, edit_failed, edit_more, edits_by_read, keeps_by_read, number, read_more, read_once, refl, sym, vdr_vxr_head, ℕ, ◌∙◌}
+use Rattle.cdf_puts.proofs.PutSpot.{lies, node_on, on_after, searched}
+use Rattle.cdf_puts.proofs.putting.put_next.Given.{Over}
+use Rattle.cdf_puts.proofs.putting.put_next.Goals.{In_ok-next}
 use Rattle.cdf_puts.proofs.putting.put_next.Goals as goal
 
 pub overflow_add-put : goal.overflow_add-put
@@ -12,26 +13,48 @@ read_unsigned8-requires g c = omega (arith, lies c.requires.some.putting c.requi
 pub returns-in_err-head-clause-area : goal.returns-in_err-head-clause-area
 returns-in_err-head-clause-area g c = edit_failed (record { frame = refl; faults = refl }) (edits_by_read c.in_err-head.ensures.area) c.from_residual.ensures.1
 
-pub find_leaf-requires-clause-index : goal.find_leaf-requires-clause-index
-find_leaf-requires-clause-index g c =
-    rw (c.read_unsigned8.ensures.area.image, c.in_ok-head.ensures.value) (searched c.requires.some.putting c.requires.some.is).0
+pub begin-requires-clause-index : goal.begin-requires-clause-index
+begin-requires-clause-index g c = rw (c.read_unsigned8.ensures.area.image, c.in_ok-head.ensures.value) (searched c.requires.some.putting c.requires.some.is).0
 
-pub returns-in_err-found-clause-area : goal.returns-in_err-found-clause-area
-returns-in_err-found-clause-area g c = edit_failed (keeps_by_read (read_once c.in_ok-head.ensures.area)) (edits_by_read c.in_err-found.ensures.area) c.from_residual-in_err-found.ensures.1
+pub begin-requires-clause-known : goal.begin-requires-clause-known
+begin-requires-clause-known g c = rw (c.read_unsigned8.ensures.area.image, c.in_ok-head.ensures.value) c.requires.known
 
-pub returns-in_err-write_one-in-Some-clause-area : goal.returns-in_err-write_one-in-Some-clause-area
-returns-in_err-write_one-in-Some-clause-area g c = edit_failed (keeps_by_read (read_more (read_once c.in_ok-head.ensures.area) c.in_ok-found.ensures.area)) c.in_err-write_one-in-Some.ensures.area c.from_residual-in_err-write_one-in-Some.ensures.1
+pub returns-in_err-search-clause-area : goal.returns-in_err-search-clause-area
+returns-in_err-search-clause-area g c = edit_failed (keeps_by_read (read_once c.in_ok-head.ensures.area)) (edits_by_read c.in_err-search.ensures.area) c.from_residual-in_err-search.ensures.1
 
-pub returns-in_ok-write_one-in-Some-clause-put : goal.returns-in_ok-write_one-in-Some-clause-put
-returns-in_ok-write_one-in-Some-clause-put g c =
-    let read = read_more (read_once c.in_ok-head.ensures.area) c.in_ok-found.ensures.area in
-    on_after read.image (ap (λ (f : Frame g.A.Area.Under). f.limit) read.frame) c.in_ok-write_one-in-Some.ensures.put
+pub put_found-requires-clause-some : goal.put_found-requires-clause-some
+put_found-requires-clause-some g c =
+    rw (c.begin.ensures.area.image, c.read_unsigned8.ensures.area.image, c.begin.ensures.area.frame, c.read_unsigned8.ensures.area.frame, c.in_ok-search.ensures.rec) c.requires.some
 
-pub returns-in_ok-write_one-in-Some-clause-area : goal.returns-in_ok-write_one-in-Some-clause-area
-returns-in_ok-write_one-in-Some-clause-area g c = edit_done (edit_more (keeps_by_read (read_more (read_once c.in_ok-head.ensures.area) c.in_ok-found.ensures.area)) c.in_ok-write_one-in-Some.ensures.area)
+pub put_found-requires-clause-more : goal.put_found-requires-clause-more
+put_found-requires-clause-more g c = rw (c.in_ok-search.ensures.rec) c.requires.more
 
-pub returns-in-None-clause-area : goal.returns-in-None-clause-area
-returns-in-None-clause-area g c = edit_last (keeps_by_read (read_more (read_once c.in_ok-head.ensures.area) c.in_ok-found.ensures.area)) c.add_block.ensures.area
+pub put_found-requires-clause-search : goal.put_found-requires-clause-search
+put_found-requires-clause-search g c =
+    rw (c.begin.ensures.area.image) (record {
+      is = c.in_ok-search.ensures.search;
+      head_is = c.in_ok-search.ensures.head ∙ c.in_ok-head.ensures.value ∙ ap (λ (x : List ℕ). number x c.args.put.now.vdr vdr_vxr_head) (sym c.read_unsigned8.ensures.area.image);
+    })
 
-pub find_leaf-requires-clause-known : goal.find_leaf-requires-clause-known
-find_leaf-requires-clause-known g c = rw (c.read_unsigned8.ensures.area.image, c.in_ok-head.ensures.value) c.requires.known
+pub returns-in_err-next-clause-area : goal.returns-in_err-next-clause-area
+returns-in_err-next-clause-area g c = edit_failed (keeps_by_read (read_more (read_once c.in_ok-head.ensures.area) c.in_ok-search.ensures.area)) c.in_err-next.ensures.area c.from_residual-in_err-next.ensures.1
+
+-- from the image before the call on
+puts : (g : Over) (c : In_ok-next g) → PutsOn (g.A.Area.image c.args.area.now) (g.A.Area.image c.put_found.new.area) (g.A.Area.frame c.args.area.now).limit c.args.put.now c.args.from.next c.in_ok-next.next
+puts g c =
+    let read = read_more (read_once c.in_ok-head.ensures.area) c.in_ok-search.ensures.area in
+    on_after read.image (ap (λ (f : Frame g.A.Area.Under). f.limit) read.frame) (rw (c.in_ok-search.ensures.rec) at c.in_ok-next.ensures.put)
+
+pub returns-clause-put : goal.returns-clause-put
+returns-clause-put g c = puts g (goal.at.returns-clause-put g c).In_ok-next
+
+pub returns-clause-known : goal.returns-clause-known
+returns-clause-known g c =
+    let search = rw (c.read_unsigned8.ensures.area.image) at c.in_ok-search.ensures.search in
+    node_on c.node.result c.requires.some (puts g (goal.at.returns-clause-known g c).In_ok-next) (rw (c.in_ok-search.ensures.head, c.in_ok-head.ensures.value) at (c.node.ensures (g.A.Area.image c.args.area.now) search))
+
+pub returns-clause-further : goal.returns-clause-further
+returns-clause-further g c = rw (c.in_ok-search.ensures.rec) at c.in_ok-next.ensures.further
+
+pub returns-clause-area : goal.returns-clause-area
+returns-clause-area g c = edit_done (edit_more (keeps_by_read (read_more (read_once c.in_ok-head.ensures.area) c.in_ok-search.ensures.area)) c.in_ok-next.ensures.area)

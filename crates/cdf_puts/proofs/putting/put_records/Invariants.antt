@@ -1,12 +1,13 @@
-use Rattle.cdf_puts.proofs.Common.{PutsUpTo, ◌+◌, ◌-◌}
+use Rattle.cdf_puts.proofs.Common.{IsKnownStart, PutsUpTo, ◌+◌, ◌-◌}
 use Rattle.cdf_area.specs.Calls.{Keeps}
 use Rattle.cdf_puts.proofs.putting.put_records.Given as goal
 
-abbrev pub invariant-loop-k : goal.invariant-loop-k
-invariant-loop-k g l = record {
-  puts : PutsUpTo (g.A.Area.image l.fn.area) (g.A.Area.image l.area) (g.A.Area.frame l.fn.area).limit l.put l.k;
+abbrev pub invariant-loop-so_far : goal.invariant-loop-so_far
+invariant-loop-so_far g l = record {
+  puts : PutsUpTo (g.A.Area.image l.fn.area) (g.A.Area.image l.area) (g.A.Area.frame l.fn.area).limit l.put l.so_far.next;
+  known : IsKnownStart (g.A.Area.image l.area) l.put.vdr l.so_far.node;
   area : Keeps g.A.Area.frame g.A.Area.faults l.fn.area l.area;
 }
 
-abbrev pub decreases-loop-k : goal.decreases-loop-k
-decreases-loop-k g l = l.put.rec + 1 - l.k
+abbrev pub decreases-loop-so_far : goal.decreases-loop-so_far
+decreases-loop-so_far g l = l.put.rec + 1 - l.so_far.next

@@ -1,4 +1,4 @@
-use Rattle.cdf_puts.proofs.putting.find_next.Given as goal
+use Rattle.cdf_puts.proofs.searching.Search.next_first.Given as goal
 
 abbrev pub ghosts-next_counted : goal.ghosts-next_counted
 ghosts-next_counted g a = record { name = a.blank.name; parts = a.blank.parts }

@@ -1,4 +1,4 @@
-use Rattle.cdf_puts.proofs.putting.find_leaf.Given as goal
+use Rattle.cdf_puts.proofs.searching.Search.leaf.Given as goal
 
 abbrev pub ghosts-find_counted : goal.ghosts-find_counted
 ghosts-find_counted g a = record { name = a.blank.name; parts = a.blank.parts }
