@@ -50,7 +50,7 @@ pub use Rattle.cdf_puts.specs.Going.{GoesOn, IsOther, LooseStay, found_in, put_f
 pub use Rattle.cdf_puts.specs.Putting.{GoesOnTo, IsPut, PutsOn, PutsUpTo, Putting, SomePut, SomePutting, block_type, last_in_new, most_in_block, record_put, records_put}
 pub use Rattle.cdf_puts.specs.SoFar.{Beside, BlockRecords, BlocksSoFar, IndexSoFar, LeavesGoOn, MaxRecDone, NewBlock, NodesSoFar, OldBlock, PutStart, PutsBefore, RecordIs, SoFar, TopGrows, TopStays, record_of, taken_bytes, taken_places, was_put}
 pub use Rattle.cdf_puts.specs.Searching.{IsSearch, SearchesIn}
-pub use Rattle.cdf_puts.specs.Starts.{InTopChain, IsKnownOf, IsKnownStart, KeepsStart, KnowsStarts, node_known}
+pub use Rattle.cdf_puts.specs.Starts.{ExpectsEntries, InTopChain, IsKnownOf, IsKnownStart, IsRightOf, IsWithin, KnowsStarts, LeavesEntries, known_of}
 pub use Rattle.cdf_puts.specs.Steps.{BlocksGoOn, IsBlockBody, IsVacant, MaxRecRaised, RecordsWritten}
 pub use Rattle.std.proofs.Common.{take-append-drop}
 pub use Rattle.std.proofs.Math.Nat.{div-le_self}

@@ -2,7 +2,7 @@
 use Rattle.cdf_puts.proofs.Common.{least_below, Ahead, Ascending, Counted, Covering, Entries, InOrder, Leaf, List, Nodes, None, Option, Range, Some, Variable, [], ap, arith, block, block_bytes, block_count, blocks_room, cases_eq, cases_lt, count_upto, cover, covered, covers, entries_below, entries_in, entry_count, entry_firsts, false, filter, find, find_covering, first_written, firsts_of, fold, inl, inr, is_sparse, le-ltb, leaf, leaves_more, leaves_of, length, length-append, lower, lt-ltb, ltb, map, max, min, nat_tests, new_last, new_range, new_room, next_first, no_entry, no_node, node, node_bytes, option_map, order_with_leaf, put_room, quotient_up, range, ranges_after_put, ranges_new, ranges_of, record_length, record_number_limit, refl, shared, subst, suc, sum_by-cons, sym, times_le, uncovered, unwrap_or, vxr_bytes, widest, with_leaf, with_range, zero, ℕ, ◌*◌, ◌+◌, ◌-◌, ◌<◌, ◌∙◌, ◌∷◌, ◌≡◌, ◌≤◌, ◌⊎◌, by_leaf, least_first_past}
 use Rattle.cdf_index.proofs.LeavesAscend.{leaves_ascend}
 use Rattle.cdf_puts.proofs.PutBytes.{found_covering}
-use Rattle.cdf_puts.proofs.LeafCounts.{next_firsts_with_leaf, wide_grows}
+use Rattle.cdf_puts.proofs.LeafCounts.{entries_grow, next_firsts_with_leaf, wide_grows}
 
 abbrev pub of_leaves : List Leaf → List Range
 of_leaves leaves = map (λ (leaf : Leaf). range leaf.first leaf.last) leaves
@@ -146,10 +146,17 @@ pub covering_starts : (v : Variable) (index : Nodes) (n : ℕ) → is_sparse v.s
 covering_starts v index n rule o =
     let ahead : Ahead v (firsts_of index) n (first_written v n) (ranges_of index) (ranges_after_put v index n) = record { next = first_written v n; steps = n + 1 - first_written v n; upto = omega arith; enough = omega arith; between = λ j low high. absurd (omega arith); leads = rw rule refl } in
     let counted : first_written v n ≤ n → Counted v index index n (first_written v n) 0 = λ le. record { records = 0; blocks = 0; records_are = omega arith; blocks_are = omega arith; bytes_are = omega arith } in
-    grind (arith, o, ahead, counted)
+    let grown : entries_in index + covered (first_written v n) n (ranges_of index) ≤ entries_in index + covered (first_written v n) n (ranges_of index) = omega arith in
+    grind (arith, o, ahead, counted, grown)
 
 pub covering_done : {v : Variable} {index index' : Nodes} {n k taken : ℕ} → Covering v index index' n k taken → n < k → ranges_of index' ≡ ranges_after_put v index n
 covering_done {v = v} {index = index} {n = n} c lt = let u = c.ahead.upto in sym (end_step v (firsts_of index) n c.ahead.steps c.ahead.next _ (omega arith)) ∙ c.ahead.leads
+
+-- at most as many entries come as records had no block
+pub covering_entries : {v : Variable} {index index' : Nodes} {n k taken : ℕ} → Covering v index index' n k taken → is_sparse v.sparse ≡ false → entries_in index' ≤ entries_in index + uncovered v index n
+covering_entries {v = v} {index' = index'} {n = n} c rule =
+    let most = (covered_most (first_written v n) n 0 0 (suc record_number_limit) (leaves_of index') (leaves_ascend 0 record_number_limit index' c.ordered (omega arith))).0 in
+    grind (arith, nat_tests, rule, most, c.grown)
 
 module _ {v : Variable} {index index' : Nodes} {n k taken : ℕ} (c : Covering v index index' n k taken) (small : n ≤ record_number_limit) (le : k ≤ n) where
   abbrev fs : List ℕ
@@ -221,6 +228,12 @@ module _ {v : Variable} {index index' : Nodes} {n k taken : ℕ} (c : Covering v
             bytes_are = bytes';
           }
 
+      -- an entry more, and a record more that has a block
+      grown' : entries_in (with_leaf new at index') + covered (first_written v n) n (ranges_of index) ≤ entries_in index + covered (first_written v n) n (ranges_of (with_leaf new at index'))
+      grown' =
+          let more = ap (covered (first_written v n) n) ranges_are ∙ covered_with (first_written v n) n (range k last) (ranges_of index') in
+          omega (arith, by_leaf (entries_grow new at) index', more, c.grown, c.from, covering_ends.0, le)
+
       pub covering_leaf : Covering v index (with_leaf (leaf k (new_last v index' k) place false) at index') n (min (new_last v index' k + 1) (n + 1)) (taken + block_bytes v k (new_last v index' k) + node_bytes k index')
       covering_leaf =
           let ends = covering_ends in
@@ -228,4 +241,4 @@ module _ {v : Variable} {index index' : Nodes} {n k taken : ℕ} (c : Covering v
           (subst (λ (r : Range). Ahead v fs n (min (r.last + 1) (n + 1)) (with_range r (ranges_of index')) (ranges_after_put v index n)) (sym same_new) (ahead_new c.ahead le (subst (λ (r : Range). k ≤ r.last) same_new ends.0) none)) in
           let nexts : (m : ℕ) → min (last + 1) (n + 1) ≤ m → next_first m (firsts_of (with_leaf new at index')) ≡ next_first m fs = λ m lm. next_firsts_with_leaf new at index' m (omega arith) ∙ c.nexts m (omega arith) in
           let counted : min (last + 1) (n + 1) ≤ n → Counted v index (with_leaf new at index') n (min (last + 1) (n + 1)) taken' = λ more. subst (λ (x : ℕ). Counted v index (with_leaf new at index') n x taken') (omega arith) (counted' (omega arith)) in
-          search (arith, order_with_leaf new at index' c.ordered ends.0 vacant ends.1, c.from, ahead, nexts, by_leaf (wide_grows new at) index', narrow, c.as_wide, bytes', in_room, counted)
+          search (arith, order_with_leaf new at index' c.ordered ends.0 vacant ends.1, c.from, ahead, nexts, by_leaf (wide_grows new at) index', narrow, c.as_wide, grown', bytes', in_room, counted)

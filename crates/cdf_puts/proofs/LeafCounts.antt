@@ -1,5 +1,5 @@
 -- What a leaf more makes of the nodes, the Firsts and the leaves of an index, and of how wide its nodes are and which room they have.
-use Rattle.cdf_puts.proofs.Common.{Bool, Each, Each-split, Entries, Grows, HasNodes, In, InOrder, IsOneOf, Leaf, List, Names, NodeFits, Nodes, [], ap, append_assoc, arith, block, by_leaf, entry_firsts, false, filter, firsts_of, fold, if◌then◌else◌, inl, inr, le-ltb, leaves_more, leaves_of, lower, lower_nodes, max, min, nat_lt, next_first, no_entry, no_node, node, nodes_of, places_of, record_number_limit, room_at, suc, sym, times, times-append, weigh, weigh_below, weight_grows, widest, widest_below, with_both, with_leaf, with_new, zero, ℕ, ◌+◌, ◌==◌, ◌∷◌, ◌≡◌, ◌≤◌, ◌⊎◌, ◌&&◌, nat_tests, In-append, append-nil, leaf, firsts_both, new_room}
+use Rattle.cdf_puts.proofs.Common.{entries_below, entries_in, entry_count, Bool, Each, Each-split, Entries, Grows, HasNodes, In, InOrder, IsOneOf, Leaf, List, Names, NodeFits, Nodes, [], ap, append_assoc, arith, block, by_leaf, entry_firsts, false, filter, firsts_of, fold, if◌then◌else◌, inl, inr, le-ltb, leaves_more, leaves_of, lower, lower_nodes, max, min, nat_lt, next_first, no_entry, no_node, node, nodes_of, places_of, record_number_limit, room_at, suc, sym, times, times-append, weigh, weigh_below, weight_grows, widest, widest_below, with_both, with_leaf, with_new, zero, ℕ, ◌+◌, ◌==◌, ◌∷◌, ◌≡◌, ◌≤◌, ◌⊎◌, ◌&&◌, nat_tests, In-append, append-nil, leaf, firsts_both, new_room}
 use Rattle.std.proofs.lemmas.List.Elements.{filter-append}
 use Rattle.cdf_index.proofs.Measured.{seven_at_least}
 use Rattle.cdf_index.proofs.Saying.{count_both}
@@ -80,3 +80,16 @@ room_grows b records new at = grind (arith, nat_tests, Each-split (NodeFits b), 
 
 pub new_room_widest : (b records : List ℕ) (levels f : ℕ) (index : Nodes) → HasNodes b records levels index → Each (NodeFits b) (nodes_of index) → new_room f index ≤ widest index
 new_room_widest b records levels f index h fit = by_leaf (room_grows b records (leaf f 0 0 false) 0) index levels h fit
+
+-- ---- how many entries are used
+
+below_both : (es fs : Entries) → entries_below (with_both es fs) ≡ entries_below es + entries_below fs
+unfolding entries_below
+below_both no_entry fs = omega arith
+below_both (block first last place packed es) fs = below_both es fs
+below_both (lower first last nodes es) fs = omega (arith, below_both es fs)
+
+-- by then they are one more at most
+pub entries_grow : (new : Leaf) (at : ℕ) → Grows new at (λ n a a'. entries_in a' ≤ suc (entries_in a)) (λ n es es'. entry_count es' + entries_below es' ≤ suc (entry_count es + entries_below es))
+unfolding entries_in entries_below
+entries_grow new at = grind (arith, count_both, below_both)

@@ -1,8 +1,9 @@
--- From which nodes searches in the indexes of variables go on: nodes of their top chains that are known (own).
-use Rattle.std.specs.Prelude.{◌≡◌, ◌≢◌, ◌⊎◌, ℕ, List, Some, IfSome}
+-- What is known of the indexes of variables: nodes of their top chains, from which searches go on, and how large they are at most (own).
+use Rattle.std.specs.Prelude.{◌≤◌, ◌+◌, ℕ, List, IfSome}
 use Rattle.std.specs.declared.option.Option.{Option}
 use Rattle.std.specs.BTreeMap.{get}
 use Rattle.std.specs.Ordering.{nat_cmp}
+use Rattle.cdf_edits.specs.Commands.Room.{entries_in, widest}
 use Rattle.cdf_edits.specs.Index.Written.{top_chain}
 use Rattle.cdf_format.specs.Fields.{number}
 use Rattle.cdf_format.specs.Index.{Nodes}
@@ -10,6 +11,8 @@ use Rattle.cdf_format.specs.Records.{vdr_vxr_head}
 use Rattle.cdf_format.specs.Shape.{VariableShape, Each, shape, variables}
 use Rattle.cdf_format.specs.Tiles.{In}
 use Rattle.cdf_index.specs.Finding.{index_at}
+use Rattle.cdf_puts.specs.declared.known_index.IndexBound.{IndexBound}
+use Rattle.cdf_puts.specs.declared.known_index.KnownIndex.{KnownIndex}
 use Rattle.cdf_puts.specs.declared.starts.Starts.{Starts}
 
 -- a node that may be known of an index is one of its top chain
@@ -20,17 +23,31 @@ InTopChain index known = IfSome known (λ m. In m (top_chain index))
 abbrev pub IsKnownStart : List ℕ → ℕ → Option ℕ → Type 0
 IsKnownStart b vdr known = InTopChain (index_at b (number b vdr vdr_vxr_head)) known
 
+-- an index has at most so many used entries, and no wider node
+pub record IsWithin (index : Nodes) (bound : IndexBound) : Type 0 where
+  pub few : entries_in index ≤ bound.entries
+  pub narrow : widest index ≤ bound.widest
+
+-- what is known of an index is right of it
+pub record IsRightOf (index : Nodes) (known : KnownIndex) : Type 0 where
+  pub node : InTopChain index known.node
+  pub bound : IfSome known.bound (IsWithin index)
+
 -- what is known of a variable, by the place of its VDR
-abbrev pub node_known : Starts → ℕ → Option ℕ
-node_known starts vdr = get nat_cmp starts.nodes vdr
+abbrev pub known_of : Starts → ℕ → Option KnownIndex
+known_of starts vdr = get nat_cmp starts.indexes vdr
 
 abbrev pub IsKnownOf : Starts → VariableShape → Type 0
-IsKnownOf starts v = InTopChain v.index (node_known starts v.vdr)
+IsKnownOf starts v = IfSome (known_of starts v.vdr) (IsRightOf v.index)
 
 -- what is known of the variables of an image
 pub record KnowsStarts (b : List ℕ) (starts : Starts) : Type 0 where
   pub each : Each (IsKnownOf starts) (variables (shape b))
 
--- of one variable another node may be known, and of each other the same
-abbrev pub KeepsStart : Starts → ℕ → ℕ → Starts → Type 0
-KeepsStart before vdr node after = (v : ℕ) → (node_known after v ≡ node_known before v) ⊎ ((v ≡ vdr) × (node ≢ 0) × (node_known after v ≡ Some node))
+-- a bound that is known leaves room for so many entries more of an index
+abbrev pub LeavesEntries : KnownIndex → Nodes → ℕ → Type 0
+LeavesEntries known index more = IfSome known.bound (λ bound. entries_in index + more ≤ bound.entries)
+
+-- so does what is known of a variable
+abbrev pub ExpectsEntries : Starts → ℕ → Nodes → ℕ → Type 0
+ExpectsEntries starts vdr index more = IfSome (known_of starts vdr) (λ known. LeavesEntries known index more)

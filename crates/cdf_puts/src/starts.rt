@@ -1,59 +1,83 @@
-//! From which nodes searches in the indexes of variables go on.
+//! What is known of the indexes of the variables of a file: from which nodes searches go on, and how large the indexes are at most.
 
-ghost use Rattle.std.specs.Prelude.{◌≡◌, ◌≤◌, ℕ, length, IfOk, None};
+ghost use Rattle.std.specs.Prelude.{◌≡◌, ◌≢◌, ◌≤◌, ℕ, List, length, IfOk, IfSome, None};
 ghost use Rattle.cdf_area.specs.Calls.{Reads};
+ghost use Rattle.cdf_format.specs.Fields.{number};
+ghost use Rattle.cdf_format.specs.Index.{Nodes};
+ghost use Rattle.cdf_format.specs.Records.{vdr_vxr_head};
 ghost use Rattle.cdf_format.specs.Shape.{shape, variables, vdrs};
 ghost use Rattle.cdf_format.specs.Tiles.{In};
 ghost use Rattle.cdf_format.specs.WellFormed.{Good};
+ghost use Rattle.cdf_index.specs.Finding.{index_at};
 ghost use Rattle.cdf_model.specs.Limits.{image_limit};
-ghost use Rattle.cdf_puts.specs.Starts.{IsKnownStart, KeepsStart, KnowsStarts, node_known};
+ghost use Rattle.cdf_puts.specs.Starts.{ExpectsEntries, IsKnownStart, IsRightOf, IsWithin, KnowsStarts, known_of};
 
+use crate::known_index::{IndexBound, KnownIndex};
 use cdf_area::{Area, AreaError};
 use cdf_format::fields::VDR_VXR_HEAD;
-use cdf_index::start_of;
 use cdf_records::read_unsigned8;
 use std::alloc::Global;
 use std::collections::BTreeMap;
 
-/// Of variables, by the places of their descriptors, the node of the top chain of the index from which the next search goes on.
+/// What is known of the indexes of variables, by the places of their descriptors.
 #[derive(Drop)]
 pub struct Starts {
     alloc: Global,
-    nodes: BTreeMap<u64, u64>,
+    indexes: BTreeMap<u64, KnownIndex>,
 }
 
 impl Starts {
-    /// No node is known.
+    /// Nothing is known.
     pub fn new(alloc: Global) -> Starts
-        ensures { (vdr : ℕ) → node_known result vdr ≡ None }
+        ensures { (vdr : ℕ) → known_of result vdr ≡ None }
     {
         Starts {
             alloc,
-            nodes: BTreeMap::new(alloc),
+            indexes: BTreeMap::new(alloc),
         }
     }
 
-    /// Lets all nodes go.
+    /// Lets go all that is known.
     pub fn forget(&mut self)
-        ensures { (vdr : ℕ) → node_known self.new vdr ≡ None }
+        ensures { (vdr : ℕ) → known_of self.new vdr ≡ None }
     {
-        self.nodes = BTreeMap::new(self.alloc);
+        self.indexes = BTreeMap::new(self.alloc);
     }
 
-    /// The node that is known of the variable whose descriptor stands at a place.
-    fn node_of(&self, vdr: u64) -> Option<u64>
-        ensures { result ≡ node_known self.now vdr }
+    /// What is known of the index of the variable whose descriptor stands at a place.
+    fn index_of(&self, vdr: u64) -> KnownIndex
+        ensures { (index : Nodes) → IfSome (known_of self.now vdr) (IsRightOf index) → IsRightOf index result }
     {
-        self.nodes.get(&vdr).copied()
-    }
-
-    /// Keeps a node of the variable whose descriptor stands at a place, where there is memory for it; at 0 there is none.
-    fn keep(&mut self, vdr: u64, node: u64)
-        ensures { KeepsStart self.old vdr node self.new }
-    {
-        if node != 0 {
-            let _kept = self.nodes.insert(vdr, node);
+        match self.indexes.get(&vdr) {
+            Some(known) => *known,
+            None => KnownIndex::new(),
         }
+    }
+
+    /// Keeps what is known of the index of the variable whose descriptor stands at a place, where there is memory for it.
+    fn keep(&mut self, vdr: u64, known: KnownIndex)
+        ensures others { (v : ℕ) → v ≢ vdr → known_of self.new v ≡ known_of self.old v }
+        ensures own { IfSome (known_of self.new vdr) (λ kept. kept ≡ known) }
+    {
+        let _kept = self.indexes.insert(vdr, known);
+    }
+
+    /// What bounds the index of the variable whose descriptor stands at a place, if that is known.
+    pub fn bound_of(&self, vdr: u64) -> Option<IndexBound>
+        ensures { (b : List ℕ) → Good b → In vdr (vdrs (variables (shape b))) → KnowsStarts b self.now → IfSome result (IsWithin (index_at b (number b vdr vdr_vxr_head))) }
+    {
+        self.index_of(vdr).bound
+    }
+
+    /// Keeps what bounds the index of the variable whose descriptor stands at a place once it has so many entries more, where there is
+    /// memory for it.
+    pub fn keep_bound(&mut self, vdr: u64, bound: IndexBound, more: u32)
+        ensures known { (b : List ℕ) → Good b → In vdr (vdrs (variables (shape b))) → KnowsStarts b self.old → IsWithin (index_at b (number b vdr vdr_vxr_head)) bound → KnowsStarts b self.new }
+        ensures expects { (index : Nodes) → IsWithin index bound → ExpectsEntries self.new vdr index more }
+    {
+        let mut known = self.index_of(vdr);
+        known.keep_bound(bound, more);
+        self.keep(vdr, known);
     }
 
     /// A node, if one is known, of the top chain of the index of the variable whose descriptor stands at a place. From the node that was
@@ -76,8 +100,9 @@ impl Starts {
         // An image has fewer than 2^64 bytes, so no place in it overflows.
         let _size = area.size();
         let head = read_unsigned8(area, vdr + VDR_VXR_HEAD)?;
-        let start = start_of(area, head, self.node_of(vdr), rec)?;
-        self.keep(vdr, start);
-        Ok(self.node_of(vdr))
+        let mut known = self.index_of(vdr);
+        let start = known.find_start(area, head, rec)?;
+        self.keep(vdr, known);
+        Ok(start)
     }
 }

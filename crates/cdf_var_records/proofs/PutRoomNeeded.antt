@@ -1,7 +1,16 @@
 -- How large a put makes the file at most, by what was read of the variable.
-use Rattle.cdf_var_records.proofs.Common.{Ascending, Form, Good, HasIndex, IndexSize, IsForm, List, Nodes, Variable, ap, ap₂, arith, blocks_room, covered, cuts_before_put, false, first_written, index_at, leaves_ascend, leaves_of, length, number, packed_room, put_room, ranges_before_put, ranges_of, record_number_limit, refl, subst, suc, sym, uncovered, uncut, variable_at, vdr_vxr_head, ℕ, ◌+◌, ◌-◌, ◌∙◌, ◌≡◌, ◌≤◌}
-use Rattle.cdf_index.specs.Sizes.{size_of}
-use Rattle.cdf_index.specs.declared.measuring.IndexSize.{IndexSize}
+use Rattle.cdf_var_records.proofs.Common.{None, Option, Some, block_count, Ascending, Form, Good, HasIndex, IsForm, List, Nodes, Variable, ap, ap₂, arith, blocks_room, covered, cuts_before_put, false, first_written, index_at, leaves_ascend, leaves_of, length, number, packed_room, put_room, ranges_before_put, ranges_of, record_number_limit, refl, subst, suc, sym, uncovered, uncut, variable_at, vdr_vxr_head, ℕ, ◌+◌, ◌-◌, ◌∙◌, ◌≡◌, ◌≤◌}
+use Rattle.cdf_edits.specs.Commands.Room.{entries_in, quotient_up, widest}
+use Rattle.cdf_format.specs.Records.{linked_size, vxr_bytes}
+use Rattle.cdf_edits.specs.Index.Blocks.{record_length}
+use Rattle.cdf_puts.specs.Starts.{IsRightOf, IsWithin, LeavesEntries, known_of}
+use Rattle.cdf_puts.specs.declared.known_index.IndexBound.{IndexBound}
+use Rattle.cdf_puts.specs.declared.known_index.KnownIndex.{KnownIndex}
+use Rattle.cdf_puts.specs.declared.starts.Starts.{Starts}
+use Rattle.cdf_var_records.specs.Room.{ExpectsPut, bytes_by, room_by, room_in}
+use Rattle.cdf_var_records.specs.declared.put_room.NewBlocks.{NewBlocks}
+use Rattle.std.proofs.Math.Nat.{mul-le-mul}
+use Rattle.std.specs.Prelude.{IfSome, zero, ◌*◌}
 use Rattle.cdf_puts.proofs.PutRules.{loose, uncut}
 use Rattle.cdf_var_records.proofs.RecordForms.{variable_is}
 use Rattle.cdf_var_records.proofs.RecordReading.{index, lies}
@@ -13,10 +22,37 @@ no_packed v nodes r loose = rw loose refl
 all_ranges : (v : Variable) (nodes : Nodes) (r : ℕ) → cuts_before_put v r ≡ false → ranges_before_put v nodes r ≡ ranges_of nodes
 all_ranges v nodes r uncut = rw uncut refl
 
+uncovered_is : (v : Variable) (nodes : Nodes) (r missing from : ℕ) → cuts_before_put v r ≡ false → from ≡ first_written v r → missing ≡ (r + 1 - from) - covered from r (ranges_of nodes) → uncovered v nodes r ≡ missing
+uncovered_is v nodes r missing from uncut from_is missing_is = (λ i. (r + 1 - sym from_is i) - covered (sym from_is i) r (all_ranges v nodes r uncut i)) ∙ sym missing_is
+
 room_is : (v : Variable) (nodes : Nodes) (r missing from : ℕ) → v.rle ≡ false → cuts_before_put v r ≡ false → from ≡ first_written v r → missing ≡ (r + 1 - from) - covered from r (ranges_of nodes) → put_room v nodes r ≡ blocks_room v nodes missing
 room_is v nodes r missing from loose uncut from_is missing_is =
-    let few : uncovered v nodes r ≡ missing = (λ i. (r + 1 - sym from_is i) - covered (sym from_is i) r (all_ranges v nodes r uncut i)) ∙ sym missing_is in
-    ap₂ (λ (x y : ℕ). x + y) (ap (blocks_room v nodes) few) (no_packed v nodes r loose) ∙ omega arith
+    ap₂ (λ (x y : ℕ). x + y) (ap (blocks_room v nodes) (uncovered_is v nodes r missing from uncut from_is missing_is)) (no_packed v nodes r loose) ∙ omega arith
+
+-- the room of new blocks, by what they are to have
+blocks_by : (v : Variable) (nodes : Nodes) (missing : ℕ) → blocks_room v nodes missing ≡ bytes_by (block_count v) (record_length v) missing (entries_in nodes) (widest nodes)
+blocks_by v nodes zero = refl
+blocks_by v nodes (suc u) = refl
+
+-- it is no less in a larger index
+grows : (count size missing entries entries' wide wide' : ℕ) → entries ≤ entries' → wide ≤ wide' → bytes_by count size missing entries wide ≤ bytes_by count size missing entries' wide'
+grows count size zero entries entries' wide wide' le less = omega arith
+grows count size (suc u) entries entries' wide wide' le less =
+    let more : quotient_up (suc u) count + entries + 1 ≤ quotient_up (suc u) count + entries' + 1 = omega arith in
+    let wider : linked_size + vxr_bytes wide ≤ linked_size + vxr_bytes wide' = omega arith in
+    let all : (quotient_up (suc u) count + entries + 1) * (linked_size + vxr_bytes wide) ≤ (quotient_up (suc u) count + entries' + 1) * (linked_size + vxr_bytes wide') = mul-le-mul more wider in
+    omega (arith, all)
+
+pub room_within : (nodes : Nodes) (blocks : NewBlocks) (bound : IndexBound) → IsWithin nodes bound → room_in nodes blocks ≤ room_by blocks bound.entries bound.widest
+room_within nodes blocks bound is = grows blocks.count blocks.size blocks.missing (entries_in nodes) bound.entries (widest nodes) bound.widest is.few is.narrow
+
+none_more : (nodes : Nodes) {more : ℕ} (known : Option IndexBound) → IfSome known (IsWithin nodes) → more ≡ 0 → IfSome known (λ bound. entries_in nodes + more ≤ bound.entries)
+none_more nodes None within none = tt
+none_more nodes (Some bound) within none = omega (arith, within.few, none)
+
+none_left : (nodes : Nodes) {more : ℕ} (known : Option KnownIndex) → IfSome known (IsRightOf nodes) → more ≡ 0 → IfSome known (λ k. LeavesEntries k nodes more)
+none_left nodes None is none = tt
+none_left nodes (Some known) is none = none_more nodes known.bound is.bound none
 
 module _ {b : List ℕ} {form : Form} (good : Good b) (is : IsForm b form) (r : ℕ) where
   abbrev pub vdr : ℕ
@@ -32,7 +68,7 @@ module _ {b : List ℕ} {form : Form} (good : Good b) (is : IsForm b form) (r : 
   head_lies = lies good is
 
   module _ {x : List ℕ} {head : ℕ} (same : x ≡ b) (head_is : head ≡ number b vdr vdr_vxr_head) where
-    index_same : index_at x head ≡ nodes
+    pub index_same : index_at x head ≡ nodes
     index_same = λ i. index_at (same i) (head_is i)
 
     pub index_there : HasIndex x head
@@ -41,10 +77,26 @@ module _ {b : List ℕ} {form : Form} (good : Good b) (is : IsForm b form) (r : 
     pub leaves_rise : Ascending 0 (suc record_number_limit) (leaves_of (index_at x head))
     leaves_rise = leaves_ascend 0 record_number_limit (index_at x head) index_there.order (omega arith)
 
-    pub size_there : (size : IndexSize) → size ≡ size_of (index_at x head) → size_of nodes ≡ size
-    size_there size e = sym (e ∙ ap size_of index_same)
+    module _ (from missing : ℕ) (from_is : from ≡ first_written v r) (missing_is : missing ≡ (r + 1 - from) - covered from r (ranges_of (index_at x head))) where
+      missing_there : missing ≡ (r + 1 - from) - covered from r (ranges_of nodes)
+      missing_there = missing_is ∙ ap (λ (y : Nodes). (r + 1 - from) - covered from r (ranges_of y)) index_same
 
-    pub room_there : (from missing : ℕ) → from ≡ first_written v r → missing ≡ (r + 1 - from) - covered from r (ranges_of (index_at x head)) → put_room v nodes r ≡ blocks_room v nodes missing
-    room_there from missing from_is missing_is =
-        room_is v nodes r missing from (ap (λ (y : Variable). y.rle) (variable_is good is.is_vdr) ∙ loose good (at good is.is_vdr)) (ap (λ (y : Variable). cuts_before_put y r) (variable_is good is.is_vdr) ∙ uncut good (at good is.is_vdr) r) from_is
-        (missing_is ∙ ap (λ (y : Nodes). (r + 1 - from) - covered from r (ranges_of y)) index_same)
+      uncut_there : cuts_before_put v r ≡ false
+      uncut_there = ap (λ (y : Variable). cuts_before_put y r) (variable_is good is.is_vdr) ∙ uncut good (at good is.is_vdr) r
+
+      pub uncovered_there : uncovered v nodes r ≡ missing
+      uncovered_there = uncovered_is v nodes r missing from uncut_there from_is missing_there
+
+      room_there : put_room v nodes r ≡ blocks_room v nodes missing
+      room_there = room_is v nodes r missing from (ap (λ (y : Variable). y.rle) (variable_is good is.is_vdr) ∙ loose good (at good is.is_vdr)) uncut_there from_is missing_there
+
+      -- the room is that of these blocks, and none where no record is without one
+      pub blocks_there : (blocks : NewBlocks) → blocks.count ≡ block_count v → blocks.size ≡ record_length v → blocks.missing ≡ missing → put_room v nodes r ≡ room_in nodes blocks
+      blocks_there blocks count_is size_is same = room_there ∙ blocks_by v nodes missing ∙ (λ i. bytes_by (sym count_is i) (sym size_is i) (sym same i) (entries_in nodes) (widest nodes))
+
+      pub none_there : missing ≡ 0 → put_room v nodes r ≡ 0
+      none_there none = room_there ∙ ap (blocks_room v nodes) none
+
+      -- and an index that is known to be no larger than a bound has room for no entry more
+      pub none_expected : (starts : Starts) → IfSome (known_of starts vdr) (IsRightOf nodes) → missing ≡ 0 → ExpectsPut b vdr r starts
+      none_expected starts is_right none = none_left nodes (known_of starts vdr) is_right (uncovered_there ∙ none)

@@ -1,4 +1,4 @@
-//! What is read of one variable: what is told of it, how its records are laid out, what each reads as, which is stored next, and how many bytes a put of one takes at most.
+//! What is read of one variable: what is told of it, how its records are laid out, what each reads as, which is stored next, and whether there is room for a put of one.
 #![tactic(auto)]
 
 mod bad_shape;
@@ -15,7 +15,7 @@ pub use extent::read_extent;
 pub use form::{Form, read_dims, read_form, read_majority};
 pub use next::{RecordReader, Stored};
 pub use pad_place::{PadPlace, descriptor_size, read_pad_place};
-pub use put_room::{read_block_count, read_put_room};
+pub use put_room::{has_put_room, read_block_count};
 pub use record::{
     is_out_of_range, read_pad_record, read_record, record_size_of, value_size, values_of,
 };

@@ -1,22 +1,19 @@
-//! How large a put makes the file at most.
+//! Whether there is room for a put.
 
-ghost use Rattle.std.specs.Prelude.{◌≡◌, ◌≤◌, ◌<◌, ◌+◌, ◌-◌, ◌^◌, suc, length, IfOk};
+ghost use Rattle.std.specs.Prelude.{◌≡◌, ◌≤◌, ◌<◌, ◌+◌, ◌-◌, ◌^◌, suc, length, true, false, IfOk, IfSome};
 ghost use Rattle.cdf_area.specs.Calls.{Reads};
 ghost use Rattle.cdf_edits.proofs.Edits.LeafRecords.{Ascending};
-ghost use Rattle.cdf_edits.specs.Commands.Room.{blocks_room, put_room};
-ghost use Rattle.cdf_edits.specs.Index.Blocks.{block_count, covered, first_written, ranges_of, record_length, wanted_count};
+ghost use Rattle.cdf_edits.specs.Index.Blocks.{block_count, covered, first_written, ranges_of, wanted_count};
 ghost use Rattle.cdf_format.specs.Fields.{integer4, number};
-ghost use Rattle.cdf_format.specs.Index.{Nodes, leaves_of};
+ghost use Rattle.cdf_format.specs.Index.{leaves_of};
 ghost use Rattle.cdf_format.specs.Records.{vdr_blocking_factor, vdr_vxr_head, past, vdr_name};
 ghost use Rattle.cdf_format.specs.WellFormed.{Good};
 ghost use Rattle.cdf_index.specs.Finding.{index_at, HasIndex};
-ghost use Rattle.cdf_index.specs.Sizes.{size_of};
-ghost use Rattle.cdf_model.specs.DataSet.{Variable};
 ghost use Rattle.cdf_model.specs.Limits.{image_limit, record_number_limit};
 ghost use Rattle.cdf_model.specs.Place.{record_limit};
 ghost use Rattle.cdf_puts.specs.Searching.{IsSearch};
-ghost use Rattle.cdf_puts.specs.Starts.{InTopChain, IsKnownStart};
-ghost use Rattle.cdf_var_records.specs.Room.{IsStretch, count_in_block};
+ghost use Rattle.cdf_puts.specs.Starts.{InTopChain, IsKnownStart, IsWithin, KnowsStarts};
+ghost use Rattle.cdf_var_records.specs.Room.{ExpectsPut, IsStretch, count_in_block, put_room_at, room_by, room_in};
 ghost use Rattle.cdf_var_records.specs.Records.{IsForm, variable_at};
 
 use crate::form::Form;
@@ -25,9 +22,9 @@ use cdf_area::{Area, AreaError};
 use cdf_format::fields::{
     LINKED_SIZE, VDR_BLOCKING_FACTOR, VDR_VXR_HEAD, VXR_ENTRY_SIZE, VXR_FIRST,
 };
-use cdf_index::{IndexSize, index_size};
+use cdf_index::index_size;
 use cdf_model::limits::RECORD_NUMBER_LIMIT;
-use cdf_puts::Search;
+use cdf_puts::{IndexBound, Search, Starts};
 use cdf_records::{read_signed4, read_unsigned8};
 
 /// The most bytes of the records of a block that has more than one.
@@ -42,6 +39,17 @@ pub struct Stretch {
     /// The record behind them.
     pub end: u32,
     /// How many of them have no block.
+    pub missing: u32,
+}
+
+/// New blocks for records that have none.
+#[derive(Clone, Copy)]
+pub struct NewBlocks {
+    /// How many records a block has.
+    pub count: u32,
+    /// How many bytes a record has.
+    pub size: u64,
+    /// How many records have no block.
     pub missing: u32,
 }
 
@@ -156,48 +164,94 @@ fn count_missing<A: Area>(
     Ok(missing)
 }
 
-/// How many bytes new blocks for so many records take at most.
-fn room_of(count: u32, length: u64, missing: u32, size: IndexSize) -> u128
-    requires some { 1 ≤ count }
-    requires short { length ≤ record_limit }
-    ensures { (v : Variable) (nodes : Nodes) → block_count v ≡ count → record_length v ≡ length → size_of nodes ≡ size → result ≡ blocks_room v nodes missing }
+/// How many bytes new blocks take at most, in an index that is no larger than a bound.
+fn room_of(blocks: NewBlocks, bound: IndexBound) -> u128
+    requires some { 1 ≤ blocks.count }
+    requires short { blocks.size ≤ record_limit }
+    ensures { result ≡ room_by blocks bound.entries bound.widest }
 {
-    if missing == 0 {
+    if blocks.missing == 0 {
         return 0;
     }
-    let (count, missing) = (u128::from(count), u128::from(missing));
-    let records = (missing - 1 + count) * u128::from(length);
-    let blocks = (missing + count - 1) / count + u128::from(size.entries) + 1;
-    let node = VXR_FIRST as u128 + VXR_ENTRY_SIZE as u128 * u128::from(size.widest);
+    let (count, missing) = (u128::from(blocks.count), u128::from(blocks.missing));
+    let records = (missing - 1 + count) * u128::from(blocks.size);
+    let blocks = (missing + count - 1) / count + u128::from(bound.entries) + 1;
+    let node = VXR_FIRST as u128 + VXR_ENTRY_SIZE as u128 * u128::from(bound.widest);
     records + blocks * (LINKED_SIZE as u128 + node)
 }
 
-/// How many bytes a put of a record takes at most, where one is written from a first on. Of the top chain of the index a node may be known.
+/// A bound of the index that a link leads to: the one that is known, where new blocks then take no more than so many bytes; else the
+/// size of the index.
 #[tactic(auto, using(cdf_area::proofs::Calls::read_done, cdf_area::proofs::Calls::read_failed, cdf_area::proofs::Calls::read_more, cdf_area::proofs::Calls::read_once))]
-pub fn read_put_room<A: Area>(
+fn read_bound<A: Area>(
     area: &mut A,
+    head: u64,
+    known: Option<IndexBound>,
+    blocks: NewBlocks,
+    left: u64,
+) -> Result<IndexBound, AreaError>
+    requires index { HasIndex (A.image area.old) head }
+    requires short { length (A.image area.old) ≤ image_limit }
+    requires known { IfSome known (IsWithin (index_at (A.image area.old) head)) }
+    requires some { 1 ≤ blocks.count }
+    requires size { blocks.size ≤ record_limit }
+    ensures within { IfOk result (IsWithin (index_at (A.image area.old) head)) }
+    ensures large { IfOk result (λ bound. left < room_by blocks bound.entries bound.widest → left < room_in (index_at (A.image area.old) head) blocks) }
+    ensures area { Reads A.image A.frame A.faults A.edited area.old area.new result }
+{
+    if let Some(bound) = known {
+        if room_of(blocks, bound) <= u128::from(left) {
+            return Ok(bound);
+        }
+    }
+    let size = index_size(area, head)?;
+    Ok(IndexBound {
+        entries: size.entries,
+        widest: size.widest,
+    })
+}
+
+/// Whether a put of a record, where one is written from a first on, takes no more than so many bytes. What bounds the index by then is
+/// known afterwards, if there is memory for it. Of its top chain a node may be known.
+#[tactic(auto, using(cdf_area::proofs::Calls::read_done, cdf_area::proofs::Calls::read_failed, cdf_area::proofs::Calls::read_more, cdf_area::proofs::Calls::read_once))]
+pub fn has_put_room<A: Area>(
+    area: &mut A,
+    starts: &mut Starts,
     form: &Form,
     known: Option<u64>,
     rec: u32,
     from: u32,
-) -> Result<u128, AreaError>
+    left: u64,
+) -> Result<bool, AreaError>
     requires good { Good (A.image area.old) }
     requires short { length (A.image area.old) ≤ image_limit }
     requires form { IsForm (A.image area.old) form.now }
     requires known { IsKnownStart (A.image area.old) form.now.place.vdr known }
+    requires starts { KnowsStarts (A.image area.old) starts.old }
     requires within { rec ≤ record_number_limit }
     requires from { from ≡ first_written (variable_at (A.image area.old) form.now.place.vdr) rec }
-    ensures room { IfOk result (λ room. room ≡ put_room (variable_at (A.image area.old) form.now.place.vdr) (index_at (A.image area.old) (number (A.image area.old) form.now.place.vdr vdr_vxr_head)) rec) }
+    ensures fits { IfOk result (λ fits. fits ≡ true → put_room_at (A.image area.old) form.now.place.vdr rec ≤ left) }
+    ensures large { IfOk result (λ fits. fits ≡ false → left < put_room_at (A.image area.old) form.now.place.vdr rec) }
+    ensures starts { KnowsStarts (A.image area.old) starts.new }
+    ensures expects { IfOk result (λ fits. fits ≡ true → ExpectsPut (A.image area.old) form.now.place.vdr rec starts.new) }
     ensures area { Reads A.image A.frame A.faults A.edited area.old area.new result }
 {
     // An image has fewer than 2^64 bytes, so no place in it overflows.
     let _size = area.size();
-    let head = read_unsigned8(area, form.place.vdr + VDR_VXR_HEAD)?;
+    let vdr = form.place.vdr;
+    let head = read_unsigned8(area, vdr + VDR_VXR_HEAD)?;
     let missing = count_missing(area, head, known, from, rec)?;
     if missing == 0 {
-        return Ok(0);
+        return Ok(true);
     }
     let count = read_block_count(area, form)?;
-    let size = index_size(area, head)?;
-    Ok(room_of(count, record_size_of(&form.shape), missing, size))
+    let size = record_size_of(&form.shape);
+    let blocks = NewBlocks {
+        count,
+        size,
+        missing,
+    };
+    let bound = read_bound(area, head, starts.bound_of(vdr), blocks, left)?;
+    starts.keep_bound(vdr, bound, missing);
+    Ok(room_of(blocks, bound) <= u128::from(left))
 }

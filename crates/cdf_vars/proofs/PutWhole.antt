@@ -1,12 +1,17 @@
 -- The whole of a put: what is put under way, and that the last image follows the command.
 use Rattle.cdf_vars.proofs.Common.{Bool, ByStep, CanPut, Command, DataSet, DataType, Each, Follows, Form, Go, Good, HasRoom, In, IsForm, IsNewRecord, IsPut, IsTarget, IsVdr, Kind, Known, Knows, List, MaxRecRaised, MaxRecRaises, NewRecord, PutsAs, PutsSo, PutsUpTo, Putting, R, Shape, Some, SomePutting, Target, Variable, VariableShape, Z, ap, arith, back, cannot_be_put, content, extent, false, first_written, good_is_sound, got-map, got-middle, image_limit, in_middle, index_at, index_is, inl, inr, is_little, length, loose, map, max_rec_at, min, most_in_block, nat_lt, nat_tests, no_rule, number, other_kind, pad_record, put_room, raised_shape, record_bytes, record_number_limit, refl, shape, shapes_of, size_of, size_stays, slice_get, slice_set, step, subst, sym, target_found, true, true≢false, turned, type_of_variable, variable_at, variable_named, variable_of, variables, variables_of, vdr_vxr_head, vdrs, vdrs_append, with_record, with_sign, with_variable, with_variables, ℕ, ◌%◌, ◌&&◌, ◌++◌, ◌+◌, ◌<◌, ◌==◌, ◌||◌, ◌∙◌, ◌∷◌, ◌≡◌, ◌≤◌, ◌⊎◌}
-use Rattle.std.specs.Prelude.{not}
+use Rattle.std.proofs.Math.Path.{transport}
+use Rattle.std.specs.Prelude.{not, IfSome}
 use Rattle.cdf_model.specs.declared.command.Command.TheVariants as commands
 use Rattle.cdf_model.specs.declared.answer.Reply.TheVariants as replies
 use Rattle.cdf_puts.specs.Going.{found_in}
-use Rattle.cdf_puts.specs.Starts.{IsKnownOf, KnowsStarts}
+use Rattle.cdf_edits.specs.Commands.Room.{uncovered}
+use Rattle.cdf_edits.specs.Index.Blocks.{is_sparse}
+use Rattle.cdf_puts.specs.Starts.{ExpectsEntries, IsKnownOf, IsRightOf, KnowsStarts, known_of}
+use Rattle.cdf_var_records.specs.Room.{ExpectsPut}
 use Rattle.cdf_puts.specs.declared.starts.Starts.{Starts}
-use Rattle.cdf_puts.proofs.KnownStarts.{starts_go_on}
+use Rattle.cdf_puts.proofs.CoveringRanges.{covering_entries}
+use Rattle.cdf_puts.proofs.KnownStarts.{right_yet, starts_go_on}
 use Rattle.cdf_var_records.proofs.RecordForms.{among}
 use Rattle.cdf_var_records.proofs.PadSites.{own}
 use Rattle.cdf_puts.specs.SoFar.{MaxRecDone}
@@ -55,6 +60,10 @@ pub form_vdr : {b : List ℕ} {form : Form} → Good b → IsForm b form → In 
 form_vdr {b} {form} good f =
     let all = among good f.is_vdr in
     subst (λ (vs : List VariableShape). In form.place.vdr (vdrs vs)) (sym all.all) (in_middle all.front (own good f.is_vdr) all.rest)
+
+-- what is known of the index leaves room for a put of the same record in the same image
+pub expects_there : {b x : List ℕ} {r n : ℕ} (vdr : ℕ) (starts : Starts) → x ≡ b → n ≡ r → ExpectsPut b vdr r starts → ExpectsPut x vdr n starts
+expects_there vdr starts same is expects = transport (λ i. ExpectsPut (sym same i) vdr (sym is i) starts) expects
 
 -- ---- what holds where the record was read
 
@@ -190,8 +199,12 @@ module _ {b : List ℕ} {t : Target} {bytes : List ℕ} {put : NewRecord} {limit
       last_shape : shape last ≡ shape now
       last_shape = elim max_rec_done [ inl x ↦ raised_shape done.so.goes.good done.so.goes.among x.1 small | inr x ↦ ap shape x.1 ]
 
-      pub starts_now : {starts : Starts} → KnowsStarts b starts → KnowsStarts last starts
-      starts_now {starts} knows = record { each = subst (λ (s : Shape). Each (IsKnownOf starts) (variables s)) (sym last_shape) (starts_go_on knows kind is.among done.so.goes done.so.index.tops).each }
+      pub starts_now : {starts : Starts} → KnowsStarts b starts → ExpectsPut b vdr put.rec starts → KnowsStarts last starts
+      starts_now {starts} knows expects =
+          let left = subst (λ (at : ℕ). ExpectsEntries starts at is.own.index (uncovered v is.own.index put.rec)) (sym is.vdr_is)
+          (let x = is.variable_is in let nodes = index_there k.good is in transport (λ i. ExpectsEntries starts vdr (nodes i) (uncovered (x i) (nodes i) put.rec)) expects) in
+          let yet = λ (is_right : IfSome (known_of starts is.own.vdr) (IsRightOf is.own.index)). right_yet is.own.index done.own'.index (uncovered v is.own.index put.rec) (known_of starts is.own.vdr) is_right left done.so.index.tops (covering_entries done.so.covers (ap is_sparse done.so.start.no_rule)) done.so.covers.as_wide in
+          record { each = subst (λ (s : Shape). Each (IsKnownOf starts) (variables s)) (sym last_shape) (starts_go_on knows kind is.among done.so.goes yet).each }
 
       pub known_now : {known : Known} → Knows b known → Knows last known
       known_now knows =

@@ -26,6 +26,7 @@ ghost use Rattle.cdf_vars.specs.Puts.{CanPut, HasRoom, IsNewRecord, MaxRecRaises
 ghost use Rattle.cdf_puts.specs.Putting.{most_in_block};
 ghost use Rattle.cdf_puts.specs.Starts.{IsKnownStart, KnowsStarts};
 ghost use Rattle.cdf_var_records.specs.Records.{IsForm, variable_at};
+ghost use Rattle.cdf_var_records.specs.Room.{ExpectsPut};
 ghost use Rattle.cdf_vars.specs.Removing.{VdrsLie};
 
 use crate::puts::Target;
@@ -36,7 +37,7 @@ use cdf_model::{DataType, Encoding, Kind, Outcome, Reason, Reply};
 use cdf_puts::{NewRecord, Starts, put_records};
 use cdf_records::set_vdr_max_rec;
 use cdf_values::from_network;
-use cdf_var_records::{Form, read_block_count, read_extent, read_pad_record, read_put_room};
+use cdf_var_records::{Form, has_put_room, read_block_count, read_extent, read_pad_record};
 use std::alloc::Global;
 
 /// The bytes of elements of a type in network order, turned into those that are stored.
@@ -152,7 +153,7 @@ impl Vars {
         requires limit { (A.frame area.old).limit ≤ image_limit }
         ensures follows { OnOk result ((c : Command) (name : List ℕ) → PutsSo (A.image area.old) c name rec target.now bytes.items → Follows (A.image area.old) c (A.image area.new)) }
         ensures known { OnOk result (Knows (A.image area.new) self.now) }
-        ensures starts { OnOk result ((starts : Starts) → KnowsStarts (A.image area.old) starts → KnowsStarts (A.image area.new) starts) }
+        ensures starts { OnOk result ((starts : Starts) → KnowsStarts (A.image area.old) starts → ExpectsPut (A.image area.old) target.now.form.place.vdr rec starts → KnowsStarts (A.image area.new) starts) }
         ensures area { Edits A.frame A.faults area.old area.new result }
     {
         let put = read_new_record(self.alloc, area, target, rec, count, bytes)?;
@@ -186,8 +187,9 @@ impl Vars {
         let vdr = target.form.place.vdr;
         let known = starts.find_start(area, vdr, rec)?;
         let count = read_extent(area, vdr)?;
-        let room = read_put_room(area, &target.form, known, rec, rec.min(count))?;
-        if u128::from(area.limit() - area.size()) < room {
+        let left = area.limit() - area.size();
+        let fits = has_put_room(area, starts, &target.form, known, rec, rec.min(count), left)?;
+        if !fits {
             return Ok(Outcome::Refused {
                 reason: Reason::TooLarge,
             });

@@ -1,6 +1,5 @@
-use Rattle.cdf_var_records.proofs.Common.{None, List, ap, arith, index_at, leaf_of, least_first_past, leaves_of, option_map, read_more, seen, subst, sym, ℕ, ◌∙◌, ◌≡◌}
+use Rattle.cdf_var_records.proofs.Common.{ap, arith, index_at, option_map, read_more, seen, sym, ◌∙◌}
 use Rattle.cdf_puts.specs.Searching.{IsSearch}
-use Rattle.std.specs.Prelude.{Some}
 use Rattle.cdf_var_records.proofs.NextRecord.{goes_on, more, no_more}
 use Rattle.cdf_var_records.proofs.next.find_first.Given.{Over}
 use Rattle.cdf_var_records.proofs.next.find_first.Goals.{In_ok-search}

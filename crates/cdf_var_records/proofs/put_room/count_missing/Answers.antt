@@ -1,4 +1,4 @@
-use Rattle.cdf_var_records.proofs.Common.{IsStretch, List, arith, index_at, ranges_of, read_more, refl, subst, ℕ}
+use Rattle.cdf_var_records.proofs.Common.{IsStretch, arith, index_at, ranges_of, read_more, refl}
 use Rattle.cdf_var_records.proofs.PutRoomCount.{none_yet_of, one_more}
 use Rattle.cdf_var_records.proofs.put_room.count_missing.Goals as goal
 

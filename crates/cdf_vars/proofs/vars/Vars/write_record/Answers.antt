@@ -1,5 +1,5 @@
 use Rattle.cdf_vars.proofs.Common.{Frame, List, R, ap, extent, max_rec_at, min, on_ok_weaker, shape, shapes_of, sym, variable_at, vdrs, ℕ, ◌∙◌}
-use Rattle.cdf_vars.proofs.PutWhole.{Ready, follows, from_is, known_now, now_extent, now_good, now_places, now_short, now_vdr, ready, some_putting, starts_now, within}
+use Rattle.cdf_vars.proofs.PutWhole.{Ready, expects_there, follows, from_is, known_now, now_extent, now_good, now_places, now_short, now_vdr, ready, some_putting, starts_now, within}
 use Rattle.cdf_vars.proofs.vars.Vars.write_record.Given.{Over}
 use Rattle.cdf_vars.proofs.vars.Vars.write_record.Goals.{In_ok-put}
 use Rattle.cdf_vars.proofs.vars.Vars.write_record.Goals as goal
@@ -53,4 +53,4 @@ put_records-requires-clause-known g c = rw (c.in_ok-put.ensures.put.vdr_is, c.re
 pub returns-clause-starts : goal.returns-clause-starts
 returns-clause-starts g c =
     let k = here g (goal.at.returns-clause-starts g c).In_ok-put in
-    on_ok_weaker c.raise_max_rec.result (λ raises starts knows. starts_now k c.in_ok-put_records.ensures.put (rw (← c.in_ok-put.ensures.put.rec_is) at raises) (rw (c.read_new_record.ensures.area.image) knows)) c.raise_max_rec.ensures.raised
+    on_ok_weaker c.raise_max_rec.result (λ raises starts knows expects. starts_now k c.in_ok-put_records.ensures.put (rw (← c.in_ok-put.ensures.put.rec_is) at raises) (rw (c.read_new_record.ensures.area.image) knows) (expects_there c.args.target.now.form.place.vdr starts c.read_new_record.ensures.area.image c.in_ok-put.ensures.put.rec_is expects)) c.raise_max_rec.ensures.raised
