@@ -9,6 +9,7 @@ pub mod Keeps
 pub mod Named
 pub mod NewRecords
 pub mod Others
+pub mod PutSteps
 pub mod Puts
 pub mod Reindex
 pub mod Room
