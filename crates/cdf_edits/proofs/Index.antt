@@ -1,1 +1,2 @@
 pub mod NodeEdited
+pub mod OneDescent
