@@ -5,6 +5,7 @@ pub mod OtherNames
 pub mod OthersStay
 pub mod SameIndexes
 pub mod SameEntries
+pub mod PutFurther
 pub mod FineNames
 pub mod ListParts
 pub mod ReadingFollows
