@@ -1,6 +1,6 @@
 -- `put-rec` and `put-val`, step by step (CDF Internal Format Description, "Variable Index Record", "Variable Values Record", "Compressed Variable Values Record"; own: records are written in ascending order, those of one leaf together; a record without a leaf gets a new block, and then a node where one is needed).
 use Rattle.cdf_base.specs.Bytes.{put}
-use Rattle.std.specs.Prelude.{◌≡◌, ◌≤◌, ◌<◌, ℕ, zero, suc, ◌+◌, ◌-◌, ◌*◌, min, max, List, [], ◌∷◌, ◌++◌, length, take, Bool, true, false, ◌==◌, nat_le, find, if◌then◌else◌, Some, None}
+use Rattle.std.specs.Prelude.{◌≡◌, ◌≤◌, ◌<◌, ℕ, zero, suc, ◌+◌, ◌-◌, ◌*◌, min, max, List, [], ◌∷◌, ◌++◌, length, take, drop, Bool, true, false, ◌==◌, nat_le, find, if◌then◌else◌, Some, None}
 use Rattle.std.specs.declared.option.Option.{Option}
 use Rattle.std.specs.List.{flat_map, slice_get}
 use Rattle.cdf_model.specs.ByteOrder.{turned}
@@ -15,7 +15,7 @@ use Rattle.cdf_edits.specs.Index.Blocks.{Range, range, covers, record_length, fi
 use Rattle.cdf_edits.specs.Index.Cut.{IsPart, is_whole}
 use Rattle.cdf_edits.specs.Index.Grown.{reaches, chain_reaches, leads_down, with_block, with_entry, room_of_new, new_entries, with_place}
 use Rattle.cdf_edits.specs.Index.Written.{is_taken_at, block_need, stays_put, WellPacked, SpareIs, EntryIs, was_unused, NodeSpareStays, TailFollows}
-use Rattle.cdf_edits.specs.Space.Acts.{Act, Took, Gave, ActsFollow}
+use Rattle.cdf_edits.specs.Space.Acts.{Act, Took, Gave, taken, ActsFollow}
 use Rattle.cdf_format.specs.Content.{plain_bytes}
 use Rattle.cdf_format.specs.Fields.{number, size_at}
 use Rattle.cdf_format.specs.Index.{Nodes, no_node, node, Entries, no_entry, block, lower, Leaf, leaves_of, nodes_of, room_at, used_count}
@@ -112,9 +112,10 @@ pub record PutsLeaf (p : Put) (from to : Stage) : Type 0 where
   pub goes : Goes p.found from to (covers from.next)
   pub next_is : to.next ≡ new.last + 1
 
--- What is past MaxRec is cut; a block that this makes shorter keeps its first records.
+-- What is past MaxRec is cut; a block that this makes shorter keeps its first records, and what is taken for it is taken before anything is freed.
 pub record CutsPast (found : Found) (from to : Stage) : Type 0 where
   pub cuts : CutsFirst from.image to.image found.variable from.own to.own to.own.index to.acts true
+  pub takes_first : taken (drop (length (taken to.acts)) to.acts) ≡ []
   pub written : Each (λ old. Each (λ new. IsPart (past_max_rec found.variable) old new → is_whole old new ≡ false → BlockWritten from.image to.image found.variable.rle to.own.vdr to.acts new (take ((new.last + 1 - new.first) * record_length found.variable) (plain_bytes from.image to.own.vdr old))) (leaves_of to.own.index)) (leaves_of from.own.index)
   pub goes : Goes found from to (λ r. nat_le (extent found.variable.max_rec) r.last)
   pub next_is : to.next ≡ from.next
