@@ -20,10 +20,15 @@ mod writing;
 use crate::{AttachError, Failed, FileFailure, Store};
 use faults::Faults;
 use held_file::{HeldFile, attach_file};
+pub use kind::check_regular;
+pub use open_error::OpenError;
+pub use opening::{Opened, open_regular};
+pub use reading::{READ_LIMIT, read_from};
 use std::alloc::{AllocError, Global};
 use std::os::fd::AsRawFd;
 use std::rt::Files;
-use system_file::SystemFile;
+pub use system_file::{SystemFile, cut_to, regular_file, store_file, write_from};
+pub use writing::Written;
 
 /// The real files, of which only regular ones are attached. Two reads of a file are not known to agree, so an attached file is read
 /// whole, up to the limit of an image and 17 bytes, and its bytes are kept. Reads are served from them, and each write and cut is

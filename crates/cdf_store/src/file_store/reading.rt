@@ -6,9 +6,11 @@ ghost use Rattle.std.specs.Io.KnownBytes.{ReadConsumes};
 ghost use Rattle.cdf_model.specs.Limits.{image_limit};
 
 use super::open_error::{OpenError, open_error};
+use super::writing::go_to;
+use crate::FileFailure;
 use crate::pieces::{PIECE, Pieces};
 use cdf_model::limits::IMAGE_LIMIT;
-use std::io::{ErrorKind, Read};
+use std::io::{ErrorKind, Read, Seek};
 
 /// How many bytes of a file are read: those of an image of the most bytes, a checksum behind it, and one more, by which a file
 /// shows that it is longer.
@@ -27,6 +29,21 @@ pub fn read_some<F: Read>(file: &mut F, out: &mut [u8]) -> Result<usize, ErrorKi
         }
     }
     Err(ErrorKind::Interrupted)
+}
+
+/// Reads once from a place of a file on, and again after an interruption.
+pub fn read_from<F: Read + Seek>(
+    file: &mut F,
+    place: u64,
+    out: &mut [u8],
+) -> Result<usize, FileFailure>
+    ensures { ReadsAtMost result out.new }
+{
+    go_to(file, place)?;
+    match read_some(file, out) {
+        Ok(count) => Ok(count),
+        Err(kind) => Err(FileFailure::System(kind)),
+    }
 }
 
 /// Appends all that a file has left, or its first bytes up to the limit.

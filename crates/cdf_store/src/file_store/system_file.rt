@@ -1,15 +1,20 @@
 //! The attached file as the system has it: when it is written, cut and stored.
 
-ghost use Rattle.std.specs.Prelude.{◌≡◌, ◌<◌, ◌≤◌, ◌↔◌, length, IsOk, IsSomeAnd, None};
+ghost use Rattle.std.specs.Prelude.{◌≡◌, ◌<◌, ◌≤◌, ◌≤ℤ◌, ◌↔◌, length, pos, IfOk, IsOk, IsSomeAnd, None};
 ghost use Rattle.cdf_store.specs.Untouched.{IsWritable, MayBeWritten};
 
 use super::comparison::{Comparison, stands_as_before};
 use super::folder::store_folder;
+use super::kind::check_regular;
+use super::open_error::{OpenError, open_error};
+use super::opening::Opened;
 use super::stamp::Stamp;
 use super::writing::{Written, go_to, write_some};
 use crate::FileFailure;
+use std::alloc::Global;
 use std::fs::OpenFile;
 use std::io::ErrorKind;
+use std::os::fd::{AsRawFd, RawFd};
 use std::rt::Files;
 
 /// The attached file as the system has it.
@@ -24,6 +29,47 @@ pub struct SystemFile<F> {
     pub comparison: Comparison,
     /// The folder that holds the file, where attaching made the file.
     pub made_in: Option<String>,
+}
+
+/// Refuses a file in the place of a standard stream, which the program reads or writes besides.
+fn check_place(place: RawFd) -> Result<(), FileFailure>
+    ensures { IsOk result ↔ (pos 3 ≤ℤ place) }
+{
+    if place < 3 {
+        Err(FileFailure::StandardStream)
+    } else {
+        Ok(())
+    }
+}
+
+/// An opened file as the system has it, where it is a regular one.
+pub fn regular_file<F: OpenFile + AsRawFd + Drop>(
+    alloc: Global,
+    name: &str,
+    opened: Opened<F>,
+) -> Result<SystemFile<F>, OpenError>
+    ensures file { IfOk result (λ system. system.file ≡ opened.file) }
+    ensures refusal { IfOk result (λ system. system.refusal ≡ opened.refusal) }
+{
+    let Opened {
+        file,
+        refusal,
+        made_in,
+    } = opened;
+    check_place(file.as_raw_fd())?;
+    let metadata = match file.metadata() {
+        Ok(metadata) => metadata,
+        Err(error) => return Err(open_error(error.kind())),
+    };
+    check_regular(&metadata)?;
+    Ok(SystemFile {
+        name: String::from_str(alloc, name)?,
+        file,
+        refusal,
+        stamp: Stamp::of(&metadata),
+        comparison: Comparison::NotYet,
+        made_in,
+    })
 }
 
 /// Refuses a file that could not be opened for writing, and a file that was found to be changed.
@@ -63,7 +109,12 @@ fn check_unchanged<R: Files>(rt: &R, file: &mut SystemFile<R::File>) -> Result<(
 }
 
 /// Writes bytes from a place on, where the file may be written.
-fn write_from<R: Files>(rt: &R, file: &mut SystemFile<R::File>, place: u64, bytes: &[u8]) -> Written
+pub fn write_from<R: Files>(
+    rt: &R,
+    file: &mut SystemFile<R::File>,
+    place: u64,
+    bytes: &[u8],
+) -> Written
     ensures bound { result.count ≤ length bytes.now }
     ensures whole { result.failure ≡ None → result.count ≡ length bytes.now }
     ensures refused { 0 < result.count → IsWritable file.old }
@@ -82,7 +133,7 @@ fn write_from<R: Files>(rt: &R, file: &mut SystemFile<R::File>, place: u64, byte
 }
 
 /// Cuts a file of this length to `n` bytes. Where it has just these, the system is not called.
-fn cut_to<R: Files>(
+pub fn cut_to<R: Files>(
     rt: &R,
     file: &mut SystemFile<R::File>,
     length: u64,
@@ -101,7 +152,7 @@ fn cut_to<R: Files>(
 }
 
 /// Has a file stored, and the folder that holds it, where attaching made the file.
-fn store_file<R: Files>(rt: &R, file: &SystemFile<R::File>) -> Result<(), FileFailure>
+pub fn store_file<R: Files>(rt: &R, file: &SystemFile<R::File>) -> Result<(), FileFailure>
     ensures refused { IsOk result → IsWritable file.now }
 {
     check_writable(file)?;
