@@ -34,4 +34,4 @@ It ends with 0 where all was done, 1 where a line was refused, 2 to 4 where the 
 are wrong, 5 to 7 and 9 where a device failed, 8 where there was no memory, 10 where the script is too long.";
 
 /// The version, and the kit that proved it.
-pub const VERSION: &str = "cdfedit 0.1.0, proved with rattle-kit-13b logic dac8208d650f15bf";
+pub const VERSION: &str = "cdfedit 0.1.0, proved with rattle-kit-13f logic dac8208d650f15bf";
