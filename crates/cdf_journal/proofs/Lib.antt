@@ -1,0 +1,2 @@
+pub mod FilledAgain
+pub mod Journalled

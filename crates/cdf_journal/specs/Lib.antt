@@ -1,0 +1,4 @@
+pub mod Crashes
+pub mod Log
+pub mod Laws
+pub mod Stages
