@@ -1,2 +1,11 @@
 pub mod FilledAgain
+pub mod Moments
 pub mod Journalled
+pub mod Steps
+pub mod Items
+pub mod Saved
+pub mod Kept
+pub mod Loaded
+pub mod Mended
+pub mod Replayed
+pub mod Examples

@@ -2,6 +2,27 @@
 #![tactic(auto)]
 
 mod disk;
+mod filling;
+mod gate;
+mod journal_error;
+mod journal_store;
 pub mod laws;
+mod laying;
+mod loading;
+mod mending;
+mod opening;
+mod range;
+mod reading;
+mod saving;
+mod slices;
+mod writing;
 
 pub use disk::{Disk, Part};
+pub use filling::fill;
+pub use gate::{arm, disarm};
+pub use journal_error::JournalError;
+pub use journal_store::{JournalRefusal, JournalStore};
+pub use laying::lay;
+pub use range::Range;
+pub use saving::save;
+pub use writing::write_synced;
