@@ -1,6 +1,7 @@
 //! A store over a file and its log.
 
-ghost use Rattle.std.specs.Prelude.{◌≡◌, ◌≤◌, ◌+◌, ◌++◌, ◌∷◌, ℕ, List, [], length, true, false, string_bytes, vec_len, vec_capacity, if◌then◌else◌, IfErr, IfOk, IfSome, IsErrOf, IsFalse, IsOk, IsTrue, OnOk, None, Some};
+ghost use Rattle.std.specs.Prelude.{◌≡◌, ◌≤◌, ◌+◌, ◌++◌, ◌∷◌, ℕ, List, [], length, true, false, refl, string_bytes, vec_len, vec_capacity, if◌then◌else◌, IfErr, IfOk, IfSome, IsErrOf, IsFalse, IsOk, IsTrue, OnOk, None, Some};
+ghost use Rattle.std.proofs.Common.{inl};
 ghost use Rattle.std.specs.Option.{ForSome};
 ghost use Rattle.cdf_base.specs.Bytes.{put};
 ghost use Rattle.cdf_base.specs.Causes.{HasCause, Rose};
@@ -194,7 +195,11 @@ impl<D: Disk> Store for JournalStore<D> {
 
     ghost synced = { λ s. s.is_synced };
 
+    ghost lends = { false };
+
     ghost whole = { λ s. is_whole (string_bytes s.name) s.file.items s.is_attached s.disk };
+
+    ghost untold = { λ _. inl refl };
 
     fn attach(&mut self, name: &str, make: bool) -> Result<Option<u64>, AttachError> {
         self.is_attached = true;
@@ -227,6 +232,11 @@ impl<D: Disk> Store for JournalStore<D> {
 
     fn read_at(&mut self, place: u64, out: &mut [u8]) -> Result<usize, Failed> {
         Ok(copy_from(&self.file, place, out))
+    }
+
+    // Nothing: a read copies what is asked for.
+    fn lend(&self, _place: u64, _count: usize) -> Option<&[u8]> {
+        None
     }
 
     fn write_at(&mut self, place: u64, bytes: &[u8]) -> Result<(), Failed> {
