@@ -1,0 +1,6 @@
+pub mod Packing
+pub mod Groups
+pub mod Bodies
+pub mod Laying
+pub mod Compact
+pub mod Fine
