@@ -1,0 +1,14 @@
+mod Common
+mod Flat
+mod CutWords
+mod CutCalls
+mod CutDone
+mod CutLeaves
+mod CutLinked
+mod CutStands
+mod PlanFits
+mod PlanPlaces
+mod PlanSteps
+mod PlanWalk
+mod Relinking
+mod Rewriting

@@ -1,0 +1,6 @@
+pub mod Planning
+pub mod Done
+pub mod Writing
+pub mod Linking
+pub mod Cut
+pub mod NodeHeads

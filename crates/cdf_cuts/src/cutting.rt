@@ -1,0 +1,90 @@
+//! Records cut out of the index of a variable, where later ones keep their numbers or close up.
+
+ghost use Rattle.std.specs.Prelude.{◌≡◌, ◌<◌, ◌≤◌, ◌^◌, ◌++◌, List, length, OnOk};
+ghost use Rattle.cdf_area.specs.Calls.{Edits};
+ghost use Rattle.cdf_edits.proofs.Edits.VdrEdited.{StandsAmong};
+ghost use Rattle.cdf_format.specs.Fields.{LiesIn};
+ghost use Rattle.cdf_format.specs.Records.{vdr_vxr_head, vdr_vxr_tail};
+ghost use Rattle.cdf_format.specs.Shape.{VariableShape, shape, variables, vdrs};
+ghost use Rattle.cdf_format.specs.Tiles.{In};
+ghost use Rattle.cdf_format.specs.WellFormed.{Good};
+ghost use Rattle.cdf_model.specs.Limits.{image_limit};
+ghost use Rattle.cdf_model.specs.declared.kinds.Kind.{Kind};
+ghost use Rattle.cdf_cuts.specs.Cut.{IsCut, heads_led, link_found};
+
+use crate::planning::{Left, Plan, Span, plan_chain};
+use crate::writing::{relink_nodes, rewrite_nodes};
+use cdf_area::{Area, AreaError};
+use cdf_format::fields::VDR_VXR_HEAD;
+use cdf_index::Entry;
+use cdf_model::limits::LEVEL_LIMIT;
+use cdf_records::{read_unsigned8, set_vdr_vxr_head, set_vdr_vxr_tail};
+use cdf_space::free_records;
+use std::alloc::{AllocError, Global};
+
+/// The place of what was found, 0 for nothing.
+fn link_of(found: Option<Entry>) -> u64
+    ensures { result ≡ link_found found }
+{
+    match found {
+        Some(entry) => entry.place,
+        None => 0,
+    }
+}
+
+/// Adds places behind others.
+fn push_all(places: &mut Vec<u64>, more: &[u64]) -> Result<(), AllocError>
+    ensures { OnOk result (places.new.items ≡ places.old.items ++ more.now) }
+{
+    places.extend_from_slice(more)?;
+    Ok(())
+}
+
+/// Lets VXRhead lead to what the top chain keeps, and VXRtail to its last node where a node goes.
+fn lead_to<A: Area>(area: &mut A, vdr: u64, left: Left) -> Result<(), AreaError>
+    requires head { LiesIn (A.image area.old) vdr vdr_vxr_head }
+    requires tail { LiesIn (A.image area.old) vdr vdr_vxr_tail }
+    ensures led { OnOk result (A.image area.new ≡ heads_led (A.image area.old) vdr left) }
+    ensures small { link_found left.found < 256 ^ 8 }
+    ensures small_last { left.prev < 256 ^ 8 }
+    ensures area { Edits A.frame A.faults area.old area.new result }
+{
+    set_vdr_vxr_head(area, vdr, link_of(left.found))?;
+    if !left.whole {
+        set_vdr_vxr_tail(area, vdr, left.prev)?;
+    }
+    Ok(())
+}
+
+/// Cuts records out of the index of the variable whose descriptor stands at a place: each block keeps what is left of its records, the nodes that
+/// stay are written, and what has no record left is freed, the blocks by record number and then the nodes, lower ones first. The bytes of blocks
+/// that stay are not touched. After an error a part of this may have been done.
+fn cut_index<A: Area>(
+    alloc: Global,
+    area: &mut A,
+    vdr: u64,
+    span: Span,
+) -> Result<(), AreaError>
+    requires good { Good (A.image area.old) }
+    requires vdr { In vdr (vdrs (variables (shape (A.image area.old)))) }
+    requires order { span.first ≤ span.last }
+    requires short { length (A.image area.old) ≤ image_limit }
+    ensures cut { OnOk result ((kind : Kind) (before : List VariableShape) (own : VariableShape) (after : List VariableShape) → StandsAmong (A.image area.old) kind before own after → own.vdr ≡ vdr → IsCut (A.image area.old) (A.image area.new) kind own span) }
+    ensures area { Edits A.frame A.faults area.old area.new result }
+{
+    // An image has fewer than 2^64 bytes, so no place in it overflows.
+    let _size = area.size();
+    let head = read_unsigned8(area, vdr + VDR_VXR_HEAD)?;
+    let mut plan = Plan {
+        nodes: Vec::new(alloc),
+        links: Vec::new(alloc),
+        blocks: Vec::new(alloc),
+        emptied: Vec::new(alloc),
+    };
+    let left = plan_chain(alloc, area, head, LEVEL_LIMIT, span, &mut plan)?;
+    rewrite_nodes(area, &plan.nodes)?;
+    relink_nodes(area, &plan.links)?;
+    lead_to(area, vdr, left)?;
+    push_all(&mut plan.blocks, &plan.emptied)?;
+    free_records(area, &plan.blocks)
+}
