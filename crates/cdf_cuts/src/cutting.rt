@@ -1,23 +1,32 @@
 //! Records cut out of the index of a variable, where later ones keep their numbers or close up.
 
-ghost use Rattle.std.specs.Prelude.{◌≡◌, ◌<◌, ◌≤◌, ◌^◌, ◌++◌, List, length, OnOk};
-ghost use Rattle.cdf_area.specs.Calls.{Edits};
+ghost use Rattle.std.specs.Prelude.{◌≡◌, ◌<◌, ◌≤◌, suc, ◌^◌, ◌++◌, ◌+◌, ◌-◌, ◌*◌, List, length, IfOk, OnOk};
+ghost use Rattle.cdf_area.specs.Calls.{Edits, Reads};
+ghost use Rattle.cdf_edits.proofs.Edits.LeafRecords.{Ascending};
 ghost use Rattle.cdf_edits.proofs.Edits.VdrEdited.{StandsAmong};
 ghost use Rattle.cdf_format.specs.Fields.{LiesIn};
-ghost use Rattle.cdf_format.specs.Records.{vdr_vxr_head, vdr_vxr_tail};
+ghost use Rattle.cdf_format.specs.Index.{leaves_of};
+ghost use Rattle.cdf_format.specs.Records.{vdr_vxr_head, vdr_vxr_tail, vvr_place};
 ghost use Rattle.cdf_format.specs.Shape.{VariableShape, shape, variables, vdrs};
 ghost use Rattle.cdf_format.specs.Tiles.{In};
+ghost use Rattle.cdf_format.specs.VariableFields.{record_bytes};
 ghost use Rattle.cdf_format.specs.WellFormed.{Good};
-ghost use Rattle.cdf_model.specs.Limits.{image_limit};
+ghost use Rattle.cdf_index.specs.Finding.{HasIndex, index_at};
+ghost use Rattle.cdf_index.specs.Sight.{seen};
+ghost use Rattle.cdf_model.specs.Limits.{image_limit, record_number_limit};
 ghost use Rattle.cdf_model.specs.declared.kinds.Kind.{Kind};
+ghost use Rattle.cdf_cuts.specs.Closing.{RecordsClosed};
+ghost use Rattle.cdf_cuts.specs.Moving.{IsLater, JoinsFront};
 ghost use Rattle.cdf_cuts.specs.Cut.{IsCut, heads_led, link_found};
 
+use crate::moving::move_down;
 use crate::planning::{Left, Plan, Span, plan_chain};
 use crate::writing::{relink_nodes, rewrite_nodes};
 use cdf_area::{Area, AreaError};
-use cdf_format::fields::VDR_VXR_HEAD;
-use cdf_index::Entry;
+use cdf_format::fields::{VDR_VXR_HEAD, VVR_RECORDS};
+use cdf_index::{Entry, Leaf};
 use cdf_model::limits::LEVEL_LIMIT;
+use cdf_puts::find_leaf;
 use cdf_records::{read_unsigned8, set_vdr_vxr_head, set_vdr_vxr_tail};
 use cdf_space::free_records;
 use std::alloc::{AllocError, Global};
@@ -87,4 +96,81 @@ fn cut_index<A: Area>(
     lead_to(area, vdr, left)?;
     push_all(&mut plan.blocks, &plan.emptied)?;
     free_records(area, &plan.blocks)
+}
+
+/// The leaf of an index that has a record and later ones, if there is one.
+fn find_later<A: Area>(area: &mut A, head: u64, last: u32) -> Result<Option<Leaf>, AreaError>
+    requires index { HasIndex (A.image area.old) head }
+    requires order { Ascending 0 (suc record_number_limit) (leaves_of (index_at (A.image area.old) head)) }
+    requires short { length (A.image area.old) ≤ image_limit }
+    ensures later { IfOk result (IsLater last (leaves_of (index_at (A.image area.old) head))) }
+    ensures area { Reads A.image A.frame A.faults A.edited area.old area.new result }
+{
+    let Some(leaf) = find_leaf(area, head, None, last)? else {
+        return Ok(None);
+    };
+    if last < leaf.last {
+        Ok(Some(leaf))
+    } else {
+        Ok(None)
+    }
+}
+
+/// Moves the later records of a leaf, from one behind a last on, to where the first one that goes stands in its block, or to its front.
+fn join_later<A: Area>(
+    alloc: Global,
+    area: &mut A,
+    leaf: &Leaf,
+    rec_bytes: u64,
+    first: u32,
+    last: u32,
+) -> Result<(), AreaError>
+    requires order { first ≤ last }
+    requires reaches { leaf.now.first ≤ last }
+    requires later { last < leaf.now.last }
+    requires room { leaf.now.at + vvr_place ((leaf.now.last + 1 - leaf.now.first) * rec_bytes) ≤ length (A.image area.old) }
+    ensures joins { OnOk result (JoinsFront (A.image area.old) (A.image area.new) rec_bytes first last (seen leaf.now)) }
+    ensures area { Edits A.frame A.faults area.old area.new result }
+{
+    let _size = area.size();
+    let records = leaf.at + VVR_RECORDS;
+    let from = records + u64::from(last + 1 - leaf.first) * rec_bytes;
+    let to = records + u64::from(first.max(leaf.first) - leaf.first) * rec_bytes;
+    let count = u64::from(leaf.last - last) * rec_bytes;
+    move_down(alloc, area, from, to, count)
+}
+
+/// Takes the records from a first to a last out of the index of the variable whose descriptor stands at a place, and out of its blocks, which are
+/// not packed: later records close up, in the index and within a block. After an error a part of this may have been done.
+#[tactic(auto, using(cdf_area::proofs::Calls::edit_done, cdf_area::proofs::Calls::edit_failed, cdf_area::proofs::Calls::edit_more, cdf_area::proofs::Calls::edits_by_read, cdf_area::proofs::Calls::keeps_by_read, cdf_area::proofs::Calls::read_failed, cdf_area::proofs::Calls::read_more, cdf_area::proofs::Calls::read_once))]
+pub fn close_records<A: Area>(
+    alloc: Global,
+    area: &mut A,
+    vdr: u64,
+    rec_bytes: u64,
+    first: u32,
+    last: u32,
+) -> Result<(), AreaError>
+    requires good { Good (A.image area.old) }
+    requires vdr { In vdr (vdrs (variables (shape (A.image area.old)))) }
+    requires size { rec_bytes ≡ record_bytes (A.image area.old) vdr }
+    requires order { first ≤ last }
+    requires short { length (A.image area.old) ≤ image_limit }
+    ensures closed { OnOk result ((kind : Kind) (before : List VariableShape) (own : VariableShape) (after : List VariableShape) → StandsAmong (A.image area.old) kind before own after → own.vdr ≡ vdr → RecordsClosed (A.image area.old) (A.image area.new) kind before own after first last) }
+    ensures area { Edits A.frame A.faults area.old area.new result }
+{
+    // An image has fewer than 2^64 bytes, so no place in it overflows.
+    let _size = area.size();
+    let head = read_unsigned8(area, vdr + VDR_VXR_HEAD)?;
+    let later = find_later(area, head, last)?;
+    let span = Span {
+        first,
+        last,
+        close: true,
+    };
+    cut_index(alloc, area, vdr, span)?;
+    match later {
+        Some(leaf) => join_later(alloc, area, &leaf, rec_bytes, first, last),
+        None => Ok(()),
+    }
 }

@@ -1,7 +1,11 @@
-//! Records cut out of the index of a variable: what each node is to say is planned, the nodes are written, and what is left over is freed.
+//! Records cut out of the index of a variable and out of its blocks: what each node is to say is planned, the nodes are written, and what is
+//! left over is freed.
 #![tactic(auto)]
 
 mod cutting;
+mod moving;
 mod nodes;
 mod planning;
 mod writing;
+
+pub use cutting::close_records;
