@@ -30,3 +30,5 @@ mod WritesThen
 mod BlocksClosed
 mod LaterFound
 mod CloseCalls
+mod ClosingRoom
+mod RoomRead

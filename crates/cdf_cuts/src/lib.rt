@@ -6,6 +6,8 @@ mod cutting;
 mod moving;
 mod nodes;
 mod planning;
+mod room;
 mod writing;
 
 pub use cutting::close_records;
+pub use room::read_closing_room;
