@@ -22,12 +22,16 @@ mod PlanWalk
 mod Relinking
 mod Rewriting
 mod ClosedUp
+mod RecordsClosed
 mod LeavesKept
 mod BlocksMoved
 mod ChainKept
 mod CutGoes
 mod WritesThen
 mod BlocksClosed
+mod GoesKeep
+mod GreatestLowered
+pub mod DeletedFollows
 mod LaterFound
 mod CloseCalls
 mod ClosingRoom
