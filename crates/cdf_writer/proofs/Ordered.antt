@@ -1,4 +1,4 @@
--- A copy of what cdf_index has of indexes in order (cdf_index, specs/Order and proofs/LeafRules): this crate of the prototype does not stand on it.
+-- Indexes in order keep their rules. cdf_index says the same order of an index that grows, and stands on much that no image needs.
 use Rattle.std.proofs.Common.{List, arith, negsuc, pos, refl, suc, true, ℕ, ◌≡◌, ◌≤◌}
 use Rattle.std.proofs.lemmas.Bool.Decides.{nat_tests}
 use Rattle.std.specs.List.{flat_map}

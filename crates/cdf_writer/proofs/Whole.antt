@@ -1,4 +1,4 @@
--- The laws of the compact image, for data sets with variables that are not packed and have no rule for missing records.
+-- The laws of the compact image, for all variables; that it is good is said of those that are not packed and have no rule for missing records.
 use Rattle.std.proofs.Common.{arith, Bool, List, [], ap, ap₂, false, length, map, refl, subst, suc, sym, true, ℕ, ◌++◌, ◌+◌, ◌<◌, ◌^◌, ◌∙◌, ◌∷◌, ◌≡◌, ◌≤◌, max}
 use Rattle.std.proofs.lemmas.List.{map-append}
 use Rattle.std.specs.List.{flat_map, fold}
