@@ -253,10 +253,12 @@ module _ {b one now : List ℕ} {kind : Kind} {before : List VariableShape} {own
         placed = λ settled. rw (rle, or_true (is_whole old new)) (s.0, s.2);
         bytes = λ settled whole. record {
           packed = λ q. absurd (true≢false (sym q ∙ rle));
-          spare = rw none_taken (record { each = λ p from upto.
-              let n : p ≡ old.place + (p - old.place) = omega (arith, from, s.0, end) in
-              let here = (block_now old i less).stays.spare (p - old.place) (omega (arith, from, s.0, end, ap (λ (k : ℕ). k * size) many)) (omega (arith, upto, s.0, ap (size_at b) s.0)) in
-              ap (byte now) n ∙ here ∙ ap (byte b) (sym n) });
+          spare = rw none_taken (record {
+            each = λ p from upto.
+                let n : p ≡ old.place + (p - old.place) = omega (arith, from, s.0, end) in
+                let here = (block_now old i less).stays.spare (p - old.place) (omega (arith, from, s.0, end, ap (λ (k : ℕ). k * size) many)) (omega (arith, upto, s.0, ap (size_at b) s.0)) in
+                ap (byte now) n ∙ here ∙ ap (byte b) (sym n);
+          });
           reserved = rw none_taken (λ q. absurd (true≢false (sym q ∙ y.plain)));
         };
       }

@@ -68,12 +68,7 @@ fn lead_to<A: Area>(area: &mut A, vdr: u64, left: Left) -> Result<(), AreaError>
 /// Cuts records out of the index of the variable whose descriptor stands at a place: each block keeps what is left of its records, the nodes that
 /// stay are written, and what has no record left is freed, the blocks by record number and then the nodes, lower ones first. The bytes of blocks
 /// that stay are not touched. After an error a part of this may have been done.
-fn cut_index<A: Area>(
-    alloc: Global,
-    area: &mut A,
-    vdr: u64,
-    span: Span,
-) -> Result<(), AreaError>
+fn cut_index<A: Area>(alloc: Global, area: &mut A, vdr: u64, span: Span) -> Result<(), AreaError>
     requires good { Good (A.image area.old) }
     requires vdr { In vdr (vdrs (variables (shape (A.image area.old)))) }
     requires order { span.first ≤ span.last }

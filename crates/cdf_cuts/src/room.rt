@@ -93,6 +93,7 @@ pub fn read_closing_room<A: Area>(
     let front = find_leaf(area, head, None, first)?;
     let back = find_leaf(area, head, None, last)?;
     let node = VXR_FIRST + VXR_ENTRY_SIZE * u64::from(size.widest);
-    let parts = room_in_front(front, rec_bytes, first, last) + room_behind(back, rec_bytes, first, last);
+    let parts = room_in_front(front, rec_bytes, first, last)
+        + room_behind(back, rec_bytes, first, last);
     Ok(node + parts)
 }
