@@ -5,5 +5,4 @@ pub mod Linking
 pub mod Cut
 pub mod Moving
 pub mod Closing
-pub mod NodeHeads
 pub mod ClosingRoom

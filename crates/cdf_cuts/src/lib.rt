@@ -4,7 +4,6 @@
 
 mod cutting;
 mod moving;
-mod nodes;
 mod planning;
 mod room;
 mod writing;

@@ -9,10 +9,9 @@ ghost use Rattle.cdf_index.specs.Whole.{SomeChain};
 ghost use Rattle.cdf_model.specs.Limits.{image_limit};
 ghost use Rattle.cdf_cuts.specs.Planning.{Does, block_words, dropped, ended, found_after, found_in, kept_by, lower_words, plan_of, stands_after, stands_in, step, whole_after, whole_in};
 
-use crate::nodes::{Head, read_head, read_named};
 use cdf_area::{Area, AreaError};
 use cdf_format::fields::VXR_TYPE;
-use cdf_index::{Entry, read_entry};
+use cdf_index::{Entry, Head, read_entry, read_head, read_named};
 use std::alloc::{AllocError, Global};
 
 /// The records that a cut takes, and whether later ones close up.

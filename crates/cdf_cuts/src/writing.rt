@@ -11,9 +11,9 @@ ghost use Rattle.cdf_model.specs.Limits.{image_limit};
 ghost use Rattle.cdf_cuts.specs.Planning.{node_told};
 ghost use Rattle.cdf_cuts.specs.Writing.{MayRelink, MayRewrite, NodeRewritten, Relinked, Rewritten, link_places, rewrite_places};
 
-use crate::nodes::write_entries;
 use crate::planning::{NodeCut, NodeLink};
 use cdf_area::{Area, AreaError};
+use cdf_index::write_entries;
 use cdf_records::{set_vxr_n_used_entries, set_vxr_vxr_next};
 
 /// Gives a node the entries that it is to have.

@@ -18,12 +18,13 @@ mod starting;
 
 pub use collecting::{IndexParts, index_parts, index_records};
 pub use descending::{Spot, Step, Way, way_down};
-pub use entries::{Entry, insert_entry, read_entry, set_entry, widen_entry};
+pub use entries::{Entry, insert_entry, read_entry, set_entry, widen_entry, write_entries};
 pub use finding::find;
 pub use making::write_node;
 pub use measuring::{IndexSize, NEW_ENTRIES, index_size};
 pub use next::next_first;
-pub use nodes::Leaf;
+pub use nodes::{Head, Leaf, read_head};
 pub use records::{read_rec, write_recs};
+pub use scanning::{Named, read_named};
 pub use splitting::{read_entries, shorten_node};
 pub use starting::start_of;
