@@ -44,16 +44,19 @@ fn cut_file(rt: HostRuntime) -> Result<(), Fail> {
     }
 }
 
-/// The bytes of the file from 1 on.
+/// The bytes of the file from 1 on, which are read and then lent.
 fn read_file(rt: HostRuntime) -> Result<[u8; 3], Fail> {
     let mut store = FileStore::new(rt, rt.alloc());
     let Ok(Some(4)) = store.attach(FILE, false) else {
         return Err(Fail::new("the file is not as long as it was cut to"));
     };
     let mut out = [0; 3];
-    match store.read_at(1, &mut out)? {
-        3 => Ok(out),
-        _ => Err(Fail::new("the bytes did not come at once")),
+    if store.read_at(1, &mut out)? != 3 {
+        return Err(Fail::new("the bytes did not come at once"));
+    }
+    match store.lend(1, 3) {
+        Some(lent) if lent == &out[..] => Ok(out),
+        _ => Err(Fail::new("other bytes were lent")),
     }
 }
 
