@@ -27,3 +27,4 @@ pub mod PutParts
 pub mod PutRaised
 pub mod PutWhole
 pub mod PutAnswered
+pub mod RecordsDeleted

@@ -22,14 +22,14 @@ use Rattle.cdf_vars.proofs.PutParts.{pad_is_long, whole_record}
 
 -- ---- what is kept of the variables where one has other records
 
-names_set : (d : DataSet) (kind : Kind) (n : ℕ) (x v : Variable) → slice_get (variables_of d kind) n ≡ Some v → x.name ≡ v.name → (k : Kind)
+pub names_set : (d : DataSet) (kind : Kind) (n : ℕ) (x v : Variable) → slice_get (variables_of d kind) n ≡ Some v → x.name ≡ v.name → (k : Kind)
     → map (λ (w : Variable). w.name) (variables_of d k) ≡ map (λ (w : Variable). w.name) (variables_of (with_variables d kind (slice_set (variables_of d kind) n x)) k)
 names_set d R n x v there same R = same_name_set d.r_variables n x v there same
 names_set d R n x v there same Z = refl
 names_set d Z n x v there same R = refl
 names_set d Z n x v there same Z = same_name_set d.z_variables n x v there same
 
-both_kinds : (P : Kind → Type 0) (kind : Kind) → P kind → P (other_kind kind) → (k : Kind) → P k
+pub both_kinds : (P : Kind → Type 0) (kind : Kind) → P kind → P (other_kind kind) → (k : Kind) → P k
 both_kinds P R own other R = own
 both_kinds P R own other Z = other
 both_kinds P Z own other R = other

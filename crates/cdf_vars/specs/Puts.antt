@@ -88,6 +88,10 @@ IsPutRequest b c name r (Refused reason) = (limit : ℕ) → Answers limit b c (
 
 -- ---- MaxRec
 
+-- MaxRec of a variable is written, and rMaxRec follows
+abbrev pub MaxRecWrites : List ℕ → List ℕ → Kind → ℕ → ℕ → Type 0
+MaxRecWrites now last kind vdr r = (own : VariableShape) → own.vdr ≡ vdr → MaxRecRaised now last kind own r
+
 -- MaxRec is raised where a record is past it, else nothing is done
 abbrev pub MaxRecRaises : List ℕ → List ℕ → Kind → ℕ → ℕ → Type 0
 MaxRecRaises now last kind vdr r = (own : VariableShape) → own.vdr ≡ vdr → ((extent (max_rec_at now vdr) ≤ r) × MaxRecRaised now last kind own r) ⊎ ((r < extent (max_rec_at now vdr)) × (last ≡ now))

@@ -4,6 +4,7 @@
 mod blocking;
 mod chain;
 mod creating;
+mod deleting;
 mod descriptor;
 mod events;
 pub mod laws;

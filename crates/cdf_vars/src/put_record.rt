@@ -1,6 +1,7 @@
 //! A record that a command puts, once it is known what is put.
 
-ghost use Rattle.std.specs.Prelude.{◌≡◌, ◌+◌, ◌≤◌, ◌%◌, ℕ, ℤ, List, length, IfOk, OnOk, OnErr, IsTrue};
+ghost use Rattle.std.specs.Prelude.{◌≡◌, ◌+◌, ◌≤◌, ◌%◌, ℕ, ℤ, List, length, true, IfOk, OnOk, OnErr, IsTrue};
+ghost use Rattle.std.specs.Int.{cast_unsigned, w32};
 ghost use Rattle.cdf_puts.specs.declared.starts.Starts.{Starts};
 ghost use Rattle.cdf_area.specs.Calls.{Edits, Reads};
 ghost use Rattle.cdf_edits.specs.Answers.{Answers};
@@ -12,6 +13,7 @@ ghost use Rattle.cdf_format.specs.Fields.{LiesIn, gdr_offset};
 ghost use Rattle.cdf_format.specs.Records.{gdr_r_max_rec, cdr_gdr_offset, cdr_place, past};
 ghost use Rattle.cdf_format.specs.Shape.{shape, vdrs};
 ghost use Rattle.cdf_format.specs.VariableFields.{max_rec_at};
+ghost use Rattle.cdf_format.specs.VariableRules.{is_max_rec};
 ghost use Rattle.cdf_format.specs.WellFormed.{Good};
 ghost use Rattle.cdf_model.specs.ByteOrder.{turned};
 ghost use Rattle.cdf_model.specs.DataSet.{extent};
@@ -22,7 +24,7 @@ ghost use Rattle.cdf_model.specs.declared.command.Command.{Command};
 ghost use Rattle.cdf_model.specs.declared.kinds.Kind.TheVariants.{R};
 ghost use Rattle.cdf_vars.specs.Known.{Knows};
 ghost use Rattle.cdf_var_records.specs.Descriptors.{IsVdr};
-ghost use Rattle.cdf_vars.specs.Puts.{CanPut, HasRoom, IsNewRecord, MaxRecRaises, PutsSo};
+ghost use Rattle.cdf_vars.specs.Puts.{CanPut, HasRoom, IsNewRecord, MaxRecRaises, MaxRecWrites, PutsSo};
 ghost use Rattle.cdf_puts.specs.Putting.{most_in_block};
 ghost use Rattle.cdf_puts.specs.Starts.{IsKnownStart, KnowsStarts};
 ghost use Rattle.cdf_var_records.specs.Records.{IsForm, variable_at};
@@ -92,7 +94,7 @@ fn read_new_record<A: Area>(
 }
 
 impl Vars {
-    /// Writes rMaxRec, where MaxRec of a variable of this kind was raised. After an error a part of it may have been written.
+    /// Writes rMaxRec, where MaxRec of a variable of this kind was written. After an error a part of it may have been written.
     fn follow_max_rec<A: Area>(&self, area: &mut A, kind: Kind) -> Result<(), AreaError>
         requires cdr { cdr_place + past cdr_gdr_offset ≤ length (A.image area.old) }
         requires field { LiesIn (A.image area.old) (gdr_offset (A.image area.old)) gdr_r_max_rec }
@@ -107,6 +109,25 @@ impl Vars {
             }
             Kind::Z => Ok(()),
         }
+    }
+
+    /// Writes MaxRec of a variable, and rMaxRec as it follows. After an error a part of this may have been done.
+    pub(crate) fn write_max_rec<A: Area>(
+        &self,
+        area: &mut A,
+        target: &Target,
+        last: i32,
+    ) -> Result<(), AreaError>
+        requires good { Good (A.image area.old) }
+        requires places { self.now.r.places ≡ vdrs (shapes_of (shape (A.image area.old)) R) }
+        requires short { length (A.image area.old) ≤ image_limit }
+        requires vdr { IsVdr (A.image area.old) target.now.id.kind target.now.form.place.vdr }
+        requires ruled { is_max_rec (cast_unsigned w32 last) ≡ true }
+        ensures written { OnOk result (MaxRecWrites (A.image area.old) (A.image area.new) target.now.id.kind target.now.form.place.vdr (cast_unsigned w32 last)) }
+        ensures area { Edits A.frame A.faults area.old area.new result }
+    {
+        set_vdr_max_rec(area, target.form.place.vdr, last)?;
+        self.follow_max_rec(area, target.id.kind)
     }
 
     /// Raises MaxRec of a variable to a record that is past it. After an error a part of this may have been done.
@@ -129,8 +150,7 @@ impl Vars {
         if rec < count {
             return Ok(());
         }
-        set_vdr_max_rec(area, target.form.place.vdr, rec as i32)?;
-        self.follow_max_rec(area, target.id.kind)
+        self.write_max_rec(area, target, rec as i32)
     }
 
     /// Puts a record of a variable, which there is room for. After an error a part of this may have been done.

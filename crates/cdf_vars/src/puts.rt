@@ -63,7 +63,11 @@ fn with_value(
 
 impl Vars {
     /// The variable of a name, and how its records are laid out.
-    fn find_target<A: Area>(&self, area: &mut A, name: &[u8]) -> Result<Option<Target>, AreaError>
+    pub(crate) fn find_target<A: Area>(
+        &self,
+        area: &mut A,
+        name: &[u8],
+    ) -> Result<Option<Target>, AreaError>
         requires good { Good (A.image area.old) }
         requires known { Knows (A.image area.old) self.now }
         ensures target { IfOk result (SeesTarget (A.image area.old) name.now) }
