@@ -1,4 +1,4 @@
-"""Lines of a script as commands (but for those of sparse and packed variables and of cuts), and quoted text."""
+"""Lines of a script as commands (but for those of sparse and packed variables), and quoted text."""
 from layout import TYPE_NAMED
 from model import Command
 
@@ -87,6 +87,8 @@ def record_command(kind, rest):
         return Command(kind, name=rest[0], rec=int(rest[1]), words=rest[2:])
     if kind == 'get-rec':
         return Command(kind, name=rest[0], rec=int(rest[1]))
+    if kind == 'del-recs':
+        return Command(kind, name=rest[0], first=int(rest[1]), last=int(rest[2]))
     if kind == 'put-val':
         return Command(kind, name=rest[0], rec=int(rest[1]), index=numbers_of(rest[2]), words=rest[3:])
     if kind == 'get-val':

@@ -194,14 +194,22 @@ ends_starting start made now after (Err error) knows stay kept back = subst (λ 
 back_at_start : {U : Type 0} (b start now : List ℕ) (frame first marked : Frame U) → start ≡ b → first ≡ with_base frame (Some b) → marked ≡ first → (done : Result Outcome AreaError) → OnErr done (marked.base ≡ Some now) → OnErr done (now ≡ start)
 back_at_start b start now frame first marked begins is stays done undone = on_err_weaker done (λ base. some_same b now (sym (ap (λ (m : Frame _). m.base) (stays ∙ is)) ∙ base) ∙ sym begins) undone
 
--- of a command on variables that leaves their names and places as they are
+-- of a command on variables by which none comes, goes or gets another name or place
+pub ends_on_own : {U : Type 0} (b start made now : List ℕ) (frame first marked end : Frame U) (known : Known) (vars : KnownVariables) (c : Command) → LeavesEntries c → (done : Result Outcome AreaError)
+    → IsOpen b frame known vars → start ≡ b → first ≡ with_base frame (Some b) → marked ≡ first → end ≡ with_base marked None
+    → IfOk done (λ o. Answers first.limit start c o made) → OnOk done (KnowsVariables made vars)
+    → OnOk done (now ≡ made) → OnErr done (marked.base ≡ Some now) → IsOpen now end known vars
+ends_on_own b start made now frame first marked end known vars c other done was begins is stays ends answers knows kept undone =
+    ends_on_variables b start made now frame first marked end known vars vars c other done was begins is stays ends answers knows
+    (on_err done (subst (λ (x : List ℕ). KnowsVariables x vars) (sym begins) was.knows_variables)) kept undone
+
+-- of such a command, with the nodes that are kept
 pub ends_on_records : {U : Type 0} (b start made now : List ℕ) (frame first marked end : Frame U) (known : Known) (vars : KnownVariables) (starts : Starts) (c : Command) → LeavesEntries c → (done : Result Outcome AreaError)
     → IsOpen b frame known vars → start ≡ b → first ≡ with_base frame (Some b) → marked ≡ first → end ≡ with_base marked None
     → IfOk done (λ o. Answers first.limit start c o made) → OnOk done (KnowsVariables made vars) → OnOk done (KnowsStarts made starts) → OnErr done (KnowsStarts start starts)
     → OnOk done (now ≡ made) → OnErr done (marked.base ≡ Some now) → IsOpen now end known vars × KnowsStarts now starts
 ends_on_records b start made now frame first marked end known vars starts c other done was begins is stays ends answers knows knows_starts starts_stay kept undone = (
-  ends_on_variables b start made now frame first marked end known vars vars c other done was begins is stays ends answers knows
-      (on_err done (subst (λ (x : List ℕ). KnowsVariables x vars) (sym begins) was.knows_variables)) kept undone,
+  ends_on_own b start made now frame first marked end known vars c other done was begins is stays ends answers knows kept undone,
   ends_starting start made now starts done knows_starts starts_stay kept (back_at_start b start now frame first marked begins is stays done undone),
 )
 
@@ -219,6 +227,5 @@ pub ends_on_neither : {U : Type 0} (b start made now : List ℕ) (frame first ma
     → IsOpen b frame known vars → start ≡ b → first ≡ with_base frame (Some b) → marked ≡ first → end ≡ with_base marked None
     → IfOk done (λ o. Answers first.limit start c o made) → OnOk done (now ≡ made) → OnErr done (marked.base ≡ Some now) → IsOpen now end known vars
 ends_on_neither b start made now frame first marked end known vars c other not_variables done was begins is stays ends answers kept undone =
-    ends_on_variables b start made now frame first marked end known vars vars c other done was begins is stays ends answers
-    (variables_after first.limit b start made c vars not_variables was.good was.knows_variables begins done answers)
-    (on_err done (subst (λ (x : List ℕ). KnowsVariables x vars) (sym begins) was.knows_variables)) kept undone
+    ends_on_own b start made now frame first marked end known vars c other done was begins is stays ends answers
+    (variables_after first.limit b start made c vars not_variables was.good was.knows_variables begins done answers) kept undone

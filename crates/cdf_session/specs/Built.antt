@@ -22,6 +22,7 @@ built (commands.DelVar name) = true
 built (commands.SetPad var words) = true
 built (commands.SetBlocking var n) = true
 built (commands.Reindex var) = true
+built (commands.DelRecs var first last) = true
 built (commands.PutRec var rec words) = true
 built (commands.GetRec var rec) = true
 built (commands.PutVal var rec index words) = true

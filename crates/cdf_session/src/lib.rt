@@ -8,6 +8,7 @@ mod kept;
 mod loading;
 mod new_file;
 mod on_attributes;
+mod on_cuts;
 mod on_records;
 mod on_variables;
 mod parts;

@@ -197,6 +197,7 @@ impl<A: Area> Session<A> {
             Command::SetPad { var, words } => self.set_pad(var.as_slice(), words),
             Command::SetBlocking { var, n } => self.set_blocking(var.as_slice(), *n),
             Command::Reindex { var } => self.reindex(var.as_slice()),
+            Command::DelRecs { var, first, last } => self.del_recs(var.as_slice(), *first, *last),
             Command::PutRec { var, rec, words } => self.put_rec(var.as_slice(), *rec, words),
             Command::GetRec { var, rec } => self.get_rec(var.as_slice(), *rec),
             Command::PutVal { var, rec, index, words } => self.put_val(var.as_slice(), *rec, index, words),

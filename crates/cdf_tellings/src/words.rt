@@ -35,13 +35,7 @@ pub enum WordsFault<'a> {
 static FLAGS: [&str; 4] = ["--new", "--check", "--no-save", "--space"];
 
 /// What is planned, as flags: an option, and commands of a script that are not there yet.
-static PLANNED: [&str; 5] = [
-    "--make",
-    "--tap",
-    "--del-recs",
-    "--set-sparse",
-    "--set-compress",
-];
+static PLANNED: [&str; 4] = ["--make", "--tap", "--set-sparse", "--set-compress"];
 
 /// Whether a word before `--` is a flag or would be one: it begins with `-` and is longer.
 fn is_like_flag(word: &str) -> bool {

@@ -1,10 +1,10 @@
 -- What a session answers can be written.
-use Rattle.cdf_tool.proofs.Common.{Answer, Answers, AnswersBuilt, Attribute, Bool, ByStep, Command, DataSet, Entry, Err, Found, Go, Good, List, MovesIf, None, Ok, Option, Outcome, Refuse, Result, Some, [], attribute_named, attribute_names, built, content, false, given, if◌then◌else◌, is_accepted, is_among, is_bad_name, is_full, is_none, nat_lt, not, outcome, pos, refl, remove, signed_limit, step, subst, sym, true, unless, valued, variable_named, variable_names, variables_of, with_variables, ℕ, ◌++◌, ◌∙◌, ◌∷◌, ◌≡◌}
+use Rattle.cdf_tool.proofs.Common.{Answer, Answers, AnswersBuilt, Attribute, Bool, ByStep, Command, DataSet, Entry, Err, Found, Go, Good, List, MovesIf, None, Ok, Option, Outcome, Refuse, Result, Some, [], attribute_named, attribute_names, built, content, false, given, if◌then◌else◌, is_accepted, is_among, is_bad_name, is_full, is_none, nat_le, nat_lt, not, outcome, pos, refl, remove, signed_limit, step, subst, sym, true, unless, valued, variable_named, variable_names, variables_of, with_variables, ℕ, ◌++◌, ◌∙◌, ◌∷◌, ◌≡◌, ◌||◌}
 use Rattle.cdf_attrs.proofs.WholeEntries.{shown_is_whole}
 use Rattle.cdf_model.specs.declared.answer.Reason.{Reason}
 use Rattle.cdf_model.specs.declared.answer.Reason.TheVariants as reasons
 use Rattle.cdf_model.specs.declared.answer.Reply.TheVariants as replies
-use Rattle.cdf_model.specs.declared.command.Command.TheVariants.{Attr, Checksum, DelAttr, DelEntry, DelVar, Dump, GetEntry, GetRec, GetVal, Info, List as Lists, PutEntry, PutRec, PutVal, RVar, Reindex, RenameAttr, RenameVar, Report, SetBlocking, SetPad, Setup, ZVar}
+use Rattle.cdf_model.specs.declared.command.Command.TheVariants.{Attr, Checksum, DelAttr, DelEntry, DelRecs, DelVar, Dump, GetEntry, GetRec, GetVal, Info, List as Lists, PutEntry, PutRec, PutVal, RVar, Reindex, RenameAttr, RenameVar, Report, SetBlocking, SetPad, Setup, ZVar}
 use Rattle.cdf_model.specs.declared.head.Majority.{Majority}
 use Rattle.cdf_model.specs.declared.kinds.Kind.{Kind}
 use Rattle.cdf_model.specs.declared.kinds.Kind.TheVariants.{R, Z}
@@ -12,12 +12,13 @@ use Rattle.cdf_model.specs.declared.kinds.Scope.{Scope}
 use Rattle.cdf_model.specs.declared.data_type.DataType.{DataType}
 use Rattle.cdf_model.specs.declared.kinds.EntryKind.{EntryKind}
 use Rattle.cdf_model.specs.AttributeSteps.{attr_step, rename_attr_step, del_attr_step, put_entry_step, get_entry_step, del_entry_step, entries_of, entry_by, is_out_of_range, is_wrong_scope, new_attribute, with_attribute, with_entries}
+use Rattle.cdf_model.specs.DataSet.{extent}
 use Rattle.cdf_model.specs.Encodings.{encoding_at}
 use Rattle.cdf_model.specs.Numbered.{item_at, with_item, without}
 use Rattle.cdf_model.specs.Values.{notation_of, values_in}
 use Rattle.cdf_model.specs.Place.{value_count}
 use Rattle.cdf_model.specs.Reading.{read}
-use Rattle.cdf_model.specs.RecordSteps.{cannot_be_put, get_rec_step, get_val_step, place_in_record, put_rec_step, put_record, put_val_step, with_record, with_value}
+use Rattle.cdf_model.specs.RecordSteps.{cannot_be_put, del_recs_step, get_rec_step, get_val_step, place_in_record, put_rec_step, put_record, put_val_step, with_record, with_value, without_records}
 use Rattle.cdf_model.specs.VariableSteps.{are_bad_sizes, del_var_step, is_bad_shape, is_empty_set, new_variable, reindex_step, rename_var_step, set_blocking_step, set_pad_step, setup_step, var_step, with_variable, without_variable}
 use Rattle.cdf_model.specs.Whole.{CanBeWritten, HasWholeValues}
 use Rattle.cdf_vars.proofs.WholeRecords.{shown_record, shown_value}
@@ -106,6 +107,13 @@ set_blocking_whole d name n = variable_whole d name ((nat_lt signed_limit n, rea
 reindex_whole : (d : DataSet) (name : List ℕ) → IsWholeAnswer (reindex_step d name)
 reindex_whole d name = given_whole {A = Found} reasons.NoSuchVar (variable_named d name) (λ found. Go d replies.Plain) (λ found. tt)
 
+del_recs_whole : (d : DataSet) (name : List ℕ) (first last : ℕ) → IsWholeAnswer (del_recs_step d name first last)
+del_recs_whole d name first last =
+    let cut = λ (found : Found). Go (with_variable d found (without_records found.variable.sparse found.variable first last)) replies.Plain in
+    let answer = λ (found : Found). unless ((nat_lt last first || nat_le (extent found.variable.max_rec) last, reasons.RecordOutOfRange) ∷ []) (cut found) in
+    given_whole {A = Found} reasons.NoSuchVar (variable_named d name) answer
+    (λ found. unless_whole ((nat_lt last first || nat_le (extent found.variable.max_rec) last, reasons.RecordOutOfRange) ∷ []) (cut found) tt)
+
 put_whole : (d : DataSet) (found : Found) (r : ℕ) (bytes : List ℕ) → IsWholeAnswer (put_record d found r bytes)
 put_whole d found r bytes = unless_whole ((cannot_be_put found.variable r, reasons.RecordOutOfRange) ∷ []) (Go (with_variable d found (with_record found.variable r bytes)) replies.Plain) tt
 
@@ -167,6 +175,7 @@ can_be_written limit b (DelVar name) o now a = from_answers limit b (DelVar name
 can_be_written limit b (SetPad var words) o now a = from_answers limit b (SetPad var words) o now (set_pad_step (content b) var words) refl (set_pad_whole (content b) var words) a
 can_be_written limit b (SetBlocking var n) o now a = from_answers limit b (SetBlocking var n) o now (set_blocking_step (content b) var n) refl (set_blocking_whole (content b) var n) a
 can_be_written limit b (Reindex var) o now a = from_answers limit b (Reindex var) o now (reindex_step (content b) var) refl (reindex_whole (content b) var) a
+can_be_written limit b (DelRecs name first last) o now a = from_answers limit b (DelRecs name first last) o now (del_recs_step (content b) name first last) refl (del_recs_whole (content b) name first last) a
 can_be_written limit b (PutRec name rec words) o now a = from_answers limit b (PutRec name rec words) o now (put_rec_step (content b) name rec words) refl (put_rec_whole (content b) name rec words) a
 can_be_written limit b (PutVal name rec index words) o now a =
     from_answers limit b (PutVal name rec index words) o now (put_val_step (content b) name rec index words) refl (put_val_whole (content b) name rec index words) a
