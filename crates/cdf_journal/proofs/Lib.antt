@@ -9,3 +9,4 @@ pub mod Loaded
 pub mod Mended
 pub mod Replayed
 pub mod Examples
+pub mod Untorn

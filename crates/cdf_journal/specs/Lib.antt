@@ -6,3 +6,4 @@ pub mod Loading
 pub mod Stages
 pub mod Opening
 pub mod Standing
+pub mod FileDisk

@@ -2,6 +2,8 @@
 #![tactic(auto)]
 
 mod disk;
+mod disk_file;
+mod file_disk;
 mod filling;
 mod gate;
 mod journal_error;
@@ -18,6 +20,7 @@ mod slices;
 mod writing;
 
 pub use disk::{Disk, Part};
+pub use file_disk::FileDisk;
 pub use filling::fill;
 pub use gate::{arm, disarm};
 pub use journal_error::JournalError;
