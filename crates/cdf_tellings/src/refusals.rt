@@ -57,7 +57,8 @@ fn words_of_reason(reason: Reason) -> &'static str {
             "IndexOutOfRange: an index has one number for each dimension, each below the size"
         }
         Reason::RecordOutOfRange => {
-            "RecordOutOfRange: the record is past 2147483646, or is not 0 where records do not vary"
+            "RecordOutOfRange: the record is past 2147483646, or is not 0 where records do not vary; \
+             for del-recs, FIRST is past LAST, or there is no record LAST"
         }
         Reason::InUse => "InUse: the variable has records, or the file has attributes or variables",
         Reason::TooLarge => "TooLarge: the file might come to have more than 1073741824 bytes",
