@@ -20,6 +20,8 @@ pub enum FileFailure {
     NotRegular(FileKind),
     /// Another program wrote the file, or put another in its place, after it was attached.
     Changed,
+    /// Another program changed the file each time while it was read.
+    ChangedWhileRead,
     /// The file was opened in the place of a standard stream.
     StandardStream,
     /// The file can be read, but could not be opened for writing.

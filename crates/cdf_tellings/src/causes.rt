@@ -62,6 +62,9 @@ impl fmt::Display for Cause {
                     "another program changed it, or put another file in its place, since it was opened",
                 )
             }
+            FileFailure::ChangedWhileRead => {
+                f.write_str("another program changed it while it was read, three times")
+            }
             FileFailure::StandardStream => f.write_str("it is open as a standard stream"),
             FileFailure::NotWritable(error) => {
                 f.write_str("it can be read, and not be written: ")?;

@@ -1,5 +1,7 @@
 //! Whether another program changed the attached file.
 
+ghost use Rattle.std.specs.Prelude.{◌≡◌, IfOk, IfSome};
+
 use super::stamp::Stamp;
 use std::fs;
 use std::fs::OpenFile;
@@ -14,24 +16,39 @@ pub enum Comparison {
     Changed,
 }
 
-/// Whether a file stands as it stood, and the name still leads to it, where the system tells.
+/// How a file stands now. `None` where its name leads to another file or to none, as far as the system tells.
+pub fn stamp_now<R: Files>(
+    rt: &R,
+    name: &str,
+    file: &R::File,
+    then: &Stamp,
+) -> Result<Option<Stamp>, ErrorKind> {
+    match fs::metadata(rt, name) {
+        Ok(named) if then.is_same_file(&Stamp::of(&named)) => {}
+        Ok(_) => return Ok(None),
+        Err(error) => match error.kind() {
+            ErrorKind::Unsupported => {}
+            ErrorKind::NotFound | ErrorKind::NotADirectory => return Ok(None),
+            kind => return Err(kind),
+        },
+    }
+    match file.metadata() {
+        Ok(metadata) => Ok(Some(Stamp::of(&metadata))),
+        Err(error) => Err(error.kind()),
+    }
+}
+
+/// How a file stands now, where that is as it stood then. `None` where it was changed, or its name no longer leads to it.
 pub fn stands_as_before<R: Files>(
     rt: &R,
     name: &str,
     file: &R::File,
     then: &Stamp,
-) -> Result<bool, ErrorKind> {
-    match fs::metadata(rt, name) {
-        Ok(named) if then.is_same_file(&Stamp::of(&named)) => {}
-        Ok(_) => return Ok(false),
-        Err(error) => match error.kind() {
-            ErrorKind::Unsupported => {}
-            ErrorKind::NotFound | ErrorKind::NotADirectory => return Ok(false),
-            kind => return Err(kind),
-        },
-    }
-    match file.metadata() {
-        Ok(metadata) => Ok(then.is_unchanged(&Stamp::of(&metadata))),
-        Err(error) => Err(error.kind()),
+) -> Result<Option<Stamp>, ErrorKind>
+    ensures { IfOk result (λ found. IfSome found (λ now. now ≡ then.now)) }
+{
+    match stamp_now(rt, name, file, then)? {
+        Some(now) if then.is_unchanged(&now) => Ok(Some(now)),
+        _ => Ok(None),
     }
 }

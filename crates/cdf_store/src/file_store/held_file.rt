@@ -1,15 +1,16 @@
 //! The attached file as it stands in memory: its name and its bytes.
 
-ghost use Rattle.std.specs.Prelude.{◌≡◌, ◌+◌, take, string_bytes, IsTrue, IsSome, IfOk, IfSome};
+ghost use Rattle.std.specs.Prelude.{◌≡◌, ◌+◌, take, string_bytes, IsTrue, IsSome, IfOk, IfSome, Some};
 ghost use Rattle.cdf_model.specs.Limits.{image_limit};
 
-use super::open_error::OpenError;
+use super::comparison::stands_as_before;
+use super::open_error::{OpenError, open_error};
 use super::opening::{Opened, open_regular};
 use super::reading::{READ_LIMIT, read_whole};
 use super::system_file::{SystemFile, regular_file};
+use crate::FileFailure;
 use crate::pieces::Pieces;
 use std::alloc::{AllocError, Global};
-use std::fs::OpenFile;
 use std::io::Read;
 use std::os::fd::AsRawFd;
 use std::rt::Files;
@@ -29,28 +30,57 @@ fn check_room(alloc: Global, length: u64) -> Result<(), AllocError> {
     Ok(())
 }
 
-/// Reads an opened file whole, up to the limit, where it is a regular file.
-pub fn hold<F: Read + OpenFile + AsRawFd + Drop>(
+/// How often a file is read, where each time it is changed in the meantime.
+const READINGS: u32 = 3;
+
+/// Reads a file whole, up to the limit.
+fn read_held<F: Read>(
     alloc: Global,
     name: &str,
-    opened: Opened<F>,
-) -> Result<(HeldFile, SystemFile<F>), OpenError>
-    ensures name { IfOk result (λ read. string_bytes read.0.name ≡ name.now) }
-    ensures bytes { IfOk result (λ read. IfSome (F.remaining opened.file)
-        (λ left. read.0.pieces.bytes ≡ take (image_limit + 17) left)) }
+    system: &mut SystemFile<F>,
+) -> Result<HeldFile, OpenError>
+    ensures name { IfOk result (λ held. string_bytes held.name ≡ name.now) }
+    ensures bytes { IfOk result (λ held. IfSome (F.remaining system.old.file)
+        (λ left. held.pieces.bytes ≡ take (image_limit + 17) left)) }
+    ensures stamp { system.new.stamp ≡ system.old.stamp }
 {
-    let mut system = regular_file(alloc, name, opened)?;
     check_room(alloc, system.stamp.length)?;
     let mut pieces = Pieces::new(alloc);
     read_whole(&mut system.file, &mut pieces)?;
-    let held = HeldFile {
+    Ok(HeldFile {
         name: String::from_str(alloc, name)?,
         pieces,
-    };
-    Ok((held, system))
+    })
 }
 
-/// Opens a regular file and reads it whole, up to the limit.
+/// Reads an opened file whole, up to the limit, where it is a regular file, and compares it behind the last byte with how it stood
+/// before the first one.
+pub fn hold<R: Files>(
+    rt: &R,
+    alloc: Global,
+    name: &str,
+    opened: Opened<R::File>,
+) -> Result<(HeldFile, SystemFile<R::File>), OpenError>
+where
+    R::File: AsRawFd,
+    ensures name { IfOk result (λ read. string_bytes read.0.name ≡ name.now) }
+    ensures bytes { IfOk result (λ read. IfSome (R.File.remaining opened.file)
+        (λ left. read.0.pieces.bytes ≡ take (image_limit + 17) left)) }
+    ensures still { IfOk result (λ read. IfSome read.1.read_until (λ now. now ≡ read.1.stamp)) }
+{
+    let mut system = regular_file(alloc, name, opened)?;
+    let held = read_held(alloc, name, &mut system)?;
+    match stands_as_before(rt, name, &system.file, &system.stamp) {
+        Ok(found) => {
+            system.read_until = found;
+            Ok((held, system))
+        }
+        Err(kind) => Err(open_error(kind)),
+    }
+}
+
+/// Opens a regular file and reads it whole, up to the limit. Where it is changed in the meantime, it is opened and read anew, up to
+/// three times in all. An absent file is made by the first opening alone.
 pub fn attach_file<R: Files>(
     rt: &R,
     alloc: Global,
@@ -61,9 +91,25 @@ where
     R::File: AsRawFd,
     ensures made { IsTrue make → IfOk result (λ found. IsSome found) }
     ensures name { IfOk result (λ found. IfSome found (λ read. string_bytes read.0.name ≡ name.now)) }
+    ensures still { IfOk result (λ found. IfSome found (λ read. read.1.read_until ≡ Some read.1.stamp)) }
 {
-    match open_regular(rt, alloc, name, make)? {
-        None => Ok(None),
-        Some(opened) => Ok(Some(hold(alloc, name, opened)?)),
+    let mut made_in = None;
+    for turn in 0..READINGS {
+        let is_first = turn == 0;
+        match open_regular(rt, alloc, name, make && is_first)? {
+            None if make => {}
+            None => return Ok(None),
+            Some(opened) => {
+                let (held, mut system) = hold(rt, alloc, name, opened)?;
+                if is_first {
+                    made_in = system.made_in.take();
+                }
+                if system.read_until.is_some() {
+                    system.made_in = made_in;
+                    return Ok(Some((held, system)));
+                }
+            }
+        }
     }
+    Err(OpenError::Failed(FileFailure::ChangedWhileRead))
 }

@@ -26,6 +26,8 @@ pub struct SystemFile<F> {
     pub refusal: Option<ErrorKind>,
     /// How the file stood before its first byte was read.
     pub stamp: Stamp,
+    /// How the file stood behind the last byte that was read of it, where it was read whole and found to stand as before.
+    pub read_until: Option<Stamp>,
     pub comparison: Comparison,
     /// The folder that holds the file, where attaching made the file.
     pub made_in: Option<String>,
@@ -50,6 +52,7 @@ pub fn regular_file<F: OpenFile + AsRawFd + Drop>(
 ) -> Result<SystemFile<F>, OpenError>
     ensures file { IfOk result (λ system. system.file ≡ opened.file) }
     ensures refusal { IfOk result (λ system. system.refusal ≡ opened.refusal) }
+    ensures unread { IfOk result (λ system. system.read_until ≡ None) }
 {
     let Opened {
         file,
@@ -67,6 +70,7 @@ pub fn regular_file<F: OpenFile + AsRawFd + Drop>(
         file,
         refusal,
         stamp: Stamp::of(&metadata),
+        read_until: None,
         comparison: Comparison::NotYet,
         made_in,
     })
@@ -96,11 +100,11 @@ fn check_unchanged<R: Files>(rt: &R, file: &mut SystemFile<R::File>) -> Result<(
         return Ok(());
     }
     match stands_as_before(rt, &file.name, &file.file, &file.stamp) {
-        Ok(true) => {
+        Ok(Some(_)) => {
             file.comparison = Comparison::Same;
             Ok(())
         }
-        Ok(false) => {
+        Ok(None) => {
             file.comparison = Comparison::Changed;
             Err(FileFailure::Changed)
         }
