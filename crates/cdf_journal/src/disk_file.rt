@@ -197,7 +197,7 @@ pub fn sync_file<R: Files>(rt: &R, file: &mut Option<DiskFile<R::File>>) -> Resu
         return Err(NO_FILE);
     };
     if file.is_pending {
-        store_file(rt, &file.system)?;
+        store_file(rt, &file.system, file.length)?;
         file.is_pending = false;
     }
     Ok(())

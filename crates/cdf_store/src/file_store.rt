@@ -227,7 +227,7 @@ where
 
     fn sync(&mut self) -> Result<(), Failed> {
         self.synced = false;
-        if let Err(failure) = system_file::store(&self.rt, &self.system) {
+        if let Err(failure) = system_file::store(&self.rt, &self.system, self.size()) {
             return Err(self.faults.of_writing(failure));
         }
         self.synced = true;

@@ -1,13 +1,14 @@
 //! The attached file as the system has it: when it is written, cut and stored.
 
-ghost use Rattle.std.specs.Prelude.{◌≡◌, ◌<◌, ◌≤◌, ◌≤ℤ◌, ◌↔◌, length, pos, IfOk, IsOk, IsSomeAnd, None};
+ghost use Rattle.std.specs.Prelude.{◌≡◌, ◌<◌, ◌≤◌, ◌≤ℤ◌, ◌↔◌, length, min, pos, IfOk, IsOk, IsSomeAnd, None};
 ghost use Rattle.cdf_store.specs.Untouched.{IsWritable, MayBeWritten};
 
-use super::comparison::{Comparison, stands_as_before};
+use super::comparison::{Comparison, stamp_now, stands_as_before};
 use super::folder::store_folder;
 use super::kind::check_regular;
 use super::open_error::{OpenError, open_error};
 use super::opening::Opened;
+use super::reading::READ_LIMIT;
 use super::stamp::Stamp;
 use super::writing::{Written, go_to, write_some};
 use crate::FileFailure;
@@ -155,18 +156,40 @@ pub fn cut_to<R: Files>(
     }
 }
 
-/// Has a file stored, and the folder that holds it, where attaching made the file.
-pub fn store_file<R: Files>(rt: &R, file: &SystemFile<R::File>) -> Result<(), FileFailure>
+/// Refuses a file that has not the length that was written, or whose name leads elsewhere, and answers how it stands. Of a length
+/// past the limit the limit is compared.
+fn check_written<R: Files>(
+    rt: &R,
+    file: &SystemFile<R::File>,
+    length: u64,
+) -> Result<Stamp, FileFailure>
+    ensures { IfOk result (λ found. min found.length READ_LIMIT ≡ length) }
+{
+    match stamp_now(rt, &file.name, &file.file, &file.stamp) {
+        Ok(Some(now)) if now.length.min(READ_LIMIT) == length => Ok(now),
+        Ok(_) => Err(FileFailure::Changed),
+        Err(kind) => Err(FileFailure::System(kind)),
+    }
+}
+
+/// Has a file stored to which this length was written, and the folder that holds it, where attaching made the file. Behind the
+/// system's answer it is compared with what was written, and its stamp of then is answered.
+pub fn store_file<R: Files>(
+    rt: &R,
+    file: &SystemFile<R::File>,
+    length: u64,
+) -> Result<Stamp, FileFailure>
     ensures refused { IsOk result → IsWritable file.now }
+    ensures written { IfOk result (λ found. min found.length READ_LIMIT ≡ length) }
 {
     check_writable(file)?;
     if let Err(error) = file.file.sync_all() {
         return Err(FileFailure::System(error.kind()));
     }
-    match &file.made_in {
-        None => Ok(()),
-        Some(folder) => store_folder(rt, folder),
+    if let Some(folder) = &file.made_in {
+        store_folder(rt, folder)?;
     }
+    check_written(rt, file, length)
 }
 
 /// The failure of a call where no file is attached.
@@ -207,12 +230,17 @@ pub fn cut<R: Files>(
     }
 }
 
-/// Has the attached file stored.
-pub fn store<R: Files>(rt: &R, system: &Option<SystemFile<R::File>>) -> Result<(), FileFailure>
+/// Has the attached file stored, which has this length.
+pub fn store<R: Files>(
+    rt: &R,
+    system: &Option<SystemFile<R::File>>,
+    length: u64,
+) -> Result<Stamp, FileFailure>
     ensures refused { IsOk result → IsSomeAnd system.now IsWritable }
+    ensures written { IfOk result (λ found. min found.length READ_LIMIT ≡ length) }
 {
     match system {
         None => Err(NO_FILE),
-        Some(file) => store_file(rt, file),
+        Some(file) => store_file(rt, file, length),
     }
 }
