@@ -13,6 +13,14 @@ pub enum FileKind {
     Other,
 }
 
+/// A stream that a program has from its start.
+#[derive(Clone, Copy, Debug, PartialEq, Eq)]
+pub enum Stream {
+    Input,
+    Output,
+    Error,
+}
+
 /// Why a call on a real file failed.
 #[derive(Clone, Copy, Debug, PartialEq, Eq)]
 pub enum FileFailure {
@@ -24,6 +32,8 @@ pub enum FileFailure {
     ChangedWhileRead,
     /// The file was opened in the place of a standard stream.
     StandardStream,
+    /// The file is one that this program has as a standard stream.
+    IsStream(Stream),
     /// The file can be read, but could not be opened for writing.
     NotWritable(ErrorKind),
     /// The system refused a call.

@@ -14,6 +14,7 @@ mod open_error;
 mod opening;
 mod reading;
 mod stamp;
+mod streams;
 mod system_file;
 mod writing;
 

@@ -20,7 +20,7 @@ mod writing;
 
 pub use copy::{copy_from, put_in};
 pub use failed::Failed;
-pub use file_failure::{FileFailure, FileKind};
+pub use file_failure::{FileFailure, FileKind, Stream};
 pub use file_store::{
     FileStore, OpenError, Opened, READ_LIMIT, SystemFile, Written, check_regular, cut_to,
     open_regular, read_from, regular_file, store_file, write_from,

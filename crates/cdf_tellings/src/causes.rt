@@ -1,6 +1,6 @@
 //! Why the system did not serve a file, in words.
 
-use cdf_store::{FileFailure, FileKind};
+use cdf_store::{FileFailure, FileKind, Stream};
 use std::fmt;
 use std::io::ErrorKind;
 
@@ -49,6 +49,15 @@ fn words_of_kind(kind: FileKind) -> &'static str {
     }
 }
 
+/// A file that this program has as one of its streams.
+fn words_of_stream(stream: Stream) -> &'static str {
+    match stream {
+        Stream::Input => "it is this program's standard input",
+        Stream::Output => "it is this program's standard output",
+        Stream::Error => "it is this program's standard error",
+    }
+}
+
 /// Why a call on a file failed, to be written in words.
 #[derive(Clone, Copy, Debug)]
 pub struct Cause(pub FileFailure);
@@ -65,6 +74,7 @@ impl fmt::Display for Cause {
             FileFailure::ChangedWhileRead => {
                 f.write_str("another program changed it while it was read, three times")
             }
+            FileFailure::IsStream(stream) => f.write_str(words_of_stream(stream)),
             FileFailure::StandardStream => f.write_str("it is open as a standard stream"),
             FileFailure::NotWritable(error) => {
                 f.write_str("it can be read, and not be written: ")?;

@@ -7,6 +7,7 @@ use super::comparison::stands_as_before;
 use super::open_error::{OpenError, open_error};
 use super::opening::{Opened, open_regular};
 use super::reading::{READ_LIMIT, read_whole};
+use super::streams::check_streams;
 use super::system_file::{SystemFile, regular_file};
 use crate::FileFailure;
 use crate::pieces::Pieces;
@@ -53,8 +54,8 @@ fn read_held<F: Read>(
     })
 }
 
-/// Reads an opened file whole, up to the limit, where it is a regular file, and compares it behind the last byte with how it stood
-/// before the first one.
+/// Reads an opened file whole, up to the limit, where it is a regular file and no standard stream, and compares it behind the last
+/// byte with how it stood before the first one.
 pub fn hold<R: Files>(
     rt: &R,
     alloc: Global,
@@ -69,6 +70,7 @@ where
     ensures still { IfOk result (λ read. IfSome read.1.read_until (λ now. now ≡ read.1.stamp)) }
 {
     let mut system = regular_file(alloc, name, opened)?;
+    check_streams(rt, &system.stamp)?;
     let held = read_held(alloc, name, &mut system)?;
     match stands_as_before(rt, name, &system.file, &system.stamp) {
         Ok(found) => {
