@@ -6,8 +6,8 @@ ghost use Rattle.cdf_journal.specs.Crashes.{ReadsSome};
 ghost use Rattle.cdf_journal.specs.FileDisk.{length_in};
 
 use cdf_store::{
-    FileFailure, OpenError, READ_LIMIT, SystemFile, check_regular, cut_to, open_regular, read_from,
-    regular_file, store_file, write_from,
+    FileFailure, OpenError, READ_LIMIT, SystemError, SystemFile, check_regular, cut_to,
+    open_regular, read_from, regular_file, store_file, write_from,
 };
 use std::alloc::Global;
 use std::fs;
@@ -25,7 +25,10 @@ pub struct DiskFile<F> {
 }
 
 /// The failure of a call where no file is attached.
-const NO_FILE: FileFailure = FileFailure::System(ErrorKind::NotFound);
+const NO_FILE: FileFailure = FileFailure::System(SystemError {
+    kind: ErrorKind::NotFound,
+    number: None,
+});
 
 /// What is appended to the name of a file for its log.
 const LOG_ENDING: &str = ".journal";
@@ -111,7 +114,7 @@ fn read_within<F: Read + Seek>(
     }
     let room = (out.len() as u64).min(size - place) as usize;
     match read_system(system, place, &mut out[..room]) {
-        Ok(0) => Err(FileFailure::System(ErrorKind::UnexpectedEof)),
+        Ok(0) => Err(FileFailure::System(SystemError::unnumbered(ErrorKind::UnexpectedEof))),
         other => other,
     }
 }
@@ -160,7 +163,7 @@ pub fn write_file<R: Files>(
         return Err(NO_FILE);
     };
     if place.checked_add(bytes.len() as u64).is_none() {
-        return Err(FileFailure::System(ErrorKind::FileTooLarge));
+        return Err(FileFailure::System(SystemError::unnumbered(ErrorKind::FileTooLarge)));
     }
     file.is_pending = true;
     let written = write_from(rt, &mut file.system, place, bytes);

@@ -1,6 +1,6 @@
 //! Why a call on a real file failed.
 
-use std::io::ErrorKind;
+use crate::SystemError;
 
 /// What a name leads to that is no regular file.
 #[derive(Clone, Copy, Debug, PartialEq, Eq)]
@@ -35,7 +35,7 @@ pub enum FileFailure {
     /// The file is one that this program has as a standard stream.
     IsStream(Stream),
     /// The file can be read, but could not be opened for writing.
-    NotWritable(ErrorKind),
+    NotWritable(SystemError),
     /// The system refused a call.
-    System(ErrorKind),
+    System(SystemError),
 }

@@ -16,6 +16,7 @@ mod source;
 mod std_streams;
 mod store;
 mod sure_source;
+mod system_error;
 mod writing;
 
 pub use copy::{copy_from, put_in};
@@ -33,4 +34,5 @@ pub use source::Source;
 pub use std_streams::{StdSink, StdSource};
 pub use store::{AttachError, Store};
 pub use sure_source::SureSource;
+pub use system_error::SystemError;
 pub use writing::write_all;

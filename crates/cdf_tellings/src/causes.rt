@@ -1,12 +1,23 @@
 //! Why the system did not serve a file, in words.
 
-use cdf_store::{FileFailure, FileKind, Stream};
+use cdf_store::{FileFailure, FileKind, Stream, SystemError};
 use std::fmt;
 use std::io::ErrorKind;
 
-/// An error of the system in words.
-fn words_of_error(error: ErrorKind) -> &'static str {
-    match error {
+/// An error of the system that has no kind of its own in words, by the number that Linux has for it.
+fn words_of_number(number: i32) -> Option<&'static str> {
+    match number {
+        5 => Some("input/output error"),
+        6 | 19 => Some("the device is not there"),
+        23 => Some("the system has too many files open"),
+        24 => Some("this program has too many files open"),
+        _ => None,
+    }
+}
+
+/// An error of the system in words, by its kind.
+fn words_of_error(kind: ErrorKind) -> Option<&'static str> {
+    let words = match kind {
         ErrorKind::NotFound => "the file or a folder above it is not there",
         ErrorKind::PermissionDenied => "there is no permission",
         ErrorKind::AlreadyExists => "the file is there already",
@@ -33,7 +44,21 @@ fn words_of_error(error: ErrorKind) -> &'static str {
         ErrorKind::Unsupported => "the device cannot do this",
         ErrorKind::UnexpectedEof => "the file ended too early",
         ErrorKind::OutOfMemory => "the system has no memory",
-        _ => "the system gives a reason that is not known here",
+        _ => return None,
+    };
+    Some(words)
+}
+
+/// Writes why the system refused a call: in words, or by its number where there are none for it.
+fn write_error<W: fmt::Write>(error: SystemError, f: &mut fmt::Formatter<W>) -> fmt::Result {
+    let by_number = match error.number {
+        Some(number) => words_of_number(number),
+        None => None,
+    };
+    match (by_number.or(words_of_error(error.kind)), error.number) {
+        (Some(words), _) => f.write_str(words),
+        (None, Some(number)) => write!(f, "the system's error number {number}"),
+        (None, None) => f.write_str("the system gives a reason that is not known here"),
     }
 }
 
@@ -78,9 +103,9 @@ impl fmt::Display for Cause {
             FileFailure::StandardStream => f.write_str("it is open as a standard stream"),
             FileFailure::NotWritable(error) => {
                 f.write_str("it can be read, and not be written: ")?;
-                f.write_str(words_of_error(error))
+                write_error(error, f)
             }
-            FileFailure::System(error) => f.write_str(words_of_error(error)),
+            FileFailure::System(error) => write_error(error, f),
         }
     }
 }

@@ -1,6 +1,6 @@
 //! Real files that are made, written, cut and stored.
 
-use cdf_store::{AttachError, FileFailure, FileKind, FileStore, Store};
+use cdf_store::{AttachError, FileFailure, FileKind, FileStore, Store, SystemError};
 use std::fs;
 use std::io::ErrorKind;
 use std::os::unix;
@@ -105,7 +105,10 @@ fn what_is_no_regular_file_is_not_attached(rt: HostRuntime) -> Result<(), Fail> 
         ),
         (
             "cdf_layer_tests_no_folder/a",
-            FileFailure::System(ErrorKind::NotFound),
+            FileFailure::System(SystemError {
+                kind: ErrorKind::NotFound,
+                number: Some(2),
+            }),
         ),
     ] {
         let mut store = FileStore::new(rt, rt.alloc());

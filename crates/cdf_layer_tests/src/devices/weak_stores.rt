@@ -3,7 +3,7 @@
 ghost use Rattle.std.specs.Prelude.{◌≡◌, IfOk, IsSome, Some, length, option_map};
 
 use super::weak_files::{SLOW, WeakFiles, Weakness};
-use cdf_store::{AttachError, Failed, FileFailure, FileStore, Store};
+use cdf_store::{AttachError, Failed, FileFailure, FileStore, Store, SystemError};
 use std::alloc::Global;
 use std::fs;
 use std::io::ErrorKind;
@@ -116,7 +116,7 @@ fn a_cut_to_the_same_length_makes_no_call(rt: HostRuntime) -> Result<(), Fail> {
     assert_eq!(rt; store.set_len(2), Err(Failed));
     assert_eq!(rt;
         store.failure(),
-        Some(FileFailure::System(ErrorKind::FileTooLarge))
+        Some(FileFailure::System(SystemError::unnumbered(ErrorKind::FileTooLarge)))
     );
     assert_eq!(rt; has_bytes(rt, &store, UNCUT, b"abc")?, true);
     assert_eq!(rt; store.is_written(), false);
@@ -139,9 +139,15 @@ fn a_file_that_fails_is_not_attached(rt: HostRuntime) -> Result<(), Fail> {
     };
     put_file(rt, FAILING)?;
     for (weakness, failure) in [
-        (in_mid_file, FileFailure::System(ErrorKind::TimedOut)),
+        (
+            in_mid_file,
+            FileFailure::System(SystemError::unnumbered(ErrorKind::TimedOut)),
+        ),
         (standard, FileFailure::StandardStream),
-        (locked, FileFailure::System(ErrorKind::PermissionDenied)),
+        (
+            locked,
+            FileFailure::System(SystemError::unnumbered(ErrorKind::PermissionDenied)),
+        ),
     ] {
         let mut store = FileStore::new(WeakFiles { rt, weakness }, rt.alloc());
         assert_eq!(rt; store.attach(FAILING, false), Err(AttachError::Failed));
@@ -166,7 +172,7 @@ fn a_file_that_is_only_read_is_served(rt: HostRuntime) -> Result<(), Fail> {
     assert_eq!(rt; out, *b"abc");
     assert_eq!(rt; store.failure(), None);
     assert_eq!(rt; store.set_len(1), Err(Failed));
-    let failure = FileFailure::NotWritable(ErrorKind::PermissionDenied);
+    let failure = FileFailure::NotWritable(SystemError::unnumbered(ErrorKind::PermissionDenied));
     assert_eq!(rt; store.failure(), Some(failure));
     fs::remove_file(&rt, LOCKED)?;
     Ok(())

@@ -3,6 +3,7 @@
 ghost use Rattle.std.specs.Prelude.{◌≡◌, IfOk, IfSome};
 
 use super::stamp::Stamp;
+use crate::SystemError;
 use std::fs;
 use std::fs::OpenFile;
 use std::io::ErrorKind;
@@ -22,19 +23,19 @@ pub fn stamp_now<R: Files>(
     name: &str,
     file: &R::File,
     then: &Stamp,
-) -> Result<Option<Stamp>, ErrorKind> {
+) -> Result<Option<Stamp>, SystemError> {
     match fs::metadata(rt, name) {
         Ok(named) if then.is_same_file(&Stamp::of(&named)) => {}
         Ok(_) => return Ok(None),
         Err(error) => match error.kind() {
             ErrorKind::Unsupported => {}
             ErrorKind::NotFound | ErrorKind::NotADirectory => return Ok(None),
-            kind => return Err(kind),
+            _ => return Err(SystemError::of(&error)),
         },
     }
     match file.metadata() {
         Ok(metadata) => Ok(Some(Stamp::of(&metadata))),
-        Err(error) => Err(error.kind()),
+        Err(error) => Err(SystemError::of(&error)),
     }
 }
 
@@ -44,7 +45,7 @@ pub fn stands_as_before<R: Files>(
     name: &str,
     file: &R::File,
     then: &Stamp,
-) -> Result<Option<Stamp>, ErrorKind>
+) -> Result<Option<Stamp>, SystemError>
     ensures { IfOk result (λ found. IfSome found (λ now. now ≡ then.now)) }
 {
     match stamp_now(rt, name, file, then)? {

@@ -3,7 +3,7 @@
 ghost use Rattle.std.specs.Prelude.{◌≡◌, ◌↔◌, ◌⊎◌, IsTrue};
 ghost use Rattle.cdf_store.specs.Folder.{folder_in};
 
-use crate::FileFailure;
+use crate::{FileFailure, SystemError};
 use std::alloc::{AllocError, Global};
 use std::fs;
 use std::fs::OpenFile;
@@ -40,10 +40,12 @@ fn is_needless(kind: ErrorKind) -> bool
 pub fn store_folder<R: Files>(rt: &R, folder: &str) -> Result<(), FileFailure> {
     let opened = match fs::open(rt, folder) {
         Ok(opened) => opened,
-        Err(error) => return Err(FileFailure::System(error.kind())),
+        Err(error) => return Err(FileFailure::System(SystemError::of(&error))),
     };
     match opened.sync_all() {
-        Err(error) if !is_needless(error.kind()) => Err(FileFailure::System(error.kind())),
+        Err(error) if !is_needless(error.kind()) => {
+            Err(FileFailure::System(SystemError::of(&error)))
+        }
         _ => Ok(()),
     }
 }

@@ -77,7 +77,7 @@ where
             system.read_until = found;
             Ok((held, system))
         }
-        Err(kind) => Err(open_error(kind)),
+        Err(error) => Err(open_error(error)),
     }
 }
 

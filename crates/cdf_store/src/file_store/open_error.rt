@@ -2,7 +2,7 @@
 
 ghost use Rattle.std.specs.Prelude.{◌≡◌, ◌≢◌};
 
-use crate::FileFailure;
+use crate::{FileFailure, SystemError};
 use std::alloc::AllocError;
 use std::io::ErrorKind;
 
@@ -36,12 +36,12 @@ impl From<FileFailure> for OpenError {
 }
 
 /// Why a file was not attached, by the error of the system.
-pub fn open_error(kind: ErrorKind) -> OpenError
-    ensures memory { kind ≡ ErrorKind.OutOfMemory → result ≡ OpenError.NoMemory }
-    ensures fault { kind ≢ ErrorKind.OutOfMemory → result ≡ OpenError.Failed (FileFailure.System kind) }
+pub fn open_error(error: SystemError) -> OpenError
+    ensures memory { error.kind ≡ ErrorKind.OutOfMemory → result ≡ OpenError.NoMemory }
+    ensures fault { error.kind ≢ ErrorKind.OutOfMemory → result ≡ OpenError.Failed (FileFailure.System error) }
 {
-    match kind {
+    match error.kind {
         ErrorKind::OutOfMemory => OpenError::NoMemory,
-        _ => OpenError::Failed(FileFailure::System(kind)),
+        _ => OpenError::Failed(FileFailure::System(error)),
     }
 }

@@ -5,6 +5,7 @@ ghost use Rattle.std.specs.Prelude.{◌≡◌, ◌↔◌, IsTrue, IsFalse, IsSom
 use super::folder::folder_behind;
 use super::kind::check_regular;
 use super::open_error::{OpenError, open_error};
+use crate::SystemError;
 use std::alloc::Global;
 use std::fs;
 use std::fs::OpenOptions;
@@ -16,7 +17,7 @@ use std::rt::Files;
 pub struct Opened<F> {
     pub file: F,
     /// Why the file could not be opened for writing too, where it could not.
-    pub refusal: Option<ErrorKind>,
+    pub refusal: Option<SystemError>,
     /// The folder that holds the file, where the file was made.
     pub made_in: Option<String>,
 }
@@ -46,7 +47,7 @@ pub fn open_regular<R: Files>(
         Err(error) if error.kind() == ErrorKind::NotFound => {
             Ok(Some(make_absent(rt, alloc, name)?))
         }
-        Err(error) => Err(open_error(error.kind())),
+        Err(error) => Err(open_error(SystemError::of(&error))),
     }
 }
 
@@ -67,7 +68,7 @@ fn open_present<R: Files>(
             }));
         }
         Err(error) if is_absent(error.kind(), make) => return Ok(None),
-        Err(error) => error.kind(),
+        Err(error) => SystemError::of(&error),
     };
     match fs::open(rt, name) {
         Ok(file) => Ok(Some(Opened {
@@ -75,7 +76,7 @@ fn open_present<R: Files>(
             refusal: Some(refusal),
             made_in: None,
         })),
-        Err(error) => Err(open_error(error.kind())),
+        Err(error) => Err(open_error(SystemError::of(&error))),
     }
 }
 
@@ -89,6 +90,6 @@ fn make_absent<R: Files>(rt: &R, alloc: Global, name: &str) -> Result<Opened<R::
             refusal: None,
             made_in: Some(folder_behind(rt, alloc, name)?),
         }),
-        Err(error) => Err(open_error(error.kind())),
+        Err(error) => Err(open_error(SystemError::of(&error))),
     }
 }

@@ -7,8 +7,8 @@ ghost use Rattle.cdf_model.specs.Limits.{image_limit};
 
 use super::open_error::{OpenError, open_error};
 use super::writing::go_to;
-use crate::FileFailure;
 use crate::pieces::{PIECE, Pieces};
+use crate::{FileFailure, SystemError};
 use cdf_model::limits::IMAGE_LIMIT;
 use std::io::{ErrorKind, Read, Seek};
 
@@ -17,7 +17,7 @@ use std::io::{ErrorKind, Read, Seek};
 pub const READ_LIMIT: u64 = IMAGE_LIMIT + 17;
 
 /// Reads once, and again after an interruption.
-pub fn read_some<F: Read>(file: &mut F, out: &mut [u8]) -> Result<usize, ErrorKind>
+pub fn read_some<F: Read>(file: &mut F, out: &mut [u8]) -> Result<usize, SystemError>
     ensures bound { ReadsAtMost result out.new }
     ensures bytes { ReadConsumes (F.remaining file.old) (F.remaining file.new) result out.new }
 {
@@ -25,10 +25,10 @@ pub fn read_some<F: Read>(file: &mut F, out: &mut [u8]) -> Result<usize, ErrorKi
         match file.read(out) {
             Ok(count) => return Ok(count),
             Err(error) if error.kind() == ErrorKind::Interrupted => {}
-            Err(error) => return Err(error.kind()),
+            Err(error) => return Err(SystemError::of(&error)),
         }
     }
-    Err(ErrorKind::Interrupted)
+    Err(SystemError::unnumbered(ErrorKind::Interrupted))
 }
 
 /// Reads once from a place of a file on, and again after an interruption.
@@ -42,7 +42,7 @@ pub fn read_from<F: Read + Seek>(
     go_to(file, place)?;
     match read_some(file, out) {
         Ok(count) => Ok(count),
-        Err(kind) => Err(FileFailure::System(kind)),
+        Err(error) => Err(FileFailure::System(error)),
     }
 }
 
@@ -57,7 +57,7 @@ pub fn read_whole<F: Read>(file: &mut F, pieces: &mut Pieces) -> Result<(), Open
         let count = match read_some(file, part) {
             Ok(0) => return Ok(()),
             Ok(count) => count,
-            Err(kind) => return Err(open_error(kind)),
+            Err(error) => return Err(open_error(error)),
         };
         pieces.push(&part[..count])?;
         room -= count as u64;

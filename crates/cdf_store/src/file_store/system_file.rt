@@ -11,7 +11,7 @@ use super::opening::Opened;
 use super::reading::READ_LIMIT;
 use super::stamp::Stamp;
 use super::writing::{Written, go_to, write_some};
-use crate::FileFailure;
+use crate::{FileFailure, SystemError};
 use std::alloc::Global;
 use std::fs::OpenFile;
 use std::io::ErrorKind;
@@ -24,7 +24,7 @@ pub struct SystemFile<F> {
     pub name: String,
     pub file: F,
     /// Why the file could not be opened for writing, where it could not.
-    pub refusal: Option<ErrorKind>,
+    pub refusal: Option<SystemError>,
     /// How the file stood before its first byte was read.
     pub stamp: Stamp,
     /// How the file stood behind the last byte that was read of it, where it was read whole and found to stand as before.
@@ -63,7 +63,7 @@ pub fn regular_file<F: OpenFile + AsRawFd + Drop>(
     check_place(file.as_raw_fd())?;
     let metadata = match file.metadata() {
         Ok(metadata) => metadata,
-        Err(error) => return Err(open_error(error.kind())),
+        Err(error) => return Err(open_error(SystemError::of(&error))),
     };
     check_regular(&metadata)?;
     Ok(SystemFile {
@@ -81,8 +81,8 @@ pub fn regular_file<F: OpenFile + AsRawFd + Drop>(
 fn check_writable<F>(file: &SystemFile<F>) -> Result<(), FileFailure>
     ensures { IsOk result ↔ IsWritable file.now }
 {
-    if let Some(kind) = file.refusal {
-        return Err(FileFailure::NotWritable(kind));
+    if let Some(error) = file.refusal {
+        return Err(FileFailure::NotWritable(error));
     }
     if file.comparison == Comparison::Changed {
         return Err(FileFailure::Changed);
@@ -109,7 +109,7 @@ fn check_unchanged<R: Files>(rt: &R, file: &mut SystemFile<R::File>) -> Result<(
             file.comparison = Comparison::Changed;
             Err(FileFailure::Changed)
         }
-        Err(kind) => Err(FileFailure::System(kind)),
+        Err(error) => Err(FileFailure::System(error)),
     }
 }
 
@@ -152,7 +152,7 @@ pub fn cut_to<R: Files>(
     check_unchanged(rt, file)?;
     match file.file.set_len(n) {
         Ok(()) => Ok(()),
-        Err(error) => Err(FileFailure::System(error.kind())),
+        Err(error) => Err(FileFailure::System(SystemError::of(&error))),
     }
 }
 
@@ -168,7 +168,7 @@ fn check_written<R: Files>(
     match stamp_now(rt, &file.name, &file.file, &file.stamp) {
         Ok(Some(now)) if now.length.min(READ_LIMIT) == length => Ok(now),
         Ok(_) => Err(FileFailure::Changed),
-        Err(kind) => Err(FileFailure::System(kind)),
+        Err(error) => Err(FileFailure::System(error)),
     }
 }
 
@@ -184,7 +184,7 @@ pub fn store_file<R: Files>(
 {
     check_writable(file)?;
     if let Err(error) = file.file.sync_all() {
-        return Err(FileFailure::System(error.kind()));
+        return Err(FileFailure::System(SystemError::of(&error)));
     }
     if let Some(folder) = &file.made_in {
         store_folder(rt, folder)?;
@@ -193,7 +193,10 @@ pub fn store_file<R: Files>(
 }
 
 /// The failure of a call where no file is attached.
-const NO_FILE: FileFailure = FileFailure::System(ErrorKind::NotFound);
+const NO_FILE: FileFailure = FileFailure::System(SystemError {
+    kind: ErrorKind::NotFound,
+    number: None,
+});
 
 /// Writes bytes of the attached file from a place on.
 pub fn write<R: Files>(

@@ -5,7 +5,7 @@ ghost use Rattle.std.specs.Io.{WritesAtMost};
 ghost use Rattle.std.specs.Io.KnownBytes.{Appends, WriteAppends};
 ghost use Rattle.std.specs.Io.Seek.{MovesTo};
 
-use crate::FileFailure;
+use crate::{FileFailure, SystemError};
 use std::io::{ErrorKind, Seek, SeekFrom, Write};
 
 /// How many bytes were written, and why no more were.
@@ -21,25 +21,25 @@ pub fn go_to<F: Seek>(file: &mut F, place: u64) -> Result<(), FileFailure>
 {
     match file.seek(SeekFrom::Start(place)) {
         Ok(_) => Ok(()),
-        Err(error) => Err(FileFailure::System(error.kind())),
+        Err(error) => Err(FileFailure::System(SystemError::of(&error))),
     }
 }
 
 /// Writes once, and again after an interruption. A write that takes none of the bytes has failed.
-pub fn write_more<F: Write>(file: &mut F, bytes: &[u8]) -> Result<usize, ErrorKind>
+pub fn write_more<F: Write>(file: &mut F, bytes: &[u8]) -> Result<usize, SystemError>
     ensures bound { WritesAtMost result bytes.now }
     ensures some { IfOk result (λ count. 0 < count) }
     ensures bytes { WriteAppends (F.contents file.old) (F.contents file.new) result bytes.now }
 {
     for _ in 0..u64::MAX {
         match file.write(bytes) {
-            Ok(0) => return Err(ErrorKind::WriteZero),
+            Ok(0) => return Err(SystemError::unnumbered(ErrorKind::WriteZero)),
             Ok(count) => return Ok(count),
             Err(error) if error.kind() == ErrorKind::Interrupted => {}
-            Err(error) => return Err(error.kind()),
+            Err(error) => return Err(SystemError::of(&error)),
         }
     }
-    Err(ErrorKind::Interrupted)
+    Err(SystemError::unnumbered(ErrorKind::Interrupted))
 }
 
 /// Writes bytes where the file stands, until one write fails.
@@ -52,10 +52,10 @@ pub fn write_some<F: Write>(file: &mut F, bytes: &[u8]) -> Written
     while count < bytes.len() {
         match write_more(file, &bytes[count..]) {
             Ok(more) => count += more,
-            Err(kind) => {
+            Err(error) => {
                 return Written {
                     count,
-                    failure: Some(FileFailure::System(kind)),
+                    failure: Some(FileFailure::System(error)),
                 };
             }
         }
