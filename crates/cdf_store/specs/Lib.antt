@@ -1,5 +1,6 @@
 pub mod Named
 pub mod Disk
+pub mod Unstored
 pub mod Reading
 pub mod Written
 pub mod MemFile

@@ -4,6 +4,7 @@ ghost use Rattle.std.specs.Prelude.{◌≡◌, ◌≤◌, ◌||◌, true, refl, 
 ghost use Rattle.std.proofs.Common.{inr};
 ghost use Rattle.cdf_store.specs.Disk.{Disk};
 ghost use Rattle.cdf_store.specs.HeldFile.{bytes_in, name_in, room_in, same_is_some};
+ghost use Rattle.cdf_store.specs.Unstored.{nothing};
 
 mod comparison;
 mod faults;
@@ -18,7 +19,7 @@ mod streams;
 mod system_file;
 mod writing;
 
-use crate::{AttachError, Failed, FileFailure, Store};
+use crate::{AttachError, Failed, FileFailure, Store, Unstored};
 use faults::Faults;
 use held_file::{HeldFile, attach_file};
 pub use kind::check_regular;
@@ -47,6 +48,7 @@ pub struct FileStore<R: Files> {
     end: u64,
     faults: Faults,
     synced: bool,
+    unstored: Unstored,
     /// Whether a write or a cut was made in the file.
     is_written: bool,
     ghost has_room: { end ≤ room_in held },
@@ -64,6 +66,7 @@ where
             ≡ record { held = None; name = None; files = None; only = None; touched = None; under = tt } }
         ensures read { ⟦<FileStore<R> as Store>⟧.read_faults result ≡ 0 }
         ensures write { ⟦<FileStore<R> as Store>⟧.write_faults result ≡ 0 }
+        ensures unstored { ⟦<FileStore<R> as Store>⟧.unstored result ≡ nothing }
         ensures failure { failure_of result ≡ None }
         ensures unwritten { IsFalse (is_written_of result) }
     {
@@ -80,6 +83,7 @@ where
                 last: None,
             },
             synced: false,
+            unstored: Unstored::nothing(),
             is_written: false,
         }
     }
@@ -125,6 +129,8 @@ where
     ghost write_faults = { λ s. s.faults.writes };
 
     ghost synced = { λ s. s.synced };
+
+    ghost unstored = { λ s. s.unstored };
 
     ghost lends = { true };
 
@@ -180,36 +186,54 @@ where
 
     fn write_at(&mut self, place: u64, bytes: &[u8]) -> Result<(), Failed> {
         self.synced = false;
+        let size = self.size();
         let written = system_file::write(&self.rt, &mut self.system, place, bytes);
+        self.writes -= 1;
+        let Some(failure) = written.failure else {
+            self.unstored.write(size, place, bytes.len() as u64);
+            self.is_written = is_either(self.is_written, bytes.len() > 0);
+            if let Some(held) = &mut self.held {
+                held.pieces.put_in(place, bytes);
+            }
+            return Ok(());
+        };
+        let failed = self.faults.of_writing(failure);
+        if written.count == 0 {
+            return Err(failed);
+        }
+        self.unstored.write(size, place, written.count as u64);
+        self.is_written = true;
         if let Some(held) = &mut self.held {
             held.pieces.put_in(place, &bytes[..written.count]);
         }
-        self.writes -= 1;
-        self.is_written = is_either(self.is_written, written.count > 0);
-        match written.failure {
-            None => Ok(()),
-            Some(failure) => Err(self.faults.of_writing(failure)),
-        }
+        Err(failed)
     }
 
     fn write_page(&mut self, place: u64, mut page: Vec<u8>, count: usize) -> Result<(), Vec<u8>> {
         self.synced = false;
+        let size = self.size();
         let front = &page[..count];
         let written = system_file::write(&self.rt, &mut self.system, place, front);
         self.writes -= 1;
-        self.is_written = is_either(self.is_written, written.count > 0);
-        if let Some(failure) = written.failure {
-            self.faults.of_writing(failure);
+        let Some(failure) = written.failure else {
+            self.unstored.write(size, place, count as u64);
+            self.is_written = is_either(self.is_written, count > 0);
             if let Some(held) = &mut self.held {
-                held.pieces.put_in(place, &front[..written.count]);
+                page.truncate(count);
+                held.pieces.put_page(place, page);
             }
+            return Ok(());
+        };
+        self.faults.of_writing(failure);
+        if written.count == 0 {
             return Err(page);
         }
+        self.unstored.write(size, place, written.count as u64);
+        self.is_written = true;
         if let Some(held) = &mut self.held {
-            page.truncate(count);
-            held.pieces.put_page(place, page);
+            held.pieces.put_in(place, &front[..written.count]);
         }
-        Ok(())
+        Err(page)
     }
 
     fn set_len(&mut self, n: u64) -> Result<(), Failed> {
@@ -218,6 +242,7 @@ where
         if let Err(failure) = system_file::cut(&self.rt, &mut self.system, length, n) {
             return Err(self.faults.of_writing(failure));
         }
+        self.unstored.cut(length, n);
         if let Some(held) = &mut self.held {
             held.pieces.truncate(n);
         }
@@ -232,7 +257,12 @@ where
             return Err(self.faults.of_writing(failure));
         }
         self.synced = true;
+        self.unstored = Unstored::nothing();
         Ok(())
+    }
+
+    fn unstored(&self) -> Unstored {
+        self.unstored
     }
 }
 

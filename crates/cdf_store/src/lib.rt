@@ -17,6 +17,7 @@ mod std_streams;
 mod store;
 mod sure_source;
 mod system_error;
+mod unstored;
 mod writing;
 
 pub use copy::{copy_from, put_in};
@@ -35,4 +36,5 @@ pub use std_streams::{StdSink, StdSource};
 pub use store::{AttachError, Store};
 pub use sure_source::SureSource;
 pub use system_error::SystemError;
+pub use unstored::Unstored;
 pub use writing::write_all;

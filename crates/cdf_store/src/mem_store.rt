@@ -7,11 +7,12 @@ ghost use Rattle.cdf_store.specs.Named.{lookup, with_file};
 ghost use Rattle.cdf_store.specs.Disk.{Disk};
 ghost use Rattle.cdf_store.specs.MemFile.{file_at, same_is_some};
 ghost use Rattle.cdf_store.specs.MemFiles.{held_of, name_of, room_of};
+ghost use Rattle.cdf_store.specs.Unstored.{nothing};
 
 use crate::copy::copy_from;
 use crate::mem_files::MemFiles;
 use crate::plan::Plan;
-use crate::{AttachError, Failed, Store};
+use crate::{AttachError, Failed, Store, Unstored};
 use std::alloc::{AllocError, Global};
 
 /// A store in memory, which tells everything. Chosen calls fail, and a failing write writes nothing.
@@ -26,6 +27,7 @@ pub struct MemStore {
     read_faults: u64,
     write_faults: u64,
     synced: bool,
+    unstored: Unstored,
     ghost has_writes: { vec_len touched + writes ≤ vec_capacity touched },
     ghost has_room: { end ≤ room_of files },
 }
@@ -43,6 +45,7 @@ impl MemStore {
         ensures calls { calls_of result ≡ 0 }
         ensures failing { failing_of result ≡ [] }
         ensures synced { ⟦<MemStore as Store>⟧.synced result ≡ false }
+        ensures unstored { ⟦<MemStore as Store>⟧.unstored result ≡ nothing }
     {
         MemStore {
             files: MemFiles::new(alloc),
@@ -54,6 +57,7 @@ impl MemStore {
             read_faults: 0,
             write_faults: 0,
             synced: false,
+            unstored: Unstored::nothing(),
         }
     }
 
@@ -69,6 +73,7 @@ impl MemStore {
         ensures taken { ⟦<MemStore as Store>⟧.taken self.new ≡ ⟦<MemStore as Store>⟧.taken self.old }
         ensures read { ⟦<MemStore as Store>⟧.read_faults self.new ≡ ⟦<MemStore as Store>⟧.read_faults self.old }
         ensures write { ⟦<MemStore as Store>⟧.write_faults self.new ≡ ⟦<MemStore as Store>⟧.write_faults self.old }
+        ensures unstored { ⟦<MemStore as Store>⟧.unstored self.new ≡ ⟦<MemStore as Store>⟧.unstored self.old }
         ensures calls { calls_of self.new ≡ calls_of self.old }
         ensures failing { failing_of self.new ≡ failing_of self.old }
     {
@@ -95,6 +100,7 @@ impl MemStore {
         ensures spare { ⟦<MemStore as Store>⟧.spare self.new ≡ ⟦<MemStore as Store>⟧.spare self.old }
         ensures read { ⟦<MemStore as Store>⟧.read_faults self.new ≡ ⟦<MemStore as Store>⟧.read_faults self.old }
         ensures write { ⟦<MemStore as Store>⟧.write_faults self.new ≡ ⟦<MemStore as Store>⟧.write_faults self.old }
+        ensures unstored { ⟦<MemStore as Store>⟧.unstored self.new ≡ ⟦<MemStore as Store>⟧.unstored self.old }
     {
         self.plan.fail_at(call)
     }
@@ -130,6 +136,8 @@ impl Store for MemStore {
     ghost write_faults = { write_faults_of };
 
     ghost synced = { λ s. s.synced };
+
+    ghost unstored = { λ s. s.unstored };
 
     ghost lends = { false };
 
@@ -186,6 +194,8 @@ impl Store for MemStore {
             self.write_faults = self.write_faults.saturating_add(1);
             return Err(Failed);
         }
+        let size = self.size();
+        self.unstored.write(size, place, bytes.len() as u64);
         self.files.write(place as usize, bytes);
         self.writes -= 1;
         self.touched.push((place, bytes.len() as u64)).unwrap();
@@ -198,6 +208,8 @@ impl Store for MemStore {
             self.write_faults = self.write_faults.saturating_add(1);
             return Err(page);
         }
+        let size = self.size();
+        self.unstored.write(size, place, count as u64);
         self.files.write(place as usize, &page[..count]);
         self.writes -= 1;
         self.touched.push((place, count as u64)).unwrap();
@@ -210,6 +222,8 @@ impl Store for MemStore {
             self.write_faults = self.write_faults.saturating_add(1);
             return Err(Failed);
         }
+        let size = self.size();
+        self.unstored.cut(size, n);
         self.files.cut(n as usize);
         self.writes -= 1;
         Ok(())
@@ -221,6 +235,11 @@ impl Store for MemStore {
             self.write_faults = self.write_faults.saturating_add(1);
             return Err(Failed);
         }
+        self.unstored = Unstored::nothing();
         Ok(())
+    }
+
+    fn unstored(&self) -> Unstored {
+        self.unstored
     }
 }

@@ -8,8 +8,9 @@ ghost use Rattle.cdf_store.specs.Attaching.{is_failed};
 ghost use Rattle.cdf_store.specs.Named.{Allows, AttachesIn, found_or_made, lookup};
 ghost use Rattle.cdf_store.specs.Reading.{ReadsAt, Counts};
 ghost use Rattle.cdf_store.specs.Disk.{Disk, IsWhole, Spare, Spent, WrittenPart, cut, file_of, written};
+ghost use Rattle.cdf_store.specs.Unstored.{WritesInPart, after_cut, after_write, nothing};
 
-use crate::Failed;
+use crate::{Failed, Unstored};
 use std::alloc::AllocError;
 
 /// Why no file was attached.
@@ -33,6 +34,8 @@ impl From<AllocError> for AttachError {
 
 /// A device with named files, of which at most one is attached.
 pub trait Store {
+    ghost use Rattle.cdf_store.specs.declared.unstored.Unstored.{Unstored};
+
     /// The type of what stands beneath the device.
     ghost Under: { Type 0 };
 
@@ -53,6 +56,9 @@ pub trait Store {
 
     /// Whether the attached file is stored as it stands: `sync` alone makes it so, and a write or a cut ends it.
     ghost synced: { Self → Bool };
+
+    /// What was done to the attached file since it was stored: writes and cuts add to it, and `sync` alone clears it.
+    ghost unstored: { Self → Unstored };
 
     /// Whether the device has the bytes of the attached file in memory and lends them.
     ghost lends: { Bool };
@@ -87,6 +93,7 @@ pub trait Store {
             result }
         ensures write { write_faults self.new ≡ write_faults self.old }
         ensures synced { IsTrue (synced self.new) → IsTrue (synced self.old) }
+        ensures unstored { unstored self.new ≡ unstored self.old }
         ensures also { also self.old self.new (Some (is_failed result)) };
 
     /// Makes room for so many writes and cuts, and for writes up to this end of the file. They then take no memory.
@@ -100,6 +107,7 @@ pub trait Store {
         ensures read { read_faults self.new ≡ read_faults self.old }
         ensures write { write_faults self.new ≡ write_faults self.old }
         ensures synced { IsTrue (synced self.new) → IsTrue (synced self.old) }
+        ensures unstored { unstored self.new ≡ unstored self.old }
         ensures also { also self.old self.new None };
 
     /// How many bytes the attached file has, and 0 where there is none.
@@ -116,6 +124,7 @@ pub trait Store {
         ensures cause { HasCause (read_faults self.old) (read_faults self.new) result }
         ensures write { write_faults self.new ≡ write_faults self.old }
         ensures synced { IsTrue (synced self.new) → IsTrue (synced self.old) }
+        ensures unstored { unstored self.new ≡ unstored self.old }
         ensures also { also self.old self.new (Some (is_err result)) };
 
     /// Lends bytes of the attached file, which lie in one page of 65,536 bytes, where the device has them in memory, so that they
@@ -141,6 +150,8 @@ pub trait Store {
         ensures cause { HasCause (write_faults self.old) (write_faults self.new) result }
         ensures read { read_faults self.new ≡ read_faults self.old }
         ensures unsynced { IsFalse (synced self.new) }
+        ensures unstored { OnOk result (unstored self.new ≡ after_write (length (file_of (disk self.old))) place (length bytes.now) (unstored self.old)) }
+        ensures left { OnErr result (WritesInPart place (length bytes.now) (disk self.old) (disk self.new) (unstored self.old) (unstored self.new)) }
         ensures also { also self.old self.new (Some (is_err result)) };
 
     /// Writes the first `count` bytes of a page of 65,536 bytes, as `write_at` does, and may keep the page, so that they need not
@@ -161,6 +172,8 @@ pub trait Store {
         ensures cause { HasCause (write_faults self.old) (write_faults self.new) result }
         ensures read { read_faults self.new ≡ read_faults self.old }
         ensures unsynced { IsFalse (synced self.new) }
+        ensures unstored { OnOk result (unstored self.new ≡ after_write (length (file_of (disk self.old))) place count (unstored self.old)) }
+        ensures left { OnErr result (WritesInPart place count (disk self.old) (disk self.new) (unstored self.old) (unstored self.new)) }
         ensures also { also self.old self.new (Some (is_err result)) };
 
     /// Cuts the attached file to `n` bytes. It takes no memory.
@@ -175,6 +188,8 @@ pub trait Store {
         ensures cause { HasCause (write_faults self.old) (write_faults self.new) result }
         ensures read { read_faults self.new ≡ read_faults self.old }
         ensures unsynced { IsFalse (synced self.new) }
+        ensures unstored { OnOk result (unstored self.new ≡ after_cut (length (file_of (disk self.old))) n (unstored self.old)) }
+        ensures left { OnErr result (unstored self.new ≡ unstored self.old) }
         ensures also { also self.old self.new (Some (is_err result)) };
 
     /// Has the attached file stored, so that it outlasts the machine's next stop. It takes no memory, and none of the writes for
@@ -183,11 +198,17 @@ pub trait Store {
         requires held { IsSome (disk self.old).held }
         ensures disk { disk self.new ≡ disk self.old }
         ensures synced { IsTrue (synced self.new) ↔ IsOk result }
+        ensures stored { OnOk result (unstored self.new ≡ nothing) }
+        ensures left { OnErr result (unstored self.new ≡ unstored self.old) }
         ensures spare { spare self.new ≡ spare self.old }
         ensures taken { taken self.new ≡ taken self.old }
         ensures cause { HasCause (write_faults self.old) (write_faults self.new) result }
         ensures read { read_faults self.new ≡ read_faults self.old }
         ensures also { also self.old self.new (Some (is_err result)) };
+
+    /// What was done to the attached file since it was stored.
+    fn unstored(&self) -> Unstored
+        ensures { result ≡ unstored self.now };
 
     /// A file is attached under a name. Where the device tells its files, no name stands twice, and the attached file is the
     /// one of its name.
