@@ -12,11 +12,12 @@ ghost use Rattle.cdf_journal.specs.Opening.{HasOne, IsBadLog, IsRecovered, Rests
 ghost use Rattle.cdf_journal.specs.Ranges.{IsOldBut, reaches};
 ghost use Rattle.cdf_journal.specs.Stages.{AtRest, IsOldOrNew};
 ghost use Rattle.cdf_journal.specs.Standing.{disk_with, is_whole};
+ghost use Rattle.cdf_store.specs.Unstored.{after_write};
 
 use crate::opening::open_file;
 use crate::saving::save;
 use crate::{Disk, JournalError, Range};
-use cdf_store::{AttachError, Failed, Store, copy_from, put_in};
+use cdf_store::{AttachError, Failed, Store, Unstored, copy_from, put_in};
 use std::alloc::{AllocError, Global};
 
 /// A file and its log as a store. The file's bytes stand in memory, with the writes and cuts that were made since it was opened, and
@@ -32,6 +33,7 @@ pub struct JournalStore<D: Disk> {
     /// Whether nothing was written or cut since the file was opened.
     is_untouched: bool,
     is_synced: bool,
+    unstored: Unstored,
     writes: u64,
     end: u64,
     ghost has_writes: { vec_len kept + writes ≤ vec_capacity kept },
@@ -86,6 +88,7 @@ impl<D: Disk> JournalStore<D> {
                 is_attached: false,
                 is_untouched: true,
                 is_synced: false,
+                unstored: Unstored::nothing(),
                 writes: 0,
                 end: 0,
             }),
@@ -105,6 +108,7 @@ impl<D: Disk> JournalStore<D> {
             is_attached: _,
             is_untouched: _,
             is_synced: _,
+            unstored: _,
             writes: _,
             end: _,
         } = self;
@@ -146,8 +150,11 @@ impl<D: Disk> JournalStore<D> {
         ensures name { self.new.name ≡ self.old.name }
         ensures attached { self.new.is_attached ≡ self.old.is_attached }
         ensures synced { self.new.is_synced ≡ false }
+        ensures unstored { self.new.unstored ≡ after_write (length self.old.file.items) place (length bytes.now) self.old.unstored }
         ensures disk { self.new.disk ≡ self.old.disk }
     {
+        let size = self.file.len() as u64;
+        self.unstored.write(size, place as u64, bytes.len() as u64);
         put_in(&mut self.file, place, bytes);
         self.kept
             .push(Range {
@@ -194,6 +201,8 @@ impl<D: Disk> Store for JournalStore<D> {
     ghost write_faults = { λ _. 0 };
 
     ghost synced = { λ s. s.is_synced };
+
+    ghost unstored = { λ s. s.unstored };
 
     ghost lends = { false };
 
@@ -250,6 +259,8 @@ impl<D: Disk> Store for JournalStore<D> {
     }
 
     fn set_len(&mut self, n: u64) -> Result<(), Failed> {
+        let size = self.file.len() as u64;
+        self.unstored.cut(size, n);
         self.file.truncate(n as usize);
         self.writes -= 1;
         self.is_untouched = false;
@@ -259,6 +270,11 @@ impl<D: Disk> Store for JournalStore<D> {
 
     fn sync(&mut self) -> Result<(), Failed> {
         self.is_synced = true;
+        self.unstored = Unstored::nothing();
         Ok(())
+    }
+
+    fn unstored(&self) -> Unstored {
+        self.unstored
     }
 }
