@@ -188,8 +188,8 @@ fn a_page_across_the_end_is_written_in_two_parts(rt: HostRuntime) -> Result<(), 
     let mut area = growing_area(rt.alloc(), [0, 0])?;
     save(&mut area, Some([9; 16]))?;
     let store = area.into_store();
-    // Parts of three pages and the tail lie past the end, and a part of a page before it.
-    assert_eq!(rt; store.calls(), 2 + 3 + 1 + 1);
+    // Parts of three pages and the tail lie past the end, and are stored before a part of a page before it is written.
+    assert_eq!(rt; store.calls(), 2 + 3 + 1 + 1 + 1);
     let Some(bytes) = store.file(NAME) else {
         return Err(Fail::new("there is no file"));
     };

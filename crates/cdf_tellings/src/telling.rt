@@ -103,10 +103,21 @@ fn words_of_status(status: Status) -> &'static str {
     }
 }
 
+/// The word for what became of a file whose saving failed, which a program can look for.
+fn mark_of_left(left: Option<Left>, is_unwritten: bool) -> &'static str {
+    match left {
+        Some(Left::Unsynced) => "unstored: ",
+        Some(Left::Old) => "unchanged: ",
+        _ if is_unwritten => "unchanged: ",
+        Some(Left::Part) | None => "partly: ",
+    }
+}
+
 /// What became of a file whose saving failed.
 fn words_of_left(left: Option<Left>, is_unwritten: bool) -> &'static str {
     match left {
-        Some(Left::Unsynced) => "it was written, but may not be stored",
+        Some(Left::Unsynced) =>
+            "it was written, but may not be stored, and is to be written anew from a copy",
         Some(Left::Old) => "nothing was changed",
         _ if is_unwritten => "nothing was changed",
         Some(Left::Part) | None =>
@@ -192,6 +203,7 @@ impl<'a> Telling<'a> {
                 f.write_str("; nothing was saved")
             }
             Status::StoreWriteFault => {
+                f.write_str(mark_of_left(self.notes.left, self.news.is_unwritten))?;
                 f.write_str(words_of_status(self.status))?;
                 self.write_cause(f)?;
                 f.write_str("; ")?;

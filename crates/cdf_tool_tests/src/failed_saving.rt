@@ -65,26 +65,20 @@ fn a_file_that_cannot_grow_keeps_its_bytes(rt: HostRuntime) -> Result<(), Fail> 
     assert_eq!(rt; (sound.status, sound.notes.left), (0, None));
     assert!(rt; sound.file.len() > old.file.len());
 
-    // the last three calls write past the old end, write before it, and have the file stored
-    let growth = sound.calls.saturating_sub(2);
-    let kept = run_failing(alloc, Some(&old.file), GROWS, &[growth])?;
-    assert_eq!(rt; (kept.status, kept.notes.left), (6, Some(Left::Old)));
-    assert_eq!(rt; kept.file, old.file);
+    // the last four calls write past the old end, have that stored, write before it, and have the file stored
+    let growth = sound.calls.saturating_sub(3);
+    let stored = growth.saturating_add(1);
+    let overwrite = growth.saturating_add(2);
+    for call in [growth, stored, overwrite] {
+        let kept = run_failing(alloc, Some(&old.file), GROWS, &[call])?;
+        assert_eq!(rt; (kept.status, kept.notes.left), (6, Some(Left::Old)));
+        assert_eq!(rt; kept.file, old.file);
 
-    let cut = growth.saturating_add(1);
-    let part = run_failing(alloc, Some(&old.file), GROWS, &[growth, cut])?;
-    assert_eq!(rt; (part.status, part.notes.left), (6, Some(Left::Part)));
-
-    let overwrite = run_failing(alloc, Some(&old.file), GROWS, &[cut])?;
-    assert_eq!(rt;
-        (overwrite.status, overwrite.notes.left),
-        (6, Some(Left::Part))
-    );
-    assert_eq!(rt; overwrite.file.len(), sound.file.len());
-    assert_eq!(rt;
-        overwrite.file.get(..old.file.len()),
-        Some(old.file.as_slice())
-    );
+        let cut = call.saturating_add(1);
+        let part = run_failing(alloc, Some(&old.file), GROWS, &[call, cut])?;
+        assert_eq!(rt; (part.status, part.notes.left), (6, Some(Left::Part)));
+        assert_eq!(rt; part.file.get(..old.file.len()), Some(old.file.as_slice()));
+    }
     Ok(())
 }
 
@@ -96,8 +90,9 @@ fn a_file_that_is_not_stored_is_the_new_one(rt: HostRuntime) -> Result<(), Fail>
     assert_eq!(rt; sound.status, 0);
 
     let overwrite = sound.calls.saturating_sub(1);
-    let part = run_failing(alloc, Some(&old.file), RENAMES, &[overwrite])?;
-    assert_eq!(rt; (part.status, part.notes.left), (6, Some(Left::Part)));
+    let kept = run_failing(alloc, Some(&old.file), RENAMES, &[overwrite])?;
+    assert_eq!(rt; (kept.status, kept.notes.left), (6, Some(Left::Old)));
+    assert_eq!(rt; kept.file, old.file);
 
     let unsynced = run_failing(alloc, Some(&old.file), RENAMES, &[sound.calls])?;
     assert_eq!(rt;
