@@ -30,6 +30,7 @@ pub use file_store::{
 pub use mem_sink::MemSink;
 pub use mem_source::MemSource;
 pub use mem_store::MemStore;
+pub use plan::Plan;
 pub use sink::Sink;
 pub use source::Source;
 pub use std_streams::{StdSink, StdSource};

@@ -1,0 +1,17 @@
+-- What a disk in memory holds.
+use Rattle.std.specs.Prelude.{ℕ, List}
+use Rattle.cdf_mem_disk.specs.declared.mem_disk.MemDisk.{MemDisk}
+use Rattle.cdf_journal.specs.Crashes.{Parts}
+use Rattle.cdf_mem_disk.specs.Events.{crashed}
+use Rattle.cdf_mem_disk.specs.MemParts.{parts_in}
+
+-- how many calls were made, and the numbers of those that fail
+abbrev pub calls_of : MemDisk → ℕ
+calls_of disk = disk.plan.calls
+
+abbrev pub failing_of : MemDisk → List ℕ
+failing_of disk = disk.plan.failing.items
+
+-- what is left where a crash keeps the first so many writes and cuts since the parts were stored, and takes the others back
+abbrev pub left_by : ℕ → MemDisk → Parts
+left_by keep disk = crashed keep (parts_in disk.past.base) disk.past.history
