@@ -4,7 +4,7 @@ ghost use Rattle.std.specs.Prelude.{◌≡◌, ◌≤◌, ◌+◌, ◌++◌, ◌
 ghost use Rattle.std.proofs.Common.{inl};
 ghost use Rattle.std.specs.Option.{ForSome};
 ghost use Rattle.cdf_base.specs.Bytes.{put};
-ghost use Rattle.cdf_base.specs.Causes.{HasCause, Rose};
+ghost use Rattle.cdf_base.specs.Causes.{HasCause, HasCauseOf, Rose};
 ghost use Rattle.cdf_journal.specs.declared.disk.Part.TheVariants.{Log, Main};
 ghost use Rattle.cdf_journal.specs.Crashes.{LeavesOnly, Parts, Settles};
 ghost use Rattle.cdf_journal.specs.Log.{recovered};
@@ -75,7 +75,7 @@ impl<D: Disk> JournalStore<D> {
         ensures bad_log { IfErr result (λ refusal. refusal.why ≡ JournalError.BadLog → IfSome (D.seen disk) (λ parts. IsBadLog parts.main parts.log)) }
         ensures journal { OnOk result (ForSome (D.seen disk) (λ parts. IsBadLog parts.main parts.log → ⊥)) }
         ensures fault { IfErr result (λ refusal. refusal.why ≡ JournalError.Fault → Rose (D.faults disk) (D.faults refusal.disk)) }
-        ensures counted { IfErr result (λ refusal. D.faults disk ≤ D.faults refusal.disk) }
+        ensures counted { IfErr result (λ refusal. HasCauseOf {T = Unit {0}} JournalError.Fault (D.faults disk) (D.faults refusal.disk) (Err refusal.why)) }
         ensures faultless { IfOk result (λ store. D.faults (⟦<JournalStore<D> as Store>⟧.disk store).under ≡ D.faults disk) }
     {
         let mut disk = disk;
