@@ -1,7 +1,7 @@
 //! A store over a file and its log.
 
 ghost use Rattle.std.specs.Prelude.{◌≡◌, ◌≤◌, ◌+◌, ◌++◌, ◌∷◌, ℕ, List, [], length, true, false, refl, string_bytes, vec_len, vec_capacity, if◌then◌else◌, IfErr, IfOk, IfSome, IsErrOf, IsFalse, IsOk, IsTrue, OnOk, None, Some};
-ghost use Rattle.std.proofs.Common.{inl};
+ghost use Rattle.std.proofs.Common.{inr};
 ghost use Rattle.std.specs.Option.{ForSome};
 ghost use Rattle.cdf_base.specs.Bytes.{put};
 ghost use Rattle.cdf_base.specs.Causes.{HasCause, HasCauseOf, Rose};
@@ -16,6 +16,7 @@ ghost use Rattle.cdf_store.specs.Unstored.{after_write};
 
 use crate::opening::open_file;
 use crate::saving::save;
+use crate::slices::{behind, front};
 use crate::{Disk, JournalError, Range};
 use cdf_store::{AttachError, Failed, Store, Unstored, copy_from, put_in};
 use std::alloc::{AllocError, Global};
@@ -204,11 +205,11 @@ impl<D: Disk> Store for JournalStore<D> {
 
     ghost unstored = { λ s. s.unstored };
 
-    ghost lends = { false };
+    ghost lends = { true };
 
     ghost whole = { λ s. is_whole (string_bytes s.name) s.file.items s.is_attached s.disk };
 
-    ghost untold = { λ _. inl refl };
+    ghost untold = { λ _. inr refl };
 
     fn attach(&mut self, name: &str, make: bool) -> Result<Option<u64>, AttachError> {
         self.is_attached = true;
@@ -243,9 +244,8 @@ impl<D: Disk> Store for JournalStore<D> {
         Ok(copy_from(&self.file, place, out))
     }
 
-    // Nothing: a read copies what is asked for.
-    fn lend(&self, _place: u64, _count: usize) -> Option<&[u8]> {
-        None
+    fn lend(&self, place: u64, count: usize) -> Option<&[u8]> {
+        Some(front(behind(&self.file, place as usize), count))
     }
 
     fn write_at(&mut self, place: u64, bytes: &[u8]) -> Result<(), Failed> {
