@@ -7,3 +7,4 @@ pub mod Stages
 pub mod Opening
 pub mod Standing
 pub mod FileDisk
+pub mod Touched

@@ -54,6 +54,8 @@ pub struct JournalRefusal<D> {
 }
 
 impl<D: Disk> JournalStore<D> {
+    ghost use Rattle.cdf_journal.specs.Touched.{is_untouched_of};
+
     /// Attaches the file of this name and its log, and mends the file where the log is open. With `make` an absent file is made.
     pub fn open(
         alloc: Global,
@@ -62,6 +64,7 @@ impl<D: Disk> JournalStore<D> {
         make: bool,
     ) -> Result<JournalStore<D>, JournalRefusal<D>>
         ensures opened { IfOk result (λ store. HasOne name.now (⟦<JournalStore<D> as Store>⟧.disk store)) }
+        ensures untouched { IfOk result (λ store. IsTrue (is_untouched_of store)) }
 
         // Over a disk that tells what reads give, and on which nothing is pending: a crash at any moment leaves the file as the log mends
         // it, and so does the call, where it goes well.
@@ -123,6 +126,11 @@ impl<D: Disk> JournalStore<D> {
         ensures any_moment { (parts : Parts) → AtRest D.seen D.may_leave (⟦<JournalStore<D> as Store>⟧.disk self.old).under parts → LeavesOnly D.moment D.left_since (⟦<JournalStore<D> as Store>⟧.disk self.old).under (⟦<JournalStore<D> as Store>⟧.disk self.new).under (IsOldOrNew parts.main (sole_file (⟦<JournalStore<D> as Store>⟧.disk self.old))) }
         ensures saved { OnOk result ((parts : Parts) → AtRest D.seen D.may_leave (⟦<JournalStore<D> as Store>⟧.disk self.old).under parts → Rests D.seen D.may_leave (⟦<JournalStore<D> as Store>⟧.disk self.new).under (sole_file (⟦<JournalStore<D> as Store>⟧.disk self.old))) }
         ensures file { sole_file (⟦<JournalStore<D> as Store>⟧.disk self.new) ≡ sole_file (⟦<JournalStore<D> as Store>⟧.disk self.old) }
+
+        // Where nothing was written or cut, nothing is called.
+        ensures idle { IsTrue (is_untouched_of self.old) → self.new ≡ self.old }
+        ensures idle_ok { IsTrue (is_untouched_of self.old) → IsOk result }
+        ensures touched { is_untouched_of self.new ≡ is_untouched_of self.old }
         ensures cause { HasCause (D.faults (⟦<JournalStore<D> as Store>⟧.disk self.old).under) (D.faults (⟦<JournalStore<D> as Store>⟧.disk self.new).under) result }
     {
         if self.is_untouched {
@@ -189,6 +197,8 @@ fn make_room(
 }
 
 impl<D: Disk> Store for JournalStore<D> {
+    ghost use Rattle.cdf_journal.specs.Touched.{TouchesByWriting};
+
     ghost Under = { D };
 
     ghost disk = { λ s. disk_with (string_bytes s.name) s.file.items s.is_attached s.disk };
@@ -206,6 +216,8 @@ impl<D: Disk> Store for JournalStore<D> {
     ghost unstored = { λ s. s.unstored };
 
     ghost lends = { true };
+
+    ghost also = { TouchesByWriting };
 
     ghost whole = { λ s. is_whole (string_bytes s.name) s.file.items s.is_attached s.disk };
 
