@@ -123,6 +123,7 @@ partly_all main body f =
     record {
       elsewhere = λ i inn there none. get_or-take n (patched main body.members) i 0 (omega (arith, length-take n (patched main body.members))) ∙ patched_elsewhere main n body.members f i inn none;
       least = omega (arith, length-take n (patched main body.members));
+      most = omega (arith, length-take n (patched main body.members));
     }
 
 pub again : (main : List ℕ) (body : Body) → fits (length main) body.new_length body.members ≡ true → filled (filled main body) body ≡ filled main body

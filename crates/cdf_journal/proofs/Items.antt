@@ -33,10 +33,10 @@ within_next file ranges k d lt i le before = within_all file ranges k i (subst (
 
 -- it fits, and so do those behind it
 pub fits_next : (file : List ℕ) (reached : ℕ) (ranges : List Range) (k : ℕ) (d : Range) → k < length ranges → fits reached (length file) (members_of file (drop k ranges)) ≡ true
-    → ((member_of file (get_or ranges k d)).0 ≤ reached) × (fits (max reached ((member_of file (get_or ranges k d)).0 + length (member_of file (get_or ranges k d)).1)) (length file) (members_of file (drop (k + 1) ranges)) ≡ true)
+    → ((member_of file (get_or ranges k d)).0 ≤ reached) × (fits (max reached ((member_of file (get_or ranges k d)).0 + length (member_of file (get_or ranges k d)).1)) (length file) (members_of file (drop (k + 1) ranges)) ≡ true) × ((member_of file (get_or ranges k d)).0 + length (member_of file (get_or ranges k d)).1 ≤ length file)
 fits_next file reached ranges k d lt f =
     let x = get_or ranges k d in
     let here : fits reached (length file) (member_of file x ∷ members_of file (drop (k + 1) ranges)) ≡ true = subst (λ (rs : List Range). fits reached (length file) (members_of file rs) ≡ true) (next_of ranges k d lt) f in
     let p = and_parts (nat_le (member_of file x).0 reached && nat_le ((member_of file x).0 + length (member_of file x).1) (length file)) (fits (max reached ((member_of file x).0 + length (member_of file x).1)) (length file) (members_of file (drop (k + 1) ranges))) here in
     let q = and_parts (nat_le (member_of file x).0 reached) (nat_le ((member_of file x).0 + length (member_of file x).1) (length file)) p.0 in
-    (leb-true (member_of file x).0 reached q.0, p.1)
+    (leb-true (member_of file x).0 reached q.0, p.1, leb-true ((member_of file x).0 + length (member_of file x).1) (length file) q.1)

@@ -112,6 +112,7 @@ module _ (main : List ℕ) (body : Body) (fit : fits (length main) body.new_leng
   partly_of c p = record {
     elsewhere = λ i lt there none. p.elsewhere i lt there (λ w. none (within_members (filled main body) i body.members w));
     least = let l = p.least in omega (arith, l, long_filled);
+    most = let m = p.most in omega (arith, m, long_filled);
   }
 
 -- ---- what was read, as it is lent to the calls

@@ -7,7 +7,7 @@ use Rattle.std.proofs.lemmas.Option.{same_Some}
 use Rattle.std.specs.declared.option.Option.{Option}
 use Rattle.std.specs.Prelude.{IfSome}
 use Rattle.cdf_journal.specs.Crashes.{InPart, Parts, Shortened, Torn}
-use Rattle.cdf_journal.specs.Log.{Body, Grown, Member, PartlyFilled, is_within}
+use Rattle.cdf_journal.specs.Log.{Body, Grown, PartlyFilled, is_within}
 use Rattle.cdf_journal.specs.Stages.{IsLog, IsShutOrOpen, IsSmall, KeepsGate}
 use Rattle.cdf_journal.specs.declared.disk.Part.TheVariants.{Log, Main}
 use Rattle.cdf_journal.proofs.Journalled.{is_shut, says_open, torn_gate}
@@ -64,35 +64,37 @@ same_back n c d e i le =
     let at : n + (i - n) ≡ i = omega arith in
     ap (slice_index c) (sym at) ∙ sym (get_or-drop n c (i - n) 0) ∙ ap (λ (l : List ℕ). slice_index l (i - n)) e ∙ get_or-drop n d (i - n) 0 ∙ ap (slice_index d) at
 
-grown_more : (old d c : List ℕ) (members : List Member) (place n : ℕ) → Grown members old d → ((i : ℕ) → place ≤ i → i < place + n → is_within i members) → Torn place n d c → Grown members old c
-grown_more old d c members place n g one t = record {
+grown_more : (old d c : List ℕ) (body : Body) (place n : ℕ) → Grown body old d → ((i : ℕ) → place ≤ i → i < place + n → is_within i body.members) → place + n ≤ body.new_length → Torn place n d c → Grown body old c
+grown_more old d c body place n g one end t = record {
   elsewhere = λ i inn none. by i inn none (cases_lt i place) (cases_lt i (place + n));
   longer = let a = g.longer in let n = t.no_shorter in omega arith;
+  most = let a = g.most in let n = t.no_longer in omega (arith, a, n, end);
 }
   where
-    by : (i : ℕ) → i < length old → (is_within i members → ⊥) → (i < place) ⊎ (place ≤ i) → (i < place + n) ⊎ (place + n ≤ i) → slice_index c i ≡ slice_index old i
+    by : (i : ℕ) → i < length old → (is_within i body.members → ⊥) → (i < place) ⊎ (place ≤ i) → (i < place + n) ⊎ (place + n ≤ i) → slice_index c i ≡ slice_index old i
     by i inn none (inl before) r = same_front place c d t.before i before ∙ g.elsewhere i inn none
     by i inn none (inr le) (inl within) = absurd (none (one i le within))
     by i inn none (inr le) (inr past) = same_back (place + n) c d t.after i past ∙ g.elsewhere i inn none
 
-pub main_grown : (members : List Member) (place n : ℕ) → ((i : ℕ) → place ≤ i → i < place + n → is_within i members) → (a b c : Parts) → InPart Main (Grown members) a b → InPart Main (Torn place n) b c → InPart Main (Grown members) a c
-main_grown members place n one a b c g t = (grown_more a.main b.main c.main members place n g.0 one t.0, t.1 ∙ g.1)
+pub main_grown : (body : Body) (place n : ℕ) → ((i : ℕ) → place ≤ i → i < place + n → is_within i body.members) → place + n ≤ body.new_length → (a b c : Parts) → InPart Main (Grown body) a b → InPart Main (Torn place n) b c → InPart Main (Grown body) a c
+main_grown body place n one end a b c g t = (grown_more a.main b.main c.main body place n g.0 one end t.0, t.1 ∙ g.1)
 
-pub not_grown : (members : List Member) (c : Parts) → InPart Main (Grown members) c c
-not_grown members c = (record { elsewhere = λ i inn none. refl; longer = omega arith }, refl)
+pub not_grown : (body : Body) (c : Parts) → InPart Main (Grown body) c c
+not_grown body c = (record { elsewhere = λ i inn none. refl; longer = omega arith; most = omega arith }, refl)
 
 abbrev pub Fills : Body → Parts → Parts → Type 0
 Fills body a b = (b.log ≡ a.log) × PartlyFilled a.main body b.main
 
-pub as_filling : (body : Body) (a b : Parts) → InPart Main (Grown body.members) a b → Fills body a b
-as_filling body a b g = (g.1, record { elsewhere = λ i inn there none. g.0.elsewhere i inn none; least = let l = g.0.longer in omega arith })
+pub as_filling : (body : Body) (a b : Parts) → InPart Main (Grown body) a b → Fills body a b
+as_filling body a b g = (g.1, record { elsewhere = λ i inn there none. g.0.elsewhere i inn none; least = let l = g.0.longer in omega arith; most = g.0.most })
 
-pub as_cut : (body : Body) (a b c : Parts) → InPart Main (Grown body.members) a b → InPart Main (Shortened body.new_length) b c → Fills body a c
+pub as_cut : (body : Body) (a b c : Parts) → InPart Main (Grown body) a b → InPart Main (Shortened body.new_length) b c → Fills body a c
 as_cut body a b c g s = (
   s.1 ∙ g.1,
   record {
     elsewhere = λ i inn there none. ap (λ (l : List ℕ). slice_index l i) (sym s.0.front) ∙ get_or-take (length c.main) b.main i 0 there ∙ g.0.elsewhere i inn none;
     least = let n = s.0.no_shorter in let l = g.0.longer in omega arith;
+    most = let m = g.0.most in omega (arith, m, ap length s.0.front, length-take (length c.main) b.main);
   },
 )
 
@@ -100,7 +102,7 @@ pub as_synced : (body : Body) (a b c : Parts) → Fills body a b → c ≡ b →
 as_synced body a b c f e = subst (Fills body a) (sym e) f
 
 pub not_filled : (body : Body) (c : Parts) → Fills body c c
-not_filled body c = as_filling body c c (not_grown body.members c)
+not_filled body c = as_filling body c c (not_grown body c)
 
 -- ---- the gate
 

@@ -1,5 +1,5 @@
 -- What stays is torn in no place, and shortened by nothing.
-use Rattle.std.proofs.Common.{List, arith, length, refl, take, ℕ, ◌≡◌}
+use Rattle.std.proofs.Common.{List, arith, length, refl, ℕ}
 use Rattle.std.proofs.lemmas.List.{take_all}
 use Rattle.cdf_journal.specs.Crashes.{InPart, Parts, Shortened, Torn}
 use Rattle.cdf_journal.specs.declared.disk.Part.{Part}

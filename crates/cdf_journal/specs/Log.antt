@@ -69,12 +69,15 @@ abbrev pub is_within : ℕ → List Member → Type 0
 is_within i [] = ⊥
 is_within i ((place, bytes) ∷ more) = ((place ≤ i) × (i < place + length bytes)) ⊎ is_within i more
 
--- a crash in the middle: other bytes only within the members and past the old end, and a length in between
+-- a crash in the middle: other bytes only within the members and past the old end, and a length from the lesser of the old and the new
+-- one to the greater
 pub record PartlyFilled (old : List ℕ) (body : Body) (now : List ℕ) : Type 0 where
   pub elsewhere : (i : ℕ) → i < length old → i < length now → (is_within i body.members → ⊥) → slice_index now i ≡ slice_index old i
   pub least : min (length old) body.new_length ≤ length now
+  pub most : length now ≤ max (length old) body.new_length
 
 -- so far only written, so that it is no shorter
-pub record Grown (members : List Member) (old now : List ℕ) : Type 0 where
-  pub elsewhere : (i : ℕ) → i < length old → (is_within i members → ⊥) → slice_index now i ≡ slice_index old i
+pub record Grown (body : Body) (old now : List ℕ) : Type 0 where
+  pub elsewhere : (i : ℕ) → i < length old → (is_within i body.members → ⊥) → slice_index now i ≡ slice_index old i
   pub longer : length old ≤ length now
+  pub most : length now ≤ max (length old) body.new_length

@@ -13,7 +13,7 @@ use cdf_store::Failed;
 /// Writes what a file is to have in these ranges, one after the other.
 fn write_ranges<D: Disk>(disk: &mut D, file: &[u8], ranges: &[Range]) -> Result<(), Failed>
     requires { fits (D.size disk.old Main) (length file.now) (members_of file.now ranges.now) ≡ true }
-    ensures leads { Leads D.may_leave D.moment D.left_since (InPart Main (Grown (members_of file.now ranges.now))) disk.old disk.new }
+    ensures leads { Leads D.may_leave D.moment D.left_since (InPart Main (Grown (body_of file.now ranges.now))) disk.old disk.new }
     ensures seen { OnOk result ((parts : Parts) → D.seen disk.old ≡ Some parts → D.seen disk.new ≡ Some (with_part parts Main (patched parts.main (members_of file.now ranges.now)))) }
     ensures untold { OnOk result (D.seen disk.old ≡ None → D.seen disk.new ≡ None) }
     ensures reached { OnOk result (length file.now ≤ D.size disk.new Main) }

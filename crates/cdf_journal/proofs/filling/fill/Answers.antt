@@ -12,14 +12,14 @@ use Rattle.cdf_journal.proofs.filling.fill.Goals as goal
 pub returns-in_err-write_ranges-clause-any_moment : goal.returns-in_err-write_ranges-clause-any_moment
 returns-in_err-write_ranges-clause-any_moment g c parts rest =
     let body : Body = body_of c.args.file.now c.args.ranges.now in
-    from_one g.D.Disk.may_leave g.D.Disk.moment g.D.Disk.left_since c.args.disk.now c.write_ranges.new.disk parts (InPart Main (Grown body.members)) (λ x. Fills body parts x) (g.met.D.Disk.only_now c.args.disk.now) rest.durable
-    c.write_ranges.ensures.leads (not_grown body.members parts) (λ x s. as_filling body parts x s)
+    from_one g.D.Disk.may_leave g.D.Disk.moment g.D.Disk.left_since c.args.disk.now c.write_ranges.new.disk parts (InPart Main (Grown body)) (λ x. Fills body parts x) (g.met.D.Disk.only_now c.args.disk.now) rest.durable
+    c.write_ranges.ensures.leads (not_grown body parts) (λ x s. as_filling body parts x s)
 
 pub returns-in_err-cut-clause-any_moment : goal.returns-in_err-cut-clause-any_moment
 returns-in_err-cut-clause-any_moment g c parts rest =
     let body : Body = body_of c.args.file.now c.args.ranges.now in
     let cut : Leads g.D.Disk.may_leave g.D.Disk.moment g.D.Disk.left_since (Fills body) c.args.disk.now c.cut.new.self =
-    went_on g.D.Disk.may_leave g.D.Disk.moment g.D.Disk.left_since c.args.disk.now c.write_ranges.new.disk c.cut.new.self (InPart Main (Grown body.members)) (InPart Main (Shortened body.new_length)) (Fills body)
+    went_on g.D.Disk.may_leave g.D.Disk.moment g.D.Disk.left_since c.args.disk.now c.write_ranges.new.disk c.cut.new.self (InPart Main (Grown body)) (InPart Main (Shortened body.new_length)) (Fills body)
     c.write_ranges.ensures.leads c.cut.ensures.crash c.cut.ensures.time (λ a b s. as_filling body a b s) (λ a b x s t. as_cut body a b x s t) in
     from_one g.D.Disk.may_leave g.D.Disk.moment g.D.Disk.left_since c.args.disk.now c.cut.new.self parts (Fills body) (λ x. Fills body parts x) (g.met.D.Disk.only_now c.args.disk.now) rest.durable cut (not_filled body parts) (λ x s. s)
 
@@ -27,7 +27,7 @@ pub returns-clause-any_moment : goal.returns-clause-any_moment
 returns-clause-any_moment g c parts rest =
     let body : Body = body_of c.args.file.now c.args.ranges.now in
     let cut : Leads g.D.Disk.may_leave g.D.Disk.moment g.D.Disk.left_since (Fills body) c.args.disk.now c.cut.new.self =
-    went_on g.D.Disk.may_leave g.D.Disk.moment g.D.Disk.left_since c.args.disk.now c.write_ranges.new.disk c.cut.new.self (InPart Main (Grown body.members)) (InPart Main (Shortened body.new_length)) (Fills body)
+    went_on g.D.Disk.may_leave g.D.Disk.moment g.D.Disk.left_since c.args.disk.now c.write_ranges.new.disk c.cut.new.self (InPart Main (Grown body)) (InPart Main (Shortened body.new_length)) (Fills body)
     c.write_ranges.ensures.leads c.cut.ensures.crash c.cut.ensures.time (λ a b s. as_filling body a b s) (λ a b x s t. as_cut body a b x s t) in
     let synced : Leads g.D.Disk.may_leave g.D.Disk.moment g.D.Disk.left_since (Fills body) c.args.disk.now c.sync.new.self =
     went_on g.D.Disk.may_leave g.D.Disk.moment g.D.Disk.left_since c.args.disk.now c.cut.new.self c.sync.new.self (Fills body) (λ a b. b ≡ a) (Fills body) cut

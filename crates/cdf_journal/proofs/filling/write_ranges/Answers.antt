@@ -3,8 +3,8 @@ use Rattle.std.proofs.lemmas.Bool.{leb-true}
 use Rattle.std.specs.Option.{option_map}
 use Rattle.cdf_base.specs.Bytes.{put}
 use Rattle.cdf_journal.specs.Crashes.{InPart, Parts, Torn, with_part}
-use Rattle.cdf_journal.specs.Log.{Grown, fits, is_within, patched}
-use Rattle.cdf_journal.specs.Ranges.{member_of, members_of}
+use Rattle.cdf_journal.specs.Log.{Body, Grown, fits, is_within, patched}
+use Rattle.cdf_journal.specs.Ranges.{body_of, member_of, members_of}
 use Rattle.cdf_journal.specs.declared.disk.Part.TheVariants.{Log, Main}
 use Rattle.cdf_journal.specs.declared.range.Range.{Range}
 use Rattle.cdf_journal.proofs.Items.{fits_next, next_of, none_of, within_next}
@@ -21,21 +21,25 @@ write_at-requires g c =
 pub returns-in_err-write_at-clause-leads : goal.returns-in_err-write_at-clause-leads
 returns-in_err-write_at-clause-leads g c =
     let l = c.loop-range in
-    let ms = members_of c.args.file.now c.args.ranges.now in
+    let body : Body = body_of c.args.file.now c.args.ranges.now in
+    let ms = body.members in
     let place = c.place_in.result in
     let n = length c.bytes_of.result.now in
     let within : (i : ℕ) → place ≤ i → i < place + n → is_within i ms =
     λ i le lt. within_next c.args.file.now c.args.ranges.now l.range-index (record { place = 0; count = 0 }) c.loop-range-test.true i (subst (λ (k : ℕ). k ≤ i) c.place_in.ensures le)
     (subst (λ (bytes : List ℕ). i < (member_of c.args.file.now (get_or c.args.ranges.now l.range-index (record { place = 0; count = 0 }))).0 + length bytes) c.bytes_of.ensures (subst (λ (k : ℕ). i < k + n) c.place_in.ensures lt)) in
-    went_on g.D.Disk.may_leave g.D.Disk.moment g.D.Disk.left_since c.args.disk.now l.disk c.write_at.new.self (InPart Main (Grown ms)) (InPart Main (Torn place n)) (InPart Main (Grown ms)) l.invariant.leads c.write_at.ensures.crash c.write_at.ensures.time
-    (λ a b s. s) (main_grown ms place n within)
+    let fit = fits_next c.args.file.now (g.D.Disk.size l.disk Main) c.args.ranges.now l.range-index (record { place = 0; count = 0 }) c.loop-range-test.true l.invariant.fit in
+    let end : place + n ≤ length c.args.file.now = subst (λ (k : ℕ). k ≤ length c.args.file.now) (λ i. sym c.place_in.ensures i + length (sym c.bytes_of.ensures i)) fit.2 in
+    went_on g.D.Disk.may_leave g.D.Disk.moment g.D.Disk.left_since c.args.disk.now l.disk c.write_at.new.self (InPart Main (Grown body)) (InPart Main (Torn place n)) (InPart Main (Grown body)) l.invariant.leads c.write_at.ensures.crash c.write_at.ensures.time
+    (λ a b s. s) (main_grown body place n within end)
 
 pub loop-range-preserved : goal.loop-range-preserved
 loop-range-preserved g c =
     let l = c.loop-range in
     let d : Range = record { place = 0; count = 0 } in
     let x : Range = get_or c.args.ranges.now l.range-index d in
-    let ms = members_of c.args.file.now c.args.ranges.now in
+    let body : Body = body_of c.args.file.now c.args.ranges.now in
+    let ms = body.members in
     let place = c.place_in.result in
     let n = length c.bytes_of.result.now in
     let S = g.D.Disk.size l.disk Main in
@@ -44,10 +48,11 @@ loop-range-preserved g c =
     let within : (i : ℕ) → place ≤ i → i < place + n → is_within i ms =
     λ i le lt. within_next c.args.file.now c.args.ranges.now l.range-index d c.loop-range-test.true i (subst (λ (k : ℕ). k ≤ i) c.place_in.ensures le)
     (subst (λ (bytes : List ℕ). i < (member_of c.args.file.now x).0 + length bytes) c.bytes_of.ensures (subst (λ (k : ℕ). i < k + n) c.place_in.ensures lt)) in
+    let end : place + n ≤ length c.args.file.now = subst (λ (k : ℕ). k ≤ length c.args.file.now) (λ i. sym c.place_in.ensures i + length (sym c.bytes_of.ensures i)) fit.2 in
     record {
       fit = subst (λ (k : ℕ). fits k (length c.args.file.now) (members_of c.args.file.now (drop (l.range-index + 1) c.args.ranges.now)) ≡ true) (sym reach) fit.1;
-      leads = went_on g.D.Disk.may_leave g.D.Disk.moment g.D.Disk.left_since c.args.disk.now l.disk c.write_at.new.self (InPart Main (Grown ms)) (InPart Main (Torn place n)) (InPart Main (Grown ms)) l.invariant.leads c.write_at.ensures.crash c.write_at.ensures.time
-          (λ a b s. s) (main_grown ms place n within);
+      leads = went_on g.D.Disk.may_leave g.D.Disk.moment g.D.Disk.left_since c.args.disk.now l.disk c.write_at.new.self (InPart Main (Grown body)) (InPart Main (Torn place n)) (InPart Main (Grown body)) l.invariant.leads c.write_at.ensures.crash c.write_at.ensures.time
+          (λ a b s. s) (main_grown body place n within end);
       seen = λ parts e.
           let was = l.invariant.seen parts e in (
             put was.0 (member_of c.args.file.now x).0 (member_of c.args.file.now x).1,
@@ -63,7 +68,7 @@ loop-range-preserved g c =
 pub loop-range-init : goal.loop-range-init
 loop-range-init g c = record {
   fit = c.requires;
-  leads = stayed g.D.Disk.may_leave g.D.Disk.moment g.D.Disk.left_since c.args.disk.now (InPart Main (Grown (members_of c.args.file.now c.args.ranges.now))) (not_grown (members_of c.args.file.now c.args.ranges.now));
+  leads = stayed g.D.Disk.may_leave g.D.Disk.moment g.D.Disk.left_since c.args.disk.now (InPart Main (Grown (body_of c.args.file.now c.args.ranges.now))) (not_grown (body_of c.args.file.now c.args.ranges.now));
   seen = λ parts e. (parts.main, e, refl);
   untold = λ none. none;
   no_shorter = omega arith;
