@@ -1,10 +1,11 @@
 //! What a disk is: a file and the log beside it, and what a crash may leave of the two.
 
-ghost use Rattle.std.specs.Prelude.{◌≡◌, ◌≤◌, ◌+◌, ◌||◌, ℕ, List, Bool, length, take, max, is_some, IfOk, OnOk, OnErr, IsSome, IsTrue, IfSome};
+ghost use Rattle.std.specs.Prelude.{◌≡◌, ◌≤◌, ◌+◌, ◌||◌, ℕ, List, Bool, length, take, max, is_err, is_some, IfOk, OnOk, OnErr, IsSome, IsTrue, IfSome};
 ghost use Rattle.std.specs.Option.{option_map};
 ghost use Rattle.std.specs.declared.option.Option.{Option};
 ghost use Rattle.cdf_base.specs.Bytes.{put};
 ghost use Rattle.cdf_base.specs.Causes.{HasCause, HasCauseOf};
+ghost use Rattle.cdf_store.specs.Attaching.{is_failed};
 ghost use Rattle.cdf_store.specs.Reading.{ReadsAt};
 ghost use Rattle.cdf_journal.specs.declared.disk.Part.{Part};
 ghost use Rattle.cdf_journal.specs.declared.disk.Part.TheVariants.{Main};
@@ -44,6 +45,9 @@ pub trait Disk {
     /// How often the disk has failed.
     ghost faults: { Self → ℕ };
 
+    /// What a disk says of each call but `len` beyond these clauses: of itself before and after, and whether it failed.
+    ghost also: { Self → Self → Bool → Type 0 } = { λ _ _ _. Unit {0} };
+
     /// Attaches the file of this name and its log, and answers the file's length, or `None` where there is no such file. With
     /// `make` an absent file is made, empty. So is an absent log.
     fn attach(&mut self, name: &str, make: bool) -> Result<Option<u64>, AttachError>
@@ -53,7 +57,8 @@ pub trait Disk {
         ensures seen { seen self.new ≡ seen self.old }
         ensures crash { (c : Parts) → may_leave self.new c → may_leave self.old c }
         ensures time { Elapses (moment self.old) (moment self.new) (left_since self.old) (left_since self.new) (may_leave self.new) }
-        ensures cause { HasCauseOf AttachError.Failed (faults self.old) (faults self.new) result };
+        ensures cause { HasCauseOf AttachError.Failed (faults self.old) (faults self.new) result }
+        ensures also { also self.old self.new (is_failed result) };
 
     /// The length of a part.
     fn len(&self, part: Part) -> u64
@@ -67,7 +72,8 @@ pub trait Disk {
         ensures sizes { (other : Part) → size self.new other ≡ size self.old other }
         ensures crash { (c : Parts) → may_leave self.new c → may_leave self.old c }
         ensures time { Elapses (moment self.old) (moment self.new) (left_since self.old) (left_since self.new) (may_leave self.new) }
-        ensures cause { HasCause (faults self.old) (faults self.new) result };
+        ensures cause { HasCause (faults self.old) (faults self.new) result }
+        ensures also { also self.old self.new (is_err result) };
 
     /// Writes over what is there, and past the end. Until a sync, a crash may leave any bytes in the range. After a fault the front
     /// of the bytes may have been written.
@@ -81,7 +87,8 @@ pub trait Disk {
         ensures beside { (other : Part) → (other ≡ part → ⊥) → size self.new other ≡ size self.old other }
         ensures crash { Follows (InPart part (Torn place (length bytes.now))) (may_leave self.old) (may_leave self.new) }
         ensures time { Elapses (moment self.old) (moment self.new) (left_since self.old) (left_since self.new) (may_leave self.new) }
-        ensures cause { HasCause (faults self.old) (faults self.new) result };
+        ensures cause { HasCause (faults self.old) (faults self.new) result }
+        ensures also { also self.old self.new (is_err result) };
 
     /// Cuts a part. Until a sync, a crash may leave any length in between.
     fn cut(&mut self, part: Part, n: u64) -> Result<(), Failed>
@@ -93,7 +100,8 @@ pub trait Disk {
         ensures beside { (other : Part) → (other ≡ part → ⊥) → size self.new other ≡ size self.old other }
         ensures crash { Follows (InPart part (Shortened n)) (may_leave self.old) (may_leave self.new) }
         ensures time { Elapses (moment self.old) (moment self.new) (left_since self.old) (left_since self.new) (may_leave self.new) }
-        ensures cause { HasCause (faults self.old) (faults self.new) result };
+        ensures cause { HasCause (faults self.old) (faults self.new) result }
+        ensures also { also self.old self.new (is_err result) };
 
     /// Has both parts stored. After it, a crash leaves what reads give.
     fn sync(&mut self) -> Result<(), Failed>
@@ -102,7 +110,8 @@ pub trait Disk {
         ensures sizes { (part : Part) → size self.new part ≡ size self.old part }
         ensures crash { (c : Parts) → may_leave self.new c → may_leave self.old c }
         ensures time { Elapses (moment self.old) (moment self.new) (left_since self.old) (left_since self.new) (may_leave self.new) }
-        ensures cause { HasCause (faults self.old) (faults self.new) result };
+        ensures cause { HasCause (faults self.old) (faults self.new) result }
+        ensures also { also self.old self.new (is_err result) };
 
     /// This moment is one of those since an earlier one.
     ghost counts_now: { (disk : Self) (t : ℕ) (c : Parts) → t ≤ moment disk → may_leave disk c → left_since disk t c };

@@ -1,5 +1,5 @@
 -- What a disk in memory holds.
-use Rattle.std.specs.Prelude.{ℕ, List}
+use Rattle.std.specs.Prelude.{◌≡◌, ◌+◌, ◌-◌, ◌^◌, ℕ, List, Bool, min, Contains, IsTrue}
 use Rattle.cdf_mem_disk.specs.declared.mem_disk.MemDisk.{MemDisk}
 use Rattle.cdf_journal.specs.Crashes.{Parts}
 use Rattle.cdf_mem_disk.specs.Events.{crashed}
@@ -15,3 +15,10 @@ failing_of disk = disk.plan.failing.items
 -- what is left where a crash keeps the first so many writes and cuts since the parts were stored, and takes the others back
 abbrev pub left_by : ℕ → MemDisk → Parts
 left_by keep disk = crashed keep (parts_in disk.past.base) disk.past.history
+
+-- A call was counted. It failed where that was planned, and where it failed reads give what they gave; it may also fail for want of room.
+pub record IsCall (old new : MemDisk) (failed : Bool) : Type 0 where
+  pub counted : calls_of new ≡ min (calls_of old + 1) (2 ^ 64 - 1)
+  pub kept : failing_of new ≡ failing_of old
+  pub planned : Contains (failing_of old) (calls_of new) → IsTrue failed
+  pub stays : IsTrue failed → parts_in new.past.parts ≡ parts_in old.past.parts

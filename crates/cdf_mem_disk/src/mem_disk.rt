@@ -129,6 +129,8 @@ impl MemDisk {
 }
 
 impl Disk for MemDisk {
+    ghost use Rattle.cdf_mem_disk.specs.MemDisk.{IsCall};
+
     ghost seen = { λ d. Some (parts_in d.past.parts) };
 
     ghost there = { λ d name. is_named d.name name };
@@ -142,6 +144,8 @@ impl Disk for MemDisk {
     ghost left_since = { λ d t c. LeftSince (parts_in d.past.base) d.past.history t c };
 
     ghost faults = { λ d. d.faults };
+
+    ghost also = { IsCall };
 
     ghost counts_now = { λ d t c le now. counts_present (parts_in d.past.base) d.past.history t c le now };
 
