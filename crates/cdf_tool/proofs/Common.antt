@@ -52,7 +52,7 @@ pub use Rattle.cdf_tool.specs.Checking.{Accepted, Checks, EndsChecked, EndsOverF
 pub use Rattle.cdf_tool.specs.Due.{CanBegin, FilesStay, IsGood, Looked, Untouched}
 pub use Rattle.cdf_tool.specs.Endings.{Ends, EndsAsked}
 pub use Rattle.cdf_tool.specs.Ends.{Completes, EndsNamed, EndsUnread, EndsWithout, Opens, Runs, SpoilsTo, Without}
-pub use Rattle.cdf_tool.specs.Gathering.{Gathers}
+pub use Rattle.cdf_walk.specs.Gathering.{Gathers}
 pub use Rattle.cdf_tool.specs.Idle.{IfIdle, IsUnmoved, all_idle, all_idle_over, command_full, full_for, is_idle, line_idles, route_full}
 unfoldable pub use Rattle.cdf_tool.specs.Idle.{asks_idly}
 pub use Rattle.cdf_tool.specs.Outlets.{Outlets, with_taps}

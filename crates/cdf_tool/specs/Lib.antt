@@ -1,4 +1,3 @@
-pub mod Gathering
 pub mod Outlets
 pub mod Replay
 pub mod Answering

@@ -18,7 +18,7 @@ use Rattle.cdf_lines.specs.declared.line.Line.{Line}
 use Rattle.cdf_lines.specs.Pending.{Pending, GivesLine, line_of}
 use Rattle.cdf_saving.specs.declared.status.Status.TheVariants as statuses
 use Rattle.cdf_saving.specs.declared.status.Status.{Status}
-use Rattle.cdf_tool.specs.Gathering.{Gathers}
+use Rattle.cdf_walk.specs.Gathering.{Gathers}
 use Rattle.cdf_tool.specs.Outlets.{Outlets}
 
 -- the line of a number over an image, with these taps

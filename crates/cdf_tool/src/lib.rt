@@ -6,7 +6,6 @@ mod file;
 mod measured;
 mod opened;
 mod replay;
-mod replies;
 mod saving;
 mod say;
 mod script;

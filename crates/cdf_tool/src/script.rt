@@ -12,7 +12,6 @@ ghost use Rattle.cdf_tool.specs.Replay.{AreShort, GathersReply, GivesNext, IsDra
 ghost use Rattle.cdf_tool.specs.Script.{Finishes, Halts};
 
 use crate::replay::{Answer, answer_line};
-use crate::replies::Replies;
 use crate::showing::{dump, report};
 use cdf_area::Area;
 use cdf_lines::{Line, Lines};
@@ -22,6 +21,7 @@ use cdf_script::is_blank_line;
 use cdf_session::Session;
 use cdf_store::{Failed, Sink, Source};
 use cdf_tap::Tap;
+use cdf_walk::Gathered;
 use std::alloc::{AllocError, Global};
 
 /// The most bytes that are taken of the source at a time.
@@ -48,7 +48,7 @@ fn gather_reply<A: Area, O: Sink>(
     alloc: Global,
     session: &mut Session<A>,
     line: &Line,
-    replies: &mut Replies,
+    replies: &mut Gathered,
     out: &mut O,
     taps: &mut Vec<Box<dyn Tap>>,
 ) -> Result<Option<RefusedLine>, Status>
@@ -94,7 +94,7 @@ fn answer_lines<A: Area, O: Sink>(
     alloc: Global,
     session: &mut Session<A>,
     lines: &mut Lines,
-    replies: &mut Replies,
+    replies: &mut Gathered,
     out: &mut O,
     taps: &mut Vec<Box<dyn Tap>>,
 ) -> Result<Refusals, Status>
@@ -163,7 +163,7 @@ pub fn run_script<A: Area, I: Source, O: Sink>(
     ensures counted { CountedIn (counts (A.faults session.old) 0 (O.faults out.old) (I.faults script.old)) (counts (A.faults session.new) 0 (O.faults out.new) (I.faults script.new)) result }
 {
     let mut lines = Lines::new(alloc);
-    let mut replies = Replies::new(alloc);
+    let mut replies = Gathered::new(alloc);
     let mut refusals = Refusals::none();
     let mut taken = 0u64;
     for _ in 0..SCRIPT_LIMIT + 1 {

@@ -13,7 +13,6 @@ ghost use Rattle.cdf_saving.specs.Counts.{CountedIn, counts};
 ghost use Rattle.cdf_tool.specs.Outlets.{with_taps};
 ghost use Rattle.cdf_tool.specs.Showing.{StopsReply, WrotePart, status_of_walk};
 
-use crate::replies::Replies;
 use cdf_area::Area;
 use cdf_model::{Outcome, Reply};
 use cdf_reply::reply_text;
@@ -21,7 +20,7 @@ use cdf_saving::Status;
 use cdf_session::Session;
 use cdf_store::{Failed, Sink, write_all};
 use cdf_tap::Tap;
-use cdf_walk::WalkError;
+use cdf_walk::{Gathered, WalkError};
 use std::alloc::{AllocError, Global};
 
 /// The status of a run whose dump or report stopped.
@@ -60,7 +59,7 @@ fn frame_of(alloc: Global, number: u64) -> Result<Frame, AllocError>
 fn begin<O: Sink>(
     alloc: Global,
     number: u64,
-    replies: &mut Replies,
+    replies: &mut Gathered,
     out: &mut O,
 ) -> Result<String, Status>
     ensures wrote { OnOk result (Appends (O.written out.old) (O.written out.new) (replies.old ++ done_text number Reply.Plain)) }
@@ -100,7 +99,7 @@ pub fn dump<A: Area, O: Sink>(
     alloc: Global,
     session: &mut Session<A>,
     number: u64,
-    replies: &mut Replies,
+    replies: &mut Gathered,
     out: &mut O,
 ) -> Result<(), Status>
     ensures wrote { OnOk result (Appends (O.written out.old) (O.written out.new) (replies.old ++ framed number (dump_text (content (A.image session.old))))) }
@@ -128,7 +127,7 @@ pub fn report<A: Area, O: Sink>(
     number: u64,
     name: &[u8],
     taps: &mut Vec<Box<dyn Tap>>,
-    replies: &mut Replies,
+    replies: &mut Gathered,
     out: &mut O,
 ) -> Result<(), Status>
     requires { has_tap (kinds_of (map (λ tap. meaning tap) taps.old.items)) name.now ≡ true }
