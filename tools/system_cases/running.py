@@ -9,7 +9,7 @@ import threading
 import time
 from dataclasses import dataclass
 from pathlib import Path
-from typing import Optional, Sequence
+from typing import BinaryIO, Optional, Sequence, Union
 
 SECONDS = 20.0  # after which a run counts as hung
 
@@ -25,6 +25,8 @@ class How:
     closed: tuple[int, ...] = ()  # descriptors of the three streams that are closed
     output: Optional[str] = None  # what standard output goes to, where the case does not read it
     script: Optional[str] = None  # what standard input comes from, in place of the bytes of the case
+    answer_behind: Optional[str] = None  # the file that standard output is added to
+    told_behind: Optional[str] = None  # the file that standard error is added to
     limits: tuple[tuple[int, int], ...] = ()  # resources, each with its limit
     ignored: tuple[int, ...] = ()  # signals that the program is started to ignore
     user: Optional[int] = None  # who runs it, where that is not who runs the cases
@@ -176,7 +178,7 @@ class Program:
         user = {} if how.user is None else {"user": how.user, "group": how.user, "extra_groups": []}
         # a folder may be given as a script too
         source = subprocess.PIPE if script is None else os.open(how.script or notes.script, os.O_RDONLY)
-        with open(how.output or notes.answer, "wb") as answer, open(notes.told, "wb") as told:
+        with opened(how.answer_behind, how.output or notes.answer) as answer, opened(how.told_behind, notes.told) as told:
             try:
                 process = subprocess.Popen(
                     command, stdin=source, stdout=answer, stderr=told, cwd=folder, pass_fds=how.passed,
@@ -190,6 +192,11 @@ class Program:
     def run(self, words: Sequence[str], notes: Notes, folder: Path, script: bytes = b"", how: How = How()) -> Ended:
         with self.start(words, notes, folder, script, how) as running:
             return running.ended()
+
+
+def opened(behind: Optional[str], anew: Union[str, Path]) -> BinaryIO:
+    """What a stream goes to: the end of a file, where that is given, else a file that it makes anew."""
+    return open(behind, "ab") if behind else open(anew, "wb")
 
 
 def set_up_child(how: How) -> None:
