@@ -6,7 +6,7 @@ from system_cases.running import How
 PAGE = 4096  # in which the small file system gives room
 
 # what may be told of a save that came to nothing
-NOTHING_CHANGED = ("nothing was changed", "nothing was written", "nothing was saved", "nothing has been", "was not changed", "is unchanged", "is as it was", "as before")
+NOTHING_CHANGED = ("unchanged:", "nothing was changed", "nothing was written", "nothing was saved", "nothing has been", "was not changed", "is unchanged", "is as it was", "as before")
 NO_ROOM = ("no room", "no space", "not enough room", "not enough space", "is full", "out of space", "room left", "space left")
 
 # a rename near the front, and more attributes than a page has room for

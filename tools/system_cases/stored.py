@@ -5,11 +5,11 @@ import shutil
 from dataclasses import dataclass
 from typing import Iterator
 
-from system_cases.case import Case, Folder, Verdict, Wanted, content_of, how_of, judge, words_of
+from system_cases.case import SAME, Case, Folder, Verdict, Wanted, content_of, how_of, judge, words_of
 from system_cases.files import EDIT, EDITED, IN_PLACE, IN_PLACE_DONE, MADE, MAKE, READ, READ_DONE, REFUSED, REFUSED_DONE, YES, Expected, made
 from system_cases.running import Ended, How, LeftOut, Program
 
-CALLS = "fsync,fdatasync,sync,syncfs,openat,open,creat,truncate,ftruncate,fallocate,write,writev,pwrite64,pwritev,copy_file_range,sendfile,rename,renameat,renameat2,unlink,unlinkat"
+CALLS = "lseek,fsync,fdatasync,sync,syncfs,openat,open,creat,truncate,ftruncate,fallocate,write,writev,pwrite64,pwritev,copy_file_range,sendfile,rename,renameat,renameat2,unlink,unlinkat"
 WRITES = {"write", "writev", "pwrite64", "pwritev", "copy_file_range", "sendfile"}
 CUTS = {"ftruncate", "fallocate"}
 SYNCS = {"fsync", "fdatasync"}
@@ -77,6 +77,26 @@ def synced(folder: Folder, _: Ended) -> Iterator[tuple[str, str]]:
         yield "an fsync of the file behind its last write", "a write behind the last fsync"
 
 
+def growth_synced(folder: Folder, ended: Ended) -> Iterator[tuple[str, str]]:
+    """What the file grows by was brought to the disk before a byte of the old file was written over."""
+    yield from synced(folder, ended)
+    place, has_grown, is_synced = 0, False, False
+    for call in (call for call in calls(folder) if call.path == real(folder) and call.answer >= 0):
+        if call.name == "lseek":
+            place = call.answer
+        elif call.name in SYNCS:
+            is_synced = True
+        elif call.name in WRITES:
+            if call.name.startswith("pwrite"):
+                place = int(call.rest.rsplit(",", 1)[1])
+            if place >= len(folder.before):
+                has_grown, is_synced = True, False
+            elif has_grown and not is_synced:
+                yield "an fsync between the growth and the first byte that is written over", "none"
+                return
+            place += call.answer
+
+
 def folder_synced(folder: Folder, ended: Ended) -> Iterator[tuple[str, str]]:
     """The folder was brought to the disk too, once the name was there."""
     yield from synced(folder, ended)
@@ -116,19 +136,22 @@ def only_read(name: str, status: int, answer: bytes, words: tuple[str, ...] = ("
     return Case(f"stored: {name}", Wanted(status, answer), words, how=How(traced=CALLS), also=nothing_written, attempt=traced, **more)
 
 
-NOT_STORED_WORDS = (("stored", "to the disk", "on the disk", "sync"),)
-NOT_STORED = Wanted(6, EDITED.text, after=(EDITED.after,), told=NOT_STORED_WORDS)  # each byte is new as far as reads tell
+# each byte is new as far as reads tell; where the file grew, the sync that fails comes before an old byte is written over
+NOT_STORED_WORDS = (("unstored:",), ("stored", "to the disk", "on the disk", "sync"))
+NOT_STORED = Wanted(6, IN_PLACE_DONE.text, after=(IN_PLACE_DONE.after,), told=NOT_STORED_WORDS)
+NOT_GROWN = Wanted(6, EDITED.text, after=(SAME,), told=(("unchanged:",),))
 ALL_SYNCS_FAIL = How(traced=CALLS, failing="fsync,fdatasync:error=EIO")
 
 LONGER = made(MAKE + b"".join(b"attr More%d global\n" % n for n in range(10)))
 
 CASES = [
-    stored("an edit, the file grows", EDITED, synced, script=EDIT),
+    stored("an edit, the file grows", EDITED, growth_synced, script=EDIT),
     stored("an edit in place", IN_PLACE_DONE, same_length, script=IN_PLACE),
     stored("an edit with refused lines", REFUSED_DONE, synced, script=REFUSED),
     stored("--new of no file", MADE, folder_synced, ("--new", "FILE"), script=MAKE, before=None),
     stored("--new over a longer file", MADE, shorter, ("--new", "FILE"), script=MAKE, before=LONGER),
-    Case("stored: an edit, and the disk does not take it", NOT_STORED, script=EDIT, how=ALL_SYNCS_FAIL, attempt=traced),
+    Case("stored: an edit, the file grows, and the disk does not take it", NOT_GROWN, script=EDIT, how=ALL_SYNCS_FAIL, attempt=traced),
+    Case("stored: an edit in place, and the disk does not take it", NOT_STORED, script=IN_PLACE, how=ALL_SYNCS_FAIL, attempt=traced),
     Case("stored: --new of no file, and the disk does not take it", Wanted(6, MADE.text, after=(MADE.after,), told=NOT_STORED_WORDS), ("--new", "FILE"), MAKE, None, how=ALL_SYNCS_FAIL, attempt=traced),
     only_read("a script that only reads", 0, READ_DONE.text, script=READ),
     only_read("an empty script", 0, b""),
