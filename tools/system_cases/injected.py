@@ -16,7 +16,7 @@ from system_cases.case import (
 )
 from system_cases.files import EDIT, MAKE, READ, YES, Expected, expected, lines, made
 from system_cases.other_writers import CHANGED_MEANWHILE, GRAIN, append, cut, leave, remove, replace
-from system_cases.running import Ended, How, LeftOut, Program
+from system_cases.running import Ended, How, LeftOut, Notes, Program
 from system_cases.stored import SYNCS, calls, places, real
 
 # what a program asks of a file, and the calls of the system that stand for it
@@ -364,6 +364,31 @@ def check_case(writer: Writer, how: How = How(), wanted: tuple[Wanted, ...] = (W
     return Case(f"beside: --check, {writer.name}", wanted, ("--check", "FILE"), before=writer.twins[0], attempt=checked_beside(writer, how))
 
 
+def checked_beside_editor(run: Run) -> Callable[[Case, Folder, Program], Verdict]:
+    """Counts what checks find while another editor saves again and again. A file that is half saved stands still while it is stored."""
+
+    def attempt(case: Case, folder: Folder, program: Program) -> Verdict:
+        notes = Notes(folder.notes.path / "other")
+        notes.path.mkdir()
+
+        def edit(_: Folder, file: bytes) -> None:
+            rename_over(folder, file)
+            program.run([str(folder.file)], notes, folder.path, run.script)
+
+        ends: Counter = Counter()
+        with rewritten(folder, [run.before], edit, 0.0) as written:
+            until = time.monotonic() + WRITING
+            while time.monotonic() < until:
+                ends[said(program.run(words_of(case, folder), folder.notes, folder.path).status)] += 1
+        return Verdict(COUNTED, f"beside {written['files']} savings " + ", ".join(f"{count} times {end}" for end, count in ends.most_common()))
+
+    return attempt
+
+
+def editor_case(run: Run) -> Case:
+    return Case(f"beside: --check, another editor saves, {run.name}", (), ("--check", "FILE"), before=run.before, attempt=checked_beside_editor(run))
+
+
 # ---- what another program does between the last write and the end ----
 
 SLOW_SYNC = How(traced=SYNC, failing=f"{SYNC}:delay_exit=1000000")  # microseconds
@@ -407,6 +432,7 @@ CASES = [
     check_case(Writer("another one writes it in place", write_in_place, 0.02, SMALL_TWINS)),
     check_case(Writer("another one writes it in place while it is read slowly", write_in_place, 0.02, LARGE_TWINS),
                SLOW_READS, (CHANGED_WHILE_READ,)),
+    *(editor_case(run) for run in RUNS[:2]),
     *(sync_case(name, act, run) for name, act in (REMOVES, CUTS, APPENDS, REPLACES) for run in RUNS[:2]),
     *(sync_case(name, act, RUNS[2]) for name, act in (REMOVES, REPLACES)),
 ]
