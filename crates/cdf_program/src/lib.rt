@@ -36,9 +36,10 @@ fn exit_of(status: Status) -> ExitCode
     ExitCode::from(status.number())
 }
 
-/// Tells on standard error what there is to tell. A line that cannot be written is let go: the status says the rest.
+/// Tells on standard error what there is to tell, unless that is the file itself. A line that cannot be written is let go: the status
+/// says the rest.
 fn tell(rt: &impl Eprint, telling: Telling<'_>) {
-    if telling.is_due() {
+    if telling.is_due() && !telling.goes_into_file() {
         let _ = rt.eprintln(telling);
     }
 }

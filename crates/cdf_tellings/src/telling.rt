@@ -11,7 +11,7 @@ use crate::rules::words_of_rule;
 use crate::words::{WordsFault, fault_of_words};
 use cdf_check::Broken;
 use cdf_saving::{Left, Notes, Status};
-use cdf_store::FileFailure;
+use cdf_store::{FileFailure, Stream};
 use cdf_words::{WordsError, read_words};
 use std::alloc::Global;
 use std::fmt;
@@ -153,6 +153,14 @@ impl<'a> Telling<'a> {
         ensures silent { IsDone self.now.status → self.now.notes.refusals.refused ≡ 0 → self.now.notes.replaced ≡ 0 → IsFalse result }
     {
         !self.status.is_done() || self.notes.refusals.refused > 0 || self.notes.replaced > 0
+    }
+
+    /// Whether standard error is the file itself, into which nothing may be told.
+    pub fn goes_into_file(&self) -> bool {
+        matches!(
+            self.news.failure,
+            Some(FileFailure::IsStream(Stream::Error))
+        )
     }
 
     fn subject(&self) -> Subject<'a> {
