@@ -1,5 +1,6 @@
 pub mod Common
 pub mod Between
+pub mod Back
 pub mod Costs
 pub mod Covered
 pub mod Disks
@@ -14,4 +15,5 @@ pub mod SavedPage
 pub mod Settled
 pub mod Slots
 pub mod Touched
+pub mod WritesOver
 pub mod WrittenOver

@@ -1,11 +1,13 @@
 -- What a save leaves of the attached file, and of the disk.
-use Rattle.std.specs.Prelude.{◌≡◌, ◌⊎◌, ◌+◌, ◌*◌, ◌/◌, ◌≤◌, ◌<◌, ℕ, Bool, false, true, List, [], ◌++◌, length, take, slice_index, Some, None, Ok, Err, IsTrue, OnOk}
+use Rattle.std.specs.Prelude.{◌≡◌, ◌⊎◌, ◌+◌, ◌*◌, ◌/◌, ◌≤◌, ◌<◌, ◌&&◌, ℕ, Bool, false, true, List, [], ◌++◌, length, take, slice_index, Some, None, Ok, Err, IsTrue, OnOk}
 use Rattle.std.specs.declared.result.Result.{Result}
 use Rattle.std.specs.declared.option.Option.{Option}
 use Rattle.std.specs.List.{All}
 use Rattle.std.specs.Option.{option_map}
 use Rattle.cdf_base.specs.Causes.{Rose}
 use Rattle.cdf_store.specs.Disk.{Disk, file_of, files_with}
+use Rattle.cdf_store.specs.Unstored.{nothing}
+use Rattle.cdf_store.specs.declared.unstored.Unstored.{Unstored}
 use Rattle.cdf_pages.specs.declared.save_error.SaveError.{SaveError}
 use Rattle.cdf_pages.specs.declared.save_error.SaveError.TheVariants.{Failed, NoMemory}
 
@@ -38,6 +40,23 @@ FailsSaving d new now (Ok done) = Unit {0}
 FailsSaving d new now (Err (Failed true)) = Holds d (file_of d) now
 FailsSaving d new now (Err (Failed false)) = HoldsBetween d new now
 FailsSaving d new now (Err NoMemory) = now ≡ d
+
+-- so it is unless the save failed and the old bytes are kept
+abbrev pub UnlessKept : {T : Type 0} → Result T SaveError → Type 0 → Type 0
+UnlessKept (Ok done) A = A
+UnlessKept (Err (Failed true)) A = Unit {0}
+UnlessKept (Err (Failed false)) A = A
+UnlessKept (Err NoMemory) A = A
+
+-- Bytes of the file are written over only once its growth is stored: where nothing was left to store before, never is both growth
+-- and change left, unless the old bytes are kept.
+abbrev pub KeepsApart : {T : Type 0} → Result T SaveError → Unstored → Unstored → Type 0
+KeepsApart result u u' = UnlessKept result (u ≡ nothing → (u'.growth && u'.change) ≡ false)
+
+-- The file is written over and cut, and does not grow. Where no change is left to store, nothing was done.
+pub record WritesOver {U : Type 0} (d d' : Disk U) (u u' : Unstored) : Type 0 where
+  pub untouched : u'.change ≡ false → (d' ≡ d) × (u' ≡ u)
+  pub growth : u'.growth ≡ u.growth
 
 -- the store failed
 abbrev pub IsFailed : {T : Type 0} → Result T SaveError → Type 0

@@ -1,11 +1,12 @@
 //! Writing what lies past the end of the attached file, so that the file is as long as it is to be before a byte is written over.
 
-ghost use Rattle.std.specs.Prelude.{◌≡◌, ◌+◌, ◌-◌, ◌≤◌, ◌<◌, ◌^◌, ◌++◌, ℕ, List, length, max, min, slice_index, IsSome, IsTrue, OnOk, OnErr};
+ghost use Rattle.std.specs.Prelude.{◌≡◌, ◌+◌, ◌-◌, ◌≤◌, ◌<◌, ◌^◌, ◌++◌, ℕ, List, false, length, max, min, slice_index, IsSome, IsTrue, OnOk, OnErr};
 ghost use Rattle.cdf_base.specs.Causes.{HasCause};
 ghost use Rattle.cdf_store.specs.Disk.{Disk, Spent, file_of};
+ghost use Rattle.cdf_store.specs.Unstored.{nothing};
 ghost use Rattle.cdf_pages.specs.Growth.{HoldsGrown};
 ghost use Rattle.cdf_pages.specs.Pages.{Backed, image_of, is_in};
-ghost use Rattle.cdf_pages.specs.Saving.{FailsSaving, HasSaveCause, IsChangedRange, LiesIn, Touches};
+ghost use Rattle.cdf_pages.specs.Saving.{FailsSaving, HasSaveCause, IsChangedRange, LiesIn, Touches, UnlessKept};
 ghost use Rattle.cdf_pages.specs.Standing.{pages_in};
 ghost use Rattle.cdf_pages.specs.Table.{page_at};
 
@@ -30,6 +31,7 @@ fn append<S: Store>(store: &mut S, place: u64, bytes: &[u8]) -> Result<(), Faile
     ensures taken { S.taken store.new ≡ S.taken store.old }
     ensures cause { HasCause (S.write_faults store.old) (S.write_faults store.new) result }
     ensures read { S.read_faults store.new ≡ S.read_faults store.old }
+    ensures change { (S.unstored store.new).change ≡ (S.unstored store.old).change }
 {
     store.write_at(place, bytes)?;
     Ok(())
@@ -50,6 +52,8 @@ fn grow_pages<S: Store>(store: &mut S, sheets: &Sheets, file_size: u64) -> Resul
     ensures taken { S.taken store.new ≡ S.taken store.old }
     ensures cause { HasCause (S.write_faults store.old) (S.write_faults store.new) result }
     ensures read { S.read_faults store.new ≡ S.read_faults store.old }
+    ensures change { (S.unstored store.new).change ≡ (S.unstored store.old).change }
+    ensures idle { sheets.now.length ≤ file_size → S.unstored store.new ≡ S.unstored store.old }
 {
     let length = sheets.length;
     let mut place = file_size;
@@ -80,6 +84,8 @@ fn grow_tail<S: Store>(store: &mut S, place: u64, rest: &[u8]) -> Result<(), Fai
     ensures taken { S.taken store.new ≡ S.taken store.old }
     ensures cause { HasCause (S.write_faults store.old) (S.write_faults store.new) result }
     ensures read { S.read_faults store.new ≡ S.read_faults store.old }
+    ensures change { (S.unstored store.new).change ≡ (S.unstored store.old).change }
+    ensures idle { length rest.now ≡ 0 → S.unstored store.new ≡ S.unstored store.old }
 {
     if rest.is_empty() {
         return Ok(());
@@ -117,10 +123,45 @@ fn grow_all<S: Store>(
     ensures taken { S.taken store.new ≡ S.taken store.old }
     ensures cause { HasCause (S.write_faults store.old) (S.write_faults store.new) result }
     ensures read { S.read_faults store.new ≡ S.read_faults store.old }
+    ensures change { (S.unstored store.new).change ≡ (S.unstored store.old).change }
+    ensures idle { sheets.now.length + length tail.now ≤ file_size → S.unstored store.new ≡ S.unstored store.old }
 {
     grow_pages(store, sheets, file_size)?;
     let before = tail_before(file_size, sheets.length, tail.len());
     grow_tail(store, sheets.length + before as u64, &tail[before..])?;
+    Ok(())
+}
+
+/// The same, and has a file that grew stored, unless it was empty: a system may tell of a full disk as late as that, and then no
+/// byte is written over as yet.
+fn grow_stored<S: Store>(
+    store: &mut S,
+    sheets: &Sheets,
+    file_size: u64,
+    tail: &[u8],
+) -> Result<(), Failed>
+    requires held { IsSome (S.disk store.old).held }
+    requires file_size { file_size ≡ length (file_of (S.disk store.old)) }
+    requires size { length tail.now ≤ 65536 }
+    requires fits { sheets.now.length + length tail.now < 2 ^ 64 }
+    requires writes { pages_in file_size (sheets.now.length - file_size) + 1 ≤ (S.spare store.old).writes }
+    requires end { sheets.now.length + length tail.now ≤ (S.spare store.old).end }
+    requires backed { Backed (page_at sheets.now.changed) (length (file_of (S.disk store.old))) sheets.now.length }
+    ensures long { OnOk result (length (file_of (S.disk store.new)) ≡ max file_size (sheets.now.length + length tail.now)) }
+    ensures grown { HoldsGrown (S.disk store.old) (image_of (page_at sheets.now.changed) (file_of (S.disk store.old)) sheets.now.length ++ tail.now) (S.disk store.new) }
+    ensures touched { Touches (IsChangedRange (is_in (page_at sheets.now.changed)) sheets.now.length (length tail.now)) (S.disk store.old).touched (S.disk store.new).touched }
+    ensures writes { (S.spare store.old).writes ≤ (S.spare store.new).writes + pages_in file_size (sheets.now.length - file_size) + 1 }
+    ensures end { (S.spare store.new).end ≡ (S.spare store.old).end }
+    ensures taken { S.taken store.new ≡ S.taken store.old }
+    ensures cause { HasCause (S.write_faults store.old) (S.write_faults store.new) result }
+    ensures read { S.read_faults store.new ≡ S.read_faults store.old }
+    ensures change { (S.unstored store.old).change ≡ false → (S.unstored store.new).change ≡ false }
+    ensures stored { OnOk result (0 < file_size → S.unstored store.old ≡ nothing → S.unstored store.new ≡ nothing) }
+{
+    grow_all(store, sheets, file_size, tail)?;
+    if file_size > 0 && file_size < sheets.length + tail.len() as u64 {
+        store.sync()?;
+    }
     Ok(())
 }
 
@@ -147,8 +188,10 @@ pub fn grow<S: Store>(
     ensures taken { S.taken store.new ≡ S.taken store.old }
     ensures cause { HasSaveCause (S.write_faults store.old) (S.write_faults store.new) result }
     ensures read { S.read_faults store.new ≡ S.read_faults store.old }
+    ensures change { (S.unstored store.old).change ≡ false → UnlessKept result ((S.unstored store.new).change ≡ false) }
+    ensures stored { OnOk result (0 < file_size → S.unstored store.old ≡ nothing → S.unstored store.new ≡ nothing) }
 {
-    match grow_all(store, sheets, file_size, tail) {
+    match grow_stored(store, sheets, file_size, tail) {
         Ok(()) => Ok(()),
         Err(Failed) => {
             let kept = file_size > 0 && store.set_len(file_size).is_ok();

@@ -38,6 +38,7 @@ fn take_page<S: Store>(
     ensures taken { TakesAtMost (S.taken store.old) (S.taken store.new) (if is_some (lookup (nat_eq number) clean.old.entries) then 0 else min 65536 (length (file_of (S.disk store.old)) - number * 65536)) }
     ensures cause { HasCauseOf AreaError.Fault (S.read_faults store.old) (S.read_faults store.new) result }
     ensures write { S.write_faults store.new ≡ S.write_faults store.old }
+    ensures unstored { S.unstored store.new ≡ S.unstored store.old }
 {
     if let Some(page) = clean.pop(&number).flatten() {
         return Ok(page);
@@ -77,6 +78,7 @@ fn own_page<S: Store>(
     ensures taken { TakesAtMost (S.taken store.old) (S.taken store.new) (if is_some (page_at sheets.old.changed number) then 0 else (if is_some (lookup (nat_eq number) clean.old.entries) then 0 else min 65536 (length (file_of (S.disk store.old)) - number * 65536))) }
     ensures cause { HasCauseOf AreaError.Fault (S.read_faults store.old) (S.read_faults store.new) result }
     ensures write { S.write_faults store.new ≡ S.write_faults store.old }
+    ensures unstored { S.unstored store.new ≡ S.unstored store.old }
 {
     let _count = clean.len();
     sheets.keep_page(number, from, upto)?;
@@ -118,6 +120,7 @@ pub fn own_pages<S: Store>(
     ensures taken { TakesAtMost (S.taken store.old) (S.taken store.new) (cost_of_writing (is_in (page_at sheets.old.changed)) (keys_of clean.old.entries) (length (file_of (S.disk store.old))) from (upto - from)) }
     ensures cause { HasCauseOf AreaError.Fault (S.read_faults store.old) (S.read_faults store.new) result }
     ensures write { S.write_faults store.new ≡ S.write_faults store.old }
+    ensures unstored { S.unstored store.new ≡ S.unstored store.old }
 {
     let mut number = from;
     while number < upto {

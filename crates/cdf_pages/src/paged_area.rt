@@ -11,10 +11,11 @@ ghost use Rattle.cdf_base.specs.Bytes.{put};
 ghost use Rattle.cdf_area.specs.Calls.{Edits, Overwrites, Reads};
 ghost use Rattle.cdf_area.specs.Frame.{Frame, with_base};
 ghost use Rattle.cdf_store.specs.Disk.{Disk, file_of};
+ghost use Rattle.cdf_store.specs.Unstored.{nothing};
 ghost use Rattle.cdf_pages.specs.Cached.{all_clean};
 ghost use Rattle.cdf_pages.specs.Pages.{AllServe, Backed, TakesAtMost, image_of, is_in, was};
 ghost use Rattle.cdf_base.specs.Causes.{HasCause, HasCauseOf};
-ghost use Rattle.cdf_pages.specs.Saving.{Differs, FailsSaving, HasNothingToSave, HasSaveCause, Holds, IsChangedRange, IsSavedAlready, Touches, tail_bytes};
+ghost use Rattle.cdf_pages.specs.Saving.{Differs, FailsSaving, HasNothingToSave, HasSaveCause, Holds, IsChangedRange, IsSavedAlready, KeepsApart, Touches, tail_bytes};
 ghost use Rattle.cdf_pages.specs.Standing.{Changes, ChangesSome, ReadsSome, cost_of_reading, cost_of_writing, pages_in, used_from};
 ghost use Rattle.cdf_pages.specs.Table.{page_at};
 
@@ -73,6 +74,7 @@ impl<S: Store> PagedArea<S> {
         ensures none_changed { IfOk result (λ area. (number : ℕ) → ⟦<PagedArea<S> as InPages>⟧.changed area number ≡ false) }
         ensures none_clean { IfOk result (λ area. ⟦<PagedArea<S> as InPages>⟧.clean area ≡ []) }
         ensures taken { IfOk result (λ area. ⟦<PagedArea<S> as InPages>⟧.taken area ≡ S.taken store) }
+        ensures unstored { IfOk result (λ area. ⟦<PagedArea<S> as InPages>⟧.unstored area ≡ S.unstored store) }
         ensures handed_back { IfErr result (λ failed. failed.value ≡ store) }
     {
         PagedArea::new(alloc, store, size, size, limit)
@@ -94,6 +96,7 @@ impl<S: Store> PagedArea<S> {
         ensures none_changed { IfOk result (λ area. (number : ℕ) → ⟦<PagedArea<S> as InPages>⟧.changed area number ≡ false) }
         ensures none_clean { IfOk result (λ area. ⟦<PagedArea<S> as InPages>⟧.clean area ≡ []) }
         ensures taken { IfOk result (λ area. ⟦<PagedArea<S> as InPages>⟧.taken area ≡ S.taken store) }
+        ensures unstored { IfOk result (λ area. ⟦<PagedArea<S> as InPages>⟧.unstored area ≡ S.unstored store) }
         ensures handed_back { IfErr result (λ failed. failed.value ≡ store) }
     {
         PagedArea::new(alloc, store, size, 0, limit)
@@ -101,8 +104,9 @@ impl<S: Store> PagedArea<S> {
 
     /// Makes the attached file the image and a tail behind it. Only changed pages are written, and the tail: first what lies past
     /// the end of the file, in ascending order, and then what lies before it. A file that is longer is cut at last. So where there is
-    /// no room for the file to grow, none of its bytes is written over; then it is cut back, unless it was empty. Room for all writes
-    /// is made first, which is the one want of memory.
+    /// no room for the file to grow, none of its bytes is written over; then it is cut back, unless it was empty. A file that grew is
+    /// stored before a byte of it is written over, and is cut back where that fails, or where the first such write does. Room for all
+    /// writes is made first, which is the one want of memory.
     #[tactic(auto, using(crate::proofs::Images::image_size))]
     pub fn save(&mut self, tail: Option<[u8; 16]>) -> Result<(), SaveError>
         requires held { IsSome (⟦<PagedArea<S> as Area>⟧.frame self.old).under.0.held }
@@ -120,9 +124,12 @@ impl<S: Store> PagedArea<S> {
         ensures clean { ⟦<PagedArea<S> as InPages>⟧.clean self.new ≡ ⟦<PagedArea<S> as InPages>⟧.clean self.old }
         ensures taken { ⟦<PagedArea<S> as InPages>⟧.taken self.new ≡ ⟦<PagedArea<S> as InPages>⟧.taken self.old }
         ensures touched { Touches (IsChangedRange (⟦<PagedArea<S> as InPages>⟧.changed self.old) (length (⟦<PagedArea<S> as Area>⟧.image self.old)) (length (tail_bytes tail))) (⟦<PagedArea<S> as Area>⟧.frame self.old).under.0.touched (⟦<PagedArea<S> as Area>⟧.frame self.new).under.0.touched }
+        // Nothing is written over or cut while a growth is not stored, unless the old bytes are kept.
+        ensures apart { KeepsApart result (⟦<PagedArea<S> as InPages>⟧.unstored self.old) (⟦<PagedArea<S> as InPages>⟧.unstored self.new) }
         // Where no page is changed and the file is as long as it is to be, the store is not called.
         ensures not_called { HasNothingToSave (⟦<PagedArea<S> as InPages>⟧.changed self.old) (file_of (⟦<PagedArea<S> as Area>⟧.frame self.old).under.0) (⟦<PagedArea<S> as Area>⟧.image self.old) tail → (result ≡ Ok tt) × ((⟦<PagedArea<S> as Area>⟧.frame self.new).under ≡ (⟦<PagedArea<S> as Area>⟧.frame self.old).under) }
         ensures synced { HasNothingToSave (⟦<PagedArea<S> as InPages>⟧.changed self.old) (file_of (⟦<PagedArea<S> as Area>⟧.frame self.old).under.0) (⟦<PagedArea<S> as Area>⟧.image self.old) tail → ⟦<PagedArea<S> as InPages>⟧.synced self.new ≡ ⟦<PagedArea<S> as InPages>⟧.synced self.old }
+        ensures unstored { HasNothingToSave (⟦<PagedArea<S> as InPages>⟧.changed self.old) (file_of (⟦<PagedArea<S> as Area>⟧.frame self.old).under.0) (⟦<PagedArea<S> as Area>⟧.image self.old) tail → ⟦<PagedArea<S> as InPages>⟧.unstored self.new ≡ ⟦<PagedArea<S> as InPages>⟧.unstored self.old }
         // So it is of a file that is the image as it stands.
         ensures untouched { IsSavedAlready (⟦<PagedArea<S> as Area>⟧.edited self.old) (file_of (⟦<PagedArea<S> as Area>⟧.frame self.old).under.0) (⟦<PagedArea<S> as Area>⟧.image self.old) tail → (⟦<PagedArea<S> as Area>⟧.frame self.new).under ≡ (⟦<PagedArea<S> as Area>⟧.frame self.old).under }
         ensures unfailed { IsSavedAlready (⟦<PagedArea<S> as Area>⟧.edited self.old) (file_of (⟦<PagedArea<S> as Area>⟧.frame self.old).under.0) (⟦<PagedArea<S> as Area>⟧.image self.old) tail → IsOk result }
@@ -151,6 +158,7 @@ impl<S: Store> PagedArea<S> {
         ensures clean { ⟦<PagedArea<S> as InPages>⟧.clean self.new ≡ ⟦<PagedArea<S> as InPages>⟧.clean self.old }
         // Of the file no more is read than it has in the changed pages of the image.
         ensures taken { TakesAtMost (⟦<PagedArea<S> as InPages>⟧.taken self.old) (⟦<PagedArea<S> as InPages>⟧.taken self.new) (cost_of_writing (λ number. not (⟦<PagedArea<S> as InPages>⟧.changed self.old number)) [] (length (file_of (⟦<PagedArea<S> as Area>⟧.frame self.old).under.0)) 0 (pages_in 0 (length (⟦<PagedArea<S> as Area>⟧.image self.old)))) }
+        ensures unstored { ⟦<PagedArea<S> as InPages>⟧.unstored self.new ≡ ⟦<PagedArea<S> as InPages>⟧.unstored self.old }
     {
         settle_pages(
             self.alloc,
@@ -171,6 +179,8 @@ impl<S: Store> PagedArea<S> {
     pub fn sync(&mut self) -> Result<(), Failed>
         requires held { IsSome (⟦<PagedArea<S> as Area>⟧.frame self.old).under.0.held }
         ensures synced { OnOk result (IsTrue (⟦<PagedArea<S> as InPages>⟧.synced self.new)) }
+        ensures stored { OnOk result (⟦<PagedArea<S> as InPages>⟧.unstored self.new ≡ nothing) }
+        ensures unstored { OnErr result (⟦<PagedArea<S> as InPages>⟧.unstored self.new ≡ ⟦<PagedArea<S> as InPages>⟧.unstored self.old) }
         ensures image { ⟦<PagedArea<S> as Area>⟧.image self.new ≡ ⟦<PagedArea<S> as Area>⟧.image self.old }
         ensures disk { (⟦<PagedArea<S> as Area>⟧.frame self.new).under.0 ≡ (⟦<PagedArea<S> as Area>⟧.frame self.old).under.0 }
         ensures base { (⟦<PagedArea<S> as Area>⟧.frame self.new).base ≡ (⟦<PagedArea<S> as Area>⟧.frame self.old).base }
@@ -199,6 +209,7 @@ impl<S: Store> PagedArea<S> {
         ensures write { S.write_faults result ≡ (⟦<PagedArea<S> as Area>⟧.frame self).under.1 }
         ensures read { S.read_faults result ≡ ⟦<PagedArea<S> as Area>⟧.faults self }
         ensures synced { S.synced result ≡ ⟦<PagedArea<S> as InPages>⟧.synced self }
+        ensures unstored { S.unstored result ≡ ⟦<PagedArea<S> as InPages>⟧.unstored self }
     {
         self.store
     }
@@ -220,6 +231,7 @@ impl<S: Store> PagedArea<S> {
         ensures none_changed { IfOk result (λ area. (number : ℕ) → ⟦<PagedArea<S> as InPages>⟧.changed area number ≡ false) }
         ensures none_clean { IfOk result (λ area. ⟦<PagedArea<S> as InPages>⟧.clean area ≡ []) }
         ensures taken { IfOk result (λ area. ⟦<PagedArea<S> as InPages>⟧.taken area ≡ S.taken store) }
+        ensures unstored { IfOk result (λ area. ⟦<PagedArea<S> as InPages>⟧.unstored area ≡ S.unstored store) }
         ensures handed_back { IfErr result (λ failed. failed.value ≡ store) }
     {
         let Ok(clean) = Cache::new(alloc) else {
@@ -248,6 +260,8 @@ impl<S: Store> InPages for PagedArea<S> {
     ghost taken = { λ a. S.taken a.store };
 
     ghost synced = { λ a. S.synced a.store };
+
+    ghost unstored = { λ a. S.unstored a.store };
 
     ghost cached = { λ a. all_clean S.lends (page_at a.sheets.changed) (file_of (S.disk a.store)) a.sheets.length a.clean a.valid a.cap a.serves };
 }
@@ -286,6 +300,7 @@ impl<S: Store> Area for PagedArea<S> {
         ensures used { OnOk result (⟦<PagedArea<S> as InPages>⟧.clean self.new ≡ used_from (⟦<PagedArea<S> as InPages>⟧.changed self.old) (place / 65536) (pages_in place (length out.old)) (⟦<PagedArea<S> as InPages>⟧.clean self.old)) }
         ensures some { OnErr result (ReadsSome (⟦<PagedArea<S> as InPages>⟧.changed self.old) (⟦<PagedArea<S> as InPages>⟧.clean self.old) (⟦<PagedArea<S> as InPages>⟧.clean self.new) place (length out.old)) }
         ensures taken { TakesAtMost (⟦<PagedArea<S> as InPages>⟧.taken self.old) (⟦<PagedArea<S> as InPages>⟧.taken self.new) (cost_of_reading (⟦<PagedArea<S> as InPages>⟧.changed self.old) (⟦<PagedArea<S> as InPages>⟧.clean self.old) (length (file_of (⟦<PagedArea<S> as Area>⟧.frame self.old).under.0)) (place / 65536) (pages_in place (length out.old))) }
+        ensures unstored { ⟦<PagedArea<S> as InPages>⟧.unstored self.new ≡ ⟦<PagedArea<S> as InPages>⟧.unstored self.old }
     {
         read_range(
             self.alloc,
@@ -306,6 +321,7 @@ impl<S: Store> Area for PagedArea<S> {
         ensures changes { OnOk result (Changes (⟦<PagedArea<S> as InPages>⟧.changed self.old) (⟦<PagedArea<S> as InPages>⟧.changed self.new) (⟦<PagedArea<S> as InPages>⟧.clean self.old) (⟦<PagedArea<S> as InPages>⟧.clean self.new) place (length bytes.now)) }
         ensures some { OnErr result (ChangesSome (⟦<PagedArea<S> as InPages>⟧.changed self.old) (⟦<PagedArea<S> as InPages>⟧.changed self.new) (⟦<PagedArea<S> as InPages>⟧.clean self.old) (⟦<PagedArea<S> as InPages>⟧.clean self.new) place (length bytes.now)) }
         ensures taken { TakesAtMost (⟦<PagedArea<S> as InPages>⟧.taken self.old) (⟦<PagedArea<S> as InPages>⟧.taken self.new) (cost_of_writing (⟦<PagedArea<S> as InPages>⟧.changed self.old) (⟦<PagedArea<S> as InPages>⟧.clean self.old) (length (file_of (⟦<PagedArea<S> as Area>⟧.frame self.old).under.0)) (place / 65536) (pages_in place (length bytes.now))) }
+        ensures unstored { ⟦<PagedArea<S> as InPages>⟧.unstored self.new ≡ ⟦<PagedArea<S> as InPages>⟧.unstored self.old }
     {
         if bytes.is_empty() {
             return Ok(());
@@ -340,6 +356,7 @@ impl<S: Store> Area for PagedArea<S> {
         ensures changes { OnOk result (Changes (⟦<PagedArea<S> as InPages>⟧.changed self.old) (⟦<PagedArea<S> as InPages>⟧.changed self.new) (⟦<PagedArea<S> as InPages>⟧.clean self.old) (⟦<PagedArea<S> as InPages>⟧.clean self.new) (length (⟦<PagedArea<S> as Area>⟧.image self.old)) n) }
         ensures some { OnErr result (ChangesSome (⟦<PagedArea<S> as InPages>⟧.changed self.old) (⟦<PagedArea<S> as InPages>⟧.changed self.new) (⟦<PagedArea<S> as InPages>⟧.clean self.old) (⟦<PagedArea<S> as InPages>⟧.clean self.new) (length (⟦<PagedArea<S> as Area>⟧.image self.old)) n) }
         ensures taken { TakesAtMost (⟦<PagedArea<S> as InPages>⟧.taken self.old) (⟦<PagedArea<S> as InPages>⟧.taken self.new) (cost_of_writing (⟦<PagedArea<S> as InPages>⟧.changed self.old) (⟦<PagedArea<S> as InPages>⟧.clean self.old) (length (file_of (⟦<PagedArea<S> as Area>⟧.frame self.old).under.0)) ((length (⟦<PagedArea<S> as Area>⟧.image self.old)) / 65536) (pages_in (length (⟦<PagedArea<S> as Area>⟧.image self.old)) n)) }
+        ensures unstored { ⟦<PagedArea<S> as InPages>⟧.unstored self.new ≡ ⟦<PagedArea<S> as InPages>⟧.unstored self.old }
     {
         if n == 0 {
             return Ok(());
@@ -376,6 +393,7 @@ impl<S: Store> Area for PagedArea<S> {
         ensures changed { ⟦<PagedArea<S> as InPages>⟧.changed self.new ≡ ⟦<PagedArea<S> as InPages>⟧.changed self.old }
         ensures clean { ⟦<PagedArea<S> as InPages>⟧.clean self.new ≡ ⟦<PagedArea<S> as InPages>⟧.clean self.old }
         ensures taken { ⟦<PagedArea<S> as InPages>⟧.taken self.new ≡ ⟦<PagedArea<S> as InPages>⟧.taken self.old }
+        ensures unstored { ⟦<PagedArea<S> as InPages>⟧.unstored self.new ≡ ⟦<PagedArea<S> as InPages>⟧.unstored self.old }
     {
         self.sheets.length -= n;
     }
@@ -389,6 +407,7 @@ impl<S: Store> Area for PagedArea<S> {
         ensures changed { ⟦<PagedArea<S> as InPages>⟧.changed self.new ≡ ⟦<PagedArea<S> as InPages>⟧.changed self.old }
         ensures clean { ⟦<PagedArea<S> as InPages>⟧.clean self.new ≡ ⟦<PagedArea<S> as InPages>⟧.clean self.old }
         ensures taken { ⟦<PagedArea<S> as InPages>⟧.taken self.new ≡ ⟦<PagedArea<S> as InPages>⟧.taken self.old }
+        ensures unstored { ⟦<PagedArea<S> as InPages>⟧.unstored self.new ≡ ⟦<PagedArea<S> as InPages>⟧.unstored self.old }
     {
         self.sheets.mark();
     }
@@ -402,6 +421,7 @@ impl<S: Store> Area for PagedArea<S> {
         ensures changed { ⟦<PagedArea<S> as InPages>⟧.changed self.new ≡ ⟦<PagedArea<S> as InPages>⟧.changed self.old }
         ensures clean { ⟦<PagedArea<S> as InPages>⟧.clean self.new ≡ ⟦<PagedArea<S> as InPages>⟧.clean self.old }
         ensures taken { ⟦<PagedArea<S> as InPages>⟧.taken self.new ≡ ⟦<PagedArea<S> as InPages>⟧.taken self.old }
+        ensures unstored { ⟦<PagedArea<S> as InPages>⟧.unstored self.new ≡ ⟦<PagedArea<S> as InPages>⟧.unstored self.old }
     {
         self.sheets.keep();
     }
@@ -415,6 +435,7 @@ impl<S: Store> Area for PagedArea<S> {
         ensures changed { (number : ℕ) → ⟦<PagedArea<S> as InPages>⟧.changed self.new number ≡ ⟦<PagedArea<S> as InPages>⟧.marked self.old number }
         ensures clean { ⟦<PagedArea<S> as InPages>⟧.clean self.new ≡ ⟦<PagedArea<S> as InPages>⟧.clean self.old }
         ensures taken { ⟦<PagedArea<S> as InPages>⟧.taken self.new ≡ ⟦<PagedArea<S> as InPages>⟧.taken self.old }
+        ensures unstored { ⟦<PagedArea<S> as InPages>⟧.unstored self.new ≡ ⟦<PagedArea<S> as InPages>⟧.unstored self.old }
     {
         self.sheets.undo();
     }

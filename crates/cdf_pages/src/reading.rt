@@ -28,6 +28,7 @@ fn fill<S: Store>(store: &mut S, place: u64, out: &mut [u8], live: usize) -> Res
     ensures taken { TakesAtMost (S.taken store.old) (S.taken store.new) live }
     ensures cause { HasCause (S.read_faults store.old) (S.read_faults store.new) result }
     ensures write { S.write_faults store.new ≡ S.write_faults store.old }
+    ensures unstored { S.unstored store.new ≡ S.unstored store.old }
 {
     let mut done = 0;
     while done < live {
@@ -66,6 +67,7 @@ fn fill_part<S: Store>(store: &mut S, place: u64, out: &mut [u8], live: usize) -
     ensures taken { TakesAtMost (S.taken store.old) (S.taken store.new) live }
     ensures cause { HasCause (S.read_faults store.old) (S.read_faults store.new) result }
     ensures write { S.write_faults store.new ≡ S.write_faults store.old }
+    ensures unstored { S.unstored store.new ≡ S.unstored store.old }
 {
     if live == 0 || read_lent(store, place, &mut out[..live]) {
         return Ok(());
@@ -102,6 +104,7 @@ pub fn load_page<S: Store>(
     ensures taken { TakesAtMost (S.taken store.old) (S.taken store.new) live }
     ensures cause { HasCauseOf AreaError.Fault (S.read_faults store.old) (S.read_faults store.new) result }
     ensures write { S.write_faults store.new ≡ S.write_faults store.old }
+    ensures unstored { S.unstored store.new ≡ S.unstored store.old }
 {
     let mut bytes = clean.room(alloc)?;
     match fill_part(store, number * PAGE, &mut bytes, live) {
@@ -202,6 +205,7 @@ fn read_missing<S: Store>(
     ensures taken { TakesAtMost (S.taken store.old) (S.taken store.new) (clean_cost (keys_of clean.old.entries) (length (file_of (S.disk store.old))) number) }
     ensures cause { HasCauseOf AreaError.Fault (S.read_faults store.old) (S.read_faults store.new) result }
     ensures write { S.write_faults store.new ≡ S.write_faults store.old }
+    ensures unstored { S.unstored store.new ≡ S.unstored store.old }
 {
     let _count = clean.len();
     if read_lent(store, number * PAGE + place as u64, out) {
@@ -242,6 +246,7 @@ fn read_clean<S: Store>(
     ensures taken { TakesAtMost (S.taken store.old) (S.taken store.new) (clean_cost (keys_of clean.old.entries) (length (file_of (S.disk store.old))) number) }
     ensures cause { HasCauseOf AreaError.Fault (S.read_faults store.old) (S.read_faults store.new) result }
     ensures write { S.write_faults store.new ≡ S.write_faults store.old }
+    ensures unstored { S.unstored store.new ≡ S.unstored store.old }
 {
     let _count = clean.len();
     if read_first(store, clean, number, place, out) {
@@ -280,6 +285,7 @@ fn read_within<S: Store>(
     ensures taken { TakesAtMost (S.taken store.old) (S.taken store.new) (page_cost (is_in (page_at sheets.now.changed)) (keys_of clean.old.entries) (length (file_of (S.disk store.old))) number) }
     ensures cause { HasCauseOf AreaError.Fault (S.read_faults store.old) (S.read_faults store.new) result }
     ensures write { S.write_faults store.new ≡ S.write_faults store.old }
+    ensures unstored { S.unstored store.new ≡ S.unstored store.old }
 {
     if let Some(page) = sheets.page(number) {
         page.read(place, out);
@@ -312,6 +318,7 @@ pub fn read_range<S: Store>(
     ensures taken { TakesAtMost (S.taken store.old) (S.taken store.new) (cost_of_reading (is_in (page_at sheets.now.changed)) (keys_of clean.old.entries) (length (file_of (S.disk store.old))) (place / 65536) (pages_in place (length out.old))) }
     ensures cause { HasCauseOf AreaError.Fault (S.read_faults store.old) (S.read_faults store.new) result }
     ensures write { S.write_faults store.new ≡ S.write_faults store.old }
+    ensures unstored { S.unstored store.new ≡ S.unstored store.old }
 {
     let _size = sheets.length;
     let mut done: usize = 0;

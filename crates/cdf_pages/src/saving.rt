@@ -1,12 +1,12 @@
 //! Writing the changed pages of an image to the attached file, and the tail behind them.
 
-ghost use Rattle.std.specs.Prelude.{◌≡◌, ◌+◌, ◌-◌, ◌*◌, ◌≤◌, ◌<◌, ◌^◌, ◌↔◌, ◌++◌, ℕ, List, length, max, min, slice_index, take, IsSome, IsTrue, OnOk, OnErr, None};
+ghost use Rattle.std.specs.Prelude.{◌≡◌, ◌⊎◌, ◌+◌, ◌-◌, ◌*◌, ◌≤◌, ◌<◌, ◌^◌, ◌↔◌, ◌++◌, ℕ, List, false, length, max, min, slice_index, take, IsSome, IsTrue, IsFalse, OnOk, OnErr, None};
 ghost use Rattle.cdf_base.specs.Bytes.{put};
 ghost use Rattle.cdf_base.specs.Causes.{HasCause};
-ghost use Rattle.cdf_store.specs.Disk.{Disk, Spent, file_of};
-ghost use Rattle.cdf_pages.specs.Growth.{HasBehind, HasTailBehind, pages_to};
+ghost use Rattle.cdf_store.specs.Disk.{Disk, Spent, cut, file_of};
+ghost use Rattle.cdf_pages.specs.Growth.{HasBehind, HasTailBehind, HoldsGrown, pages_to};
 ghost use Rattle.cdf_pages.specs.Pages.{Backed, image_of, is_in};
-ghost use Rattle.cdf_pages.specs.Saving.{FailsSaving, HasSaveCause, Holds, HoldsBetween, IsChangedRange, LiesIn, Touches, tail_bytes};
+ghost use Rattle.cdf_pages.specs.Saving.{FailsSaving, HasSaveCause, Holds, HoldsBetween, IsChangedRange, KeepsApart, LiesIn, Touches, UnlessKept, WritesOver, tail_bytes};
 ghost use Rattle.cdf_pages.specs.Standing.{pages_in};
 ghost use Rattle.cdf_pages.specs.Table.{page_at, pages_before, pages_held};
 
@@ -59,6 +59,10 @@ fn save_page<S: Store>(
     ensures taken { S.taken store.new ≡ S.taken store.old }
     ensures cause { HasCause (S.write_faults store.old) (S.write_faults store.new) result }
     ensures read { S.read_faults store.new ≡ S.read_faults store.old }
+    ensures over { WritesOver (S.disk store.old) (S.disk store.new) (S.unstored store.old) (S.unstored store.new) }
+    ensures back { OnErr result ((other : ℕ) → page_at sheets.new.changed other ≡ page_at sheets.old.changed other) }
+    ensures others { (other : ℕ) → (other ≡ number → ⊥) → page_at sheets.new.changed other ≡ page_at sheets.old.changed other }
+    ensures kept { (S.unstored store.new).change ≡ false → (other : ℕ) → other * 65536 < end → page_at sheets.new.changed other ≡ page_at sheets.old.changed other }
 {
     let count = live_bytes(end, number);
     let Some(page) = sheets.take(number) else {
@@ -106,6 +110,13 @@ fn save_first<S: Store>(
     ensures taken { S.taken store.new ≡ S.taken store.old }
     ensures cause { HasCause (S.write_faults store.old) (S.write_faults store.new) result }
     ensures read { S.read_faults store.new ≡ S.read_faults store.old }
+    ensures over { WritesOver (S.disk store.old) (S.disk store.new) (S.unstored store.old) (S.unstored store.new) }
+    ensures idle { end ≡ 0 → S.unstored store.new ≡ S.unstored store.old }
+    ensures back { OnErr result ((other : ℕ) → page_at sheets.new.changed other ≡ page_at sheets.old.changed other) }
+    ensures others { (other : ℕ) → (other ≡ number → ⊥) → page_at sheets.new.changed other ≡ page_at sheets.old.changed other }
+    ensures kept { (S.unstored store.new).change ≡ false → (other : ℕ) → other * 65536 < end → page_at sheets.new.changed other ≡ page_at sheets.old.changed other }
+    ensures inside { OnErr result (number * 65536 < end) }
+    ensures left { OnErr result ((S.spare store.old).writes ≤ (S.spare store.new).writes + pages_before sheets.old.changed (pages_to end)) }
 {
     if is_within(end, number) {
         return save_page(store, sheets, end, number);
@@ -137,11 +148,14 @@ fn save_pages<S: Store>(store: &mut S, sheets: &mut Sheets, end: u64) -> Result<
     ensures touched { Touches (λ range. (number : ℕ) × IsTrue (is_in (page_at sheets.old.changed) number) × LiesIn number range) (S.disk store.old).touched (S.disk store.new).touched }
     ensures length { sheets.new.length ≡ sheets.old.length }
     ensures marked { sheets.new.marked ≡ None }
-    ensures writes { OnOk result ((S.spare store.old).writes ≤ (S.spare store.new).writes + pages_before sheets.old.changed (pages_to end)) }
+    ensures writes { (S.spare store.old).writes ≤ (S.spare store.new).writes + pages_before sheets.old.changed (pages_to end) }
     ensures spare { (S.spare store.new).end ≡ (S.spare store.old).end }
     ensures taken { S.taken store.new ≡ S.taken store.old }
     ensures cause { HasCause (S.write_faults store.old) (S.write_faults store.new) result }
     ensures read { S.read_faults store.new ≡ S.read_faults store.old }
+    ensures over { WritesOver (S.disk store.old) (S.disk store.new) (S.unstored store.old) (S.unstored store.new) }
+    ensures idle { end ≡ 0 → S.unstored store.new ≡ S.unstored store.old }
+    ensures kept { OnErr result ((S.unstored store.new).change ≡ false → (other : ℕ) → page_at sheets.new.changed other ≡ None → page_at sheets.old.changed other ≡ None) }
 {
     while let Some(number) = sheets.first() {
         save_first(store, sheets, end, number)?;
@@ -167,6 +181,9 @@ fn save_tail<S: Store>(store: &mut S, place: u64, front: &[u8]) -> Result<(), Fa
     ensures taken { S.taken store.new ≡ S.taken store.old }
     ensures cause { HasCause (S.write_faults store.old) (S.write_faults store.new) result }
     ensures read { S.read_faults store.new ≡ S.read_faults store.old }
+    ensures over { WritesOver (S.disk store.old) (S.disk store.new) (S.unstored store.old) (S.unstored store.new) }
+    ensures idle { length front.now ≡ 0 → S.unstored store.new ≡ S.unstored store.old }
+    ensures some { OnErr result (0 < length front.now) }
 {
     if front.is_empty() {
         return Ok(());
@@ -206,6 +223,11 @@ fn write_over<S: Store>(
     ensures taken { S.taken store.new ≡ S.taken store.old }
     ensures cause { HasCause (S.write_faults store.old) (S.write_faults store.new) result }
     ensures read { S.read_faults store.new ≡ S.read_faults store.old }
+    ensures over { WritesOver (S.disk store.old) (S.disk store.new) (S.unstored store.old) (S.unstored store.new) }
+    ensures idle { file_size ≡ 0 → S.unstored store.new ≡ S.unstored store.old }
+    ensures whole { OnErr result (length (file_of (S.disk store.new)) ≡ length (file_of (S.disk store.old))) }
+    ensures backed { Backed (page_at sheets.old.changed) file_size sheets.old.length → OnErr result ((S.unstored store.new).change ≡ false → Backed (page_at sheets.new.changed) file_size sheets.old.length) }
+    ensures writes { (S.spare store.old).writes ≤ (S.spare store.new).writes + pages_before sheets.old.changed (pages_to (min sheets.old.length file_size)) + 2 }
 {
     let length = sheets.length;
     save_pages(store, sheets, length.min(file_size))?;
@@ -216,6 +238,71 @@ fn write_over<S: Store>(
         store.set_len(end)?;
     }
     Ok(())
+}
+
+/// Cuts a file back to the size that it had, where nothing of it was written over or cut since it was stored. Says whether it has its
+/// old bytes then.
+fn cut_back<S: Store>(store: &mut S, file_size: u64) -> bool
+    requires held { IsSome (S.disk store.old).held }
+    requires size { file_size ≤ length (file_of (S.disk store.old)) }
+    requires writes { 1 ≤ (S.spare store.old).writes }
+    ensures unchanged { IsTrue result → (S.unstored store.old).change ≡ false }
+    ensures kept { IsTrue result → ((S.disk store.new ≡ S.disk store.old) × (length (file_of (S.disk store.old)) ≡ file_size)) ⊎ (S.disk store.new ≡ cut (S.disk store.old) file_size) }
+    ensures stays { IsFalse result → S.disk store.new ≡ S.disk store.old }
+    ensures left { IsFalse result → S.unstored store.new ≡ S.unstored store.old }
+    ensures touched { (S.disk store.new).touched ≡ (S.disk store.old).touched }
+    ensures taken { S.taken store.new ≡ S.taken store.old }
+    ensures write { S.write_faults store.old ≤ S.write_faults store.new }
+    ensures read { S.read_faults store.new ≡ S.read_faults store.old }
+{
+    if store.unstored().change {
+        return false;
+    }
+    store.size() == file_size || store.set_len(file_size).is_ok()
+}
+
+/// Writes over what has grown, as `write_over` does; where that fails before a byte was written over, the file is cut back to what it
+/// was before it grew.
+fn write_over_or_back<S: Store>(
+    store: &mut S,
+    sheets: &mut Sheets,
+    file_size: u64,
+    tail: &[u8],
+) -> Result<(), SaveError>
+    requires unmarked { sheets.old.marked ≡ None }
+    requires held { IsSome (S.disk store.old).held }
+    requires long { length (file_of (S.disk store.old)) ≡ max file_size (sheets.old.length + length tail.now) }
+    requires behind { HasBehind (page_at sheets.old.changed) (file_of (S.disk store.old)) file_size sheets.old.length }
+    requires tail_behind { HasTailBehind tail.now sheets.old.length (file_of (S.disk store.old)) (file_size - sheets.old.length) }
+    requires size { length tail.now ≤ 65536 }
+    requires fits { sheets.old.length + length tail.now < 2 ^ 64 }
+    requires writes { pages_before sheets.old.changed (pages_to (min sheets.old.length file_size)) + 3 ≤ (S.spare store.old).writes }
+    requires end { sheets.old.length + length tail.now ≤ (S.spare store.old).end }
+    requires backed { Backed (page_at sheets.old.changed) file_size sheets.old.length }
+    ensures saved { (first : Disk S.Under) → HoldsGrown first (image_of (page_at sheets.old.changed) (file_of (S.disk store.old)) sheets.old.length ++ tail.now) (S.disk store.old)
+        → OnOk result (Holds first (image_of (page_at sheets.old.changed) (file_of (S.disk store.old)) sheets.old.length ++ tail.now) (S.disk store.new)) }
+    ensures failed { (first : Disk S.Under) → file_size ≡ length (file_of first) → HoldsGrown first (image_of (page_at sheets.old.changed) (file_of (S.disk store.old)) sheets.old.length ++ tail.now) (S.disk store.old)
+        → FailsSaving first (image_of (page_at sheets.old.changed) (file_of (S.disk store.old)) sheets.old.length ++ tail.now) (S.disk store.new) result }
+    ensures image { image_of (page_at sheets.new.changed) (file_of (S.disk store.new)) sheets.old.length ≡ image_of (page_at sheets.old.changed) (file_of (S.disk store.old)) sheets.old.length }
+    ensures backed { Backed (page_at sheets.new.changed) (length (file_of (S.disk store.new))) sheets.old.length }
+    ensures less { (other : ℕ) → page_at sheets.old.changed other ≡ None → page_at sheets.new.changed other ≡ None }
+    ensures none { OnOk result ((number : ℕ) → page_at sheets.new.changed number ≡ None) }
+    ensures touched { Touches (IsChangedRange (is_in (page_at sheets.old.changed)) sheets.old.length (length tail.now)) (S.disk store.old).touched (S.disk store.new).touched }
+    ensures length { sheets.new.length ≡ sheets.old.length }
+    ensures marked { sheets.new.marked ≡ None }
+    ensures taken { S.taken store.new ≡ S.taken store.old }
+    ensures cause { HasSaveCause (S.write_faults store.old) (S.write_faults store.new) result }
+    ensures read { S.read_faults store.new ≡ S.read_faults store.old }
+    ensures growth { UnlessKept result ((S.unstored store.new).growth ≡ (S.unstored store.old).growth) }
+    ensures idle { file_size ≡ 0 → UnlessKept result (S.unstored store.new ≡ S.unstored store.old) }
+{
+    match write_over(store, sheets, file_size, tail) {
+        Ok(()) => Ok(()),
+        Err(Failed) => {
+            let kept = cut_back(store, file_size);
+            Err(SaveError::Failed { kept })
+        }
+    }
 }
 
 /// How many pages so many bytes lie in.
@@ -229,9 +316,10 @@ fn page_count(size: u64) -> u64
     (size - 1) / PAGE + 1
 }
 
-/// How many writes and cuts there are at most: those of the pages on both sides of the end of the file, two parts of a tail, and a cut.
+/// How many writes and cuts there are at most: those of the pages on both sides of the end of the file, two parts of a tail, a cut, and
+/// one back.
 fn most_writes(sheets: &Sheets, file_size: u64) -> u64
-    ensures { result ≡ pages_in file_size (sheets.now.length - file_size) + pages_before sheets.now.changed (pages_to (min sheets.now.length file_size)) + 3 }
+    ensures { result ≡ pages_in file_size (sheets.now.length - file_size) + pages_before sheets.now.changed (pages_to (min sheets.now.length file_size)) + 4 }
 {
     let length = sheets.length;
     let behind = if length <= file_size {
@@ -239,11 +327,11 @@ fn most_writes(sheets: &Sheets, file_size: u64) -> u64
     } else {
         page_count(length) - file_size / PAGE
     };
-    behind + sheets.count_before(page_count(length.min(file_size))) + 3
+    behind + sheets.count_before(page_count(length.min(file_size))) + 4
 }
 
-/// Makes the file, of so many bytes, the image and a tail behind it. What lies past its end is written first, so that the file grows
-/// before its bytes are written over. Room for all writes is made before, which is the one want of memory.
+/// Makes the file, of so many bytes, the image and a tail behind it. What lies past its end is written first, so that the file grows,
+/// and has that stored, before its bytes are written over. Room for all writes is made before, which is the one want of memory.
 pub fn save_image<S: Store>(
     store: &mut S,
     sheets: &mut Sheets,
@@ -268,14 +356,12 @@ pub fn save_image<S: Store>(
     ensures taken { S.taken store.new ≡ S.taken store.old }
     ensures cause { HasSaveCause (S.write_faults store.old) (S.write_faults store.new) result }
     ensures read { S.read_faults store.new ≡ S.read_faults store.old }
+    ensures apart { KeepsApart result (S.unstored store.old) (S.unstored store.new) }
 {
     let end = sheets.length + tail.len() as u64;
     store.reserve(most_writes(sheets, file_size), end)?;
     grow(store, sheets, file_size, tail)?;
-    match write_over(store, sheets, file_size, tail) {
-        Ok(()) => Ok(()),
-        Err(Failed) => Err(SaveError::Failed { kept: false }),
-    }
+    write_over_or_back(store, sheets, file_size, tail)
 }
 
 /// The bytes of a tail, if there is one.

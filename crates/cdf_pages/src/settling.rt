@@ -27,6 +27,7 @@ fn fill_front<S: Store>(store: &mut S, place: u64, out: &mut [u8]) -> Result<usi
     ensures taken { TakesAtMost (S.taken store.old) (S.taken store.new) (min (length out.old) (length (file_of (S.disk store.old)) - place)) }
     ensures cause { HasCause (S.read_faults store.old) (S.read_faults store.new) result }
     ensures write { S.write_faults store.new ≡ S.write_faults store.old }
+    ensures unstored { S.unstored store.new ≡ S.unstored store.old }
 {
     let mut done = 0;
     while done < out.len() {
@@ -55,6 +56,7 @@ fn has_bytes<S: Store>(
     ensures taken { TakesAtMost (S.taken store.old) (S.taken store.new) (min (length bytes.now) (length (file_of (S.disk store.old)) - place)) }
     ensures cause { HasCause (S.read_faults store.old) (S.read_faults store.new) result }
     ensures write { S.write_faults store.new ≡ S.write_faults store.old }
+    ensures unstored { S.unstored store.new ≡ S.unstored store.old }
 {
     let count = fill_front(store, place, out)?;
     Ok(count == bytes.len() && *bytes == *out)
@@ -81,6 +83,7 @@ fn has_page<S: Store>(
     ensures taken { TakesAtMost (S.taken store.old) (S.taken store.new) (min 65536 (length (file_of (S.disk store.old)) - number * 65536)) }
     ensures cause { HasCause (S.read_faults store.old) (S.read_faults store.new) result }
     ensures write { S.write_faults store.new ≡ S.write_faults store.old }
+    ensures unstored { S.unstored store.new ≡ S.unstored store.old }
 {
     let live = live_bytes(sheets.length, number);
     let place = number * PAGE;
@@ -114,6 +117,7 @@ fn is_settled<S: Store>(
     ensures past { sheets.now.length ≤ number * 65536 → S.taken store.new ≡ S.taken store.old }
     ensures cause { HasCause (S.read_faults store.old) (S.read_faults store.new) result }
     ensures write { S.write_faults store.new ≡ S.write_faults store.old }
+    ensures unstored { S.unstored store.new ≡ S.unstored store.old }
 {
     if !is_within(sheets.length, number) {
         return Ok(true);
@@ -148,6 +152,7 @@ fn settle_page<S: Store>(
     ensures past { sheets.old.length ≤ number * 65536 → S.taken store.new ≡ S.taken store.old }
     ensures cause { HasCause (S.read_faults store.old) (S.read_faults store.new) result }
     ensures write { S.write_faults store.new ≡ S.write_faults store.old }
+    ensures unstored { S.unstored store.new ≡ S.unstored store.old }
 {
     if !is_settled(store, sheets, file_size, number, buffer)? {
         return Ok(());
@@ -178,6 +183,7 @@ fn settle_all<S: Store>(
     ensures taken { TakesAtMost (S.taken store.old) (S.taken store.new) (cost_of_writing (λ number. not (is_in (page_at sheets.old.changed) number)) [] (length (file_of (S.disk store.old))) 0 (pages_in 0 sheets.old.length)) }
     ensures cause { HasCause (S.read_faults store.old) (S.read_faults store.new) result }
     ensures write { S.write_faults store.new ≡ S.write_faults store.old }
+    ensures unstored { S.unstored store.new ≡ S.unstored store.old }
 {
     let mut next = sheets.first();
     while let Some(number) = next {
@@ -208,6 +214,7 @@ pub fn settle_pages<S: Store>(
     ensures taken { TakesAtMost (S.taken store.old) (S.taken store.new) (cost_of_writing (λ number. not (is_in (page_at sheets.old.changed) number)) [] (length (file_of (S.disk store.old))) 0 (pages_in 0 sheets.old.length)) }
     ensures cause { HasCauseOf AreaError.Fault (S.read_faults store.old) (S.read_faults store.new) result }
     ensures write { S.write_faults store.new ≡ S.write_faults store.old }
+    ensures unstored { S.unstored store.new ≡ S.unstored store.old }
 {
     let mut buffer = Vec::new(alloc);
     buffer.resize(PAGE as usize, 0)?;

@@ -15,6 +15,8 @@ loop-place-init g c = record {
   taken = refl;
   write = refl;
   read = refl;
+  change = refl;
+  idle = λ short. refl;
 }
 
 pub append-requires-clause-held : goal.append-requires-clause-held
@@ -62,4 +64,6 @@ loop-place-preserved g c =
       taken = ok.taken ∙ inv.taken;
       write = ok.cause.done ∙ inv.write;
       read = ok.read ∙ inv.read;
+      change = ok.change ∙ inv.change;
+      idle = λ none. absurd (omega (arith, short, inv.low, none));
     }

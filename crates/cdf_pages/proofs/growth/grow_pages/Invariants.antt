@@ -13,6 +13,8 @@ invariant-loop-place g l = record {
   taken : g.S.Store.taken l.store ≡ g.S.Store.taken l.fn.store;
   write : g.S.Store.write_faults l.store ≡ g.S.Store.write_faults l.fn.store;
   read : g.S.Store.read_faults l.store ≡ g.S.Store.read_faults l.fn.store;
+  change : (g.S.Store.unstored l.store).change ≡ (g.S.Store.unstored l.fn.store).change;
+  idle : l.sheets.length ≤ l.file_size → g.S.Store.unstored l.store ≡ g.S.Store.unstored l.fn.store;
 }
 
 abbrev pub decreases-loop-place : goal.decreases-loop-place

@@ -27,6 +27,7 @@ loop-number-init g c =
       taken = takes_same _ _ _ refl;
       read = refl;
       write = refl;
+      unstored = refl;
     }
 
 pub returns-in_err-own_page-clause-clean : goal.returns-in_err-own_page-clause-clean
@@ -84,6 +85,7 @@ loop-number-preserved g c =
       disk = c.in_ok-own_page.ensures.disk ∙ inv.disk;
       read = c.in_ok-own_page.ensures.cause.done ∙ inv.read;
       write = c.in_ok-own_page.ensures.write ∙ inv.write;
+      unstored = c.in_ok-own_page.ensures.unstored ∙ inv.unstored;
     }
 
 pub returns-in_err-own_page-clause-apart : goal.returns-in_err-own_page-clause-apart

@@ -21,5 +21,6 @@ loop-done-preserved g c =
       disk = c.in_ok-count.ensures.disk ∙ inv.disk;
       read = c.in_ok-count.ensures.cause.done ∙ inv.read;
       write = c.in_ok-count.ensures.write ∙ inv.write;
+      unstored = c.in_ok-count.ensures.unstored ∙ inv.unstored;
       taken = takes_more _ _ _ _ c.loop-done.done c.in_ok-count.count inv.taken c.in_ok-count.ensures.taken;
     }

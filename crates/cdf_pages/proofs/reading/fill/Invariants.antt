@@ -9,6 +9,7 @@ invariant-loop-done g l = record {
   disk : g.S.Store.disk l.store ≡ g.S.Store.disk l.fn.store;
   read : g.S.Store.read_faults l.store ≡ g.S.Store.read_faults l.fn.store;
   write : g.S.Store.write_faults l.store ≡ g.S.Store.write_faults l.fn.store;
+  unstored : g.S.Store.unstored l.store ≡ g.S.Store.unstored l.fn.store;
   taken : TakesAtMost (g.S.Store.taken l.fn.store) (g.S.Store.taken l.store) l.done;
 }
 

@@ -22,6 +22,7 @@ loop-done-init g c =
       disk = refl;
       read = refl;
       write = refl;
+      unstored = refl;
     }
 
 -- what one page more costs
@@ -119,4 +120,5 @@ loop-done-preserved g c =
       disk = c.in_ok-read_within.ensures.disk ∙ inv.disk;
       read = c.in_ok-read_within.ensures.cause.done ∙ inv.read;
       write = c.in_ok-read_within.ensures.write ∙ inv.write;
+      unstored = c.in_ok-read_within.ensures.unstored ∙ inv.unstored;
     }

@@ -3,6 +3,8 @@ use Rattle.cdf_pages.proofs.Between.{long_part, long_written, part_between, same
 use Rattle.cdf_pages.proofs.Images.{image_pages, image_size}
 use Rattle.cdf_pages.proofs.SavedPage.{behind_stays, given_back, goes_or_stays, page_in_image, part_same, saved_same}
 use Rattle.cdf_pages.proofs.Touched.{touches_part, touches_write}
+use Rattle.cdf_pages.proofs.Filling.{true_not_false}
+use Rattle.cdf_pages.proofs.WritesOver.{over_change, over_part, over_write}
 use Rattle.cdf_pages.proofs.saving.save_page.Goals as goal
 
 -- ---- the page was written
@@ -57,6 +59,22 @@ returns-in-Ok-clause-touched g c =
     let xs = take c.live_bytes-count.result c.into_bytes.result.items in
     let short : length xs ≤ 65536 = search rules in
     touches_write (LiesIn c.args.number) (g.S.Store.disk c.args.store.now) (g.S.Store.disk c.write_page.new.self) (c.args.number * 65536) xs (omega arith, omega (arith, short)) c.in-Ok.ensures.ok
+
+-- some of its bytes lie before the end, and all that are written
+some_inside : (end number count : ℕ) → number * 65536 < end → count ≡ min 65536 (end - number * 65536) → (0 < count) × (number * 65536 + count ≤ end)
+some_inside end number count inside is = (omega (arith, inside, is), omega (arith, inside, is))
+
+pub returns-in-Ok-clause-over : goal.returns-in-Ok-clause-over
+returns-in-Ok-clause-over g c =
+    let some = some_inside c.args.end c.args.number c.live_bytes-count.result c.requires.inside c.live_bytes-count.ensures in
+    over_write (g.S.Store.disk c.args.store.now) (g.S.Store.disk c.write_page.new.self) (g.S.Store.unstored c.args.store.now) (g.S.Store.unstored c.write_page.new.self) (c.args.number * 65536) c.live_bytes-count.result
+    (omega (arith, some.1, c.requires.end, c.requires.long)) some.0 c.in-Ok.ensures.unstored
+
+pub returns-in-Ok-clause-kept : goal.returns-in-Ok-clause-kept
+returns-in-Ok-clause-kept g c unchanged =
+    let some = some_inside c.args.end c.args.number c.live_bytes-count.result c.requires.inside c.live_bytes-count.ensures in
+    let changed = over_change (length (file_of (g.S.Store.disk c.args.store.now))) (c.args.number * 65536) c.live_bytes-count.result (g.S.Store.unstored c.args.store.now) (omega (arith, some.1, c.requires.end, c.requires.long)) some.0 in
+    absurd (true_not_false (sym (ap (λ x. x.change) c.in-Ok.ensures.unstored ∙ changed) ∙ unchanged))
 
 -- ---- it came back, and is what it was
 
@@ -116,3 +134,18 @@ returns-in-Err-clause-touched g c =
     let xs = take c.live_bytes-count.result c.into_bytes.result.items in
     let short : length xs ≤ 65536 = search rules in
     touches_part (LiesIn c.args.number) (g.S.Store.disk c.args.store.now) (g.S.Store.disk c.write_page.new.self) (c.args.number * 65536) xs (λ n within. (omega arith, omega (arith, within, short))) c.in-Err.ensures.part
+
+pub returns-in-Err-clause-over : goal.returns-in-Err-clause-over
+returns-in-Err-clause-over g c =
+    let some = some_inside c.args.end c.args.number c.live_bytes-count.result c.requires.inside c.live_bytes-count.ensures in
+    over_part (g.S.Store.disk c.args.store.now) (g.S.Store.disk c.write_page.new.self) (g.S.Store.unstored c.args.store.now) (g.S.Store.unstored c.write_page.new.self) (c.args.number * 65536) c.live_bytes-count.result
+    (omega (arith, some.1, c.requires.end, c.requires.long)) c.in-Err.ensures.left
+
+pub returns-in-Err-clause-back : goal.returns-in-Err-clause-back
+returns-in-Err-clause-back g c q = same g c q
+
+pub returns-in-Err-clause-others : goal.returns-in-Err-clause-others
+returns-in-Err-clause-others g c q else = same g c q
+
+pub returns-in-Err-clause-kept : goal.returns-in-Err-clause-kept
+returns-in-Err-clause-kept g c unchanged q inside = same g c q

@@ -1,7 +1,10 @@
-use Rattle.cdf_pages.proofs.Common.{Disk, HoldsBetween, IsTrue, LiesIn, List, None, Option, Touches, ap, arith, file_of, image_of, is_in, length, page_at, refl, subst, sym, ℕ, ◌++◌, ◌+◌, ◌∙◌, ◌≡◌, ◌≤◌}
+use Rattle.cdf_pages.proofs.Common.{Disk, HoldsBetween, IsTrue, LiesIn, List, None, Option, Touches, ap, arith, cases_lt, false, file_of, image_of, inl, inr, is_in, length, page_at, refl, subst, sym, ℕ, ◌*◌, ◌++◌, ◌+◌, ◌<◌, ◌∙◌, ◌≡◌, ◌≤◌}
 use Rattle.std.proofs.Common.{IsSome}
 use Rattle.cdf_pages.proofs.SavedPage.{changed_at_first}
+use Rattle.cdf_pages.proofs.Growing.{some_not_none}
 use Rattle.cdf_pages.proofs.Touched.{touches_none, touches_then, touches_weaker}
+use Rattle.cdf_pages.proofs.WritesOver.{over_none, over_then}
+use Rattle.cdf_pages.proofs.Filling.{on_err}
 use Rattle.cdf_pages.proofs.saving.save_pages.Goals as goal
 
 pub loop-number-init : goal.loop-number-init
@@ -21,6 +24,10 @@ loop-number-init g c = record {
   taken = refl;
   write = refl;
   read = refl;
+  over = over_none _ _;
+  idle = λ none. refl;
+  kept = λ unchanged q inside e. e;
+  behind_last = λ left there inside q past e. e;
 }
 
 module _ {U : Type 0} (p p' : ℕ → Option (List ℕ)) (first mid next : Disk U) (n n' k : ℕ) (same : image_of p' (file_of mid) n ≡ image_of p (file_of first) n) (len : n' ≡ n) where
@@ -37,6 +44,43 @@ touched_next : (p p' : ℕ → Option (List ℕ)) (a b c : Option (List (ℕ × 
     → Touches (λ range. (number : ℕ) × IsTrue (is_in p number) × LiesIn number range) a b → Touches (LiesIn k) b c → Touches (λ range. (number : ℕ) × IsTrue (is_in p number) × LiesIn number range) a c
 touched_next p p' a b c k less some before now =
     touches_then _ a b c before (touches_weaker (LiesIn k) _ b c (λ range lies. (k, changed_at_first p p' k less some, lies)) now)
+
+-- The first page is written or forgotten. While one is left before the end, so was the first, and none behind the end was forgotten.
+module _ (p p' : ℕ → Option (List ℕ)) (k end : ℕ) (least : (q : ℕ) → q < k → p q ≡ None) where
+  first_inside : (left : ℕ) → IsSome (p left) → left * 65536 < end → k * 65536 < end
+  first_inside left there inside = elim (cases_lt left k) [
+    | inl before ↦ absurd (some_not_none (p left) there (least left before))
+    | inr from_ ↦ omega (arith, from_, inside)
+  ]
+
+  still_some : (left : ℕ) → ((q : ℕ) → p q ≡ None → p' q ≡ None) → IsSome (p' left) → IsSome (p left)
+  still_some left less there = changed_at_first p p' left less there
+
+  behind_next : ((q : ℕ) → p q ≡ None → p' q ≡ None) → ((q : ℕ) → (q ≡ k → ⊥) → p' q ≡ p q) → (left : ℕ) → IsSome (p' left) → left * 65536 < end → (q : ℕ) → end ≤ q * 65536 → p' q ≡ None → p q ≡ None
+  behind_next less others left there inside q past none =
+      let first = first_inside left (still_some left less there) inside in
+      sym (others q (λ e. omega (arith, e, first, past))) ∙ none
+
+pub returns-in_err-save_first-clause-over : goal.returns-in_err-save_first-clause-over
+returns-in_err-save_first-clause-over g c = over_then _ _ _ _ _ _ c.loop-number.invariant.over c.save_first.ensures.over
+
+pub returns-in_err-save_first-clause-idle : goal.returns-in_err-save_first-clause-idle
+returns-in_err-save_first-clause-idle g c none = c.save_first.ensures.idle none ∙ c.loop-number.invariant.idle none
+
+pub returns-in_err-save_first-clause-kept : goal.returns-in_err-save_first-clause-kept
+returns-in_err-save_first-clause-kept g c =
+    let inv = c.loop-number.invariant in
+    let err = c.in_err-save_first.ensures in
+    let kept : (g.S.Store.unstored c.save_first.new.store).change ≡ false → (q : ℕ) → page_at c.save_first.new.sheets.changed q ≡ None → page_at c.args.sheets.now.changed q ≡ None = λ unchanged q none.
+    (let was : page_at c.loop-number.sheets.changed q ≡ None = sym (err.back q) ∙ none in
+    elim (cases_lt (q * 65536) c.args.end) [
+      | inl inside ↦ inv.kept (ap (λ x. x.change) (sym (c.save_first.ensures.over.untouched unchanged).1) ∙ unchanged) q inside was
+      | inr past ↦ inv.behind_last c.in-Some.number c.in-Some.ensures.there err.inside q past was
+    ]) in
+    on_err _ kept
+
+pub returns-in_err-save_first-clause-writes : goal.returns-in_err-save_first-clause-writes
+returns-in_err-save_first-clause-writes g c = omega (arith, c.loop-number.invariant.spent, c.in_err-save_first.ensures.left)
 
 pub returns-in_err-save_first-clause-image : goal.returns-in_err-save_first-clause-image
 returns-in_err-save_first-clause-image g c =
@@ -65,6 +109,11 @@ pub loop-number-preserved : goal.loop-number-preserved
 loop-number-preserved g c =
     let inv = c.loop-number.invariant in
     let there = c.in-Some.ensures.there in
+    let P = page_at c.loop-number.sheets.changed in
+    let Q = page_at c.save_first.new.sheets.changed in
+    let k = c.in-Some.number in
+    let least = c.in-Some.ensures.least in
+    let less = c.save_first.ensures.less in
     record {
       image = ap (λ n. image_of (page_at c.save_first.new.sheets.changed) (file_of (g.S.Store.disk c.save_first.new.store)) n) (sym inv.length) ∙ c.in_ok-save_first.ensures.image
           ∙ ap (λ n. image_of (page_at c.loop-number.sheets.changed) (file_of (g.S.Store.disk c.loop-number.store)) n) inv.length ∙ inv.image;
@@ -83,4 +132,10 @@ loop-number-preserved g c =
       taken = c.in_ok-save_first.ensures.taken ∙ inv.taken;
       write = c.in_ok-save_first.ensures.cause.done ∙ inv.write;
       read = c.in_ok-save_first.ensures.read ∙ inv.read;
+      over = over_then _ _ _ _ _ _ inv.over c.save_first.ensures.over;
+      idle = λ none. c.save_first.ensures.idle none ∙ inv.idle none;
+      kept = λ unchanged q inside none.
+          inv.kept (ap (λ x. x.change) (sym (c.save_first.ensures.over.untouched unchanged).1) ∙ unchanged) q inside (sym (c.save_first.ensures.kept unchanged q inside) ∙ none);
+      behind_last = λ left still inside q past none.
+          inv.behind_last left (still_some P Q k c.args.end least left less still) inside q past (behind_next P Q k c.args.end least less c.save_first.ensures.others left still inside q past none);
     }

@@ -1,4 +1,5 @@
-use Rattle.cdf_pages.proofs.Common.{Disk, HasBehind, HoldsBetween, IsTrue, LiesIn, List, None, Touches, file_of, image_of, is_in, length, page_at, pages_before, pages_held, pages_to, slice_index, ℕ, ◌++◌, ◌+◌, ◌≡◌, ◌≤◌}
+use Rattle.cdf_pages.proofs.Common.{Disk, HasBehind, HoldsBetween, IsTrue, LiesIn, List, None, Touches, false, file_of, image_of, is_in, length, page_at, pages_before, pages_held, pages_to, slice_index, ℕ, ◌*◌, ◌++◌, ◌+◌, ◌<◌, ◌≡◌, ◌≤◌}
+use Rattle.cdf_pages.specs.Saving.{WritesOver}
 use Rattle.std.proofs.Common.{IsSome}
 use Rattle.cdf_pages.proofs.saving.save_pages.Given as goal
 
@@ -20,6 +21,10 @@ invariant-loop-number g l = record {
   taken : g.S.Store.taken l.store ≡ g.S.Store.taken l.fn.store;
   write : g.S.Store.write_faults l.store ≡ g.S.Store.write_faults l.fn.store;
   read : g.S.Store.read_faults l.store ≡ g.S.Store.read_faults l.fn.store;
+  over : WritesOver (g.S.Store.disk l.fn.store) (g.S.Store.disk l.store) (g.S.Store.unstored l.fn.store) (g.S.Store.unstored l.store);
+  idle : l.end ≡ 0 → g.S.Store.unstored l.store ≡ g.S.Store.unstored l.fn.store;
+  kept : (g.S.Store.unstored l.store).change ≡ false → (number : ℕ) → number * 65536 < l.end → page_at l.sheets.changed number ≡ None → page_at l.fn.sheets.changed number ≡ None;
+  behind_last : (left : ℕ) → IsSome (page_at l.sheets.changed left) → left * 65536 < l.end → (number : ℕ) → l.end ≤ number * 65536 → page_at l.sheets.changed number ≡ None → page_at l.fn.sheets.changed number ≡ None;
 }
 
 abbrev pub decreases-loop-number : goal.decreases-loop-number

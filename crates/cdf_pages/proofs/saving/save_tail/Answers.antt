@@ -1,7 +1,10 @@
-use Rattle.cdf_pages.proofs.Common.{ap, arith, eqb-true, file_of, length, refl, sym, ◌+◌, ◌∙◌}
+use Rattle.cdf_pages.proofs.Common.{ap, arith, eqb-true, false, file_of, length, refl, suc, sym, zero, ℕ, ◌+◌, ◌<◌, ◌∙◌, ◌≡◌}
+use Rattle.std.proofs.Common.{eqb}
 use Rattle.cdf_pages.proofs.Between.{front_part, front_written, long_part, long_written, part_between, written_between}
 use Rattle.cdf_pages.proofs.Images.{put_empty}
+use Rattle.cdf_pages.proofs.Filling.{on_err}
 use Rattle.cdf_pages.proofs.Touched.{touches_none, touches_part, touches_write}
+use Rattle.cdf_pages.proofs.WritesOver.{over_none, over_part, over_write}
 use Rattle.cdf_pages.proofs.saving.save_tail.Goals as goal
 
 pub returns-then-is_empty-clause-written : goal.returns-then-is_empty-clause-written
@@ -39,3 +42,27 @@ returns-clause-between g c first new whole fits same h =
 
 pub returns-clause-touched : goal.returns-clause-touched
 returns-clause-touched g c = touches_write _ (g.S.Store.disk c.args.store.now) (g.S.Store.disk c.write_at.new.self) c.args.place c.args.front.now (omega arith, omega arith) c.in_ok-write_at.ensures.ok
+
+-- there is a byte of it
+some_front : (n : ℕ) → eqb n 0 ≡ false → 0 < n
+some_front zero e = cc e
+some_front (suc n) e = omega arith
+
+pub returns-then-is_empty-clause-over : goal.returns-then-is_empty-clause-over
+returns-then-is_empty-clause-over g c = over_none _ _
+
+pub returns-in_err-write_at-clause-over : goal.returns-in_err-write_at-clause-over
+returns-in_err-write_at-clause-over g c = over_part (g.S.Store.disk c.args.store.now) (g.S.Store.disk c.write_at.new.self) _ _ c.args.place (length c.args.front.now) c.requires.place c.in_err-write_at.ensures.left
+
+pub returns-in_err-write_at-clause-idle : goal.returns-in_err-write_at-clause-idle
+returns-in_err-write_at-clause-idle g c none = absurd (omega (arith, none, some_front (length c.args.front.now) (sym c.is_empty.ensures ∙ c.if-is_empty.false)))
+
+pub returns-in_err-write_at-clause-some : goal.returns-in_err-write_at-clause-some
+returns-in_err-write_at-clause-some g c = on_err _ (some_front (length c.args.front.now) (sym c.is_empty.ensures ∙ c.if-is_empty.false))
+
+pub returns-clause-over : goal.returns-clause-over
+returns-clause-over g c =
+    over_write (g.S.Store.disk c.args.store.now) (g.S.Store.disk c.write_at.new.self) _ _ c.args.place (length c.args.front.now) c.requires.place (some_front (length c.args.front.now) (sym c.is_empty.ensures ∙ c.if-is_empty.false)) c.in_ok-write_at.ensures.unstored
+
+pub returns-clause-idle : goal.returns-clause-idle
+returns-clause-idle g c none = absurd (omega (arith, none, some_front (length c.args.front.now) (sym c.is_empty.ensures ∙ c.if-is_empty.false)))

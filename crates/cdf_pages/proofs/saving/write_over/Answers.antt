@@ -1,8 +1,9 @@
-use Rattle.cdf_pages.proofs.Common.{Bool, Disk, HasTailBehind, HoldsBetween, IsChangedRange, IsTrue, LiesIn, List, None, Option, Touches, ap, arith, file_of, image_of, inl, inr, is_in, length, length-take-le, max, min, page_at, slice_index, subst, sym, take, ℕ, ◌++◌, ◌+◌, ◌-◌, ◌∙◌, ◌≡◌, ◌≤◌}
+use Rattle.cdf_pages.proofs.Common.{Backed, Bool, Disk, HasTailBehind, HoldsBetween, IsChangedRange, IsTrue, LiesIn, List, None, Option, Touches, ap, arith, false, file_of, image_of, inl, inr, is_in, length, length-take-le, max, min, page_at, slice_index, subst, sym, take, ℕ, ◌++◌, ◌+◌, ◌-◌, ◌<◌, ◌∙◌, ◌≡◌, ◌≤◌}
 use Rattle.cdf_pages.proofs.Between.{cut_new, holds_new}
 use Rattle.cdf_pages.proofs.Filling.{on_err}
 use Rattle.cdf_pages.proofs.Touched.{touches_then, touches_weaker}
 use Rattle.cdf_pages.proofs.WrittenOver.{Paged, file_cut, file_new, front_in, front_inside, image_kept, image_new, long_kept, long_new, long_whole, new_size}
+use Rattle.cdf_pages.proofs.WritesOver.{over_cut, over_stays, over_then}
 use Rattle.cdf_pages.proofs.saving.write_over.Goals as goal
 
 paged : {U : Type 0} {end : ℕ} (p p1 : ℕ → Option (List ℕ)) (d d1 : Disk U) (n size : ℕ) (tail : List ℕ) → ((q : ℕ) → p1 q ≡ None) → length (file_of d1) ≡ length (file_of d) → image_of p1 (file_of d1) n ≡ image_of p (file_of d) n
@@ -213,3 +214,74 @@ returns-else-end-file_size-clause-touched g c =
     let before = c.tail_before-before.result in
     let fits : length (take before tail) ≤ length tail = omega (arith, length-take-le before tail (omega (arith, c.tail_before-before.ensures)), c.tail_before-before.ensures) in
     touched_tail (length tail) (length (take before tail)) fits c.in_ok-save_pages.ensures.touched c.save_tail.ensures.touched
+
+-- ---- what is not stored
+
+pub returns-in_err-save_pages-clause-backed : goal.returns-in_err-save_pages-clause-backed
+returns-in_err-save_pages-clause-backed g c backed =
+    let still : (g.S.Store.unstored c.save_pages.new.store).change ≡ false → Backed (page_at c.save_pages.new.sheets.changed) c.args.file_size c.args.sheets.now.length = λ unchanged i lt none. backed i lt (c.in_err-save_pages.ensures.kept unchanged _ none) in
+    on_err _ still
+
+pub returns-in_err-save_pages-clause-idle : goal.returns-in_err-save_pages-clause-idle
+returns-in_err-save_pages-clause-idle g c none = c.save_pages.ensures.idle (omega (arith, c.min.ensures, none))
+
+pub returns-in_err-save_tail-clause-over : goal.returns-in_err-save_tail-clause-over
+returns-in_err-save_tail-clause-over g c = over_then _ _ _ _ _ _ c.save_pages.ensures.over c.save_tail.ensures.over
+
+pub returns-in_err-save_tail-clause-whole : goal.returns-in_err-save_tail-clause-whole
+returns-in_err-save_tail-clause-whole g c = on_err _ (c.save_tail.ensures.long ∙ c.save_pages.ensures.long)
+
+-- how long the front of the tail is
+front_size : (tail : List ℕ) (before n size : ℕ) → before ≡ min (length tail) (size - n) → length (take before tail) ≡ before
+front_size tail before n size is = length-take-le before tail (omega (arith, is))
+
+-- bytes that lie before the end are backed whatever pages there are
+backed_shorter : (p : ℕ → Option (List ℕ)) (size n : ℕ) → n < size → Backed p size n
+backed_shorter p size n short i lt none = omega (arith, lt, short)
+
+pub returns-in_err-save_tail-clause-backed : goal.returns-in_err-save_tail-clause-backed
+returns-in_err-save_tail-clause-backed g c backed =
+    let is = c.tail_before-before.ensures in
+    let size = front_size c.args.tail.now c.tail_before-before.result c.args.sheets.now.length c.args.file_size is in
+    let short : c.args.sheets.now.length < c.args.file_size = omega (arith, c.in_err-save_tail.ensures.some, size, is) in
+    let still : (g.S.Store.unstored c.save_tail.new.store).change ≡ false → Backed (page_at c.save_pages.new.sheets.changed) c.args.file_size c.args.sheets.now.length = λ unchanged. backed_shorter (page_at c.save_pages.new.sheets.changed) _ _ short in
+    on_err _ still
+
+none_tail : (tail : List ℕ) (before n size : ℕ) → before ≡ min (length tail) (size - n) → size ≡ 0 → length (take before tail) ≡ 0
+none_tail tail before n size is none = omega (arith, front_size tail before n size is, is, none)
+
+pub returns-in_err-save_tail-clause-idle : goal.returns-in_err-save_tail-clause-idle
+returns-in_err-save_tail-clause-idle g c none =
+    c.save_tail.ensures.idle (none_tail c.args.tail.now c.tail_before-before.result c.args.sheets.now.length c.args.file_size c.tail_before-before.ensures none) ∙ c.save_pages.ensures.idle (omega (arith, c.min.ensures, none))
+
+pub returns-in_err-set_len-clause-over : goal.returns-in_err-set_len-clause-over
+returns-in_err-set_len-clause-over g c = over_stays _ _ _ _ _ _ c.in_err-set_len.ensures.stays c.in_err-set_len.ensures.left (over_then _ _ _ _ _ _ c.save_pages.ensures.over c.save_tail.ensures.over)
+
+pub returns-in_err-set_len-clause-whole : goal.returns-in_err-set_len-clause-whole
+returns-in_err-set_len-clause-whole g c = on_err _ (ap (λ x. length (file_of x)) c.in_err-set_len.ensures.stays ∙ c.save_tail.ensures.long ∙ c.save_pages.ensures.long)
+
+pub returns-in_err-set_len-clause-backed : goal.returns-in_err-set_len-clause-backed
+returns-in_err-set_len-clause-backed g c backed =
+    let short : c.args.sheets.now.length < c.args.file_size = omega (arith, c.if-end-file_size.true) in
+    let still : (g.S.Store.unstored c.set_len.new.self).change ≡ false → Backed (page_at c.save_pages.new.sheets.changed) c.args.file_size c.args.sheets.now.length = λ unchanged. backed_shorter (page_at c.save_pages.new.sheets.changed) _ _ short in
+    on_err _ still
+
+pub returns-in_err-set_len-clause-idle : goal.returns-in_err-set_len-clause-idle
+returns-in_err-set_len-clause-idle g c none = absurd (omega (arith, c.if-end-file_size.true, none))
+
+pub returns-in_ok-set_len-clause-over : goal.returns-in_ok-set_len-clause-over
+returns-in_ok-set_len-clause-over g c =
+    let ok = c.in_ok-save_pages.ensures in
+    let s = paged (page_at c.args.sheets.now.changed) (page_at c.save_pages.new.sheets.changed) (g.S.Store.disk c.args.store.now) (g.S.Store.disk c.save_pages.new.store) c.args.sheets.now.length c.args.file_size c.args.tail.now ok.saved ok.long ok.image c.min.ensures ok.same c.requires.long c.requires.tail_behind in
+    let long = long_whole s (g.S.Store.disk c.save_tail.new.store) c.tail_before-before.result c.tail_before-before.ensures c.in_ok-save_tail.ensures.written in
+    over_then _ _ _ _ _ _ (over_then _ _ _ _ _ _ c.save_pages.ensures.over c.save_tail.ensures.over) (over_cut (g.S.Store.disk c.save_tail.new.store) _ _ _ _ (omega (arith, long, c.if-end-file_size.true)) c.in_ok-set_len.ensures.unstored)
+
+pub returns-in_ok-set_len-clause-idle : goal.returns-in_ok-set_len-clause-idle
+returns-in_ok-set_len-clause-idle g c none = absurd (omega (arith, c.if-end-file_size.true, none))
+
+pub returns-else-end-file_size-clause-over : goal.returns-else-end-file_size-clause-over
+returns-else-end-file_size-clause-over g c = over_then _ _ _ _ _ _ c.save_pages.ensures.over c.save_tail.ensures.over
+
+pub returns-else-end-file_size-clause-idle : goal.returns-else-end-file_size-clause-idle
+returns-else-end-file_size-clause-idle g c none =
+    c.save_tail.ensures.idle (none_tail c.args.tail.now c.tail_before-before.result c.args.sheets.now.length c.args.file_size c.tail_before-before.ensures none) ∙ c.save_pages.ensures.idle (omega (arith, c.min.ensures, none))

@@ -55,5 +55,6 @@ loop-next-preserved g c =
           (λ past. ok.past (omega (arith, past, inv.length)));
       read = ok.cause.done ∙ inv.read;
       write = ok.write ∙ inv.write;
+      unstored = ok.unstored ∙ inv.unstored;
       length = ok.length ∙ inv.length;
     }

@@ -16,6 +16,7 @@ invariant-loop-next g l = record {
   taken : TakesAtMost (g.S.Store.taken l.fn.store) (g.S.Store.taken l.store) (cost_of_writing (λ number. not (is_in (page_at l.fn.sheets.changed) number)) [] (length (file_of (g.S.Store.disk l.fn.store))) 0 (compared_upto l.next (pages_in 0 l.fn.sheets.length)));
   read : g.S.Store.read_faults l.store ≡ g.S.Store.read_faults l.fn.store;
   write : g.S.Store.write_faults l.store ≡ g.S.Store.write_faults l.fn.store;
+  unstored : g.S.Store.unstored l.store ≡ g.S.Store.unstored l.fn.store;
   length : l.sheets.length ≡ l.fn.sheets.length;
 }
 

@@ -1,8 +1,9 @@
-use Rattle.cdf_pages.proofs.Common.{FailsSaving, Holds, IsChangedRange, List, OnOk, Touches, ap, arith, file_of, image_of, is_in, is_some, length, page_at, refl, subst, sym, tail_bytes, ℕ, ◌++◌, ◌∙◌}
+use Rattle.cdf_pages.proofs.Common.{FailsSaving, Holds, IsChangedRange, List, Ok, OnOk, Touches, ap, arith, file_of, image_of, is_in, is_some, length, page_at, refl, subst, sym, tail_bytes, ℕ, ◌++◌, ◌∙◌}
 use Rattle.cdf_pages.proofs.Filling.{on_ok_map, true_not_false}
 use Rattle.cdf_pages.proofs.Images.{image_size}
 use Rattle.cdf_pages.proofs.SavedArea.{no_mark, saved_already, saved_serves, saved_whole}
 use Rattle.cdf_pages.proofs.Touched.{touches_none}
+use Rattle.cdf_pages.proofs.WritesOver.{apart_same}
 use Rattle.cdf_pages.proofs.paged_area.PagedArea.save.Goals as goal
 
 pub save_image-outcome-requires-clause-unmarked : goal.save_image-outcome-requires-clause-unmarked
@@ -66,6 +67,12 @@ returns-clause-touched g c =
 
 pub returns-clause-not_called : goal.returns-clause-not_called
 returns-clause-not_called g c h = absurd (true_not_false (sym (c.has_nothing_to_save.ensures.1 h) ∙ c.if-has_nothing_to_save.false))
+
+pub returns-clause-unstored : goal.returns-clause-unstored
+returns-clause-unstored g c h = absurd (true_not_false (sym (c.has_nothing_to_save.ensures.1 h) ∙ c.if-has_nothing_to_save.false))
+
+pub returns-then-has_nothing_to_save-clause-apart : goal.returns-then-has_nothing_to_save-clause-apart
+returns-then-has_nothing_to_save-clause-apart g c = apart_same {T = Unit {0}} (Ok tt) (g.S.Store.unstored c.args.self.now.store) (g.S.Store.unstored c.args.self.now.store) refl
 
 pub returns-clause-synced : goal.returns-clause-synced
 returns-clause-synced g c h = absurd (true_not_false (sym (c.has_nothing_to_save.ensures.1 h) ∙ c.if-has_nothing_to_save.false))
