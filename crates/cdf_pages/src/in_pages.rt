@@ -3,7 +3,6 @@
 ghost use Rattle.std.specs.Prelude.{ℕ, Bool, List};
 ghost use Rattle.std.specs.declared.option.Option.{Option};
 ghost use Rattle.cdf_pages.specs.Standing.{AreClean};
-ghost use Rattle.cdf_store.specs.declared.unstored.Unstored.{Unstored};
 
 /// An area in pages of 65,536 bytes over a device.
 ///
@@ -23,9 +22,6 @@ pub trait InPages {
 
     /// Whether the device has the file stored as it stands.
     ghost synced: { Self → Bool };
-
-    /// What was done to the file since the device has it stored.
-    ghost unstored: { Self → Unstored };
 
     /// At most 256 pages are clean, no page twice, and none that is changed.
     ghost cached: { (area : Self) → AreClean (changed area) (clean area) };

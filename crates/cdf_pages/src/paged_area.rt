@@ -12,6 +12,7 @@ ghost use Rattle.cdf_area.specs.Calls.{Edits, Overwrites, Reads};
 ghost use Rattle.cdf_area.specs.Frame.{Frame, with_base};
 ghost use Rattle.cdf_store.specs.Disk.{Disk, file_of};
 ghost use Rattle.cdf_store.specs.Unstored.{nothing};
+ghost use Rattle.cdf_store.specs.declared.unstored.Unstored.{Unstored};
 ghost use Rattle.cdf_pages.specs.Cached.{all_clean};
 ghost use Rattle.cdf_pages.specs.Pages.{AllServe, Backed, TakesAtMost, image_of, is_in, was};
 ghost use Rattle.cdf_base.specs.Causes.{HasCause, HasCauseOf};
@@ -68,13 +69,12 @@ impl<S: Store> PagedArea<S> {
     ) -> Result<PagedArea<S>, AllocFailed<S>>
         requires { Some size ≡ option_map length (S.disk store).held }
         ensures image { IfOk result (λ area. Some (⟦<PagedArea<S> as Area>⟧.image area) ≡ (S.disk store).held) }
-        ensures frame { IfOk result (λ area. ⟦<PagedArea<S> as Area>⟧.frame area ≡ record { base = None; limit = limit; under = (S.disk store, S.write_faults store) }) }
+        ensures frame { IfOk result (λ area. ⟦<PagedArea<S> as Area>⟧.frame area ≡ record { base = None; limit = limit; under = (S.disk store, S.write_faults store, S.unstored store) }) }
         ensures faults { IfOk result (λ area. ⟦<PagedArea<S> as Area>⟧.faults area ≡ S.read_faults store) }
         ensures edited { IfOk result (λ area. ⟦<PagedArea<S> as Area>⟧.edited area ≡ false) }
         ensures none_changed { IfOk result (λ area. (number : ℕ) → ⟦<PagedArea<S> as InPages>⟧.changed area number ≡ false) }
         ensures none_clean { IfOk result (λ area. ⟦<PagedArea<S> as InPages>⟧.clean area ≡ []) }
         ensures taken { IfOk result (λ area. ⟦<PagedArea<S> as InPages>⟧.taken area ≡ S.taken store) }
-        ensures unstored { IfOk result (λ area. ⟦<PagedArea<S> as InPages>⟧.unstored area ≡ S.unstored store) }
         ensures handed_back { IfErr result (λ failed. failed.value ≡ store) }
     {
         PagedArea::new(alloc, store, size, size, limit)
@@ -90,13 +90,12 @@ impl<S: Store> PagedArea<S> {
     ) -> Result<PagedArea<S>, AllocFailed<S>>
         requires { size ≡ length (file_of (S.disk store)) }
         ensures image { IfOk result (λ area. ⟦<PagedArea<S> as Area>⟧.image area ≡ []) }
-        ensures frame { IfOk result (λ area. ⟦<PagedArea<S> as Area>⟧.frame area ≡ record { base = None; limit = limit; under = (S.disk store, S.write_faults store) }) }
+        ensures frame { IfOk result (λ area. ⟦<PagedArea<S> as Area>⟧.frame area ≡ record { base = None; limit = limit; under = (S.disk store, S.write_faults store, S.unstored store) }) }
         ensures faults { IfOk result (λ area. ⟦<PagedArea<S> as Area>⟧.faults area ≡ S.read_faults store) }
         ensures edited { IfOk result (λ area. ⟦<PagedArea<S> as Area>⟧.edited area ≡ false) }
         ensures none_changed { IfOk result (λ area. (number : ℕ) → ⟦<PagedArea<S> as InPages>⟧.changed area number ≡ false) }
         ensures none_clean { IfOk result (λ area. ⟦<PagedArea<S> as InPages>⟧.clean area ≡ []) }
         ensures taken { IfOk result (λ area. ⟦<PagedArea<S> as InPages>⟧.taken area ≡ S.taken store) }
-        ensures unstored { IfOk result (λ area. ⟦<PagedArea<S> as InPages>⟧.unstored area ≡ S.unstored store) }
         ensures handed_back { IfErr result (λ failed. failed.value ≡ store) }
     {
         PagedArea::new(alloc, store, size, 0, limit)
@@ -118,18 +117,17 @@ impl<S: Store> PagedArea<S> {
         ensures base { (⟦<PagedArea<S> as Area>⟧.frame self.new).base ≡ None }
         ensures limit { (⟦<PagedArea<S> as Area>⟧.frame self.new).limit ≡ (⟦<PagedArea<S> as Area>⟧.frame self.old).limit }
         ensures faults { ⟦<PagedArea<S> as Area>⟧.faults self.new ≡ ⟦<PagedArea<S> as Area>⟧.faults self.old }
-        ensures cause { HasSaveCause (⟦<PagedArea<S> as Area>⟧.frame self.old).under.1 (⟦<PagedArea<S> as Area>⟧.frame self.new).under.1 result }
+        ensures cause { HasSaveCause (⟦<PagedArea<S> as Area>⟧.frame self.old).under.1.0 (⟦<PagedArea<S> as Area>⟧.frame self.new).under.1.0 result }
         // Then no page is a changed one. Nothing but changed pages and the tail was written, and nothing was read.
         ensures unchanged { OnOk result ((number : ℕ) → ⟦<PagedArea<S> as InPages>⟧.changed self.new number ≡ false) }
         ensures clean { ⟦<PagedArea<S> as InPages>⟧.clean self.new ≡ ⟦<PagedArea<S> as InPages>⟧.clean self.old }
         ensures taken { ⟦<PagedArea<S> as InPages>⟧.taken self.new ≡ ⟦<PagedArea<S> as InPages>⟧.taken self.old }
         ensures touched { Touches (IsChangedRange (⟦<PagedArea<S> as InPages>⟧.changed self.old) (length (⟦<PagedArea<S> as Area>⟧.image self.old)) (length (tail_bytes tail))) (⟦<PagedArea<S> as Area>⟧.frame self.old).under.0.touched (⟦<PagedArea<S> as Area>⟧.frame self.new).under.0.touched }
         // Nothing is written over or cut while a growth is not stored, unless the old bytes are kept.
-        ensures apart { KeepsApart result (⟦<PagedArea<S> as InPages>⟧.unstored self.old) (⟦<PagedArea<S> as InPages>⟧.unstored self.new) }
+        ensures apart { KeepsApart result (⟦<PagedArea<S> as Area>⟧.frame self.old).under.1.1 (⟦<PagedArea<S> as Area>⟧.frame self.new).under.1.1 }
         // Where no page is changed and the file is as long as it is to be, the store is not called.
         ensures not_called { HasNothingToSave (⟦<PagedArea<S> as InPages>⟧.changed self.old) (file_of (⟦<PagedArea<S> as Area>⟧.frame self.old).under.0) (⟦<PagedArea<S> as Area>⟧.image self.old) tail → (result ≡ Ok tt) × ((⟦<PagedArea<S> as Area>⟧.frame self.new).under ≡ (⟦<PagedArea<S> as Area>⟧.frame self.old).under) }
         ensures synced { HasNothingToSave (⟦<PagedArea<S> as InPages>⟧.changed self.old) (file_of (⟦<PagedArea<S> as Area>⟧.frame self.old).under.0) (⟦<PagedArea<S> as Area>⟧.image self.old) tail → ⟦<PagedArea<S> as InPages>⟧.synced self.new ≡ ⟦<PagedArea<S> as InPages>⟧.synced self.old }
-        ensures unstored { HasNothingToSave (⟦<PagedArea<S> as InPages>⟧.changed self.old) (file_of (⟦<PagedArea<S> as Area>⟧.frame self.old).under.0) (⟦<PagedArea<S> as Area>⟧.image self.old) tail → ⟦<PagedArea<S> as InPages>⟧.unstored self.new ≡ ⟦<PagedArea<S> as InPages>⟧.unstored self.old }
         // So it is of a file that is the image as it stands.
         ensures untouched { IsSavedAlready (⟦<PagedArea<S> as Area>⟧.edited self.old) (file_of (⟦<PagedArea<S> as Area>⟧.frame self.old).under.0) (⟦<PagedArea<S> as Area>⟧.image self.old) tail → (⟦<PagedArea<S> as Area>⟧.frame self.new).under ≡ (⟦<PagedArea<S> as Area>⟧.frame self.old).under }
         ensures unfailed { IsSavedAlready (⟦<PagedArea<S> as Area>⟧.edited self.old) (file_of (⟦<PagedArea<S> as Area>⟧.frame self.old).under.0) (⟦<PagedArea<S> as Area>⟧.image self.old) tail → IsOk result }
@@ -158,7 +156,6 @@ impl<S: Store> PagedArea<S> {
         ensures clean { ⟦<PagedArea<S> as InPages>⟧.clean self.new ≡ ⟦<PagedArea<S> as InPages>⟧.clean self.old }
         // Of the file no more is read than it has in the changed pages of the image.
         ensures taken { TakesAtMost (⟦<PagedArea<S> as InPages>⟧.taken self.old) (⟦<PagedArea<S> as InPages>⟧.taken self.new) (cost_of_writing (λ number. not (⟦<PagedArea<S> as InPages>⟧.changed self.old number)) [] (length (file_of (⟦<PagedArea<S> as Area>⟧.frame self.old).under.0)) 0 (pages_in 0 (length (⟦<PagedArea<S> as Area>⟧.image self.old)))) }
-        ensures unstored { ⟦<PagedArea<S> as InPages>⟧.unstored self.new ≡ ⟦<PagedArea<S> as InPages>⟧.unstored self.old }
     {
         settle_pages(
             self.alloc,
@@ -179,15 +176,15 @@ impl<S: Store> PagedArea<S> {
     pub fn sync(&mut self) -> Result<(), Failed>
         requires held { IsSome (⟦<PagedArea<S> as Area>⟧.frame self.old).under.0.held }
         ensures synced { OnOk result (IsTrue (⟦<PagedArea<S> as InPages>⟧.synced self.new)) }
-        ensures stored { OnOk result (⟦<PagedArea<S> as InPages>⟧.unstored self.new ≡ nothing) }
-        ensures unstored { OnErr result (⟦<PagedArea<S> as InPages>⟧.unstored self.new ≡ ⟦<PagedArea<S> as InPages>⟧.unstored self.old) }
+        ensures stored { OnOk result ((⟦<PagedArea<S> as Area>⟧.frame self.new).under.1.1 ≡ nothing) }
+        ensures unstored { OnErr result ((⟦<PagedArea<S> as Area>⟧.frame self.new).under.1.1 ≡ (⟦<PagedArea<S> as Area>⟧.frame self.old).under.1.1) }
         ensures image { ⟦<PagedArea<S> as Area>⟧.image self.new ≡ ⟦<PagedArea<S> as Area>⟧.image self.old }
         ensures disk { (⟦<PagedArea<S> as Area>⟧.frame self.new).under.0 ≡ (⟦<PagedArea<S> as Area>⟧.frame self.old).under.0 }
         ensures base { (⟦<PagedArea<S> as Area>⟧.frame self.new).base ≡ (⟦<PagedArea<S> as Area>⟧.frame self.old).base }
         ensures limit { (⟦<PagedArea<S> as Area>⟧.frame self.new).limit ≡ (⟦<PagedArea<S> as Area>⟧.frame self.old).limit }
         ensures edited { ⟦<PagedArea<S> as Area>⟧.edited self.new ≡ ⟦<PagedArea<S> as Area>⟧.edited self.old }
         ensures faults { ⟦<PagedArea<S> as Area>⟧.faults self.new ≡ ⟦<PagedArea<S> as Area>⟧.faults self.old }
-        ensures cause { HasCause (⟦<PagedArea<S> as Area>⟧.frame self.old).under.1 (⟦<PagedArea<S> as Area>⟧.frame self.new).under.1 result }
+        ensures cause { HasCause (⟦<PagedArea<S> as Area>⟧.frame self.old).under.1.0 (⟦<PagedArea<S> as Area>⟧.frame self.new).under.1.0 result }
         ensures changed { ⟦<PagedArea<S> as InPages>⟧.changed self.new ≡ ⟦<PagedArea<S> as InPages>⟧.changed self.old }
         ensures clean { ⟦<PagedArea<S> as InPages>⟧.clean self.new ≡ ⟦<PagedArea<S> as InPages>⟧.clean self.old }
         ensures taken { ⟦<PagedArea<S> as InPages>⟧.taken self.new ≡ ⟦<PagedArea<S> as InPages>⟧.taken self.old }
@@ -206,10 +203,10 @@ impl<S: Store> PagedArea<S> {
     /// The store beneath. What was changed is let go.
     pub fn into_store(self) -> S
         ensures disk { S.disk result ≡ (⟦<PagedArea<S> as Area>⟧.frame self).under.0 }
-        ensures write { S.write_faults result ≡ (⟦<PagedArea<S> as Area>⟧.frame self).under.1 }
+        ensures write { S.write_faults result ≡ (⟦<PagedArea<S> as Area>⟧.frame self).under.1.0 }
         ensures read { S.read_faults result ≡ ⟦<PagedArea<S> as Area>⟧.faults self }
         ensures synced { S.synced result ≡ ⟦<PagedArea<S> as InPages>⟧.synced self }
-        ensures unstored { S.unstored result ≡ ⟦<PagedArea<S> as InPages>⟧.unstored self }
+        ensures unstored { S.unstored result ≡ (⟦<PagedArea<S> as Area>⟧.frame self).under.1.1 }
     {
         self.store
     }
@@ -225,13 +222,12 @@ impl<S: Store> PagedArea<S> {
         requires file_size { file_size ≡ length (file_of (S.disk store)) }
         requires size { size ≤ file_size }
         ensures image { IfOk result (λ area. ⟦<PagedArea<S> as Area>⟧.image area ≡ take size (file_of (S.disk store))) }
-        ensures frame { IfOk result (λ area. ⟦<PagedArea<S> as Area>⟧.frame area ≡ record { base = None; limit = limit; under = (S.disk store, S.write_faults store) }) }
+        ensures frame { IfOk result (λ area. ⟦<PagedArea<S> as Area>⟧.frame area ≡ record { base = None; limit = limit; under = (S.disk store, S.write_faults store, S.unstored store) }) }
         ensures faults { IfOk result (λ area. ⟦<PagedArea<S> as Area>⟧.faults area ≡ S.read_faults store) }
         ensures edited { IfOk result (λ area. ⟦<PagedArea<S> as Area>⟧.edited area ≡ false) }
         ensures none_changed { IfOk result (λ area. (number : ℕ) → ⟦<PagedArea<S> as InPages>⟧.changed area number ≡ false) }
         ensures none_clean { IfOk result (λ area. ⟦<PagedArea<S> as InPages>⟧.clean area ≡ []) }
         ensures taken { IfOk result (λ area. ⟦<PagedArea<S> as InPages>⟧.taken area ≡ S.taken store) }
-        ensures unstored { IfOk result (λ area. ⟦<PagedArea<S> as InPages>⟧.unstored area ≡ S.unstored store) }
         ensures handed_back { IfErr result (λ failed. failed.value ≡ store) }
     {
         let Ok(clean) = Cache::new(alloc) else {
@@ -261,20 +257,18 @@ impl<S: Store> InPages for PagedArea<S> {
 
     ghost synced = { λ a. S.synced a.store };
 
-    ghost unstored = { λ a. S.unstored a.store };
-
     ghost cached = { λ a. all_clean S.lends (page_at a.sheets.changed) (file_of (S.disk a.store)) a.sheets.length a.clean a.valid a.cap a.serves };
 }
 
 impl<S: Store> Area for PagedArea<S> {
     ghost image = { λ a. image_of (page_at a.sheets.changed) (file_of (S.disk a.store)) a.sheets.length };
 
-    ghost Under = { Disk S.Under × ℕ };
+    ghost Under = { Disk S.Under × ℕ × Unstored };
 
     ghost frame = { λ a. record {
       base = option_map (λ size. image_of (λ number. was (get nat_cmp a.sheets.kept number) (page_at a.sheets.changed number)) (file_of (S.disk a.store)) size) a.sheets.marked;
       limit = a.limit;
-      under = (S.disk a.store, S.write_faults a.store);
+      under = (S.disk a.store, S.write_faults a.store, S.unstored a.store);
     } };
 
     ghost faults = { λ a. S.read_faults a.store };
@@ -300,7 +294,6 @@ impl<S: Store> Area for PagedArea<S> {
         ensures used { OnOk result (⟦<PagedArea<S> as InPages>⟧.clean self.new ≡ used_from (⟦<PagedArea<S> as InPages>⟧.changed self.old) (place / 65536) (pages_in place (length out.old)) (⟦<PagedArea<S> as InPages>⟧.clean self.old)) }
         ensures some { OnErr result (ReadsSome (⟦<PagedArea<S> as InPages>⟧.changed self.old) (⟦<PagedArea<S> as InPages>⟧.clean self.old) (⟦<PagedArea<S> as InPages>⟧.clean self.new) place (length out.old)) }
         ensures taken { TakesAtMost (⟦<PagedArea<S> as InPages>⟧.taken self.old) (⟦<PagedArea<S> as InPages>⟧.taken self.new) (cost_of_reading (⟦<PagedArea<S> as InPages>⟧.changed self.old) (⟦<PagedArea<S> as InPages>⟧.clean self.old) (length (file_of (⟦<PagedArea<S> as Area>⟧.frame self.old).under.0)) (place / 65536) (pages_in place (length out.old))) }
-        ensures unstored { ⟦<PagedArea<S> as InPages>⟧.unstored self.new ≡ ⟦<PagedArea<S> as InPages>⟧.unstored self.old }
     {
         read_range(
             self.alloc,
@@ -321,7 +314,6 @@ impl<S: Store> Area for PagedArea<S> {
         ensures changes { OnOk result (Changes (⟦<PagedArea<S> as InPages>⟧.changed self.old) (⟦<PagedArea<S> as InPages>⟧.changed self.new) (⟦<PagedArea<S> as InPages>⟧.clean self.old) (⟦<PagedArea<S> as InPages>⟧.clean self.new) place (length bytes.now)) }
         ensures some { OnErr result (ChangesSome (⟦<PagedArea<S> as InPages>⟧.changed self.old) (⟦<PagedArea<S> as InPages>⟧.changed self.new) (⟦<PagedArea<S> as InPages>⟧.clean self.old) (⟦<PagedArea<S> as InPages>⟧.clean self.new) place (length bytes.now)) }
         ensures taken { TakesAtMost (⟦<PagedArea<S> as InPages>⟧.taken self.old) (⟦<PagedArea<S> as InPages>⟧.taken self.new) (cost_of_writing (⟦<PagedArea<S> as InPages>⟧.changed self.old) (⟦<PagedArea<S> as InPages>⟧.clean self.old) (length (file_of (⟦<PagedArea<S> as Area>⟧.frame self.old).under.0)) (place / 65536) (pages_in place (length bytes.now))) }
-        ensures unstored { ⟦<PagedArea<S> as InPages>⟧.unstored self.new ≡ ⟦<PagedArea<S> as InPages>⟧.unstored self.old }
     {
         if bytes.is_empty() {
             return Ok(());
@@ -356,7 +348,6 @@ impl<S: Store> Area for PagedArea<S> {
         ensures changes { OnOk result (Changes (⟦<PagedArea<S> as InPages>⟧.changed self.old) (⟦<PagedArea<S> as InPages>⟧.changed self.new) (⟦<PagedArea<S> as InPages>⟧.clean self.old) (⟦<PagedArea<S> as InPages>⟧.clean self.new) (length (⟦<PagedArea<S> as Area>⟧.image self.old)) n) }
         ensures some { OnErr result (ChangesSome (⟦<PagedArea<S> as InPages>⟧.changed self.old) (⟦<PagedArea<S> as InPages>⟧.changed self.new) (⟦<PagedArea<S> as InPages>⟧.clean self.old) (⟦<PagedArea<S> as InPages>⟧.clean self.new) (length (⟦<PagedArea<S> as Area>⟧.image self.old)) n) }
         ensures taken { TakesAtMost (⟦<PagedArea<S> as InPages>⟧.taken self.old) (⟦<PagedArea<S> as InPages>⟧.taken self.new) (cost_of_writing (⟦<PagedArea<S> as InPages>⟧.changed self.old) (⟦<PagedArea<S> as InPages>⟧.clean self.old) (length (file_of (⟦<PagedArea<S> as Area>⟧.frame self.old).under.0)) ((length (⟦<PagedArea<S> as Area>⟧.image self.old)) / 65536) (pages_in (length (⟦<PagedArea<S> as Area>⟧.image self.old)) n)) }
-        ensures unstored { ⟦<PagedArea<S> as InPages>⟧.unstored self.new ≡ ⟦<PagedArea<S> as InPages>⟧.unstored self.old }
     {
         if n == 0 {
             return Ok(());
@@ -393,7 +384,6 @@ impl<S: Store> Area for PagedArea<S> {
         ensures changed { ⟦<PagedArea<S> as InPages>⟧.changed self.new ≡ ⟦<PagedArea<S> as InPages>⟧.changed self.old }
         ensures clean { ⟦<PagedArea<S> as InPages>⟧.clean self.new ≡ ⟦<PagedArea<S> as InPages>⟧.clean self.old }
         ensures taken { ⟦<PagedArea<S> as InPages>⟧.taken self.new ≡ ⟦<PagedArea<S> as InPages>⟧.taken self.old }
-        ensures unstored { ⟦<PagedArea<S> as InPages>⟧.unstored self.new ≡ ⟦<PagedArea<S> as InPages>⟧.unstored self.old }
     {
         self.sheets.length -= n;
     }
@@ -407,7 +397,6 @@ impl<S: Store> Area for PagedArea<S> {
         ensures changed { ⟦<PagedArea<S> as InPages>⟧.changed self.new ≡ ⟦<PagedArea<S> as InPages>⟧.changed self.old }
         ensures clean { ⟦<PagedArea<S> as InPages>⟧.clean self.new ≡ ⟦<PagedArea<S> as InPages>⟧.clean self.old }
         ensures taken { ⟦<PagedArea<S> as InPages>⟧.taken self.new ≡ ⟦<PagedArea<S> as InPages>⟧.taken self.old }
-        ensures unstored { ⟦<PagedArea<S> as InPages>⟧.unstored self.new ≡ ⟦<PagedArea<S> as InPages>⟧.unstored self.old }
     {
         self.sheets.mark();
     }
@@ -421,7 +410,6 @@ impl<S: Store> Area for PagedArea<S> {
         ensures changed { ⟦<PagedArea<S> as InPages>⟧.changed self.new ≡ ⟦<PagedArea<S> as InPages>⟧.changed self.old }
         ensures clean { ⟦<PagedArea<S> as InPages>⟧.clean self.new ≡ ⟦<PagedArea<S> as InPages>⟧.clean self.old }
         ensures taken { ⟦<PagedArea<S> as InPages>⟧.taken self.new ≡ ⟦<PagedArea<S> as InPages>⟧.taken self.old }
-        ensures unstored { ⟦<PagedArea<S> as InPages>⟧.unstored self.new ≡ ⟦<PagedArea<S> as InPages>⟧.unstored self.old }
     {
         self.sheets.keep();
     }
@@ -435,7 +423,6 @@ impl<S: Store> Area for PagedArea<S> {
         ensures changed { (number : ℕ) → ⟦<PagedArea<S> as InPages>⟧.changed self.new number ≡ ⟦<PagedArea<S> as InPages>⟧.marked self.old number }
         ensures clean { ⟦<PagedArea<S> as InPages>⟧.clean self.new ≡ ⟦<PagedArea<S> as InPages>⟧.clean self.old }
         ensures taken { ⟦<PagedArea<S> as InPages>⟧.taken self.new ≡ ⟦<PagedArea<S> as InPages>⟧.taken self.old }
-        ensures unstored { ⟦<PagedArea<S> as InPages>⟧.unstored self.new ≡ ⟦<PagedArea<S> as InPages>⟧.unstored self.old }
     {
         self.sheets.undo();
     }

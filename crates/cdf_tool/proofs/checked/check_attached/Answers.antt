@@ -1,3 +1,4 @@
+use Rattle.cdf_store.specs.declared.unstored.Unstored.{Unstored}
 use Rattle.cdf_tool.proofs.Common.{Broken, Counted, Disk, EndsOverFile, Frame, List, Option, Tells, ap, counts, file_in, status_of, subst, sym, transport, ℕ, ◌∙◌}
 use Rattle.cdf_tool.proofs.CheckLemmas.{checked_done}
 use Rattle.cdf_tool.proofs.CountLemmas.{stopped_counted}
@@ -9,7 +10,7 @@ returns-in-Ok-clause-ends g c =
 
 pub returns-in-Ok-clause-told : goal.returns-in-Ok-clause-told
 returns-in-Ok-clause-told g c =
-    let disk = c.into_store-store.ensures.disk ∙ ap (λ (f : Frame (Disk g.S.Store.Under × ℕ)). f.under.0) (c.check_area-area.ensures.frame ∙ c.in-Ok.ensures.frame) in
+    let disk = c.into_store-store.ensures.disk ∙ ap (λ (f : Frame (Disk g.S.Store.Under × ℕ × Unstored)). f.under.0) (c.check_area-area.ensures.frame ∙ c.in-Ok.ensures.frame) in
     subst (λ (broken : Option Broken). Tells broken (g.S.Store.disk c.into_store-store.result).held (g.O.Sink.written c.args.out.now) (g.O.Sink.written c.check_area-area.new.out) c.check_area-area.result.status) (sym c.of_verdict.ensures.broken)
     (subst (λ (held : Option (List ℕ)). Tells c.check_area-area.result.broken held (g.O.Sink.written c.args.out.now) (g.O.Sink.written c.check_area-area.new.out) c.check_area-area.result.status) (c.in-Ok.ensures.image ∙ ap (λ (d : Disk g.S.Store.Under). d.held) (sym disk)) c.check_area-area.ensures.told)
 
@@ -19,7 +20,7 @@ returns-in-Ok-clause-refusals g c = λ done.
 
 pub returns-in-Ok-clause-counted : goal.returns-in-Ok-clause-counted
 returns-in-Ok-clause-counted g c = λ source.
-    let writes = c.into_store-store.ensures.write ∙ ap (λ (f : Frame (Disk g.S.Store.Under × ℕ)). f.under.1) (c.check_area-area.ensures.frame ∙ c.in-Ok.ensures.frame) in
+    let writes = c.into_store-store.ensures.write ∙ ap (λ (f : Frame (Disk g.S.Store.Under × ℕ × Unstored)). f.under.1.0) (c.check_area-area.ensures.frame ∙ c.in-Ok.ensures.frame) in
     stopped_counted c.check_area-area.result.status (g.S.Store.read_faults c.args.store) (g.S.Store.write_faults c.args.store) (g.O.Sink.faults c.args.out.now) source
     (g.S.Store.read_faults c.into_store-store.result) (g.S.Store.write_faults c.into_store-store.result) (g.O.Sink.faults c.check_area-area.new.out) source
     (transport (λ i. Counted (counts (c.in-Ok.ensures.faults i) 0 (g.O.Sink.faults c.args.out.now) source) (counts (sym c.into_store-store.ensures.read i) 0 (g.O.Sink.faults c.check_area-area.new.out) source) c.check_area-area.result.status) (c.check_area-area.ensures.counted source))

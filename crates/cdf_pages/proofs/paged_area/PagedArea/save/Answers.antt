@@ -68,9 +68,6 @@ returns-clause-touched g c =
 pub returns-clause-not_called : goal.returns-clause-not_called
 returns-clause-not_called g c h = absurd (true_not_false (sym (c.has_nothing_to_save.ensures.1 h) ∙ c.if-has_nothing_to_save.false))
 
-pub returns-clause-unstored : goal.returns-clause-unstored
-returns-clause-unstored g c h = absurd (true_not_false (sym (c.has_nothing_to_save.ensures.1 h) ∙ c.if-has_nothing_to_save.false))
-
 pub returns-then-has_nothing_to_save-clause-apart : goal.returns-then-has_nothing_to_save-clause-apart
 returns-then-has_nothing_to_save-clause-apart g c = apart_same {T = Unit {0}} (Ok tt) (g.S.Store.unstored c.args.self.now.store) (g.S.Store.unstored c.args.self.now.store) refl
 
