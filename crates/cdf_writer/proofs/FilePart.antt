@@ -1,5 +1,5 @@
 -- The two first records, as they stand.
-use Rattle.std.proofs.Common.{Bool, FitsSigned, List, [], ap, append_assoc, arith, false, is_some, length, lit<, refl, true, ℕ, ℤ, ◌*◌, ◌-◌, ◌++◌, ◌+◌, ◌<◌, ◌^◌, ◌||◌, ◌∙◌, ◌∷◌, ◌≡◌, ◌≤◌}
+use Rattle.std.proofs.Common.{Bool, FitsSigned, List, [], ap, append_assoc, arith, false, is_some, length, lit<, refl, true, ℕ, ℤ, ◌*◌, ◌++◌, ◌+◌, ◌<◌, ◌^◌, ◌||◌, ◌∙◌, ◌∷◌, ◌≡◌, ◌≤◌}
 use Rattle.std.proofs.lemmas.Int.{ints, to_z-of_z, to_z_pos}
 use Rattle.std.proofs.lemmas.List.{length-append}
 use Rattle.std.specs.Int.{cast_signed, w32}

@@ -1,6 +1,6 @@
 -- Bytes that are packed stand for themselves.
 use Rattle.cdf_format.specs.IndexRules.{unpacks_to}
-use Rattle.std.proofs.Common.{None, Option, eq-eqb, length, Bool, List, [], ap, eqb-true, false, inl, inr, refl, replicate, suc, sym, true, zero, ℕ, ◌++◌, ◌+◌, ◌∙◌, ◌∷◌, ◌≡◌}
+use Rattle.std.proofs.Common.{None, Option, eq-eqb, length, Bool, List, [], ap, eqb-true, false, inl, inr, refl, replicate, suc, sym, true, zero, ℕ, ◌++◌, ◌∙◌, ◌∷◌, ◌≡◌}
 use Rattle.std.specs.Prelude.{if◌then◌else◌, ◌==◌, Some}
 use Rattle.cdf_format.proofs.Members.{either}
 use Rattle.cdf_model.specs.RunLengths.{is_cut, plain_of, unpacked}
