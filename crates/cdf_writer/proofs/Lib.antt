@@ -16,3 +16,5 @@ pub mod Whole
 pub mod Meant
 pub mod MeantVariables
 pub mod MeantWhole
+pub mod RoomPuts
+pub mod Writing

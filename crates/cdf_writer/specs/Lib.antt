@@ -4,3 +4,4 @@ pub mod Bodies
 pub mod Laying
 pub mod Compact
 pub mod Fine
+pub mod Stops
