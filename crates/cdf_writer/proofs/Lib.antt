@@ -13,8 +13,13 @@ pub mod Vdr
 pub mod Leaves
 pub mod VariablesRead
 pub mod Whole
+pub mod RoomPuts
 pub mod Meant
 pub mod MeantVariables
 pub mod MeantWhole
-pub mod RoomPuts
+pub mod EntriesTaken
+pub mod AttributesTaken
+pub mod RecordsTaken
+pub mod VariablesTaken
+pub mod EventsTaken
 pub mod Writing

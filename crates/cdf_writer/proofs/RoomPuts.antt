@@ -1,5 +1,5 @@
 -- Bytes written over others.
-use Rattle.std.proofs.Common.{List, [], ap, ap₂, append-nil, append_assoc, arith, drop, length, refl, replicate, sym, take, ℕ, ◌++◌, ◌+◌, ◌∙◌, ◌≡◌}
+use Rattle.std.proofs.Common.{List, [], ap, ap₂, append-nil, append_assoc, arith, drop, length, refl, replicate, sym, ℕ, ◌++◌, ◌+◌, ◌∙◌, ◌≡◌}
 use Rattle.std.proofs.lemmas.List.{drop_at, length-append, length-replicate, replicate-append-replicate, take_at}
 use Rattle.cdf_base.proofs.Puts.{put_more}
 use Rattle.cdf_base.specs.Bytes.{put}

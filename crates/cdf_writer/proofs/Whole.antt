@@ -166,7 +166,7 @@ variables_read kind little n place (v ∷ more) f p =
 
 -- ---- the greatest MaxRec
 
-extents_small : (best : ℕ) (vs : List Variable) → Each FineVariable vs → best ≤ 2147483647 → fold max best (map (λ v. extent v.max_rec) vs) ≤ 2147483647
+pub extents_small : (best : ℕ) (vs : List Variable) → Each FineVariable vs → best ≤ 2147483647 → fold max best (map (λ v. extent v.max_rec) vs) ≤ 2147483647
 extents_small best [] p le = le
 extents_small best (v ∷ vs) p le = let s = p.0.extent_fits in extents_small (max best (extent v.max_rec)) vs p.1 (omega arith)
 

@@ -49,6 +49,11 @@ pub on_ok_both : {T E P Q R : Type 0} (r : Result T E) → OnOk r P → OnOk r Q
 on_ok_both (Ok x) p q both = both p q
 on_ok_both (Err e) p q both = tt
 
+-- what a clause says of a number that is another by name
+pub same_number : {E : Type 0} (r : Result ℕ E) (x y : ℕ) → x ≡ y → IfOk r (λ n. n ≡ x) → IfOk r (λ n. n ≡ y)
+same_number (Ok n) x y e h = h ∙ e
+same_number (Err d) x y e h = tt
+
 -- bytes that are others by name
 pub same_bytes : {E : Type 0} (r : Result (Vec ℕ Global) E) (xs ys : List ℕ) → xs ≡ ys → IfOk r (λ body. body.items ≡ xs) → IfOk r (λ body. body.items ≡ ys)
 same_bytes (Ok body) xs ys e h = h ∙ e
@@ -67,6 +72,7 @@ module _ {A U : Type 0} (image_of : A → List ℕ) (frame_of : A → Frame U) (
         long = omega (arith, a_long, b_long, size-append xs ys);
         fits = subst (λ (f : Frame U). length (image_of new) ≤ f.limit) a.frame b.fits;
         cut = tt;
+        ends = tt;
       }
   writes_both {T = T} {S = S} size old mid new xs ys t (Err e) a b = record {
     frame = b.frame ∙ a.frame;
@@ -74,6 +80,7 @@ module _ {A U : Type 0} (image_of : A → List ℕ) (frame_of : A → Frame U) (
     long = tt;
     fits = tt;
     cut = cut_last (frame_of old).limit size xs ys e (cut_same (ap (λ (f : Frame U). f.limit) a.frame) a.long refl e b.cut);
+    ends = b.ends;
   }
 
   -- and then wrote over what is there
@@ -95,6 +102,7 @@ module _ {A U : Type 0} (image_of : A → List ℕ) (frame_of : A → Frame U) (
     long = tt;
     fits = tt;
     cut = cut_first (frame_of old).limit size xs ys e a.cut;
+    ends = a.ends;
   }
 
   -- no memory, before anything was written
@@ -105,6 +113,7 @@ module _ {A U : Type 0} (image_of : A → List ℕ) (frame_of : A → Frame U) (
     long = tt;
     fits = tt;
     cut = tt;
+    ends = tt;
   }
 
   -- no memory, after all was written
@@ -115,6 +124,18 @@ module _ {A U : Type 0} (image_of : A → List ℕ) (frame_of : A → Frame U) (
     long = tt;
     fits = tt;
     cut = tt;
+    ends = tt;
+  }
+
+  -- what a call that did all says of a result of another type
+  pub writes_done : {T S : Type 0} (size : ℕ) (old new : A) (bodies : List (List ℕ)) (t : T) (s : S) → Writes {T = T} image_of frame_of faults_of size old new bodies (Ok t) → Writes {T = S} image_of frame_of faults_of size old new bodies (Ok s)
+  writes_done size old new bodies t s a = record {
+    frame = a.frame;
+    cause = record { later = a.cause.later; failed = λ e. absurd (cc e); done = a.cause.done; counted = λ lt. let d = a.cause.done in absurd (omega (arith, lt, d)) };
+    long = a.long;
+    fits = a.fits;
+    cut = tt;
+    ends = tt;
   }
 
   -- nothing was to be written
@@ -125,6 +146,7 @@ module _ {A U : Type 0} (image_of : A → List ℕ) (frame_of : A → Frame U) (
     long = omega arith;
     fits = fits;
     cut = tt;
+    ends = tt;
   }
 
   -- a record passes the limit
@@ -136,6 +158,7 @@ module _ {A U : Type 0} (image_of : A → List ℕ) (frame_of : A → Frame U) (
     long = tt;
     fits = tt;
     cut = record { done = []; next = body; rest = []; are = refl; eof_is = omega (arith, at); need_is = omega (arith, long, whole_size body); within = omega (arith, at, fits); past = omega (arith, past, limit, at, fits) };
+    ends = sym at;
   }
 
   -- an error that is handed on
@@ -156,6 +179,7 @@ module _ {A U : Type 0} (image_of : A → List ℕ) (frame_of : A → Frame U) (
     long = tt;
     fits = tt;
     cut = a.cut;
+    ends = a.ends;
   }
 
   -- a call that stopped after others that did all
@@ -168,4 +192,5 @@ module _ {A U : Type 0} (image_of : A → List ℕ) (frame_of : A → Frame U) (
         long = tt;
         fits = tt;
         cut = cut (cut_same (ap (λ (f : Frame U). f.limit) same) refl refl e a.cut);
+        ends = a.ends;
       })

@@ -5,3 +5,5 @@ pub mod Laying
 pub mod Compact
 pub mod Fine
 pub mod Stops
+pub mod Progress
+pub mod Shown

@@ -31,6 +31,12 @@ CutAt limit size bodies (TooLarge eof need) = Passes limit size bodies eof need
 CutAt limit size bodies Fault = Unit {0}
 CutAt limit size bodies NoMemory = Unit {0}
 
+-- a record that is too large was to stand behind so many bytes
+abbrev pub EndsAt : ℕ → WriteStop → Type 0
+EndsAt long (TooLarge eof need) = long ≡ eof
+EndsAt long Fault = Unit {0}
+EndsAt long NoMemory = Unit {0}
+
 -- These records were to be appended behind so many bytes: the frame stays, a fault has its cause, and no other answer but want of memory comes where they fit.
 pub record Writes {A U T : Type 0} (image_of : A → List ℕ) (frame_of : A → Frame U) (faults_of : A → ℕ) (size : ℕ) (old new : A) (bodies : List (List ℕ)) (result : Result T WriteStop) : Type 0 where
   pub frame : frame_of new ≡ frame_of old
@@ -38,3 +44,4 @@ pub record Writes {A U T : Type 0} (image_of : A → List ℕ) (frame_of : A →
   pub long : OnOk result (length (image_of new) ≡ size + laid_size bodies)
   pub fits : OnOk result (length (image_of new) ≤ (frame_of old).limit)
   pub cut : IfErr result (CutAt (frame_of old).limit size bodies)
+  pub ends : IfErr result (EndsAt (length (image_of new)))

@@ -1,6 +1,10 @@
-//! The compact image of a data set: each record behind the one before, and nothing unused.
+//! Writes the compact image of a data set.
 #![tactic(auto)]
 
 mod appending;
 mod bodies;
 pub mod laws;
+mod lists;
+mod progress;
+
+pub use appending::WriteStop;
