@@ -23,3 +23,12 @@ pub mod RecordsTaken
 pub mod VariablesTaken
 pub mod EventsTaken
 pub mod Writing
+pub mod Placed
+pub mod Finished
+pub mod PackedOnce
+pub mod NodesNamed
+pub mod BlockBodies
+pub mod NodeGroups
+pub mod LevelNodes
+pub mod IndexLevels
+pub mod VariableFinished
