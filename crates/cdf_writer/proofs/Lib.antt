@@ -26,9 +26,15 @@ pub mod Writing
 pub mod Placed
 pub mod Finished
 pub mod PackedOnce
+pub mod Sizes
+pub mod StepSizes
+pub mod WholeEvents
+pub mod TakenEvents
 pub mod NodesNamed
 pub mod BlockBodies
 pub mod NodeGroups
 pub mod LevelNodes
+pub mod EventShows
 pub mod IndexLevels
 pub mod VariableFinished
+pub mod Putting

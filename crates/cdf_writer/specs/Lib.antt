@@ -7,3 +7,4 @@ pub mod Fine
 pub mod Stops
 pub mod Progress
 pub mod Shown
+pub mod Taken

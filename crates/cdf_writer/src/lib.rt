@@ -1,4 +1,4 @@
-//! Writes the compact image of a data set.
+//! Writes the compact image of a data set: each record behind the one before, and nothing unused.
 #![tactic(auto)]
 
 mod appending;
@@ -10,6 +10,9 @@ pub mod laws;
 mod lists;
 mod opening;
 mod progress;
+mod taking;
 mod variables;
+mod writer;
 
 pub use appending::WriteStop;
+pub use writer::Writer;
