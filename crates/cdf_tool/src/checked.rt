@@ -101,6 +101,7 @@ fn check_attached<S: Store, O: Sink>(
     ensures refusals { IsDone result.status → result.status ≡ status_of (was_refused result.notes.refusals) }
     ensures told { Tells result.notes.broken (S.disk result.store).held (O.written out.old) (O.written out.new) result.status }
     ensures disk { S.disk result.store ≡ S.disk store }
+    ensures unstored { S.unstored result.store ≡ S.unstored store }
     ensures counted { (source : ℕ) → Counted (counts (S.read_faults store) (S.write_faults store) (O.faults out.old) source) (counts (S.read_faults result.store) (S.write_faults result.store) (O.faults out.new) source) result.status }
 {
     match PagedArea::over(alloc, store, size, IMAGE_LIMIT) {
@@ -142,6 +143,7 @@ pub fn check_file<S: Store, O: Sink>(
     ensures told { Tells result.notes.broken (S.disk result.store).held (O.written out.old) (O.written out.new) result.status }
     ensures counted { (source : ℕ) → Counted (counts (S.read_faults store) (S.write_faults store) (O.faults out.old) source) (counts (S.read_faults result.store) (S.write_faults result.store) (O.faults out.new) source) result.status }
     ensures reads { WritesNothing (S.disk store) (S.disk result.store) (S.write_faults store) (S.write_faults result.store) result.status }
+    ensures unstored { S.unstored result.store ≡ S.unstored store }
 {
     let mut store = store;
     match store.attach(asked.name, false) {

@@ -5,9 +5,11 @@ ghost use Rattle.std.specs.Option.{option_map};
 ghost use Rattle.cdf_area.specs.Frame.{Frame};
 ghost use Rattle.cdf_store.specs.Disk.{file_in, file_of};
 ghost use Rattle.cdf_store.specs.Named.{Allows, lookup};
+ghost use Rattle.cdf_store.specs.Unstored.{nothing};
 ghost use Rattle.cdf_model.specs.Limits.{image_limit};
 ghost use Rattle.cdf_saving.specs.Counts.{Counted, counts};
 ghost use Rattle.cdf_saving.specs.Refusing.{was_refused};
+ghost use Rattle.cdf_saving.specs.Saved.{LeavesApart};
 ghost use Rattle.cdf_saving.specs.Statuses.{IsDone, replaced_by, status_of};
 ghost use Rattle.cdf_words.specs.Asking.{asked_for};
 ghost use Rattle.cdf_tool.specs.Areas.{EndsAttached, EndsInMemory};
@@ -39,7 +41,7 @@ fn area_over<S: Store>(
     requires { Some size ≡ option_map length (S.disk store).held }
     ensures image { new ≡ false → IfOk result (λ area. ⟦<PagedArea<S> as Area>⟧.image area ≡ file_of (S.disk store)) }
     ensures empty { new ≡ true → IfOk result (λ area. ⟦<PagedArea<S> as Area>⟧.image area ≡ []) }
-    ensures frame { IfOk result (λ area. ⟦<PagedArea<S> as Area>⟧.frame area ≡ record { base = None; limit = image_limit; under = (S.disk store, S.write_faults store) }) }
+    ensures frame { IfOk result (λ area. ⟦<PagedArea<S> as Area>⟧.frame area ≡ record { base = None; limit = image_limit; under = (S.disk store, S.write_faults store, S.unstored store) }) }
     ensures faults { IfOk result (λ area. ⟦<PagedArea<S> as Area>⟧.faults area ≡ S.read_faults store) }
     ensures unedited { new ≡ false → IfOk result (λ area. ⟦<PagedArea<S> as Area>⟧.edited area ≡ false) }
     ensures handed_back { IfErr result (λ failed. failed.value ≡ store) }
@@ -68,6 +70,9 @@ fn run_attached<S: Store, I: Source, O: Sink>(
     ensures replaced { result.notes.replaced ≡ 0 }
     ensures refusals { IsDone result.status → result.status ≡ status_of (was_refused result.notes.refusals) }
     ensures synced { IsDone result.status → (S.disk result.store ≡ S.disk store) ⊎ IsTrue (S.synced result.store) }
+    ensures new_synced { IsDone result.status → asked.now.new ≡ true → asked.now.no_save ≡ false → IsTrue (S.synced result.store) }
+    ensures stored { IsDone result.status → S.unstored store ≡ nothing → S.unstored result.store ≡ nothing }
+    ensures apart { LeavesApart result.notes.left (S.unstored store) (S.unstored result.store) }
     ensures counted { Counted (counts (S.read_faults store) (S.write_faults store) (O.faults out.old) (I.faults script.old)) (counts (S.read_faults result.store) (S.write_faults result.store) (O.faults out.new) (I.faults script.new)) result.status }
 {
     match area_over(alloc, asked.new, store, size) {
@@ -161,6 +166,9 @@ pub fn run_file<S: Store, I: Source, O: Sink>(
     ensures replaced { IfSome (S.disk store).files (λ files. result.notes.replaced ≡ replaced_by (asked.now.new && not asked.now.no_save) (length (file_in (lookup asked.now.name.now files))) result.status) }
     ensures refusals { IsDone result.status → result.status ≡ status_of (was_refused result.notes.refusals) }
     ensures synced { IsDone result.status → Untouched (asked_for asked.now) (S.disk store) (S.disk result.store) ⊎ IsTrue (S.synced result.store) }
+    ensures new_synced { IsDone result.status → asked.now.new ≡ true → asked.now.no_save ≡ false → IsTrue (S.synced result.store) }
+    ensures stored { IsDone result.status → S.unstored store ≡ nothing → S.unstored result.store ≡ nothing }
+    ensures apart { LeavesApart result.notes.left (S.unstored store) (S.unstored result.store) }
     ensures not_called { (asked.now.new && asked.now.no_save) ≡ true → result.store ≡ store }
 {
     if is_in_memory(asked) {

@@ -7,7 +7,8 @@ ghost use Rattle.cdf_model.specs.Limits.{image_limit};
 ghost use Rattle.cdf_store.specs.Disk.{file_of};
 ghost use Rattle.cdf_saving.specs.Counts.{ReadsCounted, ReadsCountedBehind, WritesCounted};
 ghost use Rattle.cdf_saving.specs.Refusing.{was_refused};
-ghost use Rattle.cdf_saving.specs.Saved.{EndsSaving, TellsLeft};
+ghost use Rattle.cdf_saving.specs.Saved.{EndsSaving, LeavesApart, TellsLeft};
+ghost use Rattle.cdf_store.specs.Unstored.{nothing};
 ghost use Rattle.cdf_saving.specs.Statuses.{IsDone, status_of};
 ghost use Rattle.cdf_tool.specs.Areas.{EndsStored};
 
@@ -29,9 +30,11 @@ fn seal_and_save<S: Store>(refusals: Refusals, area: PagedArea<S>) -> Ended<S>
     ensures replaced { result.notes.replaced ≡ 0 }
     ensures left { TellsLeft result.notes.left (file_of (⟦<PagedArea<S> as Area>⟧.frame area).under.0) (sealed (⟦<PagedArea<S> as Area>⟧.image area)) (file_of (S.disk result.store)) result.status }
     ensures refusals { IsDone result.status → result.status ≡ status_of (was_refused result.notes.refusals) }
-    ensures synced { IsDone result.status → (S.disk result.store ≡ (⟦<PagedArea<S> as Area>⟧.frame area).under.0) ⊎ IsTrue (S.synced result.store) }
+    ensures synced { IsDone result.status → IsTrue (S.synced result.store) }
+    ensures stored { IsDone result.status → S.unstored result.store ≡ nothing }
+    ensures apart { LeavesApart result.notes.left (⟦<PagedArea<S> as Area>⟧.frame area).under.1.1 (S.unstored result.store) }
     ensures reads { ReadsCounted (⟦<PagedArea<S> as Area>⟧.faults area) (S.read_faults result.store) result.status }
-    ensures writes { WritesCounted (⟦<PagedArea<S> as Area>⟧.frame area).under.1 (S.write_faults result.store) result.status }
+    ensures writes { WritesCounted (⟦<PagedArea<S> as Area>⟧.frame area).under.1.0 (S.write_faults result.store) result.status }
 {
     let mut area = area;
     match read_seal(&mut area) {
@@ -60,8 +63,11 @@ pub fn finish<S: Store>(new: bool, no_save: bool, ran: Ran<PagedArea<S>>) -> End
     ensures left { TellsLeft result.notes.left (file_of (⟦<PagedArea<S> as Area>⟧.frame ran.area).under.0) (sealed (⟦<PagedArea<S> as Area>⟧.image ran.area)) (file_of (S.disk result.store)) result.status }
     ensures refusals { IsDone result.status → result.status ≡ status_of (was_refused result.notes.refusals) }
     ensures synced { IsDone result.status → (S.disk result.store ≡ (⟦<PagedArea<S> as Area>⟧.frame ran.area).under.0) ⊎ IsTrue (S.synced result.store) }
+    ensures new_synced { IsDone result.status → new ≡ true → no_save ≡ false → IsTrue (S.synced result.store) }
+    ensures stored { IsDone result.status → (⟦<PagedArea<S> as Area>⟧.frame ran.area).under.1.1 ≡ nothing → S.unstored result.store ≡ nothing }
+    ensures apart { LeavesApart result.notes.left (⟦<PagedArea<S> as Area>⟧.frame ran.area).under.1.1 (S.unstored result.store) }
     ensures reads { ReadsCountedBehind ran.outcome (⟦<PagedArea<S> as Area>⟧.faults ran.area) (S.read_faults result.store) result.status }
-    ensures writes { WritesCounted (⟦<PagedArea<S> as Area>⟧.frame ran.area).under.1 (S.write_faults result.store) result.status }
+    ensures writes { WritesCounted (⟦<PagedArea<S> as Area>⟧.frame ran.area).under.1.0 (S.write_faults result.store) result.status }
     ensures unmoved { new ≡ false → OnOk ran.outcome (⟦<PagedArea<S> as Area>⟧.edited ran.area ≡ false) → (S.disk result.store ≡ (⟦<PagedArea<S> as Area>⟧.frame ran.area).under.0) × (result.status ≢ Status.StoreWriteFault) }
 {
     let Ran {

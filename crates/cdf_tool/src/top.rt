@@ -4,11 +4,13 @@ ghost use Rattle.std.specs.Prelude.{◌≡◌, ◌≢◌, ◌-◌, ◌<◌, ◌�
 ghost use Rattle.std.specs.Option.{ForSome, option_map};
 ghost use Rattle.cdf_store.specs.Disk.{file_in};
 ghost use Rattle.cdf_store.specs.Named.{Allows, lookup};
+ghost use Rattle.cdf_store.specs.Unstored.{nothing};
 ghost use Rattle.cdf_pages.specs.Saving.{Touches};
 ghost use Rattle.cdf_format.specs.Sealed.{image_of};
 ghost use Rattle.cdf_format.specs.WellFormed.{WellFormed};
 ghost use Rattle.cdf_model.specs.Limits.{image_limit, script_limit};
 ghost use Rattle.cdf_saving.specs.Counts.{Counted, counts};
+ghost use Rattle.cdf_saving.specs.Saved.{LeavesApart};
 ghost use Rattle.cdf_saving.specs.Statuses.{Exactly, IsDone, IsFailure, IsUnsaved, replaced_by};
 ghost use Rattle.cdf_words.specs.Asking.{ask, saves_nothing};
 ghost use Rattle.cdf_tool.specs.Accepts.{Accepts};
@@ -107,6 +109,14 @@ pub fn run<S: Store, I: Source, O: Sink>(
 
     // With status 0 or 1 nothing was written to the store, or the store has the file stored as it stands.
     ensures synced { IfSome (ask (map string_bytes words.now)) (λ asked. IsDone result.status → Untouched asked (S.disk store) (S.disk result.store) ⊎ IsTrue (S.synced result.store)) }
+
+    // So it is of a new file that was saved, also where it is the one that was there.
+    ensures new_synced { IfSome (ask (map string_bytes words.now)) (λ asked. IsDone result.status → asked.new ≡ true → asked.no_save ≡ false → IsTrue (S.synced result.store)) }
+
+    // Over real files too: where all was stored before, it is with status 0 or 1, and bytes of the file are written over only once
+    // what it grew by is stored, so that never are both left to be stored, unless a saving failed and left the old bytes.
+    ensures stored { IsDone result.status → S.unstored store ≡ nothing → S.unstored result.store ≡ nothing }
+    ensures apart { LeavesApart result.notes.left (S.unstored store) (S.unstored result.store) }
 
     // With status 6 it is told what the saving left: the file has its old bytes, old ones and new ones, or all new ones, which the
     // store may not have stored. With any other status nothing is told.
