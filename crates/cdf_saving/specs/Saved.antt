@@ -1,5 +1,5 @@
 -- What a saving leaves of the file, and what is told of it.
-use Rattle.std.specs.Prelude.{Bool, List, None, Some, false, length, true, ℕ, ◌+◌, ◌≡◌, ◌≤◌, ◌⊎◌}
+use Rattle.std.specs.Prelude.{Bool, List, None, Some, false, length, true, ℕ, ◌&&◌, ◌+◌, ◌≡◌, ◌≤◌, ◌⊎◌}
 use Rattle.std.specs.declared.option.Option.{Option}
 use Rattle.cdf_format.specs.Sealed.{sealed}
 use Rattle.cdf_pages.specs.Saving.{Differs, Holds, HoldsBetween, IsBetween, LiesIn, Touches}
@@ -8,6 +8,8 @@ use Rattle.cdf_saving.specs.declared.notes.Left.TheVariants as lefts
 use Rattle.cdf_saving.specs.declared.status.Status.{Status}
 use Rattle.cdf_saving.specs.declared.status.Status.TheVariants as statuses
 use Rattle.cdf_store.specs.Disk.{Disk, file_of}
+use Rattle.cdf_store.specs.Unstored.{nothing}
+use Rattle.cdf_store.specs.declared.unstored.Unstored.{Unstored}
 
 -- a range lies in a page in which the image has a byte that the file had not there, or behind the image in its checksum
 abbrev pub IsRewritten : List ℕ → List ℕ → ℕ × ℕ → Type 0
@@ -37,3 +39,10 @@ IsLeft (Some lefts.Unsynced) old new now = now ≡ new
 abbrev pub TellsLeft : Option Left → List ℕ → List ℕ → List ℕ → Status → Type 0
 TellsLeft what old new now statuses.StoreWriteFault = IsLeft what old new now
 TellsLeft what old new now other = what ≡ None
+
+-- Bytes of the file are written over only once its growth is stored: where nothing was left to store before, never is both growth
+-- and change left, unless a saving failed and left the old bytes.
+abbrev pub LeavesApart : Option Left → Unstored → Unstored → Type 0
+LeavesApart None u u' = u ≡ nothing → (u'.growth && u'.change) ≡ false
+LeavesApart (Some lefts.Old) u u' = Unit {0}
+LeavesApart (Some other) u u' = u ≡ nothing → (u'.growth && u'.change) ≡ false

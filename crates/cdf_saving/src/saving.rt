@@ -1,15 +1,15 @@
 //! The image of a run is saved to the file that is attached.
 
-ghost use Rattle.std.specs.Prelude.{◌≡◌, ◌≤◌, ◌⊎◌, ℕ, length, take, true, false, IsSome, IsTrue, OnOk, None};
-ghost use Rattle.cdf_base.specs.Causes.{HasCause};
+ghost use Rattle.std.specs.Prelude.{◌≡◌, ◌≤◌, ℕ, length, take, true, false, IsSome, IsTrue, None};
 ghost use Rattle.cdf_format.specs.Sealed.{sealed, trailer};
 ghost use Rattle.cdf_model.specs.Limits.{image_limit};
 ghost use Rattle.cdf_pages.specs.Saving.{Differs, tail_bytes};
 ghost use Rattle.cdf_saving.specs.Counts.{ReadsCounted, WritesCounted};
 ghost use Rattle.cdf_saving.specs.Refusing.{was_refused};
-ghost use Rattle.cdf_saving.specs.Saved.{EndsSaving, TellsLeft};
+ghost use Rattle.cdf_saving.specs.Saved.{EndsSaving, LeavesApart, TellsLeft};
 ghost use Rattle.cdf_saving.specs.Statuses.{IsDone, status_of};
 ghost use Rattle.cdf_store.specs.Disk.{file_of};
+ghost use Rattle.cdf_store.specs.Unstored.{nothing};
 
 use crate::ended::Ended;
 use crate::notes::{Left, Notes};
@@ -28,22 +28,8 @@ pub fn is_saved<S: Store>(new: bool, area: &PagedArea<S>) -> bool
     !new && !area.is_edited()
 }
 
-/// Has the file that is attached stored, where there was anything to write.
-fn sync_written<S: Store>(is_same: bool, area: &mut PagedArea<S>) -> Result<(), Failed>
-    requires held { IsSome (⟦<PagedArea<S> as Area>⟧.frame area.old).under.0.held }
-    ensures disk { (⟦<PagedArea<S> as Area>⟧.frame area.new).under.0 ≡ (⟦<PagedArea<S> as Area>⟧.frame area.old).under.0 }
-    ensures faults { ⟦<PagedArea<S> as Area>⟧.faults area.new ≡ ⟦<PagedArea<S> as Area>⟧.faults area.old }
-    ensures cause { HasCause (⟦<PagedArea<S> as Area>⟧.frame area.old).under.1 (⟦<PagedArea<S> as Area>⟧.frame area.new).under.1 result }
-    ensures synced { OnOk result (IsTrue is_same ⊎ IsTrue (⟦<PagedArea<S> as InPages>⟧.synced area.new)) }
-{
-    if is_same {
-        return Ok(());
-    }
-    area.sync()
-}
-
-/// Writes the image to the file that is attached, and behind it its checksum, where it has one, and has the file stored where
-/// there was anything to write. Each changed page differs from the file.
+/// Writes the image to the file that is attached, and behind it its checksum, where it has one, and has the file stored, also where
+/// there was nothing to write. Each changed page differs from the file.
 fn write<S: Store>(refusals: Refusals, area: PagedArea<S>, seal: Option<[u8; 16]>) -> Ended<S>
     requires held { IsSome (⟦<PagedArea<S> as Area>⟧.frame area).under.0.held }
     requires fits { length (⟦<PagedArea<S> as Area>⟧.image area) ≤ image_limit }
@@ -55,14 +41,15 @@ fn write<S: Store>(refusals: Refusals, area: PagedArea<S>, seal: Option<[u8; 16]
     ensures replaced { result.notes.replaced ≡ 0 }
     ensures left { TellsLeft result.notes.left (file_of (⟦<PagedArea<S> as Area>⟧.frame area).under.0) (sealed (⟦<PagedArea<S> as Area>⟧.image area)) (file_of (S.disk result.store)) result.status }
     ensures refusals { IsDone result.status → result.status ≡ status_of (was_refused result.notes.refusals) }
-    ensures synced { IsDone result.status → (S.disk result.store ≡ (⟦<PagedArea<S> as Area>⟧.frame area).under.0) ⊎ IsTrue (S.synced result.store) }
+    ensures synced { IsDone result.status → IsTrue (S.synced result.store) }
+    ensures stored { IsDone result.status → S.unstored result.store ≡ nothing }
+    ensures apart { LeavesApart result.notes.left (⟦<PagedArea<S> as InPages>⟧.unstored area) (S.unstored result.store) }
     ensures reads { ReadsCounted (⟦<PagedArea<S> as Area>⟧.faults area) (S.read_faults result.store) result.status }
     ensures writes { WritesCounted (⟦<PagedArea<S> as Area>⟧.frame area).under.1 (S.write_faults result.store) result.status }
 {
     let mut area = area;
-    let is_same = area.has_nothing_to_save(&seal);
     match area.save(seal) {
-        Ok(()) => match sync_written(is_same, &mut area) {
+        Ok(()) => match area.sync() {
             Ok(()) => Ended {
                 status: end_status(refusals),
                 notes: Notes::of_script(refusals),
@@ -91,7 +78,8 @@ fn write<S: Store>(refusals: Refusals, area: PagedArea<S>, seal: Option<[u8; 16]
 }
 
 /// Saves the image to the file that is attached, and behind it its checksum, where it has one. Of its pages those alone are written
-/// that differ from the file, which is read for that.
+/// that differ from the file, which is read for that. The file is stored also where none does: so a run that repeats one that could
+/// not store the file asks for that again.
 pub fn save<S: Store>(refusals: Refusals, area: PagedArea<S>, seal: Option<[u8; 16]>) -> Ended<S>
     requires held { IsSome (⟦<PagedArea<S> as Area>⟧.frame area).under.0.held }
     requires fits { length (⟦<PagedArea<S> as Area>⟧.image area) ≤ image_limit }
@@ -102,7 +90,9 @@ pub fn save<S: Store>(refusals: Refusals, area: PagedArea<S>, seal: Option<[u8; 
     ensures replaced { result.notes.replaced ≡ 0 }
     ensures left { TellsLeft result.notes.left (file_of (⟦<PagedArea<S> as Area>⟧.frame area).under.0) (sealed (⟦<PagedArea<S> as Area>⟧.image area)) (file_of (S.disk result.store)) result.status }
     ensures refusals { IsDone result.status → result.status ≡ status_of (was_refused result.notes.refusals) }
-    ensures synced { IsDone result.status → (S.disk result.store ≡ (⟦<PagedArea<S> as Area>⟧.frame area).under.0) ⊎ IsTrue (S.synced result.store) }
+    ensures synced { IsDone result.status → IsTrue (S.synced result.store) }
+    ensures stored { IsDone result.status → S.unstored result.store ≡ nothing }
+    ensures apart { LeavesApart result.notes.left (⟦<PagedArea<S> as InPages>⟧.unstored area) (S.unstored result.store) }
     ensures reads { ReadsCounted (⟦<PagedArea<S> as Area>⟧.faults area) (S.read_faults result.store) result.status }
     ensures writes { WritesCounted (⟦<PagedArea<S> as Area>⟧.frame area).under.1 (S.write_faults result.store) result.status }
 {

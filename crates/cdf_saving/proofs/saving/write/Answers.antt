@@ -3,15 +3,15 @@ use Rattle.cdf_saving.proofs.SavedLemmas.{failed_between, rewrites, saved_done, 
 use Rattle.cdf_saving.specs.Refusing.{was_refused}
 use Rattle.cdf_saving.proofs.saving.write.Goals as goal
 
-pub returns-in-Ok-sync_written-clause-ends : goal.returns-in-Ok-sync_written-clause-ends
-returns-in-Ok-sync_written-clause-ends g c =
-    let same = c.into_store.ensures.disk ∙ c.sync_written.ensures.disk in
+pub returns-in-Ok-sync-clause-ends : goal.returns-in-Ok-sync-clause-ends
+returns-in-Ok-sync-clause-ends g c =
+    let same = c.into_store.ensures.disk ∙ c.sync.ensures.disk in
     saved_done _ c.args.seal _ _ _ c.requires.seal same (was_refused c.args.refusals) c.end_status.result c.end_status.ensures c.in-Ok.ensures.saved
     (rewrites _ c.args.seal (g.S.Store.disk c.args.area.store) _ _ c.requires.seal same _ c.requires.settled c.save.ensures.touched)
 
 pub returns-in-Err-clause-ends : goal.returns-in-Err-clause-ends
 returns-in-Err-clause-ends g c =
-    let same = c.into_store-in-Err.ensures.disk ∙ c.sync_written.ensures.disk in (
+    let same = c.into_store-in-Err.ensures.disk ∙ c.sync.ensures.disk in (
       saved_whole _ c.args.seal _ _ _ c.requires.seal same c.in-Ok.ensures.saved,
       rewrites _ c.args.seal (g.S.Store.disk c.args.area.store) _ _ c.requires.seal same _ c.requires.settled c.save.ensures.touched,
     )
