@@ -117,14 +117,14 @@ impl<S: Store> PagedArea<S> {
         ensures base { (⟦<PagedArea<S> as Area>⟧.frame self.new).base ≡ None }
         ensures limit { (⟦<PagedArea<S> as Area>⟧.frame self.new).limit ≡ (⟦<PagedArea<S> as Area>⟧.frame self.old).limit }
         ensures faults { ⟦<PagedArea<S> as Area>⟧.faults self.new ≡ ⟦<PagedArea<S> as Area>⟧.faults self.old }
-        ensures cause { HasSaveCause (⟦<PagedArea<S> as Area>⟧.frame self.old).under.1.0 (⟦<PagedArea<S> as Area>⟧.frame self.new).under.1.0 result }
+        ensures cause { HasSaveCause (⟦<PagedArea<S> as Area>⟧.frame self.old).under.1 (⟦<PagedArea<S> as Area>⟧.frame self.new).under.1 result }
         // Then no page is a changed one. Nothing but changed pages and the tail was written, and nothing was read.
         ensures unchanged { OnOk result ((number : ℕ) → ⟦<PagedArea<S> as InPages>⟧.changed self.new number ≡ false) }
         ensures clean { ⟦<PagedArea<S> as InPages>⟧.clean self.new ≡ ⟦<PagedArea<S> as InPages>⟧.clean self.old }
         ensures taken { ⟦<PagedArea<S> as InPages>⟧.taken self.new ≡ ⟦<PagedArea<S> as InPages>⟧.taken self.old }
         ensures touched { Touches (IsChangedRange (⟦<PagedArea<S> as InPages>⟧.changed self.old) (length (⟦<PagedArea<S> as Area>⟧.image self.old)) (length (tail_bytes tail))) (⟦<PagedArea<S> as Area>⟧.frame self.old).under.0.touched (⟦<PagedArea<S> as Area>⟧.frame self.new).under.0.touched }
         // Nothing is written over or cut while a growth is not stored, unless the old bytes are kept.
-        ensures apart { KeepsApart result (⟦<PagedArea<S> as Area>⟧.frame self.old).under.1.1 (⟦<PagedArea<S> as Area>⟧.frame self.new).under.1.1 }
+        ensures apart { KeepsApart result (⟦<PagedArea<S> as Area>⟧.frame self.old).under.2 (⟦<PagedArea<S> as Area>⟧.frame self.new).under.2 }
         // Where no page is changed and the file is as long as it is to be, the store is not called.
         ensures not_called { HasNothingToSave (⟦<PagedArea<S> as InPages>⟧.changed self.old) (file_of (⟦<PagedArea<S> as Area>⟧.frame self.old).under.0) (⟦<PagedArea<S> as Area>⟧.image self.old) tail → (result ≡ Ok tt) × ((⟦<PagedArea<S> as Area>⟧.frame self.new).under ≡ (⟦<PagedArea<S> as Area>⟧.frame self.old).under) }
         ensures synced { HasNothingToSave (⟦<PagedArea<S> as InPages>⟧.changed self.old) (file_of (⟦<PagedArea<S> as Area>⟧.frame self.old).under.0) (⟦<PagedArea<S> as Area>⟧.image self.old) tail → ⟦<PagedArea<S> as InPages>⟧.synced self.new ≡ ⟦<PagedArea<S> as InPages>⟧.synced self.old }
@@ -176,15 +176,15 @@ impl<S: Store> PagedArea<S> {
     pub fn sync(&mut self) -> Result<(), Failed>
         requires held { IsSome (⟦<PagedArea<S> as Area>⟧.frame self.old).under.0.held }
         ensures synced { OnOk result (IsTrue (⟦<PagedArea<S> as InPages>⟧.synced self.new)) }
-        ensures stored { OnOk result ((⟦<PagedArea<S> as Area>⟧.frame self.new).under.1.1 ≡ nothing) }
-        ensures unstored { OnErr result ((⟦<PagedArea<S> as Area>⟧.frame self.new).under.1.1 ≡ (⟦<PagedArea<S> as Area>⟧.frame self.old).under.1.1) }
+        ensures stored { OnOk result ((⟦<PagedArea<S> as Area>⟧.frame self.new).under.2 ≡ nothing) }
+        ensures unstored { OnErr result ((⟦<PagedArea<S> as Area>⟧.frame self.new).under.2 ≡ (⟦<PagedArea<S> as Area>⟧.frame self.old).under.2) }
         ensures image { ⟦<PagedArea<S> as Area>⟧.image self.new ≡ ⟦<PagedArea<S> as Area>⟧.image self.old }
         ensures disk { (⟦<PagedArea<S> as Area>⟧.frame self.new).under.0 ≡ (⟦<PagedArea<S> as Area>⟧.frame self.old).under.0 }
         ensures base { (⟦<PagedArea<S> as Area>⟧.frame self.new).base ≡ (⟦<PagedArea<S> as Area>⟧.frame self.old).base }
         ensures limit { (⟦<PagedArea<S> as Area>⟧.frame self.new).limit ≡ (⟦<PagedArea<S> as Area>⟧.frame self.old).limit }
         ensures edited { ⟦<PagedArea<S> as Area>⟧.edited self.new ≡ ⟦<PagedArea<S> as Area>⟧.edited self.old }
         ensures faults { ⟦<PagedArea<S> as Area>⟧.faults self.new ≡ ⟦<PagedArea<S> as Area>⟧.faults self.old }
-        ensures cause { HasCause (⟦<PagedArea<S> as Area>⟧.frame self.old).under.1.0 (⟦<PagedArea<S> as Area>⟧.frame self.new).under.1.0 result }
+        ensures cause { HasCause (⟦<PagedArea<S> as Area>⟧.frame self.old).under.1 (⟦<PagedArea<S> as Area>⟧.frame self.new).under.1 result }
         ensures changed { ⟦<PagedArea<S> as InPages>⟧.changed self.new ≡ ⟦<PagedArea<S> as InPages>⟧.changed self.old }
         ensures clean { ⟦<PagedArea<S> as InPages>⟧.clean self.new ≡ ⟦<PagedArea<S> as InPages>⟧.clean self.old }
         ensures taken { ⟦<PagedArea<S> as InPages>⟧.taken self.new ≡ ⟦<PagedArea<S> as InPages>⟧.taken self.old }
@@ -203,10 +203,10 @@ impl<S: Store> PagedArea<S> {
     /// The store beneath. What was changed is let go.
     pub fn into_store(self) -> S
         ensures disk { S.disk result ≡ (⟦<PagedArea<S> as Area>⟧.frame self).under.0 }
-        ensures write { S.write_faults result ≡ (⟦<PagedArea<S> as Area>⟧.frame self).under.1.0 }
+        ensures write { S.write_faults result ≡ (⟦<PagedArea<S> as Area>⟧.frame self).under.1 }
         ensures read { S.read_faults result ≡ ⟦<PagedArea<S> as Area>⟧.faults self }
         ensures synced { S.synced result ≡ ⟦<PagedArea<S> as InPages>⟧.synced self }
-        ensures unstored { S.unstored result ≡ (⟦<PagedArea<S> as Area>⟧.frame self).under.1.1 }
+        ensures unstored { S.unstored result ≡ (⟦<PagedArea<S> as Area>⟧.frame self).under.2 }
     {
         self.store
     }

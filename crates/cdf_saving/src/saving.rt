@@ -43,9 +43,9 @@ fn write<S: Store>(refusals: Refusals, area: PagedArea<S>, seal: Option<[u8; 16]
     ensures refusals { IsDone result.status → result.status ≡ status_of (was_refused result.notes.refusals) }
     ensures synced { IsDone result.status → IsTrue (S.synced result.store) }
     ensures stored { IsDone result.status → S.unstored result.store ≡ nothing }
-    ensures apart { LeavesApart result.notes.left (⟦<PagedArea<S> as Area>⟧.frame area).under.1.1 (S.unstored result.store) }
+    ensures apart { LeavesApart result.notes.left (⟦<PagedArea<S> as Area>⟧.frame area).under.2 (S.unstored result.store) }
     ensures reads { ReadsCounted (⟦<PagedArea<S> as Area>⟧.faults area) (S.read_faults result.store) result.status }
-    ensures writes { WritesCounted (⟦<PagedArea<S> as Area>⟧.frame area).under.1.0 (S.write_faults result.store) result.status }
+    ensures writes { WritesCounted (⟦<PagedArea<S> as Area>⟧.frame area).under.1 (S.write_faults result.store) result.status }
 {
     let mut area = area;
     match area.save(seal) {
@@ -92,9 +92,9 @@ pub fn save<S: Store>(refusals: Refusals, area: PagedArea<S>, seal: Option<[u8; 
     ensures refusals { IsDone result.status → result.status ≡ status_of (was_refused result.notes.refusals) }
     ensures synced { IsDone result.status → IsTrue (S.synced result.store) }
     ensures stored { IsDone result.status → S.unstored result.store ≡ nothing }
-    ensures apart { LeavesApart result.notes.left (⟦<PagedArea<S> as Area>⟧.frame area).under.1.1 (S.unstored result.store) }
+    ensures apart { LeavesApart result.notes.left (⟦<PagedArea<S> as Area>⟧.frame area).under.2 (S.unstored result.store) }
     ensures reads { ReadsCounted (⟦<PagedArea<S> as Area>⟧.faults area) (S.read_faults result.store) result.status }
-    ensures writes { WritesCounted (⟦<PagedArea<S> as Area>⟧.frame area).under.1.0 (S.write_faults result.store) result.status }
+    ensures writes { WritesCounted (⟦<PagedArea<S> as Area>⟧.frame area).under.1 (S.write_faults result.store) result.status }
 {
     let mut area = area;
     match area.settle() {

@@ -32,9 +32,9 @@ fn seal_and_save<S: Store>(refusals: Refusals, area: PagedArea<S>) -> Ended<S>
     ensures refusals { IsDone result.status → result.status ≡ status_of (was_refused result.notes.refusals) }
     ensures synced { IsDone result.status → IsTrue (S.synced result.store) }
     ensures stored { IsDone result.status → S.unstored result.store ≡ nothing }
-    ensures apart { LeavesApart result.notes.left (⟦<PagedArea<S> as Area>⟧.frame area).under.1.1 (S.unstored result.store) }
+    ensures apart { LeavesApart result.notes.left (⟦<PagedArea<S> as Area>⟧.frame area).under.2 (S.unstored result.store) }
     ensures reads { ReadsCounted (⟦<PagedArea<S> as Area>⟧.faults area) (S.read_faults result.store) result.status }
-    ensures writes { WritesCounted (⟦<PagedArea<S> as Area>⟧.frame area).under.1.0 (S.write_faults result.store) result.status }
+    ensures writes { WritesCounted (⟦<PagedArea<S> as Area>⟧.frame area).under.1 (S.write_faults result.store) result.status }
 {
     let mut area = area;
     match read_seal(&mut area) {
@@ -64,10 +64,10 @@ pub fn finish<S: Store>(new: bool, no_save: bool, ran: Ran<PagedArea<S>>) -> End
     ensures refusals { IsDone result.status → result.status ≡ status_of (was_refused result.notes.refusals) }
     ensures synced { IsDone result.status → (S.disk result.store ≡ (⟦<PagedArea<S> as Area>⟧.frame ran.area).under.0) ⊎ IsTrue (S.synced result.store) }
     ensures new_synced { IsDone result.status → new ≡ true → no_save ≡ false → IsTrue (S.synced result.store) }
-    ensures stored { IsDone result.status → (⟦<PagedArea<S> as Area>⟧.frame ran.area).under.1.1 ≡ nothing → S.unstored result.store ≡ nothing }
-    ensures apart { LeavesApart result.notes.left (⟦<PagedArea<S> as Area>⟧.frame ran.area).under.1.1 (S.unstored result.store) }
+    ensures stored { IsDone result.status → (⟦<PagedArea<S> as Area>⟧.frame ran.area).under.2 ≡ nothing → S.unstored result.store ≡ nothing }
+    ensures apart { LeavesApart result.notes.left (⟦<PagedArea<S> as Area>⟧.frame ran.area).under.2 (S.unstored result.store) }
     ensures reads { ReadsCountedBehind ran.outcome (⟦<PagedArea<S> as Area>⟧.faults ran.area) (S.read_faults result.store) result.status }
-    ensures writes { WritesCounted (⟦<PagedArea<S> as Area>⟧.frame ran.area).under.1.0 (S.write_faults result.store) result.status }
+    ensures writes { WritesCounted (⟦<PagedArea<S> as Area>⟧.frame ran.area).under.1 (S.write_faults result.store) result.status }
     ensures unmoved { new ≡ false → OnOk ran.outcome (⟦<PagedArea<S> as Area>⟧.edited ran.area ≡ false) → (S.disk result.store ≡ (⟦<PagedArea<S> as Area>⟧.frame ran.area).under.0) × (result.status ≢ Status.StoreWriteFault) }
 {
     let Ran {

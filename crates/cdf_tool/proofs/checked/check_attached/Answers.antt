@@ -20,7 +20,7 @@ returns-in-Ok-clause-refusals g c = λ done.
 
 pub returns-in-Ok-clause-counted : goal.returns-in-Ok-clause-counted
 returns-in-Ok-clause-counted g c = λ source.
-    let writes = c.into_store-store.ensures.write ∙ ap (λ (f : Frame (Disk g.S.Store.Under × ℕ × Unstored)). f.under.1.0) (c.check_area-area.ensures.frame ∙ c.in-Ok.ensures.frame) in
+    let writes = c.into_store-store.ensures.write ∙ ap (λ (f : Frame (Disk g.S.Store.Under × ℕ × Unstored)). f.under.1) (c.check_area-area.ensures.frame ∙ c.in-Ok.ensures.frame) in
     stopped_counted c.check_area-area.result.status (g.S.Store.read_faults c.args.store) (g.S.Store.write_faults c.args.store) (g.O.Sink.faults c.args.out.now) source
     (g.S.Store.read_faults c.into_store-store.result) (g.S.Store.write_faults c.into_store-store.result) (g.O.Sink.faults c.check_area-area.new.out) source
     (transport (λ i. Counted (counts (c.in-Ok.ensures.faults i) 0 (g.O.Sink.faults c.args.out.now) source) (counts (sym c.into_store-store.ensures.read i) 0 (g.O.Sink.faults c.check_area-area.new.out) source) c.check_area-area.result.status) (c.check_area-area.ensures.counted source))

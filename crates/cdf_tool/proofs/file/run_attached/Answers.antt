@@ -40,7 +40,7 @@ pub returns-in-Ok-clause-counted : goal.returns-in-Ok-clause-counted
 returns-in-Ok-clause-counted g c =
     counted_attached c.args.asked.now.no_save _ _ _ c.run_area-ran.result.outcome c.finish.result.status (g.S.Store.read_faults c.args.store) (g.S.Store.write_faults c.args.store) (g.O.Sink.faults c.args.out.now) (g.I.Source.faults c.args.script.now)
     (g.S.Store.read_faults c.finish.result.store) (g.S.Store.write_faults c.finish.result.store) (g.O.Sink.faults c.run_area-ran.new.out) (g.I.Source.faults c.run_area-ran.new.script) _ _ _
-    c.in-Ok.ensures.faults (ap (λ (f : Frame (Disk g.S.Store.Under × ℕ × Unstored)). f.under.1.0) (c.run_area-ran.ensures.frame ∙ c.in-Ok.ensures.frame))
+    c.in-Ok.ensures.faults (ap (λ (f : Frame (Disk g.S.Store.Under × ℕ × Unstored)). f.under.1) (c.run_area-ran.ensures.frame ∙ c.in-Ok.ensures.frame))
     c.finish.ensures.ends c.run_area-ran.ensures.counted c.finish.ensures.reads c.finish.ensures.writes
 
 pub finish-requires-clause-not_done : goal.finish-requires-clause-not_done
