@@ -1,7 +1,5 @@
 -- What calls did to the parts of a disk in memory, and what a crash may leave of them (own).
 use Rattle.std.specs.Prelude.{◌≡◌, ◌≤◌, ℕ, ◌+◌, ◌-◌, List, [], ◌∷◌, length, take, Bool, true, false, nat_le, nat_lt, ◌&&◌, if◌then◌else◌}
-use Rattle.std.proofs.Common.{arith, subst, sym}
-use Rattle.std.proofs.lemmas.List.{take_all}
 use Rattle.cdf_base.specs.Bytes.{put}
 use Rattle.cdf_journal.specs.declared.disk.Part.{Part}
 use Rattle.cdf_journal.specs.Crashes.{InPart, Parts, Shortened, Torn, part_of, with_part}
@@ -56,13 +54,6 @@ pub record LeftSince (base : Parts) (events : List Event) (t : ℕ) (c : Parts) 
   pub from : t ≤ moment
   pub within : moment ≤ length events
   pub left : may_leave_after base (take moment events) c
-
--- the present moment is one of those since an earlier one, and since now there is no other
-pub counts_present : (base : Parts) (events : List Event) (t : ℕ) (c : Parts) → t ≤ length events → may_leave_after base events c → LeftSince base events t c
-counts_present base events t c le left = record { moment = length events; from = le; within = omega arith; left = subst (λ (es : List Event). may_leave_after base es c) (sym (take_all (length events) events (omega arith))) left }
-
-pub only_present : (base : Parts) (events : List Event) (c : Parts) → LeftSince base events (length events) c → may_leave_after base events c
-only_present base events c s = subst (λ (es : List Event). may_leave_after base es c) (take_all s.moment events (let f = s.from in omega (arith, f))) s.left
 
 -- ---- a crash that keeps the first writes and cuts since the parts were stored
 

@@ -1,4 +1,5 @@
 pub mod Events
+pub mod Present
 pub mod History
 pub mod MemParts
 pub mod MemDisk

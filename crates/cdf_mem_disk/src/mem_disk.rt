@@ -3,7 +3,7 @@
 ghost use Rattle.std.specs.Prelude.{◌≡◌, ◌≤◌, ◌↔◌, ◌++◌, ◌∷◌, ℕ, List, [], length, bytes_eq, false, true, refl, IfOk, IfSome, IsSome, OnErr, OnOk, Some};
 ghost use Rattle.cdf_base.specs.Causes.{Rose};
 ghost use Rattle.cdf_journal.specs.Crashes.{Settles, part_of};
-ghost use Rattle.cdf_mem_disk.specs.Events.{LeftSince, counts_present, may_leave_after, only_present};
+ghost use Rattle.cdf_mem_disk.specs.Events.{LeftSince, may_leave_after};
 ghost use Rattle.cdf_mem_disk.specs.MemParts.{is_named, parts_in};
 
 use crate::past::Past;
@@ -122,7 +122,7 @@ impl MemDisk {
         ensures calls { calls_of self.new ≡ calls_of self.old }
         ensures failing { failing_of self.new ≡ failing_of self.old }
     {
-        let left = self.past.left(self.alloc, keep, 0)?;
+        let left = self.past.left(self.alloc, keep)?;
         self.past = Past::new(self.alloc, &left.main, &left.log, self.calls, self.room)?;
         Ok(())
     }
@@ -130,6 +130,7 @@ impl MemDisk {
 
 impl Disk for MemDisk {
     ghost use Rattle.cdf_mem_disk.specs.MemDisk.{IsCall};
+    ghost use Rattle.cdf_mem_disk.specs.Present.{counts_present, only_present};
 
     ghost seen = { λ d. Some (parts_in d.past.parts) };
 

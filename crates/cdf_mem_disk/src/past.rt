@@ -100,12 +100,11 @@ impl Past {
         self.history.note_store()
     }
 
-    /// The parts that are left where a crash keeps the first `keep` writes and cuts since the parts were stored, with room for so many
-    /// bytes more in each.
-    pub fn left(&self, alloc: Global, keep: u64, more: usize) -> Result<MemParts, AllocError>
+    /// The parts that are left where a crash keeps the first `keep` writes and cuts since the parts were stored.
+    pub fn left(&self, alloc: Global, keep: u64) -> Result<MemParts, AllocError>
         ensures { IfOk result (λ parts. parts_in parts ≡ crashed keep (parts_in self.now.base) self.now.history) }
     {
-        let mut parts = MemParts::new(alloc, &self.base.main, &self.base.log, more)?;
+        let mut parts = MemParts::new(alloc, &self.base.main, &self.base.log, 0)?;
         let end = self.history.kept_end(keep);
         self.history.redo(end, &mut parts)?;
         Ok(parts)
