@@ -16,7 +16,7 @@ failing_of disk = disk.plan.failing.items
 abbrev pub left_by : ℕ → MemDisk → Parts
 left_by keep disk = crashed keep (parts_in disk.past.base) disk.past.history
 
--- A call was counted. It failed where that was planned, and where it failed reads give what they gave; it may also fail for want of room.
+-- A call was counted. It failed where that was planned, and where it failed reads give what they gave; it may also fail for want of memory, or where a second file was to be made.
 pub record IsCall (old new : MemDisk) (failed : Bool) : Type 0 where
   pub counted : calls_of new ≡ min (calls_of old + 1) (2 ^ 64 - 1)
   pub kept : failing_of new ≡ failing_of old

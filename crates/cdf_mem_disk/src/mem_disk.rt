@@ -12,7 +12,8 @@ use cdf_store::{AttachError, Failed, Plan, copy_from};
 use std::alloc::{AllocError, Global};
 
 /// A file and its log in memory, which tell everything. Chosen calls fail, and so do writes, cuts and syncs for which there is no
-/// room. A write that fails writes nothing, but a crash may tear its range all the same.
+/// memory, and an attaching that would make a second file. A write that fails writes nothing, but a crash may tear its range all the
+/// same.
 #[derive(Drop)]
 pub struct MemDisk {
     alloc: Global,
@@ -48,7 +49,7 @@ fn has_name(own: &Option<String>, name: &str) -> bool
 impl MemDisk {
     ghost use Rattle.cdf_mem_disk.specs.MemDisk.{calls_of, failing_of, left_by};
 
-    /// A disk without a file, which has room for so many writes, cuts and syncs, and for so many bytes of writes.
+    /// A disk without a file, which has room from the start for so many writes, cuts and syncs, and for so many bytes of writes.
     pub fn new(alloc: Global, calls: u64, bytes: u64) -> Result<Self, AllocError>
         ensures settled { IfOk result (λ disk. Settles ⟦<MemDisk as Disk>⟧.seen ⟦<MemDisk as Disk>⟧.may_leave disk (record { main = []; log = [] })) }
         ensures there { IfOk result (λ disk. (name : List ℕ) → ⟦<MemDisk as Disk>⟧.there disk name ≡ false) }
