@@ -184,6 +184,28 @@ fn bytes_stay_behind_a_file_that_cannot_be_cut_back(rt: HostRuntime) -> Result<(
 }
 
 #[test]
+fn a_growth_that_is_not_stored_is_taken_back(rt: HostRuntime) -> Result<(), Fail> {
+    // Three parts of pages were written past the end, and the sync behind them fails.
+    let mut area = growing_area(rt.alloc(), [6, 6])?;
+    assert_eq!(rt; save_error(&mut area)?, SaveError::Failed { kept: true });
+    let store = area.into_store();
+    assert_eq!(rt; store.calls(), 7);
+    assert_eq!(rt; store.file(NAME), Some([7; 10].as_slice()));
+    Ok(())
+}
+
+#[test]
+fn a_growth_is_taken_back_where_no_byte_is_written_over(rt: HostRuntime) -> Result<(), Fail> {
+    // The growth is stored, and the first write before the old end fails.
+    let mut area = growing_area(rt.alloc(), [7, 7])?;
+    assert_eq!(rt; save_error(&mut area)?, SaveError::Failed { kept: true });
+    let store = area.into_store();
+    assert_eq!(rt; store.calls(), 8);
+    assert_eq!(rt; store.file(NAME), Some([7; 10].as_slice()));
+    Ok(())
+}
+
+#[test]
 fn a_page_across_the_end_is_written_in_two_parts(rt: HostRuntime) -> Result<(), Fail> {
     let mut area = growing_area(rt.alloc(), [0, 0])?;
     save(&mut area, Some([9; 16]))?;
