@@ -1,7 +1,10 @@
 //! Real files and streams.
 
 mod changed_files;
+mod meddled_files;
+mod meddler;
 mod real_files;
+mod stored_files;
 mod weak_files;
 mod weak_stores;
 

@@ -2,6 +2,8 @@
 
 ghost use Rattle.std.specs.Prelude.{◌≡◌, IfOk, Some, length, option_map};
 
+use super::meddler::{Deed, Meddler};
+use super::weak_files::LOOPED;
 use cdf_store::{Failed, FileFailure, FileStore, Store};
 use std::fs;
 use std::test::Fail;
@@ -48,6 +50,29 @@ fn a_replaced_file_is_not_cut(rt: HostRuntime) -> Result<(), Fail> {
     assert_eq!(rt; store.failure(), Some(FileFailure::Changed));
     assert_eq!(rt; fs::read(&rt, REPLACED)?.as_slice(), b"abc".as_slice());
     fs::remove_file(&rt, REPLACED)?;
+    Ok(())
+}
+
+const UNCOMPARED: &str = "cdf_layer_tests_uncompared";
+
+#[test]
+fn a_file_that_cannot_be_compared_is_not_written(rt: HostRuntime) -> Result<(), Fail> {
+    for (deed, failure) in [
+        (Deed::Remove, FileFailure::Changed),
+        (Deed::Rewrite(b"xyz"), FileFailure::Changed),
+        (Deed::Loop, LOOPED),
+    ] {
+        let mut store = store_over(rt, UNCOMPARED)?;
+        store.reserve(1, 3)?;
+        let meddler = Meddler {
+            name: UNCOMPARED,
+            deed,
+        };
+        meddler.meddle(rt)?;
+        assert_eq!(rt; store.write_at(0, b"w"), Err(Failed));
+        assert_eq!(rt; store.failure(), Some(failure));
+        let _ = fs::remove_file(&rt, UNCOMPARED);
+    }
     Ok(())
 }
 

@@ -1,5 +1,7 @@
 //! Devices that are interrupted, and fail in mid-stream.
 
+use super::meddler::Meddler;
+use cdf_store::{FileFailure, SystemError};
 use std::alloc::Allocator;
 use std::fs::{File, Metadata, OpenFile, OpenOptions};
 use std::io::{Error, ErrorKind, Read, Result, Seek, SeekFrom, Write};
@@ -46,6 +48,48 @@ impl Write for Stutter<'_> {
     }
 }
 
+/// What fails of a file, by an input or output error.
+#[derive(Clone, Copy, PartialEq, Eq)]
+pub enum Fault {
+    None,
+    /// Each cut.
+    Cut,
+    /// To tell how it stands, once a byte of it was read.
+    StampWhenRead,
+    /// To tell how it stands, once a byte of it was written.
+    StampWhenWritten,
+    /// Each storing of it.
+    Sync,
+    /// Each storing of a folder.
+    FolderSync,
+}
+
+impl Fault {
+    /// Fails where this is the fault and its time has come.
+    fn check(self, fault: Fault, is_due: bool) -> Result<()> {
+        if is_due && self == fault {
+            Err(Error::from_raw_os_error(INPUT_OUTPUT_ERROR))
+        } else {
+            Ok(())
+        }
+    }
+}
+
+/// The system's number of an input or output error.
+const INPUT_OUTPUT_ERROR: i32 = 5;
+
+/// The failure of a fault.
+pub const BROKEN: FileFailure = FileFailure::System(SystemError {
+    kind: ErrorKind::Uncategorized,
+    number: Some(INPUT_OUTPUT_ERROR),
+});
+
+/// The failure of a link that leads to itself.
+pub const LOOPED: FileFailure = FileFailure::System(SystemError {
+    kind: ErrorKind::FilesystemLoop,
+    number: Some(40),
+});
+
 /// How a file is weak.
 #[derive(Clone, Copy)]
 pub struct Weakness {
@@ -57,8 +101,11 @@ pub struct Weakness {
     pub most: usize,
     /// Whether the file cannot be opened at all.
     pub is_locked: bool,
-    /// Whether each cut fails.
-    pub is_uncut: bool,
+    pub fault: Fault,
+    /// What another program does each time that the file was opened and a part of it was read.
+    pub meddler: Option<Meddler>,
+    /// The name of a standard stream, and that of the file which it is.
+    pub stream: Option<(&'static str, &'static str)>,
     /// The place that the file says it has, where not its own.
     pub place: Option<RawFd>,
 }
@@ -69,7 +116,9 @@ pub const SLOW: Weakness = Weakness {
     gives: 1 << 20,
     most: 2,
     is_locked: false,
-    is_uncut: false,
+    fault: Fault::None,
+    meddler: None,
+    stream: None,
     place: None,
 };
 
@@ -83,7 +132,10 @@ pub struct WeakFiles {
 /// A weak file, whose every other call is interrupted.
 #[derive(Drop)]
 pub struct WeakFile {
+    rt: HostRuntime,
     file: File,
+    is_folder: bool,
+    is_meddled: bool,
     weakness: Weakness,
     takes: usize,
     gives: usize,
@@ -99,6 +151,16 @@ impl WeakFile {
             Ok(())
         }
     }
+
+    fn meddle(&mut self) -> Result<()> {
+        match self.weakness.meddler {
+            Some(meddler) if !self.is_meddled => {
+                self.is_meddled = true;
+                meddler.meddle(self.rt)
+            }
+            _ => Ok(()),
+        }
+    }
 }
 
 impl Read for WeakFile {
@@ -110,6 +172,7 @@ impl Read for WeakFile {
         }
         let count = self.file.read(&mut buf[..most])?;
         self.gives -= count;
+        self.meddle()?;
         Ok(count)
     }
 }
@@ -148,17 +211,22 @@ impl Seek for WeakFile {
 
 impl OpenFile for WeakFile {
     fn metadata(&self) -> Result<Metadata> {
+        let fault = self.weakness.fault;
+        fault.check(Fault::StampWhenRead, self.gives < self.weakness.gives)?;
+        let is_written = Some(self.takes) != self.weakness.takes;
+        fault.check(Fault::StampWhenWritten, is_written)?;
         self.file.metadata()
     }
 
     fn set_len(&self, size: u64) -> Result<()> {
-        if self.weakness.is_uncut {
-            return Err(Error::from(ErrorKind::FileTooLarge));
-        }
+        self.weakness.fault.check(Fault::Cut, true)?;
         self.file.set_len(size)
     }
 
     fn sync_all(&self) -> Result<()> {
+        let fault = self.weakness.fault;
+        fault.check(Fault::Sync, !self.is_folder)?;
+        fault.check(Fault::FolderSync, self.is_folder)?;
         self.file.sync_all()
     }
 
@@ -177,8 +245,12 @@ impl Files for WeakFiles {
         if weakness.is_locked || how.asks_write() && weakness.takes.is_none() {
             return Err(Error::from(ErrorKind::PermissionDenied));
         }
+        let file = self.rt.open_file(how, path)?;
         Ok(WeakFile {
-            file: self.rt.open_file(how, path)?,
+            rt: self.rt,
+            is_folder: file.metadata()?.is_dir(),
+            is_meddled: false,
+            file,
             weakness,
             takes: weakness.takes.unwrap_or(0),
             gives: weakness.gives,
@@ -191,7 +263,10 @@ impl Files for WeakFiles {
     }
 
     fn metadata(&self, path: &str) -> Result<Metadata> {
-        self.rt.metadata(path)
+        match self.weakness.stream {
+            Some((stream, name)) if stream == path => self.rt.metadata(name),
+            _ => self.rt.metadata(path),
+        }
     }
 
     fn symlink_metadata(&self, path: &str) -> Result<Metadata> {

@@ -2,7 +2,7 @@
 
 ghost use Rattle.std.specs.Prelude.{◌≡◌, IfOk, IsSome, Some, length, option_map};
 
-use super::weak_files::{SLOW, WeakFiles, Weakness};
+use super::weak_files::{BROKEN, Fault, SLOW, WeakFiles, Weakness};
 use cdf_store::{AttachError, Failed, FileFailure, FileStore, Store, SystemError};
 use std::alloc::Global;
 use std::fs;
@@ -107,17 +107,14 @@ const UNCUT: &str = "cdf_layer_tests_uncut";
 #[test]
 fn a_cut_to_the_same_length_makes_no_call(rt: HostRuntime) -> Result<(), Fail> {
     let weakness = Weakness {
-        is_uncut: true,
+        fault: Fault::Cut,
         ..SLOW
     };
     let mut store = store_over(rt, UNCUT, weakness)?;
     store.reserve(2, 0)?;
     assert_eq!(rt; store.set_len(3), Ok(()));
     assert_eq!(rt; store.set_len(2), Err(Failed));
-    assert_eq!(rt;
-        store.failure(),
-        Some(FileFailure::System(SystemError::unnumbered(ErrorKind::FileTooLarge)))
-    );
+    assert_eq!(rt; store.failure(), Some(BROKEN));
     assert_eq!(rt; has_bytes(rt, &store, UNCUT, b"abc")?, true);
     assert_eq!(rt; store.is_written(), false);
     fs::remove_file(&rt, UNCUT)?;
