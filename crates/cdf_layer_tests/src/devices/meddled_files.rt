@@ -1,6 +1,6 @@
 //! Files that another program changes while they are read.
 
-use super::meddler::{Deed, Meddler};
+use super::meddler::{Deed, MOVED, Meddler};
 use super::weak_files::{BROKEN, Fault, LOOPED, SLOW, WeakFiles, Weakness};
 use cdf_store::{FileFailure, FileStore, Store, Stream};
 use std::fs;
@@ -82,13 +82,20 @@ fn a_file_whose_name_is_gone_is_not_attached(rt: HostRuntime) -> Result<(), Fail
     fs::write(&rt, REMOVED, b"abc".as_slice())?;
     let weakness = meddled(REMOVED, Deed::Remove);
     assert_eq!(rt; attach(rt, weakness, REMOVED, false), Ok(None));
+    Ok(())
+}
 
-    // It is made by the first opening, and by no later one.
+const UNMADE: &str = "cdf_layer_tests_unmade";
+
+#[test]
+fn no_file_is_made_in_the_place_of_one_that_was_read(rt: HostRuntime) -> Result<(), Fail> {
+    let weakness = meddled(UNMADE, Deed::Move);
     assert_eq!(rt;
-        attach(rt, weakness, REMOVED, true),
+        attach(rt, weakness, UNMADE, true),
         Err(Some(FileFailure::ChangedWhileRead))
     );
-    assert_eq!(rt; fs::exists(&rt, REMOVED)?, false);
+    assert_eq!(rt; fs::exists(&rt, UNMADE)?, false);
+    fs::remove_file(&rt, MOVED)?;
     Ok(())
 }
 

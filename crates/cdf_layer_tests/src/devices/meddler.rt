@@ -16,6 +16,8 @@ pub enum Deed {
     /// Another file of these bytes takes its place.
     Replace(&'static [u8]),
     Remove,
+    /// It gets another name, the first time that this is done.
+    Move,
     /// A link that leads nowhere takes its place.
     Loop,
 }
@@ -29,6 +31,9 @@ pub struct Meddler {
 
 /// The name under which a file is made that is to take the place of another.
 const REPLACEMENT: &str = "cdf_layer_tests_meddler";
+
+/// The name that a file gets.
+pub const MOVED: &str = "cdf_layer_tests_moved";
 
 impl Meddler {
     pub fn meddle(&self, rt: HostRuntime) -> Result<()> {
@@ -50,6 +55,8 @@ impl Meddler {
                 fs::write(&rt, REPLACEMENT, bytes)?;
                 fs::rename(&rt, REPLACEMENT, name)
             }
+            Deed::Move if fs::exists(&rt, MOVED)? => Ok(()),
+            Deed::Move => fs::rename(&rt, name, MOVED),
             Deed::Remove => fs::remove_file(&rt, name),
             Deed::Loop => {
                 fs::remove_file(&rt, name)?;
