@@ -11,6 +11,7 @@ pub mod EntryDeleted
 pub mod EntryCalls
 pub mod EntryLeft
 pub mod NewAdr
+pub mod NumberBounds
 pub mod NumberGone
 pub mod OtherChains
 pub mod KeptEntries

@@ -1,6 +1,6 @@
 //! The entries of one chain of an attribute, as far as commands ask for them.
 
-ghost use Rattle.std.specs.Prelude.{◌≡◌, ◌==◌, ◌+◌, ◌≤◌, length, map, position, slice_get, slice_index, slice_set, ◌<◌, EachIndex, IfOk, IsTrue, None, ◌++◌, ◌∷◌, [], OnOk, All, false};
+ghost use Rattle.std.specs.Prelude.{◌≡◌, ◌==◌, ◌+◌, ◌≤◌, length, map, position, slice_get, slice_index, slice_set, ◌<◌, EachIndex, IfOk, IsTrue, None, ◌++◌, ◌∷◌, [], OnOk, All, false, max, pos};
 ghost use Rattle.std.specs.Option.{option_and_then};
 ghost use Rattle.cdf_area.specs.Calls.{Reads};
 ghost use Rattle.cdf_attrs.specs.Finding.{IsOfAttribute};
@@ -8,8 +8,11 @@ ghost use Rattle.cdf_attrs.specs.Known.{KnownEntries, Knows, KnowsEntries, is_sa
 ghost use Rattle.cdf_format.specs.Fields.{number};
 ghost use Rattle.cdf_format.specs.Records.{aedr_num, aedr_value};
 ghost use Rattle.cdf_format.specs.WellFormed.{Good};
+ghost use Rattle.cdf_model.specs.Limits.{signed_limit};
+ghost use Rattle.std.specs.List.{fold};
 
 use crate::attrs::Attrs;
+use crate::greatest::{greatest, greatest_with};
 use crate::kept_chains::take_chain;
 use cdf_area::{Area, AreaError};
 use cdf_format::fields::AEDR_NUM;
@@ -18,18 +21,33 @@ use cdf_space::{Chain, read_chain};
 use std::alloc::{AllocError, Global};
 use std::marker::Model;
 
-/// The entries of a chain: their numbers, and where their descriptors stand, both in the order of the chain.
+/// The entries of a chain: their numbers, and where their descriptors stand, both in the order of the chain. An entry that is put behind
+/// the others has a number that is greater than theirs, most often, so none of them is looked at for it.
 #[derive(Drop)]
 pub struct EntryChain {
     pub(crate) chain: Chain,
     pub(crate) numbers: Vec<u32>,
     pub(crate) places: Vec<u64>,
+    /// No number is greater.
+    pub(crate) bound: u32,
 }
 
 impl Model for EntryChain {
     ghost Value = { KnownEntries };
 
     ghost view = { λ entries. record { chain = entries.chain; numbers = entries.numbers.items; places = entries.places.items } };
+
+    ghost invariant = { λ entries. All (λ n. n ≤ entries.bound) entries.numbers.items };
+}
+
+/// The greatest of some numbers, and 0 of none.
+fn bound_of(numbers: &[u32]) -> u32
+    ensures { All (λ n. n ≤ result) numbers.now }
+{
+    match greatest(numbers) {
+        Some(most) => most,
+        None => 0,
+    }
 }
 
 /// The numbers of the entries whose descriptors stand at these places.
@@ -80,10 +98,12 @@ impl EntryChain {
     {
         let places = read_chain(alloc, area, chain)?;
         let numbers = read_numbers(alloc, area, &places)?;
+        let bound = bound_of(&numbers);
         Ok(EntryChain {
             chain,
             numbers,
             places,
+            bound,
         })
     }
 
@@ -98,7 +118,21 @@ impl EntryChain {
     pub(crate) fn find(&self, num: u32) -> Option<usize>
         ensures { result ≡ position (λ n. n == num) self.now.numbers }
     {
+        if num > self.bound {
+            return None;
+        }
         self.numbers.iter().position(|n| *n == num)
+    }
+
+    /// The greatest of the numbers of the entries and of one more.
+    pub(crate) fn greatest_with(&self, num: u32) -> i32
+        requires { fold max num self.now.numbers ≤ signed_limit }
+        ensures { result ≡ pos (fold max num self.now.numbers) }
+    {
+        if num >= self.bound {
+            return num as i32;
+        }
+        greatest_with(num, &self.numbers)
     }
 
     /// Adds a last entry.
@@ -106,6 +140,7 @@ impl EntryChain {
         ensures { OnOk result (self.new ≡ record { chain = self.old.chain; numbers = self.old.numbers ++ num ∷ []; places = self.old.places ++ place ∷ [] }) }
     {
         self.numbers.push(num)?;
+        self.bound = self.bound.max(num);
         self.places.push(place)?;
         Ok(())
     }

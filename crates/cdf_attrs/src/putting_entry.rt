@@ -18,7 +18,6 @@ ghost use Rattle.cdf_model.specs.declared.command.Command.TheVariants.{PutEntry}
 use crate::attrs::Attrs;
 use crate::entry_bytes::StoredValue;
 use crate::finding::Target;
-use crate::greatest::greatest_with;
 use crate::kept_chains::keep_chain;
 use crate::putting::{NewEntry, Slot, put_new};
 use crate::range::is_out_of_range;
@@ -141,7 +140,7 @@ impl Attrs {
             adr: places[attribute as usize],
             num,
         };
-        let greatest = greatest_with(num, &entries.numbers);
+        let greatest = entries.greatest_with(num);
         let entry = NewEntry {
             slot,
             value,

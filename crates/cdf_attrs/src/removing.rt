@@ -20,19 +20,11 @@ use crate::attrs::Attrs;
 use crate::chain_fields::{entries_chain, set_count, set_greatest};
 use crate::entry_chain::EntryChain;
 use crate::finding::Target;
+use crate::greatest::greatest;
 use crate::kept_chains::keep_chain;
 use cdf_area::{Area, AreaError};
 use cdf_model::{EntryKind, Outcome, Reason, Reply};
 use cdf_space::{chain_remove, free_record};
-
-/// The greatest of some numbers.
-pub(crate) fn greatest(numbers: &[u32]) -> Option<u32>
-    ensures empty { IsNone result ↔ (numbers.now ≡ []) }
-    ensures member { IfSome result (Contains numbers.now) }
-    ensures greatest { IfSome result (λ most. All (λ n. n ≤ most) numbers.now) }
-{
-    numbers.iter().copied().max()
-}
 
 /// The greatest of the numbers of entries, -1 where there are none.
 fn greatest_number(numbers: &[u32]) -> i32

@@ -2,6 +2,7 @@ use Rattle.cdf_attrs.proofs.Common.{All, EntryKind, FitsSigned, IsEntryOf, IsGre
 use Rattle.std.proofs.Common.{w32}
 use Rattle.cdf_attrs.proofs.EntryTakenAt.{of_entry, all_from, left_fits, left_small, left_written, stands_behind, index_same}
 use Rattle.cdf_attrs.proofs.GreatestNumber.{greatest_fits}
+use Rattle.cdf_attrs.proofs.NumberBounds.{bound_left}
 use Rattle.cdf_attrs.proofs.removing.remove_at.Goals as goal
 
 pub overflow_cast-count : goal.overflow_cast-count
@@ -57,3 +58,6 @@ returns-clause-removed g c =
 
 pub returns-clause-area : goal.returns-clause-area
 returns-clause-area g c = edit_done (edit_once c.in_ok-remove_entry.ensures.area)
+
+pub invariant_of-left : goal.invariant_of-left
+invariant_of-left g c = bound_left c.left.inside.bound c.left.inside.numbers.items c.remove.new.self.items c.args.i c.remove.ensures.items c.left.invariant
