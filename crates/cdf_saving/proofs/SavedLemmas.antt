@@ -60,6 +60,7 @@ none_left what old new now statuses.StoreWriteFault told no_six = absurd (no_six
 none_left what old new now statuses.Done told no_six = told
 none_left what old new now statuses.SomeRefused told no_six = told
 none_left what old new now statuses.Usage told no_six = told
+none_left what old new now statuses.BadJournal told no_six = told
 none_left what old new now statuses.NoFile told no_six = told
 none_left what old new now statuses.Rejected told no_six = told
 none_left what old new now statuses.StoreReadFault told no_six = told

@@ -18,6 +18,7 @@ number_of statuses.OutputFault = 7
 number_of statuses.NoMemory = 8
 number_of statuses.ScriptFault = 9
 number_of statuses.ScriptTooLong = 10
+number_of statuses.BadJournal = 14
 
 -- the status of a script that was run to its end
 abbrev pub status_of : Bool → Status

@@ -32,6 +32,8 @@ pub enum Status {
     ScriptFault,
     /// The script has too many bytes.
     ScriptTooLong,
+    /// The log of the file is open, and is no journal of it.
+    BadJournal,
 }
 
 impl Status {
@@ -51,6 +53,7 @@ impl Status {
             Status::NoMemory => 8,
             Status::ScriptFault => 9,
             Status::ScriptTooLong => 10,
+            Status::BadJournal => 14,
         }
     }
 

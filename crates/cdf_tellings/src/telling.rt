@@ -100,6 +100,7 @@ fn words_of_status(status: Status) -> &'static str {
         Status::NoMemory => "there was not enough memory",
         Status::ScriptFault => "the script could not be read",
         Status::ScriptTooLong => "the script has more than 1073741824 bytes",
+        Status::BadJournal => "its log is open, and is no journal of it",
     }
 }
 

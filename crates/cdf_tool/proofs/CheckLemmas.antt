@@ -20,6 +20,7 @@ unread_exactly new file first now statuses.NoMemory ends = record { only = λ be
 unread_exactly new file first now statuses.Done ends = absurd ends
 unread_exactly new file first now statuses.SomeRefused ends = absurd ends
 unread_exactly new file first now statuses.Usage ends = absurd ends
+unread_exactly new file first now statuses.BadJournal ends = absurd ends
 unread_exactly new file first now statuses.NoFile ends = absurd ends
 unread_exactly new file first now statuses.StoreWriteFault ends = absurd ends
 unread_exactly new file first now statuses.ScriptFault ends = absurd ends
@@ -32,6 +33,7 @@ accepted_exactly text file first now statuses.StoreReadFault good says = record 
 accepted_exactly text file first now statuses.NoMemory good says = record { only = λ be. absurd (cc be); always = λ well. inr tt }
 accepted_exactly text file first now statuses.SomeRefused good says = absurd says
 accepted_exactly text file first now statuses.Usage good says = absurd says
+accepted_exactly text file first now statuses.BadJournal good says = absurd says
 accepted_exactly text file first now statuses.NoFile good says = absurd says
 accepted_exactly text file first now statuses.Rejected good says = absurd says
 accepted_exactly text file first now statuses.StoreWriteFault good says = absurd says
@@ -91,6 +93,7 @@ accepted_done : (text : List ℕ) (first now : Option (List ℕ)) (status : Stat
 accepted_done text first now statuses.Done says done = refl
 accepted_done text first now statuses.SomeRefused says done = absurd says
 accepted_done text first now statuses.Usage says done = absurd done
+accepted_done text first now statuses.BadJournal says done = absurd done
 accepted_done text first now statuses.NoFile says done = absurd done
 accepted_done text first now statuses.Rejected says done = absurd done
 accepted_done text first now statuses.StoreReadFault says done = absurd done
@@ -109,6 +112,7 @@ pub no_file_not_done : (first now : Option (List ℕ)) (status : Status) → Say
 no_file_not_done first now statuses.Done says done = says
 no_file_not_done first now statuses.SomeRefused says done = says
 no_file_not_done first now statuses.Usage says done = done
+no_file_not_done first now statuses.BadJournal says done = done
 no_file_not_done first now statuses.NoFile says done = done
 no_file_not_done first now statuses.Rejected says done = done
 no_file_not_done first now statuses.StoreReadFault says done = done
@@ -125,6 +129,7 @@ pub usage_not_done : (first now : Option (List ℕ)) (status : Status) → SaysU
 usage_not_done first now statuses.Done says done = says
 usage_not_done first now statuses.SomeRefused says done = says
 usage_not_done first now statuses.Usage says done = done
+usage_not_done first now statuses.BadJournal says done = done
 usage_not_done first now statuses.NoFile says done = done
 usage_not_done first now statuses.Rejected says done = done
 usage_not_done first now statuses.StoreReadFault says done = done

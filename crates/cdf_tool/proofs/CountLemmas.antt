@@ -72,6 +72,7 @@ stopped_counted statuses.StoreWriteFault r w o s r' w' o' s' (same, rose) writes
 stopped_counted statuses.Done r w o s r' w' o' s' same writes = λ i. record (same i) { writes = writes i }
 stopped_counted statuses.SomeRefused r w o s r' w' o' s' same writes = λ i. record (same i) { writes = writes i }
 stopped_counted statuses.Usage r w o s r' w' o' s' same writes = λ i. record (same i) { writes = writes i }
+stopped_counted statuses.BadJournal r w o s r' w' o' s' same writes = λ i. record (same i) { writes = writes i }
 stopped_counted statuses.NoFile r w o s r' w' o' s' same writes = λ i. record (same i) { writes = writes i }
 stopped_counted statuses.Rejected r w o s r' w' o' s' same writes = λ i. record (same i) { writes = writes i }
 stopped_counted statuses.NoMemory r w o s r' w' o' s' same writes = λ i. record (same i) { writes = writes i }
@@ -89,6 +90,7 @@ saved_counted refused end d d' statuses.StoreWriteFault r w o s r' w' o' s' now 
 saved_counted refused end d d' statuses.StoreReadFault r w o s r' w' o' s' now ends same rose writes =
     (λ i. record (same i) { reads = r'; writes = writes i }, subst (λ (n : ℕ). Rose n r') (counts_reads r 0 o s now 0 o' s' same) rose)
 saved_counted refused end d d' statuses.Usage r w o s r' w' o' s' now ends same reads writes = absurd ends
+saved_counted refused end d d' statuses.BadJournal r w o s r' w' o' s' now ends same reads writes = absurd ends
 saved_counted refused end d d' statuses.NoFile r w o s r' w' o' s' now ends same reads writes = absurd ends
 saved_counted refused end d d' statuses.Rejected r w o s r' w' o' s' now ends same reads writes = absurd ends
 saved_counted refused end d d' statuses.OutputFault r w o s r' w' o' s' now ends same reads writes = absurd ends
@@ -100,6 +102,7 @@ writes_of statuses.StoreWriteFault w w' not_so writes = absurd (not_so refl)
 writes_of statuses.Done w w' not_so writes = writes
 writes_of statuses.SomeRefused w w' not_so writes = writes
 writes_of statuses.Usage w w' not_so writes = writes
+writes_of statuses.BadJournal w w' not_so writes = writes
 writes_of statuses.NoFile w w' not_so writes = writes
 writes_of statuses.Rejected w w' not_so writes = writes
 writes_of statuses.StoreReadFault w w' not_so writes = writes
@@ -159,6 +162,7 @@ writes_stay statuses.ScriptFault c now not_so counted = ap (λ (k : Counts). k.w
 writes_stay statuses.Done c now not_so counted = ap (λ (k : Counts). k.writes) counted
 writes_stay statuses.SomeRefused c now not_so counted = ap (λ (k : Counts). k.writes) counted
 writes_stay statuses.Usage c now not_so counted = ap (λ (k : Counts). k.writes) counted
+writes_stay statuses.BadJournal c now not_so counted = ap (λ (k : Counts). k.writes) counted
 writes_stay statuses.NoFile c now not_so counted = ap (λ (k : Counts). k.writes) counted
 writes_stay statuses.Rejected c now not_so counted = ap (λ (k : Counts). k.writes) counted
 writes_stay statuses.NoMemory c now not_so counted = ap (λ (k : Counts). k.writes) counted

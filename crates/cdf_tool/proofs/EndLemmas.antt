@@ -31,6 +31,7 @@ module _ {U : Type 0} (new check no_save space : Bool) (name file : List ℕ) (d
   halted_runs image statuses.StoreWriteFault same (inr (inl l)) = absurd l.stops
   halted_runs image statuses.StoreWriteFault same (inr (inr l)) = absurd l.stops
   halted_runs image statuses.Usage same h = (same, h)
+  halted_runs image statuses.BadJournal same h = (same, h)
   halted_runs image statuses.NoFile same h = (same, h)
   halted_runs image statuses.Rejected same h = (same, h)
   halted_runs image statuses.StoreReadFault same h = (same, h)
@@ -68,6 +69,7 @@ module _ {U : Type 0} (new check no_save space : Bool) (name file : List ℕ) (d
     saved_runs image end refused statuses.NoMemory asks good f same = (kept new check no_save space name file d at d' saves attached same, inr (inr (record { end = end; refused = refused; finishes = f; stops = tt })))
     saved_runs image end refused statuses.StoreReadFault asks good f same = (kept new check no_save space name file d at d' saves attached same, inr (inr (record { end = end; refused = refused; finishes = f; stops = tt })))
     saved_runs image end refused statuses.Usage asks good f ends = absurd ends
+    saved_runs image end refused statuses.BadJournal asks good f ends = absurd ends
     saved_runs image end refused statuses.NoFile asks good f ends = absurd ends
     saved_runs image end refused statuses.Rejected asks good f ends = absurd ends
     saved_runs image end refused statuses.OutputFault asks good f ends = absurd ends
@@ -163,6 +165,7 @@ halts_not_done space limit image before left first now statuses.SomeRefused (inl
 halts_not_done space limit image before left first now statuses.SomeRefused (inr (inl l)) is = l.stops
 halts_not_done space limit image before left first now statuses.SomeRefused (inr (inr l)) is = l.stops
 halts_not_done space limit image before left first now statuses.Usage h is = is
+halts_not_done space limit image before left first now statuses.BadJournal h is = is
 halts_not_done space limit image before left first now statuses.NoFile h is = is
 halts_not_done space limit image before left first now statuses.Rejected h is = is
 halts_not_done space limit image before left first now statuses.StoreReadFault h is = is

@@ -86,6 +86,7 @@ runs_accepted : {U : Type 0} (a : Asked) (file image : List ℕ) (d d' : Disk U)
 runs_accepted a file image d d' script written left first now statuses.Done tells opens r idle is = accepted_done a file image d d' script written left first now tells opens r idle
 runs_accepted a file image d d' script written left first now statuses.SomeRefused tells opens r idle is = accepted_some a file image d d' script written left first now tells opens r idle
 runs_accepted a file image d d' script written left first now statuses.Usage tells opens r idle is = absurd is
+runs_accepted a file image d d' script written left first now statuses.BadJournal tells opens r idle is = absurd is
 runs_accepted a file image d d' script written left first now statuses.NoFile tells opens r idle is = absurd is
 runs_accepted a file image d d' script written left first now statuses.Rejected tells opens r idle is = absurd is
 runs_accepted a file image d d' script written left first now statuses.StoreReadFault tells opens r idle is = absurd is
@@ -99,6 +100,7 @@ pub without_not_done : (a : Asked) (files : Option (List (List ℕ × List ℕ))
 without_not_done a files first now statuses.Done ends is = ends
 without_not_done a files first now statuses.SomeRefused ends is = ends
 without_not_done a files first now statuses.Usage ends is = is
+without_not_done a files first now statuses.BadJournal ends is = is
 without_not_done a files first now statuses.NoFile ends is = is
 without_not_done a files first now statuses.Rejected ends is = is
 without_not_done a files first now statuses.StoreReadFault ends is = is
@@ -112,6 +114,7 @@ pub unread_not_done : (new : Bool) (file : List ℕ) (first now : Option (List �
 unread_not_done new file first now statuses.Done ends is = ends
 unread_not_done new file first now statuses.SomeRefused ends is = ends
 unread_not_done new file first now statuses.Usage ends is = is
+unread_not_done new file first now statuses.BadJournal ends is = is
 unread_not_done new file first now statuses.NoFile ends is = is
 unread_not_done new file first now statuses.Rejected ends is = is
 unread_not_done new file first now statuses.StoreReadFault ends is = is

@@ -119,6 +119,7 @@ wrote_gathered was now after text held reply g statuses.OutputFault wrote = gath
 wrote_gathered was now after text held reply g statuses.Done wrote = absurd wrote
 wrote_gathered was now after text held reply g statuses.SomeRefused wrote = absurd wrote
 wrote_gathered was now after text held reply g statuses.Usage wrote = absurd wrote
+wrote_gathered was now after text held reply g statuses.BadJournal wrote = absurd wrote
 wrote_gathered was now after text held reply g statuses.NoFile wrote = absurd wrote
 wrote_gathered was now after text held reply g statuses.Rejected wrote = absurd wrote
 wrote_gathered was now after text held reply g statuses.StoreWriteFault wrote = absurd wrote

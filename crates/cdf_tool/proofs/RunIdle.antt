@@ -42,6 +42,7 @@ module _ {U : Type 0} (a : Asked) (d d' : Disk U) (before left : Option (List �
   runs_under file image statuses.SomeRefused r = stored_under a.no_save file r.end r.stored
   runs_under file image statuses.StoreWriteFault r = found_lookup_in a.new a.name file d.files old r.spoiled.replaced.found
   runs_under file image statuses.Usage (k, h) = kept_under file k
+  runs_under file image statuses.BadJournal (k, h) = kept_under file k
   runs_under file image statuses.NoFile (k, h) = kept_under file k
   runs_under file image statuses.Rejected (k, h) = kept_under file k
   runs_under file image statuses.StoreReadFault (k, h) = kept_under file k
@@ -110,6 +111,7 @@ pub replaced_done : (new : Bool) (size : ℕ) (status : Status) → new ≡ true
 replaced_done true size statuses.Done is done = refl
 replaced_done true size statuses.SomeRefused is done = refl
 replaced_done true size statuses.Usage is done = absurd done
+replaced_done true size statuses.BadJournal is done = absurd done
 replaced_done true size statuses.NoFile is done = absurd done
 replaced_done true size statuses.Rejected is done = absurd done
 replaced_done true size statuses.StoreReadFault is done = absurd done
@@ -124,6 +126,7 @@ replaced_old_by : (size : ℕ) (status : Status) → replaced_by false size stat
 replaced_old_by size statuses.Done = refl
 replaced_old_by size statuses.SomeRefused = refl
 replaced_old_by size statuses.Usage = refl
+replaced_old_by size statuses.BadJournal = refl
 replaced_old_by size statuses.NoFile = refl
 replaced_old_by size statuses.Rejected = refl
 replaced_old_by size statuses.StoreReadFault = refl
@@ -141,6 +144,7 @@ pub replaced_not_done : (new : Bool) (size : ℕ) (status : Status) → (IsDone 
 replaced_not_done new size statuses.Done not_so = absurd (not_so tt)
 replaced_not_done new size statuses.SomeRefused not_so = absurd (not_so tt)
 replaced_not_done true size statuses.Usage not_so = refl
+replaced_not_done true size statuses.BadJournal not_so = refl
 replaced_not_done true size statuses.NoFile not_so = refl
 replaced_not_done true size statuses.Rejected not_so = refl
 replaced_not_done true size statuses.StoreReadFault not_so = refl

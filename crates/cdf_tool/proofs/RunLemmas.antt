@@ -9,6 +9,7 @@ pub done_or_failed : (status : Status) â†’ IsDone status â†’ IsFailure status â†
 done_or_failed statuses.Done is fails = fails
 done_or_failed statuses.SomeRefused is fails = fails
 done_or_failed statuses.Usage is fails = is
+done_or_failed statuses.BadJournal is fails = is
 done_or_failed statuses.NoFile is fails = is
 done_or_failed statuses.Rejected is fails = is
 done_or_failed statuses.StoreReadFault is fails = is
@@ -20,6 +21,7 @@ done_or_failed statuses.ScriptTooLong is fails = is
 
 unasked_status : (first now : Option (List â„•)) (status : Status) â†’ SaysUsage first now status â†’ (status â‰¡ statuses.Usage) âŠŽ IsFailure status
 unasked_status first now statuses.Usage ends = inl refl
+unasked_status first now statuses.BadJournal ends = absurd ends
 unasked_status first now statuses.OutputFault ends = inr tt
 unasked_status first now statuses.Done ends = absurd ends
 unasked_status first now statuses.SomeRefused ends = absurd ends
@@ -87,6 +89,7 @@ module _ {U : Type 0} (a : Asked) (d d' : Disk U) (before left : Option (List â„
     without_came statuses.Done w ends = absurd ends
     without_came statuses.SomeRefused w ends = absurd ends
     without_came statuses.Usage w ends = absurd ends
+    without_came statuses.BadJournal w ends = absurd ends
     without_came statuses.Rejected w ends = absurd ends
     without_came statuses.StoreWriteFault w ends = absurd ends
     without_came statuses.ScriptFault w ends = absurd ends
@@ -100,6 +103,7 @@ module _ {U : Type 0} (a : Asked) (d d' : Disk U) (before left : Option (List â„
     unread_came file statuses.Done k none ends = absurd ends
     unread_came file statuses.SomeRefused k none ends = absurd ends
     unread_came file statuses.Usage k none ends = absurd ends
+    unread_came file statuses.BadJournal k none ends = absurd ends
     unread_came file statuses.NoFile k none ends = absurd ends
     unread_came file statuses.StoreWriteFault k none ends = absurd ends
     unread_came file statuses.ScriptFault k none ends = absurd ends
@@ -114,6 +118,7 @@ module _ {U : Type 0} (a : Asked) (d d' : Disk U) (before left : Option (List â„
     accepted_came file statuses.NoMemory old at none (good, says) = failed tt (inl none)
     accepted_came file statuses.SomeRefused old at none (good, says) = absurd says
     accepted_came file statuses.Usage old at none (good, says) = absurd says
+    accepted_came file statuses.BadJournal old at none (good, says) = absurd says
     accepted_came file statuses.NoFile old at none (good, says) = absurd says
     accepted_came file statuses.Rejected old at none (good, says) = absurd says
     accepted_came file statuses.StoreWriteFault old at none (good, says) = absurd says
@@ -156,6 +161,9 @@ module _ {U : Type 0} (a : Asked) (d d' : Disk U) (before left : Option (List â„
     runs_came file image statuses.Usage opens (k, inl h) = absurd h.how
     runs_came file image statuses.Usage opens (k, inr (inl l)) = absurd l.stops
     runs_came file image statuses.Usage opens (k, inr (inr l)) = absurd l.stops
+    runs_came file image statuses.BadJournal opens (k, inl h) = absurd h.how
+    runs_came file image statuses.BadJournal opens (k, inr (inl l)) = absurd l.stops
+    runs_came file image statuses.BadJournal opens (k, inr (inr l)) = absurd l.stops
     runs_came file image statuses.NoFile opens (k, inl h) = absurd h.how
     runs_came file image statuses.NoFile opens (k, inr (inl l)) = absurd l.stops
     runs_came file image statuses.NoFile opens (k, inr (inr l)) = absurd l.stops

@@ -22,6 +22,7 @@ halts_in limit b taken left first now statuses.NoMemory le s = (le, s)
 halts_in limit b taken left first now statuses.Done le s = s.stops.wrote
 halts_in limit b taken left first now statuses.SomeRefused le s = s.stops.wrote
 halts_in limit b taken left first now statuses.Usage le s = s.stops.wrote
+halts_in limit b taken left first now statuses.BadJournal le s = s.stops.wrote
 halts_in limit b taken left first now statuses.NoFile le s = s.stops.wrote
 halts_in limit b taken left first now statuses.Rejected le s = s.stops.wrote
 halts_in limit b taken left first now statuses.StoreWriteFault le s = s.stops.wrote
@@ -137,6 +138,7 @@ module _ (limit : ℕ) (b : List ℕ) (before left : Option (List ℕ)) (first :
   none_taken now statuses.Done le took = absurd took
   none_taken now statuses.SomeRefused le took = absurd took
   none_taken now statuses.Usage le took = absurd took
+  none_taken now statuses.BadJournal le took = absurd took
   none_taken now statuses.NoFile le took = absurd took
   none_taken now statuses.Rejected le took = absurd took
 

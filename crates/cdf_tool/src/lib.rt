@@ -13,4 +13,5 @@ mod showing;
 mod top;
 
 pub use cdf_saving::{Ended, Left, LineMark, Notes, Refusals, RefusedLine, Status};
+pub use say::say_no_file;
 pub use top::run;
