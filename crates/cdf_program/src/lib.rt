@@ -1,16 +1,20 @@
 //! The program over what its runtime gives: the words of the command line, the real files, standard input and standard output.
 #![tactic(auto)]
 
+mod beside;
 mod standard;
 
 ghost use Rattle.std.specs.Prelude.{◌≡◌};
 ghost use Rattle.std.specs.Process.{exit_status};
 ghost use Rattle.cdf_saving.specs.Statuses.{number_of};
 
+use beside::has_open_log;
+use cdf_journal::FileDisk;
+use cdf_saving::Status;
+use cdf_start::Started;
 use cdf_store::{FileStore, StdSink, StdSource};
 use cdf_tap::{NeedsVarType, Tally, Tap};
-use cdf_tellings::{FileNews, Said, Telling, WordsFault, look};
-use cdf_tool::{Ended, Status, run};
+use cdf_tellings::{FileNews, OpenLog, Said, Telling, WordsFault, look};
 use standard::hold_standard;
 use std::alloc::AllocError;
 use std::env::Env;
@@ -45,20 +49,35 @@ fn tell(rt: &impl Eprint, telling: Telling<'_>) {
 }
 
 /// What the file and its device tell once a run over them has ended.
-fn news_of<R: Files>(ended: &mut Ended<FileStore<R>>) -> FileNews
+fn news_of<R: Files>(started: &mut Started<FileStore<R>, FileDisk<R>>) -> FileNews
 where
     R::File: AsRawFd,
 {
-    let failure = ended.store.failure();
-    let is_unwritten = !ended.store.is_written();
-    let nature = match ended.notes.broken {
-        Some(broken) => look(&mut ended.store, broken),
+    let failure = match started.disk.failure() {
+        Some(failure) => Some(failure),
+        None => started.store.failure(),
+    };
+    let is_unwritten = !started.store.is_written();
+    let nature = match started.notes.broken {
+        Some(broken) => look(&mut started.store, broken),
         None => None,
     };
     FileNews {
         failure,
         is_unwritten,
         nature,
+    }
+}
+
+/// Tells on standard error that a file has an open log, where a run did not ask for it.
+fn tell_open_log<R>(rt: &R, telling: Telling<'_>)
+where
+    R: Files + Eprint + AllocGlobal,
+{
+    if let Some(name) = telling.unlogged_name() {
+        if has_open_log(rt, rt.alloc(), name) {
+            let _ = rt.eprintln(OpenLog(name));
+        }
     }
 }
 
@@ -72,23 +91,23 @@ where
     let store = FileStore::new(rt, rt.alloc());
     let mut script = StdSource::new(rt.reader());
     let mut out = StdSink::new(io::writer(rt));
-    let mut ended = run(rt.alloc(), words, store, &mut script, &mut out, taps);
+    let disk = FileDisk::new(rt, rt.alloc());
+    let mut started = cdf_start::start(rt.alloc(), words, store, disk, &mut script, &mut out, taps);
     let said = if is_text {
         Said::of_words(rt.alloc(), words)
     } else {
         Said::Fault(WordsFault::NotUtf8)
     };
-    let news = news_of(&mut ended);
-    tell(
-        rt,
-        Telling {
-            said,
-            status: ended.status,
-            notes: ended.notes,
-            news,
-        },
-    );
-    ended.status
+    let news = news_of(&mut started);
+    let telling = Telling {
+        said,
+        status: started.status,
+        notes: started.notes,
+        news,
+    };
+    tell(rt, telling);
+    tell_open_log(rt, telling);
+    started.status
 }
 
 /// Runs what these words ask for, with the taps that the program comes with, which a report may name.

@@ -1,17 +1,18 @@
 //! The help and the version.
 
 /// How the program is called, as it is told where words are wrong.
-pub const SHORT_HELP: &str = "usage: cdfedit [--new] [--no-save] [--space] FILE < SCRIPT
-       cdfedit --check [--space] FILE
+pub const SHORT_HELP: &str = "usage: cdfedit [--journal] [--new] [--no-save] [--space] FILE < SCRIPT
+       cdfedit [--journal] --check [--space] FILE
 cdfedit --help says more";
 
 /// The help.
 pub const HELP: &str =
     "cdfedit edits a single-file CDF of version 3 in place by a script, or checks it.
 
-usage: cdfedit [--new] [--no-save] [--space] [--] FILE < SCRIPT
-       cdfedit --check [--space] [--] FILE
+usage: cdfedit [--journal] [--new] [--no-save] [--space] [--] FILE < SCRIPT
+       cdfedit [--journal] --check [--space] [--] FILE
 
+  --journal  the first word: saves through FILE.journal, so that a crash leaves the old file or the new one
   --new      begins with a new file; what stood under the name is replaced
   --no-save  saves nothing
   --space    says last what used and unused records take
@@ -31,7 +32,8 @@ A script has a command a line; an empty line and a line that begins with # have 
   reindex VAR, checksum none|md5
 
 It ends with 0 where all was done, 1 where a line was refused, 2 to 4 where the words, the name or the file
-are wrong, 5 to 7 and 9 where a device failed, 8 where there was no memory, 10 where the script is too long.";
+are wrong, 5 to 7 and 9 where a device failed, 8 where there was no memory, 10 where the script is too long,
+14 where FILE.journal is open and no journal of FILE.";
 
 /// The version, and the kit that proved it.
 pub const VERSION: &str = "cdfedit 0.1.0, proved with rattle-kit-13f logic dac8208d650f15bf";

@@ -5,6 +5,7 @@
 mod causes;
 mod files;
 mod help;
+mod open_log;
 mod quoted;
 mod refusals;
 mod rules;
@@ -13,8 +14,9 @@ mod words;
 
 pub use causes::Cause;
 pub use files::{Nature, Packing, look};
+pub use open_log::OpenLog;
 pub use quoted::Quoted;
 pub use refusals::{ReasonWords, RefusalsWords};
 pub use rules::words_of_rule;
-pub use telling::{FileNews, Said, Telling};
+pub use telling::{Access, FileNews, Said, Telling};
 pub use words::{WordsFault, fault_of_words};

@@ -8,19 +8,34 @@ use crate::files::Nature;
 use crate::quoted::Quoted;
 use crate::refusals::RefusalsWords;
 use crate::rules::words_of_rule;
-use crate::words::{WordsFault, fault_of_words};
+use crate::words::{JOURNAL, WordsFault, fault_of_words};
 use cdf_check::Broken;
 use cdf_saving::{Left, Notes, Status};
 use cdf_store::{FileFailure, Stream};
-use cdf_words::{WordsError, read_words};
+use cdf_words::{Asked, WordsError, read_words};
 use std::alloc::Global;
 use std::fmt;
+
+/// How a run comes at its file.
+#[derive(Clone, Copy, Debug, PartialEq, Eq)]
+pub enum Access {
+    /// Not at all: it begins with a new one, and saves nothing.
+    InMemory,
+    /// At the file alone.
+    Alone,
+    /// At the file and the log beside it.
+    WithLog,
+}
 
 /// What the words of the command line ask for.
 #[derive(Clone, Copy, Debug)]
 pub enum Said<'a> {
     /// A run over the file of this name, which is saved or not.
-    Run { name: &'a str, saves: bool },
+    Run {
+        name: &'a str,
+        saves: bool,
+        access: Access,
+    },
     /// Nothing that can be done.
     Fault(WordsFault<'a>),
     /// They were not read for want of memory.
@@ -30,14 +45,35 @@ pub enum Said<'a> {
 impl<'a> Said<'a> {
     /// What these words ask for. They are those behind the program's own name.
     pub fn of_words(alloc: Global, words: &'a [String]) -> Said<'a> {
+        let (words, has_log) = behind_journal(words);
         match read_words(alloc, words) {
             Ok(asked) => Said::Run {
                 name: asked.name,
                 saves: !asked.no_save && !asked.check,
+                access: access_of(&asked, has_log),
             },
             Err(WordsError::Usage) => Said::Fault(fault_of_words(words)),
             Err(WordsError::NoMemory) => Said::Unread,
         }
+    }
+}
+
+/// The words of the run itself, and whether the word before them asks for a log.
+fn behind_journal(words: &[String]) -> (&[String], bool) {
+    match words.split_first() {
+        Some((first, rest)) if first.as_str() == JOURNAL => (rest, true),
+        _ => (words, false),
+    }
+}
+
+/// How a run comes at its file that was asked for this.
+fn access_of(asked: &Asked<'_>, has_log: bool) -> Access {
+    if asked.new && asked.no_save {
+        Access::InMemory
+    } else if has_log {
+        Access::WithLog
+    } else {
+        Access::Alone
     }
 }
 
@@ -126,6 +162,13 @@ fn words_of_left(left: Option<Left>, is_unwritten: bool) -> &'static str {
     }
 }
 
+/// The same of a file that was to be saved through its log.
+const UNFINISHED: &str = "unfinished: the file could not be saved";
+
+/// What is to be done with it.
+const TO_BE_MENDED: &str =
+    "open it with --journal next, which makes it the old file or the new one";
+
 /// Writes a rule that the file breaks.
 fn write_rule<W: fmt::Write>(broken: Broken, f: &mut fmt::Formatter<W>) -> fmt::Result {
     let Broken { phase, rule, at } = broken;
@@ -171,6 +214,28 @@ impl<'a> Telling<'a> {
         }
     }
 
+    /// The name of the file, where the run came at it without its log, and something may be told.
+    pub fn unlogged_name(&self) -> Option<&'a str> {
+        match self.said {
+            Said::Run {
+                name,
+                access: Access::Alone,
+                ..
+            } if !self.goes_into_file() => Some(name),
+            _ => None,
+        }
+    }
+
+    fn has_log(&self) -> bool {
+        matches!(
+            self.said,
+            Said::Run {
+                access: Access::WithLog,
+                ..
+            }
+        )
+    }
+
     fn saves(&self) -> bool {
         matches!(self.said, Said::Run { saves: true, .. })
     }
@@ -211,6 +276,11 @@ impl<'a> Telling<'a> {
                 self.write_cause(f)?;
                 f.write_str("; nothing was saved")
             }
+            Status::StoreWriteFault if self.has_log() => {
+                f.write_str(UNFINISHED)?;
+                self.write_cause(f)?;
+                write!(f, "; {TO_BE_MENDED}")
+            }
             Status::StoreWriteFault => {
                 f.write_str(mark_of_left(self.notes.left, self.news.is_unwritten))?;
                 f.write_str(words_of_status(self.status))?;
@@ -239,6 +309,8 @@ impl<'a> Telling<'a> {
         }
         f.write_str(if !self.saves() {
             "; nothing was saved"
+        } else if self.has_log() {
+            "; what changed was saved"
         } else if self.news.is_unwritten {
             "; nothing was to be saved"
         } else {

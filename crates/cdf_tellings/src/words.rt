@@ -25,6 +25,8 @@ pub enum WordsFault<'a> {
     Twice(&'a str),
     /// This flag has a value.
     WithValue(&'a str),
+    /// The word that asks for a log is not the first one.
+    JournalNotFirst,
     /// A new file is not checked.
     CheckedNew,
     /// They were refused, and no fault is found.
@@ -33,6 +35,9 @@ pub enum WordsFault<'a> {
 
 /// The flags.
 static FLAGS: [&str; 4] = ["--new", "--check", "--no-save", "--space"];
+
+/// The word that asks for a log, where it is the first one.
+pub const JOURNAL: &str = "--journal";
 
 /// What is planned, as flags: an option, and commands of a script that are not there yet.
 static PLANNED: [&str; 4] = ["--make", "--tap", "--set-sparse", "--set-compress"];
@@ -61,7 +66,9 @@ fn fault_of_flag(word: &str) -> Option<WordsFault<'_>> {
         Some((name, _)) => name,
         None => word,
     };
-    if PLANNED.contains(&name) {
+    if word == JOURNAL {
+        Some(WordsFault::JournalNotFirst)
+    } else if PLANNED.contains(&name) {
         Some(WordsFault::NotYet(name))
     } else if !FLAGS.contains(&name) {
         Some(WordsFault::NoFlag(word))
@@ -162,6 +169,7 @@ impl<'a> WordsFault<'a> {
             WordsFault::NotYet(word) => write!(f, "{} is not there yet", Quoted(word)),
             WordsFault::Twice(word) => write!(f, "{} stands twice", Quoted(word)),
             WordsFault::WithValue(word) => write!(f, "{} takes no value", Quoted(word)),
+            WordsFault::JournalNotFirst => f.write_str("--journal is to be the first word"),
             WordsFault::CheckedNew => f.write_str("--check does not go with --new"),
             WordsFault::Unknown => f.write_str("these words ask for nothing that can be done"),
         }
