@@ -1,4 +1,4 @@
-use Rattle.cdf_attrs.proofs.Common.{ByStep, Known, KnownEntries, List, ap, arith, fold, image_limit, length, max, pos, refused, to_z-of_z, ℕ, ◌∙◌, ◌≤◌}
+use Rattle.cdf_attrs.proofs.Common.{ByStep, Known, ap, arith, image_limit, length, refused, to_z-of_z, ◌∙◌, ◌≤◌}
 use Rattle.std.proofs.Common.{w32}
 use Rattle.cdf_attrs.proofs.AttributeFound.{place_within}
 use Rattle.cdf_attrs.proofs.GettingAnswers.{of_attribute}
@@ -23,14 +23,14 @@ bounds-places-attribute g c =
 
 pub greatest_with-greatest-requires : goal.greatest_with-greatest-requires
 greatest_with-greatest-requires g c =
-    rw (c.deref.ensures.value ∙ ap (λ (k : KnownEntries). k.numbers) c.entries.view_is) (greatest_within (rw c.in-Put.is at c.in_ok-number.ensures.request) c.requires.good (omega (arith, c.requires.fits, c.requires.limit)) (rw c.read_request.ensures.area.image at c.in_ok-entries.ensures.entries) c.in_ok-entries.ensures.chain)
+    (greatest_within (rw c.in-Put.is at c.in_ok-number.ensures.request) c.requires.good (omega (arith, c.requires.fits, c.requires.limit)) (rw c.read_request.ensures.area.image at c.in_ok-entries.ensures.entries) c.in_ok-entries.ensures.chain)
 
 pub put_new-requires : goal.put_new-requires
 put_new-requires g c =
     let may = rw c.in-Put.is at c.in_ok-number.ensures.request in
     let places = c.as_slice-places.ensures.value ∙ ap (λ (k : Known). k.places) (c.self.view_is ∙ c.in_ok-entries.ensures.given) ∙ c.requires.known.places_are in
     let knows = rw c.read_request.ensures.area.image at c.in_ok-entries.ensures.entries in
-    let is = c.greatest_with-greatest.ensures ∙ ap (λ (xs : List ℕ). pos (fold max c.args.num xs)) (c.deref.ensures.value ∙ ap (λ (k : KnownEntries). k.numbers) c.entries.view_is) in
+    let is = c.greatest_with-greatest.ensures in
     let small : length (g.A.Area.image c.args.area.now) ≤ image_limit = omega (arith, c.requires.fits, c.requires.limit) in
     rw (c.take_entries.ensures.area.image, c.read_request.ensures.area.image, c.take_entries.ensures.area.frame, c.read_request.ensures.area.frame, to_z-of_z w32 c.greatest_with-greatest.result (greatest_signed may c.requires.good small knows c.in_ok-entries.ensures.chain is)) (record {
       good = c.requires.good;

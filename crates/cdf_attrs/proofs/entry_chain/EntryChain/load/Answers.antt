@@ -1,4 +1,4 @@
-use Rattle.cdf_attrs.proofs.Common.{good_is_sound, ◌∙◌}
+use Rattle.cdf_attrs.proofs.Common.{All, List, good_is_sound, subst, ℕ, ◌∙◌, ◌≤◌}
 use Rattle.cdf_attrs.proofs.EntriesRead.{numbers_at, places_inside, entries_known}
 use Rattle.cdf_attrs.proofs.EntryChains.{holder_stands, chain_there, counted}
 use Rattle.cdf_attrs.proofs.entry_chain.EntryChain.load.Goals as goal
@@ -22,3 +22,6 @@ pub returns-clause-entries : goal.returns-clause-entries
 returns-clause-entries g c =
     entries_known (g.A.Area.image c.args.area.now) c.args.chain c.in_ok-numbers.numbers.items c.in_ok-places.places.items c.in_ok-places.ensures.members
     (c.in_ok-numbers.ensures.numbers ∙ (λ i. numbers_at (c.in_ok-places.ensures.area.image i) (c.deref.ensures.value i)))
+
+pub invariant_of-result : goal.invariant_of-result
+invariant_of-result g c = subst (λ (xs : List ℕ). All (λ n. n ≤ c.bound_of-bound.result) xs) c.deref-2.ensures.value c.bound_of-bound.ensures
