@@ -52,6 +52,8 @@ pub record Journalled {D : Type 0} (seen : D → Option Parts) (there : D → Li
   pub ended : Device D
   pub ran : Status
   pub one : opened.disk.files ≡ Some ((a.name, sole_file opened.disk) ∷ [])
+  -- a store in memory has no faults, so the run blames none
+  pub faultless : (ended.reads ≡ opened.reads) × (ended.writes ≡ opened.writes)
   pub run : Ran (Some a) opened ended c c' before left first now notes ran
   pub ends : EndsSaved (faults disk) (faults disk') ran status
   pub exists : a.new ≡ false → IfSome (seen disk) (λ _. IsTrue (there disk a.name))

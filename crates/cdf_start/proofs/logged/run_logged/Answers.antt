@@ -1,4 +1,4 @@
-use Rattle.std.proofs.Common.{ap, inr, string_bytes, subst, sym, ℕ, ◌∙◌}
+use Rattle.std.proofs.Common.{ap, inr, refl, string_bytes, subst, sym, ℕ, ◌∙◌}
 use Rattle.cdf_journal.specs.Crashes.{LeavesOnly}
 use Rattle.cdf_journal.specs.Log.{recovered}
 use Rattle.cdf_journal.specs.Opening.{IsRecovered, Rests, sole_file}
@@ -26,6 +26,7 @@ returns-in-Ok-clause-ends g c =
       ended = ended;
       ran = ran;
       one = c.in-Ok.ensures.opened.files;
+      faultless = (refl, refl);
       run = run;
       ends = subst (λ (n : ℕ). EndsSaved n (g.D.Disk.faults last) ran status) (ap g.D.Disk.faults run.under ∙ c.in-Ok.ensures.faultless) (subst (λ d. EndsSaved (g.D.Disk.faults then.disk) (g.D.Disk.faults d) ran status) (sym c.into_disk.ensures) saved.ends);
       exists = c.in-Ok.ensures.there;
