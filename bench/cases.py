@@ -112,6 +112,8 @@ CASES = [
     Case("file, 256 MiB, one new attribute, on the disk", 0, b"1 ok\n", 256 * MIB, script=one_attribute, file=one_unused, before="file, 256 MiB, one new attribute", on_disk=True),
     Case("file, records, 256 MiB", 0, b"1 ok\n", LARGE_BLOCKS_OF_256_MIB, script=no_checksum, file=large_blocks, times_size=1.09),
     Case("file, records, 256 MiB, one value", 0, b"1 ok\n", LARGE_BLOCKS_OF_256_MIB, script=one_value, file=large_blocks, times_size=1.09, before="file, records, 256 MiB", times_before=1.1),
+    Case("file, records, 256 MiB, through a log", 0, b"1 ok\n", LARGE_BLOCKS_OF_256_MIB, script=no_checksum, flags=("--journal",), file=large_blocks, times_size=1.09, before="file, records, 256 MiB", times_before=1.1),
+    Case("file, records, 256 MiB, one value, through a log", 0, b"1 ok\n", LARGE_BLOCKS_OF_256_MIB, script=one_value, flags=("--journal",), file=large_blocks, times_size=1.09, before="file, records, 256 MiB, one value", times_before=1.3),
     Case("check, 512 MB", 0, b"yes\n", 512 * MB, flags=("--check",), file=one_unused, times_cat=2, times_size=1.1, plain=("check",)),
     Case("check, 512 MB with a checksum", 0, b"yes\n", 512 * MB, flags=("--check",), file=sealed, times_md5sum=2, times_size=1.1),
     Case("file, 100000 attributes", 0, b"", HUNDRED_THOUSAND, file=attributes, times_md5sum=3, times_size=2),
