@@ -7,3 +7,5 @@ mod refused;
 mod runs;
 #[cfg(test)]
 mod stopped;
+#[cfg(test)]
+mod usual;
