@@ -6,7 +6,7 @@ ghost use Rattle.cdf_journal.specs.Crashes.{ReadsSome};
 ghost use Rattle.cdf_journal.specs.FileDisk.{length_in};
 
 use cdf_store::{
-    FileFailure, OpenError, READ_LIMIT, SystemError, SystemFile, check_regular, cut_to,
+    FileFailure, Lockable, OpenError, READ_LIMIT, SystemError, SystemFile, check_regular, cut_to,
     open_regular, read_from, regular_file, store_file, write_from,
 };
 use std::alloc::Global;
@@ -155,6 +155,8 @@ pub fn write_file<R: Files>(
     place: u64,
     bytes: &[u8],
 ) -> Result<(), FileFailure>
+where
+    R::File: Lockable,
     ensures longer { OnOk result (length_in file.new ≡ max (length_in file.old) (place + length bytes.now)) }
     ensures no_shorter { length_in file.old ≤ length_in file.new }
     ensures no_longer { length_in file.new ≤ max (length_in file.old) (place + length bytes.now) }
@@ -180,6 +182,8 @@ pub fn cut_file<R: Files>(
     file: &mut Option<DiskFile<R::File>>,
     n: u64,
 ) -> Result<(), FileFailure>
+where
+    R::File: Lockable,
     ensures shorter { OnOk result (length_in file.new ≡ n) }
     ensures kept { OnErr result (length_in file.new ≡ length_in file.old) }
 {

@@ -7,7 +7,7 @@ ghost use Rattle.cdf_journal.specs.FileDisk.{length_in, size_in};
 
 use crate::disk_file::{DiskFile, cut_file, open_parts, read_file, sync_file, write_file};
 use crate::{Disk, Part};
-use cdf_store::{AttachError, Failed, FileFailure, OpenError};
+use cdf_store::{AttachError, Failed, FileFailure, Lockable, OpenError};
 use std::alloc::Global;
 use std::io::{Read, Seek};
 use std::os::fd::AsRawFd;
@@ -15,7 +15,8 @@ use std::rt::Files;
 
 /// The real files: a file, and beside it its log, the one whose name has `.journal` appended. Both are regular ones, and the log is no
 /// link. A file that is longer than the limit of an image and 17 bytes counts as one of that length. A file that another program
-/// changed after it was attached is not written.
+/// changed after it was attached is not written. The first write or cut of each locks it, as that of a `FileStore` does; locks of other
+/// programs are ignored.
 ///
 /// It tells nothing of what a crash leaves: that a file that was stored outlasts it is the system's promise.
 #[derive(Drop)]
@@ -59,7 +60,7 @@ fn read_either<F: Read + Seek>(
 
 impl<R: Files> FileDisk<R>
 where
-    R::File: AsRawFd,
+    R::File: AsRawFd + Lockable,
 {
     /// The files that the runtime reaches, of which none is attached.
     pub fn new(rt: R, alloc: Global) -> Self
@@ -86,7 +87,7 @@ where
 
 impl<R: Files> Disk for FileDisk<R>
 where
-    R::File: AsRawFd,
+    R::File: AsRawFd + Lockable,
 {
     ghost seen = { λ _. None };
 

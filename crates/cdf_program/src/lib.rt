@@ -12,7 +12,7 @@ use beside::has_open_log;
 use cdf_journal::FileDisk;
 use cdf_saving::Status;
 use cdf_start::Started;
-use cdf_store::{FileStore, StdSink, StdSource};
+use cdf_store::{FileStore, Lockable, StdSink, StdSource};
 use cdf_tap::{NeedsVarType, Tally, Tap};
 use cdf_tellings::{FileNews, OpenLog, Said, Telling, WordsFault, look};
 use standard::hold_standard;
@@ -51,7 +51,7 @@ fn tell(rt: &impl Eprint, telling: Telling<'_>) {
 /// What the file and its device tell once a run over them has ended.
 fn news_of<R: Files>(started: &mut Started<FileStore<R>, FileDisk<R>>) -> FileNews
 where
-    R::File: AsRawFd,
+    R::File: AsRawFd + Lockable,
 {
     let failure = match started.disk.failure() {
         Some(failure) => Some(failure),
@@ -86,7 +86,7 @@ where
 fn run_words<R>(rt: &R, words: &[String], is_text: bool, taps: &mut Vec<Box<dyn Tap>>) -> Status
 where
     R: Files + Env + Input + Print + Eprint + AllocGlobal,
-    R::File: AsRawFd,
+    R::File: AsRawFd + Lockable,
 {
     let store = FileStore::new(rt, rt.alloc());
     let mut script = StdSource::new(rt.reader());
@@ -114,7 +114,7 @@ where
 fn run_with_taps<R>(rt: &R, words: &[String], is_text: bool) -> Result<Status, AllocError>
 where
     R: Files + Env + Input + Print + Eprint + AllocGlobal,
-    R::File: AsRawFd,
+    R::File: AsRawFd + Lockable,
 {
     let alloc = rt.alloc();
     let mut taps: Vec<Box<dyn Tap>> = Vec::new(alloc);
@@ -128,7 +128,7 @@ where
 fn run_program<R>(rt: &R) -> Status
 where
     R: Files + Env + Input + Print + Eprint + AllocGlobal,
-    R::File: AsRawFd,
+    R::File: AsRawFd + Lockable,
 {
     let ran = match words_of(rt) {
         Ok(words) => run_with_taps(rt, &words, true),
@@ -147,7 +147,7 @@ where
 pub fn start<R>(rt: &R) -> ExitCode
 where
     R: Files + Env + Input + Print + Eprint + AllocGlobal,
-    R::File: AsRawFd,
+    R::File: AsRawFd + Lockable,
 {
     let held = hold_standard(rt);
     let status = run_program(rt);

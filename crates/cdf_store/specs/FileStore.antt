@@ -6,6 +6,7 @@ use Rattle.std.specs.declared.io.traits.Seek
 use Rattle.std.specs.declared.io.traits.Write
 use Rattle.cdf_store.specs.declared.file_failure.FileFailure.{FileFailure}
 use Rattle.cdf_store.specs.declared.file_store.FileStore.{FileStore}
+use Rattle.cdf_store.specs.declared.file_store.locks.Locks.{Locks}
 
 -- why the last call failed that did
 abbrev pub failure_of : {R F D : Type 0} → {r : Read.Ghosts F} → {w : Write.Ghosts F} → {s : Seek.Ghosts F} → {d : Read.Ghosts D} → FileStore R F D r w s d → Option FileFailure
@@ -14,6 +15,10 @@ failure_of store = store.faults.last
 -- whether a write or a cut was made in the file
 abbrev pub is_written_of : {R F D : Type 0} → {r : Read.Ghosts F} → {w : Write.Ghosts F} → {s : Seek.Ghosts F} → {d : Read.Ghosts D} → FileStore R F D r w s d → Bool
 is_written_of store = store.is_written
+
+-- what the locks of other programs are to its attaching
+abbrev pub locks_of : {R F D : Type 0} → {r : Read.Ghosts F} → {w : Write.Ghosts F} → {s : Seek.Ghosts F} → {d : Read.Ghosts D} → FileStore R F D r w s d → Locks
+locks_of store = store.locks
 
 -- a call that failed leaves a reason, and another one leaves the reason of an earlier one; what was written stays so
 pub record IsTold {R F D : Type 0} {r : Read.Ghosts F} {w : Write.Ghosts F} {s : Seek.Ghosts F} {d : Read.Ghosts D} (old new : FileStore R F D r w s d) (failed : Bool) : Type 0 where

@@ -30,6 +30,8 @@ pub enum FileFailure {
     Changed,
     /// Another program changed the file each time while it was read.
     ChangedWhileRead,
+    /// Another program had the file locked for itself alone each time while it was read.
+    Locked,
     /// The file was opened in the place of a standard stream.
     StandardStream,
     /// The file is one that this program has as a standard stream.

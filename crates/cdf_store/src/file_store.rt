@@ -11,6 +11,7 @@ mod faults;
 mod folder;
 mod held_file;
 mod kind;
+mod locks;
 mod open_error;
 mod opening;
 mod reading;
@@ -23,6 +24,7 @@ use crate::{AttachError, Failed, FileFailure, Store, Unstored};
 use faults::Faults;
 use held_file::{HeldFile, attach_file};
 pub use kind::check_regular;
+pub use locks::{Lockable, Locks};
 pub use open_error::OpenError;
 pub use opening::{Opened, open_regular};
 pub use reading::{READ_LIMIT, read_from};
@@ -37,11 +39,16 @@ pub use writing::Written;
 /// made in the file and in them. A file that cannot be opened for writing is attached all the same, and writes and cuts of it fail.
 /// So do those of a file that another program changed after it was attached.
 ///
+/// The first write or cut locks the file for this program alone, where the lock is to be had at once, until the store is dropped. Where
+/// it is not, the file is written all the same. A store that heeds locks attaches no file that another program has locked so. Locks
+/// are advisory, and some file systems have none.
+///
 /// The bytes are kept in pieces of 65,536. A page that covers all that a piece has becomes that piece, and is not copied.
 #[derive(Drop)]
 pub struct FileStore<R: Files> {
     rt: R,
     alloc: Global,
+    locks: Locks,
     held: Option<HeldFile>,
     system: Option<SystemFile<R::File>>,
     writes: u64,
@@ -56,11 +63,11 @@ pub struct FileStore<R: Files> {
 
 impl<R: Files> FileStore<R>
 where
-    R::File: AsRawFd,
+    R::File: AsRawFd + Lockable,
 {
-    ghost use Rattle.cdf_store.specs.FileStore.{failure_of, is_written_of};
+    ghost use Rattle.cdf_store.specs.FileStore.{failure_of, is_written_of, locks_of};
 
-    /// The files that the runtime reaches, of which none is attached.
+    /// The files that the runtime reaches, of which none is attached. Locks of other programs are ignored.
     pub fn new(rt: R, alloc: Global) -> Self
         ensures disk { ⟦<FileStore<R> as Store>⟧.disk result
             ≡ record { held = None; name = None; files = None; only = None; touched = None; under = tt } }
@@ -69,10 +76,28 @@ where
         ensures unstored { ⟦<FileStore<R> as Store>⟧.unstored result ≡ nothing }
         ensures failure { failure_of result ≡ None }
         ensures unwritten { IsFalse (is_written_of result) }
+        ensures locks { locks_of result ≡ Locks.Ignored }
+    {
+        FileStore::with_locks(rt, alloc, Locks::Ignored)
+    }
+
+    /// The files that the runtime reaches, of which none is attached. Where locks are heeded, attaching asks for them before the first
+    /// byte of a file is read and behind the last one. A file that another program has locked for itself alone is read anew, as one that
+    /// was changed in the meantime, and after the third time attaching fails.
+    pub fn with_locks(rt: R, alloc: Global, locks: Locks) -> Self
+        ensures disk { ⟦<FileStore<R> as Store>⟧.disk result
+            ≡ record { held = None; name = None; files = None; only = None; touched = None; under = tt } }
+        ensures read { ⟦<FileStore<R> as Store>⟧.read_faults result ≡ 0 }
+        ensures write { ⟦<FileStore<R> as Store>⟧.write_faults result ≡ 0 }
+        ensures unstored { ⟦<FileStore<R> as Store>⟧.unstored result ≡ nothing }
+        ensures failure { failure_of result ≡ None }
+        ensures unwritten { IsFalse (is_written_of result) }
+        ensures locks { locks_of result ≡ locks }
     {
         FileStore {
             rt,
             alloc,
+            locks,
             held: None,
             system: None,
             writes: 0,
@@ -105,7 +130,7 @@ where
 
 impl<R: Files> Store for FileStore<R>
 where
-    R::File: AsRawFd,
+    R::File: AsRawFd + Lockable,
 {
     ghost use Rattle.cdf_store.specs.FileStore.{TellsWhy};
 
@@ -141,7 +166,7 @@ where
     ghost untold = { λ _. inr refl };
 
     fn attach(&mut self, name: &str, make: bool) -> Result<Option<u64>, AttachError> {
-        let opened = attach_file(&self.rt, self.alloc, name, make);
+        let opened = attach_file(&self.rt, self.alloc, name, make, self.locks);
         match self.faults.of_attaching(opened) {
             Ok(Some((held, system))) => {
                 let length = held.pieces.len();

@@ -24,8 +24,8 @@ pub use copy::{copy_from, put_in};
 pub use failed::Failed;
 pub use file_failure::{FileFailure, FileKind, Stream};
 pub use file_store::{
-    FileStore, OpenError, Opened, READ_LIMIT, SystemFile, Written, check_regular, cut_to,
-    open_regular, read_from, regular_file, store_file, write_from,
+    FileStore, Lockable, Locks, OpenError, Opened, READ_LIMIT, SystemFile, Written, check_regular,
+    cut_to, open_regular, read_from, regular_file, store_file, write_from,
 };
 pub use mem_sink::MemSink;
 pub use mem_source::MemSource;

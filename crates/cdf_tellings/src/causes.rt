@@ -99,6 +99,9 @@ impl fmt::Display for Cause {
             FileFailure::ChangedWhileRead => {
                 f.write_str("another program changed it while it was read, three times")
             }
+            FileFailure::Locked => {
+                f.write_str("locked by another program, which may be saving it")
+            }
             FileFailure::IsStream(stream) => f.write_str(words_of_stream(stream)),
             FileFailure::StandardStream => f.write_str("it is open as a standard stream"),
             FileFailure::NotWritable(error) => {

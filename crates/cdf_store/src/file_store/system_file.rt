@@ -6,6 +6,7 @@ ghost use Rattle.cdf_store.specs.Untouched.{IsWritable, MayBeWritten};
 use super::comparison::{Comparison, stamp_now, stands_as_before};
 use super::folder::store_folder;
 use super::kind::check_regular;
+use super::locks::{Lockable, lock_alone};
 use super::open_error::{OpenError, open_error};
 use super::opening::Opened;
 use super::reading::READ_LIMIT;
@@ -29,6 +30,8 @@ pub struct SystemFile<F> {
     pub stamp: Stamp,
     /// How the file stood behind the last byte that was read of it, where it was read whole and found to stand as before.
     pub read_until: Option<Stamp>,
+    /// Whether another program was found to have the file locked for itself alone while it was read.
+    pub is_locked: bool,
     pub comparison: Comparison,
     /// The folder that holds the file, where attaching made the file.
     pub made_in: Option<String>,
@@ -72,6 +75,7 @@ pub fn regular_file<F: OpenFile + AsRawFd + Drop>(
         refusal,
         stamp: Stamp::of(&metadata),
         read_until: None,
+        is_locked: false,
         comparison: Comparison::NotYet,
         made_in,
     })
@@ -90,8 +94,11 @@ fn check_writable<F>(file: &SystemFile<F>) -> Result<(), FileFailure>
     Ok(())
 }
 
-/// Refuses a file that is not to be written. Before the first write and cut the file is compared with how it stood.
+/// Refuses a file that is not to be written. Before the first write and cut the file is locked for this program alone, where the lock
+/// is to be had, and compared with how it stood.
 fn check_unchanged<R: Files>(rt: &R, file: &mut SystemFile<R::File>) -> Result<(), FileFailure>
+where
+    R::File: Lockable,
     ensures ready { IsOk result → MayBeWritten file.new }
     ensures refused { IsOk result → IsWritable file.old }
     ensures once { MayBeWritten file.old → IsOk result × (file.new ≡ file.old) }
@@ -100,6 +107,7 @@ fn check_unchanged<R: Files>(rt: &R, file: &mut SystemFile<R::File>) -> Result<(
     if file.comparison == Comparison::Same {
         return Ok(());
     }
+    lock_alone(&file.file);
     match stands_as_before(rt, &file.name, &file.file, &file.stamp) {
         Ok(Some(_)) => {
             file.comparison = Comparison::Same;
@@ -113,13 +121,16 @@ fn check_unchanged<R: Files>(rt: &R, file: &mut SystemFile<R::File>) -> Result<(
     }
 }
 
-/// Writes bytes from a place on, where the file may be written.
+/// Writes bytes from a place on, where the file may be written. The first write or cut locks the file for this program alone, until it
+/// is closed. It goes on without the lock where another program has one, or the system gives none.
 pub fn write_from<R: Files>(
     rt: &R,
     file: &mut SystemFile<R::File>,
     place: u64,
     bytes: &[u8],
 ) -> Written
+where
+    R::File: Lockable,
     ensures bound { result.count ≤ length bytes.now }
     ensures whole { result.failure ≡ None → result.count ≡ length bytes.now }
     ensures refused { 0 < result.count → IsWritable file.old }
@@ -137,13 +148,16 @@ pub fn write_from<R: Files>(
     }
 }
 
-/// Cuts a file of this length to `n` bytes. Where it has just these, the system is not called.
+/// Cuts a file of this length to `n` bytes. Where it has just these, the system is not called. The first write or cut locks the file,
+/// as `write_from` says.
 pub fn cut_to<R: Files>(
     rt: &R,
     file: &mut SystemFile<R::File>,
     length: u64,
     n: u64,
 ) -> Result<(), FileFailure>
+where
+    R::File: Lockable,
     ensures refused { IsOk result → IsWritable file.old }
 {
     if n == length {
@@ -205,6 +219,8 @@ pub fn write<R: Files>(
     place: u64,
     bytes: &[u8],
 ) -> Written
+where
+    R::File: Lockable,
     ensures bound { result.count ≤ length bytes.now }
     ensures whole { result.failure ≡ None → result.count ≡ length bytes.now }
     ensures refused { 0 < result.count → IsSomeAnd system.old IsWritable }
@@ -225,6 +241,8 @@ pub fn cut<R: Files>(
     length: u64,
     n: u64,
 ) -> Result<(), FileFailure>
+where
+    R::File: Lockable,
     ensures refused { IsOk result → IsSomeAnd system.old IsWritable }
 {
     match system {
