@@ -2,6 +2,7 @@
 #![tactic(auto)]
 
 mod beside;
+mod locks;
 mod standard;
 
 ghost use Rattle.std.specs.Prelude.{◌≡◌};
@@ -15,6 +16,7 @@ use cdf_start::Started;
 use cdf_store::{FileStore, Lockable, StdSink, StdSource};
 use cdf_tap::{NeedsVarType, Tally, Tap};
 use cdf_tellings::{FileNews, OpenLog, Said, Telling, WordsFault, look};
+use locks::locks_of;
 use standard::hold_standard;
 use std::alloc::AllocError;
 use std::env::Env;
@@ -81,14 +83,14 @@ where
     }
 }
 
-/// Runs what these words ask for, tells what there is to tell, and answers how the run ended. Where a word is not UTF-8 there are no
-/// words.
+/// Runs what these words ask for, tells what there is to tell, and answers how the run ended. A check heeds the locks of other programs.
+/// Where a word is not UTF-8 there are no words.
 fn run_words<R>(rt: &R, words: &[String], is_text: bool, taps: &mut Vec<Box<dyn Tap>>) -> Status
 where
     R: Files + Env + Input + Print + Eprint + AllocGlobal,
     R::File: AsRawFd + Lockable,
 {
-    let store = FileStore::new(rt, rt.alloc());
+    let store = FileStore::with_locks(rt, rt.alloc(), locks_of(rt.alloc(), words));
     let mut script = StdSource::new(rt.reader());
     let mut out = StdSink::new(io::writer(rt));
     let disk = FileDisk::new(rt, rt.alloc());
