@@ -1,6 +1,7 @@
 //! Real files and streams.
 
 mod changed_files;
+mod locked_files;
 mod meddled_files;
 mod meddler;
 mod real_files;

@@ -1,11 +1,12 @@
 //! Devices that are interrupted, and fail in mid-stream.
 
 use super::meddler::Meddler;
-use cdf_store::{FileFailure, SystemError};
+use cdf_store::{FileFailure, Lockable, SystemError};
 use std::alloc::Allocator;
-use std::fs::{File, Metadata, OpenFile, OpenOptions};
+use std::fs::{File, Metadata, OpenFile, OpenOptions, TryLockError};
 use std::io::{Error, ErrorKind, Read, Result, Seek, SeekFrom, Write};
 use std::os::fd::{AsRawFd, RawFd};
+use std::result;
 use std::rt::Files;
 
 /// A stream whose first call is interrupted, and whose third call fails.
@@ -62,6 +63,10 @@ pub enum Fault {
     Sync,
     /// Each storing of a folder.
     FolderSync,
+    /// Each locking of it, and each letting go.
+    Lock,
+    /// To lock it beside others, once a byte of it was read, since another program has locked it by then.
+    LockWhenRead,
 }
 
 impl Fault {
@@ -206,6 +211,31 @@ impl AsRawFd for WeakFile {
 impl Seek for WeakFile {
     fn seek(&mut self, to: SeekFrom) -> Result<u64> {
         self.file.seek(to)
+    }
+}
+
+impl Lockable for WeakFile {
+    fn try_lock(&self) -> result::Result<(), TryLockError> {
+        match self.weakness.fault.check(Fault::Lock, true) {
+            Ok(()) => self.file.try_lock(),
+            Err(error) => Err(TryLockError::Error(error)),
+        }
+    }
+
+    fn try_lock_shared(&self) -> result::Result<(), TryLockError> {
+        let fault = self.weakness.fault;
+        if fault == Fault::LockWhenRead && self.gives < self.weakness.gives {
+            return Err(TryLockError::WouldBlock);
+        }
+        match fault.check(Fault::Lock, true) {
+            Ok(()) => self.file.try_lock_shared(),
+            Err(error) => Err(TryLockError::Error(error)),
+        }
+    }
+
+    fn unlock(&self) -> Result<()> {
+        self.weakness.fault.check(Fault::Lock, true)?;
+        self.file.unlock()
     }
 }
 
