@@ -5,7 +5,7 @@ use anyhow::Result;
 use cdf_store::{MemSink, MemSource, MemStore};
 use cdf_tap::{NeedsVarType, Tally, Tap};
 use cdf_tellings::{FileNews, Said, Telling, look};
-use cdf_tool::{Ended, run};
+use cdf_tool::{Ended, Left, run};
 use std::alloc::Global;
 
 /// What the store, the script and the output do.
@@ -58,13 +58,14 @@ const ROOM: usize = 1_000_000;
 const OTHER: &[u8] = b"another file";
 
 /// What is told of a run of a row over this file, and nothing where nothing is to be told. The store does not say whether it wrote, so
-/// where all went well it is taken for one that wrote nothing if the file stayed.
+/// where all bytes are as they were to be it is taken for one that wrote nothing if the file stayed.
 fn told_of(
     alloc: Global,
     row: &Row,
     before: Option<&[u8]>,
     ended: &mut Ended<MemStore>,
 ) -> Result<String> {
+    let is_whole = ended.status.is_done() || ended.notes.left == Some(Left::Unsynced);
     let is_same = ended.store.file(row.name.as_str()) == before;
     let nature = match ended.notes.broken {
         Some(broken) => look(&mut ended.store, broken),
@@ -76,7 +77,7 @@ fn told_of(
         notes: ended.notes,
         news: FileNews {
             failure: None,
-            is_unwritten: ended.status.is_done() && is_same,
+            is_unwritten: is_whole && is_same,
             nature,
         },
     };

@@ -150,9 +150,12 @@ fn mark_of_left(left: Option<Left>, is_unwritten: bool) -> &'static str {
     }
 }
 
-/// What became of a file whose saving failed.
+/// What became of a file whose saving failed. Where all of its bytes are as they were to be and nothing was written, they may be those of
+/// an earlier run, which could not be stored either.
 fn words_of_left(left: Option<Left>, is_unwritten: bool) -> &'static str {
     match left {
+        Some(Left::Unsynced) if is_unwritten =>
+            "nothing was written now, and what stands in it may not be stored",
         Some(Left::Unsynced) =>
             "it was written, but may not be stored, and is to be written anew from a copy",
         Some(Left::Old) => "nothing was changed",
