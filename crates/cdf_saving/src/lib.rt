@@ -9,6 +9,6 @@ mod status;
 
 pub use ended::Ended;
 pub use notes::{Left, Notes};
-pub use refusals::{LineMark, Refusals, RefusedLine};
+pub use refusals::{BrokenCondition, Condition, LineMark, Refusals, RefusedLine};
 pub use saving::{is_saved, save};
 pub use status::{Status, area_status, end_status};

@@ -18,12 +18,53 @@ pub enum LineMark {
     NotYet,
 }
 
+/// Which of the conditions that a reason stands for a line does not meet.
+#[derive(Clone, Copy, Debug, PartialEq, Eq)]
+pub enum Condition {
+    /// A value has at least one element.
+    SomeElements,
+    /// A value whose type is not CHAR or UCHAR has one element, and not so many.
+    OneElement(u32),
+    /// There are at most 10 dimensions, and not so many.
+    FewDimensions(u64),
+    /// Each dimension has a size from 1 to 2,147,483,647; the one of this number, counted from 0, has this size.
+    DimensionSize { number: u64, size: u32 },
+    /// VARYS has a letter for each dimension.
+    Letters { letters: u64, dimensions: u64 },
+    /// VARYS has a letter for each dimension that the r variables share, and a record has at most 67,108,864 bytes; of these two a
+    /// line with so many letters breaks either.
+    SharedLetters(u64),
+    /// A record has at most 67,108,864 bytes.
+    RecordSize,
+    /// An encoding has this number.
+    Encoding(u32),
+    /// A number of 31 bits; this one is larger.
+    Signed(u32),
+    /// The number of an entry of the file is at most 2,147,483,646.
+    EntryNumber(u32),
+    /// An r variable has this number.
+    RVariable(u32),
+    /// A z variable has this number.
+    ZVariable(u32),
+    /// The file has no attribute and no variable.
+    EmptyFile,
+}
+
+/// What a line is refused for, where that tells more than the reason.
+#[derive(Clone, Copy, Debug, PartialEq, Eq)]
+pub struct BrokenCondition {
+    pub condition: Condition,
+    /// The word of the line that is meant, if it is one; the name of the command is word 1.
+    pub word: Option<u8>,
+}
+
 /// A line that was refused.
 #[derive(Clone, Copy, Debug, PartialEq, Eq)]
 pub struct RefusedLine {
     /// Counted from 1.
     pub number: u64,
     pub reason: Reason,
+    pub broken: Option<BrokenCondition>,
     pub mark: Option<LineMark>,
 }
 

@@ -1,9 +1,7 @@
 //! The help and the version.
 
-/// How the program is called, as it is told where words are wrong.
-pub const SHORT_HELP: &str = "usage: cdfedit [--journal] [--new] [--no-save] [--space] FILE < SCRIPT
-       cdfedit [--journal] --check [--space] FILE
-cdfedit --help says more";
+/// Where to look, as it is told where words are wrong. The usage line is written on standard output then.
+pub const SHORT_HELP: &str = "cdfedit --help says more";
 
 /// The help.
 pub const HELP: &str =

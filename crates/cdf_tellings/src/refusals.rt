@@ -1,7 +1,7 @@
 //! Lines that were refused, in words.
 
 use cdf_model::{LineError, Reason};
-use cdf_saving::{LineMark, Refusals, RefusedLine};
+use cdf_saving::{BrokenCondition, Condition, LineMark, Refusals, RefusedLine};
 use std::fmt;
 
 /// Writes the fault of a line that is no command. Bytes of the line are counted from 0.
@@ -102,9 +102,69 @@ impl fmt::Display for ReasonWords {
     }
 }
 
+/// The name of a reason that has several conditions.
+fn name_of_reason(reason: Reason) -> &'static str {
+    match reason {
+        Reason::NumberOutOfRange => "NumberOutOfRange",
+        Reason::BadShape => "BadShape",
+        Reason::InUse => "InUse",
+        _ => "refused",
+    }
+}
+
+/// Writes a condition that is not met.
+fn write_condition<W: fmt::Write>(condition: Condition, f: &mut fmt::Formatter<W>) -> fmt::Result {
+    match condition {
+        Condition::SomeElements => f.write_str("a value has at least one element"),
+        Condition::OneElement(elems) => write!(
+            f,
+            "a value whose type is not CHAR or UCHAR has 1 element, not {elems}"
+        ),
+        Condition::FewDimensions(count) => {
+            write!(f, "there are at most 10 dimensions, not {count}")
+        }
+        Condition::DimensionSize { number, size } => write!(
+            f,
+            "a dimension has a size from 1 to 2147483647, and dimension {number}, counted from 0, has {size}"
+        ),
+        Condition::Letters {
+            letters,
+            dimensions,
+        } => write!(
+            f,
+            "VARYS has a letter for each dimension: {dimensions} are wanted, not {letters}"
+        ),
+        Condition::SharedLetters(letters) => write!(
+            f,
+            "VARYS has a letter for each dimension that the r variables share, and not {letters}; \
+             or else a record would have more than 67108864 bytes"
+        ),
+        Condition::RecordSize => f.write_str("a record has at most 67108864 bytes"),
+        Condition::Encoding(code) => write!(f, "{code} is no encoding"),
+        Condition::Signed(n) => write!(f, "{n} is past 2147483647"),
+        Condition::EntryNumber(num) => write!(f, "{num} is past 2147483646"),
+        Condition::RVariable(num) => write!(f, "no r variable has the number {num}"),
+        Condition::ZVariable(num) => write!(f, "no z variable has the number {num}"),
+        Condition::EmptyFile => f.write_str("the file has attributes or variables"),
+    }
+}
+
+/// Writes why a line was refused: the condition that it does not meet, where that is known, else what the reason means.
+fn write_reason<W: fmt::Write>(line: &RefusedLine, f: &mut fmt::Formatter<W>) -> fmt::Result {
+    let Some(BrokenCondition { condition, word }) = line.broken else {
+        return write!(f, "{}", ReasonWords(line.reason));
+    };
+    write!(f, "{}: ", name_of_reason(line.reason))?;
+    if let Some(word) = word {
+        write!(f, "word {word}: ")?;
+    }
+    write_condition(condition, f)
+}
+
 /// Writes a line that was refused: its number and the reason.
 fn write_line<W: fmt::Write>(line: &RefusedLine, f: &mut fmt::Formatter<W>) -> fmt::Result {
-    write!(f, "line {}, {}", line.number, ReasonWords(line.reason))?;
+    write!(f, "line {}, ", line.number)?;
+    write_reason(line, f)?;
     match line.mark {
         Some(mark) => f.write_str(words_of_mark(mark)),
         None => Ok(()),

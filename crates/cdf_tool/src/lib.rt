@@ -2,6 +2,7 @@
 #![tactic(auto)]
 
 mod checked;
+mod conditions;
 mod file;
 mod measured;
 mod opened;
@@ -12,6 +13,8 @@ mod script;
 mod showing;
 mod top;
 
-pub use cdf_saving::{Ended, Left, LineMark, Notes, Refusals, RefusedLine, Status};
+pub use cdf_saving::{
+    BrokenCondition, Condition, Ended, Left, LineMark, Notes, Refusals, RefusedLine, Status,
+};
 pub use say::say_no_file;
 pub use top::run;

@@ -13,11 +13,12 @@ ghost use Rattle.cdf_tool.specs.Answering.{IsAnswer, IsReplyOf, RepliesTo};
 ghost use Rattle.cdf_tool.specs.Idle.{asks_idly, line_idles};
 ghost use Rattle.cdf_tool.specs.Replay.{IsSayable, IsShort, asked_by};
 
+use crate::conditions::broken_condition;
 use cdf_area::{Area, AreaError};
 use cdf_lines::Line;
 use cdf_model::{Bytes, Command, LineError, Outcome, Reason};
 use cdf_reply::reply_text;
-use cdf_saving::{LineMark, RefusedLine};
+use cdf_saving::{BrokenCondition, LineMark, RefusedLine};
 use cdf_script::{ParseError, Parsed, parse};
 use cdf_session::Session;
 use cdf_tap::{Tap, has_tap};
@@ -39,8 +40,25 @@ pub enum Answer {
     },
 }
 
+/// What tells more of a refused line than its reason.
+#[derive(Clone, Copy)]
+struct Remarks {
+    broken: Option<BrokenCondition>,
+    mark: Option<LineMark>,
+}
+
+impl Remarks {
+    /// What a line looks like.
+    fn of_line(line: &Line) -> Remarks {
+        Remarks {
+            broken: None,
+            mark: mark_of(line),
+        }
+    }
+}
+
 /// A line of a number that was refused, where it comes to a refusal.
-fn refused_line(number: u64, outcome: &Outcome, mark: Option<LineMark>) -> Option<RefusedLine>
+fn refused_line(number: u64, outcome: &Outcome, remarks: Remarks) -> Option<RefusedLine>
     ensures { is_some result ≡ is_refused outcome.now }
 {
     match outcome {
@@ -48,7 +66,8 @@ fn refused_line(number: u64, outcome: &Outcome, mark: Option<LineMark>) -> Optio
         Outcome::Refused { reason } => Some(RefusedLine {
             number,
             reason: *reason,
-            mark,
+            broken: remarks.broken,
+            mark: remarks.mark,
         }),
     }
 }
@@ -58,13 +77,13 @@ fn answer_of(
     alloc: Global,
     number: u64,
     outcome: &Outcome,
-    mark: Option<LineMark>,
+    remarks: Remarks,
 ) -> Result<Answer, AllocError>
     requires { CanBeWritten outcome.now }
     ensures { IfOk result (IsReplyOf number outcome.now) }
 {
     let text = reply_text(alloc, number, outcome)?;
-    let refused = refused_line(number, outcome, mark);
+    let refused = refused_line(number, outcome, remarks);
     Ok(Answer::Reply { text, refused })
 }
 
@@ -77,7 +96,7 @@ fn answer_to_fault(alloc: Global, line: &Line, fault: LineError) -> Result<Answe
         alloc,
         line.number,
         &Outcome::Refused { reason },
-        mark_of(line),
+        Remarks::of_line(line),
     )
 }
 
@@ -107,8 +126,11 @@ fn answer_outcome<A: Area>(
     ensures area { Edits A.frame A.faults session.old session.new result }
 {
     let outcome = session.apply(command)?;
-    let mark = mark_of_command(line, &outcome);
-    Ok(answer_of(alloc, line.number, &outcome, mark)?)
+    let remarks = Remarks {
+        broken: broken_condition(command, &outcome),
+        mark: mark_of_command(line, &outcome),
+    };
+    Ok(answer_of(alloc, line.number, &outcome, remarks)?)
 }
 
 /// Answers a report of a name, which a line asks for.
@@ -128,7 +150,7 @@ fn answer_report(
         alloc,
         line.number,
         &Outcome::Refused { reason },
-        mark_of(line),
+        Remarks::of_line(line),
     )
 }
 
