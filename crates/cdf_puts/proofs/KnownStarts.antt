@@ -4,6 +4,8 @@ use Rattle.cdf_index.proofs.OneVariable.{OneOf, one_of}
 use Rattle.cdf_puts.specs.declared.known_index.IndexBound.{IndexBound}
 use Rattle.cdf_puts.specs.declared.known_index.KnownIndex.{KnownIndex}
 use Rattle.cdf_puts.specs.declared.starts.Starts.{Starts}
+use Rattle.std.specs.BTreeMap.{get}
+use Rattle.std.specs.Ordering.{nat_cmp}
 use Rattle.std.specs.Prelude.{IfSome}
 
 -- each node of the top chain of an index is one of it once the index gets a leaf
@@ -60,7 +62,7 @@ within_left index index' more (Some bound) within left few narrow = record { few
 -- what is known of an index is right yet once it got so many entries
 pub right_yet : (index index' : Nodes) (more : ℕ) (known : Option KnownIndex) → IfSome known (IsRightOf index) → IfSome known (λ k. LeavesEntries k index more) → TopStays index index' → entries_in index' ≤ entries_in index + more → widest index' ≤ widest index → IfSome known (IsRightOf index')
 right_yet index index' more None is left tops few narrow = tt
-right_yet index index' more (Some known) is left tops few narrow = record { node = tops_in index index' tops known.node is.node; bound = within_left index index' more known.bound is.bound left few narrow }
+right_yet index index' more (Some known) is left tops few narrow = record { node = tops_in index index' tops known.node is.node; passed = λ rec. tops_in index index' tops (get nat_cmp known.passed rec) (is.passed rec); bound = within_left index index' more known.bound is.bound left few narrow }
 
 -- what is kept, and nothing else
 pub kept_is : (P : KnownIndex → Type 0) (known : KnownIndex) (o : Option KnownIndex) → IfSome o (λ kept. kept ≡ known) → P known → IfSome o P

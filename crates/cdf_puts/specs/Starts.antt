@@ -31,6 +31,7 @@ pub record IsWithin (index : Nodes) (bound : IndexBound) : Type 0 where
 -- what is known of an index is right of it
 pub record IsRightOf (index : Nodes) (known : KnownIndex) : Type 0 where
   pub node : InTopChain index known.node
+  pub passed : (rec : ℕ) → InTopChain index (get nat_cmp known.passed rec)
   pub bound : IfSome known.bound (IsWithin index)
 
 -- what is known of a variable, by the place of its VDR

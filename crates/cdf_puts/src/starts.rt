@@ -44,13 +44,15 @@ impl Starts {
         self.indexes = BTreeMap::new(self.alloc);
     }
 
-    /// What is known of the index of the variable whose descriptor stands at a place.
-    fn index_of(&self, vdr: u64) -> KnownIndex
-        ensures { (index : Nodes) → IfSome (known_of self.now vdr) (IsRightOf index) → IsRightOf index result }
+    /// Takes out what is known of the index of the variable whose descriptor stands at a place.
+    fn take(&mut self, vdr: u64) -> KnownIndex
+        ensures others { (v : ℕ) → v ≢ vdr → known_of self.new v ≡ known_of self.old v }
+        ensures taken { (index : Nodes) → IfSome (known_of self.old vdr) (IsRightOf index) → IsRightOf index result }
+        ensures own { (index : Nodes) → IfSome (known_of self.new vdr) (IsRightOf index) }
     {
-        match self.indexes.get(&vdr) {
-            Some(known) => *known,
-            None => KnownIndex::new(),
+        match self.indexes.insert(vdr, KnownIndex::new(self.alloc)) {
+            Ok(Some(known)) => known,
+            Ok(None) | Err(_) => KnownIndex::new(self.alloc),
         }
     }
 
@@ -66,7 +68,7 @@ impl Starts {
     pub fn bound_of(&self, vdr: u64) -> Option<IndexBound>
         ensures { (b : List ℕ) → Good b → In vdr (vdrs (variables (shape b))) → KnowsStarts b self.now → IfSome result (IsWithin (index_at b (number b vdr vdr_vxr_head))) }
     {
-        self.index_of(vdr).bound
+        self.indexes.get(&vdr)?.bound
     }
 
     /// Keeps what bounds the index of the variable whose descriptor stands at a place once it has so many entries more, where there is
@@ -75,12 +77,12 @@ impl Starts {
         ensures known { (b : List ℕ) → Good b → In vdr (vdrs (variables (shape b))) → KnowsStarts b self.old → IsWithin (index_at b (number b vdr vdr_vxr_head)) bound → KnowsStarts b self.new }
         ensures expects { (index : Nodes) → IsWithin index bound → ExpectsEntries self.new vdr index more }
     {
-        let mut known = self.index_of(vdr);
+        let mut known = self.take(vdr);
         known.keep_bound(bound, more);
         self.keep(vdr, known);
     }
 
-    /// A node, if one is known, of the top chain of the index of the variable whose descriptor stands at a place. From the node that was
+    /// A node, if one is known, of the top chain of the index of the variable whose descriptor stands at a place. From a node that was
     /// known, the way goes on to the one at which a search for a record may start, and this one is kept.
     #[tactic(auto, using(cdf_area::proofs::Calls::read_done, cdf_area::proofs::Calls::read_failed, cdf_area::proofs::Calls::read_more, cdf_area::proofs::Calls::read_once))]
     pub fn find_start<A: Area>(
@@ -100,7 +102,7 @@ impl Starts {
         // An image has fewer than 2^64 bytes, so no place in it overflows.
         let _size = area.size();
         let head = read_unsigned8(area, vdr + VDR_VXR_HEAD)?;
-        let mut known = self.index_of(vdr);
+        let mut known = self.take(vdr);
         let start = known.find_start(area, head, rec)?;
         self.keep(vdr, known);
         Ok(start)
