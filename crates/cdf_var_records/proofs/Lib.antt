@@ -1,4 +1,5 @@
 pub mod Common
+pub mod LastBegun
 pub mod PadSites
 pub mod PutRoomCount
 pub mod NextItem

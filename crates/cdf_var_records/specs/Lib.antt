@@ -1,4 +1,5 @@
 pub mod Descriptors
 pub mod Next
+pub mod Previous
 pub mod Records
 pub mod Room

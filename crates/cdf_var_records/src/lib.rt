@@ -6,6 +6,7 @@ mod extent;
 mod form;
 mod next;
 mod pad_place;
+mod previous;
 mod put_room;
 mod record;
 mod variable;
