@@ -1,6 +1,6 @@
 -- The names that most proofs of this crate cite, passed on from one place. Declares nothing.
 pub use Rattle.cdf_area.proofs.Calls.{read_done}
-pub use Rattle.cdf_edits.proofs.Common.{Bool, Byte, DataSet, DataType, Each, Each-append, Each-split, Entries, Field, Good, Hold-split, IsGoodByShape, Kind, List, NoRule, Nodes, None, Option, Pad, Previous, R, Range, Some, Variable, VariableShape, Z, [], ap, ap₂, arith, asked, block, both, cast_signed, cast_unsigned, content, content_is, counted, counted4, cpr_link, cpr_rows, cuts_before_put, dimensions_at, dims_at, drop, either, elems_at, extent, false, field_bytes, fixed_size, gdr_offset, gdr_r_num_dims, good_by_its_shape, good_is_sound, has_bit, has_dimensions, has_elements, has_pad, if◌then◌else◌, inl, inr, is_characters, is_compressed, is_little, is_positive, is_sparse, is_z, item_at, known_type, le-ltb, le_of, leb, length, length-drop, length-map, length-take, list_all, lower, lt-ltb, ltb, majority_of, map, max, max_rec_at, min, nat_le, nat_lt, negsuc, network_bytes, no_entry, no_node, node, not, notation_of, number, option_map, pad_field, pad_record, plain_bytes, pos, r_num_dims, r_sizes, range, read, record_bytes, record_limit, record_number_limit, refl, same_Some, shape, signed_limit, size_at, sparse_at, subst, suc, sym, take, take_at, tile_lies, true, turned, type_at, type_in, type_of, type_of_variable, unread_sparse, unwrap_or, value_bytes, value_count, variable_of, variables, variables_chain, vary_field, varys_at, vdr_bytes, vdr_data_type, vdr_num_elems, vdr_r_dim_vary, vdr_r_pad_value, vdr_s_records, vdr_vxr_head, vdr_z_dim_vary, vdr_z_num_dims, vdr_z_pad_value, vdrs, w32, with_sign, word, words, z_vdr_type, zero, ℕ, ℤ, ◌%◌, ◌*◌, ◌++◌, ◌+◌, ◌-◌, ◌/◌, ◌<◌, ◌==◌, ◌^◌, ◌||◌, ◌∙◌, ◌∷◌, ◌≡◌, ◌≤◌, ◌⊎◌, size_of, nat_tests}
+pub use Rattle.cdf_edits.proofs.Common.{Bool, Byte, DataSet, DataType, Each, Each-append, Each-split, Entries, Field, Good, IsGoodByShape, Kind, List, NoRule, Nodes, None, Option, Pad, Previous, R, Range, Some, Variable, VariableShape, Z, [], ap, ap₂, arith, block, both, cast_signed, cast_unsigned, content, content_is, counted, counted4, cuts_before_put, dimensions_at, dims_at, drop, either, elems_at, extent, false, field_bytes, fixed_size, gdr_offset, gdr_r_num_dims, good_by_its_shape, good_is_sound, has_bit, has_dimensions, has_elements, has_pad, if◌then◌else◌, inl, inr, is_characters, is_little, is_positive, is_sparse, is_z, item_at, known_type, le-ltb, le_of, leb, length, length-drop, length-map, length-take, list_all, lower, lt-ltb, ltb, majority_of, map, max, max_rec_at, min, nat_le, nat_lt, negsuc, network_bytes, no_entry, no_node, node, not, notation_of, number, option_map, pad_field, pad_record, plain_bytes, pos, r_num_dims, r_sizes, range, read, record_bytes, record_limit, record_number_limit, refl, same_Some, shape, signed_limit, size_at, sparse_at, subst, suc, sym, take, take_at, tile_lies, true, turned, type_at, type_in, type_of, type_of_variable, unwrap_or, value_bytes, value_count, variable_of, variables, variables_chain, vary_field, varys_at, vdr_bytes, vdr_data_type, vdr_num_elems, vdr_r_dim_vary, vdr_r_pad_value, vdr_vxr_head, vdr_z_dim_vary, vdr_z_num_dims, vdr_z_pad_value, vdrs, w32, with_sign, word, words, z_vdr_type, zero, ℕ, ℤ, ◌%◌, ◌*◌, ◌++◌, ◌+◌, ◌-◌, ◌/◌, ◌<◌, ◌==◌, ◌^◌, ◌||◌, ◌∙◌, ◌∷◌, ◌≡◌, ◌≤◌, ◌⊎◌, size_of, nat_tests}
 unfoldable pub use Rattle.cdf_edits.proofs.Common.{entry_leaves, leaves_of}
 pub use Rattle.cdf_edits.proofs.Edits.Common.{IsRuled, high, name_room, of_kind, pad_width}
 pub use Rattle.cdf_edits.proofs.Edits.VariableFrame.{all_ruled}

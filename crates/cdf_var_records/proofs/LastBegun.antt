@@ -1,13 +1,13 @@
 -- The last leaf that begins at a record or before it: of lists, of the parts of an index, and of what the bytes of a node say.
-use Rattle.cdf_index.proofs.Common.{AreInOrder, AreTiles, Begun, Distinct, Distinct-back, Distinct-front, Each, Entries, HasIndex, HasNodes, In, In-append_right, InOrder, IsNode, IsStart, Leaf, List, Names, Nodes, None, Option, Some, Stands, [], ap, append-nil, append_assoc, arith, block, cases_eq, chain_reaches, cvvr_type, either, eq-eqb, entry_count, entry_leaves, eqb, false, filter, first_at, from_reached, has, index_at, inl, inr, last_at, leaf, leaves_of, leb, length, linkable-type, link_to, lower, lower_nodes, nat_tests, ne_eqb, next_of, no_entry, no_node, node, nodes_of, offset_at, past_entries, record_number_limit, refl, seen, subst, suc, sym, tiles, top_chain, true, true≢false, type_at, used_count, vxr_type, zero, ℕ, ◌++◌, ◌+◌, ◌-◌, ◌<◌, ◌∙◌, ◌∷◌, ◌≡◌, ◌≢◌, ◌≤◌, ◌⊎◌}
-use Rattle.cdf_index.proofs.ByParts.{entries_within, nodes_from, nodes_within}
+use Rattle.cdf_index.proofs.Common.{AreInOrder, AreTiles, Begun, Distinct, Distinct-back, Distinct-front, Entries, HasNodes, In, In-append_right, InOrder, IsNode, IsStart, Leaf, List, Names, Nodes, None, Option, Some, Stands, [], ap, append-nil, append_assoc, arith, block, chain_reaches, either, eq-eqb, entry_count, entry_leaves, eqb, false, filter, first_at, from_reached, index_at, inl, inr, last_at, leaf, leaves_of, leb, length, linkable-type, link_to, lower, lower_nodes, nat_tests, ne_eqb, next_of, no_entry, no_node, node, nodes_of, offset_at, past_entries, record_number_limit, refl, subst, suc, sym, tiles, top_chain, true, true≢false, type_at, used_count, vxr_type, zero, ℕ, ◌++◌, ◌+◌, ◌-◌, ◌<◌, ◌∙◌, ◌∷◌, ◌≡◌, ◌≢◌, ◌≤◌}
+use Rattle.cdf_index.proofs.ByParts.{nodes_from}
 use Rattle.cdf_index.proofs.EntriesLeft.{EntriesLeft, NodeParts, node_parts, past_first, past_lower_one}
 use Rattle.cdf_index.proofs.FirstEntry.{block_no_node, node_linkable}
-use Rattle.cdf_index.proofs.FromReached.{Standing, from_rest, from_top, index_standing, link_there, rest_has, rest_index, starts_at}
-use Rattle.cdf_index.proofs.Leading.{begun_in, begun_past, counted_begun, reached_is}
+use Rattle.cdf_index.proofs.FromReached.{Standing, from_rest, from_top, index_standing, rest_has, rest_index, starts_at}
+use Rattle.cdf_index.proofs.Leading.{begun_in, counted_begun, reached_is}
 use Rattle.cdf_index.proofs.LeafRules.{widened}
 use Rattle.cdf_index.proofs.Looking.{none_there}
-use Rattle.cdf_index.proofs.OrderLemmas.{Within, entries_within as entries_in_range, leaves_within}
+use Rattle.cdf_index.proofs.OrderLemmas.{Within, entries_within as entries_in_range}
 use Rattle.cdf_index.proofs.WayDown.{chain_there, node_has, node_there_by}
 use Rattle.cdf_var_records.specs.Previous.{HasLevels, entries_of, last_begun, leaves_named, leaves_before, leaves_until}
 use Rattle.std.proofs.lemmas.List.Elements.{filter-append}
@@ -199,8 +199,8 @@ module _ {b : List ℕ} {levels at : ℕ} (h : HasLevels b levels at) where
         let is = counted_begun b at rec i n.es g n.parts.says.used_is n.parts.says.say_entries in
         rw (n.is, is) (all_begun rec 0 record_number_limit n.es n.order.0)
 
--- the entry before those that were searched, in which the leaf was not found, or in which it was
-pub node_step : (rec i : ℕ) (es : Entries) → 0 < i → last_begun rec (leaves_before i es) ≡ option_or (last_begun rec (leaves_named (i - 1) es)) (last_begun rec (leaves_before (i - 1) es))
+-- the entries up to one of them, by those before it
+node_step : (rec i : ℕ) (es : Entries) → 0 < i → last_begun rec (leaves_before i es) ≡ option_or (last_begun rec (leaves_named (i - 1) es)) (last_begun rec (leaves_before (i - 1) es))
 node_step rec i es lt =
     let z : suc (i - 1) ≡ i = omega arith in
     ap (λ (n : ℕ). last_begun rec (leaves_before n es)) (sym z) ∙ ap (last_begun rec) (leaves_next (i - 1) es) ∙ last_both rec (leaves_before (i - 1) es) (leaves_named (i - 1) es)
@@ -244,7 +244,7 @@ module _ {b : List ℕ} {levels link start : ℕ} (rec : ℕ) (h : HasLevels b l
   start_among ne = (starts_at h.index is).top ne
 
   -- the leaf is one of the node where the search starts, or one of a node before it
-  pub start_told : last_begun rec (leaves_of (index_at b link)) ≡ option_or (last_begun rec (entry_leaves (entries_of (index_at b start)))) (last_begun rec (leaves_until start (index_at b link)))
+  start_told : last_begun rec (leaves_of (index_at b link)) ≡ option_or (last_begun rec (entry_leaves (entries_of (index_at b start)))) (last_begun rec (leaves_until start (index_at b link)))
   start_told =
       let ns = index_at b link in
       let s = from_reached rec ns in
@@ -253,13 +253,33 @@ module _ {b : List ℕ} {levels link start : ℕ} (rec : ℕ) (h : HasLevels b l
 
 -- ---- what was found, or else
 
-pub found_else : {A B : Type 0} (f : A → B) (found : Option A) (p q : Option B) → option_map f found ≡ p → is_some found ≡ true → option_map f found ≡ option_or p q
-found_else f None p q e t = absurd (true≢false (sym t))
-found_else f (Some a) p q e t = ap (λ (o : Option _). option_or o q) e
+module _ {A : Type 0} (f : A → Leaf) where
+  found_else : (found : Option A) (p q : Option Leaf) → option_map f found ≡ p → is_some found ≡ true → option_map f found ≡ option_or p q
+  found_else None p q e t = absurd (true≢false (sym t))
+  found_else (Some a) p q e t = ap (λ (o : Option Leaf). option_or o q) e
 
-pub none_else : {A B : Type 0} (f : A → B) (found : Option A) (p q : Option B) → option_map f found ≡ p → is_some found ≡ false → option_or p q ≡ q
-none_else f None p q e t = ap (λ (o : Option _). option_or o q) (sym e)
-none_else f (Some a) p q e t = absurd (true≢false t)
+  none_else : (found : Option A) (p q : Option Leaf) → option_map f found ≡ p → is_some found ≡ false → option_or p q ≡ q
+  none_else None p q e t = ap (λ (o : Option Leaf). option_or o q) (sym e)
+  none_else (Some a) p q e t = absurd (true≢false t)
+
+  -- in an entry of a node, or in none of the entries from it on
+  module _ (rec i : ℕ) (es : Entries) (all : List Leaf) (found : Option A) (some : 0 < i) (rest : last_begun rec all ≡ last_begun rec (leaves_before i es)) (is : option_map f found ≡ last_begun rec (leaves_named (i - 1) es)) where
+    here : last_begun rec all ≡ option_or (last_begun rec (leaves_named (i - 1) es)) (last_begun rec (leaves_before (i - 1) es))
+    here = rest ∙ node_step rec i es some
+
+    pub found_here : is_some found ≡ true → option_map f found ≡ last_begun rec all
+    found_here t = found_else found (last_begun rec (leaves_named (i - 1) es)) (last_begun rec (leaves_before (i - 1) es)) is t ∙ sym here
+
+    pub not_here : is_some found ≡ false → last_begun rec all ≡ last_begun rec (leaves_before (i - 1) es)
+    not_here t = here ∙ none_else found (last_begun rec (leaves_named (i - 1) es)) (last_begun rec (leaves_before (i - 1) es)) is t
+
+  -- in the node where a search starts, or not
+  module _ {b : List ℕ} {levels link start : ℕ} (rec : ℕ) (h : HasLevels b levels link) (at : IsStart b link rec start) (found : Option A) (is : option_map f found ≡ last_begun rec (entry_leaves (entries_of (index_at b start)))) where
+    pub found_at_start : is_some found ≡ true → option_map f found ≡ last_begun rec (leaves_of (index_at b link))
+    found_at_start t = found_else found (last_begun rec (entry_leaves (entries_of (index_at b start)))) (last_begun rec (leaves_until start (index_at b link))) is t ∙ sym (start_told rec h at)
+
+    pub not_at_start : is_some found ≡ false → last_begun rec (leaves_of (index_at b link)) ≡ last_begun rec (leaves_until start (index_at b link))
+    not_at_start t = start_told rec h at ∙ none_else found (last_begun rec (entry_leaves (entries_of (index_at b start)))) (last_begun rec (leaves_until start (index_at b link))) is t
 
 map_or : {A B : Type 0} (f : A → B) (o p : Option A) → option_map f (option_or o p) ≡ option_or (option_map f o) (option_map f p)
 map_or f None p = refl

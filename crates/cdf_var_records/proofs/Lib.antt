@@ -3,6 +3,9 @@ pub mod LastBegun
 pub mod PadSites
 pub mod PutRoomCount
 pub mod NextItem
+pub mod LeafItems
+pub mod PreviousItem
+pub mod PreviousRecord
 pub mod NextRecord
 pub mod PutRoomNeeded
 pub mod RecordForms

@@ -19,13 +19,13 @@ module _ {A : Type 0} where
   abbrev pub Misses : ℕ → List (ℕ × A) → Type 0
   Misses k items = None ≡ item_at k items
 
-  not_missed : (n : ℕ) (a : A) (rest : List (ℕ × A)) → Misses n ((n, a) ∷ rest) → ⊥
+  pub not_missed : (n : ℕ) (a : A) (rest : List (ℕ × A)) → Misses n ((n, a) ∷ rest) → ⊥
   not_missed n a rest e = absurd (let q = e ∙ item_here n a rest in gone q)
     where
       gone : None ≡ Some a → ⊥
       gone q = cc
 
-  later : (k n : ℕ) (a : A) (rest : List (ℕ × A)) → n < k → Misses k ((n, a) ∷ rest) → Misses k rest
+  pub later : (k n : ℕ) (a : A) (rest : List (ℕ × A)) → n < k → Misses k ((n, a) ∷ rest) → Misses k rest
   later k n a rest lt e = e ∙ item_later k n a rest (λ q. absurd (omega arith))
 
   pub none_from : (from low : ℕ) (items : List (ℕ × A)) → Rising low items → ((k : ℕ) → from ≤ k → Misses k items) → from_number from items ≡ []

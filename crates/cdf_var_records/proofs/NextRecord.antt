@@ -1,17 +1,15 @@
 -- The record that is found next in an index.
-use Rattle.cdf_var_records.proofs.Common.{Ascending, Each, Good, HasIndex, IsVdr, Kind, List, Nodes, None, Option, Some, VariableShape, [], ap, arith, bound_is, either, extent, firsts_of, index_at, inl, inr, item_at, le-ltb, leaf_in, leaf_of, least_first_past, leaves_ascend, leaves_of, leb, lt-ltb, ltb, max_rec_at, min, nat_tests, next_first, next_past, none_begins, number, option_map, record_number_limit, record_of_leaf, refl, seen, shape, subst, suc, sym, unwrap_or, variable_at, variables, vdr_vxr_head, vdrs, ℕ, ◌+◌, ◌-◌, ◌<◌, ◌^◌, ◌∙◌, ◌∷◌, ◌≡◌, ◌≤◌}
+use Rattle.cdf_var_records.proofs.Common.{Ascending, Each, Good, HasIndex, IsVdr, Kind, List, Nodes, None, Option, Some, VariableShape, [], ap, arith, bound_is, either, extent, firsts_of, index_at, inl, inr, item_at, leaf_in, leaf_of, least_first_past, leaves_of, leb, ltb, max_rec_at, min, nat_tests, next_first, next_past, none_begins, number, record_number_limit, refl, seen, shape, subst, suc, sym, unwrap_or, variable_at, variables, vdr_vxr_head, vdrs, ℕ, ◌+◌, ◌-◌, ◌<◌, ◌^◌, ◌∙◌, ◌∷◌, ◌≡◌, ◌≤◌}
 use Rattle.cdf_edits.proofs.Common.{In, Leaf, cases_lt, filter, fold}
-use Rattle.cdf_edits.proofs.Edits.LeafRecords.{rising_records}
-use Rattle.cdf_edits.proofs.Edits.NumberedItems.{Rising}
 use Rattle.cdf_edits.proofs.Edits.VdrEdited.{in_middle}
 use Rattle.cdf_format.specs.Records.{vdr_max_rec}
 use Rattle.cdf_index.specs.declared.nodes.Leaf.{Leaf as ReadLeaf}
 use Rattle.cdf_model.specs.Spots.{from_number}
-use Rattle.cdf_var_records.proofs.NextItem.{Misses, next_from, none_from}
+use Rattle.cdf_var_records.proofs.LeafItems.{in_order, leaf_there, missed, recs_rise, rise, same_leaf}
+use Rattle.cdf_var_records.proofs.NextItem.{next_from, none_from}
 use Rattle.cdf_var_records.proofs.PadSites.{own}
 use Rattle.cdf_var_records.proofs.PutRoomCount.{IsBehind, leaves_behind}
 use Rattle.cdf_var_records.proofs.RecordForms.{among, has_index}
-use Rattle.cdf_var_records.proofs.RecordsRead.{by_leaf}
 use Rattle.cdf_puts.specs.Starts.{InTopChain, IsKnownStart}
 use Rattle.cdf_var_records.specs.Next.{HasLeaf, IsFirst, IsReader, NoneIn, leaves_at}
 use Rattle.cdf_var_records.specs.declared.next.Located.{Located}
@@ -28,15 +26,6 @@ gap at k next (x ∷ xs) none behind le lt = grind (arith, nat_tests, gap at k n
 beyond : (k low upto : ℕ) (xs : List Leaf) → Ascending low upto xs → upto ≤ k → leaf_of k xs ≡ None
 beyond k low upto [] a le = refl
 beyond k low upto (x ∷ xs) a le = grind (arith, nat_tests, beyond k (suc x.last) upto xs a.3, a.0, a.1, a.2)
-
-leaf_low : (k low upto : ℕ) (xs : List Leaf) (l : Leaf) → Ascending low upto xs → leaf_of k xs ≡ Some l → low ≤ l.first
-leaf_low k low upto [] l a e = absurd cc
-leaf_low k low upto (x ∷ xs) l a e = grind (arith, nat_tests, leaf_low k (suc x.last) upto xs l a.3, a.0, a.1, e)
-
--- a leaf that has a record has each other of its own
-pub same_leaf : (r k low upto : ℕ) (xs : List Leaf) (l : Leaf) → Ascending low upto xs → leaf_of r xs ≡ Some l → l.first ≤ k → k ≤ l.last → leaf_of k xs ≡ Some l
-same_leaf r k low upto [] l a e from up = absurd cc
-same_leaf r k low upto (x ∷ xs) l a e from up = grind (arith, nat_tests, same_leaf r k (suc x.last) upto xs l a.3, leaf_low r (suc x.last) upto xs l a.3, a.0, a.1, e)
 
 -- ---- the least First past a record
 
@@ -71,16 +60,13 @@ module _ {b : List ℕ} {head : ℕ} (has : HasIndex b head) where
   abbrev tree : Nodes
   tree = index_at b head
 
-  rise : Ascending 0 (suc record_number_limit) (leaves_of tree)
-  rise = leaves_ascend 0 record_number_limit tree has.order (omega arith)
-
   -- where there is no next First, no leaf has a record behind
   pub no_more : (from at end : ℕ) → NoneIn (leaves_of tree) from at → leaf_of at (leaves_of tree) ≡ None → None ≡ least_first_past at tree → NoneIn (leaves_of tree) from end
   no_more from at end so none is k low less = elim (cases_lt k at) [
     | inl lt ↦ so k low lt
     | inr le ↦ elim (cases_lt k (record_number_limit + 1)) [
       | inl small ↦ behind tree at None (record_number_limit + 1) is refl (omega arith) none k le small
-      | inr great ↦ beyond k 0 (suc record_number_limit) (leaves_of tree) rise (omega arith)
+      | inr great ↦ beyond k 0 (suc record_number_limit) (leaves_of tree) (rise has) (omega arith)
     ]
   ]
 
@@ -103,46 +89,27 @@ module _ {b : List ℕ} {kind : Kind} {vdr : ℕ} (good : Good b) (v : IsVdr b k
   abbrev leaves_there : List Leaf
   leaves_there = leaves_at b vdr
 
-  in_order : Ascending 0 (suc record_number_limit) leaves_there
-  in_order = rise (has_index good v)
-
-  pub recs_rise : Rising 0 recs
-  recs_rise = rising_records b vdr leaves_there in_order
-
   -- the VDR is one of the image
   pub vdr_there : In vdr (vdrs (variables (shape b)))
   vdr_there =
       let all = among good v in
       subst (λ (vs : List VariableShape). In vdr (vdrs vs)) (sym all.all) (in_middle all.front (own good v) all.rest)
 
-  -- the leaf of a record up to MaxRec
-  pub leaf_there : (k : ℕ) → k < most → leaf_in b vdr k ≡ leaf_of k leaves_there
-  leaf_there k lt = rw (lt-ltb k most lt) refl
-
   -- a leaf that is kept has each of its records
   pub kept_leaf : (leaf : ReadLeaf) → HasLeaf leaves_there leaf → (k : ℕ) → leaf.first ≤ k → k ≤ leaf.last → leaf_of k leaves_there ≡ Some (seen leaf)
-  kept_leaf leaf has k from up = same_leaf has.0 k 0 (suc record_number_limit) leaves_there (seen leaf) in_order has.1 from up
-
-  -- a record that no leaf has, or past MaxRec
-  missed : (k : ℕ) → (k < most → leaf_of k leaves_there ≡ None) → Misses k recs
-  missed k none =
-      let gone : None ≡ leaf_in b vdr k = elim (cases_lt k most) [
-        | inl lt ↦ sym (leaf_there k lt ∙ none lt)
-        | inr le ↦ rw (le-ltb k most le) refl
-      ] in
-      ap (option_map (record_of_leaf b vdr k)) gone ∙ sym (by_leaf good v k)
+  kept_leaf leaf has k from up = same_leaf has.0 k 0 (suc record_number_limit) leaves_there (seen leaf) (in_order good v) has.1 from up
 
   pub none_left : (from end : ℕ) → end ≡ most → NoneIn leaves_there from end → from_number from recs ≡ []
-  none_left from end is none = none_from from 0 recs recs_rise (λ k low. missed k (λ lt. none k low (omega arith)))
+  none_left from end is none = none_from from 0 recs (recs_rise good v) (λ k low. missed good v k (λ lt. none k low (omega arith)))
 
   pub comes_next : (from at : ℕ) (bytes : List ℕ) → from ≤ at → NoneIn leaves_there from at → Some bytes ≡ item_at at recs → from_number from recs ≡ (at, bytes) ∷ from_number (at + 1) recs
-  comes_next from at bytes le none is = next_from from at 0 bytes recs recs_rise is le (λ k low less. missed k (λ lt. none k low less))
+  comes_next from at bytes le none is = next_from from at 0 bytes recs (recs_rise good v) is le (λ k low less. missed good v k (λ lt. none k low less))
 
   -- a record that is stored is up to MaxRec
   pub up_to_max_rec : (k : ℕ) (bytes : List ℕ) → item_at k recs ≡ Some bytes → k < most
   up_to_max_rec k bytes is = elim (cases_lt k most) [
     | inl lt ↦ lt
-    | inr le ↦ absurd (gone (missed k (λ lt. absurd (omega arith)) ∙ is))
+    | inr le ↦ absurd (gone (missed good v k (λ lt. absurd (omega arith)) ∙ is))
   ]
     where
       gone : None ≡ Some bytes → ⊥

@@ -1,5 +1,5 @@
 -- What the VDR of a variable of a good image says of its records, and what its index is.
-use Rattle.cdf_var_records.proofs.Common.{AmongAll, Bool, DataSet, DataType, Form, Good, HasIndex, Hold-split, IsForm, IsGoodImage, IsPlace, IsVdr, Kind, List, NoRule, Nodes, Pad, PadPlace, Previous, R, Z, [], among_all, ap, ap₂, arith, asked, both, content, content_is, counted, counted4, cpr_link, cpr_rows, dimensions_at, dims_at, either, elems_at, false, few_dimensions, fits, gdr_offset, gdr_r_num_dims, good_by_its_shape, good_image, good_index, good_is_sound, has_bit, has_dimensions, has_pad, if◌then◌else◌, index_at, inl, inr, is_compressed, is_little, is_positive, is_z, le_of, length, length-map, list_all, ltb, majority_of, map, mul-le-mul_right, nat_le, negsuc, not, number, pad_field, pos, r_sizes, record_bytes, record_limit, record_size, refl, rules, shape, size_at, size_of, size_some, sound, sparse_at, subst, suc, sym, tile, tile_lies, true, type_of_variable, unread_sparse, value_bytes, variable_at, variable_of, variables, vary_field, varys_at, vdr_num_elems, vdr_r_dim_vary, vdr_r_pad_value, vdr_s_records, vdr_vxr_head, vdr_z_dim_vary, vdr_z_num_dims, vdr_z_pad_value, with_sign, word, words, ℕ, ℤ, ◌*◌, ◌+◌, ◌-◌, ◌==◌, ◌^◌, ◌||◌, ◌∙◌, ◌∷◌, ◌≡◌, ◌≤◌, ◌⊎◌}
+use Rattle.cdf_var_records.proofs.Common.{AmongAll, Bool, DataSet, DataType, Form, Good, HasIndex, IsForm, IsGoodImage, IsPlace, IsVdr, Kind, List, Nodes, PadPlace, R, Z, [], among_all, ap, ap₂, arith, both, content, content_is, counted, counted4, dimensions_at, dims_at, either, elems_at, false, few_dimensions, fits, gdr_offset, gdr_r_num_dims, good_by_its_shape, good_image, good_index, good_is_sound, has_bit, has_dimensions, has_pad, if◌then◌else◌, index_at, inl, inr, is_little, is_positive, is_z, le_of, length, length-map, list_all, ltb, majority_of, map, mul-le-mul_right, nat_le, negsuc, not, number, pad_field, pos, r_sizes, record_bytes, record_limit, record_size, refl, rules, shape, size_at, size_of, size_some, sound, subst, suc, sym, tile, tile_lies, true, type_of_variable, value_bytes, variable_at, variable_of, variables, vary_field, varys_at, vdr_num_elems, vdr_r_dim_vary, vdr_r_pad_value, vdr_vxr_head, vdr_z_dim_vary, vdr_z_num_dims, vdr_z_pad_value, with_sign, word, words, ℕ, ℤ, ◌*◌, ◌+◌, ◌-◌, ◌==◌, ◌^◌, ◌||◌, ◌∙◌, ◌∷◌, ◌≡◌, ◌≤◌, ◌⊎◌}
 use Rattle.cdf_var_records.proofs.PadSites.{at, at_is, dims_long, inside, own, positive, r_count, r_typed, ruled, small_signed, words_long, z_count, z_few, z_typed}
 
 -- ---- sizes as they are read
@@ -20,9 +20,6 @@ as_read (n ∷ ns) e =
 vary_ends : (p : Bool) (d n : ℕ) → (if p then vdr_z_dim_vary d 0 else vdr_r_dim_vary 0).place + 4 * d ≡ (if p then vdr_z_pad_value d n else vdr_r_pad_value d n).place
 vary_ends true d n = omega arith
 vary_ends false d n = omega arith
-
-no_rule : (n : ℕ) → (n == 0) ≡ true → (if n == 0 then NoRule else (if n == 1 then Pad else Previous)) ≡ NoRule
-no_rule n e = rw e refl
 
 module _ {b : List ℕ} {kind : Kind} {vdr : ℕ} (good : Good b) (v : IsVdr b kind vdr) where
   pub image : IsGoodImage b (shape b)
@@ -46,9 +43,6 @@ module _ {b : List ℕ} {kind : Kind} {vdr : ℕ} (good : Good b) (v : IsVdr b k
   variable_is = ap (λ (nodes : Nodes). variable_of b (record { vdr = vdr; index = nodes; cpr = [] })) index_is
 
   -- ---- its rules
-
-  pub without_rule : sparse_at b vdr ≡ NoRule
-  without_rule = no_rule (number b vdr vdr_s_records) (Hold-split (asked (is_compressed b vdr) (cpr_rows b (shape b).records (cpr_link b vdr))) (unread_sparse b vdr) (ruled good v).0.1.1.1.1.1.1.1.1.1.1.1).1.0
 
   pub small_record : record_bytes b vdr ≤ record_limit
   small_record = le_of (record_bytes b vdr) record_limit (ruled good v).0.1.1.1.1.1.1.0

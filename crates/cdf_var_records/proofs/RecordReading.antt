@@ -1,8 +1,12 @@
 -- What a record of a variable reads as, by what was read of its VDR.
-use Rattle.cdf_var_records.proofs.Common.{Bool, DataType, Form, Good, HasIndex, HoldsRecords, IsForm, IsRecordShape, Leaf, List, None, Shape, Some, Variable, ap, ap₂, arith, drop, elems_at, has_bit, has_pad, if◌then◌else◌, item_at, leaf_in, length, mul-div_cancel_left, mul-le-mul_right, number, number_read, option_map, pad_record, plain_bytes, read, record_bytes, record_in, record_limit, record_of_leaf, record_size, seen, size_of, subst, sym, take, true, turned, type_of_variable, value_bytes, value_count, variable_at, vdr_vxr_head, whole_elements, ℕ, ◌%◌, ◌*◌, ◌+◌, ◌-◌, ◌/◌, ◌∙◌, ◌≡◌, ◌≤◌}
+use Rattle.cdf_var_records.proofs.Common.{Bool, DataType, Form, Good, HasIndex, HoldsRecords, IsForm, IsRecordShape, Leaf, List, None, Option, Previous, Shape, Some, Variable, ap, ap₂, arith, drop, elems_at, extent, has_bit, has_pad, if◌then◌else◌, item_at, leaf_in, length, max_rec_at, missing, mul-div_cancel_left, mul-le-mul_right, number, number_read, option_map, pad_record, plain_bytes, read, record_bytes, record_in, record_limit, record_of_leaf, record_size, seen, size_of, subst, sym, take, true, turned, type_of_variable, unwrap_or, value_bytes, value_count, variable_at, vdr_vxr_head, whole_elements, ℕ, ◌%◌, ◌*◌, ◌+◌, ◌-◌, ◌/◌, ◌<◌, ◌∙◌, ◌≡◌, ◌≤◌}
 use Rattle.cdf_var_records.proofs.PadSites.{vdr_lies}
+use Rattle.cdf_var_records.proofs.PreviousRecord.{last_leaf, last_stored, none_stored}
 use Rattle.cdf_var_records.proofs.RecordForms.{has_index, pad_lies}
-use Rattle.cdf_var_records.proofs.RecordsRead.{by_leaf, holding, piece_long, read_is, stored_whole}
+use Rattle.cdf_var_records.proofs.LeafItems.{by_leaf}
+use Rattle.cdf_var_records.proofs.RecordsRead.{holding, piece_long, read_past, read_within, stored_whole}
+use Rattle.cdf_var_records.specs.Next.{leaves_at}
+use Rattle.cdf_var_records.specs.Previous.{last_begun}
 
 -- a record has no more values than bytes
 pub values_fit : (shape : Shape) → IsRecordShape shape → value_count shape.dims shape.varys ≤ record_limit
@@ -80,13 +84,29 @@ module _ {b : List ℕ} {form : Form} (good : Good b) (f : IsForm b form) where
         pub leaf_has : (now : List ℕ) → now ≡ turned form.place.t form.encoding.little bytes → Some now ≡ item_at rec variable.recs
         leaf_has now turns = ap Some turns ∙ (λ i. Some (turned (f.place.t_is i) (f.order i) (is_stored i))) ∙ ap (option_map (record_of_leaf b vdr rec)) found ∙ sym (by_leaf good f.is_vdr rec)
 
+  -- ---- a record that is missing, where the one stored before it is read
+
+  module _ (rec : ℕ) (lt : rec < extent (max_rec_at b vdr)) (gone : None ≡ item_at rec variable.recs) where
+    pub reads_none : (bytes : List ℕ) → last_begun rec (leaves_at b vdr) ≡ None → bytes ≡ pad_record variable → bytes ≡ missing Previous variable rec
+    reads_none bytes found pad = pad ∙ sym (ap (λ (o : Option (List ℕ)). unwrap_or o (pad_record variable)) (none_stored good f.is_vdr rec lt gone found))
+
+    module _ (leaf : Leaf) (found : last_begun rec (leaves_at b vdr) ≡ Some (seen leaf)) where
+      pub last_there : Some (seen leaf) ≡ leaf_in b vdr leaf.last
+      last_there = sym (last_leaf good f.is_vdr rec lt gone (seen leaf) found)
+
+      pub reads_last : (bytes : List ℕ) → Some bytes ≡ item_at leaf.last variable.recs → bytes ≡ missing Previous variable rec
+      reads_last bytes e = ap (λ (o : Option (List ℕ)). unwrap_or o (pad_record variable)) (e ∙ sym (last_stored good f.is_vdr rec lt gone (seen leaf) found))
+
   -- ---- a record as it reads
 
   number_is : (rec n : ℕ) → n ≡ (if has_bit form.place.flags 0 then rec else 0) → n ≡ number_read variable rec
   number_is rec n is = is ∙ ap (λ (flags : ℕ). if has_bit flags 0 then rec else 0) f.place.flags_are
 
-  pub reads_stored : (rec n : ℕ) (bytes : List ℕ) → n ≡ (if has_bit form.place.flags 0 then rec else 0) → Some bytes ≡ item_at n variable.recs → bytes ≡ read variable rec
-  reads_stored rec n bytes is e = sym (read_is good f.is_vdr rec n (Some bytes) (number_is rec n is) (sym e))
+  pub reads_past : (rec n : ℕ) (bytes : List ℕ) → n ≡ (if has_bit form.place.flags 0 then rec else 0) → extent (max_rec_at b vdr) ≤ n → bytes ≡ pad_record variable → bytes ≡ read variable rec
+  reads_past rec n bytes is le pad = pad ∙ sym (read_past good f.is_vdr rec n (number_is rec n is) le)
 
-  pub reads_pad : (rec n : ℕ) (bytes : List ℕ) → n ≡ (if has_bit form.place.flags 0 then rec else 0) → None ≡ item_at n variable.recs → bytes ≡ pad_record variable → bytes ≡ read variable rec
-  reads_pad rec n bytes is e pad = pad ∙ sym (read_is good f.is_vdr rec n None (number_is rec n is) (sym e))
+  pub reads_stored : (rec n : ℕ) (bytes : List ℕ) → n ≡ (if has_bit form.place.flags 0 then rec else 0) → n < extent (max_rec_at b vdr) → Some bytes ≡ item_at n variable.recs → bytes ≡ read variable rec
+  reads_stored rec n bytes is lt e = ap (λ (o : Option (List ℕ)). unwrap_or o (missing variable.sparse variable n)) e ∙ sym (read_within good f.is_vdr rec n (number_is rec n is) lt)
+
+  pub reads_missing : (rec n : ℕ) (bytes : List ℕ) → n ≡ (if has_bit form.place.flags 0 then rec else 0) → n < extent (max_rec_at b vdr) → None ≡ item_at n variable.recs → bytes ≡ missing variable.sparse variable n → bytes ≡ read variable rec
+  reads_missing rec n bytes is lt e read = read ∙ ap (λ (o : Option (List ℕ)). unwrap_or o (missing variable.sparse variable n)) e ∙ sym (read_within good f.is_vdr rec n (number_is rec n is) lt)

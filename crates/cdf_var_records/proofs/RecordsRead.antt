@@ -1,17 +1,16 @@
 -- What a record of a variable of a good image reads as, and how long it is.
-use Rattle.cdf_var_records.proofs.Common.{Bool, DataType, Good, HoldsRecords, IsVdr, Kind, Leaf, List, NoRule, Nodes, None, Option, Some, Sparse, Variable, ap, arith, default_element, default_value, dimensions_at, dims_at, drop, either, elems_at, extent, false, field_bytes, good_block, good_is_sound, has_pad, if◌then◌else◌, index_at, inl, inr, is_little, is_z, item_at, leaf_in, leaf_of, leaves_of, length, length-drop, length-repeat, length-take, max_rec_at, missing, mul-le-mul_right, nat_lt, network_bytes, number, number_read, option_map, pad_field, pad_record, pad_value, pad_width, plain_block, plain_bytes, read, read_at, record_bytes, record_in, record_is, record_of_leaf, refl, seen, shape, size_of, size_stays, stored_record, sym, take, true, type_of_variable, unwrap_or, value_bytes, value_count, variable_at, varys_at, vdr_vxr_head, whole_elements, ℕ, ◌%◌, ◌*◌, ◌+◌, ◌-◌, ◌∙◌, ◌≡◌, ◌≤◌}
-use Rattle.cdf_var_records.proofs.RecordForms.{among, image, index_is, pad_lies, variable_is, without_rule}
+use Rattle.cdf_var_records.proofs.Common.{Bool, DataType, Good, HoldsRecords, IsVdr, Kind, Leaf, List, NoRule, None, Option, Pad, Previous, Some, Sparse, Variable, ap, arith, default_element, default_value, dimensions_at, dims_at, drop, elems_at, extent, false, field_bytes, good_block, good_is_sound, has_pad, if◌then◌else◌, index_at, inl, inr, is_little, is_z, item_at, le-ltb, lt-ltb, leaf_in, leaf_of, leaves_of, length, length-drop, length-repeat, length-take, max_rec_at, missing, mul-le-mul_right, nat_lt, network_bytes, number, number_read, option_map, pad_field, pad_record, pad_value, pad_width, plain_block, plain_bytes, read, read_at, record_bytes, record_in, record_is, record_of_leaf, refl, seen, shape, size_of, size_stays, sym, take, true, type_of_variable, unwrap_or, value_bytes, value_count, variable_at, varys_at, vdr_vxr_head, whole_elements, ℕ, ◌%◌, ◌*◌, ◌+◌, ◌-◌, ◌<◌, ◌∙◌, ◌≡◌, ◌≤◌}
+use Rattle.cdf_var_records.proofs.LeafItems.{by_leaf, in_index}
+use Rattle.cdf_var_records.proofs.PreviousRecord.{last_stored, none_stored}
+use Rattle.cdf_var_records.proofs.RecordForms.{among, image, pad_lies}
 use Rattle.cdf_var_records.proofs.PadSites.{own}
+use Rattle.cdf_edits.proofs.Common.{cases_lt}
 use Rattle.cdf_format.specs.Index.{Leaf as TreeLeaf}
+use Rattle.cdf_model.specs.Numbered.{item_before}
+use Rattle.cdf_var_records.specs.Next.{leaves_at}
+use Rattle.cdf_var_records.specs.Previous.{last_begun}
 
 -- ---- any variable
-
--- without a rule on sparse records, a record is the one that is stored, or else the pad value throughout
-plain_read : (v : Variable) (r : ℕ) → v.sparse ≡ NoRule → (nat_lt r (extent v.max_rec) ≡ false → item_at r v.recs ≡ None) → read_at v r ≡ unwrap_or (item_at r v.recs) (pad_record v)
-plain_read v r none past = elim (either (nat_lt r (extent v.max_rec))) [
-  | inl t ↦ rw t (ap (λ (rule : Sparse). unwrap_or (item_at r v.recs) (missing rule v r)) none)
-  | inr t ↦ rw (t, past t) refl
-]
 
 element_long : (t : DataType) → length (default_element t) ≡ size_of t
 element_long t = grind arith
@@ -24,10 +23,6 @@ pad_by p bytes other e = rw e refl
 
 pub pad_none : (p : Bool) (bytes other : List ℕ) → p ≡ false → unwrap_or (if p then Some bytes else None) other ≡ other
 pad_none p bytes other e = rw e refl
-
-map_if : {A B : Type 0} (p : Bool) (f : A → B) (o : Option A) → (if p then option_map f o else None) ≡ option_map f (if p then o else None)
-map_if true f o = refl
-map_if false f o = refl
 
 some_if : {A : Type 0} (p : Bool) (o : Option A) (a : A) → (if p then o else None) ≡ Some a → o ≡ Some a
 some_if true o a e = e
@@ -42,24 +37,12 @@ module _ {b : List ℕ} {kind : Kind} {vdr : ℕ} (good : Good b) (v : IsVdr b k
   abbrev variable : Variable
   variable = variable_at b vdr
 
-  in_index : (rec : ℕ) → leaf_of rec (leaves_of (own good v).index) ≡ leaf_of rec (leaves_of (index_at b (number b vdr vdr_vxr_head)))
-  in_index rec = ap (λ (nodes : Nodes). leaf_of rec (leaves_of nodes)) (sym (index_is good v))
-
-  -- a record that is stored is one of those of its leaf
-  pub by_leaf : (rec : ℕ) → item_at rec variable.recs ≡ option_map (record_of_leaf b vdr rec) (leaf_in b vdr rec)
-  by_leaf rec =
-      let g = among good v in
-      ap (λ (w : Variable). item_at rec w.recs) (variable_is good v)
-      ∙ stored_record b (shape b) g.front (own good v) g.rest (image good v) (good_is_sound b good) g.all rec
-      ∙ ap (λ (l : Option TreeLeaf). if nat_lt rec (extent (max_rec_at b vdr)) then option_map (record_of_leaf b vdr rec) l else None) (in_index rec)
-      ∙ map_if (nat_lt rec (extent (max_rec_at b vdr))) (record_of_leaf b vdr rec) (leaf_of rec (leaves_of (index_at b (number b vdr vdr_vxr_head))))
-
   module _ (rec : ℕ) (leaf : Leaf) (found : leaf_in b vdr rec ≡ Some (seen leaf)) where
     pub holding : HoldsRecords b leaf (record_bytes b vdr) × (leaf.first ≤ rec) × (rec ≤ leaf.last)
     holding =
         let g = among good v in
         let sound = good_is_sound b good in
-        let here = in_index rec ∙ some_if (nat_lt rec (extent (max_rec_at b vdr))) (leaf_of rec (leaves_of (index_at b (number b vdr vdr_vxr_head)))) (seen leaf) found in
+        let here = in_index good v rec ∙ some_if (nat_lt rec (extent (max_rec_at b vdr))) (leaf_of rec (leaves_of (index_at b (number b vdr vdr_vxr_head)))) (seen leaf) found in
         let plain = plain_block b (shape b) g.front (own good v) g.rest (image good v) sound g.all rec (seen leaf) here in
         good_block b (shape b) g.front (own good v) g.rest (image good v) sound g.all rec leaf here plain
 
@@ -86,11 +69,11 @@ module _ {b : List ℕ} {kind : Kind} {vdr : ℕ} (good : Good b) (v : IsVdr b k
 
   -- ---- a record as it reads
 
-  reads_as : (rec : ℕ) → read_at variable rec ≡ unwrap_or (item_at rec variable.recs) (pad_record variable)
-  reads_as rec = plain_read variable rec (without_rule good v) (λ past. by_leaf rec ∙ ap (λ (p : Bool). option_map (record_of_leaf b vdr rec) (if p then leaf_of rec (leaves_of (index_at b (number b vdr vdr_vxr_head))) else None)) past)
+  pub read_past : (rec n : ℕ) → n ≡ number_read variable rec → extent (max_rec_at b vdr) ≤ n → read variable rec ≡ pad_record variable
+  read_past rec n is le = ap (read_at variable) (sym is) ∙ rw (le-ltb n (extent (max_rec_at b vdr)) le) refl
 
-  pub read_is : (rec n : ℕ) (o : Option (List ℕ)) → n ≡ number_read variable rec → item_at n variable.recs ≡ o → read variable rec ≡ unwrap_or o (pad_record variable)
-  read_is rec n o is e = ap (read_at variable) (sym is) ∙ reads_as n ∙ ap (λ (x : Option (List ℕ)). unwrap_or x (pad_record variable)) e
+  pub read_within : (rec n : ℕ) → n ≡ number_read variable rec → n < extent (max_rec_at b vdr) → read variable rec ≡ unwrap_or (item_at n variable.recs) (missing variable.sparse variable n)
+  read_within rec n is lt = ap (read_at variable) (sym is) ∙ rw (lt-ltb n (extent (max_rec_at b vdr)) lt) refl
 
   -- ---- how long it is
 
@@ -122,7 +105,26 @@ module _ {b : List ℕ} {kind : Kind} {vdr : ℕ} (good : Good b) (v : IsVdr b k
       size_stays (type_of_variable b vdr) (is_little b) (stored rec leaf e) (stored_whole rec leaf e) ∙ stored_long rec leaf e
 
   pub item_long : (rec : ℕ) → length (unwrap_or (item_at rec variable.recs) (pad_record variable)) ≡ record_bytes b vdr
-  item_long rec = ap (λ (o : Option (List ℕ)). length (unwrap_or o (pad_record variable))) (by_leaf rec) ∙ leaf_long rec (leaf_in b vdr rec) refl
+  item_long rec = ap (λ (o : Option (List ℕ)). length (unwrap_or o (pad_record variable))) (by_leaf good v rec) ∙ leaf_long rec (leaf_in b vdr rec) refl
+
+  missing_long : (rule : Sparse) (n : ℕ) → n < extent (max_rec_at b vdr) → None ≡ item_at n variable.recs → length (missing rule variable n) ≡ record_bytes b vdr
+  missing_long NoRule n lt gone = pad_long
+  missing_long Pad n lt gone = pad_long
+  missing_long Previous n lt gone = by (last_begun n (leaves_at b vdr)) refl
+    where
+      by : (found : Option TreeLeaf) → last_begun n (leaves_at b vdr) ≡ found → length (unwrap_or (item_before n variable.recs) (pad_record variable)) ≡ record_bytes b vdr
+      by None is = ap (λ (o : Option (List ℕ)). length (unwrap_or o (pad_record variable))) (none_stored good v n lt gone is) ∙ pad_long
+      by (Some l) is = ap (λ (o : Option (List ℕ)). length (unwrap_or o (pad_record variable))) (last_stored good v n lt gone l is) ∙ item_long l.last
 
   pub read_long : (rec : ℕ) → length (read variable rec) ≡ record_bytes b vdr
-  read_long rec = ap length (read_is rec (number_read variable rec) (item_at (number_read variable rec) variable.recs) refl refl) ∙ item_long (number_read variable rec)
+  read_long rec = elim (cases_lt (number_read variable rec) (extent (max_rec_at b vdr))) [
+    | inl lt ↦ ap length (read_within rec (number_read variable rec) refl lt) ∙ by lt (item_at (number_read variable rec) variable.recs) refl
+    | inr le ↦ ap length (read_past rec (number_read variable rec) refl le) ∙ pad_long
+  ]
+    where
+      n : ℕ
+      n = number_read variable rec
+
+      by : n < extent (max_rec_at b vdr) → (o : Option (List ℕ)) → item_at n variable.recs ≡ o → length (unwrap_or (item_at n variable.recs) (missing variable.sparse variable n)) ≡ record_bytes b vdr
+      by lt None e = ap (λ (o : Option (List ℕ)). length (unwrap_or o (missing variable.sparse variable n))) e ∙ missing_long variable.sparse n lt (sym e)
+      by lt (Some bytes) e = ap (λ (o : Option (List ℕ)). length (unwrap_or o (missing variable.sparse variable n))) e ∙ sym (ap (λ (o : Option (List ℕ)). length (unwrap_or o (pad_record variable))) e) ∙ item_long n

@@ -1,23 +1,38 @@
-//! The last leaf of an index that begins at a record or before it.
+//! What a missing record reads as. Under one rule it is the record stored before it, which is found by the last leaf of the index that begins before it.
 
-ghost use Rattle.std.specs.Prelude.{◌≡◌, ◌≢◌, ◌≤◌, ◌<◌, length, IfOk};
+ghost use Rattle.std.specs.Prelude.{◌≡◌, ◌≢◌, ◌≤◌, ◌<◌, ◌+◌, length, None, IfOk};
 ghost use Rattle.std.specs.Option.{option_map};
 ghost use Rattle.cdf_area.specs.Calls.{Reads};
 ghost use Rattle.cdf_edits.specs.Index.Written.{top_chain};
+ghost use Rattle.cdf_format.specs.Fields.{number};
 ghost use Rattle.cdf_format.specs.Index.{entry_leaves, first_at, leaves_of, used_count};
+ghost use Rattle.cdf_format.specs.Records.{past, vdr_name, vdr_vxr_head};
 ghost use Rattle.cdf_format.specs.Tiles.{In};
+ghost use Rattle.cdf_format.specs.VariableFields.{max_rec_at};
+ghost use Rattle.cdf_format.specs.WellFormed.{Good};
 ghost use Rattle.cdf_index.specs.Ahead.{Begun};
 ghost use Rattle.cdf_index.specs.Finding.{HasIndex, SomeNode, index_at};
 ghost use Rattle.cdf_index.specs.Sight.{IsHead, seen};
+ghost use Rattle.cdf_model.specs.DataSet.{extent};
 ghost use Rattle.cdf_model.specs.Limits.{image_limit};
-ghost use Rattle.cdf_puts.specs.Starts.{InTopChain};
+ghost use Rattle.cdf_model.specs.Numbered.{item_at};
+ghost use Rattle.cdf_model.specs.Reading.{missing};
+ghost use Rattle.cdf_model.specs.declared.kinds.Sparse.TheVariants as sparse;
+ghost use Rattle.cdf_puts.specs.Starts.{InTopChain, IsKnownStart};
+ghost use Rattle.cdf_var_records.specs.Next.{leaves_at};
 ghost use Rattle.cdf_var_records.specs.Previous.{HasLevels, entries_of, last_begun, leaves_named, leaves_until};
+ghost use Rattle.cdf_var_records.specs.Records.{IsForm, variable_at};
 
+use crate::form::Form;
+use crate::record::{read_in_leaf, read_pad_record};
+use crate::variable::read_sparse;
 use cdf_area::{Area, AreaError};
-use cdf_format::fields::{CVVR_TYPE, VXR_FIRST, VXR_TYPE};
+use cdf_format::fields::{CVVR_TYPE, VDR_VXR_HEAD, VXR_FIRST, VXR_TYPE};
 use cdf_index::{Head, Leaf, read_entry, read_head, read_named, start_of};
+use cdf_model::Sparse;
 use cdf_model::limits::LEVEL_LIMIT;
-use cdf_records::read_unsigned4;
+use cdf_records::{read_unsigned4, read_unsigned8};
+use std::alloc::Global;
 
 /// How many of the first entries of a node begin at a record or before it. They are in order, so the last one is looked at first, and then one in the middle of those that are left.
 #[tactic(auto, using(cdf_index::proofs::Looking::node_inside))]
@@ -167,4 +182,74 @@ pub fn last_before<A: Area>(
     ensures area { Reads A.image A.frame A.faults A.edited area.old area.new result }
 {
     last_in_chain(area, head, known, LEVEL_LIMIT, rec)
+}
+
+/// The last leaf that begins at a record or before it, of the variable whose descriptor stands at a place. Of the top chain of its index a node may be known.
+fn find_previous<A: Area>(
+    area: &mut A,
+    vdr: u64,
+    known: Option<u64>,
+    rec: u32,
+) -> Result<Option<Leaf>, AreaError>
+    requires lies { vdr + past vdr_name ≤ length (A.image area.old) }
+    requires index { HasIndex (A.image area.old) (number (A.image area.old) vdr vdr_vxr_head) }
+    requires known { IsKnownStart (A.image area.old) vdr known }
+    requires short { length (A.image area.old) ≤ image_limit }
+    ensures leaf { IfOk result (λ found. option_map seen found ≡ last_begun rec (leaves_at (A.image area.old) vdr)) }
+    ensures area { Reads A.image A.frame A.faults A.edited area.old area.new result }
+{
+    // An image has fewer than 2^64 bytes, so no place in it overflows.
+    let _size = area.size();
+    let head = read_unsigned8(area, vdr + VDR_VXR_HEAD)?;
+    last_before(area, head, known, rec)
+}
+
+/// The record that is stored last before a missing one, in network order; the pad value throughout where there is none.
+#[tactic(auto, using(cdf_area::proofs::Calls::read_done, cdf_area::proofs::Calls::read_failed, cdf_area::proofs::Calls::read_more, cdf_area::proofs::Calls::read_once))]
+fn read_previous<A: Area>(
+    alloc: Global,
+    area: &mut A,
+    form: &Form,
+    known: Option<u64>,
+    rec: u32,
+) -> Result<Vec<u8>, AreaError>
+    requires good { Good (A.image area.old) }
+    requires short { length (A.image area.old) ≤ image_limit }
+    requires form { IsForm (A.image area.old) form.now }
+    requires known { IsKnownStart (A.image area.old) form.now.place.vdr known }
+    requires within { rec < extent (max_rec_at (A.image area.old) form.now.place.vdr) }
+    requires gone { None ≡ item_at rec (variable_at (A.image area.old) form.now.place.vdr).recs }
+    ensures record { IfOk result (λ bytes. bytes.items ≡ missing sparse.Previous (variable_at (A.image area.old) form.now.place.vdr) rec) }
+    ensures area { Reads A.image A.frame A.faults A.edited area.old area.new result }
+{
+    let found = find_previous(area, form.place.vdr, known, rec)?;
+    match found {
+        Some(leaf) => read_in_leaf(alloc, area, form, &leaf, leaf.last),
+        None => read_pad_record(alloc, area, form),
+    }
+}
+
+/// What a missing record up to MaxRec reads as, in network order, by the rule of its variable. Of the top chain of the index a node may be known.
+#[tactic(auto, using(cdf_area::proofs::Calls::read_done, cdf_area::proofs::Calls::read_failed, cdf_area::proofs::Calls::read_more, cdf_area::proofs::Calls::read_once))]
+pub fn read_missing<A: Area>(
+    alloc: Global,
+    area: &mut A,
+    form: &Form,
+    known: Option<u64>,
+    rec: u32,
+) -> Result<Vec<u8>, AreaError>
+    requires good { Good (A.image area.old) }
+    requires short { length (A.image area.old) ≤ image_limit }
+    requires form { IsForm (A.image area.old) form.now }
+    requires known { IsKnownStart (A.image area.old) form.now.place.vdr known }
+    requires within { rec < extent (max_rec_at (A.image area.old) form.now.place.vdr) }
+    requires gone { None ≡ item_at rec (variable_at (A.image area.old) form.now.place.vdr).recs }
+    ensures record { IfOk result (λ bytes. bytes.items ≡ missing (variable_at (A.image area.old) form.now.place.vdr).sparse (variable_at (A.image area.old) form.now.place.vdr) rec) }
+    ensures area { Reads A.image A.frame A.faults A.edited area.old area.new result }
+{
+    let rule = read_sparse(area, form.place.vdr)?;
+    match rule {
+        Sparse::Previous => read_previous(alloc, area, form, known, rec),
+        Sparse::NoRule | Sparse::Pad => read_pad_record(alloc, area, form),
+    }
 }

@@ -1,15 +1,18 @@
 //! What a record of a variable reads as.
 
-ghost use Rattle.std.specs.Prelude.{◌≡◌, ◌+◌, ◌*◌, ◌%◌, ◌<◌, ◌≤◌, ℕ, List, length, if◌then◌else◌, IfOk};
+ghost use Rattle.std.specs.Prelude.{◌≡◌, ◌+◌, ◌*◌, ◌%◌, ◌<◌, ◌≤◌, ℕ, List, length, if◌then◌else◌, IfOk, Some};
 ghost use Rattle.std.specs.List.{repeat};
 ghost use Rattle.std.specs.Option.{option_map};
 ghost use Rattle.cdf_area.specs.Calls.{Reads};
 ghost use Rattle.cdf_format.specs.Fields.{has_bit, number};
 ghost use Rattle.cdf_format.specs.Records.{vdr_pad_bit, vdr_variance_bit, vdr_vxr_head, past, vdr_name};
+ghost use Rattle.cdf_format.specs.VariableFields.{max_rec_at};
 ghost use Rattle.cdf_format.specs.WellFormed.{Good};
 ghost use Rattle.cdf_index.specs.Finding.{HasIndex};
+ghost use Rattle.cdf_index.specs.Order.{leaf_of};
 ghost use Rattle.cdf_index.specs.Sight.{seen};
 ghost use Rattle.cdf_model.specs.ByteOrder.{turned};
+ghost use Rattle.cdf_model.specs.DataSet.{extent};
 ghost use Rattle.cdf_model.specs.Limits.{image_limit};
 ghost use Rattle.cdf_model.specs.Numbered.{item_at};
 ghost use Rattle.cdf_model.specs.Pads.{default_value};
@@ -18,10 +21,12 @@ ghost use Rattle.cdf_model.specs.Reading.{pad_record, pad_value, read};
 ghost use Rattle.cdf_model.specs.RecordSteps.{cannot_be_put};
 ghost use Rattle.cdf_model.specs.Types.{size_of};
 ghost use Rattle.cdf_puts.specs.Starts.{IsKnownStart};
+ghost use Rattle.cdf_var_records.specs.Next.{leaves_at};
 ghost use Rattle.cdf_var_records.specs.Records.{IsForm, IsRecordShape, leaf_in, variable_at};
 
 use crate::extent::read_extent;
 use crate::form::Form;
+use crate::previous::read_missing;
 use cdf_area::{Area, AreaError};
 use cdf_format::fields::{VDR_PAD_BIT, VDR_VARIANCE_BIT, VDR_VXR_HEAD};
 use cdf_format::flags::has_bit;
@@ -176,7 +181,28 @@ pub fn read_pad_record<A: Area>(
     Ok(bytes)
 }
 
-/// The leaf that has a record of the variable whose descriptor stands at a place; none past MaxRec. Of the top chain of its index a node may be known.
+/// A record, in network order, out of the leaf that has it.
+#[tactic(auto, using(cdf_area::proofs::Calls::read_done, cdf_area::proofs::Calls::read_failed, cdf_area::proofs::Calls::read_more, cdf_area::proofs::Calls::read_once))]
+pub fn read_in_leaf<A: Area>(
+    alloc: Global,
+    area: &mut A,
+    form: &Form,
+    leaf: &Leaf,
+    rec: u32,
+) -> Result<Vec<u8>, AreaError>
+    requires good { Good (A.image area.old) }
+    requires short { length (A.image area.old) ≤ image_limit }
+    requires form { IsForm (A.image area.old) form.now }
+    requires leaf { Some (seen leaf.now) ≡ leaf_in (A.image area.old) form.now.place.vdr rec }
+    ensures record { IfOk result (λ bytes. Some bytes.items ≡ item_at rec (variable_at (A.image area.old) form.now.place.vdr).recs) }
+    ensures area { Reads A.image A.frame A.faults A.edited area.old area.new result }
+{
+    let size = record_size_of(&form.shape);
+    let raw = read_rec(alloc, area, leaf, size, rec)?;
+    Ok(in_network_order(form.place.t, form.encoding, raw))
+}
+
+/// The leaf that has a record, up to MaxRec, of the variable whose descriptor stands at a place. Of the top chain of its index a node may be known.
 fn find_stored<A: Area>(
     area: &mut A,
     vdr: u64,
@@ -187,20 +213,16 @@ fn find_stored<A: Area>(
     requires index { HasIndex (A.image area.old) (number (A.image area.old) vdr vdr_vxr_head) }
     requires known { IsKnownStart (A.image area.old) vdr known }
     requires short { length (A.image area.old) ≤ image_limit }
-    ensures leaf { IfOk result (λ found. option_map seen found ≡ leaf_in (A.image area.old) vdr rec) }
+    ensures leaf { IfOk result (λ found. option_map seen found ≡ leaf_of rec (leaves_at (A.image area.old) vdr)) }
     ensures area { Reads A.image A.frame A.faults A.edited area.old area.new result }
 {
     // An image has fewer than 2^64 bytes, so no place in it overflows.
     let _size = area.size();
-    let extent = read_extent(area, vdr)?;
-    if rec >= extent {
-        return Ok(None);
-    }
     let head = read_unsigned8(area, vdr + VDR_VXR_HEAD)?;
     find_leaf(area, head, known, rec)
 }
 
-/// A record that is stored, in network order; none past MaxRec, and where no block has it.
+/// A record up to MaxRec that is stored, in network order; none where no block has it.
 #[tactic(auto, using(cdf_area::proofs::Calls::read_done, cdf_area::proofs::Calls::read_failed, cdf_area::proofs::Calls::read_more, cdf_area::proofs::Calls::read_once))]
 fn read_stored<A: Area>(
     alloc: Global,
@@ -213,6 +235,7 @@ fn read_stored<A: Area>(
     requires short { length (A.image area.old) ≤ image_limit }
     requires form { IsForm (A.image area.old) form.now }
     requires known { IsKnownStart (A.image area.old) form.now.place.vdr known }
+    requires within { rec < extent (max_rec_at (A.image area.old) form.now.place.vdr) }
     ensures record { IfOk result (λ found. option_map (λ bytes. bytes.items) found ≡ item_at rec (variable_at (A.image area.old) form.now.place.vdr).recs) }
     ensures area { Reads A.image A.frame A.faults A.edited area.old area.new result }
 {
@@ -220,12 +243,12 @@ fn read_stored<A: Area>(
     let Some(leaf) = found else {
         return Ok(None);
     };
-    let size = record_size_of(&form.shape);
-    let bytes = read_rec(alloc, area, &leaf, size, rec)?;
-    Ok(Some(in_network_order(form.place.t, form.encoding, bytes)))
+    let bytes = read_in_leaf(alloc, area, form, &leaf, rec)?;
+    Ok(Some(bytes))
 }
 
-/// What a record reads as, in network order: the one that is stored, or else the pad value throughout. Of the top chain of the index a node may be known.
+/// What a record reads as, in network order: the one that is stored, or else what the variable's rule for missing records says. Past MaxRec it is
+/// the pad value throughout. Of the top chain of the index a node may be known.
 #[tactic(auto, using(cdf_area::proofs::Calls::read_done, cdf_area::proofs::Calls::read_failed, cdf_area::proofs::Calls::read_more, cdf_area::proofs::Calls::read_once))]
 pub fn read_record<A: Area>(
     alloc: Global,
@@ -242,9 +265,13 @@ pub fn read_record<A: Area>(
     ensures area { Reads A.image A.frame A.faults A.edited area.old area.new result }
 {
     let number = number_of(form.place.flags, rec);
+    let extent = read_extent(area, form.place.vdr)?;
+    if number >= extent {
+        return read_pad_record(alloc, area, form);
+    }
     let stored = read_stored(alloc, area, form, known, number)?;
     match stored {
         Some(bytes) => Ok(bytes),
-        None => read_pad_record(alloc, area, form),
+        None => read_missing(alloc, area, form, known, number),
     }
 }

@@ -39,7 +39,7 @@ fn sparse_of(code: u32) -> Sparse
 }
 
 /// How a record is read that the variable lacks whose descriptor stands at a place.
-fn read_sparse<A: Area>(area: &mut A, vdr: u64) -> Result<Sparse, AreaError>
+pub fn read_sparse<A: Area>(area: &mut A, vdr: u64) -> Result<Sparse, AreaError>
     requires { LiesIn (A.image area.old) vdr vdr_name }
     ensures sparse { IfOk result (λ rule. rule ≡ sparse_at (A.image area.old) vdr) }
     ensures area { Reads A.image A.frame A.faults A.edited area.old area.new result }

@@ -1,8 +1,8 @@
-use Rattle.cdf_index.proofs.Common.{List, arith, entry_leaves, index_at, last_at, leaves_of, offset_at, read_more, read_once, refl, seen, subst, sym, type_at, ℕ, ◌-◌, ◌∙◌, ◌≡◌}
+use Rattle.cdf_index.proofs.Common.{arith, entry_leaves, index_at, read_more, read_once, seen, sym, ◌∙◌}
 use Rattle.cdf_index.proofs.FromReached.{index_node}
 use Rattle.cdf_index.proofs.Looking.{node_inside}
-use Rattle.cdf_var_records.proofs.LastBegun.{Told, a_level, begun_told, entry_told, found_else, found_so_far, next_node, no_index, node_step, none_else, none_to_search, one_begun, some_node, start_among, start_index, start_told, until_end}
-use Rattle.cdf_var_records.specs.Previous.{HasLevels, entries_of, last_begun, leaves_named, leaves_before, leaves_until}
+use Rattle.cdf_var_records.proofs.LastBegun.{a_level, begun_told, entry_told, found_at_start, found_here, found_so_far, next_node, none_to_search, not_at_start, not_here, one_begun, some_node, start_among, start_index}
+use Rattle.cdf_var_records.specs.Previous.{entries_of, leaves_until}
 use Rattle.cdf_var_records.proofs.previous.+last_leaf.Goals as goal
 
 -- ---- of an entry
@@ -57,24 +57,18 @@ last_in_node-loop-i-init g t c =
 
 pub last_in_node-returns-then-is_some-clause-leaf : goal.last_in_node-returns-then-is_some-clause-leaf
 last_in_node-returns-then-is_some-clause-leaf g t c =
-    let b = g.A.Area.image c.args.area.now in
     let i = c.loop-i.invariant in
-    let k = c.loop-i.i in
-    let es = entries_of (index_at b c.args.at) in
-    let found = rw i.area.image at c.in_ok-found.ensures.leaf in
-    found_else seen c.in_ok-found.found (last_begun c.args.rec (leaves_named (k - 1) es)) (last_begun c.args.rec (leaves_before (k - 1) es)) found (sym c.is_some.ensures ∙ c.if-is_some.true) ∙ sym (i.rest ∙ node_step c.args.rec k es c.loop-i-test.true)
+    let es = entries_of (index_at (g.A.Area.image c.args.area.now) c.args.at) in
+    found_here seen c.args.rec c.loop-i.i es (entry_leaves es) c.in_ok-found.found c.loop-i-test.true i.rest (rw i.area.image at c.in_ok-found.ensures.leaf) (sym c.is_some.ensures ∙ c.if-is_some.true)
 
 pub last_in_node-loop-i-preserved : goal.last_in_node-loop-i-preserved
 last_in_node-loop-i-preserved g t c =
-    let b = g.A.Area.image c.args.area.now in
     let i = c.loop-i.invariant in
-    let k = c.loop-i.i in
-    let es = entries_of (index_at b c.args.at) in
-    let found = rw i.area.image at c.in_ok-found.ensures.leaf in
+    let es = entries_of (index_at (g.A.Area.image c.args.area.now) c.args.at) in
     record {
       most = omega (arith, i.most);
       begun = λ j lt. i.begun j (omega arith);
-      rest = i.rest ∙ node_step c.args.rec k es c.loop-i-test.true ∙ none_else seen c.in_ok-found.found (last_begun c.args.rec (leaves_named (k - 1) es)) (last_begun c.args.rec (leaves_before (k - 1) es)) found (sym c.is_some.ensures ∙ c.if-is_some.false);
+      rest = not_here seen c.args.rec c.loop-i.i es (entry_leaves es) c.in_ok-found.found c.loop-i-test.true i.rest (rw i.area.image at c.in_ok-found.ensures.leaf) (sym c.is_some.ensures ∙ c.if-is_some.false);
       area = read_more i.area c.in_ok-found.ensures.area;
     }
 
@@ -122,10 +116,7 @@ last_in_chain-last_in_node-requires g t c κs within =
 
 pub last_in_chain-returns-then-is_some-clause-leaf : goal.last_in_chain-returns-then-is_some-clause-leaf
 last_in_chain-returns-then-is_some-clause-leaf g t c =
-    let b = g.A.Area.image c.args.area.now in
-    let start = c.in_ok-start.start in
-    let found = rw c.start_of.ensures.area.image at c.in_ok-found.ensures.leaf in
-    found_else seen c.in_ok-found.found (last_begun c.args.rec (entry_leaves (entries_of (index_at b start)))) (last_begun c.args.rec (leaves_until start (index_at b c.args.link))) found (sym c.is_some.ensures ∙ c.if-is_some.true) ∙ sym (start_told c.args.rec c.requires.index c.in_ok-start.ensures.start)
+    found_at_start seen c.args.rec c.requires.index c.in_ok-start.ensures.start c.in_ok-found.found (rw c.start_of.ensures.area.image at c.in_ok-found.ensures.leaf) (sym c.is_some.ensures ∙ c.if-is_some.true)
 
 pub last_in_chain-last_until-requires : goal.last_in_chain-last_until-requires
 last_in_chain-last_until-requires g t c κs within =
@@ -134,8 +125,6 @@ last_in_chain-last_until-requires g t c κs within =
 
 pub last_in_chain-returns-clause-leaf : goal.last_in_chain-returns-clause-leaf
 last_in_chain-returns-clause-leaf g t c =
-    let b = g.A.Area.image c.args.area.now in
-    let start = c.in_ok-start.start in
     let found = rw c.start_of.ensures.area.image at c.in_ok-found.ensures.leaf in
-    let all = start_told c.args.rec c.requires.index c.in_ok-start.ensures.start ∙ none_else seen c.in_ok-found.found (last_begun c.args.rec (entry_leaves (entries_of (index_at b start)))) (last_begun c.args.rec (leaves_until start (index_at b c.args.link))) found (sym c.is_some.ensures ∙ c.if-is_some.false) in
-    rw all (rw (c.last_in_node.ensures.area.image, c.start_of.ensures.area.image) at c.last_until.ensures.leaf)
+    rw (not_at_start seen c.args.rec c.requires.index c.in_ok-start.ensures.start c.in_ok-found.found found (sym c.is_some.ensures ∙ c.if-is_some.false))
+    (rw (c.last_in_node.ensures.area.image, c.start_of.ensures.area.image) at c.last_until.ensures.leaf)
