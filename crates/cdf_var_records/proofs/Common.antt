@@ -25,7 +25,6 @@ pub use Rattle.cdf_model.specs.declared.kinds.Sparse.{Sparse}
 pub use Rattle.cdf_puts.proofs.Common.{Ascending, HasIndex, StandsAmong, block_count, blocks_room, covered, first_written, fits, index_at, leaf_of, leb-false, next_first, packed_room, put_room, ranges_before_put, ranges_of, read_more, read_once, repeat, sound, sum_by-cons, tile, typed, uncovered}
 unfoldable pub use Rattle.cdf_puts.proofs.Common.{entry_firsts, firsts_of}
 pub use Rattle.cdf_puts.proofs.CoveringRanges.{bound_is, next_past, of_leaves}
-pub use Rattle.cdf_puts.proofs.PutRules.{uncut}
 pub use Rattle.cdf_records.proofs.Places.{word_fits}
 pub use Rattle.cdf_records.specs.Heads.{vdr_at}
 pub use Rattle.cdf_records.specs.Pieces.{AreBytes}

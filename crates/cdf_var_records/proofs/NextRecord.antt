@@ -5,7 +5,8 @@ use Rattle.cdf_edits.proofs.Edits.VdrEdited.{in_middle}
 use Rattle.cdf_format.specs.Records.{vdr_max_rec}
 use Rattle.cdf_index.specs.declared.nodes.Leaf.{Leaf as ReadLeaf}
 use Rattle.cdf_model.specs.Spots.{from_number}
-use Rattle.cdf_var_records.proofs.LeafItems.{in_order, leaf_there, missed, recs_rise, rise, same_leaf}
+pub use Rattle.cdf_var_records.proofs.LeafItems.{recs_rise}
+use Rattle.cdf_var_records.proofs.LeafItems.{in_order, leaf_there, missed, rise, same_leaf}
 use Rattle.cdf_var_records.proofs.NextItem.{next_from, none_from}
 use Rattle.cdf_var_records.proofs.PadSites.{own}
 use Rattle.cdf_var_records.proofs.PutRoomCount.{IsBehind, leaves_behind}

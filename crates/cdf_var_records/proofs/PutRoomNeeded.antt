@@ -1,8 +1,10 @@
 -- How large a put makes the file at most, by what was read of the variable.
-use Rattle.cdf_var_records.proofs.Common.{None, Option, Some, block_count, Ascending, Form, Good, HasIndex, IsForm, List, Nodes, Variable, ap, ap₂, arith, blocks_room, covered, cuts_before_put, false, first_written, index_at, leaves_ascend, leaves_of, length, number, packed_room, put_room, ranges_before_put, ranges_of, record_number_limit, refl, subst, suc, sym, uncovered, uncut, variable_at, vdr_vxr_head, ℕ, ◌+◌, ◌-◌, ◌∙◌, ◌≡◌, ◌≤◌}
+use Rattle.cdf_var_records.proofs.Common.{None, Option, Some, [], block_count, extent, map, min, sum_by-cons, Ascending, Form, Good, HasIndex, IsForm, List, Nodes, Variable, ap, ap₂, arith, blocks_room, covered, false, first_written, index_at, leaves_ascend, leaves_of, length, number, packed_room, put_room, ranges_before_put, ranges_of, record_number_limit, refl, subst, suc, sym, uncovered, variable_at, vdr_vxr_head, ℕ, ◌+◌, ◌-◌, ◌<◌, ◌∙◌, ◌∷◌, ◌≡◌, ◌≤◌}
+use Rattle.cdf_edits.proofs.Common.{Leaf, either, inl, inr, lt-ltb, ltb, nat_tests}
 use Rattle.cdf_edits.specs.Commands.Room.{entries_in, quotient_up, widest}
 use Rattle.cdf_format.specs.Records.{linked_size, vxr_bytes}
-use Rattle.cdf_edits.specs.Index.Blocks.{record_length}
+use Rattle.cdf_edits.specs.Index.Blocks.{cut_open, is_sparse, range, record_length, shared}
+use Rattle.cdf_puts.proofs.CoveringRanges.{of_leaves}
 use Rattle.cdf_puts.specs.Starts.{IsRightOf, IsWithin, LeavesEntries, known_of}
 use Rattle.cdf_puts.specs.declared.known_index.IndexBound.{IndexBound}
 use Rattle.cdf_puts.specs.declared.known_index.KnownIndex.{KnownIndex}
@@ -11,7 +13,7 @@ use Rattle.cdf_var_records.specs.Room.{ExpectsPut, bytes_by, room_by, room_in}
 use Rattle.cdf_var_records.specs.declared.put_room.NewBlocks.{NewBlocks}
 use Rattle.std.proofs.Math.Nat.{mul-le-mul}
 use Rattle.std.specs.Prelude.{IfSome, zero, ◌*◌}
-use Rattle.cdf_puts.proofs.PutRules.{loose, uncut}
+use Rattle.cdf_puts.proofs.PutRules.{loose}
 use Rattle.cdf_var_records.proofs.RecordForms.{variable_is}
 use Rattle.cdf_var_records.proofs.RecordReading.{index, lies}
 use Rattle.cdf_var_records.proofs.PadSites.{at}
@@ -19,15 +21,39 @@ use Rattle.cdf_var_records.proofs.PadSites.{at}
 no_packed : (v : Variable) (nodes : Nodes) (r : ℕ) → v.rle ≡ false → packed_room v nodes r ≡ 0
 no_packed v nodes r loose = rw loose refl
 
-all_ranges : (v : Variable) (nodes : Nodes) (r : ℕ) → cuts_before_put v r ≡ false → ranges_before_put v nodes r ≡ ranges_of nodes
-all_ranges v nodes r uncut = rw uncut refl
+-- ---- the records that a put writes
 
-uncovered_is : (v : Variable) (nodes : Nodes) (r missing from : ℕ) → cuts_before_put v r ≡ false → from ≡ first_written v r → missing ≡ (r + 1 - from) - covered from r (ranges_of nodes) → uncovered v nodes r ≡ missing
-uncovered_is v nodes r missing from uncut from_is missing_is = (λ i. (r + 1 - sym from_is i) - covered (sym from_is i) r (all_ranges v nodes r uncut i)) ∙ sym missing_is
+-- under a rule, what is past MaxRec is cut before a record past MaxRec + 1 is put, so that it has no block
+none_past : (r cut : ℕ) (xs : List Leaf) → cut < r → (low : ℕ) → Ascending low (suc record_number_limit) xs → covered r r (cut_open cut record_number_limit (of_leaves xs)) ≡ 0
+none_past r cut [] lt low a = refl
+none_past r cut (x ∷ xs) lt low a =
+    let whole : ltb record_number_limit x.last ≡ false = grind (arith, nat_tests, a.2) in
+    let rest = cut_open cut record_number_limit (of_leaves xs) in
+    let so = none_past r cut xs lt (suc x.last) a.3 in
+    elim (either (ltb x.first cut)) [
+      | inl t ↦
+          let before : x.first < cut = grind (arith, nat_tests, t) in
+          let more = sum_by-cons (λ n. n) (shared r r (range x.first (min x.last (cut - 1)))) (map (shared r r) rest) in
+          rw (t, whole) (omega (arith, before, lt, so, more))
+      | inr t ↦ rw (t, whole) so
+    ]
 
-room_is : (v : Variable) (nodes : Nodes) (r missing from : ℕ) → v.rle ≡ false → cuts_before_put v r ≡ false → from ≡ first_written v r → missing ≡ (r + 1 - from) - covered from r (ranges_of nodes) → put_room v nodes r ≡ blocks_room v nodes missing
-room_is v nodes r missing from loose uncut from_is missing_is =
-    ap₂ (λ (x y : ℕ). x + y) (ap (blocks_room v nodes) (uncovered_is v nodes r missing from uncut from_is missing_is)) (no_packed v nodes r loose) ∙ omega arith
+pub first_upto : (v : Variable) (r from : ℕ) → from ≡ first_written v r → from ≤ r
+first_upto v r from from_is = elim (either (is_sparse v.sparse)) [ inl t ↦ omega (arith, rw t at from_is) | inr t ↦ omega (arith, rw t at from_is) ]
+
+pub cut_first : (v : Variable) (nodes : Nodes) (r from : ℕ) → from ≡ first_written v r → Ascending 0 (suc record_number_limit) (leaves_of nodes) → extent v.max_rec < from → r + 1 - from ≡ uncovered v nodes r
+cut_first v nodes r from from_is a past = elim (either (is_sparse v.sparse)) [
+  | inl t ↦
+      let is : from ≡ r = rw t at from_is in
+      let cut = cut_open (extent v.max_rec) record_number_limit (ranges_of nodes) in
+      let ranges : ranges_before_put v nodes r ≡ cut = rw (t, lt-ltb (extent v.max_rec) r (omega arith)) refl in
+      let none : covered from r cut ≡ 0 = ap (λ (k : ℕ). covered k r cut) is ∙ none_past r (extent v.max_rec) (leaves_of nodes) (omega arith) 0 a in
+      omega (arith, none) ∙ (λ i. (r + 1 - from_is i) - covered (from_is i) r (sym ranges i))
+  | inr t ↦ absurd (omega (arith, rw t at from_is))
+]
+
+room_is : (v : Variable) (nodes : Nodes) (r missing : ℕ) → v.rle ≡ false → missing ≡ uncovered v nodes r → put_room v nodes r ≡ blocks_room v nodes missing
+room_is v nodes r missing loose is = ap₂ (λ (x y : ℕ). x + y) (ap (blocks_room v nodes) (sym is)) (no_packed v nodes r loose) ∙ omega arith
 
 -- the room of new blocks, by what they are to have
 blocks_by : (v : Variable) (nodes : Nodes) (missing : ℕ) → blocks_room v nodes missing ≡ bytes_by (block_count v) (record_length v) missing (entries_in nodes) (widest nodes)
@@ -77,26 +103,17 @@ module _ {b : List ℕ} {form : Form} (good : Good b) (is : IsForm b form) (r : 
     pub leaves_rise : Ascending 0 (suc record_number_limit) (leaves_of (index_at x head))
     leaves_rise = leaves_ascend 0 record_number_limit (index_at x head) index_there.order (omega arith)
 
-    module _ (from missing : ℕ) (from_is : from ≡ first_written v r) (missing_is : missing ≡ (r + 1 - from) - covered from r (ranges_of (index_at x head))) where
-      missing_there : missing ≡ (r + 1 - from) - covered from r (ranges_of nodes)
-      missing_there = missing_is ∙ ap (λ (y : Nodes). (r + 1 - from) - covered from r (ranges_of y)) index_same
+  module _ (missing : ℕ) (missing_is : missing ≡ uncovered v nodes r) where
+    room_there : put_room v nodes r ≡ blocks_room v nodes missing
+    room_there = room_is v nodes r missing (ap (λ (y : Variable). y.rle) (variable_is good is.is_vdr) ∙ loose good (at good is.is_vdr)) missing_is
 
-      uncut_there : cuts_before_put v r ≡ false
-      uncut_there = ap (λ (y : Variable). cuts_before_put y r) (variable_is good is.is_vdr) ∙ uncut good (at good is.is_vdr) r
+    -- the room is that of these blocks, and none where no record is without one
+    pub blocks_there : (blocks : NewBlocks) → blocks.count ≡ block_count v → blocks.size ≡ record_length v → blocks.missing ≡ missing → put_room v nodes r ≡ room_in nodes blocks
+    blocks_there blocks count_is size_is same = room_there ∙ blocks_by v nodes missing ∙ (λ i. bytes_by (sym count_is i) (sym size_is i) (sym same i) (entries_in nodes) (widest nodes))
 
-      pub uncovered_there : uncovered v nodes r ≡ missing
-      uncovered_there = uncovered_is v nodes r missing from uncut_there from_is missing_there
+    pub none_there : missing ≡ 0 → put_room v nodes r ≡ 0
+    none_there none = room_there ∙ ap (blocks_room v nodes) none
 
-      room_there : put_room v nodes r ≡ blocks_room v nodes missing
-      room_there = room_is v nodes r missing from (ap (λ (y : Variable). y.rle) (variable_is good is.is_vdr) ∙ loose good (at good is.is_vdr)) uncut_there from_is missing_there
-
-      -- the room is that of these blocks, and none where no record is without one
-      pub blocks_there : (blocks : NewBlocks) → blocks.count ≡ block_count v → blocks.size ≡ record_length v → blocks.missing ≡ missing → put_room v nodes r ≡ room_in nodes blocks
-      blocks_there blocks count_is size_is same = room_there ∙ blocks_by v nodes missing ∙ (λ i. bytes_by (sym count_is i) (sym size_is i) (sym same i) (entries_in nodes) (widest nodes))
-
-      pub none_there : missing ≡ 0 → put_room v nodes r ≡ 0
-      none_there none = room_there ∙ ap (blocks_room v nodes) none
-
-      -- and an index that is known to be no larger than a bound has room for no entry more
-      pub none_expected : (starts : Starts) → IfSome (known_of starts vdr) (IsRightOf nodes) → missing ≡ 0 → ExpectsPut b vdr r starts
-      none_expected starts is_right none = none_left nodes (known_of starts vdr) is_right (uncovered_there ∙ none)
+    -- and an index that is known to be no larger than a bound has room for no entry more
+    pub none_expected : (starts : Starts) → IfSome (known_of starts vdr) (IsRightOf nodes) → missing ≡ 0 → ExpectsPut b vdr r starts
+    none_expected starts is_right none = none_left nodes (known_of starts vdr) is_right (sym missing_is ∙ none)

@@ -3,8 +3,9 @@
 ghost use Rattle.std.specs.Prelude.{◌≡◌, ◌≤◌, ◌<◌, ◌+◌, ◌-◌, ◌^◌, suc, length, true, false, IfOk, IfSome};
 ghost use Rattle.cdf_area.specs.Calls.{Reads};
 ghost use Rattle.cdf_edits.proofs.Edits.LeafRecords.{Ascending};
+ghost use Rattle.cdf_edits.specs.Commands.Room.{uncovered};
 ghost use Rattle.cdf_edits.specs.Index.Blocks.{block_count, covered, first_written, ranges_of, wanted_count};
-ghost use Rattle.cdf_format.specs.Fields.{integer4, number};
+ghost use Rattle.cdf_format.specs.Fields.{LiesIn, integer4, number};
 ghost use Rattle.cdf_format.specs.Index.{leaves_of};
 ghost use Rattle.cdf_format.specs.Records.{vdr_blocking_factor, vdr_vxr_head, past, vdr_name};
 ghost use Rattle.cdf_format.specs.WellFormed.{Good};
@@ -16,6 +17,7 @@ ghost use Rattle.cdf_puts.specs.Starts.{InTopChain, IsKnownStart, IsWithin, Know
 ghost use Rattle.cdf_var_records.specs.Room.{ExpectsPut, IsStretch, count_in_block, put_room_at, room_by, room_in};
 ghost use Rattle.cdf_var_records.specs.Records.{IsForm, variable_at};
 
+use crate::extent::read_extent;
 use crate::form::Form;
 use crate::record::{record_size_of, says_vary};
 use cdf_area::{Area, AreaError};
@@ -164,6 +166,35 @@ fn count_missing<A: Area>(
     Ok(missing)
 }
 
+/// How many of the records that a put writes from a first on have no block by then. A first one past MaxRec + 1 is written under a rule for
+/// missing records alone, and this has what is past MaxRec cut before.
+#[tactic(auto, using(cdf_area::proofs::Calls::read_done, cdf_area::proofs::Calls::read_failed, cdf_area::proofs::Calls::read_more, cdf_area::proofs::Calls::read_once))]
+fn count_uncovered<A: Area>(
+    area: &mut A,
+    vdr: u64,
+    head: u64,
+    known: Option<u64>,
+    from: u32,
+    rec: u32,
+) -> Result<u32, AreaError>
+    requires lies { LiesIn (A.image area.old) vdr vdr_name }
+    requires index { HasIndex (A.image area.old) head }
+    requires known { InTopChain (index_at (A.image area.old) head) known }
+    requires order { Ascending 0 (suc record_number_limit) (leaves_of (index_at (A.image area.old) head)) }
+    requires short { length (A.image area.old) ≤ image_limit }
+    requires from { from ≡ first_written (variable_at (A.image area.old) vdr) rec }
+    requires within { rec ≤ record_number_limit }
+    ensures count { IfOk result (λ missing. missing ≡ uncovered (variable_at (A.image area.old) vdr) (index_at (A.image area.old) head) rec) }
+    ensures few { IfOk result (λ missing. missing ≤ 2 ^ 31) }
+    ensures area { Reads A.image A.frame A.faults A.edited area.old area.new result }
+{
+    let extent = read_extent(area, vdr)?;
+    if extent < from {
+        return Ok(rec - from + 1);
+    }
+    count_missing(area, head, known, from, rec)
+}
+
 /// How many bytes new blocks take at most, in an index that is no larger than a bound.
 fn room_of(blocks: NewBlocks, bound: IndexBound) -> u128
     requires some { 1 ≤ blocks.count }
@@ -240,7 +271,7 @@ pub fn has_put_room<A: Area>(
     let _size = area.size();
     let vdr = form.place.vdr;
     let head = read_unsigned8(area, vdr + VDR_VXR_HEAD)?;
-    let missing = count_missing(area, head, known, from, rec)?;
+    let missing = count_uncovered(area, vdr, head, known, from, rec)?;
     if missing == 0 {
         return Ok(true);
     }

@@ -3,7 +3,7 @@ use Rattle.cdf_area.proofs.Calls.{read_done, read_failed, read_more, read_once}
 use Rattle.cdf_puts.proofs.KnownStarts.{known_there}
 use Rattle.cdf_puts.specs.Starts.{IsWithin}
 use Rattle.cdf_var_records.proofs.NextRecord.{vdr_there}
-use Rattle.cdf_var_records.proofs.PutRoomNeeded.{blocks_there, head_lies, index_same, index_there, leaves_rise, nodes, none_expected, none_there, room_within, uncovered_there, v}
+use Rattle.cdf_var_records.proofs.PutRoomNeeded.{blocks_there, head_lies, index_same, index_there, leaves_rise, nodes, none_expected, none_there, room_within, v}
 use Rattle.cdf_var_records.proofs.RecordReading.{record_size_is}
 use Rattle.cdf_var_records.specs.Room.{room_in}
 use Rattle.cdf_var_records.specs.declared.put_room.NewBlocks.{NewBlocks}
@@ -18,38 +18,38 @@ overflow_add-vdr g c =
 pub read_unsigned8-requires : goal.read_unsigned8-requires
 read_unsigned8-requires g c = let l = head_lies c.requires.good c.requires.form c.args.rec in omega arith
 
-pub count_missing-requires-clause-index : goal.count_missing-requires-clause-index
-count_missing-requires-clause-index g c = index_there c.requires.good c.requires.form c.args.rec c.read_unsigned8.ensures.area.image c.in_ok-head.ensures.value
+pub count_uncovered-requires-clause-index : goal.count_uncovered-requires-clause-index
+count_uncovered-requires-clause-index g c = index_there c.requires.good c.requires.form c.args.rec c.read_unsigned8.ensures.area.image c.in_ok-head.ensures.value
 
-pub count_missing-requires-clause-known : goal.count_missing-requires-clause-known
-count_missing-requires-clause-known g c = rw (c.read_unsigned8.ensures.area.image, c.in_ok-head.ensures.value) c.requires.known
+pub count_uncovered-requires-clause-known : goal.count_uncovered-requires-clause-known
+count_uncovered-requires-clause-known g c = rw (c.read_unsigned8.ensures.area.image, c.in_ok-head.ensures.value) c.requires.known
 
-pub count_missing-requires-clause-order : goal.count_missing-requires-clause-order
-count_missing-requires-clause-order g c = leaves_rise c.requires.good c.requires.form c.args.rec c.read_unsigned8.ensures.area.image c.in_ok-head.ensures.value
+pub count_uncovered-requires-clause-order : goal.count_uncovered-requires-clause-order
+count_uncovered-requires-clause-order g c = leaves_rise c.requires.good c.requires.form c.args.rec c.read_unsigned8.ensures.area.image c.in_ok-head.ensures.value
 
 pub returns-then-missing-eq0-clause-fits : goal.returns-then-missing-eq0-clause-fits
-returns-then-missing-eq0-clause-fits g c = λ e. omega (arith, none_there c.requires.good c.requires.form c.args.rec c.read_unsigned8.ensures.area.image c.in_ok-head.ensures.value c.args.from c.in_ok-missing.missing c.requires.from c.in_ok-missing.ensures.count c.if-missing-eq0.true)
+returns-then-missing-eq0-clause-fits g c = λ e. omega (arith, none_there c.requires.good c.requires.form c.args.rec c.in_ok-missing.missing (rw (c.read_unsigned8.ensures.area.image, c.in_ok-head.ensures.value) at c.in_ok-missing.ensures.count) c.if-missing-eq0.true)
 
 pub returns-then-missing-eq0-clause-expects : goal.returns-then-missing-eq0-clause-expects
 returns-then-missing-eq0-clause-expects g c =
     let there = known_there c.requires.starts c.args.form.now.place.vdr c.requires.good (vdr_there c.requires.good c.requires.form.is_vdr) in
-    λ e. none_expected c.requires.good c.requires.form c.args.rec c.read_unsigned8.ensures.area.image c.in_ok-head.ensures.value c.args.from c.in_ok-missing.missing c.requires.from c.in_ok-missing.ensures.count c.args.starts.now there c.if-missing-eq0.true
+    λ e. none_expected c.requires.good c.requires.form c.args.rec c.in_ok-missing.missing (rw (c.read_unsigned8.ensures.area.image, c.in_ok-head.ensures.value) at c.in_ok-missing.ensures.count) c.args.starts.now there c.if-missing-eq0.true
 
 pub read_block_count-requires-clause-good : goal.read_block_count-requires-clause-good
-read_block_count-requires-clause-good g c = subst Good (sym (c.count_missing.ensures.area.image ∙ c.read_unsigned8.ensures.area.image)) c.requires.good
+read_block_count-requires-clause-good g c = subst Good (sym (c.count_uncovered.ensures.area.image ∙ c.read_unsigned8.ensures.area.image)) c.requires.good
 
 pub read_bound-requires-clause-index : goal.read_bound-requires-clause-index
-read_bound-requires-clause-index g c = index_there c.requires.good c.requires.form c.args.rec (c.read_block_count.ensures.area.image ∙ c.count_missing.ensures.area.image ∙ c.read_unsigned8.ensures.area.image) c.in_ok-head.ensures.value
+read_bound-requires-clause-index g c = index_there c.requires.good c.requires.form c.args.rec (c.read_block_count.ensures.area.image ∙ c.count_uncovered.ensures.area.image ∙ c.read_unsigned8.ensures.area.image) c.in_ok-head.ensures.value
 
 pub read_bound-requires-clause-known : goal.read_bound-requires-clause-known
 read_bound-requires-clause-known g c =
     let there = c.bound_of.ensures (g.A.Area.image c.args.area.now) c.requires.good (vdr_there c.requires.good c.requires.form.is_vdr) c.requires.starts in
-    rw (c.read_block_count.ensures.area.image, c.count_missing.ensures.area.image, c.read_unsigned8.ensures.area.image, c.in_ok-head.ensures.value) there
+    rw (c.read_block_count.ensures.area.image, c.count_uncovered.ensures.area.image, c.read_unsigned8.ensures.area.image, c.in_ok-head.ensures.value) there
 
 -- the bound that is kept is one of the index
 within : (g : Over) (c : After-keep_bound g) → IsWithin (nodes c.requires.good c.requires.form c.args.rec) c.in_ok-bound.bound
 within g c =
-    let read = c.read_block_count.ensures.area.image ∙ c.count_missing.ensures.area.image ∙ c.read_unsigned8.ensures.area.image in
+    let read = c.read_block_count.ensures.area.image ∙ c.count_uncovered.ensures.area.image ∙ c.read_unsigned8.ensures.area.image in
     rw (index_same c.requires.good c.requires.form c.args.rec read c.in_ok-head.ensures.value) at c.in_ok-bound.ensures.within
 
 abbrev made : (g : Over) (c : After-keep_bound g) → NewBlocks
@@ -58,9 +58,9 @@ made g c = record { count = c.in_ok-count.count; size = c.record_size_of-size.re
 -- the room of the put is that of the new blocks
 room_is : (g : Over) (c : After-keep_bound g) → put_room (v c.requires.good c.requires.form c.args.rec) (nodes c.requires.good c.requires.form c.args.rec) c.args.rec ≡ room_in (nodes c.requires.good c.requires.form c.args.rec) (made g c)
 room_is g c =
-    let counted = c.count_missing.ensures.area.image ∙ c.read_unsigned8.ensures.area.image in
+    let counted = c.count_uncovered.ensures.area.image ∙ c.read_unsigned8.ensures.area.image in
     let count = c.in_ok-count.ensures.count ∙ ap (λ (x : List _). block_count (variable_at x c.args.form.now.place.vdr)) counted in
-    blocks_there c.requires.good c.requires.form c.args.rec c.read_unsigned8.ensures.area.image c.in_ok-head.ensures.value c.args.from c.in_ok-missing.missing c.requires.from c.in_ok-missing.ensures.count
+    blocks_there c.requires.good c.requires.form c.args.rec c.in_ok-missing.missing (rw (c.read_unsigned8.ensures.area.image, c.in_ok-head.ensures.value) at c.in_ok-missing.ensures.count)
     (made g c) count (c.record_size_of-size.ensures ∙ record_size_is c.requires.good c.requires.form) (λ i. c.in_ok-missing.missing)
 
 pub returns-clause-fits : goal.returns-clause-fits
@@ -71,7 +71,7 @@ returns-clause-fits g c =
 pub returns-clause-large : goal.returns-clause-large
 returns-clause-large g c =
     let here = (goal.at.returns-clause-large g c).After-keep_bound in
-    let read = c.read_block_count.ensures.area.image ∙ c.count_missing.ensures.area.image ∙ c.read_unsigned8.ensures.area.image in
+    let read = c.read_block_count.ensures.area.image ∙ c.count_uncovered.ensures.area.image ∙ c.read_unsigned8.ensures.area.image in
     let large = rw (index_same c.requires.good c.requires.form c.args.rec read c.in_ok-head.ensures.value) at c.in_ok-bound.ensures.large in
     λ e. grind (arith, nat_tests, e, room_is g here, large, c.room_of.ensures, c.from.ensures)
 
@@ -83,8 +83,8 @@ returns-clause-starts g c =
 pub returns-clause-expects : goal.returns-clause-expects
 returns-clause-expects g c =
     let here = (goal.at.returns-clause-expects g c).After-keep_bound in
-    let more = uncovered_there c.requires.good c.requires.form c.args.rec c.read_unsigned8.ensures.area.image c.in_ok-head.ensures.value c.args.from c.in_ok-missing.missing c.requires.from c.in_ok-missing.ensures.count in
-    λ e. rw more (c.keep_bound.ensures.expects (nodes c.requires.good c.requires.form c.args.rec) (within g here))
+    let more = rw (c.read_unsigned8.ensures.area.image, c.in_ok-head.ensures.value) at c.in_ok-missing.ensures.count in
+    λ e. rw (← more) (c.keep_bound.ensures.expects (nodes c.requires.good c.requires.form c.args.rec) (within g here))
 
 pub returns-in_err-bound-clause-area : goal.returns-in_err-bound-clause-area
 returns-in_err-bound-clause-area g c =
@@ -93,3 +93,9 @@ returns-in_err-bound-clause-area g c =
 pub returns-clause-area : goal.returns-clause-area
 returns-clause-area g c =
     read_done (read_more (read_more (read_more (read_once c.in_ok-head.ensures.area) c.in_ok-missing.ensures.area) c.in_ok-count.ensures.area) c.in_ok-bound.ensures.area)
+
+pub count_uncovered-requires-clause-lies : goal.count_uncovered-requires-clause-lies
+count_uncovered-requires-clause-lies g c =
+    let l = head_lies c.requires.good c.requires.form c.args.rec in
+    let same = c.read_unsigned8.ensures.area.image in
+    rw same (omega arith)
