@@ -14,10 +14,10 @@ ghost use Rattle.cdf_var_records.specs.Records.{variable_at};
 
 use crate::extent::read_extent;
 use crate::form::{Form, read_form};
-use crate::record::{in_network_order, record_size_of};
+use crate::record::read_in_leaf;
 use cdf_area::{Area, AreaError};
 use cdf_format::fields::VDR_VXR_HEAD;
-use cdf_index::{Leaf, read_rec};
+use cdf_index::Leaf;
 use cdf_model::Kind;
 use cdf_puts::{Search, Starts};
 use cdf_records::read_unsigned8;
@@ -169,9 +169,7 @@ impl RecordReader {
             return Ok(None);
         };
         self.leaf = Some(found.leaf);
-        let size = record_size_of(&self.form.shape);
-        let raw = read_rec(alloc, area, &found.leaf, size, found.num)?;
-        let bytes = in_network_order(self.form.place.t, self.form.encoding, raw);
+        let bytes = read_in_leaf(alloc, area, &self.form, &found.leaf, found.num)?;
         Ok(Some(Stored {
             num: found.num,
             bytes,
