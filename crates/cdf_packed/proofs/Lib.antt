@@ -1,0 +1,4 @@
+mod Shortest
+mod Standing
+mod Worth
+mod Written

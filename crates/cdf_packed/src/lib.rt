@@ -1,0 +1,10 @@
+//! Packed blocks: the plain bytes of one, the packing of plain bytes where that makes their record shorter, and the writing of packed bytes.
+#![tactic(auto)]
+
+mod packing;
+mod unpacking;
+mod writing;
+
+pub use packing::pack_block;
+pub use unpacking::{read_packed, unpack};
+pub use writing::write_packed;
