@@ -2,6 +2,8 @@
 #![tactic(auto)]
 
 mod packing;
+#[cfg(test)]
+mod tests;
 mod unpacking;
 mod writing;
 
