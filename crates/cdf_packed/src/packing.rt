@@ -11,7 +11,7 @@ use cdf_model::limits::RECORD_LIMIT;
 use cdf_rle::encode;
 use std::alloc::{AllocError, Global};
 
-/// Whether it is worth it to pack a block, which is not too long for it, as these bytes: its record is shorter then.
+/// Whether the record of a block that may be packed is shorter where it is packed as these bytes, in the longest runs.
 fn is_worth_packing(plain: &[u8], packed: &[u8]) -> bool
     requires small { length plain.now ≤ record_limit }
     requires packs { Packs packed.now plain.now }
@@ -23,12 +23,12 @@ fn is_worth_packing(plain: &[u8], packed: &[u8]) -> bool
     CVVR_SIZE + (packed.len() as u64) < VVR_SIZE + plain.len() as u64
 }
 
-/// The plain bytes of a block, packed in the longest runs, where that is worth it.
+/// The bytes of a block packed in the longest runs, where that is worth it.
 pub fn pack_block(alloc: Global, plain: &[u8]) -> Result<Option<Vec<u8>>, AllocError>
     ensures packs { IfOk result (λ found. IfSome found (λ packed. Packs packed.items plain.now)) }
     ensures longest { IfOk result (λ found. IfSome found (λ packed. IsLongest packed.items)) }
     ensures worth { IfOk result (λ found. IfSome found (λ packed. is_worth_packing plain.now packed.items ≡ true)) }
-    // No shorter runs would be worth it either.
+    // However else the block is packed, that is not worth it either.
     ensures never { IfOk result (λ found. IfNone found (NeverWorth plain.now)) }
     ensures chosen { IfOk result (λ found. IsChosen plain.now (is_some found)) }
 {

@@ -22,7 +22,7 @@ const PACKED: [(usize, &[u8]); 8] = [
 // Blocks that packing would not make shorter.
 const KEPT: [&[u8]; 5] = [&[], &[0, 0, 0], &[1, 2, 3], &[0; 14], &[7; 300]];
 
-// Packed bytes, and how many plain bytes they stand for; none where a last 0 lacks its count.
+// Packed bytes, and how many plain bytes they stand for; none where a last 0 has no count.
 const STANDING: [(&[u8], Option<u64>); 8] = [
     (&[], Some(0)),
     (&[0, 2], Some(3)),

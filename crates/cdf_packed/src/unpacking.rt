@@ -15,7 +15,7 @@ use cdf_records::{read_bytes, read_cvvr};
 use cdf_rle::decode_into;
 use std::alloc::{AllocError, Global};
 
-/// What packed bytes stand for, where that is just so many bytes. It is not where they stand for more or fewer, or a last 0 lacks its count.
+/// The plain bytes that packed bytes stand for, where there are just so many; none where there are more or fewer, or a last 0 has no count.
 pub fn unpack(alloc: Global, packed: &[u8], size: u64) -> Result<Option<Vec<u8>>, AllocError>
     ensures fits { IfOk result (λ found. is_some found ≡ unpacks_to packed.now size) }
     ensures plain { IfOk result (λ found. IfSome found (λ plain. plain.items ≡ plain_of packed.now)) }
@@ -27,7 +27,7 @@ pub fn unpack(alloc: Global, packed: &[u8], size: u64) -> Result<Option<Vec<u8>>
     Ok(Some(plain))
 }
 
-/// The number that a cSize tells, which is 0 below 0.
+/// How many packed bytes a cSize stands for: none where it is below 0.
 fn counted(c_size: i64) -> u64
     ensures { result ≡ counted c_size }
 {
@@ -44,7 +44,7 @@ fn read_count<A: Area>(area: &mut A, at: u64) -> Result<u64, AreaError>
     Ok(counted(head.c_size))
 }
 
-/// The plain bytes of the packed block at a place, where its packed bytes stand for just so many. It reads no more than twice as many packed bytes.
+/// The plain bytes of the packed block at a place, where there are just so many. The call reads at most twice as many packed bytes, since no more can stand for them.
 pub fn read_packed<A: Area>(
     alloc: Global,
     area: &mut A,
