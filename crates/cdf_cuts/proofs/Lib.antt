@@ -36,3 +36,4 @@ mod LaterFound
 mod CloseCalls
 mod ClosingRoom
 mod RoomRead
+pub mod PastKept

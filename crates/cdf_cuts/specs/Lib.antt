@@ -6,3 +6,4 @@ pub mod Cut
 pub mod Moving
 pub mod Closing
 pub mod ClosingRoom
+pub mod Past
