@@ -88,3 +88,13 @@ top_cut acts before after none =
     by : (p : Bool) → (p && (true && not false)) ≡ p
     by true = refl
     by false = refl
+
+-- and where a command goes through no other index
+pub top_left : (acts : List Act) (before after : Nodes) → taken acts ≡ [] → top_stays acts before before after ≡ bytes_eq (top_chain before) (top_chain after)
+top_left acts before after none =
+    let any = none_any (is_taken_at acts) (top_chain after) (λ x. rw none refl) in
+    rw (bytes_eq-same (top_chain before), any) (by (bytes_eq (top_chain before) (top_chain after)))
+  where
+    by : (p : Bool) → (true && (p && not false)) ≡ p
+    by true = refl
+    by false = refl

@@ -76,7 +76,7 @@ module _ {b linked : List ℕ} {kind : Kind} {before : List VariableShape} {own 
   freed_away : (type m : ℕ) → type ≢ gdr_type → type ≢ uir_type → (In m freed → ⊥) → Away (freeing_marks types s.unused freed (length b)) type m
   freed_away type m g u out = ((λ e l. g e), ((λ e l. u e), ((λ e l. out l), ((λ e l. out l), ((λ e l. out l), tt)))))
 
-  freed_avoids : (m lo hi : ℕ) → Avoids (freeing_marks types s.unused freed (length b)) (type_in (variables_chain kind)) m lo hi
+  pub freed_avoids : (m lo hi : ℕ) → Avoids (freeing_marks types s.unused freed (length b)) (type_in (variables_chain kind)) m lo hi
   freed_avoids m lo hi = let far = vdr_apart kind in ((λ e l. absurd (far.0 e)), ((λ e l. absurd (far.1 e)), ((λ e l. absurd (far.2 e)), ((λ e l. absurd (far.3 e)), ((λ e l. absurd (far.4 e)), tt)))))
 
   own_record : (m : ℕ) → In m freed → In m (variable_records own)

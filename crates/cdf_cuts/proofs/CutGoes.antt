@@ -154,7 +154,7 @@ module _ {b linked : List ℕ} {kind : Kind} {before : List VariableShape} {own 
     abbrev freeing : Frees b linked now (index_marks kind own.vdr (nodes_of own.index) (record { place = 12; width = length b })) types freed
     freeing = frees good at order x now given
 
-    same_records : (shape now).records ≡ s.records
+    pub same_records : (shape now).records ≡ s.records
     same_records = freed_records freeing
 
     kept_used : (m type : ℕ) → In m s.records → type_at b m ≡ type → type ≢ gdr_type → type ≢ uir_type → (In m freed → ⊥) → Kept linked now m
@@ -178,19 +178,23 @@ module _ {b linked : List ℕ} {kind : Kind} {before : List VariableShape} {own 
     pub rooms : (m : ℕ) → In m (nodes_of rest) → room_at now m ≡ room_at b m
     rooms m i = (same m i).room_is ∙ (Each-in (EntriesLeft b linked) (nodes_of rest) x.entries m i).room_stays
 
-    entries_follow : (m : ℕ) → In m (nodes_of rest) → UnusedEntries b now (rest ∷ []) (nodes_of own.index) (gave b freed) m
-    entries_follow m j i from upto =
+    -- an entry that is not used is what it was, or -1 where it was used
+    pub entries_say : (m : ℕ) → In m (nodes_of rest) → (i : ℕ) → used_count now m ≤ i → i < room_at now m → EntryIs b now m i (was_unused b (nodes_of own.index) (gave b freed) m i)
+    entries_say m j i from upto =
         let n = same m j in
         let e = Each-in (EntriesLeft b linked) (nodes_of rest) x.entries m j in
         let room : i < room_at b m = omega (arith, upto, rooms m j) in
         let room' : i < room_at linked m = omega (arith, upto, n.room_is) in
         let was = was_is b (nodes_of own.index) (gave b freed) m i (taken-gave b freed) (is_in-true m (nodes_of own.index) (was_node m j)) in
-        inl (elim (cases_lt i (used_count b m)) [
+        elim (cases_lt i (used_count b m)) [
           | inl lt ↦ subst (EntryIs b now m i) (sym (was ∙ lt-leb (used_count b m) i lt)) (n.entries i room' _ _ _ (e.gone i (omega (arith, from, n.used_is)) lt room))
           | inr le ↦ subst (EntryIs b now m i) (sym (was ∙ le-leb (used_count b m) i le)) (n.entries i room' _ _ _ (e.unused i le room _ _ _ (record { first_is = refl; last_is = refl; offset_is = refl })))
-        ])
+        ]
 
-    spare_stays : (m : ℕ) → In m (nodes_of rest) → NodeSpareStays b now (gave b freed) m
+    entries_follow : (m : ℕ) → In m (nodes_of rest) → UnusedEntries b now (rest ∷ []) (nodes_of own.index) (gave b freed) m
+    entries_follow m j i from upto = inl (entries_say m j i from upto)
+
+    pub spare_stays : (m : ℕ) → In m (nodes_of rest) → NodeSpareStays b now (gave b freed) m
     spare_stays m j free =
         let there = (node_there m (was_node m j)).0 in
         let part = same_part m (28 + 16 * room_at b m) (size_at b m) there (omega arith) (behind_rewrites b s.records steps m (28 + 16 * room_at b m) (size_at b m) may.0 (omega arith)) (behind_links ls m (28 + 16 * room_at b m) (size_at b m) (omega arith)) ((λ e. absurd (no_vdr m (was_node m j) e)), tt) in

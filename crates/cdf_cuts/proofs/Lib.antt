@@ -37,3 +37,4 @@ mod CloseCalls
 mod ClosingRoom
 mod RoomRead
 pub mod PastKept
+mod PastCut

@@ -17,6 +17,7 @@ ghost use Rattle.cdf_model.specs.Limits.{image_limit, record_number_limit};
 ghost use Rattle.cdf_model.specs.declared.kinds.Kind.{Kind};
 ghost use Rattle.cdf_cuts.specs.Closing.{RecordsClosed};
 ghost use Rattle.cdf_cuts.specs.Moving.{IsLater, JoinsFront};
+ghost use Rattle.cdf_cuts.specs.Past.{CutPast, cut_off};
 ghost use Rattle.cdf_cuts.specs.Cut.{IsCut, heads_led, link_found};
 
 use crate::moving::move_down;
@@ -25,7 +26,7 @@ use crate::writing::{relink_nodes, rewrite_nodes};
 use cdf_area::{Area, AreaError};
 use cdf_format::fields::{VDR_VXR_HEAD, VVR_RECORDS};
 use cdf_index::{Entry, Leaf};
-use cdf_model::limits::LEVEL_LIMIT;
+use cdf_model::limits::{LEVEL_LIMIT, RECORD_NUMBER_LIMIT};
 use cdf_puts::find_leaf;
 use cdf_records::{read_unsigned8, set_vdr_vxr_head, set_vdr_vxr_tail};
 use cdf_space::free_records;
@@ -168,4 +169,22 @@ pub fn close_records<A: Area>(
         Some(leaf) => join_later(alloc, area, &leaf, rec_bytes, first, last),
         None => Ok(()),
     }
+}
+
+/// Takes all records from a first one on out of the index of the variable whose descriptor stands at a place, of which no block is packed: a block
+/// that has records before them keeps these where they are, the blocks that have none are freed, and then the nodes that are left without entries.
+/// The first record may be past all that there are. After an error a part of this may have been done.
+pub fn cut_past<A: Area>(alloc: Global, area: &mut A, vdr: u64, first: u32) -> Result<(), AreaError>
+    requires good { Good (A.image area.old) }
+    requires vdr { In vdr (vdrs (variables (shape (A.image area.old)))) }
+    requires short { length (A.image area.old) ≤ image_limit }
+    ensures past { OnOk result ((kind : Kind) (before : List VariableShape) (own : VariableShape) (after : List VariableShape) → StandsAmong (A.image area.old) kind before own after → own.vdr ≡ vdr → CutPast (A.image area.old) (A.image area.new) kind before own (cut_off own first) after first) }
+    ensures area { Edits A.frame A.faults area.old area.new result }
+{
+    let span = Span {
+        first,
+        last: first.max(RECORD_NUMBER_LIMIT),
+        close: false,
+    };
+    cut_index(alloc, area, vdr, span)
 }

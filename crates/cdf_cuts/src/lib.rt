@@ -8,5 +8,5 @@ mod planning;
 mod room;
 mod writing;
 
-pub use cutting::close_records;
+pub use cutting::{close_records, cut_past};
 pub use room::read_closing_room;
