@@ -1,21 +1,19 @@
 -- Records went from a variable without a sparse rule, of which no block is packed, and MaxRec fell with them: the image follows `del-recs`.
 use Rattle.cdf_cuts.proofs.Common.{Bool, Changed, Each, In, Kept, Leaf, List, Nodes, None, Option, Range, Some, [], ap, append-nil, arith, cases_lt, false, lt-ltb, inl, inr, leaves_of, length, nat_tests, nodes_of, places_of, range, refl, size_at, subst, suc, sym, true, true≢false, ℕ, ◌*◌, ◌+◌, ◌-◌, ◌<◌, ◌∙◌, ◌∷◌, ◌≡◌, ◌≤◌, ◌⊎◌}
 use Rattle.std.proofs.Common.{drop, take, ◌&&◌, ◌||◌}
-use Rattle.std.specs.List.{filter}
-use Rattle.cdf_edits.proofs.Common.{closed_up, Found, le-ltb, lt-leb, range_at, room_at, tile_lies, vxr_bytes, Act, AllKeep, Allowance, Allowances, ByStep, Command, Follows, FreedStays, GivenStay, Go, Good, Keeps, Kind, Only, Variable, VariableShape, byte, content, either, eq-eqb, extent, is_max_rec, last_number, max_rec_at, no_fields, owned, record_bytes, shape, stays_all, step, stored_bytes, unused_records, variable_named, variable_of, variable_records, vvr_place, with_sign, with_variable, nat_le, nat_lt, DataSet}
+use Rattle.cdf_edits.proofs.Common.{closed_up, Found, le-ltb, lt-leb, range_at, room_at, tile_lies, vxr_bytes, Act, AllKeep, Allowance, Allowances, ByStep, Command, Follows, Go, Good, Keeps, Kind, Only, Variable, VariableShape, byte, content, either, eq-eqb, extent, is_max_rec, last_number, max_rec_at, owned, record_bytes, shape, stays_all, step, stored_bytes, variable_named, variable_of, variable_records, vvr_place, with_sign, with_variable, nat_le, nat_lt, DataSet}
 use Rattle.cdf_model.specs.declared.answer.Reply.TheVariants as replies
 use Rattle.cdf_model.specs.declared.command.Command.TheVariants as commands
 use Rattle.cdf_model.specs.RecordSteps.{without_records}
 use Rattle.cdf_edits.specs.Commands.Cuts.{DeletesRecords, LeafFollows, LeafKept, OthersStay, del_recs_changes, del_recs_cuts}
 use Rattle.cdf_edits.specs.Commands.Allowances.{anything_if}
-use Rattle.cdf_format.specs.Records.{vxr_entries}
 use Rattle.cdf_edits.specs.Commands.GreatestRecord.{RMaxRecFollows}
 use Rattle.cdf_edits.specs.Commands.Named.{OfVariable}
 use Rattle.cdf_edits.specs.Index.Blocks.{fallen, shared}
-use Rattle.cdf_edits.specs.Index.Cut.{IsPart, NodesFreedStay, StaysWhole, is_whole}
+use Rattle.cdf_edits.specs.Index.Cut.{IsPart, StaysWhole, is_whole}
 use Rattle.cdf_edits.specs.Index.Grown.{index_cut_closed, kept_closed}
 use Rattle.cdf_edits.specs.Index.Written.{block_end, is_taken_at}
-use Rattle.cdf_edits.specs.Space.Acts.{Gave, Took, taken}
+use Rattle.cdf_edits.specs.Space.Acts.{taken}
 use Rattle.cdf_edits.proofs.Edits.ActsThen.{taken-gave}
 use Rattle.cdf_edits.proofs.Edits.LeafPieces.{IsOneOf, each_of, of_each, place_in, record_place, times_le}
 use Rattle.cdf_edits.proofs.Edits.LeafRecords.{count_is}
@@ -38,6 +36,7 @@ use Rattle.cdf_cuts.proofs.BlocksMoved.{piece_shifted}
 use Rattle.cdf_cuts.proofs.ChainKept.{top_cut}
 use Rattle.cdf_cuts.proofs.ClosedUp.{fallen_high, fallen_low, fallen_rises, risen}
 use Rattle.cdf_cuts.proofs.CutStay.{nodes_left}
+use Rattle.cdf_cuts.proofs.FreedKept.{given_filter, given_nodes}
 use Rattle.cdf_cuts.proofs.GoesKeep.{goes_keep}
 use Rattle.cdf_cuts.proofs.GreatestLowered.{greatest_lowered}
 use Rattle.cdf_cuts.proofs.LeavesKept.{BlocksKeep, ends, stored_kept, to_ends}
@@ -100,22 +99,6 @@ stays_on {b = b} {one = one} {now = now} {size = size} {first = first} {last = l
         apart = λ out i lt. kept i lt ∙ s.stays.apart out i lt;
       };
     }
-
--- ---- what is freed
-
-given_filter : (b now : List ℕ) (p : Act → Bool) (acts gives : List Act) → GivenStay b now no_fields acts gives → GivenStay b now no_fields acts (filter p gives)
-given_filter b now p acts [] g = tt
-given_filter b now p acts (Took place need ∷ gives) g = elim (either (p (Took place need))) [ inl e ↦ rw e (given_filter b now p acts gives g) | inr e ↦ rw e (given_filter b now p acts gives g) ]
-given_filter b now p acts (Gave place size ∷ gives) g = elim (either (p (Gave place size))) [ inl e ↦ rw e (g.0, given_filter b now p acts gives g.1) | inr e ↦ rw e (given_filter b now p acts gives g.1) ]
-
-given_nodes : (b now : List ℕ) (acts gives : List Act) → GivenStay b now no_fields acts gives → NodesFreedStay b now acts gives
-given_nodes b now acts [] g = tt
-given_nodes b now acts (Took place need ∷ gives) g = given_nodes b now acts gives g
-given_nodes b now acts (Gave place size ∷ gives) g = ((λ t. each_less (unused_records now (shape now)) g.0), given_nodes b now acts gives g.1)
-  where
-    each_less : (us : List ℕ) → Each (FreedStays b now acts place size []) us → Each (FreedStays b now acts place size (vxr_entries (room_at b place) ∷ [])) us
-    each_less [] e = tt
-    each_less (u ∷ us) e = ((λ i lt low high out free. e.0 i lt low high tt free), each_less us e.1)
 
 or_true : (p : Bool) → (p || true) ≡ true
 or_true true = refl

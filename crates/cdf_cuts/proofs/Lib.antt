@@ -29,6 +29,7 @@ mod ChainKept
 mod CutGoes
 mod WritesThen
 mod BlocksClosed
+mod FreedKept
 mod GoesKeep
 mod GreatestLowered
 pub mod DeletedFollows
@@ -38,3 +39,4 @@ mod ClosingRoom
 mod RoomRead
 pub mod PastKept
 mod PastCut
+pub mod PastFollows
