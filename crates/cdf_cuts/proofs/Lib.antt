@@ -40,3 +40,4 @@ mod RoomRead
 pub mod PastKept
 mod PastCut
 pub mod PastFollows
+pub mod PastContent
