@@ -1,0 +1,5 @@
+pub mod Causes
+pub mod FewRecords
+pub mod PlainMeaning
+pub mod Stopped
+pub mod TakenSoFar
