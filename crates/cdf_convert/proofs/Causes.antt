@@ -27,6 +27,12 @@ uncounted fault first now e (Err x) same other is = record {
   counted = λ lt. absurd (omega (arith, same, lt));
 }
 
+-- an error is passed on, and the count did not rise before it
+pub passed_on : {T E : Type 0} (fault : E) (first before now : ℕ) (e : E) (r : Result T E) → before ≡ first → HasCauseOf {T = T} fault before now (Err e) → IsErrAnd r (λ x. x ≡ e) → HasCauseOf fault first now r
+passed_on fault first before now e (Ok x) same cause is = absurd is
+passed_on {T} {E} fault first before now e (Err x) same cause is =
+    subst (λ (y : E). HasCauseOf {T = T} fault first now (Err y)) (sym is) (subst (λ n. HasCauseOf {T = T} fault n now (Err e)) same cause)
+
 module _ {T U E F : Type 0} (becomes : E → F) (fault : E) (only : (e : E) → becomes e ≡ becomes fault → e ≡ fault) where
   -- the count did not rise before this error
   pub becomes_counted : (first before now : ℕ) (e : E) (r : Result U F) → before ≡ first → HasCauseOf {T = T} fault before now (Err e) → IsErrAnd r (λ x. x ≡ becomes e) → HasCauseOf (becomes fault) first now r

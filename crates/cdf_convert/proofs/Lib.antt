@@ -3,3 +3,4 @@ pub mod FewRecords
 pub mod PlainMeaning
 pub mod Stopped
 pub mod TakenSoFar
+pub mod WholeCopy
