@@ -24,6 +24,8 @@ pub struct MemDisk {
     calls: usize,
     room: usize,
     plan: Plan,
+    /// How many bytes the writes wrote that did not fail.
+    written: u64,
     faults: u64,
 }
 
@@ -47,7 +49,7 @@ fn has_name(own: &Option<String>, name: &str) -> bool
 }
 
 impl MemDisk {
-    ghost use Rattle.cdf_mem_disk.specs.MemDisk.{calls_of, failing_of, left_by};
+    ghost use Rattle.cdf_mem_disk.specs.MemDisk.{calls_of, failing_of, left_by, written_of};
 
     /// A disk without a file, which has room from the start for so many writes, cuts and syncs, and for so many bytes of writes.
     pub fn new(alloc: Global, calls: u64, bytes: u64) -> Result<Self, AllocError>
@@ -56,6 +58,7 @@ impl MemDisk {
         ensures faults { IfOk result (λ disk. ⟦<MemDisk as Disk>⟧.faults disk ≡ 0) }
         ensures calls { IfOk result (λ disk. calls_of disk ≡ 0) }
         ensures failing { IfOk result (λ disk. failing_of disk ≡ []) }
+        ensures written { IfOk result (λ disk. written_of disk ≡ 0) }
     {
         let room = bytes as usize;
         Ok(MemDisk {
@@ -65,6 +68,7 @@ impl MemDisk {
             calls: calls as usize,
             room,
             plan: Plan::new(alloc),
+            written: 0,
             faults: 0,
         })
     }
@@ -77,6 +81,7 @@ impl MemDisk {
         ensures faults { ⟦<MemDisk as Disk>⟧.faults self.new ≡ ⟦<MemDisk as Disk>⟧.faults self.old }
         ensures calls { calls_of self.new ≡ calls_of self.old }
         ensures failing { failing_of self.new ≡ failing_of self.old }
+        ensures written { written_of self.new ≡ written_of self.old }
     {
         let name = String::from_str(self.alloc, name)?;
         self.past = Past::new(self.alloc, main, log, self.calls, self.room)?;
@@ -112,6 +117,13 @@ impl MemDisk {
         self.plan.calls
     }
 
+    /// How many bytes all writes together wrote that did not fail.
+    pub fn written(&self) -> u64
+        ensures { result ≡ written_of self.now }
+    {
+        self.written
+    }
+
     /// A crash, after which the disk is found again: of the writes and cuts since the parts were stored the first `keep` stay, and the
     /// others are taken back. Then both parts are stored, and its moments begin anew.
     pub fn crash(&mut self, keep: u64) -> Result<(), AllocError>
@@ -122,6 +134,7 @@ impl MemDisk {
         ensures faults { ⟦<MemDisk as Disk>⟧.faults self.new ≡ ⟦<MemDisk as Disk>⟧.faults self.old }
         ensures calls { calls_of self.new ≡ calls_of self.old }
         ensures failing { failing_of self.new ≡ failing_of self.old }
+        ensures written { written_of self.new ≡ written_of self.old }
     {
         let left = self.past.left(self.alloc, keep)?;
         self.past = Past::new(self.alloc, &left.main, &left.log, self.calls, self.room)?;
@@ -191,7 +204,10 @@ impl Disk for MemDisk {
             return Err(count_fault(&mut self.faults));
         }
         match self.past.write(part, place as usize, bytes) {
-            Ok(()) => Ok(()),
+            Ok(()) => {
+                self.written = self.written.saturating_add(bytes.len() as u64);
+                Ok(())
+            }
             _ => Err(count_fault(&mut self.faults)),
         }
     }
