@@ -4,8 +4,10 @@
 mod bytes;
 mod devices;
 mod limited;
+mod logged;
 mod report;
 mod row;
+mod stopped;
 mod table;
 mod trial;
 

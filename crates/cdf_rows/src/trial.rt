@@ -1,8 +1,10 @@
-//! A row is tried: in pieces of several sizes, and with each device failing at each of its calls in turn; one with a limit once, over a session.
+//! A row is tried: in pieces of several sizes, with each device failing at each of its calls in turn, and, where it saves its file, through
+//! a log over a disk that stops after each of its calls in turn; one with a limit once, over a session.
 
 use crate::devices::{Devices, Ran, run_row};
 use crate::limited::run_limited;
 use crate::row::Row;
+use crate::stopped::fault_of_stopped;
 use crate::table::Table;
 use anyhow::Result;
 use std::alloc::Global;
@@ -12,6 +14,9 @@ const PIECES: [usize; 5] = [1, 2, 3, 7, 65_536];
 
 /// The most bytes of a script that is tried in all of them, each also over failing devices.
 const SHORT: usize = 10_000;
+
+/// The most bytes of one that is also tried through a log.
+const SHORTER: usize = 2_000;
 
 /// What a row is tried with.
 #[derive(Drop)]
@@ -175,10 +180,24 @@ impl<'a> Trial<'a> {
         Ok(None)
     }
 
+    /// What is wrong with runs through a log, if anything is. Only a row that saves its file, and whose devices are sound, is run so.
+    fn fault_of_logged(&self) -> Result<Option<&'static str>> {
+        let is_tried = self.row.script.len() <= SHORTER && self.row.fails.is_empty();
+        if !is_tried || self.row.status > 1 || !self.is_saved() {
+            return Ok(None);
+        }
+        fault_of_stopped(self.alloc, self.row, self.before.as_deref(), self.wanted())
+    }
+
     /// What is wrong with the row, if anything is.
     pub fn fault(&self) -> Result<Option<&'static str>> {
         let Some(limit) = self.row.limit else {
-            return self.fault_of_program();
+            let fault = self.fault_of_program()?;
+            return if fault.is_some() {
+                Ok(fault)
+            } else {
+                self.fault_of_logged()
+            };
         };
         let ran = run_limited(self.alloc, self.row, limit as u64)?;
         Ok(self.fault_of_sound(&ran))
