@@ -12,7 +12,7 @@ from places import MB, MIB
 from scripts import (
     ENTRY_LINE, LINE, PUT_REC, RECORD_LINE, TEN_LINE, WIDE_LINE, anew_and_read, attr_lines, comment_lines,
     comments_and_blanks, delete_attribute, delete_variable, done, done_and_read, dump_it, dumped_attributes,
-    dumped_entries, empty_lines, entries_by_attribute, entries_by_number, entries_of_one, get_falling,
+    dumped_entries, empty_lines, entries_by_attribute, entries_by_number, entries_of_one, far_values, get_falling,
     get_in_any_order, line_of_comment, line_of_escapes, line_of_values, lines_of_blanks, make_index_anew,
     make_index_anew_and_put, make_index_anew_and_read, no_checksum, no_variable, one_attribute, one_entry_again,
     one_record, one_value, one_wide, put_recs, records_again, records_ascending, records_of_ten, records_read,
@@ -58,6 +58,7 @@ class LibraryCase:
     times_plain: Optional[float] = None
     before: Optional[str] = None  # a case that stands before it
     times_before: Optional[float] = None
+    most_bytes: Optional[int] = None  # what it prints is a number of bytes, of which there may be so many; nothing is run beside it
 
 
 def script_case(kind: str, script: Callable[[int], bytes], size: int, memory_of: Optional[str] = None) -> Case:
@@ -91,6 +92,7 @@ THOUSANDS_OF_VARIABLES = 404 + 100_000 * VARIABLE
 THOUSAND_OF_THIRTY = 1_000 * (ENTRIES + 1) * ENTRY_LINE
 THOUSAND_DESCRIBED = 404 + ENTRIES * ATTRIBUTE + 1_000 * (VARIABLE + ENTRIES * ENTRY)
 TWENTY_THOUSAND = 404 + ATTRIBUTE + 20_000 * ENTRY
+PAGE = 65_536
 THOUSANDS_OF_BLOCKS = size_of_blocks(100_000)
 LARGE_BLOCKS_OF_256_MIB = size_of_large_blocks(256 * MIB)
 
@@ -110,10 +112,11 @@ CASES = [
     Case("file, one unused record, 256 MiB", 0, b"", 256 * MIB, file=one_unused, times_cp=4, times_size=1.09),
     Case("file, 256 MiB, one new attribute", 0, b"1 ok\n", 256 * MIB, script=one_attribute, file=one_unused, times_size=1.09, before="file, one unused record, 256 MiB", times_before=1.1),
     Case("file, 256 MiB, one new attribute, on the disk", 0, b"1 ok\n", 256 * MIB, script=one_attribute, file=one_unused, before="file, 256 MiB, one new attribute", on_disk=True),
-    Case("file, records, 256 MiB", 0, b"1 ok\n", LARGE_BLOCKS_OF_256_MIB, script=no_checksum, file=large_blocks, times_size=1.09),
-    Case("file, records, 256 MiB, one value", 0, b"1 ok\n", LARGE_BLOCKS_OF_256_MIB, script=one_value, file=large_blocks, times_size=1.09, before="file, records, 256 MiB", times_before=1.1),
-    Case("file, records, 256 MiB, through a log", 0, b"1 ok\n", LARGE_BLOCKS_OF_256_MIB, script=no_checksum, flags=("--journal",), file=large_blocks, times_size=1.09, before="file, records, 256 MiB", times_before=1.1),
-    Case("file, records, 256 MiB, one value, through a log", 0, b"1 ok\n", LARGE_BLOCKS_OF_256_MIB, script=one_value, flags=("--journal",), file=large_blocks, times_size=1.09, before="file, records, 256 MiB, one value", times_before=1.3),
+    Case("file, records, 256 MiB", 0, b"1 ok\n", LARGE_BLOCKS_OF_256_MIB, script=no_checksum, file=large_blocks, times_size=1.09, by_user=True),
+    Case("file, records, 256 MiB, one value", 0, b"1 ok\n", LARGE_BLOCKS_OF_256_MIB, script=one_value, file=large_blocks, times_size=1.09, before="file, records, 256 MiB", times_before=1.1, by_user=True),
+    Case("file, records, 256 MiB, through a log", 0, b"1 ok\n", LARGE_BLOCKS_OF_256_MIB, script=no_checksum, flags=("--journal",), file=large_blocks, times_size=1.09, before="file, records, 256 MiB", times_before=1.1, by_user=True),
+    Case("file, records, 256 MiB, one value, through a log", 0, b"1 ok\n", LARGE_BLOCKS_OF_256_MIB, script=one_value, flags=("--journal",), file=large_blocks, times_size=1.09, before="file, records, 256 MiB, one value", times_before=1.3, by_user=True),
+    Case("file, records, 256 MiB, 400 values, through a log", 0, done(400), LARGE_BLOCKS_OF_256_MIB, script=far_values, flags=("--journal",), file=large_blocks, memory_beyond=400 * PAGE + 24 * MB, by_user=True),
     Case("check, 512 MB", 0, b"yes\n", 512 * MB, flags=("--check",), file=one_unused, times_cat=2, times_size=1.1, plain=("check",)),
     Case("check, 512 MB with a checksum", 0, b"yes\n", 512 * MB, flags=("--check",), file=sealed, times_md5sum=2, times_size=1.1),
     Case("file, 100000 attributes", 0, b"", HUNDRED_THOUSAND, file=attributes, times_md5sum=3, times_size=2),
@@ -167,5 +170,7 @@ LIBRARY_CASES = [
     LibraryCase("library, 100000 names", ["names", "100000", "100000"], ["find"], times_plain=2, before="library, 1000 names"),
     LibraryCase("library, 1000000 reads, 256 pages", ["pages", str(MB), str(16 * MIB)], ["first"], 16 * MIB, times_plain=8),
     LibraryCase("library, 1000000 reads, all cached", ["pages", str(MB), str(16 * MIB)], ["again"], 16 * MIB, times_plain=5),
+    LibraryCase("library, one value through a log, 256 MiB", ["log", "1", str(256 * MIB)], [], most_bytes=200_000),
+    LibraryCase("library, 400 values through a log, 256 MiB", ["log", "400", str(256 * MIB)], [], most_bytes=2 * 401 * PAGE + 400 * 24 + 1000),
     LibraryCase("library, 1000000 writes, undo, 256 MiB", ["undo", str(MB), str(256 * MIB)], ["write", "undo"], 256 * MIB, times_plain=3),
 ]

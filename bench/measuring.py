@@ -89,7 +89,7 @@ def seconds_of(command: list[str]) -> float:
 
 
 RATIOS = [(name, 7, 2) for name in ("md5sum", "cat", "cp", "plain", "before")]
-COLUMNS = [("seconds", 9, 3), ("user", 7, 2), *RATIOS, ("beyond", 7, 3), ("MiB", 9, 1), ("of size", 7, 2)]
+COLUMNS = [("seconds", 9, 3), ("user", 7, 2), *RATIOS, ("beyond", 7, 3), ("MiB", 9, 1), ("of size", 7, 2), ("bytes", 9, 0)]
 
 
 def print_head() -> None:
@@ -266,8 +266,19 @@ def shape_numbers(case: ShapeCase, tries: list[Run], plains: list[Run], earlier:
     return numbers
 
 
+def measure_bytes(case: LibraryCase) -> bool:
+    """Prints the line of a case that counts bytes, and says whether there are not too many."""
+    run = run_program([str(LIBRARIES), *case.words])
+    if run.status != 0:
+        print_wrong(run)
+        return False
+    return print_line(case.name, {"seconds": (run.seconds, None), "MiB": (run.memory / MIB, None), "bytes": (int(run.answer), case.most_bytes)})
+
+
 def measure_library(case: LibraryCase, runs: int, earlier: dict[str, float]) -> bool:
     """Prints the line of a case of a library, and says whether all is as it is wanted."""
+    if case.most_bytes:
+        return measure_bytes(case)
     made = [str(input_of(case.file, case.size))] if case.file else []
     tries, sums, plains = [], [], []
     for _ in range(runs):

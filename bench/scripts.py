@@ -258,6 +258,12 @@ def one_value(size: int) -> bytes:
     return b"put-val 0 %d %d 271828\n" % (size // (8 * IN_A_RECORD), IN_A_RECORD // 2)
 
 
+def far_values(size: int) -> bytes:
+    """Lines that put 400 values into such a file, each into another of its pages."""
+    apart = size // (4 * IN_A_RECORD) // 400
+    return b"".join(b"put-val 0 %d %d 271828\n" % (num * apart, IN_A_RECORD // 2) for num in range(400))
+
+
 def make_index_anew(size: int) -> bytes:
     """A line that makes the index of such a file anew."""
     return b"reindex 0\n"

@@ -2,7 +2,7 @@
 
 use cdf_area::AreaError;
 use cdf_rle::RleError;
-use std::alloc::AllocError;
+use std::alloc::{AllocError, AllocFailed};
 use std::io;
 
 /// Why a case was not done.
@@ -20,6 +20,12 @@ pub enum Failed {
 
 impl From<AllocError> for Failed {
     fn from(_: AllocError) -> Self {
+        Failed::NoMemory
+    }
+}
+
+impl<T: Drop> From<AllocFailed<T>> for Failed {
+    fn from(_: AllocFailed<T>) -> Self {
         Failed::NoMemory
     }
 }

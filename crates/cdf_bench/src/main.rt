@@ -6,10 +6,12 @@
 //!     names COUNT ASKED   a million look-ups of so many different ones among so many names
 //!     pages COUNT SIZE    so many reads of 8 bytes from a file of so many bytes in pages, and as many again
 //!     undo COUNT SIZE     so many writes of 8 bytes under one mark of an area of so many bytes, and back
+//!     log COUNT SIZE      the bytes that are written where so many values are put into a file of so many bytes through a log
 #![tactic(auto)]
 
 mod data;
 mod failed;
+mod log;
 mod names;
 mod pages;
 mod rle;
@@ -60,6 +62,7 @@ fn run(rt: &(impl Runtime + AllocGlobal)) -> Result<(), Failed> {
         "digest" => whole::run(rt, text(&words, 1)?),
         "names" => names::run(rt, number(&words, 1)?, number(&words, 2)?),
         "pages" => pages::run(rt, number(&words, 1)?, number(&words, 2)?),
+        "log" => log::run(rt, number(&words, 1)?, number(&words, 2)?),
         "undo" => undo::run(rt, number(&words, 1)?, number(&words, 2)?),
         _ => Err(Failed::Words),
     }
