@@ -24,8 +24,17 @@ class Maker:
     # Sparse rules, MaxRec, and how many records a leaf has beside its first
     rules, greatest, widths = (NO_RULE, NO_RULE, 1, 2), (-1, 0, 3, 9, 20), (0, 0, 1, 2, 7)
 
+    # What type, how many leaves and what blocking factor a variable has, and how often one is packed
+    types, leaf_counts, blockings, packed = list(TYPES.values()), (0, 1, 2, 5, 12, 30), (-3, 0, 1, 2, 4, 10), 0.4
+
+    # How many dimensions there are, and how large each is
+    dim_counts, dim_sizes = (0, 0, 1, 2), (1, 2, 3)
+
     # How many r variables, z variables and attributes there are
     r_counts, z_counts, a_counts = (0, 0, 1, 2), (0, 1, 2, 3), (0, 1, 2, 4)
+
+    # How many entries a chain has, if any, of how many elements, and below what their numbers are where there are few variables
+    entry_counts, entry_elems, entry_numbers = (1, 2, 4), (1, 1, 2, 5, 17), 4
 
     def __init__(self, random):
         self.random = random
@@ -61,8 +70,9 @@ class Maker:
             scope = self.random.choice((1, 2, 2, 3, 4))
             chains = {}
             for kind, share in ((AGREDR, 0.8), (AZEDR, 0.8 if scope in (2, 4) else 0.1)):
-                most = self.random.choice((1, 2, 4)) if self.chance(share) else 0
-                numbers = self.random.sample(range(max(variables + 2, 4)), min(most, max(variables + 2, 4)))
+                most = self.random.choice(self.entry_counts) if self.chance(share) else 0
+                below = max(variables + 2, self.entry_numbers)
+                numbers = self.random.sample(range(below), min(most, below))
                 chains[kind] = [self.entry(kind, num, k) for k in numbers]
                 self.link(chains[kind], Aedr.AEDRnext)
             part = self.part(ADR, 324, {
@@ -76,7 +86,7 @@ class Maker:
 
     def entry(self, kind, attribute, num):
         data_type = self.random.choice(list(TYPES.values()))
-        elems = self.random.choice((1, 1, 2, 5, 17))
+        elems = self.random.choice(self.entry_elems)
         value = self.random.randbytes(data_type.size * elems)
         return self.part(kind, 56 + len(value), {
             Aedr.AttrNum: attribute, Aedr.DataType: data_type.code, Aedr.Num: num, Aedr.NumElems: elems,
@@ -93,17 +103,17 @@ class Maker:
             part.fields[field] = after
 
     def dims(self):
-        return [self.random.choice((1, 2, 3)) for _ in range(self.random.choice((0, 0, 1, 2)))]
+        return [self.random.choice(self.dim_sizes) for _ in range(self.random.choice(self.dim_counts))]
 
     def variable(self, kind, num, rdims):
-        data_type = self.random.choice(list(TYPES.values()))
+        data_type = self.random.choice(self.types)
         elems = self.random.choice((1, 3)) if data_type.code in TEXT_TYPES else 1
         dims = rdims if kind == RVDR else self.dims()
         varys = [self.chance(0.7) for _ in dims]
         size = data_type.size * elems
         for d, v in zip(dims, varys):
             size *= d if v else 1
-        vary, rle, has_pad = self.chance(0.85), self.chance(0.4), self.chance(0.3)
+        vary, rle, has_pad = self.chance(0.85), self.chance(self.packed), self.chance(0.3)
         sparse = self.random.choice(self.rules)
         max_rec = self.random.choice(self.greatest if vary else (-1, 0, 0, 2))
         leaves = self.leaves(max_rec, size, rle)
@@ -123,13 +133,13 @@ class Maker:
             Vdr.Flags: flags | self.random.choice((0, 0, 8, 256)), Vdr.SRecords: sparse, Vdr.rfuB: self.any32(),
             Vdr.rfuC: self.any32(), Vdr.rfuF: self.any32(), Vdr.NumElems: elems, Vdr.Num: num,
             Vdr.CPRorSPRoffset: cpr if rle else self.random.choice((-1, 0)),
-            Vdr.BlockingFactor: self.random.choice((-3, 0, 1, 2, 4, 10))}, 84, self.name(b'v') + tail)
+            Vdr.BlockingFactor: self.random.choice(self.blockings)}, 84, self.name(b'v') + tail)
         return part
 
     def leaves(self, max_rec, size, rle):
         """Ranges with their blocks, with gaps, some past MaxRec."""
         made, at = [], 0
-        most = self.random.choice((0, 1, 2, 5, 12, 30))
+        most = self.random.choice(self.leaf_counts)
         while len(made) < most and at <= max_rec + 12:
             at += self.random.choice((0, 0, 0, 1, 4))
             last = at + self.random.choice(self.widths)
@@ -141,11 +151,14 @@ class Maker:
         dense = self.chance(0.4)
         plain = bytes(self.random.choice((0, 0, 0, self.random.randrange(256))) if not dense
                       else self.random.randrange(1, 256) for _ in range(count))
+        return self.plain_or_packed(plain, rle)
+
+    def plain_or_packed(self, plain, rle):
         if rle and self.chance(0.7):
             packed = encoded(plain) if self.chance(0.8) else b''.join(
                 bytes((0, 0)) if b == 0 else bytes((b,)) for b in plain)
             return self.part(CVVR, 24 + len(packed), {Cvvr.rfuA: self.any32(), Cvvr.cSize: len(packed)}, 24, packed)
-        return self.part(VVR, 12 + count, {}, 12, plain)
+        return self.part(VVR, 12 + len(plain), {}, 12, plain)
 
     # Indexes: a chain of nodes over items (first, last, part), some of them gathered under lower chains
 
@@ -228,7 +241,7 @@ class Maker:
         return listed
 
     def file(self):
-        rdims = [self.random.choice((1, 2, 3)) for _ in range(self.random.choice((0, 0, 1, 2)))]
+        rdims = self.dims()
         r = [self.variable(RVDR, i, rdims) for i in range(self.random.choice(self.r_counts))]
         z = [self.variable(ZVDR, i, rdims) for i in range(self.random.choice(self.z_counts))]
         self.link(r, Vdr.VDRnext)
