@@ -1,11 +1,11 @@
 """What is measured, and what is wanted of it."""
 
-from dataclasses import dataclass
+from dataclasses import dataclass, replace
 from typing import Callable, Optional
 
 from files import (
     ATTRIBUTE, ENTRIES, ENTRY, IN_A_BLOCK, VARIABLE, attributes, blocks_of_one, described_variables, entries,
-    entries_against, in_any_order, large_blocks, long_records, nodes_of_one, one_unused, other_eof, other_magic,
+    entries_against, in_any_order, large_blocks, large_records, long_records, nodes_of_one, one_unused, other_eof, other_magic,
     sealed, size_of_blocks, size_of_large_blocks, size_of_small_nodes, size_of_usual_blocks, usual_blocks, variables,
 )
 from places import MB, MIB
@@ -53,8 +53,11 @@ class LibraryCase:
     words: list[str]  # what cdf_bench is given, and the plain program too
     parts: list[str]  # whose times count
     size: Optional[int] = None  # bytes of the file, or of the area in memory
-    file: Optional[Callable[[int], bytes]] = None  # whose name is the last word, and which md5sum reads in place of the plain program
-    times_md5sum: Optional[float] = None  # what is wanted: at most so many times
+    file: Optional[Callable[[int], bytes]] = None  # whose name is the last word
+    times_md5sum: Optional[float] = None  # what is wanted: at most so many times; md5sum reads the file in place of the plain program
+    times_cp: Optional[float] = None
+    most_seconds: Optional[float] = None
+    times_made: Optional[float] = None  # memory beyond the file and 24 MB, of the size of what it makes, which it prints first
     times_plain: Optional[float] = None
     before: Optional[str] = None  # a case that stands before it
     times_before: Optional[float] = None
@@ -85,6 +88,12 @@ def dump_case(kind: str, file: Callable[[int], bytes], size: int, answer: bytes 
 def tally_case(records: int, **wanted) -> Case:
     size = size_of_usual_blocks(records // IN_A_BLOCK)
     return Case(f"tally, {records} records", 0, tallied(records), size, script=tally_it, flags=("--no-save",), file=usual_blocks, by_user=True, **wanted)
+
+
+def copy_cases(kind: str, file: Callable[[int], bytes], half: tuple[str, int], whole: tuple[str, int], **wanted) -> list[LibraryCase]:
+    """The copy of a file, and that of one of half the size before it."""
+    smaller, larger = [LibraryCase(f"library, copy, {count} {kind}", ["copy"], ["copy"], size, file, times_made=1.1) for count, size in (half, whole)]
+    return [smaller, replace(larger, before=smaller.name, times_before=2.5, **wanted)]
 
 
 HUNDRED_THOUSAND = 404 + 100_000 * ATTRIBUTE
@@ -170,6 +179,10 @@ LIBRARY_CASES = [
     LibraryCase("library, 100000 names", ["names", "100000", "100000"], ["find"], times_plain=2, before="library, 1000 names"),
     LibraryCase("library, 1000000 reads, 256 pages", ["pages", str(MB), str(16 * MIB)], ["first"], 16 * MIB, times_plain=8),
     LibraryCase("library, 1000000 reads, all cached", ["pages", str(MB), str(16 * MIB)], ["again"], 16 * MIB, times_plain=5),
+    *copy_cases("records of 4 bytes", usual_blocks, ("500032", size_of_usual_blocks(7_813)), ("1000000", size_of_usual_blocks(15_625)), times_plain=1.5),
+    *copy_cases("MB of records of 4 kB", long_records, ("50", size_of_large_blocks(50 * MB)), ("100", size_of_large_blocks(100 * MB)), times_cp=1.5),
+    *copy_cases("MB of records of 1 MB", large_records, ("52", size_of_large_blocks(52 * MB)), ("100", size_of_large_blocks(100 * MB)), times_cp=1.5),
+    *copy_cases("attributes", attributes, ("50000", 404 + 50_000 * ATTRIBUTE), ("100000", HUNDRED_THOUSAND), most_seconds=0.5),
     LibraryCase("library, one value through a log, 256 MiB", ["log", "1", str(256 * MIB)], [], most_bytes=200_000),
     LibraryCase("library, 400 values through a log, 256 MiB", ["log", "400", str(256 * MIB)], [], most_bytes=2 * 401 * PAGE + 400 * 24 + 1000),
     LibraryCase("library, 1000000 writes, undo, 256 MiB", ["undo", str(MB), str(256 * MIB)], ["write", "undo"], 256 * MIB, times_plain=3),

@@ -238,6 +238,7 @@ def nodes_of_one(size: int) -> bytes:
 LARGE_BLOCKS = 4
 IN_A_RECORD = 64  # the numbers of 4 bytes in each record of the large blocks
 IN_A_LONG_RECORD = 1_000
+IN_A_LARGE_RECORD = 250_000
 
 
 def size_of_large_blocks(size: int) -> int:
@@ -271,6 +272,10 @@ def large_blocks(size: int) -> bytes:
 
 def long_records(size: int) -> bytes:
     return blocks_of_records(IN_A_LONG_RECORD, size)
+
+
+def large_records(size: int) -> bytes:
+    return blocks_of_records(IN_A_LARGE_RECORD, size)
 
 
 IN_A_BLOCK = 64  # the records of a usual block

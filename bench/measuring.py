@@ -199,6 +199,7 @@ def measure(case: Case, runs: int, folder: Path, memory: dict[str, int], earlier
     return right and good
 
 
+BESIDE = 24 * MB  # bytes that a program may take beside what it opens and what it makes
 LONGEST_RUN = 120  # seconds, after which a run over a shape is ended
 LONG_RUNS = 20.0  # seconds, after which a case of a shape is not run again
 STOP = ["timeout", str(LONGEST_RUN)]
@@ -275,40 +276,62 @@ def measure_bytes(case: LibraryCase) -> bool:
     return print_line(case.name, {"seconds": (run.seconds, None), "MiB": (run.memory / MIB, None), "bytes": (int(run.answer), case.most_bytes)})
 
 
-def measure_library(case: LibraryCase, runs: int, earlier: dict[str, float]) -> bool:
+def run_library(case: LibraryCase, runs: int, copied: Path) -> Compared:
+    """Runs a case of a library in turn with what it is compared to."""
+    made = [str(input_of(case.file, case.size))] if case.file else []
+    of = Compared()
+    for _ in range(runs):
+        of.tries.append(run_program([str(LIBRARIES), *case.words, *made], has_laps=True))
+        if case.times_cp:
+            of.copies.append(seconds_of_copy(Path(made[0]), copied, on_disk=False))
+        if case.times_md5sum:
+            of.sums.append(seconds_of(["md5sum", *made]))
+        else:
+            of.plains.append(run_program([str(PLAIN), *case.words, *made], has_laps=True))
+    copied.unlink(missing_ok=True)
+    return of
+
+
+def library_numbers(case: LibraryCase, of: Compared, seconds: float, earlier: dict[str, float]) -> Numbers:
+    most = max(run.memory for run in of.tries)
+    numbers: Numbers = {"seconds": (seconds, case.most_seconds), "MiB": (most / MIB, None)}
+    if case.times_md5sum:
+        numbers["md5sum"] = (seconds / min(of.sums), case.times_md5sum)
+    else:
+        numbers["plain"] = (seconds / fastest(of.plains, case.parts), case.times_plain)
+    if case.times_cp:
+        numbers["cp"] = (seconds / min(of.copies), case.times_cp)
+    if case.before in earlier:
+        numbers["before"] = (seconds / earlier[case.before], case.times_before)
+    if case.times_made:
+        made = int(of.tries[-1].answer.split()[0])
+        numbers["of size"] = ((most - case.size) / made, case.times_made + BESIDE / made)
+    elif case.size:
+        numbers["of size"] = (most / case.size, None)
+    return numbers
+
+
+def measure_library(case: LibraryCase, runs: int, folder: Path, earlier: dict[str, float]) -> bool:
     """Prints the line of a case of a library, and says whether all is as it is wanted."""
     if case.most_bytes:
         return measure_bytes(case)
-    made = [str(input_of(case.file, case.size))] if case.file else []
-    tries, sums, plains = [], [], []
-    for _ in range(runs):
-        tries.append(run_program([str(LIBRARIES), *case.words, *made], has_laps=True))
-        if case.file:
-            sums.append(seconds_of(["md5sum", *made]))
-        else:
-            plains.append(run_program([str(PLAIN), *case.words], has_laps=True))
-    if any(run.status != 0 for run in tries + plains):
-        print_wrong(tries[-1])
+    of = run_library(case, runs, folder / "copied.cdf")
+    if any(run.status != 0 for run in of.tries + of.plains):
+        print_wrong(of.tries[-1])
         return False
-    seconds = fastest(tries, case.parts)
-    earlier[case.name] = seconds
-    most = max(run.memory for run in tries)
-    numbers = {"seconds": (seconds, None), "MiB": (most / MIB, None)}
-    if case.file:
-        numbers["md5sum"] = (seconds / min(sums), case.times_md5sum)
-        answer = subprocess.run(["md5sum", *made], stdout=subprocess.PIPE, check=True).stdout[:32] + b"\n"
-    else:
-        numbers["plain"] = (seconds / fastest(plains, case.parts), case.times_plain)
-        answer = plains[-1].answer
-    if case.before in earlier:
-        numbers["before"] = (seconds / earlier[case.before], case.times_before)
-    if case.size:
-        numbers["of size"] = (most / case.size, None)
-    good = print_line(case.name, numbers)
-    right = all(run.answer == answer for run in tries)
+    earlier[case.name] = seconds = fastest(of.tries, case.parts)
+    good = print_line(case.name, library_numbers(case, of, seconds, earlier))
+    answer = of.plains[-1].answer if of.plains else hash_by_md5sum(case)
+    right = all(run.answer == answer for run in of.tries)
     if not right:
-        print_wrong(tries[-1])
+        print_wrong(of.tries[-1])
     return right and good
+
+
+def hash_by_md5sum(case: LibraryCase) -> bytes:
+    """What md5sum says of the file."""
+    made = str(input_of(case.file, case.size))
+    return subprocess.run(["md5sum", made], stdout=subprocess.PIPE, check=True).stdout[:32] + b"\n"
 
 
 def fastest(tries: list[Run], parts: list[str]) -> float:

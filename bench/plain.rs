@@ -5,6 +5,8 @@
 
 #[path = "plain/check.rs"]
 mod check;
+#[path = "plain/copy.rs"]
+mod copy;
 #[path = "plain/edit.rs"]
 mod edit;
 #[path = "plain/image.rs"]
@@ -264,11 +266,25 @@ fn check_file(name: &str) -> std::io::Result<ExitCode> {
     Ok(if is_well_formed(&image, true) { ExitCode::SUCCESS } else { ExitCode::from(REJECTED) })
 }
 
+/// Makes the compact image of a file, says how long that took, and writes it where a path is given.
+fn copy_file(name: &str, out: Option<&String>) -> std::io::Result<()> {
+    let source = Image { bytes: std::fs::read(name)? };
+    let start = Instant::now();
+    let made = copy::copy(&source);
+    say_lap("copy", start);
+    println!("{} {:016x}", made.bytes.len(), sum_of(&made.bytes));
+    match out {
+        Some(out) => std::fs::write(out, &made.bytes),
+        None => Ok(()),
+    }
+}
+
 /// A command on a file.
 fn on_file(command: &str, name: &str) -> Option<std::io::Result<ExitCode>> {
     match command {
         "dump" => Some(dump(name).map(|()| ExitCode::SUCCESS)),
         "check" => Some(check_file(name)),
+        "copy" => Some(copy_file(name, None).map(|()| ExitCode::SUCCESS)),
         "edit" => Some(edit_file(name, false)),
         "edit-new" => Some(edit_file(name, true)),
         _ => None,
@@ -281,6 +297,11 @@ fn main() -> ExitCode {
     if let [command, name] = words.as_slice() {
         if let Some(status) = on_file(command, name) {
             return status.unwrap_or(ExitCode::FAILURE);
+        }
+    }
+    if let [command, name, out] = words.as_slice() {
+        if command == "copy" {
+            return copy_file(name, Some(out)).map_or(ExitCode::FAILURE, |()| ExitCode::SUCCESS);
         }
     }
     match (words.first().map(String::as_str), number(1), number(2)) {

@@ -1,7 +1,7 @@
 //! A plain check of the rules of a well-formed file, as far as the files of bench/run go: attributes with entries, z variables without dimensions,
 //! whose records are not packed, and unused records.
 
-use crate::image::{self, adr, entry, gdr, node, vdr, Image, KIND, LEAST, NEXT};
+use crate::image::{self, adr, bytes_of_type, entry, gdr, node, vdr, Image, KIND, LEAST, NEXT};
 use std::collections::HashSet;
 
 /// The rule that is broken, and the place.
@@ -34,18 +34,6 @@ const SHARED: u8 = 4;
 const MET: u8 = 8;
 
 const LAST_NUMBER: i32 = i32::MAX - 1;
-
-/// The bytes of a value of INT4 and the like, by the code of the type; 0 where none has it.
-fn bytes_of_type(code: u32) -> usize {
-    match code {
-        1 | 11 | 41 | 51 | 52 => 1,
-        2 | 12 => 2,
-        4 | 14 | 21 | 44 => 4,
-        8 | 22 | 31 | 33 | 45 => 8,
-        32 => 16,
-        _ => 0,
-    }
-}
 
 struct Checker<'a> {
     image: &'a Image,

@@ -81,6 +81,18 @@ pub const LEAST: usize = 28;
 /// A field of 4 or 8 bytes that counts as nothing.
 pub const NONE: u32 = u32::MAX;
 
+/// The bytes of a value of INT4 and the like, by the code of the type; 0 where none has it.
+pub fn bytes_of_type(code: u32) -> usize {
+    match code {
+        1 | 11 | 41 | 51 | 52 => 1,
+        2 | 12 => 2,
+        4 | 14 | 21 | 44 => 4,
+        8 | 22 | 31 | 33 | 45 => 8,
+        32 => 16,
+        _ => 0,
+    }
+}
+
 /// What an entry of a node says.
 #[derive(Clone, Copy)]
 pub struct Leaf {

@@ -1,7 +1,9 @@
 //! Why a case could not be measured.
 
 use cdf_area::AreaError;
+use cdf_convert::ConvertError;
 use cdf_rle::RleError;
+use cdf_session::AdoptError;
 use std::alloc::{AllocError, AllocFailed};
 use std::io;
 
@@ -14,6 +16,8 @@ pub enum Failed {
     NoMemory,
     /// A file, an output or the clock failed.
     Outside,
+    /// The file breaks a rule, or its compact image is too large.
+    File,
     /// What was packed does not fill the bytes that it was packed from.
     Packed,
 }
@@ -41,6 +45,25 @@ impl From<AreaError> for Failed {
         match error {
             AreaError::Fault => Failed::Outside,
             AreaError::NoMemory => Failed::NoMemory,
+        }
+    }
+}
+
+impl From<ConvertError> for Failed {
+    fn from(error: ConvertError) -> Self {
+        match error {
+            ConvertError::SourceFault | ConvertError::TargetFault => Failed::Outside,
+            ConvertError::TooLarge { .. } => Failed::File,
+            ConvertError::NoMemory => Failed::NoMemory,
+        }
+    }
+}
+
+impl From<AdoptError> for Failed {
+    fn from(error: AdoptError) -> Self {
+        match error {
+            AdoptError::Rejected { .. } => Failed::File,
+            AdoptError::Failed { error } => Failed::from(error),
         }
     }
 }

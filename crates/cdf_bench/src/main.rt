@@ -6,9 +6,11 @@
 //!     names COUNT ASKED   a million look-ups of so many different ones among so many names
 //!     pages COUNT SIZE    so many reads of 8 bytes from a file of so many bytes in pages, and as many again
 //!     undo COUNT SIZE     so many writes of 8 bytes under one mark of an area of so many bytes, and back
+//!     copy FILE [COPY]    the compact image of what a file tells, which is written to the copy
 //!     log COUNT SIZE      the bytes that are written where so many values are put into a file of so many bytes through a log
 #![tactic(auto)]
 
+mod copy;
 mod data;
 mod failed;
 mod log;
@@ -59,6 +61,7 @@ fn run(rt: &(impl Runtime + AllocGlobal)) -> Result<(), Failed> {
     let words = read_words(rt)?;
     match text(&words, 0)? {
         "rle" => rle::run(rt, number(&words, 1)?),
+        "copy" => copy::run(rt, text(&words, 1)?, words.get(2)),
         "digest" => whole::run(rt, text(&words, 1)?),
         "names" => names::run(rt, number(&words, 1)?, number(&words, 2)?),
         "pages" => pages::run(rt, number(&words, 1)?, number(&words, 2)?),
