@@ -56,10 +56,10 @@ class ZerosMaker(BlocksMaker):
 
 class LongMaker(Maker):
     """Records of so many bytes that a block of 1,048,576 holds a few of them, one, or not even one."""
-    types = [TYPE_NAMED[name] for name in ('INT1', 'UINT1', 'BYTE', 'CHAR', 'INT2')]
-    greatest, widths, leaf_counts, blockings = (0, 3, 5), (0, 1, 2), (2,), (0, 1, 2, 3, 100)
+    types = [TYPE_NAMED[name] for name in ('INT1', 'UINT1', 'BYTE', 'UCHAR', 'INT2')]
+    greatest, widths, leaf_counts, blockings = (5, 7), (2, 3), (2,), (0, 0, 2, 100)
     r_counts, z_counts, a_counts, dim_counts = (0,), (1,), (0,), (1,)
-    dim_sizes = (131_072, 131_073, 262_144, 262_145, 349_525, 349_526, 1_048_576, 1_048_577)
+    dim_sizes = (262_144, 262_145, 349_525, 349_526, 524_288, 524_289, 1_048_576, 1_048_577)
 
     def block(self, count, rle):
         piece = self.random.randbytes(self.random.randrange(1, 200)) + bytes(self.random.choice((0, 1, 300)))
