@@ -1,2 +1,1 @@
-pub mod ByteLists
 mod FineFile

@@ -1,6 +1,6 @@
 //! How long the compact image of a file takes to be written.
 
-ghost use Rattle.std.specs.Prelude.{◌<◌, IfOk};
+ghost use Rattle.std.specs.Prelude.{IfOk};
 ghost use Rattle.cdf_convert.specs.Laws.{IsOfBytes};
 ghost use Rattle.cdf_format.specs.Content.{content};
 ghost use Rattle.cdf_writer.specs.Fine.{Fine};
@@ -19,27 +19,16 @@ use std::fs;
 use std::rt::Runtime;
 use std::time::Instant;
 
-/// A byte is less than 256.
-fn is_byte(byte: u8)
-    ensures { byte < 256 }
-{
-    let _byte = byte;
-}
-
-/// Each element is a byte.
+/// What a slice holds are bytes.
 fn are_bytes(bytes: &[u8])
     ensures { IsOfBytes bytes.now }
-{
-    for byte in bytes {
-        is_byte(*byte);
-    }
-}
+{}
 
 /// Takes up the file of these bytes.
 fn open(alloc: Global, bytes: Vec<u8>) -> Result<Session<MemArea>, Failed>
-    requires { IsOfBytes bytes.items }
     ensures { IfOk result (λ session. Fine (content (⟦<MemArea as Area>⟧.image session))) }
 {
+    are_bytes(&bytes);
     match Session::adopt(alloc, MemArea::new(alloc, bytes, IMAGE_LIMIT)) {
         Ok(session) => Ok(session),
         Err(refusal) => Err(Failed::from(refusal.why)),
@@ -48,7 +37,6 @@ fn open(alloc: Global, bytes: Vec<u8>) -> Result<Session<MemArea>, Failed>
 
 /// Takes up the file of these bytes, and says how long that took.
 fn timed_open(rt: &(impl Runtime + AllocGlobal), bytes: Vec<u8>) -> Result<Session<MemArea>, Failed>
-    requires { IsOfBytes bytes.items }
     ensures { IfOk result (λ session. Fine (content (⟦<MemArea as Area>⟧.image session))) }
 {
     let start = Instant::now(rt)?;
@@ -91,9 +79,7 @@ pub fn run(
     path: &str,
     out: Option<&String>,
 ) -> Result<(), Failed> {
-    let bytes = fs::read(rt, path)?;
-    are_bytes(&bytes);
-    let mut session = timed_open(rt, bytes)?;
+    let mut session = timed_open(rt, fs::read(rt, path)?)?;
     let copy = timed_copy(rt, &mut session)?;
     let file = sealed(copy, session.head()?.md5)?;
     println!(rt; "{} {:016x}", file.len(), sum_of(&file))?;
