@@ -5,19 +5,19 @@ use Rattle.cdf_edits.specs.Space.Acts.{Among}
 
 -- ---- a space with more records in use, and more on no list
 
-abbrev with_others : SpaceLeft → List (ℕ × ℕ) → List (ℕ × ℕ) → SpaceLeft
+abbrev pub with_others : SpaceLeft → List (ℕ × ℕ) → List (ℕ × ℕ) → SpaceLeft
 with_others l used loose = record l { used = used; loose = loose }
 
-are_more : (l : SpaceLeft) (used loose : List (ℕ × ℕ)) (acts : List Act) → OnlyTakes acts → AreActs l acts → AreActs (with_others l used loose) acts
+pub are_more : (l : SpaceLeft) (used loose : List (ℕ × ℕ)) (acts : List Act) → OnlyTakes acts → AreActs l acts → AreActs (with_others l used loose) acts
 are_more l used loose [] takes are = tt
 are_more l used loose (Took place need ∷ acts) takes are = (are.0, are_more (after_act l (Took place need)) ((place, need) ∷ used) loose acts takes are.1)
 are_more l used loose (Gave place size ∷ acts) takes are = absurd takes
 
-are_both : (l : SpaceLeft) (xs ys : List Act) → AreActs l xs → AreActs (fold after_act l xs) ys → AreActs l (xs ++ ys)
+pub are_both : (l : SpaceLeft) (xs ys : List Act) → AreActs l xs → AreActs (fold after_act l xs) ys → AreActs l (xs ++ ys)
 are_both l [] ys p q = q
 are_both l (x ∷ xs) ys p q = (p.0, are_both (after_act l x) xs ys p.1 q)
 
-left_more : (now : List ℕ) (l : SpaceLeft) (used loose : List (ℕ × ℕ)) (acts : List Act) → OnlyTakes acts → ((x : ℕ × ℕ) → Among x l.used → Among x used) → ((x : ℕ × ℕ) → Among x l.loose → Among x loose) → HasLeft now (fold after_act l acts) → HasLeft now (fold after_act (with_others l used loose) acts)
+pub left_more : (now : List ℕ) (l : SpaceLeft) (used loose : List (ℕ × ℕ)) (acts : List Act) → OnlyTakes acts → ((x : ℕ × ℕ) → Among x l.used → Among x used) → ((x : ℕ × ℕ) → Among x l.loose → Among x loose) → HasLeft now (fold after_act l acts) → HasLeft now (fold after_act (with_others l used loose) acts)
 left_more now l used loose [] takes more others has =
     let used_are = each (λ place. Among (place, size_at now place) used) (used_records now) (λ m i. more (m, size_at now m) (Each-in (λ place. Among (place, size_at now place) l.used) (used_records now) has.used_are m i)) in
     let loose_are = each (λ place. Among (place, size_at now place) loose) (loose_records now) (λ m i. others (m, size_at now m) (Each-in (λ place. Among (place, size_at now place) l.loose) (loose_records now) has.loose_are m i)) in
@@ -27,17 +27,17 @@ left_more now l used loose (Gave place size ∷ acts) takes more others has = ab
 
 -- ---- the unused list of an image that has a shape
 
-each_sized : (b : List ℕ) (P : ℕ × ℕ → Type 0) (xs : List ℕ) → ((m : ℕ) → In m xs → P (m, size_at b m)) → Each P (sized b xs)
+pub each_sized : (b : List ℕ) (P : ℕ × ℕ → Type 0) (xs : List ℕ) → ((m : ℕ) → In m xs → P (m, size_at b m)) → Each P (sized b xs)
 each_sized b P [] h = tt
 each_sized b P (x ∷ xs) h = (h x (inl refl), each_sized b P xs (λ m i. h m (inr i)))
 
-each_among : (P : ℕ × ℕ → Type 0) (list : List (ℕ × ℕ)) → Each P list → (x : ℕ × ℕ) → Among x list → P x
+pub each_among : (P : ℕ × ℕ → Type 0) (list : List (ℕ × ℕ)) → Each P list → (x : ℕ × ℕ) → Among x list → P x
 each_among P [] h x a = absurd a
 each_among P (y ∷ list) h x (inl q) = subst P (sym q) h.0
 each_among P (y ∷ list) h x (inr a) = each_among P list h.1 x a
 
 -- each byte lies in one record, or behind the end
-unused_once : {b : List ℕ} → HasShape b (shape b) → Once (unused b (shape b)) (length b)
+pub unused_once : {b : List ℕ} → HasShape b (shape b) → Once (unused b (shape b)) (length b)
 unused_once {b = b} h j = go (shape b).unused h.unused_chain.once (λ m i. linkable-in b (shape b).records uir_type m (h.unused_chain.linkable m i))
   where
     none : (x : ℕ) (xs : List ℕ) → x ≤ j → j < x + size_at b x → x + size_at b x ≤ length b → ((m : ℕ) → In m xs → (x + size_at b x ≤ m) ⊎ (m + size_at b m ≤ x)) → having j (sized b xs) (length b) ≡ 0
@@ -52,7 +52,7 @@ unused_once {b = b} h j = go (shape b).unused h.unused_chain.once (λ m i. linka
         grind (arith, nat_tests, go xs once.1 (λ m i. sub m (inr i)), λ (low : x ≤ j) (under : j < x + size_at b x). none x xs low under high apart)
 
 -- it was a record of the list, or is the later part of one
-record Origin (b : List ℕ) (x : ℕ × ℕ) : Type 0 where
+pub record Origin (b : List ℕ) (x : ℕ × ℕ) : Type 0 where
   place : ℕ
   listed : In place (shape b).unused
   comes : ((x.0 ≡ place) × (x.1 ≡ size_at b place)) ⊎ ((place < x.0) × (x.0 + x.1 ≤ place + size_at b place))
