@@ -25,7 +25,7 @@ pub use Rattle.cdf_edits.specs.Commands.GreatestRecord.{RMaxRecFollows, greatest
 pub use Rattle.cdf_edits.specs.Commands.Puts.{CutsFirst, HoldsPads, PutsBytes, PutsIndex, PutsLeaves, PutsRecord, StaysUnwritten, TakesNode, UnwrittenStay, is_changed, is_written, new_ranges, stays_in_place, stored_in, was_leaf, written_in}
 pub use Rattle.cdf_edits.specs.Commands.Room.{blocks_room, is_rewritten, packed_room, put_room, quotient_up, room_of_variable, uncovered}
 unfoldable pub use Rattle.cdf_edits.specs.Commands.Room.{entries_below, entries_in, widest, widest_below}
-pub use Rattle.cdf_edits.specs.Index.Blocks.{block_count, covered, cut_open, first_written, new_range, ranges_after_put, ranges_before_put, ranges_of, record_length}
+pub use Rattle.cdf_edits.specs.Index.Blocks.{block_count, covered, cut_open, first_written, firsts_before_put, new_range, ranges_after_put, ranges_before_put, ranges_of, record_length}
 unfoldable pub use Rattle.cdf_edits.specs.Index.Blocks.{cover}
 pub use Rattle.cdf_edits.specs.Index.Grown.{entries_outline, with_ranges}
 unfoldable pub use Rattle.cdf_edits.specs.Index.Grown.{indexes_with, outline}

@@ -1,5 +1,5 @@
 -- Records that get a block one after the other: by their ranges, in the room of a put, which is enough for them, and in an index.
-use Rattle.cdf_puts.proofs.Common.{least_below, Ahead, Ascending, Counted, Covering, Entries, InOrder, Leaf, List, Nodes, None, Option, Range, Some, Variable, [], ap, arith, block, block_bytes, block_count, blocks_room, cases_eq, cases_lt, count_upto, cover, covered, covers, entries_below, entries_in, entry_count, entry_firsts, false, filter, find, find_covering, first_written, firsts_of, fold, inl, inr, is_sparse, le-ltb, leaf, leaves_more, leaves_of, length, length-append, lower, lt-ltb, ltb, map, max, min, nat_tests, new_last, new_range, new_room, next_first, no_entry, no_node, node, node_bytes, option_map, order_with_leaf, put_room, quotient_up, range, ranges_after_put, ranges_new, ranges_of, record_length, record_number_limit, refl, shared, subst, suc, sum_by-cons, sym, times_le, uncovered, unwrap_or, vxr_bytes, widest, with_leaf, with_range, zero, ℕ, ◌*◌, ◌+◌, ◌-◌, ◌<◌, ◌∙◌, ◌∷◌, ◌≡◌, ◌≤◌, ◌⊎◌, by_leaf, least_first_past}
+use Rattle.cdf_puts.proofs.Common.{least_below, Ahead, Ascending, Counted, Covering, Entries, InOrder, Leaf, List, Nodes, None, Option, Range, Some, Variable, [], ap, arith, block, block_bytes, block_count, blocks_room, cases_eq, cases_lt, count_upto, cover, covered, covers, entries_below, entries_in, entry_count, entry_firsts, false, filter, find, find_covering, first_written, firsts_of, fold, inl, inr, le-ltb, leaf, leaves_more, leaves_of, length, length-append, lower, lt-ltb, ltb, map, max, min, nat_tests, new_last, new_range, new_room, next_first, no_entry, no_node, node, node_bytes, option_map, order_with_leaf, put_room, quotient_up, range, ranges_after_put, ranges_new, ranges_of, record_length, record_number_limit, refl, shared, subst, suc, sum_by-cons, sym, times_le, uncovered, unwrap_or, vxr_bytes, widest, with_leaf, with_range, zero, ℕ, ◌*◌, ◌+◌, ◌-◌, ◌<◌, ◌∙◌, ◌∷◌, ◌≡◌, ◌≤◌, ◌⊎◌, by_leaf, least_first_past, if◌then◌else◌, nat_lt, extent, ranges_before_put, firsts_before_put}
 use Rattle.cdf_index.proofs.LeavesAscend.{leaves_ascend}
 use Rattle.cdf_puts.proofs.PutBytes.{found_covering}
 use Rattle.cdf_puts.proofs.LeafCounts.{entries_grow, next_firsts_with_leaf, wide_grows}
@@ -140,11 +140,45 @@ room_enough v nodes c m j q (suc u) some few full passed =
     let s = times_le (suc j) (quotient_up (suc u) (block_count v) + entries_in nodes + 1) (28 + vxr_bytes (widest nodes)) (many_blocks j c q (entries_in nodes) u (block_count v) (one_at_least v) full (omega arith) passed) in
     omega arith
 
+-- ---- where a put begins
+
+pub written_upto : (v : Variable) (n : ℕ) → first_written v n ≤ n
+written_upto v n = grind arith
+
+pub written_from : (v : Variable) (n : ℕ) → min n (extent v.max_rec) ≤ first_written v n
+written_from v n = grind arith
+
+found_upto : (k : ℕ) (rs : List Range) (r : Range) → find (covers k) rs ≡ Some r → k ≤ r.last
+found_upto k [] r e = grind (arith, e)
+found_upto k (x ∷ xs) r e = grind (arith, nat_tests, e, found_upto k xs r)
+
+-- of the Firsts, the least ones past the records from a first on alone count
+cover_same : (m : ℕ) (v : Variable) (fs fs' : List ℕ) (from k n : ℕ) (rs : List Range) → n ≤ record_number_limit → ((j : ℕ) → from ≤ j → next_first j fs ≡ next_first j fs') → from ≤ k → cover m v fs k n rs ≡ cover m v fs' k n rs
+unfolding cover
+cover_same zero v fs fs' from k n rs small same le = refl
+cover_same (suc m) v fs fs' from k n rs small same le = elim (cases_lt n k) [
+  | inl past ↦ rw (lt-ltb n k past) refl
+  | inr upto ↦ rw (le-ltb n k upto) (elim (some_or_none (find (covers k) rs)) [
+    | inl x ↦ rw x.1 (cover_same m v fs fs' from (x.0.last + 1) n rs small same (omega (arith, found_upto k rs x.0 x.1)))
+    | inr none ↦
+        let new : new_range v fs k ≡ new_range v fs' k = ap (λ (i : ℕ). if nat_lt k (extent v.max_rec) then range k k else range k (min (k + block_count v) i - 1)) (same k le) in
+        rw none (cover_same m v fs fs' from ((new_range v fs k).last + 1) n (with_range (new_range v fs k) rs) small same (omega (arith, (ends v fs k (omega arith)).0)) ∙ ap (λ (r : Range). cover m v fs' (r.last + 1) n (with_range r rs)) new)
+  ])
+]
+
+-- so many records had no block before the put
+uncovered_is : (v : Variable) (index : Nodes) (n : ℕ) → ranges_before_put v index n ≡ ranges_of index → uncovered v index n ≡ (n + 1 - first_written v n) - covered (first_written v n) n (ranges_of index)
+uncovered_is v index n same = ap (λ (rs : List Range). (n + 1 - first_written v n) - covered (first_written v n) n rs) same
+
 -- ---- a put under way
 
-pub covering_starts : (v : Variable) (index : Nodes) (n : ℕ) → is_sparse v.sparse ≡ false → InOrder 0 record_number_limit index → Covering v index index n (first_written v n) 0
-covering_starts v index n rule o =
-    let ahead : Ahead v (firsts_of index) n (first_written v n) (ranges_of index) (ranges_after_put v index n) = record { next = first_written v n; steps = n + 1 - first_written v n; upto = omega arith; enough = omega arith; between = λ j low high. absurd (omega arith); leads = rw rule refl } in
+pub covering_starts : (v : Variable) (index : Nodes) (n : ℕ) → n ≤ record_number_limit → ranges_before_put v index n ≡ ranges_of index → ((m : ℕ) → first_written v n ≤ m → next_first m (firsts_before_put v index n) ≡ next_first m (firsts_of index)) → InOrder 0 record_number_limit index
+    → Covering v index index n (first_written v n) 0
+covering_starts v index n small same nexts o =
+    let leads : cover (n + 1 - first_written v n) v (firsts_of index) (first_written v n) n (ranges_of index) ≡ ranges_after_put v index n =
+    cover_same (n + 1 - first_written v n) v (firsts_of index) (firsts_before_put v index n) (first_written v n) (first_written v n) n (ranges_of index) small (λ m le. sym (nexts m le)) (omega arith)
+    ∙ ap (λ (rs : List Range). cover (n + 1 - first_written v n) v (firsts_before_put v index n) (first_written v n) n rs) (sym same) in
+    let ahead : Ahead v (firsts_of index) n (first_written v n) (ranges_of index) (ranges_after_put v index n) = record { next = first_written v n; steps = n + 1 - first_written v n; upto = omega arith; enough = omega arith; between = λ j low high. absurd (omega arith); leads = leads } in
     let counted : first_written v n ≤ n → Counted v index index n (first_written v n) 0 = λ le. record { records = 0; blocks = 0; records_are = omega arith; blocks_are = omega arith; bytes_are = omega arith } in
     let grown : entries_in index + covered (first_written v n) n (ranges_of index) ≤ entries_in index + covered (first_written v n) n (ranges_of index) = omega arith in
     grind (arith, o, ahead, counted, grown)
@@ -153,10 +187,10 @@ pub covering_done : {v : Variable} {index index' : Nodes} {n k taken : ℕ} → 
 covering_done {v = v} {index = index} {n = n} c lt = let u = c.ahead.upto in sym (end_step v (firsts_of index) n c.ahead.steps c.ahead.next _ (omega arith)) ∙ c.ahead.leads
 
 -- at most as many entries come as records had no block
-pub covering_entries : {v : Variable} {index index' : Nodes} {n k taken : ℕ} → Covering v index index' n k taken → is_sparse v.sparse ≡ false → entries_in index' ≤ entries_in index + uncovered v index n
-covering_entries {v = v} {index' = index'} {n = n} c rule =
+pub covering_entries : {v : Variable} {index index' : Nodes} {n k taken : ℕ} → Covering v index index' n k taken → ranges_before_put v index n ≡ ranges_of index → entries_in index' ≤ entries_in index + uncovered v index n
+covering_entries {v = v} {index = index} {index' = index'} {n = n} c same =
     let most = (covered_most (first_written v n) n 0 0 (suc record_number_limit) (leaves_of index') (leaves_ascend 0 record_number_limit index' c.ordered (omega arith))).0 in
-    grind (arith, nat_tests, rule, most, c.grown)
+    omega (arith, uncovered_is v index n same, most, c.grown)
 
 module _ {v : Variable} {index index' : Nodes} {n k taken : ℕ} (c : Covering v index index' n k taken) (small : n ≤ record_number_limit) (le : k ≤ n) where
   abbrev fs : List ℕ
@@ -185,13 +219,13 @@ module _ {v : Variable} {index index' : Nodes} {n k taken : ℕ} (c : Covering v
   pub covering_ends : Ends k (next_first k (firsts_of index')) (block_count v) last
   covering_ends = ends v (firsts_of index') k (omega arith)
 
-  module _ (rule : is_sparse v.sparse ≡ false) (loose : v.rle ≡ false) (vacant : find (λ (leaf : Leaf). covers k (range leaf.first leaf.last)) (leaves_of index') ≡ None) where
+  module _ (same : ranges_before_put v index n ≡ ranges_of index) (loose : v.rle ≡ false) (vacant : find (λ (leaf : Leaf). covers k (range leaf.first leaf.last)) (leaves_of index') ≡ None) where
     none : find (covers k) (ranges_of index') ≡ None
     none = find_range k (leaves_of index') ∙ ap (option_map _) vacant
 
     -- of those that had no block, one at least has none yet
     one_left : so_far.records + 1 ≤ uncovered v index n
-    one_left = grind (arith, nat_tests, rule, (covered_most (first_written v n) n k 0 (suc record_number_limit) (leaves_of index') ascends).1 c.from (omega arith) le none, so_far.records_are)
+    one_left = omega (arith, uncovered_is v index n same, (covered_most (first_written v n) n k 0 (suc record_number_limit) (leaves_of index') ascends).1 c.from (omega arith) le none, so_far.records_are)
 
     in_room : (so_far.records + (last + 1 - k)) * record_length v + suc so_far.blocks * (28 + vxr_bytes (widest index)) ≤ put_room v index n
     in_room = omega (arith, room_enough v index so_far.records (last + 1 - k) so_far.blocks (count_upto k fs) (uncovered v index n) one_left covering_ends.2 so_far.blocks_are (omega (arith, count_most k fs, firsts_count index)))

@@ -7,7 +7,7 @@ use Rattle.cdf_index.proofs.Saying.{count_both}
 -- ---- a node keeps its room
 
 -- 1 for this node with this room
-abbrev with_room : ℕ → ℕ → ℕ → ℕ → ℕ
+abbrev pub with_room : ℕ → ℕ → ℕ → ℕ → ℕ
 with_room m r place room = if (place == m) && (room == r) then 1 else 0
 
 -- a node stands in an index with the room that an image says of it, and with no other
@@ -33,7 +33,7 @@ room_stays b now records records' levels levels' new at m index h h' i =
 -- ---- the Firsts, and the least of them past a record
 
 -- those that pass a test stay, where the new one does not pass it
-firsts_grow : (new : Leaf) (at : ℕ) (p : ℕ → Bool) → p new.first ≡ false → Grows new at (λ n a a'. filter p (firsts_of a') ≡ filter p (firsts_of a)) (λ n es es'. filter p (entry_firsts es') ≡ filter p (entry_firsts es))
+pub firsts_grow : (new : Leaf) (at : ℕ) (p : ℕ → Bool) → p new.first ≡ false → Grows new at (λ n a a'. filter p (firsts_of a') ≡ filter p (firsts_of a)) (λ n es es'. filter p (entry_firsts es') ≡ filter p (entry_firsts es))
 unfolding firsts_of entry_firsts
 firsts_grow new at p out = grind (arith, filter-append, firsts_both, append_assoc, append-nil, out)
 
@@ -46,7 +46,7 @@ pub places_new : (m : ℕ) (l : Leaf) (xs : List Leaf) → times m (places_of (w
 places_new m l [] = omega arith
 places_new m l (x ∷ xs) = grind (arith, times-append m (l.place ∷ []) (places_of (x ∷ xs)), times-append m (x.place ∷ []) (places_of xs), times-append m (x.place ∷ []) (places_of (with_new l xs)), places_new m l xs)
 
-one_new : (l x : Leaf) (xs : List Leaf) → (IsOneOf (with_new l xs) x → (x ≡ l) ⊎ IsOneOf xs x) × ((x ≡ l) ⊎ IsOneOf xs x → IsOneOf (with_new l xs) x)
+pub one_new : (l x : Leaf) (xs : List Leaf) → (IsOneOf (with_new l xs) x → (x ≡ l) ⊎ IsOneOf xs x) × ((x ≡ l) ⊎ IsOneOf xs x → IsOneOf (with_new l xs) x)
 one_new l x [] = (λ i. elim i [ inl e ↦ inl (sym e) | inr j ↦ absurd j ], λ i. grind (arith, i))
 one_new l x (y ∷ ys) = (λ i. grind (arith, i, (one_new l x ys).0), λ i. grind (arith, i, (one_new l x ys).1))
 
@@ -55,13 +55,13 @@ one_of_leaves new at low high index o l = rw (leaves_more new at low high index 
 
 -- ---- how wide the nodes are
 
-seven_below : (es : Entries) → 7 ≤ widest_below es
+pub seven_below : (es : Entries) → 7 ≤ widest_below es
 unfolding widest_below
 seven_below no_entry = omega arith
 seven_below (block first last place packed es) = seven_below es
 seven_below (lower first last nodes es) = omega (arith, seven_below es)
 
-widest_both : (es fs : Entries) → widest_below (with_both es fs) ≡ max (widest_below es) (widest_below fs)
+pub widest_both : (es fs : Entries) → widest_below (with_both es fs) ≡ max (widest_below es) (widest_below fs)
 unfolding widest_below
 widest_both no_entry fs = omega (arith, seven_below fs)
 widest_both (block first last place packed es) fs = widest_both es fs
@@ -73,7 +73,7 @@ unfolding widest widest_below
 wide_grows new at = grind (arith, widest_both, seven_at_least)
 
 -- a new node has no more entries than the widest, in each image that is sound
-room_grows : (b records : List ℕ) (new : Leaf) (at : ℕ)
+pub room_grows : (b records : List ℕ) (new : Leaf) (at : ℕ)
     → Grows new at (λ n a a'. (levels : ℕ) → HasNodes b records levels a → Each (NodeFits b) (nodes_of a) → n ≤ widest a) (λ n es es'. (levels : ℕ) → Names b records levels es → Each (NodeFits b) (lower_nodes es) → n ≤ widest_below es)
 unfolding widest widest_below HasNodes Names nodes_of lower_nodes
 room_grows b records new at = grind (arith, nat_tests, Each-split (NodeFits b), count_both, seven_at_least)
@@ -83,7 +83,7 @@ new_room_widest b records levels f index h fit = by_leaf (room_grows b records (
 
 -- ---- how many entries are used
 
-below_both : (es fs : Entries) → entries_below (with_both es fs) ≡ entries_below es + entries_below fs
+pub below_both : (es fs : Entries) → entries_below (with_both es fs) ≡ entries_below es + entries_below fs
 unfolding entries_below
 below_both no_entry fs = omega arith
 below_both (block first last place packed es) fs = below_both es fs

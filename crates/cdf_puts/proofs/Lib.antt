@@ -7,6 +7,7 @@ pub mod IndexWritten
 pub mod KnownStarts
 pub mod LeafCounts
 pub mod LeafEdit
+pub mod PutAlone
 pub mod PutBytes
 pub mod PutNodes
 pub mod PutRoom

@@ -128,7 +128,7 @@ unless_true s e = grind (arith, s, e)
 -- ---- nodes that stay
 
 -- what follows the entries of a node, where it stays
-spare_then : (b mid now : List ℕ) (acts : List Act) (m : ℕ) → room_at now m ≡ room_at mid m → (is_taken_at acts m ≡ false → size_at mid m ≡ size_at b m) → Same mid now (m + (28 + 16 * room_at mid m)) (m + size_at mid m) → NodeSpareStays b mid acts m → NodeSpareStays b now acts m
+pub spare_then : (b mid now : List ℕ) (acts : List Act) (m : ℕ) → room_at now m ≡ room_at mid m → (is_taken_at acts m ≡ false → size_at mid m ≡ size_at b m) → Same mid now (m + (28 + 16 * room_at mid m)) (m + size_at mid m) → NodeSpareStays b mid acts m → NodeSpareStays b now acts m
 spare_then b mid now acts m room size same was e = rw room (same-then b mid now (m + (28 + 16 * room_at mid m)) (m + size_at b m) (was e) (rw (size e) at same))
 
 -- none of them changes

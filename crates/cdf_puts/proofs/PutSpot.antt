@@ -1,7 +1,7 @@
 -- Where the next record is put: the records of a new block, each step by which records are put, and what an image says of a variable of which some records are put.
 use Rattle.cdf_puts.proofs.Common.{GoesOnTo, IsKnownStart, Option, refl, Leaf, put, Act, AddsLeaf, BlockRecords, Covering, GoesOn, HasIndex, In, IsBlockBody, IsBody, IsPut, IsVacant, Kind, LeafAdded, List, NodeTaken, Nodes, None, PutStart, PutsOn, PutsUpTo, Putting, RecordsWritten, SoFar, Some, SomePut, SomePutting, StandsAmong, Variable, VariableShape, [], ap, append-nil, arith, block_bytes, block_count, covers, div-le_self, drop, drop-append-le, drop_at, extent, false, find, first_written, firsts_of, fits, has, if◌then◌else◌, image_limit, in_middle, index_at, is_sparse, last_in_new, leaf, leaf_acts, leaf_of, leaves_of, length, length-append, length-drop, max_rec_at, min, most_in_block, nat_tests, new_last, new_range, new_room, next_first, node_bytes, number, range, record_bytes, record_length, record_of, record_put, records_put, shape, sparse_at, subst, suc, sym, take, take-append-le, take_all, taken_bytes, times_le, variable_of, variables, vdr_vxr_head, vdrs, vxr_bytes, widest, with_leaf, zero, ℕ, ◌*◌, ◌++◌, ◌+◌, ◌-◌, ◌<◌, ◌==◌, ◌∙◌, ◌∷◌, ◌≡◌, ◌≤◌}
 use Rattle.cdf_puts.proofs.LeafEdit.{r_max_rec_stays as leaf_r_max_rec, body_long, plain_body, leaf_goes_on, leaf_max_rec, taking}
-use Rattle.cdf_puts.proofs.CoveringRanges.{covering_starts, covering_has, covering_leaf, covering_room, covering_ends, Ends, one_at_least}
+use Rattle.cdf_puts.proofs.CoveringRanges.{covering_starts, covering_has, covering_leaf, covering_room, covering_ends, Ends, one_at_least, written_from}
 use Rattle.cdf_puts.proofs.GoesThen.{later_size, goes_then, goes_written, writes_nothing}
 use Rattle.cdf_puts.proofs.IndexAdded.{blocks_added, index_added}
 use Rattle.cdf_puts.proofs.LeafCounts.{new_room_widest}
@@ -46,7 +46,7 @@ module _ {b : List ℕ} {kind : Kind} {before : List VariableShape} {own : Varia
   pub so_far_starts : PutStart b kind before own after raw pad r → SoFar b b kind before own own after raw pad r (first_written (variable_of b own) r) []
   so_far_starts start =
       let goes = goes_written start.good start.among (writes_nothing start.good start.among) start.short in
-      let covers = covering_starts (variable_of b own) own.index r (ap is_sparse start.no_rule) (own_order start.good start.among) in
+      let covers = covering_starts (variable_of b own) own.index r start.small start.same_ranges start.same_nexts (own_order start.good start.among) in
       search (arith, start, goes, covers, starts_upto start, index_start start, blocks_start start)
 
   module _ {now : List ℕ} {own' : VariableShape} {k : ℕ} {acts : List Act} (so : SoFar b now kind before own own' after raw pad r k acts) (more : k ≤ r) where
@@ -68,7 +68,7 @@ module _ {b : List ℕ} {kind : Kind} {before : List VariableShape} {own : Varia
         let goes : GoesOn now now' kind before own' (record own' { index = with_leaf new at own'.index }) after step = leaf_goes_on good among w holds vacant (says.as_long ∙ ap (λ (n : ℕ). (last + 1 - k) * n) (sym (later_size so.start.good so.start.among so.goes))) short in
         let bytes : taken_bytes (acts ++ step) ≡ taken_bytes acts + block_bytes (variable_of b own) k last + node_bytes k own'.index = omega (arith, taken_sum acts step, leaf_bytes place (8 + length body) (new_room k own'.index) at, body_long body records holds, says.as_long) in
         let wide = new_room_widest now (shape now).records 8 k own'.index (has good among).indexed.has_nodes (fits good among).1 in
-        let covers : Covering (variable_of b own) own.index (with_leaf new at own'.index) r (min (last + 1) (r + 1)) (taken_bytes (acts ++ step)) = rw (bytes, is) (covering_leaf so.covers so.start.small more (ap is_sparse so.start.no_rule) so.start.loose vacant.uncovered place at wide) in
+        let covers : Covering (variable_of b own) own.index (with_leaf new at own'.index) r (min (last + 1) (r + 1)) (taken_bytes (acts ++ step)) = rw (bytes, is) (covering_leaf so.covers so.start.small more so.start.same_ranges so.start.loose vacant.uncovered place at wide) in
         rw (← upto) (search (arith, so, short, ← so.goes.vdr_is, leaf_max_rec good among w, leaf_r_max_rec good among w, goes_then so.start.good so.start.among so.goes goes so.takes (taking good among w).takes, takes_both acts step so.takes (taking good among w).takes, index_added so more is vacant holds says w goes.good goes.among, blocks_added so more is vacant holds says w goes.good goes.among))
 
 -- ---- how many records a new block has
@@ -77,8 +77,8 @@ most_within : (v : Variable) (r : ℕ) → (1 ≤ most_in_block v r) × (most_in
 most_within v r = grind (arith, nat_tests, one_at_least v, div-le_self 1048576 (record_length v))
 
 -- up to MaxRec it is one record, which is the one that is put
-last_as : (v : Variable) (index : Nodes) (k r most : ℕ) → is_sparse v.sparse ≡ false → most ≡ most_in_block v r → first_written v r ≤ k → k ≤ r → k < next_first k (firsts_of index) → last_in_new most index k ≡ new_last v index k
-last_as v index k r most rule is from upto before = let first : min r (extent v.max_rec) ≤ k = rw rule at from in grind (arith, nat_tests)
+last_as : (v : Variable) (index : Nodes) (k r most : ℕ) → most ≡ most_in_block v r → first_written v r ≤ k → k ≤ r → k < next_first k (firsts_of index) → last_in_new most index k ≡ new_last v index k
+last_as v index k r most is from upto before = let first : min r (extent v.max_rec) ≤ k = omega (arith, written_from v r) in grind (arith, nat_tests)
 
 -- a node more is no wider than the widest
 node_long : (b now : List ℕ) (room at wide : ℕ) → NodeTaken b now room at → room ≤ wide → length now ≤ length b + vxr_bytes wide
@@ -159,13 +159,13 @@ module _ {b now : List ℕ} {kind : Kind} {before : List VariableShape} {own : V
 
       module _ (end : ℕ) (end_is : end ≡ last_in_new new.most (index_at now at) k) (body : List ℕ) (says : IsBlockBody body (records_put new.raw.items new.pad.items new.rec (end + 1 - k) k)) where
         ends_at : end ≡ new_last (variable_of b own) own'.index k
-        ends_at = rw (at_is, searched.1) at end_is ∙ last_as (variable_of b own) own'.index k new.rec new.most (ap is_sparse so.start.no_rule) p.most_is so.covers.from more (omega (arith, ending.0, ending.1))
+        ends_at = rw (at_is, searched.1) at end_is ∙ last_as (variable_of b own) own'.index k new.rec new.most p.most_is so.covers.from more (omega (arith, ending.0, ending.1))
 
         -- an image that is read in between
         pub room_after : {mid : List ℕ} {bound : ℕ} → mid ≡ now → bound ≡ limit → length mid + (8 + length body) + vxr_bytes (widest (index_at mid (number mid new.vdr vdr_vxr_head))) ≤ bound
         room_after same bounded =
             let bytes = records_long new.raw.items new.pad.items new.rec (record_bytes b own.vdr) p.start.raw_long p.pad_long (end + 1 - k) k ∙ ap (λ (n : ℕ). (n + 1 - k) * record_bytes b own.vdr) ends_at in
-            let need = covering_room so.covers so.start.small more (ap is_sparse so.start.no_rule) so.start.loose none in
+            let need = covering_room so.covers so.start.small more so.start.same_ranges so.start.loose none in
             rw (same, bounded, searched.1) (omega (arith, longer_by b now is.acts so.goes.follow so.takes, body_long body (records_put new.raw.items new.pad.items new.rec (end + 1 - k) k) says, bytes, need))
 
         pub added_on : {now' : List ℕ} → AddsOn now now' new.vdr k end body → limit ≤ image_limit → GoesOnTo b now now' kind before own after new k (min end new.rec + 1) is

@@ -1,6 +1,6 @@
 -- The leaves that were put so far: which one more there is once a record is written or a leaf is added, that a put goes through them one after the other, and how that starts.
 use Rattle.cdf_puts.proofs.Common.{Act, Ascending, BlocksSoFar, Bool, IndexSoFar, IsOneOf, Kind, Leaf, List, NodeSpareStays, Nodes, NodesFollow, NodesSoFar, None, PutStart, PutsBefore, PutsLeaves, Range, Some, TakesNode, UnusedEntries, VariableShape, [], ap, append_assoc, arith, block_need, bytes_eq-same, covers, each, false, filter, find, first_written, has, if◌then◌else◌, in_order, indexes_with, inl, inr, is_in-true, leaf_acts, leaves_ascend, leaves_of, list_any, nat_tests, ne_eqb, new_ranges, new_room, node_acts, nodes_of, of_le, range, ranges_of, record_bytes, record_number_limit, refl, room, subst, suc, sym, through, top_chain, true, upto, used_count, variable_of, was_put, with_leaf, with_new, zero, ℕ, ◌++◌, ◌+◌, ◌<◌, ◌==◌, ◌∷◌, ◌≡◌, ◌≤◌, rules}
-use Rattle.cdf_puts.proofs.CoveringRanges.{of_leaves}
+use Rattle.cdf_puts.proofs.CoveringRanges.{of_leaves, written_upto}
 use Rattle.cdf_puts.proofs.PutBytes.{none_is_put}
 
 -- ---- which leaves were put
@@ -85,7 +85,7 @@ module _ {b : List ℕ} {kind : Kind} {before : List VariableShape} {own : Varia
   first = first_written (variable_of b own) r
 
   pub starts_upto : first ≤ r
-  starts_upto = rw start.no_rule (omega arith)
+  starts_upto = written_upto (variable_of b own) r
 
   pub index_start : IndexSoFar b b own own first first []
   index_start =

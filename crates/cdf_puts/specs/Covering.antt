@@ -1,4 +1,4 @@
--- How a put gives its records a block, one after the other, and how many bytes that takes by then (own; of a variable without a sparse rule, whose blocks are not packed).
+-- How a put gives its records a block, one after the other, and how many bytes that takes by then (own; of a variable whose blocks are not packed, and of which nothing has to be cut first).
 use Rattle.std.specs.Prelude.{◌≡◌, ◌≤◌, ◌<◌, ℕ, suc, ◌+◌, ◌-◌, ◌*◌, ◌==◌, max, List, [], ◌∷◌, nat_le, if◌then◌else◌, find, None}
 use Rattle.cdf_model.specs.DataSet.{Variable}
 use Rattle.cdf_model.specs.Limits.{record_number_limit}

@@ -1,14 +1,13 @@
--- How far record r of a variable is put, where no rule is followed and nothing is packed: the records before k have blocks and are written, and those from k on are not (own: records are written in ascending order, from MaxRec + 1 on where r is past that, and those before r hold the pad).
+-- How far record r of a variable is put, where nothing is packed and nothing has to be cut first: the records before k have blocks and are written, and those from k on are not (own: records are written in ascending order; without a rule from MaxRec + 1 on where r is past that, and those before r hold the pad; under a rule r alone).
 use Rattle.std.specs.Prelude.{◌≡◌, ◌⊎◌, ◌≤◌, ◌<◌, ℕ, ◌+◌, ◌-◌, ◌*◌, min, max, List, [], ◌++◌, length, map, take, drop, Bool, true, false, ◌==◌, nat_lt, if◌then◌else◌}
 use Rattle.std.specs.List.{filter, sum}
 use Rattle.cdf_model.specs.declared.kinds.Kind.{Kind}
-use Rattle.cdf_model.specs.declared.kinds.Sparse.TheVariants.{NoRule}
 use Rattle.cdf_model.specs.DataSet.{extent}
 use Rattle.cdf_model.specs.Limits.{image_limit, record_number_limit}
 use Rattle.cdf_edits.specs.Commands.GreatestRecord.{r_max_rec}
 use Rattle.cdf_edits.specs.Commands.Puts.{PutsLeaves, new_ranges}
 use Rattle.cdf_edits.specs.Frame.Changed.{Touch, Outside}
-use Rattle.cdf_edits.specs.Index.Blocks.{Range, ranges_of, first_written}
+use Rattle.cdf_edits.specs.Index.Blocks.{Range, ranges_of, firsts_of, next_first, first_written, firsts_before_put, ranges_before_put}
 use Rattle.cdf_edits.specs.Index.Grown.{with_ranges, indexes_with, outline}
 use Rattle.cdf_edits.specs.Index.Written.{is_taken_at, NodesFollow, top_chain}
 use Rattle.cdf_edits.specs.Space.Acts.{Act, taken}
@@ -22,7 +21,7 @@ use Rattle.cdf_format.specs.Index.{Nodes, Leaf, leaves_of, nodes_of}
 use Rattle.cdf_format.specs.Records.{vdr_max_rec, vvr_bytes}
 use Rattle.cdf_format.specs.Shape.{VariableShape, is_compressed}
 use Rattle.cdf_format.specs.Tiles.{In}
-use Rattle.cdf_format.specs.VariableFields.{record_bytes, sparse_at, max_rec_at}
+use Rattle.cdf_format.specs.VariableFields.{record_bytes, max_rec_at}
 use Rattle.cdf_format.specs.WellFormed.{Good}
 use Rattle.cdf_index.specs.Adding.{TailGoesOn}
 use Rattle.cdf_puts.specs.Covering.{Covering}
@@ -35,12 +34,13 @@ use Rattle.cdf_puts.specs.Steps.{MaxRecRaised}
 abbrev pub record_of : List ℕ → List ℕ → ℕ → ℕ → List ℕ
 record_of raw pad r j = if j == r then raw else pad
 
--- A variable of a good image in which record r may be put so, as these bytes, and each that it is past as those of a pad.
+-- A variable of a good image in which record r may be put so, as these bytes, and each that is written before it as those of a pad. What the put would cut first is cut by now: it begins with the ranges of the index, and each new block ends before the same First.
 pub record PutStart (b : List ℕ) (kind : Kind) (before : List VariableShape) (own : VariableShape) (after : List VariableShape) (raw pad : List ℕ) (r : ℕ) : Type 0 where
   pub good : Good b
   pub among : StandsAmong b kind before own after
   pub loose : is_compressed b own.vdr ≡ false
-  pub no_rule : sparse_at b own.vdr ≡ NoRule
+  pub same_ranges : ranges_before_put (variable_of b own) own.index r ≡ ranges_of own.index
+  pub same_nexts : (m : ℕ) → first_written (variable_of b own) r ≤ m → next_first m (firsts_before_put (variable_of b own) own.index r) ≡ next_first m (firsts_of own.index)
   pub small : r ≤ record_number_limit
   pub short : length b ≤ image_limit
   pub raw_long : length raw ≡ record_bytes b own.vdr

@@ -45,6 +45,10 @@ IsKnownOf starts v = IfSome (known_of starts v.vdr) (IsRightOf v.index)
 pub record KnowsStarts (b : List ℕ) (starts : Starts) : Type 0 where
   pub each : Each (IsKnownOf starts) (variables (shape b))
 
+-- what is known of the index of the variable whose VDR stands there is right of any index, as where nothing is known
+abbrev pub IsForgotten : ℕ → Starts → Type 0
+IsForgotten vdr starts = (index : Nodes) → IfSome (known_of starts vdr) (IsRightOf index)
+
 -- a bound that is known leaves room for so many entries more of an index
 abbrev pub LeavesEntries : KnownIndex → Nodes → ℕ → Type 0
 LeavesEntries known index more = IfSome known.bound (λ bound. entries_in index + more ≤ bound.entries)

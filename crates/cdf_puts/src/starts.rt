@@ -10,7 +10,7 @@ ghost use Rattle.cdf_format.specs.Tiles.{In};
 ghost use Rattle.cdf_format.specs.WellFormed.{Good};
 ghost use Rattle.cdf_index.specs.Finding.{index_at};
 ghost use Rattle.cdf_model.specs.Limits.{image_limit};
-ghost use Rattle.cdf_puts.specs.Starts.{ExpectsEntries, IsKnownStart, IsRightOf, IsWithin, KnowsStarts, known_of};
+ghost use Rattle.cdf_puts.specs.Starts.{ExpectsEntries, IsForgotten, IsKnownStart, IsRightOf, IsWithin, KnowsStarts, known_of};
 
 use crate::known_index::{IndexBound, KnownIndex};
 use cdf_area::{Area, AreaError};
@@ -62,6 +62,14 @@ impl Starts {
         ensures own { IfSome (known_of self.new vdr) (λ kept. kept ≡ known) }
     {
         let _kept = self.indexes.insert(vdr, known);
+    }
+
+    /// Lets go what is known of the index of the variable whose descriptor stands at a place.
+    pub fn forget_index(&mut self, vdr: u64)
+        ensures known { (b : List ℕ) → Good b → KnowsStarts b self.old → KnowsStarts b self.new }
+        ensures forgotten { IsForgotten vdr self.new }
+    {
+        let _known = self.take(vdr);
     }
 
     /// What bounds the index of the variable whose descriptor stands at a place, if that is known.

@@ -7,6 +7,7 @@ use Rattle.cdf_model.specs.declared.answer.Reply.TheVariants as replies
 use Rattle.cdf_puts.specs.Going.{found_in}
 use Rattle.cdf_edits.specs.Commands.Room.{uncovered}
 use Rattle.cdf_edits.specs.Index.Blocks.{is_sparse}
+use Rattle.cdf_puts.proofs.PutRules.{uncut, uncut_nexts, uncut_ranges}
 use Rattle.cdf_puts.specs.Starts.{ExpectsEntries, IsKnownOf, IsRightOf, KnowsStarts, known_of}
 use Rattle.cdf_var_records.specs.Room.{ExpectsPut}
 use Rattle.cdf_puts.specs.declared.starts.Starts.{Starts}
@@ -120,7 +121,8 @@ module _ {b : List ℕ} {t : Target} {bytes : List ℕ} {put : NewRecord} {limit
       good = k.good;
       among = is.among;
       loose = loose k.good is.among;
-      no_rule = no_rule k.good is.among;
+      same_ranges = uncut_ranges v is.own.index put.rec (uncut k.good is.among put.rec);
+      same_nexts = λ m le. uncut_nexts v is.own.index put.rec m (uncut k.good is.among put.rec);
       small = small;
       short = k.short;
       raw_long = ap length k.new.raw_is ∙ turned_long bytes k.can.long;
@@ -190,8 +192,8 @@ module _ {b : List ℕ} {t : Target} {bytes : List ℕ} {put : NewRecord} {limit
           named = so.named ∙ ap Some found_same
 
           by : (c : Command) → PutsAs name put.rec c → step (content b) c ≡ ByStep (Go (with_variable (content b) (found_in b kind is.before is.own) (with_record v put.rec bytes)) replies.Plain) → Follows b c last
-          by (commands.PutRec var rec words) p goes = let e = p.0 in let f = p.1 in rw (e, f) (put_rec_done done.so max_rec_done pad_stored name named bytes raw_is pad_is words (rw (e, f) at goes))
-          by (commands.PutVal var rec index words) p goes = let e = p.0 in let f = p.1 in rw (e, f) (put_val_done done.so max_rec_done pad_stored name named bytes raw_is pad_is index words (rw (e, f) at goes))
+          by (commands.PutRec var rec words) p goes = let e = p.0 in let f = p.1 in rw (e, f) (put_rec_done done.so max_rec_done pad_stored (uncut k.good is.among put.rec) name named bytes raw_is pad_is words (rw (e, f) at goes))
+          by (commands.PutVal var rec index words) p goes = let e = p.0 in let f = p.1 in rw (e, f) (put_val_done done.so max_rec_done pad_stored (uncut k.good is.among put.rec) name named bytes raw_is pad_is index words (rw (e, f) at goes))
           by _ p goes = absurd p
 
       -- ---- what is kept of the variables
@@ -203,7 +205,7 @@ module _ {b : List ℕ} {t : Target} {bytes : List ℕ} {put : NewRecord} {limit
       starts_now {starts} knows expects =
           let left = subst (λ (at : ℕ). ExpectsEntries starts at is.own.index (uncovered v is.own.index put.rec)) (sym is.vdr_is)
           (let x = is.variable_is in let nodes = index_there k.good is in transport (λ i. ExpectsEntries starts vdr (nodes i) (uncovered (x i) (nodes i) put.rec)) expects) in
-          let yet = λ (is_right : IfSome (known_of starts is.own.vdr) (IsRightOf is.own.index)). right_yet is.own.index done.own'.index (uncovered v is.own.index put.rec) (known_of starts is.own.vdr) is_right left done.so.index.tops (covering_entries done.so.covers (ap is_sparse done.so.start.no_rule)) done.so.covers.as_wide in
+          let yet = λ (is_right : IfSome (known_of starts is.own.vdr) (IsRightOf is.own.index)). right_yet is.own.index done.own'.index (uncovered v is.own.index put.rec) (known_of starts is.own.vdr) is_right left done.so.index.tops (covering_entries done.so.covers done.so.start.same_ranges) done.so.covers.as_wide in
           record { each = subst (λ (s : Shape). Each (IsKnownOf starts) (variables s)) (sym last_shape) (starts_go_on knows kind is.among done.so.goes yet).each }
 
       pub known_now : {known : Known} → Knows b known → Knows last known
