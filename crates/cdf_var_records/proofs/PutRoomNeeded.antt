@@ -12,7 +12,8 @@ use Rattle.cdf_puts.specs.declared.starts.Starts.{Starts}
 use Rattle.cdf_var_records.specs.Room.{ExpectsPut, bytes_by, room_by, room_in}
 use Rattle.cdf_var_records.specs.declared.put_room.NewBlocks.{NewBlocks}
 use Rattle.std.proofs.Math.Nat.{mul-le-mul}
-use Rattle.std.specs.Prelude.{IfSome, zero, ◌*◌}
+use Rattle.std.specs.Prelude.{IfSome, zero, ◌*◌, if◌then◌else◌}
+use Rattle.cdf_model.specs.declared.kinds.Sparse.{Sparse}
 use Rattle.cdf_puts.proofs.PutRules.{loose}
 use Rattle.cdf_var_records.proofs.RecordForms.{variable_is}
 use Rattle.cdf_var_records.proofs.RecordReading.{index, lies}
@@ -40,6 +41,14 @@ none_past r cut (x ∷ xs) lt low a =
 
 pub first_upto : (v : Variable) (r from : ℕ) → from ≡ first_written v r → from ≤ r
 first_upto v r from from_is = elim (either (is_sparse v.sparse)) [ inl t ↦ omega (arith, rw t at from_is) | inr t ↦ omega (arith, rw t at from_is) ]
+
+-- without a gap it is the record itself, else a rule decides
+pub first_there : (v : Variable) (r : ℕ) {count : ℕ} → count ≡ extent v.max_rec → r ≤ count → r ≡ first_written v r
+first_there v r is le = elim (either (is_sparse v.sparse)) [ inl t ↦ rw t refl | inr t ↦ rw t (omega (arith, is, le)) ]
+
+pub first_behind : (v : Variable) (r : ℕ) {count from : ℕ} {rule : Sparse} → count ≡ extent v.max_rec → count < r → rule ≡ v.sparse → from ≡ (if is_sparse rule then r else count) → from ≡ first_written v r
+first_behind v r {rule = rule} is lt rule_is from_is =
+    from_is ∙ (λ i. if is_sparse (rule_is i) then r else is i) ∙ elim (either (is_sparse v.sparse)) [ inl t ↦ rw t refl | inr t ↦ rw t (omega (arith, is, lt)) ]
 
 pub cut_first : (v : Variable) (nodes : Nodes) (r from : ℕ) → from ≡ first_written v r → Ascending 0 (suc record_number_limit) (leaves_of nodes) → extent v.max_rec < from → r + 1 - from ≡ uncovered v nodes r
 cut_first v nodes r from from_is a past = elim (either (is_sparse v.sparse)) [

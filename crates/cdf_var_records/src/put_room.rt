@@ -1,15 +1,17 @@
 //! Whether there is room for a put.
 
-ghost use Rattle.std.specs.Prelude.{◌≡◌, ◌≤◌, ◌<◌, ◌+◌, ◌-◌, ◌^◌, suc, length, true, false, IfOk, IfSome};
+ghost use Rattle.std.specs.Prelude.{◌≡◌, ◌≤◌, ◌<◌, ◌+◌, ◌-◌, ◌^◌, suc, length, true, false, IfOk, IfSome, if◌then◌else◌};
 ghost use Rattle.cdf_area.specs.Calls.{Reads};
 ghost use Rattle.cdf_edits.proofs.Edits.LeafRecords.{Ascending};
 ghost use Rattle.cdf_edits.specs.Commands.Room.{uncovered};
-ghost use Rattle.cdf_edits.specs.Index.Blocks.{block_count, covered, first_written, ranges_of, wanted_count};
+ghost use Rattle.cdf_edits.specs.Index.Blocks.{block_count, covered, first_written, is_sparse, ranges_of, wanted_count};
 ghost use Rattle.cdf_format.specs.Fields.{LiesIn, integer4, number};
 ghost use Rattle.cdf_format.specs.Index.{leaves_of};
 ghost use Rattle.cdf_format.specs.Records.{vdr_blocking_factor, vdr_vxr_head, past, vdr_name};
+ghost use Rattle.cdf_format.specs.VariableFields.{max_rec_at};
 ghost use Rattle.cdf_format.specs.WellFormed.{Good};
 ghost use Rattle.cdf_index.specs.Finding.{index_at, HasIndex};
+ghost use Rattle.cdf_model.specs.DataSet.{extent};
 ghost use Rattle.cdf_model.specs.Limits.{image_limit, record_number_limit};
 ghost use Rattle.cdf_model.specs.Place.{record_limit};
 ghost use Rattle.cdf_puts.specs.Searching.{IsSearch};
@@ -20,11 +22,13 @@ ghost use Rattle.cdf_var_records.specs.Records.{IsForm, variable_at};
 use crate::extent::read_extent;
 use crate::form::Form;
 use crate::record::{record_size_of, says_vary};
+use crate::variable::read_sparse;
 use cdf_area::{Area, AreaError};
 use cdf_format::fields::{
     LINKED_SIZE, VDR_BLOCKING_FACTOR, VDR_VXR_HEAD, VXR_ENTRY_SIZE, VXR_FIRST,
 };
 use cdf_index::index_size;
+use cdf_model::Sparse;
 use cdf_model::limits::RECORD_NUMBER_LIMIT;
 use cdf_puts::{IndexBound, Search, Starts};
 use cdf_records::{read_signed4, read_unsigned8};
@@ -53,6 +57,36 @@ pub struct NewBlocks {
     pub size: u64,
     /// How many records have no block.
     pub missing: u32,
+}
+
+/// The first record that is written where one past MaxRec + 1 is put, by the rule for missing records and by how many records there are.
+fn first_past(rule: Sparse, rec: u32, count: u32) -> u32
+    ensures { result ≡ (if is_sparse rule then rec else count) }
+{
+    match rule {
+        Sparse::NoRule => count,
+        Sparse::Pad | Sparse::Previous => rec,
+    }
+}
+
+/// The first record that is written where a record is put of the variable whose descriptor stands at a place, and which has so many
+/// records: without a rule for missing records, those past MaxRec are written too.
+pub fn read_first_written<A: Area>(
+    area: &mut A,
+    vdr: u64,
+    rec: u32,
+    count: u32,
+) -> Result<u32, AreaError>
+    requires lies { LiesIn (A.image area.old) vdr vdr_name }
+    requires count { count ≡ extent (max_rec_at (A.image area.old) vdr) }
+    ensures first { IfOk result (λ from. from ≡ first_written (variable_at (A.image area.old) vdr) rec) }
+    ensures area { Reads A.image A.frame A.faults A.edited area.old area.new result }
+{
+    if rec <= count {
+        return Ok(rec);
+    }
+    let rule = read_sparse(area, vdr)?;
+    Ok(first_past(rule, rec, count))
 }
 
 /// How many records a block is to have, by BlockingFactor.
