@@ -31,9 +31,6 @@ pub enum Condition {
     DimensionSize { number: u64, size: u32 },
     /// VARYS has a letter for each dimension.
     Letters { letters: u64, dimensions: u64 },
-    /// VARYS has a letter for each dimension that the r variables share, and a record has at most 67,108,864 bytes; of these two a
-    /// line with so many letters breaks either.
-    SharedLetters(u64),
     /// A record has at most 67,108,864 bytes.
     RecordSize,
     /// An encoding has this number.

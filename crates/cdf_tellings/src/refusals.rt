@@ -134,11 +134,6 @@ fn write_condition<W: fmt::Write>(condition: Condition, f: &mut fmt::Formatter<W
             f,
             "VARYS has a letter for each dimension: {dimensions} are wanted, not {letters}"
         ),
-        Condition::SharedLetters(letters) => write!(
-            f,
-            "VARYS has a letter for each dimension that the r variables share, and not {letters}; \
-             or else a record would have more than 67108864 bytes"
-        ),
         Condition::RecordSize => f.write_str("a record has at most 67108864 bytes"),
         Condition::Encoding(code) => write!(f, "{code} is no encoding"),
         Condition::Signed(n) => write!(f, "{n} is past 2147483647"),

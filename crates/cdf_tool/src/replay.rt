@@ -13,7 +13,7 @@ ghost use Rattle.cdf_tool.specs.Answering.{IsAnswer, IsReplyOf, RepliesTo};
 ghost use Rattle.cdf_tool.specs.Idle.{asks_idly, line_idles};
 ghost use Rattle.cdf_tool.specs.Replay.{IsSayable, IsShort, asked_by};
 
-use crate::conditions::broken_condition;
+use crate::conditions::read_broken_condition;
 use cdf_area::{Area, AreaError};
 use cdf_lines::Line;
 use cdf_model::{Bytes, Command, LineError, Outcome, Reason};
@@ -126,8 +126,9 @@ fn answer_outcome<A: Area>(
     ensures area { Edits A.frame A.faults session.old session.new result }
 {
     let outcome = session.apply(command)?;
+    let broken = read_broken_condition(session, command, &outcome)?;
     let remarks = Remarks {
-        broken: broken_condition(command, &outcome),
+        broken,
         mark: mark_of_command(line, &outcome),
     };
     Ok(answer_of(alloc, line.number, &outcome, remarks)?)
