@@ -69,7 +69,12 @@ fn lead_to<A: Area>(area: &mut A, vdr: u64, left: Left) -> Result<(), AreaError>
 /// Cuts records out of the index of the variable whose descriptor stands at a place: each block keeps what is left of its records, the nodes that
 /// stay are written, and what has no record left is freed, the blocks by record number and then the nodes, lower ones first. The bytes of blocks
 /// that stay are not touched. After an error a part of this may have been done.
-fn cut_index<A: Area>(alloc: Global, area: &mut A, vdr: u64, span: Span) -> Result<(), AreaError>
+pub fn cut_index<A: Area>(
+    alloc: Global,
+    area: &mut A,
+    vdr: u64,
+    span: Span,
+) -> Result<(), AreaError>
     requires good { Good (A.image area.old) }
     requires vdr { In vdr (vdrs (variables (shape (A.image area.old)))) }
     requires order { span.first ≤ span.last }
@@ -95,7 +100,7 @@ fn cut_index<A: Area>(alloc: Global, area: &mut A, vdr: u64, span: Span) -> Resu
 }
 
 /// The leaf of an index that has a record and later ones, if there is one.
-fn find_later<A: Area>(area: &mut A, head: u64, last: u32) -> Result<Option<Leaf>, AreaError>
+pub fn find_later<A: Area>(area: &mut A, head: u64, last: u32) -> Result<Option<Leaf>, AreaError>
     requires index { HasIndex (A.image area.old) head }
     requires order { Ascending 0 (suc record_number_limit) (leaves_of (index_at (A.image area.old) head)) }
     requires short { length (A.image area.old) ≤ image_limit }
@@ -113,7 +118,7 @@ fn find_later<A: Area>(area: &mut A, head: u64, last: u32) -> Result<Option<Leaf
 }
 
 /// Moves the later records of a leaf, from one behind a last on, to where the first one that goes stands in its block, or to its front.
-fn join_later<A: Area>(
+pub fn join_later<A: Area>(
     alloc: Global,
     area: &mut A,
     leaf: &Leaf,
