@@ -13,12 +13,12 @@ use Rattle.cdf_format.proofs.Tests.{same_of_bytes_eq}
 
 -- ---- its last node
 
-last_with : (span : Span) (prev place room : ℕ) (es' : Entries) (ws : List Entry) (rest more : Nodes) → ws ≡ words_of es' → ((p : ℕ) → stands_in span p more ≡ unwrap_or (last_or (Some p) (top_chain rest)) 0) → stands_in span (stands_after prev place ws) more ≡ unwrap_or (last_or (Some prev) (top_chain (node_if place room es' rest))) 0
+pub last_with : (span : Span) (prev place room : ℕ) (es' : Entries) (ws : List Entry) (rest more : Nodes) → ws ≡ words_of es' → ((p : ℕ) → stands_in span p more ≡ unwrap_or (last_or (Some p) (top_chain rest)) 0) → stands_in span (stands_after prev place ws) more ≡ unwrap_or (last_or (Some prev) (top_chain (node_if place room es' rest))) 0
 last_with span prev place room no_entry ws rest more e so = rw e (so prev)
 last_with span prev place room (block f l q packed es) ws rest more e so = rw e (so place)
 last_with span prev place room (lower f l ns es) ws rest more e so = rw e (so place)
 
-last_kept : (span : Span) (prev : ℕ) (ns : Nodes) → stands_in span prev ns ≡ unwrap_or (last_or (Some prev) (top_chain (cut span ns))) 0
+pub last_kept : (span : Span) (prev : ℕ) (ns : Nodes) → stands_in span prev ns ≡ unwrap_or (last_or (Some prev) (top_chain (cut span ns))) 0
 unfolding stands_in cut_nodes
 last_kept span prev no_node = refl
 last_kept span prev (node place room es more) = last_with span prev place room (cut_below span es) (cut_words span es) (cut span more) more (words_are span es) (λ p. last_kept span p more)
@@ -32,7 +32,7 @@ last_is span ns = last_kept span 0 ns ∙ by (top_chain (cut span ns))
 
 -- ---- whether a node went
 
-none_whole : (span : Span) (ns : Nodes) → whole_in span false ns ≡ false
+pub none_whole : (span : Span) (ns : Nodes) → whole_in span false ns ≡ false
 unfolding whole_in
 none_whole span no_node = refl
 none_whole span (node place room es more) = by (cut_words span es) (none_whole span more)
@@ -42,14 +42,14 @@ none_whole span (node place room es more) = by (cut_words span es) (none_whole s
     by (w ∷ ws) e = e
 
 -- all nodes stay, or one went
-abbrev Kept : Bool → List ℕ → List ℕ → Type 0
+abbrev pub Kept : Bool → List ℕ → List ℕ → Type 0
 Kept whole before after = ((whole ≡ true) × (after ≡ before)) ⊎ ((whole ≡ false) × (length after < length before))
 
-no_longer : {whole : Bool} {before after : List ℕ} → Kept whole before after → length after ≤ length before
+pub no_longer : {whole : Bool} {before after : List ℕ} → Kept whole before after → length after ≤ length before
 no_longer (inl k) = omega (arith, ap length k.1)
 no_longer (inr k) = omega (arith, k.1)
 
-kept_with : (span : Span) (place room : ℕ) (es' : Entries) (ws : List Entry) (rest more : Nodes) → ws ≡ words_of es' → Kept (whole_in span true more) (top_chain more) (top_chain rest) → Kept (whole_in span (whole_after true ws) more) (place ∷ top_chain more) (top_chain (node_if place room es' rest))
+pub kept_with : (span : Span) (place room : ℕ) (es' : Entries) (ws : List Entry) (rest more : Nodes) → ws ≡ words_of es' → Kept (whole_in span true more) (top_chain more) (top_chain rest) → Kept (whole_in span (whole_after true ws) more) (place ∷ top_chain more) (top_chain (node_if place room es' rest))
 kept_with span place room no_entry ws rest more e k = rw e (inr (none_whole span more, omega (arith, no_longer k)))
 kept_with span place room (block f l q packed es) ws rest more e k = rw e (one_more place k)
   where
@@ -62,7 +62,7 @@ kept_with span place room (lower f l ns es) ws rest more e k = rw e (one_more pl
     one_more place (inl k) = inl (k.0, ap (λ (xs : List ℕ). place ∷ xs) k.1)
     one_more place (inr k) = inr (k.0, omega (arith, k.1))
 
-chain_kept : (span : Span) (ns : Nodes) → Kept (whole_in span true ns) (top_chain ns) (top_chain (cut span ns))
+pub chain_kept : (span : Span) (ns : Nodes) → Kept (whole_in span true ns) (top_chain ns) (top_chain (cut span ns))
 unfolding whole_in cut_nodes
 chain_kept span no_node = inl (refl, refl)
 chain_kept span (node place room es more) = kept_with span place room (cut_below span es) (cut_words span es) (cut span more) more (words_are span es) (chain_kept span more)
@@ -76,7 +76,7 @@ whole_is span ns = by (chain_kept span ns)
 
 -- ---- where nothing is taken
 
-none_any : (f : ℕ → Bool) (xs : List ℕ) → ((x : ℕ) → f x ≡ false) → list_any f xs ≡ false
+pub none_any : (f : ℕ → Bool) (xs : List ℕ) → ((x : ℕ) → f x ≡ false) → list_any f xs ≡ false
 none_any f [] h = refl
 none_any f (x ∷ xs) h = rw (h x) (none_any f xs h)
 

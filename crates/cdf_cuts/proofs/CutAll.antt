@@ -5,10 +5,10 @@ use Rattle.cdf_cuts.proofs.CutWords.{cut, cut_below}
 unfoldable use Rattle.cdf_edits.specs.Index.Grown.{cut_entries, cut_nodes}
 use Rattle.cdf_model.specs.Limits.{record_number_limit}
 
-abbrev span : Span
+abbrev pub span : Span
 span = record { first = 0; last = 2147483646; close = false }
 
-none_kept : (f l : ℕ) → l ≤ 2147483646 → kept_by span (range f l) ≡ []
+pub none_kept : (f l : ℕ) → l ≤ 2147483646 → kept_by span (range f l) ≡ []
 none_kept f l le =
     let low : 0 ≤ f = omega arith in
     rw (le-ltb _ _ low, le-ltb _ _ le) refl

@@ -22,18 +22,18 @@ use Rattle.cdf_cuts.specs.Planning.{found_in}
 use Rattle.cdf_edits.proofs.Edits.Common.{distinct_if}
 use Rattle.cdf_index.proofs.Common.{times-once}
 
-found_link : (found : Option Entry) (rest : Nodes) → PlaceIs found rest → link_found found ≡ link_to rest
+pub found_link : (found : Option Entry) (rest : Nodes) → PlaceIs found rest → link_found found ≡ link_to rest
 found_link None rest p = rw p refl
 found_link (Some e) rest p = p.1
 
 -- one of them stands at the place
-fits_at : (now records : List ℕ) (rs : List Rewrite) (m : ℕ) → Each (Stood now records) rs → In m (rewrite_places rs) → NodeFits now m × Counts now m
+pub fits_at : (now records : List ℕ) (rs : List Rewrite) (m : ℕ) → Each (Stood now records) rs → In m (rewrite_places rs) → NodeFits now m × Counts now m
 fits_at now records (r ∷ rs) m e (inl q) = rw q (e.0.1, omega (arith, e.0.0.count_is, e.0.0.used_is, e.0.1.1))
 fits_at now records (r ∷ rs) m e (inr i) = fits_at now records rs m e.1 i
 fits_at now records [] m e i = absurd i
 
 -- of one of them, which entries it has no more, and which it never had
-left_at : (b now records : List ℕ) (rs : List Rewrite) (m : ℕ) → Each (MayRewrite b records) rs → Each (Stood now records) rs → Each (UnusedStay b now) rs → In m (rewrite_places rs) → EntriesLeft b now m
+pub left_at : (b now records : List ℕ) (rs : List Rewrite) (m : ℕ) → Each (MayRewrite b records) rs → Each (Stood now records) rs → Each (UnusedStay b now) rs → In m (rewrite_places rs) → EntriesLeft b now m
 left_at b now records [] m may st un i = absurd i
 left_at b now records (r ∷ rs) m may st un (inl q) = rw q (record {
   room_stays = st.0.0.room_is ∙ may.0.room_is;
@@ -42,19 +42,19 @@ left_at b now records (r ∷ rs) m may st un (inl q) = rw q (record {
 })
 left_at b now records (r ∷ rs) m may st un (inr i) = left_at b now records rs m may.1 st.1 un.1 i
 
-unused_on : (b records : List ℕ) {mid now : List ℕ} (done : List Rewrite) → Each (Stood mid records) done → Each (UnusedStay b mid) done → ((x : Rewrite) → In x.place (rewrite_places done) → Stood mid records x → (j : ℕ) → j < x.room → StillSays mid now x.place j j) → Each (UnusedStay b now) done
+pub unused_on : (b records : List ℕ) {mid now : List ℕ} (done : List Rewrite) → Each (Stood mid records) done → Each (UnusedStay b mid) done → ((x : Rewrite) → In x.place (rewrite_places done) → Stood mid records x → (j : ℕ) → j < x.room → StillSays mid now x.place j j) → Each (UnusedStay b now) done
 unused_on b records [] say unused still = tt
 unused_on b records (x ∷ xs) say unused still = (λ j le lt f l o s. still x (inl refl) say.0 j lt f l o (unused.0 j le lt f l o s), unused_on b records xs say.1 unused.1 (λ y i. still y (inr i)))
 
 -- ---- VXRhead and VXRtail
 
-record HeadsWritten (joined led linked : List ℕ) (vdr last : ℕ) (whole : Bool) : Type 0 where
+pub record HeadsWritten (joined led linked : List ℕ) (vdr last : ℕ) (whole : Bool) : Type 0 where
   changed : Changed joined linked (links_touch vdr ∷ [])
   as_long : length linked ≡ length joined
   head_stays : number linked vdr vdr_vxr_head ≡ number led vdr vdr_vxr_head
   tail_is : number linked vdr vdr_vxr_tail ≡ (if whole then number joined vdr vdr_vxr_tail else last)
 
-heads_written : {joined led linked : List ℕ} {vdr last n : ℕ} → vdr + 44 ≤ length joined → FieldSet joined led vdr vdr_vxr_head n → last < 256 ^ 8 → (whole : Bool) → linked ≡ tail_led led vdr last whole → HeadsWritten joined led linked vdr last whole
+pub heads_written : {joined led linked : List ℕ} {vdr last n : ℕ} → vdr + 44 ≤ length joined → FieldSet joined led vdr vdr_vxr_head n → last < 256 ^ 8 → (whole : Bool) → linked ≡ tail_led led vdr last whole → HeadsWritten joined led linked vdr last whole
 heads_written {vdr = vdr} far set small true e = rw e (record {
   changed = changed_wider 28 16 set.changed (omega arith) (omega arith);
   as_long = set.as_long;

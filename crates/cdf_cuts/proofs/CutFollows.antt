@@ -19,27 +19,27 @@ use Rattle.cdf_edits.proofs.Edits.LeafPieces.{place_in as leaf_in}
 use Rattle.cdf_model.specs.Limits.{record_number_limit}
 use Rattle.cdf_edits.proofs.Common.{is_in-false}
 
-given_in : (b : List ℕ) (places : List ℕ) (m : ℕ) → In m places → is_given_at (gave b places) m ≡ true
+pub given_in : (b : List ℕ) (places : List ℕ) (m : ℕ) → In m places → is_given_at (gave b places) m ≡ true
 given_in b [] m i = absurd i
 given_in b (p ∷ more) m (inl e) = grind (arith, nat_tests, e)
 given_in b (p ∷ more) m (inr i) = let r = given_in b more m i in grind (arith, nat_tests, r)
 
-given_out : (b : List ℕ) (places : List ℕ) (m : ℕ) → (In m places → ⊥) → is_given_at (gave b places) m ≡ false
+pub given_out : (b : List ℕ) (places : List ℕ) (m : ℕ) → (In m places → ⊥) → is_given_at (gave b places) m ≡ false
 given_out b [] m out = refl
 given_out b (p ∷ more) m out = rw (ne_eqb p m (λ e. out (inl (sym e)))) (given_out b more m (λ i. out (inr i)))
 
-none_taken_twice : (b : List ℕ) (places : List ℕ) → none_twice [] (gave b places) ≡ true
+pub none_taken_twice : (b : List ℕ) (places : List ℕ) → none_twice [] (gave b places) ≡ true
 none_taken_twice b [] = refl
 none_taken_twice b (p ∷ more) = none_taken_twice b more
 
-apart_by : (xs : List ℕ) → ((m : ℕ) → times m xs ≤ 1) → stand_apart xs ≡ true
+pub apart_by : (xs : List ℕ) → ((m : ℕ) → times m xs ≤ 1) → stand_apart xs ≡ true
 apart_by [] once = refl
 apart_by (x ∷ xs) once =
     let self : times x (x ∷ []) ≡ 1 = grind (arith, nat_tests) in
     let out : In x xs → ⊥ = λ i. absurd (omega (arith, once x, times-append x (x ∷ []) xs, self, times-in x xs i)) in
     rw (is_in-false x xs out) (apart_by xs (λ m. omega (arith, once m, times-append m (x ∷ []) xs)))
 
-each_of_list : (P : ℕ → Type 0) (xs : List ℕ) → ((m : ℕ) → In m xs → P m) → Each P xs
+pub each_of_list : (P : ℕ → Type 0) (xs : List ℕ) → ((m : ℕ) → In m xs → P m) → Each P xs
 each_of_list P [] f = tt
 each_of_list P (x ∷ xs) f = (f x (inl refl), each_of_list P xs (λ m i. f m (inr i)))
 

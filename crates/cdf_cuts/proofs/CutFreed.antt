@@ -47,14 +47,14 @@ pub cut_tests : (kind : Kind) (v : ℕ) (nodes : List ℕ) (n : ℕ) (unused fre
 cut_tests kind v nodes n unused freed = grind arith
 
 -- a record of a variable is not the GDR, and it is used
-used_type : (t : ℕ) → is_in t variable_types ≡ true → (t ≢ gdr_type) × (t ≢ uir_type)
+pub used_type : (t : ℕ) → is_in t variable_types ≡ true → (t ≢ gdr_type) × (t ≢ uir_type)
 used_type t e = (λ q. (let r = rw q at e in absurd cc), λ q. (let r = rw q at e in absurd cc))
 
 pub vdr_apart : (kind : Kind) → (type_in (variables_chain kind) ≢ gdr_type) × (type_in (variables_chain kind) ≢ uir_type) × (type_in (variables_chain kind) ≢ vxr_type) × (type_in (variables_chain kind) ≢ vvr_type) × (type_in (variables_chain kind) ≢ cvvr_type)
 vdr_apart kind = (λ e. grind arith, λ e. grind arith, λ e. grind arith, λ e. grind arith, λ e. grind arith)
 
 -- a block that is not packed holds its records
-leaf_held : (now records : List ℕ) (vdr : ℕ) (l : Leaf) → is_a now records cvvr_type l.place ≡ false → Holds now l.place (vvr_records (plain_size now vdr l)) → Hold (leaf_rows now records vdr l)
+pub leaf_held : (now records : List ℕ) (vdr : ℕ) (l : Leaf) → is_a now records cvvr_type l.place ≡ false → Holds now l.place (vvr_records (plain_size now vdr l)) → Hold (leaf_rows now records vdr l)
 leaf_held now records vdr l none h = rw none (elim (either (is_a now records vvr_type l.place)) [ inl e ↦ rw e (of_le _ _ h, tt) | inr e ↦ rw e tt ])
 
 module _ {b linked : List ℕ} {kind : Kind} {before : List VariableShape} {own : VariableShape} {after : List VariableShape} {span : Span} (good : Good b) (at : StandsAmong b kind before own after) (order : span.first ≤ span.last) (x : IsLinked b linked kind own span) where

@@ -32,65 +32,65 @@ use Rattle.cdf_cuts.specs.Linking.{EntriesLeft, IsLinked, cut_touches, links_tou
 
 -- ---- marks
 
-abbrev links : List Field
+abbrev pub links : List Field
 links = uir_next_uir ∷ uir_prev_uir ∷ []
 
-record GoTests (kind : Kind) (v : ℕ) (nodes : List ℕ) (n : ℕ) (unused freed : List ℕ) : Type 0 where
+pub record GoTests (kind : Kind) (v : ℕ) (nodes : List ℕ) (n : ℕ) (unused freed : List ℕ) : Type 0 where
   heads_clear : avoided (cut_marks kind v nodes n unused freed) gdr_type 0 12 ≡ true
   inside : within (cut_marks kind v nodes n unused freed) gdr_type (r_max_rec_field kind ++ space_fields) ≡ true
   max_clear : avoided (cut_marks kind v nodes n unused freed) gdr_type 52 56 ≡ true
 
-go_tests : (kind : Kind) (v : ℕ) (nodes : List ℕ) (n : ℕ) (unused freed : List ℕ) → GoTests kind v nodes n unused freed
+pub go_tests : (kind : Kind) (v : ℕ) (nodes : List ℕ) (n : ℕ) (unused freed : List ℕ) → GoTests kind v nodes n unused freed
 go_tests R v nodes n unused freed = record { heads_clear = refl; inside = refl; max_clear = refl }
 go_tests Z v nodes n unused freed = record { heads_clear = refl; inside = refl; max_clear = refl }
 
 -- a listed unused record gets another back link, and one that is on no list stays
-listed_avoids : (unused freed : List ℕ) (n m : ℕ) → Avoids (freeing_marks types unused freed n) uir_type m 0 12
+pub listed_avoids : (unused freed : List ℕ) (n m : ℕ) → Avoids (freeing_marks types unused freed n) uir_type m 0 12
 listed_avoids unused freed n m = grind arith
 
-listed_within : (unused freed : List ℕ) (n m : ℕ) → Within (freeing_marks types unused freed n) uir_type m links
+pub listed_within : (unused freed : List ℕ) (n m : ℕ) → Within (freeing_marks types unused freed n) uir_type m links
 listed_within unused freed n m = grind arith
 
-loose_away : (unused freed : List ℕ) (n m : ℕ) → (In m unused → ⊥) → Away (freeing_marks types unused freed n) uir_type m
+pub loose_away : (unused freed : List ℕ) (n m : ℕ) → (In m unused → ⊥) → Away (freeing_marks types unused freed n) uir_type m
 loose_away unused freed n m out = grind (arith, out)
 
 -- ---- where the touches of a cut lie, and what they miss
 
-misses_both : (ts us : List Touch) (m lo hi : ℕ) → Misses ts m lo hi → Misses us m lo hi → Misses (ts ++ us) m lo hi
+pub misses_both : (ts us : List Touch) (m lo hi : ℕ) → Misses ts m lo hi → Misses us m lo hi → Misses (ts ++ us) m lo hi
 misses_both [] us m lo hi p q = q
 misses_both (t ∷ ts) us m lo hi p q = (p.0, misses_both ts us m lo hi p.1 q)
 
-placed_both : (b records : List ℕ) (upto : ℕ) (ts us : List Touch) → Placed b records upto ts → Placed b records upto us → Placed b records upto (ts ++ us)
+pub placed_both : (b records : List ℕ) (upto : ℕ) (ts us : List Touch) → Placed b records upto ts → Placed b records upto us → Placed b records upto (ts ++ us)
 placed_both b records upto [] us p q = q
 placed_both b records upto (t ∷ ts) us p q = (p.0, placed_both b records upto ts us p.1 q)
 
-apart_rewrites : (rs : List Rewrite) (m lo hi : ℕ) → (In m (rewrite_places rs) → ⊥) → Misses (rewrite_touches rs) m lo hi
+pub apart_rewrites : (rs : List Rewrite) (m lo hi : ℕ) → (In m (rewrite_places rs) → ⊥) → Misses (rewrite_touches rs) m lo hi
 apart_rewrites [] m lo hi out = tt
 apart_rewrites (r ∷ rs) m lo hi out = ((λ e. absurd (out (inl e))), apart_rewrites rs m lo hi (λ i. out (inr i)))
 
-apart_links : (ls : List NodeLink) (m lo hi : ℕ) → (In m (link_places ls) → ⊥) → Misses (link_touches ls) m lo hi
+pub apart_links : (ls : List NodeLink) (m lo hi : ℕ) → (In m (link_places ls) → ⊥) → Misses (link_touches ls) m lo hi
 apart_links [] m lo hi out = tt
 apart_links (l ∷ ls) m lo hi out = ((λ e. absurd (out (inl e))), apart_links ls m lo hi (λ i. out (inr i)))
 
 -- what stands behind the entries of a node
-behind_rewrites : (b records : List ℕ) (rs : List Rewrite) (m lo hi : ℕ) → Each (MayRewrite b records) rs → 28 + 16 * room_at b m ≤ lo → Misses (rewrite_touches rs) m lo hi
+pub behind_rewrites : (b records : List ℕ) (rs : List Rewrite) (m lo hi : ℕ) → Each (MayRewrite b records) rs → 28 + 16 * room_at b m ≤ lo → Misses (rewrite_touches rs) m lo hi
 behind_rewrites b records [] m lo hi may low = tt
 behind_rewrites b records (r ∷ rs) m lo hi may low = ((λ e. inr (omega (arith, may.0.room_is, ap (room_at b) e, low))), behind_rewrites b records rs m lo hi may.1 low)
 
-behind_links : (ls : List NodeLink) (m lo hi : ℕ) → 20 ≤ lo → Misses (link_touches ls) m lo hi
+pub behind_links : (ls : List NodeLink) (m lo hi : ℕ) → 20 ≤ lo → Misses (link_touches ls) m lo hi
 behind_links [] m lo hi low = tt
 behind_links (l ∷ ls) m lo hi low = ((λ e. inr (omega (arith, low))), behind_links ls m lo hi low)
 
-placed_rewrites : (b records : List ℕ) (upto : ℕ) (rs : List Rewrite) → Each (MayRewrite b records) rs → Placed b records upto (rewrite_touches rs)
+pub placed_rewrites : (b records : List ℕ) (upto : ℕ) (rs : List Rewrite) → Each (MayRewrite b records) rs → Placed b records upto (rewrite_touches rs)
 placed_rewrites b records upto [] may = tt
 placed_rewrites b records upto (r ∷ rs) may = (inl (may.0.there, omega (arith, may.0.fits.0, may.0.room_is)), placed_rewrites b records upto rs may.1)
 
-placed_links : (b records : List ℕ) (upto : ℕ) (ls : List NodeLink) → Each (MayRelink b records) ls → Placed b records upto (link_touches ls)
+pub placed_links : (b records : List ℕ) (upto : ℕ) (ls : List NodeLink) → Each (MayRelink b records) ls → Placed b records upto (link_touches ls)
 placed_links b records upto [] may = tt
 placed_links b records upto (l ∷ ls) may = (inl (may.0.0, omega (arith, may.0.1)), placed_links b records upto ls may.1)
 
 -- which entries of a node were not used, where nothing is taken
-was_is : (b before : List ℕ) (acts : List Act) (m i : ℕ) → taken acts ≡ [] → is_in m before ≡ true → was_unused b before acts m i ≡ nat_le (used_count b m) i
+pub was_is : (b before : List ℕ) (acts : List Act) (m i : ℕ) → taken acts ≡ [] → is_in m before ≡ true → was_unused b before acts m i ≡ nat_le (used_count b m) i
 was_is b before acts m i none e = rw (e, none) refl
 
 -- ---- the image goes on

@@ -14,16 +14,16 @@ use Rattle.cdf_index.proofs.LeafRules.{widened}
 
 -- ---- numbers fall
 
-rises : (first last m n : ℕ) → first ≤ last → m ≤ n → fallen first last m ≤ fallen first last n
+pub rises : (first last m n : ℕ) → first ≤ last → m ≤ n → fallen first last m ≤ fallen first last n
 rises first last m n o l = grind (arith, nat_tests)
 
-not_past : (first last n : ℕ) → fallen first last n ≤ n
+pub not_past : (first last n : ℕ) → fallen first last n ≤ n
 not_past first last n = grind (arith, nat_tests)
 
 pub kept_some : (first last f l : ℕ) → fallen first last f < fallen first last (suc l) → kept_closed first last (range f l) ≡ range (fallen first last f) (fallen first last (suc l) - 1) ∷ []
 kept_some first last f l lt = let z : l + 1 ≡ suc l = omega arith in rw (z, lt-ltb _ _ lt) refl
 
-keeps : (first last f l : ℕ) → (kept_closed first last (range f l) ≡ []) ⊎ ((kept_closed first last (range f l) ≡ range (fallen first last f) (fallen first last (suc l) - 1) ∷ []) × (fallen first last f < fallen first last (suc l)))
+pub keeps : (first last f l : ℕ) → (kept_closed first last (range f l) ≡ []) ⊎ ((kept_closed first last (range f l) ≡ range (fallen first last f) (fallen first last (suc l) - 1) ∷ []) × (fallen first last f < fallen first last (suc l)))
 keeps first last f l =
     let z : l + 1 ≡ suc l = omega arith in
     elim (cases_lt (fallen first last f) (fallen first last (suc l))) [
@@ -41,7 +41,7 @@ is_in_order first last nodes le order =
 
 -- ---- ranges
 
-abbrev rs : List Leaf → List Range
+abbrev pub rs : List Leaf → List Range
 rs leaves = map (λ (l : Leaf). range l.first l.last) leaves
 
 module _ (first last : ℕ) where

@@ -44,7 +44,7 @@ pub record Fewer (l m : Leaf) : Type 0 where
   pub most : m.last ≤ l.last
   pub fewer : m.last + l.first ≤ l.last + m.first
 
-closed_fewer : (first last f l : ℕ) (m : Range) (more : List Range) → first ≤ last → f ≤ l → kept_by (record { first = first; last = last; close = true }) (range f l) ≡ m ∷ more → (m.first ≤ m.last) × (m.last ≤ l) × (m.last + f ≤ l + m.first)
+pub closed_fewer : (first last f l : ℕ) (m : Range) (more : List Range) → first ≤ last → f ≤ l → kept_by (record { first = first; last = last; close = true }) (range f l) ≡ m ∷ more → (m.first ≤ m.last) × (m.last ≤ l) × (m.last + f ≤ l + m.first)
 closed_fewer first last f l m more o le e = elim (cases_lt (fallen first last f) (fallen first last (l + 1))) [
   | inl lt ↦
       let is : m ≡ range (fallen first last f) (fallen first last (l + 1) - 1) = (let q : range (fallen first last f) (fallen first last (l + 1) - 1) ∷ [] ≡ m ∷ more = rw (lt-ltb _ _ lt) at e in cc) in
@@ -52,7 +52,7 @@ closed_fewer first last f l m more o le e = elim (cases_lt (fallen first last f)
   | inr ge ↦ (let q : [] ≡ m ∷ more = rw (le-ltb _ _ ge) at e in absurd cc)
 ]
 
-open_fewer : (first last f l : ℕ) (m : Range) (more : List Range) → first ≤ last → f ≤ l → kept_by (record { first = first; last = last; close = false }) (range f l) ≡ m ∷ more → (m.first ≤ m.last) × (m.last ≤ l) × (m.last + f ≤ l + m.first)
+pub open_fewer : (first last f l : ℕ) (m : Range) (more : List Range) → first ≤ last → f ≤ l → kept_by (record { first = first; last = last; close = false }) (range f l) ≡ m ∷ more → (m.first ≤ m.last) × (m.last ≤ l) × (m.last + f ≤ l + m.first)
 open_fewer first last f l m more o le e = elim (cases_lt f first) [
   | inl lt ↦
       let is : m ≡ range f (min l (first - 1)) = (let q : range f (min l (first - 1)) ∷ [] ≡ m ∷ more = rw (lt-ltb _ _ lt) at e in cc) in

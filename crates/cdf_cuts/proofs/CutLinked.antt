@@ -43,7 +43,7 @@ pub record LinkTests (kind : Kind) (v : ℕ) (nodes : List ℕ) (limit : ℕ) : 
 pub link_tests : (kind : Kind) (v : ℕ) (nodes : List ℕ) (limit : ℕ) → LinkTests kind v nodes limit
 link_tests kind v nodes limit = grind arith
 
-once_most : (m : ℕ) (xs : List ℕ) → Distinct xs → times m xs ≤ 1
+pub once_most : (m : ℕ) (xs : List ℕ) → Distinct xs → times m xs ≤ 1
 once_most m xs d = elim (cases_eq (times m xs) 0) [ inl z ↦ omega (arith, z) | inr ne ↦ omega (arith, times-once m xs d (in-times m xs (omega arith))) ]
 
 module _ {b linked : List ℕ} {kind : Kind} {before : List VariableShape} {own : VariableShape} {after : List VariableShape} {span : Span} (good : Good b) (at : StandsAmong b kind before own after) (x : IsLinked b linked kind own span) where

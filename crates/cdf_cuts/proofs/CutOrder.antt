@@ -30,34 +30,34 @@ last_from_is w [] = refl
 last_from_is w (v ∷ vs) = let z : suc (suc (length vs)) - 1 ≡ suc (suc (length vs) - 1) = omega arith in rw (last_word, z) (last_from_is v vs)
 
 -- they go on behind a record, up to the last one
-record Goes (last high : ℕ) (es : Entries) : Type 0 where
+pub record Goes (last high : ℕ) (es : Entries) : Type 0 where
   most : last ≤ last_from last (words_of es)
   within : last_from last (words_of es) ≤ high
   end_is : past_entries (suc last) es ≡ suc (last_from last (words_of es))
   order : (h : ℕ) → last_from last (words_of es) ≤ h → AreInOrder (suc last) h es
 
-goes : (last high : ℕ) (es : Entries) → last ≤ high → AreInOrder (suc last) high es → Goes last high es
+pub goes : (last high : ℕ) (es : Entries) → last ≤ high → AreInOrder (suc last) high es → Goes last high es
 unfolding AreInOrder
 goes last high no_entry le o = record { most = omega arith; within = le; end_is = refl; order = λ h l. tt }
 goes last high (block f l p packed es) le o = let g = goes l high es o.2 o.3 in record { most = omega (arith, o.0, o.1, g.most); within = g.within; end_is = g.end_is; order = λ h k. (o.0, o.1, omega (arith, g.most), g.order h k) }
 goes last high (lower f l ns es) le o = let g = goes l high es o.2 o.4 in record { most = omega (arith, o.0, o.1, g.most); within = g.within; end_is = g.end_is; order = λ h k. (o.0, o.1, omega (arith, g.most), o.3, g.order h k) }
 
 -- entries of a node that has some
-record Begins (low high : ℕ) (es : Entries) (w : Entry) (ws : List Entry) : Type 0 where
+pub record Begins (low high : ℕ) (es : Entries) (w : Entry) (ws : List Entry) : Type 0 where
   low_is : low ≤ w.first
   some : w.first ≤ last_word (w ∷ ws)
   within : last_word (w ∷ ws) ≤ high
   end_is : past_entries low es ≡ suc (last_word (w ∷ ws))
   order : (h : ℕ) → last_word (w ∷ ws) ≤ h → AreInOrder w.first h es
 
-begins_block : (low high f l p : ℕ) (packed : Bool) (es : Entries) → AreInOrder low high (block f l p packed es) → Begins low high (block f l p packed es) (words f l p) (words_of es)
+pub begins_block : (low high f l p : ℕ) (packed : Bool) (es : Entries) → AreInOrder low high (block f l p packed es) → Begins low high (block f l p packed es) (words f l p) (words_of es)
 unfolding AreInOrder
 begins_block low high f l p packed es o =
     let g = goes l high es o.2 o.3 in
     let last = last_from_is (words f l p) (words_of es) in
     record { low_is = o.0; some = omega (arith, o.1, g.most, last); within = omega (arith, g.within, last); end_is = g.end_is ∙ ap suc (sym last); order = λ h k. (omega arith, o.1, omega (arith, g.most, last, k), g.order h (omega (arith, last, k))) }
 
-begins_lower : (low high f l : ℕ) (ns : Nodes) (es : Entries) → AreInOrder low high (lower f l ns es) → Begins low high (lower f l ns es) (words f l (link_to ns)) (words_of es)
+pub begins_lower : (low high f l : ℕ) (ns : Nodes) (es : Entries) → AreInOrder low high (lower f l ns es) → Begins low high (lower f l ns es) (words f l (link_to ns)) (words_of es)
 unfolding AreInOrder
 begins_lower low high f l ns es o =
     let g = goes l high es o.2 o.4 in
@@ -67,7 +67,7 @@ begins_lower low high f l ns es o =
 -- ---- what is left of a chain, from its first record to its last one
 
 -- a chain that goes on behind what was found
-record GoesOn (low high first last : ℕ) (found : Option Entry) (rest : Nodes) : Type 0 where
+pub record GoesOn (low high first last : ℕ) (found : Option Entry) (rest : Nodes) : Type 0 where
   entry : Entry
   found_it : found ≡ Some entry
   first_is : entry.first ≡ first
@@ -75,7 +75,7 @@ record GoesOn (low high first last : ℕ) (found : Option Entry) (rest : Nodes) 
   within : entry.last ≤ high
   order : InOrder low entry.last rest
 
-node_goes : (span : Span) (place room low high : ℕ) (e : Entry) (es' : Entries) (ws : List Entry) (more rest : Nodes) → ws ≡ words_of es' → e.last < low → e.last ≤ high → InOrder low high (node_if place room es' rest)
+pub node_goes : (span : Span) (place room low high : ℕ) (e : Entry) (es' : Entries) (ws : List Entry) (more rest : Nodes) → ws ≡ words_of es' → e.last < low → e.last ≤ high → InOrder low high (node_if place room es' rest)
     → ((low : ℕ) (e : Entry) → e.last < low → e.last ≤ high → InOrder low high rest → GoesOn low high e.first e.last (found_in span (Some e) more) rest) → GoesOn low high e.first e.last (found_in span (found_after (Some e) place ws) more) (node_if place room es' rest)
 unfolding InOrder
 node_goes span place room low high e no_entry ws more rest is lt le o on = rw is (on low e lt le o)
@@ -90,7 +90,7 @@ node_goes span place room low high e (lower f l ns es) ws more rest is lt le o o
     let r = on (past_entries low x) (words e.first (last_word (words_of x)) e.place) (omega (arith, b.end_is)) b.within o.1 in
     rw is (record { entry = r.entry; found_it = r.found_it; first_is = r.first_is; most = omega (arith, b.low_is, b.some, r.most); within = r.within; order = (wider_entries f low r.entry.last x b.low_is (b.order r.entry.last r.most), r.order) })
 
-goes_on : (span : Span) (ns : Nodes) (low high : ℕ) (e : Entry) → e.last < low → e.last ≤ high → InOrder low high (cut span ns) → GoesOn low high e.first e.last (found_in span (Some e) ns) (cut span ns)
+pub goes_on : (span : Span) (ns : Nodes) (low high : ℕ) (e : Entry) → e.last < low → e.last ≤ high → InOrder low high (cut span ns) → GoesOn low high e.first e.last (found_in span (Some e) ns) (cut span ns)
 unfolding found_in cut_nodes InOrder
 goes_on span no_node low high e lt le o = record { entry = e; found_it = refl; first_is = refl; most = omega arith; within = le; order = tt }
 goes_on span (node place room es more) low high e lt le o = node_goes span place room low high e (cut_below span es) (cut_words span es) more (cut span more) (words_are span es) lt le o (λ l x k m p. goes_on span more l high x k m p)
@@ -102,10 +102,10 @@ pub record Narrow (low high : ℕ) (e : Entry) (rest : Nodes) : Type 0 where
   pub within : e.last ≤ high
   pub order : InOrder e.first e.last rest
 
-some_same : {x y : Entry} → Some x ≡ Some y → x ≡ y
+pub some_same : {x y : Entry} → Some x ≡ Some y → x ≡ y
 some_same q = cc
 
-node_narrow : (span : Span) (place room low high : ℕ) (es' : Entries) (ws : List Entry) (more rest : Nodes) (e : Entry) → ws ≡ words_of es' → InOrder low high (node_if place room es' rest)
+pub node_narrow : (span : Span) (place room low high : ℕ) (es' : Entries) (ws : List Entry) (more rest : Nodes) (e : Entry) → ws ≡ words_of es' → InOrder low high (node_if place room es' rest)
     → ((low : ℕ) (e : Entry) → e.last < low → e.last ≤ high → InOrder low high rest → GoesOn low high e.first e.last (found_in span (Some e) more) rest) → (InOrder low high rest → found_in span None more ≡ Some e → Narrow low high e rest)
     → found_in span (found_after None place ws) more ≡ Some e → Narrow low high e (node_if place room es' rest)
 unfolding InOrder

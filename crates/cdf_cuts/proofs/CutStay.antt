@@ -23,12 +23,12 @@ abbrev pub LeftOf : Span → List Leaf → List Leaf → Type 0
 LeftOf span [] ms = ms ≡ []
 LeftOf span (l ∷ ls) ms = ((kept_by span (range l.first l.last) ≡ []) × LeftOf span ls ms) ⊎ One span l (LeftOf span ls) ms
 
-left_both : (span : Span) (xs ys ms ns : List Leaf) → LeftOf span xs ms → LeftOf span ys ns → LeftOf span (xs ++ ys) (ms ++ ns)
+pub left_both : (span : Span) (xs ys ms ns : List Leaf) → LeftOf span xs ms → LeftOf span ys ns → LeftOf span (xs ++ ys) (ms ++ ns)
 left_both span [] ys ms ns p q = rw p q
 left_both span (l ∷ xs) ys ms ns (inl p) q = inl (p.0, left_both span xs ys ms ns p.1 q)
 left_both span (l ∷ xs) ys ms ns (inr o) q = inr (record { m = o.m; rest = o.rest ++ ns; is = ap (λ (zs : List Leaf). zs ++ ns) o.is; left = o.left; more = left_both span xs ys o.rest ns o.more q })
 
-block_left : (span : Span) (rs : List Range) (f l place : ℕ) (packed : Bool) (xs : List Leaf) (es : Entries) → kept_by span (range f l) ≡ rs → LeftOf span xs (entry_leaves es) → LeftOf span (record { first = f; last = l; place = place; packed = packed } ∷ xs) (entry_leaves (block_if rs place packed es))
+pub block_left : (span : Span) (rs : List Range) (f l place : ℕ) (packed : Bool) (xs : List Leaf) (es : Entries) → kept_by span (range f l) ≡ rs → LeftOf span xs (entry_leaves es) → LeftOf span (record { first = f; last = l; place = place; packed = packed } ∷ xs) (entry_leaves (block_if rs place packed es))
 unfolding entry_leaves leaves_of
 block_left span [] f l place packed xs es e p = inl (e, p)
 block_left span (r ∷ rest) f l place packed xs es e p = inr (record { m = record { first = r.first; last = r.last; place = place; packed = packed }; rest = entry_leaves es; is = refl; left = record { place_is = refl; packed_is = refl; more = rest; kept_is = e }; more = p })

@@ -13,7 +13,7 @@ use Rattle.cdf_cuts.proofs.CutWords.{cut}
 use Rattle.cdf_cuts.specs.Planning.{closing, opening}
 use Rattle.cdf_cuts.specs.Linking.{left_of}
 
-abbrev spanning : ℕ → ℕ → Bool → Span
+abbrev pub spanning : ℕ → ℕ → Bool → Span
 spanning first last close = record { first = first; last = last; close = close }
 
 pub rest_order : (first last : ℕ) (close : Bool) (nodes : Nodes) → first ≤ last → InOrder 0 record_number_limit nodes → InOrder 0 record_number_limit (cut (spanning first last close) nodes)

@@ -22,7 +22,7 @@ cut span nodes = cut_nodes span.close (kept_by span) nodes
 abbrev pub cut_below : Span → Entries → Entries
 cut_below span entries = cut_entries span.close (kept_by span) entries
 
-entry_is : (e : Entry) {first last place : ℕ} → e.first ≡ first → e.last ≡ last → e.place ≡ place → e ≡ words first last place
+pub entry_is : (e : Entry) {first last place : ℕ} → e.first ≡ first → e.last ≡ last → e.place ≡ place → e ≡ words first last place
 entry_is e p q r = λ i. record { first = p i; last = q i; place = r i }
 
 -- ---- leaves of what is left
@@ -40,7 +40,7 @@ leaves_lower first last (node place room entries more) es = refl
 
 -- ---- the first and the last record
 
-last_behind : (o : Option Leaf) (xs ys : List Leaf) (n : ℕ) → option_map (λ (l : Leaf). l.last) (last_or None ys) ≡ Some n → option_map (λ (l : Leaf). l.last) (last_or o (xs ++ ys)) ≡ Some n
+pub last_behind : (o : Option Leaf) (xs ys : List Leaf) (n : ℕ) → option_map (λ (l : Leaf). l.last) (last_or None ys) ≡ Some n → option_map (λ (l : Leaf). l.last) (last_or o (xs ++ ys)) ≡ Some n
 last_behind o [] [] n e = absurd cc
 last_behind o [] (y ∷ ys) n e = e
 last_behind o (x ∷ xs) ys n e = last_behind (Some x) xs ys n e
@@ -58,24 +58,24 @@ abbrev pub FoundSpans : Option Entry → List Leaf → Type 0
 FoundSpans None leaves = leaves ≡ []
 FoundSpans (Some e) leaves = Spans e.first e.last leaves
 
-last_more : (w v : Entry) (vs : List Entry) → last_word (w ∷ v ∷ vs) ≡ last_word (v ∷ vs)
+pub last_more : (w v : Entry) (vs : List Entry) → last_word (w ∷ v ∷ vs) ≡ last_word (v ∷ vs)
 last_more w v vs = let z : suc (suc (length vs)) - 1 ≡ suc (suc (length vs) - 1) = omega arith in rw (last_word, z) refl
 
-words_more : (w : Entry) (ws : List Entry) (xs ys : List Leaf) → Spans w.first w.last xs → WordsSpan ws ys → WordsSpan (w ∷ ws) (xs ++ ys)
+pub words_more : (w : Entry) (ws : List Entry) (xs ys : List Leaf) → Spans w.first w.last xs → WordsSpan ws ys → WordsSpan (w ∷ ws) (xs ++ ys)
 words_more w [] xs ys s t = rw (t, append-nil xs) s
 words_more w (v ∷ vs) xs ys s t = rw (last_more w v vs) (spans_both xs ys s t)
 
-found_on : (found : Option Entry) (place : ℕ) (ws : List Entry) (xs ys : List Leaf) → FoundSpans found xs → WordsSpan ws ys → FoundSpans (found_after found place ws) (xs ++ ys)
+pub found_on : (found : Option Entry) (place : ℕ) (ws : List Entry) (xs ys : List Leaf) → FoundSpans found xs → WordsSpan ws ys → FoundSpans (found_after found place ws) (xs ++ ys)
 found_on found place [] xs ys s t = rw (t, append-nil xs) s
 found_on None place (w ∷ ws) xs ys s t = rw s t
 found_on (Some e) place (w ∷ ws) xs ys s t = spans_both xs ys s t
 
-block_spans : (rs : List Range) (place : ℕ) (packed : Bool) (ws : List Entry) (es : Entries) → WordsSpan ws (entry_leaves es) → WordsSpan (block_words rs place ++ ws) (entry_leaves (block_if rs place packed es))
+pub block_spans : (rs : List Range) (place : ℕ) (packed : Bool) (ws : List Entry) (es : Entries) → WordsSpan ws (entry_leaves es) → WordsSpan (block_words rs place ++ ws) (entry_leaves (block_if rs place packed es))
 unfolding leaves_of entry_leaves
 block_spans [] place packed ws es t = t
 block_spans (r ∷ rest) place packed ws es t = words_more (words r.first r.last place) ws (record { first = r.first; last = r.last; place = place; packed = packed } ∷ []) (entry_leaves es) (refl, refl) t
 
-lower_spans : (first last : ℕ) (found : Option Entry) (xs : List Leaf) (ws : List Entry) (ys : List Leaf) → FoundSpans found xs → WordsSpan ws ys → WordsSpan (lower_words true first last found ++ ws) (xs ++ ys)
+pub lower_spans : (first last : ℕ) (found : Option Entry) (xs : List Leaf) (ws : List Entry) (ys : List Leaf) → FoundSpans found xs → WordsSpan ws ys → WordsSpan (lower_words true first last found ++ ws) (xs ++ ys)
 lower_spans first last None xs ws ys s t = rw s t
 lower_spans first last (Some e) xs ws ys s t = words_more e ws xs ys s t
 
@@ -109,30 +109,30 @@ abbrev pub HasPlace : ℕ → Option Entry → Type 0
 HasPlace place None = ⊥
 HasPlace place (Some e) = e.place ≡ place
 
-keeps_place : (place at : ℕ) (found : Option Entry) (ws : List Entry) → HasPlace place found → HasPlace place (found_after found at ws)
+pub keeps_place : (place at : ℕ) (found : Option Entry) (ws : List Entry) → HasPlace place found → HasPlace place (found_after found at ws)
 keeps_place place at found [] h = h
 keeps_place place at None (w ∷ ws) h = absurd h
 keeps_place place at (Some e) (w ∷ ws) h = h
 
-found_kept : (span : Span) (place : ℕ) (found : Option Entry) (ns : Nodes) → HasPlace place found → HasPlace place (found_in span found ns)
+pub found_kept : (span : Span) (place : ℕ) (found : Option Entry) (ns : Nodes) → HasPlace place found → HasPlace place (found_in span found ns)
 unfolding found_in
 found_kept span place found no_node h = h
 found_kept span place found (node at room es more) h = found_kept span place (found_after found at (cut_words span es)) more (keeps_place place at found (cut_words span es) h)
 
-placed : (found : Option Entry) (nodes : Nodes) → IsNode nodes → HasPlace (link_to nodes) found → PlaceIs found nodes
+pub placed : (found : Option Entry) (nodes : Nodes) → IsNode nodes → HasPlace (link_to nodes) found → PlaceIs found nodes
 placed None nodes i h = absurd h
 placed (Some e) nodes i h = (i, h)
 
-place_with : (span : Span) (place room : ℕ) (es' : Entries) (ws : List Entry) (more rest : Nodes) → ws ≡ words_of es' → PlaceIs (found_in span None more) rest → PlaceIs (found_in span (found_after None place ws) more) (node_if place room es' rest)
+pub place_with : (span : Span) (place room : ℕ) (es' : Entries) (ws : List Entry) (more rest : Nodes) → ws ≡ words_of es' → PlaceIs (found_in span None more) rest → PlaceIs (found_in span (found_after None place ws) more) (node_if place room es' rest)
 place_with span place room no_entry ws more rest e p = rw e p
 place_with span place room (block f l q packed es) ws more rest e p = rw e (placed _ (node place room (block f l q packed es) rest) tt (found_kept span place _ more refl))
 place_with span place room (lower f l ns es) ws more rest e p = rw e (placed _ (node place room (lower f l ns es) rest) tt (found_kept span place _ more refl))
 
-block_said : (rs : List Range) (place : ℕ) (packed : Bool) (ws : List Entry) (es : Entries) → ws ≡ words_of es → block_words rs place ++ ws ≡ words_of (block_if rs place packed es)
+pub block_said : (rs : List Range) (place : ℕ) (packed : Bool) (ws : List Entry) (es : Entries) → ws ≡ words_of es → block_words rs place ++ ws ≡ words_of (block_if rs place packed es)
 block_said [] place packed ws es e = e
 block_said (r ∷ rest) place packed ws es e = ap (λ (xs : List Entry). words r.first r.last place ∷ xs) e
 
-open_said : (first last : ℕ) (found : Option Entry) (nodes : Nodes) (ws : List Entry) (es : Entries) → PlaceIs found nodes → ws ≡ words_of es → lower_words false first last found ++ ws ≡ words_of (lower_if first last nodes es)
+pub open_said : (first last : ℕ) (found : Option Entry) (nodes : Nodes) (ws : List Entry) (es : Entries) → PlaceIs found nodes → ws ≡ words_of es → lower_words false first last found ++ ws ≡ words_of (lower_if first last nodes es)
 open_said first last None nodes ws es p e = rw p e
 open_said first last (Some x) no_node ws es p e = absurd p.0
 open_said first last (Some x) (node place room entries more) ws es p e = rw (p.1, e) refl
@@ -140,14 +140,14 @@ open_said first last (Some x) (node place room entries more) ws es p e = rw (p.1
 pub least_is : {first last : ℕ} (nodes : Nodes) → Spans first last (leaves_of nodes) → (first ≡ least_first nodes) × (last ≡ greatest_last nodes)
 least_is nodes s = (rw s.0 refl, rw s.1 refl)
 
-closed_said : (first last : ℕ) (found : Option Entry) (nodes : Nodes) (ws : List Entry) (es : Entries) → PlaceIs found nodes → FoundSpans found (leaves_of nodes) → ws ≡ words_of es → lower_words true first last found ++ ws ≡ words_of (lower_if (least_first nodes) (greatest_last nodes) nodes es)
+pub closed_said : (first last : ℕ) (found : Option Entry) (nodes : Nodes) (ws : List Entry) (es : Entries) → PlaceIs found nodes → FoundSpans found (leaves_of nodes) → ws ≡ words_of es → lower_words true first last found ++ ws ≡ words_of (lower_if (least_first nodes) (greatest_last nodes) nodes es)
 closed_said first last None nodes ws es p s e = rw p e
 closed_said first last (Some x) no_node ws es p s e = absurd p.0
 closed_said first last (Some x) (node place room entries more) ws es p s e =
     let is = least_is (node place room entries more) s in
     rw (entry_is x is.0 is.1 p.1, e) refl
 
-lower_said : (span : Span) (close : Bool) → span.close ≡ close → (first last : ℕ) (nodes : Nodes) (ws : List Entry) (es : Entries) → PlaceIs (found_in span None nodes) (cut span nodes) → ws ≡ words_of es
+pub lower_said : (span : Span) (close : Bool) → span.close ≡ close → (first last : ℕ) (nodes : Nodes) (ws : List Entry) (es : Entries) → PlaceIs (found_in span None nodes) (cut span nodes) → ws ≡ words_of es
     → lower_words close first last (found_in span None nodes) ++ ws ≡ words_of (lower_if (if close then least_first (cut span nodes) else first) (if close then greatest_last (cut span nodes) else last) (cut span nodes) es)
 lower_said span true c first last nodes ws es p e = closed_said first last (found_in span None nodes) (cut span nodes) ws es p (cut_spans span c None [] nodes refl) e
 lower_said span false c first last nodes ws es p e = open_said first last (found_in span None nodes) (cut span nodes) ws es p e

@@ -100,7 +100,7 @@ stays_on {b = b} {one = one} {now = now} {size = size} {first = first} {last = l
       };
     }
 
-or_true : (p : Bool) → (p || true) ≡ true
+pub or_true : (p : Bool) → (p || true) ≡ true
 or_true true = refl
 or_true false = refl
 

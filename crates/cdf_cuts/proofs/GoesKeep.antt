@@ -15,7 +15,7 @@ each_own P v own node block cpr m i =
     grind (arith, i, own, node, block, cpr, In-append m (nodes_of v.index ++ places_of (leaves_of v.index)) v.cpr, In-append m (nodes_of v.index) (places_of (leaves_of v.index)), leaf_at (leaves_of v.index) m)
 
 -- an unused record keeps what it has to
-unused_stays : {b last : List ℕ} (acts : List Act) → ListedStay b last acts → LooseStay b last → (m : ℕ) → In m (unused_records b (shape b)) → In m (shape b).records → Keeps b last m (unused_allowance b (shape b) acts m)
+pub unused_stays : {b last : List ℕ} (acts : List Act) → ListedStay b last acts → LooseStay b last → (m : ℕ) → In m (unused_records b (shape b)) → In m (shape b).records → Keeps b last m (unused_allowance b (shape b) acts m)
 unused_stays {b = b} acts listed loose m i inside =
     let stays = loose m inside (eqb-true (type_at b m) uir_type (filter-says (λ place. type_at b place == uir_type) (shape b).records m i)) in
     grind (arith, listed m, stays, true-is_in m (shape b).unused, false-is_in m (shape b).unused)

@@ -8,10 +8,10 @@ use Rattle.cdf_model.specs.Names.{variables_of}
 use Rattle.cdf_model.specs.declared.kinds.Kind.TheVariants.{R, Z}
 use Rattle.cdf_puts.proofs.Common.{same_Some}
 
-abbrev extents : List Variable → List ℕ
+abbrev pub extents : List Variable → List ℕ
 extents vs = map (λ (v : Variable). extent v.max_rec) vs
 
-extents_set : (vs : List Variable) (n : ℕ) (x v : Variable) → slice_get vs n ≡ Some x → bytes_eq (extents vs) (extents (slice_set vs n v)) ≡ (extent x.max_rec == extent v.max_rec)
+pub extents_set : (vs : List Variable) (n : ℕ) (x v : Variable) → slice_get vs n ≡ Some x → bytes_eq (extents vs) (extents (slice_set vs n v)) ≡ (extent x.max_rec == extent v.max_rec)
 extents_set [] n x v e = absurd cc
 extents_set (w ∷ ws) zero x v e = grind (arith, nat_tests, same_Some w x e, bytes_eq-same (extents ws))
 extents_set (w ∷ ws) (suc n) x v e = grind (arith, nat_tests, extents_set ws n x v e)

@@ -1,43 +1,43 @@
-mod Common
-mod Flat
-mod CutWords
-mod CutAll
-mod CutCalls
-mod CutDone
-mod CutFollows
-mod CutFreed
-mod CutLaws
-mod CutLeaves
-mod CutLinked
-mod CutOpen
-mod CutOrder
-mod CutStay
-mod CutStands
-mod CutWhole
-mod PiecesMoved
-mod PlanFits
-mod PlanPlaces
-mod PlanSteps
-mod PlanWalk
-mod Relinking
-mod Rewriting
-mod ClosedUp
-mod RecordsClosed
-mod LeavesKept
-mod BlocksMoved
-mod ChainKept
-mod CutGoes
-mod WritesThen
-mod BlocksClosed
-mod FreedKept
-mod GoesKeep
-mod GreatestLowered
+pub mod Common
+pub mod Flat
+pub mod CutWords
+pub mod CutAll
+pub mod CutCalls
+pub mod CutDone
+pub mod CutFollows
+pub mod CutFreed
+pub mod CutLaws
+pub mod CutLeaves
+pub mod CutLinked
+pub mod CutOpen
+pub mod CutOrder
+pub mod CutStay
+pub mod CutStands
+pub mod CutWhole
+pub mod PiecesMoved
+pub mod PlanFits
+pub mod PlanPlaces
+pub mod PlanSteps
+pub mod PlanWalk
+pub mod Relinking
+pub mod Rewriting
+pub mod ClosedUp
+pub mod RecordsClosed
+pub mod LeavesKept
+pub mod BlocksMoved
+pub mod ChainKept
+pub mod CutGoes
+pub mod WritesThen
+pub mod BlocksClosed
+pub mod FreedKept
+pub mod GoesKeep
+pub mod GreatestLowered
 pub mod DeletedFollows
-mod LaterFound
-mod CloseCalls
-mod ClosingRoom
-mod RoomRead
+pub mod LaterFound
+pub mod CloseCalls
+pub mod ClosingRoom
+pub mod RoomRead
 pub mod PastKept
-mod PastCut
+pub mod PastCut
 pub mod PastFollows
 pub mod PastContent

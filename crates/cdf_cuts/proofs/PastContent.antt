@@ -22,12 +22,12 @@ use Rattle.cdf_cuts.specs.Past.{CutPast, cut_off, past_span}
 
 -- ---- a data set in which a variable is what it was
 
-same_set : {A : Type 0} (xs : List A) (n : ℕ) (a : A) → slice_get xs n ≡ Some a → slice_set xs n a ≡ xs
+pub same_set : {A : Type 0} (xs : List A) (n : ℕ) (a : A) → slice_get xs n ≡ Some a → slice_set xs n a ≡ xs
 same_set [] n a e = refl
 same_set (x ∷ xs) zero a e = ap (λ (y : _). y ∷ xs) (sym (same_Some x a e))
 same_set (x ∷ xs) (suc n) a e = ap (λ (ys : _). x ∷ ys) (same_set xs n a e)
 
-same_variables : (d : DataSet) (kind : Kind) → with_variables d kind (variables_of d kind) ≡ d
+pub same_variables : (d : DataSet) (kind : Kind) → with_variables d kind (variables_of d kind) ≡ d
 same_variables d R = refl
 same_variables d Z = refl
 

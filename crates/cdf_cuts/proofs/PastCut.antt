@@ -39,12 +39,12 @@ use Rattle.cdf_cuts.specs.Past.{CutPast, before_first, cut_off, past_acts, past_
 -- ---- marks
 
 -- in the GDR a cut writes the head of the unused list alone
-space_tests : (kind : Kind) (v : ℕ) (nodes : List ℕ) (n : ℕ) (unused freed : List ℕ) → (avoided (cut_marks kind v nodes n unused freed) gdr_type 0 12 ≡ true) × (within (cut_marks kind v nodes n unused freed) gdr_type space_fields ≡ true)
+pub space_tests : (kind : Kind) (v : ℕ) (nodes : List ℕ) (n : ℕ) (unused freed : List ℕ) → (avoided (cut_marks kind v nodes n unused freed) gdr_type 0 12 ≡ true) × (within (cut_marks kind v nodes n unused freed) gdr_type space_fields ≡ true)
 space_tests R v nodes n unused freed = (refl, refl)
 space_tests Z v nodes n unused freed = (refl, refl)
 
 -- a byte of a descriptor outside VXRhead and VXRtail
-aside : (n : ℕ) → OutsideFields (vdr_vxr_head ∷ vdr_vxr_tail ∷ []) n → (n + 1 ≤ 28) ⊎ (44 ≤ n)
+pub aside : (n : ℕ) → OutsideFields (vdr_vxr_head ∷ vdr_vxr_tail ∷ []) n → (n + 1 ≤ 28) ⊎ (44 ≤ n)
 aside n out = elim out.0 [ inl x ↦ inl (omega arith) | inr x ↦ elim out.1.0 [ inl y ↦ absurd (omega arith) | inr y ↦ inr y ] ]
 
 module _ {b now : List ℕ} {kind : Kind} {before : List VariableShape} {own : VariableShape} {after : List VariableShape} {first : ℕ} (good : Good b) (at : StandsAmong b kind before own after) (short : length b ≤ image_limit) (c : IsCut b now kind own (past_span first)) where

@@ -26,7 +26,7 @@ use Rattle.cdf_cuts.proofs.FreedKept.{given_filter, given_nodes}
 use Rattle.cdf_cuts.proofs.PastKept.{Front, front, kept_same}
 use Rattle.cdf_cuts.specs.Past.{CutPast, before_first, cut_off, past_acts, past_span, stage}
 
-or_true : (p : Bool) → (p || true) ≡ true
+pub or_true : (p : Bool) → (p || true) ≡ true
 or_true true = refl
 or_true false = refl
 

@@ -13,13 +13,13 @@ relinks_at steps = map (λ (l : NodeLink). l.place) (flat_map relinked steps)
 abbrev pub freed_at : List Doing → List ℕ
 freed_at steps = freed_of steps
 
-rewrites_both : (xs ys : List Doing) → rewrites_at (xs ++ ys) ≡ rewrites_at xs ++ rewrites_at ys
+pub rewrites_both : (xs ys : List Doing) → rewrites_at (xs ++ ys) ≡ rewrites_at xs ++ rewrites_at ys
 rewrites_both xs ys = ap rewrite_places (flat_map-append rewritten xs ys) ∙ map-append (λ (r : Rewrite). r.place) (flat_map rewritten xs) (flat_map rewritten ys)
 
-relinks_both : (xs ys : List Doing) → relinks_at (xs ++ ys) ≡ relinks_at xs ++ relinks_at ys
+pub relinks_both : (xs ys : List Doing) → relinks_at (xs ++ ys) ≡ relinks_at xs ++ relinks_at ys
 relinks_both xs ys = ap (map (λ (l : NodeLink). l.place)) (flat_map-append relinked xs ys) ∙ map-append (λ (l : NodeLink). l.place) (flat_map relinked xs) (flat_map relinked ys)
 
-times_cons : (m n : ℕ) (xs : List ℕ) → times m (n ∷ xs) ≡ times m (n ∷ []) + times m xs
+pub times_cons : (m n : ℕ) (xs : List ℕ) → times m (n ∷ xs) ≡ times m (n ∷ []) + times m xs
 times_cons m n xs = times-append m (n ∷ []) xs
 
 module _ (m : ℕ) where

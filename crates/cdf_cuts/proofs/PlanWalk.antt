@@ -10,7 +10,7 @@ use Rattle.cdf_index.proofs.Saying.{no_entries}
 pub does_none : (p : Plan) → Does p p []
 does_none p = record { nodes_are = sym (append-nil _); links_are = sym (append-nil _); blocks_are = sym (append-nil _); emptied_are = sym (append-nil _) }
 
-grown : {A : Type 0} (a b c : List A) (f : Doing → List A) (xs ys : List Doing) → b ≡ a ++ flat_map f xs → c ≡ b ++ flat_map f ys → c ≡ a ++ flat_map f (xs ++ ys)
+pub grown : {A : Type 0} (a b c : List A) (f : Doing → List A) (xs ys : List Doing) → b ≡ a ++ flat_map f xs → c ≡ b ++ flat_map f ys → c ≡ a ++ flat_map f (xs ++ ys)
 grown a b c f xs ys p q = q ∙ ap (λ zs. zs ++ flat_map f ys) p ∙ append_assoc a (flat_map f xs) (flat_map f ys) ∙ ap (λ zs. a ++ zs) (sym (flat_map-append f xs ys))
 
 pub does_both : {a b c : Plan} {xs ys : List Doing} → Does a b xs → Does b c ys → Does a c (xs ++ ys)

@@ -23,14 +23,14 @@ begin {b = b} {records = records} {all = all} tiled may =
     }
 
 -- a link is written
-stood_beside : {b now : List ℕ} {n : ℕ} (records : List ℕ) (r : Rewrite) → FieldSet b now r.place vxr_vxr_next n → Stood b records r → Stood now records r
+pub stood_beside : {b now : List ℕ} {n : ℕ} (records : List ℕ) (r : Rewrite) → FieldSet b now r.place vxr_vxr_next n → Stood b records r → Stood now records r
 stood_beside {b = b} {now = now} records r set s =
     let room = room_beside set (omega arith) (omega arith) (inl (omega arith)) in
     let size = size_beside set (omega arith) (omega arith) (inl (omega arith)) in
     let used : used_count now r.place ≡ used_count b r.place = λ i. counts (set.past (r.place + 24) 4 (inr (omega arith)) i) (room i) (size i) in
     (record { room_is = room ∙ s.0.room_is; used_is = used ∙ s.0.used_is; count_is = set.past (r.place + 24) 4 (inr (omega arith)) ∙ s.0.count_is; gone = λ j le lt in_room. entries_beside set (omega arith) (omega arith) (inl (omega arith)) j _ _ _ (s.0.gone j le lt in_room); says = λ j lt. entries_beside set (omega arith) (omega arith) (inl (omega arith)) j _ _ _ (s.0.says j lt) }, grind (arith, room, size, used, s.1), s.2)
 
-apart_from : (done : List NodeLink) (r : NodeLink) (rest : List NodeLink) → Distinct (link_places (done ++ r ∷ rest)) → (m : ℕ) → In m (link_places done) → m ≢ r.place
+pub apart_from : (done : List NodeLink) (r : NodeLink) (rest : List NodeLink) → Distinct (link_places (done ++ r ∷ rest)) → (m : ℕ) → In m (link_places done) → m ≢ r.place
 apart_from [] r rest d m i e = absurd i
 apart_from (x ∷ done) r rest d m i e =
     let there : In r.place (link_places (done ++ r ∷ rest)) = subst (In r.place) (sym (map-append (λ (l : NodeLink). l.place) done (r ∷ rest))) (In-append_right r.place (link_places done) (link_places (r ∷ rest)) (inl refl)) in

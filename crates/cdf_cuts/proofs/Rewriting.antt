@@ -65,7 +65,7 @@ stood_still {b = b} {now = now} records r k s =
 pub still_there : {b now : List ℕ} (records : List ℕ) (r : Rewrite) → Kept b now r.place → Stood b records r → (j : ℕ) → j < r.room → StillSays b now r.place j j
 still_there {b = b} {now = now} records r k s j lt = (same_node b now r.place k s.1).entries j (omega (arith, s.0.room_is))
 
-may_still : {b now records : List ℕ} (r : Rewrite) → Kept b now r.place → MayRewrite b records r → MayRewrite now records r
+pub may_still : {b now records : List ℕ} (r : Rewrite) → Kept b now r.place → MayRewrite b records r → MayRewrite now records r
 may_still {b = b} {now = now} r k s =
     let n = same_node b now r.place k s.fits in
     record { there = s.there; typed = type_kept b now r.place k.same k.long ∙ s.typed; fits = grind (arith, n.size_is, n.room_is, n.used_is, s.fits); room_is = s.room_is ∙ sym n.room_is; used_is = s.used_is ∙ sym n.used_is; few = s.few }
@@ -76,15 +76,15 @@ touched_by tiled may w = touched tiled may.there (omega arith) (omega (arith, ma
 pub kept_then : {b mid now : List ℕ} {m : ℕ} → Kept b mid m → size_at mid m ≡ size_at b m → Kept mid now m → Kept b now m
 kept_then k s l = record { same = record { each = λ i lo hi. l.same.each i lo (omega arith) ∙ k.same.each i lo hi }; inside = k.inside; long = k.long }
 
-kept_back : {b now : List ℕ} {m : ℕ} → Kept b now m → size_at now m ≡ size_at b m → length now ≡ length b → Kept now b m
+pub kept_back : {b now : List ℕ} {m : ℕ} → Kept b now m → size_at now m ≡ size_at b m → length now ≡ length b → Kept now b m
 kept_back k size long = record { same = record { each = λ i lo hi. sym (k.same.each i lo (omega (arith, size))) }; inside = omega (arith, k.inside, size, long); long = omega (arith, k.long, size) }
 
-unused_then : (b records : List ℕ) {cur now : List ℕ} (done : List Rewrite) → Each (Stood cur records) done → Each (UnusedStay b cur) done → ((x : Rewrite) → In x.place (rewrite_places done) → Stood cur records x → (j : ℕ) → j < x.room → StillSays cur now x.place j j) → Each (UnusedStay b now) done
+pub unused_then : (b records : List ℕ) {cur now : List ℕ} (done : List Rewrite) → Each (Stood cur records) done → Each (UnusedStay b cur) done → ((x : Rewrite) → In x.place (rewrite_places done) → Stood cur records x → (j : ℕ) → j < x.room → StillSays cur now x.place j j) → Each (UnusedStay b now) done
 unused_then b records [] say unused still = tt
 unused_then b records (x ∷ xs) say unused still = (λ j le lt f l o s. still x (inl refl) say.0 j lt f l o (unused.0 j le lt f l o s), unused_then b records xs say.1 unused.1 (λ y i. still y (inr i)))
 
 -- none of the others stands at its place
-apart_from : (p : Rewrite → ℕ) (done : List Rewrite) (r : Rewrite) (rest : List Rewrite) → Distinct (map p (done ++ r ∷ rest)) → ((m : ℕ) → In m (map p done) → m ≢ p r) × ((m : ℕ) → In m (map p rest) → m ≢ p r)
+pub apart_from : (p : Rewrite → ℕ) (done : List Rewrite) (r : Rewrite) (rest : List Rewrite) → Distinct (map p (done ++ r ∷ rest)) → ((m : ℕ) → In m (map p done) → m ≢ p r) × ((m : ℕ) → In m (map p rest) → m ≢ p r)
 apart_from p [] r rest d = ((λ m i. absurd i), λ m i e. d.0 (subst (λ (x : ℕ). In x (map p rest)) e i))
 apart_from p (x ∷ done) r rest d =
     let h = apart_from p done r rest d.1 in
@@ -172,7 +172,7 @@ module _ {b cur records : List ℕ} {all : List Rewrite} {k : ℕ} (w : Progress
 pub inside_of : {b : List ℕ} (records : List ℕ) {m : ℕ} → AreTiles b 8 (length b) records → In m records → NodeFits b m → NodeInside b m
 inside_of {b = b} records {m = m} tiled i fits = let l = tile_lies b 8 (length b) records m tiled i in record { low = l.low; inside = l.high; room = omega (arith, l.high, fits.0); entries = fits.0; fits = fits.1 }
 
-get_or_map : {A B : Type 0} (f : A → B) (xs : List A) (k : ℕ) (d : A) → get_or (map f xs) k (f d) ≡ f (get_or xs k d)
+pub get_or_map : {A B : Type 0} (f : A → B) (xs : List A) (k : ℕ) (d : A) → get_or (map f xs) k (f d) ≡ f (get_or xs k d)
 get_or_map f [] k d = refl
 get_or_map f (x ∷ xs) zero d = refl
 get_or_map f (x ∷ xs) (suc k) d = get_or_map f xs k d

@@ -31,14 +31,14 @@ use Rattle.std.specs.Int.{cast_signed}
 use Rattle.std.proofs.lemmas.List.{set-set}
 use Rattle.cdf_model.specs.DataSet.{DataSet}
 
-abbrev links : List Field
+abbrev pub links : List Field
 links = uir_next_uir ∷ uir_prev_uir ∷ []
 
 -- in a data set a variable is another, and then another again
-abbrev with_set : DataSet → Kind → ℕ → Variable → DataSet
+abbrev pub with_set : DataSet → Kind → ℕ → Variable → DataSet
 with_set d kind n v = with_variables d kind (slice_set (variables_of d kind) n v)
 
-with_twice : (d : DataSet) (kind : Kind) (n : ℕ) (v v' : Variable) → with_set (with_set d kind n v) kind n v' ≡ with_set d kind n v'
+pub with_twice : (d : DataSet) (kind : Kind) (n : ℕ) (v v' : Variable) → with_set (with_set d kind n v) kind n v' ≡ with_set d kind n v'
 with_twice d kind n v v' = grind (arith, set-set)
 
 -- ---- an image goes on where records are written
