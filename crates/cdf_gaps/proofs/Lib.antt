@@ -1,0 +1,14 @@
+pub mod FreedThenTaken
+pub mod FreedThenGoes
+pub mod PastIndex
+pub mod PastStart
+pub mod CutThenPut
+pub mod CutPutContent
+pub mod CutPutFreed
+pub mod CutPutRooms
+pub mod CutPutNodes
+pub mod CutPutLeaves
+pub mod CutPutIndex
+pub mod CutPutBytes
+pub mod CutPutKeeps
+pub mod CutPutFollows
