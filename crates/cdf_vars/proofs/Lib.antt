@@ -25,6 +25,8 @@ pub mod PutTargets
 pub mod PutRequests
 pub mod PutParts
 pub mod PutRaised
+pub mod PutRead
 pub mod PutWhole
+pub mod PutPast
 pub mod PutAnswered
 pub mod RecordsDeleted

@@ -2,7 +2,7 @@
 use Rattle.cdf_vars.proofs.Common.{Answers, CanPut, Command, Done, Follows, Good, List, PutsAs, PutsSo, Refused, Some, Target, TooLarge, VariableShape, ap, arith, content, gone, got-middle, index_at, length, number, put_room, room, room_of_variable, shape, shapes_of, slice_get, sym, target_found, too_large, variable_at, variable_named, vdr_vxr_head, with_record, with_variable, ℕ, ◌+◌, ◌<◌, ◌∙◌, ◌≡◌, ◌≤◌}
 use Rattle.cdf_model.specs.declared.answer.Reply.TheVariants as replies
 use Rattle.cdf_model.specs.declared.command.Command.TheVariants as commands
-use Rattle.cdf_vars.proofs.PutWhole.{index_there}
+use Rattle.cdf_vars.proofs.PutRead.{index_there}
 
 -- where so many bytes are left under a limit
 pub fits_left : (left size limit needed : ℕ) → left + size ≡ limit → needed ≤ left → size + needed ≤ limit

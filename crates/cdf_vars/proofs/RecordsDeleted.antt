@@ -1,5 +1,5 @@
 -- Records of a variable were deleted, and MaxRec written: what that leaves, and that the last image follows the command.
-use Rattle.cdf_vars.proofs.Common.{Answers, Bool, ByStep, Command, Done, Follows, Go, Good, IsVdr, Kind, Known, Knows, List, RecordOutOfRange, Refused, Some, Target, TooLarge, Variable, VariableShape, ap, arith, content, extent, gone, got-middle, image_limit, is_max_rec, last_fits, le-leb, length, map, max_rec_at, record_number_limit, refl, refused, room, shape, shapes_of, slice_get, sym, target_found, to_z-of_z, too_large, true, variable_at, variable_named, variable_of, variables_of, vdrs, vdrs_append, with_sign, zero, suc, ℕ, ℤ, ◌++◌, ◌+◌, ◌-◌, ◌<◌, ◌∙◌, ◌∷◌, ◌≡◌, ◌≤◌}
+use Rattle.cdf_vars.proofs.Common.{Answers, Bool, ByStep, Command, Done, Follows, Go, Good, IsVdr, Kind, Known, Knows, List, RecordOutOfRange, Refused, Some, Target, TooLarge, Variable, VariableShape, ap, arith, content, extent, gone, got-middle, image_limit, is_max_rec, last_fits, le-leb, length, map, max_rec_at, record_number_limit, refl, refused, room, shape, shapes_of, slice_get, sym, target_found, to_z-of_z, too_large, true, variable_at, variable_named, variable_of, variables_of, vdrs, with_sign, zero, suc, ℕ, ℤ, ◌++◌, ◌+◌, ◌-◌, ◌<◌, ◌∙◌, ◌∷◌, ◌≡◌, ◌≤◌}
 use Rattle.std.proofs.Common.{w32}
 use Rattle.std.specs.Int.{cast_signed, cast_unsigned}
 use Rattle.cdf_model.specs.declared.kinds.Sparse.{Sparse}
@@ -13,14 +13,13 @@ use Rattle.cdf_model.specs.declared.command.Command.TheVariants as commands
 use Rattle.cdf_edits.specs.Commands.Room.{cut_room}
 use Rattle.cdf_cuts.specs.Closing.{RecordsClosed, closed}
 use Rattle.cdf_cuts.proofs.DeletedFollows as by
-use Rattle.cdf_puts.specs.Going.{GoesOn, found_in}
+use Rattle.cdf_puts.specs.Going.{found_in}
 use Rattle.cdf_puts.specs.Steps.{MaxRecRaised}
-use Rattle.cdf_vars.proofs.PutWhole.{both_kinds, names_set}
+use Rattle.cdf_vars.proofs.PutRead.{names_set, places_on}
 use Rattle.cdf_vars.proofs.VariableFound.{knows_now}
 use Rattle.cdf_vars.proofs.VariableNames.{variables_are}
 use Rattle.cdf_vars.specs.Puts.{IsTarget, MaxRecWrites}
 use Rattle.cdf_vars.proofs.Common.{false, good_is_sound, got-map, inl, inr, le-ltb, lt-leb, lt-ltb, nat_le, nat_lt, room_of_variable, step, ◌||◌, ◌⊎◌}
-use Rattle.cdf_edits.specs.Space.Acts.{Act}
 
 -- ---- MaxRec, of so many records
 
@@ -40,14 +39,6 @@ name_stays : (rule : Sparse) (v : Variable) (first last : ℕ) → (without_reco
 name_stays NoRule v first last = refl
 name_stays Pad v first last = refl
 name_stays Previous v first last = refl
-
--- ---- the places of the descriptors stay where an image goes on
-
-places_on : {b now : List ℕ} (kind : Kind) {before : List VariableShape} {own own' : VariableShape} {after : List VariableShape} {acts : List Act} → shapes_of (shape b) kind ≡ before ++ own ∷ after → GoesOn b now kind before own own' after acts → (k : Kind) → vdrs (shapes_of (shape b) k) ≡ vdrs (shapes_of (shape now) k)
-places_on {b} {now} kind {before} {own} {own'} {after} was goes =
-    both_kinds (λ k. vdrs (shapes_of (shape b) k) ≡ vdrs (shapes_of (shape now) k)) kind
-    (ap vdrs was ∙ vdrs_append before (own ∷ after) ∙ ap (λ (k : ℕ). vdrs before ++ k ∷ vdrs after) (sym goes.vdr_is) ∙ sym (vdrs_append before (own' ∷ after)) ∙ ap vdrs (sym goes.among.was))
-    (ap vdrs (sym goes.others_are))
 
 module _ {b : List ℕ} {t : Target} (good : Good b) (is : IsTarget b t) {first last count : ℕ} (count_is : count ≡ extent (max_rec_at b t.form.place.vdr)) (order : first ≤ last) (has : last < count) (few : count ≤ 2147483648) where
   abbrev kind : Kind

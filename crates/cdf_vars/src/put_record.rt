@@ -1,6 +1,6 @@
 //! A record that a command puts, once it is known what is put.
 
-ghost use Rattle.std.specs.Prelude.{◌≡◌, ◌+◌, ◌≤◌, ◌%◌, ℕ, ℤ, List, length, true, IfOk, OnOk, OnErr, IsTrue};
+ghost use Rattle.std.specs.Prelude.{◌≡◌, ◌+◌, ◌≤◌, ◌%◌, ℕ, ℤ, List, length, true, false, IfOk, OnOk, OnErr, IsTrue};
 ghost use Rattle.std.specs.Int.{cast_unsigned, w32};
 ghost use Rattle.cdf_puts.specs.declared.starts.Starts.{Starts};
 ghost use Rattle.cdf_area.specs.Calls.{Edits, Reads};
@@ -9,6 +9,7 @@ ghost use Rattle.cdf_edits.specs.Commands.Allowances.{shapes_of};
 ghost use Rattle.cdf_edits.specs.Edits.RemovesVariable.{greatest_at, r_max_writes};
 ghost use Rattle.cdf_edits.specs.Edits.Writes.{with_writes};
 ghost use Rattle.cdf_edits.specs.Follows.{Follows};
+ghost use Rattle.cdf_edits.specs.Index.Blocks.{cuts_before_put};
 ghost use Rattle.cdf_format.specs.Fields.{LiesIn, gdr_offset};
 ghost use Rattle.cdf_format.specs.Records.{gdr_r_max_rec, cdr_gdr_offset, cdr_place, past};
 ghost use Rattle.cdf_format.specs.Shape.{shape, vdrs};
@@ -26,7 +27,7 @@ ghost use Rattle.cdf_vars.specs.Known.{Knows};
 ghost use Rattle.cdf_var_records.specs.Descriptors.{IsVdr};
 ghost use Rattle.cdf_vars.specs.Puts.{CanPut, HasRoom, IsNewRecord, MaxRecRaises, MaxRecWrites, PutsSo};
 ghost use Rattle.cdf_puts.specs.Putting.{most_in_block};
-ghost use Rattle.cdf_puts.specs.Starts.{IsKnownStart, KnowsStarts};
+ghost use Rattle.cdf_puts.specs.Starts.{IsForgotten, IsKnownStart, KnowsStarts};
 ghost use Rattle.cdf_var_records.specs.Records.{IsForm, variable_at};
 ghost use Rattle.cdf_var_records.specs.Room.{ExpectsPut};
 ghost use Rattle.cdf_vars.specs.Removing.{VdrsLie};
@@ -35,11 +36,14 @@ use crate::puts::Target;
 use crate::removing::{greatest_extent, last_number, set_greatest};
 use crate::vars::Vars;
 use cdf_area::{Area, AreaError};
+use cdf_cuts::cut_past;
 use cdf_model::{DataType, Encoding, Kind, Outcome, Reason, Reply};
 use cdf_puts::{NewRecord, Starts, put_records};
 use cdf_records::set_vdr_max_rec;
 use cdf_values::from_network;
-use cdf_var_records::{Form, has_put_room, read_block_count, read_extent, read_pad_record};
+use cdf_var_records::{
+    Form, has_put_room, read_block_count, read_extent, read_first_written, read_pad_record,
+};
 use std::alloc::Global;
 
 /// The bytes of elements of a type in network order, turned into those that are stored.
@@ -153,7 +157,7 @@ impl Vars {
         self.write_max_rec(area, target, rec as i32)
     }
 
-    /// Puts a record of a variable, which there is room for. After an error a part of this may have been done.
+    /// Puts a record of a variable, which there is room for, where nothing is cut before. After an error a part of this may have been done.
     #[tactic(auto, using(cdf_area::proofs::Calls::edit_done, cdf_area::proofs::Calls::edit_failed, cdf_area::proofs::Calls::edit_more, cdf_area::proofs::Calls::edits_by_read, cdf_area::proofs::Calls::keeps_by_read, cdf_area::proofs::Calls::read_once))]
     fn write_record<A: Area>(
         &self,
@@ -168,6 +172,7 @@ impl Vars {
         requires known { Knows (A.image area.old) self.now }
         requires can { CanPut (A.image area.old) rec target.now bytes.items }
         requires count { count ≡ extent (max_rec_at (A.image area.old) target.now.form.place.vdr) }
+        requires uncut { cuts_before_put (variable_at (A.image area.old) target.now.form.place.vdr) rec ≡ false }
         requires start { IsKnownStart (A.image area.old) target.now.form.place.vdr known }
         requires room { HasRoom (A.image area.old) target.now rec (A.frame area.old).limit }
         requires limit { (A.frame area.old).limit ≤ image_limit }
@@ -178,6 +183,35 @@ impl Vars {
     {
         let put = read_new_record(self.alloc, area, target, rec, count, bytes)?;
         put_records(self.alloc, area, &put, known, rec.min(count))?;
+        self.raise_max_rec(area, target, rec, count)
+    }
+
+    /// Puts a record past MaxRec + 1 of a variable that has a rule for missing records, and for which there is room: what its blocks have past
+    /// MaxRec is cut first. After an error a part of this may have been done.
+    #[tactic(auto, using(cdf_area::proofs::Calls::edit_done, cdf_area::proofs::Calls::edit_failed, cdf_area::proofs::Calls::edit_more, cdf_area::proofs::Calls::edits_by_read, cdf_area::proofs::Calls::keeps_by_read, cdf_area::proofs::Calls::read_once))]
+    fn write_past<A: Area>(
+        &self,
+        area: &mut A,
+        target: &Target,
+        rec: u32,
+        count: u32,
+        bytes: Vec<u8>,
+    ) -> Result<(), AreaError>
+        requires good { Good (A.image area.old) }
+        requires known { Knows (A.image area.old) self.now }
+        requires can { CanPut (A.image area.old) rec target.now bytes.items }
+        requires count { count ≡ extent (max_rec_at (A.image area.old) target.now.form.place.vdr) }
+        requires cuts { cuts_before_put (variable_at (A.image area.old) target.now.form.place.vdr) rec ≡ true }
+        requires room { HasRoom (A.image area.old) target.now rec (A.frame area.old).limit }
+        requires limit { (A.frame area.old).limit ≤ image_limit }
+        ensures follows { OnOk result ((c : Command) (name : List ℕ) → PutsSo (A.image area.old) c name rec target.now bytes.items → Follows (A.image area.old) c (A.image area.new)) }
+        ensures known { OnOk result (Knows (A.image area.new) self.now) }
+        ensures starts { OnOk result ((starts : Starts) → KnowsStarts (A.image area.old) starts → IsForgotten target.now.form.place.vdr starts → KnowsStarts (A.image area.new) starts) }
+        ensures area { Edits A.frame A.faults area.old area.new result }
+    {
+        let put = read_new_record(self.alloc, area, target, rec, count, bytes)?;
+        cut_past(self.alloc, area, put.vdr, count)?;
+        put_records(self.alloc, area, &put, None, rec)?;
         self.raise_max_rec(area, target, rec, count)
     }
 
@@ -207,11 +241,19 @@ impl Vars {
         let vdr = target.form.place.vdr;
         let known = starts.find_start(area, vdr, rec)?;
         let count = read_extent(area, vdr)?;
+        let from = read_first_written(area, vdr, rec, count)?;
         let left = area.limit() - area.size();
-        let fits = has_put_room(area, starts, &target.form, known, rec, rec.min(count), left)?;
+        let fits = has_put_room(area, starts, &target.form, known, rec, from, left)?;
         if !fits {
             return Ok(Outcome::Refused {
                 reason: Reason::TooLarge,
+            });
+        }
+        if count < from {
+            starts.forget_index(vdr);
+            self.write_past(area, target, rec, count, bytes)?;
+            return Ok(Outcome::Done {
+                reply: Reply::Plain,
             });
         }
         self.write_record(area, target, known, rec, count, bytes)?;

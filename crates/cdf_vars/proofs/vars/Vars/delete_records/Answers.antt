@@ -3,7 +3,7 @@ use Rattle.cdf_model.specs.RecordSteps.{last_number}
 use Rattle.std.proofs.Common.{w32}
 use Rattle.std.specs.Int.{cast_signed, cast_unsigned}
 use Rattle.cdf_vars.proofs.ReindexAnswers.{vdr_in}
-use Rattle.cdf_vars.proofs.PutWhole.{is_vdr}
+use Rattle.cdf_vars.proofs.PutRead.{is_vdr}
 use Rattle.cdf_vars.proofs.RecordsDeleted.{deleted, known_then, last_passed, last_ruled, one_good, one_places, one_short, one_vdr}
 use Rattle.cdf_vars.proofs.vars.Vars.delete_records.Given.{Over}
 use Rattle.cdf_vars.proofs.vars.Vars.delete_records.Goals.{After-last_number, In_ok-close_records}

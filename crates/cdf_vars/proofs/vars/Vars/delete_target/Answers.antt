@@ -1,7 +1,7 @@
-use Rattle.cdf_vars.proofs.Common.{Frame, List, ap, arith, inl, inr, length, vdr_lies, ℕ, ◌+◌, ◌∙◌, ◌≡◌}
+use Rattle.cdf_vars.proofs.Common.{Frame, List, ap, arith, inl, inr, length, vdr_lies, ℕ, ◌∙◌, ◌≡◌}
 use Rattle.cdf_edits.specs.Commands.Room.{cut_room}
 use Rattle.cdf_format.specs.Content.{variable_of}
-use Rattle.cdf_vars.proofs.PutWhole.{is_vdr}
+use Rattle.cdf_vars.proofs.PutRead.{is_vdr}
 use Rattle.cdf_vars.proofs.RecordsDeleted.{has_none, has_room, out_of_range, room_left}
 use Rattle.cdf_vars.proofs.ReindexAnswers.{vdr_in}
 use Rattle.cdf_vars.proofs.vars.Vars.delete_target.Given.{Over}

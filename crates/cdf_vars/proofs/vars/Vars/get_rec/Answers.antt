@@ -1,5 +1,5 @@
 use Rattle.cdf_vars.proofs.Common.{GetRec, List, image_limit, length, ◌≤◌, NoSuchVar, RecordOutOfRange, ap, arith, lt-ltb, read, record_number_limit, refl, refused, variable_at, ℕ, ◌∙◌}
-use Rattle.cdf_vars.proofs.PutWhole.{form_vdr}
+use Rattle.cdf_vars.proofs.PutRead.{form_vdr}
 use Rattle.cdf_vars.proofs.RecordAnswers.{shown_rec}
 use Rattle.cdf_vars.proofs.vars.Vars.get_rec.Goals as goal
 

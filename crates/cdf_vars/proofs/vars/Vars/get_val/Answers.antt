@@ -1,5 +1,5 @@
 use Rattle.cdf_vars.proofs.Common.{GetVal, HasForm, IndexOutOfRange, List, NoSuchVar, RecordOutOfRange, ap, arith, content, drop, image_limit, length, lt-ltb, place, read, record_number_limit, refl, refused, sym, take, values_fit, variable_at, ℕ, ◌*◌, ◌+◌, ◌∙◌, ◌≡◌, ◌≤◌}
-use Rattle.cdf_vars.proofs.PutWhole.{form_vdr}
+use Rattle.cdf_vars.proofs.PutRead.{form_vdr}
 use Rattle.cdf_vars.proofs.RecordAnswers.{shown_val}
 use Rattle.cdf_vars.proofs.RecordPlaces.{inside, named_formed}
 use Rattle.cdf_vars.proofs.vars.Vars.get_val.Given.{Over}

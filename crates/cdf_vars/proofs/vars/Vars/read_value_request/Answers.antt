@@ -1,6 +1,6 @@
 use Rattle.cdf_vars.proofs.Common.{IfOk-weaker, List, NoSuchVar, Ok, PutVal, ap, length, read_more, read_once, read_without_memory, refl, refused, sym, ℕ, ◌∙◌}
 use Rattle.cdf_vars.proofs.PutRequests.{one_long}
-use Rattle.cdf_vars.proofs.PutWhole.{form_vdr}
+use Rattle.cdf_vars.proofs.PutRead.{form_vdr}
 use Rattle.cdf_vars.proofs.RecordPlaces.{named_formed}
 use Rattle.cdf_vars.proofs.vars.Vars.read_value_request.Goals as goal
 
