@@ -1,0 +1,4 @@
+pub mod Opening
+pub mod Deleting
+pub mod SetRule
+pub mod TidyIndex
