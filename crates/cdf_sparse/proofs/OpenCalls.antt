@@ -1,6 +1,6 @@
 -- What the calls by which records go come to, where later ones keep their numbers.
-use Rattle.cdf_cuts.proofs.Common.{In, Leaf, List, None, Option, Some, [], ap, arith, refl, false, image_limit, index_at, inl, inr, leaves_of, length, lt-ltb, number, subst, suc, sym, zero, ℕ, ◌*◌, ◌+◌, ◌-◌, ◌<◌, ◌∙◌, ◌≡◌, ◌≤◌, ◌∷◌, ◌++◌}
-use Rattle.std.proofs.Common.{drop, take}
+use Rattle.cdf_cuts.proofs.Common.{In, Leaf, List, None, Option, Some, [], ap, arith, refl, false, image_limit, index_at, inl, inr, leaves_of, length, lt-ltb, number, subst, suc, sym, ℕ, ◌*◌, ◌+◌, ◌-◌, ◌<◌, ◌∙◌, ◌≡◌, ◌≤◌, ◌∷◌, ◌++◌}
+use Rattle.std.proofs.Common.{drop}
 use Rattle.std.proofs.lemmas.List.{length-drop, length-take-le}
 use Rattle.std.specs.Prelude.{max}
 use Rattle.cdf_edits.proofs.Common.{Good, Kind, VariableShape, gave, record_bytes, shape, variables, vdr_vxr_head, vdrs, vvr_place, vxr_bytes}
@@ -46,6 +46,10 @@ vdr_goes {now = now} {kind = kind} {before = before} {own' = own'} {after = afte
 -- what was found in an image that is the same is found in this one
 pub found_there : (vdr last : ℕ) (later : Option FoundLeaf) {b x : List ℕ} {head : ℕ} → x ≡ b → head ≡ number b vdr vdr_vxr_head → IsLater last (leaves_of (index_at x head)) later → IsLater last (leaves_of (index_at b (number b vdr vdr_vxr_head))) later
 found_there vdr last later same head_is found = subst (λ (ls : List Leaf). IsLater last ls later) (λ i. leaves_of (index_at (same i) (head_is i))) found
+
+-- a leaf that was found in an image that is the same is found in this one
+pub found_some : (vdr last : ℕ) (later : Option FoundLeaf) (leaf : FoundLeaf) → later ≡ Some leaf → {b x : List ℕ} {head : ℕ} → x ≡ b → head ≡ number b vdr vdr_vxr_head → IsLater last (leaves_of (index_at x head)) later → IsLater last (leaves_of (index_at b (number b vdr vdr_vxr_head))) (Some leaf)
+found_some vdr last later leaf e {b = b} same head_is found = subst (IsLater last (leaves_of (index_at b (number b vdr vdr_vxr_head)))) e (found_there vdr last later same head_is found)
 
 module _ {b : List ℕ} (good : Good b) {kind : Kind} {before : List VariableShape} {own : VariableShape} {after : List VariableShape} {vdr : ℕ} (among : StandsAmong b kind before own after) (is : own.vdr ≡ vdr) where
   index_there : index_at b (number b vdr vdr_vxr_head) ≡ own.index
