@@ -1,9 +1,8 @@
 -- The variables of an image with these records, and their rules, part by part.
-use Rattle.std.specs.Prelude.{◌≡◌, ◌≤◌, ◌⊎◌, ℕ, ◌+◌, List, [], ◌∷◌, ◌++◌, Bool, true, false, not, is_some, ◌||◌, nat_le, length, map, Some, None}
+use Rattle.std.specs.Prelude.{◌≡◌, ◌≤◌, ◌⊎◌, ℕ, ◌+◌, List, [], ◌∷◌, Bool, true, false, not, is_some, ◌||◌, nat_le, length, map, Some, None}
 use Rattle.std.specs.declared.option.Option.{Option}
 use Rattle.cdf_model.specs.Place.{record_limit}
 use Rattle.cdf_format.specs.Fields.{LiesIn, Holds, gdr_offset, name_in, number, r_num_dims, r_sizes, size_at, type_at}
-use Rattle.cdf_format.specs.NotRead.{unread_sparse}
 use Rattle.cdf_format.specs.Records.{gdr_r_dim_sizes, vdr_data_type, vdr_flags, vdr_max_rec, vdr_name, vdr_num_elems, vdr_r_dim_vary, vdr_s_records, vdr_vxr_head}
 use Rattle.cdf_format.specs.RecordTypes.{r_vdr_type, z_vdr_type, fixed_size}
 use Rattle.cdf_format.specs.Rules.{Row, row, asked}
@@ -63,13 +62,12 @@ shape_rows b vdr = row 5 vdr (are_dimensions b vdr) ∷ row 6 vdr (nat_le (vdr_e
 abbrev pub records_rows : List ℕ → ℕ → List Row
 records_rows b vdr = row 8 vdr (is_max_rec (number b vdr vdr_max_rec)) ∷ row 9 vdr (nat_le (number b vdr vdr_s_records) 2) ∷ []
 
--- 7.10 to 7.12, and what is not read so far
+-- 7.10 to 7.12
 abbrev pub packing_rows : List ℕ → List ℕ → ℕ → List Row
 packing_rows b records vdr =
     row 10 vdr (is_compressed b vdr || is_no_link (cpr_link b vdr))
     ∷ row 11 vdr (not (is_compressed b vdr) || is_cpr b records (cpr_link b vdr))
     ∷ asked (is_compressed b vdr) (cpr_rows b records (cpr_link b vdr))
-    ++ unread_sparse b vdr
 
 -- the values of a variable, as they were read
 pub record AreValues (b : List ℕ) (vdr : ℕ) (value : Value) : Type 0 where

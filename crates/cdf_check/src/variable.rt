@@ -117,10 +117,6 @@ fn check_packing(_tiles: &[u64], vdr: u64, fields: &Fields) -> Option<Finding>
         // 7.10
         return Some(Finding { rule: 10, place });
     }
-    if fields.s_records != 0 {
-        // 7.99
-        return Some(Finding { rule: 99, place });
-    }
     None
 }
 

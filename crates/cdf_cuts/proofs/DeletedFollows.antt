@@ -1,15 +1,17 @@
 -- Records went from a variable without a sparse rule, of which no block is packed, and MaxRec fell with them: the image follows `del-recs`.
 use Rattle.cdf_cuts.proofs.Common.{Bool, Changed, Each, In, Kept, Leaf, List, Nodes, None, Option, Range, Some, [], ap, append-nil, arith, cases_lt, false, lt-ltb, inl, inr, leaves_of, length, nat_tests, nodes_of, places_of, range, refl, size_at, subst, suc, sym, true, true≢false, ℕ, ◌*◌, ◌+◌, ◌-◌, ◌<◌, ◌∙◌, ◌∷◌, ◌≡◌, ◌≤◌, ◌⊎◌}
 use Rattle.std.proofs.Common.{drop, take, ◌&&◌, ◌||◌}
+use Rattle.cdf_model.specs.declared.kinds.Sparse.TheVariants.{NoRule}
 use Rattle.cdf_edits.proofs.Common.{closed_up, Found, le-ltb, lt-leb, range_at, room_at, tile_lies, vxr_bytes, Act, AllKeep, Allowance, Allowances, ByStep, Command, Follows, Go, Good, Keeps, Kind, Only, Variable, VariableShape, byte, content, either, eq-eqb, extent, is_max_rec, last_number, max_rec_at, owned, record_bytes, shape, stays_all, step, stored_bytes, variable_named, variable_of, variable_records, vvr_place, with_sign, with_variable, nat_le, nat_lt, DataSet}
 use Rattle.cdf_model.specs.declared.answer.Reply.TheVariants as replies
 use Rattle.cdf_model.specs.declared.command.Command.TheVariants as commands
 use Rattle.cdf_model.specs.RecordSteps.{without_records}
+use Rattle.cdf_edits.specs.Commands.Deleting.{Deletes}
 use Rattle.cdf_edits.specs.Commands.Cuts.{DeletesRecords, LeafFollows, LeafKept, OthersStay, del_recs_changes, del_recs_cuts}
 use Rattle.cdf_edits.specs.Commands.Allowances.{anything_if}
 use Rattle.cdf_edits.specs.Commands.GreatestRecord.{RMaxRecFollows}
 use Rattle.cdf_edits.specs.Commands.Named.{OfVariable}
-use Rattle.cdf_edits.specs.Index.Blocks.{fallen, shared}
+use Rattle.cdf_edits.specs.Index.Blocks.{fallen, is_sparse, shared}
 use Rattle.cdf_edits.specs.Index.Cut.{IsPart, StaysWhole, is_whole}
 use Rattle.cdf_edits.specs.Index.Grown.{index_cut_closed, kept_closed}
 use Rattle.cdf_edits.specs.Index.Written.{block_end, is_taken_at}
@@ -26,7 +28,7 @@ use Rattle.cdf_edits.proofs.Frame.VdrAlike.{type_alike}
 use Rattle.cdf_edits.proofs.Frame.VdrStays.{stays_alike, variable_stays}
 use Rattle.cdf_index.proofs.Common.{behind_in, size_kept}
 use Rattle.cdf_puts.proofs.GoesThen.{later_size, own_there, stays, variable_there}
-use Rattle.cdf_puts.proofs.PutRules.{loose, no_cpr, no_rule}
+use Rattle.cdf_puts.proofs.PutRules.{loose, no_cpr}
 use Rattle.cdf_puts.proofs.Common.{same_Some, same_as_itself}
 use Rattle.cdf_index.proofs.OwnRecords as of_own
 use Rattle.cdf_cuts.proofs.GoesKeep.{each_own}
@@ -104,7 +106,7 @@ pub or_true : (p : Bool) → (p || true) ≡ true
 or_true true = refl
 or_true false = refl
 
-module _ {b one now : List ℕ} {kind : Kind} {before : List VariableShape} {own : VariableShape} {after : List VariableShape} {first last r : ℕ} (good : Good b) (at : StandsAmong b kind before own after) (order : first ≤ last) (has : last < extent (max_rec_at b own.vdr)) (x : RecordsClosed b one kind before own after first last)
+module _ {b one now : List ℕ} {kind : Kind} {before : List VariableShape} {own : VariableShape} {after : List VariableShape} {first last r : ℕ} (good : Good b) (at : StandsAmong b kind before own after) (free : (variable_of b own).sparse ≡ NoRule) (order : first ≤ last) (has : last < extent (max_rec_at b own.vdr)) (x : RecordsClosed b one kind before own after first last)
     (low : MaxRecRaised one now kind (closed own first last) r) (ruled : is_max_rec r ≡ true) (r_is : with_sign r ≡ last_number (extent (max_rec_at b own.vdr) - (last + 1 - first))) where
   abbrev v : Variable
   v = variable_of b own
@@ -208,7 +210,7 @@ module _ {b one now : List ℕ} {kind : Kind} {before : List VariableShape} {own
   pub deleted_content : content now ≡ with_variable (content b) (found_in b kind before own) (without_records v.sparse v first last)
   deleted_content =
       let recs = records_closed stores in
-      let is : without_records v.sparse v first last ≡ record v { max_rec = last_number (extent v.max_rec - (last + 1 - first)); recs = closed_up first last v.recs } = rw (no_rule good at) refl in
+      let is : without_records v.sparse v first last ≡ record v { max_rec = last_number (extent v.max_rec - (last + 1 - first)); recs = closed_up first last v.recs } = rw free refl in
       goes.content_is ∙ ap (with_variable (content b) (found_in b kind before own)) (variable_stays goes.file own own' (stays good at goes.descriptor) goes.vdr_is ∙ (λ i. record v { max_rec = max_now i; recs = recs i }) ∙ sym is)
 
   -- ---- rMaxRec
@@ -248,14 +250,14 @@ module _ {b one now : List ℕ} {kind : Kind} {before : List VariableShape} {own
 
   all_leaves : Each (λ old. Each (LeafFollows b now v first last own.vdr acts old) leaves') leaves
   all_leaves = each_of (λ old. Each (LeafFollows b now v first last own.vdr acts old) leaves') leaves (λ old i. each_of (LeafFollows b now v first last own.vdr acts old) leaves' (λ new j. record {
-    kept = λ part. leaf_kept old new i j (rw (no_rule good at) at part);
-    split = λ part. (let none : [] ≡ range new.first new.last ∷ [] = rw (no_rule good at) at part in absurd cc);
+    kept = λ part. leaf_kept old new i j (rw free at part);
+    split = λ part. (let none : [] ≡ range new.first new.last ∷ [] = rw free at part in absurd cc);
   }))
 
   others : OthersStay b now v first last own own'
   others k covered kept_on =
-      let side : (k < first) ⊎ (last < k) = aside first last order k (rw (no_rule good at) at kept_on) in
-      rw (no_rule good at) (stored_kept first last order kept (fallen first last k) ∙ ap (stored_bytes b own.vdr size leaves) (risen_fell first last order k side))
+      let side : (k < first) ⊎ (last < k) = aside first last order k (rw free at kept_on) in
+      rw free (stored_kept first last order kept (fallen first last k) ∙ ap (stored_bytes b own.vdr size leaves) (risen_fell first last order k side))
 
   pub deletes : DeletesRecords b now v first last own own' acts
   deletes = record {
@@ -263,8 +265,8 @@ module _ {b one now : List ℕ} {kind : Kind} {before : List VariableShape} {own
     cut = acts;
     again = [];
     acts_are = sym (append-nil acts);
-    cuts = rw (no_rule good at) (z.cuts _, refl, refl);
-    parts = λ e. absurd (true≢false (sym (rw (no_rule good at) at e)));
+    cuts = rw free (z.cuts _, refl, refl);
+    parts = λ e. absurd (true≢false (sym (rw free at e)));
     blocks = all_leaves;
     others_stay = others;
     new_nodes = none_new (nodes_of rest);
@@ -298,7 +300,7 @@ module _ {b one now : List ℕ} {kind : Kind} {before : List VariableShape} {own
   unlost : (l : Leaf) → IsOneOf leaves l → del_recs_cuts v first last (range l.first l.last) ≡ false → Keeps b now l.place (Only [])
   unlost l i none =
       let p = plain l i in
-      let side : (l.last < first) ⊎ (last < l.first) = beside first last order l.first l.last p.ordered (rw (no_rule good at) at none) in
+      let side : (l.last < first) ⊎ (last < l.first) = beside first last order l.first l.last p.ordered (rw free at none) in
       let less : fallen first last l.first < fallen first last (l.last + 1) = falls_apart first last order l.first l.last p.ordered side in
       let s = block_now l i less in
       let k = to_now l i less in
@@ -326,12 +328,12 @@ module _ {b one now : List ℕ} {kind : Kind} {before : List VariableShape} {own
     abbrev c : Command
     c = commands.DelRecs name first last
 
-    deletes_named : OfVariable b now name (λ found x x'. DeletesRecords b now found.variable first last x x' acts)
+    deletes_named : OfVariable b now name (λ found x x'. Deletes b now found first last x x' acts (is_sparse found.variable.sparse))
     deletes_named found' y y' is =
         let q : found_in b kind before own ≡ found' = same_Some _ _ (sym named ∙ is.named) in
         let was : own ≡ y = same_Some own y (sym (own_there good at) ∙ (rw (← q) at is.before)) in
         let now_is : own' ≡ y' = same_Some own' y' (sym (own_there goes.good goes.among) ∙ (rw (← q) at is.after)) in
-        rw (← q, ← was, ← now_is) deletes
+        rw (← q, ← was, ← now_is) (subst (Deletes b now (found_in b kind before own) first last own own' acts) (sym (ap is_sparse free)) deletes)
 
     -- the data set gives it
     pub del_recs_goes : step (content b) c ≡ ByStep (Go (with_variable (content b) (found_in b kind before own) (without_records v.sparse v first last)) replies.Plain)

@@ -1,5 +1,6 @@
 -- What the reads come to by which the room of `del-recs` is found.
 use Rattle.cdf_cuts.proofs.Common.{List, None, Option, Some, ap, arith, image_limit, index_at, leaves_of, length, number, option_map, sym, tile_lies, ℕ, ◌*◌, ◌+◌, ◌∙◌, ◌≡◌, ◌≤◌}
+use Rattle.cdf_model.specs.declared.kinds.Sparse.TheVariants.{NoRule}
 use Rattle.cdf_edits.proofs.Common.{Good, Kind, VariableShape, record_bytes, shape, variable_of, vdr_vxr_head}
 use Rattle.cdf_edits.proofs.Edits.Common.{StandsAmong, sound}
 use Rattle.cdf_edits.proofs.Edits.LeafPieces.{place_in}
@@ -10,7 +11,7 @@ use Rattle.cdf_index.proofs.Common.{behind_in, leaf_of}
 use Rattle.cdf_index.specs.Sight.{seen}
 use Rattle.cdf_index.specs.declared.nodes.Leaf.{Leaf as FoundLeaf}
 use Rattle.cdf_puts.proofs.PutBytes.{found_covering}
-use Rattle.cdf_puts.proofs.PutRules.{loose, no_rule}
+use Rattle.cdf_puts.proofs.PutRules.{loose}
 use Rattle.cdf_cuts.proofs.ClosingRoom.{room_is}
 use Rattle.cdf_cuts.proofs.CutCalls as by
 use Rattle.cdf_cuts.specs.ClosingRoom.{IsSmall, back_room, front_room}
@@ -30,10 +31,10 @@ module _ {b : List ℕ} (good : Good b) {kind : Kind} {before : List VariableSha
       let lies = tile_lies b 8 (length b) (shape b).records l.at (sound good among).has_shape.tiled (behind_in good among l.at (block_behind own l.at (place_in (leaves_of own.index) (seen l) i))) in
       (p.ordered, p.small, rw size_own (omega (arith, p.room, lies.high, short)))
 
-  pub room_read : {first last wide front back : ℕ} (found found' : Option FoundLeaf) → first ≤ last → wide ≡ widest (index_at x head) → option_map seen found ≡ leaf_of first (leaves_of (index_at x head)) → option_map seen found' ≡ leaf_of last (leaves_of (index_at x head))
+  pub room_read : {first last wide front back : ℕ} (found found' : Option FoundLeaf) → (variable_of b own).sparse ≡ NoRule → first ≤ last → wide ≡ widest (index_at x head) → option_map seen found ≡ leaf_of first (leaves_of (index_at x head)) → option_map seen found' ≡ leaf_of last (leaves_of (index_at x head))
       → front ≡ front_room first last rec_bytes (option_map seen found) → back ≡ back_room first last rec_bytes (option_map seen found') → 28 + 16 * wide + (front + back) ≡ cut_room (variable_of b own) own.index first last
-  room_read {first} {last} found found' order wide_is found_is found_is' front_is back_is =
+  room_read {first} {last} found found' free order wide_is found_is found_is' front_is back_is =
       let one = wide_is ∙ ap widest index_same in
       let two = front_is ∙ (λ i. front_room first last (size_own i) (found_is i)) ∙ ap (λ n. front_room first last (record_bytes b own.vdr) (leaf_of first (leaves_of n))) index_same in
       let three = back_is ∙ (λ i. back_room first last (size_own i) (found_is' i)) ∙ ap (λ n. back_room first last (record_bytes b own.vdr) (leaf_of last (leaves_of n))) index_same in
-      (λ i. 28 + 16 * one i + (two i + three i)) ∙ sym (room_is (variable_of b own) (no_rule good among) first last order own.index (leaves_ascend good among))
+      (λ i. 28 + 16 * one i + (two i + three i)) ∙ sym (room_is (variable_of b own) free first last order own.index (leaves_ascend good among))

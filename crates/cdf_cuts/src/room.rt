@@ -14,6 +14,7 @@ ghost use Rattle.cdf_format.specs.WellFormed.{Good};
 ghost use Rattle.cdf_index.specs.Sight.{seen};
 ghost use Rattle.cdf_model.specs.Limits.{image_limit, record_number_limit};
 ghost use Rattle.cdf_model.specs.declared.kinds.Kind.{Kind};
+ghost use Rattle.cdf_model.specs.declared.kinds.Sparse.TheVariants.{NoRule};
 
 use cdf_area::{Area, AreaError};
 use cdf_format::fields::{LINKED_SIZE, VDR_VXR_HEAD, VXR_ENTRY_SIZE, VXR_FIRST};
@@ -83,7 +84,7 @@ pub fn read_closing_room<A: Area>(
     requires size { rec_bytes ≡ record_bytes (A.image area.old) vdr }
     requires order { first ≤ last }
     requires short { length (A.image area.old) ≤ image_limit }
-    ensures room { IfOk result (λ n. (kind : Kind) (before : List VariableShape) (own : VariableShape) (after : List VariableShape) → StandsAmong (A.image area.old) kind before own after → own.vdr ≡ vdr → n ≡ cut_room (variable_of (A.image area.old) own) own.index first last) }
+    ensures room { IfOk result (λ n. (kind : Kind) (before : List VariableShape) (own : VariableShape) (after : List VariableShape) → StandsAmong (A.image area.old) kind before own after → own.vdr ≡ vdr → (variable_of (A.image area.old) own).sparse ≡ NoRule → n ≡ cut_room (variable_of (A.image area.old) own) own.index first last) }
     ensures area { Reads A.image A.frame A.faults A.edited area.old area.new result }
 {
     // An image has fewer than 2^64 bytes, so no place in it overflows.

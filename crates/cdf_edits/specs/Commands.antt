@@ -1,6 +1,7 @@
 pub mod Allowances
 pub mod Attributes
 pub mod Cuts
+pub mod Deleting
 pub mod Does
 pub mod Entries
 pub mod EntryChains

@@ -1,7 +1,8 @@
 -- The names that most proofs of this crate cite, passed on from one place. Declares nothing.
 unfoldable pub use Rattle.cdf_base.specs.Bytes.{put}
 pub use Rattle.cdf_edits.specs.Commands.Allowances.{AllKeep, Allowance, Allowances, Anything, FreedStay, FreedStays, GivenStay, Keeps, Only, OutsideFields, allowance, is_taken, no_fields, shapes_of}
-pub use Rattle.cdf_edits.specs.Commands.Cuts.{DeletesRecords, SetsCompress, SetsSparse, is_deleted, number_after_cut}
+pub use Rattle.cdf_edits.specs.Commands.Cuts.{SetsCompress, SetsSparse, is_deleted, number_after_cut}
+pub use Rattle.cdf_edits.specs.Commands.Deleting.{Deletes}
 pub use Rattle.cdf_edits.specs.Commands.Does.{Does}
 pub use Rattle.cdf_edits.specs.Commands.Entries.{DeletesEntry, PutsEntry}
 pub use Rattle.cdf_edits.specs.Commands.EntryChains.{GreatestIs, share_chain}
@@ -12,7 +13,7 @@ unfoldable pub use Rattle.cdf_edits.specs.Commands.Reindex.{AreTight, EntriesTig
 pub use Rattle.cdf_edits.specs.Commands.Room.{room, room_in}
 unfoldable pub use Rattle.cdf_edits.specs.Commands.Room.{entries_below, entries_in, nodes_above, widest, widest_below}
 pub use Rattle.cdf_edits.specs.Commands.Variables.{DeletesNamed, DeletesVariable, emptied_fields}
-pub use Rattle.cdf_edits.specs.Index.Blocks.{cuts_before_put, first_written, record_length}
+pub use Rattle.cdf_edits.specs.Index.Blocks.{cuts_before_put, first_written, is_sparse, record_length}
 unfoldable pub use Rattle.cdf_edits.specs.Index.Blocks.{cover, entry_firsts, firsts_of}
 pub use Rattle.cdf_edits.specs.Index.Cut.{IsNeeded, NodesFreedStay, StaysWhole, sized_blocks}
 unfoldable pub use Rattle.cdf_edits.specs.Index.Cut.{sized_nodes, sized_nodes_below}

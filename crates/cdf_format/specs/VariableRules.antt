@@ -1,5 +1,5 @@
 -- The rules of an image on its variables, phase 7 (CDF Internal Format Description, "Variable Descriptor Records", "Compressed Parameters Record").
-use Rattle.std.specs.Prelude.{ℕ, ◌+◌, List, [], ◌∷◌, ◌++◌, Bool, not, is_some, ◌&&◌, ◌||◌, ◌==◌, nat_le, if◌then◌else◌}
+use Rattle.std.specs.Prelude.{ℕ, ◌+◌, List, [], ◌∷◌, Bool, not, is_some, ◌&&◌, ◌||◌, ◌==◌, nat_le, if◌then◌else◌}
 use Rattle.std.specs.List.{flat_map, list_all}
 use Rattle.cdf_model.specs.Limits.{dimension_limit, record_number_limit}
 use Rattle.cdf_model.specs.Place.{record_limit}
@@ -8,7 +8,6 @@ use Rattle.cdf_model.specs.VariableSteps.{is_characters}
 use Rattle.cdf_format.specs.Fields.{number, is_positive, size_at, holds}
 use Rattle.cdf_format.specs.Records.{vdr_data_type, vdr_max_rec, vdr_s_records, vdr_num_elems, vdr_cpr_or_spr_offset, vdr_name, vdr_z_num_dims, vdr_z_dim_sizes, cpr_c_type, cpr_p_count, cpr_parameter, cpr_parameters}
 use Rattle.cdf_format.specs.RecordTypes.{cpr_type}
-use Rattle.cdf_format.specs.NotRead.{unread_sparse}
 use Rattle.cdf_format.specs.Rules.{Row, row, asked}
 use Rattle.cdf_format.specs.Chains.{is_a}
 use Rattle.cdf_format.specs.AttributeRules.{has_name, same_name}
@@ -70,7 +69,6 @@ variable_rows b records vdrs vdr =
     ∷ row 10 vdr (is_compressed b vdr || is_no_link (cpr_link b vdr))
     ∷ row 11 vdr (not (is_compressed b vdr) || is_cpr b records (cpr_link b vdr))
     ∷ asked (is_compressed b vdr) (cpr_rows b records (cpr_link b vdr))
-    ++ unread_sparse b vdr
 
 -- these variables, in an image with these records
 abbrev pub phase7 : List ℕ → List ℕ → List ℕ → List Row

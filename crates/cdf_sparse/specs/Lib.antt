@@ -1,4 +1,3 @@
 pub mod Opening
-pub mod Deleting
 pub mod SetRule
 pub mod TidyIndex

@@ -128,7 +128,6 @@ fn unread(phase: u8) -> Option<&'static str>
 {
     match phase {
         4 => Some("a record has a type that is not read yet"),
-        7 => Some("a variable has sparse records, which are not read yet"),
         _ => None,
     }
 }

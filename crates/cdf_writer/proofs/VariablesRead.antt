@@ -8,7 +8,8 @@ use Rattle.std.specs.List.{flat_map}
 use Rattle.std.specs.Prelude.{if◌then◌else◌, max, min, nat_le, nat_lt, ◌&&◌, ◌/◌, ◌==◌}
 use Rattle.cdf_model.specs.declared.kinds.Kind.{Kind}
 use Rattle.cdf_model.specs.declared.kinds.Kind.TheVariants.{R, Z}
-use Rattle.cdf_model.specs.declared.kinds.Sparse.TheVariants.{NoRule}
+use Rattle.cdf_model.specs.declared.kinds.Sparse.{Sparse}
+use Rattle.cdf_model.specs.declared.kinds.Sparse.TheVariants.{NoRule, Pad, Previous}
 use Rattle.cdf_model.specs.DataSet.{Variable, extent}
 use Rattle.cdf_model.specs.Limits.{level_limit, record_number_limit, signed_limit}
 use Rattle.cdf_model.specs.declared.data_type.DataType.{DataType}
@@ -32,7 +33,6 @@ use Rattle.cdf_format.specs.AttributeRules.{same_name}
 use Rattle.cdf_format.specs.ChainRules.{number_rows}
 use Rattle.cdf_format.specs.VariableRules.{cpr_link as cpr_link_at, cpr_rows, is_cpr, is_known_packing, has_elements, is_max_rec, is_named_apart, is_no_link, vdr_end}
 use Rattle.cdf_format.proofs.NameRules.{AreNew, absent-split, differ-turned, names_at, stands_in}
-use Rattle.cdf_format.specs.NotRead.{unread_sparse}
 use Rattle.cdf_format.specs.Rules.{Hold, asked, row}
 use Rattle.cdf_edits.proofs.Space.LaidOut.{says_laid_out, typed_body}
 use Rattle.cdf_writer.proofs.PackedBack.{unpacks_back}
@@ -66,6 +66,11 @@ record_even size elems count some = whole_value size (elems * count) (size * ele
   where
     assoc : (x y z : ℕ) → x * y * z ≡ x * (y * z)
     assoc x y z = grind arith
+
+sparse_known : (s : Sparse) → nat_le (sparse_code s) 2 ≡ true
+sparse_known NoRule = refl
+sparse_known Pad = refl
+sparse_known Previous = refl
 
 size_some : (t : DataType) → 1 ≤ size_of t
 size_some t = grind arith
@@ -431,15 +436,15 @@ module _ (kind : Kind) (little : Bool) where
       elems_rule : has_elements b place ≡ true
       elems_rule = rw (st.says.elems_said, st.reads.type_is) (and_from _ _ (and_from _ _ (le-leb 1 v.elems p.some) (le-leb v.elems signed_limit p.few)) p.single)
 
-      pub variable_ruled : v.sparse ≡ NoRule → IsRuled b rs (shape_at place v)
-      variable_ruled unruled =
+      pub variable_ruled : IsRuled b rs (shape_at place v)
+      variable_ruled =
           let named = ap (λ (x : List ℕ). not (length x == 0)) st.says.name_is ∙ ap not (fine_is_some v.name p.named) in
           let known : is_some (known_type b place vdr_data_type) ≡ true = ap (λ (k : ℕ). is_some (type_of (cast_signed w32 k))) st.says.type_said ∙ ap (λ (o : Option DataType). is_some o) (type_back v.type) in
           let fits : nat_le (vdr_end b place) (size_at b place) ≡ true = le-leb (vdr_end b place) (size_at b place) (omega (arith, st.reads.end_is, st.standing.size_is, body_size kind little n next (root_of little past v) (cpr_link past v.rle) v p)) in
           let small : nat_le (record_bytes b place) record_limit ≡ true = ap (λ (k : ℕ). nat_le k record_limit) st.reads.size_is ∙ le-leb (record_length v) record_limit p.short in
           let max : is_max_rec (number b place vdr_max_rec) ≡ true = rw st.says.max_said (max_rule v.max_rec p.max_low p.extent_fits) in
-          let sparse : number b place vdr_s_records ≡ 0 = st.says.sparse_said ∙ ap sparse_code unruled in
-          ((named, (refl, (known, (elems_rule, (st.reads.dims_rule, (fits, (small, (max, (rw sparse refl, (ten v.rle st.reads.rle_is st.says.cpr_is, (eleven v.rle refl st.reads.rle_is st.says.cpr_is, last v.rle refl st.reads.rle_is st.says.cpr_is sparse))))))))))), variable_index_rules)
+          let sparse : nat_le (number b place vdr_s_records) 2 ≡ true = ap (λ (k : ℕ). nat_le k 2) st.says.sparse_said ∙ sparse_known v.sparse in
+          ((named, (refl, (known, (elems_rule, (st.reads.dims_rule, (fits, (small, (max, (sparse, (ten v.rle st.reads.rle_is st.says.cpr_is, (eleven v.rle refl st.reads.rle_is st.says.cpr_is, last v.rle refl st.reads.rle_is st.says.cpr_is))))))))))), variable_index_rules)
         where
           ten : (rle : Bool) → is_compressed b place ≡ rle → number b place vdr_cpr_or_spr_offset ≡ cpr_link past rle → (is_compressed b place || is_no_link (cpr_link_at b place)) ≡ true
           ten true e l = ap (λ (q : Bool). q || is_no_link (cpr_link_at b place)) e
@@ -456,14 +461,14 @@ module _ (kind : Kind) (little : Bool) where
           eleven true o e l = ap (λ (q : Bool). not q || is_cpr b rs (cpr_link_at b place)) e ∙ ap (is_cpr b rs) l ∙ is_good_cpr o
           eleven false o e l = ap (λ (q : Bool). not q || is_cpr b rs (cpr_link_at b place)) e
 
-          last : (rle : Bool) → v.rle ≡ rle → is_compressed b place ≡ rle → number b place vdr_cpr_or_spr_offset ≡ cpr_link past rle → number b place vdr_s_records ≡ 0 → Hold (asked (is_compressed b place) (cpr_rows b rs (cpr_link_at b place)) ++ unread_sparse b place)
-          last true o e l sp =
+          last : (rle : Bool) → v.rle ≡ rle → is_compressed b place ≡ rle → number b place vdr_cpr_or_spr_offset ≡ cpr_link past rle → Hold (asked (is_compressed b place) (cpr_rows b rs (cpr_link_at b place)))
+          last true o e l =
               let c = cpr_reads b past (st.cpr_there o) in
               let known : is_known_packing b past ≡ true = rw (c.type_is, c.parameter_is) refl in
               let there : Hold (cpr_rows b rs past) = subst (λ (q : Bool). Hold (asked q (row 12 past (is_known_packing b past) ∷ []))) (sym (is_good_cpr o)) (known, tt) in
               let at : Hold (cpr_rows b rs (cpr_link_at b place)) = subst (λ (k : ℕ). Hold (cpr_rows b rs k)) (sym l) there in
-              Hold-append (asked (is_compressed b place) (cpr_rows b rs (cpr_link_at b place))) (unread_sparse b place) (subst (λ (q : Bool). Hold (asked q (cpr_rows b rs (cpr_link_at b place)))) (sym e) at) (rw sp refl, tt)
-          last false o e l sp = Hold-append (asked (is_compressed b place) (cpr_rows b rs (cpr_link_at b place))) (unread_sparse b place) (subst (λ (q : Bool). Hold (asked q (cpr_rows b rs (cpr_link_at b place)))) (sym e) tt) (rw sp refl, tt)
+              subst (λ (q : Bool). Hold (asked q (cpr_rows b rs (cpr_link_at b place)))) (sym e) at
+          last false o e l = subst (λ (q : Bool). Hold (asked q (cpr_rows b rs (cpr_link_at b place)))) (sym e) tt
 
           max_rule : (z : ℤ) → (z ≡ negsuc 0) ⊎ IsPos z → extent z ≤ 2147483647 → is_max_rec (code4 z) ≡ true
           max_rule z (inl e) small = rw e refl
@@ -495,7 +500,7 @@ module _ (kind : Kind) (little : Bool) where
     pub linkable : is_linkable b rs (vdr_type kind) place ≡ true
     pub has : HasVariable b rs (shape_at place v)
     pub meant : variable_of b (shape_at place v) ≡ v
-    pub ruled : v.sparse ≡ NoRule → IsRuled b rs (shape_at place v)
+    pub ruled : IsRuled b rs (shape_at place v)
     pub indexed : Hold (index_rows b rs place (shape_at place v).index)
     pub same_times : (m : ℕ) → times m (variable_records (shape_at place v)) ≡ times m (places place (variable_bodies kind little n place next v))
 
@@ -563,9 +568,9 @@ module _ (kind : Kind) (little : Bool) where
   all_have b rs n place [] a = tt
   all_have b rs n place (v ∷ more) a = (a.0.has, all_have b rs (suc n) (past_variable kind little place v) more a.1)
 
-  pub all_ruled : (b rs : List ℕ) (n place : ℕ) (vs : List Variable) → Each Plain vs → AllStand b rs n place vs → Each (IsRuled b rs) (variable_shapes place vs)
-  all_ruled b rs n place [] p a = tt
-  all_ruled b rs n place (v ∷ more) p a = (a.0.ruled p.0.unruled, all_ruled b rs (suc n) (past_variable kind little place v) more p.1 a.1)
+  pub all_ruled : (b rs : List ℕ) (n place : ℕ) (vs : List Variable) → AllStand b rs n place vs → Each (IsRuled b rs) (variable_shapes place vs)
+  all_ruled b rs n place [] a = tt
+  all_ruled b rs n place (v ∷ more) a = (a.0.ruled, all_ruled b rs (suc n) (past_variable kind little place v) more a.1)
 
   pub all_indexed : (b rs : List ℕ) (n place : ℕ) (vs : List Variable) → AllStand b rs n place vs → Each (λ v. Hold (index_rows b rs v.vdr v.index)) (variable_shapes place vs)
   all_indexed b rs n place [] a = tt

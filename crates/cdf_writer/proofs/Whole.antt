@@ -111,10 +111,10 @@ module _ (d : DataSet) (file : FineFile d) (attrs : FineAttributes d) (vars : Fi
         z_times = all_times Z little (compact d) rs 0 (z_place d) d.z_variables vars.z_fine zs_stand;
       }
 
-  -- the rules, of those that are read so far
-  pub ruled_now : PlainVariables d → Hold (flat_map (variable_rows (compact d) rs (vdrs (r_shapes ++ z_shapes))) (vdrs (r_shapes ++ z_shapes)))
-  ruled_now plain =
-      let ruled = ruled_both r_shapes z_shapes (all_ruled R little (compact d) rs 0 (r_place d) d.r_variables plain.r_plain rs_stand) (all_ruled Z little (compact d) rs 0 (z_place d) d.z_variables plain.z_plain zs_stand) in
+  -- the rules
+  pub ruled_now : Hold (flat_map (variable_rows (compact d) rs (vdrs (r_shapes ++ z_shapes))) (vdrs (r_shapes ++ z_shapes)))
+  ruled_now =
+      let ruled = ruled_both r_shapes z_shapes (all_ruled R little (compact d) rs 0 (r_place d) d.r_variables rs_stand) (all_ruled Z little (compact d) rs 0 (z_place d) d.z_variables zs_stand) in
       let all = vdrs (r_shapes ++ z_shapes) in
       let new : AreNew [] (names_at (compact d) vdr_name (vdrs (r_shapes ++ z_shapes))) = subst (AreNew []) (sym all_names) (new_from [] (variable_names d) vars.differ) in
       ruled_rows (compact d) rs all (r_shapes ++ z_shapes) ruled (λ m i. apart_into (compact d) all m (λ y j ne. names_apart (compact d) [] all new m y i j ne))
@@ -193,7 +193,7 @@ module _ (d : DataSet) (file : FineFile d) (attrs : FineAttributes d) (vars : Fi
 
   pub compact_good : PlainVariables d → Good (compact d)
   unfolding part
-  compact_good plain = good d file attrs made max_fits (part d file attrs vars made max_fits) (ruled_now d file attrs vars made max_fits plain) (all_read d file attrs (variables_read R (means_little d) 0 (r_place d) d.r_variables vars.r_fine plain.r_plain) (variables_read Z (means_little d) 0 (z_place d) d.z_variables vars.z_fine plain.z_plain))
+  compact_good plain = good d file attrs made max_fits (part d file attrs vars made max_fits) (ruled_now d file attrs vars made max_fits) (all_read d file attrs (variables_read R (means_little d) 0 (r_place d) d.r_variables vars.r_fine plain.r_plain) (variables_read Z (means_little d) 0 (z_place d) d.z_variables vars.z_fine plain.z_plain))
 
   pub compact_means : content (compact d) ≡ d
   compact_means = means d file attrs made max_fits (part d file attrs vars made max_fits)

@@ -2,7 +2,6 @@
 use Rattle.std.specs.Prelude.{◌≡◌, ◌<◌, ◌≤◌, ◌⊎◌, ℕ, ℤ, pos, negsuc, suc, ◌*◌, List, [], ◌∷◌, ◌++◌, bytes_eq, false, length, map, true, is_some, FitsSigned, IfSome, ◌||◌, ◌==◌}
 use Rattle.std.specs.Int.{w32}
 use Rattle.std.specs.List.{list_any}
-use Rattle.cdf_model.specs.declared.kinds.Sparse.TheVariants.{NoRule}
 use Rattle.cdf_model.specs.DataSet.{Attribute, DataSet, Entry, Variable, extent}
 use Rattle.cdf_model.specs.Encodings.{encoding_at}
 use Rattle.cdf_model.specs.Limits.{dimension_limit, image_limit, record_number_limit, signed_limit}
@@ -97,10 +96,9 @@ pub record Fine (d : DataSet) : Type 0 where
   pub attributes : FineAttributes d
   pub variables : FineVariables d
 
--- what is read so far: not packed, and without a rule for records that are missing
+-- what is read so far: not packed
 pub record Plain (v : Variable) : Type 0 where
   pub unpacked : v.rle ≡ false
-  pub unruled : v.sparse ≡ NoRule
 
 pub record PlainVariables (d : DataSet) : Type 0 where
   pub r_plain : Each Plain d.r_variables

@@ -1,5 +1,5 @@
 -- What is linked through some records of an image is linked through others that hold the same ones.
-use Rattle.cdf_edits.proofs.Common.{Bool, Each, Entries, HasNodes, In, In-append_left, In-append_right, IsIndex, Leaf, LeafFits, List, Names, Nodes, Row, [], ap, asked, block, cpr_link, cpr_p_count, cpr_rows, cpr_type, cvvr_rows, cvvr_type, end_of, entry_leaves, false, flat_map, has_dimensions, has_elements, has_name, has_room, index_rows, inl, inr, is_a, is_between, is_block, is_compressed, is_cpr, is_in, is_in-true, is_known_packing, is_linkable, is_max_rec, is_named_apart, is_no_link, is_positive, is_some, is_z, known_type, leaf_rows, leaves_of, lower, lower_nodes, map, map-append, nat_le, negsuc, no_entry, no_node, node, nodes_of, nodes_rows, number, number_before, pos, record_bytes, record_limit, record_number_limit, refl, row, size_at, subst, suc, sym, true, type_at, unread_sparse, used_rows, variable_rows, vdr_data_type, vdr_end, vdr_max_rec, vdr_name, vdr_s_records, vvr_rows, vvr_type, vxr_type, with_sign, zero, ℕ, ℤ, ◌*◌, ◌++◌, ◌+◌, ◌==◌, ◌∙◌, ◌∷◌, ◌≡◌}
+use Rattle.cdf_edits.proofs.Common.{Bool, Each, Entries, HasNodes, In, In-append_left, In-append_right, IsIndex, Leaf, LeafFits, List, Names, Nodes, Row, [], ap, asked, block, cpr_link, cpr_p_count, cpr_rows, cpr_type, cvvr_rows, cvvr_type, end_of, entry_leaves, false, flat_map, has_dimensions, has_elements, has_name, has_room, index_rows, inl, inr, is_a, is_between, is_block, is_compressed, is_cpr, is_in, is_in-true, is_known_packing, is_linkable, is_max_rec, is_named_apart, is_no_link, is_positive, is_some, is_z, known_type, leaf_rows, leaves_of, lower, lower_nodes, map, map-append, nat_le, negsuc, no_entry, no_node, node, nodes_of, nodes_rows, number, number_before, pos, record_bytes, record_limit, record_number_limit, refl, row, size_at, subst, suc, sym, true, type_at, used_rows, variable_rows, vdr_data_type, vdr_end, vdr_max_rec, vdr_name, vdr_s_records, vvr_rows, vvr_type, vxr_type, with_sign, zero, ℕ, ℤ, ◌*◌, ◌++◌, ◌+◌, ◌==◌, ◌∙◌, ◌∷◌, ◌≡◌}
 use Rattle.std.proofs.Common.{not, ◌&&◌, ◌||◌}
 use Rattle.cdf_edits.proofs.Rules.OfVariables.{asked_same}
 
@@ -126,7 +126,7 @@ module _ (b r r' : List ℕ) where
       let cpr : is_compressed b vdr ≡ true → is_cpr b r' (cpr_link b vdr) ≡ is_cpr b r (cpr_link b vdr) = λ e. ap (λ (q : Bool). q && (is_positive (number b (cpr_link b vdr) cpr_p_count) && nat_le (24 + 4 * number b (cpr_link b vdr) cpr_p_count) (size_at b (cpr_link b vdr)))) (is_a_both cpr_type (cpr_link b vdr) (p e)) in
       let eleventh = unless_same (is_compressed b vdr) (is_cpr b r' (cpr_link b vdr)) (is_cpr b r (cpr_link b vdr)) cpr in
       let twelfth = asked_same (is_compressed b vdr) (is_compressed b vdr) (cpr_rows b r' (cpr_link b vdr)) (cpr_rows b r (cpr_link b vdr)) refl (λ e. ap (λ (q : Bool). asked q (row 12 (cpr_link b vdr) (is_known_packing b (cpr_link b vdr)) ∷ [])) (cpr e)) in
-      λ i. first_rows b ids vdr ++ (row 11 vdr (eleventh i) ∷ twelfth i ++ unread_sparse b vdr)
+      λ i. first_rows b ids vdr ++ (row 11 vdr (eleventh i) ∷ twelfth i)
 
   pub leaves_fit_both : (vdr : ℕ) (leaves : List Leaf) → ((m : ℕ) → In m (places_of leaves) → InBoth r r' m) → Each (LeafFits b r vdr) leaves → Each (LeafFits b r' vdr) leaves
   leaves_fit_both vdr [] p fits = tt

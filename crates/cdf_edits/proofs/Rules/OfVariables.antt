@@ -123,4 +123,3 @@ module _ (b now records : List ℕ) (same : SameHeads b now records records) whe
           ∷ row 10 v (packed i || is_no_link (link i))
           ∷ row 11 v (not (packed i) || cpr i)
           ∷ asked (packed i) (parameters i)
-          ++ (row 99 v (sparse i == 0) ∷ [])

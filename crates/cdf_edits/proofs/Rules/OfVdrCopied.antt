@@ -72,7 +72,6 @@ module _ {b now : List ℕ} (file : FileSame b now) {v v' : ℕ} (k : VdrAlike b
       let h9 = h8.1 in
       let h10 = h9.1 in
       let h11 = h10.1 in
-      let rest = Hold-split (asked (is_compressed b v) (cpr_rows b records (cpr_link b v))) (row 99 v (number b v vdr_s_records == 0) ∷ []) h11.1 in
       let raw = raw_type_alike file k in
       let type = type_alike file k in
       let elems = raw_elems_alike file k in
@@ -83,7 +82,7 @@ module _ {b now : List ℕ} (file : FileSame b now) {v v' : ℕ} (k : VdrAlike b
       let was : is_compressed b v ≡ true → is_cpr b records (cpr_link b v) ≡ true = unless_holds (is_compressed b v) (is_cpr b records (cpr_link b v)) h11.0 in
       let stays : is_compressed now v' ≡ true → CprStays b now records' (cpr_link b v) = λ e. let c = sym packed ∙ e in cpr c (was c) in
       let known : is_compressed b v ≡ true → is_known_packing b (cpr_link b v) ≡ true = λ c.
-      (Hold-asked (is_cpr b records (cpr_link b v)) (row 12 (cpr_link b v) (is_known_packing b (cpr_link b v)) ∷ []) (Hold-asked (is_compressed b v) (cpr_rows b records (cpr_link b v)) rest.0 c) (was c)).0 in
+      (Hold-asked (is_cpr b records (cpr_link b v)) (row 12 (cpr_link b v) (is_known_packing b (cpr_link b v)) ∷ []) (Hold-asked (is_compressed b v) (cpr_rows b records (cpr_link b v)) h11.1 c) (was c)).0 in
       let parameters : is_compressed now v' ≡ true → Hold (cpr_rows now records' (cpr_link b v)) = λ e.
       hold_asked (is_cpr now records' (cpr_link b v)) (row 12 (cpr_link b v) (is_known_packing now (cpr_link b v)) ∷ []) (λ x. ((stays e).packing ∙ known (sym packed ∙ e), tt)) in (
         named,
@@ -107,9 +106,7 @@ module _ {b now : List ℕ} (file : FileSame b now) {v v' : ℕ} (k : VdrAlike b
                           (λ i. packed i || is_no_link (link i)) ∙ h10.0,
                           (
                             unless_if (is_compressed now v') (is_cpr now records' (cpr_link now v')) (λ e. ap (is_cpr now records') link ∙ (stays e).is),
-                            Hold-append (asked (is_compressed now v') (cpr_rows now records' (cpr_link now v'))) (row 99 v' (number now v' vdr_s_records == 0) ∷ [])
-                                (hold_asked (is_compressed now v') (cpr_rows now records' (cpr_link now v')) (λ e. subst (λ (c : ℕ). Hold (cpr_rows now records' c)) (sym link) (parameters e)))
-                                (ap (λ (n : ℕ). n == 0) sparse ∙ rest.1.0, tt),
+                            hold_asked (is_compressed now v') (cpr_rows now records' (cpr_link now v')) (λ e. subst (λ (c : ℕ). Hold (cpr_rows now records' c)) (sym link) (parameters e)),
                           ),
                         ),
                       ),

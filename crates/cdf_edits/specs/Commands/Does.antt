@@ -5,7 +5,9 @@ use Rattle.cdf_model.specs.declared.command.Command.TheVariants as commands
 use Rattle.cdf_model.specs.declared.kinds.Kind.TheVariants.{R, Z}
 use Rattle.cdf_edits.specs.Space.Acts.{Act}
 use Rattle.cdf_edits.specs.Commands.Attributes.{MakesAttribute, RenamesAttribute, DeletesAttribute}
-use Rattle.cdf_edits.specs.Commands.Cuts.{DeletesRecords, SetsSparse, SetsCompress}
+use Rattle.cdf_edits.specs.Commands.Cuts.{SetsSparse, SetsCompress}
+use Rattle.cdf_edits.specs.Commands.Deleting.{Deletes}
+use Rattle.cdf_edits.specs.Index.Blocks.{is_sparse}
 use Rattle.cdf_edits.specs.Commands.Entries.{PutsEntry, DeletesEntry}
 use Rattle.cdf_edits.specs.Commands.Named.{OfAttribute, OfVariable}
 use Rattle.cdf_edits.specs.Commands.Setup.{SetsUp, SetsChecksum}
@@ -27,7 +29,7 @@ Does b (commands.DelVar name) now acts = DeletesNamed b now name acts
 Does b (commands.SetPad var words) now acts = OfVariable b now var (λ found v v'. SetsPad b now v.vdr v'.vdr acts)
 Does b (commands.PutRec var rec words) now acts = OfVariable b now var (λ found v v'. PutsRecord b now found.kind found.variable rec v v' acts)
 Does b (commands.PutVal var rec index words) now acts = OfVariable b now var (λ found v v'. PutsRecord b now found.kind found.variable rec v v' acts)
-Does b (commands.DelRecs var first last) now acts = OfVariable b now var (λ found v v'. DeletesRecords b now found.variable first last v v' acts)
+Does b (commands.DelRecs var first last) now acts = OfVariable b now var (λ found v v'. Deletes b now found first last v v' acts (is_sparse found.variable.sparse))
 Does b (commands.SetSparse var rule) now acts = OfVariable b now var (λ found v v'. SetsSparse b now v v' acts)
 Does b (commands.SetCompress var rle) now acts = OfVariable b now var (λ found v v'. SetsCompress b now rle v v' acts)
 Does b (commands.Reindex var) now acts = OfVariable b now var (λ found v v'. MakesIndex b now v v' acts)

@@ -40,8 +40,8 @@ room_behind-requires g c =
     small c.requires.good one.among one.vdr_is same c.in_ok-head.ensures.value c.requires.size c.requires.short c.args.last c.in_ok-back.back c.in_ok-back.ensures.value
 
 pub returns-clause-room : goal.returns-clause-room
-returns-clause-room g c kind before own after among is =
+returns-clause-room g c kind before own after among is free =
     let same = c.in_ok-size.ensures.area.image ∙ c.in_ok-head.ensures.area.image in
     let wide = c.from.ensures ∙ ap (λ (s : IndexSize). s.widest) c.in_ok-size.ensures.value ∙ ap (λ (x : List ℕ). widest (index_at x c.in_ok-head.head)) (sym c.in_ok-size.ensures.area.image) in
     let back = rw c.in_ok-front.ensures.area.image at c.in_ok-back.ensures.value in
-    room_read c.requires.good among is same c.in_ok-head.ensures.value c.requires.size c.in_ok-front.front c.in_ok-back.back c.requires.order wide c.in_ok-front.ensures.value back c.room_in_front.ensures.value c.room_behind.ensures.value
+    room_read c.requires.good among is same c.in_ok-head.ensures.value c.requires.size c.in_ok-front.front c.in_ok-back.back free c.requires.order wide c.in_ok-front.ensures.value back c.room_in_front.ensures.value c.room_behind.ensures.value

@@ -1,4 +1,4 @@
-use Rattle.cdf_examples.proofs.Common.{ActsFollow, AllKeep, Bool, DeletesRecords, Does, VariableShape, [], allowances, arith, block, chain_on, codes, content, cover, cut_entries, cut_nodes, delete_t, digits, entries_below, entries_in, entries_on, entries_outline, entry_firsts, entry_leaves, false, first_cut_file, firsts_of, found_z, high_first, is_deleted, is_taken_at, leaves_of, levels_on, lower_nodes, new_room, new_room_below, no_entry, nodes_above, nodes_of, nodes_on, nodes_rows, not, number_after_cut, one_node, outline, owned, pos, record_length, records_index, refl, room_at, run_script, shape, size_at, sized_nodes, sized_nodes_below, stored_bytes, t_data, t_shape, tiles_from, true, two_stored_file, used_rows, vxr_bytes, widest, widest_below, with_leaf, with_lower, ◌∷◌, ◌≡◌}
+use Rattle.cdf_examples.proofs.Common.{ActsFollow, AllKeep, Bool, Deletes, Does, VariableShape, [], allowances, arith, block, chain_on, codes, content, cover, cut_entries, cut_nodes, delete_t, digits, entries_below, entries_in, entries_on, entries_outline, entry_firsts, entry_leaves, false, first_cut_file, firsts_of, found_z, high_first, is_deleted, is_sparse, is_taken_at, leaves_of, levels_on, lower_nodes, new_room, new_room_below, no_entry, nodes_above, nodes_of, nodes_on, nodes_rows, not, number_after_cut, one_node, outline, owned, pos, record_length, records_index, refl, room_at, run_script, shape, size_at, sized_nodes, sized_nodes_below, stored_bytes, t_data, t_shape, tiles_from, true, two_stored_file, used_rows, vxr_bytes, widest, widest_below, with_leaf, with_lower, ◌∷◌, ◌≡◌}
 use Rattle.cdf_examples.proofs.Tests.{keeps_rules}
 use Rattle.cdf_examples.proofs.Deciding.{acts_follow_if, all_keep_if}
 use Rattle.cdf_examples.proofs.Deciding.{of_variable, nodes_freed_if, nodes_if, each_if}
@@ -15,7 +15,7 @@ keep = all_keep_if two_stored_file first_cut_file (allowances two_stored_file (c
 
 does : Does two_stored_file (delete_t 0 0) first_cut_file ([])
 unfolding two_stored_file first_cut_file shape content tiles_from chain_on nodes_of lower_nodes leaves_of entry_leaves entries_on nodes_on levels_on entries_in entries_below widest widest_below nodes_above firsts_of entry_firsts cover new_room with_leaf new_room_below with_lower cut_nodes cut_entries outline entries_outline sized_nodes sized_nodes_below
-does = of_variable two_stored_file first_cut_file (codes "T") (λ found v v'. DeletesRecords two_stored_file first_cut_file found.variable 0 0 v v' ([])) (found_z (t_data (pos 1) ((0, high_first 1) ∷ (1, high_first 2) ∷ []))) before after refl refl refl (record {
+does = of_variable two_stored_file first_cut_file (codes "T") (λ found v v'. Deletes two_stored_file first_cut_file found 0 0 v v' ([]) (is_sparse found.variable.sparse)) (found_z (t_data (pos 1) ((0, high_first 1) ∷ (1, high_first 2) ∷ []))) before after refl refl refl (record {
   middle = after.index;
   cut = [];
   again = [];

@@ -1,4 +1,4 @@
-use Rattle.cdf_examples.proofs.Common.{ActsFollow, AllKeep, Bool, DeletesRecords, Does, Variable, VariableShape, [], allowances, arith, block, chain_on, codes, content, cover, cut_entries, cut_nodes, delete_u, digits, entries_below, entries_in, entries_on, entries_outline, entry_firsts, entry_leaves, false, firsts_of, found_z, is_deleted, is_taken_at, leaves_of, levels_on, lower_nodes, new_room, new_room_below, no_entry, nodes_above, nodes_of, nodes_on, nodes_rows, not, number_after_cut, one_node, one_of_forty_file, outline, owned, pos, record_length, refl, replicate, room_at, run_script, shape, size_at, sized_nodes, sized_nodes_below, stored_bytes, t_shape, tiles_from, true, two_of_forty_file, u_data, used_rows, vxr_bytes, widest, widest_below, with_leaf, with_lower, ◌∷◌, ◌≡◌}
+use Rattle.cdf_examples.proofs.Common.{ActsFollow, AllKeep, Bool, Deletes, Does, Variable, VariableShape, [], allowances, arith, block, chain_on, codes, content, cover, cut_entries, cut_nodes, delete_u, digits, entries_below, entries_in, entries_on, entries_outline, entry_firsts, entry_leaves, false, firsts_of, found_z, is_deleted, is_sparse, is_taken_at, leaves_of, levels_on, lower_nodes, new_room, new_room_below, no_entry, nodes_above, nodes_of, nodes_on, nodes_rows, not, number_after_cut, one_node, one_of_forty_file, outline, owned, pos, record_length, refl, replicate, room_at, run_script, shape, size_at, sized_nodes, sized_nodes_below, stored_bytes, t_shape, tiles_from, true, two_of_forty_file, u_data, used_rows, vxr_bytes, widest, widest_below, with_leaf, with_lower, ◌∷◌, ◌≡◌}
 use Rattle.cdf_examples.proofs.Tests.{keeps_rules}
 use Rattle.cdf_examples.proofs.Deciding.{acts_follow_if, all_keep_if}
 use Rattle.cdf_examples.proofs.Deciding.{of_variable, nodes_freed_if, nodes_if, each_if}
@@ -15,7 +15,7 @@ keep = all_keep_if two_of_forty_file one_of_forty_file (allowances two_of_forty_
 
 does : Does two_of_forty_file (delete_u 1 1) one_of_forty_file ([])
 unfolding two_of_forty_file one_of_forty_file shape content tiles_from chain_on nodes_of lower_nodes leaves_of entry_leaves entries_on nodes_on levels_on entries_in entries_below widest widest_below nodes_above firsts_of entry_firsts cover new_room with_leaf new_room_below with_lower cut_nodes cut_entries outline entries_outline sized_nodes sized_nodes_below
-does = of_variable two_of_forty_file one_of_forty_file (codes "U") (λ found v v'. DeletesRecords two_of_forty_file one_of_forty_file found.variable 1 1 v v' ([])) (found_z two) before after refl refl refl (record {
+does = of_variable two_of_forty_file one_of_forty_file (codes "U") (λ found v v'. Deletes two_of_forty_file one_of_forty_file found 1 1 v v' ([]) (is_sparse found.variable.sparse)) (found_z two) before after refl refl refl (record {
   middle = after.index;
   cut = [];
   again = [];

@@ -1,5 +1,5 @@
 -- What `del-recs` under a sparse rule and `set-sparse` do, by the images between (CDF Internal Format Description, "Variable Index Record", "Variable Values Record", "Compressed Variable Values Record"; own: records keep their numbers, and what is past the new MaxRec is cut after the others). The order in which a cut takes and frees is free.
-use Rattle.std.specs.Prelude.{◌≡◌, ℕ, ◌-◌, ◌*◌, List, [], ◌∷◌, ◌++◌, length, take, drop, false, nat_lt}
+use Rattle.std.specs.Prelude.{◌≡◌, ℕ, ◌-◌, ◌*◌, List, [], ◌∷◌, ◌++◌, length, Bool, true, false, nat_lt}
 use Rattle.cdf_model.specs.declared.kinds.Sparse.{Sparse}
 use Rattle.cdf_model.specs.DataSet.{Variable, extent}
 use Rattle.cdf_model.specs.Limits.{record_number_limit}
@@ -11,6 +11,8 @@ use Rattle.cdf_edits.specs.Commands.Room.{range_bytes}
 use Rattle.cdf_edits.specs.Frame.Changed.{Changed, touched_field}
 use Rattle.cdf_edits.specs.Index.Blocks.{range, shared, record_length, extent_after}
 use Rattle.cdf_edits.specs.Index.Cut.{IsPart, is_whole, CutsIndex, BlockPlaced, IsPlaced}
+use Rattle.cdf_edits.specs.Commands.Cuts.{DeletesRecords}
+use Rattle.cdf_edits.specs.Index.CutTwice.{part_bytes}
 use Rattle.cdf_edits.specs.Index.Grown.{kept_open, split_off, index_cut_open}
 use Rattle.cdf_edits.specs.Space.Acts.{Act}
 use Rattle.cdf_format.specs.Content.{plain_bytes}
@@ -20,10 +22,6 @@ use Rattle.cdf_format.specs.Shape.{VariableShape, Each}
 use Rattle.cdf_format.specs.VariableFields.{max_rec_at, sparse_at}
 
 -- ---- one cut, after which later records keep their numbers
-
--- the plain bytes of those records of a leaf that another one has
-abbrev pub part_bytes : List ℕ → Variable → ℕ → Leaf → Leaf → List ℕ
-part_bytes b v vdr old part = take (range_bytes v (range part.first part.last)) (drop ((part.first - old.first) * record_length v) (plain_bytes b vdr old))
 
 -- A leaf keeps its records before those that go in its block, or else those behind them, which then move to the front. The block stays in its record where it can, or it is placed anew.
 pub record LeafKept (found : Found) (first last : ℕ) (from to : Stage) (old new : Leaf) : Type 0 where
@@ -61,6 +59,11 @@ pub record DeletesUnderRule (b now : List ℕ) (found : Found) (first last : ℕ
   pub as_long : length now ≡ length left.image
   pub max_rec_is : extent (max_rec_at now after.vdr) ≡ extent_after found.variable first last
   pub r_max_rec : RMaxRecFollows b now
+
+-- by the rule of the variable
+abbrev pub Deletes : List ℕ → List ℕ → Found → ℕ → ℕ → VariableShape → VariableShape → List Act → Bool → Type 0
+Deletes b now found first last before after acts true = DeletesUnderRule b now found first last before after acts
+Deletes b now found first last before after acts false = DeletesRecords b now found.variable first last before after acts
 
 -- all records go, also those past MaxRec; then SRecords is written
 pub record SetsRule (b now : List ℕ) (found : Found) (rule : Sparse) (before after : VariableShape) (acts : List Act) : Type 0 where
