@@ -19,7 +19,7 @@ use Rattle.cdf_puts.specs.Going.{found_in}
 use Rattle.cdf_cuts.proofs.GoesKeep.{each_own, goes_keep}
 use Rattle.cdf_cuts.proofs.PastFollows.{none_left}
 use Rattle.cdf_cuts.specs.Past.{CutPast, before_first, cut_off, past_acts, stage}
-use Rattle.cdf_sparse.specs.Deleting.{CutsOpen, LeafKept, LeafSplit, untouched}
+use Rattle.cdf_edits.specs.Commands.Deleting.{CutsOpen, LeafKept, LeafSplit, untouched}
 
 -- ---- a record among those that keep what they have to
 

@@ -3,7 +3,11 @@ pub mod OpenFirsts
 pub mod OpenBlocks
 pub mod OpenNodes
 pub mod OpenCut
+pub mod OpenStep
+pub mod OpenNoneStep
 pub mod OpenNone
+pub mod OpenEntries
+pub mod OpenOneStep
 pub mod OpenOne
 pub mod OpenCalls
 pub mod CutTwice
@@ -22,6 +26,8 @@ pub mod TwiceMaxRec
 pub mod TwiceDeletes
 pub mod TwiceKeeps
 pub mod TwiceRoom
+pub mod OpeningWithin
+pub mod TwiceFollows
 pub mod RuledVdr
 pub mod SetRuleWritten
 pub mod CutKept

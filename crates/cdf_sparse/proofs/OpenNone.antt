@@ -1,5 +1,5 @@
 -- Records were cut out of the index of a variable, and no leaf is divided: its later records stand at the front of the one block that loses those before them, and all else is as the cut leaves it.
-use Rattle.cdf_cuts.proofs.Common.{Leaf, List, Nodes, [], ap, append-nil, arith, cases_eq, cases_lt, false, image_limit, inl, inr, leaves_of, length, map, number, refl, size_at, subst, sym, ℕ, ◌*◌, ◌+◌, ◌-◌, ◌<◌, ◌∙◌, ◌≡◌, ◌≢◌, ◌≤◌, ◌⊎◌, In}
+use Rattle.cdf_cuts.proofs.Common.{Leaf, List, Nodes, [], ap, append-nil, arith, cases_eq, cases_lt, false, image_limit, inl, inr, leaves_of, length, map, nat_lt, number, refl, size_at, subst, sym, ℕ, ◌*◌, ◌+◌, ◌-◌, ◌<◌, ◌∙◌, ◌≡◌, ◌≢◌, ◌≤◌, ◌⊎◌, In}
 use Rattle.std.specs.Prelude.{max}
 use Rattle.cdf_edits.proofs.Common.{Act, Good, Kind, Same, Stays, Variable, VariableShape, byte, gave, is_in, record_bytes, shape, variable_of, vdr_max_rec, vvr_place, word_kept}
 use Rattle.cdf_edits.proofs.Edits.ActsThen.{taken-gave}
@@ -8,6 +8,8 @@ use Rattle.cdf_edits.proofs.Edits.LeafPieces.{IsOneOf, one_place, times_le}
 use Rattle.cdf_edits.proofs.Edits.PlainLeaves.{PlainLeaf, leaves_apart, leaves_ascend, plain_leaf}
 use Rattle.cdf_edits.proofs.Edits.VariableCopied.{block_behind}
 use Rattle.cdf_edits.specs.Commands.GreatestRecord.{r_max_rec}
+use Rattle.cdf_edits.specs.Commands.PutSteps.{Goes}
+use Rattle.cdf_edits.specs.Index.Blocks.{shared}
 use Rattle.cdf_edits.specs.Index.Cut.{CutsIndex, IsPart}
 use Rattle.cdf_edits.specs.Index.Grown.{index_cut_open, kept_open, with_ranges}
 use Rattle.cdf_edits.specs.Index.Written.{is_taken_at}
@@ -16,15 +18,17 @@ use Rattle.cdf_index.proofs.Common.{behind_in}
 use Rattle.cdf_index.specs.Replacing.{with_index}
 use Rattle.cdf_puts.proofs.GoesThen.{later_size}
 use Rattle.cdf_puts.proofs.PutRules.{loose}
-use Rattle.cdf_puts.specs.Going.{GoesOn}
+use Rattle.cdf_puts.specs.Going.{GoesOn, found_in}
 use Rattle.cdf_cuts.proofs.BlocksMoved.{times_add}
-use Rattle.cdf_cuts.proofs.WritesThen.{goes_more, moved_max_rec, moved_r_max_rec, moved_writes}
+use Rattle.cdf_cuts.proofs.WritesThen.{goes_more, moved_max_rec, moved_r_max_rec}
 use Rattle.cdf_cuts.specs.Cut.{IsCut}
 use Rattle.cdf_cuts.specs.Moving.{HasLater, OneJoins}
+use Rattle.cdf_cuts.specs.Past.{stage}
 use Rattle.cdf_cuts.specs.Planning.{opening}
 use Rattle.cdf_sparse.proofs.OpenBlocks.{BlockStill, PartAt, moved_part, part_stays, still_part}
 use Rattle.cdf_sparse.proofs.OpenCut as by
 use Rattle.cdf_sparse.proofs.OpenLeaves.{none_split, same_leaf, split_is}
+use Rattle.cdf_sparse.proofs.OpenNoneStep.{BlockMoved, step_none, writes}
 use Rattle.cdf_sparse.specs.Opening.{IsDivided, PartStays, RecordsOpened, freed_opening, index_opened, opening_acts}
 
 -- a block all of whose bytes stay
@@ -120,6 +124,32 @@ module _ {b mid now : List ℕ} {kind : Kind} {before : List VariableShape} {own
 
   -- ---- the image goes on
 
+  -- the later records of the one block are moved within it
+  block_moved : (l : Leaf) → IsOneOf leaves l → OneJoins mid now size first last l → BlockMoved mid now left
+  block_moved l i j =
+      let h = j.has_later in
+      let r = h.reaches in
+      let t = h.later in
+      let x = by.plain good at order short c l i in
+      let k = by.kept_cut good at order short c l i (inr t) in
+      let sized = by.sized_cut good at order short c l i (inr t) in
+      let sum = times_add (max first l.first - l.first) (l.last - last) size in
+      let most = times_le (max first l.first - l.first + (l.last - last)) (l.last + 1 - l.first) size (omega arith) in
+      record {
+        place = l.place;
+        from = l.place + vvr_place ((last + 1 - l.first) * size);
+        to = vvr_place ((max first l.first - l.first) * size);
+        n = (l.last - last) * size;
+        block = by.place_left good at order short c l i (inr t);
+        is_plain = type_kept b mid l.place k.same k.long ∙ x.typed;
+        later = omega arith;
+        room = omega (arith, sized, x.room, sum, most);
+        moved = j.joins;
+      }
+
+  moves : (now ≡ mid) ⊎ BlockMoved mid now left
+  moves = elim up [ inl none ↦ inl none.0 | inr one ↦ inr (block_moved one.0 one.1.0 one.1.1.1) ]
+
   pub record GoneOn : Type 0 where
     pub goes : GoesOn b now kind before own left after acts
     pub long : length now ≡ length b
@@ -127,38 +157,21 @@ module _ {b mid now : List ℕ} {kind : Kind} {before : List VariableShape} {own
     pub r_max_rec_is : r_max_rec now ≡ r_max_rec b
 
   gone_on : GoneOn
-  gone_on = elim up [
-    | inl none ↦ record {
-      goes = subst (λ (y : List ℕ). GoesOn b y kind before own left after acts) (sym none.0) (by.goes_cut good at order short c);
-      long = ap length none.0 ∙ by.long_cut good at order short c;
-      max_rec_is = subst (λ (y : List ℕ). number y own.vdr vdr_max_rec ≡ number b own.vdr vdr_max_rec) (sym none.0) (by.max_cut good at order short c);
-      r_max_rec_is = subst (λ (y : List ℕ). r_max_rec y ≡ r_max_rec b) (sym none.0) (by.r_max_cut good at order short c);
+  gone_on = elim moves [
+    | inl same ↦ record {
+      goes = subst (λ (y : List ℕ). GoesOn b y kind before own left after acts) (sym same) (by.goes_cut good at order short c);
+      long = ap length same ∙ by.long_cut good at order short c;
+      max_rec_is = subst (λ (y : List ℕ). number y own.vdr vdr_max_rec ≡ number b own.vdr vdr_max_rec) (sym same) (by.max_cut good at order short c);
+      r_max_rec_is = subst (λ (y : List ℕ). r_max_rec y ≡ r_max_rec b) (sym same) (by.r_max_cut good at order short c);
     }
-    | inr one ↦
-        let l = one.0 in
-        let i = one.1.0 in
-        let j = one.1.1.1 in
-        let h = j.has_later in
-        let r = h.reaches in
-        let t = h.later in
-        let from = l.place + vvr_place ((last + 1 - l.first) * size) in
-        let to = vvr_place ((max first l.first - l.first) * size) in
-        let many = (l.last - last) * size in
-        let x = by.plain good at order short c l i in
-        let k = by.kept_cut good at order short c l i (inr t) in
-        let typed = type_kept b mid l.place k.same k.long ∙ x.typed in
-        let sized = by.sized_cut good at order short c l i (inr t) in
-        let sum = times_add (max first l.first - l.first) (l.last - last) size in
-        let most = times_le (max first l.first - l.first + (l.last - last)) (l.last + 1 - l.first) size (omega arith) in
-        let room : 12 + (max first l.first - l.first) * size + (l.last - last) * size ≤ size_at mid l.place = omega (arith, sized, x.room, sum, most) in
+    | inr x ↦
         let goes = by.goes_cut good at order short c in
-        let place = by.place_left good at order short c l i (inr t) in
-        let writes = moved_writes l.place from to many goes.good goes.among place typed (omega arith) room j.joins in
+        let w = writes goes.good goes.among x in
         record {
-          goes = goes_more good at goes writes (omega (arith, by.long_cut good at order short c, short));
-          long = writes.as_long ∙ by.long_cut good at order short c;
-          max_rec_is = moved_max_rec l.place from to many goes.good goes.among place typed (omega arith) room j.joins ∙ by.max_cut good at order short c;
-          r_max_rec_is = moved_r_max_rec l.place from to many goes.good goes.among place typed (omega arith) room j.joins ∙ by.r_max_cut good at order short c;
+          goes = goes_more good at goes w (omega (arith, by.long_cut good at order short c, short));
+          long = w.as_long ∙ by.long_cut good at order short c;
+          max_rec_is = moved_max_rec x.place x.from x.to x.n goes.good goes.among x.block x.is_plain x.later x.room x.moved ∙ by.max_cut good at order short c;
+          r_max_rec_is = moved_r_max_rec x.place x.from x.to x.n goes.good goes.among x.block x.is_plain x.later x.room x.moved ∙ by.r_max_cut good at order short c;
         }
   ]
 
@@ -203,4 +216,5 @@ module _ {b mid now : List ℕ} {kind : Kind} {before : List VariableShape} {own
     apart = apart;
     max_rec_is = gone_on.max_rec_is;
     r_max_rec_is = gone_on.r_max_rec_is;
+    step = λ next. subst (λ (xs : List Act). Goes (found_in b kind before own) (stage b own [] next) (stage now left xs next) (λ r. nat_lt 0 (shared first last r))) all_acts (step_none good at order short c moves apart next);
   }

@@ -44,6 +44,7 @@ use Rattle.cdf_sparse.proofs.OpenFirsts.{next_left}
 use Rattle.cdf_sparse.proofs.OpenLeaves.{kept_some, one_split, same_leaf, split_is}
 use Rattle.cdf_sparse.proofs.OpenNodes.{any_of, given_before, new_sized, node_needed, once_both, outline_new, taken_behind, takes_leaf}
 use Rattle.cdf_sparse.proofs.OpenNone.{still_stays}
+use Rattle.cdf_sparse.proofs.OpenOneStep.{step_one}
 use Rattle.cdf_sparse.specs.Opening.{IsDivided, OneDivided, PartStays, PartTaken, RecordsOpened, freed_opening, index_opened, later_records, opening_acts}
 
 outside_zero : (news : List ℕ) (at room : ℕ) → (room ≡ 0 → at ≡ 0) → (1 ≤ room → is_in at news ≡ true) → place_outside news at ≡ 0
@@ -364,4 +365,5 @@ module _ {b mid now : List ℕ} {kind : Kind} {before : List VariableShape} {own
     apart = untouched;
     max_rec_is = leaf_max_rec goes_first.good goes_first.among w ∙ by.max_cut good stand order short c;
     r_max_rec_is = r_max_rec_stays goes_first.good goes_first.among w ∙ by.r_max_cut good stand order short c;
+    step = step_one good stand order short c w second goes untouched;
   }

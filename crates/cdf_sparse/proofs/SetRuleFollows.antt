@@ -23,7 +23,7 @@ use Rattle.cdf_sparse.proofs.CutKept.{cuts_open}
 use Rattle.cdf_sparse.proofs.RuledVdr.{early_same}
 use Rattle.cdf_sparse.proofs.SetRuleContent.{content_ruled, rule_among, rule_is, rule_keeps, rule_lies}
 use Rattle.cdf_sparse.proofs.SetRuleWritten as of_rule
-use Rattle.cdf_sparse.specs.Deleting.{SetsRule}
+use Rattle.cdf_edits.specs.Commands.Deleting.{SetsRule}
 use Rattle.cdf_sparse.specs.SetRule.{RuleWritten, SetRule, rule_code}
 
 module _ {b mid now : List ℕ} {kind : Kind} {before : List VariableShape} {own : VariableShape} {after : List VariableShape} {rule : Sparse} (s : SetRule b mid now kind before own after rule) where

@@ -1,4 +1,4 @@
--- Under a rule for missing records the records from a first to a last were cut out, then all that was past the new MaxRec, and MaxRec was written: the variable is without these records, and all else of the content stays.
+-- Under a rule for missing records the records from a first to a last were cut out, then all that was past the new MaxRec, and MaxRec was written where it fell: the variable is without these records, and all else of the content stays.
 use Rattle.cdf_cuts.proofs.Common.{Leaf, List, Some, [], ap, arith, inl, inr, leaves_of, option_map, range, refl, size_at, subst, suc, sym, ℕ, ◌++◌, ◌+◌, ◌-◌, ◌<◌, ◌∙◌, ◌≡◌, ◌≤◌}
 use Rattle.std.proofs.Common.{drop, find, take}
 use Rattle.cdf_edits.proofs.Common.{Act, Good, Kind, Variable, VariableShape, content, covers, extent, last_number, max_rec_at, record_bytes, records_in, stored_bytes, type_of_variable, variable_of, with_variable, without}
@@ -19,10 +19,10 @@ use Rattle.cdf_puts.specs.Going.{GoesOn, found_in}
 use Rattle.cdf_cuts.proofs.BlocksMoved.{piece_shifted}
 use Rattle.cdf_cuts.proofs.PastContent.{stored_front}
 use Rattle.cdf_cuts.specs.Past.{cut_off, past_acts}
-use Rattle.cdf_sparse.proofs.CutTwice.{CutTwice, left_short, low_writes, max_rec_last}
 use Rattle.cdf_sparse.proofs.GreatestLeft.{greatest_is, last_greatest, without_ruled}
 use Rattle.cdf_sparse.proofs.OpenStored.{stored_inside, stored_outside}
 use Rattle.cdf_sparse.proofs.TwiceGoes.{twice_goes}
+use Rattle.cdf_sparse.proofs.TwiceLeft.{TwiceEnds, TwiceLeft, left_short}
 use Rattle.cdf_sparse.specs.Opening.{opening_acts}
 use Rattle.cdf_sparse.proofs.RecordsLeft.{StoresLeft, records_left}
 
@@ -56,7 +56,7 @@ module _ {b now : List ℕ} {kind : Kind} {before : List VariableShape} {own : V
 
 -- ---- the content
 
-module _ {b mid left now : List ℕ} {kind : Kind} {before : List VariableShape} {own own' : VariableShape} {after : List VariableShape} {first last : ℕ} {takes : List Act} {r : ℕ} (t : CutTwice b mid left now kind before own own' after first last takes r) where
+module _ {b mid left now : List ℕ} {kind : Kind} {before : List VariableShape} {own own' : VariableShape} {after : List VariableShape} {first last : ℕ} {takes : List Act} (t : TwiceLeft b mid left kind before own own' after first last takes) (e : TwiceEnds b left now kind (cut_off own' (extent_after (variable_of b own) first last)) (extent_after (variable_of b own) first last)) where
   abbrev v : Variable
   v = variable_of b own
 
@@ -73,13 +73,13 @@ module _ {b mid left now : List ℕ} {kind : Kind} {before : List VariableShape}
   acts = opening_acts b own first last takes ++ past_acts mid own' end
 
   goes : GoesOn b now kind before own own'' after acts
-  goes = twice_goes t
+  goes = twice_goes t e.writes
 
   ruled_is : without_records v.sparse v first last ≡ record v { recs = without first last v.recs; max_rec = greatest_is (greatest (without first last v.recs)) }
   ruled_is = without_ruled v.sparse v first last t.rule
 
   max_rec_now : max_rec_at now own''.vdr ≡ greatest_is (greatest (without first last v.recs))
-  max_rec_now = max_rec_last t ∙ ap (λ (x : Variable). last_number (extent x.max_rec)) ruled_is ∙ last_greatest (greatest (without first last v.recs))
+  max_rec_now = e.max_rec_is ∙ ap (λ (x : Variable). last_number (extent x.max_rec)) ruled_is ∙ last_greatest (greatest (without first last v.recs))
 
   end_is : extent (max_rec_at now own''.vdr) ≡ end
   end_is = ap extent max_rec_now ∙ sym (ap (λ (x : Variable). extent x.max_rec) ruled_is)
@@ -91,12 +91,12 @@ module _ {b mid left now : List ℕ} {kind : Kind} {before : List VariableShape}
   left_size = later_size t.opened.goes.good t.opened.goes.among t.past.goes_on ∙ mid_size
 
   low_goes : GoesOn left now kind before own'' own'' after []
-  low_goes = goes_written t.past.goes_on.good t.past.goes_on.among (low_writes t) (left_short t)
+  low_goes = goes_written t.past.goes_on.good t.past.goes_on.among e.writes (left_short t)
 
   -- below the new MaxRec there is stored what the open cut left
   stored_low : (k : ℕ) → k < end → stored_bytes now own''.vdr size (leaves_of own''.index) k ≡ stored_bytes mid own'.vdr size (leaves_of own'.index) k
   stored_low k lt =
-      subst (λ (n : ℕ). stored_bytes now own''.vdr n (leaves_of own''.index) k ≡ stored_bytes left own''.vdr n (leaves_of own''.index) k) left_size (stored_still t.past.goes_on.good t.past.goes_on.among (low_writes t) low_goes k)
+      subst (λ (n : ℕ). stored_bytes now own''.vdr n (leaves_of own''.index) k ≡ stored_bytes left own''.vdr n (leaves_of own''.index) k) left_size (stored_still t.past.goes_on.good t.past.goes_on.among e.writes low_goes k)
       ∙ subst (λ (n : ℕ). stored_bytes left own''.vdr n (leaves_of own''.index) k ≡ stored_bytes mid own'.vdr n (leaves_of own'.index) k) mid_size (stored_front t.opened.goes.good t.opened.goes.among t.past k lt)
 
   stores : StoresLeft b now own.vdr own''.vdr (leaves_of own.index) (leaves_of own''.index) first last

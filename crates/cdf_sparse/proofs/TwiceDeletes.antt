@@ -1,6 +1,7 @@
 -- Records were deleted under a rule for missing records: that is what `del-recs` does there, by the images between.
-use Rattle.cdf_puts.proofs.Common.{Act, Changed, Each, Found, GoesOn, IsOneOf, Kind, Leaf, List, Variable, VariableShape, append-nil, each_of, extent, false, leaves_of, max_rec_at, max_rec_touches, refl, subst, sym, variable_of, ℕ, ◌++◌, ◌≡◌, ◌≢◌}
+use Rattle.cdf_puts.proofs.Common.{Act, Changed, Each, Found, IsOneOf, Kind, Leaf, List, Variable, VariableShape, ap, append-nil, each_of, extent, false, leaves_of, max_rec_touches, refl, subst, sym, variable_of, ℕ, ◌++◌, ◌∙◌, ◌≡◌}
 use Rattle.cdf_edits.proofs.Edits.LeafPieces.{of_each}
+use Rattle.cdf_edits.proofs.Edits.RecordsPut.{extent_last}
 use Rattle.cdf_edits.specs.Commands.PutSteps.{Stage}
 use Rattle.cdf_edits.specs.Index.Blocks.{extent_after}
 use Rattle.cdf_edits.specs.Index.Cut.{IsPlaced, StaysWhole, is_whole}
@@ -11,12 +12,10 @@ use Rattle.cdf_puts.proofs.PutRules.{loose}
 use Rattle.cdf_puts.specs.Going.{found_in}
 use Rattle.cdf_cuts.proofs.PastFollows.{or_true}
 use Rattle.cdf_cuts.specs.Past.{cut_off, past_acts, stage}
-use Rattle.cdf_sparse.proofs.CutTwice.{CutTwice}
 use Rattle.cdf_sparse.proofs.PastOpens.{past_opens}
 use Rattle.cdf_sparse.proofs.TwiceLeaves.{taken_new}
-use Rattle.cdf_sparse.proofs.TwiceLeft.{TwiceEnds, TwiceLeft, left_twice}
-use Rattle.cdf_sparse.proofs.TwiceMaxRec.{low_ends}
-use Rattle.cdf_sparse.specs.Deleting.{CutsOpen, DeletesUnderRule, LeafKept, LeafSplit, untouched}
+use Rattle.cdf_sparse.proofs.TwiceLeft.{TwiceEnds, TwiceLeft}
+use Rattle.cdf_edits.specs.Commands.Deleting.{CutsOpen, DeletesUnderRule, LeafKept, LeafSplit, untouched}
 use Rattle.cdf_sparse.specs.Opening.{opening_acts}
 
 module _ {b mid left : List ℕ} {kind : Kind} {before : List VariableShape} {own own' : VariableShape} {after : List VariableShape} {first last : ℕ} {takes : List Act} (t : TwiceLeft b mid left kind before own own' after first last takes) where
@@ -69,7 +68,7 @@ module _ {b mid left : List ℕ} {kind : Kind} {before : List VariableShape} {ow
   }))
 
   pub cuts_open : CutsOpen found first last from cut
-  cuts_open = record { index = t.opened.cuts v refl; kept = kept; split = split; goes = t.opened_goes 0; next_is = refl }
+  cuts_open = record { index = t.opened.cuts v refl; kept = kept; split = split; goes = t.opened.step 0; next_is = refl }
 
   -- ---- what is past the new MaxRec
 
@@ -88,12 +87,6 @@ module _ {b mid left : List ℕ} {kind : Kind} {before : List VariableShape} {ow
     stands = refl;
     changed = subst (Changed left now) (append-nil (max_rec_touches left kind rest.vdr)) e.writes.changed;
     as_long = e.writes.as_long;
-    max_rec_is = e.max_rec_is;
+    max_rec_is = ap extent e.max_rec_is ∙ extent_last end;
     r_max_rec = e.r_max_rec_is;
   }
-
--- where MaxRec is written, and is another one
-pub deletes_under_rule : {b mid left now : List ℕ} {kind : Kind} {before : List VariableShape} {own own' : VariableShape} {after : List VariableShape} {first last : ℕ} {takes : List Act} {r : ℕ} (t : CutTwice b mid left now kind before own own' after first last takes r)
-    → GoesOn b now kind before own (cut_off own' (extent_after (variable_of b own) first last)) after (opening_acts b own first last takes ++ past_acts mid own' (extent_after (variable_of b own) first last)) → extent (max_rec_at b own.vdr) ≢ extent_after (variable_of b own) first last
-    → DeletesUnderRule b now (found_in b kind before own) first last own (cut_off own' (extent_after (variable_of b own) first last)) (opening_acts b own first last takes ++ past_acts mid own' (extent_after (variable_of b own) first last))
-deletes_under_rule t goes other = deletes_by (left_twice t) (low_ends t goes other)

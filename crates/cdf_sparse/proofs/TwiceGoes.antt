@@ -5,12 +5,13 @@ use Rattle.cdf_edits.proofs.Edits.ActsJoined.{ListedStay}
 use Rattle.cdf_edits.proofs.Edits.ActsThen.{taken-gave}
 use Rattle.cdf_edits.proofs.Edits.Common.{OnlyTakes, StandsAmong, none_of_both, other_kind, stays_then, type_stays}
 use Rattle.cdf_edits.proofs.Edits.RecordGrown.{kept_then}
+use Rattle.cdf_edits.proofs.Edits.RecordsWritten.{WritesRecords}
 use Rattle.cdf_edits.specs.Index.Blocks.{extent_after}
 use Rattle.cdf_puts.specs.Going.{GoesOn, IsOther, LooseStay}
 use Rattle.cdf_cuts.proofs.WritesThen.{goes_more, links, with_twice}
 use Rattle.cdf_cuts.specs.Past.{cut_off, past_acts}
 use Rattle.cdf_sparse.proofs.AnyThenFreed.{any_then_freed, listed_before}
-use Rattle.cdf_sparse.proofs.CutTwice.{CutTwice, left_short, low_writes, past_takes_none, takes_alone}
+use Rattle.cdf_sparse.proofs.TwiceLeft.{TwiceLeft, left_short, past_takes_none, takes_alone}
 use Rattle.cdf_sparse.specs.Opening.{freed_opening, opening_acts}
 
 module _ {b mid now : List ℕ} {kind : Kind} {before : List VariableShape} {own own' own'' : VariableShape} {after : List VariableShape} {acts acts' : List Act} (good : Good b) (at : StandsAmong b kind before own after) (first : GoesOn b mid kind before own own' after acts) (second : GoesOn mid now kind before own' own'' after acts') (gives takes : List Act) (is : acts ≡ gives ++ takes) (gives_alone : taken gives ≡ []) (takes_alone : OnlyTakes takes) (gives' : taken acts' ≡ []) where
@@ -50,8 +51,8 @@ module _ {b mid now : List ℕ} {kind : Kind} {before : List VariableShape} {own
   goes_freed =
       search (arith, first, second, ← first.gdr_is, ← first.vdr_is, stay_then, listed_then, loose_then, any_then_freed h h' first.follow second.follow gives' second.listed, twice, with_twice (content b) kind (length before) (variable_of mid own') (variable_of now own''))
 
--- the open cut, the cut past the new MaxRec, and MaxRec as it is written
-module _ {b mid left now : List ℕ} {kind : Kind} {before : List VariableShape} {own own' : VariableShape} {after : List VariableShape} {first last : ℕ} {takes : List Act} {r : ℕ} (t : CutTwice b mid left now kind before own own' after first last takes r) where
+-- the open cut, the cut past the new MaxRec, and MaxRec where it is written
+module _ {b mid left : List ℕ} {kind : Kind} {before : List VariableShape} {own own' : VariableShape} {after : List VariableShape} {first last : ℕ} {takes : List Act} (t : TwiceLeft b mid left kind before own own' after first last takes) where
   abbrev end : ℕ
   end = extent_after (variable_of b own) first last
 
@@ -61,5 +62,5 @@ module _ {b mid left now : List ℕ} {kind : Kind} {before : List VariableShape}
   pub goes_left : GoesOn b left kind before own (cut_off own' end) after acts
   goes_left = goes_freed t.good t.among t.opened.goes t.past.goes_on (gave b (freed_opening own first last)) takes refl (taken-gave b (freed_opening own first last)) (takes_alone t) (past_takes_none t)
 
-  pub twice_goes : GoesOn b now kind before own (cut_off own' end) after acts
-  twice_goes = goes_more t.good t.among goes_left (low_writes t) (left_short t)
+  pub twice_goes : {now : List ℕ} → WritesRecords left now kind (cut_off own' end) [] → GoesOn b now kind before own (cut_off own' end) after acts
+  twice_goes w = goes_more t.good t.among goes_left w (left_short t)

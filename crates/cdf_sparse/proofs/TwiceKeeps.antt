@@ -10,12 +10,10 @@ use Rattle.cdf_cuts.proofs.GoesKeep.{each_own, goes_keep}
 use Rattle.cdf_cuts.proofs.PastFollows as cutting
 use Rattle.cdf_cuts.proofs.PastKept.{front, same_index, some_left}
 use Rattle.cdf_cuts.specs.Past.{cut_off, past_acts, past_span}
-use Rattle.cdf_sparse.proofs.CutTwice.{CutTwice}
 use Rattle.cdf_sparse.proofs.PastOpens.{ends_before}
+use Rattle.cdf_sparse.proofs.TwiceGoes.{twice_goes}
 use Rattle.cdf_sparse.proofs.TwiceLeaves.{same_leaf, stays_opened}
-use Rattle.cdf_sparse.proofs.TwiceLeft.{TwiceLeft, left_twice}
-use Rattle.cdf_sparse.proofs.TwiceMaxRec.{low_writes}
-pub use Rattle.cdf_sparse.proofs.TwiceMaxRec.{r_max_rec_rec}
+use Rattle.cdf_sparse.proofs.TwiceLeft.{TwiceLeft}
 use Rattle.cdf_sparse.specs.Opening.{opening_acts}
 
 -- a block shares no record with those that go
@@ -28,8 +26,7 @@ apart first last f l order le e = elim (cases_lt l first) [
   ]
 ]
 
-module _ {b mid left now : List ℕ} {kind : Kind} {before : List VariableShape} {own own' : VariableShape} {after : List VariableShape} {first last : ℕ} {takes : List Act} (t : TwiceLeft b mid left kind before own own' after first last takes) (w : WritesRecords left now kind (cut_off own' (extent_after (variable_of b own) first last)) [])
-    (goes : GoesOn b now kind before own (cut_off own' (extent_after (variable_of b own) first last)) after (opening_acts b own first last takes ++ past_acts mid own' (extent_after (variable_of b own) first last))) where
+module _ {b mid left now : List ℕ} {kind : Kind} {before : List VariableShape} {own own' : VariableShape} {after : List VariableShape} {first last : ℕ} {takes : List Act} (t : TwiceLeft b mid left kind before own own' after first last takes) (w : WritesRecords left now kind (cut_off own' (extent_after (variable_of b own) first last)) []) where
   abbrev v : Variable
   v = variable_of b own
 
@@ -50,6 +47,9 @@ module _ {b mid left now : List ℕ} {kind : Kind} {before : List VariableShape}
 
   abbrev acts : List Act
   acts = opening_acts b own first last takes ++ past_acts mid own' end
+
+  goes : GoesOn b now kind before own rest after acts
+  goes = twice_goes t w
 
   plain : (l : Leaf) → IsOneOf leaves l → PlainLeaf b (record_bytes b own.vdr) l
   plain l i = plain_leaf t.good t.among (loose t.good t.among) l i
@@ -112,10 +112,5 @@ module _ {b mid left now : List ℕ} {kind : Kind} {before : List VariableShape}
       (λ l i. rw (of_own.block_allowed (found_in b kind before own) t.good t.among refl put_fields block_may own_may allowed l i) (block_keeps l i))
       (λ m i. absurd (subst (In m) (no_cpr t.good t.among) i))
 
-  pub keeps_by : AllKeep b now may acts (owned b (shape b))
-  keeps_by = goes_keep t.good t.among goes may goes.gdr own_keeps
-
-pub keeps : {b mid left now : List ℕ} {kind : Kind} {before : List VariableShape} {own own' : VariableShape} {after : List VariableShape} {first last : ℕ} {takes : List Act} {r : ℕ} (t : CutTwice b mid left now kind before own own' after first last takes r)
-    → GoesOn b now kind before own (cut_off own' (extent_after (variable_of b own) first last)) after (opening_acts b own first last takes ++ past_acts mid own' (extent_after (variable_of b own) first last))
-    → AllKeep b now (del_recs_changes b (shape b) (found_in b kind before own) first last) (opening_acts b own first last takes ++ past_acts mid own' (extent_after (variable_of b own) first last)) (owned b (shape b))
-keeps t goes = keeps_by (left_twice t) (low_writes t) goes
+  pub keeps : AllKeep b now may acts (owned b (shape b))
+  keeps = goes_keep t.good t.among goes may goes.gdr own_keeps

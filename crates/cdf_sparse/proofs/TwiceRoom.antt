@@ -1,5 +1,5 @@
--- What is taken where records are deleted under a rule for missing records is within the room of the command: a block for the later records of a leaf that is divided, and a node no wider than the widest.
-use Rattle.cdf_puts.proofs.Common.{Act, Bool, Each, Each-split, Entries, Grows, HasNodes, IsOneOf, Kind, Leaf, List, Names, NodeFits, Nodes, Range, Variable, VariableShape, [], ap, arith, block, by_leaf, either, entry_count, false, filter, fits, has, if◌then◌else◌, inl, inr, leaf, leaf_acts, leaves_of, lower, lower_nodes, lt-ltb, map, max, nat_tests, new_room, no_entry, no_node, node, nodes_of, range, record_bytes, refl, shape, shared, suc, sum_by-cons, taken, taken_bytes, times_le, true, variable_of, vxr_bytes, widest, widest_below, zero, ℕ, ◌*◌, ◌++◌, ◌+◌, ◌-◌, ◌==◌, ◌∙◌, ◌∷◌, ◌≡◌, ◌≤◌}
+-- What is taken where records are deleted under a rule for missing records is within the room of the command: a block for the later records of a leaf that is divided, and a node no wider than the widest. No image is longer by more than was taken.
+use Rattle.cdf_puts.proofs.Common.{Act, ActsFollow, Bool, Each, Each-split, Entries, Gave, Grows, HasNodes, IsOneOf, Kind, Leaf, List, Names, NodeFits, Nodes, Range, SpaceLeft, Took, Variable, VariableShape, [], after_act, ap, arith, block, by_leaf, either, entry_count, false, filter, fits, fold, has, if◌then◌else◌, inl, inr, leaf, leaf_acts, leaves_of, length, lower, lower_nodes, lt-ltb, map, max, nat_tests, new_room, no_entry, no_node, node, nodes_of, range, record_bytes, refl, shape, shared, space_before, suc, sum_by-cons, taken, taken_bytes, times_le, true, variable_of, vxr_bytes, widest, widest_below, zero, ℕ, ◌*◌, ◌++◌, ◌+◌, ◌-◌, ◌==◌, ◌∙◌, ◌∷◌, ◌≡◌, ◌≤◌}
 use Rattle.std.specs.List.{sum}
 use Rattle.cdf_edits.proofs.Edits.ActsThen.{taken-gave}
 use Rattle.cdf_edits.specs.Commands.Room.{cut_room, cuts_in_part, del_recs_cuts_in_part, range_bytes}
@@ -12,10 +12,9 @@ use Rattle.cdf_index.proofs.Saying.{count_both}
 use Rattle.cdf_puts.proofs.PutRoom.{leaf_bytes, taken_sum}
 use Rattle.cdf_cuts.specs.Past.{past_acts, past_span}
 use Rattle.cdf_cuts.specs.Planning.{freed_of, plan_of}
-use Rattle.cdf_sparse.proofs.CutTwice.{CutTwice}
 use Rattle.cdf_gaps.proofs.PastIndex.{no_wider}
 use Rattle.cdf_sparse.proofs.TwiceLeaves.{taken_opening}
-use Rattle.cdf_sparse.proofs.TwiceLeft.{TwiceLeft, left_twice}
+use Rattle.cdf_sparse.proofs.TwiceLeft.{TwiceLeft}
 use Rattle.cdf_sparse.specs.Opening.{IsDivided, OneDivided, index_opened, opening_acts}
 
 -- ---- no node has more entries than it has room for
@@ -95,7 +94,7 @@ new_room_within f index r = by_leaf (new_room_grows (leaf f 0 0 false) 0) index 
 
 -- ---- the room that one range has in it
 
-sum_has : (g : Range → ℕ) (p : Range → Bool) (leaves : List Leaf) (l : Leaf) → IsOneOf leaves l → p (range l.first l.last) ≡ true → g (range l.first l.last) ≤ sum (map g (filter p (map (λ (m : Leaf). range m.first m.last) leaves)))
+pub sum_has : (g : Range → ℕ) (p : Range → Bool) (leaves : List Leaf) (l : Leaf) → IsOneOf leaves l → p (range l.first l.last) ≡ true → g (range l.first l.last) ≤ sum (map g (filter p (map (λ (m : Leaf). range m.first m.last) leaves)))
 sum_has g p [] l i e = absurd i
 sum_has g p (x ∷ leaves) l (inl q) e =
     let rest = map g (filter p (map (λ (m : Leaf). range m.first m.last) leaves)) in
@@ -110,7 +109,7 @@ sum_has g p (x ∷ leaves) l (inr i) e =
     elim (either (p (range x.first x.last))) [ inl t ↦ rw t (omega (arith, both, later)) | inr t ↦ rw t later ]
 
 -- a leaf that is divided is cut in part
-divided_part : (first last : ℕ) (l : Leaf) → first ≤ last → IsDivided first last l → cuts_in_part first last (range l.first l.last) ≡ true
+pub divided_part : (first last : ℕ) (l : Leaf) → first ≤ last → IsDivided first last l → cuts_in_part first last (range l.first l.last) ≡ true
 divided_part first last l order d =
     let begins = d.begins in
     let ends = d.ends in
@@ -123,6 +122,19 @@ node_within (suc room) wide le = grind (arith, le)
 
 bytes_of : (acts acts' : List Act) → taken acts ≡ taken acts' → taken_bytes acts ≡ taken_bytes acts'
 bytes_of acts acts' e = ap (λ (takes : List (ℕ × ℕ)). sum (map (λ (take : ℕ × ℕ). take.1) takes)) e
+
+-- ---- acts may also free
+
+ends_within : (l : SpaceLeft) (acts : List Act) → (fold after_act l acts).end ≤ l.end + taken_bytes acts
+ends_within l [] = omega arith
+ends_within l (Took place need ∷ more) = let one = sum_by-cons (λ x. x) need (map (λ (take : ℕ × ℕ). take.1) (taken more)) in grind (arith, ends_within (after_act l (Took place need)) more, one)
+ends_within l (Gave place size ∷ more) = ends_within (after_act l (Gave place size)) more
+
+-- an image is longer by no more than was taken
+pub longer_within : (b now : List ℕ) (acts : List Act) → ActsFollow b now acts → length now ≤ length b + taken_bytes acts
+longer_within b now acts f = let e = f.left.end_is in let l = ends_within (space_before b) acts in omega (arith, e, l)
+
+-- ---- the whole
 
 module _ {b mid left : List ℕ} {kind : Kind} {before : List VariableShape} {own own' : VariableShape} {after : List VariableShape} {first last : ℕ} {takes : List Act} (t : TwiceLeft b mid left kind before own own' after first last takes) where
   abbrev v : Variable
@@ -168,12 +180,8 @@ module _ {b mid left : List ℕ} {kind : Kind} {before : List VariableShape} {ow
       let fewer = times_le (d.old.last - last) (d.old.last + 1 - d.old.first) size (omega (arith, begins, ends, t.order)) in
       omega (arith, bytes, leaf_is, node, has_part, fewer)
 
-  pub takes_by : taken_bytes (opening_acts b own first last takes ++ past_acts mid own' end) ≤ cut_room v own.index first last
-  takes_by = elim t.opened.divided [
+  pub takes_within : taken_bytes (opening_acts b own first last takes ++ past_acts mid own' end) ≤ cut_room v own.index first last
+  takes_within = elim t.opened.divided [
     | inl n ↦ omega (arith, all_bytes, bytes_of takes [] (ap taken n.takes_are))
     | inr d ↦ omega (arith, all_bytes, divided_within d)
   ]
-
-pub takes_within : {b mid left now : List ℕ} {kind : Kind} {before : List VariableShape} {own own' : VariableShape} {after : List VariableShape} {first last : ℕ} {takes : List Act} {r : ℕ} → CutTwice b mid left now kind before own own' after first last takes r
-    → taken_bytes (opening_acts b own first last takes ++ past_acts mid own' (extent_after (variable_of b own) first last)) ≤ cut_room (variable_of b own) own.index first last
-takes_within t = takes_by (left_twice t)

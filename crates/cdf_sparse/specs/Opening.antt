@@ -4,9 +4,9 @@ use Rattle.std.specs.declared.option.Option.{Option}
 use Rattle.cdf_edits.proofs.Edits.LeafPieces.{IsOneOf}
 use Rattle.cdf_edits.specs.Commands.Allowances.{Stays}
 use Rattle.cdf_edits.specs.Commands.GreatestRecord.{r_max_rec}
-use Rattle.cdf_edits.specs.Commands.PutSteps.{BlockWritten}
+use Rattle.cdf_edits.specs.Commands.PutSteps.{BlockWritten, Goes}
 use Rattle.cdf_edits.specs.Commands.Room.{widest}
-use Rattle.cdf_edits.specs.Index.Blocks.{record_length}
+use Rattle.cdf_edits.specs.Index.Blocks.{record_length, shared}
 use Rattle.cdf_edits.specs.Index.Cut.{CutsIndex, IsPart}
 use Rattle.cdf_edits.specs.Index.CutTwice.{part_bytes}
 use Rattle.cdf_edits.specs.Index.Grown.{cut_nodes, index_cut_open, kept_open, new_room, split_off, with_leaf}
@@ -22,7 +22,8 @@ use Rattle.cdf_index.specs.Adding.{leaf_acts}
 use Rattle.cdf_index.specs.Order.{leaf_of}
 use Rattle.cdf_model.specs.DataSet.{Variable}
 use Rattle.cdf_model.specs.declared.kinds.Kind.{Kind}
-use Rattle.cdf_puts.specs.Going.{GoesOn}
+use Rattle.cdf_puts.specs.Going.{GoesOn, found_in}
+use Rattle.cdf_cuts.specs.Past.{stage}
 use Rattle.cdf_cuts.specs.Planning.{freed_of, opening, plan_of}
 
 -- the records that are freed: the blocks by record number, and then the nodes, lower ones first
@@ -98,6 +99,7 @@ pub record RecordsOpened (b now : List ℕ) (kind : Kind) (before : List Variabl
   pub apart : (l : Leaf) → IsOneOf (leaves_of own.index) l → (l.last < first) ⊎ (last < l.first) → Stays b now l.place []
   pub max_rec_is : number now own.vdr vdr_max_rec ≡ number b own.vdr vdr_max_rec
   pub r_max_rec_is : r_max_rec now ≡ r_max_rec b
+  pub step : (next : ℕ) → Goes (found_in b kind before own) (stage b own [] next) (stage now own' (opening_acts b own first last takes) next) (λ r. nat_lt 0 (shared first last r))
 
 -- wherever what is new stands
 pub record CutOpen (b now : List ℕ) (kind : Kind) (before : List VariableShape) (own : VariableShape) (after : List VariableShape) (first last : ℕ) : Type 0 where
