@@ -16,8 +16,9 @@ pub use extent::read_extent;
 pub use form::{Form, read_dims, read_form, read_majority};
 pub use next::{RecordReader, Stored};
 pub use pad_place::{PadPlace, descriptor_size, read_pad_place};
+pub use previous::last_before;
 pub use put_room::{has_put_room, read_block_count, read_first_written};
 pub use record::{
     is_out_of_range, read_pad_record, read_record, record_size_of, value_size, values_of,
 };
-pub use variable::read_variable;
+pub use variable::{read_sparse, read_variable};

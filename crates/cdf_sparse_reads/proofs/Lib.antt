@@ -1,0 +1,4 @@
+pub mod OpeningRoom
+pub mod RoomRead
+pub mod EndBefore
+pub mod ExtentLeft

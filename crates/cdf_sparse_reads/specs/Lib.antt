@@ -1,0 +1,2 @@
+pub mod OpeningRoom
+pub mod Left

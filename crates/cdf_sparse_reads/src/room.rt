@@ -1,0 +1,118 @@
+//! How many bytes a command may take by which records go and later ones keep their numbers.
+
+ghost use Rattle.std.specs.Prelude.{◌≡◌, ◌+◌, ◌-◌, ◌*◌, ◌≤◌, ℕ, List, length, true, IfOk};
+ghost use Rattle.std.specs.Option.{option_map};
+ghost use Rattle.cdf_area.specs.Calls.{Reads};
+ghost use Rattle.cdf_cuts.specs.ClosingRoom.{IsSmall, part_room};
+ghost use Rattle.cdf_edits.proofs.Edits.VdrEdited.{StandsAmong};
+ghost use Rattle.cdf_edits.specs.Commands.Room.{cut_room};
+ghost use Rattle.cdf_edits.specs.Index.Blocks.{extent_after, is_sparse};
+ghost use Rattle.cdf_format.specs.Content.{variable_of};
+ghost use Rattle.cdf_format.specs.Shape.{VariableShape, shape, variables, vdrs};
+ghost use Rattle.cdf_format.specs.Tiles.{In};
+ghost use Rattle.cdf_format.specs.VariableFields.{record_bytes};
+ghost use Rattle.cdf_format.specs.WellFormed.{Good};
+ghost use Rattle.cdf_index.specs.Sight.{seen};
+ghost use Rattle.cdf_model.specs.Limits.{image_limit, record_number_limit};
+ghost use Rattle.cdf_model.specs.declared.kinds.Kind.{Kind};
+ghost use Rattle.cdf_sparse_reads.specs.OpeningRoom.{found_room, opens_in_part, without_record};
+
+use cdf_area::{Area, AreaError};
+use cdf_format::fields::{LINKED_SIZE, VDR_VXR_HEAD, VXR_ENTRY_SIZE, VXR_FIRST};
+use cdf_index::{Leaf, index_size};
+use cdf_puts::find_leaf;
+use cdf_records::read_unsigned8;
+
+/// Whether some records of a block go, but not all, where those from a first to a last go, and those from an end on.
+fn is_in_part(leaf: Leaf, first: u32, last: u32, end: u32) -> bool
+    requires order { leaf.first ≤ leaf.last }
+    requires within { leaf.last ≤ record_number_limit }
+    requires cut { first ≤ last }
+    ensures { result ≡ opens_in_part first last end (seen leaf) }
+{
+    let shares = first <= leaf.last && leaf.first <= last;
+    let has_others = leaf.first < first || last < leaf.last;
+    shares && has_others || leaf.first < end && end <= leaf.last
+}
+
+/// For a block of which some records go, but not all: three records of the least size, and its bytes twice.
+fn room_in_part(leaf: Leaf, rec_bytes: u64) -> u64
+    requires order { leaf.first ≤ leaf.last }
+    requires within { leaf.last ≤ record_number_limit }
+    requires small { (leaf.last + 1 - leaf.first) * rec_bytes ≤ image_limit }
+    ensures { result ≡ part_room rec_bytes (seen leaf) }
+{
+    let count = u64::from(leaf.last + 1 - leaf.first);
+    3 * LINKED_SIZE + 2 * (count * rec_bytes)
+}
+
+/// For a block that was found.
+fn room_of(found: Option<Leaf>, rec_bytes: u64, first: u32, last: u32, end: u32) -> u64
+    requires small { IsSmall rec_bytes found }
+    requires cut { first ≤ last }
+    ensures value { result ≡ found_room (opens_in_part first last end) rec_bytes (option_map seen found) }
+    ensures few { result ≤ 2 * image_limit + 84 }
+{
+    match found {
+        Some(leaf) => {
+            if is_in_part(leaf, first, last, end) {
+                room_in_part(leaf, rec_bytes)
+            } else {
+                0
+            }
+        }
+        None => 0,
+    }
+}
+
+/// A block that was found, unless it has a record: then it is counted already.
+fn unless_has(found: Option<Leaf>, rec: u32) -> Option<Leaf>
+    ensures value { option_map seen result ≡ without_record rec (option_map seen found) }
+    ensures small { (size : ℕ) → IsSmall size found → IsSmall size result }
+{
+    match found {
+        Some(leaf) => {
+            if leaf.first <= rec && rec <= leaf.last {
+                None
+            } else {
+                Some(leaf)
+            }
+        }
+        None => None,
+    }
+}
+
+/// How many bytes are taken at most where the records from a first to a last go from the variable whose descriptor stands at a place, and then all
+/// from an end on, which is one past the last record that is left; later records keep their numbers.
+#[tactic(auto, using(cdf_area::proofs::Calls::read_done, cdf_area::proofs::Calls::read_failed, cdf_area::proofs::Calls::read_more, cdf_area::proofs::Calls::read_once))]
+pub fn read_opening_room<A: Area>(
+    area: &mut A,
+    vdr: u64,
+    rec_bytes: u64,
+    first: u32,
+    last: u32,
+    end: u32,
+) -> Result<u64, AreaError>
+    requires good { Good (A.image area.old) }
+    requires vdr { In vdr (vdrs (variables (shape (A.image area.old)))) }
+    requires size { rec_bytes ≡ record_bytes (A.image area.old) vdr }
+    requires order { first ≤ last }
+    requires short { length (A.image area.old) ≤ image_limit }
+    ensures room { IfOk result (λ n. (kind : Kind) (before : List VariableShape) (own : VariableShape) (after : List VariableShape) → StandsAmong (A.image area.old) kind before own after → own.vdr ≡ vdr → is_sparse (variable_of (A.image area.old) own).sparse ≡ true → end ≡ extent_after (variable_of (A.image area.old) own) first last → n ≡ cut_room (variable_of (A.image area.old) own) own.index first last) }
+    ensures area { Reads A.image A.frame A.faults A.edited area.old area.new result }
+{
+    // An image has fewer than 2^64 bytes, so no place in it overflows.
+    let _size = area.size();
+    let head = read_unsigned8(area, vdr + VDR_VXR_HEAD)?;
+    let size = index_size(area, head)?;
+    let front = find_leaf(area, head, None, first)?;
+    let back = find_leaf(area, head, None, last)?;
+    let past = find_leaf(area, head, None, end)?;
+    let node = VXR_FIRST + VXR_ENTRY_SIZE * u64::from(size.widest);
+    let back = unless_has(back, first);
+    let past = unless_has(unless_has(past, last), first);
+    let parts = room_of(front, rec_bytes, first, last, end)
+        + room_of(back, rec_bytes, first, last, end)
+        + room_of(past, rec_bytes, first, last, end);
+    Ok(node + parts)
+}
