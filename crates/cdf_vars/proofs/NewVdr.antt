@@ -229,4 +229,4 @@ module _ {b : List ℕ} {place : ℕ} {kind : Kind} {v : NewVariable} {num : ℕ
         let max = ap is_max_rec new.says.1.0 in
         let rule = new.says.1.1.1.1.1.0 in
         let link = ap is_no_link new.says.1.1.1.1.1.1.1.1.1.1.1.0 in
-        ((named, (refl, (known, (counted, (own.rule (sym sized), (le-leb (vdr_end b place) (size_at b place) (let e = end_is in omega (arith, e, sized)), (small, (max, (ap (λ (n : ℕ). nat_le n 2) rule, (rw unpacked link, (rw unpacked refl, rw unpacked (ap (λ (n : ℕ). n == 0) rule, tt)))))))))))), tt)
+        ((named, (refl, (known, (counted, (own.rule (sym sized), (le-leb (vdr_end b place) (size_at b place) (let e = end_is in omega (arith, e, sized)), (small, (max, (ap (λ (n : ℕ). nat_le n 2) rule, (rw unpacked link, (rw unpacked refl, rw unpacked tt))))))))))), tt)

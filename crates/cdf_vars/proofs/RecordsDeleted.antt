@@ -11,6 +11,7 @@ use Rattle.cdf_model.specs.DataSet.{DataSet}
 use Rattle.cdf_model.specs.declared.answer.Reply.TheVariants as replies
 use Rattle.cdf_model.specs.declared.command.Command.TheVariants as commands
 use Rattle.cdf_edits.specs.Commands.Room.{cut_room}
+use Rattle.cdf_edits.specs.Index.Blocks.{is_sparse}
 use Rattle.cdf_cuts.specs.Closing.{RecordsClosed, closed}
 use Rattle.cdf_cuts.proofs.DeletedFollows as by
 use Rattle.cdf_puts.specs.Going.{found_in}
@@ -27,7 +28,7 @@ pub last_ruled : (n : ℕ) → n ≤ 2147483647 → is_max_rec (cast_unsigned w3
 last_ruled zero le = refl
 last_ruled (suc n) le = ap (λ x. is_max_rec (cast_unsigned w32 x)) (sym (to_z_pos w32 n (omega arith))) ∙ ap is_max_rec (of_z-to_z w32 n (omega arith)) ∙ rw (le-leb n record_number_limit (omega arith)) refl
 
-last_back : (n : ℕ) → n ≤ 2147483647 → with_sign (cast_unsigned w32 (last_number n)) ≡ last_number n
+pub last_back : (n : ℕ) → n ≤ 2147483647 → with_sign (cast_unsigned w32 (last_number n)) ≡ last_number n
 last_back n le = to_z-of_z w32 (last_number n) (last_fits n (omega arith))
 
 -- such a number that is passed on as 4 bytes
@@ -35,12 +36,12 @@ pub last_passed : {z : ℤ} (n : ℕ) → n ≤ 2147483647 → z ≡ last_number
 last_passed {z} n le is = ap (λ (y : ℤ). cast_signed w32 (cast_unsigned w32 y)) is ∙ to_z-of_z w32 (last_number n) (last_fits n (omega arith))
 
 -- without records the name stays
-name_stays : (rule : Sparse) (v : Variable) (first last : ℕ) → (without_records rule v first last).name ≡ v.name
+pub name_stays : (rule : Sparse) (v : Variable) (first last : ℕ) → (without_records rule v first last).name ≡ v.name
 name_stays NoRule v first last = refl
 name_stays Pad v first last = refl
 name_stays Previous v first last = refl
 
-module _ {b : List ℕ} {t : Target} (good : Good b) (is : IsTarget b t) {first last count : ℕ} (count_is : count ≡ extent (max_rec_at b t.form.place.vdr)) (order : first ≤ last) (has : last < count) (few : count ≤ 2147483648) where
+module _ {b : List ℕ} {t : Target} (good : Good b) (is : IsTarget b t) (free : (variable_at b t.form.place.vdr).sparse ≡ NoRule) {first last count : ℕ} (count_is : count ≡ extent (max_rec_at b t.form.place.vdr)) (order : first ≤ last) (has : last < count) (few : count ≤ 2147483648) where
   abbrev kind : Kind
   kind = t.id.kind
 
@@ -52,6 +53,9 @@ module _ {b : List ℕ} {t : Target} (good : Good b) (is : IsTarget b t) {first 
 
   abbrev own' : VariableShape
   own' = closed is.own first last
+
+  own_free : (variable_of b is.own).sparse ≡ NoRule
+  own_free = ap (λ (x : Variable). x.sparse) (sym is.variable_is) ∙ free
 
   own_count : count ≡ extent (max_rec_at b is.own.vdr)
   own_count = count_is ∙ ap (λ (k : ℕ). extent (max_rec_at b k)) (sym is.vdr_is)
@@ -89,17 +93,24 @@ module _ {b : List ℕ} {t : Target} (good : Good b) (is : IsTarget b t) {first 
       found_same = let n = is.number_is in let v = is.variable_is in λ i. record { kind = kind; number = sym n i; variable = v i }
 
       pub deleted : (name : List ℕ) → variable_named (content b) name ≡ Some (target_found b t) → Follows b (commands.DelRecs name first last) now
-      deleted name named = by.deleted_follows good is.among order here x low ruled back name (named ∙ ap Some found_same)
+      deleted name named = by.deleted_follows good is.among own_free order here x low ruled back name (named ∙ ap Some found_same)
 
       pub known_then : {known : Known} → Knows b known → Knows now known
       known_then knows =
-          let goes = by.goes good is.among order here x low ruled back in
+          let goes = by.goes good is.among own_free order here x low ruled back in
           let v = variable_of b is.own in
           let stands : slice_get (shapes_of (shape b) kind) (length is.before) ≡ Some is.own = ap (λ (vs : List VariableShape). slice_get vs (length is.before)) is.among.was ∙ got-middle is.before is.own is.after in
           let was = ap (λ (vs : List Variable). slice_get vs (length is.before)) (variables_are b (shape b) (good_is_sound b good).has_shape kind) ∙ got-map (variable_of b) (shapes_of (shape b) kind) (length is.before) is.own stands in
-          let made = by.deleted_content good is.among order here x low ruled back in
+          let made = by.deleted_content good is.among own_free order here x low ruled back in
           knows_now knows (λ (k : Kind). names_set (content b) kind (length is.before) (without_records v.sparse v first last) v was (name_stays v.sparse v first last) k ∙ ap (λ (d : DataSet). map (λ (w : Variable). w.name) (variables_of d k)) (sym made))
           (places_on kind is.among.was goes)
+
+-- ---- whether there is a rule
+
+pub free_of : (rule : Sparse) → is_sparse rule ≡ false → rule ≡ NoRule
+free_of NoRule e = refl
+free_of Pad e = absurd cc
+free_of Previous e = absurd cc
 
 -- ---- the answers
 
