@@ -17,7 +17,7 @@ pub use Rattle.cdf_format.specs.WellFormed.{Good, WellFormed}
 pub use Rattle.cdf_model.specs.DataSet.{head_of}
 pub use Rattle.cdf_model.specs.Limits.{image_limit}
 pub use Rattle.cdf_model.specs.declared.answer.Outcome.TheVariants.{Done}
-pub use Rattle.cdf_model.specs.declared.command.Command.TheVariants.{Attr, DelAttr, DelEntry, DelRecs, DelVar, PutEntry, PutRec, PutVal, RVar, Reindex, RenameAttr, RenameVar, SetBlocking, SetPad, Setup, ZVar}
+pub use Rattle.cdf_model.specs.declared.command.Command.TheVariants.{Attr, DelAttr, DelEntry, DelRecs, DelVar, PutEntry, PutRec, PutVal, RVar, Reindex, RenameAttr, RenameVar, SetBlocking, SetPad, SetSparse, Setup, ZVar}
 pub use Rattle.cdf_records.specs.Heads.{cdr_at, gdr_at}
 pub use Rattle.cdf_records.specs.declared.cdr.Cdr.{Cdr}
 pub use Rattle.cdf_session.specs.Loading.{AreOf}

@@ -20,6 +20,7 @@ built (commands.ZVar name t elems vary dims varys) = true
 built (commands.RenameVar from to) = true
 built (commands.DelVar name) = true
 built (commands.SetPad var words) = true
+built (commands.SetSparse var rule) = true
 built (commands.SetBlocking var n) = true
 built (commands.Reindex var) = true
 built (commands.DelRecs var first last) = true

@@ -9,7 +9,7 @@ ghost use Rattle.cdf_model.specs.Turns.{is_refused};
 use crate::deleting::delete_variable;
 use crate::session::{Session, settle};
 use cdf_area::{Area, AreaError};
-use cdf_model::{Command, DataType, Nums, Outcome, Varys, Words};
+use cdf_model::{Command, DataType, Nums, Outcome, Sparse, Varys, Words};
 
 impl<A: Area> Session<A> {
     /// The command `rvar`.
@@ -95,6 +95,19 @@ impl<A: Area> Session<A> {
         self.kept.forget();
         self.area.mark();
         let done = self.vars.set_pad(&mut self.area, var, words);
+        settle(&mut self.area, done)
+    }
+
+    /// The command `set-sparse`. What is kept of nodes is let go first, since each node of the variable may be freed.
+    pub(crate) fn set_sparse(&mut self, var: &[u8], rule: Sparse) -> Result<Outcome, AreaError>
+        ensures answers { IfOk result (λ o. Answers (A.frame self.old).limit (A.image self.old) (Command.SetSparse var.now rule) o (A.image self.new)) }
+        ensures stays { OnErr result (A.image self.new ≡ A.image self.old) }
+        ensures refused { IfOk result (λ o. IsTrue (is_refused o) → A.edited self.new ≡ A.edited self.old) }
+        ensures area { Edits A.frame A.faults self.old self.new result }
+    {
+        self.kept.forget();
+        self.area.mark();
+        let done = self.vars.set_sparse(&mut self.area, var, rule);
         settle(&mut self.area, done)
     }
 

@@ -195,6 +195,7 @@ impl<A: Area> Session<A> {
             Command::RenameVar { from, to } => self.rename_var(from.as_slice(), to.as_slice()),
             Command::DelVar { name } => self.del_var(name.as_slice()),
             Command::SetPad { var, words } => self.set_pad(var.as_slice(), words),
+            Command::SetSparse { var, rule } => self.set_sparse(var.as_slice(), *rule),
             Command::SetBlocking { var, n } => self.set_blocking(var.as_slice(), *n),
             Command::Reindex { var } => self.reindex(var.as_slice()),
             Command::DelRecs { var, first, last } => self.del_recs(var.as_slice(), *first, *last),

@@ -24,8 +24,8 @@ A script has a command a line; an empty line and a line that begins with # have 
   attr NAME global|variable, rename-attr FROM TO, del-attr NAME
   put-entry ATTR g|r|z NUM TYPE VALUE.., get-entry ATTR g|r|z NUM, del-entry ATTR g|r|z NUM
   rvar NAME TYPE ELEMS vary|novary VARYS, zvar NAME TYPE ELEMS vary|novary DIMS VARYS
-  rename-var FROM TO, del-var NAME, set-pad VAR VALUE, set-blocking VAR N
-  put-rec VAR REC VALUE.., get-rec VAR REC
+  rename-var FROM TO, del-var NAME, set-pad VAR VALUE, set-sparse VAR none|pad|previous, set-blocking VAR N
+  put-rec VAR REC VALUE.., get-rec VAR REC, del-recs VAR FIRST LAST
   put-val VAR REC INDEX VALUE, get-val VAR REC INDEX
   reindex VAR, checksum none|md5
 

@@ -39,8 +39,8 @@ static FLAGS: [&str; 4] = ["--new", "--check", "--no-save", "--space"];
 /// The word that asks for a log, where it is the first one.
 pub const JOURNAL: &str = "--journal";
 
-/// What is planned, as flags: an option, and commands of a script that are not there yet.
-static PLANNED: [&str; 4] = ["--make", "--tap", "--set-sparse", "--set-compress"];
+/// What is planned, as flags: options, and a command of a script that is not there yet.
+static PLANNED: [&str; 3] = ["--make", "--tap", "--set-compress"];
 
 /// Whether a word before `--` is a flag or would be one: it begins with `-` and is longer.
 fn is_like_flag(word: &str) -> bool {

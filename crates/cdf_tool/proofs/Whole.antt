@@ -4,11 +4,12 @@ use Rattle.cdf_attrs.proofs.WholeEntries.{shown_is_whole}
 use Rattle.cdf_model.specs.declared.answer.Reason.{Reason}
 use Rattle.cdf_model.specs.declared.answer.Reason.TheVariants as reasons
 use Rattle.cdf_model.specs.declared.answer.Reply.TheVariants as replies
-use Rattle.cdf_model.specs.declared.command.Command.TheVariants.{Attr, Checksum, DelAttr, DelEntry, DelRecs, DelVar, Dump, GetEntry, GetRec, GetVal, Info, List as Lists, PutEntry, PutRec, PutVal, RVar, Reindex, RenameAttr, RenameVar, Report, SetBlocking, SetPad, Setup, ZVar}
+use Rattle.cdf_model.specs.declared.command.Command.TheVariants.{Attr, Checksum, DelAttr, DelEntry, DelRecs, DelVar, Dump, GetEntry, GetRec, GetVal, Info, List as Lists, PutEntry, PutRec, PutVal, RVar, Reindex, RenameAttr, RenameVar, Report, SetBlocking, SetPad, SetSparse, Setup, ZVar}
 use Rattle.cdf_model.specs.declared.head.Majority.{Majority}
 use Rattle.cdf_model.specs.declared.kinds.Kind.{Kind}
 use Rattle.cdf_model.specs.declared.kinds.Kind.TheVariants.{R, Z}
 use Rattle.cdf_model.specs.declared.kinds.Scope.{Scope}
+use Rattle.cdf_model.specs.declared.kinds.Sparse.{Sparse}
 use Rattle.cdf_model.specs.declared.data_type.DataType.{DataType}
 use Rattle.cdf_model.specs.declared.kinds.EntryKind.{EntryKind}
 use Rattle.cdf_model.specs.AttributeSteps.{attr_step, rename_attr_step, del_attr_step, put_entry_step, get_entry_step, del_entry_step, entries_of, entry_by, is_out_of_range, is_wrong_scope, new_attribute, with_attribute, with_entries}
@@ -19,7 +20,7 @@ use Rattle.cdf_model.specs.Values.{notation_of, values_in}
 use Rattle.cdf_model.specs.Place.{value_count}
 use Rattle.cdf_model.specs.Reading.{read}
 use Rattle.cdf_model.specs.RecordSteps.{cannot_be_put, del_recs_step, get_rec_step, get_val_step, place_in_record, put_rec_step, put_record, put_val_step, with_record, with_value, without_records}
-use Rattle.cdf_model.specs.VariableSteps.{are_bad_sizes, del_var_step, is_bad_shape, is_empty_set, new_variable, reindex_step, rename_var_step, set_blocking_step, set_pad_step, setup_step, var_step, with_variable, without_variable}
+use Rattle.cdf_model.specs.VariableSteps.{are_bad_sizes, del_var_step, has_records, is_bad_shape, is_empty_set, new_variable, reindex_step, rename_var_step, set_blocking_step, set_pad_step, set_sparse_step, setup_step, var_step, with_variable, without_variable}
 use Rattle.cdf_model.specs.Whole.{CanBeWritten, HasWholeValues}
 use Rattle.cdf_vars.proofs.WholeRecords.{shown_record, shown_value}
 
@@ -104,6 +105,11 @@ set_pad_whole d name words =
 set_blocking_whole : (d : DataSet) (name : List ℕ) (n : ℕ) → IsWholeAnswer (set_blocking_step d name n)
 set_blocking_whole d name n = variable_whole d name ((nat_lt signed_limit n, reasons.NumberOutOfRange) ∷ []) (λ found. with_variable d found (record found.variable { blocking = pos n }))
 
+set_sparse_whole : (d : DataSet) (name : List ℕ) (rule : Sparse) → IsWholeAnswer (set_sparse_step d name rule)
+set_sparse_whole d name rule =
+    let changed = λ (found : Found). Go (with_variable d found (record found.variable { sparse = rule })) replies.Plain in
+    given_whole {A = Found} reasons.NoSuchVar (variable_named d name) (λ found. unless ((has_records found.variable, reasons.InUse) ∷ []) (changed found)) (λ found. unless_whole ((has_records found.variable, reasons.InUse) ∷ []) (changed found) tt)
+
 reindex_whole : (d : DataSet) (name : List ℕ) → IsWholeAnswer (reindex_step d name)
 reindex_whole d name = given_whole {A = Found} reasons.NoSuchVar (variable_named d name) (λ found. Go d replies.Plain) (λ found. tt)
 
@@ -173,6 +179,7 @@ can_be_written limit b (ZVar name t elems vary dims varys) o now a =
 can_be_written limit b (RenameVar from to) o now a = from_answers limit b (RenameVar from to) o now (rename_var_step (content b) from to) refl (rename_var_whole (content b) from to) a
 can_be_written limit b (DelVar name) o now a = from_answers limit b (DelVar name) o now (del_var_step (content b) name) refl (del_var_whole (content b) name) a
 can_be_written limit b (SetPad var words) o now a = from_answers limit b (SetPad var words) o now (set_pad_step (content b) var words) refl (set_pad_whole (content b) var words) a
+can_be_written limit b (SetSparse var rule) o now a = from_answers limit b (SetSparse var rule) o now (set_sparse_step (content b) var rule) refl (set_sparse_whole (content b) var rule) a
 can_be_written limit b (SetBlocking var n) o now a = from_answers limit b (SetBlocking var n) o now (set_blocking_step (content b) var n) refl (set_blocking_whole (content b) var n) a
 can_be_written limit b (Reindex var) o now a = from_answers limit b (Reindex var) o now (reindex_step (content b) var) refl (reindex_whole (content b) var) a
 can_be_written limit b (DelRecs name first last) o now a = from_answers limit b (DelRecs name first last) o now (del_recs_step (content b) name first last) refl (del_recs_whole (content b) name first last) a

@@ -42,7 +42,7 @@ fn the_first_refused_line_is_marked(rt: HostRuntime) -> Result<(), Fail> {
             Some(LineMark::Utf16),
         ),
         (
-            b"info\n\nset-sparse V pad\n".as_slice(),
+            b"info\n\nset-compress V rle\n".as_slice(),
             3,
             Some(LineMark::NotYet),
         ),

@@ -30,3 +30,6 @@ pub mod PutWhole
 pub mod PutPast
 pub mod PutAnswered
 pub mod RecordsDeleted
+pub mod GapLeft
+pub mod RuledGood
+pub mod SparseRule

@@ -19,6 +19,7 @@ mod reindexing;
 mod removing;
 mod renaming;
 mod setup;
+mod sparse_rule;
 mod vars;
 
 pub use record_view::RecordView;
