@@ -310,7 +310,7 @@ def content_of_entry(c):
     return TYPES[c.type], elems, network
 
 
-CHOICES = ('free_last', 'later_first', 'nodes_first', 'keeps_reserved', 'skips_lost')
+CHOICES = ('free_last', 'later_first', 'nodes_first', 'later_last', 'keeps_reserved')
 
 
 def apply(data, c, limit=IMAGE_LIMIT, before=None, choices=()):

@@ -1,4 +1,6 @@
 """The records of variables: blocks, nodes, putting, cutting, reindexing."""
+from collections import namedtuple
+
 from image import Entry, Leaf, encoded
 from layout import (BLOCK_RECORDS, BYTES_LIMIT, CVVR, LAST_NUMBER, PACKED_BYTES, RVDR, VARY, VVR, VXR, Cvvr, Gdr,
                     RecordType, Vdr, Vxr, node_size)
@@ -7,6 +9,9 @@ from space import Space
 NODE_ENTRIES_NEW = 7
 NODE_ENTRIES_BUILT = 64
 UNUSED_ENTRY = Entry(-1, -1, -1)
+
+# The later part of a split leaf: its records, their bytes, and its block, None before it has one
+Part = namedtuple('Part', 'first last plain at')
 
 
 class Records(Space):
@@ -18,11 +23,10 @@ class Records(Space):
     later_first = False
     # Nodes that are left without entries are freed before the entry of the later part is added.
     nodes_first = False
+    # And so they are before it gets its block.
+    later_last = False
     # A packed block that is placed anew keeps rfuA.
     keeps_reserved = False
-    # What the first of two cuts leaves of a block is not written where the second one frees it.
-    skips_lost = False
-    lost_from = None
 
     # Counts
 
@@ -225,14 +229,19 @@ class Records(Space):
         head = self.kept_level(self[vdr, Vdr.VXRhead], blocks, (last, shift, close), empty)
         self[vdr, Vdr.VXRhead] = head
         freed = late[::-1] + empty
-        if split is not None and not self.nodes_first:
-            self.add_entry(vdr, split)
+        is_behind = self.nodes_first or self.later_last
+        if split is not None and not is_behind:
+            self.add_part(vdr, split)
         for at in freed:
             self.give(at)
-        if split is not None and self.nodes_first:
-            self.add_entry(vdr, split)
+        if split is not None and is_behind:
+            self.add_part(vdr, split)
         if self.chain(head, VXR) != top:
             self.write_tail(vdr)
+
+    def add_part(self, vdr, part):
+        at = self.new_block(vdr, part.plain) if part.at is None else part.at
+        self.add_entry(vdr, Entry(part.first, part.last, at))
 
     def cut_leaf(self, vdr, leaf, first, last, close):
         """What stays of a leaf of which some records go, and a leaf for its later part where that is apart."""
@@ -242,11 +251,10 @@ class Records(Space):
         if before and after and not close:
             block = self.new_block(vdr, after) if self.later_first else None
             at = self.shortened(vdr, leaf, before)
-            later = Entry(last + 1, leaf.last, block or self.new_block(vdr, after))
-            return Leaf(leaf.first, first - 1, at), later
+            if block is None and not self.later_last:
+                block = self.new_block(vdr, after)
+            return Leaf(leaf.first, first - 1, at), Part(last + 1, leaf.last, after, block)
         start = leaf.first if before else last + 1
-        if self.lost_from is not None and self.lost_from <= start and not self.compressed(vdr):
-            return Leaf(start, leaf.last, leaf.at), None
         at = self.shortened(vdr, leaf, before + after)
         return Leaf(start, start + len(before + after) // size - 1, at), None
 
@@ -297,10 +305,7 @@ class Records(Space):
             self.cut(vdr, first, last, True)
             self.set_max_rec(vdr, old_max - (last - first + 1))
             return
-        if self.skips_lost and last >= old_max:
-            self.lost_from = last + 1
         self.cut(vdr, first, last, False)
-        self.lost_from = None
         stored = [min(leaf.last, old_max) for leaf in self.index(vdr) if leaf.first <= old_max]
         self.set_max_rec(vdr, max(stored, default=-1))
         self.cut(vdr, self[vdr, Vdr.MaxRec] + 1, LAST_NUMBER, False)

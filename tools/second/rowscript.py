@@ -1,8 +1,9 @@
-"""Lines of a script as commands (but for those of sparse and packed variables), and quoted text."""
+"""Lines of a script as commands (but for those of packed variables), and quoted text."""
 from layout import TYPE_NAMED
-from model import Command
+from model import NO_RULE, PAD, PREVIOUS, Command
 
 ESCAPED = {ord('"'): ord('"'), ord('\\'): ord('\\')}
+RULE_NAMED = {b'none': NO_RULE, b'pad': PAD, b'previous': PREVIOUS}
 
 
 def quoted_byte(byte):
@@ -74,6 +75,8 @@ def variable_command(kind, rest):
         return Command(kind, name=rest[0], to=rest[1])
     if kind == 'del-var':
         return Command(kind, name=rest[0])
+    if kind == 'set-sparse':
+        return Command(kind, name=rest[0], rule=RULE_NAMED[rest[1]])
     if kind == 'set-blocking':
         return Command(kind, name=rest[0], n=int(rest[1]))
     if kind == 'set-pad':

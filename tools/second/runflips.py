@@ -1,4 +1,4 @@
-"""Changes single bytes of right images: python3 runflips.py FILES COMMANDS [SEED] [FLIPS].
+"""Changes single bytes of right images: python3 runflips.py FILES COMMANDS [SEED] [FLIPS] [SORT].
 
 What is still good, has the right content and is admitted is told by the command and the record in which the byte is.
 """
@@ -9,6 +9,7 @@ from collections import Counter
 from follows.follows import why_refused
 from image import Image
 from model import READERS
+from runfollows import SORTS
 from selfcheck import run
 
 NAMES = {1: 'CDR', 2: 'GDR', 3: 'rVDR', 4: 'ADR', 5: 'AgrEDR', 6: 'VXR', 7: 'VVR', 8: 'zVDR', 9: 'AzEDR', 11: 'CPR',
@@ -29,6 +30,7 @@ def main():
     files, commands = int(sys.argv[1]), int(sys.argv[2])
     start = int(sys.argv[3]) if len(sys.argv) > 3 else 0
     flips = int(sys.argv[4]) if len(sys.argv) > 4 else 10
+    sort = sys.argv[5] if len(sys.argv) > 5 else ''
     tried, admitted, examples = Counter(), Counter(), {}
     source = random.Random(start)
 
@@ -49,7 +51,7 @@ def main():
                 admitted[key] += 1
                 examples.setdefault(key, (len(tried), at, c, edited.acts))
     for seed in range(start, start + files):
-        run(seed, commands, each)
+        run(seed, commands, each, SORTS[sort], sort)
     print('tried', dict(tried))
     for key, count in sorted(admitted.items(), key=str):
         print(*key, count, examples[key])

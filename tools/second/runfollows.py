@@ -15,6 +15,10 @@ SORTS = {'': KINDS, 'even': KINDS, 'setup': ('setup', 'checksum', 'list', 'info'
                    'put-rec', 'set-blocking', 'set-pad', 'set-sparse', 'del-var')}
 
 
+def is_under_rule(c, data_set):
+    return c.kind == 'del-recs' and data_set.variable(c.name).sparse != 0
+
+
 def main():
     files, commands = int(sys.argv[1]), int(sys.argv[2])
     start = int(sys.argv[3]) if len(sys.argv) > 3 else 0
@@ -23,10 +27,12 @@ def main():
     tried, failed = Counter(), Counter()
     for seed in range(start, start + files):
         def each(before, data_set, c, edited, after, reply):
-            tried[c.kind, 'new' if sort in ('wide', 'twice') or (seed % 2 and sort not in ('sparse', 'setup')) else 'foreign'] += 1
+            kind = c.kind + ' under a rule' if is_under_rule(c, data_set) else c.kind
+            is_new = sort in ('wide', 'twice') or (seed % 2 and sort not in ('sparse', 'setup'))
+            tried[kind, 'new' if is_new else 'foreign'] += 1
             why = why_refused(before, c, edited.data, edited.acts, data_set)
             if why:
-                key = (c.kind, tuple(sorted(set(why)))[:3])
+                key = (kind, tuple(sorted(set(why)))[:3])
                 failed[key] += 1
                 if failed[key] <= 2:
                     print('REFUSED seed', seed, c, edited.acts, why[:6], flush=True)

@@ -25,6 +25,8 @@ from validator import broken, sealed, unsealed
 from worked import space
 
 LONGEST = 16_777_216
+# What cdfedit does where no rule fixes it
+CHOSEN = ('later_last',)
 
 
 @dataclass
@@ -185,7 +187,7 @@ class Run:
             return image, dump(number, content(Image(image)))
         if c.kind == 'report':
             return image, report(number, self.taps, c.tap, content(Image(image)))
-        edited, d, reply = apply(bytes(image), c, self.row.limit or IMAGE_LIMIT)
+        edited, d, reply = apply(bytes(image), c, self.row.limit or IMAGE_LIMIT, choices=CHOSEN)
         return image if c.kind in READERS else bytes(edited.data), reply_text(number, c, d, reply)
 
     def go(self):

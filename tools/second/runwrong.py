@@ -1,4 +1,6 @@
-"""Tries the wrong editors beside the right one: python3 runwrong.py FILES COMMANDS [SEED] [NAME].
+"""Tries the wrong editors beside the right one: python3 runwrong.py FILES COMMANDS [SEED] [NAME] [SORT].
+
+NAME is - for all of them, SORT as in runfollows.py.
 
 An image that a wrong editor makes counts where it is good, has the right content and is not the right image. Of each
 that is admitted it says by which acts it was made, and in which records it differs from the right one.
@@ -12,6 +14,7 @@ from follows.search import refused_whatever
 from image import Image
 from layout import VXR, Vxr, node_size
 from model import READERS
+from runfollows import SORTS
 from selfcheck import run
 from validator import broken, sealed
 from wrong import WRONG
@@ -57,7 +60,8 @@ def differences(before, right, image):
 def main():
     files, commands = int(sys.argv[1]), int(sys.argv[2])
     start = int(sys.argv[3]) if len(sys.argv) > 3 else 0
-    editors = [cls for cls in WRONG if len(sys.argv) < 5 or cls.__name__ == sys.argv[4]]
+    editors = [cls for cls in WRONG if len(sys.argv) < 5 or sys.argv[4] in ('-', cls.__name__)]
+    sort = sys.argv[5] if len(sys.argv) > 5 else ''
     tried, admitted, reasons = Counter(), Counter(), {}
 
     def each(before, data_set, c, edited, after, reply):
@@ -80,7 +84,7 @@ def main():
                   '\n  differs', *differences(before, edited, image), flush=True)
 
     for seed in range(start, start + files):
-        run(seed, commands, each)
+        run(seed, commands, each, SORTS[sort], sort)
     for cls in editors:
         name = cls.__name__
         of_tried, of_admitted = ({kind: n for (other, kind), n in tally.items() if other == name}

@@ -275,6 +275,35 @@ class FirstCutFreesLate(Wrong):
         self.held.append(at) if self.holding else super().give(at)
 
 
+class PastMaxRecCutFirst(Wrong):
+    """What is past the new MaxRec is cut before the others."""
+    commands = ('del-recs',)
+
+    def delete(self, vdr, first, last):
+        old_max = self[vdr, Vdr.MaxRec]
+        if self[vdr, Vdr.SRecords]:
+            stored = [k for leaf in self.index(vdr) for k in (min(leaf.last, old_max), min(leaf.last, first - 1))
+                      if leaf.first <= k <= old_max and not first <= k <= last]
+            self.cut(vdr, max(stored, default=-1) + 1, LAST_NUMBER, False)
+        super().delete(vdr, first, last)
+
+
+class LostNotWritten(Wrong):
+    """What the first of two cuts leaves of a block is not written where the second one frees it."""
+    commands, lost_from = ('del-recs',), None
+
+    def delete(self, vdr, first, last):
+        if self[vdr, Vdr.SRecords] and last >= self[vdr, Vdr.MaxRec]:
+            self.lost_from = last + 1
+        super().delete(vdr, first, last)
+
+    def shortened(self, vdr, leaf, plain):
+        count = len(plain) // self.record_bytes(vdr)
+        if self.lost_from is not None and self.lost_from <= leaf.last + 1 - count and not self.compressed(vdr):
+            return leaf.at
+        return super().shortened(vdr, leaf, plain)
+
+
 class BlockFreedAndTaken(Wrong):
     """A block that a cut makes shorter is freed and taken again, with what it leaves on the list."""
     commands = ('del-recs',)
