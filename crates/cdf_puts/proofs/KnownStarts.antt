@@ -1,6 +1,7 @@
 -- Nodes of top chains that are known of the variables of an image, and that they are known yet where records were put.
 use Rattle.cdf_puts.proofs.Common.{IsRightOf, IsWithin, LeavesEntries, cases_eq, entries_in, known_of, widest, Act, Each, Each-append, Each-split, GoesOn, Good, HasIndex, In, InTopChain, IsKnownOf, Kind, KnowsStarts, Leaf, List, Nodes, None, Option, R, Some, StandsAmong, TopStays, VariableShape, Z, [], ap, arith, index_at, inl, inr, length, long, number, other_kind, refl, shape, shapes_of, sound, subst, sym, tile, tile_lies, variables, vdr_vxr_head, vdrs, with_leaf, ℕ, ◌++◌, ◌+◌, ◌∷◌, ◌≡◌, ◌≢◌, ◌≤◌, Grows, by_leaf, Shape, top_chain, of_kind, searchable}
 use Rattle.cdf_index.proofs.OneVariable.{OneOf, one_of}
+use Rattle.cdf_puts.specs.TidyIndex.{IsTidy}
 use Rattle.cdf_puts.specs.declared.known_index.IndexBound.{IndexBound}
 use Rattle.cdf_puts.specs.declared.known_index.KnownIndex.{KnownIndex}
 use Rattle.cdf_puts.specs.declared.starts.Starts.{Starts}
@@ -60,9 +61,9 @@ within_left index index' more None within left few narrow = tt
 within_left index index' more (Some bound) within left few narrow = record { few = omega (arith, few, left); narrow = omega (arith, narrow, within.narrow) }
 
 -- what is known of an index is right yet once it got so many entries
-pub right_yet : (index index' : Nodes) (more : ℕ) (known : Option KnownIndex) → IfSome known (IsRightOf index) → IfSome known (λ k. LeavesEntries k index more) → TopStays index index' → entries_in index' ≤ entries_in index + more → widest index' ≤ widest index → IfSome known (IsRightOf index')
-right_yet index index' more None is left tops few narrow = tt
-right_yet index index' more (Some known) is left tops few narrow = record { node = tops_in index index' tops known.node is.node; passed = λ rec. tops_in index index' tops (get nat_cmp known.passed rec) (is.passed rec); bound = within_left index index' more known.bound is.bound left few narrow }
+pub right_yet : (index index' : Nodes) (more : ℕ) (known : Option KnownIndex) → IfSome known (IsRightOf index) → IfSome known (λ k. LeavesEntries k index more) → TopStays index index' → entries_in index' ≤ entries_in index + more → widest index' ≤ widest index → (IsTidy index → IsTidy index') → IfSome known (IsRightOf index')
+right_yet index index' more None is left tops few narrow tidy = tt
+right_yet index index' more (Some known) is left tops few narrow tidy = record { node = tops_in index index' tops known.node is.node; passed = λ rec. tops_in index index' tops (get nat_cmp known.passed rec) (is.passed rec); bound = within_left index index' more known.bound is.bound left few narrow; tidy = λ t. tidy (is.tidy t) }
 
 -- what is kept, and nothing else
 pub kept_is : (P : KnownIndex → Type 0) (known : KnownIndex) (o : Option KnownIndex) → IfSome o (λ kept. kept ≡ known) → P known → IfSome o P

@@ -5,3 +5,4 @@ pub mod Searching
 pub mod SoFar
 pub mod Steps
 pub mod Starts
+pub mod TidyIndex

@@ -1,5 +1,5 @@
--- What is known of the indexes of variables: nodes of their top chains, from which searches go on, and how large they are at most (own).
-use Rattle.std.specs.Prelude.{◌≤◌, ◌+◌, ℕ, List, IfSome}
+-- What is known of the indexes of variables: nodes of their top chains, from which searches go on, how large they are at most, and whether no node is empty (own).
+use Rattle.std.specs.Prelude.{◌≡◌, ◌≤◌, ◌+◌, ℕ, List, true, IfSome}
 use Rattle.std.specs.declared.option.Option.{Option}
 use Rattle.std.specs.BTreeMap.{get}
 use Rattle.std.specs.Ordering.{nat_cmp}
@@ -11,6 +11,7 @@ use Rattle.cdf_format.specs.Records.{vdr_vxr_head}
 use Rattle.cdf_format.specs.Shape.{VariableShape, Each, shape, variables}
 use Rattle.cdf_format.specs.Tiles.{In}
 use Rattle.cdf_index.specs.Finding.{index_at}
+use Rattle.cdf_puts.specs.TidyIndex.{IsTidy}
 use Rattle.cdf_puts.specs.declared.known_index.IndexBound.{IndexBound}
 use Rattle.cdf_puts.specs.declared.known_index.KnownIndex.{KnownIndex}
 use Rattle.cdf_puts.specs.declared.starts.Starts.{Starts}
@@ -33,6 +34,7 @@ pub record IsRightOf (index : Nodes) (known : KnownIndex) : Type 0 where
   pub node : InTopChain index known.node
   pub passed : (rec : ℕ) → InTopChain index (get nat_cmp known.passed rec)
   pub bound : IfSome known.bound (IsWithin index)
+  pub tidy : known.tidy ≡ true → IsTidy index
 
 -- what is known of a variable, by the place of its VDR
 abbrev pub known_of : Starts → ℕ → Option KnownIndex

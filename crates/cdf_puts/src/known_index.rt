@@ -6,6 +6,7 @@ ghost use Rattle.cdf_format.specs.Index.{Nodes};
 ghost use Rattle.cdf_index.specs.Finding.{HasIndex, index_at};
 ghost use Rattle.cdf_model.specs.Limits.{image_limit};
 ghost use Rattle.cdf_puts.specs.Starts.{InTopChain, IsRightOf, IsWithin, LeavesEntries};
+ghost use Rattle.cdf_puts.specs.TidyIndex.{IsTidy};
 
 use crate::searching::Search;
 use cdf_area::{Area, AreaError};
@@ -38,7 +39,7 @@ struct Passed {
     node: Option<u64>,
 }
 
-/// The nodes of the top chain of an index from which searches go on, and how large the index is at most.
+/// The nodes of the top chain of an index from which searches go on, how large the index is at most, and whether it has no empty node.
 #[derive(Drop)]
 pub struct KnownIndex {
     /// The record of the last search.
@@ -48,6 +49,8 @@ pub struct KnownIndex {
     /// By records, nodes on the ways that long searches went: at each a search for its record, or for a later one, may start.
     passed: BTreeMap<u32, u64>,
     pub bound: Option<IndexBound>,
+    /// Whether it is known that no node is empty.
+    pub tidy: bool,
 }
 
 /// The node of the top chain at which a search for a record may start, in the index that a link leads to, of whose top chain a node may
@@ -79,6 +82,7 @@ impl KnownIndex {
             node: None,
             passed: BTreeMap::new(alloc),
             bound: None,
+            tidy: false,
         }
     }
 
@@ -231,5 +235,12 @@ impl KnownIndex {
             }),
             None => None,
         };
+    }
+
+    /// Notes that no node of the index is empty.
+    pub fn note_tidy(&mut self)
+        ensures { (index : Nodes) → IsRightOf index self.old → IsTidy index → IsRightOf index self.new }
+    {
+        self.tidy = true;
     }
 }

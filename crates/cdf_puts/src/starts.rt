@@ -1,6 +1,7 @@
-//! What is known of the indexes of the variables of a file: from which nodes searches go on, and how large the indexes are at most.
+//! What is known of the indexes of the variables of a file: from which nodes searches go on, how large the indexes are at most, and which have no
+//! empty node.
 
-ghost use Rattle.std.specs.Prelude.{◌≡◌, ◌≢◌, ◌≤◌, ℕ, List, length, IfOk, IfSome, None};
+ghost use Rattle.std.specs.Prelude.{◌≡◌, ◌≢◌, ◌≤◌, ℕ, List, length, true, IfOk, IfSome, None};
 ghost use Rattle.cdf_area.specs.Calls.{Reads};
 ghost use Rattle.cdf_format.specs.Fields.{number};
 ghost use Rattle.cdf_format.specs.Index.{Nodes};
@@ -11,6 +12,7 @@ ghost use Rattle.cdf_format.specs.WellFormed.{Good};
 ghost use Rattle.cdf_index.specs.Finding.{index_at};
 ghost use Rattle.cdf_model.specs.Limits.{image_limit};
 ghost use Rattle.cdf_puts.specs.Starts.{ExpectsEntries, IsForgotten, IsKnownStart, IsRightOf, IsWithin, KnowsStarts, known_of};
+ghost use Rattle.cdf_puts.specs.TidyIndex.{IsTidy};
 
 use crate::known_index::{IndexBound, KnownIndex};
 use cdf_area::{Area, AreaError};
@@ -87,6 +89,25 @@ impl Starts {
     {
         let mut known = self.take(vdr);
         known.keep_bound(bound, more);
+        self.keep(vdr, known);
+    }
+
+    /// Whether it is known that no node of the index of the variable whose descriptor stands at a place is empty.
+    pub fn is_tidy(&self, vdr: u64) -> bool
+        ensures { (b : List ℕ) → Good b → In vdr (vdrs (variables (shape b))) → KnowsStarts b self.now → result ≡ true → IsTidy (index_at b (number b vdr vdr_vxr_head)) }
+    {
+        match self.indexes.get(&vdr) {
+            Some(known) => known.tidy,
+            None => false,
+        }
+    }
+
+    /// Notes that no node of the index of the variable whose descriptor stands at a place is empty, where there is memory for it.
+    pub fn note_tidy(&mut self, vdr: u64)
+        ensures { (b : List ℕ) → Good b → In vdr (vdrs (variables (shape b))) → KnowsStarts b self.old → IsTidy (index_at b (number b vdr vdr_vxr_head)) → KnowsStarts b self.new }
+    {
+        let mut known = self.take(vdr);
+        known.note_tidy();
         self.keep(vdr, known);
     }
 

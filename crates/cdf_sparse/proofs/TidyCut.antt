@@ -10,8 +10,8 @@ unfoldable use Rattle.cdf_edits.specs.Index.Grown.{cut_entries, cut_nodes}
 use Rattle.cdf_edits.specs.Index.Grown.{block_if, greatest_last, kept_open, least_first, lower_if, node_if}
 unfoldable use Rattle.cdf_index.specs.Order.{AreInOrder, InOrder}
 use Rattle.cdf_model.specs.Limits.{record_number_limit}
-use Rattle.cdf_sparse.specs.TidyIndex.{HasEntry}
-unfoldable use Rattle.cdf_sparse.specs.TidyIndex.{EntriesTidy, IsTidy}
+use Rattle.cdf_puts.specs.TidyIndex.{HasEntry}
+unfoldable use Rattle.cdf_puts.specs.TidyIndex.{EntriesTidy, IsTidy}
 
 -- ---- nothing is cut
 

@@ -13,8 +13,8 @@ use Rattle.cdf_format.specs.Fields.{size_at}
 use Rattle.cdf_format.specs.Index.{leaf}
 use Rattle.std.specs.List.{flat_map}
 use Rattle.cdf_sparse.proofs.TidyCut.{cut_is_tidy}
-use Rattle.cdf_sparse.specs.TidyIndex.{HasEntry}
-unfoldable use Rattle.cdf_sparse.specs.TidyIndex.{EntriesTidy, IsTidy}
+use Rattle.cdf_puts.specs.TidyIndex.{HasEntry}
+unfoldable use Rattle.cdf_puts.specs.TidyIndex.{EntriesTidy, IsTidy}
 
 -- what holds on both sides of a test holds of either
 either_way : {A : Type 0} (P : A → Type 0) (p : Bool) (a b : A) → P a → P b → P (if p then a else b)

@@ -17,8 +17,8 @@ use Rattle.cdf_model.specs.Names.{Found}
 use Rattle.cdf_sparse.proofs.TidyCut.{cut_is_tidy, none_freed, nothing_cut}
 use Rattle.cdf_sparse.proofs.TidyGrown.{opened_is_tidy, step_is_tidy}
 use Rattle.cdf_edits.specs.Commands.Deleting.{CutsOpen, DeletesUnderRule}
-use Rattle.cdf_sparse.specs.TidyIndex.{HasEntry}
-unfoldable use Rattle.cdf_sparse.specs.TidyIndex.{EntriesTidy, IsTidy}
+use Rattle.cdf_puts.specs.TidyIndex.{HasEntry}
+unfoldable use Rattle.cdf_puts.specs.TidyIndex.{EntriesTidy, IsTidy}
 
 -- ---- an index but for where its blocks and its new nodes stand
 

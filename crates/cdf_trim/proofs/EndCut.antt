@@ -6,7 +6,7 @@ use Rattle.cdf_edits.proofs.Edits.LeafPieces.{IsOneOf, each_of}
 use Rattle.cdf_format.specs.Index.{Leaf, leaves_of}
 use Rattle.cdf_index.specs.Writing.{EntrySet}
 use Rattle.cdf_cuts.specs.Past.{CutPast, cut_off}
-use Rattle.cdf_sparse.specs.TidyIndex.{IsTidy}
+use Rattle.cdf_puts.specs.TidyIndex.{IsTidy}
 use Rattle.cdf_trim.proofs.EndLinked as by
 use Rattle.cdf_trim.proofs.EndReach.{Ends}
 use Rattle.cdf_trim.specs.LastEntry.{NamesLast}

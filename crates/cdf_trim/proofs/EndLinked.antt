@@ -17,7 +17,7 @@ use Rattle.cdf_index.proofs.NewIndex.{index_marks, vdr_no_node}
 use Rattle.cdf_index.proofs.OneNode.{same_node}
 use Rattle.cdf_index.specs.Adding.{Counts}
 use Rattle.cdf_index.specs.Writing.{EntrySet}
-use Rattle.cdf_puts.proofs.PutRules.{loose}
+use Rattle.cdf_edits.proofs.Edits.StandsAmong.{loose}
 use Rattle.cdf_cuts.proofs.CutDone.{each_from, may_all}
 use Rattle.cdf_cuts.proofs.CutWords.{cut}
 use Rattle.cdf_cuts.proofs.PastCut.{cut_past}
@@ -26,7 +26,7 @@ use Rattle.cdf_cuts.specs.Cut.{IsCut}
 use Rattle.cdf_cuts.specs.Linking.{EntriesLeft, IsLinked, cut_touches, left_of, links_touch}
 use Rattle.cdf_cuts.specs.Past.{CutPast, cut_off, past_span}
 use Rattle.cdf_edits.specs.Space.Freeing.{AllGiven}
-use Rattle.cdf_sparse.specs.TidyIndex.{IsTidy}
+use Rattle.cdf_puts.specs.TidyIndex.{IsTidy}
 use Rattle.cdf_trim.proofs.EndPlan.{EndsWritten, IsDone, OnlyReach, SameFields, each_done, none_freed, plan_done}
 use Rattle.cdf_trim.proofs.EndReach.{At, Ends, none_reaches, only_reaches}
 use Rattle.cdf_trim.proofs.EndShape.{Begins, cut_ended, ended, link_ended, nodes_ended, whole_kept}

@@ -5,8 +5,8 @@ use Rattle.cdf_cuts.proofs.CutWords.{length_words, words_of}
 use Rattle.cdf_cuts.specs.Planning.{opening}
 use Rattle.cdf_trim.proofs.EndShape.{Begins, count_ended, kept_front, link_ended, words_ended}
 unfoldable use Rattle.cdf_trim.proofs.EndShape.{ended_below}
-use Rattle.cdf_sparse.specs.TidyIndex.{HasEntry}
-unfoldable use Rattle.cdf_sparse.specs.TidyIndex.{EntriesTidy, IsTidy}
+use Rattle.cdf_puts.specs.TidyIndex.{HasEntry}
+unfoldable use Rattle.cdf_puts.specs.TidyIndex.{EntriesTidy, IsTidy}
 
 -- ---- nothing is freed
 

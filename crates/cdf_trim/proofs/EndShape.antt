@@ -5,8 +5,8 @@ use Rattle.cdf_cuts.proofs.CutWords.{words_are, words_of}
 use Rattle.cdf_cuts.specs.Planning.{opening}
 unfoldable use Rattle.cdf_edits.specs.Index.Grown.{cut_entries, cut_nodes}
 use Rattle.cdf_edits.specs.Index.Grown.{block_if, kept_open, lower_if, node_if}
-use Rattle.cdf_sparse.specs.TidyIndex.{HasEntry}
-unfoldable use Rattle.cdf_sparse.specs.TidyIndex.{EntriesTidy, IsTidy}
+use Rattle.cdf_puts.specs.TidyIndex.{HasEntry}
+unfoldable use Rattle.cdf_puts.specs.TidyIndex.{EntriesTidy, IsTidy}
 
 -- each block ends before a record
 unfoldable mutual

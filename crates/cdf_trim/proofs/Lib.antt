@@ -4,4 +4,5 @@ pub mod EndPlan
 pub mod EndReach
 pub mod EndLinked
 pub mod EndCut
+pub mod EndTop
 pub mod TrimCalls

@@ -3,11 +3,15 @@ use Rattle.cdf_index.proofs.Common.{Ascending, EntrySet, Good, HasIndex, IsOneOf
 use Rattle.cdf_cuts.proofs.CutCalls.{index_is}
 use Rattle.cdf_cuts.proofs.Rewriting.{inside_of}
 use Rattle.cdf_cuts.specs.Past.{CutPast, cut_off}
+use Rattle.cdf_edits.proofs.Edits.LeafPieces.{each_of}
 use Rattle.cdf_edits.proofs.Frame.OwnerAlone.{Each-in}
+use Rattle.cdf_format.specs.Shape.{Each}
 use Rattle.cdf_index.proofs.LeavesAscend.{leaves_ascend}
-use Rattle.cdf_sparse.specs.TidyIndex.{IsTidy}
+use Rattle.cdf_puts.specs.TidyIndex.{IsTidy}
 use Rattle.cdf_trim.proofs.EndCut.{end_cut, nothing_cut}
+use Rattle.cdf_trim.proofs.EndShape.{Begins}
 use Rattle.cdf_trim.specs.LastEntry.{NamesLast}
+use Rattle.cdf_trim.specs.Trimming.{KeepsBlocks}
 use Rattle.cdf_trim.specs.declared.last_entry.LastEntry.{LastEntry}
 use Rattle.std.specs.List.{last_or}
 use Rattle.std.specs.Option.{unwrap_or}
@@ -22,6 +26,40 @@ ends_last : (low upto : ℕ) (o : Option Leaf) (xs : List Leaf) (x : Leaf) → A
 ends_last low upto o [] x a e l i = absurd i
 ends_last low upto o (y ∷ ys) x a e l (inl q) = subst (λ (m : Leaf). m.last ≤ x.last) q (last_end y.last upto y x ys (omega arith) a.3 e)
 ends_last low upto o (y ∷ ys) x a e l (inr i) = ends_last (suc y.last) upto (Some y) ys x a.3 e l i
+
+-- and it begins last
+last_begin : (n upto : ℕ) (y x : Leaf) (ys : List Leaf) → n ≤ y.first → y.first ≤ y.last → Ascending (suc y.last) upto ys → last_or (Some y) ys ≡ Some x → n ≤ x.first
+last_begin n upto y x [] le o a e = subst (λ (l : Leaf). n ≤ l.first) (ap (λ (o : Option Leaf). unwrap_or o y) e) le
+last_begin n upto y x (z ∷ zs) le o a e = last_begin n upto z x zs (let begins = a.0 in omega arith) a.1 a.3 e
+
+begins_last : (low upto : ℕ) (o : Option Leaf) (xs : List Leaf) (x : Leaf) → Ascending low upto xs → last_or o xs ≡ Some x → (l : Leaf) → IsOneOf xs l → l.first ≤ x.first
+begins_last low upto o [] x a e l i = absurd i
+begins_last low upto o (y ∷ ys) x a e l (inl q) = subst (λ (m : Leaf). m.first ≤ x.first) q (last_begin y.first upto y x ys (omega arith) a.1 a.3 e)
+begins_last low upto o (y ∷ ys) x a e l (inr i) = begins_last (suc y.last) upto (Some y) ys x a.3 e l i
+
+ordered : (low upto : ℕ) (xs : List Leaf) → Ascending low upto xs → (l : Leaf) → IsOneOf xs l → l.first ≤ l.last
+ordered low upto [] a l i = absurd i
+ordered low upto (y ∷ ys) a l (inl q) = subst (λ (m : Leaf). m.first ≤ m.last) q a.1
+ordered low upto (y ∷ ys) a l (inr i) = ordered (suc y.last) upto ys a.3 l i
+
+-- ---- where each block stays
+
+module _ {b : List ℕ} {head : ℕ} (has : HasIndex b head) (first : ℕ) where
+  ascends : Ascending 0 (suc record_number_limit) (leaves_of (index_at b head))
+  ascends = leaves_ascend 0 record_number_limit (index_at b head) has.order (omega arith)
+
+  pub none_goes : leaves_of (index_at b head) ≡ [] → KeepsBlocks first (index_at b head)
+  none_goes none = subst (Each (Begins first)) (sym none) tt
+
+  module _ (e : LastEntry) (names : NamesLast b (index_at b head) e) where
+    pub none_reaches : e.leaf.last < first → KeepsBlocks first (index_at b head)
+    none_reaches lt = each_of (Begins first) (leaves_of (index_at b head)) (λ l i.
+        let le = ends_last 0 (suc record_number_limit) None (leaves_of (index_at b head)) _ ascends names.leaf_is l i in
+        let o = ordered 0 (suc record_number_limit) (leaves_of (index_at b head)) ascends l i in
+        omega arith)
+
+    pub each_begins : e.leaf.first < first → KeepsBlocks first (index_at b head)
+    each_begins lt = each_of (Begins first) (leaves_of (index_at b head)) (λ l i. let le = begins_last 0 (suc record_number_limit) None (leaves_of (index_at b head)) _ ascends names.leaf_is l i in omega arith)
 
 -- ---- the node of the last entry
 

@@ -8,8 +8,8 @@ use Rattle.cdf_index.proofs.LeafRules.{widened}
 use Rattle.cdf_index.proofs.Looking.{none_there}
 use Rattle.cdf_index.proofs.WayDown.{node_there_by}
 use Rattle.cdf_puts.specs.Starts.{InTopChain}
-use Rattle.cdf_sparse.specs.TidyIndex.{HasEntry}
-unfoldable use Rattle.cdf_sparse.specs.TidyIndex.{EntriesTidy, IsTidy}
+use Rattle.cdf_puts.specs.TidyIndex.{HasEntry}
+unfoldable use Rattle.cdf_puts.specs.TidyIndex.{EntriesTidy, IsTidy}
 use Rattle.cdf_trim.specs.LastEntry.{NamesLast, last_leaf}
 use Rattle.cdf_trim.specs.WayToLast.{EndsAt, LeadsToLast, ReadsLast, link_on}
 use Rattle.cdf_trim.specs.declared.last_entry.LastEntry.{LastEntry}

@@ -1,2 +1,3 @@
 pub mod LastEntry
+pub mod Trimming
 pub mod WayToLast

@@ -8,7 +8,7 @@ use Rattle.cdf_format.specs.RecordTypes.{cvvr_type}
 use Rattle.cdf_format.specs.Tiles.{In}
 use Rattle.cdf_index.specs.Ahead.{chain_at}
 use Rattle.cdf_index.specs.Finding.{HasIndex, index_at}
-use Rattle.cdf_sparse.specs.TidyIndex.{IsTidy}
+use Rattle.cdf_puts.specs.TidyIndex.{IsTidy}
 use Rattle.cdf_trim.specs.LastEntry.{last_leaf}
 use Rattle.cdf_trim.specs.declared.last_entry.LastEntry.{LastEntry}
 

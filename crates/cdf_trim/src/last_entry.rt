@@ -6,7 +6,7 @@ ghost use Rattle.cdf_format.specs.Index.{used_count};
 ghost use Rattle.cdf_index.specs.Finding.{HasIndex, SomeNode, index_at};
 ghost use Rattle.cdf_model.specs.Limits.{image_limit};
 ghost use Rattle.cdf_puts.specs.Starts.{InTopChain};
-ghost use Rattle.cdf_sparse.specs.TidyIndex.{IsTidy};
+ghost use Rattle.cdf_puts.specs.TidyIndex.{IsTidy};
 ghost use Rattle.cdf_trim.specs.LastEntry.{SeesLast};
 ghost use Rattle.cdf_trim.specs.WayToLast.{EndsAt, ReadsLast, link_on};
 

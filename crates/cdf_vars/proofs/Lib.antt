@@ -27,6 +27,7 @@ pub mod PutParts
 pub mod PutRaised
 pub mod PutRead
 pub mod PutWhole
+pub mod PutTidy
 pub mod PutPast
 pub mod PutAnswered
 pub mod RecordsDeleted

@@ -3,15 +3,35 @@ use Rattle.cdf_vars.proofs.Common.{Command, Follows, Good, IsTarget, IsVdr, Kind
 use Rattle.cdf_gaps.proofs.CutPutFollows.{content_then, put_rec_then, put_val_then}
 use Rattle.cdf_gaps.proofs.CutThenPut.{CutThenPut}
 use Rattle.cdf_gaps.proofs.PastStart as start
-use Rattle.cdf_cuts.specs.Past.{CutPast, cut_off}
+use Rattle.cdf_cuts.specs.Past.{CutPast, before_first, cut_off}
+use Rattle.cdf_cuts.proofs.CutCalls.{index_is}
+use Rattle.cdf_edits.specs.Commands.Room.{uncovered}
+use Rattle.cdf_format.specs.Fields.{number}
+use Rattle.cdf_format.specs.Records.{vdr_vxr_head}
+use Rattle.cdf_gaps.proofs.PastIndex.{fewer_entries, no_wider}
+use Rattle.cdf_index.specs.Finding.{index_at}
+use Rattle.cdf_edits.proofs.Edits.RecordsWritten.{good_now}
+use Rattle.cdf_puts.proofs.CoveringRanges.{covering_entries}
+use Rattle.cdf_puts.proofs.RaisedGoes.{raise_writes}
+use Rattle.cdf_puts.specs.TidyIndex.{IsTidy}
+use Rattle.cdf_sparse.proofs.TidyStages.{cut_off_tidy}
+use Rattle.cdf_trim.proofs.EndTop.{tops_stay}
+use Rattle.cdf_trim.specs.Trimming.{KeepsBlocks}
+use Rattle.cdf_var_records.specs.Room.{ExpectsPut}
+use Rattle.cdf_format.specs.Index.{Nodes}
+use Rattle.cdf_vars.proofs.Common.{None, Option, Some, StandsAmong, false}
+use Rattle.cdf_vars.proofs.PutTidy.{put_is_tidy}
+use Rattle.cdf_vars.specs.Puts.{HasTidyIndex}
+use Rattle.std.proofs.Math.Path.{transport}
+use Rattle.std.specs.Prelude.{IfSome}
 use Rattle.cdf_format.proofs.Tests.{both}
 use Rattle.cdf_edits.specs.Index.Blocks.{cuts_before_put, is_sparse}
 use Rattle.cdf_puts.proofs.GoesThen.{later_size}
-use Rattle.cdf_puts.proofs.KnownStarts.{starts_go_on}
-use Rattle.cdf_puts.specs.SoFar.{MaxRecDone}
-use Rattle.cdf_puts.specs.Starts.{IsForgotten, IsKnownOf, KnowsStarts}
+use Rattle.cdf_puts.proofs.KnownStarts.{known_there, right_yet, starts_go_on}
+use Rattle.cdf_puts.specs.SoFar.{MaxRecDone, TopStays}
+use Rattle.cdf_puts.specs.Starts.{ExpectsEntries, InTopChain, IsForgotten, IsKnownOf, IsKnownStart, IsRightOf, KnowsStarts, known_of}
 use Rattle.cdf_puts.specs.declared.starts.Starts.{Starts}
-use Rattle.cdf_vars.proofs.PutRead.{IsRead, cuts_own, followed, knows_put, most_is, pad_is, pad_long, pad_stored, places_on, raw_is, raw_long, room_own, small, vdr_on}
+use Rattle.cdf_vars.proofs.PutRead.{IsRead, cuts_own, followed, form_vdr, index_there, knows_put, most_is, pad_is, pad_long, pad_stored, places_on, raw_is, raw_long, room_own, small, vdr_in, vdr_on}
 
 module _ {b : List ℕ} {t : Target} {bytes : List ℕ} {put : NewRecord} {limit : ℕ} (k : IsRead b t put.rec bytes put limit) {count : ℕ} (count_is : count ≡ extent (max_rec_at b t.form.place.vdr)) (cuts_at : cuts_before_put (variable_at b t.form.place.vdr) put.rec ≡ true) where
   abbrev kind : Kind
@@ -84,6 +104,19 @@ module _ {b : List ℕ} {t : Target} {bytes : List ℕ} {put : NewRecord} {limit
         first_now : put.rec ≡ first_written v' put.rec
         first_now = rw (start.rule_now k.good is.among cut first_is rule put.rec past) refl
 
+    -- ---- what is known yet, where each block stays
+
+    module _ (tidy : IsTidy (index_at b (number b vdr vdr_vxr_head))) (stays : KeepsBlocks count (index_at b (number b vdr vdr_vxr_head))) where
+      pub tops : TopStays is.own.index own'.index
+      tops = let here = index_there k.good is in tops_stay is.own count (subst IsTidy here tidy) (subst (KeepsBlocks count) here stays)
+
+      pub start_yet : (node : Option ℕ) → IsKnownStart b vdr node → IsKnownStart mid vdr node
+      start_yet node known = subst (λ (ns : Nodes). InTopChain ns node) (sym (index_is mid cut.goes_on.good cut.goes_on.among own_is).1) (by node (subst (λ (ns : Nodes). InTopChain ns node) (index_there k.good is) known))
+        where
+          by : (node : Option ℕ) → InTopChain is.own.index node → InTopChain own'.index node
+          by None known = tt
+          by (Some m) known = tops m known
+
     -- ---- all are put
 
     module _ {now : List ℕ} (upto : PutsUpTo mid now limit put (put.rec + 1)) where
@@ -139,4 +172,41 @@ module _ {b : List ℕ} {t : Target} {bytes : List ℕ} {put : NewRecord} {limit
         starts_now {starts} knows forgotten =
             let mid_knows = starts_go_on knows kind is.among cut.goes_on (λ was. subst (λ (n : ℕ). IsForgotten n starts) (sym is.vdr_is) forgotten own'.index) in
             let now_knows = starts_go_on mid_knows kind cut.goes_on.among done.so.goes (λ was. subst (λ (n : ℕ). IsForgotten n starts) (sym own_is) forgotten done.own'.index) in
+            record { each = subst (λ (s : Shape). Each (IsKnownOf starts) (variables s)) (sym last_shape) now_knows.each }
+
+        last_good : Good last
+        last_good = elim max_rec_done [ inl x ↦ good_now done.so.goes.good done.so.goes.among (raise_writes done.so.goes.good done.so.goes.among x.1 (small k)) now_short | inr x ↦ subst Good (sym x.1) done.so.goes.good ]
+
+        last_among : StandsAmong last kind is.before done.own' is.after
+        last_among = record { was = ap (λ (s : Shape). shapes_of s kind) last_shape ∙ done.so.goes.among.was }
+
+        last_vdr : IsVdr last kind vdr
+        last_vdr = record { before = now_vdr.before; own = now_vdr.own; after = now_vdr.after; was = ap (λ (s : Shape). shapes_of s kind) last_shape ∙ now_vdr.was }
+
+        -- no node is empty then, whatever the index was before
+        pub tidy_now : HasTidyIndex last vdr
+        tidy_now = record {
+          good = last_good;
+          is_there = vdr_in last_good last_vdr;
+          tidy = subst IsTidy (sym (index_is last last_good last_among now_is).1) (put_is_tidy done.so.index (cut_off_tidy is.own count));
+        }
+
+        -- where each block stays, so does what is known
+        pub starts_yet : {starts : Starts} → TopStays is.own.index own'.index → KnowsStarts b starts → ExpectsPut b vdr put.rec starts → KnowsStarts last starts
+        starts_yet {starts} stay knows expects =
+            let more = uncovered v is.own.index put.rec in
+            let known = known_of starts is.own.vdr in
+            let left = subst (λ (at : ℕ). ExpectsEntries starts at is.own.index more) (sym is.vdr_is)
+            (let x = is.variable_is in let nodes = index_there k.good is in transport (λ i. ExpectsEntries starts vdr (nodes i) (uncovered (x i) (nodes i) put.rec)) expects) in
+            let fewer = fewer_entries false (before_first count) is.own.index in
+            let narrow = no_wider false (before_first count) is.own.index in
+            let most = covering_entries done.so.covers done.so.start.same_ranges in
+            let same = start.uncovered_same k.good is.among cut first_is rule put.rec past in
+            let here = subst (λ (ns : Nodes). IfSome (known_of starts vdr) (IsRightOf ns)) (index_there k.good is) (known_there knows vdr k.good (form_vdr k.good is.is_form)) in
+            let right = subst (λ (n : ℕ). IfSome (known_of starts n) (IsRightOf is.own.index)) (sym is.vdr_is) here in
+            let tidy = cut_off_tidy is.own count in
+            let mid_right = right_yet is.own.index own'.index more known right left stay (omega (arith, fewer)) narrow (λ t. tidy) in
+            let now_right = right_yet is.own.index done.own'.index more known right left (λ m i. done.so.index.tops m (stay m i)) (omega (arith, fewer, most, same)) (omega (arith, narrow, done.so.covers.as_wide)) (λ t. put_is_tidy done.so.index tidy) in
+            let mid_knows = starts_go_on knows kind is.among cut.goes_on (λ was. mid_right) in
+            let now_knows = starts_go_on mid_knows kind cut.goes_on.among done.so.goes (λ was. subst (λ (n : ℕ). IfSome (known_of starts n) (IsRightOf done.own'.index)) (sym cut.goes_on.vdr_is) now_right) in
             record { each = subst (λ (s : Shape). Each (IsKnownOf starts) (variables s)) (sym last_shape) now_knows.each }

@@ -87,10 +87,13 @@ module _ {b : List ℕ} {t : Target} (good : Good b) (is : IsTarget b t) where
   pub from_is : (r : ℕ) {count : ℕ} → count ≡ extent (max_rec_at b t.form.place.vdr) → cuts_before_put (variable_of b is.own) r ≡ false → min r count ≡ first_written (variable_of b is.own) r
   from_is r count_is uncut = ap (min r) (count_is ∙ ap (λ (k : ℕ). extent (max_rec_at b k)) (sym is.vdr_is)) ∙ first_uncut (variable_of b is.own) r uncut
 
+pub vdr_in : {b : List ℕ} {kind : Kind} {vdr : ℕ} → Good b → IsVdr b kind vdr → In vdr (vdrs (variables (shape b)))
+vdr_in {vdr = vdr} good is =
+    let all = among good is in
+    subst (λ (vs : List VariableShape). In vdr (vdrs vs)) (sym all.all) (in_middle all.front (own good is) all.rest)
+
 pub form_vdr : {b : List ℕ} {form : Form} → Good b → IsForm b form → In form.place.vdr (vdrs (variables (shape b)))
-form_vdr {b} {form} good f =
-    let all = among good f.is_vdr in
-    subst (λ (vs : List VariableShape). In form.place.vdr (vdrs vs)) (sym all.all) (in_middle all.front (own good f.is_vdr) all.rest)
+form_vdr good f = vdr_in good f.is_vdr
 
 -- what is known of the index leaves room for a put of the same record in the same image
 pub expects_there : {b x : List ℕ} {r n : ℕ} (vdr : ℕ) (starts : Starts) → x ≡ b → n ≡ r → ExpectsPut b vdr r starts → ExpectsPut x vdr n starts

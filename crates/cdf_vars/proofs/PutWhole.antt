@@ -12,6 +12,7 @@ use Rattle.cdf_puts.proofs.CoveringRanges.{covering_entries}
 use Rattle.cdf_puts.proofs.KnownStarts.{right_yet, starts_go_on}
 use Rattle.cdf_puts.specs.SoFar.{MaxRecDone}
 use Rattle.cdf_puts.proofs.DoneBytes.{put_content, put_rec_done, put_val_done}
+use Rattle.cdf_vars.proofs.PutTidy.{put_is_tidy}
 use Rattle.cdf_vars.proofs.PutRead.{IsRead, cuts_own, followed, index_there, knows_put, most_is, pad_is, pad_long, pad_stored, places_on, raw_is, raw_long, room_own, small, vdr_on}
 
 -- ---- a put before which nothing is cut
@@ -100,7 +101,7 @@ module _ {b : List ℕ} {t : Target} {bytes : List ℕ} {put : NewRecord} {limit
       starts_now {starts} knows expects =
           let left = subst (λ (at : ℕ). ExpectsEntries starts at is.own.index (uncovered v is.own.index put.rec)) (sym is.vdr_is)
           (let x = is.variable_is in let nodes = index_there k.good is in transport (λ i. ExpectsEntries starts vdr (nodes i) (uncovered (x i) (nodes i) put.rec)) expects) in
-          let yet = λ (is_right : IfSome (known_of starts is.own.vdr) (IsRightOf is.own.index)). right_yet is.own.index done.own'.index (uncovered v is.own.index put.rec) (known_of starts is.own.vdr) is_right left done.so.index.tops (covering_entries done.so.covers done.so.start.same_ranges) done.so.covers.as_wide in
+          let yet = λ (is_right : IfSome (known_of starts is.own.vdr) (IsRightOf is.own.index)). right_yet is.own.index done.own'.index (uncovered v is.own.index put.rec) (known_of starts is.own.vdr) is_right left done.so.index.tops (covering_entries done.so.covers done.so.start.same_ranges) done.so.covers.as_wide (put_is_tidy done.so.index) in
           record { each = subst (λ (s : Shape). Each (IsKnownOf starts) (variables s)) (sym last_shape) (starts_go_on knows kind is.among done.so.goes yet).each }
 
       pub known_now : {known : Known} → Knows b known → Knows last known

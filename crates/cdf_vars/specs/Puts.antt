@@ -7,9 +7,11 @@ use Rattle.cdf_edits.proofs.Edits.VdrEdited.{StandsAmong}
 use Rattle.cdf_format.specs.Content.{content, variable_of}
 use Rattle.cdf_format.specs.Fields.{number}
 use Rattle.cdf_format.specs.Records.{vdr_vxr_head}
-use Rattle.cdf_format.specs.Shape.{VariableShape}
+use Rattle.cdf_format.specs.Shape.{VariableShape, shape, variables, vdrs}
 use Rattle.cdf_format.specs.Stored.{is_little}
+use Rattle.cdf_format.specs.Tiles.{In}
 use Rattle.cdf_format.specs.VariableFields.{max_rec_at, record_bytes, type_of_variable}
+use Rattle.cdf_format.specs.WellFormed.{Good}
 use Rattle.cdf_model.specs.declared.answer.Outcome.TheVariants as outcomes
 use Rattle.cdf_model.specs.declared.answer.Reply.TheVariants as replies
 use Rattle.cdf_model.specs.declared.command.Command.{Command}
@@ -27,6 +29,7 @@ use Rattle.cdf_index.specs.Finding.{index_at}
 use Rattle.cdf_puts.specs.declared.putting.NewRecord.{NewRecord}
 use Rattle.cdf_puts.specs.Putting.{most_in_block}
 use Rattle.cdf_puts.specs.Steps.{MaxRecRaised}
+use Rattle.cdf_puts.specs.TidyIndex.{IsTidy}
 use Rattle.cdf_vars.specs.declared.puts.Target.{Target}
 use Rattle.cdf_vars.specs.declared.puts.PutRequest.{PutRequest}
 use Rattle.cdf_vars.specs.declared.puts.PutRequest.TheVariants.{Put, Refused}
@@ -109,3 +112,9 @@ pub record IsNewRecord (b : List ℕ) (t : Target) (r : ℕ) (bytes : List ℕ) 
 -- there is room for it under a limit
 abbrev pub HasRoom : List ℕ → Target → ℕ → ℕ → Type 0
 HasRoom b t r limit = length b + put_room (variable_at b t.form.place.vdr) (index_at b (number b t.form.place.vdr vdr_vxr_head)) r ≤ limit
+
+-- a good image has this variable, and no node of its index is empty
+pub record HasTidyIndex (b : List ℕ) (vdr : ℕ) : Type 0 where
+  pub good : Good b
+  pub is_there : In vdr (vdrs (variables (shape b)))
+  pub tidy : IsTidy (index_at b (number b vdr vdr_vxr_head))

@@ -4,30 +4,38 @@ ghost use Rattle.std.specs.Prelude.{◌≡◌, ◌+◌, ◌≤◌, ◌%◌, ℕ,
 ghost use Rattle.std.specs.Int.{cast_unsigned, w32};
 ghost use Rattle.cdf_puts.specs.declared.starts.Starts.{Starts};
 ghost use Rattle.cdf_area.specs.Calls.{Edits, Reads};
+ghost use Rattle.cdf_cuts.specs.Past.{CutPast, cut_off};
+ghost use Rattle.cdf_edits.proofs.Edits.VdrEdited.{StandsAmong};
 ghost use Rattle.cdf_edits.specs.Answers.{Answers};
 ghost use Rattle.cdf_edits.specs.Commands.Allowances.{shapes_of};
 ghost use Rattle.cdf_edits.specs.Edits.RemovesVariable.{greatest_at, r_max_writes};
 ghost use Rattle.cdf_edits.specs.Edits.Writes.{with_writes};
 ghost use Rattle.cdf_edits.specs.Follows.{Follows};
 ghost use Rattle.cdf_edits.specs.Index.Blocks.{cuts_before_put};
-ghost use Rattle.cdf_format.specs.Fields.{LiesIn, gdr_offset};
-ghost use Rattle.cdf_format.specs.Records.{gdr_r_max_rec, cdr_gdr_offset, cdr_place, past};
-ghost use Rattle.cdf_format.specs.Shape.{shape, vdrs};
+ghost use Rattle.cdf_format.specs.Fields.{LiesIn, gdr_offset, number};
+ghost use Rattle.cdf_format.specs.Index.{Nodes};
+ghost use Rattle.cdf_format.specs.Records.{gdr_r_max_rec, cdr_gdr_offset, cdr_place, past, vdr_vxr_head};
+ghost use Rattle.cdf_format.specs.Shape.{VariableShape, shape, variables, vdrs};
+ghost use Rattle.cdf_format.specs.Tiles.{In};
 ghost use Rattle.cdf_format.specs.VariableFields.{max_rec_at};
 ghost use Rattle.cdf_format.specs.VariableRules.{is_max_rec};
 ghost use Rattle.cdf_format.specs.WellFormed.{Good};
+ghost use Rattle.cdf_index.specs.Finding.{index_at};
 ghost use Rattle.cdf_model.specs.ByteOrder.{turned};
 ghost use Rattle.cdf_model.specs.DataSet.{extent};
 ghost use Rattle.cdf_model.specs.Limits.{image_limit, record_number_limit};
 ghost use Rattle.cdf_model.specs.Types.{size_of};
 ghost use Rattle.cdf_model.specs.Turns.{is_refused};
 ghost use Rattle.cdf_model.specs.declared.command.Command.{Command};
+ghost use Rattle.cdf_model.specs.declared.kinds.Kind.{Kind};
 ghost use Rattle.cdf_model.specs.declared.kinds.Kind.TheVariants.{R};
 ghost use Rattle.cdf_vars.specs.Known.{Knows};
 ghost use Rattle.cdf_var_records.specs.Descriptors.{IsVdr};
-ghost use Rattle.cdf_vars.specs.Puts.{CanPut, HasRoom, IsNewRecord, MaxRecRaises, MaxRecWrites, PutsSo};
+ghost use Rattle.cdf_vars.specs.Puts.{CanPut, HasRoom, HasTidyIndex, IsNewRecord, MaxRecRaises, MaxRecWrites, PutsSo};
 ghost use Rattle.cdf_puts.specs.Putting.{most_in_block};
-ghost use Rattle.cdf_puts.specs.Starts.{IsForgotten, IsKnownStart, KnowsStarts};
+ghost use Rattle.cdf_puts.specs.Starts.{InTopChain, IsForgotten, IsKnownStart, KnowsStarts};
+ghost use Rattle.cdf_puts.specs.TidyIndex.{IsTidy};
+ghost use Rattle.cdf_trim.specs.Trimming.{KeepsBlocks};
 ghost use Rattle.cdf_var_records.specs.Records.{IsForm, variable_at};
 ghost use Rattle.cdf_var_records.specs.Room.{ExpectsPut};
 ghost use Rattle.cdf_vars.specs.Removing.{VdrsLie};
@@ -40,6 +48,7 @@ use cdf_cuts::cut_past;
 use cdf_model::{DataType, Encoding, Kind, Outcome, Reason, Reply};
 use cdf_puts::{NewRecord, Starts, put_records};
 use cdf_records::set_vdr_max_rec;
+use cdf_trim::trim_past;
 use cdf_values::from_network;
 use cdf_var_records::{
     Form, has_put_room, read_block_count, read_extent, read_first_written, read_pad_record,
@@ -95,6 +104,60 @@ fn read_new_record<A: Area>(
         pad: as_stored(form.shape.t, form.encoding, pad),
         most,
     })
+}
+
+/// What is known of an index of which the end is cut.
+#[derive(Clone, Copy)]
+struct KnownEnd {
+    /// A node of its top chain, if one is known.
+    node: Option<u64>,
+    /// Whether it is known that no node of it is empty.
+    tidy: bool,
+}
+
+/// Cuts what the blocks of the variable whose descriptor stands at a place have from a record on. Says whether it is known that each block
+/// stays. After an error a part of this may have been done.
+fn cut_end<A: Area>(
+    alloc: Global,
+    area: &mut A,
+    vdr: u64,
+    end: KnownEnd,
+    first: u32,
+) -> Result<bool, AreaError>
+    requires good { Good (A.image area.old) }
+    requires vdr { In vdr (vdrs (variables (shape (A.image area.old)))) }
+    requires start { IsKnownStart (A.image area.old) vdr end.node }
+    requires tidy { end.tidy ≡ true → IsTidy (index_at (A.image area.old) (number (A.image area.old) vdr vdr_vxr_head)) }
+    requires short { length (A.image area.old) ≤ image_limit }
+    ensures past { OnOk result ((kind : Kind) (before : List VariableShape) (own : VariableShape) (after : List VariableShape) → StandsAmong (A.image area.old) kind before own after → own.vdr ≡ vdr → CutPast (A.image area.old) (A.image area.new) kind before own (cut_off own first) after first) }
+    ensures stays { IfOk result (λ stays. stays ≡ true → KeepsBlocks first (index_at (A.image area.old) (number (A.image area.old) vdr vdr_vxr_head))) }
+    ensures tidy { IfOk result (λ stays. stays ≡ true → end.tidy ≡ true) }
+    ensures area { Edits A.frame A.faults area.old area.new result }
+{
+    if end.tidy {
+        return trim_past(alloc, area, vdr, end.node, first);
+    }
+    cut_past(alloc, area, vdr, first)?;
+    Ok(false)
+}
+
+/// The node of the top chain that is known yet, if each block stayed.
+fn known_yet(known: Option<u64>, stays: bool) -> Option<u64>
+    ensures { (index : Nodes) → (stays ≡ true → InTopChain index known) → InTopChain index result }
+{
+    if stays { known } else { None }
+}
+
+/// Notes of the index of the variable whose descriptor stands at a place that no node of it is empty. What else was known of it is let go, unless
+/// each block stayed.
+fn note_cut(starts: &mut Starts, vdr: u64, stays: bool)
+    ensures { (b : List ℕ) (now : List ℕ) → Good b → KnowsStarts b starts.old → (stays ≡ true → KnowsStarts now starts.old) → ((s : Starts) → KnowsStarts b s → IsForgotten vdr s → KnowsStarts now s) → HasTidyIndex now vdr → KnowsStarts now starts.new }
+{
+    if stays {
+        return;
+    }
+    starts.forget_index(vdr);
+    starts.note_tidy(vdr);
 }
 
 impl Vars {
@@ -187,32 +250,38 @@ impl Vars {
     }
 
     /// Puts a record past MaxRec + 1 of a variable that has a rule for missing records, and for which there is room: what its blocks have past
-    /// MaxRec is cut first. After an error a part of this may have been done.
+    /// MaxRec is cut first. Says whether it is known that each block stays. After an error a part of this may have been done.
     #[tactic(auto, using(cdf_area::proofs::Calls::edit_done, cdf_area::proofs::Calls::edit_failed, cdf_area::proofs::Calls::edit_more, cdf_area::proofs::Calls::edits_by_read, cdf_area::proofs::Calls::keeps_by_read, cdf_area::proofs::Calls::read_once))]
     fn write_past<A: Area>(
         &self,
         area: &mut A,
         target: &Target,
+        end: KnownEnd,
         rec: u32,
         count: u32,
         bytes: Vec<u8>,
-    ) -> Result<(), AreaError>
+    ) -> Result<bool, AreaError>
         requires good { Good (A.image area.old) }
         requires known { Knows (A.image area.old) self.now }
         requires can { CanPut (A.image area.old) rec target.now bytes.items }
         requires count { count ≡ extent (max_rec_at (A.image area.old) target.now.form.place.vdr) }
         requires cuts { cuts_before_put (variable_at (A.image area.old) target.now.form.place.vdr) rec ≡ true }
+        requires start { IsKnownStart (A.image area.old) target.now.form.place.vdr end.node }
+        requires tidy { end.tidy ≡ true → IsTidy (index_at (A.image area.old) (number (A.image area.old) target.now.form.place.vdr vdr_vxr_head)) }
         requires room { HasRoom (A.image area.old) target.now rec (A.frame area.old).limit }
         requires limit { (A.frame area.old).limit ≤ image_limit }
         ensures follows { OnOk result ((c : Command) (name : List ℕ) → PutsSo (A.image area.old) c name rec target.now bytes.items → Follows (A.image area.old) c (A.image area.new)) }
         ensures known { OnOk result (Knows (A.image area.new) self.now) }
-        ensures starts { OnOk result ((starts : Starts) → KnowsStarts (A.image area.old) starts → IsForgotten target.now.form.place.vdr starts → KnowsStarts (A.image area.new) starts) }
+        ensures starts { IfOk result (λ stays. stays ≡ true → (starts : Starts) → KnowsStarts (A.image area.old) starts → ExpectsPut (A.image area.old) target.now.form.place.vdr rec starts → KnowsStarts (A.image area.new) starts) }
+        ensures forgotten { OnOk result ((starts : Starts) → KnowsStarts (A.image area.old) starts → IsForgotten target.now.form.place.vdr starts → KnowsStarts (A.image area.new) starts) }
+        ensures tidy { OnOk result (HasTidyIndex (A.image area.new) target.now.form.place.vdr) }
         ensures area { Edits A.frame A.faults area.old area.new result }
     {
         let put = read_new_record(self.alloc, area, target, rec, count, bytes)?;
-        cut_past(self.alloc, area, put.vdr, count)?;
-        put_records(self.alloc, area, &put, None, rec)?;
-        self.raise_max_rec(area, target, rec, count)
+        let stays = cut_end(self.alloc, area, put.vdr, end, count)?;
+        put_records(self.alloc, area, &put, known_yet(end.node, stays), rec)?;
+        self.raise_max_rec(area, target, rec, count)?;
+        Ok(stays)
     }
 
     /// Puts a record of a variable where there is room for it. After an error a part of this may have been done in the area.
@@ -250,8 +319,10 @@ impl Vars {
             });
         }
         if count < from {
-            starts.forget_index(vdr);
-            self.write_past(area, target, rec, count, bytes)?;
+            let tidy = starts.is_tidy(vdr);
+            let end = KnownEnd { node: known, tidy };
+            let stays = self.write_past(area, target, end, rec, count, bytes)?;
+            note_cut(starts, vdr, stays);
             return Ok(Outcome::Done {
                 reply: Reply::Plain,
             });
