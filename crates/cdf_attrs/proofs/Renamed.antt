@@ -147,7 +147,6 @@ module _ (b now : List ℕ) (from to : List ℕ) (good : Good b) (before : List 
         counted = counted sound splices refl (field adr_num (omega arith)) live image refl;
         own_rules = Hold-append (attribute_shape_rows now own) [] (attribute_rules_kept b now own (record { fields = λ f late fits. field f fits; entries = entry }) there.fit.0 named o) tt;
         differ = differ_by_names 2 now adr_name _ (subst (AreNew []) (sym names) new);
-        read = λ m i. absurd i;
         owned = owned_once_if b now s made marks [] sound image.owned_once e (λ m out. ap (λ (as_ : List AttributeShape). used_times (record s { attributes = as_ }) m) (sym was)) none_reborn;
       }
 
@@ -202,7 +201,7 @@ module _ (b now : List ℕ) (from to : List ℕ) (good : Good b) (before : List 
       record {
         reply = replies.Plain;
         goes = ap ByStep (goes ∙ ap (λ (d : DataSet). Go d replies.Plain) (sym content_now));
-        good = good_image_if sound splices first image rules end (let l = r.length_stays in omega arith);
+        good = good_image_if sound splices good image rules end (let l = r.length_stays in omega arith);
         longer = let l = r.length_stays in omega arith;
         within = let l = r.length_stays in omega arith;
         reads = λ e. absurd cc;

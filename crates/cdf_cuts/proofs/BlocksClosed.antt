@@ -10,7 +10,7 @@ use Rattle.cdf_format.proofs.BytesLemmas.{type_kept}
 use Rattle.cdf_index.proofs.Common.{behind_in, size_kept}
 use Rattle.cdf_index.proofs.LeafRules.{index_order}
 use Rattle.cdf_index.specs.Order.{InOrder}
-use Rattle.cdf_puts.proofs.PutRules.{loose}
+use Rattle.cdf_edits.proofs.Edits.StandsAmong.{loose}
 use Rattle.cdf_cuts.proofs.BlocksMoved.{leaf_stays, times_add}
 use Rattle.cdf_cuts.proofs.ClosedUp.{fallen_high, fallen_rises}
 use Rattle.cdf_cuts.proofs.CutFreed.{own_most}

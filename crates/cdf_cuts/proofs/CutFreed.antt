@@ -1,6 +1,6 @@
 -- What a cut leaves over is freed: a good image stays good, and has the index that is left.
 use Rattle.cdf_cuts.proofs.Common.{Each, Each-split, In, Leaf, List, NodeFits, Nodes, Span, [], ap, arith, cvvr_type, false, inl, inr, leaves_of, length, linkable-in, nodes_of, number, places_of, plan_of, refl, freed_of, room_at, size_at, subst, sym, tile_lies, times, true, type_at, vxr_n_used_entries, vxr_type, ℕ, ◌++◌, ◌+◌, ◌∙◌, ◌∷◌, ◌≡◌, ◌≢◌, ◌≤◌, ◌⊎◌}
-use Rattle.cdf_edits.proofs.Common.{ActsFollow, AllGiven, Avoids, Away, Edit, Good, HasVariable, Hold, IsIndex, Kind, LeafFits, Mark, OwnedOnce, Shape, VariableFits, VariableShape, avoided, count_of, cpr_type, eof, freeing_marks, gave, gdr_eof, gdr_type, good_by_its_shape, has_room, head_of, image_limit, index_rows, is_a, is_block, is_in, is_max_rec, keeps_file, leaf_rows, of_le, read_types, record_number_limit, shape, signed_limit, type_in, uir_type, unmarked, variable_types, variables, variables_chain, vdr_max_rec, vdr_vxr_head, vvr_type, word_kept, nodes_stand, gdr_uir_head, variable_records, IsChain, times-none, plain_size, vvr_records, Holds}
+use Rattle.cdf_edits.proofs.Common.{ActsFollow, AllGiven, Avoids, Away, Edit, Good, HasVariable, Hold, IsIndex, Kind, LeafFits, Mark, OwnedOnce, Shape, VariableFits, VariableShape, avoided, count_of, cpr_type, eof, freeing_marks, gave, gdr_eof, gdr_type, good_by_its_shape, has_room, head_of, image_limit, index_rows, is_a, is_block, is_in, is_max_rec, keeps_file, leaf_rows, of_le, record_number_limit, shape, signed_limit, type_in, uir_type, unmarked, variable_types, variables, variables_chain, vdr_max_rec, vdr_vxr_head, vvr_type, word_kept, nodes_stand, gdr_uir_head, variable_records, IsChain, times-none, plain_size, vvr_records, Holds}
 use Rattle.cdf_edits.proofs.Edits.Common.{Away-append, Avoids-append, Frees, IsSorted, StandsAmong, all_freed, freed_acts, freed_edit, freed_long, freed_records, freed_shape, gdr_field, gdr_place, gdr_still, keeps_all_attributes, keeps_kind, long, of_kind, other_kind, owned_once_if, sound, sound_now, through, tile, times-in, typed, used_times, variable_typed, with_shapes}
 use Rattle.cdf_edits.proofs.Edits.IndexEdited.{IndexEdit}
 use Rattle.cdf_edits.proofs.Edits.IndexEdited as of_index
@@ -202,4 +202,4 @@ module _ {b linked : List ℕ} {kind : Kind} {before : List VariableShape} {own 
           let g = (sound good at).has_shape.gdr_is in
           let end_b : eof b s.gdr ≡ length b = rw g at (good_eof b good) in
           let end : eof now s.gdr ≡ length now = gdr_still frees gdr_eof (omega arith) ∙ gdr_field (sound good at) x.edit clear.tests.file_clear gdr_eof clear.end_clear (omega arith) ∙ end_b ∙ sym (freed_long frees) in
-          of_index.good_now good at whole rows (ap is_max_rec max_kept ∙ (own_rules good at).0.1.1.1.1.1.1.1.0) (λ m i. ap (λ (k : ℕ). is_in k read_types) (all_freed frees m i)) owned_now end (omega (arith, freed_long frees, short))
+          of_index.good_now good at whole rows (ap is_max_rec max_kept ∙ (own_rules good at).0.1.1.1.1.1.1.1.0) owned_now end (omega (arith, freed_long frees, short))

@@ -28,7 +28,8 @@ use Rattle.cdf_edits.proofs.Frame.VdrAlike.{type_alike}
 use Rattle.cdf_edits.proofs.Frame.VdrStays.{stays_alike, variable_stays}
 use Rattle.cdf_index.proofs.Common.{behind_in, size_kept}
 use Rattle.cdf_puts.proofs.GoesThen.{later_size, own_there, stays, variable_there}
-use Rattle.cdf_puts.proofs.PutRules.{loose, no_cpr}
+use Rattle.cdf_puts.proofs.PutRules.{no_cpr}
+use Rattle.cdf_edits.proofs.Edits.StandsAmong.{loose}
 use Rattle.cdf_puts.proofs.Common.{same_Some, same_as_itself}
 use Rattle.cdf_index.proofs.OwnRecords as of_own
 use Rattle.cdf_cuts.proofs.GoesKeep.{each_own}

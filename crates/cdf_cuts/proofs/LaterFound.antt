@@ -10,7 +10,7 @@ use Rattle.cdf_index.proofs.Common.{behind_in, leaf_of}
 use Rattle.cdf_index.specs.Sight.{seen}
 use Rattle.cdf_index.specs.declared.nodes.Leaf.{Leaf as FoundLeaf}
 use Rattle.cdf_puts.proofs.PutBytes.{found_covering}
-use Rattle.cdf_puts.proofs.PutRules.{loose}
+use Rattle.cdf_edits.proofs.Edits.StandsAmong.{loose}
 use Rattle.cdf_cuts.specs.Moving.{IsLater}
 
 pub later_some : {last : ℕ} (leaves : List Leaf) (found : FoundLeaf) → leaf_of last leaves ≡ Some (seen found) → last < found.last → IsLater last leaves (Some found)

@@ -22,7 +22,8 @@ use Rattle.cdf_index.specs.Order.{InOrder}
 use Rattle.cdf_model.specs.Limits.{record_number_limit}
 use Rattle.cdf_puts.proofs.Common.{same_as_itself}
 use Rattle.cdf_puts.proofs.GoesThen.{own_there}
-use Rattle.cdf_puts.proofs.PutRules.{loose, no_cpr}
+use Rattle.cdf_puts.proofs.PutRules.{no_cpr}
+use Rattle.cdf_edits.proofs.Edits.StandsAmong.{loose}
 use Rattle.cdf_puts.specs.Going.{GoesOn, found_in}
 use Rattle.cdf_cuts.proofs.ChainKept.{top_left}
 use Rattle.cdf_cuts.proofs.CutDone.{each_from}

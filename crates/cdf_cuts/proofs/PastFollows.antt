@@ -18,7 +18,7 @@ use Rattle.cdf_edits.specs.Space.Acts.{taken}
 use Rattle.cdf_index.proofs.Common.{behind_in}
 use Rattle.cdf_index.proofs.LeafRules.{index_order}
 use Rattle.cdf_puts.proofs.GoesThen.{later_size}
-use Rattle.cdf_puts.proofs.PutRules.{loose}
+use Rattle.cdf_edits.proofs.Edits.StandsAmong.{loose}
 use Rattle.cdf_puts.specs.Going.{found_in}
 use Rattle.cdf_cuts.proofs.BlocksMoved.{piece_shifted}
 use Rattle.cdf_cuts.proofs.CutAll.{all_gone}

@@ -11,7 +11,7 @@ use Rattle.cdf_index.proofs.Common.{behind_in, leaf_of}
 use Rattle.cdf_index.specs.Sight.{seen}
 use Rattle.cdf_index.specs.declared.nodes.Leaf.{Leaf as FoundLeaf}
 use Rattle.cdf_puts.proofs.PutBytes.{found_covering}
-use Rattle.cdf_puts.proofs.PutRules.{loose}
+use Rattle.cdf_edits.proofs.Edits.StandsAmong.{loose}
 use Rattle.cdf_cuts.proofs.ClosingRoom.{room_is}
 use Rattle.cdf_cuts.proofs.CutCalls as by
 use Rattle.cdf_cuts.specs.ClosingRoom.{IsSmall, back_room, front_room}

@@ -72,7 +72,6 @@ pub use Rattle.cdf_format.specs.IndexOf.{IsIndex, IsNode, SayEntries, SaysEntry,
 unfoldable pub use Rattle.cdf_format.specs.IndexOf.{HasNodes, Names}
 pub use Rattle.cdf_format.specs.IndexRules.{cvvr_rows, end_of, has_room, holds_packed, index_rows, is_between, is_block, leaf_rows, unpacks_to, vvr_rows}
 unfoldable pub use Rattle.cdf_format.specs.IndexRules.{nodes_rows, used_rows}
-pub use Rattle.cdf_format.specs.NotRead.{read_types, unread_type}
 pub use Rattle.cdf_format.specs.Owners.{File, OneAttribute, OneVariable, OwnedOnce, Owner, Unused, attribute_records, owned, owned_by, owned_by_attributes, owned_by_variables, owned_records, times, unused_records, variable_records}
 pub use Rattle.cdf_format.specs.Phases.{first_phases}
 pub use Rattle.cdf_format.specs.RecordTypes.{adr_type, agr_edr_type, az_edr_type, cdr_type, cpr_type, cvvr_type, fixed_size, gdr_type, is_record_type, r_vdr_type, uir_type, vvr_type, vxr_type, z_vdr_type}

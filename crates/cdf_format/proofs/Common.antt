@@ -14,9 +14,8 @@ pub use Rattle.cdf_format.specs.FileRules.{gdr_rows, is_record}
 pub use Rattle.cdf_format.specs.Index.{Entries, Leaf, Nodes, block, lower, no_entry, no_node, node, nodes_of, room_at}
 pub use Rattle.cdf_format.specs.IndexRules.{end_of, index_rows, is_block, leaf_rows}
 pub use Rattle.cdf_format.specs.IndexWalk.{Met, lost, met, nodes_met}
-pub use Rattle.cdf_format.specs.NotRead.{unread_type}
 pub use Rattle.cdf_format.specs.Owners.{owned_records, unused_records}
-pub use Rattle.cdf_format.specs.Phases.{all_phases, image_phases, phase10}
+pub use Rattle.cdf_format.specs.Phases.{all_phases, format_phases, image_phases, phase10}
 pub use Rattle.cdf_format.specs.RecordTypes.{adr_type, agr_edr_type, az_edr_type, cdr_type, cpr_type, cvvr_type, fixed_size, gdr_type, r_vdr_type, uir_type, vvr_type, vxr_type, z_vdr_type}
 pub use Rattle.cdf_format.specs.Records.{Field, adr_agr_edr_head, adr_az_edr_head, adr_name, adr_ngr_entries, adr_nz_entries, gdr_adr_head, gdr_r_num_dims, gdr_r_vdr_head, gdr_uir_head, gdr_z_vdr_head, vdr_vxr_head}
 pub use Rattle.cdf_format.specs.Rules.{AllHold, Hold, IsBroken, Row, asked, row}
@@ -27,5 +26,5 @@ pub use Rattle.cdf_format.specs.Tiles.{AreTiles, Distinct, In, tiles, tiling}
 pub use Rattle.cdf_format.specs.VariableFields.{number_before}
 pub use Rattle.cdf_format.specs.VariableRules.{cpr_link, is_cpr, variable_rows}
 pub use Rattle.cdf_format.specs.Walks.{Walk, records_of, stuck, whole}
-pub use Rattle.cdf_format.specs.WellFormed.{Good, WellFormed}
+pub use Rattle.cdf_format.specs.WellFormed.{Good, KeepsFormat, WellFormed}
 pub use Rattle.md5.specs.Md5.{md5}

@@ -1,5 +1,5 @@
 -- The rules of phases 4 to 9 once more, by the shape of an image: the links are those of the shape, and each rule that follows no link holds of its records.
-use Rattle.cdf_format.proofs.Common.{flat_map, unread_type, Row, Hold, adr_name, adr_ngr_entries, adr_nz_entries, adrs_rows, r_vdrs_rows, z_vdrs_rows, differ_rows, same_name, adr_rows, entries_rows, variable_rows, index_rows, AttributeShape, Shape, adrs, vdrs, variables, HasShape}
+use Rattle.cdf_format.proofs.Common.{flat_map, Row, Hold, adr_name, adr_ngr_entries, adr_nz_entries, adrs_rows, r_vdrs_rows, z_vdrs_rows, differ_rows, same_name, adr_rows, entries_rows, variable_rows, index_rows, AttributeShape, Shape, adrs, vdrs, variables, HasShape}
 use Rattle.std.specs.Prelude.{ℕ, List, [], ◌++◌}
 use Rattle.cdf_format.specs.Owners.{OwnedOnce}
 
@@ -22,7 +22,6 @@ indexes_shape_rows b s = flat_map (λ v. index_rows b s.records v.vdr v.index) (
 
 pub record IsGoodByShape (b : List ℕ) (s : Shape) : Type 0 where
   pub has_shape : HasShape b s
-  pub read_types : Hold (flat_map (unread_type b) s.records)
   pub counting : Hold (counting_rows b s)
   pub attributes : Hold (attributes_shape_rows b s)
   pub of_variables : Hold (variables_shape_rows b s)

@@ -1,6 +1,6 @@
 -- The rules of phases 4 to 9 hold exactly where an image is good by its shape.
 use Rattle.std.proofs.Common.{◌≡◌, ℕ, ◌<◌, List, [], ◌∷◌, ◌++◌, length, map, true, eq-eqb, refl, sym, ap, subst, ◌∙◌, arith, inl}
-use Rattle.cdf_format.proofs.Common.{eqb-true, leb-true, le-leb, flat_map, type_at, gdr_offset, gdr_r_vdr_head, gdr_z_vdr_head, gdr_adr_head, gdr_uir_head, adr_agr_edr_head, adr_az_edr_head, adr_name, adr_ngr_entries, adr_nz_entries, vdr_vxr_head, cdr_type, gdr_type, adr_type, agr_edr_type, az_edr_type, r_vdr_type, z_vdr_type, uir_type, unread_type, Hold, AllHold, Walk, whole, stuck, records_of, In, AreTiles, tiling, tiles, is_a, Nodes, nodes_of, Met, met, lost, nodes_met, AttributeShape, VariableShape, Shape, adrs, vdrs, variables, Each, HasEntries, HasVariable, adr_chain, r_vdr_chain, z_vdr_chain, uir_chain, attribute_shape, variable_shape, owned_records, chain_rows, adrs_rows, r_vdrs_rows, z_vdrs_rows, differ_rows, same_name, adr_rows, entries_rows, index_rows, image_phases}
+use Rattle.cdf_format.proofs.Common.{eqb-true, leb-true, le-leb, flat_map, type_at, gdr_offset, gdr_r_vdr_head, gdr_z_vdr_head, gdr_adr_head, gdr_uir_head, adr_agr_edr_head, adr_az_edr_head, adr_name, adr_ngr_entries, adr_nz_entries, vdr_vxr_head, cdr_type, gdr_type, adr_type, agr_edr_type, az_edr_type, r_vdr_type, z_vdr_type, uir_type, Hold, AllHold, Walk, whole, stuck, records_of, In, AreTiles, tiling, tiles, is_a, Nodes, nodes_of, Met, met, lost, nodes_met, AttributeShape, VariableShape, Shape, adrs, vdrs, variables, Each, HasEntries, HasVariable, adr_chain, r_vdr_chain, z_vdr_chain, uir_chain, attribute_shape, variable_shape, owned_records, chain_rows, adrs_rows, r_vdrs_rows, z_vdrs_rows, differ_rows, same_name, adr_rows, entries_rows, index_rows, format_phases}
 use Rattle.cdf_format.specs.Walks.{met_by}
 use Rattle.cdf_format.specs.Shape.{gr_entry_chain, z_entry_chain, index_of, shape}
 use Rattle.cdf_format.specs.RecordRules.{tiling_rows, record_rows}
@@ -82,17 +82,15 @@ module _ (b : List ℕ) (tiled : AreTiles b 8 (length b) (tiles b)) where
         Hold-append (index_rows b (tiles b) m nodes) (flat_map (λ (v : VariableShape). index_rows b (tiles b) v.vdr v.index) (map (variable_shape b (tiles b)) ms)) i.rows rest.1,
       )
 
-pub good_by_rules : (b : List ℕ) → 8 < length b → type_at b 8 ≡ cdr_type → AllHold (image_phases b) → IsGoodByShape b (shape b)
+pub good_by_rules : (b : List ℕ) → 8 < length b → type_at b 8 ≡ cdr_type → AllHold (format_phases b) → IsGoodByShape b (shape b)
 unfolding shape
 good_by_rules b long first rules =
     let ts = tiles b in
-    let p4 = Hold-split (tiling_rows (tiling b) ++ flat_map (record_rows b) (met_by (tiling b))) (flat_map (unread_type b) (met_by (tiling b))) rules.0 in
-    let q4 = Hold-split (tiling_rows (tiling b)) (flat_map (record_rows b) (met_by (tiling b))) p4.0 in
+    let q4 = Hold-split (tiling_rows (tiling b)) (flat_map (record_rows b) (met_by (tiling b))) rules.0 in
     let all : tiling b ≡ whole ts = whole_tiling (tiling b) q4.0 in
     let met_is : met_by (tiling b) ≡ ts = ap met_by all in
     let tiled : AreTiles b 8 (length b) ts = tiling_sound b ts all in
     let each : Hold (flat_map (record_rows b) ts) = subst (λ (ms : List ℕ). Hold (flat_map (record_rows b) ms)) met_is q4.1 in
-    let read : Hold (flat_map (unread_type b) ts) = subst (λ (ms : List ℕ). Hold (flat_map (unread_type b) ms)) met_is p4.1 in
     let ar = chain_rows 2 (adr_chain b ts) (adrs_rows b) in
     let rr = chain_rows 5 (r_vdr_chain b ts) (r_vdrs_rows b) in
     let zr = chain_rows 8 (z_vdr_chain b ts) (z_vdrs_rows b) in
@@ -132,7 +130,6 @@ good_by_rules b long first rules =
         entry_chains = e6.0;
         have_variables = subst (Each (HasVariable b ts)) vs_are e8.0;
       };
-      read_types = read;
       counting = rw (adrs_are, r_are, z_are) (Hold-append (adrs_rows b as_ ++ r_vdrs_rows b rs) (z_vdrs_rows b zs) (Hold-append (adrs_rows b as_) (r_vdrs_rows b rs) a.rows r.rows) z.rows);
       attributes = rw adrs_are (Hold-append (flat_map (attribute_shape_rows b) (map (attribute_shape b ts) as_)) (differ_rows 2 (same_name b adr_name) [] as_) e6.1 p6.1);
       of_variables = rules.1.1.1.0;
@@ -192,15 +189,15 @@ phases_by_shape b s g =
 -- ---- the two ways to say it
 
 pub good_image : (b : List ℕ) (s : Shape) → IsGoodByShape b s → IsGoodImage b s
-good_image b s g = record { has_shape = g.has_shape; read_types = g.read_types; phases = phases_by_shape b s g }
+good_image b s g = record { has_shape = g.has_shape; phases = phases_by_shape b s g }
 
-pub rules_by_good : (b : List ℕ) (s : Shape) → IsGoodImage b s → AllHold (image_phases b)
+pub rules_by_good : (b : List ℕ) (s : Shape) → IsGoodImage b s → AllHold (format_phases b)
 rules_by_good b s g =
     let h = g.has_shape in
     let ts = s.records in
     let all : tiling b ≡ whole ts = tiling_complete b ts h.tiled in
     let each : Hold (flat_map (record_rows b) ts) = Hold-members (record_rows b) ts (λ m i. (h.typed m i, (le-leb _ _ (h.fixed m i), tt))) in
-    (rw all (Hold-append (flat_map (record_rows b) ts) (flat_map (unread_type b) ts) each g.read_types), subst (λ (x : Shape). AllHold (phases_of b x)) (sym (shape_is b s h)) g.phases)
+    (rw all each, subst (λ (x : Shape). AllHold (phases_of b x)) (sym (shape_is b s h)) g.phases)
 
 pub by_shape : (b : List ℕ) (s : Shape) → IsGoodImage b s → IsGoodByShape b s
 by_shape b s g =

@@ -1,6 +1,6 @@
 -- The image of a file that keeps all rules is good.
 use Rattle.std.proofs.Common.{◌≡◌, ℕ, ◌+◌, ◌-◌, ◌≤◌, ◌<◌, List, length, ◌∙◌, arith, inl, inr, ◌*◌, subst, sym, ap, take, Bool, [], ◌∷◌, ◌++◌, false, refl, true, append-nil, drop}
-use Rattle.cdf_format.proofs.Common.{length-take, length-append, get_or_append_left, nat_le, if◌then◌else◌, bytes_eq, type_at, gdr_offset, counted, number, r_num_dims, word, size_at, has_bit, has_checksum, trailer_length, image_of, trailer, sealed, phase10, WellFormed, shape, IsSound, gdr_r_num_dims, gdr_type, fixed_size, Hold, asked, gdr_rows, is_record, w32, cast_signed, Same, md5}
+use Rattle.cdf_format.proofs.Common.{length-take, length-append, get_or_append_left, nat_le, if◌then◌else◌, bytes_eq, type_at, gdr_offset, counted, number, r_num_dims, word, size_at, has_bit, has_checksum, trailer_length, image_of, trailer, sealed, phase10, KeepsFormat, shape, IsSound, gdr_r_num_dims, gdr_type, fixed_size, Hold, asked, gdr_rows, is_record, w32, cast_signed, Same, md5}
 use Rattle.std.proofs.lemmas.List.{take-append-drop, take_all}
 use Rattle.cdf_format.proofs.GoodByShape.{IsGoodByShape}
 use Rattle.cdf_format.proofs.Pieces.{word-piece}
@@ -18,7 +18,7 @@ use Rattle.cdf_format.proofs.RowLemmas.{Hold-asked}
 pub short_trailer : (f : List ℕ) → trailer_length f ≤ 16
 short_trailer f = elim (either (has_checksum f)) [ inl e ↦ rw e (omega arith) | inr e ↦ rw e (omega arith) ]
 
-pub good_image_of : (f : List ℕ) → WellFormed f → IsGoodByShape (image_of f) (shape (image_of f))
+pub good_image_of : (f : List ℕ) → KeepsFormat f → IsGoodByShape (image_of f) (shape (image_of f))
 good_image_of f rules =
     let room = both (nat_le 8 (gdr_offset f)) (nat_le (gdr_offset f + 84) (length f)) rules.1.1.1.0.0 in
     let long : 92 ≤ length f = let p = le_of 8 (gdr_offset f) room.0 in let q = le_of (gdr_offset f + 84) (length f) room.1 in omega arith in
@@ -36,7 +36,7 @@ word_of_front n f place k le =
     let e : 0 + place ≡ place = omega arith in
     word-piece f 0 place k n le ∙ ap (λ (x : ℕ). word f x k) e
 
-pub sound_image_of : (f : List ℕ) → WellFormed f → IsSound (image_of f) (shape (image_of f))
+pub sound_image_of : (f : List ℕ) → KeepsFormat f → IsSound (image_of f) (shape (image_of f))
 sound_image_of f rules =
     let good = good_image_of f rules in
     let h = good.has_shape in
@@ -102,7 +102,7 @@ image_of-sealed b long =
     take-front (x ∷ xs) ys = ap (λ (r : List ℕ). x ∷ r) (take-front xs ys)
 
 -- a file that keeps all rules is its image, sealed
-pub sealed_is_file : (f : List ℕ) → WellFormed f → sealed (image_of f) ≡ f
+pub sealed_is_file : (f : List ℕ) → KeepsFormat f → sealed (image_of f) ≡ f
 sealed_is_file f rules =
     let n = length f - trailer_length f in
     let room = both (nat_le 8 (gdr_offset f)) (nat_le (gdr_offset f + 84) (length f)) rules.1.1.1.0.0 in

@@ -11,6 +11,7 @@ pub mod GoodByShape
 pub mod GoodImageLemmas
 pub mod Tests
 pub mod FileRecords
+pub mod FormatKept
 pub mod HeadOf
 pub mod Owning
 pub mod BytesLemmas

@@ -1,6 +1,6 @@
 -- A sealed image keeps all rules exactly where it does so as a file, as far as its two first records, and is good by its shape.
 use Rattle.std.proofs.Common.{◌≡◌, ℕ, ◌≤◌, List, [], ◌∷◌, length, drop, Bool, true, refl, eqb, eq-eqb, sym, ap, subst, ◌∙◌, arith, inl, inr}
-use Rattle.cdf_format.proofs.Common.{and_from, bytes_eq, if◌then◌else◌, md5, row, Hold, asked, AllHold, has_checksum, trailer, image_of, sealed, phase10, image_phases, WellFormed, Shape, shape, size_at, cdr_type, fixed_size}
+use Rattle.cdf_format.proofs.Common.{and_from, bytes_eq, if◌then◌else◌, md5, row, Hold, asked, AllHold, has_checksum, trailer, image_of, sealed, phase10, format_phases, KeepsFormat, Shape, shape, size_at, cdr_type, fixed_size}
 use Rattle.std.proofs.Math.Seq.{drop-append_seam}
 use Rattle.cdf_format.specs.Phases.{first_phases}
 use Rattle.cdf_format.proofs.GoodByShape.{IsGoodByShape}
@@ -36,14 +36,14 @@ trailer_rule b long =
       | inr e ↦ subst (λ (p : Bool). Hold (asked p (row 1 (length (image_of (sealed b))) (bytes_eq (drop (length (image_of (sealed b))) (sealed b)) (md5 (image_of (sealed b)))) ∷ []))) (sym (flags ∙ e)) tt
     ]
 
-pub sealed_keeps : (b : List ℕ) (s : Shape) → AllHold (first_phases (sealed b)) → IsGoodByShape b s → WellFormed (sealed b)
+pub sealed_keeps : (b : List ℕ) (s : Shape) → AllHold (first_phases (sealed b)) → IsGoodByShape b s → KeepsFormat (sealed b)
 sealed_keeps b s first g =
     let long = good_long b s g in
-    let image : AllHold (image_phases (image_of (sealed b))) = subst (λ (x : List ℕ). AllHold (image_phases x)) (sym (image_of-sealed b long)) (rules_by_good b s (good_image b s g)) in
+    let image : AllHold (format_phases (image_of (sealed b))) = subst (λ (x : List ℕ). AllHold (format_phases x)) (sym (image_of-sealed b long)) (rules_by_good b s (good_image b s g)) in
     let last = trailer_rule b long in
     (first.0, (first.1.0, (first.1.1.0, (first.1.1.1.0, (image.0, (image.1.0, (image.1.1.0, (image.1.1.1.0, (image.1.1.1.1.0, (image.1.1.1.1.1.0, (last, tt)))))))))))
 
-pub sealed_kept : (b : List ℕ) → 44 ≤ length b → WellFormed (sealed b) → AllHold (first_phases (sealed b)) × IsGoodByShape b (shape b)
+pub sealed_kept : (b : List ℕ) → 44 ≤ length b → KeepsFormat (sealed b) → AllHold (first_phases (sealed b)) × IsGoodByShape b (shape b)
 sealed_kept b long rules = (
   (rules.0, (rules.1.0, (rules.1.1.0, (rules.1.1.1.0, tt)))),
   subst (λ (x : List ℕ). IsGoodByShape x (shape x)) (image_of-sealed b long) (good_image_of (sealed b) rules),

@@ -1,13 +1,17 @@
--- What is not read so far (own). Each of these rules, numbered 99, goes once what it refuses is read, and a type joins `read_types` once its records are read.
-use Rattle.std.specs.Prelude.{ℕ, List, [], ◌∷◌}
-use Rattle.cdf_format.specs.Fields.{type_at}
-use Rattle.cdf_format.specs.RecordTypes.{cdr_type, gdr_type, r_vdr_type, vxr_type, vvr_type, z_vdr_type, adr_type, agr_edr_type, az_edr_type, uir_type}
-use Rattle.cdf_format.specs.Chains.{is_in}
-use Rattle.cdf_format.specs.Rules.{Row, row}
+-- What is not read so far (own): packed variables. The rule goes once each command does with a packed variable what it does with others.
+use Rattle.std.specs.Prelude.{ℕ, List, [], ◌∷◌, not}
+use Rattle.std.specs.List.{flat_map}
+use Rattle.cdf_format.specs.Rules.{Hold, Row, row}
+use Rattle.cdf_format.specs.Shape.{is_compressed, shape, variables, vdrs}
 
--- 4.99: records of other types
-abbrev pub read_types : List ℕ
-read_types = cdr_type ∷ gdr_type ∷ adr_type ∷ agr_edr_type ∷ az_edr_type ∷ r_vdr_type ∷ vxr_type ∷ vvr_type ∷ z_vdr_type ∷ uir_type ∷ []
+-- 9.99: a packed variable
+abbrev pub unread_variable : List ℕ → ℕ → List Row
+unread_variable b vdr = row 99 vdr (not (is_compressed b vdr)) ∷ []
 
-abbrev pub unread_type : List ℕ → ℕ → List Row
-unread_type b place = row 99 place (is_in (type_at b place) read_types) ∷ []
+-- these variables
+abbrev pub unread_variables : List ℕ → List ℕ → List Row
+unread_variables b vdrs = flat_map (unread_variable b) vdrs
+
+-- all of an image is read so far
+abbrev pub IsRead : List ℕ → Type 0
+IsRead b = Hold (unread_variables b (vdrs (variables (shape b))))

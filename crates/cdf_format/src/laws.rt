@@ -12,9 +12,10 @@ ghost use Rattle.cdf_format.specs.GoodImage.{IsGoodImage};
 ghost use Rattle.cdf_format.specs.Index.{Nodes, nodes_of};
 ghost use Rattle.cdf_format.specs.IndexOf.{IsIndex};
 ghost use Rattle.cdf_format.specs.IndexWalk.{met, index_walk};
+ghost use Rattle.cdf_format.specs.NotRead.{IsRead};
 ghost use Rattle.cdf_format.specs.NewFile.{new_image, new_size};
 ghost use Rattle.cdf_format.specs.Owners.{space_of, times, owned_records};
-ghost use Rattle.cdf_format.specs.Phases.{first_phases, image_phases};
+ghost use Rattle.cdf_format.specs.Phases.{first_phases, format_phases};
 ghost use Rattle.cdf_format.specs.Records.{Field};
 ghost use Rattle.cdf_format.specs.RecordTypes.{cdr_type};
 ghost use Rattle.cdf_format.specs.Rules.{AllHold};
@@ -22,7 +23,7 @@ ghost use Rattle.cdf_format.specs.Sealed.{image_of, sealed};
 ghost use Rattle.cdf_format.specs.Shape.{Shape, HasShape, VariableShape, shape};
 ghost use Rattle.cdf_format.specs.Tiles.{In, AreTiles, tiling};
 ghost use Rattle.cdf_format.specs.Walks.{whole};
-ghost use Rattle.cdf_format.specs.WellFormed.{WellFormed, Breaks, Good};
+ghost use Rattle.cdf_format.specs.WellFormed.{WellFormed, Breaks, Good, KeepsFormat};
 
 /// A field that is read from a piece of the bytes is the field of the bytes.
 pub fn word_of_piece()
@@ -34,9 +35,16 @@ pub fn broken_is_not_well_formed()
     ensures { (f : List ℕ) (phase rule place : ℕ) → WellFormed f → Breaks f phase rule place → ⊥ }
 {}
 
-/// A well-formed file is its image, sealed.
+/// A file is well formed exactly where it keeps the rules of the format and all of its image is read so far.
+pub fn well_formed_is_read()
+    ensures keeps { (f : List ℕ) → WellFormed f → KeepsFormat f }
+    ensures read { (f : List ℕ) → WellFormed f → IsRead (image_of f) }
+    ensures back { (f : List ℕ) → KeepsFormat f → IsRead (image_of f) → WellFormed f }
+{}
+
+/// A file that keeps the rules of the format is its image, sealed.
 pub fn image_is_sealed()
-    ensures { (f : List ℕ) → WellFormed f → sealed (image_of f) ≡ f }
+    ensures { (f : List ℕ) → KeepsFormat f → sealed (image_of f) ≡ f }
 {}
 
 /// Two different records of an image share no byte.
@@ -76,14 +84,14 @@ pub fn content_unique()
 
 /// The rules of phases 4 to 9 hold exactly where an image is good by its shape.
 pub fn good_by_shape()
-    ensures from_rules { (b : List ℕ) → 8 < length b → type_at b 8 ≡ cdr_type → AllHold (image_phases b) → IsGoodImage b (shape b) }
-    ensures to_rules { (b : List ℕ) (s : Shape) → IsGoodImage b s → AllHold (image_phases b) }
+    ensures from_rules { (b : List ℕ) → 8 < length b → type_at b 8 ≡ cdr_type → AllHold (format_phases b) → IsGoodImage b (shape b) }
+    ensures to_rules { (b : List ℕ) (s : Shape) → IsGoodImage b s → AllHold (format_phases b) }
 {}
 
-/// In the image of a well-formed file, each link that is followed leads to a record of the image; so do the entries of indexes and the links to parameters.
+/// In the image of a file that keeps the rules of the format, each link that is followed leads to a record of the image; so do the entries of indexes and the links to parameters.
 pub fn tile_of()
-    ensures shaped { (f : List ℕ) → WellFormed f → HasShape (image_of f) (shape (image_of f)) }
-    ensures owned { (f : List ℕ) (place : ℕ) → WellFormed f → In place (owned_records (image_of f) (shape (image_of f))) → In place (shape (image_of f)).records }
+    ensures shaped { (f : List ℕ) → KeepsFormat f → HasShape (image_of f) (shape (image_of f)) }
+    ensures owned { (f : List ℕ) (place : ℕ) → KeepsFormat f → In place (owned_records (image_of f) (shape (image_of f))) → In place (shape (image_of f)).records }
 {}
 
 /// In a good image each record, and nothing else, stands exactly once among the owned ones.
@@ -91,9 +99,9 @@ pub fn owned_once()
     ensures { (b : List ℕ) (s : Shape) (place : ℕ) → IsGoodImage b s → times place (owned_records b s) ≡ times place s.records }
 {}
 
-/// The image of a well-formed file has records that are long enough for what is read of them, and none is owned twice.
+/// The image of a file that keeps the rules of the format has records that are long enough for what is read of them, and none is owned twice.
 pub fn kept_rules_are_sound()
-    ensures { (f : List ℕ) → WellFormed f → IsSound (image_of f) (shape (image_of f)) }
+    ensures { (f : List ℕ) → KeepsFormat f → IsSound (image_of f) (shape (image_of f)) }
 {}
 
 /// The image of a sealed image is itself.
@@ -101,10 +109,10 @@ pub fn image_of_sealed()
     ensures { (b : List ℕ) → 44 ≤ length b → image_of (sealed b) ≡ b }
 {}
 
-/// A sealed image is well formed exactly where it keeps those on its two first records, and is good by its shape.
+/// A sealed image keeps the rules of the format exactly where it keeps those on its two first records, and is good by its shape.
 pub fn sealed_keeps_all_rules()
-    ensures from_shape { (b : List ℕ) (s : Shape) → AllHold (first_phases (sealed b)) → IsGoodImage b s → WellFormed (sealed b) }
-    ensures to_shape { (b : List ℕ) → 44 ≤ length b → WellFormed (sealed b) → AllHold (first_phases (sealed b)) × IsGoodImage b (shape b) }
+    ensures from_shape { (b : List ℕ) (s : Shape) → AllHold (first_phases (sealed b)) → IsGoodImage b s → KeepsFormat (sealed b) }
+    ensures to_shape { (b : List ℕ) → 44 ≤ length b → KeepsFormat (sealed b) → AllHold (first_phases (sealed b)) × IsGoodImage b (shape b) }
 {}
 
 /// What the records of an image take, and the 8 bytes before them, add up to the image.

@@ -3,7 +3,7 @@ use Rattle.cdf_puts.proofs.Common.{Act, Bool, Each, GoesOn, HoldsPads, Kind, Lea
 use Rattle.cdf_puts.proofs.CoveringRanges.{some_or_none}
 use Rattle.cdf_puts.proofs.DoneBytes as putting
 use Rattle.cdf_puts.proofs.PutBytes.{behind_all, found_covering}
-use Rattle.cdf_puts.proofs.PutRules.{loose}
+use Rattle.cdf_edits.proofs.Edits.StandsAmong.{loose}
 use Rattle.cdf_edits.specs.Commands.Room.{uncovered}
 use Rattle.cdf_edits.specs.Index.Written.{ReservedIs}
 use Rattle.std.specs.Prelude.{not, ◌==◌}

@@ -18,7 +18,7 @@ use Rattle.cdf_leaves.proofs.Own.{own_node}
 use Rattle.cdf_puts.proofs.DoneBytes.{last_writes, size_last}
 use Rattle.cdf_puts.proofs.DoneBytes.{put as put_done}
 use Rattle.cdf_puts.proofs.IndexWritten.{nodes_still, tail_still}
-use Rattle.cdf_puts.proofs.PutRules.{loose}
+use Rattle.cdf_edits.proofs.Edits.StandsAmong.{loose}
 use Rattle.cdf_puts.specs.Going.{GoesOn}
 use Rattle.cdf_puts.specs.SoFar.{NodesSoFar, taken_places}
 use Rattle.cdf_gaps.proofs.CutPutFreed.{freed_then, used_size}

@@ -5,7 +5,7 @@ unfoldable use Rattle.cdf_edits.specs.Index.Blocks.{cover}
 use Rattle.cdf_edits.specs.Commands.Room.{packed_room}
 use Rattle.cdf_index.proofs.LeafRules.{index_order}
 use Rattle.cdf_index.specs.Order.{InOrder}
-use Rattle.cdf_puts.proofs.PutRules.{loose}
+use Rattle.cdf_edits.proofs.Edits.StandsAmong.{loose}
 use Rattle.cdf_cuts.proofs.PastContent.{variable_past}
 use Rattle.cdf_cuts.proofs.PastKept.{past_ranges}
 use Rattle.cdf_cuts.specs.Past.{CutPast, before_first, cut_off}

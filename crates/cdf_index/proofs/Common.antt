@@ -1,7 +1,7 @@
 -- The names that most proofs of this crate cite, passed on from one place. Declares nothing.
 pub use Rattle.cdf_area.proofs.Calls.{edit_more, edits_by_read, read_more, read_once, read_without_memory}
 pub use Rattle.cdf_area.specs.Calls.{Keeps, Stays}
-pub use Rattle.cdf_edits.proofs.Common.{Act, AllKeep, Allowance, Allowances, Among, Anything, AreTiles, Avoids, Away, BlockFits, Changed, ChangedWithin, Distinct, Distinct-back, Distinct-front, Each, Each-append, Each-split, Field, FileStays, Fills, Found, Good, HasShape, HasVariable, Hold, Hold-append, Hold-member, Hold-split, In, In-append, In-append_left, In-append_right, IsChain, IsIndex, IsNode, IsSound, Kind, LeafFits, Leaves, LiesIn, Mark, NodeFits, OneVariable, Only, OutsideFields, OwnedOnce, Placed, R, Range, Row, Same, SayEntries, SaysEntry, SaysNode, Shape, Takes, Touch, VariableFits, VariableShape, Within, Z, adr_type, all_unmarked, attributes_in, avoided, block_in, cases_lt, cast_signed, cdr_type, content, count_of, counted, cpr_type, cvvr_type, either, end_of, eof, extent, filter, find, fixed_size, flat_map, fold, gdr_r_vdr_head, gdr_type, gdr_uir_head, gdr_z_vdr_head, good_by_its_shape, has_room, head_of, if◌then◌else◌, image_limit, index_rows, is_a, is_a-in, is_a-type, is_between, is_block, is_in, is_linkable, is_little, is_max_rec, is_record_type, is_taken, item_at, keeps_file, leaf_rows, length-append, length-le_from_distinct, length-map, length_tiles, linkable-in, linkable-type, map-append, mark, max_rec_at, min, nat_le, nat_lt, nat_tests, ne_eqb, next_of, nodes_stand, number, number_before, of_le, option_map, owned, owned_records, plain_bytes, plain_size, r_vdr_type, range_at, read_types, record_bytes, record_number_limit, records_in, shape, shape_is, shapes_of, signed_limit, size_at, slice_get, some_place, tile_lies, tiles, tiles_are, times, times-none, times-once, touch, turned, type_at, type_in, type_of_variable, uir_next_uir, uir_prev_uir, uir_type, unmarked, unused_records, variable_records, variable_types, variables, variables_chain, vdr_max_rec, vdr_type, vdr_vxr_head, vdr_vxr_tail, vdrs, vvr_type, vxr_type, w32, with_field, with_sign, with_space, within, word, word_kept, z_vdr_type, ◌==◌}
+pub use Rattle.cdf_edits.proofs.Common.{Act, AllKeep, Allowance, Allowances, Among, Anything, AreTiles, Avoids, Away, BlockFits, Changed, ChangedWithin, Distinct, Distinct-back, Distinct-front, Each, Each-append, Each-split, Field, FileStays, Fills, Found, Good, HasShape, HasVariable, Hold, Hold-append, Hold-member, Hold-split, In, In-append, In-append_left, In-append_right, IsChain, IsIndex, IsNode, IsSound, Kind, LeafFits, Leaves, LiesIn, Mark, NodeFits, OneVariable, Only, OutsideFields, OwnedOnce, Placed, R, Range, Row, Same, SayEntries, SaysEntry, SaysNode, Shape, Takes, Touch, VariableFits, VariableShape, Within, Z, adr_type, all_unmarked, attributes_in, avoided, block_in, cases_lt, cast_signed, cdr_type, content, count_of, counted, cpr_type, cvvr_type, either, end_of, eof, extent, filter, find, fixed_size, flat_map, fold, gdr_r_vdr_head, gdr_type, gdr_uir_head, gdr_z_vdr_head, good_by_its_shape, has_room, head_of, if◌then◌else◌, image_limit, index_rows, is_a, is_a-in, is_a-type, is_between, is_block, is_in, is_linkable, is_little, is_max_rec, is_record_type, is_taken, item_at, keeps_file, leaf_rows, length-append, length-le_from_distinct, length-map, length_tiles, linkable-in, linkable-type, map-append, mark, max_rec_at, min, nat_le, nat_lt, nat_tests, ne_eqb, next_of, nodes_stand, number, number_before, of_le, option_map, owned, owned_records, plain_bytes, plain_size, r_vdr_type, range_at, record_bytes, record_number_limit, records_in, shape, shape_is, shapes_of, signed_limit, size_at, slice_get, some_place, tile_lies, tiles, tiles_are, times, times-none, times-once, touch, turned, type_at, type_in, type_of_variable, uir_next_uir, uir_prev_uir, uir_type, unmarked, unused_records, variable_records, variable_types, variables, variables_chain, vdr_max_rec, vdr_type, vdr_vxr_head, vdr_vxr_tail, vdrs, vvr_type, vxr_type, w32, with_field, with_sign, with_space, within, word, word_kept, z_vdr_type, ◌==◌}
 unfoldable pub use Rattle.cdf_edits.proofs.Common.{HasNodes, Names, entry_leaves, leaves_of, lower_nodes, nodes_of, nodes_rows, used_rows}
 pub use Rattle.cdf_edits.proofs.Edits.Common.{Each-map, FileSame, IsRuled, Kept, all_variable_records, apart, attributes_kept, cdr_kept, fits, gdr_in, gdr_typed, got-middle, has, in-times, index_records, keep_all, keep_file, keep_kinds, keep_places, keep_unused, keep_variable_parts, keeps_all_attributes, keeps_fields, keeps_kind, kept, kept_away, kind_ours, kind_type, other_kind, spliced_times, stood, times-append, times-in, typed, variable_typed, variables_in, with_shapes}
 pub use Rattle.cdf_edits.proofs.Edits.InRecords.{places_of}

@@ -1,5 +1,5 @@
 -- One variable has another index by now, and an edit met its VXRhead and VXRtail, nodes and unused records alone: what follows of the image, and what each record keeps.
-use Rattle.cdf_index.proofs.Common.{fits, has, typed, Act, AllKeep, Allowances, Among, Anything, Avoids, Avoids-append, Away, Away-append, Distinct, Each, Each-in, Field, Good, Hold, In, In-append, IsChain, Kept, Kind, List, ◌<◌, Mark, NodeFits, Nodes, OneVariable, Only, OutsideFields, OwnedOnce, Same, Shape, StandsAmong, VariableShape, Within, Within-append, [], after_ours, all_unmarked, all_unmarked-away, all_variable_records, ap, apart, arith, attributes_kept, avoided, away-avoids, away-within, behind_in, cdr_kept, cdr_type, count_of, cpr_type, cvvr_type, eof, false, fixed_size, flat_map, gdr_in, gdr_type, gdr_typed, gdr_uir_head, good_by_its_shape, has_room, head_of, image_limit, index_rows, inl, inr, is_a, is_a-in, is_a-type, is_in, is_max_rec, is_record_type, is_taken, keep_all, keep_file, keep_kinds, keep_places, keep_unused, keep_variable_parts, keeps_all_attributes, keeps_fields, keeps_file, keeps_kind, kept, kept_away, kind_ours, leaves_of, length, linkable-in, linkable-type, long, mark, nodes_of, nodes_stand, number, of_le, other_kind, ours, own_rules, owned, places_of, read_types, refl, room_at, shape, shapes_of, signed_limit, size_at, sound, spliced_times, stood, subst, suc, sym, the_one, through, tile, tile_lies, times, times-append, times-none, times-once, true, type_at, type_in, uir_next_uir, uir_prev_uir, uir_type, unmarked, unmarked-away, variable_records, variable_typed, variable_types, variables_chain, variables_in, vdr_max_rec, vdr_vxr_head, vdr_vxr_tail, vvr_type, vxr_n_used_entries, vxr_type, with_shapes, within, word_kept, ℕ, ◌*◌, ◌++◌, ◌+◌, ◌∙◌, ◌∷◌, ◌≡◌, ◌≢◌, ◌≤◌, ◌⊎◌}
+use Rattle.cdf_index.proofs.Common.{fits, has, typed, Act, AllKeep, Allowances, Among, Anything, Avoids, Avoids-append, Away, Away-append, Distinct, Each, Each-in, Field, Good, Hold, In, In-append, IsChain, Kept, Kind, List, ◌<◌, Mark, NodeFits, Nodes, OneVariable, Only, OutsideFields, OwnedOnce, Same, Shape, StandsAmong, VariableShape, Within, Within-append, [], after_ours, all_unmarked, all_unmarked-away, all_variable_records, ap, apart, arith, attributes_kept, avoided, away-avoids, away-within, behind_in, cdr_kept, cdr_type, count_of, cpr_type, cvvr_type, eof, false, fixed_size, flat_map, gdr_in, gdr_type, gdr_typed, gdr_uir_head, good_by_its_shape, has_room, head_of, image_limit, index_rows, inl, inr, is_a, is_a-in, is_a-type, is_in, is_max_rec, is_record_type, is_taken, keep_all, keep_file, keep_kinds, keep_places, keep_unused, keep_variable_parts, keeps_all_attributes, keeps_fields, keeps_file, keeps_kind, kept, kept_away, kind_ours, leaves_of, length, linkable-in, linkable-type, long, mark, nodes_of, nodes_stand, number, of_le, other_kind, ours, own_rules, owned, places_of, refl, room_at, shape, shapes_of, signed_limit, size_at, sound, spliced_times, stood, subst, suc, sym, the_one, through, tile, tile_lies, times, times-append, times-none, times-once, true, type_at, type_in, uir_next_uir, uir_prev_uir, uir_type, unmarked, unmarked-away, variable_records, variable_typed, variable_types, variables_chain, variables_in, vdr_max_rec, vdr_vxr_head, vdr_vxr_tail, vvr_type, vxr_n_used_entries, vxr_type, with_shapes, within, word_kept, ℕ, ◌*◌, ◌++◌, ◌+◌, ◌∙◌, ◌∷◌, ◌≡◌, ◌≢◌, ◌≤◌, ◌⊎◌}
 use Rattle.cdf_edits.proofs.Common.{IsIndex, Keeps, Stays, Edit}
 use Rattle.cdf_edits.proofs.Commands.KeptRecords.{Stood, keep_attributes, keep_variables, keeps_stood}
 use Rattle.cdf_edits.proofs.Edits.IndexEdited as of_index
@@ -208,5 +208,5 @@ module _ {b now : List ℕ} {kind : Kind} {before : List VariableShape} {own : V
     owned_now : OwnedOnce now after_it
     owned_now = owned_once_if b now s after_it (space ++ entries) reborn (sound good at) (good_by_its_shape b good).owned_once x.edit (λ m out. omega (arith, used_after m, times-none m taken (λ i. out (y.reborn_are m (inl i))), times-none m freed (λ i. out (y.reborn_are m (inr i))))) (λ m i. sorted m (y.are_reborn m i))
 
-    pub good_now : Hold (index_rows now new v index) → ((m : ℕ) → In m reborn → is_in (type_at now m) read_types ≡ true) → eof now s.gdr ≡ length now → length now ≤ image_limit → Good now
-    good_now rows read end short = of_index.good_now good at index_edit rows (ap is_max_rec max_rec_kept ∙ (own_rules good at).0.1.1.1.1.1.1.1.0) read owned_now end short
+    pub good_now : Hold (index_rows now new v index) → eof now s.gdr ≡ length now → length now ≤ image_limit → Good now
+    good_now rows end short = of_index.good_now good at index_edit rows (ap is_max_rec max_rec_kept ∙ (own_rules good at).0.1.1.1.1.1.1.1.0) owned_now end short

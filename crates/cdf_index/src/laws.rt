@@ -14,7 +14,7 @@ ghost use Rattle.cdf_format.specs.Chains.{is_linkable};
 ghost use Rattle.cdf_format.specs.IndexOf.{HasNodes};
 ghost use Rattle.cdf_format.specs.Records.{vdr_vxr_head};
 ghost use Rattle.cdf_format.specs.RecordTypes.{vxr_type};
-ghost use Rattle.cdf_format.specs.Shape.{VariableShape, Shape, variables};
+ghost use Rattle.cdf_format.specs.Shape.{VariableShape, Shape, is_compressed, variables};
 ghost use Rattle.cdf_format.specs.Sound.{IsSound, NodeFits};
 ghost use Rattle.cdf_format.specs.Tiles.{In, Distinct};
 ghost use Rattle.cdf_format.specs.VariableFields.{record_bytes};
@@ -44,10 +44,10 @@ pub fn stored_record()
     ensures { (b : List ℕ) (s : Shape) (before : List VariableShape) (v : VariableShape) (after : List VariableShape) → IsGoodImage b s → IsSound b s → variables s ≡ before ++ v ∷ after → (rec : ℕ) → item_at rec (variable_of b v).recs ≡ stored_in b v.vdr rec (leaf_of rec (leaves_of v.index)) }
 {}
 
-/// The block that has a record of a variable of a good image is not packed.
+/// The block that has a record of a variable of a good image is not packed, where the variable is not compressed.
 #[tactic(auto, using(crate::proofs::PlainBlocks::plain_block))]
 pub fn plain_block()
-    ensures { (b : List ℕ) (s : Shape) (before : List VariableShape) (v : VariableShape) (after : List VariableShape) → IsGoodImage b s → IsSound b s → variables s ≡ before ++ v ∷ after → (rec : ℕ) (leaf : TreeLeaf) → leaf_of rec (leaves_of v.index) ≡ Some leaf → leaf.packed ≡ false }
+    ensures { (b : List ℕ) (s : Shape) (before : List VariableShape) (v : VariableShape) (after : List VariableShape) → IsGoodImage b s → IsSound b s → variables s ≡ before ++ v ∷ after → is_compressed b v.vdr ≡ false → (rec : ℕ) (leaf : TreeLeaf) → leaf_of rec (leaves_of v.index) ≡ Some leaf → leaf.packed ≡ false }
 {}
 
 /// An index with one leaf more has the leaves that it had, and this one before the first that begins past it.

@@ -2,7 +2,7 @@
 pub use Rattle.cdf_area.proofs.Calls.{edit_without_memory}
 unfoldable pub use Rattle.cdf_base.specs.Bytes.{put}
 pub use Rattle.cdf_edits.proofs.Commands.KeptRecords.{Stood, keep_variables}
-pub use Rattle.cdf_edits.proofs.Common.{Act, ActsFollow, AllKeep, Allowance, Allowances, AreActs, Away, Bool, Changed, Covered, DataSet, Each, Each-append, Each-split, Edit, Entries, Field, Found, Gave, Good, HasShape, Hold, Hold-split, In, In-append, In-append_left, In-append_right, IsBody, IsChain, IsSound, Keeps, Kind, Leaf, List, Mark, Marked, Misses, NoRule, NodeFits, Nodes, None, OneVariable, Only, Option, Outside, OutsideFields, R, Range, Same, Same-part, SaysEntry, Shape, Some, SpaceLeft, Stays, Took, Touch, Unused, Variable, VariableShape, Z, [], after_act, ap, append-nil, append_assoc, arith, asked, avoided, block, both, byte, bytes_eq, cases_eq, cases_lt, cast_signed, cdr_type, content, content_is, covers, cpr_link, cpr_rows, cuts_before_put, drop, drop-drop, drop-take, either, end_of, entry_count, eof, eq_of, eqb-true, extent, false, false-is_in, field, filled, filter, find, fixed_size, flat_map, fold, fold-append, gdr_eof, gdr_r_max_rec, gdr_type, gdr_uir_head, get_or-drop, get_or-take, good_by_its_shape, good_is_sound, greater, if◌then◌else◌, image_limit, index_rows, index_types, inl, inr, integer4, is_a-in, is_block, is_compressed, is_in, is_in-false, is_in-true, is_little, is_max_rec, is_record_type, is_sparse, is_taken, keeps_file, last_number, last_or, le-leb, le-ltb, leaf_rows, leaves_of, length, length-append, length-drop, length-map, length-put, length-take, linkable-in, linkable-type, list_any, lower, lt-ltb, ltb, map, map-append, max_rec_at, max_rec_touches, min, nat_le, nat_lt, nat_tests, ne_eqb, negsuc, no_entry, no_node, node, number, number_before, of_le, option_map, or_parts, owned, pad_record, piece_kept, plain_bytes, pos, put_changes, r_extents, r_max_rec, r_max_rec_field, range, range_at, read_types, record_bytes, record_number_limit, records_in, records_of_leaf, refl, room, room_at, same_Some, set_at, shape, shapes_of, shared, size_at, size_kept, slice_get, slice_set, space_before, space_fields, sparse_at, stays_all, stored_bytes, subst, suc, sym, take-take, take_at, taken, tile_lies, times, touch, touched_field, true, true-is_in, true≢false, turned, type_at, type_in, type_kept, type_of_body, type_of_variable, uir_next_uir, uir_prev_uir, uir_type, unused_allowance, unused_records, unwrap_or, used_count, variable_named, variable_of, variable_records, variable_types, variables, variables_chain, variables_of, vdr_max_rec, vdr_vxr_head, vdr_vxr_tail, vdrs, vvr_place, vvr_type, vxr_bytes, vxr_type, w32, with_record, with_sign, with_variable, with_variables, word, word_kept, zero, ℕ, ℤ, ◌&&◌, ◌*◌, ◌++◌, ◌+◌, ◌-◌, ◌<◌, ◌==◌, ◌||◌, ◌∙◌, ◌∷◌, ◌≡◌, ◌≢◌, ◌≤◌, ◌⊎◌}
+pub use Rattle.cdf_edits.proofs.Common.{Act, ActsFollow, AllKeep, Allowance, Allowances, AreActs, Away, Bool, Changed, Covered, DataSet, Each, Each-append, Each-split, Edit, Entries, Field, Found, Gave, Good, HasShape, Hold, Hold-split, In, In-append, In-append_left, In-append_right, IsBody, IsChain, IsSound, Keeps, Kind, Leaf, List, Mark, Marked, Misses, NoRule, NodeFits, Nodes, None, OneVariable, Only, Option, Outside, OutsideFields, R, Range, Same, Same-part, SaysEntry, Shape, Some, SpaceLeft, Stays, Took, Touch, Unused, Variable, VariableShape, Z, [], after_act, ap, append-nil, append_assoc, arith, asked, avoided, block, both, byte, bytes_eq, cases_eq, cases_lt, cast_signed, cdr_type, content, content_is, covers, cpr_link, cpr_rows, cuts_before_put, drop, drop-drop, drop-take, either, end_of, entry_count, eof, eq_of, eqb-true, extent, false, false-is_in, field, filled, filter, find, fixed_size, flat_map, fold, fold-append, gdr_eof, gdr_r_max_rec, gdr_type, gdr_uir_head, get_or-drop, get_or-take, good_by_its_shape, good_is_sound, greater, if◌then◌else◌, image_limit, index_rows, index_types, inl, inr, integer4, is_a-in, is_block, is_compressed, is_in, is_in-false, is_in-true, is_little, is_max_rec, is_record_type, is_sparse, is_taken, keeps_file, last_number, last_or, le-leb, le-ltb, leaf_rows, leaves_of, length, length-append, length-drop, length-map, length-put, length-take, linkable-in, linkable-type, list_any, lower, lt-ltb, ltb, map, map-append, max_rec_at, max_rec_touches, min, nat_le, nat_lt, nat_tests, ne_eqb, negsuc, no_entry, no_node, node, number, number_before, of_le, option_map, or_parts, owned, pad_record, piece_kept, plain_bytes, pos, put_changes, r_extents, r_max_rec, r_max_rec_field, range, range_at, record_bytes, record_number_limit, records_in, records_of_leaf, refl, room, room_at, same_Some, set_at, shape, shapes_of, shared, size_at, size_kept, slice_get, slice_set, space_before, space_fields, sparse_at, stays_all, stored_bytes, subst, suc, sym, take-take, take_at, taken, tile_lies, times, touch, touched_field, true, true-is_in, true≢false, turned, type_at, type_in, type_kept, type_of_body, type_of_variable, uir_next_uir, uir_prev_uir, uir_type, unused_allowance, unused_records, unwrap_or, used_count, variable_named, variable_of, variable_records, variable_types, variables, variables_chain, variables_of, vdr_max_rec, vdr_vxr_head, vdr_vxr_tail, vdrs, vvr_place, vvr_type, vxr_bytes, vxr_type, w32, with_record, with_sign, with_variable, with_variables, word, word_kept, zero, ℕ, ℤ, ◌&&◌, ◌*◌, ◌++◌, ◌+◌, ◌-◌, ◌<◌, ◌==◌, ◌||◌, ◌∙◌, ◌∷◌, ◌≡◌, ◌≢◌, ◌≤◌, ◌⊎◌}
 pub use Rattle.cdf_edits.proofs.Edits.ActsJoined.{ListedStay, acts_joined, listed_before}
 pub use Rattle.cdf_edits.proofs.Edits.Common.{acts_still_by, changed_edit, changed_put, each, edit_then, file_same, filter-says, gdr_field, gdr_long, head_size, head_type, index_typed, keep_attributes, keeps_away, keeps_stood, keeps_within, no_block, of_kind, only_variable, same-then, same_as_itself, some_bytes}
 pub use Rattle.cdf_edits.proofs.Edits.IndexEdited.{IndexEdit, own_edit, vdr_alike, vdr_size}

@@ -1,5 +1,5 @@
 -- A leaf that is added, as one edit: its block is taken and written, then a node where one is needed, and then the entries are. It leads from one good image to another.
-use Rattle.cdf_puts.proofs.Common.{same_node, acts_still_by, is_block, nodes_rows, used_rows, leaf_rows, index_rows, end_of, NodeTouch, Away, rules, Act, Avoids-append, Away-append, BlocksGoOn, Counts, Each, Each-map, Edit, Entries, Exchanged, FileSame, GoesOn, Good, Hold, Hold-split, In, In-append, In-append_left, In-append_right, IndexTests, IndexTouch, IsBlockBody, IsChain, IsOneOf, IsSound, IsVacant, Kept, Kind, Leaf, LeafAdded, List, Mark, Marked, Misses, NewIndex, NodeStands, NodeTaken, Nodes, Only, R, Same, Same-part, Shape, StandsAmong, Touch, VariableShape, Within-append, Z, [], all_unmarked-away, ap, apart, append-nil, arith, avoided, away-avoids, away-within, before_limit, behind_in, block, block_behind, chain_stays, changed_edit, count_is, drop, drop-drop, drop-take, each, each_of, edit_then, eof, false, field, file_same, firsts_of, flat_map, gdr_eof, gdr_field, gdr_in, gdr_type, gdr_typed, gdr_uir_head, good_is_sound, has, head_size, head_type, if◌then◌else◌, image_limit, in_nodes_with_leaf, index_marks, index_rules, order_with_leaf, index_unmarked, inl, inr, is_in, is_in-false, is_taken_at, keeps_away, keeps_fields, keeps_file, keeps_within, kept, kept_away, leaf_acts, leaves_of, length, linkable-in, linkable-type, long, lower, lower_nodes, max, max_rec_kept, negsuc, new_room, no_entry, no_node, node, node_acts, node_behind, node_room, node_stays, nodes_of, nodes_with_leaf, number, number_before, of_le, own_rules, piece_kept, place_in, placed_grows, pos, r_max_rec, r_max_rec_field, read_types, record_alike, record_bytes, record_number_limit, refl, room_at, same-then, shape, size_at, size_kept, some_bytes, space_fields, subst, suc, sym, take, take-take, the_one, tile, tile_lies, times, times-append, true, type_at, type_in, type_kept, type_of_body, typed, uir_type, unmarked-away, variable_types, variables_chain, vdr_alike, vdr_max_rec, vdr_of_variable, vvr_type, vxr_bytes, vxr_type, with_leaf, with_sign, word, zero, ℕ, ℤ, ◌*◌, ◌++◌, ◌+◌, ◌-◌, ◌<◌, ◌==◌, ◌∙◌, ◌∷◌, ◌≡◌, ◌≢◌, ◌≤◌, taken_places, is_in-true, get_or-drop, get_or-take, places_of, leaves_more, nat_tests, Covered, ◌⊎◌, is_record_type, fixed_size, byte, node_fits, own_node, own_order}
+use Rattle.cdf_puts.proofs.Common.{same_node, acts_still_by, is_block, nodes_rows, used_rows, leaf_rows, index_rows, end_of, NodeTouch, Away, rules, Act, Avoids-append, Away-append, BlocksGoOn, Counts, Each, Each-map, Edit, Entries, Exchanged, FileSame, GoesOn, Good, Hold, Hold-split, In, In-append, In-append_left, In-append_right, IndexTests, IndexTouch, IsBlockBody, IsChain, IsOneOf, IsSound, IsVacant, Kept, Kind, Leaf, LeafAdded, List, Mark, Marked, Misses, NewIndex, NodeStands, NodeTaken, Nodes, Only, R, Same, Same-part, Shape, StandsAmong, Touch, VariableShape, Within-append, Z, [], all_unmarked-away, ap, apart, append-nil, arith, avoided, away-avoids, away-within, before_limit, behind_in, block, block_behind, chain_stays, changed_edit, count_is, drop, drop-drop, drop-take, each, each_of, edit_then, eof, false, field, file_same, firsts_of, flat_map, gdr_eof, gdr_field, gdr_in, gdr_type, gdr_typed, gdr_uir_head, good_is_sound, has, head_size, head_type, if◌then◌else◌, image_limit, in_nodes_with_leaf, index_marks, index_rules, order_with_leaf, index_unmarked, inl, inr, is_in-false, is_taken_at, keeps_away, keeps_fields, keeps_file, keeps_within, kept, kept_away, leaf_acts, leaves_of, length, linkable-in, linkable-type, long, lower, lower_nodes, max, max_rec_kept, negsuc, new_room, no_entry, no_node, node, node_acts, node_behind, node_room, node_stays, nodes_of, nodes_with_leaf, number, number_before, of_le, own_rules, piece_kept, place_in, placed_grows, pos, r_max_rec, r_max_rec_field, record_alike, record_bytes, record_number_limit, refl, room_at, same-then, shape, size_at, size_kept, some_bytes, space_fields, subst, suc, sym, take, take-take, the_one, tile, tile_lies, times, times-append, true, type_at, type_in, type_kept, type_of_body, typed, uir_type, unmarked-away, variable_types, variables_chain, vdr_alike, vdr_max_rec, vdr_of_variable, vvr_type, vxr_bytes, vxr_type, with_leaf, with_sign, word, zero, ℕ, ℤ, ◌*◌, ◌++◌, ◌+◌, ◌-◌, ◌<◌, ◌==◌, ◌∙◌, ◌∷◌, ◌≡◌, ◌≢◌, ◌≤◌, taken_places, is_in-true, get_or-drop, get_or-take, places_of, leaves_more, nat_tests, Covered, ◌⊎◌, is_record_type, fixed_size, byte, node_fits, own_node, own_order}
 use Rattle.cdf_edits.proofs.Edits.MadeRecord.{place_in as placed_in, filled_size}
 use Rattle.cdf_edits.proofs.Edits.TakenAll.{TakenAll, none_taken, taken_then, taking_all, listed_free, unlisted_away}
 use Rattle.cdf_puts.proofs.LeafCounts.{room_stays, one_of_leaves, places_new}
@@ -308,12 +308,8 @@ module _ {b now : List ℕ} {kind : Kind} {before : List VariableShape} {own : V
 
       -- ---- the rules of the image
 
-      born_read : (m : ℕ) → In m reborn → is_in (type_at now m) read_types ≡ true
-      born_read m (inl q) = rw (q, block_typed) refl
-      born_read m (inr i) = let x = taken_used m (inr i) in rw ((head_kept m x.0 x.1).0, (new_node m i).typed) refl
-
       pub good_now : Good now
-      good_now = changed_good good among new_index reborn [] exchanged index_ruled born_read end_now short
+      good_now = changed_good good among new_index reborn [] exchanged index_ruled end_now short
 
       -- ---- how it goes on
 

@@ -4,7 +4,7 @@ use Rattle.cdf_edits.proofs.Edits.LeafPieces.{found_in}
 use Rattle.cdf_fields.proofs.Writes.{drop-put_there}
 use Rattle.cdf_puts.proofs.GoesThen.{later_size}
 use Rattle.cdf_puts.proofs.PutNodes.{taken_both}
-use Rattle.cdf_puts.proofs.PutRules.{loose}
+use Rattle.cdf_edits.proofs.Edits.StandsAmong.{loose}
 
 -- a leaf that is not the one of a record ends before it, or begins behind it
 pub beside_one : (k low upto : ℕ) (leaves : List Leaf) → Ascending low upto leaves → (l : Leaf) → IsOneOf leaves l → (find (λ (leaf : Leaf). covers k (range leaf.first leaf.last)) leaves ≡ Some l → ⊥) → (l.last < k) ⊎ (k < l.first)

@@ -1,7 +1,7 @@
 -- The names that most proofs of this crate cite, passed on from one place. Declares nothing.
 pub use Rattle.cdf_area.proofs.Calls.{edit_once}
 pub use Rattle.cdf_edits.proofs.Commands.ReadingFollows.{staying_follows}
-pub use Rattle.cdf_edits.proofs.Common.{take, w32, Act, ActsFollow, AllGiven, AllKeep, Allowances, AreFree, AreTiles, Bool, ByStep, DataSet, Each, Each-split, Edit, Entries, Field, Fills, Follows, Found, FreedStay, GivenStay, Go, Good, HasVariable, Hold, Hold-split, In, In-append, In-append_left, In-append_right, IsChain, IsIndex, IsNode, IsSound, Kind, Leaf, LeafFits, LiesIn, List, Mark, NodeFits, Nodes, None, Only, Option, R, Range, Same, SayEntries, SaysEntry, SaysNode, Shape, Some, Takes, Took, Variable, VariableFits, VariableShape, Z, [], ap, append-nil, append_assoc, ap₂, arith, avoided, block, cases_lt, cast_signed, content, content_is, cpr_type, cvvr_type, entry_count, eof, eq-eqb, eqb-true, false, field, field_reads, fixed_size, flat_map, freeing_marks, gave, gdr_eof, gdr_offset, gdr_type, gdr_uir_head, get_or, good_by_its_shape, good_is_sound, good_long, if◌then◌else◌, image_limit, index_rows, inl, inr, is_a, is_a-type, is_block, is_in, is_in-true, is_record_type, keeps_file, last_or, leaf_rows, length, length-append, length-map, length-with_field, link_to, linkable-from, linkable-type, links_end, lower, map, map-append, min, nat_le, nat_lt, nat_tests, negsuc, next_of, nil_from_length, no_entry, no_fields, no_node, node, nodes_rows, nodes_stand, number, number_kept, option_map, other_words, owned, owned_records, pos, range_at, read_types, record_number_limit, records_in, refl, room, room_at, rules_of_good, sealed_kept, shape, shapes_of, size_at, size_kept, slice_get, space_fields, stays_all, subst, suc, sum, sym, taken, times, times-none, times-once, true, true≢false, type_at, type_in, type_kept, uir_type, unmarked, variable_named, variable_of, variable_records, variables, variables_chain, variables_of, vdr_vxr_head, vdr_vxr_tail, vdrs, vvr_type, vxr_bytes, vxr_n_used_entries, vxr_type, with_field, with_space, with_variables, with_writes, write, zero, ℕ, ◌&&◌, ◌*◌, ◌++◌, ◌+◌, ◌-◌, ◌<◌, ◌^◌, ◌∙◌, ◌∷◌, ◌≡◌, ◌≢◌, ◌≤◌, ◌⊎◌, is_linkable, linkable-in, linkable-long}
+pub use Rattle.cdf_edits.proofs.Common.{take, w32, Act, ActsFollow, AllGiven, AllKeep, Allowances, AreFree, AreTiles, Bool, ByStep, DataSet, Each, Each-split, Edit, Entries, Field, Fills, Follows, Found, FreedStay, GivenStay, Go, Good, HasVariable, Hold, Hold-split, In, In-append, In-append_left, In-append_right, IsChain, IsIndex, IsNode, IsSound, Kind, Leaf, LeafFits, LiesIn, List, Mark, NodeFits, Nodes, None, Only, Option, R, Range, Same, SayEntries, SaysEntry, SaysNode, Shape, Some, Takes, Took, Variable, VariableFits, VariableShape, Z, [], ap, append-nil, append_assoc, ap₂, arith, avoided, block, cases_lt, cast_signed, content, content_is, cpr_type, cvvr_type, entry_count, eof, eq-eqb, eqb-true, false, field, field_reads, fixed_size, flat_map, freeing_marks, gave, gdr_eof, gdr_offset, gdr_type, gdr_uir_head, get_or, good_by_its_shape, good_is_sound, good_long, if◌then◌else◌, image_limit, index_rows, inl, inr, is_a, is_a-type, is_block, is_in, is_in-true, is_record_type, keeps_file, last_or, leaf_rows, length, length-append, length-map, length-with_field, link_to, linkable-from, linkable-type, links_end, lower, map, map-append, min, nat_le, nat_lt, nat_tests, negsuc, next_of, nil_from_length, no_entry, no_fields, no_node, node, nodes_rows, nodes_stand, number, number_kept, option_map, other_words, owned, owned_records, pos, range_at, record_number_limit, records_in, refl, room, room_at, rules_of_good, sealed_kept, shape, shapes_of, size_at, size_kept, slice_get, space_fields, stays_all, subst, suc, sum, sym, taken, times, times-none, times-once, true, true≢false, type_at, type_in, type_kept, uir_type, unmarked, variable_named, variable_of, variable_records, variables, variables_chain, variables_of, vdr_vxr_head, vdr_vxr_tail, vdrs, vvr_type, vxr_bytes, vxr_n_used_entries, vxr_type, with_field, with_space, with_variables, with_writes, write, zero, ℕ, ◌&&◌, ◌*◌, ◌++◌, ◌+◌, ◌-◌, ◌<◌, ◌^◌, ◌∙◌, ◌∷◌, ◌≡◌, ◌≢◌, ◌≤◌, ◌⊎◌, is_linkable, linkable-in, linkable-long}
 pub use Rattle.cdf_edits.proofs.Edits.ActsThen.{taken-gave}
 pub use Rattle.cdf_edits.proofs.Edits.Common.{in-times, Each-map, Kept, MayWrite, StandsAmong, acts_still_by, all_gave, apart, behind_in, content_now, distinct_if, each, edit_then, edit_under, eof_by_rules, Frees, all_freed, freed_edit, freed_long, freed_places, freed_records, freed_shape, freeing_behind, gdr_still, may_free, others_kept, sizes_before, sound_now, fits, gave-same, gdr_field, gdr_place, got-middle, has, kept, kept_away, long, name_room, none_in_use, not_twice_kept, of_kind, owned-times, same_as_itself, sizes_by_tiles, some_bytes, sound, sound_if, spliced_times, through, tile, times-append, times-in, typed, unmarked-away, used_times, with_shapes, write_lies, writes_edit, writes_long}
 pub use Rattle.cdf_edits.proofs.Edits.FreedBytes.{freed_stay}

@@ -1,5 +1,5 @@
 -- The new nodes are taken and written, VXRhead and VXRtail lead to them, and the old nodes are freed: one edit, by which a good image stays good, and which follows `reindex`.
-use Rattle.cdf_reindex.proofs.Common.{Act, ActsFollow, AllGiven, AllKeep, Allowances, AreFree, AreTiles, Bool, ByStep, Counts, DataSet, Each, Each-in, Each-map, Edit, Exchanged, Field, Follows, Found, FreedStay, Frees, GivenStay, Go, Good, HasVariable, Hold, Hold-split, In, In-append, In-append_left, In-append_right, InOrder, IndexEdit, IndexTests, IsBare, IsBuilt, IsChain, IsIndex, IsNode, IsOneOf, IsRebuilt, IsSound, Kept, Kind, Leaf, LeafFits, LiesIn, List, MakesIndex, Mark, MayWrite, NewIndex, NextsAreZero, NodeFits, NodeSpareStays, Nodes, None, OfVariable, Only, Option, OwnEdit, R, Range, Reindexed, Same, SameHeads, Shape, Some, StandsAmong, TakenAll, UnusedEntries, Variable, VariableFits, VariableShape, Z, [], acts_still_by, all_freed, all_gave, ap, apart, append-nil, arith, avoided, away-avoids, behind_in, block_behind, block_fits_alike, block_kept, by_kind, by_range, cast_signed, chain_stays, content, content_is, content_now, cpr_behind, cpr_type, cvvr_type, descriptor_allowed, distinct_if, each, each_holds, each_of, edit_then, edit_under, end_stays, eof, eq-eqb, false, field, field_reads, file, fits, fixed_size, flat_map, freed_edit, freed_long, freed_places, freed_records, freed_shape, freed_stay, freeing_behind, freeing_marks, fresh_unowned, gave, gave-same, gdr_eof, gdr_field, gdr_place, gdr_still, gdr_type, gdr_uir_head, got-middle, has, heads_written, if◌then◌else◌, image_limit, in-times, index_edit, index_keeps, index_marks, index_order, index_rows, index_rules, inl, inr, is_a, is_a-type, is_block, is_in, is_in-true, is_linkable, is_record_type, is_taken_at, keeps_file, kept, kept_away, last_node, leaf_rows, leaf_same, leaves_of, length, length-with_field, levels_up, link_to, linkable-in, linkable-long, linkable-type, links_end, links_mark, listed_free, long, made_acts, map, map-append, max_rec_kept, may_free, nat_le, nat_lt, negsuc, next_of, no_fields, no_node, node, node_allowed, node_behind, node_room, nodes_above, nodes_at, nodes_kept, nodes_of, nodes_rows, nodes_stand, none_in_use, none_of_both, not_twice_kept, number, number_kept, of_each, other_words, others_kept, own_edit, own_rules, owned, owned-times, owned_records, packed_stays, parts_times, plain_alike, pos, range_at, read_types, record_number_limit, records_alike, records_in, refl, reindex_changes, reindex_room, reindex_step, room, room_at, rules, same_as_itself, same_shape, shape, shapes_of, size_at, size_kept, sizes_before, sizes_by_tiles, slice_get, some_bytes, sound, sound_if, sound_now, space_fields, spliced_times, splices, staying_follows, stays, stays_alike, stays_all, subst, sum, sum_by-cons, sym, taken, taken-gave, taking_all, through, tile, times, times-append, times-in, times-none, times-once, top_stays, true, true≢false, type_at, type_in, type_kept, typed, uir_type, unlisted_away, unmarked, unmarked-away, used_times, variable_named, variable_of, variable_records, variable_stays, variables_chain, variables_of, variables_of_are, vdr_alike, vdr_no_node, vdr_size, vdr_vxr_head, vdr_vxr_tail, vdrs, vvr_type, vxr_bytes, vxr_n_used_entries, vxr_type, w32, with_field, with_index, with_shapes, with_variables, with_writes, write, write_lies, writes_edit, writes_long, ℕ, ◌&&◌, ◌*◌, ◌++◌, ◌+◌, ◌<◌, ◌∙◌, ◌∷◌, ◌≡◌, ◌≢◌, ◌≤◌, ◌⊎◌}
+use Rattle.cdf_reindex.proofs.Common.{Act, ActsFollow, AllGiven, AllKeep, Allowances, AreFree, AreTiles, Bool, ByStep, Counts, DataSet, Each, Each-in, Each-map, Edit, Exchanged, Field, Follows, Found, FreedStay, Frees, GivenStay, Go, Good, HasVariable, Hold, Hold-split, In, In-append, In-append_left, In-append_right, InOrder, IndexEdit, IndexTests, IsBare, IsBuilt, IsChain, IsIndex, IsNode, IsOneOf, IsRebuilt, IsSound, Kept, Kind, Leaf, LeafFits, LiesIn, List, MakesIndex, Mark, MayWrite, NewIndex, NextsAreZero, NodeFits, NodeSpareStays, Nodes, None, OfVariable, Only, Option, OwnEdit, R, Range, Reindexed, Same, SameHeads, Shape, Some, StandsAmong, TakenAll, UnusedEntries, Variable, VariableFits, VariableShape, Z, [], acts_still_by, all_freed, all_gave, ap, apart, append-nil, arith, avoided, away-avoids, behind_in, block_behind, block_fits_alike, block_kept, by_kind, by_range, cast_signed, chain_stays, content, content_is, content_now, cpr_behind, cpr_type, cvvr_type, descriptor_allowed, distinct_if, each, each_holds, each_of, edit_then, edit_under, end_stays, eof, eq-eqb, false, field, field_reads, file, fits, fixed_size, flat_map, freed_edit, freed_long, freed_places, freed_records, freed_shape, freed_stay, freeing_behind, freeing_marks, fresh_unowned, gave, gave-same, gdr_eof, gdr_field, gdr_place, gdr_still, gdr_type, gdr_uir_head, got-middle, has, heads_written, if◌then◌else◌, image_limit, in-times, index_edit, index_keeps, index_marks, index_order, index_rows, index_rules, inl, inr, is_a, is_a-type, is_block, is_in, is_in-true, is_linkable, is_record_type, is_taken_at, keeps_file, kept, kept_away, last_node, leaf_rows, leaf_same, leaves_of, length, length-with_field, levels_up, link_to, linkable-in, linkable-long, linkable-type, links_end, links_mark, listed_free, long, made_acts, map, map-append, max_rec_kept, may_free, nat_le, nat_lt, negsuc, next_of, no_fields, no_node, node, node_allowed, node_behind, node_room, nodes_above, nodes_at, nodes_kept, nodes_of, nodes_rows, nodes_stand, none_in_use, none_of_both, not_twice_kept, number, number_kept, of_each, other_words, others_kept, own_edit, own_rules, owned, owned-times, owned_records, packed_stays, parts_times, plain_alike, pos, range_at, record_number_limit, records_alike, records_in, refl, reindex_changes, reindex_room, reindex_step, room, room_at, rules, same_as_itself, same_shape, shape, shapes_of, size_at, size_kept, sizes_before, sizes_by_tiles, slice_get, some_bytes, sound, sound_if, sound_now, space_fields, spliced_times, splices, staying_follows, stays, stays_alike, stays_all, subst, sum, sum_by-cons, sym, taken, taken-gave, taking_all, through, tile, times, times-append, times-in, times-none, times-once, top_stays, true, true≢false, type_at, type_in, type_kept, typed, uir_type, unlisted_away, unmarked, unmarked-away, used_times, variable_named, variable_of, variable_records, variable_stays, variables_chain, variables_of, variables_of_are, vdr_alike, vdr_no_node, vdr_size, vdr_vxr_head, vdr_vxr_tail, vdrs, vvr_type, vxr_bytes, vxr_n_used_entries, vxr_type, w32, with_field, with_index, with_shapes, with_variables, with_writes, write, write_lies, writes_edit, writes_long, ℕ, ◌&&◌, ◌*◌, ◌++◌, ◌+◌, ◌<◌, ◌∙◌, ◌∷◌, ◌≡◌, ◌≢◌, ◌≤◌, ◌⊎◌}
 use Rattle.cdf_edits.proofs.Edits.LeafPieces.{place_in as leaf_in}
 use Rattle.cdf_edits.proofs.Edits.InRecords.{places_of}
 use Rattle.cdf_index.proofs.NewIndex.{good_now as changed_good}
@@ -350,7 +350,7 @@ module _ {b made : List ℕ} {kind : Kind} {before : List VariableShape} {own : 
       good_now short =
           let end_now = subst (λ (g : ℕ). eof now g ≡ length now) (ap (λ (y : Shape). y.gdr) t.grows.same_shape) (gdr_still frees gdr_eof (omega arith) ∙ gdr_field t.grows.sound heads_edit (tests [] 0).file_clear gdr_eof (tests [] 0).end_clear (omega arith) ∙ t.grows.end_is ∙ sym (freed_long frees)) in
           changed_good good among new_index ps os exchanged (index_ruled good among new_index x.leaves_stay bare_now x.order short)
-          (λ m i. elim (In-append m ps os i) [ inl j ↦ ap (λ (k : ℕ). is_in k read_types) (new_type m j) | inr j ↦ ap (λ (k : ℕ). is_in k read_types) (all_freed frees m j) ]) end_now short
+          end_now short
 
       -- ---- the acts
 

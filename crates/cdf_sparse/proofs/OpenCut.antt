@@ -13,7 +13,7 @@ use Rattle.cdf_index.proofs.LeafRules.{index_order}
 use Rattle.cdf_index.specs.Order.{InOrder}
 use Rattle.cdf_index.specs.Replacing.{with_index}
 use Rattle.cdf_puts.proofs.GoesThen.{later_size}
-use Rattle.cdf_puts.proofs.PutRules.{loose}
+use Rattle.cdf_edits.proofs.Edits.StandsAmong.{loose}
 use Rattle.cdf_puts.specs.Going.{GoesOn}
 use Rattle.cdf_cuts.proofs.CutFreed.{own_most}
 use Rattle.cdf_cuts.proofs.CutGoes.{block_stays, cut_goes, long_now, max_rec_now, r_max_rec_now}

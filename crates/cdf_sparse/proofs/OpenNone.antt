@@ -17,7 +17,7 @@ use Rattle.cdf_format.proofs.BytesLemmas.{type_kept}
 use Rattle.cdf_index.proofs.Common.{behind_in}
 use Rattle.cdf_index.specs.Replacing.{with_index}
 use Rattle.cdf_puts.proofs.GoesThen.{later_size}
-use Rattle.cdf_puts.proofs.PutRules.{loose}
+use Rattle.cdf_edits.proofs.Edits.StandsAmong.{loose}
 use Rattle.cdf_puts.specs.Going.{GoesOn, found_in}
 use Rattle.cdf_cuts.proofs.BlocksMoved.{times_add}
 use Rattle.cdf_cuts.proofs.WritesThen.{goes_more, moved_max_rec, moved_r_max_rec}

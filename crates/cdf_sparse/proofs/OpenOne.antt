@@ -28,7 +28,7 @@ use Rattle.cdf_puts.proofs.LeafCounts.{one_of_leaves}
 use Rattle.cdf_puts.proofs.LeafEdit.{blocks_go_on, body_long, leaf_goes_on, leaf_max_rec, node_taken, r_max_rec_stays, used_apart}
 use Rattle.cdf_puts.proofs.PutBytes.{found_covering}
 use Rattle.cdf_puts.proofs.PutNodes.{place_outside}
-use Rattle.cdf_puts.proofs.PutRules.{loose}
+use Rattle.cdf_edits.proofs.Edits.StandsAmong.{loose}
 use Rattle.cdf_puts.specs.Going.{GoesOn}
 use Rattle.cdf_puts.specs.SoFar.{taken_places}
 use Rattle.cdf_puts.specs.Steps.{IsBlockBody, IsVacant}

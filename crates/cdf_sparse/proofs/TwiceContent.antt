@@ -14,7 +14,7 @@ use Rattle.cdf_model.specs.RecordSteps.{without_records}
 use Rattle.cdf_puts.proofs.CoveringRanges.{some_or_none}
 use Rattle.cdf_puts.proofs.GoesThen.{goes_written, later_size, stays}
 use Rattle.cdf_puts.proofs.PutBytes.{found_covering}
-use Rattle.cdf_puts.proofs.PutRules.{loose}
+use Rattle.cdf_edits.proofs.Edits.StandsAmong.{loose}
 use Rattle.cdf_puts.specs.Going.{GoesOn, found_in}
 use Rattle.cdf_cuts.proofs.BlocksMoved.{piece_shifted}
 use Rattle.cdf_cuts.proofs.PastContent.{stored_front}

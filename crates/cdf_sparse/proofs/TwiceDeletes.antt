@@ -8,7 +8,7 @@ use Rattle.cdf_edits.specs.Index.Cut.{IsPlaced, StaysWhole, is_whole}
 use Rattle.cdf_edits.specs.Index.Grown.{kept_open}
 use Rattle.cdf_model.specs.Limits.{record_number_limit}
 use Rattle.cdf_puts.proofs.GoesThen.{later_size}
-use Rattle.cdf_puts.proofs.PutRules.{loose}
+use Rattle.cdf_edits.proofs.Edits.StandsAmong.{loose}
 use Rattle.cdf_puts.specs.Going.{found_in}
 use Rattle.cdf_cuts.proofs.PastFollows.{or_true}
 use Rattle.cdf_cuts.specs.Past.{cut_off, past_acts, stage}

@@ -4,7 +4,8 @@ use Rattle.cdf_edits.proofs.Edits.Common.{stays_then}
 use Rattle.cdf_edits.specs.Commands.Cuts.{del_recs_changes, del_recs_cuts}
 use Rattle.cdf_edits.specs.Index.Blocks.{extent_after}
 use Rattle.cdf_index.proofs.OwnRecords as of_own
-use Rattle.cdf_puts.proofs.PutRules.{loose, no_cpr}
+use Rattle.cdf_puts.proofs.PutRules.{no_cpr}
+use Rattle.cdf_edits.proofs.Edits.StandsAmong.{loose}
 use Rattle.cdf_cuts.proofs.CutStay.{LeftOf, nodes_left, to_left}
 use Rattle.cdf_cuts.proofs.GoesKeep.{each_own, goes_keep}
 use Rattle.cdf_cuts.proofs.PastFollows as cutting

@@ -19,7 +19,7 @@ use Rattle.cdf_index.specs.Order.{InOrder}
 use Rattle.cdf_model.specs.Limits.{record_number_limit}
 use Rattle.cdf_puts.proofs.GoesThen.{later_size}
 use Rattle.cdf_puts.proofs.LeafCounts.{one_of_leaves}
-use Rattle.cdf_puts.proofs.PutRules.{loose}
+use Rattle.cdf_edits.proofs.Edits.StandsAmong.{loose}
 use Rattle.cdf_cuts.proofs.CutOpen.{open_order}
 use Rattle.cdf_cuts.proofs.CutStay.{LeftOf, from_left, nodes_left, to_left}
 use Rattle.cdf_cuts.proofs.CutLeaves.{IsLeft}

@@ -1,5 +1,6 @@
 -- What becomes of the store.
 use Rattle.cdf_tool.proofs.Common.{Asked, Attached, Bool, Disk, EndsSaving, EndsStored, Good, Holds, HoldsBetween, IfSome, IsBetween, IsRewritten, IsSome, IsWhole, KeptBy, List, None, Ok, Option, Refusals, Replaced, Rewrites, Some, Spoiled, Status, Touches, WellFormed, [], ap, arith, bytes_eq, eq_of, false, file_in, file_of, files_attached, files_with, found_or_made, has_checksum, if◌then◌else◌, image_of, is_some, length, lookup, option_map, refl, sealed, shape, status_of, subst, sym, tail_bytes, take, touches_none, trailer_length, transport, true, was_refused, with_file, ℕ, ◌&&◌, ◌+◌, ◌-◌, ◌∙◌, ◌∷◌, ◌≡◌, ◌≤◌, trailer}
+use Rattle.cdf_format.proofs.FormatKept.{keeps}
 use Rattle.std.proofs.lemmas.Slice.Eq.{bytes_eq-Decides}
 use Rattle.cdf_pages.proofs.Disks.{holds_first}
 use Rattle.cdf_format.specs.Fields.{eof, gdr_offset, word}
@@ -101,7 +102,7 @@ front_is_image f b holds good front =
     let place : gdr_offset b ≡ gdr_offset f = ap gdr_offset front ∙ word-piece f 0 20 8 n (omega arith) in
     let from : 0 + (gdr_offset b + 36) ≡ gdr_offset b + 36 = omega arith in
     let here : eof b (gdr_offset b) ≡ eof f (gdr_offset b) = ap (λ (x : List ℕ). eof x (gdr_offset b)) front ∙ word-piece f 0 (gdr_offset b + 36) 8 n (omega arith) ∙ ap (λ (k : ℕ). word f k 8) from in
-    let end : eof f (gdr_offset f) ≡ length f - trailer_length f = eq_of (eof f (gdr_offset f)) (length f - trailer_length f) (gdr_holds f holds).1.1.0 in
+    let end : eof f (gdr_offset f) ≡ length f - trailer_length f = eq_of (eof f (gdr_offset f)) (length f - trailer_length f) (gdr_holds f (keeps f holds)).1.1.0 in
     let size : n ≡ length f - trailer_length f = sym (good_eof b good) ∙ here ∙ ap (eof f) place ∙ end in
     front ∙ ap (λ (k : ℕ). take k f) size
 
@@ -109,7 +110,7 @@ front_is_image f b holds good front =
 pub saved_already : {U : Type 0} (d : Disk U) (b : List ℕ) → IsWhole d → IsSome d.held → WellFormed (file_of d) → Good b → b ≡ take (length b) (file_of d) → Holds d (sealed b) d
 saved_already d b whole held holds good front =
     let f = file_of d in
-    let bytes : f ≡ sealed b = sym (sealed_is_file f holds) ∙ sym (ap sealed (front_is_image f b holds good front)) in
+    let bytes : f ≡ sealed b = sym (sealed_is_file f (keeps f holds)) ∙ sym (ap sealed (front_is_image f b holds good front)) in
     subst (λ (file : List ℕ). Holds d file d) bytes (holds_first d whole held)
 
 -- ---- an image that is saved already

@@ -14,7 +14,7 @@ use Rattle.cdf_var_records.specs.declared.put_room.NewBlocks.{NewBlocks}
 use Rattle.std.proofs.Math.Nat.{mul-le-mul}
 use Rattle.std.specs.Prelude.{IfSome, zero, ◌*◌, if◌then◌else◌}
 use Rattle.cdf_model.specs.declared.kinds.Sparse.{Sparse}
-use Rattle.cdf_puts.proofs.PutRules.{loose}
+use Rattle.cdf_edits.proofs.Edits.StandsAmong.{loose}
 use Rattle.cdf_var_records.proofs.RecordForms.{variable_is}
 use Rattle.cdf_var_records.proofs.RecordReading.{index, lies}
 use Rattle.cdf_var_records.proofs.PadSites.{at}

@@ -1,5 +1,9 @@
 -- What a record of a variable of a good image reads as, and how long it is.
-use Rattle.cdf_var_records.proofs.Common.{Bool, DataType, Good, HoldsRecords, IsVdr, Kind, Leaf, List, NoRule, None, Option, Pad, Previous, Some, Sparse, Variable, ap, arith, default_element, default_value, dimensions_at, dims_at, drop, elems_at, extent, false, field_bytes, good_block, good_is_sound, has_pad, if◌then◌else◌, index_at, inl, inr, is_little, is_z, item_at, le-ltb, lt-ltb, leaf_in, leaf_of, leaves_of, length, length-drop, length-repeat, length-take, max_rec_at, missing, mul-le-mul_right, nat_lt, network_bytes, number, number_read, option_map, pad_field, pad_record, pad_value, pad_width, plain_block, plain_bytes, read, read_at, record_bytes, record_in, record_is, record_of_leaf, refl, seen, shape, size_of, size_stays, sym, take, true, type_of_variable, unwrap_or, value_bytes, value_count, variable_at, varys_at, vdr_vxr_head, whole_elements, ℕ, ◌%◌, ◌*◌, ◌+◌, ◌-◌, ◌<◌, ◌∙◌, ◌≡◌, ◌≤◌}
+use Rattle.cdf_var_records.proofs.Common.{Bool, DataType, Good, HoldsRecords, IsVdr, Kind, Leaf, List, NoRule, None, Option, Pad, Previous, Some, Sparse, Variable, ap, arith, default_element, default_value, dimensions_at, dims_at, drop, elems_at, extent, false, field_bytes, good_block, good_is_sound, has_pad, if◌then◌else◌, index_at, inl, inr, is_little, is_z, item_at, le-ltb, lt-ltb, leaf_in, leaf_of, leaves_of, length, length-drop, length-repeat, length-take, max_rec_at, missing, mul-le-mul_right, nat_lt, network_bytes, number, number_read, option_map, pad_field, pad_record, pad_value, pad_width, plain_block, plain_bytes, read, read_at, record_bytes, record_in, record_is, record_of_leaf, refl, seen, shape, size_of, size_stays, sym, take, true, type_of_variable, unwrap_or, value_bytes, value_count, variable_at, varys_at, vdr_vxr_head, whole_elements, ℕ, ◌%◌, ◌*◌, ◌+◌, ◌-◌, ◌<◌, ◌∙◌, ◌≡◌, ◌≤◌, ◌∷◌, subst}
+use Rattle.cdf_format.proofs.ShapeLemmas.{Each-split}
+use Rattle.cdf_format.specs.Shape.{Each, VariableShape, is_compressed, variables}
+use Rattle.cdf_format.proofs.GoodSound.{good_is_read}
+use Rattle.cdf_edits.proofs.Edits.PlainVariables.{all_loose}
 use Rattle.cdf_var_records.proofs.LeafItems.{by_leaf, in_index}
 use Rattle.cdf_var_records.proofs.PreviousRecord.{last_stored, none_stored}
 use Rattle.cdf_var_records.proofs.RecordForms.{among, image, pad_lies}
@@ -43,7 +47,9 @@ module _ {b : List ℕ} {kind : Kind} {vdr : ℕ} (good : Good b) (v : IsVdr b k
         let g = among good v in
         let sound = good_is_sound b good in
         let here = in_index good v rec ∙ some_if (nat_lt rec (extent (max_rec_at b vdr))) (leaf_of rec (leaves_of (index_at b (number b vdr vdr_vxr_head)))) (seen leaf) found in
-        let plain = plain_block b (shape b) g.front (own good v) g.rest (image good v) sound g.all rec (seen leaf) here in
+        let is = λ (x : VariableShape). is_compressed b x.vdr ≡ false in
+        let loose = (Each-split is g.front (own good v ∷ g.rest) (subst (Each is) g.all (all_loose b (variables (shape b)) (good_is_read b good)))).1.0 in
+        let plain = plain_block b (shape b) g.front (own good v) g.rest (image good v) sound g.all loose rec (seen leaf) here in
         good_block b (shape b) g.front (own good v) g.rest (image good v) sound g.all rec leaf here plain
 
     -- the bytes of the record, as they are stored

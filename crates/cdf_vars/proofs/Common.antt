@@ -9,8 +9,8 @@ pub use Rattle.cdf_edits.proofs.Commands.Answered.{gone, refused, too_large}
 pub use Rattle.cdf_edits.proofs.Commands.FineNames.{fine_has_no_zeros, fine_is_short, fine_is_some}
 pub use Rattle.cdf_edits.proofs.Commands.KeptRecords.{keep_attributes}
 pub use Rattle.cdf_edits.proofs.Commands.ListParts.{AtNumber, at_number, cut, got-map, got-middle, got_in, last_got, last_removed, map-removed, removed-at}
-pub use Rattle.cdf_edits.proofs.Common.{Anything, AreTiles, Byte, Exchanged, Holds, IsGiven, Keeps, Pad, Previous, SetsPad, Unused, cases_lt, content_of, count_of, dimension_limit, either, eof, flags, has_dimensions, is_a-from, is_characters, is_compressed, is_in-true, is_no_link, leb-true, length-bytes_high_first, lt-leb, majority_of, no_node, notation_of, only_of, owned_by, read_types, same_kind, sealed_keeps, set_at, set_pad_changes, times-none, type_of, unused, unused_records, unwrap_or, variable_records, with_space}
-pub use Rattle.cdf_edits.proofs.Edits.Common.{Avoids-append, Copied, FirstSays, IsHeld, IsRuled, IsSorted, OwnRules, VariableLives, VariableSplices, Within-append, acts_none, all_attribute_records, all_keep, all_variable_records, apart_if, attributes_kept, avoided-avoids, chain_clear, changed_put, code_small, content_now, edit_then, first_hold, first_said, fits, gdr_place, good_image_if, high, keep_unused, keeps_within, laid_kept, leads_rest, made_keeps_unused, none_in_use, nums_from, owned_once_if, pad_late, pad_wide, part_clear, placed_laid, places-sized, placing_marks, read_now, same_as_itself, same_link, says_laid_out, shape_now, sizes_by_tiles, takes_edit, type_back, used_times, within-within, word_copied}
+pub use Rattle.cdf_edits.proofs.Common.{Anything, AreTiles, Byte, Exchanged, Holds, IsGiven, Keeps, Pad, Previous, SetsPad, Unused, cases_lt, content_of, count_of, dimension_limit, either, eof, flags, has_dimensions, is_a-from, is_characters, is_compressed, is_in-true, is_no_link, leb-true, length-bytes_high_first, lt-leb, majority_of, no_node, notation_of, only_of, owned_by, same_kind, sealed_keeps, set_at, set_pad_changes, times-none, type_of, unused, unused_records, unwrap_or, variable_records, with_space}
+pub use Rattle.cdf_edits.proofs.Edits.Common.{Avoids-append, Copied, FirstSays, IsHeld, IsRuled, IsSorted, OwnRules, VariableLives, VariableSplices, Within-append, acts_none, all_attribute_records, all_keep, all_variable_records, apart_if, attributes_kept, avoided-avoids, chain_clear, changed_put, code_small, content_now, edit_then, first_hold, first_said, fits, gdr_place, good_image_if, high, keep_unused, keeps_within, laid_kept, leads_rest, made_keeps_unused, none_in_use, nums_from, owned_once_if, pad_late, pad_wide, part_clear, placed_laid, places-sized, placing_marks, same_as_itself, same_link, says_laid_out, shape_now, sizes_by_tiles, takes_edit, type_back, used_times, within-within, word_copied}
 pub use Rattle.cdf_edits.proofs.Edits.EditActs.{acts_took}
 pub use Rattle.cdf_edits.proofs.Edits.JoinedVdr.{JoinsVdr, behind_link, edit, ends, file, fills, gdr_is, is_vdr_body, joined_acts, joined_size, joined_splices, joined_type, linked, lives, marks, member_in, t}
 pub use Rattle.cdf_edits.proofs.Edits.MadeRecord.{end_now, filled_content, filled_edit, filled_size, filled_sound, list_chain, listed_before, listed_marks, loose_away, made_edit, made_once, place_in, second, shorter, unlike}
@@ -106,7 +106,7 @@ pub use Rattle.cdf_model.specs.declared.kinds.Kind.{Kind}
 pub use Rattle.cdf_model.specs.declared.kinds.Kind.TheVariants.{R, Z}
 pub use Rattle.cdf_model.specs.declared.kinds.Sparse.TheVariants.{NoRule}
 pub use Rattle.cdf_names.specs.Names.{has_name, last_to, number_of}
-pub use Rattle.cdf_puts.proofs.PutRules.{loose}
+pub use Rattle.cdf_edits.proofs.Edits.StandsAmong.{loose}
 pub use Rattle.cdf_puts.proofs.RaisedGoes.{raised_shape, vdr_no_gdr}
 pub use Rattle.cdf_puts.specs.Putting.{IsPut, PutsUpTo, Putting, SomePutting, most_in_block}
 pub use Rattle.cdf_puts.specs.Steps.{MaxRecRaised}

@@ -27,20 +27,10 @@ use crate::removing::last_number;
 use crate::vars::Vars;
 use cdf_area::{Area, AreaError};
 use cdf_cuts::{close_records, cut_past, read_closing_room};
-use cdf_model::{Outcome, Reason, Reply, Sparse};
+use cdf_model::{Outcome, Reason, Reply};
 use cdf_sparse::open_records;
-use cdf_sparse_reads::{read_extent_after, read_opening_room};
+use cdf_sparse_reads::{has_gaps, read_extent_after, read_opening_room};
 use cdf_var_records::{read_extent, read_sparse, record_size_of};
-
-/// Whether a variable of this rule may lack records.
-fn has_gaps(rule: Sparse) -> bool
-    ensures { result ≡ is_sparse rule }
-{
-    match rule {
-        Sparse::NoRule => false,
-        Sparse::Pad | Sparse::Previous => true,
-    }
-}
 
 impl Vars {
     /// Takes records out of a variable without a rule for missing records: later ones close up. After an error a part of this may have been done.

@@ -1,5 +1,5 @@
 -- An edit after which one chain of entries of an attribute is another: the image has its shape and its content, and keeps the rules if the chain does.
-use Rattle.cdf_edits.proofs.Common.{AreNew, AttributeShape, Avoids, Away, Confined, Each, Edit, Entry, EntryFits, EntryKind, Field, HasShape, Hold, Hold-append, Hold-split, In, In-append, IsChain, IsGoodByShape, IsSound, List, Mark, Same, Shape, [], adr_name, adr_num, adr_rows, adr_scope, adr_type, adrs, ap, arith, attribute_of, attribute_records, attribute_shape_rows, attribute_types, avoided, before_first, both, chain_of, content, count_field, differ_by_names, differ_rows, entries_rows, entry_type, fixed_size, flat_map, flat_map-append, gdr_adr_head, gdr_type, gdr_uir_head, head_field, inl, inr, is_in, is_record_type, keeps_adr, keeps_but_chain, keeps_file, keeps_other, keeps_variables, length, linkable-in, linkable-type, map, map-append, name_in, names_at, names_differ, nat_le, number, piece_kept, read_types, refl, row, same_name, shape, shape_is, size_at, subst, sym, tile_lies, times, true, type_at, uir_type, with_attribute, with_chain, with_entries, word_kept, ℕ, ◌&&◌, ◌++◌, ◌+◌, ◌==◌, ◌∙◌, ◌∷◌, ◌≡◌, ◌≤◌}
+use Rattle.cdf_edits.proofs.Common.{AreNew, AttributeShape, Avoids, Away, Confined, Each, Edit, Entry, EntryFits, EntryKind, Field, HasShape, Hold, Hold-append, Hold-split, In, In-append, IsChain, IsGoodByShape, IsSound, List, Mark, Same, Shape, [], adr_name, adr_num, adr_rows, adr_scope, adr_type, adrs, ap, arith, attribute_of, attribute_records, attribute_shape_rows, attribute_types, avoided, before_first, both, chain_of, content, count_field, differ_by_names, differ_rows, entries_rows, entry_type, fixed_size, flat_map, flat_map-append, gdr_adr_head, gdr_type, gdr_uir_head, head_field, inl, inr, is_in, is_record_type, keeps_adr, keeps_but_chain, keeps_file, keeps_other, keeps_variables, length, linkable-in, linkable-type, map, map-append, name_in, names_at, names_differ, nat_le, number, piece_kept, refl, row, same_name, shape, shape_is, size_at, subst, sym, tile_lies, times, true, type_at, uir_type, with_attribute, with_chain, with_entries, word_kept, ℕ, ◌&&◌, ◌++◌, ◌+◌, ◌==◌, ◌∙◌, ◌∷◌, ◌≡◌, ◌≤◌}
 use Rattle.std.proofs.Common.{not}
 use Rattle.cdf_format.specs.Content.{entries_of}
 use Rattle.cdf_edits.proofs.Edits.AttributeFrame.{AreThere, lives_away, all_remain}
@@ -205,8 +205,8 @@ module _ {b now : List ℕ} {s : Shape} {new list : List ℕ} {marks : List Mark
       same_sums u' u g h p q = omega arith
 
   -- each record has the owner that it had, but for the reborn ones
-  pub rules_rechained : IsGoodByShape b s → Hold (entries_rows now own.adr (count_field kind) chain') → ((m : ℕ) → In m reborn → is_in (type_at now m) read_types ≡ true) → ((m : ℕ) → (In m reborn → ⊥) → times m gone ≡ times m come) → ((m : ℕ) → In m reborn → IsSorted now made m) → OwnRules sound splices
-  rules_rechained good rules read beside_same sorted =
+  pub rules_rechained : IsGoodByShape b s → Hold (entries_rows now own.adr (count_field kind) chain') → ((m : ℕ) → (In m reborn → ⊥) → times m gone ≡ times m come) → ((m : ℕ) → In m reborn → IsSorted now made m) → OwnRules sound splices
+  rules_rechained good rules beside_same sorted =
       let p = Hold-split (flat_map (attribute_shape_rows b) s.attributes) (differ_rows 2 (same_name b adr_name) [] (adrs s)) good.attributes in
       let own_name : name_in now own'.adr adr_name ≡ name_in b own.adr adr_name = ap (λ (a : ℕ). name_in now a adr_name) (adr_of kind own chain') ∙ name_same in
       let names = names_now sound splices ∙ ap (λ (n : List ℕ). names_at b adr_name (map (λ (a : AttributeShape). a.adr) before) ++ n ∷ names_at b adr_name (map (λ (a : AttributeShape). a.adr) after)) own_name ∙ sym (names_before sound splices) in
@@ -214,7 +214,6 @@ module _ {b now : List ℕ} {s : Shape} {new list : List ℕ} {marks : List Mark
         counted = counted sound splices (adr_of kind own chain') num_same live good clear_parts.1.1;
         own_rules = Hold-append (attribute_shape_rows now own') [] (own_now good rules) tt;
         differ = differ_by_names 2 now adr_name _ (subst (AreNew []) (sym names) (names_differ 2 b adr_name (adrs s) p.1));
-        read = read;
         owned = owned_once_if b now s made marks reborn sound good.owned_once e (λ m out. same_owners m (beside_same m out)) sorted;
       }
 

@@ -14,7 +14,6 @@ pub use Rattle.cdf_edits.proofs.Edits.ChainsOfShape.{IsOf, few_members, has_chai
 pub use Rattle.cdf_edits.proofs.Edits.Composing.{changed_edit, edit_then, head_size, head_type, same-then}
 pub use Rattle.cdf_edits.proofs.Edits.EditActs.{acts_none, acts_took}
 pub use Rattle.cdf_edits.proofs.Edits.EntryFields.{of_shape}
-pub use Rattle.cdf_edits.proofs.Edits.FirstRecords.{read_now}
 pub use Rattle.cdf_edits.proofs.Edits.FreedAfter.{Frees, all_freed, freed_acts, freed_bytes, freed_edit, freed_long, freed_places, freed_records, freed_shape, freed_types, freeing_behind, gdr_still, may_free, others_kept, says_still, sizes_before, sound_now}
 pub use Rattle.cdf_edits.proofs.Edits.FreedBytes.{BytesStay, behind_link, behind_stays, end_long, free_used, freed_stay_but, unowned_used}
 pub use Rattle.cdf_edits.proofs.Edits.FreedRecord.{FreesRecord, IsPlain, as_long_now, freed_each, freed_keeps_unused, freed_list, freed_real, freed_type, gdr_same, other_chain, other_links, records_now}

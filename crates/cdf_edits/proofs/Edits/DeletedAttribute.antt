@@ -1,5 +1,5 @@
 -- An attribute is taken out of the chain, counted no more, those behind it are numbered anew, and its records are freed: the image is good, with the content without it, and what it keeps of each record.
-use Rattle.cdf_edits.proofs.Common.{Act, AllGiven, AllKeep, Allowances, Answers, Anything, AreFree, AreNew, Attribute, AttributeShape, Attrs, Bool, ByStep, Covered, DataSet, Deletes, Distinct-push, Done, Each, Each-append, Edit, Field, Go, Good, GrEntries, HasShape, Hold, Hold-split, In, In-append, In-append_left, In-append_right, IsChain, IsSound, Keeps, LiesIn, List, Lists, Mark, None, OneAttribute, Only, Option, Plain, Refused, Removed, Same, Shape, Some, TakenOut, Unlinks, Write, ZEntries, [], absent-append, absent-split, adr_name, adr_num, adr_type, adrs, adrs_rows, aedr_attr_num, agr_edr_type, ap, append_assoc, ap₂, arith, attribute_named, attribute_names, attribute_of, attribute_records, attribute_shape_rows, attribute_types, az_edr_type, content, content_is, del_attr_step, deleting_marks, differ_by_names, differ_rows, drop, drop-append_seam, eq-eqb, eq_of, eqb-true, false, flat_map, freeing_marks, gave, gdr_adr_head, gdr_eof, gdr_num_attr, gdr_uir_head, get_or, good_by_its_shape, good_is_sound, good_long, if◌then◌else◌, image_limit, inl, inr, is_attribute, is_in, length, linkable-in, linkable-type, links_end, map, map-append, members_of, name_in, names_at, names_differ, next_field, number, numbering_marks, numbers_from, owned, owned_by, read_types, refl, remove, rules_of_good, same_name, sealed_kept, shape, size_at, slice_get, stands_in, subst, suc, sym, times, touched_field, true, true-is_in, type_at, uir_next_uir, uir_prev_uir, uir_type, unlinking_marks, with_writes, write, ℕ, ◌++◌, ◌+◌, ◌-◌, ◌<◌, ◌==◌, ◌∙◌, ◌∷◌, ◌≡◌, ◌≤◌}
+use Rattle.cdf_edits.proofs.Common.{Act, AllGiven, AllKeep, Allowances, Answers, Anything, AreFree, AreNew, Attribute, AttributeShape, Attrs, Bool, ByStep, Covered, DataSet, Deletes, Distinct-push, Done, Each, Each-append, Edit, Field, Go, Good, GrEntries, HasShape, Hold, Hold-split, In, In-append, In-append_left, In-append_right, IsChain, IsSound, Keeps, LiesIn, List, Lists, Mark, None, OneAttribute, Only, Option, Plain, Refused, Removed, Same, Shape, Some, TakenOut, Unlinks, Write, ZEntries, [], absent-append, absent-split, adr_name, adr_num, adr_type, adrs, adrs_rows, aedr_attr_num, agr_edr_type, ap, append_assoc, ap₂, arith, attribute_named, attribute_names, attribute_of, attribute_records, attribute_shape_rows, attribute_types, az_edr_type, content, content_is, del_attr_step, deleting_marks, differ_by_names, differ_rows, drop, drop-append_seam, eq-eqb, eq_of, eqb-true, false, flat_map, freeing_marks, gave, gdr_adr_head, gdr_eof, gdr_num_attr, gdr_uir_head, get_or, good_by_its_shape, good_is_sound, good_long, if◌then◌else◌, image_limit, inl, inr, is_attribute, is_in, length, linkable-in, linkable-type, links_end, map, map-append, members_of, name_in, names_at, names_differ, next_field, number, numbering_marks, numbers_from, owned, owned_by, refl, remove, rules_of_good, same_name, sealed_kept, shape, size_at, slice_get, stands_in, subst, suc, sym, times, touched_field, true, true-is_in, type_at, uir_next_uir, uir_prev_uir, uir_type, unlinking_marks, with_writes, write, ℕ, ◌++◌, ◌+◌, ◌-◌, ◌<◌, ◌==◌, ◌∙◌, ◌∷◌, ◌≡◌, ◌≤◌}
 use Rattle.cdf_edits.proofs.Edits.Common.{edit_under, unused_real, fewer_rows, tiles_numbered, place_in, numbering, others_say, are_numbered, LeavingTests, LeavesChain, may_linked, left_edit, said_now, chain_now, list_now, as_long, counted_now, may_now, distinct_if, mine_once, not_twice, can_be_freed, Left, owned_left, left_of, Avoids-split, avoided-avoids, within-within, away-of_type, within-of_type, avoids-of_type, OnlyOwns, parts_once, own_in, only_owns, back_in, front_in, gdr_typed, some_bytes, fixed_long, MayWrite, writes_lie, times-in, attribute_typed, Frees, freed_edit, sound_now, all_freed, says_still, gdr_still, behind_stays, gdr_field, file_same, gdr_place, refused, gone_by_giving, AllKeep-append, keep_unused, keep_places, keep_parts, keeps_stays, keep_each, attributes_counted, Each-map, all_variables_kept, Each-apply, map-removed, AtNumber, at_number, map-without, IsOf, few_members, lists, others_in, SaysNumber, may_write, freed_shape, freed_records, freed_long, freed_types, freed_acts, freed_bytes, out_counted, shape_there, sound_there, same_middle, keep_attributes_alone, end_before, StaysBut, stays_within, field_stays}
 use Rattle.cdf_edits.proofs.Edits.AttributeFrame.{all_last, AreThere, more_there, entry, each_there, remaining_names}
 use Rattle.cdf_edits.proofs.Edits.OwnedOnce.{spliced_times}
@@ -247,11 +247,10 @@ module _ {b now : List ℕ} {n : ℕ} (good : Good b) (d : Deletes b now n) wher
   good_after short =
       let image = good_by_its_shape b good in
       let end = gdr_field sound e refl gdr_eof refl (omega arith) ∙ end_before b good ∙ sym (freed_long frees) in
-      good_image_if sound whole (sealed_kept b (good_long b s image) (rules_of_good b good)).0 image (record {
+      good_image_if sound whole good image (record {
         counted = counted;
         own_rules = tt;
         differ = differ;
-        read = λ m i. subst (λ (t : ℕ). is_in t read_types ≡ true) (sym (all_freed frees m i)) refl;
         owned = owned_left (left_by sound d.unlinks (shape now).unused) image.owned_once e (own_mine sound d.unlinks) all_mine (all_freed frees);
       }) end (let l = freed_long frees in omega arith)
     where

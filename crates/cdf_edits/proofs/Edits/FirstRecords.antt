@@ -1,20 +1,10 @@
--- What every edit leaves that keeps the CDR and the GDR: the types of all records, and the rules on the file.
-use Rattle.cdf_edits.proofs.Common.{AllHold, Edit, HasShape, Hold, Hold-member, Hold-members, In, IsSound, List, Mark, Shape, ap, arith, cases_eq, cdr_type, cdr_version, either, encoding_at, eof, false-is_in, first_phases, fixed_size, flat_map, gdr_type, has_bit, inl, inr, is_a-type, is_in, is_positive, is_record_type, is_some, keeps_file, length, list_all, number_kept, r_num_dims, read_types, refl, sealed, size_at, subst, sym, tile_lies, true, true-is_in, type_at, type_kept, uir_type, unread_type, word_kept, ℕ, ◌*◌, ◌+◌, ◌∙◌, ◌≡◌, ◌≤◌}
+-- What every edit leaves that keeps the CDR and the GDR: the rules on the file.
+use Rattle.cdf_edits.proofs.Common.{AllHold, Edit, HasShape, In, IsSound, List, Mark, Shape, ap, arith, cases_eq, cdr_type, cdr_version, either, encoding_at, eof, false-is_in, first_phases, fixed_size, gdr_type, has_bit, inl, inr, is_a-type, is_in, is_positive, is_record_type, is_some, keeps_file, length, list_all, number_kept, r_num_dims, refl, sealed, size_at, subst, sym, tile_lies, true, true-is_in, type_at, type_kept, uir_type, word_kept, ℕ, ◌*◌, ◌+◌, ◌∙◌, ◌≡◌, ◌≤◌}
 use Rattle.std.proofs.Common.{not, ◌||◌}
 use Rattle.cdf_edits.proofs.Rules.FirstHead.{FirstSays, first_said}
 use Rattle.cdf_edits.proofs.Edits.RecordFrame.{cdr_kept, cdr_long, gdr_start, gdr_part, gdr_dimensions, dimensions_same, file_stays}
 use Rattle.cdf_edits.proofs.Edits.StepEdits.{gdr_typed, gdr_long}
 use Rattle.cdf_edits.proofs.Edits.Composing.{head_size, head_type}
-
--- the types of records that are read
-pub read_now : {b now old new : List ℕ} {marks : List Mark} {reborn : List ℕ} → Edit b now old new marks reborn → Hold (flat_map (unread_type b) old) → ((m : ℕ) → In m reborn → is_in (type_at now m) read_types ≡ true) → Hold (flat_map (unread_type now) new)
-read_now {b = b} {now = now} {old = old} {new = new} e rules own = Hold-members (unread_type now) new (λ m i. (
-  elim (e.kind m i) [
-    | inl j ↦ ap (λ (t : ℕ). is_in t read_types) j.1 ∙ (Hold-member (unread_type b) old m rules j.0).0
-    | inr j ↦ elim j [ inl u ↦ ap (λ (t : ℕ). is_in t read_types) u.1 | inr r ↦ own m r ]
-  ],
-  tt,
-))
 
 module _ {b now : List ℕ} {s : Shape} {new : List ℕ} {marks : List Mark} {reborn : List ℕ} (sound : IsSound b s) (e : Edit b now s.records new marks reborn) (clear : keeps_file marks ≡ true) (typed : (m : ℕ) → In m reborn → (is_record_type (type_at now m) ≡ true) × (fixed_size (type_at now m) ≤ size_at now m)) where
   h : HasShape b s

@@ -1,5 +1,5 @@
 -- An entry that its chain has no more is freed.
-use Rattle.cdf_edits.proofs.Common.{Act, ActsFollow, AttributeShape, Avoids, Away, Confined, Each, EntryFits, EntryKind, Field, Gave, GivenStay, Gives, In, In-append, In-append_left, In-append_right, IsSound, List, Mark, Same, Shape, Within, [], adr_type, ap, arith, attribute_records, attribute_types, avoided, chain_fields, chain_of, count_field, entry_type, eof, false, fixed_size, gave, gdr_eof, gdr_type, giving_marks, head_field, inl, inr, is_in, is_record_type, is_taken, keeps_but_chain, length, linkable-in, linkable-type, map, max_field, no_fields, number, owned_records, read_types, refl, shape, size_at, space_fields, subst, sum, sym, taken, times, times-none, true, type_at, uir_next_uir, uir_prev_uir, uir_type, within, ℕ, ◌++◌, ◌+◌, ◌∙◌, ◌∷◌, ◌≡◌, ◌≢◌, ◌≤◌}
+use Rattle.cdf_edits.proofs.Common.{Act, ActsFollow, AttributeShape, Avoids, Away, Confined, Each, EntryFits, EntryKind, Field, Gave, GivenStay, Gives, In, In-append, In-append_left, In-append_right, IsSound, List, Mark, Same, Shape, Within, [], adr_type, ap, arith, attribute_records, attribute_types, avoided, chain_fields, chain_of, count_field, entry_type, eof, false, fixed_size, gave, gdr_eof, gdr_type, giving_marks, head_field, inl, inr, is_record_type, is_taken, keeps_but_chain, length, linkable-in, linkable-type, map, max_field, no_fields, number, owned_records, refl, shape, size_at, space_fields, subst, sum, sym, taken, times, times-none, true, type_at, uir_next_uir, uir_prev_uir, uir_type, within, ℕ, ◌++◌, ◌+◌, ◌∙◌, ◌∷◌, ◌≡◌, ◌≢◌, ◌≤◌}
 use Rattle.cdf_model.specs.declared.kinds.EntryKind.TheVariants as entries
 use Rattle.cdf_edits.proofs.Edits.ChainKinds.{chain_has, chain_in}
 use Rattle.cdf_edits.proofs.Edits.ChainOwners.{rechained, gone_free, gone_unowned, traded_member}
@@ -58,7 +58,6 @@ pub record Frees (b late : List ℕ) (records list : List ℕ) (marks : List Mar
   pub come_in : (m : ℕ) → In m come → In m reborn
   pub fit : (m : ℕ) → In m come → EntryFits late m
   pub sorted : (m : ℕ) → In m reborn → (type_at late m ≢ uir_type) × (used_times (rechained (shape b) records list before own after kind chain' (old ∷ []) come rechains.was rechains.trades) m ≡ 1)
-  pub read : (m : ℕ) → In m reborn → is_in (type_at late m) read_types ≡ true
   pub clear : keeps_but_chain (marks ++ giving_marks list (entry_type kind) old (size_at late old)) kind ≡ true
   pub gdr_within : within (marks ++ giving_marks list (entry_type kind) old (size_at late old)) gdr_type space_fields ≡ true
   pub adr_within : within (marks ++ giving_marks list (entry_type kind) old (size_at late old)) adr_type (chain_fields kind) ≡ true
@@ -215,7 +214,6 @@ module _ {b late : List ℕ} {records list : List ℕ} {marks : List Mark} {rebo
 
     pub freed_settled : eof late (shape b).gdr ≡ length late → Settled sound freed_rechains need (acts ++ Gave old (size_at b old) ∷ [])
     freed_settled ends = record {
-      read = of_one.freed_each one (λ (m : ℕ). is_in (type_at now m) read_types ≡ true) f.reborn_in f.out (λ m i type size. ap (λ (t : ℕ). is_in t read_types) type ∙ f.read m i) (ap (λ (t : ℕ). is_in t read_types) freed_type);
       beside = λ m out. times-none m (old ∷ []) (λ i. out (In-append_right m reborn (old ∷ []) i)) ∙ sym (none_come m (λ i. out (In-append_left m reborn (old ∷ []) i)));
       sorted = freed_sorted;
       end = of_one.gdr_same one gdr_eof (omega arith) ∙ ends ∙ sym as_long_now;

@@ -1,5 +1,5 @@
 -- The old VDR is freed that another one took the place of: what the image is then, and what `set-pad` does where the VDR moves.
-use Rattle.cdf_edits.proofs.Common.{Act, ActsFollow, AllKeep, Allowances, Anything, Each, Edit, Field, Found, Gave, Gives, Good, Hold-member, In, In-append, Keeps, Kind, List, Mark, Only, R, SetsPad, Shape, Some, Took, Unused, Variable, VariableShape, Z, [], adding_marks, ap, arith, bytes_kept, content, count_of, eq-eqb, fixed_size, gdr_eof, gdr_offset, giving_marks, good_by_its_shape, head_of, image_limit, inl, inr, is_in, is_little, is_record_type, le_refl, length, lt-leb, making_marks, ne_eqb, next_field, number, number_kept, owned, owned_by, pad_field, read_types, refl, set_pad_changes, shape, shape_is, shapes_of, size_at, size_kept, slice_set, stays_own, subst, suc, sym, times-none, true, turned, type_at, type_in, type_kept, type_of_variable, unread_type, unused_records, variable_of, variables_chain, variables_of, vdr_end, vdr_flags, vdr_type, vdrs, vdrs_append, with_variables, ℕ, ◌++◌, ◌+◌, ◌<◌, ◌==◌, ◌∙◌, ◌∷◌, ◌≡◌, ◌≢◌, ◌≤◌, ◌⊎◌}
+use Rattle.cdf_edits.proofs.Common.{Act, ActsFollow, AllKeep, Allowances, Anything, Each, Edit, Field, Found, Gave, Gives, Good, In, In-append, Keeps, Kind, List, Mark, Only, R, SetsPad, Shape, Some, Took, Unused, Variable, VariableShape, Z, [], adding_marks, ap, arith, bytes_kept, content, count_of, eq-eqb, fixed_size, gdr_eof, gdr_offset, giving_marks, good_by_its_shape, head_of, image_limit, inl, inr, is_little, is_record_type, le_refl, length, lt-leb, making_marks, ne_eqb, next_field, number, number_kept, owned, owned_by, pad_field, refl, set_pad_changes, shape, shape_is, shapes_of, size_at, size_kept, slice_set, stays_own, subst, suc, sym, times-none, true, turned, type_at, type_in, type_kept, type_of_variable, unused_records, variable_of, variables_chain, variables_of, vdr_end, vdr_flags, vdr_type, vdrs, vdrs_append, with_variables, ℕ, ◌++◌, ◌+◌, ◌<◌, ◌==◌, ◌∙◌, ◌∷◌, ◌≡◌, ◌≢◌, ◌≤◌, ◌⊎◌}
 use Rattle.std.proofs.Common.{not}
 use Rattle.cdf_edits.proofs.Edits.VdrEdited.{ours}
 use Rattle.cdf_edits.proofs.Edits.MadeRecord.{place_in}
@@ -175,8 +175,7 @@ module _ {b late now : List ℕ} {kind : Kind} {before : List VariableShape} {ow
       let image = good_by_its_shape b good in
       let e = as_long_now f in
       replaced_good good at freed_splices (replaced_counted good at freed_splices count_now (nums_from (sound good at) edit_now file_now before (ours good at).0 front_live) (nums_from (sound good at) edit_now file_now after (after_ours good at) back_live) (num_is says_now))
-      ruled (replaced_named good at freed_splices (name_is says_now inside.0 inside.1))
-      (of_both (λ (x : ℕ). is_in (type_at now x) read_types ≡ true) (λ type size. ap (λ (t : ℕ). is_in t read_types) says_now.typed ∙ (Hold-member (unread_type b) s.records old image.read_types (tile good at)).0) (ap (λ (t : ℕ). is_in t read_types) (freed_type f)))
+      ruled (packed says_now) (replaced_named good at freed_splices (name_is says_now inside.0 inside.1))
       (owned_once_if b now s shape_then all_marks (by ∷ old ∷ []) (sound good at) image.owned_once edit_now same_owners
       (of_both (IsSorted now shape_then) (λ type size. inl ((λ u. (plain_kind kind).no_uir (sym (typed good at) ∙ sym says_now.typed ∙ u)), by_once good at m says)) (inr (freed_type f, old_unowned good at m says))))
       (gdr_same f gdr_eof (omega arith) ∙ ends (sound good at) m ∙ sym e) (omega arith)

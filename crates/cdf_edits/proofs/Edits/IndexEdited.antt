@@ -1,6 +1,6 @@
 -- One variable of a kind has another index by now, and its descriptor stays but for MaxRec, VXRhead and VXRtail: what follows of the image.
 
-use Rattle.cdf_edits.proofs.Common.{Avoids, Away, Edit, Good, HasShape, HasVariable, Hold, In, IsChain, IsIndex, Kind, List, Mark, Nodes, OwnedOnce, Same, Shape, VariableShape, [], ap, arith, avoided, count_of, cpr_link, cpr_type, eof, fixed_size, gdr_type, gdr_uir_head, head_of, image_limit, index_rows, inl, inr, is_a, is_a-type, is_in, is_max_rec, is_record_type, keeps_file, length, linkable-in, linkable-type, max, name_in, number, owned, read, read_types, refl, shape, shapes_of, size_at, subst, sym, tile_lies, true, type_at, type_in, uir_type, unmarked, variable_records, variables_chain, vdr_max_rec, vdr_name, vdr_num, vdr_vxr_head, vdrs, word_kept, ℕ, ◌++◌, ◌+◌, ◌∙◌, ◌∷◌, ◌≡◌, ◌≤◌, ◌⊎◌}
+use Rattle.cdf_edits.proofs.Common.{Avoids, Away, Edit, Good, HasShape, HasVariable, Hold, In, IsChain, IsIndex, Kind, List, Mark, Nodes, OwnedOnce, Same, Shape, VariableShape, [], ap, arith, avoided, count_of, cpr_link, cpr_type, eof, fixed_size, gdr_type, gdr_uir_head, head_of, image_limit, index_rows, inl, inr, is_a, is_a-type, is_max_rec, is_record_type, keeps_file, length, linkable-in, linkable-type, max, name_in, number, owned, refl, shape, shapes_of, size_at, subst, sym, tile_lies, true, type_at, type_in, uir_type, unmarked, variable_records, variables_chain, vdr_max_rec, vdr_name, vdr_num, vdr_vxr_head, vdrs, word_kept, ℕ, ◌++◌, ◌+◌, ◌∙◌, ◌∷◌, ◌≡◌, ◌≤◌, ◌⊎◌}
 use Rattle.cdf_edits.proofs.Edits.Common.{Each-in, FileSame, cpr_own, IsRuled, Kept, OwnEdit, VdrAlike, VdrStays, all_variable_records, cpr_behind, cpr_stays, end_stays, file_same, fixed_long, head_size, head_type, keeps_all_attributes, keeps_kind, kept, kind_chain, name_stays, named_before, other_kind, own_ruled, packed_stays, stays_alike, variable_rules_alike, with_shapes}
 use Rattle.std.proofs.Common.{not, ◌==◌}
 use Rattle.cdf_edits.proofs.Edits.StandsAmong.{StandsAmong, sound, tile, typed, long, has, fits, behind_in, through, least_size}
@@ -93,5 +93,5 @@ module _ {b now : List ℕ} {kind : Kind} {before : List VariableShape} {own : V
     rows,
   )
 
-  pub good_now : Hold (index_rows now new v index) → is_max_rec (number now v vdr_max_rec) ≡ true → ((m : ℕ) → In m reborn → is_in (type_at now m) read_types ≡ true) → OwnedOnce now (with_shapes s kind new list (before ++ mine ∷ after)) → eof now s.gdr ≡ length now → length now ≤ image_limit → Good now
-  good_now rows max read owned end short = of_own.good_by good at own_edit (ruled rows max) (named_before good at own_edit name_same) read owned end short
+  pub good_now : Hold (index_rows now new v index) → is_max_rec (number now v vdr_max_rec) ≡ true → OwnedOnce now (with_shapes s kind new list (before ++ mine ∷ after)) → eof now s.gdr ≡ length now → length now ≤ image_limit → Good now
+  good_now rows max owned end short = of_own.good_by good at own_edit (ruled rows max) (packed_stays file stays) (named_before good at own_edit name_same) owned end short

@@ -207,7 +207,6 @@ module _ {b late : List ℕ} {kind : EntryKind} {before : List AttributeShape} {
     come_in = λ m i. absurd i;
     fit = λ m i. absurd i;
     sorted = λ m i. absurd i;
-    read = λ m i. absurd i;
     clear = (t s.unused (size_at late old)).all_clear;
     gdr_within = (t s.unused (size_at late old)).gdr_within;
     adr_within = (t s.unused (size_at late old)).adr_within;

@@ -1,5 +1,5 @@
 -- What an image comes to in which one chain of entries of an attribute is another, for a command on an entry of a number.
-use Rattle.cdf_edits.proofs.Common.{Act, ActsFollow, AllKeep, Allowances, Attribute, AttributeShape, ByStep, ChainFollows, Command, DataSet, Distinct, Does, Entry, EntryKind, Follows, Go, Good, Hold, Hold-append, Hold-member, Hold-members, Hold-split, In, IsSound, List, Mark, OfAttribute, Plain, Shape, Some, Unused, [], adr_type, aedr_num, allowances, ap, arith, attribute_named, attribute_of, chain_after, chain_fields, chain_of, content, count_field, differ_rows, entries_of, entries_rows, entry_at, entry_changes, entry_rows, eof, eq-eqb, eq_of, false, flat_map, gdr_type, good_by_its_shape, good_is_sound, good_long, greatest_number, image_limit, integer4, is_in, length, map, max_field, number, only_reads, owned, owned_by, read_types, refl, room, rules_of_good, same_number, sealed_kept, shape, slice_get, space_fields, step, subst, sum, sym, taken, times, true, true≢false, type_at, unused_records, with_attribute, with_chain, with_entries, within, ℕ, ◌++◌, ◌+◌, ◌∙◌, ◌∷◌, ◌≡◌, ◌≤◌}
+use Rattle.cdf_edits.proofs.Common.{Act, ActsFollow, AllKeep, Allowances, Attribute, AttributeShape, ByStep, ChainFollows, Command, DataSet, Distinct, Does, Entry, EntryKind, Follows, Go, Good, Hold, Hold-append, Hold-member, Hold-members, Hold-split, In, IsSound, List, Mark, OfAttribute, Plain, Shape, Some, Unused, [], adr_type, aedr_num, allowances, ap, arith, attribute_named, attribute_of, chain_after, chain_fields, chain_of, content, count_field, differ_rows, entries_of, entries_rows, entry_at, entry_changes, entry_rows, eof, eq-eqb, eq_of, false, flat_map, gdr_type, good_by_its_shape, good_is_sound, good_long, greatest_number, image_limit, integer4, length, map, max_field, number, only_reads, owned, owned_by, refl, room, rules_of_good, same_number, sealed_kept, shape, slice_get, space_fields, step, subst, sum, sym, taken, times, true, true≢false, unused_records, with_attribute, with_chain, with_entries, within, ℕ, ◌++◌, ◌+◌, ◌∙◌, ◌∷◌, ◌≡◌, ◌≤◌}
 use Rattle.cdf_model.specs.declared.kinds.EntryKind.TheVariants as entries
 use Rattle.cdf_format.specs.Content.{entries_of as chain_items}
 use Rattle.cdf_edits.proofs.Edits.ChainEntries.{nums, differ_by_nums, nums_differ, entry_rules_live}
@@ -56,16 +56,15 @@ module _ {b now new list : List ℕ} {marks : List Mark} {reborn : List ℕ} {ki
     rules_live m i out = entry_rules_live b now own.adr m (num_same sound r) (entry_stays sound r m i out) (rules_before m i)
 
   -- an image whose chain keeps the rules is good
-  good_chained : Good b → number now own.adr (count_field kind) ≡ length chain' → Distinct (nums now chain') → ((m : ℕ) → In m chain' → Hold (entry_rows now own.adr m)) → ((m : ℕ) → In m reborn → is_in (type_at now m) read_types ≡ true) → ((m : ℕ) → (In m reborn → ⊥) → times m gone ≡ times m come)
+  good_chained : Good b → number now own.adr (count_field kind) ≡ length chain' → Distinct (nums now chain') → ((m : ℕ) → In m chain' → Hold (entry_rows now own.adr m)) → ((m : ℕ) → (In m reborn → ⊥) → times m gone ≡ times m come)
       → ((m : ℕ) → In m reborn → IsSorted now (made sound r) m) → eof now (shape b).gdr ≡ length now → length now ≤ image_limit → Good now
-  good_chained good counted differ rules read beside sorted end short =
+  good_chained good counted differ rules beside sorted end short =
       let image = good_by_its_shape b good in
       let rows : Hold (entries_rows now own.adr (count_field kind) chain') = (eq-eqb (number now own.adr (count_field kind)) (length chain') counted, Hold-append (flat_map (entry_rows now own.adr) chain') (differ_rows 7 (same_number now) [] chain') (Hold-members (entry_rows now own.adr) chain' rules) (differ_by_nums now chain' differ)) in
-      good_image_if sound (splices sound r) (sealed_kept b (good_long b (shape b) image) (rules_of_good b good)).0 image (rules_rechained sound r image rows read beside sorted) end short
+      good_image_if sound (splices sound r) good image (rules_rechained sound r image rows beside sorted) end short
 
   -- what is to be shown of owners, of the space and of the acts
   pub record Settled (need : ℕ) (acts : List Act) : Type 0 where
-    pub read : (m : ℕ) → In m reborn → is_in (type_at now m) read_types ≡ true
     pub beside : (m : ℕ) → (In m reborn → ⊥) → times m gone ≡ times m come
     pub sorted : (m : ℕ) → In m reborn → IsSorted now (made sound r) m
     pub end : eof now (shape b).gdr ≡ length now
@@ -77,7 +76,7 @@ module _ {b now new list : List ℕ} {marks : List Mark} {reborn : List ℕ} {ki
     pub unused : (may : Allowances) → AllKeep b now may acts (owned_by Unused (unused_records b (shape b)))
 
   pub good_settled : {need : ℕ} {acts : List Act} → Good b → number now own.adr (count_field kind) ≡ length chain' → Distinct (nums now chain') → ((m : ℕ) → In m chain' → Hold (entry_rows now own.adr m)) → Settled need acts → length b + need ≤ image_limit → Good now
-  good_settled good counted differ rules s short = good_chained good counted differ rules s.read s.beside s.sorted s.end (omega (arith, s.longest, short))
+  good_settled good counted differ rules s short = good_chained good counted differ rules s.beside s.sorted s.end (omega (arith, s.longest, short))
 
   -- and of the entries
   pub record Chained (attr : List ℕ) (num need : ℕ) (items : List (ℕ × Entry)) (acts : List Act) : Type 0 where

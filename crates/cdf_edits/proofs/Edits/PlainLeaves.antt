@@ -3,7 +3,8 @@ use Rattle.cdf_edits.proofs.Common.{BlockFits, Each, Each-split, Good, Kind, Lea
 use Rattle.cdf_edits.proofs.Edits.Common.{Ascending, IsRuled, StandsAmong, all_ruled, count_is, fits, has, kind_times, of_kind, owned-times, places_of, sound, times-append, times-three}
 use Rattle.cdf_edits.proofs.Edits.LeafPieces.{IsOneOf, PlacedApart, in_order, of_each}
 use Rattle.cdf_edits.proofs.Edits.LeavesOrder.{index_ascends}
-use Rattle.cdf_edits.proofs.Edits.PlainVariables.{IsPlainBlock, is_uncompressed}
+use Rattle.cdf_edits.proofs.Edits.PlainVariables.{IsPlainBlock, IsUncompressed, is_uncompressed}
+use Rattle.cdf_edits.proofs.Edits.StandsAmong.{loose}
 
 -- a block with its records
 pub record PlainLeaf (b : List ℕ) (size : ℕ) (l : Leaf) : Type 0 where
@@ -26,10 +27,13 @@ module _ {b : List ℕ} {kind : Kind} {before : List VariableShape} {own : Varia
   pub leaves_ascend : Ascending 0 (suc record_number_limit) (leaves_of own.index)
   leaves_ascend = index_ascends b s.records own.vdr own.index own_rules.1
 
+  pub uncompressed : IsUncompressed b s.records own
+  uncompressed = is_uncompressed own (has good at) (fits good at) own_rules.1 (loose good at)
+
   pub plain_leaf : is_compressed b own.vdr ≡ false → (l : Leaf) → IsOneOf (leaves_of own.index) l → PlainLeaf b (record_bytes b own.vdr) l
-  plain_leaf loose l i =
+  plain_leaf not_packed l i =
       let leaves = leaves_of own.index in
-      let is = of_each (IsPlainBlock b s.records) leaves l (is_uncompressed (good_by_its_shape b good) own (has good at) (fits good at)).plain_blocks i in
+      let is = of_each (IsPlainBlock b s.records) leaves l uncompressed.plain_blocks i in
       let o = in_order 0 (suc record_number_limit) leaves leaves_ascend l i in
       let small : l.last ≤ record_number_limit = omega (arith, o.before) in
       let fit : BlockFits b own.vdr l false = subst (BlockFits b own.vdr l) is.1 (of_each (LeafFits b s.records own.vdr) leaves l (fits good at).2 i).1 in

@@ -1,8 +1,31 @@
--- So far no variable of a good image is compressed: records of parameters and of packed blocks are refused (rule 4.99).
-use Rattle.cdf_edits.proofs.Common.{Bool, Each, HasVariable, Hold-member, In, IsGoodByShape, Leaf, LeafFits, List, Shape, VariableFits, VariableShape, [], ap, cpr_type, cvvr_type, false, if◌then◌else◌, inl, inr, is_a, is_a-in, is_a-type, is_compressed, is_in, leaves_of, number, read_types, refl, sym, true, true≢false, type_at, unread_type, vdr_cpr_or_spr_offset, vvr_type, ℕ, ◌==◌, ◌∙◌, ◌∷◌, ◌≡◌}
+-- A variable of a good image that is not compressed: it has no CPR, and no block of it is packed (rule 8.6).
+use Rattle.cdf_edits.proofs.Common.{Bool, Each, HasVariable, Hold, Hold-split, Leaf, LeafFits, List, VariableFits, VariableShape, [], ap, cvvr_type, false, flat_map, if◌then◌else◌, index_rows, inl, inr, is_a, is_a-type, is_compressed, leaf_rows, leaves_of, nodes_rows, refl, sym, true, true≢false, vvr_type, ℕ, ◌==◌, ◌∙◌, ◌∷◌, ◌≡◌}
 use Rattle.cdf_edits.proofs.Edits.MarkLemmas.{or_cases}
-use Rattle.cdf_edits.proofs.Frame.OwnerAlone.{Each-in}
+use Rattle.cdf_format.proofs.RowLemmas.{Hold-asked}
 use Rattle.cdf_format.proofs.SoundLemmas.{IsPackedAs, leaves_packed}
+use Rattle.cdf_format.proofs.Tests.{both}
+use Rattle.cdf_format.specs.IndexRules.{cvvr_rows, holds_packed, vvr_rows}
+use Rattle.cdf_format.specs.NotRead.{unread_variables}
+use Rattle.cdf_format.specs.Rules.{asked}
+use Rattle.cdf_format.specs.Shape.{vdrs}
+use Rattle.cdf_model.specs.Limits.{record_number_limit}
+use Rattle.std.specs.Prelude.{negsuc, not, pos}
+
+-- ---- the flag
+
+loose_if : (p : Bool) → not p ≡ true → p ≡ false
+loose_if true e = absurd cc
+loose_if false e = refl
+
+pub all_loose : (b : List ℕ) (vs : List VariableShape) → Hold (unread_variables b (vdrs vs)) → Each (λ v. is_compressed b v.vdr ≡ false) vs
+all_loose b [] read = tt
+all_loose b (v ∷ more) read = (loose_if (is_compressed b v.vdr) read.0, all_loose b more read.1)
+
+pub read_if : (b : List ℕ) (vs : List VariableShape) → Each (λ v. is_compressed b v.vdr ≡ false) vs → Hold (unread_variables b (vdrs vs))
+read_if b [] loose = tt
+read_if b (v ∷ more) loose = (ap not loose.0, read_if b more loose.1)
+
+-- ---- the blocks
 
 -- its records stand in a VVR
 abbrev pub IsPlainBlock : List ℕ → List ℕ → Leaf → Type 0
@@ -10,43 +33,32 @@ IsPlainBlock b records leaf = (is_a b records vvr_type leaf.place ≡ true) × (
 
 pub record IsUncompressed (b records : List ℕ) (v : VariableShape) : Type 0 where
   pub no_cpr : v.cpr ≡ []
-  pub no_flag : is_compressed b v.vdr ≡ false
   pub plain_blocks : Each (IsPlainBlock b records) (leaves_of v.index)
 
-empty_list : (xs : List ℕ) → ((m : ℕ) → In m xs → ⊥) → xs ≡ []
-empty_list [] out = refl
-empty_list (x ∷ xs) out = absurd (out x (inl refl))
+none_if : (p : Bool) (cpr : ℕ) → p ≡ false → (if p then cpr ∷ [] else []) ≡ []
+none_if true cpr e = absurd cc
+none_if false cpr e = refl
 
-no_flag_if : (p : Bool) (cpr : ℕ) → (if p then cpr ∷ [] else []) ≡ [] → p ≡ false
-no_flag_if true cpr e = absurd cc
-no_flag_if false cpr e = refl
+module _ (b records : List ℕ) (vdr : ℕ) (loose : is_compressed b vdr ≡ false) where
+  no_packed_block : (leaf : Leaf) → Hold (leaf_rows b records vdr leaf) → is_a b records cvvr_type leaf.place ≡ true → ⊥
+  no_packed_block leaf rules is =
+      let rows = Hold-asked (is_a b records cvvr_type leaf.place) (cvvr_rows b vdr leaf) (Hold-split (asked (is_a b records vvr_type leaf.place) (vvr_rows b vdr leaf)) _ rules).1 is in
+      true≢false (sym (both (is_compressed b vdr) (holds_packed b leaf.place) rows.0).0 ∙ loose)
 
-module _ {b : List ℕ} {s : Shape} (good : IsGoodByShape b s) where
-  none_of : (m type : ℕ) → In m s.records → type_at b m ≡ type → is_in type read_types ≡ false → ⊥
-  none_of m type i is unread = true≢false (sym (Hold-member (unread_type b) s.records m good.read_types i).0 ∙ ap (λ (t : ℕ). is_in t read_types) is ∙ unread)
+  plain_each : (leaves : List Leaf) → Each (LeafFits b records vdr) leaves → Each (IsPackedAs b records) leaves → Hold (flat_map (leaf_rows b records vdr) leaves) → Each (IsPlainBlock b records) leaves
+  plain_each [] fits packed rules = tt
+  plain_each (leaf ∷ more) fits packed rules =
+      let parts = Hold-split (leaf_rows b records vdr leaf) (flat_map (leaf_rows b records vdr) more) rules in (
+        elim (or_cases (is_a b records vvr_type leaf.place) (is_a b records cvvr_type leaf.place) fits.0.0) [
+          | inl p ↦ (p, sym packed.0 ∙ ap (λ (t : ℕ). t == cvvr_type) (is_a-type b records vvr_type leaf.place p))
+          | inr p ↦ absurd (no_packed_block leaf parts.0 p)
+        ],
+        plain_each more fits.1 packed.1 parts.1,
+      )
 
-  -- where what an image may have grows, this changes
-  no_cpr_at : (m : ℕ) → is_a b s.records cpr_type m ≡ true → ⊥
-  no_cpr_at m ok = none_of m cpr_type (is_a-in b s.records cpr_type m ok) (is_a-type b s.records cpr_type m ok) refl
-
-  no_packed_at : (m : ℕ) → is_a b s.records cvvr_type m ≡ true → ⊥
-  no_packed_at m ok = none_of m cvvr_type (is_a-in b s.records cvvr_type m ok) (is_a-type b s.records cvvr_type m ok) refl
-
-  plain_each : (vdr : ℕ) (leaves : List Leaf) → Each (LeafFits b s.records vdr) leaves → Each (IsPackedAs b s.records) leaves → Each (IsPlainBlock b s.records) leaves
-  plain_each vdr [] fits packed = tt
-  plain_each vdr (leaf ∷ more) fits packed = (
-    elim (or_cases (is_a b s.records vvr_type leaf.place) (is_a b s.records cvvr_type leaf.place) fits.0.0) [
-      | inl p ↦ (p, sym packed.0 ∙ ap (λ (t : ℕ). t == cvvr_type) (is_a-type b s.records vvr_type leaf.place p))
-      | inr p ↦ absurd (no_packed_at leaf.place p)
-    ],
-    plain_each vdr more fits.1 packed.1,
-  )
-
-  pub is_uncompressed : (v : VariableShape) → HasVariable b s.records v → VariableFits b s.records v → IsUncompressed b s.records v
-  is_uncompressed v has fits =
-      let none = empty_list v.cpr (λ m i. no_cpr_at m (Each-in (λ x. is_a b s.records cpr_type x ≡ true) v.cpr fits.3 m i)) in
-      record {
-        no_cpr = none;
-        no_flag = no_flag_if (is_compressed b v.vdr) (number b v.vdr vdr_cpr_or_spr_offset) (has.packed_by ∙ none);
-        plain_blocks = plain_each v.vdr (leaves_of v.index) fits.2 (leaves_packed b s.records 8 v.index has.indexed.has_nodes);
-      }
+pub is_uncompressed : {b records : List ℕ} (v : VariableShape) → HasVariable b records v → VariableFits b records v → Hold (index_rows b records v.vdr v.index) → is_compressed b v.vdr ≡ false → IsUncompressed b records v
+is_uncompressed {b = b} {records = records} v has fits rules loose = record {
+  no_cpr = sym has.packed_by ∙ none_if (is_compressed b v.vdr) _ loose;
+  plain_blocks = plain_each b records v.vdr loose (leaves_of v.index) fits.2 (leaves_packed b records 8 v.index has.indexed.has_nodes)
+      (Hold-split (nodes_rows b records (negsuc 0) (pos record_number_limit) v.index) (flat_map (leaf_rows b records v.vdr) (leaves_of v.index)) rules).1;
+}

@@ -1,5 +1,5 @@
 -- An entry is put into a chain of an attribute: made and linked, behind the last one or in the place of another one, or changed in its place; then the greatest number is written.
-use Rattle.cdf_edits.proofs.Common.{Added, AttributeShape, Confined, EntryFits, EntryKind, Exchanged, FitsSigned, In, IsSound, Joined, List, Mark, Same, Took, [], adding_marks, adr_type, ap, arith, attribute_records, attribute_types, avoided, cases_eq, cast_unsigned, chain_fields, chain_of, count_field, counted_in, ended, entries_chain, entry_type, eq-eqb, field, field_marks, gdr_type, giving_marks, inl, inr, integer4, is_in, is_late, keeps_but_chain, length, length-put, making_marks, max_field, members_of, ne_eqb, number, put, read_types, refl, shape, size_at, space_fields, subst, sym, tile_lies, times, times-none, true, true≢false, type_at, type_of_body, uir_type, w32, with_in_place, within, ℕ, ℤ, ◌++◌, ◌+◌, ◌∙◌, ◌∷◌, ◌≡◌, ◌≢◌, ◌≤◌}
+use Rattle.cdf_edits.proofs.Common.{Added, AttributeShape, Confined, EntryFits, EntryKind, Exchanged, FitsSigned, In, IsSound, Joined, List, Mark, Same, Took, [], adding_marks, adr_type, ap, arith, attribute_records, attribute_types, avoided, cases_eq, cast_unsigned, chain_fields, chain_of, count_field, counted_in, ended, entries_chain, entry_type, eq-eqb, field, field_marks, gdr_type, giving_marks, inl, inr, integer4, is_in, is_late, keeps_but_chain, length, length-put, making_marks, max_field, members_of, ne_eqb, number, put, refl, shape, size_at, space_fields, subst, sym, tile_lies, times, times-none, true, true≢false, type_at, type_of_body, uir_type, w32, with_in_place, within, ℕ, ℤ, ◌++◌, ◌+◌, ◌∙◌, ◌∷◌, ◌≡◌, ◌≢◌, ◌≤◌}
 use Rattle.cdf_model.specs.declared.kinds.EntryKind.TheVariants as entries
 use Rattle.cdf_edits.proofs.Edits.ChainKept.{records_are, list_is}
 use Rattle.cdf_edits.proofs.Edits.ChainKinds.{chain_in}
@@ -11,7 +11,7 @@ use Rattle.cdf_edits.proofs.Edits.EntryFields.{MaxWritten, as_chain, as_count, m
 use Rattle.cdf_edits.proofs.Edits.WrittenEntries.{WritesChain}
 use Rattle.cdf_edits.proofs.Edits.FieldWritten.{Stands, still_stands}
 use Rattle.cdf_edits.proofs.Edits.FreedEntry.{Frees}
-use Rattle.cdf_edits.proofs.Edits.JoinedRecord.{IsJoined, acts_then, edit, ends, fills, list, longest, marks, new_in, new_once, new_part, new_type, new_typed, records, unused_chain, unused_kept}
+use Rattle.cdf_edits.proofs.Edits.JoinedRecord.{IsJoined, acts_then, edit, ends, fills, list, longest, marks, new_in, new_once, new_part, new_typed, records, unused_chain, unused_kept}
 use Rattle.cdf_edits.proofs.Edits.MadeRecord.{filled_edit, fresh, listed_before, listed_marks, loose_away}
 use Rattle.cdf_edits.proofs.Edits.MarkLemmas.{avoided-avoids, ended-avoids, the_one}
 use Rattle.cdf_edits.proofs.Edits.OneChain.{Settled}
@@ -41,14 +41,13 @@ pub record JoinTests (b unused : List ℕ) (adr place need : ℕ) (kind : EntryK
   pub start : avoided (making_marks unused place need (joining b kind adr place)) (entry_type kind) 0 12 ≡ true
   pub rest : ended (making_marks unused place need (joining b kind adr place)) (entry_type kind) 20 ≡ true
   pub value : (hi : ℕ) → avoided (joining b kind adr place) (entry_type kind) 20 hi ≡ true
-  pub read : is_in (entry_type kind) read_types ≡ true
   pub confined : (own : List ℕ) → In place own → In adr own → ((m : ℕ) → In m (members_of b (entries_chain kind adr)) → In m own) → Confined (making_marks unused place need (joining b kind adr place)) attribute_types own
   pub freed : (list : List ℕ) (old size : ℕ) → (keeps_but_chain (making_marks unused place need (joining b kind adr place) ++ giving_marks list (entry_type kind) old size) kind ≡ true) × (within (making_marks unused place need (joining b kind adr place) ++ giving_marks list (entry_type kind) old size) gdr_type space_fields ≡ true)
       × (within (making_marks unused place need (joining b kind adr place) ++ giving_marks list (entry_type kind) old size) adr_type (chain_fields kind) ≡ true)
 
 join_tests : (b unused : List ℕ) (adr place need : ℕ) (kind : EntryKind) → JoinTests b unused adr place need kind
-join_tests b unused adr place need entries.Z = record { late = refl; linked = refl; clear = refl; gdr_within = refl; adr_within = refl; start = refl; rest = refl; value = λ hi. refl; read = refl; confined = λ own p a ms. (inl refl, (inl refl, (inl refl, (inl refl, (inl refl, (inl refl, (inr (only own adr a), (inr (with_first own place _ p ms), (inr (only own adr a), (inr (only own adr a), tt)))))))))); freed = λ list old size. (refl, refl, refl) }
-join_tests b unused adr place need other = record { late = refl; linked = refl; clear = refl; gdr_within = refl; adr_within = refl; start = refl; rest = refl; value = λ hi. refl; read = refl; confined = λ own p a ms. (inl refl, (inl refl, (inl refl, (inl refl, (inl refl, (inl refl, (inr (only own adr a), (inr (with_first own place _ p ms), (inr (only own adr a), (inr (only own adr a), tt)))))))))); freed = λ list old size. (refl, refl, refl) }
+join_tests b unused adr place need entries.Z = record { late = refl; linked = refl; clear = refl; gdr_within = refl; adr_within = refl; start = refl; rest = refl; value = λ hi. refl; confined = λ own p a ms. (inl refl, (inl refl, (inl refl, (inl refl, (inl refl, (inl refl, (inr (only own adr a), (inr (with_first own place _ p ms), (inr (only own adr a), (inr (only own adr a), tt)))))))))); freed = λ list old size. (refl, refl, refl) }
+join_tests b unused adr place need other = record { late = refl; linked = refl; clear = refl; gdr_within = refl; adr_within = refl; start = refl; rest = refl; value = λ hi. refl; confined = λ own p a ms. (inl refl, (inl refl, (inl refl, (inl refl, (inl refl, (inl refl, (inr (only own adr a), (inr (with_first own place _ p ms), (inr (only own adr a), (inr (only own adr a), tt)))))))))); freed = λ list old size. (refl, refl, refl) }
 
 -- ---- the images
 
@@ -123,13 +122,9 @@ module _ {b : List ℕ} {before : List AttributeShape} {own : AttributeShape} {a
     sorted : (In place gone → ⊥) → (m : ℕ) → In m (place ∷ []) → (type_at now m ≢ uir_type) × (used_times (made sound rechains) m ≡ 1)
     sorted out = new_once sound new_record (made sound rechains) _ (traded (shape b) (records sound new_record) (list sound new_record) before own after kind chain' gone (place ∷ []) at.was p.trades place) (times-none place gone out)
 
-    is_read : (m : ℕ) → In m (place ∷ []) → is_in (type_at now m) read_types ≡ true
-    is_read m i = ap (λ (type : ℕ). is_in type read_types) (ap (type_at now) (the_one place m i) ∙ new_type sound new_record) ∙ t.read
-
     -- where no other one went, all is done
     pub settled : ((m : ℕ) → times m gone ≡ 0) → (In place gone → ⊥) → Settled sound rechains need (Took place need ∷ [])
     settled none out = record {
-      read = is_read;
       beside = λ m other. none m ∙ sym (times-none m (place ∷ []) other);
       sorted = λ m i. inl (sorted out m i);
       end = ends sound new_record;
@@ -159,7 +154,6 @@ module _ {b : List ℕ} {before : List AttributeShape} {own : AttributeShape} {a
       come_in = λ m i. i;
       fit = λ m i. subst (EntryFits late) (sym (the_one place m i)) fits;
       sorted = sorted p (λ i. not_old (the_one old place i));
-      read = is_read p;
       clear = ((t p).freed (list sound (new_record p)) old (size_at late old)).0;
       gdr_within = ((t p).freed (list sound (new_record p)) old (size_at late old)).1;
       adr_within = ((t p).freed (list sound (new_record p)) old (size_at late old)).2;

@@ -1,5 +1,5 @@
 -- An image from which one variable went has its shape, its content and its rules.
-use Rattle.cdf_edits.proofs.Common.{AllHold, Avoids, Confined, DataSet, Distinct, Each, Edit, Good, HasShape, Hold, In, In-append_left, In-append_right, IsChain, IsGoodByShape, IsSound, Kind, List, Mark, R, Shape, Variable, VariableShape, Z, [], ap, arith, avoided, content, content_is, count_of, eof, eq-eqb, first_phases, fixed_size, flat_map, gdr_offset, gdr_type, gdr_uir_head, head_of, image_limit, index_types, inl, inr, is_in, keeps_file, length, linkable-in, linkable-type, number, owned_records, r_vdr_type, read_types, refl, remove, sealed, shapes_of, size_at, subst, sym, tile_lies, times, true, type_at, type_in, uir_type, unmarked, variable_of, variable_records, variable_removing_marks, variables_chain, variables_of, vdr_num, vdrs, vdrs_append, wholes, with_variables, z_vdr_type, ℕ, ◌++◌, ◌∙◌, ◌∷◌, ◌≡◌, ◌≤◌, ◌⊎◌}
+use Rattle.cdf_edits.proofs.Common.{AllHold, Avoids, Confined, DataSet, Distinct, Each, Edit, Good, HasShape, Hold, In, In-append_left, In-append_right, IsChain, IsGoodByShape, IsSound, Kind, List, Mark, R, Shape, Variable, VariableShape, Z, [], ap, arith, avoided, content, content_is, count_of, eof, eq-eqb, first_phases, fixed_size, flat_map, gdr_offset, gdr_type, gdr_uir_head, head_of, image_limit, index_types, inl, inr, keeps_file, length, linkable-in, linkable-type, number, owned_records, r_vdr_type, refl, remove, sealed, shapes_of, size_at, subst, sym, tile_lies, times, true, type_at, type_in, uir_type, unmarked, variable_of, variable_records, variable_removing_marks, variables_chain, variables_of, vdr_num, vdrs, vdrs_append, wholes, with_variables, z_vdr_type, ℕ, ◌++◌, ◌∙◌, ◌∷◌, ◌≡◌, ◌≤◌, ◌⊎◌}
 use Rattle.cdf_edits.proofs.Commands.ListParts.{map-without}
 use Rattle.cdf_edits.proofs.Edits.MarkLemmas.{avoids-of_type, confined-away, unmarked-away}
 use Rattle.cdf_edits.proofs.Edits.FreedRecords.{unused_real}
@@ -238,11 +238,11 @@ module _ {b now : List ℕ} {s : Shape} {kind : Kind} {before : List VariableSha
         let same = nums_from sound r.edit file before (ours sound r.at).0 before_live in
         counting_by kind now (vdrs (before ++ after)) (ap (λ (g : ℕ). number now g (count_of (variables_chain kind))) place ∙ count) (numbers_by kind b now (shapes_of s kind) before own after r.at.was same says.numbered (counted_before good kind))
 
-    pub taken_good : AllHold (first_phases (sealed b)) → IsGoodByShape b s → ((m : ℕ) → In m (variable_records own) → In m reborn) → number now s.gdr (count_of (variables_chain kind)) ≡ length (vdrs (before ++ after)) → eof now s.gdr ≡ length now → length now ≤ image_limit → Good now
+    pub taken_good : Good b → IsGoodByShape b s → ((m : ℕ) → In m (variable_records own) → In m reborn) → number now s.gdr (count_of (variables_chain kind)) ≡ length (vdrs (before ++ after)) → eof now s.gdr ≡ length now → length now ≤ image_limit → Good now
     taken_good first good all count eof_is short = good_image_if sound splices first good (record {
       counted = counted good count;
       apart = apart_if sound splices good (λ x y i j differ. absurd i) (λ x y i beside. absurd i);
       own_ruled = tt;
-      read = λ m i. subst (λ (t : ℕ). is_in t read_types ≡ true) (sym (says.freed m i)) refl;
+      own_read = tt;
       owned = owned_left (left_by sound r.at list) good.owned_once r.edit (λ m i. r.mine m (r.born m i)) all says.freed;
     }) eof_is short

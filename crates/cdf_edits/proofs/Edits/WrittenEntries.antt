@@ -136,7 +136,6 @@ module _ {b now : List ℕ} {kind : EntryKind} {before : List AttributeShape} {o
   -- nothing is taken or freed
   pub settled : {need : ℕ} → Good b → Settled sound rechains need []
   settled good = record {
-    read = λ m i. absurd i;
     beside = λ m out. refl;
     sorted = λ m i. absurd i;
     end = field_clear edit (shape b).gdr gdr_type gdr_eof (gdr_in b (shape b) sound.has_shape) (gdr_typed b (shape b) sound.has_shape) tests.heads tests.end (let l = gdr_long b (shape b) sound.has_shape in omega arith) ∙ end_before b good ∙ sym as_long;

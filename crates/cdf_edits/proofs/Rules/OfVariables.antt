@@ -1,5 +1,5 @@
 -- The rules of variables stay where the bytes of their records do.
-use Rattle.cdf_edits.proofs.Common.{Bool, In, List, Row, [], ap, arith, asked, both, cpr_c_type, cpr_link, cpr_p_count, cpr_parameter, cpr_rows, cpr_type, cvvr_type, dimension_limit, dimensions_at, false, fixed_size, has_bit, has_dimensions, if◌then◌else◌, inl, inr, is_a, is_a-in, is_a-type, is_block, is_characters, is_cpr, is_in, is_known_packing, is_max_rec, is_named_apart, is_no_link, is_positive, is_z, le_of, length, list_all, name_in, nat_le, notation_of, number, number_kept, record_limit, refl, row, signed_limit, size_at, size_kept, subst, true, true-is_in, type_at, type_of, variable_rows, vdr_end, vdr_name, vdr_z_dim_size, vdr_z_num_dims, vvr_type, ℕ, ◌*◌, ◌++◌, ◌+◌, ◌==◌, ◌∙◌, ◌∷◌, ◌≡◌, ◌≤◌}
+use Rattle.cdf_edits.proofs.Common.{Bool, In, List, Row, [], ap, arith, asked, both, cpr_c_type, cpr_link, cpr_p_count, cpr_parameter, cpr_rows, cpr_type, cvvr_type, dimension_limit, dimensions_at, false, fixed_size, has_bit, has_dimensions, if◌then◌else◌, inl, inr, is_a, is_a-in, is_a-type, is_block, is_characters, is_cpr, is_in, is_known_packing, is_max_rec, is_named_apart, is_no_link, is_positive, is_z, le_of, length, list_all, name_in, nat_le, notation_of, number, number_kept, record_limit, refl, row, signed_limit, size_at, size_kept, subst, true, true-is_in, type_at, type_of, variable_rows, vdr_end, vdr_name, vdr_z_dim_size, vdr_z_num_dims, vvr_type, ℕ, ◌*◌, ◌+◌, ◌==◌, ◌∙◌, ◌∷◌, ◌≡◌, ◌≤◌}
 use Rattle.std.proofs.Common.{not, is_some, ◌&&◌, ◌||◌}
 use Rattle.std.specs.Prelude.{bytes_eq}
 use Rattle.cdf_edits.proofs.Frame.Meaning.{FileSame, Kept, KeptButLink, late_size, late_number}

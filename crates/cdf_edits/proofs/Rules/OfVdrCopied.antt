@@ -1,5 +1,5 @@
 -- The rules of a variable whose VDR stands at another place, or that has another name, flags, pad value or MaxRec where it is.
-use Rattle.cdf_edits.proofs.Common.{Bool, Hold, Hold-append, Hold-asked, Hold-split, In, List, Row, [], ap, arith, asked, both, cpr_c_type, cpr_link, cpr_p_count, cpr_parameter, cpr_rows, cpr_type, dimension_limit, dims_at, false, has_dimensions, has_name, is_a, is_a-from, is_a-type, is_characters, is_compressed, is_cpr, is_known_packing, is_max_rec, is_named_apart, is_no_link, is_positive, is_z, le_of, list_all, nat_le, notation_of, number, number_kept, of_le, record_limit, refl, row, signed_limit, size_at, size_kept, subst, sym, true, type_kept, type_of, variable_rows, vdr_end, vdr_max_rec, vdr_name, vdr_s_records, vdr_z_num_dims, ℕ, ℤ, ◌*◌, ◌+◌, ◌==◌, ◌∙◌, ◌∷◌, ◌≡◌, ◌≤◌}
+use Rattle.cdf_edits.proofs.Common.{Bool, Hold, Hold-asked, In, List, Row, [], ap, arith, asked, both, cpr_c_type, cpr_link, cpr_p_count, cpr_parameter, cpr_rows, cpr_type, dimension_limit, dims_at, false, has_dimensions, has_name, is_a, is_a-from, is_a-type, is_characters, is_compressed, is_cpr, is_known_packing, is_max_rec, is_named_apart, is_no_link, is_positive, is_z, le_of, list_all, nat_le, notation_of, number, number_kept, of_le, record_limit, refl, row, signed_limit, size_at, size_kept, subst, sym, true, type_kept, type_of, variable_rows, vdr_end, vdr_max_rec, vdr_name, vdr_z_num_dims, ℕ, ℤ, ◌*◌, ◌+◌, ◌==◌, ◌∙◌, ◌∷◌, ◌≡◌, ◌≤◌}
 use Rattle.std.proofs.Common.{not, is_some, ◌&&◌, ◌||◌}
 use Rattle.cdf_edits.proofs.Frame.Meaning.{FileSame, Kept}
 use Rattle.cdf_edits.proofs.Frame.VdrAlike.{VdrAlike, z_alike, count_alike, dims_alike, raw_type_alike, type_alike, raw_elems_alike, record_alike, raw_sparse_alike, cpr_link_alike}

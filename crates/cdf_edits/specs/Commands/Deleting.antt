@@ -1,21 +1,19 @@
 -- What `del-recs` under a sparse rule and `set-sparse` do, by the images between (CDF Internal Format Description, "Variable Index Record", "Variable Values Record", "Compressed Variable Values Record"; own: records keep their numbers, and what is past the new MaxRec is cut after the others). The order in which a cut takes and frees is free.
-use Rattle.std.specs.Prelude.{◌≡◌, ℕ, ◌-◌, ◌*◌, List, [], ◌∷◌, ◌++◌, length, Bool, true, false, nat_lt}
+use Rattle.std.specs.Prelude.{◌≡◌, ℕ, List, [], ◌∷◌, ◌++◌, length, Bool, true, false, nat_lt}
 use Rattle.cdf_model.specs.declared.kinds.Sparse.{Sparse}
-use Rattle.cdf_model.specs.DataSet.{Variable, extent}
+use Rattle.cdf_model.specs.DataSet.{extent}
 use Rattle.cdf_model.specs.Limits.{record_number_limit}
 use Rattle.cdf_model.specs.Names.{Found}
 use Rattle.cdf_edits.specs.Commands.GreatestRecord.{RMaxRecFollows}
 use Rattle.cdf_edits.specs.Commands.PutSteps.{Stage, BlockWritten, Goes}
 use Rattle.cdf_edits.specs.Commands.Puts.{max_rec_touches}
-use Rattle.cdf_edits.specs.Commands.Room.{range_bytes}
 use Rattle.cdf_edits.specs.Frame.Changed.{Changed, touched_field}
-use Rattle.cdf_edits.specs.Index.Blocks.{range, shared, record_length, extent_after}
+use Rattle.cdf_edits.specs.Index.Blocks.{shared, extent_after}
 use Rattle.cdf_edits.specs.Index.Cut.{IsPart, is_whole, CutsIndex, BlockPlaced, IsPlaced}
 use Rattle.cdf_edits.specs.Commands.Cuts.{DeletesRecords}
 use Rattle.cdf_edits.specs.Index.CutTwice.{part_bytes}
 use Rattle.cdf_edits.specs.Index.Grown.{kept_open, split_off, index_cut_open}
 use Rattle.cdf_edits.specs.Space.Acts.{Act}
-use Rattle.cdf_format.specs.Content.{plain_bytes}
 use Rattle.cdf_format.specs.Index.{Leaf, leaves_of}
 use Rattle.cdf_format.specs.Records.{vdr_s_records}
 use Rattle.cdf_format.specs.Shape.{VariableShape, Each}
