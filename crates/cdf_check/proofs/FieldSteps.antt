@@ -1,10 +1,15 @@
 -- The fields of a variable, as they are read, and the rules on them among all its rules.
-use Rattle.cdf_check.proofs.Common.{AreFields, AreRead, Field, Hold, IsBroken, List, [], ap, arith, cast_signed, cast_unsigned, cpr_link, has_name, inl, inr, is_compressed, number, of_z-to_z, packing_rows, record_type, records_rows, refl, shape_rows, true, value_rows, variable_rows, vdr_cpr_or_spr_offset, vdr_data_type, vdr_max_rec, vdr_name, vdr_num_elems, vdr_s_records, w32, w64, word_fits, ℕ, ◌+◌, ◌∙◌, ◌≡◌, ◌≤◌}
+use Rattle.cdf_check.proofs.Common.{AreFields, AreTiles, Field, Hold, IsBroken, List, [], ap, arith, both, cast_signed, cast_unsigned, has_name, inl, inr, is_a-in, is_positive, le_of, length, nat_le, number, of_z-to_z, packing_rows, record_type, records_rows, refl, shape_rows, size_at, tile_lies, true, value_rows, variable_rows, vdr_cpr_or_spr_offset, vdr_data_type, vdr_max_rec, vdr_name, vdr_num_elems, vdr_s_records, w32, w64, word_fits, ℕ, ◌&&◌, ◌*◌, ◌+◌, ◌∙◌, ◌≡◌, ◌≤◌}
+use Rattle.cdf_format.specs.Chains.{is_a}
+use Rattle.cdf_format.specs.Fields.{holds}
+use Rattle.cdf_format.specs.RecordTypes.{cpr_type}
+use Rattle.cdf_format.specs.Records.{cpr_p_count, cpr_parameters}
+use Rattle.cdf_format.specs.VariableRules.{is_cpr}
+use Rattle.cdf_model.specs.Limits.{signed_limit}
 use Rattle.cdf_model.specs.Types.{type_of}
 use Rattle.cdf_records.specs.Heads.{vdr_at}
 use Rattle.cdf_records.specs.Pieces.{AreBytes}
 use Rattle.cdf_records.specs.declared.vdr.Vdr.{Vdr}
-use Rattle.cdf_structure.proofs.IndexSteps.{no_cpr}
 use Rattle.cdf_check.specs.declared.variable_fields.Fields.{Fields}
 
 -- ---- the fields
@@ -56,6 +61,14 @@ module _ (b ts : List ℕ) (vdr : ℕ) where
   all_parts name values shape records packing =
       (name, (refl, (values.0, (values.1.0, (shape.0, (shape.1.0, (shape.1.1.0, (records.0, (records.1.0, packing)))))))))
 
--- where no record is of a type that is not read, a variable that is compressed breaks a rule
-pub packed_breaks : (b ts : List ℕ) (vdr : ℕ) → AreRead b ts → is_compressed b vdr ≡ true → IsBroken (packing_rows b ts vdr) 11 vdr
-packed_breaks b ts vdr read packed = inr (inl (refl, refl, rw (packed, no_cpr b ts read (cpr_link b vdr)) refl))
+-- ---- the parameters
+
+-- a CPR has its first parameter
+pub parameters_lie : (b ts : List ℕ) (place : ℕ) → AreTiles b 8 (length b) ts → is_cpr b ts place ≡ true → place + 28 ≤ length b
+parameters_lie b ts place tiled is =
+    let parts = both (is_a b ts cpr_type place) (is_positive (number b place cpr_p_count) && holds b place (cpr_parameters (number b place cpr_p_count))) is in
+    let more = both (is_positive (number b place cpr_p_count)) (holds b place (cpr_parameters (number b place cpr_p_count))) parts.1 in
+    let some = le_of 1 (number b place cpr_p_count) (both (nat_le 1 (number b place cpr_p_count)) (nat_le (number b place cpr_p_count) signed_limit) more.0).0 in
+    let room : 24 + 4 * number b place cpr_p_count ≤ size_at b place = le_of (24 + 4 * number b place cpr_p_count) (size_at b place) more.1 in
+    let lies = tile_lies b 8 (length b) ts place tiled (is_a-in b ts cpr_type place parts.0) in
+    omega (arith, some, room, lies.high)

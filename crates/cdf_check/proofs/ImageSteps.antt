@@ -1,6 +1,5 @@
 -- What follows from the rules on the records of an image for its other rules.
-use Rattle.cdf_check.proofs.Common.{AllHold, AreChains, AreLong, AreRead, AreTiles, AreVariables, AttributeShape, Distinct, FirstBroken, HasRoomForSizes, HasSizes, Hold, Hold-member, Hold-split, IsBroken, List, Row, Walk, [], adr_chain, adrs, ap, append_assoc, ap₂, arith, attribute_records, attribute_shape, filter, flat_map, gdr_offset, gdr_r_vdr_head, gdr_type, gdr_z_vdr_head, image_phases, is_a-in, le_of, length, map, owned_records, phase4, phase5, phase6, phase7, phase8, phase9, r_num_dims, r_vdr_chain, record_rows, records_of, refl, shape, size_at, subst, sym, tile_lies, tiles, tiling, tiling_sound, type_at, uir_type, unused_records, variable_records, variable_shape, vdrs, whole, z_vdr_chain, ℕ, ◌*◌, ◌++◌, ◌+◌, ◌==◌, ◌∙◌, ◌∷◌, ◌≡◌, ◌≤◌}
-use Rattle.cdf_format.specs.NotRead.{unread_type}
+use Rattle.cdf_check.proofs.Common.{AllHold, AreChains, AreLong, AreTiles, AreVariables, AttributeShape, Distinct, FirstBroken, HasRoomForSizes, HasSizes, Hold, Hold-append, Hold-member, IsBroken, IsBroken-after, IsBroken-before, List, Row, Walk, [], adr_chain, adrs, ap, append_assoc, ap₂, arith, attribute_records, attribute_shape, filter, flat_map, gdr_offset, gdr_r_vdr_head, gdr_type, gdr_z_vdr_head, image_phases, is_a-in, le_of, length, map, owned_records, phase4, phase5, phase6, phase7, phase8, phase9, r_num_dims, r_vdr_chain, record_rows, records_of, refl, shape, size_at, subst, sym, tile_lies, tiles, tiling, tiling_sound, type_at, uir_type, unread_variables, unused_records, variable_records, variable_shape, vdrs, whole, z_vdr_chain, ℕ, ◌*◌, ◌++◌, ◌+◌, ◌==◌, ◌∙◌, ◌∷◌, ◌≡◌, ◌≤◌}
 use Rattle.cdf_format.specs.Shape.{variables as shape_variables}
 use Rattle.cdf_format.proofs.GoodImageLemmas.{map_adrs, map_vdrs, vdrs_append}
 use Rattle.cdf_format.proofs.Owning.{owned_is}
@@ -17,14 +16,8 @@ module _ (b ts : List ℕ) (is : tiling b ≡ whole ts) where
   records_are = are_tiles
 
   module _ (holds : Hold (phase4 b)) where
-    parts : Hold (flat_map (record_rows b) ts) × Hold (flat_map (unread_type b) ts)
-    parts = Hold-split (flat_map (record_rows b) ts) (flat_map (unread_type b) ts) (subst Hold (whole_rows b ts is) holds)
-
     pub all_long : AreLong b ts
-    all_long m i = le_of _ (size_at b m) (Hold-member (record_rows b) ts m parts.0 i).1.0
-
-    pub all_read : AreRead b ts
-    all_read m i = (Hold-member (unread_type b) ts m parts.1 i).0
+    all_long m i = le_of _ (size_at b m) (Hold-member (record_rows b) ts m (subst Hold (whole_rows b ts is) holds) i).1.0
 
     pub linked_break : (rule place : ℕ) → IsBroken (phase5 b ts) rule place → FirstBroken (image_phases b) 1 rule place
     linked_break rule place broken = (holds, subst (λ (xs : List ℕ). IsBroken (phase5 b xs) rule place) (sym records_are) broken)
@@ -108,6 +101,19 @@ module _ (b ts : List ℕ) (is : tiling b ≡ whole ts) where
             indexes_hold : Hold (phase8 b (shape b).records (vdrs (shape_variables (shape b))))
             indexes_hold = subst Hold (sym indexes_are) indexed
 
+            -- ---- what is not read so far
+
+            abbrev unread : List Row
+            unread = unread_variables b (vdrs (shape_variables (shape b)))
+
+            unread_are : unread ≡ unread_variables b (c.r_variables.items ++ c.z_variables.items)
+            unread_are = ap (unread_variables b) vdrs_are
+
+            pub read_breaks : (rule place : ℕ) → IsBroken (unread_variables b (c.r_variables.items ++ c.z_variables.items)) rule place → FirstBroken (image_phases b) 5 rule place
+            read_breaks rule place broken =
+                let here = IsBroken-before unread (phase9 (shape b).records (owned_records b (shape b))) rule place (subst (λ (rows : List Row). IsBroken rows rule place) (sym unread_are) broken) in
+                (holds, (linked_hold, (named_hold, (variables_hold, (indexes_hold, here)))))
+
             -- ---- the owners
 
             abbrev records_of_variables : List ℕ → List ℕ
@@ -147,7 +153,11 @@ module _ (b ts : List ℕ) (is : tiling b ≡ whole ts) where
               owners_are = ap₂ phase9 records_are (owned_are ∙ ap (λ (xs : List ℕ). (8 ∷ gdr_offset b ∷ members) ++ filter (λ place. type_at b place == uir_type) xs) records_are)
 
               pub owners_break : (rule place : ℕ) → IsBroken (phase9 ts all_owned) rule place → FirstBroken (image_phases b) 5 rule place
-              owners_break rule place broken = (holds, (linked_hold, (named_hold, (variables_hold, (indexes_hold, subst (λ (rows : List Row). IsBroken rows rule place) (sym owners_are) broken)))))
+              owners_break rule place broken =
+                  let here = IsBroken-after unread (phase9 (shape b).records (owned_records b (shape b))) rule place (subst (λ (rows : List Row). IsBroken rows rule place) (sym owners_are) broken) in
+                  (holds, (linked_hold, (named_hold, (variables_hold, (indexes_hold, here)))))
 
-              pub all_held : Hold (phase9 ts all_owned) → AllHold (image_phases b)
-              all_held owned = (holds, (linked_hold, (named_hold, (variables_hold, (indexes_hold, (subst Hold (sym owners_are) owned, tt))))))
+              pub all_held : Hold (unread_variables b (c.r_variables.items ++ c.z_variables.items)) → Hold (phase9 ts all_owned) → AllHold (image_phases b)
+              all_held read owned =
+                  let here = Hold-append unread (phase9 (shape b).records (owned_records b (shape b))) (subst Hold (sym unread_are) read) (subst Hold (sym owners_are) owned) in
+                  (holds, (linked_hold, (named_hold, (variables_hold, (indexes_hold, (here, tt))))))

@@ -11,6 +11,7 @@ use Rattle.cdf_format.specs.Stored.{known_type}
 use Rattle.cdf_format.specs.Tiles.{In}
 use Rattle.cdf_format.specs.VariableFields.{is_z, dimensions_at, dims_at, vary_field, type_of_variable, elems_at, record_bytes}
 use Rattle.cdf_format.specs.VariableRules.{has_elements, has_dimensions, vdr_end, is_max_rec, is_no_link, cpr_link, is_cpr, cpr_rows}
+use Rattle.cdf_structure.specs.Indexes.{cpr_at}
 use Rattle.cdf_check.specs.declared.variable.Variable.{Variable}
 use Rattle.cdf_check.specs.declared.variables.Described.{Described}
 use Rattle.cdf_check.specs.declared.variable_fields.Fields.{Fields}
@@ -74,14 +75,16 @@ pub record AreValues (b : List ℕ) (vdr : ℕ) (value : Value) : Type 0 where
   pub type_is : value.data_type ≡ type_of_variable b vdr
   pub elements_are : value.elements ≡ elems_at b vdr
 
--- a variable as it was read: its Name, the bytes of a record, and where its index begins
+-- a variable as it was read: its Name, its CPR, the bytes of a record, and where its index begins
 pub record IsVariableOf (b : List ℕ) (vdr : ℕ) (variable : Variable) : Type 0 where
   pub name_is : variable.name ≡ name_in b vdr vdr_name
+  pub cpr_is : variable.cpr ≡ cpr_at b vdr
   pub bytes_are : variable.record_bytes ≡ record_bytes b vdr
   pub head_is : variable.vxr_head ≡ number b vdr vdr_vxr_head
 
 -- what these variables have
 pub record AreDescribed (b : List ℕ) (vdrs : List ℕ) (described : Described) : Type 0 where
+  pub cprs_are : described.cprs.items ≡ map (cpr_at b) vdrs
   pub sizes_are : described.record_sizes.items ≡ map (record_bytes b) vdrs
   pub heads_are : described.vxr_heads.items ≡ map (λ vdr. number b vdr vdr_vxr_head) vdrs
 

@@ -1,11 +1,12 @@
 //! The rules on an image, phases 4 to 9.
 
-ghost use Rattle.std.specs.Prelude.{◌≡◌, ◌+◌, ◌++◌, ◌∷◌, ◌≤◌, ◌<◌, ◌^◌, length, map, IfOk};
+ghost use Rattle.std.specs.Prelude.{◌≡◌, ◌+◌, ◌++◌, ◌∷◌, ◌≤◌, ◌<◌, ◌^◌, ℕ, List, length, map, IfOk};
 ghost use Rattle.std.specs.List.{flat_map};
 ghost use Rattle.cdf_area.specs.Calls.{Reads};
 ghost use Rattle.cdf_format.specs.AttributeRules.{phase6};
 ghost use Rattle.cdf_format.specs.ChainRules.{phase5};
 ghost use Rattle.cdf_format.specs.Fields.{gdr_offset};
+ghost use Rattle.cdf_format.specs.NotRead.{unread_variables};
 ghost use Rattle.cdf_format.specs.Owners.{attribute_records};
 ghost use Rattle.cdf_format.specs.RecordRules.{phase4};
 ghost use Rattle.cdf_format.specs.Rules.{Hold};
@@ -14,6 +15,8 @@ ghost use Rattle.cdf_format.specs.Tiles.{tiling};
 ghost use Rattle.cdf_format.specs.Walks.{whole};
 ghost use Rattle.cdf_format.specs.Records.{cdr_place};
 ghost use Rattle.cdf_structure.specs.FileChains.{AreChains};
+ghost use Rattle.cdf_structure.specs.Findings.{Finds};
+ghost use Rattle.cdf_structure.specs.Indexes.{cpr_at};
 ghost use Rattle.cdf_structure.specs.Owners.{IsFor, KnowsOwned};
 ghost use Rattle.cdf_structure.specs.Records.{unused_of};
 ghost use Rattle.cdf_structure.specs.Walked.{Climbs};
@@ -25,7 +28,7 @@ use crate::variables::check_variables;
 use crate::verdict::{Broken, in_phase};
 use cdf_area::{Area, AreaError};
 use cdf_format::fields::CDR_PLACE;
-use cdf_structure::{Chains, Owners, check_chains, check_indexes, check_tiles};
+use cdf_structure::{Chains, Finding, Owners, check_chains, check_indexes, check_tiles};
 use std::alloc::{AllocError, Global};
 
 /// The places of two lists, one after the other.
@@ -54,6 +57,23 @@ fn own_members(
     owners.add(tiles, gdr);
     owners.add_all(tiles, members);
     Ok(owners)
+}
+
+/// That none of these variables is compressed, where these are their CPRs: no packed variable is read so far.
+fn check_read(vdrs: &[u64], cprs: &[Option<u64>]) -> Option<Finding>
+    requires as_many { length cprs.now ≡ length vdrs.now }
+    ensures found { (b : List ℕ) → cprs.now ≡ map (cpr_at b) vdrs.now → Finds (unread_variables b vdrs.now) result }
+{
+    for i in 0..vdrs.len() {
+        if cprs[i].is_some() {
+            // 9.99
+            return Some(Finding {
+                rule: 99,
+                place: vdrs[i],
+            });
+        }
+    }
+    None
 }
 
 /// A rule on variables or owners that an image breaks, of which the records, the chains and the attributes keep their rules. The
@@ -85,15 +105,19 @@ fn check_variable_members<A: Area>(
         Ok(described) => described,
         Err(finding) => return Ok(Some(in_phase(7, finding))),
     };
+    let cprs = &described.cprs;
     let sizes = &described.record_sizes;
     let heads = &described.vxr_heads;
     let mut owners = own_members(alloc, tiles, gdr, members)?;
-    let broken = check_indexes(alloc, area, tiles, &vdrs, sizes, heads, &mut owners)?;
+    let broken = check_indexes(alloc, area, tiles, &vdrs, cprs, sizes, heads, &mut owners)?;
     if let Some(finding) = broken {
         return Ok(Some(in_phase(8, finding)));
     }
     owners.add_all(tiles, unused);
     if let Some(finding) = owners.check(tiles) {
+        return Ok(Some(in_phase(9, finding)));
+    }
+    if let Some(finding) = check_read(&vdrs, cprs) {
         return Ok(Some(in_phase(9, finding)));
     }
     Ok(None)

@@ -9,6 +9,7 @@ mod gdr_rules;
 mod image_rules;
 mod magic_rules;
 mod names;
+mod parameters;
 mod trailer_rules;
 mod validator;
 mod variable;

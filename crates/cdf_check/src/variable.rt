@@ -1,16 +1,18 @@
 //! The rules on a variable by itself.
 
-ghost use Rattle.std.specs.Prelude.{◌≡◌, ◌&&◌, ◌||◌, ◌==◌, ℕ, List, [], IfOk};
+ghost use Rattle.std.specs.Prelude.{◌≡◌, ◌&&◌, ◌||◌, ◌==◌, ℕ, List, [], length, IfOk};
 ghost use Rattle.cdf_area.specs.Calls.{Reads};
 ghost use Rattle.cdf_model.specs.Values.{notation_of};
 ghost use Rattle.cdf_model.specs.VariableSteps.{is_characters};
 ghost use Rattle.cdf_format.specs.Fields.{gdr_offset, is_positive, name_in};
-ghost use Rattle.cdf_format.specs.Records.{vdr_name};
+ghost use Rattle.cdf_format.specs.Records.{cdr_place, vdr_name};
+ghost use Rattle.cdf_format.specs.Tiles.{AreTiles};
 ghost use Rattle.cdf_format.specs.VariableRules.{variable_rows};
-ghost use Rattle.cdf_structure.specs.Records.{AreRead};
 ghost use Rattle.cdf_check.specs.Variables.{AreFields, AreValues, HasSizes, IsVariable, IsVariableOf, packing_rows, records_rows, value_rows};
 ghost use Rattle.cdf_structure.specs.Findings.{Finds, Yields};
+ghost use Rattle.cdf_structure.specs.Indexes.{cpr_at};
 
+use crate::parameters::{is_cpr, is_known_packing};
 use crate::variable_fields::{Fields, read_fields};
 use crate::variable_shape::{Value, check_shape};
 use cdf_area::{Area, AreaError};
@@ -27,10 +29,12 @@ const LAST_SPARSE: u32 = 2;
 /// MaxRec of a variable without records.
 const NO_RECORD: u32 = u32::MAX;
 
-/// What a variable that keeps its rules has: its Name, how many bytes a record takes, and the link to its index.
+/// What a variable that keeps its rules has: its Name, the place of its CPR if it is compressed, how many bytes a record takes, and the
+/// link to its index.
 #[derive(Drop)]
 pub struct Variable {
     pub name: Bytes,
+    pub cpr: Option<u64>,
     pub record_bytes: u64,
     pub vxr_head: u64,
 }
@@ -103,21 +107,39 @@ fn check_records(vdr: u64, fields: &Fields) -> Option<Finding>
     None
 }
 
-/// The rules on how a variable's records are packed, where no CPR is read so far.
-fn check_packing(_tiles: &[u64], vdr: u64, fields: &Fields) -> Option<Finding>
-    ensures { (b : List ℕ) → AreRead b _tiles.now → AreFields b vdr fields.now → Finds (packing_rows b _tiles.now vdr) result }
+/// Where the parameters of a variable stand if it is compressed, or a rule on how its records are packed that is broken.
+fn check_packing<A: Area>(
+    area: &mut A,
+    tiles: &[u64],
+    vdr: u64,
+    fields: &Fields,
+) -> Result<Result<Option<u64>, Finding>, AreaError>
+    requires tiled { AreTiles (A.image area.old) cdr_place (length (A.image area.old)) tiles.now }
+    requires fields { AreFields (A.image area.old) vdr fields.now }
+    ensures found { IfOk result (Yields (packing_rows (A.image area.old) tiles.now vdr) (λ cpr. cpr ≡ cpr_at (A.image area.old) vdr)) }
+    ensures area { Reads A.image A.frame A.faults A.edited area.old area.new result }
 {
     let place = vdr;
     let link = fields.cpr_or_spr_offset;
-    if has_bit(fields.flags, VDR_COMPRESSION_BIT) {
+    if !has_bit(fields.flags, VDR_COMPRESSION_BIT) {
+        if link != u64::MAX && link != 0 {
+            // 7.10
+            return Ok(Err(Finding { rule: 10, place }));
+        }
+        return Ok(Ok(None));
+    }
+    if !is_cpr(area, tiles, link)? {
         // 7.11
-        return Some(Finding { rule: 11, place });
+        return Ok(Err(Finding { rule: 11, place }));
     }
-    if link != u64::MAX && link != 0 {
-        // 7.10
-        return Some(Finding { rule: 10, place });
+    if !is_known_packing(area, link)? {
+        // 7.12
+        return Ok(Err(Finding {
+            rule: 12,
+            place: link,
+        }));
     }
-    None
+    Ok(Ok(Some(link)))
 }
 
 /// What a variable has, or a rule on it that is broken, but for those that compare it with others.
@@ -130,7 +152,7 @@ pub fn check_variable<A: Area>(
 ) -> Result<Result<Variable, Finding>, AreaError>
     requires gdr { gdr ≡ gdr_offset (A.image area.old) }
     requires sizes { HasSizes (A.image area.old) }
-    requires read { AreRead (A.image area.old) tiles.now }
+    requires tiled { AreTiles (A.image area.old) cdr_place (length (A.image area.old)) tiles.now }
     requires variable { IsVariable (A.image area.old) vdr }
     ensures found { IfOk result (Yields (variable_rows (A.image area.old) tiles.now [] vdr) (IsVariableOf (A.image area.old) vdr)) }
     ensures area { Reads A.image A.frame A.faults A.edited area.old area.new result }
@@ -155,12 +177,14 @@ pub fn check_variable<A: Area>(
     if let Some(broken) = check_records(vdr, &fields) {
         return Ok(Err(broken));
     }
-    if let Some(broken) = check_packing(tiles, vdr, &fields) {
-        return Ok(Err(broken));
-    }
+    let cpr = match check_packing(area, tiles, vdr, &fields)? {
+        Ok(cpr) => cpr,
+        Err(broken) => return Ok(Err(broken)),
+    };
     let vxr_head = fields.vxr_head;
     Ok(Ok(Variable {
         name,
+        cpr,
         record_bytes,
         vxr_head,
     }))

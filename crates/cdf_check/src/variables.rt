@@ -3,9 +3,9 @@
 ghost use Rattle.std.specs.Prelude.{◌≡◌, ◌<◌, ◌^◌, length, IfOk};
 ghost use Rattle.cdf_area.specs.Calls.{Reads};
 ghost use Rattle.cdf_format.specs.Fields.{gdr_offset};
-ghost use Rattle.cdf_format.specs.Tiles.{Distinct};
+ghost use Rattle.cdf_format.specs.Records.{cdr_place};
+ghost use Rattle.cdf_format.specs.Tiles.{AreTiles, Distinct};
 ghost use Rattle.cdf_format.specs.VariableRules.{phase7};
-ghost use Rattle.cdf_structure.specs.Records.{AreRead};
 ghost use Rattle.cdf_check.specs.Variables.{AreDescribed, AreVariables, HasSizes};
 ghost use Rattle.cdf_structure.specs.Findings.{Yields};
 
@@ -15,9 +15,11 @@ use cdf_area::{Area, AreaError};
 use cdf_structure::Finding;
 use std::alloc::Global;
 
-/// What the rules on records ask of variables: how many bytes a record of each takes, and the link to its index.
+/// What the rules on records ask of variables: the place of the CPR of each that is compressed, how many bytes a record of each takes,
+/// and the link to its index.
 #[derive(Drop)]
 pub struct Described {
+    pub cprs: Vec<Option<u64>>,
     pub record_sizes: Vec<u64>,
     pub vxr_heads: Vec<u64>,
 }
@@ -32,7 +34,7 @@ pub fn check_variables<A: Area>(
 ) -> Result<Result<Described, Finding>, AreaError>
     requires gdr { gdr ≡ gdr_offset (A.image area.old) }
     requires sizes { HasSizes (A.image area.old) }
-    requires read { AreRead (A.image area.old) tiles.now }
+    requires tiled { AreTiles (A.image area.old) cdr_place (length (A.image area.old)) tiles.now }
     requires variables { AreVariables (A.image area.old) vdrs.now }
     requires once { Distinct vdrs.now }
     requires few { length vdrs.now < 2 ^ 31 }
@@ -40,6 +42,7 @@ pub fn check_variables<A: Area>(
     ensures area { Reads A.image A.frame A.faults A.edited area.old area.new result }
 {
     let mut names = Names::new(alloc)?;
+    let mut cprs = Vec::new(alloc);
     let mut record_sizes = Vec::new(alloc);
     let mut vxr_heads = Vec::new(alloc);
     for vdr in vdrs {
@@ -47,9 +50,11 @@ pub fn check_variables<A: Area>(
             Ok(variable) => {
                 let Variable {
                     name,
+                    cpr,
                     record_bytes,
                     vxr_head,
                 } = variable;
+                cprs.push(cpr)?;
                 record_sizes.push(record_bytes)?;
                 vxr_heads.push(vxr_head)?;
                 names.add(*vdr, name)?;
@@ -60,6 +65,7 @@ pub fn check_variables<A: Area>(
     match names.repeated {
         Some(broken) => Ok(Err(broken)),
         None => Ok(Ok(Described {
+            cprs,
             record_sizes,
             vxr_heads,
         })),

@@ -1,8 +1,7 @@
 -- The indexes of variables, one after the other.
-use Rattle.cdf_structure.proofs.Common.{AreRead, Hold, Hold-member, IsToldOf, List, Owners, [], ap, append-nil, false, flat_map, flat_map-append, get_or, get_or-map, is_compressed, length, map, map-append, phase7, record_bytes, refl, subst, sym, take, take_more, variable_records, variable_rows, variable_shape, ℕ, ◌++◌, ◌+◌, ◌<◌, ◌∙◌, ◌∷◌, ◌≡◌, ◌≤◌}
+use Rattle.cdf_structure.proofs.Common.{Hold, Hold-member, IsToldOf, List, Owners, [], ap, append-nil, flat_map, flat_map-append, get_or, get_or-map, length, map, map-append, phase7, record_bytes, refl, subst, sym, take, take_more, variable_records, variable_rows, variable_shape, ℕ, ◌++◌, ◌+◌, ◌<◌, ◌∙◌, ◌∷◌, ◌≡◌, ◌≤◌}
 use Rattle.cdf_model.specs.Place.{record_limit}
 use Rattle.cdf_format.proofs.Tests.{le_of}
-use Rattle.cdf_structure.proofs.IndexSteps.{plain}
 use Rattle.cdf_structure.proofs.Rows.{In-get_or}
 use Rattle.cdf_structure.proofs.Tallies.{told_then}
 
@@ -17,19 +16,14 @@ module _ {X : Type 0} (f : X → List ℕ) (g : ℕ → X) where
       ∙ ap (λ (zs : List ℕ). flat_map f (map g zs)) (sym (take_more xs i 0 lt))
 
 -- one of the variables, which keep their own rules
-module _ (b ts vdrs : List ℕ) (read : AreRead b ts) (described : Hold (phase7 b ts vdrs)) (i : ℕ) (lt : i < length vdrs) where
-  rows : Hold (variable_rows b ts vdrs (get_or vdrs i 0))
-  rows = Hold-member (variable_rows b ts vdrs) vdrs (get_or vdrs i 0) described (In-get_or vdrs i lt)
-
-  pub is_plain : is_compressed b (get_or vdrs i 0) ≡ false
-  is_plain = plain b ts read (get_or vdrs i 0) vdrs rows
-
-  pub is_small : record_bytes b (get_or vdrs i 0) ≤ record_limit
-  is_small = le_of (record_bytes b (get_or vdrs i 0)) record_limit rows.1.1.1.1.1.1.0
+pub is_small : (b ts vdrs : List ℕ) → Hold (phase7 b ts vdrs) → (i : ℕ) → i < length vdrs → record_bytes b (get_or vdrs i 0) ≤ record_limit
+is_small b ts vdrs described i lt =
+    let rows : Hold (variable_rows b ts vdrs (get_or vdrs i 0)) = Hold-member (variable_rows b ts vdrs) vdrs (get_or vdrs i 0) described (In-get_or vdrs i lt) in
+    le_of (record_bytes b (get_or vdrs i 0)) record_limit rows.1.1.1.1.1.1.0
 
 -- what each of these variables has, in their order
-pub had_at : (f : ℕ → ℕ) (vdrs xs : List ℕ) (i : ℕ) → i < length vdrs → xs ≡ map f vdrs → get_or xs i 0 ≡ f (get_or vdrs i 0)
-had_at f vdrs xs i lt e = ap (λ (ys : List ℕ). get_or ys i 0) e ∙ get_or-map f vdrs i 0 0 lt
+pub had_at : {X : Type 0} (f : ℕ → X) (vdrs : List ℕ) (xs : List X) (i : ℕ) (d : X) → i < length vdrs → xs ≡ map f vdrs → get_or xs i d ≡ f (get_or vdrs i 0)
+had_at f vdrs xs i d lt e = ap (λ ys. get_or ys i d) e ∙ get_or-map f vdrs i 0 d lt
 
 -- the records of one variable more are told of
 pub told_variable : (b ts vdrs : List ℕ) (i : ℕ) → i < length vdrs → (first before now : Owners)

@@ -16,5 +16,6 @@ pub mod IndexJoins
 pub mod IndexWalks
 pub mod IndexMet
 pub mod IndexSteps
+pub mod Shares
 pub mod IndexAgain
 pub mod IndexLists

@@ -1,13 +1,10 @@
 -- The records of an image, one after the other in one walk.
-use Rattle.cdf_structure.proofs.Common.{AreRecords, Bool, Finding, Finds, Hold, IsBroken, List, None, Ok, Option, Row, Some, WalksTiles, Yields, [], ap, append-nil, cond, eq-eqb, flat_map, head_rows, ne_eqb, option_or, phase4, record_rows, size_at, subst, sym, type_at, uir_type, unread_type, unused_of, ℕ, ◌++◌, ◌==◌, ◌∙◌, ◌∷◌, ◌≡◌, ◌≢◌}
+use Rattle.cdf_structure.proofs.Common.{AreRecords, Bool, Finding, Finds, Hold, IsBroken, List, None, Ok, Option, Row, Some, WalksTiles, Yields, [], ap, append-nil, cond, eq-eqb, flat_map, head_rows, ne_eqb, option_or, phase4, record_rows, size_at, subst, sym, type_at, uir_type, unused_of, ℕ, ◌++◌, ◌==◌, ◌∙◌, ◌∷◌, ◌≡◌, ◌≢◌}
 use Rattle.std.proofs.lemmas.List.Elements.{filter-append}
 use Rattle.cdf_structure.specs.declared.tiles.Walked.{Walked}
 use Rattle.cdf_structure.proofs.Findings.{none_found, one_found}
 use Rattle.cdf_structure.proofs.Rows.{found_more}
 use Rattle.cdf_structure.proofs.TileSteps.{whole_rows}
-
-abbrev rows_of : List ℕ → List ℕ → List Row
-rows_of b all = flat_map (record_rows b) all ++ flat_map (unread_type b) all
 
 module _ (b all : List ℕ) (place : ℕ) where
   pub unused_more : type_at b place ≡ uir_type → unused_of b (all ++ place ∷ []) ≡ unused_of b all ++ place ∷ []
@@ -18,16 +15,15 @@ module _ (b all : List ℕ) (place : ℕ) where
 
   -- of two findings the one on an earlier record is kept
   pub found_first : (type size : ℕ) (before here : Option Finding) → type ≡ type_at b place → size ≡ size_at b place
-      → Finds (flat_map (record_rows b) all ++ flat_map (unread_type b) all) before → Finds (head_rows place type size) here
-      → Finds (flat_map (record_rows b) (all ++ place ∷ []) ++ flat_map (unread_type b) (all ++ place ∷ [])) (option_or before here)
+      → Finds (flat_map (record_rows b) all) before → Finds (head_rows place type size) here → Finds (flat_map (record_rows b) (all ++ place ∷ [])) (option_or before here)
   found_first type size before here typed sized old new =
-      let rows : Finds (record_rows b place ++ unread_type b place) here = rw (typed, sized) at new in
-      found_more (record_rows b) (unread_type b) all place before here old rows
+      let rows : Finds (record_rows b place) here = rw (typed, sized) at new in
+      found_more (record_rows b) all place before here old rows
 
 -- what a walk to the end finds
 module _ (b : List ℕ) (w : Walked) (walked : WalksTiles b (Ok w)) where
   pub records_hold : w.broken ≡ None → Yields (phase4 b) (AreRecords b) (Ok w.records)
-  records_hold none = (subst Hold (sym (whole_rows b w.records.all.items walked.0)) (none_found (rows_of b w.records.all.items) w.broken walked.1.found none), record { walk = walked.0; unused = walked.1.unused })
+  records_hold none = (subst Hold (sym (whole_rows b w.records.all.items walked.0)) (none_found (flat_map (record_rows b) w.records.all.items) w.broken walked.1.found none), record { walk = walked.0; unused = walked.1.unused })
 
   pub records_break : (f : Finding) → w.broken ≡ Some f → IsBroken (phase4 b) f.rule f.place
-  records_break f some = subst (λ (rows : List Row). IsBroken rows f.rule f.place) (sym (whole_rows b w.records.all.items walked.0)) (one_found (rows_of b w.records.all.items) w.broken f walked.1.found some)
+  records_break f some = subst (λ (rows : List Row). IsBroken rows f.rule f.place) (sym (whole_rows b w.records.all.items walked.0)) (one_found (flat_map (record_rows b) w.records.all.items) w.broken f walked.1.found some)

@@ -26,46 +26,24 @@ holds_more rows (x ∷ members) (suc i) d lt before here =
     let parts = Hold-split (rows x) (flat_map rows (take i members)) before in
     Hold-append (rows x) (flat_map rows (take (suc i) members)) parts.0 (holds_more rows members i d (omega arith) parts.1 here)
 
--- one more member's number
-pub one_more : (f : ℕ → ℕ) (members : List ℕ) (i : ℕ) (numbers : List ℕ) (n : ℕ) → i < length members → numbers ≡ map f (take i members) → n ≡ f (get_or members i 0) → numbers ++ n ∷ [] ≡ map f (take (i + 1) members)
-one_more f members i numbers n lt e is =
-    ap (λ (xs : List ℕ). xs ++ n ∷ []) e ∙ ap (λ (k : ℕ). map f (take i members) ++ k ∷ []) is ∙ sym (map-append f (take i members) (get_or members i 0 ∷ [])) ∙ ap (map f) (sym (take_more members i 0 lt))
+-- what one more member has
+pub one_more : {X : Type 0} (f : ℕ → X) (members : List ℕ) (i : ℕ) (found : List X) (x : X) → i < length members → found ≡ map f (take i members) → x ≡ f (get_or members i 0) → found ++ x ∷ [] ≡ map f (take (i + 1) members)
+one_more f members i found x lt e is =
+    ap (λ xs. xs ++ x ∷ []) e ∙ ap (λ y. map f (take i members) ++ y ∷ []) is ∙ sym (map-append f (take i members) (get_or members i 0 ∷ [])) ∙ ap (map f) (sym (take_more members i 0 lt))
 
 pub IsBroken-split : (xs ys : List Row) (rule place : ℕ) → IsBroken (xs ++ ys) rule place → IsBroken xs rule place ⊎ IsBroken ys rule place
 IsBroken-split [] ys rule place p = inr p
 IsBroken-split (x ∷ xs) ys rule place (inl p) = inl (inl p)
 IsBroken-split (x ∷ xs) ys rule place (inr p) = elim (IsBroken-split xs ys rule place p) [ inl q ↦ inl (inr q) | inr q ↦ inr q ]
 
--- the same of two lists of rules at once, of which the first broken one is kept
-more : (rows : ℕ → List Row) (ms : List ℕ) (m : ℕ) → flat_map rows (ms ++ m ∷ []) ≡ flat_map rows ms ++ rows m
-more rows ms m = flat_map-append rows ms (m ∷ []) ∙ ap (λ (r : List Row). flat_map rows ms ++ r) (append-nil (rows m))
-
-module _ (one two : ℕ → List Row) (ms : List ℕ) (m : ℕ) where
-  abbrev all : List ℕ → List Row
-  all members = flat_map one members ++ flat_map two members
-
-  breaks_before : (rule place : ℕ) → IsBroken (all ms) rule place → IsBroken (all (ms ++ m ∷ [])) rule place
-  breaks_before rule place p = rw (more one ms m, more two ms m) (elim (IsBroken-split (flat_map one ms) (flat_map two ms) rule place p) [
-    | inl q ↦ IsBroken-before (flat_map one ms ++ one m) (flat_map two ms ++ two m) rule place (IsBroken-before (flat_map one ms) (one m) rule place q)
-    | inr q ↦ IsBroken-after (flat_map one ms ++ one m) (flat_map two ms ++ two m) rule place (IsBroken-before (flat_map two ms) (two m) rule place q)
-  ])
-
-  breaks_here : (rule place : ℕ) → IsBroken (one m ++ two m) rule place → IsBroken (all (ms ++ m ∷ [])) rule place
-  breaks_here rule place p = rw (more one ms m, more two ms m) (elim (IsBroken-split (one m) (two m) rule place p) [
-    | inl q ↦ IsBroken-before (flat_map one ms ++ one m) (flat_map two ms ++ two m) rule place (IsBroken-after (flat_map one ms) (one m) rule place q)
-    | inr q ↦ IsBroken-after (flat_map one ms ++ one m) (flat_map two ms ++ two m) rule place (IsBroken-after (flat_map two ms) (two m) rule place q)
-  ])
-
-  holds_here : Hold (all ms) → Hold (one m ++ two m) → Hold (all (ms ++ m ∷ []))
-  holds_here before here =
-      let b = Hold-split (flat_map one ms) (flat_map two ms) before in
-      let h = Hold-split (one m) (two m) here in
-      rw (more one ms m, more two ms m) (Hold-append (flat_map one ms ++ one m) (flat_map two ms ++ two m) (Hold-append (flat_map one ms) (one m) b.0 h.0) (Hold-append (flat_map two ms) (two m) b.1 h.1))
-
-  pub found_more : (before here : Option Finding) → Finds (flat_map one ms ++ flat_map two ms) before → Finds (one m ++ two m) here → Finds (flat_map one (ms ++ m ∷ []) ++ flat_map two (ms ++ m ∷ [])) (option_or before here)
-  found_more None None p q = holds_here p q
-  found_more None (Some f) p q = breaks_here f.rule f.place q
-  found_more (Some f) here p q = breaks_before f.rule f.place p
+-- one member more, of whose rules the first broken one is kept
+pub found_more : (rows : ℕ → List Row) (ms : List ℕ) (m : ℕ) (before here : Option Finding) → Finds (flat_map rows ms) before → Finds (rows m) here → Finds (flat_map rows (ms ++ m ∷ [])) (option_or before here)
+found_more rows ms m before here p q = subst (λ (all : List Row). Finds all (option_or before here)) (sym (flat_map-append rows ms (m ∷ []) ∙ ap (λ (r : List Row). flat_map rows ms ++ r) (append-nil (rows m)))) (both before here p q)
+  where
+    both : (before here : Option Finding) → Finds (flat_map rows ms) before → Finds (rows m) here → Finds (flat_map rows ms ++ rows m) (option_or before here)
+    both None None p q = Hold-append (flat_map rows ms) (rows m) p q
+    both None (Some f) p q = IsBroken-after (flat_map rows ms) (rows m) f.rule f.place q
+    both (Some f) here p q = IsBroken-before (flat_map rows ms) (rows m) f.rule f.place p
 
 -- three lists of rules
 module _ (one two three : List Row) where

@@ -1,5 +1,5 @@
 -- Steps of the walk over the records of an image.
-use Rattle.cdf_structure.proofs.Common.{IsBroken, List, Walk, [], after_first, and_parts, ap, append-nil, append_assoc, arith, eq-eqb, false, flat_map, inl, is_tile, leb, leb-true, length, ne_eqb, phase4, record_rows, refl, size_at, stuck, suc, sym, tiles_from, tiling, true, unread_type, whole, zero, ℕ, ◌++◌, ◌+◌, ◌∙◌, ◌∷◌, ◌≡◌, ◌≢◌, ◌≤◌}
+use Rattle.cdf_structure.proofs.Common.{IsBroken, List, Walk, [], after_first, and_parts, ap, append-nil, append_assoc, arith, eq-eqb, false, flat_map, inl, is_tile, leb, leb-true, length, ne_eqb, phase4, record_rows, refl, size_at, stuck, suc, sym, tiles_from, tiling, true, whole, zero, ℕ, ◌++◌, ◌+◌, ◌∙◌, ◌∷◌, ◌≡◌, ◌≢◌, ◌≤◌}
 
 -- a walk that begins with these records
 abbrev pub behind : List ℕ → Walk → Walk
@@ -51,7 +51,7 @@ tile_room b place good =
     omega (arith, leb-true 12 (size_at b place) parts.0, leb-true (place + size_at b place) (length b) parts.1)
 
 -- the rules of the phase where the records go on to the end, and where they do not
-pub whole_rows : (b records : List ℕ) → tiling b ≡ whole records → phase4 b ≡ flat_map (record_rows b) records ++ flat_map (unread_type b) records
+pub whole_rows : (b records : List ℕ) → tiling b ≡ whole records → phase4 b ≡ flat_map (record_rows b) records
 whole_rows b records is = rw is refl
 
 pub stuck_rows : (b met : List ℕ) (place : ℕ) → tiling b ≡ stuck met place → IsBroken (phase4 b) 1 place

@@ -1,22 +1,26 @@
 -- The index of a variable, read node by node, in an image with these records.
-use Rattle.std.specs.Prelude.{◌≡◌, ◌≢◌, ◌≤◌, ℕ, ℤ, pos, negsuc, ◌+◌, ◌*◌, ◌-ℤ◌, List, [], ◌∷◌, ◌++◌, length, map, Some, None, Ok, Err}
+use Rattle.std.specs.Prelude.{◌≡◌, ◌≢◌, ◌≤◌, ℕ, ℤ, pos, negsuc, ◌+◌, ◌*◌, ◌-ℤ◌, List, [], ◌∷◌, ◌++◌, length, map, Bool, ◌&&◌, nat_le, if◌then◌else◌, Some, None, Ok, Err}
 use Rattle.std.specs.declared.option.Option.{Option}
 use Rattle.std.specs.declared.result.Result.{Result}
 use Rattle.cdf_model.specs.Limits.{record_number_limit}
+use Rattle.cdf_model.specs.Place.{record_limit}
 use Rattle.cdf_format.specs.Chains.{is_a, next_of}
 use Rattle.cdf_format.specs.Fields.{holds, size_at, counted, with_sign}
 use Rattle.cdf_format.specs.Index.{Nodes, Entries, Leaf, leaves_of, entry_leaves, room_at, used_count, first_at, last_at, offset_at}
-use Rattle.cdf_format.specs.IndexRules.{has_room, nodes_rows, used_rows, end_of}
+use Rattle.cdf_format.specs.IndexRules.{has_room, nodes_rows, used_rows, end_of, holds_packed, unpacks_to}
 use Rattle.cdf_format.specs.IndexWalk.{met, lost, entries_on, levels_on}
 use Rattle.cdf_format.specs.Records.{linked_size, vvr_records}
-use Rattle.cdf_format.specs.RecordTypes.{vvr_type}
+use Rattle.cdf_format.specs.RecordTypes.{vvr_type, cvvr_type}
 use Rattle.cdf_format.specs.Rules.{Row, row, asked}
-use Rattle.cdf_format.specs.Shape.{index_of}
+use Rattle.cdf_format.specs.Shape.{index_of, is_compressed}
+use Rattle.cdf_format.specs.Stored.{packed_bytes}
 use Rattle.cdf_format.specs.VariableFields.{number_before}
+use Rattle.cdf_format.specs.VariableRules.{cpr_link}
 use Rattle.cdf_structure.specs.declared.index_walk.Between.{Between}
 use Rattle.cdf_structure.specs.declared.index_walk.Block.{Block}
 use Rattle.cdf_structure.specs.declared.index_walk.Chain.{Chain}
 use Rattle.cdf_structure.specs.declared.index_walk.Index.{Index}
+use Rattle.cdf_structure.specs.declared.indexes.Indexed.{Indexed}
 use Rattle.cdf_structure.specs.declared.nodes.Entry.{Entry}
 use Rattle.cdf_structure.specs.declared.nodes.Node.{Node}
 use Rattle.cdf_structure.specs.declared.finding.Finding.{Finding}
@@ -52,9 +56,22 @@ block_of leaf = record { first = leaf.first; last = leaf.last; place = leaf.plac
 abbrev pub records_of_block : Block → ℕ
 records_of_block block = counted (with_sign block.last -ℤ number_before block.first)
 
--- the rule on the room of a block of records of so many bytes, if it is not packed
-abbrev pub block_rows : List ℕ → List ℕ → ℕ → Block → List Row
-block_rows b records bytes block = asked (is_a b records vvr_type block.place) (row 5 block.place (holds b block.place (vvr_records (records_of_block block * bytes))) ∷ [])
+-- the rule on the room of a block of records of so many bytes that is not packed
+abbrev pub plain_rows : List ℕ → ℕ → Block → List Row
+plain_rows b bytes block = row 5 block.place (holds b block.place (vvr_records (records_of_block block * bytes))) ∷ []
+
+-- the rules on the packed block at a place that stands for so many bytes, of a variable that is compressed or not
+abbrev pub packed_rows : List ℕ → Bool → ℕ → ℕ → List Row
+packed_rows b compressed size place =
+    row 6 place (compressed && holds_packed b place)
+    ∷ row 7 place (nat_le size record_limit)
+    ∷ row 8 place (unpacks_to (packed_bytes b place) size)
+    ∷ []
+
+-- the rules on a block of records of so many bytes, of a variable that is compressed or not
+abbrev pub block_rows : List ℕ → List ℕ → Bool → ℕ → Block → List Row
+block_rows b records compressed bytes block =
+    asked (is_a b records vvr_type block.place) (plain_rows b bytes block) ++ asked (is_a b records cvvr_type block.place) (packed_rows b compressed (records_of_block block * bytes) block.place)
 
 -- ---- what a walk meets
 
@@ -112,6 +129,14 @@ abbrev pub WalksIndex : List ℕ → List ℕ → ℕ → Result Index ℕ → T
 WalksIndex b records vdr (Ok index) = (nodes : Nodes) × MeetsIndex b records vdr index nodes
 WalksIndex b records vdr (Err place) = index_of b records vdr ≡ lost place
 
+-- where the CPR of a variable stands, if it is compressed
+abbrev pub cpr_at : List ℕ → ℕ → Option ℕ
+cpr_at b vdr = if is_compressed b vdr then Some (cpr_link b vdr) else None
+
+abbrev pub cpr_records : Option ℕ → List ℕ
+cpr_records None = []
+cpr_records (Some cpr) = cpr ∷ []
+
 -- the records of a variable with this index
-abbrev pub index_records : ℕ → Index → List ℕ
-index_records vdr index = vdr ∷ index.nodes.list.items ++ map (λ block. block.place) index.blocks.items
+abbrev pub index_records : Indexed → Index → List ℕ
+index_records variable index = variable.vdr ∷ index.nodes.list.items ++ map (λ block. block.place) index.blocks.items ++ cpr_records variable.cpr

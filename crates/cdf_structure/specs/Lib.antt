@@ -5,4 +5,5 @@ pub mod Met
 pub mod Owners
 pub mod FileChains
 pub mod Indexes
+pub mod Rooms
 pub mod Known

@@ -1,14 +1,12 @@
 -- The records of an image, in one walk over them.
-use Rattle.std.specs.Prelude.{◌≡◌, ℕ, List, [], ◌∷◌, ◌++◌, ◌==◌, nat_le, true, Ok, Err}
+use Rattle.std.specs.Prelude.{◌≡◌, ℕ, List, [], ◌∷◌, ◌==◌, nat_le, Ok, Err}
 use Rattle.std.specs.declared.result.Result.{Result}
 use Rattle.std.specs.List.{filter, flat_map}
-use Rattle.cdf_format.specs.Chains.{is_in}
 use Rattle.cdf_format.specs.Fields.{type_at}
-use Rattle.cdf_format.specs.NotRead.{read_types, unread_type}
 use Rattle.cdf_format.specs.RecordRules.{record_rows}
 use Rattle.cdf_format.specs.RecordTypes.{is_record_type, fixed_size, uir_type}
 use Rattle.cdf_format.specs.Rules.{Row, row}
-use Rattle.cdf_format.specs.Tiles.{In, tiling}
+use Rattle.cdf_format.specs.Tiles.{tiling}
 use Rattle.cdf_format.specs.Walks.{whole, stuck}
 use Rattle.cdf_structure.specs.Findings.{Finds}
 use Rattle.cdf_structure.specs.declared.tiles.Records.{Records}
@@ -23,13 +21,12 @@ abbrev pub head_rows : ℕ → ℕ → ℕ → List Row
 head_rows place type size =
     row 2 place (is_record_type type)
     ∷ row 3 place (nat_le (fixed_size type) size)
-    ∷ row 99 place (is_in type read_types)
     ∷ []
 
 -- the unused ones of these records, and a rule on one of them that is broken, or none is
 pub record AreSorted (b : List ℕ) (w : Walked) : Type 0 where
   pub unused : w.records.unused.items ≡ unused_of b w.records.all.items
-  pub found : Finds (flat_map (record_rows b) w.records.all.items ++ flat_map (unread_type b) w.records.all.items) w.broken
+  pub found : Finds (flat_map (record_rows b) w.records.all.items) w.broken
 
 -- the records of an image, or the place where they do not go on
 abbrev pub WalksTiles : List ℕ → Result Walked ℕ → Type 0
@@ -39,7 +36,3 @@ WalksTiles b (Err place) = (met : List ℕ) × (tiling b ≡ stuck met place)
 pub record AreRecords (b : List ℕ) (records : Records) : Type 0 where
   pub walk : tiling b ≡ whole records.all.items
   pub unused : records.unused.items ≡ unused_of b records.all.items
-
--- each record is of a type that is read
-abbrev pub AreRead : List ℕ → List ℕ → Type 0
-AreRead b records = (place : ℕ) → In place records → is_in (type_at b place) read_types ≡ true

@@ -1,8 +1,6 @@
 //! What is known of the types of records.
 
 ghost use Rattle.std.specs.Prelude.{◌≡◌};
-ghost use Rattle.cdf_format.specs.Chains.{is_in};
-ghost use Rattle.cdf_format.specs.NotRead.{read_types};
 ghost use Rattle.cdf_format.specs.RecordTypes.{is_record_type, fixed_size};
 
 use cdf_format::fields::{
@@ -39,20 +37,4 @@ pub fn fixed_size(record_type: u32) -> u64
         UIR_TYPE => UIR_SIZE,
         _ => 0,
     }
-}
-
-/// Whether records of this type are read.
-pub fn is_read(record_type: u32) -> bool
-    ensures { result ≡ is_in record_type read_types }
-{
-    record_type == CDR_TYPE
-        || record_type == GDR_TYPE
-        || record_type == ADR_TYPE
-        || record_type == AGR_EDR_TYPE
-        || record_type == AZ_EDR_TYPE
-        || record_type == R_VDR_TYPE
-        || record_type == VXR_TYPE
-        || record_type == VVR_TYPE
-        || record_type == Z_VDR_TYPE
-        || record_type == UIR_TYPE
 }

@@ -12,7 +12,7 @@ ghost use Rattle.cdf_structure.specs.Walked.{SizesTile};
 
 use crate::fields::{read_size, read_type};
 use crate::finding::Finding;
-use crate::record_types::{fixed_size, is_read, is_record_type};
+use crate::record_types::{fixed_size, is_record_type};
 use cdf_area::{Area, AreaError};
 use cdf_format::fields::{CDR_PLACE, LEAST_SIZE, UIR_TYPE};
 use std::alloc::Global;
@@ -59,10 +59,6 @@ fn check_head(place: u64, record_type: u32, size: u64) -> Option<Finding>
     if size < fixed_size(record_type) {
         // 4.3
         return Some(Finding { rule: 3, place });
-    }
-    if !is_read(record_type) {
-        // 4.99
-        return Some(Finding { rule: 99, place });
     }
     None
 }

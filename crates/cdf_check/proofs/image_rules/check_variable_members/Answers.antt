@@ -1,7 +1,7 @@
-use Rattle.cdf_check.proofs.Common.{AreDescribed, Err, Finds, None, Ok, Some, Yields, ap, arith, flat_map, length, map, phase7, phase8, phase9, refl, tiling_sound, variable_records, variable_shape, ◌++◌, ◌∷◌}
+use Rattle.cdf_check.proofs.Common.{AreDescribed, Err, Finds, None, Ok, Some, Yields, ap, arith, cpr_at, flat_map, length, length-map, map, phase7, phase8, phase9, refl, tiling_sound, unread_variables, variable_records, variable_shape, ◌++◌, ◌∙◌, ◌∷◌}
 use Rattle.cdf_structure.specs.Owners.{IsToldOf}
 use Rattle.cdf_structure.proofs.Searches.{tiles_climb}
-use Rattle.cdf_check.proofs.ImageSteps.{all_read, sizes_lie, variables, variables_once, variables_few, variables_break, indexes_break, owners_break, all_held}
+use Rattle.cdf_check.proofs.ImageSteps.{sizes_lie, variables, variables_once, variables_few, variables_break, indexes_break, read_breaks, owners_break, all_held}
 use Rattle.cdf_check.proofs.image_rules.check_variable_members.Goals as goal
 
 pub check_variables-requires : goal.check_variables-requires
@@ -13,7 +13,7 @@ check_variables-requires g c =
     rw (c.deref-3.ensures.value, c.in_ok-vdrs.ensures, c.deref.ensures.value, c.deref-2.ensures.value) (record {
       gdr = q.gdr;
       sizes = sizes_lie b ts q.tiling q.records q.linked q.sizes;
-      read = all_read b ts q.tiling q.records;
+      tiled = tiling_sound b ts q.tiling;
       variables = variables b ts q.tiling q.records chains q.chains q.linked;
       once = variables_once b ts q.tiling q.records chains q.chains q.linked;
       few = omega (arith, variables_few b ts q.tiling q.records chains q.chains q.linked, q.small);
@@ -37,11 +37,11 @@ check_indexes-requires g c =
     let chains = c.args.chains.now in
     let vs = chains.r_variables.items ++ chains.z_variables.items in
     let described : Yields (phase7 b ts vs) (AreDescribed b vs) (Ok c.in-Ok.described) = rw (c.in-Ok.is, c.deref-3.ensures.value, c.in_ok-vdrs.ensures, c.deref.ensures.value, c.deref-2.ensures.value) at c.in_ok-described.ensures.found in
-    rw (c.check_variables.ensures.area.image, c.deref-4.ensures.value, c.deref-5.ensures.value, c.deref-6.ensures.value, c.in_ok-vdrs.ensures, c.deref.ensures.value, c.deref-2.ensures.value) (record {
+    rw (c.check_variables.ensures.area.image, c.deref-4.ensures.value, c.deref-5.ensures.value, c.deref-6.ensures.value, c.deref-7.ensures.value, c.in_ok-vdrs.ensures, c.deref.ensures.value, c.deref-2.ensures.value) (record {
       tiled = tiling_sound b ts q.tiling;
       small = q.small;
-      read = all_read b ts q.tiling q.records;
       described = described.0;
+      cprs = described.1.cprs_are;
       sizes = described.1.sizes_are;
       heads = described.1.heads_are;
       marks = c.in_ok-owners.ensures.marks;
@@ -67,6 +67,29 @@ returns-in-Some-clause-verdict g c =
     let described : Yields (phase7 b ts vs) (AreDescribed b vs) (Ok c.in-Ok.described) = rw (c.in-Ok.is, c.deref-3.ensures.value, c.in_ok-vdrs.ensures, c.deref.ensures.value, c.deref-2.ensures.value) at c.in_ok-described.ensures.found in
     let broken : Finds (phase8 b ts vs) (Some c.in-Some.finding) = rw (c.in-Some.is, c.check_variables.ensures.area.image, c.deref-4.ensures.value, c.in_ok-vdrs.ensures, c.deref.ensures.value, c.deref-2.ensures.value) at c.in_ok-broken.ensures.found in
     rw c.in_phase-in-Some.ensures (4, refl, indexes_break b ts q.tiling q.records chains q.chains q.linked q.attributes described.0 c.in-Some.finding.rule c.in-Some.finding.place broken)
+
+pub check_read-requires : goal.check_read-requires
+check_read-requires g c =
+    let b = g.A.Area.image c.args.area.now in
+    let ts = c.args.tiles.now in
+    let chains = c.args.chains.now in
+    let vs = chains.r_variables.items ++ chains.z_variables.items in
+    let described : Yields (phase7 b ts vs) (AreDescribed b vs) (Ok c.in-Ok.described) = rw (c.in-Ok.is, c.deref-3.ensures.value, c.in_ok-vdrs.ensures, c.deref.ensures.value, c.deref-2.ensures.value) at c.in_ok-described.ensures.found in
+    let as_many = ap length described.1.cprs_are ∙ length-map vs (cpr_at b) in
+    rw (c.deref-8.ensures.value, c.deref-9.ensures.value, c.in_ok-vdrs.ensures, c.deref.ensures.value, c.deref-2.ensures.value) (record { as_many = as_many })
+
+pub returns-in-Some-check_read-clause-verdict : goal.returns-in-Some-check_read-clause-verdict
+returns-in-Some-check_read-clause-verdict g c =
+    let b = g.A.Area.image c.args.area.now in
+    let ts = c.args.tiles.now in
+    let q = c.requires in
+    let chains = c.args.chains.now in
+    let vs = chains.r_variables.items ++ chains.z_variables.items in
+    let described : Yields (phase7 b ts vs) (AreDescribed b vs) (Ok c.in-Ok.described) = rw (c.in-Ok.is, c.deref-3.ensures.value, c.in_ok-vdrs.ensures, c.deref.ensures.value, c.deref-2.ensures.value) at c.in_ok-described.ensures.found in
+    let indexed : Finds (phase8 b ts vs) None = rw (c.in_default.is, c.check_variables.ensures.area.image, c.deref-4.ensures.value, c.in_ok-vdrs.ensures, c.deref.ensures.value, c.deref-2.ensures.value) at c.in_ok-broken.ensures.found in
+    let read = rw (c.deref-8.ensures.value, c.deref-9.ensures.value, c.in_ok-vdrs.ensures, c.deref.ensures.value, c.deref-2.ensures.value) at c.check_read.ensures.found in
+    let broken : Finds (unread_variables b vs) (Some c.in-Some-check_read.finding) = rw c.in-Some-check_read.is at (read b described.1.cprs_are) in
+    rw c.in_phase-in-Some-check_read.ensures (5, refl, read_breaks b ts q.tiling q.records chains q.chains q.linked q.attributes described.0 indexed c.in-Some-check_read.finding.rule c.in-Some-check_read.finding.place broken)
 
 pub returns-in-Some-check-clause-verdict : goal.returns-in-Some-check-clause-verdict
 returns-in-Some-check-clause-verdict g c =
@@ -100,4 +123,6 @@ returns-clause-verdict g c =
     let knows = c.add_all.ensures.told ((8 ∷ c.args.gdr ∷ own) ++ owned) (told (8 ∷ c.args.gdr ∷ own) c.in_ok-owners.ensures.told) in
     let held : Finds (phase9 ts ((8 ∷ c.args.gdr ∷ (own ++ owned)) ++ c.args.unused.now)) None = rw c.in_default-check.is at (c.check.ensures.found ((8 ∷ c.args.gdr ∷ (own ++ owned)) ++ c.args.unused.now) knows) in
     let here = rw (q.unused, q.gdr) at held in
-    all_held b ts q.tiling q.records chains q.chains q.linked q.attributes described.0 indexed own (own ++ owned) q.members refl here
+    let read = rw (c.deref-8.ensures.value, c.deref-9.ensures.value, c.in_ok-vdrs.ensures, c.deref.ensures.value, c.deref-2.ensures.value) at c.check_read.ensures.found in
+    let unpacked : Finds (unread_variables b vs) None = rw c.in_default-check_read.is at (read b described.1.cprs_are) in
+    all_held b ts q.tiling q.records chains q.chains q.linked q.attributes described.0 indexed own (own ++ owned) q.members refl unpacked here

@@ -1,8 +1,11 @@
-use Rattle.cdf_check.proofs.Common.{ap, has_bit, is_compressed, sym, true, ◌∙◌, ◌≡◌}
-use Rattle.cdf_check.proofs.FieldSteps.{packed_breaks}
+use Rattle.cdf_check.proofs.Common.{sym, true, ◌∙◌, ◌≡◌}
+use Rattle.cdf_format.specs.VariableRules.{is_cpr}
+use Rattle.cdf_check.proofs.FieldSteps.{parameters_lie}
 use Rattle.cdf_check.proofs.variable.check_packing.Goals as goal
 
-pub returns-then-has_bit : goal.returns-then-has_bit
-returns-then-has_bit c b read are =
-    let packed : is_compressed b c.args.vdr ≡ true = ap (λ n. has_bit n 2) (sym are.flags_are) ∙ sym c.has_bit.ensures ∙ c.if-has_bit.true in
-    packed_breaks b c.args._tiles.now c.args.vdr read packed
+pub is_known_packing-requires : goal.is_known_packing-requires
+is_known_packing-requires g c =
+    let b = g.A.Area.image c.args.area.now in
+    let link = c.args.fields.now.cpr_or_spr_offset in
+    let stands : is_cpr b c.args.tiles.now link ≡ true = sym c.in_ok-is_cpr.ensures.value ∙ c.if-not-branch.false in
+    rw c.is_cpr.ensures.area.image (record { room = parameters_lie b c.args.tiles.now link c.requires.tiled stands })

@@ -1,5 +1,4 @@
-use Rattle.cdf_structure.proofs.Common.{IsToldOf, List, Ok, Yields, index_of, length, met_rows, subst, ℕ}
-use Rattle.cdf_structure.specs.Known.{IsRightOf}
+use Rattle.cdf_structure.proofs.Common.{IsRightOf, IsToldOf, List, Ok, Yields, index_of, length, met_rows, subst, ℕ}
 use Rattle.cdf_structure.proofs.Searches.{tiles_climb}
 use Rattle.cdf_structure.proofs.indexes.check_indexed.Goals as goal
 
@@ -13,5 +12,5 @@ returns-in-Ok-clause-told g c = λ none.
     let b = g.A.Area.image c.args.area.now in
     let ts = c.args.tiles.now in
     let vdr = c.args.variable.vdr in
-    let right : Yields (met_rows b ts vdr (index_of b ts vdr)) (IsRightOf b ts vdr) (Ok c.in-Ok.right) = rw c.in-Ok.is at c.in_ok-right.ensures.found in
+    let right : Yields (met_rows b ts vdr (index_of b ts vdr)) (IsRightOf b ts c.args.variable) (Ok c.in-Ok.right) = rw c.in-Ok.is at c.in_ok-right.ensures.found in
     subst (λ (xs : List ℕ). IsToldOf ts xs c.args.owners.now c.own.new.owners) right.1.records_are c.own.ensures.told

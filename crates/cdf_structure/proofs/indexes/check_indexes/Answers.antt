@@ -1,6 +1,6 @@
-use Rattle.cdf_structure.proofs.Common.{Finds, Hold, IsToldOf, List, None, Ok, Some, add-one, ap, arith, flat_map, get_or, index_of, length, length-map, map, met_rows, number, phase8, read_more, record_bytes, refl, subst, take, take_all, variable_records, variable_shape, vdr_vxr_head, ℕ, ◌≡◌}
+use Rattle.cdf_structure.proofs.Common.{Finds, Hold, IsToldOf, List, None, Ok, Some, add-one, ap, arith, cpr_at, flat_map, get_or, index_of, length, length-map, map, met_rows, number, phase8, read_more, record_bytes, refl, subst, take, take_all, variable_records, variable_shape, vdr_vxr_head, ℕ, ◌≡◌}
 use Rattle.cdf_structure.proofs.IndexAgain.{knows_none}
-use Rattle.cdf_structure.proofs.IndexLists.{had_at, is_plain, is_small, told_variable}
+use Rattle.cdf_structure.proofs.IndexLists.{had_at, is_small, told_variable}
 use Rattle.cdf_structure.proofs.Rows.{broken_member, holds_more}
 use Rattle.cdf_structure.proofs.Tallies.{told_none}
 use Rattle.cdf_structure.proofs.indexes.check_indexes.Goals as goal
@@ -15,6 +15,11 @@ bounds-vxr_heads-i g c =
     let b = g.A.Area.image c.args.area.now in
     omega (arith, c.loop-i-test.true, ap length c.requires.heads, length-map c.args.vdrs.now (λ vdr. number b vdr vdr_vxr_head))
 
+pub bounds-cprs-i : goal.bounds-cprs-i
+bounds-cprs-i g c =
+    let b = g.A.Area.image c.args.area.now in
+    omega (arith, c.loop-i-test.true, ap length c.requires.cprs, length-map c.args.vdrs.now (cpr_at b))
+
 pub loop-i-init : goal.loop-i-init
 loop-i-init g c =
     let b = g.A.Area.image c.args.area.now in
@@ -22,7 +27,7 @@ loop-i-init g c =
     record {
       area = record { image = refl; edited = refl; frame = refl; faults = refl };
       rows = tt;
-      known = knows_none b ts c.new-known.result c.new-known.ensures;
+      known = knows_none b ts c.new-known.result c.new-known.ensures.rooms c.new-known.ensures.sizes;
       marks = c.requires.marks;
       told = told_none ts c.args.owners.now;
     }
@@ -34,16 +39,15 @@ check_indexed-requires g c =
     let ts = c.args.tiles.now in
     let vdrs = c.args.vdrs.now in
     let lt = c.loop-i-test.true in
-    let bytes = had_at (record_bytes b) vdrs c.args.record_sizes.now l.i lt c.requires.sizes in
+    let bytes = had_at (record_bytes b) vdrs c.args.record_sizes.now l.i 0 lt c.requires.sizes in
     rw l.invariant.area.image (record {
       tiled = c.requires.tiled;
       small = c.requires.small;
-      read = c.requires.read;
       variable = record {
-        head_is = had_at (λ vdr. number b vdr vdr_vxr_head) vdrs c.args.vxr_heads.now l.i lt c.requires.heads;
-        plain = is_plain b ts vdrs c.requires.read c.requires.described l.i lt;
+        head_is = had_at (λ vdr. number b vdr vdr_vxr_head) vdrs c.args.vxr_heads.now l.i 0 lt c.requires.heads;
+        cpr_is = had_at (cpr_at b) vdrs c.args.cprs.now l.i None lt c.requires.cprs;
         bytes_are = bytes;
-        few = omega (arith, bytes, is_small b ts vdrs c.requires.read c.requires.described l.i lt);
+        few = omega (arith, bytes, is_small b ts vdrs c.requires.described l.i lt);
       };
       known = l.invariant.known;
       marks = l.invariant.marks;
