@@ -10,7 +10,7 @@ ghost use Rattle.cdf_model.specs.Limits.{image_limit};
 ghost use Rattle.cdf_writer.specs.Compact.{compact};
 ghost use Rattle.cdf_writer.specs.Fine.{Fine, PlainVariables};
 
-/// What a good image of bytes means can be written, and each of its variables is of those that are read.
+/// What a good image of bytes means can be written, and none of its variables is packed.
 pub fn a_meaning_can_be_written()
     ensures fine { (b : List ℕ) → Good b → IsOfBytes b → length b ≤ image_limit → Fine (content b) }
     ensures plain { (b : List ℕ) → Good b → PlainVariables (content b) }

@@ -115,7 +115,7 @@ module _ (a : Attribute) (fine : FineAttribute a) (n next g z : ℕ) where
   unfolding adr_body adr_front
   adr_made = typed_body (said_behind n next g z a) (name_bytes adr_name a.name) (adr_body n next g z a) adr_is_type refl (let long = adr_size in omega arith)
 
-  pub adr_typed : type_of_body (adr_body n next g z a) ≡ adr_type
+  adr_typed : type_of_body (adr_body n next g z a) ≡ adr_type
   adr_typed = adr_made.0
 
   pub adr_record : IsRecord (adr_body n next g z a)

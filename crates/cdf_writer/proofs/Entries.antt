@@ -91,7 +91,7 @@ module _ (num : ℕ) (entry : Entry) (fine : FineEntry num entry) (little : Bool
   unfolding entry_body entry_front
   body_made t = typed_body (said_behind type next n num entry) (turned entry.type little entry.bytes) (entry_body type little n next (num, entry)) t refl (let long = body_size in omega arith)
 
-  pub typed : IsType type 56 → type_of_body (entry_body type little n next (num, entry)) ≡ type
+  typed : IsType type 56 → type_of_body (entry_body type little n next (num, entry)) ≡ type
   typed t = (body_made t).0
 
   pub entry_record : IsType type 56 → IsRecord (entry_body type little n next (num, entry))

@@ -395,9 +395,9 @@ made_all [] = tt
 made_all (g ∷ groups) = ((node_made g).1, made_all groups)
 
 -- a node of any entries is a record
-ranged_both : (g : List NodeEntry) → (type_of_body (vxr_body g) ≡ vxr_type) × IsBody (vxr_body g)
+pub ranged_made : (g : List NodeEntry) → IsBody (vxr_body g)
 unfolding vxr_body
-ranged_both g =
+ranged_made g =
     let n = length g in
     let front = laid_out (vxr_said n) in
     let fs = flat_map (λ (entry : NodeEntry). big_bytes 4 entry.first) g in
@@ -406,13 +406,7 @@ ranged_both g =
     let is : vxr_body g ≡ front ++ (fs ++ (ls ++ os)) = append_assoc (front ++ fs) ls os ∙ append_assoc front fs (ls ++ os) in
     let long = length-append front (fs ++ (ls ++ os)) in
     let all = ap length is in
-    typed_body {type = vxr_type} {least = 28} ((vxr_vxr_next, 0) ∷ (vxr_n_entries, n) ∷ (vxr_n_used_entries, n) ∷ []) (fs ++ (ls ++ os)) (vxr_body g) vxr_is_type is (omega arith)
-
-pub ranged_made : (g : List NodeEntry) → IsBody (vxr_body g)
-ranged_made g = (ranged_both g).1
-
-pub ranged_typed : (g : List NodeEntry) → type_of_body (vxr_body g) ≡ vxr_type
-ranged_typed g = (ranged_both g).0
+    (typed_body {type = vxr_type} {least = 28} ((vxr_vxr_next, 0) ∷ (vxr_n_entries, n) ∷ (vxr_n_used_entries, n) ∷ []) (fs ++ (ls ++ os)) (vxr_body g) vxr_is_type is (omega arith)).1
 
 -- the highest node stands among them
 pub root_within : (most place : ℕ) (es : List NodeEntry) → place + laid_size (index_bodies most place es) < 256 ^ 8 → index_root most place es < 256 ^ 8

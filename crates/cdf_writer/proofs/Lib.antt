@@ -6,7 +6,6 @@ pub mod GroupLemmas
 pub mod BlocksRead
 pub mod FilePart
 pub mod Assembled
-pub mod NoVariables
 pub mod Ordered
 pub mod IndexTree
 pub mod Vdr

@@ -1,4 +1,4 @@
--- The variables, as they stand: those that are not packed and have no rule for missing records.
+-- The variables, as they stand.
 use Rattle.std.proofs.Common.{Bool, List, Option, [], bytes_eq, negsuc, ap, ap₂, arith, eq-eqb, false, inl, inr, is_some, length, lit<, map, not, pos, refl, subst, suc, sym, true, zero, ℕ, ℤ, ◌%◌, ◌*◌, ◌++◌, ◌+◌, ◌<◌, ◌^◌, ◌||◌, ◌∙◌, ◌∷◌, ◌≡◌, ◌≢◌, ◌≤◌, ◌⊎◌}
 use Rattle.std.proofs.lemmas.Bool.{and_from, cases_eq, eqb-true, le-leb}
 use Rattle.std.proofs.lemmas.Int.{ints}
@@ -47,7 +47,7 @@ use Rattle.cdf_edits.proofs.Frame.OwnersApart.{times-append, times-in}
 use Rattle.cdf_edits.specs.Index.Blocks.{block_count, block_limit, record_length, wanted_count}
 use Rattle.cdf_edits.specs.Space.Placing.{IsBody, type_of_body}
 use Rattle.cdf_writer.specs.Bodies.{code4, sparse_code, cvvr_body, vvr_body, vxr_body, vdr_body, vdr_type, whole_record}
-use Rattle.cdf_writer.specs.Fine.{FineVariable, IsPos, Plain, Rise}
+use Rattle.cdf_writer.specs.Fine.{FineVariable, IsPos, Rise}
 use Rattle.cdf_writer.specs.Packing.{packed_of}
 use Rattle.cdf_writer.proofs.FilePart.{code4_back}
 use Rattle.cdf_writer.specs.Laying.{behind_vdr, block_bodies, block_body, blocks_of, blocks_place, cpr_bodies, cpr_link, index_bodies, index_root, is_packed, laid, plain_of_block, laid_size, leaves_at, link_if, node_bodies, nodes_over, nodes_place, past_variable, past_vdr, root_of, uppers, variable_bodies, variables_bodies, vdr_size}

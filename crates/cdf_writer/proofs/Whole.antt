@@ -1,49 +1,35 @@
--- The laws of the compact image, for all variables; that it is good is said of those that are not packed and have no rule for missing records.
-use Rattle.std.proofs.Common.{arith, Bool, List, [], ap, ap₂, false, length, map, refl, subst, suc, sym, true, ℕ, ◌++◌, ◌+◌, ◌<◌, ◌^◌, ◌∙◌, ◌∷◌, ◌≡◌, ◌≤◌, max}
+-- The laws of the compact image, for all variables.
+use Rattle.std.proofs.Common.{arith, Bool, List, [], ap, ap₂, length, map, subst, suc, sym, ℕ, ◌++◌, ◌+◌, ◌<◌, ◌^◌, ◌∙◌, ◌∷◌, ◌≡◌, ◌≤◌, max}
 use Rattle.std.proofs.lemmas.List.{map-append}
 use Rattle.std.specs.List.{flat_map, fold}
-use Rattle.std.specs.Prelude.{if◌then◌else◌, nat_lt}
-use Rattle.cdf_model.specs.declared.kinds.Kind.{Kind}
 use Rattle.cdf_model.specs.declared.kinds.Kind.TheVariants.{R, Z}
 use Rattle.cdf_model.specs.DataSet.{DataSet, Variable, extent}
 use Rattle.cdf_model.specs.Names.{variable_names}
 use Rattle.cdf_format.proofs.GoodImageLemmas.{vdrs_append}
 use Rattle.cdf_format.proofs.NameRules.{AreNew, names_at}
-use Rattle.cdf_format.specs.Chains.{is_in}
 use Rattle.cdf_format.specs.Content.{content}
 use Rattle.cdf_format.specs.Fields.{gdr_offset, r_num_dims, r_sizes}
 use Rattle.cdf_format.specs.IndexRules.{index_rows}
-use Rattle.cdf_format.specs.NotRead.{read_types}
 use Rattle.cdf_format.specs.Owners.{space_of}
 use Rattle.cdf_format.specs.Records.{vdr_name}
 use Rattle.cdf_format.specs.Rules.{Hold}
+use Rattle.cdf_format.specs.Sealed.{sealed}
 use Rattle.cdf_format.specs.Shape.{Each, VariableShape, shape, vdrs}
 use Rattle.cdf_format.specs.VariableRules.{variable_rows}
-use Rattle.cdf_format.specs.WellFormed.{Good}
+use Rattle.cdf_format.specs.WellFormed.{Good, KeepsFormat}
 use Rattle.cdf_edits.proofs.Edits.VariableFrame.{IsRuled, hold_all, ruled_rows}
-use Rattle.cdf_edits.specs.Space.Placing.{type_of_body}
 use Rattle.cdf_writer.specs.Compact.{bodies, compact, heads, is_little as means_little, r_place, z_place}
-use Rattle.cdf_writer.specs.Fine.{Fine, FineAttributes, FineFile, FineVariable, FineVariables, Plain, PlainVariables}
-use Rattle.cdf_writer.specs.Bodies.{cvvr_body, vdr_type, vvr_body, vxr_body}
-use Rattle.cdf_writer.specs.Packing.{packed_of}
-use Rattle.cdf_edits.specs.Index.Written.{is_worth_packing}
-use Rattle.cdf_model.specs.Limits.{image_limit, level_limit}
+use Rattle.cdf_writer.specs.Fine.{Fine, FineAttributes, FineFile, FineVariable, FineVariables, PlainVariables}
+use Rattle.cdf_model.specs.Limits.{image_limit}
 use Rattle.cdf_model.specs.RecordSteps.{last_number}
 use Rattle.std.proofs.Common.{FitsSigned, zero}
 use Rattle.std.proofs.lemmas.Int.{ints}
 use Rattle.std.specs.Int.{w32}
-use Rattle.std.specs.Prelude.{◌&&◌}
-use Rattle.cdf_writer.proofs.BlocksRead.{vvr_made}
-use Rattle.cdf_writer.proofs.IndexTree.{ranged_typed}
-use Rattle.cdf_writer.proofs.NoVariables.{all_read}
-use Rattle.cdf_writer.proofs.Vdr.{vdr_made}
-use Rattle.cdf_writer.specs.Laying.{behind_vdr, block_bodies, block_body, blocks_of, cpr_bodies, cpr_link, index_bodies, laid_size, leaves_at, link_if, node_bodies, nodes_over, nodes_place, past_variable, past_vdr, plain_of_block, root_of, uppers, variable_bodies, variables_bodies}
-use Rattle.cdf_writer.proofs.Assembled.{VariableBodies, VariablesPart, gdr_on, good, no_waste, offset_on, little_on, means, parts_on, r_in, z_in}
+use Rattle.cdf_writer.proofs.Assembled.{VariableBodies, VariablesPart, gdr_on, good, keeps, no_waste, offset_on, little_on, means, parts_on, r_in, z_in}
 use Rattle.cdf_writer.proofs.AttributesRead.{new_from}
 use Rattle.cdf_writer.proofs.FilePart.{code4_fits}
 use Rattle.cdf_writer.proofs.Stands.{places}
 use Rattle.cdf_writer.proofs.VariablesRead.{AllShare, AllStand, all_distinct, all_have, all_indexed, all_lead, all_linkable, all_made, all_mean, all_named, all_numbered, all_ruled, all_stand, all_times, apart_into, names_apart, variable_shapes}
-use Rattle.cdf_writer.specs.declared.bodies.NodeEntry.{NodeEntry}
 
 module _ (d : DataSet) (file : FineFile d) (attrs : FineAttributes d) (vars : FineVariables d) (made : VariableBodies d) (max_fits : (heads d).r_max_rec < 256 ^ 4) where
   abbrev little : Bool
@@ -119,51 +105,6 @@ module _ (d : DataSet) (file : FineFile d) (attrs : FineAttributes d) (vars : Fi
       let new : AreNew [] (names_at (compact d) vdr_name (vdrs (r_shapes ++ z_shapes))) = subst (AreNew []) (sym all_names) (new_from [] (variable_names d) vars.differ) in
       ruled_rows (compact d) rs all (r_shapes ++ z_shapes) ruled (λ m i. apart_into (compact d) all m (λ y j ne. names_apart (compact d) [] all new m y i j ne))
 
--- ---- the types of the records of variables
-
-abbrev IsRead : List ℕ → Type 0
-IsRead body = is_in (type_of_body body) read_types ≡ true
-
-both_read : (xs ys : List (List ℕ)) → Each IsRead xs → Each IsRead ys → Each IsRead (xs ++ ys)
-both_read [] ys x y = y
-both_read (b ∷ xs) ys x y = (x.0, both_read xs ys x.1 y)
-
-nodes_read : (gs : List (List NodeEntry)) → Each IsRead (map vxr_body gs)
-nodes_read [] = tt
-nodes_read (g ∷ gs) = (subst (λ (k : ℕ). is_in k read_types ≡ true) (sym (ranged_typed g)) refl, nodes_read gs)
-
-index_read : (most at : ℕ) (es : List NodeEntry) → Each IsRead (index_bodies most at es)
-index_read zero at es = tt
-index_read (suc most) at es = by (nat_lt 1 (length (nodes_over es))) (index_read most (at + laid_size (node_bodies es)) (uppers at es))
-  where
-    by : (q : Bool) → Each IsRead (index_bodies most (at + laid_size (node_bodies es)) (uppers at es)) → Each IsRead (if q then node_bodies es ++ index_bodies most (at + laid_size (node_bodies es)) (uppers at es) else node_bodies es)
-    by true up = both_read (node_bodies es) (index_bodies most (at + laid_size (node_bodies es)) (uppers at es)) (nodes_read (nodes_over es)) up
-    by false up = nodes_read (nodes_over es)
-
-blocks_read : (little : Bool) (v : Variable) → v.rle ≡ false → (gs : List (List (ℕ × List ℕ))) → Each IsRead (map (block_body little v) gs)
-blocks_read little v e [] = tt
-blocks_read little v e (g ∷ gs) =
-    let plain = plain_of_block little v g in
-    let body : block_body little v g ≡ vvr_body plain = ap (λ (q : Bool). if q && is_worth_packing plain (packed_of plain) then cvvr_body (packed_of plain) else vvr_body plain) e in
-    (subst IsRead (sym body) (subst (λ (k : ℕ). is_in k read_types ≡ true) (sym (vvr_made plain).0) refl), blocks_read little v e gs)
-
-variables_read : (kind : Kind) (little : Bool) (n place : ℕ) (vs : List Variable) → Each FineVariable vs → Each Plain vs → Each IsRead (variables_bodies kind little n place vs)
-variables_read kind little n place [] f p = tt
-variables_read kind little n place (v ∷ more) f p =
-    let past = past_vdr kind little place v in
-    let next = link_if (past_variable kind little place v) more in
-    let typed = (vdr_made kind little n next (root_of little past v) (cpr_link past v.rle) v f.0).0 in
-    let none : cpr_bodies v.rle ≡ [] = ap cpr_bodies p.0.unpacked in
-    let behind : Each IsRead (behind_vdr little past v) =
-    subst (λ (c : List (List ℕ)). Each IsRead (c ++ block_bodies little v ++ index_bodies level_limit (nodes_place little past v) (leaves_at little past v))) (sym none)
-    (both_read (block_bodies little v) (index_bodies level_limit (nodes_place little past v) (leaves_at little past v)) (blocks_read little v p.0.unpacked (blocks_of v)) (index_read level_limit (nodes_place little past v) (leaves_at little past v))) in
-    both_read (variable_bodies kind little n place next v) (variables_bodies kind little (suc n) (past_variable kind little place v) more)
-    (subst (λ (k : ℕ). is_in k read_types ≡ true) (sym typed) (kind_read kind), behind) (variables_read kind little (suc n) (past_variable kind little place v) more f.1 p.1)
-  where
-    kind_read : (k : Kind) → is_in (vdr_type k) read_types ≡ true
-    kind_read R = refl
-    kind_read Z = refl
-
 -- ---- the greatest MaxRec
 
 pub extents_small : (best : ℕ) (vs : List Variable) → Each FineVariable vs → best ≤ 2147483647 → fold max best (map (λ v. extent v.max_rec) vs) ≤ 2147483647
@@ -191,9 +132,13 @@ module _ (d : DataSet) (file : FineFile d) (attrs : FineAttributes d) (vars : Fi
   max_fits : (heads d).r_max_rec < 256 ^ 4
   max_fits = code4_fits (last_number (fold max 0 (map (λ v. extent v.max_rec) d.r_variables))) (last_fits (fold max 0 (map (λ v. extent v.max_rec) d.r_variables)) (extents_small 0 d.r_variables vars.r_fine (omega arith)))
 
+  pub compact_keeps : KeepsFormat (sealed (compact d))
+  unfolding part
+  compact_keeps = keeps d file attrs made max_fits (part d file attrs vars made max_fits) (ruled_now d file attrs vars made max_fits)
+
   pub compact_good : PlainVariables d → Good (compact d)
   unfolding part
-  compact_good plain = good d file attrs made max_fits (part d file attrs vars made max_fits) (ruled_now d file attrs vars made max_fits) (all_read d file attrs (variables_read R (means_little d) 0 (r_place d) d.r_variables vars.r_fine plain.r_plain) (variables_read Z (means_little d) 0 (z_place d) d.z_variables vars.z_fine plain.z_plain))
+  compact_good = good d file attrs made max_fits (part d file attrs vars made max_fits) (ruled_now d file attrs vars made max_fits)
 
   pub compact_means : content (compact d) ≡ d
   compact_means = means d file attrs made max_fits (part d file attrs vars made max_fits)

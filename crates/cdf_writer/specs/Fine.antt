@@ -96,7 +96,7 @@ pub record Fine (d : DataSet) : Type 0 where
   pub attributes : FineAttributes d
   pub variables : FineVariables d
 
--- what is read so far: not packed
+-- a variable that is not packed
 pub record Plain (v : Variable) : Type 0 where
   pub unpacked : v.rle ≡ false
 

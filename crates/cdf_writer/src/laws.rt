@@ -4,14 +4,16 @@ ghost use Rattle.std.specs.Prelude.{◌≡◌, ◌<◌, ◌≤◌, ℕ, List, le
 ghost use Rattle.cdf_model.specs.Limits.{image_limit};
 ghost use Rattle.cdf_format.specs.Content.{content};
 ghost use Rattle.cdf_format.specs.Owners.{space_of};
+ghost use Rattle.cdf_format.specs.Sealed.{sealed};
 ghost use Rattle.cdf_format.specs.Shape.{shape};
-ghost use Rattle.cdf_format.specs.WellFormed.{Good};
+ghost use Rattle.cdf_format.specs.WellFormed.{Good, KeepsFormat};
 ghost use Rattle.cdf_model.specs.DataSet.{DataSet};
 ghost use Rattle.cdf_writer.specs.Compact.{compact};
 ghost use Rattle.cdf_writer.specs.Fine.{Fine, PlainVariables};
 
-/// The compact image of a data set means this data set, and has no unused bytes; and it is good, so far as its variables are of those that are read.
+/// The compact image of a data set keeps the rules of the format, means this data set and has no unused bytes; where no variable is packed, it is good.
 pub fn compact_is_good()
+    ensures keeps { (d : DataSet) → Fine d → length (compact d) ≤ image_limit → KeepsFormat (sealed (compact d)) }
     ensures good { (d : DataSet) → Fine d → length (compact d) ≤ image_limit → PlainVariables d → Good (compact d) }
     ensures content { (d : DataSet) → Fine d → length (compact d) ≤ image_limit → content (compact d) ≡ d }
     ensures listed { (d : DataSet) → Fine d → length (compact d) ≤ image_limit → (space_of (compact d) (shape (compact d))).listed_bytes ≡ 0 }

@@ -1,5 +1,8 @@
-use Rattle.cdf_writer.proofs.Whole.{compact_good, compact_means, compact_wastes_none, of_fine}
+use Rattle.cdf_writer.proofs.Whole.{compact_good, compact_keeps, compact_means, compact_wastes_none, of_fine}
 use Rattle.cdf_writer.proofs.laws.compact_is_good.Goals as goal
+
+pub returns-clause-keeps : goal.returns-clause-keeps
+returns-clause-keeps c d f short = compact_keeps d (of_fine d f short) f.attributes f.variables
 
 pub returns-clause-good : goal.returns-clause-good
 returns-clause-good c d f short = compact_good d (of_fine d f short) f.attributes f.variables
