@@ -22,7 +22,6 @@ unfoldable pub use Rattle.cdf_edits.specs.Index.Grown.{cut_entries, cut_nodes, e
 pub use Rattle.cdf_edits.specs.Index.Written.{AnyOf, EntryIs, NodeSpareStays, NodesFollow, UnusedEntries, is_given_at, is_taken_at, stored_bytes, was_unused}
 pub use Rattle.cdf_edits.specs.Space.Acts.{Act, ActsFollow, Among, AreActs, Gave, Happens, RestStays, SpaceLeft, Took, after_act, back_of, gave, lies_in_taken, links_end, loose_records, sized, space_before, taken, used_records}
 pub use Rattle.cdf_edits.specs.Space.Placement.{fits, giving, place_for, taken_from, taking, unused}
-pub use Rattle.cdf_examples.specs.Asked.{BreaksFirst, KeepsRules, lasting, lasting_phases}
 unfoldable pub use Rattle.cdf_examples.specs.Attributes.{again_file, attribute_file, behind_file, entry_file, freed100_file, freed_file, moved_file, replaced_file, split_file}
 pub use Rattle.cdf_examples.specs.ChecksumFile.{checksum_digest}
 unfoldable pub use Rattle.cdf_examples.specs.ChecksumFile.{checksum_image}
@@ -68,8 +67,9 @@ pub use Rattle.cdf_format.specs.IndexRules.{phase8}
 unfoldable pub use Rattle.cdf_format.specs.IndexRules.{nodes_rows, used_rows}
 pub use Rattle.cdf_format.specs.IndexWalk.{Met, and_then, lost, met, nodes_met}
 unfoldable pub use Rattle.cdf_format.specs.IndexWalk.{entries_on, levels_on, nodes_on}
+pub use Rattle.cdf_format.specs.NotRead.{unread_variables}
 pub use Rattle.cdf_format.specs.Owners.{Owner, owned, owned_records, unused_records}
-pub use Rattle.cdf_format.specs.Phases.{all_phases, phase10, phase9}
+pub use Rattle.cdf_format.specs.Phases.{all_phases, format_phases, phase10, phase9, phases_around}
 pub use Rattle.cdf_format.specs.RecordTypes.{cvvr_type, uir_type, vxr_type}
 pub use Rattle.cdf_format.specs.Records.{Field, field, gdr_uir_head, record_size, record_type, uir_next_uir, uir_prev_uir, vdr_vxr_head, vxr_bytes, vxr_first, vxr_last, vxr_n_entries, vxr_offset}
 pub use Rattle.cdf_format.specs.Rules.{AllHold, FirstBroken, Hold, IsBroken, Row}
@@ -78,6 +78,7 @@ pub use Rattle.cdf_format.specs.Shape.{AttributeShape, Each, Shape, VariableShap
 unfoldable pub use Rattle.cdf_format.specs.Shape.{shape}
 pub use Rattle.cdf_format.specs.Tiles.{In, tiles}
 unfoldable pub use Rattle.cdf_format.specs.Tiles.{tiles_from}
+pub use Rattle.cdf_format.specs.WellFormed.{Breaks, KeepsFormat, WellFormed}
 pub use Rattle.cdf_model.specs.DataSet.{Attribute, Variable}
 pub use Rattle.cdf_model.specs.Names.{Found, attribute_named, variable_named}
 pub use Rattle.cdf_model.specs.declared.command.Command.{Command}

@@ -1,6 +1,6 @@
 -- What `reindex` makes of the first z variable, and that no acts of it lead to an image, by truth values of its index: the content, the old index and the new one are computed no further than these ask.
 use Rattle.cdf_examples.proofs.Common.{Act, ActsFollow, AreActs, Bool, Does, Found, FullFromLeft, List, MakesIndex, Nodes, None, Option, Some, Took, Variable, VariableShape, [], ap, content, eq-eqb, eqb-true, false, gave, length, levels_up, nodes_at, nodes_of, not, place_for, refl, shape, shapes_of, slice_get, space_before, subst, sym, true, unused, variable_named, vxr_bytes, ℕ, ◌++◌, ◌==◌, ◌∙◌, ◌∷◌, ◌≡◌}
-use Rattle.std.proofs.Common.{◌&&◌, map}
+use Rattle.std.proofs.Common.{map}
 use Rattle.cdf_model.specs.declared.command.Command.TheVariants as commands
 use Rattle.cdf_model.specs.declared.kinds.Kind.{Kind}
 use Rattle.cdf_model.specs.declared.kinds.Kind.TheVariants.{R, Z}

@@ -1,5 +1,5 @@
 -- Rules that are computed: as truth values, and what follows of them.
-use Rattle.cdf_examples.proofs.Common.{AllHold, Bool, BreaksFirst, Change, EachBreaks, FirstBroken, Hold, IsBroken, KeepsRules, List, Row, Verdict, [], adrs, bytes_eq, changed, eqb-true, false, image_of, inl, inr, lasting, lasting_phases, not, owned_records, phase10, phase8, phase9, refl, same_of_bytes_eq, shape, subst, suc, sym, true, variables, vdrs, zero, ℕ, ◌==◌, ◌||◌, ◌∷◌, ◌≡◌, ◌⊎◌}
+use Rattle.cdf_examples.proofs.Common.{AllHold, Bool, Breaks, Change, EachBreaks, FirstBroken, Hold, IsBroken, KeepsFormat, List, Row, Verdict, [], adrs, bytes_eq, changed, eqb-true, false, format_phases, image_of, inl, inr, not, owned_records, phase10, phase8, phase9, phases_around, refl, same_of_bytes_eq, shape, subst, suc, sym, true, unread_variables, variables, vdrs, zero, ℕ, ◌++◌, ◌==◌, ◌||◌, ◌∷◌, ◌≡◌, ◌⊎◌}
 use Rattle.std.proofs.Common.{◌&&◌, map}
 use Rattle.cdf_format.specs.AttributeRules.{phase6}
 use Rattle.cdf_format.specs.ChainRules.{phase5}
@@ -27,8 +27,8 @@ pub AllHold-by : (phases : List (List Row)) → all_hold phases ≡ true → All
 AllHold-by [] e = tt
 AllHold-by (rows ∷ phases) e = let two = both (hold rows) (all_hold phases) e in (Hold-by rows two.0, AllHold-by phases two.1)
 
-pub keeps_rules : (f : List ℕ) → all_hold (lasting_phases f) ≡ true → KeepsRules f
-keeps_rules f e = AllHold-by (lasting_phases f) e
+pub keeps_rules : (f : List ℕ) → all_hold (phases_around (format_phases (image_of f)) f) ≡ true → KeepsFormat f
+keeps_rules f e = AllHold-by (phases_around (format_phases (image_of f)) f) e
 
 -- ---- a rule that is the first broken
 
@@ -63,30 +63,30 @@ phases_to_ask =
     ∷ (λ f b. phase6 b (shape b).records (adrs (shape b)))
     ∷ (λ f b. phase7 b (shape b).records (vdrs (variables (shape b))))
     ∷ (λ f b. phase8 b (shape b).records (vdrs (variables (shape b))))
-    ∷ (λ f b. phase9 (shape b).records (owned_records b (shape b)))
+    ∷ (λ f b. unread_variables b (vdrs (variables (shape b))) ++ phase9 (shape b).records (owned_records b (shape b)))
     ∷ (λ f b. phase10 f) ∷ []
 
 abbrev pub first_broken : List (List ℕ → List ℕ → List Row) → List ℕ → List ℕ → ℕ → ℕ → ℕ → Bool
 first_broken [] f b phase rule place = false
-first_broken (rows ∷ phases) f b zero rule place = broken (lasting (rows f b)) rule place
-first_broken (rows ∷ phases) f b (suc phase) rule place = hold (lasting (rows f b)) && first_broken phases f b phase rule place
+first_broken (rows ∷ phases) f b zero rule place = broken (rows f b) rule place
+first_broken (rows ∷ phases) f b (suc phase) rule place = hold (rows f b) && first_broken phases f b phase rule place
 
 FirstBroken-by : (phases : List (List ℕ → List ℕ → List Row)) (f b : List ℕ) (phase rule place : ℕ) → first_broken phases f b phase rule place ≡ true
-    → FirstBroken (map (λ rows. lasting (rows f b)) phases) phase rule place
+    → FirstBroken (map (λ rows. rows f b) phases) phase rule place
 FirstBroken-by [] f b phase rule place e = absurd cc
-FirstBroken-by (rows ∷ phases) f b zero rule place e = IsBroken-by (lasting (rows f b)) rule place e
+FirstBroken-by (rows ∷ phases) f b zero rule place e = IsBroken-by (rows f b) rule place e
 FirstBroken-by (rows ∷ phases) f b (suc phase) rule place e =
-    let two = both (hold (lasting (rows f b))) (first_broken phases f b phase rule place) e in
-    (Hold-by (lasting (rows f b)) two.0, FirstBroken-by phases f b phase rule place two.1)
+    let two = both (hold (rows f b)) (first_broken phases f b phase rule place) e in
+    (Hold-by (rows f b) two.0, FirstBroken-by phases f b phase rule place two.1)
 
 -- The image is given beside the file, since it computes faster than when it is taken from it.
 abbrev pub breaks : List ℕ → List ℕ → ℕ → ℕ → ℕ → Bool
 breaks f b phase rule place = bytes_eq (image_of f) b && first_broken phases_to_ask f b phase rule place
 
-pub breaks_first : (f b : List ℕ) (phase rule place : ℕ) → breaks f b phase rule place ≡ true → BreaksFirst f phase rule place
+pub breaks_first : (f b : List ℕ) (phase rule place : ℕ) → breaks f b phase rule place ≡ true → Breaks f phase rule place
 breaks_first f b phase rule place e =
     let two = both (bytes_eq (image_of f) b) (first_broken phases_to_ask f b phase rule place) e in
-    subst (λ (b : List ℕ). FirstBroken (map (λ rows. lasting (rows f b)) phases_to_ask) phase rule place) (sym (same_of_bytes_eq (image_of f) b two.0))
+    subst (λ (b : List ℕ). FirstBroken (map (λ rows. rows f b) phases_to_ask) phase rule place) (sym (same_of_bytes_eq (image_of f) b two.0))
     (FirstBroken-by phases_to_ask f b phase rule place two.1)
 
 -- ---- tables of changes

@@ -1,5 +1,5 @@
 -- The shape of an image, computed by walks: each record is found from the one before, and each number is read from one place, since a place far back in a file is dear to read.
-use Rattle.cdf_examples.proofs.Common.{Bool, Entries, Field, List, Met, Nodes, Shape, VariableShape, [], adr_chain, and_then, ap, ap₂, arith, attribute_shape, block, cpr_of, cvvr_type, drop, drop-drop, entries_on, false, first_at, gdr_offset, get_or-drop, if◌then◌else◌, is_in, is_linkable, last_at, length, levels_on, lost, lower, met, next_of, no_entry, no_node, node, nodes_met, nodes_on, not, number, offset_at, r_vdr_chain, record_size, record_type, refl, room_at, shape, shape_in, size_at, subst, suc, sym, tiles, tiles_from, true, type_at, uir_chain, used_count, variable_shape, vdr_vxr_head, vxr_first, vxr_last, vxr_n_entries, vxr_offset, vxr_type, word, z_vdr_chain, zero, ℕ, ◌*◌, ◌++◌, ◌+◌, ◌==◌, ◌^◌, ◌||◌, ◌∙◌, ◌∷◌, ◌≡◌}
+use Rattle.cdf_examples.proofs.Common.{Bool, Entries, Field, List, Met, Nodes, Shape, VariableShape, [], adr_chain, and_then, ap, ap₂, arith, attribute_shape, block, cpr_of, cvvr_type, drop, drop-drop, entries_on, false, first_at, gdr_offset, get_or-drop, if◌then◌else◌, is_in, is_linkable, last_at, length, levels_on, lost, lower, met, next_of, no_entry, no_node, node, nodes_met, nodes_on, not, number, offset_at, r_vdr_chain, record_size, record_type, refl, room_at, shape, shape_in, subst, suc, sym, tiles, tiles_from, true, type_at, uir_chain, used_count, variable_shape, vdr_vxr_head, vxr_first, vxr_last, vxr_offset, vxr_type, z_vdr_chain, zero, ℕ, ◌*◌, ◌++◌, ◌+◌, ◌==◌, ◌^◌, ◌∙◌, ◌∷◌, ◌≡◌}
 use Rattle.std.proofs.Common.{◌&&◌, nat_le, map}
 use Rattle.byteorder.specs.Endian.{big_from}
 use Rattle.cdf_format.specs.Walks.{Walk, whole, stuck, after_first, records_of}

@@ -3,7 +3,7 @@ use Rattle.std.specs.Prelude.{ℕ, List}
 use Rattle.cdf_format.specs.Fields.{with_field, with_name}
 use Rattle.cdf_format.specs.Records.{Field}
 use Rattle.cdf_format.specs.Shape.{Each}
-use Rattle.cdf_examples.specs.Asked.{BreaksFirst}
+use Rattle.cdf_format.specs.WellFormed.{Breaks}
 
 -- a number in a field of the record at a place, or a name there
 pub data Change : Type 0 where
@@ -24,9 +24,9 @@ abbrev pub verdict : ℕ → ℕ → ℕ → Verdict
 verdict phase rule place = record { phase = phase; rule = rule; place = place }
 
 -- a file breaks a rule once it is changed
-abbrev pub Breaks : List ℕ → Change × Verdict → Type 0
-Breaks f (change, v) = BreaksFirst (changed f change) v.phase v.rule v.place
+abbrev pub BreaksChanged : List ℕ → Change × Verdict → Type 0
+BreaksChanged f (change, v) = Breaks (changed f change) v.phase v.rule v.place
 
 -- each change alone
 abbrev pub EachBreaks : List ℕ → List (Change × Verdict) → Type 0
-EachBreaks f table = Each (Breaks f) table
+EachBreaks f table = Each (BreaksChanged f) table

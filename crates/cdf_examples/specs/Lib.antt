@@ -1,5 +1,4 @@
 pub mod Layout
-pub mod Asked
 pub mod Scripts
 pub mod Building
 pub mod NewFile

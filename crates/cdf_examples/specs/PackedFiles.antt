@@ -6,7 +6,7 @@ use Rattle.cdf_model.specs.declared.kinds.Sparse.TheVariants.{NoRule}
 use Rattle.cdf_model.specs.DataSet.{Variable}
 use Rattle.cdf_format.specs.Index.{no_entry, block}
 use Rattle.cdf_model.specs.declared.space.Space.{Space}
-use Rattle.cdf_format.specs.Records.{cpr_c_type, cvvr_c_size, cvvr_packed, vxr_last}
+use Rattle.cdf_format.specs.Records.{cpr_c_type, cpr_p_count, cpr_parameter, cvvr_c_size, cvvr_packed, vdr_cpr_or_spr_offset, vxr_last}
 use Rattle.cdf_format.specs.Shape.{Shape}
 use Rattle.cdf_examples.specs.Building.{◌⧺◌, minus4, minus8, VdrFields, new_vdr, z_vdr, covering, vxr, vvr, cvvr, cpr, uir}
 use Rattle.cdf_examples.specs.Damage.{Change, Number, Verdict, verdict}
@@ -70,13 +70,18 @@ put_ones = codes "put-rec R 0" ++ repeat 40 (codes " 1")
 
 abbrev pub damaged_packing : List (Change × Verdict)
 damaged_packing =
-    (Number 756 cpr_c_type 9, verdict 7 12 756)
+    (Number 404 vdr_cpr_or_spr_offset 784, verdict 7 11 404)
+    ∷ (Number 756 cpr_p_count 0, verdict 7 11 404)
+    ∷ (Number 756 cpr_c_type 9, verdict 7 12 756)
+    ∷ (Number 756 (cpr_parameter 0) 1, verdict 7 12 756)
     ∷ (Number 784 cvvr_c_size 5, verdict 8 6 784)
+    ∷ (Number 784 cvvr_c_size minus8, verdict 8 6 784)
     ∷ (Number 784 cvvr_c_size 5, verdict 8 8 784)
     ∷ (Number 812 (vxr_last 7 0) 2147483646, verdict 8 7 784)
     ∷ (Number 812 (vxr_last 7 0) 2147483646, verdict 8 8 784)
     ∷ (Number 784 cvvr_c_size 1, verdict 8 8 784)
     ∷ (Number 784 (cvvr_packed 2) 0x0026, verdict 8 8 784)
+    ∷ (Number 784 (cvvr_packed 2) 0x0028, verdict 8 8 784)
     ∷ []
 
 -- the variable is not compressed, and has no CPR

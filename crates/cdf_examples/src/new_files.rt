@@ -7,7 +7,6 @@ ghost use Rattle.cdf_format.specs.Owners.{owned, space_of};
 ghost use Rattle.cdf_format.specs.Sealed.{sealed};
 ghost use Rattle.cdf_format.specs.Shape.{shape};
 ghost use Rattle.cdf_format.specs.WellFormed.{WellFormed};
-ghost use Rattle.cdf_examples.specs.Asked.{KeepsRules};
 ghost use Rattle.cdf_examples.specs.ChecksumFile.{checksum_image, checksum_digest, checksum_data_set};
 ghost use Rattle.cdf_examples.specs.NewFile.{new_file, new_shape, new_owned, new_space, new_data_set};
 ghost use Rattle.cdf_examples.specs.Scripts.{replies, made_by, room_for};
@@ -40,7 +39,7 @@ pub fn with_checksum()
     ensures digest { md5 checksum_image ≡ checksum_digest }
     ensures length { length (sealed checksum_image) ≡ 420 }
     ensures content { content checksum_image ≡ checksum_data_set }
-    ensures rules { KeepsRules (sealed checksum_image) }
+    ensures rules { WellFormed (sealed checksum_image) }
     ensures made { made_by new_data_set (codes "checksum md5" ∷ []) ≡ checksum_data_set }
     ensures replies { replies new_data_set (codes "checksum md5" ∷ codes "info" ∷ [])
         ≡ text_lines (codes "1 ok" ∷ codes "2 ok version 3.9.0 encoding 6 majority row checksum md5 rdims - attributes 0 rvars 0 zvars 0" ∷ []) }

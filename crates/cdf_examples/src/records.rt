@@ -10,8 +10,8 @@ ghost use Rattle.cdf_edits.specs.Commands.Puts.{stays_in_place, PutsBytes, PutsL
 ghost use Rattle.cdf_edits.specs.Commands.Reindex.{made_acts};
 ghost use Rattle.cdf_format.specs.Owners.{owned, space_of};
 ghost use Rattle.cdf_format.specs.Shape.{shape};
+ghost use Rattle.cdf_format.specs.WellFormed.{KeepsFormat};
 ghost use Rattle.cdf_model.specs.declared.kinds.Kind.TheVariants as kinds;
-ghost use Rattle.cdf_examples.specs.Asked.{KeepsRules};
 ghost use Rattle.cdf_examples.specs.NewFile.{new_file, new_data_set};
 ghost use Rattle.cdf_examples.specs.OneVariable.{one_node, variable_shape, owned_by_file, of_variable, of_none, with_variable};
 ghost use Rattle.cdf_examples.specs.RecordFiles.{unblocked_file, variable_file, t_data, records_file, records_block, records_index, records_shape, records_data, records_space, in_place_file, in_place_data, t_shape, full_file, full_data, deleted_file, deleted_data, deleted_index, reindexed_file, reindexed_shape, reindexed_space};
@@ -23,7 +23,7 @@ pub fn variable_made()
     ensures length { length variable_file ≡ 748 }
     ensures shape { shape variable_file ≡ variable_shape (8 ∷ 320 ∷ 404 ∷ []) no_node [] [] }
     ensures content { content variable_file ≡ with_variable (t_data (negsuc 0) []) }
-    ensures rules { KeepsRules variable_file }
+    ensures rules { KeepsFormat variable_file }
     ensures made { made_by new_data_set (codes "zvar T INT4 1 vary - -" ∷ codes "set-blocking T 4" ∷ []) ≡ with_variable (t_data (negsuc 0) []) }
     ensures room { room_for new_file (codes "zvar T INT4 1 vary - -") ≡ 344 }
     ensures too_large { makes_too_large unblocked_file (codes "put-rec T 2147483646 5") ≡ true }
@@ -37,7 +37,7 @@ pub fn put_and_read()
     ensures owned { owned records_file records_shape ≡ owned_by_file ++ of_variable 404 ∷ of_variable 776 ∷ of_variable 748 ∷ [] }
     ensures space { space_of records_file records_shape ≡ records_space }
     ensures content { content records_file ≡ with_variable records_data }
-    ensures rules { KeepsRules records_file }
+    ensures rules { KeepsFormat records_file }
     ensures replies { replies new_data_set (codes "zvar T INT4 1 vary - -" ∷ codes "set-blocking T 4" ∷ codes "put-rec T 0 7" ∷ codes "put-rec T 3 9" ∷ codes "get-rec T 1" ∷ codes "get-rec T 3" ∷ codes "get-rec T 4" ∷ [])
         ≡ text_lines (codes "1 ok" ∷ codes "2 ok" ∷ codes "3 ok" ∷ codes "4 ok" ∷ codes "5 ok -2147483647" ∷ codes "6 ok 9" ∷ codes "7 ok -2147483647" ∷ []) }
     ensures made { made_by (content variable_file) (codes "put-rec T 0 7" ∷ codes "put-rec T 3 9" ∷ []) ≡ with_variable records_data }
@@ -59,10 +59,10 @@ pub fn put_in_place()
 /// Two records in the middle go, and the last one follows the first.
 pub fn deleted()
     ensures full { content full_file ≡ with_variable full_data }
-    ensures full_rules { KeepsRules full_file }
+    ensures full_rules { KeepsFormat full_file }
     ensures length { length deleted_file ≡ 916 }
     ensures content { content deleted_file ≡ with_variable deleted_data }
-    ensures rules { KeepsRules deleted_file }
+    ensures rules { KeepsFormat deleted_file }
     ensures replies { replies (content full_file) (codes "del-recs T 1 2" ∷ codes "get-rec T 1" ∷ codes "get-rec T 2" ∷ [])
         ≡ text_lines (codes "1 ok" ∷ codes "2 ok 4" ∷ codes "3 ok -2147483647" ∷ []) }
     ensures put { made_by (content records_file) (codes "put-rec T 0 1" ∷ codes "put-rec T 1 2" ∷ codes "put-rec T 2 3" ∷ codes "put-rec T 3 4" ∷ []) ≡ with_variable full_data }
@@ -79,7 +79,7 @@ pub fn index_made_anew()
     ensures owned { owned reindexed_file reindexed_shape ≡ owned_by_file ++ of_variable 404 ∷ of_variable 916 ∷ of_variable 748 ∷ of_none 776 ∷ [] }
     ensures space { space_of reindexed_file reindexed_shape ≡ reindexed_space }
     ensures content { content reindexed_file ≡ with_variable records_data }
-    ensures rules { KeepsRules reindexed_file }
+    ensures rules { KeepsFormat reindexed_file }
     ensures made { made_by (content records_file) (codes "reindex T" ∷ []) ≡ with_variable records_data }
     ensures acts { made_acts records_file records_index (one_node 916 64 (block 0 3 748 false no_entry)) ≡ Took 916 1052 ∷ Gave 776 140 ∷ [] }
     ensures room { room_for records_file (codes "reindex T") ≡ 1052 }

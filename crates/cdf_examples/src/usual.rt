@@ -7,9 +7,9 @@ ghost use Rattle.cdf_format.specs.Content.{content};
 ghost use Rattle.cdf_format.specs.Owners.{owned, space_of};
 ghost use Rattle.cdf_format.specs.Sealed.{sealed};
 ghost use Rattle.cdf_format.specs.Shape.{shape};
+ghost use Rattle.cdf_format.specs.WellFormed.{WellFormed};
 ghost use Rattle.cdf_model.specs.EventTexts.{dump_text};
 ghost use Rattle.cdf_model.specs.Events.{events_of};
-ghost use Rattle.cdf_examples.specs.Asked.{KeepsRules};
 ghost use Rattle.cdf_examples.specs.Scripts.{made_by, room_for};
 ghost use Rattle.cdf_text_examples.specs.Texts.{text_lines};
 ghost use Rattle.cdf_examples.specs.Usual.{usual_image, usual_digest};
@@ -32,7 +32,7 @@ pub fn meaning()
 /// With its checksum it breaks no rule.
 pub fn keeps_rules()
     ensures digest { md5 usual_image ≡ usual_digest }
-    ensures rules { KeepsRules (sealed usual_image) }
+    ensures rules { WellFormed (sealed usual_image) }
 {}
 
 /// Its events, and their text.

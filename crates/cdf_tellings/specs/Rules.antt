@@ -7,7 +7,7 @@ last_rule phase = if phase == 0 then 2 else if phase == 1 then 2 else if phase =
 
 -- the phase that has a rule 99: what the format allows and is not read yet
 abbrev pub has_unread : ℕ → Bool
-has_unread phase = phase == 4
+has_unread phase = phase == 9
 
 -- there is this rule in this phase
 abbrev pub is_rule : ℕ → ℕ → Bool

@@ -115,12 +115,23 @@ fn nature_of_front<S: Store>(store: &mut S) -> Option<Nature>
     }
 }
 
-/// What a record says that is not read.
-fn nature_of_record(record: &[u8; SIGHT]) -> Option<Nature> {
-    match record_type(record) {
-        11 => Some(Nature::Variable(packing_of(record))),
+/// What parameters say by which a variable is packed in a way that is not read.
+fn nature_of_parameters(record: &[u8; SIGHT]) -> Option<Nature> {
+    match packing_of(record) {
+        Packing::Other => None,
+        packing => Some(Nature::Variable(packing)),
+    }
+}
+
+/// What a variable says that is not compressed and has parameters all the same.
+fn nature_of_variable<S: Store>(store: &mut S, vdr: u64) -> Option<Nature>
+    ensures disk { S.disk store.new ≡ S.disk store.old }
+    ensures write { S.write_faults store.new ≡ S.write_faults store.old }
+{
+    let link = bytes_at(store, vdr.saturating_add(72));
+    let parameters = bytes_at(store, place_in(&link, 0));
+    match record_type(&parameters) {
         12 => Some(Nature::Sparse),
-        13 => Some(Nature::Variable(Packing::Other)),
         _ => None,
     }
 }
@@ -130,9 +141,10 @@ pub fn look<S: Store>(store: &mut S, broken: Broken) -> Option<Nature>
     ensures disk { S.disk store.new ≡ S.disk store.old }
     ensures write { S.write_faults store.new ≡ S.write_faults store.old }
 {
-    match broken.phase {
-        0 | 1 | 2 => nature_of_front(store),
-        4 | 7 => nature_of_record(&bytes_at(store, broken.at)),
+    match (broken.phase, broken.rule) {
+        (0 | 1 | 2, _) => nature_of_front(store),
+        (7, 10) => nature_of_variable(store, broken.at),
+        (7, 12) => nature_of_parameters(&bytes_at(store, broken.at)),
         _ => None,
     }
 }

@@ -34,7 +34,7 @@ static GDR: [&str; 5] = [
     "eof is more than 1073741824",
 ];
 
-/// Those of phase 4, but for the rule 99.
+/// Those of phase 4.
 static RECORDS: [&str; 3] = [
     "a record has fewer than 12 bytes or passes eof",
     "the type of a record is not known",
@@ -68,7 +68,7 @@ static ATTRIBUTES: [&str; 8] = [
     "the DataType, the NumElems or the size of an entry is wrong",
 ];
 
-/// Those of phase 7, but for the rule 99.
+/// Those of phase 7.
 static VARIABLES: [&str; 12] = [
     "the name of a variable is empty",
     "the name of a variable stands twice",
@@ -96,7 +96,7 @@ static INDEXES: [&str; 8] = [
     "the packed bytes of a CVVR are not those of its records",
 ];
 
-/// Those of phase 9.
+/// Those of phase 9, but for the rule 99.
 static OWNERS: [&str; 1] = ["a record has no owner, or more than one"];
 
 /// Those of phase 10.
@@ -127,7 +127,7 @@ fn unread(phase: u8) -> Option<&'static str>
     ensures { is_some result ≡ is_rule phase 99 }
 {
     match phase {
-        4 => Some("a record has a type that is not read yet"),
+        9 => Some("a variable is packed, which is not read yet"),
         _ => None,
     }
 }

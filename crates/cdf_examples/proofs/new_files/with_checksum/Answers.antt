@@ -1,9 +1,9 @@
-use Rattle.cdf_examples.proofs.Common.{KeepsRules, block_words, chain_on, checksum_digest, checksum_image, compress, content, digest_bytes, digits, hash_after, lasting_phases, md5, new_file, refl, rounds, run_script, shape, subst, sym, tiles_from, true, ◌++◌, ◌≡◌}
+use Rattle.cdf_examples.proofs.Common.{WellFormed, all_phases, block_words, chain_on, checksum_digest, checksum_image, compress, content, digest_bytes, digits, hash_after, md5, new_file, refl, rounds, run_script, shape, subst, sym, tiles_from, true, ◌++◌, ◌≡◌}
 use Rattle.cdf_examples.proofs.Digests.{checksum_sealed, checksum_digest_is, checksum_length}
-use Rattle.cdf_examples.proofs.Tests.{all_hold, keeps_rules}
+use Rattle.cdf_examples.proofs.Tests.{AllHold-by, all_hold}
 use Rattle.cdf_examples.proofs.new_files.with_checksum.Goals as goal
 
-kept : all_hold (lasting_phases (checksum_image ++ checksum_digest)) ≡ true
+kept : all_hold (all_phases (checksum_image ++ checksum_digest)) ≡ true
 unfolding checksum_image tiles_from chain_on shape md5 digest_bytes hash_after compress rounds block_words
 kept = refl
 
@@ -18,7 +18,7 @@ unfolding checksum_image content shape tiles_from chain_on
 returns-clause-content c = refl
 
 pub returns-clause-rules : goal.returns-clause-rules
-returns-clause-rules c = subst KeepsRules (sym checksum_sealed) (keeps_rules (checksum_image ++ checksum_digest) kept)
+returns-clause-rules c = subst WellFormed (sym checksum_sealed) (AllHold-by (all_phases (checksum_image ++ checksum_digest)) kept)
 
 pub returns-clause-made : goal.returns-clause-made
 unfolding run_script

@@ -1,5 +1,5 @@
 use Rattle.cdf_examples.proofs.Common.{chain_on, content, cover, entries_below, entries_in, entries_on, entry_firsts, entry_leaves, firsts_of, leaves_of, levels_on, lower_nodes, nodes_above, nodes_of, nodes_on, nodes_rows, packed_file, refl, run_script, shape, tiles_from, unpacked_file, used_rows, widest, widest_below}
-use Rattle.cdf_examples.proofs.Tests.{keeps_rules}
+use Rattle.cdf_examples.proofs.Tests.{breaks_first, keeps_rules}
 use Rattle.cdf_examples.proofs.packed.zeros_packed.Goals as goal
 
 pub returns : goal.returns
@@ -13,6 +13,7 @@ returns c = record {
   space = refl;
   content = refl;
   rules = keeps_rules packed_file refl;
+  unread = breaks_first packed_file packed_file 9 99 404 refl;
   made = refl;
   room = refl;
 }
