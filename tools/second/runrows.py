@@ -3,8 +3,8 @@
 The files are read one after the other, as cdf_rows reads them: what one tells of files stays for the next. Of each row
 it says whether the editor writes the same text, ends with the same status and leaves the same file. A line to which the
 row answers BadLine counts as no command. A verdict is right where the rule is broken at the place, whichever of several
-is named; of rules 99 it knows nothing. Of the words it knows --new, --check, --no-save and --space. A row with a limit
-runs its script over a new image that may grow to so many bytes, and leaves this image. What is told of a run on
+is named; a packed variable breaks rule 9.99. Of the words it knows --new, --check, --no-save and --space. A row with
+a limit runs its script over a new image that may grow to so many bytes, and leaves this image. What is told of a run on
 standard error it does not look at, nor at how often the store is called; a row whose store fails it leaves out. With
 --after it prints what the run of a row leaves, as lines of a file of rows.
 """
@@ -16,8 +16,8 @@ from content import content
 from editor import apply
 from events import NeedsVarType, Tally, dump, report
 from image import Image
-from layout import (ADR, AGREDR, AZEDR, CDR, GDR, IMAGE_LIMIT, RVDR, UIR, VVR, VXR, ZVDR, Adr, Aedr, Cdr, Gdr, Uir, Vdr,
-                    Vxr, fresh_image)
+from layout import (ADR, AGREDR, AZEDR, CDR, CPR, CVVR, GDR, IMAGE_LIMIT, RVDR, UIR, VVR, VXR, ZVDR, Adr, Aedr, Cdr,
+                    Cpr, Cvvr, Gdr, Uir, Vdr, Vxr, fresh_image)
 from model import READERS, Refused
 from rowscript import command_of, quoted, words_of
 from texts import refusal_text, reply_text
@@ -146,6 +146,16 @@ class Table:
 
 # A run
 
+def rules_broken(file):
+    """What a file breaks, and with the rules on owners that a packed variable is not read so far."""
+    wrong = broken(file)
+    if wrong and wrong[0][0] < 9:
+        return wrong
+    image = Image(unsealed(file))
+    packed = [vdr for kind in (RVDR, ZVDR) for vdr in image.variables(kind) if image.compressed(vdr)]
+    return [rule for rule in wrong if rule[0] == 9] + [(9, 99, vdr) for vdr in packed] or wrong
+
+
 class Run:
     def __init__(self, row, before):
         self.row, self.before = row, before
@@ -198,7 +208,7 @@ class Run:
         if self.before is None and '--new' not in flags:
             self.text, self.status = b'no file\n', 3
             return
-        wrong = [] if '--new' in flags else broken(bytes(self.before))
+        wrong = [] if '--new' in flags else rules_broken(bytes(self.before))
         if wrong:
             self.status = 4
             lines = [f'rejected {phase} {rule} {at}\n'.encode() for phase, rule, at in wrong]
@@ -239,7 +249,8 @@ def wrong_parts(row, table):
 
 RECORDS = {CDR: ('CDR', Cdr), GDR: ('GDR', Gdr), ADR: ('ADR', Adr), AGREDR: ('gr entry', Aedr),
            AZEDR: ('z entry', Aedr), RVDR: ('r variable', Vdr), ZVDR: ('z variable', Vdr), VXR: ('node', Vxr),
-           VVR: ('block', SimpleNamespace()), UIR: ('unused record', Uir)}
+           VVR: ('block', SimpleNamespace()), CPR: ('CPR', Cpr), CVVR: ('packed block', Cvvr),
+           UIR: ('unused record', Uir)}
 
 
 def pieces_of(tile):

@@ -5,7 +5,7 @@ from random import Random
 from typing import Optional, Sequence
 
 from image import Image
-from layout import CCR, CPR, CVVR, SPR, ZVDR, fresh_image
+from layout import CPR, CVVR, ZVDR, fresh_image
 from makers import foreign_file
 from runrows import Row, Run
 from validator import broken
@@ -100,8 +100,8 @@ def with_unused(size: int) -> bytes:
 
 
 def is_read(file: bytes) -> bool:
-    """Whether a file has nothing that the program does not read yet: packed blocks and parameters."""
-    return all(tile.type not in (CCR, CPR, SPR, CVVR) for tile in Image(file).tiles())
+    """Whether a file has nothing that the program does not read yet: packed variables."""
+    return all(tile.type not in (CPR, CVVR) for tile in Image(file).tiles())
 
 
 @lru_cache(maxsize=None)
