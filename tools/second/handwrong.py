@@ -173,6 +173,7 @@ CASES = [
     ('a block that the second cut frees is not written by the first one', 'LostNotWritten', past_max_rec(16),
      delete(0, 5)),
     ('a node that a cut frees changes behind its entries', 'FreedNodeChanged', spare_node(), sparse(1)),
+    ('an entry of a node that set-sparse frees changes', 'FreedEntryChanged', allocated(), sparse(1)),
     ('entries become -1 that no index used', 'UnusedCleared', unused_filled(), put(4, 1)),
     ('a field of a freed ADR holds another number', 'FreedFieldChanged', ENTRIES, C('del-attr', name=b'A')),
     ('a field of a freed VDR holds another number', 'FreedFieldChanged', FOUR + [put(0, 7)], C('del-var', name=b'T')),

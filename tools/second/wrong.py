@@ -227,6 +227,20 @@ class FreedNodeChanged(Wrong):
             self.write(end, bytes((self.byte(end) ^ 1,)))
 
 
+class FreedEntryChanged(Wrong):
+    """The first entry of a node that `set-sparse` frees is changed."""
+    commands, nodes_freed = ('set-sparse',), ()
+
+    def give(self, at):
+        if self.type(at) == VXR and self.size(at) > 28:
+            self.nodes_freed += (at + 28,)
+        super().give(at)
+
+    def finish(self, c):
+        for entry in self.nodes_freed:
+            self.write(entry, bytes((self.byte(entry) ^ 1,)))
+
+
 class FreedFieldChanged(Wrong):
     """A field of a freed ADR, VDR or GDR holds another number."""
     commands = ('del-attr', 'del-var', 'setup')

@@ -27,9 +27,8 @@ use Rattle.cdf_edits.proofs.Edits.VariableCopied.{block_behind}
 use Rattle.cdf_edits.proofs.Frame.VdrAlike.{type_alike}
 use Rattle.cdf_edits.proofs.Frame.VdrStays.{stays_alike, variable_stays}
 use Rattle.cdf_index.proofs.Common.{behind_in, size_kept}
-use Rattle.cdf_puts.proofs.GoesThen.{later_size, own_there, stays, variable_there}
+use Rattle.cdf_puts.proofs.GoesThen.{later_size, own_there, stays, variable_there, later_loose}
 use Rattle.cdf_puts.proofs.PutRules.{no_cpr}
-use Rattle.cdf_edits.proofs.Edits.StandsAmong.{loose}
 use Rattle.cdf_puts.proofs.Common.{same_Some, same_as_itself}
 use Rattle.cdf_index.proofs.OwnRecords as of_own
 use Rattle.cdf_cuts.proofs.GoesKeep.{each_own}
@@ -65,7 +64,7 @@ module _ (first last : ℕ) (order : first ≤ last) where
   pub fell_inside : (f l j : ℕ) → f ≤ j → j ≤ l → (j < first) ⊎ (last < j) → (fallen first last f ≤ fallen first last j) × (fallen first last j + 1 ≤ fallen first last (l + 1))
   fell_inside f l j low high out = (fallen_rises first last order f j low, omega (arith, fell_next j out, fallen_rises first last order (j + 1) (l + 1) (omega arith)))
 
-  aside : (k : ℕ) → ((nat_le first k && nat_le k last) || false) ≡ false → (k < first) ⊎ (last < k)
+  aside : (k : ℕ) → (nat_le first k && nat_le k last) ≡ false → (k < first) ⊎ (last < k)
   aside k e = grind (arith, nat_tests, e)
 
   -- records none of which goes
@@ -146,13 +145,13 @@ module _ {b one now : List ℕ} {kind : Kind} {before : List VariableShape} {own
   none_taken = taken-gave b (freed_closing own first last)
 
   plain : (l : Leaf) → IsOneOf leaves l → PlainLeaf b size l
-  plain l i = plain_leaf good at (loose good at) l i
+  plain l i = plain_leaf good at x.loose l i
 
   size_now : record_bytes now own'.vdr ≡ size
   size_now = later_size good at goes
 
   plain_now : (m : Leaf) → IsOneOf leaves' m → PlainLeaf now size m
-  plain_now m i = subst (λ (n : ℕ). PlainLeaf now n m) size_now (plain_leaf goes.good goes.among (loose goes.good goes.among) m i)
+  plain_now m i = subst (λ (n : ℕ). PlainLeaf now n m) size_now (plain_leaf goes.good goes.among (later_loose good at goes x.loose) m i)
 
   max_now : max_rec_at now own.vdr ≡ last_number (extent (max_rec_at b own.vdr) - (last + 1 - first))
   max_now = ap with_sign low.max_rec_is ∙ r_is
@@ -223,9 +222,9 @@ module _ {b one now : List ℕ} {kind : Kind} {before : List VariableShape} {own
 
   -- ---- the leaves
 
-  leaf_kept : (old new : Leaf) → IsOneOf leaves old → IsOneOf leaves' new → IsPart (kept_closed first last) old new → LeafKept b now v first last own.vdr acts old new
+  leaf_kept : (old new : Leaf) → IsOneOf leaves old → IsOneOf leaves' new → IsPart (kept_closed first last) old new → LeafKept b now v own.vdr acts old new
   leaf_kept old new i j part =
-      let rle : v.rle ≡ false = loose good at in
+      let rle : v.rle ≡ false = x.loose in
       let two = of_each (λ (o : Leaf). Each (StaysWhole v (kept_closed first last) acts o) leaves') leaves old (z.cuts v).stay i in
       let s = of_each (StaysWhole v (kept_closed first last) acts old) leaves' new two j part (rw rle (or_true (is_whole old new))) in
       let e = ends first last order old new (record { place_is = s.0; packed_is = s.1; more = []; kept_is = part }) in
@@ -236,8 +235,8 @@ module _ {b one now : List ℕ} {kind : Kind} {before : List VariableShape} {own
       let many : new.last + 1 - new.first ≡ fallen first last (old.last + 1) - fallen first last old.first = rw z1 (omega (arith, e.first_is, e.last_is, e.some)) in
       record {
         packed = λ whole q. absurd (true≢false (sym q ∙ rle));
-        placed = λ settled. rw (rle, or_true (is_whole old new)) (s.0, s.2);
-        bytes = λ settled whole. record {
+        placed = rw (rle, or_true (is_whole old new)) (s.0, s.2);
+        bytes = λ whole. record {
           packed = λ q. absurd (true≢false (sym q ∙ rle));
           spare = rw none_taken (record {
             each = λ p from upto.
@@ -250,31 +249,22 @@ module _ {b one now : List ℕ} {kind : Kind} {before : List VariableShape} {own
       }
 
   all_leaves : Each (λ old. Each (LeafFollows b now v first last own.vdr acts old) leaves') leaves
-  all_leaves = each_of (λ old. Each (LeafFollows b now v first last own.vdr acts old) leaves') leaves (λ old i. each_of (LeafFollows b now v first last own.vdr acts old) leaves' (λ new j. record {
-    kept = λ part. leaf_kept old new i j (rw free at part);
-    split = λ part. (let none : [] ≡ range new.first new.last ∷ [] = rw free at part in absurd cc);
-  }))
+  all_leaves = each_of (λ old. Each (LeafFollows b now v first last own.vdr acts old) leaves') leaves (λ old i. each_of (LeafFollows b now v first last own.vdr acts old) leaves' (λ new j. leaf_kept old new i j))
 
   others : OthersStay b now v first last own own'
   others k covered kept_on =
-      let side : (k < first) ⊎ (last < k) = aside first last order k (rw free at kept_on) in
-      rw free (stored_kept first last order kept (fallen first last k) ∙ ap (stored_bytes b own.vdr size leaves) (risen_fell first last order k side))
+      let side : (k < first) ⊎ (last < k) = aside first last order k kept_on in
+      stored_kept first last order kept (fallen first last k) ∙ ap (stored_bytes b own.vdr size leaves) (risen_fell first last order k side)
 
   pub deletes : DeletesRecords b now v first last own own' acts
   deletes = record {
-    middle = rest;
-    cut = acts;
-    again = [];
-    acts_are = sym (append-nil acts);
-    cuts = rw free (z.cuts _, refl, refl);
-    parts = λ e. absurd (true≢false (sym (rw free at e)));
+    cuts = z.cuts _;
     blocks = all_leaves;
     others_stay = others;
     new_nodes = none_new (nodes_of rest);
     nodes = z.nodes;
     tail = rw (top_cut acts own.index rest none_taken) z.tail;
-    freed_first = given_filter b now _ acts acts z.freed;
-    freed_again = tt;
+    freed = given_filter b now _ acts acts z.freed;
     nodes_freed = given_nodes b now acts acts z.freed;
     r_max_rec = deleted_r_max_rec;
   }
@@ -318,7 +308,7 @@ module _ {b one now : List ℕ} {kind : Kind} {before : List VariableShape} {own
   own_keeps = each_own (λ (m : ℕ). Keeps b now m (own_may m)) own (rw (of_own.descriptor_allowed (found_in b kind before own) good at refl put_fields block_may own_may allowed) goes.descriptor)
       (λ m i. rw (of_own.node_allowed (found_in b kind before own) good at refl put_fields block_may own_may allowed m i) tt)
       (λ l i. rw (of_own.block_allowed (found_in b kind before own) good at refl put_fields block_may own_may allowed l i) (block_keeps l i))
-      (λ m i. absurd (subst (In m) (no_cpr good at) i))
+      (λ m i. absurd (subst (In m) (no_cpr good at x.loose) i))
 
   pub keeps : AllKeep b now may acts (owned b (shape b))
   keeps = goes_keep good at goes may goes.gdr own_keeps

@@ -9,16 +9,15 @@ use Rattle.cdf_edits.proofs.Edits.LeafRecords.{count_is}
 use Rattle.cdf_edits.proofs.Edits.PlainLeaves.{PlainLeaf, own_rules, plain_leaf}
 use Rattle.cdf_edits.proofs.Edits.StandsAmong.{StandsAmong, sound}
 use Rattle.cdf_edits.proofs.Edits.VariableCopied.{block_behind}
-use Rattle.cdf_edits.specs.Commands.Cuts.{CutsAll, SetsSparse}
+use Rattle.cdf_edits.specs.Commands.Cuts.{CutsAll}
 use Rattle.cdf_edits.specs.Commands.PutSteps.{BlockWritten, CutsPast, Goes}
-use Rattle.cdf_edits.specs.Index.Cut.{BlocksFreedStay, CutsIndex, IsPart, IsPlaced, NodesFreedStay, StaysWhole, is_whole, none_written}
+use Rattle.cdf_edits.specs.Index.Cut.{BlocksFreedStay, CutsIndex, IsPart, IsPlaced, NodesFreedStay, StaysWhole, is_whole}
 use Rattle.cdf_edits.specs.Index.Grown.{cut_nodes}
 use Rattle.cdf_edits.specs.Index.Written.{is_given_at}
 use Rattle.cdf_edits.specs.Space.Acts.{taken}
 use Rattle.cdf_index.proofs.Common.{behind_in}
 use Rattle.cdf_index.proofs.LeafRules.{index_order}
-use Rattle.cdf_puts.proofs.GoesThen.{later_size}
-use Rattle.cdf_edits.proofs.Edits.StandsAmong.{loose}
+use Rattle.cdf_puts.proofs.GoesThen.{later_size, later_loose}
 use Rattle.cdf_puts.specs.Going.{found_in}
 use Rattle.cdf_cuts.proofs.BlocksMoved.{piece_shifted}
 use Rattle.cdf_cuts.proofs.CutAll.{all_gone}
@@ -50,19 +49,19 @@ module _ {b now : List ℕ} {kind : Kind} {before : List VariableShape} {own : V
   acts = past_acts b own first
 
   rle : v.rle ≡ false
-  rle = loose good at
+  rle = x.loose
 
   none_taken : taken acts ≡ []
   none_taken = taken-gave b (freed_of (plan_of (past_span first) 0 own.index))
 
   pub plain : (l : Leaf) → IsOneOf leaves l → PlainLeaf b size l
-  plain l i = plain_leaf good at (loose good at) l i
+  plain l i = plain_leaf good at x.loose l i
 
   pub size_now : record_bytes now own'.vdr ≡ size
   size_now = later_size good at x.goes_on
 
   pub plain_now : (m : Leaf) → IsOneOf leaves' m → PlainLeaf now size m
-  plain_now m i = subst (λ (n : ℕ). PlainLeaf now n m) size_now (plain_leaf x.goes_on.good x.goes_on.among (loose x.goes_on.good x.goes_on.among) m i)
+  plain_now m i = subst (λ (n : ℕ). PlainLeaf now n m) size_now (plain_leaf x.goes_on.good x.goes_on.among (later_loose good at x.goes_on x.loose) m i)
 
   -- ---- a block that is left
 
@@ -155,7 +154,7 @@ module _ {b now : List ℕ} {kind : Kind} {before : List VariableShape} {own : V
 
   -- ---- what is freed
 
-  pub blocks_freed : BlocksFreedStay b now none_written acts acts
+  pub blocks_freed : BlocksFreedStay b now acts acts
   blocks_freed = given_filter b now _ acts acts (x.goes 0).freed
 
   pub nodes_freed : NodesFreedStay b now acts acts
@@ -169,6 +168,3 @@ module _ {b now : List ℕ} {kind : Kind} {before : List VariableShape} {own : V
 
   pub cuts_all : CutsAll b now own (cut_off own 0) (past_acts b own 0)
   cuts_all = record { index_is = none_left; takes_none = none_taken good at x; tail = (x.goes 0).tail }
-
-  pub sets_sparse : SetsSparse b now own (cut_off own 0) (past_acts b own 0)
-  sets_sparse = record { cuts = cuts_all; freed = blocks_freed good at x; nodes_freed = nodes_freed good at x }

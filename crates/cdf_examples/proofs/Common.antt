@@ -1,8 +1,8 @@
 -- The names that most proofs of this crate cite, passed on from one place. Declares nothing.
 unfoldable pub use Rattle.cdf_base.specs.Bytes.{put}
 pub use Rattle.cdf_edits.specs.Commands.Allowances.{AllKeep, Allowance, Allowances, Anything, FreedStay, FreedStays, GivenStay, Keeps, Only, OutsideFields, allowance, is_taken, no_fields, shapes_of}
-pub use Rattle.cdf_edits.specs.Commands.Cuts.{SetsCompress, SetsSparse, is_deleted, number_after_cut}
-pub use Rattle.cdf_edits.specs.Commands.Deleting.{Deletes}
+pub use Rattle.cdf_edits.specs.Commands.Cuts.{SetsCompress, is_deleted}
+pub use Rattle.cdf_edits.specs.Commands.Deleting.{Deletes, SetsSparse}
 pub use Rattle.cdf_edits.specs.Commands.Does.{Does}
 pub use Rattle.cdf_edits.specs.Commands.Entries.{DeletesEntry, PutsEntry}
 pub use Rattle.cdf_edits.specs.Commands.EntryChains.{GreatestIs, share_chain}
@@ -13,11 +13,10 @@ unfoldable pub use Rattle.cdf_edits.specs.Commands.Reindex.{AreTight, EntriesTig
 pub use Rattle.cdf_edits.specs.Commands.Room.{room, room_in}
 unfoldable pub use Rattle.cdf_edits.specs.Commands.Room.{entries_below, entries_in, nodes_above, widest, widest_below}
 pub use Rattle.cdf_edits.specs.Commands.Variables.{DeletesNamed, DeletesVariable, emptied_fields}
-pub use Rattle.cdf_edits.specs.Index.Blocks.{cuts_before_put, first_written, is_sparse, record_length}
+pub use Rattle.cdf_edits.specs.Index.Blocks.{cuts_before_put, fallen, first_written, is_sparse, record_length}
 unfoldable pub use Rattle.cdf_edits.specs.Index.Blocks.{cover, entry_firsts, firsts_of}
-pub use Rattle.cdf_edits.specs.Index.Cut.{IsNeeded, NodesFreedStay, StaysWhole, sized_blocks}
+pub use Rattle.cdf_edits.specs.Index.Cut.{IsNeeded, NodesFreedStay, sized_blocks}
 unfoldable pub use Rattle.cdf_edits.specs.Index.Cut.{sized_nodes, sized_nodes_below}
-pub use Rattle.cdf_edits.specs.Index.Grown.{kept_closed}
 unfoldable pub use Rattle.cdf_edits.specs.Index.Grown.{cut_entries, cut_nodes, entries_outline, new_room, new_room_below, outline, with_leaf, with_lower, with_place, with_place_in}
 pub use Rattle.cdf_edits.specs.Index.Written.{AnyOf, EntryIs, NodeSpareStays, NodesFollow, UnusedEntries, is_given_at, is_taken_at, stored_bytes, was_unused}
 pub use Rattle.cdf_edits.specs.Space.Acts.{Act, ActsFollow, Among, AreActs, Gave, Happens, RestStays, SpaceLeft, Took, after_act, back_of, gave, lies_in_taken, links_end, loose_records, sized, space_before, taken, used_records}

@@ -1,18 +1,10 @@
 -- What a cut takes, and where a record is taken after records were freed.
-use Rattle.cdf_examples.proofs.Common.{Act, Among, AnyOf, AreActs, Bool, Each, Gave, IsNeeded, List, Nodes, SpaceLeft, Took, Variable, [], after_act, ap, eq-eqb, false, filter, fits, if◌then◌else◌, inl, inr, list_any, nat_le, not, place_for, refl, sized_blocks, sized_nodes, subst, sym, taken, true, ℕ, ◌++◌, ◌==◌, ◌||◌, ◌∙◌, ◌∷◌, ◌≡◌, ◌≢◌}
+use Rattle.cdf_examples.proofs.Common.{Act, Among, AnyOf, AreActs, Bool, Each, Gave, IsNeeded, List, Nodes, SpaceLeft, Took, Variable, [], after_act, eq-eqb, false, filter, fits, if◌then◌else◌, inl, inr, list_any, nat_le, not, place_for, refl, sized_blocks, sized_nodes, subst, sym, taken, true, ℕ, ◌++◌, ◌==◌, ◌||◌, ◌∙◌, ◌∷◌, ◌≡◌, ◌≢◌}
 use Rattle.cdf_examples.proofs.Refusing.{has, not_among}
 
 clash : (p : Bool) → p ≡ true → p ≡ false → ⊥
 clash true e f = absurd cc
 clash false e f = absurd cc
-
--- the acts of one cut
-pub only_cut : (acts cut again : List Act) → acts ≡ cut ++ again → again ≡ [] → acts ≡ cut
-only_cut acts cut again all none = all ∙ ap (λ (more : List Act). cut ++ more) none ∙ no_more cut
-  where
-    no_more : (cut : List Act) → cut ++ [] ≡ cut
-    no_more [] = refl
-    no_more (act ∷ more) = ap (λ (rest : List Act). act ∷ rest) (no_more more)
 
 -- each record that is taken is a node or a block of the index
 pub each_needed : (v : Variable) (nodes : Nodes) (takes : List (ℕ × ℕ)) (take : ℕ × ℕ) → Each (IsNeeded v nodes) takes → Among take takes → IsNeeded v nodes take

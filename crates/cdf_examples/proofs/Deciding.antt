@@ -408,6 +408,6 @@ first_or_second P k second covered p0 p1 p2 p3 other = choose (nat_le 0 k && nat
     choose true is e = of_four P p0 p1 p2 p3 k (with_false (nat_le 0 k && nat_le k 3) is)
     choose false is e = other (last second e)
 
-pub not_kept : (p : Bool) → p ≡ true → (p || false) ≡ false → ⊥
+pub not_kept : (p : Bool) → p ≡ true → p ≡ false → ⊥
 not_kept true e f = absurd cc
 not_kept false e f = absurd cc

@@ -1,5 +1,5 @@
 -- A file with a number below 0 in its index (CDF Internal Format Description, "Variable Index Record": First, Last).
-use Rattle.std.specs.Prelude.{◌≡◌, ℕ, List, [], ◌∷◌}
+use Rattle.std.specs.Prelude.{ℕ, List, [], ◌∷◌}
 use Rattle.cdf_format.specs.IndexRules.{phase8}
 use Rattle.cdf_format.specs.Records.{vxr_last}
 use Rattle.cdf_format.specs.Rules.{Row, IsBroken}

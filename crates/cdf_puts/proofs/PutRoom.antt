@@ -1,6 +1,6 @@
 -- How much longer an image becomes by acts that only take, and that nothing is taken where no bytes are.
 use Rattle.cdf_puts.proofs.Common.{Act, ActsFollow, AreActs, Gave, OnlyTakes, leaf_acts, vxr_bytes, zero, suc, if◌then◌else◌, ◌==◌, List, SpaceLeft, Took, [], after_act, arith, fold, length, map, refl, space_before, sum_by-cons, taken, taken_bytes, ℕ, ◌++◌, ◌+◌, ◌∷◌, ◌≡◌, ◌≤◌}
-use Rattle.cdf_edits.specs.Index.Cut.{BlocksFreedStay, NodesFreedStay, none_written}
+use Rattle.cdf_edits.specs.Index.Cut.{BlocksFreedStay, NodesFreedStay}
 
 one_taken : (place need : ℕ) (more : List Act) → taken_bytes (Took place need ∷ more) ≡ need + taken_bytes more
 one_taken place need more = sum_by-cons (λ x. x) need (map (λ (take : ℕ × ℕ). take.1) (taken more))
@@ -36,7 +36,7 @@ none_without_bytes l (Gave place size ∷ more) are t le = absurd t
 
 -- ---- nothing is freed
 
-pub none_given : (b now : List ℕ) (acts gives : List Act) → OnlyTakes gives → BlocksFreedStay b now none_written acts gives × NodesFreedStay b now acts gives
+pub none_given : (b now : List ℕ) (acts gives : List Act) → OnlyTakes gives → BlocksFreedStay b now acts gives × NodesFreedStay b now acts gives
 none_given b now acts [] t = (tt, tt)
 none_given b now acts (Took place need ∷ more) t = none_given b now acts more t
 none_given b now acts (Gave place size ∷ more) t = absurd t

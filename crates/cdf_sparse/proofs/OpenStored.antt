@@ -8,7 +8,7 @@ use Rattle.cdf_edits.proofs.Edits.LeafRecords.{Ascending}
 use Rattle.cdf_edits.proofs.Edits.PlainLeaves.{leaves_ascend, own_rules}
 use Rattle.cdf_edits.proofs.Edits.StandsAmong.{StandsAmong}
 use Rattle.cdf_edits.specs.Index.Cut.{IsPart}
-use Rattle.cdf_edits.specs.Index.CutTwice.{part_bytes}
+use Rattle.cdf_edits.specs.Index.Cut.{part_bytes}
 use Rattle.cdf_edits.specs.Index.Grown.{kept_open, split_off}
 use Rattle.cdf_format.specs.Index.{leaf}
 use Rattle.cdf_index.proofs.LeafRules.{index_order}

@@ -26,7 +26,7 @@ use Rattle.cdf_cuts.proofs.PastKept.{Front, front, kept_same}
 use Rattle.cdf_cuts.specs.Past.{CutPast, before_first, cut_off, past_acts, past_span, stage}
 use Rattle.cdf_cuts.specs.Planning.{freed_of, plan_of}
 use Rattle.cdf_edits.specs.Commands.Deleting.{CutsOpen, LeafKept, LeafSplit}
-use Rattle.cdf_edits.specs.Index.CutTwice.{part_bytes}
+use Rattle.cdf_edits.specs.Index.Cut.{part_bytes}
 use Rattle.cdf_sparse.proofs.StepAllowed.{step_as}
 
 -- ---- a cut of all records from a first one on

@@ -5,25 +5,20 @@ use Rattle.cdf_model.specs.declared.command.Command.TheVariants as commands
 use Rattle.cdf_model.specs.declared.kinds.Sparse.{Sparse}
 use Rattle.cdf_edits.proofs.Edits.ActsStill.{acts_still_by}
 use Rattle.cdf_edits.proofs.Edits.StandsAmong.{StandsAmong, sound}
-use Rattle.cdf_edits.specs.Commands.Cuts.{SetsSparse, set_sparse_changes}
+use Rattle.cdf_edits.specs.Commands.Cuts.{set_sparse_changes}
 use Rattle.cdf_edits.specs.Commands.Named.{OfVariable}
 use Rattle.cdf_edits.specs.Space.Acts.{ActsFollow, taken}
-use Rattle.cdf_edits.specs.Commands.Allowances.{GivenStay, no_fields}
-use Rattle.cdf_format.specs.Records.{vdr_vxr_tail}
 use Rattle.cdf_format.specs.Shape.{Shape}
 use Rattle.cdf_format.specs.WellFormed.{Good}
 use Rattle.cdf_puts.proofs.Common.{same_Some}
 use Rattle.cdf_puts.proofs.GoesThen.{own_there}
 use Rattle.cdf_puts.specs.Going.{found_in}
-use Rattle.cdf_cuts.proofs.FreedKept.{given_filter, given_nodes}
-use Rattle.cdf_cuts.proofs.PastFollows.{cuts_all, none_left}
-use Rattle.cdf_cuts.proofs.WritesThen.{freed_on}
+use Rattle.cdf_cuts.proofs.PastFollows.{cuts_all}
 use Rattle.cdf_cuts.specs.Past.{cut_off, past_acts, stage}
 use Rattle.cdf_sparse.proofs.CutKept.{cuts_open}
-use Rattle.cdf_sparse.proofs.RuledVdr.{early_same}
 use Rattle.cdf_sparse.proofs.SetRuleContent.{content_ruled, rule_among, rule_is, rule_keeps, rule_lies}
 use Rattle.cdf_sparse.proofs.SetRuleWritten as of_rule
-use Rattle.cdf_edits.specs.Commands.Deleting.{SetsRule}
+use Rattle.cdf_edits.specs.Commands.Deleting.{SetsSparse}
 use Rattle.cdf_sparse.specs.SetRule.{RuleWritten, SetRule, rule_code}
 
 module _ {b mid now : List ℕ} {kind : Kind} {before : List VariableShape} {own : VariableShape} {after : List VariableShape} {rule : Sparse} (s : SetRule b mid now kind before own after rule) where
@@ -59,32 +54,18 @@ module _ {b mid now : List ℕ} {kind : Kind} {before : List VariableShape} {own
   pub rule_acts : ActsFollow b now acts
   rule_acts = acts_still_by (sound good_mid among_mid) s.cut.goes_on.follow (of_rule.edit good_mid among_mid w) (of_rule.unused_clear good_mid among_mid w) (ap (λ (x : Shape). x.records) same) (ap (λ (x : Shape). x.unused) same) s.written.as_long
 
-  freed : GivenStay b now no_fields acts acts
-  freed = freed_on b (ap (λ (x : Shape). x.records) same) (λ m i u. of_rule.kept_beside good_mid among_mid w m i (of_rule.unused_beside good_mid among_mid w m u)) (of_rule.type_same good_mid among_mid w) acts acts (s.cut.goes 0).freed
-
-  pub sets_sparse : SetsSparse b now own own' acts
-  sets_sparse = record {
-    cuts = record {
-      index_is = none_left s.good s.among s.cut;
-      takes_none = none_taken;
-      tail = early_same (of_rule.file good_mid among_mid w) (of_rule.ruled_vdr good_mid among_mid w) vdr_vxr_tail (omega arith) ∙ (s.cut.goes 0).tail;
-    };
-    freed = given_filter b now _ acts acts freed;
-    nodes_freed = given_nodes b now acts acts freed;
-  }
-
-  pub sets_rule : SetsRule b now found rule own own' acts
-  sets_rule = record { left = stage mid own' acts 0; cuts = cuts_open s.good s.among s.cut; acts_are = refl; stands = refl; changed = s.written.changed; as_long = s.written.as_long; rule_is = rule_is s }
+  pub sets_sparse : SetsSparse b now found rule own own' acts
+  sets_sparse = record { left = stage mid own' acts 0; cuts = cuts_open s.good s.among s.cut; acts_are = refl; stands = refl; changed = s.written.changed; as_long = s.written.as_long; rule_is = rule_is s }
 
   -- ---- the command, which names the variable
 
   module _ (name : List ℕ) (named : variable_named (content b) name ≡ Some found) where
-    sets_named : OfVariable b now name (λ found y y'. SetsSparse b now y y' acts)
+    sets_named : OfVariable b now name (λ found y y'. SetsSparse b now found rule y y' acts)
     sets_named found' y y' is =
         let q : found ≡ found' = same_Some _ _ (sym named ∙ is.named) in
         let was : own ≡ y = same_Some own y (sym (own_there s.good s.among) ∙ (rw (← q) at is.before)) in
         let now_is : own' ≡ y' = same_Some own' y' (sym (own_there s.still_good (rule_among s)) ∙ (rw (← q) at is.after)) in
-        rw (← was, ← now_is) sets_sparse
+        rw (← q, ← was, ← now_is) sets_sparse
 
     -- the data set gives the variable with the rule
     pub set_sparse_goes : step (content b) (commands.SetSparse name rule) ≡ ByStep (Go (with_variable (content b) found (record v { sparse = rule })) replies.Plain)

@@ -1,25 +1,25 @@
-"""Commands/Deleting: `del-recs` under a sparse rule, by the images between.
+"""Commands/Deleting: `del-recs` under a sparse rule and `set-sparse`, by the images between.
 
-No images between are given. The one before MaxRec is written is the last image with the MaxRec that was there; the one
-between the cuts is made by the acts and by what the page says of it (`images_between`).
+No images between are given. The one before MaxRec or SRecords is written is the last image with the number that was
+there; the one between the cuts is made by the acts and by what the page says of it (`images_between`).
 """
 from image import Entry
 from layout import LAST_NUMBER, VXR, RecordType, Vdr, Vxr
 from records import UNUSED_ENTRY, Records
 from validator import broken, sealed
 
-from .cut_twice import part_bytes
-from .cuts import cuts_twice, deletes_records
+from .cuts import deletes_records, placings
 from .greatest_record import r_max_rec_follows
 from .index_blocks import extent, extent_after, is_sparse, shared
-from .index_cut import block_placed, cuts_index, is_part, is_placed, is_whole
+from .index_cut import block_placed, cuts_index, is_part, is_placed, is_whole, part_bytes
 from .index_grown import index_cut_open, kept_open, split_off
 from .index_written import is_taken_at, last_node, top_stays
 from .named import at_number
 from .put_steps import Between, Stage, block_written, goes
 from .puts import changed, max_rec_touches
 from .shape import Lower, leaves_of, shape, shapes_of
-from .words import Bytes, refused, signed, under
+from .space_acts import taken
+from .words import Bytes, holds, refused, signed, under
 
 
 # One cut, after which later records keep their numbers
@@ -42,6 +42,11 @@ def leaf_split(m, found, first, last, to, old, new):
                                                   part_bytes(m.b, v, to.own.vdr, old, new)))
 
 
+def cuts_index_open(v, first, last, before, after, acts):
+    """The clause of CutsOpen that speaks of the indexes."""
+    return cuts_index(v, kept_open(first, last), before, index_cut_open(first, last, before), after, acts)
+
+
 def cuts_open(found, first, last, start, to):
     """CutsOpen."""
     going = list(goes(found, start, to, lambda r: shared(first, last, r) > 0))
@@ -49,8 +54,7 @@ def cuts_open(found, first, last, start, to):
     if going[0] == ('good', False):
         return
     m = Between(start, to)
-    yield from under('index', cuts_index(found[2], kept_open(first, last), start.own.index,
-                                         index_cut_open(first, last, start.own.index), to.own.index, to.acts))
+    yield from under('index', cuts_index_open(found[2], first, last, start.own.index, to.own.index, to.acts))
     for old in leaves_of(start.own.index):
         for new in leaves_of(to.own.index):
             yield from under('kept', leaf_kept(m, found, first, last, to, old, new))
@@ -69,12 +73,27 @@ def stage(image, found, acts):
     return Stage(image, own_of(image, found), acts) if broken(sealed(image.data)) == [] else None
 
 
-def before_max_rec(m, found, vdr):
-    """The image before MaxRec is written."""
+def before_written(m, touches):
+    """The image before the bytes at these (place, width) are written."""
     image = bytearray(m.now.data)
-    for place, width in max_rec_touches(m.b, found[0], vdr):
+    for place, width in touches:
         image[place:place + width] = m.b.take(place, width)
     return image
+
+
+def past_new_max_rec(v, first, last):
+    return extent_after(v, first, last), LAST_NUMBER
+
+
+def cuts_twice(v, first, last, before, after, acts):
+    """The indexes between the cuts, and the acts of each, by which both cuts follow."""
+    wanted, past = index_cut_open(first, last, before), past_new_max_rec(v, first, last)
+    for at in range(len(acts), -1, -1):
+        cut, again = acts[:at], acts[at:]
+        for middle in placings(v.rle, wanted, before, after, taken(cut)):
+            if (holds(cuts_index_open(v, *past, middle, after, again))
+                    and holds(cuts_index_open(v, first, last, before, middle, cut))):
+                yield middle, cut, again
 
 
 def replayed(image, acts):
@@ -139,9 +158,8 @@ def images_between(start, found, first, last, middle, cut, left):
     if to is None:
         return
     yield to
-    past = extent_after(found[2], first, last), LAST_NUMBER
     try:
-        then = image_after_cut(to, found, *past, left.own.index, left.acts)
+        then = image_after_cut(to, found, *past_new_max_rec(found[2], first, last), left.own.index, left.acts)
     except AssertionError:
         return
     end = left.image.data
@@ -157,15 +175,14 @@ def images_between(start, found, first, last, middle, cut, left):
 def by_images(found, first, last, start, cut, left):
     """The clauses of DeletesUnderRule that speak of the image between the cuts."""
     yield from under('cuts', cuts_open(found, first, last, start, cut))
-    yield from under('cuts_past', cuts_open(found, extent_after(found[2], first, last), LAST_NUMBER, cut, left))
+    yield from under('cuts_past', cuts_open(found, *past_new_max_rec(found[2], first, last), cut, left))
 
 
 def deletes_under_rule(m, found, first, last, before, after, acts):
     """DeletesUnderRule."""
     kind, _, v = found
-    image = before_max_rec(m, found, before.vdr)
     start, nearest = Stage(m.b, before, []), None
-    end = stage(image, found, [])
+    end = stage(before_written(m, max_rec_touches(m.b, kind, before.vdr)), found, [])
     if end is None:
         yield 'left', False
         return
@@ -194,3 +211,21 @@ def deletes(m, found, first, last, before, after, acts):
     if is_sparse(found[2].sparse):
         return deletes_under_rule(m, found, first, last, before, after, acts)
     return deletes_records(m, found[2], first, last, before, after, acts)
+
+
+def sparse_at(b, vdr):
+    return min(2, b.num(vdr, Vdr.SRecords))
+
+
+def sets_sparse(m, found, rule, before, after, acts):
+    """SetsSparse."""
+    touches = [(before.vdr + Vdr.SRecords.offset, Vdr.SRecords.width)]
+    left = stage(before_written(m, touches), found, acts)
+    yield 'left', left is not None
+    if left is None:
+        return
+    yield from under('cuts', cuts_open(found, 0, LAST_NUMBER, Stage(m.b, before, []), left))
+    yield 'stands', after == left.own
+    yield 'changed', changed(left.image, m.now, touches)
+    yield 'as_long', len(m.now) == len(left.image)
+    yield 'rule_is', sparse_at(m.now, after.vdr) == rule

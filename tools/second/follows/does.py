@@ -1,7 +1,7 @@
 """Commands/Does: what each command does beside what it keeps."""
 from .attributes import deletes_attribute, makes_attribute, renames_attribute
-from .cuts import sets_compress, sets_sparse
-from .deleting import deletes
+from .cuts import sets_compress
+from .deleting import deletes, sets_sparse
 from .entries import deletes_entry, puts_entry
 from .named import of_attribute, of_variable
 from .puts import puts_record
@@ -18,7 +18,7 @@ def does(m, acts):
         'put-rec': lambda kind, n, v, old, new: puts_record(m, kind, v, c.rec, old, new, acts),
         'put-val': lambda kind, n, v, old, new: puts_record(m, kind, v, c.rec, old, new, acts),
         'del-recs': lambda kind, n, v, old, new: deletes(m, (kind, n, v), c.first, c.last, old, new, acts),
-        'set-sparse': lambda kind, n, v, old, new: sets_sparse(m, old, new, acts),
+        'set-sparse': lambda kind, n, v, old, new: sets_sparse(m, (kind, n, v), c.rule, old, new, acts),
         'set-compress': lambda kind, n, v, old, new: sets_compress(m, c.rle, old, new, acts),
         'reindex': lambda kind, n, v, old, new: makes_index(m, old, new, acts)}
     if c.kind in by_variable:

@@ -2,10 +2,11 @@
 from layout import VXR, Field, Vxr
 
 from .allowances import freed_stays, given_stay, no_fields
+from .index_blocks import record_length
 from .index_grown import outline
 from .index_written import block_need, stays_put
 from .room import range_bytes, vxr_bytes
-from .shape import Lower, leaves_of, nodes_of, records_of_leaf, shape, unused_records
+from .shape import Lower, leaves_of, nodes_of, plain_bytes, records_of_leaf, shape, unused_records
 from .space_acts import none_twice, taken
 
 
@@ -15,6 +16,11 @@ def is_part(part, old, new):
 
 def is_whole(old, new):
     return records_of_leaf(new) == records_of_leaf(old)
+
+
+def part_bytes(b, v, vdr, old, part):
+    start = (part.first - old.first) * record_length(v)
+    return plain_bytes(b, vdr, old)[start:start + range_bytes(v, (part.first, part.last))]
 
 
 def sized_nodes(nodes):
@@ -77,14 +83,13 @@ def is_placed(m, v, vdr, kept, acts, old, new):
                         is_whole(old, new) or stays_put(m.b, m.now, v.rle, vdr, old, new))
 
 
-def none_written(place):
-    return False
+def frees_node(b, act):
+    return act[0] == 'give' and b.type_at(act[1]) == VXR
 
 
-def blocks_freed_stay(b, now, written, acts, gives):
-    """BlocksFreedStay: a node may be emptied before it is freed, and these blocks may be written."""
-    return given_stay(b, now, no_fields, acts, [act for act in gives if act[0] == 'take' or not (
-        b.type_at(act[1]) == VXR or written(act[1]))])
+def blocks_freed_stay(b, now, acts, gives):
+    """BlocksFreedStay: a node may be emptied before it is freed."""
+    return given_stay(b, now, no_fields, acts, [act for act in gives if not frees_node(b, act)])
 
 
 def nodes_freed_stay(b, now, acts, gives):

@@ -6,7 +6,7 @@ from .cuts import PUT_FIELDS, placings
 from .greatest_record import r_max_rec_follows
 from .index_blocks import (covers, cuts_before_put, extent, first_written, ranges_after_put, ranges_before_put,
                            ranges_of, record_length, shared)
-from .index_cut import blocks_freed_stay, cuts_index, is_placed, nodes_freed_stay, none_written
+from .index_cut import blocks_freed_stay, cuts_index, is_placed, nodes_freed_stay
 from .index_grown import cut_nodes, indexes_with, kept_open, new_room, with_leaf, with_place
 from .index_written import block_follows, block_need, nodes_follow, stays_put, stored_bytes, tail_follows
 from .room import is_rewritten, uncovered, vxr_bytes
@@ -97,7 +97,7 @@ def puts_index(m, v, n, before, after, acts):
     yield 'tail, nodes', any(tail_follows(b, now, acts, index, before, after) and holds(nodes_follow(
         b, now, indexes_with(index, new_ranges(ranges_of(index), ranges_of(after.index))), was, places, acts))
                              for index in middles)
-    yield 'freed', blocks_freed_stay(b, now, none_written, acts, acts)
+    yield 'freed', blocks_freed_stay(b, now, acts, acts)
     yield 'nodes_freed', nodes_freed_stay(b, now, acts, acts)
 
 

@@ -1,20 +1,19 @@
--- What `del-recs`, `set-sparse` and `set-compress` do (CDF Internal Format Description, "Variable Index Record", "Compressed Parameters Record"; own: under a sparse rule records keep their numbers, and what is past the new MaxRec is cut after the others).
-use Rattle.std.specs.Prelude.{◌≡◌, ℕ, ◌+◌, List, [], ◌∷◌, ◌++◌, map, Bool, true, false, not, ◌&&◌, ◌||◌, ◌==◌, nat_lt, nat_le, if◌then◌else◌}
-use Rattle.std.specs.List.{flat_map, list_any}
+-- What `del-recs` does to a variable without a rule for missing records, what `del-recs` and `set-sparse` may change, and what `set-compress` does (CDF Internal Format Description, "Variable Index Record", "Compressed Parameters Record").
+use Rattle.std.specs.Prelude.{◌≡◌, ℕ, ◌+◌, List, [], ◌∷◌, ◌++◌, map, Bool, true, false, not, ◌&&◌, ◌||◌, nat_lt, nat_le, if◌then◌else◌}
+use Rattle.std.specs.List.{list_any}
 use Rattle.cdf_model.specs.DataSet.{Variable}
 use Rattle.cdf_model.specs.Limits.{record_number_limit}
 use Rattle.cdf_model.specs.Names.{Found}
 use Rattle.cdf_edits.specs.Commands.Allowances.{Allowances, Anything, Only, stays_all, stays_own, space_fields, anything_if, r_max_rec_field, of_variable}
 use Rattle.cdf_edits.specs.Commands.GreatestRecord.{RMaxRecFollows}
 use Rattle.cdf_edits.specs.Commands.NewRecords.{Says, with_bits}
-use Rattle.cdf_edits.specs.Index.Blocks.{Range, range, covers, shared, fallen, is_sparse, record_length, ranges_of, extent_after}
-use Rattle.cdf_edits.specs.Index.CutTwice.{PartsFollow}
-use Rattle.cdf_edits.specs.Index.Cut.{Part, IsPart, is_whole, CutsIndex, BlockPlaced, BlocksFreedStay, NodesFreedStay, none_written}
-use Rattle.cdf_edits.specs.Index.Grown.{cut_nodes, kept_open, kept_closed, split_off, index_cut_open, index_cut_closed}
-use Rattle.cdf_edits.specs.Index.Written.{is_taken_at, block_need, stays_put, WellPacked, BlockFollows, stored_bytes, NodesFollow, TailFollows}
+use Rattle.cdf_edits.specs.Index.Blocks.{Range, covers, shared, fallen, is_sparse, record_length, ranges_of, extent_after}
+use Rattle.cdf_edits.specs.Index.Cut.{IsPart, is_whole, CutsIndex, BlockPlaced, BlocksFreedStay, NodesFreedStay}
+use Rattle.cdf_edits.specs.Index.Grown.{kept_closed, index_cut_closed}
+use Rattle.cdf_edits.specs.Index.Written.{is_taken_at, stays_put, WellPacked, BlockFollows, stored_bytes, NodesFollow, TailFollows}
 use Rattle.cdf_edits.specs.Space.Acts.{Act, Took, gave, taken}
 use Rattle.cdf_format.specs.Fields.{number, size_at}
-use Rattle.cdf_format.specs.Index.{Nodes, no_node, Leaf, leaves_of, nodes_of, room_at}
+use Rattle.cdf_format.specs.Index.{no_node, Leaf, leaves_of, nodes_of, room_at}
 use Rattle.cdf_format.specs.Records.{Field, vdr_max_rec, vdr_vxr_head, vdr_vxr_tail, vdr_flags, vdr_compression_bit, vdr_s_records, vdr_cpr_or_spr_offset, cpr_rfu_a, cpr_p_count, cpr_bytes, vxr_bytes}
 use Rattle.cdf_format.specs.Shape.{Shape, VariableShape, Each}
 
@@ -31,81 +30,32 @@ del_recs_changes b s found first last = record stays_all {
   variables = of_variable b s found (record stays_own { vdr = Only (vdr_max_rec ∷ vdr_vxr_head ∷ vdr_vxr_tail ∷ []); nodes = Anything; blocks = λ r. anything_if (del_recs_cuts found.variable first last r) }) [];
 }
 
--- what is past the new MaxRec
-abbrev pub past_new_max_rec : Variable → ℕ → ℕ → Part
-past_new_max_rec v first last = kept_open (extent_after v first last) record_number_limit
-
--- one cut, or under a rule two of them
-abbrev pub CutsOnceOrTwice : Variable → ℕ → ℕ → Nodes → Nodes → Nodes → List Act → List Act → Bool → Type 0
-CutsOnceOrTwice v first last before middle after cut again true =
-    CutsIndex v (kept_open first last) before (index_cut_open first last before) middle cut
-    × CutsIndex v (past_new_max_rec v first last) middle (cut_nodes false (past_new_max_rec v first last) middle) after again
-CutsOnceOrTwice v first last before middle after cut again false =
-    CutsIndex v (kept_closed first last) before (index_cut_closed first last before) middle cut
-    × (middle ≡ after) × (again ≡ [])
-
--- both cuts take records of one block
-abbrev pub is_cut_twice : Variable → ℕ → ℕ → Range → Bool
-is_cut_twice v first last r =
-    (is_sparse v.sparse && (nat_lt 0 (shared first last r) && nat_lt last r.last)) && nat_lt 0 (shared (extent_after v first last) record_number_limit (range (last + 1) r.last))
-
--- between the cuts, a leaf at this place was left in part
-abbrev pub is_left_in_part : List Range → List Leaf → ℕ → Bool
-is_left_in_part before leaves place = list_any (λ leaf. (leaf.place == place) && not (list_any (λ r. (r.first == leaf.first) && (r.last == leaf.last)) before)) leaves
-
--- what stays in the block of a range, and what gets a new one
-abbrev pub kept_after_cut : Variable → ℕ → ℕ → Part
-kept_after_cut v first last r = if is_sparse v.sparse then flat_map (past_new_max_rec v first last) (kept_open first last r) else kept_closed first last r
-
-abbrev pub split_after_cut : Variable → ℕ → ℕ → Part
-split_after_cut v first last r = if is_sparse v.sparse then flat_map (past_new_max_rec v first last) (split_off first last r) else []
-
--- no second cut made the leaf shorter
-abbrev pub is_settled : Variable → ℕ → ℕ → Leaf → Leaf → Bool
-is_settled v first last old new = not (is_cut_twice v first last (range old.first old.last) && nat_le first new.first)
-
--- a leaf that stays in its block; of one that both cuts make shorter, `parts` says where it stands
-pub record LeafKept (b now : List ℕ) (v : Variable) (first last vdr : ℕ) (acts : List Act) (old new : Leaf) : Type 0 where
+-- a leaf that keeps records, in its block where it can
+pub record LeafKept (b now : List ℕ) (v : Variable) (vdr : ℕ) (acts : List Act) (old new : Leaf) : Type 0 where
   pub packed : is_whole old new ≡ false → v.rle ≡ true → WellPacked now vdr new
-  pub placed : is_settled v first last old new ≡ true → BlockPlaced now vdr acts old new (is_whole old new || stays_put b now v.rle vdr old new)
-  pub bytes : is_settled v first last old new ≡ true → is_whole old new ≡ false → BlockFollows b now v.rle vdr (old ∷ []) acts new
+  pub placed : BlockPlaced now vdr acts old new (is_whole old new || stays_put b now v.rle vdr old new)
+  pub bytes : is_whole old new ≡ false → BlockFollows b now v.rle vdr (old ∷ []) acts new
 
--- a leaf that gets a new block
-pub record LeafSplit (b now : List ℕ) (v : Variable) (first last vdr : ℕ) (acts : List Act) (old new : Leaf) : Type 0 where
-  pub is_new : is_taken_at acts new.place ≡ true
-  pub packed : v.rle ≡ true → WellPacked now vdr new
-  pub size_is : is_settled v first last old new ≡ true → size_at now new.place ≡ block_need now vdr new
-  pub bytes : is_settled v first last old new ≡ true → BlockFollows b now v.rle vdr [] acts new
+abbrev pub LeafFollows : List ℕ → List ℕ → Variable → ℕ → ℕ → ℕ → List Act → Leaf → Leaf → Type 0
+LeafFollows b now v first last vdr acts old new = IsPart (kept_closed first last) old new → LeafKept b now v vdr acts old new
 
-pub record LeafFollows (b now : List ℕ) (v : Variable) (first last vdr : ℕ) (acts : List Act) (old new : Leaf) : Type 0 where
-  pub kept : IsPart (kept_after_cut v first last) old new → LeafKept b now v first last vdr acts old new
-  pub split : IsPart (split_after_cut v first last) old new → LeafSplit b now v first last vdr acts old new
+abbrev pub is_deleted : ℕ → ℕ → ℕ → Bool
+is_deleted first last n = nat_le first n && nat_le n last
 
 -- what blocks held of the records that stay, past MaxRec too
-abbrev pub number_after_cut : Variable → ℕ → ℕ → ℕ → ℕ
-number_after_cut v first last n = if is_sparse v.sparse then n else fallen first last n
-
-abbrev pub is_deleted : Variable → ℕ → ℕ → ℕ → Bool
-is_deleted v first last n = (nat_le first n && nat_le n last) || (is_sparse v.sparse && nat_le (extent_after v first last) n)
-
 abbrev pub OthersStay : List ℕ → List ℕ → Variable → ℕ → ℕ → VariableShape → VariableShape → Type 0
-OthersStay b now v first last before after = (k : ℕ) → list_any (covers k) (ranges_of before.index) ≡ true → is_deleted v first last k ≡ false
-    → stored_bytes now after.vdr (record_length v) (leaves_of after.index) (number_after_cut v first last k) ≡ stored_bytes b before.vdr (record_length v) (leaves_of before.index) k
+OthersStay b now v first last before after = (k : ℕ) → list_any (covers k) (ranges_of before.index) ≡ true → is_deleted first last k ≡ false
+    → stored_bytes now after.vdr (record_length v) (leaves_of after.index) (fallen first last k) ≡ stored_bytes b before.vdr (record_length v) (leaves_of before.index) k
 
+-- without a rule, by one cut, after which later records have lower numbers
 pub record DeletesRecords (b now : List ℕ) (v : Variable) (first last : ℕ) (before after : VariableShape) (acts : List Act) : Type 0 where
-  pub middle : Nodes
-  pub cut : List Act
-  pub again : List Act
-  pub acts_are : acts ≡ cut ++ again
-  pub cuts : CutsOnceOrTwice v first last before.index middle after.index cut again (is_sparse v.sparse)
-  pub parts : is_sparse v.sparse ≡ true → Each (λ old. Each (PartsFollow b now v after.vdr (kept_open first last) (split_off first last) (past_new_max_rec v first last) cut again after.index old) (leaves_of middle)) (leaves_of before.index)
+  pub cuts : CutsIndex v (kept_closed first last) before.index (index_cut_closed first last before.index) after.index acts
   pub blocks : Each (λ old. Each (LeafFollows b now v first last after.vdr acts old) (leaves_of after.index)) (leaves_of before.index)
   pub others_stay : OthersStay b now v first last before after
   pub new_nodes : Each (λ vxr. is_taken_at acts vxr ≡ true → size_at now vxr ≡ vxr_bytes (room_at now vxr)) (nodes_of after.index)
-  pub nodes : NodesFollow b now (middle ∷ []) (nodes_of before.index) (nodes_of after.index) acts
-  pub tail : TailFollows b now acts middle before after
-  pub freed_first : BlocksFreedStay b now none_written acts cut
-  pub freed_again : BlocksFreedStay b now (is_left_in_part (ranges_of before.index) (leaves_of middle)) acts again
+  pub nodes : NodesFollow b now (after.index ∷ []) (nodes_of before.index) (nodes_of after.index) acts
+  pub tail : TailFollows b now acts after.index before after
+  pub freed : BlocksFreedStay b now acts acts
   pub nodes_freed : NodesFreedStay b now acts acts
   pub r_max_rec : RMaxRecFollows b now
 
@@ -129,11 +79,6 @@ pub record CutsAll (b now : List ℕ) (before after : VariableShape) (acts : Lis
   pub takes_none : taken acts ≡ []
   pub tail : TailFollows b now acts before.index before after
 
-pub record SetsSparse (b now : List ℕ) (before after : VariableShape) (acts : List Act) : Type 0 where
-  pub cuts : CutsAll b now before after acts
-  pub freed : BlocksFreedStay b now none_written acts acts
-  pub nodes_freed : NodesFreedStay b now acts acts
-
 -- then a CPR is taken where there is none, or the one that there is is freed
 abbrev pub cpr_acts : List ℕ → Bool → List ℕ → List ℕ → List Act
 cpr_acts b true [] new = map (λ cpr. Took cpr (cpr_bytes 1)) new
@@ -151,5 +96,5 @@ pub record SetsCompress (b now : List ℕ) (rle : Bool) (before after : Variable
   pub flags_are : number now after.vdr vdr_flags ≡ with_bits (number b before.vdr vdr_flags) vdr_compression_bit 1 (if rle then 1 else 0)
   pub cpr_says : before.cpr ≡ [] → Each (λ cpr. Says now cpr new_cpr) after.cpr
   pub link_is : rle ≡ false → number now after.vdr vdr_cpr_or_spr_offset ≡ 0xffffffffffffffff
-  pub freed : BlocksFreedStay b now none_written acts acts
+  pub freed : BlocksFreedStay b now acts acts
   pub nodes_freed : NodesFreedStay b now acts acts

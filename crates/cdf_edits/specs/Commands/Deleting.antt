@@ -9,9 +9,8 @@ use Rattle.cdf_edits.specs.Commands.PutSteps.{Stage, BlockWritten, Goes}
 use Rattle.cdf_edits.specs.Commands.Puts.{max_rec_touches}
 use Rattle.cdf_edits.specs.Frame.Changed.{Changed, touched_field}
 use Rattle.cdf_edits.specs.Index.Blocks.{shared, extent_after}
-use Rattle.cdf_edits.specs.Index.Cut.{IsPart, is_whole, CutsIndex, BlockPlaced, IsPlaced}
+use Rattle.cdf_edits.specs.Index.Cut.{IsPart, is_whole, CutsIndex, BlockPlaced, IsPlaced, part_bytes}
 use Rattle.cdf_edits.specs.Commands.Cuts.{DeletesRecords}
-use Rattle.cdf_edits.specs.Index.CutTwice.{part_bytes}
 use Rattle.cdf_edits.specs.Index.Grown.{kept_open, split_off, index_cut_open}
 use Rattle.cdf_edits.specs.Space.Acts.{Act}
 use Rattle.cdf_format.specs.Index.{Leaf, leaves_of}
@@ -64,7 +63,7 @@ Deletes b now found first last before after acts true = DeletesUnderRule b now f
 Deletes b now found first last before after acts false = DeletesRecords b now found.variable first last before after acts
 
 -- all records go, also those past MaxRec; then SRecords is written
-pub record SetsRule (b now : List ℕ) (found : Found) (rule : Sparse) (before after : VariableShape) (acts : List Act) : Type 0 where
+pub record SetsSparse (b now : List ℕ) (found : Found) (rule : Sparse) (before after : VariableShape) (acts : List Act) : Type 0 where
   pub left : Stage
   pub cuts : CutsOpen found 0 record_number_limit (untouched b before) left
   pub acts_are : acts ≡ left.acts

@@ -5,8 +5,8 @@ use Rattle.cdf_model.specs.declared.command.Command.TheVariants as commands
 use Rattle.cdf_model.specs.declared.kinds.Kind.TheVariants.{R, Z}
 use Rattle.cdf_edits.specs.Space.Acts.{Act}
 use Rattle.cdf_edits.specs.Commands.Attributes.{MakesAttribute, RenamesAttribute, DeletesAttribute}
-use Rattle.cdf_edits.specs.Commands.Cuts.{SetsSparse, SetsCompress}
-use Rattle.cdf_edits.specs.Commands.Deleting.{Deletes}
+use Rattle.cdf_edits.specs.Commands.Cuts.{SetsCompress}
+use Rattle.cdf_edits.specs.Commands.Deleting.{Deletes, SetsSparse}
 use Rattle.cdf_edits.specs.Index.Blocks.{is_sparse}
 use Rattle.cdf_edits.specs.Commands.Entries.{PutsEntry, DeletesEntry}
 use Rattle.cdf_edits.specs.Commands.Named.{OfAttribute, OfVariable}
@@ -30,7 +30,7 @@ Does b (commands.SetPad var words) now acts = OfVariable b now var (λ found v v
 Does b (commands.PutRec var rec words) now acts = OfVariable b now var (λ found v v'. PutsRecord b now found.kind found.variable rec v v' acts)
 Does b (commands.PutVal var rec index words) now acts = OfVariable b now var (λ found v v'. PutsRecord b now found.kind found.variable rec v v' acts)
 Does b (commands.DelRecs var first last) now acts = OfVariable b now var (λ found v v'. Deletes b now found first last v v' acts (is_sparse found.variable.sparse))
-Does b (commands.SetSparse var rule) now acts = OfVariable b now var (λ found v v'. SetsSparse b now v v' acts)
+Does b (commands.SetSparse var rule) now acts = OfVariable b now var (λ found v v'. SetsSparse b now found rule v v' acts)
 Does b (commands.SetCompress var rle) now acts = OfVariable b now var (λ found v v'. SetsCompress b now rle v v' acts)
 Does b (commands.Reindex var) now acts = OfVariable b now var (λ found v v'. MakesIndex b now v v' acts)
 Does b (commands.Setup encoding majority dims) now acts = SetsUp b now majority dims acts

@@ -12,7 +12,7 @@ use Rattle.cdf_edits.specs.Commands.GreatestRecord.{RMaxRecFollows}
 use Rattle.cdf_edits.specs.Commands.Room.{uncovered, is_rewritten}
 use Rattle.cdf_edits.specs.Frame.Changed.{Touch, touch, touched_field, Changed}
 use Rattle.cdf_edits.specs.Index.Blocks.{Range, range, covers, shared, ranges_of, first_written, cuts_before_put, record_length, ranges_before_put, ranges_after_put}
-use Rattle.cdf_edits.specs.Index.Cut.{Part, IsPlaced, CutsIndex, BlocksFreedStay, NodesFreedStay, none_written}
+use Rattle.cdf_edits.specs.Index.Cut.{Part, IsPlaced, CutsIndex, BlocksFreedStay, NodesFreedStay}
 use Rattle.cdf_edits.specs.Index.Grown.{with_leaf, new_room, with_place, cut_nodes, kept_open, indexes_with}
 use Rattle.cdf_edits.specs.Index.Written.{AnyOf, block_need, stays_put, BlockFollows, stored_bytes, NodesFollow, TailFollows}
 use Rattle.cdf_edits.specs.Space.Acts.{Act, Took, Gave}
@@ -87,7 +87,7 @@ pub record PutsIndex (b now : List ℕ) (v : Variable) (n : ℕ) (before after :
   pub puts : PutsLeaves b now v.rle after.vdr (filter (is_written v n) (leaves_of after.index)) middle put after.index
   pub tail : TailFollows b now acts middle before after
   pub nodes : NodesFollow b now (indexes_with middle (new_ranges (ranges_of middle) (ranges_of after.index))) (nodes_of before.index) (nodes_of after.index) acts
-  pub freed : BlocksFreedStay b now none_written acts acts
+  pub freed : BlocksFreedStay b now acts acts
   pub nodes_freed : NodesFreedStay b now acts acts
 
 -- ---- bytes

@@ -1,14 +1,15 @@
 -- What a cut takes and frees, and where the blocks stand that it leaves (CDF Internal Format Description, "Variable Index Record"; own: a block stays in its record where it can). The order in which a cut takes and frees is free.
-use Rattle.std.specs.Prelude.{◌≡◌, ◌⊎◌, ◌≤◌, ℕ, max, List, [], ◌∷◌, ◌++◌, map, Bool, true, false, not, ◌&&◌, ◌||◌, ◌==◌}
+use Rattle.std.specs.Prelude.{◌≡◌, ◌⊎◌, ◌≤◌, ℕ, ◌-◌, ◌*◌, max, List, [], ◌∷◌, ◌++◌, map, take, drop, Bool, true, false, not, ◌&&◌, ◌||◌, ◌==◌}
 use Rattle.std.specs.List.{filter}
 use Rattle.cdf_model.specs.DataSet.{Variable}
 use Rattle.cdf_edits.specs.Commands.Allowances.{FreedStays, GivenStay, no_fields}
 use Rattle.cdf_edits.specs.Commands.Room.{range_bytes}
-use Rattle.cdf_edits.specs.Index.Blocks.{Range, range}
+use Rattle.cdf_edits.specs.Index.Blocks.{Range, range, record_length}
 use Rattle.cdf_edits.specs.Index.Grown.{outline}
 use Rattle.cdf_edits.specs.Index.Written.{AnyOf, block_need, is_given_at, stays_put}
 use Rattle.cdf_edits.specs.Space.Acts.{Act, Took, Gave, taken, none_twice, Among}
 use Rattle.cdf_format.specs.Chains.{is_in}
+use Rattle.cdf_format.specs.Content.{plain_bytes}
 use Rattle.cdf_format.specs.Fields.{type_at}
 use Rattle.cdf_format.specs.Index.{Nodes, no_node, node, Entries, no_entry, block, lower, Leaf, leaves_of, nodes_of, room_at}
 use Rattle.cdf_format.specs.Owners.{unused_records}
@@ -26,6 +27,10 @@ IsPart part old new = part (range old.first old.last) ≡ range new.first new.la
 
 abbrev pub is_whole : Leaf → Leaf → Bool
 is_whole old new = records_of_leaf new == records_of_leaf old
+
+-- the plain bytes of a part of the records that a leaf has
+abbrev pub part_bytes : List ℕ → Variable → ℕ → Leaf → Leaf → List ℕ
+part_bytes b v vdr old part = take (range_bytes v (range part.first part.last)) (drop ((part.first - old.first) * record_length v) (plain_bytes b vdr old))
 
 -- ---- records of an index
 
@@ -82,14 +87,14 @@ IsPlaced b now v vdr kept acts old new = IsPart kept old new → BlockPlaced now
 
 -- ---- what is freed
 
--- a node may be emptied before it is freed, and these blocks may be written, which the first of two cuts leaves in part
-abbrev pub is_written_before : List ℕ → (ℕ → Bool) → Act → Bool
-is_written_before b written (Took place need) = false
-is_written_before b written (Gave place size) = (type_at b place == vxr_type) || written place
+-- a node may be emptied before it is freed
+abbrev pub frees_node : List ℕ → Act → Bool
+frees_node b (Took place need) = false
+frees_node b (Gave place size) = type_at b place == vxr_type
 
 -- any other record that some of these acts free keeps its bytes
-abbrev pub BlocksFreedStay : List ℕ → List ℕ → (ℕ → Bool) → List Act → List Act → Type 0
-BlocksFreedStay b now written acts gives = GivenStay b now no_fields acts (filter (λ act. not (is_written_before b written act)) gives)
+abbrev pub BlocksFreedStay : List ℕ → List ℕ → List Act → List Act → Type 0
+BlocksFreedStay b now acts gives = GivenStay b now no_fields acts (filter (λ act. not (frees_node b act)) gives)
 
 -- a node keeps its bytes behind its entries
 abbrev pub NodesFreedStay : List ℕ → List ℕ → List Act → List Act → Type 0
@@ -97,6 +102,3 @@ NodesFreedStay b now acts [] = Unit {0}
 NodesFreedStay b now acts (Took place need ∷ more) = NodesFreedStay b now acts more
 NodesFreedStay b now acts (Gave place size ∷ more) =
     (type_at b place ≡ vxr_type → Each (FreedStays b now acts place size (vxr_entries (room_at b place) ∷ [])) (unused_records now (shape now))) × NodesFreedStay b now acts more
-
-abbrev pub none_written : ℕ → Bool
-none_written place = false

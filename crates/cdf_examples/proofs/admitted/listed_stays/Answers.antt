@@ -1,4 +1,4 @@
-use Rattle.cdf_examples.proofs.Common.{ActsFollow, AllKeep, Bool, Deletes, Does, VariableShape, [], allowances, arith, block, chain_on, codes, content, cover, cut_entries, cut_nodes, delete_t, digits, entries_below, entries_in, entries_on, entries_outline, entry_firsts, entry_leaves, false, firsts_of, found_z, is_deleted, is_sparse, is_taken_at, leaves_of, levels_on, lower_nodes, new_room, new_room_below, no_entry, nodes_above, nodes_of, nodes_on, nodes_rows, not, number_after_cut, one_node, outline, owned, record_length, records_data, records_index, refl, room_at, run_script, shape, size_at, sized_nodes, sized_nodes_below, spare_behind_file, spare_stays_file, stored_bytes, t_shape, tiles_from, true, used_rows, vxr_bytes, widest, widest_below, with_leaf, with_lower, ◌≡◌}
+use Rattle.cdf_examples.proofs.Common.{ActsFollow, AllKeep, Bool, Deletes, Does, VariableShape, [], allowances, arith, block, chain_on, codes, content, cover, cut_entries, cut_nodes, delete_t, digits, entries_below, entries_in, entries_on, entries_outline, entry_firsts, entry_leaves, fallen, false, firsts_of, found_z, is_deleted, is_sparse, is_taken_at, leaves_of, levels_on, lower_nodes, new_room, new_room_below, no_entry, nodes_above, nodes_of, nodes_on, nodes_rows, not, one_node, outline, owned, record_length, records_data, records_index, refl, room_at, run_script, shape, size_at, sized_nodes, sized_nodes_below, spare_behind_file, spare_stays_file, stored_bytes, t_shape, tiles_from, true, used_rows, vxr_bytes, widest, widest_below, with_leaf, with_lower, ◌≡◌}
 use Rattle.cdf_examples.proofs.Tests.{keeps_rules}
 use Rattle.cdf_examples.proofs.Deciding.{acts_follow_if, all_keep_if}
 use Rattle.cdf_examples.proofs.Deciding.{of_variable, nodes_freed_if, nodes_if, each_if}
@@ -16,19 +16,13 @@ keep = all_keep_if spare_behind_file spare_stays_file (allowances spare_behind_f
 does : Does spare_behind_file (delete_t 3 3) spare_stays_file ([])
 unfolding spare_behind_file spare_stays_file shape content tiles_from chain_on nodes_of lower_nodes leaves_of entry_leaves entries_on nodes_on levels_on entries_in entries_below widest widest_below nodes_above firsts_of entry_firsts cover new_room with_leaf new_room_below with_lower cut_nodes cut_entries outline entries_outline sized_nodes sized_nodes_below
 does = of_variable spare_behind_file spare_stays_file (codes "T") (λ found v v'. Deletes spare_behind_file spare_stays_file found 3 3 v v' ([]) (is_sparse found.variable.sparse)) (found_z records_data) before after refl refl refl (record {
-  middle = after.index;
-  cut = [];
-  again = [];
-  acts_are = refl;
-  cuts = (record { index_is = refl; apart = refl; once = refl; frees = (refl, (refl, tt)); takes = tt; stand = (refl, tt); stay = ((λ part whole. (refl, refl, refl), tt), tt) }, refl, refl);
-  parts = λ sparse. absurd cc;
-  blocks = ((record { kept = λ part. record { packed = λ whole rle. absurd cc; placed = λ settled. (refl, refl); bytes = λ settled whole. record { packed = λ rle. absurd cc; spare = same_if spare_behind_file spare_stays_file 772 776 refl; reserved = λ packed. absurd cc } }; split = λ part. absurd cc }, tt), tt);
-  others_stay = λ k covered. of_four (λ k. is_deleted records_data 3 3 k ≡ false → stored_bytes spare_stays_file 404 (record_length records_data) (leaves_of (t_shape (one_node 776 7 (block 0 2 748 false no_entry))).index) (number_after_cut records_data 3 3 k) ≡ stored_bytes spare_behind_file 404 (record_length records_data) (leaves_of (t_shape records_index).index) k) (λ kept. refl) (λ kept. refl) (λ kept. refl) (λ kept. absurd cc) k covered;
+  cuts = record { index_is = refl; apart = refl; once = refl; frees = (refl, (refl, tt)); takes = tt; stand = (refl, tt); stay = ((λ part whole. (refl, refl, refl), tt), tt) };
+  blocks = ((λ part. record { packed = λ whole rle. absurd cc; placed = (refl, refl); bytes = λ whole. record { packed = λ rle. absurd cc; spare = same_if spare_behind_file spare_stays_file 772 776 refl; reserved = λ packed. absurd cc } }, tt), tt);
+  others_stay = λ k covered. of_four (λ k. is_deleted 3 3 k ≡ false → stored_bytes spare_stays_file 404 (record_length records_data) (leaves_of (t_shape (one_node 776 7 (block 0 2 748 false no_entry))).index) (fallen 3 3 k) ≡ stored_bytes spare_behind_file 404 (record_length records_data) (leaves_of (t_shape records_index).index) k) (λ kept. refl) (λ kept. refl) (λ kept. refl) (λ kept. absurd cc) k covered;
   new_nodes = each_if (λ vxr. is_taken_at ([]) vxr ≡ true → size_at spare_stays_file vxr ≡ vxr_bytes (room_at spare_stays_file vxr)) (λ vxr. not (is_taken_at ([]) vxr)) (λ vxr h e. absurd (clash (is_taken_at ([]) vxr) h e)) (nodes_of after.index) refl;
   nodes = nodes_if spare_behind_file spare_stays_file _ (nodes_of before.index) (nodes_of after.index) ([]) refl;
   tail = refl;
-  freed_first = tt;
-  freed_again = tt;
+  freed = tt;
   nodes_freed = nodes_freed_if spare_behind_file spare_stays_file ([]) ([]) refl;
   r_max_rec = refl;
 })

@@ -1,4 +1,4 @@
-use Rattle.cdf_examples.proofs.Common.{ActsFollow, AllKeep, Does, Gave, [], allowances, arith, block, chain_on, codes, content, cover, cut_entries, cut_nodes, delete_var_t, digits, emptied_fields, entries_below, entries_in, entries_on, entries_outline, entry_firsts, entry_leaves, false, firsts_of, found_z, high_first, inl, leaves_of, levels_on, lower_nodes, new_room, new_room_below, no_entry, nodes_above, nodes_of, nodes_on, nodes_rows, one_node, outline, owned, pos, refl, run_script, shape, sized_nodes, sized_nodes_below, small_block_file, t_data, t_shape, tiles_from, used_rows, var_deleted_file, widest, widest_below, with_leaf, with_lower, ◌∷◌}
+use Rattle.cdf_examples.proofs.Common.{ActsFollow, AllKeep, Does, Gave, [], allowances, arith, block, chain_on, codes, content, cover, cut_entries, cut_nodes, delete_var_t, digits, emptied_fields, entries_below, entries_in, entries_on, entries_outline, entry_firsts, entry_leaves, false, firsts_of, found_z, high_first, leaves_of, levels_on, lower_nodes, new_room, new_room_below, no_entry, nodes_above, nodes_of, nodes_on, nodes_rows, one_node, outline, owned, pos, refl, run_script, shape, sized_nodes, sized_nodes_below, small_block_file, t_data, t_shape, tiles_from, used_rows, var_deleted_file, widest, widest_below, with_leaf, with_lower, ◌∷◌}
 use Rattle.cdf_examples.proofs.Tests.{keeps_rules}
 use Rattle.cdf_examples.proofs.Deciding.{acts_follow_if, all_keep_if}
 use Rattle.cdf_examples.proofs.Deciding.{deleted_named, freed_if}

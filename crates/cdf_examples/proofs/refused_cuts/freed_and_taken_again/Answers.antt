@@ -18,7 +18,7 @@ refused acts claim =
     let before : VariableShape = t_shape (one_node 848 7 (block 0 1 756 false no_entry)) in
     let after : VariableShape = t_shape (one_node 848 7 (block 0 0 756 false no_entry)) in
     let p = claim.does (found_z (u_data (pos 1) ((0, replicate 40 1) ∷ (1, replicate 40 2) ∷ []))) before after (record { named = refl; before = refl; after = refl }) in
-    never_taken 756 52 acts (space_before two_of_forty_file) in_use claim.acts_follow.are ((p.blocks.0.0.kept refl).placed refl).1 (is_taken_if claim.acts_follow 756 (inr (inr (inr (inl refl)))) refl)
+    never_taken 756 52 acts (space_before two_of_forty_file) in_use claim.acts_follow.are (p.blocks.0.0 refl).placed.1 (is_taken_if claim.acts_follow 756 (inr (inr (inr (inl refl)))) refl)
 
 pub returns : goal.returns
 unfolding taken_again_file one_of_forty_file shape content tiles_from chain_on nodes_of lower_nodes leaves_of entry_leaves entries_on nodes_on levels_on nodes_rows used_rows

@@ -1,4 +1,4 @@
-use Rattle.cdf_examples.proofs.Common.{Nodes, Refused, VariableShape, ap, block, chain_on, content, cut_entries, cut_nodes, delete_t, entries_on, entries_outline, entry_leaves, false, fewer_entries_file, found_z, last_deleted_file, leaves_of, levels_on, lower_nodes, map, no_entry, nodes_of, nodes_on, nodes_rows, one_node, outline, records_data, records_file, records_index, refl, shape, sized_nodes, sized_nodes_below, sym, t_shape, taken, tiles_from, used_rows, ◌∙◌}
+use Rattle.cdf_examples.proofs.Common.{Refused, VariableShape, ap, block, chain_on, content, cut_entries, cut_nodes, delete_t, entries_on, entries_outline, entry_leaves, false, fewer_entries_file, found_z, last_deleted_file, leaves_of, levels_on, lower_nodes, no_entry, nodes_of, nodes_on, nodes_rows, one_node, outline, records_data, records_file, records_index, refl, shape, sized_nodes, sized_nodes_below, t_shape, tiles_from, used_rows}
 use Rattle.cdf_examples.proofs.Tests.{keeps_rules}
 use Rattle.cdf_examples.proofs.Refusing.{unequal}
 use Rattle.cdf_examples.proofs.Refusing.{first_room}
@@ -10,7 +10,7 @@ refused acts claim =
     let before : VariableShape = t_shape records_index in
     let after : VariableShape = t_shape (one_node 776 6 (block 0 2 748 false no_entry)) in
     let p = claim.does (found_z records_data) before after (record { named = refl; before = refl; after = refl }) in
-    unequal 6 7 refl (ap first_room (ap (λ (index : Nodes). outline (map (λ take. take.0) (taken p.cut)) index) (sym p.cuts.1) ∙ p.cuts.0.index_is))
+    unequal 6 7 refl (ap first_room p.cuts.index_is)
 
 pub returns : goal.returns
 unfolding fewer_entries_file last_deleted_file shape content tiles_from chain_on nodes_of lower_nodes leaves_of entry_leaves entries_on nodes_on levels_on nodes_rows used_rows

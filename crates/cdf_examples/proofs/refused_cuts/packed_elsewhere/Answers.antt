@@ -9,7 +9,7 @@ refused acts claim =
     let before : VariableShape = record { vdr = 404; index = one_node 812 7 (block 0 0 784 true (block 1 2 952 true no_entry)); cpr = 756 ∷ [] } in
     let after : VariableShape = record { vdr = 404; index = one_node 812 7 (block 0 0 784 true no_entry); cpr = 756 ∷ [] } in
     let p = claim.does (found_z (r_data (pos 2) ((0, replicate 40 0) ∷ (1, replicate 40 0) ∷ (2, replicate 40 0) ∷ []))) before after (record { named = refl; before = refl; after = refl }) in
-    unequal 784 952 refl ((p.blocks.1.0.0.kept refl).placed refl).0
+    unequal 784 952 refl (p.blocks.1.0.0 refl).placed.0
 
 pub returns : goal.returns
 unfolding packed_elsewhere_file packed_stays_file shape content tiles_from chain_on nodes_of lower_nodes leaves_of entry_leaves entries_on nodes_on levels_on nodes_rows used_rows

@@ -1,4 +1,4 @@
-use Rattle.cdf_examples.proofs.Common.{FullFromLeft, Refused, Shape, [], ap, chain_on, codes, entry_leaves, from_the_right_file, from_the_right_index, leaves_of, nodes_at, nodes_below, refl, reindex_w, shape, subst, sym, true, w_shape, wide_node_file, wide_node_index, ◌∷◌, ◌≡◌}
+use Rattle.cdf_examples.proofs.Common.{FullFromLeft, Refused, Shape, [], ap, chain_on, codes, entry_leaves, from_the_right_file, from_the_right_index, leaves_of, nodes_at, nodes_below, refl, reindex_w, shape, subst, true, w_shape, wide_node_file, wide_node_index, ◌∷◌, ◌≡◌}
 use Rattle.cdf_examples.proofs.Refusing.{unequal}
 use Rattle.cdf_examples.proofs.Reindexing.{has_gap, no_gap, makes_none}
 use Rattle.cdf_examples.proofs.WideNodes.{reindexed_records, reindexed_shape, names_w, wide_index_is}

@@ -1,4 +1,4 @@
-use Rattle.cdf_examples.proofs.Common.{Act, List, Refused, Took, VariableShape, [], ap, ap₂, arith, block, chain_on, codes, content, entries_on, entry_leaves, false, found_z, leaves_of, levels_on, lies_in_taken, link_to, lower_nodes, negsuc, new_room, no_entry, no_node, nodes_of, nodes_on, nodes_rows, one_node, put_t, refl, rest_changed_file, rest_listed_file, shape, spare_file, subst, sym, t_data, t_shape, tiles_from, true, used_rows, with_leaf, ℕ, ◌∙◌, ◌∷◌, ◌≡◌}
+use Rattle.cdf_examples.proofs.Common.{Act, List, Refused, Took, VariableShape, [], ap, ap₂, arith, block, chain_on, codes, content, entries_on, entry_leaves, false, found_z, leaves_of, levels_on, lies_in_taken, link_to, lower_nodes, negsuc, new_room, no_entry, no_node, nodes_of, nodes_on, nodes_rows, one_node, put_t, refl, rest_changed_file, rest_listed_file, shape, spare_file, subst, sym, t_data, t_shape, tiles_from, used_rows, with_leaf, ℕ, ◌∙◌, ◌∷◌, ◌≡◌}
 use Rattle.cdf_examples.proofs.Tests.{keeps_rules}
 use Rattle.cdf_examples.proofs.Refusing.{unequal}
 use Rattle.cdf_examples.proofs.PutLemmas.{first_take, puts_only}

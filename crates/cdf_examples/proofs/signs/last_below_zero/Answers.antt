@@ -1,4 +1,4 @@
-use Rattle.cdf_examples.proofs.Common.{Bool, IsBroken, List, Row, [], both, chain_on, changed, entries_on, entry_leaves, eq-eqb, false, inl, inr, leaves_of, levels_on, lower_nodes, nodes_of, nodes_on, nodes_rows, not, put, refl, shape, sym, tiles_from, true, true≢false, used_rows, usual_digest, usual_image, with_field, with_name, ℕ, ◌++◌, ◌==◌, ◌||◌, ◌∷◌, ◌≡◌}
+use Rattle.cdf_examples.proofs.Common.{Bool, List, Row, [], both, chain_on, changed, entries_on, entry_leaves, eq-eqb, false, inl, inr, leaves_of, levels_on, lower_nodes, nodes_of, nodes_on, nodes_rows, not, put, refl, shape, sym, tiles_from, true, true≢false, used_rows, usual_digest, usual_image, with_field, with_name, ℕ, ◌++◌, ◌==◌, ◌||◌, ◌∷◌, ◌≡◌}
 use Rattle.std.proofs.Common.{◌&&◌}
 use Rattle.cdf_examples.specs.Signs.{HoldsEverywhere, index_rules, last_below_zero, last_broken}
 use Rattle.cdf_examples.proofs.Digests.{usual_breaks}
